@@ -1,0 +1,4 @@
+pub mod Numerals
+pub mod Orders
+pub mod Points
+pub mod Rising

@@ -1,0 +1,6 @@
+pub mod formers
+pub mod Listing
+pub mod Names
+pub mod Numeral
+pub mod Or
+pub mod Order
