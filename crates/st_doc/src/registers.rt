@@ -1,10 +1,9 @@
 //! What registers hold.
-ghost use Rattle.std.specs.Prelude.{◌≡◌, is_some, not};
+ghost use Rattle.std.specs.Prelude.{◌≡◌};
 ghost use Rattle.std.specs.BTreeMap.{get};
 ghost use Rattle.std.specs.List.{list_any};
 ghost use Rattle.st_ids.specs.declared.names.FieldId.{FieldId as Register};
-ghost use Rattle.st_ids.specs.Order.{field_cmp};
-ghost use Rattle.st_marks.specs.Intent.{put_of};
+ghost use Rattle.st_ids.specs.Order.{field_cmp, same_node};
 ghost use Rattle.st_marks.specs.CarryOut.{unless_put};
 
 use crate::same::is_same_node;
@@ -14,7 +13,7 @@ use std::collections::BTreeMap;
 
 // Whether an intent puts a node.
 fn is_put(intent: &Intent, node: NodeId) -> bool
-    ensures { result ≡ is_some (put_of intent.now node) }
+    ensures { result ≡ list_any (λ p. same_node p.node node) intent.now.put }
 {
     intent
         .put
