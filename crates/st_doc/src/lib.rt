@@ -11,5 +11,7 @@ mod registers;
 mod rows;
 mod same;
 mod show;
+#[cfg(test)]
+mod tests;
 
 pub use doc::Doc;
