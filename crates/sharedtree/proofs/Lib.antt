@@ -6,6 +6,7 @@ pub mod Keeping
 pub mod KeptLists
 pub mod Keys
 pub mod LineSteps
+pub mod NeverVoid
 pub mod RowEdits
 pub mod RunLists
 pub mod Stepping

@@ -8,6 +8,7 @@ pub mod Kept
 pub mod Known
 pub mod Lines
 pub mod Log
+pub mod NeverVoid
 pub mod Parts
 pub mod Status
 pub mod Steps

@@ -6,6 +6,7 @@ mod client;
 mod header;
 mod intents;
 mod json;
+mod laws;
 mod lines;
 mod lists;
 mod log;

@@ -1,3 +1,5 @@
+ghost use Rattle.std.specs.Prelude.{◌<◌};
+
 use crate::outcome::{BadCause, Outcome};
 use crate::run::run;
 use st_io::{MemSink, MemSource};

@@ -18,6 +18,6 @@ pub returns-in_ok-enter-in-Some-take_text-clause-sound : goal.returns-in_ok-ente
 returns-in_ok-enter-in-Some-take_text-clause-sound c =
     let text = c.in-Some-take_text.field-0 in
     let logged : c.enter.new.log ≡ entered c.args.self.now.lists.log c.in-Some.client.now.session (Commit text.reference text.intent) =
-    cc (c.in_ok-enter-in-Some-take_text.ensures.log, c.in-Some-take_text.reference-is, c.in-Some-take_text.intent-is, c.in-Some-take_text.field-0-is) in
+    cc (c.in_ok-enter-in-Some-take_text.ensures.log) in
     sound_sequenced c.args.self.now c.args.i c.in-Some.client.now c.take_text.new.client text c.enter.new.log c.enter.new.known c.requires.sound (sym c.in-Some.ensures.value)
     c.in-Some-take_text.ensures.0 c.in-Some-take_text.ensures.1 logged c.in_ok-enter-in-Some-take_text.ensures.known
