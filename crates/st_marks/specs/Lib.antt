@@ -5,3 +5,10 @@ pub mod CarryOut
 pub mod Verdict
 pub mod Run
 pub mod RowEdits
+pub mod Join
+pub mod Back
+pub mod Row
+pub mod Register
+pub mod Embedding
+pub mod Step
+pub mod Normal
