@@ -1,2 +1,9 @@
+pub mod Members
 pub mod Lookups
 pub mod RowEdits
+pub mod Climb
+pub mod Rings
+pub mod NewRows
+pub mod Full
+pub mod Turns
+pub mod Void
