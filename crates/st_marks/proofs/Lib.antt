@@ -7,3 +7,6 @@ pub mod NewRows
 pub mod Full
 pub mod Turns
 pub mod Void
+pub mod OneVerdict
+pub mod Later
+pub mod Unique

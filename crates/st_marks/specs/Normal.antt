@@ -1,19 +1,13 @@
 -- Normal form: a change or a step is normal where it stands over some document.
-use Rattle.std.specs.Prelude.{◌<◌, ◌^◌, length}
-use Rattle.st_ids.specs.declared.names.NodeId.{NodeId}
 use Rattle.st_marks.specs.declared.changes.Change.{Change}
 use Rattle.st_marks.specs.declared.intents.Intent.{Intent}
 use Rattle.st_marks.specs.declared.steps.Step.{Step}
-use Rattle.st_marks.specs.Document.{Document, IsSoundInForm}
+use Rattle.st_marks.specs.Document.{Document, IsSoundInForm, HasShortRows}
 use Rattle.st_marks.specs.Extends.{IsExtendedBy}
 use Rattle.st_marks.specs.Intent.{Fits}
 use Rattle.st_marks.specs.CarryOut.{full}
 use Rattle.st_marks.specs.Embedding.{IsEmbedding}
 use Rattle.st_marks.specs.Step.{IsStep}
-
--- each row has fewer than 2^32 cells
-abbrev pub HasShortRows : Document → Type 0
-HasShortRows D = (n : NodeId) → length (D.rows n) < 2 ^ 32
 
 -- the change lists an intent that fits a document
 abbrev pub IsNormalChange : Change → Type 0
