@@ -1,5 +1,6 @@
 pub mod Document
 pub mod Extends
+pub mod LiveTree
 pub mod Intent
 pub mod CarryOut
 pub mod Verdict
