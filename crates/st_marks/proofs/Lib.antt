@@ -10,3 +10,7 @@ pub mod Void
 pub mod OneVerdict
 pub mod Later
 pub mod Unique
+pub mod Worked
+mod WorkedRows
+mod WorkedVerdicts
+mod WorkedRegisters
