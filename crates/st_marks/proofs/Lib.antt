@@ -14,3 +14,4 @@ pub mod Worked
 mod WorkedRows
 mod WorkedVerdicts
 mod WorkedRegisters
+mod WorkedNegative
