@@ -11,6 +11,8 @@ mod marks;
 mod places;
 mod schemas;
 mod steps;
+#[cfg(test)]
+mod tests;
 mod verdicts;
 
 pub use changes::{Change, NewNode};
