@@ -15,3 +15,4 @@ mod WorkedRows
 mod WorkedVerdicts
 mod WorkedRegisters
 mod WorkedNegative
+pub mod Retreat
