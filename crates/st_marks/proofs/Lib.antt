@@ -16,3 +16,4 @@ mod WorkedVerdicts
 mod WorkedRegisters
 mod WorkedNegative
 pub mod Retreat
+pub mod WayBack

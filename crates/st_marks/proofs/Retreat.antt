@@ -11,7 +11,7 @@ use Rattle.st_marks.specs.Extends.{IsExtendedBy}
 use Rattle.st_marks.specs.Back.{is_in, place_back, unless_in, retreat}
 use Rattle.st_marks.proofs.Climb.{climb_end, ends_above, above_known}
 use Rattle.st_marks.proofs.Later.{has_later, node_later}
-use Rattle.st_marks.proofs.Full.{IsRegister}
+use Rattle.st_marks.proofs.Full.{IsRegister, HoldsWhatIsPlaced}
 use Rattle.st_marks.proofs.Turns.{grows_itself}
 
 module _ (D E : Document) (x : IsExtendedBy D E) where
@@ -78,6 +78,9 @@ module _ (D E : Document) (x : IsExtendedBy D E) where
           let new : is_in D r.node ≡ false = ap (λ s. option_map_or (is_in D) (node_of s) false) (sym h.0) ∙ h.1 in
           rw (new, held, f) refl
 
+  pub retreat_one_held : HoldsWhatIsPlaced (retreat D E)
+  retreat_one_held m r = (held_is_placed m r, placed_is_held m r)
+
   held_register : (m : NodeId) (r : FieldId) → (retreat D E).held r ≡ Some m → IsRegister E m r
   held_register m r e = go (is_in D r.node) e
     where
@@ -115,7 +118,7 @@ module _ (D E : Document) (x : IsExtendedBy D E) where
 
   -- ## Together
 
-  retreat_sound : IsSoundInForm (retreat D E)
+  pub retreat_sound : IsSoundInForm (retreat D E)
   retreat_sound = record {
     root_known = x.after.root_known;
     root_nowhere = back_old Rattle.st_marks.specs.Document.root x.before.root_known ∙ x.before.root_nowhere;
@@ -123,7 +126,7 @@ module _ (D E : Document) (x : IsExtendedBy D E) where
     once = x.after.once;
     short = x.after.short;
     own_cell = place_in_row;
-    one_held = λ m r. (held_is_placed m r, placed_is_held m r);
+    one_held = retreat_one_held;
     cells_known = x.after.cells_known;
     held_known = λ m r e. ((held_register m r e).0, (held_register m r e).1);
     register_key = λ m r e. (held_register m r e).2;
