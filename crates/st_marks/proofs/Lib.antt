@@ -17,3 +17,5 @@ mod WorkedRegisters
 mod WorkedNegative
 pub mod Retreat
 pub mod WayBack
+pub mod Joined
+pub mod OneTree

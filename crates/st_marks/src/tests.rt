@@ -166,12 +166,16 @@ fn first_use(rt: HostRuntime) -> Result<(), Fail> {
     };
     assert_eq!(rt; slot.copy(alloc)?, slot);
     assert_eq!(rt; Verdict::Need(NODE).copy(alloc)?, Verdict::Need(NODE));
+    back_leads_back();
     carrying_out_extends();
     extends_in_turn();
     fits_later();
+    joined_in_turn();
     one_embedding();
     one_step();
+    one_tree();
     one_verdict();
+    retreat_extends();
     row_edits_are_never_void();
     rows_keep_their_order();
     run_in_turn();
