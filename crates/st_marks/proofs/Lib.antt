@@ -19,3 +19,4 @@ pub mod Retreat
 pub mod WayBack
 pub mod Joined
 pub mod OneTree
+pub mod MarkLengths

@@ -7,6 +7,7 @@ mod copies;
 mod intents;
 mod laws;
 mod laws_of_listings;
+mod lengths;
 mod marks;
 mod places;
 mod schemas;
@@ -22,6 +23,7 @@ pub use laws::{
     one_verdict, retreat_extends, row_edits_are_never_void, rows_keep_their_order, run_in_turn,
 };
 pub use laws_of_listings::{one_embedding, one_step};
+pub use lengths::{after, before};
 pub use marks::{How, Loose, Mark, RegMark, RegStep, RowMarks};
 pub use places::{Slot, Spot};
 pub use schemas::{SchemaEntry, SchemaStep};
