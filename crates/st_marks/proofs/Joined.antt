@@ -26,6 +26,9 @@ with_groups-append N n [] ys = refl
 with_groups-append N n (o ∷ xs) ys =
     ap (λ l. o ∷ l) (ap (λ l. group_at N n (Some o.cell) ++ l) (with_groups-append N n xs ys) ∙ sym (append_assoc (group_at N n (Some o.cell)) (with_groups N n xs) (with_groups N n ys)))
 
+at_anchor : (N : Intent) (n : NodeId) (c d : CellId) (o : Owned) → c ≡ d → Has (group_at N n (Some d)) o → Has (group_at N n (Some c)) o
+at_anchor N n c d o e h = subst (λ c. Has (group_at N n (Some c)) o) (sym e) h
+
 module _ (D : Document) (N M J : Intent) (s : IsSoundInForm D) (p : AreParts D N M) (j : IsJoin N M J) where
   -- ## Nodes
 
@@ -111,7 +114,7 @@ module _ (D : Document) (N M J : Intent) (s : IsSoundInForm D) (p : AreParts D N
               let row : Some r ≡ Some n = rw (gone, f) at k in
               let same : r ≡ n = cc in
               let g = first_group d n (f ∙ ap (λ n. Some n) same) in
-              first_in_join n g.0 o g.1 (made_kept M n (group_at N n g.0) g.2.0 o g.2.1 (subst (λ c. Has (group_at M n (Some c)) o) (sym g.2.2) h))
+              first_in_join n g.0 o g.1 (made_kept M n (group_at N n g.0) g.2.0 o g.2.1 (at_anchor M n g.2.0.cell d o g.2.2 h))
 
   -- each cell of the join is made by one of the two
   row_of_join : (c : CellId) (n : NodeId) → new_row_of J c ≡ Some n → (new_row_of N c ≡ Some n) ⊎ (new_row_of M c ≡ Some n)
