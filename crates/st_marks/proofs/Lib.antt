@@ -1,2 +1,17 @@
+pub mod Members
 pub mod Lookups
 pub mod RowEdits
+pub mod Climb
+pub mod Rings
+pub mod NewRows
+pub mod Full
+pub mod Turns
+pub mod Void
+pub mod OneVerdict
+pub mod Later
+pub mod Unique
+pub mod Worked
+mod WorkedRows
+mod WorkedVerdicts
+mod WorkedRegisters
+mod WorkedNegative

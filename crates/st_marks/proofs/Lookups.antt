@@ -1,85 +1,21 @@
 -- What an intent's lists say by look-ups.
-use Rattle.std.proofs.Common.{◌≡◌, ◌≢◌, Bool, true, false, List, [], ◌∷◌, Option, Some, None, cond, refl, sym, ap, ◌∙◌, subst, inl, inr, ◌⊎◌, option_map}
-use Rattle.std.specs.List.{AllByRecursion, filter_map, find}
-use Rattle.st_marks.specs.Intent.{put_of, put_in, is_register, register_of, IsIntent}
-use Rattle.st_marks.specs.Document.{AreDistinct}
-use Rattle.st_ids.specs.declared.names.NodeId.{NodeId}
-use Rattle.st_ids.specs.declared.names.FieldId.{FieldId}
+use Rattle.std.proofs.Common.{◌≡◌, Bool, true, false, List, Option, Some, None, ◌&&◌, refl, sym, ap, ◌∙◌, subst, IsSome, IsTrue, IfSome, option_map}
+use Rattle.std.specs.List.{find, list_any}
 use Rattle.st_ids.specs.Listing.{Has}
-use Rattle.st_ids.specs.Order.{same_node}
-use Rattle.st_ids.proofs.Orders.{same_node-true, same_node-itself, same_field-true, same_field-itself}
+use Rattle.st_ids.specs.Order.{same_node, same_cell, same_field}
+use Rattle.st_ids.specs.declared.names.CellId.{CellId}
+use Rattle.st_ids.specs.declared.names.FieldId.{FieldId}
+use Rattle.st_ids.specs.declared.names.NodeId.{NodeId}
+use Rattle.st_ids.proofs.Orders.{same_node-true, same_node-itself, same_cell-true, same_cell-itself, same_field-true, same_field-itself}
+use Rattle.st_marks.specs.declared.intents.Group.{Group}
+use Rattle.st_marks.specs.declared.intents.Intent.{Intent}
+use Rattle.st_marks.specs.declared.intents.Owned.{Owned}
 use Rattle.st_marks.specs.declared.intents.Put.{Put}
 use Rattle.st_marks.specs.declared.intents.To.{To}
-use Rattle.st_marks.specs.declared.intents.Intent.{Intent}
+use Rattle.st_marks.specs.Intent.{put_of, put_in, clears, is_register, register_of, same_option, group_at, new_row_of, group_cells, IsIntent}
+use Rattle.st_marks.proofs.Members.{true-false, all-has, first-has, none-has, any-has, has-any, distinct-has, first-distinct, distinct-filter_map, flat_map-has, has-flat_map, one_list}
 
-pub true-false : {b : Bool} → b ≡ true → b ≡ false → ⊥
-true-false e f = let q : ◌≡◌ {A = Bool} true false = sym e ∙ f in cc
-
-pub all-has : {A : Type 0} (P : A → Type 0) (xs : List A) (x : A) → AllByRecursion P xs → Has xs x → P x
-all-has P [] x a h = absurd h
-all-has P (y ∷ xs) x a (inl e) = subst P e a.0
-all-has P (y ∷ xs) x a (inr h) = all-has P xs x a.1 h
-
-module _ {A : Type 0} where
-  pub first-has : (p : A → Bool) (xs : List A) (x : A) → find p xs ≡ Some x → Has xs x × (p x ≡ true)
-  first-has p [] x e = cc
-  first-has p (y ∷ xs) x e = go (p y) refl (λ f. first-has p xs x f) e
-    where
-      go : (b : Bool) → p y ≡ b → (find p xs ≡ Some x → Has xs x × (p x ≡ true)) → cond b (Some y) (find p xs) ≡ Some x → Has (y ∷ xs) x × (p x ≡ true)
-      go true h rest e = let q : y ≡ x = cc in (inl q, ap p (sym q) ∙ h)
-      go false h rest e = let r = rest e in (inr r.0, r.1)
-
-  pub none-has : (p : A → Bool) (xs : List A) (x : A) → find p xs ≡ None → Has xs x → p x ≡ false
-  none-has p [] x e h = absurd h
-  none-has p (y ∷ xs) x e h = go (p y) refl (λ f k. none-has p xs x f k) e h
-    where
-      go : (b : Bool) → p y ≡ b → (find p xs ≡ None → Has xs x → p x ≡ false) → cond b (Some y) (find p xs) ≡ None → (y ≡ x) ⊎ Has xs x → p x ≡ false
-      go true h rest e k = cc
-      go false h rest e (inl q) = ap p (sym q) ∙ h
-      go false h rest e (inr k) = rest e k
-
-  pub apart-has : {K : Type 0} (key : A → K) (xs : List A) (x y : A) → AreDistinct key xs → Has xs x → Has xs y → key x ≡ key y → x ≡ y
-  apart-has key [] x y a h k e = absurd h
-  apart-has key (z ∷ xs) x y a (inl p) (inl q) e = sym p ∙ q
-  apart-has key (z ∷ xs) x y a (inl p) (inr k) e = absurd (all-has (λ w. key w ≢ key z) xs y a.0 k (sym e ∙ ap key (sym p)))
-  apart-has key (z ∷ xs) x y a (inr h) (inl q) e = absurd (all-has (λ w. key w ≢ key z) xs x a.0 h (e ∙ ap key (sym q)))
-  apart-has key (z ∷ xs) x y a (inr h) (inr k) e = apart-has key xs x y a.1 h k e
-
-  pub first-apart : {K : Type 0} (key : A → K) (xs : List A) (p : A → Bool) (x : A) → AreDistinct key xs → Has xs x → p x ≡ true → ((y : A) → p y ≡ true → key y ≡ key x) → find p xs ≡ Some x
-  first-apart key xs p x a h t same = go (find p xs) refl
-    where
-      go : (o : Option A) → find p xs ≡ o → find p xs ≡ Some x
-      go None e = absurd (true-false t (none-has p xs x e h))
-      go (Some y) e = let r = first-has p xs y e in e ∙ ap (λ z. Some z) (apart-has key xs y x a r.0 h (same y r.1))
-
-  pub has-filter_map : {K : Type 0} (g : A → Option K) (xs : List A) (x : A) (k : K) → Has xs x → g x ≡ Some k → Has (filter_map g xs) k
-  has-filter_map g [] x k h e = absurd h
-  has-filter_map {K} g (y ∷ xs) x k h e = go (g y) refl (λ h. has-filter_map g xs x k h e) h
-    where
-      go : (o : Option K) → g y ≡ o → (Has xs x → Has (filter_map g xs) k) → (y ≡ x) ⊎ Has xs x → Has (filter_map g (y ∷ xs)) k
-      go None f rest (inl q) = let bad : None ≡ Some k = sym f ∙ ap g q ∙ e in cc
-      go None f rest (inr h) = rw f (rest h)
-      go (Some j) f rest (inl q) = rw f (inl (let s : Some j ≡ Some k = sym f ∙ ap g q ∙ e in cc))
-      go (Some j) f rest (inr h) = rw f (inr (rest h))
-
-  pub apart-filter_map : {K : Type 0} (g : A → Option K) (xs : List A) (x y : A) (k : K) → AreDistinct (λ (j : K). j) (filter_map g xs) → Has xs x → Has xs y → g x ≡ Some k → g y ≡ Some k → x ≡ y
-  apart-filter_map g [] x y k a h i e f = absurd h
-  apart-filter_map {K} g (z ∷ xs) x y k a h i e f = go (g z) refl (λ a h i. apart-filter_map g xs x y k a h i e f) a h i
-    where
-      go : (o : Option K) → g z ≡ o → (AreDistinct (λ (j : K). j) (filter_map g xs) → Has xs x → Has xs y → x ≡ y) → AreDistinct (λ (j : K). j) (filter_map g (z ∷ xs)) → (z ≡ x) ⊎ Has xs x → (z ≡ y) ⊎ Has xs y → x ≡ y
-      go None q rest a (inl p) i = let bad : None ≡ Some k = sym q ∙ ap g p ∙ e in cc
-      go None q rest a (inr h) (inl p) = let bad : None ≡ Some k = sym q ∙ ap g p ∙ f in cc
-      go None q rest a (inr h) (inr i) = rest (rw q at a) h i
-      go (Some j) q rest a (inl p) (inl r) = sym p ∙ r
-      go (Some j) q rest a (inl p) (inr i) =
-          let s : j ≡ k = let s : Some j ≡ Some k = sym q ∙ ap g p ∙ e in cc in
-          absurd (all-has (λ w. w ≢ j) (filter_map g xs) k (rw q at a).0 (has-filter_map g xs y k i f) (sym s))
-      go (Some j) q rest a (inr h) (inl p) =
-          let s : j ≡ k = let s : Some j ≡ Some k = sym q ∙ ap g p ∙ f in cc in
-          absurd (all-has (λ w. w ≢ j) (filter_map g xs) k (rw q at a).0 (has-filter_map g xs x k h e) (sym s))
-      go (Some j) q rest a (inr h) (inr i) = rest (rw q at a).1 h i
-
--- ## Puts
+-- ## Puts and clears
 
 pub put-has : (N : Intent) (n : NodeId) (to : To) → put_of N n ≡ Some to → Has N.put (record { node = n; to = to })
 put-has N n to e = go (find (λ (p : Put). same_node p.node n) N.put) refl e
@@ -92,7 +28,7 @@ put-has N n to e = go (find (λ (p : Put). same_node p.node n) N.put) refl e
         subst (Has N.put) (λ i. record { node = same_node-true p.node n r.1 i; to = q i }) r.0
 
 pub has-put : (N : Intent) → IsIntent N → (p : Put) → Has N.put p → put_of N p.node ≡ Some p.to
-has-put N w p h = ap (option_map (λ (p : Put). p.to)) (first-apart (λ (p : Put). p.node) N.put (λ (q : Put). same_node q.node p.node) p w.put_once h (same_node-itself p.node) (λ q t. same_node-true q.node p.node t))
+has-put N w p h = ap (option_map (λ (p : Put). p.to)) (first-distinct (λ (p : Put). p.node) N.put (λ (q : Put). same_node q.node p.node) p w.put_once h (same_node-itself p.node) (λ q t. same_node-true q.node p.node t))
 
 is_register-true : (f : FieldId) (to : To) → is_register f to ≡ true → to ≡ To.Register f
 is_register-true f To.Nowhere e = cc
@@ -116,5 +52,96 @@ has-put_in N w n f h = go (find (λ (p : Put). is_register f p.to) N.put) refl
     go None e = absurd (true-false (same_field-itself f) (none-has (λ (p : Put). is_register f p.to) N.put _ e h))
     go (Some p) e =
         let r = first-has (λ (p : Put). is_register f p.to) N.put p e in
-        let same = apart-filter_map (λ (p : Put). register_of p.to) N.put p (record { node = n; to = To.Register f }) f w.no_register_twice r.0 h (ap register_of (is_register-true f p.to r.1)) refl in
+        let same = distinct-filter_map (λ (p : Put). register_of p.to) N.put p (record { node = n; to = To.Register f }) f w.no_register_twice r.0 h (ap register_of (is_register-true f p.to r.1)) refl in
         ap (option_map (λ (p : Put). p.node)) e ∙ ap (λ (p : Put). Some p.node) same
+
+-- a put into a register clears it
+pub put_clears : (N : Intent) → IsIntent N → (n : NodeId) (f : FieldId) → Has N.put (record { node = n; to = To.Register f }) → clears N f ≡ true
+put_clears N w n f h = all-has (λ (p : Put). IfSome (register_of p.to) (λ f. IsTrue (clears N f))) N.put (record { node = n; to = To.Register f }) w.cleared h
+
+pub clears-has : (fs : List FieldId) (f : FieldId) → list_any (λ g. same_field g f) fs ≡ true → Has fs f
+clears-has fs f e = let r = any-has (λ g. same_field g f) fs e in subst (Has fs) (same_field-true r.0 f r.2) r.1
+
+-- ## Groups
+
+pub both_true : (a b : Bool) → (a && b) ≡ true → (a ≡ true) × (b ≡ true)
+both_true true b e = (refl, e)
+both_true false b e = cc
+
+anchor_is : (a b : Option CellId) → same_option same_cell a b ≡ true → a ≡ b
+anchor_is None None e = refl
+anchor_is None (Some d) e = cc
+anchor_is (Some c) None e = cc
+anchor_is (Some c) (Some d) e = ap (λ c. Some c) (same_cell-true c d e)
+
+anchor_itself : (a : Option CellId) → same_option same_cell a a ≡ true
+anchor_itself None = refl
+anchor_itself (Some c) = same_cell-itself c
+
+-- what is made at an anchor is of one group there
+pub record IsMadeAt (N : Intent) (n : NodeId) (a : Option CellId) (o : Owned) : Type 0 where
+  pub group : Group
+  pub listed : Has N.groups group
+  pub node : group.node ≡ n
+  pub after : group.after ≡ a
+  pub cell : Has group.cells o
+
+pub group_at-group : (N : Intent) (n : NodeId) (a : Option CellId) (o : Owned) → Has (group_at N n a) o → IsMadeAt N n a o
+group_at-group N n a o h = go (find (λ (g : Group). same_node g.node n && same_option same_cell g.after a) N.groups) refl h
+  where
+    go : (q : Option Group) → find (λ (g : Group). same_node g.node n && same_option same_cell g.after a) N.groups ≡ q → Has (group_at N n a) o → IsMadeAt N n a o
+    go None e h = absurd (rw e at h)
+    go (Some g) e h =
+        let r = first-has (λ (g : Group). same_node g.node n && same_option same_cell g.after a) N.groups g e in
+        let b = both_true _ _ r.1 in
+        record { group = g; listed = r.0; node = same_node-true g.node n b.0; after = anchor_is g.after a b.1; cell = rw e at h }
+
+-- a group is found at its anchor
+pub group_found : (N : Intent) → IsIntent N → (g : Group) → Has N.groups g → group_at N g.node g.after ≡ g.cells
+group_found N w g h = go (find (λ (k : Group). same_node k.node g.node && same_option same_cell k.after g.after) N.groups) refl
+  where
+    passes : (same_node g.node g.node && same_option same_cell g.after g.after) ≡ true
+    passes = rw (same_node-itself g.node, anchor_itself g.after) refl
+
+    go : (q : Option Group) → find (λ (k : Group). same_node k.node g.node && same_option same_cell k.after g.after) N.groups ≡ q → group_at N g.node g.after ≡ g.cells
+    go None e = absurd (true-false passes (none-has (λ (k : Group). same_node k.node g.node && same_option same_cell k.after g.after) N.groups g e h))
+    go (Some k) e =
+        let r = first-has (λ (k : Group). same_node k.node g.node && same_option same_cell k.after g.after) N.groups k e in
+        let b = both_true _ _ r.1 in
+        let same = distinct-has {K = NodeId × Option CellId} (λ (g : Group). (g.node, g.after)) N.groups k g w.start_once r.0 h
+        (λ i. (same_node-true k.node g.node b.0 i, anchor_is k.after g.after b.1 i)) in
+        rw e (ap (λ (g : Group). g.cells) same)
+
+-- a made cell has a row, which is that of its group
+pub made_there : (N : Intent) (o : Owned) → Has (group_cells N) o → IsSome (new_row_of N o.cell)
+made_there N o h = go (find (λ (g : Group). list_any (λ (p : Owned). same_cell p.cell o.cell) g.cells) N.groups) refl
+  where
+    go : (q : Option Group) → find (λ (g : Group). list_any (λ (p : Owned). same_cell p.cell o.cell) g.cells) N.groups ≡ q → IsSome (new_row_of N o.cell)
+    go (Some g) e = rw e refl
+    go None e =
+        let r = has-flat_map (λ (g : Group). g.cells) N.groups o h in
+        absurd (true-false (has-any (λ (p : Owned). same_cell p.cell o.cell) r.0.cells o r.2 (same_cell-itself o.cell)) (none-has (λ (g : Group). list_any (λ (p : Owned). same_cell p.cell o.cell) g.cells) N.groups r.0 e r.1))
+
+pub new_row_of-group : (N : Intent) → IsIntent N → (g : Group) (o : Owned) → Has N.groups g → Has g.cells o → new_row_of N o.cell ≡ Some g.node
+new_row_of-group N w g o h i = go (find (λ (g : Group). list_any (λ (p : Owned). same_cell p.cell o.cell) g.cells) N.groups) refl
+  where
+    go : (q : Option Group) → find (λ (g : Group). list_any (λ (p : Owned). same_cell p.cell o.cell) g.cells) N.groups ≡ q → new_row_of N o.cell ≡ Some g.node
+    go None e = let there = made_there N o (flat_map-has (λ (g : Group). g.cells) N.groups g o h i) in let bad = rw e at there in cc
+    go (Some k) e =
+        let r = first-has (λ (g : Group). list_any (λ (p : Owned). same_cell p.cell o.cell) g.cells) N.groups k e in
+        let p = any-has (λ (p : Owned). same_cell p.cell o.cell) k.cells r.1 in
+        let same = one_list (λ (g : Group). g.cells) (λ (o : Owned). o.cell) N.groups k g p.0 o w.cell_once r.0 h p.1 i (same_cell-true p.0.cell o.cell p.2) in
+        rw e (ap (λ (g : Group). Some g.node) same)
+
+-- the group that makes a cell, with the cell in it
+pub group-new_row_of : (N : Intent) (c : CellId) (n : NodeId) → new_row_of N c ≡ Some n → (g : Group) × Has N.groups g × (g.node ≡ n) × ((o : Owned) × Has g.cells o × (o.cell ≡ c))
+group-new_row_of N c n e = go (find (λ (g : Group). list_any (λ (o : Owned). same_cell o.cell c) g.cells) N.groups) refl e
+  where
+    go : (q : Option Group) → find (λ (g : Group). list_any (λ (o : Owned). same_cell o.cell c) g.cells) N.groups ≡ q → option_map (λ (g : Group). g.node) q ≡ Some n
+        → (g : Group) × Has N.groups g × (g.node ≡ n) × ((o : Owned) × Has g.cells o × (o.cell ≡ c))
+    go None e h = cc
+    go (Some g) e h =
+        let r = first-has (λ (g : Group). list_any (λ (o : Owned). same_cell o.cell c) g.cells) N.groups g e in
+        let p = any-has (λ (o : Owned). same_cell o.cell c) g.cells r.1 in
+        let q : g.node ≡ n = cc in
+        (g, r.0, q, (p.0, p.1, same_cell-true p.0.cell c p.2))

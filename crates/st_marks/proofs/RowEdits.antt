@@ -1,13 +1,11 @@
 -- Edits of the root's row are never void.
-use Rattle.std.proofs.Common.{◌≡◌, ◌≢◌, ℕ, zero, suc, Bool, true, false, List, [], ◌∷◌, Option, Some, None, refl, sym, ap, ◌∙◌, subst, inl, inr, ◌⊎◌, IsSome, option_map}
+use Rattle.std.proofs.Common.{◌≡◌, ◌≢◌, ℕ, zero, suc, Bool, true, false, List, [], ◌∷◌, Option, Some, None, refl, sym, ap, ◌∙◌, subst, inl, inr, ◌⊎◌, IsSome}
 use Rattle.std.specs.Option.{option_or, option_map_or}
-use Rattle.std.specs.List.{AllByRecursion, find, list_any}
-use Rattle.st_ids.specs.Order.{same_cell}
+use Rattle.std.specs.List.{AllByRecursion}
 use Rattle.st_ids.specs.declared.names.CellId.{CellId}
 use Rattle.st_ids.specs.declared.names.NodeId.{NodeId}
 use Rattle.st_marks.specs.declared.intents.Group.{Group}
 use Rattle.st_marks.specs.declared.intents.Intent.{Intent}
-use Rattle.st_marks.specs.declared.intents.Owned.{Owned}
 use Rattle.st_marks.specs.declared.intents.Put.{Put}
 use Rattle.st_marks.specs.declared.intents.To.{To}
 use Rattle.st_marks.specs.declared.places.Spot.{Spot}
@@ -18,17 +16,12 @@ use Rattle.st_marks.specs.CarryOut.{full, spot_of, place_after, unless_cleared}
 use Rattle.st_marks.specs.Verdict.{IsVerdict, IsUnmetNeed, IsAboveItself, IsInEffect}
 use Rattle.st_marks.specs.Run.{Run, done, next, run_whole}
 use Rattle.st_marks.specs.RowEdits.{IsOneRow, IsRowEdit}
-use Rattle.st_marks.proofs.Lookups.{all-has, first-has, put-has}
+use Rattle.st_marks.proofs.Lookups.{put-has, group-new_row_of}
+use Rattle.st_marks.proofs.Members.{all-has}
 
 module _ (D : Document) (N : Intent) (d : IsOneRow D) (e : IsRowEdit D.schemas N) where
   new_rows : (c : CellId) (n : NodeId) → new_row_of N c ≡ Some n → n ≡ root
-  new_rows c n h = go (find (λ (g : Group). list_any (λ (o : Owned). same_cell o.cell c) g.cells) N.groups) refl h
-    where
-      go : (o : Option Group) → find (λ (g : Group). list_any (λ (o : Owned). same_cell o.cell c) g.cells) N.groups ≡ o → option_map (λ (g : Group). g.node) o ≡ Some n → n ≡ root
-      go None f h = cc
-      go (Some g) f h =
-          let q : g.node ≡ n = cc in
-          sym q ∙ all-has (λ (g : Group). g.node ≡ root) N.groups g e.groups (first-has (λ (g : Group). list_any (λ (o : Owned). same_cell o.cell c) g.cells) N.groups g f).0
+  new_rows c n h = let g = group-new_row_of N c n h in sym g.2 ∙ all-has (λ (g : Group). g.node ≡ root) N.groups g.0 e.groups g.1
 
   row_after : (c : CellId) (n : NodeId) → (full D N).row_of c ≡ Some n → n ≡ root
   row_after c n h = go (D.row_of c) refl h

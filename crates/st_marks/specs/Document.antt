@@ -113,6 +113,10 @@ pub record AreInEffect (entries : List SchemaEntry) : Type 0 where
 abbrev pub owned : CellId → NodeId → Owned
 owned c m = record { cell = c; node = m }
 
+-- each row has fewer than 2^32 cells
+abbrev pub HasShortRows : Document → Type 0
+HasShortRows D = (n : NodeId) → length (D.rows n) < 2 ^ 32
+
 pub record IsSoundInForm (D : Document) : Type 0 where
   -- the root is there, and stands nowhere
   pub root_known : IsSome (D.nodes root)
@@ -120,7 +124,7 @@ pub record IsSoundInForm (D : Document) : Type 0 where
   -- each cell is in one row, and there once
   pub one_row : (c : CellId) (n : NodeId) → (D.row_of c ≡ Some n) ↔ ((m : NodeId) × Has (D.rows n) (owned c m))
   pub once : (n : NodeId) → AreDistinct (λ (o : Owned). o.cell) (D.rows n)
-  pub short : (n : NodeId) → length (D.rows n) < 2 ^ 32
+  pub short : HasShortRows D
   -- a node in a row owns its cell
   pub own_cell : (m n : NodeId) (c : CellId) → D.place m ≡ Spot.Row n c → Has (D.rows n) (owned c m)
   -- a register holds the one node whose place it is

@@ -17,9 +17,13 @@ use Rattle.st_marks.specs.Document.{Document, NodeType, root, owned, ClimbsToAnE
 
 -- ## What its lists say
 
--- the type of a node that it makes
+-- a node that it makes
+abbrev pub new_node : Intent → NodeId → Option NewNode
+new_node N n = find (λ (m : NewNode). same_node m.node n) N.new
+
+-- its type
 abbrev pub new_type : Intent → NodeId → Option NodeType
-new_type N n = option_map (λ (m : NewNode). record { ty = m.ty; leaf = m.leaf }) (find (λ (m : NewNode). same_node m.node n) N.new)
+new_type N n = option_map (λ (m : NewNode). record { ty = m.ty; leaf = m.leaf }) (new_node N n)
 
 abbrev pub is_new : Intent → NodeId → Bool
 is_new N n = is_some (new_type N n)
@@ -53,20 +57,20 @@ is_register f (To.Register g) = same_field f g
 abbrev pub put_in : Intent → FieldId → Option NodeId
 put_in N f = option_map (λ (p : Put). p.node) (find (λ (p : Put). is_register f p.to) N.put)
 
--- whether two anchors are one; None is a row's start
-abbrev pub same_anchor : Option CellId → Option CellId → Bool
-same_anchor None None = true
-same_anchor None (Some d) = false
-same_anchor (Some c) None = false
-same_anchor (Some c) (Some d) = same_cell c d
+-- whether two are there and the same, or neither is
+abbrev pub same_option : {A : Type 0} → (A → A → Bool) → Option A → Option A → Bool
+same_option same None None = true
+same_option same None (Some y) = false
+same_option same (Some x) None = false
+same_option same (Some x) (Some y) = same x y
 
 abbrev pub cells_of : Option Group → List Owned
 cells_of None = []
 cells_of (Some g) = g.cells
 
--- the cells that it makes in a node's row, at the row's start or after a cell
+-- the cells that it makes in a node's row, at the row's start (None) or after a cell
 abbrev pub group_at : Intent → NodeId → Option CellId → List Owned
-group_at N n a = cells_of (find (λ (g : Group). same_node g.node n && same_anchor g.after a) N.groups)
+group_at N n a = cells_of (find (λ (g : Group). same_node g.node n && same_option same_cell g.after a) N.groups)
 
 -- in whose row it makes a cell
 abbrev pub new_row_of : Intent → CellId → Option NodeId

@@ -1,7 +1,17 @@
 pub mod Document
 pub mod Extends
+pub mod LiveTree
 pub mod Intent
 pub mod CarryOut
 pub mod Verdict
 pub mod Run
 pub mod RowEdits
+pub mod Join
+pub mod Back
+pub mod Row
+pub mod Register
+pub mod Embedding
+pub mod Step
+pub mod Normal
+pub mod Listings
+pub mod Agree

@@ -1,14 +1,66 @@
-//! Laws about the definitions: each is the contract of a function that does nothing.
+//! Laws about documents: each is the contract of a function that does nothing.
 
-ghost use Rattle.std.specs.Prelude.{List};
+ghost use Rattle.std.specs.Prelude.{◌≡◌, ◌≢◌, ◌++◌, List, None, IsSome, IsTrue, IfSome};
 ghost use Rattle.std.specs.List.{AllByRecursion};
+ghost use Rattle.st_ids.specs.declared.names.CellId.{CellId};
+ghost use Rattle.st_ids.specs.declared.names.NodeId.{NodeId};
 ghost use Rattle.st_marks.specs.declared.intents.Intent.{Intent};
+ghost use Rattle.st_marks.specs.declared.intents.Owned.{Owned};
+ghost use Rattle.st_marks.specs.declared.schemas.SchemaEntry.{SchemaEntry};
 ghost use Rattle.st_marks.specs.declared.verdicts.Verdict.{Verdict};
-ghost use Rattle.st_marks.specs.Document.{Document};
-ghost use Rattle.st_marks.specs.CarryOut.{full};
-ghost use Rattle.st_marks.specs.Verdict.{IsVerdict};
-ghost use Rattle.st_marks.specs.Run.{Run, run_whole};
+ghost use Rattle.st_marks.specs.Document.{Document, IsSoundInForm, HasShortRows};
+ghost use Rattle.st_marks.specs.Extends.{Grows, IsExtendedBy};
+ghost use Rattle.st_marks.specs.Intent.{Fits, is_new, new_row_of};
+ghost use Rattle.st_marks.specs.CarryOut.{full, void};
+ghost use Rattle.st_marks.specs.Verdict.{IsVerdict, IsAboveItself, carried};
+ghost use Rattle.st_marks.specs.Run.{Run, FitsInTurn, run_whole};
 ghost use Rattle.st_marks.specs.RowEdits.{IsOneRow, IsRowEdit};
+
+/// An intent that fits a sound document leaves one that is sound and extends it: carried out whole where it makes no
+/// ring, void always, and so whatever its verdict is.
+pub fn carrying_out_extends()
+    ensures whole { (D : Document) (N : Intent) → IsSoundInForm D → Fits D N → HasShortRows (full D N)
+        → ((n : NodeId) → IsAboveItself D N n → ⊥) → IsExtendedBy D (full D N) }
+    ensures void { (D : Document) (N : Intent) → IsSoundInForm D → Fits D N → HasShortRows (full D N) → IsExtendedBy D (void D N) }
+    ensures carried { (D : Document) (N : Intent) (v : Verdict) → IsSoundInForm D → Fits D N → HasShortRows (full D N)
+        → IsVerdict D N v → IsExtendedBy D (carried v D N) }
+{}
+
+/// New cells come between the old ones of a row, which keep their order.
+pub fn rows_keep_their_order()
+    ensures { (D : Document) (N : Intent) (n : NodeId) → Grows (λ (o p : Owned). o ≡ p) (D.rows n) ((full D N).rows n) }
+{}
+
+/// A sound document extends itself, and what extends a document that extends another extends that one.
+pub fn extends_in_turn()
+    ensures itself { (D : Document) → IsSoundInForm D → IsExtendedBy D D }
+    ensures on { (D E F : Document) → IsExtendedBy D E → IsExtendedBy E F → IsExtendedBy D F }
+{}
+
+/// An intent has one verdict.
+pub fn one_verdict()
+    ensures { (D : Document) (N : Intent) (v w : Verdict) → IsVerdict D N v → IsVerdict D N w → v ≡ w }
+{}
+
+/// A list of intents leads to one document, which extends the one before. The document of each front of the list is
+/// on the way, and the whole extends it.
+pub fn run_in_turn()
+    ensures one { (D E F : Document) (Ns : List Intent) → Run D Ns E → Run D Ns F → E ≡ F }
+    ensures extends { (D E : Document) (Ns : List Intent) (r : Run D Ns E) → IsSoundInForm D → FitsInTurn r → IsExtendedBy D E }
+    ensures front { (D F : Document) (Ns Ms : List Intent) (r : Run D (Ns ++ Ms) F) → IsSoundInForm D → FitsInTurn r
+        → (E : Document) × Run D Ns E × Run E Ms F × IsExtendedBy D E × IsExtendedBy E F }
+    ensures then { (D E F : Document) (Ns Ms : List Intent) → Run D Ns E → Run E Ms F → Run D (Ns ++ Ms) F }
+{}
+
+/// An intent that fits a document fits each one that extends it and has none of the names that the intent makes (for a
+/// change of schema: not its revision).
+pub fn fits_later()
+    ensures { (D E : Document) (N : Intent) → IsExtendedBy D E → Fits D N
+        → ((n : NodeId) → IsTrue (is_new N n) → E.nodes n ≡ None)
+        → ((c : CellId) → IsSome (new_row_of N c) → E.row_of c ≡ None)
+        → IfSome N.schema (λ _. AllByRecursion (λ (e : SchemaEntry). e.rev ≢ N.rev) E.schemas)
+        → Fits E N }
+{}
 
 /// An edit of the root's row, in a document that has nothing else, is sound, and the document after has nothing else
 /// either. So a list of such edits is carried out whole.

@@ -6,15 +6,22 @@ mod changes;
 mod copies;
 mod intents;
 mod laws;
+mod laws_of_listings;
 mod marks;
 mod places;
 mod schemas;
 mod steps;
+#[cfg(test)]
+mod tests;
 mod verdicts;
 
 pub use changes::{Change, NewNode};
 pub use intents::{Group, Intent, Owned, Put, To};
-pub use laws::row_edits_are_never_void;
+pub use laws::{
+    carrying_out_extends, extends_in_turn, fits_later, one_verdict, row_edits_are_never_void,
+    rows_keep_their_order, run_in_turn,
+};
+pub use laws_of_listings::{one_embedding, one_step};
 pub use marks::{How, Loose, Mark, RegMark, RegStep, RowMarks};
 pub use places::{Slot, Spot};
 pub use schemas::{SchemaEntry, SchemaStep};

@@ -1,0 +1,225 @@
+-- What a change or a step shows of the documents before it and after it, and which names it has.
+use Rattle.std.specs.Prelude.{◌≡◌, ◌&&◌, ◌++◌, ℕ, Bool, true, false, List, [], ◌∷◌, map, not, slice_get, Option, Some, None, option_map, if◌then◌else◌}
+use Rattle.std.specs.List.{list_any, flat_map}
+use Rattle.std.specs.Option.{option_or, option_map_or}
+use Rattle.st_ids.specs.Listing.{item_of}
+use Rattle.st_ids.specs.Order.{node_cmp, field_cmp, same_cell}
+use Rattle.st_ids.specs.declared.names.CellId.{CellId}
+use Rattle.st_ids.specs.declared.names.FieldId.{FieldId}
+use Rattle.st_ids.specs.declared.names.NodeId.{NodeId}
+use Rattle.st_marks.specs.declared.changes.Change.{Change}
+use Rattle.st_marks.specs.declared.changes.NewNode.{NewNode}
+use Rattle.st_marks.specs.declared.marks.How.{How}
+use Rattle.st_marks.specs.declared.marks.How.TheVariants.{Stay, Here, Leave}
+use Rattle.st_marks.specs.declared.marks.Loose.{Loose}
+use Rattle.st_marks.specs.declared.marks.RegMark.{RegMark}
+use Rattle.st_marks.specs.declared.marks.RegStep.{RegStep}
+use Rattle.st_marks.specs.declared.marks.RowMarks.{RowMarks}
+use Rattle.st_marks.specs.declared.places.Spot.{Spot}
+use Rattle.st_marks.specs.declared.steps.Step.{Step}
+use Rattle.st_marks.specs.Row.{CellMark, Counted, Gap, Touch, Make, Fill, spread, is_here}
+use Rattle.st_marks.specs.Embedding.{is_among}
+
+-- ## Names
+
+-- the names that an argument has, and those that it makes
+pub record Names : Type 0 where
+  -- a node that it names anywhere
+  pub names_node : NodeId → Bool
+  -- a cell that it names in the row of a node
+  pub names_cell : NodeId → CellId → Bool
+  pub makes_node : NodeId → Bool
+  pub makes_cell : CellId → Bool
+
+-- the nodes in a row's marks, owners of empty cells too
+abbrev pub nodes_in : List CellMark → List NodeId
+nodes_in [] = []
+nodes_in (Counted ∷ ms) = nodes_in ms
+nodes_in (Gap c ∷ ms) = nodes_in ms
+nodes_in (Touch c n h ∷ ms) = n ∷ nodes_in ms
+nodes_in (Make c n b ∷ ms) = n ∷ nodes_in ms
+nodes_in (Fill c n ∷ ms) = n ∷ nodes_in ms
+
+-- the cells in a row's marks, and those that it makes
+abbrev pub cells_in : List CellMark → List CellId
+cells_in [] = []
+cells_in (Counted ∷ ms) = cells_in ms
+cells_in (Gap c ∷ ms) = c ∷ cells_in ms
+cells_in (Touch c n h ∷ ms) = c ∷ cells_in ms
+cells_in (Make c n b ∷ ms) = c ∷ cells_in ms
+cells_in (Fill c n ∷ ms) = c ∷ cells_in ms
+
+abbrev pub cells_made : List CellMark → List CellId
+cells_made [] = []
+cells_made (Counted ∷ ms) = cells_made ms
+cells_made (Gap c ∷ ms) = cells_made ms
+cells_made (Touch c n h ∷ ms) = cells_made ms
+cells_made (Make c n b ∷ ms) = c ∷ cells_made ms
+cells_made (Fill c n ∷ ms) = cells_made ms
+
+abbrev pub is_among_cells : List CellId → CellId → Bool
+is_among_cells cs c = list_any (λ d. same_cell d c) cs
+
+-- the list of one that may be there
+abbrev pub one_or_none : {A : Type 0} → Option A → List A
+one_or_none None = []
+one_or_none (Some x) = x ∷ []
+
+-- the marks of a node's row; none where it isn't listed
+abbrev pub marks_of : List RowMarks → NodeId → List CellMark
+marks_of rows n = option_map_or (λ (r : RowMarks). spread r.marks) (item_of node_cmp (λ (r : RowMarks). r.node) rows n) []
+
+abbrev pub nodes_of_rows : List RowMarks → List NodeId
+nodes_of_rows rows = flat_map (λ (r : RowMarks). r.node ∷ nodes_in (spread r.marks)) rows
+
+abbrev pub nodes_new : List NewNode → List NodeId
+nodes_new new = map (λ (m : NewNode). m.node) new
+
+abbrev pub nodes_loose : List Loose → List NodeId
+nodes_loose loose = map (λ (l : Loose). l.node) loose
+
+abbrev pub names_by : List NodeId → List RowMarks → List NewNode → Names
+names_by nodes rows new = record {
+  names_node = is_among nodes;
+  names_cell = λ n c. is_among_cells (cells_in (marks_of rows n)) c;
+  makes_node = is_among (nodes_new new);
+  makes_cell = is_among_cells (flat_map (λ (r : RowMarks). cells_made (spread r.marks)) rows);
+}
+
+abbrev pub names_of_change : Change → Names
+names_of_change C = names_by
+    (C.need ++ nodes_new C.new ++ nodes_of_rows C.rows ++ flat_map (λ (r : RegMark). r.field.node ∷ (one_or_none r.held ++ one_or_none r.fill)) C.regs ++ nodes_loose C.loose)
+    C.rows C.new
+
+abbrev pub names_of_step : Step → Names
+names_of_step S = names_by
+    (nodes_new S.new ++ nodes_of_rows S.rows ++ flat_map (λ (r : RegStep). r.field.node ∷ (one_or_none r.before ++ one_or_none r.after)) S.regs ++ nodes_loose S.loose)
+    S.rows S.new
+
+-- ## What is shown
+
+-- what is shown of one cell: a counted one is full, and nothing else
+pub record Seen : Type 0 where
+  pub cell : Option CellId
+  pub node : Option NodeId
+  pub full : Bool
+
+abbrev pub seen : CellId → NodeId → Bool → Seen
+seen c n b = record { cell = Some c; node = Some n; full = b }
+
+abbrev pub counted_cell : Seen
+counted_cell = record { cell = None; node = None; full = true }
+
+-- an empty cell whose owner isn't named
+abbrev pub empty_cell : CellId → Seen
+empty_cell c = record { cell = Some c; node = None; full = false }
+
+abbrev pub is_leave : How → Bool
+is_leave Stay = false
+is_leave Here = false
+is_leave Leave = true
+
+-- a row before
+abbrev pub cells_before : List CellMark → List Seen
+cells_before [] = []
+cells_before (Counted ∷ ms) = counted_cell ∷ cells_before ms
+cells_before (Gap c ∷ ms) = empty_cell c ∷ cells_before ms
+cells_before (Touch c n h ∷ ms) = seen c n true ∷ cells_before ms
+cells_before (Make c n b ∷ ms) = cells_before ms
+cells_before (Fill c n ∷ ms) = seen c n false ∷ cells_before ms
+
+-- a row after
+abbrev pub cells_after : List CellMark → List Seen
+cells_after [] = []
+cells_after (Counted ∷ ms) = counted_cell ∷ cells_after ms
+cells_after (Gap c ∷ ms) = empty_cell c ∷ cells_after ms
+cells_after (Touch c n h ∷ ms) = seen c n (not (is_leave h)) ∷ cells_after ms
+cells_after (Make c n b ∷ ms) = seen c n b ∷ cells_after ms
+cells_after (Fill c n ∷ ms) = seen c n true ∷ cells_after ms
+
+-- who is in a register after a change: the node that comes in; or else the occupant, unless it leaves or is evicted
+abbrev pub held_after : RegMark → Option NodeId
+held_after r = option_or r.fill (if is_leave r.how then None else if r.clear && not (is_here r.how) then None else r.held)
+
+-- what is listed: of a row its cells, of a register its occupant, and which nodes are nowhere
+pub record Listing : Type 0 where
+  pub row : NodeId → Option (List Seen)
+  pub register : FieldId → Option (Option NodeId)
+  pub nowhere : NodeId → Bool
+  pub names : Names
+
+-- ## Before. The row of a node that the argument itself makes is shown empty.
+
+abbrev pub rows_before : List RowMarks → NodeId → Option (List Seen)
+rows_before rows n = option_map (λ (r : RowMarks). cells_before (spread r.marks)) (item_of node_cmp (λ (r : RowMarks). r.node) rows n)
+
+abbrev pub listing_before_change : Change → Listing
+listing_before_change C = record {
+  row = rows_before C.rows;
+  register = λ f. option_map (λ (r : RegMark). r.held) (item_of field_cmp (λ (r : RegMark). r.field) C.regs f);
+  nowhere = is_among (nodes_loose C.loose);
+  names = names_of_change C;
+}
+
+abbrev pub listing_before_step : Step → Listing
+listing_before_step S = record {
+  row = rows_before S.rows;
+  register = λ f. option_map (λ (r : RegStep). r.before) (item_of field_cmp (λ (r : RegStep). r.field) S.regs f);
+  nowhere = is_among (nodes_loose S.loose);
+  names = names_of_step S;
+}
+
+-- ## After. The row or register of a new node that isn't listed is empty.
+
+abbrev pub rows_after : List RowMarks → List NewNode → NodeId → Option (List Seen)
+rows_after rows new n = option_or (option_map (λ (r : RowMarks). cells_after (spread r.marks)) (item_of node_cmp (λ (r : RowMarks). r.node) rows n)) (if is_among (nodes_new new) n then Some [] else None)
+
+abbrev pub registers_after : Option (Option NodeId) → List NewNode → FieldId → Option (Option NodeId)
+registers_after listed new f = option_or listed (if is_among (nodes_new new) f.node then Some None else None)
+
+-- the nodes that full cells show
+abbrev pub nodes_shown : List Seen → List NodeId
+nodes_shown [] = []
+nodes_shown (s ∷ cells) = (if s.full then one_or_none s.node else []) ++ nodes_shown cells
+
+-- the nodes that stand somewhere before, and after
+abbrev pub placed_before : List RowMarks → List (Option NodeId) → List NodeId
+placed_before rows held = flat_map (λ (r : RowMarks). nodes_shown (cells_before (spread r.marks))) rows ++ flat_map one_or_none held
+
+abbrev pub placed_after : List RowMarks → List (Option NodeId) → List NodeId
+placed_after rows held = flat_map (λ (r : RowMarks). nodes_shown (cells_after (spread r.marks))) rows ++ flat_map one_or_none held
+
+-- a node that is new or was listed before, evicted occupants too, is nowhere where nothing places it after
+abbrev pub nowhere_after : List NodeId → List NodeId → NodeId → Bool
+nowhere_after there placed n = is_among there n && not (is_among placed n)
+
+abbrev pub listing_after_change : Change → Listing
+listing_after_change C = record {
+  row = rows_after C.rows C.new;
+  register = λ f. registers_after (option_map held_after (item_of field_cmp (λ (r : RegMark). r.field) C.regs f)) C.new f;
+  nowhere = nowhere_after (nodes_new C.new ++ nodes_loose C.loose ++ placed_before C.rows (map (λ (r : RegMark). r.held) C.regs)) (placed_after C.rows (map held_after C.regs));
+  names = names_of_change C;
+}
+
+abbrev pub listing_after_step : Step → Listing
+listing_after_step S = record {
+  row = rows_after S.rows S.new;
+  register = λ f. registers_after (option_map (λ (r : RegStep). r.after) (item_of field_cmp (λ (r : RegStep). r.field) S.regs f)) S.new f;
+  nowhere = nowhere_after (nodes_new S.new ++ nodes_loose S.loose ++ placed_before S.rows (map (λ (r : RegStep). r.before) S.regs)) (placed_after S.rows (map (λ (r : RegStep). r.after) S.regs));
+  names = names_of_step S;
+}
+
+-- ## Where a node is
+
+-- a listing says of a node where it is
+pub data Says (L : Listing) : NodeId → Spot → Type 0 where
+  in_row : (n m : NodeId) (c : CellId) (cells : List Seen) (k : ℕ) → L.row n ≡ Some cells → slice_get cells k ≡ Some (seen c m true) → Says L m (Spot.Row n c)
+  in_register : (f : FieldId) (m : NodeId) → L.register f ≡ Some (Some m) → Says L m (Spot.Register f)
+  nowhere : (m : NodeId) → L.nowhere m ≡ true → Says L m Spot.Nowhere
+
+-- a listing shows a cell at a place of a row, with the owner if it says it
+pub record ShowsCell (L : Listing) (c : CellId) (n : NodeId) (k : ℕ) (owner : Option NodeId) : Type 0 where
+  pub cells : List Seen
+  pub full : Bool
+  pub listed : L.row n ≡ Some cells
+  pub at_place : slice_get cells k ≡ Some (record { cell = Some c; node = owner; full = full })
