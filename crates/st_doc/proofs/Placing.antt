@@ -29,6 +29,17 @@ placed_more row_of n puts i j p before now first next inside at leads so_far =
     go true e = rw e leads
     go false e = rw e so_far
 
+-- a put, taken before those behind it
+pub target_more : (row_of : CellId → Option NodeId) (n : NodeId) (puts : List Put) (i j : ℕ) (p : Put) (before : Option Spot) (now : Spot) → i + 1 ≡ j → i < length puts → get_or puts i p ≡ p
+    → now ≡ spot_of row_of p.to → before ≡ option_map (spot_of row_of) (put_by (drop j puts) n)
+    → cond (same_node p.node n) (Some now) before ≡ option_map (spot_of row_of) (put_by (drop i puts) n)
+target_more row_of n puts i j p before now next inside at leads so_far =
+    go (same_node p.node n) refl ∙ ap (λ ps. option_map (spot_of row_of) (put_by ps n)) (sym (drop_one puts i p p inside at ∙ ap (λ k. p ∷ drop k puts) next))
+  where
+    go : (b : Bool) → same_node p.node n ≡ b → cond (same_node p.node n) (Some now) before ≡ option_map (spot_of row_of) (put_by (p ∷ drop j puts) n)
+    go true e = rw e (ap (λ s. Some s) leads)
+    go false e = rw e so_far
+
 module _ (N : Intent) (e : EditsRows N) where
   cleared_none : (f : FieldId) → clears N f ≡ false
   cleared_none f = ap (list_any _) e.no_clear

@@ -1,3 +1,4 @@
+pub mod Ahead
 pub mod Doc
 pub mod Nodes
 pub mod Edits

@@ -1,6 +1,7 @@
 //! The plain document, which keeps every cell that was ever made.
 #![tactic(auto)]
 
+mod climb;
 mod doc;
 mod live;
 mod maps;
@@ -11,7 +12,9 @@ mod registers;
 mod rows;
 mod same;
 mod show;
+mod targets;
 #[cfg(test)]
 mod tests;
+mod verdict;
 
 pub use doc::Doc;
