@@ -1,5 +1,7 @@
 pub mod Look
+pub mod Carrying
 pub mod Climbing
+pub mod Evicting
 pub mod Growing
 pub mod Opened
 pub mod Placing

@@ -1,12 +1,14 @@
 -- Places as an intent will leave them, read off the places before and where its puts lead.
 use Rattle.std.specs.Prelude.{◌≡◌, ℕ, suc, Option, Some, None, Bool, true, false, MatchOption, unwrap_or, if◌then◌else◌}
 use Rattle.std.specs.BTreeMap.{BTreeMap, get}
+use Rattle.std.specs.Option.{option_map_or}
 use Rattle.std.specs.Ordering.{is_lt}
 use Rattle.st_ids.specs.Order.{node_cmp}
 use Rattle.st_ids.specs.declared.names.NodeId.{NodeId}
 use Rattle.st_marks.specs.declared.intents.Intent.{Intent}
 use Rattle.st_marks.specs.declared.places.Spot.{Spot}
 use Rattle.st_marks.specs.Document.{node_of, climb}
+use Rattle.st_marks.specs.Intent.{is_new}
 use Rattle.st_marks.specs.CarryOut.{unless_cleared}
 use Rattle.st_marks.specs.Verdict.{IsLeast}
 
@@ -32,3 +34,12 @@ abbrev pub least_with : Option NodeId → NodeId → Bool → Option NodeId
 least_with least n false = least
 least_with None n true = Some n
 least_with (Some m) n true = if is_lt (node_cmp n m) then Some n else Some m
+
+-- whether a place is in a row or register of a new node
+abbrev pub in_new : Intent → Spot → Bool
+in_new N spot = option_map_or (is_new N) (node_of spot) false
+
+-- where a put leads, if that is in a new node
+abbrev pub inside_new : Intent → Option Spot → Option Spot
+inside_new N None = None
+inside_new N (Some spot) = if in_new N spot then Some spot else None

@@ -1,8 +1,10 @@
 //! The plain document, which keeps every cell that was ever made.
 #![tactic(auto)]
 
+mod carry;
 mod climb;
 mod doc;
+mod evictions;
 mod live;
 mod maps;
 mod names;

@@ -1,13 +1,16 @@
 //! Where the puts of an intent lead.
-ghost use Rattle.std.specs.Prelude.{◌≡◌, IfOk, option_map};
+ghost use Rattle.std.specs.Prelude.{◌≡◌, cond, None, IfOk, OnOk, option_map};
 ghost use Rattle.std.specs.BTreeMap.{get};
 ghost use Rattle.std.specs.Option.{option_or};
 ghost use Rattle.st_ids.specs.declared.names.CellId.{CellId as Cell};
 ghost use Rattle.st_ids.specs.declared.names.NodeId.{NodeId as Node};
-ghost use Rattle.st_ids.specs.Order.{node_cmp, cell_cmp};
-ghost use Rattle.st_marks.specs.Intent.{put_of, new_row_of};
+ghost use Rattle.st_ids.specs.Order.{node_cmp, cell_cmp, same_node};
+ghost use Rattle.st_marks.specs.Intent.{put_of, new_row_of, is_new};
 ghost use Rattle.st_marks.specs.CarryOut.{spot_of};
+ghost use Rattle.st_doc.specs.Ahead.{in_new, inside_new};
 
+use crate::climb::node_of;
+use crate::evictions::is_new;
 use crate::maps::set;
 use crate::names::add_rows;
 use st_ids::{CellId, Copied, NodeId};
@@ -74,4 +77,51 @@ pub fn targets(
         set(&mut targets, put.node, spot)?;
     }
     Ok(targets)
+}
+
+// Whether a place is in a row or register of a new node.
+fn is_in_new(intent: &Intent, spot: &Spot) -> bool
+    ensures { result ≡ in_new intent.now spot.now }
+{
+    match node_of(spot) {
+        None => false,
+        Some(node) => is_new(intent, node),
+    }
+}
+
+// Keeps where a node is to stand, if that is in a new node.
+fn keep_inside(
+    alloc: Global,
+    kept: &mut BTreeMap<NodeId, Spot>,
+    targets: &BTreeMap<NodeId, Spot>,
+    intent: &Intent,
+    node: NodeId,
+) -> Result<(), AllocError>
+    ensures { OnOk result ((n : Node) → get node_cmp kept.new n
+        ≡ cond (same_node node n) (option_or (inside_new intent.now (get node_cmp targets.now node)) (get node_cmp kept.old n)) (get node_cmp kept.old n)) }
+{
+    let Some(spot) = targets.get(&node) else {
+        return Ok(());
+    };
+    if !is_in_new(intent, spot) {
+        return Ok(());
+    }
+    set(kept, node, spot.copy(alloc)?)?;
+    Ok(())
+}
+
+/// Where new nodes inside new nodes are to stand.
+pub fn targets_inside(
+    alloc: Global,
+    targets: &BTreeMap<NodeId, Spot>,
+    intent: &Intent,
+) -> Result<BTreeMap<NodeId, Spot>, AllocError>
+    ensures { IfOk result (λ m. (n : Node) → get node_cmp m n
+        ≡ cond (is_new intent.now n) (inside_new intent.now (get node_cmp targets.now n)) None) }
+{
+    let mut kept = BTreeMap::new(alloc);
+    for new in intent.new.as_slice() {
+        keep_inside(alloc, &mut kept, targets, intent, new.node)?;
+    }
+    Ok(kept)
 }
