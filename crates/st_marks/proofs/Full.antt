@@ -1,5 +1,5 @@
 -- An intent carried out whole leaves a document that is sound in form and extends the one before, if it makes no ring.
-use Rattle.std.proofs.Common.{◌≡◌, ◌≢◌, ◌<◌, ◌^◌, ℕ, Bool, true, false, List, [], ◌∷◌, ◌++◌, map, length, Option, Some, None, cond, refl, sym, ap, ◌∙◌, inl, inr, ◌⊎◌, is_some, IsSome, IfSome}
+use Rattle.std.proofs.Common.{◌≡◌, ◌≢◌, ◌↔◌, ◌<◌, ◌^◌, ℕ, Bool, true, false, List, [], ◌∷◌, ◌++◌, map, length, Option, Some, None, cond, refl, sym, ap, ◌∙◌, inl, inr, ◌⊎◌, is_some, IsSome, IfSome}
 use Rattle.std.specs.List.{AllByRecursion}
 use Rattle.std.specs.Option.{option_or, option_map_or}
 use Rattle.st_ids.specs.Listing.{Has}
@@ -60,8 +60,12 @@ unless_cleared-row N Spot.Nowhere n c e = e
 unless_cleared-row N (Spot.Row r d) n c e = e
 unless_cleared-row N (Spot.Register g) n c e = elim (clears N g) as (λ b. cond b Spot.Nowhere (Spot.Register g) ≡ Spot.Row n c → Spot.Register g ≡ Spot.Row n c) [ true ↦ λ e. cc | false ↦ λ e. cc ] e
 
-placed_is_held : (D : Document) (N : Intent) → IsSoundInForm D → IsIntent N → (m : NodeId) (f : FieldId) → (full D N).place m ≡ Spot.Register f → (full D N).held f ≡ Some m
-placed_is_held D N s w m f e = go (put_of N m) refl e
+-- each register holds the one node whose place it is
+abbrev pub HoldsWhatIsPlaced : Document → Type 0
+HoldsWhatIsPlaced D = (m : NodeId) (f : FieldId) → (D.held f ≡ Some m) ↔ (D.place m ≡ Spot.Register f)
+
+placed_is_held : (D : Document) (N : Intent) → HoldsWhatIsPlaced D → IsIntent N → (m : NodeId) (f : FieldId) → (full D N).place m ≡ Spot.Register f → (full D N).held f ≡ Some m
+placed_is_held D N one w m f e = go (put_of N m) refl e
   where
     kept : put_of N m ≡ None → (o : Option NodeId) → put_in N f ≡ o → D.held f ≡ Some m → clears N f ≡ false → option_or o (cond (clears N f) None (unless_put N (D.held f))) ≡ Some m
     kept none (Some x) i h c = absurd (true-false (put_clears N w x f (put_in-has N f x i)) c)
@@ -73,10 +77,10 @@ placed_is_held D N s w m f e = go (put_of N m) refl e
         rw (has-put_in N w m f (put-has N m (To.Register f) (h ∙ ap (λ t. Some t) t))) refl
     go None h e =
         let r = unless_cleared-register N (D.place m) f e in
-        kept h (put_in N f) refl ((s.one_held m f).1 r.0) r.1
+        kept h (put_in N f) refl ((one m f).1 r.0) r.1
 
-held_is_placed : (D : Document) (N : Intent) → IsSoundInForm D → IsIntent N → (m : NodeId) (f : FieldId) → (full D N).held f ≡ Some m → (full D N).place m ≡ Spot.Register f
-held_is_placed D N s w m f e = go (put_in N f) refl e
+held_is_placed : (D : Document) (N : Intent) → HoldsWhatIsPlaced D → IsIntent N → (m : NodeId) (f : FieldId) → (full D N).held f ≡ Some m → (full D N).place m ≡ Spot.Register f
+held_is_placed D N one w m f e = go (put_in N f) refl e
   where
     stayed : (o : Option NodeId) → D.held f ≡ o → clears N f ≡ false → unless_put N o ≡ Some m → (full D N).place m ≡ Spot.Register f
     stayed None h c e = cc
@@ -87,7 +91,7 @@ held_is_placed D N s w m f e = go (put_in N f) refl e
         more None i e =
             let q : x ≡ m = cc in
             let none : put_of N m ≡ None = ap (put_of N) (sym q) ∙ i in
-            let at : D.place m ≡ Spot.Register f = (s.one_held m f).0 (h ∙ ap (λ x. Some x) q) in
+            let at : D.place m ≡ Spot.Register f = (one m f).0 (h ∙ ap (λ x. Some x) q) in
             rw (none, at, c) refl
 
     open_clear : (b : Bool) → clears N f ≡ b → cond b None (unless_put N (D.held f)) ≡ Some m → (full D N).place m ≡ Spot.Register f
@@ -100,6 +104,18 @@ held_is_placed D N s w m f e = go (put_in N f) refl e
         let p = has-put N w (record { node = m; to = To.Register f }) (put_in-has N f m (h ∙ ap (λ x. Some x) q)) in
         rw p refl
     go None h e = open_clear (clears N f) refl e
+
+pub full_one_held : (D : Document) (N : Intent) → HoldsWhatIsPlaced D → IsIntent N → HoldsWhatIsPlaced (full D N)
+full_one_held D N one w m f = (held_is_placed D N one w m f, placed_is_held D N one w m f)
+
+-- two documents with the same places hold the same
+pub same_held : (D E : Document) → HoldsWhatIsPlaced D → HoldsWhatIsPlaced E → ((n : NodeId) → D.place n ≡ E.place n) → (f : FieldId) → D.held f ≡ E.held f
+same_held D E d e same f = go (D.held f) refl (E.held f) refl
+  where
+    go : (o : Option NodeId) → D.held f ≡ o → (p : Option NodeId) → E.held f ≡ p → D.held f ≡ E.held f
+    go None h None k = h ∙ sym k
+    go (Some m) h p k = h ∙ sym ((e m f).1 (sym (same m) ∙ (d m f).0 h))
+    go None h (Some m) k = (d m f).1 (same m ∙ (e m f).0 k) ∙ sym k
 
 abbrev pub IsRegister : Document → NodeId → FieldId → Type 0
 IsRegister D m f = IsSome (D.nodes m) × IsSome (D.nodes f.node) × (f.key.0 ≢ [])
@@ -199,7 +215,7 @@ module _ (D : Document) (N : Intent) (s : IsSoundInForm D) (f : Fits D N) (short
     once = rows_once D N s f;
     short = short;
     own_cell = place_in_row D N s f;
-    one_held = λ m r. (held_is_placed D N s f.itself m r, placed_is_held D N s f.itself m r);
+    one_held = full_one_held D N s.one_held f.itself;
     cells_known = λ n o h. ((row_cells D N s f n o h).1, (row_cells D N s f n o h).2);
     held_known = λ m r e. ((held_register D N f s m r e).0, (held_register D N f s m r e).1);
     register_key = λ m r e. (held_register D N f s m r e).2;

@@ -22,17 +22,17 @@ has_later (gained g) o h = inr (has_later g o h)
 has_later (kept e g) o (inl q) = inl (sym e ∙ q)
 has_later (kept e g) o (inr h) = inr (has_later g o h)
 
-module _ (D E : Document) (N : Intent) (x : IsExtendedBy D E) (f : Fits D N) where
-  node_later : (n : NodeId) → IsSome (D.nodes n) → IsSome (E.nodes n)
-  node_later n h = go (D.nodes n) refl h
-    where
-      go : (o : Option NodeType) → D.nodes n ≡ o → IsSome o → IsSome (E.nodes n)
-      go None e h = cc
-      go (Some t) e h = rw (x.nodes n t e) refl
+pub node_later : (D E : Document) → IsExtendedBy D E → (n : NodeId) → IsSome (D.nodes n) → IsSome (E.nodes n)
+node_later D E x n h = go (D.nodes n) refl h
+  where
+    go : (o : Option NodeType) → D.nodes n ≡ o → IsSome o → IsSome (E.nodes n)
+    go None e h = cc
+    go (Some t) e h = rw (x.nodes n t e) refl
 
+module _ (D E : Document) (N : Intent) (x : IsExtendedBy D E) (f : Fits D N) where
   known_later : (n : NodeId) → IsKnown D N n → IsKnown E N n
   known_later n (inl h) = inl h
-  known_later n (inr h) = inr (node_later n h)
+  known_later n (inr h) = inr (node_later D E x n h)
 
   pub row_later : (c : CellId) (n : NodeId) → D.row_of c ≡ Some n → E.row_of c ≡ Some n
   row_later c n e = let o = (x.before.one_row c n).0 e in (x.after.one_row c n).1 (o.0, has_later (x.rows n) (owned c o.0) o.1)
@@ -62,5 +62,5 @@ module _ (D E : Document) (N : Intent) (x : IsExtendedBy D E) (f : Fits D N) whe
           if_some (λ (f : FieldId). IsKnown D N f.node) (λ (f : FieldId). IsKnown E N f.node) (λ f e. known_later f.node e) (register_of p.to) k.2,
         ));
     clears_known = has-all (λ (f : FieldId). IsKnown E N f.node) N.clear (λ r h. known_later r.node (all-has (λ (f : FieldId). IsKnown D N f.node) N.clear r f.clears_known h));
-    needs_known = has-all (λ n. IsSome (E.nodes n)) N.need (λ n h. node_later n (all-has (λ n. IsSome (D.nodes n)) N.need n f.needs_known h));
+    needs_known = has-all (λ n. IsSome (E.nodes n)) N.need (λ n h. node_later D E x n (all-has (λ n. IsSome (D.nodes n)) N.need n f.needs_known h));
   }

@@ -15,3 +15,8 @@ mod WorkedRows
 mod WorkedVerdicts
 mod WorkedRegisters
 mod WorkedNegative
+pub mod Retreat
+pub mod WayBack
+pub mod Joined
+pub mod OneTree
+pub mod MarkLengths

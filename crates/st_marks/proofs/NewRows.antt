@@ -17,7 +17,7 @@ use Rattle.st_marks.proofs.Members.{all-has, has-append, append_left, append_rig
 use Rattle.st_marks.proofs.Lookups.{group_at-group, group_found, new_row_of-group, group-new_row_of}
 
 -- a cell of a row with groups is an old one, or one that is made after an old one
-with_groups-has : (N : Intent) (n : NodeId) (os : List Owned) (o : Owned) → Has (with_groups N n os) o → Has os o ⊎ ((p : Owned) × Has os p × Has (group_at N n (Some p.cell)) o)
+pub with_groups-has : (N : Intent) (n : NodeId) (os : List Owned) (o : Owned) → Has (with_groups N n os) o → Has os o ⊎ ((p : Owned) × Has os p × Has (group_at N n (Some p.cell)) o)
 with_groups-has N n [] o h = absurd h
 with_groups-has N n (p ∷ os) o (inl e) = inl (inl e)
 with_groups-has N n (p ∷ os) o (inr h) = elim (has-append (group_at N n (Some p.cell)) (with_groups N n os) o h) [
@@ -25,12 +25,12 @@ with_groups-has N n (p ∷ os) o (inr h) = elim (has-append (group_at N n (Some 
   | inr i ↦ elim (with_groups-has N n os o i) [ inl j ↦ inl (inr j) | inr j ↦ inr (j.0, inr j.1, j.2) ]
 ]
 
-old_kept : (N : Intent) (n : NodeId) (os : List Owned) (o : Owned) → Has os o → Has (with_groups N n os) o
+pub old_kept : (N : Intent) (n : NodeId) (os : List Owned) (o : Owned) → Has os o → Has (with_groups N n os) o
 old_kept N n [] o h = absurd h
 old_kept N n (p ∷ os) o (inl e) = inl e
 old_kept N n (p ∷ os) o (inr h) = inr (append_right (group_at N n (Some p.cell)) (with_groups N n os) o (old_kept N n os o h))
 
-made_kept : (N : Intent) (n : NodeId) (os : List Owned) (p o : Owned) → Has os p → Has (group_at N n (Some p.cell)) o → Has (with_groups N n os) o
+pub made_kept : (N : Intent) (n : NodeId) (os : List Owned) (p o : Owned) → Has os p → Has (group_at N n (Some p.cell)) o → Has (with_groups N n os) o
 made_kept N n [] p o h i = absurd h
 made_kept N n (q ∷ os) p o (inl e) i = inr (append_left (group_at N n (Some q.cell)) (with_groups N n os) o (subst (λ (q : Owned). Has (group_at N n (Some q.cell)) o) (sym e) i))
 made_kept N n (q ∷ os) p o (inr h) i = inr (append_right (group_at N n (Some q.cell)) (with_groups N n os) o (made_kept N n os p o h i))

@@ -5,7 +5,7 @@ use Rattle.st_marks.specs.Document.{Document, IsSoundInForm}
 use Rattle.st_marks.specs.Extends.{done, gained, kept, IsExtendedBy}
 use Rattle.st_marks.proofs.NewRows.{KeepsOrder}
 
-grows_itself : (xs : List Owned) → KeepsOrder xs xs
+pub grows_itself : (xs : List Owned) → KeepsOrder xs xs
 grows_itself [] = done
 grows_itself (x ∷ xs) = kept refl (grows_itself xs)
 

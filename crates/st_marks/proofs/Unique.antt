@@ -20,11 +20,11 @@ use Rattle.st_marks.specs.declared.places.Slot.{Slot}
 use Rattle.st_marks.specs.declared.schemas.SchemaEntry.{SchemaEntry}
 use Rattle.st_marks.specs.declared.schemas.SchemaStep.{SchemaStep}
 use Rattle.st_marks.specs.declared.steps.Step.{Step}
-use Rattle.st_marks.specs.Document.{Document, AreDistinct, IsSoundInForm, slot, content, first_of, last_of, revs}
+use Rattle.st_marks.specs.Document.{Document, IsListing, AreDistinct, IsSoundInForm, slot, content, first_of, last_of, revs}
 use Rattle.st_marks.specs.Extends.{Grows, done, gained, kept}
 use Rattle.st_marks.specs.Row.{Make, SameCell, step_cell, step_row, embed_row}
 use Rattle.st_marks.specs.Register.{embed_register, step_register}
-use Rattle.st_marks.specs.Embedding.{IsListing, IsEmbedding, IsMentionedByIntent, row_marks, row_part, register_part, embed_loose}
+use Rattle.st_marks.specs.Embedding.{IsEmbedding, IsMentionedByIntent, row_marks, row_part, register_part, embed_loose}
 use Rattle.st_marks.specs.Step.{IsStep, IsMentionedByStep, IsSchemaStep, step_loose}
 
 -- two tests that hold at the same nodes are one
@@ -38,7 +38,7 @@ one_test : (m m' : NodeId → Bool) (P : NodeId → Type 0) → ((n : NodeId) �
 one_test m m' P h h' = fun_ext (λ n. both_or_none (m n) (m' n) (λ e. (h' n).1 ((h n).0 e)) (λ e. (h n).1 ((h' n).0 e)))
 
 -- two listings that have the same at each name are one
-one_list : {K A : Type 0} {cmp : K → K → Ordering} → IsTotalOrder cmp → CmpEqualImpliesEq cmp → (key : A → K) (xs ys : List A) (at at' : K → Option A) → at ≡ at' → IsListing cmp key xs at → IsListing cmp key ys at' → xs ≡ ys
+pub one_list : {K A : Type 0} {cmp : K → K → Ordering} → IsTotalOrder cmp → CmpEqualImpliesEq cmp → (key : A → K) (xs ys : List A) (at at' : K → Option A) → at ≡ at' → IsListing cmp key xs at → IsListing cmp key ys at' → xs ≡ ys
 one_list t exact key xs ys at at' e x y = same_listing t exact key xs ys x.0 y.0 (λ k. x.1 k ∙ ap (λ (f : _ → Option _). f k) e ∙ sym (y.1 k))
 
 -- ## The embedding

@@ -2,7 +2,8 @@
 -- with the same look-ups are one. A name that isn't among the nodes is nowhere, and has no cells and no registers.
 use Rattle.std.specs.Prelude.{◌≡◌, ◌≢◌, ◌↔◌, ◌<◌, ◌^◌, ℕ, zero, suc, Bool, false, List, [], ◌∷◌, map, length, Option, Some, None, IsSome, option_and_then}
 use Rattle.std.specs.List.{AllByRecursion, last_or}
-use Rattle.st_ids.specs.Listing.{Has}
+use Rattle.std.specs.declared.cmp.Ordering.{Ordering}
+use Rattle.st_ids.specs.Listing.{Has, IsRising, item_of}
 use Rattle.st_ids.specs.Order.{same_cell}
 use Rattle.st_ids.specs.declared.names.CellId.{CellId}
 use Rattle.st_ids.specs.declared.names.FieldId.{FieldId}
@@ -13,6 +14,25 @@ use Rattle.st_marks.specs.declared.intents.Owned.{Owned}
 use Rattle.st_marks.specs.declared.places.Slot.{Slot}
 use Rattle.st_marks.specs.declared.places.Spot.{Spot}
 use Rattle.st_marks.specs.declared.schemas.SchemaEntry.{SchemaEntry}
+
+-- ## Lists
+
+-- no two items have one key
+abbrev pub AreDistinct : {A K : Type 0} → (A → K) → List A → Type 0
+AreDistinct key [] = Unit {0}
+AreDistinct key (x ∷ xs) = AllByRecursion (λ y. key y ≢ key x) xs × AreDistinct key xs
+
+-- the first of a list, and the last
+abbrev pub first_of : {A : Type 0} → List A → Option A
+first_of [] = None
+first_of (x ∷ xs) = Some x
+
+abbrev pub last_of : {A : Type 0} → List A → Option A
+last_of xs = last_or None xs
+
+-- a list in rising order of names that has at each name what it should have
+abbrev pub IsListing : {K A : Type 0} → (K → K → Ordering) → (A → K) → List A → (K → Option A) → Type 0
+IsListing cmp key xs at = IsRising cmp key xs × ((k : _) → item_of cmp key xs k ≡ at k)
 
 -- what a node is: its type, and its value if it is a leaf
 pub record NodeType : Type 0 where
@@ -86,19 +106,6 @@ abbrev pub content : Document → NodeId → List Slot
 content D n = map (slot D) (D.rows n)
 
 -- ## What makes a document sound in form
-
--- no two items have one key
-abbrev pub AreDistinct : {A K : Type 0} → (A → K) → List A → Type 0
-AreDistinct key [] = Unit {0}
-AreDistinct key (x ∷ xs) = AllByRecursion (λ y. key y ≢ key x) xs × AreDistinct key xs
-
--- the first of a list, and the last
-abbrev pub first_of : {A : Type 0} → List A → Option A
-first_of [] = None
-first_of (x ∷ xs) = Some x
-
-abbrev pub last_of : {A : Type 0} → List A → Option A
-last_of xs = last_or None xs
 
 -- the revisions of schema entries
 abbrev pub revs : List SchemaEntry → List Rev

@@ -1,8 +1,7 @@
 -- The embedding of an intent in a document: the change that says what the intent wants where it stands.
 use Rattle.std.specs.Prelude.{◌≡◌, ◌↔◌, ℕ, Bool, true, false, ◌&&◌, not, List, ◌++◌, map, Option, Some, None, IsSome, IsTrue, option_and_then, if◌then◌else◌}
 use Rattle.std.specs.List.{list_any, filter_map}
-use Rattle.std.specs.declared.cmp.Ordering.{Ordering}
-use Rattle.st_ids.specs.Listing.{Has, IsRising, item_of}
+use Rattle.st_ids.specs.Listing.{Has}
 use Rattle.st_ids.specs.Order.{same_node, node_cmp, field_cmp}
 use Rattle.st_ids.specs.declared.names.FieldId.{FieldId}
 use Rattle.st_ids.specs.declared.names.NodeId.{NodeId}
@@ -16,17 +15,11 @@ use Rattle.st_marks.specs.declared.marks.Loose.{Loose}
 use Rattle.st_marks.specs.declared.marks.RegMark.{RegMark}
 use Rattle.st_marks.specs.declared.marks.RowMarks.{RowMarks}
 use Rattle.st_marks.specs.declared.places.Spot.{Spot}
-use Rattle.st_marks.specs.Document.{Document, root, above, climb, content}
+use Rattle.st_marks.specs.Document.{Document, IsListing, root, above, climb, content}
 use Rattle.st_marks.specs.Intent.{new_node, put_of, put_in, clears, group_at, cell_of}
 use Rattle.st_marks.specs.Verdict.{IsInEffect}
 use Rattle.st_marks.specs.Row.{CellMark, Counted, Gap, Touch, Make, Fill, RowPart, merge, embed_row, how}
 use Rattle.st_marks.specs.Register.{RegisterPart, embed_register}
-
--- ## Listings
-
--- a list in rising order of names that has at each name what it should have
-abbrev pub IsListing : {K A : Type 0} → (K → K → Ordering) → (A → K) → List A → (K → Option A) → Type 0
-IsListing cmp key xs at = IsRising cmp key xs × ((k : _) → item_of cmp key xs k ≡ at k)
 
 abbrev pub is_among : List NodeId → NodeId → Bool
 is_among ns n = list_any (λ m. same_node m n) ns

@@ -64,13 +64,17 @@ same_option same None (Some y) = false
 same_option same (Some x) None = false
 same_option same (Some x) (Some y) = same x y
 
+-- whether two anchors are one; None is a row's start
+abbrev pub same_anchor : Option CellId → Option CellId → Bool
+same_anchor a b = same_option same_cell a b
+
 abbrev pub cells_of : Option Group → List Owned
 cells_of None = []
 cells_of (Some g) = g.cells
 
 -- the cells that it makes in a node's row, at the row's start (None) or after a cell
 abbrev pub group_at : Intent → NodeId → Option CellId → List Owned
-group_at N n a = cells_of (find (λ (g : Group). same_node g.node n && same_option same_cell g.after a) N.groups)
+group_at N n a = cells_of (find (λ (g : Group). same_node g.node n && same_anchor g.after a) N.groups)
 
 -- in whose row it makes a cell
 abbrev pub new_row_of : Intent → CellId → Option NodeId

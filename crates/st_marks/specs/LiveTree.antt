@@ -1,16 +1,15 @@
 -- The live tree, as the JSON that shows it: from a node downwards, a row's full cells in order, and a register's occupant.
-use Rattle.std.specs.Prelude.{◌≡◌, ◌↔◌, ℕ, Bool, true, false, List, [], ◌∷◌, ◌++◌, Some, None, IsSome, if◌then◌else◌}
+use Rattle.std.specs.Prelude.{◌≡◌, ℕ, Bool, true, false, List, [], ◌∷◌, ◌++◌, Option, Some, None, is_some, if◌then◌else◌}
 use Rattle.std.specs.Ordering.{nat_cmp}
 use Rattle.std.specs.Cmp.Lexicographic.{slice_cmp}
 use Rattle.serde_json.specs.Data.{Data, null, boolean, number, string, array, object, Items, no_items, item, Members, no_members, member}
 use Rattle.serde_json.specs.Find.{of_integer}
 use Rattle.serde_json.specs.Written.{compact_text}
-use Rattle.st_ids.specs.Listing.{Has, IsRising}
 use Rattle.st_ids.specs.declared.names.FieldId.{FieldId}
 use Rattle.st_ids.specs.declared.names.Leaf.{Leaf}
 use Rattle.st_ids.specs.declared.names.NodeId.{NodeId}
 use Rattle.st_marks.specs.declared.places.Slot.{Slot}
-use Rattle.st_marks.specs.Document.{Document, root, content}
+use Rattle.st_marks.specs.Document.{Document, IsListing, root, content}
 
 -- a leaf is shown as its value
 abbrev pub leaf_data : Leaf → Data
@@ -28,6 +27,10 @@ owners_shown (s ∷ cells) = (if s.full then s.node ∷ [] else []) ++ owners_sh
 abbrev pub register : NodeId → List ℕ → FieldId
 register n key = record { node = n; key = record { 0 = key } }
 
+-- the key of a register that holds a node
+abbrev pub key_at : Document → NodeId → List ℕ → Option (List ℕ)
+key_at D n key = if is_some (D.held (register n key)) then Some key else None
+
 -- an object with the one member
 abbrev pub one_member : List ℕ → Data → Data
 one_member key data_of = object (member key data_of no_members)
@@ -40,7 +43,7 @@ mutual
         → ShowsItems is_array D (owners_shown (content D n)) items → Shows is_array D n (one_member ty (array items))
     -- the keys of the registers that hold a node, in the order of their bytes
     registers : (n : NodeId) (ty : List ℕ) (keys : List (List ℕ)) (members : Members) → D.nodes n ≡ Some (record { ty = ty; leaf = None }) → is_array ty ≡ false
-        → IsRising (slice_cmp nat_cmp) (λ (k : List ℕ). k) keys → ((k : List ℕ) → Has keys k ↔ IsSome (D.held (register n k)))
+        → IsListing (slice_cmp nat_cmp) (λ (k : List ℕ). k) keys (key_at D n)
         → ShowsMembers is_array D n keys members → Shows is_array D n (one_member ty (object members))
 
   pub data ShowsItems (is_array : List ℕ → Bool) (D : Document) : List NodeId → Items → Type 0 where

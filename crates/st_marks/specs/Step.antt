@@ -11,11 +11,11 @@ use Rattle.st_marks.specs.declared.marks.RowMarks.{RowMarks}
 use Rattle.st_marks.specs.declared.schemas.SchemaEntry.{SchemaEntry}
 use Rattle.st_marks.specs.declared.schemas.SchemaStep.{SchemaStep}
 use Rattle.st_marks.specs.declared.steps.Step.{Step}
-use Rattle.st_marks.specs.Document.{Document, NodeType, above, climb, content, first_of, last_of, revs}
+use Rattle.st_marks.specs.Document.{Document, IsListing, NodeType, above, climb, content, first_of, last_of, revs}
 use Rattle.st_marks.specs.Extends.{Grows}
 use Rattle.st_marks.specs.Row.{SameCell, step_row}
 use Rattle.st_marks.specs.Register.{step_register}
-use Rattle.st_marks.specs.Embedding.{IsListing, row_marks, is_nowhere, is_loose}
+use Rattle.st_marks.specs.Embedding.{row_marks, is_nowhere, is_loose}
 
 -- ## What a step mentions
 

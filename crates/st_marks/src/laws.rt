@@ -1,9 +1,11 @@
 //! Laws about documents: each is the contract of a function that does nothing.
 
-ghost use Rattle.std.specs.Prelude.{◌≡◌, ◌≢◌, ◌++◌, List, None, IsSome, IsTrue, IfSome};
+ghost use Rattle.std.specs.Prelude.{◌≡◌, ◌≢◌, ◌++◌, ℕ, Bool, List, None, IsSome, IsTrue, IfSome};
+ghost use Rattle.serde_json.specs.Data.{Data};
 ghost use Rattle.std.specs.List.{AllByRecursion};
 ghost use Rattle.st_ids.specs.declared.names.CellId.{CellId};
 ghost use Rattle.st_ids.specs.declared.names.NodeId.{NodeId};
+ghost use Rattle.st_ids.specs.declared.names.Rev.{Rev};
 ghost use Rattle.st_marks.specs.declared.intents.Intent.{Intent};
 ghost use Rattle.st_marks.specs.declared.intents.Owned.{Owned};
 ghost use Rattle.st_marks.specs.declared.schemas.SchemaEntry.{SchemaEntry};
@@ -13,6 +15,9 @@ ghost use Rattle.st_marks.specs.Extends.{Grows, IsExtendedBy};
 ghost use Rattle.st_marks.specs.Intent.{Fits, is_new, new_row_of};
 ghost use Rattle.st_marks.specs.CarryOut.{full, void};
 ghost use Rattle.st_marks.specs.Verdict.{IsVerdict, IsAboveItself, carried};
+ghost use Rattle.st_marks.specs.Back.{IsBack, retreat};
+ghost use Rattle.st_marks.specs.Join.{AreParts, IsJoin};
+ghost use Rattle.st_marks.specs.LiveTree.{Shows, IsTreeText};
 ghost use Rattle.st_marks.specs.Run.{Run, FitsInTurn, run_whole};
 ghost use Rattle.st_marks.specs.RowEdits.{IsOneRow, IsRowEdit};
 
@@ -60,6 +65,30 @@ pub fn fits_later()
         → ((c : CellId) → IsSome (new_row_of N c) → E.row_of c ≡ None)
         → IfSome N.schema (λ _. AllByRecursion (λ (e : SchemaEntry). e.rev ≢ N.rev) E.schemas)
         → Fits E N }
+{}
+
+/// The retreat from a document to one that it extends is sound, and extends the later one.
+pub fn retreat_extends()
+    ensures { (D E : Document) → IsExtendedBy D E → IsExtendedBy E (retreat D E) }
+{}
+
+/// The intent that leads back fits the later document. Carried out there, it leads to the retreat, but for the schemas,
+/// which stay.
+pub fn back_leads_back()
+    ensures fits { (D E : Document) (rev under : Rev) (B : Intent) → IsExtendedBy D E → IsBack D E rev under B → Fits E B }
+    ensures leads { (D E : Document) (rev under : Rev) (B : Intent) → IsExtendedBy D E → IsBack D E rev under B
+        → full E B ≡ record (retreat D E) { schemas = E.schemas } }
+{}
+
+/// Two parts of a commit, joined, are carried out as the one after the other.
+pub fn joined_in_turn()
+    ensures { (D : Document) (N M J : Intent) → IsSoundInForm D → AreParts D N M → IsJoin N M J → full D J ≡ full (full D N) M }
+{}
+
+/// A document shows one tree, and one text of it.
+pub fn one_tree()
+    ensures tree { (is_array : List ℕ → Bool) (D : Document) (n : NodeId) (t u : Data) → Shows is_array D n t → Shows is_array D n u → t ≡ u }
+    ensures text { (is_array : List ℕ → Bool) (D : Document) (t u : List ℕ) → IsTreeText is_array D t → IsTreeText is_array D u → t ≡ u }
 {}
 
 /// An edit of the root's row, in a document that has nothing else, is sound, and the document after has nothing else

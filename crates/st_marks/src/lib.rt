@@ -7,6 +7,7 @@ mod copies;
 mod intents;
 mod laws;
 mod laws_of_listings;
+mod lengths;
 mod marks;
 mod places;
 mod schemas;
@@ -18,10 +19,11 @@ mod verdicts;
 pub use changes::{Change, NewNode};
 pub use intents::{Group, Intent, Owned, Put, To};
 pub use laws::{
-    carrying_out_extends, extends_in_turn, fits_later, one_verdict, row_edits_are_never_void,
-    rows_keep_their_order, run_in_turn,
+    back_leads_back, carrying_out_extends, extends_in_turn, fits_later, joined_in_turn, one_tree,
+    one_verdict, retreat_extends, row_edits_are_never_void, rows_keep_their_order, run_in_turn,
 };
 pub use laws_of_listings::{one_embedding, one_step};
+pub use lengths::{after, before};
 pub use marks::{How, Loose, Mark, RegMark, RegStep, RowMarks};
 pub use places::{Slot, Spot};
 pub use schemas::{SchemaEntry, SchemaStep};

@@ -1,179 +1,76 @@
 use crate::*;
-use st_ids::{Atom, CellId, Copied, FieldId, Key, Leaf, List, NodeId, Rev, Text};
+use st_ids::{Atom, CellId, Copied, FieldId, Key, List, NodeId, Rev, Text};
 use std::alloc::{AllocError, Global};
 use std::test::Fail;
 
 const REV: Rev = Rev { session: 2, num: 1 };
 
-const UNDER: Rev = Rev { session: 1, num: 3 };
-
 const NODE: NodeId = NodeId(Atom { rev: REV, at: 4 });
 
-const CELL: CellId = CellId(Atom { rev: UNDER, at: 5 });
+const CELL: CellId = CellId(Atom { rev: REV, at: 5 });
 
-fn field(alloc: Global) -> Result<FieldId, AllocError> {
-    Ok(FieldId {
+fn marks(alloc: Global) -> Result<List<Mark>, AllocError> {
+    let fill = Mark::Fill {
+        cell: CELL,
         node: NODE,
-        key: Key(Text::from_str(alloc, "note")?),
-    })
-}
-
-fn one<T: Drop>(alloc: Global, item: T) -> Result<List<T>, AllocError> {
-    let mut list = List::new(alloc);
-    list.push(item)?;
-    Ok(list)
-}
-
-fn entry(alloc: Global, rev: Rev) -> Result<SchemaEntry, AllocError> {
-    let text = Text::from_str(alloc, "{}")?;
-    Ok(SchemaEntry { rev, text })
-}
-
-fn new_node(alloc: Global) -> Result<NewNode, AllocError> {
-    Ok(NewNode {
-        node: NODE,
-        ty: Text::from_str(alloc, "text")?,
-        leaf: Some(Leaf::Words(Text::from_str(alloc, "a")?)),
-    })
-}
-
-fn intent(alloc: Global) -> Result<Intent, AllocError> {
-    let group = Group {
-        node: NODE,
-        after: Some(CELL),
-        cells: one(
-            alloc,
-            Owned {
-                cell: CELL,
-                node: NODE,
-            },
-        )?,
     };
-    let mut put = one(
-        alloc,
-        Put {
-            node: NODE,
-            to: To::Register(field(alloc)?),
-        },
-    )?;
-    put.push(Put {
+    let make = Mark::Make {
+        cell: CELL,
         node: NODE,
-        to: To::Cell(CELL),
-    })?;
-    put.push(Put {
-        node: NODE,
-        to: To::Nowhere,
-    })?;
-    Ok(Intent {
-        rev: REV,
-        under: UNDER,
-        new: one(alloc, new_node(alloc)?)?,
-        groups: one(alloc, group)?,
-        clear: one(alloc, field(alloc)?)?,
-        put,
-        need: one(alloc, NODE)?,
-        schema: Some(Text::from_str(alloc, "{}")?),
-    })
+        full: false,
+    };
+    let items = vec![in alloc; Mark::Skip(3), Mark::Gap(CELL), make, fill]?;
+    Ok(List::from_vec(items))
 }
 
-fn row(alloc: Global) -> Result<RowMarks, AllocError> {
-    let mut marks = one(alloc, Mark::Skip(3))?;
-    marks.push(Mark::Gap(CELL))?;
-    marks.push(Mark::Touch {
-        cell: CELL,
-        node: NODE,
-        how: How::Leave,
-    })?;
-    marks.push(Mark::Make {
-        cell: CELL,
-        node: NODE,
-        full: true,
-    })?;
-    marks.push(Mark::Fill {
-        cell: CELL,
-        node: NODE,
-    })?;
-    Ok(RowMarks { node: NODE, marks })
+#[test]
+fn counts_cells(rt: HostRuntime) -> Result<(), Fail> {
+    let marks = marks(rt.alloc())?;
+    assert_eq!(rt; before(&marks), 5);
+    assert_eq!(rt; after(&marks), 6);
+    Ok(())
 }
 
-fn change(alloc: Global) -> Result<Change, AllocError> {
-    let reg = RegMark {
-        field: field(alloc)?,
+#[test]
+fn copies_a_register(rt: HostRuntime) -> Result<(), Fail> {
+    let key = Key(Text::from_str(rt.alloc(), "note")?);
+    let field = FieldId { node: NODE, key };
+    let register = RegMark {
+        field,
         held: None,
         how: How::Stay,
         clear: true,
         fill: Some(NODE),
     };
-    Ok(Change {
-        rev: REV,
-        under: UNDER,
-        base: true,
-        need: one(alloc, NODE)?,
-        new: one(alloc, new_node(alloc)?)?,
-        rows: one(alloc, row(alloc)?)?,
-        regs: one(alloc, reg)?,
-        loose: one(
-            alloc,
-            Loose {
-                node: NODE,
-                how: How::Here,
-            },
-        )?,
-        schema: None,
-    })
-}
-
-fn step(alloc: Global) -> Result<Step, AllocError> {
-    let reg = RegStep {
-        field: field(alloc)?,
-        before: Some(NODE),
-        after: None,
-    };
-    let schema = SchemaStep {
-        on: UNDER,
-        cut: one(alloc, entry(alloc, REV)?)?,
-        add: List::new(alloc),
-    };
-    Ok(Step {
-        new: one(alloc, new_node(alloc)?)?,
-        rows: one(alloc, row(alloc)?)?,
-        regs: one(alloc, reg)?,
-        loose: List::new(alloc),
-        schema: Some(schema),
-    })
+    let copy = register.copy(rt.alloc())?;
+    assert!(rt; copy == register);
+    Ok(())
 }
 
 #[test]
-fn first_use(rt: HostRuntime) -> Result<(), Fail> {
-    let alloc = rt.alloc();
-    let intent = intent(alloc)?;
-    assert!(rt; intent.copy(alloc)? == intent);
-    let change = change(alloc)?;
-    assert!(rt; change.copy(alloc)? == change);
-    let step = step(alloc)?;
-    assert!(rt; step.copy(alloc)? == step);
-    let row = Spot::Row {
+fn copies_a_row(rt: HostRuntime) -> Result<(), Fail> {
+    let row = RowMarks {
         node: NODE,
-        cell: CELL,
+        marks: marks(rt.alloc())?,
     };
-    for spot in [Spot::Nowhere, row, Spot::Register(field(alloc)?)] {
-        assert!(rt; spot.copy(alloc)? == spot);
-    }
-    let slot = Slot {
-        cell: CELL,
-        node: NODE,
-        full: true,
-    };
-    assert_eq!(rt; slot.copy(alloc)?, slot);
-    assert_eq!(rt; Verdict::Need(NODE).copy(alloc)?, Verdict::Need(NODE));
+    let copy = row.copy(rt.alloc())?;
+    assert!(rt; copy == row);
+    Ok(())
+}
+
+#[test]
+fn first_use(_rt: HostRuntime) {
+    back_leads_back();
     carrying_out_extends();
     extends_in_turn();
     fits_later();
+    joined_in_turn();
     one_embedding();
     one_step();
+    one_tree();
     one_verdict();
+    retreat_extends();
     row_edits_are_never_void();
     rows_keep_their_order();
     run_in_turn();
-    Ok(())
 }
