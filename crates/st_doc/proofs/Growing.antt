@@ -1,14 +1,14 @@
 -- Rows with the groups of an intent in them.
 use Rattle.std.proofs.Common.{◌≡◌, ℕ, ◌+◌, ◌<◌, Bool, true, false, cond, ◌||◌, List, [], ◌∷◌, ◌++◌, length, take, get_or, Option, Some, None, refl, sym, ap, ◌∙◌}
 use Rattle.std.specs.List.{list_any}
-use Rattle.st_ids.specs.Order.{same_node, same_cell}
+use Rattle.st_ids.specs.Order.{same_node}
 use Rattle.st_ids.specs.declared.names.CellId.{CellId}
 use Rattle.st_ids.specs.declared.names.NodeId.{NodeId}
 use Rattle.st_ids.proofs.Orders.{same_node-true}
 use Rattle.st_marks.specs.declared.intents.Group.{Group}
 use Rattle.st_marks.specs.declared.intents.Intent.{Intent}
 use Rattle.st_marks.specs.declared.intents.Owned.{Owned}
-use Rattle.st_marks.specs.Intent.{group_at, same_option, cells_of}
+use Rattle.st_marks.specs.Intent.{group_at, same_anchor, cells_of}
 use Rattle.st_marks.specs.CarryOut.{with_groups}
 use Rattle.st_doc.proofs.Look.{any_more, find_neither}
 
@@ -22,7 +22,7 @@ grown N n row = group_at N n None ++ with_groups N n row
 
 module _ (N : Intent) (n : NodeId) (none : list_any (names_row n) N.groups ≡ false) where
   no_group : (a : Option CellId) → group_at N n a ≡ []
-  no_group a = ap cells_of (find_neither (names_row n) (λ g. same_option same_cell g.after a) N.groups none)
+  no_group a = ap cells_of (find_neither (names_row n) (λ g. same_anchor g.after a) N.groups none)
 
   no_groups : (row : List Owned) → with_groups N n row ≡ row
   no_groups [] = refl

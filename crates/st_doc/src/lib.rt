@@ -9,7 +9,6 @@ mod live;
 mod maps;
 mod names;
 mod opening;
-mod places;
 mod registers;
 mod rows;
 mod same;

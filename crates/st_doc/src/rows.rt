@@ -3,8 +3,8 @@ ghost use Rattle.std.specs.Prelude.{◌≡◌, ◌&&◌, ◌++◌, [], OnOk, IfO
 ghost use Rattle.std.specs.BTreeMap.{get};
 ghost use Rattle.std.specs.List.{list_any};
 ghost use Rattle.st_ids.specs.declared.names.NodeId.{NodeId as Node};
-ghost use Rattle.st_ids.specs.Order.{node_cmp, same_node, same_cell};
-ghost use Rattle.st_marks.specs.Intent.{same_option, group_at};
+ghost use Rattle.st_ids.specs.Order.{node_cmp, same_node};
+ghost use Rattle.st_marks.specs.Intent.{same_anchor, group_at};
 ghost use Rattle.st_marks.specs.CarryOut.{with_groups};
 
 use crate::maps::set;
@@ -16,7 +16,7 @@ use std::collections::BTreeMap;
 
 // Whether a group stands at that anchor of that row.
 fn is_at(group: &Group, node: NodeId, after: Option<CellId>) -> bool
-    ensures { result ≡ (same_node group.now.node node && same_option same_cell group.now.after after) }
+    ensures { result ≡ (same_node group.now.node node && same_anchor group.now.after after) }
 {
     is_same_node(group.node, node) && is_same_anchor(group.after, after)
 }

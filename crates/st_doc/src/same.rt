@@ -2,7 +2,7 @@
 ghost use Rattle.std.specs.Prelude.{◌≡◌};
 ghost use Rattle.std.specs.Ordering.{is_lt};
 ghost use Rattle.st_ids.specs.Order.{same_node, same_cell, same_field, same_rev, node_cmp};
-ghost use Rattle.st_marks.specs.Intent.{same_option};
+ghost use Rattle.st_marks.specs.Intent.{same_anchor};
 
 use st_ids::{CellId, FieldId, NodeId, Rev};
 
@@ -21,7 +21,7 @@ pub fn is_same_cell(a: CellId, b: CellId) -> bool
 }
 
 pub fn is_same_anchor(a: Option<CellId>, b: Option<CellId>) -> bool
-    ensures { result ≡ same_option same_cell a b }
+    ensures { result ≡ same_anchor a b }
 {
     match (a, b) {
         (None, None) => true,
