@@ -1,6 +1,10 @@
 pub mod Look
+pub mod Carrying
+pub mod Climbing
+pub mod Evicting
 pub mod Growing
 pub mod Opened
 pub mod Placing
 pub mod Showing
+pub mod Verdicts
 pub mod OneDocument

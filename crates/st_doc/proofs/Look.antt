@@ -1,5 +1,12 @@
 -- Look-ups in lists that are gone through from the first item or from the last.
 use Rattle.std.proofs.Common.{◌≡◌, ℕ, ◌+◌, ◌<◌, Bool, true, false, cond, ◌&&◌, ◌||◌, List, [], ◌∷◌, ◌++◌, length, take, drop, get_or, Option, Some, None, is_some, refl, sym, ap, ◌∙◌, option_map, unwrap_or, suc, drop-cons, add-one}
+use Rattle.std.specs.BTreeMap.{BTreeMap, get, InsertsAll, IsOrdered}
+use Rattle.std.specs.Cmp.{IsTotalOrder}
+use Rattle.std.specs.declared.cmp.Ordering.{Ordering}
+use Rattle.std.specs.Ordering.{eq_by_cmp}
+use Rattle.std.proofs.lemmas.Cmp.{eq_by_cmp_equiv}
+use Rattle.std.proofs.lemmas.Map.Keys.{IsDistinct-from_sorted}
+use Rattle.std.proofs.lemmas.Map.Made.{update_all_distinct}
 use Rattle.std.specs.Option.{option_or}
 use Rattle.std.specs.List.{find, list_any}
 use Rattle.std.proofs.lemmas.List.Folds.{find-append}
@@ -88,3 +95,7 @@ option_map-or f (Some x) b = refl
 -- the last items with one more
 pub drop_one : {A : Type 0} (xs : List A) (i : ℕ) (d x : A) → i < length xs → get_or xs i d ≡ x → drop i xs ≡ x ∷ drop (i + 1) xs
 drop_one xs i d x l e = drop-cons xs i d l ∙ ap (λ y. y ∷ drop (suc i) xs) e ∙ ap (λ k. x ∷ drop k xs) (sym (add-one i))
+
+-- what a map has after all entries of another were put into it
+pub all_put : {K X : Type 0} {R : K → K → Ordering} → IsTotalOrder R → (m n values : BTreeMap K X) → IsOrdered R values → InsertsAll R m values.entries n → (q : K) → get R n q ≡ option_or (get R values q) (get R m q)
+all_put {R = R} t m n values ordered h q = h.0 q ∙ update_all_distinct (eq_by_cmp_equiv t) (eq_by_cmp R) (λ x y. refl) (get R m) values.entries q (IsDistinct-from_sorted R _ ordered)

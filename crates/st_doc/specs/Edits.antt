@@ -16,8 +16,3 @@ pub record EditsRows (N : Intent) : Type 0 where
   pub no_clear : N.clear ≡ []
   pub no_need : N.need ≡ []
   pub no_schema : N.schema ≡ None
-
--- where a put leads, or else the place before
-abbrev pub put_or : (CellId → Option NodeId) → Option To → Spot → Spot
-put_or row_of None before = before
-put_or row_of (Some to) before = spot_of row_of to

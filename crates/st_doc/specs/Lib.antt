@@ -1,4 +1,6 @@
+pub mod Ahead
 pub mod Doc
+pub mod Evictions
 pub mod Nodes
 pub mod Edits
 pub mod Opening

@@ -4,14 +4,14 @@ ghost use Rattle.st_marks.specs.declared.verdicts.Verdict.{Verdict as Outcome};
 ghost use Rattle.st_marks.specs.CarryOut.{full};
 ghost use Rattle.st_doc.specs.Edits.{EditsRows};
 
-use crate::maps::set;
+use crate::maps::{put_all, set};
 use crate::names::{add_nodes, add_rows};
 use crate::opening::{
     opening_cells, opening_node, opening_nodes, opening_places, opening_rev, opening_row_of,
 };
-use crate::places::put_nodes;
 use crate::registers::leave_registers;
 use crate::rows::grow_rows;
+use crate::targets::targets;
 use st_ids::{CellId, FieldId, List, NodeId, Text};
 use st_marks::{Intent, NewNode, Owned, SchemaEntry, Spot, Verdict};
 use std::alloc::{AllocError, Global};
@@ -66,11 +66,12 @@ impl Doc {
         ensures verdict { IfOk result (λ v. v ≡ Outcome.Sound) }
         ensures after { OnOk result (document_of self.new ≡ full (document_of self.old) intent.now) }
     {
+        let targets = targets(alloc, &self.row_of, intent)?;
         add_nodes(alloc, &mut self.nodes, intent)?;
         add_rows(&mut self.row_of, intent)?;
         grow_rows(alloc, &mut self.rows, intent)?;
         leave_registers(&mut self.held, intent);
-        put_nodes(alloc, &mut self.place, &self.row_of, intent)?;
+        put_all(&mut self.place, targets)?;
         Ok(Verdict::Sound)
     }
 }

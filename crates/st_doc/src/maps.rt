@@ -7,7 +7,7 @@ ghost use Rattle.std.specs.BTreeMap.{get};
 use std::alloc::AllocError;
 use std::collections::BTreeMap;
 
-// Puts a value at a key.
+/// Puts a value at a key.
 pub fn set<K: Ord + Drop, V: Drop>(
     map: &mut BTreeMap<K, V>,
     key: K,
@@ -19,7 +19,7 @@ pub fn set<K: Ord + Drop, V: Drop>(
     Ok(())
 }
 
-// Puts a value at a key that has none.
+/// Puts a value at a key that has none.
 pub fn add<K: Ord + Drop, V: Drop>(
     map: &mut BTreeMap<K, V>,
     key: K,
@@ -31,4 +31,22 @@ pub fn add<K: Ord + Drop, V: Drop>(
         return Ok(());
     }
     set(map, key, value)
+}
+
+/// Takes the value of a key away.
+pub fn unset<K: Ord + Drop, V: Drop>(map: &mut BTreeMap<K, V>, key: &K)
+    ensures { (q : K) → get K.cmp map.new q ≡ cond (is_eq (K.cmp key.now q)) None (get K.cmp map.old q) }
+{
+    map.remove(key);
+}
+
+/// Puts all values of one map into another.
+pub fn put_all<K: Ord + Drop, V: Drop>(
+    map: &mut BTreeMap<K, V>,
+    mut values: BTreeMap<K, V>,
+) -> Result<(), AllocError>
+    ensures { OnOk result ((q : K) → get K.cmp map.new q ≡ option_or (get K.cmp values q) (get K.cmp map.old q)) }
+{
+    map.append(&mut values)?;
+    Ok(())
 }

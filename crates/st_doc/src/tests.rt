@@ -138,3 +138,43 @@ fn rows(rt: HostRuntime) -> Result<(), Fail> {
     assert_eq!(rt; doc.whole(alloc)?.as_str(), r#"{"list":["a","c"]}"#);
     Ok(())
 }
+
+// Puts a node into a new cell of another node's row.
+fn moves(alloc: Global, rev: Rev, node: u32, row: u32) -> Result<Intent, AllocError>
+    ensures { IfOk result EditsRows }
+{
+    let cell = CellId(atom(rev, 0));
+    let node = NodeId(atom(OPENING, node));
+    let mut intent = puts(alloc, rev, node, Some(cell))?;
+    let mut cells = List::new(alloc);
+    cells.push(Owned { cell, node })?;
+    intent.groups.push(Group {
+        node: NodeId(atom(OPENING, row)),
+        after: None,
+        cells,
+    })?;
+    Ok(intent)
+}
+
+// A node can't stand beneath itself, and a node beneath nothing is not live.
+#[test]
+fn verdicts(rt: HostRuntime) -> Result<(), Fail> {
+    let alloc = rt.alloc();
+    let mut doc = opened(alloc, &["x", "y"])?;
+    doc.carry(alloc, &moves(alloc, A, 1, 2)?)?;
+    let mut back = moves(alloc, B, 2, 1)?;
+    assert_eq!(rt;
+        doc.fails(alloc, &back)?,
+        Verdict::Cycle(NodeId(atom(OPENING, 2)))
+    );
+    back.need.push(NodeId(atom(OPENING, 1)))?;
+    doc.carry(alloc, &intent_of(alloc, Edit::Put(2, None))?)?;
+    assert_eq!(rt; doc.is_live(alloc, NodeId(atom(OPENING, 1)))?, false);
+    assert_eq!(rt;
+        doc.fails(alloc, &back)?,
+        Verdict::Need(NodeId(atom(OPENING, 1)))
+    );
+    back.under = B;
+    assert_eq!(rt; doc.fails(alloc, &back)?, Verdict::Schema(B));
+    Ok(())
+}

@@ -1,0 +1,45 @@
+-- Places as an intent will leave them, read off the places before and where its puts lead.
+use Rattle.std.specs.Prelude.{◌≡◌, ℕ, suc, Option, Some, None, Bool, true, false, MatchOption, unwrap_or, if◌then◌else◌}
+use Rattle.std.specs.BTreeMap.{BTreeMap, get}
+use Rattle.std.specs.Option.{option_map_or}
+use Rattle.std.specs.Ordering.{is_lt}
+use Rattle.st_ids.specs.Order.{node_cmp}
+use Rattle.st_ids.specs.declared.names.NodeId.{NodeId}
+use Rattle.st_marks.specs.declared.intents.Intent.{Intent}
+use Rattle.st_marks.specs.declared.places.Spot.{Spot}
+use Rattle.st_marks.specs.Document.{node_of, climb}
+use Rattle.st_marks.specs.Intent.{is_new}
+use Rattle.st_marks.specs.CarryOut.{unless_cleared}
+use Rattle.st_marks.specs.Verdict.{IsLeast}
+
+-- where a node will stand: where its put leads, or where it stood, unless its register is cleared
+abbrev pub place_ahead : Intent → Option Spot → Spot → Spot
+place_ahead N None before = unless_cleared N before
+place_ahead N (Some spot) before = spot
+
+-- the node that will be above a node, where `targets` tells where puts lead and `place` where nodes stand
+abbrev pub above_ahead : Intent → BTreeMap NodeId Spot → BTreeMap NodeId Spot → NodeId → Option NodeId
+above_ahead N targets place n = node_of (place_ahead N (get node_cmp targets n) (unwrap_or (get node_cmp place n) Spot.Nowhere))
+
+-- m is reached from n by steps up, at least one
+abbrev pub Reaches : (NodeId → Option NodeId) → NodeId → NodeId → Type 0
+Reaches up n m = (k : ℕ) × (climb up (suc k) n ≡ Some m)
+
+-- the least node that has P, or none where no node has it
+abbrev pub IsLeastOf : (NodeId → Type 0) → Option NodeId → Type 0
+IsLeastOf P least = MatchOption least ((m : NodeId) → P m → ⊥) (λ n. IsLeast node_cmp P n)
+
+-- the lesser of what was least so far and a node, if it counts
+abbrev pub least_with : Option NodeId → NodeId → Bool → Option NodeId
+least_with least n false = least
+least_with None n true = Some n
+least_with (Some m) n true = if is_lt (node_cmp n m) then Some n else Some m
+
+-- whether a place is in a row or register of a new node
+abbrev pub in_new : Intent → Spot → Bool
+in_new N spot = option_map_or (is_new N) (node_of spot) false
+
+-- where a put leads, if that is in a new node
+abbrev pub inside_new : Intent → Option Spot → Option Spot
+inside_new N None = None
+inside_new N (Some spot) = if in_new N spot then Some spot else None
