@@ -1,8 +1,12 @@
 //! Each public call once, and the edges of each form.
+ghost use Rattle.std.specs.Prelude.{◌≡◌, false, IfOk};
+ghost use Rattle.serde_json.specs.View.{view};
+ghost use Rattle.serde_json.specs.Written.{has_float};
+
 use crate::{NotJson, Shape, int, item, member, number, only, read_line, text, write_line};
-use serde_json::Value;
+use serde_json::{Value, json};
 use st_ids::Or;
-use std::alloc::Global;
+use std::alloc::{AllocError, Global};
 use std::process::Abort;
 use std::test::Fail;
 
@@ -12,10 +16,16 @@ fn value_of(rt: &impl Abort, alloc: Global, line: &str) -> Value {
         .expect(rt, "a reading")
 }
 
+fn sample(alloc: Global) -> Result<Value, AllocError>
+    ensures { IfOk result (λ v. has_float (view v) ≡ false) }
+{
+    json!(in alloc; {"b": [7, -7], "a": "x"})
+}
+
 #[test]
 fn first_use(rt: HostRuntime) -> Result<(), Fail> {
     let alloc = rt.alloc();
-    let value = value_of(&rt, alloc, r#"{"b":[7,-7],"a":"x"}"#);
+    let value = sample(alloc)?;
     assert_eq!(rt; only(&value, "a b"), Ok(()));
     let list = member(&value, "b")?.ok_or("a list")?;
     assert_eq!(rt; number(item(list, 0)?.ok_or("an item")?), Ok(7));
