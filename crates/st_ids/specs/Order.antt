@@ -1,7 +1,8 @@
 -- The orders of names, and the tests whether two names are one.
-use Rattle.std.specs.Prelude.{Bool}
+use Rattle.std.specs.Prelude.{◌≡◌, Bool}
 use Rattle.std.specs.Cmp.Lexicographic.{slice_cmp}
 use Rattle.std.specs.declared.cmp.Ordering.{Ordering}
+use Rattle.std.specs.declared.cmp.Ordering.TheVariants.{Equal}
 use Rattle.std.specs.Ordering.{nat_cmp, ordering_then, is_eq}
 use Rattle.st_ids.specs.declared.names.Rev.{Rev}
 use Rattle.st_ids.specs.declared.names.Atom.{Atom}
@@ -26,6 +27,11 @@ cell_cmp a b = atom_cmp a.0 b.0
 abbrev pub field_cmp : FieldId → FieldId → Ordering
 field_cmp a b = ordering_then (node_cmp a.node b.node) (slice_cmp nat_cmp a.key.0 b.key.0)
 
+-- names that tie are one
+abbrev pub IsExact : {K : Type 0} → (K → K → Ordering) → Type 0
+IsExact {K} R = (a b : K) → R a b ≡ Equal → a ≡ b
+
+-- whether two names are one
 unfoldable pub same_rev : Rev → Rev → Bool
 same_rev a b = is_eq (rev_cmp a b)
 

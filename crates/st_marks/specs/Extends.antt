@@ -1,0 +1,18 @@
+-- One document extends another: nothing that was made is lost. What stands where may differ.
+use Rattle.std.specs.Prelude.{◌≡◌, List, [], ◌∷◌, Some}
+use Rattle.st_ids.specs.declared.names.NodeId.{NodeId}
+use Rattle.st_marks.specs.declared.intents.Owned.{Owned}
+use Rattle.st_marks.specs.Document.{Document, NodeType, IsSoundInForm, first_of}
+
+-- xs grew to ys: each item of xs is the same in ys, in the same order, and more may stand between
+pub data Grows {A : Type 0} (Same : A → A → Type 0) : List A → List A → Type 0 where
+  done : Grows Same [] []
+  gained : {y : A} {xs ys : List A} → Grows Same xs ys → Grows Same xs (y ∷ ys)
+  kept : {x y : A} {xs ys : List A} → Same x y → Grows Same xs ys → Grows Same (x ∷ xs) (y ∷ ys)
+
+pub record IsExtendedBy (D E : Document) : Type 0 where
+  pub before : IsSoundInForm D
+  pub after : IsSoundInForm E
+  pub nodes : (n : NodeId) (t : NodeType) → D.nodes n ≡ Some t → E.nodes n ≡ Some t
+  pub rows : (n : NodeId) → Grows (λ (o p : Owned). o ≡ p) (D.rows n) (E.rows n)
+  pub first_schema : first_of D.schemas ≡ first_of E.schemas
