@@ -30,6 +30,10 @@ abbrev mutual
   items_height no_nodes = 0
   items_height (first t ts) = max (height t) (items_height ts)
 
--- the limits: 1,024 nodes, which is judged first, and 48 levels
+-- the limits of trees together: 1,024 nodes, which is judged first, and 48 levels
+abbrev pub check_items : Nodes → Result (Unit {0}) TreeFault
+check_items ts = if nat_lt 1024 (item_count ts) then Err TooMany else (if nat_lt 48 (items_height ts) then Err TooDeep else Ok tt)
+
+-- the limits of one tree
 abbrev pub check_of : Node → Result (Unit {0}) TreeFault
 check_of t = if nat_lt 1024 (node_count t) then Err TooMany else (if nat_lt 48 (height t) then Err TooDeep else Ok tt)

@@ -1,8 +1,14 @@
 //! Trees, the edits that speak of them, and the list of a tree's nodes under given names.
 #![tactic(auto)]
 
+mod copied;
+mod edit;
+mod flat;
+mod flatten;
 mod limits;
 mod tree;
 
+pub use edit::{Edit, EditFault};
+pub use flat::{Flat, FlatAt, FlatNode};
 pub use limits::{TreeFault, check};
 pub use tree::{Field, Tree};

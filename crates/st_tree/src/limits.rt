@@ -1,9 +1,10 @@
 //! The limits of trees.
 ghost use Rattle.std.specs.Prelude.{◌≡◌, ◌+◌, ◌≤◌, min, nat_le};
-ghost use Rattle.st_tree.specs.Node.{view, field_view};
-ghost use Rattle.st_tree.specs.Size.{node_count, height, item_count, items_height, check_of};
+ghost use Rattle.st_tree.specs.Node.{view, field_view, trees_view};
+ghost use Rattle.st_tree.specs.Size.{node_count, height, item_count, items_height, check_of, check_items};
 
 use crate::tree::{Field, Tree};
+use st_ids::List;
 
 /// Why a tree is refused.
 #[derive(Clone, Copy, Debug, PartialEq, Eq)]
@@ -82,6 +83,42 @@ pub fn check(tree: &Tree) -> Result<(), TreeFault>
     if count_tree(tree, 0) > MOST_NODES {
         Err(TreeFault::TooMany)
     } else if tree_is_within(tree, MOST_LEVELS) {
+        Ok(())
+    } else {
+        Err(TreeFault::TooDeep)
+    }
+}
+
+// Counts the nodes of several trees, up to one above the limit.
+fn count_trees(trees: &List<Tree>) -> u32
+    ensures { result ≡ min (item_count (trees_view trees.now)) 1025 }
+{
+    let mut count = 0;
+    for tree in trees.as_slice() {
+        count = count_tree(tree, count);
+    }
+    count
+}
+
+// Whether each of several trees has at most this many levels.
+fn trees_are_within(trees: &List<Tree>, levels: u32) -> bool
+    ensures { result ≡ nat_le (items_height (trees_view trees.now)) levels }
+{
+    for tree in trees.as_slice() {
+        if !tree_is_within(tree, levels) {
+            return false;
+        }
+    }
+    true
+}
+
+// Nothing, where several trees together keep the limits.
+pub(crate) fn check_trees(trees: &List<Tree>) -> Result<(), TreeFault>
+    ensures { result ≡ check_items (trees_view trees.now) }
+{
+    if count_trees(trees) > MOST_NODES {
+        Err(TreeFault::TooMany)
+    } else if trees_are_within(trees, MOST_LEVELS) {
         Ok(())
     } else {
         Err(TreeFault::TooDeep)

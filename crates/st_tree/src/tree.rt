@@ -1,11 +1,10 @@
 //! Trees of nodes.
 
-use st_ids::{Copied, Key, Leaf, List, Text};
-use std::alloc::{AllocError, Global};
+use st_ids::{Key, Leaf, List, Text};
 
 /// A node and what is below it. A leaf has a value and no fields.
 #[cycle(tree)]
-#[derive(Drop, PartialEq)]
+#[derive(Debug, Drop, PartialEq)]
 pub struct Tree {
     pub ty: Text,
     pub leaf: Option<Leaf>,
@@ -14,7 +13,7 @@ pub struct Tree {
 
 /// A field of a node: the row of an array node, under the empty key, or what stands under a key.
 #[cycle(tree)]
-#[derive(Drop, PartialEq)]
+#[derive(Debug, Drop, PartialEq)]
 pub struct Field {
     pub key: Key,
     pub row: bool,
