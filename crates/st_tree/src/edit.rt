@@ -31,11 +31,20 @@ pub enum Edit {
         to_index: u32,
     },
     /// Puts a new tree into an optional or required field.
-    Put { at: Path, key: Key, item: Tree },
+    Put {
+        at: Path,
+        key: Key,
+        item: Tree,
+    },
     /// Empties an optional field.
-    Clear { at: Path, key: Key },
+    Clear {
+        at: Path,
+        key: Key,
+    },
     /// Asks that a node is there.
-    Need { at: Path },
+    Need {
+        at: Path,
+    },
 }
 
 /// Why an edit is refused.

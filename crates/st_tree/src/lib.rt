@@ -4,11 +4,14 @@
 mod copied;
 mod edit;
 mod flat;
-mod flatten;
 mod limits;
+mod preorder;
+mod rebuild;
 mod tree;
 
 pub use edit::{Edit, EditFault};
 pub use flat::{Flat, FlatAt, FlatNode};
 pub use limits::{TreeFault, check};
+pub use preorder::{flatten, opening};
+pub use rebuild::unflatten;
 pub use tree::{Field, Tree};

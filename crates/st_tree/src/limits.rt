@@ -17,6 +17,7 @@ pub enum TreeFault {
 
 // The most nodes of a tree, and how deep they may stand.
 const MOST_NODES: u32 = 1024;
+
 const MOST_LEVELS: u32 = 48;
 
 // Counts the nodes of a tree onto a count, which stops one above the limit. Each level down has

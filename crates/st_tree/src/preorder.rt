@@ -1,5 +1,5 @@
 //! The list of a tree's nodes under given names.
-ghost use Rattle.std.specs.Prelude.{◌≡◌, ◌+◌, ◌<◌, ◌++◌, ◌^◌, IfOk, OnOk, Ok};
+ghost use Rattle.std.specs.Prelude.{◌≡◌, ◌+◌, ◌<◌, ◌++◌, ◌^◌, true, IfOk, OnOk, Ok, Err};
 ghost use Rattle.st_ids.specs.Or.{IfRefused};
 ghost use Rattle.st_tree.specs.Node.{view, field_view, fields_view, trees_view};
 ghost use Rattle.st_tree.specs.Size.{node_count, item_count, check_of, check_items};
@@ -12,6 +12,7 @@ use st_ids::{Atom, CellId, Copied, FieldId, List, NodeId, Or, Rev};
 use std::alloc::{AllocError, Global};
 
 // The next names to give.
+#[derive(Drop)]
 struct Naming {
     rev: Rev,
     node: u32,
@@ -19,7 +20,7 @@ struct Naming {
 }
 
 impl Naming {
-    ghost use Rattle.st_tree.specs.declared.flatten.Naming.{Naming as NextNames};
+    ghost use Rattle.st_tree.specs.declared.preorder.Naming.{Naming as NextNames};
 
     // The next node's name.
     fn next_node(&mut self) -> NodeId
@@ -124,4 +125,80 @@ fn flatten_field(
         flatten_tree(alloc, item, at, naming, nodes)?;
     }
     Ok(())
+}
+
+// The nodes of top items, in preorder.
+fn flatten_tops(
+    alloc: Global,
+    trees: &List<Tree>,
+    naming: Naming,
+) -> Result<List<FlatNode>, AllocError>
+    requires nodes_fit { naming.node + item_count (trees_view trees.now) < 2 ^ 32 }
+    requires cells_fit { naming.cell + item_cells true (trees_view trees.now) + 1 < 2 ^ 32 }
+    ensures { IfOk result (λ ns. ns ≡ tops_listed naming.rev naming.node naming.cell (trees_view trees.now)) }
+{
+    let mut naming = naming;
+    let mut nodes = List::new(alloc);
+    for tree in trees.as_slice() {
+        let cell = naming.next_cell();
+        flatten_tree(alloc, tree, FlatAt::Top(cell), &mut naming, &mut nodes)?;
+    }
+    Ok(nodes)
+}
+
+/// The nodes of new top items in preorder: a node takes the next number from `node`, and where it
+/// stands in a row or is a top item it takes the next cell number from `cell`. Refused where the
+/// trees together pass a limit.
+#[tactic(auto, using(crate::proofs::Cells::item_cells_fit))]
+pub fn flatten(
+    alloc: Global,
+    trees: &List<Tree>,
+    rev: Rev,
+    node: u32,
+    cell: u32,
+) -> Result<Flat, Or<TreeFault>>
+    requires node { node < 2 ^ 31 }
+    requires cell { cell < 2 ^ 31 }
+    ensures ok { IfOk result (λ f. f.nodes ≡ tops_listed rev node cell (trees_view trees.now)) }
+    ensures within { OnOk result (check_items (trees_view trees.now) ≡ Ok tt) }
+    ensures bad { IfRefused result (λ e. check_items (trees_view trees.now) ≡ Err e) }
+{
+    match check_trees(trees) {
+        Err(fault) => Err(Or::Fault(fault)),
+        Ok(()) => Ok(Flat {
+            nodes: flatten_tops(alloc, trees, Naming { rev, node, cell })?,
+        }),
+    }
+}
+
+/// The nodes of the opening tree in preorder, named by revision 0.0 from the numbers 0; its root
+/// takes no cell. Refused where the tree passes a limit.
+#[tactic(auto, using(crate::proofs::Cells::cells_fit))]
+pub fn opening(alloc: Global, tree: &Tree) -> Result<Flat, Or<TreeFault>>
+    ensures ok { IfOk result (λ f. f.nodes ≡ opening_listed (view tree.now)) }
+    ensures within { OnOk result (check_of (view tree.now) ≡ Ok tt) }
+    ensures bad { IfRefused result (λ e. check_of (view tree.now) ≡ Err e) }
+{
+    match check(tree) {
+        Err(fault) => Err(Or::Fault(fault)),
+        Ok(()) => Ok(Flat {
+            nodes: opening_nodes(alloc, tree)?,
+        }),
+    }
+}
+
+// The nodes of the opening tree, in preorder.
+fn opening_nodes(alloc: Global, tree: &Tree) -> Result<List<FlatNode>, AllocError>
+    requires nodes_fit { node_count (view tree.now) < 2 ^ 31 }
+    requires cells_fit { cell_count (view tree.now) < 2 ^ 31 }
+    ensures { IfOk result (λ ns. ns ≡ opening_listed (view tree.now)) }
+{
+    let mut naming = Naming {
+        rev: Rev { session: 0, num: 0 },
+        node: 0,
+        cell: 0,
+    };
+    let mut nodes = List::new(alloc);
+    flatten_tree(alloc, tree, FlatAt::Root, &mut naming, &mut nodes)?;
+    Ok(nodes)
 }
