@@ -7,6 +7,8 @@ mod flat;
 mod limits;
 mod preorder;
 mod rebuild;
+#[cfg(test)]
+mod tests;
 mod tree;
 
 pub use edit::{Edit, EditFault};
