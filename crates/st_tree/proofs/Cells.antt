@@ -1,5 +1,5 @@
 -- There are no more cells than nodes.
-use Rattle.std.proofs.Common.{ℕ, ◌+◌, ◌≤◌, Bool, true, false, arith}
+use Rattle.std.proofs.Common.{◌+◌, ◌≤◌, Bool, true, false, arith}
 use Rattle.st_tree.specs.Node.{Node, node, Fields, no_fields, field, Nodes, no_nodes, first}
 use Rattle.st_tree.specs.Size.{node_count, field_count, item_count}
 use Rattle.st_tree.specs.Preorder.{cells_taken, cell_count, field_cells, item_cells}

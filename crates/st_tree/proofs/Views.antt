@@ -1,5 +1,5 @@
 -- What is seen of a tree, one level at a time.
-use Rattle.std.proofs.Common.{◌≡◌, refl}
+use Rattle.std.proofs.Common.{◌≡◌}
 use Rattle.st_tree.specs.Node.{Node, node, FieldNode, field_step, tree_step, view, field_view, trees_view, fields_view}
 use Rattle.st_tree.specs.declared.tree.Tree.{Tree}
 use Rattle.st_tree.specs.declared.tree.Field.{Field}

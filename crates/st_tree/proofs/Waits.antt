@@ -1,10 +1,10 @@
 -- What waits, and which of it is below a node.
-use Rattle.std.proofs.Common.{◌≡◌, List, [], ◌∷◌, ◌++◌, ◌∙◌, map, false, true, refl, ap}
+use Rattle.std.proofs.Common.{◌≡◌, List, [], ◌∷◌, ◌++◌, ◌∙◌, map, false, refl, ap}
 use Rattle.std.proofs.lemmas.List.{map-append, reverse-append}
 use Rattle.std.specs.Prelude.{reverse}
 use Rattle.st_ids.specs.declared.names.NodeId.{NodeId}
 use Rattle.st_tree.specs.Node.{view}
-use Rattle.st_tree.specs.Rebuilt.{Waiting, is_below, first_is_below, mine, others, waiting_view}
+use Rattle.st_tree.specs.Rebuilt.{Waiting, first_is_below, mine, others, waiting_view}
 use Rattle.st_tree.specs.declared.rebuild.Placed.{Placed}
 
 -- the last in the program is the first that waits

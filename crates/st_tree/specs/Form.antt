@@ -1,6 +1,6 @@
 -- The form of trees: a leaf has no fields, an array node has one row under the empty key, and another node has single
 -- items under keys that rise in byte order and are not empty.
-use Rattle.std.specs.Prelude.{ℕ, List, [], ◌∷◌, length, Bool, true, false, not, ◌&&◌, ◌||◌, ◌==◌, Option, None, Some}
+use Rattle.std.specs.Prelude.{ℕ, List, [], length, Bool, true, false, not, ◌&&◌, ◌||◌, ◌==◌, Option, None, Some}
 use Rattle.std.specs.Ordering.{nat_cmp, is_lt}
 use Rattle.std.specs.Cmp.Lexicographic.{slice_cmp}
 use Rattle.st_ids.specs.declared.names.Leaf.{Leaf}

@@ -4,7 +4,7 @@ use Rattle.std.specs.Prelude.{ℕ, List, [], ◌∷◌, Bool, true, false, map, 
 use Rattle.std.specs.Ordering.{is_eq}
 use Rattle.st_ids.specs.declared.names.NodeId.{NodeId}
 use Rattle.st_ids.specs.Order.{node_cmp}
-use Rattle.st_tree.specs.Node.{Node, node, Fields, no_fields, field, Nodes, no_nodes, first, FieldNode, nodes_of, fields_of, view}
+use Rattle.st_tree.specs.Node.{Node, node, Fields, no_fields, field, no_nodes, first, FieldNode, nodes_of, fields_of, view}
 use Rattle.st_tree.specs.declared.flat.FlatAt.{FlatAt}
 use Rattle.st_tree.specs.declared.flat.FlatAt.TheVariants.{Root, Top, Row, Register}
 use Rattle.st_tree.specs.declared.flat.FlatNode.{FlatNode}
