@@ -4,3 +4,4 @@ pub mod Intent
 pub mod CarryOut
 pub mod Verdict
 pub mod Run
+pub mod RowEdits

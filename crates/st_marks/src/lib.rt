@@ -5,6 +5,7 @@
 mod changes;
 mod copies;
 mod intents;
+mod laws;
 mod marks;
 mod places;
 mod schemas;
@@ -13,6 +14,7 @@ mod verdicts;
 
 pub use changes::{Change, NewNode};
 pub use intents::{Group, Intent, Owned, Put, To};
+pub use laws::row_edits_are_never_void;
 pub use marks::{How, Loose, Mark, RegMark, RegStep, RowMarks};
 pub use places::{Slot, Spot};
 pub use schemas::{SchemaEntry, SchemaStep};

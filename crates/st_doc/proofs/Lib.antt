@@ -1,0 +1,6 @@
+pub mod Look
+pub mod Growing
+pub mod Opened
+pub mod Placing
+pub mod Showing
+pub mod OneDocument

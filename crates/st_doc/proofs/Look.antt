@@ -1,0 +1,90 @@
+-- Look-ups in lists that are gone through from the first item or from the last.
+use Rattle.std.proofs.Common.{◌≡◌, ℕ, ◌+◌, ◌<◌, Bool, true, false, cond, ◌&&◌, ◌||◌, List, [], ◌∷◌, ◌++◌, length, take, drop, get_or, Option, Some, None, is_some, refl, sym, ap, ◌∙◌, option_map, unwrap_or, suc, drop-cons, add-one}
+use Rattle.std.specs.Option.{option_or}
+use Rattle.std.specs.List.{find, list_any}
+use Rattle.std.proofs.lemmas.List.Folds.{find-append}
+use Rattle.std.proofs.lemmas.List.{take_more}
+
+option_or_assoc : {A : Type 0} (a b c : Option A) → option_or (option_or a b) c ≡ option_or a (option_or b c)
+option_or_assoc None b c = refl
+option_or_assoc (Some x) b c = refl
+
+-- the first items with one more
+pub take_one : {A : Type 0} (xs : List A) (i : ℕ) (d x : A) → i < length xs → get_or xs i d ≡ x → take (i + 1) xs ≡ take i xs ++ x ∷ []
+take_one xs i d x l e = take_more xs i d l ∙ ap (λ y. take i xs ++ y ∷ []) e
+
+-- one more looked for behind the first ones
+find_more : {A : Type 0} (p : A → Bool) (o : Option A) (xs : List A) (i : ℕ) (d x : A) → i < length xs → get_or xs i d ≡ x
+    → option_or (option_or o (find p (take i xs))) (cond (p x) (Some x) None) ≡ option_or o (find p (take (i + 1) xs))
+find_more p o xs i d x l e =
+    option_or_assoc o (find p (take i xs)) (cond (p x) (Some x) None)
+    ∙ ap (option_or o) (sym (find-append p (take i xs) (x ∷ [])) ∙ ap (find p) (sym (take_one xs i d x l e)))
+
+-- an item is added where none is there yet, after the first ones were
+pub added_more : {A : Type 0} (p : A → Bool) (old before now : Option A) (xs : List A) (i : ℕ) (d x y : A) → i < length xs → get_or xs i d ≡ x → y ≡ x
+    → before ≡ option_or old (find p (take i xs)) → now ≡ option_or before (cond (p x) (Some y) None) → now ≡ option_or old (find p (take (i + 1) xs))
+added_more p old before now xs i d x y l e same b h =
+    h ∙ ap (λ o. option_or o (cond (p x) (Some y) None)) b ∙ ap (λ z. option_or (option_or old (find p (take i xs))) (cond (p x) (Some z) None)) same ∙ find_more p old xs i d x l e
+
+list_any-push : {A : Type 0} (p : A → Bool) (xs : List A) (x : A) → list_any p (xs ++ x ∷ []) ≡ (list_any p xs || p x)
+list_any-push p [] x = elim (p x) as (λ b. (b || false) ≡ b) [ true ↦ refl | false ↦ refl ]
+list_any-push p (y ∷ xs) x = elim (p y) as (λ b. (b || list_any p (xs ++ x ∷ [])) ≡ ((b || list_any p xs) || p x)) [ true ↦ refl | false ↦ list_any-push p xs x ]
+
+pub any_more : {A : Type 0} (p : A → Bool) (xs : List A) (i : ℕ) (d x : A) → i < length xs → get_or xs i d ≡ x → list_any p (take (i + 1) xs) ≡ (list_any p (take i xs) || p x)
+any_more p xs i d x l e = ap (list_any p) (take_one xs i d x l e) ∙ list_any-push p (take i xs) x
+
+-- the same where all are added with one value
+pub told_more : {A B : Type 0} (p : A → Bool) (v : B) (old before now : Option B) (xs : List A) (i : ℕ) (d x : A) → i < length xs → get_or xs i d ≡ x
+    → before ≡ option_or old (cond (list_any p (take i xs)) (Some v) None) → now ≡ option_or before (cond (p x) (Some v) None)
+    → now ≡ option_or old (cond (list_any p (take (i + 1) xs)) (Some v) None)
+told_more {B = B} p v old before now xs i d x l e b h =
+    h ∙ ap (λ o. option_or o (cond (p x) (Some v) None)) b ∙ both old (list_any p (take i xs)) (p x) ∙ ap (λ c. option_or old (cond c (Some v) None)) (sym (any_more p xs i d x l e))
+  where
+    both : (o : Option B) (b c : Bool) → option_or (option_or o (cond b (Some v) None)) (cond c (Some v) None) ≡ option_or o (cond (b || c) (Some v) None)
+    both (Some w) b c = refl
+    both None true c = refl
+    both None false c = refl
+
+-- the same where each is added with a value of its own
+pub valued_more : {A B : Type 0} (p : A → Bool) (f : A → B) (old before now : Option B) (xs : List A) (i : ℕ) (d x : A) → i < length xs → get_or xs i d ≡ x
+    → before ≡ option_or old (option_map f (find p (take i xs))) → now ≡ option_or before (cond (p x) (Some (f x)) None)
+    → now ≡ option_or old (option_map f (find p (take (i + 1) xs)))
+valued_more {A} {B} p f old before now xs i d x l e b h =
+    h ∙ ap (λ o. option_or o (cond (p x) (Some (f x)) None)) b ∙ both old (find p (take i xs)) (p x)
+    ∙ ap (λ o. option_or old (option_map f o)) (sym (find-append p (take i xs) (x ∷ [])) ∙ ap (find p) (sym (take_one xs i d x l e)))
+  where
+    both : (o : Option B) (q : Option A) (c : Bool) → option_or (option_or o (option_map f q)) (cond c (Some (f x)) None) ≡ option_or o (option_map f (option_or q (cond c (Some x) None)))
+    both (Some w) q c = refl
+    both None (Some y) c = refl
+    both None None true = refl
+    both None None false = refl
+
+-- none passes both tests where none passes the first
+pub find_neither : {A : Type 0} (p q : A → Bool) (xs : List A) → list_any p xs ≡ false → find (λ x. p x && q x) xs ≡ None
+find_neither p q [] e = refl
+find_neither {A} p q (x ∷ xs) e = go (p x) refl e (λ f. find_neither p q xs f)
+  where
+    go : (b : Bool) → p x ≡ b → (b || list_any p xs) ≡ false → (list_any p xs ≡ false → find (λ x. p x && q x) xs ≡ None) → cond (p x && q x) (Some x) (find (λ x. p x && q x) xs) ≡ None
+    go true f e rest = cc
+    go false f e rest = rw f (rest e)
+
+-- what a look-up finds, or else what was there
+pub unwrap_or-cond : {A : Type 0} (b : Bool) (v d : A) (o : Option A) → unwrap_or (cond b (Some v) o) d ≡ cond b v (unwrap_or o d)
+unwrap_or-cond true v d o = refl
+unwrap_or-cond false v d o = refl
+
+pub is_some-find : {A : Type 0} (p : A → Bool) (xs : List A) → is_some (find p xs) ≡ list_any p xs
+is_some-find p [] = refl
+is_some-find p (x ∷ xs) = elim (p x) as (λ b. is_some (cond b (Some x) (find p xs)) ≡ (b || list_any p xs)) [ true ↦ refl | false ↦ is_some-find p xs ]
+
+pub is_some-map : {A B : Type 0} (f : A → B) (o : Option A) → is_some (option_map f o) ≡ is_some o
+is_some-map f None = refl
+is_some-map f (Some x) = refl
+
+pub option_map-or : {A B : Type 0} (f : A → B) (a b : Option A) → option_map f (option_or a b) ≡ option_or (option_map f a) (option_map f b)
+option_map-or f None b = refl
+option_map-or f (Some x) b = refl
+
+-- the last items with one more
+pub drop_one : {A : Type 0} (xs : List A) (i : ℕ) (d x : A) → i < length xs → get_or xs i d ≡ x → drop i xs ≡ x ∷ drop (i + 1) xs
+drop_one xs i d x l e = drop-cons xs i d l ∙ ap (λ y. y ∷ drop (suc i) xs) e ∙ ap (λ k. x ∷ drop k xs) (sym (add-one i))
