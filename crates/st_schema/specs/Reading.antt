@@ -2,7 +2,7 @@
 use Rattle.std.specs.Prelude.{ℕ, List, [], ◌∷◌, Bool, ◌&&◌, Option, None, Some, option_map, option_and_then, if◌then◌else◌, codes}
 use Rattle.serde_json.specs.Data.{Data, null, boolean, number, string, array, object, Items, no_items, item, Members, no_members, member}
 use Rattle.serde_json.specs.Find.{as_str, as_array, as_object}
-use Rattle.st_schema.specs.Schema.{same}
+use Rattle.st_schema.specs.Schema.{same, SchemaView}
 use Rattle.st_schema.specs.declared.names.KindName.{KindName}
 use Rattle.st_schema.specs.declared.names.KindName.TheVariants.{Required, Optional}
 use Rattle.st_schema.specs.declared.names.FieldDef.{FieldDef}
@@ -80,3 +80,7 @@ definitions_in (item d ds) = option_and_then (λ x. option_map (λ xs. x ∷ xs)
 
 abbrev pub definitions_of : Data → Option (List (List ℕ × Form))
 definitions_of d = option_and_then definitions_in (as_array d)
+
+-- a schema whose rules are not looked at
+abbrev pub schema_of : Data → Option SchemaView
+schema_of d = option_and_then (λ p. option_and_then (λ root. option_map (λ types. record { root = root; types = types }) (definitions_of p.1)) (texts_of p.0)) (pair_of (codes "root") (codes "types") d)

@@ -3,7 +3,7 @@ ghost use Rattle.std.specs.Prelude.{◌≡◌, true, Some, None, IfOk, option_ma
 ghost use Rattle.std.specs.Result.{result_ok};
 ghost use Rattle.serde_json.specs.View.{view, items_view, members_view};
 ghost use Rattle.st_ids.specs.Or.{IfRefused};
-ghost use Rattle.st_schema.specs.Reading.{pair_of, pair_in, texts_of, kind_of, two_in, two_items, field_of_data, fields_of_members, definition_of, definitions_of, array_of, map_of, object_of, fields_of_data};
+ghost use Rattle.st_schema.specs.Reading.{pair_of, pair_in, texts_of, kind_of, two_in, two_items, field_of_data, fields_of_members, definition_of, definitions_of, array_of, map_of, object_of, fields_of_data, schema_of};
 
 use crate::names::{FieldDef, Form, KindName};
 use crate::table::Definition;
@@ -182,4 +182,17 @@ fn definitions(alloc: Global, value: &Value) -> Result<List<Definition>, Or<Shap
         definitions.push(definition(alloc, item)?)?;
     }
     Ok(definitions)
+}
+
+// The root's list and the definitions of a schema.
+fn parts(alloc: Global, value: &Value) -> Result<(List<Text>, List<Definition>), Or<Shape>>
+    ensures ok { IfOk result (λ p. schema_of (view value.now) ≡ Some (record { root = p.0; types = p.1 })) }
+    ensures bad { IfRefused result (λ _. schema_of (view value.now) ≡ None) }
+{
+    let Some((root, types)) = pair(value, "root", "types") else {
+        return Err(Or::Fault(Shape));
+    };
+    let root = texts(alloc, root)?;
+    let definitions = definitions(alloc, types)?;
+    Ok((root, definitions))
 }

@@ -113,3 +113,17 @@ pub(crate) fn forms_are_sound(types: &IndexMap<Text, Form>) -> bool
 {
     types.values().all(|form| form_is_sound(types, form))
 }
+
+// Whether the definitions have good names.
+fn names_are_sound(types: &IndexMap<Text, Form>) -> bool
+    ensures { result ≡ list_all is_type_name (type_names types.now.entries) }
+{
+    types.keys().all(|name| is_type_name(name.as_str()))
+}
+
+// Whether all definitions keep the rules, their number and the distinct names aside.
+pub(crate) fn table_is_sound(types: &IndexMap<Text, Form>) -> bool
+    ensures { result ≡ (list_all is_type_name (type_names types.now.entries) && forms_are_sound types.now.entries) }
+{
+    names_are_sound(types) && forms_are_sound(types)
+}

@@ -1,12 +1,15 @@
 //! A schema and what is looked up in it.
-ghost use Rattle.std.specs.Prelude.{◌≡◌, IfOk, slice_get, option_map};
+ghost use Rattle.std.specs.Prelude.{◌≡◌, ◌≤◌, true, false, length, IfOk, OnOk, slice_get, option_map};
 ghost use Rattle.std.specs.Option.{option_copied};
-ghost use Rattle.st_schema.specs.Schema.{form_of, declared, field_in};
+ghost use Rattle.st_schema.specs.Schema.{is_sound, is_distinct, type_names, form_of, declared, field_in};
+ghost use Rattle.st_ids.specs.Or.{IfRefused};
 
 use crate::names::{FieldDef, FieldRule, Form, KindName};
-use crate::rules::is_key;
+use crate::rules::{is_key, list_is_sound, table_is_sound};
+use crate::table::{Definition, table_of};
 use indexmap::IndexMap;
-use st_ids::{Copied, Key, List, Text};
+use st_ids::{Copied, Key, List, Or, Text};
+use st_json::Shape;
 use std::alloc::{AllocError, Global};
 use std::marker::Model;
 
@@ -26,6 +29,15 @@ impl Model for Schema {
     ghost view = { λ s. record { root = s.root; types = s.types.entries } };
 
     ghost invariant = { λ s. IsTrue (is_sound (record { root = s.root; types = s.types.entries })) };
+}
+
+// Whether a table of few enough definitions of distinct names and a root's list keep the rules.
+fn is_sound(root: &List<Text>, types: &IndexMap<Text, Form>) -> bool
+    requires few { length types.now.entries ≤ 256 }
+    requires distinct { is_distinct (type_names types.now.entries) ≡ true }
+    ensures { result ≡ is_sound (record { root = root.now; types = types.now.entries }) }
+{
+    table_is_sound(types) && list_is_sound(types, root)
 }
 
 // The definition of a type.
@@ -79,6 +91,27 @@ fn rule(alloc: Global, kind: KindName, types: &List<Text>) -> Result<Option<Fiel
 impl Schema {
     ghost use Rattle.st_schema.specs.Schema.{is_sound, form_of, field_of};
     ghost use Rattle.std.specs.Prelude.{IsTrue};
+
+    // The schema of these parts. Refused where they break a rule.
+    pub(crate) fn of_parts(
+        alloc: Global,
+        root: List<Text>,
+        definitions: List<Definition>,
+    ) -> Result<Schema, Or<Shape>>
+        ensures ok { IfOk result (λ s. s ≡ record { root = root; types = definitions }) }
+        ensures sound { OnOk result (is_sound (record { root = root; types = definitions }) ≡ true) }
+        ensures bad { IfRefused result (λ _. is_sound (record { root = root; types = definitions }) ≡ false) }
+    {
+        if definitions.len() > 256 {
+            return Err(Or::Fault(Shape));
+        }
+        let types = table_of(alloc, definitions)?;
+        if is_sound(&root, &types) {
+            Ok(Schema { root, types })
+        } else {
+            Err(Or::Fault(Shape))
+        }
+    }
 
     /// The types that the root may have.
     pub fn root(&self) -> &List<Text>
