@@ -7,6 +7,7 @@ mod read;
 mod rules;
 mod schema;
 mod table;
+mod text;
 
 pub use names::{FieldDef, FieldRule, Form, KindName, NotAllowed, NotWider};
 pub use schema::Schema;

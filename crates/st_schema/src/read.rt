@@ -1,11 +1,14 @@
 //! Schemas read from a JSON value.
-ghost use Rattle.std.specs.Prelude.{◌≡◌, true, Some, None, IfOk, option_map};
+ghost use Rattle.std.specs.Prelude.{◌≡◌, ◌≢◌, IsTrue, true, Some, None, IfOk, option_map};
 ghost use Rattle.std.specs.Result.{result_ok};
 ghost use Rattle.serde_json.specs.View.{view, items_view, members_view};
 ghost use Rattle.st_ids.specs.Or.{IfRefused};
+ghost use Rattle.st_schema.specs.Schema.{SchemaView, is_sound};
+ghost use Rattle.st_schema.specs.Written.{schema_data};
 ghost use Rattle.st_schema.specs.Reading.{pair_of, pair_in, texts_of, kind_of, two_in, two_items, field_of_data, fields_of_members, definition_of, definitions_of, array_of, map_of, object_of, fields_of_data, schema_of};
 
 use crate::names::{FieldDef, Form, KindName};
+use crate::schema::Schema;
 use crate::table::Definition;
 use serde_json::{Map, Value};
 use st_ids::{Key, List, Or, Text};
@@ -195,4 +198,19 @@ fn parts(alloc: Global, value: &Value) -> Result<(List<Text>, List<Definition>),
     let root = texts(alloc, root)?;
     let definitions = definitions(alloc, types)?;
     Ok((root, definitions))
+}
+
+impl Schema {
+    /// The schema of a value. `Shape` exactly where the value is not the form of a schema that keeps
+    /// the rules.
+    #[tactic(auto, using(crate::proofs::Forms::schema_back, crate::proofs::Forms::read_none, crate::proofs::Forms::read_same, crate::proofs::Forms::refused_unsound))]
+    pub fn read(alloc: Global, value: &Value) -> Result<Schema, Or<Shape>>
+        ensures ok { IfOk result (λ s. view value.now ≡ schema_data s) }
+        ensures sound { IfOk result (λ s. IsTrue (is_sound s)) }
+        ensures bad { IfRefused result (λ _. (s : SchemaView) → IsTrue (is_sound s) → view value.now ≢ schema_data s) }
+        ensures back { IfOk result (λ r. (s : SchemaView) → IsTrue (is_sound s) → view value.now ≡ schema_data s → r ≡ s) }
+    {
+        let (root, definitions) = parts(alloc, value)?;
+        Schema::of_parts(alloc, root, definitions)
+    }
 }

@@ -1,5 +1,5 @@
 //! A schema and what is looked up in it.
-ghost use Rattle.std.specs.Prelude.{◌≡◌, ◌≤◌, true, false, length, IfOk, OnOk, slice_get, option_map};
+ghost use Rattle.std.specs.Prelude.{◌≡◌, ◌≤◌, true, false, length, IfOk, slice_get, option_map};
 ghost use Rattle.std.specs.Option.{option_copied};
 ghost use Rattle.st_schema.specs.Schema.{is_sound, is_distinct, type_names, form_of, declared, field_in};
 ghost use Rattle.st_ids.specs.Or.{IfRefused};
@@ -99,7 +99,7 @@ impl Schema {
         definitions: List<Definition>,
     ) -> Result<Schema, Or<Shape>>
         ensures ok { IfOk result (λ s. s ≡ record { root = root; types = definitions }) }
-        ensures sound { OnOk result (is_sound (record { root = root; types = definitions }) ≡ true) }
+        ensures sound { IfOk result (λ s. is_sound s ≡ true) }
         ensures bad { IfRefused result (λ _. is_sound (record { root = root; types = definitions }) ≡ false) }
     {
         if definitions.len() > 256 {
