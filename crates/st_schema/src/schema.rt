@@ -113,6 +113,15 @@ impl Schema {
         }
     }
 
+    // The root's list and the table.
+    pub(crate) fn parts(&self) -> (&List<Text>, &IndexMap<Text, Form>)
+        ensures root { result.0.now ≡ self.now.root }
+        ensures types { result.1.now.entries ≡ self.now.types }
+        ensures sound { is_sound self.now ≡ true }
+    {
+        (&self.root, &self.types)
+    }
+
     /// The types that the root may have.
     pub fn root(&self) -> &List<Text>
         ensures { result.now ≡ self.now.root }
