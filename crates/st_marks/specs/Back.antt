@@ -10,6 +10,7 @@ use Rattle.st_marks.specs.declared.places.Spot.{Spot}
 use Rattle.st_marks.specs.Document.{Document, node_of}
 use Rattle.st_marks.specs.Intent.{IsIntent, put_of, clears}
 
+-- whether the document has a node
 abbrev pub is_in : Document → NodeId → Bool
 is_in D n = is_some (D.nodes n)
 

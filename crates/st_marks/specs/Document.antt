@@ -22,11 +22,12 @@ abbrev pub AreDistinct : {A K : Type 0} → (A → K) → List A → Type 0
 AreDistinct key [] = Unit {0}
 AreDistinct key (x ∷ xs) = AllByRecursion (λ y. key y ≢ key x) xs × AreDistinct key xs
 
--- the first of a list, and the last
+-- the first of a list
 abbrev pub first_of : {A : Type 0} → List A → Option A
 first_of [] = None
 first_of (x ∷ xs) = Some x
 
+-- the last of a list
 abbrev pub last_of : {A : Type 0} → List A → Option A
 last_of xs = last_or None xs
 
@@ -39,6 +40,7 @@ pub record NodeType : Type 0 where
   pub ty : List ℕ
   pub leaf : Option Leaf
 
+-- the document, by look-ups
 pub record Document : Type 0 where
   -- the nodes there are
   pub nodes : NodeId → Option NodeType
@@ -57,6 +59,7 @@ pub record Document : Type 0 where
 abbrev pub opening : Rev
 opening = record { session = 0; num = 0 }
 
+-- the node from which the tree is read
 abbrev pub root : NodeId
 root = record { 0 = record { rev = opening; at = 0 } }
 
@@ -124,6 +127,7 @@ owned c m = record { cell = c; node = m }
 abbrev pub HasShortRows : Document → Type 0
 HasShortRows D = (n : NodeId) → length (D.rows n) < 2 ^ 32
 
+-- what each document is that is reached from an opening one
 pub record IsSoundInForm (D : Document) : Type 0 where
   -- the root is there, and stands nowhere
   pub root_known : IsSome (D.nodes root)

@@ -21,6 +21,7 @@ use Rattle.st_marks.specs.Verdict.{IsInEffect}
 use Rattle.st_marks.specs.Row.{CellMark, Counted, Gap, Touch, Make, Fill, RowPart, merge, embed_row, how}
 use Rattle.st_marks.specs.Register.{RegisterPart, embed_register}
 
+-- whether a node is in a list
 abbrev pub is_among : List NodeId → NodeId → Bool
 is_among ns n = list_any (λ m. same_node m n) ns
 
@@ -58,6 +59,7 @@ row_part mentioned N n = record { made = group_at N n; goes = put_of N; mentione
 abbrev pub register_part : (NodeId → Bool) → Intent → FieldId → RegisterPart
 register_part mentioned N f = record { clear = clears N f; fill = put_in N f; goes = put_of N; mentioned = mentioned }
 
+-- whether a place is none
 abbrev pub is_nowhere : Spot → Bool
 is_nowhere Spot.Nowhere = true
 is_nowhere (Spot.Row n c) = false
@@ -67,6 +69,7 @@ is_nowhere (Spot.Register f) = false
 abbrev pub is_loose : (NodeId → Bool) → Document → NodeId → Bool
 is_loose mentioned D n = mentioned n && is_nowhere (D.place n) && not (same_node n root)
 
+-- what becomes of a node that is nowhere
 abbrev pub embed_loose : (NodeId → Bool) → Document → Intent → NodeId → Option Loose
 embed_loose mentioned D N n = if is_loose mentioned D n then Some (record { node = n; how = how (put_of N n) To.Nowhere }) else None
 

@@ -10,6 +10,7 @@ pub data Grows {A : Type 0} (Same : A → A → Type 0) : List A → List A → 
   gained : {y : A} {xs ys : List A} → Grows Same xs ys → Grows Same xs (y ∷ ys)
   kept : {x y : A} {xs ys : List A} → Same x y → Grows Same xs ys → Grows Same (x ∷ xs) (y ∷ ys)
 
+-- E extends D: it has all that D has, in the same order
 pub record IsExtendedBy (D E : Document) : Type 0 where
   pub before : IsSoundInForm D
   pub after : IsSoundInForm E

@@ -25,6 +25,7 @@ new_node N n = find (λ (m : NewNode). same_node m.node n) N.new
 abbrev pub new_type : Intent → NodeId → Option NodeType
 new_type N n = option_map (λ (m : NewNode). record { ty = m.ty; leaf = m.leaf }) (new_node N n)
 
+-- whether it makes a node
 abbrev pub is_new : Intent → NodeId → Bool
 is_new N n = is_some (new_type N n)
 
@@ -48,6 +49,7 @@ register_of To.Nowhere = None
 register_of (To.Cell c) = None
 register_of (To.Register f) = Some f
 
+-- whether a node is put into that register
 abbrev pub is_register : FieldId → To → Bool
 is_register f To.Nowhere = false
 is_register f (To.Cell c) = false
@@ -68,6 +70,7 @@ same_option same (Some x) (Some y) = same x y
 abbrev pub same_anchor : Option CellId → Option CellId → Bool
 same_anchor a b = same_option same_cell a b
 
+-- the cells of a group, if there is one
 abbrev pub cells_of : Option Group → List Owned
 cells_of None = []
 cells_of (Some g) = g.cells
@@ -97,6 +100,7 @@ above_new N n = if is_new N n then option_and_then (λ p. if is_new N p then Som
 
 -- ## What it has to satisfy in itself
 
+-- an intent that can be meant
 pub record IsIntent (N : Intent) : Type 0 where
   -- new nodes and cells have its revision, and each is listed once
   pub new_rev : AllByRecursion (λ (m : NewNode). m.node.0.rev ≡ N.rev) N.new
@@ -135,6 +139,7 @@ IsKnown D N n = IsTrue (is_new N n) ⊎ IsSome (D.nodes n)
 abbrev pub Owns : Document → Intent → NodeId → CellId → Type 0
 Owns D N n c = ((r : NodeId) × Has (D.rows r) (owned c n)) ⊎ Has (group_cells N) (owned c n)
 
+-- an intent that can be carried out in a document
 pub record Fits (D : Document) (N : Intent) : Type 0 where
   pub itself : IsIntent N
   -- its new names are not in the document

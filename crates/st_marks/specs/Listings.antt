@@ -40,7 +40,7 @@ nodes_in (Touch c n h ∷ ms) = n ∷ nodes_in ms
 nodes_in (Make c n b ∷ ms) = n ∷ nodes_in ms
 nodes_in (Fill c n ∷ ms) = n ∷ nodes_in ms
 
--- the cells in a row's marks, and those that it makes
+-- the cells in a row's marks
 abbrev pub cells_in : List CellMark → List CellId
 cells_in [] = []
 cells_in (Counted ∷ ms) = cells_in ms
@@ -49,6 +49,7 @@ cells_in (Touch c n h ∷ ms) = c ∷ cells_in ms
 cells_in (Make c n b ∷ ms) = c ∷ cells_in ms
 cells_in (Fill c n ∷ ms) = c ∷ cells_in ms
 
+-- the cells that a row's marks make
 abbrev pub cells_made : List CellMark → List CellId
 cells_made [] = []
 cells_made (Counted ∷ ms) = cells_made ms
@@ -57,6 +58,7 @@ cells_made (Touch c n h ∷ ms) = cells_made ms
 cells_made (Make c n b ∷ ms) = c ∷ cells_made ms
 cells_made (Fill c n ∷ ms) = cells_made ms
 
+-- whether a cell is in a list
 abbrev pub is_among_cells : List CellId → CellId → Bool
 is_among_cells cs c = list_any (λ d. same_cell d c) cs
 
@@ -69,15 +71,19 @@ one_or_none (Some x) = x ∷ []
 abbrev pub marks_of : List RowMarks → NodeId → List CellMark
 marks_of rows n = option_map_or (λ (r : RowMarks). spread r.marks) (item_of node_cmp (λ (r : RowMarks). r.node) rows n) []
 
+-- the nodes of listed rows, and those in their marks
 abbrev pub nodes_of_rows : List RowMarks → List NodeId
 nodes_of_rows rows = flat_map (λ (r : RowMarks). r.node ∷ nodes_in (spread r.marks)) rows
 
+-- the new nodes
 abbrev pub nodes_new : List NewNode → List NodeId
 nodes_new new = map (λ (m : NewNode). m.node) new
 
+-- the nodes that are listed as nowhere
 abbrev pub nodes_loose : List Loose → List NodeId
 nodes_loose loose = map (λ (l : Loose). l.node) loose
 
+-- the names of an argument that names these nodes and has these rows and new nodes
 abbrev pub names_by : List NodeId → List RowMarks → List NewNode → Names
 names_by nodes rows new = record {
   names_node = is_among nodes;
@@ -86,11 +92,13 @@ names_by nodes rows new = record {
   makes_cell = is_among_cells (flat_map (λ (r : RowMarks). cells_made (spread r.marks)) rows);
 }
 
+-- all that a change names
 abbrev pub names_of_change : Change → Names
 names_of_change C = names_by
     (C.need ++ nodes_new C.new ++ nodes_of_rows C.rows ++ flat_map (λ (r : RegMark). r.field.node ∷ (one_or_none r.held ++ one_or_none r.fill)) C.regs ++ nodes_loose C.loose)
     C.rows C.new
 
+-- all that a step names
 abbrev pub names_of_step : Step → Names
 names_of_step S = names_by
     (nodes_new S.new ++ nodes_of_rows S.rows ++ flat_map (λ (r : RegStep). r.field.node ∷ (one_or_none r.before ++ one_or_none r.after)) S.regs ++ nodes_loose S.loose)
@@ -104,9 +112,11 @@ pub record Seen : Type 0 where
   pub node : Option NodeId
   pub full : Bool
 
+-- a cell that is named with its owner
 abbrev pub seen : CellId → NodeId → Bool → Seen
 seen c n b = record { cell = Some c; node = Some n; full = b }
 
+-- a cell of a Skip
 abbrev pub counted_cell : Seen
 counted_cell = record { cell = None; node = None; full = true }
 
@@ -114,6 +124,7 @@ counted_cell = record { cell = None; node = None; full = true }
 abbrev pub empty_cell : CellId → Seen
 empty_cell c = record { cell = Some c; node = None; full = false }
 
+-- whether the node leaves
 abbrev pub is_leave : How → Bool
 is_leave Stay = false
 is_leave Here = false
@@ -150,9 +161,11 @@ pub record Listing : Type 0 where
 
 -- ## Before. The row of a node that the argument itself makes is shown empty.
 
+-- the cells of a listed row before
 abbrev pub rows_before : List RowMarks → NodeId → Option (List Seen)
 rows_before rows n = option_map (λ (r : RowMarks). cells_before (spread r.marks)) (item_of node_cmp (λ (r : RowMarks). r.node) rows n)
 
+-- what a change shows of the document where it stands
 abbrev pub listing_before_change : Change → Listing
 listing_before_change C = record {
   row = rows_before C.rows;
@@ -161,6 +174,7 @@ listing_before_change C = record {
   names = names_of_change C;
 }
 
+-- what a step shows of the document from which it leads
 abbrev pub listing_before_step : Step → Listing
 listing_before_step S = record {
   row = rows_before S.rows;
@@ -171,9 +185,11 @@ listing_before_step S = record {
 
 -- ## After. The row or register of a new node that isn't listed is empty.
 
+-- the cells of a row after, of a new node too
 abbrev pub rows_after : List RowMarks → List NewNode → NodeId → Option (List Seen)
 rows_after rows new n = option_or (option_map (λ (r : RowMarks). cells_after (spread r.marks)) (item_of node_cmp (λ (r : RowMarks). r.node) rows n)) (if is_among (nodes_new new) n then Some [] else None)
 
+-- the occupant of a register after, of a new node too
 abbrev pub registers_after : Option (Option NodeId) → List NewNode → FieldId → Option (Option NodeId)
 registers_after listed new f = option_or listed (if is_among (nodes_new new) f.node then Some None else None)
 
@@ -182,10 +198,11 @@ abbrev pub nodes_shown : List Seen → List NodeId
 nodes_shown [] = []
 nodes_shown (s ∷ cells) = (if s.full then one_or_none s.node else []) ++ nodes_shown cells
 
--- the nodes that stand somewhere before, and after
+-- the nodes that stand somewhere before
 abbrev pub placed_before : List RowMarks → List (Option NodeId) → List NodeId
 placed_before rows held = flat_map (λ (r : RowMarks). nodes_shown (cells_before (spread r.marks))) rows ++ flat_map one_or_none held
 
+-- the nodes that stand somewhere after
 abbrev pub placed_after : List RowMarks → List (Option NodeId) → List NodeId
 placed_after rows held = flat_map (λ (r : RowMarks). nodes_shown (cells_after (spread r.marks))) rows ++ flat_map one_or_none held
 
@@ -193,6 +210,7 @@ placed_after rows held = flat_map (λ (r : RowMarks). nodes_shown (cells_after (
 abbrev pub nowhere_after : List NodeId → List NodeId → NodeId → Bool
 nowhere_after there placed n = is_among there n && not (is_among placed n)
 
+-- what a change shows of the document after it, carried out whole
 abbrev pub listing_after_change : Change → Listing
 listing_after_change C = record {
   row = rows_after C.rows C.new;
@@ -201,6 +219,7 @@ listing_after_change C = record {
   names = names_of_change C;
 }
 
+-- what a step shows of the document to which it leads
 abbrev pub listing_after_step : Step → Listing
 listing_after_step S = record {
   row = rows_after S.rows S.new;

@@ -46,10 +46,12 @@ mutual
         → IsListing (slice_cmp nat_cmp) (λ (k : List ℕ). k) keys (key_at D n)
         → ShowsMembers is_array D n keys members → Shows is_array D n (one_member ty (object members))
 
+  -- nodes, each with what it shows
   pub data ShowsItems (is_array : List ℕ → Bool) (D : Document) : List NodeId → Items → Type 0 where
     no_more_items : ShowsItems is_array D [] no_items
     next_item : (n : NodeId) (d : Data) (ns : List NodeId) (ds : Items) → Shows is_array D n d → ShowsItems is_array D ns ds → ShowsItems is_array D (n ∷ ns) (item d ds)
 
+  -- the registers of a node, each with what its occupant shows
   pub data ShowsMembers (is_array : List ℕ → Bool) (D : Document) : NodeId → List (List ℕ) → Members → Type 0 where
     no_more_members : (n : NodeId) → ShowsMembers is_array D n [] no_members
     next_member : (n m : NodeId) (k : List ℕ) (d : Data) (ks : List (List ℕ)) (ms : Members) → D.held (register n k) ≡ Some m → Shows is_array D m d → ShowsMembers is_array D n ks ms

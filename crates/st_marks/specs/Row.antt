@@ -74,6 +74,7 @@ step_row mentioned (kept {x} {y} same g) = step_cell mentioned x.cell x.node x.f
 
 -- ## A row and an intent
 
+-- whether two puts lead to one place
 abbrev pub same_to : To → To → Bool
 same_to To.Nowhere To.Nowhere = true
 same_to To.Nowhere (To.Cell d) = false
@@ -90,6 +91,7 @@ abbrev pub how : Option To → To → How
 how None here = Stay
 how (Some to) here = if same_to to here then Here else Leave
 
+-- whether the node is put where it is
 abbrev pub is_here : How → Bool
 is_here Stay = false
 is_here Here = true

@@ -35,6 +35,7 @@ gained_node n None None = None
 gained_node n None (Some t) = Some (record { node = n; ty = t.ty; leaf = t.leaf })
 gained_node n (Some t) after = None
 
+-- what becomes of a node that is nowhere
 abbrev pub step_loose : (NodeId → Bool) → Document → Document → NodeId → Option Loose
 step_loose mentioned D E n = if is_loose mentioned D n then Some (record { node = n; how = if is_nowhere (E.place n) then Stay else Leave }) else None
 

@@ -17,6 +17,7 @@ use Rattle.st_marks.specs.CarryOut.{full, void}
 abbrev pub HasBase : List SchemaEntry → Option (List ℕ) → Rev → Type 0
 HasBase entries schema under = MatchOption schema (Has (revs entries) under) (λ _. last_of (revs entries) ≡ Some under)
 
+-- the schema under which the intent was made is in effect
 abbrev pub IsInEffect : Document → Intent → Type 0
 IsInEffect D N = HasBase D.schemas N.schema N.under
 

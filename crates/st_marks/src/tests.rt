@@ -59,6 +59,71 @@ fn copies_a_row(rt: HostRuntime) -> Result<(), Fail> {
 }
 
 #[test]
+fn copies_a_change(rt: HostRuntime) -> Result<(), Fail> {
+    let alloc = rt.alloc();
+    let change = Change {
+        rev: REV,
+        under: REV,
+        base: true,
+        need: List::new(alloc),
+        new: List::new(alloc),
+        rows: List::new(alloc),
+        regs: List::new(alloc),
+        loose: List::new(alloc),
+        schema: None,
+    };
+    let copy = change.copy(alloc)?;
+    assert!(rt; copy == change);
+    Ok(())
+}
+
+#[test]
+fn copies_a_step(rt: HostRuntime) -> Result<(), Fail> {
+    let alloc = rt.alloc();
+    let step = Step {
+        new: List::new(alloc),
+        rows: List::new(alloc),
+        regs: List::new(alloc),
+        loose: List::new(alloc),
+        schema: None,
+    };
+    let copy = step.copy(alloc)?;
+    assert!(rt; copy == step);
+    Ok(())
+}
+
+#[test]
+fn copies_an_intent(rt: HostRuntime) -> Result<(), Fail> {
+    let alloc = rt.alloc();
+    let intent = Intent {
+        rev: REV,
+        under: REV,
+        new: List::new(alloc),
+        groups: List::new(alloc),
+        clear: List::new(alloc),
+        put: List::new(alloc),
+        need: List::new(alloc),
+        schema: None,
+    };
+    let copy = intent.copy(alloc)?;
+    assert!(rt; copy == intent);
+    Ok(())
+}
+
+#[test]
+fn copies_places(rt: HostRuntime) -> Result<(), Fail> {
+    let spot = Spot::Row {
+        node: NODE,
+        cell: CELL,
+    };
+    let copy = spot.copy(rt.alloc())?;
+    assert!(rt; copy == spot);
+    let verdict = Verdict::Need(NODE).copy(rt.alloc())?;
+    assert_eq!(rt; verdict, Verdict::Need(NODE));
+    Ok(())
+}
+
+#[test]
 fn first_use(_rt: HostRuntime) {
     back_leads_back();
     carrying_out_extends();
