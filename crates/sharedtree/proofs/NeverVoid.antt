@@ -1,12 +1,11 @@
 -- No commit of a world is void.
-use Rattle.std.proofs.Common.{◌≡◌, ◌≢◌, ℕ, zero, suc, ◌+◌, ◌==◌, ◌&&◌, nat_lt, nat_le, Bool, true, false, cond, List, [], ◌∷◌, ◌++◌, map, take, drop, length, Option, Some, None, refl, sym, ap, ◌∙◌, subst, inl, inr, ◌⊎◌, is_some, arith}
+use Rattle.std.proofs.Common.{◌≡◌, ◌≢◌, ℕ, zero, suc, ◌+◌, ◌&&◌, nat_lt, nat_le, Bool, true, false, cond, List, [], ◌∷◌, map, take, drop, length, Option, Some, None, refl, sym, ap, ◌∙◌, subst, inl, inr, ◌⊎◌, is_some, arith}
 use Rattle.std.specs.Prelude.{filter}
 use Rattle.std.specs.Option.{IfSome, option_map, option_and_then}
 use Rattle.std.specs.List.{AllByRecursion, cons_option, slice_get, slice_set}
 use Rattle.st_ids.specs.Listing.{Has}
 use Rattle.st_ids.specs.Order.{same_rev}
 use Rattle.st_ids.specs.declared.names.CellId.{CellId}
-use Rattle.st_ids.specs.declared.names.LimitOf.TheVariants.{Clients}
 use Rattle.st_ids.specs.declared.names.NodeId.{NodeId}
 use Rattle.st_ids.specs.declared.names.Rev.{Rev}
 use Rattle.st_marks.specs.declared.intents.Intent.{Intent}
@@ -14,18 +13,17 @@ use Rattle.st_marks.specs.declared.intents.Owned.{Owned}
 use Rattle.st_marks.specs.declared.intents.Put.{Put}
 use Rattle.st_marks.specs.declared.places.Slot.{Slot}
 use Rattle.st_marks.specs.declared.places.Spot.{Spot}
-use Rattle.st_marks.specs.Document.{Document, root, opening, is_cell, slot, content}
+use Rattle.st_marks.specs.Document.{Document, root, opening, slot}
 use Rattle.st_marks.specs.Intent.{register_of}
 use Rattle.st_marks.specs.CarryOut.{full}
 use Rattle.st_marks.specs.RowEdits.{IsOneRow, IsRowEdit}
 use Rattle.st_marks.specs.Run.{Run, run_whole}
 use Rattle.st_marks.proofs.RowEdits.{one_row_after, run_of_row_edits}
-use Rattle.st_doc.specs.Opening.{opening_row, is_opening, opening_cell}
-use Rattle.st_doc.specs.Shown.{live_slots}
-use Rattle.sharedtree.specs.Intents.{node, cell, new_cells, put_in_cell, put_nowhere, insert_intent, remove_intent}
+use Rattle.st_doc.specs.Opening.{opening_row, is_opening}
+use Rattle.sharedtree.specs.Intents.{node, new_cells, put_in_cell, put_nowhere, insert_intent, remove_intent}
 use Rattle.sharedtree.specs.Log.{commit_of, commits_in}
-use Rattle.sharedtree.specs.NeverVoid.{in_effect, EditsRoot, ClientEditsRoot, AllEditRoot}
-use Rattle.sharedtree.specs.World.{anchor_at, at_client, begun, committed, commits_of, deliver, document, found, insert, is_own, items, join, next, next_of, next_rev, pending_after, place_of, remove, schema_text, sequence, shown, with_client}
+use Rattle.sharedtree.specs.NeverVoid.{EditsRoot, ClientEditsRoot, AllEditRoot}
+use Rattle.sharedtree.specs.World.{anchor_at, at_client, begun, committed, commits_of, deliver, document, insert, is_own, items, join, next, next_of, next_rev, place_of, remove, schema_text, sequence, with_client}
 use Rattle.sharedtree.specs.declared.answer.Answer.{Answer}
 use Rattle.sharedtree.specs.declared.lists.Client.{Client}
 use Rattle.sharedtree.specs.declared.lists.Entry.{Entry}

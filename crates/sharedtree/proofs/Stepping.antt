@@ -1,5 +1,5 @@
 -- The world after a step of one client.
-use Rattle.std.proofs.Common.{◌≡◌, ℕ, zero, suc, ◌+◌, ◌<◌, ◌≤◌, List, [], ◌∷◌, ◌++◌, Option, Some, None, refl, sym, ap, ◌∙◌, arith, length, length-append}
+use Rattle.std.proofs.Common.{◌≡◌, ℕ, zero, suc, ◌+◌, ◌<◌, List, [], ◌∷◌, ◌++◌, Option, Some, None, refl, sym, ap, ◌∙◌, arith, length, length-append}
 use Rattle.std.specs.List.{slice_get, slice_set}
 use Rattle.std.specs.BTreeMap.{BTreeMap}
 use Rattle.std.proofs.Math.ListN.{length-set}
@@ -13,7 +13,7 @@ use Rattle.st_doc.specs.Doc.{document_of}
 use Rattle.st_doc.specs.Opening.{opening_row}
 use Rattle.st_doc.specs.Shown.{live_slots}
 use Rattle.st_doc.specs.declared.doc.Doc.{Doc}
-use Rattle.sharedtree.specs.Kept.{IsKept, IsSound, IsSoundAfter, HasRowEdits}
+use Rattle.sharedtree.specs.Kept.{IsKept, IsSound, IsSoundAfter}
 use Rattle.sharedtree.specs.Known.{AreKnown}
 use Rattle.sharedtree.specs.Log.{entered, commits_in}
 use Rattle.sharedtree.specs.Json.{same_text}

@@ -4,7 +4,6 @@ use Rattle.std.specs.List.{before_first, after_first, position_or_len}
 use Rattle.sharedtree.specs.Json.{read_line}
 use Rattle.sharedtree.specs.Lines.{cut}
 use Rattle.sharedtree.proofs.LineSteps.{cut-step}
-use Rattle.sharedtree.specs.World.{begun}
 use Rattle.sharedtree.specs.declared.lists.Lists.{Lists}
 use Rattle.std.proofs.Math.Seq.{take-append-add}
 use Rattle.std.proofs.lemmas.List.{take-append-le, append-nil}

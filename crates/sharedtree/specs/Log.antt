@@ -1,5 +1,5 @@
 -- The log: its commits, and what its entries say of how much each session had received.
-use Rattle.std.specs.Prelude.{ℕ, ◌+◌, ◌==◌, min, max, List, [], ◌∷◌, ◌++◌, length, take, fold, Option, Some, None, if◌then◌else◌}
+use Rattle.std.specs.Prelude.{ℕ, ◌+◌, ◌==◌, min, max, List, [], ◌∷◌, ◌++◌, length, fold, Option, Some, None, if◌then◌else◌}
 use Rattle.std.specs.List.{filter_map}
 use Rattle.st_marks.specs.declared.intents.Intent.{Intent}
 use Rattle.sharedtree.specs.declared.lists.Body.{Body}

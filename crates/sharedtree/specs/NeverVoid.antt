@@ -1,5 +1,5 @@
 -- The commits of a world edit the root's row, and so none of them is void anywhere.
-use Rattle.std.specs.Prelude.{ℕ, List, [], ◌∷◌, IfSome}
+use Rattle.std.specs.Prelude.{List, [], ◌∷◌, IfSome}
 use Rattle.std.specs.List.{AllByRecursion}
 use Rattle.st_marks.specs.declared.intents.Intent.{Intent}
 use Rattle.st_marks.specs.declared.schemas.SchemaEntry.{SchemaEntry}

@@ -16,7 +16,6 @@ use Rattle.sharedtree.specs.Json.{same_text}
 use Rattle.sharedtree.specs.Log.{commit_of, commits_in, entered, minimum}
 use Rattle.sharedtree.specs.declared.answer.Answer.{Answer}
 use Rattle.sharedtree.specs.declared.answer.Answer.TheVariants as answer
-use Rattle.sharedtree.specs.declared.answer.Refusal.{Refusal}
 use Rattle.sharedtree.specs.declared.answer.Refusal.TheVariants.{Taken, NoClient, Range, NothingToSend, NothingNew, Limit as LimitOver}
 use Rattle.sharedtree.specs.declared.lists.Body.TheVariants.{Join as Joined, Commit}
 use Rattle.sharedtree.specs.declared.lists.Client.{Client}

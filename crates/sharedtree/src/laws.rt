@@ -16,5 +16,4 @@ pub fn no_commit_is_void()
     ensures kept { (w : History) (s : Done) → AllEditRoot w → AllEditRoot (next w s).0 }
     ensures run { (w : History) (c : Present) → AllEditRoot w → Has w.clients c
         → Run (opening_row w.opening schema_text) (commits_of w.log c) (document w.opening w.log c) }
-{
-}
+{}

@@ -1,9 +1,9 @@
 -- The cells of marks that are listed one after another.
-use Rattle.std.proofs.Common.{◌≡◌, ◌+◌, ◌<◌, ◌^◌, min, ℕ, zero, suc, true, false, not, List, [], ◌∷◌, ◌++◌, length, take, get_or, refl, sym, ap, ◌∙◌, arith, length-append, append_assoc}
+use Rattle.std.proofs.Common.{◌≡◌, ◌+◌, ◌<◌, min, ℕ, zero, suc, true, false, not, List, [], ◌∷◌, ◌++◌, length, take, get_or, refl, ap, ◌∙◌, arith, length-append}
 use Rattle.std.proofs.lemmas.List.{take_more, get_or_default}
 use Rattle.st_marks.specs.declared.marks.Mark.{Mark}
 use Rattle.st_marks.specs.Row.{CellMark, Counted, Gap, Touch, Make, Fill, counted, spread}
-use Rattle.st_marks.specs.Listings.{Seen, seen, counted_cell, empty_cell, is_leave, cells_before, cells_after}
+use Rattle.st_marks.specs.Listings.{seen, counted_cell, empty_cell, is_leave, cells_before, cells_after}
 
 counted-append : (k : ℕ) (xs ys : List CellMark) → counted k (xs ++ ys) ≡ counted k xs ++ ys
 counted-append zero xs ys = refl

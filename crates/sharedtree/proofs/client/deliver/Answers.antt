@@ -2,10 +2,9 @@ use Rattle.std.proofs.Common.{◌≡◌, [], Some, List, ◌∷◌, length, take
 use Rattle.std.specs.List.{slice_get}
 use Rattle.std.proofs.lemmas.Bool.Decides.{nat_tests}
 use Rattle.st_marks.specs.Run.{run_whole}
-use Rattle.st_doc.specs.Doc.{document_of}
 use Rattle.st_doc.specs.Opening.{opening_row}
 use Rattle.sharedtree.specs.Log.{commits_in}
-use Rattle.sharedtree.specs.World.{schema_text, document, taken}
+use Rattle.sharedtree.specs.World.{schema_text}
 use Rattle.sharedtree.proofs.Keeping.{shown_last, shown_joined, shown_anew}
 use Rattle.sharedtree.proofs.client.deliver.Goals as goal
 use Rattle.sharedtree.proofs.client.deliver.Goals.{in-Commit+then-is_last+in_ok-carry, in-Commit+else-is_last+in_ok-doc, in_default-body}

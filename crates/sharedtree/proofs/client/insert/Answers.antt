@@ -1,5 +1,4 @@
 use Rattle.st_doc.specs.Edits.{EditsRows}
-use Rattle.std.proofs.Common.{sym, subst}
 use Rattle.sharedtree.proofs.Keeping.{kept_committed}
 use Rattle.sharedtree.proofs.RowEdits.{insert_edits_rows}
 use Rattle.sharedtree.proofs.client.insert.Goals as goal

@@ -1,5 +1,5 @@
 -- the leaves so far, and then those of the texts that are left
-use Rattle.std.proofs.Common.{◌≡◌, ◌++◌, drop, length}
+use Rattle.std.proofs.Common.{◌≡◌, ◌++◌, drop}
 use Rattle.sharedtree.specs.Intents.{new_texts}
 use Rattle.sharedtree.proofs.intents.new_texts.Given as goal
 

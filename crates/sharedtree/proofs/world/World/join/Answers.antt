@@ -1,5 +1,4 @@
-use Rattle.std.proofs.Common.{◌≡◌, ◌++◌, ◌∷◌, [], ◌<◌, length, sym, ap, ◌∙◌, arith}
-use Rattle.std.proofs.lemmas.Bool.Decides.{nat_tests}
+use Rattle.std.proofs.Common.{◌<◌, length, arith}
 use Rattle.sharedtree.proofs.Stepping.{sound_later, sound_joined}
 use Rattle.sharedtree.proofs.world.World.join.Goals as goal
 

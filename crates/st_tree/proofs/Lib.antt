@@ -1,0 +1,5 @@
+pub mod Back
+pub mod Cells
+pub mod Inverse
+pub mod Views
+pub mod Waits

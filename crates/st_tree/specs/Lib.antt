@@ -1,0 +1,5 @@
+pub mod Form
+pub mod Node
+pub mod Preorder
+pub mod Rebuilt
+pub mod Size
