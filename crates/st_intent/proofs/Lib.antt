@@ -1,0 +1,4 @@
+pub mod Tells
+pub mod Ends
+pub mod Scans
+pub mod Obeyed
