@@ -1,5 +1,9 @@
 pub mod Forms
 pub mod Known
+pub mod MoreTrees
 pub mod Plain
 pub mod Putting
+pub mod Single
 pub mod Steps
+pub mod Walking
+pub mod Widening

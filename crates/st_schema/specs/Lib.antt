@@ -1,3 +1,5 @@
+pub mod Conforms
 pub mod Reading
 pub mod Schema
+pub mod Wider
 pub mod Written

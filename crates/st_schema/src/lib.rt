@@ -1,6 +1,7 @@
 //! Schemas, the trees that they allow, and the texts of both.
 #![tactic(auto)]
 
+mod allows;
 mod copied;
 mod names;
 mod read;
@@ -8,6 +9,8 @@ mod rules;
 mod schema;
 mod table;
 mod text;
+mod upgrade;
 
 pub use names::{FieldDef, FieldRule, Form, KindName, NotAllowed, NotWider};
 pub use schema::Schema;
+pub use upgrade::{wider, wider_allows_more};

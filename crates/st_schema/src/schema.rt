@@ -48,7 +48,7 @@ fn form_in<'a>(types: &'a IndexMap<Text, Form>, ty: &Text) -> Option<&'a Form>
 }
 
 // What an object type declares under a key.
-fn declared<'a>(fields: &'a List<FieldDef>, key: &Key) -> Option<&'a FieldDef>
+pub(crate) fn declared<'a>(fields: &'a List<FieldDef>, key: &Key) -> Option<&'a FieldDef>
     ensures { option_copied result ≡ declared fields.now key.now.0 }
 {
     fields.as_slice().iter().find(|field| field.key == *key)

@@ -14,11 +14,7 @@ pub(crate) type Definition = (Text, Form);
 
 // Puts a definition at the end, unless its name is taken. Says whether it was.
 #[tactic(auto, using(crate::proofs::Known::put_new))]
-fn is_taken(
-    types: &mut IndexMap<Text, Form>,
-    name: Text,
-    form: Form,
-) -> Result<bool, AllocError>
+fn is_taken(types: &mut IndexMap<Text, Form>, name: Text, form: Form) -> Result<bool, AllocError>
     ensures taken { IfOk result (λ b. b ≡ is_some (form_of types.old.entries name)) }
     ensures put { IfOk result (λ b. b ≡ false → types.new.entries ≡ types.old.entries ++ (name, form) ∷ []) }
 {
