@@ -1,5 +1,7 @@
 pub mod Forms
+pub mod Keyed
 pub mod Known
+pub mod Leaves
 pub mod MoreTrees
 pub mod Plain
 pub mod Putting

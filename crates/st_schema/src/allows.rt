@@ -15,7 +15,7 @@ use st_ids::{Key, Leaf, List, Text};
 use st_tree::{Field, Tree};
 
 // The type of a leaf with this value.
-fn leaf_type(leaf: &Leaf) -> &'static str
+pub(crate) fn leaf_type(leaf: &Leaf) -> &'static str
     ensures { result.now ≡ leaf_type leaf.now }
 {
     match leaf {
