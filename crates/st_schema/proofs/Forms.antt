@@ -116,9 +116,10 @@ field_back key d f h =
     let made : KindName → List (List ℕ) → FieldDef = λ kind types. record { key = record { 0 = key }; kind = kind; types = types } in
     let p = and_then_some (λ (p : Data × Data). option_and_then (λ kind. option_map (made kind) (texts_of p.1)) (kind_of p.0)) (two_items d) f h in
     let k = and_then_some (λ kind. option_map (made kind) (texts_of p.0.1)) (kind_of p.0.0) f p.2 in
-    let ts = map_some (made k.0) (texts_of p.0.1) f k.2 in
-    (ap (λ (g : FieldDef). g.key.0) ts.2,
-      two_back d p.0.0 p.0.1 p.1 ∙ (λ i. array (item (kind_back p.0.0 k.0 k.1 i) (item (texts_back p.0.1 ts.0 ts.1 i) no_items))) ∙ ap field_data ts.2)
+    let ts = map_some (made k.0) (texts_of p.0.1) f k.2 in (
+      ap (λ (g : FieldDef). g.key.0) ts.2,
+      two_back d p.0.0 p.0.1 p.1 ∙ (λ i. array (item (kind_back p.0.0 k.0 k.1 i) (item (texts_back p.0.1 ts.0 ts.1 i) no_items))) ∙ ap field_data ts.2,
+    )
 
 fields_in_back : (ms : Members) (fs : List FieldDef) → fields_of_members ms ≡ Some fs → ms ≡ fields_data fs
 fields_in_back no_members fs h = let e : [] ≡ fs = cc in ap fields_data e
@@ -167,12 +168,12 @@ definition_back d x h =
     let of_object = first_of (pair_of (codes "name") (codes "object") d) object_of None in
     let of_map = first_of (pair_of (codes "map") (codes "name") d) map_of of_object in
     elim (first_cases (pair_of (codes "array") (codes "name") d) array_of of_map x h) [
-      inl a ↦ array_form d a.0 x a.1 a.2
-    | inr m ↦ elim (first_cases (pair_of (codes "map") (codes "name") d) map_of of_object x m) [
-        inl a ↦ map_form d a.0 x a.1 a.2
-      | inr o ↦ elim (first_cases (pair_of (codes "name") (codes "object") d) object_of None x o) [
-          inl a ↦ object_form d a.0 x a.1 a.2
-        | inr n ↦ absurd (cc)
+      | inl a ↦ array_form d a.0 x a.1 a.2
+      | inr m ↦ elim (first_cases (pair_of (codes "map") (codes "name") d) map_of of_object x m) [
+        | inl a ↦ map_form d a.0 x a.1 a.2
+        | inr o ↦ elim (first_cases (pair_of (codes "name") (codes "object") d) object_of None x o) [
+          | inl a ↦ object_form d a.0 x a.1 a.2
+          | inr n ↦ absurd (cc)
         ]
       ]
     ]

@@ -1,5 +1,11 @@
 pub mod Forms
+pub mod Keyed
 pub mod Known
+pub mod Leaves
+pub mod MoreTrees
 pub mod Plain
 pub mod Putting
+pub mod Single
 pub mod Steps
+pub mod Walking
+pub mod Widening

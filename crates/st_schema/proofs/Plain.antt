@@ -1,11 +1,11 @@
 -- The form of a schema has no floating-point number, and nests little.
-use Rattle.std.proofs.Common.{◌≡◌, ℕ, ◌≤◌, Bool, true, false, ◌&&◌, List, [], ◌∷◌, map, refl, ap, arith}
+use Rattle.std.proofs.Common.{◌≡◌, ℕ, ◌≤◌, Bool, true, false, ◌&&◌, List, [], ◌∷◌, map, refl, ap, arith, nat_le, length}
 use Rattle.std.specs.List.{list_all}
 use Rattle.serde_json.specs.Data.{string, depth, items_depth, members_depth}
 use Rattle.serde_json.specs.Read.{max_depth}
 use Rattle.serde_json.specs.Written.{has_float, items_have_float, members_have_float}
 use Rattle.serde_json.specs.View.{items_of}
-use Rattle.st_schema.specs.Schema.{SchemaView, type_names, names_are_sound, forms_are_sound, list_is_sound, form_is_sound, field_is_sound, form_rises, defs_rise, is_sound}
+use Rattle.st_schema.specs.Schema.{SchemaView, is_distinct, type_names, names_are_sound, forms_are_sound, list_is_sound, form_is_sound, field_is_sound, form_rises, defs_rise, is_sound}
 use Rattle.st_schema.specs.Written.{names_data, fields_data, form_data, definition_data, schema_data}
 use Rattle.st_schema.specs.declared.names.FieldDef.{FieldDef}
 use Rattle.st_schema.specs.declared.names.Form.{Form}
@@ -74,3 +74,6 @@ forms_in_order names (d ∷ ds) h =
 
 pub sound_rises : (s : SchemaView) → is_sound s ≡ true → list_all (λ (d : List ℕ × Form). form_rises d.1) s.types ≡ true
 sound_rises s h = forms_in_order (type_names s.types) s.types (both (forms_are_sound s.types) (list_is_sound (type_names s.types) s.root) (both (names_are_sound (type_names s.types)) _ h).1).0
+
+pub sound_distinct : (s : SchemaView) → is_sound s ≡ true → is_distinct (type_names s.types) ≡ true
+sound_distinct s h = (both (is_distinct (type_names s.types)) _ (both (nat_le (length (type_names s.types)) 256) _ (both (names_are_sound (type_names s.types)) _ h).0).1).0

@@ -1,3 +1,6 @@
+pub mod Conforms
 pub mod Reading
 pub mod Schema
+pub mod TreeText
+pub mod Wider
 pub mod Written

@@ -1,6 +1,7 @@
 //! Schemas, the trees that they allow, and the texts of both.
 #![tactic(auto)]
 
+mod allows;
 mod copied;
 mod names;
 mod read;
@@ -8,6 +9,10 @@ mod rules;
 mod schema;
 mod table;
 mod text;
+mod tree_text;
+mod upgrade;
 
 pub use names::{FieldDef, FieldRule, Form, KindName, NotAllowed, NotWider};
 pub use schema::Schema;
+pub use tree_text::read_tree;
+pub use upgrade::{wider, wider_allows_more};

@@ -91,7 +91,10 @@ fn keys_rise(fields: &List<FieldDef>) -> bool
 fn fields_are_sound(types: &IndexMap<Text, Form>, fields: &List<FieldDef>) -> bool
     ensures { result ≡ list_all (field_is_sound (type_names types.now.entries)) fields.now }
 {
-    fields.as_slice().iter().all(|field| field_is_sound(types, field))
+    fields
+        .as_slice()
+        .iter()
+        .all(|field| field_is_sound(types, field))
 }
 
 // Whether a definition keeps the rules.

@@ -6,7 +6,7 @@ ghost use Rattle.st_ids.specs.Or.{IfRefused};
 
 use crate::names::{FieldDef, FieldRule, Form, KindName};
 use crate::rules::{is_key, list_is_sound, table_is_sound};
-use crate::table::{Definition, table_of};
+use crate::table::{Definition, copy_table, table_of};
 use indexmap::IndexMap;
 use st_ids::{Copied, Key, List, Or, Text};
 use st_json::Shape;
@@ -48,7 +48,7 @@ fn form_in<'a>(types: &'a IndexMap<Text, Form>, ty: &Text) -> Option<&'a Form>
 }
 
 // What an object type declares under a key.
-fn declared<'a>(fields: &'a List<FieldDef>, key: &Key) -> Option<&'a FieldDef>
+pub(crate) fn declared<'a>(fields: &'a List<FieldDef>, key: &Key) -> Option<&'a FieldDef>
     ensures { option_copied result ≡ declared fields.now key.now.0 }
 {
     fields.as_slice().iter().find(|field| field.key == *key)
@@ -166,5 +166,14 @@ impl Schema {
         ensures { IsTrue (is_sound self.now) }
     {
         let _ = &self.root;
+    }
+}
+
+#[tactic(auto, using(crate::proofs::Plain::sound_distinct))]
+impl Copied for Schema {
+    fn copy(&self, alloc: Global) -> Result<Self, AllocError> {
+        let root = self.root.copy(alloc)?;
+        let types = copy_table(alloc, &self.types)?;
+        Ok(Schema { root, types })
     }
 }

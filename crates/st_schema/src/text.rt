@@ -60,11 +60,7 @@ fn fields_value(alloc: Global, fields: &List<FieldDef>) -> Result<Value, AllocEr
 }
 
 // A definition.
-fn definition_value(
-    alloc: Global,
-    name: &Text,
-    form: &Form,
-) -> Result<Value, AllocError>
+fn definition_value(alloc: Global, name: &Text, form: &Form) -> Result<Value, AllocError>
     requires { form_rises form.now ≡ true }
     ensures { IfOk result (λ v. view v ≡ form_data name.now form.now) }
 {
@@ -86,10 +82,7 @@ fn definition_value(
 }
 
 // The definitions of a table.
-fn definitions_value(
-    alloc: Global,
-    types: &IndexMap<Text, Form>,
-) -> Result<Value, AllocError>
+fn definitions_value(alloc: Global, types: &IndexMap<Text, Form>) -> Result<Value, AllocError>
     requires { list_all (λ d. form_rises d.1) types.now.entries ≡ true }
     ensures { IfOk result (λ v. view v ≡ array (items_of (map definition_data types.now.entries))) }
 {

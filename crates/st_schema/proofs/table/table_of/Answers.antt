@@ -6,7 +6,7 @@ use Rattle.st_schema.proofs.table.table_of.Goals as goal
 pub returns-then-branch-clause-bad : goal.returns-then-branch-clause-bad
 returns-then-branch-clause-bad c =
     taken_again c.loop-name.types.entries (into_iter_items c.loop-name.name-iterator) (into_iter_items c.next.new.self) c.args.definitions c.in-Some.name c.in-Some.form
-        c.loop-name.invariant.all c.in-Some.ensures.steps.0 (sym c.in_ok-is_taken.ensures.taken ∙ c.if-branch.true)
+    c.loop-name.invariant.all c.in-Some.ensures.steps.0 (sym c.in_ok-is_taken.ensures.taken ∙ c.if-branch.true)
 
 pub loop-name-preserved : goal.loop-name-preserved
 loop-name-preserved c =
