@@ -150,7 +150,7 @@ fit_kept (Object olds) (Object news) fields wide h =
     let rules = both (have_rules (Object olds) fields) (required_there olds fields) parts.1 in
     let widens = both (list_all (λ (old : FieldDef). is_some (declared news old.key.0)) olds) (list_all (def_widens olds) news) wide in
     join (keys_rise [] fields) _ parts.0 (join (have_rules (Object news) fields) _
-        (rules_kept (Object olds) (Object news) fields (λ key k. object_rule olds news key wide k) rules.0) (required_kept olds fields news widens.1 rules.1))
+    (rules_kept (Object olds) (Object news) fields (λ key k. object_rule olds news key wide k) rules.0) (required_kept olds fields news widens.1 rules.1))
 
 -- ---- what a field may hold
 
@@ -211,9 +211,10 @@ module _ (old new : SchemaView) (wide : list_all (λ ok. ok) (types_widen old.ty
       → (is_as_typed (form_of new.types ty) ty None fields ≡ true) × (list_all (λ ok. ok) (fields_verdicts new (form_of new.types ty) fields) ≡ true)
   node_kept ty fields None is fits below keep = absurd (cc)
   node_kept ty fields (Some f) is fits below keep =
-      let g = form_found old.types new.types ty f wide is in
-      (ap (λ o. is_as_typed o ty None fields) g.1 ∙ fit_kept f g.0 fields g.2 fits,
-        ap (λ o. list_all (λ ok. ok) (fields_verdicts new o fields)) g.1 ∙ keep f g.0 g.2 below)
+      let g = form_found old.types new.types ty f wide is in (
+        ap (λ o. is_as_typed o ty None fields) g.1 ∙ fit_kept f g.0 fields g.2 fits,
+        ap (λ o. list_all (λ ok. ok) (fields_verdicts new o fields)) g.1 ∙ keep f g.0 g.2 below,
+      )
 
   mutual
     tree_kept : (t : Node) (was is : List (List ℕ)) → contains_all is was ≡ true → conforms old was t ≡ true → conforms new is t ≡ true
@@ -234,7 +235,7 @@ module _ (old new : SchemaView) (wide : list_all (λ ok. ok) (types_widen old.ty
     fields_kept f g (field key row items rest) widens h =
         let parts = all-parts (items_verdicts old (types_under (Some f) key) items) (fields_verdicts old (Some f) rest) h in
         all-append (items_verdicts new (types_under (Some g) key) items) (fields_verdicts new (Some g) rest)
-            (items_kept items (types_under (Some f) key) (types_under (Some g) key) (types_kept f g key widens) parts.0) (fields_kept f g rest widens parts.1)
+        (items_kept items (types_under (Some f) key) (types_under (Some g) key) (types_kept f g key widens) parts.0) (fields_kept f g rest widens parts.1)
 
     items_kept : (ts : Nodes) (was is : List (List ℕ)) → contains_all is was ≡ true → list_all (λ ok. ok) (items_verdicts old was ts) ≡ true → list_all (λ ok. ok) (items_verdicts new is ts) ≡ true
     items_kept no_nodes was is more h = refl

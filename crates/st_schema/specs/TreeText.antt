@@ -1,12 +1,13 @@
 -- The JSON form of a tree: a leaf is a null, a truth value, a whole number or a text; another node is an object with one
 -- member, its type's name, which holds an array of trees for an array node, and else an object from keys to trees.
-use Rattle.std.specs.Prelude.{ℕ, ◌-◌, List, [], ◌∷◌, length, is_ok, Bool, true, false, nat_le, Option, None, Some, option_map, option_and_then, if◌then◌else◌}
+use Rattle.std.specs.Prelude.{ℕ, ◌-◌, List, [], ◌∷◌, length, is_ok, Bool, true, false, ◌&&◌, nat_le, is_some, Option, None, Some, option_map, option_and_then, if◌then◌else◌}
 use Rattle.st_ids.specs.declared.names.Leaf.{Leaf}
 use Rattle.st_ids.specs.declared.names.Leaf.TheVariants as leaf
 use Rattle.serde_json.specs.Data.{Data, null, boolean, number, string, array, object, Items, no_items, item, Members, no_members, member}
 use Rattle.serde_json.specs.Find.{as_i64, of_integer}
 use Rattle.st_tree.specs.Node.{Node, node, Fields, no_fields, field, Nodes, no_nodes, first, FieldNode, nodes_of, fields_of}
 use Rattle.st_tree.specs.Size.{check_of}
+use Rattle.st_schema.specs.Schema.{same}
 use Rattle.st_schema.specs.Conforms.{leaf_type}
 
 abbrev pub leaf_data : Leaf → Data
@@ -99,3 +100,26 @@ within_limits t = if is_ok (check_of t) then Some t else None
 -- the tree that a value shows, within the limits of trees
 abbrev pub tree_of : Data → Option Node
 tree_of d = option_and_then within_limits (tree_in d 48)
+
+-- ---- what the form of a tree has to be, so that it is read as that tree
+
+-- a whole number of 64 bits
+abbrev pub leaf_fits : Leaf → Bool
+leaf_fits leaf.Null = true
+leaf_fits (leaf.Bool b) = true
+leaf_fits (leaf.Int n) = is_some (as_i64 (of_integer n))
+leaf_fits (leaf.Words w) = true
+
+-- each leaf has the type of its value, and each key at most 64 bytes
+abbrev mutual
+  pub is_typed : Node → Bool
+  is_typed (node ty (Some v) fs) = same ty (leaf_type v) && (leaf_fits v && fields_typed fs)
+  is_typed (node ty None fs) = fields_typed fs
+
+  pub fields_typed : Fields → Bool
+  fields_typed no_fields = true
+  fields_typed (field key row items rest) = nat_le (length key) 64 && (all_typed items && fields_typed rest)
+
+  pub all_typed : Nodes → Bool
+  all_typed no_nodes = true
+  all_typed (first t ts) = is_typed t && all_typed ts

@@ -3,15 +3,19 @@
 
 mod allows;
 mod copied;
+mod header;
 mod names;
 mod read;
 mod rules;
 mod schema;
 mod table;
+#[cfg(test)]
+mod tests;
 mod text;
 mod tree_text;
 mod upgrade;
 
+pub use header::Header;
 pub use names::{FieldDef, FieldRule, Form, KindName, NotAllowed, NotWider};
 pub use schema::Schema;
 pub use tree_text::read_tree;

@@ -92,11 +92,7 @@ fn read_at(alloc: Global, value: &Value, levels: u32) -> Result<Tree, Or<Shape>>
 
 // The node of an object with one member.
 #[cycle(reading)]
-fn read_node(
-    alloc: Global,
-    members: &Map<String, Value>,
-    levels: u32,
-) -> Result<Tree, Or<Shape>>
+fn read_node(alloc: Global, members: &Map<String, Value>, levels: u32) -> Result<Tree, Or<Shape>>
     ensures ok { IfOk result (λ t. node_in (members_view members.now.entries) levels ≡ Some (view t)) }
     ensures bad { IfRefused result (λ _. node_in (members_view members.now.entries) levels ≡ None) }
 {
