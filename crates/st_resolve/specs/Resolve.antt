@@ -220,9 +220,9 @@ remove D s G at key index count =
     Ok (removed D G ns))))
 
 -- the target's index is there, the target isn't inside a moved node, its field allows them, and names are left for cells
-abbrev pub may_move : Document → Given → FieldId → FieldRule → List Place → ℕ → ℕ → List NodeId → Result (Unit {0}) EditFault
-may_move D G f target to to_index count ns =
-    and_then (ask (is_there D f.node target.kind to_index count) Range) (λ _.
+abbrev pub may_move : Document → Given → NodeId → FieldRule → List Place → ℕ → ℕ → List NodeId → Result (Unit {0}) EditFault
+may_move D G m target to to_index count ns =
+    and_then (ask (is_there D m target.kind to_index count) Range) (λ _.
     and_then (ask (not (is_inside D to ns)) Inside) (λ _.
     and_then (nodes_allowed D target ns) (λ _.
     names_left G (cells_taken target.kind ns))))
@@ -230,7 +230,7 @@ may_move D G f target to to_index count ns =
 -- the nodes of a move go to a place that is found
 abbrev pub move_to : Document → Given → FieldId → FieldRule → List Place → ℕ → ℕ → List NodeId → Result Intent EditFault
 move_to D G f target to to_index count ns =
-    and_then (may_move D G f target to to_index count ns) (λ _.
+    and_then (may_move D G f.node target to to_index count ns) (λ _.
     Ok (moved D G f target.kind to_index ns))
 
 -- items of a row, or the one of an optional field, go to a row or an optional field

@@ -121,7 +121,10 @@ fn puts_nowhere(alloc: Global, nodes: &[NodeId]) -> Result<List<Put>, AllocError
     let mut puts = List::new(alloc);
     for node in nodes {
         let node = *node;
-        puts.push(Put { node, to: To::Nowhere })?;
+        puts.push(Put {
+            node,
+            to: To::Nowhere,
+        })?;
     }
     Ok(puts)
 }
@@ -154,7 +157,10 @@ fn puts_in(alloc: Global, cells: &[Owned]) -> Result<List<Put>, AllocError>
     let mut puts = List::new(alloc);
     for owned in cells {
         let node = owned.node;
-        puts.push(Put { node, to: To::Cell(owned.cell) })?;
+        puts.push(Put {
+            node,
+            to: To::Cell(owned.cell),
+        })?;
     }
     Ok(puts)
 }

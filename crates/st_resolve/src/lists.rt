@@ -131,11 +131,7 @@ pub fn is_same_node(a: NodeId, b: NodeId) -> bool
 }
 
 // The cells of a new node's row.
-fn cells_under(
-    alloc: Global,
-    nodes: &[FlatNode],
-    node: NodeId,
-) -> Result<List<Owned>, AllocError>
+fn cells_under(alloc: Global, nodes: &[FlatNode], node: NodeId) -> Result<List<Owned>, AllocError>
     ensures { IfOk result (λ r. r ≡ cells_under nodes.now node) }
 {
     let mut cells = List::new(alloc);

@@ -41,6 +41,7 @@ pub fn items_from(
 ) -> Result<List<NodeId>, Or<EditFault>>
     ensures ok { IfOk result (λ ns. within_row (document_of doc.now) node index count ≡ Ok ns) }
     ensures bad { IfRefused result (λ e. within_row (document_of doc.now) node index count ≡ Err e) }
+    ensures few { IfOk result (λ ns. length ns ≡ count) }
 {
     let slots = doc.live_slots(alloc, node)?;
     let first = index as usize;
@@ -61,6 +62,7 @@ fn occupant(
 ) -> Result<List<NodeId>, Or<EditFault>>
     ensures ok { IfOk result (λ ns. taken (document_of doc.now) field.now Kinds.Optional index count ≡ Ok ns) }
     ensures bad { IfRefused result (λ e. taken (document_of doc.now) field.now Kinds.Optional index count ≡ Err e) }
+    ensures few { IfOk result (λ ns. length ns ≡ count) }
 {
     if index != 0 || count != 1 {
         return Err(Or::Fault(EditFault::Range));
@@ -84,6 +86,7 @@ pub fn taken(
 ) -> Result<List<NodeId>, Or<EditFault>>
     ensures ok { IfOk result (λ ns. taken (document_of doc.now) field.now kind index count ≡ Ok ns) }
     ensures bad { IfRefused result (λ e. taken (document_of doc.now) field.now kind index count ≡ Err e) }
+    ensures few { IfOk result (λ ns. length ns ≡ count) }
 {
     match kind {
         KindName::Required => Err(Or::Fault(EditFault::Kind)),
@@ -145,7 +148,7 @@ pub fn moved(
     index: u32,
     nodes: &[NodeId],
 ) -> Result<Intent, AllocError>
-    requires { given.cells + length nodes.now < 2 ^ 32 }
+    requires { given.cells + cells_taken kind nodes.now < 2 ^ 32 }
     ensures { IfOk result (λ i. i ≡ moved (document_of doc.now) given field kind index nodes.now) }
 {
     match kind {

@@ -84,11 +84,7 @@ pub fn ask(holds: bool, fault: EditFault) -> Result<(), EditFault>
 }
 
 /// Nothing, where each node of the new trees is allowed where it comes.
-pub fn trees_allowed(
-    schema: &Schema,
-    rule: &FieldRule,
-    trees: &List<Tree>,
-) -> Result<(), EditFault>
+pub fn trees_allowed(schema: &Schema, rule: &FieldRule, trees: &List<Tree>) -> Result<(), EditFault>
     requires { item_count (trees_view trees.now) < 2 ^ 32 }
     ensures { result ≡ trees_allowed schema.now rule.now (trees_view trees.now) }
 {
@@ -109,11 +105,7 @@ fn has_type(doc: &Doc, types: &[Text], node: NodeId) -> bool
 }
 
 /// Nothing, where each moved node is allowed where it comes.
-pub fn nodes_allowed(
-    doc: &Doc,
-    rule: &FieldRule,
-    nodes: &[NodeId],
-) -> Result<(), EditFault>
+pub fn nodes_allowed(doc: &Doc, rule: &FieldRule, nodes: &[NodeId]) -> Result<(), EditFault>
     requires { length nodes.now < 2 ^ 32 }
     ensures { result ≡ nodes_allowed (document_of doc.now) rule.now nodes.now }
 {
