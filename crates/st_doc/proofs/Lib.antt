@@ -8,3 +8,4 @@ pub mod Placing
 pub mod Showing
 pub mod Verdicts
 pub mod OneDocument
+pub mod Queries

@@ -9,6 +9,7 @@ mod live;
 mod maps;
 mod names;
 mod opening;
+mod query;
 mod registers;
 mod rows;
 mod same;
