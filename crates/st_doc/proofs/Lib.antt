@@ -2,8 +2,10 @@ pub mod Look
 pub mod Carrying
 pub mod Climbing
 pub mod Evicting
+pub mod Fitting
 pub mod Growing
 pub mod Opened
+pub mod OpeningSound
 pub mod Placing
 pub mod Showing
 pub mod Verdicts

@@ -5,13 +5,14 @@ mod carry;
 mod climb;
 mod doc;
 mod evictions;
+mod fits;
+mod laws;
 mod live;
 mod maps;
 mod names;
 mod opening;
 mod registers;
 mod rows;
-mod same;
 mod show;
 mod targets;
 #[cfg(test)]
@@ -19,3 +20,4 @@ mod tests;
 mod verdict;
 
 pub use doc::Doc;
+pub use laws::opening_is_sound;
