@@ -1,5 +1,5 @@
 -- Registers that are left, cleared and filled, one by one.
-use Rattle.std.proofs.Common.{◌≡◌, ◌↔◌, ℕ, ◌+◌, ◌-◌, ◌<◌, ◌≤◌, Bool, true, false, cond, ◌&&◌, ◌||◌, List, [], ◌∷◌, length, take, drop, get_or, Option, Some, None, refl, sym, ap, ◌∙◌, arith, option_map, unwrap_or}
+use Rattle.std.proofs.Common.{◌≡◌, ◌↔◌, ℕ, ◌+◌, ◌<◌, Bool, true, false, cond, ◌&&◌, ◌||◌, List, ◌∷◌, length, take, drop, get_or, Option, Some, None, refl, sym, ap, ◌∙◌, option_map}
 use Rattle.std.specs.declared.cmp.Ordering.{Ordering}
 use Rattle.std.specs.declared.cmp.Ordering.TheVariants.{Less, Equal, Greater}
 use Rattle.std.specs.Ordering.{is_eq, ordering_reverse}
@@ -9,7 +9,6 @@ use Rattle.st_ids.specs.Order.{same_node, same_field, field_cmp}
 use Rattle.st_ids.specs.declared.names.FieldId.{FieldId}
 use Rattle.st_ids.specs.declared.names.NodeId.{NodeId}
 use Rattle.st_ids.proofs.Orders.{same_node-true, same_node-itself, same_field-true, same_field-itself, field_cmp_total}
-use Rattle.st_marks.specs.declared.changes.NewNode.{NewNode}
 use Rattle.st_marks.specs.declared.intents.Intent.{Intent}
 use Rattle.st_marks.specs.declared.intents.Put.{Put}
 use Rattle.st_marks.specs.declared.intents.To.{To}

@@ -1,6 +1,6 @@
 -- The tests tell whether an intent fits a document.
-use Rattle.std.proofs.Common.{◌≡◌, ◌≢◌, ℕ, Bool, true, false, not, ◌&&◌, ◌||◌, List, Option, Some, None, IsSome, IfSome, IsTrue, is_some, refl, sym, ap, ◌∙◌, subst, ◌⊎◌}
-use Rattle.std.specs.List.{list_any, list_all, AllByRecursion, flat_map}
+use Rattle.std.proofs.Common.{◌≡◌, ◌≢◌, ℕ, Bool, true, not, ◌&&◌, List, Option, Some, None, IsSome, IfSome, IsTrue, is_some, refl, sym, ap, ◌∙◌, subst}
+use Rattle.std.specs.List.{list_any, AllByRecursion}
 use Rattle.st_ids.specs.Listing.{Has}
 use Rattle.st_ids.specs.Order.{same_rev, same_node, same_cell}
 use Rattle.st_ids.specs.declared.names.CellId.{CellId}
@@ -21,7 +21,7 @@ use Rattle.st_marks.proofs.Members.{any-has, has-any, all-has, has-all, has-flat
 use Rattle.st_intent.proofs.Obeyed.{one_rev, made_is}
 use Rattle.st_intent.proofs.Scans.{is_new-listed}
 use Rattle.st_intent.proofs.Tells.{Tells, tells_both, tells_either, tells_not, tells_as, tells_all, tells_parts}
-use Rattle.st_doc.specs.Fitting.{nodes_fresh, cells_fresh, schema_fresh, is_known, is_that, anchor_known, group_known, owners_known, has_owned, owns_old, owns_new, owns, target_known, put_known, names_fresh, names_known, names_fit}
+use Rattle.st_doc.specs.Fitting.{nodes_fresh, cells_fresh, schema_fresh, is_known, is_that, anchor_known, group_known, has_owned, owns_old, owns_new, owns, target_known, put_known, names_fresh, names_known, names_fit}
 
 is_none_tells : {A : Type 0} (o : Option A) → Tells (not (is_some o)) (o ≡ None)
 is_none_tells None = (λ e. refl, λ e. refl)

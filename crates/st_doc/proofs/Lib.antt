@@ -8,5 +8,7 @@ pub mod Opened
 pub mod OpeningSound
 pub mod Placing
 pub mod Showing
+pub mod Starting
+pub mod StartSound
 pub mod Verdicts
 pub mod OneDocument

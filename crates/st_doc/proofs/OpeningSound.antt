@@ -1,6 +1,6 @@
 -- The opening document of a row of texts is sound in form.
-use Rattle.std.proofs.Common.{◌≡◌, ◌≢◌, ◌↔◌, ℕ, zero, suc, ◌+◌, ◌-◌, ◌<◌, ◌≤◌, ◌^◌, ◌&&◌, nat_lt, nat_le, Bool, true, false, cond, List, [], ◌∷◌, length, map, Option, Some, None, IsSome, is_some, option_map, option_and_then, refl, sym, ap, ◌∙◌, subst, arith, ◌⊎◌, inl, inr, lit<}
-use Rattle.std.specs.List.{range_with_len, slice_get, AllByRecursion}
+use Rattle.std.proofs.Common.{◌≡◌, ◌≢◌, ℕ, zero, suc, ◌+◌, ◌-◌, ◌<◌, ◌≤◌, ◌^◌, ◌&&◌, nat_lt, nat_le, Bool, true, false, cond, List, [], length, map, Some, None, IsSome, is_some, option_map, option_and_then, refl, sym, ap, ◌∙◌, subst, arith, ◌⊎◌, inl, inr, lit<}
+use Rattle.std.specs.List.{range_with_len, slice_get}
 use Rattle.std.proofs.lemmas.Bool.{cases_lt}
 use Rattle.std.proofs.lemmas.Bool.Decides.{nat_tests}
 use Rattle.std.proofs.lemmas.List.FromFn.{length-map-range_with_len}
@@ -14,11 +14,11 @@ use Rattle.st_ids.specs.declared.names.NodeId.{NodeId}
 use Rattle.st_ids.proofs.Orders.{same_node-true, same_node-itself}
 use Rattle.st_marks.specs.declared.intents.Owned.{Owned}
 use Rattle.st_marks.specs.declared.places.Spot.{Spot}
-use Rattle.st_marks.specs.Document.{Document, NodeType, IsSoundInForm, AreDistinct, AreInEffect, ClimbsToAnEnd, above, climb, node_of, root, opening, owned}
+use Rattle.st_marks.specs.Document.{Document, IsSoundInForm, AreDistinct, ClimbsToAnEnd, above, climb, node_of, root, opening, owned}
 use Rattle.st_marks.proofs.Lookups.{both_true}
 use Rattle.st_marks.proofs.Members.{has-all, map-has, has-map}
 use Rattle.st_intent.proofs.Obeyed.{one_rev}
-use Rattle.st_doc.specs.Opening.{opening_node, opening_cell, is_opening, opening_type, opening_cells, opening_row_of, opening_place, opening_row, text_type, list_type}
+use Rattle.st_doc.specs.Opening.{opening_node, opening_cell, is_opening, opening_cells, opening_row, text_type, list_type}
 
 -- ## Names of the opening
 

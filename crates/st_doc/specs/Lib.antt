@@ -6,3 +6,4 @@ pub mod Nodes
 pub mod Edits
 pub mod Opening
 pub mod Shown
+pub mod Start

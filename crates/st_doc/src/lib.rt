@@ -14,10 +14,11 @@ mod opening;
 mod registers;
 mod rows;
 mod show;
+mod start;
 mod targets;
 #[cfg(test)]
 mod tests;
 mod verdict;
 
 pub use doc::Doc;
-pub use laws::opening_is_sound;
+pub use laws::{opening_is_sound, start_is_sound};
