@@ -1,5 +1,5 @@
 -- Registers that are left, cleared and filled, one by one.
-use Rattle.std.proofs.Common.{◌≡◌, ◌↔◌, ℕ, ◌+◌, ◌-◌, ◌<◌, ◌≤◌, Bool, true, false, cond, ◌&&◌, ◌||◌, List, [], ◌∷◌, length, take, drop, get_or, Option, Some, None, refl, sym, ap, ◌∙◌, arith, option_map, unwrap_or}
+use Rattle.std.proofs.Common.{◌≡◌, ◌↔◌, ℕ, ◌+◌, ◌<◌, Bool, true, false, cond, ◌&&◌, ◌||◌, List, ◌∷◌, length, take, drop, get_or, Option, Some, None, refl, sym, ap, ◌∙◌, option_map}
 use Rattle.std.specs.declared.cmp.Ordering.{Ordering}
 use Rattle.std.specs.declared.cmp.Ordering.TheVariants.{Less, Equal, Greater}
 use Rattle.std.specs.Ordering.{is_eq, ordering_reverse}
@@ -9,7 +9,6 @@ use Rattle.st_ids.specs.Order.{same_node, same_field, field_cmp}
 use Rattle.st_ids.specs.declared.names.FieldId.{FieldId}
 use Rattle.st_ids.specs.declared.names.NodeId.{NodeId}
 use Rattle.st_ids.proofs.Orders.{same_node-true, same_node-itself, same_field-true, same_field-itself, field_cmp_total}
-use Rattle.st_marks.specs.declared.changes.NewNode.{NewNode}
 use Rattle.st_marks.specs.declared.intents.Intent.{Intent}
 use Rattle.st_marks.specs.declared.intents.Put.{Put}
 use Rattle.st_marks.specs.declared.intents.To.{To}
@@ -17,7 +16,8 @@ use Rattle.st_marks.specs.declared.places.Spot.{Spot}
 use Rattle.st_marks.specs.Intent.{is_new, is_register}
 use Rattle.st_marks.specs.CarryOut.{only_new, unless_put}
 use Rattle.st_doc.specs.Evictions.{stands_in, is_held, evicted}
-use Rattle.st_doc.proofs.Look.{any_more, drop_one, is_some-find, is_some-map}
+use Rattle.st_intent.proofs.Scans.{is_some-find, is_some-map}
+use Rattle.st_doc.proofs.Look.{any_more, drop_one}
 
 true-false : {b : Bool} → b ≡ true → b ≡ false → ⊥
 true-false e f = let q : ◌≡◌ {A = Bool} true false = sym e ∙ f in cc
@@ -164,9 +164,6 @@ module _ (puts : List Put) (i j : ℕ) (p : Put) (next : i + 1 ≡ j) (inside : 
       go false e false = refl
 
 -- ## One put
-
-pub is_new-listed : (N : Intent) (n : NodeId) → is_new N n ≡ list_any (λ (m : NewNode). same_node m.node n) N.new
-is_new-listed N n = is_some-map (λ (m : NewNode). record { ty = m.ty; leaf = m.leaf }) _ ∙ is_some-find (λ (m : NewNode). same_node m.node n) N.new
 
 pub filled : (f field copy : FieldId) (to : To) (node : NodeId) (o : Option NodeId) → copy ≡ field → to ≡ To.Register field
     → cond (same_field copy f) (Some node) o ≡ cond (is_register f to) (Some node) o

@@ -2,10 +2,14 @@ pub mod Look
 pub mod Carrying
 pub mod Climbing
 pub mod Evicting
+pub mod Fitting
 pub mod Growing
 pub mod Opened
+pub mod OpeningSound
 pub mod Placing
 pub mod Showing
+pub mod Starting
+pub mod StartSound
 pub mod Verdicts
 pub mod OneDocument
 pub mod Queries

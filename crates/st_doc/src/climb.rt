@@ -5,26 +5,14 @@ ghost use Rattle.std.specs.BTreeSet.{contains};
 ghost use Rattle.st_ids.specs.declared.names.NodeId.{NodeId as Node};
 ghost use Rattle.st_ids.specs.Order.{node_cmp};
 ghost use Rattle.st_marks.specs.Document.{node_of};
-ghost use Rattle.st_marks.specs.Intent.{clears};
 ghost use Rattle.st_marks.specs.CarryOut.{unless_cleared};
 ghost use Rattle.st_doc.specs.Ahead.{above_ahead, Reaches};
 
-use crate::same::is_same_field;
-use st_ids::{FieldId, NodeId};
+use st_ids::NodeId;
+use st_intent::is_cleared;
 use st_marks::{Intent, Spot};
 use std::alloc::{AllocError, Global};
 use std::collections::{BTreeMap, BTreeSet};
-
-/// Whether an intent clears a register.
-pub fn is_cleared(intent: &Intent, field: &FieldId) -> bool
-    ensures { result ≡ clears intent.now field.now }
-{
-    intent
-        .clear
-        .as_slice()
-        .iter()
-        .any(|g| is_same_field(g, field))
-}
 
 /// The node in whose row or register a place is.
 pub fn node_of(spot: &Spot) -> Option<NodeId>

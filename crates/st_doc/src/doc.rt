@@ -2,6 +2,7 @@
 ghost use Rattle.std.specs.Prelude.{◌≡◌, ◌<◌, ◌^◌, ◌-◌, length, IfOk, OnOk};
 ghost use Rattle.st_marks.specs.declared.verdicts.Verdict.{Verdict as Outcome};
 ghost use Rattle.st_marks.specs.CarryOut.{full};
+ghost use Rattle.st_marks.specs.Document.{IsSoundInForm};
 ghost use Rattle.st_doc.specs.Edits.{EditsRows};
 
 use crate::maps::{put_all, set};
@@ -37,7 +38,8 @@ impl Doc {
     /// the schema under which it opens.
     pub fn row_of_texts(alloc: Global, texts: &List<Text>, schema: Text) -> Result<Doc, AllocError>
         requires { length texts.now < 2 ^ 32 - 1 }
-        ensures { IfOk result (λ d. document_of d ≡ opening_row texts.now schema) }
+        ensures document { IfOk result (λ d. document_of d ≡ opening_row texts.now schema) }
+        ensures sound { IfOk result (λ d. IsSoundInForm (document_of d)) }
     {
         let count = texts.len() as u32;
         let nodes = opening_nodes(alloc, texts.as_slice())?;

@@ -1,7 +1,6 @@
 //! Who leaves a register, and who comes into one.
 ghost use Rattle.std.specs.Prelude.{◌≡◌, ◌&&◌, cond, Some, None, OnOk, true, unwrap_or};
 ghost use Rattle.std.specs.BTreeMap.{get};
-ghost use Rattle.std.specs.List.{list_any};
 ghost use Rattle.std.specs.Option.{option_or};
 ghost use Rattle.st_ids.specs.declared.names.FieldId.{FieldId as Register};
 ghost use Rattle.st_ids.specs.declared.names.NodeId.{NodeId as Node};
@@ -12,8 +11,8 @@ ghost use Rattle.st_marks.specs.CarryOut.{only_new, unless_put};
 ghost use Rattle.st_doc.specs.Evictions.{IsOneHeld, stands_in, is_held, evicted};
 
 use crate::maps::{add, set, unset};
-use crate::same::is_same_node;
 use st_ids::{Copied, FieldId, NodeId};
+use st_intent::is_new;
 use st_marks::{Intent, Put, Spot, To};
 use std::alloc::{AllocError, Global};
 use std::collections::BTreeMap;
@@ -111,24 +110,6 @@ pub fn fill_all(
         fill(alloc, held, &puts[left])?;
     }
     Ok(())
-}
-
-// Whether a node is listed as new.
-fn is_listed(intent: &Intent, node: NodeId) -> bool
-    ensures { result ≡ list_any (λ m. same_node m.node node) intent.now.new }
-{
-    intent
-        .new
-        .as_slice()
-        .iter()
-        .any(|m| is_same_node(m.node, node))
-}
-
-/// Whether an intent makes a node.
-pub fn is_new(intent: &Intent, node: NodeId) -> bool
-    ensures { result ≡ is_new intent.now node }
-{
-    is_listed(intent, node)
 }
 
 // Fills a register of a new node by a put of a new node; a put of an old one empties it.

@@ -5,6 +5,8 @@ mod carry;
 mod climb;
 mod doc;
 mod evictions;
+mod fits;
+mod laws;
 mod live;
 mod maps;
 mod names;
@@ -12,11 +14,12 @@ mod opening;
 mod query;
 mod registers;
 mod rows;
-mod same;
 mod show;
+mod start;
 mod targets;
 #[cfg(test)]
 mod tests;
 mod verdict;
 
 pub use doc::Doc;
+pub use laws::{opening_is_sound, start_is_sound};

@@ -8,8 +8,8 @@ ghost use Rattle.st_marks.specs.Intent.{same_anchor, group_at};
 ghost use Rattle.st_marks.specs.CarryOut.{with_groups};
 
 use crate::maps::set;
-use crate::same::{is_same_anchor, is_same_node};
 use st_ids::{CellId, List, NodeId};
+use st_intent::{is_same_anchor, is_same_node};
 use st_marks::{Group, Intent, Owned};
 use std::alloc::{AllocError, Global};
 use std::collections::BTreeMap;

@@ -10,10 +10,10 @@ ghost use Rattle.st_marks.specs.CarryOut.{spot_of};
 ghost use Rattle.st_doc.specs.Ahead.{in_new, inside_new};
 
 use crate::climb::node_of;
-use crate::evictions::is_new;
 use crate::maps::set;
 use crate::names::add_rows;
 use st_ids::{CellId, Copied, NodeId};
+use st_intent::is_new;
 use st_marks::{Intent, Spot, To};
 use std::alloc::{AllocError, Global};
 use std::collections::BTreeMap;

@@ -1,9 +1,14 @@
-ghost use Rattle.std.specs.Prelude.{IfOk};
+ghost use Rattle.std.specs.Prelude.{◌≡◌, true, IfOk};
+ghost use Rattle.st_marks.specs.Document.{IsSoundInForm};
+ghost use Rattle.st_tree.specs.Form.{has_form};
+ghost use Rattle.st_tree.specs.Node.{view};
+ghost use Rattle.st_doc.specs.Doc.{document_of};
 ghost use Rattle.st_doc.specs.Edits.{EditsRows};
 
 use crate::Doc;
-use st_ids::{Atom, CellId, Leaf, List, NodeId, Rev, Text};
+use st_ids::{Atom, CellId, Key, Leaf, List, NodeId, Rev, Text};
 use st_marks::{Group, Intent, NewNode, Owned, Put, To, Verdict};
+use st_tree::{Field, Tree, check};
 use std::alloc::{AllocError, Global};
 use std::test::Fail;
 
@@ -50,7 +55,9 @@ fn inserts(alloc: Global, rev: Rev, after: Option<CellId>, text: &str) -> Result
     Ok(intent)
 }
 
-fn opened(alloc: Global, texts: &[&str]) -> Result<Doc, Fail> {
+fn opened(alloc: Global, texts: &[&str]) -> Result<Doc, Fail>
+    ensures { IfOk result (λ d. IsSoundInForm (document_of d)) }
+{
     let mut list = List::new(alloc);
     for text in texts {
         list.push(Text::from_str(alloc, text)?)?;
@@ -176,5 +183,100 @@ fn verdicts(rt: HostRuntime) -> Result<(), Fail> {
     );
     back.under = B;
     assert_eq!(rt; doc.fails(alloc, &back)?, Verdict::Schema(B));
+    Ok(())
+}
+
+// Whether an edit fits the document of the texts x and y.
+fn fits(alloc: Global, edit: Edit) -> Result<bool, Fail> {
+    let doc = opened(alloc, &["x", "y"])?;
+    Ok(doc.fits(&intent_of(alloc, edit)?))
+}
+
+#[test]
+fn intents_that_fit(rt: HostRuntime) -> Result<(), Fail> {
+    let alloc = rt.alloc();
+    assert_eq!(rt; fits(alloc, Edit::Insert(A, 1, "a"))?, true);
+    assert_eq!(rt; fits(alloc, Edit::Put(2, Some(1)))?, true);
+    // No such cell to stand after, a cell of another node, a node that is not there, and names that are there already.
+    assert_eq!(rt; fits(alloc, Edit::Insert(A, 2, "a"))?, false);
+    assert_eq!(rt; fits(alloc, Edit::Put(2, Some(0)))?, false);
+    assert_eq!(rt; fits(alloc, Edit::Put(3, None))?, false);
+    assert_eq!(rt; fits(alloc, Edit::Insert(OPENING, 1, "a"))?, false);
+    Ok(())
+}
+
+// The verdict of an intent, and the tree after it.
+fn carried(alloc: Global, intent: &Intent) -> Result<(Verdict, Text), Fail> {
+    let mut doc = opened(alloc, &["x", "y"])?;
+    if !doc.fits(intent) {
+        return Err(Fail::from("does not fit"));
+    }
+    let verdict = doc.carry_out(alloc, intent)?;
+    Ok((verdict, doc.whole(alloc)?))
+}
+
+#[test]
+fn intents_carried_out(rt: HostRuntime) -> Result<(), Fail> {
+    let alloc = rt.alloc();
+    let (verdict, text) = carried(alloc, &inserts(alloc, A, None, "a")?)?;
+    assert_eq!(rt; verdict, Verdict::Sound);
+    assert_eq!(rt; text.as_str(), r#"{"list":["a","x","y"]}"#);
+    // A node can't stand in its own row: the intent is void, and the tree stays.
+    let (verdict, text) = carried(alloc, &moves(alloc, A, 1, 1)?)?;
+    assert_eq!(rt; verdict, Verdict::Cycle(NodeId(atom(OPENING, 1))));
+    assert_eq!(rt; text.as_str(), r#"{"list":["x","y"]}"#);
+    Ok(())
+}
+
+// A text leaf.
+fn leaf(alloc: Global, text: &str) -> Result<Tree, AllocError>
+    ensures { IfOk result (λ t. has_form (view t) ≡ true) }
+{
+    let ty = Text::from_str(alloc, "text")?;
+    let words = Text::from_str(alloc, text)?;
+    Ok(Tree {
+        ty,
+        leaf: Some(Leaf::Words(words)),
+        fields: List::new(alloc),
+    })
+}
+
+// A list of one item.
+fn list_of(alloc: Global, item: Tree) -> Result<Tree, AllocError>
+    requires { has_form (view item) ≡ true }
+    ensures { IfOk result (λ t. has_form (view t) ≡ true) }
+{
+    let ty = Text::from_str(alloc, "list")?;
+    let mut items = List::new(alloc);
+    items.push(item)?;
+    let mut fields = List::new(alloc);
+    fields.push(Field {
+        key: Key(Text::new(alloc)),
+        row: true,
+        items,
+    })?;
+    Ok(Tree {
+        ty,
+        leaf: None,
+        fields,
+    })
+}
+
+// The opening document of a tree has its nodes in preorder, and an intent that fits can be carried out there.
+#[test]
+fn start(rt: HostRuntime) -> Result<(), Fail> {
+    let alloc = rt.alloc();
+    let tree = list_of(alloc, leaf(alloc, "x")?)?;
+    if check(&tree) != Ok(()) {
+        return Err(Fail::from("too large"));
+    }
+    let mut doc = Doc::start(alloc, Text::from_str(alloc, "{}")?, &tree)?;
+    assert_eq!(rt; doc.whole(alloc)?.as_str(), r#"{"list":["x"]}"#);
+    let intent = inserts(alloc, A, Some(CellId(atom(OPENING, 0))), "a")?;
+    if !doc.fits(&intent) {
+        return Err(Fail::from("does not fit"));
+    }
+    doc.carry_out(alloc, &intent)?;
+    assert_eq!(rt; doc.whole(alloc)?.as_str(), r#"{"list":["x","a"]}"#);
     Ok(())
 }

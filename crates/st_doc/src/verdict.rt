@@ -10,9 +10,9 @@ ghost use Rattle.st_doc.specs.Ahead.{above_ahead, Reaches, IsLeastOf, least_with
 use crate::climb::ancestors_ahead;
 use crate::doc::Doc;
 use crate::opening::opening_node;
-use crate::same::{is_before, is_same_node, is_same_rev};
 use crate::targets::targets;
 use st_ids::{List, NodeId, Rev};
+use st_intent::{is_before, is_same_node, is_same_rev};
 use st_marks::{Intent, SchemaEntry, Spot, Verdict};
 use std::alloc::{AllocError, Global};
 use std::collections::BTreeMap;

@@ -1,4 +1,4 @@
-use Rattle.std.proofs.Common.{◌≡◌, ◌<◌, ◌-◌, sym, ap, ◌∙◌, cond, ◌&&◌, Some, length, arith}
+use Rattle.std.proofs.Common.{◌<◌, ◌-◌, sym, ap, ◌∙◌, cond, ◌&&◌, Some, length, arith}
 use Rattle.std.specs.BTreeMap.{get}
 use Rattle.st_ids.specs.Order.{field_cmp}
 use Rattle.st_marks.specs.Intent.{is_new, is_register}

@@ -1,7 +1,6 @@
-use Rattle.std.proofs.Common.{◌≡◌, true, false, sym, ap, ◌∙◌, cond, None, Some}
+use Rattle.std.proofs.Common.{sym, ap, ◌∙◌, cond, None, Some}
 use Rattle.std.specs.BTreeMap.{get}
 use Rattle.st_ids.specs.Order.{field_cmp, same_field}
-use Rattle.st_marks.specs.Intent.{is_new, is_register}
 use Rattle.st_marks.specs.CarryOut.{only_new}
 use Rattle.st_doc.proofs.Evicting.{filled_new, filled_old}
 use Rattle.st_doc.proofs.evictions.fill_new.Goals as goal

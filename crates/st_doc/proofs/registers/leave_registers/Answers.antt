@@ -14,7 +14,7 @@ use Rattle.st_ids.proofs.Orders.{field_cmp_total}
 use Rattle.st_marks.specs.declared.intents.Intent.{Intent}
 use Rattle.st_marks.specs.declared.intents.Put.{Put}
 use Rattle.st_marks.specs.CarryOut.{unless_put}
-use Rattle.st_doc.proofs.Look.{is_some-find, is_some-map}
+use Rattle.st_intent.proofs.Scans.{is_some-find, is_some-map}
 use Rattle.st_doc.proofs.registers.leave_registers.Goals as goal
 
 filtered : (N : Intent) (o : Option NodeId) → option_filter (λ n. not (list_any (λ (p : Put). same_node p.node n) N.put)) o ≡ unless_put N o

@@ -1,9 +1,9 @@
-use Rattle.std.proofs.Common.{◌≡◌, true, false, cond, None, Some, Option, sym, ap, ◌∙◌}
+use Rattle.std.proofs.Common.{cond, None, Some, Option, ap, ◌∙◌}
 use Rattle.std.specs.BTreeMap.{get}
 use Rattle.std.specs.Option.{option_or}
 use Rattle.st_ids.specs.Order.{node_cmp, same_node}
 use Rattle.st_marks.specs.declared.places.Spot.{Spot}
-use Rattle.st_doc.specs.Ahead.{in_new, inside_new}
+use Rattle.st_doc.specs.Ahead.{inside_new}
 use Rattle.st_doc.proofs.targets.keep_inside.Goals as goal
 
 pub returns : goal.returns

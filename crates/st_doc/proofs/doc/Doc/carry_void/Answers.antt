@@ -1,12 +1,12 @@
-use Rattle.std.proofs.Common.{◌≡◌, cond, None, Some, Option, refl, sym, ap, ◌∙◌, option_map, unwrap_or}
+use Rattle.std.proofs.Common.{cond, None, refl, sym, ap, ◌∙◌, unwrap_or}
 use Rattle.std.specs.BTreeMap.{get}
 use Rattle.std.specs.List.{find}
-use Rattle.std.specs.Option.{option_or, option_map_or}
-use Rattle.st_ids.specs.Order.{node_cmp, field_cmp, same_node}
+use Rattle.std.specs.Option.{option_or}
+use Rattle.st_ids.specs.Order.{node_cmp, same_node}
 use Rattle.st_marks.specs.declared.changes.NewNode.{NewNode}
 use Rattle.st_marks.specs.declared.places.Spot.{Spot}
-use Rattle.st_marks.specs.Intent.{put_of, put_in, is_new}
-use Rattle.st_marks.specs.CarryOut.{void, void_data, with_names, spot_of}
+use Rattle.st_marks.specs.Intent.{is_new}
+use Rattle.st_marks.specs.CarryOut.{void_data}
 use Rattle.st_doc.specs.Ahead.{inside_new}
 use Rattle.st_doc.specs.Doc.{document_of}
 use Rattle.st_doc.specs.Nodes.{type_of}

@@ -1,17 +1,18 @@
-use Rattle.std.proofs.Common.{◌++◌, ◌∷◌, [], cond, ap, ◌∙◌, unwrap_or}
+use Rattle.std.proofs.Common.{◌<◌, ◌^◌, ◌++◌, ◌∷◌, [], cond, length, ap, sym, ◌∙◌, subst, arith, unwrap_or}
 use Rattle.std.specs.BTreeMap.{get}
 use Rattle.std.specs.Map.{lookup}
 use Rattle.std.specs.Ordering.{is_eq}
 use Rattle.st_ids.specs.Order.{node_cmp, field_cmp, same_node}
-use Rattle.st_marks.specs.Document.{root}
+use Rattle.st_marks.specs.Document.{root, IsSoundInForm}
 use Rattle.st_doc.specs.Opening.{opening_row, opening_type, opening_row_of, opening_place, opening_cells}
 use Rattle.st_doc.proofs.Look.{unwrap_or-cond}
 use Rattle.st_doc.proofs.OneDocument.{same_document}
+use Rattle.st_doc.proofs.OpeningSound.{opening_sound}
 use Rattle.st_doc.proofs.doc.Doc.row_of_texts.Goals as goal
 
-pub returns : goal.returns
+pub returns-clause-document : goal.returns-clause-document
 unfolding same_node
-returns c =
+returns-clause-document c =
     let count = c.len-count.ensures in
     same_document _ (opening_row c.args.texts.now c.args.schema)
     (λ n. c.in_ok-nodes.ensures n ∙ ap (λ ts. opening_type ts n) c.as_slice.ensures)
@@ -22,3 +23,8 @@ returns c =
     (λ n. c.in_ok-place.ensures n ∙ ap (λ k. opening_place k n) count)
     (λ f. ap (lookup (λ x. is_eq (field_cmp f x))) c.new-held.ensures.empty)
     (c.in_ok-push.ensures.ok ∙ (λ i. c.new-schemas.ensures i ++ record { rev = c.opening_rev-rev.ensures i; text = c.args.schema } ∷ []))
+
+pub returns-clause-sound : goal.returns-clause-sound
+returns-clause-sound c =
+    let few : length c.args.texts.now < 2 ^ 32 = omega arith in
+    subst IsSoundInForm (sym (returns-clause-document c)) (opening_sound c.args.texts.now c.args.schema few)

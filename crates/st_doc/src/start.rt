@@ -1,0 +1,226 @@
+//! The opening document of a tree.
+ghost use Rattle.std.specs.Prelude.{◌≡◌, ◌++◌, ◌∷◌, [], cond, true, IfOk, OnOk, Ok, unwrap_or};
+ghost use Rattle.std.specs.BTreeMap.{get};
+ghost use Rattle.std.specs.List.{filter_map};
+ghost use Rattle.std.specs.Option.{option_or, option_to_list};
+ghost use Rattle.st_ids.specs.declared.names.CellId.{CellId as Cell};
+ghost use Rattle.st_ids.specs.declared.names.FieldId.{FieldId as Register};
+ghost use Rattle.st_ids.specs.declared.names.NodeId.{NodeId as Node};
+ghost use Rattle.st_ids.specs.Order.{node_cmp, cell_cmp, field_cmp, same_node};
+ghost use Rattle.st_marks.specs.Document.{IsSoundInForm};
+ghost use Rattle.st_tree.specs.Form.{has_form};
+ghost use Rattle.st_tree.specs.Node.{view};
+ghost use Rattle.st_tree.specs.Preorder.{opening_listed};
+ghost use Rattle.st_tree.specs.Size.{check_of};
+ghost use Rattle.st_doc.specs.Doc.{document_of};
+ghost use Rattle.st_doc.specs.Nodes.{type_of};
+ghost use Rattle.st_doc.specs.Start.{first_said, type_at, spot_at, place_at, row_at, cell_at, held_at, start_of};
+
+use crate::doc::Doc;
+use crate::maps::{add, set};
+use crate::opening::opening_rev;
+use st_ids::{CellId, Copied, FieldId, List, NodeId, Text};
+use st_marks::{NewNode, Owned, SchemaEntry, Spot};
+use st_tree::{FlatAt, FlatNode, Tree, opening};
+use std::alloc::{AllocError, Global};
+use std::collections::BTreeMap;
+
+// Adds what a node of the list is.
+fn add_node(
+    alloc: Global,
+    nodes: &mut BTreeMap<NodeId, NewNode>,
+    flat: &FlatNode,
+) -> Result<(), AllocError>
+    ensures { OnOk result ((n : Node) → type_of (get node_cmp nodes.new n) ≡ option_or (type_of (get node_cmp nodes.old n)) (type_at n flat.now)) }
+{
+    let node = flat.node;
+    let ty = flat.ty.copy(alloc)?;
+    let leaf = flat.leaf.copy(alloc)?;
+    add(nodes, node, NewNode { node, ty, leaf })?;
+    Ok(())
+}
+
+// What each node of the list is.
+fn start_nodes(alloc: Global, flat: &[FlatNode]) -> Result<BTreeMap<NodeId, NewNode>, AllocError>
+    ensures { IfOk result (λ m. (n : Node) → type_of (get node_cmp m n) ≡ first_said (type_at n) flat.now) }
+{
+    let mut nodes = BTreeMap::new(alloc);
+    for x in flat {
+        add_node(alloc, &mut nodes, x)?;
+    }
+    Ok(nodes)
+}
+
+// A place of the list as one of the document.
+fn spot_at(alloc: Global, at: &FlatAt) -> Result<Spot, AllocError>
+    ensures { IfOk result (λ s. s ≡ spot_at at.now) }
+{
+    match at {
+        FlatAt::Root => Ok(Spot::Nowhere),
+        FlatAt::Top(_) => Ok(Spot::Nowhere),
+        FlatAt::Row { node, cell } => Ok(Spot::Row {
+            node: *node,
+            cell: *cell,
+        }),
+        FlatAt::Register(field) => Ok(Spot::Register(field.copy(alloc)?)),
+    }
+}
+
+// Adds where a node of the list stands.
+fn add_place(
+    alloc: Global,
+    place: &mut BTreeMap<NodeId, Spot>,
+    flat: &FlatNode,
+) -> Result<(), AllocError>
+    ensures { OnOk result ((n : Node) → get node_cmp place.new n ≡ option_or (get node_cmp place.old n) (place_at n flat.now)) }
+{
+    let spot = spot_at(alloc, &flat.at)?;
+    add(place, flat.node, spot)?;
+    Ok(())
+}
+
+// Where each node of the list stands.
+fn start_places(alloc: Global, flat: &[FlatNode]) -> Result<BTreeMap<NodeId, Spot>, AllocError>
+    ensures { IfOk result (λ m. (n : Node) → get node_cmp m n ≡ first_said (place_at n) flat.now) }
+{
+    let mut place = BTreeMap::new(alloc);
+    for x in flat {
+        add_place(alloc, &mut place, x)?;
+    }
+    Ok(place)
+}
+
+// Adds in whose row the cell is in which a node of the list stands.
+fn add_row_of(row_of: &mut BTreeMap<CellId, NodeId>, at: &FlatAt) -> Result<(), AllocError>
+    ensures { OnOk result ((c : Cell) → get cell_cmp row_of.new c ≡ option_or (get cell_cmp row_of.old c) (row_at c at.now)) }
+{
+    if let FlatAt::Row { node, cell } = at {
+        add(row_of, *cell, *node)?;
+        return Ok(());
+    }
+    Ok(())
+}
+
+// In whose row each cell is.
+fn start_row_of(alloc: Global, flat: &[FlatNode]) -> Result<BTreeMap<CellId, NodeId>, AllocError>
+    ensures { IfOk result (λ m. (c : Cell) → get cell_cmp m c ≡ first_said (λ x. row_at c x.at) flat.now) }
+{
+    let mut row_of = BTreeMap::new(alloc);
+    for x in flat {
+        add_row_of(&mut row_of, &x.at)?;
+    }
+    Ok(row_of)
+}
+
+// Adds who stands in a register.
+fn add_held(
+    alloc: Global,
+    held: &mut BTreeMap<FieldId, NodeId>,
+    node: NodeId,
+    at: &FlatAt,
+) -> Result<(), AllocError>
+    ensures { OnOk result ((f : Register) → get field_cmp held.new f ≡ option_or (get field_cmp held.old f) (held_at f node at.now)) }
+{
+    if let FlatAt::Register(field) = at {
+        add(held, field.copy(alloc)?, node)?;
+        return Ok(());
+    }
+    Ok(())
+}
+
+// Who stands in each register.
+fn start_held(alloc: Global, flat: &[FlatNode]) -> Result<BTreeMap<FieldId, NodeId>, AllocError>
+    ensures { IfOk result (λ m. (f : Register) → get field_cmp m f ≡ first_said (λ x. held_at f x.node x.at) flat.now) }
+{
+    let mut held = BTreeMap::new(alloc);
+    for x in flat {
+        add_held(alloc, &mut held, x.node, &x.at)?;
+    }
+    Ok(held)
+}
+
+// Puts a cell behind the others of a node's row.
+fn push_cell(
+    alloc: Global,
+    rows: &mut BTreeMap<NodeId, List<Owned>>,
+    node: NodeId,
+    owned: Owned,
+) -> Result<(), AllocError>
+    ensures { OnOk result ((n : Node) → unwrap_or (get node_cmp rows.new n) []
+        ≡ unwrap_or (get node_cmp rows.old n) [] ++ cond (same_node node n) (owned ∷ []) []) }
+{
+    let mut row = match rows.remove(&node) {
+        None => List::new(alloc),
+        Some(row) => row,
+    };
+    row.push(owned)?;
+    set(rows, node, row)?;
+    Ok(())
+}
+
+// Puts the cell in which a node of the list stands behind the others of its row.
+fn add_cell(
+    alloc: Global,
+    rows: &mut BTreeMap<NodeId, List<Owned>>,
+    node: NodeId,
+    at: &FlatAt,
+) -> Result<(), AllocError>
+    ensures { OnOk result ((n : Node) → unwrap_or (get node_cmp rows.new n) []
+        ≡ unwrap_or (get node_cmp rows.old n) [] ++ option_to_list (cell_at n node at.now)) }
+{
+    if let FlatAt::Row { node: row, cell } = at {
+        let cell = *cell;
+        push_cell(alloc, rows, *row, Owned { cell, node })?;
+        return Ok(());
+    }
+    Ok(())
+}
+
+// The cells of each row.
+fn start_rows(alloc: Global, flat: &[FlatNode]) -> Result<BTreeMap<NodeId, List<Owned>>, AllocError>
+    ensures { IfOk result (λ m. (n : Node) → unwrap_or (get node_cmp m n) [] ≡ filter_map (λ x. cell_at n x.node x.at) flat.now) }
+{
+    let mut rows = BTreeMap::new(alloc);
+    for x in flat {
+        add_cell(alloc, &mut rows, x.node, &x.at)?;
+    }
+    Ok(rows)
+}
+
+// The document of a list of nodes.
+fn of_nodes(alloc: Global, flat: &[FlatNode], schema: Text) -> Result<Doc, AllocError>
+    ensures { IfOk result (λ d. document_of d ≡ start_of flat.now schema) }
+{
+    let nodes = start_nodes(alloc, flat)?;
+    let rows = start_rows(alloc, flat)?;
+    let row_of = start_row_of(alloc, flat)?;
+    let place = start_places(alloc, flat)?;
+    let held = start_held(alloc, flat)?;
+    let rev = opening_rev();
+    let mut schemas = List::new(alloc);
+    schemas.push(SchemaEntry { rev, text: schema })?;
+    Ok(Doc {
+        nodes,
+        rows,
+        row_of,
+        place,
+        held,
+        schemas,
+    })
+}
+
+impl Doc {
+    /// The opening document of a tree: its nodes are named in preorder under revision 0.0, and each stands where it
+    /// stands in the tree. `schema` is the text of the schema under which it opens.
+    pub fn start(alloc: Global, schema: Text, tree: &Tree) -> Result<Doc, AllocError>
+        requires within { check_of (view tree.now) ≡ Ok tt }
+        requires form { has_form (view tree.now) ≡ true }
+        ensures document { IfOk result (λ d. document_of d ≡ start_of (opening_listed (view tree.now)) schema) }
+        ensures sound { IfOk result (λ d. IsSoundInForm (document_of d)) }
+    {
+        match opening(alloc, tree) {
+            Ok(flat) => of_nodes(alloc, flat.nodes.as_slice(), schema),
+            Err(_) => Err(AllocError),
+        }
+    }
+}
