@@ -13,7 +13,7 @@ use Rattle.st_ids.specs.declared.names.Place.{Place}
 use Rattle.st_ids.specs.declared.names.Rev.{Rev}
 use Rattle.st_tree.specs.Node.{Nodes, trees_view, view, first, no_nodes}
 use Rattle.st_tree.specs.Preorder.{tops_listed, cell_named}
-use Rattle.st_tree.specs.Size.{check_items}
+use Rattle.st_tree.specs.Size.{check_of, check_items}
 use Rattle.st_tree.specs.declared.edit.Edit.{Edit}
 use Rattle.st_tree.specs.declared.edit.EditFault.{EditFault}
 use Rattle.st_tree.specs.declared.edit.EditFault.TheVariants.{NoNode, Kind, Range, Inside, NotAllowed, Limit as LimitOver}
@@ -276,6 +276,6 @@ abbrev pub IsWithin : Edit → Type 0
 IsWithin (Edit.Insert at key index items) = (check_items (trees_view items) ≡ Ok tt) × (length at < 2 ^ 32)
 IsWithin (Edit.Remove at key index count) = length at < 2 ^ 32
 IsWithin (Edit.Move at key index count to to_key to_index) = (length at < 2 ^ 32) × (length to < 2 ^ 32)
-IsWithin (Edit.Put at key item) = (check_items (first (view item) no_nodes) ≡ Ok tt) × (length at < 2 ^ 32)
+IsWithin (Edit.Put at key item) = (check_of (view item) ≡ Ok tt) × (length at < 2 ^ 32)
 IsWithin (Edit.Clear at key) = length at < 2 ^ 32
 IsWithin (Edit.Need at) = length at < 2 ^ 32

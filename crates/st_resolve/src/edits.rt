@@ -268,6 +268,7 @@ fn one_tree(alloc: Global, tree: &Tree) -> Result<List<Tree>, AllocError>
 /// the path, then of a move's target path (`NoNode`), of the field's kind (`Kind`), of an index (`Range`), of a move
 /// beneath itself (`Inside`), of a node that the schema doesn't allow (`NotAllowed`), and of the names that a commit may
 /// give (`Limit`). Names are given from the counts on.
+#[tactic(auto, using(crate::proofs::One::one_within))]
 pub fn resolve(
     alloc: Global,
     doc: &Doc,

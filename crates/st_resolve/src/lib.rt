@@ -7,6 +7,8 @@ mod lists;
 mod moves;
 mod paths;
 mod rules;
+#[cfg(test)]
+mod tests;
 
 pub use edits::resolve;
 pub use rules::Given;

@@ -13,7 +13,7 @@ mod tree;
 
 pub use edit::{Edit, EditFault};
 pub use flat::{Flat, FlatAt, FlatNode};
-pub use limits::{TreeFault, check};
+pub use limits::{TreeFault, check, check_trees};
 pub use preorder::{flatten, opening};
 pub use rebuild::unflatten;
 pub use tree::{Field, Tree};

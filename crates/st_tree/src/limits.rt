@@ -113,8 +113,8 @@ fn trees_are_within(trees: &List<Tree>, levels: u32) -> bool
     true
 }
 
-// Nothing, where several trees together keep the limits.
-pub(crate) fn check_trees(trees: &List<Tree>) -> Result<(), TreeFault>
+/// Nothing, where several trees together have at most 1,024 nodes and each is at most 48 deep.
+pub fn check_trees(trees: &List<Tree>) -> Result<(), TreeFault>
     ensures { result ≡ check_items (trees_view trees.now) }
 {
     if count_trees(trees) > MOST_NODES {
