@@ -29,11 +29,13 @@ are_same same (Some x) (Some y) = same x y
 abbrev pub makes : List Group → CellId → Bool
 makes gs c = list_any (λ (g : Group). list_any (λ (o : Owned). same_cell o.cell c) g.cells) gs
 
+-- whether a node is put
 abbrev pub is_put : Intent → NodeId → Bool
 is_put N n = list_any (λ (p : Put). same_node p.node n) N.put
 
 -- ## New nodes
 
+-- the new nodes have the intent's revision, each another name
 abbrev pub new_names_hold : Intent → Bool
 new_names_hold N = list_all (λ (m : NewNode). same_rev m.node.0.rev N.rev) N.new && are_apart (λ (m k : NewNode). same_node m.node k.node) N.new
 
@@ -44,6 +46,7 @@ abbrev pub cells_apart : List Group → Bool
 cells_apart [] = true
 cells_apart (g ∷ gs) = are_apart (λ (o p : Owned). same_cell o.cell p.cell) g.cells && (list_all (λ (o : Owned). not (makes gs o.cell)) g.cells && cells_apart gs)
 
+-- whether an anchor is a new cell
 abbrev pub anchor_made : Intent → Option CellId → Bool
 anchor_made N None = false
 anchor_made N (Some c) = makes N.groups c
@@ -54,6 +57,7 @@ group_holds N g =
     list_all (λ (o : Owned). same_rev o.cell.0.rev N.rev) g.cells
     && (nat_lt 0 (length g.cells) && (list_all (λ (o : Owned). is_new N o.node || is_put N o.node) g.cells && not (anchor_made N g.after)))
 
+-- all groups obey the rules, no two at one place and no two after one cell
 abbrev pub groups_hold : Intent → Bool
 groups_hold N =
     list_all (group_holds N) N.groups
@@ -62,11 +66,13 @@ groups_hold N =
 
 -- ## Puts
 
+-- whether a put leads nowhere
 abbrev pub is_nowhere : To → Bool
 is_nowhere To.Nowhere = true
 is_nowhere (To.Cell c) = false
 is_nowhere (To.Register f) = false
 
+-- a register that a put fills is cleared
 abbrev pub fills_cleared : Intent → To → Bool
 fills_cleared N To.Nowhere = true
 fills_cleared N (To.Cell c) = true
@@ -76,6 +82,7 @@ fills_cleared N (To.Register f) = clears N f
 abbrev pub put_holds : Intent → Put → Bool
 put_holds N p = not (is_new N p.node && is_nowhere p.to) && fills_cleared N p.to
 
+-- all puts obey the rules: not the root, each node once, no two into one place
 abbrev pub puts_hold : Intent → Bool
 puts_hold N =
     list_all (put_holds N) N.put
@@ -90,20 +97,25 @@ abbrev pub ends_within : (NodeId → Option NodeId) → ℕ → NodeId → Bool
 ends_within up zero n = false
 ends_within up (suc k) n = elim (up n) [ None ↦ true | Some p ↦ ends_within up k p ]
 
+-- from each new node, steps up by new nodes come to an end before they could have met all
 abbrev pub no_ring_holds : Intent → Bool
 no_ring_holds N = list_all (λ (m : NewNode). ends_within (above_new N) (length N.new + 1) m.node) N.new
 
+-- whether a list has nothing
 abbrev pub is_empty : {A : Type 0} → List A → Bool
 is_empty [] = true
 is_empty (x ∷ xs) = false
 
+-- whether an intent has nothing but perhaps a schema
 abbrev pub has_nothing : Intent → Bool
 has_nothing N = is_empty N.new && (is_empty N.groups && (is_empty N.clear && (is_empty N.put && is_empty N.need)))
 
+-- a change of schema has nothing else
 abbrev pub schema_holds : Intent → Option (List ℕ) → Bool
 schema_holds N None = true
 schema_holds N (Some text) = has_nothing N
 
+-- no cleared register has the empty key, no needed node is new, there is no ring, and a schema stands alone
 abbrev pub others_hold : Intent → Bool
 others_hold N =
     list_all (λ (f : FieldId). nat_lt 0 (length f.key.0)) N.clear

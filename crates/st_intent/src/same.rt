@@ -6,6 +6,7 @@ ghost use Rattle.st_marks.specs.Intent.{same_anchor};
 
 use st_ids::{CellId, FieldId, NodeId, Rev};
 
+/// Whether two nodes have one name.
 #[tactic(auto, unfolding(st_ids::specs::Order::same_node))]
 pub fn is_same_node(a: NodeId, b: NodeId) -> bool
     ensures { result ≡ same_node a b }
@@ -13,6 +14,7 @@ pub fn is_same_node(a: NodeId, b: NodeId) -> bool
     a.cmp(&b).is_eq()
 }
 
+/// Whether two cells have one name.
 #[tactic(auto, unfolding(st_ids::specs::Order::same_cell))]
 pub fn is_same_cell(a: CellId, b: CellId) -> bool
     ensures { result ≡ same_cell a b }
@@ -20,6 +22,7 @@ pub fn is_same_cell(a: CellId, b: CellId) -> bool
     a.cmp(&b).is_eq()
 }
 
+/// Whether two groups stand after one cell, or both at the start; `None` is a row's start.
 pub fn is_same_anchor(a: Option<CellId>, b: Option<CellId>) -> bool
     ensures { result ≡ same_anchor a b }
 {
@@ -30,6 +33,7 @@ pub fn is_same_anchor(a: Option<CellId>, b: Option<CellId>) -> bool
     }
 }
 
+/// Whether two fields have one name.
 #[tactic(auto, unfolding(st_ids::specs::Order::same_field))]
 pub fn is_same_field(a: &FieldId, b: &FieldId) -> bool
     ensures { result ≡ same_field a.now b.now }
@@ -37,6 +41,7 @@ pub fn is_same_field(a: &FieldId, b: &FieldId) -> bool
     a.cmp(b).is_eq()
 }
 
+/// Whether two revisions are one.
 #[tactic(auto, unfolding(st_ids::specs::Order::same_rev))]
 pub fn is_same_rev(a: Rev, b: Rev) -> bool
     ensures { result ≡ same_rev a b }

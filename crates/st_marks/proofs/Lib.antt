@@ -17,6 +17,7 @@ mod WorkedRegisters
 mod WorkedNegative
 mod WorkedJoin
 mod WorkedBack
+mod WorkedEmbedding
 pub mod Retreat
 pub mod WayBack
 pub mod Joined

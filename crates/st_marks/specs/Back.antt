@@ -14,7 +14,7 @@ use Rattle.st_marks.specs.Intent.{IsIntent, put_of, clears}
 abbrev pub is_in : Document → NodeId → Bool
 is_in D n = is_some (D.nodes n)
 
--- where a node of E goes: a node of D to its place in D; a new one that stands in a field of a node of D nowhere; any other stays
+-- where a node of E goes: a node of D to its place in D; a new one that stands in a field of D's nodes nowhere; others stay
 abbrev pub place_back : Document → Document → NodeId → Spot
 place_back D E n = if is_in D n then D.place n else if option_map_or (is_in D) (node_of (E.place n)) false then Spot.Nowhere else E.place n
 
