@@ -123,9 +123,9 @@ IsTraced left rest old new NoMemory = IfSome left (λ bytes. IsTold old new (ans
 
 abbrev pub IsAnsweredAs : Bool → Option (List ℕ) → Option (List ℕ) → Option (List ℕ) → Option (List ℕ) → Outcome → Type 0
 IsAnsweredAs true left rest old new outcome = IsTraced left rest old new outcome
-IsAnsweredAs false left rest old new outcome = IsTold old new usage_told outcome
+IsAnsweredAs false left rest old new outcome = (rest ≡ left) × IsTold old new usage_told outcome
 
 -- what a run wrote by its words, from what its source had left before and after: other words than the command get the
--- usage line, whatever the source holds
+-- usage line, and nothing of the source is read
 abbrev pub IsAnswered : List (List ℕ) → Option (List ℕ) → Option (List ℕ) → Option (List ℕ) → Option (List ℕ) → Outcome → Type 0
 IsAnswered words = IsAnsweredAs (is_trace words)

@@ -14,3 +14,4 @@ pub mod Starting
 pub mod StartSound
 pub mod Verdicts
 pub mod OneDocument
+pub mod Queries

@@ -17,7 +17,7 @@ module _ {A B : Type 0} (f : A → B) (p : B → Bool) (xs : List A) (i : ℕ) (
   abbrev rest : List B
   rest = filter p (map f (drop (i + 1) xs))
 
-  opened : filter p (map f (drop i xs)) ≡ cond (p (f x)) (f x ∷ rest) rest
+  pub opened : filter p (map f (drop i xs)) ≡ cond (p (f x)) (f x ∷ rest) rest
   opened = ap (λ l. filter p (map f l)) (drop_one xs i d x inside at)
 
   -- an item that passes is put behind the others

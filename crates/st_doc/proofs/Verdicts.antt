@@ -47,11 +47,11 @@ among_revs es r = (
   λ e. let h = has-map (λ (e : SchemaEntry). e.rev) es r e in has-any (λ (e : SchemaEntry). same_rev e.rev r) es h.0 h.1 (ap (same_rev h.0.rev) (sym h.2) ∙ same_rev-itself h.0.rev),
 )
 
-last_read : {A : Type 0} (x : A) (xs : List A) (k : ℕ) → k ≡ length xs → slice_get (x ∷ xs) k ≡ last_or (Some x) xs
+pub last_read : {A : Type 0} (x : A) (xs : List A) (k : ℕ) → k ≡ length xs → slice_get (x ∷ xs) k ≡ last_or (Some x) xs
 last_read x [] k e = rw e refl
 last_read x (y ∷ ys) k e = rw e (last_read y ys (length ys) refl)
 
-last_map : {A B : Type 0} (f : A → B) (x : A) (xs : List A) → last_or (Some (f x)) (map f xs) ≡ option_map f (last_or (Some x) xs)
+pub last_map : {A B : Type 0} (f : A → B) (x : A) (xs : List A) → last_or (Some (f x)) (map f xs) ≡ option_map f (last_or (Some x) xs)
 last_map f x [] = refl
 last_map f x (y ∷ ys) = last_map f y ys
 

@@ -12,6 +12,7 @@ mod live_text;
 mod maps;
 mod names;
 mod opening;
+mod query;
 mod registers;
 mod rows;
 mod seats;

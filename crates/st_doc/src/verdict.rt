@@ -97,12 +97,12 @@ fn is_last_rev(entries: &[SchemaEntry], rev: Rev) -> bool
 
 impl Doc {
     ghost use Rattle.st_marks.specs.Document.{IsLive};
-    ghost use Rattle.st_marks.specs.Verdict.{IsVerdict, IsInEffect, IsUnmetNeed, IsAboveItself};
+    ghost use Rattle.st_marks.specs.Verdict.{IsVerdict, IsBaseInEffect, IsUnmetNeed, IsAboveItself};
     ghost use Rattle.st_doc.specs.Doc.{document_of};
 
     // Whether the schema is in effect under which an intent was made.
     fn has_base(&self, intent: &Intent) -> bool
-        ensures { (result ≡ true) ↔ IsInEffect (document_of self.now) intent.now }
+        ensures { (result ≡ true) ↔ IsBaseInEffect (document_of self.now) intent.now }
     {
         match &intent.schema {
             None => has_rev(self.schemas.as_slice(), intent.under),

@@ -6,7 +6,7 @@ use Rattle.std.specs.Ordering.{is_eq}
 use Rattle.std.specs.List.{list_any, AllByRecursion, filter_map, flat_map}
 use Rattle.std.proofs.lemmas.Cmp.{tied_itself}
 use Rattle.std.proofs.lemmas.List.{length-map}
-use Rattle.st_ids.specs.Listing.{Has}
+use Rattle.st_ids.specs.Listing.{AreDistinct, Has}
 use Rattle.st_ids.specs.Order.{same_rev, same_node, same_cell, same_field, rev_cmp}
 use Rattle.st_ids.specs.declared.names.CellId.{CellId}
 use Rattle.st_ids.specs.declared.names.FieldId.{FieldId}
@@ -19,7 +19,7 @@ use Rattle.st_marks.specs.declared.intents.Intent.{Intent}
 use Rattle.st_marks.specs.declared.intents.Owned.{Owned}
 use Rattle.st_marks.specs.declared.intents.Put.{Put}
 use Rattle.st_marks.specs.declared.intents.To.{To}
-use Rattle.st_marks.specs.Document.{AreDistinct, ClimbsToAnEnd, root}
+use Rattle.st_marks.specs.Document.{ClimbsToAnEnd, root}
 use Rattle.st_marks.specs.Intent.{IsIntent, is_new, put_of, new_row_of, clears, cell_of, register_of, same_anchor, group_cells, above_new}
 use Rattle.st_marks.proofs.Members.{any-has, has-any, all-has, has-all, has-flat_map, flat_map-has, map-has, distinct-append, distinct-left, distinct-right, distinct-between}
 use Rattle.st_intent.specs.Rules.{are_same, makes, is_put, new_names_hold, cells_apart, anchor_made, group_holds, groups_hold, is_nowhere, fills_cleared, put_holds, puts_hold, ends_within, no_ring_holds, is_empty, has_nothing, schema_holds, others_hold, is_intent}

@@ -2,8 +2,7 @@
 use Rattle.std.proofs.Common.{◌≡◌, ◌≢◌, ◌↔◌, nat_lt, Bool, true, false, not, ◌&&◌, ◌||◌, List, [], ◌∷◌, length, Option, Some, None, refl, sym, ap, ◌∙◌, arith, inl, inr, ◌⊎◌}
 use Rattle.std.specs.List.{list_any, list_all, AllByRecursion, filter_map, flat_map, cons_option}
 use Rattle.std.proofs.lemmas.Bool.Decides.{nat_tests}
-use Rattle.st_ids.specs.Listing.{Has}
-use Rattle.st_marks.specs.Document.{AreDistinct}
+use Rattle.st_ids.specs.Listing.{AreDistinct, Has}
 use Rattle.st_marks.proofs.Members.{any-has, has-any, all-has, has-all, has-flat_map, flat_map-has, has-filter_map}
 use Rattle.st_intent.specs.Rules.{are_apart}
 

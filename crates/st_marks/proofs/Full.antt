@@ -11,7 +11,7 @@ use Rattle.st_marks.specs.declared.intents.Put.{Put}
 use Rattle.st_marks.specs.declared.intents.To.{To}
 use Rattle.st_marks.specs.declared.places.Spot.{Spot}
 use Rattle.st_marks.specs.declared.schemas.SchemaEntry.{SchemaEntry}
-use Rattle.st_marks.specs.Document.{Document, root, node_of, above, IsAncestor, ClimbsToAnEnd, AreInEffect, IsSoundInForm, owned, opening, first_of, revs}
+use Rattle.st_marks.specs.Document.{Document, root, node_of, above, IsAncestor, ClimbsToAnEnd, CanBeInEffect, IsSoundInForm, owned, opening, first_of, revs}
 use Rattle.st_marks.specs.Extends.{IsExtendedBy}
 use Rattle.st_marks.specs.Intent.{put_of, put_in, clears, cell_of, register_of, IsIntent, Fits, IsKnown, Owns}
 use Rattle.st_marks.specs.CarryOut.{full, with_names, spot_of, place_after, unless_cleared, unless_put, with_schema}
@@ -193,7 +193,7 @@ same_first : (es : List SchemaEntry) (e : SchemaEntry) → first_of (revs es) �
 same_first [] e h = cc
 same_first (d ∷ es) e h = refl
 
-with_schema_in_effect : (N : Intent) (es : List SchemaEntry) (o : Option (List ℕ)) → AreInEffect es → IfSome o (λ _. AllByRecursion (λ (e : SchemaEntry). e.rev ≢ N.rev) es) → AreInEffect (with_schema N o es) × (first_of es ≡ first_of (with_schema N o es))
+with_schema_in_effect : (N : Intent) (es : List SchemaEntry) (o : Option (List ℕ)) → CanBeInEffect es → IfSome o (λ _. AllByRecursion (λ (e : SchemaEntry). e.rev ≢ N.rev) es) → CanBeInEffect (with_schema N o es) × (first_of es ≡ first_of (with_schema N o es))
 with_schema_in_effect N es None a h = (a, refl)
 with_schema_in_effect N es (Some t) a h =
     let e : SchemaEntry = record { rev = N.rev; text = t } in (

@@ -15,6 +15,8 @@ mod WorkedRows
 mod WorkedVerdicts
 mod WorkedRegisters
 mod WorkedNegative
+mod WorkedJoin
+mod WorkedBack
 pub mod Retreat
 pub mod WayBack
 pub mod Joined

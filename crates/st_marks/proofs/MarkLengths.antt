@@ -3,7 +3,7 @@ use Rattle.std.proofs.Common.{◌≡◌, ◌+◌, ◌<◌, min, ℕ, zero, suc, 
 use Rattle.std.proofs.lemmas.List.{take_more, get_or_default}
 use Rattle.st_marks.specs.declared.marks.Mark.{Mark}
 use Rattle.st_marks.specs.Row.{CellMark, Counted, Gap, Touch, Make, Fill, counted, spread}
-use Rattle.st_marks.specs.Listings.{seen, counted_cell, empty_cell, is_leave, cells_before, cells_after}
+use Rattle.st_marks.specs.Shown.{seen, counted_cell, empty_cell, is_leave, cells_before, cells_after}
 
 counted-append : (k : ℕ) (xs ys : List CellMark) → counted k (xs ++ ys) ≡ counted k xs ++ ys
 counted-append zero xs ys = refl

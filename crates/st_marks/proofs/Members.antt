@@ -1,8 +1,7 @@
 -- The items of lists: joined, mapped, found by a test, and distinct by a key.
 use Rattle.std.proofs.Common.{◌≡◌, ◌≢◌, Bool, true, false, List, [], ◌∷◌, ◌++◌, map, Option, Some, None, cond, ◌||◌, refl, sym, ap, ◌∙◌, subst, inl, inr, ◌⊎◌}
 use Rattle.std.specs.List.{AllByRecursion, filter_map, flat_map, find, list_any}
-use Rattle.st_ids.specs.Listing.{Has}
-use Rattle.st_marks.specs.Document.{AreDistinct}
+use Rattle.st_ids.specs.Listing.{AreDistinct, Has}
 
 pub true-false : {b : Bool} → b ≡ true → b ≡ false → ⊥
 true-false e f = let q : ◌≡◌ {A = Bool} true false = sym e ∙ f in cc

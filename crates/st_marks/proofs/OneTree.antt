@@ -6,7 +6,7 @@ use Rattle.serde_json.specs.Data.{Data, array, object, Items, item, Members, mem
 use Rattle.serde_json.specs.Written.{compact_text}
 use Rattle.st_ids.specs.declared.names.NodeId.{NodeId}
 use Rattle.st_marks.specs.Document.{Document, NodeType, root}
-use Rattle.st_marks.specs.LiveTree.{Shows, leaf, row, registers, ShowsItems, no_more_items, next_item, ShowsMembers, no_more_members, next_member, leaf_data, one_member, key_at, IsTreeText}
+use Rattle.st_marks.specs.LiveTree.{Shows, shows_leaf, shows_row, shows_registers, ShowsItems, no_more_items, next_item, ShowsMembers, no_more_members, next_member, leaf_data, one_member, key_at, IsTreeText}
 use Rattle.st_marks.proofs.Members.{true-false}
 use Rattle.st_marks.proofs.Unique.{one_list}
 
@@ -16,25 +16,25 @@ module _ (is_array : List ℕ → Bool) (D : Document) where
 
   mutual
     one_tree_of : {n : NodeId} {d e : Data} → Shows is_array D n d → Shows is_array D n e → d ≡ e
-    one_tree_of (leaf n ty v p) (leaf _ uy w q) = let t = same_type n _ _ p q in let o : Some v ≡ Some w = ap (λ (t : NodeType). t.leaf) t in let same : v ≡ w = cc in ap leaf_data same
-    one_tree_of (leaf n ty v p) (row _ uy items q a s) = let t = same_type n _ _ p q in let o : Some v ≡ None = ap (λ (t : NodeType). t.leaf) t in cc
-    one_tree_of (leaf n ty v p) (registers _ uy keys ms q a l s) = let t = same_type n _ _ p q in let o : Some v ≡ None = ap (λ (t : NodeType). t.leaf) t in cc
-    one_tree_of (row n ty items p a r) (leaf _ uy w q) = let t = same_type n _ _ p q in let o : None ≡ Some w = ap (λ (t : NodeType). t.leaf) t in cc
-    one_tree_of (row n ty items p a r) (row _ uy jtems q b s) =
+    one_tree_of (shows_leaf n ty v p) (shows_leaf _ uy w q) = let t = same_type n _ _ p q in let o : Some v ≡ Some w = ap (λ (t : NodeType). t.leaf) t in let same : v ≡ w = cc in ap leaf_data same
+    one_tree_of (shows_leaf n ty v p) (shows_row _ uy items q a s) = let t = same_type n _ _ p q in let o : Some v ≡ None = ap (λ (t : NodeType). t.leaf) t in cc
+    one_tree_of (shows_leaf n ty v p) (shows_registers _ uy keys ms q a l s) = let t = same_type n _ _ p q in let o : Some v ≡ None = ap (λ (t : NodeType). t.leaf) t in cc
+    one_tree_of (shows_row n ty items p a r) (shows_leaf _ uy w q) = let t = same_type n _ _ p q in let o : None ≡ Some w = ap (λ (t : NodeType). t.leaf) t in cc
+    one_tree_of (shows_row n ty items p a r) (shows_row _ uy jtems q b s) =
         let t = same_type n _ _ p q in
         let name : ty ≡ uy = ap (λ (t : NodeType). t.ty) t in
         let same = one_items r s in
         λ i. one_member (name i) (array (same i))
-    one_tree_of (row n ty items p a r) (registers _ uy keys ms q b l s) =
+    one_tree_of (shows_row n ty items p a r) (shows_registers _ uy keys ms q b l s) =
         let t = same_type n _ _ p q in
         let name : ty ≡ uy = ap (λ (t : NodeType). t.ty) t in
         absurd (true-false a (ap is_array name ∙ b))
-    one_tree_of (registers n ty keys ms p a l r) (leaf _ uy w q) = let t = same_type n _ _ p q in let o : None ≡ Some w = ap (λ (t : NodeType). t.leaf) t in cc
-    one_tree_of (registers n ty keys ms p a l r) (row _ uy items q b s) =
+    one_tree_of (shows_registers n ty keys ms p a l r) (shows_leaf _ uy w q) = let t = same_type n _ _ p q in let o : None ≡ Some w = ap (λ (t : NodeType). t.leaf) t in cc
+    one_tree_of (shows_registers n ty keys ms p a l r) (shows_row _ uy items q b s) =
         let t = same_type n _ _ p q in
         let name : ty ≡ uy = ap (λ (t : NodeType). t.ty) t in
         absurd (true-false b (ap is_array (sym name) ∙ a))
-    one_tree_of (registers n ty keys ms p a l r) (registers _ uy leys ns q b k s) =
+    one_tree_of (shows_registers n ty keys ms p a l r) (shows_registers _ uy leys ns q b k s) =
         let t = same_type n _ _ p q in
         let name : ty ≡ uy = ap (λ (t : NodeType). t.ty) t in
         let listed : leys ≡ keys = one_list nat_list_cmp_total exact_bytes (λ (k : List ℕ). k) leys keys (key_at D n) (key_at D n) refl k l in

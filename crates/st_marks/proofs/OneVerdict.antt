@@ -44,6 +44,9 @@ one_verdict D N Verdict.Sound (Verdict.Need n) a b = absurd (a.1 n b.1.0)
 one_verdict D N Verdict.Sound (Verdict.Cycle n) a b = absurd (a.2 n b.2.0)
 one_verdict D N Verdict.Sound Verdict.Sound a b = refl
 
+pub one_carried : (D : Document) (N : Intent) (v w : Verdict) → IsVerdict D N v → IsVerdict D N w → carried v D N ≡ carried w D N
+one_carried D N v w a b = ap (λ v. carried v D N) (one_verdict D N v w a b)
+
 pub one_run : {Ns : List Intent} {D E F : Document} → Run D Ns E → Run D Ns F → E ≡ F
 one_run done done = refl
 one_run {F = F} (next {D} {N = N} {Ns} v a r) (next w b q) = one_run r (subst (λ v. Run (carried v D N) Ns F) (one_verdict D N w v b a) q)

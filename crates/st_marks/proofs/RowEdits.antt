@@ -13,7 +13,7 @@ use Rattle.st_marks.specs.declared.verdicts.Verdict.{Verdict}
 use Rattle.st_marks.specs.Document.{Document, root, above, climb}
 use Rattle.st_marks.specs.Intent.{put_of, new_row_of, register_of}
 use Rattle.st_marks.specs.CarryOut.{full, spot_of, place_after, unless_cleared}
-use Rattle.st_marks.specs.Verdict.{IsVerdict, IsUnmetNeed, IsAboveItself, IsInEffect}
+use Rattle.st_marks.specs.Verdict.{IsVerdict, IsUnmetNeed, IsAboveItself, IsBaseInEffect}
 use Rattle.st_marks.specs.Run.{Run, done, next, run_whole}
 use Rattle.st_marks.specs.RowEdits.{IsOneRow, IsRowEdit}
 use Rattle.st_marks.proofs.Lookups.{put-has, group-new_row_of}
@@ -83,7 +83,7 @@ module _ (D : Document) (N : Intent) (d : IsOneRow D) (e : IsRowEdit D.schemas N
           let put : IsSome (put_of N m) = h.0 in
           let bad : ◌≡◌ {A = Bool} false true = rw unput at put in cc
 
-  in_effect : IsInEffect D N
+  in_effect : IsBaseInEffect D N
   in_effect = rw e.no_schema e.under
 
   no_needs : (m : NodeId) → IsUnmetNeed D N m → ⊥

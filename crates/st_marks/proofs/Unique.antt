@@ -5,6 +5,7 @@ use Rattle.std.specs.declared.cmp.Ordering.{Ordering}
 use Rattle.std.specs.Cmp.{IsTotalOrder}
 use Rattle.std.proofs.lemmas.Map.Lookups.{CmpEqualImpliesEq}
 use mathlib.Core.Path.{fun_ext}
+use Rattle.st_ids.specs.Listing.{IsListing, AreDistinct}
 use Rattle.st_ids.specs.declared.names.CellId.{CellId}
 use Rattle.st_ids.specs.declared.names.NodeId.{NodeId}
 use Rattle.st_ids.proofs.Orders.{same_listing, node_cmp_total, node_cmp_exact, field_cmp_total, field_cmp_exact}
@@ -20,7 +21,7 @@ use Rattle.st_marks.specs.declared.places.Slot.{Slot}
 use Rattle.st_marks.specs.declared.schemas.SchemaEntry.{SchemaEntry}
 use Rattle.st_marks.specs.declared.schemas.SchemaStep.{SchemaStep}
 use Rattle.st_marks.specs.declared.steps.Step.{Step}
-use Rattle.st_marks.specs.Document.{Document, IsListing, AreDistinct, IsSoundInForm, slot, content, first_of, last_of, revs}
+use Rattle.st_marks.specs.Document.{Document, IsSoundInForm, slot, content, first_of, last_of, revs}
 use Rattle.st_marks.specs.Extends.{Grows, done, gained, kept}
 use Rattle.st_marks.specs.Row.{Make, SameCell, step_cell, step_row, embed_row}
 use Rattle.st_marks.specs.Register.{embed_register, step_register}
@@ -39,7 +40,7 @@ one_test m m' P h h' = fun_ext (λ n. both_or_none (m n) (m' n) (λ e. (h' n).1 
 
 -- two listings that have the same at each name are one
 pub one_list : {K A : Type 0} {cmp : K → K → Ordering} → IsTotalOrder cmp → CmpEqualImpliesEq cmp → (key : A → K) (xs ys : List A) (at at' : K → Option A) → at ≡ at' → IsListing cmp key xs at → IsListing cmp key ys at' → xs ≡ ys
-one_list t exact key xs ys at at' e x y = same_listing t exact key xs ys x.0 y.0 (λ k. x.1 k ∙ ap (λ (f : _ → Option _). f k) e ∙ sym (y.1 k))
+one_list t exact key xs ys at at' e x y = same_listing t exact key xs ys x.rising y.rising (λ k. x.at_each k ∙ ap (λ (f : _ → Option _). f k) e ∙ sym (y.at_each k))
 
 -- ## The embedding
 

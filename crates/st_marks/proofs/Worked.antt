@@ -101,6 +101,10 @@ removes s n = intent (rev s 1) [] [] [] (puts n To.Nowhere ∷ [])
 abbrev pub moves : ℕ → NodeId → NodeId → Intent
 moves s n to = intent (rev s 1) [] (group to None (cell s 1 0) n ∷ []) [] (puts n (To.Cell (cell s 1 0)) ∷ [])
 
+-- session 1 puts a new node into the register of 0.0.1
+abbrev pub sets : Intent
+sets = intent (rev 1 1) (new (node 1 1 0) ∷ []) [] (field (old 1) ∷ []) (puts (node 1 1 0) (To.Register (field (old 1))) ∷ [])
+
 -- the number of a node, to tell two nodes apart
 abbrev pub number : Option NodeId → ℕ
 number None = 0

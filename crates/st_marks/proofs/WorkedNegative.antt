@@ -6,7 +6,7 @@ use Rattle.std.specs.Cmp.{nat_cmp_is}
 use Rattle.std.specs.Cmp.Lexicographic.{slice_cmp}
 use Rattle.std.specs.declared.cmp.Ordering.{Ordering}
 use Rattle.std.specs.declared.cmp.Ordering.TheVariants.{Less, Equal, Greater}
-use Rattle.st_ids.specs.Listing.{Has}
+use Rattle.st_ids.specs.Listing.{AreDistinct, Has}
 use Rattle.st_ids.specs.Order.{field_cmp, same_node, same_cell, same_field}
 use Rattle.st_ids.specs.declared.names.FieldId.{FieldId}
 use Rattle.st_ids.specs.declared.names.NodeId.{NodeId}
@@ -20,12 +20,12 @@ use Rattle.st_marks.specs.declared.marks.Mark.{Mark}
 use Rattle.st_marks.specs.declared.places.Spot.{Spot}
 use Rattle.st_marks.specs.declared.schemas.SchemaEntry.{SchemaEntry}
 use Rattle.st_marks.specs.declared.steps.Step.{Step}
-use Rattle.st_marks.specs.Document.{Document, root, opening, first_of, last_of, revs, AreInEffect}
+use Rattle.st_marks.specs.Document.{Document, root, opening, last_of, revs, CanBeInEffect}
 use Rattle.st_marks.specs.Verdict.{HasBase}
 use Rattle.st_marks.specs.Back.{IsBack}
 use Rattle.st_marks.specs.Normal.{IsNormalChange, IsNormalStep}
-use Rattle.st_marks.specs.Listings.{Says, ShowsCell, listing_before_change, listing_after_change}
-use Rattle.st_marks.specs.Agree.{Differs, node_twice, MadeAgain, OwnedTooEarly, early, ComposeClash, IsApartAt, row_field}
+use Rattle.st_marks.specs.Shown.{says_in_row, says_nowhere, shown_before_change, shown_after_change}
+use Rattle.st_marks.specs.Agree.{Differs, node_twice, cell_again, owned_early, ComposeClash, IsApartAt, row_field}
 use Rattle.st_marks.proofs.Members.{all-has, append_right}
 use Rattle.st_marks.proofs.Worked.{node, cell, old, old_cell, rev, field, new, puts, opening_entry}
 
@@ -35,11 +35,11 @@ use Rattle.st_marks.proofs.Worked.{node, cell, old, old_cell, rev, field, new, p
 abbrev odd : Change
 odd = record { rev = rev 2 1; under = opening; base = false; need = []; new = []; rows = []; regs = []; loose = []; schema = None }
 
-opening_in_effect : (es : List SchemaEntry) → AreInEffect es → Has (revs es) opening
+opening_in_effect : (es : List SchemaEntry) → CanBeInEffect es → Has (revs es) opening
 opening_in_effect [] a = let bad : None ≡ Some opening = a.begun in cc
 opening_in_effect (e ∷ es) a = inl (let q : Some e.rev ≡ Some opening = a.begun in cc)
 
-base_of_odd : (es : List SchemaEntry) (schema : Option (List ℕ)) (under : Rev) → AreInEffect es → None ≡ schema → opening ≡ under → HasBase es schema under
+base_of_odd : (es : List SchemaEntry) (schema : Option (List ℕ)) (under : Rev) → CanBeInEffect es → None ≡ schema → opening ≡ under → HasBase es schema under
 base_of_odd es None under a e f = subst (Has (revs es)) f (opening_in_effect es a)
 base_of_odd es (Some t) under a e f = cc
 
@@ -54,10 +54,10 @@ odd_is_not_normal h =
 abbrev forgets : Step
 forgets = record { new = []; rows = []; regs = []; loose = []; schema = Some (record { on = rev 1 1; cut = opening_entry ∷ []; add = [] }) }
 
-opening_is_first : (front es : List SchemaEntry) → AreInEffect es → es ≡ front ++ opening_entry ∷ [] → last_of (revs front) ≡ Some (rev 1 1) → ⊥
+opening_is_first : (front es : List SchemaEntry) → CanBeInEffect es → es ≡ front ++ opening_entry ∷ [] → last_of (revs front) ≡ Some (rev 1 1) → ⊥
 opening_is_first [] es a e f = cc
 opening_is_first (d ∷ front) es a e f =
-    let b = subst AreInEffect e a in
+    let b = subst CanBeInEffect e a in
     let first : d.rev ≡ opening = let q : Some d.rev ≡ Some opening = b.begun in cc in
     all-has (λ (x : SchemaEntry). x.rev ≢ d.rev) (front ++ opening_entry ∷ []) opening_entry b.once.0 (append_right front (opening_entry ∷ []) opening_entry (inl refl)) (sym first)
 
@@ -70,7 +70,7 @@ forgets_is_not_normal h =
 
 -- an intent that puts one node twice
 not_back : (D E : Document) (r u : Rev) (B : Intent) (n : NodeId) (a b : To) (ps : List Put) → B.put ≡ puts n a ∷ puts n b ∷ ps → IsBack D E r u B → ⊥
-not_back D E r u B n a b ps e h = (subst (λ l. Rattle.st_marks.specs.Document.AreDistinct (λ (p : Put). p.node) l) e h.itself.put_once).0.0 refl
+not_back D E r u B n a b ps e h = (subst (λ l. AreDistinct (λ (p : Put). p.node) l) e h.itself.put_once).0.0 refl
 
 -- ## Not agreeing
 
@@ -103,7 +103,7 @@ fills_old = step [] (record { node = root; marks = Mark.Fill (old_cell 5) (node 
 
 owned_too_early : IsApartAt (ComposeClash makes_owner fills_old) (row_field root)
 unfolding same_node same_cell
-owned_too_early = (inr (inr (inl (early (old_cell 5) (node 1 1 0) root root 0 (record { cells = _; full = false; listed = refl; at_place = refl }) refl refl refl))), λ f h. root_is_first f)
+owned_too_early = (inr (inr (inl (owned_early (old_cell 5) (node 1 1 0) root root 0 (record { cells = _; full = false; listed = refl; at_place = refl }) refl refl refl))), λ f h. root_is_first f)
 
 -- the second makes a cell that the first names, in another row: both rows are named, of which the root's is shown
 abbrev names_cell : Step
@@ -114,11 +114,11 @@ makes_cell = step [] (record { node = old 3; marks = Mark.Make (old_cell 5) (old
 
 made_again : IsApartAt (ComposeClash names_cell makes_cell) (row_field root)
 unfolding same_node same_cell
-made_again = (inr (inl (Rattle.st_marks.specs.Agree.cell (old_cell 5) root root refl refl refl)), λ f h. root_is_first f)
+made_again = (inr (inl (cell_again (old_cell 5) root root refl refl refl)), λ f h. root_is_first f)
 
 also_named : ComposeClash names_cell makes_cell (row_field (old 3))
 unfolding same_node same_cell
-also_named = inr (inl (Rattle.st_marks.specs.Agree.cell (old_cell 5) root (old 3) refl refl refl))
+also_named = inr (inl (cell_again (old_cell 5) root (old 3) refl refl refl))
 
 -- the first clears a register and so evicts 0.0.2; the second finds that in the root's row
 abbrev evicts : Change
@@ -127,7 +127,7 @@ evicts = record { rev = rev 1 1; under = opening; base = true; need = []; new = 
 abbrev finds : Change
 finds = record { rev = rev 1 1; under = opening; base = true; need = []; new = []; rows = record { node = root; marks = Mark.Touch (old_cell 1) (old 2) Leave ∷ [] } ∷ []; regs = []; loose = []; schema = None }
 
-evicted_elsewhere : Differs (listing_after_change evicts) (listing_before_change finds) (row_field root)
+evicted_elsewhere : Differs (shown_after_change evicts) (shown_before_change finds) (row_field root)
 unfolding same_node same_cell same_field
-evicted_elsewhere = node_twice (old 2) Spot.Nowhere (Spot.Row root (old_cell 1)) (Rattle.st_marks.specs.Listings.nowhere (old 2) refl)
-    (Rattle.st_marks.specs.Listings.in_row root (old 2) (old_cell 1) _ 0 refl refl) (λ e. cc) (row_field root) (inr refl)
+evicted_elsewhere = node_twice (old 2) Spot.Nowhere (Spot.Row root (old_cell 1)) (says_nowhere (old 2) refl)
+    (says_in_row root (old 2) (old_cell 1) _ 0 refl refl) (λ e. cc) (row_field root) (inr refl)

@@ -15,13 +15,9 @@ use Rattle.st_marks.specs.Extends.{gained, kept, done}
 use Rattle.st_marks.specs.Row.{step_row}
 use Rattle.st_marks.specs.Register.{embed_register, step_register}
 use Rattle.st_marks.specs.Embedding.{is_among, register_part, row_marks, named_by_intent}
-use Rattle.st_marks.proofs.Worked.{node, cell, old, old_cell, rev, field, full_cell, empty, one_held, two, intent, new, group, puts}
+use Rattle.st_marks.proofs.Worked.{node, cell, old, old_cell, rev, field, full_cell, empty, one_held, two, intent, new, group, puts, sets}
 
 -- ## Evicted
-
--- a new node for the register of 0.0.1, which holds 0.0.2
-abbrev sets : Intent
-sets = intent (rev 1 1) (new (node 1 1 0) ∷ []) [] (field (old 1) ∷ []) (puts (node 1 1 0) (To.Register (field (old 1))) ∷ [])
 
 occupant_after : (full one_held sets).held (field (old 1)) ≡ Some (node 1 1 0)
 unfolding same_node same_field

@@ -24,6 +24,12 @@ tie : content (run_whole two (inserts 1 after ∷ inserts 2 after ∷ [])) root
 unfolding same_node same_cell
 tie = refl
 
+-- the order in which they come decides, not their names
+tie_other_way : content (run_whole two (inserts 2 after ∷ inserts 1 after ∷ [])) root
+    ≡ full_cell (old_cell 0) (old 1) ∷ full_cell (cell 1 1 0) (node 1 1 0) ∷ full_cell (cell 2 1 0) (node 2 1 0) ∷ full_cell (old_cell 1) (old 2) ∷ []
+unfolding same_node same_cell
+tie_other_way = refl
+
 -- at the row's start too
 tie_at_start : content (run_whole two (inserts 1 None ∷ inserts 2 None ∷ [])) root
     ≡ full_cell (cell 2 1 0) (node 2 1 0) ∷ full_cell (cell 1 1 0) (node 1 1 0) ∷ full_cell (old_cell 0) (old 1) ∷ full_cell (old_cell 1) (old 2) ∷ []

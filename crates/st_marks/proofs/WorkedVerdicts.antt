@@ -2,20 +2,20 @@
 use Rattle.std.proofs.Common.{◌≡◌, ℕ, zero, suc, Bool, true, false, [], ◌∷◌, Option, Some, None, refl, sym, ap, subst, inl, inr, IsSome}
 use Rattle.std.specs.Ordering.{is_lt}
 use Rattle.st_ids.specs.Listing.{Has}
-use Rattle.st_ids.specs.Order.{node_cmp, same_node, same_cell}
+use Rattle.st_ids.specs.Order.{node_cmp, same_node, same_cell, same_field}
 use Rattle.st_ids.specs.declared.names.NodeId.{NodeId}
 use Rattle.st_marks.specs.declared.intents.Intent.{Intent}
 use Rattle.st_marks.specs.declared.intents.Put.{Put}
 use Rattle.st_marks.specs.declared.intents.To.{To}
 use Rattle.st_marks.specs.declared.places.Spot.{Spot}
 use Rattle.st_marks.specs.declared.verdicts.Verdict.{Verdict}
-use Rattle.st_marks.specs.Document.{Document, root, above, climb, content}
+use Rattle.st_marks.specs.Document.{Document, IsLive, root, above, climb, content}
 use Rattle.st_marks.specs.Intent.{put_of}
 use Rattle.st_marks.specs.CarryOut.{full, void}
 use Rattle.st_marks.specs.Verdict.{IsLeast, IsVerdict, IsAboveItself}
 use Rattle.st_marks.specs.Run.{Run, done, next}
 use Rattle.st_marks.proofs.Lookups.{put-has}
-use Rattle.st_marks.proofs.Worked.{node, cell, old, old_cell, rev, full_cell, empty, two, new, group, removes, moves, puts, number, is_one}
+use Rattle.st_marks.proofs.Worked.{node, cell, old, old_cell, rev, field, full_cell, empty, two, intent, new, group, removes, moves, puts, number, is_one}
 
 -- ## A ring, in both orders
 
@@ -88,6 +88,46 @@ nested = record {
   schema = None;
 }
 
+-- where 0.0.2 is live, that is sound
+is_session_one : Option NodeId → Bool
+is_session_one None = false
+is_session_one (Some n) = is_one n.0.rev.session
+
+outer_no_ring : (k : ℕ) → climb (above (full two nested)) (suc k) (node 1 1 0) ≡ Some (node 1 1 0) → ⊥
+unfolding same_node same_cell is_session_one
+outer_no_ring zero e = let q : ◌≡◌ {A = Bool} false true = ap is_session_one e in cc
+outer_no_ring (suc k) e = cc
+
+inner_no_ring : (k : ℕ) → climb (above (full two nested)) (suc k) (node 1 1 1) ≡ Some (node 1 1 1) → ⊥
+unfolding same_node same_cell
+inner_no_ring zero e = let q : ◌≡◌ {A = Bool} false true = ap (λ (o : Option NodeId). is_one (number o)) e in cc
+inner_no_ring (suc zero) e = let q : ◌≡◌ {A = Bool} false true = ap (λ (o : Option NodeId). is_one (number o)) e in cc
+inner_no_ring (suc (suc k)) e = cc
+
+need_is_live : IsLive two (old 2)
+unfolding same_node
+need_is_live = (1, refl)
+
+need_is_met : IsVerdict two nested Verdict.Sound
+need_is_met = (
+  inl refl,
+  (λ m h. elim h.0 [ inl q ↦ h.1 (subst (IsLive two) q need_is_live) | inr q ↦ absurd q ]),
+  no_ring,
+)
+  where
+    no_ring : (m : NodeId) → IsAboveItself two nested m → ⊥
+    no_ring m h = go (put_of nested m) refl h.0
+      where
+        go : (o : Option To) → put_of nested m ≡ o → IsSome o → ⊥
+        go None f k = cc
+        go (Some t) f k = elim (put-has nested m t f) [
+          | inl q ↦ (let e : node 1 1 0 ≡ m = ap (λ (p : Put). p.node) q in outer_no_ring h.1.0 (subst (λ m. climb (above (full two nested)) (suc h.1.0) m ≡ Some m) (sym e) h.1.1))
+          | inr r ↦ elim r [
+            | inl q ↦ (let e : node 1 1 1 ≡ m = ap (λ (p : Put). p.node) q in inner_no_ring h.1.0 (subst (λ m. climb (above (full two nested)) (suc h.1.0) m ≡ Some m) (sym e) h.1.1))
+            | inr q ↦ absurd q
+          ]
+        ]
+
 abbrev removed : Document
 removed = full two (removes 2 (old 2))
 
@@ -121,6 +161,21 @@ row_of_void = refl
 row_in_void : content (void removed nested) (node 1 1 0) ≡ full_cell (cell 1 1 1) (node 1 1 1) ∷ []
 unfolding same_node same_cell
 row_in_void = refl
+
+-- void, a new node stands in the register of a new node, but an old one doesn't leave its place for it
+abbrev holds_new : Intent
+holds_new = intent (rev 1 1) (new (node 1 1 0) ∷ new (node 1 1 1) ∷ []) [] (field (node 1 1 0) ∷ []) (puts (node 1 1 1) (To.Register (field (node 1 1 0))) ∷ [])
+
+new_is_held : ((void two holds_new).held (field (node 1 1 0)) ≡ Some (node 1 1 1)) × ((void two holds_new).place (node 1 1 1) ≡ Spot.Register (field (node 1 1 0)))
+unfolding same_node same_field
+new_is_held = (refl, refl)
+
+abbrev holds_old : Intent
+holds_old = intent (rev 1 1) (new (node 1 1 0) ∷ []) [] (field (node 1 1 0) ∷ []) (puts (old 2) (To.Register (field (node 1 1 0))) ∷ [])
+
+old_is_not_held : ((void two holds_old).held (field (node 1 1 0)) ≡ None) × ((void two holds_old).place (old 2) ≡ Spot.Row root (old_cell 1))
+unfolding same_node same_field
+old_is_not_held = (refl, refl)
 
 -- a schema that isn't in effect comes before a need that isn't met
 schema_first : IsVerdict removed (record nested { under = rev 3 1 }) (Verdict.Schema (rev 3 1))

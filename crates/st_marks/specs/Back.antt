@@ -14,7 +14,7 @@ use Rattle.st_marks.specs.Intent.{IsIntent, put_of, clears}
 abbrev pub is_in : Document → NodeId → Bool
 is_in D n = is_some (D.nodes n)
 
--- where a node of E goes: one of D to its place there; a new one in a field of D's goes nowhere; any other stays
+-- where a node of E goes: a node of D to its place in D; a new one that stands in a field of a node of D nowhere; any other stays
 abbrev pub place_back : Document → Document → NodeId → Spot
 place_back D E n = if is_in D n then D.place n else if option_map_or (is_in D) (node_of (E.place n)) false then Spot.Nowhere else E.place n
 
@@ -23,7 +23,7 @@ abbrev pub unless_in : Document → Option NodeId → Option NodeId
 unless_in D None = None
 unless_in D (Some n) = if is_in D n then None else Some n
 
--- E with those places, and with D's schemas
+-- E with those places, the registers that go with them, and D's schemas
 abbrev pub retreat : Document → Document → Document
 retreat D E = record E {
   place = λ n. place_back D E n;
@@ -37,11 +37,11 @@ to_of Spot.Nowhere = To.Nowhere
 to_of (Spot.Row n c) = To.Cell c
 to_of (Spot.Register f) = To.Register f
 
--- the intent that leads back from E to D: nothing new and no needs, each place that differs, and a clear of each register
--- of D whose occupant differs
+-- B is the intent that leads back from E to D, under a revision and a schema's revision that are given: it makes nothing
+-- and needs nothing, puts each node whose place differs, and clears each register of a node of D whose occupant differs
 pub record IsBack (D E : Document) (rev under : Rev) (B : Intent) : Type 0 where
   pub itself : IsIntent B
-  pub named : (B.rev ≡ rev) × (B.under ≡ under)
+  pub rev_and_under : (B.rev ≡ rev) × (B.under ≡ under)
   pub nothing_new : (B.new ≡ []) × (B.groups ≡ []) × (B.need ≡ []) × (B.schema ≡ None)
   pub puts_what_differs : (n : NodeId) → MatchOption (put_of B n) (place_back D E n ≡ E.place n) (λ to. (place_back D E n ≢ E.place n) × (to ≡ to_of (place_back D E n)))
   pub clears_what_differs : (f : FieldId) → (clears B f ≡ true) ↔ (IsSome (D.nodes f.node) × (D.held f ≢ E.held f))

@@ -28,7 +28,7 @@ with_names D N = record D {
 
 -- ## Places
 
--- where a put leads, by the row of each cell
+-- the place to which a put leads, where `row_of` tells the row of each cell
 abbrev pub spot_of : (CellId → Option NodeId) → To → Spot
 spot_of row_of To.Nowhere = Spot.Nowhere
 spot_of row_of (To.Cell c) = option_map_or (λ n. Spot.Row n c) (row_of c) Spot.Nowhere
@@ -40,7 +40,7 @@ unless_cleared N Spot.Nowhere = Spot.Nowhere
 unless_cleared N (Spot.Row n c) = Spot.Row n c
 unless_cleared N (Spot.Register f) = if clears N f then Spot.Nowhere else Spot.Register f
 
--- a node's place after the clears and then the puts, from where it is put and where it stood
+-- a node's place after the clears and then the puts, by where it is put and where it stood
 abbrev pub place_after : (CellId → Option NodeId) → Intent → Option To → Spot → Spot
 place_after row_of N None spot = unless_cleared N spot
 place_after row_of N (Some to) spot = spot_of row_of to
@@ -71,7 +71,7 @@ full D N = record (with_names D N) {
 abbrev pub is_put_in_new : Document → Intent → NodeId → Bool
 is_put_in_new D N n = option_map_or (λ to. option_map_or (is_new N) (node_of (spot_of (with_names D N).row_of to)) false) (put_of N n) false
 
--- a new node, and no other
+-- the node, if it is new
 abbrev pub only_new : Intent → Option NodeId → Option NodeId
 only_new N None = None
 only_new N (Some n) = if is_new N n then Some n else None

@@ -1,9 +1,9 @@
--- The document: what stands where, with every cell that was ever made. It is told by look-ups, and two documents
--- with the same look-ups are one. A name that isn't among the nodes is nowhere, and has no cells and no registers.
+-- The document: what stands where, with every cell that was ever made. It is a record of functions from names, so two
+-- documents that answer alike for each name are equal. Of a name that isn't among the nodes, a sound document says that
+-- it is nowhere and has no cells, and that its registers are empty.
 use Rattle.std.specs.Prelude.{◌≡◌, ◌≢◌, ◌↔◌, ◌<◌, ◌^◌, ℕ, zero, suc, Bool, false, List, [], ◌∷◌, map, length, Option, Some, None, IsSome, option_and_then}
-use Rattle.std.specs.List.{AllByRecursion, last_or}
-use Rattle.std.specs.declared.cmp.Ordering.{Ordering}
-use Rattle.st_ids.specs.Listing.{Has, IsRising, item_of}
+use Rattle.std.specs.List.{last_or}
+use Rattle.st_ids.specs.Listing.{AreDistinct, Has}
 use Rattle.st_ids.specs.Order.{same_cell}
 use Rattle.st_ids.specs.declared.names.CellId.{CellId}
 use Rattle.st_ids.specs.declared.names.FieldId.{FieldId}
@@ -15,13 +15,6 @@ use Rattle.st_marks.specs.declared.places.Slot.{Slot}
 use Rattle.st_marks.specs.declared.places.Spot.{Spot}
 use Rattle.st_marks.specs.declared.schemas.SchemaEntry.{SchemaEntry}
 
--- ## Lists
-
--- no two items have one key
-abbrev pub AreDistinct : {A K : Type 0} → (A → K) → List A → Type 0
-AreDistinct key [] = Unit {0}
-AreDistinct key (x ∷ xs) = AllByRecursion (λ y. key y ≢ key x) xs × AreDistinct key xs
-
 -- the first of a list
 abbrev pub first_of : {A : Type 0} → List A → Option A
 first_of [] = None
@@ -31,16 +24,14 @@ first_of (x ∷ xs) = Some x
 abbrev pub last_of : {A : Type 0} → List A → Option A
 last_of xs = last_or None xs
 
--- a list in rising order of names that has at each name what it should have
-abbrev pub IsListing : {K A : Type 0} → (K → K → Ordering) → (A → K) → List A → (K → Option A) → Type 0
-IsListing cmp key xs at = IsRising cmp key xs × ((k : _) → item_of cmp key xs k ≡ at k)
+-- ## Its parts
 
 -- what a node is: its type, and its value if it is a leaf
 pub record NodeType : Type 0 where
   pub ty : List ℕ
   pub leaf : Option Leaf
 
--- the document, by look-ups
+-- the document, as functions from names
 pub record Document : Type 0 where
   -- the nodes there are
   pub nodes : NodeId → Option NodeType
@@ -80,15 +71,15 @@ abbrev pub climb : (NodeId → Option NodeId) → ℕ → NodeId → Option Node
 climb up zero n = Some n
 climb up (suc k) n = option_and_then (climb up k) (up n)
 
--- the nodes above a node, and those above them
+-- a stands above n, directly or further up
 abbrev pub IsAncestor : Document → NodeId → NodeId → Type 0
 IsAncestor D a n = (k : ℕ) × (climb (above D) (suc k) n ≡ Some a)
 
--- the root, or beneath it
+-- the root, or a node beneath it
 abbrev pub IsLive : Document → NodeId → Type 0
 IsLive D n = (k : ℕ) × (climb (above D) k n ≡ Some root)
 
--- the steps up from a node come to an end
+-- going up from a node comes to an end
 abbrev pub ClimbsToAnEnd : (NodeId → Option NodeId) → NodeId → Type 0
 ClimbsToAnEnd up n = (k : ℕ) × (climb up k n ≡ None)
 
@@ -114,12 +105,12 @@ content D n = map (slot D) (D.rows n)
 abbrev pub revs : List SchemaEntry → List Rev
 revs entries = map (λ (e : SchemaEntry). e.rev) entries
 
--- such a list can be in effect: the opening's entry is its first, and no revision is there twice
-pub record AreInEffect (entries : List SchemaEntry) : Type 0 where
+-- entries that can be in effect together: the opening's is the first, and no revision is there twice
+pub record CanBeInEffect (entries : List SchemaEntry) : Type 0 where
   pub begun : first_of (revs entries) ≡ Some opening
   pub once : AreDistinct (λ (e : SchemaEntry). e.rev) entries
 
--- a cell in a node's row, owned by a node
+-- a cell with its owner
 abbrev pub owned : CellId → NodeId → Owned
 owned c m = record { cell = c; node = m }
 
@@ -127,7 +118,7 @@ owned c m = record { cell = c; node = m }
 abbrev pub HasShortRows : Document → Type 0
 HasShortRows D = (n : NodeId) → length (D.rows n) < 2 ^ 32
 
--- what each document is that is reached from an opening one
+-- what holds of each document that is reached from an opening one
 pub record IsSoundInForm (D : Document) : Type 0 where
   -- the root is there, and stands nowhere
   pub root_known : IsSome (D.nodes root)
@@ -146,4 +137,5 @@ pub record IsSoundInForm (D : Document) : Type 0 where
   pub register_key : (m : NodeId) (f : FieldId) → D.held f ≡ Some m → f.key.0 ≢ []
   -- from each node the places lead up to a node that is nowhere
   pub no_ring : (n : NodeId) → ClimbsToAnEnd (above D) n
-  pub in_effect : AreInEffect D.schemas
+  -- its schema entries can be in effect together
+  pub in_effect : CanBeInEffect D.schemas

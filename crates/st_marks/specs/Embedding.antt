@@ -1,7 +1,7 @@
 -- The embedding of an intent in a document: the change that says what the intent wants where it stands.
 use Rattle.std.specs.Prelude.{◌≡◌, ◌↔◌, ℕ, Bool, true, false, ◌&&◌, not, List, ◌++◌, map, Option, Some, None, IsSome, IsTrue, option_and_then, if◌then◌else◌}
 use Rattle.std.specs.List.{list_any, filter_map}
-use Rattle.st_ids.specs.Listing.{Has}
+use Rattle.st_ids.specs.Listing.{Has, IsListing}
 use Rattle.st_ids.specs.Order.{same_node, node_cmp, field_cmp}
 use Rattle.st_ids.specs.declared.names.FieldId.{FieldId}
 use Rattle.st_ids.specs.declared.names.NodeId.{NodeId}
@@ -15,9 +15,9 @@ use Rattle.st_marks.specs.declared.marks.Loose.{Loose}
 use Rattle.st_marks.specs.declared.marks.RegMark.{RegMark}
 use Rattle.st_marks.specs.declared.marks.RowMarks.{RowMarks}
 use Rattle.st_marks.specs.declared.places.Spot.{Spot}
-use Rattle.st_marks.specs.Document.{Document, IsListing, root, above, climb, content}
+use Rattle.st_marks.specs.Document.{Document, root, above, climb, content}
 use Rattle.st_marks.specs.Intent.{new_node, put_of, put_in, clears, group_at, cell_of}
-use Rattle.st_marks.specs.Verdict.{IsInEffect}
+use Rattle.st_marks.specs.Verdict.{IsBaseInEffect}
 use Rattle.st_marks.specs.Row.{CellMark, Counted, Gap, Touch, Make, Fill, RowPart, merge, embed_row, how}
 use Rattle.st_marks.specs.Register.{RegisterPart, embed_register}
 
@@ -39,7 +39,7 @@ IsMentionedByIntent D N n = (s : NodeId) × Has (named_by_intent D N) s × IsSom
 
 -- ## What is listed
 
--- a mark tells something, if it isn't of a cell that stays as it is with a node that isn't mentioned
+-- a mark for which a row is listed: of a full cell with a mentioned node, of a new cell, or of one that is filled
 abbrev pub tells : CellMark → Bool
 tells Counted = false
 tells (Gap c) = false
@@ -47,19 +47,19 @@ tells (Touch c n h) = true
 tells (Make c n b) = true
 tells (Fill c n) = true
 
--- a row is listed, whole, where a mark tells something
+-- a row that has such a mark is listed, and then the whole row
 abbrev pub row_marks : NodeId → List CellMark → Option RowMarks
 row_marks n cells = if list_any tells cells then Some (record { node = n; marks = merge cells }) else None
 
--- the part of an intent that concerns the row of a node
+-- the part of an intent that concerns a node's row
 abbrev pub row_part : (NodeId → Bool) → Intent → NodeId → RowPart
 row_part mentioned N n = record { made = group_at N n; goes = put_of N; mentioned = mentioned }
 
--- the part that concerns a register
+-- the part of an intent that concerns a register
 abbrev pub register_part : (NodeId → Bool) → Intent → FieldId → RegisterPart
 register_part mentioned N f = record { clear = clears N f; fill = put_in N f; goes = put_of N; mentioned = mentioned }
 
--- whether a place is none
+-- whether a place is nowhere
 abbrev pub is_nowhere : Spot → Bool
 is_nowhere Spot.Nowhere = true
 is_nowhere (Spot.Row n c) = false
@@ -73,13 +73,13 @@ is_loose mentioned D n = mentioned n && is_nowhere (D.place n) && not (same_node
 abbrev pub embed_loose : (NodeId → Bool) → Document → Intent → NodeId → Option Loose
 embed_loose mentioned D N n = if is_loose mentioned D n then Some (record { node = n; how = how (put_of N n) To.Nowhere }) else None
 
--- C lists N in D
+-- C is the change of N in D
 pub record IsEmbedding (D : Document) (N : Intent) (C : Change) : Type 0 where
   pub mentioned : NodeId → Bool
   pub which : (n : NodeId) → (mentioned n ≡ true) ↔ IsMentionedByIntent D N n
   pub rev : C.rev ≡ N.rev
   pub under : C.under ≡ N.under
-  pub base : IsTrue C.base ↔ IsInEffect D N
+  pub base : IsTrue C.base ↔ IsBaseInEffect D N
   pub schema : C.schema ≡ N.schema
   pub need : IsListing node_cmp (λ (n : NodeId). n) C.need (λ n. if is_among N.need n then Some n else None)
   pub new : IsListing node_cmp (λ (m : NewNode). m.node) C.new (new_node N)

@@ -1,7 +1,7 @@
 -- What a commit wants, by names alone: what its lists say, what it has to satisfy in itself, and when it fits a document.
 use Rattle.std.specs.Prelude.{◌≡◌, ◌≢◌, ◌⊎◌, ◌&&◌, Bool, true, false, List, [], Option, Some, None, IsSome, IsTrue, IfSome, is_some, option_map, option_and_then, if◌then◌else◌}
 use Rattle.std.specs.List.{list_any, find, AllByRecursion, filter_map, flat_map}
-use Rattle.st_ids.specs.Listing.{Has}
+use Rattle.st_ids.specs.Listing.{AreDistinct, Has}
 use Rattle.st_ids.specs.Order.{same_cell, same_node, same_field}
 use Rattle.st_ids.specs.declared.names.CellId.{CellId}
 use Rattle.st_ids.specs.declared.names.FieldId.{FieldId}
@@ -13,7 +13,7 @@ use Rattle.st_marks.specs.declared.intents.Owned.{Owned}
 use Rattle.st_marks.specs.declared.intents.Put.{Put}
 use Rattle.st_marks.specs.declared.intents.To.{To}
 use Rattle.st_marks.specs.declared.schemas.SchemaEntry.{SchemaEntry}
-use Rattle.st_marks.specs.Document.{Document, NodeType, root, owned, ClimbsToAnEnd, AreDistinct}
+use Rattle.st_marks.specs.Document.{Document, NodeType, root, owned, ClimbsToAnEnd}
 
 -- ## What its lists say
 
@@ -37,7 +37,7 @@ put_of N n = option_map (λ (p : Put). p.to) (find (λ (p : Put). same_node p.no
 abbrev pub clears : Intent → FieldId → Bool
 clears N f = list_any (λ g. same_field g f) N.clear
 
--- the old or new cell into which a node is put
+-- the cell into which a node is put
 abbrev pub cell_of : To → Option CellId
 cell_of To.Nowhere = None
 cell_of (To.Cell c) = Some c
@@ -87,20 +87,20 @@ new_row_of N c = option_map (λ (g : Group). g.node) (find (λ (g : Group). list
 abbrev pub group_cells : Intent → List Owned
 group_cells N = flat_map (λ (g : Group). g.cells) N.groups
 
--- in whose row of new cells or register a put leads
+-- the node whose row or register a put leads into; of cells, only new ones tell it
 abbrev pub put_under : Intent → Option To → Option NodeId
 put_under N None = None
 put_under N (Some To.Nowhere) = None
 put_under N (Some (To.Cell c)) = new_row_of N c
 put_under N (Some (To.Register f)) = Some f.node
 
--- the node above a new node, as far as both are new
+-- the new node in whose row or register a new node is put
 abbrev pub above_new : Intent → NodeId → Option NodeId
 above_new N n = if is_new N n then option_and_then (λ p. if is_new N p then Some p else None) (put_under N (put_of N n)) else None
 
 -- ## What it has to satisfy in itself
 
--- an intent that can be meant
+-- an intent that obeys the rules on intents
 pub record IsIntent (N : Intent) : Type 0 where
   -- new nodes and cells have its revision, and each is listed once
   pub new_rev : AllByRecursion (λ (m : NewNode). m.node.0.rev ≡ N.rev) N.new

@@ -11,7 +11,7 @@ use Rattle.st_marks.specs.Document.{Document, above, ClimbsToAnEnd}
 use Rattle.st_marks.specs.Intent.{IsIntent, Fits, new_node, is_new, put_of, clears, group_at, new_row_of}
 use Rattle.st_marks.specs.CarryOut.{full, with_groups}
 
--- the node above, as far as both are new in one of the two
+-- the node above in the document after both, where each of the two nodes is new in one of the intents
 abbrev pub above_made : Document → Intent → Intent → NodeId → Option NodeId
 above_made D N M n = if is_made n then option_and_then (λ p. if is_made p then Some p else None) (above (full (full D N) M) n) else None
   where
@@ -28,13 +28,13 @@ pub record AreParts (D : Document) (N M : Intent) : Type 0 where
   -- the nodes that they make form no ring among themselves
   pub no_ring : (n : NodeId) → ClimbsToAnEnd (above_made D N M) n
 
--- a put of a node; a node that the first part makes is not put where it would go nowhere
+-- a put of a node; one that would lead a new node nowhere is left out
 abbrev pub put_unless_new : Bool → To → Option To
 put_unless_new new To.Nowhere = if new then None else Some To.Nowhere
 put_unless_new new (To.Cell c) = Some (To.Cell c)
 put_unless_new new (To.Register f) = Some (To.Register f)
 
--- a put of the first part; into a register that the second clears it leads nowhere
+-- a put of the first part: one into a register that the second clears leads nowhere
 abbrev pub unless_cleared_by : Intent → To → To
 unless_cleared_by M To.Nowhere = To.Nowhere
 unless_cleared_by M (To.Cell c) = To.Cell c
@@ -49,14 +49,14 @@ abbrev pub IsOldAnchor : Intent → Option CellId → Type 0
 IsOldAnchor N None = Unit {0}
 IsOldAnchor N (Some c) = new_row_of N c ≡ None
 
--- J is both parts in turn
+-- J is both parts in turn, as one intent
 pub record IsJoin (N M J : Intent) : Type 0 where
   pub itself : IsIntent J
   pub rev : J.rev ≡ N.rev
   pub under : J.under ≡ N.under
   pub no_schema : J.schema ≡ None
   pub new_nodes : (n : NodeId) → new_node J n ≡ option_or (new_node N n) (new_node M n)
-  -- at an anchor stands the second's group, and then the first's with the second's groups in it
+  -- after an anchor stands the second's group, and then the first's, in which the second's groups stand after their anchors
   pub groups : (n : NodeId) (a : Option CellId) → IsOldAnchor N a → group_at J n a ≡ group_at M n a ++ with_groups M n (group_at N n a)
   pub puts : (n : NodeId) → put_of J n ≡ joined_put N M n
   pub clears_both : (f : FieldId) → clears J f ≡ (clears N f || clears M f)

@@ -13,5 +13,5 @@ pub mod Register
 pub mod Embedding
 pub mod Step
 pub mod Normal
-pub mod Listings
+pub mod Shown
 pub mod Agree

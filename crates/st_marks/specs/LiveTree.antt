@@ -5,11 +5,12 @@ use Rattle.std.specs.Cmp.Lexicographic.{slice_cmp}
 use Rattle.serde_json.specs.Data.{Data, null, boolean, number, string, array, object, Items, no_items, item, Members, no_members, member}
 use Rattle.serde_json.specs.Find.{of_integer}
 use Rattle.serde_json.specs.Written.{compact_text}
+use Rattle.st_ids.specs.Listing.{IsListing}
 use Rattle.st_ids.specs.declared.names.FieldId.{FieldId}
 use Rattle.st_ids.specs.declared.names.Leaf.{Leaf}
 use Rattle.st_ids.specs.declared.names.NodeId.{NodeId}
 use Rattle.st_marks.specs.declared.places.Slot.{Slot}
-use Rattle.st_marks.specs.Document.{Document, IsListing, root, content}
+use Rattle.st_marks.specs.Document.{Document, root, content}
 
 -- a leaf is shown as its value
 abbrev pub leaf_data : Leaf → Data
@@ -38,11 +39,11 @@ one_member key data_of = object (member key data_of no_members)
 mutual
   -- what a node shows, where `is_array` tells the types whose nodes have a row from those that have registers
   pub data Shows (is_array : List ℕ → Bool) (D : Document) : NodeId → Data → Type 0 where
-    leaf : (n : NodeId) (ty : List ℕ) (value : Leaf) → D.nodes n ≡ Some (record { ty = ty; leaf = Some value }) → Shows is_array D n (leaf_data value)
-    row : (n : NodeId) (ty : List ℕ) (items : Items) → D.nodes n ≡ Some (record { ty = ty; leaf = None }) → is_array ty ≡ true
+    shows_leaf : (n : NodeId) (ty : List ℕ) (value : Leaf) → D.nodes n ≡ Some (record { ty = ty; leaf = Some value }) → Shows is_array D n (leaf_data value)
+    shows_row : (n : NodeId) (ty : List ℕ) (items : Items) → D.nodes n ≡ Some (record { ty = ty; leaf = None }) → is_array ty ≡ true
         → ShowsItems is_array D (owners_shown (content D n)) items → Shows is_array D n (one_member ty (array items))
-    -- the keys of the registers that hold a node, in the order of their bytes
-    registers : (n : NodeId) (ty : List ℕ) (keys : List (List ℕ)) (members : Members) → D.nodes n ≡ Some (record { ty = ty; leaf = None }) → is_array ty ≡ false
+    -- `keys` are those of the registers that hold a node, in the order of their bytes
+    shows_registers : (n : NodeId) (ty : List ℕ) (keys : List (List ℕ)) (members : Members) → D.nodes n ≡ Some (record { ty = ty; leaf = None }) → is_array ty ≡ false
         → IsListing (slice_cmp nat_cmp) (λ (k : List ℕ). k) keys (key_at D n)
         → ShowsMembers is_array D n keys members → Shows is_array D n (one_member ty (object members))
 

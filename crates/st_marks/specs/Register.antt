@@ -18,7 +18,7 @@ holds_mentioned mentioned held = option_map_or mentioned held false
 
 -- ## A register over a step
 
--- it is listed where the occupant differs or is mentioned
+-- the register is listed where the occupant differs or is mentioned
 abbrev pub step_register : FieldId → (NodeId → Bool) → Option NodeId → Option NodeId → Option RegStep
 step_register f mentioned before after =
     if not (same_option same_node before after) || holds_mentioned mentioned before
@@ -46,7 +46,7 @@ how_held f p (Some n) = how (p.goes n) (To.Register f)
 abbrev pub comes_in : Option NodeId → Option NodeId → Option NodeId
 comes_in held fill = if same_option same_node held fill then None else fill
 
--- it is listed where it is cleared, or the occupant is mentioned
+-- the register is listed where it is cleared, or the occupant is mentioned
 abbrev pub embed_register : FieldId → RegisterPart → Option NodeId → Option RegMark
 embed_register f p held =
     if p.clear || holds_mentioned p.mentioned held

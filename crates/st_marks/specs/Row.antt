@@ -59,7 +59,7 @@ merge (Fill c n ∷ ms) = Mark.Fill c n ∷ merge ms
 abbrev pub SameCell : Slot → Slot → Type 0
 SameCell s t = (s.cell ≡ t.cell) × (s.node ≡ t.node)
 
--- a cell that is there before and after, by whether it is full before and after
+-- a cell that is there before and after, by whether it is full before and whether it is full after
 abbrev pub step_cell : (NodeId → Bool) → CellId → NodeId → Bool → Bool → CellMark
 step_cell mentioned c n true true = if mentioned n then Touch c n Stay else Counted
 step_cell mentioned c n true false = Touch c n Leave
@@ -86,12 +86,12 @@ same_to (To.Register f) To.Nowhere = false
 same_to (To.Register f) (To.Cell d) = false
 same_to (To.Register f) (To.Register g) = same_field f g
 
--- what becomes of a node at a place, from where it is put: not put it stays, put there it is set, put elsewhere it leaves
+-- what becomes of a node where it stands: it stays if it isn't put, is set here if it is put right there, and else leaves
 abbrev pub how : Option To → To → How
 how None here = Stay
 how (Some to) here = if same_to to here then Here else Leave
 
--- whether the node is put where it is
+-- whether the node is put right there
 abbrev pub is_here : How → Bool
 is_here Stay = false
 is_here Here = true

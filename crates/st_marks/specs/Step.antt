@@ -1,5 +1,6 @@
 -- The step from a document to one that extends it: the difference of places.
 use Rattle.std.specs.Prelude.{◌≡◌, ◌≢◌, ◌↔◌, ◌⊎◌, ℕ, Bool, true, List, ◌++◌, Option, Some, None, IsSome, if◌then◌else◌}
+use Rattle.st_ids.specs.Listing.{IsListing}
 use Rattle.st_ids.specs.Order.{node_cmp, field_cmp}
 use Rattle.st_ids.specs.declared.names.FieldId.{FieldId}
 use Rattle.st_ids.specs.declared.names.NodeId.{NodeId}
@@ -11,7 +12,7 @@ use Rattle.st_marks.specs.declared.marks.RowMarks.{RowMarks}
 use Rattle.st_marks.specs.declared.schemas.SchemaEntry.{SchemaEntry}
 use Rattle.st_marks.specs.declared.schemas.SchemaStep.{SchemaStep}
 use Rattle.st_marks.specs.declared.steps.Step.{Step}
-use Rattle.st_marks.specs.Document.{Document, IsListing, NodeType, above, climb, content, first_of, last_of, revs}
+use Rattle.st_marks.specs.Document.{Document, NodeType, above, climb, content, first_of, last_of, revs}
 use Rattle.st_marks.specs.Extends.{Grows}
 use Rattle.st_marks.specs.Row.{SameCell, step_row}
 use Rattle.st_marks.specs.Register.{step_register}
@@ -19,7 +20,7 @@ use Rattle.st_marks.specs.Embedding.{row_marks, is_nowhere, is_loose}
 
 -- ## What a step mentions
 
--- a node of D that stands elsewhere in E, or with a row or a register that is another in E
+-- a node of D that stands elsewhere in E, or whose row or a register of which differs in E
 abbrev pub IsChanged : Document → Document → NodeId → Type 0
 IsChanged D E n = IsSome (D.nodes n) × ((D.place n ≢ E.place n) ⊎ (content D n ≢ content E n) ⊎ ((f : FieldId) × (f.node ≡ n) × (D.held f ≢ E.held f)))
 
@@ -45,7 +46,7 @@ IsSchemaStep before after None = before ≡ after
 IsSchemaStep before after (Some s) =
     (front : List SchemaEntry) × (before ≡ front ++ s.cut) × (after ≡ front ++ s.add) × (last_of (revs front) ≡ Some s.on) × (first_of s.cut ≢ first_of s.add)
 
--- S leads from D to E, which extends it
+-- S is the step from D to E, which extends D
 pub record IsStep (D E : Document) (S : Step) : Type 0 where
   pub mentioned : NodeId → Bool
   pub which : (n : NodeId) → (mentioned n ≡ true) ↔ IsMentionedByStep D E n

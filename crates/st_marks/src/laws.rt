@@ -42,9 +42,10 @@ pub fn extends_in_turn()
     ensures on { (D E F : Document) → IsExtendedBy D E → IsExtendedBy E F → IsExtendedBy D F }
 {}
 
-/// An intent has one verdict.
+/// An intent has one verdict in a document, and so there is one document after it.
 pub fn one_verdict()
-    ensures { (D : Document) (N : Intent) (v w : Verdict) → IsVerdict D N v → IsVerdict D N w → v ≡ w }
+    ensures verdict { (D : Document) (N : Intent) (v w : Verdict) → IsVerdict D N v → IsVerdict D N w → v ≡ w }
+    ensures carried { (D : Document) (N : Intent) (v w : Verdict) → IsVerdict D N v → IsVerdict D N w → carried v D N ≡ carried w D N }
 {}
 
 /// A list of intents leads to one document, which extends the one before. The document of each front of the list is

@@ -11,7 +11,7 @@ use Rattle.st_tree.specs.Node.{FieldNode}
 use Rattle.st_tree.specs.declared.tree.Field.TheViews.{out-Tree, out-Field}
 use Rattle.st_tree.proofs.Views.{view_out, field_view_out}
 use Rattle.st_schema.specs.Schema.{SchemaView, is_among, form_of}
-use Rattle.st_schema.specs.Conforms.{is_as_typed, types_under, verdicts, fields_verdicts, items_verdicts, refusal, allows_of, passed}
+use Rattle.st_schema.specs.Conforms.{is_as_typed, types_under, verdicts, fields_verdicts, items_verdicts, refusal, allows_of, allows_all_of, passed}
 use Rattle.st_schema.specs.declared.names.NotAllowed.{NotAllowed}
 
 -- the answer without the number after the nodes
@@ -26,6 +26,9 @@ passed_first n (false ∷ vs) = refl
 
 pub allows_passed : (s : SchemaView) (types : List (List ℕ)) (t : Node) (r : Result ℕ NotAllowed) → r ≡ passed 0 (verdicts s types t) → settled r ≡ allows_of s types t
 allows_passed s types t r h = ap settled h ∙ passed_first 0 (verdicts s types t)
+
+pub allows_all_passed : (s : SchemaView) (types : List (List ℕ)) (ts : Nodes) (r : Result ℕ NotAllowed) → r ≡ passed 0 (items_verdicts s types ts) → settled r ≡ allows_all_of s types ts
+allows_all_passed s types ts r h = ap settled h ∙ passed_first 0 (items_verdicts s types ts)
 
 -- what follows is counted on from where the first part ends
 abbrev pub then_passed : Result ℕ NotAllowed → List Bool → Result ℕ NotAllowed

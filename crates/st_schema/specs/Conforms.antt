@@ -94,6 +94,10 @@ refusal (Some i) = Err (record { at = i })
 abbrev pub allows_of : SchemaView → List (List ℕ) → Node → Result (Unit {0}) NotAllowed
 allows_of s types t = refusal (position_from (λ ok. not ok) 0 (verdicts s types t))
 
+-- the number, in preorder over all trees, of the first node that is not allowed
+abbrev pub allows_all_of : SchemaView → List (List ℕ) → Nodes → Result (Unit {0}) NotAllowed
+allows_all_of s types ts = refusal (position_from (λ ok. not ok) 0 (items_verdicts s types ts))
+
 -- ---- counted on
 
 -- the number after nodes with these verdicts, the first having the number n, or that of the first refused

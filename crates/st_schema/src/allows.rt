@@ -6,7 +6,7 @@ ghost use Rattle.st_tree.specs.Node.{view, field_view, fields_view, trees_view};
 ghost use Rattle.st_tree.specs.Size.{node_count, item_count};
 ghost use Rattle.st_tree.specs.Form.{is_row_alone, is_single, keys_rise};
 ghost use Rattle.st_schema.specs.Schema.{is_among, form_of, field_in};
-ghost use Rattle.st_schema.specs.Conforms.{leaf_type, is_required, has_key, have_rules, required_there, fields_fit, has_none, is_as_typed, node_fits, types_under, verdicts, items_verdicts, allows_of, passed};
+ghost use Rattle.st_schema.specs.Conforms.{leaf_type, is_required, has_key, have_rules, required_there, fields_fit, has_none, is_as_typed, node_fits, types_under, verdicts, items_verdicts, allows_of, allows_all_of, passed};
 
 use crate::names::{FieldDef, Form, KindName, NotAllowed};
 use crate::rules::is_key;
@@ -207,6 +207,21 @@ fn walk_field(
     Ok(next)
 }
 
+// Goes through trees in preorder, the first node having the number 0.
+fn walk_trees(schema: &Schema, types: &[Text], trees: &[Tree]) -> Result<u32, NotAllowed>
+    requires { item_count (trees_view trees.now) < 2 ^ 32 }
+    ensures { result ≡ passed 0 (items_verdicts schema.now types.now (trees_view trees.now)) }
+{
+    let mut next = 0;
+    for tree in trees {
+        match walk_tree(schema, types, tree, next) {
+            Ok(after) => next = after,
+            Err(fault) => return Err(fault),
+        }
+    }
+    Ok(next)
+}
+
 impl Schema {
     /// Nothing, where the tree conforms to the schema in a place of these types.
     #[tactic(auto, using(crate::proofs::Walking::allows_passed))]
@@ -215,6 +230,18 @@ impl Schema {
         ensures { result ≡ allows_of self.now types.now (view tree.now) }
     {
         match walk_tree(self, types.as_slice(), tree, 0) {
+            Ok(_) => Ok(()),
+            Err(fault) => Err(fault),
+        }
+    }
+
+    /// Nothing, where all the trees conform to the schema in a place of these types. Their nodes are counted together.
+    #[tactic(auto, using(crate::proofs::Walking::allows_all_passed))]
+    pub fn allows_all(&self, types: &List<Text>, trees: &List<Tree>) -> Result<(), NotAllowed>
+        requires { item_count (trees_view trees.now) < 2 ^ 32 }
+        ensures { result ≡ allows_all_of self.now types.now (trees_view trees.now) }
+    {
+        match walk_trees(self, types.as_slice(), trees.as_slice()) {
             Ok(_) => Ok(()),
             Err(fault) => Err(fault),
         }

@@ -1,4 +1,4 @@
--- What a change or a step shows of the documents before it and after it, and which names it has.
+-- What a change or a step shows of the document before it and of the document after it, and which names it has.
 use Rattle.std.specs.Prelude.{◌≡◌, ◌&&◌, ◌++◌, ℕ, Bool, true, false, List, [], ◌∷◌, map, not, slice_get, Option, Some, None, option_map, if◌then◌else◌}
 use Rattle.std.specs.List.{list_any, flat_map}
 use Rattle.std.specs.Option.{option_or, option_map_or}
@@ -22,7 +22,7 @@ use Rattle.st_marks.specs.Embedding.{is_among}
 
 -- ## Names
 
--- the names that an argument has, and those that it makes
+-- the names that a change or a step has, and those that it makes
 pub record Names : Type 0 where
   -- a node that it names anywhere
   pub names_node : NodeId → Bool
@@ -83,7 +83,7 @@ nodes_new new = map (λ (m : NewNode). m.node) new
 abbrev pub nodes_loose : List Loose → List NodeId
 nodes_loose loose = map (λ (l : Loose). l.node) loose
 
--- the names of an argument that names these nodes and has these rows and new nodes
+-- the names of a change or step that names these nodes and has these rows and new nodes
 abbrev pub names_by : List NodeId → List RowMarks → List NewNode → Names
 names_by nodes rows new = record {
   names_node = is_among nodes;
@@ -106,7 +106,7 @@ names_of_step S = names_by
 
 -- ## What is shown
 
--- what is shown of one cell: a counted one is full, and nothing else
+-- what is shown of one cell; of a counted one, only that it is full
 pub record Seen : Type 0 where
   pub cell : Option CellId
   pub node : Option NodeId
@@ -152,22 +152,26 @@ cells_after (Fill c n ∷ ms) = seen c n true ∷ cells_after ms
 abbrev pub held_after : RegMark → Option NodeId
 held_after r = option_or r.fill (if is_leave r.how then None else if r.clear && not (is_here r.how) then None else r.held)
 
--- what is listed: of a row its cells, of a register its occupant, and which nodes are nowhere
-pub record Listing : Type 0 where
+-- what is shown of a document
+pub record Shown : Type 0 where
+  -- the cells of a node's row, if it is listed
   pub row : NodeId → Option (List Seen)
+  -- a register's occupant, if any, if the register is listed
   pub register : FieldId → Option (Option NodeId)
+  -- whether a node is listed as nowhere
   pub nowhere : NodeId → Bool
+  -- the names of the change or step itself
   pub names : Names
 
--- ## Before. The row of a node that the argument itself makes is shown empty.
+-- ## Before: the row of a new node is shown empty
 
 -- the cells of a listed row before
 abbrev pub rows_before : List RowMarks → NodeId → Option (List Seen)
 rows_before rows n = option_map (λ (r : RowMarks). cells_before (spread r.marks)) (item_of node_cmp (λ (r : RowMarks). r.node) rows n)
 
 -- what a change shows of the document where it stands
-abbrev pub listing_before_change : Change → Listing
-listing_before_change C = record {
+abbrev pub shown_before_change : Change → Shown
+shown_before_change C = record {
   row = rows_before C.rows;
   register = λ f. option_map (λ (r : RegMark). r.held) (item_of field_cmp (λ (r : RegMark). r.field) C.regs f);
   nowhere = is_among (nodes_loose C.loose);
@@ -175,15 +179,15 @@ listing_before_change C = record {
 }
 
 -- what a step shows of the document from which it leads
-abbrev pub listing_before_step : Step → Listing
-listing_before_step S = record {
+abbrev pub shown_before_step : Step → Shown
+shown_before_step S = record {
   row = rows_before S.rows;
   register = λ f. option_map (λ (r : RegStep). r.before) (item_of field_cmp (λ (r : RegStep). r.field) S.regs f);
   nowhere = is_among (nodes_loose S.loose);
   names = names_of_step S;
 }
 
--- ## After. The row or register of a new node that isn't listed is empty.
+-- ## After: a row or register of a new node that isn't listed is shown empty
 
 -- the cells of a row after, of a new node too
 abbrev pub rows_after : List RowMarks → List NewNode → NodeId → Option (List Seen)
@@ -211,8 +215,8 @@ abbrev pub nowhere_after : List NodeId → List NodeId → NodeId → Bool
 nowhere_after there placed n = is_among there n && not (is_among placed n)
 
 -- what a change shows of the document after it, carried out whole
-abbrev pub listing_after_change : Change → Listing
-listing_after_change C = record {
+abbrev pub shown_after_change : Change → Shown
+shown_after_change C = record {
   row = rows_after C.rows C.new;
   register = λ f. registers_after (option_map held_after (item_of field_cmp (λ (r : RegMark). r.field) C.regs f)) C.new f;
   nowhere = nowhere_after (nodes_new C.new ++ nodes_loose C.loose ++ placed_before C.rows (map (λ (r : RegMark). r.held) C.regs)) (placed_after C.rows (map held_after C.regs));
@@ -220,8 +224,8 @@ listing_after_change C = record {
 }
 
 -- what a step shows of the document to which it leads
-abbrev pub listing_after_step : Step → Listing
-listing_after_step S = record {
+abbrev pub shown_after_step : Step → Shown
+shown_after_step S = record {
   row = rows_after S.rows S.new;
   register = λ f. registers_after (option_map (λ (r : RegStep). r.after) (item_of field_cmp (λ (r : RegStep). r.field) S.regs f)) S.new f;
   nowhere = nowhere_after (nodes_new S.new ++ nodes_loose S.loose ++ placed_before S.rows (map (λ (r : RegStep). r.before) S.regs)) (placed_after S.rows (map (λ (r : RegStep). r.after) S.regs));
@@ -230,14 +234,14 @@ listing_after_step S = record {
 
 -- ## Where a node is
 
--- a listing says of a node where it is
-pub data Says (L : Listing) : NodeId → Spot → Type 0 where
-  in_row : (n m : NodeId) (c : CellId) (cells : List Seen) (k : ℕ) → L.row n ≡ Some cells → slice_get cells k ≡ Some (seen c m true) → Says L m (Spot.Row n c)
-  in_register : (f : FieldId) (m : NodeId) → L.register f ≡ Some (Some m) → Says L m (Spot.Register f)
-  nowhere : (m : NodeId) → L.nowhere m ≡ true → Says L m Spot.Nowhere
+-- it is shown where a node is
+pub data Says (L : Shown) : NodeId → Spot → Type 0 where
+  says_in_row : (n m : NodeId) (c : CellId) (cells : List Seen) (k : ℕ) → L.row n ≡ Some cells → slice_get cells k ≡ Some (seen c m true) → Says L m (Spot.Row n c)
+  says_in_register : (f : FieldId) (m : NodeId) → L.register f ≡ Some (Some m) → Says L m (Spot.Register f)
+  says_nowhere : (m : NodeId) → L.nowhere m ≡ true → Says L m Spot.Nowhere
 
--- a listing shows a cell at a place of a row, with the owner if it says it
-pub record ShowsCell (L : Listing) (c : CellId) (n : NodeId) (k : ℕ) (owner : Option NodeId) : Type 0 where
+-- a cell is shown at a place of a row, with its owner if that is named
+pub record ShowsCell (L : Shown) (c : CellId) (n : NodeId) (k : ℕ) (owner : Option NodeId) : Type 0 where
   pub cells : List Seen
   pub full : Bool
   pub listed : L.row n ≡ Some cells

@@ -1,0 +1,9 @@
+-- the nodes so far, and then those beyond this one
+use Rattle.std.proofs.Common.{◌≡◌, ◌++◌, ◌∷◌, drop}
+use Rattle.st_marks.specs.Document.{root}
+use Rattle.st_doc.specs.Doc.{document_of}
+use Rattle.st_resolve.specs.Paths.{beyond, passes}
+use Rattle.st_resolve.proofs.paths.passes.Given as goal
+
+abbrev pub invariant-loop-place : goal.invariant-loop-place
+invariant-loop-place l = l.nodes ++ beyond (document_of l.doc) l.node (drop l.place-index l.place-items) ≡ passes (document_of l.doc) root l.place-items

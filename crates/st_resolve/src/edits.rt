@@ -1,0 +1,315 @@
+//! Edits, resolved to what they mean.
+ghost use Rattle.std.specs.Prelude.{◌≡◌, ◌<◌, ◌^◌, ◌+◌, ◌∷◌, [], length, nat_le, Ok, Err, IfOk};
+ghost use Rattle.st_ids.specs.Or.{IfRefused};
+ghost use Rattle.st_tree.specs.Node.{trees_view, view, first, no_nodes};
+ghost use Rattle.st_tree.specs.Size.{check_items};
+ghost use Rattle.st_doc.specs.Doc.{document_of};
+ghost use Rattle.st_resolve.specs.Resolve.{named, allowed, insert, remove, move_to, move as move_of, put, clear, need, may_move, resolve, IsWithin};
+
+use crate::intents::{inserted, nothing_yet, placed, removed};
+use crate::lists::names_taken;
+use crate::moves::{cells_taken, is_inside, is_there, items_from, moved, taken};
+use crate::paths::{field_at, walk};
+use crate::rules::{Given, Takes, ask, names_left, nodes_allowed, rule_for, trees_allowed};
+use st_doc::Doc;
+use st_ids::{Copied, FieldId, Key, List, NodeId, Or, Path};
+use st_marks::Intent;
+use st_schema::{FieldRule, Schema};
+use st_tree::{Edit, EditFault, FlatNode, Tree, flatten};
+use std::alloc::{AllocError, Global};
+
+// A refusal, as one of a call that takes memory.
+fn refuse(checked: Result<(), EditFault>) -> Result<(), Or<EditFault>>
+    ensures ok { IfOk result (λ u. checked ≡ Ok u) }
+    ensures bad { IfRefused result (λ e. checked ≡ Err e) }
+{
+    match checked {
+        Ok(()) => Ok(()),
+        Err(fault) => Err(Or::Fault(fault)),
+    }
+}
+
+// New trees as the list of their nodes, each under its name. Within the limits of trees nothing but memory is wanting.
+fn named(alloc: Global, given: Given, trees: &List<Tree>) -> Result<List<FlatNode>, Or<EditFault>>
+    requires within { check_items (trees_view trees.now) ≡ Ok tt }
+    requires nodes { given.nodes < 2 ^ 31 }
+    requires cells { given.cells < 2 ^ 31 }
+    ensures ok { IfOk result (λ xs. xs ≡ named given (trees_view trees.now)) }
+    ensures bad { IfRefused result (λ _. ⊥) }
+{
+    match flatten(alloc, trees, given.rev, given.nodes, given.cells) {
+        Ok(flat) => Ok(flat.nodes),
+        Err(_) => Err(Or::NoMemory),
+    }
+}
+
+// New trees, where the schema allows each of their nodes and the commit may give their names.
+fn allowed(
+    alloc: Global,
+    schema: &Schema,
+    given: Given,
+    rule: &FieldRule,
+    trees: &List<Tree>,
+) -> Result<List<FlatNode>, Or<EditFault>>
+    requires within { check_items (trees_view trees.now) ≡ Ok tt }
+    requires nodes { given.nodes < 2 ^ 31 }
+    requires cells { given.cells < 2 ^ 31 }
+    ensures ok { IfOk result (λ xs. allowed schema.now given rule.now (trees_view trees.now) ≡ Ok xs) }
+    ensures bad { IfRefused result (λ e. allowed schema.now given rule.now (trees_view trees.now) ≡ Err e) }
+{
+    refuse(trees_allowed(schema, rule, trees))?;
+    let nodes = named(alloc, given, trees)?;
+    refuse(names_left(given, names_taken(nodes.as_slice())))?;
+    Ok(nodes)
+}
+
+// New items at an index of a row.
+fn insert(
+    alloc: Global,
+    doc: &Doc,
+    schema: &Schema,
+    given: Given,
+    at: &Path,
+    key: &Key,
+    index: u32,
+    items: &List<Tree>,
+) -> Result<Intent, Or<EditFault>>
+    requires within { check_items (trees_view items.now) ≡ Ok tt }
+    requires short { length at.now < 2 ^ 32 }
+    requires nodes { given.nodes < 2 ^ 31 }
+    requires cells { given.cells < 2 ^ 31 }
+    ensures ok { IfOk result (λ i. insert (document_of doc.now) schema.now given at.now key.now index (trees_view items.now) ≡ Ok i) }
+    ensures bad { IfRefused result (λ e. insert (document_of doc.now) schema.now given at.now key.now index (trees_view items.now) ≡ Err e) }
+{
+    let node = walk(alloc, doc, at)?;
+    let rule = rule_for(alloc, Takes::Row, doc, schema, node, key)?;
+    let count = doc.live_slots(alloc, node)?.len();
+    refuse(ask(index as usize <= count, EditFault::Range))?;
+    let nodes = allowed(alloc, schema, given, &rule, items)?;
+    Ok(inserted(alloc, doc, given, node, index, nodes.as_slice())?)
+}
+
+// Items of a row go nowhere.
+fn remove(
+    alloc: Global,
+    doc: &Doc,
+    schema: &Schema,
+    given: Given,
+    at: &Path,
+    key: &Key,
+    index: u32,
+    count: u32,
+) -> Result<Intent, Or<EditFault>>
+    requires short { length at.now < 2 ^ 32 }
+    ensures ok { IfOk result (λ i. remove (document_of doc.now) schema.now given at.now key.now index count ≡ Ok i) }
+    ensures bad { IfRefused result (λ e. remove (document_of doc.now) schema.now given at.now key.now index count ≡ Err e) }
+{
+    let node = walk(alloc, doc, at)?;
+    rule_for(alloc, Takes::Row, doc, schema, node, key)?;
+    let nodes = items_from(alloc, doc, node, index, count)?;
+    Ok(removed(alloc, doc, given, nodes.as_slice())?)
+}
+
+// A new tree in an optional or required field.
+fn put(
+    alloc: Global,
+    doc: &Doc,
+    schema: &Schema,
+    given: Given,
+    at: &Path,
+    key: &Key,
+    item: &List<Tree>,
+) -> Result<Intent, Or<EditFault>>
+    requires within { check_items (trees_view item.now) ≡ Ok tt }
+    requires short { length at.now < 2 ^ 32 }
+    requires nodes { given.nodes < 2 ^ 31 }
+    requires cells { given.cells < 2 ^ 31 }
+    ensures ok { IfOk result (λ i. put (document_of doc.now) schema.now given at.now key.now (trees_view item.now) ≡ Ok i) }
+    ensures bad { IfRefused result (λ e. put (document_of doc.now) schema.now given at.now key.now (trees_view item.now) ≡ Err e) }
+{
+    let node = walk(alloc, doc, at)?;
+    let rule = rule_for(alloc, Takes::Single, doc, schema, node, key)?;
+    let nodes = allowed(alloc, schema, given, &rule, item)?;
+    let field = field_at(alloc, node, key)?;
+    Ok(placed(alloc, doc, given, field, nodes.as_slice())?)
+}
+
+// An optional field is emptied.
+fn clear(
+    alloc: Global,
+    doc: &Doc,
+    schema: &Schema,
+    given: Given,
+    at: &Path,
+    key: &Key,
+) -> Result<Intent, Or<EditFault>>
+    requires short { length at.now < 2 ^ 32 }
+    ensures ok { IfOk result (λ i. clear (document_of doc.now) schema.now given at.now key.now ≡ Ok i) }
+    ensures bad { IfRefused result (λ e. clear (document_of doc.now) schema.now given at.now key.now ≡ Err e) }
+{
+    let node = walk(alloc, doc, at)?;
+    rule_for(alloc, Takes::Optional, doc, schema, node, key)?;
+    let mut intent = nothing_yet(alloc, doc, given);
+    intent.clear.push(field_at(alloc, node, key)?)?;
+    Ok(intent)
+}
+
+// A node has to be live.
+fn need(alloc: Global, doc: &Doc, given: Given, at: &Path) -> Result<Intent, Or<EditFault>>
+    requires short { length at.now < 2 ^ 32 }
+    ensures ok { IfOk result (λ i. need (document_of doc.now) given at.now ≡ Ok i) }
+    ensures bad { IfRefused result (λ e. need (document_of doc.now) given at.now ≡ Err e) }
+{
+    let node = walk(alloc, doc, at)?;
+    let mut intent = nothing_yet(alloc, doc, given);
+    intent.need.push(node)?;
+    Ok(intent)
+}
+
+// Whether a move may put these nodes where it leads.
+fn may_move(
+    alloc: Global,
+    doc: &Doc,
+    given: Given,
+    node: NodeId,
+    rule: &FieldRule,
+    to: &Path,
+    index: u32,
+    count: u32,
+    nodes: &[NodeId],
+) -> Result<(), Or<EditFault>>
+    requires few { length nodes.now < 2 ^ 32 }
+    requires nodes { given.nodes < 2 ^ 31 }
+    requires cells { given.cells < 2 ^ 31 }
+    ensures ok { IfOk result (λ u. may_move (document_of doc.now) given node rule.now to.now index count nodes.now ≡ Ok u) }
+    ensures bad { IfRefused result (λ e. may_move (document_of doc.now) given node rule.now to.now index count nodes.now ≡ Err e) }
+{
+    let there = is_there(alloc, doc, node, rule.kind, index, count)?;
+    refuse(ask(there, EditFault::Range))?;
+    let inside = is_inside(alloc, doc, to, nodes)?;
+    refuse(ask(!inside, EditFault::Inside))?;
+    refuse(nodes_allowed(doc, rule, nodes))?;
+    refuse(names_left(given, cells_taken(rule.kind, nodes)))
+}
+
+// The nodes of a move go where it leads.
+fn move_to(
+    alloc: Global,
+    doc: &Doc,
+    given: Given,
+    field: FieldId,
+    rule: &FieldRule,
+    to: &Path,
+    index: u32,
+    count: u32,
+    nodes: &[NodeId],
+) -> Result<Intent, Or<EditFault>>
+    requires few { length nodes.now < 2 ^ 32 }
+    requires nodes { given.nodes < 2 ^ 31 }
+    requires cells { given.cells < 2 ^ 31 }
+    ensures ok { IfOk result (λ i. move_to (document_of doc.now) given field rule.now to.now index count nodes.now ≡ Ok i) }
+    ensures bad { IfRefused result (λ e. move_to (document_of doc.now) given field rule.now to.now index count nodes.now ≡ Err e) }
+{
+    may_move(alloc, doc, given, field.node, rule, to, index, count, nodes)?;
+    Ok(moved(alloc, doc, given, field, rule.kind, index, nodes)?)
+}
+
+// Items of a row, or the one of an optional field, go to a row or an optional field.
+fn move_items(
+    alloc: Global,
+    doc: &Doc,
+    schema: &Schema,
+    given: Given,
+    at: &Path,
+    key: &Key,
+    index: u32,
+    count: u32,
+    to: &Path,
+    to_key: &Key,
+    to_index: u32,
+) -> Result<Intent, Or<EditFault>>
+    requires short { length at.now < 2 ^ 32 }
+    requires short_too { length to.now < 2 ^ 32 }
+    requires nodes { given.nodes < 2 ^ 31 }
+    requires cells { given.cells < 2 ^ 31 }
+    ensures ok { IfOk result (λ i. move_of (document_of doc.now) schema.now given at.now key.now index count to.now to_key.now to_index ≡ Ok i) }
+    ensures bad { IfRefused result (λ e. move_of (document_of doc.now) schema.now given at.now key.now index count to.now to_key.now to_index ≡ Err e) }
+{
+    let node = walk(alloc, doc, at)?;
+    let target = walk(alloc, doc, to)?;
+    let source = rule_for(alloc, Takes::Open, doc, schema, node, key)?;
+    let rule = rule_for(alloc, Takes::Open, doc, schema, target, to_key)?;
+    let from = field_at(alloc, node, key)?;
+    let nodes = taken(alloc, doc, &from, source.kind, index, count)?;
+    let field = field_at(alloc, target, to_key)?;
+    move_to(
+        alloc,
+        doc,
+        given,
+        field,
+        &rule,
+        to,
+        to_index,
+        count,
+        nodes.as_slice(),
+    )
+}
+
+// The list of one tree.
+fn one_tree(alloc: Global, tree: &Tree) -> Result<List<Tree>, AllocError>
+    ensures { IfOk result (λ ts. trees_view ts ≡ first (view tree.now) no_nodes) }
+{
+    let mut trees = List::new(alloc);
+    trees.push(tree.copy(alloc)?)?;
+    Ok(trees)
+}
+
+/// The intent that an edit means in a document under the schema that is last in effect there, or the first refusal: of
+/// the path, then of a move's target path (`NoNode`), of the field's kind (`Kind`), of an index (`Range`), of a move
+/// beneath itself (`Inside`), of a node that the schema doesn't allow (`NotAllowed`), and of the names that a commit may
+/// give (`Limit`). Names are given from the counts on.
+pub fn resolve(
+    alloc: Global,
+    doc: &Doc,
+    schema: &Schema,
+    given: Given,
+    edit: &Edit,
+) -> Result<Intent, Or<EditFault>>
+    requires within { IsWithin edit.now }
+    requires nodes { given.nodes < 2 ^ 31 }
+    requires cells { given.cells < 2 ^ 31 }
+    ensures ok { IfOk result (λ i. resolve (document_of doc.now) schema.now given edit.now ≡ Ok i) }
+    ensures bad { IfRefused result (λ e. resolve (document_of doc.now) schema.now given edit.now ≡ Err e) }
+{
+    match edit {
+        Edit::Insert {
+            at,
+            key,
+            index,
+            items,
+        } => { insert(alloc, doc, schema, given, at, key, *index, items) }
+        Edit::Remove {
+            at,
+            key,
+            index,
+            count,
+        } => { remove(alloc, doc, schema, given, at, key, *index, *count) }
+        Edit::Move {
+            at,
+            key,
+            index,
+            count,
+            to,
+            to_key,
+            to_index,
+        } => move_items(
+            alloc, doc, schema, given, at, key, *index, *count, to, to_key, *to_index,
+        ),
+        Edit::Put { at, key, item } => {
+            let trees = one_tree(alloc, item)?;
+            put(alloc, doc, schema, given, at, key, &trees)
+        }
+        Edit::Clear { at, key } => clear(alloc, doc, schema, given, at, key),
+        Edit::Need { at } => need(alloc, doc, given, at),
+    }
+}

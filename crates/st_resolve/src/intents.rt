@@ -1,0 +1,214 @@
+//! The intents of edits.
+ghost use Rattle.std.specs.Prelude.{◌≡◌, ◌∷◌, ◌<◌, ◌^◌, ◌+◌, [], length, map, IfOk, None, Some, unwrap_or};
+ghost use Rattle.st_marks.specs.declared.intents.To.{To as Target};
+ghost use Rattle.st_marks.specs.Document.{last_of, opening, revs};
+ghost use Rattle.st_doc.specs.Doc.{document_of};
+ghost use Rattle.st_resolve.specs.Resolve.{nothing_yet, with_group, inserted, placed, removed, cells_for, in_cells, moved_to_row, moved_to_field};
+
+use crate::lists::{add_groups, add_registers, group_of, new_nodes, puts, top_cells};
+use crate::paths::left_of;
+use crate::rules::Given;
+use st_doc::Doc;
+use st_ids::{Atom, CellId, Copied, FieldId, List, NodeId, Rev};
+use st_marks::{Group, Intent, Owned, Put, To};
+use st_tree::FlatNode;
+use std::alloc::{AllocError, Global};
+
+// The revision of the last schema entry in effect.
+fn under(doc: &Doc) -> Rev
+    ensures { result ≡ unwrap_or (last_of (revs (document_of doc.now).schemas)) opening }
+{
+    match doc.under() {
+        Some(rev) => rev,
+        None => Rev { session: 0, num: 0 },
+    }
+}
+
+/// An intent that wants nothing yet.
+pub fn nothing_yet(alloc: Global, doc: &Doc, given: Given) -> Intent
+    ensures { result ≡ nothing_yet (document_of doc.now) given }
+{
+    Intent {
+        rev: given.rev,
+        under: under(doc),
+        new: List::new(alloc),
+        groups: List::new(alloc),
+        clear: List::new(alloc),
+        put: List::new(alloc),
+        need: List::new(alloc),
+        schema: None,
+    }
+}
+
+// A list of a group, if it is there.
+fn with_group(alloc: Global, group: Option<Group>) -> Result<List<Group>, AllocError>
+    ensures { IfOk result (λ gs. gs ≡ with_group group []) }
+{
+    let mut groups = List::new(alloc);
+    if let Some(group) = group {
+        groups.push(group)?;
+    }
+    Ok(groups)
+}
+
+// A list of one register.
+fn one_field(alloc: Global, field: FieldId) -> Result<List<FieldId>, AllocError>
+    ensures { IfOk result (λ fs. fs ≡ field ∷ []) }
+{
+    let mut fields = List::new(alloc);
+    fields.push(field)?;
+    Ok(fields)
+}
+
+/// New items in a row, directly after the cell of the item left of the index.
+pub fn inserted(
+    alloc: Global,
+    doc: &Doc,
+    given: Given,
+    node: NodeId,
+    index: u32,
+    nodes: &[FlatNode],
+) -> Result<Intent, AllocError>
+    ensures { IfOk result (λ i. i ≡ inserted (document_of doc.now) given node index nodes.now) }
+{
+    let mut intent = nothing_yet(alloc, doc, given);
+    let cells = top_cells(alloc, nodes)?;
+    intent.new = new_nodes(alloc, nodes)?;
+    intent.groups = with_group(alloc, group_of(node, left_of(doc, node, index), cells))?;
+    add_groups(alloc, &mut intent.groups, nodes)?;
+    add_registers(alloc, &mut intent.clear, nodes)?;
+    intent.put = puts(alloc, None, nodes)?;
+    Ok(intent)
+}
+
+/// A new item in a field, in the place of what is there.
+pub fn placed(
+    alloc: Global,
+    doc: &Doc,
+    given: Given,
+    field: FieldId,
+    nodes: &[FlatNode],
+) -> Result<Intent, AllocError>
+    ensures { IfOk result (λ i. i ≡ placed (document_of doc.now) given field nodes.now) }
+{
+    let mut intent = nothing_yet(alloc, doc, given);
+    intent.new = new_nodes(alloc, nodes)?;
+    add_groups(alloc, &mut intent.groups, nodes)?;
+    intent.put = puts(alloc, Some(&field), nodes)?;
+    intent.clear = one_field(alloc, field)?;
+    add_registers(alloc, &mut intent.clear, nodes)?;
+    Ok(intent)
+}
+
+/// Nodes put nowhere.
+pub fn removed(
+    alloc: Global,
+    doc: &Doc,
+    given: Given,
+    nodes: &[NodeId],
+) -> Result<Intent, AllocError>
+    ensures { IfOk result (λ i. i ≡ removed (document_of doc.now) given nodes.now) }
+{
+    let mut intent = nothing_yet(alloc, doc, given);
+    intent.put = puts_nowhere(alloc, nodes)?;
+    Ok(intent)
+}
+
+// Each node is put nowhere.
+fn puts_nowhere(alloc: Global, nodes: &[NodeId]) -> Result<List<Put>, AllocError>
+    ensures { IfOk result (λ r. r ≡ map (λ n. record { node = n; to = Target.Nowhere }) nodes.now) }
+{
+    let mut puts = List::new(alloc);
+    for node in nodes {
+        let node = *node;
+        puts.push(Put {
+            node,
+            to: To::Nowhere,
+        })?;
+    }
+    Ok(puts)
+}
+
+// A new cell for each node, under the next names.
+fn cells_for(
+    alloc: Global,
+    rev: Rev,
+    first: u32,
+    nodes: &[NodeId],
+) -> Result<List<Owned>, AllocError>
+    requires { first + length nodes.now < 2 ^ 32 }
+    ensures { IfOk result (λ r. r ≡ cells_for rev first nodes.now) }
+{
+    let mut cells = List::new(alloc);
+    let mut at = first;
+    for node in nodes {
+        let node = *node;
+        let cell = CellId(Atom { rev, at });
+        cells.push(Owned { cell, node })?;
+        at += 1;
+    }
+    Ok(cells)
+}
+
+// Each node is put into its cell.
+fn puts_in(alloc: Global, cells: &[Owned]) -> Result<List<Put>, AllocError>
+    ensures { IfOk result (λ r. r ≡ map (λ o. record { node = o.node; to = Target.Cell o.cell }) cells.now) }
+{
+    let mut puts = List::new(alloc);
+    for owned in cells {
+        let node = owned.node;
+        puts.push(Put {
+            node,
+            to: To::Cell(owned.cell),
+        })?;
+    }
+    Ok(puts)
+}
+
+/// Nodes put into new cells of a row.
+pub fn moved_to_row(
+    alloc: Global,
+    doc: &Doc,
+    given: Given,
+    node: NodeId,
+    index: u32,
+    nodes: &[NodeId],
+) -> Result<Intent, AllocError>
+    requires { given.cells + length nodes.now < 2 ^ 32 }
+    ensures { IfOk result (λ i. i ≡ moved_to_row (document_of doc.now) given node index nodes.now) }
+{
+    let mut intent = nothing_yet(alloc, doc, given);
+    let cells = cells_for(alloc, given.rev, given.cells, nodes)?;
+    intent.put = puts_in(alloc, cells.as_slice())?;
+    intent.groups = with_group(alloc, group_of(node, left_of(doc, node, index), cells))?;
+    Ok(intent)
+}
+
+// Each node is put into a register.
+fn puts_at(alloc: Global, field: &FieldId, nodes: &[NodeId]) -> Result<List<Put>, AllocError>
+    ensures { IfOk result (λ r. r ≡ map (λ n. record { node = n; to = Target.Register field.now }) nodes.now) }
+{
+    let mut puts = List::new(alloc);
+    for node in nodes {
+        let node = *node;
+        let to = To::Register(field.copy(alloc)?);
+        puts.push(Put { node, to })?;
+    }
+    Ok(puts)
+}
+
+/// Nodes, of which there is one, put into a field, in the place of what is there.
+pub fn moved_to_field(
+    alloc: Global,
+    doc: &Doc,
+    given: Given,
+    field: FieldId,
+    nodes: &[NodeId],
+) -> Result<Intent, AllocError>
+    ensures { IfOk result (λ i. i ≡ moved_to_field (document_of doc.now) given field nodes.now) }
+{
+    let mut intent = nothing_yet(alloc, doc, given);
+    intent.put = puts_at(alloc, &field, nodes)?;
+    intent.clear = one_field(alloc, field)?;
+    Ok(intent)
+}

@@ -1,0 +1,12 @@
+//! What edits of a live tree mean: the intent of a commit, or the first refusal.
+#![tactic(auto)]
+
+mod edits;
+mod intents;
+mod lists;
+mod moves;
+mod paths;
+mod rules;
+
+pub use edits::resolve;
+pub use rules::Given;

@@ -1,0 +1,208 @@
+//! The lists that an intent has for new trees, which are given as the list of their nodes in preorder.
+ghost use Rattle.std.specs.Prelude.{◌≡◌, ◌++◌, ◌<◌, ◌*◌, ◌^◌, length, IfOk, OnOk};
+ghost use Rattle.std.specs.Option.{option_copied};
+ghost use Rattle.st_ids.specs.Order.{same_node};
+ghost use Rattle.st_resolve.specs.New.{new_nodes, top_to, to_at, puts, register_at, registers, top_cell, row_cell, top_cells, cells_under, group_of, group_under, groups_under, takes_cell, names_taken};
+
+use st_ids::{CellId, Copied, FieldId, List, NodeId};
+use st_marks::{Group, NewNode, Owned, Put, To};
+use st_tree::{FlatAt, FlatNode};
+use std::alloc::{AllocError, Global};
+
+/// The nodes with their types and values.
+pub fn new_nodes(alloc: Global, nodes: &[FlatNode]) -> Result<List<NewNode>, AllocError>
+    ensures { IfOk result (λ r. r ≡ new_nodes nodes.now) }
+{
+    let mut new = List::new(alloc);
+    for flat in nodes {
+        let node = flat.node;
+        let ty = flat.ty.copy(alloc)?;
+        let leaf = flat.leaf.copy(alloc)?;
+        new.push(NewNode { node, ty, leaf })?;
+    }
+    Ok(new)
+}
+
+// Where a top item goes: into its cell, or into a register.
+fn top_to(alloc: Global, into: Option<&FieldId>, cell: CellId) -> Result<To, AllocError>
+    ensures { IfOk result (λ to. to ≡ top_to (option_copied into.entry) cell) }
+{
+    match into {
+        None => Ok(To::Cell(cell)),
+        Some(field) => Ok(To::Register(field.copy(alloc)?)),
+    }
+}
+
+// Where a node goes.
+fn to_at(alloc: Global, into: Option<&FieldId>, at: &FlatAt) -> Result<To, AllocError>
+    ensures { IfOk result (λ to. to ≡ to_at (option_copied into.entry) at.now) }
+{
+    match at {
+        FlatAt::Root => Ok(To::Nowhere),
+        FlatAt::Top(cell) => top_to(alloc, into, *cell),
+        FlatAt::Row { cell, .. } => Ok(To::Cell(*cell)),
+        FlatAt::Register(field) => Ok(To::Register(field.copy(alloc)?)),
+    }
+}
+
+/// Each node is put where it stands, and the top items into their cells or into a register.
+pub fn puts(
+    alloc: Global,
+    into: Option<&FieldId>,
+    nodes: &[FlatNode],
+) -> Result<List<Put>, AllocError>
+    ensures { IfOk result (λ r. r ≡ puts (option_copied into.entry) nodes.now) }
+{
+    let mut puts = List::new(alloc);
+    for flat in nodes {
+        let node = flat.node;
+        let to = to_at(alloc, into, &flat.at)?;
+        puts.push(Put { node, to })?;
+    }
+    Ok(puts)
+}
+
+// The register of a place.
+fn register_at(at: &FlatAt) -> Option<&FieldId>
+    ensures { option_copied result ≡ register_at at.now }
+{
+    match at {
+        FlatAt::Register(field) => Some(field),
+        _ => None,
+    }
+}
+
+/// Puts the registers in which nodes stand at the end of a list.
+pub fn add_registers(
+    alloc: Global,
+    fields: &mut List<FieldId>,
+    nodes: &[FlatNode],
+) -> Result<(), AllocError>
+    ensures { OnOk result (fields.new ≡ fields.old ++ registers nodes.now) }
+{
+    for flat in nodes {
+        if let Some(field) = register_at(&flat.at) {
+            fields.push(field.copy(alloc)?)?;
+        }
+    }
+    Ok(())
+}
+
+// The cell of a top item.
+fn top_cell(at: &FlatAt) -> Option<CellId>
+    ensures { result ≡ top_cell at.now }
+{
+    match at {
+        FlatAt::Top(cell) => Some(*cell),
+        _ => None,
+    }
+}
+
+/// The cells of the top items.
+pub fn top_cells(alloc: Global, nodes: &[FlatNode]) -> Result<List<Owned>, AllocError>
+    ensures { IfOk result (λ r. r ≡ top_cells nodes.now) }
+{
+    let mut cells = List::new(alloc);
+    for flat in nodes {
+        if let Some(cell) = top_cell(&flat.at) {
+            let node = flat.node;
+            cells.push(Owned { cell, node })?;
+        }
+    }
+    Ok(cells)
+}
+
+// The cell of a place in a node's row.
+fn row_cell(node: NodeId, at: &FlatAt) -> Option<CellId>
+    ensures { result ≡ row_cell node at.now }
+{
+    match at {
+        FlatAt::Row { node: above, cell } if is_same_node(*above, node) => Some(*cell),
+        _ => None,
+    }
+}
+
+// Whether two names of nodes are one.
+#[tactic(auto, unfolding(st_ids::specs::Order::same_node))]
+pub fn is_same_node(a: NodeId, b: NodeId) -> bool
+    ensures { result ≡ same_node a b }
+{
+    a.cmp(&b).is_eq()
+}
+
+// The cells of a new node's row.
+fn cells_under(alloc: Global, nodes: &[FlatNode], node: NodeId) -> Result<List<Owned>, AllocError>
+    ensures { IfOk result (λ r. r ≡ cells_under nodes.now node) }
+{
+    let mut cells = List::new(alloc);
+    for flat in nodes {
+        if let Some(cell) = row_cell(node, &flat.at) {
+            let node = flat.node;
+            cells.push(Owned { cell, node })?;
+        }
+    }
+    Ok(cells)
+}
+
+/// A group of cells, if there are any.
+pub fn group_of(node: NodeId, after: Option<CellId>, cells: List<Owned>) -> Option<Group>
+    ensures { result ≡ group_of node after cells }
+{
+    if cells.is_empty() {
+        None
+    } else {
+        Some(Group { node, after, cells })
+    }
+}
+
+// The row of a new array node, if it has items.
+fn group_under(
+    alloc: Global,
+    nodes: &[FlatNode],
+    flat: &FlatNode,
+) -> Result<Option<Group>, AllocError>
+    ensures { IfOk result (λ g. g ≡ group_under nodes.now flat.now) }
+{
+    if !flat.row {
+        return Ok(None);
+    }
+    let cells = cells_under(alloc, nodes, flat.node)?;
+    Ok(group_of(flat.node, None, cells))
+}
+
+/// Puts the rows of the new array nodes at the end of a list.
+pub fn add_groups(
+    alloc: Global,
+    groups: &mut List<Group>,
+    nodes: &[FlatNode],
+) -> Result<(), AllocError>
+    ensures { OnOk result (groups.new ≡ groups.old ++ groups_under nodes.now) }
+{
+    for flat in nodes {
+        if let Some(group) = group_under(alloc, nodes, flat)? {
+            groups.push(group)?;
+        }
+    }
+    Ok(())
+}
+
+// Whether a node takes a cell.
+fn takes_cell(at: &FlatAt) -> bool
+    ensures { result ≡ takes_cell at.now }
+{
+    match at {
+        FlatAt::Top(_) | FlatAt::Row { .. } => true,
+        FlatAt::Root | FlatAt::Register(_) => false,
+    }
+}
+
+/// How many names the nodes take, for themselves and for their cells.
+pub fn names_taken(nodes: &[FlatNode]) -> usize
+    ensures { result ≡ names_taken nodes.now }
+{
+    let mut count: usize = 0;
+    for flat in nodes {
+        count += if takes_cell(&flat.at) { 2 } else { 1 };
+    }
+    count
+}
