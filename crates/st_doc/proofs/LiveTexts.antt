@@ -13,6 +13,7 @@ use Rattle.serde_json.specs.Find.{of_integer}
 use Rattle.serde_json.specs.View.{view, items_of}
 use Rattle.serde_json.specs.Written.{has_float, items_have_float, members_have_float}
 use Rattle.serde_json.specs.declared.value.Value.{Value}
+use Rattle.st_ids.specs.Listing.{IsListing}
 use Rattle.st_ids.specs.Order.{node_cmp, same_node}
 use Rattle.st_ids.specs.declared.names.FieldId.{FieldId}
 use Rattle.st_ids.specs.declared.names.Leaf.{Leaf}
@@ -20,8 +21,8 @@ use Rattle.st_ids.specs.declared.names.NodeId.{NodeId}
 use Rattle.st_ids.proofs.Orders.{same_node-true}
 use Rattle.st_marks.specs.declared.intents.Owned.{Owned}
 use Rattle.st_marks.specs.declared.places.Slot.{Slot}
-use Rattle.st_marks.specs.Document.{Document, IsListing, content, slot}
-use Rattle.st_marks.specs.LiveTree.{leaf_data, owners_shown, register, one_member, Shows, leaf, row, registers, ShowsItems, no_more_items, next_item, ShowsMembers, no_more_members, next_member, key_at}
+use Rattle.st_marks.specs.Document.{Document, content, slot}
+use Rattle.st_marks.specs.LiveTree.{leaf_data, owners_shown, register, one_member, Shows, shows_leaf, shows_row, shows_registers, ShowsItems, no_more_items, next_item, ShowsMembers, no_more_members, next_member, key_at}
 use Rattle.st_doc.specs.LiveText.{seat_at, seats_of, KeysRise, AllShown, IsPart, AreValues, AreMembers}
 use Rattle.st_doc.specs.declared.seats.Seat.{Seat}
 use Rattle.st_doc.proofs.Look.{take_one, drop_one}
@@ -152,9 +153,9 @@ neither a b p q = ap (λ x. x || b) p ∙ q
 module _ (is_array : List ℕ → Bool) (D : Document) where
   mutual
     node_no_float : {n : NodeId} {d : Data} → Shows is_array D n d → has_float d ≡ false
-    node_no_float (leaf n ty v e) = leaf_no_float v
-    node_no_float (row n ty items e a h) = neither _ _ (items_no_float h) refl
-    node_no_float (registers n ty keys ms e a l h) = neither _ _ (members_no_float h) refl
+    node_no_float (shows_leaf n ty v e) = leaf_no_float v
+    node_no_float (shows_row n ty items e a h) = neither _ _ (items_no_float h) refl
+    node_no_float (shows_registers n ty keys ms e a l h) = neither _ _ (members_no_float h) refl
 
     items_no_float : {ns : List NodeId} {ds : Items} → ShowsItems is_array D ns ds → items_have_float ds ≡ false
     items_no_float no_more_items = refl
@@ -178,17 +179,17 @@ module _ (is_array : List ℕ → Bool) (D : Document) (n : NodeId) (ty : List �
   typed k is = known ∙ ap (λ (k : Option Leaf). Some (record { ty = ty; leaf = k })) is
 
   pub leaf_shown : (v : Leaf) (d : Data) → l ≡ Some v → d ≡ leaf_data v → Shows is_array D n d
-  leaf_shown v d is same = subst (Shows is_array D n) (sym same) (leaf n ty v (typed (Some v) is))
+  leaf_shown v d is same = subst (Shows is_array D n) (sym same) (shows_leaf n ty v (typed (Some v) is))
 
   pub row_shown : (done : BTreeMap NodeId Value) (vs : List Value) (inner d : Data) → AllShown is_array D done → l ≡ None → is_array ty ≡ true → AreValues done (owners_shown (content D n)) vs
       → inner ≡ array (items_of (map view vs)) → d ≡ one_member ty inner → Shows is_array D n d
   row_shown done vs inner d all is rowed values e same =
       subst (Shows is_array D n) (sym (same ∙ ap (one_member ty) e))
-      (row n ty (items_of (map view vs)) (typed None is) rowed (values_shown is_array D done all (owners_shown (content D n)) vs values))
+      (shows_row n ty (items_of (map view vs)) (typed None is) rowed (values_shown is_array D done all (owners_shown (content D n)) vs values))
 
   pub registers_shown : (done : BTreeMap NodeId Value) (ss : List Seat) (ms : Members) (inner d : Data) → AllShown is_array D done → l ≡ None → is_array ty ≡ false
       → IsListing (slice_cmp nat_cmp) (λ (k : List ℕ). k) (map (λ (s : Seat). s.key) ss) (key_at D n) → AllByRecursion (λ (s : Seat). D.held (register n s.key) ≡ Some s.node) ss → AreMembers done ss ms
       → inner ≡ object ms → d ≡ one_member ty inner → Shows is_array D n d
   registers_shown done ss ms inner d all is unrowed listed held members e same =
       subst (Shows is_array D n) (sym (same ∙ ap (one_member ty) e))
-      (registers n ty (map (λ (s : Seat). s.key) ss) ms (typed None is) unrowed listed (members_shown is_array D done all n ss ms held members))
+      (shows_registers n ty (map (λ (s : Seat). s.key) ss) ms (typed None is) unrowed listed (members_shown is_array D done all n ss ms held members))

@@ -5,7 +5,7 @@ use Rattle.std.proofs.lemmas.Bool.{cases_lt}
 use Rattle.std.proofs.lemmas.Bool.Decides.{nat_tests}
 use Rattle.std.proofs.lemmas.List.FromFn.{length-map-range_with_len}
 use Rattle.std.proofs.lemmas.Option.{slice_get-get_or}
-use Rattle.st_ids.specs.Listing.{Has}
+use Rattle.st_ids.specs.Listing.{AreDistinct, Has}
 use Rattle.st_ids.specs.Order.{same_rev, same_node}
 use Rattle.st_ids.specs.declared.names.Atom.{Atom}
 use Rattle.st_ids.specs.declared.names.CellId.{CellId}
@@ -14,7 +14,7 @@ use Rattle.st_ids.specs.declared.names.NodeId.{NodeId}
 use Rattle.st_ids.proofs.Orders.{same_node-true, same_node-itself}
 use Rattle.st_marks.specs.declared.intents.Owned.{Owned}
 use Rattle.st_marks.specs.declared.places.Spot.{Spot}
-use Rattle.st_marks.specs.Document.{Document, IsSoundInForm, AreDistinct, ClimbsToAnEnd, above, climb, node_of, root, opening, owned}
+use Rattle.st_marks.specs.Document.{Document, IsSoundInForm, ClimbsToAnEnd, above, climb, node_of, root, opening, owned}
 use Rattle.st_marks.proofs.Lookups.{both_true}
 use Rattle.st_marks.proofs.Members.{has-all, map-has, has-map}
 use Rattle.st_intent.proofs.Obeyed.{one_rev}

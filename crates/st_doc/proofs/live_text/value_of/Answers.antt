@@ -41,5 +41,5 @@ returns-clause-shown c =
     let members = c.in_ok-members.members in
     if_ok_along c.one_member-2.result (λ x. view x ≡ one_member new.ty (view (Object members))) (λ x. AllShown is D c.args.done.now → Shows is D n (view x))
     (λ x e all. registers_shown is D n new.ty new.leaf (ap type_of (sym c.in-Some.ensures.value)) c.args.done.now (seats_of n entries) (members_view members.entries) (view (Object members)) (view x) all c.in_default-leaf.is
-    (sym c.is_among.ensures ∙ c.if-is_among.false) (keys_rising (seats_of n entries) (c.requires.rise n), keys_found n entries) (c.requires.holds n)
+    (sym c.is_among.ensures ∙ c.if-is_among.false) (record { rising = keys_rising (seats_of n entries) (c.requires.rise n); at_each = keys_found n entries }) (c.requires.holds n)
     (subst (λ ss. AreMembers c.args.done.now ss (members_view members.entries)) (c.seats_at.ensures ∙ c.requires.listed n) c.in_ok-members.ensures.members) (view-Object members) e) c.one_member-2.ensures
