@@ -3,10 +3,12 @@
 
 mod edits;
 mod intents;
+mod laws;
 mod lists;
 mod moves;
 mod paths;
 mod rules;
 
 pub use edits::resolve;
+pub use laws::simple_edits_fit;
 pub use rules::Given;
