@@ -1,6 +1,7 @@
 -- What a removal, an emptied field and a need mean fits the document where it was resolved.
-use Rattle.std.proofs.Common.{◌≡◌, ◌≢◌, ℕ, zero, suc, ◌+◌, ◌==◌, ◌≤◌, nat_le, Bool, true, false, cond, ◌&&◌, List, [], ◌∷◌, map, filter, take, drop, length, Option, Some, None, IsSome, IfSome, IsTrue, option_map, Result, Ok, Err, refl, sym, ap, ◌∙◌, subst, arith, inl, inr, ◌⊎◌}
-use Rattle.std.specs.List.{AllByRecursion, filter_map, cons_option, find, slice_get}
+use Rattle.std.proofs.Common.{◌≡◌, ◌≢◌, ℕ, zero, suc, ◌+◌, ◌==◌, ◌≤◌, nat_le, Bool, true, false, cond, ◌&&◌, List, [], ◌∷◌, map, filter, take, drop, length, Option, Some, None, IsSome, IfSome, IsTrue, option_map, Result, Ok, Err, refl, sym, ap, ◌∙◌, subst, arith, inl, inr, ◌⊎◌, ◌||◌, option_and_then}
+use Rattle.std.specs.List.{AllByRecursion, filter_map, cons_option, find, list_all, slice_get}
+use Rattle.std.specs.Map.{lookup}
 use Rattle.st_ids.specs.Listing.{AreDistinct, Has}
 use Rattle.st_ids.specs.Order.{same_node}
 use Rattle.st_ids.specs.declared.names.CellId.{CellId}
@@ -10,8 +11,14 @@ use Rattle.st_ids.specs.declared.names.NodeId.{NodeId}
 use Rattle.st_ids.specs.declared.names.Place.{Place}
 use Rattle.st_ids.proofs.Orders.{same_node-true, same_cell-true}
 use Rattle.st_tree.specs.declared.edit.EditFault.{EditFault}
-use Rattle.st_tree.specs.declared.edit.EditFault.TheVariants.{Range}
-use Rattle.st_schema.specs.Schema.{SchemaView}
+use Rattle.st_tree.specs.declared.edit.EditFault.TheVariants.{Kind, Range}
+use Rattle.st_schema.specs.Schema.{SchemaView, same, is_key, declared, field_in, field_is_sound, form_of, form_is_sound, defs_rise, type_names, forms_are_sound, names_are_sound, is_single_kind, is_sound, field_of}
+use Rattle.st_schema.specs.declared.names.FieldDef.{FieldDef}
+use Rattle.st_schema.specs.declared.names.FieldRule.{FieldRule}
+use Rattle.st_schema.specs.declared.names.Form.{Form}
+use Rattle.st_schema.specs.declared.names.Form.TheVariants.{Array, Map, Object}
+use Rattle.st_schema.specs.declared.names.KindName.{KindName}
+use Rattle.st_schema.specs.declared.names.KindName.TheVariants.{Required, Optional, Sequence}
 use Rattle.st_marks.specs.declared.intents.Intent.{Intent}
 use Rattle.st_marks.specs.declared.intents.Owned.{Owned}
 use Rattle.st_marks.specs.declared.intents.Put.{Put}
@@ -20,10 +27,11 @@ use Rattle.st_marks.specs.declared.places.Slot.{Slot}
 use Rattle.st_marks.specs.declared.places.Spot.{Spot}
 use Rattle.st_marks.specs.Document.{Document, NodeType, IsSoundInForm, is_cell, slot, root, owned}
 use Rattle.st_marks.specs.Intent.{Fits, IsKnown, Owns, cell_of, clears, is_new, register_of}
+use Rattle.st_marks.proofs.Lookups.{both_true}
 use Rattle.st_marks.proofs.Members.{true-false, all-has, has-all, has-map, first-has}
 use Rattle.st_doc.specs.Shown.{live_slots}
 use Rattle.st_resolve.specs.Paths.{and_then, there, child, field_at, items_from, row_length, walk_from}
-use Rattle.st_resolve.specs.Resolve.{need, remove, removed, nothing_yet, walk, rule_for, within_row}
+use Rattle.st_resolve.specs.Resolve.{need, remove, removed, nothing_yet, walk, rule_for, within_row, rule_at, of_kind, is_optional, clear}
 use Rattle.st_resolve.specs.declared.rules.Given.{Given}
 use Rattle.st_resolve.specs.declared.rules.Takes.TheVariants as field
 
@@ -279,3 +287,111 @@ remove_fits D s G at key index count N sound e =
     taken_is : (b : Bool) (n : NodeId) (ns : List NodeId) → cond b (Ok (items_from D n index count)) (Err Range) ≡ Ok ns → items_from D n index count ≡ ns
     taken_is true n ns h = cc
     taken_is false n ns h = cc
+
+-- ## An emptied field
+
+all_pass : {A : Type 0} (p : A → Bool) (xs : List A) (x : A) → list_all p xs ≡ true → Has xs x → p x ≡ true
+all_pass p [] x e h = absurd h
+all_pass p (y ∷ xs) x e (inl q) = ap p (sym q) ∙ (both_true (p y) (list_all p xs) e).0
+all_pass p (y ∷ xs) x e (inr h) = all_pass p xs x (both_true (p y) (list_all p xs) e).1 h
+
+looked_up : {K X : Type 0} (test : K → Bool) (es : List (K × X)) (x : X) → lookup test es ≡ Some x → Has (map (λ e. e.1) es) x
+looked_up test [] x e = cc
+looked_up {K} {X} test (d ∷ es) x e = go (test d.0) (λ f. looked_up test es x f) e
+  where
+    go : (b : Bool) → (lookup test es ≡ Some x → Has (map (λ (e : K × X). e.1) es) x) → cond b (Some d.1) (lookup test es) ≡ Some x → Has (map (λ (e : K × X). e.1) (d ∷ es)) x
+    go true rest f = let q : d.1 ≡ x = cc in inl q
+    go false rest f = inr (rest f)
+
+-- a declared field has a key of some bytes
+declared_some : (k : List ℕ) → is_key k ≡ true → same k [] ≡ true → ⊥
+declared_some [] e f = true-false e refl
+declared_some (b ∷ k) e f = true-false f refl
+
+rule_key : (names : List (List ℕ)) (form : Form) (key : List ℕ) (rule : FieldRule) → form_is_sound names form ≡ true → field_in form key ≡ Some rule → is_single_kind rule.kind ≡ true → key ≢ []
+rule_key names form (b ∷ key) rule sound e single f = cc
+rule_key names (Array types) [] rule sound e single f =
+    let q : record { kind = Sequence; types = types } ≡ rule = cc in true-false single (ap (λ (r : FieldRule). is_single_kind r.kind) (sym q))
+rule_key names (Map types) [] rule sound e single f = cc
+rule_key names (Object fields) [] rule sound e single f = go (declared fields []) refl e
+  where
+    go : (o : Option FieldDef) → declared fields [] ≡ o → option_map (λ (f : FieldDef). record { kind = f.kind; types = f.types }) o ≡ Some rule → ⊥
+    go None h g = cc
+    go (Some d) h g =
+        let w = first-has (λ (f : FieldDef). same f.key.0 []) fields d h in
+        let all = (both_true (nat_le (length fields) 64) (list_all (field_is_sound names) fields && defs_rise [] fields) sound).1 in
+        let own = all_pass (field_is_sound names) fields d (both_true (list_all (field_is_sound names) fields) (defs_rise [] fields) all).0 w.0 in
+        declared_some d.key.0 (both_true (is_key d.key.0) _ own).0 w.1
+
+key_some : (s : SchemaView) (ty key : List ℕ) (rule : FieldRule) → is_sound s ≡ true → field_of s ty key ≡ Some rule → is_single_kind rule.kind ≡ true → key ≢ []
+key_some s ty key rule sound e single = go (form_of s.types ty) refl e
+  where
+    forms : forms_are_sound s.types ≡ true
+    forms = (both_true (forms_are_sound s.types) _ (both_true (names_are_sound (type_names s.types)) _ sound).1).0
+
+    go : (o : Option Form) → form_of s.types ty ≡ o → option_and_then (λ (form : Form). field_in form key) o ≡ Some rule → key ≢ []
+    go None h f = cc
+    go (Some form) h f = rule_key (type_names s.types) form key rule (all_pass (form_is_sound (type_names s.types)) (map (λ d. d.1) s.types) form forms (looked_up (same ty) s.types form h)) f single
+
+-- where a rule is found, the node is there
+ruled : (D : Document) (s : SchemaView) (n : NodeId) (key : Key) (rule : FieldRule) → rule_at D s n key ≡ Some rule → IsSome (D.nodes n) × ((t : NodeType) × (field_of s t.ty key.0 ≡ Some rule))
+ruled D s n key rule e = go (D.nodes n) e
+  where
+    go : (o : Option NodeType) → option_and_then (λ (t : NodeType). field_of s t.ty key.0) o ≡ Some rule → IsSome o × ((t : NodeType) × (field_of s t.ty key.0 ≡ Some rule))
+    go None f = cc
+    go (Some t) f = (refl, (t, f))
+
+kind_taken : (takes : KindName → Bool) (rule got : FieldRule) → of_kind takes rule ≡ Ok got → takes rule.kind ≡ true
+kind_taken takes rule got e = go (takes rule.kind) e
+  where
+    go : (b : Bool) → cond b (Ok rule) (Err Kind) ≡ Ok got → b ≡ true
+    go true f = refl
+    go false f = cc
+
+optional_single : (k : KindName) → is_optional k ≡ true → is_single_kind k ≡ true
+optional_single Required e = refl
+optional_single Optional e = refl
+optional_single Sequence e = cc
+
+pub clear_fits : (D : Document) (s : SchemaView) (G : Given) (at : List Place) (key : Key) (N : Intent) → IsSoundInForm D → is_sound s ≡ true → clear D s G at key ≡ Ok N → Fits D N
+clear_fits D s G at key N sound schema e =
+    let n = passed (walk D at) (λ n. and_then (rule_for field.Optional D s n key) (λ _. Ok (record (nothing_yet D G) { clear = field_at n key ∷ [] }))) N e in
+    let r = passed (rule_for field.Optional D s n.0 key) (λ _. Ok (record (nothing_yet D G) { clear = field_at n.0 key ∷ [] })) N n.2 in
+    let is : record (nothing_yet D G) { clear = field_at n.0 key ∷ [] } ≡ N = cc in
+    let rule = passed (there (rule_at D s n.0 key) Kind) (of_kind is_optional) r.0 r.1 in
+    let w = ruled D s n.0 key rule.0 (found (rule_at D s n.0 key) Kind rule.0 rule.1) in
+    let single = optional_single rule.0.kind (kind_taken is_optional rule.0 r.0 rule.2) in
+    subst (Fits D) is (fits n.0 w.0 (key_some s w.1.0.ty key.0 rule.0 schema w.1.1 single))
+  where
+    fits : (n : NodeId) → IsSome (D.nodes n) → key.0 ≢ [] → Fits D (record (nothing_yet D G) { clear = field_at n key ∷ [] })
+    fits n known some = record {
+      itself = record {
+        new_rev = tt;
+        new_once = tt;
+        cell_rev = tt;
+        cell_once = tt;
+        group_some = tt;
+        start_once = tt;
+        anchor_once = tt;
+        anchor_old = tt;
+        owners = tt;
+        root_stays = refl;
+        put_once = tt;
+        no_cell_twice = tt;
+        no_register_twice = tt;
+        new_somewhere = tt;
+        cleared = tt;
+        register_keys = (some, tt);
+        need_old = tt;
+        no_ring = λ m. (1, refl);
+        schema_alone = tt;
+      };
+      fresh_nodes = λ m h. cc;
+      fresh_cells = λ c h. cc;
+      fresh_schema = tt;
+      groups_known = tt;
+      owners_known = tt;
+      puts_known = tt;
+      clears_known = (inr known, tt);
+      needs_known = tt;
+    }

@@ -1,17 +1,19 @@
 //! Laws about edits: each is the contract of a function that does nothing.
-ghost use Rattle.std.specs.Prelude.{◌≡◌, ℕ, List, Ok};
+ghost use Rattle.std.specs.Prelude.{◌≡◌, ℕ, true, List, Ok};
 ghost use Rattle.st_ids.specs.declared.names.Key.{Key};
 ghost use Rattle.st_ids.specs.declared.names.Place.{Place};
-ghost use Rattle.st_schema.specs.Schema.{SchemaView};
+ghost use Rattle.st_schema.specs.Schema.{SchemaView, is_sound};
 ghost use Rattle.st_marks.specs.declared.intents.Intent.{Intent};
 ghost use Rattle.st_marks.specs.Document.{Document, IsSoundInForm};
 ghost use Rattle.st_marks.specs.Intent.{Fits};
 ghost use Rattle.st_resolve.specs.declared.rules.Given.{Given};
-ghost use Rattle.st_resolve.specs.Resolve.{need, remove};
+ghost use Rattle.st_resolve.specs.Resolve.{clear, need, remove};
 
-/// What a removal and a need mean fits the document where the edit was resolved.
+/// What a removal, an emptied field and a need mean fits the document where the edit was resolved.
 pub fn simple_edits_fit()
     ensures remove { (D : Document) (s : SchemaView) (G : Given) (at : List Place) (key : Key) (index count : ℕ) (N : Intent) → IsSoundInForm D
         → remove D s G at key index count ≡ Ok N → Fits D N }
+    ensures clear { (D : Document) (s : SchemaView) (G : Given) (at : List Place) (key : Key) (N : Intent) → IsSoundInForm D → is_sound s ≡ true
+        → clear D s G at key ≡ Ok N → Fits D N }
     ensures need { (D : Document) (G : Given) (at : List Place) (N : Intent) → IsSoundInForm D → need D G at ≡ Ok N → Fits D N }
 {}
