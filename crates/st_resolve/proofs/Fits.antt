@@ -41,7 +41,7 @@ pub passed : {A B : Type 0} (r : Result A EditFault) (next : A → Result B Edit
 passed (Err e) next y h = cc
 passed (Ok x) next y h = (x, refl, h)
 
-found : {A : Type 0} (o : Option A) (e : EditFault) (x : A) → there o e ≡ Ok x → o ≡ Some x
+pub found : {A : Type 0} (o : Option A) (e : EditFault) (x : A) → there o e ≡ Ok x → o ≡ Some x
 found None e x h = cc
 found (Some y) e x h = let q : y ≡ x = cc in ap (λ z. Some z) q
 
@@ -61,7 +61,7 @@ pub record IsShown (D : Document) (n : NodeId) (s : Slot) : Type 0 where
   pub in_row : Has (D.rows n) (owned s.cell s.node)
   pub full : is_cell s.cell (D.place s.node) ≡ true
 
-shown : (D : Document) (n : NodeId) (s : Slot) → Has (live_slots D n) s → IsShown D n s
+pub shown : (D : Document) (n : NodeId) (s : Slot) → Has (live_slots D n) s → IsShown D n s
 shown D n s h =
     let f = filtered (λ (s : Slot). s.full) (map (slot D) (D.rows n)) s h in
     let o = has-map (slot D) (D.rows n) s f.0 in
@@ -76,7 +76,7 @@ placed_not_root D s sound full e =
     let none : is_cell s.cell (D.place s.node) ≡ false = ap (λ n. is_cell s.cell (D.place n)) e ∙ ap (is_cell s.cell) sound.root_nowhere in
     true-false full none
 
-gotten : {A : Type 0} (xs : List A) (i : ℕ) (x : A) → slice_get xs i ≡ Some x → Has xs x
+pub gotten : {A : Type 0} (xs : List A) (i : ℕ) (x : A) → slice_get xs i ≡ Some x → Has xs x
 gotten [] i x e = cc
 gotten (y ∷ xs) zero x e = let q : y ≡ x = cc in inl q
 gotten (y ∷ xs) (suc i) x e = inr (gotten xs i x e)
@@ -150,15 +150,15 @@ need_fits D G at N sound e =
 
 -- ## A removal
 
-all_map : {A B : Type 0} (P : B → Type 0) (f : A → B) (xs : List A) → ((x : A) → Has xs x → P (f x)) → AllByRecursion P (map f xs)
+pub all_map : {A B : Type 0} (P : B → Type 0) (f : A → B) (xs : List A) → ((x : A) → Has xs x → P (f x)) → AllByRecursion P (map f xs)
 all_map P f [] h = tt
 all_map P f (x ∷ xs) h = (h x (inl refl), all_map P f xs (λ y k. h y (inr k)))
 
-distinct_map : {A B K : Type 0} (f : A → B) (key : B → K) (xs : List A) → AreDistinct (λ x. key (f x)) xs → AreDistinct key (map f xs)
+pub distinct_map : {A B K : Type 0} (f : A → B) (key : B → K) (xs : List A) → AreDistinct (λ x. key (f x)) xs → AreDistinct key (map f xs)
 distinct_map f key [] d = tt
 distinct_map f key (x ∷ xs) d = (all_map (λ y. key y ≢ key (f x)) f xs (λ y k. all-has (λ z. key (f z) ≢ key (f x)) xs y d.0 k), distinct_map f key xs d.1)
 
-none_kept : {A B K : Type 0} (f : A → B) (g : B → Option K) (xs : List A) → ((x : A) → g (f x) ≡ None) → filter_map g (map f xs) ≡ []
+pub none_kept : {A B K : Type 0} (f : A → B) (g : B → Option K) (xs : List A) → ((x : A) → g (f x) ≡ None) → filter_map g (map f xs) ≡ []
 none_kept f g [] h = refl
 none_kept f g (x ∷ xs) h = ap (λ o. cons_option o (filter_map g (map f xs))) (h x) ∙ none_kept f g xs h
 
@@ -216,7 +216,7 @@ slots_from D n index count = take count (drop index (live_slots D n))
 slot_shown : (D : Document) (n : NodeId) (index count : ℕ) (s : Slot) → Has (slots_from D n index count) s → IsShown D n s
 slot_shown D n index count s h = shown D n s (has_drop index (live_slots D n) s (has_take count (drop index (live_slots D n)) s h))
 
-item_there : (D : Document) (n : NodeId) (index count : ℕ) → IsSoundInForm D → (m : NodeId) → Has (items_from D n index count) m → IsSome (D.nodes m) × (m ≢ root)
+pub item_there : (D : Document) (n : NodeId) (index count : ℕ) → IsSoundInForm D → (m : NodeId) → Has (items_from D n index count) m → IsSome (D.nodes m) × (m ≢ root)
 item_there D n index count sound m h =
     let s = has-map (λ (s : Slot). s.node) (slots_from D n index count) m h in
     let w = slot_shown D n index count s.0 s.1 in (
@@ -224,7 +224,7 @@ item_there D n index count sound m h =
       λ e. placed_not_root D s.0 sound w.full (s.2 ∙ e),
     )
 
-items_once : (D : Document) (n : NodeId) (index count : ℕ) → IsSoundInForm D → AreDistinct (λ (m : NodeId). m) (items_from D n index count)
+pub items_once : (D : Document) (n : NodeId) (index count : ℕ) → IsSoundInForm D → AreDistinct (λ (m : NodeId). m) (items_from D n index count)
 items_once D n index count sound =
     distinct_map (λ (s : Slot). s.node) (λ (m : NodeId). m) (slots_from D n index count)
     (distinct_take (λ (s : Slot). s.node) count (drop index (live_slots D n)) (distinct_drop (λ (s : Slot). s.node) index (live_slots D n) (shown_once D (D.rows n) (sound.once n))))
@@ -241,7 +241,7 @@ not_put ms m apart = go (find (λ (p : Put). same_node p.node m) (map nowhere ms
         absurd (apart k.0 k.1 (ap (λ (p : Put). p.node) k.2 ∙ same_node-true p.node m f.1))
 
 -- nodes that are there, each once and none the root, can be put nowhere
-nowhere_fits : (D : Document) (G : Given) (ms : List NodeId) → AreDistinct (λ (m : NodeId). m) ms → ((m : NodeId) → Has ms m → IsSome (D.nodes m) × (m ≢ root)) → Fits D (removed D G ms)
+pub nowhere_fits : (D : Document) (G : Given) (ms : List NodeId) → AreDistinct (λ (m : NodeId). m) ms → ((m : NodeId) → Has ms m → IsSome (D.nodes m) × (m ≢ root)) → Fits D (removed D G ms)
 nowhere_fits D G ms once there = record {
   itself = record {
     new_rev = tt;
@@ -323,7 +323,7 @@ rule_key names (Object fields) [] rule sound e single f = go (declared fields []
         let own = all_pass (field_is_sound names) fields d (both_true (list_all (field_is_sound names) fields) (defs_rise [] fields) all).0 w.0 in
         declared_some d.key.0 (both_true (is_key d.key.0) _ own).0 w.1
 
-key_some : (s : SchemaView) (ty key : List ℕ) (rule : FieldRule) → is_sound s ≡ true → field_of s ty key ≡ Some rule → is_single_kind rule.kind ≡ true → key ≢ []
+pub key_some : (s : SchemaView) (ty key : List ℕ) (rule : FieldRule) → is_sound s ≡ true → field_of s ty key ≡ Some rule → is_single_kind rule.kind ≡ true → key ≢ []
 key_some s ty key rule sound e single = go (form_of s.types ty) refl e
   where
     forms : forms_are_sound s.types ≡ true
@@ -334,7 +334,7 @@ key_some s ty key rule sound e single = go (form_of s.types ty) refl e
     go (Some form) h f = rule_key (type_names s.types) form key rule (all_pass (form_is_sound (type_names s.types)) (map (λ d. d.1) s.types) form forms (looked_up (same ty) s.types form h)) f single
 
 -- where a rule is found, the node is there
-ruled : (D : Document) (s : SchemaView) (n : NodeId) (key : Key) (rule : FieldRule) → rule_at D s n key ≡ Some rule → IsSome (D.nodes n) × ((t : NodeType) × (field_of s t.ty key.0 ≡ Some rule))
+pub ruled : (D : Document) (s : SchemaView) (n : NodeId) (key : Key) (rule : FieldRule) → rule_at D s n key ≡ Some rule → IsSome (D.nodes n) × ((t : NodeType) × (field_of s t.ty key.0 ≡ Some rule))
 ruled D s n key rule e = go (D.nodes n) e
   where
     go : (o : Option NodeType) → option_and_then (λ (t : NodeType). field_of s t.ty key.0) o ≡ Some rule → IsSome o × ((t : NodeType) × (field_of s t.ty key.0 ≡ Some rule))
@@ -353,6 +353,39 @@ optional_single Required e = refl
 optional_single Optional e = refl
 optional_single Sequence e = cc
 
+pub emptied_fits : (D : Document) (G : Given) (f : FieldId) → IsSome (D.nodes f.node) → f.key.0 ≢ [] → Fits D (record (nothing_yet D G) { clear = f ∷ [] })
+emptied_fits D G f known some = record {
+  itself = record {
+    new_rev = tt;
+    new_once = tt;
+    cell_rev = tt;
+    cell_once = tt;
+    group_some = tt;
+    start_once = tt;
+    anchor_once = tt;
+    anchor_old = tt;
+    owners = tt;
+    root_stays = refl;
+    put_once = tt;
+    no_cell_twice = tt;
+    no_register_twice = tt;
+    new_somewhere = tt;
+    cleared = tt;
+    register_keys = (some, tt);
+    need_old = tt;
+    no_ring = λ m. (1, refl);
+    schema_alone = tt;
+  };
+  fresh_nodes = λ m h. cc;
+  fresh_cells = λ c h. cc;
+  fresh_schema = tt;
+  groups_known = tt;
+  owners_known = tt;
+  puts_known = tt;
+  clears_known = (inr known, tt);
+  needs_known = tt;
+}
+
 pub clear_fits : (D : Document) (s : SchemaView) (G : Given) (at : List Place) (key : Key) (N : Intent) → IsSoundInForm D → is_sound s ≡ true → clear D s G at key ≡ Ok N → Fits D N
 clear_fits D s G at key N sound schema e =
     let n = passed (walk D at) (λ n. and_then (rule_for field.Optional D s n key) (λ _. Ok (record (nothing_yet D G) { clear = field_at n key ∷ [] }))) N e in
@@ -361,37 +394,4 @@ clear_fits D s G at key N sound schema e =
     let rule = passed (there (rule_at D s n.0 key) Kind) (of_kind is_optional) r.0 r.1 in
     let w = ruled D s n.0 key rule.0 (found (rule_at D s n.0 key) Kind rule.0 rule.1) in
     let single = optional_single rule.0.kind (kind_taken is_optional rule.0 r.0 rule.2) in
-    subst (Fits D) is (fits n.0 w.0 (key_some s w.1.0.ty key.0 rule.0 schema w.1.1 single))
-  where
-    fits : (n : NodeId) → IsSome (D.nodes n) → key.0 ≢ [] → Fits D (record (nothing_yet D G) { clear = field_at n key ∷ [] })
-    fits n known some = record {
-      itself = record {
-        new_rev = tt;
-        new_once = tt;
-        cell_rev = tt;
-        cell_once = tt;
-        group_some = tt;
-        start_once = tt;
-        anchor_once = tt;
-        anchor_old = tt;
-        owners = tt;
-        root_stays = refl;
-        put_once = tt;
-        no_cell_twice = tt;
-        no_register_twice = tt;
-        new_somewhere = tt;
-        cleared = tt;
-        register_keys = (some, tt);
-        need_old = tt;
-        no_ring = λ m. (1, refl);
-        schema_alone = tt;
-      };
-      fresh_nodes = λ m h. cc;
-      fresh_cells = λ c h. cc;
-      fresh_schema = tt;
-      groups_known = tt;
-      owners_known = tt;
-      puts_known = tt;
-      clears_known = (inr known, tt);
-      needs_known = tt;
-    }
+    subst (Fits D) is (emptied_fits D G (field_at n.0 key) w.0 (key_some s w.1.0.ty key.0 rule.0 schema w.1.1 single))
