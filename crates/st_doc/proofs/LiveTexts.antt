@@ -49,6 +49,10 @@ part_itself m n v e = e
 pub part_in_turn : (a b c : BTreeMap NodeId Value) → IsPart a b → IsPart b c → IsPart a c
 part_in_turn a b c p q n v e = q n v (p n v e)
 
+-- one that is the same is
+pub part_same : (new old : BTreeMap NodeId Value) → new ≡ old → IsPart new old
+part_same new old e n v h = ap (λ m. get node_cmp m n) (sym e) ∙ h
+
 -- a map without one name is part of it
 pub part_without : (node : NodeId) (new old : BTreeMap NodeId Value) → ((q : NodeId) → get node_cmp new q ≡ cond (is_eq (node_cmp node q)) None (get node_cmp old q)) → IsPart new old
 part_without node new old h n v e = go (is_eq (node_cmp node n)) (sym (h n) ∙ e)
