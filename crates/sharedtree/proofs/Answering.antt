@@ -50,9 +50,6 @@ traced (Some bytes) rest old new told NoMemory other known h = rw known.0 h
 pub answered_trace : (words : List (List ℕ)) (left rest old new : Option (List ℕ)) (o : Outcome) → is_trace words ≡ true → IsTraced left rest old new o → IsAnswered words left rest old new o
 answered_trace words left rest old new o command h = subst (λ b. IsAnsweredAs b left rest old new o) (sym command) h
 
-pub answered_usage : (words : List (List ℕ)) (left rest old new : Option (List ℕ)) (o : Outcome) → is_trace words ≡ false → IsTold old new usage_told o → IsAnswered words left rest old new o
-answered_usage words left rest old new o command h = subst (λ b. IsAnsweredAs b left rest old new o) (sym command) h
-
 traced_whole : (left rest old new : Option (List ℕ)) (got : List ℕ) (o : Outcome) → length got ≤ max_input → IfSome left (λ bytes. (got ≡ bytes) × (rest ≡ Some [])) → IsTold old new (trace_of (cut got)) o → IsTraced left rest old new o
 traced_whole None rest old new got o short read h = traced None rest old new _ o (not_usage (cut got)) tt h
 traced_whole (Some bytes) rest old new got o short read h =

@@ -1,4 +1,6 @@
 pub mod Look
+pub mod KeyOrder
+pub mod LiveTexts
 pub mod Carrying
 pub mod Climbing
 pub mod Evicting

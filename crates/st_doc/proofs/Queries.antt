@@ -1,6 +1,5 @@
 -- What is looked up in a row and in the list of schema entries.
-use Rattle.std.proofs.Common.{◌≡◌, ℕ, suc, ◌+◌, ◌-◌, ◌<◌, Bool, true, false, cond, List, [], ◌∷◌, length, drop, get_or, map, filter, slice_get, Option, Some, None, option_map, refl, sym, ap, ◌∙◌, arith}
-use Rattle.st_ids.specs.declared.names.Rev.{Rev}
+use Rattle.std.proofs.Common.{◌≡◌, ℕ, suc, ◌+◌, ◌-◌, ◌<◌, Bool, true, false, cond, List, [], ◌∷◌, length, drop, get_or, map, filter, slice_get, Option, option_map, refl, sym, ap, ◌∙◌, arith}
 use Rattle.st_marks.specs.declared.schemas.SchemaEntry.{SchemaEntry}
 use Rattle.st_marks.specs.Document.{last_of, revs}
 use Rattle.st_doc.proofs.Showing.{opened}

@@ -6,7 +6,6 @@ use Rattle.std.proofs.lemmas.List.{append-nil}
 use Rattle.st_ids.specs.Order.{same_node}
 use Rattle.st_ids.specs.declared.names.NodeId.{NodeId}
 use Rattle.st_marks.specs.declared.changes.NewNode.{NewNode}
-use Rattle.st_marks.specs.declared.intents.Owned.{Owned}
 use Rattle.st_tree.specs.declared.flat.FlatNode.{FlatNode}
 use Rattle.st_doc.specs.Nodes.{type_of}
 use Rattle.st_doc.specs.Start.{first_said, type_at}
@@ -60,7 +59,7 @@ added_type n x m None p q = elim (same_node x.node n) as (λ b. type_of (cond b 
 ]
 
 -- a row with one cell more, taken out and put back
-pub pushed : (node n : NodeId) (owned : Owned) (row new : List Owned) (old between : Option (List Owned)) (here : Option (List Owned))
+pub pushed : {A : Type 0} (node n : NodeId) (owned : A) (row new : List A) (old between here : Option (List A))
     → (same_node node n ≡ true → here ≡ old) → row ≡ unwrap_or here [] → new ≡ row ++ owned ∷ [] → (same_node node n ≡ false → between ≡ old)
     → unwrap_or (cond (same_node node n) (Some new) between) [] ≡ unwrap_or old [] ++ cond (same_node node n) (owned ∷ []) []
 pushed node n owned row new old between here e r p apart = go (same_node node n) refl

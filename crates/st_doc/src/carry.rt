@@ -1,6 +1,6 @@
 //! Carrying out an intent, whole or void.
 ghost use Rattle.std.specs.Prelude.{◌≡◌, IfOk, OnOk};
-ghost use Rattle.st_marks.specs.Document.{IsSoundInForm};
+ghost use Rattle.st_marks.specs.Document.{HasShortRows, IsSoundInForm};
 ghost use Rattle.st_marks.specs.Intent.{Fits};
 ghost use Rattle.st_marks.specs.CarryOut.{full, void, with_schema};
 ghost use Rattle.st_marks.specs.Verdict.{IsVerdict, carried};
@@ -72,9 +72,8 @@ impl Doc {
         Ok(())
     }
 
-    /// Carries out an intent that fits: whole where it is sound, and void where it is not. It takes the time that the
-    /// intent's names and the rows that it grows ask for. After an `Err` nothing is promised of the document.
-    pub fn carry_out(&mut self, alloc: Global, intent: &Intent) -> Result<Verdict, AllocError>
+    // Carries out an intent by its verdict.
+    fn carry_by_verdict(&mut self, alloc: Global, intent: &Intent) -> Result<Verdict, AllocError>
         requires sound { IsSoundInForm (document_of self.old) }
         requires fits { Fits (document_of self.old) intent.now }
         ensures verdict { IfOk result (IsVerdict (document_of self.old) intent.now) }
@@ -85,6 +84,20 @@ impl Doc {
             Verdict::Sound => self.carry_whole(alloc, intent)?,
             _ => self.carry_void(alloc, intent)?,
         }
+        Ok(verdict)
+    }
+
+    /// Carries out an intent that fits: whole where it is sound, and void where it is not. The document stays sound in
+    /// form where its rows stay short enough. It takes the time that the intent's names and the rows that it grows ask
+    /// for. After an `Err` nothing is promised of the document.
+    pub fn carry_out(&mut self, alloc: Global, intent: &Intent) -> Result<Verdict, AllocError>
+        requires sound { IsSoundInForm (document_of self.old) }
+        requires fits { Fits (document_of self.old) intent.now }
+        ensures verdict { IfOk result (IsVerdict (document_of self.old) intent.now) }
+        ensures after { IfOk result (λ v. document_of self.new ≡ carried v (document_of self.old) intent.now) }
+        ensures still_sound { OnOk result (HasShortRows (full (document_of self.old) intent.now) → IsSoundInForm (document_of self.new)) }
+    {
+        let verdict = self.carry_by_verdict(alloc, intent)?;
         Ok(verdict)
     }
 }

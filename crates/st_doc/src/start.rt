@@ -1,12 +1,12 @@
 //! The opening document of a tree.
-ghost use Rattle.std.specs.Prelude.{◌≡◌, ◌++◌, ◌∷◌, [], cond, true, IfOk, OnOk, Ok, unwrap_or};
+ghost use Rattle.std.specs.Prelude.{◌≡◌, ◌++◌, [], true, IfOk, OnOk, Ok, unwrap_or};
 ghost use Rattle.std.specs.BTreeMap.{get};
 ghost use Rattle.std.specs.List.{filter_map};
 ghost use Rattle.std.specs.Option.{option_or, option_to_list};
 ghost use Rattle.st_ids.specs.declared.names.CellId.{CellId as Cell};
 ghost use Rattle.st_ids.specs.declared.names.FieldId.{FieldId as Register};
 ghost use Rattle.st_ids.specs.declared.names.NodeId.{NodeId as Node};
-ghost use Rattle.st_ids.specs.Order.{node_cmp, cell_cmp, field_cmp, same_node};
+ghost use Rattle.st_ids.specs.Order.{node_cmp, cell_cmp, field_cmp};
 ghost use Rattle.st_marks.specs.Document.{IsSoundInForm};
 ghost use Rattle.st_tree.specs.Form.{has_form};
 ghost use Rattle.st_tree.specs.Node.{view};
@@ -17,7 +17,7 @@ ghost use Rattle.st_doc.specs.Nodes.{type_of};
 ghost use Rattle.st_doc.specs.Start.{first_said, type_at, spot_at, place_at, row_at, cell_at, held_at, start_of};
 
 use crate::doc::Doc;
-use crate::maps::{add, set};
+use crate::maps::{add, push_at};
 use crate::opening::opening_rev;
 use st_ids::{CellId, Copied, FieldId, List, NodeId, Text};
 use st_marks::{NewNode, Owned, SchemaEntry, Spot};
@@ -139,25 +139,6 @@ fn start_held(alloc: Global, flat: &[FlatNode]) -> Result<BTreeMap<FieldId, Node
     Ok(held)
 }
 
-// Puts a cell behind the others of a node's row.
-fn push_cell(
-    alloc: Global,
-    rows: &mut BTreeMap<NodeId, List<Owned>>,
-    node: NodeId,
-    owned: Owned,
-) -> Result<(), AllocError>
-    ensures { OnOk result ((n : Node) → unwrap_or (get node_cmp rows.new n) []
-        ≡ unwrap_or (get node_cmp rows.old n) [] ++ cond (same_node node n) (owned ∷ []) []) }
-{
-    let mut row = match rows.remove(&node) {
-        None => List::new(alloc),
-        Some(row) => row,
-    };
-    row.push(owned)?;
-    set(rows, node, row)?;
-    Ok(())
-}
-
 // Puts the cell in which a node of the list stands behind the others of its row.
 fn add_cell(
     alloc: Global,
@@ -170,7 +151,7 @@ fn add_cell(
 {
     if let FlatAt::Row { node: row, cell } = at {
         let cell = *cell;
-        push_cell(alloc, rows, *row, Owned { cell, node })?;
+        push_at(alloc, rows, *row, Owned { cell, node })?;
         return Ok(());
     }
     Ok(())

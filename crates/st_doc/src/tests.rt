@@ -280,3 +280,52 @@ fn start(rt: HostRuntime) -> Result<(), Fail> {
     assert_eq!(rt; doc.whole(alloc)?.as_str(), r#"{"list":["x","a"]}"#);
     Ok(())
 }
+
+// A note that holds something.
+fn note_of(alloc: Global, item: Tree) -> Result<Tree, AllocError>
+    requires { has_form (view item) ≡ true }
+    ensures { IfOk result (λ t. has_form (view t) ≡ true) }
+{
+    let ty = Text::from_str(alloc, "note")?;
+    let key = Key(Text::from_str(alloc, "of")?);
+    let mut items = List::new(alloc);
+    items.push(item)?;
+    let mut fields = List::new(alloc);
+    fields.push(Field {
+        key,
+        row: false,
+        items,
+    })?;
+    Ok(Tree {
+        ty,
+        leaf: None,
+        fields,
+    })
+}
+
+// The text goes to any depth, over rows and registers.
+#[test]
+fn text(rt: HostRuntime) -> Result<(), Fail> {
+    let alloc = rt.alloc();
+    let tree = note_of(alloc, list_of(alloc, note_of(alloc, leaf(alloc, "x")?)?)?)?;
+    if check(&tree) != Ok(()) {
+        return Err(Fail::from("too large"));
+    }
+    let mut doc = Doc::start(alloc, Text::from_str(alloc, "{}")?, &tree)?;
+    let arrays = [Text::from_str(alloc, "list")?];
+    assert_eq!(rt;
+        doc.text(alloc, &arrays)?.as_str(),
+        r#"{"note":{"of":{"list":[{"note":{"of":"x"}}]}}}"#
+    );
+    // The list's one item goes nowhere.
+    let intent = puts(alloc, OPENING, NodeId(atom(OPENING, 2)), None)?;
+    if !doc.fits(&intent) {
+        return Err(Fail::from("does not fit"));
+    }
+    doc.carry_out(alloc, &intent)?;
+    assert_eq!(rt;
+        doc.text(alloc, &arrays)?.as_str(),
+        r#"{"note":{"of":{"list":[]}}}"#
+    );
+    Ok(())
+}

@@ -3,6 +3,7 @@
 
 mod edits;
 mod intents;
+mod laws;
 mod lists;
 mod moves;
 mod paths;
@@ -11,4 +12,5 @@ mod rules;
 mod tests;
 
 pub use edits::resolve;
+pub use laws::simple_edits_fit;
 pub use rules::Given;

@@ -7,4 +7,4 @@ use Rattle.sharedtree.proofs.client.refold.Goals as goal
 pub returns : goal.returns
 returns c =
     c.in_ok-carry_all.ensures ∙ ap (λ D. run_whole D c.args.pending.now)
-    (c.in_ok-carry_log.ensures ∙ ap (λ D. run_whole D (commits_in c.args.log.now)) (c.in_ok-doc.ensures ∙ ap (opening_row c.args.opening.now) c.in_ok-from_str.ensures))
+    (c.in_ok-carry_log.ensures ∙ ap (λ D. run_whole D (commits_in c.args.log.now)) (c.in_ok-doc.ensures.document ∙ ap (opening_row c.args.opening.now) c.in_ok-from_str.ensures))

@@ -1,4 +1,4 @@
-use Rattle.std.proofs.Common.{◌≡◌, suc, ◌-◌, slice_get, refl, sym, ap, ◌∙◌, get_or, drop, filter, map, arith}
+use Rattle.std.proofs.Common.{slice_get, refl, sym, ap, ◌∙◌, get_or, drop, filter, map, arith}
 use Rattle.st_marks.specs.declared.places.Slot.{Slot}
 use Rattle.st_marks.specs.Document.{slot, owned, root}
 use Rattle.st_doc.specs.Doc.{document_of}

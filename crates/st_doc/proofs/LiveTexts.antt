@@ -1,0 +1,199 @@
+-- The values of nodes, made from the bottom up, are what the nodes show.
+use Rattle.std.specs.Prelude.{ℤ, pos, negsuc}
+use Rattle.std.proofs.Common.{◌≡◌, ℕ, ◌+◌, ◌<◌, Bool, true, false, cond, ◌||◌, List, [], ◌∷◌, ◌++◌, length, map, take, drop, get_or, Option, Some, None, refl, sym, ap, ◌∙◌, subst, append_assoc, Result, Ok, Err, IfOk}
+use Rattle.std.specs.BTreeMap.{BTreeMap, get}
+use Rattle.std.specs.List.{AllByRecursion, cons_option}
+use Rattle.std.specs.Option.{option_to_list}
+use Rattle.std.specs.Ordering.{nat_cmp, is_eq}
+use Rattle.std.specs.Cmp.Lexicographic.{slice_cmp}
+use Rattle.std.specs.declared.cmp.Ordering.TheVariants.{Less}
+use Rattle.std.proofs.lemmas.List.{append-nil, map-append}
+use Rattle.serde_json.specs.Data.{Data, number, array, object, Items, Members, member, put}
+use Rattle.serde_json.specs.Find.{of_integer}
+use Rattle.serde_json.specs.View.{view, items_of}
+use Rattle.serde_json.specs.Written.{has_float, items_have_float, members_have_float}
+use Rattle.serde_json.specs.declared.value.Value.{Value}
+use Rattle.st_ids.specs.Listing.{IsListing}
+use Rattle.st_ids.specs.Order.{node_cmp, same_node}
+use Rattle.st_ids.specs.declared.names.FieldId.{FieldId}
+use Rattle.st_ids.specs.declared.names.Leaf.{Leaf}
+use Rattle.st_ids.specs.declared.names.NodeId.{NodeId}
+use Rattle.st_ids.proofs.Orders.{same_node-true}
+use Rattle.st_marks.specs.declared.intents.Owned.{Owned}
+use Rattle.st_marks.specs.declared.places.Slot.{Slot}
+use Rattle.st_marks.specs.Document.{Document, content, slot}
+use Rattle.st_marks.specs.LiveTree.{leaf_data, owners_shown, register, one_member, Shows, shows_leaf, shows_row, shows_registers, ShowsItems, no_more_items, next_item, ShowsMembers, no_more_members, next_member, key_at}
+use Rattle.st_doc.specs.LiveText.{seat_at, seats_of, KeysRise, AllShown, IsPart, AreValues, AreMembers}
+use Rattle.st_doc.specs.declared.seats.Seat.{Seat}
+use Rattle.st_doc.proofs.Look.{take_one, drop_one}
+
+-- ## Registers, entry by entry
+
+pub seats_more : (n : NodeId) (before now whole : List Seat) (e : FieldId × NodeId) (s t : List (FieldId × NodeId)) → s ≡ e ∷ t → now ≡ before ++ option_to_list (seat_at n e)
+    → before ++ seats_of n s ≡ whole → now ++ seats_of n t ≡ whole
+seats_more n before now whole e s t opened pushed so_far =
+    ap (λ ss. ss ++ seats_of n t) pushed ∙ append_assoc before (option_to_list (seat_at n e)) (seats_of n t) ∙ ap (λ ss. before ++ ss) (one (seat_at n e)) ∙ ap (λ es. before ++ seats_of n es) (sym opened) ∙ so_far
+  where
+    one : (o : Option Seat) → option_to_list o ++ seats_of n t ≡ cons_option o (seats_of n t)
+    one None = refl
+    one (Some s) = refl
+
+pub seats_end : (n : NodeId) (before whole : List Seat) (s : List (FieldId × NodeId)) → s ≡ [] → before ++ seats_of n s ≡ whole → before ≡ whole
+seats_end n before whole s none so_far = sym (append-nil before) ∙ ap (λ es. before ++ seats_of n es) (sym none) ∙ so_far
+
+-- ## Parts of a map
+
+pub part_itself : (m : BTreeMap NodeId Value) → IsPart m m
+part_itself m n v e = e
+
+pub part_in_turn : (a b c : BTreeMap NodeId Value) → IsPart a b → IsPart b c → IsPart a c
+part_in_turn a b c p q n v e = q n v (p n v e)
+
+-- one that is the same is
+pub part_same : (new old : BTreeMap NodeId Value) → new ≡ old → IsPart new old
+part_same new old e n v h = ap (λ m. get node_cmp m n) (sym e) ∙ h
+
+-- a map without one name is part of it
+pub part_without : (node : NodeId) (new old : BTreeMap NodeId Value) → ((q : NodeId) → get node_cmp new q ≡ cond (is_eq (node_cmp node q)) None (get node_cmp old q)) → IsPart new old
+part_without node new old h n v e = go (is_eq (node_cmp node n)) (sym (h n) ∙ e)
+  where
+    go : (b : Bool) → cond b None (get node_cmp old n) ≡ Some v → get node_cmp old n ≡ Some v
+    go true e = cc
+    go false e = e
+
+-- a value more, which is what its node shows
+pub shown_more : (is_array : List ℕ → Bool) (D : Document) (node : NodeId) (w : Value) (new between old : BTreeMap NodeId Value)
+    → ((q : NodeId) → get node_cmp new q ≡ cond (is_eq (node_cmp node q)) (Some w) (get node_cmp between q)) → IsPart between old → AllShown is_array D old → Shows is_array D node (view w) → AllShown is_array D new
+unfolding same_node
+shown_more is_array D node w new between old h part all here n v e = go (same_node node n) refl (sym (h n) ∙ e)
+  where
+    go : (b : Bool) → same_node node n ≡ b → cond b (Some w) (get node_cmp between n) ≡ Some v → Shows is_array D n (view v)
+    go true s e = let same : w ≡ v = cc in subst (λ m. Shows is_array D m (view v)) (same_node-true node n s) (subst (λ x. Shows is_array D node (view x)) same here)
+    go false s e = all n v (part n v e)
+
+-- ## Values of a row
+
+values_push : (done : BTreeMap NodeId Value) (ns : List NodeId) (vs : List Value) (n : NodeId) (v : Value) → AreValues done ns vs → get node_cmp done n ≡ Some v → AreValues done (ns ++ n ∷ []) (vs ++ v ∷ [])
+values_push done [] [] n v h e = (e, tt)
+values_push done [] (w ∷ vs) n v h e = absurd h
+values_push done (m ∷ ns) [] n v h e = absurd h
+values_push done (m ∷ ns) (w ∷ vs) n v h e = (h.0, values_push done ns vs n v h.1 e)
+
+owners_append : (xs ys : List Slot) → owners_shown (xs ++ ys) ≡ owners_shown xs ++ owners_shown ys
+owners_append [] ys = refl
+owners_append (s ∷ xs) ys = ap (λ ns. cond s.full (s.node ∷ []) [] ++ ns) (owners_append xs ys) ∙ sym (append_assoc (cond s.full (s.node ∷ []) []) (owners_shown xs) (owners_shown ys))
+
+module _ (D : Document) (os : List Owned) (i : ℕ) (d o : Owned) (inside : i < length os) (at : get_or os i d ≡ o) where
+  first_owners : owners_shown (map (slot D) (take (i + 1) os)) ≡ owners_shown (map (slot D) (take i os)) ++ cond (slot D o).full (o.node ∷ []) []
+  first_owners =
+      ap (λ l. owners_shown (map (slot D) l)) (take_one os i d o inside at) ∙ ap owners_shown (map-append (slot D) (take i os) (o ∷ []))
+      ∙ owners_append (map (slot D) (take i os)) (slot D o ∷ []) ∙ ap (λ l. owners_shown (map (slot D) (take i os)) ++ l) (append-nil (cond (slot D o).full (o.node ∷ []) []))
+
+  -- a full cell gives the value of its owner
+  pub values_more : (done : BTreeMap NodeId Value) (vs now : List Value) (v : Value) → (slot D o).full ≡ true → now ≡ vs ++ v ∷ [] → get node_cmp done o.node ≡ Some v
+      → AreValues done (owners_shown (map (slot D) (take i os))) vs → AreValues done (owners_shown (map (slot D) (take (i + 1) os))) now
+  values_more done vs now v full pushed e h =
+      subst (λ ns. AreValues done ns now) (sym (first_owners ∙ ap (λ b. owners_shown (map (slot D) (take i os)) ++ cond b (o.node ∷ []) []) full))
+      (subst (AreValues done (owners_shown (map (slot D) (take i os)) ++ o.node ∷ [])) (sym pushed) (values_push done (owners_shown (map (slot D) (take i os))) vs o.node v h e))
+
+  -- an empty one gives nothing
+  pub values_same : (done : BTreeMap NodeId Value) (vs now : List Value) → (slot D o).full ≡ false → now ≡ vs → AreValues done (owners_shown (map (slot D) (take i os))) vs
+      → AreValues done (owners_shown (map (slot D) (take (i + 1) os))) now
+  values_same done vs now empty same h =
+      subst (λ ns. AreValues done ns now) (sym (first_owners ∙ ap (λ b. owners_shown (map (slot D) (take i os)) ++ cond b (o.node ∷ []) []) empty ∙ append-nil (owners_shown (map (slot D) (take i os)))))
+      (subst (AreValues done (owners_shown (map (slot D) (take i os)))) (sym same) h)
+
+-- ## Members of registers
+
+-- a key below the first goes in front
+put_front : (done : BTreeMap NodeId Value) (k : List ℕ) (d : Data) (ss : List Seat) (ms : Members) → AllByRecursion (λ (t : Seat). slice_cmp nat_cmp k t.key ≡ Less) ss → AreMembers done ss ms → put k d ms ≡ member k d ms
+put_front done k d [] ms below h = ap (put k d) h ∙ ap (member k d) (sym h)
+put_front done k d (s ∷ ss) ms below h =
+    let v = h.0 in
+    let rest = h.1 in
+    ap (put k d) h.4 ∙ first_case s.key (view v) rest below.0 ∙ ap (member k d) (sym h.4)
+  where
+    first_case : (l : List ℕ) (e : Data) (ms : Members) → slice_cmp nat_cmp k l ≡ Less → put k d (member l e ms) ≡ member k d (member l e ms)
+    first_case l e ms less = rw less refl
+
+-- one register more in front
+pub members_more : (done : BTreeMap NodeId Value) (ss : List Seat) (i j : ℕ) (s : Seat) (v : Value) (ms now : Members) → i + 1 ≡ j → i < length ss → get_or ss i s ≡ s → KeysRise (drop i ss)
+    → get node_cmp done s.node ≡ Some v → now ≡ put s.key (view v) ms → AreMembers done (drop j ss) ms → AreMembers done (drop i ss) now
+members_more done ss i j s v ms now next inside at rise e is h =
+    let opened : drop i ss ≡ s ∷ drop j ss = drop_one ss i s s inside at ∙ ap (λ k. s ∷ drop k ss) next in
+    let rises = subst KeysRise opened rise in
+    subst (λ l. AreMembers done l now) (sym opened) (v, ms, e, h, is ∙ put_front done s.key (view v) (drop j ss) ms rises.0 h)
+
+-- ## What nodes show
+
+module _ (is_array : List ℕ → Bool) (D : Document) (done : BTreeMap NodeId Value) (all : AllShown is_array D done) where
+  pub values_shown : (ns : List NodeId) (vs : List Value) → AreValues done ns vs → ShowsItems is_array D ns (items_of (map view vs))
+  values_shown [] [] h = no_more_items
+  values_shown [] (v ∷ vs) h = absurd h
+  values_shown (n ∷ ns) [] h = absurd h
+  values_shown (n ∷ ns) (v ∷ vs) h = next_item n (view v) ns (items_of (map view vs)) (all n v h.0) (values_shown ns vs h.1)
+
+  pub members_shown : (n : NodeId) (ss : List Seat) (ms : Members) → AllByRecursion (λ (s : Seat). D.held (register n s.key) ≡ Some s.node) ss → AreMembers done ss ms
+      → ShowsMembers is_array D n (map (λ (s : Seat). s.key) ss) ms
+  members_shown n [] ms held h = subst (ShowsMembers is_array D n []) (sym h) (no_more_members n)
+  members_shown n (s ∷ ss) ms held h =
+      subst (ShowsMembers is_array D n (s.key ∷ map (λ (s : Seat). s.key) ss)) (sym h.4)
+      (next_member n s.node s.key (view h.0) (map (λ (s : Seat). s.key) ss) h.1 held.0 (all s.node h.0 h.2) (members_shown n ss h.1 held.1 h.3))
+
+-- no number of a tree has a fraction
+int_no_float : (i : ℤ) → has_float (number (of_integer i)) ≡ false
+int_no_float (pos n) = refl
+int_no_float (negsuc n) = refl
+
+leaf_no_float : (v : Leaf) → has_float (leaf_data v) ≡ false
+leaf_no_float Leaf.Null = refl
+leaf_no_float (Leaf.Bool b) = refl
+leaf_no_float (Leaf.Int i) = int_no_float i
+leaf_no_float (Leaf.Words t) = refl
+
+neither : (a b : Bool) → a ≡ false → b ≡ false → (a || b) ≡ false
+neither a b p q = ap (λ x. x || b) p ∙ q
+
+module _ (is_array : List ℕ → Bool) (D : Document) where
+  mutual
+    node_no_float : {n : NodeId} {d : Data} → Shows is_array D n d → has_float d ≡ false
+    node_no_float (shows_leaf n ty v e) = leaf_no_float v
+    node_no_float (shows_row n ty items e a h) = neither _ _ (items_no_float h) refl
+    node_no_float (shows_registers n ty keys ms e a l h) = neither _ _ (members_no_float h) refl
+
+    items_no_float : {ns : List NodeId} {ds : Items} → ShowsItems is_array D ns ds → items_have_float ds ≡ false
+    items_no_float no_more_items = refl
+    items_no_float (next_item n d ns ds h rest) = neither _ _ (node_no_float h) (items_no_float rest)
+
+    members_no_float : {n : NodeId} {ks : List (List ℕ)} {ms : Members} → ShowsMembers is_array D n ks ms → members_have_float ms ≡ false
+    members_no_float (no_more_members n) = refl
+    members_no_float (next_member n m k d ks ms e h rest) = neither _ _ (node_no_float h) (members_no_float rest)
+
+  pub shows_no_float : (n : NodeId) (d : Data) → Shows is_array D n d → has_float d ≡ false
+  shows_no_float n d h = node_no_float h
+
+-- ## One node, by what is known of it
+
+pub if_ok_along : {T E : Type 0} (r : Result T E) (P Q : T → Type 0) → ((x : T) → P x → Q x) → IfOk r P → IfOk r Q
+if_ok_along (Ok x) P Q f p = f x p
+if_ok_along (Err e) P Q f p = tt
+
+module _ (is_array : List ℕ → Bool) (D : Document) (n : NodeId) (ty : List ℕ) (l : Option Leaf) (known : D.nodes n ≡ Some (record { ty = ty; leaf = l })) where
+  typed : (k : Option Leaf) → l ≡ k → D.nodes n ≡ Some (record { ty = ty; leaf = k })
+  typed k is = known ∙ ap (λ (k : Option Leaf). Some (record { ty = ty; leaf = k })) is
+
+  pub leaf_shown : (v : Leaf) (d : Data) → l ≡ Some v → d ≡ leaf_data v → Shows is_array D n d
+  leaf_shown v d is same = subst (Shows is_array D n) (sym same) (shows_leaf n ty v (typed (Some v) is))
+
+  pub row_shown : (done : BTreeMap NodeId Value) (vs : List Value) (inner d : Data) → AllShown is_array D done → l ≡ None → is_array ty ≡ true → AreValues done (owners_shown (content D n)) vs
+      → inner ≡ array (items_of (map view vs)) → d ≡ one_member ty inner → Shows is_array D n d
+  row_shown done vs inner d all is rowed values e same =
+      subst (Shows is_array D n) (sym (same ∙ ap (one_member ty) e))
+      (shows_row n ty (items_of (map view vs)) (typed None is) rowed (values_shown is_array D done all (owners_shown (content D n)) vs values))
+
+  pub registers_shown : (done : BTreeMap NodeId Value) (ss : List Seat) (ms : Members) (inner d : Data) → AllShown is_array D done → l ≡ None → is_array ty ≡ false
+      → IsListing (slice_cmp nat_cmp) (λ (k : List ℕ). k) (map (λ (s : Seat). s.key) ss) (key_at D n) → AllByRecursion (λ (s : Seat). D.held (register n s.key) ≡ Some s.node) ss → AreMembers done ss ms
+      → inner ≡ object ms → d ≡ one_member ty inner → Shows is_array D n d
+  registers_shown done ss ms inner d all is unrowed listed held members e same =
+      subst (Shows is_array D n) (sym (same ∙ ap (one_member ty) e))
+      (shows_registers n ty (map (λ (s : Seat). s.key) ss) ms (typed None is) unrowed listed (members_shown is_array D done all n ss ms held members))

@@ -1,0 +1,14 @@
+use Rattle.std.proofs.Common.{◌≤◌, length, drop}
+use Rattle.serde_json.specs.View.{members_view}
+use Rattle.st_doc.specs.LiveText.{AreMembers, IsPart}
+use Rattle.st_doc.proofs.live_text.members_of.Given as goal
+
+abbrev pub invariant-loop-left : goal.invariant-loop-left
+invariant-loop-left l = record {
+  within : l.left ≤ length l.seats;
+  part : IsPart l.done l.initial.done;
+  members : AreMembers l.initial.done (drop l.left l.seats) (members_view l.members.entries);
+}
+
+abbrev pub decreases-loop-left : goal.decreases-loop-left
+decreases-loop-left l = l.left

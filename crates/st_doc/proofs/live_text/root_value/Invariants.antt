@@ -1,0 +1,13 @@
+use Rattle.std.proofs.Common.{◌≤◌, vec_len}
+use Rattle.st_doc.specs.Doc.{document_of}
+use Rattle.st_doc.specs.LiveText.{AllShown, is_among}
+use Rattle.st_doc.proofs.live_text.root_value.Given as goal
+
+abbrev pub invariant-loop-left : goal.invariant-loop-left
+invariant-loop-left l = record {
+  within : l.left ≤ vec_len l.order;
+  shown : AllShown (is_among l.arrays) (document_of l.doc) l.done;
+}
+
+abbrev pub decreases-loop-left : goal.decreases-loop-left
+decreases-loop-left l = l.left

@@ -1,0 +1,24 @@
+//! Laws about edits: each is the contract of a function that does nothing.
+ghost use Rattle.std.specs.Prelude.{◌≡◌, ◌≤◌, ℕ, true, List, None, Ok};
+ghost use Rattle.st_ids.specs.declared.names.Key.{Key};
+ghost use Rattle.st_ids.specs.declared.names.Place.{Place};
+ghost use Rattle.st_tree.specs.Preorder.{cell_named};
+ghost use Rattle.st_schema.specs.Schema.{SchemaView, is_sound};
+ghost use Rattle.st_marks.specs.declared.intents.Intent.{Intent};
+ghost use Rattle.st_marks.specs.Document.{Document, IsSoundInForm};
+ghost use Rattle.st_marks.specs.Intent.{Fits};
+ghost use Rattle.st_resolve.specs.declared.rules.Given.{Given};
+ghost use Rattle.st_resolve.specs.Resolve.{clear, move as move_of, need, remove};
+
+/// What a removal, a move, an emptied field and a need mean fits the document where the edit was resolved. A move takes
+/// cells whose names are not there yet.
+pub fn simple_edits_fit()
+    ensures remove { (D : Document) (s : SchemaView) (G : Given) (at : List Place) (key : Key) (index count : ℕ) (N : Intent) → IsSoundInForm D
+        → remove D s G at key index count ≡ Ok N → Fits D N }
+    ensures moves { (D : Document) (s : SchemaView) (G : Given) (at : List Place) (key : Key) (index count : ℕ) (to : List Place) (to_key : Key) (to_index : ℕ) (N : Intent)
+        → IsSoundInForm D → is_sound s ≡ true → ((k : ℕ) → G.cells ≤ k → D.row_of (cell_named G.rev k) ≡ None)
+        → move_of D s G at key index count to to_key to_index ≡ Ok N → Fits D N }
+    ensures clear { (D : Document) (s : SchemaView) (G : Given) (at : List Place) (key : Key) (N : Intent) → IsSoundInForm D → is_sound s ≡ true
+        → clear D s G at key ≡ Ok N → Fits D N }
+    ensures need { (D : Document) (G : Given) (at : List Place) (N : Intent) → IsSoundInForm D → need D G at ≡ Ok N → Fits D N }
+{}
