@@ -5,6 +5,7 @@ pub mod Leaves
 pub mod MoreTrees
 pub mod Plain
 pub mod Putting
+pub mod Shown
 pub mod Single
 pub mod Steps
 pub mod Walking

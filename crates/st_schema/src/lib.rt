@@ -18,5 +18,5 @@ mod upgrade;
 pub use header::Header;
 pub use names::{FieldDef, FieldRule, Form, KindName, NotAllowed, NotWider};
 pub use schema::Schema;
-pub use tree_text::read_tree;
+pub use tree_text::{form_is_read, read_tree};
 pub use upgrade::{wider, wider_allows_more};
