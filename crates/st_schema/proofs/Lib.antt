@@ -10,3 +10,4 @@ pub mod Single
 pub mod Steps
 pub mod Walking
 pub mod Widening
+pub mod Writing
