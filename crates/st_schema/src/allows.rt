@@ -1,12 +1,13 @@
 //! Which trees a schema allows.
-ghost use Rattle.std.specs.Prelude.{◌≡◌, ◌+◌, ◌<◌, ◌^◌, ◌&&◌, not, is_some, []};
+ghost use Rattle.std.specs.Prelude.{◌≡◌, ◌+◌, ◌<◌, ◌^◌, ◌&&◌, not, is_some, true, []};
+ghost use Rattle.std.specs.Prelude.{ℕ, List as Seq};
 ghost use Rattle.std.specs.Option.{option_copied};
 ghost use Rattle.st_tree.specs.declared.tree.Tree.{out-Tree};
-ghost use Rattle.st_tree.specs.Node.{view, field_view, fields_view, trees_view};
+ghost use Rattle.st_tree.specs.Node.{Node, view, field_view, fields_view, trees_view};
 ghost use Rattle.st_tree.specs.Size.{node_count, item_count};
-ghost use Rattle.st_tree.specs.Form.{is_row_alone, is_single, keys_rise};
-ghost use Rattle.st_schema.specs.Schema.{is_among, form_of, field_in};
-ghost use Rattle.st_schema.specs.Conforms.{leaf_type, is_required, has_key, have_rules, required_there, fields_fit, has_none, is_as_typed, node_fits, types_under, verdicts, items_verdicts, allows_of, looked, walked};
+ghost use Rattle.st_tree.specs.Form.{is_row_alone, is_single, keys_rise, has_form};
+ghost use Rattle.st_schema.specs.Schema.{SchemaView, is_among, form_of, field_in};
+ghost use Rattle.st_schema.specs.Conforms.{leaf_type, is_required, has_key, have_rules, required_there, fields_fit, has_none, is_as_typed, node_fits, types_under, verdicts, items_verdicts, conforms, allows_of, looked, walked};
 
 use crate::names::{FieldDef, Form, KindName, NotAllowed};
 use crate::rules::is_key;
@@ -231,3 +232,9 @@ impl Schema {
         }
     }
 }
+
+/// A tree that a schema allows is of the form of trees.
+#[tactic(auto, using(crate::proofs::AllowedForm::conforming_formed))]
+pub fn allowed_has_form()
+    ensures { (s : SchemaView) (types : Seq (Seq ℕ)) (t : Node) → conforms s types t ≡ true → has_form t ≡ true }
+{}

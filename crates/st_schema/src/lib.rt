@@ -16,6 +16,7 @@ mod tree_text;
 mod tree_write;
 mod upgrade;
 
+pub use allows::allowed_has_form;
 pub use header::Header;
 pub use names::{FieldDef, FieldRule, Form, KindName, NotAllowed, NotWider};
 pub use schema::Schema;

@@ -1,6 +1,8 @@
 //! Trees written as a JSON value.
-ghost use Rattle.std.specs.Prelude.{◌≡◌, None, Some, Ok, Err, true, [], IfOk, OnOk};
-ghost use Rattle.serde_json.specs.Data.{member, no_members, object, array, put};
+ghost use Rattle.std.specs.Prelude.{◌≡◌, ◌≤◌, None, Some, Ok, Err, true, false, [], IfOk, OnOk};
+ghost use Rattle.serde_json.specs.Data.{member, no_members, object, array, put, depth};
+ghost use Rattle.serde_json.specs.Read.{max_depth};
+ghost use Rattle.serde_json.specs.Written.{has_float};
 ghost use Rattle.serde_json.specs.View.{view as value_view, members_view};
 ghost use Rattle.st_ids.specs.Or.{IfRefused};
 ghost use Rattle.st_tree.specs.Form.{keys_rise, fields_fit, has_form, fields_have_form, all_have_form};
@@ -113,12 +115,14 @@ fn put_field(
 /// member, its type's name, over an array of its row's items or an object of its fields, with keys in
 /// byte order. It is read back as the tree. A tree beyond the limits is refused, so writing goes down
 /// no further than 48 levels.
-#[tactic(auto, using(crate::proofs::Shown::form_read))]
+#[tactic(auto, using(crate::proofs::Shown::form_read, crate::proofs::PlainTrees::tree_plain, crate::proofs::PlainTrees::tree_shallow))]
 pub fn write_tree(alloc: Global, tree: &Tree) -> Result<Value, Or<TreeFault>>
     ensures ok { IfOk result (λ v. has_form (view tree.now) ≡ true → value_view v ≡ tree_data (view tree.now)) }
     ensures within { OnOk result (check_of (view tree.now) ≡ Ok tt) }
     ensures bad { IfRefused result (λ e. check_of (view tree.now) ≡ Err e) }
     ensures back { IfOk result (λ v. has_form (view tree.now) ≡ true → is_typed (view tree.now) ≡ true → tree_of (value_view v) ≡ Some (view tree.now)) }
+    ensures plain { IfOk result (λ v. has_form (view tree.now) ≡ true → has_float (value_view v) ≡ false) }
+    ensures shallow { IfOk result (λ v. has_form (view tree.now) ≡ true → depth (value_view v) ≤ max_depth) }
 {
     match check(tree) {
         Err(fault) => Err(Or::Fault(fault)),

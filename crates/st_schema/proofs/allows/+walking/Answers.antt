@@ -43,7 +43,7 @@ walk_tree-loop-field-init t c =
     let counted : c.looked-now.result.next ≡ c.args.walk.next + 1 = ap (λ (w : Walk). w.next) c.looked-now.ensures in record {
       number = omega arith;
       walked = ap (λ w. walked w (fields_verdicts s form (fields_view fs))) c.looked-now.ensures
-      ∙ tree_walked s c.args.types.now c.args.tree.now fs form c.node_fits.result c.args.walk c.as_slice-field-items.ensures c.form-form.ensures c.node_fits.ensures;
+          ∙ tree_walked s c.args.types.now c.args.tree.now fs form c.node_fits.result c.args.walk c.as_slice-field-items.ensures c.form-form.ensures c.node_fits.ensures;
     }
 
 pub walk_tree-loop-field-preserved : goal.walk_tree-loop-field-preserved
