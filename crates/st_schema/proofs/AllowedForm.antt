@@ -1,7 +1,6 @@
 -- A tree that a schema allows is of the form of trees.
-use Rattle.std.proofs.Common.{◌≡◌, ◌∙◌, ℕ, Bool, true, false, ◌&&◌, ◌||◌, List, [], ◌∷◌, ◌++◌, Option, None, Some, refl, ap}
+use Rattle.std.proofs.Common.{◌≡◌, ℕ, Bool, true, false, ◌&&◌, ◌||◌, List, [], ◌∷◌, ◌++◌, Option, None, Some, refl}
 use Rattle.std.specs.List.{list_all}
-use Rattle.st_ids.specs.declared.names.Leaf.{Leaf}
 use Rattle.st_tree.specs.Node.{Node, node, Fields, no_fields, field, Nodes, no_nodes, first}
 use Rattle.st_tree.specs.Form.{is_row_alone, keys_rise, has_form, fields_have_form, all_have_form}
 use Rattle.st_tree.specs.Form as tree

@@ -1,17 +1,13 @@
 -- A wider schema allows every tree of the old one.
-use Rattle.std.proofs.Common.{◌≡◌, ◌∙◌, ℕ, ◌+◌, Bool, true, false, not, ◌&&◌, ◌||◌, List, [], ◌∷◌, ◌++◌, Option, None, Some, is_some, Result, Ok, Err, refl, sym, ap, subst}
-use Rattle.std.specs.Prelude.{if◌then◌else◌, option_and_then, option_map}
-use Rattle.std.specs.List.{list_all, list_any, find, position_from}
-use Rattle.std.specs.Map.{lookup}
+use Rattle.std.proofs.Common.{◌≡◌, ◌∙◌, ℕ, ◌+◌, Bool, true, false, not, ◌&&◌, ◌||◌, List, [], ◌∷◌, ◌++◌, Option, None, Some, is_some, Ok, refl, sym, ap, subst}
+use Rattle.std.specs.Prelude.{if◌then◌else◌, option_map}
+use Rattle.std.specs.List.{list_all, position_from}
 use Rattle.std.specs.Cmp.Lexicographic.{same_text}
-use Rattle.std.proofs.lemmas.Cmp.{nat_list_eq_equiv}
-use Rattle.st_ids.specs.declared.names.Leaf.{Leaf}
 use Rattle.st_tree.specs.Node.{Node, node, Fields, no_fields, field, Nodes, no_nodes, first}
-use Rattle.st_tree.specs.Form.{is_row_alone, keys_rise}
+use Rattle.st_tree.specs.Form.{keys_rise}
 use Rattle.st_schema.specs.Schema.{SchemaView, same, is_among, is_key, declared, field_in, form_of}
-use Rattle.st_schema.specs.Conforms.{leaf_type, is_required, has_key, have_rules, required_there, fields_fit, has_none, is_as_typed, node_fits, types_in, types_under, verdicts, fields_verdicts, items_verdicts, conforms}
+use Rattle.st_schema.specs.Conforms.{leaf_type, is_required, has_key, have_rules, required_there, fields_fit, is_as_typed, node_fits, types_in, types_under, verdicts, fields_verdicts, items_verdicts, conforms}
 use Rattle.st_schema.specs.Wider.{contains_all, is_optional, kind_widens, widens_found, def_widens, defs_widen, form_widens, definition_widens, types_widen, narrowing, wider_of}
-use Rattle.st_schema.specs.declared.names.NotWider.{NotWider}
 use Rattle.st_schema.specs.declared.names.KindName.{KindName}
 use Rattle.st_schema.specs.declared.names.KindName.TheVariants.{Required, Optional, Sequence}
 use Rattle.st_schema.specs.declared.names.FieldRule.{FieldRule}

@@ -1,7 +1,5 @@
 -- The form of a tree has no floating-point number, and nests at most two levels for each of the tree's.
-use Rattle.std.proofs.Common.{◌≡◌, ℕ, ◌+◌, ◌*◌, ◌≤◌, ℤ, pos, negsuc, max, Bool, true, false, List, Option, None, Some, Result, Ok, Err, refl, arith, nat_lt}
-use Rattle.std.specs.Prelude.{if◌then◌else◌}
-use Rattle.std.proofs.lemmas.Bool.Decides.{nat_tests}
+use Rattle.std.proofs.Common.{◌≡◌, ℕ, ◌+◌, ◌*◌, ◌≤◌, ℤ, pos, negsuc, max, true, false, List, None, Some, Ok, refl, arith}
 use Rattle.st_ids.specs.declared.names.Leaf.{Leaf}
 use Rattle.st_ids.specs.declared.names.Leaf.TheVariants as leaf
 use Rattle.serde_json.specs.Data.{Members, depth, items_depth, members_depth}
@@ -9,7 +7,7 @@ use Rattle.serde_json.specs.Find.{of_integer, is_float}
 use Rattle.serde_json.specs.Read.{max_depth}
 use Rattle.serde_json.specs.Written.{has_float, items_have_float, members_have_float}
 use Rattle.st_tree.specs.Node.{Node, node, Fields, no_fields, field, Nodes, no_nodes, first}
-use Rattle.st_tree.specs.Size.{node_count, height, fields_height, items_height, check_of}
+use Rattle.st_tree.specs.Size.{height, fields_height, items_height, check_of}
 use Rattle.st_schema.specs.TreeText.{leaf_data, tree_data, body_data, keyed_data, members_data, trees_data}
 use Rattle.st_schema.proofs.Shown.{low_within}
 
