@@ -14,8 +14,10 @@ use st_json::Shape;
 use st_tree::{Field, Tree, check};
 use std::alloc::{AllocError, Global};
 
-// The most levels of a tree.
+// The most levels of a tree, and the most bytes of a key.
 const MOST_LEVELS: u32 = 48;
+
+const MOST_KEY_BYTES: usize = 64;
 
 // The value of a leaf.
 #[tactic(auto, using(crate::proofs::Leaves::leaf_chain))]
@@ -155,7 +157,7 @@ fn read_fields(
 {
     let mut fields = List::new(alloc);
     for (key, value) in members.iter() {
-        if key.len() > 64 {
+        if key.len() > MOST_KEY_BYTES {
             return Err(Or::Fault(Shape));
         }
         let item = read_at(alloc, value, levels)?;
