@@ -36,6 +36,7 @@ fn first_use(rt: HostRuntime) -> Result<(), Fail> {
     assert_eq!(rt; words.as_str(), "x");
     let line = write_line(alloc, &value)?;
     assert_eq!(rt; line.as_str(), "{\"a\":\"x\",\"b\":[7,-7]}\n");
+    assert!(rt; value_of(&rt, alloc, line.as_str()) == value);
     Ok(())
 }
 

@@ -1,5 +1,5 @@
 -- What is read of a value is what the value is the form of, and the form of a sound schema is read as that schema.
-use Rattle.std.proofs.Common.{◌≡◌, ◌≢◌, ◌∙◌, ℕ, Bool, true, false, ◌&&◌, List, [], ◌∷◌, map, Option, None, Some, option_map, option_and_then, IsTrue, ◌⊎◌, inl, inr, refl, sym, ap, subst}
+use Rattle.std.proofs.Common.{◌≡◌, ◌≢◌, ◌∙◌, ℕ, Bool, true, false, ◌&&◌, List, [], ◌∷◌, map, Option, None, Some, option_map, option_and_then, IsTrue, ◌⊎◌, inl, inr, refl, sym, ap}
 use Rattle.std.specs.Prelude.{if◌then◌else◌, codes, Result, Ok, Err}
 use Rattle.st_ids.specs.Or.{IfRefused}
 use Rattle.st_ids.specs.declared.fault.Or.{Or}

@@ -7,7 +7,7 @@ use Rattle.std.specs.Prelude.{if◌then◌else◌, Some}
 use Rattle.indexmap.specs.IndexMap.{insert_entry}
 use Rattle.std.proofs.lemmas.Map.Made.{is_some-lookup}
 use Rattle.std.proofs.lemmas.Cmp.{nat_list_eq_equiv}
-use Rattle.st_schema.specs.Schema.{same, is_among, is_distinct, type_names}
+use Rattle.st_schema.specs.Schema.{same, is_among, is_distinct}
 
 among_turned : (t : List ℕ) (us : List (List ℕ)) → list_any (same t) us ≡ is_among t us
 among_turned t [] = refl

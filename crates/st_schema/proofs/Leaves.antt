@@ -3,7 +3,7 @@ use Rattle.std.proofs.Common.{◌≡◌, ℕ, ◌-◌, Bool, true, false, Option
 use Rattle.std.specs.Prelude.{if◌then◌else◌}
 use Rattle.st_ids.specs.declared.names.Leaf.{Leaf}
 use Rattle.st_ids.specs.declared.names.Leaf.TheVariants as leaf
-use Rattle.serde_json.specs.Data.{Data, Num, null, boolean, number, string, array, object, Members}
+use Rattle.serde_json.specs.Data.{Data, null, boolean, number, string, array, object, Members}
 use Rattle.serde_json.specs.Find.{as_null, as_bool, as_number, as_str, as_object, as_i64}
 use Rattle.st_tree.specs.Node.{Node}
 use Rattle.st_schema.specs.Reading.{first_of}

@@ -1,11 +1,15 @@
+pub mod AllowedForm
 pub mod Forms
 pub mod Keyed
 pub mod Known
 pub mod Leaves
 pub mod MoreTrees
 pub mod Plain
+pub mod PlainTrees
 pub mod Putting
+pub mod Shown
 pub mod Single
 pub mod Steps
 pub mod Walking
 pub mod Widening
+pub mod Writing

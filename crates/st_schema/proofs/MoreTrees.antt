@@ -1,17 +1,13 @@
 -- A wider schema allows every tree of the old one.
-use Rattle.std.proofs.Common.{◌≡◌, ◌∙◌, ℕ, ◌+◌, Bool, true, false, not, ◌&&◌, ◌||◌, List, [], ◌∷◌, ◌++◌, Option, None, Some, is_some, Result, Ok, Err, refl, sym, ap, subst}
-use Rattle.std.specs.Prelude.{if◌then◌else◌, option_and_then, option_map}
-use Rattle.std.specs.List.{list_all, list_any, find, position_from}
-use Rattle.std.specs.Map.{lookup}
+use Rattle.std.proofs.Common.{◌≡◌, ◌∙◌, ℕ, ◌+◌, Bool, true, false, not, ◌&&◌, ◌||◌, List, [], ◌∷◌, ◌++◌, Option, None, Some, is_some, Ok, refl, sym, ap, subst}
+use Rattle.std.specs.Prelude.{if◌then◌else◌, option_map}
+use Rattle.std.specs.List.{list_all, position_from}
 use Rattle.std.specs.Cmp.Lexicographic.{same_text}
-use Rattle.std.proofs.lemmas.Cmp.{nat_list_eq_equiv}
-use Rattle.st_ids.specs.declared.names.Leaf.{Leaf}
 use Rattle.st_tree.specs.Node.{Node, node, Fields, no_fields, field, Nodes, no_nodes, first}
-use Rattle.st_tree.specs.Form.{is_row_alone, keys_rise}
+use Rattle.st_tree.specs.Form.{keys_rise}
 use Rattle.st_schema.specs.Schema.{SchemaView, same, is_among, is_key, declared, field_in, form_of}
-use Rattle.st_schema.specs.Conforms.{leaf_type, is_required, has_key, have_rules, required_there, fields_fit, has_none, is_as_typed, node_fits, types_in, types_under, verdicts, fields_verdicts, items_verdicts, conforms}
+use Rattle.st_schema.specs.Conforms.{leaf_type, is_required, has_key, have_rules, required_there, fields_fit, is_as_typed, node_fits, types_in, types_under, verdicts, fields_verdicts, items_verdicts, conforms}
 use Rattle.st_schema.specs.Wider.{contains_all, is_optional, kind_widens, widens_found, def_widens, defs_widen, form_widens, definition_widens, types_widen, narrowing, wider_of}
-use Rattle.st_schema.specs.declared.names.NotWider.{NotWider}
 use Rattle.st_schema.specs.declared.names.KindName.{KindName}
 use Rattle.st_schema.specs.declared.names.KindName.TheVariants.{Required, Optional, Sequence}
 use Rattle.st_schema.specs.declared.names.FieldRule.{FieldRule}
@@ -89,7 +85,7 @@ declared_wider olds news key o wide h =
 
 -- ---- the fields of a node
 
-rules_kept : (f g : Form) (fields : Fields) → ((key : List ℕ) → is_some (field_in f key) ≡ true → is_some (field_in g key) ≡ true) → have_rules f fields ≡ true → have_rules g fields ≡ true
+rules_kept : (f g : Form) (fs : Fields) → ((key : List ℕ) → is_some (field_in f key) ≡ true → is_some (field_in g key) ≡ true) → have_rules f fs ≡ true → have_rules g fs ≡ true
 rules_kept f g no_fields keep h = refl
 rules_kept f g (field key row items rest) keep h =
     let parts = both (is_some (field_in f key)) (have_rules f rest) h in
@@ -114,43 +110,43 @@ only_required Required h = refl
 only_required Optional h = absurd (cc)
 only_required Sequence h = absurd (cc)
 
-required_one : (olds : List FieldDef) (fields : Fields) (n : FieldDef) (k : KindName) (o : Option FieldDef) → n.kind ≡ k → declared olds n.key.0 ≡ o → widens_found o n ≡ true → required_there olds fields ≡ true
-    → not (is_required n.kind) || has_key fields n.key.0 ≡ true
-required_one olds fields n Optional o is h wide there = ap (λ k. not (is_required k) || has_key fields n.key.0) is
-required_one olds fields n Sequence o is h wide there = ap (λ k. not (is_required k) || has_key fields n.key.0) is
-required_one olds fields n Required None is h wide there = let no = sym (ap is_optional is) ∙ wide in absurd (cc)
-required_one olds fields n Required (Some old) is h wide there =
+required_one : (olds : List FieldDef) (fs : Fields) (n : FieldDef) (k : KindName) (o : Option FieldDef) → n.kind ≡ k → declared olds n.key.0 ≡ o → widens_found o n ≡ true → required_there olds fs ≡ true
+    → not (is_required n.kind) || has_key fs n.key.0 ≡ true
+required_one olds fs n Optional o is h wide there = ap (λ k. not (is_required k) || has_key fs n.key.0) is
+required_one olds fs n Sequence o is h wide there = ap (λ k. not (is_required k) || has_key fs n.key.0) is
+required_one olds fs n Required None is h wide there = let no = sym (ap is_optional is) ∙ wide in absurd (cc)
+required_one olds fs n Required (Some old) is h wide there =
     let kinds = (both (kind_widens old.kind n.kind) _ wide).0 in
     let was = only_required old.kind (ap (kind_widens old.kind) (sym is) ∙ kinds) in
-    let held = found olds n.key.0 old (λ d. not (is_required d.kind) || has_key fields d.key.0) there h in
-    ap (λ k. not (is_required k) || has_key fields n.key.0) is
-    ∙ ap (has_key fields) (sym (text_same old.key.0 n.key.0 held.0))
-    ∙ ap (λ k. not (is_required k) || has_key fields old.key.0) (sym was)
+    let held = found olds n.key.0 old (λ d. not (is_required d.kind) || has_key fs d.key.0) there h in
+    ap (λ k. not (is_required k) || has_key fs n.key.0) is
+    ∙ ap (has_key fs) (sym (text_same old.key.0 n.key.0 held.0))
+    ∙ ap (λ k. not (is_required k) || has_key fs old.key.0) (sym was)
     ∙ held.1
 
-required_kept : (olds : List FieldDef) (fields : Fields) (ns : List FieldDef) → list_all (def_widens olds) ns ≡ true → required_there olds fields ≡ true → required_there ns fields ≡ true
-required_kept olds fields [] wide there = refl
-required_kept olds fields (n ∷ ns) wide there =
+required_kept : (olds : List FieldDef) (fs : Fields) (ns : List FieldDef) → list_all (def_widens olds) ns ≡ true → required_there olds fs ≡ true → required_there ns fs ≡ true
+required_kept olds fs [] wide there = refl
+required_kept olds fs (n ∷ ns) wide there =
     let parts = both (def_widens olds n) (list_all (def_widens olds) ns) wide in
-    join _ _ (required_one olds fields n n.kind (declared olds n.key.0) refl refl parts.0 there) (required_kept olds fields ns parts.1 there)
+    join _ _ (required_one olds fs n n.kind (declared olds n.key.0) refl refl parts.0 there) (required_kept olds fs ns parts.1 there)
 
-fit_kept : (f g : Form) (fields : Fields) → form_widens f g ≡ true → fields_fit f fields ≡ true → fields_fit g fields ≡ true
-fit_kept (Array old) (Array new) fields wide h = h
-fit_kept (Array old) (Map new) fields wide h = absurd (cc)
-fit_kept (Array old) (Object new) fields wide h = absurd (cc)
-fit_kept (Map old) (Array new) fields wide h = absurd (cc)
-fit_kept (Map old) (Map new) fields wide h =
-    let parts = both (keys_rise [] fields) (have_rules (Map old) fields) h in
-    join (keys_rise [] fields) _ parts.0 (rules_kept (Map old) (Map new) fields (λ key k. map_rule (is_key key) (record { kind = Optional; types = old }) (record { kind = Optional; types = new }) k) parts.1)
-fit_kept (Map old) (Object new) fields wide h = absurd (cc)
-fit_kept (Object olds) (Array new) fields wide h = absurd (cc)
-fit_kept (Object olds) (Map new) fields wide h = absurd (cc)
-fit_kept (Object olds) (Object news) fields wide h =
-    let parts = both (keys_rise [] fields) (have_rules (Object olds) fields && required_there olds fields) h in
-    let rules = both (have_rules (Object olds) fields) (required_there olds fields) parts.1 in
+fit_kept : (f g : Form) (fs : Fields) → form_widens f g ≡ true → fields_fit f fs ≡ true → fields_fit g fs ≡ true
+fit_kept (Array old) (Array new) fs wide h = h
+fit_kept (Array old) (Map new) fs wide h = absurd (cc)
+fit_kept (Array old) (Object new) fs wide h = absurd (cc)
+fit_kept (Map old) (Array new) fs wide h = absurd (cc)
+fit_kept (Map old) (Map new) fs wide h =
+    let parts = both (keys_rise [] fs) (have_rules (Map old) fs) h in
+    join (keys_rise [] fs) _ parts.0 (rules_kept (Map old) (Map new) fs (λ key k. map_rule (is_key key) (record { kind = Optional; types = old }) (record { kind = Optional; types = new }) k) parts.1)
+fit_kept (Map old) (Object new) fs wide h = absurd (cc)
+fit_kept (Object olds) (Array new) fs wide h = absurd (cc)
+fit_kept (Object olds) (Map new) fs wide h = absurd (cc)
+fit_kept (Object olds) (Object news) fs wide h =
+    let parts = both (keys_rise [] fs) (have_rules (Object olds) fs && required_there olds fs) h in
+    let rules = both (have_rules (Object olds) fs) (required_there olds fs) parts.1 in
     let widens = both (list_all (λ (old : FieldDef). is_some (declared news old.key.0)) olds) (list_all (def_widens olds) news) wide in
-    join (keys_rise [] fields) _ parts.0 (join (have_rules (Object news) fields) _
-    (rules_kept (Object olds) (Object news) fields (λ key k. object_rule olds news key wide k) rules.0) (required_kept olds fields news widens.1 rules.1))
+    join (keys_rise [] fs) _ parts.0 (join (have_rules (Object news) fs) _
+    (rules_kept (Object olds) (Object news) fs (λ key k. object_rule olds news key wide k) rules.0) (required_kept olds fs news widens.1 rules.1))
 
 -- ---- what a field may hold
 
@@ -206,14 +202,14 @@ form_found (o ∷ os) (n ∷ ns) ty f wide h =
 -- ---- trees
 
 module _ (old new : SchemaView) (wide : list_all (λ ok. ok) (types_widen old.types new.types) ≡ true) where
-  node_kept : (ty : List ℕ) (fields : Fields) (o : Option Form) → form_of old.types ty ≡ o → is_as_typed o ty None fields ≡ true → list_all (λ ok. ok) (fields_verdicts old o fields) ≡ true
-      → ((f g : Form) → form_widens f g ≡ true → list_all (λ ok. ok) (fields_verdicts old (Some f) fields) ≡ true → list_all (λ ok. ok) (fields_verdicts new (Some g) fields) ≡ true)
-      → (is_as_typed (form_of new.types ty) ty None fields ≡ true) × (list_all (λ ok. ok) (fields_verdicts new (form_of new.types ty) fields) ≡ true)
-  node_kept ty fields None is fits below keep = absurd (cc)
-  node_kept ty fields (Some f) is fits below keep =
+  node_kept : (ty : List ℕ) (fs : Fields) (o : Option Form) → form_of old.types ty ≡ o → is_as_typed o ty None fs ≡ true → list_all (λ ok. ok) (fields_verdicts old o fs) ≡ true
+      → ((f g : Form) → form_widens f g ≡ true → list_all (λ ok. ok) (fields_verdicts old (Some f) fs) ≡ true → list_all (λ ok. ok) (fields_verdicts new (Some g) fs) ≡ true)
+      → (is_as_typed (form_of new.types ty) ty None fs ≡ true) × (list_all (λ ok. ok) (fields_verdicts new (form_of new.types ty) fs) ≡ true)
+  node_kept ty fs None is fits below keep = absurd (cc)
+  node_kept ty fs (Some f) is fits below keep =
       let g = form_found old.types new.types ty f wide is in (
-        ap (λ o. is_as_typed o ty None fields) g.1 ∙ fit_kept f g.0 fields g.2 fits,
-        ap (λ o. list_all (λ ok. ok) (fields_verdicts new o fields)) g.1 ∙ keep f g.0 g.2 below,
+        ap (λ o. is_as_typed o ty None fs) g.1 ∙ fit_kept f g.0 fs g.2 fits,
+        ap (λ o. list_all (λ ok. ok) (fields_verdicts new o fs)) g.1 ∙ keep f g.0 g.2 below,
       )
 
   mutual
@@ -224,13 +220,13 @@ module _ (old new : SchemaView) (wide : list_all (λ ok. ok) (types_widen old.ty
     tree_kept (node ty (Some v) (field key row items rest)) was is more h =
         let fits = both (is_among ty was) (same ty (leaf_type v) && false) (both _ _ h).0 in
         let no = (both (same ty (leaf_type v)) false fits.1).1 in absurd (cc)
-    tree_kept (node ty None fields) was is more h =
-        let parts = both (node_fits old was ty None fields) (list_all (λ ok. ok) (fields_verdicts old (form_of old.types ty) fields)) h in
-        let fits = both (is_among ty was) (is_as_typed (form_of old.types ty) ty None fields) parts.0 in
-        let kept = node_kept ty fields (form_of old.types ty) refl fits.1 parts.1 (λ f g w k. fields_kept f g fields w k) in
+    tree_kept (node ty None fs) was is more h =
+        let parts = both (node_fits old was ty None fs) (list_all (λ ok. ok) (fields_verdicts old (form_of old.types ty) fs)) h in
+        let fits = both (is_among ty was) (is_as_typed (form_of old.types ty) ty None fs) parts.0 in
+        let kept = node_kept ty fs (form_of old.types ty) refl fits.1 parts.1 (λ f g w k. fields_kept f g fs w k) in
         join _ _ (join (is_among ty is) _ (among_all ty is was more fits.0) kept.0) kept.1
 
-    fields_kept : (f g : Form) (fields : Fields) → form_widens f g ≡ true → list_all (λ ok. ok) (fields_verdicts old (Some f) fields) ≡ true → list_all (λ ok. ok) (fields_verdicts new (Some g) fields) ≡ true
+    fields_kept : (f g : Form) (fs : Fields) → form_widens f g ≡ true → list_all (λ ok. ok) (fields_verdicts old (Some f) fs) ≡ true → list_all (λ ok. ok) (fields_verdicts new (Some g) fs) ≡ true
     fields_kept f g no_fields widens h = refl
     fields_kept f g (field key row items rest) widens h =
         let parts = all-parts (items_verdicts old (types_under (Some f) key) items) (fields_verdicts old (Some f) rest) h in

@@ -1,12 +1,12 @@
 -- The form of a schema has no floating-point number, and nests little.
-use Rattle.std.proofs.Common.{◌≡◌, ℕ, ◌≤◌, Bool, true, false, ◌&&◌, List, [], ◌∷◌, map, refl, ap, arith, nat_le, length}
+use Rattle.std.proofs.Common.{◌≡◌, ℕ, ◌≤◌, Bool, true, false, ◌&&◌, List, [], ◌∷◌, map, refl, arith, nat_le, length}
 use Rattle.std.specs.List.{list_all}
 use Rattle.serde_json.specs.Data.{string, depth, items_depth, members_depth}
 use Rattle.serde_json.specs.Read.{max_depth}
 use Rattle.serde_json.specs.Written.{has_float, items_have_float, members_have_float}
 use Rattle.serde_json.specs.View.{items_of}
 use Rattle.st_schema.specs.Schema.{SchemaView, is_distinct, type_names, names_are_sound, forms_are_sound, list_is_sound, form_is_sound, field_is_sound, form_rises, defs_rise, is_sound}
-use Rattle.st_schema.specs.Written.{names_data, fields_data, form_data, definition_data, schema_data}
+use Rattle.st_schema.specs.Written.{fields_data, form_data, definition_data, schema_data}
 use Rattle.st_schema.specs.declared.names.FieldDef.{FieldDef}
 use Rattle.st_schema.specs.declared.names.Form.{Form}
 use Rattle.st_schema.specs.declared.names.Form.TheVariants.{Array, Map, Object}

@@ -1,10 +1,10 @@
 -- The first narrower type, by counting on.
-use Rattle.std.proofs.Common.{◌≡◌, ◌∙◌, ℕ, ◌+◌, ◌≤◌, Bool, true, false, not, ◌&&◌, List, [], ◌∷◌, ◌++◌, length, map, Option, None, Some, Result, Ok, Err, refl, sym, ap, arith, nat_le}
+use Rattle.std.proofs.Common.{◌≡◌, ◌∙◌, ℕ, ◌+◌, ◌≤◌, Bool, true, false, not, ◌&&◌, List, [], ◌∷◌, ◌++◌, length, Result, Ok, Err, refl, ap, arith, nat_le}
 use Rattle.std.proofs.lemmas.List.{length-map}
 use borrow.Author.Tests.{leb-true}
 use Rattle.st_schema.specs.declared.names.Form.{Form}
 use Rattle.std.specs.List.{position_from}
-use Rattle.st_schema.specs.Schema.{SchemaView, is_sound, type_names, names_are_sound, forms_are_sound, list_is_sound}
+use Rattle.st_schema.specs.Schema.{SchemaView, is_sound, type_names, names_are_sound}
 use Rattle.st_schema.specs.Wider.{contains_all, types_widen, narrowing, wider_of, widened}
 use Rattle.st_schema.specs.declared.names.NotWider.{NotWider}
 

@@ -1,6 +1,6 @@
 -- What is read of a JSON value on the way to a schema.
-use Rattle.std.specs.Prelude.{ℕ, List, [], ◌∷◌, Bool, ◌&&◌, Option, None, Some, option_map, option_and_then, if◌then◌else◌, codes}
-use Rattle.serde_json.specs.Data.{Data, null, boolean, number, string, array, object, Items, no_items, item, Members, no_members, member}
+use Rattle.std.specs.Prelude.{ℕ, List, [], ◌∷◌, ◌&&◌, Option, None, Some, option_map, option_and_then, if◌then◌else◌, codes}
+use Rattle.serde_json.specs.Data.{Data, Items, no_items, item, Members, no_members, member}
 use Rattle.serde_json.specs.Find.{as_str, as_array, as_object}
 use Rattle.st_schema.specs.Schema.{same, SchemaView}
 use Rattle.st_schema.specs.declared.names.KindName.{KindName}

@@ -1,7 +1,7 @@
 -- The JSON form of a schema: `{"root":[types],"types":[definitions]}`, where a definition is `{"array":[types],"name":t}`,
 -- `{"map":[types],"name":t}` or `{"name":t,"object":{key:[kind,[types]], ..}}`.
 use Rattle.std.specs.Prelude.{ℕ, List, [], ◌∷◌, map, codes}
-use Rattle.serde_json.specs.Data.{Data, string, array, object, Items, no_items, item, Members, no_members, member}
+use Rattle.serde_json.specs.Data.{Data, string, array, object, no_items, item, Members, no_members, member}
 use Rattle.serde_json.specs.View.{items_of}
 use Rattle.st_schema.specs.Schema.{SchemaView}
 use Rattle.st_schema.specs.declared.names.KindName.{KindName}

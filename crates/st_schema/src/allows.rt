@@ -1,12 +1,13 @@
 //! Which trees a schema allows.
-ghost use Rattle.std.specs.Prelude.{◌≡◌, ◌+◌, ◌<◌, ◌^◌, ◌&&◌, not, is_some, [], IfOk};
+ghost use Rattle.std.specs.Prelude.{◌≡◌, ◌+◌, ◌<◌, ◌^◌, ◌&&◌, not, is_some, true, [], None};
+ghost use Rattle.std.specs.Prelude.{ℕ, List as Seq};
 ghost use Rattle.std.specs.Option.{option_copied};
 ghost use Rattle.st_tree.specs.declared.tree.Tree.{out-Tree};
-ghost use Rattle.st_tree.specs.Node.{view, field_view, fields_view, trees_view};
+ghost use Rattle.st_tree.specs.Node.{Node, view, field_view, fields_view, trees_view};
 ghost use Rattle.st_tree.specs.Size.{node_count, item_count};
-ghost use Rattle.st_tree.specs.Form.{is_row_alone, is_single, keys_rise};
-ghost use Rattle.st_schema.specs.Schema.{is_among, form_of, field_in};
-ghost use Rattle.st_schema.specs.Conforms.{leaf_type, is_required, has_key, have_rules, required_there, fields_fit, has_none, is_as_typed, node_fits, types_under, verdicts, items_verdicts, allows_of, allows_all_of, passed};
+ghost use Rattle.st_tree.specs.Form.{is_row_alone, is_single, keys_rise, has_form};
+ghost use Rattle.st_schema.specs.Schema.{SchemaView, is_among, form_of, field_in};
+ghost use Rattle.st_schema.specs.Conforms.{leaf_type, is_required, has_key, have_rules, required_there, fields_fit, has_none, is_as_typed, node_fits, types_under, verdicts, items_verdicts, conforms, allows_of, allows_all_of, looked, walked};
 
 use crate::names::{FieldDef, Form, KindName, NotAllowed};
 use crate::rules::is_key;
@@ -163,87 +164,104 @@ fn node_fits(types: &[Text], form: Option<&Form>, tree: &Tree) -> bool
     types.contains(&tree.ty) && is_as_typed(form, tree)
 }
 
-// Goes through a tree in preorder, its own node having this number. Gives the number after its
-// nodes.
+// How far a walk in preorder is: the number of the next node, and the first that is not allowed.
+#[derive(Clone, Copy)]
+struct Walk {
+    next: u32,
+    fault: Option<NotAllowed>,
+}
+
+// One node further, which is allowed or not.
+fn looked(walk: Walk, fits: bool) -> Walk
+    requires { walk.next + 1 < 2 ^ 32 }
+    ensures { result ≡ looked walk fits }
+{
+    let fault = match walk.fault {
+        None if !fits => Some(NotAllowed { at: walk.next }),
+        fault => fault,
+    };
+    Walk {
+        next: walk.next + 1,
+        fault,
+    }
+}
+
+// Goes through a tree in preorder.
 #[cycle(walking)]
-fn walk_tree(schema: &Schema, types: &[Text], tree: &Tree, number: u32) -> Result<u32, NotAllowed>
-    requires { number + node_count (view tree.now) < 2 ^ 32 }
-    ensures passed { result ≡ passed number (verdicts schema.now types.now (view tree.now)) }
-    ensures counted { IfOk result (λ n. n ≡ number + node_count (view tree.now)) }
+fn walk_tree(schema: &Schema, types: &[Text], tree: &Tree, walk: Walk) -> Walk
+    requires { walk.next + node_count (view tree.now) < 2 ^ 32 }
+    ensures walked { result ≡ walked walk (verdicts schema.now types.now (view tree.now)) }
+    ensures counted { result.next ≡ walk.next + node_count (view tree.now) }
 {
     let form = schema.form(&tree.ty);
-    if !node_fits(types, form, tree) {
-        return Err(NotAllowed { at: number });
-    }
-    let mut next = number + 1;
+    let mut now = looked(walk, node_fits(types, form, tree));
     for field in tree.fields.as_slice() {
-        match walk_field(schema, types_under(form, &field.key), field, next) {
-            Ok(after) => next = after,
-            Err(fault) => return Err(fault),
-        }
+        now = walk_field(schema, types_under(form, &field.key), field, now);
     }
-    Ok(next)
+    now
 }
 
 // Goes through the items of a field that may hold these types.
 #[cycle(walking)]
-fn walk_field(
-    schema: &Schema,
-    types: &[Text],
-    field: &Field,
-    number: u32,
-) -> Result<u32, NotAllowed>
-    requires { number + item_count (field_view field.now).items < 2 ^ 32 }
-    ensures passed { result ≡ passed number (items_verdicts schema.now types.now (field_view field.now).items) }
-    ensures counted { IfOk result (λ n. n ≡ number + item_count (field_view field.now).items) }
+fn walk_field(schema: &Schema, types: &[Text], field: &Field, walk: Walk) -> Walk
+    requires { walk.next + item_count (field_view field.now).items < 2 ^ 32 }
+    ensures walked { result ≡ walked walk (items_verdicts schema.now types.now (field_view field.now).items) }
+    ensures counted { result.next ≡ walk.next + item_count (field_view field.now).items }
 {
-    let mut next = number;
+    let mut now = walk;
     for item in field.items.as_slice() {
-        match walk_tree(schema, types, item, next) {
-            Ok(after) => next = after,
-            Err(fault) => return Err(fault),
-        }
+        now = walk_tree(schema, types, item, now);
     }
-    Ok(next)
+    now
 }
 
-// Goes through trees in preorder, the first node having the number 0.
-fn walk_trees(schema: &Schema, types: &[Text], trees: &[Tree]) -> Result<u32, NotAllowed>
+// Goes through trees in preorder, from the first.
+fn walk_trees(schema: &Schema, types: &[Text], trees: &[Tree]) -> Walk
     requires { item_count (trees_view trees.now) < 2 ^ 32 }
-    ensures { result ≡ passed 0 (items_verdicts schema.now types.now (trees_view trees.now)) }
+    ensures { result ≡ walked (record { next = 0; fault = None }) (items_verdicts schema.now types.now (trees_view trees.now)) }
 {
-    let mut next = 0;
+    let mut now = Walk {
+        next: 0,
+        fault: None,
+    };
     for tree in trees {
-        match walk_tree(schema, types, tree, next) {
-            Ok(after) => next = after,
-            Err(fault) => return Err(fault),
-        }
+        now = walk_tree(schema, types, tree, now);
     }
-    Ok(next)
+    now
 }
 
 impl Schema {
     /// Nothing, where the tree conforms to the schema in a place of these types.
-    #[tactic(auto, using(crate::proofs::Walking::allows_passed))]
+    #[tactic(auto, using(crate::proofs::Walking::allows_walked))]
     pub fn allows(&self, types: &List<Text>, tree: &Tree) -> Result<(), NotAllowed>
         requires { node_count (view tree.now) < 2 ^ 32 }
         ensures { result ≡ allows_of self.now types.now (view tree.now) }
     {
-        match walk_tree(self, types.as_slice(), tree, 0) {
-            Ok(_) => Ok(()),
-            Err(fault) => Err(fault),
+        let start = Walk {
+            next: 0,
+            fault: None,
+        };
+        match walk_tree(self, types.as_slice(), tree, start).fault {
+            None => Ok(()),
+            Some(fault) => Err(fault),
         }
     }
 
     /// Nothing, where all the trees conform to the schema in a place of these types. Their nodes are counted together.
-    #[tactic(auto, using(crate::proofs::Walking::allows_all_passed))]
+    #[tactic(auto, using(crate::proofs::Walking::allows_all_walked))]
     pub fn allows_all(&self, types: &List<Text>, trees: &List<Tree>) -> Result<(), NotAllowed>
         requires { item_count (trees_view trees.now) < 2 ^ 32 }
         ensures { result ≡ allows_all_of self.now types.now (trees_view trees.now) }
     {
-        match walk_trees(self, types.as_slice(), trees.as_slice()) {
-            Ok(_) => Ok(()),
-            Err(fault) => Err(fault),
+        match walk_trees(self, types.as_slice(), trees.as_slice()).fault {
+            None => Ok(()),
+            Some(fault) => Err(fault),
         }
     }
 }
+
+/// A tree that a schema allows is of the form of trees.
+#[tactic(auto, using(crate::proofs::AllowedForm::conforming_formed))]
+pub fn allowed_has_form()
+    ensures { (s : SchemaView) (types : Seq (Seq ℕ)) (t : Node) → conforms s types t ≡ true → has_form t ≡ true }
+{}

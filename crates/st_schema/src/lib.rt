@@ -13,10 +13,13 @@ mod table;
 mod tests;
 mod text;
 mod tree_text;
+mod tree_write;
 mod upgrade;
 
+pub use allows::allowed_has_form;
 pub use header::Header;
 pub use names::{FieldDef, FieldRule, Form, KindName, NotAllowed, NotWider};
 pub use schema::Schema;
-pub use tree_text::read_tree;
+pub use tree_text::{form_is_read, read_tree};
+pub use tree_write::write_tree;
 pub use upgrade::{wider, wider_allows_more};

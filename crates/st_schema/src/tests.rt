@@ -1,6 +1,7 @@
 //! Each public call once, and the edges of the formats.
 use crate::{
-    Form, Header, KindName, NotAllowed, NotWider, Schema, read_tree, wider, wider_allows_more,
+    Form, Header, KindName, NotAllowed, NotWider, Schema, allowed_has_form, form_is_read,
+    read_tree, wider, wider_allows_more, write_tree,
 };
 use serde_json::Value;
 use st_ids::{Copied, Key, Text};
@@ -102,7 +103,6 @@ fn narrower_schemas() -> &'static [(&'static str, u32)] {
     ]
 }
 
-// The last has a key of 65 bytes.
 fn no_trees() -> &'static [&'static str] {
     &[
         "1.5",
@@ -112,13 +112,98 @@ fn no_trees() -> &'static [&'static str] {
         "{}",
         r#"{"a":1}"#,
         r#"{"a":[],"b":[]}"#,
-        r#"{"a":{"01234567890123456789012345678901234567890123456789012345678901234":1}}"#,
     ]
 }
 
-// With a key of 64 bytes.
-fn long_key() -> &'static str {
-    r#"{"a":{"0123456789012345678901234567890123456789012345678901234567890123":1}}"#
+// Lists that have a most: the text before the list, that of an item before its number and behind
+// it, the text behind the list, and the most items that are read.
+fn lists() -> &'static [(&'static str, &'static str, &'static str, &'static str, u32)] {
+    &[
+        (
+            r#"{"root":[],"types":["#,
+            r#"{"array":[],"name":"t"#,
+            r#""}"#,
+            "]}",
+            256,
+        ),
+        (
+            r#"{"root":[],"types":[{"name":"a","object":{"#,
+            r#""k"#,
+            r#"":["opt",[]]"#,
+            "}}]}",
+            64,
+        ),
+        (r#"{"a":["#, "", "", "]}", 1023),
+    ]
+}
+
+// Texts of at most 64 bytes: what stands before and behind the text, and whether it may be empty.
+fn texts() -> &'static [(&'static str, &'static str, bool)] {
+    &[
+        (
+            r#"{"root":[],"types":[{"array":[],"name":""#,
+            r#""}]}"#,
+            false,
+        ),
+        (
+            r#"{"root":[],"types":[{"name":"a","object":{""#,
+            r#"":["opt",[]]}}]}"#,
+            false,
+        ),
+        (r#"{"a":{""#, r#"":1}}"#, true),
+    ]
+}
+
+fn row_opened() -> &'static str {
+    r#"{"a":["#
+}
+
+// A list of so many items.
+fn list_line(
+    alloc: Global,
+    (before, item_before, item_behind, behind): (&str, &str, &str, &str),
+    count: u32,
+) -> Result<String, AllocError> {
+    let mut line = String::from_str(alloc, before)?;
+    for i in 0..count {
+        let comma = if i == 0 { "" } else { "," };
+        let item = format!(in alloc; "{comma}{item_before}{i}{item_behind}")?;
+        line.push_str(item.as_str())?;
+    }
+    line.push_str(behind)?;
+    Ok(line)
+}
+
+// A text so many times between two others.
+fn repeated(
+    alloc: Global,
+    before: &str,
+    text: &str,
+    count: u32,
+    behind: &str,
+) -> Result<String, AllocError> {
+    let mut line = String::from_str(alloc, before)?;
+    for _ in 0..count {
+        line.push_str(text)?;
+    }
+    line.push_str(behind)?;
+    Ok(line)
+}
+
+// A leaf below so many rows.
+fn deep_line(alloc: Global, rows: u32) -> Result<String, AllocError> {
+    let opened = repeated(alloc, "", row_opened(), rows, "1")?;
+    repeated(alloc, opened.as_str(), "]}", rows, "")
+}
+
+// Whether a line is read, as a schema where it has types and else as a tree.
+fn is_read(rt: &impl Abort, alloc: Global, line: &str) -> bool {
+    let value = value_of(rt, alloc, line);
+    if value.get("types").is_some() {
+        Schema::read(alloc, &value).is_ok()
+    } else {
+        read_tree(alloc, &value).is_ok()
+    }
 }
 
 #[test]
@@ -131,6 +216,8 @@ fn first_use(rt: HostRuntime) -> Result<(), Fail> {
     assert_eq!(rt; schema.name_at(3).is_some(), false);
     schema.is_kept();
     wider_allows_more();
+    allowed_has_form();
+    form_is_read();
     Ok(())
 }
 
@@ -209,11 +296,67 @@ fn schemas_narrower(rt: HostRuntime) {
 #[test]
 fn trees_refused(rt: HostRuntime) {
     let alloc = rt.alloc();
-    assert!(rt; read_tree(alloc, &value_of(&rt, alloc, long_key())).is_ok());
     for line in no_trees() {
-        assert!(rt;
-            read_tree(alloc, &value_of(&rt, alloc, line)).is_err(),
-            "at {line}"
+        assert!(rt; !is_read(&rt, alloc, line), "at {line}");
+    }
+}
+
+// Trees as they are written.
+fn written_trees() -> &'static [&'static str] {
+    &[
+        "null",
+        "true",
+        "-9223372036854775808",
+        "9223372036854775807",
+        r#""a""#,
+        r#"{"a":[]}"#,
+        r#"{"a":{}}"#,
+        r#"{"a":[1,{"b":{"k":null,"l":{"c":["x"]}}},"y"]}"#,
+    ]
+}
+
+#[test]
+fn trees_written(rt: HostRuntime) -> Result<(), Fail> {
+    let alloc = rt.alloc();
+    for line in written_trees() {
+        let tree = tree_of(&rt, alloc, line);
+        let value = write_tree(alloc, &tree).ok().ok_or("a value")?;
+        assert_eq!(rt; value.to_string(alloc)?.as_str(), *line);
+    }
+    Ok(())
+}
+
+#[test]
+fn limits(rt: HostRuntime) -> Result<(), Fail> {
+    let alloc = rt.alloc();
+    for (before, item_before, item_behind, behind, most) in lists() {
+        let parts = (*before, *item_before, *item_behind, *behind);
+        for (count, fits) in [(*most, true), (most.saturating_add(1), false)] {
+            let line = list_line(alloc, parts, count)?;
+            assert_eq!(rt;
+                is_read(&rt, alloc, line.as_str()),
+                fits,
+                "at {count} in {before}"
+            );
+        }
+    }
+    for (before, behind, empty) in texts() {
+        for (count, fits) in [(0, *empty), (1, true), (64, true), (65, false)] {
+            let line = repeated(alloc, before, "k", count, behind)?;
+            assert_eq!(rt;
+                is_read(&rt, alloc, line.as_str()),
+                fits,
+                "at {count} in {before}"
+            );
+        }
+    }
+    for (rows, fits) in [(47, true), (48, false)] {
+        let line = deep_line(alloc, rows)?;
+        assert_eq!(rt;
+            is_read(&rt, alloc, line.as_str()),
+            fits,
+            "below {rows} rows"
         );
     }
+    Ok(())
 }

@@ -1,9 +1,11 @@
 //! Trees read from a JSON value.
-ghost use Rattle.std.specs.Prelude.{◌≡◌, Some, None, true, false, [], map, IfOk};
+ghost use Rattle.std.specs.Prelude.{◌≡◌, Some, None, Ok, true, false, [], map, IfOk};
 ghost use Rattle.serde_json.specs.View.{view as value_view, items_view, members_view};
 ghost use Rattle.st_ids.specs.Or.{IfRefused};
-ghost use Rattle.st_tree.specs.Node.{field, no_fields, first, no_nodes, view, field_view, trees_view, fields_view};
-ghost use Rattle.st_schema.specs.TreeText.{leaf_of, leaf_node, leaf_in, tree_in, node_in, body_in, trees_in, fields_in, tree_of};
+ghost use Rattle.st_tree.specs.Form.{has_form};
+ghost use Rattle.st_tree.specs.Node.{Node, field, no_fields, first, no_nodes, view, field_view, trees_view, fields_view};
+ghost use Rattle.st_tree.specs.Size.{check_of};
+ghost use Rattle.st_schema.specs.TreeText.{leaf_of, leaf_node, leaf_in, tree_in, node_in, body_in, trees_in, fields_in, tree_of, tree_data, is_typed};
 
 use crate::allows::leaf_type;
 use serde_json::{Map, Value};
@@ -12,8 +14,10 @@ use st_json::Shape;
 use st_tree::{Field, Tree, check};
 use std::alloc::{AllocError, Global};
 
-// The most levels of a tree.
+// The most levels of a tree, and the most bytes of a key.
 const MOST_LEVELS: u32 = 48;
+
+const MOST_KEY_BYTES: usize = 64;
 
 // The value of a leaf.
 #[tactic(auto, using(crate::proofs::Leaves::leaf_chain))]
@@ -153,7 +157,7 @@ fn read_fields(
 {
     let mut fields = List::new(alloc);
     for (key, value) in members.iter() {
-        if key.len() > 64 {
+        if key.len() > MOST_KEY_BYTES {
             return Err(Or::Fault(Shape));
         }
         let item = read_at(alloc, value, levels)?;
@@ -175,3 +179,10 @@ pub fn read_tree(alloc: Global, value: &Value) -> Result<Tree, Or<Shape>>
         Err(_) => Err(Or::Fault(Shape)),
     }
 }
+
+/// The JSON form of a tree is read as that tree: of each tree within the limits that is of the form
+/// of trees, whose leaves have the types of their values and whose keys have at most 64 bytes.
+#[tactic(none)]
+pub fn form_is_read()
+    ensures { (t : Node) → check_of t ≡ Ok tt → has_form t ≡ true → is_typed t ≡ true → tree_of (tree_data t) ≡ Some t }
+{}

@@ -23,7 +23,7 @@ const MOST_LEVELS: u32 = 48;
 // Counts the nodes of a tree onto a count, which stops one above the limit. Each level down has
 // one node more, so it goes down no further than the limit either.
 #[cycle(counting)]
-fn count_tree(tree: &Tree, before: u32) -> u32
+pub(crate) fn count_tree(tree: &Tree, before: u32) -> u32
     requires { before ≤ 1025 }
     ensures { result ≡ min (before + node_count (view tree.now)) 1025 }
 {

@@ -1,21 +1,13 @@
-use Rattle.std.proofs.Common.{◌≡◌, ◌∙◌, ◌+◌, ℕ, true, false, not, refl, sym, ap, arith, rules}
+use Rattle.std.proofs.Common.{◌≡◌, ◌∙◌, ◌+◌, sym, ap, arith}
 use Rattle.std.specs.Option.{option_copied}
 use Rattle.st_tree.specs.Node.{view, field_view, trees_view, fields_view}
 use Rattle.st_tree.specs.Size.{item_count, field_count}
-use Rattle.st_schema.specs.Conforms.{types_under, fields_verdicts, items_verdicts, passed}
-use Rattle.st_schema.proofs.Walking.{items_next, items_end, fields_next, fields_end, items_number, items_passed, items_refused, fields_number, fields_passed, fields_refused, field_whole, field_key, tree_number, tree_passed, is_kept}
+use Rattle.st_schema.specs.Conforms.{types_under, verdicts, fields_verdicts, items_verdicts, walked}
+use Rattle.st_schema.specs.declared.allows.Walk.{Walk}
+use Rattle.st_schema.proofs.Walking.{items_next, items_end, fields_next, fields_end, items_number, items_walked, fields_number, fields_walked, field_whole, field_key, tree_number, tree_walked}
 use Rattle.st_schema.proofs.allows.+walking.Goals as goal
 
 -- ---- the items of a field
-
-pub walk_field-returns-in-Err-clause-passed : goal.walk_field-returns-in-Err-clause-passed
-walk_field-returns-in-Err-clause-passed t c =
-    let s = c.args.schema.now in
-    let types = c.args.types.now in
-    let ts = c.as_slice-item-items.result.now in
-    let next = items_next ts c.loop-item.item-index c.item-item.result c.loop-item-test.true c.item-item.is in
-    items_refused s types _ _ (view c.item-item.result) next c.loop-item.next c.in-Err.fault (passed c.args.number (items_verdicts s types (trees_view ts))) c.in-Err.ensures.passed c.loop-item.invariant.passed
-    ∙ ap (λ us. passed c.args.number (items_verdicts s types us)) (sym (field_whole c.args.field.now ts c.as_slice-item-items.ensures))
 
 pub walk_field-loop-item-preserved : goal.walk_field-loop-item-preserved
 walk_field-loop-item-preserved t c =
@@ -23,18 +15,18 @@ walk_field-loop-item-preserved t c =
     let types = c.args.types.now in
     let ts = c.as_slice-item-items.result.now in
     let next = items_next ts c.loop-item.item-index c.item-item.result c.loop-item-test.true c.item-item.is in record {
-      number = items_number s types _ _ (view c.item-item.result) next c.loop-item.next c.in-Ok.after (c.args.number + item_count (trees_view ts)) c.in-Ok.ensures.counted c.loop-item.invariant.number;
-      passed = items_passed s types _ _ (view c.item-item.result) next c.loop-item.next c.in-Ok.after (passed c.args.number (items_verdicts s types (trees_view ts))) c.in-Ok.ensures.passed c.loop-item.invariant.passed;
+      number = items_number s types _ _ (view c.item-item.result) next c.loop-item.now.next c.walk_tree-now.result.next (c.args.walk.next + item_count (trees_view ts)) c.walk_tree-now.ensures.counted c.loop-item.invariant.number;
+      walked = items_walked s types _ _ (view c.item-item.result) next c.loop-item.now c.walk_tree-now.result (walked c.args.walk (items_verdicts s types (trees_view ts))) c.walk_tree-now.ensures.walked c.loop-item.invariant.walked;
     }
 
-pub walk_field-returns-clause-passed : goal.walk_field-returns-clause-passed
-walk_field-returns-clause-passed t c =
+pub walk_field-returns-clause-walked : goal.walk_field-returns-clause-walked
+walk_field-returns-clause-walked t c =
     let s = c.args.schema.now in
     let types = c.args.types.now in
     let ts = c.as_slice-item-items.result.now in
-    ap (λ us. passed c.loop-item.next (items_verdicts s types us)) (sym (items_end ts c.loop-item.item-index c.loop-item-test.false))
-    ∙ c.loop-item.invariant.passed
-    ∙ ap (λ us. passed c.args.number (items_verdicts s types us)) (sym (field_whole c.args.field.now ts c.as_slice-item-items.ensures))
+    ap (λ us. walked c.loop-item.now (items_verdicts s types us)) (sym (items_end ts c.loop-item.item-index c.loop-item-test.false))
+    ∙ c.loop-item.invariant.walked
+    ∙ ap (λ us. walked c.args.walk (items_verdicts s types us)) (sym (field_whole c.args.field.now ts c.as_slice-item-items.ensures))
 
 pub walk_field-returns-clause-counted : goal.walk_field-returns-clause-counted
 walk_field-returns-clause-counted t c =
@@ -43,17 +35,16 @@ walk_field-returns-clause-counted t c =
 
 -- ---- the fields of a node
 
-pub walk_tree-returns-in-Err-clause-passed : goal.walk_tree-returns-in-Err-clause-passed
-walk_tree-returns-in-Err-clause-passed t c =
+pub walk_tree-loop-field-init : goal.walk_tree-loop-field-init
+walk_tree-loop-field-init t c =
     let s = c.args.schema.now in
     let form = option_copied c.form-form.result in
     let fs = c.as_slice-field-items.result.now in
-    let f = field_view c.field-item.result in
-    let next = fields_next fs c.loop-field.field-index c.field-item.result c.loop-field-test.true c.field-item.is in
-    let allowed = c.types_under.ensures ∙ ap (types_under form) (sym (field_key c.field-item.result)) in
-    let kept : c.node_fits.result ≡ true = search (rules, c.if-not-node_fits.false) in
-    fields_refused s form _ _ f.key f.row f.items next c.types_under.result.now c.loop-field.next c.in-Err.fault (passed (c.args.number + 1) (fields_verdicts s form (fields_view fs))) allowed c.in-Err.ensures.passed c.loop-field.invariant.passed
-    ∙ sym (tree_passed s c.args.types.now c.args.tree.now fs form c.node_fits.result c.args.number c.as_slice-field-items.ensures c.form-form.ensures c.node_fits.ensures kept)
+    let counted : c.looked-now.result.next ≡ c.args.walk.next + 1 = ap (λ (w : Walk). w.next) c.looked-now.ensures in record {
+      number = omega arith;
+      walked = ap (λ w. walked w (fields_verdicts s form (fields_view fs))) c.looked-now.ensures
+          ∙ tree_walked s c.args.types.now c.args.tree.now fs form c.node_fits.result c.args.walk c.as_slice-field-items.ensures c.form-form.ensures c.node_fits.ensures;
+    }
 
 pub walk_tree-loop-field-preserved : goal.walk_tree-loop-field-preserved
 walk_tree-loop-field-preserved t c =
@@ -63,19 +54,17 @@ walk_tree-loop-field-preserved t c =
     let f = field_view c.field-item.result in
     let next = fields_next fs c.loop-field.field-index c.field-item.result c.loop-field-test.true c.field-item.is in
     let allowed = c.types_under.ensures ∙ ap (types_under form) (sym (field_key c.field-item.result)) in record {
-      number = fields_number s form _ _ f.key f.row f.items next c.loop-field.next c.in-Ok.after (c.args.number + 1 + field_count (fields_view fs)) c.in-Ok.ensures.counted c.loop-field.invariant.number;
-      passed = fields_passed s form _ _ f.key f.row f.items next c.types_under.result.now c.loop-field.next c.in-Ok.after (passed (c.args.number + 1) (fields_verdicts s form (fields_view fs))) allowed c.in-Ok.ensures.passed c.loop-field.invariant.passed;
+      number = fields_number s form _ _ f.key f.row f.items next c.loop-field.now.next c.walk_field-now.result.next (c.args.walk.next + 1 + field_count (fields_view fs)) c.walk_field-now.ensures.counted c.loop-field.invariant.number;
+      walked = fields_walked s form _ _ f.key f.row f.items next c.types_under.result.now c.loop-field.now c.walk_field-now.result (walked c.args.walk (verdicts s c.args.types.now (view c.args.tree.now))) allowed c.walk_field-now.ensures.walked c.loop-field.invariant.walked;
     }
 
-pub walk_tree-returns-clause-passed : goal.walk_tree-returns-clause-passed
-walk_tree-returns-clause-passed t c =
+pub walk_tree-returns-clause-walked : goal.walk_tree-returns-clause-walked
+walk_tree-returns-clause-walked t c =
     let s = c.args.schema.now in
     let form = option_copied c.form-form.result in
     let fs = c.as_slice-field-items.result.now in
-    let kept : c.node_fits.result ≡ true = search (rules, c.if-not-node_fits.false) in
-    ap (λ us. passed c.loop-field.next (fields_verdicts s form us)) (sym (fields_end fs c.loop-field.field-index c.loop-field-test.false))
-    ∙ c.loop-field.invariant.passed
-    ∙ sym (tree_passed s c.args.types.now c.args.tree.now fs form c.node_fits.result c.args.number c.as_slice-field-items.ensures c.form-form.ensures c.node_fits.ensures kept)
+    ap (λ us. walked c.loop-field.now (fields_verdicts s form us)) (sym (fields_end fs c.loop-field.field-index c.loop-field-test.false))
+    ∙ c.loop-field.invariant.walked
 
 pub walk_tree-returns-clause-counted : goal.walk_tree-returns-clause-counted
 walk_tree-returns-clause-counted t c =

@@ -1,4 +1,4 @@
-use Rattle.std.proofs.Common.{◌∙◌, ap, sym}
+use Rattle.std.proofs.Common.{◌∙◌, ap}
 use Rattle.st_schema.specs.Schema.{defs_rise}
 use Rattle.st_schema.proofs.Putting.{field_written, fields_written}
 use Rattle.st_schema.proofs.text.fields_value.Goals as goal

@@ -1,13 +1,17 @@
-use Rattle.std.proofs.Common.{Ok, Err, ◌∙◌, ap}
+use Rattle.std.proofs.Common.{None, ◌∙◌, sym, ap}
 use Rattle.st_tree.specs.Node.{view}
-use Rattle.st_schema.specs.Conforms.{verdicts, passed}
-use Rattle.st_schema.proofs.Walking.{allows_passed}
+use Rattle.st_schema.specs.Conforms.{verdicts, walked}
+use Rattle.st_schema.proofs.Walking.{settled, allows_walked}
 use Rattle.st_schema.proofs.schema.Schema.allows.Goals as goal
 
-pub returns-in-Ok : goal.returns-in-Ok
-returns-in-Ok c = allows_passed c.args.self.now c.args.types.now (view c.args.tree.now) (Ok c.in-Ok.field-0)
-    (c.in-Ok.ensures.passed ∙ ap (λ ts. passed 0 (verdicts c.args.self.now ts (view c.args.tree.now))) c.as_slice.ensures)
+pub returns-in-None : goal.returns-in-None
+returns-in-None c =
+    sym (ap settled c.in-None.is)
+    ∙ allows_walked c.args.self.now c.args.types.now (view c.args.tree.now) c.walk_tree.result
+    (c.walk_tree.ensures.walked ∙ ap (λ ts. walked (record { next = 0; fault = None }) (verdicts c.args.self.now ts (view c.args.tree.now))) c.as_slice.ensures)
 
-pub returns-in-Err : goal.returns-in-Err
-returns-in-Err c = allows_passed c.args.self.now c.args.types.now (view c.args.tree.now) (Err c.in-Err.fault)
-    (c.in-Err.ensures.passed ∙ ap (λ ts. passed 0 (verdicts c.args.self.now ts (view c.args.tree.now))) c.as_slice.ensures)
+pub returns-in-Some : goal.returns-in-Some
+returns-in-Some c =
+    sym (ap settled c.in-Some.is)
+    ∙ allows_walked c.args.self.now c.args.types.now (view c.args.tree.now) c.walk_tree.result
+    (c.walk_tree.ensures.walked ∙ ap (λ ts. walked (record { next = 0; fault = None }) (verdicts c.args.self.now ts (view c.args.tree.now))) c.as_slice.ensures)
