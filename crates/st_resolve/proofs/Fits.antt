@@ -1,5 +1,5 @@
 -- What a removal, an emptied field and a need mean fits the document where it was resolved.
-use Rattle.std.proofs.Common.{◌≡◌, ◌≢◌, ℕ, zero, suc, ◌+◌, ◌==◌, ◌≤◌, nat_le, Bool, true, false, cond, ◌&&◌, List, [], ◌∷◌, map, filter, take, drop, length, Option, Some, None, IsSome, IfSome, IsTrue, option_map, Result, Ok, Err, refl, sym, ap, ◌∙◌, subst, arith, inl, inr, ◌⊎◌, ◌||◌, option_and_then}
+use Rattle.std.proofs.Common.{◌≡◌, ◌≢◌, ℕ, zero, suc, ◌+◌, ◌==◌, nat_le, Bool, true, false, cond, ◌&&◌, List, [], ◌∷◌, map, filter, take, drop, length, Option, Some, None, IsSome, IfSome, IsTrue, option_map, Result, Ok, Err, refl, sym, ap, ◌∙◌, subst, inl, inr, option_and_then}
 use Rattle.std.specs.List.{AllByRecursion, filter_map, cons_option, find, list_all, slice_get}
 use Rattle.std.specs.Map.{lookup}
 use Rattle.st_ids.specs.Listing.{AreDistinct, Has}

@@ -1,17 +1,17 @@
 -- What a move means fits the document where it was resolved.
-use Rattle.std.proofs.Common.{◌≡◌, ◌≢◌, ℕ, zero, suc, ◌+◌, ◌==◌, ◌≤◌, ◌&&◌, ◌||◌, Bool, true, false, cond, List, [], ◌∷◌, ◌++◌, map, take, drop, length, Option, Some, None, IsSome, IfSome, IsTrue, is_some, not, nat_le, option_map, Result, Ok, Err, refl, sym, ap, ◌∙◌, subst, arith, inl, inr, ◌⊎◌}
+use Rattle.std.proofs.Common.{◌≡◌, ◌≢◌, ℕ, zero, suc, ◌+◌, ◌==◌, ◌≤◌, ◌&&◌, ◌||◌, Bool, true, false, cond, List, [], ◌∷◌, map, take, drop, length, Option, Some, None, IsSome, IfSome, IsTrue, is_some, nat_le, option_map, Ok, Err, refl, sym, ap, ◌∙◌, subst, arith, inl, inr, ◌⊎◌}
 use Rattle.std.specs.List.{AllByRecursion, filter_map, cons_option, find, list_any, slice_get}
 use Rattle.std.proofs.lemmas.Bool.Decides.{nat_tests}
 use Rattle.std.proofs.lemmas.List.{append-nil, length-map}
 use Rattle.st_ids.specs.Listing.{AreDistinct, Has}
-use Rattle.st_ids.specs.Order.{same_node, same_cell, same_field}
+use Rattle.st_ids.specs.Order.{same_node, same_cell}
 use Rattle.st_ids.specs.declared.names.CellId.{CellId}
 use Rattle.st_ids.specs.declared.names.FieldId.{FieldId}
 use Rattle.st_ids.specs.declared.names.Key.{Key}
 use Rattle.st_ids.specs.declared.names.NodeId.{NodeId}
 use Rattle.st_ids.specs.declared.names.Place.{Place}
 use Rattle.st_ids.specs.declared.names.Rev.{Rev}
-use Rattle.st_ids.proofs.Orders.{same_node-true, same_node-itself, same_cell-true, same_cell-itself, same_field-itself}
+use Rattle.st_ids.proofs.Orders.{same_node-true, same_node-itself, same_cell-true, same_field-itself}
 use Rattle.st_tree.specs.Preorder.{cell_named}
 use Rattle.st_tree.specs.declared.edit.EditFault.{EditFault}
 use Rattle.st_tree.specs.declared.edit.EditFault.TheVariants.{Kind, Range}
@@ -29,13 +29,13 @@ use Rattle.st_marks.specs.declared.places.Spot.{Spot}
 use Rattle.st_marks.specs.Document.{Document, NodeType, IsSoundInForm, root, owned}
 use Rattle.st_marks.specs.Intent.{Fits, IsKnown, Owns, cell_of, clears, group_cells, is_new, new_row_of, put_of, register_of}
 use Rattle.st_marks.proofs.Lookups.{both_true}
-use Rattle.st_marks.proofs.Members.{true-false, all-has, has-all, any-has, has-any, first-has, none-has, has-map, map-has, has-append, append_left}
+use Rattle.st_marks.proofs.Members.{true-false, all-has, has-all, any-has, first-has, none-has, has-map, map-has}
 use Rattle.st_doc.specs.Shown.{live_slots}
 use Rattle.st_resolve.specs.Paths.{and_then, there, field_at, items_from, left_of, row_length}
 use Rattle.st_resolve.specs.Resolve.{ask, cells_for, moved_to_row, moved_to_field, nothing_yet, walk, rule_for, rule_at, of_kind, is_open, taken, is_there, may_move, moved, move}
 use Rattle.st_resolve.specs.declared.rules.Given.{Given}
 use Rattle.st_resolve.specs.declared.rules.Takes.TheVariants as field
-use Rattle.st_resolve.proofs.Fits.{IsShown, all_map, distinct_map, none_kept, passed, found, shown, gotten, item_there, items_once, nowhere_fits, emptied_fits, key_some, ruled}
+use Rattle.st_resolve.proofs.Fits.{all_map, distinct_map, none_kept, passed, found, shown, gotten, item_there, items_once, nowhere_fits, emptied_fits, key_some, ruled}
 
 -- ## New cells
 

@@ -1,5 +1,5 @@
 -- One tree by itself.
-use Rattle.std.proofs.Common.{◌≡◌, ◌∙◌, ℕ, max, nat_lt, Ok, Err, arith, cond}
+use Rattle.std.proofs.Common.{◌≡◌, ◌∙◌, nat_lt, Ok, Err, arith, cond}
 use Rattle.st_tree.specs.Node.{Node, first, no_nodes}
 use Rattle.st_tree.specs.Size.{node_count, item_count, height, items_height, check_of, check_items}
 use Rattle.st_tree.specs.declared.limits.TreeFault.TheVariants.{TooDeep, TooMany}

@@ -1,10 +1,10 @@
 //! The lists that an intent has for new trees, which are given as the list of their nodes in preorder.
 ghost use Rattle.std.specs.Prelude.{◌≡◌, ◌++◌, ◌<◌, ◌*◌, ◌^◌, length, IfOk, OnOk};
 ghost use Rattle.std.specs.Option.{option_copied};
-ghost use Rattle.st_ids.specs.Order.{same_node};
 ghost use Rattle.st_resolve.specs.New.{new_nodes, top_to, to_at, puts, register_at, registers, top_cell, row_cell, top_cells, cells_under, group_of, group_under, groups_under, takes_cell, names_taken};
 
 use st_ids::{CellId, Copied, FieldId, List, NodeId};
+use st_intent::is_same_node;
 use st_marks::{Group, NewNode, Owned, Put, To};
 use st_tree::{FlatAt, FlatNode};
 use std::alloc::{AllocError, Global};
@@ -120,14 +120,6 @@ fn row_cell(node: NodeId, at: &FlatAt) -> Option<CellId>
         FlatAt::Row { node: above, cell } if is_same_node(*above, node) => Some(*cell),
         _ => None,
     }
-}
-
-// Whether two names of nodes are one.
-#[tactic(auto, unfolding(st_ids::specs::Order::same_node))]
-pub fn is_same_node(a: NodeId, b: NodeId) -> bool
-    ensures { result ≡ same_node a b }
-{
-    a.cmp(&b).is_eq()
 }
 
 // The cells of a new node's row.

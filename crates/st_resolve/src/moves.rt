@@ -10,11 +10,11 @@ ghost use Rattle.st_doc.specs.Shown.{live_slots};
 ghost use Rattle.st_resolve.specs.Resolve.{within_row, taken, is_there, is_inside, cells_taken, moved, move_to};
 
 use crate::intents::{moved_to_field, moved_to_row, nothing_yet};
-use crate::lists::is_same_node;
 use crate::paths::passes;
 use crate::rules::{Given, ask, names_left, nodes_allowed};
 use st_doc::Doc;
 use st_ids::{FieldId, List, NodeId, Or, Path};
+use st_intent::is_same_node;
 use st_marks::{Intent, Slot};
 use st_schema::{FieldRule, KindName};
 use st_tree::EditFault;

@@ -1,5 +1,5 @@
 -- the nodes so far, and then those beyond this one
-use Rattle.std.proofs.Common.{◌≡◌, ◌++◌, ◌∷◌, drop}
+use Rattle.std.proofs.Common.{◌≡◌, ◌++◌, drop}
 use Rattle.st_marks.specs.Document.{root}
 use Rattle.st_doc.specs.Doc.{document_of}
 use Rattle.st_resolve.specs.Paths.{beyond, passes}

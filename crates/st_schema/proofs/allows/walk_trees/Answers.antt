@@ -1,4 +1,4 @@
-use Rattle.std.proofs.Common.{◌≡◌, ◌∙◌, sym, ap, None}
+use Rattle.std.proofs.Common.{◌∙◌, sym, ap, None}
 use Rattle.st_tree.specs.Node.{view, trees_view}
 use Rattle.st_tree.specs.Size.{item_count}
 use Rattle.st_schema.specs.Conforms.{items_verdicts, walked}
