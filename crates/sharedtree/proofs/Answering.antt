@@ -5,7 +5,7 @@ use Rattle.std.proofs.lemmas.Bool.Decides.{nat_tests}
 use Rattle.std.proofs.lemmas.List.{length-take, take-take}
 use Rattle.sharedtree.specs.Json.{read_line}
 use Rattle.sharedtree.specs.Lines.{cut}
-use Rattle.sharedtree.specs.Answers.{Told, IsTold, IsTraced, IsAnswered, IsAnsweredAs, answers, answers_from, begin, max_input, long_told, long_line, opening_of, is_trace, step_of, tell, trace_of, usage_told}
+use Rattle.sharedtree.specs.Answers.{Told, IsTold, IsTraced, IsAnswered, IsAnsweredAs, answers, answers_from, begin, max_input, long_told, long_line, opening_of, is_trace, step_of, tell, trace_of}
 use Rattle.sharedtree.specs.World.{next}
 use Rattle.sharedtree.specs.declared.lists.Lists.{Lists}
 use Rattle.sharedtree.specs.declared.outcome.BadCause.{BadCause}
