@@ -101,7 +101,7 @@ child_there D n m p sound e = go (length p.key.0 == 0) e
     go true e = item (slice_get (live_slots D n) p.index) refl e
     go false e = register (p.index == 0) e
 
-walk_there : (D : Document) (k : ℕ) (n m : NodeId) (path : List Place) → IsSoundInForm D → IsSome (D.nodes n) → walk_from D k n path ≡ Ok m → IsSome (D.nodes m)
+pub walk_there : (D : Document) (k : ℕ) (n m : NodeId) (path : List Place) → IsSoundInForm D → IsSome (D.nodes n) → walk_from D k n path ≡ Ok m → IsSome (D.nodes m)
 walk_there D k n m [] sound known e = let q : n ≡ m = cc in subst (λ x. IsSome (D.nodes x)) q known
 walk_there D k n m (p ∷ ps) sound known e =
     let x = passed (there (child D n p) _) (λ x. walk_from D (k + 1) x ps) m e in
@@ -341,7 +341,7 @@ ruled D s n key rule e = go (D.nodes n) e
     go None f = cc
     go (Some t) f = (refl, (t, f))
 
-kind_taken : (takes : KindName → Bool) (rule got : FieldRule) → of_kind takes rule ≡ Ok got → takes rule.kind ≡ true
+pub kind_taken : (takes : KindName → Bool) (rule got : FieldRule) → of_kind takes rule ≡ Ok got → takes rule.kind ≡ true
 kind_taken takes rule got e = go (takes rule.kind) e
   where
     go : (b : Bool) → cond b (Ok rule) (Err Kind) ≡ Ok got → b ≡ true

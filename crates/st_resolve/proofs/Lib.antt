@@ -1,3 +1,5 @@
 pub mod Fits
 pub mod MoveFits
 pub mod One
+pub mod Numbered
+pub mod NewFits

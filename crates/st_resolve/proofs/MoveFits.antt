@@ -86,7 +86,7 @@ put_found f xs x h = go (find (λ (p : Put). same_node p.node (f x).node) (map f
     go None e = absurd (true-false (same_node-itself (f x).node) (none-has (λ (p : Put). same_node p.node (f x).node) (map f xs) (f x) e (map-has f xs x h)))
 
 -- what isn't put isn't found
-put_none : {A : Type 0} (f : A → Put) (xs : List A) (m : NodeId) → ((x : A) → Has xs x → (f x).node ≢ m) → option_map (λ (p : Put). p.to) (find (λ (p : Put). same_node p.node m) (map f xs)) ≡ None
+pub put_none : {A : Type 0} (f : A → Put) (xs : List A) (m : NodeId) → ((x : A) → Has xs x → (f x).node ≢ m) → option_map (λ (p : Put). p.to) (find (λ (p : Put). same_node p.node m) (map f xs)) ≡ None
 put_none f xs m apart = go (find (λ (p : Put). same_node p.node m) (map f xs)) refl
   where
     go : (o : Option Put) → find (λ (p : Put). same_node p.node m) (map f xs) ≡ o → option_map (λ (p : Put). p.to) o ≡ None
@@ -182,7 +182,7 @@ module _ (D : Document) (G : Given) (m : NodeId) (after : Option CellId) (o : Ow
           let bad : None ≡ Some m = sym (each p h).1 ∙ ap D.row_of same ∙ there in cc)
 
 -- the item left of an index is in the row
-left_in_row : (D : Document) (m : NodeId) (index : ℕ) → IsSoundInForm D → IfSome (left_of D m index) (λ c. D.row_of c ≡ Some m)
+pub left_in_row : (D : Document) (m : NodeId) (index : ℕ) → IsSoundInForm D → IfSome (left_of D m index) (λ c. D.row_of c ≡ Some m)
 left_in_row D m zero sound = tt
 left_in_row D m (suc i) sound = go (slice_get (live_slots D m) i) refl
   where

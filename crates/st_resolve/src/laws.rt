@@ -2,13 +2,14 @@
 ghost use Rattle.std.specs.Prelude.{◌≡◌, ◌≤◌, ℕ, true, List, None, Ok};
 ghost use Rattle.st_ids.specs.declared.names.Key.{Key};
 ghost use Rattle.st_ids.specs.declared.names.Place.{Place};
-ghost use Rattle.st_tree.specs.Preorder.{cell_named};
+ghost use Rattle.st_tree.specs.Node.{Node, Nodes, first, no_nodes};
+ghost use Rattle.st_tree.specs.Preorder.{cell_named, node_named};
 ghost use Rattle.st_schema.specs.Schema.{SchemaView, is_sound};
 ghost use Rattle.st_marks.specs.declared.intents.Intent.{Intent};
 ghost use Rattle.st_marks.specs.Document.{Document, IsSoundInForm};
 ghost use Rattle.st_marks.specs.Intent.{Fits};
 ghost use Rattle.st_resolve.specs.declared.rules.Given.{Given};
-ghost use Rattle.st_resolve.specs.Resolve.{clear, move as move_of, need, remove};
+ghost use Rattle.st_resolve.specs.Resolve.{clear, insert, move as move_of, need, put, remove};
 
 /// What a removal, a move, an emptied field and a need mean fits the document where the edit was resolved. A move takes
 /// cells whose names are not there yet.
@@ -21,4 +22,15 @@ pub fn simple_edits_fit()
     ensures clear { (D : Document) (s : SchemaView) (G : Given) (at : List Place) (key : Key) (N : Intent) → IsSoundInForm D → is_sound s ≡ true
         → clear D s G at key ≡ Ok N → Fits D N }
     ensures need { (D : Document) (G : Given) (at : List Place) (N : Intent) → IsSoundInForm D → need D G at ≡ Ok N → Fits D N }
+{}
+
+/// What new items of a row, and a new tree in a field, mean fits the document where the edit was resolved. They take nodes
+/// and cells whose names are not there yet.
+pub fn new_trees_fit()
+    ensures insert { (D : Document) (s : SchemaView) (G : Given) (at : List Place) (key : Key) (index : ℕ) (trees : Nodes) (N : Intent) → IsSoundInForm D
+        → ((k : ℕ) → G.nodes ≤ k → D.nodes (node_named G.rev k) ≡ None) → ((k : ℕ) → G.cells ≤ k → D.row_of (cell_named G.rev k) ≡ None)
+        → insert D s G at key index trees ≡ Ok N → Fits D N }
+    ensures put { (D : Document) (s : SchemaView) (G : Given) (at : List Place) (key : Key) (t : Node) (N : Intent) → IsSoundInForm D → is_sound s ≡ true
+        → ((k : ℕ) → G.nodes ≤ k → D.nodes (node_named G.rev k) ≡ None) → ((k : ℕ) → G.cells ≤ k → D.row_of (cell_named G.rev k) ≡ None)
+        → put D s G at key (first t no_nodes) ≡ Ok N → Fits D N }
 {}
