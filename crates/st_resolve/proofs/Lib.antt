@@ -3,3 +3,4 @@ pub mod MoveFits
 pub mod One
 pub mod Numbered
 pub mod NewFits
+pub mod Resolved

@@ -4,12 +4,13 @@ ghost use Rattle.st_ids.specs.declared.names.Key.{Key};
 ghost use Rattle.st_ids.specs.declared.names.Place.{Place};
 ghost use Rattle.st_tree.specs.Node.{Node, Nodes, first, no_nodes};
 ghost use Rattle.st_tree.specs.Preorder.{cell_named, node_named};
+ghost use Rattle.st_tree.specs.declared.edit.Edit.{Edit};
 ghost use Rattle.st_schema.specs.Schema.{SchemaView, is_sound};
 ghost use Rattle.st_marks.specs.declared.intents.Intent.{Intent};
 ghost use Rattle.st_marks.specs.Document.{Document, IsSoundInForm};
 ghost use Rattle.st_marks.specs.Intent.{Fits};
 ghost use Rattle.st_resolve.specs.declared.rules.Given.{Given};
-ghost use Rattle.st_resolve.specs.Resolve.{clear, insert, move as move_of, need, put, remove};
+ghost use Rattle.st_resolve.specs.Resolve.{clear, insert, move as move_of, need, put, remove, resolve};
 
 /// What a removal, a move, an emptied field and a need mean fits the document where the edit was resolved. A move takes
 /// cells whose names are not there yet.
@@ -33,4 +34,12 @@ pub fn new_trees_fit()
     ensures put { (D : Document) (s : SchemaView) (G : Given) (at : List Place) (key : Key) (t : Node) (N : Intent) → IsSoundInForm D → is_sound s ≡ true
         → ((k : ℕ) → G.nodes ≤ k → D.nodes (node_named G.rev k) ≡ None) → ((k : ℕ) → G.cells ≤ k → D.row_of (cell_named G.rev k) ≡ None)
         → put D s G at key (first t no_nodes) ≡ Ok N → Fits D N }
+{}
+
+/// What an edit means fits the document where it was resolved, if that is sound in form, the schema keeps its rules, and the
+/// names that the commit may still give are not there yet.
+pub fn resolved_edits_fit()
+    ensures { (D : Document) (s : SchemaView) (G : Given) (edit : Edit) (N : Intent) → IsSoundInForm D → is_sound s ≡ true
+        → ((k : ℕ) → G.nodes ≤ k → D.nodes (node_named G.rev k) ≡ None) → ((k : ℕ) → G.cells ≤ k → D.row_of (cell_named G.rev k) ≡ None)
+        → resolve D s G edit ≡ Ok N → Fits D N }
 {}

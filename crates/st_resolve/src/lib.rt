@@ -12,5 +12,5 @@ mod rules;
 mod tests;
 
 pub use edits::resolve;
-pub use laws::{new_trees_fit, simple_edits_fit};
+pub use laws::{new_trees_fit, resolved_edits_fit, simple_edits_fit};
 pub use rules::Given;
