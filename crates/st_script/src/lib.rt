@@ -2,7 +2,13 @@
 #![tactic(auto)]
 
 mod answer;
+mod line;
+mod member;
+mod read;
 mod refusal;
+mod step;
 
 pub use answer::{Answer, answer_line};
+pub use line::{Line, read_step_line};
 pub use refusal::Refusal;
+pub use step::TraceStep;
