@@ -7,6 +7,8 @@ mod member;
 mod read;
 mod refusal;
 mod step;
+#[cfg(test)]
+mod tests;
 
 pub use answer::{Answer, answer_line};
 pub use line::{Line, read_step_line};
