@@ -1,0 +1,4 @@
+pub mod AnswerText
+pub mod Line
+pub mod Members
+pub mod Steps

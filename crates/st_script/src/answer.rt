@@ -1,0 +1,128 @@
+//! What is answered to a header or a step, and the line of an answer.
+ghost use Rattle.std.specs.Prelude.{◌≡◌, [], ◌∷◌, ◌++◌, codes, IfOk};
+ghost use Rattle.serde_json.specs.View.{view};
+ghost use Rattle.st_script.specs.AnswerText.{ok_data, join_data, rev_data, sequence_data, void_data, deliver_data, show_text, answer_line};
+
+use crate::refusal::{Refusal, refusal_value};
+use serde_json::{Value, json};
+use st_ids::{NodeId, Rev, Text};
+use st_json::write_line;
+use st_marks::Verdict;
+use std::alloc::{AllocError, Global};
+
+/// The answer to a header or a step. The tree of `Show` is a JSON text.
+#[derive(Drop)]
+pub enum Answer {
+    Header,
+    Join { n: u32, s: u32 },
+    Insert { rev: Rev },
+    Remove { rev: Rev },
+    Move { rev: Rev },
+    Set { rev: Rev },
+    Clear { rev: Rev },
+    Sequence { min: u32, n: u32 },
+    Deliver { n: u32, void: Verdict },
+    Show { tree: Text },
+    No(Refusal),
+}
+
+fn header_value(alloc: Global) -> Result<Value, AllocError>
+    ensures { IfOk result (λ v. view v ≡ ok_data (codes "header")) }
+{
+    json!(in alloc; {"ok": "header"})
+}
+
+fn join_value(alloc: Global, n: u32, s: u32) -> Result<Value, AllocError>
+    ensures { IfOk result (λ v. view v ≡ join_data n s) }
+{
+    json!(in alloc; {"n": n, "ok": "join", "s": s})
+}
+
+// The answer to an edit, with the revision of its commit.
+fn rev_value(alloc: Global, word: &str, rev: Rev) -> Result<Value, AllocError>
+    ensures { IfOk result (λ v. view v ≡ rev_data word.now rev) }
+{
+    let text = rev.text(alloc)?;
+    let rev = text.as_str();
+    json!(in alloc; {"ok": word, "rev": rev})
+}
+
+fn sequence_value(alloc: Global, min: u32, n: u32) -> Result<Value, AllocError>
+    ensures { IfOk result (λ v. view v ≡ sequence_data min n) }
+{
+    json!(in alloc; {"min": min, "n": n, "ok": "sequence"})
+}
+
+fn schema_value(alloc: Global, under: Rev) -> Result<Value, AllocError>
+    ensures { IfOk result (λ v. view v ≡ void_data (Verdict.Schema under)) }
+{
+    let text = under.text(alloc)?;
+    let rev = text.as_str();
+    json!(in alloc; {"schema": rev})
+}
+
+fn need_value(alloc: Global, node: NodeId) -> Result<Value, AllocError>
+    ensures { IfOk result (λ v. view v ≡ void_data (Verdict.Need node)) }
+{
+    let text = node.0.text(alloc)?;
+    let node = text.as_str();
+    json!(in alloc; {"need": node})
+}
+
+fn cycle_value(alloc: Global, node: NodeId) -> Result<Value, AllocError>
+    ensures { IfOk result (λ v. view v ≡ void_data (Verdict.Cycle node)) }
+{
+    let text = node.0.text(alloc)?;
+    let node = text.as_str();
+    json!(in alloc; {"cycle": node})
+}
+
+// Why a commit is void, and null for a sound one.
+fn void_value(alloc: Global, verdict: Verdict) -> Result<Value, AllocError>
+    ensures { IfOk result (λ v. view v ≡ void_data verdict) }
+{
+    match verdict {
+        Verdict::Sound => Ok(Value::Null),
+        Verdict::Schema(under) => schema_value(alloc, under),
+        Verdict::Need(node) => need_value(alloc, node),
+        Verdict::Cycle(node) => cycle_value(alloc, node),
+    }
+}
+
+fn deliver_value(alloc: Global, n: u32, void: Verdict) -> Result<Value, AllocError>
+    ensures { IfOk result (λ v. view v ≡ deliver_data n void) }
+{
+    let void = void_value(alloc, void)?;
+    json!(in alloc; {"n": n, "ok": "deliver", "void": void})
+}
+
+// The line of a tree, which is a JSON text.
+fn show_line(alloc: Global, tree: &str) -> Result<Text, AllocError>
+    ensures { IfOk result (λ t. t ≡ show_text tree.now ++ 10 ∷ []) }
+{
+    let mut line = Text::from_str(alloc, "{\"ok\":\"show\",\"tree\":")?;
+    line.push_str(tree)?;
+    line.push_str("}")?;
+    line.push_str("\n")?;
+    Ok(line)
+}
+
+/// The line of an answer, with its line feed.
+pub fn answer_line(alloc: Global, answer: &Answer) -> Result<Text, AllocError>
+    ensures { IfOk result (λ t. t ≡ answer_line answer.now) }
+{
+    let value = match answer {
+        Answer::Header => header_value(alloc)?,
+        Answer::Join { n, s } => join_value(alloc, *n, *s)?,
+        Answer::Insert { rev } => rev_value(alloc, "insert", *rev)?,
+        Answer::Remove { rev } => rev_value(alloc, "remove", *rev)?,
+        Answer::Move { rev } => rev_value(alloc, "move", *rev)?,
+        Answer::Set { rev } => rev_value(alloc, "set", *rev)?,
+        Answer::Clear { rev } => rev_value(alloc, "clear", *rev)?,
+        Answer::Sequence { min, n } => sequence_value(alloc, *min, *n)?,
+        Answer::Deliver { n, void } => deliver_value(alloc, *n, *void)?,
+        Answer::Show { tree } => return show_line(alloc, tree.as_str()),
+        Answer::No(refusal) => refusal_value(alloc, *refusal)?,
+    };
+    write_line(alloc, &value)
+}

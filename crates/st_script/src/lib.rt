@@ -1,0 +1,16 @@
+//! The lines of a trace: headers and steps that are read, and answers that are written.
+#![tactic(auto)]
+
+mod answer;
+mod line;
+mod member;
+mod read;
+mod refusal;
+mod step;
+#[cfg(test)]
+mod tests;
+
+pub use answer::{Answer, answer_line};
+pub use line::{Line, read_step_line};
+pub use refusal::Refusal;
+pub use step::TraceStep;
