@@ -1,4 +1,5 @@
 pub mod AnswerText
+pub mod Header
 pub mod Line
 pub mod Members
 pub mod Steps

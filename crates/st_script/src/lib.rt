@@ -2,6 +2,7 @@
 #![tactic(auto)]
 
 mod answer;
+mod header;
 mod line;
 mod member;
 mod read;
@@ -11,6 +12,7 @@ mod step;
 mod tests;
 
 pub use answer::{Answer, answer_line};
+pub use header::read_header;
 pub use line::{Line, read_step_line};
 pub use refusal::Refusal;
 pub use step::TraceStep;

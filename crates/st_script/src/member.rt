@@ -44,7 +44,7 @@ pub(crate) fn client(alloc: Global, value: &Value) -> Result<Option<Text>, Alloc
 }
 
 // A number below 2^32.
-fn small_number(value: &Value) -> Option<u32>
+pub(crate) fn small_number(value: &Value) -> Option<u32>
     ensures { result ≡ as_small (value_view value.now) }
 {
     let number = value.as_u64()?;
@@ -174,7 +174,7 @@ pub(crate) fn path_member(
 }
 
 // The tree that a value shows.
-fn tree(alloc: Global, value: &Value) -> Result<Option<Tree>, AllocError>
+pub(crate) fn tree(alloc: Global, value: &Value) -> Result<Option<Tree>, AllocError>
     ensures { IfOk result (λ t. option_map view t ≡ tree_of (value_view value.now)) }
 {
     match read_tree(alloc, value) {

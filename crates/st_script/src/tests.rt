@@ -1,7 +1,7 @@
 //! Each public call once, and lines that are no steps.
 
-use crate::{Answer, Line, Refusal, TraceStep, answer_line, read_step_line};
-use st_ids::{Atom, Limit, LimitOf, NodeId, Rev};
+use crate::{Answer, Line, Refusal, TraceStep, answer_line, read_header, read_step_line};
+use st_ids::{Atom, Limit, LimitOf, NodeId, Or, Rev};
 use st_json::BadCause;
 use st_marks::Verdict;
 use std::test::Fail;
@@ -111,6 +111,38 @@ fn answers(rt: HostRuntime) -> Result<(), Fail> {
         ),
     ] {
         assert_eq!(rt; answer_line(alloc, &answer)?.as_str(), line);
+    }
+    Ok(())
+}
+
+#[test]
+fn headers(rt: HostRuntime) -> Result<(), Fail> {
+    let alloc = rt.alloc();
+    let line = r#"{"schema":{"root":["int"],"types":[]},"trace":1,"tree":7}"#;
+    let header = read_header(alloc, line.as_bytes(), "trace")
+        .ok()
+        .ok_or("a header")?;
+    assert_eq!(rt; header.history, 64);
+    assert_eq!(rt; header.schema.root().len(), 1);
+    assert_eq!(rt; header.tree.ty.as_str(), "int");
+    for (line, cause) in [
+        ("{", BadCause::Json),
+        ("[]", BadCause::Header),
+        (
+            r#"{"schema":{"root":["int"],"types":[]},"trace":2,"tree":7}"#,
+            BadCause::Header,
+        ),
+        (
+            r#"{"schema":{"root":["int"],"types":[]},"trace":1,"tree":true}"#,
+            BadCause::Header,
+        ),
+        (
+            r#"{"history":1025,"schema":{"root":["int"],"types":[]},"trace":1,"tree":7}"#,
+            BadCause::Header,
+        ),
+    ] {
+        let found = read_header(alloc, line.as_bytes(), "trace").err();
+        assert_eq!(rt; found, Some(Or::Fault(cause)), "at {line}");
     }
     Ok(())
 }
