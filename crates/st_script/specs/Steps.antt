@@ -1,5 +1,5 @@
 -- Which value is which step.
-use Rattle.std.specs.Prelude.{ℕ, List, [], ◌∷◌, nat_eq, Bool, Option, Some, None, option_and_then, option_map, map, codes, if◌then◌else◌}
+use Rattle.std.specs.Prelude.{ℕ, List, nat_eq, Bool, Option, None, option_and_then, option_map, map, codes, if◌then◌else◌}
 use Rattle.std.specs.Cmp.Lexicographic.{pointwise}
 use Rattle.serde_json.specs.Data.{Data}
 use Rattle.serde_json.specs.Find.{get, as_str}
