@@ -15,3 +15,5 @@ pub mod StartSound
 pub mod Verdicts
 pub mod OneDocument
 pub mod Queries
+pub mod ShortRows
+pub mod Copying

@@ -3,6 +3,7 @@
 
 mod carry;
 mod climb;
+mod copy;
 mod doc;
 mod evictions;
 mod fits;
@@ -14,6 +15,7 @@ mod names;
 mod opening;
 mod query;
 mod registers;
+mod room;
 mod rows;
 mod seats;
 mod show;

@@ -21,8 +21,8 @@ fn is_at(group: &Group, node: NodeId, after: Option<CellId>) -> bool
     is_same_node(group.node, node) && is_same_anchor(group.after, after)
 }
 
-// The cells of the first group at that anchor of that row.
-fn cells_at(intent: &Intent, node: NodeId, after: Option<CellId>) -> &[Owned]
+/// The cells of the first group at that anchor of that row.
+pub fn cells_at(intent: &Intent, node: NodeId, after: Option<CellId>) -> &[Owned]
     ensures { result.now ≡ group_at intent.now node after }
 {
     for group in intent.groups.as_slice() {

@@ -262,7 +262,8 @@ fn list_of(alloc: Global, item: Tree) -> Result<Tree, AllocError>
     })
 }
 
-// The opening document of a tree has its nodes in preorder, and an intent that fits can be carried out there.
+// The opening document of a tree has its nodes in preorder, and an intent that fits can be carried out there. A copy made
+// before stays as it was.
 #[test]
 fn start(rt: HostRuntime) -> Result<(), Fail> {
     let alloc = rt.alloc();
@@ -271,13 +272,15 @@ fn start(rt: HostRuntime) -> Result<(), Fail> {
         return Err(Fail::from("too large"));
     }
     let mut doc = Doc::start(alloc, Text::from_str(alloc, "{}")?, &tree)?;
-    assert_eq!(rt; doc.whole(alloc)?.as_str(), r#"{"list":["x"]}"#);
+    let before = doc.copy(alloc)?;
     let intent = inserts(alloc, A, Some(CellId(atom(OPENING, 0))), "a")?;
+    assert_eq!(rt; doc.has_room(&intent), true);
     if !doc.fits(&intent) {
         return Err(Fail::from("does not fit"));
     }
     doc.carry_out(alloc, &intent)?;
     assert_eq!(rt; doc.whole(alloc)?.as_str(), r#"{"list":["x","a"]}"#);
+    assert_eq!(rt; before.whole(alloc)?.as_str(), r#"{"list":["x"]}"#);
     Ok(())
 }
 

@@ -1,6 +1,8 @@
 //! What edits of a live tree mean: the intent of a commit, or the first refusal.
 #![tactic(auto)]
 
+#[cfg(test)]
+mod at_once;
 mod edits;
 mod intents;
 mod laws;

@@ -17,11 +17,11 @@ use std::process::Abort;
 use std::test::Fail;
 
 // Lists of texts, lists and cards, and a card with an optional note and a title.
-fn schema_line() -> &'static str {
+pub fn schema_line() -> &'static str {
     r#"{"root":["list"],"types":[{"array":["text","list","card"],"name":"list"},{"name":"card","object":{"note":["opt",["text","list"]],"title":["req",["text"]]}}]}"#
 }
 
-fn schema(rt: &impl Abort, alloc: Global) -> Schema {
+pub fn schema(rt: &impl Abort, alloc: Global) -> Schema {
     let value = read_line(alloc, schema_line().as_bytes())
         .ok()
         .expect(rt, "a reading");
@@ -48,7 +48,7 @@ fn trees(rt: &impl Abort, alloc: Global, lines: &[&str]) -> Result<List<Tree>, F
     Ok(trees)
 }
 
-type Places = &'static [(&'static str, u32)];
+pub type Places = &'static [(&'static str, u32)];
 
 fn path(alloc: Global, places: Places) -> Result<Path, Fail>
     ensures { IfOk result (λ p. length p < 2 ^ 32) }
@@ -71,7 +71,7 @@ fn key(alloc: Global, key: &str) -> Result<Key, Fail> {
 
 // An edit in short.
 #[derive(Clone, Copy)]
-enum Case {
+pub enum Case {
     Insert(Places, &'static str, u32, &'static [&'static str]),
     Remove(Places, u32, u32),
     Move(Places, u32, u32, Places, &'static str, u32),
@@ -79,7 +79,7 @@ enum Case {
     Clear(Places, &'static str),
 }
 
-fn edit(rt: &impl Abort, alloc: Global, case: Case) -> Result<Edit, Fail>
+pub fn edit(rt: &impl Abort, alloc: Global, case: Case) -> Result<Edit, Fail>
     ensures { IfOk result IsWithin }
 {
     match case {

@@ -1,0 +1,47 @@
+//! Copies of documents.
+ghost use Rattle.std.specs.Prelude.{◌≡◌, IfOk};
+ghost use Rattle.std.specs.BTreeMap.{get};
+
+use crate::doc::Doc;
+use crate::maps::add;
+use st_ids::Copied;
+use std::alloc::{AllocError, Global};
+use std::collections::BTreeMap;
+
+// The same map, entry by entry.
+fn copy_map<K: Ord + Copied + Drop, V: Copied + Drop>(
+    alloc: Global,
+    map: &BTreeMap<K, V>,
+) -> Result<BTreeMap<K, V>, AllocError>
+    ensures { IfOk result (λ m. (q : K) → get K.cmp m q ≡ get K.cmp map.now q) }
+{
+    let mut copy = BTreeMap::new(alloc);
+    for (key, value) in map.iter() {
+        add(&mut copy, key.copy(alloc)?, value.copy(alloc)?)?;
+    }
+    Ok(copy)
+}
+
+impl Doc {
+    ghost use Rattle.st_doc.specs.Doc.{document_of};
+
+    /// The same document once more, in the time that its size asks for.
+    pub fn copy(&self, alloc: Global) -> Result<Doc, AllocError>
+        ensures { IfOk result (λ d. document_of d ≡ document_of self.now) }
+    {
+        let nodes = copy_map(alloc, &self.nodes)?;
+        let rows = copy_map(alloc, &self.rows)?;
+        let row_of = copy_map(alloc, &self.row_of)?;
+        let place = copy_map(alloc, &self.place)?;
+        let held = copy_map(alloc, &self.held)?;
+        let schemas = self.schemas.copy(alloc)?;
+        Ok(Doc {
+            nodes,
+            rows,
+            row_of,
+            place,
+            held,
+            schemas,
+        })
+    }
+}
