@@ -3,6 +3,7 @@
 
 mod answer;
 mod header;
+mod laws;
 mod line;
 mod member;
 mod read;
@@ -13,6 +14,7 @@ mod tests;
 
 pub use answer::{Answer, answer_line};
 pub use header::read_header;
+pub use laws::{read_headers_may_open, read_steps_are_of_form};
 pub use line::{Line, read_step_line};
 pub use refusal::Refusal;
 pub use step::TraceStep;

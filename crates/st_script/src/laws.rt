@@ -1,0 +1,16 @@
+//! Laws about lines: each is the contract of a function that does nothing.
+ghost use Rattle.std.specs.Prelude.{◌≡◌, ℕ, List, true, Ok};
+ghost use Rattle.st_schema.specs.Schema.{is_sound};
+ghost use Rattle.st_script.specs.Header.{HeaderView, header_line, may_open};
+ghost use Rattle.st_script.specs.Line.{line_of};
+ghost use Rattle.st_script.specs.Steps.{StepView, IsOfForm};
+
+/// The trees of a step that a line is are within the limits of trees, and its paths are short.
+pub fn read_steps_are_of_form()
+    ensures { (bytes : List ℕ) (s : StepView) → line_of bytes ≡ Ok s → IsOfForm s }
+{}
+
+/// The schema of a header that a line is keeps the rules of schemas, and allows its tree as its root.
+pub fn read_headers_may_open()
+    ensures { (word bytes : List ℕ) (h : HeaderView) → header_line word bytes ≡ Ok h → (is_sound h.schema ≡ true) × (may_open h.schema h.tree ≡ true) }
+{}
