@@ -11,12 +11,11 @@ use Rattle.st_script.specs.Header.{HeaderView, header_line}
 use Rattle.st_script.specs.Line.{line_of}
 use Rattle.st_script.specs.Steps.{StepView}
 use Rattle.st_script.specs.declared.answer.Answer.{Answer}
-use Rattle.st_script.specs.declared.answer.Answer.TheVariants as answer
 use Rattle.st_trace.specs.World.{begun, IsNext}
 use Rattle.st_trace.specs.declared.lists.Lists.{Lists}
 use Rattle.sharedtree.specs.Lines.{cut}
 use Rattle.sharedtree.specs.Parts.{GrowsInPart}
-use Rattle.sharedtree.specs.Answers.{Told, before, stopped, OrStopped, IsStepTold, IsLineTold, IsHeaderTold, IsBegun, IsTraceOf, IsTold, IsToldAs, IsToldInPart, AnswersFrom, bad_line}
+use Rattle.sharedtree.specs.Answers.{Told, before, stopped, OrStopped, IsLineTold, IsHeaderTold, IsBegun, IsTraceOf, IsTold, IsToldAs, IsToldInPart, AnswersFrom, EndsAtLine, IsStopped, IsLineAnswered, bad_line}
 use Rattle.sharedtree.specs.declared.outcome.Outcome.{Outcome}
 use Rattle.sharedtree.specs.declared.outcome.Outcome.TheVariants.{Done, Usage, BadLine, TooLong, ReadFault, WriteFault, NoMemory}
 use Rattle.sharedtree.proofs.Growing.{grows_more}
@@ -36,7 +35,7 @@ part_first old new line rest (k, h) =
     let front : take n (line ++ rest) ≡ take k line = take-append-le n line rest (omega arith) ∙ short in
     (n, rw front h)
 
-grows_nothing : (old : Option (List ℕ)) → Grows old [] old
+pub grows_nothing : (old : Option (List ℕ)) → Grows old [] old
 grows_nothing None = tt
 grows_nothing (Some bs) = ap Some (sym (append-nil bs))
 
@@ -91,6 +90,12 @@ step_told h n w v s a r line Rest is next follows =
     inr (subst (λ (x : Result StepView BadCause). IsLineTold h n x w Rest (before (answer_line a) r)) is
     (record { world = v; answer = a; rest = r; next = next; follows = follows; whole = refl }))
 
+-- a line that was answered, and what follows it
+pub answered_more : (h : HeaderView) (n : ℕ) (line : Result StepView BadCause) (w v : Lists) (old mid new : Option (List ℕ)) (Rest : Lists → Told → Type 0) (o : Outcome)
+    → IsLineAnswered h line w v old mid → IsTold mid new (Rest v) o → IsTold old new (OrStopped (IsLineTold h n line w Rest)) o
+answered_more h n line w v old mid new Rest o told rest =
+    told_more old mid new (answer_line told.answer) (Rest v) (OrStopped (IsLineTold h n line w Rest)) (λ r follows. step_told h n w v told.step told.answer r line Rest (sym told.is) told.next follows) o told.written rest
+
 -- a line is named as bad
 pub bad_told : (h : HeaderView) (n : ℕ) (w : Lists) (c : BadCause) (line : Result StepView BadCause) (Rest : Lists → Told → Type 0) (t : Told)
     → Err c ≡ line → OrStopped (λ (told : Told). told ≡ bad_line n c) t → OrStopped (IsLineTold h n line w Rest) t
@@ -103,6 +108,19 @@ bad_told h n w c line Rest t is (inr e) = inr (subst (λ (x : Result StepView Ba
 pub stopped_from : (h : HeaderView) (w : Lists) (n : ℕ) (ls : List (List ℕ)) → AnswersFrom h w n ls stopped
 stopped_from h w n [] = inl refl
 stopped_from h w n (l ∷ ls) = inl refl
+
+-- a line that ends a run is one of the lines
+pub ended_also : (h : HeaderView) (n : ℕ) (line : Result StepView BadCause) (w : Lists) (Rest : Lists → Told → Type 0) → ((v : Lists) → Rest v stopped) → (t : Told)
+    → EndsAtLine h n line w t → OrStopped (IsLineTold h n line w Rest) t
+ended_also h n line w Rest always t (inl e) = inl e
+ended_also h n (Err c) w Rest always t (inr e) = inr e
+ended_also h n (Ok s) w Rest always t (inr told) =
+    inr (record { world = told.world; answer = told.answer; rest = told.rest; next = told.next; follows = subst (λ (r : Told). Rest told.world r) (sym told.follows) (always told.world); whole = told.whole })
+
+-- a header after which a run ended is a header
+pub header_ended_also : (Rest : Told → Type 0) → Rest stopped → (t : Told) → OrStopped (IsHeaderTold IsStopped) t → OrStopped (IsHeaderTold Rest) t
+header_ended_also Rest always t (inl e) = inl e
+header_ended_also Rest always t (inr told) = inr (record { rest = told.rest; follows = subst Rest (sym told.follows) always; whole = told.whole })
 
 -- where no line is left
 pub told_none : (old : Option (List ℕ)) (h : HeaderView) (w : Lists) (n : ℕ) (bs : List ℕ) → length bs ≡ 0 → IsTold old old (AnswersFrom h w n (cut bs)) Done
@@ -137,3 +155,8 @@ header_told h line Rest t is (inr e) = inr (subst (λ (x : Result HeaderView Bad
 pub no_header_told : (c : BadCause) (line : Result HeaderView BadCause) (Rest : HeaderView → Told → Type 0) (t : Told) → line ≡ Err c → OrStopped (λ (told : Told). told ≡ bad_line 1 c) t → OrStopped (IsBegun line Rest) t
 no_header_told c line Rest t is (inl e) = inl e
 no_header_told c line Rest t is (inr e) = inr (subst (λ (x : Result HeaderView BadCause). IsBegun x Rest t) (sym is) e)
+
+-- where there is no line
+pub told_empty : (old new : Option (List ℕ)) (bs : List ℕ) (o : Outcome) → length bs ≡ 0 → IsTold old new (OrStopped (λ (told : Told). told ≡ bad_line 1 BadCause.Header)) o → IsTold old new (IsTraceOf (cut bs)) o
+told_empty old new [] o e t = t
+told_empty old new (b ∷ bs) o e t = absurd (omega arith)

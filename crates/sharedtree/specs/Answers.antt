@@ -1,11 +1,11 @@
 -- What is answered to an input, and what of it was written at each outcome.
-use Rattle.std.specs.Prelude.{◌≡◌, ℕ, ◌+◌, ◌==◌, nat_lt, nat_eq, Bool, true, false, count_by, length, take, if◌then◌else◌, List, [], ◌∷◌, ◌++◌, Option, Some, None, IfSome, Result, Ok, Err, codes, ◌⊎◌}
+use Rattle.std.specs.Prelude.{◌≡◌, ℕ, ◌+◌, ◌==◌, nat_lt, nat_eq, Bool, true, false, count_by, length, take, List, [], ◌∷◌, ◌++◌, Option, Some, IfSome, Result, Ok, Err, codes, ◌⊎◌}
 use Rattle.std.specs.Cmp.Lexicographic.{pointwise}
 use Rattle.st_io.specs.Bytes.{Grows}
 use Rattle.serde_json.specs.Data.{Data, number, unsigned, string, object, no_members, member}
 use Rattle.serde_json.specs.Written.{compact_text}
 use Rattle.st_json.specs.declared.fault.BadCause.{BadCause}
-use Rattle.st_json.specs.declared.fault.BadCause.TheVariants.{Json, Header, Shape}
+use Rattle.st_json.specs.declared.fault.BadCause.TheVariants.{Json, Header, Shape, NotNormal}
 use Rattle.st_script.specs.AnswerText.{answer_line}
 use Rattle.st_script.specs.Header.{HeaderView, header_line}
 use Rattle.st_script.specs.Line.{line_of}
@@ -33,6 +33,7 @@ abbrev pub cause_name : BadCause → List ℕ
 cause_name Json = codes "Json"
 cause_name Header = codes "Header"
 cause_name Shape = codes "Shape"
+cause_name NotNormal = codes "NotNormal"
 
 abbrev pub bad_data : ℕ → BadCause → Data
 bad_data n c = object (member (codes "bad") (string (cause_name c)) (member (codes "line") (number (unsigned n)) no_members))
@@ -102,9 +103,13 @@ abbrev pub IsTraceOf : List (List ℕ) → Told → Type 0
 IsTraceOf [] told = OrStopped (λ (t : Told). t ≡ bad_line 1 Header) told
 IsTraceOf (l ∷ ls) told = OrStopped (IsBegun (header_line (codes "trace") l) (λ h. AnswersFrom h begun 2 ls)) told
 
+abbrev pub AnswersBy : Bool → List ℕ → Told → Type 0
+AnswersBy true bytes told = told ≡ long_told (long_line bytes)
+AnswersBy false bytes told = IsTraceOf (cut bytes) told
+
 -- the command `trace` over an input, which is taken whole
 abbrev pub Answers : List ℕ → Told → Type 0
-Answers bytes = if nat_lt max_input (length bytes) then (λ (told : Told). told ≡ long_told (long_line bytes)) else IsTraceOf (cut bytes)
+Answers bytes = AnswersBy (nat_lt max_input (length bytes)) bytes
 
 -- ## What was written
 
@@ -125,6 +130,24 @@ IsTold old new Tells Done = IsToldAs old new Tells Done
 IsTold old new Tells Usage = IsToldAs old new Tells Usage
 IsTold old new Tells (BadLine n c) = IsToldAs old new Tells (BadLine n c)
 IsTold old new Tells (TooLong n) = IsToldAs old new Tells (TooLong n)
+
+-- ## One line
+
+-- a step was answered, and the world is now so
+pub record IsLineAnswered (h : HeaderView) (line : Result StepView BadCause) (w v : Lists) (old new : Option (List ℕ)) : Type 0 where
+  pub step : StepView
+  pub answer : Answer
+  pub is : line ≡ Ok step
+  pub next : IsNext h w step v answer
+  pub written : Grows old (answer_line answer) new
+
+-- nothing more is told
+abbrev pub IsStopped : Told → Type 0
+IsStopped told = told ≡ stopped
+
+-- a line at which a run ended
+abbrev pub EndsAtLine : HeaderView → ℕ → Result StepView BadCause → Lists → Told → Type 0
+EndsAtLine h n line w told = OrStopped (IsLineTold h n line w (λ v. IsStopped)) told
 
 -- the words are the one command
 abbrev pub is_trace : List (List ℕ) → Bool

@@ -1,5 +1,5 @@
 //! The answers to the lines of an input.
-ghost use Rattle.std.specs.Prelude.{◌≡◌, false, ◌+◌, ◌^◌, ◌<◌, ◌≤◌, ℕ, List, length, Option, Ok, Err, IfOk, IfErr, OnOk, codes};
+ghost use Rattle.std.specs.Prelude.{◌≡◌, false, ◌+◌, ◌^◌, ◌<◌, ◌≤◌, length, Ok, Err, IfOk, IfErr, OnOk, codes};
 ghost use Rattle.st_ids.specs.Or.{IfRefused};
 ghost use Rattle.st_io.specs.Bytes.{Grows};
 ghost use Rattle.st_io.specs.Faults.{Rose};
@@ -9,10 +9,8 @@ ghost use Rattle.st_script.specs.Header.{header_view, header_line};
 ghost use Rattle.st_script.specs.Line.{line_of};
 ghost use Rattle.st_trace.specs.Kept.{IsSound};
 ghost use Rattle.st_trace.specs.World.{begun};
-ghost use Rattle.st_trace.specs.declared.lists.Lists.{Lists as History};
 ghost use Rattle.sharedtree.specs.Lines.{cut};
-ghost use Rattle.sharedtree.specs.Answers.{Told, OrStopped, IsLineTold, IsHeaderTold, stopped, cause_name, bad_data, bad_line, AnswersFrom, IsTraceOf, IsTold};
-ghost use Rattle.sharedtree.specs.declared.outcome.Outcome.{Outcome as Ending};
+ghost use Rattle.sharedtree.specs.Answers.{OrStopped, IsHeaderTold, IsStopped, IsLineAnswered, EndsAtLine, cause_name, bad_data, bad_line, AnswersFrom, IsTraceOf, IsTold};
 
 use crate::lines::split_line;
 use crate::outcome::Outcome;
@@ -33,6 +31,7 @@ fn cause_word(cause: BadCause) -> &'static str
         BadCause::Json => "Json",
         BadCause::Header => "Header",
         BadCause::Shape => "Shape",
+        BadCause::NotNormal => "NotNormal",
     }
 }
 
@@ -75,11 +74,8 @@ fn take_line<K: Sink>(
 ) -> Result<(), Outcome>
     requires sound { (world.old.spent ≡ false) × IsSound world.old }
     requires few { world.old.steps + 1 < 2 ^ 32 }
-    ensures ok { OnOk result ((rest : History → Told → Type 0) (after : Option (List ℕ)) (o : Ending)
-        → IsTold (K.written sink.new) after (rest world.new.lists) o
-        → IsTold (K.written sink.old) after (OrStopped (IsLineTold (header_view world.old.header) number (line_of line.now) world.old.lists rest)) o) }
-    ensures ended { IfErr result (λ o. (rest : History → Told → Type 0) → ((w : History) → rest w stopped)
-        → IsTold (K.written sink.old) (K.written sink.new) (OrStopped (IsLineTold (header_view world.old.header) number (line_of line.now) world.old.lists rest)) o) }
+    ensures ok { OnOk result (IsLineAnswered (header_view world.old.header) (line_of line.now) world.old.lists world.new.lists (K.written sink.old) (K.written sink.new)) }
+    ensures ended { IfErr result (IsTold (K.written sink.old) (K.written sink.new) (EndsAtLine (header_view world.old.header) number (line_of line.now) world.old.lists)) }
     ensures fault { result ≡ Err Outcome.WriteFault → Rose (K.faults sink.old) (K.faults sink.new) }
     ensures later { K.faults sink.old ≤ K.faults sink.new }
     ensures sound { OnOk result ((world.new.spent ≡ false) × IsSound world.new) }
@@ -91,7 +87,7 @@ fn take_line<K: Sink>(
         Ok(Line::Bad(cause)) => return Err(refuse(alloc, number, cause, sink)),
         Err(_) => return Err(Outcome::NoMemory),
     };
-    let Ok(answer) = world.step(alloc, step) else {
+    let Ok(answer) = world.step(alloc, &step) else {
         return Err(Outcome::NoMemory);
     };
     let Ok(text) = answer_line(alloc, &answer) else {
@@ -142,8 +138,7 @@ fn read_header(alloc: Global, line: &[u8]) -> Result<World, Or<BadCause>>
 // Answers a header.
 fn send_header<K: Sink>(alloc: Global, sink: &mut K) -> Result<(), Outcome>
     ensures ok { OnOk result (Grows (K.written sink.old) (answer_line Answer.Header) (K.written sink.new)) }
-    ensures ended { IfErr result (λ o. (rest : Told → Type 0) → rest stopped
-        → IsTold (K.written sink.old) (K.written sink.new) (OrStopped (IsHeaderTold rest)) o) }
+    ensures ended { IfErr result (IsTold (K.written sink.old) (K.written sink.new) (OrStopped (IsHeaderTold IsStopped))) }
     ensures fault { result ≡ Err Outcome.WriteFault → Rose (K.faults sink.old) (K.faults sink.new) }
     ensures later { K.faults sink.old ≤ K.faults sink.new }
 {

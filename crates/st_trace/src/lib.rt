@@ -1,11 +1,9 @@
-//! The world of a trace: the log, the clients and what each of them shows.
+//! Stub.
 #![tactic(auto)]
 
 mod client;
 mod kept;
 mod lists;
-mod log;
-mod names;
 mod world;
 
 pub use client::Done;
