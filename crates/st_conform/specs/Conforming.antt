@@ -1,0 +1,63 @@
+-- When a document keeps to a schema. It is asked of all its nodes, live or not, since a node that was removed may come back.
+use Rattle.std.specs.Prelude.{◌≡◌, ℕ, Bool, true, false, List, [], Option, Some, None, IsSome, is_some}
+use Rattle.std.specs.Option.{option_map_or}
+use Rattle.st_ids.specs.declared.names.FieldId.{FieldId}
+use Rattle.st_ids.specs.declared.names.Key.{Key}
+use Rattle.st_ids.specs.declared.names.Leaf.{Leaf}
+use Rattle.st_ids.specs.declared.names.NodeId.{NodeId}
+use Rattle.st_schema.specs.Schema.{SchemaView, same, form_of, is_single_kind}
+use Rattle.st_schema.specs.Conforms.{leaf_type, is_required}
+use Rattle.st_schema.specs.declared.names.FieldRule.{FieldRule}
+use Rattle.st_schema.specs.declared.names.KindName.{KindName}
+use Rattle.st_marks.specs.declared.places.Spot.{Spot}
+use Rattle.st_marks.specs.Document.{Document, NodeType, root}
+use Rattle.st_resolve.specs.Paths.{field_at}
+use Rattle.st_resolve.specs.Resolve.{is_row, rule_at, has_type}
+
+-- a leaf has the type of its value, and any other node a type that the schema defines
+abbrev pub type_fits : SchemaView → List ℕ → Option Leaf → Bool
+type_fits s ty None = is_some (form_of s.types ty)
+type_fits s ty (Some v) = same ty (leaf_type v)
+
+-- a row has the empty key
+abbrev pub row_key : Key
+row_key = record { 0 = [] }
+
+-- Some nodes are *fixed*: those that were made into a required field. No commit moves or removes one, so `fixed` is told
+-- by names alone, and is the same for all documents.
+
+-- a field of a node, which the schema has and which is of one of these kinds, admits the node m: m has one of the types of
+-- the field, and is fixed exactly where the field is required
+pub record Admits (s : SchemaView) (fixed : NodeId → Bool) (D : Document) (kinds : KindName → Bool) (n : NodeId) (key : Key) (m : NodeId) : Type 0 where
+  pub rule : FieldRule
+  pub ruled : rule_at D s n key ≡ Some rule
+  pub kind : kinds rule.kind ≡ true
+  pub typed : has_type D rule.types m ≡ true
+  pub made : fixed m ≡ is_required rule.kind
+
+-- the field in which a place is admits the node
+abbrev pub MayStand : SchemaView → (NodeId → Bool) → Document → NodeId → Spot → Type 0
+MayStand s fixed D m Spot.Nowhere = Unit {0}
+MayStand s fixed D m (Spot.Row n c) = Admits s fixed D is_row n row_key m
+MayStand s fixed D m (Spot.Register f) = Admits s fixed D is_single_kind f.node f.key m
+
+-- a document that keeps to the schema
+pub record IsConforming (s : SchemaView) (fixed : NodeId → Bool) (D : Document) : Type 0 where
+  -- each node has a type as it should
+  pub types : (n : NodeId) (t : NodeType) → D.nodes n ≡ Some t → type_fits s t.ty t.leaf ≡ true
+  -- and may stand where it stands
+  pub places : (m : NodeId) → MayStand s fixed D m (D.place m)
+  -- each required field is filled
+  pub filled : (n : NodeId) (key : Key) (rule : FieldRule) → rule_at D s n key ≡ Some rule → is_required rule.kind ≡ true → IsSome (D.held (field_at n key))
+  -- the root has one of the root's types
+  pub root_type : has_type D s.root root ≡ true
+
+-- whether a field is required
+abbrev pub is_required_field : SchemaView → Document → FieldId → Bool
+is_required_field s D f = option_map_or (λ (rule : FieldRule). is_required rule.kind) (rule_at D s f.node f.key) false
+
+-- whether a place is a required field
+abbrev pub is_required_at : SchemaView → Document → Spot → Bool
+is_required_at s D Spot.Nowhere = false
+is_required_at s D (Spot.Row n c) = false
+is_required_at s D (Spot.Register f) = is_required_field s D f
