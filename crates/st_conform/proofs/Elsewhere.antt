@@ -1,7 +1,8 @@
 -- An intent that agrees with the schema in one document agrees with it in each other one that has the same old names.
-use Rattle.std.proofs.Common.{◌≡◌, Bool, true, Option, Some, None, IsSome, is_some, refl, sym, ap, ◌∙◌, option_and_then}
+use Rattle.std.proofs.Common.{◌≡◌, true, Option, Some, None, IsSome, is_some, refl, sym, ap, ◌∙◌, option_and_then}
 use Rattle.std.specs.Option.{option_or}
 use Rattle.st_ids.specs.declared.names.CellId.{CellId}
+use Rattle.st_ids.specs.declared.names.FieldId.{FieldId}
 use Rattle.st_ids.specs.declared.names.Key.{Key}
 use Rattle.st_ids.specs.declared.names.NodeId.{NodeId}
 use Rattle.st_schema.specs.Schema.{SchemaView, field_of, is_single_kind}
@@ -13,10 +14,10 @@ use Rattle.st_marks.specs.Intent.{new_type, is_new, new_row_of}
 use Rattle.st_marks.specs.CarryOut.{with_names}
 use Rattle.st_resolve.specs.Resolve.{is_row, rule_at}
 use Rattle.st_conform.specs.Conforming.{row_key}
-use Rattle.st_conform.specs.Agreeing.{Agrees, MayGo}
-use Rattle.st_conform.proofs.Kept.{HasNodes, rule_later, admits_later}
+use Rattle.st_conform.specs.Agreeing.{Agrees, MayGo, MayBeLeft}
+use Rattle.st_conform.proofs.Kept.{HasNodes, admits_later, required_later, known_later}
 
-module _ (s : SchemaView) (fixed : NodeId → Bool) (D E : Document) (N : Intent) (a : Agrees s fixed D N) (nodes : HasNodes D E) (cells : (c : CellId) (n : NodeId) → D.row_of c ≡ Some n → E.row_of c ≡ Some n)
+module _ (s : SchemaView) (home : NodeId → Option FieldId) (D E : Document) (N : Intent) (a : Agrees s home D N) (nodes : HasNodes D E) (cells : (c : CellId) (n : NodeId) → D.row_of c ≡ Some n → E.row_of c ≡ Some n)
     (fresh_nodes : (n : NodeId) → is_new N n ≡ true → E.nodes n ≡ None) (fresh_cells : (c : CellId) → IsSome (new_row_of N c) → E.row_of c ≡ None) where
   names : HasNodes (with_names D N) (with_names E N)
   names n t e = go (D.nodes n) refl e
@@ -43,17 +44,22 @@ module _ (s : SchemaView) (fixed : NodeId → Bool) (D E : Document) (N : Intent
       go None q = rw q there
       go (Some t) q = let bad : Some t ≡ None = sym (nodes n t q) ∙ fresh_nodes n new in cc
 
-  may_go : (m : NodeId) (to : To) → MayGo s fixed D N m to → MayGo s fixed E N m to
+  may_go : (m : NodeId) (to : To) → MayGo s home D N m to → MayGo s home E N m to
   may_go m To.Nowhere h = tt
-  may_go m (To.Cell c) h = (h.0, rows c h.0 h.1, admits_later s (with_names D N) (with_names E N) names fixed is_row h.0 row_key m h.2)
-  may_go m (To.Register f) h = admits_later s (with_names D N) (with_names E N) names fixed is_single_kind f.node f.key m h
+  may_go m (To.Cell c) h = (h.0, rows c h.0 h.1, admits_later s (with_names D N) (with_names E N) names home is_row h.0 row_key m h.2)
+  may_go m (To.Register f) h = admits_later s (with_names D N) (with_names E N) names home is_single_kind f.node f.key m h
 
-  pub agrees_there : Agrees s fixed E N
+  may_be_left : (f : FieldId) → MayBeLeft s D N f → MayBeLeft s E N f
+  may_be_left f may = record {
+    known = known_later s (with_names D N) (with_names E N) names f.node may.known;
+    filled = λ required. may.filled (sym (required_later s (with_names D N) (with_names E N) names f may.known) ∙ required);
+  }
+
+  pub agrees_there : Agrees s home E N
   agrees_there = record {
     types = a.types;
     puts = λ m to e. may_go m to (a.puts m to e);
-    old_free = a.old_free;
-    clears = λ f e. (let may = a.clears f e in
-        record { rule = may.rule; ruled = rule_later s (with_names D N) (with_names E N) names f.node f.key may.rule may.ruled; filled = may.filled });
+    leaves = λ m f put old lives. may_be_left f (a.leaves m f put old lives);
+    clears = λ f e. may_be_left f (a.clears f e);
     filled = λ n key rule new ruled required. a.filled n key rule new (back n key rule new ruled) required;
   }

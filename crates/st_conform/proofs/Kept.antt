@@ -1,5 +1,5 @@
 -- An intent that agrees with the schema leaves a conforming document, carried out whole or void.
-use Rattle.std.proofs.Common.{◌≡◌, Bool, true, false, List, Option, Some, None, IsSome, is_some, cond, ◌&&◌, refl, sym, ap, ◌∙◌, subst, option_and_then}
+use Rattle.std.proofs.Common.{◌≡◌, Bool, true, false, List, Option, Some, None, IsSome, is_some, cond, ◌&&◌, refl, sym, ap, ◌∙◌, subst, inl, inr, option_and_then}
 use Rattle.std.specs.Option.{option_or, option_map_or}
 use Rattle.st_ids.specs.declared.names.FieldId.{FieldId}
 use Rattle.st_ids.specs.declared.names.Key.{Key}
@@ -16,11 +16,10 @@ use Rattle.st_marks.specs.Document.{Document, NodeType, IsSoundInForm, root}
 use Rattle.st_marks.specs.Intent.{Fits, new_type, is_new, put_of, put_in, clears}
 use Rattle.st_marks.specs.CarryOut.{with_names, full, void, void_data, spot_of, place_after, unless_cleared, unless_put, is_put_in_new, only_new}
 use Rattle.st_marks.specs.Verdict.{carried}
-use Rattle.st_marks.proofs.Lookups.{put_in-has, has-put}
 use Rattle.st_marks.proofs.Members.{true-false}
 use Rattle.st_resolve.specs.Paths.{field_at}
 use Rattle.st_resolve.specs.Resolve.{is_row, rule_at, has_type}
-use Rattle.st_conform.specs.Conforming.{Admits, MayStand, IsConforming, row_key, type_fits}
+use Rattle.st_conform.specs.Conforming.{Admits, MayStand, IsConforming, IsFree, row_key, type_fits, is_required_field}
 use Rattle.st_conform.specs.Agreeing.{Agrees, MayGo}
 
 -- ## What is said of nodes stays said where they are the same
@@ -44,17 +43,36 @@ module _ (s : SchemaView) (D E : Document) (same : HasNodes D E) where
       go None q f = cc
       go (Some t) q f = rw (same m t q) f
 
-  module _ (fixed : NodeId → Bool) where
-    pub admits_later : (kinds : KindName → Bool) (n : NodeId) (key : Key) (m : NodeId) → Admits s fixed D kinds n key m → Admits s fixed E kinds n key m
+  -- whether a field of a known node is required
+  pub required_later : (f : FieldId) → IsSome (D.nodes f.node) → is_required_field s E f ≡ is_required_field s D f
+  required_later f known = go (D.nodes f.node) refl known
+    where
+      go : (o : Option NodeType) → D.nodes f.node ≡ o → IsSome o → is_required_field s E f ≡ is_required_field s D f
+      go None q h = absurd (cc)
+      go (Some t) q h = rw (q, same f.node t q) refl
+
+  pub known_later : (n : NodeId) → IsSome (D.nodes n) → IsSome (E.nodes n)
+  known_later n h = go (D.nodes n) refl h
+    where
+      go : (o : Option NodeType) → D.nodes n ≡ o → IsSome o → IsSome (E.nodes n)
+      go None q h = absurd (cc)
+      go (Some t) q h = ap is_some (same n t q)
+
+  pub free_later : (f : FieldId) → IsFree s D f → IsFree s E f
+  free_later f free = record { known = known_later f.node free.known; open_field = required_later f free.known ∙ free.open_field }
+
+  module _ (home : NodeId → Option FieldId) where
+    pub admits_later : (kinds : KindName → Bool) (n : NodeId) (key : Key) (m : NodeId) → Admits s home D kinds n key m → Admits s home E kinds n key m
     admits_later kinds n key m a = record {
       rule = a.rule;
       ruled = rule_later n key a.rule a.ruled;
       kind = a.kind;
       typed = type_later a.rule.types m a.typed;
-      made = a.made;
+      at_home = a.at_home;
+      away = λ f e. elim (a.away f e) [ inl q ↦ inl q | inr free ↦ inr (free_later f free) ];
     }
 
-    pub stands_later : (m : NodeId) (spot : Spot) → MayStand s fixed D m spot → MayStand s fixed E m spot
+    pub stands_later : (m : NodeId) (spot : Spot) → MayStand s home D m spot → MayStand s home E m spot
     stands_later m Spot.Nowhere h = tt
     stands_later m (Spot.Row n c) h = admits_later is_row n row_key m h
     stands_later m (Spot.Register f) h = admits_later is_single_kind f.node f.key m h
@@ -67,9 +85,13 @@ named_later D N n t e = rw e refl
 pub one_rule : (D : Document) (s : SchemaView) (n : NodeId) (key : Key) (a b : FieldRule) → rule_at D s n key ≡ Some a → rule_at D s n key ≡ Some b → a ≡ b
 one_rule D s n key a b e f = let q : Some a ≡ Some b = sym e ∙ f in cc
 
+-- a field with such a rule is required
+pub required_by : (D : Document) (s : SchemaView) (n : NodeId) (key : Key) (rule : FieldRule) → rule_at D s n key ≡ Some rule → is_required rule.kind ≡ true → is_required_field s D (field_at n key) ≡ true
+required_by D s n key rule e required = ap (λ o. option_map_or (λ (rule : FieldRule). is_required rule.kind) o false) e ∙ required
+
 -- ## Carried out
 
-module _ (s : SchemaView) (fixed : NodeId → Bool) (D : Document) (N : Intent) (sound : IsSoundInForm D) (fits : Fits D N) (here : IsConforming s fixed D) (agrees : Agrees s fixed D N) where
+module _ (s : SchemaView) (home : NodeId → Option FieldId) (D : Document) (N : Intent) (sound : IsSoundInForm D) (fits : Fits D N) (here : IsConforming s home D) (agrees : Agrees s home D N) where
   types_after : (n : NodeId) (t : NodeType) → (with_names D N).nodes n ≡ Some t → type_fits s t.ty t.leaf ≡ true
   types_after n t e = go (D.nodes n) refl e
     where
@@ -85,43 +107,26 @@ module _ (s : SchemaView) (fixed : NodeId → Bool) (D : Document) (N : Intent) 
       go true e = absurd (true-false h (ap is_some (fits.fresh_nodes n e)))
       go false e = e
 
-  -- a node that is put into a required field is new
-  put_new : (m : NodeId) (f : FieldId) (rule : FieldRule) → put_in N f ≡ Some m → rule_at (with_names D N) s f.node f.key ≡ Some rule → is_required rule.kind ≡ true → is_new N m ≡ true
-  put_new m f rule e ruled required = go (is_new N m) refl
-    where
-      put : put_of N m ≡ Some (To.Register f)
-      put = has-put N fits.itself (record { node = m; to = To.Register f }) (put_in-has N f m e)
-
-      may : Admits s fixed (with_names D N) is_single_kind f.node f.key m
-      may = agrees.puts m (To.Register f) put
-
-      fix : fixed m ≡ true
-      fix = may.made ∙ ap (λ (r : FieldRule). is_required r.kind) (one_rule (with_names D N) s f.node f.key may.rule rule may.ruled ruled) ∙ required
-
-      go : (b : Bool) → is_new N m ≡ b → is_new N m ≡ true
-      go true q = q
-      go false q = absurd (true-false fix (agrees.old_free m (ap is_some put) q))
-
   -- in a document with the new names
   module _ (E : Document) (same : HasNodes (with_names D N) E) where
-    stays : (m : NodeId) (spot : Spot) → MayStand s fixed D m spot → MayStand s fixed E m spot
-    stays m spot h = stands_later s (with_names D N) E same fixed m spot (stands_later s D (with_names D N) (named_later D N) fixed m spot h)
+    stays : (m : NodeId) (spot : Spot) → MayStand s home D m spot → MayStand s home E m spot
+    stays m spot h = stands_later s (with_names D N) E same home m spot (stands_later s D (with_names D N) (named_later D N) home m spot h)
 
-    unless : (m : NodeId) (spot : Spot) → MayStand s fixed D m spot → MayStand s fixed E m (unless_cleared N spot)
+    unless : (m : NodeId) (spot : Spot) → MayStand s home D m spot → MayStand s home E m (unless_cleared N spot)
     unless m Spot.Nowhere h = tt
     unless m (Spot.Row n c) h = stays m (Spot.Row n c) h
-    unless m (Spot.Register f) h = elim (clears N f) as (λ b. MayStand s fixed E m (cond b Spot.Nowhere (Spot.Register f))) [ true ↦ tt | false ↦ stays m (Spot.Register f) h ]
+    unless m (Spot.Register f) h = elim (clears N f) as (λ b. MayStand s home E m (cond b Spot.Nowhere (Spot.Register f))) [ true ↦ tt | false ↦ stays m (Spot.Register f) h ]
 
-    went : (m : NodeId) (to : To) → MayGo s fixed D N m to → MayStand s fixed E m (spot_of (with_names D N).row_of to)
+    went : (m : NodeId) (to : To) → MayGo s home D N m to → MayStand s home E m (spot_of (with_names D N).row_of to)
     went m To.Nowhere h = tt
     went m (To.Cell c) h =
-        subst (λ o. MayStand s fixed E m (option_map_or (λ n. Spot.Row n c) o Spot.Nowhere)) (sym h.1) (stands_later s (with_names D N) E same fixed m (Spot.Row h.0 c) h.2)
-    went m (To.Register f) h = stands_later s (with_names D N) E same fixed m (Spot.Register f) h
+        subst (λ o. MayStand s home E m (option_map_or (λ n. Spot.Row n c) o Spot.Nowhere)) (sym h.1) (stands_later s (with_names D N) E same home m (Spot.Row h.0 c) h.2)
+    went m (To.Register f) h = stands_later s (with_names D N) E same home m (Spot.Register f) h
 
-    place_later : (m : NodeId) → MayStand s fixed E m (place_after (with_names D N).row_of N (put_of N m) (D.place m))
+    place_later : (m : NodeId) → MayStand s home E m (place_after (with_names D N).row_of N (put_of N m) (D.place m))
     place_later m = go (put_of N m) refl
       where
-        go : (o : Option To) → put_of N m ≡ o → MayStand s fixed E m (place_after (with_names D N).row_of N o (D.place m))
+        go : (o : Option To) → put_of N m ≡ o → MayStand s home E m (place_after (with_names D N).row_of N o (D.place m))
         go None e = unless m (D.place m) (here.places m)
         go (Some to) e = went m to (agrees.puts m to e)
 
@@ -139,40 +144,42 @@ module _ (s : SchemaView) (fixed : NodeId → Bool) (D : Document) (N : Intent) 
 
   -- ## Whole
 
-  -- the occupant of a required field stays
-  occupant_stays : (n : NodeId) (key : Key) (rule : FieldRule) → rule_at D s n key ≡ Some rule → is_required rule.kind ≡ true → IsSome (unless_put N (D.held (field_at n key)))
-  occupant_stays n key rule ruled required = go (D.held (field_at n key)) refl (here.filled n key rule ruled required)
+  -- the occupant of a required field stays, unless the field is filled
+  occupant_stays : (n : NodeId) (key : Key) (rule : FieldRule) → put_in N (field_at n key) ≡ None → rule_at D s n key ≡ Some rule → is_required rule.kind ≡ true → IsSome (unless_put N (D.held (field_at n key)))
+  occupant_stays n key rule none ruled required = go (D.held (field_at n key)) refl (here.filled n key rule ruled required)
     where
       go : (o : Option NodeId) → D.held (field_at n key) ≡ o → IsSome o → IsSome (unless_put N o)
       go None e h = cc
       go (Some m) e h = put (put_of N m) refl
         where
-          may : Admits s fixed D is_single_kind n key m
-          may = subst (MayStand s fixed D m) ((sound.one_held m (field_at n key)).0 e) (here.places m)
+          may : Admits s home D is_single_kind n key m
+          may = subst (MayStand s home D m) ((sound.one_held m (field_at n key)).0 e) (here.places m)
 
-          fix : fixed m ≡ true
-          fix = may.made ∙ ap (λ (r : FieldRule). is_required r.kind) (one_rule D s n key may.rule rule may.ruled ruled) ∙ required
+          lives : home m ≡ Some (field_at n key)
+          lives = may.at_home (ap (λ (r : FieldRule). is_required r.kind) (one_rule D s n key may.rule rule may.ruled ruled) ∙ required)
+
+          here_required : is_required_field s (with_names D N) (field_at n key) ≡ true
+          here_required = required_by (with_names D N) s n key rule (rule_later s D (with_names D N) (named_later D N) n key rule ruled) required
 
           put : (o : Option To) → put_of N m ≡ o → IsSome (cond (is_some o) None (Some m))
           put None q = refl
-          put (Some to) q = absurd (true-false fix (agrees.old_free m (ap is_some q) (old_not_new m (sound.held_known m (field_at n key) e).0)))
+          put (Some to) q =
+              let left = agrees.leaves m (field_at n key) (ap is_some q) (old_not_new m (sound.held_known m (field_at n key) e).0) lives in
+              absurd (true-false (left.filled here_required) (ap is_some none))
 
   full_filled : (n : NodeId) (key : Key) (rule : FieldRule) → rule_at (full D N) s n key ≡ Some rule → is_required rule.kind ≡ true → IsSome ((full D N).held (field_at n key))
   full_filled n key rule ruled required = go (put_in N (field_at n key)) refl
     where
       kept : put_in N (field_at n key) ≡ None → (b : Bool) → clears N (field_at n key) ≡ b → (c : Bool) → is_new N n ≡ c → IsSome (cond b None (unless_put N (D.held (field_at n key))))
-      kept none true e c q =
-          let may = agrees.clears (field_at n key) e in
-          let same : may.rule ≡ rule = one_rule (with_names D N) s n key may.rule rule may.ruled ruled in
-          absurd (true-false (may.filled (ap (λ (r : FieldRule). is_required r.kind) same ∙ required)) (ap is_some none))
-      kept none false e true q = absurd (true-false (agrees.filled n key rule q ruled required) (ap is_some none))
-      kept none false e false q = occupant_stays n key rule (ruled_old n key rule q ruled) required
+      kept none true e c q = absurd (true-false ((agrees.clears (field_at n key) e).filled (required_by (with_names D N) s n key rule ruled required)) (ap is_some none))
+      kept none false e true q = absurd (true-false (ap is_some (agrees.filled n key rule q ruled required).1) (ap is_some none))
+      kept none false e false q = occupant_stays n key rule none (ruled_old n key rule q ruled) required
 
       go : (o : Option NodeId) → put_in N (field_at n key) ≡ o → IsSome (option_or o (cond (clears N (field_at n key)) None (unless_put N (D.held (field_at n key)))))
       go (Some m) e = refl
       go None e = kept e (clears N (field_at n key)) refl (is_new N n) refl
 
-  pub full_conforms : IsConforming s fixed (full D N)
+  pub full_conforms : IsConforming s home (full D N)
   full_conforms = record {
     types = types_after;
     places = place_later (full D N) (λ n t e. e);
@@ -182,8 +189,8 @@ module _ (s : SchemaView) (fixed : NodeId → Bool) (D : Document) (N : Intent) 
 
   -- ## Void
 
-  void_place : (m : NodeId) → MayStand s fixed (void_data D N) m ((void_data D N).place m)
-  void_place m = elim (is_new N m && is_put_in_new D N m) as (λ b. MayStand s fixed (void_data D N) m (cond b (place_after (with_names D N).row_of N (put_of N m) (D.place m)) (D.place m))) [
+  void_place : (m : NodeId) → MayStand s home (void_data D N) m ((void_data D N).place m)
+  void_place m = elim (is_new N m && is_put_in_new D N m) as (λ b. MayStand s home (void_data D N) m (cond b (place_after (with_names D N).row_of N (put_of N m) (D.place m)) (D.place m))) [
     | true ↦ place_later (void_data D N) (λ n t e. e) m
     | false ↦ stays (void_data D N) (λ n t e. e) m (D.place m) (here.places m)
   ]
@@ -191,15 +198,14 @@ module _ (s : SchemaView) (fixed : NodeId → Bool) (D : Document) (N : Intent) 
   void_filled : (n : NodeId) (key : Key) (rule : FieldRule) → rule_at (void_data D N) s n key ≡ Some rule → is_required rule.kind ≡ true → IsSome ((void_data D N).held (field_at n key))
   void_filled n key rule ruled required = go (is_new N n) refl
     where
-      new : (o : Option NodeId) → put_in N (field_at n key) ≡ o → IsSome o → IsSome (only_new N o)
-      new None e h = cc
-      new (Some m) e h = rw (put_new m (field_at n key) rule e ruled required) refl
+      new : is_new N n ≡ true → IsSome (only_new N (put_in N (field_at n key)))
+      new q = let m = agrees.filled n key rule q ruled required in rw (m.1, m.2) refl
 
       go : (b : Bool) → is_new N n ≡ b → IsSome (cond b (only_new N (put_in N (field_at n key))) (D.held (field_at n key)))
-      go true q = new (put_in N (field_at n key)) refl (agrees.filled n key rule q ruled required)
+      go true q = new q
       go false q = here.filled n key rule (ruled_old n key rule q ruled) required
 
-  void_data_conforms : IsConforming s fixed (void_data D N)
+  void_data_conforms : IsConforming s home (void_data D N)
   void_data_conforms = record {
     types = types_after;
     places = void_place;
@@ -207,10 +213,10 @@ module _ (s : SchemaView) (fixed : NodeId → Bool) (D : Document) (N : Intent) 
     root_type = root_later (void_data D N) (λ n t e. e);
   }
 
-  pub void_conforms : IsConforming s fixed (void D N)
-  void_conforms = elim N.schema as (λ o. IsConforming s fixed (option_map_or (λ _. D) o (void_data D N))) [ None ↦ void_data_conforms | Some t ↦ here ]
+  pub void_conforms : IsConforming s home (void D N)
+  void_conforms = elim N.schema as (λ o. IsConforming s home (option_map_or (λ _. D) o (void_data D N))) [ None ↦ void_data_conforms | Some t ↦ here ]
 
-  pub carried_conforms : (v : Verdict) → IsConforming s fixed (carried v D N)
+  pub carried_conforms : (v : Verdict) → IsConforming s home (carried v D N)
   carried_conforms Verdict.Sound = full_conforms
   carried_conforms (Verdict.Need n) = void_conforms
   carried_conforms (Verdict.Cycle n) = void_conforms

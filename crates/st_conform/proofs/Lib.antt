@@ -8,3 +8,4 @@ pub mod Opened
 pub mod ShownTree
 pub mod Resolved
 pub mod Runs
+pub mod Homes

@@ -1,5 +1,5 @@
 -- What new trees mean agrees with the schema, where it allows them.
-use Rattle.std.proofs.Common.{◌≡◌, ℕ, ◌+◌, nat_le, Bool, true, false, not, cond, ◌&&◌, List, [], ◌∷◌, Option, Some, None, IsSome, is_some, option_map, option_and_then, Ok, refl, sym, ap, ◌∙◌, subst, inl, inr}
+use Rattle.std.proofs.Common.{◌≡◌, ℕ, ◌+◌, nat_le, Bool, true, false, not, cond, ◌&&◌, List, [], ◌∷◌, Option, Some, None, is_some, option_map, option_and_then, Ok, refl, sym, ap, ◌∙◌, subst, inl, inr}
 use Rattle.std.specs.List.{find, list_all, position_from}
 use Rattle.std.specs.Option.{option_map_or}
 use Rattle.std.proofs.lemmas.List.Folds.{list_all-append}
@@ -28,7 +28,7 @@ use Rattle.st_marks.specs.declared.intents.Owned.{Owned}
 use Rattle.st_marks.specs.declared.intents.Put.{Put}
 use Rattle.st_marks.specs.declared.intents.To.{To}
 use Rattle.st_marks.specs.Document.{Document, NodeType, IsSoundInForm, owned}
-use Rattle.st_marks.specs.Intent.{Fits, new_node, new_type, is_new, new_row_of, put_of, put_in, clears}
+use Rattle.st_marks.specs.Intent.{Fits, register_of, new_node, new_type, is_new, new_row_of, put_of, put_in, clears}
 use Rattle.st_marks.specs.CarryOut.{with_names}
 use Rattle.st_marks.proofs.Lookups.{both_true, put-has, has-put, has-put_in, clears-has, new_row_of-group}
 use Rattle.st_marks.proofs.Members.{true-false, first-has, first-distinct, has-map, map-has, has-filter_map}
@@ -42,11 +42,11 @@ use Rattle.st_resolve.proofs.MoveFits.{CellsFresh}
 use Rattle.st_resolve.proofs.NewFits.{NodesFresh, insert_fits, put_fits}
 use Rattle.st_resolve.proofs.Numbered.{filter-from, IsArray, IsUnderArray, tops_rows}
 use Rattle.st_conform.specs.Conforming.{row_key, type_fits}
-use Rattle.st_conform.specs.Agreeing.{Agrees, MayGo, MayClear, FixesItsOwn, is_required_to}
+use Rattle.st_conform.specs.Agreeing.{Agrees, MayGo, MayBeLeft, TellsHomes}
 use Rattle.st_conform.proofs.Kept.{rule_later, named_later}
 use Rattle.st_conform.proofs.Rules.{required_not_row, row_of_array}
 use Rattle.st_conform.proofs.Listed.{HasField, IsPlaced, IsAllowedItem, tops_allowed}
-use Rattle.st_conform.proofs.Simple.{some_of, rule_found, key_is, none_is}
+use Rattle.st_conform.proofs.Simple.{some_of, rule_there, rule_found, key_is, none_is}
 
 -- ## An intent with new nodes of a list
 
@@ -59,8 +59,15 @@ type_of n = record { ty = n.ty; leaf = n.leaf }
 abbrev put_at : Option FieldId → FlatNode → Put
 put_at into x = record { node = x.node; to = to_at into x.at }
 
+module _ (home : NodeId → Option FieldId) where
+  pub no_home : (n : NodeId) (f : FieldId) → home n ≡ None → home n ≡ Some f → ⊥
+  no_home n f p q = let bad : None ≡ Some f = sym p ∙ q in cc
+
+  pub one_home : (n : NodeId) (f g : FieldId) → home n ≡ Some f → home n ≡ Some g → g ≡ f
+  one_home n f g p q = let same : Some f ≡ Some g = sym p ∙ q in cc
+
 -- what is needed of an intent that makes and puts the nodes of a list
-pub record MakesListed (s : SchemaView) (fixed : NodeId → Bool) (D : Document) (N : Intent) (types : List (List ℕ)) (into : Option FieldId) (xs : List FlatNode) : Type 0 where
+pub record MakesListed (s : SchemaView) (home : NodeId → Option FieldId) (D : Document) (N : Intent) (types : List (List ℕ)) (into : Option FieldId) (xs : List FlatNode) : Type 0 where
   pub fits : Fits D N
   pub new : N.new ≡ new_nodes xs
   pub put : N.put ≡ puts into xs
@@ -68,12 +75,12 @@ pub record MakesListed (s : SchemaView) (fixed : NodeId → Bool) (D : Document)
   pub rows : (x : FlatNode) (r : NodeId) (c : CellId) → Has xs x → x.at ≡ FlatAt.Row r c → new_row_of N c ≡ Some r
   -- a top item, whose type is one of those of top items, may go where it is put
   pub tops : (x : FlatNode) (c : CellId) → Has xs x → x.at ≡ FlatAt.Top c → has_type (with_names D N) types x.node ≡ true
-      → fixed x.node ≡ is_required_to s (with_names D N) (Some (top_to into c)) → MayGo s fixed D N x.node (top_to into c)
+      → home x.node ≡ register_of (top_to into c) → MayGo s home D N x.node (top_to into c)
   -- what is cleared is filled
   pub cleared : (f : FieldId) → clears N f ≡ true → (x : FlatNode) × Has xs x × (to_at into x.at ≡ To.Register f)
-  pub own : FixesItsOwn s fixed D N
+  pub own : TellsHomes home N
 
-module _ (s : SchemaView) (fixed : NodeId → Bool) (D : Document) (N : Intent) (types : List (List ℕ)) (into : Option FieldId) (xs : List FlatNode) (w : MakesListed s fixed D N types into xs) where
+module _ (s : SchemaView) (home : NodeId → Option FieldId) (D : Document) (N : Intent) (types : List (List ℕ)) (into : Option FieldId) (xs : List FlatNode) (w : MakesListed s home D N types into xs) where
   has_new : (x : FlatNode) → Has xs x → Has N.new (new_of x)
   has_new x h = subst (λ l. Has l (new_of x)) (sym w.new) (map-has new_of xs x h)
 
@@ -104,8 +111,8 @@ module _ (s : SchemaView) (fixed : NodeId → Bool) (D : Document) (N : Intent) 
   put_from : (m : NodeId) (to : To) → put_of N m ≡ Some to → (x : FlatNode) × Has xs x × (put_at into x ≡ record { node = m; to = to })
   put_from m to e = has-map (put_at into) xs (record { node = m; to = to }) (subst (λ l. Has l (record { node = m; to = to })) w.put (put-has N m to e))
 
-  fixes : (x : FlatNode) → Has xs x → fixed x.node ≡ is_required_to s (with_names D N) (Some (to_at into x.at))
-  fixes x h = w.own x.node (node_new x h) ∙ ap (is_required_to s (with_names D N)) (put_is x h)
+  home_is : (x : FlatNode) → Has xs x → home x.node ≡ register_of (to_at into x.at)
+  home_is x h = w.own x.node (node_new x h) ∙ ap (option_and_then register_of) (put_is x h)
 
   -- the rule of a listed owner's field
   rule_is : (kinds : KindName → Bool) (n : NodeId) (key : Key) (ty : List ℕ) (h : HasField s xs kinds n key ty) → rule_at (with_names D N) s n key ≡ Some h.rule
@@ -115,45 +122,45 @@ module _ (s : SchemaView) (fixed : NodeId → Bool) (D : Document) (N : Intent) 
   type_is : (x : FlatNode) (ts : List (List ℕ)) → Has xs x → is_among x.ty ts ≡ true → has_type (with_names D N) ts x.node ≡ true
   type_is x ts h e = ap (λ o. option_map_or (λ (t : NodeType). is_among t.ty ts) o false) (node_is x h) ∙ e
 
-  goes : (x : FlatNode) → Has xs x → (at : FlatAt) → x.at ≡ at → IsPlaced s xs types x.ty at → fixed x.node ≡ is_required_to s (with_names D N) (Some (to_at into at)) → MayGo s fixed D N x.node (to_at into at)
+  goes : (x : FlatNode) → Has xs x → (at : FlatAt) → x.at ≡ at → IsPlaced s xs types x.ty at → home x.node ≡ register_of (to_at into at) → MayGo s home D N x.node (to_at into at)
   goes x h FlatAt.Root q p f = tt
   goes x h (FlatAt.Top c) q p f = w.tops x c h q (type_is x types h p) f
   goes x h (FlatAt.Row r c) q p f = (
     r,
     rw (w.fits.fresh_cells c (ap is_some (w.rows x r c h q))) (w.rows x r c h q),
-    record { rule = p.rule; ruled = rule_is is_row r row_key x.ty p; kind = p.kind; typed = type_is x p.rule.types h p.typed; made = f ∙ sym (required_not_row p.rule.kind p.kind) },
+    record { rule = p.rule; ruled = rule_is is_row r row_key x.ty p; kind = p.kind; typed = type_is x p.rule.types h p.typed; at_home = λ required. absurd (true-false required (required_not_row p.rule.kind p.kind)); away = λ g e. absurd (no_home home x.node g f e) },
   )
   goes x h (FlatAt.Register g) q p f =
-      let ruled = rule_is is_single_kind g.node g.key x.ty p in
-      record { rule = p.rule; ruled = ruled; kind = p.kind; typed = type_is x p.rule.types h p.typed; made = f ∙ ap (λ o. option_map_or (λ (rule : FieldRule). is_required rule.kind) o false) ruled }
+      record { rule = p.rule; ruled = rule_is is_single_kind g.node g.key x.ty p; kind = p.kind; typed = type_is x p.rule.types h p.typed; at_home = λ required. f; away = λ g' e. inl (one_home home x.node g g' f e) }
 
-  listed_goes : (x : FlatNode) → Has xs x → MayGo s fixed D N x.node (to_at into x.at)
-  listed_goes x h = goes x h x.at refl (w.items x h).placed (fixes x h)
+  listed_goes : (x : FlatNode) → Has xs x → MayGo s home D N x.node (to_at into x.at)
+  listed_goes x h = goes x h x.at refl (w.items x h).placed (home_is x h)
 
   -- a register is filled by the node that is put into it
   fills : (x : FlatNode) (f : FieldId) → Has xs x → to_at into x.at ≡ To.Register f → put_in N f ≡ Some x.node
   fills x f h e = has-put_in N w.fits.itself x.node f
       (subst (λ to. Has N.put (record { node = x.node; to = to })) e (subst (λ l. Has l (put_at into x)) (sym w.put) (map-has (put_at into) xs x h)))
 
-  clear_may : (f : FieldId) → clears N f ≡ true → MayClear s D N f
+  clear_may : (f : FieldId) → clears N f ≡ true → MayBeLeft s D N f
   clear_may f e =
       let x = w.cleared f e in
-      let may : MayGo s fixed D N x.0.node (To.Register f) = subst (MayGo s fixed D N x.0.node) x.2 (listed_goes x.0 x.1) in
-      record { rule = may.rule; ruled = may.ruled; filled = λ required. ap is_some (fills x.0 f x.1 x.2) }
+      let may : MayGo s home D N x.0.node (To.Register f) = subst (MayGo s home D N x.0.node) x.2 (listed_goes x.0 x.1) in
+      record { known = rule_there (with_names D N) s f.node f.key may.rule may.ruled; filled = λ required. ap is_some (fills x.0 f x.1 x.2) }
 
-  new_filled : (n : NodeId) (key : Key) (rule : FieldRule) → is_new N n ≡ true → rule_at (with_names D N) s n key ≡ Some rule → is_required rule.kind ≡ true → IsSome (put_in N (field_at n key))
+  new_filled : (n : NodeId) (key : Key) (rule : FieldRule) → is_new N n ≡ true → rule_at (with_names D N) s n key ≡ Some rule → is_required rule.kind ≡ true
+      → (m : NodeId) × (put_in N (field_at n key) ≡ Some m) × (is_new N m ≡ true)
   new_filled n key rule new ruled required =
       let t = some_of (new_type N n) new in
       let x = new_from n t.0 t.1 in
       let own : field_of s x.0.ty key.0 ≡ Some rule = sym (ap (option_and_then (λ (t : NodeType). field_of s t.ty key.0)) (node_is x.0 x.1)) ∙ ap (λ n. rule_at (with_names D N) s n key) x.2 ∙ ruled in
       let y = (w.items x.0 x.1).filled key rule own required in
-      subst (λ n. IsSome (put_in N (field_at n key))) x.2 (ap is_some (fills y.0 (field_at x.0.node key) y.1 (ap (to_at into) y.2)))
+      (y.0.node, subst (λ n. put_in N (field_at n key) ≡ Some y.0.node) x.2 (fills y.0 (field_at x.0.node key) y.1 (ap (to_at into) y.2)), node_new y.0 y.1)
 
-  pub listed_agrees : Agrees s fixed D N
+  pub listed_agrees : Agrees s home D N
   listed_agrees = record {
     types = λ n t e. (let x = new_from n t e in ap (λ (t : NodeType). type_fits s t.ty t.leaf) (sym x.3) ∙ (w.items x.0 x.1).typed);
-    puts = λ m to e. (let x = put_from m to e in subst (λ (p : Put). MayGo s fixed D N p.node p.to) x.2 (listed_goes x.0 x.1));
-    old_free = λ m some old. (let to = some_of (put_of N m) some in
+    puts = λ m to e. (let x = put_from m to e in subst (λ (p : Put). MayGo s home D N p.node p.to) x.2 (listed_goes x.0 x.1));
+    leaves = λ m f some old lives. (let to = some_of (put_of N m) some in
         let x = put_from m to.0 to.1 in
         absurd (true-false (ap (is_new N) (sym (ap (λ (p : Put). p.node) x.2)) ∙ node_new x.0 x.1) old));
     clears = clear_may;
@@ -225,10 +232,10 @@ named_under s G types trees ok = tops_rows (named G trees) G.rev G.nodes G.cells
 
 -- ## New items of a row
 
-inserted_agrees : (s : SchemaView) (fixed : NodeId → Bool) (D : Document) (G : Given) (n : NodeId) (index : ℕ) (rule : FieldRule) (trees : Nodes) → is_sound s ≡ true
+inserted_agrees : (s : SchemaView) (home : NodeId → Option FieldId) (D : Document) (G : Given) (n : NodeId) (index : ℕ) (rule : FieldRule) (trees : Nodes) → is_sound s ≡ true
     → rule_at D s n row_key ≡ Some rule → is_row rule.kind ≡ true → list_all (λ ok. ok) (items_verdicts s rule.types trees) ≡ true
-    → Fits D (inserted D G n index (named G trees)) → FixesItsOwn s fixed D (inserted D G n index (named G trees)) → Agrees s fixed D (inserted D G n index (named G trees))
-inserted_agrees s fixed D G n index rule trees schema ruled row ok fits own = listed_agrees s fixed D (inserted D G n index (named G trees)) rule.types None (named G trees) listing
+    → Fits D (inserted D G n index (named G trees)) → TellsHomes home (inserted D G n index (named G trees)) → Agrees s home D (inserted D G n index (named G trees))
+inserted_agrees s home D G n index rule trees schema ruled row ok fits own = listed_agrees s home D (inserted D G n index (named G trees)) rule.types None (named G trees) listing
   where
     later : rule_at (with_names D (inserted D G n index (named G trees))) s n row_key ≡ Some rule
     later = rule_later s D (with_names D (inserted D G n index (named G trees))) (named_later D (inserted D G n index (named G trees))) n row_key rule ruled
@@ -243,15 +250,15 @@ inserted_agrees s fixed D G n index rule trees schema ruled row ok fits own = li
         let g = top_group (named G trees) n (left_of D n index) x c h e in
         new_row_of-group (inserted D G n index (named G trees)) fits.itself g.0 (owned c x.node) (with_first (group_of n (left_of D n index) (top_cells (named G trees))) (groups_under (named G trees)) g.0 g.1) g.3 ∙ ap (λ n. Some n) g.2
 
-    top_goes : (x : FlatNode) (c : CellId) → Has (named G trees) x → x.at ≡ FlatAt.Top c → has_type (with_names D (inserted D G n index (named G trees))) rule.types x.node ≡ true → fixed x.node ≡ false
-        → MayGo s fixed D (inserted D G n index (named G trees)) x.node (To.Cell c)
+    top_goes : (x : FlatNode) (c : CellId) → Has (named G trees) x → x.at ≡ FlatAt.Top c → has_type (with_names D (inserted D G n index (named G trees))) rule.types x.node ≡ true → home x.node ≡ None
+        → MayGo s home D (inserted D G n index (named G trees)) x.node (To.Cell c)
     top_goes x c h e typed free = (
       n,
       rw (fits.fresh_cells c (ap is_some (top_made x c h e))) (top_made x c h e),
-      record { rule = rule; ruled = later; kind = row; typed = typed; made = free ∙ sym (required_not_row rule.kind row) },
+      record { rule = rule; ruled = later; kind = row; typed = typed; at_home = λ required. absurd (true-false required (required_not_row rule.kind row)); away = λ f q. absurd (no_home home x.node f free q) },
     )
 
-    listing : MakesListed s fixed D (inserted D G n index (named G trees)) rule.types None (named G trees)
+    listing : MakesListed s home D (inserted D G n index (named G trees)) rule.types None (named G trees)
     listing = record {
       fits = fits;
       new = refl;
@@ -263,9 +270,9 @@ inserted_agrees s fixed D G n index rule trees schema ruled row ok fits own = li
       own = own;
     }
 
-pub insert_agrees : (s : SchemaView) (fixed : NodeId → Bool) (D : Document) (G : Given) (at : List Place) (key : Key) (index : ℕ) (trees : Nodes) (N : Intent) → IsSoundInForm D → is_sound s ≡ true
-    → NodesFresh D G → CellsFresh D G → FixesItsOwn s fixed D N → insert D s G at key index trees ≡ Ok N → Agrees s fixed D N
-insert_agrees s fixed D G at key index trees N sound schema nodes cells own e =
+pub insert_agrees : (s : SchemaView) (home : NodeId → Option FieldId) (D : Document) (G : Given) (at : List Place) (key : Key) (index : ℕ) (trees : Nodes) (N : Intent) → IsSoundInForm D → is_sound s ≡ true
+    → NodesFresh D G → CellsFresh D G → TellsHomes home N → insert D s G at key index trees ≡ Ok N → Agrees s home D N
+insert_agrees s home D G at key index trees N sound schema nodes cells own e =
     let n = passed (walk D at) _ N e in
     let rule = passed (rule_for field.Row D s n.0 key) _ N n.2 in
     let at_end = passed (ask (nat_le index (row_length D n.0)) Range) (λ _. and_then (allowed s G rule.0 trees) (λ xs. Ok (inserted D G n.0 index xs))) N rule.2 in
@@ -276,9 +283,9 @@ insert_agrees s fixed D G at key index trees N sound schema nodes cells own e =
     let empty = (row_of_array s schema t.1.0.ty key.0 rule.0 t.1.1 here.1).0 in
     let ok = is_allowed s G rule.0 trees xs.0 xs.1 in
     let same : inserted D G n.0 index (named G trees) ≡ N = ap (inserted D G n.0 index) ok.1 ∙ is in
-    subst (Agrees s fixed D) same
-    (inserted_agrees s fixed D G n.0 index rule.0 trees schema (subst (λ k. rule_at D s n.0 k ≡ Some rule.0) (key_is key empty) here.0) here.1 ok.0
-    (subst (Fits D) (sym same) (insert_fits D s G at key index trees N sound nodes cells e)) (subst (FixesItsOwn s fixed D) (sym same) own))
+    subst (Agrees s home D) same
+    (inserted_agrees s home D G n.0 index rule.0 trees schema (subst (λ k. rule_at D s n.0 k ≡ Some rule.0) (key_is key empty) here.0) here.1 ok.0
+    (subst (Fits D) (sym same) (insert_fits D s G at key index trees N sound nodes cells e)) (subst (TellsHomes home) (sym same) own))
 
 -- ## A new item in a field
 
@@ -286,10 +293,10 @@ insert_agrees s fixed D G at key index trees N sound schema nodes cells own e =
 top_there : (G : Given) (t : Node) → (x : FlatNode) × Has (named G (first t no_nodes)) x × ((c : CellId) × (x.at ≡ FlatAt.Top c))
 top_there G (node ty leaf fs) = (_, inl refl, (_, refl))
 
-placed_agrees : (s : SchemaView) (fixed : NodeId → Bool) (D : Document) (G : Given) (f : FieldId) (rule : FieldRule) (t : Node) → is_sound s ≡ true
+placed_agrees : (s : SchemaView) (home : NodeId → Option FieldId) (D : Document) (G : Given) (f : FieldId) (rule : FieldRule) (t : Node) → is_sound s ≡ true
     → rule_at D s f.node f.key ≡ Some rule → is_single_kind rule.kind ≡ true → list_all (λ ok. ok) (items_verdicts s rule.types (first t no_nodes)) ≡ true
-    → Fits D (placed D G f (named G (first t no_nodes))) → FixesItsOwn s fixed D (placed D G f (named G (first t no_nodes))) → Agrees s fixed D (placed D G f (named G (first t no_nodes)))
-placed_agrees s fixed D G f rule t schema ruled single ok fits own = listed_agrees s fixed D (placed D G f (named G (first t no_nodes))) rule.types (Some f) (named G (first t no_nodes)) listing
+    → Fits D (placed D G f (named G (first t no_nodes))) → TellsHomes home (placed D G f (named G (first t no_nodes))) → Agrees s home D (placed D G f (named G (first t no_nodes)))
+placed_agrees s home D G f rule t schema ruled single ok fits own = listed_agrees s home D (placed D G f (named G (first t no_nodes))) rule.types (Some f) (named G (first t no_nodes)) listing
   where
     later : rule_at (with_names D (placed D G f (named G (first t no_nodes)))) s f.node f.key ≡ Some rule
     later = rule_later s D (with_names D (placed D G f (named G (first t no_nodes)))) (named_later D (placed D G f (named G (first t no_nodes)))) f.node f.key rule ruled
@@ -303,21 +310,21 @@ placed_agrees s fixed D G f rule t schema ruled single ok fits own = listed_agre
     cleared_from g (inl q) = let x = top_there G t in (x.0, x.1, ap (to_at (Some f)) x.2.1 ∙ ap (λ g. To.Register g) q)
     cleared_from g (inr h) = register_from (Some f) (named G (first t no_nodes)) g h
 
-    listing : MakesListed s fixed D (placed D G f (named G (first t no_nodes))) rule.types (Some f) (named G (first t no_nodes))
+    listing : MakesListed s home D (placed D G f (named G (first t no_nodes))) rule.types (Some f) (named G (first t no_nodes))
     listing = record {
       fits = fits;
       new = refl;
       put = refl;
       items = named_allowed s G rule.types (first t no_nodes) schema ok;
       rows = row_made;
-      tops = λ x c h e typed made. record { rule = rule; ruled = later; kind = single; typed = typed; made = made ∙ ap (λ o. option_map_or (λ (rule : FieldRule). is_required rule.kind) o false) later };
+      tops = λ x c h e typed lives. record { rule = rule; ruled = later; kind = single; typed = typed; at_home = λ required. lives; away = λ g q. inl (one_home home x.node f g lives q) };
       cleared = λ g e. cleared_from g (clears-has (f ∷ registers (named G (first t no_nodes))) g e);
       own = own;
     }
 
-pub put_agrees : (s : SchemaView) (fixed : NodeId → Bool) (D : Document) (G : Given) (at : List Place) (key : Key) (t : Node) (N : Intent) → IsSoundInForm D → is_sound s ≡ true
-    → NodesFresh D G → CellsFresh D G → FixesItsOwn s fixed D N → put D s G at key (first t no_nodes) ≡ Ok N → Agrees s fixed D N
-put_agrees s fixed D G at key t N sound schema nodes cells own e =
+pub put_agrees : (s : SchemaView) (home : NodeId → Option FieldId) (D : Document) (G : Given) (at : List Place) (key : Key) (t : Node) (N : Intent) → IsSoundInForm D → is_sound s ≡ true
+    → NodesFresh D G → CellsFresh D G → TellsHomes home N → put D s G at key (first t no_nodes) ≡ Ok N → Agrees s home D N
+put_agrees s home D G at key t N sound schema nodes cells own e =
     let n = passed (walk D at) _ N e in
     let taken = passed (rule_for field.Single D s n.0 key) _ N n.2 in
     let xs = passed (allowed s G taken.0 (first t no_nodes)) (λ xs. Ok (placed D G (field_at n.0 key) xs)) N taken.2 in
@@ -325,6 +332,6 @@ put_agrees s fixed D G at key t N sound schema nodes cells own e =
     let here = rule_found is_single_kind D s n.0 key taken.0 taken.1 in
     let ok = is_allowed s G taken.0 (first t no_nodes) xs.0 xs.1 in
     let same : placed D G (field_at n.0 key) (named G (first t no_nodes)) ≡ N = ap (placed D G (field_at n.0 key)) ok.1 ∙ is in
-    subst (Agrees s fixed D) same
-    (placed_agrees s fixed D G (field_at n.0 key) taken.0 t schema here.0 here.1 ok.0
-    (subst (Fits D) (sym same) (put_fits D s G at key t N sound schema nodes cells e)) (subst (FixesItsOwn s fixed D) (sym same) own))
+    subst (Agrees s home D) same
+    (placed_agrees s home D G (field_at n.0 key) taken.0 t schema here.0 here.1 ok.0
+    (subst (Fits D) (sym same) (put_fits D s G at key t N sound schema nodes cells e)) (subst (TellsHomes home) (sym same) own))

@@ -4,6 +4,7 @@ use Rattle.std.specs.List.{list_all, position_from}
 use Rattle.std.specs.Option.{option_or, option_map_or}
 use Rattle.st_ids.specs.Listing.{Has}
 use Rattle.st_ids.specs.Order.{same_node}
+use Rattle.st_ids.specs.declared.names.FieldId.{FieldId}
 use Rattle.st_ids.specs.declared.names.Key.{Key}
 use Rattle.st_ids.specs.declared.names.NodeId.{NodeId}
 use Rattle.st_ids.specs.declared.names.Rev.{Rev}
@@ -19,12 +20,13 @@ use Rattle.st_schema.specs.declared.names.FieldRule.{FieldRule}
 use Rattle.st_schema.specs.declared.names.KindName.{KindName}
 use Rattle.st_marks.specs.declared.places.Spot.{Spot}
 use Rattle.st_marks.specs.Document.{Document, NodeType, root, opening}
+use Rattle.st_marks.proofs.Members.{true-false}
 use Rattle.st_doc.specs.Start.{first_said, type_at, spot_at, place_at, held_at, start_of}
 use Rattle.st_resolve.specs.Paths.{field_at}
 use Rattle.st_resolve.specs.Resolve.{is_row, rule_at, has_type}
-use Rattle.st_conform.specs.Conforming.{MayStand, IsConforming, row_key, type_fits, is_required_at}
+use Rattle.st_conform.specs.Conforming.{MayStand, IsConforming, row_key, type_fits, register_in}
 use Rattle.st_conform.proofs.Rules.{required_not_row}
-use Rattle.st_conform.proofs.NewTrees.{all_ok}
+use Rattle.st_conform.proofs.NewTrees.{all_ok, no_home, one_home}
 use Rattle.st_conform.proofs.Listed.{HasField, IsPlaced, IsAllowedItem, root_allowed}
 
 -- ## What is said of a list
@@ -135,11 +137,11 @@ place_of_at n x spot e = go (same_node x.node n) refl e
     go true p f = (same_node-true x.node n p, cc)
     go false p f = absurd (cc)
 
--- those nodes of a document are fixed that stand in required fields
-abbrev FixesPlaced : SchemaView → (NodeId → Bool) → Document → Type 0
-FixesPlaced s fixed D = (m : NodeId) → IsSome (D.nodes m) → fixed m ≡ is_required_at s D (D.place m)
+-- the homes of a document's nodes are the registers in which they stand
+abbrev AreAtHome : (NodeId → Option FieldId) → Document → Type 0
+AreAtHome home D = (m : NodeId) → IsSome (D.nodes m) → home m ≡ register_in (D.place m)
 
-module _ (s : SchemaView) (fixed : NodeId → Bool) (xs : List FlatNode) (schema : List ℕ) (counted : Numbered opening xs 0) (items : (x : FlatNode) → Has xs x → IsAllowedItem s xs s.root x) (own : FixesPlaced s fixed (start_of xs schema)) where
+module _ (s : SchemaView) (home : NodeId → Option FieldId) (xs : List FlatNode) (schema : List ℕ) (counted : Numbered opening xs 0) (items : (x : FlatNode) → Has xs x → IsAllowedItem s xs s.root x) (own : AreAtHome home (start_of xs schema)) where
   node_is : (x : FlatNode) → Has xs x → (start_of xs schema).nodes x.node ≡ Some (record { ty = x.ty; leaf = x.leaf })
   node_is x h = go (first_said (type_at x.node) xs) refl
     where
@@ -161,31 +163,30 @@ module _ (s : SchemaView) (fixed : NodeId → Bool) (xs : List FlatNode) (schema
   type_is : (x : FlatNode) (ts : List (List ℕ)) → Has xs x → is_among x.ty ts ≡ true → has_type (start_of xs schema) ts x.node ≡ true
   type_is x ts h e = ap (λ o. option_map_or (λ (t : NodeType). is_among t.ty ts) o false) (node_is x h) ∙ e
 
-  stands : (x : FlatNode) (spot : Spot) → Has xs x → (at : FlatAt) → IsPlaced s xs s.root x.ty at → spot_at at ≡ spot → fixed x.node ≡ is_required_at s (start_of xs schema) (spot_at at) → MayStand s fixed (start_of xs schema) x.node spot
-  stands x spot h at p e f = subst (MayStand s fixed (start_of xs schema) x.node) e (go at p f)
+  stands : (x : FlatNode) (spot : Spot) → Has xs x → (at : FlatAt) → IsPlaced s xs s.root x.ty at → spot_at at ≡ spot → home x.node ≡ register_in (spot_at at) → MayStand s home (start_of xs schema) x.node spot
+  stands x spot h at p e f = subst (MayStand s home (start_of xs schema) x.node) e (go at p f)
     where
-      go : (at : FlatAt) → IsPlaced s xs s.root x.ty at → fixed x.node ≡ is_required_at s (start_of xs schema) (spot_at at) → MayStand s fixed (start_of xs schema) x.node (spot_at at)
+      go : (at : FlatAt) → IsPlaced s xs s.root x.ty at → home x.node ≡ register_in (spot_at at) → MayStand s home (start_of xs schema) x.node (spot_at at)
       go FlatAt.Root p f = tt
       go (FlatAt.Top c) p f = tt
       go (FlatAt.Row r c) p f =
-          record { rule = p.rule; ruled = rule_is is_row r row_key x.ty p; kind = p.kind; typed = type_is x p.rule.types h p.typed; made = f ∙ sym (required_not_row p.rule.kind p.kind) }
+          record { rule = p.rule; ruled = rule_is is_row r row_key x.ty p; kind = p.kind; typed = type_is x p.rule.types h p.typed; at_home = λ required. absurd (true-false required (required_not_row p.rule.kind p.kind)); away = λ g e. absurd (no_home home x.node g f e) }
       go (FlatAt.Register g) p f =
-          let ruled = rule_is is_single_kind g.node g.key x.ty p in
-          record { rule = p.rule; ruled = ruled; kind = p.kind; typed = type_is x p.rule.types h p.typed; made = f ∙ ap (λ o. option_map_or (λ (rule : FieldRule). is_required rule.kind) o false) ruled }
+          record { rule = p.rule; ruled = rule_is is_single_kind g.node g.key x.ty p; kind = p.kind; typed = type_is x p.rule.types h p.typed; at_home = λ required. f; away = λ g' e. inl (one_home home x.node g g' f e) }
 
-  each_stands : (m : NodeId) → MayStand s fixed (start_of xs schema) m ((start_of xs schema).place m)
+  each_stands : (m : NodeId) → MayStand s home (start_of xs schema) m ((start_of xs schema).place m)
   each_stands m = go (first_said (place_at m) xs) refl
     where
-      go : (o : Option Spot) → first_said (place_at m) xs ≡ o → MayStand s fixed (start_of xs schema) m (unwrap_or (first_said (place_at m) xs) Spot.Nowhere)
-      go None q = subst (λ o. MayStand s fixed (start_of xs schema) m (unwrap_or o Spot.Nowhere)) (sym q) tt
+      go : (o : Option Spot) → first_said (place_at m) xs ≡ o → MayStand s home (start_of xs schema) m (unwrap_or (first_said (place_at m) xs) Spot.Nowhere)
+      go None q = subst (λ o. MayStand s home (start_of xs schema) m (unwrap_or o Spot.Nowhere)) (sym q) tt
       go (Some spot) q =
           let x = said-has (place_at m) xs spot q in
           let p = place_of_at m x.0 spot x.2 in
           let here : (start_of xs schema).place m ≡ spot = ap (λ o. unwrap_or o Spot.Nowhere) q in
           let known : IsSome ((start_of xs schema).nodes m) = subst (λ n. IsSome ((start_of xs schema).nodes n)) p.0 (ap is_some (node_is x.0 x.1)) in
-          let fix : fixed x.0.node ≡ is_required_at s (start_of xs schema) (spot_at x.0.at) = ap fixed p.0 ∙ own m known ∙ ap (is_required_at s (start_of xs schema)) (here ∙ sym p.1) in
-          subst (MayStand s fixed (start_of xs schema) m) (sym here)
-          (subst (λ n. MayStand s fixed (start_of xs schema) n spot) p.0 (stands x.0 spot x.1 x.0.at (items x.0 x.1).placed p.1 fix))
+          let lives : home x.0.node ≡ register_in (spot_at x.0.at) = ap home p.0 ∙ own m known ∙ ap register_in (here ∙ sym p.1) in
+          subst (MayStand s home (start_of xs schema) m) (sym here)
+          (subst (λ n. MayStand s home (start_of xs schema) n spot) p.0 (stands x.0 spot x.1 x.0.at (items x.0 x.1).placed p.1 lives))
 
   from_list : (n : NodeId) (t : NodeType) → (start_of xs schema).nodes n ≡ Some t → (x : FlatNode) × Has xs x × (x.node ≡ n) × (record { ty = x.ty; leaf = x.leaf } ≡ t)
   from_list n t e = let x = said-has (type_at n) xs t e in let is = type_of_at n x.0 t x.2 in (x.0, x.1, is.0, is.1)
@@ -204,7 +205,7 @@ module _ (s : SchemaView) (fixed : NodeId → Bool) (xs : List FlatNode) (schema
           let y = (items x.0 x.1).filled key rule (ap (λ (t : NodeType). field_of s t.ty key.0) x.3 ∙ f) required in
           subst (λ n. IsSome ((start_of xs schema).held (field_at n key))) x.2 (held x.0 y.0 y.1 y.2)
 
-  pub list_conforms : (x : FlatNode) → Has xs x → x.node ≡ root → is_among x.ty s.root ≡ true → IsConforming s fixed (start_of xs schema)
+  pub list_conforms : (x : FlatNode) → Has xs x → x.node ≡ root → is_among x.ty s.root ≡ true → IsConforming s home (start_of xs schema)
   list_conforms x h top among = record {
     types = λ n t e. (let x = from_list n t e in ap (λ (t : NodeType). type_fits s t.ty t.leaf) (sym x.3) ∙ (items x.0 x.1).typed);
     places = each_stands;
@@ -216,17 +217,17 @@ module _ (s : SchemaView) (fixed : NodeId → Bool) (xs : List FlatNode) (schema
 top_listed : (t : Node) → (x : FlatNode) × Has (opening_listed t) x × (x.node ≡ root) × (x.at ≡ FlatAt.Root)
 top_listed (node ty leaf fs) = (_, inl refl, refl, refl)
 
-pub opening_conforms : (s : SchemaView) (fixed : NodeId → Bool) (t : Node) (schema : List ℕ) → is_sound s ≡ true → list_all (λ ok. ok) (verdicts s s.root t) ≡ true
-    → FixesPlaced s fixed (start_of (opening_listed t) schema) → IsConforming s fixed (start_of (opening_listed t) schema)
-opening_conforms s fixed t schema sound ok own =
+pub opening_conforms : (s : SchemaView) (home : NodeId → Option FieldId) (t : Node) (schema : List ℕ) → is_sound s ≡ true → list_all (λ ok. ok) (verdicts s s.root t) ≡ true
+    → AreAtHome home (start_of (opening_listed t) schema) → IsConforming s home (start_of (opening_listed t) schema)
+opening_conforms s home t schema sound ok own =
     let items = root_allowed s sound (opening_listed t) s.root opening t ok (λ x h. h) in
     let x = top_listed t in
-    list_conforms s fixed (opening_listed t) schema (tree_numbered opening FlatAt.Root 0 0 t) items own x.0 x.1 x.2 (subst (IsPlaced s (opening_listed t) s.root x.0.ty) x.3 (items x.0 x.1).placed)
+    list_conforms s home (opening_listed t) schema (tree_numbered opening FlatAt.Root 0 0 t) items own x.0 x.1 x.2 (subst (IsPlaced s (opening_listed t) s.root x.0.ty) x.3 (items x.0 x.1).placed)
 
 none_refused : (o : Option ℕ) → refusal o ≡ Ok tt → o ≡ None
 none_refused None e = refl
 none_refused (Some i) e = absurd (cc)
 
-pub allowed_conforms : (s : SchemaView) (fixed : NodeId → Bool) (t : Node) (schema : List ℕ) → is_sound s ≡ true → allows_of s s.root t ≡ Ok tt
-    → FixesPlaced s fixed (start_of (opening_listed t) schema) → IsConforming s fixed (start_of (opening_listed t) schema)
-allowed_conforms s fixed t schema sound e own = opening_conforms s fixed t schema sound (all_ok 0 (verdicts s s.root t) (none_refused (position_from (λ ok. not ok) 0 (verdicts s s.root t)) e)) own
+pub allowed_conforms : (s : SchemaView) (home : NodeId → Option FieldId) (t : Node) (schema : List ℕ) → is_sound s ≡ true → allows_of s s.root t ≡ Ok tt
+    → AreAtHome home (start_of (opening_listed t) schema) → IsConforming s home (start_of (opening_listed t) schema)
+allowed_conforms s home t schema sound e own = opening_conforms s home t schema sound (all_ok 0 (verdicts s s.root t) (none_refused (position_from (λ ok. not ok) 0 (verdicts s s.root t)) e)) own

@@ -13,6 +13,7 @@ use Rattle.st_ids.specs.Listing.{Has, IsListing, item_of, keyed}
 use Rattle.st_ids.specs.declared.names.CellId.{CellId}
 use Rattle.st_ids.specs.declared.names.Key.{Key}
 use Rattle.st_ids.specs.declared.names.Leaf.{Leaf}
+use Rattle.st_ids.specs.declared.names.FieldId.{FieldId}
 use Rattle.st_ids.specs.declared.names.NodeId.{NodeId}
 use Rattle.st_tree.specs.Node.{Node, node, Fields, no_fields, field, Nodes, no_nodes, first}
 use Rattle.st_tree.specs.Form.{is_single, keys_rise}
@@ -156,7 +157,7 @@ leaf_shown (Leaf.Bool b) = refl
 leaf_shown (Leaf.Int n) = refl
 leaf_shown (Leaf.Words w) = refl
 
-module _ (s : SchemaView) (schema : is_sound s ≡ true) (fixed : NodeId → Bool) (D : Document) (sound : IsSoundInForm D) (here : IsConforming s fixed D) where
+module _ (s : SchemaView) (schema : is_sound s ≡ true) (home : NodeId → Option FieldId) (D : Document) (sound : IsSoundInForm D) (here : IsConforming s home D) where
   -- a node with its fields is allowed
   node_allowed : (types : List (List ℕ)) (ty : List ℕ) (form : Form) (fs : Fields) → form_of s.types ty ≡ Some form → is_among ty types ≡ true → fields_fit form fs ≡ true
       → list_all (λ ok. ok) (fields_verdicts s (Some form) fs) ≡ true → conforms s types (node ty None fs) ≡ true
@@ -193,14 +194,14 @@ module _ (s : SchemaView) (schema : is_sound s ≡ true) (fixed : NodeId → Boo
       go o h Spot.Nowhere e full = absurd (cc)
       go o h (Spot.Register g) e full = absurd (cc)
       go o h (Spot.Row r d) e full =
-          let may : Admits s fixed D is_row r row_key o.node = subst (MayStand s fixed D o.node) e (here.places o.node) in
+          let may : Admits s home D is_row r row_key o.node = subst (MayStand s home D o.node) e (here.places o.node) in
           let rule = rule_in n t (Array types) row_key may.rule q f (subst (λ r. rule_at D s r row_key ≡ Some may.rule) (in_row o r d h e (same_cell-true o.cell d full)) may.ruled) in
           let is : types ≡ may.rule.types = (let w : record { kind = Sequence; types = types } ≡ may.rule = cc in ap (λ (r : FieldRule). r.types) w) in
           subst (λ ts. has_type D ts o.node ≡ true) (sym is) may.typed
 
   -- the occupant of a register is of the field's types
-  occupant : (n m : NodeId) (k : List ℕ) → D.held (register n k) ≡ Some m → Admits s fixed D is_single_kind n (record { 0 = k }) m
-  occupant n m k e = subst (MayStand s fixed D m) ((sound.one_held m (register n k)).0 e) (here.places m)
+  occupant : (n m : NodeId) (k : List ℕ) → D.held (register n k) ≡ Some m → Admits s home D is_single_kind n (record { 0 = k }) m
+  occupant n m k e = subst (MayStand s home D m) ((sound.one_held m (register n k)).0 e) (here.places m)
 
   occupant_typed : (n m : NodeId) (t : NodeType) (form : Form) (k : List ℕ) → D.nodes n ≡ Some t → form_of s.types t.ty ≡ Some form → D.held (register n k) ≡ Some m → has_type D (types_under (Some form) k) m ≡ true
   occupant_typed n m t form k q f e =

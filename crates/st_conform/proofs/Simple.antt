@@ -1,6 +1,7 @@
 -- What a removal, an emptied field, a need and a move mean agrees with the schema.
 use Rattle.std.proofs.Common.{◌≡◌, ℕ, zero, suc, ◌+◌, ◌==◌, nat_le, Bool, true, false, not, cond, ◌&&◌, List, [], ◌∷◌, map, take, drop, Option, Some, None, IsSome, is_some, Ok, Err, refl, sym, ap, ◌∙◌, subst, inl, inr}
 use Rattle.std.specs.List.{position_from}
+use Rattle.std.specs.Option.{option_map_or}
 use Rattle.st_ids.specs.Listing.{Has}
 use Rattle.st_ids.specs.declared.names.CellId.{CellId}
 use Rattle.st_ids.specs.declared.names.FieldId.{FieldId}
@@ -34,32 +35,43 @@ use Rattle.st_resolve.specs.declared.rules.Given.{Given}
 use Rattle.st_resolve.specs.declared.rules.Takes.TheVariants as field
 use Rattle.st_resolve.proofs.Fits.{passed, found, shown, ruled}
 use Rattle.st_resolve.proofs.MoveFits.{CellsFresh, move_fits}
-use Rattle.st_conform.specs.Conforming.{Admits, MayStand, IsConforming, row_key}
-use Rattle.st_conform.specs.Agreeing.{Agrees, MayGo, MayClear}
-use Rattle.st_conform.proofs.Kept.{rule_later, type_later, named_later, one_rule}
+use Rattle.st_conform.specs.Conforming.{Admits, MayStand, IsConforming, IsFree, row_key}
+use Rattle.st_conform.specs.Agreeing.{Agrees, MayGo, MayBeLeft}
+use Rattle.st_conform.proofs.Kept.{rule_later, type_later, free_later, named_later, one_rule}
 use Rattle.st_conform.proofs.Rules.{required_not_row, required_not_optional, row_of_array}
 
--- ## Nodes that aren't fixed
+-- ## Nodes whose home isn't required
 
 pub some_of : {A : Type 0} (o : Option A) → IsSome o → (x : A) × (o ≡ Some x)
 some_of None h = absurd (cc)
 some_of (Some x) h = (x, refl)
 
-module _ (s : SchemaView) (fixed : NodeId → Bool) (D : Document) (sound : IsSoundInForm D) (here : IsConforming s fixed D) where
-  -- a node that stands in a cell
-  in_cell_free : (c : CellId) (m : NodeId) → is_cell c (D.place m) ≡ true → fixed m ≡ false
-  in_cell_free c m e = go (D.place m) e (here.places m)
-    where
-      go : (spot : Spot) → is_cell c spot ≡ true → MayStand s fixed D m spot → fixed m ≡ false
-      go Spot.Nowhere f may = cc
-      go (Spot.Row n d) f may = may.made ∙ required_not_row may.rule.kind may.kind
-      go (Spot.Register r) f may = cc
+-- if the node has a home, that isn't required
+abbrev IsMovable : SchemaView → (NodeId → Option FieldId) → Document → NodeId → Type 0
+IsMovable s home D m = (f : FieldId) → home m ≡ Some f → IsFree s D f
 
+module _ (s : SchemaView) (home : NodeId → Option FieldId) (D : Document) (sound : IsSoundInForm D) (here : IsConforming s home D) where
   -- a node that stands in a field that isn't required
-  in_field_free : (n m : NodeId) (key : Key) (rule : FieldRule) → D.held (field_at n key) ≡ Some m → rule_at D s n key ≡ Some rule → is_required rule.kind ≡ false → fixed m ≡ false
-  in_field_free n m key rule e ruled open_field =
-      let may : Admits s fixed D is_single_kind n key m = subst (MayStand s fixed D m) ((sound.one_held m (field_at n key)).0 e) (here.places m) in
-      may.made ∙ ap (λ (r : FieldRule). is_required r.kind) (one_rule D s n key may.rule rule may.ruled ruled) ∙ open_field
+  admitted_movable : (kinds : KindName → Bool) (n m : NodeId) (key : Key) (may : Admits s home D kinds n key m) → is_required may.rule.kind ≡ false → IsMovable s home D m
+  admitted_movable kinds n m key may open_field f e = elim (may.away f e) [
+    | inl q ↦ subst (IsFree s D) (sym q)
+        (record { known = (ruled D s n key may.rule may.ruled).0; open_field = ap (λ o. option_map_or (λ (rule : FieldRule). is_required rule.kind) o false) may.ruled ∙ open_field })
+    | inr free ↦ free
+  ]
+
+  -- a node that stands in a cell
+  in_cell_movable : (c : CellId) (m : NodeId) → is_cell c (D.place m) ≡ true → IsMovable s home D m
+  in_cell_movable c m e = go (D.place m) e (here.places m)
+    where
+      go : (spot : Spot) → is_cell c spot ≡ true → MayStand s home D m spot → IsMovable s home D m
+      go Spot.Nowhere f may = absurd (cc)
+      go (Spot.Row n d) f may = admitted_movable is_row n m row_key may (required_not_row may.rule.kind may.kind)
+      go (Spot.Register r) f may = absurd (cc)
+
+  in_field_movable : (n m : NodeId) (key : Key) (rule : FieldRule) → D.held (field_at n key) ≡ Some m → rule_at D s n key ≡ Some rule → is_required rule.kind ≡ false → IsMovable s home D m
+  in_field_movable n m key rule e ruled open_field =
+      let may : Admits s home D is_single_kind n key m = subst (MayStand s home D m) ((sound.one_held m (field_at n key)).0 e) (here.places m) in
+      admitted_movable is_single_kind n m key may (ap (λ (r : FieldRule). is_required r.kind) (one_rule D s n key may.rule rule may.ruled ruled) ∙ open_field)
 
   has_take : {A : Type 0} (k : ℕ) (xs : List A) (x : A) → Has (take k xs) x → Has xs x
   has_take zero xs x h = absurd h
@@ -73,38 +85,38 @@ module _ (s : SchemaView) (fixed : NodeId → Bool) (D : Document) (sound : IsSo
   has_drop (suc k) (y ∷ xs) x h = inr (has_drop k xs x h)
 
   -- the items of a row
-  item_free : (n : NodeId) (index count : ℕ) (m : NodeId) → Has (items_from D n index count) m → fixed m ≡ false
-  item_free n index count m h =
+  item_movable : (n : NodeId) (index count : ℕ) (m : NodeId) → Has (items_from D n index count) m → IsMovable s home D m
+  item_movable n index count m h =
       let w = has-map (λ (s : Slot). s.node) (take count (drop index (live_slots D n))) m h in
       let full = (shown D n w.0 (has_drop index (live_slots D n) w.0 (has_take count (drop index (live_slots D n)) w.0 w.1))).full in
-      ap fixed (sym w.2) ∙ in_cell_free w.0.cell w.0.node full
+      subst (IsMovable s home D) w.2 (in_cell_movable w.0.cell w.0.node full)
 
-  within_free : (n : NodeId) (index count : ℕ) (ns : List NodeId) → within_row D n index count ≡ Ok ns → (m : NodeId) → Has ns m → fixed m ≡ false
-  within_free n index count ns e m h = go (nat_le (index + count) (row_length D n)) e
+  within_movable : (n : NodeId) (index count : ℕ) (ns : List NodeId) → within_row D n index count ≡ Ok ns → (m : NodeId) → Has ns m → IsMovable s home D m
+  within_movable n index count ns e m h = go (nat_le (index + count) (row_length D n)) e
     where
-      go : (b : Bool) → cond b (Ok (items_from D n index count)) (Err Range) ≡ Ok ns → fixed m ≡ false
-      go true f = let is : items_from D n index count ≡ ns = cc in item_free n index count m (subst (λ l. Has l m) (sym is) h)
-      go false f = cc
+      go : (b : Bool) → cond b (Ok (items_from D n index count)) (Err Range) ≡ Ok ns → IsMovable s home D m
+      go true f = let is : items_from D n index count ≡ ns = cc in item_movable n index count m (subst (λ l. Has l m) (sym is) h)
+      go false f = absurd (cc)
 
   -- what a move takes
-  taken_free : (f : FieldId) (rule : FieldRule) (index count : ℕ) (ns : List NodeId) → rule_at D s f.node f.key ≡ Some rule → taken D f rule.kind index count ≡ Ok ns → (m : NodeId) → Has ns m → fixed m ≡ false
-  taken_free f rule index count ns ruled e m h = go rule.kind refl e
+  taken_movable : (f : FieldId) (rule : FieldRule) (index count : ℕ) (ns : List NodeId) → rule_at D s f.node f.key ≡ Some rule → taken D f rule.kind index count ≡ Ok ns → (m : NodeId) → Has ns m → IsMovable s home D m
+  taken_movable f rule index count ns ruled e m h = go rule.kind refl e
     where
-      go : (k : KindName) → rule.kind ≡ k → taken D f k index count ≡ Ok ns → fixed m ≡ false
-      go Required q g = cc
+      go : (k : KindName) → rule.kind ≡ k → taken D f k index count ≡ Ok ns → IsMovable s home D m
+      go Required q g = absurd (cc)
       go Optional q g = test (index == 0 && count == 1) g
         where
-          test : (b : Bool) → cond b (and_then (there (D.held f) Range) (λ (n : NodeId). Ok (n ∷ []))) (Err Range) ≡ Ok ns → fixed m ≡ false
-          test false g = cc
+          test : (b : Bool) → cond b (and_then (there (D.held f) Range) (λ (n : NodeId). Ok (n ∷ []))) (Err Range) ≡ Ok ns → IsMovable s home D m
+          test false g = absurd (cc)
           test true g =
               let n = passed (there (D.held f) Range) (λ (n : NodeId). Ok (n ∷ [])) ns g in
               let is : n.0 ∷ [] ≡ ns = cc in
               let held = found (D.held f) Range n.0 n.1 in
               elim (subst (λ l. Has l m) (sym is) h) [
-                | inl p ↦ ap fixed (sym p) ∙ in_field_free f.node n.0 f.key rule held ruled (ap is_required q)
+                | inl p ↦ subst (IsMovable s home D) p (in_field_movable f.node n.0 f.key rule held ruled (ap is_required q))
                 | inr bad ↦ absurd bad
               ]
-      go Sequence q g = within_free f.node index count ns g m h
+      go Sequence q g = within_movable f.node index count ns g m h
 
 -- ## What is put
 
@@ -112,39 +124,61 @@ module _ (s : SchemaView) (fixed : NodeId → Bool) (D : Document) (sound : IsSo
 put_from : {A : Type 0} (N : Intent) (f : A → Put) (xs : List A) (m : NodeId) (to : To) → N.put ≡ map f xs → put_of N m ≡ Some to → (x : A) × Has xs x × (f x ≡ record { node = m; to = to })
 put_from N f xs m to is e = has-map f xs (record { node = m; to = to }) (subst (λ l. Has l (record { node = m; to = to })) is (put-has N m to e))
 
+-- where a field has a rule, its node is there
+pub rule_there : (D : Document) (s : SchemaView) (n : NodeId) (key : Key) (rule : FieldRule) → rule_at D s n key ≡ Some rule → IsSome (D.nodes n)
+rule_there D s n key rule e = (ruled D s n key rule e).0
+
+-- a home that isn't required may be left
+free_left : (s : SchemaView) (D : Document) (N : Intent) (f : FieldId) → IsFree s D f → MayBeLeft s D N f
+free_left s D N f free =
+    let later = free_later s D (with_names D N) (named_later D N) f free in
+    record { known = later.known; filled = λ required. absurd (true-false required later.open_field) }
+
+-- a node with such a home may come where nothing is required
+admits_movable : (s : SchemaView) (home : NodeId → Option FieldId) (D : Document) (N : Intent) (kinds : KindName → Bool) (n : NodeId) (key : Key) (rule : FieldRule) (m : NodeId) → rule_at D s n key ≡ Some rule → kinds rule.kind ≡ true
+    → is_required rule.kind ≡ false → IsMovable s home D m → has_type D rule.types m ≡ true → Admits s home (with_names D N) kinds n key m
+admits_movable s home D N kinds n key rule m ruled kind open_field movable typed = record {
+  rule = rule;
+  ruled = rule_later s D (with_names D N) (named_later D N) n key rule ruled;
+  kind = kind;
+  typed = type_later s D (with_names D N) (named_later D N) rule.types m typed;
+  at_home = λ required. absurd (true-false required open_field);
+  away = λ f e. inr (free_later s D (with_names D N) (named_later D N) f (movable f e));
+}
+
 -- ## Nothing put anywhere
 
 abbrev nowhere : NodeId → Put
 nowhere n = record { node = n; to = To.Nowhere }
 
-removed_agrees : (s : SchemaView) (fixed : NodeId → Bool) (D : Document) (G : Given) (ns : List NodeId) → ((m : NodeId) → Has ns m → fixed m ≡ false) → Agrees s fixed D (removed D G ns)
-removed_agrees s fixed D G ns free = record {
+removed_agrees : (s : SchemaView) (home : NodeId → Option FieldId) (D : Document) (G : Given) (ns : List NodeId) → ((m : NodeId) → Has ns m → IsMovable s home D m) → Agrees s home D (removed D G ns)
+removed_agrees s home D G ns movable = record {
   types = λ n t e. cc;
-  puts = λ m to e. (let w = put_from (removed D G ns) nowhere ns m to refl e in subst (MayGo s fixed D (removed D G ns) m) (ap (λ (p : Put). p.to) w.2) tt);
-  old_free = λ m put old. (let to = some_of (put_of (removed D G ns) m) put in
+  puts = λ m to e. (let w = put_from (removed D G ns) nowhere ns m to refl e in subst (MayGo s home D (removed D G ns) m) (ap (λ (p : Put). p.to) w.2) tt);
+  leaves = λ m f put old lives. (let to = some_of (put_of (removed D G ns) m) put in
       let w = put_from (removed D G ns) nowhere ns m to.0 refl to.1 in
-      free m (subst (Has ns) (ap (λ (p : Put). p.node) w.2) w.1));
+      free_left s D (removed D G ns) f (movable m (subst (Has ns) (ap (λ (p : Put). p.node) w.2) w.1) f lives));
   clears = λ f e. absurd (cc);
   filled = λ n key rule new ruled required. absurd (cc);
 }
 
-pub remove_agrees : (s : SchemaView) (fixed : NodeId → Bool) (D : Document) (G : Given) (at : List Place) (key : Key) (index count : ℕ) (N : Intent) → IsSoundInForm D → IsConforming s fixed D
-    → remove D s G at key index count ≡ Ok N → Agrees s fixed D N
-remove_agrees s fixed D G at key index count N sound here e =
+pub remove_agrees : (s : SchemaView) (home : NodeId → Option FieldId) (D : Document) (G : Given) (at : List Place) (key : Key) (index count : ℕ) (N : Intent) → IsSoundInForm D → IsConforming s home D
+    → remove D s G at key index count ≡ Ok N → Agrees s home D N
+remove_agrees s home D G at key index count N sound here e =
     let n = passed (walk D at) (λ n. and_then (rule_for field.Row D s n key) (λ _. and_then (within_row D n index count) (λ ns. Ok (removed D G ns)))) N e in
     let r = passed (rule_for field.Row D s n.0 key) (λ _. and_then (within_row D n.0 index count) (λ ns. Ok (removed D G ns))) N n.2 in
     let ns = passed (within_row D n.0 index count) (λ ns. Ok (removed D G ns)) N r.2 in
     let is : removed D G ns.0 ≡ N = cc in
-    subst (Agrees s fixed D) is (removed_agrees s fixed D G ns.0 (within_free s fixed D sound here n.0 index count ns.0 ns.1))
+    subst (Agrees s home D) is (removed_agrees s home D G ns.0 (within_movable s home D sound here n.0 index count ns.0 ns.1))
 
-pub need_agrees : (s : SchemaView) (fixed : NodeId → Bool) (D : Document) (G : Given) (at : List Place) (N : Intent) → need D G at ≡ Ok N → Agrees s fixed D N
-need_agrees s fixed D G at N e =
+pub need_agrees : (s : SchemaView) (home : NodeId → Option FieldId) (D : Document) (G : Given) (at : List Place) (N : Intent) → need D G at ≡ Ok N → Agrees s home D N
+need_agrees s home D G at N e =
     let n = passed (walk D at) (λ n. Ok (record (nothing_yet D G) { need = n ∷ [] })) N e in
     let is : record (nothing_yet D G) { need = n.0 ∷ [] } ≡ N = cc in
-    subst (Agrees s fixed D) is (record {
+    subst (Agrees s home D) is (record {
       types = λ n t e. cc;
       puts = λ m to e. absurd (cc);
-      old_free = λ m put old. absurd (cc);
+      leaves = λ m f put old lives. absurd (cc);
       clears = λ f e. absurd (cc);
       filled = λ n key rule new ruled required. absurd (cc);
     })
@@ -170,42 +204,32 @@ optional_single Sequence e = cc
 abbrev into_field : FieldId → NodeId → Put
 into_field f n = record { node = n; to = To.Register f }
 
-field_agrees : (s : SchemaView) (fixed : NodeId → Bool) (D : Document) (G : Given) (f : FieldId) (rule : FieldRule) (ns : List NodeId) → rule_at D s f.node f.key ≡ Some rule → is_optional rule.kind ≡ true
-    → ((m : NodeId) → Has ns m → (fixed m ≡ false) × (has_type D rule.types m ≡ true)) → Agrees s fixed D (moved_to_field D G f ns)
-field_agrees s fixed D G f rule ns ruled optional each = record {
+field_agrees : (s : SchemaView) (home : NodeId → Option FieldId) (D : Document) (G : Given) (f : FieldId) (rule : FieldRule) (ns : List NodeId) → rule_at D s f.node f.key ≡ Some rule → is_optional rule.kind ≡ true
+    → ((m : NodeId) → Has ns m → IsMovable s home D m × (has_type D rule.types m ≡ true)) → Agrees s home D (moved_to_field D G f ns)
+field_agrees s home D G f rule ns ruled optional each = record {
   types = λ n t e. cc;
   puts = λ m to e. (let w = put_from (moved_to_field D G f ns) (into_field f) ns m to refl e in
       let one = each m (subst (Has ns) (ap (λ (p : Put). p.node) w.2) w.1) in
-      subst (MayGo s fixed D (moved_to_field D G f ns) m) (ap (λ (p : Put). p.to) w.2) (admits m one.0 one.1));
-  old_free = λ m put old. (let to = some_of (put_of (moved_to_field D G f ns) m) put in
+      subst (MayGo s home D (moved_to_field D G f ns) m) (ap (λ (p : Put). p.to) w.2)
+      (admits_movable s home D (moved_to_field D G f ns) is_single_kind f.node f.key rule m ruled (optional_single rule.kind optional) (required_not_optional rule.kind optional) one.0 one.1));
+  leaves = λ m g put old lives. (let to = some_of (put_of (moved_to_field D G f ns) m) put in
       let w = put_from (moved_to_field D G f ns) (into_field f) ns m to.0 refl to.1 in
-      (each m (subst (Has ns) (ap (λ (p : Put). p.node) w.2) w.1)).0);
+      free_left s D (moved_to_field D G f ns) g ((each m (subst (Has ns) (ap (λ (p : Put). p.node) w.2) w.1)).0 g lives));
   clears = λ g e. elim (clears-has (f ∷ []) g e) [
-    | inl q ↦ subst (MayClear s D (moved_to_field D G f ns)) q (record { rule = rule; ruled = later; filled = λ required. absurd (true-false required (required_not_optional rule.kind optional)) })
+    | inl q ↦ subst (MayBeLeft s D (moved_to_field D G f ns)) q (free_left s D (moved_to_field D G f ns) f
+        (record { known = (rule_there D s f.node f.key rule ruled); open_field = ap (λ o. option_map_or (λ (rule : FieldRule). is_required rule.kind) o false) ruled ∙ required_not_optional rule.kind optional }))
     | inr bad ↦ absurd bad
   ];
   filled = λ n key rule new ruled required. absurd (cc);
 }
-  where
-    later : rule_at (with_names D (moved_to_field D G f ns)) s f.node f.key ≡ Some rule
-    later = rule_later s D (with_names D (moved_to_field D G f ns)) (named_later D (moved_to_field D G f ns)) f.node f.key rule ruled
 
-    admits : (m : NodeId) → fixed m ≡ false → has_type D rule.types m ≡ true → Admits s fixed (with_names D (moved_to_field D G f ns)) is_single_kind f.node f.key m
-    admits m free typed = record {
-      rule = rule;
-      ruled = later;
-      kind = optional_single rule.kind optional;
-      typed = type_later s D (with_names D (moved_to_field D G f ns)) (named_later D (moved_to_field D G f ns)) rule.types m typed;
-      made = free ∙ sym (required_not_optional rule.kind optional);
-    }
-
-pub clear_agrees : (s : SchemaView) (fixed : NodeId → Bool) (D : Document) (G : Given) (at : List Place) (key : Key) (N : Intent) → clear D s G at key ≡ Ok N → Agrees s fixed D N
-clear_agrees s fixed D G at key N e =
+pub clear_agrees : (s : SchemaView) (home : NodeId → Option FieldId) (D : Document) (G : Given) (at : List Place) (key : Key) (N : Intent) → clear D s G at key ≡ Ok N → Agrees s home D N
+clear_agrees s home D G at key N e =
     let n = passed (walk D at) (λ n. and_then (rule_for field.Optional D s n key) (λ _. Ok (record (nothing_yet D G) { clear = field_at n key ∷ [] }))) N e in
     let r = passed (rule_for field.Optional D s n.0 key) (λ _. Ok (record (nothing_yet D G) { clear = field_at n.0 key ∷ [] })) N n.2 in
     let is : record (nothing_yet D G) { clear = field_at n.0 key ∷ [] } ≡ N = cc in
     let rule = rule_found is_optional D s n.0 key r.0 r.1 in
-    subst (Agrees s fixed D) is (field_agrees s fixed D G (field_at n.0 key) r.0 [] rule.0 rule.1 (λ m h. absurd h))
+    subst (Agrees s home D) is (field_agrees s home D G (field_at n.0 key) r.0 [] rule.0 rule.1 (λ m h. absurd h))
 
 -- ## Old nodes in new cells of a row
 
@@ -222,17 +246,17 @@ group_there : (m : NodeId) (left : Option CellId) (cells : List Owned) (o : Owne
 group_there m left [] o h = absurd h
 group_there m left (p ∷ ps) o h = (record { node = m; after = left; cells = p ∷ ps }, inl refl, h, refl)
 
-row_agrees : (s : SchemaView) (fixed : NodeId → Bool) (D : Document) (G : Given) (m : NodeId) (index : ℕ) (rule : FieldRule) (cells : List Owned) → Fits D (in_cells D G m index cells)
-    → rule_at D s m row_key ≡ Some rule → is_row rule.kind ≡ true → ((o : Owned) → Has cells o → (fixed o.node ≡ false) × (has_type D rule.types o.node ≡ true)) → Agrees s fixed D (in_cells D G m index cells)
-row_agrees s fixed D G m index rule cells fits ruled row each = record {
+row_agrees : (s : SchemaView) (home : NodeId → Option FieldId) (D : Document) (G : Given) (m : NodeId) (index : ℕ) (rule : FieldRule) (cells : List Owned) → Fits D (in_cells D G m index cells)
+    → rule_at D s m row_key ≡ Some rule → is_row rule.kind ≡ true → ((o : Owned) → Has cells o → IsMovable s home D o.node × (has_type D rule.types o.node ≡ true)) → Agrees s home D (in_cells D G m index cells)
+row_agrees s home D G m index rule cells fits ruled row each = record {
   types = λ n t e. cc;
   puts = λ n to e. (let w = put_from (in_cells D G m index cells) into_cell cells n to refl e in
-      let at = new_row w.0 w.1 in
       let one = each w.0 w.1 in
-      subst (λ (p : Put). MayGo s fixed D (in_cells D G m index cells) p.node p.to) w.2 (m, at, admits w.0.node one.0 one.1));
-  old_free = λ n put old. (let to = some_of (put_of (in_cells D G m index cells) n) put in
+      subst (λ (p : Put). MayGo s home D (in_cells D G m index cells) p.node p.to) w.2
+      (m, new_row w.0 w.1, admits_movable s home D (in_cells D G m index cells) is_row m row_key rule w.0.node ruled row (required_not_row rule.kind row) one.0 one.1));
+  leaves = λ n f put old lives. (let to = some_of (put_of (in_cells D G m index cells) n) put in
       let w = put_from (in_cells D G m index cells) into_cell cells n to.0 refl to.1 in
-      ap fixed (sym (ap (λ (p : Put). p.node) w.2)) ∙ (each w.0 w.1).0);
+      free_left s D (in_cells D G m index cells) f ((each w.0 w.1).0 f (ap (λ (p : Put). home p.node) w.2 ∙ lives)));
   clears = λ f e. absurd (cc);
   filled = λ n key rule new ruled required. absurd (cc);
 }
@@ -242,15 +266,6 @@ row_agrees s fixed D G m index rule cells fits ruled row each = record {
         let g = group_there m (left_of D m index) cells o h in
         let made : new_row_of (in_cells D G m index cells) o.cell ≡ Some m = new_row_of-group (in_cells D G m index cells) fits.itself g.0 o g.1 g.2 ∙ ap (λ n. Some n) g.3 in
         rw (fits.fresh_cells o.cell (ap is_some made)) made
-
-    admits : (n : NodeId) → fixed n ≡ false → has_type D rule.types n ≡ true → Admits s fixed (with_names D (in_cells D G m index cells)) is_row m row_key n
-    admits n free typed = record {
-      rule = rule;
-      ruled = rule_later s D (with_names D (in_cells D G m index cells)) (named_later D (in_cells D G m index cells)) m row_key rule ruled;
-      kind = row;
-      typed = type_later s D (with_names D (in_cells D G m index cells)) (named_later D (in_cells D G m index cells)) rule.types n typed;
-      made = free ∙ sym (required_not_row rule.kind row);
-    }
 
 -- ## A move
 
@@ -270,9 +285,9 @@ none_is (Some i) u e = absurd (cc)
 pub key_is : (k : Key) → k.0 ≡ [] → k ≡ row_key
 key_is k e = λ i. record { 0 = e i }
 
-pub move_agrees : (s : SchemaView) (fixed : NodeId → Bool) (D : Document) (G : Given) (at : List Place) (key : Key) (index count : ℕ) (to : List Place) (to_key : Key) (to_index : ℕ) (N : Intent)
-    → IsSoundInForm D → is_sound s ≡ true → IsConforming s fixed D → CellsFresh D G → move D s G at key index count to to_key to_index ≡ Ok N → Agrees s fixed D N
-move_agrees s fixed D G at key index count to to_key to_index N sound schema here fresh e =
+pub move_agrees : (s : SchemaView) (home : NodeId → Option FieldId) (D : Document) (G : Given) (at : List Place) (key : Key) (index count : ℕ) (to : List Place) (to_key : Key) (to_index : ℕ) (N : Intent)
+    → IsSoundInForm D → is_sound s ≡ true → IsConforming s home D → CellsFresh D G → move D s G at key index count to to_key to_index ≡ Ok N → Agrees s home D N
+move_agrees s home D G at key index count to to_key to_index N sound schema here fresh e =
     let n = passed (walk D at) _ N e in
     let m = passed (walk D to) _ N n.2 in
     let source = passed (rule_for field.Open D s n.0 key) _ N m.2 in
@@ -285,18 +300,18 @@ move_agrees s fixed D G at key index count to to_key to_index N sound schema her
     let from = rule_found is_open D s n.0 key source.0 source.1 in
     let into = rule_found is_open D s m.0 to_key target.0 target.1 in
     let is : moved D G (field_at m.0 to_key) target.0.kind to_index ns.0 ≡ N = cc in
-    let free = taken_free s fixed D sound here (field_at n.0 key) source.0 index count ns.0 from.0 ns.1 in
+    let free = taken_movable s home D sound here (field_at n.0 key) source.0 index count ns.0 from.0 ns.1 in
     let typed = each_passes (has_type D target.0.types) 0 ns.0 (none_is (position_from (λ n. not (has_type D target.0.types n)) 0 ns.0) allowed.0 allowed.1) in
-    subst (Agrees s fixed D) is (go m.0 target.0 ns.0 into.0 into.1 (λ k h. (free k h, typed k h)) target.0.kind refl
+    subst (Agrees s home D) is (go m.0 target.0 ns.0 into.0 into.1 (λ k h. (free k h, typed k h)) target.0.kind refl
     (subst (Fits D) (sym is) (move_fits D s G at key index count to to_key to_index N sound schema fresh e)))
   where
-    go : (m : NodeId) (target : FieldRule) (ns : List NodeId) → rule_at D s m to_key ≡ Some target → is_open target.kind ≡ true → ((k : NodeId) → Has ns k → (fixed k ≡ false) × (has_type D target.types k ≡ true)) → (k : KindName) → target.kind ≡ k
-        → Fits D (moved D G (field_at m to_key) k to_index ns) → Agrees s fixed D (moved D G (field_at m to_key) k to_index ns)
+    go : (m : NodeId) (target : FieldRule) (ns : List NodeId) → rule_at D s m to_key ≡ Some target → is_open target.kind ≡ true → ((k : NodeId) → Has ns k → IsMovable s home D k × (has_type D target.types k ≡ true)) → (k : KindName) → target.kind ≡ k
+        → Fits D (moved D G (field_at m to_key) k to_index ns) → Agrees s home D (moved D G (field_at m to_key) k to_index ns)
     go m target ns rule may each Required kind fits = absurd (true-false may (ap is_open kind))
-    go m target ns rule may each Optional kind fits = field_agrees s fixed D G (field_at m to_key) target ns rule (ap is_optional kind) each
+    go m target ns rule may each Optional kind fits = field_agrees s home D G (field_at m to_key) target ns rule (ap is_optional kind) each
     go m target ns rule may each Sequence kind fits =
         let row : is_row target.kind ≡ true = ap is_row kind in
         let t = ruled D s m to_key target rule in
         let empty = (row_of_array s schema t.1.0.ty to_key.0 target t.1.1 row).0 in
-        row_agrees s fixed D G m to_index target (cells_for G.rev G.cells ns) fits (subst (λ k. rule_at D s m k ≡ Some target) (key_is to_key empty) rule) row
+        row_agrees s home D G m to_index target (cells_for G.rev G.cells ns) fits (subst (λ k. rule_at D s m k ≡ Some target) (key_is to_key empty) rule) row
         (λ o h. each o.node (owner_of G.rev G.cells ns o h))

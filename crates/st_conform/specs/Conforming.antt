@@ -1,5 +1,5 @@
 -- When a document keeps to a schema. It is asked of all its nodes, live or not, since a node that was removed may come back.
-use Rattle.std.specs.Prelude.{◌≡◌, ℕ, Bool, true, false, List, [], Option, Some, None, IsSome, is_some}
+use Rattle.std.specs.Prelude.{◌≡◌, ◌⊎◌, ℕ, Bool, true, false, List, [], Option, Some, None, IsSome, is_some}
 use Rattle.std.specs.Option.{option_map_or}
 use Rattle.st_ids.specs.declared.names.FieldId.{FieldId}
 use Rattle.st_ids.specs.declared.names.Key.{Key}
@@ -23,41 +23,49 @@ type_fits s ty (Some v) = same ty (leaf_type v)
 abbrev pub row_key : Key
 row_key = record { 0 = [] }
 
--- Some nodes are *fixed*: those that were made into a required field. No commit moves or removes one, so `fixed` is told
--- by names alone, and is the same for all documents.
+-- whether a field is required
+abbrev pub is_required_field : SchemaView → Document → FieldId → Bool
+is_required_field s D f = option_map_or (λ (rule : FieldRule). is_required rule.kind) (rule_at D s f.node f.key) false
 
--- a field of a node, which the schema has and which is of one of these kinds, admits the node m: m has one of the types of
--- the field, and is fixed exactly where the field is required
-pub record Admits (s : SchemaView) (fixed : NodeId → Bool) (D : Document) (kinds : KindName → Bool) (n : NodeId) (key : Key) (m : NodeId) : Type 0 where
+-- The *home* of a node is the register into which it was put when it was made, if it was put into one. It is told by the
+-- node's name alone, and is the same in all documents.
+
+-- a field of a known node that isn't required
+pub record IsFree (s : SchemaView) (D : Document) (f : FieldId) : Type 0 where
+  pub known : IsSome (D.nodes f.node)
+  pub open_field : is_required_field s D f ≡ false
+
+-- a field of a node, which the schema has and which is of one of these kinds, admits the node m
+pub record Admits (s : SchemaView) (home : NodeId → Option FieldId) (D : Document) (kinds : KindName → Bool) (n : NodeId) (key : Key) (m : NodeId) : Type 0 where
   pub rule : FieldRule
   pub ruled : rule_at D s n key ≡ Some rule
   pub kind : kinds rule.kind ≡ true
+  -- m has one of the field's types
   pub typed : has_type D rule.types m ≡ true
-  pub made : fixed m ≡ is_required rule.kind
+  -- if the field is required, it is m's home
+  pub at_home : is_required rule.kind ≡ true → home m ≡ Some (field_at n key)
+  -- if m has its home elsewhere, that isn't required
+  pub away : (f : FieldId) → home m ≡ Some f → (f ≡ field_at n key) ⊎ IsFree s D f
 
 -- the field in which a place is admits the node
-abbrev pub MayStand : SchemaView → (NodeId → Bool) → Document → NodeId → Spot → Type 0
-MayStand s fixed D m Spot.Nowhere = Unit {0}
-MayStand s fixed D m (Spot.Row n c) = Admits s fixed D is_row n row_key m
-MayStand s fixed D m (Spot.Register f) = Admits s fixed D is_single_kind f.node f.key m
+abbrev pub MayStand : SchemaView → (NodeId → Option FieldId) → Document → NodeId → Spot → Type 0
+MayStand s home D m Spot.Nowhere = Unit {0}
+MayStand s home D m (Spot.Row n c) = Admits s home D is_row n row_key m
+MayStand s home D m (Spot.Register f) = Admits s home D is_single_kind f.node f.key m
 
 -- a document that keeps to the schema
-pub record IsConforming (s : SchemaView) (fixed : NodeId → Bool) (D : Document) : Type 0 where
+pub record IsConforming (s : SchemaView) (home : NodeId → Option FieldId) (D : Document) : Type 0 where
   -- each node has a type as it should
   pub types : (n : NodeId) (t : NodeType) → D.nodes n ≡ Some t → type_fits s t.ty t.leaf ≡ true
   -- and may stand where it stands
-  pub places : (m : NodeId) → MayStand s fixed D m (D.place m)
+  pub places : (m : NodeId) → MayStand s home D m (D.place m)
   -- each required field is filled
   pub filled : (n : NodeId) (key : Key) (rule : FieldRule) → rule_at D s n key ≡ Some rule → is_required rule.kind ≡ true → IsSome (D.held (field_at n key))
   -- the root has one of the root's types
   pub root_type : has_type D s.root root ≡ true
 
--- whether a field is required
-abbrev pub is_required_field : SchemaView → Document → FieldId → Bool
-is_required_field s D f = option_map_or (λ (rule : FieldRule). is_required rule.kind) (rule_at D s f.node f.key) false
-
--- whether a place is a required field
-abbrev pub is_required_at : SchemaView → Document → Spot → Bool
-is_required_at s D Spot.Nowhere = false
-is_required_at s D (Spot.Row n c) = false
-is_required_at s D (Spot.Register f) = is_required_field s D f
+-- the register that a place is
+abbrev pub register_in : Spot → Option FieldId
+register_in Spot.Nowhere = None
+register_in (Spot.Row n c) = None
+register_in (Spot.Register f) = Some f

@@ -1,7 +1,8 @@
 //! Laws about conformity: each is the contract of a function that does nothing.
-ghost use Rattle.std.specs.Prelude.{◌≡◌, ◌≤◌, ℕ, Bool, true, List, Some, None, IsSome, IsTrue, Ok};
+ghost use Rattle.std.specs.Prelude.{◌≡◌, ◌≤◌, ℕ, true, false, List, Option, Some, None, IsSome, IsTrue, Ok};
 ghost use Rattle.serde_json.specs.Data.{Data};
 ghost use Rattle.st_ids.specs.declared.names.CellId.{CellId};
+ghost use Rattle.st_ids.specs.declared.names.FieldId.{FieldId};
 ghost use Rattle.st_ids.specs.declared.names.Key.{Key};
 ghost use Rattle.st_ids.specs.declared.names.NodeId.{NodeId};
 ghost use Rattle.st_ids.specs.declared.names.Place.{Place};
@@ -14,107 +15,110 @@ ghost use Rattle.st_schema.specs.TreeText.{tree_data};
 ghost use Rattle.st_marks.specs.declared.intents.Intent.{Intent};
 ghost use Rattle.st_marks.specs.declared.verdicts.Verdict.{Verdict};
 ghost use Rattle.st_marks.specs.Document.{Document, NodeType, IsSoundInForm, root};
-ghost use Rattle.st_marks.specs.Intent.{Fits, is_new, new_row_of};
+ghost use Rattle.st_marks.specs.Intent.{Fits, is_new, new_row_of, put_of};
 ghost use Rattle.st_marks.specs.LiveTree.{Shows};
 ghost use Rattle.st_marks.specs.Run.{Run, FitsInTurn};
 ghost use Rattle.st_marks.specs.Verdict.{carried};
 ghost use Rattle.st_doc.specs.Start.{start_of};
 ghost use Rattle.st_resolve.specs.declared.rules.Given.{Given};
 ghost use Rattle.st_resolve.specs.Resolve.{clear, insert, move as move_of, need, put, remove, resolve};
-ghost use Rattle.st_conform.specs.Conforming.{IsConforming, is_required_at};
-ghost use Rattle.st_conform.specs.Agreeing.{Agrees, AgreesInTurn, FixesItsOwn};
+ghost use Rattle.st_conform.specs.Conforming.{IsConforming, register_in};
+ghost use Rattle.st_conform.specs.Agreeing.{Agrees, AgreesInTurn, TellsHomes, with_homes};
 ghost use Rattle.st_conform.specs.ArrayTypes.{is_array_type};
 
 /// An intent that fits a conforming document and agrees with the schema there leaves a conforming document, whatever its
 /// verdict is: carried out whole, or void.
 pub fn carrying_out_conforms()
-    ensures { (s : SchemaView) (fixed : NodeId → Bool) (D : Document) (N : Intent) (v : Verdict) → IsSoundInForm D → Fits D N
-        → IsConforming s fixed D → Agrees s fixed D N → IsConforming s fixed (carried v D N) }
+    ensures { (s : SchemaView) (home : NodeId → Option FieldId) (D : Document) (N : Intent) (v : Verdict) → IsSoundInForm D → Fits D N
+        → IsConforming s home D → Agrees s home D N → IsConforming s home (carried v D N) }
 {}
 
 /// An intent that agrees with the schema in a document agrees with it in each one that has the nodes and cells of that
 /// document, and none of the names that the intent makes.
 pub fn agrees_elsewhere()
-    ensures { (s : SchemaView) (fixed : NodeId → Bool) (D E : Document) (N : Intent) → Agrees s fixed D N
+    ensures { (s : SchemaView) (home : NodeId → Option FieldId) (D E : Document) (N : Intent) → Agrees s home D N
         → ((n : NodeId) (t : NodeType) → D.nodes n ≡ Some t → E.nodes n ≡ Some t)
         → ((c : CellId) (n : NodeId) → D.row_of c ≡ Some n → E.row_of c ≡ Some n)
         → ((n : NodeId) → IsTrue (is_new N n) → E.nodes n ≡ None)
         → ((c : CellId) → IsSome (new_row_of N c) → E.row_of c ≡ None)
-        → Agrees s fixed E N }
+        → Agrees s home E N }
 {}
 
 /// What a removal, an emptied field, a need and a move mean agrees with the schema in the conforming document where the
 /// edit was resolved.
 pub fn simple_edits_agree()
-    ensures remove { (s : SchemaView) (fixed : NodeId → Bool) (D : Document) (G : Given) (at : List Place) (key : Key) (index count : ℕ) (N : Intent)
-        → IsSoundInForm D → IsConforming s fixed D → remove D s G at key index count ≡ Ok N → Agrees s fixed D N }
-    ensures clear { (s : SchemaView) (fixed : NodeId → Bool) (D : Document) (G : Given) (at : List Place) (key : Key) (N : Intent)
-        → clear D s G at key ≡ Ok N → Agrees s fixed D N }
-    ensures need { (s : SchemaView) (fixed : NodeId → Bool) (D : Document) (G : Given) (at : List Place) (N : Intent)
-        → need D G at ≡ Ok N → Agrees s fixed D N }
-    ensures moves { (s : SchemaView) (fixed : NodeId → Bool) (D : Document) (G : Given) (at : List Place) (key : Key) (index count : ℕ) (to : List Place) (to_key : Key) (to_index : ℕ) (N : Intent)
-        → IsSoundInForm D → is_sound s ≡ true → IsConforming s fixed D → ((k : ℕ) → G.cells ≤ k → D.row_of (cell_named G.rev k) ≡ None)
-        → move_of D s G at key index count to to_key to_index ≡ Ok N → Agrees s fixed D N }
+    ensures remove { (s : SchemaView) (home : NodeId → Option FieldId) (D : Document) (G : Given) (at : List Place) (key : Key) (index count : ℕ) (N : Intent)
+        → IsSoundInForm D → IsConforming s home D → remove D s G at key index count ≡ Ok N → Agrees s home D N }
+    ensures clear { (s : SchemaView) (home : NodeId → Option FieldId) (D : Document) (G : Given) (at : List Place) (key : Key) (N : Intent)
+        → clear D s G at key ≡ Ok N → Agrees s home D N }
+    ensures need { (s : SchemaView) (home : NodeId → Option FieldId) (D : Document) (G : Given) (at : List Place) (N : Intent)
+        → need D G at ≡ Ok N → Agrees s home D N }
+    ensures moves { (s : SchemaView) (home : NodeId → Option FieldId) (D : Document) (G : Given) (at : List Place) (key : Key) (index count : ℕ) (to : List Place) (to_key : Key) (to_index : ℕ) (N : Intent)
+        → IsSoundInForm D → is_sound s ≡ true → IsConforming s home D → ((k : ℕ) → G.cells ≤ k → D.row_of (cell_named G.rev k) ≡ None)
+        → move_of D s G at key index count to to_key to_index ≡ Ok N → Agrees s home D N }
 {}
 
-/// What new items of a row, and a new tree in a field, mean agrees with the schema, where those of their nodes are fixed
-/// that come into required fields.
+/// What new items of a row, and a new tree in a field, mean agrees with the schema, where the homes of new nodes are the
+/// registers into which they are put.
 pub fn new_trees_agree()
-    ensures insert { (s : SchemaView) (fixed : NodeId → Bool) (D : Document) (G : Given) (at : List Place) (key : Key) (index : ℕ) (trees : Nodes) (N : Intent)
+    ensures insert { (s : SchemaView) (home : NodeId → Option FieldId) (D : Document) (G : Given) (at : List Place) (key : Key) (index : ℕ) (trees : Nodes) (N : Intent)
         → IsSoundInForm D → is_sound s ≡ true
         → ((k : ℕ) → G.nodes ≤ k → D.nodes (node_named G.rev k) ≡ None) → ((k : ℕ) → G.cells ≤ k → D.row_of (cell_named G.rev k) ≡ None)
-        → FixesItsOwn s fixed D N → insert D s G at key index trees ≡ Ok N → Agrees s fixed D N }
-    ensures put { (s : SchemaView) (fixed : NodeId → Bool) (D : Document) (G : Given) (at : List Place) (key : Key) (t : Node) (N : Intent)
+        → TellsHomes home N → insert D s G at key index trees ≡ Ok N → Agrees s home D N }
+    ensures put { (s : SchemaView) (home : NodeId → Option FieldId) (D : Document) (G : Given) (at : List Place) (key : Key) (t : Node) (N : Intent)
         → IsSoundInForm D → is_sound s ≡ true
         → ((k : ℕ) → G.nodes ≤ k → D.nodes (node_named G.rev k) ≡ None) → ((k : ℕ) → G.cells ≤ k → D.row_of (cell_named G.rev k) ≡ None)
-        → FixesItsOwn s fixed D N → put D s G at key (first t no_nodes) ≡ Ok N → Agrees s fixed D N }
+        → TellsHomes home N → put D s G at key (first t no_nodes) ≡ Ok N → Agrees s home D N }
 {}
 
 /// What an edit means agrees with the schema in the conforming document where it was resolved.
 pub fn resolved_edits_agree()
-    ensures { (s : SchemaView) (fixed : NodeId → Bool) (D : Document) (G : Given) (edit : Edit) (N : Intent)
-        → IsSoundInForm D → is_sound s ≡ true → IsConforming s fixed D
+    ensures { (s : SchemaView) (home : NodeId → Option FieldId) (D : Document) (G : Given) (edit : Edit) (N : Intent)
+        → IsSoundInForm D → is_sound s ≡ true → IsConforming s home D
         → ((k : ℕ) → G.nodes ≤ k → D.nodes (node_named G.rev k) ≡ None) → ((k : ℕ) → G.cells ≤ k → D.row_of (cell_named G.rev k) ≡ None)
-        → FixesItsOwn s fixed D N → resolve D s G edit ≡ Ok N → Agrees s fixed D N }
+        → TellsHomes home N → resolve D s G edit ≡ Ok N → Agrees s home D N }
 {}
 
 /// An edit that was resolved in one conforming document, and comes in another that has the nodes and cells of the first and
 /// that its intent fits, leaves a conforming document, whatever its verdict is there.
 pub fn resolved_edits_keep_conformity()
-    ensures { (s : SchemaView) (fixed : NodeId → Bool) (D E : Document) (G : Given) (edit : Edit) (N : Intent) (v : Verdict)
-        → IsSoundInForm D → is_sound s ≡ true → IsConforming s fixed D
+    ensures { (s : SchemaView) (home : NodeId → Option FieldId) (D E : Document) (G : Given) (edit : Edit) (N : Intent) (v : Verdict)
+        → IsSoundInForm D → is_sound s ≡ true → IsConforming s home D
         → ((k : ℕ) → G.nodes ≤ k → D.nodes (node_named G.rev k) ≡ None) → ((k : ℕ) → G.cells ≤ k → D.row_of (cell_named G.rev k) ≡ None)
-        → FixesItsOwn s fixed D N → resolve D s G edit ≡ Ok N
-        → IsSoundInForm E → Fits E N → IsConforming s fixed E
+        → TellsHomes home N → resolve D s G edit ≡ Ok N
+        → IsSoundInForm E → Fits E N → IsConforming s home E
         → ((n : NodeId) (t : NodeType) → D.nodes n ≡ Some t → E.nodes n ≡ Some t)
         → ((c : CellId) (n : NodeId) → D.row_of c ≡ Some n → E.row_of c ≡ Some n)
-        → IsConforming s fixed (carried v E N) }
+        → IsConforming s home (carried v E N) }
 {}
 
 /// A run of intents, each of which fits and agrees with the schema where it comes, leads from a conforming document to a
 /// conforming one.
 pub fn runs_conform()
-    ensures { (s : SchemaView) (fixed : NodeId → Bool) (D E : Document) (Ns : List Intent) (r : Run D Ns E) → IsSoundInForm D → FitsInTurn r
-        → IsConforming s fixed D → AgreesInTurn s fixed r → IsConforming s fixed E }
+    ensures { (s : SchemaView) (home : NodeId → Option FieldId) (D E : Document) (Ns : List Intent) (r : Run D Ns E) → IsSoundInForm D → FitsInTurn r
+        → IsConforming s home D → AgreesInTurn s home r → IsConforming s home E }
 {}
 
-/// Whether a node is fixed counts for the nodes of a document alone.
-pub fn fixed_counts_for_nodes_there()
-    ensures { (s : SchemaView) (fixed other : NodeId → Bool) (D : Document) → IsSoundInForm D
-        → ((m : NodeId) → IsSome (D.nodes m) → fixed m ≡ other m) → IsConforming s fixed D → IsConforming s other D }
+/// The homes of an intent's new nodes can be told beside those that are told already: neither a document without those
+/// nodes nor an intent that doesn't put them sees a difference. So there are homes for all commits at once.
+pub fn homes_can_be_told()
+    ensures tells { (home : NodeId → Option FieldId) (N : Intent) → TellsHomes (with_homes home N) N }
+    ensures documents { (s : SchemaView) (home : NodeId → Option FieldId) (D : Document) (N : Intent) → IsSoundInForm D
+        → ((n : NodeId) → IsTrue (is_new N n) → D.nodes n ≡ None) → IsConforming s home D → IsConforming s (with_homes home N) D }
+    ensures intents { (s : SchemaView) (home : NodeId → Option FieldId) (D : Document) (N M : Intent)
+        → ((m : NodeId) → IsSome (put_of M m) → is_new N m ≡ false) → Agrees s home D M → Agrees s (with_homes home N) D M }
 {}
 
-/// The opening document of a tree that the schema allows as its root is conforming, where those of its nodes are fixed that
-/// stand in required fields.
+/// The opening document of a tree that the schema allows as its root is conforming, where the home of each node is the
+/// register in which it stands.
 pub fn opening_conforms()
-    ensures { (s : SchemaView) (fixed : NodeId → Bool) (t : Node) (schema : List ℕ) → is_sound s ≡ true → allows_of s s.root t ≡ Ok tt
-        → ((m : NodeId) → IsSome ((start_of (opening_listed t) schema).nodes m)
-        → fixed m ≡ is_required_at s (start_of (opening_listed t) schema) ((start_of (opening_listed t) schema).place m))
-        → IsConforming s fixed (start_of (opening_listed t) schema) }
+    ensures { (s : SchemaView) (home : NodeId → Option FieldId) (t : Node) (schema : List ℕ) → is_sound s ≡ true → allows_of s s.root t ≡ Ok tt
+        → ((m : NodeId) → IsSome ((start_of (opening_listed t) schema).nodes m) → home m ≡ register_in ((start_of (opening_listed t) schema).place m))
+        → IsConforming s home (start_of (opening_listed t) schema) }
 {}
 
 /// What a conforming document shows is the JSON form of a tree that the schema allows as its root.
 pub fn a_conforming_document_shows_an_allowed_tree()
-    ensures { (s : SchemaView) (fixed : NodeId → Bool) (D : Document) (d : Data) → is_sound s ≡ true → IsSoundInForm D → IsConforming s fixed D
+    ensures { (s : SchemaView) (home : NodeId → Option FieldId) (D : Document) (d : Data) → is_sound s ≡ true → IsSoundInForm D → IsConforming s home D
         → Shows (is_array_type s) D root d → (t : Node) × (tree_data t ≡ d) × (conforms s s.root t ≡ true) }
 {}

@@ -2,4 +2,4 @@ use Rattle.st_conform.proofs.Resolved.{resolved_agrees}
 use Rattle.st_conform.proofs.laws.resolved_edits_agree.Goals as goal
 
 pub returns : goal.returns
-returns c = λ s fixed D G edit N sound schema here nodes cells own e. resolved_agrees s fixed D G N sound schema here nodes cells own edit e
+returns c = λ s home D G edit N sound schema here nodes cells own e. resolved_agrees s home D G N sound schema here nodes cells own edit e
