@@ -61,5 +61,6 @@ module _ (s : SchemaView) (home : NodeId → Option FieldId) (D E : Document) (N
     puts = λ m to e. may_go m to (a.puts m to e);
     leaves = λ m f put old lives. may_be_left f (a.leaves m f put old lives);
     clears = λ f e. may_be_left f (a.clears f e);
+    homes = λ m f new lives. known_later s (with_names D N) (with_names E N) names f.node (a.homes m f new lives);
     filled = λ n key rule new ruled required. a.filled n key rule new (back n key rule new ruled) required;
   }

@@ -34,9 +34,9 @@ module _ (s : SchemaView) (home other : NodeId → Option FieldId) where
     stands_as m (Spot.Register f) e h = admits_as D is_single_kind f.node f.key m (same m (sound.held_known m f ((sound.one_held m f).1 e)).0) h
 
     conforms_as : IsConforming s other D
-    conforms_as = record { types = here.types; places = λ m. stands_as m (D.place m) refl (here.places m); filled = here.filled; root_type = here.root_type }
+    conforms_as = record { types = here.types; places = λ m. stands_as m (D.place m) refl (here.places m); filled = here.filled; homes = λ m f known lives. here.homes m f known (same m known ∙ lives); root_type = here.root_type }
 
-  module _ (D : Document) (N : Intent) (same : (m : NodeId) → IsSome (put_of N m) → home m ≡ other m) (a : Agrees s home D N) where
+  module _ (D : Document) (N : Intent) (same : (m : NodeId) → IsSome (put_of N m) → home m ≡ other m) (same_new : (m : NodeId) → is_new N m ≡ true → home m ≡ other m) (a : Agrees s home D N) where
     goes_as : (m : NodeId) (to : To) → home m ≡ other m → MayGo s home D N m to → MayGo s other D N m to
     goes_as m To.Nowhere e h = tt
     goes_as m (To.Cell c) e h = (h.0, h.1, admits_as (with_names D N) is_row h.0 row_key m e h.2)
@@ -48,6 +48,7 @@ module _ (s : SchemaView) (home other : NodeId → Option FieldId) where
       puts = λ m to e. goes_as m to (same m (rw e refl)) (a.puts m to e);
       leaves = λ m f put old lives. a.leaves m f put old (same m put ∙ lives);
       clears = a.clears;
+      homes = λ m f new lives. a.homes m f new (same_new m new ∙ lives);
       filled = a.filled;
     }
 
@@ -69,5 +70,5 @@ document_keeps s home D N sound fresh here = conforms_as s home (with_homes home
         go false e = e
         go true e = let none : is_some (D.nodes m) ≡ false = rw (fresh m e) refl in absurd (true-false known none)
 
-pub intent_keeps : (s : SchemaView) (home : NodeId → Option FieldId) (D : Document) (N M : Intent) → ((m : NodeId) → IsSome (put_of M m) → is_new N m ≡ false) → Agrees s home D M → Agrees s (with_homes home N) D M
-intent_keeps s home D N M old a = agrees_as s home (with_homes home N) D M (λ m put. keeps_others home N m (old m put)) a
+pub intent_keeps : (s : SchemaView) (home : NodeId → Option FieldId) (D : Document) (N M : Intent) → ((m : NodeId) → IsSome (put_of M m) → is_new N m ≡ false) → ((m : NodeId) → is_new M m ≡ true → is_new N m ≡ false) → Agrees s home D M → Agrees s (with_homes home N) D M
+intent_keeps s home D N M old apart a = agrees_as s home (with_homes home N) D M (λ m put. keeps_others home N m (old m put)) (λ m new. keeps_others home N m (apart m new)) a

@@ -133,6 +133,14 @@ module _ (s : SchemaView) (home : NodeId → Option FieldId) (D : Document) (N :
   root_later : (E : Document) → HasNodes (with_names D N) E → has_type E s.root root ≡ true
   root_later E same = type_later s (with_names D N) E same s.root root (type_later s D (with_names D N) (named_later D N) s.root root here.root_type)
 
+  -- the homes of the nodes that are there after are those of old nodes and of new ones
+  homes_later : (m : NodeId) (f : FieldId) → IsSome ((with_names D N).nodes m) → home m ≡ Some f → IsSome ((with_names D N).nodes f.node)
+  homes_later m f known lives = go (D.nodes m) refl known
+    where
+      go : (o : Option NodeType) → D.nodes m ≡ o → IsSome (option_or o (new_type N m)) → IsSome ((with_names D N).nodes f.node)
+      go None e h = agrees.homes m f h lives
+      go (Some t) e h = known_later s D (with_names D N) (named_later D N) f.node (here.homes m f (ap is_some e) lives)
+
   -- a rule of an old node, or of a new one
   ruled_old : (n : NodeId) (key : Key) (rule : FieldRule) → is_new N n ≡ false → rule_at (with_names D N) s n key ≡ Some rule → rule_at D s n key ≡ Some rule
   ruled_old n key rule old e = go (D.nodes n) refl (new_type N n) refl e
@@ -184,6 +192,7 @@ module _ (s : SchemaView) (home : NodeId → Option FieldId) (D : Document) (N :
     types = types_after;
     places = place_later (full D N) (λ n t e. e);
     filled = full_filled;
+    homes = homes_later;
     root_type = root_later (full D N) (λ n t e. e);
   }
 
@@ -210,6 +219,7 @@ module _ (s : SchemaView) (home : NodeId → Option FieldId) (D : Document) (N :
     types = types_after;
     places = void_place;
     filled = void_filled;
+    homes = homes_later;
     root_type = root_later (void_data D N) (λ n t e. e);
   }
 

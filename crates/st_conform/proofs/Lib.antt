@@ -9,3 +9,4 @@ pub mod ShownTree
 pub mod Resolved
 pub mod Runs
 pub mod Homes
+pub mod Wider

@@ -1,5 +1,5 @@
 -- What new trees mean agrees with the schema, where it allows them.
-use Rattle.std.proofs.Common.{◌≡◌, ℕ, ◌+◌, nat_le, Bool, true, false, not, cond, ◌&&◌, List, [], ◌∷◌, Option, Some, None, is_some, option_map, option_and_then, Ok, refl, sym, ap, ◌∙◌, subst, inl, inr}
+use Rattle.std.proofs.Common.{◌≡◌, ℕ, ◌+◌, nat_le, Bool, true, false, not, cond, ◌&&◌, List, [], ◌∷◌, Option, Some, None, IsSome, is_some, option_map, option_and_then, Ok, refl, sym, ap, ◌∙◌, subst, inl, inr}
 use Rattle.std.specs.List.{find, list_all, position_from}
 use Rattle.std.specs.Option.{option_map_or}
 use Rattle.std.proofs.lemmas.List.Folds.{list_all-append}
@@ -156,6 +156,20 @@ module _ (s : SchemaView) (home : NodeId → Option FieldId) (D : Document) (N :
       let y = (w.items x.0 x.1).filled key rule own required in
       (y.0.node, subst (λ n. put_in N (field_at n key) ≡ Some y.0.node) x.2 (fills y.0 (field_at x.0.node key) y.1 (ap (to_at into) y.2)), node_new y.0 y.1)
 
+  home_there : (m : NodeId) (f : FieldId) → is_new N m ≡ true → home m ≡ Some f → IsSome ((with_names D N).nodes f.node)
+  home_there m f new lives =
+      let t = some_of (new_type N m) new in
+      let x = new_from m t.0 t.1 in
+      go x.0 x.1 (to_at into x.0.at) refl (sym (home_is x.0 x.1) ∙ ap home x.2 ∙ lives)
+    where
+      go : (x : FlatNode) → Has xs x → (to : To) → to_at into x.at ≡ to → register_of to ≡ Some f → IsSome ((with_names D N).nodes f.node)
+      go x h To.Nowhere e q = absurd (cc)
+      go x h (To.Cell c) e q = absurd (cc)
+      go x h (To.Register g) e q =
+          let may : MayGo s home D N x.node (To.Register g) = subst (MayGo s home D N x.node) e (listed_goes x h) in
+          let same : g ≡ f = cc in
+          subst (λ (f : FieldId). IsSome ((with_names D N).nodes f.node)) same (rule_there (with_names D N) s g.node g.key may.rule may.ruled)
+
   pub listed_agrees : Agrees s home D N
   listed_agrees = record {
     types = λ n t e. (let x = new_from n t e in ap (λ (t : NodeType). type_fits s t.ty t.leaf) (sym x.3) ∙ (w.items x.0 x.1).typed);
@@ -164,6 +178,7 @@ module _ (s : SchemaView) (home : NodeId → Option FieldId) (D : Document) (N :
         let x = put_from m to.0 to.1 in
         absurd (true-false (ap (is_new N) (sym (ap (λ (p : Put). p.node) x.2)) ∙ node_new x.0 x.1) old));
     clears = clear_may;
+    homes = home_there;
     filled = new_filled;
   }
 

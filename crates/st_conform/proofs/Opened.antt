@@ -27,6 +27,7 @@ use Rattle.st_resolve.specs.Resolve.{is_row, rule_at, has_type}
 use Rattle.st_conform.specs.Conforming.{MayStand, IsConforming, row_key, type_fits, register_in}
 use Rattle.st_conform.proofs.Rules.{required_not_row}
 use Rattle.st_conform.proofs.NewTrees.{all_ok, no_home, one_home}
+use Rattle.st_conform.proofs.Simple.{rule_there}
 use Rattle.st_conform.proofs.Listed.{HasField, IsPlaced, IsAllowedItem, root_allowed}
 
 -- ## What is said of a list
@@ -205,11 +206,22 @@ module _ (s : SchemaView) (home : NodeId → Option FieldId) (xs : List FlatNode
           let y = (items x.0 x.1).filled key rule (ap (λ (t : NodeType). field_of s t.ty key.0) x.3 ∙ f) required in
           subst (λ n. IsSome ((start_of xs schema).held (field_at n key))) x.2 (held x.0 y.0 y.1 y.2)
 
+  home_there : (m : NodeId) (f : FieldId) → IsSome ((start_of xs schema).nodes m) → home m ≡ Some f → IsSome ((start_of xs schema).nodes f.node)
+  home_there m f known lives = go ((start_of xs schema).place m) (each_stands m) (sym (own m known) ∙ lives)
+    where
+      go : (spot : Spot) → MayStand s home (start_of xs schema) m spot → register_in spot ≡ Some f → IsSome ((start_of xs schema).nodes f.node)
+      go Spot.Nowhere may q = absurd (cc)
+      go (Spot.Row n c) may q = absurd (cc)
+      go (Spot.Register g) may q =
+          let same : g ≡ f = cc in
+          subst (λ (f : FieldId). IsSome ((start_of xs schema).nodes f.node)) same (rule_there (start_of xs schema) s g.node g.key may.rule may.ruled)
+
   pub list_conforms : (x : FlatNode) → Has xs x → x.node ≡ root → is_among x.ty s.root ≡ true → IsConforming s home (start_of xs schema)
   list_conforms x h top among = record {
     types = λ n t e. (let x = from_list n t e in ap (λ (t : NodeType). type_fits s t.ty t.leaf) (sym x.3) ∙ (items x.0 x.1).typed);
     places = each_stands;
     filled = each_filled;
+    homes = home_there;
     root_type = subst (λ n. has_type (start_of xs schema) s.root n ≡ true) top (type_is x s.root h among);
   }
 

@@ -159,6 +159,7 @@ removed_agrees s home D G ns movable = record {
       let w = put_from (removed D G ns) nowhere ns m to.0 refl to.1 in
       free_left s D (removed D G ns) f (movable m (subst (Has ns) (ap (λ (p : Put). p.node) w.2) w.1) f lives));
   clears = λ f e. absurd (cc);
+  homes = λ m f new lives. absurd (cc);
   filled = λ n key rule new ruled required. absurd (cc);
 }
 
@@ -180,6 +181,7 @@ need_agrees s home D G at N e =
       puts = λ m to e. absurd (cc);
       leaves = λ m f put old lives. absurd (cc);
       clears = λ f e. absurd (cc);
+      homes = λ m f new lives. absurd (cc);
       filled = λ n key rule new ruled required. absurd (cc);
     })
 
@@ -220,6 +222,7 @@ field_agrees s home D G f rule ns ruled optional each = record {
         (record { known = (rule_there D s f.node f.key rule ruled); open_field = ap (λ o. option_map_or (λ (rule : FieldRule). is_required rule.kind) o false) ruled ∙ required_not_optional rule.kind optional }))
     | inr bad ↦ absurd bad
   ];
+  homes = λ m f new lives. absurd (cc);
   filled = λ n key rule new ruled required. absurd (cc);
 }
 
@@ -258,6 +261,7 @@ row_agrees s home D G m index rule cells fits ruled row each = record {
       let w = put_from (in_cells D G m index cells) into_cell cells n to.0 refl to.1 in
       free_left s D (in_cells D G m index cells) f ((each w.0 w.1).0 f (ap (λ (p : Put). home p.node) w.2 ∙ lives)));
   clears = λ f e. absurd (cc);
+  homes = λ m f new lives. absurd (cc);
   filled = λ n key rule new ruled required. absurd (cc);
 }
   where

@@ -37,6 +37,8 @@ pub record Agrees (s : SchemaView) (home : NodeId → Option FieldId) (D : Docum
   pub leaves : (m : NodeId) (f : FieldId) → IsSome (put_of N m) → is_new N m ≡ false → home m ≡ Some f → MayBeLeft s D N f
   -- a register that is cleared may be left
   pub clears : (f : FieldId) → clears N f ≡ true → MayBeLeft s D N f
+  -- the node of each new node's home is there
+  pub homes : (m : NodeId) (f : FieldId) → is_new N m ≡ true → home m ≡ Some f → IsSome ((with_names D N).nodes f.node)
   -- each required field of a new node is filled with a new node
   pub filled : (n : NodeId) (key : Key) (rule : FieldRule) → is_new N n ≡ true → rule_at (with_names D N) s n key ≡ Some rule → is_required rule.kind ≡ true
       → (m : NodeId) × (put_in N (field_at n key) ≡ Some m) × (is_new N m ≡ true)

@@ -61,6 +61,8 @@ pub record IsConforming (s : SchemaView) (home : NodeId → Option FieldId) (D :
   pub places : (m : NodeId) → MayStand s home D m (D.place m)
   -- each required field is filled
   pub filled : (n : NodeId) (key : Key) (rule : FieldRule) → rule_at D s n key ≡ Some rule → is_required rule.kind ≡ true → IsSome (D.held (field_at n key))
+  -- the node of each home is there
+  pub homes : (m : NodeId) (f : FieldId) → IsSome (D.nodes m) → home m ≡ Some f → IsSome (D.nodes f.node)
   -- the root has one of the root's types
   pub root_type : has_type D s.root root ≡ true
 

@@ -12,6 +12,7 @@ ghost use Rattle.st_tree.specs.declared.edit.Edit.{Edit};
 ghost use Rattle.st_schema.specs.Schema.{SchemaView, is_sound};
 ghost use Rattle.st_schema.specs.Conforms.{conforms, allows_of};
 ghost use Rattle.st_schema.specs.TreeText.{tree_data};
+ghost use Rattle.st_schema.specs.Wider.{wider_of};
 ghost use Rattle.st_marks.specs.declared.intents.Intent.{Intent};
 ghost use Rattle.st_marks.specs.declared.verdicts.Verdict.{Verdict};
 ghost use Rattle.st_marks.specs.Document.{Document, NodeType, IsSoundInForm, root};
@@ -100,13 +101,22 @@ pub fn runs_conform()
 {}
 
 /// The homes of an intent's new nodes can be told beside those that are told already: neither a document without those
-/// nodes nor an intent that doesn't put them sees a difference. So there are homes for all commits at once.
+/// nodes nor an intent that doesn't make or put them sees a difference. So there are homes for all commits at once.
 pub fn homes_can_be_told()
     ensures tells { (home : NodeId → Option FieldId) (N : Intent) → TellsHomes (with_homes home N) N }
     ensures documents { (s : SchemaView) (home : NodeId → Option FieldId) (D : Document) (N : Intent) → IsSoundInForm D
         → ((n : NodeId) → IsTrue (is_new N n) → D.nodes n ≡ None) → IsConforming s home D → IsConforming s (with_homes home N) D }
     ensures intents { (s : SchemaView) (home : NodeId → Option FieldId) (D : Document) (N M : Intent)
-        → ((m : NodeId) → IsSome (put_of M m) → is_new N m ≡ false) → Agrees s home D M → Agrees s (with_homes home N) D M }
+        → ((m : NodeId) → IsSome (put_of M m) → is_new N m ≡ false) → ((m : NodeId) → IsTrue (is_new M m) → is_new N m ≡ false) → Agrees s home D M → Agrees s (with_homes home N) D M }
+{}
+
+/// A document that conforms to a schema conforms to each wider one, and an intent that agrees with it there agrees with the
+/// wider one. So intents that were made before a schema was widened keep conformity after it.
+pub fn wider_schemas_conform()
+    ensures documents { (old new : SchemaView) (home : NodeId → Option FieldId) (D : Document) → is_sound new ≡ true → wider_of old new ≡ Ok tt
+        → IsConforming old home D → IsConforming new home D }
+    ensures intents { (old new : SchemaView) (home : NodeId → Option FieldId) (D : Document) (N : Intent) → is_sound new ≡ true → wider_of old new ≡ Ok tt
+        → IsConforming old home D → Agrees old home D N → Agrees new home D N }
 {}
 
 /// The opening document of a tree that the schema allows as its root is conforming, where the home of each node is the
