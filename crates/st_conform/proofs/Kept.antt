@@ -89,6 +89,14 @@ one_rule D s n key a b e f = let q : Some a ≡ Some b = sym e ∙ f in cc
 pub required_by : (D : Document) (s : SchemaView) (n : NodeId) (key : Key) (rule : FieldRule) → rule_at D s n key ≡ Some rule → is_required rule.kind ≡ true → is_required_field s D (field_at n key) ≡ true
 required_by D s n key rule e required = ap (λ o. option_map_or (λ (rule : FieldRule). is_required rule.kind) o false) e ∙ required
 
+-- a required field has such a rule
+pub required_rule : (s : SchemaView) (D : Document) (f : FieldId) → is_required_field s D f ≡ true → (rule : FieldRule) × (rule_at D s f.node f.key ≡ Some rule) × (is_required rule.kind ≡ true)
+required_rule s D f e = go (rule_at D s f.node f.key) refl e
+  where
+    go : (o : Option FieldRule) → rule_at D s f.node f.key ≡ o → option_map_or (λ (rule : FieldRule). is_required rule.kind) o false ≡ true → (rule : FieldRule) × (rule_at D s f.node f.key ≡ Some rule) × (is_required rule.kind ≡ true)
+    go None q h = absurd (cc)
+    go (Some rule) q h = (rule, q, h)
+
 -- ## Carried out
 
 module _ (s : SchemaView) (home : NodeId → Option FieldId) (D : Document) (N : Intent) (sound : IsSoundInForm D) (fits : Fits D N) (here : IsConforming s home D) (agrees : Agrees s home D N) where

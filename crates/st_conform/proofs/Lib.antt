@@ -10,3 +10,5 @@ pub mod Resolved
 pub mod Runs
 pub mod Homes
 pub mod Wider
+pub mod Back
+pub mod Joins

@@ -128,6 +128,10 @@ put_from N f xs m to is e = has-map f xs (record { node = m; to = to }) (subst (
 pub rule_there : (D : Document) (s : SchemaView) (n : NodeId) (key : Key) (rule : FieldRule) → rule_at D s n key ≡ Some rule → IsSome (D.nodes n)
 rule_there D s n key rule e = (ruled D s n key rule e).0
 
+-- a field whose rule isn't required is free
+pub rule_free : (s : SchemaView) (D : Document) (n : NodeId) (key : Key) (rule : FieldRule) → rule_at D s n key ≡ Some rule → is_required rule.kind ≡ false → IsFree s D (field_at n key)
+rule_free s D n key rule e open_rule = record { known = rule_there D s n key rule e; open_field = ap (λ o. option_map_or (λ (rule : FieldRule). is_required rule.kind) o false) e ∙ open_rule }
+
 -- a home that isn't required may be left
 free_left : (s : SchemaView) (D : Document) (N : Intent) (f : FieldId) → IsFree s D f → MayBeLeft s D N f
 free_left s D N f free =

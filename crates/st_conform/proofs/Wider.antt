@@ -27,7 +27,7 @@ use Rattle.st_marks.proofs.Members.{true-false, first-has}
 use Rattle.st_resolve.specs.Resolve.{is_row, rule_at, has_type}
 use Rattle.st_conform.specs.Conforming.{Admits, MayStand, IsConforming, IsFree, row_key, type_fits, is_required_field}
 use Rattle.st_conform.specs.Agreeing.{Agrees, MayGo, MayBeLeft}
-use Rattle.st_conform.proofs.Kept.{one_rule, required_by}
+use Rattle.st_conform.proofs.Kept.{one_rule, required_by, required_rule}
 use Rattle.st_conform.proofs.Rules.{text_same, all_pass, leaf_undefined}
 
 -- ## Lists of types
@@ -231,11 +231,10 @@ module _ (old new : SchemaView) (sound : is_sound new ≡ true) (wide : wider_of
             (rule.0, ap (option_and_then (λ (t : NodeType). field_of old t.ty key.0)) q ∙ rule.1, rule.2)
 
     required_was : (f : FieldId) → is_required_field new E f ≡ true → is_required_field old E f ≡ true
-    required_was f e = go (rule_at E new f.node f.key) refl e
-      where
-        go : (o : Option FieldRule) → rule_at E new f.node f.key ≡ o → option_map_or (λ (rule : FieldRule). is_required rule.kind) o false ≡ true → is_required_field old E f ≡ true
-        go None q h = absurd (cc)
-        go (Some r) q h = let rule = rule_before f.node f.key r q h in required_by E old f.node f.key rule.0 rule.1 rule.2
+    required_was f e =
+        let r = required_rule new E f e in
+        let rule = rule_before f.node f.key r.0 r.1 r.2 in
+        required_by E old f.node f.key rule.0 rule.1 rule.2
 
     free_still : (f : FieldId) → IsFree old E f → IsFree new E f
     free_still f free = record { known = free.known; open_field = go (is_required_field new E f) refl }

@@ -6,6 +6,7 @@ ghost use Rattle.st_ids.specs.declared.names.FieldId.{FieldId};
 ghost use Rattle.st_ids.specs.declared.names.Key.{Key};
 ghost use Rattle.st_ids.specs.declared.names.NodeId.{NodeId};
 ghost use Rattle.st_ids.specs.declared.names.Place.{Place};
+ghost use Rattle.st_ids.specs.declared.names.Rev.{Rev};
 ghost use Rattle.st_tree.specs.Node.{Node, Nodes, first, no_nodes};
 ghost use Rattle.st_tree.specs.Preorder.{cell_named, node_named, opening_listed};
 ghost use Rattle.st_tree.specs.declared.edit.Edit.{Edit};
@@ -16,6 +17,10 @@ ghost use Rattle.st_schema.specs.Wider.{wider_of};
 ghost use Rattle.st_marks.specs.declared.intents.Intent.{Intent};
 ghost use Rattle.st_marks.specs.declared.verdicts.Verdict.{Verdict};
 ghost use Rattle.st_marks.specs.Document.{Document, NodeType, IsSoundInForm, root};
+ghost use Rattle.st_marks.specs.Back.{IsBack};
+ghost use Rattle.st_marks.specs.CarryOut.{full};
+ghost use Rattle.st_marks.specs.Extends.{IsExtendedBy};
+ghost use Rattle.st_marks.specs.Join.{AreParts, IsJoin};
 ghost use Rattle.st_marks.specs.Intent.{Fits, is_new, new_row_of, put_of};
 ghost use Rattle.st_marks.specs.LiveTree.{Shows};
 ghost use Rattle.st_marks.specs.Run.{Run, FitsInTurn};
@@ -108,6 +113,18 @@ pub fn homes_can_be_told()
         → ((n : NodeId) → IsTrue (is_new N n) → D.nodes n ≡ None) → IsConforming s home D → IsConforming s (with_homes home N) D }
     ensures intents { (s : SchemaView) (home : NodeId → Option FieldId) (D : Document) (N M : Intent)
         → ((m : NodeId) → IsSome (put_of M m) → is_new N m ≡ false) → ((m : NodeId) → IsTrue (is_new M m) → is_new N m ≡ false) → Agrees s home D M → Agrees s (with_homes home N) D M }
+{}
+
+/// The intent that leads back from a conforming document to an earlier one agrees with the schema.
+pub fn ways_back_agree()
+    ensures { (s : SchemaView) (home : NodeId → Option FieldId) (D E : Document) (rev under : Rev) (B : Intent) → IsExtendedBy D E
+        → IsConforming s home D → IsConforming s home E → IsBack D E rev under B → Agrees s home E B }
+{}
+
+/// Two parts of a commit, of which the second agrees with the schema after the first, agree with it as one intent.
+pub fn joins_agree()
+    ensures { (s : SchemaView) (home : NodeId → Option FieldId) (D : Document) (N M J : Intent) → IsSoundInForm D → AreParts D N M → IsJoin N M J
+        → IsConforming s home D → Agrees s home D N → Agrees s home (full D N) M → Agrees s home D J }
 {}
 
 /// A document that conforms to a schema conforms to each wider one, and an intent that agrees with it there agrees with the
