@@ -157,7 +157,7 @@ leaf_shown (Leaf.Bool b) = refl
 leaf_shown (Leaf.Int n) = refl
 leaf_shown (Leaf.Words w) = refl
 
-module _ (s : SchemaView) (schema : is_sound s ≡ true) (home : NodeId → Option FieldId) (D : Document) (sound : IsSoundInForm D) (here : IsConforming s home D) where
+module _ (s : SchemaView) (schema : is_sound s ≡ true) (home : NodeId → Option FieldId) (D : Document) (sound : IsSoundInForm D) (here : IsConforming s home D) (is_array : List ℕ → Bool) (tells : (ty : List ℕ) → is_array ty ≡ is_array_type s ty) where
   -- a node with its fields is allowed
   node_allowed : (types : List (List ℕ)) (ty : List ℕ) (form : Form) (fs : Fields) → form_of s.types ty ≡ Some form → is_among ty types ≡ true → fields_fit form fs ≡ true
       → list_all (λ ok. ok) (fields_verdicts s (Some form) fs) ≡ true → conforms s types (node ty None fs) ≡ true
@@ -241,12 +241,12 @@ module _ (s : SchemaView) (schema : is_sound s ≡ true) (home : NodeId → Opti
                   key_had ks fs d.key.0 h (held_listed n ks d.key.0 l (here.filled n d.key (record { kind = d.kind; types = d.types }) (rule_from n t (Object defs) d.key _ q f rule) r))
 
   mutual
-    tree_shown : {n : NodeId} {d : Data} → Shows (is_array_type s) D n d → (types : List (List ℕ)) → has_type D types n ≡ true → IsBuilt s types d
+    tree_shown : {n : NodeId} {d : Data} → Shows is_array D n d → (types : List (List ℕ)) → has_type D types n ≡ true → IsBuilt s types d
     tree_shown (shows_leaf n ty v q) types e =
         let among : is_among ty types ≡ true = type_among n (record { ty = ty; leaf = Some v }) types q e in
         let typed : same ty (leaf_type v) ≡ true = here.types n (record { ty = ty; leaf = Some v }) q in
         (node ty (Some v) no_fields, leaf_shown v, join (is_among ty types && (same ty (leaf_type v) && true)) true (join (is_among ty types) _ among (join (same ty (leaf_type v)) true typed refl)) refl)
-    tree_shown (shows_row n ty items q a r) types e = go (form_of s.types ty) refl a (λ ts f. items_shown r ts (item_typed n (record { ty = ty; leaf = None }) ts q f))
+    tree_shown (shows_row n ty items q a r) types e = go (form_of s.types ty) refl (sym (tells ty) ∙ a) (λ ts f. items_shown r ts (item_typed n (record { ty = ty; leaf = None }) ts q f))
       where
         go : (o : Option Form) → form_of s.types ty ≡ o → is_array_form o ≡ true → ((ts : List (List ℕ)) → form_of s.types ty ≡ Some (Array ts) → AreBuilt s ts items) → IsBuilt s types (one_member ty (array items))
         go None f b build = absurd (cc)
@@ -258,7 +258,7 @@ module _ (s : SchemaView) (schema : is_sound s ≡ true) (home : NodeId → Opti
               ap (λ ds. one_member ty (array ds)) below.1,
               node_allowed types ty (Array ts) (field [] true below.0 no_fields) f (type_among n (record { ty = ty; leaf = None }) types q e) refl (all_append (items_verdicts s ts below.0) [] below.2 refl),
             )
-    tree_shown (shows_registers n ty keys ms q a l r) types e = go (form_of s.types ty) refl a (here.types n (record { ty = ty; leaf = None }) q) (λ form f. members_shown r form (λ k m held. occupant_typed n m (record { ty = ty; leaf = None }) form k q f held)) (each_held r)
+    tree_shown (shows_registers n ty keys ms q a l r) types e = go (form_of s.types ty) refl (sym (tells ty) ∙ a) (here.types n (record { ty = ty; leaf = None }) q) (λ form f. members_shown r form (λ k m held. occupant_typed n m (record { ty = ty; leaf = None }) form k q f held)) (each_held r)
       where
         go : (o : Option Form) → form_of s.types ty ≡ o → is_array_form o ≡ false → is_some o ≡ true → ((form : Form) → form_of s.types ty ≡ Some form → FieldsBuilt s form keys ms)
             → ((k : List ℕ) → Has keys k → (m : NodeId) × (D.held (register n k) ≡ Some m)) → IsBuilt s types (one_member ty (object ms))
@@ -271,14 +271,14 @@ module _ (s : SchemaView) (schema : is_sound s ≡ true) (home : NodeId → Opti
                   (fields_as_formed n (record { ty = ty; leaf = None }) form keys below.fields q f b l held below.keys) below.allowed,
             )
 
-    items_shown : {ns : List NodeId} {ds : Items} → ShowsItems (is_array_type s) D ns ds → (types : List (List ℕ)) → ((m : NodeId) → Has ns m → has_type D types m ≡ true) → AreBuilt s types ds
+    items_shown : {ns : List NodeId} {ds : Items} → ShowsItems is_array D ns ds → (types : List (List ℕ)) → ((m : NodeId) → Has ns m → has_type D types m ≡ true) → AreBuilt s types ds
     items_shown no_more_items types each = (no_nodes, refl, refl)
     items_shown (next_item n d ns ds a r) types each =
         let t = tree_shown a types (each n (inl refl)) in
         let ts = items_shown r types (λ m h. each m (inr h)) in
         (first t.0 ts.0, (λ i. item (t.1 i) (ts.1 i)), all_append (verdicts s types t.0) (items_verdicts s types ts.0) t.2 ts.2)
 
-    members_shown : {n : NodeId} {ks : List (List ℕ)} {ms : Members} → ShowsMembers (is_array_type s) D n ks ms → (form : Form) → ((k : List ℕ) (m : NodeId) → D.held (register n k) ≡ Some m → has_type D (types_under (Some form) k) m ≡ true) → FieldsBuilt s form ks ms
+    members_shown : {n : NodeId} {ks : List (List ℕ)} {ms : Members} → ShowsMembers is_array D n ks ms → (form : Form) → ((k : List ℕ) (m : NodeId) → D.held (register n k) ≡ Some m → has_type D (types_under (Some form) k) m ≡ true) → FieldsBuilt s form ks ms
     members_shown (no_more_members n) form each = record { fields = no_fields; data_is = refl; allowed = refl; keys = tt }
     members_shown (next_member n m k d ks ms p a r) form each =
         let t = tree_shown a (types_under (Some form) k) (each k m p) in
@@ -290,10 +290,10 @@ module _ (s : SchemaView) (schema : is_sound s ≡ true) (home : NodeId → Opti
           keys = (refl, refl, rest.keys);
         }
 
-    each_held : {n : NodeId} {ks : List (List ℕ)} {ms : Members} → ShowsMembers (is_array_type s) D n ks ms → (k : List ℕ) → Has ks k → (m : NodeId) × (D.held (register n k) ≡ Some m)
+    each_held : {n : NodeId} {ks : List (List ℕ)} {ms : Members} → ShowsMembers is_array D n ks ms → (k : List ℕ) → Has ks k → (m : NodeId) × (D.held (register n k) ≡ Some m)
     each_held (no_more_members n) k h = absurd h
     each_held (next_member n m l d ks ms p a r) k (inl e) = (m, ap (λ k. D.held (register n k)) (sym e) ∙ p)
     each_held (next_member n m l d ks ms p a r) k (inr h) = each_held r k h
 
-  pub shown_conforms : (d : Data) → Shows (is_array_type s) D root d → (t : Node) × (tree_data t ≡ d) × (conforms s s.root t ≡ true)
+  pub shown_conforms : (d : Data) → Shows is_array D root d → (t : Node) × (tree_data t ≡ d) × (conforms s s.root t ≡ true)
   shown_conforms d shows = tree_shown shows s.root here.root_type

@@ -1,5 +1,5 @@
 //! Laws about conformity: each is the contract of a function that does nothing.
-ghost use Rattle.std.specs.Prelude.{◌≡◌, ◌≤◌, ℕ, true, false, List, Option, Some, None, IsSome, IsTrue, Ok};
+ghost use Rattle.std.specs.Prelude.{◌≡◌, ◌≤◌, ℕ, Bool, true, false, List, Option, Some, None, IsSome, IsTrue, Ok};
 ghost use Rattle.serde_json.specs.Data.{Data};
 ghost use Rattle.st_ids.specs.declared.names.CellId.{CellId};
 ghost use Rattle.st_ids.specs.declared.names.FieldId.{FieldId};
@@ -146,6 +146,6 @@ pub fn opening_conforms()
 
 /// What a conforming document shows is the JSON form of a tree that the schema allows as its root.
 pub fn a_conforming_document_shows_an_allowed_tree()
-    ensures { (s : SchemaView) (home : NodeId → Option FieldId) (D : Document) (d : Data) → is_sound s ≡ true → IsSoundInForm D → IsConforming s home D
-        → Shows (is_array_type s) D root d → (t : Node) × (tree_data t ≡ d) × (conforms s s.root t ≡ true) }
+    ensures { (s : SchemaView) (home : NodeId → Option FieldId) (D : Document) (is_array : List ℕ → Bool) (d : Data) → is_sound s ≡ true → IsSoundInForm D → IsConforming s home D
+        → ((ty : List ℕ) → is_array ty ≡ is_array_type s ty) → Shows is_array D root d → (t : Node) × (tree_data t ≡ d) × (conforms s s.root t ≡ true) }
 {}
