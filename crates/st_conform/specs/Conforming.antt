@@ -27,8 +27,8 @@ row_key = record { 0 = [] }
 abbrev pub is_required_field : SchemaView → Document → FieldId → Bool
 is_required_field s D f = option_map_or (λ (rule : FieldRule). is_required rule.kind) (rule_at D s f.node f.key) false
 
--- The *home* of a node is the register into which it was put when it was made, if it was put into one. It is told by the
--- node's name alone, and is the same in all documents.
+-- The *home* of a node is the register into which it was put when it was made, if it was put into one. It goes by the node's
+-- name, and is the same in all documents. A node leaves a required home only where another takes its place there.
 
 -- a field of a known node that isn't required
 pub record IsFree (s : SchemaView) (D : Document) (f : FieldId) : Type 0 where
