@@ -1,5 +1,5 @@
 -- What a removal, an emptied field, a need and a move mean agrees with the schema.
-use Rattle.std.proofs.Common.{◌≡◌, ℕ, zero, suc, ◌+◌, ◌==◌, nat_le, Bool, true, false, not, cond, ◌&&◌, List, [], ◌∷◌, map, take, drop, Option, Some, None, IsSome, is_some, Ok, Err, refl, sym, ap, ◌∙◌, subst, inl, inr}
+use Rattle.std.proofs.Common.{◌≡◌, ℕ, zero, suc, ◌+◌, ◌==◌, nat_le, Bool, true, false, not, cond, ◌&&◌, List, [], ◌∷◌, map, take, drop, Option, Some, None, IsSome, IfSome, is_some, Ok, Err, refl, sym, ap, ◌∙◌, subst, inl, inr}
 use Rattle.std.specs.List.{position_from}
 use Rattle.std.specs.Option.{option_map_or}
 use Rattle.st_ids.specs.Listing.{Has}
@@ -23,7 +23,7 @@ use Rattle.st_marks.specs.declared.intents.To.{To}
 use Rattle.st_marks.specs.declared.places.Slot.{Slot}
 use Rattle.st_marks.specs.declared.places.Spot.{Spot}
 use Rattle.st_marks.specs.Document.{Document, IsSoundInForm, is_cell}
-use Rattle.st_marks.specs.Intent.{Fits, put_of, new_row_of}
+use Rattle.st_marks.specs.Intent.{Fits, IsIntent, new_type, is_new, put_of, new_row_of, clears}
 use Rattle.st_marks.specs.CarryOut.{with_names}
 use Rattle.st_marks.proofs.Lookups.{put-has, clears-has, new_row_of-group}
 use Rattle.st_marks.proofs.Members.{true-false, has-map}
@@ -323,3 +323,28 @@ move_agrees s home D G at key index count to to_key to_index N sound schema here
         let empty = (row_of_array s schema t.1.0.ty to_key.0 target t.1.1 row).0 in
         row_agrees s home D G m to_index target (cells_for G.rev G.cells ns) fits (subst (λ k. rule_at D s m k ≡ Some target) (key_is to_key empty) rule) row
         (λ o h. each o.node (owner_of G.rev G.cells ns o h))
+
+-- ## A change of schema
+
+pub schema_agrees : (s : SchemaView) (home : NodeId → Option FieldId) (D : Document) (N : Intent) → IsIntent N → IsSome N.schema → Agrees s home D N
+schema_agrees s home D N w changes = record {
+  types = λ n t e. (let none : new_type N n ≡ None = rw alone.0 refl in let bad : None ≡ Some t = sym none ∙ e in cc);
+  puts = λ m to e. (let none = not_put m in let bad : None ≡ Some to = sym none ∙ e in absurd (cc));
+  leaves = λ m f put old lives. absurd (true-false put (ap is_some (not_put m)));
+  clears = λ f e. (let none : clears N f ≡ false = rw alone.2 refl in absurd (true-false e none));
+  homes = λ m f new lives. absurd (true-false new (not_new m));
+  filled = λ n key rule new ruled required. absurd (true-false new (not_new n));
+}
+  where
+    of : (o : Option (List ℕ)) → IfSome o (λ _. (N.new ≡ []) × (N.groups ≡ []) × (N.clear ≡ []) × (N.put ≡ []) × (N.need ≡ [])) → IsSome o → (N.new ≡ []) × (N.groups ≡ []) × (N.clear ≡ []) × (N.put ≡ []) × (N.need ≡ [])
+    of None h some = absurd (cc)
+    of (Some text) h some = h
+
+    alone : (N.new ≡ []) × (N.groups ≡ []) × (N.clear ≡ []) × (N.put ≡ []) × (N.need ≡ [])
+    alone = of N.schema w.schema_alone changes
+
+    not_put : (m : NodeId) → put_of N m ≡ None
+    not_put m = rw alone.3 refl
+
+    not_new : (n : NodeId) → is_new N n ≡ false
+    not_new n = rw alone.0 refl

@@ -21,7 +21,7 @@ ghost use Rattle.st_marks.specs.Back.{IsBack};
 ghost use Rattle.st_marks.specs.CarryOut.{full};
 ghost use Rattle.st_marks.specs.Extends.{IsExtendedBy};
 ghost use Rattle.st_marks.specs.Join.{AreParts, IsJoin};
-ghost use Rattle.st_marks.specs.Intent.{Fits, is_new, new_row_of, put_of};
+ghost use Rattle.st_marks.specs.Intent.{Fits, IsIntent, is_new, new_row_of, put_of};
 ghost use Rattle.st_marks.specs.LiveTree.{Shows};
 ghost use Rattle.st_marks.specs.Run.{Run, FitsInTurn};
 ghost use Rattle.st_marks.specs.Verdict.{carried};
@@ -62,6 +62,11 @@ pub fn simple_edits_agree()
     ensures moves { (s : SchemaView) (home : NodeId → Option FieldId) (D : Document) (G : Given) (at : List Place) (key : Key) (index count : ℕ) (to : List Place) (to_key : Key) (to_index : ℕ) (N : Intent)
         → IsSoundInForm D → is_sound s ≡ true → IsConforming s home D → ((k : ℕ) → G.cells ≤ k → D.row_of (cell_named G.rev k) ≡ None)
         → move_of D s G at key index count to to_key to_index ≡ Ok N → Agrees s home D N }
+{}
+
+/// A change of schema has nothing else, and so agrees with every schema.
+pub fn schema_changes_agree()
+    ensures { (s : SchemaView) (home : NodeId → Option FieldId) (D : Document) (N : Intent) → IsIntent N → IsSome N.schema → Agrees s home D N }
 {}
 
 /// What new items of a row, and a new tree in a field, mean agrees with the schema, where the homes of new nodes are the
