@@ -1,0 +1,3 @@
+pub mod Conforming
+pub mod Agreeing
+pub mod ArrayTypes
