@@ -1,0 +1,352 @@
+-- What is shown after an insertion.
+use Rattle.std.proofs.Common.{◌≡◌, ◌≢◌, ℕ, zero, suc, ◌+◌, ◌≤◌, ◌<◌, nat_le, Bool, true, false, cond, List, [], ◌∷◌, ◌++◌, map, take, drop, filter, length, append_assoc, append-nil, Option, Some, None, IsSome, IfSome, is_some, option_map, slice_get, Result, Ok, Err, refl, sym, ap, ◌∙◌, subst, arith, inl, inr, ◌⊎◌}
+use Rattle.std.specs.List.{list_all}
+use Rattle.std.specs.Option.{option_map_or}
+use Rattle.std.proofs.lemmas.Bool.Decides.{nat_tests}
+use Rattle.std.proofs.lemmas.List.{map-append}
+use Rattle.serde_json.specs.Data.{Data}
+use Rattle.serde_json.specs.View.{items_of}
+use Rattle.st_ids.specs.Listing.{Has, AreDistinct}
+use Rattle.st_ids.specs.declared.names.CellId.{CellId}
+use Rattle.st_ids.specs.declared.names.FieldId.{FieldId}
+use Rattle.st_ids.specs.declared.names.Key.{Key}
+use Rattle.st_ids.specs.declared.names.NodeId.{NodeId}
+use Rattle.st_ids.specs.declared.names.Place.{Place}
+use Rattle.st_ids.proofs.Orders.{same_cell-itself}
+use Rattle.st_tree.specs.Node.{Nodes}
+use Rattle.st_tree.specs.Size.{item_count}
+use Rattle.st_tree.specs.declared.edit.EditFault.TheVariants.{Kind, Range}
+use Rattle.st_tree.specs.declared.flat.FlatAt.{FlatAt}
+use Rattle.st_tree.specs.declared.flat.FlatNode.{FlatNode}
+use Rattle.st_schema.specs.Conforms.{items_verdicts}
+use Rattle.st_schema.specs.Schema.{SchemaView, is_sound}
+use Rattle.st_schema.specs.TreeText.{trees_data}
+use Rattle.st_schema.specs.declared.names.FieldRule.{FieldRule}
+use Rattle.st_marks.specs.declared.intents.Group.{Group}
+use Rattle.st_marks.specs.declared.intents.Intent.{Intent}
+use Rattle.st_marks.specs.declared.intents.Owned.{Owned}
+use Rattle.st_marks.specs.declared.intents.To.{To}
+use Rattle.st_marks.specs.declared.places.Slot.{Slot}
+use Rattle.st_marks.specs.declared.places.Spot.{Spot}
+use Rattle.st_marks.specs.declared.verdicts.Verdict.{Verdict}
+use Rattle.st_marks.specs.Document.{Document, NodeType, IsSoundInForm, content, is_cell, slot, root, owned}
+use Rattle.st_marks.specs.Intent.{Fits, group_at, put_of}
+use Rattle.st_marks.specs.CarryOut.{full, with_groups, with_names, place_after}
+use Rattle.st_marks.specs.Verdict.{IsVerdict}
+use Rattle.st_marks.specs.LiveTree.{Shows, shows_leaf, shows_row, ShowsItems, owners_shown}
+use Rattle.st_marks.proofs.Lookups.{group_at-group, group_found}
+use Rattle.st_marks.proofs.Members.{true-false, all-has, has-map, has-filter_map, map-has}
+use Rattle.st_marks.proofs.NewRows.{made_cell, row_cells}
+use Rattle.st_doc.specs.Shown.{live_slots}
+use Rattle.st_resolve.specs.New.{group_of, group_under, groups_under, registers, to_at, top_cells}
+use Rattle.st_resolve.specs.Paths.{left_of, row_length}
+use Rattle.st_resolve.specs.Resolve.{allowed, ask, insert, inserted, named, rule_for, walk, with_group}
+use Rattle.st_resolve.specs.declared.rules.Given.{Given}
+use Rattle.st_resolve.specs.declared.rules.Takes.TheVariants as field
+use Rattle.st_resolve.proofs.Fits.{passed}
+use Rattle.st_resolve.proofs.MoveFits.{CellsFresh}
+use Rattle.st_resolve.proofs.NewFits.{made, insert_fits, NodesFresh}
+use Rattle.st_resolve.proofs.Numbered.{filter-from, tops_counted, tops_rows}
+use Rattle.st_edited.specs.Edited.{TellsRows, at_path, in_row, listed, with_items}
+use Rattle.st_edited.proofs.Along.{AreShown, Shape, as_leaf, as_row, as_registers, shape, as_list, as_items, kept_items, along, kept_child, leaf_kept}
+use Rattle.st_edited.proofs.Beneath.{row_above}
+use Rattle.st_edited.proofs.Made.{IsFilled, alike, all_full, fresh, keeps, made_verdict, no_members, old_full, old_node, put_is}
+use Rattle.st_edited.proofs.Named.{are_allowed, group_is, own_all, registers_new, top_from, top_has, top_nodes, trees_form, with_first, with_has, with_others}
+use Rattle.st_edited.proofs.NewTrees.{item_nodes, tops_shown}
+use Rattle.st_edited.proofs.Rows.{owners_same, shown_take, shown_drop, shown_joined}
+use Rattle.st_edited.proofs.Ruled.{row_ruled}
+
+-- ## A row in which a group comes after a cell
+
+pub owners_joined : (xs ys : List Slot) → owners_shown (xs ++ ys) ≡ owners_shown xs ++ owners_shown ys
+owners_joined [] ys = refl
+owners_joined (s ∷ xs) ys = ap (λ ns. cond s.full (s.node ∷ []) [] ++ ns) (owners_joined xs ys) ∙ sym (append_assoc (cond s.full (s.node ∷ []) []) (owners_shown xs) (owners_shown ys))
+
+module _ (D E : Document) (N : Intent) (m : NodeId) (new : List Owned) (full_new : (o : Owned) → Has new o → is_cell o.cell (E.place o.node) ≡ true) (c : CellId) (here : group_at N m (Some c) ≡ new)
+    (elsewhere : (d : CellId) → d ≢ c → group_at N m (Some d) ≡ []) where
+  abbrev now : List Owned → List NodeId
+  now os = owners_shown (map (slot E) os)
+
+  abbrev was : List Owned → List NodeId
+  was os = owners_shown (map (slot D) os)
+
+  abbrev live : List Owned → List Slot
+  live os = filter (λ (s : Slot). s.full) (map (slot D) os)
+
+  ungrown : (os : List Owned) → ((o : Owned) → Has os o → o.cell ≢ c) → with_groups N m os ≡ os
+  ungrown [] out = refl
+  ungrown (o ∷ os) out = (λ i. o ∷ (elsewhere o.cell (out o (inl refl)) i ++ with_groups N m os)) ∙ ap (λ l. o ∷ l) (ungrown os (λ p h. out p (inr h)))
+
+  new_now : now new ≡ map (λ (o : Owned). o.node) new
+  new_now = all_full E new full_new
+
+  live_has : (os : List Owned) (i : ℕ) (s : Slot) → slice_get (live os) i ≡ Some s → (o : Owned) × Has os o × (o.cell ≡ s.cell)
+  live_has [] i s e = cc
+  live_has (o ∷ os) i s e = go (slot D o).full i (λ j f. live_has os j s f) e
+    where
+      later : (p : Owned) × Has os p × (p.cell ≡ s.cell) → (p : Owned) × Has (o ∷ os) p × (p.cell ≡ s.cell)
+      later p = (p.0, inr p.1, p.2)
+
+      go : (b : Bool) (i : ℕ) → ((j : ℕ) → slice_get (live os) j ≡ Some s → (p : Owned) × Has os p × (p.cell ≡ s.cell)) → slice_get (cond b (slot D o ∷ live os) (live os)) i ≡ Some s → (p : Owned) × Has (o ∷ os) p × (p.cell ≡ s.cell)
+      go false i rest f = later (rest i f)
+      go true zero rest f = let q : slot D o ≡ s = cc in (o, inl refl, ap (λ (s : Slot). s.cell) q)
+      go true (suc i) rest f = later (rest i f)
+
+  pub grown : (os : List Owned) (i : ℕ) (s : Slot) → AreDistinct (λ (o : Owned). o.cell) os → ((o : Owned) → Has os o → is_cell o.cell (E.place o.node) ≡ is_cell o.cell (D.place o.node)) → slice_get (live os) i ≡ Some s → s.cell ≡ c
+      → now (with_groups N m os) ≡ take (suc i) (was os) ++ (map (λ (o : Owned). o.node) new ++ drop (suc i) (was os))
+  grown [] i s once same e is = cc
+  grown (o ∷ os) i s once same e is =
+      ap (λ b. cond b (o.node ∷ []) [] ++ now (group_at N m (Some o.cell) ++ with_groups N m os)) (same o (inl refl))
+      ∙ go (is_cell o.cell (D.place o.node)) refl i (λ j f. grown os j s once.1 (λ p h. same p (inr h)) f is) e
+    where
+      behind : (j : ℕ) → slice_get (live os) j ≡ Some s → now (group_at N m (Some o.cell) ++ with_groups N m os) ≡ now (with_groups N m os)
+      behind j f =
+          let p = live_has os j s f in
+          ap (λ l. now (l ++ with_groups N m os)) (elsewhere o.cell (λ q. all-has (λ (p : Owned). p.cell ≢ o.cell) os p.0 once.0 p.1 (p.2 ∙ is ∙ sym q)))
+
+      first_here : o.cell ≡ c → now (group_at N m (Some o.cell) ++ with_groups N m os) ≡ map (λ (o : Owned). o.node) new ++ was os
+      first_here q =
+          (λ i. now ((ap (λ d. group_at N m (Some d)) q ∙ here) i ++ ungrown os (λ p h r. all-has (λ (p : Owned). p.cell ≢ o.cell) os p once.0 h (r ∙ sym q)) i))
+          ∙ ap owners_shown (map-append (slot E) new os) ∙ owners_joined (map (slot E) new) (map (slot E) os)
+          ∙ (λ i. new_now i ++ owners_same D E os (λ p h. same p (inr h)) i)
+
+      go : (b : Bool) → is_cell o.cell (D.place o.node) ≡ b → (i : ℕ) → ((j : ℕ) → slice_get (live os) j ≡ Some s → now (with_groups N m os) ≡ take (suc j) (was os) ++ (map (λ (o : Owned). o.node) new ++ drop (suc j) (was os)))
+          → slice_get (cond b (slot D o ∷ live os) (live os)) i ≡ Some s
+          → cond b (o.node ∷ []) [] ++ now (group_at N m (Some o.cell) ++ with_groups N m os)
+          ≡ take (suc i) (cond b (o.node ∷ []) [] ++ was os) ++ (map (λ (o : Owned). o.node) new ++ drop (suc i) (cond b (o.node ∷ []) [] ++ was os))
+      go false q i rest f = behind i f ∙ rest i f
+      go true q zero rest f =
+          let first : slot D o ≡ s = cc in
+          ap (λ ns. o.node ∷ ns) (first_here (ap (λ (s : Slot). s.cell) first ∙ is))
+      go true q (suc i) rest f = ap (λ ns. o.node ∷ ns) (behind i f ∙ rest i f)
+
+-- ## New items in a row
+
+module _ (D : Document) (G : Given) (m : NodeId) (index : ℕ) (trees : Nodes) (sound : IsSoundInForm D) (nodes : NodesFresh D G) (known : IsSome (D.nodes m)) (form : Rattle.st_tree.specs.Form.all_have_form trees ≡ true)
+    (fits : Fits D (inserted D G m index (named G trees))) where
+  abbrev xs : List FlatNode
+  xs = named G trees
+
+  abbrev left : Option CellId
+  left = left_of D m index
+
+  abbrev gs : List Group
+  gs = with_group (group_of m left (top_cells xs)) (groups_under xs)
+
+  abbrev N : Intent
+  N = inserted D G m index xs
+
+  abbrev E : Document
+  E = full D N
+
+  counted : Rattle.st_resolve.proofs.Numbered.Counted G.rev G.nodes xs G.nodes G.cells
+  counted = tops_counted G.rev G.nodes G.nodes G.cells trees (omega arith)
+
+  in_top : (o : Owned) → Has (top_cells xs) o → Has ((with_names D N).rows m) o
+  in_top o h = go (top_cells xs) refl
+    where
+      go : (os : List Owned) → top_cells xs ≡ os → Has ((with_names D N).rows m) o
+      go [] e = absurd (subst (λ os. Has os o) e h)
+      go (p ∷ os) e =
+          made_cell D N sound fits (record { node = m; after = left; cells = p ∷ os }) o (with_first (group_of m left (top_cells xs)) (groups_under xs) (record { node = m; after = left; cells = p ∷ os }) (ap (group_of m left) e))
+          (subst (λ os. Has os o) e h)
+
+  top_row : (o : Owned) → Has (top_cells xs) o → (with_names D N).row_of o.cell ≡ Some m
+  top_row o h = (row_cells D N sound fits m o (in_top o h)).0
+
+  pub filled : IsFilled D G None m xs gs (registers xs)
+  filled = record {
+    sound = sound;
+    fits = fits;
+    counted = counted;
+    rows = tops_rows xs G.rev G.nodes G.cells trees form (λ x h. h);
+    nodes_fresh = nodes;
+    known = known;
+    into_m = tt;
+    groups = λ g h. elim (with_has (group_of m left (top_cells xs)) (groups_under xs) g h) [
+      | inl e ↦ inl (group_is m left (top_cells xs) g e).0
+      | inr k ↦ (let x = filter-from (group_under xs) xs g k in inr (x.0, x.1, x.2))
+    ];
+    own_group = λ x g h e. with_others (group_of m left (top_cells xs)) (groups_under xs) g (has-filter_map (group_under xs) xs x g h e);
+    clears_old = λ f h. inr (registers_new D G xs counted nodes f h);
+    tops = λ v d h e _. top_row (owned d v.node) (top_has xs v d h e);
+  }
+
+  group_m : (g : Group) → Has gs g → g.node ≡ m → (g.after ≡ left) × (g.cells ≡ top_cells xs)
+  group_m g h e = elim (with_has (group_of m left (top_cells xs)) (groups_under xs) g h) [
+    | inl q ↦ (let w = group_is m left (top_cells xs) g q in (w.1, w.2))
+    | inr k ↦ (let x = filter-from (group_under xs) xs g k in absurd (new_not_m x.0 x.1 (sym (under_node x.0 g x.2) ∙ e)))
+  ]
+    where
+      new_not_m : (x : FlatNode) → Has xs x → x.node ≡ m → ⊥
+      new_not_m x i q = none_some (D.nodes m) (ap D.nodes (sym q) ∙ fresh D G None m xs gs (registers xs) filled x i) known
+        where
+          none_some : {A : Type 0} (o : Option A) → o ≡ None → IsSome o → ⊥
+          none_some None e h = cc
+          none_some (Some x) e h = cc
+
+      under_node : (x : FlatNode) (g : Group) → group_under xs x ≡ Some g → g.node ≡ x.node
+      under_node x g q = go x.row q
+        where
+          go : (b : Bool) → cond b (group_of x.node None (Rattle.st_resolve.specs.New.cells_under xs x.node)) None ≡ Some g → g.node ≡ x.node
+          go true r = (group_is x.node None (Rattle.st_resolve.specs.New.cells_under xs x.node) g r).0
+          go false r = absurd (cc)
+
+  at_left : group_at N m left ≡ top_cells xs
+  at_left = go (top_cells xs) refl
+    where
+      go : (os : List Owned) → top_cells xs ≡ os → group_at N m left ≡ top_cells xs
+      go [] e = no_members (group_at N m left) (λ o k.
+          let g = group_at-group N m left o k in
+          subst (λ os. Has os o) ((group_m g.group g.listed g.node).1 ∙ e) g.cell) ∙ sym e
+      go (o ∷ os) e =
+          group_found N fits.itself (record { node = m; after = left; cells = o ∷ os }) (with_first (group_of m left (top_cells xs)) (groups_under xs) (record { node = m; after = left; cells = o ∷ os }) (ap (group_of m left) e)) ∙ sym e
+
+  at_other : (a : Option CellId) → a ≢ left → group_at N m a ≡ []
+  at_other a apart = no_members (group_at N m a) (λ o k. (let g = group_at-group N m a o k in apart (sym g.after ∙ (group_m g.group g.listed g.node).0)))
+
+  top_full : (o : Owned) → Has (top_cells xs) o → is_cell o.cell (E.place o.node) ≡ true
+  top_full o h =
+      let y = top_from xs o h in
+      let put : put_of N o.node ≡ Some (To.Cell o.cell) = ap (put_of N) (sym y.3) ∙ put_is D G None m xs gs (registers xs) filled y.0 y.1 ∙ ap (λ at. Some (to_at None at)) y.2 in
+      ap (λ p. is_cell o.cell (place_after (with_names D N).row_of N p (D.place o.node))) put
+      ∙ ap (λ r. is_cell o.cell (option_map_or (λ n. Spot.Row n o.cell) r Spot.Nowhere)) (top_row o h) ∙ same_cell-itself o.cell
+
+  old_same : (o : Owned) → Has (D.rows m) o → is_cell o.cell (E.place o.node) ≡ is_cell o.cell (D.place o.node)
+  old_same o h = old_full D G None m xs gs (registers xs) filled o.cell o.node (sound.cells_known m o h).1
+
+  abbrev owners : List NodeId
+  owners = owners_shown (content D m)
+
+  abbrev new : List NodeId
+  new = map (λ (o : Owned). o.node) (top_cells xs)
+
+-- the row with the new items, by where they come
+module _ (D : Document) (G : Given) (m : NodeId) (trees : Nodes) (sound : IsSoundInForm D) (nodes : NodesFresh D G) (known : IsSome (D.nodes m)) (form : Rattle.st_tree.specs.Form.all_have_form trees ≡ true) where
+  row_with : (index : ℕ) (fits : Fits D (inserted D G m index (named G trees))) → index ≤ row_length D m
+      → owners_shown (content (full D (inserted D G m index (named G trees))) m) ≡ take index (owners_shown (content D m)) ++ (map (λ (o : Owned). o.node) (top_cells (named G trees)) ++ drop index (owners_shown (content D m)))
+  row_with zero fits le =
+      let M = inserted D G m zero (named G trees) in
+      let F = full D M in
+      (λ i. owners_shown (map (slot F) (at_left D G m zero trees sound nodes known form fits i ++ ungroup (D.rows m) i)))
+      ∙ ap owners_shown (map-append (slot F) (top_cells (named G trees)) (D.rows m)) ∙ owners_joined (map (slot F) (top_cells (named G trees))) (map (slot F) (D.rows m))
+      ∙ (λ i. all_full F (top_cells (named G trees)) (top_full D G m zero trees sound nodes known form fits) i ++ owners_same D F (D.rows m) (old_same D G m zero trees sound nodes known form fits) i)
+    where
+      ungroup : (os : List Owned) → with_groups (inserted D G m zero (named G trees)) m os ≡ os
+      ungroup [] = refl
+      ungroup (o ∷ os) = (λ i. o ∷ (at_other D G m zero trees sound nodes known form fits (Some o.cell) (λ e. cc) i ++ with_groups (inserted D G m zero (named G trees)) m os)) ∙ ap (λ l. o ∷ l) (ungroup os)
+  row_with (suc k) fits le = go (slice_get (live_slots D m) k) refl
+    where
+      M : Intent
+      M = inserted D G m (suc k) (named G trees)
+
+      go : (o : Option Slot) → slice_get (live_slots D m) k ≡ o
+          → owners_shown (content (full D M) m) ≡ take (suc k) (owners_shown (content D m)) ++ (map (λ (o : Owned). o.node) (top_cells (named G trees)) ++ drop (suc k) (owners_shown (content D m)))
+      go None e = absurd (past (live_slots D m) k e le)
+        where
+          past : (ss : List Slot) (k : ℕ) → slice_get ss k ≡ None → suc k ≤ length ss → ⊥
+          past [] k e le = omega arith
+          past (s ∷ ss) zero e le = cc
+          past (s ∷ ss) (suc k) e le = past ss k e (omega arith)
+      go (Some s) e =
+          let is : left_of D m (suc k) ≡ Some s.cell = ap (option_map (λ (s : Slot). s.cell)) e in
+          let first : group_at M m None ≡ [] = at_other D G m (suc k) trees sound nodes known form fits None (λ q. (let bad : None ≡ Some s.cell = q ∙ is in cc)) in
+          ap (λ l. owners_shown (map (slot (full D M)) (l ++ with_groups M m (D.rows m)))) first
+          ∙ grown D (full D M) M m (top_cells (named G trees)) (top_full D G m (suc k) trees sound nodes known form fits) s.cell
+          (ap (group_at M m) (sym is) ∙ at_left D G m (suc k) trees sound nodes known form fits)
+          (λ d apart. at_other D G m (suc k) trees sound nodes known form fits (Some d) (λ q. (let same : Some d ≡ Some s.cell = q ∙ is in let c : d ≡ s.cell = cc in apart c)))
+          (D.rows m) k s (sound.once m) (old_same D G m (suc k) trees sound nodes known form fits) e refl
+
+-- ## An insertion
+
+record IsInsertion (D : Document) (s : SchemaView) (G : Given) (at : List Place) (key : Key) (index : ℕ) (trees : Nodes) (N : Intent) : Type 0 where
+  pub node : NodeId
+  pub way : walk D at ≡ Ok node
+  pub type : NodeType
+  pub known : D.nodes node ≡ Some type
+  pub rowed : (is_array : List ℕ → Bool) → is_sound s ≡ true → TellsRows is_array s → is_array type.ty ≡ true
+  pub types : List (List ℕ)
+  pub allowed : list_all (λ ok. ok) (items_verdicts s types trees) ≡ true
+  pub in_range : index ≤ row_length D node
+  pub intent : inserted D G node index (named G trees) ≡ N
+
+is_insertion : (D : Document) (s : SchemaView) (G : Given) (at : List Place) (key : Key) (index : ℕ) (trees : Nodes) (N : Intent) → insert D s G at key index trees ≡ Ok N → IsInsertion D s G at key index trees N
+is_insertion D s G at key index trees N e =
+    let n = passed (walk D at) _ N e in
+    let rule = passed (rule_for field.Row D s n.0 key) _ N n.2 in
+    let u = passed (ask (nat_le index (row_length D n.0)) Range) _ N rule.2 in
+    let xs = passed (allowed s G rule.0 trees) (λ xs. Ok (inserted D G n.0 index xs)) N u.2 in
+    let is : inserted D G n.0 index xs.0 ≡ N = cc in
+    let t = row_ruled D s n.0 key rule.0 rule.1 in
+    let a = are_allowed s G rule.0 trees xs.0 xs.1 in
+    let test : nat_le index (row_length D n.0) ≡ true = asked (nat_le index (row_length D n.0)) u.0 u.1 in
+    record { node = n.0; way = n.1; type = t.0; known = t.1; rowed = t.2; types = rule.0.types; allowed = a.0; in_range = grind (arith, nat_tests); intent = ap (inserted D G n.0 index) a.1 ∙ is }
+  where
+    asked : (b : Bool) (u : Unit {0}) → ask b Range ≡ Ok u → b ≡ true
+    asked true u h = refl
+    asked false u h = cc
+
+module _ (D : Document) (s : SchemaView) (G : Given) (at : List Place) (key : Key) (index : ℕ) (trees : Nodes) (N : Intent) (sound : IsSoundInForm D) (nodes : NodesFresh D G) (cells : CellsFresh D G) (e : insert D s G at key index trees ≡ Ok N) where
+  w : IsInsertion D s G at key index trees N
+  w = is_insertion D s G at key index trees N e
+
+  form : Rattle.st_tree.specs.Form.all_have_form trees ≡ true
+  form = trees_form s w.types trees w.allowed
+
+  fits : Fits D (inserted D G w.node index (named G trees))
+  fits = subst (Fits D) (sym w.intent) (insert_fits D s G at key index trees N sound nodes cells e)
+
+  there : IsSome (D.nodes w.node)
+  there = ap is_some w.known
+
+  abbrev F : Document
+  F = full D (inserted D G w.node index (named G trees))
+
+  abbrev groups : List Group
+  groups = with_group (group_of w.node (left_of D w.node index) (top_cells (named G trees))) (groups_under (named G trees))
+
+  all : IsFilled D G None w.node (named G trees) groups (registers (named G trees))
+  all = filled D G w.node index trees sound nodes there form fits
+
+  pub insertion_verdict : IsVerdict D N Verdict.Sound
+  insertion_verdict = subst (λ N. IsVerdict D N Verdict.Sound) w.intent (made_verdict D G None w.node (named G trees) groups (registers (named G trees)) all)
+
+  module _ (is_array : List ℕ → Bool) (schema : is_sound s ≡ true) (tells : TellsRows is_array s) where
+    old_alike : (x : NodeId) → IsSome (D.nodes x) → x ≢ w.node → Rattle.st_edited.specs.Alike.AreAlikeAt D F x
+    old_alike = alike D G None w.node (named G trees) groups (registers (named G trees)) all
+
+    new_shown : AreShown is_array F (map (λ (o : Owned). o.node) (top_cells (named G trees))) (listed (trees_data trees))
+    new_shown =
+        subst (λ ns. AreShown is_array F ns (listed (trees_data trees))) (sym (top_nodes G.rev G.nodes G.cells trees))
+        (as_list is_array F
+        (tops_shown s is_array tells G.rev F (named G trees) (keeps D G None w.node (named G trees) groups (registers (named G trees)) all) w.types G.nodes G.cells trees w.allowed
+        (own_all G.rev (named G trees) G.nodes (G.nodes + item_count trees))))
+
+    here : (d : Data) → Shows is_array D w.node d → Shows is_array F w.node (with_items index (listed (trees_data trees)) d)
+    here d shows = by d (shape shows)
+      where
+        by : (d : Data) → Shape is_array D w.node d → Shows is_array F w.node (with_items index (listed (trees_data trees)) d)
+        by d (as_leaf ty v p q) =
+            subst (λ d. Shows is_array F w.node (with_items index (listed (trees_data trees)) d)) (sym q)
+            (subst (Shows is_array F w.node) (sym (leaf_kept (in_row (λ ds. take index ds ++ (listed (trees_data trees) ++ drop index ds))) v))
+            (shows_leaf w.node ty v (old_node D G None w.node (named G trees) groups (registers (named G trees)) all w.node _ p)))
+        by d (as_row ty items p a r q) =
+            let owners = owners_shown (content D w.node) in
+            let fresh_nodes = map (λ (o : Owned). o.node) (top_cells (named G trees)) in
+            let now = kept_items is_array D F owners (listed items) (as_list is_array D r) (λ x h. kept_child is_array D F sound w.node old_alike x (row_above D sound w.node x h)) in
+            subst (λ d. Shows is_array F w.node (with_items index (listed (trees_data trees)) d)) (sym q)
+            (shows_row w.node ty (items_of (take index (listed items) ++ (listed (trees_data trees) ++ drop index (listed items)))) (old_node D G None w.node (named G trees) groups (registers (named G trees)) all w.node _ p) a
+            (subst (λ ns. ShowsItems is_array F ns (items_of (take index (listed items) ++ (listed (trees_data trees) ++ drop index (listed items))))) (sym (row_with D G w.node trees sound nodes there form index fits w.in_range))
+            (as_items is_array F (take index owners ++ (fresh_nodes ++ drop index owners)) (take index (listed items) ++ (listed (trees_data trees) ++ drop index (listed items)))
+            (shown_joined is_array F (take index owners) (take index (listed items)) (fresh_nodes ++ drop index owners) (listed (trees_data trees) ++ drop index (listed items))
+            (shown_take is_array F index owners (listed items) now)
+            (shown_joined is_array F fresh_nodes (listed (trees_data trees)) (drop index owners) (drop index (listed items)) new_shown (shown_drop is_array F index owners (listed items) now))))))
+        by d (as_registers ty keys ms p a l r q) =
+            let both : Some w.type ≡ Some (record { ty = ty; leaf = None }) = sym w.known ∙ p in
+            let same : w.type ≡ record { ty = ty; leaf = None } = cc in
+            absurd (true-false (w.rowed is_array schema tells) (ap (λ (t : NodeType). is_array t.ty) same ∙ a))
+
+    pub insertion_seen : (d : Data) → Shows is_array D root d → Shows is_array (full D N) root (at_path at (with_items index (listed (trees_data trees))) d)
+    insertion_seen d shows =
+        subst (λ N. Shows is_array (full D N) root (at_path at (with_items index (listed (trees_data trees))) d)) w.intent
+        ((along is_array D F sound w.node old_alike (with_items index (listed (trees_data trees))) here at 0 root w.way).1 d shows)

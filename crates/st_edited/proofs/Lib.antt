@@ -1,0 +1,13 @@
+pub mod Beneath
+pub mod Alike
+pub mod Along
+pub mod Rows
+pub mod Sound
+pub mod Ruled
+pub mod Removed
+pub mod Keys
+pub mod Cleared
+pub mod NewTrees
+pub mod Made
+pub mod Named
+pub mod Inserted

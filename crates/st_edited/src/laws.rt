@@ -1,0 +1,45 @@
+//! Laws about edits and trees: each is the contract of a function that does nothing.
+ghost use Rattle.std.specs.Prelude.{◌≡◌, ℕ, Bool, true, List, Ok};
+ghost use Rattle.serde_json.specs.Data.{Data};
+ghost use Rattle.st_ids.specs.declared.names.Key.{Key};
+ghost use Rattle.st_ids.specs.declared.names.NodeId.{NodeId};
+ghost use Rattle.st_ids.specs.declared.names.Place.{Place};
+ghost use Rattle.st_schema.specs.Schema.{SchemaView, is_sound};
+ghost use Rattle.st_marks.specs.declared.intents.Intent.{Intent};
+ghost use Rattle.st_marks.specs.declared.verdicts.Verdict.{Verdict};
+ghost use Rattle.st_marks.specs.Document.{Document, IsSoundInForm, root};
+ghost use Rattle.st_marks.specs.CarryOut.{full};
+ghost use Rattle.st_marks.specs.Verdict.{IsVerdict};
+ghost use Rattle.st_marks.specs.LiveTree.{Shows};
+ghost use Rattle.st_resolve.specs.declared.rules.Given.{Given};
+ghost use Rattle.st_resolve.specs.Resolve.{clear, need, remove};
+ghost use Rattle.st_edited.specs.Alike.{AreAlikeFrom};
+ghost use Rattle.st_edited.specs.Edited.{TellsRows, at_path, without_items, without_key};
+
+/// Documents that are alike at each node from one downwards show one tree there.
+pub fn same_below_same_tree()
+    ensures { (is_array : List ℕ → Bool) (D E : Document) (n : NodeId) (d : Data) → IsSoundInForm D → AreAlikeFrom D E n → Shows is_array D n d → Shows is_array E n d }
+{}
+
+/// A removal is sound, and shows the tree without the items.
+pub fn removal_is_seen()
+    ensures verdict { (D : Document) (s : SchemaView) (G : Given) (at : List Place) (key : Key) (index count : ℕ) (N : Intent) → IsSoundInForm D
+        → remove D s G at key index count ≡ Ok N → IsVerdict D N Verdict.Sound }
+    ensures tree { (is_array : List ℕ → Bool) (D : Document) (s : SchemaView) (G : Given) (at : List Place) (key : Key) (index count : ℕ) (N : Intent) (d : Data) → IsSoundInForm D
+        → is_sound s ≡ true → TellsRows is_array s → remove D s G at key index count ≡ Ok N → Shows is_array D root d → Shows is_array (full D N) root (at_path at (without_items index count) d) }
+{}
+
+/// An emptied field is sound, and shows the tree with nothing under the key.
+pub fn clearing_is_seen()
+    ensures verdict { (D : Document) (s : SchemaView) (G : Given) (at : List Place) (key : Key) (N : Intent) → IsSoundInForm D
+        → clear D s G at key ≡ Ok N → IsVerdict D N Verdict.Sound }
+    ensures tree { (is_array : List ℕ → Bool) (D : Document) (s : SchemaView) (G : Given) (at : List Place) (key : Key) (N : Intent) (d : Data) → IsSoundInForm D
+        → is_sound s ≡ true → TellsRows is_array s → clear D s G at key ≡ Ok N → Shows is_array D root d → Shows is_array (full D N) root (at_path at (without_key key.0) d) }
+{}
+
+/// A need of a node that a path leads to is sound, and changes nothing that is shown.
+pub fn needing_is_seen()
+    ensures verdict { (D : Document) (G : Given) (at : List Place) (N : Intent) → IsSoundInForm D → need D G at ≡ Ok N → IsVerdict D N Verdict.Sound }
+    ensures tree { (is_array : List ℕ → Bool) (D : Document) (G : Given) (at : List Place) (N : Intent) (d : Data) → IsSoundInForm D
+        → need D G at ≡ Ok N → Shows is_array D root d → Shows is_array (full D N) root d }
+{}

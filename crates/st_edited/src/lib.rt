@@ -1,0 +1,6 @@
+//! What an edit of the live tree does to that tree.
+#![tactic(auto)]
+
+mod laws;
+
+pub use laws::{clearing_is_seen, needing_is_seen, removal_is_seen, same_below_same_tree};
