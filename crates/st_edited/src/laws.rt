@@ -1,10 +1,13 @@
 //! Laws about edits and trees: each is the contract of a function that does nothing.
-ghost use Rattle.std.specs.Prelude.{◌≡◌, ℕ, Bool, true, List, Ok};
+ghost use Rattle.std.specs.Prelude.{◌≡◌, ◌≤◌, ℕ, Bool, true, List, None, Ok};
 ghost use Rattle.serde_json.specs.Data.{Data};
 ghost use Rattle.st_ids.specs.declared.names.Key.{Key};
 ghost use Rattle.st_ids.specs.declared.names.NodeId.{NodeId};
 ghost use Rattle.st_ids.specs.declared.names.Place.{Place};
+ghost use Rattle.st_tree.specs.Node.{Nodes};
+ghost use Rattle.st_tree.specs.Preorder.{cell_named, node_named};
 ghost use Rattle.st_schema.specs.Schema.{SchemaView, is_sound};
+ghost use Rattle.st_schema.specs.TreeText.{trees_data};
 ghost use Rattle.st_marks.specs.declared.intents.Intent.{Intent};
 ghost use Rattle.st_marks.specs.declared.verdicts.Verdict.{Verdict};
 ghost use Rattle.st_marks.specs.Document.{Document, IsSoundInForm, root};
@@ -12,9 +15,9 @@ ghost use Rattle.st_marks.specs.CarryOut.{full};
 ghost use Rattle.st_marks.specs.Verdict.{IsVerdict};
 ghost use Rattle.st_marks.specs.LiveTree.{Shows};
 ghost use Rattle.st_resolve.specs.declared.rules.Given.{Given};
-ghost use Rattle.st_resolve.specs.Resolve.{clear, need, remove};
+ghost use Rattle.st_resolve.specs.Resolve.{clear, insert, need, remove};
 ghost use Rattle.st_edited.specs.Alike.{AreAlikeFrom};
-ghost use Rattle.st_edited.specs.Edited.{TellsRows, at_path, without_items, without_key};
+ghost use Rattle.st_edited.specs.Edited.{TellsRows, at_path, listed, with_items, without_items, without_key};
 
 /// Documents that are alike at each node from one downwards show one tree there.
 pub fn same_below_same_tree()
@@ -42,4 +45,15 @@ pub fn needing_is_seen()
     ensures verdict { (D : Document) (G : Given) (at : List Place) (N : Intent) → IsSoundInForm D → need D G at ≡ Ok N → IsVerdict D N Verdict.Sound }
     ensures tree { (is_array : List ℕ → Bool) (D : Document) (G : Given) (at : List Place) (N : Intent) (d : Data) → IsSoundInForm D
         → need D G at ≡ Ok N → Shows is_array D root d → Shows is_array (full D N) root d }
+{}
+
+/// New items in a row are sound, and show the tree with the new trees before the item of the index.
+pub fn insertion_is_seen()
+    ensures verdict { (D : Document) (s : SchemaView) (G : Given) (at : List Place) (key : Key) (index : ℕ) (trees : Nodes) (N : Intent) → IsSoundInForm D
+        → ((k : ℕ) → G.nodes ≤ k → D.nodes (node_named G.rev k) ≡ None) → ((k : ℕ) → G.cells ≤ k → D.row_of (cell_named G.rev k) ≡ None)
+        → insert D s G at key index trees ≡ Ok N → IsVerdict D N Verdict.Sound }
+    ensures tree { (is_array : List ℕ → Bool) (D : Document) (s : SchemaView) (G : Given) (at : List Place) (key : Key) (index : ℕ) (trees : Nodes) (N : Intent) (d : Data) → IsSoundInForm D
+        → is_sound s ≡ true → TellsRows is_array s
+        → ((k : ℕ) → G.nodes ≤ k → D.nodes (node_named G.rev k) ≡ None) → ((k : ℕ) → G.cells ≤ k → D.row_of (cell_named G.rev k) ≡ None)
+        → insert D s G at key index trees ≡ Ok N → Shows is_array D root d → Shows is_array (full D N) root (at_path at (with_items index (listed (trees_data trees))) d) }
 {}

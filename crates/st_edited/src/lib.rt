@@ -3,4 +3,6 @@
 
 mod laws;
 
-pub use laws::{clearing_is_seen, needing_is_seen, removal_is_seen, same_below_same_tree};
+pub use laws::{
+    clearing_is_seen, insertion_is_seen, needing_is_seen, removal_is_seen, same_below_same_tree,
+};
