@@ -11,3 +11,4 @@ pub mod NewTrees
 pub mod Made
 pub mod Named
 pub mod Inserted
+pub mod Filled

@@ -201,14 +201,14 @@ module _ (D : Document) (G : Given) (into : Option FieldId) (m : NodeId) (xs : L
 
   -- ## Its registers
 
-  new_field : (v : FlatNode) (f : FieldId) → Has xs v → v.at ≡ FlatAt.Register f → D.nodes f.node ≡ None
+  pub new_field : (v : FlatNode) (f : FieldId) → Has xs v → v.at ≡ FlatAt.Register f → D.nodes f.node ≡ None
   new_field v f h e =
       let r = number v h in
       let at = subst (IsAt G.rev G.nodes r.number r.cell) e r.at in
       ap D.nodes at.3 ∙ w.nodes_fresh at.0 at.1
 
   -- a node that is put into a register
-  put_there : (v : FlatNode) (f : FieldId) → Has xs v → to_at into v.at ≡ To.Register f → (into ≡ Some f) ⊎ (v.at ≡ FlatAt.Register f)
+  pub put_there : (v : FlatNode) (f : FieldId) → Has xs v → to_at into v.at ≡ To.Register f → (into ≡ Some f) ⊎ (v.at ≡ FlatAt.Register f)
   put_there v f h e = go into v.at refl e
     where
       go : (o : Option FieldId) (at : FlatAt) → v.at ≡ at → to_at o at ≡ To.Register f → (o ≡ Some f) ⊎ (v.at ≡ FlatAt.Register f)
@@ -218,7 +218,7 @@ module _ (D : Document) (G : Given) (into : Option FieldId) (m : NodeId) (xs : L
       go o (FlatAt.Row r c) p q = absurd (cc)
       go o (FlatAt.Register g) p q = let s : g ≡ f = cc in inr (p ∙ ap (λ x. FlatAt.Register x) s)
 
-  filled_from : (f : FieldId) (y : NodeId) → put_in N f ≡ Some y → (v : FlatNode) × Has xs v × (v.node ≡ y) × (to_at into v.at ≡ To.Register f)
+  pub filled_from : (f : FieldId) (y : NodeId) → put_in N f ≡ Some y → (v : FlatNode) × Has xs v × (v.node ≡ y) × (to_at into v.at ≡ To.Register f)
   filled_from f y e =
       let v = has-map put_at xs (record { node = y; to = To.Register f }) (put_in-has N f y e) in
       (v.0, v.1, ap (λ (p : Put). p.node) v.2, ap (λ (p : Put). p.to) v.2)

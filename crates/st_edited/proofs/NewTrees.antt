@@ -309,10 +309,10 @@ split_all a b e = both_true (list_all (λ ok. ok) a) (list_all (λ ok. ok) b) (s
 
 -- ## A tree and what follows it in a list
 
-top_at : (rev : Rev) (at : FlatAt) (n : ℕ) (t : Node) → (top_of rev at n t).at ≡ at
+pub top_at : (rev : Rev) (at : FlatAt) (n : ℕ) (t : Node) → (top_of rev at n t).at ≡ at
 top_at rev at n (node ty leaf fs) = refl
 
-top_node : (rev : Rev) (at : FlatAt) (n : ℕ) (t : Node) → (top_of rev at n t).node ≡ node_named rev n
+pub top_node : (rev : Rev) (at : FlatAt) (n : ℕ) (t : Node) → (top_of rev at n t).node ≡ node_named rev n
 top_node rev at n (node ty leaf fs) = refl
 
 own_tree : (rev : Rev) (xs : List FlatNode) (at : FlatAt) (n d : ℕ) (t : Node) (later : List FlatNode) (low high : ℕ) → low ≤ n → n + node_count t ≤ high → (IsUnder rev n (n + node_count t) at → ⊥)
@@ -356,7 +356,7 @@ tops_under rev n c (first t ts) y h = elim (has-append (listed rev (FlatAt.Top (
 no_under : (rev : Rev) (low high : ℕ) (at : FlatAt) → under at ≡ None → IsUnder rev low high at → ⊥
 no_under rev low high at e w = let bad : None ≡ Some (node_named rev w.0) = sym e ∙ w.3 in cc
 
-first_top : (rev : Rev) (xs : List FlatNode) (n c : ℕ) (t : Node) (ts : Nodes) (low high : ℕ) → low ≤ n → n + node_count t ≤ high → Own rev xs (tops_listed rev n c (first t ts)) low high
+pub first_top : (rev : Rev) (xs : List FlatNode) (n c : ℕ) (t : Node) (ts : Nodes) (low high : ℕ) → low ≤ n → n + node_count t ≤ high → Own rev xs (tops_listed rev n c (first t ts)) low high
     → Has xs (top_of rev (FlatAt.Top (cell_named rev c)) n t) × Own rev xs (inner rev n (c + 1) t) n (n + node_count t)
 first_top rev xs n c t ts low high p q own =
     own_tree rev xs (FlatAt.Top (cell_named rev c)) n (c + 1) t (tops_listed rev (n + node_count t) (c + (1 + cell_count t)) ts) low high p q (no_under rev n (n + node_count t) (FlatAt.Top (cell_named rev c)) refl)

@@ -4,10 +4,10 @@ ghost use Rattle.serde_json.specs.Data.{Data};
 ghost use Rattle.st_ids.specs.declared.names.Key.{Key};
 ghost use Rattle.st_ids.specs.declared.names.NodeId.{NodeId};
 ghost use Rattle.st_ids.specs.declared.names.Place.{Place};
-ghost use Rattle.st_tree.specs.Node.{Nodes};
+ghost use Rattle.st_tree.specs.Node.{Node, Nodes, first, no_nodes};
 ghost use Rattle.st_tree.specs.Preorder.{cell_named, node_named};
 ghost use Rattle.st_schema.specs.Schema.{SchemaView, is_sound};
-ghost use Rattle.st_schema.specs.TreeText.{trees_data};
+ghost use Rattle.st_schema.specs.TreeText.{tree_data, trees_data};
 ghost use Rattle.st_marks.specs.declared.intents.Intent.{Intent};
 ghost use Rattle.st_marks.specs.declared.verdicts.Verdict.{Verdict};
 ghost use Rattle.st_marks.specs.Document.{Document, IsSoundInForm, root};
@@ -15,9 +15,9 @@ ghost use Rattle.st_marks.specs.CarryOut.{full};
 ghost use Rattle.st_marks.specs.Verdict.{IsVerdict};
 ghost use Rattle.st_marks.specs.LiveTree.{Shows};
 ghost use Rattle.st_resolve.specs.declared.rules.Given.{Given};
-ghost use Rattle.st_resolve.specs.Resolve.{clear, insert, need, remove};
+ghost use Rattle.st_resolve.specs.Resolve.{clear, insert, need, put, remove};
 ghost use Rattle.st_edited.specs.Alike.{AreAlikeFrom};
-ghost use Rattle.st_edited.specs.Edited.{TellsRows, at_path, listed, with_items, without_items, without_key};
+ghost use Rattle.st_edited.specs.Edited.{TellsRows, at_path, listed, with_items, with_key, without_items, without_key};
 
 /// Documents that are alike at each node from one downwards show one tree there.
 pub fn same_below_same_tree()
@@ -56,4 +56,15 @@ pub fn insertion_is_seen()
         → is_sound s ≡ true → TellsRows is_array s
         → ((k : ℕ) → G.nodes ≤ k → D.nodes (node_named G.rev k) ≡ None) → ((k : ℕ) → G.cells ≤ k → D.row_of (cell_named G.rev k) ≡ None)
         → insert D s G at key index trees ≡ Ok N → Shows is_array D root d → Shows is_array (full D N) root (at_path at (with_items index (listed (trees_data trees))) d) }
+{}
+
+/// A new tree in a field is sound, and shows the tree with the new one under the key, in the place of what was there.
+pub fn setting_is_seen()
+    ensures verdict { (D : Document) (s : SchemaView) (G : Given) (at : List Place) (key : Key) (t : Node) (N : Intent) → IsSoundInForm D → is_sound s ≡ true
+        → ((k : ℕ) → G.nodes ≤ k → D.nodes (node_named G.rev k) ≡ None) → ((k : ℕ) → G.cells ≤ k → D.row_of (cell_named G.rev k) ≡ None)
+        → put D s G at key (first t no_nodes) ≡ Ok N → IsVerdict D N Verdict.Sound }
+    ensures tree { (is_array : List ℕ → Bool) (D : Document) (s : SchemaView) (G : Given) (at : List Place) (key : Key) (t : Node) (N : Intent) (d : Data) → IsSoundInForm D
+        → is_sound s ≡ true → TellsRows is_array s
+        → ((k : ℕ) → G.nodes ≤ k → D.nodes (node_named G.rev k) ≡ None) → ((k : ℕ) → G.cells ≤ k → D.row_of (cell_named G.rev k) ≡ None)
+        → put D s G at key (first t no_nodes) ≡ Ok N → Shows is_array D root d → Shows is_array (full D N) root (at_path at (with_key key.0 (tree_data t)) d) }
 {}

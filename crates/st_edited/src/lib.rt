@@ -5,4 +5,5 @@ mod laws;
 
 pub use laws::{
     clearing_is_seen, insertion_is_seen, needing_is_seen, removal_is_seen, same_below_same_tree,
+    setting_is_seen,
 };

@@ -1,0 +1,326 @@
+-- What is shown after a new tree is put into a field.
+use Rattle.std.proofs.Common.{◌≡◌, ◌≢◌, ℕ, zero, suc, ◌+◌, ◌≤◌, Bool, true, false, cond, ◌&&◌, ◌||◌, List, [], ◌∷◌, ◌++◌, map, Option, Some, None, IsSome, is_some, Result, Ok, Err, refl, sym, ap, ◌∙◌, subst, arith, inl, inr, ◌⊎◌}
+use Rattle.std.specs.List.{list_all, list_any}
+use Rattle.std.specs.Option.{option_or}
+use Rattle.std.specs.Ordering.{nat_cmp, is_eq, is_lt, match_ordering}
+use Rattle.std.specs.declared.cmp.Ordering.{Ordering}
+use Rattle.std.specs.declared.cmp.Ordering.TheVariants.{Less, Equal, Greater}
+use Rattle.std.specs.Cmp.Lexicographic.{slice_cmp, nat_list_cmp_total}
+use Rattle.std.specs.FinMap.Entries.{below_all, is_sorted}
+use Rattle.std.proofs.lemmas.Cmp.{tied_itself}
+use Rattle.std.proofs.lemmas.Map.Lookups.{exact_bytes}
+use Rattle.serde_json.specs.Data.{Data, Members, no_members, member, put as put_member}
+use Rattle.st_ids.specs.Listing.{Has, IsListing, keyed}
+use Rattle.st_ids.specs.Order.{same_field}
+use Rattle.st_ids.specs.declared.names.CellId.{CellId}
+use Rattle.st_ids.specs.declared.names.FieldId.{FieldId}
+use Rattle.st_ids.specs.declared.names.Key.{Key}
+use Rattle.st_ids.specs.declared.names.NodeId.{NodeId}
+use Rattle.st_ids.specs.declared.names.Place.{Place}
+use Rattle.st_tree.specs.Form.{all_have_form}
+use Rattle.st_tree.specs.Node.{Node, Nodes, first, no_nodes}
+use Rattle.st_tree.specs.Preorder.{cell_named, node_named}
+use Rattle.st_tree.specs.Size.{item_count}
+use Rattle.st_tree.specs.declared.flat.FlatAt.{FlatAt}
+use Rattle.st_tree.specs.declared.flat.FlatNode.{FlatNode}
+use Rattle.st_schema.specs.Conforms.{items_verdicts}
+use Rattle.st_schema.specs.Schema.{SchemaView, is_sound, is_single_kind}
+use Rattle.st_schema.specs.TreeText.{tree_data}
+use Rattle.st_schema.specs.declared.names.KindName.{KindName}
+use Rattle.st_schema.specs.declared.names.KindName.TheVariants.{Required, Optional, Sequence}
+use Rattle.st_marks.specs.declared.intents.Group.{Group}
+use Rattle.st_marks.specs.declared.intents.Intent.{Intent}
+use Rattle.st_marks.specs.declared.intents.Owned.{Owned}
+use Rattle.st_marks.specs.declared.intents.To.{To}
+use Rattle.st_marks.specs.declared.verdicts.Verdict.{Verdict}
+use Rattle.st_marks.specs.Document.{Document, NodeType, IsSoundInForm, content, slot, root}
+use Rattle.st_marks.specs.Intent.{Fits, clears, group_at, put_in}
+use Rattle.st_marks.specs.CarryOut.{full, with_groups, unless_put}
+use Rattle.st_marks.specs.Verdict.{IsVerdict}
+use Rattle.st_marks.specs.LiveTree.{Shows, shows_leaf, shows_registers, ShowsMembers, no_more_members, next_member, owners_shown, register, key_at}
+use Rattle.st_marks.proofs.Lookups.{both_true, clears-has, group_at-group}
+use Rattle.st_marks.proofs.Members.{true-false, has-filter_map}
+use Rattle.st_resolve.specs.New.{groups_under, group_under, registers, to_at}
+use Rattle.st_resolve.specs.Paths.{field_at}
+use Rattle.st_resolve.specs.Resolve.{allowed, named, placed, put, rule_for, walk, is_row}
+use Rattle.st_resolve.specs.declared.rules.Given.{Given}
+use Rattle.st_resolve.specs.declared.rules.Takes.TheVariants as field
+use Rattle.st_resolve.proofs.Fits.{passed}
+use Rattle.st_resolve.proofs.MoveFits.{CellsFresh}
+use Rattle.st_resolve.proofs.NewFits.{made, put_fits, NodesFresh}
+use Rattle.st_resolve.proofs.Numbered.{filter-from, Counted, tops_counted, tops_rows}
+use Rattle.st_edited.specs.Alike.{AreAlikeAt}
+use Rattle.st_edited.specs.Edited.{TellsRows, at_path, in_fields, same_key, with_key}
+use Rattle.st_edited.proofs.Along.{AreShown, Shape, as_leaf, as_row, as_registers, shape, as_list, along, kept_child, kept_members, leaf_kept, same_key-true, same_key-itself}
+use Rattle.st_edited.proofs.Beneath.{held_above}
+use Rattle.st_edited.proofs.Cleared.{same_register}
+use Rattle.st_edited.proofs.Keys.{one_more, with_one}
+use Rattle.st_edited.proofs.Made.{IsFilled, alike, filled, filled_from, fresh, keeps, made_verdict, new_field, old_node, old_unput, put_there}
+use Rattle.st_edited.proofs.Named.{are_allowed, own_all, registers_new, trees_form}
+use Rattle.st_edited.proofs.NewTrees.{tops_shown, first_top, top_of, top_at, top_node}
+use Rattle.st_edited.proofs.Ruled.{ruled_kind}
+
+-- ## Members with one more
+
+abbrev bytes_cmp : List ℕ → List ℕ → Ordering
+bytes_cmp = slice_cmp nat_cmp
+
+abbrev itself : List ℕ → List ℕ
+itself k = k
+
+less_is : (o : Ordering) → is_lt o ≡ true → o ≡ Less
+less_is Less e = refl
+less_is Equal e = cc
+less_is Greater e = cc
+
+-- keys that differ
+apart_less : (key k : List ℕ) → bytes_cmp key k ≡ Less → same_key k key ≡ false
+apart_less key k less = go (same_key k key) refl
+  where
+    go : (b : Bool) → same_key k key ≡ b → same_key k key ≡ false
+    go false e = e
+    go true e = let bad : Less ≡ Equal = sym less ∙ ap (bytes_cmp key) (same_key-true k key e) ∙ tied_itself nat_list_cmp_total key in cc
+
+apart_greater : (key k : List ℕ) → bytes_cmp key k ≡ Greater → same_key k key ≡ false
+apart_greater key k more = go (same_key k key) refl
+  where
+    go : (b : Bool) → same_key k key ≡ b → same_key k key ≡ false
+    go false e = e
+    go true e = let bad : Greater ≡ Equal = sym more ∙ ap (bytes_cmp key) (same_key-true k key e) ∙ tied_itself nat_list_cmp_total key in cc
+
+-- each key is above one
+abbrev AllAbove : List ℕ → List (List ℕ) → Type 0
+AllAbove key ks = (k : List ℕ) → Has ks k → bytes_cmp key k ≡ Less
+
+above_all : (key : List ℕ) (ks : List (List ℕ)) → below_all bytes_cmp key (keyed itself ks) ≡ true → AllAbove key ks
+above_all key [] e k h = absurd h
+above_all key (l ∷ ks) e k (inl q) = subst (λ k. bytes_cmp key k ≡ Less) q (less_is (bytes_cmp key l) (both_true _ _ e).0)
+above_all key (l ∷ ks) e k (inr h) = above_all key ks (both_true (is_lt (bytes_cmp key l)) _ e).1 k h
+
+module _ (is_array : List ℕ → Bool) (D E : Document) (key : List ℕ) (top : NodeId) (new : Data) (shown : Shows is_array E top new) where
+  abbrev Held : NodeId → Type 0
+  Held n = (k : List ℕ) → E.held (register n k) ≡ cond (same_key k key) (Some top) (D.held (register n k))
+
+  abbrev KeptAll : NodeId → Type 0
+  KeptAll n = (k : List ℕ) (x : NodeId) → D.held (register n k) ≡ Some x → (d : Data) → Shows is_array D x d → Shows is_array E x d
+
+  -- behind the key nothing changes
+  members_behind : {n : NodeId} {ks : List (List ℕ)} {ms : Members} → ShowsMembers is_array D n ks ms → Held n → KeptAll n → AllAbove key ks → ShowsMembers is_array E n ks ms
+  members_behind (no_more_members n) held kept above = no_more_members n
+  members_behind (next_member n m k d ks ms p a s) held kept above =
+      next_member n m k d ks ms (held k ∙ ap (λ b. cond b (Some top) (D.held (register n k))) (apart_less key k (above k (inl refl))) ∙ p) (kept k m p d a) (members_behind s held kept (λ l h. above l (inr h)))
+
+  members_with : {n : NodeId} {ks : List (List ℕ)} {ms : Members} → ShowsMembers is_array D n ks ms → is_sorted bytes_cmp (keyed itself ks) ≡ true → Held n → KeptAll n
+      → ShowsMembers is_array E n (with_one key ks) (put_member key new ms)
+  members_with (no_more_members n) rising held kept = next_member n top key new [] no_members (held key ∙ ap (λ b. cond b (Some top) (D.held (register n key))) (same_key-itself key)) shown (no_more_members n)
+  members_with (next_member n m k d ks ms p a s) rising held kept = go (bytes_cmp key k) refl (members_with s parts.1 held kept)
+    where
+      parts : (below_all bytes_cmp k (keyed itself ks) ≡ true) × (is_sorted bytes_cmp (keyed itself ks) ≡ true)
+      parts = both_true (below_all bytes_cmp k (keyed itself ks)) _ rising
+
+      top_held : E.held (register n key) ≡ Some top
+      top_held = held key ∙ ap (λ b. cond b (Some top) (D.held (register n key))) (same_key-itself key)
+
+      go : (o : Ordering) → bytes_cmp key k ≡ o → ShowsMembers is_array E n (with_one key ks) (put_member key new ms)
+          → ShowsMembers is_array E n (match_ordering o (key ∷ (k ∷ ks)) (k ∷ ks) (k ∷ with_one key ks)) (match_ordering o (member key new (member k d ms)) (member k new ms) (member k d (put_member key new ms)))
+      go Less e rest =
+          next_member n top key new (k ∷ ks) (member k d ms) top_held shown
+          (next_member n m k d ks ms (held k ∙ ap (λ b. cond b (Some top) (D.held (register n k))) (apart_less key k e) ∙ p) (kept k m p d a)
+          (members_behind s held kept (λ l h. nat_list_cmp_total.trans key k l e (above_all k ks parts.0 l h))))
+      go Equal e rest =
+          let same = exact_bytes key k e in
+          next_member n top k new ks ms (ap (λ l. E.held (register n l)) (sym same) ∙ top_held) shown
+          (members_behind s held kept (λ l h. ap (λ x. bytes_cmp x l) same ∙ above_all k ks parts.0 l h))
+      go Greater e rest =
+          next_member n m k d (with_one key ks) (put_member key new ms) (held k ∙ ap (λ b. cond b (Some top) (D.held (register n k))) (apart_greater key k e) ∙ p) (kept k m p d a) rest
+
+-- ## A new tree in a field
+
+none_some : {A : Type 0} (o : Option A) → o ≡ None → IsSome o → ⊥
+none_some None e h = cc
+none_some (Some x) e h = cc
+
+module _ (D : Document) (G : Given) (m : NodeId) (key : Key) (t : Node) (sound : IsSoundInForm D) (nodes : NodesFresh D G) (known : IsSome (D.nodes m)) (form : all_have_form (first t no_nodes) ≡ true)
+    (fits : Fits D (placed D G (field_at m key) (named G (first t no_nodes)))) where
+  abbrev xs : List FlatNode
+  xs = named G (first t no_nodes)
+
+  abbrev f : FieldId
+  f = field_at m key
+
+  abbrev N : Intent
+  N = placed D G f xs
+
+  abbrev E : Document
+  E = full D N
+
+  abbrev fs : List FieldId
+  fs = f ∷ registers xs
+
+  counted : Counted G.rev G.nodes xs G.nodes G.cells
+  counted = tops_counted G.rev G.nodes G.nodes G.cells (first t no_nodes) (omega arith)
+
+  pub all : IsFilled D G (Some f) m xs (groups_under xs) fs
+  all = record {
+    sound = sound;
+    fits = fits;
+    counted = counted;
+    rows = tops_rows xs G.rev G.nodes G.cells (first t no_nodes) form (λ x h. h);
+    nodes_fresh = nodes;
+    known = known;
+    into_m = refl;
+    groups = λ g h. (let x = filter-from (group_under xs) xs g h in inr (x.0, x.1, x.2));
+    own_group = λ x g h e. has-filter_map (group_under xs) xs x g h e;
+    clears_old = λ g h. elim h [ inl q ↦ inl (ap (λ (k : FieldId). k.node) (sym q)) | inr k ↦ inr (registers_new D G xs counted nodes g k) ];
+    tops = λ v d h e bad. absurd (cc);
+  }
+
+  top : Has xs (top_of G.rev (FlatAt.Top (cell_named G.rev G.cells)) G.nodes t)
+  top = (first_top G.rev xs G.nodes G.cells t no_nodes G.nodes (G.nodes + item_count (first t no_nodes)) (omega arith) (omega arith) (own_all G.rev xs G.nodes (G.nodes + item_count (first t no_nodes)))).0
+
+  top_held : E.held f ≡ Some (node_named G.rev G.nodes)
+  top_held =
+      filled D G (Some f) m xs (groups_under xs) fs all (top_of G.rev (FlatAt.Top (cell_named G.rev G.cells)) G.nodes t) f top (ap (to_at (Some f)) (top_at G.rev (FlatAt.Top (cell_named G.rev G.cells)) G.nodes t))
+      ∙ ap (λ x. Some x) (top_node G.rev (FlatAt.Top (cell_named G.rev G.cells)) G.nodes t)
+
+  other_held : (k : List ℕ) → same_key key.0 k ≡ false → E.held (register m k) ≡ D.held (register m k)
+  other_held k apart = go (put_in N (register m k)) refl
+    where
+      uncleared : (b : Bool) → clears N (register m k) ≡ b → clears N (register m k) ≡ false
+      uncleared false e = e
+      uncleared true e = elim (clears-has fs (register m k) e) [
+        | inl q ↦ absurd (true-false (same_key-itself key.0) (ap (λ (g : FieldId). same_key key.0 g.key.0) q ∙ apart))
+        | inr h ↦ absurd (none_some (D.nodes m) (registers_new D G xs counted nodes (register m k) h) known)
+      ]
+
+      unput : (o : Option NodeId) → D.held (register m k) ≡ o → unless_put N o ≡ o
+      unput None e = refl
+      unput (Some y) e = ap (λ b. cond b None (Some y)) (ap is_some (old_unput D G (Some f) m xs (groups_under xs) fs all y (sound.held_known y (register m k) e).0))
+
+      go : (o : Option NodeId) → put_in N (register m k) ≡ o → option_or o (cond (clears N (register m k)) None (unless_put N (D.held (register m k)))) ≡ D.held (register m k)
+      go None e = ap (λ b. cond b None (unless_put N (D.held (register m k)))) (uncleared (clears N (register m k)) refl) ∙ unput (D.held (register m k)) refl
+      go (Some y) e =
+          let v = filled_from D G (Some f) m xs (groups_under xs) fs all (register m k) y e in
+          elim (put_there D G (Some f) m xs (groups_under xs) fs all v.0 (register m k) v.1 v.3) [
+            | inl q ↦ (let same : f ≡ register m k = cc in absurd (true-false (same_key-itself key.0) (ap (λ (g : FieldId). same_key key.0 g.key.0) same ∙ apart)))
+            | inr q ↦ absurd (none_some (D.nodes m) (new_field D G (Some f) m xs (groups_under xs) fs all v.0 (register m k) v.1 q) known)
+          ]
+
+  swap_false : (k : List ℕ) → same_key k key.0 ≡ false → same_key key.0 k ≡ false
+  swap_false k e = go (same_key key.0 k) refl
+    where
+      go : (b : Bool) → same_key key.0 k ≡ b → same_key key.0 k ≡ false
+      go false q = q
+      go true q = absurd (true-false (same_key-itself k) (ap (same_key k) (sym (same_key-true key.0 k q)) ∙ e))
+
+  pub held_here : (k : List ℕ) → E.held (register m k) ≡ cond (same_key k key.0) (Some (node_named G.rev G.nodes)) (D.held (register m k))
+  held_here k = go (same_key k key.0) refl
+    where
+      go : (b : Bool) → same_key k key.0 ≡ b → E.held (register m k) ≡ cond b (Some (node_named G.rev G.nodes)) (D.held (register m k))
+      go true e = ap (λ l. E.held (register m l)) (same_key-true k key.0 e) ∙ top_held
+      go false e = other_held k (swap_false k e)
+
+  pub keys_here : (k : List ℕ) → key_at E m k ≡ cond (same_key k key.0) (Some key.0) (key_at D m k)
+  keys_here k = ap (λ (o : Option NodeId). cond (is_some o) (Some k) None) (held_here k) ∙ go (same_key k key.0) refl
+    where
+      go : (b : Bool) → same_key k key.0 ≡ b → cond (is_some (cond b (Some (node_named G.rev G.nodes)) (D.held (register m k)))) (Some k) None ≡ cond b (Some key.0) (cond (is_some (D.held (register m k))) (Some k) None)
+      go true e = ap (λ l. Some l) (same_key-true k key.0 e)
+      go false e = refl
+
+-- ## A set field
+
+single_unrowed : (k : KindName) → is_single_kind k ≡ true → is_row k ≡ false
+single_unrowed Required e = refl
+single_unrowed Optional e = refl
+single_unrowed Sequence e = cc
+
+record IsSetting (D : Document) (s : SchemaView) (G : Given) (at : List Place) (key : Key) (t : Node) (N : Intent) : Type 0 where
+  pub node : NodeId
+  pub way : walk D at ≡ Ok node
+  pub type : NodeType
+  pub known : D.nodes node ≡ Some type
+  pub unrowed : (is_array : List ℕ → Bool) → is_sound s ≡ true → TellsRows is_array s → is_array type.ty ≡ false
+  pub types : List (List ℕ)
+  pub allowed : list_all (λ ok. ok) (items_verdicts s types (first t no_nodes)) ≡ true
+  pub intent : placed D G (field_at node key) (named G (first t no_nodes)) ≡ N
+
+is_setting : (D : Document) (s : SchemaView) (G : Given) (at : List Place) (key : Key) (t : Node) (N : Intent) → put D s G at key (first t no_nodes) ≡ Ok N → IsSetting D s G at key t N
+is_setting D s G at key t N e =
+    let n = passed (walk D at) _ N e in
+    let rule = passed (rule_for field.Single D s n.0 key) _ N n.2 in
+    let xs = passed (allowed s G rule.0 (first t no_nodes)) (λ xs. Ok (placed D G (field_at n.0 key) xs)) N rule.2 in
+    let is : placed D G (field_at n.0 key) xs.0 ≡ N = cc in
+    let k = ruled_kind field.Single D s n.0 key rule.0 rule.1 in
+    let a = are_allowed s G rule.0 (first t no_nodes) xs.0 xs.1 in
+    record {
+      node = n.0;
+      way = n.1;
+      type = k.0;
+      known = k.1;
+      unrowed = λ is_array schema tells. k.2 is_array schema tells ∙ single_unrowed rule.0.kind k.3;
+      types = rule.0.types;
+      allowed = a.0;
+      intent = ap (placed D G (field_at n.0 key)) a.1 ∙ is;
+    }
+
+module _ (D : Document) (s : SchemaView) (G : Given) (at : List Place) (key : Key) (t : Node) (N : Intent) (sound : IsSoundInForm D) (schema : is_sound s ≡ true) (nodes : NodesFresh D G) (cells : CellsFresh D G)
+    (e : put D s G at key (first t no_nodes) ≡ Ok N) where
+  w : IsSetting D s G at key t N
+  w = is_setting D s G at key t N e
+
+  form : all_have_form (first t no_nodes) ≡ true
+  form = trees_form s w.types (first t no_nodes) w.allowed
+
+  fits_here : Fits D (placed D G (field_at w.node key) (named G (first t no_nodes)))
+  fits_here = subst (Fits D) (sym w.intent) (put_fits D s G at key t N sound schema nodes cells e)
+
+  there : IsSome (D.nodes w.node)
+  there = ap is_some w.known
+
+  abbrev F : Document
+  F = full D (placed D G (field_at w.node key) (named G (first t no_nodes)))
+
+  abbrev cleared : List FieldId
+  cleared = field_at w.node key ∷ registers (named G (first t no_nodes))
+
+  filled_here : IsFilled D G (Some (field_at w.node key)) w.node (named G (first t no_nodes)) (groups_under (named G (first t no_nodes))) cleared
+  filled_here = all D G w.node key t sound nodes there form fits_here
+
+  pub setting_verdict : IsVerdict D N Verdict.Sound
+  setting_verdict = subst (λ N. IsVerdict D N Verdict.Sound) w.intent (made_verdict D G (Some (field_at w.node key)) w.node (named G (first t no_nodes)) (groups_under (named G (first t no_nodes))) cleared filled_here)
+
+  module _ (is_array : List ℕ → Bool) (tells : TellsRows is_array s) where
+    old_alike : (x : NodeId) → IsSome (D.nodes x) → x ≢ w.node → AreAlikeAt D F x
+    old_alike = alike D G (Some (field_at w.node key)) w.node (named G (first t no_nodes)) (groups_under (named G (first t no_nodes))) cleared filled_here
+
+    new_shown : Shows is_array F (node_named G.rev G.nodes) (tree_data t)
+    new_shown =
+        (as_list is_array F
+        (tops_shown s is_array tells G.rev F (named G (first t no_nodes)) (keeps D G (Some (field_at w.node key)) w.node (named G (first t no_nodes)) (groups_under (named G (first t no_nodes))) cleared filled_here)
+        w.types G.nodes G.cells (first t no_nodes) w.allowed (own_all G.rev (named G (first t no_nodes)) G.nodes (G.nodes + item_count (first t no_nodes))))).0
+
+    here : (d : Data) → Shows is_array D w.node d → Shows is_array F w.node (with_key key.0 (tree_data t) d)
+    here d shows = by d (shape shows)
+      where
+        node_kept : (ty : NodeType) → D.nodes w.node ≡ Some ty → F.nodes w.node ≡ Some ty
+        node_kept = old_node D G (Some (field_at w.node key)) w.node (named G (first t no_nodes)) (groups_under (named G (first t no_nodes))) cleared filled_here w.node
+
+        by : (d : Data) → Shape is_array D w.node d → Shows is_array F w.node (with_key key.0 (tree_data t) d)
+        by d (as_leaf ty v p q) =
+            subst (λ d. Shows is_array F w.node (with_key key.0 (tree_data t) d)) (sym q)
+            (subst (Shows is_array F w.node) (sym (leaf_kept (in_fields (put_member key.0 (tree_data t))) v)) (shows_leaf w.node ty v (node_kept _ p)))
+        by d (as_row ty items p a r q) =
+            let both : Some w.type ≡ Some (record { ty = ty; leaf = None }) = sym w.known ∙ p in
+            let same : w.type ≡ record { ty = ty; leaf = None } = cc in
+            absurd (true-false (ap (λ (t : NodeType). is_array t.ty) same ∙ a) (w.unrowed is_array schema tells))
+        by d (as_registers ty keys ms p a l r q) =
+            subst (λ d. Shows is_array F w.node (with_key key.0 (tree_data t) d)) (sym q)
+            (shows_registers w.node ty (with_one key.0 keys) (put_member key.0 (tree_data t) ms) (node_kept _ p) a
+            (one_more key.0 keys (key_at D w.node) (key_at F w.node) (keys_here D G w.node key t sound nodes there form fits_here) l)
+            (members_with is_array D F key.0 (node_named G.rev G.nodes) (tree_data t) new_shown r l.rising (held_here D G w.node key t sound nodes there form fits_here)
+            (λ k x h. kept_child is_array D F sound w.node old_alike x (held_above D sound w.node x k h))))
+
+    pub setting_seen : (d : Data) → Shows is_array D root d → Shows is_array (full D N) root (at_path at (with_key key.0 (tree_data t)) d)
+    setting_seen d shows =
+        subst (λ N. Shows is_array (full D N) root (at_path at (with_key key.0 (tree_data t)) d)) w.intent
+        ((along is_array D F sound w.node old_alike (with_key key.0 (tree_data t)) here at 0 root w.way).1 d shows)
