@@ -32,8 +32,7 @@ use Rattle.st_edited.specs.Alike.{AreAlikeAt}
 use Rattle.st_edited.specs.Edited.{TellsRows, at_path, in_fields, same_key, without, without_key}
 use Rattle.st_edited.proofs.Alike.{same_below}
 use Rattle.st_edited.proofs.Along.{Shape, as_leaf, as_row, as_registers, shape, kept_child, along, live_at, leaf_kept, same_key-true, same_key-itself}
-use Rattle.st_edited.proofs.Beneath.{held_above}
-use Rattle.st_edited.proofs.Keys.{other_keys, one_less}
+use Rattle.st_edited.proofs.AtNode.{member_left}
 use Rattle.st_edited.proofs.Removed.{no_groups, or_none}
 use Rattle.st_edited.proofs.Rows.{owners_same}
 use Rattle.st_edited.proofs.Ruled.{ruled_kind}
@@ -60,19 +59,6 @@ other_register n m k l apart = go (same_field (register n k) (register m l)) ref
     go : (b : Bool) → same_field (register n k) (register m l) ≡ b → same_field (register n k) (register m l) ≡ false
     go false e = e
     go true e = absurd (apart (sym (ap (λ (f : FieldId). f.node) (same_field-true (register n k) (register m l) e))))
-
--- ## Members without those of a key
-
-module _ (is_array : List ℕ → Bool) (D E : Document) (key : List ℕ) where
-  members_without : {n : NodeId} {ks : List (List ℕ)} {ms : Members} → ShowsMembers is_array D n ks ms → ((k : List ℕ) → E.held (register n k) ≡ cond (same_key key k) None (D.held (register n k)))
-      → ((k : List ℕ) (x : NodeId) → D.held (register n k) ≡ Some x → (d : Data) → Shows is_array D x d → Shows is_array E x d) → ShowsMembers is_array E n (other_keys key ks) (without key ms)
-  members_without (no_more_members n) held kept = no_more_members n
-  members_without (next_member n m k d ks ms p a s) held kept = go (same_key key k) refl (members_without s held kept)
-    where
-      go : (b : Bool) → same_key key k ≡ b → ShowsMembers is_array E n (other_keys key ks) (without key ms)
-          → ShowsMembers is_array E n (cond (not b) (k ∷ other_keys key ks) (other_keys key ks)) (cond b (without key ms) (member k d (without key ms)))
-      go true e rest = rest
-      go false e rest = next_member n m k d (other_keys key ks) (without key ms) (held k ∙ ap (λ b. cond b None (D.held (register n k))) e ∙ p) (kept k m p d a) rest
 
 -- ## An intent that only clears one register
 
@@ -121,40 +107,11 @@ module _ (D : Document) (G : Given) (sound : IsSoundInForm D) (m : NodeId) (key 
   held_here : (k : List ℕ) → E.held (register m k) ≡ cond (same_key key.0 k) None (D.held (register m k))
   held_here k = held_is (register m k) ∙ ap (λ b. cond b None (D.held (register m k))) (same_register m key.0 k)
 
-  keys_here : (k : List ℕ) → key_at E m k ≡ cond (not (same_key key.0 k)) (key_at D m k) None
-  keys_here k = ap (λ (o : Option NodeId). cond (is_some o) (Some k) None) (held_here k) ∙ go (same_key key.0 k)
-    where
-      go : (b : Bool) → cond (is_some (cond b None (D.held (register m k)))) (Some k) None ≡ cond (not b) (cond (is_some (D.held (register m k))) (Some k) None) None
-      go true = refl
-      go false = refl
-
   pub cleared_verdict : IsVerdict D N Verdict.Sound
   cleared_verdict = (last_in_effect D G sound, (λ x h. absurd h.0), λ x h. absurd (none h.0))
     where
       none : ◌≡◌ {A = Bool} false true → ⊥
       none e = cc
-
-module _ (is_array : List ℕ → Bool) (D : Document) (G : Given) (sound : IsSoundInForm D) (m : NodeId) (key : Key) where
-  abbrev F : Document
-  F = full D (record (nothing_yet D G) { clear = field_at m key ∷ [] })
-
-  here : (t : NodeType) → D.nodes m ≡ Some t → is_array t.ty ≡ false → (d : Data) → Shows is_array D m d → Shows is_array F m (without_key key.0 d)
-  here t known unrowed d s = by d (shape s)
-    where
-      by : (d : Data) → Shape is_array D m d → Shows is_array F m (without_key key.0 d)
-      by d (as_leaf ty v p q) =
-          subst (λ d. Shows is_array F m (without_key key.0 d)) (sym q)
-          (subst (Shows is_array F m) (sym (leaf_kept (in_fields (without key.0)) v)) (shows_leaf m ty v (nodes_are D G sound m key m ∙ p)))
-      by d (as_row ty items p a r q) =
-          let both : Some t ≡ Some (record { ty = ty; leaf = None }) = sym known ∙ p in
-          let same : t ≡ record { ty = ty; leaf = None } = cc in
-          absurd (true-false (ap (λ (t : NodeType). is_array t.ty) same ∙ a) unrowed)
-      by d (as_registers ty keys ms p a l r q) =
-          subst (λ d. Shows is_array F m (without_key key.0 d)) (sym q)
-          (shows_registers m ty (other_keys key.0 keys) (without key.0 ms) (nodes_are D G sound m key m ∙ p) a
-          (one_less key.0 keys (key_at D m) (key_at F m) (keys_here D G sound m key) l)
-          (members_without is_array D F key.0 r (held_here D G sound m key)
-          (λ k x e. kept_child is_array D F sound m (λ x _ apart. alike D G sound m key x apart) x (held_above D sound m x k e))))
 
 -- ## An emptied field
 
@@ -189,7 +146,7 @@ clearing_seen is_array D s G at key N d sound schema tells e shows =
     let F = full D (record (nothing_yet D G) { clear = field_at w.node key ∷ [] }) in
     subst (λ N. Shows is_array (full D N) root (at_path at (without_key key.0) d)) w.intent
     ((along is_array D F sound w.node (λ x _ apart. alike D G sound w.node key x apart) (without_key key.0)
-    (here is_array D G sound w.node key w.type w.known (w.unrowed is_array schema tells)) at 0 root w.way).1 d shows)
+    (member_left is_array D F sound w.node (λ x _ apart. alike D G sound w.node key x apart) (λ t e. nodes_are D G sound w.node key w.node ∙ e) w.type w.known key.0 (w.unrowed is_array schema tells) (held_here D G sound w.node key)) at 0 root w.way).1 d shows)
 
 -- ## A need
 

@@ -52,87 +52,13 @@ use Rattle.st_resolve.proofs.Numbered.{filter-from, Counted, tops_counted, tops_
 use Rattle.st_edited.specs.Alike.{AreAlikeAt}
 use Rattle.st_edited.specs.Edited.{TellsRows, at_path, in_fields, same_key, with_key}
 use Rattle.st_edited.proofs.Along.{AreShown, Shape, as_leaf, as_row, as_registers, shape, as_list, along, kept_child, kept_members, leaf_kept, same_key-true, same_key-itself}
-use Rattle.st_edited.proofs.Beneath.{held_above}
+use Rattle.st_edited.proofs.AtNode.{member_comes}
 use Rattle.st_edited.proofs.Cleared.{same_register}
 use Rattle.st_edited.proofs.Keys.{one_more, with_one}
 use Rattle.st_edited.proofs.Made.{IsFilled, alike, filled, filled_from, fresh, keeps, made_verdict, new_field, old_node, old_unput, put_there}
 use Rattle.st_edited.proofs.Named.{are_allowed, own_all, registers_new, trees_form}
 use Rattle.st_edited.proofs.NewTrees.{tops_shown, first_top, top_of, top_at, top_node}
 use Rattle.st_edited.proofs.Ruled.{ruled_kind}
-
--- ## Members with one more
-
-abbrev bytes_cmp : List ℕ → List ℕ → Ordering
-bytes_cmp = slice_cmp nat_cmp
-
-abbrev itself : List ℕ → List ℕ
-itself k = k
-
-less_is : (o : Ordering) → is_lt o ≡ true → o ≡ Less
-less_is Less e = refl
-less_is Equal e = cc
-less_is Greater e = cc
-
--- keys that differ
-apart_less : (key k : List ℕ) → bytes_cmp key k ≡ Less → same_key k key ≡ false
-apart_less key k less = go (same_key k key) refl
-  where
-    go : (b : Bool) → same_key k key ≡ b → same_key k key ≡ false
-    go false e = e
-    go true e = let bad : Less ≡ Equal = sym less ∙ ap (bytes_cmp key) (same_key-true k key e) ∙ tied_itself nat_list_cmp_total key in cc
-
-apart_greater : (key k : List ℕ) → bytes_cmp key k ≡ Greater → same_key k key ≡ false
-apart_greater key k more = go (same_key k key) refl
-  where
-    go : (b : Bool) → same_key k key ≡ b → same_key k key ≡ false
-    go false e = e
-    go true e = let bad : Greater ≡ Equal = sym more ∙ ap (bytes_cmp key) (same_key-true k key e) ∙ tied_itself nat_list_cmp_total key in cc
-
--- each key is above one
-abbrev AllAbove : List ℕ → List (List ℕ) → Type 0
-AllAbove key ks = (k : List ℕ) → Has ks k → bytes_cmp key k ≡ Less
-
-above_all : (key : List ℕ) (ks : List (List ℕ)) → below_all bytes_cmp key (keyed itself ks) ≡ true → AllAbove key ks
-above_all key [] e k h = absurd h
-above_all key (l ∷ ks) e k (inl q) = subst (λ k. bytes_cmp key k ≡ Less) q (less_is (bytes_cmp key l) (both_true _ _ e).0)
-above_all key (l ∷ ks) e k (inr h) = above_all key ks (both_true (is_lt (bytes_cmp key l)) _ e).1 k h
-
-module _ (is_array : List ℕ → Bool) (D E : Document) (key : List ℕ) (top : NodeId) (new : Data) (shown : Shows is_array E top new) where
-  abbrev Held : NodeId → Type 0
-  Held n = (k : List ℕ) → E.held (register n k) ≡ cond (same_key k key) (Some top) (D.held (register n k))
-
-  abbrev KeptAll : NodeId → Type 0
-  KeptAll n = (k : List ℕ) (x : NodeId) → D.held (register n k) ≡ Some x → (d : Data) → Shows is_array D x d → Shows is_array E x d
-
-  -- behind the key nothing changes
-  members_behind : {n : NodeId} {ks : List (List ℕ)} {ms : Members} → ShowsMembers is_array D n ks ms → Held n → KeptAll n → AllAbove key ks → ShowsMembers is_array E n ks ms
-  members_behind (no_more_members n) held kept above = no_more_members n
-  members_behind (next_member n m k d ks ms p a s) held kept above =
-      next_member n m k d ks ms (held k ∙ ap (λ b. cond b (Some top) (D.held (register n k))) (apart_less key k (above k (inl refl))) ∙ p) (kept k m p d a) (members_behind s held kept (λ l h. above l (inr h)))
-
-  members_with : {n : NodeId} {ks : List (List ℕ)} {ms : Members} → ShowsMembers is_array D n ks ms → is_sorted bytes_cmp (keyed itself ks) ≡ true → Held n → KeptAll n
-      → ShowsMembers is_array E n (with_one key ks) (put_member key new ms)
-  members_with (no_more_members n) rising held kept = next_member n top key new [] no_members (held key ∙ ap (λ b. cond b (Some top) (D.held (register n key))) (same_key-itself key)) shown (no_more_members n)
-  members_with (next_member n m k d ks ms p a s) rising held kept = go (bytes_cmp key k) refl (members_with s parts.1 held kept)
-    where
-      parts : (below_all bytes_cmp k (keyed itself ks) ≡ true) × (is_sorted bytes_cmp (keyed itself ks) ≡ true)
-      parts = both_true (below_all bytes_cmp k (keyed itself ks)) _ rising
-
-      top_held : E.held (register n key) ≡ Some top
-      top_held = held key ∙ ap (λ b. cond b (Some top) (D.held (register n key))) (same_key-itself key)
-
-      go : (o : Ordering) → bytes_cmp key k ≡ o → ShowsMembers is_array E n (with_one key ks) (put_member key new ms)
-          → ShowsMembers is_array E n (match_ordering o (key ∷ (k ∷ ks)) (k ∷ ks) (k ∷ with_one key ks)) (match_ordering o (member key new (member k d ms)) (member k new ms) (member k d (put_member key new ms)))
-      go Less e rest =
-          next_member n top key new (k ∷ ks) (member k d ms) top_held shown
-          (next_member n m k d ks ms (held k ∙ ap (λ b. cond b (Some top) (D.held (register n k))) (apart_less key k e) ∙ p) (kept k m p d a)
-          (members_behind s held kept (λ l h. nat_list_cmp_total.trans key k l e (above_all k ks parts.0 l h))))
-      go Equal e rest =
-          let same = exact_bytes key k e in
-          next_member n top k new ks ms (ap (λ l. E.held (register n l)) (sym same) ∙ top_held) shown
-          (members_behind s held kept (λ l h. ap (λ x. bytes_cmp x l) same ∙ above_all k ks parts.0 l h))
-      go Greater e rest =
-          next_member n m k d (with_one key ks) (put_member key new ms) (held k ∙ ap (λ b. cond b (Some top) (D.held (register n k))) (apart_greater key k e) ∙ p) (kept k m p d a) rest
 
 -- ## A new tree in a field
 
@@ -220,13 +146,6 @@ module _ (D : Document) (G : Given) (m : NodeId) (key : Key) (t : Node) (sound :
       go true e = ap (λ l. E.held (register m l)) (same_key-true k key.0 e) ∙ top_held
       go false e = other_held k (swap_false k e)
 
-  pub keys_here : (k : List ℕ) → key_at E m k ≡ cond (same_key k key.0) (Some key.0) (key_at D m k)
-  keys_here k = ap (λ (o : Option NodeId). cond (is_some o) (Some k) None) (held_here k) ∙ go (same_key k key.0) refl
-    where
-      go : (b : Bool) → same_key k key.0 ≡ b → cond (is_some (cond b (Some (node_named G.rev G.nodes)) (D.held (register m k)))) (Some k) None ≡ cond b (Some key.0) (cond (is_some (D.held (register m k))) (Some k) None)
-      go true e = ap (λ l. Some l) (same_key-true k key.0 e)
-      go false e = refl
-
 -- ## A set field
 
 single_unrowed : (k : KindName) → is_single_kind k ≡ true → is_row k ≡ false
@@ -299,28 +218,9 @@ module _ (D : Document) (s : SchemaView) (G : Given) (at : List Place) (key : Ke
         (tops_shown s is_array tells G.rev F (named G (first t no_nodes)) (keeps D G (Some (field_at w.node key)) w.node (named G (first t no_nodes)) (groups_under (named G (first t no_nodes))) cleared filled_here)
         w.types G.nodes G.cells (first t no_nodes) w.allowed (own_all G.rev (named G (first t no_nodes)) G.nodes (G.nodes + item_count (first t no_nodes))))).0
 
-    here : (d : Data) → Shows is_array D w.node d → Shows is_array F w.node (with_key key.0 (tree_data t) d)
-    here d shows = by d (shape shows)
-      where
-        node_kept : (ty : NodeType) → D.nodes w.node ≡ Some ty → F.nodes w.node ≡ Some ty
-        node_kept = old_node D G (Some (field_at w.node key)) w.node (named G (first t no_nodes)) (groups_under (named G (first t no_nodes))) cleared filled_here w.node
-
-        by : (d : Data) → Shape is_array D w.node d → Shows is_array F w.node (with_key key.0 (tree_data t) d)
-        by d (as_leaf ty v p q) =
-            subst (λ d. Shows is_array F w.node (with_key key.0 (tree_data t) d)) (sym q)
-            (subst (Shows is_array F w.node) (sym (leaf_kept (in_fields (put_member key.0 (tree_data t))) v)) (shows_leaf w.node ty v (node_kept _ p)))
-        by d (as_row ty items p a r q) =
-            let both : Some w.type ≡ Some (record { ty = ty; leaf = None }) = sym w.known ∙ p in
-            let same : w.type ≡ record { ty = ty; leaf = None } = cc in
-            absurd (true-false (ap (λ (t : NodeType). is_array t.ty) same ∙ a) (w.unrowed is_array schema tells))
-        by d (as_registers ty keys ms p a l r q) =
-            subst (λ d. Shows is_array F w.node (with_key key.0 (tree_data t) d)) (sym q)
-            (shows_registers w.node ty (with_one key.0 keys) (put_member key.0 (tree_data t) ms) (node_kept _ p) a
-            (one_more key.0 keys (key_at D w.node) (key_at F w.node) (keys_here D G w.node key t sound nodes there form fits_here) l)
-            (members_with is_array D F key.0 (node_named G.rev G.nodes) (tree_data t) new_shown r l.rising (held_here D G w.node key t sound nodes there form fits_here)
-            (λ k x h. kept_child is_array D F sound w.node old_alike x (held_above D sound w.node x k h))))
-
     pub setting_seen : (d : Data) → Shows is_array D root d → Shows is_array (full D N) root (at_path at (with_key key.0 (tree_data t)) d)
     setting_seen d shows =
         subst (λ N. Shows is_array (full D N) root (at_path at (with_key key.0 (tree_data t)) d)) w.intent
-        ((along is_array D F sound w.node old_alike (with_key key.0 (tree_data t)) here at 0 root w.way).1 d shows)
+        ((along is_array D F sound w.node old_alike (with_key key.0 (tree_data t))
+        (member_comes is_array D F sound w.node old_alike (old_node D G (Some (field_at w.node key)) w.node (named G (first t no_nodes)) (groups_under (named G (first t no_nodes))) cleared filled_here w.node) w.type w.known key.0
+        (node_named G.rev G.nodes) (tree_data t) (w.unrowed is_array schema tells) new_shown (held_here D G w.node key t sound nodes there form fits_here)) at 0 root w.way).1 d shows)

@@ -49,7 +49,7 @@ use Rattle.st_resolve.proofs.NewFits.{made, insert_fits, NodesFresh}
 use Rattle.st_resolve.proofs.Numbered.{filter-from, tops_counted, tops_rows}
 use Rattle.st_edited.specs.Edited.{TellsRows, at_path, in_row, listed, with_items}
 use Rattle.st_edited.proofs.Along.{AreShown, Shape, as_leaf, as_row, as_registers, shape, as_list, as_items, kept_items, along, kept_child, leaf_kept}
-use Rattle.st_edited.proofs.Beneath.{row_above}
+use Rattle.st_edited.proofs.AtNode.{items_come}
 use Rattle.st_edited.proofs.Made.{IsFilled, alike, all_full, fresh, keeps, made_verdict, no_members, old_full, old_node, put_is}
 use Rattle.st_edited.proofs.Named.{are_allowed, group_is, own_all, registers_new, top_from, top_has, top_nodes, trees_form, with_first, with_has, with_others}
 use Rattle.st_edited.proofs.NewTrees.{item_nodes, tops_shown}
@@ -322,31 +322,9 @@ module _ (D : Document) (s : SchemaView) (G : Given) (at : List Place) (key : Ke
         (tops_shown s is_array tells G.rev F (named G trees) (keeps D G None w.node (named G trees) groups (registers (named G trees)) all) w.types G.nodes G.cells trees w.allowed
         (own_all G.rev (named G trees) G.nodes (G.nodes + item_count trees))))
 
-    here : (d : Data) → Shows is_array D w.node d → Shows is_array F w.node (with_items index (listed (trees_data trees)) d)
-    here d shows = by d (shape shows)
-      where
-        by : (d : Data) → Shape is_array D w.node d → Shows is_array F w.node (with_items index (listed (trees_data trees)) d)
-        by d (as_leaf ty v p q) =
-            subst (λ d. Shows is_array F w.node (with_items index (listed (trees_data trees)) d)) (sym q)
-            (subst (Shows is_array F w.node) (sym (leaf_kept (in_row (λ ds. take index ds ++ (listed (trees_data trees) ++ drop index ds))) v))
-            (shows_leaf w.node ty v (old_node D G None w.node (named G trees) groups (registers (named G trees)) all w.node _ p)))
-        by d (as_row ty items p a r q) =
-            let owners = owners_shown (content D w.node) in
-            let fresh_nodes = map (λ (o : Owned). o.node) (top_cells (named G trees)) in
-            let now = kept_items is_array D F owners (listed items) (as_list is_array D r) (λ x h. kept_child is_array D F sound w.node old_alike x (row_above D sound w.node x h)) in
-            subst (λ d. Shows is_array F w.node (with_items index (listed (trees_data trees)) d)) (sym q)
-            (shows_row w.node ty (items_of (take index (listed items) ++ (listed (trees_data trees) ++ drop index (listed items)))) (old_node D G None w.node (named G trees) groups (registers (named G trees)) all w.node _ p) a
-            (subst (λ ns. ShowsItems is_array F ns (items_of (take index (listed items) ++ (listed (trees_data trees) ++ drop index (listed items))))) (sym (row_with D G w.node trees sound nodes there form index fits w.in_range))
-            (as_items is_array F (take index owners ++ (fresh_nodes ++ drop index owners)) (take index (listed items) ++ (listed (trees_data trees) ++ drop index (listed items)))
-            (shown_joined is_array F (take index owners) (take index (listed items)) (fresh_nodes ++ drop index owners) (listed (trees_data trees) ++ drop index (listed items))
-            (shown_take is_array F index owners (listed items) now)
-            (shown_joined is_array F fresh_nodes (listed (trees_data trees)) (drop index owners) (drop index (listed items)) new_shown (shown_drop is_array F index owners (listed items) now))))))
-        by d (as_registers ty keys ms p a l r q) =
-            let both : Some w.type ≡ Some (record { ty = ty; leaf = None }) = sym w.known ∙ p in
-            let same : w.type ≡ record { ty = ty; leaf = None } = cc in
-            absurd (true-false (w.rowed is_array schema tells) (ap (λ (t : NodeType). is_array t.ty) same ∙ a))
-
     pub insertion_seen : (d : Data) → Shows is_array D root d → Shows is_array (full D N) root (at_path at (with_items index (listed (trees_data trees))) d)
     insertion_seen d shows =
         subst (λ N. Shows is_array (full D N) root (at_path at (with_items index (listed (trees_data trees))) d)) w.intent
-        ((along is_array D F sound w.node old_alike (with_items index (listed (trees_data trees))) here at 0 root w.way).1 d shows)
+        ((along is_array D F sound w.node old_alike (with_items index (listed (trees_data trees)))
+        (items_come is_array D F sound w.node old_alike (old_node D G None w.node (named G trees) groups (registers (named G trees)) all w.node) w.type w.known index (map (λ (o : Owned). o.node) (top_cells (named G trees))) (listed (trees_data trees))
+        (w.rowed is_array schema tells) (row_with D G w.node trees sound nodes there form index fits w.in_range) new_shown) at 0 root w.way).1 d shows)

@@ -34,7 +34,8 @@ use Rattle.st_resolve.proofs.Fits.{passed}
 use Rattle.st_edited.specs.Alike.{AreAlikeAt}
 use Rattle.st_edited.specs.Edited.{TellsRows, at_path, in_node, in_row, listed, without_items}
 use Rattle.st_edited.proofs.Along.{AreShown, Shape, as_leaf, as_row, as_registers, shape, as_list, as_items, kept_items, kept_child, along, leaf_kept, owners_live, owners_once}
-use Rattle.st_edited.proofs.Beneath.{in_row as stands_in_row, row_above}
+use Rattle.st_edited.proofs.AtNode.{items_left}
+use Rattle.st_edited.proofs.Beneath.{in_row as stands_in_row}
 use Rattle.st_edited.proofs.Rows.{among, among-has, has-among, not-among, filter_all, without_part, owners_filtered, shown_take, shown_drop, shown_joined}
 use Rattle.st_edited.proofs.Sound.{last_in_effect}
 use Rattle.st_edited.proofs.Ruled.{row_ruled}
@@ -162,7 +163,7 @@ pub items_in : (D : Document) (n : NodeId) (index count : ℕ) (x : NodeId) → 
 items_in D n index count x h = has_drop index (owners_shown (content D n)) x (has_take count (drop index (owners_shown (content D n))) x (subst (λ ns. Has ns x) (taken_from D n index count) h))
 
 -- what the row of the node shows then
-module _ (is_array : List ℕ → Bool) (D : Document) (G : Given) (sound : IsSoundInForm D) (m : NodeId) (index count : ℕ) where
+module _ (D : Document) (G : Given) (sound : IsSoundInForm D) (m : NodeId) (index count : ℕ) where
   abbrev F : Document
   F = full D (removed D G (items_from D m index count))
 
@@ -174,29 +175,6 @@ module _ (is_array : List ℕ → Bool) (D : Document) (G : Given) (sound : IsSo
       owners_are D G sound m (items_from D m index count) there m
       ∙ ap (λ ns. filter (λ x. not (among ns x)) (owners_shown (content D m))) (taken_from D m index count)
       ∙ without_part (owners_shown (content D m)) index count (owners_once D m sound)
-
-  pub here : (t : NodeType) → D.nodes m ≡ Some t → is_array t.ty ≡ true → (d : Data) → Shows is_array D m d → Shows is_array F m (without_items index count d)
-  here t known rowed d s = by d (shape s)
-    where
-      by : (d : Data) → Shape is_array D m d → Shows is_array F m (without_items index count d)
-      by d (as_leaf ty v p q) =
-          subst (λ d. Shows is_array F m (without_items index count d)) (sym q)
-          (subst (Shows is_array F m) (sym (leaf_kept (in_row (λ ds. take index ds ++ drop (index + count) ds)) v))
-          (shows_leaf m ty v (nodes_are D G sound m (items_from D m index count) there m ∙ p)))
-      by d (as_row ty items p a r q) =
-          let owners = owners_shown (content D m) in
-          let now = kept_items is_array D F owners (listed items) (as_list is_array D r)
-          (λ x h. kept_child is_array D F sound m (λ x _ apart. alike D G sound m (items_from D m index count) there x apart) x (row_above D sound m x h)) in
-          subst (λ d. Shows is_array F m (without_items index count d)) (sym q)
-          (shows_row m ty (items_of (take index (listed items) ++ drop (index + count) (listed items))) (nodes_are D G sound m (items_from D m index count) there m ∙ p) a
-          (subst (λ ns. ShowsItems is_array F ns (items_of (take index (listed items) ++ drop (index + count) (listed items)))) (sym row_is)
-          (as_items is_array F (take index owners ++ drop (index + count) owners) (take index (listed items) ++ drop (index + count) (listed items))
-          (shown_joined is_array F (take index owners) (take index (listed items)) (drop (index + count) owners) (drop (index + count) (listed items))
-          (shown_take is_array F index owners (listed items) now) (shown_drop is_array F (index + count) owners (listed items) now)))))
-      by d (as_registers ty keys ms p a l r q) =
-          let both : Some t ≡ Some (record { ty = ty; leaf = None }) = sym known ∙ p in
-          let same : t ≡ record { ty = ty; leaf = None } = cc in
-          absurd (true-false rowed (ap (λ (t : NodeType). is_array t.ty) same ∙ a))
 
 -- ## A removal
 
@@ -233,4 +211,5 @@ removal_seen is_array D s G at key index count N d sound schema tells e shows =
     let F = full D (removed D G (items_from D w.node index count)) in
     subst (λ N. Shows is_array (full D N) root (at_path at (without_items index count) d)) w.intent
     ((along is_array D F sound w.node (λ x _ apart. alike D G sound w.node (items_from D w.node index count) (items_in D w.node index count) x apart) (without_items index count)
-    (here is_array D G sound w.node index count w.type w.known (w.rowed is_array schema tells)) at 0 root w.way).1 d shows)
+    (items_left is_array D F sound w.node (λ x _ apart. alike D G sound w.node (items_from D w.node index count) (items_in D w.node index count) x apart)
+    (λ t e. nodes_are D G sound w.node (items_from D w.node index count) (items_in D w.node index count) w.node ∙ e) w.type w.known index count (w.rowed is_array schema tells) (row_is D G sound w.node index count)) at 0 root w.way).1 d shows)
