@@ -16,3 +16,5 @@ pub mod Inserted
 pub mod Filled
 pub mod Parted
 pub mod Looked
+pub mod Gap
+pub mod Anchored

@@ -148,13 +148,13 @@ taken_from D n index count =
     sym (take-map (λ (s : Slot). s.node) count (drop index (live_slots D n))) ∙ ap (take count) (sym (drop-map (λ (s : Slot). s.node) index (live_slots D n)))
     ∙ ap (λ ns. take count (drop index ns)) (sym (owners_live (content D n)))
 
-has_take : {A : Type 0} (k : ℕ) (xs : List A) (x : A) → Has (take k xs) x → Has xs x
+pub has_take : {A : Type 0} (k : ℕ) (xs : List A) (x : A) → Has (take k xs) x → Has xs x
 has_take zero xs x h = absurd h
 has_take (suc k) [] x h = absurd h
 has_take (suc k) (y ∷ xs) x (inl e) = inl e
 has_take (suc k) (y ∷ xs) x (inr h) = inr (has_take k xs x h)
 
-has_drop : {A : Type 0} (k : ℕ) (xs : List A) (x : A) → Has (drop k xs) x → Has xs x
+pub has_drop : {A : Type 0} (k : ℕ) (xs : List A) (x : A) → Has (drop k xs) x → Has xs x
 has_drop zero xs x h = h
 has_drop (suc k) [] x h = absurd h
 has_drop (suc k) (y ∷ xs) x h = inr (has_drop k xs x h)

@@ -51,7 +51,7 @@ not-among ns x out = go (among ns x) refl
 
 -- distinct nodes without those of a middle part
 module _ (a b c : List NodeId) (once : AreDistinct (λ (x : NodeId). x) (a ++ (b ++ c))) where
-  left_apart : (x : NodeId) → Has a x → Has b x → ⊥
+  pub left_apart : (x : NodeId) → Has a x → Has b x → ⊥
   left_apart x h i = distinct-between (λ (x : NodeId). x) a (b ++ c) x x once h (append_left_of b c x i) refl
     where
       append_left_of : (xs ys : List NodeId) (y : NodeId) → Has xs y → Has (xs ++ ys) y
@@ -59,7 +59,7 @@ module _ (a b c : List NodeId) (once : AreDistinct (λ (x : NodeId). x) (a ++ (b
       append_left_of (z ∷ xs) ys y (inl q) = inl q
       append_left_of (z ∷ xs) ys y (inr k) = inr (append_left_of xs ys y k)
 
-  right_apart : (x : NodeId) → Has c x → Has b x → ⊥
+  pub right_apart : (x : NodeId) → Has c x → Has b x → ⊥
   right_apart x h i = distinct-between (λ (x : NodeId). x) b c x x (distinct-right (λ (x : NodeId). x) a (b ++ c) once) i h refl
 
   pub without_middle : filter (λ x. not (among b x)) (a ++ (b ++ c)) ≡ a ++ c
