@@ -159,7 +159,7 @@ module _ (is_array : List ℕ → Bool) (D E : Document) where
 
 -- ## Along the path
 
-child_up : (D : Document) (sound : IsSoundInForm D) (n x : NodeId) (p : Place) → child D n p ≡ Some x → above D x ≡ Some n
+pub child_up : (D : Document) (sound : IsSoundInForm D) (n x : NodeId) (p : Place) → child D n p ≡ Some x → above D x ≡ Some n
 child_up D sound n x p e = go (length p.key.0 == 0) e
   where
     field : (b : Bool) → cond b (D.held (field_at n p.key)) None ≡ Some x → above D x ≡ Some n

@@ -18,3 +18,4 @@ pub mod Parted
 pub mod Looked
 pub mod Gap
 pub mod Anchored
+pub mod Ways
