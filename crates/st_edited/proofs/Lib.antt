@@ -19,3 +19,4 @@ pub mod Looked
 pub mod Gap
 pub mod Anchored
 pub mod Ways
+pub mod Arrived

@@ -19,7 +19,7 @@ use Rattle.st_ids.specs.declared.names.Place.{Place}
 use Rattle.st_tree.specs.declared.edit.EditFault.TheVariants.{NoNode}
 use Rattle.st_marks.specs.declared.places.Slot.{Slot}
 use Rattle.st_marks.specs.Document.{Document, NodeType, IsSoundInForm, content}
-use Rattle.st_marks.specs.LiveTree.{Shows, ShowsMembers, no_more_members, next_member, owners_shown, register, key_at}
+use Rattle.st_marks.specs.LiveTree.{Shows, ShowsMembers, no_more_members, next_member, owners_shown, register, key_at, leaf_data}
 use Rattle.st_marks.proofs.Members.{true-false}
 use Rattle.st_doc.specs.Shown.{live_slots}
 use Rattle.st_resolve.specs.Paths.{child, field_at, there, walk_from}
@@ -72,17 +72,31 @@ found_has (j ∷ ks) k l e = go (is_eq (slice_cmp nat_cmp k j)) e (λ f. found_h
 key_has : (D : Document) (n x : NodeId) (ks : List (List ℕ)) (key : List ℕ) → IsListing (slice_cmp nat_cmp) itself ks (key_at D n) → D.held (register n key) ≡ Some x → Has ks key
 key_has D n x ks key l e = found_has ks key key (l.at_each key ∙ ap (λ (o : Option NodeId). cond (is_some o) (Some key) None) e)
 
+no_items_in : (v : Leaf) → row_items (leaf_data v) ≡ []
+no_items_in Leaf.Null = refl
+no_items_in (Leaf.Bool b) = refl
+no_items_in (Leaf.Int i) = refl
+no_items_in (Leaf.Words text) = refl
+
 -- ## Through a place
 
 module _ (is_array : List ℕ → Bool) (D : Document) (typed : StandsAsTyped is_array D) where
   -- the items of a node's row
-  pub row_seen : (n : NodeId) (d : Data) → Shows is_array D n d → (x : NodeId) → Has (owners_shown (content D n)) x → AreShown is_array D (owners_shown (content D n)) (row_items d)
-  row_seen n d s x h = by d (shape s)
+  pub row_seen : (n : NodeId) (d : Data) → Shows is_array D n d → AreShown is_array D (owners_shown (content D n)) (row_items d)
+  row_seen n d s = by d (shape s)
     where
+      none : (t : NodeType) → D.nodes n ≡ Some t → ((t.leaf ≡ None) × (is_array t.ty ≡ true) → ⊥) → (ns : List NodeId) → owners_shown (content D n) ≡ ns → AreShown is_array D ns []
+      none t p out [] e = tt
+      none t p out (x ∷ ns) e = absurd (out (typed.in_row n x t p (subst (λ l. Has l x) (sym e) (inl refl))))
+
       by : (d : Data) → Shape is_array D n d → AreShown is_array D (owners_shown (content D n)) (row_items d)
-      by d (as_leaf ty v p q) = let bad : Some v ≡ None = (typed.in_row n x (record { ty = ty; leaf = Some v }) p h).0 in cc
+      by d (as_leaf ty v p q) =
+          subst (λ d. AreShown is_array D (owners_shown (content D n)) (row_items d)) (sym q)
+          (subst (AreShown is_array D (owners_shown (content D n))) (sym (no_items_in v)) (none (record { ty = ty; leaf = Some v }) p (λ h. (let bad : Some v ≡ None = h.0 in cc)) (owners_shown (content D n)) refl))
       by d (as_row ty items p a r q) = subst (λ d. AreShown is_array D (owners_shown (content D n)) (row_items d)) (sym q) (as_list is_array D r)
-      by d (as_registers ty keys ms p a l r q) = absurd (true-false (typed.in_row n x (record { ty = ty; leaf = None }) p h).1 a)
+      by d (as_registers ty keys ms p a l r q) =
+          subst (λ d. AreShown is_array D (owners_shown (content D n)) (row_items d)) (sym q)
+          (none (record { ty = ty; leaf = None }) p (λ h. true-false h.1 a) (owners_shown (content D n)) refl)
 
   -- what stands in a node's register
   pub member_seen : (n : NodeId) (d : Data) → Shows is_array D n d → (key : List ℕ) (x : NodeId) → D.held (register n key) ≡ Some x → (e : Data) × (get key (inside d) ≡ Some e) × Shows is_array D x e
@@ -101,7 +115,7 @@ module _ (is_array : List ℕ → Bool) (D : Document) (typed : StandsAsTyped is
       item : option_map (λ (s : Slot). s.node) (slice_get (live_slots D n) p.index) ≡ Some x → (e : Data) × (slice_get (row_items d) p.index ≡ Some e) × Shows is_array D x e
       item f =
           let at = owner_at D n p.index ∙ f in
-          item_shown is_array D (owners_shown (content D n)) (row_items d) p.index x (row_seen n d s x (gotten (owners_shown (content D n)) p.index x at)) at
+          item_shown is_array D (owners_shown (content D n)) (row_items d) p.index x (row_seen n d s) at
 
       member_of : (b : Bool) → cond b (D.held (field_at n p.key)) None ≡ Some x → (e : Data) × (get p.key.0 (inside d) ≡ Some e) × Shows is_array D x e
       member_of true f = member_seen n d s p.key.0 x f

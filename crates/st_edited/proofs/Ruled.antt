@@ -1,6 +1,7 @@
 -- What it says of a node's form that the schema has a field of a kind there.
-use Rattle.std.proofs.Common.{◌≡◌, Bool, true, false, cond, ◌&&◌, nat_le, List, [], ◌∷◌, map, length, Option, Some, None, option_map, option_and_then, Result, Ok, Err, ℕ, refl, sym, ap, ◌∙◌, subst, inl, inr}
+use Rattle.std.proofs.Common.{◌≡◌, ◌≢◌, ◌==◌, suc, arith, Bool, true, false, cond, ◌&&◌, nat_le, List, [], ◌∷◌, map, length, Option, Some, None, option_map, option_and_then, Result, Ok, Err, ℕ, refl, sym, ap, ◌∙◌, subst, inl, inr}
 use Rattle.std.specs.List.{list_all}
+use Rattle.std.proofs.lemmas.Bool.Decides.{nat_tests}
 use Rattle.std.specs.Map.{lookup}
 use Rattle.st_ids.specs.Listing.{Has}
 use Rattle.st_ids.specs.declared.names.Key.{Key}
@@ -20,7 +21,7 @@ use Rattle.st_resolve.specs.Paths.{there}
 use Rattle.st_resolve.specs.Resolve.{rule_at, rule_for, of_kind, takes_kind, is_row}
 use Rattle.st_resolve.specs.declared.rules.Takes.{Takes}
 use Rattle.st_resolve.specs.declared.rules.Takes.TheVariants as field
-use Rattle.st_resolve.proofs.Fits.{passed, found, kind_taken}
+use Rattle.st_resolve.proofs.Fits.{passed, found, key_some, kind_taken}
 use Rattle.st_edited.specs.Edited.{TellsRows, has_row}
 
 all_pass : {A : Type 0} (p : A → Bool) (xs : List A) (x : A) → list_all p xs ≡ true → Has xs x → p x ≡ true
@@ -100,3 +101,46 @@ ruled_kind takes D s n key rule e =
 pub row_ruled : (D : Document) (s : SchemaView) (n : NodeId) (key : Key) (rule : FieldRule) → rule_for field.Row D s n key ≡ Ok rule
     → (t : NodeType) × (D.nodes n ≡ Some t) × ((is_array : List ℕ → Bool) → is_sound s ≡ true → TellsRows is_array s → is_array t.ty ≡ true)
 row_ruled D s n key rule e = let w = ruled_kind field.Row D s n key rule e in (w.0, w.1, λ is_array sound tells. w.2 is_array sound tells ∙ w.3)
+
+-- a row has the empty key, and no other field has
+type_key : (s : SchemaView) (ty key : List ℕ) (rule : FieldRule) → is_sound s ≡ true → field_of s ty key ≡ Some rule → (length key == 0) ≡ is_row rule.kind
+type_key s ty key rule sound e = by_kind rule.kind refl
+  where
+    some_key : (k : List ℕ) → k ≢ [] → (length k == 0) ≡ false
+    some_key [] out = absurd (out refl)
+    some_key (b ∷ k) out = go (suc (length k) == 0) refl
+      where
+        go : (t : Bool) → (suc (length k) == 0) ≡ t → (suc (length k) == 0) ≡ false
+        go false q = q
+        go true q = let bad : suc (length k) ≡ 0 = grind (arith, nat_tests) in absurd (omega (arith, bad))
+
+    in_array : (form : Form) → has_row (Some form) ≡ true → field_in form key ≡ Some rule → (length key == 0) ≡ true
+    in_array (Array types) rowed f = of_key key f
+      where
+        of_key : (k : List ℕ) → field_in (Array types) k ≡ Some rule → (length k == 0) ≡ true
+        of_key [] g = refl
+        of_key (b ∷ k) g = cc
+    in_array (Map types) rowed f = cc
+    in_array (Object fields) rowed f = cc
+
+    row : (o : Option Form) → has_row o ≡ true → option_and_then (λ (form : Form). field_in form key) o ≡ Some rule → (length key == 0) ≡ true
+    row None rowed f = cc
+    row (Some form) rowed f = in_array form rowed f
+
+    by_kind : (k : KindName) → rule.kind ≡ k → (length key == 0) ≡ is_row rule.kind
+    by_kind Sequence q = row (form_of s.types ty) (type_row s ty key rule sound e ∙ ap is_row q) e ∙ sym (ap is_row q)
+    by_kind Required q = some_key key (key_some s ty key rule sound e (ap is_single_kind q)) ∙ sym (ap is_row q)
+    by_kind Optional q = some_key key (key_some s ty key rule sound e (ap is_single_kind q)) ∙ sym (ap is_row q)
+
+pub ruled_key : (takes : Takes) (D : Document) (s : SchemaView) (n : NodeId) (key : Key) (rule : FieldRule) → is_sound s ≡ true → rule_for takes D s n key ≡ Ok rule → (length key.0 == 0) ≡ is_row rule.kind
+ruled_key takes D s n key rule sound e =
+    let r = passed (there (rule_at D s n key) Kind) (of_kind (takes_kind takes)) rule e in
+    go (D.nodes n) (found (rule_at D s n key) Kind r.0 r.1) ∙ ap (λ (r : FieldRule). is_row r.kind) (same (takes_kind takes r.0.kind) r.0 r.2)
+  where
+    same : (b : Bool) (got : FieldRule) → cond b (Ok got) (Err Kind) ≡ Ok rule → got ≡ rule
+    same true got f = cc
+    same false got f = cc
+
+    go : {got : FieldRule} (o : Option NodeType) → option_and_then (λ (t : NodeType). field_of s t.ty key.0) o ≡ Some got → (length key.0 == 0) ≡ is_row got.kind
+    go None f = cc
+    go {got} (Some t) f = type_key s t.ty key.0 got sound f
