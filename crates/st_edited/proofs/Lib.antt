@@ -20,3 +20,5 @@ pub mod Gap
 pub mod Anchored
 pub mod Ways
 pub mod Arrived
+pub mod Moves
+pub mod Edits

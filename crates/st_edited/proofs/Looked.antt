@@ -18,15 +18,30 @@ use Rattle.st_ids.specs.declared.names.NodeId.{NodeId}
 use Rattle.st_ids.specs.declared.names.Place.{Place}
 use Rattle.st_tree.specs.declared.edit.EditFault.TheVariants.{NoNode}
 use Rattle.st_marks.specs.declared.places.Slot.{Slot}
-use Rattle.st_marks.specs.Document.{Document, NodeType, IsSoundInForm, content}
+use Rattle.st_marks.specs.Document.{Document, NodeType, IsSoundInForm, content, owned}
 use Rattle.st_marks.specs.LiveTree.{Shows, ShowsMembers, no_more_members, next_member, owners_shown, register, key_at, leaf_data}
 use Rattle.st_marks.proofs.Members.{true-false}
 use Rattle.st_doc.specs.Shown.{live_slots}
 use Rattle.st_resolve.specs.Paths.{child, field_at, there, walk_from}
 use Rattle.st_resolve.proofs.Fits.{passed, found, gotten}
 use Rattle.st_edited.specs.Edited.{listed}
-use Rattle.st_edited.specs.Moved.{StandsAsTyped, child_in, inside, node_in, row_items, taken_here}
+use Rattle.st_edited.specs.Moved.{child_in, inside, node_in, row_items, taken_here}
+use Rattle.st_edited.specs.Typed.{IsAsTyped, IsFieldType, IsRowType}
+use Rattle.st_edited.proofs.Beneath.{in_row as stands_in_row}
 use Rattle.st_edited.proofs.Along.{AreShown, Shape, as_leaf, as_row, as_registers, shape, as_list, owner_at}
+
+-- ## Documents whose nodes show all that stands beneath them
+
+-- what stands in a row is beneath a node that has one, and what stands in a register beneath one that has registers
+pub record StandsAsTyped (is_array : List ℕ → Bool) (D : Document) : Type 0 where
+  pub in_row : (n x : NodeId) (t : NodeType) → D.nodes n ≡ Some t → Has (owners_shown (content D n)) x → IsRowType is_array t
+  pub in_register : (n x : NodeId) (k : List ℕ) (t : NodeType) → D.nodes n ≡ Some t → D.held (register n k) ≡ Some x → IsFieldType is_array t
+
+pub stands_typed : (is_array : List ℕ → Bool) (D : Document) → IsSoundInForm D → IsAsTyped is_array D → StandsAsTyped is_array D
+stands_typed is_array D sound typed = record {
+  in_row = λ n x t e h. (let b = stands_in_row D sound n x h in typed.cells n (owned b.0 x) t e (sound.own_cell x n b.0 b.1));
+  in_register = λ n x k t e h. typed.registers (register n k) x t e h;
+}
 
 -- ## One item and one member
 

@@ -143,7 +143,7 @@ module _ (D : Document) (G : Given) (sound : IsSoundInForm D) (m : NodeId) (ns :
 
 -- ## The nodes of a removal
 
-taken_from : (D : Document) (n : NodeId) (index count : ℕ) → items_from D n index count ≡ take count (drop index (owners_shown (content D n)))
+pub taken_from : (D : Document) (n : NodeId) (index count : ℕ) → items_from D n index count ≡ take count (drop index (owners_shown (content D n)))
 taken_from D n index count =
     sym (take-map (λ (s : Slot). s.node) count (drop index (live_slots D n))) ∙ ap (take count) (sym (drop-map (λ (s : Slot). s.node) index (live_slots D n)))
     ∙ ap (λ ns. take count (drop index ns)) (sym (owners_live (content D n)))

@@ -3,12 +3,8 @@ use Rattle.std.specs.Prelude.{◌≡◌, ℕ, ◌+◌, ◌-◌, ◌==◌, max, n
 use Rattle.std.specs.Option.{option_map_or}
 use Rattle.serde_json.specs.Data.{Data, null, boolean, number, string, array, object, no_members, member}
 use Rattle.serde_json.specs.Find.{get}
-use Rattle.st_ids.specs.Listing.{Has}
 use Rattle.st_ids.specs.declared.names.Key.{Key}
-use Rattle.st_ids.specs.declared.names.NodeId.{NodeId}
 use Rattle.st_ids.specs.declared.names.Place.{Place}
-use Rattle.st_marks.specs.Document.{Document, NodeType, content}
-use Rattle.st_marks.specs.LiveTree.{owners_shown, register}
 use Rattle.st_edited.specs.Edited.{at_path, listed, same_key, with_items, with_key, without_items, without_key}
 
 -- ## Looking into a tree
@@ -113,11 +109,3 @@ abbrev pub moved_in : List Place → Key → ℕ → ℕ → List Place → Key 
 moved_in at key index count to to_key to_index d =
     at_path (target_path at key index count to) (with_taken to_key (target_index at key index count to to_index) (taken_from at key index count d))
     (at_path at (without_taken key index count) d)
-
--- ## Documents whose nodes show all that stands beneath them
-
--- what stands in a row is beneath a node of a type that has one, what stands in a register beneath one of another type, and
--- nothing beneath a leaf
-pub record StandsAsTyped (is_array : List ℕ → Bool) (D : Document) : Type 0 where
-  pub in_row : (n x : NodeId) (t : NodeType) → D.nodes n ≡ Some t → Has (owners_shown (content D n)) x → (t.leaf ≡ None) × (is_array t.ty ≡ true)
-  pub in_register : (n x : NodeId) (k : List ℕ) (t : NodeType) → D.nodes n ≡ Some t → D.held (register n k) ≡ Some x → (t.leaf ≡ None) × (is_array t.ty ≡ false)

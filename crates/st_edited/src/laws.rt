@@ -6,6 +6,7 @@ ghost use Rattle.st_ids.specs.declared.names.NodeId.{NodeId};
 ghost use Rattle.st_ids.specs.declared.names.Place.{Place};
 ghost use Rattle.st_tree.specs.Node.{Node, Nodes, first, no_nodes};
 ghost use Rattle.st_tree.specs.Preorder.{cell_named, node_named};
+ghost use Rattle.st_tree.specs.declared.edit.Edit.{Edit};
 ghost use Rattle.st_schema.specs.Schema.{SchemaView, is_sound};
 ghost use Rattle.st_schema.specs.TreeText.{tree_data, trees_data};
 ghost use Rattle.st_marks.specs.declared.intents.Intent.{Intent};
@@ -15,9 +16,12 @@ ghost use Rattle.st_marks.specs.CarryOut.{full};
 ghost use Rattle.st_marks.specs.Verdict.{IsVerdict};
 ghost use Rattle.st_marks.specs.LiveTree.{Shows};
 ghost use Rattle.st_resolve.specs.declared.rules.Given.{Given};
-ghost use Rattle.st_resolve.specs.Resolve.{clear, insert, need, put, remove};
+ghost use Rattle.st_resolve.specs.Resolve.{clear, insert, move as move_of, need, put, remove, resolve};
 ghost use Rattle.st_edited.specs.Alike.{AreAlikeFrom};
 ghost use Rattle.st_edited.specs.Edited.{TellsRows, at_path, listed, with_items, with_key, without_items, without_key};
+ghost use Rattle.st_edited.specs.Edits.{edited};
+ghost use Rattle.st_edited.specs.Moved.{moved_in};
+ghost use Rattle.st_edited.specs.Typed.{IsAsTyped};
 
 /// Documents that are alike at each node from one downwards show one tree there.
 pub fn same_below_same_tree()
@@ -67,4 +71,25 @@ pub fn setting_is_seen()
         → is_sound s ≡ true → TellsRows is_array s
         → ((k : ℕ) → G.nodes ≤ k → D.nodes (node_named G.rev k) ≡ None) → ((k : ℕ) → G.cells ≤ k → D.row_of (cell_named G.rev k) ≡ None)
         → put D s G at key (first t no_nodes) ≡ Ok N → Shows is_array D root d → Shows is_array (full D N) root (at_path at (with_key key.0 (tree_data t)) d) }
+{}
+
+/// A move is sound, and shows the tree with the moved trees taken away and then put where the target is. Of documents whose
+/// nodes have what their types say, for a move takes what the path leads to in the tree.
+pub fn move_is_seen()
+    ensures verdict { (D : Document) (s : SchemaView) (G : Given) (at : List Place) (key : Key) (index count : ℕ) (to : List Place) (to_key : Key) (to_index : ℕ) (N : Intent) → IsSoundInForm D → is_sound s ≡ true
+        → ((k : ℕ) → G.cells ≤ k → D.row_of (cell_named G.rev k) ≡ None)
+        → move_of D s G at key index count to to_key to_index ≡ Ok N → IsVerdict D N Verdict.Sound }
+    ensures tree { (is_array : List ℕ → Bool) (D : Document) (s : SchemaView) (G : Given) (at : List Place) (key : Key) (index count : ℕ) (to : List Place) (to_key : Key) (to_index : ℕ) (N : Intent) (d : Data) → IsSoundInForm D
+        → is_sound s ≡ true → TellsRows is_array s → IsAsTyped is_array D → ((k : ℕ) → G.cells ≤ k → D.row_of (cell_named G.rev k) ≡ None)
+        → move_of D s G at key index count to to_key to_index ≡ Ok N → Shows is_array D root d → Shows is_array (full D N) root (moved_in at key index count to to_key to_index d) }
+{}
+
+/// Any edit that resolves is sound where it was resolved, and shows the tree that the edit makes of the tree before.
+pub fn edits_are_seen()
+    ensures verdict { (D : Document) (s : SchemaView) (G : Given) (edit : Edit) (N : Intent) → IsSoundInForm D → is_sound s ≡ true
+        → ((k : ℕ) → G.nodes ≤ k → D.nodes (node_named G.rev k) ≡ None) → ((k : ℕ) → G.cells ≤ k → D.row_of (cell_named G.rev k) ≡ None)
+        → resolve D s G edit ≡ Ok N → IsVerdict D N Verdict.Sound }
+    ensures tree { (is_array : List ℕ → Bool) (D : Document) (s : SchemaView) (G : Given) (edit : Edit) (N : Intent) (d : Data) → IsSoundInForm D → is_sound s ≡ true → TellsRows is_array s → IsAsTyped is_array D
+        → ((k : ℕ) → G.nodes ≤ k → D.nodes (node_named G.rev k) ≡ None) → ((k : ℕ) → G.cells ≤ k → D.row_of (cell_named G.rev k) ≡ None)
+        → resolve D s G edit ≡ Ok N → Shows is_array D root d → Shows is_array (full D N) root (edited edit d) }
 {}

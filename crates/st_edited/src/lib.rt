@@ -4,6 +4,6 @@
 mod laws;
 
 pub use laws::{
-    clearing_is_seen, insertion_is_seen, needing_is_seen, removal_is_seen, same_below_same_tree,
-    setting_is_seen,
+    clearing_is_seen, edits_are_seen, insertion_is_seen, move_is_seen, needing_is_seen,
+    removal_is_seen, same_below_same_tree, setting_is_seen,
 };
