@@ -1,13 +1,13 @@
 -- Documents that are alike from a node downwards show one tree there.
-use Rattle.std.proofs.Common.{◌≡◌, ℕ, Bool, List, Option, Some, None, IsSome, is_some, cond, refl, sym, ap, ◌∙◌, subst, inl, inr}
+use Rattle.std.proofs.Common.{◌≡◌, ℕ, Bool, List, Option, Some, None, is_some, cond, refl, sym, ap, ◌∙◌, subst, inl, inr}
 use Rattle.std.specs.Ordering.{nat_cmp}
 use Rattle.std.specs.Cmp.Lexicographic.{slice_cmp}
 use Rattle.serde_json.specs.Data.{Data, Items, Members}
 use Rattle.st_ids.specs.Listing.{Has, IsListing}
 use Rattle.st_ids.specs.declared.names.NodeId.{NodeId}
-use Rattle.st_marks.specs.Document.{Document, IsSoundInForm, content}
-use Rattle.st_marks.specs.LiveTree.{Shows, shows_leaf, shows_row, shows_registers, ShowsItems, no_more_items, next_item, ShowsMembers, no_more_members, next_member, owners_shown, register, key_at}
-use Rattle.st_edited.specs.Alike.{IsFrom, AreAlikeAt, AreAlikeFrom}
+use Rattle.st_marks.specs.Document.{Document, IsSoundInForm}
+use Rattle.st_marks.specs.LiveTree.{Shows, shows_leaf, shows_row, shows_registers, ShowsItems, no_more_items, next_item, ShowsMembers, no_more_members, next_member, register, key_at}
+use Rattle.st_edited.specs.Alike.{AreAlikeFrom}
 use Rattle.st_edited.proofs.Beneath.{row_above, held_above, from_child}
 
 -- the keys of registers that hold a node are the same where the registers hold the same

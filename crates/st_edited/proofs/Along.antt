@@ -1,12 +1,12 @@
 -- Where one node changes, the tree changes at the end of the path that leads there.
-use Rattle.std.proofs.Common.{◌≡◌, ◌≢◌, ℕ, zero, suc, ◌+◌, ◌==◌, Bool, true, false, cond, List, [], ◌∷◌, ◌++◌, map, take, drop, length, filter, take_all, Option, Some, None, IsSome, is_some, option_map, slice_get, Ok, refl, sym, ap, ◌∙◌, subst, arith, inl, inr}
+use Rattle.std.proofs.Common.{◌≡◌, ◌≢◌, ℕ, zero, suc, ◌+◌, ◌==◌, Bool, true, false, cond, List, [], ◌∷◌, ◌++◌, map, length, filter, take_all, Some, None, IsSome, is_some, option_map, slice_get, Ok, refl, sym, ap, ◌∙◌, subst, arith, inl, inr}
 use Rattle.std.specs.Ordering.{nat_cmp, is_eq}
 use Rattle.std.specs.declared.cmp.Ordering.{Ordering}
 use Rattle.std.specs.declared.cmp.Ordering.TheVariants.{Less, Equal, Greater}
 use Rattle.std.specs.Cmp.Lexicographic.{slice_cmp, nat_list_cmp_total}
 use Rattle.std.proofs.lemmas.Cmp.{tied_itself}
 use Rattle.std.proofs.lemmas.Map.Lookups.{exact_bytes}
-use Rattle.serde_json.specs.Data.{Data, array, object, Items, no_items, item, Members, no_members, member}
+use Rattle.serde_json.specs.Data.{Data, array, object, Items, Members}
 use Rattle.serde_json.specs.View.{items_of}
 use Rattle.st_ids.specs.Listing.{Has, AreDistinct, IsListing}
 use Rattle.st_ids.specs.declared.names.FieldId.{FieldId}
@@ -20,7 +20,7 @@ use Rattle.st_marks.specs.Document.{Document, IsSoundInForm, above, content}
 use Rattle.st_marks.specs.LiveTree.{Shows, shows_leaf, shows_row, shows_registers, ShowsItems, no_more_items, next_item, ShowsMembers, no_more_members, next_member, owners_shown, register, key_at, leaf_data, one_member}
 use Rattle.st_marks.proofs.Members.{true-false, all-has}
 use Rattle.st_doc.specs.Shown.{live_slots}
-use Rattle.st_resolve.specs.Paths.{child, field_at, items_from, there, walk_from}
+use Rattle.st_resolve.specs.Paths.{child, field_at, there, walk_from}
 use Rattle.st_resolve.proofs.Fits.{passed, found, gotten, items_once}
 use Rattle.st_edited.specs.Alike.{IsFrom, AreAlikeAt}
 use Rattle.st_edited.specs.Edited.{in_node, in_row, in_fields, listed, at_index, at_key, at_place, at_path, same_key}

@@ -8,7 +8,7 @@ use Rattle.st_marks.specs.declared.intents.Group.{Group}
 use Rattle.st_marks.specs.declared.intents.Intent.{Intent}
 use Rattle.st_marks.specs.declared.intents.Owned.{Owned}
 use Rattle.st_marks.specs.declared.places.Slot.{Slot}
-use Rattle.st_marks.specs.Document.{Document, content, is_cell, slot}
+use Rattle.st_marks.specs.Document.{Document, is_cell, slot}
 use Rattle.st_marks.specs.Intent.{IsIntent, group_at}
 use Rattle.st_marks.specs.CarryOut.{with_groups}
 use Rattle.st_marks.specs.LiveTree.{owners_shown}

@@ -1,6 +1,6 @@
 -- A document after a move, beside the document from which the moved nodes were taken away.
-use Rattle.std.proofs.Common.{◌≡◌, ◌≢◌, ℕ, zero, suc, ◌+◌, ◌≤◌, Bool, true, false, cond, not, ◌||◌, List, [], ◌∷◌, ◌++◌, map, take, drop, filter, length, Option, Some, None, IsSome, is_some, option_map, option_and_then, refl, sym, ap, ◌∙◌, subst, inl, inr, ◌⊎◌}
-use Rattle.std.specs.List.{find, list_any}
+use Rattle.std.proofs.Common.{◌≡◌, ◌≢◌, ℕ, zero, suc, ◌+◌, ◌≤◌, Bool, true, false, cond, not, ◌||◌, List, [], ◌∷◌, ◌++◌, map, take, drop, filter, Option, Some, None, IsSome, is_some, option_map, option_and_then, refl, sym, ap, ◌∙◌, subst, inl, inr}
+use Rattle.std.specs.List.{find}
 use Rattle.std.specs.Option.{option_or, option_map_or}
 use Rattle.st_ids.specs.Listing.{Has}
 use Rattle.st_ids.specs.Order.{same_node, same_cell, same_field}
@@ -8,8 +8,7 @@ use Rattle.st_ids.specs.declared.names.CellId.{CellId}
 use Rattle.st_ids.specs.declared.names.FieldId.{FieldId}
 use Rattle.st_ids.specs.declared.names.NodeId.{NodeId}
 use Rattle.st_ids.specs.declared.names.Rev.{Rev}
-use Rattle.st_ids.proofs.Orders.{same_node-true, same_node-itself, same_cell-true, same_cell-itself, same_field-true, same_field-itself}
-use Rattle.st_tree.specs.Preorder.{cell_named}
+use Rattle.st_ids.proofs.Orders.{same_cell-true, same_cell-itself, same_field-true, same_field-itself}
 use Rattle.st_marks.specs.declared.intents.Group.{Group}
 use Rattle.st_marks.specs.declared.intents.Intent.{Intent}
 use Rattle.st_marks.specs.declared.intents.Owned.{Owned}
@@ -18,17 +17,17 @@ use Rattle.st_marks.specs.declared.intents.To.{To}
 use Rattle.st_marks.specs.declared.places.Spot.{Spot}
 use Rattle.st_marks.specs.declared.verdicts.Verdict.{Verdict}
 use Rattle.st_marks.specs.Document.{Document, IsSoundInForm, above, climb, node_of, content, is_cell, slot}
-use Rattle.st_marks.specs.Intent.{Fits, clears, group_at, is_register, new_row_of, put_in, put_of}
+use Rattle.st_marks.specs.Intent.{Fits, clears, group_at, is_register, put_of}
 use Rattle.st_marks.specs.CarryOut.{full, with_groups, with_names, place_after, unless_cleared, unless_put}
 use Rattle.st_marks.specs.Verdict.{IsVerdict}
-use Rattle.st_marks.specs.LiveTree.{owners_shown, register}
+use Rattle.st_marks.specs.LiveTree.{owners_shown}
 use Rattle.st_marks.proofs.Full.{unput_above}
 use Rattle.st_marks.proofs.Lookups.{group_at-group, has-put, put-has, new_row_of-group}
 use Rattle.st_marks.proofs.Members.{true-false, has-map, map-has}
 use Rattle.st_marks.proofs.NewRows.{made_cell, row_cells}
 use Rattle.st_resolve.specs.New.{group_of}
 use Rattle.st_resolve.specs.Paths.{left_of, row_length}
-use Rattle.st_resolve.specs.Resolve.{cells_for, moved_to_field, moved_to_row, with_group}
+use Rattle.st_resolve.specs.Resolve.{cells_for, moved_to_field, moved_to_row}
 use Rattle.st_resolve.specs.declared.rules.Given.{Given}
 use Rattle.st_edited.specs.Alike.{IsFrom}
 use Rattle.st_edited.proofs.Anchored.{no_members, row_with}

@@ -1,11 +1,10 @@
 -- What a node shows after it changed, where all other nodes are alike: items or a member leave it, or come.
-use Rattle.std.proofs.Common.{◌≡◌, ◌≢◌, ℕ, suc, ◌+◌, Bool, true, false, cond, not, List, [], ◌∷◌, ◌++◌, map, take, drop, Option, Some, None, IsSome, is_some, refl, sym, ap, ◌∙◌, subst}
-use Rattle.serde_json.specs.Data.{Data, Members, put}
+use Rattle.std.proofs.Common.{◌≡◌, ◌≢◌, ℕ, ◌+◌, Bool, true, false, cond, not, List, ◌++◌, take, drop, Option, Some, None, IsSome, is_some, refl, sym, ap, ◌∙◌, subst}
+use Rattle.serde_json.specs.Data.{Data, put}
 use Rattle.serde_json.specs.View.{items_of}
-use Rattle.st_ids.specs.Listing.{Has}
 use Rattle.st_ids.specs.declared.names.NodeId.{NodeId}
 use Rattle.st_marks.specs.Document.{Document, NodeType, IsSoundInForm, content}
-use Rattle.st_marks.specs.LiveTree.{Shows, shows_leaf, shows_row, shows_registers, ShowsItems, owners_shown, register, key_at}
+use Rattle.st_marks.specs.LiveTree.{Shows, shows_leaf, shows_row, shows_registers, owners_shown, register, key_at}
 use Rattle.st_marks.proofs.Members.{true-false}
 use Rattle.st_edited.specs.Alike.{AreAlikeAt}
 use Rattle.st_edited.specs.Edited.{in_node, in_row, in_fields, listed, same_key, with_items, with_key, without, without_items, without_key}

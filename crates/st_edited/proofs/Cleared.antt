@@ -1,9 +1,6 @@
 -- What is shown after a field is emptied, and after a need.
-use Rattle.std.proofs.Common.{◌≡◌, ◌≢◌, ℕ, zero, suc, Bool, true, false, cond, not, ◌||◌, List, [], ◌∷◌, map, filter, Option, Some, None, IsSome, is_some, option_map, Result, Ok, Err, refl, sym, ap, ◌∙◌, subst, inl, inr}
-use Rattle.std.specs.Ordering.{nat_cmp}
-use Rattle.std.specs.Cmp.Lexicographic.{slice_cmp}
-use Rattle.serde_json.specs.Data.{Data, Members, member}
-use Rattle.st_ids.specs.Listing.{Has, IsListing}
+use Rattle.std.proofs.Common.{◌≡◌, ◌≢◌, ℕ, Bool, true, false, cond, ◌||◌, List, [], ◌∷◌, map, Option, Some, None, Ok, refl, sym, ap, ◌∙◌, subst, inl, inr}
+use Rattle.serde_json.specs.Data.{Data}
 use Rattle.st_ids.specs.Order.{same_field}
 use Rattle.st_ids.specs.declared.names.CellId.{CellId}
 use Rattle.st_ids.specs.declared.names.FieldId.{FieldId}
@@ -17,11 +14,11 @@ use Rattle.st_schema.specs.declared.names.KindName.TheVariants.{Required, Option
 use Rattle.st_marks.specs.declared.intents.Intent.{Intent}
 use Rattle.st_marks.specs.declared.places.Spot.{Spot}
 use Rattle.st_marks.specs.declared.verdicts.Verdict.{Verdict}
-use Rattle.st_marks.specs.Document.{Document, NodeType, IsSoundInForm, IsLive, climb, above, content, is_cell, slot, root}
-use Rattle.st_marks.specs.Intent.{put_of, clears}
-use Rattle.st_marks.specs.CarryOut.{full, with_names, place_after, unless_cleared, unless_put}
+use Rattle.st_marks.specs.Document.{Document, NodeType, IsSoundInForm, IsLive, content, is_cell, slot, root}
+use Rattle.st_marks.specs.Intent.{clears}
+use Rattle.st_marks.specs.CarryOut.{full, unless_cleared, unless_put}
 use Rattle.st_marks.specs.Verdict.{IsVerdict}
-use Rattle.st_marks.specs.LiveTree.{Shows, shows_leaf, shows_registers, ShowsMembers, no_more_members, next_member, owners_shown, register, key_at}
+use Rattle.st_marks.specs.LiveTree.{Shows, owners_shown, register}
 use Rattle.st_marks.proofs.Members.{true-false}
 use Rattle.st_resolve.specs.Paths.{field_at}
 use Rattle.st_resolve.specs.Resolve.{clear, need, nothing_yet, rule_for, walk, is_optional, is_row}
@@ -29,9 +26,9 @@ use Rattle.st_resolve.specs.declared.rules.Given.{Given}
 use Rattle.st_resolve.specs.declared.rules.Takes.TheVariants as field
 use Rattle.st_resolve.proofs.Fits.{passed}
 use Rattle.st_edited.specs.Alike.{AreAlikeAt}
-use Rattle.st_edited.specs.Edited.{TellsRows, at_path, in_fields, same_key, without, without_key}
+use Rattle.st_edited.specs.Edited.{TellsRows, at_path, same_key, without_key}
 use Rattle.st_edited.proofs.Alike.{same_below}
-use Rattle.st_edited.proofs.Along.{Shape, as_leaf, as_row, as_registers, shape, kept_child, along, live_at, leaf_kept, same_key-true, same_key-itself}
+use Rattle.st_edited.proofs.Along.{along, live_at, same_key-true, same_key-itself}
 use Rattle.st_edited.proofs.AtNode.{member_left}
 use Rattle.st_edited.proofs.Removed.{no_groups, or_none}
 use Rattle.st_edited.proofs.Rows.{owners_same}

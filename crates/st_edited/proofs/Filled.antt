@@ -1,24 +1,15 @@
 -- What is shown after a new tree is put into a field.
-use Rattle.std.proofs.Common.{◌≡◌, ◌≢◌, ℕ, zero, suc, ◌+◌, ◌≤◌, Bool, true, false, cond, ◌&&◌, ◌||◌, List, [], ◌∷◌, ◌++◌, map, Option, Some, None, IsSome, is_some, Result, Ok, Err, refl, sym, ap, ◌∙◌, subst, arith, inl, inr, ◌⊎◌}
-use Rattle.std.specs.List.{list_all, list_any}
+use Rattle.std.proofs.Common.{◌≡◌, ◌≢◌, ℕ, ◌+◌, Bool, true, false, cond, List, ◌∷◌, Option, Some, None, IsSome, is_some, Ok, refl, sym, ap, ◌∙◌, subst, arith, inl, inr}
+use Rattle.std.specs.List.{list_all}
 use Rattle.std.specs.Option.{option_or}
-use Rattle.std.specs.Ordering.{nat_cmp, is_eq, is_lt, match_ordering}
-use Rattle.std.specs.declared.cmp.Ordering.{Ordering}
-use Rattle.std.specs.declared.cmp.Ordering.TheVariants.{Less, Equal, Greater}
-use Rattle.std.specs.Cmp.Lexicographic.{slice_cmp, nat_list_cmp_total}
-use Rattle.std.specs.FinMap.Entries.{below_all, is_sorted}
-use Rattle.std.proofs.lemmas.Cmp.{tied_itself}
-use Rattle.std.proofs.lemmas.Map.Lookups.{exact_bytes}
-use Rattle.serde_json.specs.Data.{Data, Members, no_members, member, put as put_member}
-use Rattle.st_ids.specs.Listing.{Has, IsListing, keyed}
-use Rattle.st_ids.specs.Order.{same_field}
-use Rattle.st_ids.specs.declared.names.CellId.{CellId}
+use Rattle.serde_json.specs.Data.{Data}
+use Rattle.st_ids.specs.Listing.{Has}
 use Rattle.st_ids.specs.declared.names.FieldId.{FieldId}
 use Rattle.st_ids.specs.declared.names.Key.{Key}
 use Rattle.st_ids.specs.declared.names.NodeId.{NodeId}
 use Rattle.st_ids.specs.declared.names.Place.{Place}
 use Rattle.st_tree.specs.Form.{all_have_form}
-use Rattle.st_tree.specs.Node.{Node, Nodes, first, no_nodes}
+use Rattle.st_tree.specs.Node.{Node, first, no_nodes}
 use Rattle.st_tree.specs.Preorder.{cell_named, node_named}
 use Rattle.st_tree.specs.Size.{item_count}
 use Rattle.st_tree.specs.declared.flat.FlatAt.{FlatAt}
@@ -28,17 +19,14 @@ use Rattle.st_schema.specs.Schema.{SchemaView, is_sound, is_single_kind}
 use Rattle.st_schema.specs.TreeText.{tree_data}
 use Rattle.st_schema.specs.declared.names.KindName.{KindName}
 use Rattle.st_schema.specs.declared.names.KindName.TheVariants.{Required, Optional, Sequence}
-use Rattle.st_marks.specs.declared.intents.Group.{Group}
 use Rattle.st_marks.specs.declared.intents.Intent.{Intent}
-use Rattle.st_marks.specs.declared.intents.Owned.{Owned}
-use Rattle.st_marks.specs.declared.intents.To.{To}
 use Rattle.st_marks.specs.declared.verdicts.Verdict.{Verdict}
-use Rattle.st_marks.specs.Document.{Document, NodeType, IsSoundInForm, content, slot, root}
-use Rattle.st_marks.specs.Intent.{Fits, clears, group_at, put_in}
-use Rattle.st_marks.specs.CarryOut.{full, with_groups, unless_put}
+use Rattle.st_marks.specs.Document.{Document, NodeType, IsSoundInForm, root}
+use Rattle.st_marks.specs.Intent.{Fits, clears, put_in}
+use Rattle.st_marks.specs.CarryOut.{full, unless_put}
 use Rattle.st_marks.specs.Verdict.{IsVerdict}
-use Rattle.st_marks.specs.LiveTree.{Shows, shows_leaf, shows_registers, ShowsMembers, no_more_members, next_member, owners_shown, register, key_at}
-use Rattle.st_marks.proofs.Lookups.{both_true, clears-has, group_at-group}
+use Rattle.st_marks.specs.LiveTree.{Shows, register}
+use Rattle.st_marks.proofs.Lookups.{clears-has}
 use Rattle.st_marks.proofs.Members.{true-false, has-filter_map}
 use Rattle.st_resolve.specs.New.{groups_under, group_under, registers, to_at}
 use Rattle.st_resolve.specs.Paths.{field_at}
@@ -47,15 +35,13 @@ use Rattle.st_resolve.specs.declared.rules.Given.{Given}
 use Rattle.st_resolve.specs.declared.rules.Takes.TheVariants as field
 use Rattle.st_resolve.proofs.Fits.{passed}
 use Rattle.st_resolve.proofs.MoveFits.{CellsFresh}
-use Rattle.st_resolve.proofs.NewFits.{made, put_fits, NodesFresh}
+use Rattle.st_resolve.proofs.NewFits.{put_fits, NodesFresh}
 use Rattle.st_resolve.proofs.Numbered.{filter-from, Counted, tops_counted, tops_rows}
 use Rattle.st_edited.specs.Alike.{AreAlikeAt}
-use Rattle.st_edited.specs.Edited.{TellsRows, at_path, in_fields, same_key, with_key}
-use Rattle.st_edited.proofs.Along.{AreShown, Shape, as_leaf, as_row, as_registers, shape, as_list, along, kept_child, kept_members, leaf_kept, same_key-true, same_key-itself}
+use Rattle.st_edited.specs.Edited.{TellsRows, at_path, same_key, with_key}
+use Rattle.st_edited.proofs.Along.{as_list, along, same_key-true, same_key-itself}
 use Rattle.st_edited.proofs.AtNode.{member_comes}
-use Rattle.st_edited.proofs.Cleared.{same_register}
-use Rattle.st_edited.proofs.Keys.{one_more, with_one}
-use Rattle.st_edited.proofs.Made.{IsFilled, alike, filled, filled_from, fresh, keeps, made_verdict, new_field, old_node, old_unput, put_there}
+use Rattle.st_edited.proofs.Made.{IsFilled, alike, filled, filled_from, keeps, made_verdict, new_field, old_node, old_unput, put_there}
 use Rattle.st_edited.proofs.Named.{are_allowed, own_all, registers_new, trees_form}
 use Rattle.st_edited.proofs.NewTrees.{tops_shown, first_top, top_of, top_at, top_node}
 use Rattle.st_edited.proofs.Ruled.{ruled_kind}

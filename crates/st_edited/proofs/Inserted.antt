@@ -1,27 +1,23 @@
 -- What is shown after an insertion.
-use Rattle.std.proofs.Common.{◌≡◌, ◌≢◌, ℕ, zero, suc, ◌+◌, ◌≤◌, ◌<◌, nat_le, Bool, true, false, cond, List, [], ◌∷◌, ◌++◌, map, take, drop, filter, length, append_assoc, append-nil, Option, Some, None, IsSome, IfSome, is_some, option_map, slice_get, Result, Ok, Err, refl, sym, ap, ◌∙◌, subst, arith, inl, inr, ◌⊎◌}
+use Rattle.std.proofs.Common.{◌≡◌, ◌≢◌, ℕ, zero, suc, ◌+◌, ◌≤◌, nat_le, Bool, true, false, cond, List, [], ◌∷◌, ◌++◌, map, take, drop, filter, length, append_assoc, Option, Some, None, IsSome, is_some, option_map, slice_get, Ok, refl, sym, ap, ◌∙◌, subst, arith, inl, inr}
 use Rattle.std.specs.List.{list_all}
 use Rattle.std.specs.Option.{option_map_or}
 use Rattle.std.proofs.lemmas.Bool.Decides.{nat_tests}
 use Rattle.std.proofs.lemmas.List.{map-append}
 use Rattle.serde_json.specs.Data.{Data}
-use Rattle.serde_json.specs.View.{items_of}
 use Rattle.st_ids.specs.Listing.{Has, AreDistinct}
 use Rattle.st_ids.specs.declared.names.CellId.{CellId}
-use Rattle.st_ids.specs.declared.names.FieldId.{FieldId}
 use Rattle.st_ids.specs.declared.names.Key.{Key}
 use Rattle.st_ids.specs.declared.names.NodeId.{NodeId}
 use Rattle.st_ids.specs.declared.names.Place.{Place}
 use Rattle.st_ids.proofs.Orders.{same_cell-itself}
 use Rattle.st_tree.specs.Node.{Nodes}
 use Rattle.st_tree.specs.Size.{item_count}
-use Rattle.st_tree.specs.declared.edit.EditFault.TheVariants.{Kind, Range}
-use Rattle.st_tree.specs.declared.flat.FlatAt.{FlatAt}
+use Rattle.st_tree.specs.declared.edit.EditFault.TheVariants.{Range}
 use Rattle.st_tree.specs.declared.flat.FlatNode.{FlatNode}
 use Rattle.st_schema.specs.Conforms.{items_verdicts}
 use Rattle.st_schema.specs.Schema.{SchemaView, is_sound}
 use Rattle.st_schema.specs.TreeText.{trees_data}
-use Rattle.st_schema.specs.declared.names.FieldRule.{FieldRule}
 use Rattle.st_marks.specs.declared.intents.Group.{Group}
 use Rattle.st_marks.specs.declared.intents.Intent.{Intent}
 use Rattle.st_marks.specs.declared.intents.Owned.{Owned}
@@ -33,9 +29,9 @@ use Rattle.st_marks.specs.Document.{Document, NodeType, IsSoundInForm, content, 
 use Rattle.st_marks.specs.Intent.{Fits, group_at, put_of}
 use Rattle.st_marks.specs.CarryOut.{full, with_groups, with_names, place_after}
 use Rattle.st_marks.specs.Verdict.{IsVerdict}
-use Rattle.st_marks.specs.LiveTree.{Shows, shows_leaf, shows_row, ShowsItems, owners_shown}
+use Rattle.st_marks.specs.LiveTree.{Shows, owners_shown}
 use Rattle.st_marks.proofs.Lookups.{group_at-group, group_found}
-use Rattle.st_marks.proofs.Members.{true-false, all-has, has-map, has-filter_map, map-has}
+use Rattle.st_marks.proofs.Members.{all-has, has-filter_map}
 use Rattle.st_marks.proofs.NewRows.{made_cell, row_cells}
 use Rattle.st_doc.specs.Shown.{live_slots}
 use Rattle.st_resolve.specs.New.{group_of, group_under, groups_under, registers, to_at, top_cells}
@@ -45,15 +41,15 @@ use Rattle.st_resolve.specs.declared.rules.Given.{Given}
 use Rattle.st_resolve.specs.declared.rules.Takes.TheVariants as field
 use Rattle.st_resolve.proofs.Fits.{passed}
 use Rattle.st_resolve.proofs.MoveFits.{CellsFresh}
-use Rattle.st_resolve.proofs.NewFits.{made, insert_fits, NodesFresh}
+use Rattle.st_resolve.proofs.NewFits.{insert_fits, NodesFresh}
 use Rattle.st_resolve.proofs.Numbered.{filter-from, tops_counted, tops_rows}
-use Rattle.st_edited.specs.Edited.{TellsRows, at_path, in_row, listed, with_items}
-use Rattle.st_edited.proofs.Along.{AreShown, Shape, as_leaf, as_row, as_registers, shape, as_list, as_items, kept_items, along, kept_child, leaf_kept}
+use Rattle.st_edited.specs.Edited.{TellsRows, at_path, listed, with_items}
+use Rattle.st_edited.proofs.Along.{AreShown, as_list, along}
 use Rattle.st_edited.proofs.AtNode.{items_come}
 use Rattle.st_edited.proofs.Made.{IsFilled, alike, all_full, fresh, keeps, made_verdict, no_members, old_full, old_node, put_is}
 use Rattle.st_edited.proofs.Named.{are_allowed, group_is, own_all, registers_new, top_from, top_has, top_nodes, trees_form, with_first, with_has, with_others}
-use Rattle.st_edited.proofs.NewTrees.{item_nodes, tops_shown}
-use Rattle.st_edited.proofs.Rows.{owners_same, shown_take, shown_drop, shown_joined}
+use Rattle.st_edited.proofs.NewTrees.{tops_shown}
+use Rattle.st_edited.proofs.Rows.{owners_same}
 use Rattle.st_edited.proofs.Ruled.{row_ruled}
 
 -- ## A row in which a group comes after a cell

@@ -1,12 +1,12 @@
 -- The keys of a node's registers, in order, with one less or one more.
-use Rattle.std.proofs.Common.{◌≡◌, Bool, true, false, cond, not, T, List, [], ◌∷◌, map, filter, Option, Some, None, is_some, refl, sym, ap, ◌∙◌, subst, ℕ}
-use Rattle.std.specs.Ordering.{nat_cmp, is_eq, eq_by_cmp, match_ordering}
+use Rattle.std.proofs.Common.{◌≡◌, Bool, true, false, cond, not, T, List, [], ◌∷◌, filter, Option, Some, None, refl, sym, ap, ◌∙◌, subst, ℕ}
+use Rattle.std.specs.Ordering.{nat_cmp, match_ordering}
 use Rattle.std.specs.declared.cmp.Ordering.{Ordering}
 use Rattle.std.specs.declared.cmp.Ordering.TheVariants.{Less, Equal, Greater}
 use Rattle.std.specs.Cmp.Lexicographic.{slice_cmp, nat_list_cmp_total}
 use Rattle.std.specs.FinMap.Entries.{find, put, by_order, where_key, is_sorted, is_sorted-where_key, find-where_key, is_sorted-put, find-put}
 use Rattle.std.proofs.lemmas.Map.Lookups.{exact_bytes}
-use Rattle.st_ids.specs.Listing.{IsListing, IsRising, item_of, keyed}
+use Rattle.st_ids.specs.Listing.{IsListing, keyed}
 use Rattle.st_edited.specs.Edited.{same_key}
 
 abbrev bytes_cmp : List ℕ → List ℕ → Ordering

@@ -1,18 +1,15 @@
 -- What a path leads to in a tree is what the node to which it leads in the document shows, where nodes show all beneath them.
-use Rattle.std.proofs.Common.{◌≡◌, ◌≢◌, ℕ, zero, suc, ◌+◌, ◌==◌, Bool, true, false, cond, List, [], ◌∷◌, take, drop, length, Option, Some, None, option_map, option_and_then, option_to_list, is_some, slice_get, Ok, refl, sym, ap, ◌∙◌, subst, inl, inr, ◌⊎◌}
+use Rattle.std.proofs.Common.{◌≡◌, ◌≢◌, ℕ, zero, suc, ◌+◌, ◌==◌, Bool, true, false, cond, List, [], ◌∷◌, length, Option, Some, None, option_map, option_and_then, is_some, slice_get, Ok, refl, sym, ap, ◌∙◌, subst, inl, inr, ◌⊎◌}
 use Rattle.std.specs.FinMap.Entries.{find}
-use Rattle.std.specs.Option.{option_map_or}
 use Rattle.std.specs.Ordering.{nat_cmp, is_eq, match_ordering}
 use Rattle.std.specs.declared.cmp.Ordering.{Ordering}
 use Rattle.std.specs.declared.cmp.Ordering.TheVariants.{Less, Equal, Greater}
 use Rattle.std.specs.Cmp.Lexicographic.{slice_cmp, nat_list_cmp_total}
 use Rattle.std.proofs.lemmas.Cmp.{tied_itself}
 use Rattle.std.proofs.lemmas.Map.Lookups.{exact_bytes}
-use Rattle.serde_json.specs.Data.{Data, array, object, Items, Members, member}
+use Rattle.serde_json.specs.Data.{Data, Members}
 use Rattle.serde_json.specs.Find.{get, get_member}
 use Rattle.st_ids.specs.Listing.{Has, IsListing, keyed}
-use Rattle.st_ids.specs.declared.names.FieldId.{FieldId}
-use Rattle.st_ids.specs.declared.names.Key.{Key}
 use Rattle.st_ids.specs.declared.names.Leaf.{Leaf}
 use Rattle.st_ids.specs.declared.names.NodeId.{NodeId}
 use Rattle.st_ids.specs.declared.names.Place.{Place}
@@ -23,9 +20,8 @@ use Rattle.st_marks.specs.LiveTree.{Shows, ShowsMembers, no_more_members, next_m
 use Rattle.st_marks.proofs.Members.{true-false}
 use Rattle.st_doc.specs.Shown.{live_slots}
 use Rattle.st_resolve.specs.Paths.{child, field_at, there, walk_from}
-use Rattle.st_resolve.proofs.Fits.{passed, found, gotten}
-use Rattle.st_edited.specs.Edited.{listed}
-use Rattle.st_edited.specs.Moved.{child_in, inside, node_in, row_items, taken_here}
+use Rattle.st_resolve.proofs.Fits.{passed, found}
+use Rattle.st_edited.specs.Moved.{child_in, inside, node_in, row_items}
 use Rattle.st_edited.specs.Typed.{IsAsTyped, IsFieldType, IsRowType}
 use Rattle.st_edited.proofs.Beneath.{in_row as stands_in_row}
 use Rattle.st_edited.proofs.Along.{AreShown, Shape, as_leaf, as_row, as_registers, shape, as_list, owner_at}

@@ -1,14 +1,12 @@
 -- A document after an intent that makes the nodes of new trees: it keeps their list, and elsewhere it is as it was.
 use Rattle.std.proofs.Common.{◌≡◌, ◌≢◌, ℕ, zero, suc, ◌+◌, ◌<◌, ◌≤◌, Bool, true, false, cond, List, [], ◌∷◌, ◌++◌, map, length, Option, Some, None, IsSome, IfSome, is_some, option_map, option_and_then, refl, sym, ap, ◌∙◌, subst, arith, append-nil, inl, inr, ◌⊎◌}
-use Rattle.std.specs.List.{filter_map, cons_option, find, list_any}
 use Rattle.std.specs.Option.{option_or, option_map_or}
-use Rattle.st_ids.specs.Listing.{Has, AreDistinct}
-use Rattle.st_ids.specs.Order.{same_node, same_cell, same_field}
+use Rattle.st_ids.specs.Listing.{Has}
+use Rattle.st_ids.specs.Order.{same_node}
 use Rattle.st_ids.specs.declared.names.CellId.{CellId}
 use Rattle.st_ids.specs.declared.names.FieldId.{FieldId}
 use Rattle.st_ids.specs.declared.names.NodeId.{NodeId}
-use Rattle.st_ids.specs.declared.names.Rev.{Rev}
-use Rattle.st_ids.proofs.Orders.{same_node-true, same_node-itself, same_cell-itself, same_field-true}
+use Rattle.st_ids.proofs.Orders.{same_node-true, same_node-itself, same_cell-itself}
 use Rattle.st_tree.specs.Preorder.{node_named}
 use Rattle.st_tree.specs.declared.flat.FlatAt.{FlatAt}
 use Rattle.st_tree.specs.declared.flat.FlatNode.{FlatNode}
@@ -20,23 +18,22 @@ use Rattle.st_marks.specs.declared.intents.Put.{Put}
 use Rattle.st_marks.specs.declared.intents.To.{To}
 use Rattle.st_marks.specs.declared.places.Spot.{Spot}
 use Rattle.st_marks.specs.declared.verdicts.Verdict.{Verdict}
-use Rattle.st_marks.specs.Document.{Document, NodeType, IsSoundInForm, above, climb, node_of, content, is_cell, slot, owned}
-use Rattle.st_marks.specs.Intent.{Fits, new_type, is_new, put_of, put_in, clears, group_at, new_node}
+use Rattle.st_marks.specs.Document.{Document, NodeType, IsSoundInForm, above, climb, node_of, is_cell, slot, owned}
+use Rattle.st_marks.specs.Intent.{Fits, new_type, put_of, put_in, clears, group_at}
 use Rattle.st_marks.specs.CarryOut.{full, with_groups, with_names, spot_of, place_after, unless_cleared, unless_put}
 use Rattle.st_marks.specs.Verdict.{IsVerdict}
 use Rattle.st_marks.specs.LiveTree.{owners_shown, register}
 use Rattle.st_marks.proofs.Lookups.{put-has, has-put, put_in-has, has-put_in, clears-has, group_at-group, group_found}
-use Rattle.st_marks.proofs.Members.{true-false, has-map, map-has, first-distinct, has-filter_map}
+use Rattle.st_marks.proofs.Members.{has-map, map-has, first-distinct, has-filter_map}
 use Rattle.st_marks.proofs.NewRows.{row_cells}
 use Rattle.st_marks.proofs.Full.{unput_above}
 use Rattle.st_marks.proofs.Climb.{above_known}
-use Rattle.st_resolve.specs.New.{new_nodes, puts, to_at, owned_by, row_cell, cells_under, group_of, group_under, register_at}
+use Rattle.st_resolve.specs.New.{new_nodes, to_at, owned_by, row_cell, cells_under, group_of, group_under}
 use Rattle.st_resolve.specs.declared.rules.Given.{Given}
 use Rattle.st_resolve.proofs.NewFits.{made, NodesFresh}
-use Rattle.st_resolve.proofs.Numbered.{filter-from, Counted, IsAt, IsNumbered, numbered, one_named, same_number, there_is, IsArray, IsUnderArray}
+use Rattle.st_resolve.proofs.Numbered.{filter-from, Counted, IsAt, IsNumbered, numbered, one_named, same_number, there_is, IsUnderArray}
 use Rattle.st_edited.specs.Alike.{AreAlikeAt}
 use Rattle.st_edited.proofs.NewTrees.{Keeps}
-use Rattle.st_edited.proofs.Removed.{or_none}
 use Rattle.st_edited.proofs.Rows.{owners_same}
 use Rattle.st_edited.proofs.Sound.{last_in_effect}
 

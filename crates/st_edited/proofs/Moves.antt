@@ -1,5 +1,5 @@
 -- What is shown after a move: first without the moved nodes, and then with them where they come.
-use Rattle.std.proofs.Common.{◌≡◌, ◌≢◌, ℕ, zero, suc, ◌+◌, ◌==◌, ◌≤◌, ◌&&◌, nat_le, Bool, true, false, cond, not, List, [], ◌∷◌, ◌++◌, map, take, drop, filter, length, take-append-drop, drop-drop, length-take-le, length-drop, Option, Some, None, IsSome, is_some, option_and_then, option_to_list, Result, Ok, Err, refl, sym, ap, ◌∙◌, subst, arith, inl, inr, ◌⊎◌}
+use Rattle.std.proofs.Common.{◌≡◌, ◌≢◌, ℕ, zero, suc, ◌+◌, ◌==◌, ◌≤◌, ◌&&◌, nat_le, Bool, true, false, cond, not, List, [], ◌∷◌, ◌++◌, map, take, drop, filter, length, take-append-drop, drop-drop, length-take-le, length-drop, Option, Some, None, IsSome, option_and_then, option_to_list, Ok, Err, refl, sym, ap, ◌∙◌, subst, arith, inl, inr, ◌⊎◌}
 use Rattle.std.specs.List.{list_any}
 use Rattle.std.specs.Option.{option_map_or}
 use Rattle.std.proofs.lemmas.Bool.Decides.{nat_tests}
@@ -13,7 +13,7 @@ use Rattle.st_ids.specs.declared.names.NodeId.{NodeId}
 use Rattle.st_ids.specs.declared.names.Place.{Place}
 use Rattle.st_ids.proofs.Orders.{same_field-true, same_field-itself}
 use Rattle.st_tree.specs.declared.edit.EditFault.{EditFault}
-use Rattle.st_tree.specs.declared.edit.EditFault.TheVariants.{Inside, Kind, NoNode, Range}
+use Rattle.st_tree.specs.declared.edit.EditFault.TheVariants.{Inside, NoNode, Range}
 use Rattle.st_schema.specs.Schema.{SchemaView, is_sound}
 use Rattle.st_schema.specs.declared.names.FieldRule.{FieldRule}
 use Rattle.st_schema.specs.declared.names.KindName.{KindName}
@@ -31,16 +31,16 @@ use Rattle.st_marks.proofs.Lookups.{both_true}
 use Rattle.st_marks.proofs.Members.{true-false, has-any}
 use Rattle.st_doc.specs.Shown.{live_slots}
 use Rattle.st_resolve.specs.Paths.{beyond, child, field_at, items_from, passes, row_length, there, walk_from, and_then}
-use Rattle.st_resolve.specs.Resolve.{ask, is_inside, is_row, is_there, may_move, move, moved, moved_to_field, moved_to_row, nodes_allowed, rule_for, taken, takes_kind, walk}
+use Rattle.st_resolve.specs.Resolve.{ask, is_inside, is_row, is_there, may_move, move, moved, moved_to_field, moved_to_row, rule_for, taken, takes_kind, walk}
 use Rattle.st_resolve.specs.declared.rules.Given.{Given}
 use Rattle.st_resolve.specs.declared.rules.Takes.TheVariants as field
 use Rattle.st_resolve.proofs.Fits.{passed, found}
 use Rattle.st_resolve.proofs.MoveFits.{CellsFresh, move_fits}
 use Rattle.st_edited.specs.Alike.{IsFrom, AreAlikeAt}
-use Rattle.st_edited.specs.Edited.{TellsRows, at_path, same_key, with_items, with_key, without_items, without_key}
-use Rattle.st_edited.specs.Moved.{index_after, inside, is_row_key, moved_in, node_in, path_after, row_items, same_path, taken_from, taken_here, target_index, target_path, with_first, with_taken, without_taken}
+use Rattle.st_edited.specs.Edited.{TellsRows, at_path, same_key, with_items, without_items, without_key}
+use Rattle.st_edited.specs.Moved.{index_after, inside, is_row_key, moved_in, path_after, row_items, same_path, taken_from, taken_here, target_index, target_path, with_first, with_taken, without_taken}
 use Rattle.st_edited.specs.Typed.{IsAsTyped}
-use Rattle.st_edited.proofs.Along.{AreShown, along, child_up, kept_child, kept_items, kept_other, live_at, owners_live, owners_once}
+use Rattle.st_edited.proofs.Along.{AreShown, along, child_up, kept_child, kept_items, kept_other, owners_live, owners_once}
 use Rattle.st_edited.proofs.Arrived.{field_verdict, held_after, held_there, node_there, nodes_there, row_elsewhere, row_here, row_verdict, rows_there}
 use Rattle.st_edited.proofs.AtNode.{items_come, items_left, member_comes, member_left}
 use Rattle.st_edited.proofs.Beneath.{in_row as stands_in_row, row_above, held_above}
@@ -49,7 +49,7 @@ use Rattle.st_edited.proofs.Gap.{cut_at}
 use Rattle.st_edited.proofs.Looked.{StandsAsTyped, member_seen, node_seen, row_seen, stands_typed}
 use Rattle.st_edited.proofs.Parted.{from_before, parted, parted_row, parted_sound, unless_among}
 use Rattle.st_edited.proofs.Removed.{items_in, taken_from as taken_part}
-use Rattle.st_edited.proofs.Rows.{among, among-has, filter_all, has-among, not-among, shown_drop, shown_take, without_part}
+use Rattle.st_edited.proofs.Rows.{among, filter_all, has-among, not-among, shown_drop, shown_take, without_part}
 use Rattle.st_edited.proofs.Ruled.{ruled_key, ruled_kind}
 use Rattle.st_edited.proofs.Ways.{one_path, path_same, walks, walks_after}
 

@@ -1,6 +1,6 @@
 -- The list of the nodes of new trees, where the schema allows the trees.
-use Rattle.std.proofs.Common.{◌≡◌, ◌≢◌, ℕ, zero, suc, ◌+◌, ◌≤◌, Bool, true, false, not, ◌&&◌, List, [], ◌∷◌, ◌++◌, map, Option, Some, None, Result, Ok, refl, sym, ap, ◌∙◌, subst, arith, inl, inr, ◌⊎◌}
-use Rattle.std.specs.List.{filter_map, cons_option, list_all, position_from}
+use Rattle.std.proofs.Common.{◌≡◌, ℕ, ◌+◌, Bool, true, false, not, ◌&&◌, List, [], ◌∷◌, ◌++◌, map, Option, Some, None, Ok, refl, sym, ap, ◌∙◌, subst, inl, inr, ◌⊎◌}
+use Rattle.std.specs.List.{cons_option, list_all, position_from}
 use Rattle.std.proofs.lemmas.List.Folds.{list_all-append}
 use Rattle.st_ids.specs.Listing.{Has}
 use Rattle.st_ids.specs.declared.names.CellId.{CellId}
@@ -10,7 +10,7 @@ use Rattle.st_ids.specs.declared.names.Rev.{Rev}
 use Rattle.st_tree.specs.Form.{has_form, all_have_form}
 use Rattle.st_tree.specs.Node.{Node, node, Nodes, no_nodes, first}
 use Rattle.st_tree.specs.Preorder.{node_named, cell_named, cell_count, listed, tops_listed, fields_listed}
-use Rattle.st_tree.specs.Size.{node_count, item_count}
+use Rattle.st_tree.specs.Size.{node_count}
 use Rattle.st_tree.specs.declared.flat.FlatAt.{FlatAt}
 use Rattle.st_tree.specs.declared.flat.FlatNode.{FlatNode}
 use Rattle.st_schema.specs.Conforms.{verdicts, items_verdicts}
@@ -29,7 +29,7 @@ use Rattle.st_resolve.specs.declared.rules.Given.{Given}
 use Rattle.st_resolve.proofs.Fits.{passed}
 use Rattle.st_resolve.proofs.NewFits.{NodesFresh}
 use Rattle.st_resolve.proofs.Numbered.{filter-from, Counted, IsAt, numbered, IsInner, fields_inner}
-use Rattle.st_edited.proofs.NewTrees.{Own, inner, item_nodes, listed_parts, top_of}
+use Rattle.st_edited.proofs.NewTrees.{Own, inner, item_nodes}
 
 -- ## Allowed trees
 

@@ -1,14 +1,14 @@
 -- A document that has the nodes of new trees, as their list says, shows those trees.
-use Rattle.std.proofs.Common.{◌≡◌, ◌≢◌, ℕ, zero, suc, ◌+◌, ◌<◌, ◌≤◌, Bool, true, false, cond, not, ◌&&◌, ◌||◌, List, [], ◌∷◌, ◌++◌, map, Option, Some, None, is_some, refl, sym, ap, ◌∙◌, subst, arith, append-nil, inl, inr, ◌⊎◌}
-use Rattle.std.specs.List.{filter_map, cons_option, list_all}
-use Rattle.std.specs.Ordering.{nat_cmp, is_eq, is_lt}
+use Rattle.std.proofs.Common.{◌≡◌, ℕ, ◌+◌, ◌<◌, ◌≤◌, Bool, true, false, cond, not, ◌&&◌, List, [], ◌∷◌, ◌++◌, map, Option, Some, None, is_some, refl, sym, ap, ◌∙◌, subst, arith, append-nil, inl, inr, ◌⊎◌}
+use Rattle.std.specs.List.{cons_option, list_all}
+use Rattle.std.specs.Ordering.{nat_cmp, is_lt}
 use Rattle.std.specs.declared.cmp.Ordering.{Ordering}
 use Rattle.std.specs.declared.cmp.Ordering.TheVariants.{Less, Equal, Greater}
 use Rattle.std.specs.Cmp.Lexicographic.{slice_cmp, nat_list_cmp_total}
 use Rattle.std.specs.FinMap.Entries.{find, below_all, is_sorted}
 use Rattle.std.proofs.lemmas.List.Folds.{list_all-append}
-use Rattle.serde_json.specs.Data.{Data, array, object, Items, no_items, item, Members, no_members, member}
-use Rattle.st_ids.specs.Listing.{Has, IsListing, IsRising, item_of, keyed}
+use Rattle.serde_json.specs.Data.{object}
+use Rattle.st_ids.specs.Listing.{Has, item_of, keyed}
 use Rattle.st_ids.specs.Order.{same_node}
 use Rattle.st_ids.specs.declared.names.FieldId.{FieldId}
 use Rattle.st_ids.specs.declared.names.Leaf.{Leaf}
@@ -22,8 +22,8 @@ use Rattle.st_tree.specs.Preorder.{node_named, cell_named, cells_taken, cell_cou
 use Rattle.st_tree.specs.declared.flat.FlatAt.{FlatAt}
 use Rattle.st_tree.specs.declared.flat.FlatNode.{FlatNode}
 use Rattle.st_schema.specs.Schema.{SchemaView, form_of}
-use Rattle.st_schema.specs.Conforms.{verdicts, fields_verdicts, items_verdicts, node_fits, is_as_typed, fields_fit, types_under}
-use Rattle.st_schema.specs.TreeText.{tree_data, body_data, keyed_data, members_data, trees_data, leaf_data as schema_leaf_data}
+use Rattle.st_schema.specs.Conforms.{verdicts, fields_verdicts, items_verdicts, node_fits, is_as_typed, types_under}
+use Rattle.st_schema.specs.TreeText.{tree_data, body_data, members_data, trees_data, leaf_data as schema_leaf_data}
 use Rattle.st_schema.specs.declared.names.Form.{Form}
 use Rattle.st_schema.specs.declared.names.Form.TheVariants.{Array, Map, Object}
 use Rattle.st_marks.specs.declared.intents.Owned.{Owned}

@@ -1,15 +1,12 @@
 -- A document with some nodes taken away, each with all that stands beneath it.
-use Rattle.std.proofs.Common.{◌≡◌, ◌≢◌, ◌↔◌, ℕ, zero, suc, Bool, true, false, cond, not, List, [], ◌∷◌, ◌++◌, map, take, drop, filter, Option, Some, None, IsSome, is_some, option_and_then, refl, sym, ap, ◌∙◌, subst, inl, inr, ◌⊎◌}
-use Rattle.st_ids.specs.Listing.{Has}
-use Rattle.st_ids.specs.declared.names.CellId.{CellId}
+use Rattle.std.proofs.Common.{◌≡◌, ◌≢◌, ℕ, zero, suc, Bool, true, false, cond, not, List, filter, Option, Some, None, option_and_then, refl, sym, ap, ◌∙◌}
 use Rattle.st_ids.specs.declared.names.FieldId.{FieldId}
 use Rattle.st_ids.specs.declared.names.NodeId.{NodeId}
 use Rattle.st_marks.specs.declared.intents.Owned.{Owned}
 use Rattle.st_marks.specs.declared.places.Spot.{Spot}
-use Rattle.st_marks.specs.Document.{Document, IsSoundInForm, ClimbsToAnEnd, above, climb, node_of, content, is_cell, slot, root}
-use Rattle.st_marks.specs.LiveTree.{owners_shown, register}
-use Rattle.st_edited.specs.Alike.{IsFrom}
-use Rattle.st_edited.proofs.Rows.{among, among-has, has-among, not-among, owners_filtered}
+use Rattle.st_marks.specs.Document.{Document, IsSoundInForm, above, climb, node_of, content, is_cell, root}
+use Rattle.st_marks.specs.LiveTree.{owners_shown}
+use Rattle.st_edited.proofs.Rows.{among, owners_filtered}
 
 -- the occupant of a register, if it isn't taken away
 abbrev pub unless_among : List NodeId → Option NodeId → Option NodeId

@@ -1,16 +1,15 @@
 -- What is shown after a removal.
-use Rattle.std.proofs.Common.{◌≡◌, ◌≢◌, ℕ, zero, suc, ◌+◌, Bool, true, false, cond, not, nat_le, List, [], ◌∷◌, ◌++◌, map, take, drop, filter, Option, Some, None, IsSome, is_some, option_map, option_and_then, Result, Ok, Err, refl, sym, ap, ◌∙◌, subst, inl, inr, ◌||◌}
-use Rattle.std.specs.List.{find, take-map, drop-map, list_all}
+use Rattle.std.proofs.Common.{◌≡◌, ◌≢◌, ℕ, zero, suc, ◌+◌, Bool, true, false, cond, not, nat_le, List, [], ◌∷◌, ◌++◌, map, take, drop, filter, Option, Some, None, IsSome, is_some, option_map, option_and_then, Ok, Err, refl, sym, ap, ◌∙◌, subst, inl, inr, ◌||◌}
+use Rattle.std.specs.List.{find, take-map, drop-map}
 use Rattle.std.specs.Option.{option_or}
-use Rattle.serde_json.specs.Data.{Data, Items}
-use Rattle.serde_json.specs.View.{items_of}
+use Rattle.serde_json.specs.Data.{Data}
 use Rattle.st_ids.specs.Listing.{Has}
 use Rattle.st_ids.specs.Order.{same_node}
 use Rattle.st_ids.specs.declared.names.FieldId.{FieldId}
 use Rattle.st_ids.specs.declared.names.Key.{Key}
 use Rattle.st_ids.specs.declared.names.NodeId.{NodeId}
 use Rattle.st_ids.specs.declared.names.Place.{Place}
-use Rattle.st_tree.specs.declared.edit.EditFault.TheVariants.{Kind, Range}
+use Rattle.st_tree.specs.declared.edit.EditFault.TheVariants.{Range}
 use Rattle.st_schema.specs.Schema.{SchemaView, is_sound}
 use Rattle.st_marks.specs.declared.intents.Intent.{Intent}
 use Rattle.st_marks.specs.declared.intents.Owned.{Owned}
@@ -23,20 +22,19 @@ use Rattle.st_marks.specs.Document.{Document, NodeType, IsSoundInForm, above, cl
 use Rattle.st_marks.specs.Intent.{put_of, put_in, is_register}
 use Rattle.st_marks.specs.CarryOut.{full, with_groups, with_names, place_after, unless_cleared, unless_put}
 use Rattle.st_marks.specs.Verdict.{IsVerdict}
-use Rattle.st_marks.specs.LiveTree.{Shows, shows_leaf, shows_row, ShowsItems, owners_shown, register}
-use Rattle.st_marks.proofs.Members.{true-false}
+use Rattle.st_marks.specs.LiveTree.{Shows, owners_shown, register}
 use Rattle.st_doc.specs.Shown.{live_slots}
 use Rattle.st_resolve.specs.Paths.{items_from, row_length}
-use Rattle.st_resolve.specs.Resolve.{nothing_yet, remove, removed, rule_for, walk, within_row}
+use Rattle.st_resolve.specs.Resolve.{remove, removed, rule_for, walk, within_row}
 use Rattle.st_resolve.specs.declared.rules.Given.{Given}
 use Rattle.st_resolve.specs.declared.rules.Takes.TheVariants as field
 use Rattle.st_resolve.proofs.Fits.{passed}
 use Rattle.st_edited.specs.Alike.{AreAlikeAt}
-use Rattle.st_edited.specs.Edited.{TellsRows, at_path, in_node, in_row, listed, without_items}
-use Rattle.st_edited.proofs.Along.{AreShown, Shape, as_leaf, as_row, as_registers, shape, as_list, as_items, kept_items, kept_child, along, leaf_kept, owners_live, owners_once}
+use Rattle.st_edited.specs.Edited.{TellsRows, at_path, without_items}
+use Rattle.st_edited.proofs.Along.{along, owners_live, owners_once}
 use Rattle.st_edited.proofs.AtNode.{items_left}
 use Rattle.st_edited.proofs.Beneath.{in_row as stands_in_row}
-use Rattle.st_edited.proofs.Rows.{among, among-has, has-among, not-among, filter_all, without_part, owners_filtered, shown_take, shown_drop, shown_joined}
+use Rattle.st_edited.proofs.Rows.{among, among-has, not-among, filter_all, without_part, owners_filtered}
 use Rattle.st_edited.proofs.Sound.{last_in_effect}
 use Rattle.st_edited.proofs.Ruled.{row_ruled}
 

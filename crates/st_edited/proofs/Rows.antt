@@ -1,5 +1,5 @@
 -- Lists of nodes and of what they show, cut and filtered.
-use Rattle.std.proofs.Common.{◌≡◌, ◌≢◌, ℕ, zero, suc, ◌+◌, Bool, true, false, cond, not, ◌||◌, List, [], ◌∷◌, ◌++◌, map, take, drop, filter, drop-drop, take-append-drop, refl, sym, ap, ◌∙◌, subst, inl, inr}
+use Rattle.std.proofs.Common.{◌≡◌, ℕ, zero, suc, ◌+◌, Bool, true, false, cond, not, List, [], ◌∷◌, ◌++◌, map, take, drop, filter, drop-drop, take-append-drop, refl, sym, ap, ◌∙◌, subst, inl, inr}
 use Rattle.std.specs.List.{list_any}
 use Rattle.serde_json.specs.Data.{Data}
 use Rattle.st_ids.specs.Listing.{Has, AreDistinct}
@@ -7,10 +7,9 @@ use Rattle.st_ids.specs.Order.{same_node}
 use Rattle.st_ids.specs.declared.names.NodeId.{NodeId}
 use Rattle.st_ids.proofs.Orders.{same_node-true, same_node-itself}
 use Rattle.st_marks.specs.declared.intents.Owned.{Owned}
-use Rattle.st_marks.specs.declared.places.Slot.{Slot}
 use Rattle.st_marks.specs.Document.{Document, is_cell, slot}
-use Rattle.st_marks.specs.LiveTree.{Shows, owners_shown}
-use Rattle.st_marks.proofs.Members.{true-false, any-has, has-any, append_right, distinct-between, distinct-right}
+use Rattle.st_marks.specs.LiveTree.{owners_shown}
+use Rattle.st_marks.proofs.Members.{any-has, has-any, distinct-between, distinct-right}
 use Rattle.st_edited.proofs.Along.{AreShown}
 
 -- ## Filtered

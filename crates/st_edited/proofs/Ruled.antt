@@ -1,5 +1,5 @@
 -- What it says of a node's form that the schema has a field of a kind there.
-use Rattle.std.proofs.Common.{◌≡◌, ◌≢◌, ◌==◌, suc, arith, Bool, true, false, cond, ◌&&◌, nat_le, List, [], ◌∷◌, map, length, Option, Some, None, option_map, option_and_then, Result, Ok, Err, ℕ, refl, sym, ap, ◌∙◌, subst, inl, inr}
+use Rattle.std.proofs.Common.{◌≡◌, ◌≢◌, ◌==◌, suc, arith, Bool, true, false, cond, ◌&&◌, nat_le, List, [], ◌∷◌, map, length, Option, Some, None, option_map, option_and_then, Ok, Err, ℕ, refl, sym, ap, ◌∙◌, inl, inr}
 use Rattle.std.specs.List.{list_all}
 use Rattle.std.proofs.lemmas.Bool.Decides.{nat_tests}
 use Rattle.std.specs.Map.{lookup}
@@ -16,7 +16,7 @@ use Rattle.st_schema.specs.declared.names.KindName.{KindName}
 use Rattle.st_schema.specs.declared.names.KindName.TheVariants.{Required, Optional, Sequence}
 use Rattle.st_marks.specs.Document.{Document, NodeType}
 use Rattle.st_marks.proofs.Lookups.{both_true}
-use Rattle.st_marks.proofs.Members.{true-false, first-has}
+use Rattle.st_marks.proofs.Members.{first-has}
 use Rattle.st_resolve.specs.Paths.{there}
 use Rattle.st_resolve.specs.Resolve.{rule_at, rule_for, of_kind, takes_kind, is_row}
 use Rattle.st_resolve.specs.declared.rules.Takes.{Takes}

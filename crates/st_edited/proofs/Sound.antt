@@ -1,12 +1,10 @@
 -- Why the intents that edits mean are sound: the last schema entry is in effect.
-use Rattle.std.proofs.Common.{◌≡◌, List, [], ◌∷◌, Option, Some, None, refl, sym, ap, subst, inl, inr}
+use Rattle.std.proofs.Common.{◌≡◌, List, [], ◌∷◌, Some, refl, inl, inr}
 use Rattle.std.specs.List.{last_or}
 use Rattle.std.specs.Option.{unwrap_or}
 use Rattle.st_ids.specs.Listing.{Has}
 use Rattle.st_ids.specs.declared.names.Rev.{Rev}
 use Rattle.st_marks.specs.Document.{Document, IsSoundInForm, first_of, last_of, revs, opening}
-use Rattle.st_marks.specs.declared.intents.Intent.{Intent}
-use Rattle.st_marks.specs.Verdict.{IsBaseInEffect}
 use Rattle.st_resolve.specs.Resolve.{nothing_yet}
 use Rattle.st_resolve.specs.declared.rules.Given.{Given}
 

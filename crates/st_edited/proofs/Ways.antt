@@ -4,18 +4,15 @@ use Rattle.std.proofs.lemmas.Bool.{cases_lt}
 use Rattle.std.proofs.lemmas.Bool.Decides.{nat_tests}
 use Rattle.st_ids.specs.Listing.{Has, AreDistinct}
 use Rattle.st_ids.specs.declared.names.FieldId.{FieldId}
-use Rattle.st_ids.specs.declared.names.Key.{Key}
 use Rattle.st_ids.specs.declared.names.NodeId.{NodeId}
 use Rattle.st_ids.specs.declared.names.Place.{Place}
 use Rattle.st_tree.specs.declared.edit.EditFault.TheVariants.{NoNode}
-use Rattle.st_marks.specs.declared.places.Slot.{Slot}
 use Rattle.st_marks.specs.declared.places.Spot.{Spot}
-use Rattle.st_marks.specs.Document.{Document, IsSoundInForm, above, climb, content}
+use Rattle.st_marks.specs.Document.{Document, IsSoundInForm, above, content}
 use Rattle.st_marks.specs.LiveTree.{owners_shown, register}
 use Rattle.st_marks.proofs.Lookups.{both_true}
 use Rattle.st_marks.proofs.Members.{true-false, all-has}
-use Rattle.st_doc.specs.Shown.{live_slots}
-use Rattle.st_resolve.specs.Paths.{and_then, child, field_at, there, walk_from}
+use Rattle.st_resolve.specs.Paths.{and_then, child, there, walk_from}
 use Rattle.st_resolve.proofs.Fits.{passed, found, gotten}
 use Rattle.st_edited.specs.Alike.{IsFrom}
 use Rattle.st_edited.specs.Edited.{same_key}
@@ -23,7 +20,7 @@ use Rattle.st_edited.specs.Moved.{index_after, is_row_key, path_after, place_aft
 use Rattle.st_edited.proofs.Along.{child_up, live_at, owner_at, owners_once, same_key-true, same_key-itself}
 use Rattle.st_edited.proofs.Beneath.{from_child, in_row as stands_in_row, not_beneath, one_child}
 use Rattle.st_edited.proofs.Parted.{parted, unless_among}
-use Rattle.st_edited.proofs.Rows.{among, not-among}
+use Rattle.st_edited.proofs.Rows.{not-among}
 
 -- ## A child, by its place
 

@@ -1,5 +1,5 @@
 -- The tree that a move makes of a tree: what is moved is taken away, and then comes where the target is by then.
-use Rattle.std.specs.Prelude.{◌≡◌, ℕ, ◌+◌, ◌-◌, ◌==◌, max, nat_le, ◌&&◌, Bool, true, false, List, [], ◌∷◌, take, drop, length, Option, Some, None, option_and_then, option_to_list, slice_get, if◌then◌else◌}
+use Rattle.std.specs.Prelude.{ℕ, ◌-◌, ◌==◌, max, nat_le, ◌&&◌, Bool, true, false, List, [], ◌∷◌, take, drop, length, Option, Some, option_and_then, option_to_list, slice_get, if◌then◌else◌}
 use Rattle.std.specs.Option.{option_map_or}
 use Rattle.serde_json.specs.Data.{Data, null, boolean, number, string, array, object, no_members, member}
 use Rattle.serde_json.specs.Find.{get}
