@@ -16,19 +16,7 @@ use Rattle.st_marks.proofs.Lookups.{group_at-group, group_found}
 use Rattle.st_marks.proofs.Members.{all-has}
 use Rattle.st_doc.specs.Shown.{live_slots}
 use Rattle.st_resolve.specs.Paths.{left_of, row_length}
-use Rattle.st_edited.proofs.Rows.{owners_filtered}
-
-pub no_members : {A : Type 0} (xs : List A) → ((x : A) → Has xs x → ⊥) → xs ≡ []
-no_members [] out = refl
-no_members (x ∷ xs) out = absurd (out x (inl refl))
-
-pub owners_joined : (xs ys : List Slot) → owners_shown (xs ++ ys) ≡ owners_shown xs ++ owners_shown ys
-owners_joined [] ys = refl
-owners_joined (s ∷ xs) ys = ap (λ ns. cond s.full (s.node ∷ []) [] ++ ns) (owners_joined xs ys) ∙ sym (append_assoc (cond s.full (s.node ∷ []) []) (owners_shown xs) (owners_shown ys))
-
-pub all_full : (E : Document) (os : List Owned) → ((o : Owned) → Has os o → is_cell o.cell (E.place o.node) ≡ true) → owners_shown (map (slot E) os) ≡ map (λ (o : Owned). o.node) os
-all_full E [] h = refl
-all_full E (o ∷ os) h = (λ i. cond (h o (inl refl) i) (o.node ∷ []) [] ++ owners_shown (map (slot E) os)) ∙ ap (λ ns. o.node ∷ ns) (all_full E os (λ p k. h p (inr k)))
+use Rattle.st_edited.proofs.Rows.{owners_filtered, no_members, all_full, owners_joined}
 
 kept_first : (b : Bool) (x : NodeId) (xs ys zs : List NodeId) → xs ≡ ys ++ zs → cond (cond b true false) (x ∷ []) [] ++ xs ≡ cond b (x ∷ ys) ys ++ zs
 kept_first true x xs ys zs e = ap (λ l. x ∷ l) e

@@ -30,11 +30,11 @@ use Rattle.st_resolve.specs.Paths.{left_of, row_length}
 use Rattle.st_resolve.specs.Resolve.{cells_for, moved_to_field, moved_to_row}
 use Rattle.st_resolve.specs.declared.rules.Given.{Given}
 use Rattle.st_edited.specs.Alike.{IsFrom}
-use Rattle.st_edited.proofs.Anchored.{no_members, row_with}
+use Rattle.st_edited.proofs.Anchored.{row_with}
 use Rattle.st_edited.proofs.Named.{group_is, with_first, with_has}
 use Rattle.st_edited.proofs.Parted.{parted, parted_row, unless_among}
 use Rattle.st_edited.proofs.Removed.{or_none}
-use Rattle.st_edited.proofs.Rows.{among, among-has, has-among, not-among, owners_filtered}
+use Rattle.st_edited.proofs.Rows.{among, among-has, has-among, not-among, owners_filtered, no_members}
 use Rattle.st_edited.proofs.Sound.{last_in_effect}
 
 cells_nodes : (rev : Rev) (c : ℕ) (ns : List NodeId) → map (λ (o : Owned). o.node) (cells_for rev c ns) ≡ ns

@@ -45,12 +45,9 @@ use Rattle.st_edited.proofs.Made.{IsFilled, alike, filled, filled_from, keeps, m
 use Rattle.st_edited.proofs.Named.{are_allowed, own_all, registers_new, trees_form}
 use Rattle.st_edited.proofs.NewTrees.{tops_shown, first_top, top_of, top_at, top_node}
 use Rattle.st_edited.proofs.Ruled.{ruled_kind}
+use Rattle.st_edited.proofs.Rows.{none_some}
 
 -- ## A new tree in a field
-
-none_some : {A : Type 0} (o : Option A) → o ≡ None → IsSome o → ⊥
-none_some None e h = cc
-none_some (Some x) e h = cc
 
 module _ (D : Document) (G : Given) (m : NodeId) (key : Key) (t : Node) (sound : IsSoundInForm D) (nodes : NodesFresh D G) (known : IsSome (D.nodes m)) (form : all_have_form (first t no_nodes) ≡ true)
     (fits : Fits D (placed D G (field_at m key) (named G (first t no_nodes)))) where

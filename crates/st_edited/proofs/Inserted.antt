@@ -45,76 +45,13 @@ use Rattle.st_resolve.proofs.NewFits.{insert_fits, NodesFresh}
 use Rattle.st_resolve.proofs.Numbered.{filter-from, tops_counted, tops_rows}
 use Rattle.st_edited.specs.Edited.{TellsRows, at_path, listed, with_items}
 use Rattle.st_edited.proofs.Along.{AreShown, as_list, along}
+use Rattle.st_edited.proofs.Anchored.{row_with}
 use Rattle.st_edited.proofs.AtNode.{items_come}
-use Rattle.st_edited.proofs.Made.{IsFilled, alike, all_full, fresh, keeps, made_verdict, no_members, old_full, old_node, put_is}
+use Rattle.st_edited.proofs.Made.{IsFilled, alike, fresh, keeps, made_verdict, old_full, old_node, put_is}
 use Rattle.st_edited.proofs.Named.{are_allowed, group_is, own_all, registers_new, top_from, top_has, top_nodes, trees_form, with_first, with_has, with_others}
 use Rattle.st_edited.proofs.NewTrees.{tops_shown}
-use Rattle.st_edited.proofs.Rows.{owners_same}
+use Rattle.st_edited.proofs.Rows.{filter_all, owners_same, none_some}
 use Rattle.st_edited.proofs.Ruled.{row_ruled}
-
--- ## A row in which a group comes after a cell
-
-pub owners_joined : (xs ys : List Slot) → owners_shown (xs ++ ys) ≡ owners_shown xs ++ owners_shown ys
-owners_joined [] ys = refl
-owners_joined (s ∷ xs) ys = ap (λ ns. cond s.full (s.node ∷ []) [] ++ ns) (owners_joined xs ys) ∙ sym (append_assoc (cond s.full (s.node ∷ []) []) (owners_shown xs) (owners_shown ys))
-
-module _ (D E : Document) (N : Intent) (m : NodeId) (new : List Owned) (full_new : (o : Owned) → Has new o → is_cell o.cell (E.place o.node) ≡ true) (c : CellId) (here : group_at N m (Some c) ≡ new)
-    (elsewhere : (d : CellId) → d ≢ c → group_at N m (Some d) ≡ []) where
-  abbrev now : List Owned → List NodeId
-  now os = owners_shown (map (slot E) os)
-
-  abbrev was : List Owned → List NodeId
-  was os = owners_shown (map (slot D) os)
-
-  abbrev live : List Owned → List Slot
-  live os = filter (λ (s : Slot). s.full) (map (slot D) os)
-
-  ungrown : (os : List Owned) → ((o : Owned) → Has os o → o.cell ≢ c) → with_groups N m os ≡ os
-  ungrown [] out = refl
-  ungrown (o ∷ os) out = (λ i. o ∷ (elsewhere o.cell (out o (inl refl)) i ++ with_groups N m os)) ∙ ap (λ l. o ∷ l) (ungrown os (λ p h. out p (inr h)))
-
-  new_now : now new ≡ map (λ (o : Owned). o.node) new
-  new_now = all_full E new full_new
-
-  live_has : (os : List Owned) (i : ℕ) (s : Slot) → slice_get (live os) i ≡ Some s → (o : Owned) × Has os o × (o.cell ≡ s.cell)
-  live_has [] i s e = cc
-  live_has (o ∷ os) i s e = go (slot D o).full i (λ j f. live_has os j s f) e
-    where
-      later : (p : Owned) × Has os p × (p.cell ≡ s.cell) → (p : Owned) × Has (o ∷ os) p × (p.cell ≡ s.cell)
-      later p = (p.0, inr p.1, p.2)
-
-      go : (b : Bool) (i : ℕ) → ((j : ℕ) → slice_get (live os) j ≡ Some s → (p : Owned) × Has os p × (p.cell ≡ s.cell)) → slice_get (cond b (slot D o ∷ live os) (live os)) i ≡ Some s → (p : Owned) × Has (o ∷ os) p × (p.cell ≡ s.cell)
-      go false i rest f = later (rest i f)
-      go true zero rest f = let q : slot D o ≡ s = cc in (o, inl refl, ap (λ (s : Slot). s.cell) q)
-      go true (suc i) rest f = later (rest i f)
-
-  pub grown : (os : List Owned) (i : ℕ) (s : Slot) → AreDistinct (λ (o : Owned). o.cell) os → ((o : Owned) → Has os o → is_cell o.cell (E.place o.node) ≡ is_cell o.cell (D.place o.node)) → slice_get (live os) i ≡ Some s → s.cell ≡ c
-      → now (with_groups N m os) ≡ take (suc i) (was os) ++ (map (λ (o : Owned). o.node) new ++ drop (suc i) (was os))
-  grown [] i s once same e is = cc
-  grown (o ∷ os) i s once same e is =
-      ap (λ b. cond b (o.node ∷ []) [] ++ now (group_at N m (Some o.cell) ++ with_groups N m os)) (same o (inl refl))
-      ∙ go (is_cell o.cell (D.place o.node)) refl i (λ j f. grown os j s once.1 (λ p h. same p (inr h)) f is) e
-    where
-      behind : (j : ℕ) → slice_get (live os) j ≡ Some s → now (group_at N m (Some o.cell) ++ with_groups N m os) ≡ now (with_groups N m os)
-      behind j f =
-          let p = live_has os j s f in
-          ap (λ l. now (l ++ with_groups N m os)) (elsewhere o.cell (λ q. all-has (λ (p : Owned). p.cell ≢ o.cell) os p.0 once.0 p.1 (p.2 ∙ is ∙ sym q)))
-
-      first_here : o.cell ≡ c → now (group_at N m (Some o.cell) ++ with_groups N m os) ≡ map (λ (o : Owned). o.node) new ++ was os
-      first_here q =
-          (λ i. now ((ap (λ d. group_at N m (Some d)) q ∙ here) i ++ ungrown os (λ p h r. all-has (λ (p : Owned). p.cell ≢ o.cell) os p once.0 h (r ∙ sym q)) i))
-          ∙ ap owners_shown (map-append (slot E) new os) ∙ owners_joined (map (slot E) new) (map (slot E) os)
-          ∙ (λ i. new_now i ++ owners_same D E os (λ p h. same p (inr h)) i)
-
-      go : (b : Bool) → is_cell o.cell (D.place o.node) ≡ b → (i : ℕ) → ((j : ℕ) → slice_get (live os) j ≡ Some s → now (with_groups N m os) ≡ take (suc j) (was os) ++ (map (λ (o : Owned). o.node) new ++ drop (suc j) (was os)))
-          → slice_get (cond b (slot D o ∷ live os) (live os)) i ≡ Some s
-          → cond b (o.node ∷ []) [] ++ now (group_at N m (Some o.cell) ++ with_groups N m os)
-          ≡ take (suc i) (cond b (o.node ∷ []) [] ++ was os) ++ (map (λ (o : Owned). o.node) new ++ drop (suc i) (cond b (o.node ∷ []) [] ++ was os))
-      go false q i rest f = behind i f ∙ rest i f
-      go true q zero rest f =
-          let first : slot D o ≡ s = cc in
-          ap (λ ns. o.node ∷ ns) (first_here (ap (λ (s : Slot). s.cell) first ∙ is))
-      go true q (suc i) rest f = ap (λ ns. o.node ∷ ns) (behind i f ∙ rest i f)
 
 -- ## New items in a row
 
@@ -176,10 +113,6 @@ module _ (D : Document) (G : Given) (m : NodeId) (index : ℕ) (trees : Nodes) (
     where
       new_not_m : (x : FlatNode) → Has xs x → x.node ≡ m → ⊥
       new_not_m x i q = none_some (D.nodes m) (ap D.nodes (sym q) ∙ fresh D G None m xs gs (registers xs) filled x i) known
-        where
-          none_some : {A : Type 0} (o : Option A) → o ≡ None → IsSome o → ⊥
-          none_some None e h = cc
-          none_some (Some x) e h = cc
 
       under_node : (x : FlatNode) (g : Group) → group_under xs x ≡ Some g → g.node ≡ x.node
       under_node x g q = go x.row q
@@ -187,19 +120,6 @@ module _ (D : Document) (G : Given) (m : NodeId) (index : ℕ) (trees : Nodes) (
           go : (b : Bool) → cond b (group_of x.node None (Rattle.st_resolve.specs.New.cells_under xs x.node)) None ≡ Some g → g.node ≡ x.node
           go true r = (group_is x.node None (Rattle.st_resolve.specs.New.cells_under xs x.node) g r).0
           go false r = absurd (cc)
-
-  at_left : group_at N m left ≡ top_cells xs
-  at_left = go (top_cells xs) refl
-    where
-      go : (os : List Owned) → top_cells xs ≡ os → group_at N m left ≡ top_cells xs
-      go [] e = no_members (group_at N m left) (λ o k.
-          let g = group_at-group N m left o k in
-          subst (λ os. Has os o) ((group_m g.group g.listed g.node).1 ∙ e) g.cell) ∙ sym e
-      go (o ∷ os) e =
-          group_found N fits.itself (record { node = m; after = left; cells = o ∷ os }) (with_first (group_of m left (top_cells xs)) (groups_under xs) (record { node = m; after = left; cells = o ∷ os }) (ap (group_of m left) e)) ∙ sym e
-
-  at_other : (a : Option CellId) → a ≢ left → group_at N m a ≡ []
-  at_other a apart = no_members (group_at N m a) (λ o k. (let g = group_at-group N m a o k in apart (sym g.after ∙ (group_m g.group g.listed g.node).0)))
 
   top_full : (o : Owned) → Has (top_cells xs) o → is_cell o.cell (E.place o.node) ≡ true
   top_full o h =
@@ -211,47 +131,14 @@ module _ (D : Document) (G : Given) (m : NodeId) (index : ℕ) (trees : Nodes) (
   old_same : (o : Owned) → Has (D.rows m) o → is_cell o.cell (E.place o.node) ≡ is_cell o.cell (D.place o.node)
   old_same o h = old_full D G None m xs gs (registers xs) filled o.cell o.node (sound.cells_known m o h).1
 
-  abbrev owners : List NodeId
-  owners = owners_shown (content D m)
-
-  abbrev new : List NodeId
-  new = map (λ (o : Owned). o.node) (top_cells xs)
-
--- the row with the new items, by where they come
-module _ (D : Document) (G : Given) (m : NodeId) (trees : Nodes) (sound : IsSoundInForm D) (nodes : NodesFresh D G) (known : IsSome (D.nodes m)) (form : Rattle.st_tree.specs.Form.all_have_form trees ≡ true) where
-  row_with : (index : ℕ) (fits : Fits D (inserted D G m index (named G trees))) → index ≤ row_length D m
-      → owners_shown (content (full D (inserted D G m index (named G trees))) m) ≡ take index (owners_shown (content D m)) ++ (map (λ (o : Owned). o.node) (top_cells (named G trees)) ++ drop index (owners_shown (content D m)))
-  row_with zero fits le =
-      let M = inserted D G m zero (named G trees) in
-      let F = full D M in
-      (λ i. owners_shown (map (slot F) (at_left D G m zero trees sound nodes known form fits i ++ ungroup (D.rows m) i)))
-      ∙ ap owners_shown (map-append (slot F) (top_cells (named G trees)) (D.rows m)) ∙ owners_joined (map (slot F) (top_cells (named G trees))) (map (slot F) (D.rows m))
-      ∙ (λ i. all_full F (top_cells (named G trees)) (top_full D G m zero trees sound nodes known form fits) i ++ owners_same D F (D.rows m) (old_same D G m zero trees sound nodes known form fits) i)
+  pub row_after : index ≤ row_length D m → owners_shown (content E m) ≡ take index (owners_shown (content D m)) ++ (map (λ (o : Owned). o.node) (top_cells xs) ++ drop index (owners_shown (content D m)))
+  row_after le =
+      row_with N fits.itself m left (top_cells xs)
+      (λ o os e. with_first (group_of m left (top_cells xs)) (groups_under xs) (record { node = m; after = left; cells = o ∷ os }) (ap (group_of m left) e)) group_m D E (λ x. true) top_full index refl le (sound.once m) old_same
+      ∙ (λ t. all (take index (owners_shown (content D m))) t ++ (map (λ (o : Owned). o.node) (top_cells xs) ++ all (drop index (owners_shown (content D m))) t))
     where
-      ungroup : (os : List Owned) → with_groups (inserted D G m zero (named G trees)) m os ≡ os
-      ungroup [] = refl
-      ungroup (o ∷ os) = (λ i. o ∷ (at_other D G m zero trees sound nodes known form fits (Some o.cell) (λ e. cc) i ++ with_groups (inserted D G m zero (named G trees)) m os)) ∙ ap (λ l. o ∷ l) (ungroup os)
-  row_with (suc k) fits le = go (slice_get (live_slots D m) k) refl
-    where
-      M : Intent
-      M = inserted D G m (suc k) (named G trees)
-
-      go : (o : Option Slot) → slice_get (live_slots D m) k ≡ o
-          → owners_shown (content (full D M) m) ≡ take (suc k) (owners_shown (content D m)) ++ (map (λ (o : Owned). o.node) (top_cells (named G trees)) ++ drop (suc k) (owners_shown (content D m)))
-      go None e = absurd (past (live_slots D m) k e le)
-        where
-          past : (ss : List Slot) (k : ℕ) → slice_get ss k ≡ None → suc k ≤ length ss → ⊥
-          past [] k e le = omega arith
-          past (s ∷ ss) zero e le = cc
-          past (s ∷ ss) (suc k) e le = past ss k e (omega arith)
-      go (Some s) e =
-          let is : left_of D m (suc k) ≡ Some s.cell = ap (option_map (λ (s : Slot). s.cell)) e in
-          let first : group_at M m None ≡ [] = at_other D G m (suc k) trees sound nodes known form fits None (λ q. (let bad : None ≡ Some s.cell = q ∙ is in cc)) in
-          ap (λ l. owners_shown (map (slot (full D M)) (l ++ with_groups M m (D.rows m)))) first
-          ∙ grown D (full D M) M m (top_cells (named G trees)) (top_full D G m (suc k) trees sound nodes known form fits) s.cell
-          (ap (group_at M m) (sym is) ∙ at_left D G m (suc k) trees sound nodes known form fits)
-          (λ d apart. at_other D G m (suc k) trees sound nodes known form fits (Some d) (λ q. (let same : Some d ≡ Some s.cell = q ∙ is in let c : d ≡ s.cell = cc in apart c)))
-          (D.rows m) k s (sound.once m) (old_same D G m (suc k) trees sound nodes known form fits) e refl
+      all : (ns : List NodeId) → filter (λ x. true) ns ≡ ns
+      all ns = filter_all (λ x. true) ns (λ x h. refl)
 
 -- ## An insertion
 
@@ -323,4 +210,4 @@ module _ (D : Document) (s : SchemaView) (G : Given) (at : List Place) (key : Ke
         subst (λ N. Shows is_array (full D N) root (at_path at (with_items index (listed (trees_data trees))) d)) w.intent
         ((along is_array D F sound w.node old_alike (with_items index (listed (trees_data trees)))
         (items_come is_array D F sound w.node old_alike (old_node D G None w.node (named G trees) groups (registers (named G trees)) all w.node) w.type w.known index (map (λ (o : Owned). o.node) (top_cells (named G trees))) (listed (trees_data trees))
-        (w.rowed is_array schema tells) (row_with D G w.node trees sound nodes there form index fits w.in_range) new_shown) at 0 root w.way).1 d shows)
+        (w.rowed is_array schema tells) (row_after D G w.node index trees sound nodes there form fits w.in_range) new_shown) at 0 root w.way).1 d shows)

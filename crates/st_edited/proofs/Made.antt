@@ -34,18 +34,10 @@ use Rattle.st_resolve.proofs.NewFits.{made, NodesFresh}
 use Rattle.st_resolve.proofs.Numbered.{filter-from, Counted, IsAt, IsNumbered, numbered, one_named, same_number, there_is, IsUnderArray}
 use Rattle.st_edited.specs.Alike.{AreAlikeAt}
 use Rattle.st_edited.proofs.NewTrees.{Keeps}
-use Rattle.st_edited.proofs.Rows.{owners_same}
+use Rattle.st_edited.proofs.Rows.{owners_same, no_members, all_full, none_some}
 use Rattle.st_edited.proofs.Sound.{last_in_effect}
 
 -- ## Lists
-
-pub no_members : {A : Type 0} (xs : List A) → ((x : A) → Has xs x → ⊥) → xs ≡ []
-no_members [] out = refl
-no_members (x ∷ xs) out = absurd (out x (inl refl))
-
-pub all_full : (E : Document) (os : List Owned) → ((o : Owned) → Has os o → is_cell o.cell (E.place o.node) ≡ true) → owners_shown (map (slot E) os) ≡ map (λ (o : Owned). o.node) os
-all_full E [] h = refl
-all_full E (o ∷ os) h = (λ i. cond (h o (inl refl) i) (o.node ∷ []) [] ++ owners_shown (map (slot E) os)) ∙ ap (λ ns. o.node ∷ ns) (all_full E os (λ p k. h p (inr k)))
 
 row_owned : (r n : NodeId) (o : Owned) (at : FlatAt) → owned_by n (row_cell r at) ≡ Some o → (at ≡ FlatAt.Row r o.cell) × (n ≡ o.node)
 row_owned r n o FlatAt.Root e = absurd (cc)
@@ -66,10 +58,6 @@ in_row_of xs r o h =
 row_of_in : (xs : List FlatNode) (r : NodeId) (x : FlatNode) (c : CellId) → Has xs x → x.at ≡ FlatAt.Row r c → Has (cells_under xs r) (owned c x.node)
 row_of_in xs r x c h e = has-filter_map (λ (x : FlatNode). owned_by x.node (row_cell r x.at)) xs x (owned c x.node) h
     (ap (λ at. owned_by x.node (row_cell r at)) e ∙ ap (λ b. owned_by x.node (cond b (Some c) None)) (same_node-itself r))
-
-none_some : {A : Type 0} (o : Option A) → o ≡ None → IsSome o → ⊥
-none_some None e h = cc
-none_some (Some x) e h = cc
 
 -- ## What is known of such an intent
 

@@ -49,7 +49,7 @@ use Rattle.st_edited.proofs.Gap.{cut_at}
 use Rattle.st_edited.proofs.Looked.{StandsAsTyped, member_seen, node_seen, row_seen, stands_typed}
 use Rattle.st_edited.proofs.Parted.{from_before, parted, parted_row, parted_sound, unless_among}
 use Rattle.st_edited.proofs.Removed.{items_in, taken_from as taken_part}
-use Rattle.st_edited.proofs.Rows.{among, filter_all, has-among, not-among, shown_drop, shown_take, without_part}
+use Rattle.st_edited.proofs.Rows.{among, filter_all, has-among, not-among, shown_drop, shown_take, without_part, has_take, has_drop}
 use Rattle.st_edited.proofs.Ruled.{ruled_key, ruled_kind}
 use Rattle.st_edited.proofs.Ways.{one_path, path_same, walks, walks_after}
 
@@ -89,17 +89,6 @@ pub record Departs (is_array : List ℕ → Bool) (D : Document) (ns : List Node
   pub many : length ns ≡ count
   pub cut : (i : ℕ) → (filter (λ x. not (among ns x)) (take i (owners_shown (content D m))) ≡ take (target_index at key index count to i) (owners_shown (content (parted D ns) m)))
       × (filter (λ x. not (among ns x)) (drop i (owners_shown (content D m))) ≡ drop (target_index at key index count to i) (owners_shown (content (parted D ns) m)))
-
-has_take : {A : Type 0} (k : ℕ) (xs : List A) (x : A) → Has (take k xs) x → Has xs x
-has_take zero xs x h = absurd h
-has_take (suc k) [] x h = absurd h
-has_take (suc k) (y ∷ xs) x (inl e) = inl e
-has_take (suc k) (y ∷ xs) x (inr h) = inr (has_take k xs x h)
-
-has_drop : {A : Type 0} (k : ℕ) (xs : List A) (x : A) → Has (drop k xs) x → Has xs x
-has_drop zero xs x h = h
-has_drop (suc k) [] x h = absurd h
-has_drop (suc k) (y ∷ xs) x h = inr (has_drop k xs x h)
 
 -- where no item of a list is taken, it is cut as before
 uncut : (ns xs ys : List NodeId) (i : ℕ) → ((x : NodeId) → Has xs x → Has ns x → ⊥) → ys ≡ xs → (filter (λ x. not (among ns x)) (take i xs) ≡ take i ys) × (filter (λ x. not (among ns x)) (drop i xs) ≡ drop i ys)

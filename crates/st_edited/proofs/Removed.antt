@@ -34,7 +34,7 @@ use Rattle.st_edited.specs.Edited.{TellsRows, at_path, without_items}
 use Rattle.st_edited.proofs.Along.{along, owners_live, owners_once}
 use Rattle.st_edited.proofs.AtNode.{items_left}
 use Rattle.st_edited.proofs.Beneath.{in_row as stands_in_row}
-use Rattle.st_edited.proofs.Rows.{among, among-has, not-among, filter_all, without_part, owners_filtered}
+use Rattle.st_edited.proofs.Rows.{among, among-has, not-among, filter_all, without_part, owners_filtered, has_take, has_drop}
 use Rattle.st_edited.proofs.Sound.{last_in_effect}
 use Rattle.st_edited.proofs.Ruled.{row_ruled}
 
@@ -145,17 +145,6 @@ pub taken_from : (D : Document) (n : NodeId) (index count : ℕ) → items_from 
 taken_from D n index count =
     sym (take-map (λ (s : Slot). s.node) count (drop index (live_slots D n))) ∙ ap (take count) (sym (drop-map (λ (s : Slot). s.node) index (live_slots D n)))
     ∙ ap (λ ns. take count (drop index ns)) (sym (owners_live (content D n)))
-
-pub has_take : {A : Type 0} (k : ℕ) (xs : List A) (x : A) → Has (take k xs) x → Has xs x
-has_take zero xs x h = absurd h
-has_take (suc k) [] x h = absurd h
-has_take (suc k) (y ∷ xs) x (inl e) = inl e
-has_take (suc k) (y ∷ xs) x (inr h) = inr (has_take k xs x h)
-
-pub has_drop : {A : Type 0} (k : ℕ) (xs : List A) (x : A) → Has (drop k xs) x → Has xs x
-has_drop zero xs x h = h
-has_drop (suc k) [] x h = absurd h
-has_drop (suc k) (y ∷ xs) x h = inr (has_drop k xs x h)
 
 pub items_in : (D : Document) (n : NodeId) (index count : ℕ) (x : NodeId) → Has (items_from D n index count) x → Has (owners_shown (content D n)) x
 items_in D n index count x h = has_drop index (owners_shown (content D n)) x (has_take count (drop index (owners_shown (content D n))) x (subst (λ ns. Has ns x) (taken_from D n index count) h))
