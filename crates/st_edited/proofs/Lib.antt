@@ -22,3 +22,4 @@ pub mod Ways
 pub mod Arrived
 pub mod Moves
 pub mod Edits
+pub mod Typing
