@@ -117,7 +117,7 @@ optional_unrowed Required e = refl
 optional_unrowed Optional e = refl
 optional_unrowed Sequence e = cc
 
-record IsClearing (D : Document) (s : SchemaView) (G : Given) (at : List Place) (key : Key) (N : Intent) : Type 0 where
+pub record IsClearing (D : Document) (s : SchemaView) (G : Given) (at : List Place) (key : Key) (N : Intent) : Type 0 where
   pub node : NodeId
   pub way : walk D at ≡ Ok node
   pub type : NodeType
@@ -125,7 +125,7 @@ record IsClearing (D : Document) (s : SchemaView) (G : Given) (at : List Place) 
   pub unrowed : (is_array : List ℕ → Bool) → is_sound s ≡ true → TellsRows is_array s → is_array type.ty ≡ false
   pub intent : record (nothing_yet D G) { clear = field_at node key ∷ [] } ≡ N
 
-is_clearing : (D : Document) (s : SchemaView) (G : Given) (at : List Place) (key : Key) (N : Intent) → clear D s G at key ≡ Ok N → IsClearing D s G at key N
+pub is_clearing : (D : Document) (s : SchemaView) (G : Given) (at : List Place) (key : Key) (N : Intent) → clear D s G at key ≡ Ok N → IsClearing D s G at key N
 is_clearing D s G at key N e =
     let n = passed (walk D at) _ N e in
     let r = passed (rule_for field.Optional D s n.0 key) (λ _. Ok (record (nothing_yet D G) { clear = field_at n.0 key ∷ [] })) N n.2 in
@@ -177,7 +177,7 @@ module _ (D : Document) (G : Given) (sound : IsSoundInForm D) (n : NodeId) where
       none : ◌≡◌ {A = Bool} false true → ⊥
       none e = cc
 
-is_need : (D : Document) (G : Given) (at : List Place) (N : Intent) → need D G at ≡ Ok N → (n : NodeId) × (walk D at ≡ Ok n) × (record (nothing_yet D G) { need = n ∷ [] } ≡ N)
+pub is_need : (D : Document) (G : Given) (at : List Place) (N : Intent) → need D G at ≡ Ok N → (n : NodeId) × (walk D at ≡ Ok n) × (record (nothing_yet D G) { need = n ∷ [] } ≡ N)
 is_need D G at N e =
     let n = passed (walk D at) (λ n. Ok (record (nothing_yet D G) { need = n ∷ [] })) N e in
     let is : record (nothing_yet D G) { need = n.0 ∷ [] } ≡ N = cc in

@@ -17,6 +17,7 @@ use Rattle.st_tree.specs.declared.flat.FlatNode.{FlatNode}
 use Rattle.st_schema.specs.Conforms.{items_verdicts}
 use Rattle.st_schema.specs.Schema.{SchemaView, is_sound, is_single_kind}
 use Rattle.st_schema.specs.TreeText.{tree_data}
+use Rattle.st_schema.specs.declared.names.FieldRule.{FieldRule}
 use Rattle.st_schema.specs.declared.names.KindName.{KindName}
 use Rattle.st_schema.specs.declared.names.KindName.TheVariants.{Required, Optional, Sequence}
 use Rattle.st_marks.specs.declared.intents.Intent.{Intent}
@@ -131,22 +132,24 @@ module _ (D : Document) (G : Given) (m : NodeId) (key : Key) (t : Node) (sound :
 
 -- ## A set field
 
-single_unrowed : (k : KindName) → is_single_kind k ≡ true → is_row k ≡ false
+pub single_unrowed : (k : KindName) → is_single_kind k ≡ true → is_row k ≡ false
 single_unrowed Required e = refl
 single_unrowed Optional e = refl
 single_unrowed Sequence e = cc
 
-record IsSetting (D : Document) (s : SchemaView) (G : Given) (at : List Place) (key : Key) (t : Node) (N : Intent) : Type 0 where
+pub record IsSetting (D : Document) (s : SchemaView) (G : Given) (at : List Place) (key : Key) (t : Node) (N : Intent) : Type 0 where
   pub node : NodeId
   pub way : walk D at ≡ Ok node
   pub type : NodeType
   pub known : D.nodes node ≡ Some type
   pub unrowed : (is_array : List ℕ → Bool) → is_sound s ≡ true → TellsRows is_array s → is_array type.ty ≡ false
+  pub rule : FieldRule
+  pub ruled : rule_for field.Single D s node key ≡ Ok rule
   pub types : List (List ℕ)
   pub allowed : list_all (λ ok. ok) (items_verdicts s types (first t no_nodes)) ≡ true
   pub intent : placed D G (field_at node key) (named G (first t no_nodes)) ≡ N
 
-is_setting : (D : Document) (s : SchemaView) (G : Given) (at : List Place) (key : Key) (t : Node) (N : Intent) → put D s G at key (first t no_nodes) ≡ Ok N → IsSetting D s G at key t N
+pub is_setting : (D : Document) (s : SchemaView) (G : Given) (at : List Place) (key : Key) (t : Node) (N : Intent) → put D s G at key (first t no_nodes) ≡ Ok N → IsSetting D s G at key t N
 is_setting D s G at key t N e =
     let n = passed (walk D at) _ N e in
     let rule = passed (rule_for field.Single D s n.0 key) _ N n.2 in
@@ -160,6 +163,8 @@ is_setting D s G at key t N e =
       type = k.0;
       known = k.1;
       unrowed = λ is_array schema tells. k.2 is_array schema tells ∙ single_unrowed rule.0.kind k.3;
+      rule = rule.0;
+      ruled = rule.1;
       types = rule.0.types;
       allowed = a.0;
       intent = ap (placed D G (field_at n.0 key)) a.1 ∙ is;

@@ -18,6 +18,7 @@ use Rattle.st_tree.specs.declared.flat.FlatNode.{FlatNode}
 use Rattle.st_schema.specs.Conforms.{items_verdicts}
 use Rattle.st_schema.specs.Schema.{SchemaView, is_sound}
 use Rattle.st_schema.specs.TreeText.{trees_data}
+use Rattle.st_schema.specs.declared.names.FieldRule.{FieldRule}
 use Rattle.st_marks.specs.declared.intents.Group.{Group}
 use Rattle.st_marks.specs.declared.intents.Intent.{Intent}
 use Rattle.st_marks.specs.declared.intents.Owned.{Owned}
@@ -142,18 +143,20 @@ module _ (D : Document) (G : Given) (m : NodeId) (index : ℕ) (trees : Nodes) (
 
 -- ## An insertion
 
-record IsInsertion (D : Document) (s : SchemaView) (G : Given) (at : List Place) (key : Key) (index : ℕ) (trees : Nodes) (N : Intent) : Type 0 where
+pub record IsInsertion (D : Document) (s : SchemaView) (G : Given) (at : List Place) (key : Key) (index : ℕ) (trees : Nodes) (N : Intent) : Type 0 where
   pub node : NodeId
   pub way : walk D at ≡ Ok node
   pub type : NodeType
   pub known : D.nodes node ≡ Some type
   pub rowed : (is_array : List ℕ → Bool) → is_sound s ≡ true → TellsRows is_array s → is_array type.ty ≡ true
+  pub rule : FieldRule
+  pub ruled : rule_for field.Row D s node key ≡ Ok rule
   pub types : List (List ℕ)
   pub allowed : list_all (λ ok. ok) (items_verdicts s types trees) ≡ true
   pub in_range : index ≤ row_length D node
   pub intent : inserted D G node index (named G trees) ≡ N
 
-is_insertion : (D : Document) (s : SchemaView) (G : Given) (at : List Place) (key : Key) (index : ℕ) (trees : Nodes) (N : Intent) → insert D s G at key index trees ≡ Ok N → IsInsertion D s G at key index trees N
+pub is_insertion : (D : Document) (s : SchemaView) (G : Given) (at : List Place) (key : Key) (index : ℕ) (trees : Nodes) (N : Intent) → insert D s G at key index trees ≡ Ok N → IsInsertion D s G at key index trees N
 is_insertion D s G at key index trees N e =
     let n = passed (walk D at) _ N e in
     let rule = passed (rule_for field.Row D s n.0 key) _ N n.2 in
@@ -163,7 +166,7 @@ is_insertion D s G at key index trees N e =
     let t = row_ruled D s n.0 key rule.0 rule.1 in
     let a = are_allowed s G rule.0 trees xs.0 xs.1 in
     let test : nat_le index (row_length D n.0) ≡ true = asked (nat_le index (row_length D n.0)) u.0 u.1 in
-    record { node = n.0; way = n.1; type = t.0; known = t.1; rowed = t.2; types = rule.0.types; allowed = a.0; in_range = grind (arith, nat_tests); intent = ap (inserted D G n.0 index) a.1 ∙ is }
+    record { node = n.0; way = n.1; type = t.0; known = t.1; rowed = t.2; rule = rule.0; ruled = rule.1; types = rule.0.types; allowed = a.0; in_range = grind (arith, nat_tests); intent = ap (inserted D G n.0 index) a.1 ∙ is }
   where
     asked : (b : Bool) (u : Unit {0}) → ask b Range ≡ Ok u → b ≡ true
     asked true u h = refl

@@ -23,3 +23,5 @@ pub mod Arrived
 pub mod Moves
 pub mod Edits
 pub mod Typing
+pub mod TypedTrees
+pub mod TypedEdits

@@ -123,7 +123,7 @@ module _ (D : Document) (G : Given) (into : Option FieldId) (m : NodeId) (xs : L
 
   -- ## Its groups
 
-  own_cells : (x : FlatNode) (g : Group) → group_under xs x ≡ Some g → (g.node ≡ x.node) × (g.after ≡ None) × (g.cells ≡ cells_under xs x.node)
+  pub own_cells : (x : FlatNode) (g : Group) → group_under xs x ≡ Some g → (g.node ≡ x.node) × (g.after ≡ None) × (g.cells ≡ cells_under xs x.node)
   own_cells x g e = go x.row e
     where
       is : (os : List Owned) → group_of x.node None os ≡ Some g → (g.node ≡ x.node) × (g.after ≡ None) × (g.cells ≡ os)
@@ -254,7 +254,7 @@ module _ (D : Document) (G : Given) (into : Option FieldId) (m : NodeId) (xs : L
 
   -- ## It keeps the list
 
-  new_is : (z : FlatNode) → Has xs z → E.nodes z.node ≡ Some (record { ty = z.ty; leaf = z.leaf })
+  pub new_is : (z : FlatNode) → Has xs z → E.nodes z.node ≡ Some (record { ty = z.ty; leaf = z.leaf })
   new_is z h =
       ap (λ o. option_or o (new_type N z.node)) (fresh z h)
       ∙ ap (option_map (λ (k : NewNode). record { ty = k.ty; leaf = k.leaf }))

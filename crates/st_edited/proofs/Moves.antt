@@ -322,7 +322,7 @@ not_true : (b : Bool) → not b ≡ true → b ≡ false
 not_true true e = cc
 not_true false e = refl
 
-record IsMove (D : Document) (s : SchemaView) (G : Given) (at : List Place) (key : Key) (index count : ℕ) (to : List Place) (to_key : Key) (to_index : ℕ) (N : Intent) : Type 0 where
+pub record IsMove (D : Document) (s : SchemaView) (G : Given) (at : List Place) (key : Key) (index count : ℕ) (to : List Place) (to_key : Key) (to_index : ℕ) (N : Intent) : Type 0 where
   pub node : NodeId
   pub way : walk D at ≡ Ok node
   pub target : NodeId
@@ -337,7 +337,7 @@ record IsMove (D : Document) (s : SchemaView) (G : Given) (at : List Place) (key
   pub outside : is_inside D to nodes ≡ false
   pub intent : moved D G (field_at target to_key) target_rule.kind to_index nodes ≡ N
 
-is_move : (D : Document) (s : SchemaView) (G : Given) (at : List Place) (key : Key) (index count : ℕ) (to : List Place) (to_key : Key) (to_index : ℕ) (N : Intent) → move D s G at key index count to to_key to_index ≡ Ok N
+pub is_move : (D : Document) (s : SchemaView) (G : Given) (at : List Place) (key : Key) (index count : ℕ) (to : List Place) (to_key : Key) (to_index : ℕ) (N : Intent) → move D s G at key index count to to_key to_index ≡ Ok N
     → IsMove D s G at key index count to to_key to_index N
 is_move D s G at key index count to to_key to_index N e =
     let n = passed (walk D at) _ N e in

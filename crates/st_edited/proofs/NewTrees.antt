@@ -304,7 +304,7 @@ body_is before no_fields e = refl
 body_is before (field key true items rest) e = cc
 body_is before (field key false items rest) e = refl
 
-split_all : (a b : List Bool) → list_all (λ ok. ok) (a ++ b) ≡ true → (list_all (λ ok. ok) a ≡ true) × (list_all (λ ok. ok) b ≡ true)
+pub split_all : (a b : List Bool) → list_all (λ ok. ok) (a ++ b) ≡ true → (list_all (λ ok. ok) a ≡ true) × (list_all (λ ok. ok) b ≡ true)
 split_all a b e = both_true (list_all (λ ok. ok) a) (list_all (λ ok. ok) b) (sym (list_all-append (λ ok. ok) a b) ∙ e)
 
 -- ## A tree and what follows it in a list

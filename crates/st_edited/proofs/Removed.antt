@@ -165,7 +165,7 @@ module _ (D : Document) (G : Given) (sound : IsSoundInForm D) (m : NodeId) (inde
 
 -- ## A removal
 
-record IsRemoval (D : Document) (s : SchemaView) (G : Given) (at : List Place) (key : Key) (index count : ℕ) (N : Intent) : Type 0 where
+pub record IsRemoval (D : Document) (s : SchemaView) (G : Given) (at : List Place) (key : Key) (index count : ℕ) (N : Intent) : Type 0 where
   pub node : NodeId
   pub way : walk D at ≡ Ok node
   pub type : NodeType
@@ -173,7 +173,7 @@ record IsRemoval (D : Document) (s : SchemaView) (G : Given) (at : List Place) (
   pub rowed : (is_array : List ℕ → Bool) → is_sound s ≡ true → TellsRows is_array s → is_array type.ty ≡ true
   pub intent : removed D G (items_from D node index count) ≡ N
 
-is_removal : (D : Document) (s : SchemaView) (G : Given) (at : List Place) (key : Key) (index count : ℕ) (N : Intent) → remove D s G at key index count ≡ Ok N → IsRemoval D s G at key index count N
+pub is_removal : (D : Document) (s : SchemaView) (G : Given) (at : List Place) (key : Key) (index count : ℕ) (N : Intent) → remove D s G at key index count ≡ Ok N → IsRemoval D s G at key index count N
 is_removal D s G at key index count N e =
     let n = passed (walk D at) _ N e in
     let r = passed (rule_for field.Row D s n.0 key) _ N n.2 in

@@ -24,12 +24,12 @@ use Rattle.st_resolve.specs.declared.rules.Takes.TheVariants as field
 use Rattle.st_resolve.proofs.Fits.{passed, found, key_some, kind_taken}
 use Rattle.st_edited.specs.Edited.{TellsRows, has_row}
 
-all_pass : {A : Type 0} (p : A → Bool) (xs : List A) (x : A) → list_all p xs ≡ true → Has xs x → p x ≡ true
+pub all_pass : {A : Type 0} (p : A → Bool) (xs : List A) (x : A) → list_all p xs ≡ true → Has xs x → p x ≡ true
 all_pass p [] x e h = absurd h
 all_pass p (y ∷ xs) x e (inl q) = ap p (sym q) ∙ (both_true (p y) (list_all p xs) e).0
 all_pass p (y ∷ xs) x e (inr h) = all_pass p xs x (both_true (p y) (list_all p xs) e).1 h
 
-looked_up : {K X : Type 0} (test : K → Bool) (es : List (K × X)) (x : X) → lookup test es ≡ Some x → Has (map (λ e. e.1) es) x
+pub looked_up : {K X : Type 0} (test : K → Bool) (es : List (K × X)) (x : X) → lookup test es ≡ Some x → Has (map (λ e. e.1) es) x
 looked_up test [] x e = cc
 looked_up {K} {X} test (d ∷ es) x e = go (test d.0) (λ f. looked_up test es x f) e
   where

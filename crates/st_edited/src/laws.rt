@@ -1,5 +1,5 @@
 //! Laws about edits and trees: each is the contract of a function that does nothing.
-ghost use Rattle.std.specs.Prelude.{◌≡◌, ◌≤◌, ℕ, Bool, true, List, None, Ok};
+ghost use Rattle.std.specs.Prelude.{◌≡◌, ◌≤◌, ℕ, Bool, true, List, None, Ok, IsTrue};
 ghost use Rattle.serde_json.specs.Data.{Data};
 ghost use Rattle.st_ids.specs.declared.names.Key.{Key};
 ghost use Rattle.st_ids.specs.declared.names.NodeId.{NodeId};
@@ -12,8 +12,10 @@ ghost use Rattle.st_schema.specs.TreeText.{tree_data, trees_data};
 ghost use Rattle.st_marks.specs.declared.intents.Intent.{Intent};
 ghost use Rattle.st_marks.specs.declared.verdicts.Verdict.{Verdict};
 ghost use Rattle.st_marks.specs.Document.{Document, IsSoundInForm, root};
+ghost use Rattle.st_marks.specs.Extends.{IsExtendedBy};
+ghost use Rattle.st_marks.specs.Intent.{Fits, is_new};
 ghost use Rattle.st_marks.specs.CarryOut.{full};
-ghost use Rattle.st_marks.specs.Verdict.{IsVerdict};
+ghost use Rattle.st_marks.specs.Verdict.{IsVerdict, carried};
 ghost use Rattle.st_marks.specs.LiveTree.{Shows};
 ghost use Rattle.st_resolve.specs.declared.rules.Given.{Given};
 ghost use Rattle.st_resolve.specs.Resolve.{clear, insert, move as move_of, need, put, remove, resolve};
@@ -21,7 +23,7 @@ ghost use Rattle.st_edited.specs.Alike.{AreAlikeFrom};
 ghost use Rattle.st_edited.specs.Edited.{TellsRows, at_path, listed, with_items, with_key, without_items, without_key};
 ghost use Rattle.st_edited.specs.Edits.{edited};
 ghost use Rattle.st_edited.specs.Moved.{moved_in};
-ghost use Rattle.st_edited.specs.Typed.{IsAsTyped};
+ghost use Rattle.st_edited.specs.Typed.{IsAsTyped, IsTypedIntent};
 
 /// Documents that are alike at each node from one downwards show one tree there.
 pub fn same_below_same_tree()
@@ -92,4 +94,19 @@ pub fn edits_are_seen()
     ensures tree { (is_array : List ℕ → Bool) (D : Document) (s : SchemaView) (G : Given) (edit : Edit) (N : Intent) (d : Data) → IsSoundInForm D → is_sound s ≡ true → TellsRows is_array s → IsAsTyped is_array D
         → ((k : ℕ) → G.nodes ≤ k → D.nodes (node_named G.rev k) ≡ None) → ((k : ℕ) → G.cells ≤ k → D.row_of (cell_named G.rev k) ≡ None)
         → resolve D s G edit ≡ Ok N → Shows is_array D root d → Shows is_array (full D N) root (edited edit d) }
+{}
+
+/// What an edit means is typed, where the document is.
+pub fn resolved_edits_are_typed()
+    ensures { (is_array : List ℕ → Bool) (D : Document) (s : SchemaView) (G : Given) (edit : Edit) (N : Intent) → IsSoundInForm D → is_sound s ≡ true → TellsRows is_array s → IsAsTyped is_array D
+        → ((k : ℕ) → G.nodes ≤ k → D.nodes (node_named G.rev k) ≡ None) → ((k : ℕ) → G.cells ≤ k → D.row_of (cell_named G.rev k) ≡ None)
+        → resolve D s G edit ≡ Ok N → IsTypedIntent is_array D N }
+{}
+
+/// A typed intent keeps a document as typed, carried out whole or by whatever verdict, and stays typed in each later document
+/// that has none of the nodes that it makes.
+pub fn typed_intents_keep_types()
+    ensures whole { (is_array : List ℕ → Bool) (D : Document) (N : Intent) → IsSoundInForm D → IsAsTyped is_array D → IsTypedIntent is_array D N → IsAsTyped is_array (full D N) }
+    ensures carried { (is_array : List ℕ → Bool) (D : Document) (N : Intent) (v : Verdict) → IsSoundInForm D → IsAsTyped is_array D → IsTypedIntent is_array D N → IsAsTyped is_array (carried v D N) }
+    ensures later { (is_array : List ℕ → Bool) (D E : Document) (N : Intent) → IsExtendedBy D E → Fits D N → ((n : NodeId) → IsTrue (is_new N n) → E.nodes n ≡ None) → IsTypedIntent is_array D N → IsTypedIntent is_array E N }
 {}
