@@ -53,7 +53,7 @@ use Rattle.st_edited.proofs.Moves.{is_move}
 use Rattle.st_edited.proofs.Named.{group_is, trees_form, with_has}
 use Rattle.st_edited.proofs.Removed.{is_removal}
 use Rattle.st_edited.proofs.Ruled.{all_pass, looked_up, ruled_kind}
-use Rattle.st_edited.proofs.TypedTrees.{HasOwner, IsOwnTyped, text_same, tops_own, tops_owner}
+use Rattle.st_edited.proofs.TypedTrees.{HasOwner, IsOwnTyped, above_at, text_same, tops_own, tops_owner}
 
 -- ## A node with a field isn't a leaf
 
@@ -117,7 +117,7 @@ module _ (is_array : List ℕ → Bool) (D : Document) (N : Intent) (nothing_new
 -- ## An intent that makes new trees
 
 module _ (is_array : List ℕ → Bool) (D : Document) (G : Given) (into : Option FieldId) (m : NodeId) (xs : List FlatNode) (gs : List Group) (fs : List FieldId) (w : IsFilled D G into m xs gs fs) (own : (y : FlatNode) → Has xs y → IsOwnTyped is_array y)
-    (owner : (y : FlatNode) (f : FieldId) → Has xs y → y.at ≡ FlatAt.Register f → HasOwner is_array xs f) (group_m : (g : Group) → Has gs g → g.node ≡ m → (t : NodeType) → D.nodes m ≡ Some t → IsRowType is_array t)
+    (owner : (y : FlatNode) (r : NodeId) → Has xs y → above_at false y.at ≡ Some r → HasOwner is_array false xs r) (group_m : (g : Group) → Has gs g → g.node ≡ m → (t : NodeType) → D.nodes m ≡ Some t → IsRowType is_array t)
     (field_m : (f : FieldId) → into ≡ Some f → (t : NodeType) → D.nodes m ≡ Some t → IsFieldType is_array t) where
   abbrev N : Intent
   N = made D G into xs gs fs
@@ -170,7 +170,7 @@ module _ (is_array : List ℕ → Bool) (D : Document) (G : Given) (into : Optio
     puts = λ p f t h q e. (let x = has-map put_one xs p h in
         elim (put_there D G into m xs gs fs w x.0 f x.1 (ap (λ (p : Put). p.to) x.2 ∙ q)) [
           | inl i ↦ field_m f i t (m_typed t (ap (with_names D N).nodes (sym (into_node f i)) ∙ e))
-          | inr a ↦ (let z = owner x.0 f x.1 a in
+          | inr a ↦ (let z = owner x.0 f.node x.1 (ap (above_at false) a) in
               let same = new_typed z.0 t z.1 (ap (with_names D N).nodes z.2 ∙ e) in
               subst (IsFieldType is_array) same (z.3, z.4))
         ]);
@@ -221,7 +221,7 @@ module _ (is_array : List ℕ → Bool) (D : Document) (s : SchemaView) (G : Giv
       let all = filled D G w.node index trees sound nodes (ap is_some w.known) (trees_form s w.types trees w.allowed) fits in
       subst (IsTypedIntent is_array D) w.intent
       (trees_typed is_array D G None w.node xs (with_group (group_of w.node (left_of D w.node index) (top_cells xs)) (groups_under xs)) (registers xs) all
-      (tops_own s is_array tells w.types G.rev G.nodes G.cells trees w.allowed) (tops_owner s is_array tells w.types G.rev G.nodes G.cells trees w.allowed)
+      (tops_own s is_array tells w.types G.rev G.nodes G.cells trees w.allowed) (tops_owner s is_array tells false w.types G.rev G.nodes G.cells trees w.allowed)
       (λ g h q t known. row_type field.Row w.node key w.rule w.ruled (ruled_kind field.Row D s w.node key w.rule w.ruled).3 t known) (λ f q t known. absurd (cc)))
 
   put_typed : (at : List Place) (key : Key) (tree : Node) (N : Intent) → NodesFresh D G → CellsFresh D G → put D s G at key (first tree no_nodes) ≡ Ok N → IsTypedIntent is_array D N
@@ -233,7 +233,7 @@ module _ (is_array : List ℕ → Bool) (D : Document) (s : SchemaView) (G : Giv
       let cleared = field_at w.node key ∷ registers xs in
       subst (IsTypedIntent is_array D) w.intent
       (trees_typed is_array D G (Some (field_at w.node key)) w.node xs (groups_under xs) cleared all_here (tops_own s is_array tells w.types G.rev G.nodes G.cells (first tree no_nodes) w.allowed)
-      (tops_owner s is_array tells w.types G.rev G.nodes G.cells (first tree no_nodes) w.allowed)
+      (tops_owner s is_array tells false w.types G.rev G.nodes G.cells (first tree no_nodes) w.allowed)
       (λ g h q t known. (let x = filter-from (group_under xs) xs g h in
       let c = own_cells D G (Some (field_at w.node key)) w.node xs (groups_under xs) cleared all_here x.0 g x.2 in
       let bad : None ≡ Some t = sym (fresh D G (Some (field_at w.node key)) w.node xs (groups_under xs) cleared all_here x.0 x.1) ∙ ap D.nodes (sym c.0 ∙ q) ∙ known in absurd (cc)))
