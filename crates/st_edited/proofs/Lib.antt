@@ -25,3 +25,4 @@ pub mod Edits
 pub mod Typing
 pub mod TypedTrees
 pub mod TypedEdits
+pub mod Opened

@@ -315,7 +315,7 @@ top_at rev at n (node ty leaf fs) = refl
 pub top_node : (rev : Rev) (at : FlatAt) (n : ℕ) (t : Node) → (top_of rev at n t).node ≡ node_named rev n
 top_node rev at n (node ty leaf fs) = refl
 
-own_tree : (rev : Rev) (xs : List FlatNode) (at : FlatAt) (n d : ℕ) (t : Node) (later : List FlatNode) (low high : ℕ) → low ≤ n → n + node_count t ≤ high → (IsUnder rev n (n + node_count t) at → ⊥)
+pub own_tree : (rev : Rev) (xs : List FlatNode) (at : FlatAt) (n d : ℕ) (t : Node) (later : List FlatNode) (low high : ℕ) → low ≤ n → n + node_count t ≤ high → (IsUnder rev n (n + node_count t) at → ⊥)
     → Outside rev later n (n + node_count t) → Own rev xs (listed rev at n d t ++ later) low high → Has xs (top_of rev at n t) × Own rev xs (inner rev n d t) n (n + node_count t)
 own_tree rev xs at n d t later low high p q apart out own =
     let o = subst (λ l. Own rev xs (l ++ later) low high) (listed_parts rev at n d t) own in (
@@ -353,7 +353,7 @@ tops_under rev n c (first t ts) y h = elim (has-append (listed rev (FlatAt.Top (
 ]
 
 -- above nothing
-no_under : (rev : Rev) (low high : ℕ) (at : FlatAt) → under at ≡ None → IsUnder rev low high at → ⊥
+pub no_under : (rev : Rev) (low high : ℕ) (at : FlatAt) → under at ≡ None → IsUnder rev low high at → ⊥
 no_under rev low high at e w = let bad : None ≡ Some (node_named rev w.0) = sym e ∙ w.3 in cc
 
 pub first_top : (rev : Rev) (xs : List FlatNode) (n c : ℕ) (t : Node) (ts : Nodes) (low high : ℕ) → low ≤ n → n + node_count t ≤ high → Own rev xs (tops_listed rev n c (first t ts)) low high

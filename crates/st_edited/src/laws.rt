@@ -1,12 +1,14 @@
 //! Laws about edits and trees: each is the contract of a function that does nothing.
-ghost use Rattle.std.specs.Prelude.{◌≡◌, ◌≤◌, ℕ, Bool, true, List, None, Ok, IsTrue};
+ghost use Rattle.std.specs.Prelude.{◌≡◌, ◌≤◌, ◌<◌, ◌^◌, ℕ, Bool, true, List, None, Ok, IsTrue};
 ghost use Rattle.serde_json.specs.Data.{Data};
 ghost use Rattle.st_ids.specs.declared.names.Key.{Key};
 ghost use Rattle.st_ids.specs.declared.names.NodeId.{NodeId};
 ghost use Rattle.st_ids.specs.declared.names.Place.{Place};
 ghost use Rattle.st_tree.specs.Node.{Node, Nodes, first, no_nodes};
-ghost use Rattle.st_tree.specs.Preorder.{cell_named, node_named};
+ghost use Rattle.st_tree.specs.Preorder.{cell_named, node_named, opening_listed};
+ghost use Rattle.st_tree.specs.Size.{node_count};
 ghost use Rattle.st_tree.specs.declared.edit.Edit.{Edit};
+ghost use Rattle.st_schema.specs.Conforms.{conforms};
 ghost use Rattle.st_schema.specs.Schema.{SchemaView, is_sound};
 ghost use Rattle.st_schema.specs.TreeText.{tree_data, trees_data};
 ghost use Rattle.st_marks.specs.declared.intents.Intent.{Intent};
@@ -17,6 +19,7 @@ ghost use Rattle.st_marks.specs.Intent.{Fits, is_new};
 ghost use Rattle.st_marks.specs.CarryOut.{full};
 ghost use Rattle.st_marks.specs.Verdict.{IsVerdict, carried};
 ghost use Rattle.st_marks.specs.LiveTree.{Shows};
+ghost use Rattle.st_doc.specs.Start.{start_of};
 ghost use Rattle.st_resolve.specs.declared.rules.Given.{Given};
 ghost use Rattle.st_resolve.specs.Resolve.{clear, insert, move as move_of, need, put, remove, resolve};
 ghost use Rattle.st_edited.specs.Alike.{AreAlikeFrom};
@@ -109,4 +112,12 @@ pub fn typed_intents_keep_types()
     ensures whole { (is_array : List ℕ → Bool) (D : Document) (N : Intent) → IsSoundInForm D → IsAsTyped is_array D → IsTypedIntent is_array D N → IsAsTyped is_array (full D N) }
     ensures carried { (is_array : List ℕ → Bool) (D : Document) (N : Intent) (v : Verdict) → IsSoundInForm D → IsAsTyped is_array D → IsTypedIntent is_array D N → IsAsTyped is_array (carried v D N) }
     ensures later { (is_array : List ℕ → Bool) (D E : Document) (N : Intent) → IsExtendedBy D E → Fits D N → ((n : NodeId) → IsTrue (is_new N n) → E.nodes n ≡ None) → IsTypedIntent is_array D N → IsTypedIntent is_array E N }
+{}
+
+/// The opening document of a tree that the schema allows shows that tree, and is as typed.
+pub fn opening_is_seen()
+    ensures tree { (is_array : List ℕ → Bool) (s : SchemaView) (types : List (List ℕ)) (t : Node) (schema : List ℕ) → TellsRows is_array s → conforms s types t ≡ true → node_count t < 2 ^ 32
+        → Shows is_array (start_of (opening_listed t) schema) root (tree_data t) }
+    ensures typed { (is_array : List ℕ → Bool) (s : SchemaView) (types : List (List ℕ)) (t : Node) (schema : List ℕ) → TellsRows is_array s → conforms s types t ≡ true → node_count t < 2 ^ 32
+        → IsAsTyped is_array (start_of (opening_listed t) schema) }
 {}
