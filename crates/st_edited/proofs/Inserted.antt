@@ -1,11 +1,10 @@
 -- What is shown after an insertion.
-use Rattle.std.proofs.Common.{◌≡◌, ◌≢◌, ℕ, zero, suc, ◌+◌, ◌≤◌, nat_le, Bool, true, false, cond, List, [], ◌∷◌, ◌++◌, map, take, drop, filter, length, append_assoc, Option, Some, None, IsSome, is_some, option_map, slice_get, Ok, refl, sym, ap, ◌∙◌, subst, arith, inl, inr}
+use Rattle.std.proofs.Common.{◌≡◌, ◌≢◌, ℕ, ◌+◌, ◌≤◌, nat_le, Bool, true, false, cond, List, [], ◌∷◌, ◌++◌, map, take, drop, filter, Option, Some, None, IsSome, is_some, Ok, refl, sym, ap, ◌∙◌, subst, arith, inl, inr}
 use Rattle.std.specs.List.{list_all}
 use Rattle.std.specs.Option.{option_map_or}
 use Rattle.std.proofs.lemmas.Bool.Decides.{nat_tests}
-use Rattle.std.proofs.lemmas.List.{map-append}
 use Rattle.serde_json.specs.Data.{Data}
-use Rattle.st_ids.specs.Listing.{Has, AreDistinct}
+use Rattle.st_ids.specs.Listing.{Has}
 use Rattle.st_ids.specs.declared.names.CellId.{CellId}
 use Rattle.st_ids.specs.declared.names.Key.{Key}
 use Rattle.st_ids.specs.declared.names.NodeId.{NodeId}
@@ -23,18 +22,15 @@ use Rattle.st_marks.specs.declared.intents.Group.{Group}
 use Rattle.st_marks.specs.declared.intents.Intent.{Intent}
 use Rattle.st_marks.specs.declared.intents.Owned.{Owned}
 use Rattle.st_marks.specs.declared.intents.To.{To}
-use Rattle.st_marks.specs.declared.places.Slot.{Slot}
 use Rattle.st_marks.specs.declared.places.Spot.{Spot}
 use Rattle.st_marks.specs.declared.verdicts.Verdict.{Verdict}
-use Rattle.st_marks.specs.Document.{Document, NodeType, IsSoundInForm, content, is_cell, slot, root, owned}
-use Rattle.st_marks.specs.Intent.{Fits, group_at, put_of}
-use Rattle.st_marks.specs.CarryOut.{full, with_groups, with_names, place_after}
+use Rattle.st_marks.specs.Document.{Document, NodeType, IsSoundInForm, content, is_cell, root, owned}
+use Rattle.st_marks.specs.Intent.{Fits, put_of}
+use Rattle.st_marks.specs.CarryOut.{full, with_names, place_after}
 use Rattle.st_marks.specs.Verdict.{IsVerdict}
 use Rattle.st_marks.specs.LiveTree.{Shows, owners_shown}
-use Rattle.st_marks.proofs.Lookups.{group_at-group, group_found}
-use Rattle.st_marks.proofs.Members.{all-has, has-filter_map}
+use Rattle.st_marks.proofs.Members.{has-filter_map}
 use Rattle.st_marks.proofs.NewRows.{made_cell, row_cells}
-use Rattle.st_doc.specs.Shown.{live_slots}
 use Rattle.st_resolve.specs.New.{group_of, group_under, groups_under, registers, to_at, top_cells}
 use Rattle.st_resolve.specs.Paths.{left_of, row_length}
 use Rattle.st_resolve.specs.Resolve.{allowed, ask, insert, inserted, named, rule_for, walk, with_group}
@@ -51,7 +47,7 @@ use Rattle.st_edited.proofs.AtNode.{items_come}
 use Rattle.st_edited.proofs.Made.{IsFilled, alike, fresh, keeps, made_verdict, old_full, old_node, put_is}
 use Rattle.st_edited.proofs.Named.{are_allowed, group_is, own_all, registers_new, top_from, top_has, top_nodes, trees_form, with_first, with_has, with_others}
 use Rattle.st_edited.proofs.NewTrees.{tops_shown}
-use Rattle.st_edited.proofs.Rows.{filter_all, owners_same, none_some}
+use Rattle.st_edited.proofs.Rows.{filter_all, none_some}
 use Rattle.st_edited.proofs.Ruled.{row_ruled}
 
 -- ## New items in a row

@@ -1,6 +1,6 @@
 -- The opening document of a tree that a schema allows shows that tree, and is as typed.
 use Rattle.std.proofs.Common.{◌≡◌, ◌≢◌, ℕ, suc, ◌+◌, ◌<◌, ◌≤◌, ◌^◌, Bool, true, false, cond, List, [], ◌∷◌, ◌++◌, length, length-append, map, append-nil, Option, Some, None, unwrap_or, refl, sym, ap, ◌∙◌, subst, arith, inl, inr, ◌⊎◌}
-use Rattle.std.specs.List.{filter_map, cons_option, list_all}
+use Rattle.std.specs.List.{filter_map, cons_option}
 use Rattle.std.specs.Option.{option_or}
 use Rattle.st_ids.specs.Listing.{Has, AreDistinct}
 use Rattle.st_ids.specs.Order.{same_node, same_field}
@@ -13,26 +13,26 @@ use Rattle.st_tree.specs.Preorder.{node_named, cells_taken, cell_count, item_cel
 use Rattle.st_tree.specs.Size.{node_count, field_count, item_count}
 use Rattle.st_tree.specs.declared.flat.FlatAt.{FlatAt}
 use Rattle.st_tree.specs.declared.flat.FlatNode.{FlatNode}
-use Rattle.st_schema.specs.Conforms.{conforms, verdicts}
+use Rattle.st_schema.specs.Conforms.{conforms}
 use Rattle.st_schema.specs.Schema.{SchemaView}
 use Rattle.st_schema.specs.TreeText.{tree_data}
 use Rattle.st_schema.proofs.AllowedForm.{conforming_formed}
 use Rattle.st_marks.specs.declared.intents.Owned.{Owned}
 use Rattle.st_marks.specs.declared.places.Spot.{Spot}
-use Rattle.st_marks.specs.Document.{Document, NodeType, IsSoundInForm, content, is_cell, opening, owned, root, slot}
+use Rattle.st_marks.specs.Document.{Document, NodeType, IsSoundInForm, is_cell, opening, owned, root, slot}
 use Rattle.st_marks.specs.LiveTree.{Shows, owners_shown}
-use Rattle.st_marks.proofs.Members.{all-has, distinct-has, has-all}
+use Rattle.st_marks.proofs.Members.{distinct-has, has-all}
 use Rattle.st_doc.specs.Start.{cell_at, first_said, held_at, place_at, spot_at, start_of, type_at}
 use Rattle.st_doc.proofs.StartSound.{start_sound}
 use Rattle.st_resolve.specs.New.{cells_under, owned_by, row_cell}
 use Rattle.st_resolve.proofs.Numbered.{filter-from, same_number}
 use Rattle.st_edited.specs.Edited.{TellsRows}
-use Rattle.st_edited.specs.Typed.{IsAsTyped, IsFieldType, IsLeafTyped, IsRowType}
+use Rattle.st_edited.specs.Typed.{IsAsTyped}
 use Rattle.st_edited.proofs.Made.{in_row_of}
 use Rattle.st_edited.proofs.Named.{own_all}
 use Rattle.st_edited.proofs.NewTrees.{Keeps, no_under, own_tree, tree_shown}
 use Rattle.st_edited.proofs.Rows.{all_full}
-use Rattle.st_edited.proofs.TypedTrees.{HasOwner, above_at, tree_own, tree_owner}
+use Rattle.st_edited.proofs.TypedTrees.{above_at, tree_own, tree_owner}
 
 -- ## Names are counted up
 

@@ -1,6 +1,6 @@
 -- What edits mean is typed.
 use Rattle.std.proofs.Common.{◌≡◌, ◌≢◌, ℕ, ◌+◌, ◌&&◌, ◌||◌, not, nat_le, length, Bool, true, false, cond, List, [], ◌∷◌, map, Option, Some, None, IsSome, is_some, option_map, option_and_then, Result, Ok, Err, refl, sym, ap, ◌∙◌, subst, inl, inr, ◌⊎◌}
-use Rattle.std.specs.List.{find, list_all, list_any}
+use Rattle.std.specs.List.{find, list_all}
 use Rattle.std.specs.Cmp.Lexicographic.{nat_list_eq_equiv}
 use Rattle.std.specs.Map.{lookup}
 use Rattle.std.specs.Option.{option_or}
@@ -14,10 +14,9 @@ use Rattle.st_ids.specs.declared.names.Place.{Place}
 use Rattle.st_tree.specs.Node.{Node, Nodes, first, no_nodes, trees_view, view}
 use Rattle.st_tree.specs.declared.edit.Edit.{Edit}
 use Rattle.st_tree.specs.declared.edit.EditFault.TheVariants.{Kind}
-use Rattle.st_tree.specs.declared.flat.FlatAt.{FlatAt}
 use Rattle.st_tree.specs.declared.flat.FlatNode.{FlatNode}
-use Rattle.st_schema.specs.Conforms.{items_verdicts, leaf_type}
-use Rattle.st_schema.specs.Schema.{SchemaView, field_in, field_of, form_of, forms_are_sound, is_among, is_distinct, is_key, is_sound, is_type_name, leaf_types, names_are_sound, same, type_names}
+use Rattle.st_schema.specs.Conforms.{leaf_type}
+use Rattle.st_schema.specs.Schema.{SchemaView, field_in, field_of, form_of, is_among, is_distinct, is_key, is_sound, is_type_name, leaf_types, names_are_sound, same, type_names}
 use Rattle.st_schema.specs.declared.names.FieldRule.{FieldRule}
 use Rattle.st_schema.specs.declared.names.Form.{Form}
 use Rattle.st_schema.specs.declared.names.KindName.{KindName}
@@ -33,9 +32,9 @@ use Rattle.st_marks.specs.Intent.{Fits, new_type}
 use Rattle.st_marks.specs.CarryOut.{with_names}
 use Rattle.st_marks.proofs.Lookups.{both_true}
 use Rattle.st_marks.proofs.Members.{true-false, first-has, has-any, has-map}
-use Rattle.st_resolve.specs.New.{cells_under, group_of, group_under, new_nodes, puts, registers, groups_under, to_at, top_cells}
+use Rattle.st_resolve.specs.New.{cells_under, group_of, group_under, new_nodes, registers, groups_under, to_at, top_cells}
 use Rattle.st_resolve.specs.Paths.{field_at, left_of, there}
-use Rattle.st_resolve.specs.Resolve.{cells_for, clear, insert, inserted, is_row, move, moved, moved_to_field, moved_to_row, named, need, nothing_yet, of_kind, placed, put, remove, removed, resolve, rule_at, rule_for, takes_kind, walk, with_group}
+use Rattle.st_resolve.specs.Resolve.{cells_for, clear, insert, is_row, move, moved, moved_to_field, moved_to_row, named, need, nothing_yet, of_kind, put, remove, removed, resolve, rule_at, rule_for, takes_kind, with_group}
 use Rattle.st_resolve.specs.declared.rules.Given.{Given}
 use Rattle.st_resolve.specs.declared.rules.Takes.{Takes}
 use Rattle.st_resolve.specs.declared.rules.Takes.TheVariants as field
@@ -48,11 +47,11 @@ use Rattle.st_edited.specs.Typed.{IsAsTyped, IsFieldType, IsLeafTyped, IsRowType
 use Rattle.st_edited.proofs.Cleared.{is_clearing, is_need}
 use Rattle.st_edited.proofs.Filled.{all, is_setting, single_unrowed}
 use Rattle.st_edited.proofs.Inserted.{filled, is_insertion}
-use Rattle.st_edited.proofs.Made.{IsFilled, fresh, new_is, old_node, own_cells, put_there}
+use Rattle.st_edited.proofs.Made.{IsFilled, fresh, new_is, own_cells, put_there}
 use Rattle.st_edited.proofs.Moves.{is_move}
 use Rattle.st_edited.proofs.Named.{group_is, trees_form, with_has}
 use Rattle.st_edited.proofs.Removed.{is_removal}
-use Rattle.st_edited.proofs.Ruled.{all_pass, looked_up, ruled_kind}
+use Rattle.st_edited.proofs.Ruled.{all_pass, ruled_kind}
 use Rattle.st_edited.proofs.TypedTrees.{HasOwner, IsOwnTyped, above_at, text_same, tops_own, tops_owner}
 
 -- ## A node with a field isn't a leaf

@@ -1,11 +1,8 @@
 -- The nodes of trees that a schema allows are as typed.
-use Rattle.std.proofs.Common.{◌≡◌, ℕ, ◌+◌, Bool, true, false, cond, not, ◌&&◌, ◌||◌, List, [], ◌∷◌, ◌++◌, Option, Some, None, option_and_then, refl, sym, ap, ◌∙◌, subst, inl, inr, ◌⊎◌}
+use Rattle.std.proofs.Common.{◌≡◌, ℕ, ◌+◌, Bool, true, false, List, [], ◌++◌, Option, Some, None, refl, sym, ap, ◌∙◌, subst, inl, inr, ◌⊎◌}
 use Rattle.std.specs.List.{list_all}
-use Rattle.std.proofs.lemmas.List.Folds.{list_all-append}
 use Rattle.std.specs.Cmp.Lexicographic.{same_text}
-use Rattle.std.specs.Map.{lookup}
 use Rattle.st_ids.specs.Listing.{Has}
-use Rattle.st_ids.specs.declared.names.FieldId.{FieldId}
 use Rattle.st_ids.specs.declared.names.Leaf.{Leaf}
 use Rattle.st_ids.specs.declared.names.NodeId.{NodeId}
 use Rattle.st_ids.specs.declared.names.Rev.{Rev}
@@ -17,12 +14,12 @@ use Rattle.st_tree.specs.Preorder.{node_named, cell_named, cells_taken, cell_cou
 use Rattle.st_tree.specs.Size.{node_count, item_count}
 use Rattle.st_tree.specs.declared.flat.FlatAt.{FlatAt}
 use Rattle.st_tree.specs.declared.flat.FlatNode.{FlatNode}
-use Rattle.st_schema.specs.Conforms.{verdicts, fields_verdicts, items_verdicts, node_fits, is_as_typed, fields_fit, has_none, leaf_type, types_under}
+use Rattle.st_schema.specs.Conforms.{verdicts, fields_verdicts, items_verdicts, node_fits, is_as_typed, has_none, leaf_type, types_under}
 use Rattle.st_schema.specs.Schema.{SchemaView, form_of, same}
 use Rattle.st_schema.specs.declared.names.Form.{Form}
 use Rattle.st_schema.specs.declared.names.Form.TheVariants.{Array, Map, Object}
 use Rattle.st_marks.proofs.Lookups.{both_true}
-use Rattle.st_marks.proofs.Members.{true-false, has-append, append_left, append_right}
+use Rattle.st_marks.proofs.Members.{has-append, append_left, append_right}
 use Rattle.st_edited.specs.Edited.{TellsRows, has_row}
 use Rattle.st_edited.proofs.NewTrees.{split_all}
 
