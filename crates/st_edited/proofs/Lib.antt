@@ -26,3 +26,4 @@ pub mod Typing
 pub mod TypedTrees
 pub mod TypedEdits
 pub mod Opened
+mod Worked

@@ -37,8 +37,8 @@ use Rattle.st_resolve.specs.declared.rules.Takes.TheVariants as field
 use Rattle.st_resolve.proofs.Fits.{passed, found}
 use Rattle.st_resolve.proofs.MoveFits.{CellsFresh, move_fits}
 use Rattle.st_edited.specs.Alike.{IsFrom, AreAlikeAt}
-use Rattle.st_edited.specs.Edited.{TellsRows, at_path, same_key, with_items, without_items, without_key}
-use Rattle.st_edited.specs.Moved.{index_after, inside, is_row_key, moved_in, path_after, row_items, same_path, taken_from, taken_here, target_index, target_path, with_first, with_taken, without_taken}
+use Rattle.st_edited.specs.Edited.{TellsRows, at_path, same_key, with_items, without_items, without_key, is_row_key}
+use Rattle.st_edited.specs.Moved.{index_after, inside, moved_in, path_after, row_items, same_path, taken_from, taken_here, target_index, target_path, with_first, with_taken, without_taken}
 use Rattle.st_edited.specs.Typed.{IsAsTyped}
 use Rattle.st_edited.proofs.Along.{AreShown, along, child_up, kept_child, kept_items, kept_other, owners_live, owners_once}
 use Rattle.st_edited.proofs.Arrived.{field_verdict, held_after, held_there, node_there, nodes_there, row_elsewhere, row_here, row_verdict, rows_there}

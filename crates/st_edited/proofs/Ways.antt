@@ -15,8 +15,8 @@ use Rattle.st_marks.proofs.Members.{true-false, all-has}
 use Rattle.st_resolve.specs.Paths.{and_then, child, there, walk_from}
 use Rattle.st_resolve.proofs.Fits.{passed, found, gotten}
 use Rattle.st_edited.specs.Alike.{IsFrom}
-use Rattle.st_edited.specs.Edited.{same_key}
-use Rattle.st_edited.specs.Moved.{index_after, is_row_key, path_after, place_after, same_path, same_place}
+use Rattle.st_edited.specs.Edited.{same_key, is_row_key}
+use Rattle.st_edited.specs.Moved.{index_after, path_after, place_after, same_path, same_place}
 use Rattle.st_edited.proofs.Along.{child_up, live_at, owner_at, owners_once, same_key-true, same_key-itself}
 use Rattle.st_edited.proofs.Beneath.{from_child, in_row as stands_in_row, not_beneath, one_child}
 use Rattle.st_edited.proofs.Parted.{parted, unless_among}

@@ -6,6 +6,7 @@ use Rattle.std.specs.Ordering.{nat_cmp, is_eq}
 use Rattle.std.specs.Cmp.Lexicographic.{slice_cmp}
 use Rattle.serde_json.specs.Data.{Data, null, boolean, number, string, array, object, Items, no_items, item, Members, no_members, member, put}
 use Rattle.serde_json.specs.View.{items_of}
+use Rattle.st_ids.specs.declared.names.Key.{Key}
 use Rattle.st_ids.specs.declared.names.Place.{Place}
 use Rattle.st_schema.specs.Schema.{SchemaView, form_of}
 use Rattle.st_schema.specs.declared.names.Form.{Form}
@@ -77,9 +78,13 @@ abbrev pub at_key : List ℕ → (Data → Data) → Members → Members
 at_key k f no_members = no_members
 at_key k f (member l d ms) = member l (if same_key k l then f d else d) (at_key k f ms)
 
--- what a place leads to, changed: the item of its index in the row, which has the empty key, or what stands under its key
+-- whether a key is that of a row, which is empty
+abbrev pub is_row_key : Key → Bool
+is_row_key key = length key.0 == 0
+
+-- what a place leads to, changed: the item of its index in the row, or what stands under its key
 abbrev pub at_place : Place → (Data → Data) → Data → Data
-at_place p f d = in_node (if length p.key.0 == 0 then in_row (at_index p.index f) else in_fields (at_key p.key.0 f)) d
+at_place p f d = in_node (if is_row_key p.key then in_row (at_index p.index f) else in_fields (at_key p.key.0 f)) d
 
 -- what a path leads to, changed
 abbrev pub at_path : List Place → (Data → Data) → Data → Data

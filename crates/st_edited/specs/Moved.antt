@@ -1,11 +1,11 @@
 -- The tree that a move makes of a tree: what is moved is taken away, and then comes where the target is by then.
-use Rattle.std.specs.Prelude.{ℕ, ◌-◌, ◌==◌, max, nat_le, ◌&&◌, Bool, true, false, List, [], ◌∷◌, take, drop, length, Option, Some, option_and_then, option_to_list, slice_get, if◌then◌else◌}
+use Rattle.std.specs.Prelude.{ℕ, ◌-◌, ◌==◌, max, nat_le, ◌&&◌, Bool, true, false, List, [], ◌∷◌, take, drop, Option, Some, option_and_then, option_to_list, slice_get, if◌then◌else◌}
 use Rattle.std.specs.Option.{option_map_or}
 use Rattle.serde_json.specs.Data.{Data, null, boolean, number, string, array, object, no_members, member}
 use Rattle.serde_json.specs.Find.{get}
 use Rattle.st_ids.specs.declared.names.Key.{Key}
 use Rattle.st_ids.specs.declared.names.Place.{Place}
-use Rattle.st_edited.specs.Edited.{at_path, listed, same_key, with_items, with_key, without_items, without_key}
+use Rattle.st_edited.specs.Edited.{at_path, is_row_key, listed, same_key, with_items, with_key, without_items, without_key}
 
 -- ## Looking into a tree
 
@@ -32,10 +32,6 @@ items_in (object ms) = []
 -- the items of a node's row
 abbrev pub row_items : Data → List Data
 row_items d = items_in (inside d)
-
--- whether a key is that of a row
-abbrev pub is_row_key : Key → Bool
-is_row_key key = length key.0 == 0
 
 -- what a place leads to
 abbrev pub child_in : Place → Data → Option Data
