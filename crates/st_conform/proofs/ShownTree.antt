@@ -36,7 +36,7 @@ use Rattle.st_marks.proofs.Members.{has-map}
 use Rattle.st_resolve.specs.Resolve.{is_row, rule_at, has_type}
 use Rattle.st_ids.proofs.Orders.{same_cell-true}
 use Rattle.st_conform.specs.Conforming.{Admits, MayStand, IsConforming, row_key}
-use Rattle.st_conform.specs.ArrayTypes.{is_array_form, is_array_type}
+use Rattle.st_resolve.specs.ArrayTypes.{is_array_form, is_array_type}
 use Rattle.st_conform.proofs.Rules.{rising_defs}
 
 abbrev bytes_cmp : List ℕ → List ℕ → Ordering

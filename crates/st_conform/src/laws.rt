@@ -30,7 +30,7 @@ ghost use Rattle.st_resolve.specs.declared.rules.Given.{Given};
 ghost use Rattle.st_resolve.specs.Resolve.{clear, insert, move as move_of, need, put, remove, resolve};
 ghost use Rattle.st_conform.specs.Conforming.{IsConforming, register_in};
 ghost use Rattle.st_conform.specs.Agreeing.{Agrees, AgreesInTurn, TellsHomes, with_homes};
-ghost use Rattle.st_conform.specs.ArrayTypes.{is_array_type};
+ghost use Rattle.st_resolve.specs.ArrayTypes.{is_array_type};
 
 /// An intent that fits a conforming document and agrees with the schema there leaves a conforming document, whatever its
 /// verdict is: carried out whole, or void.

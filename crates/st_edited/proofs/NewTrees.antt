@@ -33,7 +33,8 @@ use Rattle.st_marks.proofs.Lookups.{both_true}
 use Rattle.st_marks.proofs.Members.{true-false, has-append, append_left, append_right}
 use Rattle.st_resolve.specs.New.{owned_by, row_cell, cells_under}
 use Rattle.st_resolve.proofs.Numbered.{same_number}
-use Rattle.st_edited.specs.Edited.{TellsRows, has_row, same_key}
+use Rattle.st_resolve.specs.ArrayTypes.{is_array_form}
+use Rattle.st_edited.specs.Edited.{TellsRows, same_key}
 use Rattle.st_edited.proofs.Along.{same_key-true, same_key-itself}
 
 -- ## Beneath which node a place is
@@ -438,15 +439,15 @@ module _ (s : SchemaView) (is_array : List ℕ → Bool) (tells : TellsRows is_a
       → Own rev xs (fields_listed rev n (n + 1) c fs) n (n + (1 + field_count fs))
       → RowShown (n + 1) fs → (keys_rise [] fs ≡ true → HoldsEach n fs × ShowsMembers is_array E (node_named rev n) (keys_of fs) (members_data fs)) → Shows is_array E (node_named rev n) (tree_data (node ty None fs))
   by_form n c ty fs at None e fit h own rowed keyed = cc
-  by_form n c ty fs at (Some (Array types)) e fit h own rowed keyed = row_shown n c ty fs at (tells ty ∙ ap has_row e) fit h own rowed
+  by_form n c ty fs at (Some (Array types)) e fit h own rowed keyed = row_shown n c ty fs at (tells ty ∙ ap is_array_form e) fit h own rowed
   by_form n c ty fs at (Some (Map types)) e fit h own rowed keyed =
       let rises = (both_true (keys_rise [] fs) _ fit).0 in
       let k = keyed rises in
-      keyed_shown n c ty fs at (tells ty ∙ ap has_row e) rises h own k.0 k.1
+      keyed_shown n c ty fs at (tells ty ∙ ap is_array_form e) rises h own k.0 k.1
   by_form n c ty fs at (Some (Object defs)) e fit h own rowed keyed =
       let rises = (both_true (keys_rise [] fs) _ fit).0 in
       let k = keyed rises in
-      keyed_shown n c ty fs at (tells ty ∙ ap has_row e) rises h own k.0 k.1
+      keyed_shown n c ty fs at (tells ty ∙ ap is_array_form e) rises h own k.0 k.1
 
   mutual
     pub tree_shown : (types : List (List ℕ)) (at : FlatAt) (n c : ℕ) (t : Node) → Conforming (verdicts s types t) → Has xs (top_of rev at n t) → Own rev xs (inner rev n c t) n (n + node_count t)

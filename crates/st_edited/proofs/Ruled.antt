@@ -22,7 +22,8 @@ use Rattle.st_resolve.specs.Resolve.{rule_at, rule_for, of_kind, takes_kind, is_
 use Rattle.st_resolve.specs.declared.rules.Takes.{Takes}
 use Rattle.st_resolve.specs.declared.rules.Takes.TheVariants as field
 use Rattle.st_resolve.proofs.Fits.{passed, found, key_some, kind_taken}
-use Rattle.st_edited.specs.Edited.{TellsRows, has_row}
+use Rattle.st_resolve.specs.ArrayTypes.{is_array_form}
+use Rattle.st_edited.specs.Edited.{TellsRows}
 
 pub all_pass : {A : Type 0} (p : A → Bool) (xs : List A) (x : A) → list_all p xs ≡ true → Has xs x → p x ≡ true
 all_pass p [] x e h = absurd h
@@ -39,7 +40,7 @@ looked_up {K} {X} test (d ∷ es) x e = go (test d.0) (λ f. looked_up test es x
 
 -- ## Which form has a field of a kind
 
-form_row : (names : List (List ℕ)) (form : Form) (key : List ℕ) (rule : FieldRule) → form_is_sound names form ≡ true → field_in form key ≡ Some rule → has_row (Some form) ≡ is_row rule.kind
+form_row : (names : List (List ℕ)) (form : Form) (key : List ℕ) (rule : FieldRule) → form_is_sound names form ≡ true → field_in form key ≡ Some rule → is_array_form (Some form) ≡ is_row rule.kind
 form_row names (Array types) [] rule sound e = let q : record { kind = Sequence; types = types } ≡ rule = cc in ap (λ (r : FieldRule). is_row r.kind) q
 form_row names (Array types) (b ∷ key) rule sound e = cc
 form_row names (Map types) key rule sound e = go (is_key key) e
@@ -64,13 +65,13 @@ form_row names (Object fields) key rule sound e = go (declared fields key) refl 
         let q : record { kind = d.kind; types = d.types } ≡ rule = cc in
         single d.kind kind ∙ ap (λ (r : FieldRule). is_row r.kind) q
 
-type_row : (s : SchemaView) (ty key : List ℕ) (rule : FieldRule) → is_sound s ≡ true → field_of s ty key ≡ Some rule → has_row (form_of s.types ty) ≡ is_row rule.kind
+type_row : (s : SchemaView) (ty key : List ℕ) (rule : FieldRule) → is_sound s ≡ true → field_of s ty key ≡ Some rule → is_array_form (form_of s.types ty) ≡ is_row rule.kind
 type_row s ty key rule sound e = go (form_of s.types ty) refl e
   where
     forms : forms_are_sound s.types ≡ true
     forms = (both_true (forms_are_sound s.types) _ (both_true (names_are_sound (type_names s.types)) _ sound).1).0
 
-    go : (o : Option Form) → form_of s.types ty ≡ o → option_and_then (λ (form : Form). field_in form key) o ≡ Some rule → has_row o ≡ is_row rule.kind
+    go : (o : Option Form) → form_of s.types ty ≡ o → option_and_then (λ (form : Form). field_in form key) o ≡ Some rule → is_array_form o ≡ is_row rule.kind
     go None h f = cc
     go (Some form) h f = form_row (type_names s.types) form key rule (all_pass (form_is_sound (type_names s.types)) (map (λ d. d.1) s.types) form forms (looked_up (same ty) s.types form h)) f
 
@@ -114,7 +115,7 @@ type_key s ty key rule sound e = by_kind rule.kind refl
         go false q = q
         go true q = let bad : suc (length k) ≡ 0 = grind (arith, nat_tests) in absurd (omega (arith, bad))
 
-    in_array : (form : Form) → has_row (Some form) ≡ true → field_in form key ≡ Some rule → (length key == 0) ≡ true
+    in_array : (form : Form) → is_array_form (Some form) ≡ true → field_in form key ≡ Some rule → (length key == 0) ≡ true
     in_array (Array types) rowed f = of_key key f
       where
         of_key : (k : List ℕ) → field_in (Array types) k ≡ Some rule → (length k == 0) ≡ true
@@ -123,7 +124,7 @@ type_key s ty key rule sound e = by_kind rule.kind refl
     in_array (Map types) rowed f = cc
     in_array (Object fields) rowed f = cc
 
-    row : (o : Option Form) → has_row o ≡ true → option_and_then (λ (form : Form). field_in form key) o ≡ Some rule → (length key == 0) ≡ true
+    row : (o : Option Form) → is_array_form o ≡ true → option_and_then (λ (form : Form). field_in form key) o ≡ Some rule → (length key == 0) ≡ true
     row None rowed f = cc
     row (Some form) rowed f = in_array form rowed f
 

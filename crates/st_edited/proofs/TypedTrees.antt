@@ -20,7 +20,8 @@ use Rattle.st_schema.specs.declared.names.Form.{Form}
 use Rattle.st_schema.specs.declared.names.Form.TheVariants.{Array, Map, Object}
 use Rattle.st_marks.proofs.Lookups.{both_true}
 use Rattle.st_marks.proofs.Members.{has-append, append_left, append_right}
-use Rattle.st_edited.specs.Edited.{TellsRows, has_row}
+use Rattle.st_resolve.specs.ArrayTypes.{is_array_form}
+use Rattle.st_edited.specs.Edited.{TellsRows}
 use Rattle.st_edited.proofs.NewTrees.{split_all}
 
 pub text_same : (a b : List ℕ) → same a b ≡ true → a ≡ b
@@ -49,7 +50,7 @@ none_kind b no_fields e h = h
 none_kind b (field key row items rest) e h = cc
 
 -- what it says of a node that it has a field of a kind
-kind_form : (b : Bool) (form : Option Form) (ty : List ℕ) (leaf : Option Leaf) (fs : Fields) → is_as_typed form ty leaf fs ≡ true → HasKind b fs → (leaf ≡ None) × (has_row form ≡ b)
+kind_form : (b : Bool) (form : Option Form) (ty : List ℕ) (leaf : Option Leaf) (fs : Fields) → is_as_typed form ty leaf fs ≡ true → HasKind b fs → (leaf ≡ None) × (is_array_form form ≡ b)
 kind_form b form ty (Some v) fs fit h = absurd (none_kind b fs (both_true (same ty (leaf_type v)) (has_none fs) fit).1 h)
 kind_form b None ty None fs fit h = absurd (cc)
 kind_form b (Some (Array types)) ty None fs fit h = (refl, sym (row_alone_kind b fs fit h))

@@ -1,29 +1,21 @@
 -- The tree that an edit makes of a tree. A tree is the JSON that shows it: a leaf is its value, and another node an object
 -- with one member, its type's name, which holds an array of trees for a node that has a row, and else an object from keys to
 -- trees. An edit that finds nothing to change in a tree leaves it.
-use Rattle.std.specs.Prelude.{◌≡◌, ℕ, zero, suc, ◌+◌, ◌==◌, Bool, true, false, List, [], ◌∷◌, ◌++◌, take, drop, length, Option, Some, None, if◌then◌else◌}
+use Rattle.std.specs.Prelude.{◌≡◌, ℕ, zero, suc, ◌+◌, ◌==◌, Bool, List, [], ◌∷◌, ◌++◌, take, drop, length, if◌then◌else◌}
 use Rattle.std.specs.Ordering.{nat_cmp, is_eq}
 use Rattle.std.specs.Cmp.Lexicographic.{slice_cmp}
 use Rattle.serde_json.specs.Data.{Data, null, boolean, number, string, array, object, Items, no_items, item, Members, no_members, member, put}
 use Rattle.serde_json.specs.View.{items_of}
 use Rattle.st_ids.specs.declared.names.Key.{Key}
 use Rattle.st_ids.specs.declared.names.Place.{Place}
-use Rattle.st_schema.specs.Schema.{SchemaView, form_of}
-use Rattle.st_schema.specs.declared.names.Form.{Form}
-use Rattle.st_schema.specs.declared.names.Form.TheVariants.{Array, Map, Object}
+use Rattle.st_schema.specs.Schema.{SchemaView}
+use Rattle.st_resolve.specs.ArrayTypes.{is_array_type}
 
 -- ## Which nodes have a row
 
--- whether a type of this form has a row
-abbrev pub has_row : Option Form → Bool
-has_row None = false
-has_row (Some (Array types)) = true
-has_row (Some (Map types)) = false
-has_row (Some (Object fields)) = false
-
 -- a test of types tells those whose nodes have a row by the schema
 abbrev pub TellsRows : (List ℕ → Bool) → SchemaView → Type 0
-TellsRows is_array s = (ty : List ℕ) → is_array ty ≡ has_row (form_of s.types ty)
+TellsRows is_array s = (ty : List ℕ) → is_array ty ≡ is_array_type s ty
 
 -- ## Within one node
 
