@@ -1,3 +1,4 @@
+pub mod ArrayTypes
 pub mod Paths
 pub mod New
 pub mod Resolve

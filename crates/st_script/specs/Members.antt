@@ -63,8 +63,12 @@ places_in no_items = Some []
 places_in (item k no_items) = None
 places_in (item k (item i ds)) = option_and_then (λ p. option_map (λ ps. p ∷ ps) (places_in ds)) (place_of k i)
 
+-- a path has fewer than 2^32 places, as each path has that a line of an input holds
+abbrev pub short_path : List Place → Option (List Place)
+short_path ps = if nat_lt (length ps) (2 ^ 32) then Some ps else None
+
 abbrev pub path_in : List ℕ → Data → Option (List Place)
-path_in name d = option_and_then places_in (option_and_then as_array (get name d))
+path_in name d = option_and_then short_path (option_and_then places_in (option_and_then as_array (get name d)))
 
 -- values that are all trees
 abbrev pub trees_in : Items → Option (List Node)

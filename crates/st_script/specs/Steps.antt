@@ -1,12 +1,13 @@
 -- Which value is which step.
-use Rattle.std.specs.Prelude.{ℕ, List, nat_eq, Bool, Option, None, option_and_then, option_map, map, codes, if◌then◌else◌}
+use Rattle.std.specs.Prelude.{◌≡◌, ◌<◌, ◌^◌, Ok, length, ℕ, List, nat_eq, Bool, Option, None, option_and_then, option_map, map, codes, if◌then◌else◌}
 use Rattle.std.specs.Cmp.Lexicographic.{pointwise}
 use Rattle.serde_json.specs.Data.{Data}
 use Rattle.serde_json.specs.Find.{get, as_str}
 use Rattle.st_ids.specs.declared.names.Key.{Key}
 use Rattle.st_ids.specs.declared.names.Place.{Place}
 use Rattle.st_json.specs.Look.{has_only}
-use Rattle.st_tree.specs.Node.{Node, view}
+use Rattle.st_tree.specs.Node.{Node, view, nodes_of}
+use Rattle.st_tree.specs.Size.{check_of, check_items}
 use Rattle.st_script.specs.declared.step.TraceStep.{TraceStep}
 use Rattle.st_script.specs.declared.step.TraceStep.TheVariants as step
 use Rattle.st_script.specs.declared.read.Actor.{Actor}
@@ -39,6 +40,42 @@ step_view (step.Clear client branch at key) = clear client branch at key
 step_view (step.Sequence client) = sequence client
 step_view (step.Deliver client) = deliver client
 step_view (step.Show client branch) = show client branch
+
+-- the branch that a step names, which is 0 for the steps that name none
+abbrev pub branch_of : StepView → ℕ
+branch_of (join name) = 0
+branch_of (insert name branch at key index items) = branch
+branch_of (remove name branch at key index count) = branch
+branch_of (move name branch at key index count to to_key to_index) = branch
+branch_of (set name branch at key item) = branch
+branch_of (clear name branch at key) = branch
+branch_of (sequence name) = 0
+branch_of (deliver name) = 0
+branch_of (show name branch) = branch
+
+-- the client of a step
+abbrev pub name_of : StepView → List ℕ
+name_of (join name) = name
+name_of (insert name branch at key index items) = name
+name_of (remove name branch at key index count) = name
+name_of (move name branch at key index count to to_key to_index) = name
+name_of (set name branch at key item) = name
+name_of (clear name branch at key) = name
+name_of (sequence name) = name
+name_of (deliver name) = name
+name_of (show name branch) = name
+
+-- its trees are within the limits of trees, and its paths short
+abbrev pub IsOfForm : StepView → Type 0
+IsOfForm (join client) = Unit {0}
+IsOfForm (insert client branch at key index items) = (check_items (nodes_of items) ≡ Ok tt) × (length at < 2 ^ 32)
+IsOfForm (remove client branch at key index count) = length at < 2 ^ 32
+IsOfForm (move client branch at key index count to to_key to_index) = (length at < 2 ^ 32) × (length to < 2 ^ 32)
+IsOfForm (set client branch at key item) = (check_of item ≡ Ok tt) × (length at < 2 ^ 32)
+IsOfForm (clear client branch at key) = length at < 2 ^ 32
+IsOfForm (sequence client) = Unit {0}
+IsOfForm (deliver client) = Unit {0}
+IsOfForm (show client branch) = Unit {0}
 
 -- who does a step, and on which branch, which is 0 where nothing is said
 abbrev pub actor_of : Data → Option Actor

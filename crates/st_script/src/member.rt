@@ -5,7 +5,7 @@ ghost use Rattle.serde_json.specs.Find.{get};
 ghost use Rattle.st_json.specs.Look.{has_only};
 ghost use Rattle.st_schema.specs.TreeText.{tree_of};
 ghost use Rattle.st_tree.specs.Node.{view};
-ghost use Rattle.st_script.specs.Members.{as_small, number_in, number_or, at_least_one, count_of, client_in, key_within, key_of, key_or_empty, place_of, places_in, path_in, trees_in, few, items_in, item_in};
+ghost use Rattle.st_script.specs.Members.{as_small, number_in, number_or, at_least_one, count_of, client_in, key_within, key_of, key_or_empty, place_of, places_in, short_path, path_in, trees_in, few, items_in, item_in};
 
 use serde_json::Value;
 use st_ids::{Key, List, Or, Path, Place, Text};
@@ -156,6 +156,27 @@ fn places(alloc: Global, items: &[Value]) -> Result<Option<Path>, AllocError>
     }
 }
 
+// A path of fewer than 2^32 places.
+fn short_path(path: Path) -> Option<Path>
+    ensures { result ≡ short_path path }
+{
+    if path.len() < 1 << 32 {
+        Some(path)
+    } else {
+        None
+    }
+}
+
+// The path that a value is.
+fn path_of(alloc: Global, items: &[Value]) -> Result<Option<Path>, AllocError>
+    ensures { IfOk result (λ p. p ≡ option_and_then short_path (places_in (items_view items.now))) }
+{
+    match places(alloc, items)? {
+        None => Ok(None),
+        Some(path) => Ok(short_path(path)),
+    }
+}
+
 /// The path of a member.
 pub(crate) fn path_member(
     alloc: Global,
@@ -169,7 +190,7 @@ pub(crate) fn path_member(
     };
     match path.as_array() {
         None => Ok(None),
-        Some(items) => places(alloc, items.as_slice()),
+        Some(items) => path_of(alloc, items.as_slice()),
     }
 }
 

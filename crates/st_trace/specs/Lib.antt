@@ -1,0 +1,4 @@
+pub mod Kept
+pub mod Known
+pub mod Log
+pub mod World
