@@ -95,6 +95,7 @@ pub record IsSoundAfter (steps : ℕ) (w : World) : Type 0 where
   pub ids : AllByRecursion (λ (c : Client). c.ids ≤ steps) w.lists.clients
   pub log : AllByRecursion (IsEntryOf (length w.lists.clients)) w.lists.log
   pub log_fit : FitInTurn (opened (header_view w.header)) (commits_in w.lists.log)
+  pub log_new : HaveNewRevisions (opening ∷ []) (commits_in w.lists.log)
   pub head : Run (opened (header_view w.header)) (commits_in w.lists.log) (document_of w.head)
   pub entries : length w.lists.log ≤ 65535
   pub names : w.names ≡ names_in (commits_in w.lists.log)

@@ -1,6 +1,6 @@
 -- The world, as lists alone: the log, and of each client what it received and what it has pending. What a client shows is
 -- read off the document to which its list of commits leads from the opening.
-use Rattle.std.specs.Prelude.{◌≡◌, ℕ, zero, suc, ◌+◌, ◌==◌, Bool, nat_lt, nat_le, nat_eq, List, [], ◌∷◌, ◌++◌, length, take, drop, fold, position, slice_get, slice_set, Option, Some, None, is_some, option_map, option_and_then, Result, Ok, Err, if◌then◌else◌}
+use Rattle.std.specs.Prelude.{◌≡◌, ℕ, zero, suc, ◌+◌, ◌==◌, ◌&&◌, Bool, nat_lt, nat_le, nat_eq, List, [], ◌∷◌, ◌++◌, length, take, drop, fold, position, slice_get, slice_set, Option, Some, None, is_some, option_map, option_and_then, Result, Ok, Err, if◌then◌else◌}
 use Rattle.std.specs.Cmp.Lexicographic.{pointwise}
 use Rattle.serde_json.specs.Written.{compact_text}
 use Rattle.st_ids.specs.declared.names.Key.{Key}
@@ -13,7 +13,7 @@ use Rattle.st_tree.specs.Preorder.{opening_listed}
 use Rattle.st_tree.specs.declared.edit.EditFault.{EditFault}
 use Rattle.st_tree.specs.declared.edit.EditFault.TheVariants as fault
 use Rattle.st_resolve.specs.ArrayTypes.{is_array_type}
-use Rattle.st_schema.specs.Text.{schema_data}
+use Rattle.st_schema.specs.Written.{schema_data}
 use Rattle.st_marks.specs.declared.intents.Intent.{Intent}
 use Rattle.st_marks.specs.declared.verdicts.Verdict.{Verdict}
 use Rattle.st_marks.specs.Document.{Document}
@@ -124,7 +124,7 @@ given c = record { rev = next_rev c; nodes = 0; cells = 0 }
 
 -- whether an entry is a commit of its own
 abbrev pub is_own : Entry → Client → Bool
-is_own e c = Bool.◌&&◌ (is_some (commit_of e)) (e.session == c.session)
+is_own e c = is_some (commit_of e) && (e.session == c.session)
 
 -- what stays pending after an entry: a commit of its own was the first of them
 abbrev pub pending_after : Entry → Client → List Intent

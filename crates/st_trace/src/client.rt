@@ -211,7 +211,7 @@ fn receive_own(alloc: Global, kept: &mut Kept, intent: &Intent) -> Result<Verdic
     requires fits { Fits (document_of kept.old.received) intent.now }
     requires names { names_made intent.now ≤ kept.old.names }
     requires few { kept.old.names ≤ 16384 }
-    ensures received { IfOk result (HasCarried kept.old intent.now kept.new) }
+    ensures received { IfOk result (λ v. HasCarried kept.old intent.now v kept.new) }
     ensures shown { OnOk result (kept.new.shown ≡ kept.old.shown) }
     ensures names { OnOk result (kept.new.names ≡ kept.old.names - names_made intent.now) }
 {
@@ -225,7 +225,7 @@ fn receive_last(alloc: Global, kept: &mut Kept, intent: &Intent) -> Result<Verdi
     requires sound { IsSoundInForm (document_of kept.old.received) }
     requires same { document_of kept.old.shown ≡ document_of kept.old.received }
     requires fits { Fits (document_of kept.old.received) intent.now }
-    ensures received { IfOk result (HasCarried kept.old intent.now kept.new) }
+    ensures received { IfOk result (λ v. HasCarried kept.old intent.now v kept.new) }
     ensures shown { OnOk result (document_of kept.new.shown ≡ document_of kept.new.received) }
     ensures names { OnOk result (kept.new.names ≡ kept.old.names) }
 {
@@ -243,7 +243,7 @@ fn receive_before(
 ) -> Result<Verdict, AllocError>
     requires sound { IsSoundInForm (document_of kept.old.received) }
     requires fits { FitInTurn (document_of kept.old.received) (intent.now ∷ pending.now) }
-    ensures received { IfOk result (HasCarried kept.old intent.now kept.new) }
+    ensures received { IfOk result (λ v. HasCarried kept.old intent.now v kept.new) }
     ensures shown { OnOk result (Run (document_of kept.new.received) pending.now (document_of kept.new.shown)) }
     ensures names { OnOk result (kept.new.names ≡ kept.old.names) }
 {

@@ -6,6 +6,7 @@ mod kept;
 mod lists;
 mod log;
 mod names;
+mod probe;
 mod world;
 
 pub use client::Done;

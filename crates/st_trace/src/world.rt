@@ -1,12 +1,21 @@
 //! The world: its lists, and the documents and numbers that its answers are read off.
 ghost use Rattle.std.specs.Prelude.{◌≡◌, ◌↔◌, ◌+◌, ◌-◌, ◌^◌, ◌<◌, ◌≤◌, true, false, length, [], Some, slice_get, IfOk, OnOk, IsErrOf};
+ghost use Rattle.st_marks.specs.declared.verdicts.Verdict.{Verdict as Outcome};
+ghost use Rattle.st_marks.specs.Document.{IsSoundInForm};
+ghost use Rattle.st_marks.specs.Intent.{Fits};
+ghost use Rattle.st_marks.specs.Verdict.{IsVerdict, carried};
+ghost use Rattle.st_doc.specs.Doc.{document_of};
 ghost use Rattle.st_script.specs.Header.{header_view, may_open};
 ghost use Rattle.st_script.specs.Steps.{step_view, IsOfForm};
 ghost use Rattle.st_doc.specs.LiveText.{is_among};
 ghost use Rattle.st_resolve.specs.Resolve.{IsWithin, resolve};
 ghost use Rattle.st_resolve.specs.ArrayTypes.{is_array_type};
-ghost use Rattle.st_trace.specs.World.{begun, place_of, over, log_limit_passed, join, sequence, given, IsEdited, IsDelivered, IsShown, IsNextOf, IsNext};
+ghost use Rattle.st_trace.specs.World.{begun, names_made, place_of, over, log_limit_passed, join, sequence, given, IsEdited, IsDelivered, IsShown, IsNextOf, IsNext};
 ghost use Rattle.st_trace.specs.Kept.{IsHeader, IsSound, IsSoundNext};
+ghost use Rattle.st_trace.specs.Known.{AreKnown};
+ghost use Rattle.st_trace.specs.Log.{entered, minimum};
+ghost use Rattle.st_trace.specs.declared.lists.Body.TheVariants.{Commit};
+ghost use Rattle.st_tree.specs.declared.edit.Edit.{Edit as TreeEdit};
 ghost use Rattle.st_trace.specs.declared.lists.Client.{Client as Present};
 
 use crate::client::{self, Done};
@@ -15,11 +24,11 @@ use crate::lists::{Body, Client, Lists, Queued};
 use crate::log::{enter, least_known};
 use crate::names::names_made;
 use st_doc::Doc;
-use st_ids::{Copied, Limit, LimitOf, List, Or, Text};
+use st_ids::{Copied, Key, Limit, LimitOf, List, Or, Path, Text};
 use st_marks::Intent;
 use st_schema::{Form, Header, Schema};
 use st_script::{Answer, Refusal, TraceStep};
-use st_tree::Edit;
+use st_tree::{Edit, Tree};
 use std::alloc::{AllocError, Global};
 use std::collections::BTreeMap;
 
@@ -88,6 +97,94 @@ fn array_types(alloc: Global, schema: &Schema) -> Result<List<Text>, AllocError>
         i += 1;
     }
     Ok(types)
+}
+
+// An edit of the tree, from the parts of a step: new items.
+fn insertion(
+    alloc: Global,
+    at: &Path,
+    key: &Key,
+    index: u32,
+    items: &List<Tree>,
+) -> Result<Edit, AllocError>
+    ensures { IfOk result (λ e. e ≡ TreeEdit.Insert at.now key.now index items.now) }
+{
+    let at = at.copy(alloc)?;
+    let key = key.copy(alloc)?;
+    let items = items.copy(alloc)?;
+    Ok(Edit::Insert {
+        at,
+        key,
+        index,
+        items,
+    })
+}
+
+// Items that go.
+fn removal(
+    alloc: Global,
+    at: &Path,
+    key: &Key,
+    index: u32,
+    count: u32,
+) -> Result<Edit, AllocError>
+    ensures { IfOk result (λ e. e ≡ TreeEdit.Remove at.now key.now index count) }
+{
+    let at = at.copy(alloc)?;
+    let key = key.copy(alloc)?;
+    Ok(Edit::Remove {
+        at,
+        key,
+        index,
+        count,
+    })
+}
+
+// Items that go elsewhere.
+fn relocation(
+    alloc: Global,
+    at: &Path,
+    key: &Key,
+    index: u32,
+    count: u32,
+    to: &Path,
+    to_key: &Key,
+    to_index: u32,
+) -> Result<Edit, AllocError>
+    ensures { IfOk result (λ e. e ≡ TreeEdit.Move at.now key.now index count to.now to_key.now to_index) }
+{
+    let at = at.copy(alloc)?;
+    let key = key.copy(alloc)?;
+    let to = to.copy(alloc)?;
+    let to_key = to_key.copy(alloc)?;
+    Ok(Edit::Move {
+        at,
+        key,
+        index,
+        count,
+        to,
+        to_key,
+        to_index,
+    })
+}
+
+// A new tree in a field.
+fn placement(alloc: Global, at: &Path, key: &Key, item: &Tree) -> Result<Edit, AllocError>
+    ensures { IfOk result (λ e. e ≡ TreeEdit.Put at.now key.now item.now) }
+{
+    let at = at.copy(alloc)?;
+    let key = key.copy(alloc)?;
+    let item = item.copy(alloc)?;
+    Ok(Edit::Put { at, key, item })
+}
+
+// A field that is emptied.
+fn clearance(alloc: Global, at: &Path, key: &Key) -> Result<Edit, AllocError>
+    ensures { IfOk result (λ e. e ≡ TreeEdit.Clear at.now key.now) }
+{
+    let at = at.copy(alloc)?;
+    let key = key.copy(alloc)?;
+    Ok(Edit::Clear { at, key })
 }
 
 impl World {
@@ -194,7 +291,20 @@ impl World {
         session: u32,
         reference: u32,
         intent: Intent,
-    ) -> Result<Answer, AllocError> {
+    ) -> Result<Answer, AllocError>
+        requires sound { IsSoundInForm (document_of self.old.head) }
+        requires fits { Fits (document_of self.old.head) intent }
+        requires entries { length self.old.lists.log < 65535 }
+        requires names { self.old.names + names_made intent ≤ 131072 }
+        requires known { AreKnown self.old.lists.log self.old.known }
+        ensures answer { IfOk result (λ a. a ≡ Answer.Sequence (minimum self.new.lists.log self.new.lists.clients) (length self.new.lists.log)) }
+        ensures known { OnOk result (AreKnown self.new.lists.log self.new.known) }
+        ensures head { OnOk result ((v : Outcome) × IsVerdict (document_of self.old.head) intent v × (document_of self.new.head ≡ carried v (document_of self.old.head) intent)) }
+        ensures world { OnOk result (self.new ≡ record self.old {
+            lists = record self.old.lists { log = entered self.old.lists.log session (Commit reference intent) };
+            head = self.new.head; known = self.new.known; names = self.old.names + names_made intent }) }
+        ensures spent { self.new.spent ≡ self.old.spent }
+    {
         self.names += names_made(&intent);
         self.head.carry_out(alloc, &intent)?;
         let body = Body::Commit { reference, intent };
@@ -290,19 +400,19 @@ impl World {
     }
 
     // Makes a step of the client at a place, on the main branch.
-    fn answer_at(&mut self, alloc: Global, i: usize, step: TraceStep) -> Result<Answer, AllocError>
+    fn answer_at(&mut self, alloc: Global, i: usize, step: &TraceStep) -> Result<Answer, AllocError>
         requires sound { IsSound self.old }
         requires few { self.old.steps + 1 < 2 ^ 32 }
-        requires form { IsOfForm (step_view step) }
+        requires form { IsOfForm (step_view step.now) }
         ensures next { IfOk result (λ a. (c : Present) → slice_get self.old.lists.clients i ≡ Some c
-            → IsNextOf (header_view self.old.header) self.old.lists (step_view step) i c self.new.lists a) }
+            → IsNextOf (header_view self.old.header) self.old.lists (step_view step.now) i c self.new.lists a) }
         ensures sound { OnOk result (IsSoundNext self.new) }
         ensures steps { OnOk result (self.new.steps ≡ self.old.steps) }
         ensures header { OnOk result (self.new.header ≡ self.old.header) }
         ensures spent { self.new.spent ≡ self.old.spent }
     {
         match step {
-            TraceStep::Join { client } => self.join(alloc, &client),
+            TraceStep::Join { client } => self.join(alloc, client),
             TraceStep::Insert {
                 at,
                 key,
@@ -310,12 +420,7 @@ impl World {
                 items,
                 ..
             } => {
-                let edit = Edit::Insert {
-                    at,
-                    key,
-                    index,
-                    items,
-                };
+                let edit = insertion(alloc, at, key, *index, items)?;
                 self.edit(alloc, i, Done::Insert, &edit)
             }
             TraceStep::Remove {
@@ -325,12 +430,7 @@ impl World {
                 count,
                 ..
             } => {
-                let edit = Edit::Remove {
-                    at,
-                    key,
-                    index,
-                    count,
-                };
+                let edit = removal(alloc, at, key, *index, *count)?;
                 self.edit(alloc, i, Done::Remove, &edit)
             }
             TraceStep::Move {
@@ -343,23 +443,15 @@ impl World {
                 to_index,
                 ..
             } => {
-                let edit = Edit::Move {
-                    at,
-                    key,
-                    index,
-                    count,
-                    to,
-                    to_key,
-                    to_index,
-                };
+                let edit = relocation(alloc, at, key, *index, *count, to, to_key, *to_index)?;
                 self.edit(alloc, i, Done::Move, &edit)
             }
             TraceStep::Set { at, key, item, .. } => {
-                let edit = Edit::Put { at, key, item };
+                let edit = placement(alloc, at, key, item)?;
                 self.edit(alloc, i, Done::Set, &edit)
             }
             TraceStep::Clear { at, key, .. } => {
-                let edit = Edit::Clear { at, key };
+                let edit = clearance(alloc, at, key)?;
                 self.edit(alloc, i, Done::Clear, &edit)
             }
             TraceStep::Sequence { .. } => self.sequence(alloc, i),
@@ -372,17 +464,17 @@ impl World {
     }
 
     // Makes a step, if its client and its branch are there. A join wants neither.
-    fn answer(&mut self, alloc: Global, step: TraceStep) -> Result<Answer, AllocError>
+    fn answer(&mut self, alloc: Global, step: &TraceStep) -> Result<Answer, AllocError>
         requires sound { IsSound self.old }
         requires few { self.old.steps + 1 < 2 ^ 32 }
-        requires form { IsOfForm (step_view step) }
-        ensures next { IfOk result (λ a. IsNext (header_view self.old.header) self.old.lists (step_view step) self.new.lists a) }
+        requires form { IsOfForm (step_view step.now) }
+        ensures next { IfOk result (λ a. IsNext (header_view self.old.header) self.old.lists (step_view step.now) self.new.lists a) }
         ensures sound { OnOk result (IsSoundNext self.new) }
         ensures steps { OnOk result (self.new.steps ≡ self.old.steps) }
         ensures header { OnOk result (self.new.header ≡ self.old.header) }
         ensures spent { self.new.spent ≡ self.old.spent }
     {
-        if let TraceStep::Join { client } = &step {
+        if let TraceStep::Join { client } = step {
             return self.join(alloc, client);
         }
         let Some(i) = self.find(step.client()) else {
@@ -396,11 +488,11 @@ impl World {
     }
 
     /// Makes a step. After want of memory the world is spent, and answers `Spent` from then on, and at no other time.
-    pub fn step(&mut self, alloc: Global, step: TraceStep) -> Result<Answer, Or<Spent>>
+    pub fn step(&mut self, alloc: Global, step: &TraceStep) -> Result<Answer, Or<Spent>>
         requires sound { self.old.spent ≡ false → IsSound self.old }
         requires few { self.old.steps + 1 < 2 ^ 32 }
-        requires form { IsOfForm (step_view step) }
-        ensures next { IfOk result (λ a. IsNext (header_view self.old.header) self.old.lists (step_view step) self.new.lists a) }
+        requires form { IsOfForm (step_view step.now) }
+        ensures next { IfOk result (λ a. IsNext (header_view self.old.header) self.old.lists (step_view step.now) self.new.lists a) }
         ensures sound { OnOk result (IsSound self.new) }
         ensures fresh { OnOk result (self.new.spent ≡ false) }
         ensures steps { OnOk result (self.new.steps ≡ self.old.steps + 1) }
