@@ -7,3 +7,5 @@ pub mod Keeping
 pub mod Meanings
 pub mod Everyone
 pub mod Stepping
+pub mod Turning
+pub mod Receiving

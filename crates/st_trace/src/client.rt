@@ -273,10 +273,11 @@ fn receive(
     }
     let pending = client.pending.as_slice();
     if pending.is_empty() {
-        receive_last(alloc, kept, intent)
-    } else {
-        receive_before(alloc, kept, intent, pending)
+        let verdict = receive_last(alloc, kept, intent)?;
+        return Ok(verdict);
     }
+    let verdict = receive_before(alloc, kept, intent, pending)?;
+    Ok(verdict)
 }
 
 // Whether an entry is of a client's session.
