@@ -9,3 +9,4 @@ pub mod Everyone
 pub mod Stepping
 pub mod Turning
 pub mod Receiving
+pub mod Acting
