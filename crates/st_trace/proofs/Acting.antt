@@ -1,5 +1,5 @@
 -- The world after an edit and after a delivery.
-use Rattle.std.proofs.Common.{◌≡◌, ◌≤◌, ◌<◌, ◌+◌, ℕ, List, ◌∷◌, length, Option, Some, None, Result, Ok, Err, refl, sym, ap, ◌∙◌, subst, arith}
+use Rattle.std.proofs.Common.{◌≡◌, ◌≤◌, ◌<◌, ◌+◌, ℕ, List, ◌∷◌, length, Option, Some, None, IfSome, Result, Ok, Err, refl, sym, ap, ◌∙◌, subst, arith}
 use Rattle.std.specs.List.{slice_get, slice_set}
 use Rattle.st_ids.specs.declared.names.Limit.{Limit}
 use Rattle.st_tree.specs.declared.edit.Edit.{Edit}
@@ -16,7 +16,7 @@ use Rattle.st_resolve.proofs.Resolved.{resolved_fits}
 use Rattle.st_script.specs.Header.{HeaderView, header_view}
 use Rattle.st_script.specs.declared.answer.Answer.{Answer}
 use Rattle.st_script.specs.declared.answer.Answer.TheVariants.{Show}
-use Rattle.st_trace.specs.Kept.{HasMoved, IsEditedKept, IsSound, IsSoundAfter}
+use Rattle.st_trace.specs.Kept.{CanReceive, HasMoved, IsEditedKept, IsSound, IsSoundAfter}
 use Rattle.st_trace.specs.World.{HasReceived, HasShown, IsDelivered, IsDeliveredTo, IsEdited, IsShown, edited, given, limit_passed, next_rev, pends, taken, with_client}
 use Rattle.st_trace.specs.declared.client.Done.{Done}
 use Rattle.st_trace.specs.declared.kept.Kept.{Kept}
@@ -26,7 +26,7 @@ use Rattle.st_trace.specs.declared.lists.Lists.{Lists}
 use Rattle.st_trace.specs.declared.world.World.{World}
 use Rattle.st_trace.proofs.Clients.{fresh_cells, fresh_nodes, shown_sound}
 use Rattle.st_trace.proofs.Everyone.{all_get, kept_at}
-use Rattle.st_trace.proofs.Keeping.{AreOne, one_delivered, one_edited}
+use Rattle.st_trace.proofs.Keeping.{AreOne, can_receive, one_delivered, one_edited}
 use Rattle.st_trace.proofs.Meanings.{meant_of}
 use Rattle.st_trace.proofs.Stepping.{sound_client, start_of}
 
@@ -90,6 +90,14 @@ next_edited h w i c q c' word f D a at_c at_q shown done =
 delivered_on : (D : Document) (c c' : Client) (o : Option Entry) (a : Answer) → IsDeliveredTo D c o c' a → GoesOn c c'
 delivered_on D c c' None a is = goes_as c c c' (stays c) (sym is.0)
 delivered_on D c c' (Some e) a is = goes_as c (taken e c) c' (record { session = refl; ids = omega arith }) (sym is.2)
+
+-- the next entry, if there is one, can be received
+pub can_deliver : (w : World) (i : ℕ) (c : Client) (k : Kept) → IsSound w → slice_get w.lists.clients i ≡ Some c → slice_get w.kept i ≡ Some k → IfSome (slice_get w.lists.log c.received) (CanReceive c k)
+can_deliver w i c k s at_c at_k = go (slice_get w.lists.log c.received) refl
+  where
+    go : (o : Option Entry) → slice_get w.lists.log c.received ≡ o → IfSome o (CanReceive c k)
+    go None at = tt
+    go (Some e) at = can_receive (header_view w.header) (start_of w w.steps s) w.lists.log c k e (one_at w i c k s at_c at_k) s.few_names at
 
 pub sound_delivered : (w : World) (i : ℕ) (c c' : Client) (k k' : Kept) (D : Document) (a : Answer) → IsSound w → slice_get w.lists.clients i ≡ Some c → slice_get w.kept i ≡ Some k
     → IsDeliveredTo D c (slice_get w.lists.log c.received) c' a → HasMoved c k (slice_get w.lists.log c.received) k'

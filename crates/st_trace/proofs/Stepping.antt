@@ -285,3 +285,15 @@ next_unsent w i c q at_c at_q none =
     let same : c ≡ q = cc in
     let empty : q.queue ≡ [] = rw (← same) none in
     rw empty refl
+
+-- a text that is sent passes no limit
+pub text_within : (w : World) (i : ℕ) (c d : Client) (q : Queued) (rest : List Queued) (made : ℕ) (o : Option ℕ) (l : Option Limit) → slice_get w.lists.clients i ≡ Some c → slice_get w.lists.clients i ≡ Some d → d.queue ≡ q ∷ rest
+    → o ≡ option_map (λ (q : Queued). min (names_made q.intent) (2 ^ 64 - 1)) (slice_get c.queue 0) → o ≡ Some made → l ≡ log_limit_passed w.lists.log made → l ≡ None
+    → (length w.lists.log < 65535) × (names_in (commits_in w.lists.log) + names_made q.intent ≤ 131072)
+text_within w i c d q rest made o l at_c at_d is waits some limit none =
+    let same : c ≡ d = cc in
+    let queue : c.queue ≡ q ∷ rest = ap (λ (x : Client). x.queue) same ∙ is in
+    let first : option_map (λ (q : Queued). min (names_made q.intent) (2 ^ 64 - 1)) (slice_get c.queue 0) ≡ Some (min (names_made q.intent) (2 ^ 64 - 1)) = rw queue refl in
+    let both : Some made ≡ Some (min (names_made q.intent) (2 ^ 64 - 1)) = sym some ∙ waits ∙ first in
+    let is_made : made ≡ min (names_made q.intent) (2 ^ 64 - 1) = cc in
+    within_log w.lists.log (names_made q.intent) (sym (limit_stopped w.lists.log (names_made q.intent)) ∙ ap (log_limit_passed w.lists.log) (sym is_made) ∙ sym limit ∙ none)
