@@ -10,3 +10,4 @@ pub mod Stepping
 pub mod Turning
 pub mod Receiving
 pub mod Acting
+pub mod Choosing

@@ -1,6 +1,7 @@
 //! The world of a trace: the log, the clients and what each of them shows.
 #![tactic(auto)]
 
+mod changes;
 mod client;
 mod kept;
 mod lists;

@@ -1,5 +1,5 @@
 //! The world: its lists, and the documents and numbers that its answers are read off.
-ghost use Rattle.std.specs.Prelude.{◌≡◌, ◌↔◌, ◌+◌, ◌-◌, ◌^◌, ◌<◌, ◌≤◌, true, false, length, [], Some, slice_get, IfOk, OnOk, IsErrOf};
+ghost use Rattle.std.specs.Prelude.{◌≡◌, ◌↔◌, ◌+◌, ◌-◌, ◌^◌, ◌<◌, ◌≤◌, true, false, length, [], None, Some, slice_get, IfOk, OnOk, IsErrOf};
 ghost use Rattle.st_marks.specs.declared.verdicts.Verdict.{Verdict as Outcome};
 ghost use Rattle.st_marks.specs.Document.{IsSoundInForm};
 ghost use Rattle.st_marks.specs.Intent.{Fits};
@@ -15,20 +15,21 @@ ghost use Rattle.st_trace.specs.Kept.{IsHeader, IsSound, IsSoundNext};
 ghost use Rattle.st_trace.specs.Known.{AreKnown};
 ghost use Rattle.st_trace.specs.Log.{entered, minimum};
 ghost use Rattle.st_trace.specs.declared.lists.Body.TheVariants.{Commit};
-ghost use Rattle.st_tree.specs.declared.edit.Edit.{Edit as TreeEdit};
+ghost use Rattle.st_trace.specs.Changes.{change_of};
 ghost use Rattle.st_trace.specs.declared.lists.Client.{Client as Present};
 
+use crate::changes::change_in;
 use crate::client::{self, Done};
 use crate::kept::Kept;
 use crate::lists::{Body, Client, Lists, Queued};
 use crate::log::{enter, least_known};
 use crate::names::names_made;
 use st_doc::Doc;
-use st_ids::{Copied, Key, Limit, LimitOf, List, Or, Path, Text};
+use st_ids::{Copied, Limit, LimitOf, List, Or, Text};
 use st_marks::Intent;
 use st_schema::{Form, Header, Schema};
 use st_script::{Answer, Refusal, TraceStep};
-use st_tree::{Edit, Tree};
+use st_tree::Edit;
 use std::alloc::{AllocError, Global};
 use std::collections::BTreeMap;
 
@@ -97,94 +98,6 @@ fn array_types(alloc: Global, schema: &Schema) -> Result<List<Text>, AllocError>
         i += 1;
     }
     Ok(types)
-}
-
-// An edit of the tree, from the parts of a step: new items.
-fn insertion(
-    alloc: Global,
-    at: &Path,
-    key: &Key,
-    index: u32,
-    items: &List<Tree>,
-) -> Result<Edit, AllocError>
-    ensures { IfOk result (λ e. e ≡ TreeEdit.Insert at.now key.now index items.now) }
-{
-    let at = at.copy(alloc)?;
-    let key = key.copy(alloc)?;
-    let items = items.copy(alloc)?;
-    Ok(Edit::Insert {
-        at,
-        key,
-        index,
-        items,
-    })
-}
-
-// Items that go.
-fn removal(
-    alloc: Global,
-    at: &Path,
-    key: &Key,
-    index: u32,
-    count: u32,
-) -> Result<Edit, AllocError>
-    ensures { IfOk result (λ e. e ≡ TreeEdit.Remove at.now key.now index count) }
-{
-    let at = at.copy(alloc)?;
-    let key = key.copy(alloc)?;
-    Ok(Edit::Remove {
-        at,
-        key,
-        index,
-        count,
-    })
-}
-
-// Items that go elsewhere.
-fn relocation(
-    alloc: Global,
-    at: &Path,
-    key: &Key,
-    index: u32,
-    count: u32,
-    to: &Path,
-    to_key: &Key,
-    to_index: u32,
-) -> Result<Edit, AllocError>
-    ensures { IfOk result (λ e. e ≡ TreeEdit.Move at.now key.now index count to.now to_key.now to_index) }
-{
-    let at = at.copy(alloc)?;
-    let key = key.copy(alloc)?;
-    let to = to.copy(alloc)?;
-    let to_key = to_key.copy(alloc)?;
-    Ok(Edit::Move {
-        at,
-        key,
-        index,
-        count,
-        to,
-        to_key,
-        to_index,
-    })
-}
-
-// A new tree in a field.
-fn placement(alloc: Global, at: &Path, key: &Key, item: &Tree) -> Result<Edit, AllocError>
-    ensures { IfOk result (λ e. e ≡ TreeEdit.Put at.now key.now item.now) }
-{
-    let at = at.copy(alloc)?;
-    let key = key.copy(alloc)?;
-    let item = item.copy(alloc)?;
-    Ok(Edit::Put { at, key, item })
-}
-
-// A field that is emptied.
-fn clearance(alloc: Global, at: &Path, key: &Key) -> Result<Edit, AllocError>
-    ensures { IfOk result (λ e. e ≡ TreeEdit.Clear at.now key.now) }
-{
-    let at = at.copy(alloc)?;
-    let key = key.copy(alloc)?;
-    Ok(Edit::Clear { at, key })
 }
 
 impl World {
@@ -399,6 +312,34 @@ impl World {
         place_of(self.lists.clients.as_slice(), name.as_str())
     }
 
+    // Makes a step that is no edit.
+    fn answer_plain(
+        &mut self,
+        alloc: Global,
+        i: usize,
+        step: &TraceStep,
+    ) -> Result<Answer, AllocError>
+        requires sound { IsSound self.old }
+        requires few { self.old.steps + 1 < 2 ^ 32 }
+        requires plain { change_of step.now ≡ None }
+        ensures next { IfOk result (λ a. (c : Present) → slice_get self.old.lists.clients i ≡ Some c
+            → IsNextOf (header_view self.old.header) self.old.lists (step_view step.now) i c self.new.lists a) }
+        ensures sound { OnOk result (IsSoundNext self.new) }
+        ensures steps { OnOk result (self.new.steps ≡ self.old.steps) }
+        ensures header { OnOk result (self.new.header ≡ self.old.header) }
+        ensures spent { self.new.spent ≡ self.old.spent }
+    {
+        match step {
+            TraceStep::Join { client } => self.join(alloc, client),
+            TraceStep::Sequence { .. } => self.sequence(alloc, i),
+            TraceStep::Deliver { .. } => self.deliver(alloc, i),
+            _ => {
+                let answer = self.show(alloc, i)?;
+                Ok(answer)
+            }
+        }
+    }
+
     // Makes a step of the client at a place, on the main branch.
     fn answer_at(&mut self, alloc: Global, i: usize, step: &TraceStep) -> Result<Answer, AllocError>
         requires sound { IsSound self.old }
@@ -411,55 +352,9 @@ impl World {
         ensures header { OnOk result (self.new.header ≡ self.old.header) }
         ensures spent { self.new.spent ≡ self.old.spent }
     {
-        match step {
-            TraceStep::Join { client } => self.join(alloc, client),
-            TraceStep::Insert {
-                at,
-                key,
-                index,
-                items,
-                ..
-            } => {
-                let edit = insertion(alloc, at, key, *index, items)?;
-                self.edit(alloc, i, Done::Insert, &edit)
-            }
-            TraceStep::Remove {
-                at,
-                key,
-                index,
-                count,
-                ..
-            } => {
-                let edit = removal(alloc, at, key, *index, *count)?;
-                self.edit(alloc, i, Done::Remove, &edit)
-            }
-            TraceStep::Move {
-                at,
-                key,
-                index,
-                count,
-                to,
-                to_key,
-                to_index,
-                ..
-            } => {
-                let edit = relocation(alloc, at, key, *index, *count, to, to_key, *to_index)?;
-                self.edit(alloc, i, Done::Move, &edit)
-            }
-            TraceStep::Set { at, key, item, .. } => {
-                let edit = placement(alloc, at, key, item)?;
-                self.edit(alloc, i, Done::Set, &edit)
-            }
-            TraceStep::Clear { at, key, .. } => {
-                let edit = clearance(alloc, at, key)?;
-                self.edit(alloc, i, Done::Clear, &edit)
-            }
-            TraceStep::Sequence { .. } => self.sequence(alloc, i),
-            TraceStep::Deliver { .. } => self.deliver(alloc, i),
-            TraceStep::Show { .. } => {
-                let answer = self.show(alloc, i)?;
-                Ok(answer)
-            }
+        match change_in(alloc, step)? {
+            Some(change) => self.edit(alloc, i, change.done, &change.edit),
+            None => self.answer_plain(alloc, i, step),
         }
     }
 
