@@ -1,6 +1,7 @@
 -- Which step is which.
-use Rattle.std.proofs.Common.{◌≡◌, ℕ, List, Option, Some, None, refl, sym, ap, subst}
+use Rattle.std.proofs.Common.{◌≡◌, ℕ, List, Option, Some, None, Result, Ok, Err, refl, sym, ap, subst}
 use Rattle.st_tree.specs.declared.edit.Edit.{Edit}
+use Rattle.std.specs.Result.{IfOk}
 use Rattle.st_resolve.specs.Resolve.{IsWithin, resolve}
 use Rattle.st_script.specs.Header.{HeaderView}
 use Rattle.st_script.specs.Steps.{IsOfForm, step_view}
@@ -13,6 +14,11 @@ use Rattle.st_trace.specs.declared.changes.Change.{Change}
 use Rattle.st_trace.specs.declared.client.Done.TheVariants as done
 use Rattle.st_trace.specs.declared.lists.Client.{Client}
 use Rattle.st_trace.specs.declared.lists.Lists.{Lists}
+
+-- what holds of a result's value, and what follows from it
+pub if_ok_as : {A E : Type 0} (r : Result A E) (P Q : A → Type 0) → ((a : A) → P a → Q a) → IfOk r P → IfOk r Q
+if_ok_as (Ok a) P Q f p = f a p
+if_ok_as (Err e) P Q f p = tt
 
 abbrev IsMeant : HeaderView → Lists → ℕ → Client → Lists → Answer → Change → Type 0
 IsMeant h w i c v a p = IsEdited h w i c p.done (λ D. resolve D h.schema (given c) p.edit) v a

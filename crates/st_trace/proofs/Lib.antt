@@ -11,3 +11,4 @@ pub mod Turning
 pub mod Receiving
 pub mod Acting
 pub mod Choosing
+pub mod Arrays

@@ -89,9 +89,10 @@ fn is_array(schema: &Schema, name: &Text) -> bool
 fn array_types(alloc: Global, schema: &Schema) -> Result<List<Text>, AllocError>
     ensures { IfOk result (λ types. is_among types ≡ is_array_type schema.now) }
 {
+    schema.is_kept();
     let mut types = List::new(alloc);
     let mut i = 0;
-    while let Some(name) = schema.name_at(i) {
+    'types: while let Some(name) = schema.name_at(i) {
         if is_array(schema, name) {
             types.push(name.copy(alloc)?)?;
         }
