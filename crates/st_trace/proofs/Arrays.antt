@@ -53,16 +53,16 @@ defined es i name e = go (slice_get es i) refl e
 
 pub array_more : (s : SchemaView) (i : ℕ) (name : List ℕ) (types : List (List ℕ)) → Some name ≡ option_map (λ (d : List ℕ × Form). d.0) (slice_get s.types i) → is_array_type s name ≡ true → types ≡ arrays_before s i
     → types ++ name ∷ [] ≡ arrays_before s (i + 1)
-array_more s i name types e yes is =
+array_more s i name types e has is =
     let d = defined s.types i name e in
-    let one : filter (is_array_type s) (d.0.0 ∷ []) ≡ name ∷ [] = ap (λ n. filter (is_array_type s) (n ∷ [])) d.2 ∙ rw yes refl in
+    let one : filter (is_array_type s) (d.0.0 ∷ []) ≡ name ∷ [] = ap (λ n. filter (is_array_type s) (n ∷ [])) d.2 ∙ rw has refl in
     (λ j. is j ++ name ∷ []) ∙ sym (next_type s i d.0 d.1 ∙ ap (λ l. arrays_before s i ++ l) one)
 
 pub array_none : (s : SchemaView) (i : ℕ) (name : List ℕ) (types : List (List ℕ)) → Some name ≡ option_map (λ (d : List ℕ × Form). d.0) (slice_get s.types i) → is_array_type s name ≡ false → types ≡ arrays_before s i
     → types ≡ arrays_before s (i + 1)
-array_none s i name types e no is =
+array_none s i name types e lacks is =
     let d = defined s.types i name e in
-    let one : filter (is_array_type s) (d.0.0 ∷ []) ≡ [] = ap (λ n. filter (is_array_type s) (n ∷ [])) d.2 ∙ rw no refl in
+    let one : filter (is_array_type s) (d.0.0 ∷ []) ≡ [] = ap (λ n. filter (is_array_type s) (n ∷ [])) d.2 ∙ rw lacks refl in
     is ∙ sym (next_type s i d.0 d.1 ∙ ap (λ l. arrays_before s i ++ l) one ∙ append_none (arrays_before s i))
   where
     append_none : (xs : List (List ℕ)) → xs ++ [] ≡ xs
@@ -81,15 +81,15 @@ length_map : {A B : Type 0} (f : A → B) (xs : List A) → length (map f xs) �
 length_map f [] = refl
 length_map f (x ∷ xs) = ap suc (length_map f xs)
 
+few_names : (names : List (List ℕ)) (b : Bool) → nat_le (length names) 256 ≡ b → b ≡ true → length names ≤ 256
+few_names names b is holds = grind (arith, nat_tests)
+
+-- a sound schema has at most 256 definitions
 pub few_types : (s : SchemaView) → is_sound s ≡ true → length s.types ≤ 256
 few_types s h =
     let names = map (λ (d : List ℕ × Form). d.0) s.types in
-    let test : nat_le (length names) 256 ≡ true = (both_true (nat_le (length names) 256) _ (both_true _ _ h).0).0 in
-    let size : length names ≡ length s.types = length_map (λ (d : List ℕ × Form). d.0) s.types in
-    few names test size
-  where
-    few : (names : List (List ℕ)) → nat_le (length names) 256 ≡ true → length names ≡ length s.types → length s.types ≤ 256
-    few names test size = grind (arith, nat_tests)
+    let test = (both_true (nat_le (length names) 256) _ (both_true _ _ h).0).0 in
+    omega (arith, few_names names (nat_le (length names) 256) refl test, length_map (λ (d : List ℕ × Form). d.0) s.types)
 
 past : {X : Type 0} (xs : List X) (i : ℕ) → slice_get xs i ≡ None → length xs ≤ i
 past [] i e = omega arith
