@@ -1,23 +1,21 @@
 -- The world after an edit and after a delivery.
-use Rattle.std.proofs.Common.{◌≡◌, ◌≤◌, ◌<◌, ◌+◌, ℕ, List, ◌∷◌, length, Option, Some, None, IfSome, Result, Ok, Err, refl, sym, ap, ◌∙◌, subst, arith}
+use Rattle.std.proofs.Common.{◌≡◌, ◌≤◌, ◌+◌, ℕ, List, Option, Some, None, IfSome, Result, Ok, Err, refl, sym, ap, subst, arith}
 use Rattle.std.specs.List.{slice_get, slice_set}
 use Rattle.st_ids.specs.declared.names.Limit.{Limit}
 use Rattle.st_tree.specs.declared.edit.Edit.{Edit}
 use Rattle.st_tree.specs.declared.edit.EditFault.{EditFault}
-use Rattle.st_tree.specs.Preorder.{cell_named, node_named}
 use Rattle.st_marks.specs.declared.intents.Intent.{Intent}
-use Rattle.st_marks.specs.Document.{Document, IsSoundInForm}
+use Rattle.st_marks.specs.Document.{Document}
 use Rattle.st_marks.specs.LiveTree.{IsTreeText}
 use Rattle.st_doc.specs.Doc.{document_of}
 use Rattle.st_doc.specs.LiveText.{is_among}
-use Rattle.st_resolve.specs.ArrayTypes.{is_array_type}
 use Rattle.st_resolve.specs.Resolve.{resolve}
 use Rattle.st_resolve.proofs.Resolved.{resolved_fits}
 use Rattle.st_script.specs.Header.{HeaderView, header_view}
 use Rattle.st_script.specs.declared.answer.Answer.{Answer}
 use Rattle.st_script.specs.declared.answer.Answer.TheVariants.{Show}
 use Rattle.st_trace.specs.Kept.{CanReceive, HasMoved, IsEditedKept, IsSound, IsSoundAfter}
-use Rattle.st_trace.specs.World.{HasReceived, HasShown, IsDelivered, IsDeliveredTo, IsEdited, IsShown, edited, given, limit_passed, next_rev, pends, taken, with_client}
+use Rattle.st_trace.specs.World.{HasReceived, HasShown, IsDelivered, IsDeliveredTo, IsEdited, IsShown, edited, given, limit_passed, pends, taken, with_client}
 use Rattle.st_trace.specs.declared.client.Done.{Done}
 use Rattle.st_trace.specs.declared.kept.Kept.{Kept}
 use Rattle.st_trace.specs.declared.lists.Client.{Client}
@@ -70,12 +68,12 @@ sound_edited w i c c' k k' word edit a s at_c at_k done kept =
     let on = edited_on c c' word r a done in
     sound_client w i c c' k' s at_c
     (one_edited h st w.lists.log c c' k k' word r a one s.few_names (λ N e.
-        let m = meant_of D w.header.schema (given c) edit N e in (
-          resolved_fits D w.header.schema (given c) edit N (shown_sound h st w.lists.log c D one.client one.kept.shown) s.header.schema
-              (λ j low. fresh_nodes h st w.lists.log c D one.client one.kept.shown j) (λ j low. fresh_cells h st w.lists.log c D one.client one.kept.shown j) e,
-          m.0,
-          m.1,
-        )) done kept)
+    let m = meant_of D w.header.schema (given c) edit N e in (
+      resolved_fits D w.header.schema (given c) edit N (shown_sound h st w.lists.log c D one.client one.kept.shown) s.header.schema
+          (λ j low. fresh_nodes h st w.lists.log c D one.client one.kept.shown j) (λ j low. fresh_cells h st w.lists.log c D one.client one.kept.shown j) e,
+      m.0,
+      m.1,
+    )) done kept)
     on.session on.ids
 
 -- what a client does with the document that is kept, it does with one that it shows

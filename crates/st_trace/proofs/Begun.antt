@@ -1,12 +1,11 @@
 -- The opening document: it is sound in form, its names are the opening's, and its rows are short.
-use Rattle.std.proofs.Common.{◌≡◌, ℕ, ◌+◌, ◌<◌, ◌≤◌, ◌^◌, ◌&&◌, Bool, true, false, cond, List, [], ◌∷◌, ◌++◌, length, length-append, Option, Some, None, IsSome, refl, sym, ap, ◌∙◌, arith, inl, inr, nat_lt, not, Result, Ok, Err, is_ok}
+use Rattle.std.proofs.Common.{◌≡◌, ℕ, ◌+◌, ◌≤◌, Bool, true, false, cond, List, [], ◌∷◌, ◌++◌, length, length-append, Option, Some, None, IsSome, refl, sym, ap, ◌∙◌, arith, inl, inr, nat_lt, not, Result, Ok, Err, is_ok}
 use Rattle.std.specs.List.{filter_map, cons_option, AllByRecursion, list_all, position_from}
 use Rattle.std.specs.Option.{option_or}
 use Rattle.std.proofs.lemmas.Bool.Decides.{nat_tests}
 use Rattle.serde_json.specs.Written.{compact_text}
 use Rattle.st_ids.specs.Listing.{Has}
 use Rattle.st_ids.specs.Order.{same_node}
-use Rattle.st_ids.specs.declared.names.CellId.{CellId}
 use Rattle.st_ids.specs.declared.names.NodeId.{NodeId}
 use Rattle.st_ids.specs.declared.names.Rev.{Rev}
 use Rattle.st_ids.proofs.Orders.{same_node-true}
@@ -21,11 +20,10 @@ use Rattle.st_tree.specs.declared.limits.TreeFault.TheVariants.{TooDeep, TooMany
 use Rattle.st_tree.specs.Node.{Node, node, Fields, no_fields, field, Nodes, no_nodes, first}
 use Rattle.st_tree.specs.Form.{has_form}
 use Rattle.st_tree.specs.Size.{node_count, field_count, item_count, height, check_of}
-use Rattle.st_tree.specs.Preorder.{node_named, cell_named, cells_taken, cell_count, item_cells, at_of, listed, fields_listed, items_listed, opening_listed}
+use Rattle.st_tree.specs.Preorder.{cells_taken, cell_count, item_cells, at_of, listed, fields_listed, items_listed, opening_listed}
 use Rattle.st_schema.specs.Schema.{SchemaView}
-use Rattle.st_schema.specs.Conforms.{verdicts, conforms, refusal, allows_of}
+use Rattle.st_schema.specs.Conforms.{verdicts, refusal, allows_of}
 use Rattle.st_schema.specs.Written.{schema_data}
-use Rattle.st_schema.specs.declared.names.NotAllowed.{NotAllowed}
 use Rattle.st_schema.proofs.AllowedForm.{conforming_formed}
 use Rattle.st_doc.specs.Start.{first_said, type_at, cell_at, start_of}
 use Rattle.st_doc.proofs.StartSound.{start_sound}

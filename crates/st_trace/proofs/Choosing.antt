@@ -1,10 +1,10 @@
 -- Which step is which.
-use Rattle.std.proofs.Common.{◌≡◌, ℕ, List, Option, Some, None, Result, Ok, Err, refl, sym, ap, subst}
+use Rattle.std.proofs.Common.{◌≡◌, ℕ, List, Option, Some, None, Result, Ok, Err, refl, sym, subst}
 use Rattle.st_tree.specs.declared.edit.Edit.{Edit}
 use Rattle.std.specs.Result.{IfOk}
 use Rattle.st_resolve.specs.Resolve.{IsWithin, resolve}
 use Rattle.st_script.specs.Header.{HeaderView}
-use Rattle.st_script.specs.Steps.{IsOfForm, step_view}
+use Rattle.st_script.specs.Steps.{IsOfForm, step_view, join}
 use Rattle.st_script.specs.declared.answer.Answer.{Answer}
 use Rattle.st_script.specs.declared.step.TraceStep.{TraceStep}
 use Rattle.st_script.specs.declared.step.TraceStep.TheVariants as step
@@ -54,12 +54,24 @@ within_change (step.Show client branch) p e f = cc
 -- the rest is what is shown
 pub next_show : (h : HeaderView) (w : Lists) (i : ℕ) (c : Client) (a : Answer) (s : TraceStep) → change_of s ≡ None → ((client : List ℕ) → s ≡ step.Join client → ⊥) → ((client : List ℕ) → s ≡ step.Sequence client → ⊥)
     → ((client : List ℕ) → s ≡ step.Deliver client → ⊥) → IsShown h w c a → IsNextOf h w (step_view s) i c w a
-next_show h w i c a (step.Join client) none join sequence deliver shown = absurd (join client refl)
-next_show h w i c a (step.Insert client branch at key index items) none join sequence deliver shown = cc
-next_show h w i c a (step.Remove client branch at key index count) none join sequence deliver shown = cc
-next_show h w i c a (step.Move client branch at key index count to to_key to_index) none join sequence deliver shown = cc
-next_show h w i c a (step.Set client branch at key item) none join sequence deliver shown = cc
-next_show h w i c a (step.Clear client branch at key) none join sequence deliver shown = cc
-next_show h w i c a (step.Sequence client) none join sequence deliver shown = absurd (sequence client refl)
-next_show h w i c a (step.Deliver client) none join sequence deliver shown = absurd (deliver client refl)
-next_show h w i c a (step.Show client branch) none join sequence deliver shown = (refl, shown)
+next_show h w i c a (step.Join client) none no_join no_sequence no_deliver shown = absurd (no_join client refl)
+next_show h w i c a (step.Insert client branch at key index items) none no_join no_sequence no_deliver shown = cc
+next_show h w i c a (step.Remove client branch at key index count) none no_join no_sequence no_deliver shown = cc
+next_show h w i c a (step.Move client branch at key index count to to_key to_index) none no_join no_sequence no_deliver shown = cc
+next_show h w i c a (step.Set client branch at key item) none no_join no_sequence no_deliver shown = cc
+next_show h w i c a (step.Clear client branch at key) none no_join no_sequence no_deliver shown = cc
+next_show h w i c a (step.Sequence client) none no_join no_sequence no_deliver shown = absurd (no_sequence client refl)
+next_show h w i c a (step.Deliver client) none no_join no_sequence no_deliver shown = absurd (no_deliver client refl)
+next_show h w i c a (step.Show client branch) none no_join no_sequence no_deliver shown = (refl, shown)
+
+-- a step that is no join is none to contracts
+pub no_join : (s : TraceStep) → ((client : List ℕ) → s ≡ step.Join client → ⊥) → (name : List ℕ) → step_view s ≡ join name → ⊥
+no_join (step.Join client) other name e = other client refl
+no_join (step.Insert client branch at key index items) other name e = cc
+no_join (step.Remove client branch at key index count) other name e = cc
+no_join (step.Move client branch at key index count to to_key to_index) other name e = cc
+no_join (step.Set client branch at key item) other name e = cc
+no_join (step.Clear client branch at key) other name e = cc
+no_join (step.Sequence client) other name e = cc
+no_join (step.Deliver client) other name e = cc
+no_join (step.Show client branch) other name e = cc

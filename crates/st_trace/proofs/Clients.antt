@@ -1,11 +1,10 @@
 -- What holds of a client's lists after each of its steps, and after those of others.
-use Rattle.std.proofs.Common.{◌≡◌, ◌≢◌, ◌≤◌, ◌<◌, ◌+◌, ◌==◌, ℕ, zero, suc, Bool, true, false, cond, ◌&&◌, List, [], ◌∷◌, ◌++◌, length, take, drop, map, filter, Option, Some, None, IsSome, is_some, refl, sym, ap, ◌∙◌, subst, arith, append_assoc, length-append, ◌⊎◌, inl, inr}
+use Rattle.std.proofs.Common.{◌≡◌, ◌≢◌, ◌≤◌, ◌<◌, ◌+◌, ◌==◌, ℕ, zero, suc, true, false, List, [], ◌∷◌, ◌++◌, length, take, drop, Option, Some, None, is_some, refl, sym, ap, ◌∙◌, subst, arith, append_assoc, length-append, ◌⊎◌, inl, inr}
 use Rattle.std.specs.List.{slice_get, AllByRecursion}
 use Rattle.std.proofs.lemmas.Bool.Decides.{nat_tests}
 use Rattle.std.proofs.lemmas.List.{append-nil, take_all}
 use Rattle.std.proofs.lemmas.Option.{slice_get_within}
-use Rattle.st_ids.specs.Listing.{AreDistinct, Has}
-use Rattle.st_ids.specs.declared.names.CellId.{CellId}
+use Rattle.st_ids.specs.Listing.{Has}
 use Rattle.st_ids.specs.declared.names.NodeId.{NodeId}
 use Rattle.st_ids.specs.declared.names.Rev.{Rev}
 use Rattle.st_tree.specs.Preorder.{cell_named, node_named}
@@ -13,19 +12,17 @@ use Rattle.st_marks.specs.declared.intents.Intent.{Intent}
 use Rattle.st_marks.specs.Document.{Document, NodeType, IsSoundInForm, opening, owned}
 use Rattle.st_marks.specs.Extends.{done, gained, kept}
 use Rattle.st_marks.specs.Intent.{Fits}
-use Rattle.st_marks.specs.Run.{Run}
 use Rattle.st_marks.proofs.Members.{all-has, has-all, append_left, append_right, has-append, has-map, map-has, distinct-append, distinct-between}
-use Rattle.st_commits.specs.Names.{HaveNewRevisions, IsMadeUnder, revisions}
+use Rattle.st_commits.specs.Names.{HaveNewRevisions, revisions}
 use Rattle.st_commits.specs.Turns.{FitInTurn, HasRoom, IsSublist}
 use Rattle.st_commits.proofs.Turns.{front, then_one, turn_extends, made_in_run}
 use Rattle.st_commits.proofs.Room.{room_in_run}
-use Rattle.st_commits.proofs.Shorter.{sublist_itself, sublist_none, sublist_joined, new_shorter}
+use Rattle.st_commits.proofs.Shorter.{sublist_itself, sublist_joined, new_shorter}
 use Rattle.st_commits.proofs.Beside.{another_later, later_fits, one_fits}
 use Rattle.st_script.specs.Header.{HeaderView}
 use Rattle.st_trace.specs.Kept.{IsClient, commits_by, intents_of, sent}
 use Rattle.st_trace.specs.Log.{commit_of, commits_in, entered}
 use Rattle.st_trace.specs.World.{HasReceived, HasShown, committed, joined, names_in, names_made, next_rev, opened, received_by}
-use Rattle.st_trace.specs.declared.lists.Body.{Body}
 use Rattle.st_trace.specs.declared.lists.Body.TheVariants.{Join, Commit}
 use Rattle.st_trace.specs.declared.lists.Client.{Client}
 use Rattle.st_trace.specs.declared.lists.Entry.{Entry}

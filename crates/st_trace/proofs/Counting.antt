@@ -1,10 +1,8 @@
 -- How many names and cells lists of commits make.
-use Rattle.std.proofs.Common.{◌≡◌, ◌≤◌, ◌<◌, ◌+◌, ◌^◌, ℕ, List, [], ◌∷◌, ◌++◌, length, refl, ap, arith}
-use Rattle.st_ids.specs.declared.names.NodeId.{NodeId}
+use Rattle.std.proofs.Common.{◌≡◌, ◌≤◌, ◌+◌, List, [], ◌∷◌, ◌++◌, ap, arith}
 use Rattle.st_marks.specs.declared.intents.Intent.{Intent}
 use Rattle.st_marks.specs.Document.{Document}
 use Rattle.st_marks.specs.Extends.{done, gained, kept}
-use Rattle.st_marks.specs.Intent.{group_cells}
 use Rattle.st_commits.specs.Turns.{IsSublist, HasRoom, cells_made}
 use Rattle.st_trace.specs.World.{names_made, names_in}
 use Rattle.st_trace.proofs.Begun.{IsStart}

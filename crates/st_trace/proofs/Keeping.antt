@@ -1,5 +1,5 @@
 -- What is kept of a client stands for its lists after each of its steps.
-use Rattle.std.proofs.Common.{◌≡◌, ◌≢◌, ◌≤◌, ◌<◌, ◌+◌, ◌-◌, ◌==◌, ℕ, Bool, true, false, cond, List, [], ◌∷◌, ◌++◌, length, take, drop, Option, Some, None, IfSome, is_some, nat_le, nat_lt, Result, Ok, Err, refl, sym, ap, ◌∙◌, subst, arith, append_assoc, length-append}
+use Rattle.std.proofs.Common.{◌≡◌, ◌≤◌, ◌<◌, ◌+◌, ◌==◌, ℕ, Bool, true, false, cond, List, [], ◌∷◌, ◌++◌, length, take, drop, Option, Some, None, IfSome, nat_le, nat_lt, Result, Ok, Err, refl, sym, ap, ◌∙◌, subst, arith, append_assoc}
 use Rattle.std.specs.List.{slice_get}
 use Rattle.std.proofs.lemmas.Bool.Decides.{nat_tests}
 use Rattle.std.proofs.lemmas.List.{append-nil, take_all}
@@ -8,7 +8,7 @@ use Rattle.st_ids.specs.declared.names.LimitOf.TheVariants.{Pending, Unsequenced
 use Rattle.st_tree.specs.declared.edit.EditFault.{EditFault}
 use Rattle.st_marks.specs.declared.intents.Intent.{Intent}
 use Rattle.st_marks.specs.declared.verdicts.Verdict.{Verdict}
-use Rattle.st_marks.specs.Document.{Document, IsSoundInForm}
+use Rattle.st_marks.specs.Document.{Document}
 use Rattle.st_marks.specs.Intent.{Fits}
 use Rattle.st_marks.specs.Run.{Run, done as nothing, next}
 use Rattle.st_marks.specs.Verdict.{IsVerdict, carried}
@@ -19,20 +19,19 @@ use Rattle.st_doc.specs.Doc.{document_of}
 use Rattle.st_doc.specs.declared.doc.Doc.{Doc}
 use Rattle.st_script.specs.Header.{HeaderView}
 use Rattle.st_script.specs.declared.answer.Answer.{Answer}
-use Rattle.st_trace.specs.Kept.{IsClient, IsKept, IsCommitted, IsPending, IsEditedKept, CanReceive, CanCarry, HasCarried, HasMoved, HasReceivedNext, HasReceivedOf, HasReceivedOne, HasShownAfter, commits_by, intents_of}
+use Rattle.st_trace.specs.Kept.{IsClient, IsKept, IsCommitted, IsPending, IsEditedKept, CanReceive, CanCarry, HasMoved, HasReceivedNext, HasReceivedOf, HasReceivedOne}
 use Rattle.st_trace.specs.Log.{commit_of, commits_in, entered}
-use Rattle.st_trace.specs.World.{HasReceived, HasShown, IsDeliveredTo, IsVerdictOf, committed, edited, joined, limit_passed, names_in, names_made, next_rev, opened, pending_after, pends, received_by, taken}
+use Rattle.st_trace.specs.World.{IsDeliveredTo, committed, edited, joined, limit_passed, names_in, names_made, next_rev, opened, pending_after, pends, received_by, taken}
 use Rattle.st_trace.specs.declared.client.Done.{Done}
 use Rattle.st_trace.specs.declared.kept.Kept.{Kept}
 use Rattle.st_trace.specs.declared.lists.Body.{Body}
-use Rattle.st_trace.specs.declared.lists.Body.TheVariants.{Join}
 use Rattle.st_trace.specs.declared.lists.Client.{Client}
 use Rattle.st_trace.specs.declared.lists.Entry.{Entry}
 use Rattle.st_trace.specs.declared.lists.Queued.{Queued}
 use Rattle.st_trace.proofs.Begun.{IsStart}
 use Rattle.st_trace.proofs.Counting.{names_append}
 use Rattle.st_trace.proofs.Clients.{client_committed, client_own, client_other, client_none, other_fit, own_first, received_more}
-use Rattle.st_trace.proofs.Logs.{one_commit, no_commit, entered_front, last_entry}
+use Rattle.st_trace.proofs.Logs.{one_commit, no_commit, entered_front}
 
 -- one more commit is carried out
 pub run_more : {O D : Document} {Ns : List Intent} (N : Intent) (E : Document) (v : Verdict) → Run O Ns D → IsVerdict D N v → E ≡ carried v D N → Run O (Ns ++ N ∷ []) E

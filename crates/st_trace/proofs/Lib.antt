@@ -2,7 +2,6 @@ pub mod Begun
 pub mod Counting
 pub mod Logs
 pub mod Clients
-pub mod Trial
 pub mod Keeping
 pub mod Meanings
 pub mod Everyone

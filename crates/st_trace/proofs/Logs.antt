@@ -1,21 +1,15 @@
 -- The commits of a log, and those of one session.
-use Rattle.std.proofs.Common.{◌≡◌, ◌≢◌, ◌≤◌, ◌<◌, ◌+◌, ◌==◌, ℕ, zero, suc, Bool, true, false, cond, List, [], ◌∷◌, ◌++◌, length, take, drop, map, filter, Option, Some, None, refl, sym, ap, ◌∙◌, arith, append_assoc}
+use Rattle.std.proofs.Common.{◌≡◌, ◌≤◌, ◌+◌, ◌==◌, ℕ, zero, suc, Bool, true, false, cond, List, [], ◌∷◌, ◌++◌, length, take, drop, filter, Option, Some, None, refl, sym, ap, ◌∙◌, arith}
 use Rattle.std.specs.List.{slice_get, filter_map, cons_option}
-use Rattle.std.proofs.lemmas.Bool.Decides.{nat_tests}
-use Rattle.std.proofs.lemmas.List.{append-nil, take-append-le, drop-append-le, take-append-drop}
+use Rattle.std.proofs.lemmas.List.{take-append-le, drop-append-le, take-append-drop}
 use Rattle.std.proofs.lemmas.List.Elements.{filter_map-append, filter-append}
-use Rattle.std.proofs.lemmas.Option.{slice_get_within}
 use Rattle.st_marks.specs.declared.intents.Intent.{Intent}
 use Rattle.st_marks.specs.Extends.{done, gained, kept}
 use Rattle.st_commits.specs.Turns.{IsSublist}
-use Rattle.st_commits.proofs.Shorter.{sublist_itself, sublist_joined}
-use Rattle.st_trace.specs.Kept.{commits_by, intents_of, sent}
-use Rattle.st_trace.specs.Log.{commit_in, commit_of, commits_in, entered}
-use Rattle.st_trace.specs.World.{received_by}
+use Rattle.st_trace.specs.Kept.{commits_by}
+use Rattle.st_trace.specs.Log.{commit_of, commits_in, entered}
 use Rattle.st_trace.specs.declared.lists.Body.{Body}
-use Rattle.st_trace.specs.declared.lists.Client.{Client}
 use Rattle.st_trace.specs.declared.lists.Entry.{Entry}
-use Rattle.st_trace.specs.declared.lists.Queued.{Queued}
 
 -- ## Lists
 

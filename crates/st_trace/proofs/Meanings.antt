@@ -1,5 +1,5 @@
 -- What an edit means has the revision that was given, and changes no schema.
-use Rattle.std.proofs.Common.{◌≡◌, ℕ, None, Result, Ok, Err, refl, subst, List}
+use Rattle.std.proofs.Common.{◌≡◌, ℕ, None, Result, Ok, refl, subst, List}
 use Rattle.st_ids.specs.declared.names.FieldId.{FieldId}
 use Rattle.st_ids.specs.declared.names.Key.{Key}
 use Rattle.st_ids.specs.declared.names.NodeId.{NodeId}

@@ -1,10 +1,9 @@
 -- What it says that an entry was received, from the steps that receive it.
-use Rattle.std.proofs.Common.{◌≡◌, ◌==◌, ℕ, Bool, true, false, List, [], ◌∷◌, length, Some, refl, sym, ap, ◌∙◌, subst, arith}
+use Rattle.std.proofs.Common.{◌≡◌, ◌==◌, ℕ, Bool, true, false, List, [], ◌∷◌, length, Some, refl, sym, subst, arith}
 use Rattle.st_marks.specs.declared.intents.Intent.{Intent}
 use Rattle.st_marks.specs.declared.verdicts.Verdict.{Verdict}
 use Rattle.st_marks.specs.Document.{Document}
 use Rattle.st_marks.specs.Run.{Run, done}
-use Rattle.st_commits.specs.Turns.{FitInTurn}
 use Rattle.st_doc.specs.Doc.{document_of}
 use Rattle.st_trace.specs.Kept.{CanCarry, CanReceive, HasCarried, HasReceivedNext, HasReceivedOf, HasReceivedOne}
 use Rattle.st_trace.specs.Log.{commit_of}

@@ -1,5 +1,5 @@
 -- The world after a step of one client.
-use Rattle.std.proofs.Common.{◌≡◌, ◌≤◌, ◌<◌, ◌+◌, ◌^◌, ◌-◌, ◌==◌, ℕ, zero, suc, Bool, true, false, cond, min, nat_le, nat_lt, List, [], ◌∷◌, ◌++◌, length, length-append, Option, Some, None, IfSome, Result, Ok, Err, refl, sym, ap, ◌∙◌, subst, arith, append_assoc, inl, inr, ◌⊎◌}
+use Rattle.std.proofs.Common.{◌≡◌, ◌≤◌, ◌<◌, ◌+◌, ◌^◌, ◌-◌, ℕ, zero, suc, Bool, true, false, cond, min, nat_le, nat_lt, List, [], ◌∷◌, ◌++◌, length, length-append, Option, Some, None, IfSome, refl, sym, ap, ◌∙◌, subst, arith, append_assoc, inl, inr}
 use Rattle.std.specs.List.{cons_option, slice_get, slice_set, AllByRecursion}
 use Rattle.std.specs.BTreeMap.{BTreeMap}
 use Rattle.std.specs.Option.{option_map}
@@ -14,11 +14,10 @@ use Rattle.st_ids.specs.declared.names.Limit.{Limit}
 use Rattle.st_ids.specs.declared.names.LimitOf.TheVariants.{Log, Names}
 use Rattle.st_marks.specs.declared.intents.Intent.{Intent}
 use Rattle.st_marks.specs.declared.verdicts.Verdict.{Verdict}
-use Rattle.st_marks.specs.Document.{Document, IsSoundInForm, opening}
+use Rattle.st_marks.specs.Document.{IsSoundInForm, opening}
 use Rattle.st_marks.specs.Intent.{Fits}
 use Rattle.st_marks.specs.Run.{Run}
 use Rattle.st_marks.specs.Verdict.{IsVerdict, carried}
-use Rattle.st_marks.proofs.Members.{has-append}
 use Rattle.st_commits.specs.Names.{HaveNewRevisions}
 use Rattle.st_commits.specs.Turns.{FitInTurn}
 use Rattle.st_commits.proofs.Shorter.{sublist_itself, sublist_joined, sublist_none, new_shorter}
@@ -34,7 +33,7 @@ use Rattle.st_script.specs.Steps as step
 use Rattle.st_trace.specs.Kept.{AreKept, IsClient, IsEntryOf, IsKept, IsSound, IsSoundAfter, intents_of, sent}
 use Rattle.st_trace.specs.Known.{AreKnown}
 use Rattle.st_trace.specs.Log.{commit_of, commits_in, entered}
-use Rattle.st_trace.specs.World.{AtClient, IsNext, IsNextOf, OnBranch, Stays, found, joined, log_limit_passed, names_in, names_made, opened, place_of, sequence}
+use Rattle.st_trace.specs.World.{AtClient, IsNext, IsNextOf, OnBranch, found, joined, log_limit_passed, names_in, names_made, opened, place_of, sequence}
 use Rattle.st_trace.specs.declared.kept.Kept.{Kept}
 use Rattle.st_trace.specs.declared.lists.Body.TheVariants.{Join, Commit}
 use Rattle.st_trace.specs.declared.lists.Client.{Client}
@@ -45,9 +44,9 @@ use Rattle.st_trace.specs.declared.world.World.{World}
 use Rattle.st_trace.proofs.Begun.{IsStart, opened_start}
 use Rattle.st_trace.proofs.Clients.{all_append, client_joined}
 use Rattle.st_trace.proofs.Counting.{names_append}
-use Rattle.st_trace.proofs.Everyone.{all_after_join, all_as, all_get, all_sent, all_set, kept_at, kept_push, kept_set, kept_some, past, session_bound, sessions_push, sessions_set, set_same}
+use Rattle.st_trace.proofs.Everyone.{all_after_join, all_as, all_get, all_sent, all_set, kept_push, kept_set, kept_some, past, session_bound, sessions_push, sessions_set}
 use Rattle.st_trace.proofs.Keeping.{AreOne, kept_joined, run_more}
-use Rattle.st_trace.proofs.Logs.{entered_commits, last_entry, no_commit, one_commit}
+use Rattle.st_trace.proofs.Logs.{entered_commits, last_entry}
 
 abbrev pub start_of : (w : World) (steps : ℕ) → IsSoundAfter steps w → IsStart (opened (header_view w.header))
 start_of w steps s = opened_start (header_view w.header) s.header

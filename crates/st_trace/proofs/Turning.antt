@@ -1,11 +1,10 @@
 -- Commits that fit in turn are carried out one by one.
-use Rattle.std.proofs.Common.{◌≡◌, ◌<◌, ◌≤◌, ◌+◌, ℕ, zero, suc, List, [], ◌∷◌, ◌++◌, length, get_or, take, drop, Some, refl, sym, ap, ◌∙◌, subst, arith}
+use Rattle.std.proofs.Common.{◌≡◌, ◌<◌, ◌≤◌, ◌+◌, ℕ, zero, suc, List, [], ◌∷◌, length, get_or, take, drop, Some, sym, ap, subst, arith}
 use Rattle.std.specs.List.{slice_get}
 use Rattle.std.proofs.lemmas.List.{take_all}
 use Rattle.st_marks.specs.declared.intents.Intent.{Intent}
 use Rattle.st_marks.specs.declared.verdicts.Verdict.{Verdict}
 use Rattle.st_marks.specs.Document.{Document, IsSoundInForm}
-use Rattle.st_marks.specs.Intent.{Fits}
 use Rattle.st_marks.specs.Run.{Run}
 use Rattle.st_marks.specs.Verdict.{IsVerdict, carried}
 use Rattle.st_marks.proofs.OneVerdict.{carried_extends}

@@ -25,7 +25,8 @@ fn insertion(alloc: Global, step: &TraceStep) -> Result<Option<Edit>, AllocError
         index,
         items,
         ..
-    } = step else {
+    } = step
+    else {
         return Ok(None);
     };
     let index = *index;
@@ -50,7 +51,8 @@ fn removal(alloc: Global, step: &TraceStep) -> Result<Option<Edit>, AllocError>
         index,
         count,
         ..
-    } = step else {
+    } = step
+    else {
         return Ok(None);
     };
     let index = *index;
@@ -78,7 +80,8 @@ fn relocation(alloc: Global, step: &TraceStep) -> Result<Option<Edit>, AllocErro
         to_key,
         to_index,
         ..
-    } = step else {
+    } = step
+    else {
         return Ok(None);
     };
     let index = *index;

@@ -7,7 +7,6 @@ mod kept;
 mod lists;
 mod log;
 mod names;
-mod probe;
 mod world;
 
 pub use client::Done;

@@ -215,8 +215,11 @@ impl World {
         ensures known { OnOk result (AreKnown self.new.lists.log self.new.known) }
         ensures head { OnOk result ((v : Outcome) × IsVerdict (document_of self.old.head) intent v × (document_of self.new.head ≡ carried v (document_of self.old.head) intent)) }
         ensures world { OnOk result (self.new ≡ record self.old {
-            lists = record self.old.lists { log = entered self.old.lists.log session (Commit reference intent) };
-            head = self.new.head; known = self.new.known; names = self.old.names + names_made intent }) }
+          lists = record self.old.lists { log = entered self.old.lists.log session (Commit reference intent) };
+          head = self.new.head;
+          known = self.new.known;
+          names = self.old.names + names_made intent;
+        }) }
         ensures spent { self.new.spent ≡ self.old.spent }
     {
         self.names += names_made(&intent);
@@ -286,9 +289,7 @@ impl World {
         enter(&mut self.lists.log, &mut self.known, s, Body::Join)?;
         let n = self.lists.log.len() as u32;
         self.kept.push(client::opened(alloc, &self.head)?)?;
-        self.lists
-            .clients
-            .push(client::joined(alloc, n, s, name)?)?;
+        self.lists.clients.push(client::joined(alloc, n, s, name)?)?;
         Ok(Answer::Join { n, s })
     }
 

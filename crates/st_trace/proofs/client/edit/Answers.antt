@@ -1,6 +1,4 @@
-use Rattle.std.proofs.Common.{◌≡◌, Ok}
 use Rattle.st_doc.specs.Doc.{document_of}
-use Rattle.st_resolve.specs.Resolve.{resolve}
 use Rattle.st_resolve.proofs.Resolved.{resolved_fits}
 use Rattle.st_trace.specs.World.{given}
 use Rattle.st_trace.proofs.client.edit.Goals as goal

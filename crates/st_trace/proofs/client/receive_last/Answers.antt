@@ -1,4 +1,3 @@
-use Rattle.std.proofs.Common.{sym}
 use Rattle.st_doc.specs.Doc.{document_of}
 use Rattle.st_trace.proofs.Keeping.{both_carried}
 use Rattle.st_trace.proofs.client.receive_last.Goals as goal

@@ -1,5 +1,5 @@
 -- the cells of the groups so far, as far as they can be counted
-use Rattle.std.proofs.Common.{◌≡◌, ◌-◌, ◌^◌, ℕ, min, length, take}
+use Rattle.std.proofs.Common.{◌≡◌, ◌-◌, ◌^◌, min, length, take}
 use Rattle.std.specs.List.{flat_map}
 use Rattle.st_marks.specs.declared.intents.Group.{Group}
 use Rattle.st_trace.proofs.names.cells_in.Given as goal

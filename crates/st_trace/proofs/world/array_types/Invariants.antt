@@ -1,6 +1,5 @@
 -- the types so far whose nodes have a row
-use Rattle.std.proofs.Common.{◌≡◌, ◌≤◌, ◌+◌, ◌-◌, length}
-use Rattle.st_schema.specs.Schema.{is_sound}
+use Rattle.std.proofs.Common.{◌≡◌, ◌≤◌, ◌-◌, length}
 use Rattle.st_trace.proofs.Arrays.{arrays_before}
 use Rattle.st_trace.proofs.world.array_types.Given as goal
 

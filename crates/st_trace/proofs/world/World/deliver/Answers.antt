@@ -1,8 +1,6 @@
-use Rattle.std.proofs.Common.{◌≡◌, ◌+◌, Option, Some, None, IfSome, refl, sym, arith}
-use Rattle.std.specs.List.{slice_get}
+use Rattle.std.proofs.Common.{sym, arith}
 use Rattle.st_doc.specs.Doc.{document_of}
 use Rattle.st_script.specs.Header.{header_view}
-use Rattle.st_trace.specs.Kept.{CanReceive}
 use Rattle.st_trace.proofs.Acting.{can_deliver, next_delivered, one_at, sound_delivered}
 use Rattle.st_trace.proofs.Clients.{received_sound}
 use Rattle.st_trace.proofs.Everyone.{kept_none, set_same}

@@ -1,4 +1,4 @@
-use Rattle.std.proofs.Common.{◌+◌, sym, arith}
+use Rattle.std.proofs.Common.{sym, arith}
 use Rattle.st_doc.specs.Doc.{document_of}
 use Rattle.st_resolve.specs.Resolve.{resolve}
 use Rattle.st_script.specs.Header.{header_view}

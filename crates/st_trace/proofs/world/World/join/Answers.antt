@@ -1,7 +1,7 @@
 use Rattle.std.proofs.Common.{◌≡◌, ◌<◌, ◌+◌, [], ◌∷◌, length, length-append, ap, arith}
 use Rattle.st_trace.specs.declared.lists.Body.TheVariants.{Join}
 use Rattle.st_trace.proofs.Logs.{last_entry}
-use Rattle.st_trace.proofs.Stepping.{sound_later, sound_joined}
+use Rattle.st_trace.proofs.Stepping.{sound_joined}
 use Rattle.st_trace.proofs.world.World.join.Goals as goal
 
 pub returns-clause-sound : goal.returns-clause-sound

@@ -1,4 +1,4 @@
-use Rattle.std.proofs.Common.{◌≡◌, ◌+◌, sym, ap, subst}
+use Rattle.std.proofs.Common.{◌+◌, sym, ap, subst}
 use Rattle.st_trace.specs.Kept.{IsSoundAfter}
 use Rattle.st_trace.specs.Known.{AreKnown}
 use Rattle.st_trace.specs.declared.world.World.{World}
