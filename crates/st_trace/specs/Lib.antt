@@ -1,0 +1,5 @@
+pub mod Changes
+pub mod Kept
+pub mod Known
+pub mod Log
+pub mod World

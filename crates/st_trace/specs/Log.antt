@@ -1,0 +1,43 @@
+-- The log: its commits, and what its entries say of how much each session had received.
+use Rattle.std.specs.Prelude.{ℕ, ◌+◌, ◌==◌, min, max, List, [], ◌∷◌, ◌++◌, length, fold, Option, Some, None, if◌then◌else◌}
+use Rattle.std.specs.List.{filter_map}
+use Rattle.st_marks.specs.declared.intents.Intent.{Intent}
+use Rattle.st_trace.specs.declared.lists.Body.{Body}
+use Rattle.st_trace.specs.declared.lists.Body.TheVariants.{Join, Commit}
+use Rattle.st_trace.specs.declared.lists.Client.{Client}
+use Rattle.st_trace.specs.declared.lists.Entry.{Entry}
+
+-- the commit of an entry, if it is one
+abbrev pub commit_in : Body → Option Intent
+commit_in Join = None
+commit_in (Commit reference intent) = Some intent
+
+abbrev pub commit_of : Entry → Option Intent
+commit_of e = commit_in e.body
+
+-- the commits of some entries, in their order
+abbrev pub commits_in : List Entry → List Intent
+commits_in entries = filter_map commit_of entries
+
+-- the log with one more entry
+abbrev pub entered : List Entry → ℕ → Body → List Entry
+entered log session body = log ++ record { n = length log + 1; session = session; body = body } ∷ []
+
+-- up to which entry its session had received the log: a join says so of itself, a commit by its reference
+abbrev pub heard_in : ℕ → Body → ℕ
+heard_in n Join = n
+heard_in n (Commit reference intent) = reference
+
+abbrev pub heard : Entry → ℕ
+heard e = heard_in e.n e.body
+
+-- the known reference of a session: the greatest that its entries say
+abbrev pub raised : ℕ → ℕ → Entry → ℕ
+raised session known e = if e.session == session then max known (heard e) else known
+
+abbrev pub known_reference : ℕ → List Entry → ℕ
+known_reference session log = fold (raised session) 0 log
+
+-- the least known reference of the clients; with no client, the number of the last entry
+abbrev pub minimum : List Entry → List Client → ℕ
+minimum log clients = fold (λ least (c : Client). min least (known_reference c.session log)) (length log) clients

@@ -1,0 +1,244 @@
+-- The world, as lists alone: the log, and of each client what it received and what it has pending. What a client shows is
+-- read off the document to which its list of commits leads from the opening.
+use Rattle.std.specs.Prelude.{◌≡◌, ℕ, zero, suc, ◌+◌, ◌==◌, ◌&&◌, Bool, nat_lt, nat_le, nat_eq, List, [], ◌∷◌, ◌++◌, length, take, drop, position, slice_get, slice_set, Option, Some, None, is_some, option_map, option_and_then, Result, Ok, Err, if◌then◌else◌}
+use Rattle.std.specs.Cmp.Lexicographic.{pointwise}
+use Rattle.serde_json.specs.Written.{compact_text}
+use Rattle.st_ids.specs.declared.names.Limit.{Limit}
+use Rattle.st_ids.specs.declared.names.LimitOf.TheVariants.{Clients, Log, Names, Pending, Unsequenced}
+use Rattle.st_ids.specs.declared.names.Rev.{Rev}
+use Rattle.st_tree.specs.Node.{nodes_of, first, no_nodes}
+use Rattle.st_tree.specs.Preorder.{opening_listed}
+use Rattle.st_tree.specs.declared.edit.EditFault.{EditFault}
+use Rattle.st_tree.specs.declared.edit.EditFault.TheVariants as fault
+use Rattle.st_resolve.specs.ArrayTypes.{is_array_type}
+use Rattle.st_schema.specs.Written.{schema_data}
+use Rattle.st_marks.specs.declared.intents.Intent.{Intent}
+use Rattle.st_marks.specs.declared.verdicts.Verdict.{Verdict}
+use Rattle.st_marks.specs.Document.{Document}
+use Rattle.st_marks.specs.Intent.{group_cells}
+use Rattle.st_marks.specs.LiveTree.{IsTreeText}
+use Rattle.st_marks.specs.Run.{Run}
+use Rattle.st_marks.specs.Verdict.{IsVerdict}
+use Rattle.st_doc.specs.Start.{start_of}
+use Rattle.st_resolve.specs.declared.rules.Given.{Given}
+use Rattle.st_resolve.specs.Resolve.{insert, remove, move, put, clear}
+use Rattle.st_script.specs.Header.{HeaderView}
+use Rattle.st_script.specs.Steps.{StepView, branch_of, name_of}
+use Rattle.st_script.specs.Steps as step
+use Rattle.st_script.specs.declared.answer.Answer.{Answer}
+use Rattle.st_script.specs.declared.answer.Answer.TheVariants as answer
+use Rattle.st_script.specs.declared.refusal.Refusal.{Refusal}
+use Rattle.st_script.specs.declared.refusal.Refusal.TheVariants as no
+use Rattle.st_trace.specs.Log.{commit_of, commits_in, entered, minimum}
+use Rattle.st_trace.specs.declared.client.Done.{Done}
+use Rattle.st_trace.specs.declared.client.Done.TheVariants as done
+use Rattle.st_trace.specs.declared.lists.Body.TheVariants.{Join as Joined, Commit}
+use Rattle.st_trace.specs.declared.lists.Client.{Client}
+use Rattle.st_trace.specs.declared.lists.Entry.{Entry}
+use Rattle.st_trace.specs.declared.lists.Lists.{Lists}
+use Rattle.st_trace.specs.declared.lists.Queued.{Queued}
+
+-- ## Documents
+
+-- the document that a trace opens with
+abbrev pub opened : HeaderView → Document
+opened h = start_of (opening_listed h.tree) (compact_text (schema_data h.schema))
+
+-- the commits that a client received, in their order
+abbrev pub received_by : List Entry → Client → List Intent
+received_by log c = commits_in (take c.received log)
+
+-- the commits that a client received, carried out from the opening, lead to this document
+abbrev pub HasReceived : HeaderView → List Entry → Client → Document → Type 0
+HasReceived h log c D = Run (opened h) (received_by log c) D
+
+-- the commits that a client received, followed by its own pending ones, lead to this document
+abbrev pub HasShown : HeaderView → List Entry → Client → Document → Type 0
+HasShown h log c D = Run (opened h) (received_by log c ++ c.pending) D
+
+-- ## Names
+
+-- how many names an intent makes: its nodes and its cells
+abbrev pub names_made : Intent → ℕ
+names_made N = length N.new + length (group_cells N)
+
+-- how many names some intents make together
+abbrev pub names_in : List Intent → ℕ
+names_in [] = 0
+names_in (N ∷ Ns) = names_made N + names_in Ns
+
+-- ## Edits of one client
+
+-- the revision of its next commit
+abbrev pub next_rev : Client → Rev
+next_rev c = record { session = c.session; num = c.ids + 1 }
+
+-- a commit is pending, and its text waits in the queue
+abbrev pub committed : Client → Intent → Client
+committed c intent = record c {
+  ids = c.ids + 1;
+  pending = c.pending ++ intent ∷ [];
+  queue = c.queue ++ record { reference = c.received; intent = intent } ∷ [];
+}
+
+-- what is refused of an edit
+abbrev pub refused : EditFault → Refusal
+refused (fault.NoNode depth) = no.NoNode depth
+refused fault.Kind = no.Kind
+refused fault.Range = no.Range
+refused fault.Inside = no.Inside
+refused (fault.NotAllowed at) = no.NotAllowed at
+refused (fault.Limit l) = no.Limit l
+
+-- the answer to an edit whose commit is pending
+abbrev pub answered : Done → Rev → Answer
+answered done.Insert rev = answer.Insert rev
+answered done.Remove rev = answer.Remove rev
+answered done.Move rev = answer.Move rev
+answered done.Set rev = answer.Set rev
+answered done.Clear rev = answer.Clear rev
+
+-- the limit that one more pending commit would pass: at most 256 commits, and 16,384 names in them
+abbrev pub limit_passed : Client → Intent → Option Limit
+limit_passed c N =
+    if nat_le 256 (length c.pending) then Some (record { of = Pending; kept = length c.pending }) else
+    if nat_lt 16384 (names_in c.pending + names_made N) then Some (record { of = Unsequenced; kept = names_in c.pending }) else None
+
+-- a commit is pending from now on, if it passes no limit
+abbrev pub pends : Client → Done → Intent → Option Limit → Client × Answer
+pends c word N None = (committed c N, answered word (next_rev c))
+pends c word N (Some l) = (c, answer.No (no.Limit l))
+
+-- an edit that is refused, or whose commit is pending from now on
+abbrev pub edited : Client → Done → Result Intent EditFault → Client × Answer
+edited c word (Err f) = (c, answer.No (refused f))
+edited c word (Ok N) = pends c word N (limit_passed c N)
+
+-- the names that its next commit may give
+abbrev pub given : Client → Given
+given c = record { rev = next_rev c; nodes = 0; cells = 0 }
+
+-- ## Receiving
+
+-- whether an entry is a commit of its own
+abbrev pub is_own : Entry → Client → Bool
+is_own e c = is_some (commit_of e) && (e.session == c.session)
+
+-- what stays pending after an entry: a commit of its own was the first of them
+abbrev pub pending_after : Entry → Client → List Intent
+pending_after e c = if is_own e c then drop 1 c.pending else c.pending
+
+abbrev pub taken : Entry → Client → Client
+taken e c = record c { received = c.received + 1; pending = pending_after e c }
+
+-- the verdict of an entry where it comes; one without a commit is sound
+abbrev pub IsVerdictOf : Document → Option Intent → Verdict → Type 0
+IsVerdictOf D None v = v ≡ Verdict.Sound
+IsVerdictOf D (Some N) v = IsVerdict D N v
+
+-- the next entry, if there is one, is received; its verdict is that in the document of the entries before it
+abbrev pub IsDeliveredTo : Document → Client → Option Entry → Client → Answer → Type 0
+IsDeliveredTo D c None d a = (d ≡ c) × (a ≡ answer.No no.NothingNew)
+IsDeliveredTo D c (Some e) d a = (void : Verdict) × IsVerdictOf D (commit_of e) void × (d ≡ taken e c) × (a ≡ answer.Deliver (c.received + 1) void)
+
+-- ## The world
+
+-- the world before any client joins
+abbrev pub begun : Lists
+begun = record { log = []; clients = [] }
+
+-- the client at a place is now so
+abbrev pub with_client : Lists → ℕ → Client × Answer → Lists × Answer
+with_client w i p = (record w { clients = slice_set w.clients i p.0 }, p.1)
+
+-- the client of a name, and its place
+abbrev pub place_of : List ℕ → List Client → Option ℕ
+place_of name clients = position (λ (c : Client). pointwise nat_eq c.name name) clients
+
+abbrev pub found : List ℕ → List Client → Option (ℕ × Client)
+found name clients = option_and_then (λ i. option_map (λ c. (i, c)) (slice_get clients i)) (place_of name clients)
+
+-- a refusal by a limit, with the count that stands
+abbrev pub over : Limit → Answer
+over l = answer.No (no.Limit l)
+
+-- a new client has received all of the log, with its own join
+abbrev pub joined : ℕ → ℕ → List ℕ → Client
+joined n session name = record { name = name; session = session; received = n; ids = 0; pending = []; queue = [] }
+
+-- at most 64 clients at a time, and 65,535 entries
+abbrev pub join : Lists → List ℕ → Lists × Answer
+join w name =
+    if is_some (place_of name w.clients) then (w, answer.No no.Taken) else
+    if nat_le 64 (length w.clients) then (w, over (record { of = Clients; kept = length w.clients })) else
+    if nat_le 65535 (length w.log) then (w, over (record { of = Log; kept = length w.log })) else (
+      record w {
+        log = entered w.log (length w.clients + 1) Joined;
+        clients = w.clients ++ joined (length w.log + 1) (length w.clients + 1) name ∷ [];
+      },
+      answer.Join (length w.log + 1) (length w.clients + 1),
+    )
+
+-- the limit that an entry with so many names would pass: at most 65,535 entries, which make at most 131,072 names
+abbrev pub log_limit_passed : List Entry → ℕ → Option Limit
+log_limit_passed log made =
+    if nat_le 65535 (length log) then Some (record { of = Log; kept = length log }) else
+    if nat_lt 131072 (names_in (commits_in log) + made) then Some (record { of = Names; kept = names_in (commits_in log) }) else None
+
+-- a text enters the log, if it passes no limit
+abbrev pub entering : Lists → ℕ → Client → Queued → List Queued → Option Limit → Lists × Answer
+entering w i c q rest None =
+    let log = entered w.log c.session (Commit q.reference q.intent) in
+    let clients = slice_set w.clients i (record c { queue = rest }) in
+    (record w { log = log; clients = clients }, answer.Sequence (minimum log clients) (length log))
+entering w i c q rest (Some l) = (w, over l)
+
+-- the oldest text of a client's queue enters the log
+abbrev pub sequence : Lists → ℕ → Client → List Queued → Lists × Answer
+sequence w i c [] = (w, answer.No no.NothingToSend)
+sequence w i c (q ∷ rest) = entering w i c q rest (log_limit_passed w.log (names_made q.intent))
+
+-- ## Steps
+
+-- a step that changes nothing, and its answer
+abbrev pub Stays : Lists → Lists → Answer → Answer → Type 0
+Stays w v a b = (v ≡ w) × (a ≡ b)
+
+-- an edit is resolved in the document that the client shows
+abbrev pub IsEdited : HeaderView → Lists → ℕ → Client → Done → (Document → Result Intent EditFault) → Lists → Answer → Type 0
+IsEdited h w i c word meant v a = (D : Document) × HasShown h w.log c D × (with_client w i (edited c word (meant D)) ≡ (v, a))
+
+-- the client receives the next entry
+abbrev pub IsDelivered : HeaderView → Lists → ℕ → Client → Lists → Answer → Type 0
+IsDelivered h w i c v a = (D : Document) × (d : Client) × HasReceived h w.log c D × IsDeliveredTo D c (slice_get w.log c.received) d a
+    × (v ≡ record w { clients = slice_set w.clients i d })
+
+-- the text of the tree that a client shows
+abbrev pub IsShown : HeaderView → Lists → Client → Answer → Type 0
+IsShown h w c a = (D : Document) × (tree : List ℕ) × HasShown h w.log c D × IsTreeText (is_array_type h.schema) D tree × (a ≡ answer.Show tree)
+
+-- what a step makes of the world, for its client and that one's place
+abbrev pub IsNextOf : HeaderView → Lists → StepView → ℕ → Client → Lists → Answer → Type 0
+IsNextOf h w (step.join name) i c v a = join w name ≡ (v, a)
+IsNextOf h w (step.insert name branch at key index items) i c v a = IsEdited h w i c done.Insert (λ D. insert D h.schema (given c) at key index (nodes_of items)) v a
+IsNextOf h w (step.remove name branch at key index count) i c v a = IsEdited h w i c done.Remove (λ D. remove D h.schema (given c) at key index count) v a
+IsNextOf h w (step.move name branch at key index count to to_key to_index) i c v a = IsEdited h w i c done.Move (λ D. move D h.schema (given c) at key index count to to_key to_index) v a
+IsNextOf h w (step.set name branch at key item) i c v a = IsEdited h w i c done.Set (λ D. put D h.schema (given c) at key (first item no_nodes)) v a
+IsNextOf h w (step.clear name branch at key) i c v a = IsEdited h w i c done.Clear (λ D. clear D h.schema (given c) at key) v a
+IsNextOf h w (step.sequence name) i c v a = sequence w i c c.queue ≡ (v, a)
+IsNextOf h w (step.deliver name) i c v a = IsDelivered h w i c v a
+IsNextOf h w (step.show name branch) i c v a = (v ≡ w) × IsShown h w c a
+
+-- there is the main branch, 0, and no other
+abbrev pub OnBranch : ℕ → Lists → Lists → Answer → Type 0 → Type 0
+OnBranch zero w v a next = next
+OnBranch (suc k) w v a next = Stays w v a (answer.No no.NoBranch)
+
+abbrev pub AtClient : HeaderView → Lists → StepView → Option (ℕ × Client) → Lists → Answer → Type 0
+AtClient h w s None v a = Stays w v a (answer.No no.NoClient)
+AtClient h w s (Some p) v a = OnBranch (branch_of s) w v a (IsNextOf h w s p.0 p.1 v a)
+
+-- the world after a step, and the answer; all but a join want the client to be there
+abbrev pub IsNext : HeaderView → Lists → StepView → Lists → Answer → Type 0
+IsNext h w (step.join name) v a = join w name ≡ (v, a)
+IsNext h w s v a = AtClient h w s (found (name_of s) w.clients) v a
