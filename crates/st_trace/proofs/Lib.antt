@@ -1,0 +1,13 @@
+pub mod Begun
+pub mod Counting
+pub mod Logs
+pub mod Clients
+pub mod Keeping
+pub mod Meanings
+pub mod Everyone
+pub mod Stepping
+pub mod Turning
+pub mod Receiving
+pub mod Acting
+pub mod Choosing
+pub mod Arrays

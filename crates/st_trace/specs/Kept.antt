@@ -1,10 +1,10 @@
 -- What the kept documents and numbers stand for, and what holds of the lists of each world that steps lead to.
-use Rattle.std.specs.Prelude.{◌-◌, false, Result, Ok, Err, ◌≡◌, ◌≢◌, ◌==◌, ◌&&◌, ℕ, ◌+◌, ◌<◌, ◌≤◌, Bool, true, List, [], ◌∷◌, ◌++◌, length, map, drop, filter, slice_get, is_some, Option, Some, None, IfSome}
+use Rattle.std.specs.Prelude.{◌-◌, false, Result, Ok, Err, ◌≡◌, ◌==◌, ℕ, ◌+◌, ◌≤◌, Bool, true, List, [], ◌∷◌, ◌++◌, length, map, drop, filter, Option, Some, None, IfSome}
 use Rattle.std.specs.List.{AllByRecursion}
 use Rattle.st_ids.specs.Listing.{Has}
 use Rattle.st_marks.specs.declared.intents.Intent.{Intent}
 use Rattle.st_marks.specs.declared.verdicts.Verdict.{Verdict}
-use Rattle.st_marks.specs.Document.{Document, opening}
+use Rattle.st_marks.specs.Document.{opening}
 use Rattle.st_marks.specs.Intent.{Fits}
 use Rattle.st_marks.specs.Run.{Run}
 use Rattle.st_marks.specs.Verdict.{IsVerdict, carried}
@@ -15,12 +15,11 @@ use Rattle.st_commits.specs.Turns.{FitInTurn}
 use Rattle.st_doc.specs.Doc.{document_of}
 use Rattle.st_doc.specs.LiveText.{is_among}
 use Rattle.st_schema.specs.Schema.{is_sound}
-use Rattle.st_schema.specs.Conforms.{allows_of}
 use Rattle.st_resolve.specs.ArrayTypes.{is_array_type}
 use Rattle.st_script.specs.Header.{HeaderView, header_view, may_open}
 use Rattle.st_trace.specs.Known.{AreKnown}
 use Rattle.st_trace.specs.Log.{commit_of, commits_in}
-use Rattle.st_trace.specs.World.{HasReceived, HasShown, IsVerdictOf, opened, received_by, names_made, names_in, limit_passed}
+use Rattle.st_trace.specs.World.{HasReceived, HasShown, opened, received_by, names_made, names_in, limit_passed}
 use Rattle.st_trace.specs.declared.kept.Kept.{Kept}
 use Rattle.st_trace.specs.declared.lists.Client.{Client}
 use Rattle.st_trace.specs.declared.lists.Entry.{Entry}
@@ -95,6 +94,7 @@ pub record IsSoundAfter (steps : ℕ) (w : World) : Type 0 where
   pub ids : AllByRecursion (λ (c : Client). c.ids ≤ steps) w.lists.clients
   pub log : AllByRecursion (IsEntryOf (length w.lists.clients)) w.lists.log
   pub log_fit : FitInTurn (opened (header_view w.header)) (commits_in w.lists.log)
+  pub log_new : HaveNewRevisions (opening ∷ []) (commits_in w.lists.log)
   pub head : Run (opened (header_view w.header)) (commits_in w.lists.log) (document_of w.head)
   pub entries : length w.lists.log ≤ 65535
   pub names : w.names ≡ names_in (commits_in w.lists.log)

@@ -1,14 +1,12 @@
 -- The world, as lists alone: the log, and of each client what it received and what it has pending. What a client shows is
 -- read off the document to which its list of commits leads from the opening.
-use Rattle.std.specs.Prelude.{◌≡◌, ℕ, zero, suc, ◌+◌, ◌==◌, ◌&&◌, Bool, nat_lt, nat_le, nat_eq, List, [], ◌∷◌, ◌++◌, length, take, drop, fold, position, slice_get, slice_set, Option, Some, None, is_some, option_map, option_and_then, Result, Ok, Err, if◌then◌else◌}
+use Rattle.std.specs.Prelude.{◌≡◌, ℕ, zero, suc, ◌+◌, ◌==◌, ◌&&◌, Bool, nat_lt, nat_le, nat_eq, List, [], ◌∷◌, ◌++◌, length, take, drop, position, slice_get, slice_set, Option, Some, None, is_some, option_map, option_and_then, Result, Ok, Err, if◌then◌else◌}
 use Rattle.std.specs.Cmp.Lexicographic.{pointwise}
 use Rattle.serde_json.specs.Written.{compact_text}
-use Rattle.st_ids.specs.declared.names.Key.{Key}
 use Rattle.st_ids.specs.declared.names.Limit.{Limit}
 use Rattle.st_ids.specs.declared.names.LimitOf.TheVariants.{Clients, Log, Names, Pending, Unsequenced}
-use Rattle.st_ids.specs.declared.names.Place.{Place}
 use Rattle.st_ids.specs.declared.names.Rev.{Rev}
-use Rattle.st_tree.specs.Node.{Node, nodes_of, first, no_nodes}
+use Rattle.st_tree.specs.Node.{nodes_of, first, no_nodes}
 use Rattle.st_tree.specs.Preorder.{opening_listed}
 use Rattle.st_tree.specs.declared.edit.EditFault.{EditFault}
 use Rattle.st_tree.specs.declared.edit.EditFault.TheVariants as fault

@@ -1,9 +1,12 @@
-//! Stub.
+//! The world of a trace: the log, the clients and what each of them shows.
 #![tactic(auto)]
 
+mod changes;
 mod client;
 mod kept;
 mod lists;
+mod log;
+mod names;
 mod world;
 
 pub use client::Done;

@@ -1,23 +1,46 @@
 //! The world: its lists, and the documents and numbers that its answers are read off.
-ghost use Rattle.std.specs.Prelude.{◌≡◌, ◌↔◌, ◌+◌, ◌-◌, ◌^◌, ◌<◌, ◌≤◌, true, false, length, [], Some, slice_get, IfOk, OnOk, IsErrOf};
+ghost use Rattle.std.specs.Prelude.{◌≡◌, ◌↔◌, ◌+◌, ◌-◌, ◌^◌, ◌<◌, ◌≤◌, true, false, length, [], None, Some, slice_get, IfOk, OnOk, IsErrOf};
+ghost use Rattle.st_marks.specs.declared.verdicts.Verdict.{Verdict as Outcome};
+ghost use Rattle.st_marks.specs.Document.{IsSoundInForm};
+ghost use Rattle.st_marks.specs.Intent.{Fits};
+ghost use Rattle.st_marks.specs.Verdict.{IsVerdict, carried};
+ghost use Rattle.st_doc.specs.Doc.{document_of};
 ghost use Rattle.st_script.specs.Header.{header_view, may_open};
 ghost use Rattle.st_script.specs.Steps.{step_view, IsOfForm};
 ghost use Rattle.st_doc.specs.LiveText.{is_among};
 ghost use Rattle.st_resolve.specs.Resolve.{IsWithin, resolve};
 ghost use Rattle.st_resolve.specs.ArrayTypes.{is_array_type};
-ghost use Rattle.st_trace.specs.World.{begun, place_of, over, log_limit_passed, join, sequence, given, IsEdited, IsDelivered, IsShown, IsNextOf, IsNext};
+ghost use Rattle.st_trace.specs.World.{begun, names_made, place_of, over, log_limit_passed, join, sequence, given, IsEdited, IsDelivered, IsShown, IsNextOf, IsNext};
 ghost use Rattle.st_trace.specs.Kept.{IsHeader, IsSound, IsSoundNext};
-ghost use Rattle.st_tree.specs.declared.edit.Edit.{Edit as TreeEdit};
+ghost use Rattle.st_trace.specs.Known.{AreKnown};
+ghost use Rattle.st_trace.specs.Log.{entered, minimum};
+ghost use Rattle.st_trace.specs.declared.lists.Body.TheVariants.{Commit};
+ghost use Rattle.st_trace.specs.Changes.{change_of};
 ghost use Rattle.st_trace.specs.declared.lists.Client.{Client as Present};
 
+use crate::changes::change_in;
+use crate::client::{self, Done};
 use crate::kept::Kept;
-use crate::lists::Lists;
+use crate::lists::{Body, Client, Lists, Queued};
+use crate::log::{enter, least_known};
+use crate::names::names_made;
 use st_doc::Doc;
-use st_ids::{List, Or, Text};
-use st_schema::Header;
-use st_script::{Answer, TraceStep};
+use st_ids::{Copied, Limit, LimitOf, List, Or, Text};
+use st_marks::Intent;
+use st_schema::{Form, Header, Schema};
+use st_script::{Answer, Refusal, TraceStep};
+use st_tree::Edit;
 use std::alloc::{AllocError, Global};
 use std::collections::BTreeMap;
+
+/// How many clients there are at a time.
+const MOST_CLIENTS: usize = 64;
+
+/// How many entries a log has.
+const MOST_ENTRIES: usize = 65_535;
+
+/// How many names the commits of a log make.
+const MOST_NAMES: u64 = 131_072;
 
 /// The lists, and beside them what is read off them: the types whose nodes have a row, the document after the whole log,
 /// what is kept of each client, the greatest reference known of each session, and how many names the log makes. `spent`
@@ -39,6 +62,45 @@ pub struct World {
 #[derive(Clone, Copy, Debug, PartialEq, Eq)]
 pub struct Spent;
 
+// The place of the client with a name.
+fn place_of(clients: &[Client], name: &str) -> Option<usize>
+    ensures { result ≡ place_of name.now clients.now }
+{
+    clients
+        .iter()
+        .position(|client| client.name.as_str() == name)
+}
+
+// A refusal by a limit, with the count that stands.
+fn over(of: LimitOf, kept: u32) -> Answer
+    ensures { result ≡ over (record { of = of; kept = kept }) }
+{
+    Answer::No(Refusal::Limit(Limit { of, kept }))
+}
+
+// Whether the nodes of a type have a row.
+fn is_array(schema: &Schema, name: &Text) -> bool
+    ensures { result ≡ is_array_type schema.now name.now }
+{
+    matches!(schema.form(name), Some(Form::Array(_)))
+}
+
+// The types of a schema whose nodes have a row.
+fn array_types(alloc: Global, schema: &Schema) -> Result<List<Text>, AllocError>
+    ensures { IfOk result (λ types. is_among types ≡ is_array_type schema.now) }
+{
+    schema.is_kept();
+    let mut types = List::new(alloc);
+    let mut i = 0;
+    'types: while let Some(name) = schema.name_at(i) {
+        if is_array(schema, name) {
+            types.push(name.copy(alloc)?)?;
+        }
+        i += 1;
+    }
+    Ok(types)
+}
+
 impl World {
     /// The world that opens with a header, before any client joins.
     pub fn new(alloc: Global, header: Header) -> Result<World, AllocError>
@@ -48,7 +110,278 @@ impl World {
         ensures sound { IfOk result IsSound }
         ensures fresh { IfOk result (λ w. (w.spent ≡ false) × (w.steps ≡ 0)) }
     {
-        Err(AllocError)
+        let arrays = array_types(alloc, &header.schema)?;
+        let schema = header.schema.text(alloc)?;
+        let head = Doc::start(alloc, schema, &header.tree)?;
+        Ok(World {
+            header,
+            arrays,
+            head,
+            lists: Lists {
+                log: List::new(alloc),
+                clients: List::new(alloc),
+            },
+            kept: List::new(alloc),
+            known: BTreeMap::new(alloc),
+            names: 0,
+            steps: 0,
+            spent: false,
+        })
+    }
+
+    // Makes an edit of the tree that the client at a place shows.
+    fn edit(
+        &mut self,
+        alloc: Global,
+        i: usize,
+        done: Done,
+        edit: &Edit,
+    ) -> Result<Answer, AllocError>
+        requires sound { IsSound self.old }
+        requires few { self.old.steps + 1 < 2 ^ 32 }
+        requires within { IsWithin edit.now }
+        ensures next { IfOk result (λ a. (c : Present) → slice_get self.old.lists.clients i ≡ Some c
+            → IsEdited (header_view self.old.header) self.old.lists i c done (λ D. resolve D (header_view self.old.header).schema (given c) edit.now) self.new.lists a) }
+        ensures sound { OnOk result (IsSoundNext self.new) }
+        ensures steps { OnOk result (self.new.steps ≡ self.old.steps) }
+        ensures header { OnOk result (self.new.header ≡ self.old.header) }
+        ensures spent { self.new.spent ≡ self.old.spent }
+    {
+        let Some(kept) = self.kept.get_mut(i) else {
+            return Ok(Answer::No(Refusal::NoClient));
+        };
+        let Some(client) = self.lists.clients.get_mut(i) else {
+            return Ok(Answer::No(Refusal::NoClient));
+        };
+        let answer = client::edit(alloc, &self.header.schema, client, kept, done, edit)?;
+        Ok(answer)
+    }
+
+    // The client at a place receives the next entry.
+    fn deliver(&mut self, alloc: Global, i: usize) -> Result<Answer, AllocError>
+        requires sound { IsSound self.old }
+        requires few { self.old.steps + 1 < 2 ^ 32 }
+        ensures next { IfOk result (λ a. (c : Present) → slice_get self.old.lists.clients i ≡ Some c
+            → IsDelivered (header_view self.old.header) self.old.lists i c self.new.lists a) }
+        ensures sound { OnOk result (IsSoundNext self.new) }
+        ensures steps { OnOk result (self.new.steps ≡ self.old.steps) }
+        ensures header { OnOk result (self.new.header ≡ self.old.header) }
+        ensures spent { self.new.spent ≡ self.old.spent }
+    {
+        let Some(kept) = self.kept.get_mut(i) else {
+            return Ok(Answer::No(Refusal::NoClient));
+        };
+        let Some(client) = self.lists.clients.get_mut(i) else {
+            return Ok(Answer::No(Refusal::NoClient));
+        };
+        let log = self.lists.log.as_slice();
+        let answer = client::deliver(alloc, log, client, kept)?;
+        Ok(answer)
+    }
+
+    // The limit that one more entry with so many names would pass, if there is one.
+    fn limit_passed(&self, made: u64) -> Option<Limit>
+        requires { IsSound self.now }
+        ensures { result ≡ log_limit_passed self.now.lists.log made }
+    {
+        let entries = self.lists.log.len();
+        if entries >= MOST_ENTRIES {
+            let of = LimitOf::Log;
+            let kept = entries as u32;
+            return Some(Limit { of, kept });
+        }
+        if self.names.saturating_add(made) > MOST_NAMES {
+            let of = LimitOf::Names;
+            let kept = self.names as u32;
+            return Some(Limit { of, kept });
+        }
+        None
+    }
+
+    // Puts a commit into the log.
+    fn send(
+        &mut self,
+        alloc: Global,
+        session: u32,
+        reference: u32,
+        intent: Intent,
+    ) -> Result<Answer, AllocError>
+        requires sound { IsSoundInForm (document_of self.old.head) }
+        requires fits { Fits (document_of self.old.head) intent }
+        requires entries { length self.old.lists.log < 65535 }
+        requires names { self.old.names + names_made intent ≤ 131072 }
+        requires known { AreKnown self.old.lists.log self.old.known }
+        ensures answer { IfOk result (λ a. a ≡ Answer.Sequence (minimum self.new.lists.log self.new.lists.clients) (length self.new.lists.log)) }
+        ensures known { OnOk result (AreKnown self.new.lists.log self.new.known) }
+        ensures head { OnOk result ((v : Outcome) × IsVerdict (document_of self.old.head) intent v × (document_of self.new.head ≡ carried v (document_of self.old.head) intent)) }
+        ensures world { OnOk result (self.new ≡ record self.old {
+          lists = record self.old.lists { log = entered self.old.lists.log session (Commit reference intent) };
+          head = self.new.head;
+          known = self.new.known;
+          names = self.old.names + names_made intent;
+        }) }
+        ensures spent { self.new.spent ≡ self.old.spent }
+    {
+        self.names += names_made(&intent);
+        self.head.carry_out(alloc, &intent)?;
+        let body = Body::Commit { reference, intent };
+        enter(&mut self.lists.log, &mut self.known, session, body)?;
+        let n = self.lists.log.len() as u32;
+        let min = least_known(self.lists.clients.as_slice(), &self.known, n);
+        Ok(Answer::Sequence { min, n })
+    }
+
+    // The oldest text of the client at a place enters the log.
+    fn sequence(&mut self, alloc: Global, i: usize) -> Result<Answer, AllocError>
+        requires sound { IsSound self.old }
+        requires few { self.old.steps + 1 < 2 ^ 32 }
+        ensures next { IfOk result (λ a. (c : Present) → slice_get self.old.lists.clients i ≡ Some c
+            → sequence self.old.lists i c c.queue ≡ (self.new.lists, a)) }
+        ensures sound { OnOk result (IsSoundNext self.new) }
+        ensures steps { OnOk result (self.new.steps ≡ self.old.steps) }
+        ensures header { OnOk result (self.new.header ≡ self.old.header) }
+        ensures spent { self.new.spent ≡ self.old.spent }
+    {
+        let Some(client) = self.lists.clients.get(i) else {
+            return Ok(Answer::No(Refusal::NoClient));
+        };
+        let Some(made) = client::names_waiting(client) else {
+            return Ok(Answer::No(Refusal::NothingToSend));
+        };
+        if let Some(limit) = self.limit_passed(made) {
+            return Ok(Answer::No(Refusal::Limit(limit)));
+        }
+        let Some(client) = self.lists.clients.get_mut(i) else {
+            return Ok(Answer::No(Refusal::NoClient));
+        };
+        let session = client.session;
+        match client::take_text(client) {
+            None => Ok(Answer::No(Refusal::NothingToSend)),
+            Some(Queued { reference, intent }) => {
+                let answer = self.send(alloc, session, reference, intent)?;
+                Ok(answer)
+            }
+        }
+    }
+
+    // A client of that name joins, unless one is there or there are too many, or too many entries.
+    fn join(&mut self, alloc: Global, name: &Text) -> Result<Answer, AllocError>
+        requires sound { IsSound self.old }
+        requires few { self.old.steps + 1 < 2 ^ 32 }
+        ensures next { IfOk result (λ a. join self.old.lists name.now ≡ (self.new.lists, a)) }
+        ensures sound { OnOk result (IsSoundNext self.new) }
+        ensures steps { OnOk result (self.new.steps ≡ self.old.steps) }
+        ensures header { OnOk result (self.new.header ≡ self.old.header) }
+        ensures spent { self.new.spent ≡ self.old.spent }
+    {
+        if place_of(self.lists.clients.as_slice(), name.as_str()).is_some() {
+            return Ok(Answer::No(Refusal::Taken));
+        }
+        let count = self.lists.clients.len();
+        if count >= MOST_CLIENTS {
+            return Ok(over(LimitOf::Clients, count as u32));
+        }
+        let entries = self.lists.log.len();
+        if entries >= MOST_ENTRIES {
+            return Ok(over(LimitOf::Log, entries as u32));
+        }
+        let s = count as u32 + 1;
+        enter(&mut self.lists.log, &mut self.known, s, Body::Join)?;
+        let n = self.lists.log.len() as u32;
+        self.kept.push(client::opened(alloc, &self.head)?)?;
+        self.lists.clients.push(client::joined(alloc, n, s, name)?)?;
+        Ok(Answer::Join { n, s })
+    }
+
+    // The tree that the client at a place shows.
+    fn show(&self, alloc: Global, i: usize) -> Result<Answer, AllocError>
+        requires { IsSound self.now }
+        ensures { IfOk result (λ a. (c : Present) → slice_get self.now.lists.clients i ≡ Some c → IsShown (header_view self.now.header) self.now.lists c a) }
+    {
+        match self.kept.get(i) {
+            None => Ok(Answer::No(Refusal::NoClient)),
+            Some(kept) => {
+                let tree = kept.shown.text(alloc, self.arrays.as_slice())?;
+                Ok(Answer::Show { tree })
+            }
+        }
+    }
+
+    // The place of the client with a name.
+    fn find(&self, name: &Text) -> Option<usize>
+        ensures { result ≡ place_of name.now self.now.lists.clients }
+    {
+        place_of(self.lists.clients.as_slice(), name.as_str())
+    }
+
+    // Makes a step that is no edit.
+    fn answer_plain(
+        &mut self,
+        alloc: Global,
+        i: usize,
+        step: &TraceStep,
+    ) -> Result<Answer, AllocError>
+        requires sound { IsSound self.old }
+        requires few { self.old.steps + 1 < 2 ^ 32 }
+        requires plain { change_of step.now ≡ None }
+        ensures next { IfOk result (λ a. (c : Present) → slice_get self.old.lists.clients i ≡ Some c
+            → IsNextOf (header_view self.old.header) self.old.lists (step_view step.now) i c self.new.lists a) }
+        ensures sound { OnOk result (IsSoundNext self.new) }
+        ensures steps { OnOk result (self.new.steps ≡ self.old.steps) }
+        ensures header { OnOk result (self.new.header ≡ self.old.header) }
+        ensures spent { self.new.spent ≡ self.old.spent }
+    {
+        match step {
+            TraceStep::Join { client } => self.join(alloc, client),
+            TraceStep::Sequence { .. } => self.sequence(alloc, i),
+            TraceStep::Deliver { .. } => self.deliver(alloc, i),
+            _ => {
+                let answer = self.show(alloc, i)?;
+                Ok(answer)
+            }
+        }
+    }
+
+    // Makes a step of the client at a place, on the main branch.
+    fn answer_at(&mut self, alloc: Global, i: usize, step: &TraceStep) -> Result<Answer, AllocError>
+        requires sound { IsSound self.old }
+        requires few { self.old.steps + 1 < 2 ^ 32 }
+        requires form { IsOfForm (step_view step.now) }
+        ensures next { IfOk result (λ a. (c : Present) → slice_get self.old.lists.clients i ≡ Some c
+            → IsNextOf (header_view self.old.header) self.old.lists (step_view step.now) i c self.new.lists a) }
+        ensures sound { OnOk result (IsSoundNext self.new) }
+        ensures steps { OnOk result (self.new.steps ≡ self.old.steps) }
+        ensures header { OnOk result (self.new.header ≡ self.old.header) }
+        ensures spent { self.new.spent ≡ self.old.spent }
+    {
+        match change_in(alloc, step)? {
+            Some(change) => self.edit(alloc, i, change.done, &change.edit),
+            None => self.answer_plain(alloc, i, step),
+        }
+    }
+
+    // Makes a step, if its client and its branch are there. A join wants neither.
+    fn answer(&mut self, alloc: Global, step: &TraceStep) -> Result<Answer, AllocError>
+        requires sound { IsSound self.old }
+        requires few { self.old.steps + 1 < 2 ^ 32 }
+        requires form { IsOfForm (step_view step.now) }
+        ensures next { IfOk result (λ a. IsNext (header_view self.old.header) self.old.lists (step_view step.now) self.new.lists a) }
+        ensures sound { OnOk result (IsSoundNext self.new) }
+        ensures steps { OnOk result (self.new.steps ≡ self.old.steps) }
+        ensures header { OnOk result (self.new.header ≡ self.old.header) }
+        ensures spent { self.new.spent ≡ self.old.spent }
+    {
+        if let TraceStep::Join { client } = step {
+            return self.join(alloc, client);
+        }
+        let Some(i) = self.find(step.client()) else {
+            return Ok(Answer::No(Refusal::NoClient));
+        };
+        if step.branch() != 0 {
+            return Ok(Answer::No(Refusal::NoBranch));
+        }
+        let answer = self.answer_at(alloc, i, step)?;
+        Ok(answer)
     }
 
     /// Makes a step. After want of memory the world is spent, and answers `Spent` from then on, and at no other time.
@@ -68,6 +401,9 @@ impl World {
             return Err(Or::Fault(Spent));
         }
         self.spent = true;
-        Err(Or::NoMemory)
+        let answer = self.answer(alloc, step)?;
+        self.spent = false;
+        self.steps += 1;
+        Ok(answer)
     }
 }

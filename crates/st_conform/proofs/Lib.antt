@@ -1,0 +1,14 @@
+pub mod Kept
+pub mod Elsewhere
+pub mod Rules
+pub mod Simple
+pub mod Listed
+pub mod NewTrees
+pub mod Opened
+pub mod ShownTree
+pub mod Resolved
+pub mod Runs
+pub mod Homes
+pub mod Wider
+pub mod Back
+pub mod Joins

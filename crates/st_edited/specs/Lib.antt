@@ -1,0 +1,5 @@
+pub mod Edited
+pub mod Alike
+pub mod Moved
+pub mod Typed
+pub mod Edits

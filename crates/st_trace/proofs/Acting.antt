@@ -1,0 +1,118 @@
+-- The world after an edit and after a delivery.
+use Rattle.std.proofs.Common.{◌≡◌, ◌≤◌, ◌+◌, ℕ, List, Option, Some, None, IfSome, Result, Ok, Err, refl, sym, ap, subst, arith}
+use Rattle.std.specs.List.{slice_get, slice_set}
+use Rattle.st_ids.specs.declared.names.Limit.{Limit}
+use Rattle.st_tree.specs.declared.edit.Edit.{Edit}
+use Rattle.st_tree.specs.declared.edit.EditFault.{EditFault}
+use Rattle.st_marks.specs.declared.intents.Intent.{Intent}
+use Rattle.st_marks.specs.Document.{Document}
+use Rattle.st_marks.specs.LiveTree.{IsTreeText}
+use Rattle.st_doc.specs.Doc.{document_of}
+use Rattle.st_doc.specs.LiveText.{is_among}
+use Rattle.st_resolve.specs.Resolve.{resolve}
+use Rattle.st_resolve.proofs.Resolved.{resolved_fits}
+use Rattle.st_script.specs.Header.{HeaderView, header_view}
+use Rattle.st_script.specs.declared.answer.Answer.{Answer}
+use Rattle.st_script.specs.declared.answer.Answer.TheVariants.{Show}
+use Rattle.st_trace.specs.Kept.{CanReceive, HasMoved, IsEditedKept, IsSound, IsSoundAfter}
+use Rattle.st_trace.specs.World.{HasReceived, HasShown, IsDelivered, IsDeliveredTo, IsEdited, IsShown, edited, given, limit_passed, pends, taken, with_client}
+use Rattle.st_trace.specs.declared.client.Done.{Done}
+use Rattle.st_trace.specs.declared.kept.Kept.{Kept}
+use Rattle.st_trace.specs.declared.lists.Client.{Client}
+use Rattle.st_trace.specs.declared.lists.Entry.{Entry}
+use Rattle.st_trace.specs.declared.lists.Lists.{Lists}
+use Rattle.st_trace.specs.declared.world.World.{World}
+use Rattle.st_trace.proofs.Clients.{fresh_cells, fresh_nodes, shown_sound}
+use Rattle.st_trace.proofs.Everyone.{all_get, kept_at}
+use Rattle.st_trace.proofs.Keeping.{AreOne, can_receive, one_delivered, one_edited}
+use Rattle.st_trace.proofs.Meanings.{meant_of}
+use Rattle.st_trace.proofs.Stepping.{sound_client, start_of}
+
+-- a client and what is kept of it
+pub one_at : (w : World) (i : ℕ) (c : Client) (k : Kept) → IsSound w → slice_get w.lists.clients i ≡ Some c → slice_get w.kept i ≡ Some k → AreOne (header_view w.header) w.lists.log c k
+one_at w i c k s at_c at_k = kept_at (header_view w.header) w.lists.log w.lists.clients w.kept i c k s.kept at_c at_k
+
+pub few_ids : (w : World) (i : ℕ) (c : Client) → IsSound w → slice_get w.lists.clients i ≡ Some c → c.ids ≤ w.steps
+few_ids w i c s at = all_get (λ (x : Client). x.ids ≤ w.steps) w.lists.clients i c s.ids at
+
+-- ## Edits
+
+-- a client's session stays, and it has at most one more id
+pub record GoesOn (c c' : Client) : Type 0 where
+  pub session : c'.session ≡ c.session
+  pub ids : c'.ids ≤ c.ids + 1
+
+goes_as : (c d c' : Client) → GoesOn c d → d ≡ c' → GoesOn c c'
+goes_as c d c' g is = subst (GoesOn c) is g
+
+stays : (c : Client) → GoesOn c c
+stays c = record { session = refl; ids = omega arith }
+
+edited_on : (c c' : Client) (word : Done) (r : Result Intent EditFault) (a : Answer) → edited c word r ≡ (c', a) → GoesOn c c'
+edited_on c c' word (Err f) a is = goes_as c c c' (stays c) (ap (λ (p : Client × Answer). p.0) is)
+edited_on c c' word (Ok N) a is = go (limit_passed c N) is
+  where
+    go : (o : Option Limit) → pends c word N o ≡ (c', a) → GoesOn c c'
+    go (Some l) is = goes_as c c c' (stays c) (ap (λ (p : Client × Answer). p.0) is)
+    go None is = goes_as c _ c' (record { session = refl; ids = omega arith }) (ap (λ (p : Client × Answer). p.0) is)
+
+pub sound_edited : (w : World) (i : ℕ) (c c' : Client) (k k' : Kept) (word : Done) (edit : Edit) (a : Answer) → IsSound w → slice_get w.lists.clients i ≡ Some c → slice_get w.kept i ≡ Some k
+    → edited c word (resolve (document_of k.shown) w.header.schema (given c) edit) ≡ (c', a) → IsEditedKept c k (resolve (document_of k.shown) w.header.schema (given c) edit) k'
+    → IsSoundAfter (w.steps + 1) (record w { lists = record w.lists { clients = slice_set w.lists.clients i c' }; kept = slice_set w.kept i k' })
+sound_edited w i c c' k k' word edit a s at_c at_k done kept =
+    let h = header_view w.header in
+    let st = start_of w w.steps s in
+    let D = document_of k.shown in
+    let r = resolve D w.header.schema (given c) edit in
+    let one = one_at w i c k s at_c at_k in
+    let on = edited_on c c' word r a done in
+    sound_client w i c c' k' s at_c
+    (one_edited h st w.lists.log c c' k k' word r a one s.few_names (λ N e.
+    let m = meant_of D w.header.schema (given c) edit N e in (
+      resolved_fits D w.header.schema (given c) edit N (shown_sound h st w.lists.log c D one.client one.kept.shown) s.header.schema
+          (λ j low. fresh_nodes h st w.lists.log c D one.client one.kept.shown j) (λ j low. fresh_cells h st w.lists.log c D one.client one.kept.shown j) e,
+      m.0,
+      m.1,
+    )) done kept)
+    on.session on.ids
+
+-- what a client does with the document that is kept, it does with one that it shows
+pub next_edited : (h : HeaderView) (w : Lists) (i : ℕ) (c q c' : Client) (word : Done) (f : Client → Document → Result Intent EditFault) (D : Document) (a : Answer) → slice_get w.clients i ≡ Some c → slice_get w.clients i ≡ Some q
+    → HasShown h w.log c D → edited c word (f c D) ≡ (c', a) → IsEdited h w i q word (f q) (record w { clients = slice_set w.clients i c' }) a
+next_edited h w i c q c' word f D a at_c at_q shown done =
+    let same : c ≡ q = cc in
+    subst (λ (x : Client). IsEdited h w i x word (f x) (record w { clients = slice_set w.clients i c' }) a) same (D, shown, ap (with_client w i) done)
+
+-- ## Deliveries
+
+delivered_on : (D : Document) (c c' : Client) (o : Option Entry) (a : Answer) → IsDeliveredTo D c o c' a → GoesOn c c'
+delivered_on D c c' None a is = goes_as c c c' (stays c) (sym is.0)
+delivered_on D c c' (Some e) a is = goes_as c (taken e c) c' (record { session = refl; ids = omega arith }) (sym is.2)
+
+-- the next entry, if there is one, can be received
+pub can_deliver : (w : World) (i : ℕ) (c : Client) (k : Kept) → IsSound w → slice_get w.lists.clients i ≡ Some c → slice_get w.kept i ≡ Some k → IfSome (slice_get w.lists.log c.received) (CanReceive c k)
+can_deliver w i c k s at_c at_k = go (slice_get w.lists.log c.received) refl
+  where
+    go : (o : Option Entry) → slice_get w.lists.log c.received ≡ o → IfSome o (CanReceive c k)
+    go None at = tt
+    go (Some e) at = can_receive (header_view w.header) (start_of w w.steps s) w.lists.log c k e (one_at w i c k s at_c at_k) s.few_names at
+
+pub sound_delivered : (w : World) (i : ℕ) (c c' : Client) (k k' : Kept) (D : Document) (a : Answer) → IsSound w → slice_get w.lists.clients i ≡ Some c → slice_get w.kept i ≡ Some k
+    → IsDeliveredTo D c (slice_get w.lists.log c.received) c' a → HasMoved c k (slice_get w.lists.log c.received) k'
+    → IsSoundAfter (w.steps + 1) (record w { lists = record w.lists { clients = slice_set w.lists.clients i c' }; kept = slice_set w.kept i k' })
+sound_delivered w i c c' k k' D a s at_c at_k done moved =
+    let on = delivered_on D c c' (slice_get w.lists.log c.received) a done in
+    sound_client w i c c' k' s at_c (one_delivered (header_view w.header) (start_of w w.steps s) w.lists.log c c' k k' D a (one_at w i c k s at_c at_k) s.few_names done moved) on.session on.ids
+
+pub next_delivered : (h : HeaderView) (w : Lists) (i : ℕ) (c q c' : Client) (D : Document) (a : Answer) → slice_get w.clients i ≡ Some c → slice_get w.clients i ≡ Some q → HasReceived h w.log c D
+    → IsDeliveredTo D c (slice_get w.log c.received) c' a → IsDelivered h w i q (record w { clients = slice_set w.clients i c' }) a
+next_delivered h w i c q c' D a at_c at_q received done =
+    let same : c ≡ q = cc in
+    subst (λ (x : Client). IsDelivered h w i x (record w { clients = slice_set w.clients i c' }) a) same (D, c', received, done, refl)
+
+-- ## What is shown
+
+pub next_shown : (w : World) (i : ℕ) (q : Client) (k : Kept) (tree : List ℕ) → IsSound w → slice_get w.lists.clients i ≡ Some q → slice_get w.kept i ≡ Some k → IsTreeText (is_among w.arrays) (document_of k.shown) tree
+    → IsShown (header_view w.header) w.lists q (Show tree)
+next_shown w i q k tree s at_q at_k text =
+    (document_of k.shown, tree, (one_at w i q k s at_q at_k).kept.shown, subst (λ f. IsTreeText f (document_of k.shown) tree) s.arrays text, refl)

@@ -1,0 +1,298 @@
+-- The world after a step of one client.
+use Rattle.std.proofs.Common.{◌≡◌, ◌≤◌, ◌<◌, ◌+◌, ◌^◌, ◌-◌, ℕ, zero, suc, Bool, true, false, cond, min, nat_le, nat_lt, List, [], ◌∷◌, ◌++◌, length, length-append, Option, Some, None, IfSome, refl, sym, ap, ◌∙◌, subst, arith, append_assoc, inl, inr}
+use Rattle.std.specs.List.{cons_option, slice_get, slice_set, AllByRecursion}
+use Rattle.std.specs.BTreeMap.{BTreeMap}
+use Rattle.std.specs.Option.{option_map}
+use Rattle.std.specs.Cmp.Lexicographic.{pointwise}
+use Rattle.std.specs.Prelude.{nat_eq}
+use Rattle.std.proofs.Math.ListN.{length-set}
+use Rattle.std.proofs.lemmas.Bool.Decides.{nat_tests}
+use Rattle.std.proofs.lemmas.List.{append-nil}
+use Rattle.std.proofs.lemmas.List.Quantifiers.{position-Some}
+use Rattle.st_ids.specs.Listing.{Has}
+use Rattle.st_ids.specs.declared.names.Limit.{Limit}
+use Rattle.st_ids.specs.declared.names.LimitOf.TheVariants.{Log, Names}
+use Rattle.st_marks.specs.declared.intents.Intent.{Intent}
+use Rattle.st_marks.specs.declared.verdicts.Verdict.{Verdict}
+use Rattle.st_marks.specs.Document.{IsSoundInForm, opening}
+use Rattle.st_marks.specs.Intent.{Fits}
+use Rattle.st_marks.specs.Run.{Run}
+use Rattle.st_marks.specs.Verdict.{IsVerdict, carried}
+use Rattle.st_commits.specs.Names.{HaveNewRevisions}
+use Rattle.st_commits.specs.Turns.{FitInTurn}
+use Rattle.st_commits.proofs.Shorter.{sublist_itself, sublist_joined, sublist_none, new_shorter}
+use Rattle.st_commits.proofs.Turns.{front, rest as rest_fit, turn_extends}
+use Rattle.st_doc.specs.Doc.{document_of}
+use Rattle.st_doc.specs.declared.doc.Doc.{Doc}
+use Rattle.st_script.specs.Header.{HeaderView, header_view}
+use Rattle.st_script.specs.declared.answer.Answer.{Answer}
+use Rattle.st_script.specs.declared.answer.Answer.TheVariants.{No}
+use Rattle.st_script.specs.declared.refusal.Refusal.TheVariants.{NothingToSend, NoClient, NoBranch}
+use Rattle.st_script.specs.Steps.{StepView, name_of, branch_of}
+use Rattle.st_script.specs.Steps as step
+use Rattle.st_trace.specs.Kept.{AreKept, IsClient, IsEntryOf, IsKept, IsSound, IsSoundAfter, intents_of, sent}
+use Rattle.st_trace.specs.Known.{AreKnown}
+use Rattle.st_trace.specs.Log.{commit_of, commits_in, entered}
+use Rattle.st_trace.specs.World.{AtClient, IsNext, IsNextOf, OnBranch, found, joined, log_limit_passed, names_in, names_made, opened, place_of, sequence}
+use Rattle.st_trace.specs.declared.kept.Kept.{Kept}
+use Rattle.st_trace.specs.declared.lists.Body.TheVariants.{Join, Commit}
+use Rattle.st_trace.specs.declared.lists.Client.{Client}
+use Rattle.st_trace.specs.declared.lists.Entry.{Entry}
+use Rattle.st_trace.specs.declared.lists.Lists.{Lists}
+use Rattle.st_trace.specs.declared.lists.Queued.{Queued}
+use Rattle.st_trace.specs.declared.world.World.{World}
+use Rattle.st_trace.proofs.Begun.{IsStart, opened_start}
+use Rattle.st_trace.proofs.Clients.{all_append, client_joined}
+use Rattle.st_trace.proofs.Counting.{names_append}
+use Rattle.st_trace.proofs.Everyone.{all_after_join, all_as, all_get, all_sent, all_set, kept_push, kept_set, kept_some, past, session_bound, sessions_push, sessions_set}
+use Rattle.st_trace.proofs.Keeping.{AreOne, kept_joined, run_more}
+use Rattle.st_trace.proofs.Logs.{entered_commits, last_entry}
+
+abbrev pub start_of : (w : World) (steps : ℕ) → IsSoundAfter steps w → IsStart (opened (header_view w.header))
+start_of w steps s = opened_start (header_view w.header) s.header
+
+-- a step on
+pub sound_later : (steps : ℕ) (w : World) → IsSoundAfter steps w → IsSoundAfter (steps + 1) w
+sound_later steps w s = record {
+  header = s.header;
+  kept = s.kept;
+  sessions = s.sessions;
+  clients = s.clients;
+  ids = all_as (λ (c : Client). c.ids ≤ steps) (λ (c : Client). c.ids ≤ steps + 1) w.lists.clients (λ c p. omega (arith, p)) s.ids;
+  log = s.log;
+  log_fit = s.log_fit;
+  log_new = s.log_new;
+  head = s.head;
+  entries = s.entries;
+  names = s.names;
+  few_names = s.few_names;
+  known = s.known;
+  arrays = s.arrays;
+}
+
+-- one client goes on
+pub sound_client : (w : World) (i : ℕ) (c c' : Client) (k' : Kept) → IsSound w → slice_get w.lists.clients i ≡ Some c → AreOne (header_view w.header) w.lists.log c' k' → c'.session ≡ c.session → c'.ids ≤ c.ids + 1
+    → IsSoundAfter (w.steps + 1) (record w { lists = record w.lists { clients = slice_set w.lists.clients i c' }; kept = slice_set w.kept i k' })
+sound_client w i c c' k' s at one session ids = record {
+  header = s.header;
+  kept = kept_set (header_view w.header) w.lists.log w.lists.clients w.kept i c' k' s.kept one;
+  sessions = sessions_set 1 w.lists.clients i c c' s.sessions at session;
+  clients = omega (arith, s.clients, length-set w.lists.clients i c');
+  ids = all_set (λ (x : Client). x.ids ≤ w.steps + 1) w.lists.clients i c' (all_as (λ (x : Client). x.ids ≤ w.steps) (λ (x : Client). x.ids ≤ w.steps + 1) w.lists.clients (λ x p. omega (arith, p)) s.ids)
+      (omega (arith, ids, all_get (λ (x : Client). x.ids ≤ w.steps) w.lists.clients i c s.ids at));
+  log = subst (λ n. AllByRecursion (IsEntryOf n) w.lists.log) (sym (length-set w.lists.clients i c')) s.log;
+  log_fit = s.log_fit;
+  log_new = s.log_new;
+  head = s.head;
+  entries = s.entries;
+  names = s.names;
+  few_names = s.few_names;
+  known = s.known;
+  arrays = s.arrays;
+}
+
+-- ## A text enters the log
+
+-- the oldest text of a client, after the commits of the log
+pub record IsLast (h : HeaderView) (log : List Entry) (c : Client) (N : Intent) : Type 0 where
+  pub fit : FitInTurn (opened h) (commits_in log ++ N ∷ [])
+  pub new : HaveNewRevisions (opening ∷ []) (commits_in log ++ N ∷ [])
+  pub session : N.rev.session ≡ c.session
+
+pub is_last : (h : HeaderView) (log : List Entry) (c : Client) (q : Queued) (rest : List Queued) → IsClient h log c → c.queue ≡ q ∷ rest → IsLast h log c q.intent
+is_last h log c q rest k is =
+    let L = commits_in log in
+    let N = q.intent in
+    let R = intents_of rest in
+    let waiting : intents_of c.queue ≡ N ∷ R = ap intents_of is in
+    let all : sent log c ≡ (L ++ N ∷ []) ++ R = ap (λ l. L ++ l) waiting ∙ sym (append_assoc L (N ∷ []) R) in
+    let whole = subst (HaveNewRevisions (opening ∷ [])) all k.new in
+    record {
+      fit = front (L ++ N ∷ []) R (opened h) (subst (FitInTurn (opened h)) all k.sent_fit);
+      new = subst (HaveNewRevisions (opening ∷ [])) (append-nil (L ++ N ∷ [])) (new_shorter (opening ∷ []) ((L ++ N ∷ []) ++ []) ((L ++ N ∷ []) ++ R) (sublist_joined (sublist_itself (L ++ N ∷ [])) (sublist_none R)) whole);
+      session = (subst (AllByRecursion (λ (M : Intent). M.rev.session ≡ c.session)) waiting k.own).0;
+    }
+
+-- it fits the document after the whole log, which is sound in form
+pub head_sound : (w : World) → IsSound w → IsSoundInForm (document_of w.head)
+head_sound w s = (turn_extends (start_of w w.steps s).sound s.log_fit s.head).after
+
+pub head_fits : (w : World) (i : ℕ) (c : Client) (q : Queued) (rest : List Queued) → IsSound w → slice_get w.lists.clients i ≡ Some c → c.queue ≡ q ∷ rest → Fits (document_of w.head) q.intent
+head_fits w i c q rest s at is =
+    let last = is_last (header_view w.header) w.lists.log c q rest (kept_some (header_view w.header) w.lists.log w.lists.clients w.kept i c s.kept at) is in
+    (rest_fit (q.intent ∷ []) s.head last.fit).1
+
+-- a text that passes no limit
+pub within_log : (log : List Entry) (made : ℕ) → log_limit_passed log made ≡ None → (length log < 65535) × (names_in (commits_in log) + made ≤ 131072)
+within_log log made e = go (nat_le 65535 (length log)) refl (nat_lt 131072 (names_in (commits_in log) + made)) refl e
+  where
+    go : (a : Bool) → nat_le 65535 (length log) ≡ a → (b : Bool) → nat_lt 131072 (names_in (commits_in log) + made) ≡ b
+        → ◌≡◌ {A = Option Limit} (cond a (Some (record { of = Log; kept = length log })) (cond b (Some (record { of = Names; kept = names_in (commits_in log) })) None)) None
+        → (length log < 65535) × (names_in (commits_in log) + made ≤ 131072)
+    go true p b q e = absurd (cc)
+    go false p true q e = absurd (cc)
+    go false p false q e = (few p, few_names q)
+      where
+        few : nat_le 65535 (length log) ≡ false → length log < 65535
+        few p = grind (arith, nat_tests)
+
+        few_names : nat_lt 131072 (names_in (commits_in log) + made) ≡ false → names_in (commits_in log) + made ≤ 131072
+        few_names q = grind (arith, nat_tests)
+
+-- a count that stops at a number's end passes the limit where the whole count does
+pub limit_stopped : (log : List Entry) (made : ℕ) → log_limit_passed log (min made (2 ^ 64 - 1)) ≡ log_limit_passed log made
+limit_stopped log made = ap (λ b. cond (nat_le 65535 (length log)) (Some (record { of = Log; kept = length log })) (cond b (Some (record { of = Names; kept = names_in (commits_in log) })) None)) (same (names_in (commits_in log)))
+  where
+    same : (n : ℕ) → nat_lt 131072 (n + min made (2 ^ 64 - 1)) ≡ nat_lt 131072 (n + made)
+    same n = grind (arith, nat_tests)
+
+pub sound_sent : (w : World) (i : ℕ) (c c' : Client) (q : Queued) (head : Doc) (known : BTreeMap ℕ ℕ) (v : Verdict) → IsSound w → slice_get w.lists.clients i ≡ Some c → c.queue ≡ q ∷ c'.queue → c' ≡ record c { queue = c'.queue }
+    → length w.lists.log < 65535 → names_in (commits_in w.lists.log) + names_made q.intent ≤ 131072 → IsVerdict (document_of w.head) q.intent v → document_of head ≡ carried v (document_of w.head) q.intent
+    → AreKnown (entered w.lists.log c.session (Commit q.reference q.intent)) known
+    → IsSoundAfter (w.steps + 1) (record w {
+      lists = record w.lists { log = entered w.lists.log c.session (Commit q.reference q.intent); clients = slice_set w.lists.clients i c' };
+      head = head;
+      known = known;
+      names = w.names + names_made q.intent;
+    })
+sound_sent w i c c' q head known v s at is is_c few few_names verdict after knows =
+    let h = header_view w.header in
+    let st = start_of w w.steps s in
+    let log = w.lists.log in
+    let N = q.intent in
+    let L = commits_in log in
+    let body = Commit q.reference q.intent in
+    let k = kept_some h log w.lists.clients w.kept i c s.kept at in
+    let last = is_last h log c q c'.queue k is in
+    let commits : L ++ N ∷ [] ≡ commits_in (entered log c.session body) = sym (entered_commits log c.session body) in
+    let one_name : names_in (N ∷ []) ≡ names_made N = omega arith in
+    let names : names_in (commits_in (entered log c.session body)) ≡ names_in L + names_made N = ap names_in (sym commits) ∙ names_append L (N ∷ []) ∙ ap (λ n. names_in L + n) one_name in
+    let set : slice_set w.lists.clients i (record c { queue = c'.queue }) ≡ slice_set w.lists.clients i c' = ap (slice_set w.lists.clients i) (sym is_c) in
+    let size = length-set w.lists.clients i c' in
+    let bound = session_bound 1 w.lists.clients i c s.sessions at in
+    let low = all_get (λ (x : Client). x.ids ≤ w.steps) w.lists.clients i c s.ids at in
+    record {
+      header = s.header;
+      kept = subst (λ (cs : List Client). AreKept h (entered log c.session body) cs w.kept) set (all_sent h st log c q c'.queue k is few_names 1 w.lists.clients w.kept i s.sessions at s.kept);
+      sessions = sessions_set 1 w.lists.clients i c c' s.sessions at (ap (λ (x : Client). x.session) is_c);
+      clients = omega (arith, s.clients, size);
+      ids = all_set (λ (x : Client). x.ids ≤ w.steps + 1) w.lists.clients i c' (all_as (λ (x : Client). x.ids ≤ w.steps) (λ (x : Client). x.ids ≤ w.steps + 1) w.lists.clients (λ x p. omega (arith, p)) s.ids)
+          (omega (arith, low, ap (λ (x : Client). x.ids) is_c));
+      log = subst (λ n. AllByRecursion (IsEntryOf n) (entered log c.session body)) (sym size)
+          (all_append (IsEntryOf (length w.lists.clients)) log (last_entry log c.session body ∷ []) s.log ((omega (arith, bound), last.session), tt));
+      log_fit = subst (FitInTurn (opened h)) commits last.fit;
+      log_new = subst (HaveNewRevisions (opening ∷ [])) commits last.new;
+      head = subst (λ l. Run (opened h) l (document_of head)) commits (run_more N (document_of head) v s.head verdict after);
+      entries = omega (arith, few, length-append log (last_entry log c.session body ∷ []));
+      names = omega (arith, s.names, names);
+      few_names = omega (arith, few_names, names);
+      known = knows;
+      arrays = s.arrays;
+    }
+
+-- ## A client joins
+
+-- a commit of the log is of one of the sessions
+of_sessions : (sessions : ℕ) (es : List Entry) (N : Intent) → AllByRecursion (IsEntryOf sessions) es → Has (commits_in es) N → N.rev.session ≤ sessions
+of_sessions sessions [] N all i = absurd i
+of_sessions sessions (e ∷ es) N all i = go (commit_of e) all.0.1 i (λ j. of_sessions sessions es N all.1 j)
+  where
+    go : (o : Option Intent) → IfSome o (λ (M : Intent). M.rev.session ≡ e.session) → Has (cons_option o (commits_in es)) N → (Has (commits_in es) N → N.rev.session ≤ sessions) → N.rev.session ≤ sessions
+    go None own i rest = rest i
+    go (Some M) own (inl same) rest = let at : N.rev.session ≡ e.session = ap (λ (X : Intent). X.rev.session) (sym same) ∙ own in omega (arith, at, all.0.0)
+    go (Some M) own (inr i) rest = rest i
+
+pub sound_joined : (w : World) (name : List ℕ) (n session : ℕ) (c : Client) (k : Kept) (known : BTreeMap ℕ ℕ) → IsSound w → length w.lists.clients < 64 → length w.lists.log < 65535 → session ≡ length w.lists.clients + 1
+    → n ≡ length w.lists.log + 1 → AreKnown (entered w.lists.log session Join) known → c ≡ joined n session name → document_of k.received ≡ document_of w.head → document_of k.shown ≡ document_of w.head → k.names ≡ 0
+    → IsSoundAfter (w.steps + 1) (record w {
+      lists = record w.lists { log = entered w.lists.log session Join; clients = w.lists.clients ++ c ∷ [] };
+      kept = w.kept ++ k ∷ [];
+      known = known;
+    })
+sound_joined w name n session c k known s few few_entries is_s is_n knows is_c received shown no_names =
+    let h = header_view w.header in
+    let st = start_of w w.steps s in
+    let log = w.lists.log in
+    let L = commits_in log in
+    let commits : L ≡ commits_in (entered log session Join) = sym (entered_commits log session Join ∙ append-nil L) in
+    let size : length (entered log session Join) ≡ length log + 1 = omega (arith, length-append log (last_entry log session Join ∷ [])) in
+    let more : length (w.lists.clients ++ c ∷ []) ≡ length w.lists.clients + 1 = omega (arith, length-append w.lists.clients (c ∷ [])) in
+    let client = client_joined h st log session name s.log_fit s.log_new (λ N i e. omega (arith, of_sessions (length w.lists.clients) log N s.log i, e, is_s)) in
+    let kept = kept_joined h st (entered log session Join) (length log + 1) session name k (document_of w.head) (sym size) (subst (λ l. Run (opened h) l (document_of w.head)) commits s.head) received shown no_names in
+    let is : joined (length log + 1) session name ≡ c = ap (λ m. joined m session name) (sym is_n) ∙ sym is_c in
+    record {
+      header = s.header;
+      kept = kept_push h (entered log session Join) w.lists.clients w.kept c k (all_after_join h st log session w.lists.clients w.kept s.kept)
+          (subst (λ x. IsClient h (entered log session Join) x) is client) (subst (λ x. IsKept h (entered log session Join) x k) is kept);
+      sessions = sessions_push 1 w.lists.clients c s.sessions (ap (λ (x : Client). x.session) is_c ∙ is_s ∙ omega arith);
+      clients = omega (arith, few, more);
+      ids = all_append (λ (x : Client). x.ids ≤ w.steps + 1) w.lists.clients (c ∷ []) (all_as (λ (x : Client). x.ids ≤ w.steps) (λ (x : Client). x.ids ≤ w.steps + 1) w.lists.clients (λ x p. omega (arith, p)) s.ids)
+          (omega (arith, ap (λ (x : Client). x.ids) is_c), tt);
+      log = subst (λ m. AllByRecursion (IsEntryOf m) (entered log session Join)) (sym more)
+          (all_append (IsEntryOf (length w.lists.clients + 1)) log (last_entry log session Join ∷ [])
+          (all_as (IsEntryOf (length w.lists.clients)) (IsEntryOf (length w.lists.clients + 1)) log (λ e p. (omega (arith, p.0), p.1)) s.log) ((omega (arith, is_s), tt), tt));
+      log_fit = subst (FitInTurn (opened h)) commits s.log_fit;
+      log_new = subst (HaveNewRevisions (opening ∷ [])) commits s.log_new;
+      head = subst (λ l. Run (opened h) l (document_of w.head)) commits s.head;
+      entries = omega (arith, few_entries, size);
+      names = s.names ∙ ap names_in commits;
+      few_names = omega (arith, s.few_names, ap names_in commits);
+      known = knows;
+      arrays = s.arrays;
+    }
+
+-- ## Answers
+
+-- all steps but a join are those of the client that they name
+pub next_other : (h : HeaderView) (w : Lists) (s : StepView) (v : Lists) (a : Answer) → ((name : List ℕ) → s ≡ step.join name → ⊥) → AtClient h w s (found (name_of s) w.clients) v a → IsNext h w s v a
+next_other h w (step.join name) v a other is = absurd (other name refl)
+next_other h w (step.insert name branch at key index items) v a other is = is
+next_other h w (step.remove name branch at key index count) v a other is = is
+next_other h w (step.move name branch at key index count to to_key to_index) v a other is = is
+next_other h w (step.set name branch at key item) v a other is = is
+next_other h w (step.clear name branch at key) v a other is = is
+next_other h w (step.sequence name) v a other is = is
+next_other h w (step.deliver name) v a other is = is
+next_other h w (step.show name branch) v a other is = is
+
+pub next_absent : (h : HeaderView) (w : Lists) (s : StepView) → place_of (name_of s) w.clients ≡ None → AtClient h w s (found (name_of s) w.clients) w (No NoClient)
+next_absent h w s none = rw none (refl, refl)
+
+-- what the client at the place does
+pub next_present : (h : HeaderView) (w : Lists) (s : StepView) (i : ℕ) (v : Lists) (a : Answer) → place_of (name_of s) w.clients ≡ Some i
+    → ((c : Client) → slice_get w.clients i ≡ Some c → OnBranch (branch_of s) w v a (IsNextOf h w s i c v a)) → AtClient h w s (found (name_of s) w.clients) v a
+next_present h w s i v a is does = rw is (at (slice_get w.clients i) refl)
+  where
+    within : i < length w.clients
+    within = (position-Some (λ (c : Client). pointwise nat_eq c.name (name_of s)) w.clients i (joined 0 0 []) is).0
+
+    at : (o : Option Client) → slice_get w.clients i ≡ o → AtClient h w s (option_map (λ c. (i, c)) (slice_get w.clients i)) v a
+    at None none = absurd (past w.clients i within none)
+    at (Some c) there = rw there (does c there)
+
+pub on_main : (branch : ℕ) (w v : Lists) (a : Answer) (next : Type 0) → branch ≡ 0 → next → OnBranch branch w v a next
+on_main zero w v a next e n = n
+on_main (suc k) w v a next e n = absurd (omega (arith, e))
+
+pub on_none : (branch : ℕ) (w : Lists) (next : Type 0) → (branch ≡ 0 → ⊥) → OnBranch branch w w (No NoBranch) next
+on_none zero w next e = absurd (e refl)
+on_none (suc k) w next e = (refl, refl)
+
+-- a client whose queue is empty sends nothing
+pub next_unsent : (w : Lists) (i : ℕ) (c q : Client) → slice_get w.clients i ≡ Some c → slice_get w.clients i ≡ Some q → c.queue ≡ [] → sequence w i q q.queue ≡ (w, No NothingToSend)
+next_unsent w i c q at_c at_q none =
+    let same : c ≡ q = cc in
+    let empty : q.queue ≡ [] = rw (← same) none in
+    rw empty refl
+
+-- a text that is sent passes no limit
+pub text_within : (w : World) (i : ℕ) (c d : Client) (q : Queued) (rest : List Queued) (made : ℕ) (o : Option ℕ) (l : Option Limit) → slice_get w.lists.clients i ≡ Some c → slice_get w.lists.clients i ≡ Some d → d.queue ≡ q ∷ rest
+    → o ≡ option_map (λ (q : Queued). min (names_made q.intent) (2 ^ 64 - 1)) (slice_get c.queue 0) → o ≡ Some made → l ≡ log_limit_passed w.lists.log made → l ≡ None
+    → (length w.lists.log < 65535) × (names_in (commits_in w.lists.log) + names_made q.intent ≤ 131072)
+text_within w i c d q rest made o l at_c at_d is waits some limit none =
+    let same : c ≡ d = cc in
+    let queue : c.queue ≡ q ∷ rest = ap (λ (x : Client). x.queue) same ∙ is in
+    let first : option_map (λ (q : Queued). min (names_made q.intent) (2 ^ 64 - 1)) (slice_get c.queue 0) ≡ Some (min (names_made q.intent) (2 ^ 64 - 1)) = rw queue refl in
+    let both : Some made ≡ Some (min (names_made q.intent) (2 ^ 64 - 1)) = sym some ∙ waits ∙ first in
+    let is_made : made ≡ min (names_made q.intent) (2 ^ 64 - 1) = cc in
+    within_log w.lists.log (names_made q.intent) (sym (limit_stopped w.lists.log (names_made q.intent)) ∙ ap (log_limit_passed w.lists.log) (sym is_made) ∙ sym limit ∙ none)

@@ -1,0 +1,11 @@
+-- the least so far, and then that of the clients that are left
+use Rattle.std.proofs.Common.{◌≡◌, ℕ, drop, min}
+use Rattle.std.specs.List.{fold}
+use Rattle.st_trace.specs.Known.{known_so_far}
+use Rattle.st_trace.specs.declared.lists.Client.{Client}
+use Rattle.st_trace.proofs.log.least_known.Given as goal
+
+abbrev pub invariant-loop-client : goal.invariant-loop-client
+invariant-loop-client l =
+    let lower : ℕ → Client → ℕ = λ least c. min least (known_so_far l.known c.session) in
+    fold lower l.least (drop l.client-index l.clients) ≡ fold lower l.initial.least l.clients

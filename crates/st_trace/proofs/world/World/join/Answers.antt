@@ -1,0 +1,18 @@
+use Rattle.std.proofs.Common.{◌≡◌, ◌<◌, ◌+◌, [], ◌∷◌, length, length-append, ap, arith}
+use Rattle.st_trace.specs.declared.lists.Body.TheVariants.{Join}
+use Rattle.st_trace.proofs.Logs.{last_entry}
+use Rattle.st_trace.proofs.Stepping.{sound_joined}
+use Rattle.st_trace.proofs.world.World.join.Goals as goal
+
+pub returns-clause-sound : goal.returns-clause-sound
+returns-clause-sound c =
+    let w = c.args.self.now in
+    let session = c.len-count.result + 1 in
+    let few : length w.lists.clients < 64 = omega (arith, c.len-count.ensures) in
+    let few_entries : length w.lists.log < 65535 = omega (arith, c.len-entries.ensures) in
+    let logged = c.in_ok-enter.ensures.log in
+    let n : c.len-n.result ≡ length w.lists.log + 1 = omega (arith, c.len-n.ensures, ap length logged, length-append w.lists.log (last_entry w.lists.log session Join ∷ [])) in
+    let knows = rw logged at c.in_ok-enter.ensures.known in
+    rw (c.in_ok-push-2.ensures.ok, c.in_ok-push.ensures.ok, logged)
+    (sound_joined w c.args.name.now c.len-n.result session c.in_ok-joined.field-0 c.in_ok-opened.field-0 c.enter.new.known c.requires.sound few few_entries (omega (arith, c.len-count.ensures)) n knows c.in_ok-joined.ensures
+    c.in_ok-opened.ensures.received c.in_ok-opened.ensures.shown c.in_ok-opened.ensures.names)

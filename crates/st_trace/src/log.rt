@@ -1,0 +1,65 @@
+//! The log, and how much of it each session is known to have received.
+ghost use Rattle.std.specs.Prelude.{◌≡◌, ℕ, ◌+◌, ◌^◌, ◌<◌, length, fold, min, OnOk};
+ghost use Rattle.st_trace.specs.Log.{entered, heard, raised};
+ghost use Rattle.st_trace.specs.Known.{known_so_far, AreKnown};
+
+use crate::lists::{Body, Client, Entry};
+use st_ids::List;
+use std::alloc::AllocError;
+use std::collections::BTreeMap;
+
+// Up to which entry the session of an entry had received the log.
+fn heard(entry: &Entry) -> u32
+    ensures { result ≡ heard entry.now }
+{
+    match &entry.body {
+        Body::Join => entry.n,
+        Body::Commit { reference, .. } => *reference,
+    }
+}
+
+// The greatest reference of a session that is known so far.
+fn known_so_far(known: &BTreeMap<u32, u32>, session: u32) -> u32
+    ensures { result ≡ known_so_far known.now session }
+{
+    known.get(&session).copied().unwrap_or(0)
+}
+
+// Takes note of what an entry says of its session.
+fn note(known: &mut BTreeMap<u32, u32>, entry: &Entry) -> Result<(), AllocError>
+    ensures { OnOk result ((session : ℕ) → known_so_far known.new session ≡ raised session (known_so_far known.old session) entry.now) }
+{
+    let known_before = known_so_far(known, entry.session);
+    known.insert(entry.session, known_before.max(heard(entry)))?;
+    Ok(())
+}
+
+/// Puts an entry at the end of the log. After an `Err` nothing is promised of either.
+pub fn enter(
+    log: &mut List<Entry>,
+    known: &mut BTreeMap<u32, u32>,
+    session: u32,
+    body: Body,
+) -> Result<(), AllocError>
+    requires few { length log.old + 1 < 2 ^ 32 }
+    requires known { AreKnown log.old known.old }
+    ensures log { OnOk result (log.new ≡ entered log.old session body) }
+    ensures known { OnOk result (AreKnown log.new known.new) }
+{
+    let n = log.len() as u32 + 1;
+    let entry = Entry { n, session, body };
+    note(known, &entry)?;
+    log.push(entry)?;
+    Ok(())
+}
+
+/// The least known reference of the clients; with no client, `number`.
+pub fn least_known(clients: &[Client], known: &BTreeMap<u32, u32>, number: u32) -> u32
+    ensures { result ≡ fold (λ least c. min least (known_so_far known.now c.session)) number clients.now }
+{
+    let mut least = number;
+    for client in clients {
+        least = least.min(known_so_far(known, client.session));
+    }
+    least
+}

@@ -1,0 +1,25 @@
+//! How many names commits make.
+ghost use Rattle.std.specs.Prelude.{◌≡◌, ◌-◌, ◌^◌, min, length};
+ghost use Rattle.std.specs.List.{flat_map};
+ghost use Rattle.st_trace.specs.World.{names_made};
+
+use st_marks::{Group, Intent};
+
+// How many cells there are in groups, or the greatest number if there are more.
+fn cells_in(groups: &[Group]) -> u64
+    ensures { result ≡ min (length (flat_map (λ g. g.cells) groups.now)) (2 ^ 64 - 1) }
+{
+    let mut count: u64 = 0;
+    for group in groups {
+        count = count.saturating_add(group.cells.len() as u64);
+    }
+    count
+}
+
+/// How many nodes and cells an intent makes, or the greatest number if there are more.
+pub fn names_made(intent: &Intent) -> u64
+    ensures { result ≡ min (names_made intent.now) (2 ^ 64 - 1) }
+{
+    let cells = cells_in(intent.groups.as_slice());
+    (intent.new.len() as u64).saturating_add(cells)
+}
