@@ -1,13 +1,5 @@
 pub mod Answering
-pub mod Forms
 pub mod Fronts
 pub mod Growing
-pub mod Keeping
-pub mod KeptLists
-pub mod Keys
 pub mod LineSteps
-pub mod NeverVoid
-pub mod RowEdits
-pub mod RunLists
-pub mod Stepping
 pub mod Telling

@@ -1,15 +1,5 @@
-pub mod AnswerText
 pub mod Answers
-pub mod Header
 pub mod Inputs
-pub mod Intents
-pub mod Json
-pub mod Kept
-pub mod Known
 pub mod Lines
-pub mod Log
-pub mod NeverVoid
 pub mod Parts
 pub mod Status
-pub mod Steps
-pub mod World

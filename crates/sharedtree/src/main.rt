@@ -1,24 +1,14 @@
 //! Clients that edit one typed document at once, from lines of JSON to lines of JSON.
 #![tactic(auto)]
 
-mod answer;
-mod client;
-mod header;
-mod intents;
-mod json;
-mod laws;
 mod lines;
-mod lists;
-mod log;
 mod outcome;
 mod run;
 mod send;
-mod step;
 mod take;
 #[cfg(test)]
 mod tests;
 mod trace;
-mod world;
 
 use crate::outcome::Outcome;
 use crate::run::run;

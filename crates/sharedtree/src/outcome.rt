@@ -1,16 +1,7 @@
 //! How a run ends.
 ghost use Rattle.std.specs.Prelude.{◌≡◌};
 
-/// Why a line is refused.
-#[derive(Clone, Copy, Debug, PartialEq, Eq)]
-pub enum BadCause {
-    /// The line has no reading.
-    Json,
-    /// Line 1 is no header.
-    Header,
-    /// Another line is no step.
-    Shape,
-}
+use st_json::BadCause;
 
 /// How a run ends.
 #[derive(Clone, Copy, Debug, PartialEq, Eq)]

@@ -4,16 +4,16 @@ ghost use Rattle.serde_json.specs.View.{view};
 ghost use Rattle.st_io.specs.Faults.{Rose};
 ghost use Rattle.sharedtree.specs.Answers.{is_trace, usage_data, usage_told, max_input, long_line, long_data, long_told, IsTold, IsAnswered};
 
-use crate::json::write_line;
 use crate::outcome::Outcome;
 use crate::send::write_all;
 use crate::take::{Input, read_all};
 use crate::trace::trace;
 use serde_json::{Value, json};
 use st_io::{Sink, Source};
+use st_json::write_line;
 use std::alloc::{AllocError, Global};
 
-const MAX_INPUT: usize = 8192;
+const MAX_INPUT: usize = 1 << 20;
 
 // Whether the words are a command.
 fn is_trace(words: &Vec<String>) -> bool
@@ -39,7 +39,7 @@ fn long_value(alloc: Global, number: u32) -> Result<Value, AllocError>
 
 // Answers words that are no command.
 fn send_usage<K: Sink>(alloc: Global, sink: &mut K) -> Outcome
-    ensures told { IsTold (K.written sink.old) (K.written sink.new) usage_told result }
+    ensures told { IsTold (K.written sink.old) (K.written sink.new) (λ told. told ≡ usage_told) result }
     ensures fault { result ≡ Outcome.WriteFault → Rose (K.faults sink.old) (K.faults sink.new) }
 {
     let Ok(value) = usage_value(alloc) else {
@@ -72,7 +72,7 @@ fn long_line(bytes: &[u8]) -> u32
 
 // Answers an input that is too long.
 fn send_long<K: Sink>(alloc: Global, line: u32, sink: &mut K) -> Outcome
-    ensures told { IsTold (K.written sink.old) (K.written sink.new) (long_told line) result }
+    ensures told { IsTold (K.written sink.old) (K.written sink.new) (λ told. told ≡ long_told line) result }
     ensures fault { result ≡ Outcome.WriteFault → Rose (K.faults sink.old) (K.faults sink.new) }
 {
     let Ok(value) = long_value(alloc, line) else {

@@ -1,8 +1,9 @@
 ghost use Rattle.std.specs.Prelude.{◌<◌};
 
-use crate::outcome::{BadCause, Outcome};
+use crate::outcome::Outcome;
 use crate::run::run;
 use st_io::{MemSink, MemSource};
+use st_json::BadCause;
 use std::alloc::{AllocError, Global};
 use std::test::Fail;
 

@@ -1,49 +1,27 @@
 //! The answers to the lines of an input.
-ghost use Rattle.std.specs.Prelude.{◌≡◌, false, ◌+◌, ◌^◌, ◌<◌, ◌≤◌, ℕ, List, length, Option, Ok, Err, IfOk, IfErr, OnOk};
+ghost use Rattle.std.specs.Prelude.{◌≡◌, false, ◌+◌, ◌^◌, ◌<◌, ◌≤◌, length, Ok, Err, IfOk, IfErr, OnOk, codes};
 ghost use Rattle.st_ids.specs.Or.{IfRefused};
 ghost use Rattle.st_io.specs.Bytes.{Grows};
 ghost use Rattle.st_io.specs.Faults.{Rose};
-ghost use Rattle.sharedtree.specs.AnswerText.{answer_line};
-ghost use Rattle.sharedtree.specs.Kept.{IsSound};
-ghost use Rattle.sharedtree.specs.Steps.{IsOfForm};
-ghost use Rattle.sharedtree.specs.World.{begun};
 ghost use Rattle.serde_json.specs.View.{view};
-ghost use Rattle.sharedtree.specs.Json.{read_line as line_data};
+ghost use Rattle.st_script.specs.AnswerText.{answer_line};
+ghost use Rattle.st_script.specs.Header.{header_view, header_line};
+ghost use Rattle.st_script.specs.Line.{line_of};
+ghost use Rattle.st_trace.specs.Kept.{IsSound};
+ghost use Rattle.st_trace.specs.World.{begun};
 ghost use Rattle.sharedtree.specs.Lines.{cut};
-ghost use Rattle.sharedtree.specs.Answers.{Told, step_of, tell, before, cause_name, bad_data, bad_line, opening_of, answers_from, trace_of, IsTold};
-ghost use Rattle.sharedtree.specs.declared.outcome.Outcome.{Outcome as Ending};
-ghost use Rattle.sharedtree.specs.declared.lists.Lists.{Lists as History};
+ghost use Rattle.sharedtree.specs.Answers.{OrStopped, IsHeaderTold, IsStopped, IsLineAnswered, EndsAtLine, cause_name, bad_data, bad_line, AnswersFrom, IsTraceOf, IsTold};
 
-use crate::answer::Answer;
-use crate::header::read_header as header_of;
-use crate::json::{read_line, write_line};
 use crate::lines::split_line;
-use crate::outcome::{BadCause, Outcome};
+use crate::outcome::Outcome;
 use crate::send::write_all;
-use crate::step::Step;
-use crate::world::World;
 use serde_json::{Value, json};
 use st_ids::Or;
 use st_io::Sink;
+use st_json::{BadCause, write_line};
+use st_script::{Answer, Line, answer_line, read_header as header_of, read_step_line};
+use st_trace::World;
 use std::alloc::{AllocError, Global};
-
-// The step that a line is.
-fn read_step(alloc: Global, line: &[u8]) -> Result<Step, Or<BadCause>>
-    ensures ok { IfOk result (λ s. step_of (line_data line.now) ≡ Ok s) }
-    ensures form { IfOk result IsOfForm }
-    ensures bad { IfRefused result (λ c. step_of (line_data line.now) ≡ Err c) }
-{
-    let value = match read_line(alloc, line) {
-        Ok(value) => value,
-        Err(Or::NoMemory) => return Err(Or::NoMemory),
-        Err(Or::Fault(_)) => return Err(Or::Fault(BadCause::Json)),
-    };
-    match Step::read(alloc, &value) {
-        Ok(Some(step)) => Ok(step),
-        Ok(None) => Err(Or::Fault(BadCause::Shape)),
-        Err(_) => Err(Or::NoMemory),
-    }
-}
 
 // The word for a cause.
 fn cause_word(cause: BadCause) -> &'static str
@@ -53,6 +31,7 @@ fn cause_word(cause: BadCause) -> &'static str
         BadCause::Json => "Json",
         BadCause::Header => "Header",
         BadCause::Shape => "Shape",
+        BadCause::NotNormal => "NotNormal",
     }
 }
 
@@ -66,7 +45,7 @@ fn bad_value(alloc: Global, number: u32, cause: BadCause) -> Result<Value, Alloc
 
 // Ends a run at a bad line.
 fn refuse<K: Sink>(alloc: Global, number: u32, cause: BadCause, sink: &mut K) -> Outcome
-    ensures told { IsTold (K.written sink.old) (K.written sink.new) (bad_line number cause) result }
+    ensures told { IsTold (K.written sink.old) (K.written sink.new) (OrStopped (λ told. told ≡ bad_line number cause)) result }
     ensures fault { result ≡ Outcome.WriteFault → Rose (K.faults sink.old) (K.faults sink.new) }
     ensures later { K.faults sink.old ≤ K.faults sink.new }
 {
@@ -95,25 +74,23 @@ fn take_line<K: Sink>(
 ) -> Result<(), Outcome>
     requires sound { (world.old.spent ≡ false) × IsSound world.old }
     requires few { world.old.steps + 1 < 2 ^ 32 }
-    ensures ok { OnOk result ((rest : History → Told) (after : Option (List ℕ)) (o : Ending)
-        → IsTold (K.written sink.new) after (rest world.new.lists) o
-        → IsTold (K.written sink.old) after (tell number (step_of (line_data line.now)) world.old.lists rest) o) }
-    ensures ended { IfErr result (λ o. (rest : History → Told)
-        → IsTold (K.written sink.old) (K.written sink.new) (tell number (step_of (line_data line.now)) world.old.lists rest) o) }
+    ensures ok { OnOk result (IsLineAnswered (header_view world.old.header) (line_of line.now) world.old.lists world.new.lists (K.written sink.old) (K.written sink.new)) }
+    ensures ended { IfErr result (IsTold (K.written sink.old) (K.written sink.new) (EndsAtLine (header_view world.old.header) number (line_of line.now) world.old.lists)) }
     ensures fault { result ≡ Err Outcome.WriteFault → Rose (K.faults sink.old) (K.faults sink.new) }
     ensures later { K.faults sink.old ≤ K.faults sink.new }
     ensures sound { OnOk result ((world.new.spent ≡ false) × IsSound world.new) }
     ensures steps { OnOk result (world.new.steps ≡ world.old.steps + 1) }
+    ensures header { OnOk result (world.new.header ≡ world.old.header) }
 {
-    let step = match read_step(alloc, line) {
-        Ok(step) => step,
-        Err(Or::NoMemory) => return Err(Outcome::NoMemory),
-        Err(Or::Fault(cause)) => return Err(refuse(alloc, number, cause, sink)),
+    let step = match read_step_line(alloc, line) {
+        Ok(Line::Step(step)) => step,
+        Ok(Line::Bad(cause)) => return Err(refuse(alloc, number, cause, sink)),
+        Err(_) => return Err(Outcome::NoMemory),
     };
     let Ok(answer) = world.step(alloc, &step) else {
         return Err(Outcome::NoMemory);
     };
-    let Ok(text) = answer.line(alloc) else {
+    let Ok(text) = answer_line(alloc, &answer) else {
         return Err(Outcome::NoMemory);
     };
     match write_all(sink, text.as_str().as_bytes()) {
@@ -127,7 +104,7 @@ fn take_lines<K: Sink>(alloc: Global, world: World, bytes: &[u8], sink: &mut K) 
     requires size { length bytes.now < 2 ^ 24 }
     requires sound { (world.spent ≡ false) × IsSound world }
     requires fresh { world.steps ≡ 0 }
-    ensures told { IsTold (K.written sink.old) (K.written sink.new) (answers_from world.lists 2 (cut bytes.now)) result }
+    ensures told { IsTold (K.written sink.old) (K.written sink.new) (AnswersFrom (header_view world.header) world.lists 2 (cut bytes.now)) result }
     ensures fault { result ≡ Outcome.WriteFault → Rose (K.faults sink.old) (K.faults sink.new) }
     ensures later { K.faults sink.old ≤ K.faults sink.new }
 {
@@ -148,32 +125,24 @@ fn take_lines<K: Sink>(alloc: Global, world: World, bytes: &[u8], sink: &mut K) 
 
 // The world that a line opens.
 fn read_header(alloc: Global, line: &[u8]) -> Result<World, Or<BadCause>>
-    ensures ok { IfOk result (λ w. (texts : List (List ℕ)) × (opening_of (line_data line.now) ≡ Ok texts) × (w.lists ≡ begun texts)) }
+    ensures ok { IfOk result (λ w. header_line (codes "trace") line.now ≡ Ok (header_view w.header)) }
+    ensures lists { IfOk result (λ w. w.lists ≡ begun) }
     ensures sound { IfOk result (λ w. (w.spent ≡ false) × IsSound w) }
     ensures fresh { IfOk result (λ w. w.steps ≡ 0) }
-    ensures bad { IfRefused result (λ c. opening_of (line_data line.now) ≡ Err c) }
+    ensures bad { IfRefused result (λ c. header_line (codes "trace") line.now ≡ Err c) }
 {
-    let value = match read_line(alloc, line) {
-        Ok(value) => value,
-        Err(Or::NoMemory) => return Err(Or::NoMemory),
-        Err(Or::Fault(_)) => return Err(Or::Fault(BadCause::Json)),
-    };
-    match header_of(alloc, &value) {
-        Ok(Some(texts)) => Ok(World::open(alloc, texts)),
-        Ok(None) => Err(Or::Fault(BadCause::Header)),
-        Err(_) => Err(Or::NoMemory),
-    }
+    let header = header_of(alloc, line, "trace")?;
+    Ok(World::new(alloc, header)?)
 }
 
 // Answers a header.
 fn send_header<K: Sink>(alloc: Global, sink: &mut K) -> Result<(), Outcome>
     ensures ok { OnOk result (Grows (K.written sink.old) (answer_line Answer.Header) (K.written sink.new)) }
-    ensures ended { IfErr result (λ o. (told : Told) → IsTold (K.written sink.old) (K.written sink.new)
-        (before (answer_line Answer.Header) told) o) }
+    ensures ended { IfErr result (IsTold (K.written sink.old) (K.written sink.new) (OrStopped (IsHeaderTold IsStopped))) }
     ensures fault { result ≡ Err Outcome.WriteFault → Rose (K.faults sink.old) (K.faults sink.new) }
     ensures later { K.faults sink.old ≤ K.faults sink.new }
 {
-    let Ok(text) = Answer::Header.line(alloc) else {
+    let Ok(text) = answer_line(alloc, &Answer::Header) else {
         return Err(Outcome::NoMemory);
     };
     match write_all(sink, text.as_str().as_bytes()) {
@@ -185,7 +154,7 @@ fn send_header<K: Sink>(alloc: Global, sink: &mut K) -> Result<(), Outcome>
 /// Answers the lines of some bytes.
 pub fn trace<K: Sink>(alloc: Global, bytes: &[u8], sink: &mut K) -> Outcome
     requires { length bytes.now < 2 ^ 24 }
-    ensures told { IsTold (K.written sink.old) (K.written sink.new) (trace_of (cut bytes.now)) result }
+    ensures told { IsTold (K.written sink.old) (K.written sink.new) (IsTraceOf (cut bytes.now)) result }
     ensures fault { result ≡ Outcome.WriteFault → Rose (K.faults sink.old) (K.faults sink.new) }
 {
     if bytes.is_empty() {

@@ -1,27 +1,42 @@
-use Rattle.std.proofs.Common.{◌+◌, ◌<◌, length, arith}
+use Rattle.std.proofs.Common.{◌+◌, ◌<◌, length, arith, subst}
 use Rattle.std.proofs.lemmas.Bool.Decides.{nat_tests}
+use Rattle.st_schema.specs.declared.header.Header.{Header}
+use Rattle.st_script.specs.Header.{header_view}
+use Rattle.st_script.specs.Line.{line_of}
 use Rattle.sharedtree.specs.Lines.{cut}
-use Rattle.sharedtree.specs.Answers.{answers_from}
+use Rattle.sharedtree.specs.Answers.{AnswersFrom, EndsAtLine, OrStopped, IsLineTold, IsTold}
 use Rattle.sharedtree.specs.declared.outcome.Outcome.TheVariants.{Done}
-use Rattle.sharedtree.proofs.Telling.{told_none, told_line, after-shorter}
+use Rattle.sharedtree.proofs.Telling.{told_none, told_line, told_also, answered_more, ended_also, stopped_from, after-shorter}
 use Rattle.sharedtree.proofs.trace.take_lines.Goals as goal
 
 pub returns-in-Err-clause-told : goal.returns-in-Err-clause-told
 returns-in-Err-clause-told g c =
     let some : 0 < length c.loop-rest.rest.now = grind (arith, nat_tests) in
     let n = c.loop-rest.number in
-    c.loop-rest.invariant.goes_on _ _ (told_line _ _ _ n c.loop-rest.rest.now _ c.split_line.result.1.now _ some c.split_line.ensures.line c.split_line.ensures.rest
-    (c.in-Err.ensures.ended (λ v. answers_from v (n + 1) (cut c.split_line.result.1.now))))
+    let h = header_view c.loop-rest.world.header in
+    let w = c.loop-rest.world.lists in
+    let line = c.split_line.result.0.now in
+    let after = c.split_line.result.1.now in
+    c.loop-rest.invariant.goes_on _ _
+    (told_line _ _ h w n c.loop-rest.rest.now line after _ some c.split_line.ensures.line c.split_line.ensures.rest
+    (told_also _ _ (EndsAtLine h n (line_of line) w) (OrStopped (IsLineTold h n (line_of line) w (λ v. AnswersFrom h v (n + 1) (cut after))))
+    (ended_also h n (line_of line) w (λ v. AnswersFrom h v (n + 1) (cut after)) (λ v. stopped_from h v (n + 1) (cut after))) _ c.in-Err.ensures.ended))
 
 pub loop-rest-preserved : goal.loop-rest-preserved
 loop-rest-preserved g c =
     let some : 0 < length c.loop-rest.rest.now = grind (arith, nat_tests) in
     let n = c.loop-rest.number in
+    let h = header_view c.loop-rest.world.header in
+    let w = c.loop-rest.world.lists in
+    let v = c.take_line.new.world.lists in
+    let line = c.split_line.result.0.now in
+    let rest = c.split_line.result.1.now in
     record {
-      goes_on = λ after o h. c.loop-rest.invariant.goes_on after o
-          (told_line _ _ _ n c.loop-rest.rest.now _ c.split_line.result.1.now o some c.split_line.ensures.line c.split_line.ensures.rest
-          (c.in-Ok.ensures.ok (λ v. answers_from v (n + 1) (cut c.split_line.result.1.now)) after o h));
-      place = omega (arith, c.loop-rest.invariant.place, after-shorter c.loop-rest.rest.now c.split_line.result.1.now some c.split_line.ensures.rest);
+      goes_on = λ after o told. c.loop-rest.invariant.goes_on after o
+          (told_line _ _ h w n c.loop-rest.rest.now line rest o some c.split_line.ensures.line c.split_line.ensures.rest
+          (answered_more h n (line_of line) w v _ _ after (λ u. AnswersFrom h u (n + 1) (cut rest)) o c.in-Ok.ensures.ok
+          (subst (λ (x : Header). IsTold (g.K.Sink.written c.take_line.new.sink) after (AnswersFrom (header_view x) v (n + 1) (cut rest)) o) c.in-Ok.ensures.header told)));
+      place = omega (arith, c.loop-rest.invariant.place, after-shorter c.loop-rest.rest.now rest some c.split_line.ensures.rest);
       steps = omega (arith, c.in-Ok.ensures.steps, c.loop-rest.invariant.steps);
       sound = c.in-Ok.ensures.sound;
       later = omega (arith, c.take_line.ensures.later);
@@ -30,4 +45,4 @@ loop-rest-preserved g c =
 pub returns-clause-told : goal.returns-clause-told
 returns-clause-told g c =
     let written = g.K.Sink.written c.loop-rest.sink in
-    c.loop-rest.invariant.goes_on written Done (told_none written c.loop-rest.world.lists c.loop-rest.number c.loop-rest.rest.now (grind (arith, nat_tests)))
+    c.loop-rest.invariant.goes_on written Done (told_none written (header_view c.loop-rest.world.header) c.loop-rest.world.lists c.loop-rest.number c.loop-rest.rest.now (grind (arith, nat_tests)))
