@@ -120,6 +120,26 @@ fn emptied_anchor_keeps_its_place(rt: HostRuntime) -> Result<(), Fail> {
     Ok(())
 }
 
+const TWO_LISTS: &str =
+    "{\"schema\":{\"root\":[\"list\"],\"types\":[{\"array\":[\"text\",\"list\"],\"name\":\"list\"}]},\"trace\":1,\"tree\":{\"list\":[{\"list\":[\"n\"]},{\"list\":[\"m\"]}]}}\n";
+
+// Each client moves one list into the other. The later move would make a ring, and is void.
+#[test]
+fn later_move_of_a_ring_is_void(rt: HostRuntime) -> Result<(), Fail> {
+    let alloc = rt.alloc();
+    let moves =
+        "{\"do\":\"move\",\"client\":\"A\",\"at\":[],\"index\":0,\"to\":[\"\",1],\"to_index\":1}\n{\"do\":\"move\",\"client\":\"B\",\"at\":[],\"index\":1,\"to\":[\"\",0],\"to_index\":1}\n{\"do\":\"show\",\"client\":\"B\",\"branch\":1}\n{\"do\":\"sequence\",\"client\":\"A\"}\n{\"do\":\"sequence\",\"client\":\"B\"}\n{\"do\":\"deliver\",\"client\":\"B\"}\n{\"do\":\"show\",\"client\":\"B\"}\n{\"do\":\"deliver\",\"client\":\"B\"}\n";
+    let (outcome, sink) = traced(alloc, &[TWO_LISTS, BOTH_JOIN, moves])?;
+    let answers =
+        "{\"ok\":\"move\",\"rev\":\"1.1\"}\n{\"ok\":\"move\",\"rev\":\"2.1\"}\n{\"no\":\"NoBranch\"}\n{\"min\":1,\"n\":3,\"ok\":\"sequence\"}\n{\"min\":1,\"n\":4,\"ok\":\"sequence\"}\n{\"n\":3,\"ok\":\"deliver\",\"void\":null}\n{\"ok\":\"show\",\"tree\":{\"list\":[{\"list\":[\"m\",{\"list\":[\"n\"]}]}]}}\n{\"n\":4,\"ok\":\"deliver\",\"void\":{\"cycle\":\"0.0.3\"}}\n";
+    assert!(rt; outcome == Outcome::Done);
+    assert_eq!(rt;
+        sink.bytes(),
+        joined(alloc, &[BOTH_JOINED, answers])?.as_bytes()
+    );
+    Ok(())
+}
+
 #[test]
 fn at_most_64_clients(rt: HostRuntime) -> Result<(), Fail> {
     let alloc = rt.alloc();
@@ -213,7 +233,7 @@ fn faults_of_the_outside(rt: HostRuntime) -> Result<(), Fail> {
 fn an_input_past_the_limit_is_too_long(rt: HostRuntime) -> Result<(), Fail> {
     let alloc = rt.alloc();
     let mut input = String::from_str(alloc, EMPTY_ROW)?;
-    for _ in 0u32..400 {
+    for _ in 0u32..40000 {
         input.push_str("{\"do\":\"show\",\"client\":\"Z\"}\n")?;
     }
     let (outcome, sink) = traced(alloc, &[input.as_str()])?;
