@@ -6,7 +6,7 @@ ghost use Rattle.st_doc.specs.Doc.{document_of};
 ghost use Rattle.st_doc.specs.Edits.{EditsRows};
 
 use crate::Doc;
-use st_ids::{Atom, CellId, Key, Leaf, List, NodeId, Rev, Text};
+use st_ids::{Atom, CellId, FieldId, Key, Leaf, List, NodeId, Rev, Text};
 use st_marks::{Group, Intent, NewNode, Owned, Put, To, Verdict};
 use st_tree::{Field, Tree, check};
 use std::alloc::{AllocError, Global};
@@ -105,16 +105,26 @@ const A: Rev = Rev { session: 1, num: 1 };
 
 const B: Rev = Rev { session: 2, num: 1 };
 
+// The calls on a row of texts, and those that tell of a node; the tests below make the others.
 #[test]
 fn first_use(rt: HostRuntime) -> Result<(), Fail> {
     let alloc = rt.alloc();
     let doc = edited(alloc, &["x", "y\"\n"], &[Edit::Insert(A, 0, "a")])?;
     assert_eq!(rt; doc.whole(alloc)?.as_str(), r#"{"list":["x","a","y\"\n"]}"#);
-    let slots = doc.live_slots(alloc, NodeId(atom(OPENING, 0)))?;
+    let root = NodeId(atom(OPENING, 0));
+    let slots = doc.live_slots(alloc, root)?;
     assert_eq!(rt;
         slots.get(1).map(|slot| slot.node),
         Some(NodeId(atom(A, 0)))
     );
+    assert_eq!(rt;
+        doc.live_slot(root, 1).map(|slot| slot.node),
+        Some(NodeId(atom(A, 0)))
+    );
+    assert_eq!(rt; doc.type_of(root).map(|ty| ty.as_str()), Some("list"));
+    assert_eq!(rt; doc.under(), Some(OPENING));
+    let key = Key(Text::from_str(alloc, "of")?);
+    assert_eq!(rt; doc.held(&FieldId { node: root, key }), None);
     Ok(())
 }
 
