@@ -189,9 +189,9 @@ fn limit() -> EditFault {
     })
 }
 
-// Two names are left of a commit's.
+// Each edit once. Two names are left of a commit's.
 #[test]
-fn edits(rt: HostRuntime) -> Result<(), Fail> {
+fn first_use(rt: HostRuntime) -> Result<(), Fail> {
     let alloc = rt.alloc();
     let first: Places = &[("", 2)];
     let cases: &[(Case, (usize, usize, usize, usize))] = &[
