@@ -1,6 +1,7 @@
 //! A list, kept as runs.
-ghost use Rattle.std.specs.Prelude.{◌≡◌, ◌<◌, ◌≤◌, ◌+◌, ◌^◌, ◌++◌, [], length, slice_get, option_copied, OnOk, OnErr};
+ghost use Rattle.std.specs.Prelude.{◌≡◌, ◌↔◌, ◌<◌, ◌≤◌, ◌+◌, ◌^◌, ◌++◌, [], length, slice_get, option_copied, IfOk, IsErr, OnOk, OnErr, MatchOption};
 ghost use Rattle.std.specs.List.{flat_map};
+ghost use Rattle.st_runs.specs.Places.{StandsAt};
 
 use crate::run::Run;
 use std::alloc::{AllocError, Global};
@@ -61,4 +62,79 @@ impl<R: Run + Drop> Runs<R> {
     {
         self.total
     }
+
+    /// Puts the items of a run at the end, in the last run where that takes them in. After an
+    /// `Err` nothing has changed.
+    pub fn push(&mut self, run: R) -> Result<(), AllocError>
+        requires { length (flat_map R.items self.old) + length (R.items run) < 2 ^ 32 }
+        ensures ok { OnOk result (flat_map R.items self.new ≡ flat_map R.items self.old ++ R.items run) }
+        ensures err { OnErr result (self.new ≡ self.old) }
+    {
+        let size = u64::from(run.size());
+        put(&mut self.runs, run)?;
+        self.total += size;
+        Ok(())
+    }
+
+    /// Where the item at a place stands, counted from 0.
+    pub fn nth(&self, place: u64) -> Result<RunPlace, Range>
+        ensures ok { IfOk result (λ p. StandsAt R.items self.now place p.run p.offset) }
+        ensures range { IsErr result ↔ (length (flat_map R.items self.now) ≤ place) }
+    {
+        find(self.runs.as_slice(), place)
+    }
+
+    /// Puts the items of another list at the end. The runs on both sides of the seam stay apart.
+    /// After an `Err` nothing has changed, and the other list is gone.
+    pub fn join(&mut self, other: Runs<R>) -> Result<(), AllocError>
+        requires { length (flat_map R.items self.old) + length (flat_map R.items other) < 2 ^ 32 }
+        ensures ok { OnOk result (flat_map R.items self.new ≡ flat_map R.items self.old ++ flat_map R.items other) }
+        ensures err { OnErr result (self.new ≡ self.old) }
+    {
+        let Runs { mut runs, total } = other;
+        self.runs.append(&mut runs)?;
+        self.total += total;
+        Ok(())
+    }
+}
+
+// Melds a run into the last one, or hands it back.
+fn meld_last<R: Run + Drop>(runs: &mut Vec<R>, run: R) -> Option<R>
+    ensures { MatchOption result (flat_map R.items runs.new.items ≡ flat_map R.items runs.old.items ++ R.items run)
+        (λ back. (back ≡ run) × (runs.new.items ≡ runs.old.items)) }
+{
+    match runs.last_mut() {
+        Some(last) => last.meld(run),
+        None => Some(run),
+    }
+}
+
+// Puts the items of a run behind those of the kept runs.
+fn put<R: Run + Drop>(runs: &mut Vec<R>, run: R) -> Result<(), AllocError>
+    ensures ok { OnOk result (flat_map R.items runs.new.items ≡ flat_map R.items runs.old.items ++ R.items run) }
+    ensures err { OnErr result (runs.new.items ≡ runs.old.items) }
+{
+    match meld_last(runs, run) {
+        Some(back) => Ok(runs.push(back)?),
+        None => Ok(()),
+    }
+}
+
+// Where the item at a place stands.
+fn find<R: Run>(runs: &[R], place: u64) -> Result<RunPlace, Range>
+    ensures ok { IfOk result (λ p. StandsAt R.items runs.now place p.run p.offset) }
+    ensures range { IsErr result ↔ (length (flat_map R.items runs.now) ≤ place) }
+{
+    let mut rest = place;
+    for (i, run) in runs.iter().enumerate() {
+        let size = run.size();
+        if rest < u64::from(size) {
+            return Ok(RunPlace {
+                run: i,
+                offset: rest as u32,
+            });
+        }
+        rest -= u64::from(size);
+    }
+    Err(Range)
 }
