@@ -1,9 +1,11 @@
 //! A list, kept as runs.
-ghost use Rattle.std.specs.Prelude.{◌≡◌, ◌↔◌, ◌<◌, ◌≤◌, ◌+◌, ◌^◌, ◌++◌, [], length, slice_get, option_copied, IfOk, IsErr, OnOk, OnErr, MatchOption};
+ghost use Rattle.std.specs.Prelude.{◌≡◌, ◌↔◌, ◌<◌, ◌≤◌, ◌+◌, ◌^◌, ◌++◌, [], length, slice_get, option_copied, take, vec_len, IfOk, IfSome, IsErr, IsErrOf, OnOk, OnErr, MatchOption};
 ghost use Rattle.std.specs.List.{flat_map};
-ghost use Rattle.st_runs.specs.Places.{StandsAt};
+ghost use Rattle.st_runs.specs.Places.{IsCut, StandsAt};
+ghost use Rattle.st_ids.specs.declared.fault.Or;
 
 use crate::run::Run;
+use st_ids::Or;
 use std::alloc::{AllocError, Global};
 use std::marker::Model;
 
@@ -84,6 +86,22 @@ impl<R: Run + Drop> Runs<R> {
         find(self.runs.as_slice(), place)
     }
 
+    /// Cuts the list at a place: keeps the items before it, and gives the others. After an `Err`
+    /// nothing has changed.
+    pub fn split(&mut self, place: u64) -> Result<Runs<R>, Or<Range>>
+        ensures ok { IfOk result (λ rest. IsCut (flat_map R.items self.old) place (flat_map R.items self.new) (flat_map R.items rest)) }
+        ensures range { IsErrOf result (Or.Fault (record {})) ↔ (length (flat_map R.items self.old) < place) }
+        ensures err { OnErr result (self.new ≡ self.old) }
+    {
+        if place > self.total {
+            return Err(Or::Fault(Range));
+        }
+        let runs = cut(&mut self.runs, place)?;
+        let total = self.total - place;
+        self.total = place;
+        Ok(Runs { runs, total })
+    }
+
     /// Puts the items of another list at the end. The runs on both sides of the seam stay apart.
     /// After an `Err` nothing has changed, and the other list is gone.
     pub fn join(&mut self, other: Runs<R>) -> Result<(), AllocError>
@@ -137,4 +155,47 @@ fn find<R: Run>(runs: &[R], place: u64) -> Result<RunPlace, Range>
         rest -= u64::from(size);
     }
     Err(Range)
+}
+
+// Cuts the first run at a place strictly inside: takes its front away, and leaves the rest.
+fn cut_first<R: Run + Drop>(runs: &mut Vec<R>, at: u32) -> R
+    requires some { 0 < at }
+    requires within { IfSome (slice_get runs.old.items 0) (λ r. at < length (R.items r)) }
+    requires first { 0 < vec_len runs.old }
+    ensures whole { flat_map R.items runs.old.items ≡ R.items result ++ flat_map R.items runs.new.items }
+    ensures front { length (R.items result) ≡ at }
+{
+    let rest = runs[0].cut(at);
+    std::mem::replace(&mut runs[0], rest)
+}
+
+// Cuts the kept runs where an item stands.
+fn cut_at<R: Run + Drop>(runs: &mut Vec<R>, at: RunPlace) -> Result<Vec<R>, AllocError>
+    requires kept { IfSome (slice_get runs.old.items at.run) (λ r. at.offset < length (R.items r)) }
+    requires within { at.run < vec_len runs.old }
+    ensures whole { IfOk result (λ rest. flat_map R.items runs.old.items ≡ flat_map R.items runs.new.items ++ flat_map R.items rest.items) }
+    ensures front { OnOk result (length (flat_map R.items runs.new.items) ≡ length (flat_map R.items (take at.run runs.old.items)) + at.offset) }
+    ensures err { OnErr result (runs.new.items ≡ runs.old.items) }
+{
+    let mut rest = runs.split_off(at.run)?;
+    if at.offset > 0 {
+        let front = cut_first(&mut rest, at.offset);
+        runs.push(front)?;
+    }
+    Ok(rest)
+}
+
+// The same at a place of the list, or at its end.
+fn cut<R: Run + Drop>(runs: &mut Vec<R>, place: u64) -> Result<Vec<R>, AllocError>
+    requires { place ≤ length (flat_map R.items runs.old.items) }
+    ensures ok { IfOk result (λ rest. IsCut (flat_map R.items runs.old.items) place (flat_map R.items runs.new.items) (flat_map R.items rest.items)) }
+    ensures err { OnErr result (runs.new.items ≡ runs.old.items) }
+{
+    match find(runs.as_slice(), place) {
+        Ok(at) => cut_at(runs, at),
+        Err(Range) => {
+            let len = runs.len();
+            runs.split_off(len)
+        }
+    }
 }
