@@ -3,6 +3,8 @@
 
 mod run;
 mod runs;
+#[cfg(test)]
+mod tests;
 
 pub use run::Run;
 pub use runs::{Range, RunPlace, Runs};
