@@ -40,3 +40,6 @@ runs_cut {R = R} {A = A} f xs before tail after rest front at kept given cut put
 
 pub more_than : {m n : ℕ} → m ≡ n → 0 < m → 0 < n
 more_than e h = omega (arith, e, h)
+
+pub within_items : {i m n : ℕ} → m ≡ n → i < m → i < n
+within_items e h = omega (arith, e, h)

@@ -1,5 +1,5 @@
 //! A list, kept as runs.
-ghost use Rattle.std.specs.Prelude.{◌≡◌, ◌↔◌, ◌<◌, ◌≤◌, ◌+◌, ◌^◌, ◌++◌, [], length, slice_get, option_copied, take, vec_len, IfOk, IfSome, IsErr, IsErrOf, OnOk, OnErr, MatchOption};
+ghost use Rattle.std.specs.Prelude.{◌≡◌, ◌↔◌, ◌<◌, ◌≤◌, ◌+◌, ◌-◌, ◌^◌, ◌++◌, [], length, slice_get, option_copied, take, drop, vec_len, vec_capacity, IfOk, IfSome, IsErr, IsErrOf, OnOk, OnErr, MatchOption};
 ghost use Rattle.std.specs.List.{flat_map};
 ghost use Rattle.st_runs.specs.Places.{IsCut, StandsAt};
 ghost use Rattle.st_ids.specs.declared.fault.Or;
@@ -102,6 +102,23 @@ impl<R: Run + Drop> Runs<R> {
         Ok(Runs { runs, total })
     }
 
+    /// Takes some items out at a place, and puts those of another list there. After an `Err`
+    /// nothing has changed, and the other list is gone.
+    pub fn splice(&mut self, place: u64, count: u64, with: Runs<R>) -> Result<(), Or<Range>>
+        requires { place + count ≤ length (flat_map R.items self.old) → length (flat_map R.items self.old) - count + length (flat_map R.items with) < 2 ^ 32 }
+        ensures ok { OnOk result (flat_map R.items self.new ≡ take place (flat_map R.items self.old) ++ (flat_map R.items with ++ drop (place + count) (flat_map R.items self.old))) }
+        ensures range { IsErrOf result (Or.Fault (record {})) ↔ (length (flat_map R.items self.old) < place + count) }
+        ensures err { OnErr result (self.new ≡ self.old) }
+    {
+        if place > self.total || count > self.total - place {
+            return Err(Or::Fault(Range));
+        }
+        let Runs { runs, total } = with;
+        replace(&mut self.runs, place, place + count, runs)?;
+        self.total = self.total - count + total;
+        Ok(())
+    }
+
     /// Puts the items of another list at the end. The runs on both sides of the seam stay apart.
     /// After an `Err` nothing has changed, and the other list is gone.
     pub fn join(&mut self, other: Runs<R>) -> Result<(), AllocError>
@@ -163,6 +180,7 @@ fn cut_first<R: Run + Drop>(runs: &mut Vec<R>, at: u32) -> R
     requires within { IfSome (slice_get runs.old.items 0) (λ r. at < length (R.items r)) }
     requires first { 0 < vec_len runs.old }
     ensures whole { flat_map R.items runs.old.items ≡ R.items result ++ flat_map R.items runs.new.items }
+    ensures len { vec_len runs.new ≡ vec_len runs.old }
     ensures front { length (R.items result) ≡ at }
 {
     let rest = runs[0].cut(at);
@@ -175,6 +193,8 @@ fn cut_at<R: Run + Drop>(runs: &mut Vec<R>, at: RunPlace) -> Result<Vec<R>, Allo
     requires within { at.run < vec_len runs.old }
     ensures whole { IfOk result (λ rest. flat_map R.items runs.old.items ≡ flat_map R.items runs.new.items ++ flat_map R.items rest.items) }
     ensures front { OnOk result (length (flat_map R.items runs.new.items) ≡ length (flat_map R.items (take at.run runs.old.items)) + at.offset) }
+    ensures len { IfOk result (λ rest. vec_len runs.new + vec_len rest ≤ vec_len runs.old + 1) }
+    ensures room { OnOk result (vec_capacity runs.old ≤ vec_capacity runs.new) }
     ensures err { OnErr result (runs.new.items ≡ runs.old.items) }
 {
     let mut rest = runs.split_off(at.run)?;
@@ -189,6 +209,8 @@ fn cut_at<R: Run + Drop>(runs: &mut Vec<R>, at: RunPlace) -> Result<Vec<R>, Allo
 fn cut<R: Run + Drop>(runs: &mut Vec<R>, place: u64) -> Result<Vec<R>, AllocError>
     requires { place ≤ length (flat_map R.items runs.old.items) }
     ensures ok { IfOk result (λ rest. IsCut (flat_map R.items runs.old.items) place (flat_map R.items runs.new.items) (flat_map R.items rest.items)) }
+    ensures len { IfOk result (λ rest. vec_len runs.new + vec_len rest ≤ vec_len runs.old + 1) }
+    ensures room { OnOk result (vec_capacity runs.old ≤ vec_capacity runs.new) }
     ensures err { OnErr result (runs.new.items ≡ runs.old.items) }
 {
     match find(runs.as_slice(), place) {
@@ -198,4 +220,53 @@ fn cut<R: Run + Drop>(runs: &mut Vec<R>, place: u64) -> Result<Vec<R>, AllocErro
             runs.split_off(len)
         }
     }
+}
+
+// Keeps the items before the one that stands at a place of the kept runs.
+fn keep_to<R: Run + Drop>(runs: &mut Vec<R>, at: RunPlace)
+    requires kept { IfSome (slice_get runs.old.items at.run) (λ r. at.offset < length (R.items r)) }
+    requires within { at.run < vec_len runs.old }
+    ensures front { flat_map R.items runs.new.items ≡ take (length (flat_map R.items (take at.run runs.old.items)) + at.offset) (flat_map R.items runs.old.items) }
+    ensures len { vec_len runs.new ≤ vec_len runs.old }
+    ensures room { vec_capacity runs.new ≡ vec_capacity runs.old }
+{
+    if at.offset == 0 {
+        runs.truncate(at.run);
+        return;
+    }
+    runs.truncate(at.run + 1);
+    let _rest = runs[at.run].cut(at.offset);
+}
+
+// Keeps the items before a place.
+fn keep<R: Run + Drop>(runs: &mut Vec<R>, place: u64)
+    requires { place ≤ length (flat_map R.items runs.old.items) }
+    ensures front { flat_map R.items runs.new.items ≡ take place (flat_map R.items runs.old.items) }
+    ensures len { vec_len runs.new ≤ vec_len runs.old }
+    ensures room { vec_capacity runs.new ≡ vec_capacity runs.old }
+{
+    if let Ok(at) = find(runs.as_slice(), place) {
+        keep_to(runs, at);
+    }
+}
+
+// Puts other runs in the place of the items from one place to another. All the memory that it
+// takes, it takes before anything changes.
+fn replace<R: Run + Drop>(
+    runs: &mut Vec<R>,
+    from: u64,
+    to: u64,
+    mut with: Vec<R>,
+) -> Result<(), AllocError>
+    requires order { from ≤ to }
+    requires within { to ≤ length (flat_map R.items runs.old.items) }
+    ensures ok { OnOk result (flat_map R.items runs.new.items ≡ take from (flat_map R.items runs.old.items) ++ (flat_map R.items with.items ++ drop to (flat_map R.items runs.old.items))) }
+    ensures err { OnErr result (runs.new.items ≡ runs.old.items) }
+{
+    runs.reserve(with.len() + 1)?;
+    let mut rest = cut(runs, to)?;
+    keep(runs, from);
+    runs.append(&mut with)?;
+    runs.append(&mut rest)?;
+    Ok(())
 }

@@ -65,6 +65,17 @@ fn first_use(rt: HostRuntime) -> Result<(), Fail> {
     assert!(rt; runs.split(7).is_err_and(|error| error == Or::Fault(Range)));
     tail.join(runs)?;
     assert_eq!(rt; tail.nth(3), Ok(RunPlace { run: 1, offset: 0 }));
-    assert_eq!(rt; tail.len(), 9);
+    let mut more = Runs::new(alloc);
+    more.push(Count { value: 9, times: 3 })?;
+    tail.splice(2, 4, more)
+        .map_err(|_| Fail::from("no splice"))?;
+    assert_eq!(rt; tail.len(), 8);
+    assert!(rt; tail.run(1).is_some_and(|run| run.value == 9));
+    assert_eq!(rt; tail.nth(7), Ok(RunPlace { run: 2, offset: 2 }));
+    let none = Runs::new(alloc);
+    assert!(rt;
+        tail.splice(7, 2, none)
+            .is_err_and(|error| error == Or::Fault(Range))
+    );
     Ok(())
 }
