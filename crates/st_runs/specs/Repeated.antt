@@ -1,5 +1,5 @@
 -- A value, some times over.
-use Rattle.std.specs.Prelude.{◌≡◌, ◌<◌, ℕ, List, length, replicate}
+use Rattle.std.specs.Prelude.{◌<◌, ℕ, length, replicate}
 use Rattle.std.proofs.Common.{arith}
 use Rattle.std.proofs.lemmas.List.{length-replicate}
 

@@ -71,7 +71,7 @@ fn first_use(rt: HostRuntime) -> Result<(), Fail> {
         .map_err(|_| Fail::from("no splice"))?;
     assert_eq!(rt; tail.len(), 8);
     assert!(rt; tail.run(1).is_some_and(|run| run.value == 9));
-    assert_eq!(rt; tail.nth(7), Ok(RunPlace { run: 2, offset: 2 }));
+    assert_eq!(rt; tail.nth(6), Ok(RunPlace { run: 2, offset: 1 }));
     let none = Runs::new(alloc);
     assert!(rt;
         tail.splice(7, 2, none)

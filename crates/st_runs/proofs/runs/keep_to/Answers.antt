@@ -1,4 +1,4 @@
-use Rattle.std.proofs.Common.{◌≡◌, ◌∙◌, ◌<◌, List, ap, arith, length}
+use Rattle.std.proofs.Common.{◌∙◌, ap}
 use Rattle.std.specs.List.{flat_map}
 use Rattle.st_runs.proofs.Cutting.{within_items}
 use Rattle.st_runs.proofs.Keeping.{kept_before, kept_inside, kept_through}
