@@ -1,0 +1,5 @@
+pub mod Cutting
+pub mod Finding
+pub mod Keeping
+pub mod Melded
+pub mod Repeats
