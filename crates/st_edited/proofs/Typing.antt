@@ -12,7 +12,6 @@ use Rattle.st_marks.specs.declared.intents.Put.{Put}
 use Rattle.st_marks.specs.declared.intents.To.{To}
 use Rattle.st_marks.specs.declared.verdicts.Verdict.{Verdict}
 use Rattle.st_marks.specs.Document.{Document, NodeType, IsSoundInForm}
-use Rattle.st_marks.specs.Extends.{IsExtendedBy}
 use Rattle.st_marks.specs.Intent.{Fits, IsKnown, Owns, cell_of, clears, group_at, is_new, new_type, put_in, register_of}
 use Rattle.st_marks.specs.CarryOut.{full, only_new, unless_put, void, void_data, with_groups, with_names}
 use Rattle.st_marks.specs.Verdict.{carried}
@@ -98,7 +97,7 @@ module _ (is_array : List ℕ → Bool) (D : Document) (N : Intent) (sound : IsS
 
 -- ## They stay typed
 
-module _ (is_array : List ℕ → Bool) (D E : Document) (N : Intent) (more : IsExtendedBy D E) (fits : Fits D N) (fresh : (n : NodeId) → IsTrue (is_new N n) → E.nodes n ≡ None) (w : IsTypedIntent is_array D N) where
+module _ (is_array : List ℕ → Bool) (D E : Document) (N : Intent) (more : (n : NodeId) (t : NodeType) → D.nodes n ≡ Some t → E.nodes n ≡ Some t) (fits : Fits D N) (fresh : (n : NodeId) → IsTrue (is_new N n) → E.nodes n ≡ None) (w : IsTypedIntent is_array D N) where
   -- a node that the intent knows has one type in both
   same_type : (n : NodeId) (t : NodeType) → IsKnown D N n → (with_names E N).nodes n ≡ Some t → (with_names D N).nodes n ≡ Some t
   same_type n t (inl new) e = ap (λ o. option_or o (new_type N n)) (fits.fresh_nodes n new ∙ sym (fresh n new)) ∙ e
@@ -107,7 +106,7 @@ module _ (is_array : List ℕ → Bool) (D E : Document) (N : Intent) (more : Is
       go : (o : Option NodeType) → D.nodes n ≡ o → IsSome o → option_or (D.nodes n) (new_type N n) ≡ Some t
       go None q k = absurd (cc)
       go (Some u) q k =
-          ap (λ o. option_or o (new_type N n)) (q ∙ sym (more.nodes n u q)) ∙ e
+          ap (λ o. option_or o (new_type N n)) (q ∙ sym (more n u q)) ∙ e
 
   known_field : (p : Put) (f : FieldId) → p.to ≡ To.Register f → IfSome (register_of p.to) (λ f. IsKnown D N f.node) → IsKnown D N f.node
   known_field p f e h = subst (λ to. IfSome (register_of to) (λ f. IsKnown D N f.node)) e h

@@ -1,5 +1,5 @@
 //! Laws about edits and trees: each is the contract of a function that does nothing.
-ghost use Rattle.std.specs.Prelude.{◌≡◌, ◌≤◌, ◌<◌, ◌^◌, ℕ, Bool, true, List, None, Ok, IsTrue};
+ghost use Rattle.std.specs.Prelude.{Some, ◌≡◌, ◌≤◌, ◌<◌, ◌^◌, ℕ, Bool, true, List, None, Ok, IsTrue};
 ghost use Rattle.serde_json.specs.Data.{Data};
 ghost use Rattle.st_ids.specs.declared.names.Key.{Key};
 ghost use Rattle.st_ids.specs.declared.names.NodeId.{NodeId};
@@ -13,8 +13,7 @@ ghost use Rattle.st_schema.specs.Schema.{SchemaView, is_sound};
 ghost use Rattle.st_schema.specs.TreeText.{tree_data, trees_data};
 ghost use Rattle.st_marks.specs.declared.intents.Intent.{Intent};
 ghost use Rattle.st_marks.specs.declared.verdicts.Verdict.{Verdict};
-ghost use Rattle.st_marks.specs.Document.{Document, IsSoundInForm, root};
-ghost use Rattle.st_marks.specs.Extends.{IsExtendedBy};
+ghost use Rattle.st_marks.specs.Document.{NodeType, Document, IsSoundInForm, root};
 ghost use Rattle.st_marks.specs.Intent.{Fits, is_new};
 ghost use Rattle.st_marks.specs.CarryOut.{full};
 ghost use Rattle.st_marks.specs.Verdict.{IsVerdict, carried};
@@ -106,12 +105,13 @@ pub fn resolved_edits_are_typed()
         → resolve D s G edit ≡ Ok N → IsTypedIntent is_array D N }
 {}
 
-/// A typed intent keeps a document as typed, carried out whole or by whatever verdict, and stays typed in each later document
-/// that has none of the nodes that it makes.
+/// A typed intent keeps a document as typed, carried out whole or by whatever verdict, and stays typed in each document
+/// that has the nodes of the first and none that it makes.
 pub fn typed_intents_keep_types()
     ensures whole { (is_array : List ℕ → Bool) (D : Document) (N : Intent) → IsSoundInForm D → IsAsTyped is_array D → IsTypedIntent is_array D N → IsAsTyped is_array (full D N) }
     ensures carried { (is_array : List ℕ → Bool) (D : Document) (N : Intent) (v : Verdict) → IsSoundInForm D → IsAsTyped is_array D → IsTypedIntent is_array D N → IsAsTyped is_array (carried v D N) }
-    ensures later { (is_array : List ℕ → Bool) (D E : Document) (N : Intent) → IsExtendedBy D E → Fits D N → ((n : NodeId) → IsTrue (is_new N n) → E.nodes n ≡ None) → IsTypedIntent is_array D N → IsTypedIntent is_array E N }
+    ensures later { (is_array : List ℕ → Bool) (D E : Document) (N : Intent) → ((n : NodeId) (t : NodeType) → D.nodes n ≡ Some t → E.nodes n ≡ Some t) → Fits D N
+        → ((n : NodeId) → IsTrue (is_new N n) → E.nodes n ≡ None) → IsTypedIntent is_array D N → IsTypedIntent is_array E N }
 {}
 
 /// The opening document of a tree that the schema allows shows that tree, and is as typed.

@@ -395,6 +395,7 @@ impl World {
         ensures steps { OnOk result (self.new.steps ≡ self.old.steps + 1) }
         ensures header { OnOk result (self.new.header ≡ self.old.header) }
         ensures spent { IsErrOf result (Or.Fault (record {})) ↔ (self.old.spent ≡ true) }
+        ensures stays { IsErrOf result (Or.Fault (record {})) → self.new ≡ self.old }
         ensures no_memory { IsErrOf result Or.NoMemory → self.new.spent ≡ true }
     {
         if self.spent {
