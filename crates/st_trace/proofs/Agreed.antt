@@ -9,12 +9,11 @@ use Rattle.st_ids.specs.declared.names.Limit.{Limit}
 use Rattle.st_ids.specs.declared.names.NodeId.{NodeId}
 use Rattle.st_ids.specs.declared.names.Rev.{Rev}
 use Rattle.st_tree.specs.declared.edit.EditFault.{EditFault}
-use Rattle.st_schema.specs.Conforms.{allows_of}
 use Rattle.st_schema.specs.Written.{schema_data}
 use Rattle.serde_json.specs.Written.{compact_text}
 use Rattle.st_marks.specs.declared.intents.Intent.{Intent}
 use Rattle.st_marks.specs.Document.{Document, NodeType, opening}
-use Rattle.st_marks.specs.Extends.{done, gained, kept}
+use Rattle.st_marks.specs.Extends.{kept}
 use Rattle.st_marks.specs.Intent.{IsIntent, is_new}
 use Rattle.st_marks.proofs.Members.{all-has, append_left, append_right, has-append, has-map, map-has}
 use Rattle.st_commits.specs.Names.{revisions}
@@ -29,7 +28,7 @@ use Rattle.st_conform.proofs.InTurn.{agree_front, agree_longer, agree_then_one, 
 use Rattle.st_conform.proofs.Opened.{allowed_conforms}
 use Rattle.st_script.specs.Header.{HeaderView}
 use Rattle.st_script.specs.declared.answer.Answer.{Answer}
-use Rattle.st_trace.specs.Kept.{AgreeWith, AreKept, HaveSessionsFrom, IsClient, IsHeader, KeepToSchema, commits_by, intents_of, sent}
+use Rattle.st_trace.specs.Kept.{AreKept, HaveSessionsFrom, IsClient, IsHeader, KeepToSchema, commits_by, intents_of, sent}
 use Rattle.st_trace.specs.Log.{commit_of, commits_in, entered}
 use Rattle.st_trace.specs.World.{HasShown, IsDeliveredTo, committed, edited, joined, limit_passed, names_in, next_rev, opened, pending_after, pends, received_by, taken}
 use Rattle.st_trace.specs.declared.client.Done.{Done}

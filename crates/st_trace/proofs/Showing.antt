@@ -1,6 +1,6 @@
 -- A tree that a step shows is one that the schema allows.
-use Rattle.std.proofs.Common.{◌≡◌, ◌+◌, ℕ, zero, suc, Bool, true, false, cond, nat_le, List, [], ◌∷◌, ◌++◌, length, Option, Some, None, option_map, option_and_then, is_some, Result, Ok, Err, refl, sym, ap, ◌∙◌, subst}
-use Rattle.std.specs.List.{slice_get, slice_set}
+use Rattle.std.proofs.Common.{◌≡◌, ℕ, zero, suc, Bool, true, false, cond, nat_le, List, [], ◌∷◌, ◌++◌, length, Option, Some, None, option_map, option_and_then, is_some, Result, Ok, Err, refl, sym, ap, ◌∙◌, subst}
+use Rattle.std.specs.List.{slice_get}
 use Rattle.serde_json.specs.Written.{compact_text}
 use Rattle.st_ids.specs.declared.names.Limit.{Limit}
 use Rattle.st_ids.specs.declared.names.Rev.{Rev}
@@ -17,11 +17,8 @@ use Rattle.st_script.specs.Header.{HeaderView, header_view}
 use Rattle.st_script.specs.Steps.{StepView, branch_of, name_of}
 use Rattle.st_script.specs.Steps as step
 use Rattle.st_script.specs.declared.answer.Answer.{Answer}
-use Rattle.st_script.specs.declared.answer.Answer.TheVariants.{No}
-use Rattle.st_script.specs.declared.refusal.Refusal.TheVariants.{NoBranch, NoClient}
 use Rattle.st_trace.specs.Kept.{IsSound}
-use Rattle.st_trace.specs.Log.{commits_in}
-use Rattle.st_trace.specs.World.{AtClient, HasShown, IsAllowedText, IsDelivered, IsDeliveredTo, IsEdited, IsNext, IsNextOf, IsShown, OnBranch, ShowsAllowed, answered, edited, entering, found, join, limit_passed, log_limit_passed, names_made, next_rev, opened, pends, place_of, received_by, sequence}
+use Rattle.st_trace.specs.World.{AtClient, HasShown, IsAllowedText, IsDeliveredTo, IsEdited, IsNext, IsNextOf, OnBranch, ShowsAllowed, answered, edited, entering, found, join, limit_passed, log_limit_passed, names_made, next_rev, opened, pends, place_of, received_by, sequence}
 use Rattle.st_trace.specs.declared.client.Done.{Done}
 use Rattle.st_trace.specs.declared.lists.Client.{Client}
 use Rattle.st_trace.specs.declared.lists.Entry.{Entry}
