@@ -9,6 +9,7 @@ pub mod ShownTree
 pub mod Resolved
 pub mod Runs
 pub mod Homes
+pub mod InTurn
 pub mod Wider
 pub mod Back
 pub mod Joins

@@ -1,5 +1,5 @@
 -- When an intent keeps to a schema, in a document that has the old names that it names.
-use Rattle.std.specs.Prelude.{◌≡◌, true, false, List, Option, Some, IsSome, option_and_then, if◌then◌else◌}
+use Rattle.std.specs.Prelude.{◌≡◌, true, false, List, [], ◌∷◌, Option, Some, IsSome, option_and_then, if◌then◌else◌}
 use Rattle.st_ids.specs.declared.names.FieldId.{FieldId}
 use Rattle.st_ids.specs.declared.names.Key.{Key}
 use Rattle.st_ids.specs.declared.names.NodeId.{NodeId}
@@ -8,10 +8,12 @@ use Rattle.st_schema.specs.Conforms.{is_required}
 use Rattle.st_schema.specs.declared.names.FieldRule.{FieldRule}
 use Rattle.st_marks.specs.declared.intents.Intent.{Intent}
 use Rattle.st_marks.specs.declared.intents.To.{To}
+use Rattle.st_marks.specs.declared.verdicts.Verdict.{Verdict}
 use Rattle.st_marks.specs.Document.{Document, NodeType}
 use Rattle.st_marks.specs.Intent.{new_type, is_new, put_of, put_in, clears, register_of}
 use Rattle.st_marks.specs.CarryOut.{with_names}
 use Rattle.st_marks.specs.Run.{Run, done, next}
+use Rattle.st_marks.specs.Verdict.{IsVerdict, carried}
 use Rattle.st_resolve.specs.Paths.{field_at}
 use Rattle.st_resolve.specs.Resolve.{is_row, rule_at}
 use Rattle.st_conform.specs.Conforming.{Admits, row_key, type_fits, is_required_field}
@@ -59,3 +61,8 @@ with_homes home N m = if is_new N m then put_register N m else home m
 abbrev pub AgreesInTurn : SchemaView → (NodeId → Option FieldId) → {D E : Document} {Ns : List Intent} → Run D Ns E → Type 0
 AgreesInTurn s home done = Unit {0}
 AgreesInTurn s home (next {D} {N = N} v is rest) = Agrees s home D N × AgreesInTurn s home rest
+
+-- each of some intents agrees with the schema where it comes
+abbrev pub AgreeInTurn : SchemaView → (NodeId → Option FieldId) → Document → List Intent → Type 0
+AgreeInTurn s home D [] = Unit {0}
+AgreeInTurn s home D (N ∷ Ns) = Agrees s home D N × ((v : Verdict) → IsVerdict D N v → AgreeInTurn s home (carried v D N) Ns)

@@ -1,6 +1,7 @@
 //! Laws about conformity: each is the contract of a function that does nothing.
-ghost use Rattle.std.specs.Prelude.{◌≡◌, ◌≤◌, ℕ, Bool, true, false, List, Option, Some, None, IsSome, IsTrue, Ok};
+ghost use Rattle.std.specs.Prelude.{◌≡◌, ◌≤◌, ℕ, Bool, true, false, List, ◌++◌, Option, Some, None, IsSome, IsTrue, Ok};
 ghost use Rattle.serde_json.specs.Data.{Data};
+ghost use Rattle.st_ids.specs.Listing.{Has};
 ghost use Rattle.st_ids.specs.declared.names.CellId.{CellId};
 ghost use Rattle.st_ids.specs.declared.names.FieldId.{FieldId};
 ghost use Rattle.st_ids.specs.declared.names.Key.{Key};
@@ -25,11 +26,13 @@ ghost use Rattle.st_marks.specs.Intent.{Fits, IsIntent, is_new, new_row_of, put_
 ghost use Rattle.st_marks.specs.LiveTree.{Shows};
 ghost use Rattle.st_marks.specs.Run.{Run, FitsInTurn};
 ghost use Rattle.st_marks.specs.Verdict.{carried};
+ghost use Rattle.st_commits.specs.Names.{HasNames, IsMadeUnder, revisions};
+ghost use Rattle.st_commits.specs.Turns.{FitInTurn, IsSublist};
 ghost use Rattle.st_doc.specs.Start.{start_of};
 ghost use Rattle.st_resolve.specs.declared.rules.Given.{Given};
 ghost use Rattle.st_resolve.specs.Resolve.{clear, insert, move as move_of, need, put, remove, resolve};
 ghost use Rattle.st_conform.specs.Conforming.{IsConforming, register_in};
-ghost use Rattle.st_conform.specs.Agreeing.{Agrees, AgreesInTurn, TellsHomes, with_homes};
+ghost use Rattle.st_conform.specs.Agreeing.{Agrees, AgreesInTurn, AgreeInTurn, TellsHomes, with_homes};
 ghost use Rattle.st_resolve.specs.ArrayTypes.{is_array_type};
 
 /// An intent that fits a conforming document and agrees with the schema there leaves a conforming document, whatever its
@@ -110,6 +113,26 @@ pub fn runs_conform()
         → IsConforming s home D → AgreesInTurn s home r → IsConforming s home E }
 {}
 
+/// Lists of intents, each of which agrees with the schema where it comes: a front of such a list, what comes after it, two
+/// lists that follow one another, and the document after one, which conforms where the one before does.
+pub fn agree_in_turn()
+    ensures front { (s : SchemaView) (home : NodeId → Option FieldId) (D : Document) (Ns Ms : List Intent) → AgreeInTurn s home D (Ns ++ Ms) → AgreeInTurn s home D Ns }
+    ensures rest { (s : SchemaView) (home : NodeId → Option FieldId) (D E : Document) (Ns Ms : List Intent) → AgreeInTurn s home D (Ns ++ Ms) → Run D Ns E → AgreeInTurn s home E Ms }
+    ensures then_one { (s : SchemaView) (home : NodeId → Option FieldId) (D E : Document) (Ns Ms : List Intent) → AgreeInTurn s home D Ns → Run D Ns E → AgreeInTurn s home E Ms
+        → AgreeInTurn s home D (Ns ++ Ms) }
+    ensures conforms { (s : SchemaView) (home : NodeId → Option FieldId) (D E : Document) (Ns : List Intent) → IsSoundInForm D → FitInTurn D Ns → IsConforming s home D
+        → AgreeInTurn s home D Ns → Run D Ns E → IsConforming s home E }
+{}
+
+/// Intents that agree with the schema after some intents agree with it after a longer list that has those in their order:
+/// what its author resolved agrees where it is received.
+pub fn agree_later()
+    ensures beside { (s : SchemaView) (home : NodeId → Option FieldId) (D E : Document) (Ns : List Intent) → HasNames D E → IsSoundInForm D → IsSoundInForm E
+        → FitInTurn D Ns → FitInTurn E Ns → AgreeInTurn s home D Ns → AgreeInTurn s home E Ns }
+    ensures longer { (s : SchemaView) (home : NodeId → Option FieldId) (D : Document) (As Bs Ns : List Intent) → IsSoundInForm D → IsSublist As Bs
+        → FitInTurn D (As ++ Ns) → FitInTurn D (Bs ++ Ns) → AgreeInTurn s home D Bs → AgreeInTurn s home D (As ++ Ns) → AgreeInTurn s home D (Bs ++ Ns) }
+{}
+
 /// The homes of an intent's new nodes can be told beside those that are told already: neither a document without those
 /// nodes nor an intent that doesn't make or put them sees a difference. So there are homes for all commits at once.
 pub fn homes_can_be_told()
@@ -118,6 +141,8 @@ pub fn homes_can_be_told()
         → ((n : NodeId) → IsTrue (is_new N n) → D.nodes n ≡ None) → IsConforming s home D → IsConforming s (with_homes home N) D }
     ensures intents { (s : SchemaView) (home : NodeId → Option FieldId) (D : Document) (N M : Intent)
         → ((m : NodeId) → IsSome (put_of M m) → is_new N m ≡ false) → ((m : NodeId) → IsTrue (is_new M m) → is_new N m ≡ false) → Agrees s home D M → Agrees s (with_homes home N) D M }
+    ensures lists { (s : SchemaView) (home : NodeId → Option FieldId) (rs : List Rev) (D : Document) (N : Intent) (Ns : List Intent) → IsIntent N → IsMadeUnder rs D → FitInTurn D Ns
+        → (Has (revisions Ns ++ rs) N.rev → ⊥) → AgreeInTurn s home D Ns → AgreeInTurn s (with_homes home N) D Ns }
 {}
 
 /// The intent that leads back from a conforming document to an earlier one agrees with the schema.

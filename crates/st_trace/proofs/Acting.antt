@@ -1,29 +1,35 @@
 -- The world after an edit and after a delivery.
-use Rattle.std.proofs.Common.{◌≡◌, ◌≤◌, ◌+◌, ℕ, List, Option, Some, None, IfSome, Result, Ok, Err, refl, sym, ap, subst, arith}
+use Rattle.std.proofs.Common.{◌≡◌, ◌≤◌, ◌+◌, ℕ, List, Option, Some, None, IfSome, Result, Ok, Err, refl, sym, ap, ◌∙◌, subst, arith}
 use Rattle.std.specs.List.{slice_get, slice_set}
 use Rattle.st_ids.specs.declared.names.Limit.{Limit}
+use Rattle.st_ids.specs.declared.names.Rev.{Rev}
 use Rattle.st_tree.specs.declared.edit.Edit.{Edit}
 use Rattle.st_tree.specs.declared.edit.EditFault.{EditFault}
 use Rattle.st_marks.specs.declared.intents.Intent.{Intent}
 use Rattle.st_marks.specs.Document.{Document}
+use Rattle.st_marks.specs.Intent.{Fits}
 use Rattle.st_marks.specs.LiveTree.{IsTreeText}
+use Rattle.st_conform.proofs.Resolved.{resolved_agrees}
 use Rattle.st_doc.specs.Doc.{document_of}
 use Rattle.st_doc.specs.LiveText.{is_among}
 use Rattle.st_resolve.specs.Resolve.{resolve}
+use Rattle.st_resolve.proofs.MoveFits.{CellsFresh}
+use Rattle.st_resolve.proofs.NewFits.{NodesFresh}
 use Rattle.st_resolve.proofs.Resolved.{resolved_fits}
 use Rattle.st_script.specs.Header.{HeaderView, header_view}
 use Rattle.st_script.specs.declared.answer.Answer.{Answer}
 use Rattle.st_script.specs.declared.answer.Answer.TheVariants.{Show}
-use Rattle.st_trace.specs.Kept.{CanReceive, HasMoved, IsEditedKept, IsSound, IsSoundAfter}
-use Rattle.st_trace.specs.World.{HasReceived, HasShown, IsDelivered, IsDeliveredTo, IsEdited, IsShown, edited, given, limit_passed, pends, taken, with_client}
+use Rattle.st_trace.specs.Kept.{CanReceive, HasMoved, IsEditedKept, IsPending, IsSound, IsSoundAfter}
+use Rattle.st_trace.specs.World.{AtRefusal, HasReceived, HasShown, IsDelivered, IsDeliveredTo, IsEdited, IsShown, answered, edited, given, limit_passed, next_rev, pends, taken, with_client}
 use Rattle.st_trace.specs.declared.client.Done.{Done}
 use Rattle.st_trace.specs.declared.kept.Kept.{Kept}
 use Rattle.st_trace.specs.declared.lists.Client.{Client}
 use Rattle.st_trace.specs.declared.lists.Entry.{Entry}
 use Rattle.st_trace.specs.declared.lists.Lists.{Lists}
 use Rattle.st_trace.specs.declared.world.World.{World}
+use Rattle.st_trace.proofs.Agreed.{delivered_keeps, edited_keeps}
 use Rattle.st_trace.proofs.Clients.{fresh_cells, fresh_nodes, shown_sound}
-use Rattle.st_trace.proofs.Everyone.{all_get, kept_at}
+use Rattle.st_trace.proofs.Everyone.{all_get, kept_at, set_same}
 use Rattle.st_trace.proofs.Keeping.{AreOne, can_receive, one_delivered, one_edited}
 use Rattle.st_trace.proofs.Meanings.{meant_of}
 use Rattle.st_trace.proofs.Stepping.{sound_client, start_of}
@@ -62,19 +68,64 @@ pub sound_edited : (w : World) (i : ℕ) (c c' : Client) (k k' : Kept) (word : D
 sound_edited w i c c' k k' word edit a s at_c at_k done kept =
     let h = header_view w.header in
     let st = start_of w w.steps s in
+    let log = w.lists.log in
     let D = document_of k.shown in
     let r = resolve D w.header.schema (given c) edit in
     let one = one_at w i c k s at_c at_k in
     let on = edited_on c c' word r a done in
+    let sound = shown_sound h st log c D one.client one.kept.shown in
+    let nodes : NodesFresh D (given c) = λ j low. fresh_nodes h st log c D one.client one.kept.shown j in
+    let cells : CellsFresh D (given c) = λ j low. fresh_cells h st log c D one.client one.kept.shown j in
+    let fits : (N : Intent) → r ≡ Ok N → Fits D N = λ N e. resolved_fits D w.header.schema (given c) edit N sound s.header.schema nodes cells e in
     sound_client w i c c' k' s at_c
-    (one_edited h st w.lists.log c c' k k' word r a one s.few_names (λ N e.
-    let m = meant_of D w.header.schema (given c) edit N e in (
-      resolved_fits D w.header.schema (given c) edit N (shown_sound h st w.lists.log c D one.client one.kept.shown) s.header.schema
-          (λ j low. fresh_nodes h st w.lists.log c D one.client one.kept.shown j) (λ j low. fresh_cells h st w.lists.log c D one.client one.kept.shown j) e,
-      m.0,
-      m.1,
-    )) done kept)
+    (one_edited h st log c c' k k' word r a one s.few_names (λ N e. let m = meant_of D w.header.schema (given c) edit N e in (fits N e, m.0, m.1)) done kept)
     on.session on.ids
+    (edited_keeps h st log w.lists.clients w.kept i c c' D word r a s.sessions s.kept at_c one.kept.shown (λ N e. record {
+      itself = (fits N e).itself;
+      rev = (meant_of D w.header.schema (given c) edit N e).0;
+      agrees = λ home conforms tells. resolved_agrees w.header.schema home D (given c) N sound s.header.schema conforms nodes cells tells edit e;
+    }) done s.schema)
+
+-- a refusal leaves the client and what is kept of it
+no_refusal : (word : Done) (rev : Rev) (P : Type 0) → AtRefusal (answered word rev) P
+no_refusal Done.Insert rev P = tt
+no_refusal Done.Remove rev P = tt
+no_refusal Done.Move rev P = tt
+no_refusal Done.Set rev P = tt
+no_refusal Done.Clear rev P = tt
+
+edit_refused : (c c' : Client) (k k' : Kept) (word : Done) (r : Result Intent EditFault) (a : Answer) → edited c word r ≡ (c', a) → IsEditedKept c k r k' → AtRefusal a ((c' ≡ c) × (k' ≡ k))
+edit_refused c c' k k' word (Err f) a is kept = subst (λ x. AtRefusal x ((c' ≡ c) × (k' ≡ k))) (ap (λ (p : Client × Answer). p.1) is) (sym (ap (λ (p : Client × Answer). p.0) is), kept)
+edit_refused c c' k k' word (Ok N) a is kept = go (limit_passed c N) is kept
+  where
+    go : (o : Option Limit) → pends c word N o ≡ (c', a) → IsPending k N o k' → AtRefusal a ((c' ≡ c) × (k' ≡ k))
+    go (Some l) is kept = subst (λ x. AtRefusal x ((c' ≡ c) × (k' ≡ k))) (ap (λ (p : Client × Answer). p.1) is) (sym (ap (λ (p : Client × Answer). p.0) is), kept)
+    go None is kept = subst (λ x. AtRefusal x ((c' ≡ c) × (k' ≡ k))) (ap (λ (p : Client × Answer). p.1) is) (no_refusal word (next_rev c) ((c' ≡ c) × (k' ≡ k)))
+
+refusal_as : (a : Answer) (P Q : Type 0) → (P → Q) → AtRefusal a P → AtRefusal a Q
+refusal_as Answer.Header P Q f p = tt
+refusal_as (Answer.Join n s) P Q f p = tt
+refusal_as (Answer.Insert rev) P Q f p = tt
+refusal_as (Answer.Remove rev) P Q f p = tt
+refusal_as (Answer.Move rev) P Q f p = tt
+refusal_as (Answer.Set rev) P Q f p = tt
+refusal_as (Answer.Clear rev) P Q f p = tt
+refusal_as (Answer.Sequence min n) P Q f p = tt
+refusal_as (Answer.Deliver n void) P Q f p = tt
+refusal_as (Answer.Show tree) P Q f p = tt
+refusal_as (Answer.No why) P Q f p = f p
+
+-- a world whose client and what is kept of it are the same is the same
+same_world : (w : World) (i : ℕ) (c c' : Client) (k k' : Kept) → slice_get w.lists.clients i ≡ Some c → slice_get w.kept i ≡ Some k → (c' ≡ c) × (k' ≡ k)
+    → ◌≡◌ {A = World} (record w { lists = record w.lists { clients = slice_set w.lists.clients i c' }; kept = slice_set w.kept i k' }) w
+same_world w i c c' k k' at_c at_k same =
+    let clients : slice_set w.lists.clients i c' ≡ w.lists.clients = ap (slice_set w.lists.clients i) same.0 ∙ set_same w.lists.clients i c at_c in
+    let kept : slice_set w.kept i k' ≡ w.kept = ap (slice_set w.kept i) same.1 ∙ set_same w.kept i k at_k in
+    λ j. record w { lists = record w.lists { clients = clients j }; kept = kept j }
+
+pub edited_refused : (w : World) (i : ℕ) (c c' : Client) (k k' : Kept) (word : Done) (r : Result Intent EditFault) (a : Answer) → slice_get w.lists.clients i ≡ Some c → slice_get w.kept i ≡ Some k
+    → edited c word r ≡ (c', a) → IsEditedKept c k r k' → AtRefusal a (record w { lists = record w.lists { clients = slice_set w.lists.clients i c' }; kept = slice_set w.kept i k' } ≡ w)
+edited_refused w i c c' k k' word r a at_c at_k is kept = refusal_as a _ _ (same_world w i c c' k k' at_c at_k) (edit_refused c c' k k' word r a is kept)
 
 -- what a client does with the document that is kept, it does with one that it shows
 pub next_edited : (h : HeaderView) (w : Lists) (i : ℕ) (c q c' : Client) (word : Done) (f : Client → Document → Result Intent EditFault) (D : Document) (a : Answer) → slice_get w.clients i ≡ Some c → slice_get w.clients i ≡ Some q
@@ -101,8 +152,19 @@ pub sound_delivered : (w : World) (i : ℕ) (c c' : Client) (k k' : Kept) (D : D
     → IsDeliveredTo D c (slice_get w.lists.log c.received) c' a → HasMoved c k (slice_get w.lists.log c.received) k'
     → IsSoundAfter (w.steps + 1) (record w { lists = record w.lists { clients = slice_set w.lists.clients i c' }; kept = slice_set w.kept i k' })
 sound_delivered w i c c' k k' D a s at_c at_k done moved =
+    let h = header_view w.header in
+    let st = start_of w w.steps s in
     let on = delivered_on D c c' (slice_get w.lists.log c.received) a done in
-    sound_client w i c c' k' s at_c (one_delivered (header_view w.header) (start_of w w.steps s) w.lists.log c c' k k' D a (one_at w i c k s at_c at_k) s.few_names done moved) on.session on.ids
+    sound_client w i c c' k' s at_c (one_delivered h st w.lists.log c c' k k' D a (one_at w i c k s at_c at_k) s.few_names done moved) on.session on.ids
+    (delivered_keeps h st w.lists.log w.lists.clients w.kept i c c' D a s.kept s.few_names at_c done s.schema)
+
+delivery_refused : (D : Document) (c c' : Client) (k k' : Kept) (o : Option Entry) (a : Answer) → IsDeliveredTo D c o c' a → HasMoved c k o k' → AtRefusal a ((c' ≡ c) × (k' ≡ k))
+delivery_refused D c c' k k' None a done moved = subst (λ x. AtRefusal x ((c' ≡ c) × (k' ≡ k))) (sym done.1) (done.0, moved)
+delivery_refused D c c' k k' (Some e) a done moved = subst (λ x. AtRefusal x ((c' ≡ c) × (k' ≡ k))) (sym done.3) tt
+
+pub delivered_refused : (w : World) (i : ℕ) (c c' : Client) (k k' : Kept) (D : Document) (o : Option Entry) (a : Answer) → slice_get w.lists.clients i ≡ Some c → slice_get w.kept i ≡ Some k
+    → IsDeliveredTo D c o c' a → HasMoved c k o k' → AtRefusal a (record w { lists = record w.lists { clients = slice_set w.lists.clients i c' }; kept = slice_set w.kept i k' } ≡ w)
+delivered_refused w i c c' k k' D o a at_c at_k done moved = refusal_as a _ _ (same_world w i c c' k k' at_c at_k) (delivery_refused D c c' k k' o a done moved)
 
 pub next_delivered : (h : HeaderView) (w : Lists) (i : ℕ) (c q c' : Client) (D : Document) (a : Answer) → slice_get w.clients i ≡ Some c → slice_get w.clients i ≡ Some q → HasReceived h w.log c D
     → IsDeliveredTo D c (slice_get w.log c.received) c' a → IsDelivered h w i q (record w { clients = slice_set w.clients i c' }) a

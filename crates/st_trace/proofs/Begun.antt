@@ -28,7 +28,9 @@ use Rattle.st_schema.proofs.AllowedForm.{conforming_formed}
 use Rattle.st_doc.specs.Start.{first_said, type_at, cell_at, start_of}
 use Rattle.st_doc.proofs.StartSound.{start_sound}
 use Rattle.st_commits.specs.Names.{IsMadeUnder}
-use Rattle.st_script.specs.Header.{HeaderView, may_open}
+use Rattle.st_schema.specs.declared.header.Header.{Header}
+use Rattle.st_script.specs.Header.{HeaderView, header_line, header_view, may_open}
+use Rattle.st_script.proofs.OfForm.{header_line_kept}
 use Rattle.st_trace.specs.Kept.{IsHeader}
 use Rattle.st_trace.specs.World.{opened}
 
@@ -173,10 +175,11 @@ none_refused k (false ∷ vs) h = cc
 pub opens_within : (s : SchemaView) (t : Node) → may_open s t ≡ true → check_of t ≡ Ok tt
 opens_within s t h = ok_is (check_of t) (both_true (is_ok (check_of t)) (is_ok (allows_of s s.root t)) h).0
 
+pub opens_allowed : (s : SchemaView) (t : Node) → may_open s t ≡ true → allows_of s s.root t ≡ Ok tt
+opens_allowed s t h = ok_is (allows_of s s.root t) (both_true (is_ok (check_of t)) (is_ok (allows_of s s.root t)) h).1
+
 pub opens_formed : (s : SchemaView) (t : Node) → may_open s t ≡ true → has_form t ≡ true
-opens_formed s t h =
-    let allowed = ok_is (allows_of s s.root t) (both_true (is_ok (check_of t)) (is_ok (allows_of s s.root t)) h).1 in
-    conforming_formed s s.root t (none_refused 0 (verdicts s s.root t) allowed)
+opens_formed s t h = conforming_formed s s.root t (none_refused 0 (verdicts s s.root t) (opens_allowed s t h))
 
 pub opened_start : (h : HeaderView) → IsHeader h → IsStart (opened h)
 opened_start h k =
@@ -190,3 +193,7 @@ opened_start h k =
       made = list_made xs schema (tree_of opening FlatAt.Root 0 0 h.tree tt);
       short = λ n. omega (arith, few, many, filter_short (λ (x : FlatNode). cell_at n x.node x.at) xs);
     }
+
+-- the header that a line is
+pub header_opens : (word bytes : List ℕ) (h : Header) → header_line word bytes ≡ Ok (header_view h) → IsHeader (header_view h)
+header_opens word bytes h is = let kept = header_line_kept word bytes (header_view h) is in record { schema = kept.0; tree = kept.1 }

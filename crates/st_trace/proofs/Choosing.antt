@@ -1,10 +1,13 @@
 -- Which step is which.
-use Rattle.std.proofs.Common.{◌≡◌, ℕ, List, Option, Some, None, Result, Ok, Err, refl, sym, subst}
+use Rattle.std.proofs.Common.{◌≡◌, ℕ, List, Option, Some, None, Result, Ok, Err, refl, sym, ap, ◌∙◌, subst}
 use Rattle.st_tree.specs.declared.edit.Edit.{Edit}
 use Rattle.std.specs.Result.{IfOk}
 use Rattle.st_resolve.specs.Resolve.{IsWithin, resolve}
 use Rattle.st_script.specs.Header.{HeaderView}
+use Rattle.st_script.specs.Line.{line_of, line_view}
 use Rattle.st_script.specs.Steps.{IsOfForm, step_view, join}
+use Rattle.st_script.specs.declared.line.Line.{Line}
+use Rattle.st_script.proofs.OfForm.{line_formed as formed}
 use Rattle.st_script.specs.declared.answer.Answer.{Answer}
 use Rattle.st_script.specs.declared.step.TraceStep.{TraceStep}
 use Rattle.st_script.specs.declared.step.TraceStep.TheVariants as step
@@ -75,3 +78,7 @@ no_join (step.Clear client branch at key) other name e = cc
 no_join (step.Sequence client) other name e = cc
 no_join (step.Deliver client) other name e = cc
 no_join (step.Show client branch) other name e = cc
+
+-- the step that a line is
+pub line_formed : (bytes : List ℕ) (l : Line) (s : TraceStep) → line_view l ≡ line_of bytes → l ≡ Line.Step s → IsOfForm (step_view s)
+line_formed bytes l s is same = formed bytes (step_view s) (sym is ∙ ap line_view same)

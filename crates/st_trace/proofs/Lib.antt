@@ -5,9 +5,11 @@ pub mod Clients
 pub mod Keeping
 pub mod Meanings
 pub mod Everyone
+pub mod Agreed
 pub mod Stepping
 pub mod Turning
 pub mod Receiving
 pub mod Acting
+pub mod Showing
 pub mod Choosing
 pub mod Arrays

@@ -30,7 +30,7 @@ use Rattle.st_script.specs.declared.answer.Answer.TheVariants.{No}
 use Rattle.st_script.specs.declared.refusal.Refusal.TheVariants.{NothingToSend, NoClient, NoBranch}
 use Rattle.st_script.specs.Steps.{StepView, name_of, branch_of}
 use Rattle.st_script.specs.Steps as step
-use Rattle.st_trace.specs.Kept.{AreKept, IsClient, IsEntryOf, IsKept, IsSound, IsSoundAfter, intents_of, sent}
+use Rattle.st_trace.specs.Kept.{AreKept, IsClient, IsEntryOf, IsKept, IsSound, IsSoundAfter, KeepToSchema, intents_of, sent}
 use Rattle.st_trace.specs.Known.{AreKnown}
 use Rattle.st_trace.specs.Log.{commit_of, commits_in, entered}
 use Rattle.st_trace.specs.World.{AtClient, IsNext, IsNextOf, OnBranch, found, joined, log_limit_passed, names_in, names_made, opened, place_of, sequence}
@@ -41,6 +41,7 @@ use Rattle.st_trace.specs.declared.lists.Entry.{Entry}
 use Rattle.st_trace.specs.declared.lists.Lists.{Lists}
 use Rattle.st_trace.specs.declared.lists.Queued.{Queued}
 use Rattle.st_trace.specs.declared.world.World.{World}
+use Rattle.st_trace.proofs.Agreed.{joined_keeps, sent_keeps}
 use Rattle.st_trace.proofs.Begun.{IsStart, opened_start}
 use Rattle.st_trace.proofs.Clients.{all_append, client_joined}
 use Rattle.st_trace.proofs.Counting.{names_append}
@@ -62,6 +63,7 @@ sound_later steps w s = record {
   log = s.log;
   log_fit = s.log_fit;
   log_new = s.log_new;
+  schema = s.schema;
   head = s.head;
   entries = s.entries;
   names = s.names;
@@ -72,8 +74,8 @@ sound_later steps w s = record {
 
 -- one client goes on
 pub sound_client : (w : World) (i : ℕ) (c c' : Client) (k' : Kept) → IsSound w → slice_get w.lists.clients i ≡ Some c → AreOne (header_view w.header) w.lists.log c' k' → c'.session ≡ c.session → c'.ids ≤ c.ids + 1
-    → IsSoundAfter (w.steps + 1) (record w { lists = record w.lists { clients = slice_set w.lists.clients i c' }; kept = slice_set w.kept i k' })
-sound_client w i c c' k' s at one session ids = record {
+    → KeepToSchema (header_view w.header) w.lists.log (slice_set w.lists.clients i c') → IsSoundAfter (w.steps + 1) (record w { lists = record w.lists { clients = slice_set w.lists.clients i c' }; kept = slice_set w.kept i k' })
+sound_client w i c c' k' s at one session ids keeps = record {
   header = s.header;
   kept = kept_set (header_view w.header) w.lists.log w.lists.clients w.kept i c' k' s.kept one;
   sessions = sessions_set 1 w.lists.clients i c c' s.sessions at session;
@@ -83,6 +85,7 @@ sound_client w i c c' k' s at one session ids = record {
   log = subst (λ n. AllByRecursion (IsEntryOf n) w.lists.log) (sym (length-set w.lists.clients i c')) s.log;
   log_fit = s.log_fit;
   log_new = s.log_new;
+  schema = keeps;
   head = s.head;
   entries = s.entries;
   names = s.names;
@@ -182,6 +185,7 @@ sound_sent w i c c' q head known v s at is is_c few few_names verdict after know
           (all_append (IsEntryOf (length w.lists.clients)) log (last_entry log c.session body ∷ []) s.log ((omega (arith, bound), last.session), tt));
       log_fit = subst (FitInTurn (opened h)) commits last.fit;
       log_new = subst (HaveNewRevisions (opening ∷ [])) commits last.new;
+      schema = sent_keeps h st log w.lists.clients w.kept i c c' q s.kept at is is_c last.fit s.schema;
       head = subst (λ l. Run (opened h) l (document_of head)) commits (run_more N (document_of head) v s.head verdict after);
       entries = omega (arith, few, length-append log (last_entry log c.session body ∷ []));
       names = omega (arith, s.names, names);
@@ -233,6 +237,7 @@ sound_joined w name n session c k known s few few_entries is_s is_n knows is_c r
           (all_as (IsEntryOf (length w.lists.clients)) (IsEntryOf (length w.lists.clients + 1)) log (λ e p. (omega (arith, p.0), p.1)) s.log) ((omega (arith, is_s), tt), tt));
       log_fit = subst (FitInTurn (opened h)) commits s.log_fit;
       log_new = subst (HaveNewRevisions (opening ∷ [])) commits s.log_new;
+      schema = joined_keeps h st log w.lists.clients w.kept session name c s.kept (sym is) s.schema;
       head = subst (λ l. Run (opened h) l (document_of w.head)) commits s.head;
       entries = omega (arith, few_entries, size);
       names = s.names ∙ ap names_in commits;

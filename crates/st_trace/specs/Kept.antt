@@ -2,6 +2,8 @@
 use Rattle.std.specs.Prelude.{◌-◌, false, Result, Ok, Err, ◌≡◌, ◌==◌, ℕ, ◌+◌, ◌≤◌, Bool, true, List, [], ◌∷◌, ◌++◌, length, map, drop, filter, Option, Some, None, IfSome}
 use Rattle.std.specs.List.{AllByRecursion}
 use Rattle.st_ids.specs.Listing.{Has}
+use Rattle.st_ids.specs.declared.names.FieldId.{FieldId}
+use Rattle.st_ids.specs.declared.names.NodeId.{NodeId}
 use Rattle.st_marks.specs.declared.intents.Intent.{Intent}
 use Rattle.st_marks.specs.declared.verdicts.Verdict.{Verdict}
 use Rattle.st_marks.specs.Document.{opening}
@@ -12,6 +14,8 @@ use Rattle.st_ids.specs.declared.names.Limit.{Limit}
 use Rattle.st_tree.specs.declared.edit.EditFault.{EditFault}
 use Rattle.st_commits.specs.Names.{HaveNewRevisions}
 use Rattle.st_commits.specs.Turns.{FitInTurn}
+use Rattle.st_conform.specs.Agreeing.{AgreeInTurn}
+use Rattle.st_conform.specs.Conforming.{IsConforming}
 use Rattle.st_doc.specs.Doc.{document_of}
 use Rattle.st_doc.specs.LiveText.{is_among}
 use Rattle.st_schema.specs.Schema.{is_sound}
@@ -81,6 +85,17 @@ AreKept h log (c ∷ cs) [] = ⊥
 AreKept h log [] (k ∷ ks) = ⊥
 AreKept h log (c ∷ cs) (k ∷ ks) = IsClient h log c × IsKept h log c k × AreKept h log cs ks
 
+-- the homes of nodes are such that the document opened conforms to the schema, and each commit agrees with it where it comes
+pub record AgreeWith (h : HeaderView) (log : List Entry) (cs : List Client) (home : NodeId → Option FieldId) : Type 0 where
+  pub start : IsConforming h.schema home (opened h)
+  -- the commits of the log, one after the other, and those that each client shows
+  pub logged : AgreeInTurn h.schema home (opened h) (commits_in log)
+  pub shown : AllByRecursion (λ (c : Client). AgreeInTurn h.schema home (opened h) (received_by log c ++ c.pending)) cs
+
+-- there are such homes
+abbrev pub KeepToSchema : HeaderView → List Entry → List Client → Type 0
+KeepToSchema h log cs = (home : NodeId → Option FieldId) × AgreeWith h log cs home
+
 -- an entry's commit has the revision of its session, which is one of those given
 abbrev pub IsEntryOf : ℕ → Entry → Type 0
 IsEntryOf sessions e = (e.session ≤ sessions) × IfSome (commit_of e) (λ N. N.rev.session ≡ e.session)
@@ -95,6 +110,7 @@ pub record IsSoundAfter (steps : ℕ) (w : World) : Type 0 where
   pub log : AllByRecursion (IsEntryOf (length w.lists.clients)) w.lists.log
   pub log_fit : FitInTurn (opened (header_view w.header)) (commits_in w.lists.log)
   pub log_new : HaveNewRevisions (opening ∷ []) (commits_in w.lists.log)
+  pub schema : KeepToSchema (header_view w.header) w.lists.log w.lists.clients
   pub head : Run (opened (header_view w.header)) (commits_in w.lists.log) (document_of w.head)
   pub entries : length w.lists.log ≤ 65535
   pub names : w.names ≡ names_in (commits_in w.lists.log)

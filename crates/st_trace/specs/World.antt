@@ -1,16 +1,19 @@
 -- The world, as lists alone: the log, and of each client what it received and what it has pending. What a client shows is
 -- read off the document to which its list of commits leads from the opening.
-use Rattle.std.specs.Prelude.{◌≡◌, ℕ, zero, suc, ◌+◌, ◌==◌, ◌&&◌, Bool, nat_lt, nat_le, nat_eq, List, [], ◌∷◌, ◌++◌, length, take, drop, position, slice_get, slice_set, Option, Some, None, is_some, option_map, option_and_then, Result, Ok, Err, if◌then◌else◌}
+use Rattle.std.specs.Prelude.{◌≡◌, ℕ, zero, suc, ◌+◌, ◌==◌, ◌&&◌, Bool, true, nat_lt, nat_le, nat_eq, List, [], ◌∷◌, ◌++◌, length, take, drop, position, slice_get, slice_set, Option, Some, None, is_some, option_map, option_and_then, Result, Ok, Err, if◌then◌else◌}
 use Rattle.std.specs.Cmp.Lexicographic.{pointwise}
 use Rattle.serde_json.specs.Written.{compact_text}
 use Rattle.st_ids.specs.declared.names.Limit.{Limit}
 use Rattle.st_ids.specs.declared.names.LimitOf.TheVariants.{Clients, Log, Names, Pending, Unsequenced}
 use Rattle.st_ids.specs.declared.names.Rev.{Rev}
-use Rattle.st_tree.specs.Node.{nodes_of, first, no_nodes}
+use Rattle.st_tree.specs.Node.{Node, nodes_of, first, no_nodes}
 use Rattle.st_tree.specs.Preorder.{opening_listed}
 use Rattle.st_tree.specs.declared.edit.EditFault.{EditFault}
 use Rattle.st_tree.specs.declared.edit.EditFault.TheVariants as fault
 use Rattle.st_resolve.specs.ArrayTypes.{is_array_type}
+use Rattle.st_schema.specs.Conforms.{conforms}
+use Rattle.st_schema.specs.Schema.{SchemaView}
+use Rattle.st_schema.specs.TreeText.{tree_data}
 use Rattle.st_schema.specs.Written.{schema_data}
 use Rattle.st_marks.specs.declared.intents.Intent.{Intent}
 use Rattle.st_marks.specs.declared.verdicts.Verdict.{Verdict}
@@ -242,3 +245,19 @@ AtClient h w s (Some p) v a = OnBranch (branch_of s) w v a (IsNextOf h w s p.0 p
 abbrev pub IsNext : HeaderView → Lists → StepView → Lists → Answer → Type 0
 IsNext h w (step.join name) v a = join w name ≡ (v, a)
 IsNext h w s v a = AtClient h w s (found (name_of s) w.clients) v a
+
+-- ## Answers
+
+-- what holds where an answer is a refusal
+abbrev pub AtRefusal : Answer → Type 0 → Type 0
+AtRefusal (answer.No why) P = P
+AtRefusal a P = Unit {0}
+
+-- the JSON text of a tree that the schema allows as its root
+abbrev pub IsAllowedText : SchemaView → List ℕ → Type 0
+IsAllowedText s text = (t : Node) × (conforms s s.root t ≡ true) × (text ≡ compact_text (tree_data t))
+
+-- the tree that an answer shows, if it shows one, is such a tree
+abbrev pub ShowsAllowed : SchemaView → Answer → Type 0
+ShowsAllowed s (answer.Show text) = IsAllowedText s text
+ShowsAllowed s a = Unit {0}

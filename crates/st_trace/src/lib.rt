@@ -7,6 +7,8 @@ mod kept;
 mod lists;
 mod log;
 mod names;
+#[cfg(test)]
+mod tests;
 mod world;
 
 pub use client::Done;

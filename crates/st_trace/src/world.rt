@@ -10,7 +10,7 @@ ghost use Rattle.st_script.specs.Steps.{step_view, IsOfForm};
 ghost use Rattle.st_doc.specs.LiveText.{is_among};
 ghost use Rattle.st_resolve.specs.Resolve.{IsWithin, resolve};
 ghost use Rattle.st_resolve.specs.ArrayTypes.{is_array_type};
-ghost use Rattle.st_trace.specs.World.{begun, names_made, place_of, over, log_limit_passed, join, sequence, given, IsEdited, IsDelivered, IsShown, IsNextOf, IsNext};
+ghost use Rattle.st_trace.specs.World.{begun, names_made, place_of, over, log_limit_passed, join, sequence, given, IsEdited, IsDelivered, IsShown, IsNextOf, IsNext, AtRefusal, ShowsAllowed};
 ghost use Rattle.st_trace.specs.Kept.{IsHeader, IsSound, IsSoundNext};
 ghost use Rattle.st_trace.specs.Known.{AreKnown};
 ghost use Rattle.st_trace.specs.Log.{entered, minimum};
@@ -146,6 +146,7 @@ impl World {
         ensures steps { OnOk result (self.new.steps ≡ self.old.steps) }
         ensures header { OnOk result (self.new.header ≡ self.old.header) }
         ensures spent { self.new.spent ≡ self.old.spent }
+        ensures refused { IfOk result (λ a. AtRefusal a (self.new ≡ self.old)) }
     {
         let Some(kept) = self.kept.get_mut(i) else {
             return Ok(Answer::No(Refusal::NoClient));
@@ -167,6 +168,7 @@ impl World {
         ensures steps { OnOk result (self.new.steps ≡ self.old.steps) }
         ensures header { OnOk result (self.new.header ≡ self.old.header) }
         ensures spent { self.new.spent ≡ self.old.spent }
+        ensures refused { IfOk result (λ a. AtRefusal a (self.new ≡ self.old)) }
     {
         let Some(kept) = self.kept.get_mut(i) else {
             return Ok(Answer::No(Refusal::NoClient));
@@ -241,6 +243,7 @@ impl World {
         ensures steps { OnOk result (self.new.steps ≡ self.old.steps) }
         ensures header { OnOk result (self.new.header ≡ self.old.header) }
         ensures spent { self.new.spent ≡ self.old.spent }
+        ensures refused { IfOk result (λ a. AtRefusal a (self.new ≡ self.old)) }
     {
         let Some(client) = self.lists.clients.get(i) else {
             return Ok(Answer::No(Refusal::NoClient));
@@ -273,6 +276,7 @@ impl World {
         ensures steps { OnOk result (self.new.steps ≡ self.old.steps) }
         ensures header { OnOk result (self.new.header ≡ self.old.header) }
         ensures spent { self.new.spent ≡ self.old.spent }
+        ensures refused { IfOk result (λ a. AtRefusal a (self.new ≡ self.old)) }
     {
         if place_of(self.lists.clients.as_slice(), name.as_str()).is_some() {
             return Ok(Answer::No(Refusal::Taken));
@@ -330,6 +334,7 @@ impl World {
         ensures steps { OnOk result (self.new.steps ≡ self.old.steps) }
         ensures header { OnOk result (self.new.header ≡ self.old.header) }
         ensures spent { self.new.spent ≡ self.old.spent }
+        ensures refused { IfOk result (λ a. AtRefusal a (self.new ≡ self.old)) }
     {
         match step {
             TraceStep::Join { client } => self.join(alloc, client),
@@ -353,6 +358,7 @@ impl World {
         ensures steps { OnOk result (self.new.steps ≡ self.old.steps) }
         ensures header { OnOk result (self.new.header ≡ self.old.header) }
         ensures spent { self.new.spent ≡ self.old.spent }
+        ensures refused { IfOk result (λ a. AtRefusal a (self.new ≡ self.old)) }
     {
         match change_in(alloc, step)? {
             Some(change) => self.edit(alloc, i, change.done, &change.edit),
@@ -370,6 +376,7 @@ impl World {
         ensures steps { OnOk result (self.new.steps ≡ self.old.steps) }
         ensures header { OnOk result (self.new.header ≡ self.old.header) }
         ensures spent { self.new.spent ≡ self.old.spent }
+        ensures refused { IfOk result (λ a. AtRefusal a (self.new ≡ self.old)) }
     {
         if let TraceStep::Join { client } = step {
             return self.join(alloc, client);
@@ -384,7 +391,8 @@ impl World {
         Ok(answer)
     }
 
-    /// Makes a step. After want of memory the world is spent, and answers `Spent` from then on, and at no other time.
+    /// Makes a step. A refused step changes nothing but the count of steps. After want of memory the world is spent, and
+    /// answers `Spent` from then on, and at no other time.
     pub fn step(&mut self, alloc: Global, step: &TraceStep) -> Result<Answer, Or<Spent>>
         requires sound { self.old.spent ≡ false → IsSound self.old }
         requires few { self.old.steps + 1 < 2 ^ 32 }
@@ -394,6 +402,8 @@ impl World {
         ensures fresh { OnOk result (self.new.spent ≡ false) }
         ensures steps { OnOk result (self.new.steps ≡ self.old.steps + 1) }
         ensures header { OnOk result (self.new.header ≡ self.old.header) }
+        ensures refused { IfOk result (λ a. AtRefusal a (self.new ≡ record self.old { steps = self.old.steps + 1 })) }
+        ensures allowed { IfOk result (λ a. ShowsAllowed (header_view self.old.header).schema a) }
         ensures spent { IsErrOf result (Or.Fault (record {})) ↔ (self.old.spent ≡ true) }
         ensures stays { IsErrOf result (Or.Fault (record {})) → self.new ≡ self.old }
         ensures no_memory { IsErrOf result Or.NoMemory → self.new.spent ≡ true }

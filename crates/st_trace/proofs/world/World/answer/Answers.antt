@@ -21,6 +21,7 @@ returns-then-branch-ne0 c =
       steps = refl;
       header = refl;
       spent = refl;
+      refused = refl;
     }
 
 pub returns : goal.returns
@@ -38,4 +39,5 @@ returns c =
       steps = c.in_ok-answer.ensures.steps;
       header = c.in_ok-answer.ensures.header;
       spent = c.in_ok-answer.ensures.spent;
+      refused = c.in_ok-answer.ensures.refused;
     }

@@ -1,7 +1,8 @@
-use Rattle.std.proofs.Common.{sym, arith}
+use Rattle.std.proofs.Common.{refl, sym, arith}
+use Rattle.std.specs.List.{slice_get}
 use Rattle.st_doc.specs.Doc.{document_of}
 use Rattle.st_script.specs.Header.{header_view}
-use Rattle.st_trace.proofs.Acting.{can_deliver, next_delivered, one_at, sound_delivered}
+use Rattle.st_trace.proofs.Acting.{can_deliver, delivered_refused, next_delivered, one_at, sound_delivered}
 use Rattle.st_trace.proofs.Clients.{received_sound}
 use Rattle.st_trace.proofs.Everyone.{kept_none, set_same}
 use Rattle.st_trace.proofs.Keeping.{pending_run}
@@ -54,4 +55,16 @@ returns-clause-sound c =
     let done = rw c.as_slice-log.ensures at c.in_ok-answer.ensures.answer in
     let moved = rw c.as_slice-log.ensures at c.in_ok-answer.ensures.kept in
     sound_delivered c.args.self.now c.args.i c.in-Some-get_mut.client.now c.deliver.new.client c.in-Some.kept.now c.deliver.new.kept (document_of c.in-Some.kept.now.received) c.in_ok-answer.answer c.requires.sound
+    (sym c.in-Some-get_mut.ensures.value) (sym c.in-Some.ensures.value) done moved
+
+pub returns-in_default-get_mut-clause-refused : goal.returns-in_default-get_mut-clause-refused
+returns-in_default-get_mut-clause-refused c = rw (set_same c.args.self.now.kept c.args.i c.in-Some.kept.now (sym c.in-Some.ensures.value)) refl
+
+pub returns-clause-refused : goal.returns-clause-refused
+returns-clause-refused c =
+    let w = c.args.self.now in
+    let client = c.in-Some-get_mut.client.now in
+    let done = rw c.as_slice-log.ensures at c.in_ok-answer.ensures.answer in
+    let moved = rw c.as_slice-log.ensures at c.in_ok-answer.ensures.kept in
+    delivered_refused w c.args.i client c.deliver.new.client c.in-Some.kept.now c.deliver.new.kept (document_of c.in-Some.kept.now.received) (slice_get w.lists.log client.received) c.in_ok-answer.answer
     (sym c.in-Some-get_mut.ensures.value) (sym c.in-Some.ensures.value) done moved

@@ -1,9 +1,9 @@
-use Rattle.std.proofs.Common.{sym, arith}
+use Rattle.std.proofs.Common.{refl, sym, arith}
 use Rattle.st_doc.specs.Doc.{document_of}
 use Rattle.st_resolve.specs.Resolve.{resolve}
 use Rattle.st_script.specs.Header.{header_view}
 use Rattle.st_trace.specs.World.{given}
-use Rattle.st_trace.proofs.Acting.{few_ids, next_edited, one_at, sound_edited}
+use Rattle.st_trace.proofs.Acting.{edited_refused, few_ids, next_edited, one_at, sound_edited}
 use Rattle.st_trace.proofs.Clients.{fresh_cells, fresh_nodes, shown_sound}
 use Rattle.st_trace.proofs.Everyone.{kept_none, set_same}
 use Rattle.st_trace.proofs.Stepping.{sound_later, start_of}
@@ -62,4 +62,13 @@ returns-clause-next c = λ q at.
 pub returns-clause-sound : goal.returns-clause-sound
 returns-clause-sound c =
     sound_edited c.args.self.now c.args.i c.in-Some-get_mut.client.now c.edit.new.client c.in-Some.kept.now c.edit.new.kept c.args.done c.args.edit.now c.in_ok-answer.answer c.requires.sound
+    (sym c.in-Some-get_mut.ensures.value) (sym c.in-Some.ensures.value) c.in_ok-answer.ensures.answer c.in_ok-answer.ensures.kept
+
+pub returns-in_default-get_mut-clause-refused : goal.returns-in_default-get_mut-clause-refused
+returns-in_default-get_mut-clause-refused c = rw (set_same c.args.self.now.kept c.args.i c.in-Some.kept.now (sym c.in-Some.ensures.value)) refl
+
+pub returns-clause-refused : goal.returns-clause-refused
+returns-clause-refused c =
+    let client = c.in-Some-get_mut.client.now in
+    edited_refused c.args.self.now c.args.i client c.edit.new.client c.in-Some.kept.now c.edit.new.kept c.args.done (resolve (document_of c.in-Some.kept.now.shown) c.args.self.now.header.schema (given client) c.args.edit.now) c.in_ok-answer.answer
     (sym c.in-Some-get_mut.ensures.value) (sym c.in-Some.ensures.value) c.in_ok-answer.ensures.answer c.in_ok-answer.ensures.kept

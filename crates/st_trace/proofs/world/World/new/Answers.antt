@@ -8,6 +8,7 @@ use Rattle.st_marks.specs.Run.{Run, done}
 use Rattle.st_doc.specs.Start.{start_of}
 use Rattle.st_script.specs.Header.{header_view}
 use Rattle.st_trace.specs.World.{opened}
+use Rattle.st_trace.proofs.Agreed.{begun_keeps}
 use Rattle.st_trace.proofs.Begun.{opens_formed}
 use Rattle.st_trace.proofs.world.World.new.Goals as goal
 
@@ -26,6 +27,7 @@ returns-clause-sound c =
       log = tt;
       log_fit = tt;
       log_new = record { once = tt; new = λ N i j. i };
+      schema = begun_keeps (header_view c.args.header) c.requires;
       head = subst (λ (D : Document). Run (opened (header_view c.args.header)) [] D) (sym head) done;
       entries = omega arith;
       names = refl;
