@@ -1,5 +1,5 @@
 -- The steps and headers that lines are read as keep the limits.
-use Rattle.std.proofs.Common.{◌≡◌, ℕ, true, cond, List, Option, Some, None, option_and_then, option_map, Ok, codes, refl, ap, ◌∙◌, subst}
+use Rattle.std.proofs.Common.{◌≡◌, ℕ, Bool, true, false, cond, List, Option, Some, None, option_and_then, option_map, Ok, codes, refl, ap, ◌∙◌, subst}
 use Rattle.std.specs.Option.{ok_or}
 use Rattle.serde_json.specs.Data.{Data}
 use Rattle.serde_json.specs.Find.{get}
@@ -11,7 +11,23 @@ use Rattle.st_script.specs.Header.{HeaderView, header_line, header_or_cause, hea
 use Rattle.st_script.specs.Line.{line_of}
 use Rattle.st_script.specs.Steps.{StepView, IsOfForm}
 use Rattle.st_script.proofs.Fits.{line_fits, fits_form}
-use Rattle.st_script.proofs.Sound.{bound, mapped, guarded}
+
+-- ## What gave a value
+
+-- what was bound gave the value
+bound : {A B : Type 0} (f : A → Option B) (o : Option A) (y : B) → option_and_then f o ≡ Some y → (x : A) × (o ≡ Some x) × (f x ≡ Some y)
+bound f None y e = absurd cc
+bound f (Some x) y e = (x, refl, e)
+
+mapped : {A B : Type 0} (f : A → B) (o : Option A) (y : B) → option_map f o ≡ Some y → (x : A) × (o ≡ Some x) × (f x ≡ y)
+mapped f None y e = absurd cc
+mapped f (Some x) y e = (x, refl, cc)
+
+guarded : {A : Type 0} (b : Bool) (o : Option A) (y : A) → cond b o None ≡ Some y → (b ≡ true) × (o ≡ Some y)
+guarded true o y e = (refl, e)
+guarded false o y e = absurd cc
+
+-- ## Steps
 
 -- the step of a line keeps the limits
 pub line_formed : (bytes : List ℕ) (s : StepView) → line_of bytes ≡ Ok s → IsOfForm s
