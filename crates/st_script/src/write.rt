@@ -11,7 +11,7 @@ ghost use Rattle.st_tree.specs.Form.{has_form, all_have_form};
 ghost use Rattle.st_tree.specs.Node.{view, trees_view};
 ghost use Rattle.st_tree.specs.Size.{check_of, check_items};
 ghost use Rattle.st_script.specs.Line.{line_of};
-ghost use Rattle.st_script.specs.Steps.{step_view};
+ghost use Rattle.st_script.specs.Steps.{step_view, name_of, branch_of};
 ghost use Rattle.st_script.specs.StepText.{places_data, path_data, items_data, plain_data, actor_members, site_members, step_data, step_text, limits_of, trees_have_form, FitsLine};
 
 use crate::step::TraceStep;
@@ -144,14 +144,13 @@ fn actor_members(
 fn site_members(
     alloc: Global,
     word: &str,
-    client: &Text,
-    branch: u32,
+    step: &TraceStep,
     at: &Path,
     key: &Key,
 ) -> Result<Map<String, Value>, AllocError>
-    ensures { IfOk result (λ m. members_view m.entries ≡ site_members word.now client.now branch at.now key.now) }
+    ensures { IfOk result (λ m. members_view m.entries ≡ site_members word.now (name_of (step_view step.now)) (branch_of (step_view step.now)) at.now key.now) }
 {
-    let mut members = actor_members(alloc, word, client, branch)?;
+    let mut members = actor_members(alloc, word, step.client(), step.branch())?;
     put_path(alloc, &mut members, "at", at)?;
     put_text(alloc, &mut members, "key", key.0.as_str())?;
     Ok(members)
@@ -223,30 +222,26 @@ fn step_value(alloc: Global, step: &TraceStep) -> Result<Value, AllocError>
     match step {
         TraceStep::Join { client } => plain_value(alloc, "join", client),
         TraceStep::Insert {
-            client,
-            branch,
             at,
             key,
             index,
             items,
+            ..
         } => {
-            let others = site_members(alloc, "insert", client, *branch, at, key)?;
+            let others = site_members(alloc, "insert", step, at, key)?;
             insert_value(alloc, others, *index, items)
         }
         TraceStep::Remove {
-            client,
-            branch,
             at,
             key,
             index,
             count,
+            ..
         } => {
-            let others = site_members(alloc, "remove", client, *branch, at, key)?;
+            let others = site_members(alloc, "remove", step, at, key)?;
             span_value(alloc, others, *index, *count)
         }
         TraceStep::Move {
-            client,
-            branch,
             at,
             key,
             index,
@@ -254,32 +249,26 @@ fn step_value(alloc: Global, step: &TraceStep) -> Result<Value, AllocError>
             to,
             to_key,
             to_index,
+            ..
         } => {
-            let mut others = site_members(alloc, "move", client, *branch, at, key)?;
+            let mut others = site_members(alloc, "move", step, at, key)?;
             put_goal(alloc, &mut others, to, to_key, *to_index)?;
             span_value(alloc, others, *index, *count)
         }
-        TraceStep::Set {
-            client,
-            branch,
-            at,
-            key,
-            item,
-        } => {
-            let others = site_members(alloc, "set", client, *branch, at, key)?;
+        TraceStep::Set { at, key, item, .. } => {
+            let others = site_members(alloc, "set", step, at, key)?;
             set_value(alloc, others, item)
         }
-        TraceStep::Clear {
-            client,
-            branch,
-            at,
-            key,
-        } => Ok(Value::Object(site_members(alloc, "clear", client, *branch, at, key)?)),
+        TraceStep::Clear { at, key, .. } => {
+            let members = site_members(alloc, "clear", step, at, key)?;
+            Ok(Value::Object(members))
+        }
         TraceStep::Sequence { client } => plain_value(alloc, "sequence", client),
         TraceStep::Deliver { client } => plain_value(alloc, "deliver", client),
-        TraceStep::Show { client, branch } => Ok(Value::Object(actor_members(
-            alloc, "show", client, *branch,
-        )?)),
+        TraceStep::Show { client, branch } => {
+            let members = actor_members(alloc, "show", client, *branch)?;
+            Ok(Value::Object(members))
+        }
     }
 }
 
@@ -322,8 +311,8 @@ fn line_within(alloc: Global, step: &TraceStep) -> Result<Text, AllocError>
 }
 
 /// The line of a step, with its line feed: every member that the step has, also one that may be
-/// left out. A step whose trees pass the limits is refused. The text is told, and read back as the
-/// step, where the trees are of the form of trees.
+/// left out, in byte order of the names. A step whose trees pass the limits is refused, an insert's
+/// together. The line is told, and is read as the step, where the trees are of the form of trees.
 pub fn step_line(alloc: Global, step: &TraceStep) -> Result<Text, Or<TreeFault>>
     ensures text { IfOk result (λ t. trees_have_form (step_view step.now) ≡ true → t ≡ step_text (step_view step.now) ++ 10 ∷ []) }
     ensures within { OnOk result (limits_of (step_view step.now) ≡ Ok tt) }
