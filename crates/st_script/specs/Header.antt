@@ -24,11 +24,11 @@ pub record HeaderView : Type 0 where
 abbrev pub header_view : Header → HeaderView
 header_view h = record { history = h.history; schema = h.schema; tree = view h.tree }
 
--- 0 to 1,024 commits
+-- 0 to 1,024 entries
 abbrev pub kept : ℕ → Option ℕ
 kept n = if nat_le n 1024 then Some n else None
 
--- how many commits are kept for undo, which is 64 where nothing is said
+-- how many entries of the log below the minimum can still be undone, which is 64 where nothing is said
 abbrev pub history_or_64 : Option Data → Option ℕ
 history_or_64 None = Some 64
 history_or_64 (Some d) = option_and_then kept (as_small d)

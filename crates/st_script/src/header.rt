@@ -23,7 +23,8 @@ fn kept(value: &Value) -> Option<u32>
     if history <= 1024 { Some(history) } else { None }
 }
 
-// How many commits are kept for undo, which is 64 where nothing is said.
+// How many entries of the log below the minimum can still be undone, which is 64 where nothing is
+// said.
 fn history(value: &Value) -> Option<u32>
     ensures { result ≡ history_or_64 (get (codes "history") (value_view value.now)) }
 {

@@ -1,13 +1,31 @@
 //! Laws about lines: each is the contract of a function that does nothing.
-ghost use Rattle.std.specs.Prelude.{◌≡◌, ℕ, List, true, Ok};
+ghost use Rattle.std.specs.Prelude.{◌≡◌, ℕ, List, true, Some, Ok};
 ghost use Rattle.st_schema.specs.Schema.{is_sound};
 ghost use Rattle.st_script.specs.Header.{HeaderView, header_line, may_open};
 ghost use Rattle.st_script.specs.Line.{line_of};
-ghost use Rattle.st_script.specs.Steps.{StepView, IsOfForm};
+ghost use Rattle.st_script.specs.Steps.{StepView, IsOfForm, step_of};
+ghost use Rattle.st_script.specs.StepText.{FitsLine, step_data};
 
 /// The trees of a step that a line is are within the limits of trees, and its paths are short.
 pub fn read_steps_are_of_form()
     ensures { (bytes : List ℕ) (s : StepView) → line_of bytes ≡ Ok s → IsOfForm s }
+{}
+
+/// A step that a line is has each member as a line can hold it, and each of its trees is read of
+/// the tree's own JSON form.
+pub fn read_steps_fit_lines()
+    ensures { (bytes : List ℕ) (s : StepView) → line_of bytes ≡ Ok s → FitsLine s }
+{}
+
+/// The value that is written for a step is read as that step, where each member is as a line can
+/// hold it.
+pub fn step_lines_are_read()
+    ensures { (s : StepView) → FitsLine s → step_of (step_data s) ≡ Some s }
+{}
+
+/// The value that is written for a step that a line is, is read as that step again.
+pub fn read_steps_are_read_again()
+    ensures { (bytes : List ℕ) (s : StepView) → line_of bytes ≡ Ok s → step_of (step_data s) ≡ Some s }
 {}
 
 /// The schema of a header that a line is keeps the rules of schemas, and allows its tree as its root.

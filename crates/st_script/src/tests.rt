@@ -1,9 +1,15 @@
 //! Each public call once, and lines that are no steps.
 
-use crate::{Answer, Line, Refusal, answer_line, read_header, read_step_line};
-use st_ids::{Atom, NodeId, Or, Rev};
+use crate::{
+    Answer, Line, Refusal, TraceStep, answer_line, read_header, read_headers_may_open,
+    read_step_line, read_steps_are_of_form, read_steps_are_read_again, read_steps_fit_lines,
+    step_line, step_lines_are_read,
+};
+use st_ids::{Atom, Key, Leaf, List, NodeId, Or, Path, Rev, Text};
 use st_json::BadCause;
 use st_marks::Verdict;
+use st_tree::{Field, Tree, TreeFault};
+use std::alloc::Global;
 use std::test::Fail;
 
 // The first test that a line fails.
@@ -23,6 +29,101 @@ fn first_use(rt: HostRuntime) -> Result<(), Fail> {
     let alloc = rt.alloc();
     let line = read_step_line(alloc, insert_line().as_bytes())?;
     assert_eq!(rt; cause_in(&line), None);
+    let written = written_again(alloc, insert_line())?;
+    assert_eq!(rt; written.as_str(), whole_insert_line());
+    read_steps_are_of_form();
+    read_steps_fit_lines();
+    step_lines_are_read();
+    read_steps_are_read_again();
+    read_headers_may_open();
+    Ok(())
+}
+
+fn whole_insert_line() -> &'static str {
+    "{\"at\":[\"\",2],\"branch\":0,\"client\":\"A\",\"do\":\"insert\",\"index\":1,\"items\":[7,{\"list\":[\"a\"]}],\"key\":\"\"}\n"
+}
+
+// The line of the step that a line is.
+fn written_again(alloc: Global, line: &str) -> Result<Text, Fail> {
+    match read_step_line(alloc, line.as_bytes())? {
+        Line::Bad(_) => Err("a step".into()),
+        Line::Step(step) => Ok(step_line(alloc, &step).ok().ok_or("a line")?),
+    }
+}
+
+// A line of each step, with every member. The last holds a tree that no schema allows.
+fn whole_lines() -> &'static [&'static str] {
+    &[
+        r#"{"client":"A","do":"join"}"#,
+        r#"{"at":["",2],"branch":3,"client":"A","do":"insert","index":1,"items":[null,{"m":{"a":true,"b":-7}}],"key":"k"}"#,
+        r#"{"at":[],"branch":0,"client":"A","count":2,"do":"remove","index":1,"key":""}"#,
+        r#"{"at":["",0,"k",0],"branch":4294967295,"client":"A","count":1,"do":"move","index":5,"key":"","to":["",1],"to_index":6,"to_key":"q"}"#,
+        r#"{"at":[],"branch":0,"client":"\"é","do":"set","item":{"list":["x"]},"key":"k"}"#,
+        r#"{"at":["",1],"branch":0,"client":"A","do":"clear","key":"k"}"#,
+        r#"{"client":"A","do":"sequence"}"#,
+        r#"{"client":"A","do":"deliver"}"#,
+        r#"{"branch":1,"client":"A","do":"show"}"#,
+        r#"{"at":[],"branch":0,"client":"A","do":"set","item":{"m":{"":1,"a":2}},"key":""}"#,
+    ]
+}
+
+#[test]
+fn steps_written_again(rt: HostRuntime) -> Result<(), Fail> {
+    let alloc = rt.alloc();
+    for line in whole_lines() {
+        let written = written_again(alloc, line)?;
+        let whole = format!(in alloc; "{line}\n")?;
+        assert_eq!(rt; written.as_str(), whole.as_str());
+    }
+    Ok(())
+}
+
+// A tree of so many levels.
+fn tall_tree(alloc: Global, levels: u32) -> Result<Tree, Fail> {
+    let mut tree = Tree {
+        ty: Text::from_str(alloc, "null")?,
+        leaf: Some(Leaf::Null),
+        fields: List::new(alloc),
+    };
+    for _level in 1..levels {
+        let mut items = List::new(alloc);
+        items.push(tree)?;
+        let key = Key(Text::new(alloc));
+        let mut fields = List::new(alloc);
+        fields.push(Field {
+            key,
+            row: true,
+            items,
+        })?;
+        tree = Tree {
+            ty: Text::from_str(alloc, "list")?,
+            leaf: None,
+            fields,
+        };
+    }
+    Ok(tree)
+}
+
+// The line of a set of a tree of so many levels.
+fn tall_line(alloc: Global, levels: u32) -> Result<Result<Text, Or<TreeFault>>, Fail> {
+    let step = TraceStep::Set {
+        client: Text::from_str(alloc, "A")?,
+        branch: 0,
+        at: Path::new(alloc),
+        key: Key(Text::new(alloc)),
+        item: tall_tree(alloc, levels)?,
+    };
+    Ok(step_line(alloc, &step))
+}
+
+#[test]
+fn tall_trees(rt: HostRuntime) -> Result<(), Fail> {
+    let alloc = rt.alloc();
+    assert!(rt; tall_line(alloc, 48)?.is_ok());
+    assert_eq!(rt;
+        tall_line(alloc, 49)?.err(),
+        Some(Or::Fault(TreeFault::TooDeep))
+    );
     Ok(())
 }
 

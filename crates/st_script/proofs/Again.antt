@@ -1,0 +1,200 @@
+-- The value of a step that a line can hold is read as that step.
+use Rattle.std.proofs.Common.{arith, ◌≡◌, ℕ, ◌<◌, ◌≤◌, ◌^◌, nat_lt, nat_le, Bool, true, cond, ◌&&◌, List, [], ◌∷◌, length, Option, Some, None, option_and_then, option_map, is_ok, Ok, codes, refl, ap, ◌∙◌}
+use Rattle.std.proofs.lemmas.Bool.Decides.{nat_tests}
+use Rattle.serde_json.specs.Data.{Data, number, unsigned, string}
+use Rattle.serde_json.specs.Find.{get, as_str, as_array}
+use Rattle.serde_json.specs.View.{items_of}
+use Rattle.st_ids.specs.declared.names.Key.{Key}
+use Rattle.st_ids.specs.declared.names.Place.{Place}
+use Rattle.st_json.specs.Look.{has_only}
+use Rattle.st_tree.specs.Node.{Node, nodes_of}
+use Rattle.st_tree.specs.Size.{check_items}
+use Rattle.st_schema.specs.TreeText.{tree_of, tree_data, trees_data}
+use Rattle.st_script.specs.Members.{client_named, client_in, small, as_small, number_in, number_or, at_least_one, one_or_more, count_of, key_within, key_or_empty, place_of, places_in, short_path, path_in, trees_in, few, items_in, item_in}
+use Rattle.st_script.specs.Steps.{StepView, join, insert, remove, move, set, clear, sequence, deliver, show, actor_of, target_of, site_of, span_of, goal_of, read_insert, read_remove, read_move, read_set, read_clear, read_show, lone_client, step_of}
+use Rattle.st_script.specs.StepText.{places_data, path_data, items_data, step_data, IsName, IsActor, ArePlaces, IsTarget, IsSpan, AreShown, AreItems, FitsLine}
+use Rattle.st_script.specs.declared.read.Actor.{Actor}
+use Rattle.st_script.specs.declared.read.Goal.{Goal}
+use Rattle.st_script.specs.declared.read.Span.{Span}
+use Rattle.st_script.specs.declared.read.Target.{Target}
+
+-- ---- options
+
+found : {A B : Type 0} (f : A → Option B) (o : Option A) (x : A) (y : Option B) → o ≡ Some x → f x ≡ y → option_and_then f o ≡ y
+found f o x y e g = ap (option_and_then f) e ∙ g
+
+passed : {A : Type 0} (b : Bool) (o : Option A) (y : Option A) → b ≡ true → o ≡ y → cond b o None ≡ y
+passed b o y e g = ap (λ (c : Bool). cond c o None) e ∙ g
+
+-- ---- members
+
+name_kept : (t : List ℕ) → IsName t → client_named t ≡ Some t
+name_kept t h =
+    let some : nat_le 1 (length t) ≡ true = grind (arith, nat_tests, h.0) in
+    let few : nat_le (length t) 64 ≡ true = grind (arith, nat_tests, h.1) in
+    (λ i. cond (some i && few i) (Some t) None)
+
+client_kept : (d : Data) (t : List ℕ) → get (codes "client") d ≡ Some (string t) → IsName t → client_in d ≡ Some t
+client_kept d t there h = ap (λ (o : Option Data). option_and_then client_named (option_and_then as_str o)) there ∙ name_kept t h
+
+small_kept : (n : ℕ) → n < 2 ^ 32 → small n ≡ Some n
+small_kept n h = let low : nat_lt n (2 ^ 32) ≡ true = grind (arith, nat_tests) in ap (λ (b : Bool). cond b (Some n) None) low
+
+number_kept : (name : List ℕ) (d : Data) (n : ℕ) → get name d ≡ Some (number (unsigned n)) → n < 2 ^ 32 → number_in name d ≡ Some n
+number_kept name d n there h = ap (option_and_then as_small) there ∙ small_kept n h
+
+number_or_kept : (m : ℕ) (o : Option Data) (n : ℕ) → o ≡ Some (number (unsigned n)) → n < 2 ^ 32 → number_or m o ≡ Some n
+number_or_kept m o n there h = ap (number_or m) there ∙ small_kept n h
+
+count_kept : (d : Data) (n : ℕ) → get (codes "count") d ≡ Some (number (unsigned n)) → 1 ≤ n → n < 2 ^ 32 → count_of d ≡ Some n
+count_kept d n there some h =
+    let one : nat_le 1 n ≡ true = grind (arith, nat_tests) in
+    ap one_or_more there ∙ ap (option_and_then at_least_one) (small_kept n h) ∙ ap (λ (b : Bool). cond b (Some n) None) one
+
+key_kept : (k : Key) → length k.0 ≤ 64 → key_within k.0 ≡ Some k
+key_kept k h = let short : nat_le (length k.0) 64 ≡ true = grind (arith, nat_tests) in ap (λ (b : Bool). cond b (Some k) None) short
+
+key_or_kept : (o : Option Data) (k : Key) → o ≡ Some (string k.0) → length k.0 ≤ 64 → key_or_empty o ≡ Some k
+key_or_kept o k there h = ap key_or_empty there ∙ key_kept k h
+
+place_kept : (p : Place) → length p.key.0 ≤ 64 → p.index < 2 ^ 32 → place_of (string p.key.0) (number (unsigned p.index)) ≡ Some p
+place_kept p short low =
+    let f : ℕ → Key → Place = λ index key. record { key = key; index = index } in
+    found (λ index. option_map (f index) (key_within p.key.0)) (small p.index) p.index (Some p) (small_kept p.index low) (ap (option_map (f p.index)) (key_kept p.key short))
+
+places_kept : (ps : List Place) → ArePlaces ps → places_in (items_of (places_data ps)) ≡ Some ps
+places_kept [] h = refl
+places_kept (p ∷ ps) h =
+    found (λ (q : Place). option_map (λ (qs : List Place). q ∷ qs) (places_in (items_of (places_data ps)))) (place_of (string p.key.0) (number (unsigned p.index))) p (Some (p ∷ ps))
+    (place_kept p h.0 h.1) (ap (option_map (λ (qs : List Place). p ∷ qs)) (places_kept ps h.2))
+
+path_kept : (name : List ℕ) (d : Data) (ps : List Place) → get name d ≡ Some (path_data ps) → length ps < 2 ^ 32 → ArePlaces ps → path_in name d ≡ Some ps
+path_kept name d ps there few h =
+    let short : nat_lt (length ps) (2 ^ 32) ≡ true = grind (arith, nat_tests) in
+    ap (λ (o : Option Data). option_and_then short_path (option_and_then places_in (option_and_then as_array o))) there
+    ∙ ap (option_and_then short_path) (places_kept ps h)
+    ∙ ap (λ (b : Bool). cond b (Some ps) None) short
+
+target_kept : (path key : List ℕ) (d : Data) (at : List Place) (k : Key) → get path d ≡ Some (path_data at) → get key d ≡ Some (string k.0) → IsTarget at k → target_of path key d ≡ Some (record { at = at; key = k })
+target_kept path key d at k path_there key_there h =
+    let f : List Place → Key → Target = λ at k. record { at = at; key = k } in
+    found (λ at. option_map (f at) (key_or_empty (get key d))) (path_in path d) at (Some (f at k)) (path_kept path d at path_there h.0 h.1) (ap (option_map (f at)) (key_or_kept (get key d) k key_there h.2))
+
+actor_kept : (d : Data) (client : List ℕ) (branch : ℕ) → get (codes "client") d ≡ Some (string client) → get (codes "branch") d ≡ Some (number (unsigned branch)) → IsActor client branch
+    → actor_of d ≡ Some (record { client = client; branch = branch })
+actor_kept d client branch client_there branch_there h =
+    let f : ℕ → List ℕ → Actor = λ branch client. record { client = client; branch = branch } in
+    found (λ branch. option_map (f branch) (client_in d)) (number_or 0 (get (codes "branch") d)) branch (Some (f branch client))
+    (number_or_kept 0 (get (codes "branch") d) branch branch_there h.1) (ap (option_map (f branch)) (client_kept d client client_there h.0))
+
+site_kept : (d : Data) (a : Actor) (t : Target) → actor_of d ≡ Some a → target_of (codes "at") (codes "key") d ≡ Some t → site_of d ≡ Some (a, t)
+site_kept d a t actor target =
+    let f : Actor → Target → Actor × Target = λ actor target. (actor, target) in
+    found (λ actor. option_map (f actor) (target_of (codes "at") (codes "key") d)) (actor_of d) a (Some (a, t)) actor (ap (option_map (f a)) target)
+
+span_kept : (d : Data) (index count : ℕ) → get (codes "index") d ≡ Some (number (unsigned index)) → get (codes "count") d ≡ Some (number (unsigned count)) → IsSpan index count
+    → span_of d ≡ Some (record { index = index; count = count })
+span_kept d index count index_there count_there h =
+    let f : ℕ → ℕ → Span = λ index count. record { index = index; count = count } in
+    found (λ index. option_map (f index) (count_of d)) (number_in (codes "index") d) index (Some (f index count))
+    (number_kept (codes "index") d index index_there h.0) (ap (option_map (f index)) (count_kept d count count_there h.1 h.2))
+
+goal_kept : (d : Data) (t : Target) (index : ℕ) → get (codes "to_index") d ≡ Some (number (unsigned index)) → target_of (codes "to") (codes "to_key") d ≡ Some t → index < 2 ^ 32
+    → goal_of d ≡ Some (record { to = t.at; to_key = t.key; to_index = index })
+goal_kept d t index there target h =
+    let f : ℕ → Target → Goal = λ index target. record { to = target.at; to_key = target.key; to_index = index } in
+    found (λ index. option_map (f index) (target_of (codes "to") (codes "to_key") d)) (number_or 0 (get (codes "to_index") d)) index (Some (f index t))
+    (number_or_kept 0 (get (codes "to_index") d) index there h) (ap (option_map (f index)) target)
+
+shown_kept : (ts : List Node) → AreShown ts → trees_in (trees_data (nodes_of ts)) ≡ Some ts
+shown_kept [] h = refl
+shown_kept (t ∷ ts) h =
+    found (λ (u : Node). option_map (λ (us : List Node). u ∷ us) (trees_in (trees_data (nodes_of ts)))) (tree_of (tree_data t)) t (Some (t ∷ ts)) h.0 (ap (option_map (λ (us : List Node). t ∷ us)) (shown_kept ts h.1))
+
+few_kept : (ts : List Node) → 1 ≤ length ts → check_items (nodes_of ts) ≡ Ok tt → few ts ≡ Some ts
+few_kept ts some within =
+    let one : nat_le 1 (length ts) ≡ true = grind (arith, nat_tests) in
+    (λ i. cond (one i && is_ok (within i)) (Some ts) None)
+
+items_kept : (d : Data) (ts : List Node) → get (codes "items") d ≡ Some (items_data ts) → AreItems ts → items_in d ≡ Some ts
+items_kept d ts there h =
+    ap (λ (o : Option Data). option_and_then (λ ds. option_and_then few (trees_in ds)) (option_and_then as_array o)) there
+    ∙ ap (option_and_then few) (shown_kept ts h.2)
+    ∙ few_kept ts h.0 h.1
+
+-- ---- steps of a value whose members are read so
+
+lone_read : (f : List ℕ → StepView) (d : Data) (client : List ℕ) → has_only (codes "client do") d ≡ true → client_in d ≡ Some client → option_map f (lone_client d) ≡ Some (f client)
+lone_read f d client only there = ap (option_map f) (passed (has_only (codes "client do") d) (client_in d) (Some client) only there)
+
+insert_read : (d : Data) (a : Actor) (t : Target) (index : ℕ) (items : List Node) → has_only (codes "at branch client do index items key") d ≡ true → site_of d ≡ Some (a, t)
+    → number_in (codes "index") d ≡ Some index → items_in d ≡ Some items → read_insert d ≡ Some (insert a.client a.branch t.at t.key index items)
+insert_read d a t index items only site index_there items_there =
+    let f : Actor × Target → ℕ → List Node → StepView = λ s index items. insert s.0.client s.0.branch s.1.at s.1.key index items in
+    passed (has_only (codes "at branch client do index items key") d) (option_and_then (λ s. option_and_then (λ index. option_map (f s index) (items_in d)) (number_in (codes "index") d)) (site_of d)) (Some (f (a, t) index items)) only
+    (found (λ s. option_and_then (λ index. option_map (f s index) (items_in d)) (number_in (codes "index") d)) (site_of d) (a, t) (Some (f (a, t) index items)) site
+    (found (λ index. option_map (f (a, t) index) (items_in d)) (number_in (codes "index") d) index (Some (f (a, t) index items)) index_there
+    (ap (option_map (f (a, t) index)) items_there)))
+
+remove_read : (d : Data) (a : Actor) (t : Target) (span : Span) → has_only (codes "at branch client count do index key") d ≡ true → site_of d ≡ Some (a, t) → span_of d ≡ Some span
+    → read_remove d ≡ Some (remove a.client a.branch t.at t.key span.index span.count)
+remove_read d a t span only site span_there =
+    let f : Actor × Target → Span → StepView = λ s span. remove s.0.client s.0.branch s.1.at s.1.key span.index span.count in
+    passed (has_only (codes "at branch client count do index key") d) (option_and_then (λ s. option_map (f s) (span_of d)) (site_of d)) (Some (f (a, t) span)) only
+    (found (λ s. option_map (f s) (span_of d)) (site_of d) (a, t) (Some (f (a, t) span)) site (ap (option_map (f (a, t))) span_there))
+
+move_read : (d : Data) (a : Actor) (t : Target) (span : Span) (goal : Goal) → has_only (codes "at branch client count do index key to to_index to_key") d ≡ true → site_of d ≡ Some (a, t)
+    → span_of d ≡ Some span → goal_of d ≡ Some goal → read_move d ≡ Some (move a.client a.branch t.at t.key span.index span.count goal.to goal.to_key goal.to_index)
+move_read d a t span goal only site span_there goal_there =
+    let f : Actor × Target → Span → Goal → StepView = λ s span goal. move s.0.client s.0.branch s.1.at s.1.key span.index span.count goal.to goal.to_key goal.to_index in
+    passed (has_only (codes "at branch client count do index key to to_index to_key") d) (option_and_then (λ s. option_and_then (λ span. option_map (f s span) (goal_of d)) (span_of d)) (site_of d)) (Some (f (a, t) span goal)) only
+    (found (λ s. option_and_then (λ span. option_map (f s span) (goal_of d)) (span_of d)) (site_of d) (a, t) (Some (f (a, t) span goal)) site
+    (found (λ span. option_map (f (a, t) span) (goal_of d)) (span_of d) span (Some (f (a, t) span goal)) span_there
+    (ap (option_map (f (a, t) span)) goal_there)))
+
+set_read : (d : Data) (a : Actor) (t : Target) (item : Node) → has_only (codes "at branch client do item key") d ≡ true → site_of d ≡ Some (a, t) → item_in d ≡ Some item
+    → read_set d ≡ Some (set a.client a.branch t.at t.key item)
+set_read d a t item only site item_there =
+    let f : Actor × Target → Node → StepView = λ s item. set s.0.client s.0.branch s.1.at s.1.key item in
+    passed (has_only (codes "at branch client do item key") d) (option_and_then (λ s. option_map (f s) (item_in d)) (site_of d)) (Some (f (a, t) item)) only
+    (found (λ s. option_map (f s) (item_in d)) (site_of d) (a, t) (Some (f (a, t) item)) site (ap (option_map (f (a, t))) item_there))
+
+clear_read : (d : Data) (a : Actor) (t : Target) → has_only (codes "at branch client do key") d ≡ true → site_of d ≡ Some (a, t) → read_clear d ≡ Some (clear a.client a.branch t.at t.key)
+clear_read d a t only site =
+    let f : Actor × Target → StepView = λ s. clear s.0.client s.0.branch s.1.at s.1.key in
+    passed (has_only (codes "at branch client do key") d) (option_map f (site_of d)) (Some (f (a, t))) only (ap (option_map f) site)
+
+show_read : (d : Data) (a : Actor) → has_only (codes "branch client do") d ≡ true → actor_of d ≡ Some a → read_show d ≡ Some (show a.client a.branch)
+show_read d a only actor =
+    let f : Actor → StepView = λ a. show a.client a.branch in
+    passed (has_only (codes "branch client do") d) (option_map f (actor_of d)) (Some (f a)) only (ap (option_map f) actor)
+
+-- ---- each step
+
+pub read_again : (s : StepView) → FitsLine s → step_of (step_data s) ≡ Some s
+read_again (join client) h = let d = step_data (join client) in lone_read join d client refl (client_kept d client refl h)
+read_again (insert client branch at key index items) h =
+    let d = step_data (insert client branch at key index items) in
+    let site = site_kept d (record { client = client; branch = branch }) (record { at = at; key = key }) (actor_kept d client branch refl refl h.0) (target_kept (codes "at") (codes "key") d at key refl refl h.1) in
+    insert_read d (record { client = client; branch = branch }) (record { at = at; key = key }) index items refl site (number_kept (codes "index") d index refl h.2) (items_kept d items refl h.3)
+read_again (remove client branch at key index count) h =
+    let d = step_data (remove client branch at key index count) in
+    let site = site_kept d (record { client = client; branch = branch }) (record { at = at; key = key }) (actor_kept d client branch refl refl h.0) (target_kept (codes "at") (codes "key") d at key refl refl h.1) in
+    remove_read d (record { client = client; branch = branch }) (record { at = at; key = key }) (record { index = index; count = count }) refl site (span_kept d index count refl refl h.2)
+read_again (move client branch at key index count to to_key to_index) h =
+    let d = step_data (move client branch at key index count to to_key to_index) in
+    let site = site_kept d (record { client = client; branch = branch }) (record { at = at; key = key }) (actor_kept d client branch refl refl h.0) (target_kept (codes "at") (codes "key") d at key refl refl h.1) in
+    let aim = goal_kept d (record { at = to; key = to_key }) to_index refl (target_kept (codes "to") (codes "to_key") d to to_key refl refl h.3) h.4 in
+    move_read d (record { client = client; branch = branch }) (record { at = at; key = key }) (record { index = index; count = count }) (record { to = to; to_key = to_key; to_index = to_index }) refl site
+    (span_kept d index count refl refl h.2) aim
+read_again (set client branch at key item) h =
+    let d = step_data (set client branch at key item) in
+    let site = site_kept d (record { client = client; branch = branch }) (record { at = at; key = key }) (actor_kept d client branch refl refl h.0) (target_kept (codes "at") (codes "key") d at key refl refl h.1) in
+    set_read d (record { client = client; branch = branch }) (record { at = at; key = key }) item refl site h.2
+read_again (clear client branch at key) h =
+    let d = step_data (clear client branch at key) in
+    let site = site_kept d (record { client = client; branch = branch }) (record { at = at; key = key }) (actor_kept d client branch refl refl h.0) (target_kept (codes "at") (codes "key") d at key refl refl h.1) in
+    clear_read d (record { client = client; branch = branch }) (record { at = at; key = key }) refl site
+read_again (sequence client) h = let d = step_data (sequence client) in lone_read sequence d client refl (client_kept d client refl h)
+read_again (deliver client) h = let d = step_data (deliver client) in lone_read deliver d client refl (client_kept d client refl h)
+read_again (show client branch) h = let d = step_data (show client branch) in show_read d (record { client = client; branch = branch }) refl (actor_kept d client branch refl refl h)

@@ -1,0 +1,289 @@
+-- The steps that lines are read as are steps that a line can hold.
+use Rattle.std.proofs.Common.{arith, ◌≡◌, ℕ, ◌<◌, ◌≤◌, ◌^◌, nat_lt, nat_le, Bool, true, false, cond, ◌&&◌, List, ◌∷◌, length, Option, Some, None, option_and_then, option_map, is_ok, Result, Ok, Err, codes, refl, subst}
+use Rattle.std.proofs.lemmas.Bool.Decides.{nat_tests}
+use Rattle.std.specs.Prelude.{⊤}
+use Rattle.std.specs.Option.{ok_or}
+use Rattle.serde_json.specs.Data.{Data, Items, no_items, item}
+use Rattle.serde_json.specs.Find.{get, as_str, as_array, as_number, as_u64}
+use Rattle.st_ids.specs.declared.names.Key.{Key}
+use Rattle.st_ids.specs.declared.names.Place.{Place}
+use Rattle.st_json.specs.Line.{line_value}
+use Rattle.st_json.specs.Look.{has_only}
+use Rattle.st_json.specs.declared.fault.BadCause.{BadCause}
+use Rattle.st_tree.specs.Node.{Node, nodes_of}
+use Rattle.st_tree.specs.Size.{check_of, check_items}
+use Rattle.st_tree.specs.declared.limits.TreeFault.{TreeFault}
+use Rattle.st_schema.specs.TreeText.{tree_of, tree_in, tree_data, within_limits}
+use Rattle.st_script.specs.Line.{line_of, judged}
+use Rattle.st_script.specs.Members.{client_named, client_in, small, as_small, number_in, number_or, at_least_one, one_or_more, count_of, key_within, key_of, key_or_empty, place_of, places_in, short_path, path_in, trees_in, few, items_in, item_in}
+use Rattle.st_script.specs.Steps.{StepView, join, insert, remove, move, set, clear, sequence, deliver, show, IsOfForm, same, actor_of, target_of, site_of, span_of, goal_of, read_insert, read_remove, read_move, read_set, read_clear, read_show, lone_client, read_of, word_of, step_of}
+use Rattle.st_script.specs.StepText.{IsName, IsActor, ArePlaces, IsTarget, IsSpan, IsShown, AreShown, AreItems, FitsLine}
+use Rattle.st_script.specs.declared.read.Actor.{Actor}
+use Rattle.st_script.specs.declared.read.Goal.{Goal}
+use Rattle.st_script.specs.declared.read.Span.{Span}
+use Rattle.st_script.specs.declared.read.Target.{Target}
+use Rattle.st_script.proofs.Holds.{Holds, Holds-map, Holds-and_then, Holds-cond}
+use Rattle.st_script.proofs.Sound.{Sound, SoundItems, line_sound, get_sound, array_sound, tree_shown, trees_shown}
+
+-- ---- tests
+
+both_true : (a b : Bool) → (a && b) ≡ true → (a ≡ true) × (b ≡ true)
+both_true true b e = (refl, e)
+both_true false b e = absurd cc
+
+within : (r : Result (Unit {0}) TreeFault) → is_ok r ≡ true → r ≡ Ok tt
+within (Ok u) e = refl
+within (Err f) e = absurd cc
+
+at_most : (n m : ℕ) → nat_le n m ≡ true → n ≤ m
+at_most n m h = grind (arith, nat_tests)
+
+below : (n m : ℕ) → nat_lt n m ≡ true → n < m
+below n m h = grind (arith, nat_tests)
+
+-- nothing is said of a value
+abbrev Any : {A : Type 0} → A → Type 0
+Any a = ⊤
+
+any : {A : Type 0} (o : Option A) → Holds Any o
+any None = tt
+any (Some a) = tt
+
+-- ---- members
+
+abbrev IsSmall : ℕ → Type 0
+IsSmall n = n < 2 ^ 32
+
+abbrev IsCount : ℕ → Type 0
+IsCount n = (1 ≤ n) × (n < 2 ^ 32)
+
+abbrev IsKey : Key → Type 0
+IsKey k = length k.0 ≤ 64
+
+abbrev IsPlace : Place → Type 0
+IsPlace p = (length p.key.0 ≤ 64) × (p.index < 2 ^ 32)
+
+abbrev IsPath : List Place → Type 0
+IsPath ps = (length ps < 2 ^ 32) × ArePlaces ps
+
+name_fits : (t : List ℕ) → Holds IsName (client_named t)
+name_fits t = Holds-cond IsName (nat_le 1 (length t) && nat_le (length t) 64) (Some t) None (λ h. let b = both_true (nat_le 1 (length t)) (nat_le (length t) 64) h in (at_most 1 (length t) b.0, at_most (length t) 64 b.1)) tt
+
+client_fits : (d : Data) → Holds IsName (client_in d)
+client_fits d = Holds-and_then Any IsName client_named (λ t _. name_fits t) (option_and_then as_str (get (codes "client") d)) (any _)
+
+small_fits : (n : ℕ) → Holds IsSmall (small n)
+small_fits n = Holds-cond IsSmall (nat_lt n (2 ^ 32)) (Some n) None (λ h. below n (2 ^ 32) h) tt
+
+value_fits : (d : Data) → Holds IsSmall (as_small d)
+value_fits d = Holds-and_then Any IsSmall small (λ n _. small_fits n) (option_and_then as_u64 (as_number d)) (any _)
+
+number_fits : (name : List ℕ) (d : Data) → Holds IsSmall (number_in name d)
+number_fits name d = Holds-and_then Any IsSmall as_small (λ e _. value_fits e) (get name d) (any _)
+
+number_or_fits : (o : Option Data) → Holds IsSmall (number_or 0 o)
+number_or_fits None = omega arith
+number_or_fits (Some d) = value_fits d
+
+one_fits : (n : ℕ) → n < 2 ^ 32 → Holds IsCount (at_least_one n)
+one_fits n h = Holds-cond IsCount (nat_le 1 n) (Some n) None (λ some. (at_most 1 n some, h)) tt
+
+count_fits : (o : Option Data) → Holds IsCount (one_or_more o)
+count_fits None = (omega arith, omega arith)
+count_fits (Some d) = Holds-and_then IsSmall IsCount at_least_one one_fits (as_small d) (value_fits d)
+
+key_fits : (t : List ℕ) → Holds IsKey (key_within t)
+key_fits t = Holds-cond IsKey (nat_le (length t) 64) (Some (record { 0 = t })) None (λ h. at_most (length t) 64 h) tt
+
+key_of_fits : (d : Data) → Holds IsKey (key_of d)
+key_of_fits d = Holds-and_then Any IsKey key_within (λ t _. key_fits t) (as_str d) (any _)
+
+key_or_fits : (o : Option Data) → Holds IsKey (key_or_empty o)
+key_or_fits None = omega arith
+key_or_fits (Some d) = key_of_fits d
+
+place_fits : (k i : Data) → Holds IsPlace (place_of k i)
+place_fits k i =
+    Holds-and_then IsSmall IsPlace (λ index. option_map (λ key. record { key = key; index = index }) (key_of k))
+    (λ n low. Holds-map IsKey IsPlace (λ key. record { key = key; index = n }) (λ c short. (short, low)) (key_of k) (key_of_fits k)) (as_small i) (value_fits i)
+
+places_fit : (ds : Items) → Holds ArePlaces (places_in ds)
+places_fit no_items = tt
+places_fit (item k no_items) = tt
+places_fit (item k (item i ds)) =
+    Holds-and_then IsPlace ArePlaces (λ (p : Place). option_map (λ (ps : List Place). p ∷ ps) (places_in ds))
+    (λ p here. Holds-map ArePlaces ArePlaces (λ (ps : List Place). p ∷ ps) (λ ps rest. (here.0, here.1, rest)) (places_in ds) (places_fit ds)) (place_of k i) (place_fits k i)
+
+short_fits : (ps : List Place) → ArePlaces ps → Holds IsPath (short_path ps)
+short_fits ps h = Holds-cond IsPath (nat_lt (length ps) (2 ^ 32)) (Some ps) None (λ short. (below (length ps) (2 ^ 32) short, h)) tt
+
+path_fits : (name : List ℕ) (d : Data) → Holds IsPath (path_in name d)
+path_fits name d =
+    Holds-and_then ArePlaces IsPath short_path short_fits (option_and_then places_in (option_and_then as_array (get name d)))
+    (Holds-and_then Any ArePlaces places_in (λ ds _. places_fit ds) (option_and_then as_array (get name d)) (any _))
+
+abbrev AtTarget : Target → Type 0
+AtTarget t = IsTarget t.at t.key
+
+target_fits : (path key : List ℕ) (d : Data) → Holds AtTarget (target_of path key d)
+target_fits path key d =
+    Holds-and_then IsPath AtTarget (λ at. option_map (λ k. record { at = at; key = k }) (key_or_empty (get key d)))
+    (λ at p. Holds-map IsKey AtTarget (λ k. record { at = at; key = k }) (λ k short. (p.0, p.1, short)) (key_or_empty (get key d)) (key_or_fits (get key d))) (path_in path d) (path_fits path d)
+
+abbrev ByActor : Actor → Type 0
+ByActor a = IsActor a.client a.branch
+
+actor_fits : (d : Data) → Holds ByActor (actor_of d)
+actor_fits d =
+    Holds-and_then IsSmall ByActor (λ branch. option_map (λ client. record { client = client; branch = branch }) (client_in d))
+    (λ b low. Holds-map IsName ByActor (λ client. record { client = client; branch = b }) (λ c name. (name, low)) (client_in d) (client_fits d)) (number_or 0 (get (codes "branch") d)) (number_or_fits (get (codes "branch") d))
+
+abbrev AtSite : Actor × Target → Type 0
+AtSite s = IsActor s.0.client s.0.branch × IsTarget s.1.at s.1.key
+
+site_fits : (d : Data) → Holds AtSite (site_of d)
+site_fits d =
+    Holds-and_then ByActor AtSite (λ (actor : Actor). option_map (λ (target : Target). (actor, target)) (target_of (codes "at") (codes "key") d))
+    (λ a by. Holds-map AtTarget AtSite (λ (target : Target). (a, target)) (λ t here. (by, here)) (target_of (codes "at") (codes "key") d) (target_fits (codes "at") (codes "key") d)) (actor_of d) (actor_fits d)
+
+abbrev OfSpan : Span → Type 0
+OfSpan s = IsSpan s.index s.count
+
+span_fits : (d : Data) → Holds OfSpan (span_of d)
+span_fits d =
+    Holds-and_then IsSmall OfSpan (λ index. option_map (λ count. record { index = index; count = count }) (count_of d))
+    (λ n low. Holds-map IsCount OfSpan (λ count. record { index = n; count = count }) (λ c some. (low, some.0, some.1)) (count_of d) (count_fits (get (codes "count") d))) (number_in (codes "index") d) (number_fits (codes "index") d)
+
+abbrev ToGoal : Goal → Type 0
+ToGoal g = IsTarget g.to g.to_key × (g.to_index < 2 ^ 32)
+
+goal_fits : (d : Data) → Holds ToGoal (goal_of d)
+goal_fits d =
+    Holds-and_then IsSmall ToGoal (λ index. option_map (λ (target : Target). record { to = target.at; to_key = target.key; to_index = index }) (target_of (codes "to") (codes "to_key") d))
+    (λ n low. Holds-map AtTarget ToGoal (λ (target : Target). record { to = target.at; to_key = target.key; to_index = n }) (λ t here. (here, low)) (target_of (codes "to") (codes "to_key") d) (target_fits (codes "to") (codes "to_key") d))
+    (number_or 0 (get (codes "to_index") d)) (number_or_fits (get (codes "to_index") d))
+
+few_fit : (ts : List Node) → AreShown ts → Holds AreItems (few ts)
+few_fit ts h =
+    Holds-cond AreItems (nat_le 1 (length ts) && is_ok (check_items (nodes_of ts))) (Some ts) None
+    (λ e. let b = both_true (nat_le 1 (length ts)) (is_ok (check_items (nodes_of ts))) e in (at_most 1 (length ts) b.0, within (check_items (nodes_of ts)) b.1, h)) tt
+
+items_fit : (d : Data) → Sound d → Holds AreItems (items_in d)
+items_fit d sound =
+    Holds-and_then SoundItems AreItems (λ ds. option_and_then few (trees_in ds)) (λ ds s. Holds-and_then AreShown AreItems few few_fit (trees_in ds) (trees_shown ds s)) (option_and_then as_array (get (codes "items") d))
+    (Holds-and_then Sound SoundItems as_array array_sound (get (codes "items") d) (get_sound (codes "items") d sound))
+
+item_fits : (d : Data) → Sound d → Holds IsShown (item_in d)
+item_fits d sound = Holds-and_then Sound IsShown tree_of tree_shown (get (codes "item") d) (get_sound (codes "item") d sound)
+
+-- ---- steps
+
+abbrev Fits : Option StepView → Type 0
+Fits o = Holds FitsLine o
+
+-- where a value has only these members
+only : (names : List ℕ) (d : Data) (o : Option StepView) → Fits o → Fits (cond (has_only names d) o None)
+only names d o h = Holds-cond FitsLine (has_only names d) o None (λ _. h) tt
+
+lone_fits : (f : List ℕ → StepView) → ((c : List ℕ) → IsName c → FitsLine (f c)) → (d : Data) → Fits (option_map f (lone_client d))
+lone_fits f fits d = Holds-map IsName FitsLine f fits (lone_client d) (Holds-cond IsName (has_only (codes "client do") d) (client_in d) None (λ _. client_fits d) tt)
+
+abbrev inserted : Actor × Target → ℕ → List Node → StepView
+inserted p index items = insert p.0.client p.0.branch p.1.at p.1.key index items
+
+insert_fits : (d : Data) → Sound d → Fits (read_insert d)
+insert_fits d sound =
+    only (codes "at branch client do index items key") d (option_and_then (λ p. option_and_then (λ index. option_map (inserted p index) (items_in d)) (number_in (codes "index") d)) (site_of d))
+    (Holds-and_then AtSite FitsLine (λ p. option_and_then (λ index. option_map (inserted p index) (items_in d)) (number_in (codes "index") d))
+    (λ p site. Holds-and_then IsSmall FitsLine (λ index. option_map (inserted p index) (items_in d))
+    (λ n low. Holds-map AreItems FitsLine (inserted p n) (λ ts h. (site.0, site.1, low, h)) (items_in d) (items_fit d sound)) (number_in (codes "index") d) (number_fits (codes "index") d)) (site_of d) (site_fits d))
+
+abbrev removed : Actor × Target → Span → StepView
+removed p span = remove p.0.client p.0.branch p.1.at p.1.key span.index span.count
+
+remove_fits : (d : Data) → Fits (read_remove d)
+remove_fits d =
+    only (codes "at branch client count do index key") d (option_and_then (λ p. option_map (removed p) (span_of d)) (site_of d))
+    (Holds-and_then AtSite FitsLine (λ p. option_map (removed p) (span_of d)) (λ p site. Holds-map OfSpan FitsLine (removed p) (λ s h. (site.0, site.1, h)) (span_of d) (span_fits d)) (site_of d) (site_fits d))
+
+abbrev moved : Actor × Target → Span → Goal → StepView
+moved p span goal = move p.0.client p.0.branch p.1.at p.1.key span.index span.count goal.to goal.to_key goal.to_index
+
+move_fits : (d : Data) → Fits (read_move d)
+move_fits d =
+    only (codes "at branch client count do index key to to_index to_key") d (option_and_then (λ p. option_and_then (λ span. option_map (moved p span) (goal_of d)) (span_of d)) (site_of d))
+    (Holds-and_then AtSite FitsLine (λ p. option_and_then (λ span. option_map (moved p span) (goal_of d)) (span_of d))
+    (λ p site. Holds-and_then OfSpan FitsLine (λ span. option_map (moved p span) (goal_of d))
+    (λ s h. Holds-map ToGoal FitsLine (moved p s) (λ g aim. (site.0, site.1, h, aim.0, aim.1)) (goal_of d) (goal_fits d)) (span_of d) (span_fits d)) (site_of d) (site_fits d))
+
+abbrev put_there : Actor × Target → Node → StepView
+put_there p tree = set p.0.client p.0.branch p.1.at p.1.key tree
+
+set_fits : (d : Data) → Sound d → Fits (read_set d)
+set_fits d sound =
+    only (codes "at branch client do item key") d (option_and_then (λ p. option_map (put_there p) (item_in d)) (site_of d))
+    (Holds-and_then AtSite FitsLine (λ p. option_map (put_there p) (item_in d)) (λ p site. Holds-map IsShown FitsLine (put_there p) (λ t h. (site.0, site.1, h)) (item_in d) (item_fits d sound)) (site_of d) (site_fits d))
+
+abbrev cleared : Actor × Target → StepView
+cleared p = clear p.0.client p.0.branch p.1.at p.1.key
+
+clear_fits : (d : Data) → Fits (read_clear d)
+clear_fits d = only (codes "at branch client do key") d (option_map cleared (site_of d)) (Holds-map AtSite FitsLine cleared (λ p site. site) (site_of d) (site_fits d))
+
+abbrev shown : Actor → StepView
+shown a = show a.client a.branch
+
+show_fits : (d : Data) → Fits (read_show d)
+show_fits d = only (codes "branch client do") d (option_map shown (actor_of d)) (Holds-map ByActor FitsLine shown (λ a by. by) (actor_of d) (actor_fits d))
+
+-- one of two, each of which fits
+either : (b : Bool) (o p : Option StepView) → Fits o → Fits p → Fits (cond b o p)
+either true o p l r = l
+either false o p l r = r
+
+word_fits : (word : List ℕ) (d : Data) → Sound d → Fits (read_of word d)
+word_fits word d sound =
+    either (same word (codes "join")) _ _ (lone_fits join (λ c h. h) d)
+    (either (same word (codes "insert")) _ _ (insert_fits d sound)
+    (either (same word (codes "remove")) _ _ (remove_fits d)
+    (either (same word (codes "move")) _ _ (move_fits d)
+    (either (same word (codes "set")) _ _ (set_fits d sound)
+    (either (same word (codes "clear")) _ _ (clear_fits d)
+    (either (same word (codes "sequence")) _ _ (lone_fits sequence (λ c h. h) d)
+    (either (same word (codes "deliver")) _ _ (lone_fits deliver (λ c h. h) d)
+    (either (same word (codes "show")) _ _ (show_fits d) tt))))))))
+
+value_step_fits : (d : Data) → Sound d → Fits (step_of d)
+value_step_fits d sound = Holds-and_then Any FitsLine (λ word. read_of word d) (λ word _. word_fits word d sound) (word_of d) (any _)
+
+-- the step of a line is one that a line can hold
+pub line_fits : (bytes : List ℕ) (s : StepView) → line_of bytes ≡ Ok s → FitsLine s
+line_fits bytes s e = go (line_value bytes) (line_sound bytes) e
+  where
+    step : (o : Option StepView) → Fits o → ok_or o BadCause.Shape ≡ Ok s → FitsLine s
+    step None h f = absurd cc
+    step (Some x) h f = let same_step : x ≡ s = cc in subst FitsLine same_step h
+
+    go : (o : Option Data) → Holds Sound o → judged o ≡ Ok s → FitsLine s
+    go None h e = absurd cc
+    go (Some d) h e = step (step_of d) (value_step_fits d h) e
+
+-- a tree that is read of its form is within the limits
+limited : (o : Option Node) → Holds (λ t. check_of t ≡ Ok tt) (option_and_then within_limits o)
+limited None = tt
+limited (Some t) = Holds-cond (λ (u : Node). check_of u ≡ Ok tt) (is_ok (check_of t)) (Some t) None (λ h. within (check_of t) h) tt
+
+shown_within : (t : Node) → IsShown t → check_of t ≡ Ok tt
+shown_within t e = subst (Holds (λ u. check_of u ≡ Ok tt)) e (limited (tree_in (tree_data t) 48))
+
+-- a step that a line can hold keeps the limits
+pub fits_form : (s : StepView) → FitsLine s → IsOfForm s
+fits_form (join client) h = tt
+fits_form (insert client branch at key index items) h = (h.3.1, h.1.0)
+fits_form (remove client branch at key index count) h = h.1.0
+fits_form (move client branch at key index count to to_key to_index) h = (h.1.0, h.3.0)
+fits_form (set client branch at key tree) h = (shown_within tree h.2, h.1.0)
+fits_form (clear client branch at key) h = h.1.0
+fits_form (sequence client) h = tt
+fits_form (deliver client) h = tt
+fits_form (show client branch) h = tt

@@ -1,0 +1,122 @@
+-- The value of a step has no floating-point number and nests no deeper than a text may, and its line is read as the step.
+use Rattle.std.proofs.Common.{arith, ◌≡◌, ◌∙◌, ℕ, ◌+◌, ◌*◌, ◌≤◌, ◌==◌, max, Bool, true, false, List, [], ◌∷◌, ◌++◌, length, Option, None, Some, Result, Ok, Err, String, string_bytes, Global, if◌then◌else◌, IfOk, OnOk, eq-eqb, refl, sym, ap, subst}
+use Rattle.std.proofs.lemmas.Str.{IsUtf8-string_bytes, utf8_valid_len-IsUtf8}
+use Rattle.std.specs.Option.{ok_or}
+use Rattle.std.specs.Str.Lossy.{utf8_valid_len}
+use Rattle.serde_json.specs.Data.{Data, Members, depth, items_depth, members_depth}
+use Rattle.serde_json.specs.Read.{read, max_depth}
+use Rattle.serde_json.specs.View.{items_of}
+use Rattle.serde_json.specs.Written.{compact_text, has_float, items_have_float}
+use Rattle.st_ids.specs.declared.names.Leaf.{Leaf}
+use Rattle.st_ids.specs.declared.names.Leaf.TheVariants as leaf
+use Rattle.st_ids.specs.declared.names.Place.{Place}
+use Rattle.st_json.specs.Line.{line_value}
+use Rattle.st_json.specs.declared.fault.BadCause.{BadCause}
+use Rattle.st_tree.specs.Node.{Node, node, Fields, no_fields, field, Nodes, no_nodes, first, nodes_of}
+use Rattle.st_tree.specs.Size.{height, fields_height, items_height}
+use Rattle.st_schema.specs.TreeText.{leaf_data, tree_data, body_data, keyed_data, members_data, trees_data}
+use Rattle.st_schema.proofs.PlainTrees.{tree_plain}
+use Rattle.st_script.specs.Line.{line_of, judged}
+use Rattle.st_script.specs.Steps.{StepView, join, insert, remove, move, set, clear, sequence, deliver, show}
+use Rattle.st_script.specs.StepText.{places_data, step_data, step_text, limits_of, trees_have_form, FitsLine}
+use Rattle.st_script.proofs.Again.{read_again}
+use Rattle.st_script.proofs.Fits.{line_fits}
+use Rattle.st_script.proofs.Written.{all_small, one_small}
+
+-- ---- no floating-point number
+
+path_plain : (ps : List Place) → items_have_float (items_of (places_data ps)) ≡ false
+path_plain [] = refl
+path_plain (p ∷ ps) = path_plain ps
+
+trees_plain : (ts : List Node) → items_have_float (trees_data (nodes_of ts)) ≡ false
+trees_plain [] = refl
+trees_plain (t ∷ ts) = rw (tree_plain t) (trees_plain ts)
+
+pub step_plain : (s : StepView) → has_float (step_data s) ≡ false
+step_plain (join client) = refl
+step_plain (insert client branch at key index items) = rw (path_plain at, trees_plain items) refl
+step_plain (remove client branch at key index count) = rw (path_plain at) refl
+step_plain (move client branch at key index count to to_key to_index) = rw (path_plain at, path_plain to) refl
+step_plain (set client branch at key item) = rw (path_plain at, tree_plain item) refl
+step_plain (clear client branch at key) = rw (path_plain at) refl
+step_plain (sequence client) = refl
+step_plain (deliver client) = refl
+step_plain (show client branch) = refl
+
+-- ---- how deep it nests
+
+leaf_flat : (v : Leaf) → depth (leaf_data v) ≤ 0
+leaf_flat leaf.Null = omega arith
+leaf_flat (leaf.Bool b) = omega arith
+leaf_flat (leaf.Int z) = omega arith
+leaf_flat (leaf.Words w) = omega arith
+
+-- at most two levels for each of the tree's
+mutual
+  tree_low : (t : Node) → depth (tree_data t) ≤ 2 * height t
+  tree_low (node ty (Some v) fs) = omega (arith, leaf_flat v)
+  tree_low (node ty None fs) = omega (arith, body_low fs)
+
+  body_low : (fs : Fields) → depth (body_data fs) ≤ 1 + 2 * fields_height fs
+  body_low no_fields = omega arith
+  body_low (field key true items rest) = omega (arith, items_low items)
+  body_low (field key false items rest) = omega (arith, keyed_low key items (members_data rest), members_low rest)
+
+  keyed_low : (key : List ℕ) (items : Nodes) (ms : Members) → members_depth (keyed_data key items ms) ≤ max (2 * items_height items) (members_depth ms)
+  keyed_low key no_nodes ms = omega arith
+  keyed_low key (first t ts) ms = omega (arith, tree_low t)
+
+  members_low : (fs : Fields) → members_depth (members_data fs) ≤ 2 * fields_height fs
+  members_low no_fields = omega arith
+  members_low (field key row items rest) = omega (arith, keyed_low key items (members_data rest), members_low rest)
+
+  items_low : (ts : Nodes) → items_depth (trees_data ts) ≤ 2 * items_height ts
+  items_low no_nodes = omega arith
+  items_low (first t ts) = omega (arith, tree_low t, items_low ts)
+
+path_low : (ps : List Place) → items_depth (items_of (places_data ps)) ≤ 0
+path_low [] = omega arith
+path_low (p ∷ ps) = omega (arith, path_low ps)
+
+pub step_low : (s : StepView) → limits_of s ≡ Ok tt → depth (step_data s) ≤ max_depth
+step_low (join client) h = omega arith
+step_low (insert client branch at key index items) h = omega (arith, path_low at, items_low (nodes_of items), (all_small (nodes_of items) h).1)
+step_low (remove client branch at key index count) h = omega (arith, path_low at)
+step_low (move client branch at key index count to to_key to_index) h = omega (arith, path_low at, path_low to)
+step_low (set client branch at key item) h = omega (arith, path_low at, tree_low item, (one_small item h).1)
+step_low (clear client branch at key) h = omega (arith, path_low at)
+step_low (sequence client) h = omega arith
+step_low (deliver client) h = omega arith
+step_low (show client branch) h = omega arith
+
+-- ---- the line
+
+-- the text of a value, which is UTF-8, is read as a line
+pub text_read : (s : String Global) (d : Data) → string_bytes s ≡ compact_text d → read (string_bytes s) ≡ Some d → line_value (compact_text d) ≡ Some d
+text_read s d text back =
+    let whole : (utf8_valid_len (string_bytes s) == length (string_bytes s)) ≡ true = eq-eqb _ _ (utf8_valid_len-IsUtf8 (string_bytes s) (IsUtf8-string_bytes s)) in
+    subst (λ (x : List ℕ). line_value x ≡ Some d) text (ap (λ (b : Bool). if b then read (string_bytes s) else None) whole ∙ back)
+
+pub line_again : (s : StepView) (d : Data) → d ≡ step_data s → line_value (compact_text d) ≡ Some d → FitsLine s → line_of (step_text s) ≡ Ok s
+line_again s d is back fits =
+    let told : line_value (step_text s) ≡ Some (step_data s) = subst (λ (e : Data). line_value (compact_text e) ≡ Some e) is back in
+    ap judged told ∙ ap (λ (o : Option StepView). ok_or o BadCause.Shape) (read_again s fits)
+
+-- the line of a step's value
+pub told_text : {E : Type 0} (r : Result (List ℕ) E) (s : StepView) (d : Data) → (trees_have_form s ≡ true → d ≡ step_data s) → IfOk r (λ t. has_float d ≡ false → t ≡ compact_text d ++ 10 ∷ [])
+    → IfOk r (λ t. trees_have_form s ≡ true → t ≡ step_text s ++ 10 ∷ [])
+told_text (Ok t) s d is h = λ form. h (ap has_float (is form) ∙ step_plain s) ∙ ap (λ (e : Data). compact_text e ++ 10 ∷ []) (is form)
+told_text (Err e) s d is h = tt
+
+pub told_back : {T E : Type 0} (r : Result T E) (s : StepView) (d : Data) → limits_of s ≡ Ok tt → (trees_have_form s ≡ true → d ≡ step_data s)
+    → OnOk r (has_float d ≡ false → depth d ≤ max_depth → line_value (compact_text d) ≡ Some d) → OnOk r (trees_have_form s ≡ true → FitsLine s → line_of (step_text s) ≡ Ok s)
+told_back (Ok t) s d within is h = λ form fits.
+    line_again s d (is form) (h (ap has_float (is form) ∙ step_plain s) (subst (λ (e : Data). depth e ≤ max_depth) (sym (is form)) (step_low s within))) fits
+told_back (Err e) s d within is h = tt
+
+-- the line of a step that a line is
+pub told_again : {T E : Type 0} (r : Result T E) (s : StepView) → OnOk r (trees_have_form s ≡ true → FitsLine s → line_of (step_text s) ≡ Ok s)
+    → OnOk r ((bytes : List ℕ) → line_of bytes ≡ Ok s → trees_have_form s ≡ true → line_of (step_text s) ≡ Ok s)
+told_again (Ok t) s h = λ bytes is form. h form (line_fits bytes s is)
+told_again (Err e) s h = tt

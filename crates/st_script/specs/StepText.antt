@@ -1,0 +1,131 @@
+-- The value that stands for a step, and which steps are read of theirs.
+use Rattle.std.specs.Prelude.{◌≡◌, ◌<◌, ◌≤◌, ◌^◌, ℕ, List, [], ◌∷◌, length, Bool, true, Some, Result, Ok, codes}
+use Rattle.serde_json.specs.Data.{Data, number, unsigned, string, array, object, Members, no_members, member}
+use Rattle.serde_json.specs.View.{items_of}
+use Rattle.serde_json.specs.Written.{compact_text}
+use Rattle.st_ids.specs.declared.names.Key.{Key}
+use Rattle.st_ids.specs.declared.names.Place.{Place}
+use Rattle.st_tree.specs.Form.{has_form, all_have_form}
+use Rattle.st_tree.specs.Node.{Node, nodes_of}
+use Rattle.st_tree.specs.Size.{check_of, check_items}
+use Rattle.st_tree.specs.declared.limits.TreeFault.{TreeFault}
+use Rattle.st_schema.specs.TreeText.{tree_data, trees_data, tree_of}
+use Rattle.st_script.specs.Steps.{StepView, join, insert, remove, move, set, clear, sequence, deliver, show}
+
+-- keys and indexes in turn
+abbrev pub places_data : List Place → List Data
+places_data [] = []
+places_data (p ∷ ps) = string p.key.0 ∷ number (unsigned p.index) ∷ places_data ps
+
+abbrev pub path_data : List Place → Data
+path_data ps = array (items_of (places_data ps))
+
+abbrev pub items_data : List Node → Data
+items_data ts = array (trees_data (nodes_of ts))
+
+-- a step that names a client alone
+abbrev pub plain_data : List ℕ → List ℕ → Data
+plain_data word client = object (member (codes "client") (string client) (member (codes "do") (string word) no_members))
+
+-- who does a step, and on which branch, with the step's word
+abbrev pub actor_members : List ℕ → List ℕ → ℕ → Members
+actor_members word client branch = member (codes "branch") (number (unsigned branch)) (member (codes "client") (string client) (member (codes "do") (string word) no_members))
+
+-- who edits which field, with the step's word
+abbrev pub site_members : List ℕ → List ℕ → ℕ → List Place → Key → Members
+site_members word client branch at key = member (codes "at") (path_data at) (member (codes "branch") (number (unsigned branch)) (member (codes "client") (string client) (member (codes "do") (string word)
+    (member (codes "key") (string key.0) no_members))))
+
+-- every member of a step, also one that holds what is meant where nothing is said, in byte order of the names
+abbrev pub step_data : StepView → Data
+step_data (join client) = plain_data (codes "join") client
+step_data (insert client branch at key index items) =
+    object (member (codes "at") (path_data at) (member (codes "branch") (number (unsigned branch)) (member (codes "client") (string client) (member (codes "do") (string (codes "insert"))
+    (member (codes "index") (number (unsigned index)) (member (codes "items") (items_data items) (member (codes "key") (string key.0) no_members)))))))
+step_data (remove client branch at key index count) =
+    object (member (codes "at") (path_data at) (member (codes "branch") (number (unsigned branch)) (member (codes "client") (string client) (member (codes "count") (number (unsigned count))
+    (member (codes "do") (string (codes "remove")) (member (codes "index") (number (unsigned index)) (member (codes "key") (string key.0) no_members)))))))
+step_data (move client branch at key index count to to_key to_index) =
+    object (member (codes "at") (path_data at) (member (codes "branch") (number (unsigned branch)) (member (codes "client") (string client) (member (codes "count") (number (unsigned count))
+    (member (codes "do") (string (codes "move")) (member (codes "index") (number (unsigned index)) (member (codes "key") (string key.0)
+    (member (codes "to") (path_data to) (member (codes "to_index") (number (unsigned to_index)) (member (codes "to_key") (string to_key.0) no_members))))))))))
+step_data (set client branch at key item) =
+    object (member (codes "at") (path_data at) (member (codes "branch") (number (unsigned branch)) (member (codes "client") (string client) (member (codes "do") (string (codes "set"))
+    (member (codes "item") (tree_data item) (member (codes "key") (string key.0) no_members))))))
+step_data (clear client branch at key) = object (site_members (codes "clear") client branch at key)
+step_data (sequence client) = plain_data (codes "sequence") client
+step_data (deliver client) = plain_data (codes "deliver") client
+step_data (show client branch) = object (actor_members (codes "show") client branch)
+
+abbrev pub step_text : StepView → List ℕ
+step_text s = compact_text (step_data s)
+
+-- the limits of a step's trees, which an insert's keep together
+abbrev pub limits_of : StepView → Result (Unit {0}) TreeFault
+limits_of (join client) = Ok tt
+limits_of (insert client branch at key index items) = check_items (nodes_of items)
+limits_of (remove client branch at key index count) = Ok tt
+limits_of (move client branch at key index count to to_key to_index) = Ok tt
+limits_of (set client branch at key item) = check_of item
+limits_of (clear client branch at key) = Ok tt
+limits_of (sequence client) = Ok tt
+limits_of (deliver client) = Ok tt
+limits_of (show client branch) = Ok tt
+
+-- a step's trees are of the form of trees
+abbrev pub trees_have_form : StepView → Bool
+trees_have_form (join client) = true
+trees_have_form (insert client branch at key index items) = all_have_form (nodes_of items)
+trees_have_form (remove client branch at key index count) = true
+trees_have_form (move client branch at key index count to to_key to_index) = true
+trees_have_form (set client branch at key item) = has_form item
+trees_have_form (clear client branch at key) = true
+trees_have_form (sequence client) = true
+trees_have_form (deliver client) = true
+trees_have_form (show client branch) = true
+
+-- ---- the steps that a line can hold
+
+-- a client's name has 1 to 64 bytes
+abbrev pub IsName : List ℕ → Type 0
+IsName t = (1 ≤ length t) × (length t ≤ 64)
+
+abbrev pub IsActor : List ℕ → ℕ → Type 0
+IsActor client branch = IsName client × (branch < 2 ^ 32)
+
+-- keys of at most 64 bytes, and indexes below 2^32
+abbrev pub ArePlaces : List Place → Type 0
+ArePlaces [] = Unit {0}
+ArePlaces (p ∷ ps) = (length p.key.0 ≤ 64) × (p.index < 2 ^ 32) × ArePlaces ps
+
+abbrev pub IsTarget : List Place → Key → Type 0
+IsTarget at key = (length at < 2 ^ 32) × ArePlaces at × (length key.0 ≤ 64)
+
+-- a row's place, and how many items, at the least one
+abbrev pub IsSpan : ℕ → ℕ → Type 0
+IsSpan index count = (index < 2 ^ 32) × (1 ≤ count) × (count < 2 ^ 32)
+
+-- the tree is read of its form: so is each tree within the limits that is of the form of trees, whose leaves have the
+-- types of their values and whose keys have at most 64 bytes
+abbrev pub IsShown : Node → Type 0
+IsShown t = tree_of (tree_data t) ≡ Some t
+
+abbrev pub AreShown : List Node → Type 0
+AreShown [] = Unit {0}
+AreShown (t ∷ ts) = IsShown t × AreShown ts
+
+-- one tree at the least, and all together within the limits
+abbrev pub AreItems : List Node → Type 0
+AreItems ts = (1 ≤ length ts) × (check_items (nodes_of ts) ≡ Ok tt) × AreShown ts
+
+-- a step as a line can hold it
+abbrev pub FitsLine : StepView → Type 0
+FitsLine (join client) = IsName client
+FitsLine (insert client branch at key index items) = IsActor client branch × IsTarget at key × (index < 2 ^ 32) × AreItems items
+FitsLine (remove client branch at key index count) = IsActor client branch × IsTarget at key × IsSpan index count
+FitsLine (move client branch at key index count to to_key to_index) = IsActor client branch × IsTarget at key × IsSpan index count × IsTarget to to_key × (to_index < 2 ^ 32)
+FitsLine (set client branch at key item) = IsActor client branch × IsTarget at key × IsShown item
+FitsLine (clear client branch at key) = IsActor client branch × IsTarget at key
+FitsLine (sequence client) = IsName client
+FitsLine (deliver client) = IsName client
+FitsLine (show client branch) = IsActor client branch
