@@ -1,0 +1,6 @@
+pub mod Carried
+pub mod Forms
+pub mod InTurn
+pub mod Occupants
+pub mod Refusals
+pub mod Registers
