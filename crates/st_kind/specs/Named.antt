@@ -10,6 +10,7 @@ Nodes = NodeId → Bool
 abbrev pub either : Nodes → Nodes → Nodes
 either m k n = m n || k n
 
--- the nodes that a bridge names, from those that the step names and those that the part names
-abbrev pub named_beside : Nodes → Nodes → Bool → Bool → Nodes
-named_beside m k was_void is_void = if was_void && is_void then m else either m k
+-- the nodes that a bridge names: those that the step names, the part's new ones, and those that the part mentions where it
+-- was or is carried out whole
+abbrev pub named_beside : Nodes → Nodes → Nodes → Bool → Bool → Nodes
+named_beside m mentioned made was_void is_void = either m (if was_void && is_void then made else either mentioned made)

@@ -29,8 +29,11 @@ pub trait FieldKind: Sized {
     /// The part is that of an intent which fits where the field holds this.
     ghost Fits: { Part → Self.Ctx → Type 0 };
 
-    /// The nodes that the part mentions or makes.
-    ghost names: { Part → Nodes };
+    /// The nodes that the part mentions.
+    ghost mentions: { Part → Nodes };
+
+    /// The nodes that the part makes.
+    ghost makes: { Part → Nodes };
 
     /// What the field holds after the part, which is void where the second argument is true.
     ghost carry: { Part → Bool → Self.Ctx → Self.Ctx };
@@ -89,7 +92,7 @@ pub trait FieldKind: Sized {
     /// What a change does, void or whole.
     fn effect(alloc: Global, change: &Self::Change, void: bool) -> Result<Self::Step, AllocError>
         ensures { (n : Part) (c : Self.Ctx) → Fits n c → IsEmbedding n c change.now → IsContent (carry n void c)
-            → IfOk result (IsStep (names n) c (carry n void c)) };
+            → IfOk result (IsStep (mentions n) c (carry n void c)) };
 
     /// Two steps in turn as one.
     fn compose(
@@ -141,7 +144,7 @@ pub trait FieldKind: Sized {
         requires { HasRoom change.now step.now }
         ensures bridged { (n : Part) (m : Nodes) (c d : Self.Ctx) → Fits n c → Fits n d → (is_void ≡ false → Keeps n c d)
             → IsEmbedding n c change.now → IsStep m c d step.now → IsContent (carry n was_void c) → IsContent (carry n is_void d)
-            → IfMemory result (IsStep (named_beside m (names n) was_void is_void) (carry n was_void c) (carry n is_void d)) }
+            → IfMemory result (IsStep (named_beside m (mentions n) (makes n) was_void is_void) (carry n was_void c) (carry n is_void d)) }
         ensures apart { IsApartWhere result (RebaseClash change.now step.now) };
 
     /// A part has one embedding in a content.
@@ -149,6 +152,9 @@ pub trait FieldKind: Sized {
 
     /// One step leads from one content to another and names given nodes.
     ghost one_step: { (m : Nodes) (c d : Self.Ctx) (s t : Self.Step) → IsStep m c d s → IsStep m c d t → s ≡ t };
+
+    /// What becomes of the nodes that come in by one step and then by another is told by the two together.
+    ghost keeps_in_turn: { (n : Part) (c d e : Self.Ctx) → Keeps n c d → Keeps n d e → Keeps n c e };
 
     /// A step over contents is short.
     ghost steps_are_short: { (m : Nodes) (c d : Self.Ctx) (s : Self.Step) → IsStep m c d s → IsShortStep s };

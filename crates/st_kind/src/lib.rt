@@ -2,7 +2,9 @@
 #![tactic(auto)]
 
 mod apart;
+mod both;
 mod kind;
 
 pub use apart::Apart;
+pub use both::{Sides, rebase_over_both};
 pub use kind::FieldKind;

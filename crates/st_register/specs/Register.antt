@@ -49,10 +49,6 @@ pub record FitsIn (p : RegPart) (c : RegHeld) : Type 0 where
   -- who is there isn't new, nor is the node whose register it is
   pub old : IfSome c.node (λ n. (p.makes n ≡ false) × (p.makes p.field.node ≡ false))
 
--- the nodes that the part mentions or makes
-abbrev pub names_of : RegPart → NodeId → Bool
-names_of p n = p.makes n || p.does.mentioned n
-
 -- ## Carrying out
 
 -- the occupant, unless it is put

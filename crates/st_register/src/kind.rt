@@ -15,10 +15,10 @@ impl FieldKind for Register {
     ghost use Rattle.std.specs.Prelude.{◌≡◌, Some};
     ghost use Rattle.st_ids.specs.Order.{same_node};
     ghost use Rattle.st_marks.specs.Intent.{same_option};
-    ghost use Rattle.st_register.specs.Register.{RegPart, CanHold, FitsIn, names_of, carried_to, change_of, LeadsOver, KeepsIn, DifferAt};
+    ghost use Rattle.st_register.specs.Register.{RegPart, CanHold, FitsIn, carried_to, change_of, LeadsOver, KeepsIn, DifferAt};
     ghost use Rattle.st_register.specs.Told.{left_by};
     ghost use Rattle.st_register.specs.Joined.{AreJoinedIn};
-    ghost use Rattle.st_register.specs.Laws.{one_change, one_swap};
+    ghost use Rattle.st_register.specs.Laws.{kept_in_turn, one_change, one_swap};
 
     type Ctx = RegHeld;
 
@@ -32,7 +32,9 @@ impl FieldKind for Register {
 
     ghost Fits = { FitsIn };
 
-    ghost names = { names_of };
+    ghost mentions = { λ p. p.does.mentioned };
+
+    ghost makes = { λ p. p.makes };
 
     ghost carry = { carried_to };
 
@@ -121,6 +123,8 @@ impl FieldKind for Register {
     ghost one_embedding = { one_change };
 
     ghost one_step = { one_swap };
+
+    ghost keeps_in_turn = { kept_in_turn };
 
     ghost steps_are_short = { λ m c d s h. tt };
 
