@@ -149,7 +149,7 @@ module _ (x : RegChange) (w : IsOfForm x) (h : x.held ≢ Some root) where
   old n e =
       rw (old_new n e, not_makes n (λ f. (some_is x.fill _ n w.filled f).1 e), not_makes root not_root) (refl, refl)
 
-  told_fits : FitsIn (told x) (holding x.held)
+  pub told_fits : FitsIn (told x) (holding x.held)
   told_fits = record {
     content = h;
     cleared = put_cleared;
@@ -241,7 +241,7 @@ module _ (x : RegChange) (w : IsOfForm x) (h : x.held ≢ Some root) where
       none (n, f, r) = let q : ◌≡◌ {A = Option NodeId} None (Some n) = sym e ∙ f in cc
   fill_new_told (Some n) e = makes_told n e
 
-  told_is : x ≡ change_of (told x) (holding x.held)
+  pub told_is : x ≡ change_of (told x) (holding x.held)
   told_is = λ i. record {
     rev = x.rev;
     in_new = in_new_is i;

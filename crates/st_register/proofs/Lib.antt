@@ -1,4 +1,6 @@
 pub mod Carried
+pub mod Documents
+pub mod Example
 pub mod Forms
 pub mod InTurn
 pub mod Occupants

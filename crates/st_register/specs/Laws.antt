@@ -28,9 +28,9 @@ there_or_not (Some m) n =
     elim (same_node m n) as (λ b. same_node m n ≡ b → (◌≡◌ {A = Option NodeId} (Some m) (Some n)) ⊎ (◌≢◌ {A = Option NodeId} (Some m) (Some n))) [
       | true ↦ λ t. inl (ap (λ (k : NodeId). Some k) (same_node-true m n t))
       | false ↦ λ t. inr (λ e.
-        let one : m ≡ n = ap (λ (o : Option NodeId). option_map_or (λ k. k) o m) e in
-        let both : ◌≡◌ {A = Bool} false true = sym t ∙ ap (same_node m) (sym one) ∙ same_node-itself m in
-        cc)
+          let one : m ≡ n = ap (λ (o : Option NodeId). option_map_or (λ k. k) o m) e in
+          let both : ◌≡◌ {A = Bool} false true = sym t ∙ ap (same_node m) (sym one) ∙ same_node-itself m in
+          cc)
     ] refl
 
 -- who comes in from the first to the third content comes in from the first to the second, or from there to the third

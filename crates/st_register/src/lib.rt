@@ -4,8 +4,12 @@
 mod form;
 mod joined;
 mod kind;
+mod laws;
+#[cfg(test)]
+mod tests;
 mod told;
 mod values;
 
 pub use kind::Register;
+pub use laws::{registers_are_listed, registers_are_of_documents};
 pub use values::{RegChange, RegHeld, RegSwap};
