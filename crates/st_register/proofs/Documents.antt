@@ -1,6 +1,5 @@
 -- A register of a document as a field.
-use Rattle.std.proofs.Common.{◌≡◌, ◌≢◌, ◌↔◌, ℕ, Bool, true, false, ◌||◌, not, List, [], Option, Some, None, cond, refl, sym, ap, ◌∙◌, subst, IfSome, IsSome, IsTrue, is_some, option_map}
-use Rattle.std.specs.List.{find}
+use Rattle.std.proofs.Common.{◌≡◌, ℕ, Bool, true, false, ◌||◌, not, List, [], Option, Some, None, cond, refl, sym, ap, ◌∙◌, IfSome, IsSome, is_some}
 use Rattle.std.specs.Option.{option_or, option_map_or}
 use Rattle.st_ids.specs.Order.{same_node}
 use Rattle.st_ids.specs.declared.names.FieldId.{FieldId}
@@ -10,7 +9,7 @@ use Rattle.st_marks.specs.declared.changes.NewNode.{NewNode}
 use Rattle.st_marks.specs.declared.intents.Intent.{Intent}
 use Rattle.st_marks.specs.declared.intents.To.{To}
 use Rattle.st_marks.specs.declared.places.Spot.{Spot}
-use Rattle.st_marks.specs.Back.{retreat, is_in, unless_in}
+use Rattle.st_marks.specs.Back.{retreat, unless_in}
 use Rattle.st_marks.specs.CarryOut.{full, void, only_new}
 use Rattle.st_marks.specs.CarryOut as carry
 use Rattle.st_marks.specs.Document.{Document, IsSoundInForm, root}
@@ -20,7 +19,7 @@ use Rattle.st_marks.proofs.Lookups.{put-has, has-put, put_in-has, has-put_in, pu
 use Rattle.st_marks.proofs.Members.{all-has, first-has}
 use Rattle.st_register.specs.declared.values.RegHeld.{RegHeld}
 use Rattle.st_register.specs.declared.values.RegSwap.{RegSwap}
-use Rattle.st_register.specs.Register.{RegPart, FitsIn, LeadsOver, CanHold, carried_to, change_of, part_of, unless_put, only_made}
+use Rattle.st_register.specs.Register.{RegPart, FitsIn, LeadsOver, carried_to, change_of, part_of, unless_put, only_made}
 use Rattle.st_register.specs.Told.{as_mark, as_step}
 use Rattle.st_register.proofs.Occupants.{not_true}
 

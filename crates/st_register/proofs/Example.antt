@@ -1,14 +1,12 @@
 -- A change that puts a new node into a register where another stands, and two steps over it.
-use Rattle.std.proofs.Common.{◌≡◌, ◌≢◌, ℕ, Bool, true, false, Option, Some, None, refl, ap, sym, IfSome, arith}
+use Rattle.std.proofs.Common.{◌≡◌, ◌≢◌, ℕ, Bool, true, false, Option, Some, None, refl, ap, IfSome, arith}
 use Rattle.std.specs.Option.{option_map_or}
 use Rattle.st_ids.specs.Order.{same_node}
 use Rattle.st_ids.specs.declared.names.NodeId.{NodeId}
-use Rattle.st_marks.specs.declared.marks.How.{How}
-use Rattle.st_marks.specs.declared.marks.How.TheVariants.{Stay, Here}
+use Rattle.st_marks.specs.declared.marks.How.TheVariants.{Stay}
 use Rattle.st_marks.specs.Document.{root}
 use Rattle.st_register.specs.declared.values.RegChange.{RegChange}
 use Rattle.st_register.specs.declared.values.RegHeld.{RegHeld}
-use Rattle.st_register.specs.declared.values.RegSwap.{RegSwap}
 use Rattle.st_register.specs.Form.{IsOfForm}
 use Rattle.st_register.specs.Register.{RegPart, FitsIn, KeepsIn, LeadsOver, CanHold, carried_to, change_of}
 use Rattle.st_register.specs.Told.{told}

@@ -1,4 +1,4 @@
-use Rattle.std.proofs.Common.{◌≡◌, rules}
+use Rattle.std.proofs.Common.{rules}
 use Rattle.st_kind.specs.Named.{either}
 use Rattle.st_kind.proofs.Memory.{no_memory}
 use Rattle.st_kind.proofs.both.rebase_over_both.Goals as goal
