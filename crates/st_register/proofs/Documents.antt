@@ -33,7 +33,7 @@ step_is f m c d s l = ap (λ (t : RegSwap). cond (not (same_option same_node c.n
 
 -- ## The part of an intent
 
-if_some : (o : Option NodeId) (P : NodeId → Type 0) → ((n : NodeId) → o ≡ Some n → P n) → IfSome o P
+pub if_some : (o : Option NodeId) (P : NodeId → Type 0) → ((n : NodeId) → o ≡ Some n → P n) → IfSome o P
 if_some None P h = tt
 if_some (Some n) P h = h n refl
 
@@ -46,7 +46,7 @@ made N w n e = go (new_node N n) refl e
         let r = first-has (λ (k : NewNode). same_node k.node n) N.new m f in
         ap (λ (k : NodeId). k.0.rev) (sym (same_node-true m.node n r.1)) ∙ all-has (λ (k : NewNode). k.node.0.rev ≡ N.rev) N.new m w.new_rev r.0
 
-not_made : (D : Document) (N : Intent) → Fits D N → (n : NodeId) → IsSome (D.nodes n) → is_new N n ≡ false
+pub not_made : (D : Document) (N : Intent) → Fits D N → (n : NodeId) → IsSome (D.nodes n) → is_new N n ≡ false
 not_made D N w n h =
     elim (is_new N n) as (λ b. is_new N n ≡ b → b ≡ false) [
       | true ↦ λ e. absurd (not_true (ap is_some (w.fresh_nodes n e)) h)

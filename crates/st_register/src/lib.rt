@@ -11,5 +11,5 @@ mod told;
 mod values;
 
 pub use kind::Register;
-pub use laws::{registers_are_listed, registers_are_of_documents};
+pub use laws::{registers_are_joined, registers_are_listed, registers_are_of_documents};
 pub use values::{RegChange, RegHeld, RegSwap};

@@ -79,6 +79,7 @@ fn first_use(rt: HostRuntime) -> Result<(), Fail> {
     let step = swap(Some(A), Some(B));
     let bridge = Register::bridge(alloc, &step, &set(Some(A)), false, true);
     assert_eq!(rt; bridge, Ok(swap(Some(Q), Some(B))));
+    registers_are_joined();
     registers_are_listed();
     registers_are_of_documents();
     Ok(())
