@@ -1,0 +1,12 @@
+//! What a kind of field does with changes and steps, and the laws that every kind keeps.
+#![tactic(auto)]
+
+mod apart;
+mod both;
+mod kind;
+#[cfg(test)]
+mod tests;
+
+pub use apart::Apart;
+pub use both::{Sides, rebase_over_both};
+pub use kind::FieldKind;

@@ -1,0 +1,5 @@
+pub mod Form
+pub mod Joined
+pub mod Laws
+pub mod Register
+pub mod Told

@@ -1,0 +1,134 @@
+//! The kind of registers.
+
+use crate::form::is_of_form;
+use crate::joined::joined;
+use crate::told::{agree, is_same, left, left_whole, moved};
+use crate::values::{RegChange, RegHeld, RegSwap};
+use st_ids::Or;
+use st_kind::{Apart, FieldKind};
+use std::alloc::{AllocError, Global};
+
+/// Fields that hold at most one node.
+pub struct Register;
+
+impl FieldKind for Register {
+    ghost use Rattle.std.specs.Prelude.{◌≡◌, Some};
+    ghost use Rattle.st_ids.specs.Order.{same_node};
+    ghost use Rattle.st_marks.specs.Intent.{same_option};
+    ghost use Rattle.st_register.specs.Register.{RegPart, CanHold, FitsIn, carried_to, change_of, LeadsOver, KeepsIn, DifferAt};
+    ghost use Rattle.st_register.specs.Told.{left_by};
+    ghost use Rattle.st_register.specs.Joined.{AreJoinedIn};
+    ghost use Rattle.st_register.specs.Laws.{kept_in_turn, one_change, one_swap};
+
+    type Ctx = RegHeld;
+
+    type Change = RegChange;
+
+    type Step = RegSwap;
+
+    ghost Part = { RegPart };
+
+    ghost IsContent = { CanHold };
+
+    ghost Fits = { FitsIn };
+
+    ghost mentions = { λ p. p.does.mentioned };
+
+    ghost makes = { λ p. p.makes };
+
+    ghost carry = { carried_to };
+
+    ghost retreat = { λ c d. c };
+
+    ghost IsEmbedding = { λ p c x. x ≡ change_of p c };
+
+    ghost IsStep = { λ m c d s. LeadsOver c d s };
+
+    ghost brings = { λ s n. same_option same_node s.after (Some n) };
+
+    ghost Keeps = { KeepsIn };
+
+    ghost AreJoined = { AreJoinedIn };
+
+    ghost IsShortStep = { λ s. Unit {0} };
+
+    ghost IsShortChange = { λ x. Unit {0} };
+
+    ghost HasRoom = { λ x s. Unit {0} };
+
+    ghost AfterClash = { λ c s. DifferAt c.node s.before };
+
+    ghost ComposeClash = { λ s t. DifferAt s.after t.before };
+
+    ghost JoinClash = { λ x y. DifferAt (left_by x) y.held };
+
+    ghost RebaseClash = { λ x s. DifferAt x.held s.before };
+
+    fn over(change: &RegChange, ctx: &RegHeld) -> bool {
+        is_same(change.held, ctx.node) && is_of_form(change)
+    }
+
+    fn after(_alloc: Global, ctx: &RegHeld, step: &RegSwap) -> Result<RegHeld, Or<Apart>> {
+        agree(ctx.node, step.before)?;
+        Ok(RegHeld { node: step.after })
+    }
+
+    fn effect(_alloc: Global, change: &RegChange, void: bool) -> Result<RegSwap, AllocError> {
+        Ok(RegSwap {
+            before: change.held,
+            after: left(change, void),
+        })
+    }
+
+    fn compose(_alloc: Global, first: &RegSwap, then: &RegSwap) -> Result<RegSwap, Or<Apart>> {
+        agree(first.after, then.before)?;
+        Ok(RegSwap {
+            before: first.before,
+            after: then.after,
+        })
+    }
+
+    fn join(_alloc: Global, first: &RegChange, then: &RegChange) -> Result<RegChange, Or<Apart>> {
+        agree(left_whole(first), then.held)?;
+        Ok(joined(first, then))
+    }
+
+    fn invert(_alloc: Global, step: &RegSwap) -> Result<RegSwap, AllocError> {
+        Ok(RegSwap {
+            before: step.after,
+            after: step.before,
+        })
+    }
+
+    fn rebase(_alloc: Global, change: &RegChange, step: &RegSwap) -> Result<RegChange, Or<Apart>> {
+        agree(change.held, step.before)?;
+        Ok(moved(change, step.after))
+    }
+
+    fn bridge(
+        _alloc: Global,
+        step: &RegSwap,
+        change: &RegChange,
+        was_void: bool,
+        is_void: bool,
+    ) -> Result<RegSwap, Or<Apart>> {
+        agree(change.held, step.before)?;
+        let after = moved(change, step.after);
+        Ok(RegSwap {
+            before: left(change, was_void),
+            after: left(&after, is_void),
+        })
+    }
+
+    ghost one_embedding = { one_change };
+
+    ghost one_step = { one_swap };
+
+    ghost keeps_in_turn = { kept_in_turn };
+
+    ghost steps_are_short = { λ m c d s h. tt };
+
+    ghost changes_are_short = { λ p c x f h e. tt };
+
+    ghost there_is_room = { λ p m c d x s f g h e t. tt };
+}
