@@ -242,3 +242,107 @@ fn an_input_past_the_limit_is_too_long(rt: HostRuntime) -> Result<(), Fail> {
     assert!(rt; sink.bytes().ends_with(b",\"too\":\"long\"}\n".as_slice()));
     Ok(())
 }
+
+const LISTS_IN_A_LIST: &str =
+    "{\"schema\":{\"root\":[\"list\"],\"types\":[{\"array\":[\"text\",\"list\"],\"name\":\"list\"}]},\"trace\":1,\"tree\":{\"list\":[{\"list\":[{\"list\":[]}]},{\"list\":[]}]}}\n";
+
+const A_THEN_B: &str =
+    "{\"do\":\"sequence\",\"client\":\"A\"}\n{\"do\":\"sequence\",\"client\":\"B\"}\n";
+
+const B_THEN_A: &str =
+    "{\"do\":\"sequence\",\"client\":\"B\"}\n{\"do\":\"sequence\",\"client\":\"A\"}\n";
+
+const BOTH_RECEIVE: &str =
+    "{\"do\":\"deliver\",\"client\":\"A\"}\n{\"do\":\"deliver\",\"client\":\"A\"}\n{\"do\":\"deliver\",\"client\":\"A\"}\n{\"do\":\"deliver\",\"client\":\"B\"}\n{\"do\":\"deliver\",\"client\":\"B\"}\n{\"do\":\"show\",\"client\":\"A\"}\n{\"do\":\"show\",\"client\":\"B\"}\n";
+
+const BOTH_RECEIVED: &str =
+    "{\"min\":1,\"n\":3,\"ok\":\"sequence\"}\n{\"min\":1,\"n\":4,\"ok\":\"sequence\"}\n{\"n\":2,\"ok\":\"deliver\",\"void\":null}\n{\"n\":3,\"ok\":\"deliver\",\"void\":null}\n{\"n\":4,\"ok\":\"deliver\",\"void\":null}\n{\"n\":3,\"ok\":\"deliver\",\"void\":null}\n{\"n\":4,\"ok\":\"deliver\",\"void\":null}\n";
+
+// Whether both clients show this tree in the end, after one edit of each, sent in this order.
+fn shown_by_both(
+    alloc: Global,
+    edits: &str,
+    order: &str,
+    answers: &str,
+    tree: &str,
+) -> Result<bool, AllocError> {
+    let (outcome, sink) = traced(
+        alloc,
+        &[LISTS_IN_A_LIST, BOTH_JOIN, edits, order, BOTH_RECEIVE],
+    )?;
+    let wanted = joined(alloc, &[BOTH_JOINED, answers, BOTH_RECEIVED, tree, tree])?;
+    Ok(outcome == Outcome::Done && sink.bytes() == wanted.as_bytes())
+}
+
+// One client moves a list, the other inserts into it; the insert goes with it, in either order.
+#[test]
+fn insert_goes_with_a_moved_list(rt: HostRuntime) -> Result<(), Fail> {
+    let alloc = rt.alloc();
+    let edits =
+        "{\"do\":\"move\",\"client\":\"A\",\"at\":[\"\",0],\"index\":0,\"to\":[\"\",1],\"to_index\":0}\n{\"do\":\"insert\",\"client\":\"B\",\"at\":[\"\",0,\"\",0],\"index\":0,\"items\":[\"b\"]}\n";
+    let answers = "{\"ok\":\"move\",\"rev\":\"1.1\"}\n{\"ok\":\"insert\",\"rev\":\"2.1\"}\n";
+    let tree =
+        "{\"ok\":\"show\",\"tree\":{\"list\":[{\"list\":[]},{\"list\":[{\"list\":[\"b\"]}]}]}}\n";
+    assert!(rt; shown_by_both(alloc, edits, A_THEN_B, answers, tree)?);
+    assert!(rt; shown_by_both(alloc, edits, B_THEN_A, answers, tree)?);
+    Ok(())
+}
+
+// One client removes a list, the other moves it; the later of the two decides.
+#[test]
+fn later_of_removal_and_move_decides(rt: HostRuntime) -> Result<(), Fail> {
+    let alloc = rt.alloc();
+    let edits =
+        "{\"do\":\"remove\",\"client\":\"A\",\"at\":[\"\",0],\"index\":0}\n{\"do\":\"move\",\"client\":\"B\",\"at\":[\"\",0],\"index\":0,\"to\":[\"\",1],\"to_index\":0}\n";
+    let answers = "{\"ok\":\"remove\",\"rev\":\"1.1\"}\n{\"ok\":\"move\",\"rev\":\"2.1\"}\n";
+    let moved =
+        "{\"ok\":\"show\",\"tree\":{\"list\":[{\"list\":[]},{\"list\":[{\"list\":[]}]}]}}\n";
+    let removed = "{\"ok\":\"show\",\"tree\":{\"list\":[{\"list\":[]},{\"list\":[]}]}}\n";
+    assert!(rt; shown_by_both(alloc, edits, A_THEN_B, answers, moved)?);
+    assert!(rt; shown_by_both(alloc, edits, B_THEN_A, answers, removed)?);
+    Ok(())
+}
+
+const CARD: &str =
+    "{\"schema\":{\"root\":[\"list\"],\"types\":[{\"array\":[\"card\"],\"name\":\"list\"},{\"name\":\"card\",\"object\":{\"title\":[\"req\",[\"text\"]]}}]},\"trace\":1,\"tree\":{\"list\":[{\"card\":{\"title\":\"p\"}}]}}\n";
+
+// A required field takes the later of two values, and is never cleared.
+#[test]
+fn later_set_of_a_required_field_stands(rt: HostRuntime) -> Result<(), Fail> {
+    let alloc = rt.alloc();
+    let steps =
+        "{\"do\":\"set\",\"client\":\"A\",\"at\":[\"\",0],\"key\":\"title\",\"item\":\"a\"}\n{\"do\":\"set\",\"client\":\"B\",\"at\":[\"\",0],\"key\":\"title\",\"item\":\"b\"}\n{\"do\":\"sequence\",\"client\":\"A\"}\n{\"do\":\"sequence\",\"client\":\"B\"}\n{\"do\":\"deliver\",\"client\":\"A\"}\n{\"do\":\"deliver\",\"client\":\"A\"}\n{\"do\":\"deliver\",\"client\":\"A\"}\n{\"do\":\"show\",\"client\":\"A\"}\n{\"do\":\"clear\",\"client\":\"A\",\"at\":[\"\",0],\"key\":\"title\"}\n";
+    let answers =
+        "{\"ok\":\"set\",\"rev\":\"1.1\"}\n{\"ok\":\"set\",\"rev\":\"2.1\"}\n{\"min\":1,\"n\":3,\"ok\":\"sequence\"}\n{\"min\":1,\"n\":4,\"ok\":\"sequence\"}\n{\"n\":2,\"ok\":\"deliver\",\"void\":null}\n{\"n\":3,\"ok\":\"deliver\",\"void\":null}\n{\"n\":4,\"ok\":\"deliver\",\"void\":null}\n{\"ok\":\"show\",\"tree\":{\"list\":[{\"card\":{\"title\":\"b\"}}]}}\n{\"no\":\"Kind\"}\n";
+    let (outcome, sink) = traced(alloc, &[CARD, BOTH_JOIN, steps])?;
+    assert!(rt; outcome == Outcome::Done);
+    assert_eq!(rt;
+        sink.bytes(),
+        joined(alloc, &[BOTH_JOINED, answers])?.as_bytes()
+    );
+    Ok(())
+}
+
+const LIST_IN_A_LIST: &str =
+    "{\"schema\":{\"root\":[\"list\"],\"types\":[{\"array\":[\"text\",\"list\"],\"name\":\"list\"}]},\"trace\":1,\"tree\":{\"list\":[{\"list\":[]}]}}\n";
+
+#[test]
+fn refused_edits_change_nothing(rt: HostRuntime) -> Result<(), Fail> {
+    let alloc = rt.alloc();
+    let join = "{\"do\":\"join\",\"client\":\"A\"}\n";
+    let edits =
+        "{\"do\":\"insert\",\"client\":\"A\",\"at\":[],\"index\":2,\"items\":[\"a\"]}\n{\"do\":\"insert\",\"client\":\"A\",\"at\":[\"\",1],\"index\":0,\"items\":[\"a\"]}\n{\"do\":\"insert\",\"client\":\"A\",\"at\":[],\"index\":0,\"items\":[7]}\n{\"do\":\"show\",\"client\":\"A\"}\n";
+    let answers =
+        "{\"n\":1,\"ok\":\"join\",\"s\":1}\n{\"no\":\"Range\"}\n{\"depth\":0,\"no\":\"NoNode\"}\n{\"at\":0,\"no\":\"NotAllowed\"}\n{\"ok\":\"show\",\"tree\":{\"list\":[\"x\"]}}\n";
+    let (outcome, sink) = traced(alloc, &[ROW_OF_X, join, edits])?;
+    assert!(rt; outcome == Outcome::Done);
+    assert_eq!(rt; sink.bytes(), joined(alloc, &[HEADER, answers])?.as_bytes());
+    let inside =
+        "{\"do\":\"move\",\"client\":\"A\",\"at\":[],\"index\":0,\"to\":[\"\",0],\"to_index\":0}\n{\"do\":\"show\",\"client\":\"A\"}\n";
+    let answers =
+        "{\"n\":1,\"ok\":\"join\",\"s\":1}\n{\"no\":\"Inside\"}\n{\"ok\":\"show\",\"tree\":{\"list\":[{\"list\":[]}]}}\n";
+    let (outcome, sink) = traced(alloc, &[LIST_IN_A_LIST, join, inside])?;
+    assert!(rt; outcome == Outcome::Done);
+    assert_eq!(rt; sink.bytes(), joined(alloc, &[HEADER, answers])?.as_bytes());
+    Ok(())
+}
