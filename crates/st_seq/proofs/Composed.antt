@@ -1,0 +1,81 @@
+-- Two steps of a row in turn.
+use Rattle.std.proofs.Common.{◌≡◌, Bool, true, false, List, [], ◌∷◌, ◌||◌, cond, refl, sym, ap, ◌∙◌}
+use Rattle.st_ids.specs.declared.names.CellId.{CellId}
+use Rattle.st_ids.specs.declared.names.NodeId.{NodeId}
+use Rattle.st_marks.specs.declared.marks.How.TheVariants.{Stay, Leave}
+use Rattle.st_marks.specs.declared.places.Slot.{Slot}
+use Rattle.st_marks.specs.Extends.{Grows, done, gained, kept}
+use Rattle.st_marks.specs.Row.{CellMark, Counted, Gap, Touch, Make, Fill, SameCell, step_cell, step_row}
+use Rattle.st_seq.specs.Cells.{composed, compose_row}
+use Rattle.st_kind.specs.Named.{either}
+use Rattle.st_seq.specs.Rows.{NamesLeavers}
+
+abbrev pub grows_on : {c d e : List Slot} → Grows SameCell c d → Grows SameCell d e → Grows SameCell c e
+grows_on g done = g
+grows_on g (gained h) = gained (grows_on g h)
+grows_on (gained g) (kept a h) = gained (grows_on g h)
+grows_on (kept a g) (kept b h) = kept (a.0 ∙ b.0, a.1 ∙ b.1) (grows_on g h)
+
+compose-step_cell : (x : CellMark) (xs ys : List CellMark) (m : NodeId → Bool) (c : CellId) (n : NodeId) (a b : Bool) → compose_row (x ∷ xs) (step_cell m c n a b ∷ ys) ≡ composed x (step_cell m c n a b) ∷ compose_row xs ys
+compose-step_cell x xs ys m c n true true =
+    elim (m n) as (λ b. compose_row (x ∷ xs) (cond b (Touch c n Stay) Counted ∷ ys) ≡ composed x (cond b (Touch c n Stay) Counted) ∷ compose_row xs ys) [ true ↦ refl | false ↦ refl ]
+compose-step_cell x xs ys m c n true false = refl
+compose-step_cell x xs ys m c n false true = refl
+compose-step_cell x xs ys m c n false false = refl
+
+composed-made : (m : NodeId → Bool) (c : CellId) (n : NodeId) (a b : Bool) → composed (Make c n a) (step_cell m c n a b) ≡ Make c n b
+composed-made m c n true true = elim (m n) as (λ b. composed (Make c n true) (cond b (Touch c n Stay) Counted) ≡ Make c n true) [ true ↦ refl | false ↦ refl ]
+composed-made m c n true false = refl
+composed-made m c n false true = refl
+composed-made m c n false false = refl
+
+touches : (x y : Bool) (c : CellId) (n : NodeId) → composed (cond x (Touch c n Stay) Counted) (cond y (Touch c n Stay) Counted) ≡ cond (x || y) (Touch c n Stay) Counted
+touches true true c n = refl
+touches true false c n = refl
+touches false true c n = refl
+touches false false c n = refl
+
+leaves : (x : Bool) (c : CellId) (n : NodeId) → composed (cond x (Touch c n Stay) Counted) (Touch c n Leave) ≡ Touch c n Leave
+leaves true c n = refl
+leaves false c n = refl
+
+fills : (x : Bool) (c : CellId) (n : NodeId) → composed (Fill c n) (cond x (Touch c n Stay) Counted) ≡ Fill c n
+fills true c n = refl
+fills false c n = refl
+
+composed-step_cell : (m k : NodeId → Bool) (c : CellId) (n : NodeId) (a b e : Bool) → (a ≡ true → b ≡ false → m n ≡ true) → composed (step_cell m c n a b) (step_cell k c n b e) ≡ step_cell (either m k) c n a e
+composed-step_cell m k c n true true true h = touches (m n) (k n) c n
+composed-step_cell m k c n true true false h = leaves (m n) c n
+composed-step_cell m k c n true false true h = rw (h refl refl) refl
+composed-step_cell m k c n true false false h = refl
+composed-step_cell m k c n false true true h = fills (k n) c n
+composed-step_cell m k c n false true false h = refl
+composed-step_cell m k c n false false true h = refl
+composed-step_cell m k c n false false false h = refl
+
+pub compose_row-step_row : (m k : NodeId → Bool) {d e : List Slot} (h : Grows SameCell d e) {c : List Slot} (g : Grows SameCell c d) → NamesLeavers m g → compose_row (step_row m g) (step_row k h) ≡ step_row (either m k) (grows_on g h)
+compose_row-step_row m k done done l = refl
+compose_row-step_row m k (gained {y = t} h) g l = ap (λ l. Make t.cell t.node t.full ∷ l) (compose_row-step_row m k h g l)
+compose_row-step_row m k (kept {y = t} a h) (gained {y = s} g) l =
+    compose-step_cell (Make s.cell s.node s.full) (step_row m g) (step_row k h) k s.cell s.node s.full t.full
+    ∙ (λ i. (composed-made k s.cell s.node s.full t.full ∙ (λ j. Make (a.0 j) (a.1 j) t.full)) i ∷ compose_row-step_row m k h g l i)
+compose_row-step_row m k (kept {y = t} b h) (kept {x = r} {y = s} a g) l =
+    compose-step_cell (step_cell m r.cell r.node r.full s.full) (step_row m g) (step_row k h) k s.cell s.node s.full t.full
+    ∙ (λ i. (ap (λ (x : CellMark). composed (step_cell m r.cell r.node r.full s.full) x) (λ j. step_cell k (sym a.0 j) (sym a.1 j) s.full t.full) ∙ composed-step_cell m k r.cell r.node r.full s.full t.full l.0) i ∷ compose_row-step_row m k h g l.1 i)
+
+or_left : (a b : Bool) → a ≡ true → (a || b) ≡ true
+or_left a b e = rw e refl
+
+or_right : (a b : Bool) → b ≡ true → (a || b) ≡ true
+or_right true b e = refl
+or_right false b e = e
+
+pub leavers_named : (m k : NodeId → Bool) {d e : List Slot} (h : Grows SameCell d e) {c : List Slot} (g : Grows SameCell c d) → NamesLeavers m g → NamesLeavers k h → NamesLeavers (either m k) (grows_on g h)
+leavers_named m k done done l r = tt
+leavers_named m k (gained h) g l r = leavers_named m k h g l r
+leavers_named m k (kept b h) (gained g) l r = leavers_named m k h g l r.1
+leavers_named m k (kept {y = u} b h) (kept {x = s} {y = t} a g) l r = (λ e f. changed t.full refl e f, leavers_named m k h g l.1 r.1)
+  where
+    changed : (x : Bool) → t.full ≡ x → s.full ≡ true → u.full ≡ false → (m s.node || k s.node) ≡ true
+    changed true q e f = or_right (m s.node) (k s.node) (ap k a.1 ∙ r.0 q f)
+    changed false q e f = or_left (m s.node) (k s.node) (l.0 e q)

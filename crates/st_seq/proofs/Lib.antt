@@ -1,0 +1,13 @@
+pub mod Merging
+pub mod Answered
+pub mod MarkByMark
+pub mod Composed
+pub mod Inverted
+pub mod Rebased
+pub mod Effected
+pub mod Touched
+pub mod Pairs
+pub mod Walking
+pub mod Described
+pub mod Joining
+pub mod Short

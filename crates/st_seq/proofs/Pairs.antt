@@ -1,0 +1,172 @@
+-- One turn of a walk over two listings.
+use Rattle.std.proofs.Common.{◌≡◌, ℕ, zero, suc, ◌+◌, ◌-◌, ◌<◌, ◌≤◌, Bool, true, false, List, [], ◌∷◌, ◌++◌, Option, Some, None, option_map, cond, length, refl, sym, ap, ◌∙◌, arith}
+use Rattle.st_marks.specs.declared.marks.Mark.{Mark}
+use Rattle.st_marks.specs.Row.{CellMark, Counted, Gap, Touch, Make, Fill, spread, counted}
+use Rattle.st_marks.specs.Shown.{Seen, cells_before, cells_after}
+use Rattle.st_seq.specs.Agreement.{agree, first_difference, seen_before, seen_after}
+use Rattle.st_seq.specs.Merged.{is_skip}
+use Rattle.st_seq.specs.Reading.{left, cell_of, is_made, is_make, IsFirst, IsSingle}
+use Rattle.st_seq.specs.declared.read.Head.{Head}
+use Rattle.st_ids.specs.declared.names.CellId.{CellId}
+use Rattle.st_ids.specs.declared.names.NodeId.{NodeId}
+use Rattle.st_seq.specs.Turns.{both_counted}
+use Rattle.st_seq.proofs.Merging.{counted-plus, length-counted}
+use Rattle.st_seq.specs.Walks.{CellPiece, Both, First, Then, in_turn, meeting, beside}
+
+pub single : (m : Mark) → is_skip m ≡ false → IsSingle m
+single (Mark.Skip k) s = cc
+single (Mark.Gap c) s = refl
+single (Mark.Touch c n h) s = refl
+single (Mark.Make c n b) s = refl
+single (Mark.Fill c n) s = refl
+
+-- what is shown of one cell and of those behind it
+shown-before : (b : CellMark) (ys : List CellMark) → is_made b ≡ false → cells_before (b ∷ ys) ≡ seen_before b ∷ cells_before ys
+shown-before Counted ys e = refl
+shown-before (Gap c) ys e = refl
+shown-before (Touch c n h) ys e = refl
+shown-before (Make c n b) ys e = cc
+shown-before (Fill c n) ys e = refl
+
+shown-after : (a : CellMark) (xs : List CellMark) → cells_after (a ∷ xs) ≡ seen_after a ∷ cells_after xs
+shown-after Counted xs = refl
+shown-after (Gap c) xs = refl
+shown-after (Touch c n h) xs = refl
+shown-after (Make c n b) xs = refl
+shown-after (Fill c n) xs = refl
+
+-- the walks over one cell of each
+in_turn-both : (a b : CellMark) (xs ys : List CellMark) → is_made b ≡ false → in_turn (a ∷ xs) (b ∷ ys) ≡ Both a b ∷ in_turn xs ys
+in_turn-both a Counted xs ys e = refl
+in_turn-both a (Gap c) xs ys e = refl
+in_turn-both a (Touch c n h) xs ys e = refl
+in_turn-both a (Make c n b) xs ys e = cc
+in_turn-both a (Fill c n) xs ys e = refl
+
+meeting-both : (a b : CellMark) (rest : List CellMark → List CellPiece) (ys : List CellMark) → is_made b ≡ false → meeting a rest (b ∷ ys) ≡ Both a b ∷ rest ys
+meeting-both a Counted rest ys e = refl
+meeting-both a (Gap c) rest ys e = refl
+meeting-both a (Touch c n h) rest ys e = refl
+meeting-both a (Make c n b) rest ys e = cc
+meeting-both a (Fill c n) rest ys e = refl
+
+beside-both : (a b : CellMark) (xs ys : List CellMark) → is_made a ≡ false → is_made b ≡ false → beside (a ∷ xs) (b ∷ ys) ≡ Both a b ∷ beside xs ys
+beside-both Counted b xs ys e f = meeting-both Counted b (beside xs) ys f
+beside-both (Gap c) b xs ys e f = meeting-both (Gap c) b (beside xs) ys f
+beside-both (Touch c n h) b xs ys e f = meeting-both (Touch c n h) b (beside xs) ys f
+beside-both (Make c n x) b xs ys e f = cc
+beside-both (Fill c n) b xs ys e f = meeting-both (Fill c n) b (beside xs) ys f
+
+one_more : (o : Option ℕ) → option_map (λ k. k + 1) o ≡ option_map (λ k. 1 + k) o
+one_more None = refl
+one_more (Some k) = let e : k + 1 ≡ 1 + k = omega arith in ap (λ j. Some j) e
+
+-- one cell of each
+pub next_agrees : (s t : Seen) (ss ts : List Seen) → agree s t ≡ true → first_difference (s ∷ ss) (t ∷ ts) ≡ option_map (λ k. 1 + k) (first_difference ss ts)
+next_agrees s t ss ts e = rw e (one_more (first_difference ss ts))
+
+pub next_differs : (s t : Seen) (ss ts : List Seen) → agree s t ≡ false → first_difference (s ∷ ss) (t ∷ ts) ≡ Some 0
+next_differs s t ss ts e = rw e refl
+
+-- one cell that both find
+pub found_by_both : (a b : CellMark) (X Y xs ys : List CellMark) → X ≡ a ∷ xs → Y ≡ b ∷ ys → is_made a ≡ false → is_made b ≡ false → agree (seen_before a) (seen_before b) ≡ true
+    → (beside X Y ≡ Both a b ∷ beside xs ys) × (first_difference (cells_before X) (cells_before Y) ≡ option_map (λ k. 1 + k) (first_difference (cells_before xs) (cells_before ys))) × (length xs + length ys < length X + length Y) × (length (cells_before Y) ≡ 1 + length (cells_before ys))
+found_by_both a b X Y xs ys e f m l g = rw (e, f) (
+  beside-both a b xs ys m l,
+  (λ i. first_difference (shown-before a xs m i) (shown-before b ys l i)) ∙ next_agrees (seen_before a) (seen_before b) (cells_before xs) (cells_before ys) g,
+  omega arith,
+  (let n : length (cells_before (b ∷ ys)) ≡ suc (length (cells_before ys)) = ap length (shown-before b ys l) in omega (arith, n)),
+)
+
+pub found_otherwise : (a b : CellMark) (X Y xs ys : List CellMark) → X ≡ a ∷ xs → Y ≡ b ∷ ys → is_made a ≡ false → is_made b ≡ false → agree (seen_before a) (seen_before b) ≡ false
+    → first_difference (cells_before X) (cells_before Y) ≡ Some 0
+found_otherwise a b X Y xs ys e f m l g = rw (e, f) ((λ i. first_difference (shown-before a xs m i) (shown-before b ys l i)) ∙ next_differs (seen_before a) (seen_before b) (cells_before xs) (cells_before ys) g)
+
+-- one cell that the first leaves and the second finds
+pub left_and_found : (a b : CellMark) (X Y xs ys : List CellMark) → X ≡ a ∷ xs → Y ≡ b ∷ ys → is_made b ≡ false → agree (seen_after a) (seen_before b) ≡ true
+    → (in_turn X Y ≡ Both a b ∷ in_turn xs ys) × (first_difference (cells_after X) (cells_before Y) ≡ option_map (λ k. 1 + k) (first_difference (cells_after xs) (cells_before ys))) × (length xs + length ys < length X + length Y) × (length (cells_before Y) ≡ 1 + length (cells_before ys))
+left_and_found a b X Y xs ys e f l g = rw (e, f) (
+  in_turn-both a b xs ys l,
+  (λ i. first_difference (shown-after a xs i) (shown-before b ys l i)) ∙ next_agrees (seen_after a) (seen_before b) (cells_after xs) (cells_before ys) g,
+  omega arith,
+  (let n : length (cells_before (b ∷ ys)) ≡ suc (length (cells_before ys)) = ap length (shown-before b ys l) in omega (arith, n)),
+)
+
+-- ## So many cells that both count
+
+more-added : (k : ℕ) (o : Option ℕ) → option_map (λ j. j + 1) (option_map (λ j. k + j) o) ≡ option_map (λ j. suc k + j) o
+more-added k None = refl
+more-added k (Some j) = let e : k + j + 1 ≡ suc k + j = omega arith in ap (λ i. Some i) e
+
+none-added : (o : Option ℕ) → o ≡ option_map (λ j. zero + j) o
+none-added None = refl
+none-added (Some j) = let e : j ≡ zero + j = omega arith in ap (λ i. Some i) e
+
+after-counted : (k : ℕ) (xs ys : List CellMark) → first_difference (cells_after (counted k xs)) (cells_before (counted k ys)) ≡ option_map (λ j. k + j) (first_difference (cells_after xs) (cells_before ys))
+after-counted zero xs ys = none-added (first_difference (cells_after xs) (cells_before ys))
+after-counted (suc k) xs ys = ap (option_map (λ j. j + 1)) (after-counted k xs ys) ∙ more-added k (first_difference (cells_after xs) (cells_before ys))
+
+before-counted : (k : ℕ) (xs ys : List CellMark) → first_difference (cells_before (counted k xs)) (cells_before (counted k ys)) ≡ option_map (λ j. k + j) (first_difference (cells_before xs) (cells_before ys))
+before-counted zero xs ys = none-added (first_difference (cells_before xs) (cells_before ys))
+before-counted (suc k) xs ys = ap (option_map (λ j. j + 1)) (before-counted k xs ys) ∙ more-added k (first_difference (cells_before xs) (cells_before ys))
+
+in_turn-counted : (k : ℕ) (xs ys : List CellMark) → in_turn (counted k xs) (counted k ys) ≡ both_counted k ++ in_turn xs ys
+in_turn-counted zero xs ys = refl
+in_turn-counted (suc k) xs ys = ap (λ l. Both Counted Counted ∷ l) (in_turn-counted k xs ys)
+
+beside-counted : (k : ℕ) (xs ys : List CellMark) → beside (counted k xs) (counted k ys) ≡ both_counted k ++ beside xs ys
+beside-counted zero xs ys = refl
+beside-counted (suc k) xs ys = ap (λ l. Both Counted Counted ∷ l) (beside-counted k xs ys)
+
+split : (p k : ℕ) (xs : List CellMark) → k ≤ p → counted p xs ≡ counted k (counted (p - k) xs)
+split p k xs h = let e : p ≡ k + (p - k) = omega arith in ap (λ n. counted n xs) e ∙ counted-plus k (p - k) xs
+
+shorter : (p q k : ℕ) (X Y xs ys : List CellMark) → 0 < k → k ≤ p → k ≤ q → X ≡ counted p xs → Y ≡ counted q ys → length (counted (p - k) xs) + length (counted (q - k) ys) < length X + length Y
+shorter p q k X Y xs ys pos a b e f =
+    let lx : length X ≡ p + length xs = ap length e ∙ length-counted p xs in
+    let ly : length Y ≡ q + length ys = ap length f ∙ length-counted q ys in
+    let rx : length (counted (p - k) xs) ≡ (p - k) + length xs = length-counted (p - k) xs in
+    let ry : length (counted (q - k) ys) ≡ (q - k) + length ys = length-counted (q - k) ys in
+    omega (arith, lx, ly, rx, ry)
+
+found-counted : (k : ℕ) (xs : List CellMark) → length (cells_before (counted k xs)) ≡ k + length (cells_before xs)
+found-counted zero xs = omega arith
+found-counted (suc k) xs = omega (arith, found-counted k xs)
+
+pub counted_in_turn : (p q k : ℕ) (X Y xs ys : List CellMark) → 0 < k → k ≤ p → k ≤ q → X ≡ counted p xs → Y ≡ counted q ys
+    → (in_turn X Y ≡ both_counted k ++ in_turn (counted (p - k) xs) (counted (q - k) ys)) × (first_difference (cells_after X) (cells_before Y) ≡ option_map (λ j. k + j) (first_difference (cells_after (counted (p - k) xs)) (cells_before (counted (q - k) ys)))) × (length (counted (p - k) xs) + length (counted (q - k) ys) < length X + length Y) × (length (cells_before Y) ≡ k + length (cells_before (counted (q - k) ys)))
+counted_in_turn p q k X Y xs ys pos a b e f = (
+  (λ i. in_turn ((e ∙ split p k xs a) i) ((f ∙ split q k ys b) i)) ∙ in_turn-counted k (counted (p - k) xs) (counted (q - k) ys),
+  (λ i. first_difference (cells_after ((e ∙ split p k xs a) i)) (cells_before ((f ∙ split q k ys b) i))) ∙ after-counted k (counted (p - k) xs) (counted (q - k) ys),
+  shorter p q k X Y xs ys pos a b e f,
+  ap (λ l. length (cells_before l)) (f ∙ split q k ys b) ∙ found-counted k (counted (q - k) ys),
+)
+
+pub counted_beside : (p q k : ℕ) (X Y xs ys : List CellMark) → 0 < k → k ≤ p → k ≤ q → X ≡ counted p xs → Y ≡ counted q ys
+    → (beside X Y ≡ both_counted k ++ beside (counted (p - k) xs) (counted (q - k) ys)) × (first_difference (cells_before X) (cells_before Y) ≡ option_map (λ j. k + j) (first_difference (cells_before (counted (p - k) xs)) (cells_before (counted (q - k) ys)))) × (length (counted (p - k) xs) + length (counted (q - k) ys) < length X + length Y) × (length (cells_before Y) ≡ k + length (cells_before (counted (q - k) ys)))
+counted_beside p q k X Y xs ys pos a b e f = (
+  (λ i. beside ((e ∙ split p k xs a) i) ((f ∙ split q k ys b) i)) ∙ beside-counted k (counted (p - k) xs) (counted (q - k) ys),
+  (λ i. first_difference (cells_before ((e ∙ split p k xs a) i)) (cells_before ((f ∙ split q k ys b) i))) ∙ before-counted k (counted (p - k) xs) (counted (q - k) ys),
+  shorter p q k X Y xs ys pos a b e f,
+  ap (λ l. length (cells_before l)) (f ∙ split q k ys b) ∙ found-counted k (counted (q - k) ys),
+)
+
+-- ## A cell that the second listing makes, before one that both find
+
+beside-made : (c : CellId) (n : NodeId) (b : Bool) (a : CellMark) (xs ys : List CellMark) → is_made a ≡ false → beside (a ∷ xs) (Make c n b ∷ ys) ≡ Then (Make c n b) ∷ beside (a ∷ xs) ys
+beside-made c n b Counted xs ys e = refl
+beside-made c n b (Gap d) xs ys e = refl
+beside-made c n b (Touch d m h) xs ys e = refl
+beside-made c n b (Make d m x) xs ys e = cc
+beside-made c n b (Fill d m) xs ys e = refl
+
+made_then : (X : List CellMark) (x : Head) (rest : List Mark) → IsFirst X x rest → is_make x ≡ false → (c : CellId) (n : NodeId) (b : Bool) (ys : List CellMark) → beside X (Make c n b ∷ ys) ≡ Then (Make c n b) ∷ beside X ys
+made_then X Head.End rest h e c n b ys = rw h.0 refl
+made_then X (Head.Many zero) rest h e c n b ys = absurd (omega (arith, h.0))
+made_then X (Head.Many (suc k)) rest h e c n b ys = rw h.1 (beside-made c n b Counted (left k rest) ys refl)
+made_then X (Head.Make d m x) rest h e c n b ys = cc
+made_then X (Head.Cell m) rest h e c n b ys = rw h.1 (beside-made c n b (cell_of m) (spread rest) ys h.2)
+
+pub then_beside : (X Y : List CellMark) (x : Head) (rest : List Mark) → IsFirst X x rest → is_make x ≡ false → (c : CellId) (n : NodeId) (b : Bool) (ys : List CellMark) → Y ≡ Make c n b ∷ ys
+    → (beside X Y ≡ Then (Make c n b) ∷ beside X ys) × (first_difference (cells_before X) (cells_before Y) ≡ option_map (λ j. 0 + j) (first_difference (cells_before X) (cells_before ys))) × (length X + length ys < length X + length Y) × (length (cells_before Y) ≡ 0 + length (cells_before ys))
+then_beside X Y x rest h e c n b ys f = rw f (made_then X x rest h e c n b ys, none-added (first_difference (cells_before X) (cells_before ys)), omega arith, omega arith)

@@ -1,0 +1,9 @@
+use Rattle.std.proofs.Common.{refl, ◌∷◌, [], ap, sym, ◌∙◌}
+use Rattle.st_marks.specs.declared.marks.Mark.{Mark}
+use Rattle.st_marks.specs.Row.{spread}
+use Rattle.st_seq.specs.Cells.{inverted, invert_row}
+use Rattle.st_seq.proofs.MarkByMark.{map-counted}
+use Rattle.st_seq.proofs.back.inverted.Goals as goal
+
+pub returns-in-Skip : goal.returns-in-Skip
+returns-in-Skip c = rw c.in-Skip.is (map-counted inverted c.in-Skip.field-0 refl)

@@ -1,0 +1,58 @@
+-- When two listings of one row agree, place by place.
+use Rattle.std.specs.Prelude.{◌≡◌, ℕ, ◌+◌, Bool, true, false, ◌&&◌, not, List, [], ◌∷◌, Option, Some, None, option_map, Result, Ok, Err, if◌then◌else◌}
+use Rattle.st_ids.specs.declared.fault.Or.{Or}
+use Rattle.st_ids.specs.declared.fault.Or.TheVariants.{Fault, NoMemory}
+use Rattle.st_ids.specs.Order.{same_cell, same_node}
+use Rattle.st_ids.specs.declared.names.CellId.{CellId}
+use Rattle.st_ids.specs.declared.names.NodeId.{NodeId}
+use Rattle.st_marks.specs.Row.{CellMark, Counted, Gap, Touch, Make, Fill}
+use Rattle.st_marks.specs.Shown.{Seen, seen, counted_cell, empty_cell, is_leave}
+use Rattle.st_kind.specs.declared.apart.Apart.{Apart}
+use Rattle.st_seq.specs.declared.said.Said.{Said}
+
+-- what a mark says of its cell before it, if the cell is there
+abbrev pub seen_before : CellMark → Seen
+seen_before Counted = counted_cell
+seen_before (Gap c) = empty_cell c
+seen_before (Touch c n h) = seen c n true
+seen_before (Make c n b) = seen c n b
+seen_before (Fill c n) = seen c n false
+
+-- what a mark says of its cell after it
+abbrev pub seen_after : CellMark → Seen
+seen_after Counted = counted_cell
+seen_after (Gap c) = empty_cell c
+seen_after (Touch c n h) = seen c n (not (is_leave h))
+seen_after (Make c n b) = seen c n b
+seen_after (Fill c n) = seen c n true
+
+-- what is said, as the definitions have it
+abbrev pub told : Said → Seen
+told s = record { cell = s.cell; node = s.node; full = s.full }
+
+-- two names are one, where both are told
+abbrev pub agree_if_told : {A : Type 0} → (A → A → Bool) → Option A → Option A → Bool
+agree_if_told same None y = true
+agree_if_told same (Some x) None = true
+agree_if_told same (Some x) (Some y) = same x y
+
+abbrev pub same_bool : Bool → Bool → Bool
+same_bool true b = b
+same_bool false b = not b
+
+-- what is said twice of one cell: full or empty both times, with one name and one owner
+abbrev pub agree : Seen → Seen → Bool
+agree s t = same_bool s.full t.full && agree_if_told same_cell s.cell t.cell && agree_if_told same_node s.node t.node
+
+-- the first place at which two listings of a row differ; if one is longer, its first cell past the other's end
+abbrev pub first_difference : List Seen → List Seen → Option ℕ
+first_difference [] [] = None
+first_difference [] (t ∷ ts) = Some 0
+first_difference (s ∷ ss) [] = Some 0
+first_difference (s ∷ ss) (t ∷ ts) = if agree s t then option_map (λ k. k + 1) (first_difference ss ts) else Some 0
+
+-- refused exactly where there is a difference, with the first one's place
+abbrev pub IsApart : {T : Type 0} → Option ℕ → Result T (Or Apart) → Type 0
+IsApart o (Ok v) = o ≡ None
+IsApart o (Err (Fault a)) = o ≡ Some a.place
+IsApart o (Err NoMemory) = Unit {0}

@@ -1,0 +1,150 @@
+-- The operations on rows, cell by cell.
+use Rattle.std.specs.Prelude.{Bool, true, false, List, [], ◌∷◌, map, Option, Some, None, if◌then◌else◌}
+use Rattle.std.specs.Option.{option_or}
+use Rattle.st_ids.specs.Order.{same_node}
+use Rattle.st_ids.specs.declared.names.CellId.{CellId}
+use Rattle.st_ids.specs.declared.names.NodeId.{NodeId}
+use Rattle.st_marks.specs.declared.marks.How.{How}
+use Rattle.st_marks.specs.declared.marks.How.TheVariants.{Stay, Here, Leave}
+use Rattle.st_seq.specs.Walks.{CellPiece, Both, First, Then, in_turn, beside}
+use Rattle.st_marks.specs.Row.{CellMark, Counted, Gap, Touch, Make, Fill}
+
+-- ## Steps in turn
+
+-- what two steps say together of a cell that the second finds
+abbrev pub composed : CellMark → CellMark → CellMark
+composed Counted b = b
+composed (Gap c) b = b
+composed (Touch c n Leave) (Fill d x) = Touch c n Stay
+composed (Touch c n Leave) b = Touch c n Leave
+composed (Touch c n h) (Touch d x g) = Touch c n g
+composed (Touch c n h) b = Touch c n h
+composed (Fill c n) (Touch d x Leave) = Gap c
+composed (Fill c n) b = Fill c n
+composed (Make c n b) (Touch d x Leave) = Make c n false
+composed (Make c n b) (Fill d x) = Make c n true
+composed (Make c n b) k = Make c n b
+
+-- a cell over two steps
+abbrev pub composed_piece : CellPiece → CellMark
+composed_piece (Both x y) = composed x y
+composed_piece (First x) = x
+composed_piece (Then y) = y
+
+-- the first step and then the second
+abbrev pub compose_row : List CellMark → List CellMark → List CellMark
+compose_row xs ys = map composed_piece (in_turn xs ys)
+
+-- ## The way back
+
+-- a cell on the way back: a made one is empty again
+abbrev pub inverted : CellMark → CellMark
+inverted Counted = Counted
+inverted (Gap c) = Gap c
+inverted (Touch c n Leave) = Fill c n
+inverted (Touch c n h) = Touch c n h
+inverted (Fill c n) = Touch c n Leave
+inverted (Make c n true) = Touch c n Leave
+inverted (Make c n false) = Gap c
+
+abbrev pub invert_row : List CellMark → List CellMark
+invert_row ms = map inverted ms
+
+-- ## What a change makes of a row
+
+-- a cell, carried out
+abbrev pub effected : CellMark → CellMark
+effected Counted = Counted
+effected (Gap c) = Gap c
+effected (Touch c n Here) = Touch c n Stay
+effected (Touch c n h) = Touch c n h
+effected (Make c n b) = Make c n b
+effected (Fill c n) = Fill c n
+
+abbrev pub effect_row : List CellMark → List CellMark
+effect_row ms = map effected ms
+
+-- ## A change after a step
+
+-- how the marks touch a node; the last of them counts
+abbrev pub touch_of : List CellMark → NodeId → Option How
+touch_of [] n = None
+touch_of (Touch c m h ∷ ms) n = option_or (touch_of ms n) (if same_node m n then Some h else None)
+touch_of (Counted ∷ ms) n = touch_of ms n
+touch_of (Gap c ∷ ms) n = touch_of ms n
+touch_of (Make c m b ∷ ms) n = touch_of ms n
+touch_of (Fill c m ∷ ms) n = touch_of ms n
+
+-- what becomes of a touched node where the step puts it: it stays if it isn't put, and else leaves
+abbrev pub still : How → How
+still Stay = Stay
+still Here = Leave
+still Leave = Leave
+
+-- a cell that the step empties: it is filled again if the change puts the node there
+abbrev pub emptied : CellId → NodeId → CellMark → CellMark
+emptied c n (Touch a m Here) = Fill c n
+emptied c n x = Gap c
+
+-- what becomes of a node that the step puts into a cell where the change wants it, or where it doesn't
+abbrev pub how_there : CellMark → How → How
+how_there (Fill a m) h = Here
+how_there x h = still h
+
+-- a cell that the step fills, by how the change touches the node where it was
+abbrev pub filled : CellId → NodeId → CellMark → Option How → CellMark
+filled c n x None = Counted
+filled c n x (Some h) = Touch c n (how_there x h)
+
+-- a cell that both find
+abbrev pub rebased : (NodeId → Option How) → CellMark → CellMark → CellMark
+rebased seen x Counted = x
+rebased seen x (Gap c) = x
+rebased seen x (Touch c n Stay) = x
+rebased seen x (Touch c n Here) = x
+rebased seen x (Touch c n Leave) = emptied c n x
+rebased seen x (Make c n b) = x
+rebased seen x (Fill c n) = filled c n x (seen n)
+
+-- a cell that the step makes
+abbrev pub gained_cell : (NodeId → Option How) → CellId → NodeId → Bool → CellMark
+gained_cell seen c n true = filled c n (Gap c) (seen n)
+gained_cell seen c n false = Gap c
+
+-- a cell of the change after the step
+abbrev pub rebased_piece : (NodeId → Option How) → CellPiece → CellMark
+rebased_piece seen (Both x y) = rebased seen x y
+rebased_piece seen (First x) = x
+rebased_piece seen (Then (Make c n b)) = gained_cell seen c n b
+rebased_piece seen (Then y) = y
+
+-- the change after the step
+abbrev pub over_row : (NodeId → Option How) → List CellMark → List CellMark → List CellMark
+over_row seen xs ys = map (rebased_piece seen) (beside xs ys)
+
+-- ## Two changes in turn
+
+-- what two changes say together of a cell that the second finds
+abbrev pub joined : CellMark → CellMark → CellMark
+joined Counted y = y
+joined (Gap c) y = y
+joined (Touch c n Leave) (Fill d x) = Touch c n Here
+joined (Touch c n Leave) y = Touch c n Leave
+joined (Touch c n h) (Touch d x Stay) = Touch c n h
+joined (Touch c n h) (Touch d x g) = Touch c n g
+joined (Touch c n h) y = Touch c n h
+joined (Fill c n) (Touch d x Leave) = Gap c
+joined (Fill c n) y = Fill c n
+joined (Make c n b) (Touch d x Leave) = Make c n false
+joined (Make c n b) (Fill d x) = Make c n true
+joined (Make c n b) y = Make c n b
+
+-- a cell of both changes
+abbrev pub joined_piece : CellPiece → CellMark
+joined_piece (Both x y) = joined x y
+joined_piece (First x) = x
+joined_piece (Then y) = y
+
+-- both changes as one
+abbrev pub join_row : List CellMark → List CellMark → List CellMark
+join_row xs ys = map joined_piece (in_turn xs ys)

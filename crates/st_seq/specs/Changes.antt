@@ -1,0 +1,88 @@
+-- What a change does to a row.
+use Rattle.std.specs.Prelude.{◌≡◌, ◌≢◌, ℕ, Bool, true, false, List, [], ◌∷◌, ◌++◌, Option, Some, None, ◌⊎◌, ◌+◌, ◌||◌, length, map}
+use Rattle.std.specs.List.{AllByRecursion}
+use Rattle.std.specs.Option.{option_or}
+use Rattle.st_ids.specs.Listing.{Has}
+use Rattle.st_ids.specs.declared.names.CellId.{CellId}
+use Rattle.st_ids.specs.declared.names.NodeId.{NodeId}
+use Rattle.st_marks.specs.declared.intents.Owned.{Owned}
+use Rattle.st_marks.specs.declared.intents.To.{To}
+use Rattle.st_marks.specs.declared.marks.Mark.{Mark}
+use Rattle.st_marks.specs.declared.places.Slot.{Slot}
+use Rattle.st_marks.specs.Extends.{Grows, done, gained, kept}
+use Rattle.st_marks.specs.Shown.{cells_before, cells_made}
+use Rattle.st_marks.specs.Row.{CellMark, RowPart, SameCell, same_to, how, is_here, merge, embed_row}
+
+-- ## The listing of a change
+
+-- the node is full in a cell of the row
+abbrev pub StandsIn : NodeId → List Slot → Type 0
+StandsIn n [] = ⊥
+StandsIn n (s ∷ c) = ((s.node ≡ n) × (s.full ≡ true)) ⊎ StandsIn n c
+
+-- the marks of the part of an intent that concerns the row c; a node in the row that it puts somewhere is mentioned
+pub record IsRowChange (p : RowPart) (c : List Slot) (marks : List Mark) : Type 0 where
+  pub mentions : (n : NodeId) → StandsIn n c → p.goes n ≢ None → p.mentioned n ≡ true
+  pub says : marks ≡ merge (embed_row p c)
+
+-- ## Carrying out
+
+-- whether the owner is in the cell after it was put there, or elsewhere, or not put
+abbrev pub full_after : Option To → CellId → Bool → Bool
+full_after None c full = full
+full_after (Some to) c full = same_to to (To.Cell c)
+
+-- the cells that are made
+abbrev pub made_cells : RowPart → List Owned → List Slot
+made_cells p [] = []
+made_cells p (o ∷ os) = record { cell = o.cell; node = o.node; full = is_here (how (p.goes o.node) (To.Cell o.cell)) } ∷ made_cells p os
+
+-- the cells that are there, each with those that are made after it
+abbrev pub carried_cells : RowPart → List Slot → List Slot
+carried_cells p [] = []
+carried_cells p (s ∷ c) = record s { full = full_after (p.goes s.node) s.cell s.full } ∷ (made_cells p (p.made (Some s.cell)) ++ carried_cells p c)
+
+-- the row after the change is carried out
+abbrev pub carried_row : RowPart → List Slot → List Slot
+carried_row p c = made_cells p (p.made None) ++ carried_cells p c
+
+-- ## Over a step
+
+-- the part concerns no cell that the step makes
+abbrev pub NamesNoGained : RowPart → {c d : List Slot} → Grows SameCell c d → Type 0
+NamesNoGained p done = Unit {0}
+NamesNoGained p (gained {y} g) = (p.made (Some y.cell) ≡ []) × (p.goes y.node ≢ Some (To.Cell y.cell)) × NamesNoGained p g
+NamesNoGained p (kept same g) = NamesNoGained p g
+
+-- what rebasing a change over the step of one row asks: the part is older than the step's cells, and each mentioned node
+-- that is in the row after the step was in it before
+pub record Keeps (p : RowPart) (c d : List Slot) (g : Grows SameCell c d) : Type 0 where
+  pub older : NamesNoGained p g
+  pub stays : (n : NodeId) → p.mentioned n ≡ true → StandsIn n d → StandsIn n c
+
+-- at most so many cells are listed by a change after a step: those that each makes, and those that the step finds
+abbrev pub may_list : List CellMark → List CellMark → ℕ
+may_list xs ys = length (cells_made xs) + length (cells_made ys) + length (cells_before ys)
+
+-- ## Two parts in turn
+
+-- the cells that the first makes, each with those that the second makes after it
+abbrev pub woven : RowPart → List Owned → List Owned
+woven q [] = []
+woven q (o ∷ os) = o ∷ (q.made (Some o.cell) ++ woven q os)
+
+-- where both put a node: where the second does, or else where the first does
+abbrev pub goes_in_turn : RowPart → RowPart → NodeId → Option To
+goes_in_turn p q n = option_or (q.goes n) (p.goes n)
+
+-- j is both parts in turn, as far as the row c tells. The second makes its cells after those that the first found or made,
+-- so at one place they stand left of the first's.
+pub record AreJoined (p q : RowPart) (c : List Slot) (j : RowPart) : Type 0 where
+  pub first : j.made None ≡ q.made None ++ woven q (p.made None)
+  pub behind : (a : CellId) → Has (map (λ (s : Slot). s.cell) c) a → j.made (Some a) ≡ q.made (Some a) ++ woven q (p.made (Some a))
+  pub mentions : (n : NodeId) → StandsIn n c → j.mentioned n ≡ (p.mentioned n || q.mentioned n)
+  -- how a node of the row goes, seen from a cell, and whether it comes into one
+  pub goes : (n : NodeId) (a : CellId) → StandsIn n c → how (j.goes n) (To.Cell a) ≡ how (goes_in_turn p q n) (To.Cell a)
+  pub comes : (n : NodeId) (a : CellId) → is_here (how (j.goes n) (To.Cell a)) ≡ is_here (how (goes_in_turn p q n) (To.Cell a))
+  -- the first puts no node into a cell that the second makes
+  pub older : (a : Option CellId) → AllByRecursion (λ (o : Owned). p.goes o.node ≢ Some (To.Cell o.cell)) (q.made a)

@@ -1,0 +1,55 @@
+-- Two listings of one row that are laid over each other in turns.
+use Rattle.std.specs.Prelude.{◌≡◌, ℕ, zero, suc, ◌+◌, ◌<◌, Option, Some, None, option_map, List, [], ◌∷◌, ◌++◌, length}
+use Rattle.st_marks.specs.declared.marks.Mark.{Mark}
+use Rattle.st_marks.specs.Row.{CellMark, Counted}
+use Rattle.st_marks.specs.Shown.{Seen, cells_before, cells_after}
+use Rattle.st_seq.specs.Agreement.{first_difference}
+use Rattle.st_seq.specs.Reading.{left, cell_of, IsSingle}
+use Rattle.st_seq.specs.Walks.{CellPiece, Both, First, Then, in_turn, beside}
+use Rattle.st_seq.specs.declared.walk.Piece.{Piece}
+use Rattle.st_seq.specs.declared.walk.Turn.{Turn}
+
+-- so many cells that both count
+abbrev pub both_counted : ℕ → List CellPiece
+both_counted zero = []
+both_counted (suc k) = Both Counted Counted ∷ both_counted k
+
+-- a piece, cell by cell
+abbrev pub laid : Piece → List CellPiece
+laid (Piece.Counted k) = both_counted k
+laid (Piece.Both a b) = Both (cell_of a) (cell_of b) ∷ []
+laid (Piece.First a) = First (cell_of a) ∷ []
+laid (Piece.Then b) = Then (cell_of b) ∷ []
+
+-- the marks of a piece are of one cell each
+abbrev pub IsOfCells : Piece → Type 0
+IsOfCells (Piece.Counted k) = Unit {0}
+IsOfCells (Piece.Both a b) = IsSingle a × IsSingle b
+IsOfCells (Piece.First a) = IsSingle a
+IsOfCells (Piece.Then b) = IsSingle b
+
+-- how many cells both find
+abbrev pub met : Piece → ℕ
+met (Piece.Counted k) = k
+met (Piece.Both a b) = 1
+met (Piece.First a) = 0
+met (Piece.Then b) = 0
+
+-- one turn of a walk over two listings, of which the first shows these cells to the second: the piece and what is left
+-- give the whole, and so does the place of the first difference
+abbrev pub GoesOn : (List CellMark → List CellMark → List CellPiece) → (List CellMark → List Seen) → List CellMark → List CellMark → Turn → Type 0
+GoesOn walk shows xs ys Turn.Done = (walk xs ys ≡ []) × (first_difference (shows xs) (cells_before ys) ≡ None)
+GoesOn walk shows xs ys Turn.Apart = first_difference (shows xs) (cells_before ys) ≡ Some 0
+GoesOn walk shows xs ys (Turn.Go piece p more q rest) =
+    IsOfCells piece × (walk xs ys ≡ laid piece ++ walk (left p more.now) (left q rest.now))
+    × (first_difference (shows xs) (cells_before ys) ≡ option_map (λ k. met piece + k) (first_difference (shows (left p more.now)) (cells_before (left q rest.now))))
+    × (length (left p more.now) + length (left q rest.now) < length xs + length ys)
+    × (length (cells_before ys) ≡ met piece + length (cells_before (left q rest.now)))
+
+-- one turn, where the second listing finds what the first leaves
+abbrev pub IsTurnInTurn : List CellMark → List CellMark → Turn → Type 0
+IsTurnInTurn xs ys turn = GoesOn in_turn cells_after xs ys turn
+
+-- one turn, where both find the same
+abbrev pub IsTurnBeside : List CellMark → List CellMark → Turn → Type 0
+IsTurnBeside xs ys turn = GoesOn beside cells_before xs ys turn

@@ -1,0 +1,20 @@
+//! The algebra of rows: what steps and changes of one row become, on their marks alone.
+#![tactic(auto)]
+
+mod back;
+mod beside;
+mod carry;
+mod lay;
+mod push;
+mod read;
+mod said;
+#[cfg(test)]
+mod tests;
+mod touches;
+mod turns;
+mod walk;
+
+pub use back::invert;
+pub use beside::rebase;
+pub use carry::effect;
+pub use turns::{compose, join};

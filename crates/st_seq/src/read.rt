@@ -1,0 +1,38 @@
+//! Marks that are read from the front.
+ghost use Rattle.std.specs.Prelude.{◌≡◌};
+ghost use Rattle.st_seq.specs.Reading.{left, IsFirst};
+
+use st_ids::{CellId, NodeId};
+use st_marks::Mark;
+
+/// What comes first in marks that are read: nothing, so many counted cells, a cell that is made, or another cell.
+#[derive(Clone, Copy)]
+pub enum Head {
+    End,
+    Many(u32),
+    Make {
+        cell: CellId,
+        node: NodeId,
+        full: bool,
+    },
+    Cell(Mark),
+}
+
+/// Takes what comes first, where so many counted cells stand before the marks.
+pub fn next<'a>(count: u32, marks: &'a [Mark]) -> (Head, &'a [Mark])
+    ensures { IsFirst (left count marks.now) result.0 result.1.now }
+{
+    if count > 0 {
+        return (Head::Many(count), marks);
+    }
+    let mut rest = marks;
+    while let [mark, more @ ..] = rest {
+        match *mark {
+            Mark::Skip(0) => rest = more,
+            Mark::Skip(k) => return (Head::Many(k), more),
+            Mark::Make { cell, node, full } => return (Head::Make { cell, node, full }, more),
+            other => return (Head::Cell(other), more),
+        }
+    }
+    (Head::End, rest)
+}
