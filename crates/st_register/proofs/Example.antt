@@ -9,7 +9,7 @@ use Rattle.st_register.specs.declared.values.RegChange.{RegChange}
 use Rattle.st_register.specs.declared.values.RegHeld.{RegHeld}
 use Rattle.st_register.specs.Form.{IsOfForm}
 use Rattle.st_register.specs.Register.{RegPart, FitsIn, KeepsIn, LeadsOver, CanHold, carried_to, change_of}
-use Rattle.st_register.specs.Told.{told}
+use Rattle.st_register.proofs.Parts.{told}
 use Rattle.st_register.proofs.Registers.{holding}
 use Rattle.st_register.proofs.Forms.{told_fits, told_is}
 

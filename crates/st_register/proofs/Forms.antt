@@ -16,7 +16,8 @@ use Rattle.st_register.specs.declared.values.RegChange.{RegChange}
 use Rattle.st_register.specs.declared.values.RegHeld.{RegHeld}
 use Rattle.st_register.specs.Form.{IsOfForm}
 use Rattle.st_register.specs.Register.{RegPart, FitsIn, CanHold, change_of}
-use Rattle.st_register.specs.Told.{put_by, makes_by, field_told, goes_told, told, other_number}
+use Rattle.st_register.specs.Told.{put_by, makes_by}
+use Rattle.st_register.proofs.Parts.{field_told, goes_told, told, other_number}
 use Rattle.st_register.proofs.Occupants.{not_true, one_occupant, same_occupant, other_occupant, comes_in-other, comes_in-same, to-here}
 use Rattle.st_register.proofs.Registers.{holding, here-fill, comes-fill}
 

@@ -5,5 +5,6 @@ pub mod Forms
 pub mod InTurn
 pub mod JoinedIntents
 pub mod Occupants
+pub mod Parts
 pub mod Refusals
 pub mod Registers
