@@ -11,3 +11,5 @@ pub mod Walking
 pub mod Described
 pub mod Joining
 pub mod Short
+pub mod Voided
+pub mod Searching

@@ -1,11 +1,12 @@
 -- The operations on rows, cell by cell.
-use Rattle.std.specs.Prelude.{Bool, true, false, List, [], ◌∷◌, map, Option, Some, None, if◌then◌else◌}
+use Rattle.std.specs.Prelude.{Bool, true, false, ◌&&◌, List, [], ◌∷◌, map, Option, Some, None, if◌then◌else◌}
 use Rattle.std.specs.Option.{option_or}
 use Rattle.st_ids.specs.Order.{same_node}
 use Rattle.st_ids.specs.declared.names.CellId.{CellId}
 use Rattle.st_ids.specs.declared.names.NodeId.{NodeId}
 use Rattle.st_marks.specs.declared.marks.How.{How}
 use Rattle.st_marks.specs.declared.marks.How.TheVariants.{Stay, Here, Leave}
+use Rattle.st_kind.specs.Named.{Nodes}
 use Rattle.st_seq.specs.Walks.{CellPiece, Both, First, Then, in_turn, beside}
 use Rattle.st_marks.specs.Row.{CellMark, Counted, Gap, Touch, Make, Fill}
 
@@ -63,6 +64,17 @@ effected (Fill c n) = Fill c n
 
 abbrev pub effect_row : List CellMark → List CellMark
 effect_row ms = map effected ms
+
+-- a cell of a void change: found nodes stay where they are, and only placed nodes come into the cells that are made
+abbrev pub voided : Nodes → CellMark → CellMark
+voided placed Counted = Counted
+voided placed (Gap c) = Gap c
+voided placed (Touch c n h) = Touch c n Stay
+voided placed (Make c n b) = Make c n (b && placed n)
+voided placed (Fill c n) = Gap c
+
+abbrev pub void_row : Nodes → List CellMark → List CellMark
+void_row placed ms = map (voided placed) ms
 
 -- ## A change after a step
 

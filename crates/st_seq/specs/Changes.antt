@@ -1,5 +1,5 @@
 -- What a change does to a row.
-use Rattle.std.specs.Prelude.{◌≡◌, ◌≢◌, ℕ, Bool, true, false, List, [], ◌∷◌, ◌++◌, Option, Some, None, ◌⊎◌, ◌+◌, ◌||◌, length, map}
+use Rattle.std.specs.Prelude.{◌≡◌, ◌≢◌, ℕ, Bool, true, false, List, [], ◌∷◌, ◌++◌, Option, Some, None, ◌⊎◌, ◌+◌, ◌||◌, ◌&&◌, length, map, if◌then◌else◌}
 use Rattle.std.specs.List.{AllByRecursion}
 use Rattle.std.specs.Option.{option_or}
 use Rattle.st_ids.specs.Listing.{Has}
@@ -9,6 +9,8 @@ use Rattle.st_marks.specs.declared.intents.Owned.{Owned}
 use Rattle.st_marks.specs.declared.intents.To.{To}
 use Rattle.st_marks.specs.declared.marks.Mark.{Mark}
 use Rattle.st_marks.specs.declared.places.Slot.{Slot}
+use Rattle.st_kind.specs.Named.{Nodes}
+use Rattle.st_marks.specs.Embedding.{is_among}
 use Rattle.st_marks.specs.Extends.{Grows, done, gained, kept}
 use Rattle.st_marks.specs.Shown.{cells_before, cells_made}
 use Rattle.st_marks.specs.Row.{CellMark, RowPart, SameCell, same_to, how, is_here, merge, embed_row}
@@ -45,6 +47,18 @@ carried_cells p (s ∷ c) = record s { full = full_after (p.goes s.node) s.cell 
 -- the row after the change is carried out
 abbrev pub carried_row : RowPart → List Slot → List Slot
 carried_row p c = made_cells p (p.made None) ++ carried_cells p c
+
+-- the part of a void intent: it puts none but placed nodes, which are new nodes inside new nodes
+abbrev pub void_part : Nodes → RowPart → RowPart
+void_part placed p = record { made = p.made; goes = λ n. if placed n then p.goes n else None; mentioned = p.mentioned }
+
+-- no node that owns a cell of the row is placed, since those are old
+abbrev pub AreOld : Nodes → List Slot → Type 0
+AreOld placed c = AllByRecursion (λ (s : Slot). placed s.node ≡ false) c
+
+-- the nodes that a void change places: its new ones, if the row's own node is new
+abbrev pub placed_by : Bool → List NodeId → Nodes
+placed_by in_new new n = in_new && is_among new n
 
 -- ## Over a step
 

@@ -1,6 +1,7 @@
 //! The algebra of rows: what steps and changes of one row become, on their marks alone.
 #![tactic(auto)]
 
+mod among;
 mod back;
 mod beside;
 mod carry;
@@ -16,5 +17,5 @@ mod walk;
 
 pub use back::invert;
 pub use beside::rebase;
-pub use carry::effect;
+pub use carry::{effect, void_effect};
 pub use turns::{compose, join};

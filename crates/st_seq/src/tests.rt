@@ -2,7 +2,7 @@ ghost use Rattle.std.specs.Prelude.{◌+◌, ◌^◌, ◌<◌, length, IsTrue};
 ghost use Rattle.st_marks.specs.Row.{spread};
 ghost use Rattle.st_seq.specs.Changes.{may_list};
 
-use crate::{compose, effect, invert, join, rebase};
+use crate::{compose, effect, invert, join, rebase, void_effect};
 use st_ids::{Atom, CellId, List, NodeId, Or, Rev};
 use st_kind::Apart;
 use st_marks::{How, Mark, after};
@@ -173,5 +173,20 @@ fn emptied_cell_is_kept(rt: HostRuntime) -> Result<(), Fail> {
     assert!(rt; both == row(alloc, &[hole(1), Mark::Skip(2)])?);
     let done = compose(alloc, &made, &taken).map_err(|_| Fail::from("apart"))?;
     assert!(rt; done == both);
+    Ok(())
+}
+
+// A void change makes its cells, and puts new nodes inside new nodes alone.
+#[test]
+fn void_change_keeps_new_nodes_in_new_rows(rt: HostRuntime) -> Result<(), Fail> {
+    let alloc = rt.alloc();
+    let change = row(alloc, &[make(1), make(2)])?;
+    let mut new = List::new(alloc);
+    let none = List::new(alloc);
+    assert!(rt; is_short(&change));
+    assert!(rt; void_effect(alloc, &change, false, &none)? == row(alloc, &[hole(1), hole(2)])?);
+    new.push(NodeId(name(2, 0)))?;
+    assert!(rt; void_effect(alloc, &change, true, &new)? == row(alloc, &[hole(1), make(2)])?);
+    assert!(rt; void_effect(alloc, &change, false, &new)? == row(alloc, &[hole(1), hole(2)])?);
     Ok(())
 }
