@@ -1,11 +1,11 @@
 -- Two steps of a row in turn.
-use Rattle.std.proofs.Common.{◌≡◌, Bool, true, false, List, [], ◌∷◌, ◌||◌, cond, refl, sym, ap, ◌∙◌}
+use Rattle.std.proofs.Common.{◌≡◌, Bool, true, false, List, ◌∷◌, ◌||◌, cond, refl, sym, ap, ◌∙◌}
 use Rattle.st_ids.specs.declared.names.CellId.{CellId}
 use Rattle.st_ids.specs.declared.names.NodeId.{NodeId}
 use Rattle.st_marks.specs.declared.marks.How.TheVariants.{Stay, Leave}
 use Rattle.st_marks.specs.declared.places.Slot.{Slot}
 use Rattle.st_marks.specs.Extends.{Grows, done, gained, kept}
-use Rattle.st_marks.specs.Row.{CellMark, Counted, Gap, Touch, Make, Fill, SameCell, step_cell, step_row}
+use Rattle.st_marks.specs.Row.{CellMark, Counted, Touch, Make, Fill, SameCell, step_cell, step_row}
 use Rattle.st_seq.specs.Cells.{composed, compose_row}
 use Rattle.st_kind.specs.Named.{either}
 use Rattle.st_seq.specs.Rows.{NamesLeavers}

@@ -1,11 +1,10 @@
 -- What a change makes of a row.
-use Rattle.std.proofs.Common.{◌≡◌, ◌≢◌, Bool, true, false, List, [], ◌∷◌, ◌++◌, Option, Some, None, map, cond, refl, sym, ap, ◌∙◌, inl, inr, ◌⊎◌}
+use Rattle.std.proofs.Common.{◌≡◌, ◌≢◌, Bool, true, false, List, [], ◌∷◌, ◌++◌, Option, Some, None, cond, refl, sym, ap, ◌∙◌, inl, inr}
 use Rattle.st_ids.specs.declared.names.CellId.{CellId}
 use Rattle.st_ids.specs.declared.names.NodeId.{NodeId}
 use Rattle.st_marks.specs.declared.intents.Owned.{Owned}
 use Rattle.st_marks.specs.declared.intents.To.{To}
-use Rattle.st_marks.specs.declared.marks.How.{How}
-use Rattle.st_marks.specs.declared.marks.How.TheVariants.{Stay, Here, Leave}
+use Rattle.st_marks.specs.declared.marks.How.TheVariants.{Here, Leave}
 use Rattle.st_marks.specs.declared.places.Slot.{Slot}
 use Rattle.st_marks.specs.Extends.{Grows, done, gained, kept}
 use Rattle.st_marks.specs.Row.{CellMark, Counted, Gap, Touch, Make, Fill, RowPart, SameCell, same_to, how, is_here, step_cell, step_row, embed_cell, embed_made, embed_cells, embed_row}

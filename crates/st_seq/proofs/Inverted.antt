@@ -1,11 +1,11 @@
 -- The way back over a row.
-use Rattle.std.proofs.Common.{◌≡◌, Bool, true, false, List, [], ◌∷◌, cond, refl, ap, ◌∙◌}
+use Rattle.std.proofs.Common.{◌≡◌, Bool, true, false, List, ◌∷◌, cond, refl, ◌∙◌}
 use Rattle.st_ids.specs.declared.names.CellId.{CellId}
 use Rattle.st_ids.specs.declared.names.NodeId.{NodeId}
 use Rattle.st_marks.specs.declared.marks.How.TheVariants.{Stay}
 use Rattle.st_marks.specs.declared.places.Slot.{Slot}
 use Rattle.st_marks.specs.Extends.{Grows, done, gained, kept}
-use Rattle.st_marks.specs.Row.{CellMark, Counted, Gap, Touch, Make, Fill, SameCell, step_cell, step_row}
+use Rattle.st_marks.specs.Row.{Counted, Touch, Make, SameCell, step_cell, step_row}
 use Rattle.st_seq.specs.Cells.{inverted, invert_row}
 use Rattle.st_seq.specs.Rows.{retreat_row}
 

@@ -1,9 +1,8 @@
 -- Two changes of a row in turn, as one.
-use Rattle.std.proofs.Common.{◌≡◌, ◌≢◌, Bool, true, false, List, [], ◌∷◌, ◌++◌, ◌||◌, Option, Some, None, map, cond, refl, sym, ap, ◌∙◌, subst, inl, inr, ◌⊎◌, append_assoc}
+use Rattle.std.proofs.Common.{◌≡◌, ◌≢◌, Bool, true, false, List, [], ◌∷◌, ◌++◌, ◌||◌, Option, Some, None, map, cond, refl, sym, ap, ◌∙◌, inl, inr, append_assoc}
 use Rattle.std.specs.List.{AllByRecursion}
 use Rattle.std.specs.Option.{option_or}
 use Rattle.st_ids.specs.Listing.{Has}
-use Rattle.st_ids.specs.Order.{same_cell}
 use Rattle.st_ids.proofs.Orders.{same_cell-true}
 use Rattle.st_ids.specs.declared.names.CellId.{CellId}
 use Rattle.st_ids.specs.declared.names.NodeId.{NodeId}
@@ -13,9 +12,8 @@ use Rattle.st_marks.specs.declared.marks.How.{How}
 use Rattle.st_marks.specs.declared.marks.How.TheVariants.{Stay, Here, Leave}
 use Rattle.st_marks.specs.declared.places.Slot.{Slot}
 use Rattle.st_marks.specs.Row.{CellMark, Counted, Gap, Touch, Make, Fill, RowPart, same_to, how, is_here, embed_cell, embed_made, embed_cells, embed_row}
-use Rattle.st_seq.specs.Cells.{joined, joined_piece, join_row}
+use Rattle.st_seq.specs.Cells.{joined, join_row}
 use Rattle.st_seq.specs.Changes.{StandsIn, full_after, made_cells, carried_cells, carried_row, woven, goes_in_turn, AreJoined}
-use Rattle.st_seq.specs.Walks.{CellPiece, Both, First, Then, in_turn}
 
 -- ## The walk
 

@@ -1,7 +1,6 @@
 -- Marks in their normal form, and one mark more.
-use Rattle.std.proofs.Common.{subst, ◌≡◌, ◌≢◌, ◌<◌, ℕ, zero, suc, ◌+◌, Bool, true, false, List, [], ◌∷◌, ◌++◌, refl, sym, ap, ◌∙◌, arith, Option, Some, None, length, take, slice_get, ◌-◌, append_assoc, length-append, is_some}
+use Rattle.std.proofs.Common.{subst, ◌≡◌, ◌<◌, ℕ, zero, suc, ◌+◌, Bool, true, false, List, [], ◌∷◌, ◌++◌, refl, sym, ap, ◌∙◌, arith, Some, None, length, take, slice_get, ◌-◌, append_assoc, length-append, is_some}
 use Rattle.std.specs.Option.{option_to_list}
-use Rattle.st_ids.specs.declared.names.CellId.{CellId}
 use Rattle.st_marks.specs.declared.marks.Mark.{Mark}
 use Rattle.st_marks.specs.Row.{CellMark, Counted, Gap, Touch, Make, Fill, spread, counted, merge, skip_one}
 use Rattle.st_seq.specs.Merged.{IsMerged, is_skip, count_in}

@@ -1,5 +1,5 @@
 -- One turn of a walk over two listings.
-use Rattle.std.proofs.Common.{◌≡◌, ℕ, zero, suc, ◌+◌, ◌-◌, ◌<◌, ◌≤◌, Bool, true, false, List, [], ◌∷◌, ◌++◌, Option, Some, None, option_map, cond, length, refl, sym, ap, ◌∙◌, arith}
+use Rattle.std.proofs.Common.{◌≡◌, ℕ, zero, suc, ◌+◌, ◌-◌, ◌<◌, ◌≤◌, Bool, true, false, List, ◌∷◌, ◌++◌, Option, Some, None, option_map, length, refl, ap, ◌∙◌, arith}
 use Rattle.st_marks.specs.declared.marks.Mark.{Mark}
 use Rattle.st_marks.specs.Row.{CellMark, Counted, Gap, Touch, Make, Fill, spread, counted}
 use Rattle.st_marks.specs.Shown.{Seen, cells_before, cells_after}
@@ -11,7 +11,7 @@ use Rattle.st_ids.specs.declared.names.CellId.{CellId}
 use Rattle.st_ids.specs.declared.names.NodeId.{NodeId}
 use Rattle.st_seq.specs.Turns.{both_counted}
 use Rattle.st_seq.proofs.Merging.{counted-plus, length-counted}
-use Rattle.st_seq.specs.Walks.{CellPiece, Both, First, Then, in_turn, meeting, beside}
+use Rattle.st_seq.specs.Walks.{CellPiece, Both, Then, in_turn, meeting, beside}
 
 pub single : (m : Mark) → is_skip m ≡ false → IsSingle m
 single (Mark.Skip k) s = cc

@@ -3,8 +3,6 @@ use Rattle.std.specs.Prelude.{◌≡◌, ℕ, ◌+◌, Bool, true, false, ◌&&�
 use Rattle.st_ids.specs.declared.fault.Or.{Or}
 use Rattle.st_ids.specs.declared.fault.Or.TheVariants.{Fault, NoMemory}
 use Rattle.st_ids.specs.Order.{same_cell, same_node}
-use Rattle.st_ids.specs.declared.names.CellId.{CellId}
-use Rattle.st_ids.specs.declared.names.NodeId.{NodeId}
 use Rattle.st_marks.specs.Row.{CellMark, Counted, Gap, Touch, Make, Fill}
 use Rattle.st_marks.specs.Shown.{Seen, seen, counted_cell, empty_cell, is_leave}
 use Rattle.st_kind.specs.declared.apart.Apart.{Apart}

@@ -1,5 +1,5 @@
 -- What becomes of a row over steps.
-use Rattle.std.specs.Prelude.{◌≡◌, Bool, true, false, List, [], ◌∷◌}
+use Rattle.std.specs.Prelude.{◌≡◌, true, false, List, [], ◌∷◌}
 use Rattle.st_kind.specs.Named.{Nodes}
 use Rattle.st_marks.specs.declared.marks.Mark.{Mark}
 use Rattle.st_marks.specs.declared.places.Slot.{Slot}

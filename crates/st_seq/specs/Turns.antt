@@ -1,6 +1,5 @@
 -- Two listings of one row that are laid over each other in turns.
-use Rattle.std.specs.Prelude.{◌≡◌, ℕ, zero, suc, ◌+◌, ◌<◌, Option, Some, None, option_map, List, [], ◌∷◌, ◌++◌, length}
-use Rattle.st_marks.specs.declared.marks.Mark.{Mark}
+use Rattle.std.specs.Prelude.{◌≡◌, ℕ, zero, suc, ◌+◌, ◌<◌, Some, None, option_map, List, [], ◌∷◌, ◌++◌, length}
 use Rattle.st_marks.specs.Row.{CellMark, Counted}
 use Rattle.st_marks.specs.Shown.{Seen, cells_before, cells_after}
 use Rattle.st_seq.specs.Agreement.{first_difference}

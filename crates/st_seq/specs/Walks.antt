@@ -1,6 +1,6 @@
 -- Two listings of one row that are laid over each other, cell by cell.
 use Rattle.std.specs.Prelude.{List, [], ◌∷◌}
-use Rattle.st_marks.specs.Row.{CellMark, Counted, Gap, Touch, Make, Fill}
+use Rattle.st_marks.specs.Row.{CellMark, Make}
 
 -- what two listings say at one place: both of a cell that both find, or one of them of a cell that it makes
 pub data CellPiece : Type 0 where

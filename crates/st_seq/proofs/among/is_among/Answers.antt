@@ -1,4 +1,4 @@
-use Rattle.std.proofs.Common.{◌≡◌, ◌∙◌, sym, ap, subst, length, ◌<◌, ◌≤◌}
+use Rattle.std.proofs.Common.{◌∙◌, subst, length, ◌<◌, ◌≤◌}
 use Rattle.std.specs.List.Sorted.{IsBinarySearchResult}
 use Rattle.std.specs.Prelude.{MatchResult}
 use Rattle.st_ids.specs.Order.{node_cmp}

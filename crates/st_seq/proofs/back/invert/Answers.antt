@@ -1,4 +1,4 @@
-use Rattle.std.proofs.Common.{◌≡◌, ap, ◌∙◌}
+use Rattle.std.proofs.Common.{ap, ◌∙◌}
 use Rattle.st_marks.specs.Row.{spread, step_row}
 use Rattle.st_seq.specs.Cells.{invert_row}
 use Rattle.st_seq.proofs.Answered.{both_ok}

@@ -1,7 +1,5 @@
-use Rattle.std.proofs.Common.{refl, ◌∷◌, [], ap, sym, ◌∙◌}
-use Rattle.st_marks.specs.declared.marks.Mark.{Mark}
-use Rattle.st_marks.specs.Row.{spread}
-use Rattle.st_seq.specs.Cells.{inverted, invert_row}
+use Rattle.std.proofs.Common.{refl}
+use Rattle.st_seq.specs.Cells.{inverted}
 use Rattle.st_seq.proofs.MarkByMark.{map-counted}
 use Rattle.st_seq.proofs.back.inverted.Goals as goal
 

@@ -1,7 +1,6 @@
-use Rattle.std.proofs.Common.{◌≡◌, ◌+◌, ◌<◌, ◌≤◌, ◌^◌, ◌++◌, ◌∷◌, [], length, map, arith, rules}
+use Rattle.std.proofs.Common.{◌≡◌, ◌+◌, ◌<◌, ◌^◌, ◌∷◌, [], length, map, arith, rules}
 use Rattle.std.proofs.lemmas.List.{length-map}
 use Rattle.st_marks.specs.Row.{spread}
-use Rattle.st_marks.specs.Shown.{cells_before, cells_made}
 use Rattle.st_seq.specs.Reading.{left}
 use Rattle.st_seq.specs.Turns.{laid}
 use Rattle.st_seq.specs.Walks.{beside}

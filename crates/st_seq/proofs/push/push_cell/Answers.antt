@@ -1,4 +1,4 @@
-use Rattle.std.proofs.Common.{ap, sym, ◌∙◌, ◌∷◌, [], ◌++◌, subst}
+use Rattle.std.proofs.Common.{ap, sym, ◌∙◌, ◌∷◌, [], subst}
 use Rattle.st_marks.specs.Row.{spread}
 use Rattle.st_seq.specs.Merged.{IsMerged}
 use Rattle.st_seq.proofs.Merging.{behind_merged, spread-append}

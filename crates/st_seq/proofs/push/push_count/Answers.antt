@@ -1,4 +1,4 @@
-use Rattle.std.proofs.Common.{◌+◌, ◌^◌, ◌<◌, ap, ◌∙◌, rules}
+use Rattle.std.proofs.Common.{◌^◌, ap, ◌∙◌, rules}
 use Rattle.st_marks.specs.Row.{spread}
 use Rattle.st_seq.proofs.Merging.{count_more, count_room}
 use Rattle.st_seq.proofs.push.push_count.Goals as goal

@@ -1,6 +1,5 @@
-use Rattle.std.proofs.Common.{◌≡◌, Option, Some, None, length, ◌-◌, sym, ap, ◌∙◌}
+use Rattle.std.proofs.Common.{length, ◌-◌, sym, ap, ◌∙◌}
 use Rattle.std.specs.Prelude.{slice_get}
-use Rattle.st_marks.specs.declared.marks.Mark.{Mark}
 use Rattle.st_seq.proofs.Merging.{counted_taken, none_taken, none_there}
 use Rattle.st_seq.proofs.push.take_count.Goals as goal
 

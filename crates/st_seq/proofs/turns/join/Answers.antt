@@ -1,4 +1,4 @@
-use Rattle.std.proofs.Common.{◌≡◌, None, ap, ◌∙◌}
+use Rattle.std.proofs.Common.{ap, ◌∙◌}
 use Rattle.st_marks.specs.Row.{spread, embed_row}
 use Rattle.st_marks.specs.Shown.{cells_before, cells_after}
 use Rattle.st_seq.specs.Agreement.{first_difference}
