@@ -13,3 +13,4 @@ pub mod Joining
 pub mod Short
 pub mod Voided
 pub mod Searching
+pub mod Leading

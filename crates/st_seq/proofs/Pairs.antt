@@ -1,9 +1,11 @@
 -- One turn of a walk over two listings.
-use Rattle.std.proofs.Common.{◌≡◌, ℕ, zero, suc, ◌+◌, ◌-◌, ◌<◌, ◌≤◌, Bool, true, false, List, ◌∷◌, ◌++◌, Option, Some, None, option_map, length, refl, ap, ◌∙◌, arith}
+use Rattle.std.proofs.Common.{sym, ◌≡◌, ℕ, zero, suc, ◌+◌, ◌-◌, ◌<◌, ◌≤◌, Bool, true, false, List, ◌∷◌, ◌++◌, Option, Some, None, option_map, length, refl, ap, ◌∙◌, arith}
 use Rattle.st_marks.specs.declared.marks.Mark.{Mark}
 use Rattle.st_marks.specs.Row.{CellMark, Counted, Gap, Touch, Make, Fill, spread, counted}
-use Rattle.st_marks.specs.Shown.{Seen, cells_before, cells_after}
-use Rattle.st_seq.specs.Agreement.{agree, first_difference, seen_before, seen_after}
+use Rattle.st_marks.specs.declared.places.Slot.{Slot}
+use Rattle.st_marks.specs.Shown.{Seen, seen, cells_before, cells_after}
+use Rattle.st_seq.specs.Cells.{after_row}
+use Rattle.st_seq.specs.Agreement.{agree, first_difference, row_seen, seen_before, seen_after}
 use Rattle.st_seq.specs.Merged.{is_skip}
 use Rattle.st_seq.specs.Reading.{left, cell_of, is_made, is_make, IsFirst, IsSingle}
 use Rattle.st_seq.specs.declared.read.Head.{Head}
@@ -170,3 +172,21 @@ made_then X (Head.Cell m) rest h e c n b ys = rw h.1 (beside-made c n b (cell_of
 pub then_beside : (X Y : List CellMark) (x : Head) (rest : List Mark) → IsFirst X x rest → is_make x ≡ false → (c : CellId) (n : NodeId) (b : Bool) (ys : List CellMark) → Y ≡ Make c n b ∷ ys
     → (beside X Y ≡ Then (Make c n b) ∷ beside X ys) × (first_difference (cells_before X) (cells_before Y) ≡ option_map (λ j. 0 + j) (first_difference (cells_before X) (cells_before ys))) × (length X + length ys < length X + length Y) × (length (cells_before Y) ≡ 0 + length (cells_before ys))
 then_beside X Y x rest h e c n b ys f = rw f (made_then X x rest h e c n b ys, none-added (first_difference (cells_before X) (cells_before ys)), omega arith, omega arith)
+
+-- ## A slot of a row, and a mark that finds it
+
+after-met : (s : Slot) (m : CellMark) (d : List Slot) (xs : List CellMark) → is_made m ≡ false → after_row (s ∷ d) (m ∷ xs) ≡ record s { full = (seen_after m).full } ∷ after_row d xs
+after-met s Counted d xs e = refl
+after-met s (Gap c) d xs e = refl
+after-met s (Touch c n h) d xs e = refl
+after-met s (Make c n b) d xs e = cc
+after-met s (Fill c n) d xs e = refl
+
+pub slot_met : (s : Slot) (m : CellMark) (full : Bool) (C d : List Slot) (X xs : List CellMark) → C ≡ s ∷ d → X ≡ m ∷ xs → is_made m ≡ false → agree (seen s.cell s.node s.full) (seen_before m) ≡ true → full ≡ (seen_after m).full
+    → (after_row C X ≡ record { cell = s.cell; node = s.node; full = full } ∷ after_row d xs) × (first_difference (row_seen C) (cells_before X) ≡ option_map (λ k. 1 + k) (first_difference (row_seen d) (cells_before xs))) × (length d + length xs < length C + length X) × (length (cells_before X) ≡ 1 + length (cells_before xs))
+slot_met s m full C d X xs e f l g h = rw (e, f) (
+  after-met s m d xs l ∙ (λ i. record { cell = s.cell; node = s.node; full = sym h i } ∷ after_row d xs),
+  (λ i. first_difference (seen s.cell s.node s.full ∷ row_seen d) (shown-before m xs l i)) ∙ next_agrees (seen s.cell s.node s.full) (seen_before m) (row_seen d) (cells_before xs) g,
+  omega arith,
+  (let n : length (cells_before (m ∷ xs)) ≡ suc (length (cells_before xs)) = ap length (shown-before m xs l) in omega (arith, n)),
+)

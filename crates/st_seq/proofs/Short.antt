@@ -30,3 +30,6 @@ are_short n m xs ys e f h =
     let c = made_or_found xs in
     let d = made_or_found ys in
     omega (arith, a, b, c, d, e, f, h)
+
+pub finds_few : (n : ℕ) (xs : List CellMark) → n ≡ min (length (cells_before xs)) 4294967296 → n ≤ 4294967295 → length (cells_before xs) < 4294967296
+finds_few n xs e h = omega (arith, e, h)

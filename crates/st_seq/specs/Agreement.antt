@@ -1,8 +1,9 @@
 -- When two listings of one row agree, place by place.
-use Rattle.std.specs.Prelude.{◌≡◌, ℕ, ◌+◌, Bool, true, false, ◌&&◌, not, List, [], ◌∷◌, Option, Some, None, option_map, Result, Ok, Err, if◌then◌else◌}
+use Rattle.std.specs.Prelude.{◌≡◌, ℕ, ◌+◌, Bool, true, false, ◌&&◌, not, List, [], ◌∷◌, Option, Some, None, option_map, map, Result, Ok, Err, if◌then◌else◌}
 use Rattle.st_ids.specs.declared.fault.Or.{Or}
 use Rattle.st_ids.specs.declared.fault.Or.TheVariants.{Fault, NoMemory}
 use Rattle.st_ids.specs.Order.{same_cell, same_node}
+use Rattle.st_marks.specs.declared.places.Slot.{Slot}
 use Rattle.st_marks.specs.Row.{CellMark, Counted, Gap, Touch, Make, Fill}
 use Rattle.st_marks.specs.Shown.{Seen, seen, counted_cell, empty_cell, is_leave}
 use Rattle.st_kind.specs.declared.apart.Apart.{Apart}
@@ -23,6 +24,10 @@ seen_after (Gap c) = empty_cell c
 seen_after (Touch c n h) = seen c n (not (is_leave h))
 seen_after (Make c n b) = seen c n b
 seen_after (Fill c n) = seen c n true
+
+-- what a row shows: each cell with its owner
+abbrev pub row_seen : List Slot → List Seen
+row_seen c = map (λ (s : Slot). seen s.cell s.node s.full) c
 
 -- what is said, as the definitions have it
 abbrev pub told : Said → Seen

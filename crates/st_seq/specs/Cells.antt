@@ -7,6 +7,8 @@ use Rattle.st_ids.specs.declared.names.NodeId.{NodeId}
 use Rattle.st_marks.specs.declared.marks.How.{How}
 use Rattle.st_marks.specs.declared.marks.How.TheVariants.{Stay, Here, Leave}
 use Rattle.st_kind.specs.Named.{Nodes}
+use Rattle.st_marks.specs.declared.places.Slot.{Slot}
+use Rattle.st_seq.specs.Agreement.{seen_after}
 use Rattle.st_seq.specs.Walks.{CellPiece, Both, First, Then, in_turn, beside}
 use Rattle.st_marks.specs.Row.{CellMark, Counted, Gap, Touch, Make, Fill}
 
@@ -35,6 +37,15 @@ composed_piece (Then y) = y
 -- the first step and then the second
 abbrev pub compose_row : List CellMark → List CellMark → List CellMark
 compose_row xs ys = map composed_piece (in_turn xs ys)
+
+-- ## The row after a step
+
+-- each cell that the step finds, full as the step leaves it, and those that it makes
+abbrev pub after_row : List Slot → List CellMark → List Slot
+after_row c [] = []
+after_row c (Make a n b ∷ ms) = record { cell = a; node = n; full = b } ∷ after_row c ms
+after_row [] (m ∷ ms) = []
+after_row (s ∷ c) (m ∷ ms) = record s { full = (seen_after m).full } ∷ after_row c ms
 
 -- ## The way back
 

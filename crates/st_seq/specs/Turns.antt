@@ -2,7 +2,10 @@
 use Rattle.std.specs.Prelude.{◌≡◌, ℕ, zero, suc, ◌+◌, ◌<◌, Some, None, option_map, List, [], ◌∷◌, ◌++◌, length}
 use Rattle.st_marks.specs.Row.{CellMark, Counted}
 use Rattle.st_marks.specs.Shown.{Seen, cells_before, cells_after}
-use Rattle.st_seq.specs.Agreement.{first_difference}
+use Rattle.st_marks.specs.declared.places.Slot.{Slot}
+use Rattle.st_seq.specs.Agreement.{first_difference, row_seen}
+use Rattle.st_seq.specs.Cells.{after_row}
+use Rattle.st_seq.specs.declared.rows.SlotTurn.{SlotTurn}
 use Rattle.st_seq.specs.Reading.{left, cell_of, IsSingle}
 use Rattle.st_seq.specs.Walks.{CellPiece, Both, First, Then, in_turn, beside}
 use Rattle.st_seq.specs.declared.walk.Piece.{Piece}
@@ -52,3 +55,15 @@ IsTurnInTurn xs ys turn = GoesOn in_turn cells_after xs ys turn
 -- one turn, where both find the same
 abbrev pub IsTurnBeside : List CellMark → List CellMark → Turn → Type 0
 IsTurnBeside xs ys turn = GoesOn beside cells_before xs ys turn
+
+-- ## A row and a step
+
+-- one turn of a walk over a row and the step that leads on from it: the cell that is written and what is left
+abbrev pub IsSlotTurn : List Slot → List CellMark → SlotTurn → Type 0
+IsSlotTurn c xs SlotTurn.Done = (after_row c xs ≡ []) × (first_difference (row_seen c) (cells_before xs) ≡ None)
+IsSlotTurn c xs SlotTurn.Apart = first_difference (row_seen c) (cells_before xs) ≡ Some 0
+IsSlotTurn c xs (SlotTurn.Go slot found d k rest) =
+    (after_row c xs ≡ slot ∷ after_row d.now (left k rest.now))
+    × (first_difference (row_seen c) (cells_before xs) ≡ option_map (λ j. found + j) (first_difference (row_seen d.now) (cells_before (left k rest.now))))
+    × (length d.now + length (left k rest.now) < length c + length xs)
+    × (length (cells_before xs) ≡ found + length (cells_before (left k rest.now)))

@@ -8,6 +8,7 @@ mod carry;
 mod lay;
 mod push;
 mod read;
+mod rows;
 mod said;
 #[cfg(test)]
 mod tests;
@@ -18,4 +19,5 @@ mod walk;
 pub use back::invert;
 pub use beside::rebase;
 pub use carry::{effect, void_effect};
+pub use rows::after;
 pub use turns::{compose, join};

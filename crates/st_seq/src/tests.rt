@@ -1,11 +1,12 @@
 ghost use Rattle.std.specs.Prelude.{◌+◌, ◌^◌, ◌<◌, length, IsTrue};
 ghost use Rattle.st_marks.specs.Row.{spread};
+ghost use Rattle.st_marks.specs.Shown.{cells_before};
 ghost use Rattle.st_seq.specs.Changes.{may_list};
 
-use crate::{compose, effect, invert, join, rebase, void_effect};
+use crate::{after as row_after, compose, effect, invert, join, rebase, void_effect};
 use st_ids::{Atom, CellId, List, NodeId, Or, Rev};
 use st_kind::Apart;
-use st_marks::{How, Mark, after};
+use st_marks::{How, Mark, Slot, after, before};
 use std::alloc::{AllocError, Global};
 use std::test::Fail;
 
@@ -72,6 +73,14 @@ fn are_short(first: &List<Mark>, then: &List<Mark>) -> bool
     after(first) + after(then) <= MOST
 }
 
+// Whether a step finds fewer than 2^32 cells.
+fn finds_few(marks: &List<Mark>) -> bool
+    ensures { IsTrue result → length (cells_before (spread marks.now)) < 2 ^ 32 }
+{
+    let found = before(marks);
+    found <= MOST
+}
+
 #[test]
 fn first_use(rt: HostRuntime) -> Result<(), Fail> {
     let alloc = rt.alloc();
@@ -88,9 +97,27 @@ fn first_use(rt: HostRuntime) -> Result<(), Fail> {
     let after_step = rebase(alloc, &change, &step).map_err(|_| Fail::from("apart"))?;
     assert!(rt; after_step == row(alloc, &[Mark::Skip(1), make(2), Mark::Skip(1)])?);
     let rest = row(alloc, &[Mark::Skip(2)])?;
-    assert!(rt; is_short(&rest));
+    assert!(rt; is_short(&rest) && finds_few(&step));
     let one = join(alloc, &change, &rest).map_err(|_| Fail::from("apart"))?;
     assert!(rt; one == change);
+    let slot = Slot {
+        cell: CellId(name(0, 0)),
+        node: NodeId(name(0, 1)),
+        full: true,
+    };
+    let new = Slot {
+        cell: CellId(name(1, 0)),
+        node: NodeId(name(1, 0)),
+        full: true,
+    };
+    let mut slots = List::new(alloc);
+    slots.push(slot)?;
+    let later = row_after(alloc, &slots, &step).map_err(|_| Fail::from("apart"))?;
+    slots.push(new)?;
+    assert!(rt; later == slots);
+    assert!(rt;
+        row_after(alloc, &slots, &step).is_err_and(|error| error == Or::Fault(Apart { place: 1 }))
+    );
     Ok(())
 }
 

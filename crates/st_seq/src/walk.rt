@@ -43,7 +43,7 @@ pub enum Turn<'a> {
 }
 
 /// The first cell of what comes first, and how many counted cells stand behind it.
-fn one(head: Head) -> Option<(Mark, u32)>
+pub fn one(head: Head) -> Option<(Mark, u32)>
     ensures { IsOne head result }
 {
     match head {
