@@ -3,7 +3,6 @@ use Rattle.std.proofs.Common.{◌≡◌, ◌≢◌, Bool, true, false, List, [],
 use Rattle.std.specs.List.{AllByRecursion}
 use Rattle.std.specs.Option.{option_or}
 use Rattle.st_ids.specs.Listing.{Has}
-use Rattle.st_ids.proofs.Orders.{same_cell-true}
 use Rattle.st_ids.specs.declared.names.CellId.{CellId}
 use Rattle.st_ids.specs.declared.names.NodeId.{NodeId}
 use Rattle.st_marks.specs.declared.intents.Owned.{Owned}
@@ -13,6 +12,7 @@ use Rattle.st_marks.specs.declared.marks.How.TheVariants.{Stay, Here, Leave}
 use Rattle.st_marks.specs.declared.places.Slot.{Slot}
 use Rattle.st_marks.specs.Row.{CellMark, Counted, Gap, Touch, Make, Fill, RowPart, same_to, how, is_here, embed_cell, embed_made, embed_cells, embed_row}
 use Rattle.st_seq.specs.Cells.{joined, join_row}
+use Rattle.st_seq.proofs.Rebased.{same_put}
 use Rattle.st_seq.specs.Changes.{StandsIn, full_after, made_cells, carried_cells, carried_row, woven, goes_in_turn, AreJoined}
 
 -- ## The walk
@@ -148,16 +148,11 @@ cell-told : (q : RowPart) (c : CellId) (n : NodeId) (b : Bool) → embed_cell q 
 cell-told q c n true = λ i. cond (q.mentioned n) (Touch c n (how-told c (q.goes n) i)) Counted
 cell-told q c n false = λ i. cond (is_here (how-told c (q.goes n) i)) (Fill c n) (Gap c)
 
-same_put : (to : To) (c : CellId) → same_to to (To.Cell c) ≡ true → ◌≡◌ {A = Option To} (Some to) (Some (To.Cell c))
-same_put To.Nowhere c e = cc
-same_put (To.Cell d) c e = ap (λ (x : CellId). Some (To.Cell x)) (same_cell-true d c e)
-same_put (To.Register f) c e = cc
-
 -- who isn't put into a cell by the first comes into it by the second alone
 alone : (g h : Option To) (c : CellId) → h ≢ Some (To.Cell c) → is_here (how g (To.Cell c)) ≡ is_here (how (option_or g h) (To.Cell c))
 alone (Some to) h c z = refl
 alone None None c z = refl
-alone None (Some to) c z = elim (same_to to (To.Cell c)) as (λ b. same_to to (To.Cell c) ≡ b → false ≡ is_here (cond b Here Leave)) [ true ↦ (λ e. absurd (z (same_put to c e))) | false ↦ (λ e. refl) ] refl
+alone None (Some to) c z = elim (same_to to (To.Cell c)) as (λ b. same_to to (To.Cell c) ≡ b → false ≡ is_here (cond b Here Leave)) [ true ↦ (λ e. absurd (z (ap (λ (x : To). Some x) (same_put to c e)))) | false ↦ (λ e. refl) ] refl
 
 behind-made : (p : RowPart) (os : List Owned) (n : NodeId) (d : List Slot) → StandsIn n d → StandsIn n (made_cells p os ++ d)
 behind-made p [] n d w = w

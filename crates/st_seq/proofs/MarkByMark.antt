@@ -1,9 +1,9 @@
 -- Operations that go mark by mark.
 use Rattle.std.proofs.Common.{◌≡◌, ◌+◌, ◌<◌, ◌≤◌, ℕ, zero, suc, List, [], ◌∷◌, ◌++◌, map, length, take, drop, get_or, sym, ap, ◌∙◌, arith, refl, length-append}
 use Rattle.std.proofs.lemmas.List.{take_more, get_or_default, take-append-drop, length-map, map-append}
+use Rattle.st_marks.proofs.MarkLengths.{spread-append}
 use Rattle.st_marks.specs.declared.marks.Mark.{Mark}
 use Rattle.st_marks.specs.Row.{CellMark, Counted, spread, counted}
-use Rattle.st_seq.proofs.Merging.{spread-append}
 
 -- so many counted cells, each of which stays one
 pub map-counted : (f : CellMark → CellMark) (k : ℕ) → f Counted ≡ Counted → counted k [] ≡ map f (counted k [])

@@ -1,6 +1,7 @@
 -- Marks in their normal form, and one mark more.
 use Rattle.std.proofs.Common.{subst, ◌≡◌, ◌<◌, ℕ, zero, suc, ◌+◌, Bool, true, false, List, [], ◌∷◌, ◌++◌, refl, sym, ap, ◌∙◌, arith, Some, None, length, take, slice_get, ◌-◌, append_assoc, length-append, is_some}
 use Rattle.std.specs.Option.{option_to_list}
+use Rattle.st_marks.proofs.MarkLengths.{spread-append}
 use Rattle.st_marks.specs.declared.marks.Mark.{Mark}
 use Rattle.st_marks.specs.Row.{CellMark, Counted, Gap, Touch, Make, Fill, spread, counted, merge, skip_one}
 use Rattle.st_seq.specs.Merged.{IsMerged, is_skip, count_in}
@@ -84,18 +85,6 @@ spread-merge (Touch c n h ∷ ms) = ap (λ l. Touch c n h ∷ l) (spread-merge m
 spread-merge (Make c n b ∷ ms) = ap (λ l. Make c n b ∷ l) (spread-merge ms)
 spread-merge (Fill c n ∷ ms) = ap (λ l. Fill c n ∷ l) (spread-merge ms)
 
-counted-append : (k : ℕ) (xs ys : List CellMark) → counted k (xs ++ ys) ≡ counted k xs ++ ys
-counted-append zero xs ys = refl
-counted-append (suc k) xs ys = ap (λ l. Counted ∷ l) (counted-append k xs ys)
-
-pub spread-append : (xs ys : List Mark) → spread (xs ++ ys) ≡ spread xs ++ spread ys
-spread-append [] ys = refl
-spread-append (Mark.Skip k ∷ xs) ys = ap (counted k) (spread-append xs ys) ∙ counted-append k (spread xs) (spread ys)
-spread-append (Mark.Gap c ∷ xs) ys = ap (λ l. Gap c ∷ l) (spread-append xs ys)
-spread-append (Mark.Touch c n h ∷ xs) ys = ap (λ l. Touch c n h ∷ l) (spread-append xs ys)
-spread-append (Mark.Make c n b ∷ xs) ys = ap (λ l. Make c n b ∷ l) (spread-append xs ys)
-spread-append (Mark.Fill c n ∷ xs) ys = ap (λ l. Fill c n ∷ l) (spread-append xs ys)
-
 pub counted-plus : (j k : ℕ) (xs : List CellMark) → counted (j + k) xs ≡ counted j (counted k xs)
 counted-plus zero k xs = let e : zero + k ≡ k = omega arith in rw e refl
 counted-plus (suc j) k xs = let e : suc j + k ≡ suc (j + k) = omega arith in rw e (ap (λ l. Counted ∷ l) (counted-plus j k xs))
@@ -108,7 +97,7 @@ length-counted (suc k) xs = omega (arith, length-counted k xs)
 pub count_more : (front old : List Mark) (j k : ℕ) → spread old ≡ spread front ++ counted j [] → spread (front ++ Mark.Skip (j + k) ∷ []) ≡ spread old ++ counted k []
 count_more front old j k e =
     spread-append front (Mark.Skip (j + k) ∷ [])
-    ∙ ap (λ l. spread front ++ l) (counted-plus j k [] ∙ counted-append j [] (counted k []))
+    ∙ ap (λ l. spread front ++ l) (counted-plus j k [] ∙ spread-append (Mark.Skip j ∷ []) (Mark.Skip k ∷ []))
     ∙ sym (append_assoc (spread front) (counted j []) (counted k []))
     ∙ ap (λ l. l ++ counted k []) (sym e)
 

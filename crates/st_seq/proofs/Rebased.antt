@@ -16,7 +16,7 @@ use Rattle.st_seq.specs.Cells.{touch_of, still, emptied, how_there, filled, reba
 use Rattle.st_seq.specs.Walks.{CellPiece, beside, meeting}
 use Rattle.st_seq.specs.Changes.{StandsIn, NamesNoGained}
 
-same_put : (to : To) (c : CellId) → same_to to (To.Cell c) ≡ true → to ≡ To.Cell c
+pub same_put : (to : To) (c : CellId) → same_to to (To.Cell c) ≡ true → to ≡ To.Cell c
 same_put To.Nowhere c e = cc
 same_put (To.Cell d) c e = ap (λ (x : CellId). To.Cell x) (same_cell-true d c e)
 same_put (To.Register f) c e = cc

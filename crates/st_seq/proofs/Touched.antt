@@ -5,10 +5,10 @@ use Rattle.std.proofs.lemmas.List.{take_more, get_or_default}
 use Rattle.st_ids.specs.Order.{same_node}
 use Rattle.st_ids.specs.declared.names.NodeId.{NodeId}
 use Rattle.st_marks.specs.declared.marks.How.{How}
+use Rattle.st_marks.proofs.MarkLengths.{spread-append}
 use Rattle.st_marks.specs.declared.marks.Mark.{Mark}
 use Rattle.st_marks.specs.Row.{CellMark, Counted, Gap, Touch, Make, Fill, spread, counted}
 use Rattle.st_seq.specs.Cells.{touch_of}
-use Rattle.st_seq.proofs.Merging.{spread-append}
 
 or-assoc : {A : Type 0} (a b c : Option A) → option_or (option_or a b) c ≡ option_or a (option_or b c)
 or-assoc None b c = refl

@@ -1,7 +1,8 @@
 use Rattle.std.proofs.Common.{ap, sym, ◌∙◌, ◌∷◌, [], subst}
 use Rattle.st_marks.specs.Row.{spread}
 use Rattle.st_seq.specs.Merged.{IsMerged}
-use Rattle.st_seq.proofs.Merging.{behind_merged, spread-append}
+use Rattle.st_marks.proofs.MarkLengths.{spread-append}
+use Rattle.st_seq.proofs.Merging.{behind_merged}
 use Rattle.st_seq.proofs.push.push_cell.Goals as goal
 
 pub returns-clause-merged : goal.returns-clause-merged
