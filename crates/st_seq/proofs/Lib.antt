@@ -14,3 +14,4 @@ pub mod Short
 pub mod Voided
 pub mod Searching
 pub mod Leading
+pub mod Differences

@@ -1,13 +1,29 @@
 -- When two listings of one row agree, place by place.
-use Rattle.std.specs.Prelude.{◌≡◌, ℕ, ◌+◌, Bool, true, false, ◌&&◌, not, List, [], ◌∷◌, Option, Some, None, option_map, map, Result, Ok, Err, if◌then◌else◌}
+use Rattle.std.specs.Prelude.{◌≡◌, ℕ, ◌+◌, Bool, true, false, ◌&&◌, not, List, [], ◌∷◌, Option, Some, None, option_map, map, slice_get, Result, Ok, Err, if◌then◌else◌}
 use Rattle.st_ids.specs.declared.fault.Or.{Or}
 use Rattle.st_ids.specs.declared.fault.Or.TheVariants.{Fault, NoMemory}
 use Rattle.st_ids.specs.Order.{same_cell, same_node}
 use Rattle.st_marks.specs.declared.places.Slot.{Slot}
 use Rattle.st_marks.specs.Row.{CellMark, Counted, Gap, Touch, Make, Fill}
+use Rattle.st_marks.specs.Agree.{IsSameSeen}
 use Rattle.st_marks.specs.Shown.{Seen, seen, counted_cell, empty_cell, is_leave}
 use Rattle.st_kind.specs.declared.apart.Apart.{Apart}
 use Rattle.st_seq.specs.declared.said.Said.{Said}
+
+-- ## Where two listings differ
+
+-- what two listings show at one place isn't the same cell, or one of them has no cell there
+abbrev pub Differing : Option Seen → Option Seen → Type 0
+Differing None None = ⊥
+Differing None (Some t) = Unit {0}
+Differing (Some s) None = Unit {0}
+Differing (Some s) (Some t) = IsSameSeen s t → ⊥
+
+-- two listings of one row differ at a place
+abbrev pub DifferAt : List Seen → List Seen → ℕ → Type 0
+DifferAt xs ys k = Differing (slice_get xs k) (slice_get ys k)
+
+-- ## The same as a search
 
 -- what a mark says of its cell before it, if the cell is there
 abbrev pub seen_before : CellMark → Seen

@@ -3,11 +3,11 @@ ghost use Rattle.std.specs.Prelude.{◌≡◌, ◌^◌, ◌<◌, ◌∷◌, [], 
 ghost use Rattle.std.specs.BTreeMap.{get};
 ghost use Rattle.st_ids.specs.Order.{node_cmp};
 ghost use Rattle.st_kind.specs.Named.{Nodes};
-ghost use Rattle.st_kind.specs.Refused.{IfMemory};
+ghost use Rattle.st_kind.specs.Refused.{IfMemory, IsApartWhere};
 ghost use Rattle.st_marks.specs.declared.places.Slot.{Slot};
 ghost use Rattle.st_marks.specs.Row.{RowPart, spread, merge, embed_row};
 ghost use Rattle.st_marks.specs.Shown.{cells_before};
-ghost use Rattle.st_seq.specs.Agreement.{first_difference, IsApart};
+ghost use Rattle.st_seq.specs.Agreement.{DifferAt};
 ghost use Rattle.st_seq.specs.Cells.{rebased as rebased_cell, rebased_piece, gained_cell, emptied as emptied_cell, filled as filled_cell, how_there as there};
 ghost use Rattle.st_seq.specs.Changes.{IsRowChange, Keeps, may_list};
 ghost use Rattle.st_seq.specs.Reading.{cell_of, IsSingle};
@@ -130,7 +130,7 @@ pub fn rebase(
     requires { may_list (spread change.now) (spread step.now) < 2 ^ 32 }
     ensures rebased { (p : RowPart) (m : Nodes) (c d : Seq Slot) → IsRowChange p c change.now → (s : IsRowStep m c d step.now) → Keeps p c d s.grows
         → IfMemory result (λ marks. marks ≡ merge (embed_row p d)) }
-    ensures apart { IsApart (first_difference (cells_before (spread change.now)) (cells_before (spread step.now))) result }
+    ensures apart { IsApartWhere result (DifferAt (cells_before (spread change.now)) (cells_before (spread step.now))) }
 {
     let seen = match touches(alloc, change.as_slice()) {
         Ok(seen) => seen,

@@ -1,11 +1,11 @@
 //! The row after a step.
 ghost use Rattle.std.specs.Prelude.{◌≡◌, ◌^◌, ◌<◌, ◌∷◌, [], length, IfOk, MatchOption, false, List as Seq};
 ghost use Rattle.st_kind.specs.Named.{Nodes};
-ghost use Rattle.st_kind.specs.Refused.{IfMemory};
+ghost use Rattle.st_kind.specs.Refused.{IfMemory, IsApartWhere};
 ghost use Rattle.st_marks.specs.declared.places.Slot.{Slot as Cell};
 ghost use Rattle.st_marks.specs.Row.{CellMark, spread};
 ghost use Rattle.st_marks.specs.Shown.{cells_before, seen};
-ghost use Rattle.st_seq.specs.Agreement.{first_difference, row_seen, told, IsApart};
+ghost use Rattle.st_seq.specs.Agreement.{DifferAt, first_difference, row_seen, told, IsApart};
 ghost use Rattle.st_seq.specs.Cells.{after_row};
 ghost use Rattle.st_seq.specs.Reading.{left, is_make, IsFirst};
 ghost use Rattle.st_seq.specs.Rows.{IsRowStep};
@@ -111,7 +111,7 @@ fn slot_turn<'a>(slots: &'a [Slot], count: u32, marks: &'a [Mark]) -> SlotTurn<'
 pub fn after(alloc: Global, row: &List<Slot>, step: &List<Mark>) -> Result<List<Slot>, Or<Apart>>
     requires { length (cells_before (spread step.now)) < 2 ^ 32 }
     ensures after { (m : Nodes) (d : Seq Cell) → IsRowStep m row.now d step.now → IfMemory result (λ e. e ≡ d) }
-    ensures apart { IsApart (first_difference (row_seen row.now) (cells_before (spread step.now))) result }
+    ensures apart { IsApartWhere result (DifferAt (row_seen row.now) (cells_before (spread step.now))) }
 {
     slots_after(alloc, row.as_slice(), step.as_slice())
 }

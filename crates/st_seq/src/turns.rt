@@ -1,11 +1,11 @@
 //! Two steps of a row in turn, and two changes.
 ghost use Rattle.std.specs.Prelude.{◌≡◌, ◌^◌, ◌<◌, ◌∷◌, [], length, List as Seq};
 ghost use Rattle.st_kind.specs.Named.{Nodes, either};
-ghost use Rattle.st_kind.specs.Refused.{IfMemory};
+ghost use Rattle.st_kind.specs.Refused.{IfMemory, IsApartWhere};
 ghost use Rattle.st_marks.specs.declared.places.Slot.{Slot};
 ghost use Rattle.st_marks.specs.Row.{Fill, Make, RowPart, spread, merge, embed_row};
 ghost use Rattle.st_marks.specs.Shown.{cells_after, cells_before};
-ghost use Rattle.st_seq.specs.Agreement.{first_difference, IsApart};
+ghost use Rattle.st_seq.specs.Agreement.{DifferAt};
 ghost use Rattle.st_seq.specs.Cells.{composed as composed_cell, joined as joined_cell};
 ghost use Rattle.st_seq.specs.Changes.{AreJoined, IsRowChange, carried_row};
 ghost use Rattle.st_seq.specs.Reading.{cell_of, IsSingle};
@@ -110,7 +110,7 @@ pub fn compose(
     requires { length (spread then.now) < 2 ^ 32 }
     ensures composed { (m k : Nodes) (c d e : Seq Slot) (f : IsRowStep m c d first.now) → NamesLeavers m f.grows → IsRowStep k d e then.now
         → IfMemory result (λ s. IsRowStep (either m k) c e s) }
-    ensures apart { IsApart (first_difference (cells_after (spread first.now)) (cells_before (spread then.now))) result }
+    ensures apart { IsApartWhere result (DifferAt (cells_after (spread first.now)) (cells_before (spread then.now))) }
 {
     lay_in_turn(alloc, &Steps, first.as_slice(), then.as_slice())
 }
@@ -169,7 +169,7 @@ pub fn join(alloc: Global, first: &List<Mark>, then: &List<Mark>) -> Result<List
     requires { length (spread then.now) < 2 ^ 32 }
     ensures joined { (p q j : RowPart) (c : Seq Slot) → AreJoined p q c j → IsRowChange p c first.now → IsRowChange q (carried_row p c) then.now
         → IfMemory result (λ marks. marks ≡ merge (embed_row j c)) }
-    ensures apart { IsApart (first_difference (cells_after (spread first.now)) (cells_before (spread then.now))) result }
+    ensures apart { IsApartWhere result (DifferAt (cells_after (spread first.now)) (cells_before (spread then.now))) }
 {
     lay_in_turn(alloc, &Changes, first.as_slice(), then.as_slice())
 }

@@ -8,6 +8,10 @@ use Rattle.st_seq.proofs.Answered.{none_apart}
 use Rattle.st_seq.proofs.Composed.{compose_row-step_row, grows_on}
 use Rattle.st_seq.proofs.Described.{no_difference, step_finds, step_leaves}
 use Rattle.st_seq.proofs.Merging.{merged_is, spread_of}
+use Rattle.std.proofs.Common.{subst}
+use Rattle.st_kind.specs.Refused.{IsApartWhere}
+use Rattle.st_seq.specs.Agreement.{DifferAt}
+use Rattle.st_seq.proofs.Differences.{apart_where}
 use Rattle.st_seq.proofs.turns.compose.Goals as goal
 
 pub returns-clause-composed : goal.returns-clause-composed
@@ -20,3 +24,8 @@ returns-clause-composed c = λ m k a d e f l t.
       grows = grows_on f.grows t.grows;
       says = merged_is s (step_row (either m k) (grows_on f.grows t.grows)) h (q ∙ (λ i. compose_row (first i) (then i)) ∙ compose_row-step_row m k t.grows f.grows l);
     })
+
+pub returns-clause-apart : goal.returns-clause-apart
+returns-clause-apart c = subst (λ x. IsApartWhere c.lay_in_turn.result (DifferAt (cells_after (spread x)) (cells_before (spread c.args.then.now)))) c.as_slice.ensures
+    (subst (λ y. IsApartWhere c.lay_in_turn.result (DifferAt (cells_after (spread c.as_slice.result.now)) (cells_before (spread y)))) c.as_slice-2.ensures
+    (apart_where (cells_after (spread c.as_slice.result.now)) (cells_before (spread c.as_slice-2.result.now)) c.lay_in_turn.result c.lay_in_turn.ensures.apart))
