@@ -14,7 +14,7 @@ use Rattle.st_ids.specs.declared.names.Atom.{Atom}
 use Rattle.st_ids.specs.declared.names.NodeId.{NodeId}
 use Rattle.st_ids.specs.declared.names.CellId.{CellId}
 use Rattle.st_ids.specs.declared.names.FieldId.{FieldId}
-use Rattle.st_ids.specs.Order.{rev_cmp, atom_cmp, node_cmp, cell_cmp, field_cmp, same_node, same_cell, same_field}
+use Rattle.st_ids.specs.Order.{same_rev, rev_cmp, atom_cmp, node_cmp, cell_cmp, field_cmp, same_node, same_cell, same_field}
 use Rattle.st_ids.specs.Listing.{keyed, IsRising, item_of}
 
 -- two orders one after the other tie only where both do
@@ -81,6 +81,14 @@ module _ {K : Type 0} {R : K → K → Ordering} (t : IsTotalOrder R) where
       self Less e = cc
       self Equal e = refl
       self Greater e = cc
+
+pub same_rev-true : (a b : Rev) → same_rev a b ≡ true → a ≡ b
+unfolding same_rev
+same_rev-true a b e = rev_cmp_exact a b (is_eq_equal _ e)
+
+pub same_rev-itself : (a : Rev) → same_rev a a ≡ true
+unfolding same_rev
+same_rev-itself a = itself _ (tied rev_cmp_total a)
 
 pub same_node-true : (a b : NodeId) → same_node a b ≡ true → a ≡ b
 unfolding same_node

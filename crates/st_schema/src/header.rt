@@ -5,8 +5,8 @@ use st_ids::Copied;
 use st_tree::Tree;
 use std::alloc::{AllocError, Global};
 
-/// The start of a document: its schema and its opening tree, and how many commits below the
-/// minimum are kept for undo, 0 to 1,024.
+/// The start of a document: its schema and its opening tree, and how many entries of the log
+/// below the minimum can still be undone, 0 to 1,024, which nothing uses yet.
 #[derive(Drop)]
 pub struct Header {
     pub history: u32,
