@@ -16,3 +16,4 @@ pub mod Normal
 pub mod Shown
 pub mod Agree
 pub mod Rules
+pub mod Walk

@@ -15,6 +15,7 @@ mod steps;
 #[cfg(test)]
 mod tests;
 mod verdicts;
+mod walk;
 
 pub use changes::{Change, NewNode};
 pub use intents::{Group, Intent, Owned, Put, To};
