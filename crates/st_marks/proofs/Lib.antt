@@ -23,3 +23,4 @@ pub mod WayBack
 pub mod Joined
 pub mod OneTree
 pub mod MarkLengths
+pub mod Naming

@@ -17,3 +17,4 @@ pub mod Shown
 pub mod Agree
 pub mod Rules
 pub mod Walk
+pub mod Naming

@@ -4,6 +4,7 @@
 
 mod changes;
 mod copies;
+mod index;
 mod intents;
 mod laws;
 mod laws_of_listings;

@@ -79,6 +79,7 @@ impl<T, A: Walk<Item = T>, B: Walk<Item = T>> Walk for Then<A, B> {
 /// What is picked of each thing of a list.
 pub trait Part: Copy {
     type From;
+
     type Item;
 
     ghost of: { List Self.From → List Self.Item };

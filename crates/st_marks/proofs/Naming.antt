@@ -1,0 +1,149 @@
+-- Things by their names, and whether no two have one name.
+use Rattle.std.proofs.Common.{◌≡◌, ◌≢◌, Bool, true, false, ◌&&◌, List, [], ◌∷◌, Option, Some, None, is_some, is_none, cond, refl, sym, ap, ◌∙◌, subst, IsTrue, ◌↔◌}
+use Rattle.std.specs.List.{AllByRecursion, find}
+use Rattle.std.specs.Option.{option_or}
+use Rattle.std.specs.Ordering.{is_eq, ordering_reverse}
+use Rattle.st_ids.specs.Listing.{AreDistinct, Has}
+use Rattle.st_ids.specs.Order.{atom_cmp}
+use Rattle.st_ids.specs.declared.names.Atom.{Atom}
+use Rattle.st_ids.proofs.Orders.{atom_cmp_exact, atom_cmp_total}
+use Rattle.std.specs.declared.cmp.Ordering.{Ordering}
+use Rattle.std.specs.declared.cmp.Ordering.TheVariants.{Less, Equal, Greater}
+use Rattle.st_marks.specs.Naming.{is_named}
+use Rattle.st_marks.proofs.Members.{all-has, has-all, none-has, first-has, true-false}
+
+is_eq_equal : (o : Ordering) → is_eq o ≡ true → o ≡ Equal
+is_eq_equal Less e = cc
+is_eq_equal Equal e = refl
+is_eq_equal Greater e = cc
+
+self_reverse : (o : Ordering) → o ≡ ordering_reverse o → is_eq o ≡ true
+self_reverse Less e = cc
+self_reverse Equal e = refl
+self_reverse Greater e = cc
+
+pub named-name : {I : Type 0} (name : I → Atom) (a : Atom) (x : I) → is_named name a x ≡ true → name x ≡ a
+named-name name a x e = atom_cmp_exact (name x) a (is_eq_equal _ e)
+
+pub name-named : {I : Type 0} (name : I → Atom) (a : Atom) (x : I) → name x ≡ a → is_named name a x ≡ true
+name-named name a x e = subst (λ b. is_eq (atom_cmp (name x) b) ≡ true) e (self_reverse (atom_cmp (name x) (name x)) (atom_cmp_total.antisymm (name x) (name x)))
+
+module _ {I : Type 0} (name : I → Atom) where
+  not-named : (a : Atom) (x : I) → is_named name a x ≡ false → name x ≢ a
+  not-named a x f e = true-false (name-named name a x e) f
+
+  named-not : (a : Atom) (x : I) → name x ≢ a → is_named name a x ≡ false
+  named-not a x n = go (is_named name a x) refl
+    where
+      go : (b : Bool) → is_named name a x ≡ b → b ≡ false
+      go true e = absurd (n (named-name name a x e))
+      go false e = refl
+
+  some-not : (o : Option I) → (is_some o ≡ false) → o ≡ None
+  some-not None e = refl
+  some-not (Some x) e = cc
+
+  is_some-not : (o : Option I) (x : I) → o ≡ Some x → o ≡ None → ⊥
+  is_some-not o x e f = let q : ◌≡◌ {A = Bool} true false = sym (ap is_some e) ∙ ap is_some f in cc
+
+  -- nothing of the name is found, exactly where nothing has it
+  pub none-other : (a : Atom) (xs : List I) → is_some (find (is_named name a) xs) ≡ false → AllByRecursion (λ y. name y ≢ a) xs
+  none-other a xs e = has-all (λ y. name y ≢ a) xs (λ y h. not-named a y (none-has (is_named name a) xs y (some-not _ e) h))
+
+  pub other-none : (a : Atom) (xs : List I) → AllByRecursion (λ y. name y ≢ a) xs → is_some (find (is_named name a) xs) ≡ false
+  other-none a xs h = go (find (is_named name a) xs) refl
+    where
+      go : (o : Option I) → find (is_named name a) xs ≡ o → is_some o ≡ false
+      go None e = refl
+      go (Some x) e = let r = first-has (is_named name a) xs x e in absurd (all-has (λ y. name y ≢ a) xs x h r.0 (named-name name a x r.1))
+
+  -- the first that is left is found behind it too, so that two have one name
+  pub once-fails : (x : I) (old new whole : List I) → (AreDistinct name old ↔ AreDistinct name whole) → old ≡ x ∷ new → is_some (find (is_named name (name x)) new) ≡ true → IsTrue false ↔ AreDistinct name whole
+  once-fails x old new whole h e f = (λ t. cc, λ d. absurd (true-false f (other-none (name x) new (subst (AreDistinct name) e (h.1 d)).0)))
+
+  pub once-next : (x : I) (old new whole : List I) → (AreDistinct name old ↔ AreDistinct name whole) → old ≡ x ∷ new → is_some (find (is_named name (name x)) new) ≡ false → AreDistinct name new ↔ AreDistinct name whole
+  once-next x old new whole h e f = (λ d. h.0 (subst (AreDistinct name) (sym e) (none-other (name x) new f, d)), λ d. (subst (AreDistinct name) e (h.1 d)).1)
+
+  pub once-done : (old whole : List I) → (AreDistinct name old ↔ AreDistinct name whole) → old ≡ [] → IsTrue true ↔ AreDistinct name whole
+  once-done old whole h e = (λ _. h.0 (subst (AreDistinct name) (sym e) tt), λ _. refl)
+
+  -- none is kept
+  abbrev pub AreFresh : (Atom → Option I) → List I → Type 0
+  AreFresh m xs = AllByRecursion (λ x. m (name x) ≡ None) xs
+
+  -- what is kept and what is left have one name only once
+  pub record IsOnce (m : Atom → Option I) (once : Bool) (old whole : List I) : Type 0 where
+    pub there : IsTrue once → AreDistinct name old → AreFresh m old → AreDistinct name whole
+    pub back : AreDistinct name whole → IsTrue once × AreDistinct name old × AreFresh m old
+
+  -- what is found in the map or else among what is left
+  abbrev pub FindsAll : (Atom → Option I) → List I → List I → Type 0
+  FindsAll m old whole = (a : Atom) → option_or (m a) (find (is_named name a) old) ≡ find (is_named name a) whole
+
+  none-parts : (o : Option I) (b : Bool) (x : I) → option_or o (cond b (Some x) None) ≡ None → (o ≡ None) × (b ≡ false)
+  none-parts None true x e = cc
+  none-parts None false x e = (refl, refl)
+  none-parts (Some y) b x e = cc
+
+  or-assoc : (a b c : Option I) → option_or (option_or a b) c ≡ option_or a (option_or b c)
+  or-assoc None b c = refl
+  or-assoc (Some x) b c = refl
+
+  one-or : (b : Bool) (x : I) (o : Option I) → option_or (cond b (Some x) None) o ≡ cond b (Some x) o
+  one-or true x o = refl
+  one-or false x o = refl
+
+  pub finds-next : (m k : Atom → Option I) (x : I) (old new whole : List I) → FindsAll m old whole → old ≡ x ∷ new → ((a : Atom) → k a ≡ option_or (m a) (find (is_named name a) (x ∷ []))) → FindsAll k new whole
+  finds-next m k x old new whole h e u a =
+      ap (λ o. option_or o (find (is_named name a) new)) (u a)
+      ∙ or-assoc (m a) (find (is_named name a) (x ∷ [])) (find (is_named name a) new)
+      ∙ ap (option_or (m a)) (one-or (is_named name a x) x (find (is_named name a) new) ∙ ap (find (is_named name a)) (sym e))
+      ∙ h a
+
+  fresh-both : (b c : Bool) → IsTrue (b && c) → IsTrue b × IsTrue c
+  fresh-both true c t = (refl, t)
+  fresh-both false c t = cc
+
+  both-fresh : (b c : Bool) → IsTrue b → IsTrue c → IsTrue (b && c)
+  both-fresh true c t u = u
+  both-fresh false c t u = cc
+
+  is-none : (o : Option I) → IsTrue (is_none o) → o ≡ None
+  is-none None t = refl
+  is-none (Some x) t = cc
+
+  none-is : (o : Option I) → o ≡ None → IsTrue (is_none o)
+  none-is o e = ap is_none e
+
+  pub is_once-next : (m k : Atom → Option I) (once : Bool) (x : I) (old new whole : List I) → IsOnce m once old whole → old ≡ x ∷ new → ((a : Atom) → k a ≡ option_or (m a) (find (is_named name a) (x ∷ []))) → IsOnce k (once && is_none (m (name x))) new whole
+  is_once-next m k once x old new whole h e u = record {
+    there = λ t d f. let p = fresh-both once (is_none (m (name x))) t in
+        let q = λ (y : I) (i : Has new y). none-parts (m (name y)) (is_named name (name y) x) x (sym (u (name y)) ∙ all-has (λ y. k (name y) ≡ None) new y f i) in
+        h.there p.0
+        (subst (AreDistinct name) (sym e) (has-all (λ y. name y ≢ name x) new (λ y i s. not-named (name y) x (q y i).1 (sym s)), d))
+        (subst (AreFresh m) (sym e) (is-none _ p.1, has-all (λ y. m (name y) ≡ None) new (λ y i. (q y i).0)));
+    back = λ d. let r = h.back d in
+        let rd = subst (AreDistinct name) e r.1 in
+        let rf = subst (AreFresh m) e r.2 in (
+          both-fresh once (is_none (m (name x))) r.0 (none-is _ rf.0),
+          rd.1,
+          has-all (λ y. k (name y) ≡ None) new (λ y i. u (name y) ∙ ap (λ o. option_or o (cond (is_named name (name y) x) (Some x) None)) (all-has (λ y. m (name y) ≡ None) new y rf.1 i)
+              ∙ ap (λ b. option_or None (cond b (Some x) None)) (named-not (name y) x (λ s. all-has (λ y. name y ≢ name x) new y rd.0 i (sym s)))),
+        );
+  }
+
+  pub is_once-done : (m : Atom → Option I) (once : Bool) (old whole : List I) → IsOnce m once old whole → old ≡ [] → IsTrue once ↔ AreDistinct name whole
+  is_once-done m once old whole h e = (λ t. h.there t (subst (AreDistinct name) (sym e) tt) (subst (AreFresh m) (sym e) tt), λ d. (h.back d).0)
+
+  pub is_once-start : (m : Atom → Option I) (whole : List I) → ((a : Atom) → m a ≡ None) → IsOnce m true whole whole
+  is_once-start m whole e = record {
+    there = λ t d f. d;
+    back = λ d. (refl, d, has-all (λ x. m (name x) ≡ None) whole (λ x i. e (name x)));
+  }
+
+  none-left : (o : Option I) → option_or o None ≡ o
+  none-left None = refl
+  none-left (Some x) = refl
+
+  pub finds-done : (m : Atom → Option I) (old whole : List I) → FindsAll m old whole → old ≡ [] → (a : Atom) → m a ≡ find (is_named name a) whole
+  finds-done m old whole h e a = sym (none-left (m a)) ∙ ap (λ (xs : List I). option_or (m a) (find (is_named name a) xs)) (sym e) ∙ h a
