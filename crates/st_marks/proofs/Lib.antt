@@ -24,3 +24,4 @@ pub mod Joined
 pub mod OneTree
 pub mod MarkLengths
 pub mod Naming
+pub mod Counted

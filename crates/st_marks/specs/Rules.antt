@@ -9,6 +9,7 @@ use Rattle.st_ids.specs.declared.names.NodeId.{NodeId}
 use Rattle.st_ids.specs.declared.names.Rev.{Rev}
 use Rattle.st_marks.specs.declared.changes.Change.{Change}
 use Rattle.st_marks.specs.declared.changes.NewNode.{NewNode}
+use Rattle.st_marks.specs.declared.marks.Found.{Found}
 use Rattle.st_marks.specs.declared.marks.How.{How}
 use Rattle.st_marks.specs.declared.marks.How.TheVariants.{Stay, Here, Leave}
 use Rattle.st_marks.specs.declared.marks.Loose.{Loose}
@@ -27,11 +28,6 @@ use Rattle.st_marks.specs.Row.{CellMark, Counted, Gap, Touch, Make, Fill, merge,
 use Rattle.st_marks.specs.Shown.{Says, cells_after, cells_before, cells_in, cells_made, nodes_new, one_or_none, shown_after_change, shown_after_step, shown_before_change, shown_before_step}
 
 -- ## What is listed
-
--- a node that is listed where it stands, and what becomes of it
-pub record Found : Type 0 where
-  pub node : NodeId
-  pub how : How
 
 -- the nodes that a row's marks find in full cells
 abbrev pub found_in : List CellMark → List Found
@@ -98,25 +94,39 @@ pub record Listed : Type 0 where
   -- the fields of listed registers
   pub registers : List FieldId
 
+-- what is listed by new nodes, rows, registers and nodes that are nowhere, where it is known whom a register finds, whom it puts, and which it is
+abbrev pub listed_by : {R : Type 0} → (R → List Found) → (R → List NodeId) → (R → FieldId) → List NewNode → List RowMarks → List R → List Loose → Listed
+listed_by found put field new rows regs loose = record {
+  new = nodes_new new;
+  rows = rows;
+  found = in_rows found_in rows ++ (flat_map found regs ++ found_loose loose);
+  put = in_rows incoming rows ++ flat_map put regs;
+  registers = map field regs;
+}
+
+-- whom a change finds in a register
+abbrev pub found_at : RegMark → List Found
+found_at r = found_held r.held r.how
+
+-- whom a change puts into a register
+abbrev pub put_at : RegMark → List NodeId
+put_at r = one_or_none r.fill
+
 -- what a change lists
 abbrev pub listed_by_change : Change → Listed
-listed_by_change C = record {
-  new = nodes_new C.new;
-  rows = C.rows;
-  found = in_rows found_in C.rows ++ (flat_map (λ (r : RegMark). found_held r.held r.how) C.regs ++ found_loose C.loose);
-  put = in_rows incoming C.rows ++ flat_map (λ (r : RegMark). one_or_none r.fill) C.regs;
-  registers = map (λ (r : RegMark). r.field) C.regs;
-}
+listed_by_change C = listed_by found_at put_at (λ r. r.field) C.new C.rows C.regs C.loose
+
+-- whom a step finds in a register
+abbrev pub found_over : RegStep → List Found
+found_over r = found_held r.before (how_over r)
+
+-- whom a step puts into a register
+abbrev pub put_over : RegStep → List NodeId
+put_over r = if same_option same_node r.before r.after then [] else one_or_none r.after
 
 -- what a step lists
 abbrev pub listed_by_step : Step → Listed
-listed_by_step S = record {
-  new = nodes_new S.new;
-  rows = S.rows;
-  found = in_rows found_in S.rows ++ (flat_map (λ (r : RegStep). found_held r.before (how_over r)) S.regs ++ found_loose S.loose);
-  put = in_rows incoming S.rows ++ flat_map (λ (r : RegStep). if same_option same_node r.before r.after then [] else one_or_none r.after) S.regs;
-  registers = map (λ (r : RegStep). r.field) S.regs;
-}
+listed_by_step S = listed_by found_over put_over (λ r. r.field) S.new S.rows S.regs S.loose
 
 -- it finds the node
 abbrev pub IsFound : Listed → NodeId → Type 0

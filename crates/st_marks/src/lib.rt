@@ -10,7 +10,9 @@ mod laws;
 mod laws_of_listings;
 mod lengths;
 mod marks;
+mod picks;
 mod places;
+mod registers;
 mod schemas;
 mod steps;
 #[cfg(test)]

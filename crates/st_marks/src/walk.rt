@@ -6,7 +6,7 @@ ghost use Rattle.st_marks.specs.declared.marks.Mark.{Mark as Marked};
 ghost use Rattle.st_marks.specs.Walk.{IsNext};
 
 use crate::marks::{Mark, RowMarks};
-use st_ids::NodeId;
+use st_ids::{Atom, NodeId, Rev};
 
 /// A way through a list of things, of which some are left.
 pub trait Walk: Copy {
@@ -77,16 +77,14 @@ impl<T, A: Walk<Item = T>, B: Walk<Item = T>> Walk for Then<A, B> {
 }
 
 /// What is picked of each thing of a list.
-pub trait Part: Copy {
-    type From;
-
+pub trait Part<F>: Copy {
     type Item;
 
-    ghost of: { List Self.From → List Self.Item };
+    ghost of: { List F → List Self.Item };
 
     /// What is picked of a thing, if anything.
-    fn pick(&self, from: &Self::From) -> Option<Self::Item>
-        ensures { (rest : List Self.From) → of (from.now ∷ rest) ≡ option_to_list result ++ of rest };
+    fn pick(&self, from: &F) -> Option<Self::Item>
+        ensures { (rest : List F) → of (from.now ∷ rest) ≡ option_to_list result ++ of rest };
 
     ghost none: { of [] ≡ [] };
 }
@@ -98,7 +96,7 @@ pub struct Along<'a, F, P> {
     pub part: P,
 }
 
-impl<'a, F, P: Part<From = F>> Walk for Along<'a, F, P> {
+impl<'a, F, P: Part<F>> Walk for Along<'a, F, P> {
     type Item = P::Item;
 
     ghost left = { λ s. P.of s.items.now };
@@ -169,5 +167,21 @@ impl<'a, P: InRow> Walk for InRows<'a, P> {
             self.marks = first.marks.as_slice();
             self.rows = rest;
         }
+    }
+}
+
+/// What is picked of all rows.
+pub fn in_rows<P: InRow>(rows: &[RowMarks], part: P) -> InRows<'_, P>
+    ensures { P.of result.row result.marks.now ++ flat_map (λ r. P.of r.node r.marks) result.rows.now ≡ flat_map (λ r. P.of r.node r.marks) rows.now }
+{
+    let row = NodeId(Atom {
+        rev: Rev { session: 0, num: 0 },
+        at: 0,
+    });
+    InRows {
+        row,
+        marks: &[],
+        rows,
+        part,
     }
 }

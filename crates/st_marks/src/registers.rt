@@ -1,0 +1,97 @@
+//! What changes and steps say of registers, as far as one rule judges both.
+ghost use Rattle.std.specs.Prelude.{◌≡◌, List, option_to_list};
+ghost use Rattle.st_ids.specs.declared.names.FieldId.{FieldId as Field};
+ghost use Rattle.st_ids.specs.declared.names.NodeId.{NodeId as Node};
+ghost use Rattle.st_ids.specs.Order.{same_node};
+ghost use Rattle.st_marks.specs.Intent.{same_option};
+ghost use Rattle.st_marks.specs.Rules.{found_at, found_over, put_at, put_over};
+ghost use Rattle.st_marks.specs.declared.marks.Found.{Found as FoundNode};
+
+use crate::marks::{Found, How, RegMark, RegStep};
+use st_ids::{NodeId, node_order};
+
+/// A listed register.
+pub trait Register {
+    ghost found: { Self → List FoundNode };
+
+    ghost put: { Self → List Node };
+
+    ghost field: { Self → Field };
+
+    /// Whom it finds there.
+    fn found(&self) -> Option<Found>
+        ensures { option_to_list result ≡ found self.now };
+
+    /// Whom it puts there.
+    fn put(&self) -> Option<NodeId>
+        ensures { option_to_list result ≡ put self.now };
+
+    /// The node of the register.
+    fn node(&self) -> NodeId
+        ensures { result ≡ (field self.now).node };
+}
+
+impl Register for RegMark {
+    ghost found = { found_at };
+
+    ghost put = { put_at };
+
+    ghost field = { λ r. r.field };
+
+    fn found(&self) -> Option<Found> {
+        let node = self.held?;
+        Some(Found {
+            node,
+            how: self.how,
+        })
+    }
+
+    fn put(&self) -> Option<NodeId> {
+        self.fill
+    }
+
+    fn node(&self) -> NodeId {
+        self.field.node
+    }
+}
+
+impl Register for RegStep {
+    ghost found = { found_over };
+
+    ghost put = { put_over };
+
+    ghost field = { λ r. r.field };
+
+    fn found(&self) -> Option<Found> {
+        let node = self.before?;
+        let how = if is_kept(self) { How::Stay } else { How::Leave };
+        Some(Found { node, how })
+    }
+
+    fn put(&self) -> Option<NodeId> {
+        if is_kept(self) { None } else { self.after }
+    }
+
+    fn node(&self) -> NodeId {
+        self.field.node
+    }
+}
+
+// Whether two nodes are one.
+#[tactic(auto, unfolding(st_ids::specs::Order::same_node))]
+fn is_same(a: NodeId, b: NodeId) -> bool
+    ensures { result ≡ same_node a b }
+{
+    node_order(&a, &b).is_eq()
+}
+
+// Whether nobody comes into a register and nobody goes.
+fn is_kept(register: &RegStep) -> bool
+    ensures { result ≡ same_option same_node register.now.before register.now.after }
+{
+    match (register.before, register.after) {
+        (None, None) => true,
+        (Some(before), Some(after)) => is_same(before, after),
+        _ => false,
+    }
+}
