@@ -1,5 +1,5 @@
 -- Things by their names, and whether no two have one name.
-use Rattle.std.proofs.Common.{◌≡◌, ◌≢◌, Bool, true, false, ◌&&◌, List, [], ◌∷◌, Option, Some, None, is_some, is_none, cond, refl, sym, ap, ◌∙◌, subst, IsTrue, ◌↔◌}
+use Rattle.std.proofs.Common.{◌≡◌, ◌≢◌, Bool, true, false, ◌&&◌, List, [], ◌∷◌, map, Option, Some, None, is_some, is_none, cond, refl, sym, ap, ◌∙◌, subst, IsTrue, ◌↔◌}
 use Rattle.std.specs.List.{AllByRecursion, find}
 use Rattle.std.specs.Option.{option_or}
 use Rattle.std.specs.Ordering.{is_eq, ordering_reverse}
@@ -9,8 +9,10 @@ use Rattle.st_ids.specs.declared.names.Atom.{Atom}
 use Rattle.st_ids.proofs.Orders.{atom_cmp_exact, atom_cmp_total}
 use Rattle.std.specs.declared.cmp.Ordering.{Ordering}
 use Rattle.std.specs.declared.cmp.Ordering.TheVariants.{Less, Equal, Greater}
+use Rattle.st_ids.specs.declared.names.NodeId.{NodeId}
+use Rattle.st_marks.specs.declared.marks.Found.{Found}
 use Rattle.st_marks.specs.Naming.{is_named}
-use Rattle.st_marks.proofs.Members.{all-has, has-all, none-has, first-has, true-false}
+use Rattle.st_marks.proofs.Members.{all-has, has-all, none-has, first-has, map-has, has-map, true-false}
 
 is_eq_equal : (o : Ordering) → is_eq o ≡ true → o ≡ Equal
 is_eq_equal Less e = cc
@@ -147,3 +149,37 @@ module _ {I : Type 0} (name : I → Atom) where
 
   pub finds-done : (m : Atom → Option I) (old whole : List I) → FindsAll m old whole → old ≡ [] → (a : Atom) → m a ≡ find (is_named name a) whole
   finds-done m old whole h e a = sym (none-left (m a)) ∙ ap (λ (xs : List I). option_or (m a) (find (is_named name a) xs)) (sym e) ∙ h a
+
+-- one of the name is found, exactly where one is there
+pub found-has : {I : Type 0} (name : I → Atom) (a : Atom) (xs : List I) → is_some (find (is_named name a) xs) ≡ true → (x : I) × Has xs x × (name x ≡ a)
+found-has {I} name a xs e = go (find (is_named name a) xs) refl e
+  where
+    go : (o : Option I) → find (is_named name a) xs ≡ o → is_some o ≡ true → (x : I) × Has xs x × (name x ≡ a)
+    go None f t = cc
+    go (Some x) f t = let r = first-has (is_named name a) xs x f in (x, r.0, named-name name a x r.1)
+
+pub has-found : {I : Type 0} (name : I → Atom) (a : Atom) (xs : List I) (x : I) → Has xs x → name x ≡ a → is_some (find (is_named name a) xs) ≡ true
+has-found {I} name a xs x h e = go (find (is_named name a) xs) refl
+  where
+    go : (o : Option I) → find (is_named name a) xs ≡ o → is_some o ≡ true
+    go None f = absurd (true-false (name-named name a x e) (none-has (is_named name a) xs x f h))
+    go (Some y) f = refl
+
+abbrev pub node_name : NodeId → Atom
+node_name n = n.0
+
+same-node : (m n : NodeId) → m.0 ≡ n.0 → m ≡ n
+same-node m n e = λ i. record { 0 = e i }
+
+-- a node is there exactly where it is found
+pub node-there : (xs : List NodeId) (n : NodeId) → IsTrue (is_some (find (is_named node_name n.0) xs)) ↔ Has xs n
+node-there xs n = (λ t. let r = found-has node_name n.0 xs t in subst (Has xs) (same-node r.0 n r.2) r.1, λ h. has-found node_name n.0 xs n h refl)
+
+abbrev pub found_name : Found → Atom
+found_name f = f.node.0
+
+pub found-there : (xs : List Found) (n : NodeId) → IsTrue (is_some (find (is_named found_name n.0) xs)) ↔ Has (map (λ (f : Found). f.node) xs) n
+found-there xs n = (
+  λ t. let r = found-has found_name n.0 xs t in subst (Has (map (λ (f : Found). f.node) xs)) (same-node r.0.node n r.2) (map-has (λ (f : Found). f.node) xs r.0 r.1),
+  λ h. let r = has-map (λ (f : Found). f.node) xs n h in has-found found_name n.0 xs r.0 r.1 (ap node_name r.2),
+)

@@ -1,6 +1,6 @@
 -- The rules of normal form: a closed list by which a change or a step is judged as it stands alone, without a document.
-use Rattle.std.specs.Prelude.{◌≡◌, ◌≢◌, ◌⊎◌, ◌^◌, ◌<◌, ◌++◌, Bool, true, false, List, [], ◌∷◌, map, length, Option, Some, None, IsSome, IsTrue, IfSome, MatchOption, if◌then◌else◌}
-use Rattle.std.specs.List.{AllByRecursion, list_any, flat_map}
+use Rattle.std.specs.Prelude.{◌≡◌, ◌≢◌, ◌⊎◌, ◌^◌, ◌<◌, ◌++◌, Bool, true, false, List, [], ◌∷◌, map, length, Option, Some, None, option_map, IsSome, IsTrue, IfSome, MatchOption, if◌then◌else◌}
+use Rattle.std.specs.List.{AllByRecursion, find, list_any, flat_map}
 use Rattle.st_ids.specs.Listing.{AreDistinct, Has, IsRising}
 use Rattle.st_ids.specs.Order.{same_node, node_cmp, field_cmp}
 use Rattle.st_ids.specs.declared.names.CellId.{CellId}
@@ -24,6 +24,7 @@ use Rattle.st_marks.specs.Agree.{LeadsUp}
 use Rattle.st_marks.specs.Document.{first_of, node_of, opening, root}
 use Rattle.st_marks.specs.Embedding.{tells}
 use Rattle.st_marks.specs.Intent.{same_option}
+use Rattle.st_marks.specs.Naming.{is_named}
 use Rattle.st_marks.specs.Row.{CellMark, Counted, Gap, Touch, Make, Fill, merge, spread}
 use Rattle.st_marks.specs.Shown.{Says, cells_after, cells_before, cells_in, cells_made, nodes_new, one_or_none, shown_after_change, shown_after_step, shown_before_change, shown_before_step}
 
@@ -136,9 +137,17 @@ IsFound L n = Has (map (λ (f : Found). f.node) L.found) n
 abbrev pub IsFoundAs : Listed → NodeId → How → Type 0
 IsFoundAs L n h = Has L.found (record { node = n; how = h })
 
+-- what becomes of a node, where it finds it first
+abbrev pub how_found : Listed → NodeId → Option How
+how_found L n = option_map (λ (f : Found). f.how) (find (is_named (λ (f : Found). f.node.0) n.0) L.found)
+
+-- the nodes of listed fields
+abbrev pub fields_of : Listed → List NodeId
+fields_of L = map (λ (r : RowMarks). r.node) L.rows ++ map (λ (f : FieldId). f.node) L.registers
+
 -- it lists the node's row or a register of the node
 abbrev pub HasListedField : Listed → NodeId → Type 0
-HasListedField L n = Has (map (λ (r : RowMarks). r.node) L.rows) n ⊎ Has (map (λ (f : FieldId). f.node) L.registers) n
+HasListedField L n = Has (fields_of L) n
 
 -- whether a node stays where it is found
 abbrev pub is_stay : How → Bool
@@ -205,7 +214,7 @@ LooseNodesArePut L loose = AllByRecursion (λ (l : Loose). l.how ≡ Leave → H
 
 -- the node of each listed field is the root, new or found
 abbrev pub FieldsAreFound : Listed → Type 0
-FieldsAreFound L = AllByRecursion (λ (n : NodeId). (n ≡ root) ⊎ Has L.new n ⊎ IsFound L n) (map (λ (r : RowMarks). r.node) L.rows ++ map (λ (f : FieldId). f.node) L.registers)
+FieldsAreFound L = AllByRecursion (λ (n : NodeId). (n ≡ root) ⊎ Has L.new n ⊎ IsFound L n) (fields_of L)
 
 -- no register has the empty key
 abbrev pub KeysAreThere : Listed → Type 0

@@ -3,11 +3,12 @@ ghost use Rattle.std.specs.Prelude.{◌≡◌, ◌∷◌, [], ◌↔◌, IsTrue,
 ghost use Rattle.std.specs.BTreeMap.{get};
 ghost use Rattle.std.specs.List.{find};
 ghost use Rattle.std.specs.Option.{option_or};
-ghost use Rattle.st_ids.specs.Listing.{AreDistinct};
+ghost use Rattle.st_ids.specs.Listing.{AreDistinct, Has};
 ghost use Rattle.st_ids.specs.Order.{atom_cmp};
 ghost use Rattle.st_ids.specs.declared.names.Atom.{Atom as Name};
 ghost use Rattle.st_marks.specs.Naming.{is_named};
 
+use crate::marks::Found;
 use crate::walk::Walk;
 use st_ids::{Atom, CellId, NodeId, atom_order};
 use std::alloc::{AllocError, Global};
@@ -27,6 +28,14 @@ impl Named for NodeId {
 
     fn name(&self) -> Atom {
         self.0
+    }
+}
+
+impl Named for Found {
+    ghost name = { λ f. f.node.0 };
+
+    fn name(&self) -> Atom {
+        self.node.0
     }
 }
 
@@ -94,10 +103,10 @@ fn map_of<I: Named, W: Walk<Item = I>>(
 /// Things by their names: in a map, or where there is no memory for one, as they are listed.
 #[derive(Drop)]
 pub struct Index<I: Named, W: Walk<Item = I>> {
-    walk: W,
+    pub walk: W,
     map: BTreeMap<Atom, I>,
     whole: bool,
-    once: bool,
+    pub once: bool,
     ghost found: { whole ≡ true → (a : Name) → get atom_cmp map a ≡ find (is_named I.name a) (W.left walk) },
 }
 
@@ -132,5 +141,14 @@ impl<I: Named, W: Walk<Item = I>> Index<I, W> {
         } else {
             find_in(self.walk, name)
         }
+    }
+}
+
+impl<W: Walk<Item = NodeId>> Index<NodeId, W> {
+    /// Whether a node is among those that are left.
+    pub fn has(&self, node: NodeId) -> bool
+        ensures { IsTrue result ↔ Has (W.left self.now.walk) node }
+    {
+        self.find(node.name()).is_some()
     }
 }

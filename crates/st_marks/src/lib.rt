@@ -9,6 +9,8 @@ mod intents;
 mod laws;
 mod laws_of_listings;
 mod lengths;
+mod listing;
+mod look;
 mod marks;
 mod picks;
 mod places;
