@@ -15,3 +15,4 @@ pub mod Step
 pub mod Normal
 pub mod Shown
 pub mod Agree
+pub mod Ring

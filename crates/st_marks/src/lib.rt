@@ -10,6 +10,7 @@ mod laws_of_listings;
 mod lengths;
 mod marks;
 mod places;
+mod rings;
 mod schemas;
 mod steps;
 #[cfg(test)]
