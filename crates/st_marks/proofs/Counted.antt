@@ -1,5 +1,7 @@
 -- Counted cells name nothing.
-use Rattle.std.proofs.Common.{◌≡◌, ℕ, zero, suc, List, [], ◌∷◌, refl}
+use Rattle.std.proofs.Common.{◌≡◌, Bool, ℕ, zero, suc, List, [], ◌∷◌, refl}
+use Rattle.std.specs.List.{list_any}
+use Rattle.st_marks.specs.Embedding.{tells}
 use Rattle.st_marks.specs.Row.{CellMark, counted}
 use Rattle.st_marks.specs.Rules.{found_in, incoming, hole_owners, fill_owners}
 use Rattle.st_marks.specs.Shown.{cells_in, cells_made}
@@ -27,3 +29,7 @@ cells_counted (suc k) ms = cells_counted k ms
 pub made_counted : (k : ℕ) (ms : List CellMark) → cells_made (counted k ms) ≡ cells_made ms
 made_counted zero ms = refl
 made_counted (suc k) ms = made_counted k ms
+
+pub told_counted : (k : ℕ) (ms : List CellMark) → list_any tells (counted k ms) ≡ list_any tells ms
+told_counted zero ms = refl
+told_counted (suc k) ms = told_counted k ms

@@ -2,7 +2,7 @@ pub mod Members
 pub mod Lookups
 pub mod RowEdits
 pub mod Climb
-pub mod Rings
+pub mod NoRing
 pub mod NewRows
 pub mod Full
 pub mod Turns
@@ -25,3 +25,6 @@ pub mod OneTree
 pub mod MarkLengths
 pub mod Naming
 pub mod Counted
+pub mod Merged
+pub mod AboveItself
+pub mod Meeting

@@ -18,3 +18,4 @@ pub mod Agree
 pub mod Rules
 pub mod Walk
 pub mod Naming
+pub mod Ring

@@ -15,6 +15,8 @@ mod marks;
 mod picks;
 mod places;
 mod registers;
+mod rings;
+mod row_rules;
 mod schemas;
 mod steps;
 #[cfg(test)]

@@ -8,7 +8,8 @@ ghost use Rattle.st_marks.specs.Rules.{found_at, found_over, put_at, put_over};
 ghost use Rattle.st_marks.specs.declared.marks.Found.{Found as FoundNode};
 
 use crate::marks::{Found, How, RegMark, RegStep};
-use st_ids::{NodeId, node_order};
+use crate::rings::is_same;
+use st_ids::NodeId;
 
 /// A listed register.
 pub trait Register {
@@ -75,14 +76,6 @@ impl Register for RegStep {
     fn node(&self) -> NodeId {
         self.field.node
     }
-}
-
-// Whether two nodes are one.
-#[tactic(auto, unfolding(st_ids::specs::Order::same_node))]
-fn is_same(a: NodeId, b: NodeId) -> bool
-    ensures { result ≡ same_node a b }
-{
-    node_order(&a, &b).is_eq()
 }
 
 // Whether nobody comes into a register and nobody goes.
