@@ -63,5 +63,12 @@ merge-merged (Touch c n h ∷ xs) = merge-merged xs
 merge-merged (Make c n f ∷ xs) = merge-merged xs
 merge-merged (Fill c n ∷ xs) = merge-merged xs
 
-pub merged-alone : (ms : List Mark) → IsTrue (is_merged false ms) ↔ (ms ≡ merge (spread ms))
-merged-alone ms = (merged-is ms, λ e. subst (λ xs. is_merged false xs ≡ true) (sym e) (merge-merged (spread ms)))
+pub merged_alone : (ms : List Mark) → IsTrue (is_merged false ms) ↔ (ms ≡ merge (spread ms))
+merged_alone ms = (merged-is ms, λ e. subst (λ xs. is_merged false xs ≡ true) (sym e) (merge-merged (spread ms)))
+
+pub behind_skip : (b : Bool) (k : ℕ) (ms : List Mark) → b ≡ true → is_merged b (Mark.Skip k ∷ ms) ≡ false
+behind_skip b zero ms e = refl
+behind_skip b (suc k) ms e = ap (λ b. not b && is_merged true ms) e
+
+pub of_nothing : (b : Bool) (k : ℕ) (ms : List Mark) → k ≡ 0 → is_merged b (Mark.Skip k ∷ ms) ≡ false
+of_nothing b k ms e = ap (λ k. is_merged b (Mark.Skip k ∷ ms)) e

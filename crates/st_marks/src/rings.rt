@@ -39,7 +39,7 @@ pub trait Hangs {
 
 /// Whether two nodes have one name.
 #[tactic(auto, unfolding(st_ids::specs::Order::same_node))]
-fn is_same(a: NodeId, b: NodeId) -> bool
+pub fn is_same(a: NodeId, b: NodeId) -> bool
     ensures { result ≡ same_node a b }
 {
     a.cmp(&b).is_eq()

@@ -1,6 +1,7 @@
 //! The rules of normal form on the marks of one row.
-ghost use Rattle.std.specs.Prelude.{◌≡◌, ◌<◌, ◌^◌, ◌↔◌, IsTrue, length};
+ghost use Rattle.std.specs.Prelude.{◌≡◌, ◌<◌, ◌^◌, ◌↔◌, ◌∷◌, ◌||◌, IsTrue, List, length};
 ghost use Rattle.std.specs.List.{list_any};
+ghost use Rattle.st_marks.specs.declared.marks.Mark.{Mark as Marked};
 ghost use Rattle.st_marks.specs.Embedding.{tells};
 ghost use Rattle.st_marks.specs.Row.{merge, spread};
 ghost use Rattle.st_marks.specs.Shown.{cells_after, cells_before};
@@ -29,13 +30,22 @@ fn is_merged(marks: &[Mark]) -> bool
 
 // Whether a mark makes or fills a cell or finds a node.
 #[tactic(auto, using(crate::proofs::Counted::told_counted))]
+fn is_telling(mark: Mark) -> bool
+    ensures { (rest : List Marked) → list_any tells (spread (mark ∷ rest)) ≡ (result || list_any tells (spread rest)) }
+{
+    match mark {
+        Mark::Skip(_) | Mark::Gap(_) => false,
+        Mark::Touch { .. } | Mark::Make { .. } | Mark::Fill { .. } => true,
+    }
+}
+
+// Whether some mark does.
 fn has_telling(marks: &[Mark]) -> bool
     ensures { result ≡ list_any tells (spread marks.now) }
 {
     for mark in marks {
-        match mark {
-            Mark::Skip(_) | Mark::Gap(_) => {}
-            _ => return true,
+        if is_telling(*mark) {
+            return true;
         }
     }
     false
