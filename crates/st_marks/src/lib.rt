@@ -17,6 +17,7 @@ mod places;
 mod registers;
 mod rings;
 mod row_rules;
+mod rules;
 mod schemas;
 mod steps;
 #[cfg(test)]
