@@ -16,6 +16,7 @@ mod picks;
 mod places;
 mod registers;
 mod rings;
+mod rising;
 mod row_rules;
 mod rules;
 mod schemas;

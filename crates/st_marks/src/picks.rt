@@ -181,7 +181,7 @@ impl<G: Register> Part<G> for OfRegisters {
     ghost none = { refl };
 
     fn pick(&self, from: &G) -> Option<NodeId> {
-        Some(from.node())
+        Some(from.field().node)
     }
 }
 

@@ -9,7 +9,7 @@ ghost use Rattle.st_marks.specs.declared.marks.Found.{Found as FoundNode};
 
 use crate::marks::{Found, How, RegMark, RegStep};
 use crate::rings::is_same;
-use st_ids::NodeId;
+use st_ids::{FieldId, NodeId};
 
 /// A listed register.
 pub trait Register {
@@ -27,9 +27,9 @@ pub trait Register {
     fn put(&self) -> Option<NodeId>
         ensures { option_to_list result ≡ put self.now };
 
-    /// The node of the register.
-    fn node(&self) -> NodeId
-        ensures { result ≡ (field self.now).node };
+    /// The register's name.
+    fn field(&self) -> &FieldId
+        ensures { result.now ≡ field self.now };
 }
 
 impl Register for RegMark {
@@ -51,8 +51,8 @@ impl Register for RegMark {
         self.fill
     }
 
-    fn node(&self) -> NodeId {
-        self.field.node
+    fn field(&self) -> &FieldId {
+        &self.field
     }
 }
 
@@ -73,8 +73,8 @@ impl Register for RegStep {
         if is_kept(self) { None } else { self.after }
     }
 
-    fn node(&self) -> NodeId {
-        self.field.node
+    fn field(&self) -> &FieldId {
+        &self.field
     }
 }
 
