@@ -2,6 +2,7 @@
 //! changes and steps, and laws about the definitions in specs/.
 #![tactic(auto)]
 
+mod change_rules;
 mod changes;
 mod copies;
 mod index;
@@ -20,6 +21,7 @@ mod rising;
 mod row_rules;
 mod rules;
 mod schemas;
+mod step_rules;
 mod steps;
 #[cfg(test)]
 mod tests;

@@ -1,5 +1,5 @@
 //! What changes and steps say of registers, as far as one rule judges both.
-ghost use Rattle.std.specs.Prelude.{◌≡◌, List, option_to_list};
+ghost use Rattle.std.specs.Prelude.{◌≡◌, ◌≢◌, ◌↔◌, [], IsTrue, List, option_to_list};
 ghost use Rattle.st_ids.specs.declared.names.FieldId.{FieldId as Field};
 ghost use Rattle.st_ids.specs.declared.names.NodeId.{NodeId as Node};
 ghost use Rattle.st_ids.specs.Order.{same_node};
@@ -26,6 +26,13 @@ pub trait Register {
     /// Whom it puts there.
     fn put(&self) -> Option<NodeId>
         ensures { option_to_list result ≡ put self.now };
+
+    /// Whether its key isn't empty.
+    fn has_key(&self) -> bool
+        ensures { IsTrue result ↔ ((field self.now).key.0 ≢ []) }
+    {
+        !self.field().key.0.is_empty()
+    }
 
     /// The register's name.
     fn field(&self) -> &FieldId

@@ -14,7 +14,7 @@ use crate::look::Look;
 use crate::marks::{How, Loose, RowMarks};
 use crate::rings::is_same;
 use crate::walk::Rule;
-use st_ids::{Atom, NodeId, Rev};
+use st_ids::{Atom, NodeId, Rev, rev_order};
 
 /// The root of the tree.
 pub const ROOT: NodeId = NodeId(Atom {
@@ -137,4 +137,12 @@ impl<'a, L: Lists> Rule for LeavesFromNowhere<'a, L> {
             How::Stay | How::Here => true,
         }
     }
+}
+
+/// Whether two revisions are one.
+#[tactic(auto, using(crate::proofs::Tells::rev_same))]
+pub fn is_rev(a: Rev, b: Rev) -> bool
+    ensures { IsTrue result ↔ (a ≡ b) }
+{
+    rev_order(&a, &b).is_eq()
 }
