@@ -1,5 +1,5 @@
 -- Things by their names, and whether no two have one name.
-use Rattle.std.proofs.Common.{◌≡◌, ◌≢◌, Bool, true, false, ◌&&◌, List, [], ◌∷◌, map, Option, Some, None, is_some, is_none, cond, refl, sym, ap, ◌∙◌, subst, IsTrue, ◌↔◌}
+use Rattle.std.proofs.Common.{◌≡◌, ◌≢◌, Bool, true, false, ◌&&◌, List, [], ◌∷◌, map, Option, Some, None, option_map, is_some, is_none, cond, refl, sym, ap, ◌∙◌, subst, IsTrue, ◌↔◌}
 use Rattle.std.specs.List.{AllByRecursion, find}
 use Rattle.std.specs.Option.{option_or}
 use Rattle.std.specs.Ordering.{is_eq, ordering_reverse}
@@ -10,9 +10,12 @@ use Rattle.st_ids.proofs.Orders.{atom_cmp_exact, atom_cmp_total}
 use Rattle.std.specs.declared.cmp.Ordering.{Ordering}
 use Rattle.std.specs.declared.cmp.Ordering.TheVariants.{Less, Equal, Greater}
 use Rattle.st_ids.specs.declared.names.NodeId.{NodeId}
+use Rattle.st_ids.specs.declared.names.CellId.{CellId}
 use Rattle.st_marks.specs.declared.marks.Found.{Found}
+use Rattle.st_marks.specs.declared.marks.How.{How}
+use Rattle.st_marks.specs.Rules.{Listed, NodesAreFoundOnce, IsFoundAs, how_found}
 use Rattle.st_marks.specs.Naming.{is_named}
-use Rattle.st_marks.proofs.Members.{all-has, has-all, none-has, first-has, map-has, has-map, true-false}
+use Rattle.st_marks.proofs.Members.{all-has, has-all, none-has, first-has, first-distinct, map-has, has-map, true-false}
 
 is_eq_equal : (o : Ordering) → is_eq o ≡ true → o ≡ Equal
 is_eq_equal Less e = cc
@@ -183,3 +186,36 @@ found-there xs n = (
   λ t. let r = found-has found_name n.0 xs t in subst (Has (map (λ (f : Found). f.node) xs)) (same-node r.0.node n r.2) (map-has (λ (f : Found). f.node) xs r.0 r.1),
   λ h. let r = has-map (λ (f : Found). f.node) xs n h in has-found found_name n.0 xs r.0 r.1 (ap node_name r.2),
 )
+
+-- no two have one name, exactly where no two have what has that name
+distinct_by : {I K : Type 0} (name : I → Atom) (key : I → K) → ((x y : I) → name x ≡ name y → key x ≡ key y) → ((x y : I) → key x ≡ key y → name x ≡ name y) → (xs : List I) → AreDistinct name xs ↔ AreDistinct key xs
+distinct_by name key to from [] = (λ h. tt, λ h. tt)
+distinct_by name key to from (x ∷ xs) =
+    let rest = distinct_by name key to from xs in (
+      λ d. (has-all (λ y. key y ≢ key x) xs (λ y h e. all-has (λ y. name y ≢ name x) xs y d.0 h (from y x e)), rest.0 d.1),
+      λ d. (has-all (λ y. name y ≢ name x) xs (λ y h e. all-has (λ y. key y ≢ key x) xs y d.0 h (to y x e)), rest.1 d.1),
+    )
+
+pub found_once : (xs : List Found) → AreDistinct found_name xs ↔ AreDistinct (λ (f : Found). f.node) xs
+found_once xs = distinct_by found_name (λ (f : Found). f.node) (λ x y e. same-node x.node y.node e) (λ x y e. ap node_name e) xs
+
+pub nodes_once : (xs : List NodeId) → AreDistinct node_name xs ↔ AreDistinct (λ (n : NodeId). n) xs
+nodes_once xs = distinct_by node_name (λ (n : NodeId). n) (λ x y e. same-node x y e) (λ x y e. ap node_name e) xs
+
+pub cells_once : (xs : List CellId) → AreDistinct (λ (c : CellId). c.0) xs ↔ AreDistinct (λ (c : CellId). c) xs
+cells_once xs = distinct_by (λ (c : CellId). c.0) (λ (c : CellId). c) (λ x y e i. record { 0 = e i }) (λ x y e. ap (λ (c : CellId). c.0) e) xs
+
+-- what becomes of a node that is found only once
+pub how_found-is : (L : Listed) → NodesAreFoundOnce L → (n : NodeId) (h : How) → (how_found L n ≡ Some h) ↔ IsFoundAs L n h
+how_found-is L d n h = (
+  go (find (is_named found_name n.0) L.found) refl,
+  λ i. ap (option_map (λ (f : Found). f.how)) (first-distinct (λ (f : Found). f.node) L.found (is_named found_name n.0) (record { node = n; how = h }) d i
+      (name-named found_name n.0 (record { node = n; how = h }) refl) (λ y e. same-node y.node n (named-name found_name n.0 y e))),
+)
+  where
+    go : (o : Option Found) → find (is_named found_name n.0) L.found ≡ o → option_map (λ (f : Found). f.how) o ≡ Some h → IsFoundAs L n h
+    go None e f = cc
+    go (Some x) e f = let r = first-has (is_named found_name n.0) L.found x e in
+        let q : x.how ≡ h = cc in
+        let w = same-node x.node n (named-name found_name n.0 x r.1) in
+        subst (Has L.found) (λ i. record { node = w i; how = q i }) r.0

@@ -26,10 +26,13 @@ pub all-along : {A : Type 0} (P Q : A → Type 0) → ((x : A) → P x → Q x) 
 all-along P Q f [] p = tt
 all-along P Q f (x ∷ xs) p = (f x p.0, all-along P Q f xs p.1)
 
+pub all-iff : {A : Type 0} (P Q : A → Type 0) → ((x : A) → P x ↔ Q x) → (xs : List A) → AllByRecursion P xs ↔ AllByRecursion Q xs
+all-iff P Q h xs = (all-along P Q (λ x. (h x).0) xs, all-along Q P (λ x. (h x).1) xs)
+
 -- of what things are mapped to
-pub all-map : {A B : Type 0} (f : A → B) (P : B → Type 0) (xs : List A) → AllByRecursion (λ x. P (f x)) xs ↔ AllByRecursion P (map f xs)
-all-map f P [] = (λ h. tt, λ h. tt)
-all-map f P (x ∷ xs) = let r = all-map f P xs in (λ h. (h.0, r.0 h.1), λ h. (h.0, r.1 h.1))
+pub all_map : {A B : Type 0} (f : A → B) (P : B → Type 0) (xs : List A) → AllByRecursion (λ x. P (f x)) xs ↔ AllByRecursion P (map f xs)
+all_map f P [] = (λ h. tt, λ h. tt)
+all_map f P (x ∷ xs) = let r = all_map f P xs in (λ h. (h.0, r.0 h.1), λ h. (h.0, r.1 h.1))
 
 pub node_same : (a b : NodeId) → IsTrue (same_node a b) ↔ (a ≡ b)
 node_same a b = (same_node-true a b, λ e. subst (λ c. same_node a c ≡ true) e (same_node-itself a))
@@ -58,9 +61,9 @@ no_items [] e = refl
 no_items (x ∷ xs) e = cc
 
 -- of those that stay
-pub all-staying : (P : NodeId → Type 0) (fs : List Found) → AllByRecursion (λ f. IsTrue (is_stay f.how) → P f.node) fs ↔ AllByRecursion P (staying fs)
-all-staying P [] = (λ h. tt, λ h. tt)
-all-staying P (f ∷ fs) = go (is_stay f.how) (all-staying P fs)
+pub all_staying : (P : NodeId → Type 0) (fs : List Found) → AllByRecursion (λ f. IsTrue (is_stay f.how) → P f.node) fs ↔ AllByRecursion P (staying fs)
+all_staying P [] = (λ h. tt, λ h. tt)
+all_staying P (f ∷ fs) = go (is_stay f.how) (all_staying P fs)
   where
     go : (b : Bool) → (AllByRecursion (λ f. IsTrue (is_stay f.how) → P f.node) fs ↔ AllByRecursion P (staying fs))
         → ((IsTrue b → P f.node) × AllByRecursion (λ f. IsTrue (is_stay f.how) → P f.node) fs) ↔ AllByRecursion P (if b then f.node ∷ staying fs else staying fs)

@@ -17,6 +17,7 @@ use crate::walk::{Rule, Walk};
 use st_ids::{CellId, NodeId, Rev};
 
 /// A new node has a revision.
+#[derive(Drop)]
 pub struct NewHasRevision(pub Rev);
 
 impl Rule for NewHasRevision {
@@ -30,6 +31,7 @@ impl Rule for NewHasRevision {
 }
 
 /// A cell has a revision.
+#[derive(Drop)]
 pub struct CellHasRevision(pub Rev);
 
 impl Rule for CellHasRevision {
@@ -43,6 +45,7 @@ impl Rule for CellHasRevision {
 }
 
 /// A register that is filled, or whose occupant is set there, is cleared.
+#[derive(Drop)]
 pub struct FilledIsCleared;
 
 impl Rule for FilledIsCleared {
@@ -81,6 +84,7 @@ fn keeps_occupant(register: &RegMark) -> bool
 }
 
 /// What a mark says of its register's occupant and of who comes in goes together.
+#[derive(Drop)]
 pub struct MarkFits;
 
 impl Rule for MarkFits {
@@ -94,6 +98,7 @@ impl Rule for MarkFits {
 }
 
 /// A register is listed because it is cleared, or for its occupant.
+#[derive(Drop)]
 pub struct MarkTells;
 
 impl Rule for MarkTells {
@@ -107,6 +112,7 @@ impl Rule for MarkTells {
 }
 
 /// A register of a new node holds nothing before.
+#[derive(Drop)]
 pub struct NewRegister<'a, L: Lists>(pub &'a Look<L>);
 
 impl<'a, L: Lists> Rule for NewRegister<'a, L> {
@@ -120,6 +126,7 @@ impl<'a, L: Lists> Rule for NewRegister<'a, L> {
 }
 
 /// A node is the root or found.
+#[derive(Drop)]
 pub struct IsThere<'a, L: Lists>(pub &'a Look<L>);
 
 impl<'a, L: Lists> Rule for IsThere<'a, L> {
@@ -133,6 +140,7 @@ impl<'a, L: Lists> Rule for IsThere<'a, L> {
 }
 
 /// A node that stays is needed, or a field of it is listed.
+#[derive(Drop)]
 pub struct IsMentioned<'a, L: Lists, W: Walk<Item = NodeId>> {
     pub look: &'a Look<L>,
     pub need: &'a Index<NodeId, W>,

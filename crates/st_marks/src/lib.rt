@@ -4,6 +4,7 @@
 
 mod change_rules;
 mod changes;
+mod common;
 mod copies;
 mod index;
 mod intents;

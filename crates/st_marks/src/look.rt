@@ -13,6 +13,8 @@ use std::alloc::Global;
 #[derive(Drop)]
 pub struct Look<L: Lists> {
     pub lists: L,
+    pub found_once: bool,
+    pub put_once: bool,
     new: Index<NodeId, L::Fresh>,
     found: Index<Found, L::Finds>,
     put: Index<NodeId, L::Puts>,
@@ -26,13 +28,19 @@ pub struct Look<L: Lists> {
 impl<L: Lists> Look<L> {
     /// All that is listed.
     pub fn of(alloc: Global, lists: L) -> Self
-        ensures { result.lists ≡ lists }
+        ensures lists { result.lists ≡ lists }
+        ensures found_once { IsTrue result.found_once ↔ NodesAreFoundOnce (L.listed lists) }
+        ensures put_once { IsTrue result.put_once ↔ NodesArePutOnce (L.listed lists) }
     {
+        let found = Index::of(alloc, lists.finds());
+        let put = Index::of(alloc, lists.puts());
         Look {
             lists,
+            found_once: found.once,
+            put_once: put.once,
             new: Index::of(alloc, lists.fresh()),
-            found: Index::of(alloc, lists.finds()),
-            put: Index::of(alloc, lists.puts()),
+            found,
+            put,
             fields: Index::of(alloc, lists.fields()),
         }
     }

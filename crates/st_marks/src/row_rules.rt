@@ -52,6 +52,7 @@ fn has_telling(marks: &[Mark]) -> bool
 }
 
 /// The marks of a row are in normal form.
+#[derive(Drop)]
 pub struct Merged;
 
 impl Rule for Merged {
@@ -65,6 +66,7 @@ impl Rule for Merged {
 }
 
 /// A row is listed for some of its cells.
+#[derive(Drop)]
 pub struct Telling;
 
 impl Rule for Telling {
@@ -78,6 +80,7 @@ impl Rule for Telling {
 }
 
 /// A row lists few enough cells.
+#[derive(Drop)]
 pub struct Short;
 
 impl Rule for Short {

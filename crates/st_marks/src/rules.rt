@@ -45,6 +45,7 @@ fn is_set<L: Lists>(look: &Look<L>, node: NodeId) -> bool
 }
 
 /// A node is new, or leaves the place where it is found.
+#[derive(Drop)]
 pub struct ComesIn<'a, L: Lists>(pub &'a Look<L>);
 
 impl<'a, L: Lists> Rule for ComesIn<'a, L> {
@@ -58,6 +59,7 @@ impl<'a, L: Lists> Rule for ComesIn<'a, L> {
 }
 
 /// A node is new, is set where it is found, or leaves there.
+#[derive(Drop)]
 pub struct Moves<'a, L: Lists>(pub &'a Look<L>);
 
 impl<'a, L: Lists> Rule for Moves<'a, L> {
@@ -71,6 +73,7 @@ impl<'a, L: Lists> Rule for Moves<'a, L> {
 }
 
 /// A node isn't the root and isn't found.
+#[derive(Drop)]
 pub struct IsUnknown<'a, L: Lists>(pub &'a Look<L>);
 
 impl<'a, L: Lists> Rule for IsUnknown<'a, L> {
@@ -84,6 +87,7 @@ impl<'a, L: Lists> Rule for IsUnknown<'a, L> {
 }
 
 /// A node isn't new.
+#[derive(Drop)]
 pub struct IsOld<'a, L: Lists>(pub &'a Look<L>);
 
 impl<'a, L: Lists> Rule for IsOld<'a, L> {
@@ -97,6 +101,7 @@ impl<'a, L: Lists> Rule for IsOld<'a, L> {
 }
 
 /// A node is the root, new or found.
+#[derive(Drop)]
 pub struct IsKnown<'a, L: Lists>(pub &'a Look<L>);
 
 impl<'a, L: Lists> Rule for IsKnown<'a, L> {
@@ -110,6 +115,7 @@ impl<'a, L: Lists> Rule for IsKnown<'a, L> {
 }
 
 /// The row of a new node has no cells before.
+#[derive(Drop)]
 pub struct NewRow<'a, L: Lists>(pub &'a Look<L>);
 
 #[tactic(auto, using(crate::proofs::Tells::no_cells))]
@@ -124,6 +130,7 @@ impl<'a, L: Lists> Rule for NewRow<'a, L> {
 }
 
 /// A node that leaves from nowhere is put.
+#[derive(Drop)]
 pub struct LeavesFromNowhere<'a, L: Lists>(pub &'a Look<L>);
 
 impl<'a, L: Lists> Rule for LeavesFromNowhere<'a, L> {

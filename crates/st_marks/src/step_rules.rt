@@ -10,6 +10,7 @@ use crate::marks::{Found, How, RegStep};
 use crate::walk::Rule;
 
 /// A node isn't set where it is.
+#[derive(Drop)]
 pub struct IsNotSet;
 
 impl Rule for IsNotSet {
@@ -23,6 +24,7 @@ impl Rule for IsNotSet {
 }
 
 /// A register is listed for who is there before or after.
+#[derive(Drop)]
 pub struct StepTells;
 
 impl Rule for StepTells {
@@ -36,6 +38,7 @@ impl Rule for StepTells {
 }
 
 /// A register of a new node holds nothing before.
+#[derive(Drop)]
 pub struct EmptyBefore<'a, L: Lists>(pub &'a Look<L>);
 
 impl<'a, L: Lists> Rule for EmptyBefore<'a, L> {
@@ -49,6 +52,7 @@ impl<'a, L: Lists> Rule for EmptyBefore<'a, L> {
 }
 
 /// A node that stays has a listed field.
+#[derive(Drop)]
 pub struct LeadsOn<'a, L: Lists>(pub &'a Look<L>);
 
 impl<'a, L: Lists> Rule for LeadsOn<'a, L> {
