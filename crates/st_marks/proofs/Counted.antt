@@ -2,6 +2,7 @@
 use Rattle.std.proofs.Common.{◌≡◌, Bool, ℕ, zero, suc, List, [], ◌∷◌, refl}
 use Rattle.std.specs.List.{list_any}
 use Rattle.st_marks.specs.Embedding.{tells}
+use Rattle.st_marks.specs.Links.{stands_before, stands_after}
 use Rattle.st_marks.specs.Row.{CellMark, counted}
 use Rattle.st_marks.specs.Rules.{found_in, incoming, hole_owners, fill_owners}
 use Rattle.st_marks.specs.Shown.{cells_in, cells_made}
@@ -33,3 +34,11 @@ made_counted (suc k) ms = made_counted k ms
 pub told_counted : (k : ℕ) (ms : List CellMark) → list_any tells (counted k ms) ≡ list_any tells ms
 told_counted zero ms = refl
 told_counted (suc k) ms = told_counted k ms
+
+pub before_counted : (k : ℕ) (ms : List CellMark) → stands_before (counted k ms) ≡ stands_before ms
+before_counted zero ms = refl
+before_counted (suc k) ms = before_counted k ms
+
+pub after_counted : (k : ℕ) (ms : List CellMark) → stands_after (counted k ms) ≡ stands_after ms
+after_counted zero ms = refl
+after_counted (suc k) ms = after_counted k ms

@@ -25,6 +25,7 @@ pub mod OneTree
 pub mod MarkLengths
 pub mod Naming
 pub mod Counted
+pub mod Linked
 pub mod Obeyed
 pub mod RisingLists
 pub mod Tells

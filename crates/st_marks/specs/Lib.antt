@@ -19,3 +19,4 @@ pub mod Rules
 pub mod Walk
 pub mod Naming
 pub mod Ring
+pub mod Links

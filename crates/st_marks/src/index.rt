@@ -8,7 +8,7 @@ ghost use Rattle.st_ids.specs.Order.{atom_cmp};
 ghost use Rattle.st_ids.specs.declared.names.Atom.{Atom as Name};
 ghost use Rattle.st_marks.specs.Naming.{is_named};
 
-use crate::marks::Found;
+use crate::marks::{Found, Link};
 use crate::walk::Walk;
 use st_ids::{Atom, CellId, NodeId, atom_order};
 use std::alloc::{AllocError, Global};
@@ -33,6 +33,14 @@ impl Named for NodeId {
 
 impl Named for Found {
     ghost name = { λ f. f.node.0 };
+
+    fn name(&self) -> Atom {
+        self.node.0
+    }
+}
+
+impl Named for Link {
+    ghost name = { λ l. l.node.0 };
 
     fn name(&self) -> Atom {
         self.node.0

@@ -11,6 +11,7 @@ mod intents;
 mod laws;
 mod laws_of_listings;
 mod lengths;
+mod links;
 mod listing;
 mod look;
 mod marks;

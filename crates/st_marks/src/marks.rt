@@ -78,3 +78,10 @@ pub struct Found {
     pub node: NodeId,
     pub how: How,
 }
+
+/// A node that stands in the row or a register of another.
+#[derive(Clone, Copy, Debug, PartialEq, Eq)]
+pub struct Link {
+    pub node: NodeId,
+    pub up: NodeId,
+}

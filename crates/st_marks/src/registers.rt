@@ -1,10 +1,11 @@
 //! What changes and steps say of registers, as far as one rule judges both.
-ghost use Rattle.std.specs.Prelude.{◌≡◌, ◌≢◌, ◌↔◌, [], IsTrue, List, option_to_list};
+ghost use Rattle.std.specs.Prelude.{◌≡◌, ◌≢◌, ◌↔◌, [], IsTrue, List, Option, option_to_list};
 ghost use Rattle.st_ids.specs.declared.names.FieldId.{FieldId as Field};
 ghost use Rattle.st_ids.specs.declared.names.NodeId.{NodeId as Node};
 ghost use Rattle.st_ids.specs.Order.{same_node};
 ghost use Rattle.st_marks.specs.Intent.{same_option};
 ghost use Rattle.st_marks.specs.Rules.{found_at, found_over, put_at, put_over};
+ghost use Rattle.st_marks.specs.Shown.{held_after};
 ghost use Rattle.st_marks.specs.declared.marks.Found.{Found as FoundNode};
 
 use crate::marks::{Found, How, RegMark, RegStep};
@@ -19,6 +20,10 @@ pub trait Register {
 
     ghost field: { Self → Field };
 
+    ghost before: { Self → Option Node };
+
+    ghost after: { Self → Option Node };
+
     /// Whom it finds there.
     fn found(&self) -> Option<Found>
         ensures { option_to_list result ≡ found self.now };
@@ -26,6 +31,14 @@ pub trait Register {
     /// Whom it puts there.
     fn put(&self) -> Option<NodeId>
         ensures { option_to_list result ≡ put self.now };
+
+    /// Who is there before.
+    fn before(&self) -> Option<NodeId>
+        ensures { result ≡ before self.now };
+
+    /// Who is there after.
+    fn after(&self) -> Option<NodeId>
+        ensures { result ≡ after self.now };
 
     /// Whether its key isn't empty.
     fn has_key(&self) -> bool
@@ -45,6 +58,23 @@ impl Register for RegMark {
     ghost put = { put_at };
 
     ghost field = { λ r. r.field };
+
+    ghost before = { λ r. r.held };
+
+    ghost after = { held_after };
+
+    fn before(&self) -> Option<NodeId> {
+        self.held
+    }
+
+    fn after(&self) -> Option<NodeId> {
+        match (self.fill, self.how) {
+            (Some(fill), _) => Some(fill),
+            (None, How::Leave) => None,
+            (None, How::Stay) => if self.clear { None } else { self.held },
+            (None, How::Here) => self.held,
+        }
+    }
 
     fn found(&self) -> Option<Found> {
         let node = self.held?;
@@ -69,6 +99,18 @@ impl Register for RegStep {
     ghost put = { put_over };
 
     ghost field = { λ r. r.field };
+
+    ghost before = { λ r. r.before };
+
+    ghost after = { λ r. r.after };
+
+    fn before(&self) -> Option<NodeId> {
+        self.before
+    }
+
+    fn after(&self) -> Option<NodeId> {
+        self.after
+    }
 
     fn found(&self) -> Option<Found> {
         let node = self.before?;
