@@ -25,6 +25,8 @@ pub mod OneTree
 pub mod MarkLengths
 pub mod Naming
 pub mod Counted
+pub mod Counts
+pub mod OnePlace
 pub mod Linked
 pub mod Obeyed
 pub mod RisingLists
