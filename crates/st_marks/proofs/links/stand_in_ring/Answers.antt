@@ -1,4 +1,3 @@
-use Rattle.st_marks.proofs.OnePlace.{once_after}
 use Rattle.st_marks.proofs.Linked.{up_listed}
 use Rattle.st_marks.proofs.links.stand_in_ring.Goals as goal
 
