@@ -25,6 +25,7 @@ pub mod OneTree
 pub mod MarkLengths
 pub mod Naming
 pub mod Counted
+pub mod NoRings
 pub mod ShownPlaces
 pub mod Counts
 pub mod OnePlace

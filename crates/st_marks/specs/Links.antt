@@ -1,10 +1,11 @@
 -- Which nodes stand in the rows and registers of which, before and after.
-use Rattle.std.specs.Prelude.{◌++◌, List, [], ◌∷◌, map, Option, option_map, if◌then◌else◌}
+use Rattle.std.specs.Prelude.{◌&&◌, ◌++◌, Bool, List, [], ◌∷◌, map, Option, option_map, if◌then◌else◌}
 use Rattle.std.specs.List.{find, flat_map}
 use Rattle.st_ids.specs.declared.names.FieldId.{FieldId}
 use Rattle.st_ids.specs.declared.names.NodeId.{NodeId}
 use Rattle.st_marks.specs.declared.marks.Link.{Link}
 use Rattle.st_marks.specs.declared.marks.RowMarks.{RowMarks}
+use Rattle.st_marks.specs.Embedding.{is_among}
 use Rattle.st_marks.specs.Naming.{is_named}
 use Rattle.st_marks.specs.Row.{CellMark, Counted, Gap, Touch, Make, Fill, spread}
 use Rattle.st_marks.specs.Shown.{is_leave, one_or_none}
@@ -42,3 +43,7 @@ links_at field held regs = flat_map (λ r. map (link (field r).node) (one_or_non
 -- the node above, where a link leads to it first
 abbrev pub up_by : List Link → NodeId → Option NodeId
 up_by links n = option_map (λ (l : Link). l.up) (find (is_named (λ (l : Link). l.node.0) n.0) links)
+
+-- a new node in the row or a register of a new node
+abbrev pub are_new : List NodeId → Link → Bool
+are_new new l = is_among new l.node && is_among new l.up
