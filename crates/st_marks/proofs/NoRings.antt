@@ -161,9 +161,9 @@ new_in_new C r d u p q =
     same : (n m : NodeId) → Has (filter (are_new new) links) (link m n) ↔ ((s : Spot) × IsNewInNew C n s × (node_of s ≡ Some m))
     same n m = (
       λ h. (let f = filter-has (are_new new) links (link m n) h in
-        let b = both-parts (is_among new n) (is_among new m) f.1 in
-        let s = (shown n m).0 f.0 in
-        (s.0, ((among_has new n).0 b.0, subst (λ o. IfSome o (Has new)) (sym s.2) ((among_has new m).0 b.1), s.1), s.2)),
+          let b = both-parts (is_among new n) (is_among new m) f.1 in
+          let s = (shown n m).0 f.0 in
+          (s.0, ((among_has new n).0 b.0, subst (λ o. IfSome o (Has new)) (sym s.2) ((among_has new m).0 b.1), s.1), s.2)),
       λ (s, w, e). has-filter (are_new new) links (link m n) ((shown n m).1 (s, w.2, e))
-        (both-true (is_among new n) (is_among new m) ((among_has new n).1 w.0) ((among_has new m).1 (subst (λ o. IfSome o (Has new)) e w.1))),
+          (both-true (is_among new n) (is_among new m) ((among_has new n).1 w.0) ((among_has new m).1 (subst (λ o. IfSome o (Has new)) e w.1))),
     )

@@ -1,45 +1,44 @@
 //! The rules of normal form that changes and steps have in common.
-ghost use Rattle.std.specs.Prelude.{◌≢◌, ◌↔◌, [], IsTrue};
-ghost use Rattle.st_marks.specs.Rules.{CellsAreOnce, FieldsAreFound, FilledCellsAreOld, KeysAreThere, LooseNodesArePut, MarksAreMerged, NewNodesAreNotFound, NewRowsAreMade, NodesAreFoundOnce, NodesArePutOnce, ObeysCommonRules, PutNodesLeave, RootStays, RowsAreShort, RowsTell};
+ghost use Rattle.std.specs.Prelude.{◌↔◌, IsTrue};
+ghost use Rattle.st_marks.specs.Rules.{CellsAreOnce, FieldsAreFound, FilledCellsAreOld, LooseNodesArePut, MarksAreMerged, NewNodesAreNotFound, NewRowsAreMade, NodesAreFoundOnce, NodesArePutOnce, ObeysCommonRules, PutNodesLeave, RootStays, RowsAreShort, RowsTell};
 
 use crate::index::Index;
-use crate::listing::{Listing, Lists};
+use crate::listing::Lists;
 use crate::look::Look;
+use crate::marks::Loose;
 use crate::picks::{CellsIn, FillOwners};
-use crate::registers::Register;
 use crate::row_rules::{Merged, Short, Telling};
 use crate::rules::{ComesIn, IsKnown, IsOld, IsUnknown, LeavesFromNowhere, NewRow, ROOT};
-use crate::walk::{Rule, each, each_of, in_rows};
+use crate::walk::{each, each_of, in_rows};
 use std::alloc::Global;
-use std::marker::PhantomData;
 
 // Whether the rules on the marks of single rows hold.
-fn marks_obey<G: Register + 'static>(look: &Look<Listing<'_, G>>) -> bool
-    ensures { let L = ⟦<Listing<'static, G> as Lists>⟧.listed look.now.lists in IsTrue result ↔ (MarksAreMerged L × RowsTell L × RowsAreShort L) }
+fn marks_obey<L: Lists>(look: &Look<L>) -> bool
+    ensures { let A = L.listed look.now.lists in IsTrue result ↔ (MarksAreMerged A × RowsTell A × RowsAreShort A) }
 {
-    let rows = look.lists.rows;
+    let rows = look.lists.rows();
     each_of(rows, &Merged) && each_of(rows, &Telling) && each_of(rows, &Short)
 }
 
 // Whether no cell is listed twice.
-fn cells_once<G: Register + 'static>(alloc: Global, look: &Look<Listing<'_, G>>) -> bool
-    ensures { IsTrue result ↔ CellsAreOnce (⟦<Listing<'static, G> as Lists>⟧.listed look.now.lists) }
+fn cells_once<L: Lists>(alloc: Global, look: &Look<L>) -> bool
+    ensures { IsTrue result ↔ CellsAreOnce (L.listed look.now.lists) }
 {
-    Index::of(alloc, in_rows(look.lists.rows, CellsIn)).once
+    Index::of(alloc, in_rows(look.lists.rows(), CellsIn)).once
 }
 
 // Whether the rows of new nodes have only cells that are made.
-fn new_rows_are_made<G: Register + 'static>(look: &Look<Listing<'_, G>>) -> bool
-    ensures { IsTrue result ↔ NewRowsAreMade (⟦<Listing<'static, G> as Lists>⟧.listed look.now.lists) }
+fn new_rows_are_made<L: Lists>(look: &Look<L>) -> bool
+    ensures { IsTrue result ↔ NewRowsAreMade (L.listed look.now.lists) }
 {
-    each_of(look.lists.rows, &NewRow(look))
+    each_of(look.lists.rows(), &NewRow(look))
 }
 
 // Whether filled cells and their owners were there before.
-fn filled_are_old<G: Register + 'static>(look: &Look<Listing<'_, G>>) -> bool
-    ensures { IsTrue result ↔ FilledCellsAreOld (⟦<Listing<'static, G> as Lists>⟧.listed look.now.lists) }
+fn filled_are_old<L: Lists>(look: &Look<L>) -> bool
+    ensures { IsTrue result ↔ FilledCellsAreOld (L.listed look.now.lists) }
 {
-    each(in_rows(look.lists.rows, FillOwners), &IsOld(look))
+    each(in_rows(look.lists.rows(), FillOwners), &IsOld(look))
 }
 
 // Whether nodes that are put are new or leave the place where they are found.
@@ -70,39 +69,16 @@ fn fields_are_found<L: Lists>(look: &Look<L>) -> bool
     each(look.lists.fields(), &IsKnown(look))
 }
 
-/// The key of a register isn't empty.
-#[derive(Drop)]
-struct HasKey<G> {
-    of: PhantomData<G>,
-}
-
-impl<G: Register> Rule for HasKey<G> {
-    type Item = G;
-
-    ghost Holds = { λ s r. (G.field r).key.0 ≢ [] };
-
-    fn holds(&self, register: &G) -> bool {
-        register.has_key()
-    }
-}
-
-// Whether no register has the empty key.
-fn keys_are_there<G: Register + 'static>(look: &Look<Listing<'_, G>>) -> bool
-    ensures { IsTrue result ↔ KeysAreThere (⟦<Listing<'static, G> as Lists>⟧.listed look.now.lists) }
-{
-    each_of(look.lists.regs, &HasKey { of: PhantomData })
-}
-
 /// Whether nodes that leave from nowhere are put.
-pub fn loose_are_put<G: Register + 'static>(look: &Look<Listing<'_, G>>) -> bool
-    ensures { IsTrue result ↔ LooseNodesArePut (⟦<Listing<'static, G> as Lists>⟧.listed look.now.lists) look.now.lists.loose.now }
+pub fn loose_are_put<L: Lists>(look: &Look<L>, loose: &[Loose]) -> bool
+    ensures { IsTrue result ↔ LooseNodesArePut (L.listed look.now.lists) loose.now }
 {
-    each_of(look.lists.loose, &LeavesFromNowhere(look))
+    each_of(loose, &LeavesFromNowhere(look))
 }
 
 // Whether the rules on rows hold.
-fn rows_obey<G: Register + 'static>(alloc: Global, look: &Look<Listing<'_, G>>) -> bool
-    ensures { let L = ⟦<Listing<'static, G> as Lists>⟧.listed look.now.lists in IsTrue result ↔ ((MarksAreMerged L × RowsTell L × RowsAreShort L) × CellsAreOnce L × NewRowsAreMade L × FilledCellsAreOld L) }
+fn rows_obey<L: Lists>(alloc: Global, look: &Look<L>) -> bool
+    ensures { let A = L.listed look.now.lists in IsTrue result ↔ ((MarksAreMerged A × RowsTell A × RowsAreShort A) × CellsAreOnce A × NewRowsAreMade A × FilledCellsAreOld A) }
 {
     marks_obey(look) && cells_once(alloc, look) && new_rows_are_made(look) && filled_are_old(look)
 }
@@ -111,7 +87,7 @@ fn rows_obey<G: Register + 'static>(alloc: Global, look: &Look<Listing<'_, G>>) 
 fn nodes_obey<L: Lists>(look: &Look<L>) -> bool
     requires found { IsTrue look.now.found_once ↔ NodesAreFoundOnce (L.listed look.now.lists) }
     requires put { IsTrue look.now.put_once ↔ NodesArePutOnce (L.listed look.now.lists) }
-    ensures { let L = L.listed look.now.lists in IsTrue result ↔ (NodesAreFoundOnce L × NodesArePutOnce L × PutNodesLeave L × NewNodesAreNotFound L × RootStays L × FieldsAreFound L) }
+    ensures { let A = L.listed look.now.lists in IsTrue result ↔ (NodesAreFoundOnce A × NodesArePutOnce A × PutNodesLeave A × NewNodesAreNotFound A × RootStays A × FieldsAreFound A) }
 {
     look.found_once
         && look.put_once
@@ -122,10 +98,10 @@ fn nodes_obey<L: Lists>(look: &Look<L>) -> bool
 }
 
 /// Whether the rules that changes and steps have in common hold.
-pub fn obeys_common<G: Register + 'static>(alloc: Global, look: &Look<Listing<'_, G>>) -> bool
-    requires found { IsTrue look.now.found_once ↔ NodesAreFoundOnce (⟦<Listing<'static, G> as Lists>⟧.listed look.now.lists) }
-    requires put { IsTrue look.now.put_once ↔ NodesArePutOnce (⟦<Listing<'static, G> as Lists>⟧.listed look.now.lists) }
-    ensures { IsTrue result ↔ ObeysCommonRules (⟦<Listing<'static, G> as Lists>⟧.listed look.now.lists) }
+pub fn obeys_common<L: Lists>(alloc: Global, look: &Look<L>) -> bool
+    requires found { IsTrue look.now.found_once ↔ NodesAreFoundOnce (L.listed look.now.lists) }
+    requires put { IsTrue look.now.put_once ↔ NodesArePutOnce (L.listed look.now.lists) }
+    ensures { IsTrue result ↔ ObeysCommonRules (L.listed look.now.lists) }
 {
-    rows_obey(alloc, look) && nodes_obey(look) && keys_are_there(look)
+    rows_obey(alloc, look) && nodes_obey(look) && look.lists.has_keys()
 }
