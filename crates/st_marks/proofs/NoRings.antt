@@ -167,3 +167,9 @@ new_in_new C r d u p q =
       λ (s, w, e). has-filter (are_new new) links (link m n) ((shown n m).1 (s, w.2, e))
           (both-true (is_among new n) (is_among new m) ((among_has new n).1 w.0) ((among_has new m).1 (subst (λ o. IfSome o (Has new)) e w.1))),
     )
+
+pub both_new : (xs : List NodeId) (l : Link) → IsTrue (are_new xs l) ↔ (Has xs l.node × Has xs l.up)
+both_new xs l = (
+  λ t. (let b = both-parts (is_among xs l.node) (is_among xs l.up) t in ((among_has xs l.node).0 b.0, (among_has xs l.up).0 b.1)),
+  λ h. both-true (is_among xs l.node) (is_among xs l.up) ((among_has xs l.node).1 h.0) ((among_has xs l.up).1 h.1),
+)

@@ -69,3 +69,8 @@ all_staying P (f ∷ fs) = go (is_stay f.how) (all_staying P fs)
         → ((IsTrue b → P f.node) × AllByRecursion (λ f. IsTrue (is_stay f.how) → P f.node) fs) ↔ AllByRecursion P (if b then f.node ∷ staying fs else staying fs)
     go true r = (λ h. (h.0 refl, r.0 h.1), λ h. (λ _. h.0, r.1 h.1))
     go false r = (λ h. r.0 h.1, λ h. (λ t. absurd (let e : ◌≡◌ {A = Bool} false true = t in cc), r.1 h))
+
+-- the contrary of what a test tells
+pub tells_not : (b : Bool) (P Q : Type 0) → (IsTrue b ↔ P) → ((P → ⊥) ↔ Q) → IsTrue (not b) ↔ Q
+tells_not true P Q p q = (λ t. cc, λ a. absurd (q.1 a (p.0 refl)))
+tells_not false P Q p q = (λ t. q.0 (λ h. let e : ◌≡◌ {A = Bool} false true = p.1 h in cc), λ a. refl)

@@ -274,11 +274,15 @@ NewRegistersAreEmpty C = AllByRecursion (λ (r : RegMark). Has (nodes_new C.new)
 abbrev pub NeededNodesAreFound : Change → Type 0
 NeededNodesAreFound C = AllByRecursion (λ (n : NodeId). (n ≡ root) ⊎ IsFound (listed_by_change C) n) C.need
 
+-- the occupant of a register that isn't cleared
+abbrev pub kept_at : RegMark → List Found
+kept_at r = if r.clear then [] else found_held r.held r.how
+
 -- a node that stays is found because it is needed, or because a field of it is listed; but the occupant of a register that is
 -- cleared is found in any case
 abbrev pub StayingNodesAreMentioned : Change → Type 0
 StayingNodesAreMentioned C = AllByRecursion (λ (n : NodeId). Has C.need n ⊎ HasListedField (listed_by_change C) n)
-    (staying (in_rows found_in C.rows ++ (flat_map (λ (r : RegMark). if r.clear then [] else found_held r.held r.how) C.regs ++ found_loose C.loose)))
+    (staying (in_rows found_in C.rows ++ (flat_map kept_at C.regs ++ found_loose C.loose)))
 
 -- the places before lead up without a ring
 abbrev pub NoRingBeforeChange : Change → Type 0

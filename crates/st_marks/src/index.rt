@@ -10,7 +10,7 @@ ghost use Rattle.st_marks.specs.Naming.{is_named};
 
 use crate::marks::{Found, Link};
 use crate::walk::Walk;
-use st_ids::{Atom, CellId, NodeId, atom_order};
+use st_ids::{Atom, CellId, NodeId, Rev, atom_order};
 use std::alloc::{AllocError, Global};
 use std::collections::BTreeMap;
 
@@ -44,6 +44,14 @@ impl Named for Link {
 
     fn name(&self) -> Atom {
         self.node.0
+    }
+}
+
+impl Named for Rev {
+    ghost name = { λ r. record { rev = r; at = 0 } };
+
+    fn name(&self) -> Atom {
+        Atom { rev: *self, at: 0 }
     }
 }
 

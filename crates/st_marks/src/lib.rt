@@ -2,6 +2,7 @@
 //! changes and steps, and laws about the definitions in specs/.
 #![tactic(auto)]
 
+mod change_check;
 mod change_rules;
 mod changes;
 mod common;

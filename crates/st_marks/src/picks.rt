@@ -3,15 +3,17 @@ ghost use Rattle.std.specs.Prelude.{map, refl};
 ghost use Rattle.std.specs.List.{flat_map};
 ghost use Rattle.st_ids.specs.declared.names.FieldId.{FieldId as Field};
 ghost use Rattle.st_marks.specs.Row.{spread};
-ghost use Rattle.st_marks.specs.Rules.{found_in, found_loose, incoming, hole_owners, fill_owners};
+ghost use Rattle.st_marks.specs.Rules.{found_in, found_loose, incoming, kept_at, hole_owners, fill_owners};
 ghost use Rattle.st_marks.specs.Shown.{cells_in, cells_made, nodes_new};
 ghost use Rattle.st_marks.specs.declared.marks.RowMarks.{RowMarks as Row};
+ghost use Rattle.st_marks.specs.declared.schemas.SchemaEntry.{SchemaEntry as Entry};
 
 use crate::changes::NewNode;
-use crate::marks::{Found, Loose, Mark, RowMarks};
+use crate::marks::{Found, Loose, Mark, RegMark, RowMarks};
 use crate::registers::Register;
+use crate::schemas::SchemaEntry;
 use crate::walk::{InRow, Part};
-use st_ids::{CellId, NodeId};
+use st_ids::{CellId, NodeId, Rev};
 
 /// The nodes that are found in full cells.
 #[derive(Clone, Copy)]
@@ -233,5 +235,53 @@ impl Part<NewNode> for Fresh {
 
     fn pick(&self, from: &NewNode) -> Option<NodeId> {
         Some(from.node)
+    }
+}
+
+/// The nodes that are found in registers that aren't cleared.
+#[derive(Clone, Copy)]
+pub struct KeptAt;
+
+impl Part<RegMark> for KeptAt {
+    type Item = Found;
+
+    ghost of = { flat_map kept_at };
+
+    ghost none = { refl };
+
+    fn pick(&self, from: &RegMark) -> Option<Found> {
+        if from.clear { None } else { from.found() }
+    }
+}
+
+/// Nodes, as they are listed.
+#[derive(Clone, Copy)]
+pub struct Each;
+
+impl Part<NodeId> for Each {
+    type Item = NodeId;
+
+    ghost of = { λ ns. ns };
+
+    ghost none = { refl };
+
+    fn pick(&self, from: &NodeId) -> Option<NodeId> {
+        Some(*from)
+    }
+}
+
+/// The revisions of entries.
+#[derive(Clone, Copy)]
+pub struct RevOf;
+
+impl Part<SchemaEntry> for RevOf {
+    type Item = Rev;
+
+    ghost of = { map (λ (e : Entry). e.rev) };
+
+    ghost none = { refl };
+
+    fn pick(&self, from: &SchemaEntry) -> Option<Rev> {
+        Some(from.rev)
     }
 }
