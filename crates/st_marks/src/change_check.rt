@@ -1,6 +1,6 @@
 //! Whether a change is in normal form.
-ghost use Rattle.std.specs.Prelude.{◌≡◌, ◌↔◌, [], IsTrue};
-ghost use Rattle.st_marks.specs.Rules.{ChangeIsRising, FilledRegistersAreCleared, HolesHaveMovers, LooseNodesArePut, NeededNodesAreFound, NewNamesHaveItsRevision, NewNodesAreNotFound, NewRegistersAreEmpty, NoRingBeforeChange, NoRingOfNewNodes, NodesAreFoundOnce, NodesArePutOnce, ObeysChangeRules, ObeysDataRules, ObeysSchemaRules, OpeningIsBase, PutNodesLeave, RegisterMarksFit, RegistersTell, StayingNodesAreMentioned, listed_by_change};
+ghost use Rattle.std.specs.Prelude.{◌≡◌, ◌↔◌, [], IsTrue, MatchResult};
+ghost use Rattle.st_marks.specs.Rules.{ChangeIsRising, FilledRegistersAreCleared, HolesHaveMovers, LooseNodesArePut, NeededNodesAreFound, NewNamesHaveItsRevision, NewNodesAreNotFound, NewRegistersAreEmpty, NoRingBeforeChange, NoRingOfNewNodes, NodesAreFoundOnce, NodesArePutOnce, ObeysChangeRules, ObeysCommonRules, ObeysDataRules, ObeysSchemaRules, OpeningIsBase, PutNodesLeave, RegisterMarksFit, RegistersTell, StayingNodesAreMentioned, listed_by_change};
 
 use crate::change_rules::{
     CellHasRevision, FilledIsCleared, IsMentioned, IsThere, MarkFits, MarkTells, NewHasRevision,
@@ -12,6 +12,7 @@ use crate::index::Index;
 use crate::links::{ring_before, ring_of_new};
 use crate::listing::OfChange;
 use crate::look::Look;
+use crate::not_normal::NotNormal;
 use crate::picks::{CellsMade, Each, FoundIn, HoleOwners, KeptAt, Nowhere};
 use crate::rising::{ByField, ByNode, rises};
 use crate::rules::{Moves, is_rev};
@@ -144,4 +145,69 @@ fn obeys_schema_rules(change: &Change) -> bool
     is_alone(change)
         && !is_rev(change.rev, OPENING)
         && !(change.base && is_rev(change.under, change.rev))
+}
+
+// Whether the rules hold that look nothing up.
+fn own_rules_hold(change: &Change) -> bool
+    ensures { IsTrue result ↔ (ChangeIsRising change.now × NewNamesHaveItsRevision change.now × (FilledRegistersAreCleared change.now × RegisterMarksFit change.now × RegistersTell change.now) × OpeningIsBase change.now) }
+{
+    lists_rise(change)
+        && names_have_revision(change)
+        && marks_fit(change)
+        && opening_is_base(change)
+}
+
+// Whether the rules hold that look nodes up.
+fn nodes_are_right(alloc: Global, look: &Look<OfChange<'_>>) -> bool
+    ensures { let C = look.now.lists.0.now in NodesAreFoundOnce (listed_by_change C) → (IsTrue result ↔ (HolesHaveMovers C × NewRegistersAreEmpty C × LooseNodesArePut (listed_by_change C) C.loose × NeededNodesAreFound C × StayingNodesAreMentioned C)) }
+{
+    holes_have_movers(look)
+        && new_are_empty(look)
+        && loose_are_put(look, look.lists.0.loose.as_slice())
+        && needed_are_found(look)
+        && staying_are_mentioned(alloc, look)
+}
+
+// Whether the rules on rings hold.
+fn has_no_ring(alloc: Global, look: &Look<OfChange<'_>>) -> bool
+    ensures { let C = look.now.lists.0.now in ChangeIsRising C → ObeysCommonRules (listed_by_change C) → (IsTrue result ↔ (NoRingBeforeChange C × NoRingOfNewNodes C)) }
+{
+    no_ring_before(alloc, look.lists.0) && no_new_ring(alloc, look)
+}
+
+// Whether the rules on a change of data hold.
+fn obeys_data_rules(change: &Change) -> bool
+    ensures { IsTrue result ↔ ObeysDataRules change.now }
+{
+    if !own_rules_hold(change) {
+        return false;
+    }
+    let alloc = change.rows.allocator();
+    let look = Look::of(alloc, OfChange(change));
+    obeys_common(alloc, &look) && nodes_are_right(alloc, &look) && has_no_ring(alloc, &look)
+}
+
+// Whether a change is in normal form.
+fn is_normal(change: &Change) -> bool
+    ensures { IsTrue result ↔ ObeysChangeRules change.now }
+{
+    match &change.schema {
+        None => obeys_data_rules(change),
+        Some(_) => obeys_schema_rules(change),
+    }
+}
+
+impl Change {
+    /// Refuses a change that isn't in normal form: one that could stand over no document. It is judged by the rules of
+    /// normal form alone, in the time that sorting the change would take. What it looks up is kept in maps in the memory
+    /// from which the change's lists come; where there is none left the answer is the same, but slow to come.
+    pub fn check(&self) -> Result<(), NotNormal>
+        ensures { MatchResult result (λ _. ObeysChangeRules self.now) (λ _. ObeysChangeRules self.now → ⊥) }
+    {
+        if is_normal(self) {
+            Ok(())
+        } else {
+            Err(NotNormal)
+        }
+    }
 }

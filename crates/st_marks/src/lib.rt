@@ -16,6 +16,7 @@ mod links;
 mod listing;
 mod look;
 mod marks;
+mod not_normal;
 mod picks;
 mod places;
 mod registers;
@@ -40,6 +41,7 @@ pub use laws::{
 pub use laws_of_listings::{one_embedding, one_step};
 pub use lengths::{after, before};
 pub use marks::{How, Loose, Mark, RegMark, RegStep, RowMarks};
+pub use not_normal::NotNormal;
 pub use places::{Slot, Spot};
 pub use schemas::{SchemaEntry, SchemaStep};
 pub use steps::Step;
