@@ -11,6 +11,8 @@ use Rattle.std.specs.declared.cmp.Ordering.{Ordering}
 use Rattle.std.specs.declared.cmp.Ordering.TheVariants.{Less, Equal, Greater}
 use Rattle.st_ids.specs.declared.names.NodeId.{NodeId}
 use Rattle.st_ids.specs.declared.names.CellId.{CellId}
+use Rattle.st_ids.specs.declared.names.Rev.{Rev}
+use Rattle.st_marks.specs.declared.schemas.SchemaEntry.{SchemaEntry}
 use Rattle.st_marks.specs.declared.marks.Found.{Found}
 use Rattle.st_marks.specs.declared.marks.How.{How}
 use Rattle.st_marks.specs.Rules.{Listed, NodesAreFoundOnce, IsFoundAs, how_found}
@@ -219,3 +221,23 @@ how_found-is L d n h = (
         let q : x.how ≡ h = cc in
         let w = same-node x.node n (named-name found_name n.0 x r.1) in
         subst (Has L.found) (λ i. record { node = w i; how = q i }) r.0
+
+map-distinct : {A B K : Type 0} (f : A → B) (key : B → K) (xs : List A) → AreDistinct (λ x. key (f x)) xs ↔ AreDistinct key (map f xs)
+map-distinct f key [] = (λ h. tt, λ h. tt)
+map-distinct {A} {B} {K} f key (x ∷ xs) =
+    let rest = map-distinct f key xs in
+    let m = apart xs in
+    (λ d. (m.0 d.0, rest.0 d.1), λ d. (m.1 d.0, rest.1 d.1))
+  where
+    apart : (ys : List A) → AllByRecursion (λ y. key (f y) ≢ key (f x)) ys ↔ AllByRecursion (λ y. key y ≢ key (f x)) (map f ys)
+    apart [] = (λ h. tt, λ h. tt)
+    apart (y ∷ ys) = let r = apart ys in (λ h. (h.0, r.0 h.1), λ h. (h.0, r.1 h.1))
+
+abbrev pub rev_name : Rev → Atom
+rev_name r = record { rev = r; at = 0 }
+
+pub revs_once : (xs : List SchemaEntry) → AreDistinct rev_name (map (λ (e : SchemaEntry). e.rev) xs) ↔ AreDistinct (λ (e : SchemaEntry). e.rev) xs
+revs_once xs =
+    let m = map-distinct (λ (e : SchemaEntry). e.rev) rev_name xs in
+    let n = distinct_by (λ (e : SchemaEntry). rev_name e.rev) (λ (e : SchemaEntry). e.rev) (λ x y e. ap (λ (a : Atom). a.rev) e) (λ x y e. ap rev_name e) xs in
+    (λ d. n.0 (m.1 d), λ d. m.0 (n.1 d))

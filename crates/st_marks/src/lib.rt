@@ -25,6 +25,7 @@ mod rising;
 mod row_rules;
 mod rules;
 mod schemas;
+mod step_check;
 mod step_rules;
 mod steps;
 #[cfg(test)]
