@@ -15,6 +15,8 @@ mod schemas;
 mod steps;
 #[cfg(test)]
 mod tests;
+#[cfg(test)]
+mod tests_of_rings;
 mod verdicts;
 
 pub use changes::{Change, NewNode};
