@@ -1,5 +1,5 @@
 -- Where a climb ends and where it comes round.
-use Rattle.std.proofs.Common.{◌≡◌, ◌↔◌, ◌+◌, ℕ, zero, suc, ◌≤◌, ◌<◌, Bool, true, false, List, [], ◌∷◌, length, Option, Some, None, option_and_then, refl, sym, ap, ◌∙◌, subst, arith, inl, inr, ◌⊎◌}
+use Rattle.std.proofs.Common.{◌≡◌, ◌↔◌, ◌+◌, ℕ, zero, suc, ◌≤◌, ◌<◌, Bool, true, false, not, IsTrue, List, [], ◌∷◌, length, Option, Some, None, option_and_then, refl, sym, ap, ◌∙◌, subst, arith, inl, inr, ◌⊎◌}
 use Rattle.st_ids.specs.declared.names.NodeId.{NodeId}
 use Rattle.st_ids.specs.Listing.{Has}
 use Rattle.st_ids.specs.Order.{same_node}
@@ -135,3 +135,8 @@ module _ (At : NodeId → Spot → Type 0) (up : NodeId → Option NodeId) (same
 
   pub no_ring-leads_up : (HasRing up → ⊥) ↔ ((n : NodeId) → LeadsUp At n n → ⊥)
   no_ring-leads_up = (λ none n r. none (n, leads_up-reaches n n r), λ none r. none r.0 (reaches-leads_up r.1.0 r.0 r.0 r.1.1))
+
+  -- so a test for rings tells whether places lead up without one
+  pub no_ring-told : (b : Bool) → (IsTrue b ↔ HasRing up) → (IsTrue (not b) ↔ ((n : NodeId) → LeadsUp At n n → ⊥))
+  no_ring-told true e = (λ f. let bad : ◌≡◌ {A = Bool} false true = f in cc, λ none. absurd (no_ring-leads_up.1 none (e.0 refl)))
+  no_ring-told false e = (λ f. no_ring-leads_up.0 (λ r. let bad : ◌≡◌ {A = Bool} false true = e.1 r in cc), λ none. refl)

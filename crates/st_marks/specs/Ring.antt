@@ -16,7 +16,7 @@ HasRing up = (n : NodeId) × Reaches up n n
 abbrev pub AreListed : (NodeId → Option NodeId) → List NodeId → Type 0
 AreListed up nodes = (n p : NodeId) → up n ≡ Some p → Has nodes n
 
--- what climbs that ended have met: of each node, from which one it was come to, which was met too
+-- what was met on climbs that ended, each node with the one where the climb began that met it first
 pub record HaveEnded (up met : NodeId → Option NodeId) : Type 0 where
   pub ends : (n s : NodeId) → met n ≡ Some s → ClimbsToAnEnd up n
   pub begun : (n s : NodeId) → met n ≡ Some s → IsSome (met s)

@@ -30,6 +30,8 @@ mod step_rules;
 mod steps;
 #[cfg(test)]
 mod tests;
+#[cfg(test)]
+mod tests_of_rings;
 mod verdicts;
 mod walk;
 

@@ -46,7 +46,7 @@ pub fn is_same(a: NodeId, b: NodeId) -> bool
 }
 
 /// Climbs from a node until there is no node above or one that was met before, and tells whether it closes a ring.
-/// Each node that is met is kept with the node from which it was first come to.
+/// Each node that is met is kept with the node where the climb began that met it first.
 fn closes_ring<H: Hangs>(
     hangs: &H,
     met: &mut BTreeMap<NodeId, NodeId>,
@@ -110,7 +110,7 @@ fn climbs_on<H: Hangs>(hangs: &H, start: NodeId) -> bool
 
 /// Whether nodes hang in a ring. This is the slow way, for want of memory: it takes none, and climbs from each node
 /// as far as a climb can go.
-fn scan_ring<H: Hangs>(hangs: &H) -> bool
+pub fn scan_ring<H: Hangs>(hangs: &H) -> bool
     requires { AreListed (H.up hangs.now) (H.nodes hangs.now) }
     ensures { IsTrue result ↔ HasRing (H.up hangs.now) }
 {
@@ -124,8 +124,8 @@ fn scan_ring<H: Hangs>(hangs: &H) -> bool
     false
 }
 
-/// Whether nodes hang in a ring, so that some node is above itself. It takes the time that sorting the nodes would
-/// take, or that of the slow way where memory is wanting.
+/// Whether nodes hang in a ring, so that some node is above itself. All that hang are to be among the nodes that are
+/// gone through. It takes the time that sorting them would take, or that of the slow way where memory is wanting.
 pub fn has_ring<H: Hangs>(alloc: Global, hangs: &H) -> bool
     requires { AreListed (H.up hangs.now) (H.nodes hangs.now) }
     ensures { IsTrue result ↔ HasRing (H.up hangs.now) }
