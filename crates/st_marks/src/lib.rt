@@ -31,6 +31,8 @@ mod steps;
 #[cfg(test)]
 mod tests;
 #[cfg(test)]
+mod tests_of_normal;
+#[cfg(test)]
 mod tests_of_rings;
 mod verdicts;
 mod walk;
