@@ -17,7 +17,7 @@ use Rattle.st_marks.specs.Intent.{put_of, put_in, clears, cell_of, register_of, 
 use Rattle.st_marks.specs.CarryOut.{full, with_names, spot_of, place_after, unless_cleared, unless_put, with_schema}
 use Rattle.st_marks.proofs.Members.{true-false, all-has, map-has, distinct-append}
 use Rattle.st_marks.proofs.Lookups.{put-has, has-put, put_in-has, has-put_in, put_clears, clears-has}
-use Rattle.st_marks.proofs.Rings.{no_ring_made}
+use Rattle.st_marks.proofs.NoRing.{no_ring_made}
 use Rattle.st_marks.proofs.NewRows.{old_cell, known_after, row_cells, one_row_each, rows_once, owns_in_row, rows_grow}
 
 -- ## Where a put leads

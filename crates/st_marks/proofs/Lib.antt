@@ -2,7 +2,7 @@ pub mod Members
 pub mod Lookups
 pub mod RowEdits
 pub mod Climb
-pub mod Rings
+pub mod NoRing
 pub mod NewRows
 pub mod Full
 pub mod Turns
@@ -23,3 +23,16 @@ pub mod WayBack
 pub mod Joined
 pub mod OneTree
 pub mod MarkLengths
+pub mod Naming
+pub mod Counted
+pub mod NoRings
+pub mod ShownPlaces
+pub mod Counts
+pub mod OnePlace
+pub mod Linked
+pub mod Obeyed
+pub mod RisingLists
+pub mod Tells
+pub mod Merged
+pub mod AboveItself
+pub mod Meeting

@@ -71,3 +71,17 @@ pub struct Loose {
     pub node: NodeId,
     pub how: How,
 }
+
+/// A node that is listed where it stands, and what becomes of it.
+#[derive(Clone, Copy, Debug, PartialEq, Eq)]
+pub struct Found {
+    pub node: NodeId,
+    pub how: How,
+}
+
+/// A node that stands in the row or a register of another.
+#[derive(Clone, Copy, Debug, PartialEq, Eq)]
+pub struct Link {
+    pub node: NodeId,
+    pub up: NodeId,
+}

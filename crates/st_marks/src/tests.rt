@@ -58,10 +58,8 @@ fn copies_a_row(rt: HostRuntime) -> Result<(), Fail> {
     Ok(())
 }
 
-#[test]
-fn copies_a_change(rt: HostRuntime) -> Result<(), Fail> {
-    let alloc = rt.alloc();
-    let change = Change {
+fn blank_change(alloc: Global) -> Change {
+    Change {
         rev: REV,
         under: REV,
         base: true,
@@ -71,22 +69,32 @@ fn copies_a_change(rt: HostRuntime) -> Result<(), Fail> {
         regs: List::new(alloc),
         loose: List::new(alloc),
         schema: None,
-    };
+    }
+}
+
+#[test]
+fn copies_a_change(rt: HostRuntime) -> Result<(), Fail> {
+    let alloc = rt.alloc();
+    let change = blank_change(alloc);
     let copy = change.copy(alloc)?;
     assert!(rt; copy == change);
     Ok(())
 }
 
-#[test]
-fn copies_a_step(rt: HostRuntime) -> Result<(), Fail> {
-    let alloc = rt.alloc();
-    let step = Step {
+fn blank_step(alloc: Global) -> Step {
+    Step {
         new: List::new(alloc),
         rows: List::new(alloc),
         regs: List::new(alloc),
         loose: List::new(alloc),
         schema: None,
-    };
+    }
+}
+
+#[test]
+fn copies_a_step(rt: HostRuntime) -> Result<(), Fail> {
+    let alloc = rt.alloc();
+    let step = blank_step(alloc);
     let copy = step.copy(alloc)?;
     assert!(rt; copy == step);
     Ok(())
@@ -124,7 +132,9 @@ fn copies_places(rt: HostRuntime) -> Result<(), Fail> {
 }
 
 #[test]
-fn first_use(_rt: HostRuntime) {
+fn first_use(rt: HostRuntime) {
+    assert_eq!(rt; blank_change(rt.alloc()).check(), Ok(()));
+    assert_eq!(rt; blank_step(rt.alloc()).check(), Ok(()));
     back_leads_back();
     carrying_out_extends();
     extends_in_turn();

@@ -7,20 +7,20 @@ use Rattle.st_ids.proofs.Orders.{same_node-true, same_node-itself}
 use Rattle.st_marks.specs.Document.{climb, ClimbsToAnEnd}
 use Rattle.st_marks.proofs.Climb.{climb_end, ends_above}
 
-abbrev without : NodeId → List NodeId → List NodeId
+abbrev pub without : NodeId → List NodeId → List NodeId
 without p [] = []
 without p (q ∷ qs) = cond (same_node q p) (without p qs) (q ∷ without p qs)
 
-no_longer : (p : NodeId) (qs : List NodeId) → length (without p qs) ≤ length qs
+pub no_longer : (p : NodeId) (qs : List NodeId) → length (without p qs) ≤ length qs
 no_longer p [] = omega arith
 no_longer p (q ∷ qs) = elim (same_node q p) as (λ b. length (cond b (without p qs) (q ∷ without p qs)) ≤ suc (length qs)) [ true ↦ omega (arith, no_longer p qs) | false ↦ omega (arith, no_longer p qs) ]
 
-shorter : (p : NodeId) (qs : List NodeId) → Has qs p → length (without p qs) < length qs
+pub shorter : (p : NodeId) (qs : List NodeId) → Has qs p → length (without p qs) < length qs
 shorter p [] h = absurd h
 shorter p (q ∷ qs) (inl e) = rw (ap (λ x. same_node x p) e ∙ same_node-itself p) (omega (arith, no_longer p qs))
 shorter p (q ∷ qs) (inr h) = elim (same_node q p) as (λ b. length (cond b (without p qs) (q ∷ without p qs)) < suc (length qs)) [ true ↦ omega (arith, no_longer p qs) | false ↦ omega (arith, shorter p qs h) ]
 
-others : (p q : NodeId) (qs : List NodeId) → Has qs q → q ≢ p → Has (without p qs) q
+pub others : (p q : NodeId) (qs : List NodeId) → Has qs q → q ≢ p → Has (without p qs) q
 others p q [] h apart = absurd h
 others p q (r ∷ qs) (inl e) apart =
     elim (same_node r p) as (λ b. same_node r p ≡ b → Has (cond b (without p qs) (r ∷ without p qs)) q) [
