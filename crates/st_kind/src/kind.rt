@@ -91,6 +91,7 @@ pub trait FieldKind: Sized {
 
     /// What a change does, void or whole.
     fn effect(alloc: Global, change: &Self::Change, void: bool) -> Result<Self::Step, AllocError>
+        requires { IsShortChange change.now }
         ensures { (n : Part) (c : Self.Ctx) → Fits n c → IsEmbedding n c change.now → IsContent (carry n void c)
             → IfOk result (IsStep (mentions n) c (carry n void c)) };
 
@@ -120,6 +121,7 @@ pub trait FieldKind: Sized {
 
     /// The step back. What a step made stays, and is empty after it.
     fn invert(alloc: Global, step: &Self::Step) -> Result<Self::Step, AllocError>
+        requires { IsShortStep step.now }
         ensures { (m : Nodes) (c d : Self.Ctx) → IsStep m c d step.now → IfOk result (IsStep (either m (brings step.now)) d (retreat c d)) };
 
     /// The change where it stands after a step.
