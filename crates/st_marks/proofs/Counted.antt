@@ -1,5 +1,5 @@
 -- Counted cells name nothing.
-use Rattle.std.proofs.Common.{◌≡◌, Bool, ℕ, zero, suc, List, [], ◌∷◌, refl}
+use Rattle.std.proofs.Common.{◌≡◌, ℕ, zero, suc, List, refl}
 use Rattle.std.specs.List.{list_any}
 use Rattle.st_marks.specs.Embedding.{tells}
 use Rattle.st_marks.specs.Links.{stands_before, stands_after}

@@ -50,9 +50,6 @@ module _ {I : Type 0} (name : I → Atom) where
   some-not None e = refl
   some-not (Some x) e = cc
 
-  is_some-not : (o : Option I) (x : I) → o ≡ Some x → o ≡ None → ⊥
-  is_some-not o x e f = let q : ◌≡◌ {A = Bool} true false = sym (ap is_some e) ∙ ap is_some f in cc
-
   -- nothing of the name is found, exactly where nothing has it
   pub none-other : (a : Atom) (xs : List I) → is_some (find (is_named name a) xs) ≡ false → AllByRecursion (λ y. name y ≢ a) xs
   none-other a xs e = has-all (λ y. name y ≢ a) xs (λ y h. not-named a y (none-has (is_named name a) xs y (some-not _ e) h))
@@ -64,15 +61,16 @@ module _ {I : Type 0} (name : I → Atom) where
       go None e = refl
       go (Some x) e = let r = first-has (is_named name a) xs x e in absurd (all-has (λ y. name y ≢ a) xs x h r.0 (named-name name a x r.1))
 
+  -- whether something of the name of a thing is found
+  pub told : (x : I) (new : List I) (a : Atom) (o : Option I) (b v : Bool) → a ≡ name x → o ≡ find (is_named name a) new → b ≡ is_some o → b ≡ v → is_some (find (is_named name (name x)) new) ≡ v
+  told x new a o b v e f g h = subst (λ c. is_some (find (is_named name c) new) ≡ v) e (sym (g ∙ ap is_some f) ∙ h)
+
   -- the first that is left is found behind it too, so that two have one name
   pub once-fails : (x : I) (old new whole : List I) → (AreDistinct name old ↔ AreDistinct name whole) → old ≡ x ∷ new → is_some (find (is_named name (name x)) new) ≡ true → IsTrue false ↔ AreDistinct name whole
   once-fails x old new whole h e f = (λ t. cc, λ d. absurd (true-false f (other-none (name x) new (subst (AreDistinct name) e (h.1 d)).0)))
 
   pub once-next : (x : I) (old new whole : List I) → (AreDistinct name old ↔ AreDistinct name whole) → old ≡ x ∷ new → is_some (find (is_named name (name x)) new) ≡ false → AreDistinct name new ↔ AreDistinct name whole
   once-next x old new whole h e f = (λ d. h.0 (subst (AreDistinct name) (sym e) (none-other (name x) new f, d)), λ d. (subst (AreDistinct name) e (h.1 d)).1)
-
-  pub once-done : (old whole : List I) → (AreDistinct name old ↔ AreDistinct name whole) → old ≡ [] → IsTrue true ↔ AreDistinct name whole
-  once-done old whole h e = (λ _. h.0 (subst (AreDistinct name) (sym e) tt), λ _. refl)
 
   -- none is kept
   abbrev pub AreFresh : (Atom → Option I) → List I → Type 0
@@ -122,7 +120,7 @@ module _ {I : Type 0} (name : I → Atom) where
   none-is : (o : Option I) → o ≡ None → IsTrue (is_none o)
   none-is o e = ap is_none e
 
-  pub is_once-next : (m k : Atom → Option I) (once : Bool) (x : I) (old new whole : List I) → IsOnce m once old whole → old ≡ x ∷ new → ((a : Atom) → k a ≡ option_or (m a) (find (is_named name a) (x ∷ []))) → IsOnce k (once && is_none (m (name x))) new whole
+  is_once-next : (m k : Atom → Option I) (once : Bool) (x : I) (old new whole : List I) → IsOnce m once old whole → old ≡ x ∷ new → ((a : Atom) → k a ≡ option_or (m a) (find (is_named name a) (x ∷ []))) → IsOnce k (once && is_none (m (name x))) new whole
   is_once-next m k once x old new whole h e u = record {
     there = λ t d f. let p = fresh-both once (is_none (m (name x))) t in
         let q = λ (y : I) (i : Has new y). none-parts (m (name y)) (is_named name (name y) x) x (sym (u (name y)) ∙ all-has (λ y. k (name y) ≡ None) new y f i) in
@@ -139,21 +137,9 @@ module _ {I : Type 0} (name : I → Atom) where
         );
   }
 
-  pub is_once-done : (m : Atom → Option I) (once : Bool) (old whole : List I) → IsOnce m once old whole → old ≡ [] → IsTrue once ↔ AreDistinct name whole
-  is_once-done m once old whole h e = (λ t. h.there t (subst (AreDistinct name) (sym e) tt) (subst (AreFresh m) (sym e) tt), λ d. (h.back d).0)
-
-  pub is_once-start : (m : Atom → Option I) (whole : List I) → ((a : Atom) → m a ≡ None) → IsOnce m true whole whole
-  is_once-start m whole e = record {
-    there = λ t d f. d;
-    back = λ d. (refl, d, has-all (λ x. m (name x) ≡ None) whole (λ x i. e (name x)));
-  }
-
-  none-left : (o : Option I) → option_or o None ≡ o
-  none-left None = refl
-  none-left (Some x) = refl
-
-  pub finds-done : (m : Atom → Option I) (old whole : List I) → FindsAll m old whole → old ≡ [] → (a : Atom) → m a ≡ find (is_named name a) whole
-  finds-done m old whole h e a = sym (none-left (m a)) ∙ ap (λ (xs : List I). option_or (m a) (find (is_named name a) xs)) (sym e) ∙ h a
+  -- where it is told whether nothing of the name was kept
+  pub is_once-told : (m k : Atom → Option I) (once fresh : Bool) (x : I) (old new whole : List I) → IsOnce m once old whole → old ≡ x ∷ new → ((a : Atom) → k a ≡ option_or (m a) (find (is_named name a) (x ∷ []))) → fresh ≡ is_none (m (name x)) → IsOnce k (once && fresh) new whole
+  is_once-told m k once fresh x old new whole h e u f = subst (λ b. IsOnce k (once && b) new whole) (sym f) (is_once-next m k once x old new whole h e u)
 
 -- one of the name is found, exactly where one is there
 pub found-has : {I : Type 0} (name : I → Atom) (a : Atom) (xs : List I) → is_some (find (is_named name a) xs) ≡ true → (x : I) × Has xs x × (name x ≡ a)

@@ -1,6 +1,6 @@
 -- The rules on rings, by the links of nodes.
-use Rattle.std.proofs.Common.{◌≡◌, ◌↔◌, ◌+◌, ◌≤◌, ℕ, Bool, true, false, not, ◌&&◌, List, [], ◌∷◌, ◌++◌, map, Option, Some, None, refl, sym, ap, ◌∙◌, subst, arith, inl, inr, ◌⊎◌, if◌then◌else◌, IsTrue, IfSome}
-use Rattle.std.specs.List.{filter, list_any}
+use Rattle.std.proofs.Common.{◌≡◌, ◌↔◌, ◌+◌, ◌≤◌, Bool, true, false, not, ◌&&◌, List, [], ◌∷◌, ◌++◌, map, Option, Some, None, refl, sym, ap, ◌∙◌, subst, arith, inl, inr, ◌⊎◌, if◌then◌else◌, IsTrue, IfSome}
+use Rattle.std.specs.List.{filter}
 use Rattle.std.specs.Option.{option_or}
 use Rattle.st_ids.specs.Listing.{AreDistinct, Has}
 use Rattle.st_ids.specs.Order.{same_node}
@@ -22,7 +22,7 @@ use Rattle.st_marks.specs.Intent.{same_option}
 use Rattle.st_marks.specs.Links.{link, links_in, links_at, stands_after, stands_before, up_by, are_new}
 use Rattle.st_marks.specs.Ring.{HasRing}
 use Rattle.st_marks.specs.Row.{is_here}
-use Rattle.st_marks.specs.Rules.{Listed, listed_by_change, listed_by_step, found_held, found_at, found_over, put_at, put_over, how_over, ChangeIsRising, StepIsRising, NodesAreFoundOnce, NodesArePutOnce, PutNodesLeave, NewNodesAreNotFound, NoRingBeforeChange, NoRingOfNewNodes, IsNewInNew}
+use Rattle.st_marks.specs.Rules.{listed_by_change, listed_by_step, found_held, found_at, found_over, put_at, put_over, how_over, ChangeIsRising, StepIsRising, NodesAreFoundOnce, NodesArePutOnce, PutNodesLeave, NewNodesAreNotFound, NoRingBeforeChange, NoRingOfNewNodes, IsNewInNew}
 use Rattle.st_marks.specs.Shown.{Says, cells_after, cells_before, held_after, is_leave, nodes_new, one_or_none, shown_before_change, shown_after_change, shown_before_step, shown_after_step}
 use Rattle.st_marks.proofs.AboveItself.{no_ring-leads_up}
 use Rattle.st_marks.proofs.Counts.{times}

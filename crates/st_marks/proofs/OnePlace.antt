@@ -1,14 +1,12 @@
 -- Each node stands at one place before, and at one place after.
-use Rattle.std.proofs.Common.{◌≡◌, ◌≢◌, ◌+◌, ◌≤◌, ℕ, zero, suc, Bool, true, false, List, [], ◌∷◌, ◌++◌, map, Option, Some, None, refl, sym, ap, ◌∙◌, subst, arith, inl, inr, ◌⊎◌, if◌then◌else◌, append_assoc}
+use Rattle.std.proofs.Common.{◌≡◌, ◌≢◌, ◌+◌, ◌≤◌, ℕ, zero, suc, Bool, true, false, List, [], ◌∷◌, ◌++◌, map, Option, refl, sym, ap, ◌∙◌, subst, arith, inl, inr, ◌⊎◌, if◌then◌else◌}
 use Rattle.std.specs.List.{flat_map}
 use Rattle.st_ids.specs.Listing.{AreDistinct, Has}
 use Rattle.st_ids.specs.declared.names.FieldId.{FieldId}
 use Rattle.st_ids.specs.declared.names.NodeId.{NodeId}
 use Rattle.st_marks.specs.declared.changes.NewNode.{NewNode}
 use Rattle.st_marks.specs.declared.marks.Found.{Found}
-use Rattle.st_marks.specs.declared.marks.How.{How}
-use Rattle.st_marks.specs.declared.marks.How.TheVariants.{Stay, Here, Leave}
-use Rattle.st_marks.specs.declared.marks.Link.{Link}
+use Rattle.st_marks.specs.declared.marks.How.TheVariants.{Leave}
 use Rattle.st_marks.specs.declared.marks.Loose.{Loose}
 use Rattle.st_marks.specs.declared.marks.RowMarks.{RowMarks}
 use Rattle.st_marks.specs.Document.{root}
@@ -16,9 +14,9 @@ use Rattle.st_marks.specs.Links.{link, links_in, links_at, stands_after, stands_
 use Rattle.st_marks.specs.Row.{CellMark, Counted, Gap, Touch, Make, Fill, spread}
 use Rattle.st_marks.specs.Rules.{Listed, listed_by, found_in, found_loose, incoming, in_rows, NodesAreFoundOnce, NodesArePutOnce, PutNodesLeave, NewNodesAreNotFound, IsFound, IsFoundAs}
 use Rattle.st_marks.specs.Shown.{is_leave, one_or_none}
-use Rattle.st_marks.proofs.Counts.{times, times-append, times-all, times-has, times-none, has-times, once-times, times-once}
+use Rattle.st_marks.proofs.Counts.{times, times-append, times-all, times-none, has-times, once-times, times-once}
 use Rattle.st_marks.proofs.Linked.{link_node}
-use Rattle.st_marks.proofs.Members.{all-has, append_left, append_right, distinct-has, has-append, has-flat_map, flat_map-has, map-has}
+use Rattle.st_marks.proofs.Members.{all-has, append_left, append_right, distinct-has, has-append, map-has}
 
 abbrev pub found_node : Found → NodeId
 found_node f = f.node

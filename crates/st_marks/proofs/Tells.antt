@@ -1,8 +1,7 @@
 -- Tests, and the facts that they tell.
-use Rattle.std.proofs.Common.{◌≡◌, ◌↔◌, IsTrue, Bool, true, false, not, ◌&&◌, List, [], ◌∷◌, ◌++◌, map, length, Option, Some, None, refl, sym, ap, ◌∙◌, subst, inl, inr, ◌⊎◌, if◌then◌else◌}
+use Rattle.std.proofs.Common.{◌≡◌, ◌↔◌, IsTrue, Bool, true, false, not, List, [], ◌∷◌, map, length, refl, subst, if◌then◌else◌}
 use Rattle.std.specs.List.{AllByRecursion}
-use Rattle.st_ids.specs.Listing.{AreDistinct, Has}
-use Rattle.st_ids.specs.Order.{same_node, same_rev, rev_cmp}
+use Rattle.st_ids.specs.Order.{same_node, rev_cmp}
 use Rattle.st_ids.specs.declared.names.NodeId.{NodeId}
 use Rattle.st_ids.specs.declared.names.Rev.{Rev}
 use Rattle.std.specs.Ordering.{is_eq, ordering_reverse}
@@ -10,16 +9,8 @@ use Rattle.std.specs.declared.cmp.Ordering.{Ordering}
 use Rattle.std.specs.declared.cmp.Ordering.TheVariants.{Less, Equal, Greater}
 use Rattle.st_ids.proofs.Orders.{same_node-true, same_node-itself, rev_cmp_exact, rev_cmp_total}
 use Rattle.st_marks.specs.declared.marks.Found.{Found}
-use Rattle.st_marks.specs.declared.marks.How.{How}
-use Rattle.st_marks.specs.declared.marks.How.TheVariants.{Stay, Here, Leave}
 use Rattle.st_marks.specs.Rules.{is_stay, staying}
 use Rattle.st_marks.specs.Shown.{Seen}
-use Rattle.st_marks.proofs.Members.{all-has, has-all}
-
--- two facts that hold of each thing
-pub all-both : {A : Type 0} (P Q : A → Type 0) (xs : List A) → AllByRecursion P xs → AllByRecursion Q xs → AllByRecursion (λ x. P x × Q x) xs
-all-both P Q [] p q = tt
-all-both P Q (x ∷ xs) p q = ((p.0, q.0), all-both P Q xs p.1 q.1)
 
 -- one fact that follows from another
 pub all-along : {A : Type 0} (P Q : A → Type 0) → ((x : A) → P x → Q x) → (xs : List A) → AllByRecursion P xs → AllByRecursion Q xs
@@ -54,11 +45,6 @@ tied Greater e = cc
 
 pub rev_same : (a b : Rev) → IsTrue (is_eq (rev_cmp a b)) ↔ (a ≡ b)
 rev_same a b = (λ e. rev_cmp_exact a b (equal _ e), λ e. subst (λ c. is_eq (rev_cmp a c) ≡ true) e (tied (rev_cmp a a) (rev_cmp_total.antisymm a a)))
-
--- a list without items
-pub no_items : {A : Type 0} (xs : List A) → length xs ≡ 0 → xs ≡ []
-no_items [] e = refl
-no_items (x ∷ xs) e = cc
 
 -- of those that stay
 pub all_staying : (P : NodeId → Type 0) (fs : List Found) → AllByRecursion (λ f. IsTrue (is_stay f.how) → P f.node) fs ↔ AllByRecursion P (staying fs)

@@ -1,5 +1,5 @@
 -- Which nodes stand in the rows and registers of which, before and after.
-use Rattle.std.specs.Prelude.{◌&&◌, ◌++◌, Bool, List, [], ◌∷◌, map, Option, option_map, if◌then◌else◌}
+use Rattle.std.specs.Prelude.{◌&&◌, Bool, List, [], ◌∷◌, map, Option, option_map, if◌then◌else◌}
 use Rattle.std.specs.List.{find, flat_map}
 use Rattle.st_ids.specs.declared.names.FieldId.{FieldId}
 use Rattle.st_ids.specs.declared.names.NodeId.{NodeId}

@@ -1,7 +1,6 @@
-use Rattle.std.proofs.Common.{◌≡◌, ◌&&◌, is_none, sym, subst}
 use Rattle.std.specs.BTreeMap.{get}
 use Rattle.st_ids.specs.Order.{atom_cmp}
-use Rattle.st_marks.proofs.Naming.{IsOnce, finds-next, is_once-next}
+use Rattle.st_marks.proofs.Naming.{finds-next, is_once-told}
 use Rattle.st_marks.proofs.index.map_of.Goals as goal
 
 pub loop-item-preserved : goal.loop-item-preserved
@@ -12,6 +11,5 @@ loop-item-preserved g c =
     let new = get atom_cmp c.add.new.map in
     record {
       found = finds-next name old new c.in-Some.item (left c.loop-item.walk) (left c.step.new.self) (left c.args.walk) c.loop-item.invariant.found c.in-Some.ensures c.in_ok-once.ensures.added;
-      once = subst (λ b. IsOnce name new (c.loop-item.once && b) (left c.step.new.self) (left c.args.walk)) (sym c.in_ok-once.ensures.fresh)
-          (is_once-next name old new c.loop-item.once c.in-Some.item (left c.loop-item.walk) (left c.step.new.self) (left c.args.walk) c.loop-item.invariant.once c.in-Some.ensures c.in_ok-once.ensures.added);
+      once = is_once-told name old new c.loop-item.once c.in_ok-once.field-0 c.in-Some.item (left c.loop-item.walk) (left c.step.new.self) (left c.args.walk) c.loop-item.invariant.once c.in-Some.ensures c.in_ok-once.ensures.added c.in_ok-once.ensures.fresh;
     }
