@@ -1,5 +1,5 @@
 -- Marks in normal form, one by one.
-use Rattle.std.proofs.Common.{◌≡◌, ℕ, zero, suc, Bool, true, false, not, ◌&&◌, List, [], ◌∷◌, refl, sym, ap, ◌∙◌, subst, IsTrue, ◌↔◌}
+use Rattle.std.proofs.Common.{◌≡◌, ◌≢◌, ℕ, zero, suc, Bool, true, false, not, ◌&&◌, List, [], ◌∷◌, refl, sym, ap, ◌∙◌, subst, IsTrue, ◌↔◌}
 use Rattle.st_marks.specs.declared.marks.Mark.{Mark}
 use Rattle.st_marks.specs.Row.{CellMark, Counted, Gap, Touch, Make, Fill, counted, spread, skip_one, merge}
 
@@ -66,9 +66,8 @@ merge-merged (Fill c n ∷ xs) = merge-merged xs
 pub merged_alone : (ms : List Mark) → IsTrue (is_merged false ms) ↔ (ms ≡ merge (spread ms))
 merged_alone ms = (merged-is ms, λ e. subst (λ xs. is_merged false xs ≡ true) (sym e) (merge-merged (spread ms)))
 
-pub behind_skip : (b : Bool) (k : ℕ) (ms : List Mark) → b ≡ true → is_merged b (Mark.Skip k ∷ ms) ≡ false
-behind_skip b zero ms e = refl
-behind_skip b (suc k) ms e = ap (λ b. not b && is_merged true ms) e
-
-pub of_nothing : (b : Bool) (k : ℕ) (ms : List Mark) → k ≡ 0 → is_merged b (Mark.Skip k ∷ ms) ≡ false
-of_nothing b k ms e = ap (λ k. is_merged b (Mark.Skip k ∷ ms)) e
+-- where a Skip may not stand
+pub may_not_stand : (b r : Bool) (k : ℕ) (ms : List Mark) → (IsTrue r ↔ ((k ≢ 0) × (b ≡ false))) → r ≡ false → is_merged b (Mark.Skip k ∷ ms) ≡ false
+may_not_stand b r zero ms h e = refl
+may_not_stand true r (suc k) ms h e = refl
+may_not_stand false r (suc k) ms h e = let bad : ◌≡◌ {A = Bool} false true = sym e ∙ h.1 (λ f. cc, refl) in cc

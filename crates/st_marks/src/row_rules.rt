@@ -1,5 +1,5 @@
 //! The rules of normal form on the marks of one row.
-ghost use Rattle.std.specs.Prelude.{◌≡◌, ◌<◌, ◌^◌, ◌↔◌, ◌∷◌, ◌||◌, IsTrue, List, length};
+ghost use Rattle.std.specs.Prelude.{◌≡◌, ◌≢◌, ◌<◌, ◌^◌, ◌↔◌, ◌∷◌, ◌||◌, IsTrue, List, false, length};
 ghost use Rattle.std.specs.List.{list_any};
 ghost use Rattle.st_marks.specs.declared.marks.Mark.{Mark as Marked};
 ghost use Rattle.st_marks.specs.Embedding.{tells};
@@ -9,6 +9,13 @@ ghost use Rattle.st_marks.specs.Shown.{cells_after, cells_before};
 use crate::lengths::{after, before};
 use crate::marks::{Mark, RowMarks};
 use crate::walk::Rule;
+
+// Whether a Skip of so many cells may stand behind a mark, which may be a Skip.
+fn may_skip(count: u32, behind_skip: bool) -> bool
+    ensures { IsTrue result ↔ ((count ≢ 0) × (behind_skip ≡ false)) }
+{
+    count != 0 && !behind_skip
+}
 
 // Whether no Skip is of 0 and none stands right behind another.
 fn is_merged(marks: &[Mark]) -> bool
@@ -20,7 +27,7 @@ fn is_merged(marks: &[Mark]) -> bool
             behind_skip = false;
             continue;
         };
-        if behind_skip || count == 0 {
+        if !may_skip(count, behind_skip) {
             return false;
         }
         behind_skip = true;
