@@ -15,9 +15,8 @@ use crate::look::Look;
 use crate::not_normal::NotNormal;
 use crate::picks::{CellsMade, Each, FoundIn, HoleOwners, KeptAt, Nowhere};
 use crate::rising::{ByField, ByNode, rises};
-use crate::rules::{Moves, is_rev};
+use crate::rules::{Moves, OPENING, is_rev};
 use crate::walk::{Along, Then, each, each_of, in_rows};
-use st_ids::Rev;
 use std::alloc::Global;
 
 // Whether all lists rise by name.
@@ -116,9 +115,6 @@ fn no_new_ring(alloc: Global, look: &Look<OfChange<'_>>) -> bool
     let change = look.lists.0;
     !ring_of_new(alloc, look, change.rows.as_slice(), change.regs.as_slice())
 }
-
-// The opening's revision.
-const OPENING: Rev = Rev { session: 0, num: 0 };
 
 // Whether the base is in effect under the opening's schema.
 fn opening_is_base(change: &Change) -> bool

@@ -63,8 +63,8 @@ impl Named for CellId {
     }
 }
 
-// The first thing of a name, of all that are left. It goes through them.
-fn find_in<I: Named, W: Walk<Item = I>>(mut walk: W, name: Atom) -> Option<I>
+/// The first thing of a name, of all that are left. It goes through them.
+pub fn find_in<I: Named, W: Walk<Item = I>>(mut walk: W, name: Atom) -> Option<I>
     ensures { result ≡ find (is_named I.name name) (W.left walk) }
 {
     while let Some(item) = walk.step() {
@@ -75,8 +75,8 @@ fn find_in<I: Named, W: Walk<Item = I>>(mut walk: W, name: Atom) -> Option<I>
     None
 }
 
-// Whether no two of the things that are left have one name. It compares each with all behind it.
-fn once_in<I: Named, W: Walk<Item = I>>(mut walk: W) -> bool
+/// Whether no two of the things that are left have one name. It compares each with all behind it.
+pub fn once_in<I: Named, W: Walk<Item = I>>(mut walk: W) -> bool
     ensures { IsTrue result ↔ AreDistinct I.name (W.left walk) }
 {
     while let Some(item) = walk.step() {

@@ -1,5 +1,5 @@
 //! What a commit wants, what it says where it stands, and what a document becomes by it: the types of intents,
-//! changes and steps, and laws about the definitions in specs/.
+//! changes and steps, whether changes and steps are in normal form, and laws about the definitions in specs/.
 #![tactic(auto)]
 
 mod change_check;

@@ -16,9 +16,12 @@ use crate::rings::is_same;
 use crate::walk::Rule;
 use st_ids::{Atom, NodeId, Rev, rev_order};
 
+/// The opening's revision.
+pub const OPENING: Rev = Rev { session: 0, num: 0 };
+
 /// The root of the tree.
 pub const ROOT: NodeId = NodeId(Atom {
-    rev: Rev { session: 0, num: 0 },
+    rev: OPENING,
     at: 0,
 });
 

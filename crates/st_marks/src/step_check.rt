@@ -16,7 +16,7 @@ use crate::look::Look;
 use crate::not_normal::NotNormal;
 use crate::picks::RevOf;
 use crate::rising::{ByField, ByNode, rises};
-use crate::rules::is_rev;
+use crate::rules::{OPENING, is_rev};
 use crate::schemas::{SchemaEntry, SchemaStep};
 use crate::step_rules::{EmptyBefore, IsNotSet, LeadsOn, StepTells};
 use crate::steps::Step;
@@ -93,7 +93,7 @@ impl Rule for IsBehind {
     ghost Holds = { λ s e. (e.rev ≢ opening) × (e.rev ≢ s.0) };
 
     fn holds(&self, entry: &SchemaEntry) -> bool {
-        !is_rev(entry.rev, Rev { session: 0, num: 0 }) && !is_rev(entry.rev, self.0)
+        !is_rev(entry.rev, OPENING) && !is_rev(entry.rev, self.0)
     }
 }
 

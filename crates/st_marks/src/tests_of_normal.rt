@@ -1,3 +1,6 @@
+use crate::index::{Index, Named, find_in, once_in};
+use crate::picks::Each;
+use crate::walk::Along;
 use crate::*;
 use st_ids::{Atom, CellId, FieldId, Key, List, NodeId, Rev, Text};
 use std::alloc::{AllocError, Global};
@@ -283,4 +286,25 @@ fn judges_steps(rt: HostRuntime) -> Result<(), Fail> {
     assert!(rt; !is_schema_step(alloc, OPENING, &[], &[REV, REV])?);
     assert!(rt; !is_schema_step(alloc, OPENING, &[REV], &[REV, OLD])?);
     Ok(())
+}
+
+#[test]
+fn looks_up_without_a_map(rt: HostRuntime) {
+    let alloc = rt.alloc();
+    let nodes = [FIRST, SECOND, FIRST];
+    let some = Along {
+        items: &nodes[..2],
+        part: Each,
+    };
+    let all = Along {
+        items: nodes.as_slice(),
+        part: Each,
+    };
+    assert_eq!(rt; once_in(some), Index::of(alloc, some).once);
+    assert_eq!(rt; once_in(all), Index::of(alloc, all).once);
+    assert_eq!(rt; find_in(all, SECOND.name()), Some(SECOND));
+    assert_eq!(rt;
+        find_in(all, THIRD.name()),
+        Index::of(alloc, all).find(THIRD.name())
+    );
 }

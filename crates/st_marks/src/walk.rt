@@ -6,7 +6,8 @@ ghost use Rattle.st_marks.specs.declared.marks.Mark.{Mark as Marked};
 ghost use Rattle.st_marks.specs.Walk.{IsNext};
 
 use crate::marks::{Mark, RowMarks};
-use st_ids::{Atom, NodeId, Rev};
+use crate::rules::ROOT;
+use st_ids::NodeId;
 
 /// A way through a list of things, of which some are left.
 pub trait Walk: Copy {
@@ -174,12 +175,8 @@ impl<'a, P: InRow> Walk for InRows<'a, P> {
 pub fn in_rows<P: InRow>(rows: &[RowMarks], part: P) -> InRows<'_, P>
     ensures { P.of result.row result.marks.now ++ flat_map (λ r. P.of r.node r.marks) result.rows.now ≡ flat_map (λ r. P.of r.node r.marks) rows.now }
 {
-    let row = NodeId(Atom {
-        rev: Rev { session: 0, num: 0 },
-        at: 0,
-    });
     InRows {
-        row,
+        row: ROOT,
         marks: &[],
         rows,
         part,
