@@ -63,10 +63,10 @@ compose_row-step_row m k (kept {y = t} b h) (kept {x = r} {y = s} a g) l =
     compose-step_cell (step_cell m r.cell r.node r.full s.full) (step_row m g) (step_row k h) k s.cell s.node s.full t.full
     ∙ (λ i. (ap (λ (x : CellMark). composed (step_cell m r.cell r.node r.full s.full) x) (λ j. step_cell k (sym a.0 j) (sym a.1 j) s.full t.full) ∙ composed-step_cell m k r.cell r.node r.full s.full t.full l.0) i ∷ compose_row-step_row m k h g l.1 i)
 
-or_left : (a b : Bool) → a ≡ true → (a || b) ≡ true
+pub or_left : (a b : Bool) → a ≡ true → (a || b) ≡ true
 or_left a b e = rw e refl
 
-or_right : (a b : Bool) → b ≡ true → (a || b) ≡ true
+pub or_right : (a b : Bool) → b ≡ true → (a || b) ≡ true
 or_right true b e = refl
 or_right false b e = e
 

@@ -8,6 +8,8 @@ pub mod Effected
 pub mod Touched
 pub mod Pairs
 pub mod Walking
+pub mod Laying
+pub mod Bridged
 pub mod Described
 pub mod Joining
 pub mod Short

@@ -4,6 +4,7 @@ use Rattle.std.proofs.lemmas.List.{take_more, get_or_default, take-append-drop, 
 use Rattle.st_marks.proofs.MarkLengths.{spread-append}
 use Rattle.st_marks.specs.declared.marks.Mark.{Mark}
 use Rattle.st_marks.specs.Row.{CellMark, Counted, spread, counted}
+use Rattle.st_seq.specs.Reading.{cell_of}
 
 -- so many counted cells, each of which stays one
 pub map-counted : (f : CellMark → CellMark) (k : ℕ) → f Counted ≡ Counted → counted k [] ≡ map f (counted k [])
@@ -35,3 +36,18 @@ map_fits f ms out r d i most l e g h =
     let b : length (spread (r ∷ [])) ≡ length (map f (spread (get_or ms i d ∷ []))) = ap length g in
     let c = map_room f ms i (get_or ms i d) l (get_or_default ms i (get_or ms i d) d l) in
     omega (arith, a, b, c, h)
+
+-- what a mark says of its cell, from the cells that it lists
+pub cell_is : (m : Mark) (x : CellMark) → spread (m ∷ []) ≡ x ∷ [] → cell_of m ≡ x
+cell_is (Mark.Skip k) x e = skipped k e
+  where
+    skipped : (k : ℕ) → counted k [] ≡ x ∷ [] → Counted ≡ x
+    skipped zero e = cc
+    skipped (suc k) e = first e
+      where
+        first : {xs ys : List CellMark} → ◌≡◌ {A = List CellMark} (Counted ∷ xs) (x ∷ ys) → Counted ≡ x
+        first e = ap (λ l. get_or l 0 x) e
+cell_is (Mark.Gap c) x e = ap (λ l. get_or l 0 x) e
+cell_is (Mark.Touch c n h) x e = ap (λ l. get_or l 0 x) e
+cell_is (Mark.Make c n b) x e = ap (λ l. get_or l 0 x) e
+cell_is (Mark.Fill c n) x e = ap (λ l. get_or l 0 x) e

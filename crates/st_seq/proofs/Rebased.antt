@@ -1,5 +1,5 @@
 -- A change of a row after a step.
-use Rattle.std.proofs.Common.{◌≡◌, ◌≢◌, Bool, true, false, List, [], ◌∷◌, ◌++◌, Option, Some, None, map, cond, refl, sym, ap, ◌∙◌, subst, inl, inr}
+use Rattle.std.proofs.Common.{◌≡◌, ◌≢◌, Bool, true, false, List, [], ◌∷◌, ◌++◌, Option, Some, None, cond, refl, sym, ap, ◌∙◌, subst, inl, inr}
 use Rattle.std.specs.Option.{option_or}
 use Rattle.st_ids.specs.Order.{same_node}
 use Rattle.st_ids.proofs.Orders.{same_node-true, same_cell-true, same_node-itself}
@@ -13,8 +13,8 @@ use Rattle.st_marks.specs.declared.places.Slot.{Slot}
 use Rattle.st_marks.specs.Extends.{Grows, done, gained, kept}
 use Rattle.st_marks.specs.Row.{CellMark, Counted, Gap, Touch, Make, Fill, RowPart, SameCell, same_to, how, is_here, step_cell, step_row, embed_cell, embed_made, embed_cells, embed_row}
 use Rattle.st_seq.specs.Cells.{touch_of, still, emptied, how_there, filled, rebased, gained_cell, rebased_piece, over_row}
-use Rattle.st_seq.specs.Walks.{CellPiece, beside, meeting}
 use Rattle.st_seq.specs.Changes.{StandsIn, NamesNoGained}
+use Rattle.st_seq.proofs.Laying.{beside-kept, beside-gained}
 
 pub same_put : (to : To) (c : CellId) → same_to to (To.Cell c) ≡ true → to ≡ To.Cell c
 same_put To.Nowhere c e = cc
@@ -26,20 +26,6 @@ same_put (To.Register f) c e = cc
 over-made : (t : NodeId → Option How) (p : RowPart) (os : List Owned) (xs ys : List CellMark) → over_row t (embed_made p os ++ xs) ys ≡ embed_made p os ++ over_row t xs ys
 over-made t p [] xs ys = refl
 over-made t p (o ∷ os) xs ys = ap (λ l. Make o.cell o.node (is_here (how (p.goes o.node) (To.Cell o.cell))) ∷ l) (over-made t p os xs ys)
-
--- what is found is never a made cell
-over-found : (t : NodeId → Option How) (p : RowPart) (c : CellId) (n : NodeId) (b : Bool) (xs ys : List CellMark) → over_row t (embed_cell p c n b ∷ xs) ys ≡ map (rebased_piece t) (meeting (embed_cell p c n b) (beside xs) ys)
-over-found t p c n true xs ys =
-    elim (p.mentioned n) as (λ b. over_row t (cond b (Touch c n (how (p.goes n) (To.Cell c))) Counted ∷ xs) ys ≡ map (rebased_piece t) (meeting (cond b (Touch c n (how (p.goes n) (To.Cell c))) Counted) (beside xs) ys)) [ true ↦ refl | false ↦ refl ]
-over-found t p c n false xs ys =
-    elim (is_here (how (p.goes n) (To.Cell c))) as (λ b. over_row t (cond b (Fill c n) (Gap c) ∷ xs) ys ≡ map (rebased_piece t) (meeting (cond b (Fill c n) (Gap c)) (beside xs) ys)) [ true ↦ refl | false ↦ refl ]
-
-meeting-step_cell : (t : NodeId → Option How) (x : CellMark) (rest : List CellMark → List CellPiece) (m : NodeId → Bool) (c : CellId) (n : NodeId) (a b : Bool) (ys : List CellMark) → map (rebased_piece t) (meeting x rest (step_cell m c n a b ∷ ys)) ≡ rebased t x (step_cell m c n a b) ∷ map (rebased_piece t) (rest ys)
-meeting-step_cell t x rest m c n true true ys =
-    elim (m n) as (λ b. map (rebased_piece t) (meeting x rest (cond b (Touch c n Stay) Counted ∷ ys)) ≡ rebased t x (cond b (Touch c n Stay) Counted) ∷ map (rebased_piece t) (rest ys)) [ true ↦ refl | false ↦ refl ]
-meeting-step_cell t x rest m c n true false ys = refl
-meeting-step_cell t x rest m c n false true ys = refl
-meeting-step_cell t x rest m c n false false ys = refl
 
 -- ## What the marks tell of a node
 
@@ -91,14 +77,14 @@ module _ (t : NodeId → Option How) (p : RowPart) where
       unput None h e = refl
       unput (Some to) h e = let q : ◌≡◌ {A = Bool} false true = sym e ∙ h (λ z. cc) in cc
 
-  rebased-found : (m : NodeId → Bool) (c : CellId) (n : NodeId) (a b : Bool) → (a ≡ true → p.goes n ≢ None → p.mentioned n ≡ true) → (b ≡ true → Tells p n (t n)) → rebased t (embed_cell p c n a) (step_cell m c n a b) ≡ embed_cell p c n b
+  pub rebased-found : (m : NodeId → Bool) (c : CellId) (n : NodeId) (a b : Bool) → (a ≡ true → p.goes n ≢ None → p.mentioned n ≡ true) → (b ≡ true → Tells p n (t n)) → rebased t (embed_cell p c n a) (step_cell m c n a b) ≡ embed_cell p c n b
   rebased-found m c n true true h e = elim (m n) as (λ b. rebased t (embed_cell p c n true) (cond b (Touch c n Stay) Counted) ≡ embed_cell p c n true) [ true ↦ refl | false ↦ refl ]
   rebased-found m c n true false h e = emptied-found c n (h refl)
   rebased-found m c n false true h e = filled-found c n (t n) (e refl)
   rebased-found m c n false false h e = refl
 
   -- a cell that is gained
-  gained-found : (c : CellId) (n : NodeId) (b : Bool) → p.goes n ≢ Some (To.Cell c) → (b ≡ true → Tells p n (t n)) → gained_cell t c n b ≡ embed_cell p c n b
+  pub gained-found : (c : CellId) (n : NodeId) (b : Bool) → p.goes n ≢ Some (To.Cell c) → (b ≡ true → Tells p n (t n)) → gained_cell t c n b ≡ embed_cell p c n b
   gained-found c n b h e = go b e
     where
       away : is_here (how (p.goes n) (To.Cell c)) ≡ false
@@ -117,13 +103,10 @@ module _ (t : NodeId → Option How) (p : RowPart) where
 
   over-cells : (m : NodeId → Bool) {c d : List Slot} (g : Grows SameCell c d) → NamesNoGained p g → ((n : NodeId) → StandsIn n c → p.goes n ≢ None → p.mentioned n ≡ true) → ((n : NodeId) → StandsIn n d → Tells p n (t n)) → over_row t (embed_cells p c) (step_row m g) ≡ embed_cells p d
   over-cells m done h k e = refl
-  over-cells m (gained {y = s} {xs = []} {ys = d} g) h k e =
-      rw h.0 (λ i. gained-found s.cell s.node s.full h.1 (λ q. e s.node (inl (refl, q))) i ∷ over-cells m g h.2 k (λ n w. e n (inr w)) i)
-  over-cells m (gained {y = s} {xs = x ∷ c} {ys = d} g) h k e =
-      rw h.0 (over-found t p x.cell x.node x.full _ _ ∙ (λ i. gained-found s.cell s.node s.full h.1 (λ q. e s.node (inl (refl, q))) i ∷ (sym (over-found t p x.cell x.node x.full _ (step_row m g)) ∙ over-cells m g h.2 k (λ n w. e n (inr w))) i))
+  over-cells m (gained {y = s} {xs = c} {ys = d} g) h k e =
+      rw h.0 (beside-gained (rebased_piece t) p c s.cell s.node s.full (step_row m g) ∙ (λ i. gained-found s.cell s.node s.full h.1 (λ q. e s.node (inl (refl, q))) i ∷ over-cells m g h.2 k (λ n w. e n (inr w)) i))
   over-cells m (kept {x = s} {y = u} {xs = c} {ys = d} a g) h k e =
-      over-found t p s.cell s.node s.full _ _
-      ∙ meeting-step_cell t (embed_cell p s.cell s.node s.full) (beside (embed_made p (p.made (Some s.cell)) ++ embed_cells p c)) m s.cell s.node s.full u.full (step_row m g)
+      beside-kept (rebased_piece t) p m s.cell s.node s.full u.full (embed_made p (p.made (Some s.cell)) ++ embed_cells p c) (step_row m g)
       ∙ (λ i. rebased-found m s.cell s.node s.full u.full (λ q. k s.node (inl (refl, q))) (λ q. subst (λ n. Tells p n (t n)) (sym a.1) (e u.node (inl (refl, q)))) i
       ∷ (over-made t p (p.made (Some s.cell)) (embed_cells p c) (step_row m g) ∙ ap (λ l. embed_made p (p.made (Some s.cell)) ++ l) (over-cells m g h (λ n w. k n (inr w)) (λ n w. e n (inr w)))) i)
       ∙ (λ i. embed_cell p (a.0 i) (a.1 i) u.full ∷ (embed_made p (p.made (Some (a.0 i))) ++ embed_cells p d))

@@ -12,7 +12,7 @@ use Rattle.st_seq.specs.Changes.{StandsIn, AreOld, void_part}
 use Rattle.st_seq.proofs.Effected.{effect_row-embed_row, grown_row}
 
 module _ (placed : Nodes) (p : RowPart) where
-  void-made : (o : Owned) → (is_here (how (p.goes o.node) (To.Cell o.cell)) && placed o.node) ≡ is_here (how (cond (placed o.node) (p.goes o.node) None) (To.Cell o.cell))
+  pub void-made : (o : Owned) → (is_here (how (p.goes o.node) (To.Cell o.cell)) && placed o.node) ≡ is_here (how (cond (placed o.node) (p.goes o.node) None) (To.Cell o.cell))
   void-made o = elim (placed o.node) as (λ b. (is_here (how (p.goes o.node) (To.Cell o.cell)) && b) ≡ is_here (how (cond b (p.goes o.node) None) (To.Cell o.cell))) [
     | true ↦ and-true (is_here (how (p.goes o.node) (To.Cell o.cell)))
     | false ↦ and-false (is_here (how (p.goes o.node) (To.Cell o.cell)))

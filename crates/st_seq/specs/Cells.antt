@@ -8,9 +8,9 @@ use Rattle.st_marks.specs.declared.marks.How.{How}
 use Rattle.st_marks.specs.declared.marks.How.TheVariants.{Stay, Here, Leave}
 use Rattle.st_kind.specs.Named.{Nodes}
 use Rattle.st_marks.specs.declared.places.Slot.{Slot}
-use Rattle.st_seq.specs.Agreement.{seen_after}
+use Rattle.st_seq.specs.Agreement.{seen_before, seen_after}
 use Rattle.st_seq.specs.Walks.{CellPiece, Both, First, Then, in_turn, beside}
-use Rattle.st_marks.specs.Row.{CellMark, Counted, Gap, Touch, Make, Fill}
+use Rattle.st_marks.specs.Row.{CellMark, Counted, Gap, Touch, Make, Fill, step_cell}
 
 -- ## Steps in turn
 
@@ -144,6 +144,54 @@ rebased_piece seen (Then y) = y
 -- the change after the step
 abbrev pub over_row : (NodeId → Option How) → List CellMark → List CellMark → List CellMark
 over_row seen xs ys = map (rebased_piece seen) (beside xs ys)
+
+-- ## A step after a change
+
+-- a cell with its owner named, by whether it is full before and whether it is full after
+abbrev pub turned : CellId → NodeId → Bool → Bool → CellMark
+turned c n a b = step_cell (λ _. true) c n a b
+
+-- a cell that both find, full or not before and after as it is said: its owner is named where the change or the step names
+-- it, and else it is as the step has it
+abbrev pub stepped : CellMark → CellMark → Bool → Bool → CellMark
+stepped (Touch c n h) y a b = turned c n a b
+stepped (Fill c n) y a b = turned c n a b
+stepped (Gap c) (Fill d n) a b = turned d n a b
+stepped (Gap c) y a b = y
+stepped (Make c n f) y a b = y
+stepped Counted y a b = y
+
+-- whether the cell is full before: as the change finds it, if it was void, and else as the change leaves it
+abbrev pub full_first : Bool → CellMark → Bool
+full_first void x = if void then (seen_before x).full else (seen_after x).full
+
+-- whether it is full after: as the step leaves it, if the change is void, and else as the change does where it stands then
+abbrev pub full_then : Bool → (NodeId → Option How) → CellMark → CellMark → Bool
+full_then void seen x y = if void then (seen_after y).full else (seen_after (rebased seen x y)).full
+
+-- what the step says of the cell over the change
+abbrev pub bridged : Bool → Bool → (NodeId → Option How) → CellMark → CellMark → CellMark
+bridged was_void is_void seen x y = if was_void && is_void then y else stepped x y (full_first was_void x) (full_then is_void seen x y)
+
+-- whether a cell that the change makes is full: if it is void, only with a placed node
+abbrev pub made_full : Nodes → NodeId → Bool → Bool → Bool
+made_full placed n full void = if void then full && placed n else full
+
+-- whether a cell that the step makes is full
+abbrev pub gained_full : (NodeId → Option How) → CellId → NodeId → Bool → Bool → Bool
+gained_full seen c n full void = if void then full else (seen_after (gained_cell seen c n full)).full
+
+-- a cell of the step after the change
+abbrev pub bridged_piece : Bool → Bool → Nodes → (NodeId → Option How) → CellPiece → CellMark
+bridged_piece was_void is_void placed seen (Both x y) = bridged was_void is_void seen x y
+bridged_piece was_void is_void placed seen (First (Make c n b)) = turned c n (made_full placed n b was_void) (made_full placed n b is_void)
+bridged_piece was_void is_void placed seen (First x) = x
+bridged_piece was_void is_void placed seen (Then (Make c n b)) = Make c n (gained_full seen c n b is_void)
+bridged_piece was_void is_void placed seen (Then y) = y
+
+-- the step after the change
+abbrev pub bridge_row : Bool → Bool → Nodes → (NodeId → Option How) → List CellMark → List CellMark → List CellMark
+bridge_row was_void is_void placed seen xs ys = map (bridged_piece was_void is_void placed seen) (beside xs ys)
 
 -- ## Two changes in turn
 

@@ -74,6 +74,24 @@ pub record Keeps (p : RowPart) (c d : List Slot) (g : Grows SameCell c d) : Type
   pub older : NamesNoGained p g
   pub stays : (n : NodeId) → p.mentioned n ≡ true → StandsIn n d → StandsIn n c
 
+-- there is no group at a cell that the step makes
+abbrev pub NoGroupAtGained : RowPart → {c d : List Slot} → Grows SameCell c d → Type 0
+NoGroupAtGained p done = Unit {0}
+NoGroupAtGained p (gained {y} g) = (p.made (Some y.cell) ≡ []) × NoGroupAtGained p g
+NoGroupAtGained p (kept same g) = NoGroupAtGained p g
+
+-- the row after the change, which is void or not
+abbrev pub row_after : Nodes → RowPart → Bool → List Slot → List Slot
+row_after placed p void c = carried_row (if void then void_part placed p else p) c
+
+-- what bridging the step of one row over a change asks, where the part makes these nodes: no cell has one of them as its
+-- owner, the others that it puts are mentioned, and it makes no cells after those of the step
+pub record StandsOver (p : RowPart) (makes : Nodes) (c d : List Slot) (g : Grows SameCell c d) : Type 0 where
+  pub old_before : AreOld makes c
+  pub old_after : AreOld makes d
+  pub mentions : (n : NodeId) → p.goes n ≢ None → makes n ≡ false → p.mentioned n ≡ true
+  pub groups : NoGroupAtGained p g
+
 -- at most so many cells are listed by a change after a step: those that each makes, and those that the step finds
 abbrev pub may_list : List CellMark → List CellMark → ℕ
 may_list xs ys = length (cells_made xs) + length (cells_made ys) + length (cells_before ys)

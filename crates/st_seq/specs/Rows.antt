@@ -1,5 +1,5 @@
 -- What becomes of a row over steps.
-use Rattle.std.specs.Prelude.{◌≡◌, true, false, List, [], ◌∷◌}
+use Rattle.std.specs.Prelude.{◌≡◌, ◌≢◌, true, false, List, [], ◌∷◌}
 use Rattle.st_kind.specs.Named.{Nodes}
 use Rattle.st_marks.specs.declared.marks.Mark.{Mark}
 use Rattle.st_marks.specs.declared.places.Slot.{Slot}
@@ -11,6 +11,12 @@ abbrev pub NamesLeavers : Nodes → {c d : List Slot} → Grows SameCell c d →
 NamesLeavers m done = Unit {0}
 NamesLeavers m (gained g) = NamesLeavers m g
 NamesLeavers m (kept {x} {y} same g) = (x.full ≡ true → y.full ≡ false → m x.node ≡ true) × NamesLeavers m g
+
+-- each node that leaves its cell or comes into one is named
+abbrev pub NamesMoved : Nodes → {c d : List Slot} → Grows SameCell c d → Type 0
+NamesMoved m done = Unit {0}
+NamesMoved m (gained g) = NamesMoved m g
+NamesMoved m (kept {x} {y} same g) = (x.full ≢ y.full → m x.node ≡ true) × NamesMoved m g
 
 -- the marks of a step from the row c to the row d, with these nodes named
 pub record IsRowStep (named : Nodes) (c d : List Slot) (marks : List Mark) : Type 0 where

@@ -61,7 +61,7 @@ fn emptied(cell: CellId, node: NodeId, x: Mark) -> Mark
 }
 
 /// What the change says of a cell that the step makes.
-fn gained(seen: &BTreeMap<NodeId, How>, cell: CellId, node: NodeId, full: bool) -> Mark
+pub fn gained(seen: &BTreeMap<NodeId, How>, cell: CellId, node: NodeId, full: bool) -> Mark
     ensures { spread (result ∷ []) ≡ gained_cell (get node_cmp seen.now) cell node full ∷ [] }
 {
     if full {
@@ -72,7 +72,7 @@ fn gained(seen: &BTreeMap<NodeId, How>, cell: CellId, node: NodeId, full: bool) 
 }
 
 /// What the change says of a cell that both find.
-fn both(seen: &BTreeMap<NodeId, How>, x: Mark, y: Mark) -> Mark
+pub fn both(seen: &BTreeMap<NodeId, How>, x: Mark, y: Mark) -> Mark
     requires { IsSingle x }
     ensures { spread (result ∷ []) ≡ rebased_cell (get node_cmp seen.now) (cell_of x) (cell_of y) ∷ [] }
 {

@@ -1,6 +1,7 @@
 //! The algebra of rows: what steps and changes of one row become, on their marks alone.
 #![tactic(auto)]
 
+mod across;
 mod among;
 mod back;
 mod beside;
@@ -16,6 +17,7 @@ mod touches;
 mod turns;
 mod walk;
 
+pub use across::bridge;
 pub use back::invert;
 pub use beside::rebase;
 pub use carry::{effect, void_effect};

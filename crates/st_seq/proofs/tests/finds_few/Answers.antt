@@ -1,6 +1,5 @@
 use Rattle.std.proofs.Common.{rules}
 use Rattle.st_marks.specs.Row.{spread}
-use Rattle.st_marks.specs.Shown.{cells_before}
 use Rattle.st_seq.proofs.Short.{finds_few}
 use Rattle.st_seq.proofs.tests.finds_few.Goals as goal
 
