@@ -17,3 +17,10 @@ pub mod Voided
 pub mod Searching
 pub mod Leading
 pub mod Differences
+pub mod Fitting
+pub mod Retreating
+pub mod Rising
+pub mod Forms
+pub mod Laid
+pub mod Telling
+pub mod Keeping

@@ -4,17 +4,13 @@ use Rattle.std.specs.Option.{option_to_list}
 use Rattle.st_marks.proofs.MarkLengths.{spread-append}
 use Rattle.st_marks.specs.declared.marks.Mark.{Mark}
 use Rattle.st_marks.specs.Row.{CellMark, Counted, Gap, Touch, Make, Fill, spread, counted, merge, skip_one}
+use Rattle.st_seq.specs.Form.{begins_with_skip}
 use Rattle.st_seq.specs.Merged.{IsMerged, is_skip, count_in}
 
 -- ## Told mark by mark
 
--- whether the first mark counts cells
-abbrev begins_with_skip : List Mark → Bool
-begins_with_skip [] = false
-begins_with_skip (m ∷ ms) = is_skip m
-
 -- a mark that counts cells counts some, and stands before none of its kind
-abbrev Stands : Mark → List Mark → Type 0
+abbrev pub Stands : Mark → List Mark → Type 0
 Stands (Mark.Skip zero) ms = ⊥
 Stands (Mark.Skip (suc k)) ms = begins_with_skip ms ≡ false
 Stands (Mark.Gap c) ms = Unit {0}
@@ -22,7 +18,7 @@ Stands (Mark.Touch c n h) ms = Unit {0}
 Stands (Mark.Make c n b) ms = Unit {0}
 Stands (Mark.Fill c n) ms = Unit {0}
 
-abbrev AllStand : List Mark → Type 0
+abbrev pub AllStand : List Mark → Type 0
 AllStand [] = Unit {0}
 AllStand (m ∷ ms) = Stands m ms × AllStand ms
 
@@ -35,7 +31,7 @@ skip_one-stands (Mark.Touch c n x ∷ ms) h = (refl, h)
 skip_one-stands (Mark.Make c n b ∷ ms) h = (refl, h)
 skip_one-stands (Mark.Fill c n ∷ ms) h = (refl, h)
 
-merge-stands : (ms : List CellMark) → AllStand (merge ms)
+pub merge-stands : (ms : List CellMark) → AllStand (merge ms)
 merge-stands [] = tt
 merge-stands (Counted ∷ ms) = skip_one-stands (merge ms) (merge-stands ms)
 merge-stands (Gap c ∷ ms) = (tt, merge-stands ms)
@@ -55,7 +51,7 @@ merge-counted : (k : ℕ) (cells : List CellMark) (ms : List Mark) → merge cel
 merge-counted zero cells ms e h = ap skip_one e ∙ skip_first ms h
 merge-counted (suc k) cells ms e h = ap skip_one (merge-counted k cells ms e h)
 
-stands-merge : (ms : List Mark) → AllStand ms → merge (spread ms) ≡ ms
+pub stands-merge : (ms : List Mark) → AllStand ms → merge (spread ms) ≡ ms
 stands-merge [] h = refl
 stands-merge (Mark.Skip zero ∷ ms) h = absurd h.0
 stands-merge (Mark.Skip (suc k) ∷ ms) h = merge-counted k (spread ms) ms (stands-merge ms h.1) h.0
@@ -64,26 +60,10 @@ stands-merge (Mark.Touch c n x ∷ ms) h = ap (λ l. Mark.Touch c n x ∷ l) (st
 stands-merge (Mark.Make c n b ∷ ms) h = ap (λ l. Mark.Make c n b ∷ l) (stands-merge ms h.1)
 stands-merge (Mark.Fill c n ∷ ms) h = ap (λ l. Mark.Fill c n ∷ l) (stands-merge ms h.1)
 
-merged-stands : (ms : List Mark) → IsMerged ms → AllStand ms
+pub merged-stands : (ms : List Mark) → IsMerged ms → AllStand ms
 merged-stands ms h = subst AllStand h (merge-stands (spread ms))
 
--- ## Cells that are merged and laid out again
-
-spread-skip_one : (ms : List Mark) → spread (skip_one ms) ≡ Counted ∷ spread ms
-spread-skip_one [] = refl
-spread-skip_one (Mark.Skip k ∷ ms) = refl
-spread-skip_one (Mark.Gap c ∷ ms) = refl
-spread-skip_one (Mark.Touch c n x ∷ ms) = refl
-spread-skip_one (Mark.Make c n b ∷ ms) = refl
-spread-skip_one (Mark.Fill c n ∷ ms) = refl
-
-pub spread-merge : (cells : List CellMark) → spread (merge cells) ≡ cells
-spread-merge [] = refl
-spread-merge (Counted ∷ ms) = spread-skip_one (merge ms) ∙ ap (λ l. Counted ∷ l) (spread-merge ms)
-spread-merge (Gap c ∷ ms) = ap (λ l. Gap c ∷ l) (spread-merge ms)
-spread-merge (Touch c n h ∷ ms) = ap (λ l. Touch c n h ∷ l) (spread-merge ms)
-spread-merge (Make c n b ∷ ms) = ap (λ l. Make c n b ∷ l) (spread-merge ms)
-spread-merge (Fill c n ∷ ms) = ap (λ l. Fill c n ∷ l) (spread-merge ms)
+-- ## Counts
 
 pub counted-plus : (j k : ℕ) (xs : List CellMark) → counted (j + k) xs ≡ counted j (counted k xs)
 counted-plus zero k xs = let e : zero + k ≡ k = omega arith in rw e refl
@@ -239,6 +219,3 @@ none_there old e i p = subst (λ l. IsMerged (l ++ Mark.Skip i ∷ [])) (sym (no
 -- merged marks are those of their cells
 pub merged_is : (ms : List Mark) (cells : List CellMark) → IsMerged ms → spread ms ≡ cells → ms ≡ merge cells
 merged_is ms cells h e = sym h ∙ ap merge e
-
-pub spread_of : (ms : List Mark) (cells : List CellMark) → ms ≡ merge cells → spread ms ≡ cells
-spread_of ms cells e = ap spread e ∙ spread-merge cells

@@ -38,11 +38,11 @@ still-how : (g : Option To) (here : To) → still (how g here) ≡ moved g
 still-how None here = refl
 still-how (Some to) here = elim (same_to to here) as (λ b. still (cond b Here Leave) ≡ Leave) [ true ↦ refl | false ↦ refl ]
 
-not-here : (g : Option To) (here : To) → is_here (how g here) ≡ false → how g here ≡ moved g
+pub not-here : (g : Option To) (here : To) → is_here (how g here) ≡ false → how g here ≡ moved g
 not-here None here e = refl
 not-here (Some to) here e = elim (same_to to here) as (λ b. is_here (cond b Here Leave) ≡ false → cond b Here Leave ≡ Leave) [ true ↦ (λ e. cc) | false ↦ (λ e. refl) ] e
 
-is-here : (h : How) → is_here h ≡ true → h ≡ Here
+pub is-here : (h : How) → is_here h ≡ true → h ≡ Here
 is-here Stay e = cc
 is-here Here e = refl
 is-here Leave e = cc

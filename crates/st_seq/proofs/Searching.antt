@@ -52,7 +52,7 @@ adjacent (x ∷ (y ∷ zs)) h (suc k) d l =
     let e : suc k + 1 ≡ suc (k + 1) = omega arith in
     subst (λ i. is_lt (node_cmp (get_or (x ∷ (y ∷ zs)) i d) (get_or (x ∷ (y ∷ zs)) (suc k) d)) ≡ false) (sym e) (adjacent (y ∷ zs) (second_of_two _ _ h) k d (omega (arith, l)))
 
-rises : (xs : List NodeId) (x : NodeId) → IsRising node_cmp (λ (n : NodeId). n) xs → IsNonDecreasingBy (λ y. ordering_index (node_cmp y x)) xs
+pub rises : (xs : List NodeId) (x : NodeId) → IsRising node_cmp (λ (n : NodeId). n) xs → IsNonDecreasingBy (λ y. ordering_index (node_cmp y x)) xs
 rises xs x h = searchable_from_sorted node_cmp_total (λ y. y) xs x (λ k d a b. adjacent xs h k d b)
 
 not_equal : (o : Ordering) → (o ≡ Less) ⊎ (o ≡ Greater) → is_eq o ≡ false

@@ -1,8 +1,11 @@
 -- How many cells a row lists.
 use Rattle.std.proofs.Common.{◌≡◌, ◌+◌, ◌<◌, ◌≤◌, ℕ, min, List, [], ◌∷◌, length, arith}
+use Rattle.std.specs.Prelude.{IsTrue, nat_lt}
+use Rattle.std.proofs.lemmas.Bool.Decides.{nat_tests}
 use Rattle.st_marks.specs.Row.{CellMark, Counted, Gap, Touch, Make, Fill}
 use Rattle.st_marks.specs.Shown.{cells_before, cells_after, cells_made}
 use Rattle.st_seq.specs.Changes.{may_list}
+use Rattle.st_seq.specs.Laws.{made_or_found}
 
 all_after : (xs : List CellMark) → length (cells_after xs) ≡ length xs
 all_after [] = omega arith
@@ -11,14 +14,6 @@ all_after (Gap c ∷ xs) = omega (arith, all_after xs)
 all_after (Touch c n h ∷ xs) = omega (arith, all_after xs)
 all_after (Make c n b ∷ xs) = omega (arith, all_after xs)
 all_after (Fill c n ∷ xs) = omega (arith, all_after xs)
-
-made_or_found : (xs : List CellMark) → length (cells_made xs) + length (cells_before xs) ≡ length xs
-made_or_found [] = omega arith
-made_or_found (Counted ∷ xs) = omega (arith, made_or_found xs)
-made_or_found (Gap c ∷ xs) = omega (arith, made_or_found xs)
-made_or_found (Touch c n h ∷ xs) = omega (arith, made_or_found xs)
-made_or_found (Make c n b ∷ xs) = omega (arith, made_or_found xs)
-made_or_found (Fill c n ∷ xs) = omega (arith, made_or_found xs)
 
 pub is_short : (n : ℕ) (xs : List CellMark) → n ≡ min (length (cells_after xs)) 4294967296 → n ≤ 4294967295 → length xs < 4294967296
 is_short n xs e h = let a = all_after xs in omega (arith, a, e, h)
@@ -33,3 +28,6 @@ are_short n m xs ys e f h =
 
 pub finds_few : (n : ℕ) (xs : List CellMark) → n ≡ min (length (cells_before xs)) 4294967296 → n ≤ 4294967295 → length (cells_before xs) < 4294967296
 finds_few n xs e h = omega (arith, e, h)
+
+pub short_or_not : (n : ℕ) (xs : List CellMark) → n ≡ min (length (cells_after xs)) 4294967296 → (IsTrue (nat_lt n 4294967296) → length xs < 4294967296) × (length xs < 4294967296 → IsTrue (nat_lt n 4294967296))
+short_or_not n xs e = let a = all_after xs in (λ t. grind (arith, nat_tests, a, e, t), λ h. grind (arith, nat_tests, a, e, h))

@@ -6,3 +6,6 @@ pub mod Rows
 pub mod Changes
 pub mod Reading
 pub mod Turns
+pub mod Sequence
+pub mod Laws
+pub mod Form

@@ -21,6 +21,7 @@ use std::alloc::Global;
 
 /// The next cell of the row after a step, and what is left of the row and of the step; or that these differ at the next
 /// cell. `found` is 1 where the cell was there before.
+#[derive(Drop)]
 pub enum SlotTurn<'a> {
     Done,
     Apart,
@@ -87,7 +88,7 @@ fn found_turn<'a>(slots: &'a [Slot], head: Head, marks: &'a [Mark]) -> SlotTurn<
 }
 
 /// One turn; so many counted cells stand before the marks.
-fn slot_turn<'a>(slots: &'a [Slot], count: u32, marks: &'a [Mark]) -> SlotTurn<'a>
+pub fn slot_turn<'a>(slots: &'a [Slot], count: u32, marks: &'a [Mark]) -> SlotTurn<'a>
     ensures { IsSlotTurn slots.now (left count marks.now) result }
 {
     let (head, rest) = next(count, marks);

@@ -3,7 +3,8 @@ use Rattle.st_marks.specs.Row.{spread, step_row}
 use Rattle.st_seq.specs.Cells.{invert_row}
 use Rattle.st_seq.proofs.Answered.{both_ok}
 use Rattle.st_seq.proofs.Inverted.{invert_row-step_row, backward}
-use Rattle.st_seq.proofs.Merging.{merged_is, spread_of}
+use Rattle.st_seq.proofs.Merging.{merged_is}
+use Rattle.st_seq.specs.Laws.{spread_of}
 use Rattle.st_seq.proofs.back.invert.Goals as goal
 
 pub returns : goal.returns

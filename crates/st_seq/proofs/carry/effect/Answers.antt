@@ -3,7 +3,8 @@ use Rattle.st_marks.specs.Row.{spread, step_row, embed_row}
 use Rattle.st_seq.specs.Cells.{effect_row}
 use Rattle.st_seq.proofs.Answered.{both_ok}
 use Rattle.st_seq.proofs.Effected.{effect_row-embed_row, grown_row}
-use Rattle.st_seq.proofs.Merging.{merged_is, spread_of}
+use Rattle.st_seq.proofs.Merging.{merged_is}
+use Rattle.st_seq.specs.Laws.{spread_of}
 use Rattle.st_seq.proofs.carry.effect.Goals as goal
 
 pub returns : goal.returns

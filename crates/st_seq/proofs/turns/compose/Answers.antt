@@ -7,7 +7,8 @@ use Rattle.st_seq.specs.Cells.{compose_row}
 use Rattle.st_seq.proofs.Answered.{none_apart}
 use Rattle.st_seq.proofs.Composed.{compose_row-step_row, grows_on}
 use Rattle.st_seq.proofs.Described.{no_difference, step_finds, step_leaves}
-use Rattle.st_seq.proofs.Merging.{merged_is, spread_of}
+use Rattle.st_seq.proofs.Merging.{merged_is}
+use Rattle.st_seq.specs.Laws.{spread_of}
 use Rattle.std.proofs.Common.{subst}
 use Rattle.st_kind.specs.Refused.{IsApartWhere}
 use Rattle.st_seq.specs.Agreement.{DifferAt}

@@ -7,7 +7,8 @@ use Rattle.st_seq.specs.Changes.{carried_row}
 use Rattle.st_seq.proofs.Answered.{none_apart}
 use Rattle.st_seq.proofs.Described.{no_difference, change_finds, change_leaves}
 use Rattle.st_seq.proofs.Joining.{join_row-embed_row}
-use Rattle.st_seq.proofs.Merging.{merged_is, spread_of}
+use Rattle.st_seq.proofs.Merging.{merged_is}
+use Rattle.st_seq.specs.Laws.{spread_of}
 use Rattle.std.proofs.Common.{subst}
 use Rattle.st_kind.specs.Refused.{IsApartWhere}
 use Rattle.st_seq.specs.Agreement.{DifferAt}

@@ -1,0 +1,7 @@
+use Rattle.std.proofs.Common.{◌∙◌, refl}
+use Rattle.st_seq.specs.Form.{puts_found}
+use Rattle.st_seq.proofs.Forms.{any_spread}
+use Rattle.st_seq.proofs.form.any_puts.Goals as goal
+
+pub returns : goal.returns
+returns c = c.some_puts.ensures ∙ any_spread (puts_found c.args.node) refl c.args.marks.now

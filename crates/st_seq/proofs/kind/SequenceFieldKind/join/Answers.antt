@@ -1,0 +1,27 @@
+use Rattle.std.proofs.Common.{ap, sym, ◌∙◌, subst, rules}
+use Rattle.st_kind.proofs.Memory.{no_memory}
+use Rattle.st_ids.specs.Listing.{IsRising}
+use Rattle.st_ids.specs.Order.{node_cmp}
+use Rattle.st_ids.specs.declared.names.NodeId.{NodeId}
+use Rattle.st_marks.specs.Embedding.{is_among}
+use Rattle.std.specs.Prelude.{◌||◌}
+use Rattle.st_seq.specs.Sequence.{carried_to}
+use Rattle.std.proofs.Common.{false}
+use Rattle.st_seq.proofs.Fitting.{change_is}
+use Rattle.st_seq.proofs.Rising.{one_rising}
+use Rattle.st_seq.specs.declared.values.RowChange.{RowChange}
+use Rattle.st_seq.proofs.kind.SequenceFieldKind.join.Goals as goal
+
+pub returns-in_err-marks-clause-joined : goal.returns-in_err-marks-clause-joined
+returns-in_err-marks-clause-joined c p q j a t w e v g =
+    let none = no_memory c.in_err-marks.field-0.0 _ (c.in_err-marks.ensures.joined p.does q.does j.does a.cells t.does (change_is p a.cells _ w e) (change_is q (carried_to p false a.cells) _ v g)) in
+    search rules
+
+pub returns-clause-joined : goal.returns-clause-joined
+returns-clause-joined c p q j a t w e v g =
+    let marks = c.in_ok-marks.ensures.joined p.does q.does j.does a.cells t.does (change_is p a.cells _ w e) (change_is q (carried_to p false a.cells) _ v g) in
+    let first = ap (λ (x : RowChange). x.new) e in
+    let then = ap (λ (x : RowChange). x.new) g in
+    let new = c.in_ok-new.ensures (subst (λ n. IsRising node_cmp (λ (x : NodeId). x) n) (sym first) w.rising) in
+    let one = one_rising c.in_ok-new.new j.new new.0 t.rising (λ n. new.1 n ∙ (λ i. is_among (first i) n || is_among (then i) n) ∙ sym (t.new n)) in
+    λ i. record { rev = (ap (λ (x : RowChange). x.rev) e ∙ t.rev) i; in_new = ((λ k. (e k).in_new || (g k).in_new) ∙ sym t.in_new) i; new = one i; marks = marks i }

@@ -1,0 +1,167 @@
+//! The kind of rows.
+ghost use Rattle.std.specs.Prelude.{◌≡◌, ◌↔◌, ◌<◌, ◌^◌, length, IsTrue};
+ghost use Rattle.st_marks.specs.Row.{spread};
+
+use crate::form::is_of_form;
+use crate::new::{merged, rising};
+use crate::values::{RowChange, RowHeld, RowStep};
+use crate::{across, back, beside, carry, rows, turns};
+use st_ids::{Copied, List, Or};
+use st_kind::{Apart, FieldKind};
+use st_marks::{Mark, after};
+use std::alloc::{AllocError, Global};
+
+/// Whether fewer than 2^32 cells are listed.
+fn is_short(marks: &List<Mark>) -> bool
+    ensures { IsTrue result ↔ (length (spread marks.now) < 2 ^ 32) }
+{
+    after(marks) < 4_294_967_296
+}
+
+/// Fields that hold nodes in an order. An argument that lists 2^32 cells or more is over no row; where a call has no
+/// refusal for it, it answers want of memory.
+pub struct Sequence;
+
+impl FieldKind for Sequence {
+    ghost use Rattle.std.specs.Prelude.{◌≡◌, ◌<◌, ◌^◌, length};
+    ghost use Rattle.st_marks.specs.Embedding.{is_among};
+    ghost use Rattle.st_marks.specs.Row.{spread};
+    ghost use Rattle.st_marks.specs.Shown.{cells_after, cells_before};
+    ghost use Rattle.st_seq.specs.Agreement.{DifferAt, row_seen};
+    ghost use Rattle.st_seq.specs.Changes.{may_list};
+    ghost use Rattle.st_seq.specs.Laws.{kept_in_turn, one_row_change, one_row_step, row_changes_are_short, row_has_room, row_steps_are_short};
+    ghost use Rattle.st_seq.specs.Sequence.{SeqPart, AreJoinedIn, CanHold, FitsIn, KeepsIn, LeadsOver, brought, carried_to, change_of, retreat_to};
+
+    type Ctx = RowHeld;
+
+    type Change = RowChange;
+
+    type Step = RowStep;
+
+    ghost Part = { SeqPart };
+
+    ghost IsContent = { λ c. CanHold c.cells };
+
+    ghost Fits = { λ p c. FitsIn p c.cells };
+
+    ghost mentions = { λ p. p.does.mentioned };
+
+    ghost makes = { λ p. is_among p.new };
+
+    ghost carry = { λ p void c. record { cells = carried_to p void c.cells } };
+
+    ghost retreat = { λ c d. record { cells = retreat_to c.cells d.cells } };
+
+    ghost IsEmbedding = { λ p c x. x ≡ change_of p c.cells };
+
+    ghost IsStep = { λ m c d s. LeadsOver m c.cells d.cells s.marks };
+
+    ghost brings = { λ s. brought (spread s.marks) };
+
+    ghost Keeps = { λ p c d. KeepsIn p.does c.cells d.cells };
+
+    ghost AreJoined = { λ p q c j. AreJoinedIn p q c.cells j };
+
+    ghost IsShortStep = { λ s. length (spread s.marks) < 2 ^ 32 };
+
+    ghost IsShortChange = { λ x. length (spread x.marks) < 2 ^ 32 };
+
+    ghost HasRoom = { λ x s. may_list (spread x.marks) (spread s.marks) < 2 ^ 32 };
+
+    ghost AfterClash = { λ c s. DifferAt (row_seen c.cells) (cells_before (spread s.marks)) };
+
+    ghost ComposeClash = { λ s t. DifferAt (cells_after (spread s.marks)) (cells_before (spread t.marks)) };
+
+    ghost JoinClash = { λ x y. DifferAt (cells_after (spread x.marks)) (cells_before (spread y.marks)) };
+
+    ghost RebaseClash = { λ x s. DifferAt (cells_before (spread x.marks)) (cells_before (spread s.marks)) };
+
+    fn over(change: &RowChange, ctx: &RowHeld) -> bool {
+        is_of_form(change, ctx.cells.as_slice())
+    }
+
+    fn after(alloc: Global, ctx: &RowHeld, step: &RowStep) -> Result<RowHeld, Or<Apart>> {
+        let cells = rows::after(alloc, &ctx.cells, &step.marks)?;
+        Ok(RowHeld { cells })
+    }
+
+    fn effect(alloc: Global, change: &RowChange, void: bool) -> Result<RowStep, AllocError> {
+        if !is_short(&change.marks) {
+            return Err(AllocError);
+        }
+        if !void {
+            let marks = carry::effect(alloc, &change.marks)?;
+            return Ok(RowStep { marks });
+        }
+        let new = rising(alloc, &change.new)?;
+        let marks = carry::void_effect(alloc, &change.marks, change.in_new, &new)?;
+        Ok(RowStep { marks })
+    }
+
+    fn compose(alloc: Global, first: &RowStep, then: &RowStep) -> Result<RowStep, Or<Apart>> {
+        let marks = turns::compose(alloc, &first.marks, &then.marks)?;
+        Ok(RowStep { marks })
+    }
+
+    fn join(alloc: Global, first: &RowChange, then: &RowChange) -> Result<RowChange, Or<Apart>> {
+        let marks = turns::join(alloc, &first.marks, &then.marks)?;
+        let new = merged(alloc, &first.new, &then.new)?;
+        Ok(RowChange {
+            rev: first.rev,
+            in_new: first.in_new | then.in_new,
+            new,
+            marks,
+        })
+    }
+
+    fn invert(alloc: Global, step: &RowStep) -> Result<RowStep, AllocError> {
+        if !is_short(&step.marks) {
+            return Err(AllocError);
+        }
+        let marks = back::invert(alloc, &step.marks)?;
+        Ok(RowStep { marks })
+    }
+
+    fn rebase(alloc: Global, change: &RowChange, step: &RowStep) -> Result<RowChange, Or<Apart>> {
+        let marks = beside::rebase(alloc, &change.marks, &step.marks)?;
+        let new = change.new.copy(alloc)?;
+        Ok(RowChange {
+            rev: change.rev,
+            in_new: change.in_new,
+            new,
+            marks,
+        })
+    }
+
+    fn bridge(
+        alloc: Global,
+        step: &RowStep,
+        change: &RowChange,
+        was_void: bool,
+        is_void: bool,
+    ) -> Result<RowStep, Or<Apart>> {
+        let new = rising(alloc, &change.new)?;
+        let marks = across::bridge(
+            alloc,
+            &step.marks,
+            &change.marks,
+            change.in_new,
+            &new,
+            was_void,
+            is_void,
+        )?;
+        Ok(RowStep { marks })
+    }
+
+    ghost one_embedding = { one_row_change };
+
+    ghost one_step = { one_row_step };
+
+    ghost keeps_in_turn = { kept_in_turn };
+
+    ghost steps_are_short = { row_steps_are_short };
+
+    ghost changes_are_short = { row_changes_are_short };
+
+    ghost there_is_room = { row_has_room };
+}
