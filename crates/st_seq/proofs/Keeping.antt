@@ -6,7 +6,7 @@ use Rattle.std.specs.declared.cmp.Ordering.{Ordering}
 use Rattle.std.specs.declared.cmp.Ordering.TheVariants.{Less, Equal, Greater}
 use Rattle.st_ids.specs.Listing.{AreDistinct, Has}
 use Rattle.st_ids.specs.Order.{same_cell, same_node, same_rev, rev_cmp}
-use Rattle.st_ids.proofs.Orders.{same_cell-true, same_node-true, same_node-itself, rev_cmp_exact, rev_cmp_total}
+use Rattle.st_ids.proofs.Orders.{same_cell-true, same_node-true, same_node-itself, rev_cmp_total}
 use Rattle.st_ids.specs.declared.names.CellId.{CellId}
 use Rattle.st_ids.specs.declared.names.NodeId.{NodeId}
 use Rattle.st_ids.specs.declared.names.Rev.{Rev}
@@ -20,6 +20,7 @@ use Rattle.st_marks.specs.Embedding.{is_among}
 use Rattle.st_marks.specs.Row.{CellMark, Counted, Gap, Touch, Make, Fill, RowPart, how, is_here, same_to, merge, spread, embed_cell, embed_made, embed_cells, embed_row}
 use Rattle.st_marks.specs.Shown.{cells_before, cells_in}
 use Rattle.st_marks.proofs.Members.{all-has, has-all, append_left, append_right, has-append, map-has, has-map, distinct-append, distinct-between, distinct-left, distinct-right}
+use Rattle.st_seq.proofs.Truth.{and_parts, and_true, not_so, off, on}
 use Rattle.st_seq.specs.Agreement.{first_difference, row_seen}
 use Rattle.st_seq.specs.Changes.{AreOld}
 use Rattle.st_seq.specs.Form.{KeepsForm, is_normal, stands_before, begins_with_skip, places, makes_cell, puts_found, has_cell, stands_in, may_put, are_allowed}
@@ -31,24 +32,13 @@ use Rattle.st_seq.proofs.Laid.{none_lays, in_cells}
 use Rattle.st_seq.proofs.Leading.{row_itself}
 use Rattle.st_seq.proofs.Merging.{AllStand, Stands, merge-stands, stands-merge}
 use Rattle.st_seq.proofs.Rebased.{same_put}
-use Rattle.st_seq.proofs.Telling.{any_has, has_any, none_any, told, told_fits, told_row, both}
+use Rattle.st_seq.proofs.Telling.{any_has, has_any, none_any, same_rev-true, told, told_fits, told_row}
 
 -- ## Tests and what they tell
 
-off : (a : Bool) → not a ≡ true → a ≡ false
-off true e = cc
-off false e = refl
-
-on : (a : Bool) → a ≡ false → not a ≡ true
-on true e = cc
-on false e = refl
-
-two : {a b : Bool} → a ≡ true → b ≡ true → (a && b) ≡ true
-two p q = rw (p, q) refl
-
 normal_stands : (ms : List Mark) → is_normal ms ≡ true → AllStand ms
 normal_stands [] h = tt
-normal_stands (m ∷ ms) h = let p = both (stands_before m ms) (is_normal ms) h in (stands m p.0, normal_stands ms p.1)
+normal_stands (m ∷ ms) h = let p = and_parts (stands_before m ms) (is_normal ms) h in (stands m p.0, normal_stands ms p.1)
   where
     stands : (m : Mark) → stands_before m ms ≡ true → Stands m ms
     stands (Mark.Skip zero) e = cc
@@ -60,7 +50,7 @@ normal_stands (m ∷ ms) h = let p = both (stands_before m ms) (is_normal ms) h 
 
 stands_normal : (ms : List Mark) → AllStand ms → is_normal ms ≡ true
 stands_normal [] h = refl
-stands_normal (m ∷ ms) h = two (stands m h.0) (stands_normal ms h.1)
+stands_normal (m ∷ ms) h = and_true (stands m h.0) (stands_normal ms h.1)
   where
     stands : (m : Mark) → Stands m ms → stands_before m ms ≡ true
     stands (Mark.Skip zero) e = absurd e
@@ -72,20 +62,11 @@ stands_normal (m ∷ ms) h = two (stands m h.0) (stands_normal ms h.1)
 
 old_told : (new : List NodeId) (c : List Slot) → list_all (λ (s : Slot). not (is_among new s.node)) c ≡ true → AreOld (is_among new) c
 old_told new [] h = tt
-old_told new (s ∷ c) h = let p = both (not (is_among new s.node)) _ h in (off (is_among new s.node) p.0, old_told new c p.1)
+old_told new (s ∷ c) h = let p = and_parts (not (is_among new s.node)) _ h in (off (is_among new s.node) p.0, old_told new c p.1)
 
 old_tested : (new : List NodeId) (c : List Slot) → AreOld (is_among new) c → list_all (λ (s : Slot). not (is_among new s.node)) c ≡ true
 old_tested new [] h = refl
-old_tested new (s ∷ c) h = two (on (is_among new s.node) h.0) (old_tested new c h.1)
-
-same_rev-true : (a b : Rev) → same_rev a b ≡ true → a ≡ b
-unfolding same_rev
-same_rev-true a b e = rev_cmp_exact a b (equal (rev_cmp a b) e)
-  where
-    equal : (o : Ordering) → is_eq o ≡ true → o ≡ Equal
-    equal Less e = cc
-    equal Equal e = refl
-    equal Greater e = cc
+old_tested new (s ∷ c) h = and_true (on (is_among new s.node) h.0) (old_tested new c h.1)
 
 same_rev-itself : (a b : Rev) → a ≡ b → same_rev a b ≡ true
 unfolding same_rev
@@ -99,8 +80,8 @@ same_rev-itself a b e = ap (λ x. is_eq (rev_cmp a x)) (sym e) ∙ tied (rev_cmp
 new_told : (rev : Rev) (new : List NodeId) → list_all (λ (n : NodeId). same_rev n.0.rev rev && not (same_node n root)) new ≡ true → AllByRecursion (λ (n : NodeId). n.0.rev ≡ rev) new × (is_among new root ≡ false)
 new_told rev [] h = (tt, refl)
 new_told rev (n ∷ new) h =
-    let p = both (same_rev n.0.rev rev && not (same_node n root)) _ h in
-    let q = both (same_rev n.0.rev rev) _ p.0 in
+    let p = and_parts (same_rev n.0.rev rev && not (same_node n root)) _ h in
+    let q = and_parts (same_rev n.0.rev rev) _ p.0 in
     let r = new_told rev new p.1 in
     ((same_rev-true n.0.rev rev q.0, r.0), λ i. off (same_node n root) q.1 i || r.1 i)
 
@@ -110,7 +91,7 @@ or_off false b e = (refl, e)
 
 new_tested : (rev : Rev) (new : List NodeId) → AllByRecursion (λ (n : NodeId). n.0.rev ≡ rev) new → is_among new root ≡ false → list_all (λ (n : NodeId). same_rev n.0.rev rev && not (same_node n root)) new ≡ true
 new_tested rev [] h e = refl
-new_tested rev (n ∷ new) h e = let p = or_off (same_node n root) (is_among new root) e in two (two (same_rev-itself n.0.rev rev h.0) (on (same_node n root) p.0)) (new_tested rev new h.1 p.1)
+new_tested rev (n ∷ new) h e = let p = or_off (same_node n root) (is_among new root) e in and_true (and_true (same_rev-itself n.0.rev rev h.0) (on (same_node n root) p.0)) (new_tested rev new h.1 p.1)
 
 -- ## From the rules to a part
 
@@ -223,33 +204,17 @@ module _ (p : RowPart) (rev : Rev) (c : List Slot) (all : List CellMark) where
   no_more n a e (Counted ∷ xs) g o = no_more n a e xs g.1 o
   no_more n a e (Gap d ∷ xs) g o = no_more n a e xs g.1 o.1
   no_more n a e (Touch d m Stay ∷ xs) g o = no_more n a e xs g.1 o.1
-  no_more n a e (Touch d m Here ∷ xs) g o = λ i. other (same_node m n) (λ q. o.0 (one_to n a d e (ap p.goes (sym (same_node-true m n q)) ∙ g.0 refl))) i || no_more n a e xs g.1 o.1 i
-    where
-      other : (b : Bool) → (b ≡ true → ⊥) → b ≡ false
-      other true h = absurd (h refl)
-      other false h = refl
+  no_more n a e (Touch d m Here ∷ xs) g o = λ i. not_so (same_node m n) (λ q. o.0 (one_to n a d e (ap p.goes (sym (same_node-true m n q)) ∙ g.0 refl))) i || no_more n a e xs g.1 o.1 i
   no_more n a e (Touch d m Leave ∷ xs) g o = no_more n a e xs g.1 o.1
-  no_more n a e (Make d m b ∷ xs) g o = λ i. other (b && same_node m n) (λ q. let z = both b (same_node m n) q in o.0 (one_to n a d e (ap p.goes (sym (same_node-true m n z.1)) ∙ g.0.3 z.0))) i || no_more n a e xs g.1 o.1 i
-    where
-      other : (b : Bool) → (b ≡ true → ⊥) → b ≡ false
-      other true h = absurd (h refl)
-      other false h = refl
-  no_more n a e (Fill d m ∷ xs) g o = λ i. other (same_node m n) (λ q. o.0 (one_to n a d e (ap p.goes (sym (same_node-true m n q)) ∙ g.0.1))) i || no_more n a e xs g.1 o.1 i
-    where
-      other : (b : Bool) → (b ≡ true → ⊥) → b ≡ false
-      other true h = absurd (h refl)
-      other false h = refl
+  no_more n a e (Make d m b ∷ xs) g o = λ i. not_so (b && same_node m n) (λ q. let z = and_parts b (same_node m n) q in o.0 (one_to n a d e (ap p.goes (sym (same_node-true m n z.1)) ∙ g.0.3 z.0))) i || no_more n a e xs g.1 o.1 i
+  no_more n a e (Fill d m ∷ xs) g o = λ i. not_so (same_node m n) (λ q. o.0 (one_to n a d e (ap p.goes (sym (same_node-true m n q)) ∙ g.0.1))) i || no_more n a e xs g.1 o.1 i
 
   no_cell : (a : CellId) (xs : List CellMark) → Others a xs → list_any (makes_cell a) xs ≡ false
   no_cell a [] o = refl
   no_cell a (Counted ∷ xs) o = no_cell a xs o
   no_cell a (Gap d ∷ xs) o = no_cell a xs o.1
   no_cell a (Touch d m h ∷ xs) o = no_cell a xs o.1
-  no_cell a (Make d m b ∷ xs) o = λ i. other (same_cell d a) (λ q. o.0 (same_cell-true d a q)) i || no_cell a xs o.1 i
-    where
-      other : (b : Bool) → (b ≡ true → ⊥) → b ≡ false
-      other true h = absurd (h refl)
-      other false h = refl
+  no_cell a (Make d m b ∷ xs) o = λ i. not_so (same_cell d a) (λ q. o.0 (same_cell-true d a q)) i || no_cell a xs o.1 i
   no_cell a (Fill d m ∷ xs) o = no_cell a xs o.1
 
   good_allowed : (xs : List CellMark) → AllByRecursion Good xs → AreDistinct (λ (d : CellId). d) (cells_in xs) → are_allowed rev c all xs ≡ true
@@ -257,20 +222,16 @@ module _ (p : RowPart) (rev : Rev) (c : List Slot) (all : List CellMark) where
   good_allowed (Counted ∷ xs) g o = good_allowed xs g.1 o
   good_allowed (Gap a ∷ xs) g o = good_allowed xs g.1 o.1
   good_allowed (Touch a n Stay ∷ xs) g o = good_allowed xs g.1 o.1
-  good_allowed (Touch a n Here ∷ xs) g o = two (on _ (no_more n a (g.0 refl) xs g.1 o.0)) (good_allowed xs g.1 o.1)
+  good_allowed (Touch a n Here ∷ xs) g o = and_true (on _ (no_more n a (g.0 refl) xs g.1 o.0)) (good_allowed xs g.1 o.1)
   good_allowed (Touch a n Leave ∷ xs) g o = good_allowed xs g.1 o.1
-  good_allowed (Make a n b ∷ xs) g o = two (two (two g.0.0 (two (on _ g.0.1) (on _ (no_cell a xs o.0)))) (two g.0.2 (on _ (full b g.0.3)))) (good_allowed xs g.1 o.1)
+  good_allowed (Make a n b ∷ xs) g o = and_true (and_true (and_true g.0.0 (and_true (on _ g.0.1) (on _ (no_cell a xs o.0)))) (and_true g.0.2 (on _ (full b g.0.3)))) (good_allowed xs g.1 o.1)
     where
       full : (x : Bool) → (x ≡ true → p.goes n ≡ Some (To.Cell a)) → (x && list_any (places n) xs) ≡ false
       full true h = no_more n a (h refl) xs g.1 o.0
       full false h = refl
-  good_allowed (Fill a n ∷ xs) g o = two (two g.0.0 (on _ (no_more n a g.0.1 xs g.1 o.0))) (good_allowed xs g.1 o.1)
+  good_allowed (Fill a n ∷ xs) g o = and_true (and_true g.0.0 (on _ (no_more n a g.0.1 xs g.1 o.0))) (good_allowed xs g.1 o.1)
 
 -- ## The marks of a part that fits
-
-no_where : (b : Bool) → (b ≡ true → ⊥) → b ≡ false
-no_where true h = absurd (h refl)
-no_where false h = refl
 
 cell_absent : (c : List Slot) (a : CellId) → (Has (cells_of c) a → ⊥) → has_cell c a ≡ false
 cell_absent c a h = none_any (λ (s : Slot). same_cell s.cell a) c (λ s w e. h (subst (Has (cells_of c)) (same_cell-true s.cell a e) (in_cells c s w)))
@@ -299,10 +260,10 @@ module _ (p : SeqPart) (c : List Slot) (w : FitsIn p c) where
       ∙ puts_touch (p.does.goes s.node) s.cell s.node n put ∙ ap (λ m. same_node m n) e ∙ same_node-itself n
 
   may_be : (n : NodeId) → (n ≢ root) → ((s : Slot) → Has c s → s.node ≡ n → p.does.goes n ≢ None) → may_put c all n ≡ true
-  may_be n r h = two (on (same_node n root) (no_where (same_node n root) (λ e. r (same_node-true n root e)))) (elim (stands_in c n) as (λ z. stands_in c n ≡ z → (not z || list_any (puts_found n) all) ≡ true) [
+  may_be n r h = and_true (on (same_node n root) (not_so (same_node n root) (λ e. r (same_node-true n root e)))) (elim (stands_in c n) as (λ z. stands_in c n ≡ z → (not z || list_any (puts_found n) all) ≡ true) [
     | true ↦ (λ e.
         let q = has_any (λ (s : Slot). s.full && same_node s.node n) c e in
-        let t = both (q.0.full) (same_node q.0.node n) q.2 in
+        let t = and_parts (q.0.full) (same_node q.0.node n) q.2 in
         let same = same_node-true q.0.node n t.1 in
         any_has (puts_found n) all (embed_cell p.does q.0.cell q.0.node q.0.full) (append_right (embed_made p.does (p.does.made None)) (embed_cells p.does c) (embed_cell p.does q.0.cell q.0.node q.0.full) (embedded p.does c q.0 q.1)) (puts_it q.0 q.1 t.0 n same (h q.0 q.1 same)))
     | false ↦ (λ e. refl)

@@ -1,5 +1,5 @@
 -- Marks that list a row, place by place.
-use Rattle.std.proofs.Common.{◌≡◌, ◌≢◌, ◌+◌, ℕ, Bool, true, false, ◌&&◌, List, [], ◌∷◌, ◌++◌, Option, Some, None, cond, refl, sym, ap, ◌∙◌, subst, inl, inr, ◌⊎◌, option_map}
+use Rattle.std.proofs.Common.{◌≡◌, ◌≢◌, ◌+◌, ℕ, Bool, true, false, List, [], ◌∷◌, ◌++◌, Option, Some, None, cond, refl, sym, ap, ◌∙◌, subst, inl, inr, ◌⊎◌, option_map}
 use Rattle.std.specs.List.{flat_map}
 use Rattle.st_ids.specs.Listing.{AreDistinct, Has}
 use Rattle.st_ids.specs.Order.{same_cell}
@@ -11,6 +11,7 @@ use Rattle.st_marks.specs.declared.intents.To.{To}
 use Rattle.st_marks.specs.declared.places.Slot.{Slot}
 use Rattle.st_marks.specs.Row.{CellMark, Counted, Gap, Touch, Make, Fill, RowPart, how, is_here, embed_cell, embed_made, embed_cells}
 use Rattle.st_marks.specs.Shown.{seen, cells_before}
+use Rattle.st_seq.proofs.Truth.{and_parts}
 use Rattle.st_seq.specs.Agreement.{agree, first_difference, row_seen, same_bool, seen_before}
 use Rattle.st_seq.specs.Changes.{StandsIn}
 use Rattle.st_seq.specs.Laws.{not_again}
@@ -33,10 +34,6 @@ pub data Lays : List Slot → List CellMark → Type 0 where
   found : {s : Slot} {x : CellMark} {c : List Slot} {xs : List CellMark} → Says s x → Lays c xs → Lays (s ∷ c) (x ∷ xs)
 
 -- ## From the search for a difference
-
-and_parts : (a b : Bool) → (a && b) ≡ true → (a ≡ true) × (b ≡ true)
-and_parts true b e = (refl, e)
-and_parts false b e = cc
 
 same_full : (a b : Bool) → same_bool a b ≡ true → a ≡ b
 same_full true true e = refl

@@ -1,3 +1,4 @@
+pub mod Truth
 pub mod Merging
 pub mod Answered
 pub mod MarkByMark
@@ -24,3 +25,4 @@ pub mod Forms
 pub mod Laid
 pub mod Telling
 pub mod Keeping
+pub mod Example

@@ -13,6 +13,7 @@ use Rattle.st_marks.specs.declared.places.Slot.{Slot}
 use Rattle.st_marks.specs.Document.{root}
 use Rattle.st_marks.specs.Extends.{Grows, done, gained, kept}
 use Rattle.st_marks.specs.Row.{CellMark, Counted, Touch, SameCell, merge, spread, step_cell, step_row}
+use Rattle.st_seq.proofs.Truth.{and_parts, not_so, or_split}
 use Rattle.st_seq.specs.Changes.{StandsIn}
 use Rattle.st_seq.specs.Laws.{has_grown, not_again, same_grown, spread_of}
 use Rattle.st_seq.specs.Rows.{IsRowStep, NamesMoved, retreat_row}
@@ -108,18 +109,10 @@ none_brought m c n true false x xs = refl
 none_brought m c n false true x xs = refl
 none_brought m c n false false x xs = refl
 
-or_split : (a b : Bool) → (a || b) ≡ true → (a ≡ true) ⊎ (b ≡ true)
-or_split true b e = inl refl
-or_split false b e = inr e
-
-and_split : (a b : Bool) → (a && b) ≡ true → (a ≡ true) × (b ≡ true)
-and_split true b e = (refl, e)
-and_split false b e = cc
-
 brought_in : (m : Nodes) {c d : List Slot} (g : Grows SameCell c d) (n : NodeId) → brought (step_row m g) n ≡ true → StandsIn n d
 brought_in m done n e = cc
 brought_in m (gained {y = t} g) n e = elim (or_split (t.full && same_node t.node n) (brought (step_row m g) n) e) [
-  | inl f ↦ (let r = and_split t.full (same_node t.node n) f in inl (same_node-true t.node n r.1, r.0))
+  | inl f ↦ (let r = and_parts t.full (same_node t.node n) f in inl (same_node-true t.node n r.1, r.0))
   | inr f ↦ inr (brought_in m g n f)
 ]
 brought_in m (kept {x = s} {y = t} a g) n e = inr (brought_in m g n (sym (none_brought m s.cell s.node s.full t.full n (step_row m g)) ∙ e))
@@ -156,7 +149,7 @@ stand_others s d = go s.full
 none_both : (m : Nodes) {c d : List Slot} (g : Grows SameCell c d) → AreDistinct (λ (n : NodeId). n) (standing d) → (n : NodeId) → brought (step_row m g) n ≡ true → StandsKept n g → ⊥
 none_both m done o n e k = k
 none_both m (gained {y = t} {ys = d} g) o n e k = elim (or_split (t.full && same_node t.node n) (brought (step_row m g) n) e) [
-  | inl f ↦ (let r = and_split t.full (same_node t.node n) f in stands_not d t.node ((stand_others t d o).0 r.0) (subst (λ x. StandsIn x d) (sym (same_node-true t.node n r.1)) (kept_in g n k)))
+  | inl f ↦ (let r = and_parts t.full (same_node t.node n) f in stands_not d t.node ((stand_others t d o).0 r.0) (subst (λ x. StandsIn x d) (sym (same_node-true t.node n r.1)) (kept_in g n k)))
   | inr f ↦ none_both m g (stand_others t d o).1 n f k
 ]
 none_both m (kept {x = s} {y = t} {ys = d} a g) o n e (inl w) =
@@ -195,11 +188,7 @@ back_leads m c d marks back l r =
     let b = brought (spread marks) in
     let listed : (n : NodeId) → b n ≡ brought (step_row m g) n = λ n. ap (λ x. brought x n) (spread_of marks (step_row m g) l.step.says) in
     let holds = holds_back g l.before l.after in
-    let none : (n : NodeId) → StandsKept n g → b n ≡ false = λ n w. not_true (b n) (λ e. none_both m g l.after.stand_once n (sym (listed n) ∙ e) w) in
+    let none : (n : NodeId) → StandsKept n g → b n ≡ false = λ n w. not_so (b n) (λ e. none_both m g l.after.stand_once n (sym (listed n) ∙ e) w) in
     let step : IsRowStep (either m b) d (retreat_row g) back = record { grows = backward g; says = r.says ∙ ap merge ((same_grown m r.grows (backward g) holds.once).0 ∙ back_named m b g none) } in
     let one : LeadsOver (either m b) d (retreat_row g) back = record { before = l.after; after = holds; step = step; moved = back_moved m b g l.moved (λ n e. listed n ∙ e) } in
     subst (λ e. LeadsOver (either m b) d e back) (retreat_is c g l.after.once (λ a w. refl)) one
-  where
-    not_true : (x : Bool) → (x ≡ true → ⊥) → x ≡ false
-    not_true true h = absurd (h refl)
-    not_true false h = refl

@@ -1,5 +1,5 @@
 -- Nodes in rising order.
-use Rattle.std.proofs.Common.{◌≡◌, ◌<◌, ◌≤◌, ◌+◌, ℕ, zero, suc, length, take, drop, get_or, arith, Bool, true, false, ◌||◌, ◌&&◌, List, [], ◌∷◌, ◌++◌, Some, None, cond, refl, sym, ap, ◌∙◌}
+use Rattle.std.proofs.Common.{◌≡◌, ◌<◌, ◌≤◌, ℕ, zero, suc, length, take, drop, get_or, arith, Bool, true, false, ◌||◌, ◌&&◌, List, [], ◌∷◌, ◌++◌, Some, None, cond, refl, sym, ap, ◌∙◌}
 use Rattle.std.specs.declared.cmp.Ordering.{Ordering}
 use Rattle.std.specs.declared.cmp.Ordering.TheVariants.{Less, Equal, Greater}
 use Rattle.std.specs.Ordering.{is_eq, is_lt, ordering_reverse}
@@ -7,8 +7,7 @@ use Rattle.std.specs.FinMap.Entries.{is_sorted, below_all}
 use Rattle.std.specs.List.{AllByRecursion, insert}
 use Rattle.std.specs.List.Sorted.{IsBinarySearchResult}
 use Rattle.std.specs.Prelude.{Err}
-use Rattle.std.proofs.lemmas.List.{take_more, get_or_default, take-append-drop}
-use Rattle.std.proofs.lemmas.List.Folds.{list_any-append}
+use Rattle.std.proofs.lemmas.List.{take-append-drop}
 use Rattle.st_seq.proofs.Searching.{rises}
 use Rattle.st_ids.specs.Listing.{IsRising, item_of, keyed}
 use Rattle.st_ids.specs.Order.{node_cmp, same_node}
@@ -143,18 +142,3 @@ with_another xs x i r b s =
     let greater = all_drop (λ y. node_cmp y x ≡ Greater) xs i (λ k d a l. parts.1 k d a l) in
     let whole = take-append-drop i xs in
     (rising_between (take i xs) (drop i xs) x less greater (ap rising whole ∙ r), λ n. among_between (take i xs) (drop i xs) x n ∙ ap (λ l. same_node x n || is_among l n) whole)
-
--- the nodes of two lists, one of the second more
-pub with_next : (all new xs ys : List NodeId) (x y d : NodeId) (i : ℕ) → i < length ys → x ≡ get_or ys i d
-    → ((n : NodeId) → is_among all n ≡ (is_among xs n || is_among (take i ys) n)) → ((n : NodeId) → is_among new n ≡ (same_node x n || is_among all n)) → (n : NodeId) → is_among new n ≡ (is_among xs n || is_among (take (i + 1) ys) n)
-with_next all new xs ys x y d i l e g h n =
-    h n ∙ ap (λ b. same_node x n || b) (g n) ∙ turned (same_node x n) (is_among xs n) (is_among (take i ys) n)
-    ∙ ap (λ b. is_among xs n || b) (sym (ap (λ l. is_among l n) (take_more ys i x l ∙ ap (λ y. take i ys ++ y ∷ []) (get_or_default ys i x d l ∙ sym e)) ∙ list_any-append (λ m. same_node m n) (take i ys) (x ∷ [])))
-  where
-    turned : (a b c : Bool) → (a || (b || c)) ≡ (b || (c || (a || false)))
-    turned true true c = refl
-    turned true false true = refl
-    turned true false false = refl
-    turned false true c = refl
-    turned false false true = refl
-    turned false false false = refl

@@ -3,7 +3,7 @@ use Rattle.std.proofs.Common.{◌≡◌, ◌+◌, ◌<◌, ◌≤◌, ℕ, min, 
 use Rattle.std.specs.Prelude.{IsTrue, nat_lt}
 use Rattle.std.proofs.lemmas.Bool.Decides.{nat_tests}
 use Rattle.st_marks.specs.Row.{CellMark, Counted, Gap, Touch, Make, Fill}
-use Rattle.st_marks.specs.Shown.{cells_before, cells_after, cells_made}
+use Rattle.st_marks.specs.Shown.{cells_before, cells_after}
 use Rattle.st_seq.specs.Changes.{may_list}
 use Rattle.st_seq.specs.Laws.{made_or_found}
 

@@ -6,6 +6,7 @@ use Rattle.std.specs.declared.cmp.Ordering.{Ordering}
 use Rattle.std.specs.declared.cmp.Ordering.TheVariants.{Less, Equal, Greater}
 use Rattle.st_ids.specs.Listing.{AreDistinct, Has, IsRising}
 use Rattle.st_marks.proofs.Members.{all-has, has-all}
+use Rattle.st_seq.proofs.Truth.{and_parts, off, true_false}
 use Rattle.st_seq.specs.Changes.{StandsIn}
 use Rattle.st_seq.proofs.Composed.{or_right}
 use Rattle.st_ids.specs.Order.{node_cmp}
@@ -27,15 +28,16 @@ use Rattle.st_seq.specs.Sequence.{CanHold, FitsIn, cells_of, made_in}
 use Rattle.st_seq.proofs.Rebased.{is-here, not-here, moved}
 use Rattle.st_seq.proofs.Laid.{Groups, groups_of, embeds, makes, makes_them, has_makes, behind_cell, Lays, FoundAt, Says, behind, lead, found_says, found_slot, found_mark, has_slot, has_mark, one_cell, one_stands, in_row, in_cells}
 
+pub same_rev-true : (a b : Rev) → same_rev a b ≡ true → a ≡ b
+unfolding same_rev
+same_rev-true a b e = rev_cmp_exact a b (equal _ e)
+  where
+    equal : (o : Ordering) → is_eq o ≡ true → o ≡ Equal
+    equal Less e = cc
+    equal Equal e = refl
+    equal Greater e = cc
+
 -- ## Tests on lists
-
-pub both : (a b : Bool) → (a && b) ≡ true → (a ≡ true) × (b ≡ true)
-both true b e = (refl, e)
-both false b e = cc
-
-turned : (a : Bool) → not a ≡ true → a ≡ false
-turned true e = cc
-turned false e = refl
 
 pub any_has : {A : Type 0} (t : A → Bool) (xs : List A) (x : A) → Has xs x → t x ≡ true → list_any t xs ≡ true
 any_has t [] x h e = absurd h
@@ -144,20 +146,20 @@ none_behind : (rev : Rev) (c : List Slot) (all : List CellMark) (n : NodeId) (y 
 none_behind rev c all n Counted ys h e = cc
 none_behind rev c all n (Gap a) ys h e = cc
 none_behind rev c all n (Touch a x Stay) ys h e = cc
-none_behind rev c all n (Touch a x Here) ys h e = ap (λ m. list_any (places m) ys) (sym (same_node-true x n e)) ∙ turned _ h
+none_behind rev c all n (Touch a x Here) ys h e = ap (λ m. list_any (places m) ys) (sym (same_node-true x n e)) ∙ off _ h
 none_behind rev c all n (Touch a x Leave) ys h e = cc
 none_behind rev c all n (Make a x b) ys h e =
-    let p = both b (same_node x n) e in
-    let q = turned _ (both (may_put c all x) _ (both (may_make rev c a ys) _ h).1).1 in
+    let p = and_parts b (same_node x n) e in
+    let q = off _ (and_parts (may_put c all x) _ (and_parts (may_make rev c a ys) _ h).1).1 in
     ap (λ m. list_any (places m) ys) (sym (same_node-true x n p.1)) ∙ ap (λ z. z && list_any (places x) ys) (sym p.0) ∙ q
-none_behind rev c all n (Fill a x) ys h e = ap (λ m. list_any (places m) ys) (sym (same_node-true x n e)) ∙ turned _ (both (may_put c all x) _ h).1
+none_behind rev c all n (Fill a x) ys h e = ap (λ m. list_any (places m) ys) (sym (same_node-true x n e)) ∙ off _ (and_parts (may_put c all x) _ h).1
 
 placed_is : (rev : Rev) (c : List Slot) (all : List CellMark) (n : NodeId) (xs : List CellMark) → are_allowed rev c all xs ≡ true → (x : CellMark) → Has xs x → places n x ≡ true → placed_at xs n ≡ named_cell x
 placed_is rev c all n [] h x w e = absurd w
 placed_is rev c all n (y ∷ xs) h x (inl q) e = ap (λ b. cond b (named_cell y) (placed_at xs n)) (ap (places n) q ∙ e) ∙ ap named_cell q
 placed_is rev c all n (y ∷ xs) h x (inr w) e = elim (places n y) as (λ b. places n y ≡ b → cond b (named_cell y) (placed_at xs n) ≡ named_cell x) [
-  | true ↦ (λ q. let p = both (is_allowed rev c all y xs) _ h in let z : ◌≡◌ {A = Bool} true false = sym (any_has (places n) xs x w e) ∙ none_behind rev c all n y xs p.0 q in cc)
-  | false ↦ (λ q. placed_is rev c all n xs (both (is_allowed rev c all y xs) _ h).1 x w e)
+  | true ↦ (λ q. let p = and_parts (is_allowed rev c all y xs) _ h in let z : ◌≡◌ {A = Bool} true false = sym (any_has (places n) xs x w e) ∙ none_behind rev c all n y xs p.0 q in cc)
+  | false ↦ (λ q. placed_is rev c all n xs (and_parts (is_allowed rev c all y xs) _ h).1 x w e)
 ] refl
 
 -- ## Marks that make or fill
@@ -165,39 +167,32 @@ placed_is rev c all n (y ∷ xs) h x (inr w) e = elim (places n y) as (λ b. pla
 allowed_make : (rev : Rev) (c : List Slot) (all : List CellMark) (xs : List CellMark) → are_allowed rev c all xs ≡ true → (a : CellId) (n : NodeId) (b : Bool) → Has xs (Make a n b) → (same_rev a.0.rev rev ≡ true) × (has_cell c a ≡ false) × (may_put c all n ≡ true)
 allowed_make rev c all [] h a n b w = absurd w
 allowed_make rev c all (y ∷ xs) h a n b (inl q) =
-    let z = subst (λ x. is_allowed rev c all x xs ≡ true) q (both (is_allowed rev c all y xs) _ h).0 in
-    let p = both (may_make rev c a xs) _ z in
-    let r = both (same_rev a.0.rev rev) _ p.0 in
-    (r.0, turned _ (both (not (has_cell c a)) _ r.1).0, (both (may_put c all n) _ p.1).0)
-allowed_make rev c all (y ∷ xs) h a n b (inr w) = allowed_make rev c all xs (both (is_allowed rev c all y xs) _ h).1 a n b w
+    let z = subst (λ x. is_allowed rev c all x xs ≡ true) q (and_parts (is_allowed rev c all y xs) _ h).0 in
+    let p = and_parts (may_make rev c a xs) _ z in
+    let r = and_parts (same_rev a.0.rev rev) _ p.0 in
+    (r.0, off _ (and_parts (not (has_cell c a)) _ r.1).0, (and_parts (may_put c all n) _ p.1).0)
+allowed_make rev c all (y ∷ xs) h a n b (inr w) = allowed_make rev c all xs (and_parts (is_allowed rev c all y xs) _ h).1 a n b w
 
 allowed_fill : (rev : Rev) (c : List Slot) (all : List CellMark) (xs : List CellMark) → are_allowed rev c all xs ≡ true → (a : CellId) (n : NodeId) → Has xs (Fill a n) → may_put c all n ≡ true
 allowed_fill rev c all [] h a n w = absurd w
-allowed_fill rev c all (y ∷ xs) h a n (inl q) = (both (may_put c all n) _ (subst (λ x. is_allowed rev c all x xs ≡ true) q (both (is_allowed rev c all y xs) _ h).0)).0
-allowed_fill rev c all (y ∷ xs) h a n (inr w) = allowed_fill rev c all xs (both (is_allowed rev c all y xs) _ h).1 a n w
+allowed_fill rev c all (y ∷ xs) h a n (inl q) = (and_parts (may_put c all n) _ (subst (λ x. is_allowed rev c all x xs ≡ true) q (and_parts (is_allowed rev c all y xs) _ h).0)).0
+allowed_fill rev c all (y ∷ xs) h a n (inr w) = allowed_fill rev c all xs (and_parts (is_allowed rev c all y xs) _ h).1 a n w
 
 -- none makes the cell behind one that does
 made_before : (rev : Rev) (c : List Slot) (all : List CellMark) (a : CellId) (n : NodeId) (b : Bool) (y : CellMark) (xs : List CellMark) → is_allowed rev c all y xs ≡ true → y ≡ Make a n b → list_any (makes_cell a) xs ≡ false
 made_before rev c all a n b y xs h q =
     let z = subst (λ x. is_allowed rev c all x xs ≡ true) q h in
-    turned _ (both (not (has_cell c a)) _ (both (same_rev a.0.rev rev) _ (both (may_make rev c a xs) _ z).0).1).1
+    off _ (and_parts (not (has_cell c a)) _ (and_parts (same_rev a.0.rev rev) _ (and_parts (may_make rev c a xs) _ z).0).1).1
 
 -- one cell is made once
 one_make : (rev : Rev) (c : List Slot) (all : List CellMark) (xs : List CellMark) → are_allowed rev c all xs ≡ true → (a : CellId) (n m : NodeId) (b e : Bool) → Has xs (Make a n b) → Has xs (Make a m e) → ◌≡◌ {A = CellMark} (Make a n b) (Make a m e)
 one_make rev c all [] h a n m b e v w = absurd v
 one_make rev c all (y ∷ xs) h a n m b e (inl v) (inl w) = sym v ∙ w
-one_make rev c all (y ∷ xs) h a n m b e (inl v) (inr w) = let z : ◌≡◌ {A = Bool} true false = sym (any_has (makes_cell a) xs (Make a m e) w (same_cell-itself a)) ∙ made_before rev c all a n b y xs (both (is_allowed rev c all y xs) _ h).0 v in cc
-one_make rev c all (y ∷ xs) h a n m b e (inr v) (inl w) = let z : ◌≡◌ {A = Bool} true false = sym (any_has (makes_cell a) xs (Make a n b) v (same_cell-itself a)) ∙ made_before rev c all a m e y xs (both (is_allowed rev c all y xs) _ h).0 w in cc
-one_make rev c all (y ∷ xs) h a n m b e (inr v) (inr w) = one_make rev c all xs (both (is_allowed rev c all y xs) _ h).1 a n m b e v w
+one_make rev c all (y ∷ xs) h a n m b e (inl v) (inr w) = let z : ◌≡◌ {A = Bool} true false = sym (any_has (makes_cell a) xs (Make a m e) w (same_cell-itself a)) ∙ made_before rev c all a n b y xs (and_parts (is_allowed rev c all y xs) _ h).0 v in cc
+one_make rev c all (y ∷ xs) h a n m b e (inr v) (inl w) = let z : ◌≡◌ {A = Bool} true false = sym (any_has (makes_cell a) xs (Make a n b) v (same_cell-itself a)) ∙ made_before rev c all a m e y xs (and_parts (is_allowed rev c all y xs) _ h).0 w in cc
+one_make rev c all (y ∷ xs) h a n m b e (inr v) (inr w) = one_make rev c all xs (and_parts (is_allowed rev c all y xs) _ h).1 a n m b e v w
 
 -- ## The part says the same of each cell
-
-off : (b : Bool) → (b ≡ true → ⊥) → b ≡ false
-off true h = absurd (h refl)
-off false h = refl
-
-true_false : {b : Bool} → b ≡ true → b ≡ false → ⊥
-true_false e f = let z : ◌≡◌ {A = Bool} true false = sym e ∙ f in cc
 
 module _ (rev : Rev) (new : List NodeId) {c : List Slot} {xs : List CellMark} (l : Lays c xs) (hold : CanHold c) (old : AllByRecursion (λ (s : Slot). is_among new s.node ≡ false) c) (ok : are_allowed rev c xs xs ≡ true) where
   -- a made cell isn't in the row
@@ -216,7 +211,7 @@ module _ (rev : Rev) (new : List NodeId) {c : List Slot} {xs : List CellMark} (l
   -- a node that is put, and stands in the row, is put by its mark there
   put_found : (n : NodeId) → may_put c xs n ≡ true → (t : Slot) (y : CellMark) → FoundAt l t y → t.full ≡ true → t.node ≡ n → puts_found n y ≡ true
   put_found n h t y w f e =
-      let r = has_any (puts_found n) xs (either_way (stands_in c n) (list_any (puts_found n) xs) (any_has (λ (s : Slot). s.full && same_node s.node n) c t (found_slot l t y w) (all_two f (ap (λ m. same_node m n) e ∙ same_node-itself n))) (both (not (same_node n root)) _ h).1) in
+      let r = has_any (puts_found n) xs (either_way (stands_in c n) (list_any (puts_found n) xs) (any_has (λ (s : Slot). s.full && same_node s.node n) c t (found_slot l t y w) (all_two f (ap (λ m. same_node m n) e ∙ same_node-itself n))) (and_parts (not (same_node n root)) _ h).1) in
       let z = standing_mark (r.0) (r.1) (r.2) in
       ap (puts_found n) (sym z) ∙ r.2
     where
@@ -300,7 +295,7 @@ module _ (rev : Rev) (new : List NodeId) {c : List Slot} {xs : List CellMark} (l
       no_place (Touch a m Stay) v q = cc
       no_place (Touch a m Here) v q = let e = same_node-true m t.node q in true_false (ap (puts_found t.node) (sym (touch_is a m Here v t y w f e)) ∙ q) p
       no_place (Touch a m Leave) v q = cc
-      no_place (Make a m b) v q = not_put (subst (λ n. may_put c xs n ≡ true) (same_node-true m t.node (both b (same_node m t.node) q).1) (allowed_make rev c xs xs ok a m b v).2)
+      no_place (Make a m b) v q = not_put (subst (λ n. may_put c xs n ≡ true) (same_node-true m t.node (and_parts b (same_node m t.node) q).1) (allowed_make rev c xs xs ok a m b v).2)
       no_place (Fill a m) v q = not_put (subst (λ n. may_put c xs n ≡ true) (same_node-true m t.node q) (allowed_fill rev c xs xs ok a m v))
 
       no_leave : (x : CellMark) → Has xs x → leaves t.node x ≡ true → ⊥
@@ -316,7 +311,7 @@ module _ (rev : Rev) (new : List NodeId) {c : List Slot} {xs : List CellMark} (l
       no_hole Counted v q = cc
       no_hole (Gap a) v q = cc
       no_hole (Touch a m h) v q = cc
-      no_hole (Make a m b) v q = not_put (subst (λ n. may_put c xs n ≡ true) (same_node-true m t.node (both (not b) (same_node m t.node) q).1) (allowed_make rev c xs xs ok a m b v).2)
+      no_hole (Make a m b) v q = not_put (subst (λ n. may_put c xs n ≡ true) (same_node-true m t.node (and_parts (not b) (same_node m t.node) q).1) (allowed_make rev c xs xs ok a m b v).2)
       no_hole (Fill a m) v q = cc
 
       go : (o : Option CellId) → placed_at xs t.node ≡ o → go_to o (away new xs t.node) ≡ None
@@ -383,7 +378,7 @@ module _ (rev : Rev) (new : List NodeId) {c : List Slot} {xs : List CellMark} (l
       go (Touch d k Here) u p q = let s = has_slot l (Touch d k Here) refl u in absurd (not_there a n b v (subst (Has (cells_of c)) ((found_says l s.0 _ s.1).0 ∙ ap option_or_else q) (in_cells c s.0 (found_slot l s.0 _ s.1))))
       go (Touch d k Leave) u p q = cc
       go (Make d k f) u p q =
-          let z = both f (same_node k m) p in
+          let z = and_parts f (same_node k m) p in
           one_make rev c xs xs ok a n m b true v (subst (Has xs) (λ i. Make (ap option_or_else q i) (same_node-true k m z.1 i) (z.0 i)) u)
       go (Fill d k) u p q = let s = has_slot l (Fill d k) refl u in absurd (not_there a n b v (subst (Has (cells_of c)) ((found_says l s.0 _ s.1).0 ∙ ap option_or_else q) (in_cells c s.0 (found_slot l s.0 _ s.1))))
 
@@ -415,12 +410,12 @@ module _ (rev : Rev) (new : List NodeId) {c : List Slot} {xs : List CellMark} (l
   make_once (Counted ∷ ys) h = make_once ys h
   make_once (Gap a ∷ ys) h = make_once ys h
   make_once (Touch a n Stay ∷ ys) h = make_once ys h
-  make_once (Touch a n Here ∷ ys) h = make_once ys (both _ _ h).1
+  make_once (Touch a n Here ∷ ys) h = make_once ys (and_parts _ _ h).1
   make_once (Touch a n Leave ∷ ys) h = make_once ys h
   make_once (Make a n b ∷ ys) h =
-      let p = both (is_allowed rev c xs (Make a n b) ys) _ h in
+      let p = and_parts (is_allowed rev c xs (Make a n b) ys) _ h in
       (has-all (λ (o : Owned). o.cell ≢ a) (makes ys) (λ o w e. let r = has_makes ys o w in true_false (any_has (makes_cell a) ys (Make o.cell o.node r.0) r.1 (ap (λ x. same_cell x a) e ∙ same_cell-itself a)) (made_before rev c xs a n b (Make a n b) ys p.0 refl)), make_once ys p.1)
-  make_once (Fill a n ∷ ys) h = make_once ys (both _ _ h).1
+  make_once (Fill a n ∷ ys) h = make_once ys (and_parts _ _ h).1
 
   goes_some : (o : Option CellId) (b : Bool) → b ≡ true → go_to o b ≢ None
   goes_some None true e = λ q. cc
@@ -474,7 +469,7 @@ module _ (rev : Rev) (new : List NodeId) {c : List Slot} {xs : List CellMark} (l
       owner (Fill a k) = k
 
   root_not_put : may_put c xs root ≡ true → ⊥
-  root_not_put h = true_false (same_node-itself root) (turned _ (both (not (same_node root root)) _ h).0)
+  root_not_put h = true_false (same_node-itself root) (off _ (and_parts (not (same_node root root)) _ h).0)
 
   root_absent : (a : CellId) (m : NodeId) (k : How) → Has xs (Touch a m k) → m ≡ root → ⊥
   root_absent a m k v e = let u = has_slot l (Touch a m k) refl v in let g = found_says l u.0 _ u.1 in hold.no_root (subst (λ n. StandsIn n c) (g.1 ∙ e) (in_row c u.0 (found_slot l u.0 _ u.1) g.2))
@@ -488,7 +483,7 @@ module _ (rev : Rev) (new : List NodeId) {c : List Slot} {xs : List CellMark} (l
       no_place (Touch a m Stay) v q = cc
       no_place (Touch a m Here) v q = root_absent a m Here v (same_node-true m root q)
       no_place (Touch a m Leave) v q = cc
-      no_place (Make a m b) v q = root_not_put (subst (λ n. may_put c xs n ≡ true) (same_node-true m root (both b (same_node m root) q).1) (allowed_make rev c xs xs ok a m b v).2)
+      no_place (Make a m b) v q = root_not_put (subst (λ n. may_put c xs n ≡ true) (same_node-true m root (and_parts b (same_node m root) q).1) (allowed_make rev c xs xs ok a m b v).2)
       no_place (Fill a m) v q = root_not_put (subst (λ n. may_put c xs n ≡ true) (same_node-true m root q) (allowed_fill rev c xs xs ok a m v))
 
       no_leave : (x : CellMark) → Has xs x → leaves root x ≡ true → ⊥
@@ -504,7 +499,7 @@ module _ (rev : Rev) (new : List NodeId) {c : List Slot} {xs : List CellMark} (l
       no_hole Counted v q = cc
       no_hole (Gap a) v q = cc
       no_hole (Touch a m h) v q = cc
-      no_hole (Make a m b) v q = root_not_put (subst (λ n. may_put c xs n ≡ true) (same_node-true m root (both (not b) (same_node m root) q).1) (allowed_make rev c xs xs ok a m b v).2)
+      no_hole (Make a m b) v q = root_not_put (subst (λ n. may_put c xs n ≡ true) (same_node-true m root (and_parts (not b) (same_node m root) q).1) (allowed_make rev c xs xs ok a m b v).2)
       no_hole (Fill a m) v q = cc
 
       go : (o : Option CellId) → placed_at xs root ≡ o → go_to o (away new xs root) ≡ None
@@ -540,15 +535,6 @@ module _ (rev : Rev) (new : List NodeId) {c : List Slot} {xs : List CellMark} (l
   is_put : (g : Option To) → g ≢ None → is_some g ≡ true
   is_put None h = absurd (h refl)
   is_put (Some to) h = refl
-
-  same_rev-true : (a b : Rev) → same_rev a b ≡ true → a ≡ b
-  unfolding same_rev
-  same_rev-true a b e = rev_cmp_exact a b (equal _ e)
-    where
-      equal : (o : Ordering) → is_eq o ≡ true → o ≡ Equal
-      equal Less e = cc
-      equal Equal e = refl
-      equal Greater e = cc
 
   -- over the cells that are made
   of_made : (P : Owned → Type 0) → ((o : Owned) (b : Bool) → Has xs (Make o.cell o.node b) → P o) → AllByRecursion P (made_in (told new l) c)

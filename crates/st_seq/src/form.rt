@@ -1,4 +1,3 @@
-// STOP: `over` is proved already elsewhere. Read /work/a3/NOTE_FROM_INTEGRATOR_DO_NOT_COMMIT.txt before going on.
 //! The rules that the change of a row keeps.
 ghost use Rattle.std.specs.Prelude.{◌≡◌, ◌↔◌, ◌&&◌, ◌∷◌, [], None, MatchOption, IsTrue, not, true};
 ghost use Rattle.std.specs.List.{list_all, list_any};

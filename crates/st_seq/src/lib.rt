@@ -1,4 +1,4 @@
-//! The algebra of rows: what steps and changes of one row become, on their marks alone.
+//! Rows: what steps and changes of one row become, on their marks alone, and rows as a kind of field.
 #![tactic(auto)]
 
 mod across;
@@ -8,6 +8,8 @@ mod beside;
 mod carry;
 mod form;
 mod kind;
+#[cfg(test)]
+mod kind_tests;
 mod lay;
 mod new;
 mod push;

@@ -60,14 +60,14 @@ fn row(alloc: Global, marks: &[Mark]) -> Result<List<Mark>, AllocError> {
 }
 
 // Whether fewer than 2^32 cells are listed.
-fn is_short(marks: &List<Mark>) -> bool
+pub fn is_short(marks: &List<Mark>) -> bool
     ensures { IsTrue result → length (spread marks.now) < 2 ^ 32 }
 {
     after(marks) <= MOST
 }
 
 // Whether both list fewer than 2^31 cells.
-fn are_short(first: &List<Mark>, then: &List<Mark>) -> bool
+pub fn are_short(first: &List<Mark>, then: &List<Mark>) -> bool
     ensures { IsTrue result → may_list (spread first.now) (spread then.now) < 2 ^ 32 }
 {
     after(first) + after(then) <= MOST
