@@ -3,7 +3,7 @@ ghost use Rattle.st_marks.specs.Row.{spread};
 ghost use Rattle.st_marks.specs.Shown.{cells_before};
 ghost use Rattle.st_seq.specs.Changes.{may_list};
 
-use crate::{after as row_after, compose, effect, invert, join, rebase, void_effect};
+use crate::{after as row_after, bridge, compose, effect, invert, join, rebase, void_effect};
 use st_ids::{Atom, CellId, List, NodeId, Or, Rev};
 use st_kind::Apart;
 use st_marks::{How, Mark, Slot, after, before};
@@ -215,5 +215,20 @@ fn void_change_keeps_new_nodes_in_new_rows(rt: HostRuntime) -> Result<(), Fail> 
     new.push(NodeId(name(2, 0)))?;
     assert!(rt; void_effect(alloc, &change, true, &new)? == row(alloc, &[hole(1), make(2)])?);
     assert!(rt; void_effect(alloc, &change, false, &new)? == row(alloc, &[hole(1), hole(2)])?);
+    Ok(())
+}
+
+// A step stands after a change that was carried out and is void: what the change put there goes.
+#[test]
+fn void_change_gives_up_its_nodes(rt: HostRuntime) -> Result<(), Fail> {
+    let alloc = rt.alloc();
+    let step = row(alloc, &[Mark::Skip(1), make(1)])?;
+    let change = row(alloc, &[make(2), Mark::Skip(1)])?;
+    let none = List::new(alloc);
+    assert!(rt; are_short(&change, &step));
+    let over = bridge(alloc, &step, &change, false, &none, false, true).map_err(|_| Fail::from(
+        "apart",
+    ))?;
+    assert!(rt; over == row(alloc, &[touch(2, How::Leave), Mark::Skip(1), make(1)])?);
     Ok(())
 }
