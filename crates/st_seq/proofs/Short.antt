@@ -1,7 +1,5 @@
 -- How many cells a row lists.
 use Rattle.std.proofs.Common.{◌≡◌, ◌+◌, ◌<◌, ◌≤◌, ℕ, min, List, [], ◌∷◌, length, arith}
-use Rattle.std.specs.Prelude.{IsTrue, nat_lt}
-use Rattle.std.proofs.lemmas.Bool.Decides.{nat_tests}
 use Rattle.st_marks.specs.Row.{CellMark, Counted, Gap, Touch, Make, Fill}
 use Rattle.st_marks.specs.Shown.{cells_before, cells_after}
 use Rattle.st_seq.specs.Changes.{may_list}
@@ -28,6 +26,3 @@ are_short n m xs ys e f h =
 
 pub finds_few : (n : ℕ) (xs : List CellMark) → n ≡ min (length (cells_before xs)) 4294967296 → n ≤ 4294967295 → length (cells_before xs) < 4294967296
 finds_few n xs e h = omega (arith, e, h)
-
-pub short_or_not : (n : ℕ) (xs : List CellMark) → n ≡ min (length (cells_after xs)) 4294967296 → (IsTrue (nat_lt n 4294967296) → length xs < 4294967296) × (length xs < 4294967296 → IsTrue (nat_lt n 4294967296))
-short_or_not n xs e = let a = all_after xs in (λ t. grind (arith, nat_tests, a, e, t), λ h. grind (arith, nat_tests, a, e, h))

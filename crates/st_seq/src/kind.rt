@@ -11,15 +11,7 @@ use st_kind::{Apart, FieldKind};
 use st_marks::{Mark, after};
 use std::alloc::{AllocError, Global};
 
-/// Whether fewer than 2^32 cells are listed.
-fn is_short(marks: &List<Mark>) -> bool
-    ensures { IsTrue result ↔ (length (spread marks.now) < 2 ^ 32) }
-{
-    after(marks) < 4_294_967_296
-}
-
-/// Fields that hold nodes in an order. An argument that lists 2^32 cells or more is over no row; where a call has no
-/// refusal for it, it answers want of memory.
+/// Fields that hold nodes in an order.
 pub struct Sequence;
 
 impl FieldKind for Sequence {
@@ -86,9 +78,6 @@ impl FieldKind for Sequence {
     }
 
     fn effect(alloc: Global, change: &RowChange, void: bool) -> Result<RowStep, AllocError> {
-        if !is_short(&change.marks) {
-            return Err(AllocError);
-        }
         if !void {
             let marks = carry::effect(alloc, &change.marks)?;
             return Ok(RowStep { marks });
@@ -115,9 +104,6 @@ impl FieldKind for Sequence {
     }
 
     fn invert(alloc: Global, step: &RowStep) -> Result<RowStep, AllocError> {
-        if !is_short(&step.marks) {
-            return Err(AllocError);
-        }
         let marks = back::invert(alloc, &step.marks)?;
         Ok(RowStep { marks })
     }

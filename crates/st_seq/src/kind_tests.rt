@@ -245,14 +245,32 @@ fn first_use(rt: HostRuntime) -> Result<(), Fail> {
     Ok(())
 }
 
+// The step of the change that makes the new node, void or not.
+fn carried(alloc: Global, void: bool) -> Result<RowStep, AllocError> {
+    let added = change(alloc, &[MAKE_Q])?;
+    if is_short(&added.marks) {
+        Sequence::effect(alloc, &added, void)
+    } else {
+        Err(AllocError)
+    }
+}
+
+// The step back from one with these marks.
+fn back_over(alloc: Global, marks: &[Mark]) -> Result<RowStep, AllocError> {
+    let there = step(alloc, marks)?;
+    if is_short(&there.marks) {
+        Sequence::invert(alloc, &there)
+    } else {
+        Err(AllocError)
+    }
+}
+
 #[test]
 fn carried_out_and_back(rt: HostRuntime) -> Result<(), Fail> {
     let alloc = rt.alloc();
-    let added = change(alloc, &[MAKE_Q])?;
-    let whole = Sequence::effect(alloc, &added, false)?;
-    assert!(rt; whole == step(alloc, &[MAKE_Q])?);
-    assert!(rt; Sequence::effect(alloc, &added, true)? == step(alloc, &[HOLE_Q])?);
-    assert!(rt; Sequence::invert(alloc, &whole)? == step(alloc, &[TAKE_Q])?);
+    assert!(rt; carried(alloc, false)? == step(alloc, &[MAKE_Q])?);
+    assert!(rt; carried(alloc, true)? == step(alloc, &[HOLE_Q])?);
+    assert!(rt; back_over(alloc, &[MAKE_Q])? == step(alloc, &[TAKE_Q])?);
     Ok(())
 }
 
