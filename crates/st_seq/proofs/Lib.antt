@@ -26,3 +26,4 @@ pub mod Laid
 pub mod Telling
 pub mod Keeping
 pub mod Example
+pub mod Documents

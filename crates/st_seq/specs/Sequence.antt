@@ -14,7 +14,9 @@ use Rattle.st_marks.specs.declared.intents.To.{To}
 use Rattle.st_marks.specs.declared.marks.Mark.{Mark}
 use Rattle.st_marks.specs.declared.places.Slot.{Slot}
 use Rattle.st_marks.specs.Document.{root}
-use Rattle.st_marks.specs.Embedding.{is_among}
+use Rattle.st_marks.specs.declared.intents.Intent.{Intent}
+use Rattle.st_marks.specs.Embedding.{is_among, row_part}
+use Rattle.st_marks.specs.Intent.{is_new}
 use Rattle.st_marks.specs.Row.{CellMark, Counted, Gap, Touch, Make, Fill, RowPart, merge, embed_row}
 use Rattle.st_seq.specs.Changes.{StandsIn, AreJoined, AreOld, placed_by, row_after}
 use Rattle.st_seq.specs.Rows.{IsRowStep, NamesMoved}
@@ -57,6 +59,15 @@ pub record SeqPart : Type 0 where
   pub new : List NodeId
   -- what it does with the row
   pub does : RowPart
+
+-- the new nodes of an intent, in rising order
+pub record ListsNew (N : Intent) (new : List NodeId) : Type 0 where
+  pub rising : IsRising node_cmp (λ (n : NodeId). n) new
+  pub each : (n : NodeId) → is_among new n ≡ is_new N n
+
+-- the part of an intent that mentions these nodes, and makes those that are listed
+abbrev pub part_of : Nodes → List NodeId → Intent → NodeId → SeqPart
+part_of m new N n = record { rev = N.rev; in_new = is_new N n; new = new; does = row_part m N n }
 
 -- the cells that the part makes at the start of a row and after its cells
 abbrev pub made_in : RowPart → List Slot → List Owned

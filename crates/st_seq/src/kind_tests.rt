@@ -320,9 +320,11 @@ fn apart(rt: HostRuntime) {
     assert!(rt; rebased(alloc, &[Mark::Gap(CELL_X)]) == Err(APART));
 }
 
+// Copies, and the law that is called for its contract.
 #[test]
 fn copies(rt: HostRuntime) -> Result<(), Fail> {
     let alloc = rt.alloc();
+    rows_are_of_documents();
     assert!(rt; held(alloc)?.copy(alloc)? == held(alloc)?);
     assert!(rt; change(alloc, &[MAKE_Q])?.copy(alloc)? == change(alloc, &[MAKE_Q])?);
     assert!(rt; step(alloc, &[LEAVE_X])?.copy(alloc)? == step(alloc, &[LEAVE_X])?);

@@ -10,6 +10,7 @@ mod form;
 mod kind;
 #[cfg(test)]
 mod kind_tests;
+mod laws;
 mod lay;
 mod new;
 mod push;
@@ -28,6 +29,7 @@ pub use back::invert;
 pub use beside::rebase;
 pub use carry::{effect, void_effect};
 pub use kind::Sequence;
+pub use laws::rows_are_of_documents;
 pub use rows::after;
 pub use turns::{compose, join};
 pub use values::{RowChange, RowHeld, RowStep};
