@@ -38,7 +38,7 @@ made N w n e = go (new_node N n) refl e
         let r = first-has (λ (k : NewNode). same_node k.node n) N.new m f in
         ap (λ (k : NodeId). k.0.rev) (sym (same_node-true m.node n r.1)) ∙ all-has (λ (k : NewNode). k.node.0.rev ≡ N.rev) N.new m w.new_rev r.0
 
-not_made : (D : Document) (N : Intent) → Fits D N → (n : NodeId) → IsSome (D.nodes n) → is_new N n ≡ false
+pub not_made : (D : Document) (N : Intent) → Fits D N → (n : NodeId) → IsSome (D.nodes n) → is_new N n ≡ false
 not_made D N w n h = not_so (is_new N n) (λ e. true_false h (ap is_some (w.fresh_nodes n e)))
 
 -- ## What the row holds

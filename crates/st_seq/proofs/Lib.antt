@@ -27,3 +27,4 @@ pub mod Telling
 pub mod Keeping
 pub mod Example
 pub mod Documents
+pub mod DocumentsAfter
