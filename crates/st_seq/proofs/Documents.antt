@@ -43,7 +43,7 @@ not_made D N w n h = not_so (is_new N n) (λ e. true_false h (ap is_some (w.fres
 
 -- ## What the row holds
 
-is_slot : (D : Document) (n : NodeId) (s : Slot) → Has (content D n) s → (o : Owned) × Has (D.rows n) o × (slot D o ≡ s)
+pub is_slot : (D : Document) (n : NodeId) (s : Slot) → Has (content D n) s → (o : Owned) × Has (D.rows n) o × (slot D o ≡ s)
 is_slot D n s w = has-map (slot D) (D.rows n) s w
 
 slots_once : (D : Document) (os : List Owned) → AreDistinct (λ (o : Owned). o.cell) os → AreDistinct (λ (s : Slot). s.cell) (map (slot D) os)

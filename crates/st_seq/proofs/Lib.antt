@@ -28,3 +28,4 @@ pub mod Keeping
 pub mod Example
 pub mod Documents
 pub mod DocumentsAfter
+pub mod DocumentsBack
