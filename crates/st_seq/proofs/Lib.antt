@@ -29,3 +29,6 @@ pub mod Example
 pub mod Documents
 pub mod DocumentsAfter
 pub mod DocumentsBack
+pub mod NamedCells
+pub mod NamedOnce
+pub mod Refusing

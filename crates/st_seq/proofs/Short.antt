@@ -5,7 +5,7 @@ use Rattle.st_marks.specs.Shown.{cells_before, cells_after}
 use Rattle.st_seq.specs.Changes.{may_list}
 use Rattle.st_seq.specs.Laws.{made_or_found}
 
-all_after : (xs : List CellMark) → length (cells_after xs) ≡ length xs
+pub all_after : (xs : List CellMark) → length (cells_after xs) ≡ length xs
 all_after [] = omega arith
 all_after (Counted ∷ xs) = omega (arith, all_after xs)
 all_after (Gap c ∷ xs) = omega (arith, all_after xs)

@@ -9,3 +9,4 @@ pub mod Turns
 pub mod Sequence
 pub mod Laws
 pub mod Form
+pub mod NamedApart

@@ -3,6 +3,7 @@ ghost use Rattle.std.specs.Prelude.{◌≡◌, ◌↔◌, ◌<◌, ◌^◌, leng
 ghost use Rattle.st_marks.specs.Row.{spread};
 
 use crate::form::is_of_form;
+use crate::names::{agree_beside, agree_in_turn, agree_over};
 use crate::new::{merged, rising};
 use crate::values::{RowChange, RowHeld, RowStep};
 use crate::{across, back, beside, carry, rows, turns};
@@ -19,9 +20,10 @@ impl FieldKind for Sequence {
     ghost use Rattle.st_marks.specs.Embedding.{is_among};
     ghost use Rattle.st_marks.specs.Row.{spread};
     ghost use Rattle.st_marks.specs.Shown.{cells_after, cells_before};
-    ghost use Rattle.st_seq.specs.Agreement.{DifferAt, row_seen};
+    ghost use Rattle.st_seq.specs.Agreement.{row_seen};
     ghost use Rattle.st_seq.specs.Changes.{may_list};
     ghost use Rattle.st_seq.specs.Laws.{kept_in_turn, one_row_change, one_row_step, row_changes_are_short, row_has_room, row_steps_are_short};
+    ghost use Rattle.st_seq.specs.NamedApart.{ApartAt, named_after, named_before, named_in_row};
     ghost use Rattle.st_seq.specs.Sequence.{SeqPart, AreJoinedIn, CanHold, FitsIn, KeepsIn, LeadsOver, brought, carried_to, change_of, retreat_to};
 
     type Ctx = RowHeld;
@@ -60,13 +62,13 @@ impl FieldKind for Sequence {
 
     ghost HasRoom = { λ x s. may_list (spread x.marks) (spread s.marks) < 2 ^ 32 };
 
-    ghost AfterClash = { λ c s. DifferAt (row_seen c.cells) (cells_before (spread s.marks)) };
+    ghost AfterClash = { λ c s. ApartAt (row_seen c.cells) (cells_before (spread s.marks)) (named_in_row 0 c.cells) (named_before 0 (spread s.marks)) };
 
-    ghost ComposeClash = { λ s t. DifferAt (cells_after (spread s.marks)) (cells_before (spread t.marks)) };
+    ghost ComposeClash = { λ s t. ApartAt (cells_after (spread s.marks)) (cells_before (spread t.marks)) (named_after 0 (spread s.marks)) (named_before 0 (spread t.marks)) };
 
-    ghost JoinClash = { λ x y. DifferAt (cells_after (spread x.marks)) (cells_before (spread y.marks)) };
+    ghost JoinClash = { λ x y. ApartAt (cells_after (spread x.marks)) (cells_before (spread y.marks)) (named_after 0 (spread x.marks)) (named_before 0 (spread y.marks)) };
 
-    ghost RebaseClash = { λ x s. DifferAt (cells_before (spread x.marks)) (cells_before (spread s.marks)) };
+    ghost RebaseClash = { λ x s. ApartAt (cells_before (spread x.marks)) (cells_before (spread s.marks)) (named_before 0 (spread x.marks)) (named_before 0 (spread s.marks)) };
 
     fn over(change: &RowChange, ctx: &RowHeld) -> bool {
         is_of_form(change, ctx.cells.as_slice())
@@ -74,6 +76,7 @@ impl FieldKind for Sequence {
 
     fn after(alloc: Global, ctx: &RowHeld, step: &RowStep) -> Result<RowHeld, Or<Apart>> {
         let cells = rows::after(alloc, &ctx.cells, &step.marks)?;
+        agree_over(alloc, ctx.cells.as_slice(), step.marks.as_slice())?;
         Ok(RowHeld { cells })
     }
 
@@ -89,11 +92,13 @@ impl FieldKind for Sequence {
 
     fn compose(alloc: Global, first: &RowStep, then: &RowStep) -> Result<RowStep, Or<Apart>> {
         let marks = turns::compose(alloc, &first.marks, &then.marks)?;
+        agree_in_turn(alloc, first.marks.as_slice(), then.marks.as_slice())?;
         Ok(RowStep { marks })
     }
 
     fn join(alloc: Global, first: &RowChange, then: &RowChange) -> Result<RowChange, Or<Apart>> {
         let marks = turns::join(alloc, &first.marks, &then.marks)?;
+        agree_in_turn(alloc, first.marks.as_slice(), then.marks.as_slice())?;
         let new = merged(alloc, &first.new, &then.new)?;
         Ok(RowChange {
             rev: first.rev,
@@ -110,6 +115,7 @@ impl FieldKind for Sequence {
 
     fn rebase(alloc: Global, change: &RowChange, step: &RowStep) -> Result<RowChange, Or<Apart>> {
         let marks = beside::rebase(alloc, &change.marks, &step.marks)?;
+        agree_beside(alloc, change.marks.as_slice(), step.marks.as_slice())?;
         let new = change.new.copy(alloc)?;
         Ok(RowChange {
             rev: change.rev,
@@ -136,6 +142,7 @@ impl FieldKind for Sequence {
             was_void,
             is_void,
         )?;
+        agree_beside(alloc, change.marks.as_slice(), step.marks.as_slice())?;
         Ok(RowStep { marks })
     }
 

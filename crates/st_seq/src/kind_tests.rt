@@ -211,6 +211,38 @@ fn rebased(alloc: Global, marks: &[Mark]) -> Result<RowChange, Or<Apart>> {
     }
 }
 
+// A change over a step.
+fn rebased_over(alloc: Global, marks: &[Mark], over: &[Mark]) -> Result<RowChange, Or<Apart>> {
+    let added = change(alloc, marks)?;
+    let between = step(alloc, over)?;
+    if are_short(&added.marks, &between.marks) {
+        Sequence::rebase(alloc, &added, &between)
+    } else {
+        Err(Or::NoMemory)
+    }
+}
+
+// A cell stands at one place, and a cell that is made isn't there before.
+#[test]
+fn cells_are_named_apart(rt: HostRuntime) -> Result<(), Fail> {
+    let alloc = rt.alloc();
+    let other = Mark::Gap(CELL_Q);
+    assert!(rt;
+        rebased_over(alloc, &[STAY_X, Mark::Skip(1)], &[Mark::Skip(1), LEAVE_X])
+            == Err(Or::Fault(Apart { place: 0 }))
+    );
+    assert!(rt;
+        rebased_over(alloc, &[Mark::Skip(1), MAKE_Q], &[Mark::Skip(1), MAKE_Q])
+            == Err(Or::Fault(Apart { place: 1 }))
+    );
+    assert!(rt; composed(alloc, &[Mark::Skip(1), MAKE_X]) == Err(Or::Fault(Apart { place: 0 })));
+    assert!(rt;
+        rebased_over(alloc, &[Mark::Skip(1), other], &[LEAVE_X, other])
+            == Ok(change(alloc, &[Mark::Gap(CELL_X), other])?)
+    );
+    Ok(())
+}
+
 // That step over the change that makes the new node.
 fn bridged(alloc: Global, was_void: bool, is_void: bool) -> Result<RowStep, Or<Apart>> {
     let added = change(alloc, &[MAKE_Q, Mark::Skip(1)])?;

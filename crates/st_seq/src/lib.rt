@@ -12,6 +12,7 @@ mod kind;
 mod kind_tests;
 mod laws;
 mod lay;
+mod names;
 mod new;
 mod push;
 mod read;

@@ -7,6 +7,12 @@ use Rattle.st_marks.specs.Embedding.{is_among}
 use Rattle.st_seq.specs.Changes.{StandsOver}
 use Rattle.st_seq.proofs.Fitting.{beside_leads, change_is, keeps_is, stands_over}
 use Rattle.st_seq.specs.declared.values.RowChange.{RowChange}
+use Rattle.std.proofs.Common.{length, ◌<◌}
+use Rattle.st_marks.specs.Row.{spread}
+use Rattle.st_marks.specs.Shown.{cells_before}
+use Rattle.st_seq.proofs.NamedOnce.{named_once-rebase}
+use Rattle.st_seq.proofs.Refusing.{nothing_apart, beside_short}
+use Rattle.st_seq.specs.NamedApart.{NamedApart, named_before}
 use Rattle.st_seq.proofs.kind.SequenceFieldKind.bridge.Goals as goal
 
 pub returns-in_err-marks-clause-bridged : goal.returns-in_err-marks-clause-bridged
@@ -24,3 +30,10 @@ returns-clause-bridged c p m a d w v k e l h g =
     let stands = subst (λ n. StandsOver p.does (is_among n) a.cells d.cells l.step.grows) (sym new) (stands_over p l.step.grows w l.after.once v) in
     let both = c.in_ok-marks.ensures.bridged p.does m a.cells d.cells (change_is p a.cells _ w e) l.step l.moved stands (λ q. keeps_is p l.step.grows w l.after.once (k q)) in
     beside_leads p m a.cells d.cells c.args.was_void c.args.is_void c.in_ok-marks.marks c.args.change.now.in_new c.in_ok-new.new (ap (λ (x : RowChange). x.in_new) e) new h g both
+
+pub agree_beside-requires-clause-first : goal.agree_beside-requires-clause-first
+agree_beside-requires-clause-first c = subst (λ r. length (cells_before (spread r)) < 4294967296) (sym c.as_slice.ensures) (beside_short (spread c.args.change.now.marks) (spread c.args.step.now.marks) 4294967296 c.in_ok-marks.ensures.apart c.requires)
+
+pub returns-in_err-agree_beside-clause-bridged : goal.returns-in_err-agree_beside-clause-bridged
+returns-in_err-agree_beside-clause-bridged c p m a d w v k e l h g = let none = nothing_apart c.in_err-agree_beside.field-0.0 _ c.in_err-agree_beside.ensures (λ j n. named_once-rebase p m a.cells d.cells c.args.change.now c.args.step.now.marks w v e l j
+    (subst (λ x. NamedApart (named_before 0 (spread x)) (named_before 0 (spread c.args.step.now.marks)) j) c.as_slice.ensures (subst (λ y. NamedApart (named_before 0 (spread c.as_slice.result.now)) (named_before 0 (spread y)) j) c.as_slice-2.ensures n))) in search rules

@@ -2,6 +2,12 @@ use Rattle.std.proofs.Common.{ap, ◌∙◌, rules}
 use Rattle.st_kind.proofs.Memory.{no_memory}
 use Rattle.st_seq.proofs.Fitting.{change_is, keeps_is}
 use Rattle.st_seq.specs.declared.values.RowChange.{RowChange}
+use Rattle.std.proofs.Common.{sym, subst, length, ◌<◌}
+use Rattle.st_marks.specs.Row.{spread}
+use Rattle.st_marks.specs.Shown.{cells_before}
+use Rattle.st_seq.proofs.NamedOnce.{named_once-rebase}
+use Rattle.st_seq.proofs.Refusing.{nothing_apart, beside_short}
+use Rattle.st_seq.specs.NamedApart.{NamedApart, named_before}
 use Rattle.st_seq.proofs.kind.SequenceFieldKind.rebase.Goals as goal
 
 pub returns-in_err-marks-clause-rebased : goal.returns-in_err-marks-clause-rebased
@@ -13,3 +19,10 @@ pub returns-clause-rebased : goal.returns-clause-rebased
 returns-clause-rebased c p m a d w v k e l =
     let marks = c.in_ok-marks.ensures.rebased p.does m a.cells d.cells (change_is p a.cells _ w e) l.step (keeps_is p l.step.grows w l.after.once k) in
     λ i. record { rev = (e i).rev; in_new = (e i).in_new; new = (c.in_ok-new.ensures ∙ ap (λ (x : RowChange). x.new) e) i; marks = marks i }
+
+pub agree_beside-requires-clause-first : goal.agree_beside-requires-clause-first
+agree_beside-requires-clause-first c = subst (λ r. length (cells_before (spread r)) < 4294967296) (sym c.as_slice.ensures) (beside_short (spread c.args.change.now.marks) (spread c.args.step.now.marks) 4294967296 c.in_ok-marks.ensures.apart c.requires)
+
+pub returns-in_err-agree_beside-clause-rebased : goal.returns-in_err-agree_beside-clause-rebased
+returns-in_err-agree_beside-clause-rebased c p m a d w v k e l = let none = nothing_apart c.in_err-agree_beside.field-0.0 _ c.in_err-agree_beside.ensures (λ j n. named_once-rebase p m a.cells d.cells c.args.change.now c.args.step.now.marks w v e l j
+    (subst (λ x. NamedApart (named_before 0 (spread x)) (named_before 0 (spread c.args.step.now.marks)) j) c.as_slice.ensures (subst (λ y. NamedApart (named_before 0 (spread c.as_slice.result.now)) (named_before 0 (spread y)) j) c.as_slice-2.ensures n))) in search rules
