@@ -1,5 +1,5 @@
 pub mod Answering
 pub mod Fronts
-pub mod Growing
+pub mod Appending
 pub mod LineSteps
-pub mod Telling
+pub mod Outputs

@@ -1,7 +1,7 @@
 -- What is answered to an input, and what of it was written at each outcome.
 use Rattle.std.specs.Prelude.{◌≡◌, ℕ, ◌+◌, ◌==◌, nat_lt, nat_eq, Bool, true, false, count_by, length, take, List, [], ◌∷◌, ◌++◌, Option, Some, IfSome, Result, Ok, Err, codes, ◌⊎◌}
 use Rattle.std.specs.Cmp.Lexicographic.{pointwise}
-use Rattle.st_io.specs.Bytes.{Grows}
+use Rattle.st_io.specs.Bytes.{Appends}
 use Rattle.serde_json.specs.Data.{Data, number, unsigned, string, object, no_members, member}
 use Rattle.serde_json.specs.Written.{compact_text}
 use Rattle.st_json.specs.declared.fault.BadCause.{BadCause}
@@ -14,18 +14,18 @@ use Rattle.st_script.specs.declared.answer.Answer.{Answer}
 use Rattle.st_script.specs.declared.answer.Answer.TheVariants as answer
 use Rattle.st_trace.specs.World.{begun, IsNext}
 use Rattle.st_trace.specs.declared.lists.Lists.{Lists}
-use Rattle.sharedtree.specs.Lines.{cut}
-use Rattle.sharedtree.specs.Parts.{GrowsInPart}
-use Rattle.sharedtree.specs.declared.outcome.Outcome.{Outcome}
-use Rattle.sharedtree.specs.declared.outcome.Outcome.TheVariants.{Done, Usage, BadLine, TooLong, ReadFault, WriteFault, NoMemory}
+use Rattle.st_run.specs.Lines.{cut}
+use Rattle.st_run.specs.Parts.{AppendsPrefix}
+use Rattle.st_run.specs.declared.outcome.Outcome.{Outcome}
+use Rattle.st_run.specs.declared.outcome.Outcome.TheVariants.{Done, Usage, BadLine, TooLong, ReadFault, WriteFault, NoMemory}
 
 -- what is written, and how it ends
-pub record Told : Type 0 where
-  pub lines : List ℕ
+pub record Output : Type 0 where
+  pub bytes : List ℕ
   pub outcome : Outcome
 
-abbrev pub before : List ℕ → Told → Told
-before line told = record { lines = line ++ told.lines; outcome = told.outcome }
+abbrev pub before : List ℕ → Output → Output
+before line out = record { bytes = line ++ out.bytes; outcome = out.outcome }
 
 -- ## Lines that end a run
 
@@ -38,14 +38,14 @@ cause_name NotNormal = codes "NotNormal"
 abbrev pub bad_data : ℕ → BadCause → Data
 bad_data n c = object (member (codes "bad") (string (cause_name c)) (member (codes "line") (number (unsigned n)) no_members))
 
-abbrev pub bad_line : ℕ → BadCause → Told
-bad_line n c = record { lines = compact_text (bad_data n c) ++ 10 ∷ []; outcome = BadLine n c }
+abbrev pub bad_line : ℕ → BadCause → Output
+bad_line n c = record { bytes = compact_text (bad_data n c) ++ 10 ∷ []; outcome = BadLine n c }
 
 abbrev pub usage_data : Data
 usage_data = object (member (codes "usage") (string (codes "trace | replay | algebra | compat | work --seed N --steps M")) no_members)
 
-abbrev pub usage_told : Told
-usage_told = record { lines = compact_text usage_data ++ 10 ∷ []; outcome = Usage }
+abbrev pub usage_output : Output
+usage_output = record { bytes = compact_text usage_data ++ 10 ∷ []; outcome = Usage }
 
 abbrev pub max_input : ℕ
 max_input = 1048576
@@ -57,79 +57,79 @@ long_line bytes = count_by (λ b. b == 10) (take max_input bytes) + 1
 abbrev pub long_data : ℕ → Data
 long_data n = object (member (codes "line") (number (unsigned n)) (member (codes "too") (string (codes "long")) no_members))
 
-abbrev pub long_told : ℕ → Told
-long_told n = record { lines = compact_text (long_data n) ++ 10 ∷ []; outcome = TooLong n }
+abbrev pub long_output : ℕ → Output
+long_output n = record { bytes = compact_text (long_data n) ++ 10 ∷ []; outcome = TooLong n }
 
 -- ## The answers to an input
 
 -- what is told where memory or the sink failed before anything more was written
-abbrev pub stopped : Told
-stopped = record { lines = []; outcome = NoMemory }
+abbrev pub cut_short : Output
+cut_short = record { bytes = []; outcome = NoMemory }
 
 -- the whole, or nothing of it where something failed before
-abbrev pub OrStopped : (Told → Type 0) → Told → Type 0
-OrStopped Tells told = (told ≡ stopped) ⊎ Tells told
+abbrev pub OrCutShort : (Output → Type 0) → Output → Type 0
+OrCutShort Wanted out = (out ≡ cut_short) ⊎ Wanted out
 
 -- the answer to a step, and what follows it
-pub record IsStepTold (h : HeaderView) (w : Lists) (s : StepView) (Rest : Lists → Told → Type 0) (told : Told) : Type 0 where
+pub record AnswersStep (h : HeaderView) (w : Lists) (s : StepView) (Rest : Lists → Output → Type 0) (out : Output) : Type 0 where
   pub world : Lists
   pub answer : Answer
-  pub rest : Told
+  pub rest : Output
   pub next : IsNext h w s world answer
   pub follows : Rest world rest
-  pub whole : told ≡ before (answer_line answer) rest
+  pub whole : out ≡ before (answer_line answer) rest
 
 -- a line that is a step or a bad one, and what follows it
-abbrev pub IsLineTold : HeaderView → ℕ → Result StepView BadCause → Lists → (Lists → Told → Type 0) → Told → Type 0
-IsLineTold h n (Err c) w Rest told = told ≡ bad_line n c
-IsLineTold h n (Ok s) w Rest told = IsStepTold h w s Rest told
+abbrev pub AnswersLine : HeaderView → ℕ → Result StepView BadCause → Lists → (Lists → Output → Type 0) → Output → Type 0
+AnswersLine h n (Err c) w Rest out = out ≡ bad_line n c
+AnswersLine h n (Ok s) w Rest out = AnswersStep h w s Rest out
 
 -- the answers to the lines from the n-th on, or to some first ones of them where something failed
-abbrev pub AnswersFrom : HeaderView → Lists → ℕ → List (List ℕ) → Told → Type 0
-AnswersFrom h w n [] told = OrStopped (λ (t : Told). t ≡ record { lines = []; outcome = Done }) told
-AnswersFrom h w n (l ∷ ls) told = OrStopped (IsLineTold h n (line_of l) w (λ v. AnswersFrom h v (n + 1) ls)) told
+abbrev pub AnswersFrom : HeaderView → Lists → ℕ → List (List ℕ) → Output → Type 0
+AnswersFrom h w n [] out = OrCutShort (λ (t : Output). t ≡ record { bytes = []; outcome = Done }) out
+AnswersFrom h w n (l ∷ ls) out = OrCutShort (AnswersLine h n (line_of l) w (λ v. AnswersFrom h v (n + 1) ls)) out
 
 -- the answer to a header, and what follows it
-pub record IsHeaderTold (Rest : Told → Type 0) (told : Told) : Type 0 where
-  pub rest : Told
+pub record AnswersHeader (Rest : Output → Type 0) (out : Output) : Type 0 where
+  pub rest : Output
   pub follows : Rest rest
-  pub whole : told ≡ before (answer_line answer.Header) rest
+  pub whole : out ≡ before (answer_line answer.Header) rest
 
-abbrev pub IsBegun : Result HeaderView BadCause → (HeaderView → Told → Type 0) → Told → Type 0
-IsBegun (Err c) Rest told = told ≡ bad_line 1 c
-IsBegun (Ok h) Rest told = IsHeaderTold (Rest h) told
+abbrev pub AnswersOpening : Result HeaderView BadCause → (HeaderView → Output → Type 0) → Output → Type 0
+AnswersOpening (Err c) Rest out = out ≡ bad_line 1 c
+AnswersOpening (Ok h) Rest out = AnswersHeader (Rest h) out
 
-abbrev pub IsTraceOf : List (List ℕ) → Told → Type 0
-IsTraceOf [] told = OrStopped (λ (t : Told). t ≡ bad_line 1 Header) told
-IsTraceOf (l ∷ ls) told = OrStopped (IsBegun (header_line (codes "trace") l) (λ h. AnswersFrom h begun 2 ls)) told
+abbrev pub AnswersTrace : List (List ℕ) → Output → Type 0
+AnswersTrace [] out = OrCutShort (λ (t : Output). t ≡ bad_line 1 Header) out
+AnswersTrace (l ∷ ls) out = OrCutShort (AnswersOpening (header_line (codes "trace") l) (λ h. AnswersFrom h begun 2 ls)) out
 
-abbrev pub AnswersBy : Bool → List ℕ → Told → Type 0
-AnswersBy true bytes told = told ≡ long_told (long_line bytes)
-AnswersBy false bytes told = IsTraceOf (cut bytes) told
+abbrev pub AnswersBy : Bool → List ℕ → Output → Type 0
+AnswersBy true bytes out = out ≡ long_output (long_line bytes)
+AnswersBy false bytes out = AnswersTrace (cut bytes) out
 
 -- the command `trace` over an input, which is taken whole
-abbrev pub Answers : List ℕ → Told → Type 0
+abbrev pub Answers : List ℕ → Output → Type 0
 Answers bytes = AnswersBy (nat_lt max_input (length bytes)) bytes
 
 -- ## What was written
 
 -- what was written is all that is told, and that ends so
-abbrev pub IsToldAs : Option (List ℕ) → Option (List ℕ) → (Told → Type 0) → Outcome → Type 0
-IsToldAs old new Tells o = (told : Told) × Tells told × (told.outcome ≡ o) × Grows old told.lines new
+abbrev pub WritesAll : Option (List ℕ) → Option (List ℕ) → (Output → Type 0) → Outcome → Type 0
+WritesAll old new Wanted o = (out : Output) × Wanted out × (out.outcome ≡ o) × Appends old out.bytes new
 
 -- what was written is a front of what is told
-abbrev pub IsToldInPart : Option (List ℕ) → Option (List ℕ) → (Told → Type 0) → Type 0
-IsToldInPart old new Tells = (told : Told) × Tells told × GrowsInPart old told.lines new
+abbrev pub WritesPrefix : Option (List ℕ) → Option (List ℕ) → (Output → Type 0) → Type 0
+WritesPrefix old new Wanted = (out : Output) × Wanted out × AppendsPrefix old out.bytes new
 
 -- where that is to be told, what was written at an outcome: all of it, or a front of it where memory or the sink failed
-abbrev pub IsTold : Option (List ℕ) → Option (List ℕ) → (Told → Type 0) → Outcome → Type 0
-IsTold old new Tells WriteFault = IsToldInPart old new Tells
-IsTold old new Tells NoMemory = IsToldInPart old new Tells
-IsTold old new Tells ReadFault = ⊥
-IsTold old new Tells Done = IsToldAs old new Tells Done
-IsTold old new Tells Usage = IsToldAs old new Tells Usage
-IsTold old new Tells (BadLine n c) = IsToldAs old new Tells (BadLine n c)
-IsTold old new Tells (TooLong n) = IsToldAs old new Tells (TooLong n)
+abbrev pub IsOutput : Option (List ℕ) → Option (List ℕ) → (Output → Type 0) → Outcome → Type 0
+IsOutput old new Wanted WriteFault = WritesPrefix old new Wanted
+IsOutput old new Wanted NoMemory = WritesPrefix old new Wanted
+IsOutput old new Wanted ReadFault = ⊥
+IsOutput old new Wanted Done = WritesAll old new Wanted Done
+IsOutput old new Wanted Usage = WritesAll old new Wanted Usage
+IsOutput old new Wanted (BadLine n c) = WritesAll old new Wanted (BadLine n c)
+IsOutput old new Wanted (TooLong n) = WritesAll old new Wanted (TooLong n)
 
 -- ## One line
 
@@ -139,15 +139,15 @@ pub record IsLineAnswered (h : HeaderView) (line : Result StepView BadCause) (w 
   pub answer : Answer
   pub is : line ≡ Ok step
   pub next : IsNext h w step v answer
-  pub written : Grows old (answer_line answer) new
+  pub written : Appends old (answer_line answer) new
 
 -- nothing more is told
-abbrev pub IsStopped : Told → Type 0
-IsStopped told = told ≡ stopped
+abbrev pub IsCutShort : Output → Type 0
+IsCutShort out = out ≡ cut_short
 
 -- a line at which a run ended
-abbrev pub EndsAtLine : HeaderView → ℕ → Result StepView BadCause → Lists → Told → Type 0
-EndsAtLine h n line w told = OrStopped (IsLineTold h n line w (λ v. IsStopped)) told
+abbrev pub EndsAtLine : HeaderView → ℕ → Result StepView BadCause → Lists → Output → Type 0
+EndsAtLine h n line w out = OrCutShort (AnswersLine h n line w (λ v. IsCutShort)) out
 
 -- the words are the one command
 abbrev pub is_trace : List (List ℕ) → Bool
@@ -159,15 +159,15 @@ is_trace (w ∷ v ∷ ws) = false
 abbrev pub IsTraced : Option (List ℕ) → Option (List ℕ) → Option (List ℕ) → Option (List ℕ) → Outcome → Type 0
 IsTraced left rest old new Usage = ⊥
 IsTraced left rest old new ReadFault = new ≡ old
-IsTraced left rest old new Done = IfSome left (λ bytes. (rest ≡ Some []) × IsTold old new (Answers bytes) Done)
-IsTraced left rest old new (BadLine n c) = IfSome left (λ bytes. IsTold old new (Answers bytes) (BadLine n c))
-IsTraced left rest old new (TooLong n) = IfSome left (λ bytes. IsTold old new (Answers bytes) (TooLong n))
-IsTraced left rest old new WriteFault = IfSome left (λ bytes. IsTold old new (Answers bytes) WriteFault)
-IsTraced left rest old new NoMemory = IfSome left (λ bytes. IsTold old new (Answers bytes) NoMemory)
+IsTraced left rest old new Done = IfSome left (λ bytes. (rest ≡ Some []) × IsOutput old new (Answers bytes) Done)
+IsTraced left rest old new (BadLine n c) = IfSome left (λ bytes. IsOutput old new (Answers bytes) (BadLine n c))
+IsTraced left rest old new (TooLong n) = IfSome left (λ bytes. IsOutput old new (Answers bytes) (TooLong n))
+IsTraced left rest old new WriteFault = IfSome left (λ bytes. IsOutput old new (Answers bytes) WriteFault)
+IsTraced left rest old new NoMemory = IfSome left (λ bytes. IsOutput old new (Answers bytes) NoMemory)
 
 abbrev pub IsAnsweredAs : Bool → Option (List ℕ) → Option (List ℕ) → Option (List ℕ) → Option (List ℕ) → Outcome → Type 0
 IsAnsweredAs true left rest old new outcome = IsTraced left rest old new outcome
-IsAnsweredAs false left rest old new outcome = (rest ≡ left) × IsTold old new (λ (told : Told). told ≡ usage_told) outcome
+IsAnsweredAs false left rest old new outcome = (rest ≡ left) × IsOutput old new (λ (out : Output). out ≡ usage_output) outcome
 
 -- what a run wrote by its words, from what its source had left before and after: other words than the command get the
 -- usage line, and nothing of the source is read

@@ -1,7 +1,7 @@
 -- The statuses that a program ends with.
 use Rattle.std.specs.Prelude.{ℕ}
-use Rattle.sharedtree.specs.declared.outcome.Outcome.{Outcome}
-use Rattle.sharedtree.specs.declared.outcome.Outcome.TheVariants.{Done, Usage, BadLine, TooLong, ReadFault, WriteFault, NoMemory}
+use Rattle.st_run.specs.declared.outcome.Outcome.{Outcome}
+use Rattle.st_run.specs.declared.outcome.Outcome.TheVariants.{Done, Usage, BadLine, TooLong, ReadFault, WriteFault, NoMemory}
 
 abbrev pub status_of : Outcome → ℕ
 status_of Done = 0

@@ -1,8 +1,8 @@
 //! A run, from its words and its input to its answers.
-ghost use Rattle.std.specs.Prelude.{◌≡◌, ◌+◌, ◌==◌, ◌<◌, ◌≤◌, ◌^◌, length, map, take, count_by, string_bytes, IfOk};
+ghost use Rattle.std.specs.Prelude.{◌≡◌, ◌+◌, ◌==◌, ◌<◌, ◌≤◌, ◌^◌, false, length, map, take, count_by, string_bytes, IfOk};
 ghost use Rattle.serde_json.specs.View.{view};
-ghost use Rattle.st_io.specs.Faults.{Rose};
-ghost use Rattle.sharedtree.specs.Answers.{is_trace, usage_data, usage_told, max_input, long_line, long_data, long_told, IsTold, IsAnswered};
+ghost use Rattle.st_io.specs.Counts.{Rose};
+ghost use Rattle.st_run.specs.Answers.{is_trace, usage_data, usage_output, max_input, long_line, long_data, long_output, IsOutput, IsAnswered};
 
 use crate::outcome::Outcome;
 use crate::send::write_all;
@@ -39,7 +39,7 @@ fn long_value(alloc: Global, number: u32) -> Result<Value, AllocError>
 
 // Answers words that are no command.
 fn send_usage<K: Sink>(alloc: Global, sink: &mut K) -> Outcome
-    ensures told { IsTold (K.written sink.old) (K.written sink.new) (λ told. told ≡ usage_told) result }
+    ensures output { IsOutput (K.written sink.old) (K.written sink.new) (λ out. out ≡ usage_output) result }
     ensures fault { result ≡ Outcome.WriteFault → Rose (K.faults sink.old) (K.faults sink.new) }
 {
     let Ok(value) = usage_value(alloc) else {
@@ -72,7 +72,7 @@ fn long_line(bytes: &[u8]) -> u32
 
 // Answers an input that is too long.
 fn send_long<K: Sink>(alloc: Global, line: u32, sink: &mut K) -> Outcome
-    ensures told { IsTold (K.written sink.old) (K.written sink.new) (λ told. told ≡ long_told line) result }
+    ensures output { IsOutput (K.written sink.old) (K.written sink.new) (λ out. out ≡ long_output line) result }
     ensures fault { result ≡ Outcome.WriteFault → Rose (K.faults sink.old) (K.faults sink.new) }
 {
     let Ok(value) = long_value(alloc, line) else {
@@ -87,7 +87,7 @@ fn send_long<K: Sink>(alloc: Global, line: u32, sink: &mut K) -> Outcome
     }
 }
 
-/// Answers the lines of a source.
+/// Answers the lines of a source, or the usage line where the words are no command: then nothing is read.
 pub fn run<S: Source, K: Sink>(
     alloc: Global,
     words: &Vec<String>,
@@ -96,6 +96,7 @@ pub fn run<S: Source, K: Sink>(
 ) -> Outcome
     ensures answered { IsAnswered (map string_bytes words.now.items) (S.left source.old) (S.left source.new)
         (K.written sink.old) (K.written sink.new) result }
+    ensures unread { is_trace (map string_bytes words.now.items) ≡ false → S.calls source.new ≡ S.calls source.old }
     ensures read_fault { result ≡ Outcome.ReadFault → Rose (S.faults source.old) (S.faults source.new) }
     ensures write_fault { result ≡ Outcome.WriteFault → Rose (K.faults sink.old) (K.faults sink.new) }
 {

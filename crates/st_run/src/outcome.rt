@@ -23,7 +23,7 @@ pub enum Outcome {
 }
 
 impl Outcome {
-    ghost use Rattle.sharedtree.specs.Status.{status_of};
+    ghost use Rattle.st_run.specs.Status.{status_of};
 
     /// The status that a program ends with.
     pub fn status(&self) -> u8

@@ -1,16 +1,17 @@
 //! The answers to the lines of an input.
 ghost use Rattle.std.specs.Prelude.{◌≡◌, false, ◌+◌, ◌^◌, ◌<◌, ◌≤◌, length, Ok, Err, IfOk, IfErr, OnOk, codes};
 ghost use Rattle.st_ids.specs.Or.{IfRefused};
-ghost use Rattle.st_io.specs.Bytes.{Grows};
-ghost use Rattle.st_io.specs.Faults.{Rose};
+ghost use Rattle.st_io.specs.Bytes.{Appends};
+ghost use Rattle.st_io.specs.Counts.{Rose};
 ghost use Rattle.serde_json.specs.View.{view};
 ghost use Rattle.st_script.specs.AnswerText.{answer_line};
 ghost use Rattle.st_script.specs.Header.{header_view, header_line};
 ghost use Rattle.st_script.specs.Line.{line_of};
+ghost use Rattle.st_script.specs.Steps.{step_view};
 ghost use Rattle.st_trace.specs.Kept.{IsSound};
 ghost use Rattle.st_trace.specs.World.{begun};
-ghost use Rattle.sharedtree.specs.Lines.{cut};
-ghost use Rattle.sharedtree.specs.Answers.{OrStopped, IsHeaderTold, IsStopped, IsLineAnswered, EndsAtLine, cause_name, bad_data, bad_line, AnswersFrom, IsTraceOf, IsTold};
+ghost use Rattle.st_run.specs.Lines.{cut};
+ghost use Rattle.st_run.specs.Answers.{OrCutShort, AnswersHeader, IsCutShort, IsLineAnswered, EndsAtLine, cause_name, bad_data, bad_line, AnswersFrom, AnswersTrace, IsOutput};
 
 use crate::lines::split_line;
 use crate::outcome::Outcome;
@@ -19,7 +20,7 @@ use serde_json::{Value, json};
 use st_ids::Or;
 use st_io::Sink;
 use st_json::{BadCause, write_line};
-use st_script::{Answer, Line, answer_line, read_header as header_of, read_step_line};
+use st_script::{Answer, Line, TraceStep, answer_line, read_header as header_of, read_step_line};
 use st_trace::World;
 use std::alloc::{AllocError, Global};
 
@@ -45,7 +46,7 @@ fn bad_value(alloc: Global, number: u32, cause: BadCause) -> Result<Value, Alloc
 
 // Ends a run at a bad line.
 fn refuse<K: Sink>(alloc: Global, number: u32, cause: BadCause, sink: &mut K) -> Outcome
-    ensures told { IsTold (K.written sink.old) (K.written sink.new) (OrStopped (λ told. told ≡ bad_line number cause)) result }
+    ensures output { IsOutput (K.written sink.old) (K.written sink.new) (OrCutShort (λ out. out ≡ bad_line number cause)) result }
     ensures fault { result ≡ Outcome.WriteFault → Rose (K.faults sink.old) (K.faults sink.new) }
     ensures later { K.faults sink.old ≤ K.faults sink.new }
 {
@@ -64,30 +65,29 @@ fn refuse<K: Sink>(alloc: Global, number: u32, cause: BadCause, sink: &mut K) ->
     }
 }
 
-// Answers one line. At `Err` the run has ended.
-fn take_line<K: Sink>(
+// Answers the step that a line was read as. At `Err` the run has ended.
+fn take_step<K: Sink>(
     alloc: Global,
     world: &mut World,
     number: u32,
     line: &[u8],
+    step: &TraceStep,
     sink: &mut K,
 ) -> Result<(), Outcome>
     requires sound { (world.old.spent ≡ false) × IsSound world.old }
     requires few { world.old.steps + 1 < 2 ^ 32 }
-    ensures ok { OnOk result (IsLineAnswered (header_view world.old.header) (line_of line.now) world.old.lists world.new.lists (K.written sink.old) (K.written sink.new)) }
-    ensures ended { IfErr result (IsTold (K.written sink.old) (K.written sink.new) (EndsAtLine (header_view world.old.header) number (line_of line.now) world.old.lists)) }
+    requires read { line_of line.now ≡ Ok (step_view step.now) }
+    ensures ok { OnOk result (IsLineAnswered (header_view world.old.header) (line_of line.now)
+        world.old.lists world.new.lists (K.written sink.old) (K.written sink.new)) }
+    ensures ended { IfErr result (IsOutput (K.written sink.old) (K.written sink.new)
+        (EndsAtLine (header_view world.old.header) number (line_of line.now) world.old.lists)) }
     ensures fault { result ≡ Err Outcome.WriteFault → Rose (K.faults sink.old) (K.faults sink.new) }
     ensures later { K.faults sink.old ≤ K.faults sink.new }
     ensures sound { OnOk result ((world.new.spent ≡ false) × IsSound world.new) }
     ensures steps { OnOk result (world.new.steps ≡ world.old.steps + 1) }
     ensures header { OnOk result (world.new.header ≡ world.old.header) }
 {
-    let step = match read_step_line(alloc, line) {
-        Ok(Line::Step(step)) => step,
-        Ok(Line::Bad(cause)) => return Err(refuse(alloc, number, cause, sink)),
-        Err(_) => return Err(Outcome::NoMemory),
-    };
-    let Ok(answer) = world.step(alloc, &step) else {
+    let Ok(answer) = world.step(alloc, step) else {
         return Err(Outcome::NoMemory);
     };
     let Ok(text) = answer_line(alloc, &answer) else {
@@ -99,12 +99,39 @@ fn take_line<K: Sink>(
     }
 }
 
+// Answers one line. At `Err` the run has ended.
+fn take_line<K: Sink>(
+    alloc: Global,
+    world: &mut World,
+    number: u32,
+    line: &[u8],
+    sink: &mut K,
+) -> Result<(), Outcome>
+    requires sound { (world.old.spent ≡ false) × IsSound world.old }
+    requires few { world.old.steps + 1 < 2 ^ 32 }
+    ensures ok { OnOk result (IsLineAnswered (header_view world.old.header) (line_of line.now)
+        world.old.lists world.new.lists (K.written sink.old) (K.written sink.new)) }
+    ensures ended { IfErr result (IsOutput (K.written sink.old) (K.written sink.new)
+        (EndsAtLine (header_view world.old.header) number (line_of line.now) world.old.lists)) }
+    ensures fault { result ≡ Err Outcome.WriteFault → Rose (K.faults sink.old) (K.faults sink.new) }
+    ensures later { K.faults sink.old ≤ K.faults sink.new }
+    ensures sound { OnOk result ((world.new.spent ≡ false) × IsSound world.new) }
+    ensures steps { OnOk result (world.new.steps ≡ world.old.steps + 1) }
+    ensures header { OnOk result (world.new.header ≡ world.old.header) }
+{
+    match read_step_line(alloc, line) {
+        Ok(Line::Step(step)) => take_step(alloc, world, number, line, &step, sink),
+        Ok(Line::Bad(cause)) => Err(refuse(alloc, number, cause, sink)),
+        Err(_) => Err(Outcome::NoMemory),
+    }
+}
+
 // Answers the lines of some bytes, which begin with the second line.
 fn take_lines<K: Sink>(alloc: Global, world: World, bytes: &[u8], sink: &mut K) -> Outcome
     requires size { length bytes.now < 2 ^ 24 }
     requires sound { (world.spent ≡ false) × IsSound world }
     requires fresh { world.steps ≡ 0 }
-    ensures told { IsTold (K.written sink.old) (K.written sink.new) (AnswersFrom (header_view world.header) world.lists 2 (cut bytes.now)) result }
+    ensures output { IsOutput (K.written sink.old) (K.written sink.new) (AnswersFrom (header_view world.header) world.lists 2 (cut bytes.now)) result }
     ensures fault { result ≡ Outcome.WriteFault → Rose (K.faults sink.old) (K.faults sink.new) }
     ensures later { K.faults sink.old ≤ K.faults sink.new }
 {
@@ -137,8 +164,8 @@ fn read_header(alloc: Global, line: &[u8]) -> Result<World, Or<BadCause>>
 
 // Answers a header.
 fn send_header<K: Sink>(alloc: Global, sink: &mut K) -> Result<(), Outcome>
-    ensures ok { OnOk result (Grows (K.written sink.old) (answer_line Answer.Header) (K.written sink.new)) }
-    ensures ended { IfErr result (IsTold (K.written sink.old) (K.written sink.new) (OrStopped (IsHeaderTold IsStopped))) }
+    ensures ok { OnOk result (Appends (K.written sink.old) (answer_line Answer.Header) (K.written sink.new)) }
+    ensures ended { IfErr result (IsOutput (K.written sink.old) (K.written sink.new) (OrCutShort (AnswersHeader IsCutShort))) }
     ensures fault { result ≡ Err Outcome.WriteFault → Rose (K.faults sink.old) (K.faults sink.new) }
     ensures later { K.faults sink.old ≤ K.faults sink.new }
 {
@@ -154,7 +181,7 @@ fn send_header<K: Sink>(alloc: Global, sink: &mut K) -> Result<(), Outcome>
 /// Answers the lines of some bytes.
 pub fn trace<K: Sink>(alloc: Global, bytes: &[u8], sink: &mut K) -> Outcome
     requires { length bytes.now < 2 ^ 24 }
-    ensures told { IsTold (K.written sink.old) (K.written sink.new) (IsTraceOf (cut bytes.now)) result }
+    ensures output { IsOutput (K.written sink.old) (K.written sink.new) (AnswersTrace (cut bytes.now)) result }
     ensures fault { result ≡ Outcome.WriteFault → Rose (K.faults sink.old) (K.faults sink.new) }
 {
     if bytes.is_empty() {

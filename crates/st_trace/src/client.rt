@@ -100,6 +100,18 @@ fn limit_passed(client: &Client, names: u64, intent: &Intent) -> Option<Limit>
     None
 }
 
+// Keeps a commit as pending and in the queue.
+fn enqueue(alloc: Global, client: &mut Client, intent: Intent) -> Result<(), AllocError>
+    requires few { client.old.ids + 1 < 2 ^ 32 }
+    ensures client { OnOk result (client.new ≡ committed client.old intent) }
+{
+    client.pending.push(intent.copy(alloc)?)?;
+    let reference = client.received;
+    client.queue.push(Queued { reference, intent })?;
+    client.ids += 1;
+    Ok(())
+}
+
 // Carries a commit out, and keeps it as pending and in the queue.
 fn commit(
     alloc: Global,
@@ -116,11 +128,7 @@ fn commit(
 {
     kept.names += names_made(&intent);
     kept.shown.carry_out(alloc, &intent)?;
-    client.pending.push(intent.copy(alloc)?)?;
-    let reference = client.received;
-    client.queue.push(Queued { reference, intent })?;
-    client.ids += 1;
-    Ok(())
+    enqueue(alloc, client, intent)
 }
 
 // Keeps a commit as pending, if it passes no limit.

@@ -7,8 +7,6 @@ mod kept;
 mod lists;
 mod log;
 mod names;
-#[cfg(test)]
-mod tests;
 mod world;
 
 pub use client::Done;

@@ -1,7 +1,7 @@
 use Rattle.std.proofs.Common.{codes}
 use Rattle.st_script.specs.Header.{header_view}
 use Rattle.st_script.proofs.OfForm.{header_line_kept}
-use Rattle.sharedtree.proofs.trace.read_header.Goals as goal
+use Rattle.st_run.proofs.trace.read_header.Goals as goal
 
 pub new-requires : goal.new-requires
 new-requires c =
