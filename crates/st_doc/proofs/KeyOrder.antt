@@ -140,3 +140,20 @@ pub rise_drop : (i : ℕ) (ss : List Seat) → KeysRise ss → KeysRise (drop i 
 rise_drop zero ss h = h
 rise_drop (suc i) [] h = h
 rise_drop (suc i) (s ∷ ss) h = rise_drop i ss h.1
+
+-- a register that holds something is among the node's
+pub seat_there : (n : NodeId) (es : List (FieldId × NodeId)) (k : List ℕ) (m : NodeId) → lookup (λ q. is_eq (field_cmp (register n k) q)) es ≡ Some m → (s : Seat) × Has (seats_of n es) s × (s.key ≡ k)
+seat_there n [] k m f = cc
+seat_there n (e ∷ es) k m f = go (is_eq (field_cmp (register n k) e.0)) refl (λ g. seat_there n es k m g) f
+  where
+    later : (o : Option Seat) → (s : Seat) × Has (seats_of n es) s × (s.key ≡ k) → (s : Seat) × Has (cons_option o (seats_of n es)) s × (s.key ≡ k)
+    later None r = r
+    later (Some t) r = (r.0, inr r.1, r.2)
+
+    go : (b : Bool) → is_eq (field_cmp (register n k) e.0) ≡ b → (lookup (λ q. is_eq (field_cmp (register n k) q)) es ≡ Some m → (s : Seat) × Has (seats_of n es) s × (s.key ≡ k))
+        → cond b (Some e.1) (lookup (λ q. is_eq (field_cmp (register n k) q)) es) ≡ Some m → (s : Seat) × Has (cons_option (seat_at n e) (seats_of n es)) s × (s.key ≡ k)
+    go true p rest f =
+        let same = field_cmp_exact (register n k) e.0 (is_eq_equal _ p) in
+        let here : same_node e.0.node n ≡ true = ap (λ (f : FieldId). same_node f.node n) (sym same) ∙ same_node-itself n in
+        rw here (record { key = e.0.key.0; node = e.1 }, inl refl, ap (λ (f : FieldId). f.key.0) (sym same))
+    go false p rest f = later (seat_at n e) (rest f)

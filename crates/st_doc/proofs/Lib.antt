@@ -1,13 +1,13 @@
 pub mod Look
 pub mod KeyOrder
 pub mod LiveTexts
+pub mod Children
+pub mod Ordered
 pub mod Carrying
 pub mod Climbing
 pub mod Evicting
 pub mod Fitting
 pub mod Growing
-pub mod Opened
-pub mod OpeningSound
 pub mod Placing
 pub mod Showing
 pub mod Starting

@@ -1,8 +1,9 @@
 -- The values of nodes, made from the bottom up, are what the nodes show.
 use Rattle.std.specs.Prelude.{ℤ, pos, negsuc}
-use Rattle.std.proofs.Common.{◌≡◌, ℕ, ◌+◌, ◌<◌, Bool, true, false, cond, ◌||◌, List, [], ◌∷◌, ◌++◌, length, map, take, drop, get_or, Option, Some, None, refl, sym, ap, ◌∙◌, subst, append_assoc, Result, Ok, Err, IfOk}
+use Rattle.std.proofs.Common.{◌≡◌, ◌≢◌, ℕ, zero, suc, ◌+◌, ◌<◌, ◌⊎◌, inl, inr, IsSome, take-append-drop, Bool, true, false, cond, ◌||◌, List, [], ◌∷◌, ◌++◌, length, map, take, drop, get_or, Option, Some, None, refl, sym, ap, ◌∙◌, subst, append_assoc, Result, Ok, Err, IfOk, OnOk}
 use Rattle.std.specs.BTreeMap.{BTreeMap, get}
 use Rattle.std.specs.List.{AllByRecursion, cons_option}
+use Rattle.std.specs.Map.{lookup}
 use Rattle.std.specs.Option.{option_to_list}
 use Rattle.std.specs.Ordering.{nat_cmp, is_eq}
 use Rattle.std.specs.Cmp.Lexicographic.{slice_cmp}
@@ -13,7 +14,7 @@ use Rattle.serde_json.specs.Find.{of_integer}
 use Rattle.serde_json.specs.View.{view, items_of}
 use Rattle.serde_json.specs.Written.{has_float, items_have_float, members_have_float}
 use Rattle.serde_json.specs.declared.value.Value.{Value}
-use Rattle.st_ids.specs.Listing.{IsListing}
+use Rattle.st_ids.specs.Listing.{AreDistinct, Has, IsListing}
 use Rattle.st_ids.specs.Order.{node_cmp, same_node}
 use Rattle.st_ids.specs.declared.names.FieldId.{FieldId}
 use Rattle.st_ids.specs.declared.names.Leaf.{Leaf}
@@ -23,9 +24,11 @@ use Rattle.st_marks.specs.declared.intents.Owned.{Owned}
 use Rattle.st_marks.specs.declared.places.Slot.{Slot}
 use Rattle.st_marks.specs.Document.{Document, content, slot}
 use Rattle.st_marks.specs.LiveTree.{leaf_data, owners_shown, register, one_member, Shows, shows_leaf, shows_row, shows_registers, ShowsItems, no_more_items, next_item, ShowsMembers, no_more_members, next_member, key_at}
-use Rattle.st_doc.specs.LiveText.{seat_at, seats_of, KeysRise, AllShown, IsPart, AreValues, AreMembers}
+use Rattle.st_marks.proofs.Members.{all-has, append_left, append_right, distinct-between, distinct-left, has-map, map-has}
+use Rattle.st_doc.specs.LiveText.{seat_at, seats_of, KeysRise, AllShown, IsPart, AreMade, AreValues, AreMembers, KeepsOthers}
 use Rattle.st_doc.specs.declared.seats.Seat.{Seat}
 use Rattle.st_doc.proofs.Look.{take_one, drop_one}
+use Rattle.st_doc.proofs.Ordered.{drop_has}
 
 -- ## Registers, entry by entry
 
@@ -54,12 +57,21 @@ pub part_same : (new old : BTreeMap NodeId Value) → new ≡ old → IsPart new
 part_same new old e n v h = ap (λ m. get node_cmp m n) (sym e) ∙ h
 
 -- a map without one name is part of it
-pub part_without : (node : NodeId) (new old : BTreeMap NodeId Value) → ((q : NodeId) → get node_cmp new q ≡ cond (is_eq (node_cmp node q)) None (get node_cmp old q)) → IsPart new old
-part_without node new old h n v e = go (is_eq (node_cmp node n)) (sym (h n) ∙ e)
+pub part_without : (node : NodeId) (new old : BTreeMap NodeId Value) → ((q : NodeId) → get node_cmp new q ≡ cond (same_node node q) None (get node_cmp old q)) → IsPart new old
+part_without node new old h n v e = go (same_node node n) (sym (h n) ∙ e)
   where
     go : (b : Bool) → cond b None (get node_cmp old n) ≡ Some v → get node_cmp old n ≡ Some v
     go true e = cc
     go false e = e
+
+-- what isn't taken stays
+pub others_more : (ns : List NodeId) (node : NodeId) (new old first : BTreeMap NodeId Value) → ((q : NodeId) → get node_cmp new q ≡ cond (same_node node q) None (get node_cmp old q))
+    → KeepsOthers ns old first → KeepsOthers (ns ++ node ∷ []) new first
+others_more ns node new old first h kept n out = go (same_node node n) refl
+  where
+    go : (b : Bool) → same_node node n ≡ b → get node_cmp new n ≡ get node_cmp first n
+    go true e = absurd (out (append_right ns (node ∷ []) n (inl (same_node-true node n e))))
+    go false e = h n ∙ ap (λ b. cond b None (get node_cmp old n)) e ∙ kept n (λ k. out (append_left ns (node ∷ []) n k))
 
 -- a value more, which is what its node shows
 pub shown_more : (is_array : List ℕ → Bool) (D : Document) (node : NodeId) (w : Value) (new between old : BTreeMap NodeId Value)
@@ -96,6 +108,53 @@ module _ (D : Document) (os : List Owned) (i : ℕ) (d o : Owned) (inside : i < 
       subst (λ ns. AreValues done ns now) (sym (first_owners ∙ ap (λ b. owners_shown (map (slot D) (take i os)) ++ cond b (o.node ∷ []) []) full))
       (subst (AreValues done (owners_shown (map (slot D) (take i os)) ++ o.node ∷ [])) (sym pushed) (values_push done (owners_shown (map (slot D) (take i os))) vs o.node v h e))
 
+  -- whose value is not taken yet
+  pub value_there : (first done : BTreeMap NodeId Value) → AreDistinct (λ (n : NodeId). n) (owners_shown (map (slot D) os)) → (slot D o).full ≡ true → AreMade first (owners_shown (map (slot D) os))
+      → KeepsOthers (owners_shown (map (slot D) (take i os))) done first → IsSome (get node_cmp done o.node)
+  value_there first done once full made kept = subst (λ v. IsSome v) (sym (kept o.node fresh)) (made o.node (subst (λ ns. Has ns o.node) (sym parts) (append_left (shown_by (i + 1)) behind o.node (subst (λ ns. Has ns o.node) (sym now) (append_right (shown_by i) (o.node ∷ []) o.node (inl refl))))))
+    where
+      shown_by : ℕ → List NodeId
+      shown_by k = owners_shown (map (slot D) (take k os))
+
+      behind : List NodeId
+      behind = owners_shown (map (slot D) (drop (i + 1) os))
+
+      now : shown_by (i + 1) ≡ shown_by i ++ o.node ∷ []
+      now = first_owners ∙ ap (λ b. shown_by i ++ cond b (o.node ∷ []) []) full
+
+      parts : owners_shown (map (slot D) os) ≡ shown_by (i + 1) ++ behind
+      parts =
+          ap (λ l. owners_shown (map (slot D) l)) (sym (take-append-drop (i + 1) os)) ∙ ap owners_shown (map-append (slot D) (take (i + 1) os) (drop (i + 1) os))
+          ∙ owners_append (map (slot D) (take (i + 1) os)) (map (slot D) (drop (i + 1) os))
+
+      fresh : Has (shown_by i) o.node → ⊥
+      fresh h =
+          distinct-between (λ (n : NodeId). n) (shown_by i) (o.node ∷ []) o.node o.node
+          (subst (AreDistinct (λ (n : NodeId). n)) now (distinct-left (λ (n : NodeId). n) (shown_by (i + 1)) behind (subst (AreDistinct (λ (n : NodeId). n)) parts once))) h (inl refl) refl
+
+  pub others_full : (new old first : BTreeMap NodeId Value) → (slot D o).full ≡ true → ((q : NodeId) → get node_cmp new q ≡ cond (same_node o.node q) None (get node_cmp old q))
+      → KeepsOthers (owners_shown (map (slot D) (take i os))) old first → KeepsOthers (owners_shown (map (slot D) (take (i + 1) os))) new first
+  others_full new old first full h kept =
+      subst (λ ns. KeepsOthers ns new first) (sym (first_owners ∙ ap (λ b. owners_shown (map (slot D) (take i os)) ++ cond b (o.node ∷ []) []) full))
+      (others_more (owners_shown (map (slot D) (take i os))) o.node new old first h kept)
+
+  pub others_empty : (new old first : BTreeMap NodeId Value) → (slot D o).full ≡ false → new ≡ old → KeepsOthers (owners_shown (map (slot D) (take i os))) old first
+      → KeepsOthers (owners_shown (map (slot D) (take (i + 1) os))) new first
+  others_empty new old first empty same kept =
+      subst (λ ns. KeepsOthers ns new first)
+      (sym (first_owners ∙ ap (λ b. owners_shown (map (slot D) (take i os)) ++ cond b (o.node ∷ []) []) empty ∙ append-nil (owners_shown (map (slot D) (take i os)))))
+      (subst (λ m. KeepsOthers (owners_shown (map (slot D) (take i os))) m first) (sym same) kept)
+
+  -- nodes are put behind others as the row shows them
+  pub pushed_full : (before now whole : List NodeId) → (slot D o).full ≡ true → now ≡ before ++ o.node ∷ [] → before ≡ whole ++ owners_shown (map (slot D) (take i os)) → now ≡ whole ++ owners_shown (map (slot D) (take (i + 1) os))
+  pushed_full before now whole full pushed so_far =
+      pushed ∙ ap (λ l. l ++ o.node ∷ []) so_far ∙ append_assoc whole (owners_shown (map (slot D) (take i os))) (o.node ∷ [])
+      ∙ ap (λ l. whole ++ l) (sym (first_owners ∙ ap (λ b. owners_shown (map (slot D) (take i os)) ++ cond b (o.node ∷ []) []) full))
+
+  pub pushed_empty : (before now whole : List NodeId) → (slot D o).full ≡ false → now ≡ before → before ≡ whole ++ owners_shown (map (slot D) (take i os)) → now ≡ whole ++ owners_shown (map (slot D) (take (i + 1) os))
+  pushed_empty before now whole empty same so_far =
+      same ∙ so_far ∙ ap (λ l. whole ++ l) (sym (first_owners ∙ ap (λ b. owners_shown (map (slot D) (take i os)) ++ cond b (o.node ∷ []) []) empty ∙ append-nil (owners_shown (map (slot D) (take i os)))))
+
   -- an empty one gives nothing
   pub values_same : (done : BTreeMap NodeId Value) (vs now : List Value) → (slot D o).full ≡ false → now ≡ vs → AreValues done (owners_shown (map (slot D) (take i os))) vs
       → AreValues done (owners_shown (map (slot D) (take (i + 1) os))) now
@@ -123,6 +182,37 @@ members_more done ss i j s v ms now next inside at rise e is h =
     let opened : drop i ss ≡ s ∷ drop j ss = drop_one ss i s s inside at ∙ ap (λ k. s ∷ drop k ss) next in
     let rises = subst KeysRise opened rise in
     subst (λ l. AreMembers done l now) (sym opened) (v, ms, e, h, is ∙ put_front done s.key (view v) (drop j ss) ms rises.0 h)
+
+seats_distinct_drop : (i : ℕ) (ss : List Seat) → AreDistinct (λ (s : Seat). s.node) ss → AreDistinct (λ (s : Seat). s.node) (drop i ss)
+seats_distinct_drop zero ss a = a
+seats_distinct_drop (suc i) [] a = a
+seats_distinct_drop (suc i) (s ∷ ss) a = seats_distinct_drop i ss a.1
+
+module _ (ss : List Seat) (i j : ℕ) (s : Seat) (next : i + 1 ≡ j) (inside : i < length ss) (at : get_or ss i s ≡ s) where
+  seat_first : drop i ss ≡ s ∷ drop j ss
+  seat_first = drop_one ss i s s inside at ∙ ap (λ k. s ∷ drop k ss) next
+
+  -- the value of a register's occupant is not taken yet
+  pub occupant_there : (first done : BTreeMap NodeId Value) → AreDistinct (λ (s : Seat). s.node) ss → AreMade first (map (λ (s : Seat). s.node) ss) → KeepsOthers (map (λ (s : Seat). s.node) (drop j ss)) done first
+      → IsSome (get node_cmp done s.node)
+  occupant_there first done once made kept = subst (λ v. IsSome v) (sym (kept s.node fresh)) (made s.node (map-has (λ (s : Seat). s.node) ss s (drop_has ss i s (subst (λ l. Has l s) (sym seat_first) (inl refl)))))
+    where
+      fresh : Has (map (λ (s : Seat). s.node) (drop j ss)) s.node → ⊥
+      fresh h =
+          let t = has-map (λ (s : Seat). s.node) (drop j ss) s.node h in
+          all-has (λ (t : Seat). t.node ≢ s.node) (drop j ss) t.0 (subst (AreDistinct (λ (s : Seat). s.node)) seat_first (seats_distinct_drop i ss once)).0 t.1 t.2
+
+  pub others_seat : (new old first : BTreeMap NodeId Value) → ((q : NodeId) → get node_cmp new q ≡ cond (same_node s.node q) None (get node_cmp old q))
+      → KeepsOthers (map (λ (s : Seat). s.node) (drop j ss)) old first → KeepsOthers (map (λ (s : Seat). s.node) (drop i ss)) new first
+  others_seat new old first h kept n out = go (same_node s.node n) refl
+    where
+      still : (n ≡ s.node) ⊎ Has (map (λ (s : Seat). s.node) (drop j ss)) n → Has (map (λ (s : Seat). s.node) (drop i ss)) n
+      still (inl q) = subst (λ l. Has (map (λ (s : Seat). s.node) l) n) (sym seat_first) (inl (sym q))
+      still (inr k) = subst (λ l. Has (map (λ (s : Seat). s.node) l) n) (sym seat_first) (inr k)
+
+      go : (b : Bool) → same_node s.node n ≡ b → get node_cmp new n ≡ get node_cmp first n
+      go true e = absurd (out (still (inl (sym (same_node-true s.node n e)))))
+      go false e = h n ∙ ap (λ b. cond b None (get node_cmp old n)) e ∙ kept n (λ k. out (still (inr k)))
 
 -- ## What nodes show
 
@@ -197,3 +287,11 @@ module _ (is_array : List ℕ → Bool) (D : Document) (n : NodeId) (ty : List �
   registers_shown done ss ms inner d all is unrowed listed held members e same =
       subst (Shows is_array D n) (sym (same ∙ ap (one_member ty) e))
       (shows_registers n ty (map (λ (s : Seat). s.key) ss) ms (typed None is) unrowed listed (members_shown is_array D done all n ss ms held members))
+
+pub on_any : {T E : Type 0} (r : Result T E) (P : Type 0) → P → OnOk r P
+on_any (Ok x) P p = p
+on_any (Err e) P p = tt
+
+-- an empty map has nothing
+pub none_made : (done : BTreeMap NodeId Value) → done.entries ≡ [] → (n : NodeId) (v : Value) → get node_cmp done n ≡ Some v → ⊥
+none_made done none n v e = let bad : None ≡ Some v = sym (ap (lookup (λ k. is_eq (node_cmp n k))) none) ∙ e in cc

@@ -11,6 +11,8 @@ use Rattle.std.specs.Option.{option_or}
 use Rattle.std.specs.List.{find, list_any}
 use Rattle.std.proofs.lemmas.List.Folds.{find-append}
 use Rattle.std.proofs.lemmas.List.{take_more}
+use Rattle.st_marks.specs.declared.intents.Owned.{Owned}
+use Rattle.st_marks.specs.Document.{root, owned}
 
 option_or_assoc : {A : Type 0} (a b c : Option A) → option_or (option_or a b) c ≡ option_or a (option_or b c)
 option_or_assoc None b c = refl
@@ -91,3 +93,7 @@ drop_one xs i d x l e = drop-cons xs i d l ∙ ap (λ y. y ∷ drop (suc i) xs) 
 -- what a map has after all entries of another were put into it
 pub all_put : {K X : Type 0} {R : K → K → Ordering} → IsTotalOrder R → (m n values : BTreeMap K X) → IsOrdered R values → InsertsAll R m values.entries n → (q : K) → get R n q ≡ option_or (get R values q) (get R m q)
 all_put {R = R} t m n values ordered h q = h.0 q ∙ update_all_distinct (eq_by_cmp_equiv t) (eq_by_cmp R) (λ x y. refl) (get R m) values.entries q (IsDistinct-from_sorted R _ ordered)
+
+-- some cell with an owner, for look-ups past a list's end
+abbrev pub no_cell : Owned
+no_cell = owned (record { 0 = root.0 }) root

@@ -1,18 +1,13 @@
 -- Puts, taken from the last to the first.
-use Rattle.std.proofs.Common.{◌≡◌, ℕ, ◌+◌, ◌<◌, Bool, true, false, cond, List, [], ◌∷◌, length, drop, get_or, Option, Some, None, refl, sym, ap, ◌∙◌, option_map, unwrap_or}
-use Rattle.std.specs.Option.{option_or}
-use Rattle.std.specs.List.{find, AllByRecursion, list_any}
+use Rattle.std.proofs.Common.{◌≡◌, ℕ, ◌+◌, ◌<◌, Bool, true, false, cond, List, ◌∷◌, length, drop, get_or, Option, Some, refl, sym, ap, ◌∙◌, option_map}
+use Rattle.std.specs.List.{find}
 use Rattle.st_ids.specs.Order.{same_node}
 use Rattle.st_ids.specs.declared.names.CellId.{CellId}
-use Rattle.st_ids.specs.declared.names.FieldId.{FieldId}
 use Rattle.st_ids.specs.declared.names.NodeId.{NodeId}
-use Rattle.st_marks.specs.declared.intents.Intent.{Intent}
 use Rattle.st_marks.specs.declared.intents.Put.{Put}
 use Rattle.st_marks.specs.declared.intents.To.{To}
 use Rattle.st_marks.specs.declared.places.Spot.{Spot}
-use Rattle.st_marks.specs.Intent.{put_in, clears, is_register, register_of}
-use Rattle.st_marks.specs.CarryOut.{spot_of, place_after, unless_cleared, unless_put}
-use Rattle.st_doc.specs.Edits.{EditsRows}
+use Rattle.st_marks.specs.CarryOut.{spot_of}
 use Rattle.st_doc.proofs.Look.{drop_one}
 
 -- where the puts lead a node
@@ -29,32 +24,3 @@ target_more row_of n puts i j p before now next inside at leads so_far =
     go : (b : Bool) → same_node p.node n ≡ b → cond (same_node p.node n) (Some now) before ≡ option_map (spot_of row_of) (put_by (p ∷ drop j puts) n)
     go true e = rw e (ap (λ s. Some s) leads)
     go false e = rw e so_far
-
-module _ (N : Intent) (e : EditsRows N) where
-  cleared_none : (f : FieldId) → clears N f ≡ false
-  cleared_none f = ap (list_any _) e.no_clear
-
-  pub kept_place : (spot : Spot) → spot ≡ unless_cleared N spot
-  kept_place Spot.Nowhere = refl
-  kept_place (Spot.Row n c) = refl
-  kept_place (Spot.Register f) = rw (cleared_none f) refl
-
-  pub placed : (row_of : CellId → Option NodeId) (to : Option To) (o : Option Spot)
-      → unwrap_or (option_or (option_map (spot_of row_of) to) o) Spot.Nowhere ≡ place_after row_of N to (unwrap_or o Spot.Nowhere)
-  placed row_of None o = kept_place (unwrap_or o Spot.Nowhere)
-  placed row_of (Some to) o = refl
-
-  not_register : (f : FieldId) (to : To) → register_of to ≡ None → is_register f to ≡ false
-  not_register f To.Nowhere h = refl
-  not_register f (To.Cell c) h = refl
-  not_register f (To.Register g) h = cc
-
-  none_in : (f : FieldId) (ps : List Put) → AllByRecursion (λ (p : Put). register_of p.to ≡ None) ps → find (λ (p : Put). is_register f p.to) ps ≡ None
-  none_in f [] h = refl
-  none_in f (p ∷ ps) h = rw (not_register f p.to h.0) (none_in f ps h.1)
-
-  filled_none : (f : FieldId) → put_in N f ≡ None
-  filled_none f = ap (option_map (λ (p : Put). p.node)) (none_in f N.put e.puts)
-
-  pub held_after : (f : FieldId) (before : Option NodeId) → unless_put N before ≡ option_or (put_in N f) (cond (clears N f) None (unless_put N before))
-  held_after f before = rw (filled_none f, cleared_none f) refl

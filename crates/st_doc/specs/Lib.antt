@@ -4,7 +4,6 @@ pub mod Evictions
 pub mod Fitting
 pub mod LiveText
 pub mod Nodes
-pub mod Edits
-pub mod Opening
 pub mod Shown
 pub mod Start
+pub mod TopDown

@@ -1,6 +1,6 @@
 -- What is kept while the text of a live tree is built from the bottom up: the value of each node that is not taken yet,
 -- and of each node the registers that hold something.
-use Rattle.std.specs.Prelude.{◌≡◌, ℕ, Bool, nat_eq, List, [], ◌∷◌, Option, Some, None, unwrap_or, if◌then◌else◌}
+use Rattle.std.specs.Prelude.{◌≡◌, ℕ, Bool, nat_eq, List, [], ◌∷◌, Option, Some, None, IsSome, unwrap_or, if◌then◌else◌}
 use Rattle.std.specs.BTreeMap.{BTreeMap, get}
 use Rattle.std.specs.List.{list_any, filter_map, AllByRecursion}
 use Rattle.std.specs.Ordering.{nat_cmp}
@@ -9,6 +9,7 @@ use Rattle.std.specs.declared.cmp.Ordering.TheVariants.{Less}
 use Rattle.serde_json.specs.Data.{Members, no_members, member}
 use Rattle.serde_json.specs.View.{view}
 use Rattle.serde_json.specs.declared.value.Value.{Value}
+use Rattle.st_ids.specs.Listing.{Has}
 use Rattle.st_ids.specs.Order.{node_cmp, field_cmp, same_node}
 use Rattle.st_ids.specs.declared.names.FieldId.{FieldId}
 use Rattle.st_ids.specs.declared.names.NodeId.{NodeId}
@@ -49,6 +50,14 @@ AllShown is_array D done = (n : NodeId) (v : Value) → get node_cmp done n ≡ 
 -- what one map has, another has too
 abbrev pub IsPart : BTreeMap NodeId Value → BTreeMap NodeId Value → Type 0
 IsPart part whole = (n : NodeId) (v : Value) → get node_cmp part n ≡ Some v → get node_cmp whole n ≡ Some v
+
+-- each of some nodes has its value
+abbrev pub AreMade : BTreeMap NodeId Value → List NodeId → Type 0
+AreMade done ns = (n : NodeId) → Has ns n → IsSome (get node_cmp done n)
+
+-- of nodes that aren't among some, one map has what another has
+abbrev pub KeepsOthers : List NodeId → BTreeMap NodeId Value → BTreeMap NodeId Value → Type 0
+KeepsOthers ns new old = (n : NodeId) → ¬ (Has ns n) → get node_cmp new n ≡ get node_cmp old n
 
 -- the values of nodes, in order
 abbrev pub AreValues : BTreeMap NodeId Value → List NodeId → List Value → Type 0

@@ -90,7 +90,7 @@ impl Doc {
     /// Carries out an intent that fits: whole where it is sound, and void where it is not. The document stays sound in
     /// form where its rows stay short enough. It takes the time that the intent's names and the rows that it grows ask
     /// for. After an `Err` nothing is promised of the document.
-    pub fn carry_out(&mut self, alloc: Global, intent: &Intent) -> Result<Verdict, AllocError>
+    pub fn carry(&mut self, alloc: Global, intent: &Intent) -> Result<Verdict, AllocError>
         requires sound { IsSoundInForm (document_of self.old) }
         requires fits { Fits (document_of self.old) intent.now }
         ensures verdict { IfOk result (IsVerdict (document_of self.old) intent.now) }

@@ -13,17 +13,14 @@ mod live_text;
 mod maps;
 mod names;
 mod opening;
+mod order;
 mod query;
-mod registers;
 mod room;
 mod rows;
 mod seats;
-mod show;
 mod start;
 mod targets;
-#[cfg(test)]
-mod tests;
 mod verdict;
 
 pub use doc::Doc;
-pub use laws::{opening_is_sound, start_is_sound};
+pub use laws::start_is_sound;

@@ -1,32 +1,37 @@
 //! The text of the live tree.
-ghost use Rattle.std.specs.Prelude.{◌≡◌, [], IfOk, OnOk, Some, unwrap_or};
+ghost use Rattle.std.specs.Prelude.{◌≡◌, ◌≢◌, cond, map, IfOk, OnOk, IsSome, Some, None};
 ghost use Rattle.std.specs.BTreeMap.{get};
 ghost use Rattle.serde_json.specs.View.{view, members_view};
-ghost use Rattle.st_ids.specs.Order.{node_cmp};
-ghost use Rattle.st_marks.specs.Document.{content, root};
+ghost use Rattle.st_ids.specs.Listing.{AreDistinct};
+ghost use Rattle.st_ids.specs.declared.names.NodeId.{NodeId as Node};
+ghost use Rattle.st_ids.specs.Order.{node_cmp, same_node};
+ghost use Rattle.st_marks.specs.Document.{IsSoundInForm, above, content, root};
 ghost use Rattle.st_marks.specs.LiveTree.{leaf_data, one_member, owners_shown, Shows, IsTreeText};
 ghost use Rattle.st_doc.specs.Doc.{document_of};
-ghost use Rattle.st_doc.specs.LiveText.{AllShown, AreMembers, AreSeats, AreValues, IsPart, KeysRise, is_among};
+ghost use Rattle.st_doc.specs.LiveText.{AllShown, AreMade, AreMembers, AreSeats, AreValues, IsPart, KeepsOthers, KeysRise, is_among};
+ghost use Rattle.st_doc.specs.declared.seats.Seat.{Seat as Held};
 
 use crate::doc::Doc;
 use crate::live::is_full;
 use crate::maps::{put_entry, set};
-use crate::opening::opening_node;
+use crate::opening::root_node;
+use crate::order::top_down;
 use crate::rows::cells_of;
-use crate::seats::{Seat, seats_of};
+use crate::seats::{Seat, seats_at, seats_of};
 use serde_json::{Map, Value};
 use st_ids::{Leaf, List, NodeId, Text};
 use std::alloc::{AllocError, Global};
 use std::collections::BTreeMap;
 
-// Takes the value of a node out. It is there, since values are made from the bottom up.
-fn take(done: &mut BTreeMap<NodeId, Value>, node: NodeId) -> Result<Value, AllocError>
-    ensures part { OnOk result (IsPart done.new done.old) }
-    ensures value { IfOk result (λ v. get node_cmp done.old node ≡ Some v) }
+// Takes the value of a node out.
+fn take(done: &mut BTreeMap<NodeId, Value>, node: NodeId) -> Value
+    requires { IsSome (get node_cmp done.old node) }
+    ensures value { get node_cmp done.old node ≡ Some result }
+    ensures rest { (n : Node) → get node_cmp done.new n ≡ cond (same_node node n) None (get node_cmp done.old n) }
 {
     match done.remove(&node) {
-        Some(value) => Ok(value),
-        None => Err(AllocError),
+        Some(value) => value,
+        None => unreachable!(),
     }
 }
 
@@ -37,13 +42,16 @@ fn row_values(
     node: NodeId,
     done: &mut BTreeMap<NodeId, Value>,
 ) -> Result<Vec<Value>, AllocError>
+    requires sound { IsSoundInForm (document_of doc.now) }
+    requires made { AreMade done.old (owners_shown (content (document_of doc.now) node)) }
     ensures part { OnOk result (IsPart done.new done.old) }
     ensures values { IfOk result (λ vs. AreValues done.old (owners_shown (content (document_of doc.now) node)) vs.items) }
+    ensures rest { OnOk result (KeepsOthers (owners_shown (content (document_of doc.now) node)) done.new done.old) }
 {
     let mut values = Vec::new(alloc);
     for owned in cells_of(&doc.rows, node) {
         if is_full(&doc.place, owned) {
-            values.push(take(done, owned.node)?)?;
+            values.push(take(done, owned.node))?;
         }
     }
     Ok(values)
@@ -55,16 +63,19 @@ fn members_of(
     seats: &[Seat],
     done: &mut BTreeMap<NodeId, Value>,
 ) -> Result<Map<String, Value>, AllocError>
-    requires { KeysRise seats.now }
+    requires rise { KeysRise seats.now }
+    requires once { AreDistinct (λ (s : Held). s.node) seats.now }
+    requires made { AreMade done.old (map (λ (s : Held). s.node) seats.now) }
     ensures part { OnOk result (IsPart done.new done.old) }
     ensures members { IfOk result (λ ms. AreMembers done.old seats.now (members_view ms.entries)) }
+    ensures rest { OnOk result (KeepsOthers (map (λ (s : Held). s.node) seats.now) done.new done.old) }
 {
     let mut members = Map::new(alloc);
     let mut left = seats.len();
     while left > 0 {
         left -= 1;
         let seat = &seats[left];
-        let value = take(done, seat.node)?;
+        let value = take(done, seat.node);
         let key = String::from_str(alloc, seat.key.as_str())?;
         put_entry(&mut members, key, value)?;
     }
@@ -99,16 +110,6 @@ fn is_among(types: &[Text], ty: &Text) -> bool
     types.iter().any(|t| t.as_str() == ty.as_str())
 }
 
-// The registers of a node.
-fn seats_at(seats: &BTreeMap<NodeId, List<Seat>>, node: NodeId) -> &[Seat]
-    ensures { result.now ≡ unwrap_or (get node_cmp seats.now node) [] }
-{
-    match seats.get(&node) {
-        None => &[],
-        Some(list) => list.as_slice(),
-    }
-}
-
 // The value of a node, from those of the nodes directly beneath it.
 fn value_of(
     alloc: Global,
@@ -118,12 +119,16 @@ fn value_of(
     node: NodeId,
     done: &mut BTreeMap<NodeId, Value>,
 ) -> Result<Value, AllocError>
-    requires { AreSeats doc.now.held seats.now }
+    requires sound { IsSoundInForm (document_of doc.now) }
+    requires seats { AreSeats doc.now.held seats.now }
+    requires known { IsSome ((document_of doc.now).nodes node) }
+    requires made { (m : Node) → above (document_of doc.now) m ≡ Some node → IsSome (get node_cmp done.old m) }
     ensures part { OnOk result (IsPart done.new done.old) }
     ensures shown { IfOk result (λ v. AllShown (is_among arrays.now) (document_of doc.now) done.old → Shows (is_among arrays.now) (document_of doc.now) node (view v)) }
+    ensures rest { OnOk result ((m : Node) → above (document_of doc.now) m ≢ Some node → get node_cmp done.new m ≡ get node_cmp done.old m) }
 {
     let Some(new) = doc.nodes.get(&node) else {
-        return Err(AllocError);
+        unreachable!();
     };
     if let Some(leaf) = &new.leaf {
         return leaf_value(alloc, leaf);
@@ -136,45 +141,9 @@ fn value_of(
     one_member(alloc, &new.ty, Value::Object(members))
 }
 
-// Puts the items of a row behind other nodes.
-fn push_items(doc: &Doc, node: NodeId, order: &mut Vec<NodeId>) -> Result<(), AllocError> {
-    for owned in cells_of(&doc.rows, node) {
-        if is_full(&doc.place, owned) {
-            order.push(owned.node)?;
-        }
-    }
-    Ok(())
-}
-
-// Puts the occupants of registers behind other nodes.
-fn push_occupants(seats: &[Seat], order: &mut Vec<NodeId>) -> Result<(), AllocError> {
-    for seat in seats {
-        order.push(seat.node)?;
-    }
-    Ok(())
-}
-
-// The root and the nodes beneath it, each before those beneath it.
-fn top_down(
-    alloc: Global,
-    doc: &Doc,
-    seats: &BTreeMap<NodeId, List<Seat>>,
-) -> Result<Vec<NodeId>, AllocError> {
-    let mut order = Vec::new(alloc);
-    order.push(opening_node(0))?;
-    for next in 0..doc.nodes.len() {
-        if next >= order.len() {
-            break;
-        }
-        let node = order[next];
-        push_items(doc, node, &mut order)?;
-        push_occupants(seats_at(seats, node), &mut order)?;
-    }
-    Ok(order)
-}
-
 // The value of the root, made from the bottom up.
 fn root_value(alloc: Global, doc: &Doc, arrays: &[Text]) -> Result<Value, AllocError>
+    requires { IsSoundInForm (document_of doc.now) }
     ensures { IfOk result (λ v. Shows (is_among arrays.now) (document_of doc.now) root (view v)) }
 {
     let seats = seats_of(alloc, &doc.held)?;
@@ -187,14 +156,14 @@ fn root_value(alloc: Global, doc: &Doc, arrays: &[Text]) -> Result<Value, AllocE
         let value = value_of(alloc, doc, arrays, &seats, node, &mut done)?;
         set(&mut done, node, value)?;
     }
-    let value = take(&mut done, opening_node(0))?;
-    Ok(value)
+    Ok(take(&mut done, root_node()))
 }
 
 impl Doc {
     /// The text of the live tree, in compact JSON; `arrays` are the types whose nodes have a row. It takes the time that
     /// the live tree and all registers ask for, and goes to any depth.
-    pub fn text(&self, alloc: Global, arrays: &[Text]) -> Result<Text, AllocError>
+    pub fn whole(&self, alloc: Global, arrays: &[Text]) -> Result<Text, AllocError>
+        requires { IsSoundInForm (document_of self.now) }
         ensures { IfOk result (IsTreeText (is_among arrays.now) (document_of self.now)) }
     {
         let root = root_value(alloc, self, arrays)?;

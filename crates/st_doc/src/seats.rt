@@ -46,3 +46,13 @@ pub fn seats_of(
     }
     Ok(seats)
 }
+
+/// The registers of a node.
+pub fn seats_at(seats: &BTreeMap<NodeId, List<Seat>>, node: NodeId) -> &[Seat]
+    ensures { result.now ≡ unwrap_or (get node_cmp seats.now node) [] }
+{
+    match seats.get(&node) {
+        None => &[],
+        Some(list) => list.as_slice(),
+    }
+}

@@ -19,7 +19,7 @@ ghost use Rattle.st_doc.specs.Start.{first_said, type_at, spot_at, place_at, row
 use crate::doc::Doc;
 use crate::maps::{add, push_at};
 use crate::opening::opening_rev;
-use st_ids::{CellId, Copied, FieldId, List, NodeId, Text};
+use st_ids::{CellId, Copied, FieldId, List, NodeId, Or, Text};
 use st_marks::{NewNode, Owned, SchemaEntry, Spot};
 use st_tree::{FlatAt, FlatNode, Tree, opening};
 use std::alloc::{AllocError, Global};
@@ -201,7 +201,8 @@ impl Doc {
     {
         match opening(alloc, tree) {
             Ok(flat) => of_nodes(alloc, flat.nodes.as_slice(), schema),
-            Err(_) => Err(AllocError),
+            Err(Or::NoMemory) => Err(AllocError),
+            Err(Or::Fault(_)) => unreachable!(),
         }
     }
 }

@@ -9,7 +9,7 @@ ghost use Rattle.st_doc.specs.Ahead.{above_ahead, Reaches, IsLeastOf, least_with
 
 use crate::climb::ancestors_ahead;
 use crate::doc::Doc;
-use crate::opening::opening_node;
+use crate::opening::root_node;
 use crate::targets::targets;
 use st_ids::{List, NodeId, Rev};
 use st_intent::{is_before, is_same_node, is_same_rev};
@@ -114,7 +114,7 @@ impl Doc {
     pub fn is_live(&self, alloc: Global, node: NodeId) -> Result<bool, AllocError>
         ensures { IfOk result (λ b. (b ≡ true) ↔ IsLive (document_of self.now) node) }
     {
-        let root = opening_node(0);
+        let root = root_node();
         if is_same_node(node, root) {
             return Ok(true);
         }

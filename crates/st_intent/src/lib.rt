@@ -8,8 +8,6 @@ mod puts;
 mod rings;
 mod rules;
 mod same;
-#[cfg(test)]
-mod tests;
 
 pub use finds::{is_cleared, is_made, is_new, is_put, new_row_of, put_of};
 pub use rules::is_intent;

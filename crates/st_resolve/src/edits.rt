@@ -39,7 +39,8 @@ fn named(alloc: Global, given: Given, trees: &List<Tree>) -> Result<List<FlatNod
 {
     match flatten(alloc, trees, given.rev, given.nodes, given.cells) {
         Ok(flat) => Ok(flat.nodes),
-        Err(_) => Err(Or::NoMemory),
+        Err(Or::NoMemory) => Err(Or::NoMemory),
+        Err(Or::Fault(_)) => unreachable!(),
     }
 }
 

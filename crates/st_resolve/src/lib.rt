@@ -1,8 +1,6 @@
 //! What edits of a live tree mean: the intent of a commit, or the first refusal.
 #![tactic(auto)]
 
-#[cfg(test)]
-mod at_once;
 mod edits;
 mod intents;
 mod laws;
@@ -10,8 +8,6 @@ mod lists;
 mod moves;
 mod paths;
 mod rules;
-#[cfg(test)]
-mod tests;
 
 pub use edits::resolve;
 pub use laws::{new_trees_fit, resolved_edits_fit, simple_edits_fit};

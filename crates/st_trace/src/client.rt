@@ -127,7 +127,7 @@ fn commit(
     ensures kept { OnOk result (IsCommitted kept.old intent kept.new) }
 {
     kept.names += names_made(&intent);
-    kept.shown.carry_out(alloc, &intent)?;
+    kept.shown.carry(alloc, &intent)?;
     enqueue(alloc, client, intent)
 }
 
@@ -194,7 +194,7 @@ fn carry_all(alloc: Global, doc: &mut Doc, intents: &[Intent]) -> Result<(), All
     ensures { OnOk result (Run (document_of doc.old) intents.now (document_of doc.new)) }
 {
     for intent in intents {
-        doc.carry_out(alloc, intent)?;
+        doc.carry(alloc, intent)?;
     }
     Ok(())
 }
@@ -224,7 +224,7 @@ fn receive_own(alloc: Global, kept: &mut Kept, intent: &Intent) -> Result<Verdic
     ensures names { OnOk result (kept.new.names ≡ kept.old.names - names_made intent.now) }
 {
     kept.names -= names_made(intent);
-    let verdict = kept.received.carry_out(alloc, intent)?;
+    let verdict = kept.received.carry(alloc, intent)?;
     Ok(verdict)
 }
 
@@ -237,8 +237,8 @@ fn receive_last(alloc: Global, kept: &mut Kept, intent: &Intent) -> Result<Verdi
     ensures shown { OnOk result (document_of kept.new.shown ≡ document_of kept.new.received) }
     ensures names { OnOk result (kept.new.names ≡ kept.old.names) }
 {
-    kept.shown.carry_out(alloc, intent)?;
-    let verdict = kept.received.carry_out(alloc, intent)?;
+    kept.shown.carry(alloc, intent)?;
+    let verdict = kept.received.carry(alloc, intent)?;
     Ok(verdict)
 }
 
@@ -255,7 +255,7 @@ fn receive_before(
     ensures shown { OnOk result (Run (document_of kept.new.received) pending.now (document_of kept.new.shown)) }
     ensures names { OnOk result (kept.new.names ≡ kept.old.names) }
 {
-    let verdict = kept.received.carry_out(alloc, intent)?;
+    let verdict = kept.received.carry(alloc, intent)?;
     refold(alloc, kept, pending)?;
     Ok(verdict)
 }

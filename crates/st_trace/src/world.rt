@@ -225,7 +225,7 @@ impl World {
         ensures spent { self.new.spent ≡ self.old.spent }
     {
         self.names += names_made(&intent);
-        self.head.carry_out(alloc, &intent)?;
+        self.head.carry(alloc, &intent)?;
         let body = Body::Commit { reference, intent };
         enter(&mut self.lists.log, &mut self.known, session, body)?;
         let n = self.lists.log.len() as u32;
@@ -305,7 +305,7 @@ impl World {
         match self.kept.get(i) {
             None => Ok(Answer::No(Refusal::NoClient)),
             Some(kept) => {
-                let tree = kept.shown.text(alloc, self.arrays.as_slice())?;
+                let tree = kept.shown.whole(alloc, self.arrays.as_slice())?;
                 Ok(Answer::Show { tree })
             }
         }

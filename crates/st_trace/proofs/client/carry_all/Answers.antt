@@ -6,8 +6,8 @@ use Rattle.st_trace.proofs.client.carry_all.Goals as goal
 pub loop-intent-init : goal.loop-intent-init
 loop-intent-init c = record { sound = c.requires.sound; fit = c.requires.fit; run = done }
 
-pub carry_out-requires : goal.carry_out-requires
-carry_out-requires c =
+pub carry-requires : goal.carry-requires
+carry-requires c =
     let l = c.loop-intent in record {
       sound = l.invariant.sound;
       fits = (left_fit (document_of l.doc) c.args.intents.now l.intent-index c.intent-item.result c.loop-intent-test.true c.intent-item.is l.invariant.fit).1;
@@ -16,8 +16,8 @@ carry_out-requires c =
 pub loop-intent-preserved : goal.loop-intent-preserved
 loop-intent-preserved c =
     let l = c.loop-intent in
-    let on = one_more (document_of c.args.doc.now) (document_of l.doc) (document_of c.carry_out.new.self) c.args.intents.now l.intent-index c.intent-item.result c.in_ok-carry_out.field-0 c.loop-intent-test.true c.intent-item.is
-    l.invariant.sound l.invariant.fit l.invariant.run c.in_ok-carry_out.ensures.verdict c.in_ok-carry_out.ensures.after in
+    let on = one_more (document_of c.args.doc.now) (document_of l.doc) (document_of c.carry.new.self) c.args.intents.now l.intent-index c.intent-item.result c.in_ok-carry.field-0 c.loop-intent-test.true c.intent-item.is
+    l.invariant.sound l.invariant.fit l.invariant.run c.in_ok-carry.ensures.verdict c.in_ok-carry.ensures.after in
     record { sound = on.sound; fit = on.fit; run = on.run }
 
 pub returns : goal.returns

@@ -4,5 +4,5 @@ use Rattle.st_trace.proofs.client.receive_last.Goals as goal
 
 pub returns-clause-shown : goal.returns-clause-shown
 returns-clause-shown c =
-    both_carried (document_of c.args.kept.now.shown) (document_of c.args.kept.now.received) (document_of c.carry_out.new.self) (document_of c.carry_out-2.new.self) c.args.intent.now
-    c.in_ok-carry_out.field-0 c.in_ok-verdict.verdict c.requires.same c.in_ok-carry_out.ensures.verdict c.in_ok-verdict.ensures.verdict c.in_ok-carry_out.ensures.after c.in_ok-verdict.ensures.after
+    both_carried (document_of c.args.kept.now.shown) (document_of c.args.kept.now.received) (document_of c.carry.new.self) (document_of c.carry-2.new.self) c.args.intent.now
+    c.in_ok-carry.field-0 c.in_ok-verdict.verdict c.requires.same c.in_ok-carry.ensures.verdict c.in_ok-verdict.ensures.verdict c.in_ok-carry.ensures.after c.in_ok-verdict.ensures.after

@@ -1,28 +1,12 @@
-use Rattle.std.proofs.Common.{sym, ap, ◌∙◌, unwrap_or}
-use Rattle.std.specs.BTreeMap.{get}
-use Rattle.std.specs.List.{find}
-use Rattle.st_ids.specs.Order.{node_cmp, same_node}
-use Rattle.st_marks.specs.declared.changes.NewNode.{NewNode}
-use Rattle.st_marks.specs.Intent.{put_of}
-use Rattle.st_marks.specs.CarryOut.{full, with_names, with_schema}
+use Rattle.std.proofs.Common.{sym, subst}
+use Rattle.st_marks.specs.Document.{IsSoundInForm}
+use Rattle.st_marks.proofs.OneVerdict.{carried_extends}
 use Rattle.st_doc.specs.Doc.{document_of}
-use Rattle.std.specs.Option.{option_or}
-use Rattle.st_marks.specs.declared.places.Spot.{Spot}
-use Rattle.st_doc.specs.Nodes.{type_of}
-use Rattle.st_doc.proofs.Look.{option_map-or}
-use Rattle.st_doc.proofs.OneDocument.{same_document}
-use Rattle.st_doc.proofs.Placing.{placed, held_after}
 use Rattle.st_doc.proofs.doc.Doc.carry.Goals as goal
 
-pub returns-clause-after : goal.returns-clause-after
-returns-clause-after c =
+pub returns-clause-still_sound : goal.returns-clause-still_sound
+returns-clause-still_sound c = λ short.
     let D = document_of c.args.self.now in
     let N = c.args.intent.now in
-    same_document _ (full D N)
-    (λ n. ap type_of (c.in_ok-add_nodes.ensures n) ∙ option_map-or (λ (m : NewNode). record { ty = m.ty; leaf = m.leaf }) (get node_cmp c.args.self.now.nodes n) (find (λ (m : NewNode). same_node m.node n) N.new))
-    c.in_ok-grow_rows.ensures
-    c.in_ok-add_rows.ensures
-    (λ n. ap (λ o. unwrap_or o Spot.Nowhere) (c.in_ok-put_all.ensures n) ∙ ap (λ o. unwrap_or (option_or o (get node_cmp c.args.self.now.place n)) Spot.Nowhere) (c.in_ok-targets.ensures n)
-    ∙ placed N c.requires (with_names D N).row_of (put_of N n) (get node_cmp c.args.self.now.place n))
-    (λ f. c.leave_registers.ensures f ∙ held_after N c.requires f (D.held f))
-    (sym (ap (λ s. with_schema N s D.schemas) c.requires.no_schema))
+    let v = c.in_ok-verdict.verdict in
+    subst IsSoundInForm (sym c.in_ok-verdict.ensures.after) (carried_extends D N v c.requires.sound c.requires.fits short c.in_ok-verdict.ensures.verdict).after

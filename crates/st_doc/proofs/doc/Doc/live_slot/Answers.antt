@@ -1,8 +1,8 @@
 use Rattle.std.proofs.Common.{slice_get, refl, sym, ap, ◌∙◌, get_or, drop, filter, map, arith}
 use Rattle.st_marks.specs.declared.places.Slot.{Slot}
-use Rattle.st_marks.specs.Document.{slot, owned, root}
+use Rattle.st_marks.specs.Document.{slot}
 use Rattle.st_doc.specs.Doc.{document_of}
-use Rattle.st_doc.specs.Opening.{opening_cell}
+use Rattle.st_doc.proofs.Look.{no_cell}
 use Rattle.st_doc.specs.Shown.{live_slots}
 use Rattle.st_doc.proofs.Queries.{one_less, not_counted}
 use Rattle.st_doc.proofs.doc.Doc.live_slot.Goals as goal
@@ -13,7 +13,7 @@ loop-owned-preserved c =
     let D = document_of c.args.self.now in
     let row = c.cells_of-owned-items.result.now in
     let i = c.loop-owned.owned-index in
-    let none = owned (opening_cell 0) root in
+    let none = no_cell in
     let o = get_or row i none in
     let full = λ (s : Slot). s.full in
     let whole = slice_get (live_slots D c.args.node) c.args.index in

@@ -1,0 +1,218 @@
+//! A schema, documents that open under it, and edits in short.
+ghost use Rattle.std.specs.Prelude.{◌≡◌, ◌<◌, ◌^◌, length, Ok, IfOk, OnOk};
+ghost use Rattle.st_tree.specs.Node.{trees_view};
+ghost use Rattle.st_tree.specs.Size.{check_items};
+ghost use Rattle.st_marks.specs.Document.{IsSoundInForm};
+ghost use Rattle.st_doc.specs.Doc.{document_of};
+ghost use Rattle.st_resolve.specs.Resolve.{IsWithin};
+
+use st_doc::Doc;
+use st_ids::{Key, List, Path, Place, Rev, Text};
+use st_json::read_line;
+use st_marks::{Intent, Verdict};
+use st_resolve::{Given, resolve};
+use st_schema::{Schema, read_tree};
+use st_tree::{Edit, Tree, check, check_trees};
+use std::alloc::{AllocError, Global};
+use std::test::Fail;
+
+// Lists of texts, lists and cards, and a card with an optional note and a title.
+const SCHEMA: &str = r#"{"root":["list"],"types":[{"array":["text","list","card"],"name":"list"},{"name":"card","object":{"note":["opt",["text","list"]],"title":["req",["text"]]}}]}"#;
+
+pub fn schema(alloc: Global) -> Result<Schema, Fail> {
+    let value = read_line(alloc, SCHEMA.as_bytes())?;
+    Ok(Schema::read(alloc, &value)?)
+}
+
+fn tree(alloc: Global, line: &str) -> Result<Tree, Fail> {
+    let value = read_line(alloc, line.as_bytes())?;
+    Ok(read_tree(alloc, &value)?)
+}
+
+// The document that opens with a tree which the schema allows.
+fn start(alloc: Global, schema: &Schema, tree: &Tree) -> Result<Doc, Fail>
+    ensures { IfOk result (λ d. IsSoundInForm (document_of d)) }
+{
+    if check(tree) != Ok(()) {
+        return Err(Fail::from("too large"));
+    }
+    if schema.allows(schema.root(), tree).is_err() {
+        return Err(Fail::from("not allowed"));
+    }
+    Ok(Doc::start(alloc, Text::from_str(alloc, SCHEMA)?, tree)?)
+}
+
+/// The document that opens with the tree of a line.
+pub fn opened(alloc: Global, line: &str) -> Result<Doc, Fail>
+    ensures { IfOk result (λ d. IsSoundInForm (document_of d)) }
+{
+    let tree = tree(alloc, line)?;
+    start(alloc, &schema(alloc)?, &tree)
+}
+
+/// Carries an intent out in a document that it fits.
+pub fn carry(alloc: Global, doc: &mut Doc, intent: &Intent) -> Result<Verdict, Fail>
+    requires { IsSoundInForm (document_of doc.old) }
+    ensures { OnOk result (IsSoundInForm (document_of doc.new)) }
+{
+    if !doc.fits(intent) || !doc.has_room(intent) {
+        return Err(Fail::from("does not fit"));
+    }
+    Ok(doc.carry(alloc, intent)?)
+}
+
+/// Whether a document shows the tree of a line.
+pub fn shows(alloc: Global, doc: &Doc, line: &str) -> Result<bool, AllocError>
+    requires { IsSoundInForm (document_of doc.now) }
+{
+    let arrays = [Text::from_str(alloc, "list")?];
+    Ok(doc.whole(alloc, &arrays)?.as_str() == line)
+}
+
+fn trees(alloc: Global, lines: &[&str]) -> Result<List<Tree>, Fail>
+    ensures { IfOk result (λ ts. check_items (trees_view ts) ≡ Ok tt) }
+{
+    let mut trees = List::new(alloc);
+    for line in lines {
+        trees.push(tree(alloc, line)?)?;
+    }
+    if check_trees(&trees) != Ok(()) {
+        return Err(Fail::from("too large"));
+    }
+    Ok(trees)
+}
+
+/// The places of a path: keys and indexes.
+pub type Places = &'static [(&'static str, u32)];
+
+fn path(alloc: Global, places: Places) -> Result<Path, Fail>
+    ensures { IfOk result (λ p. length p < 2 ^ 32) }
+{
+    let mut path = Path::new(alloc);
+    for (key, index) in places {
+        let key = Key(Text::from_str(alloc, key)?);
+        let index = *index;
+        path.push(Place { key, index })?;
+    }
+    if path.len() > 9 {
+        return Err(Fail::from("too long"));
+    }
+    Ok(path)
+}
+
+fn key(alloc: Global, key: &str) -> Result<Key, AllocError> {
+    Ok(Key(Text::from_str(alloc, key)?))
+}
+
+/// An edit in short.
+#[derive(Clone, Copy)]
+pub enum Case {
+    Insert(Places, u32, &'static [&'static str]),
+    Remove(Places, u32, u32),
+    Move(Places, u32, u32, Places, &'static str, u32),
+    Put(Places, &'static str, &'static str),
+    Clear(Places, &'static str),
+    Need(Places),
+}
+
+fn insert(alloc: Global, at: Places, index: u32, items: &[&str]) -> Result<Edit, Fail>
+    ensures { IfOk result IsWithin }
+{
+    let items = trees(alloc, items)?;
+    let at = path(alloc, at)?;
+    let key = Key(Text::new(alloc));
+    Ok(Edit::Insert {
+        at,
+        key,
+        index,
+        items,
+    })
+}
+
+fn remove(alloc: Global, at: Places, index: u32, count: u32) -> Result<Edit, Fail>
+    ensures { IfOk result IsWithin }
+{
+    let at = path(alloc, at)?;
+    let key = Key(Text::new(alloc));
+    Ok(Edit::Remove {
+        at,
+        key,
+        index,
+        count,
+    })
+}
+
+fn relocate(
+    alloc: Global,
+    at: Places,
+    index: u32,
+    count: u32,
+    to: Places,
+    to_key: &str,
+    to_index: u32,
+) -> Result<Edit, Fail>
+    ensures { IfOk result IsWithin }
+{
+    let at = path(alloc, at)?;
+    let to = path(alloc, to)?;
+    let to_key = key(alloc, to_key)?;
+    let key = Key(Text::new(alloc));
+    Ok(Edit::Move {
+        at,
+        key,
+        index,
+        count,
+        to,
+        to_key,
+        to_index,
+    })
+}
+
+fn put(alloc: Global, at: Places, under: &str, item: &str) -> Result<Edit, Fail>
+    ensures { IfOk result IsWithin }
+{
+    let item = tree(alloc, item)?;
+    if check(&item) != Ok(()) {
+        return Err(Fail::from("too large"));
+    }
+    let at = path(alloc, at)?;
+    let key = key(alloc, under)?;
+    Ok(Edit::Put { at, key, item })
+}
+
+fn clear(alloc: Global, at: Places, under: &str) -> Result<Edit, Fail>
+    ensures { IfOk result IsWithin }
+{
+    let at = path(alloc, at)?;
+    let key = key(alloc, under)?;
+    Ok(Edit::Clear { at, key })
+}
+
+/// The edit of a case.
+pub fn edit(alloc: Global, case: Case) -> Result<Edit, Fail>
+    ensures { IfOk result IsWithin }
+{
+    match case {
+        Case::Insert(at, index, items) => insert(alloc, at, index, items),
+        Case::Remove(at, index, count) => remove(alloc, at, index, count),
+        Case::Move(at, index, count, to, to_key, to_index) => {
+            relocate(alloc, at, index, count, to, to_key, to_index)
+        }
+        Case::Put(at, under, item) => put(alloc, at, under, item),
+        Case::Clear(at, under) => clear(alloc, at, under),
+        Case::Need(at) => Ok(Edit::Need {
+            at: path(alloc, at)?,
+        }),
+    }
+}
+
+/// The commit of an edit in a document, by a session.
+pub fn commit(alloc: Global, doc: &Doc, session: u32, case: Case) -> Result<Intent, Fail> {
+    let given = Given {
+        rev: Rev { session, num: 1 },
+        nodes: 0,
+        cells: 0,
+    };
+    let edit = edit(alloc, case)?;
+    Ok(resolve(alloc, doc, &schema(alloc)?, given, &edit)?)
+}
