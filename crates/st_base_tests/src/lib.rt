@@ -7,7 +7,7 @@ mod ids;
 #[cfg(test)]
 mod io;
 #[cfg(test)]
-mod json;
+mod lines;
 #[cfg(test)]
 mod runs;
 #[cfg(test)]
