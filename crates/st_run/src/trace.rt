@@ -127,20 +127,20 @@ fn take_line<K: Sink>(
 }
 
 // Answers the lines of some bytes, which begin with the second line.
-fn take_lines<K: Sink>(alloc: Global, world: World, bytes: &[u8], sink: &mut K) -> Outcome
+fn take_lines<K: Sink>(alloc: Global, world: &mut World, bytes: &[u8], sink: &mut K) -> Outcome
     requires size { length bytes.now < 2 ^ 24 }
-    requires sound { (world.spent ≡ false) × IsSound world }
-    requires fresh { world.steps ≡ 0 }
-    ensures output { IsOutput (K.written sink.old) (K.written sink.new) (AnswersFrom (header_view world.header) world.lists 2 (cut bytes.now)) result }
+    requires sound { (world.old.spent ≡ false) × IsSound world.old }
+    requires fresh { world.old.steps ≡ 0 }
+    ensures output { IsOutput (K.written sink.old) (K.written sink.new)
+        (AnswersFrom (header_view world.old.header) world.old.lists 2 (cut bytes.now)) result }
     ensures fault { result ≡ Outcome.WriteFault → Rose (K.faults sink.old) (K.faults sink.new) }
     ensures later { K.faults sink.old ≤ K.faults sink.new }
 {
-    let mut world = world;
     let mut number = 2;
     let mut rest = bytes;
     while !rest.is_empty() {
         let (line, after) = split_line(rest);
-        match take_line(alloc, &mut world, number, line, sink) {
+        match take_line(alloc, world, number, line, sink) {
             Ok(()) => {}
             Err(outcome) => return outcome,
         }
@@ -178,6 +178,21 @@ fn send_header<K: Sink>(alloc: Global, sink: &mut K) -> Result<(), Outcome>
     }
 }
 
+// Answers a header that opened a world, and the lines that follow it.
+fn trace_from<K: Sink>(alloc: Global, world: &mut World, bytes: &[u8], sink: &mut K) -> Outcome
+    requires size { length bytes.now < 2 ^ 24 }
+    requires sound { (world.old.spent ≡ false) × IsSound world.old }
+    requires fresh { (world.old.steps ≡ 0) × (world.old.lists ≡ begun) }
+    ensures output { IsOutput (K.written sink.old) (K.written sink.new)
+        (OrCutShort (AnswersHeader (AnswersFrom (header_view world.old.header) begun 2 (cut bytes.now)))) result }
+    ensures fault { result ≡ Outcome.WriteFault → Rose (K.faults sink.old) (K.faults sink.new) }
+{
+    match send_header(alloc, sink) {
+        Ok(()) => take_lines(alloc, world, bytes, sink),
+        Err(outcome) => outcome,
+    }
+}
+
 /// Answers the lines of some bytes.
 pub fn trace<K: Sink>(alloc: Global, bytes: &[u8], sink: &mut K) -> Outcome
     requires { length bytes.now < 2 ^ 24 }
@@ -188,13 +203,9 @@ pub fn trace<K: Sink>(alloc: Global, bytes: &[u8], sink: &mut K) -> Outcome
         return refuse(alloc, 1, BadCause::Header, sink);
     }
     let (line, rest) = split_line(bytes);
-    let world = match read_header(alloc, line) {
-        Ok(world) => world,
-        Err(Or::NoMemory) => return Outcome::NoMemory,
-        Err(Or::Fault(cause)) => return refuse(alloc, 1, cause, sink),
-    };
-    match send_header(alloc, sink) {
-        Ok(()) => take_lines(alloc, world, rest, sink),
-        Err(outcome) => outcome,
+    match read_header(alloc, line) {
+        Ok(mut world) => trace_from(alloc, &mut world, rest, sink),
+        Err(Or::NoMemory) => Outcome::NoMemory,
+        Err(Or::Fault(cause)) => refuse(alloc, 1, cause, sink),
     }
 }
