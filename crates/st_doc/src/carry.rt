@@ -37,7 +37,8 @@ impl Doc {
 
     // Carries out an intent whole: new nodes and cells, then the clears, then the puts.
     fn carry_whole(&mut self, alloc: Global, intent: &Intent) -> Result<(), AllocError>
-        requires { IsSoundInForm (document_of self.old) }
+        requires sound { IsSoundInForm (document_of self.old) }
+        requires fits { Fits (document_of self.old) intent.now }
         ensures { OnOk result (document_of self.new ≡ full (document_of self.old) intent.now) }
     {
         let mut targets = targets(alloc, &self.row_of, intent)?;

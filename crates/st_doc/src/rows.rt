@@ -1,15 +1,17 @@
 //! Rows that grow.
-ghost use Rattle.std.specs.Prelude.{◌≡◌, ◌&&◌, ◌++◌, [], OnOk, IfOk, Some, None, unwrap_or};
+ghost use Rattle.std.specs.Prelude.{◌≡◌, ◌≤◌, ◌&&◌, ◌++◌, [], OnOk, Some, None, cond, length, unwrap_or};
 ghost use Rattle.std.specs.BTreeMap.{get};
-ghost use Rattle.std.specs.List.{list_any};
+ghost use Rattle.st_ids.specs.Listing.{AreDistinct};
 ghost use Rattle.st_ids.specs.declared.names.NodeId.{NodeId as Node};
 ghost use Rattle.st_ids.specs.Order.{node_cmp, same_node};
-ghost use Rattle.st_marks.specs.Intent.{same_anchor, group_at};
+ghost use Rattle.st_marks.specs.declared.intents.Owned.{Owned as OwnedCell};
+ghost use Rattle.st_marks.specs.Intent.{IsIntent, same_anchor, group_at};
 ghost use Rattle.st_marks.specs.CarryOut.{with_groups};
+ghost use Rattle.st_doc.specs.Growing.{IsPlaceOf, at_anchor, at_place, with_group};
 
 use crate::maps::set;
 use st_ids::{CellId, List, NodeId};
-use st_intent::{is_same_anchor, is_same_node};
+use st_intent::{is_same_anchor, is_same_cell, is_same_node};
 use st_marks::{Group, Intent, Owned};
 use std::alloc::{AllocError, Global};
 use std::collections::BTreeMap;
@@ -33,24 +35,6 @@ pub fn cells_at(intent: &Intent, node: NodeId, after: Option<CellId>) -> &[Owned
     &[]
 }
 
-// A node's row with each group directly after its anchor.
-fn grow(
-    alloc: Global,
-    intent: &Intent,
-    node: NodeId,
-    row: &[Owned],
-) -> Result<List<Owned>, AllocError>
-    ensures { IfOk result (λ r. r ≡ group_at intent.now node None ++ with_groups intent.now node row.now) }
-{
-    let mut cells = Vec::new(alloc);
-    cells.extend_from_slice(cells_at(intent, node, None))?;
-    for owned in row {
-        cells.push(*owned)?;
-        cells.extend_from_slice(cells_at(intent, node, Some(owned.cell)))?;
-    }
-    Ok(List::from_vec(cells))
-}
-
 /// The cells of a node's row.
 pub fn cells_of(rows: &BTreeMap<NodeId, List<Owned>>, node: NodeId) -> &[Owned]
     ensures { result.now ≡ unwrap_or (get node_cmp rows.now node) [] }
@@ -61,28 +45,86 @@ pub fn cells_of(rows: &BTreeMap<NodeId, List<Owned>>, node: NodeId) -> &[Owned]
     }
 }
 
-// Whether a group is in that row.
-fn has_group(groups: &[Group], node: NodeId) -> bool
-    ensures { result ≡ list_any (λ g. same_node g.node node) groups.now }
+// The place behind a cell of a row, if it is there.
+fn place_behind(row: &[Owned], cell: CellId) -> Option<usize>
+    ensures { IsPlaceOf (Some cell) row.now result }
 {
-    groups.iter().any(|g| is_same_node(g.node, node))
+    for (i, owned) in row.iter().enumerate() {
+        if is_same_cell(owned.cell, cell) {
+            return Some(i + 1);
+        }
+    }
+    None
 }
 
-/// Puts the groups into their rows. A row is gone through once, and for each of its cells the groups are.
+// The place in a row to which an anchor leads.
+fn place_of(row: &[Owned], after: Option<CellId>) -> Option<usize>
+    ensures { IsPlaceOf after row.now result }
+{
+    match after {
+        None => Some(0),
+        Some(cell) => place_behind(row, cell),
+    }
+}
+
+// Puts cells at a place of a row: what stands behind it moves once.
+fn put_at(row: &mut Vec<Owned>, place: usize, more: &[Owned]) -> Result<(), AllocError>
+    requires { place ≤ length row.old.items }
+    ensures { OnOk result (row.new.items ≡ at_place place more.now row.old.items) }
+{
+    row.extend_from_slice(more)?;
+    row[place..].rotate_right(more.len());
+    Ok(())
+}
+
+// Puts cells where their anchor leads.
+fn put_behind(row: &mut Vec<Owned>, after: Option<CellId>, more: &[Owned]) -> Result<(), AllocError>
+    ensures { OnOk result (row.new.items ≡ at_anchor after more.now row.old.items) }
+{
+    match place_of(row.as_slice(), after) {
+        None => Ok(()),
+        Some(place) => put_at(row, place, more),
+    }
+}
+
+// Takes a node's row out.
+fn take_row(alloc: Global, rows: &mut BTreeMap<NodeId, List<Owned>>, node: NodeId) -> Vec<Owned>
+    ensures row { result.items ≡ unwrap_or (get node_cmp rows.old node) [] }
+    ensures rest { (n : Node) → get node_cmp rows.new n ≡ cond (same_node node n) None (get node_cmp rows.old n) }
+{
+    match rows.remove(&node) {
+        None => Vec::new(alloc),
+        Some(row) => row.into_vec(),
+    }
+}
+
+// Puts a group into its row.
+fn put_group(
+    alloc: Global,
+    rows: &mut BTreeMap<NodeId, List<Owned>>,
+    group: &Group,
+) -> Result<(), AllocError>
+    ensures { OnOk result ((n : Node) → unwrap_or (get node_cmp rows.new n) [] ≡ with_group group.now n (unwrap_or (get node_cmp rows.old n) [])) }
+{
+    let mut row = take_row(alloc, rows, group.node);
+    put_behind(&mut row, group.after, group.cells.as_slice())?;
+    set(rows, group.node, List::from_vec(row))?;
+    Ok(())
+}
+
+/// Puts the groups into their rows, one by one: each by one look for its anchor, and one move of what stands behind it.
 pub fn grow_rows(
     alloc: Global,
     rows: &mut BTreeMap<NodeId, List<Owned>>,
     intent: &Intent,
 ) -> Result<(), AllocError>
+    requires once { (n : Node) → AreDistinct (λ (o : OwnedCell). o.cell) (unwrap_or (get node_cmp rows.old n) []) }
+    requires itself { IsIntent intent.now }
     ensures { OnOk result ((n : Node) → unwrap_or (get node_cmp rows.new n) []
         ≡ group_at intent.now n None ++ with_groups intent.now n (unwrap_or (get node_cmp rows.old n) [])) }
 {
-    let groups = intent.groups.as_slice();
-    for (i, group) in groups.iter().enumerate() {
-        if !has_group(&groups[..i], group.node) {
-            let row = grow(alloc, intent, group.node, cells_of(rows, group.node))?;
-            set(rows, group.node, row)?;
-        }
+    for group in intent.groups.as_slice() {
+        put_group(alloc, rows, group)?;
     }
     Ok(())
 }

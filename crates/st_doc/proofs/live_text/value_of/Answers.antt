@@ -82,4 +82,4 @@ pub returns-clause-rest : goal.returns-clause-rest
 returns-clause-rest c =
     let n = c.args.node in
     on_any c.one_member-2.result _ (λ m out. c.in_ok-members.ensures.rest m (λ h. out (
-      seat_above (document_of c.args.doc.now) c.requires.sound n c.seats_at.result.now (seats_of n c.args.doc.now.held.entries) (c.seats_at.ensures ∙ c.requires.seats.listed n) (c.requires.seats.holds n) m h)))
+    seat_above (document_of c.args.doc.now) c.requires.sound n c.seats_at.result.now (seats_of n c.args.doc.now.held.entries) (c.seats_at.ensures ∙ c.requires.seats.listed n) (c.requires.seats.holds n) m h)))

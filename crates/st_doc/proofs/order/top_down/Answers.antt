@@ -32,7 +32,7 @@ loop-node-preserved c =
     ∙ append_assoc c.loop-node.order.items (owners_shown (content D n)) (map (λ (s : Seat). s.node) ss) in
     subst (λ l. SoFar D l (c.loop-node.next + 1)) (sym order)
     (more_so_far D sound c.loop-node.order.items (children D n ss) c.loop-node.next n here
-      (children_once D sound n ss rise holds all) (child_above D sound n ss rise holds all) (above_child D sound n ss rise holds all) c.loop-node.invariant)
+    (children_once D sound n ss rise holds all) (child_above D sound n ss rise holds all) (above_child D sound n ss rise holds all) c.loop-node.invariant)
 
 pub loop-node-smaller : goal.loop-node-smaller
 loop-node-smaller c =
