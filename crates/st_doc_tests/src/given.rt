@@ -4,20 +4,22 @@ ghost use Rattle.st_tree.specs.Node.{trees_view};
 ghost use Rattle.st_tree.specs.Size.{check_items};
 ghost use Rattle.st_marks.specs.Document.{IsSoundInForm};
 ghost use Rattle.st_doc.specs.Doc.{document_of};
-ghost use Rattle.st_resolve.specs.Resolve.{IsWithin};
+ghost use Rattle.st_edits.specs.Resolve.{IsWithin};
 
 use st_doc::Doc;
+use st_edits::Given;
 use st_ids::{Key, List, Path, Place, Rev, Text};
 use st_json::read_line;
 use st_marks::{Intent, Verdict};
-use st_resolve::{Given, resolve};
+use st_resolve::resolve;
 use st_schema::{Schema, read_tree};
 use st_tree::{Edit, Tree, check, check_trees};
 use std::alloc::{AllocError, Global};
 use std::test::Fail;
 
 // Lists of texts, lists and cards, and a card with an optional note and a title.
-const SCHEMA: &str = r#"{"root":["list"],"types":[{"array":["text","list","card"],"name":"list"},{"name":"card","object":{"note":["opt",["text","list"]],"title":["req",["text"]]}}]}"#;
+const SCHEMA: &str =
+    r#"{"root":["list"],"types":[{"array":["text","list","card"],"name":"list"},{"name":"card","object":{"note":["opt",["text","list"]],"title":["req",["text"]]}}]}"#;
 
 pub fn schema(alloc: Global) -> Result<Schema, Fail> {
     let value = read_line(alloc, SCHEMA.as_bytes())?;

@@ -1,6 +1,1 @@
-pub mod Fits
-pub mod MoveFits
 pub mod One
-pub mod Numbered
-pub mod NewFits
-pub mod Resolved

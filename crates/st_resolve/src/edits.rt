@@ -4,14 +4,15 @@ ghost use Rattle.st_ids.specs.Or.{IfRefused};
 ghost use Rattle.st_tree.specs.Node.{trees_view, view, first, no_nodes};
 ghost use Rattle.st_tree.specs.Size.{check_of, check_items};
 ghost use Rattle.st_doc.specs.Doc.{document_of};
-ghost use Rattle.st_resolve.specs.Resolve.{named, allowed, insert, remove, move_to, move as move_of, put, clear, need, may_move, resolve, IsWithin};
+ghost use Rattle.st_edits.specs.Resolve.{named, allowed, insert, remove, move_to, move as move_of, put, clear, need, may_move, resolve, IsWithin};
 
 use crate::intents::{inserted, nothing_yet, placed, removed};
 use crate::lists::names_taken;
 use crate::moves::{cells_taken, is_inside, is_there, items_from, moved, taken};
 use crate::paths::{field_at, walk};
-use crate::rules::{Given, Takes, ask, names_left, nodes_allowed, rule_for, trees_allowed};
+use crate::rules::{ask, names_left, nodes_allowed, rule_for, trees_allowed};
 use st_doc::Doc;
+use st_edits::{Given, Takes};
 use st_ids::{Copied, FieldId, Key, List, NodeId, Or, Path};
 use st_marks::Intent;
 use st_schema::{FieldRule, Schema};

@@ -1,7 +1,8 @@
 //! The lists that an intent has for new trees, which are given as the list of their nodes in preorder.
 ghost use Rattle.std.specs.Prelude.{◌≡◌, ◌++◌, ◌<◌, ◌*◌, ◌^◌, length, IfOk, OnOk};
 ghost use Rattle.std.specs.Option.{option_copied};
-ghost use Rattle.st_resolve.specs.New.{new_nodes, top_to, to_at, puts, register_at, registers, top_cell, row_cell, top_cells, cells_under, group_of, group_under, groups_under, takes_cell, names_taken};
+ghost use Rattle.st_edits.specs.New.{new_nodes, top_to, to_at, puts, top_cell, row_cell, top_cells, cells_under, group_of, group_under, groups_under, takes_cell, names_taken};
+ghost use Rattle.st_opening.specs.Start.{register_at, registers};
 
 use st_ids::{CellId, Copied, FieldId, List, NodeId};
 use st_intent::is_same_node;

@@ -12,10 +12,10 @@ use Rattle.st_marks.specs.LiveTree.{IsTreeText}
 use Rattle.st_conform.proofs.Resolved.{resolved_agrees}
 use Rattle.st_doc.specs.Doc.{document_of}
 use Rattle.st_doc.specs.LiveText.{is_among}
-use Rattle.st_resolve.specs.Resolve.{resolve}
-use Rattle.st_resolve.proofs.MoveFits.{CellsFresh}
-use Rattle.st_resolve.proofs.NewFits.{NodesFresh}
-use Rattle.st_resolve.proofs.Resolved.{resolved_fits}
+use Rattle.st_edits.specs.Resolve.{resolve}
+use Rattle.st_edits.proofs.MoveFits.{CellsFresh}
+use Rattle.st_edits.proofs.NewFits.{NodesFresh}
+use Rattle.st_edits.proofs.Resolved.{resolved_fits}
 use Rattle.st_script.specs.Header.{HeaderView, header_view}
 use Rattle.st_script.specs.declared.answer.Answer.{Answer}
 use Rattle.st_script.specs.declared.answer.Answer.TheVariants.{Show}

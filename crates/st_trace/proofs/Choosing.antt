@@ -1,7 +1,7 @@
 -- Which step is which.
 use Rattle.std.proofs.Common.{◌≡◌, ℕ, List, Option, Some, None, Result, Ok, Err, refl, sym, ap, ◌∙◌, subst}
 use Rattle.std.specs.Result.{IfOk}
-use Rattle.st_resolve.specs.Resolve.{IsWithin, resolve}
+use Rattle.st_edits.specs.Resolve.{IsWithin, resolve}
 use Rattle.st_script.specs.Header.{HeaderView}
 use Rattle.st_script.specs.Line.{line_of, line_view}
 use Rattle.st_script.specs.Steps.{IsOfForm, step_view, join}

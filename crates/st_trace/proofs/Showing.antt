@@ -12,7 +12,7 @@ use Rattle.st_marks.specs.LiveTree.{IsTreeText}
 use Rattle.st_commits.proofs.Turns.{turn_extends}
 use Rattle.st_conform.proofs.InTurn.{list_conforms}
 use Rattle.st_conform.proofs.ShownTree.{shown_conforms}
-use Rattle.st_resolve.specs.ArrayTypes.{is_array_type}
+use Rattle.st_edits.specs.ArrayTypes.{is_array_type}
 use Rattle.st_script.specs.Header.{HeaderView, header_view}
 use Rattle.st_script.specs.Steps.{StepView, branch_of, name_of}
 use Rattle.st_script.specs.Steps as step

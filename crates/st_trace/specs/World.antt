@@ -10,7 +10,7 @@ use Rattle.st_tree.specs.Node.{Node, nodes_of, first, no_nodes}
 use Rattle.st_tree.specs.Preorder.{opening_listed}
 use Rattle.st_tree.specs.declared.edit.EditFault.{EditFault}
 use Rattle.st_tree.specs.declared.edit.EditFault.TheVariants as fault
-use Rattle.st_resolve.specs.ArrayTypes.{is_array_type}
+use Rattle.st_edits.specs.ArrayTypes.{is_array_type}
 use Rattle.st_schema.specs.Conforms.{conforms}
 use Rattle.st_schema.specs.Schema.{SchemaView}
 use Rattle.st_schema.specs.TreeText.{tree_data}
@@ -22,9 +22,9 @@ use Rattle.st_marks.specs.Intent.{group_cells}
 use Rattle.st_marks.specs.LiveTree.{IsTreeText}
 use Rattle.st_marks.specs.Run.{Run}
 use Rattle.st_marks.specs.Verdict.{IsVerdict}
-use Rattle.st_doc.specs.Start.{start_of}
-use Rattle.st_resolve.specs.declared.rules.Given.{Given}
-use Rattle.st_resolve.specs.Resolve.{insert, remove, move, put, clear}
+use Rattle.st_opening.specs.Start.{start_of}
+use Rattle.st_edits.specs.declared.names.Given.{Given}
+use Rattle.st_edits.specs.Resolve.{insert, remove, move, put, clear}
 use Rattle.st_script.specs.Header.{HeaderView}
 use Rattle.st_script.specs.Steps.{StepView, branch_of, name_of}
 use Rattle.st_script.specs.Steps as step

@@ -2,14 +2,15 @@
 ghost use Rattle.std.specs.Prelude.{◌≡◌, ◌<◌, ◌^◌, true, is_some, Ok, Err, IfOk};
 ghost use Rattle.st_ids.specs.Or.{IfRefused};
 ghost use Rattle.st_doc.specs.Doc.{document_of};
-ghost use Rattle.st_resolve.specs.Resolve.{IsWithin, resolve};
+ghost use Rattle.st_edits.specs.Resolve.{IsWithin, resolve};
 ghost use Rattle.st_trace.specs.Edits.{word_of, edit_of};
 
 use crate::client::EditWord;
 use st_doc::Doc;
+use st_edits::Given;
 use st_ids::Or;
 use st_marks::Intent;
-use st_resolve::{Given, clear, insert, move_items, remove, set};
+use st_resolve::{clear, insert, move_items, remove, set};
 use st_schema::Schema;
 use st_script::TraceStep;
 use st_tree::EditFault;

@@ -1,6 +1,6 @@
 -- the cells so far, and then those of the nodes that are left
 use Rattle.std.proofs.Common.{◌≡◌, ◌++◌, drop}
-use Rattle.st_resolve.specs.New.{cells_under}
+use Rattle.st_edits.specs.New.{cells_under}
 use Rattle.st_resolve.proofs.lists.cells_under.Given as goal
 
 abbrev pub invariant-loop-flat : goal.invariant-loop-flat

@@ -1,5 +1,5 @@
 use Rattle.st_doc.specs.Doc.{document_of}
-use Rattle.st_resolve.proofs.Resolved.{resolved_fits}
+use Rattle.st_edits.proofs.Resolved.{resolved_fits}
 use Rattle.st_trace.specs.Edits.{edit_of}
 use Rattle.st_trace.specs.World.{given}
 use Rattle.st_trace.proofs.client.edit.Goals as goal

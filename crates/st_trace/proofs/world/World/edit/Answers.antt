@@ -1,6 +1,6 @@
 use Rattle.std.proofs.Common.{refl, sym, arith}
 use Rattle.st_doc.specs.Doc.{document_of}
-use Rattle.st_resolve.specs.Resolve.{resolve}
+use Rattle.st_edits.specs.Resolve.{resolve}
 use Rattle.st_script.specs.Header.{header_view}
 use Rattle.st_trace.specs.Edits.{edit_of}
 use Rattle.st_trace.specs.World.{given}

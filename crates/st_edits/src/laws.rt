@@ -9,8 +9,8 @@ ghost use Rattle.st_schema.specs.Schema.{SchemaView, is_sound};
 ghost use Rattle.st_marks.specs.declared.intents.Intent.{Intent};
 ghost use Rattle.st_marks.specs.Document.{Document, IsSoundInForm};
 ghost use Rattle.st_marks.specs.Intent.{Fits};
-ghost use Rattle.st_resolve.specs.declared.rules.Given.{Given};
-ghost use Rattle.st_resolve.specs.Resolve.{clear, insert, move as move_of, need, put, remove, resolve};
+ghost use Rattle.st_edits.specs.declared.names.Given.{Given};
+ghost use Rattle.st_edits.specs.Resolve.{clear, insert, move as move_of, need, put, remove, resolve};
 
 /// What a removal, a move, an emptied field and a need mean fits the document where the edit was resolved. A move takes
 /// cells whose names are not there yet.

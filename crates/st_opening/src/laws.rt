@@ -5,7 +5,7 @@ ghost use Rattle.st_tree.specs.Form.{has_form};
 ghost use Rattle.st_tree.specs.Node.{Node};
 ghost use Rattle.st_tree.specs.Preorder.{opening_listed};
 ghost use Rattle.st_tree.specs.Size.{node_count};
-ghost use Rattle.st_doc.specs.Start.{start_of};
+ghost use Rattle.st_opening.specs.Start.{start_of};
 
 /// The opening document of a tree of the form is sound in form.
 pub fn start_is_sound()

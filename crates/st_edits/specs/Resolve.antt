@@ -26,11 +26,12 @@ use Rattle.st_marks.specs.declared.intents.Intent.{Intent}
 use Rattle.st_marks.specs.declared.intents.Owned.{Owned}
 use Rattle.st_marks.specs.declared.intents.To.{To}
 use Rattle.st_marks.specs.Document.{Document, NodeType, opening, root, last_of, revs, owned}
-use Rattle.st_resolve.specs.declared.rules.Given.{Given}
-use Rattle.st_resolve.specs.declared.rules.Takes.{Takes}
-use Rattle.st_resolve.specs.declared.rules.Takes.TheVariants as field
-use Rattle.st_resolve.specs.Paths.{field_at, row_length, items_from, left_of, and_then, there, walk_from, passes}
-use Rattle.st_resolve.specs.New.{new_nodes, puts, registers, top_cells, group_of, groups_under, names_taken}
+use Rattle.st_edits.specs.declared.names.Given.{Given}
+use Rattle.st_edits.specs.declared.names.Takes.{Takes}
+use Rattle.st_edits.specs.declared.names.Takes.TheVariants as field
+use Rattle.st_edits.specs.Paths.{field_at, row_length, items_from, left_of, and_then, there, walk_from, passes}
+use Rattle.st_edits.specs.New.{new_nodes, puts, top_cells, group_of, groups_under, names_taken}
+use Rattle.st_opening.specs.Start.{registers}
 
 -- ## What is asked of an edit
 

@@ -32,14 +32,16 @@ use Rattle.st_marks.specs.Document.{Document, NodeType, IsSoundInForm, ClimbsToA
 use Rattle.st_marks.specs.Intent.{Fits, IsKnown, Owns, above_new, cell_of, clears, group_cells, is_new, new_row_of, put_of, put_under, register_of}
 use Rattle.st_marks.proofs.Lookups.{both_true}
 use Rattle.st_marks.proofs.Members.{all-has, has-all, any-has, has-any, append_right, has-append, first-has, none-has, first-distinct, has-map, map-has, has-flat_map, flat_map-has, has-filter_map}
-use Rattle.st_resolve.specs.New.{new_nodes, puts, to_at, registers, register_at, top_cell, row_cell, owned_by, top_cells, cells_under, group_of, group_under, groups_under, names_taken}
-use Rattle.st_resolve.specs.Paths.{and_then, there, field_at, left_of, row_length}
-use Rattle.st_resolve.specs.Resolve.{ask, nothing_yet, walk, rule_for, rule_at, of_kind, trees_allowed, none_refused, names_left, named, allowed, with_group, inserted, placed, insert, put}
-use Rattle.st_resolve.specs.declared.rules.Given.{Given}
-use Rattle.st_resolve.specs.declared.rules.Takes.TheVariants as field
-use Rattle.st_resolve.proofs.Fits.{all_map, distinct_map, passed, found, key_some, ruled, walk_there, kind_taken}
-use Rattle.st_resolve.proofs.MoveFits.{CellsFresh, left_in_row, put_none}
-use Rattle.st_resolve.proofs.Numbered.{filter-from, distinct_filter, distinct_flat, IsAt, Counted, IsNumbered, numbered, same_number, there_is, nodes_distinct, own_cell, cell_is, one_in_cell, IsArray, IsUnderArray, tops_rows, tops_counted, IsInner, fields_inner, tops_regs}
+use Rattle.st_edits.specs.New.{new_nodes, puts, to_at, top_cell, row_cell, owned_by, top_cells, cells_under, group_of, group_under, groups_under, names_taken}
+use Rattle.st_opening.specs.Start.{registers, register_at}
+use Rattle.st_edits.specs.Paths.{and_then, there, field_at, left_of, row_length}
+use Rattle.st_edits.specs.Resolve.{ask, nothing_yet, walk, rule_for, rule_at, of_kind, trees_allowed, none_refused, names_left, named, allowed, with_group, inserted, placed, insert, put}
+use Rattle.st_edits.specs.declared.names.Given.{Given}
+use Rattle.st_edits.specs.declared.names.Takes.TheVariants as field
+use Rattle.st_edits.proofs.Fits.{all_map, distinct_map, passed, found, key_some, ruled, walk_there, kind_taken}
+use Rattle.st_edits.proofs.MoveFits.{CellsFresh, left_in_row, put_none}
+use Rattle.st_edits.proofs.Numbered.{filter-from, distinct_filter, distinct_flat, IsAt, Counted, IsNumbered, numbered, there_is, nodes_distinct, own_cell, cell_is, one_in_cell, IsArray, IsUnderArray, tops_rows, tops_counted, IsInner, fields_inner, tops_regs}
+use Rattle.st_opening.proofs.PreorderFields.{same_number}
 
 -- ## Lists
 

@@ -35,16 +35,6 @@ to_at into (Register f) = To.Register f
 abbrev pub puts : Option FieldId → List FlatNode → List Put
 puts into xs = map (λ (x : FlatNode). record { node = x.node; to = to_at into x.at }) xs
 
-abbrev pub register_at : FlatAt → Option FieldId
-register_at Root = None
-register_at (Top c) = None
-register_at (Row n c) = None
-register_at (Register f) = Some f
-
--- the registers in which they stand
-abbrev pub registers : List FlatNode → List FieldId
-registers xs = filter_map (λ (x : FlatNode). register_at x.at) xs
-
 -- the cell of a top item
 abbrev pub top_cell : FlatAt → Option CellId
 top_cell Root = None

@@ -9,7 +9,7 @@ use Rattle.st_tree.specs.declared.edit.EditFault.{EditFault}
 use Rattle.st_tree.specs.declared.edit.EditFault.TheVariants.{NoNode}
 use Rattle.st_marks.specs.declared.places.Slot.{Slot}
 use Rattle.st_marks.specs.Document.{Document}
-use Rattle.st_doc.specs.Shown.{live_slots}
+use Rattle.st_marks.specs.LiveTree.{live_slots}
 
 -- a node's field under a key
 abbrev pub field_at : NodeId → Key → FieldId

@@ -30,12 +30,12 @@ use Rattle.st_marks.specs.Document.{Document, NodeType, IsSoundInForm, root, own
 use Rattle.st_marks.specs.Intent.{Fits, IsKnown, Owns, cell_of, clears, group_cells, is_new, new_row_of, put_of, register_of}
 use Rattle.st_marks.proofs.Lookups.{both_true}
 use Rattle.st_marks.proofs.Members.{true-false, all-has, has-all, any-has, first-has, none-has, has-map, map-has}
-use Rattle.st_doc.specs.Shown.{live_slots}
-use Rattle.st_resolve.specs.Paths.{and_then, there, field_at, items_from, left_of, row_length}
-use Rattle.st_resolve.specs.Resolve.{ask, cells_for, moved_to_row, moved_to_field, nothing_yet, walk, rule_for, rule_at, of_kind, is_open, taken, is_there, may_move, moved, move}
-use Rattle.st_resolve.specs.declared.rules.Given.{Given}
-use Rattle.st_resolve.specs.declared.rules.Takes.TheVariants as field
-use Rattle.st_resolve.proofs.Fits.{all_map, distinct_map, none_kept, passed, found, shown, gotten, item_there, items_once, nowhere_fits, emptied_fits, key_some, ruled}
+use Rattle.st_marks.specs.LiveTree.{live_slots}
+use Rattle.st_edits.specs.Paths.{and_then, there, field_at, items_from, left_of, row_length}
+use Rattle.st_edits.specs.Resolve.{ask, cells_for, moved_to_row, moved_to_field, nothing_yet, walk, rule_for, rule_at, of_kind, is_open, taken, is_there, may_move, moved, move}
+use Rattle.st_edits.specs.declared.names.Given.{Given}
+use Rattle.st_edits.specs.declared.names.Takes.TheVariants as field
+use Rattle.st_edits.proofs.Fits.{all_map, distinct_map, none_kept, passed, found, shown, gotten, item_there, items_once, nowhere_fits, emptied_fits, key_some, ruled}
 
 -- ## New cells
 

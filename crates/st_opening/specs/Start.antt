@@ -63,3 +63,14 @@ start_of xs schema = record {
   held = λ f. first_said (λ (x : FlatNode). held_at f x.node x.at) xs;
   schemas = record { rev = opening; text = schema } ∷ [];
 }
+
+-- the register in which a place is
+abbrev pub register_at : FlatAt → Option FieldId
+register_at FlatAt.Root = None
+register_at (FlatAt.Top c) = None
+register_at (FlatAt.Row n c) = None
+register_at (FlatAt.Register f) = Some f
+
+-- the registers in which nodes stand
+abbrev pub registers : List FlatNode → List FieldId
+registers xs = filter_map (λ (x : FlatNode). register_at x.at) xs

@@ -7,11 +7,11 @@ use Rattle.st_schema.specs.Schema.{SchemaView, is_sound}
 use Rattle.st_marks.specs.declared.intents.Intent.{Intent}
 use Rattle.st_marks.specs.Document.{Document, IsSoundInForm}
 use Rattle.st_marks.specs.Intent.{Fits}
-use Rattle.st_resolve.specs.declared.rules.Given.{Given}
-use Rattle.st_resolve.specs.Resolve.{resolve}
-use Rattle.st_resolve.proofs.Fits.{clear_fits, need_fits, remove_fits}
-use Rattle.st_resolve.proofs.MoveFits.{move_fits}
-use Rattle.st_resolve.proofs.NewFits.{insert_fits, put_fits}
+use Rattle.st_edits.specs.declared.names.Given.{Given}
+use Rattle.st_edits.specs.Resolve.{resolve}
+use Rattle.st_edits.proofs.Fits.{clear_fits, need_fits, remove_fits}
+use Rattle.st_edits.proofs.MoveFits.{move_fits}
+use Rattle.st_edits.proofs.NewFits.{insert_fits, put_fits}
 
 pub resolved_fits : (D : Document) (s : SchemaView) (G : Given) (edit : Edit) (N : Intent) → IsSoundInForm D → is_sound s ≡ true
     → ((k : ℕ) → G.nodes ≤ k → D.nodes (node_named G.rev k) ≡ None) → ((k : ℕ) → G.cells ≤ k → D.row_of (cell_named G.rev k) ≡ None)

@@ -29,11 +29,11 @@ use Rattle.st_marks.specs.Document.{Document, NodeType, IsSoundInForm, is_cell, 
 use Rattle.st_marks.specs.Intent.{Fits, IsKnown, Owns, cell_of, clears, is_new, register_of}
 use Rattle.st_marks.proofs.Lookups.{both_true}
 use Rattle.st_marks.proofs.Members.{true-false, all-has, has-all, has-map, first-has}
-use Rattle.st_doc.specs.Shown.{live_slots}
-use Rattle.st_resolve.specs.Paths.{and_then, there, child, field_at, items_from, row_length, walk_from}
-use Rattle.st_resolve.specs.Resolve.{need, remove, removed, nothing_yet, walk, rule_for, within_row, rule_at, of_kind, is_optional, clear}
-use Rattle.st_resolve.specs.declared.rules.Given.{Given}
-use Rattle.st_resolve.specs.declared.rules.Takes.TheVariants as field
+use Rattle.st_marks.specs.LiveTree.{live_slots}
+use Rattle.st_edits.specs.Paths.{and_then, there, child, field_at, items_from, row_length, walk_from}
+use Rattle.st_edits.specs.Resolve.{need, remove, removed, nothing_yet, walk, rule_for, within_row, rule_at, of_kind, is_optional, clear}
+use Rattle.st_edits.specs.declared.names.Given.{Given}
+use Rattle.st_edits.specs.declared.names.Takes.TheVariants as field
 
 -- ## Steps that may be refused
 
