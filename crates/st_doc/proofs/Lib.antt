@@ -16,4 +16,3 @@ pub mod Verdicts
 pub mod OneDocument
 pub mod Queries
 pub mod ShortRows
-pub mod Copying

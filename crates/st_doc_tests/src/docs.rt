@@ -23,12 +23,14 @@ fn tells(alloc: Global, doc: &Doc) -> Result<bool, AllocError> {
     let slots = doc.live_slots(alloc, node(0))?;
     let key = Key(Text::from_str(alloc, "title")?);
     let held = doc.held(&FieldId { node: node(2), key });
-    Ok(slots.len() == 2
-        && slots.get(1).map(|slot| slot.node) == Some(node(2))
-        && doc.live_slot(node(0), 0).map(|slot| slot.cell) == Some(cell(OPENING, 0))
-        && doc.type_of(node(2)).map(|ty| ty.as_str()) == Some("card")
-        && doc.under() == Some(OPENING)
-        && held == Some(node(3)))
+    Ok(
+        slots.len() == 2
+            && slots.get(1).map(|slot| slot.node) == Some(node(2))
+            && doc.live_slot(node(0), 0).map(|slot| slot.cell) == Some(cell(OPENING, 0))
+            && doc.type_of(node(2)).map(|ty| ty.as_str()) == Some("card")
+            && doc.under() == Some(OPENING)
+            && held == Some(node(3)),
+    )
 }
 
 fn is_told(alloc: Global) -> Result<bool, Fail> {
@@ -123,8 +125,16 @@ fn back_in_order(alloc: Global) -> Result<bool, Fail> {
     let more = commit(alloc, &doc, 2, Case::Insert(&[], 2, &[r#""n""#]))?;
     carry(alloc, &mut doc, &gone)?;
     carry(alloc, &mut doc, &more)?;
-    carry(alloc, &mut doc, &puts(alloc, node(3), To::Cell(cell(OPENING, 2)))?)?;
-    carry(alloc, &mut doc, &puts(alloc, node(1), To::Cell(cell(OPENING, 0)))?)?;
+    carry(
+        alloc,
+        &mut doc,
+        &puts(alloc, node(3), To::Cell(cell(OPENING, 2)))?,
+    )?;
+    carry(
+        alloc,
+        &mut doc,
+        &puts(alloc, node(1), To::Cell(cell(OPENING, 0)))?,
+    )?;
     Ok(shows(alloc, &doc, r#"{"list":["a","n","c"]}"#)?)
 }
 

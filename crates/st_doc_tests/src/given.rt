@@ -17,7 +17,8 @@ use std::alloc::{AllocError, Global};
 use std::test::Fail;
 
 // Lists of texts, lists and cards, and a card with an optional note and a title.
-const SCHEMA: &str = r#"{"root":["list"],"types":[{"array":["text","list","card"],"name":"list"},{"name":"card","object":{"note":["opt",["text","list"]],"title":["req",["text"]]}}]}"#;
+const SCHEMA: &str =
+    r#"{"root":["list"],"types":[{"array":["text","list","card"],"name":"list"},{"name":"card","object":{"note":["opt",["text","list"]],"title":["req",["text"]]}}]}"#;
 
 pub fn schema(alloc: Global) -> Result<Schema, Fail> {
     let value = read_line(alloc, SCHEMA.as_bytes())?;
