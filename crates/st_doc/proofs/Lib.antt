@@ -15,4 +15,3 @@ pub mod Verdicts
 pub mod OneDocument
 pub mod Queries
 pub mod ShortRows
-pub mod Copying

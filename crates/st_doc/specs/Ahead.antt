@@ -1,15 +1,16 @@
 -- Places as an intent will leave them, read off the places before and where its puts lead.
-use Rattle.std.specs.Prelude.{◌≡◌, ℕ, suc, Option, Some, None, Bool, true, false, MatchOption, unwrap_or, if◌then◌else◌}
+use Rattle.std.specs.Prelude.{◌≡◌, ℕ, suc, Option, Some, None, Bool, true, false, MatchOption, option_map, unwrap_or, if◌then◌else◌}
 use Rattle.std.specs.BTreeMap.{BTreeMap, get}
-use Rattle.std.specs.Option.{option_map_or}
+use Rattle.std.specs.Option.{option_map_or, option_or}
 use Rattle.std.specs.Ordering.{is_lt}
-use Rattle.st_ids.specs.Order.{node_cmp}
+use Rattle.st_ids.specs.Order.{node_cmp, cell_cmp}
+use Rattle.st_ids.specs.declared.names.CellId.{CellId}
 use Rattle.st_ids.specs.declared.names.NodeId.{NodeId}
 use Rattle.st_marks.specs.declared.intents.Intent.{Intent}
 use Rattle.st_marks.specs.declared.places.Spot.{Spot}
 use Rattle.st_marks.specs.Document.{node_of, climb}
-use Rattle.st_marks.specs.Intent.{is_new}
-use Rattle.st_marks.specs.CarryOut.{unless_cleared}
+use Rattle.st_marks.specs.Intent.{is_new, new_row_of, put_of}
+use Rattle.st_marks.specs.CarryOut.{spot_of, unless_cleared}
 use Rattle.st_marks.specs.Verdict.{IsLeast}
 
 -- where a node will stand: where its put leads, or where it stood, unless its register is cleared
@@ -43,3 +44,7 @@ in_new N spot = option_map_or (is_new N) (node_of spot) false
 abbrev pub inside_new : Intent → Option Spot → Option Spot
 inside_new N None = None
 inside_new N (Some spot) = if in_new N spot then Some spot else None
+
+-- where each node that is put will stand, by its first put; `row_of` tells in whose row an old cell is
+abbrev pub AreTargets : BTreeMap CellId NodeId → Intent → BTreeMap NodeId Spot → Type 0
+AreTargets row_of N targets = (n : NodeId) → get node_cmp targets n ≡ option_map (spot_of (λ c. option_or (get cell_cmp row_of c) (new_row_of N c))) (put_of N n)

@@ -4,6 +4,7 @@ ghost use Rattle.st_marks.specs.Document.{HasShortRows, IsSoundInForm};
 ghost use Rattle.st_marks.specs.Intent.{Fits};
 ghost use Rattle.st_marks.specs.CarryOut.{full, void, with_schema};
 ghost use Rattle.st_marks.specs.Verdict.{IsVerdict, carried};
+ghost use Rattle.st_doc.specs.Ahead.{AreTargets};
 
 use crate::doc::Doc;
 use crate::evictions::{clear_all, evict_all, fill_all, fill_all_new, leave_all};
@@ -11,9 +12,10 @@ use crate::maps::put_all;
 use crate::names::{add_nodes, add_rows};
 use crate::rows::grow_rows;
 use crate::targets::{targets, targets_inside};
-use st_ids::{Copied, List};
-use st_marks::{Intent, SchemaEntry, Verdict};
+use st_ids::{Copied, List, NodeId};
+use st_marks::{Intent, SchemaEntry, Spot, Verdict};
 use std::alloc::{AllocError, Global};
+use std::collections::BTreeMap;
 
 // Puts the entry of a change of schema behind the others.
 fn add_schema(
@@ -36,12 +38,17 @@ impl Doc {
     ghost use Rattle.st_doc.specs.Doc.{document_of};
 
     // Carries out an intent whole: new nodes and cells, then the clears, then the puts.
-    fn carry_whole(&mut self, alloc: Global, intent: &Intent) -> Result<(), AllocError>
+    fn carry_whole(
+        &mut self,
+        alloc: Global,
+        intent: &Intent,
+        mut targets: BTreeMap<NodeId, Spot>,
+    ) -> Result<(), AllocError>
         requires sound { IsSoundInForm (document_of self.old) }
         requires fits { Fits (document_of self.old) intent.now }
+        requires targets { AreTargets self.old.row_of intent.now targets }
         ensures { OnOk result (document_of self.new ≡ full (document_of self.old) intent.now) }
     {
-        let mut targets = targets(alloc, &self.row_of, intent)?;
         evict_all(&mut targets, &self.held, intent)?;
         add_nodes(alloc, &mut self.nodes, intent)?;
         add_rows(&mut self.row_of, intent)?;
@@ -55,16 +62,21 @@ impl Doc {
     }
 
     // Carries out a void intent: new nodes and cells, and new nodes stand inside new nodes.
-    fn carry_void(&mut self, alloc: Global, intent: &Intent) -> Result<(), AllocError>
+    fn carry_void(
+        &mut self,
+        alloc: Global,
+        intent: &Intent,
+        targets: &BTreeMap<NodeId, Spot>,
+    ) -> Result<(), AllocError>
         requires sound { IsSoundInForm (document_of self.old) }
         requires fits { Fits (document_of self.old) intent.now }
+        requires targets { AreTargets self.old.row_of intent.now targets.now }
         ensures { OnOk result (document_of self.new ≡ void (document_of self.old) intent.now) }
     {
         if intent.schema.is_some() {
             return Ok(());
         }
-        let targets = targets(alloc, &self.row_of, intent)?;
-        let inside = targets_inside(alloc, &targets, intent)?;
+        let inside = targets_inside(alloc, targets, intent)?;
         add_nodes(alloc, &mut self.nodes, intent)?;
         add_rows(&mut self.row_of, intent)?;
         grow_rows(alloc, &mut self.rows, intent)?;
@@ -80,10 +92,11 @@ impl Doc {
         ensures verdict { IfOk result (IsVerdict (document_of self.old) intent.now) }
         ensures after { IfOk result (λ v. document_of self.new ≡ carried v (document_of self.old) intent.now) }
     {
-        let verdict = self.fails(alloc, intent)?;
+        let targets = targets(alloc, &self.row_of, intent)?;
+        let verdict = self.fails_at(alloc, intent, &targets)?;
         match verdict {
-            Verdict::Sound => self.carry_whole(alloc, intent)?,
-            _ => self.carry_void(alloc, intent)?,
+            Verdict::Sound => self.carry_whole(alloc, intent, targets)?,
+            _ => self.carry_void(alloc, intent, &targets)?,
         }
         Ok(verdict)
     }

@@ -1,25 +1,36 @@
 //! Copies of documents.
-ghost use Rattle.std.specs.Prelude.{◌≡◌, IfOk};
-ghost use Rattle.std.specs.BTreeMap.{get};
+ghost use Rattle.std.specs.Prelude.{◌≡◌, IfOk, OnOk};
+ghost use Rattle.std.specs.BTreeMap.{IsOrdered, get};
 
 use crate::doc::Doc;
-use crate::maps::add;
 use st_ids::Copied;
 use std::alloc::{AllocError, Global};
 use std::collections::BTreeMap;
+use std::iter::FromIterator;
 
-// The same map, entry by entry.
+// The entries of a map, in order.
+fn copy_entries<K: Ord + Copied + Drop, V: Copied + Drop>(
+    alloc: Global,
+    map: &BTreeMap<K, V>,
+) -> Result<Vec<(K, V)>, AllocError>
+    ensures entries { IfOk result (λ es. es.items ≡ map.now.entries) }
+    ensures ordered { OnOk result (IsOrdered K.cmp map.now) }
+{
+    let mut entries = Vec::new(alloc);
+    for (key, value) in map.iter() {
+        entries.push((key.copy(alloc)?, value.copy(alloc)?))?;
+    }
+    Ok(entries)
+}
+
+// The same map. Its entries are in order already, so none is looked up.
 fn copy_map<K: Ord + Copied + Drop, V: Copied + Drop>(
     alloc: Global,
     map: &BTreeMap<K, V>,
 ) -> Result<BTreeMap<K, V>, AllocError>
     ensures { IfOk result (λ m. (q : K) → get K.cmp m q ≡ get K.cmp map.now q) }
 {
-    let mut copy = BTreeMap::new(alloc);
-    for (key, value) in map.iter() {
-        add(&mut copy, key.copy(alloc)?, value.copy(alloc)?)?;
-    }
-    Ok(copy)
+    BTreeMap::from_iter(alloc, copy_entries(alloc, map)?)
 }
 
 impl Doc {

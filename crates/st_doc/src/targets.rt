@@ -7,7 +7,7 @@ ghost use Rattle.st_ids.specs.declared.names.NodeId.{NodeId as Node};
 ghost use Rattle.st_ids.specs.Order.{node_cmp, cell_cmp, same_node};
 ghost use Rattle.st_marks.specs.Intent.{put_of, new_row_of, is_new};
 ghost use Rattle.st_marks.specs.CarryOut.{spot_of};
-ghost use Rattle.st_doc.specs.Ahead.{in_new, inside_new};
+ghost use Rattle.st_doc.specs.Ahead.{AreTargets, in_new, inside_new};
 
 use crate::climb::node_of;
 use crate::maps::set;
@@ -63,8 +63,7 @@ pub fn targets(
     row_of: &BTreeMap<CellId, NodeId>,
     intent: &Intent,
 ) -> Result<BTreeMap<NodeId, Spot>, AllocError>
-    ensures { IfOk result (λ m. (n : Node) → get node_cmp m n
-        ≡ option_map (spot_of (λ c. option_or (get cell_cmp row_of.now c) (new_row_of intent.now c))) (put_of intent.now n)) }
+    ensures { IfOk result (AreTargets row_of.now intent.now) }
 {
     let made = made_rows(alloc, intent)?;
     let mut targets = BTreeMap::new(alloc);

@@ -5,7 +5,7 @@ ghost use Rattle.std.specs.Option.{option_map_or};
 ghost use Rattle.st_ids.specs.Listing.{Has};
 ghost use Rattle.st_ids.specs.Order.{same_rev};
 ghost use Rattle.st_marks.specs.declared.intents.Put.{Put as PutOf};
-ghost use Rattle.st_doc.specs.Ahead.{above_ahead, Reaches, IsLeastOf, least_with};
+ghost use Rattle.st_doc.specs.Ahead.{AreTargets, above_ahead, Reaches, IsLeastOf, least_with};
 
 use crate::climb::ancestors_ahead;
 use crate::doc::Doc;
@@ -136,16 +136,35 @@ impl Doc {
     }
 
     // The least node that an intent puts and that would then be above itself.
-    fn ring(&self, alloc: Global, intent: &Intent) -> Result<Option<NodeId>, AllocError>
+    fn ring(
+        &self,
+        alloc: Global,
+        intent: &Intent,
+        targets: &BTreeMap<NodeId, Spot>,
+    ) -> Result<Option<NodeId>, AllocError>
+        requires { AreTargets self.now.row_of intent.now targets.now }
         ensures { IfOk result (IsLeastOf (IsAboveItself (document_of self.now) intent.now)) }
     {
-        let targets = targets(alloc, &self.row_of, intent)?;
-        let least = least_ring(alloc, intent, &targets, &self.place)?;
+        let least = least_ring(alloc, intent, targets, &self.place)?;
         Ok(least)
     }
 
     /// The verdict of an intent: the schema, a need that isn't met, or a ring, in this order, with the least node.
     pub fn fails(&self, alloc: Global, intent: &Intent) -> Result<Verdict, AllocError>
+        ensures { IfOk result (IsVerdict (document_of self.now) intent.now) }
+    {
+        let targets = targets(alloc, &self.row_of, intent)?;
+        self.fails_at(alloc, intent, &targets)
+    }
+
+    // The verdict of an intent, by where its puts lead.
+    pub(crate) fn fails_at(
+        &self,
+        alloc: Global,
+        intent: &Intent,
+        targets: &BTreeMap<NodeId, Spot>,
+    ) -> Result<Verdict, AllocError>
+        requires { AreTargets self.now.row_of intent.now targets.now }
         ensures { IfOk result (IsVerdict (document_of self.now) intent.now) }
     {
         if !self.has_base(intent) {
@@ -154,7 +173,7 @@ impl Doc {
         if let Some(node) = self.unmet_need(alloc, intent)? {
             return Ok(Verdict::Need(node));
         }
-        match self.ring(alloc, intent)? {
+        match self.ring(alloc, intent, targets)? {
             Some(node) => Ok(Verdict::Cycle(node)),
             None => Ok(Verdict::Sound),
         }

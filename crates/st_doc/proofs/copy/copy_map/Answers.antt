@@ -1,8 +1,11 @@
+use Rattle.std.proofs.Common.{◌≡◌, ◌∙◌}
 use Rattle.std.specs.BTreeMap.{get}
-use Rattle.st_doc.proofs.Copying.{copied_more}
+use Rattle.std.proofs.lemmas.Iterator.Adapters.{YieldsList-from_vec}
+use Rattle.st_doc.proofs.Look.{map_from, made_of}
 use Rattle.st_doc.proofs.copy.copy_map.Goals as goal
 
-pub loop-key-preserved : goal.loop-key-preserved
-loop-key-preserved g c = λ q. copied_more g.K.Ord.cmp g.met.K.Ord.total (get g.K.Ord.cmp c.loop-key.copy q) (get g.K.Ord.cmp c.add.new.map q) (get g.K.Ord.cmp c.args.map.now q)
-    c.in-Some.key.now c.in_ok-copy.field-0 q c.in-Some.value.now c.in_ok-copy-2.field-0 c.next.new.self c.loop-key.key-iterator
-    c.in-Some.ensures.steps c.in_ok-copy.ensures c.in_ok-copy-2.ensures (c.in_ok-add.ensures q) (c.loop-key.invariant q)
+pub returns : goal.returns
+returns g c =
+    let entries = c.in_ok-copy_entries.field-0 in
+    made_of _ _ _ c.from_iter.result entries.items (λ v. (q : _) → get g.K.Ord.cmp v q ≡ get g.K.Ord.cmp c.args.map.now q) (λ x a. YieldsList-from_vec entries.items a.0 (a.1 ∙ entries.ok.0))
+    (λ v made q. map_from g.met.K.Ord.total c.args.map.now v entries.items c.in_ok-copy_entries.ensures.ordered c.in_ok-copy_entries.ensures.entries made.0 q) c.from_iter.ensures.ran

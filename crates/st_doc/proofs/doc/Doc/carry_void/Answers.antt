@@ -29,7 +29,7 @@ returns c =
     c.in_ok-add_rows.ensures
     (λ n. ap (λ o. unwrap_or o Spot.Nowhere) (c.in_ok-put_all.ensures n)
     ∙ ap (λ o. unwrap_or (option_or o (get node_cmp place n)) Spot.Nowhere)
-    (c.in_ok-inside.ensures n ∙ ap (λ t. cond (is_new N n) (inside_new N t) None) (c.in_ok-targets.ensures n))
+    (c.in_ok-inside.ensures n ∙ ap (λ t. cond (is_new N n) (inside_new N t) None) (c.requires.targets n))
     ∙ placed_void D N n (get node_cmp place n))
     c.in_ok-fill_all_new.ensures
     refl

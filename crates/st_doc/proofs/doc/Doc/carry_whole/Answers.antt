@@ -26,7 +26,7 @@ returns c =
     c.in_ok-add_rows.ensures
     (λ n. ap (λ o. unwrap_or o Spot.Nowhere) (c.in_ok-put_all.ensures n)
     ∙ ap (λ o. unwrap_or (option_or o (get node_cmp place n)) Spot.Nowhere)
-    (c.in_ok-evict_all.ensures D.place c.requires.sound.one_held n ∙ ap (λ o. option_or o (evicted N.clear (D.place n))) (c.in_ok-targets.ensures n))
+    (c.in_ok-evict_all.ensures D.place c.requires.sound.one_held n ∙ ap (λ o. option_or o (evicted N.clear (D.place n))) (c.requires.targets n))
     ∙ placed_whole (with_names D N).row_of N (put_of N n) (get node_cmp place n))
     (λ f. c.in_ok-fill_all.ensures f ∙ ap (option_or (put_in N f)) (c.clear_all.ensures f ∙ ap (cond (clears N f) None) (c.leave_all.ensures f)))
     c.in_ok-add_schema.ensures

@@ -13,10 +13,10 @@ pub returns : goal.returns
 returns c =
     let D = document_of c.args.self.now in
     let N = c.args.intent.now in
-    let targets = c.in_ok-targets.targets in
+    let targets = c.args.targets.now in
     let place = c.args.self.now.place in
     let up = above_ahead N targets place in
-    let ups : up ≡ above (full D N) = λ i n. above_is D N targets place n (c.in_ok-targets.ensures n) refl i in
+    let ups : up ≡ above (full D N) = λ i n. above_is D N targets place n (c.requires n) refl i in
     least_from (λ n. Has (map (λ (p : Put). p.node) N.put) n × Reaches up n n) (IsAboveItself D N) c.in_ok-least.least
     (λ n h. ((put_among N n).0 h.0, subst (λ u. Reaches u n n) ups h.1))
     (λ n h. ((put_among N n).1 h.0, subst (λ u. Reaches u n n) (sym ups) h.1))
