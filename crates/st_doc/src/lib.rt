@@ -24,3 +24,4 @@ mod verdict;
 
 pub use doc::Doc;
 pub use laws::start_is_sound;
+pub use start::rows_of;

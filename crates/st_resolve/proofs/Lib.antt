@@ -4,3 +4,4 @@ pub mod One
 pub mod Numbered
 pub mod NewFits
 pub mod Resolved
+pub mod RowGroups
