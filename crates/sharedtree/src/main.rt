@@ -1,18 +1,8 @@
 //! Clients that edit one typed document at once, from lines of JSON to lines of JSON.
 #![tactic(auto)]
 
-mod lines;
-mod outcome;
-mod run;
-mod send;
-mod take;
-#[cfg(test)]
-mod tests;
-mod trace;
-
-use crate::outcome::Outcome;
-use crate::run::run;
 use st_io::{StdSink, StdSource};
+use st_run::{Outcome, run};
 use std::io::{Error, ErrorKind};
 use std::process::ExitCode;
 use std::{env, io};
@@ -27,7 +17,7 @@ fn words(rt: &HostRuntime) -> Result<Vec<String>, Error> {
             }
         }
         Err(error) => {
-            if error.kind() == ErrorKind::OutOfMemory {
+            if error.kind() != ErrorKind::InvalidData {
                 return Err(error);
             }
         }

@@ -17,7 +17,7 @@ use Rattle.st_marks.proofs.Climb.{same_spot, unknown_nowhere}
 use Rattle.st_marks.proofs.Lookups.{put-has, has-put_in}
 use Rattle.st_marks.proofs.Members.{true-false}
 use Rattle.st_marks.proofs.Retreat.{retreat_sound}
-use Rattle.st_resolve.specs.Resolve.{is_row}
+use Rattle.st_edits.specs.Resolve.{is_row}
 use Rattle.st_conform.specs.Conforming.{MayStand, IsConforming, IsFree, row_key, is_required_field}
 use Rattle.st_conform.specs.Agreeing.{Agrees, MayGo, MayBeLeft}
 use Rattle.st_conform.proofs.Kept.{required_later, known_later, free_later, admits_later, stands_later, named_later, required_rule}

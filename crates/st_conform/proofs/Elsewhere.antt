@@ -12,7 +12,7 @@ use Rattle.st_marks.specs.declared.intents.To.{To}
 use Rattle.st_marks.specs.Document.{Document, NodeType}
 use Rattle.st_marks.specs.Intent.{new_type, is_new, new_row_of}
 use Rattle.st_marks.specs.CarryOut.{with_names}
-use Rattle.st_resolve.specs.Resolve.{is_row, rule_at}
+use Rattle.st_edits.specs.Resolve.{is_row, rule_at}
 use Rattle.st_conform.specs.Conforming.{row_key}
 use Rattle.st_conform.specs.Agreeing.{Agrees, MayGo, MayBeLeft}
 use Rattle.st_conform.proofs.Kept.{HasNodes, admits_later, required_later, known_later}

@@ -12,7 +12,7 @@ use Rattle.st_marks.specs.Document.{Document, IsSoundInForm, owned}
 use Rattle.st_marks.specs.Intent.{is_new, put_of}
 use Rattle.st_marks.specs.CarryOut.{with_names}
 use Rattle.st_marks.proofs.Members.{true-false}
-use Rattle.st_resolve.specs.Resolve.{is_row}
+use Rattle.st_edits.specs.Resolve.{is_row}
 use Rattle.st_conform.specs.Conforming.{Admits, MayStand, IsConforming, row_key}
 use Rattle.st_conform.specs.Agreeing.{Agrees, MayGo, TellsHomes, with_homes}
 

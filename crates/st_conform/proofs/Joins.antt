@@ -20,8 +20,8 @@ use Rattle.st_marks.proofs.Joined.{joined_in_turn}
 use Rattle.st_marks.proofs.Lookups.{put-has, has-put, put_in-has, has-put_in}
 use Rattle.st_marks.proofs.Members.{true-false}
 use Rattle.st_marks.proofs.NewRows.{known_after}
-use Rattle.st_resolve.specs.Paths.{field_at}
-use Rattle.st_resolve.specs.Resolve.{is_row, rule_at}
+use Rattle.st_edits.specs.Paths.{field_at}
+use Rattle.st_edits.specs.Resolve.{is_row, rule_at}
 use Rattle.st_conform.specs.Conforming.{Admits, IsConforming, row_key, type_fits, is_required_field}
 use Rattle.st_conform.specs.Agreeing.{Agrees, MayGo, MayBeLeft}
 use Rattle.st_conform.proofs.Kept.{HasNodes, required_later, known_later, admits_later, named_later, required_by}

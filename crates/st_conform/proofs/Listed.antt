@@ -27,8 +27,8 @@ use Rattle.st_schema.specs.declared.names.KindName.{KindName}
 use Rattle.st_schema.specs.declared.names.KindName.TheVariants.{Optional, Sequence}
 use Rattle.st_marks.proofs.Lookups.{both_true}
 use Rattle.st_marks.proofs.Members.{true-false, first-has, has-append, append_left, append_right}
-use Rattle.st_resolve.specs.Paths.{field_at}
-use Rattle.st_resolve.specs.Resolve.{is_row}
+use Rattle.st_edits.specs.Paths.{field_at}
+use Rattle.st_edits.specs.Resolve.{is_row}
 use Rattle.st_conform.specs.Conforming.{type_fits, row_key}
 use Rattle.st_conform.proofs.Rules.{text_same, all_pass, declared_single, leaf_undefined}
 

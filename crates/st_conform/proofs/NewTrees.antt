@@ -32,15 +32,16 @@ use Rattle.st_marks.specs.Intent.{Fits, register_of, new_node, new_type, is_new,
 use Rattle.st_marks.specs.CarryOut.{with_names}
 use Rattle.st_marks.proofs.Lookups.{both_true, put-has, has-put, has-put_in, clears-has, new_row_of-group}
 use Rattle.st_marks.proofs.Members.{true-false, first-has, first-distinct, has-map, map-has, has-filter_map}
-use Rattle.st_resolve.specs.New.{new_nodes, puts, to_at, top_to, registers, register_at, top_cell, row_cell, owned_by, top_cells, cells_under, group_of, group_under, groups_under, names_taken}
-use Rattle.st_resolve.specs.Paths.{and_then, field_at, left_of, row_length}
-use Rattle.st_resolve.specs.Resolve.{ask, walk, rule_for, rule_at, is_row, has_type, trees_allowed, names_left, named, allowed, with_group, inserted, placed, insert, put}
-use Rattle.st_resolve.specs.declared.rules.Given.{Given}
-use Rattle.st_resolve.specs.declared.rules.Takes.TheVariants as field
-use Rattle.st_resolve.proofs.Fits.{passed, ruled}
-use Rattle.st_resolve.proofs.MoveFits.{CellsFresh}
-use Rattle.st_resolve.proofs.NewFits.{NodesFresh, insert_fits, put_fits}
-use Rattle.st_resolve.proofs.Numbered.{filter-from, IsArray, IsUnderArray, tops_rows}
+use Rattle.st_edits.specs.New.{new_nodes, puts, to_at, top_to, top_cell, row_cell, owned_by, top_cells, cells_under, group_of, group_under, groups_under, names_taken}
+use Rattle.st_opening.specs.Start.{registers, register_at}
+use Rattle.st_edits.specs.Paths.{and_then, field_at, left_of, row_length}
+use Rattle.st_edits.specs.Resolve.{ask, walk, rule_for, rule_at, is_row, has_type, trees_allowed, names_left, named, allowed, with_group, inserted, placed, insert, put}
+use Rattle.st_edits.specs.declared.names.Given.{Given}
+use Rattle.st_edits.specs.declared.names.Takes.TheVariants as field
+use Rattle.st_edits.proofs.Fits.{passed, ruled}
+use Rattle.st_edits.proofs.MoveFits.{CellsFresh}
+use Rattle.st_edits.proofs.NewFits.{NodesFresh, insert_fits, put_fits}
+use Rattle.st_edits.proofs.Numbered.{filter-from, IsArray, IsUnderArray, tops_rows}
 use Rattle.st_conform.specs.Conforming.{row_key, type_fits}
 use Rattle.st_conform.specs.Agreeing.{Agrees, MayGo, MayBeLeft, TellsHomes}
 use Rattle.st_conform.proofs.Kept.{rule_later, named_later}

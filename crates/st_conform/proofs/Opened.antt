@@ -21,9 +21,9 @@ use Rattle.st_schema.specs.declared.names.KindName.{KindName}
 use Rattle.st_marks.specs.declared.places.Spot.{Spot}
 use Rattle.st_marks.specs.Document.{Document, NodeType, root, opening}
 use Rattle.st_marks.proofs.Members.{true-false}
-use Rattle.st_doc.specs.Start.{first_said, type_at, spot_at, place_at, held_at, start_of}
-use Rattle.st_resolve.specs.Paths.{field_at}
-use Rattle.st_resolve.specs.Resolve.{is_row, rule_at, has_type}
+use Rattle.st_opening.specs.Start.{first_said, type_at, spot_at, place_at, held_at, start_of}
+use Rattle.st_edits.specs.Paths.{field_at}
+use Rattle.st_edits.specs.Resolve.{is_row, rule_at, has_type}
 use Rattle.st_conform.specs.Conforming.{MayStand, IsConforming, row_key, type_fits, register_in}
 use Rattle.st_conform.proofs.Rules.{required_not_row}
 use Rattle.st_conform.proofs.NewTrees.{all_ok, no_home, one_home}

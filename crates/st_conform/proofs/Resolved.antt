@@ -11,10 +11,10 @@ use Rattle.st_marks.specs.declared.verdicts.Verdict.{Verdict}
 use Rattle.st_marks.specs.Document.{Document, IsSoundInForm}
 use Rattle.st_marks.specs.Intent.{Fits}
 use Rattle.st_marks.specs.Verdict.{carried}
-use Rattle.st_resolve.specs.Resolve.{resolve}
-use Rattle.st_resolve.specs.declared.rules.Given.{Given}
-use Rattle.st_resolve.proofs.MoveFits.{CellsFresh}
-use Rattle.st_resolve.proofs.NewFits.{NodesFresh}
+use Rattle.st_edits.specs.Resolve.{resolve}
+use Rattle.st_edits.specs.declared.names.Given.{Given}
+use Rattle.st_edits.proofs.MoveFits.{CellsFresh}
+use Rattle.st_edits.proofs.NewFits.{NodesFresh}
 use Rattle.st_conform.specs.Conforming.{IsConforming}
 use Rattle.st_conform.specs.Agreeing.{Agrees, TellsHomes}
 use Rattle.st_conform.proofs.Kept.{HasNodes, carried_conforms}

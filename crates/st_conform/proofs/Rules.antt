@@ -19,7 +19,7 @@ use Rattle.st_schema.specs.declared.names.KindName.{KindName}
 use Rattle.st_schema.specs.declared.names.KindName.TheVariants.{Required, Optional, Sequence}
 use Rattle.st_marks.proofs.Lookups.{both_true}
 use Rattle.st_marks.proofs.Members.{true-false, has-all, first-has, first-distinct}
-use Rattle.st_resolve.specs.Resolve.{is_row, is_optional}
+use Rattle.st_edits.specs.Resolve.{is_row, is_optional}
 
 pub text_same : (xs ys : List ℕ) → same xs ys ≡ true → xs ≡ ys
 text_same xs ys h = same_text xs ys (sym h)

@@ -33,10 +33,10 @@ use Rattle.st_marks.specs.Document.{Document, NodeType, IsSoundInForm, root, slo
 use Rattle.st_marks.specs.LiveTree.{Shows, shows_leaf, shows_row, shows_registers, ShowsItems, no_more_items, next_item, ShowsMembers, no_more_members, next_member, leaf_data, one_member, owners_shown, key_at, register}
 use Rattle.st_marks.proofs.Lookups.{both_true}
 use Rattle.st_marks.proofs.Members.{has-map}
-use Rattle.st_resolve.specs.Resolve.{is_row, rule_at, has_type}
+use Rattle.st_edits.specs.Resolve.{is_row, rule_at, has_type}
 use Rattle.st_ids.proofs.Orders.{same_cell-true}
 use Rattle.st_conform.specs.Conforming.{Admits, MayStand, IsConforming, row_key}
-use Rattle.st_resolve.specs.ArrayTypes.{is_array_form, is_array_type}
+use Rattle.st_edits.specs.ArrayTypes.{is_array_form, is_array_type}
 use Rattle.st_conform.proofs.Rules.{rising_defs}
 
 abbrev bytes_cmp : List ℕ → List ℕ → Ordering

@@ -27,14 +27,14 @@ use Rattle.st_marks.specs.Intent.{Fits, IsIntent, new_type, is_new, put_of, new_
 use Rattle.st_marks.specs.CarryOut.{with_names}
 use Rattle.st_marks.proofs.Lookups.{put-has, clears-has, new_row_of-group}
 use Rattle.st_marks.proofs.Members.{true-false, has-map}
-use Rattle.st_doc.specs.Shown.{live_slots}
-use Rattle.st_resolve.specs.Paths.{and_then, there, field_at, items_from, left_of, row_length}
-use Rattle.st_resolve.specs.New.{group_of}
-use Rattle.st_resolve.specs.Resolve.{need, remove, removed, clear, move, moved, moved_to_field, in_cells, cells_for, nothing_yet, walk, rule_for, rule_at, within_row, of_kind, is_optional, is_open, is_row, taken, is_inside, is_there, may_move, nodes_allowed, none_refused, names_left, cells_taken, has_type, with_group, ask}
-use Rattle.st_resolve.specs.declared.rules.Given.{Given}
-use Rattle.st_resolve.specs.declared.rules.Takes.TheVariants as field
-use Rattle.st_resolve.proofs.Fits.{passed, found, shown, ruled}
-use Rattle.st_resolve.proofs.MoveFits.{CellsFresh, move_fits}
+use Rattle.st_marks.specs.LiveTree.{live_slots}
+use Rattle.st_edits.specs.Paths.{and_then, there, field_at, items_from, left_of, row_length}
+use Rattle.st_edits.specs.New.{group_of}
+use Rattle.st_edits.specs.Resolve.{need, remove, removed, clear, move, moved, moved_to_field, in_cells, cells_for, nothing_yet, walk, rule_for, rule_at, within_row, of_kind, is_optional, is_open, is_row, taken, is_inside, is_there, may_move, nodes_allowed, none_refused, names_left, cells_taken, has_type, with_group, ask}
+use Rattle.st_edits.specs.declared.names.Given.{Given}
+use Rattle.st_edits.specs.declared.names.Takes.TheVariants as field
+use Rattle.st_edits.proofs.Fits.{passed, found, shown, ruled}
+use Rattle.st_edits.proofs.MoveFits.{CellsFresh, move_fits}
 use Rattle.st_conform.specs.Conforming.{Admits, MayStand, IsConforming, IsFree, row_key}
 use Rattle.st_conform.specs.Agreeing.{Agrees, MayGo, MayBeLeft}
 use Rattle.st_conform.proofs.Kept.{rule_later, type_later, free_later, named_later, one_rule}

@@ -24,7 +24,7 @@ use Rattle.st_marks.specs.Intent.{new_type}
 use Rattle.st_marks.specs.CarryOut.{with_names}
 use Rattle.st_marks.proofs.Lookups.{both_true}
 use Rattle.st_marks.proofs.Members.{true-false, first-has}
-use Rattle.st_resolve.specs.Resolve.{is_row, rule_at, has_type}
+use Rattle.st_edits.specs.Resolve.{is_row, rule_at, has_type}
 use Rattle.st_conform.specs.Conforming.{Admits, MayStand, IsConforming, IsFree, row_key, type_fits, is_required_field}
 use Rattle.st_conform.specs.Agreeing.{Agrees, MayGo, MayBeLeft}
 use Rattle.st_conform.proofs.Kept.{one_rule, required_by, required_rule}

@@ -14,8 +14,8 @@ use Rattle.st_marks.specs.Intent.{new_type, is_new, put_of, put_in, clears, regi
 use Rattle.st_marks.specs.CarryOut.{with_names}
 use Rattle.st_marks.specs.Run.{Run, done, next}
 use Rattle.st_marks.specs.Verdict.{IsVerdict, carried}
-use Rattle.st_resolve.specs.Paths.{field_at}
-use Rattle.st_resolve.specs.Resolve.{is_row, rule_at}
+use Rattle.st_edits.specs.Paths.{field_at}
+use Rattle.st_edits.specs.Resolve.{is_row, rule_at}
 use Rattle.st_conform.specs.Conforming.{Admits, row_key, type_fits, is_required_field}
 
 -- the field into which a node is put admits it, where the intent's new names are there; a cell is in the row of some node

@@ -11,8 +11,8 @@ use Rattle.st_schema.specs.declared.names.FieldRule.{FieldRule}
 use Rattle.st_schema.specs.declared.names.KindName.{KindName}
 use Rattle.st_marks.specs.declared.places.Spot.{Spot}
 use Rattle.st_marks.specs.Document.{Document, NodeType, root}
-use Rattle.st_resolve.specs.Paths.{field_at}
-use Rattle.st_resolve.specs.Resolve.{is_row, rule_at, has_type}
+use Rattle.st_edits.specs.Paths.{field_at}
+use Rattle.st_edits.specs.Resolve.{is_row, rule_at, has_type}
 
 -- a leaf has the type of its value, and any other node a type that the schema defines
 abbrev pub type_fits : SchemaView → List ℕ → Option Leaf → Bool

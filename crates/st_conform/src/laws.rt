@@ -28,12 +28,12 @@ ghost use Rattle.st_marks.specs.Run.{Run, FitsInTurn};
 ghost use Rattle.st_marks.specs.Verdict.{carried};
 ghost use Rattle.st_commits.specs.Names.{HasNames, IsMadeUnder, revisions};
 ghost use Rattle.st_commits.specs.Turns.{FitInTurn, IsSublist};
-ghost use Rattle.st_doc.specs.Start.{start_of};
-ghost use Rattle.st_resolve.specs.declared.rules.Given.{Given};
-ghost use Rattle.st_resolve.specs.Resolve.{clear, insert, move as move_of, need, put, remove, resolve};
+ghost use Rattle.st_opening.specs.Start.{start_of};
+ghost use Rattle.st_edits.specs.declared.names.Given.{Given};
+ghost use Rattle.st_edits.specs.Resolve.{clear, insert, move as move_of, need, put, remove, resolve};
 ghost use Rattle.st_conform.specs.Conforming.{IsConforming, register_in};
 ghost use Rattle.st_conform.specs.Agreeing.{Agrees, AgreesInTurn, AgreeInTurn, TellsHomes, with_homes};
-ghost use Rattle.st_resolve.specs.ArrayTypes.{is_array_type};
+ghost use Rattle.st_edits.specs.ArrayTypes.{is_array_type};
 
 /// An intent that fits a conforming document and agrees with the schema there leaves a conforming document, whatever its
 /// verdict is: carried out whole, or void.

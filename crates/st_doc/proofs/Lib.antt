@@ -11,7 +11,6 @@ pub mod Growing
 pub mod Placing
 pub mod Showing
 pub mod Starting
-pub mod StartSound
 pub mod Verdicts
 pub mod OneDocument
 pub mod Queries

@@ -8,7 +8,7 @@ use Rattle.st_ids.specs.declared.names.NodeId.{NodeId}
 use Rattle.st_marks.specs.declared.changes.NewNode.{NewNode}
 use Rattle.st_tree.specs.declared.flat.FlatNode.{FlatNode}
 use Rattle.st_doc.specs.Nodes.{type_of}
-use Rattle.st_doc.specs.Start.{first_said, type_at}
+use Rattle.st_opening.specs.Start.{first_said, type_at}
 use Rattle.st_doc.proofs.Look.{take_one}
 
 option_or-None : {A : Type 0} (o : Option A) → option_or o None ≡ o

@@ -5,6 +5,4 @@ pub mod Fitting
 pub mod Growing
 pub mod LiveText
 pub mod Nodes
-pub mod Shown
-pub mod Start
 pub mod TopDown

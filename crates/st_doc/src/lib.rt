@@ -7,7 +7,6 @@ mod copy;
 mod doc;
 mod evictions;
 mod fits;
-mod laws;
 mod live;
 mod live_text;
 mod maps;
@@ -23,5 +22,4 @@ mod targets;
 mod verdict;
 
 pub use doc::Doc;
-pub use laws::start_is_sound;
 pub use start::rows_of;

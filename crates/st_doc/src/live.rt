@@ -25,7 +25,7 @@ pub fn is_full(place: &BTreeMap<NodeId, Spot>, owned: &Owned) -> bool
 
 impl Doc {
     ghost use Rattle.st_doc.specs.Doc.{document_of};
-    ghost use Rattle.st_doc.specs.Shown.{live_slots};
+    ghost use Rattle.st_marks.specs.LiveTree.{live_slots};
 
     /// The full cells of a node's row, in order, each with its node: what the row shows, so the i-th is the item of
     /// index i.

@@ -20,7 +20,7 @@ fn last_rev(entries: &[SchemaEntry]) -> Option<Rev>
 
 impl Doc {
     ghost use Rattle.st_doc.specs.Doc.{document_of};
-    ghost use Rattle.st_doc.specs.Shown.{live_slots};
+    ghost use Rattle.st_marks.specs.LiveTree.{live_slots};
 
     /// The type of a node, if it is there.
     pub fn type_of(&self, node: NodeId) -> Option<&Text>

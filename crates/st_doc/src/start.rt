@@ -14,7 +14,7 @@ ghost use Rattle.st_tree.specs.Preorder.{opening_listed};
 ghost use Rattle.st_tree.specs.Size.{check_of};
 ghost use Rattle.st_doc.specs.Doc.{document_of};
 ghost use Rattle.st_doc.specs.Nodes.{type_of};
-ghost use Rattle.st_doc.specs.Start.{first_said, type_at, spot_at, place_at, row_at, cell_at, held_at, start_of};
+ghost use Rattle.st_opening.specs.Start.{first_said, type_at, spot_at, place_at, row_at, cell_at, held_at, start_of};
 
 use crate::doc::Doc;
 use crate::maps::{add, push_at};

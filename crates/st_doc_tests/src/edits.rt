@@ -1,9 +1,10 @@
 //! Each edit, and its refusals.
 use crate::given::{Case, Places, commit, edit, opened, schema};
 use st_doc::Doc;
+use st_edits::Given;
 use st_ids::{Limit, LimitOf, Or, Rev};
 use st_marks::Intent;
-use st_resolve::{Given, resolve};
+use st_resolve::resolve;
 use st_tree::EditFault;
 use std::alloc::Global;
 use std::test::Fail;

@@ -4,13 +4,14 @@ ghost use Rattle.st_tree.specs.Node.{trees_view};
 ghost use Rattle.st_tree.specs.Size.{check_items};
 ghost use Rattle.st_marks.specs.Document.{IsSoundInForm};
 ghost use Rattle.st_doc.specs.Doc.{document_of};
-ghost use Rattle.st_resolve.specs.Resolve.{IsWithin};
+ghost use Rattle.st_edits.specs.Resolve.{IsWithin};
 
 use st_doc::Doc;
+use st_edits::Given;
 use st_ids::{Key, List, Path, Place, Rev, Text};
 use st_json::read_line;
 use st_marks::{Intent, Verdict};
-use st_resolve::{Given, resolve};
+use st_resolve::resolve;
 use st_schema::{Schema, read_tree};
 use st_tree::{Edit, Tree, check, check_trees};
 use std::alloc::{AllocError, Global};

@@ -19,9 +19,9 @@ use Rattle.st_marks.specs.declared.places.Spot.{Spot}
 use Rattle.st_marks.specs.Document.{Document, IsSoundInForm, above, content}
 use Rattle.st_marks.specs.LiveTree.{Shows, shows_leaf, shows_row, shows_registers, ShowsItems, no_more_items, next_item, ShowsMembers, no_more_members, next_member, owners_shown, register, key_at, leaf_data, one_member}
 use Rattle.st_marks.proofs.Members.{true-false, all-has}
-use Rattle.st_doc.specs.Shown.{live_slots}
-use Rattle.st_resolve.specs.Paths.{child, field_at, there, walk_from}
-use Rattle.st_resolve.proofs.Fits.{passed, found, gotten, items_once}
+use Rattle.st_marks.specs.LiveTree.{live_slots}
+use Rattle.st_edits.specs.Paths.{child, field_at, there, walk_from}
+use Rattle.st_edits.proofs.Fits.{passed, found, gotten, items_once}
 use Rattle.st_edited.specs.Alike.{IsFrom, AreAlikeAt}
 use Rattle.st_edited.specs.Edited.{in_node, in_row, in_fields, listed, at_index, at_key, at_place, at_path, same_key}
 use Rattle.st_edited.proofs.Beneath.{in_row as stands_in_row, row_above, held_above, from_child, not_beneath, one_child}

@@ -14,8 +14,8 @@ use Rattle.st_marks.specs.CarryOut.{with_groups}
 use Rattle.st_marks.specs.LiveTree.{owners_shown}
 use Rattle.st_marks.proofs.Lookups.{group_at-group, group_found}
 use Rattle.st_marks.proofs.Members.{all-has}
-use Rattle.st_doc.specs.Shown.{live_slots}
-use Rattle.st_resolve.specs.Paths.{left_of, row_length}
+use Rattle.st_marks.specs.LiveTree.{live_slots}
+use Rattle.st_edits.specs.Paths.{left_of, row_length}
 use Rattle.st_edited.proofs.Rows.{owners_filtered, no_members, all_full, owners_joined}
 
 kept_first : (b : Bool) (x : NodeId) (xs ys zs : List NodeId) → xs ≡ ys ++ zs → cond (cond b true false) (x ∷ []) [] ++ xs ≡ cond b (x ∷ ys) ys ++ zs

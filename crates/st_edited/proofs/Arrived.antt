@@ -25,10 +25,10 @@ use Rattle.st_marks.proofs.Full.{unput_above}
 use Rattle.st_marks.proofs.Lookups.{group_at-group, has-put, put-has, new_row_of-group}
 use Rattle.st_marks.proofs.Members.{true-false, has-map, map-has}
 use Rattle.st_marks.proofs.NewRows.{made_cell, row_cells}
-use Rattle.st_resolve.specs.New.{group_of}
-use Rattle.st_resolve.specs.Paths.{left_of, row_length}
-use Rattle.st_resolve.specs.Resolve.{cells_for, moved_to_field, moved_to_row}
-use Rattle.st_resolve.specs.declared.rules.Given.{Given}
+use Rattle.st_edits.specs.New.{group_of}
+use Rattle.st_edits.specs.Paths.{left_of, row_length}
+use Rattle.st_edits.specs.Resolve.{cells_for, moved_to_field, moved_to_row}
+use Rattle.st_edits.specs.declared.names.Given.{Given}
 use Rattle.st_edited.specs.Alike.{IsFrom}
 use Rattle.st_edited.proofs.Anchored.{row_with}
 use Rattle.st_edited.proofs.Named.{group_is, with_first, with_has}

@@ -20,11 +20,11 @@ use Rattle.st_marks.specs.CarryOut.{full, unless_cleared, unless_put}
 use Rattle.st_marks.specs.Verdict.{IsVerdict}
 use Rattle.st_marks.specs.LiveTree.{Shows, owners_shown, register}
 use Rattle.st_marks.proofs.Members.{true-false}
-use Rattle.st_resolve.specs.Paths.{field_at}
-use Rattle.st_resolve.specs.Resolve.{clear, need, nothing_yet, rule_for, walk, is_optional, is_row}
-use Rattle.st_resolve.specs.declared.rules.Given.{Given}
-use Rattle.st_resolve.specs.declared.rules.Takes.TheVariants as field
-use Rattle.st_resolve.proofs.Fits.{passed}
+use Rattle.st_edits.specs.Paths.{field_at}
+use Rattle.st_edits.specs.Resolve.{clear, need, nothing_yet, rule_for, walk, is_optional, is_row}
+use Rattle.st_edits.specs.declared.names.Given.{Given}
+use Rattle.st_edits.specs.declared.names.Takes.TheVariants as field
+use Rattle.st_edits.proofs.Fits.{passed}
 use Rattle.st_edited.specs.Alike.{AreAlikeAt}
 use Rattle.st_edited.specs.Edited.{TellsRows, at_path, same_key, without_key}
 use Rattle.st_edited.proofs.Alike.{same_below}

@@ -10,10 +10,10 @@ use Rattle.st_marks.specs.Document.{Document, IsSoundInForm, root}
 use Rattle.st_marks.specs.CarryOut.{full}
 use Rattle.st_marks.specs.Verdict.{IsVerdict}
 use Rattle.st_marks.specs.LiveTree.{Shows}
-use Rattle.st_resolve.specs.Resolve.{resolve}
-use Rattle.st_resolve.specs.declared.rules.Given.{Given}
-use Rattle.st_resolve.proofs.MoveFits.{CellsFresh}
-use Rattle.st_resolve.proofs.NewFits.{NodesFresh}
+use Rattle.st_edits.specs.Resolve.{resolve}
+use Rattle.st_edits.specs.declared.names.Given.{Given}
+use Rattle.st_edits.proofs.MoveFits.{CellsFresh}
+use Rattle.st_edits.proofs.NewFits.{NodesFresh}
 use Rattle.st_edited.specs.Edited.{TellsRows}
 use Rattle.st_edited.specs.Edits.{edited}
 use Rattle.st_edited.specs.Typed.{IsAsTyped}

@@ -29,15 +29,16 @@ use Rattle.st_marks.specs.Verdict.{IsVerdict}
 use Rattle.st_marks.specs.LiveTree.{Shows, register}
 use Rattle.st_marks.proofs.Lookups.{clears-has}
 use Rattle.st_marks.proofs.Members.{true-false, has-filter_map}
-use Rattle.st_resolve.specs.New.{groups_under, group_under, registers, to_at}
-use Rattle.st_resolve.specs.Paths.{field_at}
-use Rattle.st_resolve.specs.Resolve.{allowed, named, placed, put, rule_for, walk, is_row}
-use Rattle.st_resolve.specs.declared.rules.Given.{Given}
-use Rattle.st_resolve.specs.declared.rules.Takes.TheVariants as field
-use Rattle.st_resolve.proofs.Fits.{passed}
-use Rattle.st_resolve.proofs.MoveFits.{CellsFresh}
-use Rattle.st_resolve.proofs.NewFits.{put_fits, NodesFresh}
-use Rattle.st_resolve.proofs.Numbered.{filter-from, Counted, tops_counted, tops_rows}
+use Rattle.st_edits.specs.New.{groups_under, group_under, to_at}
+use Rattle.st_opening.specs.Start.{registers}
+use Rattle.st_edits.specs.Paths.{field_at}
+use Rattle.st_edits.specs.Resolve.{allowed, named, placed, put, rule_for, walk, is_row}
+use Rattle.st_edits.specs.declared.names.Given.{Given}
+use Rattle.st_edits.specs.declared.names.Takes.TheVariants as field
+use Rattle.st_edits.proofs.Fits.{passed}
+use Rattle.st_edits.proofs.MoveFits.{CellsFresh}
+use Rattle.st_edits.proofs.NewFits.{put_fits, NodesFresh}
+use Rattle.st_edits.proofs.Numbered.{filter-from, Counted, tops_counted, tops_rows}
 use Rattle.st_edited.specs.Alike.{AreAlikeAt}
 use Rattle.st_edited.specs.Edited.{TellsRows, at_path, same_key, with_key}
 use Rattle.st_edited.proofs.Along.{as_list, along, same_key-true, same_key-itself}

@@ -31,15 +31,16 @@ use Rattle.st_marks.specs.Verdict.{IsVerdict}
 use Rattle.st_marks.specs.LiveTree.{Shows, owners_shown}
 use Rattle.st_marks.proofs.Members.{has-filter_map}
 use Rattle.st_marks.proofs.NewRows.{made_cell, row_cells}
-use Rattle.st_resolve.specs.New.{group_of, group_under, groups_under, registers, to_at, top_cells}
-use Rattle.st_resolve.specs.Paths.{left_of, row_length}
-use Rattle.st_resolve.specs.Resolve.{allowed, ask, insert, inserted, named, rule_for, walk, with_group}
-use Rattle.st_resolve.specs.declared.rules.Given.{Given}
-use Rattle.st_resolve.specs.declared.rules.Takes.TheVariants as field
-use Rattle.st_resolve.proofs.Fits.{passed}
-use Rattle.st_resolve.proofs.MoveFits.{CellsFresh}
-use Rattle.st_resolve.proofs.NewFits.{insert_fits, NodesFresh}
-use Rattle.st_resolve.proofs.Numbered.{filter-from, tops_counted, tops_rows}
+use Rattle.st_edits.specs.New.{group_of, group_under, groups_under, to_at, top_cells}
+use Rattle.st_opening.specs.Start.{registers}
+use Rattle.st_edits.specs.Paths.{left_of, row_length}
+use Rattle.st_edits.specs.Resolve.{allowed, ask, insert, inserted, named, rule_for, walk, with_group}
+use Rattle.st_edits.specs.declared.names.Given.{Given}
+use Rattle.st_edits.specs.declared.names.Takes.TheVariants as field
+use Rattle.st_edits.proofs.Fits.{passed}
+use Rattle.st_edits.proofs.MoveFits.{CellsFresh}
+use Rattle.st_edits.proofs.NewFits.{insert_fits, NodesFresh}
+use Rattle.st_edits.proofs.Numbered.{filter-from, tops_counted, tops_rows}
 use Rattle.st_edited.specs.Edited.{TellsRows, at_path, listed, with_items}
 use Rattle.st_edited.proofs.Along.{AreShown, as_list, along}
 use Rattle.st_edited.proofs.Anchored.{row_with}
@@ -69,7 +70,7 @@ module _ (D : Document) (G : Given) (m : NodeId) (index : ℕ) (trees : Nodes) (
   abbrev E : Document
   E = full D N
 
-  counted : Rattle.st_resolve.proofs.Numbered.Counted G.rev G.nodes xs G.nodes G.cells
+  counted : Rattle.st_edits.proofs.Numbered.Counted G.rev G.nodes xs G.nodes G.cells
   counted = tops_counted G.rev G.nodes G.nodes G.cells trees (omega arith)
 
   in_top : (o : Owned) → Has (top_cells xs) o → Has ((with_names D N).rows m) o
@@ -114,8 +115,8 @@ module _ (D : Document) (G : Given) (m : NodeId) (index : ℕ) (trees : Nodes) (
       under_node : (x : FlatNode) (g : Group) → group_under xs x ≡ Some g → g.node ≡ x.node
       under_node x g q = go x.row q
         where
-          go : (b : Bool) → cond b (group_of x.node None (Rattle.st_resolve.specs.New.cells_under xs x.node)) None ≡ Some g → g.node ≡ x.node
-          go true r = (group_is x.node None (Rattle.st_resolve.specs.New.cells_under xs x.node) g r).0
+          go : (b : Bool) → cond b (group_of x.node None (Rattle.st_edits.specs.New.cells_under xs x.node)) None ≡ Some g → g.node ≡ x.node
+          go true r = (group_is x.node None (Rattle.st_edits.specs.New.cells_under xs x.node) g r).0
           go false r = absurd (cc)
 
   top_full : (o : Owned) → Has (top_cells xs) o → is_cell o.cell (E.place o.node) ≡ true

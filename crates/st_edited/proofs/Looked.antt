@@ -18,9 +18,9 @@ use Rattle.st_marks.specs.declared.places.Slot.{Slot}
 use Rattle.st_marks.specs.Document.{Document, NodeType, IsSoundInForm, content, owned}
 use Rattle.st_marks.specs.LiveTree.{Shows, ShowsMembers, no_more_members, next_member, owners_shown, register, key_at, leaf_data}
 use Rattle.st_marks.proofs.Members.{true-false}
-use Rattle.st_doc.specs.Shown.{live_slots}
-use Rattle.st_resolve.specs.Paths.{child, field_at, there, walk_from}
-use Rattle.st_resolve.proofs.Fits.{passed, found}
+use Rattle.st_marks.specs.LiveTree.{live_slots}
+use Rattle.st_edits.specs.Paths.{child, field_at, there, walk_from}
+use Rattle.st_edits.proofs.Fits.{passed, found}
 use Rattle.st_edited.specs.Moved.{child_in, inside, node_in, row_items}
 use Rattle.st_edited.specs.Typed.{IsAsTyped, IsFieldType, IsRowType}
 use Rattle.st_edited.proofs.Beneath.{in_row as stands_in_row}

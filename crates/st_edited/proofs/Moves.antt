@@ -29,13 +29,13 @@ use Rattle.st_marks.specs.Verdict.{IsVerdict}
 use Rattle.st_marks.specs.LiveTree.{Shows, owners_shown, register}
 use Rattle.st_marks.proofs.Lookups.{both_true}
 use Rattle.st_marks.proofs.Members.{true-false, has-any}
-use Rattle.st_doc.specs.Shown.{live_slots}
-use Rattle.st_resolve.specs.Paths.{beyond, child, field_at, items_from, passes, row_length, there, walk_from, and_then}
-use Rattle.st_resolve.specs.Resolve.{ask, is_inside, is_row, is_there, may_move, move, moved, moved_to_field, moved_to_row, rule_for, taken, takes_kind, walk}
-use Rattle.st_resolve.specs.declared.rules.Given.{Given}
-use Rattle.st_resolve.specs.declared.rules.Takes.TheVariants as field
-use Rattle.st_resolve.proofs.Fits.{passed, found}
-use Rattle.st_resolve.proofs.MoveFits.{CellsFresh, move_fits}
+use Rattle.st_marks.specs.LiveTree.{live_slots}
+use Rattle.st_edits.specs.Paths.{beyond, child, field_at, items_from, passes, row_length, there, walk_from, and_then}
+use Rattle.st_edits.specs.Resolve.{ask, is_inside, is_row, is_there, may_move, move, moved, moved_to_field, moved_to_row, rule_for, taken, takes_kind, walk}
+use Rattle.st_edits.specs.declared.names.Given.{Given}
+use Rattle.st_edits.specs.declared.names.Takes.TheVariants as field
+use Rattle.st_edits.proofs.Fits.{passed, found}
+use Rattle.st_edits.proofs.MoveFits.{CellsFresh, move_fits}
 use Rattle.st_edited.specs.Alike.{IsFrom, AreAlikeAt}
 use Rattle.st_edited.specs.Edited.{TellsRows, at_path, same_key, with_items, without_items, without_key, is_row_key}
 use Rattle.st_edited.specs.Moved.{index_after, inside, moved_in, path_after, row_items, same_path, taken_from, taken_here, target_index, target_path, with_first, with_taken, without_taken}

@@ -22,13 +22,14 @@ use Rattle.st_marks.specs.declared.intents.Owned.{Owned}
 use Rattle.st_marks.specs.Document.{Document, owned}
 use Rattle.st_marks.proofs.Lookups.{both_true}
 use Rattle.st_marks.proofs.Members.{has-filter_map}
-use Rattle.st_resolve.specs.New.{owned_by, top_cell, top_cells, group_of, register_at, registers, names_taken}
-use Rattle.st_resolve.specs.Paths.{and_then}
-use Rattle.st_resolve.specs.Resolve.{allowed, named, names_left, none_refused, trees_allowed, with_group}
-use Rattle.st_resolve.specs.declared.rules.Given.{Given}
-use Rattle.st_resolve.proofs.Fits.{passed}
-use Rattle.st_resolve.proofs.NewFits.{NodesFresh}
-use Rattle.st_resolve.proofs.Numbered.{filter-from, Counted, IsAt, numbered, IsInner, fields_inner}
+use Rattle.st_edits.specs.New.{owned_by, top_cell, top_cells, group_of, names_taken}
+use Rattle.st_opening.specs.Start.{register_at, registers}
+use Rattle.st_edits.specs.Paths.{and_then}
+use Rattle.st_edits.specs.Resolve.{allowed, named, names_left, none_refused, trees_allowed, with_group}
+use Rattle.st_edits.specs.declared.names.Given.{Given}
+use Rattle.st_edits.proofs.Fits.{passed}
+use Rattle.st_edits.proofs.NewFits.{NodesFresh}
+use Rattle.st_edits.proofs.Numbered.{filter-from, Counted, IsAt, numbered, IsInner, fields_inner}
 use Rattle.st_edited.proofs.NewTrees.{Own, inner, item_nodes}
 
 -- ## Allowed trees

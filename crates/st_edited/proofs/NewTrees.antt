@@ -31,9 +31,9 @@ use Rattle.st_marks.specs.Document.{Document, content}
 use Rattle.st_marks.specs.LiveTree.{Shows, shows_leaf, shows_row, shows_registers, ShowsItems, no_more_items, next_item, ShowsMembers, no_more_members, next_member, owners_shown, register, key_at, leaf_data, one_member}
 use Rattle.st_marks.proofs.Lookups.{both_true}
 use Rattle.st_marks.proofs.Members.{true-false, has-append, append_left, append_right}
-use Rattle.st_resolve.specs.New.{owned_by, row_cell, cells_under}
-use Rattle.st_resolve.proofs.Numbered.{same_number}
-use Rattle.st_resolve.specs.ArrayTypes.{is_array_form}
+use Rattle.st_edits.specs.New.{owned_by, row_cell, cells_under}
+use Rattle.st_edits.proofs.Numbered.{same_number}
+use Rattle.st_edits.specs.ArrayTypes.{is_array_form}
 use Rattle.st_edited.specs.Edited.{TellsRows, same_key}
 use Rattle.st_edited.proofs.Along.{same_key-true, same_key-itself}
 

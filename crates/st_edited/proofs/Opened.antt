@@ -22,10 +22,10 @@ use Rattle.st_marks.specs.declared.places.Spot.{Spot}
 use Rattle.st_marks.specs.Document.{Document, NodeType, IsSoundInForm, is_cell, opening, owned, root, slot}
 use Rattle.st_marks.specs.LiveTree.{Shows, owners_shown}
 use Rattle.st_marks.proofs.Members.{distinct-has, has-all}
-use Rattle.st_doc.specs.Start.{cell_at, first_said, held_at, place_at, spot_at, start_of, type_at}
-use Rattle.st_doc.proofs.StartSound.{start_sound}
-use Rattle.st_resolve.specs.New.{cells_under, owned_by, row_cell}
-use Rattle.st_resolve.proofs.Numbered.{filter-from, same_number}
+use Rattle.st_opening.specs.Start.{cell_at, first_said, held_at, place_at, spot_at, start_of, type_at}
+use Rattle.st_opening.proofs.StartSound.{start_sound}
+use Rattle.st_edits.specs.New.{cells_under, owned_by, row_cell}
+use Rattle.st_edits.proofs.Numbered.{filter-from, same_number}
 use Rattle.st_edited.specs.Edited.{TellsRows}
 use Rattle.st_edited.specs.Typed.{IsAsTyped}
 use Rattle.st_edited.proofs.Made.{in_row_of}

@@ -23,12 +23,12 @@ use Rattle.st_marks.specs.Intent.{put_of, put_in, is_register}
 use Rattle.st_marks.specs.CarryOut.{full, with_groups, with_names, place_after, unless_cleared, unless_put}
 use Rattle.st_marks.specs.Verdict.{IsVerdict}
 use Rattle.st_marks.specs.LiveTree.{Shows, owners_shown, register}
-use Rattle.st_doc.specs.Shown.{live_slots}
-use Rattle.st_resolve.specs.Paths.{items_from, row_length}
-use Rattle.st_resolve.specs.Resolve.{remove, removed, rule_for, walk, within_row}
-use Rattle.st_resolve.specs.declared.rules.Given.{Given}
-use Rattle.st_resolve.specs.declared.rules.Takes.TheVariants as field
-use Rattle.st_resolve.proofs.Fits.{passed}
+use Rattle.st_marks.specs.LiveTree.{live_slots}
+use Rattle.st_edits.specs.Paths.{items_from, row_length}
+use Rattle.st_edits.specs.Resolve.{remove, removed, rule_for, walk, within_row}
+use Rattle.st_edits.specs.declared.names.Given.{Given}
+use Rattle.st_edits.specs.declared.names.Takes.TheVariants as field
+use Rattle.st_edits.proofs.Fits.{passed}
 use Rattle.st_edited.specs.Alike.{AreAlikeAt}
 use Rattle.st_edited.specs.Edited.{TellsRows, at_path, without_items}
 use Rattle.st_edited.proofs.Along.{along, owners_live, owners_once}

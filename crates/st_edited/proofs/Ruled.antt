@@ -17,12 +17,12 @@ use Rattle.st_schema.specs.declared.names.KindName.TheVariants.{Required, Option
 use Rattle.st_marks.specs.Document.{Document, NodeType}
 use Rattle.st_marks.proofs.Lookups.{both_true}
 use Rattle.st_marks.proofs.Members.{first-has}
-use Rattle.st_resolve.specs.Paths.{there}
-use Rattle.st_resolve.specs.Resolve.{rule_at, rule_for, of_kind, takes_kind, is_row}
-use Rattle.st_resolve.specs.declared.rules.Takes.{Takes}
-use Rattle.st_resolve.specs.declared.rules.Takes.TheVariants as field
-use Rattle.st_resolve.proofs.Fits.{passed, found, key_some, kind_taken}
-use Rattle.st_resolve.specs.ArrayTypes.{is_array_form}
+use Rattle.st_edits.specs.Paths.{there}
+use Rattle.st_edits.specs.Resolve.{rule_at, rule_for, of_kind, takes_kind, is_row}
+use Rattle.st_edits.specs.declared.names.Takes.{Takes}
+use Rattle.st_edits.specs.declared.names.Takes.TheVariants as field
+use Rattle.st_edits.proofs.Fits.{passed, found, key_some, kind_taken}
+use Rattle.st_edits.specs.ArrayTypes.{is_array_form}
 use Rattle.st_edited.specs.Edited.{TellsRows}
 
 pub all_pass : {A : Type 0} (p : A → Bool) (xs : List A) (x : A) → list_all p xs ≡ true → Has xs x → p x ≡ true

@@ -5,8 +5,8 @@ use Rattle.std.specs.Option.{unwrap_or}
 use Rattle.st_ids.specs.Listing.{Has}
 use Rattle.st_ids.specs.declared.names.Rev.{Rev}
 use Rattle.st_marks.specs.Document.{Document, IsSoundInForm, first_of, last_of, revs, opening}
-use Rattle.st_resolve.specs.Resolve.{nothing_yet}
-use Rattle.st_resolve.specs.declared.rules.Given.{Given}
+use Rattle.st_edits.specs.Resolve.{nothing_yet}
+use Rattle.st_edits.specs.declared.names.Given.{Given}
 
 last_had : (x d : Rev) (xs : List Rev) → Has (x ∷ xs) (unwrap_or (last_or (Some x) xs) d)
 last_had x d [] = inl refl

@@ -32,16 +32,17 @@ use Rattle.st_marks.specs.Intent.{Fits, new_type}
 use Rattle.st_marks.specs.CarryOut.{with_names}
 use Rattle.st_marks.proofs.Lookups.{both_true}
 use Rattle.st_marks.proofs.Members.{true-false, first-has, has-any, has-map}
-use Rattle.st_resolve.specs.New.{cells_under, group_of, group_under, new_nodes, registers, groups_under, to_at, top_cells}
-use Rattle.st_resolve.specs.Paths.{field_at, left_of, there}
-use Rattle.st_resolve.specs.Resolve.{cells_for, clear, insert, is_row, move, moved, moved_to_field, moved_to_row, named, need, nothing_yet, of_kind, put, remove, removed, resolve, rule_at, rule_for, takes_kind, with_group}
-use Rattle.st_resolve.specs.declared.rules.Given.{Given}
-use Rattle.st_resolve.specs.declared.rules.Takes.{Takes}
-use Rattle.st_resolve.specs.declared.rules.Takes.TheVariants as field
-use Rattle.st_resolve.proofs.Fits.{passed, found}
-use Rattle.st_resolve.proofs.MoveFits.{CellsFresh}
-use Rattle.st_resolve.proofs.NewFits.{made, insert_fits, put_fits, NodesFresh}
-use Rattle.st_resolve.proofs.Numbered.{filter-from}
+use Rattle.st_edits.specs.New.{cells_under, group_of, group_under, new_nodes, groups_under, to_at, top_cells}
+use Rattle.st_opening.specs.Start.{registers}
+use Rattle.st_edits.specs.Paths.{field_at, left_of, there}
+use Rattle.st_edits.specs.Resolve.{cells_for, clear, insert, is_row, move, moved, moved_to_field, moved_to_row, named, need, nothing_yet, of_kind, put, remove, removed, resolve, rule_at, rule_for, takes_kind, with_group}
+use Rattle.st_edits.specs.declared.names.Given.{Given}
+use Rattle.st_edits.specs.declared.names.Takes.{Takes}
+use Rattle.st_edits.specs.declared.names.Takes.TheVariants as field
+use Rattle.st_edits.proofs.Fits.{passed, found}
+use Rattle.st_edits.proofs.MoveFits.{CellsFresh}
+use Rattle.st_edits.proofs.NewFits.{made, insert_fits, put_fits, NodesFresh}
+use Rattle.st_edits.proofs.Numbered.{filter-from}
 use Rattle.st_edited.specs.Edited.{TellsRows}
 use Rattle.st_edited.specs.Typed.{IsAsTyped, IsFieldType, IsLeafTyped, IsRowType, IsTypedIntent}
 use Rattle.st_edited.proofs.Cleared.{is_clearing, is_need}

@@ -20,7 +20,7 @@ use Rattle.st_schema.specs.declared.names.Form.{Form}
 use Rattle.st_schema.specs.declared.names.Form.TheVariants.{Array, Map, Object}
 use Rattle.st_marks.proofs.Lookups.{both_true}
 use Rattle.st_marks.proofs.Members.{has-append, append_left, append_right}
-use Rattle.st_resolve.specs.ArrayTypes.{is_array_form}
+use Rattle.st_edits.specs.ArrayTypes.{is_array_form}
 use Rattle.st_edited.specs.Edited.{TellsRows}
 use Rattle.st_edited.proofs.NewTrees.{split_all}
 

@@ -12,8 +12,8 @@ use Rattle.st_marks.specs.Document.{Document, IsSoundInForm, above, content}
 use Rattle.st_marks.specs.LiveTree.{owners_shown, register}
 use Rattle.st_marks.proofs.Lookups.{both_true}
 use Rattle.st_marks.proofs.Members.{true-false, all-has}
-use Rattle.st_resolve.specs.Paths.{and_then, child, there, walk_from}
-use Rattle.st_resolve.proofs.Fits.{passed, found, gotten}
+use Rattle.st_edits.specs.Paths.{and_then, child, there, walk_from}
+use Rattle.st_edits.proofs.Fits.{passed, found, gotten}
 use Rattle.st_edited.specs.Alike.{IsFrom}
 use Rattle.st_edited.specs.Edited.{same_key, is_row_key}
 use Rattle.st_edited.specs.Moved.{index_after, path_after, place_after, same_path, same_place}

@@ -9,7 +9,7 @@ use Rattle.serde_json.specs.View.{items_of}
 use Rattle.st_ids.specs.declared.names.Key.{Key}
 use Rattle.st_ids.specs.declared.names.Place.{Place}
 use Rattle.st_schema.specs.Schema.{SchemaView}
-use Rattle.st_resolve.specs.ArrayTypes.{is_array_type}
+use Rattle.st_edits.specs.ArrayTypes.{is_array_type}
 
 -- ## Which nodes have a row
 

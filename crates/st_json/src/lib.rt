@@ -4,8 +4,6 @@
 mod fault;
 mod line;
 mod look;
-#[cfg(test)]
-mod tests;
 
 pub use fault::{BadCause, NotJson, Shape};
 pub use line::{read_line, write_line};

@@ -4,8 +4,6 @@
 mod apart;
 mod both;
 mod kind;
-#[cfg(test)]
-mod tests;
 
 pub use apart::Apart;
 pub use both::{Sides, rebase_over_both};

@@ -15,8 +15,3 @@ pub mod Step
 pub mod Normal
 pub mod Shown
 pub mod Agree
-pub mod Rules
-pub mod Walk
-pub mod Naming
-pub mod Ring
-pub mod Links

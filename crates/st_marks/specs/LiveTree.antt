@@ -1,5 +1,5 @@
 -- The live tree, as the JSON that shows it: from a node downwards, a row's full cells in order, and a register's occupant.
-use Rattle.std.specs.Prelude.{◌≡◌, ℕ, Bool, true, false, List, [], ◌∷◌, ◌++◌, Option, Some, None, is_some, if◌then◌else◌}
+use Rattle.std.specs.Prelude.{◌≡◌, ℕ, Bool, true, false, List, [], ◌∷◌, ◌++◌, Option, Some, None, is_some, filter, if◌then◌else◌}
 use Rattle.std.specs.Ordering.{nat_cmp}
 use Rattle.std.specs.Cmp.Lexicographic.{slice_cmp}
 use Rattle.serde_json.specs.Data.{Data, null, boolean, number, string, array, object, Items, no_items, item, Members, no_members, member}
@@ -11,6 +11,10 @@ use Rattle.st_ids.specs.declared.names.Leaf.{Leaf}
 use Rattle.st_ids.specs.declared.names.NodeId.{NodeId}
 use Rattle.st_marks.specs.declared.places.Slot.{Slot}
 use Rattle.st_marks.specs.Document.{Document, root, content}
+
+-- the full cells of a node's row, in order: what the row shows
+abbrev pub live_slots : Document → NodeId → List Slot
+live_slots D n = filter (λ (s : Slot). s.full) (content D n)
 
 -- a leaf is shown as its value
 abbrev pub leaf_data : Leaf → Data

@@ -1,4 +1,5 @@
 //! Copies into fresh memory.
+ghost use Rattle.std.specs.Prelude.{◌≡◌, OnOk};
 
 use crate::changes::{Change, NewNode};
 use crate::intents::{Group, Intent, Owned, Put, To};
@@ -7,7 +8,7 @@ use crate::places::{Slot, Spot};
 use crate::schemas::{SchemaEntry, SchemaStep};
 use crate::steps::Step;
 use crate::verdicts::Verdict;
-use st_ids::Copied;
+use st_ids::{Copied, List};
 use std::alloc::{AllocError, Global};
 
 impl Copied for How {
@@ -117,42 +118,60 @@ impl Copied for NewNode {
     }
 }
 
+// Copies what a change lists.
+fn copy_lists(alloc: Global, from: &Change, to: &mut Change) -> Result<(), AllocError>
+    ensures { OnOk result (to.exit.now ≡ record from.now { rev = to.entry.now.rev; under = to.entry.now.under; base = to.entry.now.base; schema = to.entry.now.schema }) }
+{
+    to.need = from.need.copy(alloc)?;
+    to.new = from.new.copy(alloc)?;
+    to.rows = from.rows.copy(alloc)?;
+    to.regs = from.regs.copy(alloc)?;
+    to.loose = from.loose.copy(alloc)?;
+    Ok(())
+}
+
 impl Copied for Change {
     fn copy(&self, alloc: Global) -> Result<Self, AllocError> {
-        let need = self.need.copy(alloc)?;
-        let new = self.new.copy(alloc)?;
-        let rows = self.rows.copy(alloc)?;
-        let regs = self.regs.copy(alloc)?;
-        let loose = self.loose.copy(alloc)?;
         let schema = self.schema.copy(alloc)?;
-        Ok(Change {
+        let mut copy = Change {
             rev: self.rev,
             under: self.under,
             base: self.base,
-            need,
-            new,
-            rows,
-            regs,
-            loose,
+            need: List::new(alloc),
+            new: List::new(alloc),
+            rows: List::new(alloc),
+            regs: List::new(alloc),
+            loose: List::new(alloc),
             schema,
-        })
+        };
+        copy_lists(alloc, self, &mut copy)?;
+        Ok(copy)
     }
+}
+
+// Copies what differs.
+fn copy_differences(alloc: Global, from: &Step, to: &mut Step) -> Result<(), AllocError>
+    ensures { OnOk result (to.exit.now ≡ record from.now { schema = to.entry.now.schema }) }
+{
+    to.new = from.new.copy(alloc)?;
+    to.rows = from.rows.copy(alloc)?;
+    to.regs = from.regs.copy(alloc)?;
+    to.loose = from.loose.copy(alloc)?;
+    Ok(())
 }
 
 impl Copied for Step {
     fn copy(&self, alloc: Global) -> Result<Self, AllocError> {
-        let new = self.new.copy(alloc)?;
-        let rows = self.rows.copy(alloc)?;
-        let regs = self.regs.copy(alloc)?;
-        let loose = self.loose.copy(alloc)?;
         let schema = self.schema.copy(alloc)?;
-        Ok(Step {
-            new,
-            rows,
-            regs,
-            loose,
+        let mut copy = Step {
+            new: List::new(alloc),
+            rows: List::new(alloc),
+            regs: List::new(alloc),
+            loose: List::new(alloc),
             schema,
-        })
+        };
+        copy_differences(alloc, self, &mut copy)?;
+        Ok(copy)
     }
 }
 
@@ -183,23 +202,32 @@ impl Copied for Group {
     }
 }
 
+// Copies what is wanted.
+fn copy_wants(alloc: Global, from: &Intent, to: &mut Intent) -> Result<(), AllocError>
+    ensures { OnOk result (to.exit.now ≡ record from.now { rev = to.entry.now.rev; under = to.entry.now.under; schema = to.entry.now.schema }) }
+{
+    to.new = from.new.copy(alloc)?;
+    to.groups = from.groups.copy(alloc)?;
+    to.clear = from.clear.copy(alloc)?;
+    to.put = from.put.copy(alloc)?;
+    to.need = from.need.copy(alloc)?;
+    Ok(())
+}
+
 impl Copied for Intent {
     fn copy(&self, alloc: Global) -> Result<Self, AllocError> {
-        let new = self.new.copy(alloc)?;
-        let groups = self.groups.copy(alloc)?;
-        let clear = self.clear.copy(alloc)?;
-        let put = self.put.copy(alloc)?;
-        let need = self.need.copy(alloc)?;
         let schema = self.schema.copy(alloc)?;
-        Ok(Intent {
+        let mut copy = Intent {
             rev: self.rev,
             under: self.under,
-            new,
-            groups,
-            clear,
-            put,
-            need,
+            new: List::new(alloc),
+            groups: List::new(alloc),
+            clear: List::new(alloc),
+            put: List::new(alloc),
+            need: List::new(alloc),
             schema,
-        })
+        };
+        copy_wants(alloc, self, &mut copy)?;
+        Ok(copy)
     }
 }

@@ -26,7 +26,7 @@ pub struct Group {
 }
 
 /// A cell and the node that owns it.
-#[derive(Clone, Copy, Debug, PartialEq, Eq)]
+#[derive(Clone, Copy, PartialEq, Eq)]
 pub struct Owned {
     pub cell: CellId,
     pub node: NodeId,

@@ -1,41 +1,19 @@
 //! What a commit wants, what it says where it stands, and what a document becomes by it: the types of intents,
-//! changes and steps, whether changes and steps are in normal form, and laws about the definitions in specs/.
+//! changes and steps, and laws about the definitions in specs/.
 #![tactic(auto)]
 
-mod change_check;
-mod change_rules;
 mod changes;
-mod common;
 mod copies;
-mod index;
 mod intents;
 mod laws;
 mod laws_of_listings;
 mod lengths;
-mod links;
-mod listing;
-mod look;
 mod marks;
-mod not_normal;
-mod picks;
 mod places;
-mod registers;
-mod rings;
-mod rising;
-mod row_rules;
-mod rules;
+mod same;
 mod schemas;
-mod step_check;
-mod step_rules;
 mod steps;
-#[cfg(test)]
-mod tests;
-#[cfg(test)]
-mod tests_of_normal;
-#[cfg(test)]
-mod tests_of_rings;
 mod verdicts;
-mod walk;
 
 pub use changes::{Change, NewNode};
 pub use intents::{Group, Intent, Owned, Put, To};
@@ -46,8 +24,8 @@ pub use laws::{
 pub use laws_of_listings::{one_embedding, one_step};
 pub use lengths::{after, before};
 pub use marks::{How, Loose, Mark, RegMark, RegStep, RowMarks};
-pub use not_normal::NotNormal;
 pub use places::{Slot, Spot};
+pub use same::{is_same_cell, is_same_node, is_same_rev};
 pub use schemas::{SchemaEntry, SchemaStep};
 pub use steps::Step;
 pub use verdicts::Verdict;

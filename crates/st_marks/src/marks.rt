@@ -3,7 +3,7 @@
 use st_ids::{CellId, FieldId, List, NodeId};
 
 /// What becomes of a node where it stands.
-#[derive(Clone, Copy, Debug, PartialEq, Eq)]
+#[derive(Clone, Copy, PartialEq, Eq)]
 pub enum How {
     /// It is only mentioned.
     Stay,
@@ -14,7 +14,7 @@ pub enum How {
 }
 
 /// What a listing says of a cell of a row, or of some cells side by side.
-#[derive(Clone, Copy, Debug, PartialEq, Eq)]
+#[derive(Clone, Copy, PartialEq, Eq)]
 pub enum Mark {
     /// So many full cells whose nodes aren't mentioned.
     Skip(u32),
@@ -66,22 +66,8 @@ pub struct RegStep {
 }
 
 /// A mentioned node that is nowhere.
-#[derive(Clone, Copy, Debug, PartialEq, Eq)]
+#[derive(Clone, Copy, PartialEq, Eq)]
 pub struct Loose {
     pub node: NodeId,
     pub how: How,
-}
-
-/// A node that is listed where it stands, and what becomes of it.
-#[derive(Clone, Copy, Debug, PartialEq, Eq)]
-pub struct Found {
-    pub node: NodeId,
-    pub how: How,
-}
-
-/// A node that stands in the row or a register of another.
-#[derive(Clone, Copy, Debug, PartialEq, Eq)]
-pub struct Link {
-    pub node: NodeId,
-    pub up: NodeId,
 }

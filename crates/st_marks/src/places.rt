@@ -3,7 +3,7 @@
 use st_ids::{CellId, FieldId, NodeId};
 
 /// A cell of a row, with its owner: full where the owner stands in it.
-#[derive(Clone, Copy, Debug, PartialEq, Eq)]
+#[derive(Clone, Copy, PartialEq, Eq)]
 pub struct Slot {
     pub cell: CellId,
     pub node: NodeId,

@@ -5,8 +5,6 @@ mod form;
 mod joined;
 mod kind;
 mod laws;
-#[cfg(test)]
-mod tests;
 mod told;
 mod values;
 

@@ -5,7 +5,7 @@ use st_marks::How;
 use std::alloc::{AllocError, Global};
 
 /// Who is in a register.
-#[derive(Clone, Copy, Debug, PartialEq, Eq)]
+#[derive(Clone, Copy, PartialEq, Eq)]
 pub struct RegHeld {
     pub node: Option<NodeId>,
 }
@@ -13,7 +13,7 @@ pub struct RegHeld {
 /// What a change says of a register: who is there, what becomes of that node, whether the register is cleared, and
 /// which other node comes in. `in_new`: it is a register of a node that the commit makes. `fill_new`: the commit makes
 /// the node that comes in.
-#[derive(Clone, Copy, Debug, PartialEq, Eq)]
+#[derive(Clone, Copy, PartialEq, Eq)]
 pub struct RegChange {
     pub rev: Rev,
     pub in_new: bool,
@@ -25,7 +25,7 @@ pub struct RegChange {
 }
 
 /// Who is in a register before a step and after it.
-#[derive(Clone, Copy, Debug, PartialEq, Eq)]
+#[derive(Clone, Copy, PartialEq, Eq)]
 pub struct RegSwap {
     pub before: Option<NodeId>,
     pub after: Option<NodeId>,

@@ -1,7 +1,2 @@
-pub mod Fits
-pub mod MoveFits
 pub mod One
-pub mod Numbered
-pub mod NewFits
-pub mod Resolved
 pub mod RowGroups

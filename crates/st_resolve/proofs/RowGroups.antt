@@ -9,9 +9,9 @@ use Rattle.st_tree.specs.declared.flat.FlatNode.{FlatNode}
 use Rattle.st_marks.specs.declared.intents.Group.{Group}
 use Rattle.st_marks.specs.declared.intents.Owned.{Owned}
 use Rattle.st_marks.specs.Document.{owned}
-use Rattle.st_doc.specs.Start.{cell_at}
+use Rattle.st_opening.specs.Start.{cell_at}
 use Rattle.st_doc.proofs.Look.{drop_one}
-use Rattle.st_resolve.specs.New.{cells_under, group_of, group_under, owned_by, row_cell}
+use Rattle.st_edits.specs.New.{cells_under, group_of, group_under, owned_by, row_cell}
 
 pub same_cells : (xs : List FlatNode) (n : NodeId) → filter_map (λ (x : FlatNode). cell_at n x.node x.at) xs ≡ cells_under xs n
 same_cells xs n = λ i. filter_map (λ (x : FlatNode). one x.node x.at i) xs

@@ -2,16 +2,17 @@
 ghost use Rattle.std.specs.Prelude.{◌≡◌, ◌<◌, ◌^◌, ◌+◌, ◌∷◌, [], length, nat_le, Ok, Err, IfOk};
 ghost use Rattle.st_ids.specs.Or.{IfRefused};
 ghost use Rattle.st_tree.specs.Node.{trees_view, view, first, no_nodes};
-ghost use Rattle.st_tree.specs.Size.{check_items};
+ghost use Rattle.st_tree.specs.Size.{check_of, check_items};
 ghost use Rattle.st_doc.specs.Doc.{document_of};
-ghost use Rattle.st_resolve.specs.Resolve.{named, allowed, insert, remove, move_to, move as move_of, put, clear, need, may_move, resolve, IsWithin};
+ghost use Rattle.st_edits.specs.Resolve.{named, allowed, insert, remove, move_to, move as move_of, put, clear, need, may_move, resolve, IsWithin};
 
 use crate::intents::{inserted, nothing_yet, placed, removed};
 use crate::lists::names_taken;
 use crate::moves::{cells_taken, is_inside, is_there, items_from, moved, taken};
 use crate::paths::{field_at, walk};
-use crate::rules::{Given, Takes, ask, names_left, nodes_allowed, rule_for, trees_allowed};
+use crate::rules::{ask, names_left, nodes_allowed, rule_for, trees_allowed};
 use st_doc::Doc;
+use st_edits::{Given, Takes};
 use st_ids::{Copied, FieldId, Key, List, NodeId, Or, Path};
 use st_marks::Intent;
 use st_schema::{FieldRule, Schema};
@@ -64,8 +65,8 @@ fn allowed(
     Ok(nodes)
 }
 
-// New items at an index of a row.
-fn insert(
+/// New items at an index of a row, as `resolve` says it of that edit.
+pub fn insert(
     alloc: Global,
     doc: &Doc,
     schema: &Schema,
@@ -90,8 +91,8 @@ fn insert(
     Ok(inserted(alloc, doc, given, node, index, nodes.as_slice())?)
 }
 
-// Items of a row go nowhere.
-fn remove(
+/// Items of a row go nowhere, as `resolve` says it of that edit.
+pub fn remove(
     alloc: Global,
     doc: &Doc,
     schema: &Schema,
@@ -135,8 +136,8 @@ fn put(
     Ok(placed(alloc, doc, given, field, nodes.as_slice())?)
 }
 
-// An optional field is emptied.
-fn clear(
+/// An optional field is emptied, as `resolve` says it of that edit.
+pub fn clear(
     alloc: Global,
     doc: &Doc,
     schema: &Schema,
@@ -215,8 +216,8 @@ fn move_to(
     Ok(moved(alloc, doc, given, field, rule.kind, index, nodes)?)
 }
 
-// Items of a row, or the one of an optional field, go to a row or an optional field.
-fn move_items(
+/// Items of a row, or the one of an optional field, go to a row or an optional field, as `resolve` says it of that edit.
+pub fn move_items(
     alloc: Global,
     doc: &Doc,
     schema: &Schema,
@@ -265,11 +266,32 @@ fn one_tree(alloc: Global, tree: &Tree) -> Result<List<Tree>, AllocError>
     Ok(trees)
 }
 
+/// A new tree in an optional or required field, as `resolve` says it of that edit.
+#[tactic(auto, using(crate::proofs::One::one_within))]
+pub fn set(
+    alloc: Global,
+    doc: &Doc,
+    schema: &Schema,
+    given: Given,
+    at: &Path,
+    key: &Key,
+    item: &Tree,
+) -> Result<Intent, Or<EditFault>>
+    requires within { check_of (view item.now) ≡ Ok tt }
+    requires short { length at.now < 2 ^ 32 }
+    requires nodes { given.nodes < 2 ^ 31 }
+    requires cells { given.cells < 2 ^ 31 }
+    ensures ok { IfOk result (λ i. put (document_of doc.now) schema.now given at.now key.now (first (view item.now) no_nodes) ≡ Ok i) }
+    ensures bad { IfRefused result (λ e. put (document_of doc.now) schema.now given at.now key.now (first (view item.now) no_nodes) ≡ Err e) }
+{
+    let trees = one_tree(alloc, item)?;
+    put(alloc, doc, schema, given, at, key, &trees)
+}
+
 /// The intent that an edit means in a document under the schema that is last in effect there, or the first refusal: of
 /// the path, then of a move's target path (`NoNode`), of the field's kind (`Kind`), of an index (`Range`), of a move
 /// beneath itself (`Inside`), of a node that the schema doesn't allow (`NotAllowed`), and of the names that a commit may
 /// give (`Limit`). Names are given from the counts on.
-#[tactic(auto, using(crate::proofs::One::one_within))]
 pub fn resolve(
     alloc: Global,
     doc: &Doc,
@@ -307,10 +329,7 @@ pub fn resolve(
         } => move_items(
             alloc, doc, schema, given, at, key, *index, *count, to, to_key, *to_index,
         ),
-        Edit::Put { at, key, item } => {
-            let trees = one_tree(alloc, item)?;
-            put(alloc, doc, schema, given, at, key, &trees)
-        }
+        Edit::Put { at, key, item } => set(alloc, doc, schema, given, at, key, item),
         Edit::Clear { at, key } => clear(alloc, doc, schema, given, at, key),
         Edit::Need { at } => need(alloc, doc, given, at),
     }

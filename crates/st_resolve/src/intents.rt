@@ -3,12 +3,12 @@ ghost use Rattle.std.specs.Prelude.{◌≡◌, ◌∷◌, ◌<◌, ◌^◌, ◌+
 ghost use Rattle.st_marks.specs.declared.intents.To.{To as Target};
 ghost use Rattle.st_marks.specs.Document.{last_of, opening, revs};
 ghost use Rattle.st_doc.specs.Doc.{document_of};
-ghost use Rattle.st_resolve.specs.Resolve.{nothing_yet, with_group, inserted, placed, removed, cells_for, in_cells, moved_to_row, moved_to_field};
+ghost use Rattle.st_edits.specs.Resolve.{nothing_yet, with_group, inserted, placed, removed, cells_for, in_cells, moved_to_row, moved_to_field};
 
 use crate::lists::{add_groups, add_registers, group_of, new_nodes, puts, top_cells};
 use crate::paths::left_of;
-use crate::rules::Given;
 use st_doc::Doc;
+use st_edits::Given;
 use st_ids::{Atom, CellId, Copied, FieldId, List, NodeId, Rev};
 use st_marks::{Group, Intent, Owned, Put, To};
 use st_tree::FlatNode;

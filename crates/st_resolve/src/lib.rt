@@ -3,12 +3,9 @@
 
 mod edits;
 mod intents;
-mod laws;
 mod lists;
 mod moves;
 mod paths;
 mod rules;
 
-pub use edits::resolve;
-pub use laws::{new_trees_fit, resolved_edits_fit, simple_edits_fit};
-pub use rules::Given;
+pub use edits::{clear, insert, move_items, remove, resolve, set};

@@ -3,7 +3,8 @@ ghost use Rattle.std.specs.Prelude.{◌≡◌, ◌++◌, ◌<◌, ◌*◌, ◌^�
 ghost use Rattle.std.specs.BTreeMap.{get};
 ghost use Rattle.std.specs.Option.{option_copied, option_to_list};
 ghost use Rattle.st_ids.specs.Order.{node_cmp};
-ghost use Rattle.st_resolve.specs.New.{new_nodes, top_to, to_at, puts, register_at, registers, top_cell, top_cells, group_of, groups_under, takes_cell, names_taken};
+ghost use Rattle.st_edits.specs.New.{new_nodes, top_to, to_at, puts, top_cell, top_cells, group_of, groups_under, takes_cell, names_taken};
+ghost use Rattle.st_opening.specs.Start.{register_at, registers};
 
 use st_doc::rows_of;
 use st_ids::{CellId, Copied, FieldId, List, NodeId};

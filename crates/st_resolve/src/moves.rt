@@ -6,13 +6,14 @@ ghost use Rattle.st_ids.specs.Order.{same_node};
 ghost use Rattle.st_marks.specs.declared.places.Slot.{Slot as Cell};
 ghost use Rattle.st_schema.specs.declared.names.KindName.{KindName as Kinds};
 ghost use Rattle.st_doc.specs.Doc.{document_of};
-ghost use Rattle.st_doc.specs.Shown.{live_slots};
-ghost use Rattle.st_resolve.specs.Resolve.{within_row, taken, is_there, is_inside, cells_taken, moved, move_to};
+ghost use Rattle.st_marks.specs.LiveTree.{live_slots};
+ghost use Rattle.st_edits.specs.Resolve.{within_row, taken, is_there, is_inside, cells_taken, moved, move_to};
 
 use crate::intents::{moved_to_field, moved_to_row, nothing_yet};
 use crate::paths::passes;
-use crate::rules::{Given, ask, names_left, nodes_allowed};
+use crate::rules::{ask, names_left, nodes_allowed};
 use st_doc::Doc;
+use st_edits::Given;
 use st_ids::{FieldId, List, NodeId, Or, Path};
 use st_intent::is_same_node;
 use st_marks::{Intent, Slot};

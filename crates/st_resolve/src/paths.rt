@@ -3,9 +3,9 @@ ghost use Rattle.std.specs.Prelude.{◌≡◌, ◌<◌, ◌^◌, length, Ok, Err
 ghost use Rattle.st_ids.specs.Or.{IfRefused};
 ghost use Rattle.st_marks.specs.Document.{root};
 ghost use Rattle.st_doc.specs.Doc.{document_of};
-ghost use Rattle.st_doc.specs.Shown.{live_slots};
-ghost use Rattle.st_resolve.specs.Paths.{field_at, left_of, child, passes};
-ghost use Rattle.st_resolve.specs.Resolve.{walk};
+ghost use Rattle.st_marks.specs.LiveTree.{live_slots};
+ghost use Rattle.st_edits.specs.Paths.{field_at, left_of, child, passes};
+ghost use Rattle.st_edits.specs.Resolve.{walk};
 
 use st_doc::Doc;
 use st_ids::{Atom, CellId, Copied, FieldId, Key, List, NodeId, Or, Path, Place, Rev};

@@ -4,30 +4,14 @@ ghost use Rattle.st_ids.specs.Or.{IfRefused};
 ghost use Rattle.st_tree.specs.Node.{trees_view};
 ghost use Rattle.st_tree.specs.Size.{item_count};
 ghost use Rattle.st_doc.specs.Doc.{document_of};
-ghost use Rattle.st_resolve.specs.Resolve.{takes_kind, rule_at, rule_for, trees_allowed, has_type, nodes_allowed, names_left, ask};
+ghost use Rattle.st_edits.specs.Resolve.{takes_kind, rule_at, rule_for, trees_allowed, has_type, nodes_allowed, names_left, ask};
 
 use st_doc::Doc;
+use st_edits::{Given, Takes};
 use st_ids::{Key, Limit, LimitOf, List, NodeId, Or, Rev, Text};
 use st_schema::{FieldRule, KindName, Schema};
 use st_tree::{EditFault, Tree};
 use std::alloc::{AllocError, Global};
-
-/// The revision of a commit, and how many names it has given: to nodes and to cells.
-#[derive(Clone, Copy, Debug, PartialEq, Eq)]
-pub struct Given {
-    pub rev: Rev,
-    pub nodes: u32,
-    pub cells: u32,
-}
-
-// Which kinds of field an edit takes: rows; rows and optional fields; optional and required fields; optional fields.
-#[derive(Clone, Copy)]
-pub enum Takes {
-    Row,
-    Open,
-    Single,
-    Optional,
-}
 
 // Whether it takes a field of that kind.
 fn takes_kind(takes: Takes, kind: KindName) -> bool

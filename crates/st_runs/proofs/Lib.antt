@@ -2,4 +2,3 @@ pub mod Cutting
 pub mod Finding
 pub mod Keeping
 pub mod Melded
-pub mod Repeats

@@ -3,8 +3,6 @@
 
 mod run;
 mod runs;
-#[cfg(test)]
-mod tests;
 
 pub use run::Run;
 pub use runs::{Range, RunPlace, Runs};

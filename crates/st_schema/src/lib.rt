@@ -9,8 +9,6 @@ mod read;
 mod rules;
 mod schema;
 mod table;
-#[cfg(test)]
-mod tests;
 mod text;
 mod tree_text;
 mod tree_write;

@@ -1,11 +1,12 @@
 //! Schemas written as a JSON value and as a text.
-ghost use Rattle.std.specs.Prelude.{◌≡◌, Some, true, false, [], map, IfOk};
+ghost use Rattle.std.specs.Prelude.{◌≡◌, Some, true, false, [], map, codes, IfOk};
 ghost use Rattle.std.specs.List.{list_all};
-ghost use Rattle.serde_json.specs.Data.{array, object};
+ghost use Rattle.serde_json.specs.Data.{array, object, member, no_members};
 ghost use Rattle.serde_json.specs.View.{view, items_of};
 ghost use Rattle.serde_json.specs.Read.{read};
 ghost use Rattle.serde_json.specs.Written.{compact_text};
 ghost use Rattle.st_schema.specs.Schema.{defs_rise, form_rises};
+ghost use Rattle.st_schema.specs.declared.names.Form.TheVariants.{Array, Map as MapOf, Object};
 ghost use Rattle.st_schema.specs.Written.{names_data, kind_text, field_data, fields_data, form_data, definition_data, schema_data};
 
 use crate::names::{FieldDef, Form, KindName};
@@ -59,6 +60,31 @@ fn fields_value(alloc: Global, fields: &List<FieldDef>) -> Result<Value, AllocEr
     Ok(Value::Object(members))
 }
 
+// The definition of an array type.
+fn array_value(alloc: Global, name: &str, types: &List<Text>) -> Result<Value, AllocError>
+    ensures { IfOk result (λ v. view v ≡ form_data name.now (Array types.now)) }
+{
+    let types = names_value(alloc, types)?;
+    json!(in alloc; {"array": types, "name": name})
+}
+
+// The definition of a map type.
+fn map_value(alloc: Global, name: &str, types: &List<Text>) -> Result<Value, AllocError>
+    ensures { IfOk result (λ v. view v ≡ form_data name.now (MapOf types.now)) }
+{
+    let types = names_value(alloc, types)?;
+    json!(in alloc; {"map": types, "name": name})
+}
+
+// The definition of an object type.
+fn object_value(alloc: Global, name: &str, fields: &List<FieldDef>) -> Result<Value, AllocError>
+    requires { defs_rise [] fields.now ≡ true }
+    ensures { IfOk result (λ v. view v ≡ form_data name.now (Object fields.now)) }
+{
+    let fields = fields_value(alloc, fields)?;
+    json!(in alloc; {"name": name, "object": fields})
+}
+
 // A definition.
 fn definition_value(alloc: Global, name: &Text, form: &Form) -> Result<Value, AllocError>
     requires { form_rises form.now ≡ true }
@@ -66,18 +92,9 @@ fn definition_value(alloc: Global, name: &Text, form: &Form) -> Result<Value, Al
 {
     let name = name.as_str();
     match form {
-        Form::Array(types) => {
-            let types = names_value(alloc, types)?;
-            json!(in alloc; {"array": types, "name": name})
-        }
-        Form::Map(types) => {
-            let types = names_value(alloc, types)?;
-            json!(in alloc; {"map": types, "name": name})
-        }
-        Form::Object(fields) => {
-            let fields = fields_value(alloc, fields)?;
-            json!(in alloc; {"name": name, "object": fields})
-        }
+        Form::Array(types) => array_value(alloc, name, types),
+        Form::Map(types) => map_value(alloc, name, types),
+        Form::Object(fields) => object_value(alloc, name, fields),
     }
 }
 
@@ -93,6 +110,13 @@ fn definitions_value(alloc: Global, types: &IndexMap<Text, Form>) -> Result<Valu
     Ok(Value::Array(items))
 }
 
+// The JSON form of a schema, of those of its two parts.
+fn whole_value(alloc: Global, root: Value, types: Value) -> Result<Value, AllocError>
+    ensures { IfOk result (λ v. view v ≡ object (member (codes "root") (view root) (member (codes "types") (view types) no_members))) }
+{
+    json!(in alloc; {"root": root, "types": types})
+}
+
 // The JSON form of a root's list and a table.
 fn parts_value(
     alloc: Global,
@@ -104,7 +128,7 @@ fn parts_value(
 {
     let root = names_value(alloc, root)?;
     let types = definitions_value(alloc, types)?;
-    json!(in alloc; {"root": root, "types": types})
+    whole_value(alloc, root, types)
 }
 
 impl Schema {

@@ -1,5 +1,6 @@
 //! What is answered to a header or a step, and the line of an answer.
 ghost use Rattle.std.specs.Prelude.{◌≡◌, [], ◌∷◌, ◌++◌, codes, IfOk};
+ghost use Rattle.serde_json.specs.Data.{object, member, no_members, number, unsigned, string};
 ghost use Rattle.serde_json.specs.View.{view};
 ghost use Rattle.st_script.specs.AnswerText.{ok_data, join_data, rev_data, sequence_data, void_data, deliver_data, show_text, answer_line};
 
@@ -89,11 +90,17 @@ fn void_value(alloc: Global, verdict: Verdict) -> Result<Value, AllocError>
     }
 }
 
+fn delivery_value(alloc: Global, n: u32, void: Value) -> Result<Value, AllocError>
+    ensures { IfOk result (λ v. view v ≡ object (member (codes "n") (number (unsigned n)) (member (codes "ok") (string (codes "deliver")) (member (codes "void") (view void) no_members)))) }
+{
+    json!(in alloc; {"n": n, "ok": "deliver", "void": void})
+}
+
 fn deliver_value(alloc: Global, n: u32, void: Verdict) -> Result<Value, AllocError>
     ensures { IfOk result (λ v. view v ≡ deliver_data n void) }
 {
     let void = void_value(alloc, void)?;
-    json!(in alloc; {"n": n, "ok": "deliver", "void": void})
+    delivery_value(alloc, n, void)
 }
 
 // The line of a tree, which is a JSON text.

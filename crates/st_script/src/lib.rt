@@ -9,8 +9,6 @@ mod member;
 mod read;
 mod refusal;
 mod step;
-#[cfg(test)]
-mod tests;
 mod write;
 
 pub use answer::{Answer, answer_line};

@@ -17,8 +17,7 @@ use crate::new::is_rising;
 use crate::rows::{SlotTurn, slot_turn};
 use crate::values::RowChange;
 use st_ids::{Atom, CellId, List, NodeId, Rev};
-use st_intent::{is_same_cell, is_same_node, is_same_rev};
-use st_marks::{How, Mark, Slot};
+use st_marks::{How, Mark, Slot, is_same_cell, is_same_node, is_same_rev};
 
 const ROOT: NodeId = NodeId(Atom {
     rev: Rev { session: 0, num: 0 },

@@ -8,8 +8,6 @@ mod beside;
 mod carry;
 mod form;
 mod kind;
-#[cfg(test)]
-mod kind_tests;
 mod laws;
 mod lay;
 mod names;
@@ -18,8 +16,6 @@ mod push;
 mod read;
 mod rows;
 mod said;
-#[cfg(test)]
-mod tests;
 mod touches;
 mod turns;
 mod values;

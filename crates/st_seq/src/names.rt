@@ -17,7 +17,7 @@ use std::alloc::{AllocError, Global};
 use std::collections::BTreeMap;
 
 /// A cell that a listing names: whether the listing makes it, and how many cells that it finds stand left of it.
-#[derive(Clone, Copy, Debug, PartialEq, Eq)]
+#[derive(Clone, Copy, PartialEq, Eq)]
 pub struct NamedCell {
     pub cell: CellId,
     pub left: u32,

@@ -12,16 +12,16 @@ use Rattle.st_marks.specs.LiveTree.{IsTreeText}
 use Rattle.st_conform.proofs.Resolved.{resolved_agrees}
 use Rattle.st_doc.specs.Doc.{document_of}
 use Rattle.st_doc.specs.LiveText.{is_among}
-use Rattle.st_resolve.specs.Resolve.{resolve}
-use Rattle.st_resolve.proofs.MoveFits.{CellsFresh}
-use Rattle.st_resolve.proofs.NewFits.{NodesFresh}
-use Rattle.st_resolve.proofs.Resolved.{resolved_fits}
+use Rattle.st_edits.specs.Resolve.{resolve}
+use Rattle.st_edits.proofs.MoveFits.{CellsFresh}
+use Rattle.st_edits.proofs.NewFits.{NodesFresh}
+use Rattle.st_edits.proofs.Resolved.{resolved_fits}
 use Rattle.st_script.specs.Header.{HeaderView, header_view}
 use Rattle.st_script.specs.declared.answer.Answer.{Answer}
 use Rattle.st_script.specs.declared.answer.Answer.TheVariants.{Show}
 use Rattle.st_trace.specs.Kept.{CanReceive, HasMoved, IsEditedKept, IsPending, IsSound, IsSoundAfter}
 use Rattle.st_trace.specs.World.{AtRefusal, HasReceived, HasShown, IsDelivered, IsDeliveredTo, IsEdited, IsShown, answered, edited, given, limit_passed, next_rev, pends, taken, with_client}
-use Rattle.st_trace.specs.declared.client.Done.{Done}
+use Rattle.st_trace.specs.declared.client.EditWord.{EditWord}
 use Rattle.st_trace.specs.declared.kept.Kept.{Kept}
 use Rattle.st_trace.specs.declared.lists.Client.{Client}
 use Rattle.st_trace.specs.declared.lists.Entry.{Entry}
@@ -54,7 +54,7 @@ goes_as c d c' g is = subst (GoesOn c) is g
 stays : (c : Client) → GoesOn c c
 stays c = record { session = refl; ids = omega arith }
 
-edited_on : (c c' : Client) (word : Done) (r : Result Intent EditFault) (a : Answer) → edited c word r ≡ (c', a) → GoesOn c c'
+edited_on : (c c' : Client) (word : EditWord) (r : Result Intent EditFault) (a : Answer) → edited c word r ≡ (c', a) → GoesOn c c'
 edited_on c c' word (Err f) a is = goes_as c c c' (stays c) (ap (λ (p : Client × Answer). p.0) is)
 edited_on c c' word (Ok N) a is = go (limit_passed c N) is
   where
@@ -62,7 +62,7 @@ edited_on c c' word (Ok N) a is = go (limit_passed c N) is
     go (Some l) is = goes_as c c c' (stays c) (ap (λ (p : Client × Answer). p.0) is)
     go None is = goes_as c _ c' (record { session = refl; ids = omega arith }) (ap (λ (p : Client × Answer). p.0) is)
 
-pub sound_edited : (w : World) (i : ℕ) (c c' : Client) (k k' : Kept) (word : Done) (edit : Edit) (a : Answer) → IsSound w → slice_get w.lists.clients i ≡ Some c → slice_get w.kept i ≡ Some k
+pub sound_edited : (w : World) (i : ℕ) (c c' : Client) (k k' : Kept) (word : EditWord) (edit : Edit) (a : Answer) → IsSound w → slice_get w.lists.clients i ≡ Some c → slice_get w.kept i ≡ Some k
     → edited c word (resolve (document_of k.shown) w.header.schema (given c) edit) ≡ (c', a) → IsEditedKept c k (resolve (document_of k.shown) w.header.schema (given c) edit) k'
     → IsSoundAfter (w.steps + 1) (record w { lists = record w.lists { clients = slice_set w.lists.clients i c' }; kept = slice_set w.kept i k' })
 sound_edited w i c c' k k' word edit a s at_c at_k done kept =
@@ -87,14 +87,14 @@ sound_edited w i c c' k k' word edit a s at_c at_k done kept =
     }) done s.schema)
 
 -- a refusal leaves the client and what is kept of it
-no_refusal : (word : Done) (rev : Rev) (P : Type 0) → AtRefusal (answered word rev) P
-no_refusal Done.Insert rev P = tt
-no_refusal Done.Remove rev P = tt
-no_refusal Done.Move rev P = tt
-no_refusal Done.Set rev P = tt
-no_refusal Done.Clear rev P = tt
+no_refusal : (word : EditWord) (rev : Rev) (P : Type 0) → AtRefusal (answered word rev) P
+no_refusal EditWord.Insert rev P = tt
+no_refusal EditWord.Remove rev P = tt
+no_refusal EditWord.Move rev P = tt
+no_refusal EditWord.Set rev P = tt
+no_refusal EditWord.Clear rev P = tt
 
-edit_refused : (c c' : Client) (k k' : Kept) (word : Done) (r : Result Intent EditFault) (a : Answer) → edited c word r ≡ (c', a) → IsEditedKept c k r k' → AtRefusal a ((c' ≡ c) × (k' ≡ k))
+edit_refused : (c c' : Client) (k k' : Kept) (word : EditWord) (r : Result Intent EditFault) (a : Answer) → edited c word r ≡ (c', a) → IsEditedKept c k r k' → AtRefusal a ((c' ≡ c) × (k' ≡ k))
 edit_refused c c' k k' word (Err f) a is kept = subst (λ x. AtRefusal x ((c' ≡ c) × (k' ≡ k))) (ap (λ (p : Client × Answer). p.1) is) (sym (ap (λ (p : Client × Answer). p.0) is), kept)
 edit_refused c c' k k' word (Ok N) a is kept = go (limit_passed c N) is kept
   where
@@ -123,12 +123,12 @@ same_world w i c c' k k' at_c at_k same =
     let kept : slice_set w.kept i k' ≡ w.kept = ap (slice_set w.kept i) same.1 ∙ set_same w.kept i k at_k in
     λ j. record w { lists = record w.lists { clients = clients j }; kept = kept j }
 
-pub edited_refused : (w : World) (i : ℕ) (c c' : Client) (k k' : Kept) (word : Done) (r : Result Intent EditFault) (a : Answer) → slice_get w.lists.clients i ≡ Some c → slice_get w.kept i ≡ Some k
+pub edited_refused : (w : World) (i : ℕ) (c c' : Client) (k k' : Kept) (word : EditWord) (r : Result Intent EditFault) (a : Answer) → slice_get w.lists.clients i ≡ Some c → slice_get w.kept i ≡ Some k
     → edited c word r ≡ (c', a) → IsEditedKept c k r k' → AtRefusal a (record w { lists = record w.lists { clients = slice_set w.lists.clients i c' }; kept = slice_set w.kept i k' } ≡ w)
 edited_refused w i c c' k k' word r a at_c at_k is kept = refusal_as a _ _ (same_world w i c c' k k' at_c at_k) (edit_refused c c' k k' word r a is kept)
 
 -- what a client does with the document that is kept, it does with one that it shows
-pub next_edited : (h : HeaderView) (w : Lists) (i : ℕ) (c q c' : Client) (word : Done) (f : Client → Document → Result Intent EditFault) (D : Document) (a : Answer) → slice_get w.clients i ≡ Some c → slice_get w.clients i ≡ Some q
+pub next_edited : (h : HeaderView) (w : Lists) (i : ℕ) (c q c' : Client) (word : EditWord) (f : Client → Document → Result Intent EditFault) (D : Document) (a : Answer) → slice_get w.clients i ≡ Some c → slice_get w.clients i ≡ Some q
     → HasShown h w.log c D → edited c word (f c D) ≡ (c', a) → IsEdited h w i q word (f q) (record w { clients = slice_set w.clients i c' }) a
 next_edited h w i c q c' word f D a at_c at_q shown done =
     let same : c ≡ q = cc in

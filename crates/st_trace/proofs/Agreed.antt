@@ -31,7 +31,7 @@ use Rattle.st_script.specs.declared.answer.Answer.{Answer}
 use Rattle.st_trace.specs.Kept.{AreKept, HaveSessionsFrom, IsClient, IsHeader, KeepToSchema, commits_by, intents_of, sent}
 use Rattle.st_trace.specs.Log.{commit_of, commits_in, entered}
 use Rattle.st_trace.specs.World.{HasShown, IsDeliveredTo, committed, edited, joined, limit_passed, names_in, next_rev, opened, pending_after, pends, received_by, taken}
-use Rattle.st_trace.specs.declared.client.Done.{Done}
+use Rattle.st_trace.specs.declared.client.EditWord.{EditWord}
 use Rattle.st_trace.specs.declared.kept.Kept.{Kept}
 use Rattle.st_trace.specs.declared.lists.Body.{Body}
 use Rattle.st_trace.specs.declared.lists.Body.TheVariants.{Join, Commit}
@@ -256,7 +256,7 @@ module _ (h : HeaderView) (st : IsStart (opened h)) where
         let far = session_at (n + 1) cs i c s.1 at in
         (other_told d are.0 (apart_before d n s.0 (omega (arith, far))) shown.0, all_told (n + 1) cs ks i s.1 at are.2 shown.1 own)
 
-  pub edited_keeps : (log : List Entry) (cs : List Client) (ks : List Kept) (i : ℕ) (c c' : Client) (D : Document) (word : Done) (r : Result Intent EditFault) (a : Answer) → HaveSessionsFrom 1 cs → AreKept h log cs ks
+  pub edited_keeps : (log : List Entry) (cs : List Client) (ks : List Kept) (i : ℕ) (c c' : Client) (D : Document) (word : EditWord) (r : Result Intent EditFault) (a : Answer) → HaveSessionsFrom 1 cs → AreKept h log cs ks
       → slice_get cs i ≡ Some c → HasShown h log c D → ((N : Intent) → r ≡ Ok N → MeansWell h c D N) → edited c word r ≡ (c', a) → KeepToSchema h log cs → KeepToSchema h log (slice_set cs i c')
   edited_keeps log cs ks i c c' D word (Err f) a sessions are at is_shown means is w = same_keeps log cs i c c' at (ap (λ (p : Client × Answer). p.0) is) w
   edited_keeps log cs ks i c c' D word (Ok N) a sessions are at is_shown means is w = go (limit_passed c N) is

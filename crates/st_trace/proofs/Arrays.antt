@@ -12,7 +12,7 @@ use Rattle.st_marks.proofs.Lookups.{both_true}
 use Rattle.st_schema.specs.Schema.{SchemaView, is_sound}
 use Rattle.st_schema.specs.declared.names.Form.{Form}
 use Rattle.st_doc.specs.LiveText.{is_among}
-use Rattle.st_resolve.specs.ArrayTypes.{is_array_form, is_array_type}
+use Rattle.st_edits.specs.ArrayTypes.{is_array_form, is_array_type}
 use Rattle.st_trace.proofs.Logs.{take-get}
 
 text_same : (xs ys : List ℕ) → pointwise nat_eq xs ys ≡ true → xs ≡ ys

@@ -25,8 +25,8 @@ use Rattle.st_schema.specs.Schema.{SchemaView}
 use Rattle.st_schema.specs.Conforms.{verdicts, refusal, allows_of}
 use Rattle.st_schema.specs.Written.{schema_data}
 use Rattle.st_schema.proofs.AllowedForm.{conforming_formed}
-use Rattle.st_doc.specs.Start.{first_said, type_at, cell_at, start_of}
-use Rattle.st_doc.proofs.StartSound.{start_sound}
+use Rattle.st_opening.specs.Start.{first_said, type_at, cell_at, start_of}
+use Rattle.st_opening.proofs.StartSound.{start_sound}
 use Rattle.st_commits.specs.Names.{IsMadeUnder}
 use Rattle.st_schema.specs.declared.header.Header.{Header}
 use Rattle.st_script.specs.Header.{HeaderView, header_line, header_view, may_open}

@@ -1,8 +1,7 @@
 -- Which step is which.
 use Rattle.std.proofs.Common.{◌≡◌, ℕ, List, Option, Some, None, Result, Ok, Err, refl, sym, ap, ◌∙◌, subst}
-use Rattle.st_tree.specs.declared.edit.Edit.{Edit}
 use Rattle.std.specs.Result.{IfOk}
-use Rattle.st_resolve.specs.Resolve.{IsWithin, resolve}
+use Rattle.st_edits.specs.Resolve.{IsWithin, resolve}
 use Rattle.st_script.specs.Header.{HeaderView}
 use Rattle.st_script.specs.Line.{line_of, line_view}
 use Rattle.st_script.specs.Steps.{IsOfForm, step_view, join}
@@ -11,10 +10,10 @@ use Rattle.st_script.proofs.OfForm.{line_formed as formed}
 use Rattle.st_script.specs.declared.answer.Answer.{Answer}
 use Rattle.st_script.specs.declared.step.TraceStep.{TraceStep}
 use Rattle.st_script.specs.declared.step.TraceStep.TheVariants as step
-use Rattle.st_trace.specs.Changes.{change_of}
+use Rattle.st_trace.specs.Edits.{word_of, edit_of}
 use Rattle.st_trace.specs.World.{IsEdited, IsNextOf, IsShown, given}
-use Rattle.st_trace.specs.declared.changes.Change.{Change}
-use Rattle.st_trace.specs.declared.client.Done.TheVariants as done
+use Rattle.st_trace.specs.declared.client.EditWord.{EditWord}
+use Rattle.st_trace.specs.declared.client.EditWord.TheVariants as word
 use Rattle.st_trace.specs.declared.lists.Client.{Client}
 use Rattle.st_trace.specs.declared.lists.Lists.{Lists}
 
@@ -23,39 +22,39 @@ pub if_ok_as : {A E : Type 0} (r : Result A E) (P Q : A → Type 0) → ((a : A)
 if_ok_as (Ok a) P Q f p = f a p
 if_ok_as (Err e) P Q f p = tt
 
-abbrev IsMeant : HeaderView → Lists → ℕ → Client → Lists → Answer → Change → Type 0
-IsMeant h w i c v a p = IsEdited h w i c p.done (λ D. resolve D h.schema (given c) p.edit) v a
+abbrev IsMeant : HeaderView → Lists → ℕ → Client → Lists → Answer → TraceStep → EditWord → Type 0
+IsMeant h w i c v a s x = IsEdited h w i c x (λ D. resolve D h.schema (given c) (edit_of s)) v a
 
-one_change : (p q : Change) → ◌≡◌ {A = Option Change} (Some q) (Some p) → p ≡ q
-one_change p q e = cc
+one_word : (x y : EditWord) → ◌≡◌ {A = Option EditWord} (Some y) (Some x) → x ≡ y
+one_word x y e = cc
 
 -- an edit of the tree
-pub next_change : (h : HeaderView) (w : Lists) (i : ℕ) (c : Client) (v : Lists) (a : Answer) (s : TraceStep) (p : Change) → change_of s ≡ Some p → IsEdited h w i c p.done (λ D. resolve D h.schema (given c) p.edit) v a
-    → IsNextOf h w (step_view s) i c v a
-next_change h w i c v a (step.Join client) p e m = cc
-next_change h w i c v a (step.Insert client branch at key index items) p e m = subst (IsMeant h w i c v a) (one_change p (record { done = done.Insert; edit = Edit.Insert at key index items }) e) m
-next_change h w i c v a (step.Remove client branch at key index count) p e m = subst (IsMeant h w i c v a) (one_change p (record { done = done.Remove; edit = Edit.Remove at key index count }) e) m
-next_change h w i c v a (step.Move client branch at key index count to to_key to_index) p e m = subst (IsMeant h w i c v a) (one_change p (record { done = done.Move; edit = Edit.Move at key index count to to_key to_index }) e) m
-next_change h w i c v a (step.Set client branch at key item) p e m = subst (IsMeant h w i c v a) (one_change p (record { done = done.Set; edit = Edit.Put at key item }) e) m
-next_change h w i c v a (step.Clear client branch at key) p e m = subst (IsMeant h w i c v a) (one_change p (record { done = done.Clear; edit = Edit.Clear at key }) e) m
-next_change h w i c v a (step.Sequence client) p e m = cc
-next_change h w i c v a (step.Deliver client) p e m = cc
-next_change h w i c v a (step.Show client branch) p e m = cc
+pub next_edit : (h : HeaderView) (w : Lists) (i : ℕ) (c : Client) (v : Lists) (a : Answer) (s : TraceStep) (x : EditWord) → word_of s ≡ Some x
+    → IsEdited h w i c x (λ D. resolve D h.schema (given c) (edit_of s)) v a → IsNextOf h w (step_view s) i c v a
+next_edit h w i c v a (step.Join client) x e m = cc
+next_edit h w i c v a (step.Insert client branch at key index items) x e m = subst (IsMeant h w i c v a (step.Insert client branch at key index items)) (one_word x word.Insert e) m
+next_edit h w i c v a (step.Remove client branch at key index count) x e m = subst (IsMeant h w i c v a (step.Remove client branch at key index count)) (one_word x word.Remove e) m
+next_edit h w i c v a (step.Move client branch at key index count to to_key to_index) x e m = subst (IsMeant h w i c v a (step.Move client branch at key index count to to_key to_index)) (one_word x word.Move e) m
+next_edit h w i c v a (step.Set client branch at key item) x e m = subst (IsMeant h w i c v a (step.Set client branch at key item)) (one_word x word.Set e) m
+next_edit h w i c v a (step.Clear client branch at key) x e m = subst (IsMeant h w i c v a (step.Clear client branch at key)) (one_word x word.Clear e) m
+next_edit h w i c v a (step.Sequence client) x e m = cc
+next_edit h w i c v a (step.Deliver client) x e m = cc
+next_edit h w i c v a (step.Show client branch) x e m = cc
 
 -- what a caller of an edit sees to
-pub within_change : (s : TraceStep) (p : Change) → change_of s ≡ Some p → IsOfForm (step_view s) → IsWithin p.edit
-within_change (step.Join client) p e f = cc
-within_change (step.Insert client branch at key index items) p e f = subst (λ (x : Change). IsWithin x.edit) (sym (one_change p (record { done = done.Insert; edit = Edit.Insert at key index items }) e)) f
-within_change (step.Remove client branch at key index count) p e f = subst (λ (x : Change). IsWithin x.edit) (sym (one_change p (record { done = done.Remove; edit = Edit.Remove at key index count }) e)) f
-within_change (step.Move client branch at key index count to to_key to_index) p e f = subst (λ (x : Change). IsWithin x.edit) (sym (one_change p (record { done = done.Move; edit = Edit.Move at key index count to to_key to_index }) e)) f
-within_change (step.Set client branch at key item) p e f = subst (λ (x : Change). IsWithin x.edit) (sym (one_change p (record { done = done.Set; edit = Edit.Put at key item }) e)) f
-within_change (step.Clear client branch at key) p e f = subst (λ (x : Change). IsWithin x.edit) (sym (one_change p (record { done = done.Clear; edit = Edit.Clear at key }) e)) f
-within_change (step.Sequence client) p e f = cc
-within_change (step.Deliver client) p e f = cc
-within_change (step.Show client branch) p e f = cc
+pub within_edit : (s : TraceStep) (x : EditWord) → word_of s ≡ Some x → IsOfForm (step_view s) → IsWithin (edit_of s)
+within_edit (step.Join client) x e f = cc
+within_edit (step.Insert client branch at key index items) x e f = f
+within_edit (step.Remove client branch at key index count) x e f = f
+within_edit (step.Move client branch at key index count to to_key to_index) x e f = f
+within_edit (step.Set client branch at key item) x e f = f
+within_edit (step.Clear client branch at key) x e f = f
+within_edit (step.Sequence client) x e f = cc
+within_edit (step.Deliver client) x e f = cc
+within_edit (step.Show client branch) x e f = cc
 
 -- the rest is what is shown
-pub next_show : (h : HeaderView) (w : Lists) (i : ℕ) (c : Client) (a : Answer) (s : TraceStep) → change_of s ≡ None → ((client : List ℕ) → s ≡ step.Join client → ⊥) → ((client : List ℕ) → s ≡ step.Sequence client → ⊥)
+pub next_show : (h : HeaderView) (w : Lists) (i : ℕ) (c : Client) (a : Answer) (s : TraceStep) → word_of s ≡ None → ((client : List ℕ) → s ≡ step.Join client → ⊥) → ((client : List ℕ) → s ≡ step.Sequence client → ⊥)
     → ((client : List ℕ) → s ≡ step.Deliver client → ⊥) → IsShown h w c a → IsNextOf h w (step_view s) i c w a
 next_show h w i c a (step.Join client) none no_join no_sequence no_deliver shown = absurd (no_join client refl)
 next_show h w i c a (step.Insert client branch at key index items) none no_join no_sequence no_deliver shown = cc

@@ -22,7 +22,7 @@ use Rattle.st_script.specs.declared.answer.Answer.{Answer}
 use Rattle.st_trace.specs.Kept.{IsClient, IsKept, IsCommitted, IsPending, IsEditedKept, CanReceive, CanCarry, HasMoved, HasReceivedNext, HasReceivedOf, HasReceivedOne}
 use Rattle.st_trace.specs.Log.{commit_of, commits_in, entered}
 use Rattle.st_trace.specs.World.{IsDeliveredTo, committed, edited, joined, limit_passed, names_in, names_made, next_rev, opened, pending_after, pends, received_by, taken}
-use Rattle.st_trace.specs.declared.client.Done.{Done}
+use Rattle.st_trace.specs.declared.client.EditWord.{EditWord}
 use Rattle.st_trace.specs.declared.kept.Kept.{Kept}
 use Rattle.st_trace.specs.declared.lists.Body.{Body}
 use Rattle.st_trace.specs.declared.lists.Client.{Client}
@@ -76,7 +76,7 @@ module _ (h : HeaderView) (st : IsStart (opened h)) where
           few_names : nat_lt 16384 (names_in c.pending + names_made N) ≡ false → names_in c.pending + names_made N ≤ 16384
           few_names q = grind (arith, nat_tests)
 
-  pub one_edited : (log : List Entry) (c c' : Client) (k k' : Kept) (word : Done) (r : Result Intent EditFault) (a : Answer) → AreOne h log c k → names_in (commits_in log) ≤ 131072
+  pub one_edited : (log : List Entry) (c c' : Client) (k k' : Kept) (word : EditWord) (r : Result Intent EditFault) (a : Answer) → AreOne h log c k → names_in (commits_in log) ≤ 131072
       → ((N : Intent) → r ≡ Ok N → Fits (document_of k.shown) N × (N.rev ≡ next_rev c) × (N.schema ≡ None)) → edited c word r ≡ (c', a) → IsEditedKept c k r k' → AreOne h log c' k'
   one_edited log c c' k k' word (Err f) a w all meant is kept =
       let same : c ≡ c' = ap (λ (p : Client × Answer). p.0) is in

@@ -13,12 +13,12 @@ use Rattle.st_schema.specs.declared.names.KindName.{KindName}
 use Rattle.st_schema.specs.declared.names.KindName.TheVariants.{Required, Optional, Sequence}
 use Rattle.st_marks.specs.declared.intents.Intent.{Intent}
 use Rattle.st_marks.specs.Document.{Document}
-use Rattle.st_resolve.specs.declared.rules.Given.{Given}
-use Rattle.st_resolve.specs.declared.rules.Takes.TheVariants as field
-use Rattle.st_resolve.specs.Paths.{and_then, field_at, row_length}
-use Rattle.st_resolve.specs.Resolve.{allowed, ask, clear, insert, inserted, may_move, move, moved, need, nothing_yet, placed, put, remove, removed, resolve, rule_for, taken, walk, within_row}
+use Rattle.st_edits.specs.declared.names.Given.{Given}
+use Rattle.st_edits.specs.declared.names.Takes.TheVariants as field
+use Rattle.st_edits.specs.Paths.{and_then, field_at, row_length}
+use Rattle.st_edits.specs.Resolve.{allowed, ask, clear, insert, inserted, may_move, move, moved, need, nothing_yet, placed, put, remove, removed, resolve, rule_for, taken, walk, within_row}
 use Rattle.std.proofs.Common.{nat_le, ◌∷◌, []}
-use Rattle.st_resolve.proofs.Fits.{passed}
+use Rattle.st_edits.proofs.Fits.{passed}
 
 abbrev IsOf : Given → Intent → Type 0
 IsOf G N = (N.rev ≡ G.rev) × (N.schema ≡ None)

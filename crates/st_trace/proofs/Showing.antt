@@ -12,14 +12,14 @@ use Rattle.st_marks.specs.LiveTree.{IsTreeText}
 use Rattle.st_commits.proofs.Turns.{turn_extends}
 use Rattle.st_conform.proofs.InTurn.{list_conforms}
 use Rattle.st_conform.proofs.ShownTree.{shown_conforms}
-use Rattle.st_resolve.specs.ArrayTypes.{is_array_type}
+use Rattle.st_edits.specs.ArrayTypes.{is_array_type}
 use Rattle.st_script.specs.Header.{HeaderView, header_view}
 use Rattle.st_script.specs.Steps.{StepView, branch_of, name_of}
 use Rattle.st_script.specs.Steps as step
 use Rattle.st_script.specs.declared.answer.Answer.{Answer}
 use Rattle.st_trace.specs.Kept.{IsSound}
 use Rattle.st_trace.specs.World.{AtClient, HasShown, IsAllowedText, IsDeliveredTo, IsEdited, IsNext, IsNextOf, OnBranch, ShowsAllowed, answered, edited, entering, found, join, limit_passed, log_limit_passed, names_made, next_rev, opened, pends, place_of, received_by, sequence}
-use Rattle.st_trace.specs.declared.client.Done.{Done}
+use Rattle.st_trace.specs.declared.client.EditWord.{EditWord}
 use Rattle.st_trace.specs.declared.lists.Client.{Client}
 use Rattle.st_trace.specs.declared.lists.Entry.{Entry}
 use Rattle.st_trace.specs.declared.lists.Lists.{Lists}
@@ -51,17 +51,17 @@ module _ (s : SchemaView) where
   abbrev Fine : Lists × Answer → Type 0
   Fine p = ShowsAllowed s p.1
 
-  answered_fine : (word : Done) (rev : Rev) → ShowsAllowed s (answered word rev)
-  answered_fine Done.Insert rev = tt
-  answered_fine Done.Remove rev = tt
-  answered_fine Done.Move rev = tt
-  answered_fine Done.Set rev = tt
-  answered_fine Done.Clear rev = tt
+  answered_fine : (word : EditWord) (rev : Rev) → ShowsAllowed s (answered word rev)
+  answered_fine EditWord.Insert rev = tt
+  answered_fine EditWord.Remove rev = tt
+  answered_fine EditWord.Move rev = tt
+  answered_fine EditWord.Set rev = tt
+  answered_fine EditWord.Clear rev = tt
 
   join_fine : (w : Lists) (name : List ℕ) → Fine (join w name)
   join_fine w name = either Fine (is_some (place_of name w.clients)) _ _ tt (either Fine (nat_le 64 (length w.clients)) _ _ tt (either Fine (nat_le 65535 (length w.log)) _ _ tt tt))
 
-  edited_fine : (c : Client) (word : Done) (r : Result Intent EditFault) → ShowsAllowed s (edited c word r).1
+  edited_fine : (c : Client) (word : EditWord) (r : Result Intent EditFault) → ShowsAllowed s (edited c word r).1
   edited_fine c word (Err f) = tt
   edited_fine c word (Ok N) = go (limit_passed c N)
     where
@@ -84,17 +84,17 @@ module _ (s : SchemaView) where
   one_fine : (p : Lists × Answer) (v : Lists) (a : Answer) → p ≡ (v, a) → Fine p → ShowsAllowed s a
   one_fine p v a is fine = subst (ShowsAllowed s) (ap (λ (q : Lists × Answer). q.1) is) fine
 
-  edit_fine : (h : HeaderView) (w : Lists) (i : ℕ) (c : Client) (word : Done) (meant : Document → Result Intent EditFault) (v : Lists) (a : Answer) → IsEdited h w i c word meant v a → ShowsAllowed s a
+  edit_fine : (h : HeaderView) (w : Lists) (i : ℕ) (c : Client) (word : EditWord) (meant : Document → Result Intent EditFault) (v : Lists) (a : Answer) → IsEdited h w i c word meant v a → ShowsAllowed s a
   edit_fine h w i c word meant v a is = subst (ShowsAllowed s) (ap (λ (q : Lists × Answer). q.1) is.2) (edited_fine c word (meant is.0))
 
 -- what the client at a place does
 of_fine : (w : World) (s : StepView) (i : ℕ) (c : Client) (v : Lists) (a : Answer) → IsSound w → slice_get w.lists.clients i ≡ Some c → IsNextOf (header_view w.header) w.lists s i c v a → ShowsAllowed w.header.schema a
 of_fine w (step.join name) i c v a sound at is = one_fine w.header.schema (join w.lists name) v a is (join_fine w.header.schema w.lists name)
-of_fine w (step.insert name branch path key index items) i c v a sound at is = edit_fine w.header.schema (header_view w.header) w.lists i c Done.Insert _ v a is
-of_fine w (step.remove name branch path key index count) i c v a sound at is = edit_fine w.header.schema (header_view w.header) w.lists i c Done.Remove _ v a is
-of_fine w (step.move name branch path key index count to to_key to_index) i c v a sound at is = edit_fine w.header.schema (header_view w.header) w.lists i c Done.Move _ v a is
-of_fine w (step.set name branch path key item) i c v a sound at is = edit_fine w.header.schema (header_view w.header) w.lists i c Done.Set _ v a is
-of_fine w (step.clear name branch path key) i c v a sound at is = edit_fine w.header.schema (header_view w.header) w.lists i c Done.Clear _ v a is
+of_fine w (step.insert name branch path key index items) i c v a sound at is = edit_fine w.header.schema (header_view w.header) w.lists i c EditWord.Insert _ v a is
+of_fine w (step.remove name branch path key index count) i c v a sound at is = edit_fine w.header.schema (header_view w.header) w.lists i c EditWord.Remove _ v a is
+of_fine w (step.move name branch path key index count to to_key to_index) i c v a sound at is = edit_fine w.header.schema (header_view w.header) w.lists i c EditWord.Move _ v a is
+of_fine w (step.set name branch path key item) i c v a sound at is = edit_fine w.header.schema (header_view w.header) w.lists i c EditWord.Set _ v a is
+of_fine w (step.clear name branch path key) i c v a sound at is = edit_fine w.header.schema (header_view w.header) w.lists i c EditWord.Clear _ v a is
 of_fine w (step.sequence name) i c v a sound at is = one_fine w.header.schema (sequence w.lists i c c.queue) v a is (sequence_fine w.header.schema w.lists i c c.queue)
 of_fine w (step.deliver name) i c v a sound at is = delivery_fine w.header.schema is.0 c is.1 (slice_get w.lists.log c.received) a is.3
 of_fine w (step.show name branch) i c v a sound at is =

@@ -19,7 +19,7 @@ use Rattle.st_conform.specs.Conforming.{IsConforming}
 use Rattle.st_doc.specs.Doc.{document_of}
 use Rattle.st_doc.specs.LiveText.{is_among}
 use Rattle.st_schema.specs.Schema.{is_sound}
-use Rattle.st_resolve.specs.ArrayTypes.{is_array_type}
+use Rattle.st_edits.specs.ArrayTypes.{is_array_type}
 use Rattle.st_script.specs.Header.{HeaderView, header_view, may_open}
 use Rattle.st_trace.specs.Known.{AreKnown}
 use Rattle.st_trace.specs.Log.{commit_of, commits_in}

@@ -1,4 +1,4 @@
-pub mod Changes
+pub mod Edits
 pub mod Kept
 pub mod Known
 pub mod Log

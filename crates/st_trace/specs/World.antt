@@ -10,7 +10,7 @@ use Rattle.st_tree.specs.Node.{Node, nodes_of, first, no_nodes}
 use Rattle.st_tree.specs.Preorder.{opening_listed}
 use Rattle.st_tree.specs.declared.edit.EditFault.{EditFault}
 use Rattle.st_tree.specs.declared.edit.EditFault.TheVariants as fault
-use Rattle.st_resolve.specs.ArrayTypes.{is_array_type}
+use Rattle.st_edits.specs.ArrayTypes.{is_array_type}
 use Rattle.st_schema.specs.Conforms.{conforms}
 use Rattle.st_schema.specs.Schema.{SchemaView}
 use Rattle.st_schema.specs.TreeText.{tree_data}
@@ -22,9 +22,9 @@ use Rattle.st_marks.specs.Intent.{group_cells}
 use Rattle.st_marks.specs.LiveTree.{IsTreeText}
 use Rattle.st_marks.specs.Run.{Run}
 use Rattle.st_marks.specs.Verdict.{IsVerdict}
-use Rattle.st_doc.specs.Start.{start_of}
-use Rattle.st_resolve.specs.declared.rules.Given.{Given}
-use Rattle.st_resolve.specs.Resolve.{insert, remove, move, put, clear}
+use Rattle.st_opening.specs.Start.{start_of}
+use Rattle.st_edits.specs.declared.names.Given.{Given}
+use Rattle.st_edits.specs.Resolve.{insert, remove, move, put, clear}
 use Rattle.st_script.specs.Header.{HeaderView}
 use Rattle.st_script.specs.Steps.{StepView, branch_of, name_of}
 use Rattle.st_script.specs.Steps as step
@@ -33,8 +33,8 @@ use Rattle.st_script.specs.declared.answer.Answer.TheVariants as answer
 use Rattle.st_script.specs.declared.refusal.Refusal.{Refusal}
 use Rattle.st_script.specs.declared.refusal.Refusal.TheVariants as no
 use Rattle.st_trace.specs.Log.{commit_of, commits_in, entered, minimum}
-use Rattle.st_trace.specs.declared.client.Done.{Done}
-use Rattle.st_trace.specs.declared.client.Done.TheVariants as done
+use Rattle.st_trace.specs.declared.client.EditWord.{EditWord}
+use Rattle.st_trace.specs.declared.client.EditWord.TheVariants as word
 use Rattle.st_trace.specs.declared.lists.Body.TheVariants.{Join as Joined, Commit}
 use Rattle.st_trace.specs.declared.lists.Client.{Client}
 use Rattle.st_trace.specs.declared.lists.Entry.{Entry}
@@ -94,12 +94,12 @@ refused (fault.NotAllowed at) = no.NotAllowed at
 refused (fault.Limit l) = no.Limit l
 
 -- the answer to an edit whose commit is pending
-abbrev pub answered : Done → Rev → Answer
-answered done.Insert rev = answer.Insert rev
-answered done.Remove rev = answer.Remove rev
-answered done.Move rev = answer.Move rev
-answered done.Set rev = answer.Set rev
-answered done.Clear rev = answer.Clear rev
+abbrev pub answered : EditWord → Rev → Answer
+answered word.Insert rev = answer.Insert rev
+answered word.Remove rev = answer.Remove rev
+answered word.Move rev = answer.Move rev
+answered word.Set rev = answer.Set rev
+answered word.Clear rev = answer.Clear rev
 
 -- the limit that one more pending commit would pass: at most 256 commits, and 16,384 names in them
 abbrev pub limit_passed : Client → Intent → Option Limit
@@ -108,12 +108,12 @@ limit_passed c N =
     if nat_lt 16384 (names_in c.pending + names_made N) then Some (record { of = Unsequenced; kept = names_in c.pending }) else None
 
 -- a commit is pending from now on, if it passes no limit
-abbrev pub pends : Client → Done → Intent → Option Limit → Client × Answer
+abbrev pub pends : Client → EditWord → Intent → Option Limit → Client × Answer
 pends c word N None = (committed c N, answered word (next_rev c))
 pends c word N (Some l) = (c, answer.No (no.Limit l))
 
 -- an edit that is refused, or whose commit is pending from now on
-abbrev pub edited : Client → Done → Result Intent EditFault → Client × Answer
+abbrev pub edited : Client → EditWord → Result Intent EditFault → Client × Answer
 edited c word (Err f) = (c, answer.No (refused f))
 edited c word (Ok N) = pends c word N (limit_passed c N)
 
@@ -208,7 +208,7 @@ abbrev pub Stays : Lists → Lists → Answer → Answer → Type 0
 Stays w v a b = (v ≡ w) × (a ≡ b)
 
 -- an edit is resolved in the document that the client shows
-abbrev pub IsEdited : HeaderView → Lists → ℕ → Client → Done → (Document → Result Intent EditFault) → Lists → Answer → Type 0
+abbrev pub IsEdited : HeaderView → Lists → ℕ → Client → EditWord → (Document → Result Intent EditFault) → Lists → Answer → Type 0
 IsEdited h w i c word meant v a = (D : Document) × HasShown h w.log c D × (with_client w i (edited c word (meant D)) ≡ (v, a))
 
 -- the client receives the next entry
@@ -223,11 +223,11 @@ IsShown h w c a = (D : Document) × (tree : List ℕ) × HasShown h w.log c D ×
 -- what a step makes of the world, for its client and that one's place
 abbrev pub IsNextOf : HeaderView → Lists → StepView → ℕ → Client → Lists → Answer → Type 0
 IsNextOf h w (step.join name) i c v a = join w name ≡ (v, a)
-IsNextOf h w (step.insert name branch at key index items) i c v a = IsEdited h w i c done.Insert (λ D. insert D h.schema (given c) at key index (nodes_of items)) v a
-IsNextOf h w (step.remove name branch at key index count) i c v a = IsEdited h w i c done.Remove (λ D. remove D h.schema (given c) at key index count) v a
-IsNextOf h w (step.move name branch at key index count to to_key to_index) i c v a = IsEdited h w i c done.Move (λ D. move D h.schema (given c) at key index count to to_key to_index) v a
-IsNextOf h w (step.set name branch at key item) i c v a = IsEdited h w i c done.Set (λ D. put D h.schema (given c) at key (first item no_nodes)) v a
-IsNextOf h w (step.clear name branch at key) i c v a = IsEdited h w i c done.Clear (λ D. clear D h.schema (given c) at key) v a
+IsNextOf h w (step.insert name branch at key index items) i c v a = IsEdited h w i c word.Insert (λ D. insert D h.schema (given c) at key index (nodes_of items)) v a
+IsNextOf h w (step.remove name branch at key index count) i c v a = IsEdited h w i c word.Remove (λ D. remove D h.schema (given c) at key index count) v a
+IsNextOf h w (step.move name branch at key index count to to_key to_index) i c v a = IsEdited h w i c word.Move (λ D. move D h.schema (given c) at key index count to to_key to_index) v a
+IsNextOf h w (step.set name branch at key item) i c v a = IsEdited h w i c word.Set (λ D. put D h.schema (given c) at key (first item no_nodes)) v a
+IsNextOf h w (step.clear name branch at key) i c v a = IsEdited h w i c word.Clear (λ D. clear D h.schema (given c) at key) v a
 IsNextOf h w (step.sequence name) i c v a = sequence w i c c.queue ≡ (v, a)
 IsNextOf h w (step.deliver name) i c v a = IsDelivered h w i c v a
 IsNextOf h w (step.show name branch) i c v a = (v ≡ w) × IsShown h w c a

@@ -1,25 +1,27 @@
 //! What one client does: its edits, and what it receives. Its documents are kept beside it.
-ghost use Rattle.std.specs.Prelude.{◌≡◌, ◌==◌, ◌+◌, ◌-◌, ◌^◌, ◌<◌, ◌≤◌, ℕ, true, false, [], ◌∷◌, length, slice_get, option_copied, option_map, min, MatchOption, IfOk, IfSome, OnOk, None};
+ghost use Rattle.std.specs.Prelude.{◌≡◌, ◌==◌, ◌+◌, ◌-◌, ◌^◌, ◌<◌, ◌≤◌, ℕ, true, false, is_some, [], ◌∷◌, length, slice_get, option_copied, option_map, min, MatchOption, IfOk, IfSome, OnOk, None};
 ghost use Rattle.st_tree.specs.Preorder.{cell_named, node_named};
 ghost use Rattle.st_marks.specs.Document.{IsSoundInForm};
 ghost use Rattle.st_marks.specs.Intent.{Fits};
 ghost use Rattle.st_marks.specs.Run.{Run};
 ghost use Rattle.st_doc.specs.Doc.{document_of};
-ghost use Rattle.st_resolve.specs.Resolve.{IsWithin, resolve};
+ghost use Rattle.st_edits.specs.Resolve.{IsWithin, resolve};
 ghost use Rattle.st_commits.specs.Turns.{FitInTurn};
+ghost use Rattle.st_trace.specs.Edits.{word_of, edit_of};
 ghost use Rattle.st_trace.specs.Kept.{IsCommitted, IsPending, IsEditedKept, HasCarried, HasReceivedOne, CanReceive, HasReceivedNext, HasMoved};
 ghost use Rattle.st_trace.specs.World.{names_made, names_in, next_rev, committed, given, refused, limit_passed, pends, edited, answered, is_own, taken, IsDeliveredTo, joined};
 
+use crate::edits::resolve_step;
 use crate::kept::Kept;
 use crate::lists::{Body, Client, Entry, Queued};
 use crate::names::names_made;
 use st_doc::Doc;
+use st_edits::Given;
 use st_ids::{Copied, Limit, LimitOf, List, Or, Rev, Text};
 use st_marks::{Intent, Verdict};
-use st_resolve::{Given, resolve};
 use st_schema::Schema;
-use st_script::{Answer, Refusal};
-use st_tree::{Edit, EditFault};
+use st_script::{Answer, Refusal, TraceStep};
+use st_tree::EditFault;
 use std::alloc::{AllocError, Global};
 
 /// How many commits a client may have pending.
@@ -30,7 +32,7 @@ const MOST_NAMES: u64 = 16_384;
 
 /// The answers that tell a commit's revision.
 #[derive(Clone, Copy, Debug, PartialEq, Eq)]
-pub enum Done {
+pub enum EditWord {
     Insert,
     Remove,
     Move,
@@ -39,15 +41,15 @@ pub enum Done {
 }
 
 // The answer to an edit whose commit is pending.
-fn answered(done: Done, rev: Rev) -> Answer
+fn answered(done: EditWord, rev: Rev) -> Answer
     ensures { result ≡ answered done rev }
 {
     match done {
-        Done::Insert => Answer::Insert { rev },
-        Done::Remove => Answer::Remove { rev },
-        Done::Move => Answer::Move { rev },
-        Done::Set => Answer::Set { rev },
-        Done::Clear => Answer::Clear { rev },
+        EditWord::Insert => Answer::Insert { rev },
+        EditWord::Remove => Answer::Remove { rev },
+        EditWord::Move => Answer::Move { rev },
+        EditWord::Set => Answer::Set { rev },
+        EditWord::Clear => Answer::Clear { rev },
     }
 }
 
@@ -100,6 +102,18 @@ fn limit_passed(client: &Client, names: u64, intent: &Intent) -> Option<Limit>
     None
 }
 
+// Keeps a commit as pending and in the queue.
+fn enqueue(alloc: Global, client: &mut Client, intent: Intent) -> Result<(), AllocError>
+    requires few { client.old.ids + 1 < 2 ^ 32 }
+    ensures client { OnOk result (client.new ≡ committed client.old intent) }
+{
+    client.pending.push(intent.copy(alloc)?)?;
+    let reference = client.received;
+    client.queue.push(Queued { reference, intent })?;
+    client.ids += 1;
+    Ok(())
+}
+
 // Carries a commit out, and keeps it as pending and in the queue.
 fn commit(
     alloc: Global,
@@ -116,11 +130,7 @@ fn commit(
 {
     kept.names += names_made(&intent);
     kept.shown.carry(alloc, &intent)?;
-    client.pending.push(intent.copy(alloc)?)?;
-    let reference = client.received;
-    client.queue.push(Queued { reference, intent })?;
-    client.ids += 1;
-    Ok(())
+    enqueue(alloc, client, intent)
 }
 
 // Keeps a commit as pending, if it passes no limit.
@@ -128,7 +138,7 @@ fn pend(
     alloc: Global,
     client: &mut Client,
     kept: &mut Kept,
-    done: Done,
+    done: EditWord,
     intent: Intent,
 ) -> Result<Answer, AllocError>
     requires few { client.old.ids + 1 < 2 ^ 32 }
@@ -154,22 +164,23 @@ pub fn edit(
     schema: &Schema,
     client: &mut Client,
     kept: &mut Kept,
-    done: Done,
-    edit: &Edit,
+    done: EditWord,
+    step: &TraceStep,
 ) -> Result<Answer, AllocError>
     requires few { client.old.ids + 1 < 2 ^ 32 }
-    requires within { IsWithin edit.now }
+    requires edit { is_some (word_of step.now) ≡ true }
+    requires within { IsWithin (edit_of step.now) }
     requires pending { length client.old.pending ≤ 256 }
     requires names { kept.old.names ≡ names_in client.old.pending }
     requires few_names { names_in client.old.pending ≤ 16384 }
     requires sound { IsSoundInForm (document_of kept.old.shown) }
     requires fresh_nodes { (k : ℕ) → (document_of kept.old.shown).nodes (node_named (next_rev client.old) k) ≡ None }
     requires fresh_cells { (k : ℕ) → (document_of kept.old.shown).row_of (cell_named (next_rev client.old) k) ≡ None }
-    ensures answer { IfOk result (λ a. edited client.old done (resolve (document_of kept.old.shown) schema.now (given client.old) edit.now) ≡ (client.new, a)) }
-    ensures kept { OnOk result (IsEditedKept client.old kept.old (resolve (document_of kept.old.shown) schema.now (given client.old) edit.now) kept.new) }
+    ensures answer { IfOk result (λ a. edited client.old done (resolve (document_of kept.old.shown) schema.now (given client.old) (edit_of step.now)) ≡ (client.new, a)) }
+    ensures kept { OnOk result (IsEditedKept client.old kept.old (resolve (document_of kept.old.shown) schema.now (given client.old) (edit_of step.now)) kept.new) }
 {
     schema.is_kept();
-    match resolve(alloc, &kept.shown, schema, given(client), edit) {
+    match resolve_step(alloc, &kept.shown, schema, given(client), step) {
         Ok(intent) => {
             let answer = pend(alloc, client, kept, done, intent)?;
             Ok(answer)

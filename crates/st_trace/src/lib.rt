@@ -1,16 +1,14 @@
 //! The world of a trace: the log, the clients and what each of them shows.
 #![tactic(auto)]
 
-mod changes;
 mod client;
+mod edits;
 mod kept;
 mod lists;
 mod log;
 mod names;
-#[cfg(test)]
-mod tests;
 mod world;
 
-pub use client::Done;
+pub use client::EditWord;
 pub use lists::{Body, Client, Entry, Lists, Queued};
 pub use world::{Spent, World};

@@ -1,5 +1,5 @@
 //! The world: its lists, and the documents and numbers that its answers are read off.
-ghost use Rattle.std.specs.Prelude.{◌≡◌, ◌↔◌, ◌+◌, ◌-◌, ◌^◌, ◌<◌, ◌≤◌, true, false, length, [], None, Some, slice_get, IfOk, OnOk, IsErrOf};
+ghost use Rattle.std.specs.Prelude.{◌≡◌, ◌↔◌, ◌+◌, ◌-◌, ◌^◌, ◌<◌, ◌≤◌, true, false, is_some, length, [], None, Some, slice_get, IfOk, OnOk, IsErrOf};
 ghost use Rattle.st_marks.specs.declared.verdicts.Verdict.{Verdict as Outcome};
 ghost use Rattle.st_marks.specs.Document.{IsSoundInForm};
 ghost use Rattle.st_marks.specs.Intent.{Fits};
@@ -8,18 +8,18 @@ ghost use Rattle.st_doc.specs.Doc.{document_of};
 ghost use Rattle.st_script.specs.Header.{header_view, may_open};
 ghost use Rattle.st_script.specs.Steps.{step_view, IsOfForm};
 ghost use Rattle.st_doc.specs.LiveText.{is_among};
-ghost use Rattle.st_resolve.specs.Resolve.{IsWithin, resolve};
-ghost use Rattle.st_resolve.specs.ArrayTypes.{is_array_type};
-ghost use Rattle.st_trace.specs.World.{begun, names_made, place_of, over, log_limit_passed, join, sequence, given, IsEdited, IsDelivered, IsShown, IsNextOf, IsNext, AtRefusal, ShowsAllowed};
+ghost use Rattle.st_edits.specs.Resolve.{IsWithin, resolve};
+ghost use Rattle.st_edits.specs.ArrayTypes.{is_array_type};
+ghost use Rattle.st_trace.specs.World.{begun, opened, names_made, place_of, over, log_limit_passed, join, sequence, given, IsEdited, IsDelivered, IsShown, IsNextOf, IsNext, AtRefusal, ShowsAllowed};
 ghost use Rattle.st_trace.specs.Kept.{IsHeader, IsSound, IsSoundNext};
 ghost use Rattle.st_trace.specs.Known.{AreKnown};
 ghost use Rattle.st_trace.specs.Log.{entered, minimum};
 ghost use Rattle.st_trace.specs.declared.lists.Body.TheVariants.{Commit};
-ghost use Rattle.st_trace.specs.Changes.{change_of};
+ghost use Rattle.st_trace.specs.Edits.{word_of, edit_of};
 ghost use Rattle.st_trace.specs.declared.lists.Client.{Client as Present};
 
-use crate::changes::change_in;
-use crate::client::{self, Done};
+use crate::client::{self, EditWord};
+use crate::edits::word_of;
 use crate::kept::Kept;
 use crate::lists::{Body, Client, Lists, Queued};
 use crate::log::{enter, least_known};
@@ -29,7 +29,6 @@ use st_ids::{Copied, Limit, LimitOf, List, Or, Text};
 use st_marks::Intent;
 use st_schema::{Form, Header, Schema};
 use st_script::{Answer, Refusal, TraceStep};
-use st_tree::Edit;
 use std::alloc::{AllocError, Global};
 use std::collections::BTreeMap;
 
@@ -101,6 +100,15 @@ fn array_types(alloc: Global, schema: &Schema) -> Result<List<Text>, AllocError>
     Ok(types)
 }
 
+// The document of a header's tree.
+fn opening(alloc: Global, header: &Header) -> Result<Doc, AllocError>
+    requires { IsHeader (header_view header.now) }
+    ensures { IfOk result (λ d. document_of d ≡ opened (header_view header.now)) }
+{
+    let schema = header.schema.text(alloc)?;
+    Doc::start(alloc, schema, &header.tree)
+}
+
 impl World {
     /// The world that opens with a header, before any client joins.
     pub fn new(alloc: Global, header: Header) -> Result<World, AllocError>
@@ -111,8 +119,7 @@ impl World {
         ensures fresh { IfOk result (λ w. (w.spent ≡ false) × (w.steps ≡ 0)) }
     {
         let arrays = array_types(alloc, &header.schema)?;
-        let schema = header.schema.text(alloc)?;
-        let head = Doc::start(alloc, schema, &header.tree)?;
+        let head = opening(alloc, &header)?;
         Ok(World {
             header,
             arrays,
@@ -134,14 +141,15 @@ impl World {
         &mut self,
         alloc: Global,
         i: usize,
-        done: Done,
-        edit: &Edit,
+        done: EditWord,
+        step: &TraceStep,
     ) -> Result<Answer, AllocError>
         requires sound { IsSound self.old }
         requires few { self.old.steps + 1 < 2 ^ 32 }
-        requires within { IsWithin edit.now }
+        requires edit { is_some (word_of step.now) ≡ true }
+        requires within { IsWithin (edit_of step.now) }
         ensures next { IfOk result (λ a. (c : Present) → slice_get self.old.lists.clients i ≡ Some c
-            → IsEdited (header_view self.old.header) self.old.lists i c done (λ D. resolve D (header_view self.old.header).schema (given c) edit.now) self.new.lists a) }
+            → IsEdited (header_view self.old.header) self.old.lists i c done (λ D. resolve D (header_view self.old.header).schema (given c) (edit_of step.now)) self.new.lists a) }
         ensures sound { OnOk result (IsSoundNext self.new) }
         ensures steps { OnOk result (self.new.steps ≡ self.old.steps) }
         ensures header { OnOk result (self.new.header ≡ self.old.header) }
@@ -154,7 +162,7 @@ impl World {
         let Some(client) = self.lists.clients.get_mut(i) else {
             return Ok(Answer::No(Refusal::NoClient));
         };
-        let answer = client::edit(alloc, &self.header.schema, client, kept, done, edit)?;
+        let answer = client::edit(alloc, &self.header.schema, client, kept, done, step)?;
         Ok(answer)
     }
 
@@ -327,7 +335,7 @@ impl World {
     ) -> Result<Answer, AllocError>
         requires sound { IsSound self.old }
         requires few { self.old.steps + 1 < 2 ^ 32 }
-        requires plain { change_of step.now ≡ None }
+        requires plain { word_of step.now ≡ None }
         ensures next { IfOk result (λ a. (c : Present) → slice_get self.old.lists.clients i ≡ Some c
             → IsNextOf (header_view self.old.header) self.old.lists (step_view step.now) i c self.new.lists a) }
         ensures sound { OnOk result (IsSoundNext self.new) }
@@ -360,8 +368,8 @@ impl World {
         ensures spent { self.new.spent ≡ self.old.spent }
         ensures refused { IfOk result (λ a. AtRefusal a (self.new ≡ self.old)) }
     {
-        match change_in(alloc, step)? {
-            Some(change) => self.edit(alloc, i, change.done, &change.edit),
+        match word_of(step) {
+            Some(word) => self.edit(alloc, i, word, step),
             None => self.answer_plain(alloc, i, step),
         }
     }

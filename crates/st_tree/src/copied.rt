@@ -1,10 +1,11 @@
 //! Copies of trees, of their lists of nodes and of edits.
 ghost use Rattle.std.specs.Prelude.{◌≡◌, IfOk};
+ghost use Rattle.st_tree.specs.declared.edit.Edit.TheVariants.{Insert, Remove, Move, Put, Clear};
 
 use crate::edit::Edit;
 use crate::flat::{Flat, FlatAt, FlatNode};
 use crate::tree::{Field, Tree};
-use st_ids::{Copied, List};
+use st_ids::{Copied, Key, List, Path};
 use std::alloc::{AllocError, Global};
 
 #[cycle(copying)]
@@ -79,6 +80,82 @@ impl Copied for Flat {
     }
 }
 
+fn copy_insert(
+    alloc: Global,
+    at: &Path,
+    key: &Key,
+    index: u32,
+    items: &List<Tree>,
+) -> Result<Edit, AllocError>
+    ensures { IfOk result (λ e. e ≡ Insert at.now key.now index items.now) }
+{
+    Ok(Edit::Insert {
+        at: at.copy(alloc)?,
+        key: key.copy(alloc)?,
+        index,
+        items: items.copy(alloc)?,
+    })
+}
+
+fn copy_remove(
+    alloc: Global,
+    at: &Path,
+    key: &Key,
+    index: u32,
+    count: u32,
+) -> Result<Edit, AllocError>
+    ensures { IfOk result (λ e. e ≡ Remove at.now key.now index count) }
+{
+    Ok(Edit::Remove {
+        at: at.copy(alloc)?,
+        key: key.copy(alloc)?,
+        index,
+        count,
+    })
+}
+
+fn copy_move(
+    alloc: Global,
+    at: &Path,
+    key: &Key,
+    index: u32,
+    count: u32,
+    to: &Path,
+    to_key: &Key,
+    to_index: u32,
+) -> Result<Edit, AllocError>
+    ensures { IfOk result (λ e. e ≡ Move at.now key.now index count to.now to_key.now to_index) }
+{
+    Ok(Edit::Move {
+        at: at.copy(alloc)?,
+        key: key.copy(alloc)?,
+        index,
+        count,
+        to: to.copy(alloc)?,
+        to_key: to_key.copy(alloc)?,
+        to_index,
+    })
+}
+
+fn copy_put(alloc: Global, at: &Path, key: &Key, item: &Tree) -> Result<Edit, AllocError>
+    ensures { IfOk result (λ e. e ≡ Put at.now key.now item.now) }
+{
+    Ok(Edit::Put {
+        at: at.copy(alloc)?,
+        key: key.copy(alloc)?,
+        item: item.copy(alloc)?,
+    })
+}
+
+fn copy_clear(alloc: Global, at: &Path, key: &Key) -> Result<Edit, AllocError>
+    ensures { IfOk result (λ e. e ≡ Clear at.now key.now) }
+{
+    Ok(Edit::Clear {
+        at: at.copy(alloc)?,
+        key: key.copy(alloc)?,
+    })
+}
+
 impl Copied for Edit {
     fn copy(&self, alloc: Global) -> Result<Self, AllocError> {
         match self {
@@ -87,23 +164,13 @@ impl Copied for Edit {
                 key,
                 index,
                 items,
-            } => Ok(Edit::Insert {
-                at: at.copy(alloc)?,
-                key: key.copy(alloc)?,
-                index: *index,
-                items: items.copy(alloc)?,
-            }),
+            } => copy_insert(alloc, at, key, *index, items),
             Edit::Remove {
                 at,
                 key,
                 index,
                 count,
-            } => Ok(Edit::Remove {
-                at: at.copy(alloc)?,
-                key: key.copy(alloc)?,
-                index: *index,
-                count: *count,
-            }),
+            } => copy_remove(alloc, at, key, *index, *count),
             Edit::Move {
                 at,
                 key,
@@ -112,24 +179,9 @@ impl Copied for Edit {
                 to,
                 to_key,
                 to_index,
-            } => Ok(Edit::Move {
-                at: at.copy(alloc)?,
-                key: key.copy(alloc)?,
-                index: *index,
-                count: *count,
-                to: to.copy(alloc)?,
-                to_key: to_key.copy(alloc)?,
-                to_index: *to_index,
-            }),
-            Edit::Put { at, key, item } => Ok(Edit::Put {
-                at: at.copy(alloc)?,
-                key: key.copy(alloc)?,
-                item: item.copy(alloc)?,
-            }),
-            Edit::Clear { at, key } => Ok(Edit::Clear {
-                at: at.copy(alloc)?,
-                key: key.copy(alloc)?,
-            }),
+            } => copy_move(alloc, at, key, *index, *count, to, to_key, *to_index),
+            Edit::Put { at, key, item } => copy_put(alloc, at, key, item),
+            Edit::Clear { at, key } => copy_clear(alloc, at, key),
             Edit::Need { at } => Ok(Edit::Need {
                 at: at.copy(alloc)?,
             }),

@@ -7,8 +7,6 @@ mod flat;
 mod limits;
 mod preorder;
 mod rebuild;
-#[cfg(test)]
-mod tests;
 mod tree;
 
 pub use edit::{Edit, EditFault};

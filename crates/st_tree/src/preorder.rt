@@ -3,6 +3,7 @@ ghost use Rattle.std.specs.Prelude.{◌≡◌, ◌+◌, ◌<◌, ◌++◌, ◌^�
 ghost use Rattle.st_ids.specs.Or.{IfRefused};
 ghost use Rattle.st_tree.specs.Node.{view, field_view, fields_view, trees_view};
 ghost use Rattle.st_tree.specs.Size.{node_count, item_count, check_of, check_items};
+ghost use Rattle.st_tree.specs.declared.tree.Tree.{out-Tree};
 ghost use Rattle.st_tree.specs.Preorder.{cell_count, item_cells, cells_taken, is_array, at_of, listed, items_listed, tops_listed, opening_listed};
 
 use crate::flat::{Flat, FlatAt, FlatNode};
@@ -76,6 +77,27 @@ fn place_of(
     }
 }
 
+// The root of a tree, under its name and at its place.
+fn flat_node(
+    alloc: Global,
+    tree: &Tree,
+    node: NodeId,
+    at: FlatAt,
+) -> Result<FlatNode, AllocError>
+    ensures { IfOk result (λ n. n ≡ record { node = node; ty = (out-Tree tree.now).ty; leaf = (out-Tree tree.now).leaf; row = is_array (fields_view (out-Tree tree.now).fields); at = at }) }
+{
+    let row = is_array(&tree.fields);
+    let ty = tree.ty.copy(alloc)?;
+    let leaf = tree.leaf.copy(alloc)?;
+    Ok(FlatNode {
+        node,
+        ty,
+        leaf,
+        row,
+        at,
+    })
+}
+
 // Puts the nodes of a tree at the end of a list.
 #[cycle(flattening)]
 fn flatten_tree(
@@ -91,13 +113,7 @@ fn flatten_tree(
     ensures after { OnOk result (naming.new ≡ record { rev = naming.old.rev; node = naming.old.node + node_count (view tree.now); cell = naming.old.cell + cell_count (view tree.now) }) }
 {
     let node = naming.next_node();
-    nodes.push(FlatNode {
-        node,
-        ty: tree.ty.copy(alloc)?,
-        leaf: tree.leaf.copy(alloc)?,
-        row: is_array(&tree.fields),
-        at,
-    })?;
+    nodes.push(flat_node(alloc, tree, node, at)?)?;
     for field in tree.fields.as_slice() {
         flatten_field(alloc, field, node, naming, nodes)?;
     }

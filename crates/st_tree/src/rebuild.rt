@@ -5,7 +5,7 @@ ghost use Rattle.st_ids.specs.declared.names.Rev.{Rev as RevNames};
 ghost use Rattle.st_tree.specs.declared.tree.Tree.{Tree as TreeValue};
 ghost use Rattle.st_tree.specs.Form.{has_form, all_have_form};
 ghost use Rattle.st_tree.specs.Preorder.{tops_listed, opening_listed};
-ghost use Rattle.st_tree.specs.Node.{field, no_fields, view, field_view, trees_view, fields_view, nodes_of, fields_of};
+ghost use Rattle.st_tree.specs.Node.{node as node_of, field, no_fields, view, field_view, trees_view, fields_view, nodes_of, fields_of};
 ghost use Rattle.st_tree.specs.Rebuilt.{is_below, first_is_below, mine, others, keyed, fields_above, hung, rebuilt, waiting_view};
 
 use crate::flat::{Flat, FlatAt, FlatNode};
@@ -139,21 +139,24 @@ fn all_below(
     }
 }
 
+// The tree of a node with its fields.
+fn tree_of(alloc: Global, node: &FlatNode, fields: List<Field>) -> Result<Tree, AllocError>
+    ensures { IfOk result (λ t. view t ≡ node_of node.now.ty node.now.leaf (fields_view fields)) }
+{
+    let ty = node.ty.copy(alloc)?;
+    let leaf = node.leaf.copy(alloc)?;
+    Ok(Tree { ty, leaf, fields })
+}
+
 // Puts a node above the trees that wait for it.
 #[tactic(auto, using(crate::proofs::Waits::waiting_last))]
 fn hang(alloc: Global, node: &FlatNode, waiting: &mut List<Placed>) -> Result<(), AllocError>
     ensures { OnOk result (waiting_view waiting.new ≡ hung node.now (waiting_view waiting.old)) }
 {
     let fields = all_below(alloc, node.row, waiting, node.node)?;
-    let tree = Tree {
-        ty: node.ty.copy(alloc)?,
-        leaf: node.leaf.copy(alloc)?,
-        fields,
-    };
-    waiting.push(Placed {
-        at: node.at.copy(alloc)?,
-        tree,
-    })?;
+    let tree = tree_of(alloc, node, fields)?;
+    let at = node.at.copy(alloc)?;
+    waiting.push(Placed { at, tree })?;
     Ok(())
 }
 

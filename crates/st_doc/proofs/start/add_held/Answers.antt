@@ -2,7 +2,7 @@ use Rattle.std.proofs.Common.{◌∙◌, cond, Some, None, sym, ap}
 use Rattle.std.specs.BTreeMap.{get}
 use Rattle.std.specs.Option.{option_or}
 use Rattle.st_ids.specs.Order.{field_cmp, same_field}
-use Rattle.st_doc.specs.Start.{held_at}
+use Rattle.st_opening.specs.Start.{held_at}
 use Rattle.st_doc.proofs.start.add_held.Goals as goal
 
 pub returns-in-Register : goal.returns-in-Register

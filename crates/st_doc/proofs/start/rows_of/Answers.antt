@@ -2,7 +2,7 @@ use Rattle.std.proofs.Common.{[], sym, unwrap_or}
 use Rattle.std.specs.BTreeMap.{get}
 use Rattle.st_ids.specs.Order.{node_cmp}
 use Rattle.st_tree.specs.declared.flat.FlatNode.{FlatNode as Flat}
-use Rattle.st_doc.specs.Start.{cell_at}
+use Rattle.st_opening.specs.Start.{cell_at}
 use Rattle.st_doc.proofs.Starting.{filtered_more}
 use Rattle.st_doc.proofs.start.rows_of.Goals as goal
 

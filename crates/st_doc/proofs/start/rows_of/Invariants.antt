@@ -4,7 +4,7 @@ use Rattle.std.specs.List.{filter_map}
 use Rattle.st_ids.specs.declared.names.NodeId.{NodeId as Node}
 use Rattle.st_ids.specs.Order.{node_cmp}
 use Rattle.st_tree.specs.declared.flat.FlatNode.{FlatNode as Flat}
-use Rattle.st_doc.specs.Start.{cell_at}
+use Rattle.st_opening.specs.Start.{cell_at}
 use Rattle.st_doc.proofs.start.rows_of.Given as goal
 
 abbrev pub invariant-loop-x : goal.invariant-loop-x

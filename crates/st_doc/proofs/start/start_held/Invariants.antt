@@ -3,7 +3,7 @@ use Rattle.std.specs.BTreeMap.{get}
 use Rattle.st_ids.specs.declared.names.FieldId.{FieldId as Register}
 use Rattle.st_ids.specs.Order.{field_cmp}
 use Rattle.st_tree.specs.declared.flat.FlatNode.{FlatNode as Flat}
-use Rattle.st_doc.specs.Start.{first_said, held_at}
+use Rattle.st_opening.specs.Start.{first_said, held_at}
 use Rattle.st_doc.proofs.start.start_held.Given as goal
 
 abbrev pub invariant-loop-x : goal.invariant-loop-x

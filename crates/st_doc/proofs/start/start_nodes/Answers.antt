@@ -2,7 +2,7 @@ use Rattle.std.proofs.Common.{sym}
 use Rattle.std.specs.BTreeMap.{get}
 use Rattle.st_ids.specs.Order.{node_cmp}
 use Rattle.st_doc.specs.Nodes.{type_of}
-use Rattle.st_doc.specs.Start.{type_at}
+use Rattle.st_opening.specs.Start.{type_at}
 use Rattle.st_doc.proofs.Starting.{said_more}
 use Rattle.st_doc.proofs.start.start_nodes.Goals as goal
 

@@ -3,7 +3,7 @@ use Rattle.std.specs.BTreeMap.{get}
 use Rattle.st_ids.specs.declared.names.NodeId.{NodeId as Node}
 use Rattle.st_ids.specs.Order.{node_cmp}
 use Rattle.st_doc.specs.Nodes.{type_of}
-use Rattle.st_doc.specs.Start.{first_said, type_at}
+use Rattle.st_opening.specs.Start.{first_said, type_at}
 use Rattle.st_doc.proofs.start.start_nodes.Given as goal
 
 abbrev pub invariant-loop-x : goal.invariant-loop-x

@@ -1,7 +1,7 @@
 use Rattle.std.proofs.Common.{sym}
 use Rattle.std.specs.BTreeMap.{get}
 use Rattle.st_ids.specs.Order.{node_cmp}
-use Rattle.st_doc.specs.Start.{place_at}
+use Rattle.st_opening.specs.Start.{place_at}
 use Rattle.st_doc.proofs.Starting.{said_more}
 use Rattle.st_doc.proofs.start.start_places.Goals as goal
 

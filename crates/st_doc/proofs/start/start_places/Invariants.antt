@@ -2,7 +2,7 @@ use Rattle.std.proofs.Common.{◌≡◌, take}
 use Rattle.std.specs.BTreeMap.{get}
 use Rattle.st_ids.specs.declared.names.NodeId.{NodeId as Node}
 use Rattle.st_ids.specs.Order.{node_cmp}
-use Rattle.st_doc.specs.Start.{first_said, place_at}
+use Rattle.st_opening.specs.Start.{first_said, place_at}
 use Rattle.st_doc.proofs.start.start_places.Given as goal
 
 abbrev pub invariant-loop-x : goal.invariant-loop-x

@@ -2,7 +2,7 @@ use Rattle.std.proofs.Common.{sym}
 use Rattle.std.specs.BTreeMap.{get}
 use Rattle.st_ids.specs.Order.{cell_cmp}
 use Rattle.st_tree.specs.declared.flat.FlatNode.{FlatNode as Flat}
-use Rattle.st_doc.specs.Start.{row_at}
+use Rattle.st_opening.specs.Start.{row_at}
 use Rattle.st_doc.proofs.Starting.{said_more}
 use Rattle.st_doc.proofs.start.start_row_of.Goals as goal
 

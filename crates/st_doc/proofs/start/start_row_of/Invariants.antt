@@ -3,7 +3,7 @@ use Rattle.std.specs.BTreeMap.{get}
 use Rattle.st_ids.specs.declared.names.CellId.{CellId as Cell}
 use Rattle.st_ids.specs.Order.{cell_cmp}
 use Rattle.st_tree.specs.declared.flat.FlatNode.{FlatNode as Flat}
-use Rattle.st_doc.specs.Start.{first_said, row_at}
+use Rattle.st_opening.specs.Start.{first_said, row_at}
 use Rattle.st_doc.proofs.start.start_row_of.Given as goal
 
 abbrev pub invariant-loop-x : goal.invariant-loop-x

@@ -1,6 +1,6 @@
 -- the cells so far, and then those of the nodes that are left
 use Rattle.std.proofs.Common.{◌≡◌, ◌+◌, ◌++◌, drop}
-use Rattle.st_resolve.specs.Resolve.{cells_for}
+use Rattle.st_edits.specs.Resolve.{cells_for}
 use Rattle.st_resolve.proofs.intents.cells_for.Given as goal
 
 abbrev pub invariant-loop-node : goal.invariant-loop-node

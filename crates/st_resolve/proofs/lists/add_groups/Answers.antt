@@ -1,7 +1,7 @@
 use Rattle.std.proofs.Common.{[], ◌++◌, sym, ◌∙◌, unwrap_or}
 use Rattle.std.specs.BTreeMap.{get}
 use Rattle.st_ids.specs.Order.{node_cmp}
-use Rattle.st_resolve.specs.New.{groups_under}
+use Rattle.st_edits.specs.New.{groups_under}
 use Rattle.st_resolve.proofs.RowGroups.{more_groups, same_cells}
 use Rattle.st_resolve.proofs.lists.add_groups.Goals as goal
 

@@ -1,7 +1,7 @@
 -- the groups so far, and then those of the nodes that are left
 use Rattle.std.proofs.Common.{◌≡◌, ◌++◌, drop}
 use Rattle.std.specs.List.{filter_map}
-use Rattle.st_resolve.specs.New.{group_under, groups_under}
+use Rattle.st_edits.specs.New.{group_under, groups_under}
 use Rattle.st_resolve.proofs.lists.add_groups.Given as goal
 
 abbrev pub invariant-loop-flat : goal.invariant-loop-flat

@@ -1,6 +1,6 @@
 -- the registers so far, and then those of the nodes that are left
 use Rattle.std.proofs.Common.{◌≡◌, ◌++◌, drop}
-use Rattle.st_resolve.specs.New.{registers}
+use Rattle.st_opening.specs.Start.{registers}
 use Rattle.st_resolve.proofs.lists.add_registers.Given as goal
 
 abbrev pub invariant-loop-flat : goal.invariant-loop-flat

@@ -1,6 +1,6 @@
 -- the names so far, and then those of the nodes that are left
 use Rattle.std.proofs.Common.{◌≡◌, ◌≤◌, ◌+◌, ◌*◌, drop}
-use Rattle.st_resolve.specs.New.{names_taken}
+use Rattle.st_edits.specs.New.{names_taken}
 use Rattle.st_resolve.proofs.lists.names_taken.Given as goal
 
 abbrev pub invariant-loop-flat : goal.invariant-loop-flat

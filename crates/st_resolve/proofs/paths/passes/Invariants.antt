@@ -2,7 +2,7 @@
 use Rattle.std.proofs.Common.{◌≡◌, ◌++◌, drop}
 use Rattle.st_marks.specs.Document.{root}
 use Rattle.st_doc.specs.Doc.{document_of}
-use Rattle.st_resolve.specs.Paths.{beyond, passes}
+use Rattle.st_edits.specs.Paths.{beyond, passes}
 use Rattle.st_resolve.proofs.paths.passes.Given as goal
 
 abbrev pub invariant-loop-place : goal.invariant-loop-place

@@ -4,7 +4,7 @@ use Rattle.st_ids.specs.declared.names.NodeId.{NodeId}
 use Rattle.st_marks.specs.Document.{root}
 use Rattle.st_doc.specs.Doc.{document_of}
 use Rattle.st_doc.proofs.Look.{drop_one}
-use Rattle.st_resolve.specs.Resolve.{none_refused, has_type}
+use Rattle.st_edits.specs.Resolve.{none_refused, has_type}
 use Rattle.st_resolve.proofs.rules.nodes_allowed.Goals as goal
 
 pub returns-then-not-has_type : goal.returns-then-not-has_type

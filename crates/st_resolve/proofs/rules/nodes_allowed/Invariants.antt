@@ -2,7 +2,7 @@
 use Rattle.std.proofs.Common.{◌≡◌, not, drop}
 use Rattle.std.specs.List.{position_from}
 use Rattle.st_doc.specs.Doc.{document_of}
-use Rattle.st_resolve.specs.Resolve.{none_refused, has_type, nodes_allowed}
+use Rattle.st_edits.specs.Resolve.{none_refused, has_type, nodes_allowed}
 use Rattle.st_resolve.proofs.rules.nodes_allowed.Given as goal
 
 abbrev pub invariant-loop-i : goal.invariant-loop-i

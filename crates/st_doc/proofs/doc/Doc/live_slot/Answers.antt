@@ -3,7 +3,7 @@ use Rattle.st_marks.specs.declared.places.Slot.{Slot}
 use Rattle.st_marks.specs.Document.{slot}
 use Rattle.st_doc.specs.Doc.{document_of}
 use Rattle.st_doc.proofs.Look.{no_cell}
-use Rattle.st_doc.specs.Shown.{live_slots}
+use Rattle.st_marks.specs.LiveTree.{live_slots}
 use Rattle.st_doc.proofs.Queries.{one_less, not_counted}
 use Rattle.st_doc.proofs.doc.Doc.live_slot.Goals as goal
 use Rattle.st_doc.proofs.doc.Doc.live_slot.Goals.{then-is_full+else-left-eq0, else-is_full}

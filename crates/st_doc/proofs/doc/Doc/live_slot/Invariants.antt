@@ -2,7 +2,7 @@ use Rattle.std.proofs.Common.{◌≡◌, drop, filter, map, slice_get}
 use Rattle.st_marks.specs.declared.places.Slot.{Slot}
 use Rattle.st_marks.specs.Document.{slot}
 use Rattle.st_doc.specs.Doc.{document_of}
-use Rattle.st_doc.specs.Shown.{live_slots}
+use Rattle.st_marks.specs.LiveTree.{live_slots}
 use Rattle.st_doc.proofs.doc.Doc.live_slot.Given as goal
 
 abbrev pub invariant-loop-owned : goal.invariant-loop-owned

@@ -3,9 +3,9 @@ use Rattle.std.specs.declared.alloc.AllocError.{AllocError}
 use Rattle.st_marks.specs.Document.{Document, IsSoundInForm}
 use Rattle.st_tree.specs.Node.{view}
 use Rattle.st_doc.specs.Doc.{document_of}
-use Rattle.st_doc.specs.Start.{start_of}
+use Rattle.st_opening.specs.Start.{start_of}
 use Rattle.st_doc.specs.declared.doc.Doc.{Doc}
-use Rattle.st_doc.proofs.StartSound.{start_sound, within_few}
+use Rattle.st_opening.proofs.StartSound.{start_sound, within_few}
 use Rattle.st_doc.proofs.doc.Doc.start.Goals as goal
 
 sound_too : (r : Result Doc AllocError) (D : Document) → IsSoundInForm D → IfOk r (λ d. document_of d ≡ D) → IfOk r (λ d. IsSoundInForm (document_of d))

@@ -1,23 +1,15 @@
-use Rattle.std.proofs.Common.{◌∙◌, [], refl, sym, ap, subst, arith}
+use Rattle.std.proofs.Common.{[], refl, sym, subst, arith}
 use Rattle.std.proofs.Common.{rules}
 use Rattle.std.proofs.lemmas.Grind.{common_steps}
-use Rattle.st_tree.specs.Node.{view}
-use Rattle.st_tree.specs.Preorder.{opening_listed}
 use Rattle.st_marks.specs.Document.{Document}
 use Rattle.st_marks.specs.Run.{Run, done}
-use Rattle.st_doc.specs.Start.{start_of}
 use Rattle.st_script.specs.Header.{header_view}
 use Rattle.st_trace.specs.World.{opened}
 use Rattle.st_trace.proofs.Agreed.{begun_keeps}
-use Rattle.st_trace.proofs.Begun.{opens_formed}
 use Rattle.st_trace.proofs.world.World.new.Goals as goal
-
-pub start-requires-clause-form : goal.start-requires-clause-form
-start-requires-clause-form c = opens_formed c.args.header.schema (view c.args.header.tree) c.requires.tree
 
 pub returns-clause-sound : goal.returns-clause-sound
 returns-clause-sound c =
-    let head = c.in_ok-head.ensures.document ∙ ap (start_of (opening_listed (view c.args.header.tree))) c.in_ok-schema.ensures.text in
     rw (c.new.ensures, c.new-2.ensures, c.new-3.ensures) (record {
       header = c.requires;
       kept = tt;
@@ -28,7 +20,7 @@ returns-clause-sound c =
       log_fit = tt;
       log_new = record { once = tt; new = λ N i j. i };
       schema = begun_keeps (header_view c.args.header) c.requires;
-      head = subst (λ (D : Document). Run (opened (header_view c.args.header)) [] D) (sym head) done;
+      head = subst (λ (D : Document). Run (opened (header_view c.args.header)) [] D) (sym c.in_ok-head.ensures) done;
       entries = omega arith;
       names = refl;
       few_names = omega arith;

@@ -1,0 +1,67 @@
+//! Runs whole traces and compares their answers. `data/scenarios.txt` has a line for each: its name, the status that is
+//! wanted, and the words. NAME.trace is what is read, NAME.answers what has to be written.
+#![tactic(auto)]
+
+use st_io::{MemSink, MemSource};
+use st_run::run;
+use std::alloc::{AllocError, Global};
+use std::process::ExitCode;
+use std::{fs, io};
+
+// What one run came to.
+#[derive(Drop)]
+struct Ran {
+    status: u8,
+    sink: MemSink,
+}
+
+fn list_of<'a>(
+    alloc: Global,
+    words: impl Iterator<Item = &'a str>,
+) -> Result<Vec<String>, AllocError> {
+    let mut list = Vec::new(alloc);
+    for word in words {
+        list.push(String::from_str(alloc, word)?)?;
+    }
+    Ok(list)
+}
+
+fn run_over(alloc: Global, words: &Vec<String>, input: Vec<u8>) -> Ran {
+    let mut source = MemSource::new(input, Vec::new(alloc));
+    let mut sink = MemSink::new(alloc, 4096, Vec::new(alloc));
+    let outcome = run(alloc, words, &mut source, &mut sink);
+    Ran {
+        status: outcome.status(),
+        sink,
+    }
+}
+
+// Whether a scenario ends with its status and writes its answers.
+fn is_as_wanted(rt: &HostRuntime, line: &str) -> io::Result<bool> {
+    let alloc = rt.alloc();
+    let mut parts = line.split(' ');
+    let (Some(name), Some(status)) = (parts.next(), parts.next()) else {
+        return Ok(false);
+    };
+    let words = list_of(alloc, parts)?;
+    let input = fs::read(rt, format!(in alloc; "{name}.trace")?.as_str())?;
+    let wanted = fs::read(rt, format!(in alloc; "{name}.answers")?.as_str())?;
+    let came = run_over(alloc, &words, input);
+    let told = status.parse::<u8>().ok() == Some(came.status);
+    Ok(told && came.sink.bytes() == wanted.as_slice())
+}
+
+fn main(rt: HostRuntime) -> io::Result<ExitCode> {
+    let table = fs::read_to_string(&rt, "scenarios.txt")?;
+    let mut count = 0u64;
+    let mut others = 0u64;
+    for line in table.lines() {
+        count = count.saturating_add(1);
+        if !is_as_wanted(&rt, line)? {
+            others = others.saturating_add(1);
+            println!(rt; "not as wanted: {line}")?;
+        }
+    }
+    println!(rt; "{count} scenarios, {others} not as wanted")?;
+    Ok(ExitCode::from(u8::from(others > 0)))
+}

@@ -1,5 +1,0 @@
-use Rattle.st_doc.proofs.StartSound.{start_sound}
-use Rattle.st_doc.proofs.laws.start_is_sound.Goals as goal
-
-pub returns : goal.returns
-returns c = start_sound

@@ -1,0 +1,5 @@
+pub mod Fits
+pub mod MoveFits
+pub mod Numbered
+pub mod NewFits
+pub mod Resolved

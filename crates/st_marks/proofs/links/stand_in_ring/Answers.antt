@@ -1,5 +1,0 @@
-use Rattle.st_marks.proofs.Linked.{up_listed}
-use Rattle.st_marks.proofs.links.stand_in_ring.Goals as goal
-
-pub has_ring-requires : goal.has_ring-requires
-has_ring-requires g c = up_listed (g.W.Walk.left c.of.result.walk)

@@ -1,0 +1,13 @@
+pub mod Naming
+pub mod Counted
+pub mod NoRings
+pub mod ShownPlaces
+pub mod Counts
+pub mod OnePlace
+pub mod Linked
+pub mod Obeyed
+pub mod RisingLists
+pub mod Tells
+pub mod Merged
+pub mod AboveItself
+pub mod Meeting

@@ -1,0 +1,11 @@
+use Rattle.std.proofs.Common.{◌⊎◌, length}
+use Rattle.st_ids.specs.declared.names.NodeId.{NodeId}
+use Rattle.st_ids.specs.Listing.{Has}
+use Rattle.st_marks.specs.Document.{ClimbsToAnEnd}
+use Rattle.st_normal.proofs.rings.scan_ring.Given as goal
+
+abbrev pub invariant-nodes : goal.invariant-nodes
+invariant-nodes g l = (n : NodeId) → Has (g.H.Hangs.nodes l.hangs) n → Has (g.H.Hangs.rest l.hangs l.place) n ⊎ ClimbsToAnEnd (g.H.Hangs.up l.hangs) n
+
+abbrev pub decreases-nodes : goal.decreases-nodes
+decreases-nodes g l = length (g.H.Hangs.rest l.hangs l.place)

@@ -1,0 +1,5 @@
+pub mod Naming
+pub mod Rules
+pub mod Ring
+pub mod Links
+pub mod Walk

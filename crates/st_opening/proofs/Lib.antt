@@ -1,0 +1,2 @@
+pub mod PreorderFields
+pub mod StartSound

@@ -1,5 +1,0 @@
-use Rattle.st_resolve.proofs.Resolved.{resolved_fits}
-use Rattle.st_resolve.proofs.laws.resolved_edits_fit.Goals as goal
-
-pub returns : goal.returns
-returns c = resolved_fits

@@ -1,0 +1,5 @@
+pub mod Answering
+pub mod Fronts
+pub mod Appending
+pub mod LineSteps
+pub mod Outputs

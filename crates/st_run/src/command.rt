@@ -1,0 +1,112 @@
+//! A run, from its words and its input to its answers.
+ghost use Rattle.std.specs.Prelude.{◌≡◌, ◌+◌, ◌==◌, ◌<◌, ◌≤◌, ◌^◌, false, length, map, take, count_by, string_bytes, IfOk};
+ghost use Rattle.serde_json.specs.View.{view};
+ghost use Rattle.st_io.specs.Counts.{Rose};
+ghost use Rattle.st_run.specs.Answers.{is_trace, usage_data, usage_output, max_input, long_line, long_data, long_output, IsOutput, IsAnswered};
+
+use crate::outcome::Outcome;
+use crate::send::write_all;
+use crate::take::{Input, read_all};
+use crate::trace::trace;
+use serde_json::{Value, json};
+use st_io::{Sink, Source};
+use st_json::write_line;
+use std::alloc::{AllocError, Global};
+
+const MAX_INPUT: usize = 1 << 20;
+
+// Whether the words are a command.
+fn is_trace(words: &Vec<String>) -> bool
+    ensures { result ≡ is_trace (map string_bytes words.now.items) }
+{
+    match words.as_slice() {
+        [word] => word.as_str() == "trace",
+        _ => false,
+    }
+}
+
+fn usage_value(alloc: Global) -> Result<Value, AllocError>
+    ensures { IfOk result (λ v. view v ≡ usage_data) }
+{
+    json!(in alloc; {"usage": "trace | replay | algebra | compat | work --seed N --steps M"})
+}
+
+fn long_value(alloc: Global, number: u32) -> Result<Value, AllocError>
+    ensures { IfOk result (λ v. view v ≡ long_data number) }
+{
+    json!(in alloc; {"line": number, "too": "long"})
+}
+
+// Answers words that are no command.
+fn send_usage<K: Sink>(alloc: Global, sink: &mut K) -> Outcome
+    ensures output { IsOutput (K.written sink.old) (K.written sink.new) (λ out. out ≡ usage_output) result }
+    ensures fault { result ≡ Outcome.WriteFault → Rose (K.faults sink.old) (K.faults sink.new) }
+{
+    let Ok(value) = usage_value(alloc) else {
+        return Outcome::NoMemory;
+    };
+    let Ok(line) = write_line(alloc, &value) else {
+        return Outcome::NoMemory;
+    };
+    match write_all(sink, line.as_str().as_bytes()) {
+        Ok(()) => Outcome::Usage,
+        Err(_) => Outcome::WriteFault,
+    }
+}
+
+// How many line feeds there are.
+fn feeds(bytes: &[u8]) -> usize
+    ensures count { result ≡ count_by (λ b. b == 10) bytes.now }
+    ensures within { result ≤ length bytes.now }
+{
+    bytes.iter().filter(|b| **b == b'\n').count()
+}
+
+// The line that holds the byte past the limit.
+fn long_line(bytes: &[u8]) -> u32
+    requires { max_input < length bytes.now }
+    ensures { result ≡ long_line bytes.now }
+{
+    feeds(&bytes[..MAX_INPUT]) as u32 + 1
+}
+
+// Answers an input that is too long.
+fn send_long<K: Sink>(alloc: Global, line: u32, sink: &mut K) -> Outcome
+    ensures output { IsOutput (K.written sink.old) (K.written sink.new) (λ out. out ≡ long_output line) result }
+    ensures fault { result ≡ Outcome.WriteFault → Rose (K.faults sink.old) (K.faults sink.new) }
+{
+    let Ok(value) = long_value(alloc, line) else {
+        return Outcome::NoMemory;
+    };
+    let Ok(text) = write_line(alloc, &value) else {
+        return Outcome::NoMemory;
+    };
+    match write_all(sink, text.as_str().as_bytes()) {
+        Ok(()) => Outcome::TooLong { line },
+        Err(_) => Outcome::WriteFault,
+    }
+}
+
+/// Answers the lines of a source, or the usage line where the words are no command: then nothing is read.
+pub fn run<S: Source, K: Sink>(
+    alloc: Global,
+    words: &Vec<String>,
+    source: &mut S,
+    sink: &mut K,
+) -> Outcome
+    ensures answered { IsAnswered (map string_bytes words.now.items) (S.left source.old) (S.left source.new)
+        (K.written sink.old) (K.written sink.new) result }
+    ensures unread { is_trace (map string_bytes words.now.items) ≡ false → S.calls source.new ≡ S.calls source.old }
+    ensures read_fault { result ≡ Outcome.ReadFault → Rose (S.faults source.old) (S.faults source.new) }
+    ensures write_fault { result ≡ Outcome.WriteFault → Rose (K.faults sink.old) (K.faults sink.new) }
+{
+    if !is_trace(words) {
+        return send_usage(alloc, sink);
+    }
+    match read_all(alloc, source, MAX_INPUT) {
+        Input::Fault => Outcome::ReadFault,
+        Input::NoMemory => Outcome::NoMemory,
+        Input::Over(bytes) => send_long(alloc, long_line(bytes.as_slice()), sink),
+        Input::All(bytes) => trace(alloc, bytes.as_slice(), sink),
+    }
+}

@@ -1,0 +1,12 @@
+//! A run: from the words, the source and the sink of a program to its answers and its outcome.
+#![tactic(auto)]
+
+mod command;
+mod lines;
+mod outcome;
+mod send;
+mod take;
+mod trace;
+
+pub use command::run;
+pub use outcome::Outcome;

@@ -1,0 +1,147 @@
+//! Runs whose source or sink fails, and an input past the limit.
+ghost use Rattle.std.specs.Prelude.{◌<◌};
+
+use st_io::{MemSink, MemSource};
+use st_run::{Outcome, run};
+use std::alloc::{AllocError, Global};
+use std::test::Fail;
+
+const HEADER: &str =
+    r#"{"schema":{"root":["list"],"types":[{"array":["text"],"name":"list"}]},"trace":1,"tree":{"list":[]}}
+"#;
+
+const HEADER_AND_TWO: &str =
+    r#"{"schema":{"root":["list"],"types":[{"array":["text"],"name":"list"}]},"trace":1,"tree":{"list":[]}}
+{"do":"join","client":"A"}
+{"do":"join","client":"B"}
+"#;
+
+const ANSWERS: &str = r#"{"ok":"header"}
+{"n":1,"ok":"join","s":1}
+{"n":2,"ok":"join","s":2}
+"#;
+
+const USAGE: &str = r#"{"usage":"trace | replay | algebra | compat | work --seed N --steps M"}
+"#;
+
+// The words of a command.
+fn words_of(alloc: Global, text: &str) -> Result<Vec<String>, AllocError> {
+    let mut words = Vec::new(alloc);
+    for word in text.split(' ') {
+        words.push(String::from_str(alloc, word)?)?;
+    }
+    Ok(words)
+}
+
+// Whether a run ends and writes so, over a source whose reads of these numbers fail, and a sink of which one write takes
+// at most so many bytes and of which one write fails.
+fn ends(
+    alloc: Global,
+    words: &str,
+    reads: Vec<u64>,
+    most: usize,
+    writes: Vec<u64>,
+    outcome: Outcome,
+    written: &str,
+) -> Result<bool, AllocError>
+    requires { 0 < most }
+{
+    let words = words_of(alloc, words)?;
+    let mut source = MemSource::new(Vec::from_slice(alloc, HEADER_AND_TWO.as_bytes())?, reads);
+    let mut sink = MemSink::new(alloc, most, writes);
+    let came = run(alloc, &words, &mut source, &mut sink);
+    Ok(came == outcome && sink.bytes() == written.as_bytes())
+}
+
+fn one(alloc: Global, number: u64) -> Result<Vec<u64>, AllocError> {
+    Ok(vec![in alloc; number]?)
+}
+
+fn read_fails(alloc: Global) -> Result<bool, AllocError> {
+    let reads = one(alloc, 1)?;
+    ends(
+        alloc,
+        "trace",
+        reads,
+        4096,
+        Vec::new(alloc),
+        Outcome::ReadFault,
+        "",
+    )
+}
+
+// A line is written in parts, of which the third fails.
+fn write_fails(alloc: Global) -> Result<bool, AllocError> {
+    let writes = one(alloc, 3)?;
+    ends(
+        alloc,
+        "trace",
+        Vec::new(alloc),
+        1,
+        writes,
+        Outcome::WriteFault,
+        "{\"",
+    )
+}
+
+fn nothing_fails(alloc: Global) -> Result<bool, AllocError> {
+    ends(
+        alloc,
+        "trace",
+        Vec::new(alloc),
+        1,
+        Vec::new(alloc),
+        Outcome::Done,
+        ANSWERS,
+    )
+}
+
+// A source that would fail isn't read where the words are no command.
+fn words_are_wrong(alloc: Global) -> Result<bool, AllocError> {
+    let reads = one(alloc, 1)?;
+    ends(
+        alloc,
+        "trace trace",
+        reads,
+        4096,
+        Vec::new(alloc),
+        Outcome::Usage,
+        USAGE,
+    )
+}
+
+#[test]
+fn faults_of_the_outside(rt: HostRuntime) -> Result<(), Fail> {
+    let alloc = rt.alloc();
+    let (read, write) = (read_fails(alloc)?, write_fails(alloc)?);
+    let (none, words) = (nothing_fails(alloc)?, words_are_wrong(alloc)?);
+    assert!(rt;
+        read && write && none && words,
+        "{read} {write} {none} {words}"
+    );
+    Ok(())
+}
+
+// A header and so many lines of 26 bytes.
+fn long_input(alloc: Global, lines: u32) -> Result<Vec<u8>, AllocError> {
+    let mut input = Vec::from_slice(alloc, HEADER.as_bytes())?;
+    for _ in 0..lines {
+        input.extend_from_slice(b"{\"do\":\"show\",\"client\":\"Z\"}\n")?;
+    }
+    Ok(input)
+}
+
+// Of 38,833 lines behind the header the last one holds the byte past the limit.
+fn long_input_is_refused(alloc: Global) -> Result<bool, AllocError> {
+    let words = words_of(alloc, "trace")?;
+    let mut source = MemSource::new(long_input(alloc, 40000)?, Vec::new(alloc));
+    let mut sink = MemSink::new(alloc, 4096, Vec::new(alloc));
+    let came = run(alloc, &words, &mut source, &mut sink);
+    Ok(came.status() == 5 && sink.bytes() == b"{\"line\":38834,\"too\":\"long\"}\n".as_slice())
+}
+
+#[test]
+fn an_input_past_the_limit_is_too_long(rt: HostRuntime) -> Result<(), Fail> {
+    assert!(rt; long_input_is_refused(rt.alloc())?);
+    Ok(())
+}
