@@ -22,3 +22,4 @@ mod targets;
 mod verdict;
 
 pub use doc::Doc;
+pub use start::rows_of;

@@ -157,8 +157,11 @@ fn add_cell(
     Ok(())
 }
 
-// The cells of each row.
-fn start_rows(alloc: Global, flat: &[FlatNode]) -> Result<BTreeMap<NodeId, List<Owned>>, AllocError>
+/// The cells of each row in which nodes of a list stand, in the order of the list. The list is gone through once.
+pub fn rows_of(
+    alloc: Global,
+    flat: &[FlatNode],
+) -> Result<BTreeMap<NodeId, List<Owned>>, AllocError>
     ensures { IfOk result (λ m. (n : Node) → unwrap_or (get node_cmp m n) [] ≡ filter_map (λ x. cell_at n x.node x.at) flat.now) }
 {
     let mut rows = BTreeMap::new(alloc);
@@ -173,7 +176,7 @@ fn of_nodes(alloc: Global, flat: &[FlatNode], schema: Text) -> Result<Doc, Alloc
     ensures { IfOk result (λ d. document_of d ≡ start_of flat.now schema) }
 {
     let nodes = start_nodes(alloc, flat)?;
-    let rows = start_rows(alloc, flat)?;
+    let rows = rows_of(alloc, flat)?;
     let row_of = start_row_of(alloc, flat)?;
     let place = start_places(alloc, flat)?;
     let held = start_held(alloc, flat)?;

@@ -1,14 +1,17 @@
 //! The lists that an intent has for new trees, which are given as the list of their nodes in preorder.
-ghost use Rattle.std.specs.Prelude.{◌≡◌, ◌++◌, ◌<◌, ◌*◌, ◌^◌, length, IfOk, OnOk};
-ghost use Rattle.std.specs.Option.{option_copied};
-ghost use Rattle.st_edits.specs.New.{new_nodes, top_to, to_at, puts, top_cell, row_cell, top_cells, cells_under, group_of, group_under, groups_under, takes_cell, names_taken};
+ghost use Rattle.std.specs.Prelude.{◌≡◌, ◌++◌, ◌<◌, ◌*◌, ◌^◌, [], if◌then◌else◌, length, unwrap_or, IfOk, OnOk, None};
+ghost use Rattle.std.specs.BTreeMap.{get};
+ghost use Rattle.std.specs.Option.{option_copied, option_to_list};
+ghost use Rattle.st_ids.specs.Order.{node_cmp};
+ghost use Rattle.st_edits.specs.New.{new_nodes, top_to, to_at, puts, top_cell, top_cells, group_of, groups_under, takes_cell, names_taken};
 ghost use Rattle.st_opening.specs.Start.{register_at, registers};
 
+use st_doc::rows_of;
 use st_ids::{CellId, Copied, FieldId, List, NodeId};
-use st_intent::is_same_node;
 use st_marks::{Group, NewNode, Owned, Put, To};
 use st_tree::{FlatAt, FlatNode};
 use std::alloc::{AllocError, Global};
+use std::collections::BTreeMap;
 
 /// The nodes with their types and values.
 pub fn new_nodes(alloc: Global, nodes: &[FlatNode]) -> Result<List<NewNode>, AllocError>
@@ -113,30 +116,6 @@ pub fn top_cells(alloc: Global, nodes: &[FlatNode]) -> Result<List<Owned>, Alloc
     Ok(cells)
 }
 
-// The cell of a place in a node's row.
-fn row_cell(node: NodeId, at: &FlatAt) -> Option<CellId>
-    ensures { result ≡ row_cell node at.now }
-{
-    match at {
-        FlatAt::Row { node: above, cell } if is_same_node(*above, node) => Some(*cell),
-        _ => None,
-    }
-}
-
-// The cells of a new node's row.
-fn cells_under(alloc: Global, nodes: &[FlatNode], node: NodeId) -> Result<List<Owned>, AllocError>
-    ensures { IfOk result (λ r. r ≡ cells_under nodes.now node) }
-{
-    let mut cells = List::new(alloc);
-    for flat in nodes {
-        if let Some(cell) = row_cell(node, &flat.at) {
-            let node = flat.node;
-            cells.push(Owned { cell, node })?;
-        }
-    }
-    Ok(cells)
-}
-
 /// A group of cells, if there are any.
 pub fn group_of(node: NodeId, after: Option<CellId>, cells: List<Owned>) -> Option<Group>
     ensures { result ≡ group_of node after cells }
@@ -148,19 +127,38 @@ pub fn group_of(node: NodeId, after: Option<CellId>, cells: List<Owned>) -> Opti
     }
 }
 
-// The row of a new array node, if it has items.
-fn group_under(
+// The cells of a row.
+fn cells_in(
     alloc: Global,
-    nodes: &[FlatNode],
+    rows: &BTreeMap<NodeId, List<Owned>>,
+    node: NodeId,
+) -> Result<List<Owned>, AllocError>
+    ensures { IfOk result (λ r. r ≡ unwrap_or (get node_cmp rows.now node) []) }
+{
+    match rows.get(&node) {
+        None => Ok(List::new(alloc)),
+        Some(cells) => cells.copy(alloc),
+    }
+}
+
+// Puts the row of a new array node at the end of a list, if it has items.
+fn add_group(
+    alloc: Global,
+    groups: &mut List<Group>,
+    rows: &BTreeMap<NodeId, List<Owned>>,
     flat: &FlatNode,
-) -> Result<Option<Group>, AllocError>
-    ensures { IfOk result (λ g. g ≡ group_under nodes.now flat.now) }
+) -> Result<(), AllocError>
+    ensures { OnOk result (groups.new ≡ groups.old ++ option_to_list (
+        if flat.now.row then group_of flat.now.node None (unwrap_or (get node_cmp rows.now flat.now.node) []) else None)) }
 {
     if !flat.row {
-        return Ok(None);
+        return Ok(());
     }
-    let cells = cells_under(alloc, nodes, flat.node)?;
-    Ok(group_of(flat.node, None, cells))
+    if let Some(group) = group_of(flat.node, None, cells_in(alloc, rows, flat.node)?) {
+        groups.push(group)?;
+        return Ok(());
+    }
+    Ok(())
 }
 
 /// Puts the rows of the new array nodes at the end of a list.
@@ -171,10 +169,9 @@ pub fn add_groups(
 ) -> Result<(), AllocError>
     ensures { OnOk result (groups.new ≡ groups.old ++ groups_under nodes.now) }
 {
+    let rows = rows_of(alloc, nodes)?;
     for flat in nodes {
-        if let Some(group) = group_under(alloc, nodes, flat)? {
-            groups.push(group)?;
-        }
+        add_group(alloc, groups, &rows, flat)?;
     }
     Ok(())
 }

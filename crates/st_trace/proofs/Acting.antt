@@ -6,7 +6,7 @@ use Rattle.st_ids.specs.declared.names.Rev.{Rev}
 use Rattle.st_tree.specs.declared.edit.Edit.{Edit}
 use Rattle.st_tree.specs.declared.edit.EditFault.{EditFault}
 use Rattle.st_marks.specs.declared.intents.Intent.{Intent}
-use Rattle.st_marks.specs.Document.{Document}
+use Rattle.st_marks.specs.Document.{IsSoundInForm, Document}
 use Rattle.st_marks.specs.Intent.{Fits}
 use Rattle.st_marks.specs.LiveTree.{IsTreeText}
 use Rattle.st_conform.proofs.Resolved.{resolved_agrees}
@@ -29,7 +29,7 @@ use Rattle.st_trace.specs.declared.lists.Lists.{Lists}
 use Rattle.st_trace.specs.declared.world.World.{World}
 use Rattle.st_trace.proofs.Agreed.{delivered_keeps, edited_keeps}
 use Rattle.st_trace.proofs.Clients.{fresh_cells, fresh_nodes, shown_sound}
-use Rattle.st_trace.proofs.Everyone.{all_get, kept_at, set_same}
+use Rattle.st_trace.proofs.Everyone.{kept_of, all_get, kept_at, set_same}
 use Rattle.st_trace.proofs.Keeping.{AreOne, can_receive, one_delivered, one_edited}
 use Rattle.st_trace.proofs.Meanings.{meant_of}
 use Rattle.st_trace.proofs.Stepping.{sound_client, start_of}
@@ -173,6 +173,14 @@ next_delivered h w i c q c' D a at_c at_q received done =
     subst (λ (x : Client). IsDelivered h w i x (record w { clients = slice_set w.clients i c' }) a) same (D, c', received, done, refl)
 
 -- ## What is shown
+
+-- what a client shows is sound in form
+pub shown_in_form : (w : World) (i : ℕ) (k : Kept) → IsSound w → slice_get w.kept i ≡ Some k → IsSoundInForm (document_of k.shown)
+shown_in_form w i k s at_k =
+    let h = header_view w.header in
+    let c = kept_of h w.lists.log w.lists.clients w.kept i k s.kept at_k in
+    let one = one_at w i c.0 k s c.1 at_k in
+    shown_sound h (start_of w w.steps s) w.lists.log c.0 (document_of k.shown) one.client one.kept.shown
 
 pub next_shown : (w : World) (i : ℕ) (q : Client) (k : Kept) (tree : List ℕ) → IsSound w → slice_get w.lists.clients i ≡ Some q → slice_get w.kept i ≡ Some k → IsTreeText (is_among w.arrays) (document_of k.shown) tree
     → IsShown (header_view w.header) w.lists q (Show tree)

@@ -81,6 +81,14 @@ module _ (h : HeaderView) (log : List Entry) where
   kept_none (x ∷ cs) (y ∷ ks) zero c w p q = cc
   kept_none (x ∷ cs) (y ∷ ks) (suc i) c w p q = kept_none cs ks i c w.2 p q
 
+  -- what is kept is a client's
+  pub kept_of : (cs : List Client) (ks : List Kept) (i : ℕ) (k : Kept) → AreKept h log cs ks → slice_get ks i ≡ Some k → (c : Client) × (slice_get cs i ≡ Some c)
+  kept_of [] [] i k w q = cc
+  kept_of [] (y ∷ ks) i k w q = absurd w
+  kept_of (x ∷ cs) [] i k w q = cc
+  kept_of (x ∷ cs) (y ∷ ks) zero k w q = (x, refl)
+  kept_of (x ∷ cs) (y ∷ ks) (suc i) k w q = kept_of cs ks i k w.2 q
+
   pub kept_some : (cs : List Client) (ks : List Kept) (i : ℕ) (c : Client) → AreKept h log cs ks → slice_get cs i ≡ Some c → IsClient h log c
   kept_some [] ks i c w p = cc
   kept_some (x ∷ cs) [] i c w p = absurd w

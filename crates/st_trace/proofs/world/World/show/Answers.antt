@@ -1,5 +1,5 @@
 use Rattle.std.proofs.Common.{sym}
-use Rattle.st_trace.proofs.Acting.{next_shown}
+use Rattle.st_trace.proofs.Acting.{next_shown, shown_in_form}
 use Rattle.st_trace.proofs.Everyone.{kept_none}
 use Rattle.st_trace.proofs.world.World.show.Goals as goal
 
@@ -10,3 +10,6 @@ returns-in_ok-tree-in-Some c = λ q at.
 
 pub returns-in-None : goal.returns-in-None
 returns-in-None c = λ q at. absurd (kept_none _ _ _ _ _ q c.requires.kept at (sym c.in-None.ensures))
+
+pub whole-tree-requires : goal.whole-tree-requires
+whole-tree-requires c = shown_in_form c.args.self.now c.args.i c.in-Some.kept.now c.requires (sym c.in-Some.ensures)

@@ -4,7 +4,7 @@ use Rattle.st_ids.specs.Order.{node_cmp}
 use Rattle.st_tree.specs.declared.flat.FlatNode.{FlatNode as Flat}
 use Rattle.st_opening.specs.Start.{cell_at}
 use Rattle.st_doc.proofs.Starting.{filtered_more}
-use Rattle.st_doc.proofs.start.start_rows.Goals as goal
+use Rattle.st_doc.proofs.start.rows_of.Goals as goal
 
 pub loop-x-preserved : goal.loop-x-preserved
 loop-x-preserved c = λ n.
