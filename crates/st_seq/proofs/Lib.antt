@@ -31,4 +31,6 @@ pub mod DocumentsAfter
 pub mod DocumentsBack
 pub mod NamedCells
 pub mod NamedOnce
+pub mod NodesOnce
+pub mod OwnersEarly
 pub mod Refusing

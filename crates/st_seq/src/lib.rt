@@ -12,6 +12,7 @@ mod laws;
 mod lay;
 mod names;
 mod new;
+mod owners;
 mod push;
 mod read;
 mod rows;
