@@ -5,7 +5,7 @@ use st_kind::{Apart, FieldKind, rebase_over_both};
 use st_marks::How;
 use st_register::{
     RegChange, RegHeld, RegSwap, Register, registers_are_joined, registers_are_listed,
-    registers_are_of_documents,
+    registers_are_of_documents, registers_hold,
 };
 use std::alloc::{AllocError, Global};
 use std::test::Fail;
@@ -140,6 +140,7 @@ fn first_use(rt: HostRuntime) -> Result<(), Fail> {
     registers_are_joined();
     registers_are_listed();
     registers_are_of_documents();
+    registers_hold();
     let (effect, back) = (takes_effect(alloc)?, goes_back(alloc)?);
     let copied = is_copied(alloc)?;
     assert!(rt;
