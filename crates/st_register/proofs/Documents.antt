@@ -13,13 +13,14 @@ use Rattle.st_marks.specs.Back.{retreat, unless_in}
 use Rattle.st_marks.specs.CarryOut.{full, void, only_new}
 use Rattle.st_marks.specs.CarryOut as carry
 use Rattle.st_marks.specs.Document.{Document, IsSoundInForm, root}
+use Rattle.st_marks.specs.Extends.{IsExtendedBy}
 use Rattle.st_marks.specs.Intent.{Fits, IsIntent, new_node, is_new, put_of, put_in, clears, same_option}
 use Rattle.st_marks.specs.Register.{embed_register, holds_mentioned, step_register}
 use Rattle.st_marks.proofs.Lookups.{put-has, has-put, put_in-has, has-put_in, put_clears}
 use Rattle.st_marks.proofs.Members.{all-has, first-has}
 use Rattle.st_register.specs.declared.values.RegHeld.{RegHeld}
 use Rattle.st_register.specs.declared.values.RegSwap.{RegSwap}
-use Rattle.st_register.specs.Register.{RegPart, FitsIn, LeadsOver, carried_to, change_of, part_of, unless_put, only_made}
+use Rattle.st_register.specs.Register.{RegPart, CanHold, FitsIn, LeadsOver, carried_to, change_of, part_of, unless_put, only_made}
 use Rattle.st_register.specs.Told.{as_mark, as_step}
 use Rattle.st_register.proofs.Occupants.{not_true}
 
@@ -30,6 +31,14 @@ change_is p c = refl
 
 pub step_is : (f : FieldId) (m : NodeId → Bool) (c d : RegHeld) (s : RegSwap) → LeadsOver c d s → step_register f m c.node d.node ≡ cond (not (same_option same_node c.node d.node) || holds_mentioned m c.node) (Some (as_step f s)) None
 step_is f m c d s l = ap (λ (t : RegSwap). cond (not (same_option same_node c.node d.node) || holds_mentioned m c.node) (Some (as_step f t)) None) (sym l.swap)
+
+-- no register of a document holds the root
+pub can_hold : (D : Document) (f : FieldId) → IsSoundInForm D → CanHold (record { node = D.held f })
+can_hold D f x e = let q : ◌≡◌ {A = Spot} Spot.Nowhere (Spot.Register f) = sym x.root_nowhere ∙ (x.one_held root f).0 e in cc
+
+-- the step of a whole step leads from a register to the register after it
+pub document_is : (D E : Document) (f : FieldId) → IsExtendedBy D E → LeadsOver (record { node = D.held f }) (record { node = E.held f }) (record { before = D.held f; after = E.held f })
+document_is D E f x = record { before = can_hold D f x.before; after = can_hold E f x.after; swap = refl }
 
 -- ## The part of an intent
 

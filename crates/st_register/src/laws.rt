@@ -8,25 +8,33 @@ ghost use Rattle.st_marks.specs.declared.intents.Intent.{Intent};
 ghost use Rattle.st_marks.specs.Back.{retreat};
 ghost use Rattle.st_marks.specs.CarryOut.{full, void};
 ghost use Rattle.st_marks.specs.Document.{Document, IsSoundInForm};
+ghost use Rattle.st_marks.specs.Extends.{IsExtendedBy};
 ghost use Rattle.st_marks.specs.Intent.{Fits, is_new, put_in, put_of, same_option};
 ghost use Rattle.st_marks.specs.Join.{AreParts, IsJoin};
 ghost use Rattle.st_marks.specs.Register.{embed_register, holds_mentioned, step_register};
 ghost use Rattle.st_marks.specs.Shown.{held_after};
 ghost use Rattle.st_register.specs.Joined.{AreJoinedIn, evicts};
-ghost use Rattle.st_register.specs.Register.{RegPart, FitsIn, LeadsOver, carried_to, change_of, part_of};
+ghost use Rattle.st_register.specs.Register.{RegPart, CanHold, FitsIn, LeadsOver, carried_to, change_of, part_of};
 ghost use Rattle.st_register.specs.Told.{as_mark, as_step, left_by};
 ghost use Rattle.st_register.specs.declared.values.RegChange.{RegChange};
 ghost use Rattle.st_register.specs.declared.values.RegHeld.{RegHeld};
 ghost use Rattle.st_register.specs.declared.values.RegSwap.{RegSwap};
 
-/// A whole change and a whole step list of a register what its change and its step say, where they list it. What a change
-/// leaves is what its mark shows.
+/// A whole change and a whole step list of a register what its change and its step say, where they list it. A step from one
+/// document to another leads from each register to the register after it. What a change leaves is what its mark shows.
 pub fn registers_are_listed()
     ensures change { (p : RegPart) (c : RegHeld) → embed_register p.field p.does c.node
         ≡ (if p.does.clear || holds_mentioned p.does.mentioned c.node then Some (as_mark p.field (change_of p c)) else None) }
     ensures step { (f : FieldId) (m : NodeId → Bool) (c d : RegHeld) (s : RegSwap) → LeadsOver c d s → step_register f m c.node d.node
         ≡ (if not (same_option same_node c.node d.node) || holds_mentioned m c.node then Some (as_step f s) else None) }
+    ensures document { (D E : Document) (f : FieldId) → IsExtendedBy D E
+        → LeadsOver (record { node = D.held f }) (record { node = E.held f }) (record { before = D.held f; after = E.held f }) }
     ensures left { (f : FieldId) (x : RegChange) → held_after (as_mark f x) ≡ left_by x }
+{}
+
+/// A register of a document that is sound in form holds what a register can hold.
+pub fn registers_hold()
+    ensures { (D : Document) (f : FieldId) → IsSoundInForm D → CanHold (record { node = D.held f }) }
 {}
 
 /// The part of an intent that fits a sound document fits its register, and what the register holds after the part, whole or

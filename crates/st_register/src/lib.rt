@@ -9,5 +9,7 @@ mod told;
 mod values;
 
 pub use kind::Register;
-pub use laws::{registers_are_joined, registers_are_listed, registers_are_of_documents};
+pub use laws::{
+    registers_are_joined, registers_are_listed, registers_are_of_documents, registers_hold,
+};
 pub use values::{RegChange, RegHeld, RegSwap};

@@ -79,7 +79,7 @@ root_nowhere D h [] w = w
 root_nowhere D h (o ∷ os) (inl w) = let q : ◌≡◌ {A = Bool} false true = sym (ap (is_cell o.cell) (ap D.place w.0 ∙ h)) ∙ w.1 in cc
 root_nowhere D h (o ∷ os) (inr w) = root_nowhere D h os w
 
-can_hold : (D : Document) → IsSoundInForm D → (n : NodeId) → CanHold (content D n)
+pub can_hold : (D : Document) → IsSoundInForm D → (n : NodeId) → CanHold (content D n)
 can_hold D x n = record {
   once = slots_once D (D.rows n) (x.once n);
   stand_once = stands_once D (D.rows n) (x.once n);

@@ -29,6 +29,9 @@ pub mod Example
 pub mod Documents
 pub mod DocumentsAfter
 pub mod DocumentsBack
+pub mod DocumentsListed
 pub mod NamedCells
 pub mod NamedOnce
+pub mod NodesOnce
+pub mod OwnersEarly
 pub mod Refusing

@@ -2,8 +2,7 @@
 use Rattle.std.proofs.Common.{◌≡◌, ℕ, suc, Bool, true, false, List, [], ◌∷◌, ◌++◌, Some, None, cond, refl, sym, ap, ◌∙◌, subst, inl, inr, ◌⊎◌}
 use Rattle.std.specs.List.{flat_map}
 use Rattle.st_ids.specs.Listing.{AreDistinct, Has}
-use Rattle.st_ids.specs.Order.{same_cell}
-use Rattle.st_ids.proofs.Orders.{same_cell-true}
+use Rattle.st_ids.specs.declared.names.Atom.{Atom}
 use Rattle.st_ids.specs.declared.names.CellId.{CellId}
 use Rattle.st_ids.specs.declared.names.NodeId.{NodeId}
 use Rattle.st_kind.specs.Named.{Nodes}
@@ -17,12 +16,20 @@ use Rattle.st_marks.specs.Row.{CellMark, Counted, Gap, Touch, Fill, RowPart, Sam
 use Rattle.st_marks.proofs.Members.{all-has, append_left, append_right, first-has, has-append}
 use Rattle.st_seq.specs.Changes.{carried_cells, carried_row, full_after, made_cells}
 use Rattle.st_seq.specs.Laws.{has_grown, not_again, spread_of}
-use Rattle.st_seq.specs.NamedApart.{CantBoth, NamedApart, named_apart, found_at, named_after, named_before, named_in_row}
+use Rattle.st_seq.proofs.NamedCells.{same_atom-true}
+use Rattle.st_seq.specs.NamedApart.{same_atom, CantBoth, NamedApart, named_apart, found_at, named_after, named_before, named_in_row}
 use Rattle.st_seq.specs.Sequence.{FitsIn, LeadsOver, SeqPart, carried_to, cells_of, change_of, made_in}
-use Rattle.st_seq.specs.declared.names.NamedCell.{NamedCell}
+use Rattle.st_seq.specs.declared.names.NamedAt.{NamedAt}
 use Rattle.st_seq.specs.declared.values.RowChange.{RowChange}
 
 -- ## What is true of a row
+
+-- the cell of a name
+abbrev cell_of_name : Atom → CellId
+cell_of_name a = record { 0 = a }
+
+abbrev cell_named : NamedAt → CellId
+cell_named e = cell_of_name e.name
 
 -- the cell stands at this place of the row, which is counted from the first number
 abbrev StandsAt : List Slot → ℕ → CellId → ℕ → Type 0
@@ -30,12 +37,12 @@ StandsAt [] k a i = ⊥
 StandsAt (s ∷ c) k a i = ((s.cell ≡ a) × (k ≡ i)) ⊎ StandsAt c (suc k) a i
 
 -- a cell that is found stands there in the row, and one that is made is one of these
-abbrev IsTrueOf : List Slot → (CellId → Type 0) → ℕ → NamedCell → Type 0
-IsTrueOf c Made k e = ((e.made ≡ false) × StandsAt c k e.cell e.left) ⊎ ((e.made ≡ true) × Made e.cell)
+abbrev IsTrueOf : List Slot → (CellId → Type 0) → ℕ → NamedAt → Type 0
+IsTrueOf c Made k e = ((e.made ≡ false) × StandsAt c k (cell_named e) e.left) ⊎ ((e.made ≡ true) × Made (cell_named e))
 
 -- all that is said is true of the row
-abbrev AreTrueOf : List Slot → (CellId → Type 0) → ℕ → List NamedCell → Type 0
-AreTrueOf c Made k names = (e : NamedCell) → Has names e → IsTrueOf c Made k e
+abbrev AreTrueOf : List Slot → (CellId → Type 0) → ℕ → List NamedAt → Type 0
+AreTrueOf c Made k names = (e : NamedAt) → Has names e → IsTrueOf c Made k e
 
 -- no cell
 abbrev NoCell : CellId → Type 0
@@ -58,24 +65,24 @@ stands_once (s ∷ c) k a i j o (inl e) (inr w) = absurd (not_again c s.cell o.0
 stands_once (s ∷ c) k a i j o (inr h) (inl f) = absurd (not_again c s.cell o.0 (subst (Has (cells_of c)) (sym f.0) (stands_has c (suc k) a i h)))
 stands_once (s ∷ c) k a i j o (inr h) (inr w) = stands_once c (suc k) a i j o.1 h w
 
-both_true : (c : List Slot) (F G : CellId → Type 0) → AreDistinct (λ (s : Slot). s.cell) c → AreNew c F → AreNew c G → ((a : CellId) → F a → G a → ⊥) → (k : ℕ) (e f : NamedCell) → e.cell ≡ f.cell → IsTrueOf c F k e → IsTrueOf c G k f → CantBoth e f → ⊥
-both_true c F G o x y z k e f q (inl h) (inl w) not = not h.0 w.0 (stands_once c k f.cell e.left f.left o (subst (λ a. StandsAt c k a e.left) q h.1) w.1)
-both_true c F G o x y z k e f q (inl h) (inr w) not = y f.cell w.1 (subst (Has (cells_of c)) q (stands_has c k e.cell e.left h.1))
-both_true c F G o x y z k e f q (inr h) (inl w) not = x f.cell (subst F q h.1) (stands_has c k f.cell f.left w.1)
-both_true c F G o x y z k e f q (inr h) (inr w) not = z f.cell (subst F q h.1) w.1
+both_true : (c : List Slot) (F G : CellId → Type 0) → AreDistinct (λ (s : Slot). s.cell) c → AreNew c F → AreNew c G → ((a : CellId) → F a → G a → ⊥) → (k : ℕ) (e f : NamedAt) → (cell_named e) ≡ (cell_named f) → IsTrueOf c F k e → IsTrueOf c G k f → CantBoth e f → ⊥
+both_true c F G o x y z k e f q (inl h) (inl w) not = not h.0 w.0 (stands_once c k (cell_named f) e.left f.left o (subst (λ a. StandsAt c k a e.left) q h.1) w.1)
+both_true c F G o x y z k e f q (inl h) (inr w) not = y (cell_named f) w.1 (subst (Has (cells_of c)) q (stands_has c k (cell_named e) e.left h.1))
+both_true c F G o x y z k e f q (inr h) (inl w) not = x (cell_named f) (subst F q h.1) (stands_has c k (cell_named f) f.left w.1)
+both_true c F G o x y z k e f q (inr h) (inr w) not = z (cell_named f) (subst F q h.1) w.1
 
 -- two listings that are true of one row don't name a cell apart, where the cells that they make are new and others
-true_together : (c : List Slot) (F G : CellId → Type 0) → AreDistinct (λ (s : Slot). s.cell) c → AreNew c F → AreNew c G → ((a : CellId) → F a → G a → ⊥) → (A B : List NamedCell) → AreTrueOf c F 0 A → AreTrueOf c G 0 B → (j : ℕ) → NamedApart A B j → ⊥
+true_together : (c : List Slot) (F G : CellId → Type 0) → AreDistinct (λ (s : Slot). s.cell) c → AreNew c F → AreNew c G → ((a : CellId) → F a → G a → ⊥) → (A B : List NamedAt) → AreTrueOf c F 0 A → AreTrueOf c G 0 B → (j : ℕ) → NamedApart A B j → ⊥
 true_together c F G o x y z A B h w j (named_apart e f first has not _ _) =
-    let r = first-has (λ (g : NamedCell). same_cell g.cell f.cell) A e first in
-    both_true c F G o x y z 0 e f (same_cell-true e.cell f.cell r.1) (h e r.0) (w f has) not
+    let r = first-has (λ (g : NamedAt). same_atom g.name f.name) A e first in
+    both_true c F G o x y z 0 e f (ap cell_of_name (same_atom-true e.name f.name r.1)) (h e r.0) (w f has) not
 
 -- the first cell of a row is found where the count begins
-first_true : (s : Slot) (c : List Slot) (Made : CellId → Type 0) (k : ℕ) (a : CellId) (e : NamedCell) → s.cell ≡ a → found_at a k ≡ e → IsTrueOf (s ∷ c) Made k e
+first_true : (s : Slot) (c : List Slot) (Made : CellId → Type 0) (k : ℕ) (a : CellId) (e : NamedAt) → s.cell ≡ a → found_at a.0 k ≡ e → IsTrueOf (s ∷ c) Made k e
 first_true s c Made k a e q f = subst (IsTrueOf (s ∷ c) Made k) f (inl (refl, inl (q, refl)))
 
 -- what is true of the cells behind it is true of the row
-later_true : (s : Slot) (c : List Slot) (Made : CellId → Type 0) (k : ℕ) (e : NamedCell) → IsTrueOf c Made (suc k) e → IsTrueOf (s ∷ c) Made k e
+later_true : (s : Slot) (c : List Slot) (Made : CellId → Type 0) (k : ℕ) (e : NamedAt) → IsTrueOf c Made (suc k) e → IsTrueOf (s ∷ c) Made k e
 later_true s c Made k e (inl w) = inl (w.0, inr w.1)
 later_true s c Made k e (inr w) = inr w
 
@@ -105,14 +112,14 @@ gains_new (gained g) o a (inr h) w = gains_new g o.1 a h w
 gains_new (kept {y = t} {ys = d} same g) o a h (inl e) = not_again d t.cell o.0 (subst (Has (cells_of d)) (sym e ∙ same.0) (gains_has g a h))
 gains_new (kept same g) o a h (inr w) = gains_new g o.1 a h w
 
-step_cell_before : (m : Nodes) (c : CellId) (n : NodeId) (a b : Bool) (k : ℕ) (xs : List CellMark) (e : NamedCell) → Has (named_before k (step_cell m c n a b ∷ xs)) e → (found_at c k ≡ e) ⊎ Has (named_before (suc k) xs) e
-step_cell_before m c n true true k xs e = elim (m n) as (λ b. Has (named_before k (cond b (Touch c n Stay) Counted ∷ xs)) e → (found_at c k ≡ e) ⊎ Has (named_before (suc k) xs) e) [ true ↦ (λ h. h) | false ↦ (λ h. inr h) ]
+step_cell_before : (m : Nodes) (c : CellId) (n : NodeId) (a b : Bool) (k : ℕ) (xs : List CellMark) (e : NamedAt) → Has (named_before k (step_cell m c n a b ∷ xs)) e → (found_at c.0 k ≡ e) ⊎ Has (named_before (suc k) xs) e
+step_cell_before m c n true true k xs e = elim (m n) as (λ b. Has (named_before k (cond b (Touch c n Stay) Counted ∷ xs)) e → (found_at c.0 k ≡ e) ⊎ Has (named_before (suc k) xs) e) [ true ↦ (λ h. h) | false ↦ (λ h. inr h) ]
 step_cell_before m c n true false k xs e = λ h. h
 step_cell_before m c n false true k xs e = λ h. h
 step_cell_before m c n false false k xs e = λ h. h
 
-step_cell_after : (m : Nodes) (c : CellId) (n : NodeId) (a b : Bool) (k : ℕ) (xs : List CellMark) (e : NamedCell) → Has (named_after k (step_cell m c n a b ∷ xs)) e → (found_at c k ≡ e) ⊎ Has (named_after (suc k) xs) e
-step_cell_after m c n true true k xs e = elim (m n) as (λ b. Has (named_after k (cond b (Touch c n Stay) Counted ∷ xs)) e → (found_at c k ≡ e) ⊎ Has (named_after (suc k) xs) e) [ true ↦ (λ h. h) | false ↦ (λ h. inr h) ]
+step_cell_after : (m : Nodes) (c : CellId) (n : NodeId) (a b : Bool) (k : ℕ) (xs : List CellMark) (e : NamedAt) → Has (named_after k (step_cell m c n a b ∷ xs)) e → (found_at c.0 k ≡ e) ⊎ Has (named_after (suc k) xs) e
+step_cell_after m c n true true k xs e = elim (m n) as (λ b. Has (named_after k (cond b (Touch c n Stay) Counted ∷ xs)) e → (found_at c.0 k ≡ e) ⊎ Has (named_after (suc k) xs) e) [ true ↦ (λ h. h) | false ↦ (λ h. inr h) ]
 step_cell_after m c n true false k xs e = λ h. h
 step_cell_after m c n false true k xs e = λ h. h
 step_cell_after m c n false false k xs e = λ h. h
@@ -150,17 +157,17 @@ MakesCell os a = (o : Owned) × Has os o × (o.cell ≡ a)
 makes_new : (c : List Slot) (p : SeqPart) → FitsIn p c → AreNew c (MakesCell (made_in p.does c))
 makes_new c p w a h = λ v. all-has (λ (o : Owned). Has (cells_of c) o.cell → ⊥) (made_in p.does c) h.0 w.fresh h.1 (subst (Has (cells_of c)) (sym h.2) v)
 
-embed_cell_before : (p : RowPart) (c : CellId) (n : NodeId) (b : Bool) (k : ℕ) (xs : List CellMark) (e : NamedCell) → Has (named_before k (embed_cell p c n b ∷ xs)) e → (found_at c k ≡ e) ⊎ Has (named_before (suc k) xs) e
-embed_cell_before p c n true k xs e = elim (p.mentioned n) as (λ b. Has (named_before k (cond b (Touch c n (how (p.goes n) (To.Cell c))) Counted ∷ xs)) e → (found_at c k ≡ e) ⊎ Has (named_before (suc k) xs) e) [ true ↦ (λ h. h) | false ↦ (λ h. inr h) ]
-embed_cell_before p c n false k xs e = elim (is_here (how (p.goes n) (To.Cell c))) as (λ b. Has (named_before k (cond b (Fill c n) (Gap c) ∷ xs)) e → (found_at c k ≡ e) ⊎ Has (named_before (suc k) xs) e) [ true ↦ (λ h. h) | false ↦ (λ h. h) ]
+embed_cell_before : (p : RowPart) (c : CellId) (n : NodeId) (b : Bool) (k : ℕ) (xs : List CellMark) (e : NamedAt) → Has (named_before k (embed_cell p c n b ∷ xs)) e → (found_at c.0 k ≡ e) ⊎ Has (named_before (suc k) xs) e
+embed_cell_before p c n true k xs e = elim (p.mentioned n) as (λ b. Has (named_before k (cond b (Touch c n (how (p.goes n) (To.Cell c))) Counted ∷ xs)) e → (found_at c.0 k ≡ e) ⊎ Has (named_before (suc k) xs) e) [ true ↦ (λ h. h) | false ↦ (λ h. inr h) ]
+embed_cell_before p c n false k xs e = elim (is_here (how (p.goes n) (To.Cell c))) as (λ b. Has (named_before k (cond b (Fill c n) (Gap c) ∷ xs)) e → (found_at c.0 k ≡ e) ⊎ Has (named_before (suc k) xs) e) [ true ↦ (λ h. h) | false ↦ (λ h. h) ]
 
-embed_cell_after : (p : RowPart) (c : CellId) (n : NodeId) (b : Bool) (k : ℕ) (xs : List CellMark) (e : NamedCell) → Has (named_after k (embed_cell p c n b ∷ xs)) e → (found_at c k ≡ e) ⊎ Has (named_after (suc k) xs) e
-embed_cell_after p c n true k xs e = elim (p.mentioned n) as (λ b. Has (named_after k (cond b (Touch c n (how (p.goes n) (To.Cell c))) Counted ∷ xs)) e → (found_at c k ≡ e) ⊎ Has (named_after (suc k) xs) e) [ true ↦ (λ h. h) | false ↦ (λ h. inr h) ]
-embed_cell_after p c n false k xs e = elim (is_here (how (p.goes n) (To.Cell c))) as (λ b. Has (named_after k (cond b (Fill c n) (Gap c) ∷ xs)) e → (found_at c k ≡ e) ⊎ Has (named_after (suc k) xs) e) [ true ↦ (λ h. h) | false ↦ (λ h. h) ]
+embed_cell_after : (p : RowPart) (c : CellId) (n : NodeId) (b : Bool) (k : ℕ) (xs : List CellMark) (e : NamedAt) → Has (named_after k (embed_cell p c n b ∷ xs)) e → (found_at c.0 k ≡ e) ⊎ Has (named_after (suc k) xs) e
+embed_cell_after p c n true k xs e = elim (p.mentioned n) as (λ b. Has (named_after k (cond b (Touch c n (how (p.goes n) (To.Cell c))) Counted ∷ xs)) e → (found_at c.0 k ≡ e) ⊎ Has (named_after (suc k) xs) e) [ true ↦ (λ h. h) | false ↦ (λ h. inr h) ]
+embed_cell_after p c n false k xs e = elim (is_here (how (p.goes n) (To.Cell c))) as (λ b. Has (named_after k (cond b (Fill c n) (Gap c) ∷ xs)) e → (found_at c.0 k ≡ e) ⊎ Has (named_after (suc k) xs) e) [ true ↦ (λ h. h) | false ↦ (λ h. h) ]
 
-made_before : (p : RowPart) (os : List Owned) (xs : List CellMark) (k : ℕ) (e : NamedCell) → Has (named_before k (embed_made p os ++ xs)) e → ((e.made ≡ true) × MakesCell os e.cell) ⊎ Has (named_before k xs) e
+made_before : (p : RowPart) (os : List Owned) (xs : List CellMark) (k : ℕ) (e : NamedAt) → Has (named_before k (embed_made p os ++ xs)) e → ((e.made ≡ true) × MakesCell os (cell_named e)) ⊎ Has (named_before k xs) e
 made_before p [] xs k e h = inr h
-made_before p (o ∷ os) xs k e (inl q) = subst (λ (f : NamedCell). ((f.made ≡ true) × MakesCell (o ∷ os) f.cell) ⊎ Has (named_before k xs) f) q (inl (refl, (o, inl refl, refl)))
+made_before p (o ∷ os) xs k e (inl q) = subst (λ (f : NamedAt). ((f.made ≡ true) × MakesCell (o ∷ os) (cell_named f)) ⊎ Has (named_before k xs) f) q (inl (refl, (o, inl refl, refl)))
 made_before p (o ∷ os) xs k e (inr h) = elim (made_before p os xs k e h) [ inl w ↦ inl (w.0, (w.1.0, inr w.1.1, w.1.2)) | inr v ↦ inr v ]
 
 -- cells that are made before others of the row

@@ -10,3 +10,4 @@ pub mod Sequence
 pub mod Laws
 pub mod Form
 pub mod NamedApart
+pub mod OwnedEarly

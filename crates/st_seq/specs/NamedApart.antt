@@ -1,66 +1,95 @@
--- When two listings of one row name one cell in ways that can't both be true.
-use Rattle.std.specs.Prelude.{◌≡◌, ◌≢◌, ◌⊎◌, ◌&&◌, ◌==◌, ℕ, suc, true, false, not, List, [], ◌∷◌, Option, Some, None, min, if◌then◌else◌}
+-- When two listings of one row name one cell, or one node, in ways that can't both be true.
+use Rattle.std.specs.Prelude.{◌≡◌, ◌≢◌, ◌⊎◌, ◌&&◌, ◌==◌, ℕ, suc, Bool, true, false, not, List, [], ◌∷◌, ◌++◌, Option, Some, None, min, if◌then◌else◌}
 use Rattle.std.specs.List.{find}
+use Rattle.std.specs.Ordering.{is_eq}
 use Rattle.st_ids.specs.Listing.{Has}
-use Rattle.st_ids.specs.Order.{same_cell}
-use Rattle.st_ids.specs.declared.names.CellId.{CellId}
+use Rattle.st_ids.specs.Order.{atom_cmp}
+use Rattle.st_ids.specs.declared.names.Atom.{Atom}
+use Rattle.st_ids.specs.declared.names.NodeId.{NodeId}
+use Rattle.st_kind.specs.Refused.{IsFirstPlace}
 use Rattle.st_marks.specs.declared.places.Slot.{Slot}
 use Rattle.st_marks.specs.Row.{CellMark, Counted, Gap, Touch, Make, Fill}
 use Rattle.st_marks.specs.Shown.{Seen}
 use Rattle.st_seq.specs.Agreement.{DifferAt}
-use Rattle.st_seq.specs.declared.names.NamedCell.{NamedCell}
+use Rattle.st_seq.specs.declared.names.NamedAt.{NamedAt}
 
 -- ## The cells that a listing names
 
--- a cell that is found at a place, and one that is made behind so many found ones
-abbrev pub found_at : CellId → ℕ → NamedCell
-found_at c k = record { cell = c; left = k; made = false }
+-- what is found at a place, and what is made behind so many found cells
+abbrev pub found_at : Atom → ℕ → NamedAt
+found_at a k = record { name = a; left = k; made = false }
 
-abbrev pub made_at : CellId → ℕ → NamedCell
-made_at c k = record { cell = c; left = k; made = true }
+abbrev pub made_at : Atom → ℕ → NamedAt
+made_at a k = record { name = a; left = k; made = true }
 
 -- the cells that marks name, where so many are found before them
-abbrev pub named_before : ℕ → List CellMark → List NamedCell
+abbrev pub named_before : ℕ → List CellMark → List NamedAt
 named_before k [] = []
 named_before k (Counted ∷ ms) = named_before (suc k) ms
-named_before k (Gap c ∷ ms) = found_at c k ∷ named_before (suc k) ms
-named_before k (Touch c n h ∷ ms) = found_at c k ∷ named_before (suc k) ms
-named_before k (Make c n b ∷ ms) = made_at c k ∷ named_before k ms
-named_before k (Fill c n ∷ ms) = found_at c k ∷ named_before (suc k) ms
+named_before k (Gap c ∷ ms) = found_at c.0 k ∷ named_before (suc k) ms
+named_before k (Touch c n h ∷ ms) = found_at c.0 k ∷ named_before (suc k) ms
+named_before k (Make c n b ∷ ms) = made_at c.0 k ∷ named_before k ms
+named_before k (Fill c n ∷ ms) = found_at c.0 k ∷ named_before (suc k) ms
 
 -- the cells that marks name, as what comes next finds them
-abbrev pub named_after : ℕ → List CellMark → List NamedCell
+abbrev pub named_after : ℕ → List CellMark → List NamedAt
 named_after k [] = []
 named_after k (Counted ∷ ms) = named_after (suc k) ms
-named_after k (Gap c ∷ ms) = found_at c k ∷ named_after (suc k) ms
-named_after k (Touch c n h ∷ ms) = found_at c k ∷ named_after (suc k) ms
-named_after k (Make c n b ∷ ms) = found_at c k ∷ named_after (suc k) ms
-named_after k (Fill c n ∷ ms) = found_at c k ∷ named_after (suc k) ms
+named_after k (Gap c ∷ ms) = found_at c.0 k ∷ named_after (suc k) ms
+named_after k (Touch c n h ∷ ms) = found_at c.0 k ∷ named_after (suc k) ms
+named_after k (Make c n b ∷ ms) = found_at c.0 k ∷ named_after (suc k) ms
+named_after k (Fill c n ∷ ms) = found_at c.0 k ∷ named_after (suc k) ms
 
 -- the cells of a row
-abbrev pub named_in_row : ℕ → List Slot → List NamedCell
+abbrev pub named_in_row : ℕ → List Slot → List NamedAt
 named_in_row k [] = []
-named_in_row k (s ∷ c) = found_at s.cell k ∷ named_in_row (suc k) c
+named_in_row k (s ∷ c) = found_at s.cell.0 k ∷ named_in_row (suc k) c
+
+-- ## The nodes that a listing names where they stand
+
+-- the node that is named at a place, if the cell is full with it
+abbrev pub stands_at : Bool → Option NodeId → ℕ → List NamedAt
+stands_at b None k = []
+stands_at b (Some n) k = if b then found_at n.0 k ∷ [] else []
+
+-- the nodes that are named in the full cells of a listing, of which so many stand before them
+abbrev pub standing_at : ℕ → List Seen → List NamedAt
+standing_at k [] = []
+standing_at k (s ∷ X) = stands_at s.full s.node k ++ standing_at (suc k) X
 
 -- ## Two listings
 
--- what a listing says first of a cell
-abbrev pub first_named : List NamedCell → CellId → Option NamedCell
-first_named names c = find (λ (e : NamedCell). same_cell e.cell c) names
+-- whether two names are one
+unfoldable pub same_atom : Atom → Atom → Bool
+same_atom a b = is_eq (atom_cmp a b)
 
--- what is said twice of one cell can't both be true, unless both find it at one place
-abbrev pub CantBoth : NamedCell → NamedCell → Type 0
+-- what a listing says first of a name
+abbrev pub first_named : List NamedAt → Atom → Option NamedAt
+first_named names a = find (λ (e : NamedAt). same_atom e.name a) names
+
+-- what is said twice of one name can't both be true, unless both find it at one place
+abbrev pub CantBoth : NamedAt → NamedAt → Type 0
 CantBoth e f = e.made ≡ false → f.made ≡ false → e.left ≢ f.left
 
--- both name a cell in ways that can't both be true; the places are those where they say so
-pub data NamedApart (A B : List NamedCell) : ℕ → Type 0 where
-  named_apart : (e f : NamedCell) → first_named A f.cell ≡ Some e → Has B f → CantBoth e f → (k : ℕ) → (k ≡ e.left) ⊎ (k ≡ f.left) → NamedApart A B k
+-- both name something in ways that can't both be true; the places are those where they say so
+pub data NamedApart (A B : List NamedAt) : ℕ → Type 0 where
+  named_apart : (e f : NamedAt) → first_named A f.name ≡ Some e → Has B f → CantBoth e f → (k : ℕ) → (k ≡ e.left) ⊎ (k ≡ f.left) → NamedApart A B k
 
--- two listings of one row are apart at a place: they differ there, or they differ nowhere, and name a cell of that place apart
-abbrev pub ApartAt : List Seen → List Seen → List NamedCell → List NamedCell → ℕ → Type 0
-ApartAt X Y A B k = DifferAt X Y k ⊎ (((j : ℕ) → DifferAt X Y j → ⊥) × NamedApart A B k)
+-- both name a cell apart, or a node that stands at two places
+abbrev pub SaidApart : List Seen → List Seen → List NamedAt → List NamedAt → ℕ → Type 0
+SaidApart X Y A B k = NamedApart A B k ⊎ NamedApart (standing_at 0 X) (standing_at 0 Y) k
+
+-- two listings of one row are apart at a place: they differ there, or they differ nowhere, and name a cell or a node of that
+-- place apart
+abbrev pub ApartAt : List Seen → List Seen → List NamedAt → List NamedAt → ℕ → Type 0
+ApartAt X Y A B k = DifferAt X Y k ⊎ (((j : ℕ) → DifferAt X Y j → ⊥) × SaidApart X Y A B k)
 
 -- ## The same as a search
+
+-- the first place at which something is so, if it is so at any
+abbrev pub IsPlace : (ℕ → Type 0) → Option ℕ → Type 0
+IsPlace D None = (k : ℕ) → D k → ⊥
+IsPlace D (Some k) = IsFirstPlace D k
 
 -- the lesser of two places
 abbrev pub lesser : Option ℕ → Option ℕ → Option ℕ
@@ -68,11 +97,11 @@ lesser None o = o
 lesser (Some a) None = Some a
 lesser (Some a) (Some b) = Some (min a b)
 
--- the first place at which a cell is named apart
-abbrev pub clash_with : NamedCell → Option NamedCell → Option ℕ
+-- the first place at which something is named apart
+abbrev pub clash_with : NamedAt → Option NamedAt → Option ℕ
 clash_with f None = None
 clash_with f (Some e) = if not e.made && (not f.made && (e.left == f.left)) then None else Some (min e.left f.left)
 
-abbrev pub first_clash : List NamedCell → List NamedCell → Option ℕ
+abbrev pub first_clash : List NamedAt → List NamedAt → Option ℕ
 first_clash A [] = None
-first_clash A (f ∷ B) = lesser (clash_with f (first_named A f.cell)) (first_clash A B)
+first_clash A (f ∷ B) = lesser (clash_with f (first_named A f.name)) (first_clash A B)

@@ -5,6 +5,7 @@ ghost use Rattle.st_marks.specs.Row.{spread};
 use crate::form::is_of_form;
 use crate::names::{agree_beside, agree_in_turn, agree_over};
 use crate::new::{merged, rising};
+use crate::owners::agree_as_changes;
 use crate::values::{RowChange, RowHeld, RowStep};
 use crate::{across, back, beside, carry, rows, turns};
 use st_ids::{Copied, List, Or};
@@ -24,6 +25,7 @@ impl FieldKind for Sequence {
     ghost use Rattle.st_seq.specs.Changes.{may_list};
     ghost use Rattle.st_seq.specs.Laws.{kept_in_turn, one_row_change, one_row_step, row_changes_are_short, row_has_room, row_steps_are_short};
     ghost use Rattle.st_seq.specs.NamedApart.{ApartAt, named_after, named_before, named_in_row};
+    ghost use Rattle.st_seq.specs.OwnedEarly.{TurnsApartAt};
     ghost use Rattle.st_seq.specs.Sequence.{SeqPart, AreJoinedIn, CanHold, FitsIn, KeepsIn, LeadsOver, brought, carried_to, change_of, retreat_to};
 
     type Ctx = RowHeld;
@@ -66,7 +68,7 @@ impl FieldKind for Sequence {
 
     ghost ComposeClash = { λ s t. ApartAt (cells_after (spread s.marks)) (cells_before (spread t.marks)) (named_after 0 (spread s.marks)) (named_before 0 (spread t.marks)) };
 
-    ghost JoinClash = { λ x y. ApartAt (cells_after (spread x.marks)) (cells_before (spread y.marks)) (named_after 0 (spread x.marks)) (named_before 0 (spread y.marks)) };
+    ghost JoinClash = { λ x y. TurnsApartAt x.new (spread x.marks) (spread y.marks) };
 
     ghost RebaseClash = { λ x s. ApartAt (cells_before (spread x.marks)) (cells_before (spread s.marks)) (named_before 0 (spread x.marks)) (named_before 0 (spread s.marks)) };
 
@@ -98,7 +100,12 @@ impl FieldKind for Sequence {
 
     fn join(alloc: Global, first: &RowChange, then: &RowChange) -> Result<RowChange, Or<Apart>> {
         let marks = turns::join(alloc, &first.marks, &then.marks)?;
-        agree_in_turn(alloc, first.marks.as_slice(), then.marks.as_slice())?;
+        agree_as_changes(
+            alloc,
+            first.new.as_slice(),
+            first.marks.as_slice(),
+            then.marks.as_slice(),
+        )?;
         let new = merged(alloc, &first.new, &then.new)?;
         Ok(RowChange {
             rev: first.rev,

@@ -1,15 +1,21 @@
-//! What a row as a field has to do with the row of a document: the law is the contract of a function that does nothing.
-ghost use Rattle.std.specs.Prelude.{◌≡◌, true, false, IsSome, List as Seq};
+//! What a row as a field has to do with the row of a document: each law is the contract of a function that does nothing.
+ghost use Rattle.std.specs.Prelude.{◌≡◌, true, false, IsSome, Some, None, List as Seq, if◌then◌else◌};
+ghost use Rattle.std.specs.List.{list_any};
 ghost use Rattle.st_ids.specs.declared.names.NodeId.{NodeId};
 ghost use Rattle.st_kind.specs.Named.{Nodes};
 ghost use Rattle.st_marks.specs.declared.intents.Intent.{Intent};
 ghost use Rattle.st_marks.specs.Back.{retreat};
 ghost use Rattle.st_marks.specs.CarryOut.{full, void};
 ghost use Rattle.st_marks.specs.Document.{Document, IsSoundInForm, content};
-ghost use Rattle.st_marks.specs.Embedding.{IsMentionedByIntent};
-ghost use Rattle.st_marks.specs.Extends.{IsExtendedBy};
+ghost use Rattle.st_marks.specs.Embedding.{IsMentionedByIntent, row_marks, tells};
+ghost use Rattle.st_marks.specs.Extends.{Grows, IsExtendedBy};
 ghost use Rattle.st_marks.specs.Intent.{Fits};
-ghost use Rattle.st_seq.specs.Sequence.{FitsIn, ListsNew, carried_to, part_of, retreat_to};
+ghost use Rattle.st_marks.specs.Row.{SameCell, embed_row, merge, spread, step_row};
+ghost use Rattle.st_marks.specs.Step.{IsStep};
+ghost use Rattle.st_marks.specs.declared.marks.Mark.{Mark};
+ghost use Rattle.st_marks.specs.declared.places.Slot.{Slot};
+ghost use Rattle.st_marks.specs.declared.steps.Step.{Step};
+ghost use Rattle.st_seq.specs.Sequence.{CanHold, FitsIn, LeadsOver, ListsNew, SeqPart, carried_to, change_of, part_of, retreat_to};
 
 /// The part of an intent that fits a sound document fits each of its rows, and what the row holds after the part is what it
 /// holds in the document after the intent, whole or void. On the way back the row of a node that was there holds what stood in
@@ -22,4 +28,20 @@ pub fn rows_are_of_documents()
     ensures void { (D : Document) (N : Intent) (m : Nodes) (new : Seq NodeId) (n : NodeId) → IsSoundInForm D → Fits D N → ListsNew N new
         → content (void D N) n ≡ carried_to (part_of m new N n) true (content D n) }
     ensures back { (D E : Document) (n : NodeId) → IsExtendedBy D E → IsSome (D.nodes n) → content (retreat D E) n ≡ retreat_to (content D n) (content E n) }
+{}
+
+/// A whole change and a whole step list of a row what its change and its step say, where they list it. A whole step from one
+/// document to another leads from each row to the row after it.
+pub fn rows_are_listed()
+    ensures change { (p : SeqPart) (c : Seq Slot) (n : NodeId) → row_marks n (embed_row p.does c)
+        ≡ (if list_any tells (spread (change_of p c).marks) then Some (record { node = n; marks = (change_of p c).marks }) else None) }
+    ensures step { (m : Nodes) (c d : Seq Slot) (marks : Seq Mark) (n : NodeId) → LeadsOver m c d marks → (g : Grows SameCell c d)
+        → row_marks n (step_row m g) ≡ (if list_any tells (spread marks) then Some (record { node = n; marks = marks }) else None) }
+    ensures document { (D E : Document) (S : Step) (n : NodeId) (s : IsStep D E S) → IsExtendedBy D E
+        → LeadsOver s.mentioned (content D n) (content E n) (merge (step_row s.mentioned (s.grows n))) }
+{}
+
+/// A row of a document that is sound in form is what a row can hold.
+pub fn rows_hold()
+    ensures { (D : Document) (n : NodeId) → IsSoundInForm D → CanHold (content D n) }
 {}

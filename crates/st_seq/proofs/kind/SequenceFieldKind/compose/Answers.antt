@@ -7,9 +7,11 @@ use Rattle.st_seq.proofs.Fitting.{leavers_of, moved_in_turn}
 use Rattle.std.proofs.Common.{sym, subst, length, ◌<◌}
 use Rattle.st_marks.specs.Row.{spread}
 use Rattle.st_marks.specs.Shown.{cells_after, cells_before}
+use Rattle.std.proofs.Common.{ℕ, inl, inr}
 use Rattle.st_seq.proofs.NamedOnce.{named_once-compose}
+use Rattle.st_seq.proofs.NodesOnce.{stands_once-compose}
 use Rattle.st_seq.proofs.Refusing.{nothing_apart, before_short, after_short}
-use Rattle.st_seq.specs.NamedApart.{NamedApart, named_after, named_before}
+use Rattle.st_seq.specs.NamedApart.{SaidApart, named_after, named_before}
 use Rattle.st_seq.proofs.kind.SequenceFieldKind.compose.Goals as goal
 
 pub returns-in_err-marks-clause-composed : goal.returns-in_err-marks-clause-composed
@@ -34,5 +36,10 @@ pub agree_in_turn-requires-clause-then : goal.agree_in_turn-requires-clause-then
 agree_in_turn-requires-clause-then c = subst (λ r. length (cells_before (spread r)) < 4294967296) (sym c.as_slice-2.ensures) (before_short (spread c.args.then.now.marks) 4294967296 c.requires.then)
 
 pub returns-in_err-agree_in_turn-clause-composed : goal.returns-in_err-agree_in_turn-clause-composed
-returns-in_err-agree_in_turn-clause-composed c m k a d e f t = let none = nothing_apart c.in_err-agree_in_turn.field-0.0 _ c.in_err-agree_in_turn.ensures (λ j n. named_once-compose m k a.cells d.cells e.cells c.args.first.now.marks c.args.then.now.marks f t j
-    (subst (λ x. NamedApart (named_after 0 (spread x)) (named_before 0 (spread c.args.then.now.marks)) j) c.as_slice.ensures (subst (λ y. NamedApart (named_after 0 (spread c.as_slice.result.now)) (named_before 0 (spread y)) j) c.as_slice-2.ensures n))) in search rules
+returns-in_err-agree_in_turn-clause-composed c m k a d e f t = let none = nothing_apart c.in_err-agree_in_turn.field-0.0 _ c.in_err-agree_in_turn.ensures (λ j n. apart j (
+    subst (λ x. SaidApart (cells_after (spread x)) (cells_before (spread c.args.then.now.marks)) (named_after 0 (spread x)) (named_before 0 (spread c.args.then.now.marks)) j) c.as_slice.ensures
+    (subst (λ y. SaidApart (cells_after (spread c.as_slice.result.now)) (cells_before (spread y)) (named_after 0 (spread c.as_slice.result.now)) (named_before 0 (spread y)) j) c.as_slice-2.ensures n))) in search rules
+  where
+    apart : (j : ℕ) → SaidApart (cells_after (spread c.args.first.now.marks)) (cells_before (spread c.args.then.now.marks)) (named_after 0 (spread c.args.first.now.marks)) (named_before 0 (spread c.args.then.now.marks)) j → ⊥
+    apart j (inl n) = named_once-compose m k a.cells d.cells e.cells c.args.first.now.marks c.args.then.now.marks f t j n
+    apart j (inr n) = stands_once-compose m k a.cells d.cells e.cells c.args.first.now.marks c.args.then.now.marks f t j n

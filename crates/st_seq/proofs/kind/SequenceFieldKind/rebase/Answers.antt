@@ -5,9 +5,11 @@ use Rattle.st_seq.specs.declared.values.RowChange.{RowChange}
 use Rattle.std.proofs.Common.{sym, subst, length, ◌<◌}
 use Rattle.st_marks.specs.Row.{spread}
 use Rattle.st_marks.specs.Shown.{cells_before}
+use Rattle.std.proofs.Common.{ℕ, inl, inr}
 use Rattle.st_seq.proofs.NamedOnce.{named_once-rebase}
+use Rattle.st_seq.proofs.NodesOnce.{stands_once-rebase}
 use Rattle.st_seq.proofs.Refusing.{nothing_apart, beside_short}
-use Rattle.st_seq.specs.NamedApart.{NamedApart, named_before}
+use Rattle.st_seq.specs.NamedApart.{SaidApart, named_before}
 use Rattle.st_seq.proofs.kind.SequenceFieldKind.rebase.Goals as goal
 
 pub returns-in_err-marks-clause-rebased : goal.returns-in_err-marks-clause-rebased
@@ -24,5 +26,10 @@ pub agree_beside-requires-clause-first : goal.agree_beside-requires-clause-first
 agree_beside-requires-clause-first c = subst (λ r. length (cells_before (spread r)) < 4294967296) (sym c.as_slice.ensures) (beside_short (spread c.args.change.now.marks) (spread c.args.step.now.marks) 4294967296 c.in_ok-marks.ensures.apart c.requires)
 
 pub returns-in_err-agree_beside-clause-rebased : goal.returns-in_err-agree_beside-clause-rebased
-returns-in_err-agree_beside-clause-rebased c p m a d w v k e l = let none = nothing_apart c.in_err-agree_beside.field-0.0 _ c.in_err-agree_beside.ensures (λ j n. named_once-rebase p m a.cells d.cells c.args.change.now c.args.step.now.marks w v e l j
-    (subst (λ x. NamedApart (named_before 0 (spread x)) (named_before 0 (spread c.args.step.now.marks)) j) c.as_slice.ensures (subst (λ y. NamedApart (named_before 0 (spread c.as_slice.result.now)) (named_before 0 (spread y)) j) c.as_slice-2.ensures n))) in search rules
+returns-in_err-agree_beside-clause-rebased c p m a d w v k e l = let none = nothing_apart c.in_err-agree_beside.field-0.0 _ c.in_err-agree_beside.ensures (λ j n. apart j (
+    subst (λ x. SaidApart (cells_before (spread x)) (cells_before (spread c.args.step.now.marks)) (named_before 0 (spread x)) (named_before 0 (spread c.args.step.now.marks)) j) c.as_slice.ensures
+    (subst (λ y. SaidApart (cells_before (spread c.as_slice.result.now)) (cells_before (spread y)) (named_before 0 (spread c.as_slice.result.now)) (named_before 0 (spread y)) j) c.as_slice-2.ensures n))) in search rules
+  where
+    apart : (j : ℕ) → SaidApart (cells_before (spread c.args.change.now.marks)) (cells_before (spread c.args.step.now.marks)) (named_before 0 (spread c.args.change.now.marks)) (named_before 0 (spread c.args.step.now.marks)) j → ⊥
+    apart j (inl n) = named_once-rebase p m a.cells d.cells c.args.change.now c.args.step.now.marks w v e l j n
+    apart j (inr n) = stands_once-rebase p m a.cells d.cells c.args.change.now c.args.step.now.marks w e l j n
