@@ -15,3 +15,4 @@ pub mod Verdicts
 pub mod OneDocument
 pub mod Queries
 pub mod ShortRows
+pub mod Trees

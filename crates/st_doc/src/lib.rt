@@ -7,6 +7,7 @@ mod copy;
 mod doc;
 mod evictions;
 mod fits;
+mod laws;
 mod live;
 mod live_text;
 mod maps;
@@ -22,4 +23,5 @@ mod targets;
 mod verdict;
 
 pub use doc::Doc;
+pub use laws::each_node_shows_a_tree;
 pub use start::rows_of;

@@ -49,7 +49,8 @@ module _ (up : NodeId → Option NodeId) where
       go None rest f = refl
       go (Some p) rest f = rest p f
 
-  met_again : (fuel k j : ℕ) (n : NodeId) → k ≤ fuel → climb up (suc j) n ≡ Some n → climb up k n ≡ None → ⊥
+  -- a node that is met again is on no way that ends
+  pub met_again : (fuel k j : ℕ) (n : NodeId) → k ≤ fuel → climb up (suc j) n ≡ Some n → climb up k n ≡ None → ⊥
   met_again zero k j n l back e =
       let z : k ≡ 0 = omega arith in
       let f : Some n ≡ None = sym (ap (λ (i : ℕ). climb up i n) z) ∙ e in cc
