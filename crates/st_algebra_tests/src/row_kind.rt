@@ -6,7 +6,7 @@ use st_ids::{Atom, CellId, Copied, List, NodeId, Or, Rev};
 use st_kind::{Apart, FieldKind, Sides, rebase_over_both};
 use st_marks::{How, Mark, Slot};
 use st_seq::{
-    RowChange, RowHeld, RowStep, Sequence, rows_are_listed, rows_are_of_documents, rows_hold,
+    RowChange, RowHeld, RowStep, Sequence, rows_are_joined, rows_are_listed, rows_are_of_documents, rows_hold,
 };
 use std::alloc::{AllocError, Global};
 use std::test::Fail;
@@ -294,6 +294,7 @@ fn steps_are_known(alloc: Global) -> Result<bool, AllocError> {
 #[test]
 fn one_argument(rt: HostRuntime) -> Result<(), Fail> {
     let alloc = rt.alloc();
+    rows_are_joined();
     rows_are_listed();
     rows_are_of_documents();
     rows_hold();
