@@ -17,8 +17,8 @@ returns-in-Ok-clause-output g c =
     (λ r follows. inr (record { rest = r; follows = follows; whole = refl })) _ c.in-Ok.ensures.ok
     (subst (λ (w : Lists). IsOutput (g.K.Sink.written c.send_header.new.sink) (g.K.Sink.written c.take_lines.new.sink) (AnswersFrom h w 2 after) c.take_lines.result) c.requires.fresh.1 c.take_lines.ensures.output)
 
-pub returns-clause-output : goal.returns-clause-output
-returns-clause-output g c =
+pub returns-in-Err-clause-output : goal.returns-in-Err-clause-output
+returns-in-Err-clause-output g c =
     let h = header_view c.args.world.now.header in
     let after = cut c.args.bytes.now in
     output_also _ _ (OrCutShort (AnswersHeader IsCutShort)) (OrCutShort (AnswersHeader (AnswersFrom h begun 2 after)))
