@@ -54,8 +54,8 @@ fn register_is_copied(alloc: Global) -> Result<bool, AllocError> {
     Ok(register.copy(alloc)? == register)
 }
 
-fn change_is_copied(alloc: Global) -> Result<bool, AllocError> {
-    let change = Change {
+fn blank_change(alloc: Global) -> Change {
+    Change {
         rev: REV,
         under: REV,
         base: true,
@@ -65,23 +65,31 @@ fn change_is_copied(alloc: Global) -> Result<bool, AllocError> {
         regs: List::new(alloc),
         loose: List::new(alloc),
         schema: None,
-    };
+    }
+}
+
+fn change_is_copied(alloc: Global) -> Result<bool, AllocError> {
+    let change = blank_change(alloc);
     Ok(change.copy(alloc)? == change)
 }
 
-fn step_is_copied(alloc: Global) -> Result<bool, AllocError> {
-    let step = Step {
+fn blank_step(alloc: Global) -> Step {
+    Step {
         new: List::new(alloc),
         rows: List::new(alloc),
         regs: List::new(alloc),
         loose: List::new(alloc),
         schema: None,
-    };
+    }
+}
+
+fn step_is_copied(alloc: Global) -> Result<bool, AllocError> {
+    let step = blank_step(alloc);
     Ok(step.copy(alloc)? == step)
 }
 
-fn intent_is_copied(alloc: Global) -> Result<bool, AllocError> {
-    let intent = Intent {
+fn blank_intent(alloc: Global) -> Intent {
+    Intent {
         rev: REV,
         under: REV,
         new: List::new(alloc),
@@ -90,7 +98,11 @@ fn intent_is_copied(alloc: Global) -> Result<bool, AllocError> {
         put: List::new(alloc),
         need: List::new(alloc),
         schema: None,
-    };
+    }
+}
+
+fn intent_is_copied(alloc: Global) -> Result<bool, AllocError> {
+    let intent = blank_intent(alloc);
     Ok(intent.copy(alloc)? == intent)
 }
 

@@ -32,7 +32,7 @@ use Rattle.st_edits.specs.New.{new_nodes, to_at, owned_by, row_cell, cells_under
 use Rattle.st_edits.specs.declared.names.Given.{Given}
 use Rattle.st_edits.proofs.NewFits.{made, NodesFresh}
 use Rattle.st_edits.proofs.Numbered.{filter-from, Counted, IsAt, IsNumbered, numbered, one_named, there_is, IsUnderArray}
-use Rattle.st_opening.proofs.PreorderFields.{same_number}
+use Rattle.st_opening.proofs.PreorderNames.{same_number}
 use Rattle.st_edited.specs.Alike.{AreAlikeAt}
 use Rattle.st_edited.proofs.NewTrees.{Keeps}
 use Rattle.st_edited.proofs.Rows.{owners_same, no_members, all_full, none_some}

@@ -32,7 +32,7 @@ use Rattle.st_marks.specs.LiveTree.{Shows, shows_leaf, shows_row, shows_register
 use Rattle.st_marks.proofs.Lookups.{both_true}
 use Rattle.st_marks.proofs.Members.{true-false, has-append, append_left, append_right}
 use Rattle.st_edits.specs.New.{owned_by, row_cell, cells_under}
-use Rattle.st_opening.proofs.PreorderFields.{same_number}
+use Rattle.st_opening.proofs.PreorderNames.{same_number}
 use Rattle.st_edits.specs.ArrayTypes.{is_array_form}
 use Rattle.st_edited.specs.Edited.{TellsRows, same_key}
 use Rattle.st_edited.proofs.Along.{same_key-true, same_key-itself}

@@ -26,7 +26,7 @@ use Rattle.st_opening.specs.Start.{cell_at, first_said, held_at, place_at, spot_
 use Rattle.st_opening.proofs.StartSound.{start_sound}
 use Rattle.st_edits.specs.New.{cells_under, owned_by, row_cell}
 use Rattle.st_edits.proofs.Numbered.{filter-from}
-use Rattle.st_opening.proofs.PreorderFields.{same_number}
+use Rattle.st_opening.proofs.PreorderNames.{same_number}
 use Rattle.st_edited.specs.Edited.{TellsRows}
 use Rattle.st_edited.specs.Typed.{IsAsTyped}
 use Rattle.st_edited.proofs.Made.{in_row_of}

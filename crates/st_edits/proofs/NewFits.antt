@@ -41,7 +41,7 @@ use Rattle.st_edits.specs.declared.names.Takes.TheVariants as field
 use Rattle.st_edits.proofs.Fits.{all_map, distinct_map, passed, found, key_some, ruled, walk_there, kind_taken}
 use Rattle.st_edits.proofs.MoveFits.{CellsFresh, left_in_row, put_none}
 use Rattle.st_edits.proofs.Numbered.{filter-from, distinct_filter, distinct_flat, IsAt, Counted, IsNumbered, numbered, there_is, nodes_distinct, own_cell, cell_is, one_in_cell, IsArray, IsUnderArray, tops_rows, tops_counted, IsInner, fields_inner, tops_regs}
-use Rattle.st_opening.proofs.PreorderFields.{same_number}
+use Rattle.st_opening.proofs.PreorderNames.{same_number}
 
 -- ## Lists
 

@@ -16,7 +16,7 @@ use Rattle.st_tree.specs.Size.{node_count, field_count, item_count}
 use Rattle.st_tree.specs.Form.{is_row_alone, keys_rise, fields_fit, has_form, fields_have_form, all_have_form}
 use Rattle.st_tree.specs.Preorder.{node_named, cell_named, cells_taken, cell_count, field_cells, item_cells, is_array, at_of, listed, fields_listed, items_listed, tops_listed}
 use Rattle.st_opening.specs.Start.{registers, register_at}
-use Rattle.st_opening.proofs.PreorderFields.{AreBetween, none_between, between_append, tree_regs, fields_under, row_regs, filter_append, same_number}
+use Rattle.st_opening.proofs.PreorderNames.{AreBetween, none_between, between_append, tree_regs, fields_under, row_regs, filter_append, same_number, taken, cells_used, taken_at, listed_length, items_length, listed_cells, items_cells}
 
 -- ## Lists
 
@@ -57,13 +57,6 @@ distinct_flat name f key (g ∷ gs) d each one =
 
 -- ## Names that are counted up
 
--- how many cells a place takes
-abbrev pub taken : FlatAt → ℕ
-taken FlatAt.Root = 0
-taken (FlatAt.Top c) = 1
-taken (FlatAt.Row n c) = 1
-taken (FlatAt.Register f) = 0
-
 -- a place of the node of the number n, where c is the next cell's number: in its cell, or in the register, of a node of a
 -- number from l on and before n
 abbrev pub IsAt : Rev → ℕ → ℕ → ℕ → FlatAt → Type 0
@@ -77,14 +70,6 @@ abbrev pub Counted : Rev → ℕ → List FlatNode → ℕ → ℕ → Type 0
 Counted rev l [] n c = Unit {0}
 Counted rev l (x ∷ xs) n c = (x.node ≡ node_named rev n) × IsAt rev l n c x.at × Counted rev l xs (n + 1) (c + taken x.at)
 
-abbrev cells_used : List FlatNode → ℕ
-cells_used [] = 0
-cells_used (x ∷ xs) = taken x.at + cells_used xs
-
-cells_append : (xs ys : List FlatNode) → cells_used (xs ++ ys) ≡ cells_used xs + cells_used ys
-cells_append [] ys = omega arith
-cells_append (x ∷ xs) ys = let rest = cells_append xs ys in omega (arith, rest)
-
 counted_at : (rev : Rev) (l : ℕ) (xs : List FlatNode) (n m c d : ℕ) → n ≡ m → c ≡ d → Counted rev l xs n c → Counted rev l xs m d
 counted_at rev l xs n m c d p q h = subst (λ a. Counted rev l xs a d) p (subst (λ b. Counted rev l xs n b) q h)
 
@@ -96,46 +81,6 @@ counted_append rev l (x ∷ xs) ys n c h g = (
   counted_append rev l xs ys (n + 1) (c + taken x.at) h.2
       (counted_at rev l ys (n + suc (length xs)) (n + 1 + length xs) (c + (taken x.at + cells_used xs)) (c + taken x.at + cells_used xs) (omega arith) (omega arith) g),
 )
-
-taken_at : (rev : Rev) (owner : ℕ) (key : List ℕ) (row : Bool) (c : ℕ) → taken (at_of rev owner key row c) ≡ cells_taken row
-taken_at rev owner key true c = refl
-taken_at rev owner key false c = refl
-
-mutual
-  listed_length : (rev : Rev) (at : FlatAt) (n c : ℕ) (t : Node) → length (listed rev at n c t) ≡ node_count t
-  listed_length rev at n c (node ty leaf fields) = let h = fields_length rev n (n + 1) c fields in omega (arith, h)
-
-  fields_length : (rev : Rev) (owner n c : ℕ) (fs : Fields) → length (fields_listed rev owner n c fs) ≡ field_count fs
-  fields_length rev owner n c no_fields = refl
-  fields_length rev owner n c (field key row items rest) =
-      let a = items_length rev owner key row n c items in
-      let b = fields_length rev owner (n + item_count items) (c + item_cells row items) rest in
-      length-append (items_listed rev owner key row n c items) _ ∙ (λ i. a i + b i)
-
-  items_length : (rev : Rev) (owner : ℕ) (key : List ℕ) (row : Bool) (n c : ℕ) (ts : Nodes) → length (items_listed rev owner key row n c ts) ≡ item_count ts
-  items_length rev owner key row n c no_nodes = refl
-  items_length rev owner key row n c (first t ts) =
-      let a = listed_length rev (at_of rev owner key row c) n (c + cells_taken row) t in
-      let b = items_length rev owner key row (n + node_count t) (c + (cells_taken row + cell_count t)) ts in
-      length-append (listed rev (at_of rev owner key row c) n (c + cells_taken row) t) _ ∙ (λ i. a i + b i)
-
-mutual
-  listed_cells : (rev : Rev) (at : FlatAt) (n c : ℕ) (t : Node) → cells_used (listed rev at n c t) ≡ taken at + cell_count t
-  listed_cells rev at n c (node ty leaf fields) = ap (λ k. taken at + k) (fields_cells rev n (n + 1) c fields)
-
-  fields_cells : (rev : Rev) (owner n c : ℕ) (fs : Fields) → cells_used (fields_listed rev owner n c fs) ≡ field_cells fs
-  fields_cells rev owner n c no_fields = refl
-  fields_cells rev owner n c (field key row items rest) =
-      let a = items_cells rev owner key row n c items in
-      let b = fields_cells rev owner (n + item_count items) (c + item_cells row items) rest in
-      cells_append (items_listed rev owner key row n c items) _ ∙ (λ i. a i + b i)
-
-  items_cells : (rev : Rev) (owner : ℕ) (key : List ℕ) (row : Bool) (n c : ℕ) (ts : Nodes) → cells_used (items_listed rev owner key row n c ts) ≡ item_cells row ts
-  items_cells rev owner key row n c no_nodes = refl
-  items_cells rev owner key row n c (first t ts) =
-      let a = listed_cells rev (at_of rev owner key row c) n (c + cells_taken row) t ∙ ap (λ k. k + cell_count t) (taken_at rev owner key row c) in
-      let b = items_cells rev owner key row (n + node_count t) (c + (cells_taken row + cell_count t)) ts in
-      cells_append (listed rev (at_of rev owner key row c) n (c + cells_taken row) t) _ ∙ (λ i. a i + b i)
 
 at_is : (rev : Rev) (l owner n c : ℕ) (key : List ℕ) (row : Bool) → l ≤ owner → owner < n → IsAt rev l n c (at_of rev owner key row c)
 at_is rev l owner n c key true low less = (refl, (owner, low, less, refl))

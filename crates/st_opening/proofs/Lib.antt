@@ -1,2 +1,2 @@
-pub mod PreorderFields
+pub mod PreorderNames
 pub mod StartSound

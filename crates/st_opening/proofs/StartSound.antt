@@ -1,5 +1,5 @@
 -- The opening document of a tree of the form is sound in form.
-use Rattle.std.proofs.Common.{◌≡◌, ◌≢◌, ℕ, zero, suc, ◌+◌, ◌<◌, ◌≤◌, ◌^◌, Bool, true, false, cond, List, [], ◌∷◌, ◌++◌, length, length-append, Option, Some, None, IsSome, is_some, option_and_then, unwrap_or, refl, sym, ap, ◌∙◌, subst, arith, ◌⊎◌, inl, inr, nat_lt, Result, Ok, Err}
+use Rattle.std.proofs.Common.{◌≡◌, ◌≢◌, ℕ, zero, suc, ◌+◌, ◌<◌, ◌≤◌, ◌^◌, Bool, true, false, cond, List, [], ◌∷◌, ◌++◌, length, Option, Some, None, IsSome, is_some, option_and_then, unwrap_or, refl, sym, ap, ◌∙◌, subst, arith, ◌⊎◌, inl, inr, nat_lt, Result, Ok, Err}
 use Rattle.std.specs.List.{filter_map, cons_option}
 use Rattle.std.specs.Option.{option_or}
 use Rattle.std.proofs.lemmas.Bool.{cases_lt}
@@ -23,9 +23,9 @@ use Rattle.st_tree.specs.Size.{node_count, field_count, item_count, height, chec
 use Rattle.st_tree.specs.declared.limits.TreeFault.{TreeFault}
 use Rattle.st_tree.specs.declared.limits.TreeFault.TheVariants.{TooDeep, TooMany}
 use Rattle.st_tree.specs.Form.{has_form}
-use Rattle.st_tree.specs.Preorder.{node_named, cell_named, cells_taken, cell_count, field_cells, item_cells, is_array, at_of, listed, fields_listed, items_listed, opening_listed}
+use Rattle.st_tree.specs.Preorder.{node_named, cell_named, cells_taken, cell_count, item_cells, is_array, at_of, listed, fields_listed, items_listed, opening_listed}
 use Rattle.st_opening.specs.Start.{first_said, type_at, spot_at, place_at, row_at, cell_at, held_at, start_of, registers, register_at}
-use Rattle.st_opening.proofs.PreorderFields.{tree_regs, fields_under, row_regs, same_number}
+use Rattle.st_opening.proofs.PreorderNames.{tree_regs, fields_under, row_regs, same_number, taken, cells_used, taken_at, listed_length, items_length, listed_cells, items_cells}
 
 -- ## Lists
 
@@ -77,13 +77,6 @@ module _ {A B : Type 0} (say : A → Option B) where
 
 -- ## Names that are counted up
 
--- how many cells a place takes
-abbrev taken : FlatAt → ℕ
-taken FlatAt.Root = 0
-taken (FlatAt.Top c) = 0
-taken (FlatAt.Row n c) = 1
-taken (FlatAt.Register f) = 0
-
 -- a place of the node of the number n, where c is the next cell's number: in the row or register of an earlier node
 abbrev IsAt : Rev → ℕ → ℕ → FlatAt → Type 0
 IsAt rev n c FlatAt.Root = Unit {0}
@@ -96,14 +89,6 @@ abbrev Counted : Rev → List FlatNode → ℕ → ℕ → Type 0
 Counted rev [] n c = Unit {0}
 Counted rev (x ∷ xs) n c = (x.node ≡ node_named rev n) × IsAt rev n c x.at × Counted rev xs (n + 1) (c + taken x.at)
 
-abbrev cells_used : List FlatNode → ℕ
-cells_used [] = 0
-cells_used (x ∷ xs) = taken x.at + cells_used xs
-
-cells_append : (xs ys : List FlatNode) → cells_used (xs ++ ys) ≡ cells_used xs + cells_used ys
-cells_append [] ys = omega arith
-cells_append (x ∷ xs) ys = let rest = cells_append xs ys in omega (arith, rest)
-
 counted_at : (rev : Rev) (xs : List FlatNode) (n m c d : ℕ) → n ≡ m → c ≡ d → Counted rev xs n c → Counted rev xs m d
 counted_at rev xs n m c d p q h = subst (λ a. Counted rev xs a d) p (subst (λ b. Counted rev xs n b) q h)
 
@@ -115,46 +100,6 @@ counted_append rev (x ∷ xs) ys n c h g = (
   counted_append rev xs ys (n + 1) (c + taken x.at) h.2
       (counted_at rev ys (n + suc (length xs)) (n + 1 + length xs) (c + (taken x.at + cells_used xs)) (c + taken x.at + cells_used xs) (omega arith) (omega arith) g),
 )
-
-taken_at : (rev : Rev) (owner : ℕ) (key : List ℕ) (row : Bool) (c : ℕ) → taken (at_of rev owner key row c) ≡ cells_taken row
-taken_at rev owner key true c = refl
-taken_at rev owner key false c = refl
-
-mutual
-  listed_length : (rev : Rev) (at : FlatAt) (n c : ℕ) (t : Node) → length (listed rev at n c t) ≡ node_count t
-  listed_length rev at n c (node ty leaf fields) = let h = fields_length rev n (n + 1) c fields in omega (arith, h)
-
-  fields_length : (rev : Rev) (owner n c : ℕ) (fs : Fields) → length (fields_listed rev owner n c fs) ≡ field_count fs
-  fields_length rev owner n c no_fields = refl
-  fields_length rev owner n c (field key row items rest) =
-      let a = items_length rev owner key row n c items in
-      let b = fields_length rev owner (n + item_count items) (c + item_cells row items) rest in
-      length-append (items_listed rev owner key row n c items) _ ∙ (λ i. a i + b i)
-
-  items_length : (rev : Rev) (owner : ℕ) (key : List ℕ) (row : Bool) (n c : ℕ) (ts : Nodes) → length (items_listed rev owner key row n c ts) ≡ item_count ts
-  items_length rev owner key row n c no_nodes = refl
-  items_length rev owner key row n c (first t ts) =
-      let a = listed_length rev (at_of rev owner key row c) n (c + cells_taken row) t in
-      let b = items_length rev owner key row (n + node_count t) (c + (cells_taken row + cell_count t)) ts in
-      length-append (listed rev (at_of rev owner key row c) n (c + cells_taken row) t) _ ∙ (λ i. a i + b i)
-
-mutual
-  listed_cells : (rev : Rev) (at : FlatAt) (n c : ℕ) (t : Node) → cells_used (listed rev at n c t) ≡ taken at + cell_count t
-  listed_cells rev at n c (node ty leaf fields) = ap (λ k. taken at + k) (fields_cells rev n (n + 1) c fields)
-
-  fields_cells : (rev : Rev) (owner n c : ℕ) (fs : Fields) → cells_used (fields_listed rev owner n c fs) ≡ field_cells fs
-  fields_cells rev owner n c no_fields = refl
-  fields_cells rev owner n c (field key row items rest) =
-      let a = items_cells rev owner key row n c items in
-      let b = fields_cells rev owner (n + item_count items) (c + item_cells row items) rest in
-      cells_append (items_listed rev owner key row n c items) _ ∙ (λ i. a i + b i)
-
-  items_cells : (rev : Rev) (owner : ℕ) (key : List ℕ) (row : Bool) (n c : ℕ) (ts : Nodes) → cells_used (items_listed rev owner key row n c ts) ≡ item_cells row ts
-  items_cells rev owner key row n c no_nodes = refl
-  items_cells rev owner key row n c (first t ts) =
-      let a = listed_cells rev (at_of rev owner key row c) n (c + cells_taken row) t ∙ ap (λ k. k + cell_count t) (taken_at rev owner key row c) in
-      let b = items_cells rev owner key row (n + node_count t) (c + (cells_taken row + cell_count t)) ts in
-      cells_append (listed rev (at_of rev owner key row c) n (c + cells_taken row) t) _ ∙ (λ i. a i + b i)
 
 at_is : (rev : Rev) (owner n c : ℕ) (key : List ℕ) (row : Bool) → owner < n → IsAt rev n c (at_of rev owner key row c)
 at_is rev owner n c key true less = (refl, (owner, less, refl))

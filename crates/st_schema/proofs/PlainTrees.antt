@@ -49,8 +49,9 @@ leaf_flat (leaf.Bool b) = omega arith
 leaf_flat (leaf.Int z) = omega arith
 leaf_flat (leaf.Words w) = omega arith
 
+-- at most two levels for each of the tree's
 mutual
-  tree_low : (t : Node) → depth (tree_data t) ≤ 2 * height t
+  pub tree_low : (t : Node) → depth (tree_data t) ≤ 2 * height t
   tree_low (node ty (Some v) fs) = omega (arith, leaf_flat v)
   tree_low (node ty None fs) = omega (arith, body_low fs)
 
@@ -67,7 +68,7 @@ mutual
   members_low no_fields = omega arith
   members_low (field key row items rest) = omega (arith, keyed_low key items (members_data rest), members_low rest)
 
-  items_low : (ts : Nodes) → items_depth (trees_data ts) ≤ 2 * items_height ts
+  pub items_low : (ts : Nodes) → items_depth (trees_data ts) ≤ 2 * items_height ts
   items_low no_nodes = omega arith
   items_low (first t ts) = omega (arith, tree_low t, items_low ts)
 

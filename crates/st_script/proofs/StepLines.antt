@@ -15,7 +15,7 @@ use Rattle.st_json.specs.declared.fault.BadCause.{BadCause}
 use Rattle.st_tree.specs.Node.{Node, node, Fields, no_fields, field, Nodes, no_nodes, first, nodes_of}
 use Rattle.st_tree.specs.Size.{height, fields_height, items_height}
 use Rattle.st_schema.specs.TreeText.{leaf_data, tree_data, body_data, keyed_data, members_data, trees_data}
-use Rattle.st_schema.proofs.PlainTrees.{tree_plain}
+use Rattle.st_schema.proofs.PlainTrees.{tree_plain, tree_low, items_low}
 use Rattle.st_script.specs.Line.{line_of, judged}
 use Rattle.st_script.specs.Steps.{StepView, join, insert, remove, move, set, clear, sequence, deliver, show}
 use Rattle.st_script.specs.StepText.{places_data, step_data, step_text, limits_of, trees_have_form, FitsLine}
@@ -45,35 +45,6 @@ step_plain (deliver client) = refl
 step_plain (show client branch) = refl
 
 -- ---- how deep it nests
-
-leaf_flat : (v : Leaf) → depth (leaf_data v) ≤ 0
-leaf_flat leaf.Null = omega arith
-leaf_flat (leaf.Bool b) = omega arith
-leaf_flat (leaf.Int z) = omega arith
-leaf_flat (leaf.Words w) = omega arith
-
--- at most two levels for each of the tree's
-mutual
-  tree_low : (t : Node) → depth (tree_data t) ≤ 2 * height t
-  tree_low (node ty (Some v) fs) = omega (arith, leaf_flat v)
-  tree_low (node ty None fs) = omega (arith, body_low fs)
-
-  body_low : (fs : Fields) → depth (body_data fs) ≤ 1 + 2 * fields_height fs
-  body_low no_fields = omega arith
-  body_low (field key true items rest) = omega (arith, items_low items)
-  body_low (field key false items rest) = omega (arith, keyed_low key items (members_data rest), members_low rest)
-
-  keyed_low : (key : List ℕ) (items : Nodes) (ms : Members) → members_depth (keyed_data key items ms) ≤ max (2 * items_height items) (members_depth ms)
-  keyed_low key no_nodes ms = omega arith
-  keyed_low key (first t ts) ms = omega (arith, tree_low t)
-
-  members_low : (fs : Fields) → members_depth (members_data fs) ≤ 2 * fields_height fs
-  members_low no_fields = omega arith
-  members_low (field key row items rest) = omega (arith, keyed_low key items (members_data rest), members_low rest)
-
-  items_low : (ts : Nodes) → items_depth (trees_data ts) ≤ 2 * items_height ts
-  items_low no_nodes = omega arith
-  items_low (first t ts) = omega (arith, tree_low t, items_low ts)
 
 path_low : (ps : List Place) → items_depth (items_of (places_data ps)) ≤ 0
 path_low [] = omega arith

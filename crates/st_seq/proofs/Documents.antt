@@ -87,7 +87,7 @@ can_hold D x n = record {
   short = let e : length (content D n) ≡ length (D.rows n) = length-map (D.rows n) (slot D) in let s = x.short n in omega (arith, e, s);
 }
 
-in_document : (D : Document) → IsSoundInForm D → (n : NodeId) (a : CellId) → Has (cells_of (content D n)) a → D.row_of a ≡ Some n
+pub in_document : (D : Document) → IsSoundInForm D → (n : NodeId) (a : CellId) → Has (cells_of (content D n)) a → D.row_of a ≡ Some n
 in_document D x n a w =
     let r = has-map (λ (s : Slot). s.cell) (content D n) a w in
     let q = is_slot D n r.0 r.1 in

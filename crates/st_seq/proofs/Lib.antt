@@ -30,6 +30,7 @@ pub mod Documents
 pub mod DocumentsAfter
 pub mod DocumentsBack
 pub mod DocumentsListed
+pub mod DocumentsJoined
 pub mod NamedCells
 pub mod NamedOnce
 pub mod NodesOnce

@@ -9,8 +9,8 @@ use Rattle.st_ids.specs.declared.names.NodeId.{NodeId}
 use Rattle.st_kind.specs.Refused.{IsFirstPlace}
 use Rattle.st_marks.specs.declared.places.Slot.{Slot}
 use Rattle.st_marks.specs.Row.{CellMark, Counted, Gap, Touch, Make, Fill}
-use Rattle.st_marks.specs.Shown.{Seen}
-use Rattle.st_seq.specs.Agreement.{DifferAt}
+use Rattle.st_marks.specs.Shown.{Seen, cells_after, cells_before}
+use Rattle.st_seq.specs.Agreement.{DifferAt, row_seen}
 use Rattle.st_seq.specs.declared.names.NamedAt.{NamedAt}
 
 -- ## The cells that a listing names
@@ -78,6 +78,16 @@ pub data NamedApart (A B : List NamedAt) : ℕ → Type 0 where
 -- both name a cell apart, or a node that stands at two places
 abbrev pub SaidApart : List Seen → List Seen → List NamedAt → List NamedAt → ℕ → Type 0
 SaidApart X Y A B k = NamedApart A B k ⊎ NamedApart (standing_at 0 X) (standing_at 0 Y) k
+
+-- the same of a row and a step, of two listings in turn, and of two beside one another
+abbrev pub SaidOver : List Slot → List CellMark → ℕ → Type 0
+SaidOver c ys = SaidApart (row_seen c) (cells_before ys) (named_in_row 0 c) (named_before 0 ys)
+
+abbrev pub SaidInTurn : List CellMark → List CellMark → ℕ → Type 0
+SaidInTurn xs ys = SaidApart (cells_after xs) (cells_before ys) (named_after 0 xs) (named_before 0 ys)
+
+abbrev pub SaidBeside : List CellMark → List CellMark → ℕ → Type 0
+SaidBeside xs ys = SaidApart (cells_before xs) (cells_before ys) (named_before 0 xs) (named_before 0 ys)
 
 -- two listings of one row are apart at a place: they differ there, or they differ nowhere, and name a cell or a node of that
 -- place apart

@@ -7,7 +7,7 @@ use Rattle.st_ids.specs.declared.names.NodeId.{NodeId}
 use Rattle.st_marks.specs.Row.{CellMark}
 use Rattle.st_marks.specs.Shown.{Seen, seen, cells_after, cells_before, cells_made}
 use Rattle.st_seq.specs.Agreement.{DifferAt}
-use Rattle.st_seq.specs.NamedApart.{SaidApart, first_named, lesser, named_after, named_before}
+use Rattle.st_seq.specs.NamedApart.{SaidInTurn, first_named, lesser}
 use Rattle.st_seq.specs.declared.names.NamedAt.{NamedAt}
 
 -- the second finds a cell, owned by a node that the first makes, though the first doesn't make the cell; the place is the cell's
@@ -17,7 +17,7 @@ pub data OwnedEarly (new : List NodeId) (xs ys : List CellMark) : ℕ → Type 0
 -- two changes in turn, of which the first makes these nodes, are apart at a place: what the first leaves and what the second
 -- finds differ there, or they differ nowhere, and name a cell or a node of that place apart, or its cell has an owner too early
 abbrev pub TurnsApartAt : List NodeId → List CellMark → List CellMark → ℕ → Type 0
-TurnsApartAt new xs ys k = DifferAt X Y k ⊎ (((j : ℕ) → DifferAt X Y j → ⊥) × (SaidApart X Y (named_after 0 xs) (named_before 0 ys) k ⊎ OwnedEarly new xs ys k))
+TurnsApartAt new xs ys k = DifferAt X Y k ⊎ (((j : ℕ) → DifferAt X Y j → ⊥) × (SaidInTurn xs ys k ⊎ OwnedEarly new xs ys k))
   where
     X : List Seen
     X = cells_after xs

@@ -1,5 +1,5 @@
 //! What a row as a field has to do with the row of a document: each law is the contract of a function that does nothing.
-ghost use Rattle.std.specs.Prelude.{◌≡◌, true, false, IsSome, Some, None, List as Seq, if◌then◌else◌};
+ghost use Rattle.std.specs.Prelude.{◌≡◌, ◌||◌, true, false, IsSome, Some, None, List as Seq, if◌then◌else◌};
 ghost use Rattle.std.specs.List.{list_any};
 ghost use Rattle.st_ids.specs.declared.names.NodeId.{NodeId};
 ghost use Rattle.st_kind.specs.Named.{Nodes};
@@ -10,12 +10,14 @@ ghost use Rattle.st_marks.specs.Document.{Document, IsSoundInForm, content};
 ghost use Rattle.st_marks.specs.Embedding.{IsMentionedByIntent, row_marks, tells};
 ghost use Rattle.st_marks.specs.Extends.{Grows, IsExtendedBy};
 ghost use Rattle.st_marks.specs.Intent.{Fits};
+ghost use Rattle.st_marks.specs.Join.{AreParts, IsJoin};
 ghost use Rattle.st_marks.specs.Row.{SameCell, embed_row, merge, spread, step_row};
 ghost use Rattle.st_marks.specs.Step.{IsStep};
 ghost use Rattle.st_marks.specs.declared.marks.Mark.{Mark};
 ghost use Rattle.st_marks.specs.declared.places.Slot.{Slot};
 ghost use Rattle.st_marks.specs.declared.steps.Step.{Step};
-ghost use Rattle.st_seq.specs.Sequence.{CanHold, FitsIn, LeadsOver, ListsNew, SeqPart, carried_to, change_of, part_of, retreat_to};
+ghost use Rattle.st_seq.specs.Changes.{StandsIn};
+ghost use Rattle.st_seq.specs.Sequence.{AreJoinedIn, CanHold, FitsIn, LeadsOver, ListsNew, SeqPart, carried_to, change_of, part_of, retreat_to};
 
 /// The part of an intent that fits a sound document fits each of its rows, and what the row holds after the part is what it
 /// holds in the document after the intent, whole or void. On the way back the row of a node that was there holds what stood in
@@ -44,4 +46,12 @@ pub fn rows_are_listed()
 /// A row of a document that is sound in form is what a row can hold.
 pub fn rows_hold()
     ensures { (D : Document) (n : NodeId) → IsSoundInForm D → CanHold (content D n) }
+{}
+
+/// The part of the join of two intents is that of both parts in turn, where it mentions of the row's nodes those that either
+/// mentions.
+pub fn rows_are_joined()
+    ensures { (D : Document) (N M J : Intent) (m k l : Nodes) (a b c : Seq NodeId) (n : NodeId) → IsSoundInForm D → AreParts D N M → IsJoin N M J
+        → ListsNew N a → ListsNew M b → ListsNew J c → ((x : NodeId) → StandsIn x (content D n) → l x ≡ (m x || k x))
+        → AreJoinedIn (part_of m a N n) (part_of k b M n) (content D n) (part_of l c J n) }
 {}

@@ -8,7 +8,7 @@ ghost use Rattle.st_kind.specs.Refused.{IsApartWhere};
 ghost use Rattle.st_marks.specs.Row.{spread};
 ghost use Rattle.st_marks.specs.Shown.{cells_after, cells_before};
 ghost use Rattle.st_seq.specs.Agreement.{row_seen};
-ghost use Rattle.st_seq.specs.NamedApart.{IsPlace, NamedApart, SaidApart, found_at as at, clash_with, first_clash, first_named, lesser as lesser_of, named_after as after_names, named_before as before_names, named_in_row as row_names, stands_at as stands, standing_at as standing};
+ghost use Rattle.st_seq.specs.NamedApart.{IsPlace, NamedApart, SaidBeside, SaidInTurn, SaidOver, found_at as at, clash_with, first_clash, first_named, lesser as lesser_of, named_after as after_names, named_before as before_names, named_in_row as row_names, stands_at as stands, standing_at as standing};
 ghost use Rattle.st_seq.specs.declared.names.NamedAt.{NamedAt as Named};
 
 use st_ids::{Atom, List, NodeId, Or};
@@ -237,7 +237,8 @@ pub fn named(names: &BTreeMap<Atom, NamedAt>, name: Atom) -> Option<NamedAt>
 
 /// Keeps what is named by its name, unless there is something of that name.
 fn keep(names: &mut BTreeMap<Atom, NamedAt>, name: NamedAt) -> Result<(), AllocError>
-    ensures { OnOk result ((a : Name) → get atom_cmp names.new a ≡ option_or (get atom_cmp names.old a) (first_named (name ∷ []) a)) }
+    ensures { OnOk result ((a : Name) → get atom_cmp names.new a
+        ≡ option_or (get atom_cmp names.old a) (first_named (name ∷ []) a)) }
 {
     match named(names, name.name) {
         None => {
@@ -288,7 +289,8 @@ pub fn lesser(a: Option<u32>, b: Option<u32>) -> Option<u32>
 
 /// The first place at which something is named apart.
 fn first_apart(first: &BTreeMap<Atom, NamedAt>, then: &[NamedAt]) -> Option<u32>
-    ensures { (A : Seq Named) → ((a : Name) → get atom_cmp first.now a ≡ first_named A a) → result ≡ first_clash A then.now }
+    ensures { (A : Seq Named) → ((a : Name) → get atom_cmp first.now a ≡ first_named A a)
+        → result ≡ first_clash A then.now }
 {
     let mut place = None;
     for name in then {
@@ -311,7 +313,8 @@ fn place_apart(
 
 /// The first place at which two listings name a cell apart, or a node that stands.
 fn place_said(alloc: Global, first: &Names, then: &Names) -> Result<Option<u32>, AllocError>
-    ensures { IfOk result (IsPlace (λ k. NamedApart first.now.cells then.now.cells k ⊎ NamedApart first.now.nodes then.now.nodes k)) }
+    ensures { IfOk result (IsPlace (λ k. NamedApart first.now.cells then.now.cells k
+        ⊎ NamedApart first.now.nodes then.now.nodes k)) }
 {
     let cell = place_apart(alloc, &first.cells, &then.cells)?;
     let node = place_apart(alloc, &first.nodes, &then.nodes)?;
@@ -320,7 +323,8 @@ fn place_said(alloc: Global, first: &Names, then: &Names) -> Result<Option<u32>,
 
 /// Refuses two listings that name a cell apart, or a node that stands.
 fn agree(alloc: Global, first: &Names, then: &Names) -> Result<(), Or<Apart>>
-    ensures { IsApartWhere result (λ k. NamedApart first.now.cells then.now.cells k ⊎ NamedApart first.now.nodes then.now.nodes k) }
+    ensures { IsApartWhere result (λ k. NamedApart first.now.cells then.now.cells k
+        ⊎ NamedApart first.now.nodes then.now.nodes k) }
 {
     match place_said(alloc, first, then)? {
         None => Ok(()),
@@ -332,7 +336,7 @@ fn agree(alloc: Global, first: &Names, then: &Names) -> Result<(), Or<Apart>>
 pub fn agree_over(alloc: Global, row: &[Slot], step: &[Mark]) -> Result<(), Or<Apart>>
     requires row { length row.now < 2 ^ 32 }
     requires step { length (cells_before (spread step.now)) < 2 ^ 32 }
-    ensures { IsApartWhere result (SaidApart (row_seen row.now) (cells_before (spread step.now)) (row_names 0 row.now) (before_names 0 (spread step.now))) }
+    ensures { IsApartWhere result (SaidOver row.now (spread step.now)) }
 {
     let there = named_in_row(alloc, row)?;
     let found = named_before(alloc, step)?;
@@ -344,7 +348,7 @@ pub fn agree_over(alloc: Global, row: &[Slot], step: &[Mark]) -> Result<(), Or<A
 pub fn said_in_turn(alloc: Global, first: &[Mark], then: &[Mark]) -> Result<Option<u32>, AllocError>
     requires first { length (cells_after (spread first.now)) < 2 ^ 32 }
     requires then { length (cells_before (spread then.now)) < 2 ^ 32 }
-    ensures { IfOk result (IsPlace (SaidApart (cells_after (spread first.now)) (cells_before (spread then.now)) (after_names 0 (spread first.now)) (before_names 0 (spread then.now)))) }
+    ensures { IfOk result (IsPlace (SaidInTurn (spread first.now) (spread then.now))) }
 {
     let left = named_after(alloc, first)?;
     let found = named_before(alloc, then)?;
@@ -355,7 +359,7 @@ pub fn said_in_turn(alloc: Global, first: &[Mark], then: &[Mark]) -> Result<Opti
 pub fn agree_in_turn(alloc: Global, first: &[Mark], then: &[Mark]) -> Result<(), Or<Apart>>
     requires first { length (cells_after (spread first.now)) < 2 ^ 32 }
     requires then { length (cells_before (spread then.now)) < 2 ^ 32 }
-    ensures { IsApartWhere result (SaidApart (cells_after (spread first.now)) (cells_before (spread then.now)) (after_names 0 (spread first.now)) (before_names 0 (spread then.now))) }
+    ensures { IsApartWhere result (SaidInTurn (spread first.now) (spread then.now)) }
 {
     match said_in_turn(alloc, first, then)? {
         None => Ok(()),
@@ -367,7 +371,7 @@ pub fn agree_in_turn(alloc: Global, first: &[Mark], then: &[Mark]) -> Result<(),
 pub fn agree_beside(alloc: Global, first: &[Mark], then: &[Mark]) -> Result<(), Or<Apart>>
     requires first { length (cells_before (spread first.now)) < 2 ^ 32 }
     requires then { length (cells_before (spread then.now)) < 2 ^ 32 }
-    ensures { IsApartWhere result (SaidApart (cells_before (spread first.now)) (cells_before (spread then.now)) (before_names 0 (spread first.now)) (before_names 0 (spread then.now))) }
+    ensures { IsApartWhere result (SaidBeside (spread first.now) (spread then.now)) }
 {
     let found = named_before(alloc, first)?;
     let others = named_before(alloc, then)?;

@@ -8,7 +8,7 @@ ghost use Rattle.st_ids.specs.declared.names.NodeId.{NodeId as Node};
 ghost use Rattle.st_kind.specs.Refused.{IsApartWhere};
 ghost use Rattle.st_marks.specs.Row.{spread};
 ghost use Rattle.st_marks.specs.Shown.{cells_after, cells_before, cells_made};
-ghost use Rattle.st_seq.specs.NamedApart.{IsPlace, SaidApart, first_named, found_at as at, named_after as after_names, named_before as before_names};
+ghost use Rattle.st_seq.specs.NamedApart.{IsPlace, SaidInTurn, first_named, found_at as at};
 ghost use Rattle.st_seq.specs.OwnedEarly.{OwnedEarly, early_place as early_at, first_early as early_in};
 ghost use Rattle.st_seq.specs.declared.names.NamedAt.{NamedAt as Named};
 
@@ -28,7 +28,8 @@ struct Made {
 
 /// The place of a cell of a node that is made, if the cell isn't.
 fn early_place(made: &Made, cell: CellId, node: NodeId, left: u32) -> Option<u32>
-    ensures { (N M : Seq Named) → ((a : Name) → get atom_cmp made.now.nodes a ≡ first_named N a) → ((a : Name) → get atom_cmp made.now.cells a ≡ first_named M a)
+    ensures { (N M : Seq Named) → ((a : Name) → get atom_cmp made.now.nodes a ≡ first_named N a)
+        → ((a : Name) → get atom_cmp made.now.cells a ≡ first_named M a)
         → result ≡ early_at N M left (Some cell) (Some node) }
 {
     if named(&made.nodes, node.0).is_some() && named(&made.cells, cell.0).is_none() {
@@ -40,7 +41,8 @@ fn early_place(made: &Made, cell: CellId, node: NodeId, left: u32) -> Option<u32
 
 /// The same of the cell that a mark finds.
 fn early_mark(made: &Made, mark: Mark, left: u32) -> Option<u32>
-    ensures { (N M : Seq Named) → ((a : Name) → get atom_cmp made.now.nodes a ≡ first_named N a) → ((a : Name) → get atom_cmp made.now.cells a ≡ first_named M a)
+    ensures { (N M : Seq Named) → ((a : Name) → get atom_cmp made.now.nodes a ≡ first_named N a)
+        → ((a : Name) → get atom_cmp made.now.cells a ≡ first_named M a)
         → result ≡ early_in N M left (cells_before (spread (mark ∷ []))) }
 {
     match mark {
@@ -55,7 +57,8 @@ fn early_mark(made: &Made, mark: Mark, left: u32) -> Option<u32>
 /// The first of these places.
 fn first_early(made: &Made, marks: &[Mark]) -> Option<u32>
     requires { length (cells_before (spread marks.now)) < 2 ^ 32 }
-    ensures { (N M : Seq Named) → ((a : Name) → get atom_cmp made.now.nodes a ≡ first_named N a) → ((a : Name) → get atom_cmp made.now.cells a ≡ first_named M a)
+    ensures { (N M : Seq Named) → ((a : Name) → get atom_cmp made.now.nodes a ≡ first_named N a)
+        → ((a : Name) → get atom_cmp made.now.cells a ≡ first_named M a)
         → result ≡ early_in N M 0 (cells_before (spread marks.now)) }
 {
     let mut place = None;
@@ -104,7 +107,8 @@ fn names_made(alloc: Global, marks: &[Mark]) -> Result<List<NamedAt>, AllocError
 
 /// These nodes, by their names.
 fn nodes_by_name(alloc: Global, nodes: &[NodeId]) -> Result<BTreeMap<Atom, NamedAt>, AllocError>
-    ensures { IfOk result (λ all. (a : Name) → get atom_cmp all a ≡ first_named (map (λ (n : Node). at n.0 0) nodes.now) a) }
+    ensures { IfOk result (λ all. (a : Name) → get atom_cmp all a
+        ≡ first_named (map (λ (n : Node). at n.0 0) nodes.now) a) }
 {
     let names = names_of(alloc, nodes)?;
     by_name(alloc, names.as_slice())
@@ -112,7 +116,8 @@ fn nodes_by_name(alloc: Global, nodes: &[NodeId]) -> Result<BTreeMap<Atom, Named
 
 /// The cells that marks make, by their names.
 fn cells_by_name(alloc: Global, marks: &[Mark]) -> Result<BTreeMap<Atom, NamedAt>, AllocError>
-    ensures { IfOk result (λ all. (a : Name) → get atom_cmp all a ≡ first_named (map (λ (c : Cell). at c.0 0) (cells_made (spread marks.now))) a) }
+    ensures { IfOk result (λ all. (a : Name) → get atom_cmp all a
+        ≡ first_named (map (λ (c : Cell). at c.0 0) (cells_made (spread marks.now))) a) }
 {
     let names = names_made(alloc, marks)?;
     by_name(alloc, names.as_slice())
@@ -144,7 +149,8 @@ pub fn agree_as_changes(
 ) -> Result<(), Or<Apart>>
     requires first { length (cells_after (spread first.now)) < 2 ^ 32 }
     requires then { length (cells_before (spread then.now)) < 2 ^ 32 }
-    ensures { IsApartWhere result (λ k. SaidApart (cells_after (spread first.now)) (cells_before (spread then.now)) (after_names 0 (spread first.now)) (before_names 0 (spread then.now)) k ⊎ OwnedEarly new.now (spread first.now) (spread then.now) k) }
+    ensures { IsApartWhere result (λ k. SaidInTurn (spread first.now) (spread then.now) k
+        ⊎ OwnedEarly new.now (spread first.now) (spread then.now) k) }
 {
     let said = said_in_turn(alloc, first, then)?;
     let early = place_early(alloc, new, first, then)?;

@@ -130,7 +130,8 @@ fn commit(
 {
     kept.names += names_made(&intent);
     kept.shown.carry(alloc, &intent)?;
-    enqueue(alloc, client, intent)
+    enqueue(alloc, client, intent)?;
+    Ok(())
 }
 
 // Keeps a commit as pending, if it passes no limit.

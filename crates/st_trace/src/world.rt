@@ -106,7 +106,8 @@ fn opening(alloc: Global, header: &Header) -> Result<Doc, AllocError>
     ensures { IfOk result (λ d. document_of d ≡ opened (header_view header.now)) }
 {
     let schema = header.schema.text(alloc)?;
-    Doc::start(alloc, schema, &header.tree)
+    let doc = Doc::start(alloc, schema, &header.tree)?;
+    Ok(doc)
 }
 
 impl World {

@@ -11,5 +11,5 @@ returns-in_ok-tree-in-Some c = λ q at.
 pub returns-in-None : goal.returns-in-None
 returns-in-None c = λ q at. absurd (kept_none _ _ _ _ _ q c.requires.kept at (sym c.in-None.ensures))
 
-pub whole-tree-requires : goal.whole-tree-requires
-whole-tree-requires c = shown_in_form c.args.self.now c.args.i c.in-Some.kept.now c.requires (sym c.in-Some.ensures)
+pub whole-requires : goal.whole-requires
+whole-requires c = shown_in_form c.args.self.now c.args.i c.in-Some.kept.now c.requires (sym c.in-Some.ensures)

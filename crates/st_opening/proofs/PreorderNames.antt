@@ -1,6 +1,6 @@
--- The registers in which the nodes of a tree of the form stand: each is of a node of the tree, under a key that isn't
--- empty, and none is there twice. The names are counted up in preorder.
-use Rattle.std.proofs.Common.{◌≡◌, ◌≢◌, ℕ, ◌+◌, ◌<◌, ◌≤◌, ◌||◌, Bool, true, false, List, [], ◌∷◌, ◌++◌, Option, Some, None, refl, sym, ap, ◌∙◌, subst, arith, ◌⊎◌, inl, inr}
+-- The nodes of a tree in preorder, under names that are counted up: how many there are, how many cells they take, and in
+-- which registers they stand: each of a node of the tree, under a key that isn't empty, and none twice.
+use Rattle.std.proofs.Common.{◌≡◌, ◌≢◌, ℕ, ◌+◌, ◌<◌, ◌≤◌, ◌||◌, Bool, true, false, List, [], ◌∷◌, ◌++◌, length, length-append, Option, Some, None, refl, sym, ap, ◌∙◌, subst, arith, ◌⊎◌, inl, inr}
 use Rattle.std.specs.List.{filter_map, cons_option}
 use Rattle.std.specs.Ordering.{nat_cmp, is_lt}
 use Rattle.std.specs.Cmp.Lexicographic.{slice_cmp, nat_list_cmp_total}
@@ -15,12 +15,72 @@ use Rattle.st_ids.specs.declared.names.Leaf.{Leaf}
 use Rattle.st_ids.specs.declared.names.Rev.{Rev}
 use Rattle.st_marks.proofs.Lookups.{both_true}
 use Rattle.st_marks.proofs.Members.{has-all, has-append, distinct-append}
+use Rattle.st_tree.specs.declared.flat.FlatAt.{FlatAt}
 use Rattle.st_tree.specs.declared.flat.FlatNode.{FlatNode}
-use Rattle.st_tree.specs.Node.{node, Fields, no_fields, field, Nodes, no_nodes, first}
+use Rattle.st_tree.specs.Node.{Node, node, Fields, no_fields, field, Nodes, no_nodes, first}
 use Rattle.st_tree.specs.Size.{node_count, field_count, item_count}
 use Rattle.st_tree.specs.Form.{is_row_alone, keys_rise, fields_fit, fields_have_form, all_have_form}
-use Rattle.st_tree.specs.Preorder.{node_named, field_cells, item_cells, fields_listed, items_listed}
+use Rattle.st_tree.specs.Preorder.{node_named, cells_taken, cell_count, field_cells, item_cells, at_of, listed, fields_listed, items_listed}
 use Rattle.st_opening.specs.Start.{register_at, registers}
+
+-- ## Names that are counted up
+
+-- how many cells a place takes
+abbrev pub taken : FlatAt → ℕ
+taken FlatAt.Root = 0
+taken (FlatAt.Top c) = 1
+taken (FlatAt.Row n c) = 1
+taken (FlatAt.Register f) = 0
+
+abbrev pub cells_used : List FlatNode → ℕ
+cells_used [] = 0
+cells_used (x ∷ xs) = taken x.at + cells_used xs
+
+pub cells_append : (xs ys : List FlatNode) → cells_used (xs ++ ys) ≡ cells_used xs + cells_used ys
+cells_append [] ys = omega arith
+cells_append (x ∷ xs) ys = let rest = cells_append xs ys in omega (arith, rest)
+
+pub taken_at : (rev : Rev) (owner : ℕ) (key : List ℕ) (row : Bool) (c : ℕ) → taken (at_of rev owner key row c) ≡ cells_taken row
+taken_at rev owner key true c = refl
+taken_at rev owner key false c = refl
+
+mutual
+  pub listed_length : (rev : Rev) (at : FlatAt) (n c : ℕ) (t : Node) → length (listed rev at n c t) ≡ node_count t
+  listed_length rev at n c (node ty leaf fields) = let h = fields_length rev n (n + 1) c fields in omega (arith, h)
+
+  pub fields_length : (rev : Rev) (owner n c : ℕ) (fs : Fields) → length (fields_listed rev owner n c fs) ≡ field_count fs
+  fields_length rev owner n c no_fields = refl
+  fields_length rev owner n c (field key row items rest) =
+      let a = items_length rev owner key row n c items in
+      let b = fields_length rev owner (n + item_count items) (c + item_cells row items) rest in
+      length-append (items_listed rev owner key row n c items) _ ∙ (λ i. a i + b i)
+
+  pub items_length : (rev : Rev) (owner : ℕ) (key : List ℕ) (row : Bool) (n c : ℕ) (ts : Nodes) → length (items_listed rev owner key row n c ts) ≡ item_count ts
+  items_length rev owner key row n c no_nodes = refl
+  items_length rev owner key row n c (first t ts) =
+      let a = listed_length rev (at_of rev owner key row c) n (c + cells_taken row) t in
+      let b = items_length rev owner key row (n + node_count t) (c + (cells_taken row + cell_count t)) ts in
+      length-append (listed rev (at_of rev owner key row c) n (c + cells_taken row) t) _ ∙ (λ i. a i + b i)
+
+mutual
+  pub listed_cells : (rev : Rev) (at : FlatAt) (n c : ℕ) (t : Node) → cells_used (listed rev at n c t) ≡ taken at + cell_count t
+  listed_cells rev at n c (node ty leaf fields) = ap (λ k. taken at + k) (fields_cells rev n (n + 1) c fields)
+
+  pub fields_cells : (rev : Rev) (owner n c : ℕ) (fs : Fields) → cells_used (fields_listed rev owner n c fs) ≡ field_cells fs
+  fields_cells rev owner n c no_fields = refl
+  fields_cells rev owner n c (field key row items rest) =
+      let a = items_cells rev owner key row n c items in
+      let b = fields_cells rev owner (n + item_count items) (c + item_cells row items) rest in
+      cells_append (items_listed rev owner key row n c items) _ ∙ (λ i. a i + b i)
+
+  pub items_cells : (rev : Rev) (owner : ℕ) (key : List ℕ) (row : Bool) (n c : ℕ) (ts : Nodes) → cells_used (items_listed rev owner key row n c ts) ≡ item_cells row ts
+  items_cells rev owner key row n c no_nodes = refl
+  items_cells rev owner key row n c (first t ts) =
+      let a = listed_cells rev (at_of rev owner key row c) n (c + cells_taken row) t ∙ ap (λ k. k + cell_count t) (taken_at rev owner key row c) in
+      let b = items_cells rev owner key row (n + node_count t) (c + (cells_taken row + cell_count t)) ts in
+      cells_append (listed rev (at_of rev owner key row c) n (c + cells_taken row) t) _ ∙ (λ i. a i + b i)
+
+-- ## Registers, in a tree of the form
 
 pub filter_append : {A B : Type 0} (f : A → Option B) (xs ys : List A) → filter_map f (xs ++ ys) ≡ filter_map f xs ++ filter_map f ys
 filter_append f [] ys = refl
