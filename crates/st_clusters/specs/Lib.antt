@@ -1,0 +1,5 @@
+pub mod Free
+pub mod Ids
+pub mod Names
+pub mod Table
+pub mod inside

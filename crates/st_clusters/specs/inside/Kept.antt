@@ -1,0 +1,42 @@
+-- What holds of each table, and of the places of clusters that are kept beside it.
+use Rattle.std.specs.Prelude.{ℕ, ◌≡◌, ◌+◌, ◌-◌, ◌*◌, ◌<◌, ◌≤◌, true, false, List, [], length, slice_index_or}
+use Rattle.std.specs.List.{sum_by}
+use Rattle.st_clusters.specs.Free.{is_v4, free_number, spans_meet}
+use Rattle.st_clusters.specs.Table.{at, next_free, places_of, most_ids, no_session}
+use Rattle.st_clusters.specs.declared.ids.Cluster.{Cluster}
+use Rattle.st_clusters.specs.declared.ids.SessionIds.{SessionIds}
+
+abbrev pub session_at : List SessionIds → ℕ → SessionIds
+session_at ss k = slice_index_or ss k no_session
+
+-- clusters whose numbers and ids are apart
+pub record AreApart (cs : List Cluster) : Type 0 where
+  pub some : (i : ℕ) → i < length cs → 1 ≤ (at cs i).used
+  pub fits : (i : ℕ) → i < length cs → (at cs i).used ≤ (at cs i).capacity
+  pub numbers_begin : (i : ℕ) → i < length cs → 1 ≤ (at cs i).first_final
+  pub ids_begin : (i : ℕ) → i < length cs → 1 ≤ (at cs i).first
+  pub numbers : (i j : ℕ) → i < j → j < length cs → (at cs i).first_final + (at cs i).capacity ≤ (at cs j).first_final
+  pub ids : (i j : ℕ) → i < j → j < length cs → (at cs i).session ≡ (at cs j).session → (at cs i).first + (at cs i).used ≤ (at cs j).first
+
+-- counts of a session in their order
+pub record AreCounts (x : SessionIds) : Type 0 where
+  pub final_taken : x.finalised ≤ x.taken
+  pub taken_made : x.taken ≤ x.generated
+  pub made : x.generated ≤ most_ids
+
+-- how many ids are finalised
+abbrev pub finals : List SessionIds → ℕ
+finals ss = sum_by (λ (x : SessionIds). x.finalised) ss
+
+-- the whole
+pub record IsSound (ss : List SessionIds) (cs : List Cluster) (ps : List (List ℕ)) : Type 0 where
+  pub apart : AreApart cs
+  pub counts : (k : ℕ) → k < length ss → AreCounts (session_at ss k)
+  pub few : length ss ≤ 65535
+  pub bound : next_free cs ≤ 1 + 512 * finals ss
+  pub owned : (i : ℕ) → i < length cs → (1 ≤ (at cs i).session) × ((at cs i).session ≤ length ss)
+  pub finalised : (i : ℕ) → i < length cs → (at cs i).first + (at cs i).used ≤ (session_at ss ((at cs i).session - 1)).finalised + 1
+  pub each : length ps ≡ length ss
+  pub places : (k : ℕ) → k < length ss → slice_index_or ps k [] ≡ places_of (k + 1) cs
+  pub v4 : (k : ℕ) → k < length ss → is_v4 (session_at ss k).uuid ≡ true
+  pub spans : (i j : ℕ) → i < j → j < length ss → spans_meet (free_number (session_at ss i).uuid) (free_number (session_at ss j).uuid) ≡ false

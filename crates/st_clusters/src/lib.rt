@@ -1,0 +1,9 @@
+//! The ids of sessions: final numbers in clusters, and stable ids.
+#![tactic(auto)]
+
+mod compressor;
+mod free;
+mod ids;
+
+pub use compressor::Compressor;
+pub use ids::{Cluster, IdFault, IdRange, SessionIds, Unknown};
