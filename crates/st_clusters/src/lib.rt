@@ -1,6 +1,7 @@
 //! The ids of sessions: final numbers in clusters, and stable ids.
 #![tactic(auto)]
 
+mod cluster;
 mod compressor;
 mod free;
 mod ids;

@@ -40,3 +40,9 @@ pub record IsSound (ss : List SessionIds) (cs : List Cluster) (ps : List (List �
   pub places : (k : ℕ) → k < length ss → slice_index_or ps k [] ≡ places_of (k + 1) cs
   pub v4 : (k : ℕ) → k < length ss → is_v4 (session_at ss k).uuid ≡ true
   pub spans : (i j : ℕ) → i < j → j < length ss → spans_meet (free_number (session_at ss i).uuid) (free_number (session_at ss j).uuid) ≡ false
+
+-- the last cluster of a session stands at a place
+pub record IsLastOf (s : ℕ) (cs : List Cluster) (i : ℕ) : Type 0 where
+  pub there : i < length cs
+  pub own : (at cs i).session ≡ s
+  pub last : (j : ℕ) → i < j → j < length cs → (at cs j).session ≡ s → ⊥
