@@ -23,13 +23,13 @@ field_set f ss k x j within same = elim (cases_eq j k) [
 ]
 
 -- the counts of the sessions after one is set
-counts_at : (ss : List SessionIds) (k : ℕ) (x : SessionIds) (j : ℕ) → k < length ss → AreCounts x → AreCounts (session_at ss j) → AreCounts (session_at (set ss k x) j)
+pub counts_at : (ss : List SessionIds) (k : ℕ) (x : SessionIds) (j : ℕ) → k < length ss → AreCounts x → AreCounts (session_at ss j) → AreCounts (session_at (set ss k x) j)
 counts_at ss k x j within here there = elim (cases_eq j k) [
   | inl e ↦ subst (λ (i : ℕ). AreCounts (session_at (set ss k x) i)) (sym e) (subst AreCounts (sym (get_or-set_same ss k x no_session within)) here)
   | inr ne ↦ subst AreCounts (sym (get_or-set_other ss k j x no_session ne)) there
 ]
 
-read_at : (ss : List SessionIds) (k : ℕ) (x : SessionIds) → k < length ss → x ≡ get_or ss k x → session_at ss k ≡ x
+pub read_at : (ss : List SessionIds) (k : ℕ) (x : SessionIds) → k < length ss → x ≡ get_or ss k x → session_at ss k ≡ x
 read_at ss k x within is = sym (get_or_read ss k x within is no_session)
 
 -- a session that gets other counts, of which none is finalised
@@ -56,7 +56,7 @@ recounted ss cs ps k x y sound within is uuid final counts =
     }
 
 -- the session of a number
-is_there : (ss : List SessionIds) (s k : ℕ) (x : SessionIds) → s ≡ k + 1 → k < length ss → x ≡ get_or ss k x → session_of ss s ≡ Some x
+pub is_there : (ss : List SessionIds) (s k : ℕ) (x : SessionIds) → s ≡ k + 1 → k < length ss → x ≡ get_or ss k x → session_of ss s ≡ Some x
 is_there ss s k x number within is =
     let back : s - 1 ≡ k = omega (arith, number) in
     let some : (s == 0) ≡ false = grind (arith, nat_tests, number) in

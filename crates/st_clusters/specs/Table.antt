@@ -1,6 +1,7 @@
 -- The table of ids: what each session has generated, taken and finalised, and the clusters that give final numbers.
 use Rattle.std.specs.Prelude.{ℕ, ◌+◌, ◌-◌, Bool, ◌==◌, ◌&&◌, nat_le, nat_lt, max, List, [], ◌∷◌, ◌++◌, length, slice_get, slice_set, slice_index_or, Option, Some, None, Result, Ok, Err, if◌then◌else◌}
 use Rattle.std.specs.List.{position, fold}
+use Rattle.std.specs.Option.{option_map}
 use Rattle.st_clusters.specs.Free.{is_v4, free_number, spans_meet}
 use Rattle.st_clusters.specs.declared.ids.Cluster.{Cluster}
 use Rattle.st_clusters.specs.declared.ids.IdRange.{IdRange}
@@ -133,11 +134,17 @@ after_finalising r t = on_session (session_of t.sessions r.session) (λ x. if is
 abbrev pub meeting : ℕ → List SessionIds → Option ℕ
 meeting uuid ss = position (λ (x : SessionIds). spans_meet (free_number x.uuid) (free_number uuid)) ss
 
+-- the number of that session
+abbrev pub clash : ℕ → List SessionIds → Option ℕ
+clash uuid ss = option_map (λ i. i + 1) (meeting uuid ss)
+
+abbrev pub new_session : ℕ → SessionIds
+new_session uuid = record { uuid = uuid; generated = 0; taken = 0; finalised = 0 }
+
 abbrev pub join_unless : ℕ → Ids → Option ℕ → Result (ℕ × Ids) IdFault
-join_unless uuid t (Some i) = Err (Clash (i + 1))
-join_unless uuid t None = Ok (length t.sessions + 1,
-  record t { sessions = t.sessions ++ record { uuid = uuid; generated = 0; taken = 0; finalised = 0 } ∷ [] })
+join_unless uuid t (Some s) = Err (Clash s)
+join_unless uuid t None = Ok (length t.sessions + 1, record t { sessions = t.sessions ++ new_session uuid ∷ [] })
 
 -- a session with that UUID joins
 abbrev pub after_joining : ℕ → Ids → Result (ℕ × Ids) IdFault
-after_joining uuid t = if is_v4 uuid then join_unless uuid t (meeting uuid t.sessions) else Err NotV4
+after_joining uuid t = if is_v4 uuid then join_unless uuid t (clash uuid t.sessions) else Err NotV4

@@ -1,9 +1,13 @@
 //! The table of ids as running code.
-ghost use Rattle.std.specs.Prelude.{◌≡◌, ◌<◌, ◌+◌, ◌-◌, Ok, Err, None, length, [], MatchOption, IfOk, IfErr, OnErr, slice_get, option_map, option_copied};
+ghost use Rattle.std.specs.Prelude.{◌≡◌, ◌≤◌, ◌<◌, ◌+◌, ◌-◌, Ok, Err, None, length, [], MatchOption, IfOk, IfErr, OnOk, OnErr, slice_get, option_map, option_copied};
+ghost use Rattle.st_ids.specs.Or.{IfRefused};
+ghost use Rattle.st_clusters.specs.Table.{is_next, raise_to, new_session, meeting};
 ghost use Rattle.st_clusters.specs.inside.Kept.{IsSound};
 
+use crate::cluster::put_range;
+use crate::free::{free_number, is_v4, spans_meet};
 use crate::ids::{Cluster, IdFault, IdRange, SessionIds};
-use st_ids::List;
+use st_ids::{List, Or};
 use std::alloc::Global;
 
 /// How many ids a session can have.
@@ -20,7 +24,7 @@ pub struct Compressor {
 }
 
 impl Compressor {
-    ghost use Rattle.st_clusters.specs.Table.{session_of, after_generating, after_taking, after_rewinding};
+    ghost use Rattle.st_clusters.specs.Table.{session_of, after_generating, after_taking, after_rewinding, after_finalising, after_joining, clash};
     ghost use Rattle.st_clusters.specs.Ids.{ids_of};
 
     /// A table of no sessions.
@@ -32,6 +36,34 @@ impl Compressor {
             clusters: Vec::new(alloc),
             places: Vec::new(alloc),
         }
+    }
+
+    /// The first session whose span of 2^32 stable ids meets that of a UUID.
+    pub fn clash(&self, uuid: u128) -> Option<u32>
+        ensures { result ≡ clash uuid (ids_of self.now).sessions }
+    {
+        let place = meeting(self.sessions.as_slice(), uuid)?;
+        Some(place as u32 + 1)
+    }
+
+    /// A session with that UUID joins: it gets the next number, from 1 on. After an `Err` nothing
+    /// has changed.
+    pub fn add_session(&mut self, alloc: Global, uuid: u128) -> Result<u32, Or<IdFault>>
+        requires { length (ids_of self.old).sessions < 65535 }
+        ensures ok { IfOk result (λ s. after_joining uuid (ids_of self.old) ≡ Ok (s, ids_of self.new)) }
+        ensures refused { IfRefused result (λ f. after_joining uuid (ids_of self.old) ≡ Err f) }
+        ensures err { OnErr result (ids_of self.new ≡ ids_of self.old) }
+    {
+        if !is_v4(uuid) {
+            return Err(Or::Fault(IdFault::NotV4));
+        }
+        if let Some(session) = self.clash(uuid) {
+            return Err(Or::Fault(IdFault::Clash { session }));
+        }
+        self.sessions.reserve(1)?;
+        self.places.push(List::new(alloc))?;
+        self.sessions.push_reserved(new_session(uuid));
+        Ok(self.sessions.len() as u32)
     }
 
     // The place of a session among the others.
@@ -97,4 +129,65 @@ impl Compressor {
         self.sessions[place] = SessionIds { taken, ..ids };
         Ok(())
     }
+
+    /// Finalises the ids of the next range of a session. After an `Err` nothing has changed.
+    pub fn finalize(&mut self, range: IdRange) -> Result<(), Or<IdFault>>
+        ensures ok { OnOk result (after_finalising range (ids_of self.old) ≡ Ok (ids_of self.new)) }
+        ensures refused { IfRefused result (λ f. after_finalising range (ids_of self.old) ≡ Err f) }
+        ensures err { OnErr result (ids_of self.new ≡ ids_of self.old) }
+    {
+        let Some(place) = self.place_of(range.session) else {
+            return Err(Or::Fault(IdFault::Session));
+        };
+        let ids = self.sessions[place];
+        if !is_next(&range, &ids) {
+            let next = ids.finalised + 1;
+            return Err(Or::Fault(IdFault::RangeOrder { next }));
+        }
+        put_range(&mut self.clusters, &mut self.places[place], range)?;
+        self.sessions[place] = raise_to(ids, ids.finalised + range.count);
+        Ok(())
+    }
+}
+
+// Whether a range is the next one of a session.
+fn is_next(range: &IdRange, ids: &SessionIds) -> bool
+    requires { ids.now.finalised ≤ 4294967294 }
+    ensures { result ≡ is_next range.now ids.now }
+{
+    range.first == ids.finalised + 1 && range.count <= MOST_IDS - ids.finalised
+}
+
+// A session whose ids are finalised up to a number.
+fn raise_to(ids: SessionIds, count: u32) -> SessionIds
+    ensures { result ≡ raise_to ids count }
+{
+    SessionIds {
+        generated: ids.generated.max(count),
+        taken: ids.taken.max(count),
+        finalised: count,
+        ..ids
+    }
+}
+
+// A session that has no ids yet.
+fn new_session(uuid: u128) -> SessionIds
+    ensures { result ≡ new_session uuid }
+{
+    SessionIds {
+        uuid,
+        generated: 0,
+        taken: 0,
+        finalised: 0,
+    }
+}
+
+// The place of the first session whose span meets that of a UUID.
+fn meeting(sessions: &[SessionIds], uuid: u128) -> Option<usize>
+    ensures { result ≡ meeting uuid sessions.now }
+{
+    let free = free_number(uuid);
+    sessions
+        .iter()
+        .position(|ids| spans_meet(free_number(ids.uuid), free))
 }
