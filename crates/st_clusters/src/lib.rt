@@ -5,6 +5,7 @@ mod cluster;
 mod compressor;
 mod free;
 mod ids;
+mod look;
 
 pub use compressor::Compressor;
 pub use ids::{Cluster, IdFault, IdRange, SessionIds, Unknown};

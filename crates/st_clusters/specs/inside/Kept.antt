@@ -1,8 +1,10 @@
 -- What holds of each table, and of the places of clusters that are kept beside it.
-use Rattle.std.specs.Prelude.{ℕ, ◌≡◌, ◌+◌, ◌-◌, ◌*◌, ◌<◌, ◌≤◌, true, false, List, [], length, slice_index_or}
+use Rattle.std.specs.Prelude.{ℕ, ◌≡◌, ◌+◌, ◌-◌, ◌*◌, ◌<◌, ◌≤◌, Bool, ◌&&◌, nat_lt, nat_le, true, false, List, [], length, slice_index_or}
 use Rattle.std.specs.List.{sum_by}
 use Rattle.st_clusters.specs.Free.{is_v4, free_number, spans_meet}
 use Rattle.st_clusters.specs.Table.{at, next_free, places_of, most_ids, no_session}
+use Rattle.st_ids.specs.declared.names.Rev.{Rev}
+use Rattle.st_clusters.specs.Names.{IsInTable}
 use Rattle.st_clusters.specs.declared.ids.Cluster.{Cluster}
 use Rattle.st_clusters.specs.declared.ids.SessionIds.{SessionIds}
 
@@ -46,3 +48,20 @@ pub record IsLastOf (s : ℕ) (cs : List Cluster) (i : ℕ) : Type 0 where
   pub there : i < length cs
   pub own : (at cs i).session ≡ s
   pub last : (j : ℕ) → i < j → j < length cs → (at cs j).session ≡ s → ⊥
+
+-- whether a place has a cluster, and one that begins with that id or before
+abbrev pub begins_by : List Cluster → ℕ → ℕ → Bool
+begins_by cs num i = nat_lt i (length cs) && nat_le (at cs i).first num
+
+-- no cluster but the one at a place can have an id
+pub record MayHaveId (cs : List Cluster) (r : Rev) (i : ℕ) : Type 0 where
+  pub there : i < length cs
+  pub own : (at cs i).session ≡ r.session
+  pub begins : (at cs i).first ≤ r.num
+  pub only : (n : ℕ) (h : IsInTable cs r n) → h.place ≡ i
+
+-- no cluster but the one at a place can have a number
+pub record MayHaveNumber (cs : List Cluster) (n i : ℕ) : Type 0 where
+  pub there : i < length cs
+  pub begins : (at cs i).first_final ≤ n
+  pub only : (r : Rev) (h : IsInTable cs r n) → h.place ≡ i
