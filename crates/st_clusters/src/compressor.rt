@@ -67,7 +67,7 @@ impl Compressor {
     }
 
     // The place of a session among the others.
-    fn place_of(&self, session: u32) -> Option<usize>
+    pub(crate) fn place_of(&self, session: u32) -> Option<usize>
         ensures { MatchOption result (session_of self.now.sessions.items session ≡ None) (λ i. (session ≡ i + 1) × (i < length self.now.sessions.items)) }
     {
         let place = (session as usize).checked_sub(1)?;
