@@ -51,6 +51,7 @@ recounted ss cs ps k x y sound within is uuid final counts =
       finalised = λ i h. rw (same_final ((at cs i).session - 1)) (sound.finalised i h);
       each = sound.each ∙ sym long;
       places = λ j h. sound.places j (omega (arith, long, h));
+      wide = λ j h. rw (same_uuid j) (sound.wide j (omega (arith, long, h)));
       v4 = λ j h. rw (same_uuid j) (sound.v4 j (omega (arith, long, h)));
       spans = λ i j l h. rw (same_uuid i, same_uuid j) (sound.spans i j l (omega (arith, long, h)));
     }

@@ -86,6 +86,7 @@ sound_finalised ss cs ds ps k x r q sound within is number next few made placed 
       each = lists ∙ sound.each ∙ sym long;
       places = λ j h. places_at ps k q j (places_of (j + 1) ds) (omega (arith, within, sound.each)) (λ e. placed ∙ ap (λ (s : ℕ). places_of s ds) (number ∙ ap (λ (i : ℕ). i + 1) (sym e)))
         (λ ne. sound.places j (omega (arith, long, h)) ∙ rw made (sym (range_others (j + 1) r cs (omega (arith, ne, number)))));
+      wide = λ j h. rw (same_uuid j) (sound.wide j (omega (arith, long, h)));
       v4 = λ j h. rw (same_uuid j) (sound.v4 j (omega (arith, long, h)));
       spans = λ i j l h. rw (same_uuid i, same_uuid j) (sound.spans i j l (omega (arith, long, h)));
     }

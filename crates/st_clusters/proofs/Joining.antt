@@ -1,5 +1,5 @@
 -- A session that joins.
-use Rattle.std.proofs.Common.{◌≡◌, ◌≢◌, ◌⊎◌, inl, inr, ◌<◌, ◌≤◌, ◌+◌, ◌-◌, ◌*◌, ℕ, zero, suc, true, false, Bool, cond, List, [], ◌∷◌, ◌++◌, length, get_or, refl, sym, subst, ap, ◌∙◌, arith}
+use Rattle.std.proofs.Common.{◌≡◌, ◌≢◌, ◌⊎◌, inl, inr, ◌<◌, ◌≤◌, ◌+◌, ◌-◌, ◌*◌, ◌^◌, ℕ, zero, suc, true, false, Bool, cond, List, [], ◌∷◌, ◌++◌, length, get_or, refl, sym, subst, ap, ◌∙◌, arith}
 use Rattle.std.proofs.lemmas.List.{get_or_append_left, get_or_push, length_push}
 use Rattle.std.proofs.lemmas.List.Sums.{sum_by_push, fails_before_first}
 use Rattle.std.proofs.lemmas.Bool.{cases_eq, cases_lt}
@@ -46,9 +46,9 @@ none_meets uuid ss k e h =
     let past : length ss ≤ position_or_len (λ (x : SessionIds). spans_meet (free_number x.uuid) (free_number uuid)) ss = grind (arith, nat_tests, test) in
     fails_before_first (λ (x : SessionIds). spans_meet (free_number x.uuid) (free_number uuid)) ss k no_session (omega (arith, past, h))
 
-pub sound_joined : (ss after : List SessionIds) (cs : List Cluster) (ps qs : List (List ℕ)) (uuid : ℕ) → IsSound ss cs ps → length ss < 65535 → is_v4 uuid ≡ true → clash uuid ss ≡ None
+pub sound_joined : (ss after : List SessionIds) (cs : List Cluster) (ps qs : List (List ℕ)) (uuid : ℕ) → IsSound ss cs ps → length ss < 65535 → uuid < 2 ^ 128 → is_v4 uuid ≡ true → clash uuid ss ≡ None
     → after ≡ ss ++ new_session uuid ∷ [] → qs ≡ ps ++ [] ∷ [] → IsSound after cs qs
-sound_joined ss after cs ps qs uuid sound few v4 apart joined listed =
+sound_joined ss after cs ps qs uuid sound few wide v4 apart joined listed =
     let long : length (ss ++ new_session uuid ∷ []) ≡ length ss + 1 = length_push ss (new_session uuid) in
     let lists : length (ps ++ [] ∷ []) ≡ length ps + 1 = length_push ps [] in
     let total : finals (ss ++ new_session uuid ∷ []) ≡ finals ss + 0 = sum_by_push (λ (x : SessionIds). x.finalised) ss (new_session uuid) in
@@ -66,6 +66,7 @@ sound_joined ss after cs ps qs uuid sound few v4 apart joined listed =
         | inr g ↦ let end : j ≡ length ss = omega (arith, g, h, long) in
             get_or_push ps [] [] j (omega (arith, end, sound.each)) ∙ no_places (length ss) cs sound.owned ∙ ap (λ (n : ℕ). places_of (n + 1) cs) (sym end)
       ];
+      wide = λ j h. session_push (λ k x. x.uuid < 2 ^ 128) ss (new_session uuid) j h wide (sound.wide j);
       v4 = λ j h. session_push (λ k x. is_v4 x.uuid ≡ true) ss (new_session uuid) j h v4 (sound.v4 j);
       spans = λ i j l h. let front : i < length ss = omega (arith, l, h, long) in
         rw (get_or_append_left ss (new_session uuid ∷ []) no_session i front)

@@ -43,9 +43,24 @@ ahead_after a n ha hn = elim (after_is a n ha hn) [
       ]
 ]
 
+closer : (a b x : ℕ) → a < 2 ^ 122 → b < 2 ^ 122 → x < 2 ^ 122 → ahead a x ≤ ahead b x → ahead b x < 2 ^ 32 → ahead b a < 2 ^ 32
+closer a b x ha hb hx less far = elim (ahead_is a x ha hx) [
+  | inl p ↦ elim (ahead_is b x hb hx) [
+    | inl q ↦ elim (ahead_is b a hb ha) [ inl r ↦ omega (arith, p.0, p.1, q.0, q.1, r.0, r.1) | inr r ↦ omega (arith, p.0, p.1, q.0, q.1, r.0, r.1) ]
+    | inr q ↦ elim (ahead_is b a hb ha) [ inl r ↦ omega (arith, p.0, p.1, q.0, q.1, r.0, r.1) | inr r ↦ omega (arith, p.0, p.1, q.0, q.1, r.0, r.1) ]
+  ]
+  | inr p ↦ elim (ahead_is b x hb hx) [
+    | inl q ↦ elim (ahead_is b a hb ha) [ inl r ↦ omega (arith, p.0, p.1, q.0, q.1, r.0, r.1) | inr r ↦ omega (arith, p.0, p.1, q.0, q.1, r.0, r.1) ]
+    | inr q ↦ elim (ahead_is b a hb ha) [ inl r ↦ omega (arith, p.0, p.1, q.0, q.1, r.0, r.1) | inr r ↦ omega (arith, p.0, p.1, q.0, q.1, r.0, r.1) ]
+  ]
+]
+
 -- two spans that have a number meet
 pub both_meet : (a b x : ℕ) → a < 2 ^ 122 → b < 2 ^ 122 → x < 2 ^ 122 → ahead a x < 2 ^ 32 → ahead b x < 2 ^ 32 → spans_meet a b ≡ true
-both_meet a b x ha hb hx near far = ?
+both_meet a b x ha hb hx near far = elim (cases_lt (ahead a x) (ahead b x)) [
+  | inl l ↦ let meets : ahead b a < 2 ^ 32 = closer a b x ha hb hx (omega (arith, l)) far in grind (arith, nat_tests, meets)
+  | inr g ↦ let meets : ahead a b < 2 ^ 32 = closer b a x hb ha hx g near in grind (arith, nat_tests, meets)
+]
 
 -- ## UUIDs
 
@@ -55,7 +70,10 @@ free_low u h = omega arith
 
 pub uuid_of_free : (u : ℕ) → u < 2 ^ 128 → is_v4 u ≡ true → uuid_of (free_number u) ≡ u
 unfolding uuid_of free_number is_v4
-uuid_of_free u h v4 = ?
+uuid_of_free u h v4 =
+    let version : u / 2 ^ 76 % 16 ≡ 4 = grind (arith, nat_tests, v4) in
+    let variant : u / 2 ^ 62 % 4 ≡ 2 = grind (arith, nat_tests, v4) in
+    omega (arith, version, variant)
 
 pub free_of_uuid : (f : ℕ) → f < 2 ^ 122 → free_number (uuid_of f) ≡ f
 unfolding uuid_of free_number

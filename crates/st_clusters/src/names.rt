@@ -2,7 +2,8 @@
 ghost use Rattle.std.specs.Prelude.{◌≡◌, ℕ, ◌+◌, ◌-◌, ◌<◌, ◌≤◌, ◌^◌, ℤ, [], Some, None, Ok, length, slice_get, option_copied, option_map, MatchOption, MatchResult, IfOk, IfSome};
 ghost use Rattle.std.specs.Option.{ok_or};
 ghost use Rattle.st_clusters.specs.Table.{session_of};
-ghost use Rattle.st_clusters.specs.Names.{IsInTable, IsFinal, IsFinalBefore, IsOp, is_of, is_later, stable_of, generated_by};
+ghost use Rattle.st_clusters.specs.inside.Spans.{spanning, id_at};
+ghost use Rattle.st_clusters.specs.Names.{IsInTable, IsFinal, IsFinalBefore, IsOp, is_of, is_later, stable_of, nth_uuid, generated_by};
 ghost use Rattle.st_ids.specs.declared.names.Rev.{Rev as RevNames};
 
 use crate::compressor::Compressor;
@@ -162,6 +163,36 @@ impl Compressor {
         }
     }
 
+    /// The stable id of an id that is generated: a UUID.
+    pub fn stable(&self, rev: Rev) -> Result<u128, Unknown>
+        ensures { result ≡ ok_or (stable_of (ids_of self.now).sessions rev) (record {}) }
+    {
+        let Some(place) = self.place_of(rev.session) else {
+            return Err(Unknown);
+        };
+        let ids = self.sessions[place];
+        if 1 <= rev.num && rev.num <= ids.generated {
+            Ok(nth_uuid(&ids, rev.num))
+        } else {
+            Err(Unknown)
+        }
+    }
+
+    /// The id that has a stable id.
+    pub fn find(&self, uuid: u128) -> Result<Rev, Unknown>
+        ensures ok { IfOk result (λ r. stable_of (ids_of self.now).sessions r ≡ Some uuid) }
+        ensures back { (r : RevNames) → stable_of (ids_of self.now).sessions r ≡ Some uuid → result ≡ Ok r }
+    {
+        if !is_v4(uuid) {
+            return Err(Unknown);
+        }
+        let free = free_number(uuid);
+        match spanning(self.sessions.as_slice(), free) {
+            Some(place) => id_at(place, &self.sessions[place], free),
+            None => Err(Unknown),
+        }
+    }
+
     /// The UUID of a session.
     pub fn uuid(&self, session: u32) -> Option<u128>
         ensures { result ≡ option_map (λ x. x.uuid) (session_of (ids_of self.now).sessions session) }
@@ -183,5 +214,39 @@ impl Compressor {
         ensures { option_copied result ≡ slice_get (ids_of self.now).clusters i }
     {
         self.clusters.get(i)
+    }
+}
+
+// The UUID of the n-th id of a session.
+fn nth_uuid(ids: &SessionIds, n: u32) -> u128
+    requires { 1 ≤ n }
+    ensures { result ≡ nth_uuid ids.now n }
+{
+    uuid_of(free_after(free_number(ids.uuid), n - 1))
+}
+
+// The place of the first session that has a free number in its span.
+fn spanning(sessions: &[SessionIds], free: u128) -> Option<usize>
+    requires { free < 2 ^ 122 }
+    ensures { result ≡ spanning free sessions.now }
+{
+    sessions
+        .iter()
+        .position(|ids| ahead(free_number(ids.uuid), free) < 1 << 32)
+}
+
+// The id of a free number in the span of the session at a place.
+fn id_at(place: usize, ids: &SessionIds, free: u128) -> Result<Rev, Unknown>
+    requires free { free < 2 ^ 122 }
+    requires place { place < 65535 }
+    ensures { result ≡ id_at place ids.now free }
+{
+    let n = ahead(free_number(ids.uuid), free);
+    if n < u128::from(ids.generated) {
+        let session = place as u32 + 1;
+        let num = n as u32 + 1;
+        Ok(Rev { session, num })
+    } else {
+        Err(Unknown)
     }
 }

@@ -1,5 +1,5 @@
 -- What holds of each table, and of the places of clusters that are kept beside it.
-use Rattle.std.specs.Prelude.{ℕ, ◌≡◌, ◌+◌, ◌-◌, ◌*◌, ◌<◌, ◌≤◌, Bool, ◌&&◌, nat_lt, nat_le, true, false, List, [], length, slice_index_or}
+use Rattle.std.specs.Prelude.{ℕ, ◌≡◌, ◌+◌, ◌-◌, ◌*◌, ◌^◌, ◌<◌, ◌≤◌, Bool, ◌&&◌, nat_lt, nat_le, true, false, List, [], length, slice_index_or}
 use Rattle.std.specs.List.{sum_by}
 use Rattle.st_clusters.specs.Free.{is_v4, free_number, spans_meet}
 use Rattle.st_clusters.specs.Table.{at, next_free, places_of, most_ids, no_session}
@@ -40,6 +40,7 @@ pub record IsSound (ss : List SessionIds) (cs : List Cluster) (ps : List (List �
   pub finalised : (i : ℕ) → i < length cs → (at cs i).first + (at cs i).used ≤ (session_at ss ((at cs i).session - 1)).finalised + 1
   pub each : length ps ≡ length ss
   pub places : (k : ℕ) → k < length ss → slice_index_or ps k [] ≡ places_of (k + 1) cs
+  pub wide : (k : ℕ) → k < length ss → (session_at ss k).uuid < 2 ^ 128
   pub v4 : (k : ℕ) → k < length ss → is_v4 (session_at ss k).uuid ≡ true
   pub spans : (i j : ℕ) → i < j → j < length ss → spans_meet (free_number (session_at ss i).uuid) (free_number (session_at ss j).uuid) ≡ false
 
