@@ -53,13 +53,13 @@ apart_set cs i c apart within session first final some fits numbers ids =
       numbers_begin = λ j h. omega (arith, finals j, apart.numbers_begin j (omega (arith, long, h)));
       ids_begin = λ j h. omega (arith, firsts j, apart.ids_begin j (omega (arith, long, h)));
       numbers = λ a b l h. let less : b < length cs = omega (arith, long, h) in
-        let in_old : (at (set cs i c) a).first_final + (at (set cs i c) a).capacity ≤ (at cs b).first_final =
+          let in_old : (at (set cs i c) a).first_final + (at (set cs i c) a).capacity ≤ (at cs b).first_final =
           at_set (λ k x. k < b → x.first_final + x.capacity ≤ (at cs b).first_final) cs i c a within (λ m. numbers b m less) (λ m. apart.numbers a b m less) l in
-        omega (arith, finals b, in_old);
+          omega (arith, finals b, in_old);
       ids = λ a b l h same. let less : b < length cs = omega (arith, long, h) in
-        let in_old : (at (set cs i c) a).first + (at (set cs i c) a).used ≤ (at cs b).first =
+          let in_old : (at (set cs i c) a).first + (at (set cs i c) a).used ≤ (at cs b).first =
           at_set (λ k x. k < b → x.session ≡ (at cs b).session → x.first + x.used ≤ (at cs b).first) cs i c a within (λ m e. ids b m less e) (λ m e. apart.ids a b m less e) l (same ∙ sessions b) in
-        omega (arith, firsts b, in_old);
+          omega (arith, firsts b, in_old);
     }
 
 pub apart_push : (cs : List Cluster) (c : Cluster) → AreApart cs → 1 ≤ c.used → c.used ≤ c.capacity → 1 ≤ c.first_final → 1 ≤ c.first
@@ -74,9 +74,9 @@ apart_push cs c apart some fits final first numbers ids =
       numbers_begin = λ j h. at_push (λ k x. 1 ≤ x.first_final) cs c j h final (apart.numbers_begin j);
       ids_begin = λ j h. at_push (λ k x. 1 ≤ x.first) cs c j h first (apart.ids_begin j);
       numbers = λ a b l h. let less : a < length cs = omega (arith, long, l, h) in
-        rw (at_front cs c a less) (at_push (λ k x. a < k → (at cs a).first_final + (at cs a).capacity ≤ x.first_final) cs c b h (λ m. numbers a less) (λ g m. apart.numbers a b m g) l);
+          rw (at_front cs c a less) (at_push (λ k x. a < k → (at cs a).first_final + (at cs a).capacity ≤ x.first_final) cs c b h (λ m. numbers a less) (λ g m. apart.numbers a b m g) l);
       ids = λ a b l h. let less : a < length cs = omega (arith, long, l, h) in
-        rw (at_front cs c a less) (at_push (λ k x. a < k → (at cs a).session ≡ x.session → (at cs a).first + (at cs a).used ≤ x.first) cs c b h (λ m e. ids a less e) (λ g m e. apart.ids a b m g e) l);
+          rw (at_front cs c a less) (at_push (λ k x. a < k → (at cs a).session ≡ x.session → (at cs a).first + (at cs a).used ≤ x.first) cs c b h (λ m e. ids a less e) (λ g m e. apart.ids a b m g e) l);
     }
 
 -- ## Places
@@ -86,7 +86,7 @@ places_push s i [] c = let e : i + 0 ≡ i = omega arith in rw e (elim (c.sessio
 places_push s i (d ∷ cs) c =
     let e : i + suc (length cs) ≡ (i + 1) + length cs = omega arith in
     rw (places_push s (i + 1) cs c, e) (elim (d.session == s) as (λ b. cond b (i ∷ (places_from s (i + 1) cs ++ cond (c.session == s) (((i + 1) + length cs) ∷ []) [])) (places_from s (i + 1) cs ++ cond (c.session == s) (((i + 1) + length cs) ∷ []) [])
-        ≡ cond b (i ∷ places_from s (i + 1) cs) (places_from s (i + 1) cs) ++ cond (c.session == s) (((i + 1) + length cs) ∷ []) []) [ true ↦ refl | false ↦ refl ])
+    ≡ cond b (i ∷ places_from s (i + 1) cs) (places_from s (i + 1) cs) ++ cond (c.session == s) (((i + 1) + length cs) ∷ []) []) [ true ↦ refl | false ↦ refl ])
 
 pub places_set : (s i j : ℕ) (cs : List Cluster) (c : Cluster) → c.session ≡ (at cs j).session → places_from s i (set cs j c) ≡ places_from s i cs
 places_set s i j [] c same = refl
@@ -176,14 +176,14 @@ last_is s cs p e =
       there = omega (arith, there.1);
       own = rw back at there.2;
       last = λ j less h own.
-        let has : HasPlace (places_of s cs) (0 + j) = places_all s 0 cs j h own in
-        elim (cases_lt has.0 n) [
-          | inl l ↦ let low : get_or (places_of s cs) has.0 0 < get_or (places_of s cs) n 0 = places_rise s 0 cs has.0 n l (omega (arith, last.0)) in
-              omega (arith, low, has.2, last.1, less)
-          | inr g ↦ let same : has.0 ≡ n = omega (arith, g, has.1) in
-              let at_last : get_or (places_of s cs) has.0 0 ≡ p = rw same last.1 in
-              omega (arith, has.2, at_last, less)
-        ];
+          let has : HasPlace (places_of s cs) (0 + j) = places_all s 0 cs j h own in
+          elim (cases_lt has.0 n) [
+            | inl l ↦ let low : get_or (places_of s cs) has.0 0 < get_or (places_of s cs) n 0 = places_rise s 0 cs has.0 n l (omega (arith, last.0)) in
+                omega (arith, low, has.2, last.1, less)
+            | inr g ↦ let same : has.0 ≡ n = omega (arith, g, has.1) in
+                let at_last : get_or (places_of s cs) has.0 0 ≡ p = rw same last.1 in
+                omega (arith, has.2, at_last, less)
+          ];
     }
 
 -- ## What a range comes to

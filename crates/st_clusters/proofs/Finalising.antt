@@ -71,7 +71,7 @@ sound_finalised ss cs ds ps k x r q sound within is number next few made placed 
     let ends : EndBefore r cs = ends_before ss cs ps k x r sound within is number next in
     let free : next_free (with_range r cs) ≤ next_free cs + 512 * r.count = range_free r cs sound.apart in
     let of_session : (j : ℕ) → j < length (with_range r cs) → (1 ≤ (at (with_range r cs) j).session) × ((at (with_range r cs) j).session ≤ length ss) =
-      range_ends (λ s e. (1 ≤ s) × (s ≤ length ss)) r cs ends sound.owned (λ e h. (omega (arith, number), omega (arith, number, within))) in
+    range_ends (λ s e. (1 ≤ s) × (s ≤ length ss)) r cs ends sound.owned (λ e h. (omega (arith, number), omega (arith, number, within))) in
     let back : r.session - 1 ≡ k = omega (arith, number) in
     let raised_here : (session_at (set ss k (raise_to x (x.finalised + r.count))) k).finalised ≡ x.finalised + r.count = ap (λ (z : SessionIds). z.finalised) (get_or-set_same ss k (raise_to x (x.finalised + r.count)) no_session within) in
     record {
@@ -81,11 +81,11 @@ sound_finalised ss cs ds ps k x r q sound within is number next few made placed 
       bound = rw made (omega (arith, sound.bound, free, total, final_here));
       owned = rw (made, long) of_session;
       finalised = rw made (range_ends (λ s e. e ≤ (session_at (set ss k (raise_to x (x.finalised + r.count))) (s - 1)).finalised + 1) r cs ends
-        (λ j h. at_least ss k x (x.finalised + r.count) ((at cs j).session - 1) ((at cs j).first + (at cs j).used) within is (omega arith) (sound.finalised j h))
-        (λ e h. rw (back, raised_here) (omega (arith, h, next))));
+          (λ j h. at_least ss k x (x.finalised + r.count) ((at cs j).session - 1) ((at cs j).first + (at cs j).used) within is (omega arith) (sound.finalised j h))
+          (λ e h. rw (back, raised_here) (omega (arith, h, next))));
       each = lists ∙ sound.each ∙ sym long;
       places = λ j h. places_at ps k q j (places_of (j + 1) ds) (omega (arith, within, sound.each)) (λ e. placed ∙ ap (λ (s : ℕ). places_of s ds) (number ∙ ap (λ (i : ℕ). i + 1) (sym e)))
-        (λ ne. sound.places j (omega (arith, long, h)) ∙ rw made (sym (range_others (j + 1) r cs (omega (arith, ne, number)))));
+          (λ ne. sound.places j (omega (arith, long, h)) ∙ rw made (sym (range_others (j + 1) r cs (omega (arith, ne, number)))));
       wide = λ j h. rw (same_uuid j) (sound.wide j (omega (arith, long, h)));
       v4 = λ j h. rw (same_uuid j) (sound.v4 j (omega (arith, long, h)));
       spans = λ i j l h. rw (same_uuid i, same_uuid j) (sound.spans i j l (omega (arith, long, h)));

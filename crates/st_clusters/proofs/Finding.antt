@@ -58,20 +58,20 @@ found_id r cs count apart point some within =
       own = here.1;
       begins = begins;
       only = λ n h.
-        let has : (l : ℕ) × (l < length (places_of r.session cs)) × (get_or (places_of r.session cs) l 0 ≡ 0 + h.place) = places_all r.session 0 cs h.place h.there h.within.own in
-        let at_l : get_or (places_of r.session cs) has.0 0 ≡ h.place = omega (arith, has.2) in
-        let test : begins_by cs r.num h.place ≡ true = grind (arith, nat_tests, h.there, h.within.from) in
-        elim (cases_eq has.0 (count - 1)) [
-          | inl e ↦ sym at_l ∙ ap (λ (k : ℕ). get_or (places_of r.session cs) k 0) e
-          | inr ne ↦ elim (cases_lt has.0 count) [
-            | inl l ↦ let ends : (at cs (get_or (places_of r.session cs) has.0 0)).first + (at cs (get_or (places_of r.session cs) has.0 0)).used ≤ (at cs (get_or (places_of r.session cs) (count - 1) 0)).first = firsts_rise r.session cs apart has.0 (count - 1) (omega (arith, l, ne)) (omega (arith, some, within)) in
-                let there : (at cs h.place).first + (at cs h.place).used ≤ (at cs (get_or (places_of r.session cs) (count - 1) 0)).first = rw at_l at ends in
-                absurd (omega (arith, there, begins, h.within.before))
-            | inr g ↦ let fails : begins_by cs r.num (get_or (places_of r.session cs) has.0 0) ≡ false = point.1 has.0 0 g has.1 in
-                let fails_here : begins_by cs r.num h.place ≡ false = rw at_l at fails in
-                cc (test, fails_here)
-          ]
-        ];
+          let has : (l : ℕ) × (l < length (places_of r.session cs)) × (get_or (places_of r.session cs) l 0 ≡ 0 + h.place) = places_all r.session 0 cs h.place h.there h.within.own in
+          let at_l : get_or (places_of r.session cs) has.0 0 ≡ h.place = omega (arith, has.2) in
+          let test : begins_by cs r.num h.place ≡ true = grind (arith, nat_tests, h.there, h.within.from) in
+          elim (cases_eq has.0 (count - 1)) [
+            | inl e ↦ sym at_l ∙ ap (λ (k : ℕ). get_or (places_of r.session cs) k 0) e
+            | inr ne ↦ elim (cases_lt has.0 count) [
+              | inl l ↦ let ends : (at cs (get_or (places_of r.session cs) has.0 0)).first + (at cs (get_or (places_of r.session cs) has.0 0)).used ≤ (at cs (get_or (places_of r.session cs) (count - 1) 0)).first = firsts_rise r.session cs apart has.0 (count - 1) (omega (arith, l, ne)) (omega (arith, some, within)) in
+                  let there : (at cs h.place).first + (at cs h.place).used ≤ (at cs (get_or (places_of r.session cs) (count - 1) 0)).first = rw at_l at ends in
+                  absurd (omega (arith, there, begins, h.within.before))
+              | inr g ↦ let fails : begins_by cs r.num (get_or (places_of r.session cs) has.0 0) ≡ false = point.1 has.0 0 g has.1 in
+                  let fails_here : begins_by cs r.num h.place ≡ false = rw at_l at fails in
+                  cc (test, fails_here)
+            ]
+          ];
     }
 
 pub found_no_id : (r : Rev) (cs : List Cluster) (count : ℕ) → IsPartitionPoint (λ y. begins_by cs r.num y ≡ true) (λ y. begins_by cs r.num y ≡ false) (places_of r.session cs) count → count ≡ 0 → (n : ℕ) → ¬ IsInTable cs r n

@@ -59,7 +59,7 @@ sound_joined ss after cs ps qs uuid sound few wide v4 apart joined listed =
       bound = omega (arith, sound.bound, total);
       owned = λ i h. ((sound.owned i h).0, omega (arith, long, (sound.owned i h).1));
       finalised = λ i h. let o : (1 ≤ (at cs i).session) × ((at cs i).session ≤ length ss) = sound.owned i h in
-        rw (get_or_append_left ss (new_session uuid ∷ []) no_session ((at cs i).session - 1) (omega (arith, o.0, o.1))) (sound.finalised i h);
+          rw (get_or_append_left ss (new_session uuid ∷ []) no_session ((at cs i).session - 1) (omega (arith, o.0, o.1))) (sound.finalised i h);
       each = lists ∙ ap (λ (n : ℕ). n + 1) sound.each ∙ sym long;
       places = λ j h. elim (cases_lt j (length ss)) [
         | inl l ↦ get_or_append_left ps ([] ∷ []) [] j (omega (arith, l, sound.each)) ∙ sound.places j l
@@ -69,7 +69,7 @@ sound_joined ss after cs ps qs uuid sound few wide v4 apart joined listed =
       wide = λ j h. session_push (λ k x. x.uuid < 2 ^ 128) ss (new_session uuid) j h wide (sound.wide j);
       v4 = λ j h. session_push (λ k x. is_v4 x.uuid ≡ true) ss (new_session uuid) j h v4 (sound.v4 j);
       spans = λ i j l h. let front : i < length ss = omega (arith, l, h, long) in
-        rw (get_or_append_left ss (new_session uuid ∷ []) no_session i front)
+          rw (get_or_append_left ss (new_session uuid ∷ []) no_session i front)
           (session_push (λ k x. i < k → spans_meet (free_number (session_at ss i).uuid) (free_number x.uuid) ≡ false) ss (new_session uuid) j h
-            (λ m. none_meets uuid ss i apart front) (λ g m. sound.spans i j m g) l);
+          (λ m. none_meets uuid ss i apart front) (λ g m. sound.spans i j m g) l);
     })

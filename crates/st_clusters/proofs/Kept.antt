@@ -21,7 +21,7 @@ apart_more r cs i n apart last fits =
     let some : 1 ≤ (at cs i).used = apart.some i last.there in
     let inside : (at cs i).used ≤ (at cs i).capacity = apart.fits i last.there in
     apart_set cs i (with_more (at cs i) n) apart last.there refl refl refl (omega (arith, some)) (omega (arith, inside, fits))
-      (λ j l h. apart.numbers i j l h) (λ j l h e. absurd (last.last j l h (sym e ∙ last.own)))
+    (λ j l h. apart.numbers i j l h) (λ j l h e. absurd (last.last j l h (sym e ∙ last.own)))
 
 apart_new : (r : IdRange) (cs : List Cluster) (first n : ℕ) → AreApart cs → 1 ≤ n → 1 ≤ first → ((j : ℕ) → j < length cs → (at cs j).session ≡ r.session → (at cs j).first + (at cs j).used ≤ first)
     → AreApart (cs ++ new_cluster cs r.session first n ∷ [])
@@ -34,20 +34,20 @@ range_apart r cs apart one ends = range_cases AreApart r cs
     (λ some none. apart_new r cs r.first r.count apart (omega (arith, some)) one ends)
     (λ i some last fits. apart_more r cs i r.count apart last fits)
     (λ i last past end.
-      let some : 1 ≤ (at cs i).used = apart.some i last.there in
-      let inside : (at cs i).used ≤ (at cs i).capacity = apart.fits i last.there in
-      apart_set cs i (with_growth (at cs i) r.count) apart last.there refl refl refl (omega (arith, some)) (omega (arith, inside, past))
-        (λ j l h. absurd (omega (arith, l, h, end))) (λ j l h e. absurd (omega (arith, l, h, end))))
+    let some : 1 ≤ (at cs i).used = apart.some i last.there in
+    let inside : (at cs i).used ≤ (at cs i).capacity = apart.fits i last.there in
+    apart_set cs i (with_growth (at cs i) r.count) apart last.there refl refl refl (omega (arith, some)) (omega (arith, inside, past))
+    (λ j l h. absurd (omega (arith, l, h, end))) (λ j l h e. absurd (omega (arith, l, h, end))))
     (λ i last past inner.
-      let old : AreApart (set cs i (with_more (at cs i) (room (at cs i)))) = apart_more r cs i (room (at cs i)) apart last (omega arith) in
-      let long : length (set cs i (with_more (at cs i) (room (at cs i)))) ≡ length cs = length-set cs i (with_more (at cs i) (room (at cs i))) in
-      let free : next_free (set cs i (with_more (at cs i) (room (at cs i)))) ≡ next_free cs = free_set cs i (with_more (at cs i) (room (at cs i))) last.there refl refl in
-      let here : (at cs i).first + (at cs i).used ≤ r.first = ends i last.there last.own in
-      let made : AreApart (set cs i (with_more (at cs i) (room (at cs i))) ++ new_cluster (set cs i (with_more (at cs i) (room (at cs i)))) r.session (r.first + room (at cs i)) (r.count - room (at cs i)) ∷ []) =
-        apart_new r (set cs i (with_more (at cs i) (room (at cs i)))) (r.first + room (at cs i)) (r.count - room (at cs i)) old (omega (arith, past)) (omega (arith, one))
-        (λ j h own. at_set (λ k x. x.session ≡ r.session → x.first + x.used ≤ r.first + room (at cs i)) cs i (with_more (at cs i) (room (at cs i))) j last.there
-          (λ _. omega (arith, here)) (λ e. omega (arith, ends j (omega (arith, long, h)) e)) own) in
-      subst (λ (n : ℕ). AreApart (set cs i (with_more (at cs i) (room (at cs i))) ++ record { session = r.session; first = r.first + room (at cs i); first_final = n; capacity = growth (r.count - room (at cs i)); used = r.count - room (at cs i) } ∷ [])) free made)
+    let old : AreApart (set cs i (with_more (at cs i) (room (at cs i)))) = apart_more r cs i (room (at cs i)) apart last (omega arith) in
+    let long : length (set cs i (with_more (at cs i) (room (at cs i)))) ≡ length cs = length-set cs i (with_more (at cs i) (room (at cs i))) in
+    let free : next_free (set cs i (with_more (at cs i) (room (at cs i)))) ≡ next_free cs = free_set cs i (with_more (at cs i) (room (at cs i))) last.there refl refl in
+    let here : (at cs i).first + (at cs i).used ≤ r.first = ends i last.there last.own in
+    let made : AreApart (set cs i (with_more (at cs i) (room (at cs i))) ++ new_cluster (set cs i (with_more (at cs i) (room (at cs i)))) r.session (r.first + room (at cs i)) (r.count - room (at cs i)) ∷ []) =
+    apart_new r (set cs i (with_more (at cs i) (room (at cs i)))) (r.first + room (at cs i)) (r.count - room (at cs i)) old (omega (arith, past)) (omega (arith, one))
+    (λ j h own. at_set (λ k x. x.session ≡ r.session → x.first + x.used ≤ r.first + room (at cs i)) cs i (with_more (at cs i) (room (at cs i))) j last.there
+    (λ _. omega (arith, here)) (λ e. omega (arith, ends j (omega (arith, long, h)) e)) own) in
+    subst (λ (n : ℕ). AreApart (set cs i (with_more (at cs i) (room (at cs i))) ++ record { session = r.session; first = r.first + room (at cs i); first_final = n; capacity = growth (r.count - room (at cs i)); used = r.count - room (at cs i) } ∷ [])) free made)
 
 -- ## The next free number
 
@@ -57,10 +57,13 @@ range_free r cs apart = range_cases (λ ds. next_free ds ≤ next_free cs + 512 
     (λ some none. omega (arith, free_push cs (new_cluster cs r.session r.first r.count), some))
     (λ i some last fits. omega (arith, free_set cs i (with_more (at cs i) r.count) last.there refl refl))
     (λ i last past end.
-      let inside : (at cs i).used ≤ (at cs i).capacity = apart.fits i last.there in
-      omega (arith, free_set_last cs i (with_growth (at cs i) r.count) end, free_above cs apart i last.there, past))
-    (λ i last past inner. omega (arith, past,
-      free_push (set cs i (with_more (at cs i) (room (at cs i)))) (new_cluster cs r.session (r.first + room (at cs i)) (r.count - room (at cs i)))))
+    let inside : (at cs i).used ≤ (at cs i).capacity = apart.fits i last.there in
+    omega (arith, free_set_last cs i (with_growth (at cs i) r.count) end, free_above cs apart i last.there, past))
+    (λ i last past inner. omega (
+      arith,
+      past,
+      free_push (set cs i (with_more (at cs i) (room (at cs i)))) (new_cluster cs r.session (r.first + room (at cs i)) (r.count - room (at cs i))),
+    ))
 
 -- ## Where the ids of a cluster end
 
@@ -76,12 +79,12 @@ range_ends Q r cs ends old new = range_cases (λ ds. (j : ℕ) → j < length ds
     (λ _. old)
     (λ some none j h. at_push (λ k x. Q x.session (x.first + x.used)) cs (new_cluster cs r.session r.first r.count) j h (new (r.first + r.count) (omega arith)) (old j))
     (λ i some last fits. ends_set Q cs i (with_more (at cs i) r.count) last.there old
-      (rw last.own (new ((at cs i).first + ((at cs i).used + r.count)) (omega (arith, ends i last.there last.own)))))
+    (rw last.own (new ((at cs i).first + ((at cs i).used + r.count)) (omega (arith, ends i last.there last.own)))))
     (λ i last past end. ends_set Q cs i (with_growth (at cs i) r.count) last.there old
-      (rw last.own (new ((at cs i).first + ((at cs i).used + r.count)) (omega (arith, ends i last.there last.own)))))
+    (rw last.own (new ((at cs i).first + ((at cs i).used + r.count)) (omega (arith, ends i last.there last.own)))))
     (λ i last past inner j h. at_push (λ k x. Q x.session (x.first + x.used)) (set cs i (with_more (at cs i) (room (at cs i)))) (new_cluster cs r.session (r.first + room (at cs i)) (r.count - room (at cs i))) j h
-      (new (r.first + room (at cs i) + (r.count - room (at cs i))) (omega (arith, past)))
-      (ends_set Q cs i (with_more (at cs i) (room (at cs i))) last.there old (rw last.own (new ((at cs i).first + ((at cs i).used + room (at cs i))) (omega (arith, ends i last.there last.own, past)))) j))
+    (new (r.first + room (at cs i) + (r.count - room (at cs i))) (omega (arith, past)))
+    (ends_set Q cs i (with_more (at cs i) (room (at cs i))) last.there old (rw last.own (new ((at cs i).first + ((at cs i).used + room (at cs i))) (omega (arith, ends i last.there last.own, past)))) j))
 
 -- ## The places of the other sessions
 
@@ -97,4 +100,4 @@ range_others s r cs other = range_cases (λ ds. places_of s ds ≡ places_of s c
     (λ i some last fits. places_set s 0 i cs (with_more (at cs i) r.count) refl)
     (λ i last past end. places_set s 0 i cs (with_growth (at cs i) r.count) refl)
     (λ i last past inner. other_push s (set cs i (with_more (at cs i) (room (at cs i)))) (new_cluster cs r.session (r.first + room (at cs i)) (r.count - room (at cs i))) other
-      ∙ places_set s 0 i cs (with_more (at cs i) (room (at cs i))) refl)
+    ∙ places_set s 0 i cs (with_more (at cs i) (room (at cs i))) refl)

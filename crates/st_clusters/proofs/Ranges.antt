@@ -79,7 +79,7 @@ in_last : (P : List Cluster → Type 0) (r : IdRange) (cs : List Cluster) (i : �
     → ((i : ℕ) → 0 < r.count → IsLastOf r.session cs i → r.count ≤ room (at cs i) → P (set cs i (with_more (at cs i) r.count)))
     → ((i : ℕ) → IsLastOf r.session cs i → room (at cs i) < r.count → i + 1 ≡ length cs → P (set cs i (with_growth (at cs i) r.count)))
     → ((i : ℕ) → IsLastOf r.session cs i → room (at cs i) < r.count → i + 1 ≢ length cs
-        → P (set cs i (with_more (at cs i) (room (at cs i))) ++ new_cluster cs r.session (r.first + room (at cs i)) (r.count - room (at cs i)) ∷ []))
+    → P (set cs i (with_more (at cs i) (room (at cs i))) ++ new_cluster cs r.session (r.first + room (at cs i)) (r.count - room (at cs i)) ∷ []))
     → P (put_at r cs i)
 in_last P r cs i some last fills grows goes_on = elim (cases_lt (room (at cs i)) r.count) [
   | inr fits ↦ let test : nat_le r.count (room (at cs i)) ≡ true = grind (arith, nat_tests, fits) in rw test (fills i some last fits)
@@ -97,7 +97,7 @@ pub range_cases : (P : List Cluster → Type 0) (r : IdRange) (cs : List Cluster
     → ((i : ℕ) → 0 < r.count → IsLastOf r.session cs i → r.count ≤ room (at cs i) → P (set cs i (with_more (at cs i) r.count)))
     → ((i : ℕ) → IsLastOf r.session cs i → room (at cs i) < r.count → i + 1 ≡ length cs → P (set cs i (with_growth (at cs i) r.count)))
     → ((i : ℕ) → IsLastOf r.session cs i → room (at cs i) < r.count → i + 1 ≢ length cs
-        → P (set cs i (with_more (at cs i) (room (at cs i))) ++ new_cluster cs r.session (r.first + room (at cs i)) (r.count - room (at cs i)) ∷ []))
+    → P (set cs i (with_more (at cs i) (room (at cs i))) ++ new_cluster cs r.session (r.first + room (at cs i)) (r.count - room (at cs i)) ∷ []))
     → P (with_range r cs)
 range_cases P r cs nothing begins fills grows goes_on = elim (cases_Bool (r.count == 0)) [
   | inl e ↦ rw e (nothing (grind (arith, nat_tests, e)))

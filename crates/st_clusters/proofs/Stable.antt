@@ -27,7 +27,7 @@ free_at ss k = free_number (session_at ss k).uuid
 one_way : (ss : List SessionIds) (cs : List Cluster) (ps : List (List ℕ)) (i k x : ℕ) → IsSound ss cs ps → i < k → k < length ss → x < 2 ^ 122 → ahead (free_at ss i) x < 2 ^ 32 → ahead (free_at ss k) x < 2 ^ 32 → ⊥
 one_way ss cs ps i k x sound less within low near far =
     let meets : spans_meet (free_at ss i) (free_at ss k) ≡ true = both_meet (free_at ss i) (free_at ss k) x
-      (free_low (session_at ss i).uuid (sound.wide i (omega (arith, less, within)))) (free_low (session_at ss k).uuid (sound.wide k within)) low near far in
+    (free_low (session_at ss i).uuid (sound.wide i (omega (arith, less, within)))) (free_low (session_at ss k).uuid (sound.wide k within)) low near far in
     let apart : spans_meet (free_at ss i) (free_at ss k) ≡ false = sound.spans i k less within in
     cc (meets, apart)
 
@@ -94,11 +94,12 @@ number_of ss cs ps r u sound h =
     let low : free_at ss h.place < 2 ^ 122 = free_low (session_at ss h.place).uuid (sound.wide h.place h.there) in
     let few : r.num - 1 < 2 ^ 32 = omega (arith, h.made, c.made) in
     let free : free_number u ≡ free_after (free_at ss h.place) (r.num - 1) = ap (λ (v : ℕ). free_number v) h.is ∙ free_of_uuid (free_after (free_at ss h.place) (r.num - 1)) (after_low (free_at ss h.place) (r.num - 1)) in
-    let bound : free_after (free_at ss h.place) (r.num - 1) < 2 ^ 122 = after_low (free_at ss h.place) (r.num - 1) in
-    (ap (λ (v : ℕ). is_v4 v) h.is ∙ uuid_is_v4 (free_after (free_at ss h.place) (r.num - 1)) bound,
+    let bound : free_after (free_at ss h.place) (r.num - 1) < 2 ^ 122 = after_low (free_at ss h.place) (r.num - 1) in (
+      ap (λ (v : ℕ). is_v4 v) h.is ∙ uuid_is_v4 (free_after (free_at ss h.place) (r.num - 1)) bound,
       rw free bound,
       ap (λ (x : ℕ). ahead (free_at ss h.place) x) free ∙ ahead_after (free_at ss h.place) (r.num - 1) low (omega (arith, few)),
-      few)
+      few,
+    )
 
 -- no other id has it
 pub one_stable : (ss : List SessionIds) (cs : List Cluster) (ps : List (List ℕ)) (r s : Rev) (u : ℕ) → IsSound ss cs ps → stable_of ss r ≡ Some u → stable_of ss s ≡ Some u → r ≡ s
@@ -133,7 +134,7 @@ found_ok ss cs ps u free place x sound wide v4 is spans read =
       | inl t ↦
           let less : ahead (free_at ss place) free < (session_at ss place).generated = grind (arith, nat_tests, t) in
           let made : stable_of ss (record { session = place + 1; num = ahead (free_at ss place) free + 1 }) ≡ Some (nth_uuid (session_at ss place) (ahead (free_at ss place) free + 1)) =
-            stable_made_of ss (record { session = place + 1; num = ahead (free_at ss place) free + 1 }) place refl span.0 (omega arith) (omega (arith, less)) in
+          stable_made_of ss (record { session = place + 1; num = ahead (free_at ss place) free + 1 }) place refl span.0 (omega arith) (omega (arith, less)) in
           let back : ahead (free_at ss place) free + 1 - 1 ≡ ahead (free_at ss place) free = omega arith in
           let number : free_after (free_at ss place) (ahead (free_at ss place) free + 1 - 1) ≡ free = rw back (after_ahead (free_at ss place) free low bound) in
           rw t (made ∙ ap (λ (v : ℕ). Some v) (ap (λ (v : ℕ). uuid_of v) (number ∙ is) ∙ uuid_of_free u wide v4))

@@ -25,8 +25,8 @@ stays_set cs i c r n within session first final more h = record {
   place = h.place;
   there = let long : length (set cs i c) ≡ length cs = length-set cs i c in omega (arith, long, h.there);
   within = at_set (λ k x. IsWithin (at cs k) r n → IsWithin x r n) cs i c h.place within
-    (λ w. record { own = session ∙ w.own; from = omega (arith, first, w.from); before = omega (arith, first, more, w.before); number = omega (arith, first, final, w.number) })
-    (λ w. w) h.within;
+      (λ w. record { own = session ∙ w.own; from = omega (arith, first, w.from); before = omega (arith, first, more, w.before); number = omega (arith, first, final, w.number) })
+      (λ w. w) h.within;
 }
 
 stays_push : (cs : List Cluster) (c : Cluster) (r : Rev) (n : ℕ) → IsInTable cs r n → IsInTable (cs ++ c ∷ []) r n
@@ -43,7 +43,7 @@ stays q cs r n h = range_cases (λ ds. IsInTable ds r n) q cs
     (λ i some last fits. stays_set cs i (with_more (at cs i) q.count) r n last.there refl refl refl (omega arith) h)
     (λ i last past end. stays_set cs i (with_growth (at cs i) q.count) r n last.there refl refl refl (omega arith) h)
     (λ i last past inner. stays_push (set cs i (with_more (at cs i) (room (at cs i)))) (new_cluster cs q.session (q.first + room (at cs i)) (q.count - room (at cs i))) r n
-      (stays_set cs i (with_more (at cs i) (room (at cs i))) r n last.there refl refl refl (omega arith) h))
+    (stays_set cs i (with_more (at cs i) (room (at cs i))) r n last.there refl refl refl (omega arith) h))
 
 pub final_stays : (q : IdRange) (cs : List Cluster) (r : Rev) (n : ℕ) → IsFinal cs r n → IsFinal (with_range q cs) r n
 final_stays q cs r n (inl h) = inl h
@@ -73,9 +73,9 @@ new_set : (q : IdRange) (cs : List Cluster) (i m : ℕ) (c : Cluster) (r : Rev) 
     → j < length (set cs i c) → IsWithin (at (set cs i c) j) r n → IsNew q cs r n
 new_set q cs i m c r n j ends last few session first final used h w =
     at_set (λ k x. k < length cs → IsWithin x r n → IsNew q cs r n) cs i c j last.there
-      (λ _ v. new_within q cs i m c r n ends last few session first final used v)
-      (λ g v. inl (record { place = j; there = g; within = v }))
-      (let long : length (set cs i c) ≡ length cs = length-set cs i c in omega (arith, long, h)) w
+    (λ _ v. new_within q cs i m c r n ends last few session first final used v)
+    (λ g v. inl (record { place = j; there = g; within = v }))
+    (let long : length (set cs i c) ≡ length cs = length-set cs i c in omega (arith, long, h)) w
 
 -- a new cluster
 new_begun : (q : IdRange) (cs ds : List Cluster) (m : ℕ) (r : Rev) (n : ℕ) → m ≤ q.count → IsWithin (new_cluster ds q.session (q.first + m) (q.count - m)) r n → IsNew q cs r n
@@ -85,9 +85,9 @@ pub new_is_of : (q : IdRange) (cs : List Cluster) (r : Rev) (n : ℕ) → EndsAt
 new_is_of q cs r n ends = range_cases (λ ds. IsInTable ds r n → IsNew q cs r n) q cs
     (λ _ h. inl h)
     (λ some none h. at_push (λ k x. IsWithin x r n → IsNew q cs r n) cs (new_cluster cs q.session q.first q.count) h.place h.there
-      (λ w. inr (of_range q r w.own w.from w.before)) (λ g w. inl (record { place = h.place; there = g; within = w })) h.within)
+    (λ w. inr (of_range q r w.own w.from w.before)) (λ g w. inl (record { place = h.place; there = g; within = w })) h.within)
     (λ i some last fits h. new_set q cs i q.count (with_more (at cs i) q.count) r n h.place ends last (omega arith) refl refl refl refl h.there h.within)
     (λ i last past end h. new_set q cs i q.count (with_growth (at cs i) q.count) r n h.place ends last (omega arith) refl refl refl refl h.there h.within)
     (λ i last past inner h. at_push (λ k x. IsWithin x r n → IsNew q cs r n) (set cs i (with_more (at cs i) (room (at cs i)))) (new_cluster cs q.session (q.first + room (at cs i)) (q.count - room (at cs i))) h.place h.there
-      (λ w. new_begun q cs cs (room (at cs i)) r n (omega (arith, past)) w)
-      (λ g w. new_set q cs i (room (at cs i)) (with_more (at cs i) (room (at cs i))) r n h.place ends last (omega (arith, past)) refl refl refl refl g w) h.within)
+    (λ w. new_begun q cs cs (room (at cs i)) r n (omega (arith, past)) w)
+    (λ g w. new_set q cs i (room (at cs i)) (with_more (at cs i) (room (at cs i))) r n h.place ends last (omega (arith, past)) refl refl refl refl g w) h.within)

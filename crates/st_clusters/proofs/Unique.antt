@@ -47,7 +47,7 @@ one_id cs r s n apart h k =
     let first : (at cs h.place).first ≡ (at cs k.place).first = ap (λ (i : ℕ). (at cs i).first) e in
     let final : (at cs h.place).first_final ≡ (at cs k.place).first_final = ap (λ (i : ℕ). (at cs i).first_final) e in
     rev_is r s (sym h.within.own ∙ ap (λ (i : ℕ). (at cs i).session) e ∙ k.within.own)
-      (omega (arith, first, final, h.within.number, k.within.number, h.within.from, k.within.from))
+    (omega (arith, first, final, h.within.number, k.within.number, h.within.from, k.within.from))
 
 pub one_number : (cs : List Cluster) (r : Rev) (m n : ℕ) → AreApart cs → IsInTable cs r m → IsInTable cs r n → m ≡ n
 one_number cs r m n apart h k =
@@ -137,3 +137,9 @@ one_id_before cs later r s n apart (inl h) (inl k) = h.0 ∙ sym k.0
 one_id_before cs later r s n apart (inr h) (inr k) = one_id cs r s n apart h.0 k.0
 one_id_before cs later r s n apart (inl h) (inr k) = let b : 1 ≤ n = number_some cs s n apart k.0 in absurd (omega (arith, b, h.1))
 one_id_before cs later r s n apart (inr h) (inl k) = let b : 1 ≤ n = number_some cs r n apart h.0 in absurd (omega (arith, b, k.1))
+
+pub one_final : (cs : List Cluster) (r s : Rev) (n : ℕ) → AreApart cs → IsFinal cs r n → IsFinal cs s n → r ≡ s
+one_final cs r s n apart (inl h) (inl k) = h.0 ∙ sym k.0
+one_final cs r s n apart (inr h) (inr k) = one_id cs r s n apart h k
+one_final cs r s n apart (inl h) (inr k) = let b : 1 ≤ n = number_some cs s n apart k in absurd (omega (arith, b, h.1))
+one_final cs r s n apart (inr h) (inl k) = let b : 1 ≤ n = number_some cs r n apart h in absurd (omega (arith, b, k.1))

@@ -51,7 +51,7 @@ IsOwn own have r = (r.session ≡ own) × (1 ≤ r.num) × (r.num ≤ have)
 -- the negative of its num
 abbrev pub IsOp : List Cluster → List IdRange → ℕ → ℕ → Rev → ℤ → Type 0
 IsOp cs later own have r z = ((n : ℕ) × IsFinalBefore cs later r n × (z ≡ pos n))
-  ⊎ (((n : ℕ) → ¬ IsFinalBefore cs later r n) × IsOwn own have r × (z ≡ negsuc (r.num - 1)))
+    ⊎ (((n : ℕ) → ¬ IsFinalBefore cs later r n) × IsOwn own have r × (z ≡ negsuc (r.num - 1)))
 
 -- ## Stable ids
 

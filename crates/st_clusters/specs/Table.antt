@@ -67,9 +67,9 @@ new_cluster cs s first n = record { session = s; first = first; first_final = ne
 -- where it is the last of the table, and else a new one begins
 abbrev pub put_at : IdRange → List Cluster → ℕ → List Cluster
 put_at r cs i =
-  if nat_le r.count (room (at cs i)) then slice_set cs i (with_more (at cs i) r.count)
-  else if i + 1 == length cs then slice_set cs i (with_growth (at cs i) r.count)
-  else slice_set cs i (with_more (at cs i) (room (at cs i)))
+    if nat_le r.count (room (at cs i)) then slice_set cs i (with_more (at cs i) r.count)
+    else if i + 1 == length cs then slice_set cs i (with_growth (at cs i) r.count)
+    else slice_set cs i (with_more (at cs i) (room (at cs i)))
     ++ new_cluster cs r.session (r.first + room (at cs i)) (r.count - room (at cs i)) ∷ []
 
 -- a session without a cluster begins one
@@ -105,12 +105,12 @@ on_session (Some x) f = f x
 -- the session gets one more id
 abbrev pub after_generating : ℕ → Ids → Result (ℕ × Ids) IdFault
 after_generating s t = on_session (session_of t.sessions s) (λ x. if nat_lt x.generated most_ids
-  then Ok (x.generated + 1, with_session t s (record x { generated = x.generated + 1 })) else Err Full)
+    then Ok (x.generated + 1, with_session t s (record x { generated = x.generated + 1 })) else Err Full)
 
 -- the ids that the session generated and didn't take yet are taken
 abbrev pub after_taking : ℕ → Ids → Result (IdRange × Ids) IdFault
 after_taking s t = on_session (session_of t.sessions s) (λ x.
-  Ok (record { session = s; first = x.taken + 1; count = x.generated - x.taken }, with_session t s (record x { taken = x.generated })))
+    Ok (record { session = s; first = x.taken + 1; count = x.generated - x.taken }, with_session t s (record x { taken = x.generated })))
 
 -- the ids that the session took are those that are finalised
 abbrev pub after_rewinding : ℕ → Ids → Result Ids IdFault
@@ -127,8 +127,8 @@ raise_to x n = record x { generated = max x.generated n; taken = max x.taken n; 
 -- the ids of a range are finalised
 abbrev pub after_finalising : IdRange → Ids → Result Ids IdFault
 after_finalising r t = on_session (session_of t.sessions r.session) (λ x. if is_next r x
-  then Ok (record { sessions = slice_set t.sessions (r.session - 1) (raise_to x (x.finalised + r.count)); clusters = with_range r t.clusters })
-  else Err (RangeOrder (x.finalised + 1)))
+    then Ok (record { sessions = slice_set t.sessions (r.session - 1) (raise_to x (x.finalised + r.count)); clusters = with_range r t.clusters })
+    else Err (RangeOrder (x.finalised + 1)))
 
 -- the place, counted from 0, of the first session whose span meets that of a UUID
 abbrev pub meeting : ℕ → List SessionIds → Option ℕ

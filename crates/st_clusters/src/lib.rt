@@ -6,9 +6,11 @@ mod cluster;
 mod compressor;
 mod free;
 mod ids;
+mod laws;
 mod look;
 mod names;
 
 pub use at::At;
 pub use compressor::Compressor;
 pub use ids::{Cluster, IdFault, IdRange, SessionIds, Unknown};
+pub use laws::{final_numbers_are_distinct, final_numbers_stay, table_is_as_it_was};

@@ -37,11 +37,7 @@ impl Compressor {
         let Some(place) = self.place_of(rev.session) else {
             return None;
         };
-        final_in(
-            self.clusters.as_slice(),
-            self.places[place].as_slice(),
-            rev,
-        )
+        final_in(self.clusters.as_slice(), self.places[place].as_slice(), rev)
     }
 
     // The id that has a final number in the clusters.

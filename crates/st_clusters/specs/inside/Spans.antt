@@ -13,4 +13,4 @@ spanning free ss = position (λ (x : SessionIds). nat_lt (ahead (free_number x.u
 -- the id of that number, if the session at a place generated it
 abbrev pub id_at : ℕ → SessionIds → ℕ → Result Rev Unknown
 id_at place x free = if nat_lt (ahead (free_number x.uuid) free) x.generated
-  then Ok (record { session = place + 1; num = ahead (free_number x.uuid) free + 1 }) else Err (record {})
+    then Ok (record { session = place + 1; num = ahead (free_number x.uuid) free + 1 }) else Err (record {})

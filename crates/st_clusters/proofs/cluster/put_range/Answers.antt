@@ -23,7 +23,7 @@ put_at-requires-clause-ids c =
 pub returns-in-None-clause-places : goal.returns-in-None-clause-places
 returns-in-None-clause-places c =
     on_ok_weaker c.begin.result (λ (h : (c.begin.new.clusters.items ≡ c.args.clusters.now.items ++ c.new_cluster-first.result ∷ []) × (c.begin.new.places ≡ c.args.places.now ++ vec_len c.args.clusters.now ∷ [])).
-      places_more c.args.range.session c.args.clusters.now.items c.new_cluster-first.result c.args.places.now c.begin.new.places _ c.args.clusters.now.ok.0
-        (ap (λ (x : Cluster). x.session) c.new_cluster-first.ensures) c.requires.places h.1
-      ∙ ap (λ (cs : List Cluster). places_of c.args.range.session cs) (sym h.0))
+    places_more c.args.range.session c.args.clusters.now.items c.new_cluster-first.result c.args.places.now c.begin.new.places _ c.args.clusters.now.ok.0
+    (ap (λ (x : Cluster). x.session) c.new_cluster-first.ensures) c.requires.places h.1
+    ∙ ap (λ (cs : List Cluster). places_of c.args.range.session cs) (sym h.0))
     (both_ok _ _ c.begin.result c.begin.ensures.ok c.begin.ensures.place)

@@ -11,7 +11,7 @@ returns-then-count-eq0 c =
     let cs = c.args.clusters.now in
     let r = c.args.rev in
     let point = IsPartitionPoint-from_clause (begins_by cs r.num) c.args.places.now c.partition_point-count.result c.partition_point-count.ensures.partitioned
-      (subst (IsPartitionedBy (begins_by cs r.num)) (sym c.requires.places) (begin_in_turn r.session r.num cs c.requires.apart)) (λ a b q k. search rules) in
+    (subst (IsPartitionedBy (begins_by cs r.num)) (sym c.requires.places) (begin_in_turn r.session r.num cs c.requires.apart)) (λ a b q k. search rules) in
     found_no_id r cs c.partition_point-count.result (rw c.requires.places at point) c.if-count-eq0.true
 
 pub returns : goal.returns
@@ -19,6 +19,6 @@ returns c =
     let cs = c.args.clusters.now in
     let r = c.args.rev in
     let point = IsPartitionPoint-from_clause (begins_by cs r.num) c.args.places.now c.partition_point-count.result c.partition_point-count.ensures.partitioned
-      (subst (IsPartitionedBy (begins_by cs r.num)) (sym c.requires.places) (begin_in_turn r.session r.num cs c.requires.apart)) (λ a b q k. search rules) in
+    (subst (IsPartitionedBy (begins_by cs r.num)) (sym c.requires.places) (begin_in_turn r.session r.num cs c.requires.apart)) (λ a b q k. search rules) in
     let bound : c.partition_point-count.result ≤ length (places_of r.session cs) = rw c.requires.places at c.partition_point-count.ensures.bound in
     rw c.requires.places (found_id r cs c.partition_point-count.result c.requires.apart (rw c.requires.places at point) (omega arith) bound)

@@ -15,15 +15,17 @@ put_range-requires-clause-ids c = λ i h own.
     let self = c.args.self.now in
     let next : is_next c.args.range c.index.result.now ≡ true = sym c.if-not-is_next.ensures in
     ends_before self.sessions.items self.clusters.items self.places.items c.in-Some.place c.index.result.now c.args.range self.sound c.in-Some.ensures.1 c.index.ensures c.in-Some.ensures.0
-      (next_parts c.args.range c.index.result.now next).0 i (omega (arith, h, self.clusters.ok.0)) own
+    (next_parts c.args.range c.index.result.now next).0 i (omega (arith, h, self.clusters.ok.0)) own
 
 pub invariant_of-self-2 : goal.invariant_of-self-2
 invariant_of-self-2 c =
     let self = c.args.self.now in
     let next : is_next c.args.range c.index.result.now ≡ true = sym c.if-not-is_next.ensures in
     let parts = next_parts c.args.range c.index.result.now next in
-    record { sound = rw c.raise_to.ensures (sound_finalised self.sessions.items self.clusters.items c.put_range.new.clusters.items self.places.items c.in-Some.place c.index.result.now c.args.range c.put_range.new.places
-      self.sound c.in-Some.ensures.1 c.index.ensures c.in-Some.ensures.0 parts.0 parts.1 c.in_ok-put_range.ensures.ok c.in_ok-put_range.ensures.places) }
+    record {
+      sound = rw c.raise_to.ensures (sound_finalised self.sessions.items self.clusters.items c.put_range.new.clusters.items self.places.items c.in-Some.place c.index.result.now c.args.range c.put_range.new.places
+          self.sound c.in-Some.ensures.1 c.index.ensures c.in-Some.ensures.0 parts.0 parts.1 c.in_ok-put_range.ensures.ok c.in_ok-put_range.ensures.places);
+    }
 
 pub returns-clause-ok : goal.returns-clause-ok
 returns-clause-ok c =

@@ -7,8 +7,10 @@ use Rattle.st_clusters.proofs.compressor.Compressor.take_range.Goals as goal
 pub invariant_of-self : goal.invariant_of-self
 invariant_of-self c =
     let self = c.args.self.now in
-    record { sound = recounted self.sessions.items self.clusters.items self.places.items c.in-Some.place c.index-ids.result.now _ self.sound
-      c.in-Some.ensures.1 c.index-ids.ensures refl refl (λ (h : AreCounts c.index-ids.result.now). record { final_taken = omega (arith, h.taken_made, h.final_taken); taken_made = omega arith; made = h.made }) }
+    record {
+      sound = recounted self.sessions.items self.clusters.items self.places.items c.in-Some.place c.index-ids.result.now _ self.sound
+          c.in-Some.ensures.1 c.index-ids.ensures refl refl (λ (h : AreCounts c.index-ids.result.now). record { final_taken = omega (arith, h.taken_made, h.final_taken); taken_made = omega arith; made = h.made });
+    }
 
 pub returns-clause-ok : goal.returns-clause-ok
 returns-clause-ok c =
