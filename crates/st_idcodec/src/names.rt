@@ -31,7 +31,10 @@ pub fn op_rev(at: &At, rev: Rev) -> Result<Value, Unknown>
     ensures ok { IfOk result (λ v. (z : ℤ) × IsOp at.now.ids.now.clusters.items at.now.later.now at.now.own at.now.have rev z × (view v ≡ rev_data z)) }
     ensures unknown { IfErr result (λ _. (z : ℤ) → ¬ IsOp at.now.ids.now.clusters.items at.now.later.now at.now.own at.now.have rev z) }
 {
-    Ok(Value::from(at.to_op(rev)?))
+    match at.to_op(rev) {
+        Ok(id) => Ok(Value::from(id)),
+        Err(unknown) => Err(unknown),
+    }
 }
 
 /// The revision that a value names.
