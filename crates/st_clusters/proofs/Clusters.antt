@@ -1,11 +1,11 @@
 -- Clusters that are put at a place or behind the others.
-use Rattle.std.proofs.Common.{◌≡◌, ◌≢◌, ◌⊎◌, inl, inr, ◌<◌, ◌≤◌, ◌+◌, ◌-◌, ◌*◌, ℕ, zero, suc, Bool, true, false, cond, List, [], ◌∷◌, ◌++◌, length, get_or, set, refl, sym, subst, ap, ◌∙◌, arith, length-set}
+use Rattle.std.proofs.Common.{◌≡◌, ◌≢◌, inl, inr, ◌<◌, ◌≤◌, ◌+◌, ◌-◌, ℕ, zero, suc, true, false, cond, List, [], ◌∷◌, ◌++◌, length, get_or, set, refl, sym, subst, ap, ◌∙◌, arith, length-set}
 use Rattle.std.proofs.lemmas.List.{get_or-set_same, get_or-set_other, get_or_read, get_or_append_left, get_or_push, length_push, set-append_left}
 use Rattle.std.proofs.lemmas.Bool.{cases_eq, cases_lt, cases_Bool}
 use Rattle.std.proofs.lemmas.Bool.Decides.{nat_tests}
 use Rattle.std.proofs.lemmas.Option.{slice_get-get_or}
-use Rattle.std.specs.Prelude.{◌==◌, Result, Ok, Err, OnOk, Option, Some, None, slice_get, nat_le, max}
-use Rattle.st_clusters.specs.Table.{at, no_cluster, room, next_free, new_cluster, put_at, with_range, places_from, places_of, last_of}
+use Rattle.std.specs.Prelude.{◌==◌, Result, Ok, Err, OnOk, Option, Some, slice_get, nat_le}
+use Rattle.st_clusters.specs.Table.{at, no_cluster, room, new_cluster, put_at, places_from, places_of, last_of}
 use Rattle.st_clusters.specs.inside.Kept.{AreApart, IsLastOf}
 use Rattle.st_clusters.specs.declared.ids.Cluster.{Cluster}
 use Rattle.st_clusters.specs.declared.ids.IdRange.{IdRange}

@@ -1,16 +1,13 @@
 -- A session whose counts change.
-use Rattle.std.proofs.Common.{◌≡◌, ◌≢◌, ◌⊎◌, inl, inr, ◌<◌, ◌≤◌, ◌+◌, ◌-◌, ◌*◌, ℕ, true, false, List, length, get_or, set, refl, sym, subst, ap, ◌∙◌, arith, length-set}
+use Rattle.std.proofs.Common.{◌≡◌, inl, inr, ◌<◌, ◌≤◌, ◌+◌, ◌-◌, ℕ, true, false, List, length, get_or, set, refl, sym, subst, ap, ◌∙◌, arith, length-set}
 use Rattle.std.proofs.lemmas.List.{get_or-set_same, get_or-set_other, get_or_read}
 use Rattle.std.proofs.lemmas.List.Sums.{sum_by-set}
 use Rattle.std.proofs.lemmas.Bool.{cases_eq}
 use Rattle.std.proofs.lemmas.Bool.Decides.{nat_tests}
-use Rattle.std.specs.List.{sum_by}
-use Rattle.st_clusters.specs.Free.{is_v4, free_number, spans_meet}
 use Rattle.st_clusters.specs.Table.{Ids, at, no_session, most_ids, session_of, after_generating, after_taking, after_rewinding}
-use Rattle.st_clusters.specs.declared.ids.IdFault.{IdFault}
 use Rattle.st_clusters.specs.declared.ids.IdFault.TheVariants.{Full}
 use Rattle.std.proofs.lemmas.Option.{slice_get-get_or}
-use Rattle.std.specs.Prelude.{Some, None, Ok, Err, nat_lt, ◌==◌}
+use Rattle.std.specs.Prelude.{Some, Ok, Err, nat_lt, ◌==◌}
 use Rattle.st_clusters.specs.inside.Kept.{session_at, IsSound, AreCounts, finals}
 use Rattle.st_clusters.specs.declared.ids.Cluster.{Cluster}
 use Rattle.st_clusters.specs.declared.ids.SessionIds.{SessionIds}

@@ -1,16 +1,14 @@
 -- A session whose next range is finalised.
-use Rattle.std.proofs.Common.{◌≡◌, ◌≢◌, ◌⊎◌, inl, inr, ◌<◌, ◌≤◌, ◌+◌, ◌-◌, ◌*◌, ◌^◌, ℕ, true, false, List, [], length, get_or, set, refl, sym, subst, ap, ◌∙◌, arith, length-set}
+use Rattle.std.proofs.Common.{◌≡◌, ◌≢◌, inl, inr, ◌<◌, ◌≤◌, ◌+◌, ◌-◌, ◌*◌, ◌^◌, ℕ, true, false, List, [], length, get_or, set, refl, sym, subst, ap, ◌∙◌, arith, length-set}
 use Rattle.std.proofs.lemmas.List.{get_or-set_same, get_or-set_other}
 use Rattle.std.proofs.lemmas.List.Elements.{All-from_get_or}
 use Rattle.std.proofs.lemmas.List.Sums.{sum_by-set, sum_by-le}
 use Rattle.std.proofs.lemmas.Bool.{cases_eq}
 use Rattle.std.proofs.lemmas.Bool.Decides.{nat_tests}
-use Rattle.std.specs.Prelude.{Ok, Err, ◌==◌, ◌&&◌, nat_le, max}
-use Rattle.st_clusters.specs.Free.{is_v4, free_number, spans_meet}
-use Rattle.st_clusters.specs.Table.{Ids, at, no_session, most_ids, next_free, places_of, with_range, raise_to, is_next, session_of, after_finalising}
-use Rattle.st_clusters.specs.inside.Kept.{session_at, IsSound, AreCounts, AreApart, finals}
+use Rattle.std.specs.Prelude.{Ok, Err}
+use Rattle.st_clusters.specs.Table.{Ids, at, no_session, most_ids, next_free, places_of, with_range, raise_to, is_next, after_finalising}
+use Rattle.st_clusters.specs.inside.Kept.{session_at, IsSound, AreCounts, finals}
 use Rattle.st_clusters.specs.declared.ids.Cluster.{Cluster}
-use Rattle.st_clusters.specs.declared.ids.IdFault.{IdFault}
 use Rattle.st_clusters.specs.declared.ids.IdFault.TheVariants.{RangeOrder}
 use Rattle.st_clusters.specs.declared.ids.IdRange.{IdRange}
 use Rattle.st_clusters.specs.declared.ids.SessionIds.{SessionIds}

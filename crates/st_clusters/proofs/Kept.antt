@@ -1,14 +1,14 @@
 -- What a range of the log keeps.
-use Rattle.std.proofs.Common.{◌≡◌, ◌≢◌, ◌⊎◌, inl, inr, ◌<◌, ◌≤◌, ◌+◌, ◌-◌, ◌*◌, ℕ, zero, suc, Bool, true, false, cond, List, [], ◌∷◌, ◌++◌, length, get_or, set, refl, sym, subst, ap, ◌∙◌, arith, length-set}
+use Rattle.std.proofs.Common.{◌≡◌, ◌≢◌, ◌<◌, ◌≤◌, ◌+◌, ◌-◌, ◌*◌, ℕ, false, List, [], ◌∷◌, ◌++◌, length, set, refl, sym, subst, ◌∙◌, arith, length-set}
 use Rattle.std.proofs.lemmas.Bool.Decides.{nat_tests}
 use Rattle.std.proofs.lemmas.List.{append-nil}
-use Rattle.std.specs.Prelude.{◌==◌, max}
-use Rattle.st_clusters.specs.Table.{at, room, next_free, new_cluster, with_more, with_growth, growth, with_range, places_from, places_of}
+use Rattle.std.specs.Prelude.{◌==◌}
+use Rattle.st_clusters.specs.Table.{at, room, next_free, new_cluster, with_more, with_growth, growth, with_range, places_of}
 use Rattle.st_clusters.specs.inside.Kept.{AreApart, IsLastOf}
 use Rattle.st_clusters.specs.declared.ids.Cluster.{Cluster}
 use Rattle.st_clusters.specs.declared.ids.IdRange.{IdRange}
 use Rattle.st_clusters.proofs.Clusters.{at_set, at_push, apart_set, apart_push, places_push, places_set}
-use Rattle.st_clusters.proofs.Ranges.{IsNoneOf, free_push, free_above, free_some, free_set, free_set_last, range_cases}
+use Rattle.st_clusters.proofs.Ranges.{free_push, free_above, free_some, free_set, free_set_last, range_cases}
 
 -- the ids of a session's clusters end where a range of the session begins, or before
 abbrev pub EndBefore : IdRange → List Cluster → Type 0

@@ -1,20 +1,20 @@
 -- The clusters that the ranges of a log make.
-use Rattle.std.proofs.Common.{◌≡◌, ◌≢◌, ◌⊎◌, inl, inr, ◌<◌, ◌≤◌, ◌+◌, ◌-◌, ℕ, zero, suc, true, false, Bool, cond, List, [], ◌∷◌, ◌++◌, length, get_or, set, refl, sym, subst, ap, ◌∙◌, arith, length-set}
+use Rattle.std.proofs.Common.{◌≡◌, ◌≢◌, inl, inr, ◌<◌, ◌≤◌, ◌+◌, ◌-◌, ℕ, true, false, cond, List, [], ◌∷◌, ◌++◌, length, set, refl, sym, subst, ap, ◌∙◌, arith, length-set}
 use Rattle.std.proofs.lemmas.List.{get_or_push, length_push, get_or-set_same, get_or-set_other, append_assoc, append-nil}
-use Rattle.std.proofs.lemmas.List.Sums.{sum_by_push, fold_push, fold-append}
-use Rattle.std.proofs.lemmas.Bool.{cases_eq, cases_lt, cases_Bool}
+use Rattle.std.proofs.lemmas.List.Sums.{sum_by_push, fold-append}
+use Rattle.std.proofs.lemmas.Bool.{cases_eq, cases_lt}
 use Rattle.std.proofs.lemmas.Bool.Decides.{nat_tests}
-use Rattle.std.specs.Prelude.{◌==◌, ◌&&◌, ◌||◌, nat_le, nat_lt}
-use Rattle.std.specs.List.{fold, list_any}
+use Rattle.std.specs.Prelude.{◌==◌}
+use Rattle.std.specs.List.{fold}
 use Rattle.st_ids.specs.declared.names.Rev.{Rev}
 use Rattle.st_clusters.specs.Table.{at, no_cluster, room, new_cluster, with_more, with_growth, with_range, table_of}
-use Rattle.st_clusters.specs.Names.{IsInTable, IsWithin, IsFinal, IsFinalBefore, opening, is_of, is_later}
+use Rattle.st_clusters.specs.Names.{IsInTable, IsFinal, IsFinalBefore, is_of, is_later}
 use Rattle.st_clusters.specs.Log.{carried, GoOn, AreInTurn}
 use Rattle.st_clusters.specs.inside.Kept.{AreApart, IsLastOf}
 use Rattle.st_clusters.specs.declared.ids.Cluster.{Cluster}
 use Rattle.st_clusters.specs.declared.ids.IdRange.{IdRange}
-use Rattle.st_clusters.proofs.Clusters.{at_set, at_push, at_front, same_at}
-use Rattle.st_clusters.proofs.Ranges.{IsNoneOf, range_cases}
+use Rattle.st_clusters.proofs.Clusters.{at_front, same_at}
+use Rattle.st_clusters.proofs.Ranges.{range_cases}
 use Rattle.st_clusters.proofs.Kept.{EndBefore, range_apart, range_ends}
 use Rattle.st_clusters.proofs.Unique.{one_final}
 use Rattle.st_clusters.proofs.Staying.{EndsAt, stays, new_is_of}

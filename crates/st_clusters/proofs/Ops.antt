@@ -1,5 +1,5 @@
 -- Op-space numbers are names of one id each.
-use Rattle.std.proofs.Common.{◌≡◌, ◌≢◌, ◌⊎◌, inl, inr, ◌<◌, ◌≤◌, ◌+◌, ◌-◌, ℕ, zero, suc, true, false, Bool, List, [], ◌∷◌, length, refl, sym, subst, ap, ◌∙◌, arith, Option, Some, None, MatchOption}
+use Rattle.std.proofs.Common.{◌≡◌, inl, inr, ◌<◌, ◌≤◌, ◌-◌, ℕ, true, false, List, [], length, refl, sym, subst, ap, ◌∙◌, arith, Option, Some, None, MatchOption}
 use Rattle.std.specs.Prelude.{Result, Ok, Err, IfOk, MatchResult, ℤ, pos, negsuc}
 use Rattle.std.specs.Option.{ok_or}
 use Rattle.std.proofs.lemmas.Bool.Decides.{nat_tests}
@@ -7,7 +7,7 @@ use lib.Signed.{le_z}
 use lib.IntN.{nat_abs}
 use Rattle.st_ids.specs.declared.names.Rev.{Rev}
 use Rattle.st_clusters.specs.Table.{at}
-use Rattle.st_clusters.specs.Names.{IsInTable, IsFinal, IsFinalBefore, IsOwn, IsOp, is_later}
+use Rattle.st_clusters.specs.Names.{IsFinal, IsFinalBefore, IsOwn, IsOp}
 use Rattle.st_clusters.specs.inside.Kept.{AreApart}
 use Rattle.st_clusters.specs.declared.ids.Cluster.{Cluster}
 use Rattle.st_clusters.specs.declared.ids.IdRange.{IdRange}

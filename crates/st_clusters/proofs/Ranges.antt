@@ -1,15 +1,15 @@
 -- What a range of the log changes in the clusters.
-use Rattle.std.proofs.Common.{◌≡◌, ◌≢◌, ◌⊎◌, inl, inr, ◌<◌, ◌≤◌, ◌+◌, ◌-◌, ◌*◌, ℕ, zero, suc, Bool, true, false, cond, List, [], ◌∷◌, ◌++◌, length, get_or, set, refl, sym, subst, ap, ◌∙◌, arith, length-set}
+use Rattle.std.proofs.Common.{◌≡◌, ◌≢◌, ◌⊎◌, inl, inr, ◌<◌, ◌≤◌, ◌+◌, ◌-◌, ℕ, true, false, List, [], ◌∷◌, ◌++◌, length, get_or, set, refl, sym, ap, ◌∙◌, arith, length-set}
 use Rattle.std.proofs.lemmas.List.{get_or-set_same, get_or_push, length_push}
 use Rattle.std.proofs.lemmas.Bool.{cases_eq, cases_lt, cases_Bool}
 use Rattle.std.proofs.lemmas.Bool.Decides.{nat_tests}
-use Rattle.std.specs.Prelude.{◌==◌, Option, Some, None, nat_le, max, slice_get}
+use Rattle.std.specs.Prelude.{◌==◌, Option, Some, None, nat_le, slice_get}
 use Rattle.std.proofs.lemmas.Option.{slice_get-get_or}
-use Rattle.st_clusters.specs.Table.{at, no_cluster, room, next_free, new_cluster, with_more, with_growth, growth, put_at, put_range, with_range, places_from, places_of, last_of}
+use Rattle.st_clusters.specs.Table.{at, no_cluster, room, next_free, new_cluster, with_more, with_growth, put_at, with_range, places_of, last_of}
 use Rattle.st_clusters.specs.inside.Kept.{AreApart, IsLastOf}
 use Rattle.st_clusters.specs.declared.ids.Cluster.{Cluster}
 use Rattle.st_clusters.specs.declared.ids.IdRange.{IdRange}
-use Rattle.st_clusters.proofs.Clusters.{at_set, at_push, at_front, same_at, apart_set, apart_push, places_all, places_push, places_set, last_is}
+use Rattle.st_clusters.proofs.Clusters.{same_at, places_all, last_is}
 
 -- ## The next free number
 

@@ -1,22 +1,21 @@
 -- Stable ids are names of one id each.
-use Rattle.std.proofs.Common.{◌≡◌, ◌≢◌, ◌⊎◌, inl, inr, ◌<◌, ◌≤◌, ◌+◌, ◌-◌, ◌^◌, ℕ, zero, suc, true, false, Bool, cond, List, [], ◌∷◌, length, get_or, refl, sym, subst, ap, ◌∙◌, arith, Option, Some, None}
+use Rattle.std.proofs.Common.{◌≡◌, ◌⊎◌, inl, inr, ◌<◌, ◌≤◌, ◌+◌, ◌-◌, ◌^◌, ℕ, true, false, Bool, cond, List, length, get_or, refl, sym, ap, ◌∙◌, arith, Option, Some, None}
 use Rattle.std.proofs.lemmas.Bool.{cases_eq, cases_lt, cases_Bool}
 use Rattle.std.proofs.lemmas.Bool.Decides.{nat_tests}
 use Rattle.std.proofs.lemmas.List.{get_or_read}
 use Rattle.std.proofs.lemmas.List.Quantifiers.{position-Some}
 use Rattle.std.proofs.lemmas.List.Sums.{fails_before_first}
 use Rattle.std.proofs.lemmas.Option.{slice_get-get_or, slice_get_within}
-use Rattle.std.specs.Prelude.{Result, Ok, Err, IfOk, nat_lt, nat_le, ◌==◌, ◌&&◌, slice_get}
-use Rattle.std.specs.List.{position, position_or_len}
+use Rattle.std.specs.Prelude.{Ok, IfOk, nat_lt, nat_le, ◌==◌, ◌&&◌, slice_get}
+use Rattle.std.specs.List.{position_or_len}
 use Rattle.st_ids.specs.declared.names.Rev.{Rev}
 use Rattle.st_clusters.specs.Free.{is_v4, free_number, uuid_of, ahead, free_after, spans_meet}
-use Rattle.st_clusters.specs.Table.{no_session, session_of, most_ids}
+use Rattle.st_clusters.specs.Table.{no_session, session_of}
 use Rattle.st_clusters.specs.Names.{nth_uuid, stable_in, stable_of}
 use Rattle.st_clusters.specs.inside.Kept.{session_at, IsSound, AreCounts}
 use Rattle.st_clusters.specs.inside.Spans.{spanning, id_at}
 use Rattle.st_clusters.specs.declared.ids.Cluster.{Cluster}
 use Rattle.st_clusters.specs.declared.ids.SessionIds.{SessionIds}
-use Rattle.st_clusters.specs.declared.ids.Unknown.{Unknown}
 use Rattle.st_clusters.proofs.Rounds.{after_ahead, ahead_after, after_low, both_meet, free_low, uuid_of_free, free_of_uuid, uuid_is_v4}
 use Rattle.st_clusters.proofs.Unique.{rev_is}
 

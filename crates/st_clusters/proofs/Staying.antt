@@ -1,22 +1,16 @@
 -- What ranges that are added leave as it is.
-use Rattle.std.proofs.Common.{◌≡◌, ◌≢◌, ◌⊎◌, inl, inr, ◌<◌, ◌≤◌, ◌+◌, ◌-◌, ℕ, zero, suc, true, false, Bool, cond, List, [], ◌∷◌, ◌++◌, length, get_or, set, refl, sym, subst, ap, ◌∙◌, arith, length-set}
-use Rattle.std.proofs.lemmas.List.{get_or_push, length_push, get_or-set_same, append_assoc}
-use Rattle.std.proofs.lemmas.List.Sums.{sum_by_push, fold_push}
-use Rattle.std.proofs.lemmas.Bool.{cases_eq, cases_lt, cases_Bool}
+use Rattle.std.proofs.Common.{◌≡◌, ◌⊎◌, inl, inr, ◌<◌, ◌≤◌, ◌+◌, ◌-◌, ℕ, true, List, [], ◌∷◌, ◌++◌, length, set, refl, sym, subst, ◌∙◌, arith, length-set}
+use Rattle.std.proofs.lemmas.List.{length_push}
+use Rattle.std.proofs.lemmas.Bool.{cases_lt}
 use Rattle.std.proofs.lemmas.Bool.Decides.{nat_tests}
-use Rattle.std.specs.Prelude.{◌==◌, ◌&&◌, ◌||◌, nat_le, nat_lt}
-use Rattle.std.specs.List.{fold, list_any}
 use Rattle.st_ids.specs.declared.names.Rev.{Rev}
-use Rattle.st_clusters.specs.Table.{at, no_cluster, room, new_cluster, with_more, with_growth, with_range, table_of}
-use Rattle.st_clusters.specs.Names.{IsInTable, IsWithin, IsFinal, IsFinalBefore, opening, is_of, is_later}
-use Rattle.st_clusters.specs.Log.{carried, GoOn, AreInTurn}
-use Rattle.st_clusters.specs.inside.Kept.{AreApart, IsLastOf}
+use Rattle.st_clusters.specs.Table.{at, room, new_cluster, with_more, with_growth, with_range}
+use Rattle.st_clusters.specs.Names.{IsInTable, IsWithin, IsFinal, is_of}
+use Rattle.st_clusters.specs.inside.Kept.{IsLastOf}
 use Rattle.st_clusters.specs.declared.ids.Cluster.{Cluster}
 use Rattle.st_clusters.specs.declared.ids.IdRange.{IdRange}
 use Rattle.st_clusters.proofs.Clusters.{at_set, at_push, at_front}
-use Rattle.st_clusters.proofs.Ranges.{IsNoneOf, range_cases}
-use Rattle.st_clusters.proofs.Kept.{EndBefore, range_apart, range_ends}
-use Rattle.st_clusters.proofs.Unique.{one_id, one_number, number_some}
+use Rattle.st_clusters.proofs.Ranges.{range_cases}
 
 -- ## A number stays
 

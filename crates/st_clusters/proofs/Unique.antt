@@ -1,12 +1,12 @@
 -- One id, one number.
-use Rattle.std.proofs.Common.{◌≡◌, ◌≢◌, ◌⊎◌, inl, inr, ◌<◌, ◌≤◌, ◌+◌, ◌-◌, ◌*◌, ◌^◌, ℕ, zero, suc, true, false, Bool, List, [], ◌∷◌, length, get_or, refl, sym, subst, ap, ◌∙◌, arith, Option, Some, None, MatchOption}
+use Rattle.std.proofs.Common.{◌≡◌, ◌⊎◌, inl, inr, ◌<◌, ◌≤◌, ◌+◌, ◌-◌, ◌*◌, ◌^◌, ℕ, true, false, List, length, sym, subst, ap, ◌∙◌, arith, Option, Some, None, MatchOption}
 use Rattle.std.proofs.lemmas.Bool.{cases_eq, cases_lt}
 use Rattle.std.proofs.lemmas.Bool.Decides.{nat_tests}
 use Rattle.std.proofs.lemmas.Option.{slice_get-get_or}
 use Rattle.std.specs.Prelude.{slice_get, ◌==◌, IfSome}
 use Rattle.st_ids.specs.declared.names.Rev.{Rev}
-use Rattle.st_clusters.specs.Table.{at, no_session, next_free, session_of, most_ids}
-use Rattle.st_clusters.specs.Names.{IsInTable, IsWithin, IsFinal, IsFinalBefore, opening, is_later}
+use Rattle.st_clusters.specs.Table.{at, no_session, next_free, session_of}
+use Rattle.st_clusters.specs.Names.{IsInTable, IsFinal, IsFinalBefore, opening, is_later}
 use Rattle.st_clusters.specs.inside.Kept.{AreApart, IsSound, AreCounts, session_at}
 use Rattle.st_clusters.specs.declared.ids.Cluster.{Cluster}
 use Rattle.st_clusters.specs.declared.ids.IdRange.{IdRange}

@@ -205,6 +205,20 @@ impl Compressor {
         Some(self.sessions[place].finalised)
     }
 
+    /// The clusters in order.
+    pub fn clusters(&self) -> &[Cluster]
+        ensures { result.now ≡ (ids_of self.now).clusters }
+    {
+        self.clusters.as_slice()
+    }
+
+    /// The sessions in order, of which the first has number 1.
+    pub fn sessions(&self) -> &[SessionIds]
+        ensures { result.now ≡ (ids_of self.now).sessions }
+    {
+        self.sessions.as_slice()
+    }
+
     /// The cluster at a place of the table, counted from 0.
     pub fn cluster(&self, i: usize) -> Option<&Cluster>
         ensures { option_copied result ≡ slice_get (ids_of self.now).clusters i }

@@ -1,5 +1,5 @@
-use Rattle.std.proofs.Common.{◌≡◌, ◌≤◌, ◌+◌, refl, sym, ◌∙◌, ap, arith, Some, None, zero, length, List, ℕ, [], ◌∷◌, ◌++◌, vec_len}
-use Rattle.st_clusters.specs.Table.{at, last_of, places_of}
+use Rattle.std.proofs.Common.{◌≡◌, ◌≤◌, ◌+◌, sym, ◌∙◌, ap, arith, List, [], ◌∷◌, ◌++◌, vec_len}
+use Rattle.st_clusters.specs.Table.{at, places_of}
 use Rattle.st_clusters.specs.inside.Kept.{IsLastOf}
 use Rattle.std.proofs.lemmas.Result.{on_ok_weaker}
 use Rattle.st_clusters.proofs.Clusters.{last_found, places_more, both_ok}

@@ -1,4 +1,4 @@
-use Rattle.std.proofs.Common.{◌≡◌, ◌<◌, ◌≤◌, ◌+◌, arith}
+use Rattle.std.proofs.Common.{◌≤◌, ◌+◌, arith}
 use Rattle.st_clusters.specs.Table.{at, next_free}
 use Rattle.st_clusters.proofs.Finding.{final_found}
 use Rattle.st_clusters.proofs.Ranges.{free_above}

@@ -1,4 +1,4 @@
-use Rattle.std.proofs.Common.{◌≡◌, None, sym, ◌∙◌, ap, arith}
+use Rattle.std.proofs.Common.{sym, ◌∙◌}
 use Rattle.st_clusters.proofs.Joining.{sound_joined}
 use Rattle.st_clusters.proofs.compressor.Compressor.add_session.Goals as goal
 

@@ -1,9 +1,7 @@
-use Rattle.std.proofs.Common.{◌≡◌, ◌<◌, ◌≤◌, ◌+◌, ◌*◌, ◌^◌, ℕ, arith}
-use Rattle.std.specs.Prelude.{MatchOption}
+use Rattle.std.proofs.Common.{◌<◌, ◌+◌, ◌*◌, ◌^◌, arith}
 use Rattle.st_clusters.specs.Table.{next_free}
-use Rattle.st_clusters.specs.Names.{IsInTable}
 use Rattle.st_clusters.proofs.Finalising.{numbers_fit}
-use Rattle.st_clusters.proofs.Unique.{no_final, final_bound}
+use Rattle.st_clusters.proofs.Unique.{final_bound}
 use Rattle.st_clusters.proofs.compressor.Compressor.final_of.Goals as goal
 
 pub final_in-requires-clause-fits : goal.final_in-requires-clause-fits

@@ -1,6 +1,6 @@
-use Rattle.std.proofs.Common.{◌≡◌, ◌≤◌, ◌+◌, true, refl, sym, ◌∙◌, ap, arith}
+use Rattle.std.proofs.Common.{◌≡◌, true, sym, arith}
 use Rattle.st_clusters.specs.Ids.{ids_of}
-use Rattle.st_clusters.specs.Table.{is_next, most_ids}
+use Rattle.st_clusters.specs.Table.{is_next}
 use Rattle.st_clusters.proofs.Finalising.{ends_before, numbers_fit, sound_finalised, finalising, next_parts}
 use Rattle.st_clusters.proofs.compressor.Compressor.finalize.Goals as goal
 

@@ -1,7 +1,5 @@
-use Rattle.std.proofs.Common.{◌≡◌, sym, ◌∙◌, arith}
 use Rattle.std.proofs.lemmas.Int.{to_z-of_z}
 use Rattle.std.specs.Int.{w64}
-use Rattle.std.specs.Prelude.{pos}
 use Rattle.st_clusters.proofs.Ops.{id_of_number, own_is_final, not_negative, negative}
 use Rattle.st_clusters.proofs.compressor.Compressor.id_before_op.Goals as goal
 
