@@ -1,1 +1,2 @@
 pub mod OpText
+pub mod TableText
