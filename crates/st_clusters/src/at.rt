@@ -9,6 +9,7 @@ use st_ids::{List, Rev};
 
 /// The table without the ids of the later ranges, where the session `own`, which the table need
 /// not have, has generated `have` ids.
+#[derive(Clone, Copy)]
 pub struct At<'a> {
     pub ids: &'a Compressor,
     pub own: u32,
