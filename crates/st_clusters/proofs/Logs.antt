@@ -29,10 +29,10 @@ pub record AreMadeBy (before : List IdRange) (cs : List Cluster) : Type 0 where
 carried_more : (s : ℕ) (before : List IdRange) (q : IdRange) → carried s (before ++ q ∷ []) ≡ carried s before + cond (q.session == s) q.count 0
 carried_more s before q = sum_by_push (λ (r : IdRange). cond (r.session == s) r.count 0) before q
 
-carried_own : (s : ℕ) (before : List IdRange) (q : IdRange) → q.session ≡ s → carried s (before ++ q ∷ []) ≡ carried s before + q.count
+pub carried_own : (s : ℕ) (before : List IdRange) (q : IdRange) → q.session ≡ s → carried s (before ++ q ∷ []) ≡ carried s before + q.count
 carried_own s before q own = let test : (q.session == s) ≡ true = grind (arith, nat_tests, own) in carried_more s before q ∙ rw test refl
 
-carried_other : (s : ℕ) (before : List IdRange) (q : IdRange) → q.session ≢ s → carried s (before ++ q ∷ []) ≡ carried s before
+pub carried_other : (s : ℕ) (before : List IdRange) (q : IdRange) → q.session ≢ s → carried s (before ++ q ∷ []) ≡ carried s before
 carried_other s before q other =
     let test : (q.session == s) ≡ false = grind (arith, nat_tests, other) in
     let zero_more : carried s before + 0 ≡ carried s before = omega arith in
@@ -177,7 +177,7 @@ none_of_later before (q ∷ qs) r on low =
     ] in
     rw (first, rest) refl
 
-in_carried : (before : List IdRange) (cs : List Cluster) (r : Rev) (n : ℕ) → AreMadeBy before cs → IsInTable cs r n → r.num ≤ carried r.session before
+pub in_carried : (before : List IdRange) (cs : List Cluster) (r : Rev) (n : ℕ) → AreMadeBy before cs → IsInTable cs r n → r.num ≤ carried r.session before
 in_carried before cs r n made h =
     let e : (at cs h.place).first + (at cs h.place).used ≤ carried (at cs h.place).session before + 1 = made.ends h.place h.there in
     let of_r : carried (at cs h.place).session before ≡ carried r.session before = ap (λ (t : ℕ). carried t before) h.within.own in
@@ -199,7 +199,7 @@ pub is_before : (before later : List IdRange) (cs : List Cluster) (r : Rev) (n :
 is_before before later cs r n made on (inl h) = inl h
 is_before before later cs r n made on (inr h) = inr (in_before before later cs r n made on h.1 h.0)
 
-none_made : AreMadeBy [] []
+pub none_made : AreMadeBy [] []
 none_made = record {
   apart = record {
     some = λ i h. absurd (omega (arith, h));

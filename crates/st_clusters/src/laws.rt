@@ -1,7 +1,7 @@
 //! Laws of the table, over its definition.
-ghost use Rattle.std.specs.Prelude.{◌≡◌, ◌↔◌, ℕ, ℤ, Some, List as Seq, [], ◌∷◌, ◌++◌};
-ghost use Rattle.st_clusters.specs.Log.{AreInTurn};
-ghost use Rattle.st_clusters.specs.Names.{IsFinal, IsFinalBefore, IsOp, stable_of};
+ghost use Rattle.std.specs.Prelude.{◌≡◌, ◌↔◌, ◌⊎◌, ◌≤◌, ℕ, ℤ, Some, List as Seq, [], ◌∷◌, ◌++◌};
+ghost use Rattle.st_clusters.specs.Log.{AreInTurn, carried};
+ghost use Rattle.st_clusters.specs.Names.{opening, IsFinal, IsFinalBefore, IsOp, stable_of};
 ghost use Rattle.st_clusters.specs.Table.{table_of, with_range};
 ghost use Rattle.st_clusters.specs.declared.ids.Cluster.{Cluster as Clusters};
 ghost use Rattle.st_clusters.specs.declared.ids.IdRange.{IdRange as Range};
@@ -13,6 +13,13 @@ use crate::compressor::Compressor;
 /// ended, give no two ids one final number.
 pub fn final_numbers_are_distinct()
     ensures { (rs : Seq Range) → AreInTurn rs → (r s : RevNames) (n : ℕ) → IsFinal (table_of rs) r n → IsFinal (table_of rs) s n → r ≡ s }
+{}
+
+/// The law that such ranges give a final number to each id that they carry, and to no other but the
+/// opening.
+pub fn carried_ids_have_numbers()
+    ensures each { (rs : Seq Range) → AreInTurn rs → (r : RevNames) → 1 ≤ r.num → r.num ≤ carried r.session rs → (n : ℕ) × IsFinal (table_of rs) r n }
+    ensures only { (rs : Seq Range) → AreInTurn rs → (r : RevNames) (n : ℕ) → IsFinal (table_of rs) r n → (r ≡ opening) ⊎ ((1 ≤ r.num) × (r.num ≤ carried r.session rs)) }
 {}
 
 /// The law that a further range leaves each final number as it is.

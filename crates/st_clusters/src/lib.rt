@@ -13,4 +13,6 @@ mod names;
 pub use at::At;
 pub use compressor::Compressor;
 pub use ids::{Cluster, IdFault, IdRange, SessionIds, Unknown};
-pub use laws::{final_numbers_are_distinct, final_numbers_stay, table_is_as_it_was};
+pub use laws::{
+    carried_ids_have_numbers, final_numbers_are_distinct, final_numbers_stay, table_is_as_it_was,
+};
