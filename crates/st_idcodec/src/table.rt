@@ -3,23 +3,33 @@ ghost use Rattle.std.specs.Prelude.{◌≡◌, ℕ, IfOk, map};
 ghost use Rattle.serde_json.specs.Data.{string, array};
 ghost use Rattle.serde_json.specs.View.{view, items_of};
 ghost use Rattle.st_clusters.specs.Ids.{ids_of};
-ghost use Rattle.st_idcodec.specs.TableText.{cluster_data, uuid_data, uuid_text, table_data};
+ghost use Rattle.st_idcodec.specs.TableText.{plain_number, cluster_data, uuid_data, uuid_text, table_data};
 
 use serde_json::{Value, json};
 use st_clusters::{Cluster, Compressor, SessionIds};
 use std::alloc::{AllocError, Global};
 use uuid::Uuid;
 
+// The values of numbers.
+fn numbers_value(alloc: Global, numbers: &[u64]) -> Result<Value, AllocError>
+    ensures { IfOk result (λ v. view v ≡ array (items_of (map plain_number numbers.now))) }
+{
+    let mut items = Vec::new(alloc);
+    for number in numbers {
+        items.push(Value::from(*number))?;
+    }
+    Ok(Value::Array(items))
+}
+
 // The value of a cluster.
 fn cluster_value(alloc: Global, cluster: &Cluster) -> Result<Value, AllocError>
     ensures { IfOk result (λ v. view v ≡ cluster_data cluster.now) }
 {
-    let session = cluster.session;
-    let first = cluster.first;
-    let first_final = cluster.first_final;
-    let capacity = cluster.capacity;
-    let used = cluster.used;
-    json!(in alloc; [session, first, first_final, capacity, used])
+    let session = u64::from(cluster.session);
+    let first = u64::from(cluster.first);
+    let used = u64::from(cluster.used);
+    let numbers = [session, first, cluster.first_final, cluster.capacity, used];
+    numbers_value(alloc, &numbers)
 }
 
 // The values of clusters.
