@@ -1,0 +1,6 @@
+pub mod Free
+pub mod Ids
+pub mod Log
+pub mod Names
+pub mod Table
+pub mod inside

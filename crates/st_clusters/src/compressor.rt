@@ -1,0 +1,193 @@
+//! The table of ids as running code.
+ghost use Rattle.std.specs.Prelude.{◌≡◌, ◌≤◌, ◌<◌, ◌+◌, ◌-◌, Ok, Err, None, length, [], MatchOption, IfOk, IfErr, OnOk, OnErr, slice_get, option_map, option_copied};
+ghost use Rattle.st_ids.specs.Or.{IfRefused};
+ghost use Rattle.st_clusters.specs.Table.{is_next, raise_to, new_session, meeting};
+ghost use Rattle.st_clusters.specs.inside.Kept.{IsSound};
+
+use crate::cluster::put_range;
+use crate::free::{free_number, is_v4, spans_meet};
+use crate::ids::{Cluster, IdFault, IdRange, SessionIds};
+use st_ids::{List, Or};
+use std::alloc::Global;
+
+/// How many ids a session can have.
+const MOST_IDS: u32 = 4_294_967_294;
+
+/// The sessions, the ids that each has generated, and the clusters that give final numbers. Beside
+/// the clusters it keeps the places of each session's, so that an id is found by halving.
+#[derive(Drop)]
+pub struct Compressor {
+    pub(crate) sessions: Vec<SessionIds>,
+    pub(crate) clusters: Vec<Cluster>,
+    pub(crate) places: Vec<List<usize>>,
+    ghost sound: { IsSound sessions.items clusters.items places.items },
+}
+
+impl Compressor {
+    ghost use Rattle.st_clusters.specs.Table.{session_of, after_generating, after_taking, after_rewinding, after_finalising, after_joining, clash};
+    ghost use Rattle.st_clusters.specs.Ids.{ids_of};
+
+    /// A table of no sessions.
+    pub fn new(alloc: Global) -> Compressor
+        ensures { ids_of result ≡ record { sessions = []; clusters = [] } }
+    {
+        Compressor {
+            sessions: Vec::new(alloc),
+            clusters: Vec::new(alloc),
+            places: Vec::new(alloc),
+        }
+    }
+
+    /// The first session whose span of 2^32 stable ids meets that of a UUID.
+    pub fn clash(&self, uuid: u128) -> Option<u32>
+        ensures { result ≡ clash uuid (ids_of self.now).sessions }
+    {
+        let place = meeting(self.sessions.as_slice(), uuid)?;
+        Some(place as u32 + 1)
+    }
+
+    /// A session with that UUID joins: it gets the next number, from 1 on. After an `Err` nothing
+    /// has changed.
+    pub fn add_session(&mut self, alloc: Global, uuid: u128) -> Result<u32, Or<IdFault>>
+        requires { length (ids_of self.old).sessions < 65535 }
+        ensures ok { IfOk result (λ s. after_joining uuid (ids_of self.old) ≡ Ok (s, ids_of self.new)) }
+        ensures refused { IfRefused result (λ f. after_joining uuid (ids_of self.old) ≡ Err f) }
+        ensures err { OnErr result (ids_of self.new ≡ ids_of self.old) }
+    {
+        if !is_v4(uuid) {
+            return Err(Or::Fault(IdFault::NotV4));
+        }
+        if let Some(session) = self.clash(uuid) {
+            return Err(Or::Fault(IdFault::Clash { session }));
+        }
+        self.sessions.reserve(1)?;
+        self.places.push(List::new(alloc))?;
+        self.sessions.push_reserved(new_session(uuid));
+        Ok(self.sessions.len() as u32)
+    }
+
+    // The place of a session among the others.
+    pub(crate) fn place_of(&self, session: u32) -> Option<usize>
+        ensures { MatchOption result (session_of self.now.sessions.items session ≡ None) (λ i. (session ≡ i + 1) × (i < length self.now.sessions.items)) }
+    {
+        let place = (session as usize).checked_sub(1)?;
+        if place < self.sessions.len() {
+            Some(place)
+        } else {
+            None
+        }
+    }
+
+    /// Gives a session one more id, and tells its number.
+    pub fn generate(&mut self, session: u32) -> Result<u32, IdFault>
+        ensures ok { IfOk result (λ n. after_generating session (ids_of self.old) ≡ Ok (n, ids_of self.new)) }
+        ensures refused { IfErr result (λ f. after_generating session (ids_of self.old) ≡ Err f) }
+        ensures err { OnErr result (ids_of self.new ≡ ids_of self.old) }
+    {
+        let Some(place) = self.place_of(session) else {
+            return Err(IdFault::Session);
+        };
+        let ids = self.sessions[place];
+        if ids.generated >= MOST_IDS {
+            return Err(IdFault::Full);
+        }
+        let generated = ids.generated + 1;
+        self.sessions[place] = SessionIds { generated, ..ids };
+        Ok(generated)
+    }
+
+    /// Takes the ids that a session generated and that weren't taken yet.
+    pub fn take_range(&mut self, session: u32) -> Result<IdRange, IdFault>
+        ensures ok { IfOk result (λ r. after_taking session (ids_of self.old) ≡ Ok (r, ids_of self.new)) }
+        ensures refused { IfErr result (λ f. after_taking session (ids_of self.old) ≡ Err f) }
+        ensures err { OnErr result (ids_of self.new ≡ ids_of self.old) }
+    {
+        let Some(place) = self.place_of(session) else {
+            return Err(IdFault::Session);
+        };
+        let ids = self.sessions[place];
+        let taken = ids.generated;
+        self.sessions[place] = SessionIds { taken, ..ids };
+        Ok(IdRange {
+            session,
+            first: ids.taken + 1,
+            count: taken - ids.taken,
+        })
+    }
+
+    /// Gives the ids that a session took and that aren't finalised back, to be taken again.
+    pub fn rewind(&mut self, session: u32) -> Result<(), IdFault>
+        ensures ok { IfOk result (λ _. after_rewinding session (ids_of self.old) ≡ Ok (ids_of self.new)) }
+        ensures refused { IfErr result (λ f. after_rewinding session (ids_of self.old) ≡ Err f) }
+        ensures err { OnErr result (ids_of self.new ≡ ids_of self.old) }
+    {
+        let Some(place) = self.place_of(session) else {
+            return Err(IdFault::Session);
+        };
+        let ids = self.sessions[place];
+        let taken = ids.finalised;
+        self.sessions[place] = SessionIds { taken, ..ids };
+        Ok(())
+    }
+
+    /// Finalises the ids of the next range of a session. After an `Err` nothing has changed.
+    pub fn finalize(&mut self, range: IdRange) -> Result<(), Or<IdFault>>
+        ensures ok { OnOk result (after_finalising range (ids_of self.old) ≡ Ok (ids_of self.new)) }
+        ensures refused { IfRefused result (λ f. after_finalising range (ids_of self.old) ≡ Err f) }
+        ensures err { OnErr result (ids_of self.new ≡ ids_of self.old) }
+    {
+        let Some(place) = self.place_of(range.session) else {
+            return Err(Or::Fault(IdFault::Session));
+        };
+        let ids = self.sessions[place];
+        if !is_next(&range, &ids) {
+            let next = ids.finalised + 1;
+            return Err(Or::Fault(IdFault::RangeOrder { next }));
+        }
+        put_range(&mut self.clusters, &mut self.places[place], range)?;
+        self.sessions[place] = raise_to(ids, ids.finalised + range.count);
+        Ok(())
+    }
+}
+
+// Whether a range is the next one of a session.
+fn is_next(range: &IdRange, ids: &SessionIds) -> bool
+    requires { ids.now.finalised ≤ 4294967294 }
+    ensures { result ≡ is_next range.now ids.now }
+{
+    range.first == ids.finalised + 1 && range.count <= MOST_IDS - ids.finalised
+}
+
+// A session whose ids are finalised up to a number.
+fn raise_to(ids: SessionIds, count: u32) -> SessionIds
+    ensures { result ≡ raise_to ids count }
+{
+    SessionIds {
+        generated: ids.generated.max(count),
+        taken: ids.taken.max(count),
+        finalised: count,
+        ..ids
+    }
+}
+
+// A session that has no ids yet.
+fn new_session(uuid: u128) -> SessionIds
+    ensures { result ≡ new_session uuid }
+{
+    SessionIds {
+        uuid,
+        generated: 0,
+        taken: 0,
+        finalised: 0,
+    }
+}
+
+// The place of the first session whose span meets that of a UUID.
+fn meeting(sessions: &[SessionIds], uuid: u128) -> Option<usize>
+    ensures { result ≡ meeting uuid sessions.now }
+{
+    let free = free_number(uuid);
+    sessions
+        .iter()
+        .position(|ids| spans_meet(free_number(ids.uuid), free))
+}

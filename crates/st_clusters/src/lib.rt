@@ -1,0 +1,18 @@
+//! The ids of sessions: final numbers in clusters, and stable ids.
+#![tactic(auto)]
+
+mod at;
+mod cluster;
+mod compressor;
+mod free;
+mod ids;
+mod laws;
+mod look;
+mod names;
+
+pub use at::At;
+pub use compressor::Compressor;
+pub use ids::{Cluster, IdFault, IdRange, SessionIds, Unknown};
+pub use laws::{
+    carried_ids_have_numbers, final_numbers_are_distinct, final_numbers_stay, table_is_as_it_was,
+};

@@ -1,0 +1,2 @@
+pub mod OpText
+pub mod TableText
