@@ -5,7 +5,7 @@ use st_marks::{
     Change, How, Intent, Mark, RegMark, RowMarks, Spot, Step, Verdict, after, back_leads_back,
     before, carrying_out_extends, extends_in_turn, fits_later, is_same_cell, is_same_node,
     is_same_rev, joined_in_turn, one_embedding, one_step, one_tree, one_verdict, retreat_extends,
-    row_edits_are_never_void, rows_keep_their_order, run_in_turn,
+    rows_keep_their_order, run_in_turn,
 };
 use std::alloc::{AllocError, Global};
 use std::test::Fail;
@@ -155,7 +155,6 @@ fn first_use(rt: HostRuntime) -> Result<(), Fail> {
     one_tree();
     one_verdict();
     retreat_extends();
-    row_edits_are_never_void();
     rows_keep_their_order();
     run_in_turn();
     let counted = cells_are_counted(rt.alloc())?;

@@ -1,6 +1,5 @@
 pub mod Members
 pub mod Lookups
-pub mod RowEdits
 pub mod Climb
 pub mod NoRing
 pub mod NewRows

@@ -5,7 +5,6 @@ pub mod Intent
 pub mod CarryOut
 pub mod Verdict
 pub mod Run
-pub mod RowEdits
 pub mod Join
 pub mod Back
 pub mod Row

@@ -18,8 +18,7 @@ ghost use Rattle.st_marks.specs.Verdict.{IsVerdict, IsAboveItself, carried};
 ghost use Rattle.st_marks.specs.Back.{IsBack, retreat};
 ghost use Rattle.st_marks.specs.Join.{AreParts, IsJoin};
 ghost use Rattle.st_marks.specs.LiveTree.{Shows, IsTreeText};
-ghost use Rattle.st_marks.specs.Run.{Run, FitsInTurn, run_whole};
-ghost use Rattle.st_marks.specs.RowEdits.{IsOneRow, IsRowEdit};
+ghost use Rattle.st_marks.specs.Run.{Run, FitsInTurn};
 
 /// An intent that fits a sound document leaves one that is sound and extends it: carried out whole where it makes no
 /// ring, void always, and so whatever its verdict is.
@@ -90,12 +89,4 @@ pub fn joined_in_turn()
 pub fn one_tree()
     ensures tree { (is_array : List ℕ → Bool) (D : Document) (n : NodeId) (t u : Data) → Shows is_array D n t → Shows is_array D n u → t ≡ u }
     ensures text { (is_array : List ℕ → Bool) (D : Document) (t u : List ℕ) → IsTreeText is_array D t → IsTreeText is_array D u → t ≡ u }
-{}
-
-/// An edit of the root's row, in a document that has nothing else, is sound, and the document after has nothing else
-/// either. So a list of such edits is carried out whole.
-pub fn row_edits_are_never_void()
-    ensures sound { (D : Document) (N : Intent) → IsOneRow D → IsRowEdit D.schemas N → IsVerdict D N Verdict.Sound }
-    ensures again { (D : Document) (N : Intent) → IsOneRow D → IsRowEdit D.schemas N → IsOneRow (full D N) }
-    ensures run { (D : Document) (Ns : List Intent) → IsOneRow D → AllByRecursion (IsRowEdit D.schemas) Ns → Run D Ns (run_whole D Ns) }
 {}

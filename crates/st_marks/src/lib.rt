@@ -19,7 +19,7 @@ pub use changes::{Change, NewNode};
 pub use intents::{Group, Intent, Owned, Put, To};
 pub use laws::{
     back_leads_back, carrying_out_extends, extends_in_turn, fits_later, joined_in_turn, one_tree,
-    one_verdict, retreat_extends, row_edits_are_never_void, rows_keep_their_order, run_in_turn,
+    one_verdict, retreat_extends, rows_keep_their_order, run_in_turn,
 };
 pub use laws_of_listings::{one_embedding, one_step};
 pub use lengths::{after, before};

@@ -6,7 +6,7 @@ ghost use Rattle.st_io.specs.Counts.{Rose};
 ghost use Rattle.serde_json.specs.View.{view};
 ghost use Rattle.st_script.specs.AnswerText.{answer_line};
 ghost use Rattle.st_script.specs.Header.{header_view, header_line};
-ghost use Rattle.st_script.specs.Line.{line_of};
+ghost use Rattle.st_script.specs.Line.{line_of, line_view};
 ghost use Rattle.st_script.specs.Steps.{step_view};
 ghost use Rattle.st_trace.specs.Kept.{IsSound};
 ghost use Rattle.st_trace.specs.World.{begun};
@@ -99,6 +99,34 @@ fn take_step<K: Sink>(
     }
 }
 
+// Answers what a line was read as. At `Err` the run has ended.
+fn take_read<K: Sink>(
+    alloc: Global,
+    world: &mut World,
+    number: u32,
+    line: &[u8],
+    read: &Line,
+    sink: &mut K,
+) -> Result<(), Outcome>
+    requires sound { (world.old.spent ≡ false) × IsSound world.old }
+    requires few { world.old.steps + 1 < 2 ^ 32 }
+    requires read { line_view read.now ≡ line_of line.now }
+    ensures ok { OnOk result (IsLineAnswered (header_view world.old.header) (line_of line.now)
+        world.old.lists world.new.lists (K.written sink.old) (K.written sink.new)) }
+    ensures ended { IfErr result (IsOutput (K.written sink.old) (K.written sink.new)
+        (EndsAtLine (header_view world.old.header) number (line_of line.now) world.old.lists)) }
+    ensures fault { result ≡ Err Outcome.WriteFault → Rose (K.faults sink.old) (K.faults sink.new) }
+    ensures later { K.faults sink.old ≤ K.faults sink.new }
+    ensures sound { OnOk result ((world.new.spent ≡ false) × IsSound world.new) }
+    ensures steps { OnOk result (world.new.steps ≡ world.old.steps + 1) }
+    ensures header { OnOk result (world.new.header ≡ world.old.header) }
+{
+    match read {
+        Line::Step(step) => take_step(alloc, world, number, line, step, sink),
+        Line::Bad(cause) => Err(refuse(alloc, number, *cause, sink)),
+    }
+}
+
 // Answers one line. At `Err` the run has ended.
 fn take_line<K: Sink>(
     alloc: Global,
@@ -120,8 +148,7 @@ fn take_line<K: Sink>(
     ensures header { OnOk result (world.new.header ≡ world.old.header) }
 {
     match read_step_line(alloc, line) {
-        Ok(Line::Step(step)) => take_step(alloc, world, number, line, &step, sink),
-        Ok(Line::Bad(cause)) => Err(refuse(alloc, number, cause, sink)),
+        Ok(read) => take_read(alloc, world, number, line, &read, sink),
         Err(_) => Err(Outcome::NoMemory),
     }
 }
