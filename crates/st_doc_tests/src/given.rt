@@ -38,10 +38,10 @@ fn start(alloc: Global, schema: &Schema, tree: &Tree) -> Result<Doc, Fail>
     if check(tree) != Ok(()) {
         return Err(Fail::from("too large"));
     }
-    if schema.allows(schema.root(), tree).is_err() {
-        return Err(Fail::from("not allowed"));
+    match schema.allows(schema.root(), tree) {
+        Ok(()) => Ok(Doc::start(alloc, Text::from_str(alloc, SCHEMA)?, tree)?),
+        Err(_) => Err(Fail::from("not allowed")),
     }
-    Ok(Doc::start(alloc, Text::from_str(alloc, SCHEMA)?, tree)?)
 }
 
 /// The document that opens with the tree of a line.
