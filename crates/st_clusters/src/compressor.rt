@@ -53,6 +53,7 @@ impl Compressor {
         ensures ok { IfOk result (λ s. after_joining uuid (ids_of self.old) ≡ Ok (s, ids_of self.new)) }
         ensures refused { IfRefused result (λ f. after_joining uuid (ids_of self.old) ≡ Err f) }
         ensures err { OnErr result (ids_of self.new ≡ ids_of self.old) }
+        ensures count { OnOk result (length (ids_of self.new).sessions ≡ length (ids_of self.old).sessions + 1) }
     {
         if !is_v4(uuid) {
             return Err(Or::Fault(IdFault::NotV4));
@@ -83,6 +84,7 @@ impl Compressor {
         ensures ok { IfOk result (λ n. after_generating session (ids_of self.old) ≡ Ok (n, ids_of self.new)) }
         ensures refused { IfErr result (λ f. after_generating session (ids_of self.old) ≡ Err f) }
         ensures err { OnErr result (ids_of self.new ≡ ids_of self.old) }
+        ensures count { length (ids_of self.new).sessions ≡ length (ids_of self.old).sessions }
     {
         let Some(place) = self.place_of(session) else {
             return Err(IdFault::Session);
@@ -101,6 +103,7 @@ impl Compressor {
         ensures ok { IfOk result (λ r. after_taking session (ids_of self.old) ≡ Ok (r, ids_of self.new)) }
         ensures refused { IfErr result (λ f. after_taking session (ids_of self.old) ≡ Err f) }
         ensures err { OnErr result (ids_of self.new ≡ ids_of self.old) }
+        ensures count { length (ids_of self.new).sessions ≡ length (ids_of self.old).sessions }
     {
         let Some(place) = self.place_of(session) else {
             return Err(IdFault::Session);
@@ -120,6 +123,7 @@ impl Compressor {
         ensures ok { IfOk result (λ _. after_rewinding session (ids_of self.old) ≡ Ok (ids_of self.new)) }
         ensures refused { IfErr result (λ f. after_rewinding session (ids_of self.old) ≡ Err f) }
         ensures err { OnErr result (ids_of self.new ≡ ids_of self.old) }
+        ensures count { length (ids_of self.new).sessions ≡ length (ids_of self.old).sessions }
     {
         let Some(place) = self.place_of(session) else {
             return Err(IdFault::Session);
@@ -135,6 +139,7 @@ impl Compressor {
         ensures ok { OnOk result (after_finalising range (ids_of self.old) ≡ Ok (ids_of self.new)) }
         ensures refused { IfRefused result (λ f. after_finalising range (ids_of self.old) ≡ Err f) }
         ensures err { OnErr result (ids_of self.new ≡ ids_of self.old) }
+        ensures count { length (ids_of self.new).sessions ≡ length (ids_of self.old).sessions }
     {
         let Some(place) = self.place_of(range.session) else {
             return Err(Or::Fault(IdFault::Session));
