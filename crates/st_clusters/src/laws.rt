@@ -1,13 +1,20 @@
 //! Laws of the table, over its definition.
-ghost use Rattle.std.specs.Prelude.{◌≡◌, ◌↔◌, ◌⊎◌, ◌≤◌, ℕ, ℤ, Some, List as Seq, [], ◌∷◌, ◌++◌};
-ghost use Rattle.st_clusters.specs.Log.{AreInTurn, carried};
+ghost use Rattle.std.specs.Prelude.{◌≡◌, ◌↔◌, ◌⊎◌, ◌≤◌, ℕ, ℤ, Ok, Some, List as Seq, [], ◌∷◌, ◌++◌};
+ghost use Rattle.st_clusters.specs.Log.{AreInTurn, IsFresh, after_log, carried};
 ghost use Rattle.st_clusters.specs.Names.{opening, IsFinal, IsFinalBefore, IsOp, stable_of};
-ghost use Rattle.st_clusters.specs.Table.{table_of, with_range};
+ghost use Rattle.st_clusters.specs.Table.{Ids, table_of, with_range};
 ghost use Rattle.st_clusters.specs.declared.ids.Cluster.{Cluster as Clusters};
 ghost use Rattle.st_clusters.specs.declared.ids.IdRange.{IdRange as Range};
 ghost use Rattle.st_ids.specs.declared.names.Rev.{Rev as RevNames};
 
 use crate::compressor::Compressor;
+
+/// The law that a table in which no id was finalised, and then some ranges in turn, is the table
+/// of these ranges, each of which goes on where the last one of its session ended. So two tables
+/// in which the same ranges were finalised in one order have the same final numbers.
+pub fn finalising_is_the_fold()
+    ensures { (rs : Seq Range) (t u : Ids) → IsFresh t → after_log rs t ≡ Ok u → AreInTurn rs × (u.clusters ≡ table_of rs) }
+{}
 
 /// The law that the ranges of a log, each of which goes on where the last one of its session
 /// ended, give no two ids one final number.
