@@ -1,13 +1,13 @@
 -- A table whose ranges are finalised in turn is the table of these ranges.
-use Rattle.std.proofs.Common.{◌≡◌, ◌≢◌, ◌⊎◌, inl, inr, ◌<◌, ◌≤◌, ◌+◌, ◌-◌, ℕ, zero, suc, true, false, cond, List, [], ◌∷◌, ◌++◌, length, get_or, set, refl, sym, subst, ap, ◌∙◌, arith, length-set, Option, Some, None}
-use Rattle.std.proofs.lemmas.List.{get_or-set_same, get_or-set_other, append_assoc, append-nil}
+use Rattle.std.proofs.Common.{◌≡◌, ◌≢◌, ◌⊎◌, inl, inr, ◌<◌, ◌+◌, ◌-◌, ℕ, true, false, List, [], ◌∷◌, ◌++◌, length, set, refl, sym, ap, ◌∙◌, arith, length-set, Some}
+use Rattle.std.proofs.lemmas.List.{get_or-set_same, get_or-set_other}
 use Rattle.std.proofs.lemmas.Bool.{cases_eq, cases_Bool}
 use Rattle.std.proofs.lemmas.Bool.Decides.{nat_tests}
 use Rattle.std.proofs.lemmas.Option.{slice_get-get_or}
-use Rattle.std.specs.Prelude.{Result, Ok, Err, ◌==◌, slice_get, if◌then◌else◌}
+use Rattle.std.specs.Prelude.{Result, Ok, Err, ◌==◌}
 use Rattle.std.specs.List.{fold}
-use Rattle.st_clusters.specs.Table.{Ids, no_session, session_of, on_session, is_next, raise_to, with_range, table_of, after_finalising}
-use Rattle.st_clusters.specs.Log.{carried, GoOn, AreInTurn, and_then, after_log, IsFresh}
+use Rattle.st_clusters.specs.Table.{Ids, no_session, session_of, is_next, raise_to, with_range, table_of, after_finalising}
+use Rattle.st_clusters.specs.Log.{carried, GoOn, AreInTurn, after_log, IsFresh}
 use Rattle.st_clusters.specs.inside.Kept.{session_at}
 use Rattle.st_clusters.specs.declared.ids.Cluster.{Cluster}
 use Rattle.st_clusters.specs.declared.ids.IdFault.{IdFault}
