@@ -4,6 +4,7 @@
 mod at;
 mod cluster;
 mod compressor;
+mod copy;
 mod free;
 mod ids;
 mod laws;
