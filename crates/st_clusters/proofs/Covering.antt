@@ -1,13 +1,12 @@
 -- Each finalised id has a final number.
-use Rattle.std.proofs.Common.{◌≡◌, ◌≢◌, ◌⊎◌, inl, inr, ◌<◌, ◌≤◌, ◌+◌, ◌-◌, ℕ, true, false, cond, List, [], ◌∷◌, ◌++◌, length, set, refl, sym, subst, ap, ◌∙◌, arith, length-set}
+use Rattle.std.proofs.Common.{◌≡◌, ◌⊎◌, inl, inr, ◌<◌, ◌≤◌, ◌+◌, ◌-◌, ℕ, List, [], ◌∷◌, ◌++◌, length, set, refl, sym, subst, ap, ◌∙◌, arith, length-set}
 use Rattle.std.proofs.lemmas.List.{get_or_append_left, get_or_push, length_push, get_or-set_same, append_assoc, append-nil}
 use Rattle.std.proofs.lemmas.Bool.{cases_eq, cases_lt}
-use Rattle.std.specs.List.{fold}
 use Rattle.st_ids.specs.declared.names.Rev.{Rev}
 use Rattle.st_clusters.specs.Table.{at, no_cluster, room, new_cluster, with_more, with_growth, with_range, table_of}
 use Rattle.st_clusters.specs.Names.{IsInTable, IsWithin, IsFinal, opening}
 use Rattle.st_clusters.specs.Log.{carried, GoOn, AreInTurn}
-use Rattle.st_clusters.specs.inside.Kept.{AreApart, IsLastOf}
+use Rattle.st_clusters.specs.inside.Kept.{AreApart}
 use Rattle.st_clusters.specs.declared.ids.Cluster.{Cluster}
 use Rattle.st_clusters.specs.declared.ids.IdRange.{IdRange}
 use Rattle.st_clusters.proofs.Ranges.{range_cases}
@@ -19,25 +18,34 @@ abbrev pub HasNumber : List Cluster → Rev → Type 0
 HasNumber cs r = (n : ℕ) × IsInTable cs r n
 
 in_last : (cs : List Cluster) (c : Cluster) (r : Rev) → c.session ≡ r.session → c.first ≤ r.num → r.num < c.first + c.used → HasNumber (cs ++ c ∷ []) r
-in_last cs c r own from before = (c.first_final + (r.num - c.first), record {
-  place = length cs;
-  there = let long : length (cs ++ c ∷ []) ≡ length cs + 1 = length_push cs c in omega (arith, long);
-  within = subst (λ (x : Cluster). IsWithin x r (c.first_final + (r.num - c.first))) (sym (get_or_push cs c no_cluster (length cs) refl)) (record { own = own; from = from; before = before; number = refl });
-})
+in_last cs c r own from before = (
+  c.first_final + (r.num - c.first),
+  record {
+    place = length cs;
+    there = let long : length (cs ++ c ∷ []) ≡ length cs + 1 = length_push cs c in omega (arith, long);
+    within = subst (λ (x : Cluster). IsWithin x r (c.first_final + (r.num - c.first))) (sym (get_or_push cs c no_cluster (length cs) refl)) (record { own = own; from = from; before = before; number = refl });
+  },
+)
 
 in_set : (cs : List Cluster) (i : ℕ) (c : Cluster) (r : Rev) → i < length cs → c.session ≡ r.session → c.first ≤ r.num → r.num < c.first + c.used → HasNumber (set cs i c) r
-in_set cs i c r within own from before = (c.first_final + (r.num - c.first), record {
-  place = i;
-  there = let long : length (set cs i c) ≡ length cs = length-set cs i c in omega (arith, long, within);
-  within = subst (λ (x : Cluster). IsWithin x r (c.first_final + (r.num - c.first))) (sym (get_or-set_same cs i c no_cluster within)) (record { own = own; from = from; before = before; number = refl });
-})
+in_set cs i c r within own from before = (
+  c.first_final + (r.num - c.first),
+  record {
+    place = i;
+    there = let long : length (set cs i c) ≡ length cs = length-set cs i c in omega (arith, long, within);
+    within = subst (λ (x : Cluster). IsWithin x r (c.first_final + (r.num - c.first))) (sym (get_or-set_same cs i c no_cluster within)) (record { own = own; from = from; before = before; number = refl });
+  },
+)
 
 in_front : (cs : List Cluster) (c : Cluster) (r : Rev) → HasNumber cs r → HasNumber (cs ++ c ∷ []) r
-in_front cs c r h = (h.0, record {
-  place = h.1.place;
-  there = let long : length (cs ++ c ∷ []) ≡ length cs + 1 = length_push cs c in omega (arith, long, h.1.there);
-  within = subst (λ (x : Cluster). IsWithin x r h.0) (sym (get_or_append_left cs (c ∷ []) no_cluster h.1.place h.1.there)) h.1.within;
-})
+in_front cs c r h = (
+  h.0,
+  record {
+    place = h.1.place;
+    there = let long : length (cs ++ c ∷ []) ≡ length cs + 1 = length_push cs c in omega (arith, long, h.1.there);
+    within = subst (λ (x : Cluster). IsWithin x r h.0) (sym (get_or_append_left cs (c ∷ []) no_cluster h.1.place h.1.there)) h.1.within;
+  },
+)
 
 -- the ids of a range have numbers once it is added
 range_covers : (q : IdRange) (cs : List Cluster) (r : Rev) → EndsAt q cs → AreApart cs → q.session ≡ r.session → q.first ≤ r.num → r.num < q.first + q.count → HasNumber (with_range q cs) r
@@ -45,15 +53,15 @@ range_covers q cs r ends apart own from before = range_cases (λ ds. HasNumber d
     (λ none. absurd (omega (arith, none, from, before)))
     (λ some none. in_last cs (new_cluster cs q.session q.first q.count) r own from before)
     (λ i some last fits. let end : (at cs i).first + (at cs i).used ≡ q.first = ends i last in
-      in_set cs i (with_more (at cs i) q.count) r last.there (last.own ∙ own) (omega (arith, end, from)) (omega (arith, end, before)))
+    in_set cs i (with_more (at cs i) q.count) r last.there (last.own ∙ own) (omega (arith, end, from)) (omega (arith, end, before)))
     (λ i last past inner. let end : (at cs i).first + (at cs i).used ≡ q.first = ends i last in
-      in_set cs i (with_growth (at cs i) q.count) r last.there (last.own ∙ own) (omega (arith, end, from)) (omega (arith, end, before)))
+    in_set cs i (with_growth (at cs i) q.count) r last.there (last.own ∙ own) (omega (arith, end, from)) (omega (arith, end, before)))
     (λ i last past inner. let end : (at cs i).first + (at cs i).used ≡ q.first = ends i last in
-      elim (cases_lt r.num (q.first + room (at cs i))) [
-        | inl l ↦ in_front (set cs i (with_more (at cs i) (room (at cs i)))) (new_cluster cs q.session (q.first + room (at cs i)) (q.count - room (at cs i))) r
-            (in_set cs i (with_more (at cs i) (room (at cs i))) r last.there (last.own ∙ own) (omega (arith, end, from)) (omega (arith, end, l)))
-        | inr g ↦ in_last (set cs i (with_more (at cs i) (room (at cs i)))) (new_cluster cs q.session (q.first + room (at cs i)) (q.count - room (at cs i))) r own g (omega (arith, before, past))
-      ])
+    elim (cases_lt r.num (q.first + room (at cs i))) [
+      | inl l ↦ in_front (set cs i (with_more (at cs i) (room (at cs i)))) (new_cluster cs q.session (q.first + room (at cs i)) (q.count - room (at cs i))) r
+          (in_set cs i (with_more (at cs i) (room (at cs i))) r last.there (last.own ∙ own) (omega (arith, end, from)) (omega (arith, end, l)))
+      | inr g ↦ in_last (set cs i (with_more (at cs i) (room (at cs i)))) (new_cluster cs q.session (q.first + room (at cs i)) (q.count - room (at cs i))) r own g (omega (arith, before, past))
+    ])
 
 -- every id that some ranges carry has a number
 abbrev pub AreCovered : List IdRange → List Cluster → Type 0
@@ -75,7 +83,7 @@ covered_by_all : (before rs : List IdRange) (cs : List Cluster) → AreMadeBy be
 covered_by_all before [] cs made on covered = rw (append-nil before) covered
 covered_by_all before (q ∷ qs) cs made on covered =
     let all : AreCovered ((before ++ q ∷ []) ++ qs) (after (with_range q cs) qs) =
-      covered_by_all (before ++ q ∷ []) qs (with_range q cs) (made_more before q cs made on.0 on.1) on.2 (covered_more before q cs made on.1 covered) in
+    covered_by_all (before ++ q ∷ []) qs (with_range q cs) (made_more before q cs made on.0 on.1) on.2 (covered_more before q cs made on.1 covered) in
     rw append_assoc at all
 
 pub law_covered : (rs : List IdRange) → AreInTurn rs → (r : Rev) → 1 ≤ r.num → r.num ≤ carried r.session rs → (n : ℕ) × IsFinal (table_of rs) r n

@@ -49,11 +49,11 @@ pub record IsStable (ss : List SessionIds) (r : Rev) (u : ℕ) : Type 0 where
   pub made : r.num ≤ (session_at ss place).generated
   pub is : u ≡ nth_uuid (session_at ss place) r.num
 
-cases_session : (o : Option SessionIds) → (o ≡ None) ⊎ ((x : SessionIds) × (o ≡ Some x))
+pub cases_session : (o : Option SessionIds) → (o ≡ None) ⊎ ((x : SessionIds) × (o ≡ Some x))
 cases_session None = inl refl
 cases_session (Some x) = inr (x, refl)
 
-session_known : (ss : List SessionIds) (s : ℕ) (x : SessionIds) → session_of ss s ≡ Some x → (s ≡ (s - 1) + 1) × (s - 1 < length ss) × (session_at ss (s - 1) ≡ x)
+pub session_known : (ss : List SessionIds) (s : ℕ) (x : SessionIds) → session_of ss s ≡ Some x → (s ≡ (s - 1) + 1) × (s - 1 < length ss) × (session_at ss (s - 1) ≡ x)
 session_known ss s x e = elim (cases_Bool (s == 0)) [
   | inl t ↦ let none : None ≡ Some x = rw t at e in cc
   | inr t ↦

@@ -1,7 +1,14 @@
 -- The ranges of the log, each of which goes on where the last one of its session ended.
-use Rattle.std.specs.Prelude.{ℕ, ◌≡◌, ◌+◌, ◌≤◌, ◌==◌, List, [], ◌∷◌, ◌++◌, cond}
+use Rattle.std.specs.Prelude.{ℕ, ◌≡◌, ◌+◌, ◌≤◌, ◌==◌, List, [], ◌∷◌, ◌++◌, cond, Some, Result, Ok, Err}
 use Rattle.std.specs.List.{sum_by}
+use Rattle.st_clusters.specs.Table.{Ids, session_of, after_finalising}
+use Rattle.st_clusters.specs.declared.ids.IdFault.{IdFault}
 use Rattle.st_clusters.specs.declared.ids.IdRange.{IdRange}
+use Rattle.st_clusters.specs.declared.ids.SessionIds.{SessionIds}
+
+abbrev pub and_then : {A E B : Type 0} → Result A E → (A → Result B E) → Result B E
+and_then (Ok a) f = f a
+and_then (Err e) f = Err e
 
 -- how many ids of a session some ranges carry
 abbrev pub carried : ℕ → List IdRange → ℕ
@@ -15,3 +22,12 @@ GoOn before (r ∷ rs) = (1 ≤ r.session) × (r.first ≡ carried r.session bef
 -- ranges that go on from the beginning
 abbrev pub AreInTurn : List IdRange → Type 0
 AreInTurn rs = GoOn [] rs
+
+-- the table after some ranges are finalised in turn, or the first refusal
+abbrev pub after_log : List IdRange → Ids → Result Ids IdFault
+after_log [] t = Ok t
+after_log (r ∷ rs) t = and_then (after_finalising r t) (λ u. after_log rs u)
+
+-- no id is finalised yet
+abbrev pub IsFresh : Ids → Type 0
+IsFresh t = (t.clusters ≡ []) × ((s : ℕ) (x : SessionIds) → session_of t.sessions s ≡ Some x → x.finalised ≡ 0)

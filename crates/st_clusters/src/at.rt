@@ -1,6 +1,5 @@
 //! The table as the author of a message saw it.
 ghost use Rattle.std.specs.Prelude.{◌≡◌, ℕ, ℤ, Ok, IfOk};
-ghost use Rattle.st_clusters.specs.Names.{IsOp};
 ghost use Rattle.st_ids.specs.declared.names.Rev.{Rev as RevNames};
 
 use crate::compressor::Compressor;
@@ -18,10 +17,12 @@ pub struct At<'a> {
 }
 
 impl<'a> At<'a> {
+    ghost use Rattle.st_clusters.specs.Ids.{IsOpAt};
+
     /// The op-space number of an id.
     pub fn to_op(&self, rev: Rev) -> Result<i64, Unknown>
-        ensures ok { IfOk result (λ z. IsOp self.now.ids.now.clusters.items self.now.later.now self.now.own self.now.have rev z) }
-        ensures back { (z : ℤ) → IsOp self.now.ids.now.clusters.items self.now.later.now self.now.own self.now.have rev z → result ≡ Ok z }
+        ensures ok { IfOk result (λ z. IsOpAt self.now rev z) }
+        ensures back { (z : ℤ) → IsOpAt self.now rev z → result ≡ Ok z }
     {
         self.ids
             .op_before(self.later.as_slice(), self.own, self.have, rev)
@@ -29,8 +30,8 @@ impl<'a> At<'a> {
 
     /// The id that has an op-space number.
     pub fn from_op(&self, id: i64) -> Result<Rev, Unknown>
-        ensures ok { IfOk result (λ r. IsOp self.now.ids.now.clusters.items self.now.later.now self.now.own self.now.have r id) }
-        ensures back { (r : RevNames) → IsOp self.now.ids.now.clusters.items self.now.later.now self.now.own self.now.have r id → result ≡ Ok r }
+        ensures ok { IfOk result (λ r. IsOpAt self.now r id) }
+        ensures back { (r : RevNames) → IsOpAt self.now r id → result ≡ Ok r }
     {
         self.ids
             .id_before_op(self.later.as_slice(), self.own, self.have, id)

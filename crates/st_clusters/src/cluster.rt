@@ -72,10 +72,12 @@ fn put_at(
     requires there { place < vec_len clusters.old }
     requires own { (at clusters.old.items place).session ≡ range.session }
     requires numbers { next_free clusters.old.items + 512 * range.count < 2 ^ 63 }
-    requires ids { (at clusters.old.items place).first + (at clusters.old.items place).used + range.count < 2 ^ 32 }
+    requires ids { (at clusters.old.items place).first + (at clusters.old.items place).used +
+        range.count < 2 ^ 32 }
     requires range_ids { range.first + range.count < 2 ^ 32 }
     ensures ok { OnOk result (clusters.new.items ≡ put_at range clusters.old.items place) }
-    ensures places { OnOk result (places.old ≡ places_of range.session clusters.old.items → places.new ≡ places_of range.session clusters.new.items) }
+    ensures places { OnOk result (places.old ≡ places_of range.session clusters.old.items
+        → places.new ≡ places_of range.session clusters.new.items) }
     ensures err { OnErr result (clusters.new.items ≡ clusters.old.items) }
     ensures err_places { OnErr result (places.new ≡ places.old) }
 {
@@ -118,7 +120,9 @@ pub(crate) fn put_range(
     requires apart { AreApart clusters.old.items }
     requires places { places.old ≡ places_of range.session clusters.old.items }
     requires numbers { next_free clusters.old.items + 512 * range.count < 2 ^ 63 }
-    requires ids { (i : ℕ) → i < vec_len clusters.old → (at clusters.old.items i).session ≡ range.session → (at clusters.old.items i).first + (at clusters.old.items i).used ≤ range.first }
+    requires ids { (i : ℕ) → i < vec_len clusters.old → (at clusters.old.items i).session
+        ≡ range.session
+        → (at clusters.old.items i).first + (at clusters.old.items i).used ≤ range.first }
     requires range_ids { range.first + range.count < 2 ^ 32 }
     ensures ok { OnOk result (clusters.new.items ≡ with_range range clusters.old.items) }
     ensures places { OnOk result (places.new ≡ places_of range.session clusters.new.items) }

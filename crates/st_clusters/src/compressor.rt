@@ -50,9 +50,12 @@ impl Compressor {
     /// has changed.
     pub fn add_session(&mut self, alloc: Global, uuid: u128) -> Result<u32, Or<IdFault>>
         requires { length (ids_of self.old).sessions < 65535 }
-        ensures ok { IfOk result (λ s. after_joining uuid (ids_of self.old) ≡ Ok (s, ids_of self.new)) }
+        ensures ok { IfOk result (λ s. after_joining uuid (ids_of self.old)
+            ≡ Ok (s, ids_of self.new)) }
         ensures refused { IfRefused result (λ f. after_joining uuid (ids_of self.old) ≡ Err f) }
         ensures err { OnErr result (ids_of self.new ≡ ids_of self.old) }
+        ensures count { OnOk result (length (ids_of self.new).sessions
+            ≡ length (ids_of self.old).sessions + 1) }
     {
         if !is_v4(uuid) {
             return Err(Or::Fault(IdFault::NotV4));
@@ -68,7 +71,8 @@ impl Compressor {
 
     // The place of a session among the others.
     pub(crate) fn place_of(&self, session: u32) -> Option<usize>
-        ensures { MatchOption result (session_of self.now.sessions.items session ≡ None) (λ i. (session ≡ i + 1) × (i < length self.now.sessions.items)) }
+        ensures { MatchOption result (session_of self.now.sessions.items session ≡ None)
+            (λ i. (session ≡ i + 1) × (i < length self.now.sessions.items)) }
     {
         let place = (session as usize).checked_sub(1)?;
         if place < self.sessions.len() {
@@ -80,9 +84,11 @@ impl Compressor {
 
     /// Gives a session one more id, and tells its number.
     pub fn generate(&mut self, session: u32) -> Result<u32, IdFault>
-        ensures ok { IfOk result (λ n. after_generating session (ids_of self.old) ≡ Ok (n, ids_of self.new)) }
+        ensures ok { IfOk result (λ n. after_generating session (ids_of self.old)
+            ≡ Ok (n, ids_of self.new)) }
         ensures refused { IfErr result (λ f. after_generating session (ids_of self.old) ≡ Err f) }
         ensures err { OnErr result (ids_of self.new ≡ ids_of self.old) }
+        ensures count { length (ids_of self.new).sessions ≡ length (ids_of self.old).sessions }
     {
         let Some(place) = self.place_of(session) else {
             return Err(IdFault::Session);
@@ -98,9 +104,11 @@ impl Compressor {
 
     /// Takes the ids that a session generated and that weren't taken yet.
     pub fn take_range(&mut self, session: u32) -> Result<IdRange, IdFault>
-        ensures ok { IfOk result (λ r. after_taking session (ids_of self.old) ≡ Ok (r, ids_of self.new)) }
+        ensures ok { IfOk result (λ r. after_taking session (ids_of self.old)
+            ≡ Ok (r, ids_of self.new)) }
         ensures refused { IfErr result (λ f. after_taking session (ids_of self.old) ≡ Err f) }
         ensures err { OnErr result (ids_of self.new ≡ ids_of self.old) }
+        ensures count { length (ids_of self.new).sessions ≡ length (ids_of self.old).sessions }
     {
         let Some(place) = self.place_of(session) else {
             return Err(IdFault::Session);
@@ -117,9 +125,11 @@ impl Compressor {
 
     /// Gives the ids that a session took and that aren't finalised back, to be taken again.
     pub fn rewind(&mut self, session: u32) -> Result<(), IdFault>
-        ensures ok { IfOk result (λ _. after_rewinding session (ids_of self.old) ≡ Ok (ids_of self.new)) }
+        ensures ok { IfOk result (λ _. after_rewinding session (ids_of self.old)
+            ≡ Ok (ids_of self.new)) }
         ensures refused { IfErr result (λ f. after_rewinding session (ids_of self.old) ≡ Err f) }
         ensures err { OnErr result (ids_of self.new ≡ ids_of self.old) }
+        ensures count { length (ids_of self.new).sessions ≡ length (ids_of self.old).sessions }
     {
         let Some(place) = self.place_of(session) else {
             return Err(IdFault::Session);
@@ -132,9 +142,12 @@ impl Compressor {
 
     /// Finalises the ids of the next range of a session. After an `Err` nothing has changed.
     pub fn finalize(&mut self, range: IdRange) -> Result<(), Or<IdFault>>
-        ensures ok { OnOk result (after_finalising range (ids_of self.old) ≡ Ok (ids_of self.new)) }
-        ensures refused { IfRefused result (λ f. after_finalising range (ids_of self.old) ≡ Err f) }
+        ensures ok { OnOk result (after_finalising range (ids_of self.old)
+            ≡ Ok (ids_of self.new)) }
+        ensures refused { IfRefused result (λ f. after_finalising range (ids_of self.old)
+            ≡ Err f) }
         ensures err { OnErr result (ids_of self.new ≡ ids_of self.old) }
+        ensures count { length (ids_of self.new).sessions ≡ length (ids_of self.old).sessions }
     {
         let Some(place) = self.place_of(range.session) else {
             return Err(Or::Fault(IdFault::Session));

@@ -22,7 +22,9 @@ fn begins_by(clusters: &[Cluster], num: u32, place: usize) -> bool
 fn final_within(cluster: &Cluster, num: u32) -> Option<u64>
     requires begins { cluster.now.first ≤ num }
     requires fits { cluster.now.first_final + cluster.now.used < 2 ^ 64 }
-    ensures { MatchOption result (cluster.now.first + cluster.now.used ≤ num) (λ n. (num < cluster.now.first + cluster.now.used) × (n ≡ cluster.now.first_final + (num - cluster.now.first))) }
+    ensures { MatchOption result (cluster.now.first + cluster.now.used ≤ num)
+        (λ n. (num < cluster.now.first + cluster.now.used) × (n
+        ≡ cluster.now.first_final + (num - cluster.now.first))) }
 {
     let ahead = num - cluster.first;
     if ahead < cluster.used {
@@ -36,7 +38,8 @@ fn final_within(cluster: &Cluster, num: u32) -> Option<u64>
 fn id_within(cluster: &Cluster, number: u64) -> Option<Rev>
     requires begins { cluster.now.first_final ≤ number }
     requires ids { cluster.now.first + cluster.now.used < 2 ^ 32 }
-    ensures { MatchOption result (cluster.now.first_final + cluster.now.used ≤ number) (λ r. IsWithin cluster.now r number) }
+    ensures { MatchOption result (cluster.now.first_final + cluster.now.used ≤ number)
+        (λ r. IsWithin cluster.now r number) }
 {
     let ahead = number - cluster.first_final;
     if ahead < u64::from(cluster.used) {
@@ -53,7 +56,8 @@ fn id_within(cluster: &Cluster, number: u64) -> Option<Rev>
 fn place_of_id(clusters: &[Cluster], places: &[usize], rev: Rev) -> Option<usize>
     requires apart { AreApart clusters.now }
     requires places { places.now ≡ places_of rev.session clusters.now }
-    ensures { MatchOption result ((n : ℕ) → ¬ IsInTable clusters.now rev n) (λ i. MayHaveId clusters.now rev i) }
+    ensures { MatchOption result ((n : ℕ) → ¬ IsInTable clusters.now rev n)
+        (λ i. MayHaveId clusters.now rev i) }
 {
     let count = places.partition_point(|place| begins_by(clusters, rev.num, *place));
     if count == 0 {
@@ -66,7 +70,8 @@ fn place_of_id(clusters: &[Cluster], places: &[usize], rev: Rev) -> Option<usize
 // before.
 fn place_of_number(clusters: &[Cluster], number: u64) -> Option<usize>
     requires apart { AreApart clusters.now }
-    ensures { MatchOption result ((r : RevNames) → ¬ IsInTable clusters.now r number) (λ i. MayHaveNumber clusters.now number i) }
+    ensures { MatchOption result ((r : RevNames) → ¬ IsInTable clusters.now r number)
+        (λ i. MayHaveNumber clusters.now number i) }
 {
     let count = clusters.partition_point(|cluster| cluster.first_final <= number);
     if count == 0 {
@@ -80,7 +85,8 @@ pub(crate) fn final_in(clusters: &[Cluster], places: &[usize], rev: Rev) -> Opti
     requires apart { AreApart clusters.now }
     requires places { places.now ≡ places_of rev.session clusters.now }
     requires fits { next_free clusters.now < 2 ^ 63 }
-    ensures { MatchOption result ((n : ℕ) → ¬ IsInTable clusters.now rev n) (λ n. IsInTable clusters.now rev n) }
+    ensures { MatchOption result ((n : ℕ) → ¬ IsInTable clusters.now rev n)
+        (λ n. IsInTable clusters.now rev n) }
 {
     let place = place_of_id(clusters, places, rev)?;
     final_within(&clusters[place], rev.num)
@@ -89,8 +95,10 @@ pub(crate) fn final_in(clusters: &[Cluster], places: &[usize], rev: Rev) -> Opti
 /// The id that has a final number.
 pub(crate) fn id_in(clusters: &[Cluster], number: u64) -> Option<Rev>
     requires apart { AreApart clusters.now }
-    requires ids { (i : ℕ) → i < length clusters.now → (at clusters.now i).first + (at clusters.now i).used < 2 ^ 32 }
-    ensures { MatchOption result ((r : RevNames) → ¬ IsInTable clusters.now r number) (λ r. IsInTable clusters.now r number) }
+    requires ids { (i : ℕ) → i < length clusters.now
+        → (at clusters.now i).first + (at clusters.now i).used < 2 ^ 32 }
+    ensures { MatchOption result ((r : RevNames) → ¬ IsInTable clusters.now r number)
+        (λ r. IsInTable clusters.now r number) }
 {
     let place = place_of_number(clusters, number)?;
     id_within(&clusters[place], number)

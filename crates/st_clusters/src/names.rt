@@ -27,11 +27,12 @@ fn is_later(later: &[IdRange], rev: Rev) -> bool
 }
 
 impl Compressor {
-    ghost use Rattle.st_clusters.specs.Ids.{ids_of};
+    ghost use Rattle.st_clusters.specs.Ids.{IsOpOf, ids_of};
 
     // The final number that the clusters give an id.
     fn final_of(&self, rev: Rev) -> Option<u64>
-        ensures value { MatchOption result ((n : ℕ) → ¬ IsInTable self.now.clusters.items rev n) (λ n. IsInTable self.now.clusters.items rev n) }
+        ensures value { MatchOption result ((n : ℕ) → ¬ IsInTable self.now.clusters.items rev n)
+            (λ n. IsInTable self.now.clusters.items rev n) }
         ensures bound { IfSome result (λ n. (1 ≤ n) × (n < 2 ^ 63)) }
     {
         let Some(place) = self.place_of(rev.session) else {
@@ -42,14 +43,18 @@ impl Compressor {
 
     // The id that has a final number in the clusters.
     fn id_of(&self, number: u64) -> Option<Rev>
-        ensures { MatchOption result ((r : RevNames) → ¬ IsInTable self.now.clusters.items r number) (λ r. IsInTable self.now.clusters.items r number) }
+        ensures { MatchOption result ((r : RevNames)
+            → ¬ IsInTable self.now.clusters.items r number)
+            (λ r. IsInTable self.now.clusters.items r number) }
     {
         id_in(self.clusters.as_slice(), number)
     }
 
     // The final number of an id, where the ids of the later ranges have none.
     fn final_before(&self, later: &[IdRange], rev: Rev) -> Option<u64>
-        ensures value { MatchOption result ((n : ℕ) → ¬ IsFinalBefore self.now.clusters.items later.now rev n) (λ n. IsFinalBefore self.now.clusters.items later.now rev n) }
+        ensures value { MatchOption result ((n : ℕ)
+            → ¬ IsFinalBefore self.now.clusters.items later.now rev n)
+            (λ n. IsFinalBefore self.now.clusters.items later.now rev n) }
         ensures bound { IfSome result (λ n. n < 2 ^ 63) }
     {
         if rev.session == 0 && rev.num == 0 {
@@ -63,7 +68,9 @@ impl Compressor {
 
     // The id that has a final number, where the ids of the later ranges have none.
     fn id_before(&self, later: &[IdRange], number: u64) -> Option<Rev>
-        ensures { MatchOption result ((r : RevNames) → ¬ IsFinalBefore self.now.clusters.items later.now r number) (λ r. IsFinalBefore self.now.clusters.items later.now r number) }
+        ensures { MatchOption result ((r : RevNames)
+            → ¬ IsFinalBefore self.now.clusters.items later.now r number)
+            (λ r. IsFinalBefore self.now.clusters.items later.now r number) }
     {
         if number == 0 {
             return Some(Rev { session: 0, num: 0 });
@@ -86,7 +93,8 @@ impl Compressor {
         have: u32,
         rev: Rev,
     ) -> Result<i64, Unknown>
-        ensures { MatchResult result (λ z. IsOp self.now.clusters.items later.now own have rev z) (λ _. (z : ℤ) → ¬ IsOp self.now.clusters.items later.now own have rev z) }
+        ensures { MatchResult result (λ z. IsOp self.now.clusters.items later.now own have rev z)
+            (λ _. (z : ℤ) → ¬ IsOp self.now.clusters.items later.now own have rev z) }
     {
         if let Some(number) = self.final_before(later, rev) {
             return Ok(number as i64);
@@ -106,7 +114,8 @@ impl Compressor {
         have: u32,
         id: i64,
     ) -> Result<Rev, Unknown>
-        ensures { MatchResult result (λ r. IsOp self.now.clusters.items later.now own have r id) (λ _. (r : RevNames) → ¬ IsOp self.now.clusters.items later.now own have r id) }
+        ensures { MatchResult result (λ r. IsOp self.now.clusters.items later.now own have r id)
+            (λ _. (r : RevNames) → ¬ IsOp self.now.clusters.items later.now own have r id) }
     {
         if id >= 0 {
             return self.id_before(later, id as u64).ok_or(Unknown);
@@ -135,16 +144,16 @@ impl Compressor {
 
     /// The op-space number of an id that is finalised, or that the session `own` has generated.
     pub fn to_op(&self, own: u32, rev: Rev) -> Result<i64, Unknown>
-        ensures ok { IfOk result (λ z. IsOp self.now.clusters.items [] own (generated_by (session_of self.now.sessions.items own)) rev z) }
-        ensures back { (z : ℤ) → IsOp self.now.clusters.items [] own (generated_by (session_of self.now.sessions.items own)) rev z → result ≡ Ok z }
+        ensures ok { IfOk result (λ z. IsOpOf self.now own rev z) }
+        ensures back { (z : ℤ) → IsOpOf self.now own rev z → result ≡ Ok z }
     {
         self.op_before(&[], own, self.generated_by(own), rev)
     }
 
     /// The id that has an op-space number.
     pub fn from_op(&self, own: u32, id: i64) -> Result<Rev, Unknown>
-        ensures ok { IfOk result (λ r. IsOp self.now.clusters.items [] own (generated_by (session_of self.now.sessions.items own)) r id) }
-        ensures back { (r : RevNames) → IsOp self.now.clusters.items [] own (generated_by (session_of self.now.sessions.items own)) r id → result ≡ Ok r }
+        ensures ok { IfOk result (λ r. IsOpOf self.now own r id) }
+        ensures back { (r : RevNames) → IsOpOf self.now own r id → result ≡ Ok r }
     {
         self.id_before_op(&[], own, self.generated_by(own), id)
     }
@@ -177,7 +186,8 @@ impl Compressor {
     /// The id that has a stable id.
     pub fn find(&self, uuid: u128) -> Result<Rev, Unknown>
         ensures ok { IfOk result (λ r. stable_of (ids_of self.now).sessions r ≡ Some uuid) }
-        ensures back { (r : RevNames) → stable_of (ids_of self.now).sessions r ≡ Some uuid → result ≡ Ok r }
+        ensures back { (r : RevNames) → stable_of (ids_of self.now).sessions r ≡ Some uuid
+            → result ≡ Ok r }
     {
         if !is_v4(uuid) {
             return Err(Unknown);
@@ -191,7 +201,8 @@ impl Compressor {
 
     /// The UUID of a session.
     pub fn uuid(&self, session: u32) -> Option<u128>
-        ensures { result ≡ option_map (λ x. x.uuid) (session_of (ids_of self.now).sessions session) }
+        ensures { result ≡ option_map
+            (λ x. x.uuid) (session_of (ids_of self.now).sessions session) }
     {
         let place = self.place_of(session)?;
         Some(self.sessions[place].uuid)
@@ -199,7 +210,8 @@ impl Compressor {
 
     /// How many ids of a session are finalised.
     pub fn finalised(&self, session: u32) -> Option<u32>
-        ensures { result ≡ option_map (λ x. x.finalised) (session_of (ids_of self.now).sessions session) }
+        ensures { result ≡ option_map
+            (λ x. x.finalised) (session_of (ids_of self.now).sessions session) }
     {
         let place = self.place_of(session)?;
         Some(self.sessions[place].finalised)

@@ -111,10 +111,16 @@ fn ranges(rt: HostRuntime) -> Result<(), Fail> {
     Ok(())
 }
 
+fn copies(alloc: Global) -> Option<bool> {
+    let ids = worked(alloc)?;
+    let copy = ids.copy(alloc).ok()?;
+    Some(copy.clusters() == ids.clusters() && copy.uuid(2) == Some(TWO))
+}
+
 #[test]
 fn uuids(rt: HostRuntime) -> Result<(), Fail> {
     let alloc = rt.alloc();
-    let refused = refuses_uuids(alloc);
-    assert!(rt; refused == Some(true));
+    let (refused, copied) = (refuses_uuids(alloc), copies(alloc));
+    assert!(rt; refused == Some(true) && copied == Some(true));
     Ok(())
 }

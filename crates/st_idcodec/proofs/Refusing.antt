@@ -1,5 +1,5 @@
 -- Why a name is refused.
-use Rattle.std.proofs.Common.{◌≡◌, ◌⊎◌, inl, inr, ℕ, refl, sym, subst, ap, ◌∙◌, List, Option, Some, None}
+use Rattle.std.proofs.Common.{◌≡◌, ◌⊎◌, inr, ℕ, sym, subst, ap, ◌∙◌, List, Option, Some, None}
 use Rattle.std.specs.Prelude.{Result, Ok, Err, IfErr, ℤ}
 use Rattle.std.specs.Option.{ok_or}
 use Rattle.st_ids.specs.declared.names.Rev.{Rev}

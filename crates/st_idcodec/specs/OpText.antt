@@ -1,5 +1,5 @@
 -- The JSON forms of op-space names.
-use Rattle.std.specs.Prelude.{ℕ, ◌^◌, ℤ, List, Option, Some, None, option_and_then, nat_lt, if◌then◌else◌}
+use Rattle.std.specs.Prelude.{ℕ, ◌<◌, ◌^◌, ℤ, pos, negsuc, Option, Some, None, option_and_then, nat_lt, if◌then◌else◌}
 use Rattle.std.specs.Option.{option_map}
 use Rattle.serde_json.specs.Data.{Data, number, unsigned, array, Items, no_items, item}
 use Rattle.serde_json.specs.Find.{as_number, as_u64, as_i64, as_array, of_integer}
@@ -32,3 +32,8 @@ two_in (item x (item y (item z ds))) = None
 -- the two numbers that an array is
 abbrev pub atom_numbers : Data → Option (ℤ × ℕ)
 atom_numbers d = option_and_then (λ p. option_and_then (λ z. option_map (λ n. (z, n)) (place_number p.1)) (rev_number p.0)) (option_and_then two_in (as_array d))
+
+-- a number from -2^63 to 2^63 - 1
+abbrev pub IsShort : ℤ → Type 0
+IsShort (pos n) = n < 2 ^ 63
+IsShort (negsuc n) = n < 2 ^ 63

@@ -1,7 +1,7 @@
 -- The JSON form of a table of ids.
-use Rattle.std.specs.Prelude.{ℕ, List, [], ◌∷◌, map, codes}
+use Rattle.std.specs.Prelude.{ℕ, List, map, codes}
 use Rattle.std.specs.Int.{w128, to_be_bytes}
-use Rattle.serde_json.specs.Data.{Data, number, unsigned, string, array, object, no_items, item, no_members, member, Items}
+use Rattle.serde_json.specs.Data.{Data, number, unsigned, string, array, object, no_items, item, no_members, member}
 use Rattle.serde_json.specs.View.{items_of}
 use Rattle.uuid.specs.Text.{hyphenated_text, lower}
 use Rattle.st_clusters.specs.Table.{Ids}

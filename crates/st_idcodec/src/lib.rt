@@ -1,8 +1,10 @@
 //! Op-space names, and the table of ids, as JSON values.
 #![tactic(auto)]
 
+mod laws;
 mod names;
 mod table;
 
+pub use laws::names_are_read_back;
 pub use names::{CodecFault, op_atom, op_rev, read_op_atom, read_op_rev};
 pub use table::table_value;

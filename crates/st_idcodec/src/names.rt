@@ -3,7 +3,7 @@ ghost use Rattle.std.specs.Prelude.{◌≡◌, ◌↔◌, ◌⊎◌, ◌<◌, �
 ghost use Rattle.std.specs.Option.{option_map};
 ghost use Rattle.serde_json.specs.View.{view, items_view};
 ghost use Rattle.serde_json.specs.Find.{as_array};
-ghost use Rattle.st_clusters.specs.Names.{IsOp};
+ghost use Rattle.st_clusters.specs.Ids.{IsOpAt};
 ghost use Rattle.st_ids.specs.Or.{IfRefused};
 ghost use Rattle.st_ids.specs.declared.names.Rev.{Rev as RevNames};
 ghost use Rattle.st_ids.specs.declared.names.Atom.{Atom as AtomNames};
@@ -28,8 +28,8 @@ pub enum CodecFault {
 
 /// The value of a revision: its op-space number.
 pub fn op_rev(at: &At, rev: Rev) -> Result<Value, Unknown>
-    ensures ok { IfOk result (λ v. (z : ℤ) × IsOp at.now.ids.now.clusters.items at.now.later.now at.now.own at.now.have rev z × (view v ≡ rev_data z)) }
-    ensures unknown { IfErr result (λ _. (z : ℤ) → ¬ IsOp at.now.ids.now.clusters.items at.now.later.now at.now.own at.now.have rev z) }
+    ensures ok { IfOk result (λ v. (z : ℤ) × IsOpAt at.now rev z × (view v ≡ rev_data z)) }
+    ensures unknown { IfErr result (λ _. (z : ℤ) → ¬ IsOpAt at.now rev z) }
 {
     match at.to_op(rev) {
         Ok(id) => Ok(Value::from(id)),
@@ -39,9 +39,12 @@ pub fn op_rev(at: &At, rev: Rev) -> Result<Value, Unknown>
 
 /// The revision that a value names.
 pub fn read_op_rev(at: &At, value: &Value) -> Result<Rev, CodecFault>
-    ensures ok { IfOk result (λ r. (z : ℤ) × (rev_number (view value.now) ≡ Some z) × IsOp at.now.ids.now.clusters.items at.now.later.now at.now.own at.now.have r z) }
+    ensures ok { IfOk result (λ r. (z : ℤ) × (rev_number (view value.now) ≡ Some z)
+        × IsOpAt at.now r z) }
     ensures shape { (result ≡ Err CodecFault.Shape) ↔ (rev_number (view value.now) ≡ None) }
-    ensures unknown { IfErr result (λ f. (f ≡ CodecFault.Shape) ⊎ ((f ≡ CodecFault.Unknown) × ((z : ℤ) (r : RevNames) → rev_number (view value.now) ≡ Some z → ¬ IsOp at.now.ids.now.clusters.items at.now.later.now at.now.own at.now.have r z))) }
+    ensures unknown { IfErr result (λ f. (f ≡ CodecFault.Shape) ⊎ ((f ≡ CodecFault.Unknown)
+        × ((z : ℤ) (r : RevNames) → rev_number (view value.now) ≡ Some z
+        → ¬ IsOpAt at.now r z))) }
 {
     match int(value) {
         Ok(id) => id_of(at, id),
@@ -51,8 +54,9 @@ pub fn read_op_rev(at: &At, value: &Value) -> Result<Rev, CodecFault>
 
 // The id that has an op-space number.
 fn id_of(at: &At, id: i64) -> Result<Rev, CodecFault>
-    ensures ok { IfOk result (λ r. IsOp at.now.ids.now.clusters.items at.now.later.now at.now.own at.now.have r id) }
-    ensures unknown { IfErr result (λ f. (f ≡ CodecFault.Unknown) × ((r : RevNames) → ¬ IsOp at.now.ids.now.clusters.items at.now.later.now at.now.own at.now.have r id)) }
+    ensures ok { IfOk result (λ r. IsOpAt at.now r id) }
+    ensures unknown { IfErr result (λ f. (f ≡ CodecFault.Unknown) × ((r : RevNames)
+        → ¬ IsOpAt at.now r id)) }
 {
     match at.from_op(id) {
         Ok(rev) => Ok(rev),
@@ -62,8 +66,9 @@ fn id_of(at: &At, id: i64) -> Result<Rev, CodecFault>
 
 /// The value of an atom: its revision's op-space number, and its place.
 pub fn op_atom(alloc: Global, at: &At, atom: Atom) -> Result<Value, Or<Unknown>>
-    ensures ok { IfOk result (λ v. (z : ℤ) × IsOp at.now.ids.now.clusters.items at.now.later.now at.now.own at.now.have atom.rev z × (view v ≡ atom_data z atom.at)) }
-    ensures unknown { IfRefused result (λ _. (z : ℤ) → ¬ IsOp at.now.ids.now.clusters.items at.now.later.now at.now.own at.now.have atom.rev z) }
+    ensures ok { IfOk result (λ v. (z : ℤ) × IsOpAt at.now atom.rev z × (view v
+        ≡ atom_data z atom.at)) }
+    ensures unknown { IfRefused result (λ _. (z : ℤ) → ¬ IsOpAt at.now atom.rev z) }
 {
     match at.to_op(atom.rev) {
         Ok(id) => Ok(atom_value(alloc, id, atom.at)?),
@@ -80,9 +85,12 @@ fn atom_value(alloc: Global, id: i64, place: u32) -> Result<Value, AllocError>
 
 /// The atom that a value names.
 pub fn read_op_atom(at: &At, value: &Value) -> Result<Atom, CodecFault>
-    ensures ok { IfOk result (λ a. (z : ℤ) × (atom_numbers (view value.now) ≡ Some (z, a.at)) × IsOp at.now.ids.now.clusters.items at.now.later.now at.now.own at.now.have a.rev z) }
+    ensures ok { IfOk result (λ a. (z : ℤ) × (atom_numbers (view value.now) ≡ Some (z, a.at))
+        × IsOpAt at.now a.rev z) }
     ensures shape { (result ≡ Err CodecFault.Shape) ↔ (atom_numbers (view value.now) ≡ None) }
-    ensures unknown { IfErr result (λ f. (f ≡ CodecFault.Shape) ⊎ ((f ≡ CodecFault.Unknown) × ((z : ℤ) (n : ℕ) (r : RevNames) → atom_numbers (view value.now) ≡ Some (z, n) → ¬ IsOp at.now.ids.now.clusters.items at.now.later.now at.now.own at.now.have r z))) }
+    ensures unknown { IfErr result (λ f. (f ≡ CodecFault.Shape) ⊎ ((f ≡ CodecFault.Unknown)
+        × ((z : ℤ) (n : ℕ) (r : RevNames) → atom_numbers (view value.now) ≡ Some (z, n)
+        → ¬ IsOpAt at.now r z))) }
 {
     match atom_numbers(value) {
         Some((id, place)) => atom_of(at, id, place),
@@ -92,8 +100,9 @@ pub fn read_op_atom(at: &At, value: &Value) -> Result<Atom, CodecFault>
 
 // The atom that has an op-space number and a place.
 fn atom_of(at: &At, id: i64, place: u32) -> Result<Atom, CodecFault>
-    ensures ok { IfOk result (λ a. (a.at ≡ place) × IsOp at.now.ids.now.clusters.items at.now.later.now at.now.own at.now.have a.rev id) }
-    ensures unknown { IfErr result (λ f. (f ≡ CodecFault.Unknown) × ((r : RevNames) → ¬ IsOp at.now.ids.now.clusters.items at.now.later.now at.now.own at.now.have r id)) }
+    ensures ok { IfOk result (λ a. (a.at ≡ place) × IsOpAt at.now a.rev id) }
+    ensures unknown { IfErr result (λ f. (f ≡ CodecFault.Unknown) × ((r : RevNames)
+        → ¬ IsOpAt at.now r id)) }
 {
     match id_of(at, id) {
         Ok(rev) => Ok(Atom { rev, at: place }),
@@ -103,7 +112,8 @@ fn atom_of(at: &At, id: i64, place: u32) -> Result<Atom, CodecFault>
 
 // The two of two values, where there are no others.
 fn two_in(values: &[Value]) -> Option<(&Value, &Value)>
-    ensures { option_map (λ p. (view p.0.now, view p.1.now)) result ≡ two_in (items_view values.now) }
+    ensures { option_map (λ p. (view p.0.now, view p.1.now)) result
+        ≡ two_in (items_view values.now) }
 {
     let mut values = values.iter();
     let first = values.next()?;
@@ -117,7 +127,8 @@ fn two_in(values: &[Value]) -> Option<(&Value, &Value)>
 
 // The two items of an array that has no others.
 fn two_items(value: &Value) -> Option<(&Value, &Value)>
-    ensures { option_map (λ p. (view p.0.now, view p.1.now)) result ≡ option_and_then two_in (as_array (view value.now)) }
+    ensures { option_map (λ p. (view p.0.now, view p.1.now)) result
+        ≡ option_and_then two_in (as_array (view value.now)) }
 {
     two_in(value.as_array()?.as_slice())
 }
