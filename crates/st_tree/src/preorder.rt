@@ -78,12 +78,7 @@ fn place_of(
 }
 
 // The root of a tree, under its name and at its place.
-fn flat_node(
-    alloc: Global,
-    tree: &Tree,
-    node: NodeId,
-    at: FlatAt,
-) -> Result<FlatNode, AllocError>
+fn flat_node(alloc: Global, tree: &Tree, node: NodeId, at: FlatAt) -> Result<FlatNode, AllocError>
     ensures { IfOk result (λ n. n ≡ record { node = node; ty = (out-Tree tree.now).ty; leaf = (out-Tree tree.now).leaf; row = is_array (fields_view (out-Tree tree.now).fields); at = at }) }
 {
     let row = is_array(&tree.fields);
