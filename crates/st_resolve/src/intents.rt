@@ -1,8 +1,10 @@
 //! The intents of edits.
-ghost use Rattle.std.specs.Prelude.{◌≡◌, ◌∷◌, ◌<◌, ◌^◌, ◌+◌, [], length, map, IfOk, None, Some, unwrap_or};
+ghost use Rattle.std.specs.Prelude.{◌≡◌, ◌∷◌, ◌++◌, ◌<◌, ◌^◌, ◌+◌, [], length, map, IfOk, OnOk, None, Some, unwrap_or};
 ghost use Rattle.st_marks.specs.declared.intents.To.{To as Target};
 ghost use Rattle.st_marks.specs.Document.{last_of, opening, revs};
 ghost use Rattle.st_doc.specs.Doc.{document_of};
+ghost use Rattle.st_opening.specs.Start.{registers};
+ghost use Rattle.st_edits.specs.New.{new_nodes, group_of, groups_under, puts, top_cells};
 ghost use Rattle.st_edits.specs.Resolve.{nothing_yet, with_group, inserted, placed, removed, cells_for, in_cells, moved_to_row, moved_to_field};
 
 use crate::lists::{add_groups, add_registers, group_of, new_nodes, puts, top_cells};
@@ -60,6 +62,43 @@ fn one_field(alloc: Global, field: FieldId) -> Result<List<FieldId>, AllocError>
     Ok(fields)
 }
 
+// The groups of new items of a row, which stand after a cell or at the row's start.
+fn groups_inserted(
+    alloc: Global,
+    node: NodeId,
+    after: Option<CellId>,
+    nodes: &[FlatNode],
+) -> Result<List<Group>, AllocError>
+    ensures { IfOk result (λ gs. gs ≡ with_group (group_of node after (top_cells nodes.now)) (groups_under nodes.now)) }
+{
+    let cells = top_cells(alloc, nodes)?;
+    let mut groups = with_group(alloc, group_of(node, after, cells))?;
+    add_groups(alloc, &mut groups, nodes)?;
+    Ok(groups)
+}
+
+// Fills an intent with new items of a row.
+fn fill_inserted(
+    alloc: Global,
+    intent: &mut Intent,
+    node: NodeId,
+    after: Option<CellId>,
+    nodes: &[FlatNode],
+) -> Result<(), AllocError>
+    ensures { OnOk result (intent.exit.now ≡ record intent.entry.now {
+      new = new_nodes nodes.now;
+      groups = with_group (group_of node after (top_cells nodes.now)) (groups_under nodes.now);
+      clear = intent.entry.now.clear ++ registers nodes.now;
+      put = puts None nodes.now;
+    }) }
+{
+    intent.new = new_nodes(alloc, nodes)?;
+    intent.groups = groups_inserted(alloc, node, after, nodes)?;
+    add_registers(alloc, &mut intent.clear, nodes)?;
+    intent.put = puts(alloc, None, nodes)?;
+    Ok(())
+}
+
 /// New items in a row, directly after the cell of the item left of the index.
 pub fn inserted(
     alloc: Global,
@@ -71,14 +110,44 @@ pub fn inserted(
 ) -> Result<Intent, AllocError>
     ensures { IfOk result (λ i. i ≡ inserted (document_of doc.now) given node index nodes.now) }
 {
+    let after = left_of(doc, node, index);
     let mut intent = nothing_yet(alloc, doc, given);
-    let cells = top_cells(alloc, nodes)?;
-    intent.new = new_nodes(alloc, nodes)?;
-    intent.groups = with_group(alloc, group_of(node, left_of(doc, node, index), cells))?;
-    add_groups(alloc, &mut intent.groups, nodes)?;
-    add_registers(alloc, &mut intent.clear, nodes)?;
-    intent.put = puts(alloc, None, nodes)?;
+    fill_inserted(alloc, &mut intent, node, after, nodes)?;
     Ok(intent)
+}
+
+// A field, and the registers in which new nodes stand.
+fn fields_cleared(
+    alloc: Global,
+    field: FieldId,
+    nodes: &[FlatNode],
+) -> Result<List<FieldId>, AllocError>
+    ensures { IfOk result (λ fs. fs ≡ field ∷ registers nodes.now) }
+{
+    let mut fields = one_field(alloc, field)?;
+    add_registers(alloc, &mut fields, nodes)?;
+    Ok(fields)
+}
+
+// Fills an intent with a new item of a field.
+fn fill_placed(
+    alloc: Global,
+    intent: &mut Intent,
+    field: &FieldId,
+    nodes: &[FlatNode],
+) -> Result<(), AllocError>
+    ensures { OnOk result (intent.exit.now ≡ record intent.entry.now {
+      new = new_nodes nodes.now;
+      groups = intent.entry.now.groups ++ groups_under nodes.now;
+      clear = field.now ∷ registers nodes.now;
+      put = puts (Some field.now) nodes.now;
+    }) }
+{
+    intent.new = new_nodes(alloc, nodes)?;
+    add_groups(alloc, &mut intent.groups, nodes)?;
+    intent.put = puts(alloc, Some(field), nodes)?;
+    intent.clear = fields_cleared(alloc, field.copy(alloc)?, nodes)?;
+    Ok(())
 }
 
 /// A new item in a field, in the place of what is there.
@@ -92,11 +161,7 @@ pub fn placed(
     ensures { IfOk result (λ i. i ≡ placed (document_of doc.now) given field nodes.now) }
 {
     let mut intent = nothing_yet(alloc, doc, given);
-    intent.new = new_nodes(alloc, nodes)?;
-    add_groups(alloc, &mut intent.groups, nodes)?;
-    intent.put = puts(alloc, Some(&field), nodes)?;
-    intent.clear = one_field(alloc, field)?;
-    add_registers(alloc, &mut intent.clear, nodes)?;
+    fill_placed(alloc, &mut intent, &field, nodes)?;
     Ok(intent)
 }
 
@@ -165,6 +230,24 @@ fn puts_in(alloc: Global, cells: &[Owned]) -> Result<List<Put>, AllocError>
     Ok(puts)
 }
 
+// Fills an intent with cells of a row, into each of which its owner is put.
+fn fill_moved(
+    alloc: Global,
+    intent: &mut Intent,
+    node: NodeId,
+    after: Option<CellId>,
+    cells: List<Owned>,
+) -> Result<(), AllocError>
+    ensures { OnOk result (intent.exit.now ≡ record intent.entry.now {
+      groups = with_group (group_of node after cells) [];
+      put = map (λ o. record { node = o.node; to = Target.Cell o.cell }) cells;
+    }) }
+{
+    intent.put = puts_in(alloc, cells.as_slice())?;
+    intent.groups = with_group(alloc, group_of(node, after, cells))?;
+    Ok(())
+}
+
 /// Nodes put into new cells of a row.
 pub fn moved_to_row(
     alloc: Global,
@@ -177,10 +260,10 @@ pub fn moved_to_row(
     requires { given.cells + length nodes.now < 2 ^ 32 }
     ensures { IfOk result (λ i. i ≡ moved_to_row (document_of doc.now) given node index nodes.now) }
 {
-    let mut intent = nothing_yet(alloc, doc, given);
+    let after = left_of(doc, node, index);
     let cells = cells_for(alloc, given.rev, given.cells, nodes)?;
-    intent.put = puts_in(alloc, cells.as_slice())?;
-    intent.groups = with_group(alloc, group_of(node, left_of(doc, node, index), cells))?;
+    let mut intent = nothing_yet(alloc, doc, given);
+    fill_moved(alloc, &mut intent, node, after, cells)?;
     Ok(intent)
 }
 
