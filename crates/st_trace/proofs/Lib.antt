@@ -13,3 +13,4 @@ pub mod Acting
 pub mod Showing
 pub mod Choosing
 pub mod Arrays
+pub mod Leading
