@@ -1,11 +1,11 @@
 //! The table of ids as running code.
 ghost use Rattle.std.specs.Prelude.{◌≡◌, ◌≤◌, ◌<◌, ◌+◌, ◌-◌, Ok, Err, None, length, [], MatchOption, IfOk, IfErr, OnOk, OnErr, slice_get, option_map, option_copied};
 ghost use Rattle.st_ids.specs.Or.{IfRefused};
-ghost use Rattle.st_clusters.specs.Table.{is_next, raise_to, new_session, meeting};
-ghost use Rattle.st_clusters.specs.inside.Kept.{IsSound};
+ghost use Rattle.st_clusters.specs.Table.{is_next, raise_to, new_session};
+ghost use Rattle.st_clusters.specs.inside.Kept.{IsSound, AreInOrder};
 
 use crate::cluster::put_range;
-use crate::free::{free_number, is_v4, spans_meet};
+use crate::free::{free_number, is_v4};
 use crate::ids::{Cluster, IdFault, IdRange, SessionIds};
 use st_ids::{List, Or};
 use std::alloc::Global;
@@ -14,13 +14,16 @@ use std::alloc::Global;
 const MOST_IDS: u32 = 4_294_967_294;
 
 /// The sessions, the ids that each has generated, and the clusters that give final numbers. Beside
-/// the clusters it keeps the places of each session's, so that an id is found by halving.
+/// the clusters it keeps the places of each session's, and beside the sessions their places in the
+/// order in which their spans begin, so that an id, a number and a UUID are found by halving.
 #[derive(Drop)]
 pub struct Compressor {
     pub(crate) sessions: Vec<SessionIds>,
     pub(crate) clusters: Vec<Cluster>,
     pub(crate) places: Vec<List<usize>>,
+    pub(crate) order: Vec<usize>,
     ghost sound: { IsSound sessions.items clusters.items places.items },
+    ghost in_order: { AreInOrder sessions.items order.items },
 }
 
 impl Compressor {
@@ -35,6 +38,7 @@ impl Compressor {
             sessions: Vec::new(alloc),
             clusters: Vec::new(alloc),
             places: Vec::new(alloc),
+            order: Vec::new(alloc),
         }
     }
 
@@ -42,7 +46,7 @@ impl Compressor {
     pub fn clash(&self, uuid: u128) -> Option<u32>
         ensures { result ≡ clash uuid (ids_of self.now).sessions }
     {
-        let place = meeting(self.sessions.as_slice(), uuid)?;
+        let place = self.meeting(uuid)?;
         Some(place as u32 + 1)
     }
 
@@ -63,8 +67,11 @@ impl Compressor {
         if let Some(session) = self.clash(uuid) {
             return Err(Or::Fault(IdFault::Clash { session }));
         }
+        let before = self.count_before(free_number(uuid));
         self.sessions.reserve(1)?;
-        self.places.push(List::new(alloc))?;
+        self.places.reserve(1)?;
+        self.order.insert(before, self.sessions.len())?;
+        self.places.push_reserved(List::new(alloc));
         self.sessions.push_reserved(new_session(uuid));
         Ok(self.sessions.len() as u32)
     }
@@ -193,14 +200,4 @@ fn new_session(uuid: u128) -> SessionIds
         taken: 0,
         finalised: 0,
     }
-}
-
-// The place of the first session whose span meets that of a UUID.
-fn meeting(sessions: &[SessionIds], uuid: u128) -> Option<usize>
-    ensures { result ≡ meeting uuid sessions.now }
-{
-    let free = free_number(uuid);
-    sessions
-        .iter()
-        .position(|ids| spans_meet(free_number(ids.uuid), free))
 }

@@ -15,10 +15,12 @@ impl Compressor {
         let places = copy_places(alloc, self.places.as_slice())?;
         let sessions = self.sessions.iter().copied().collect(alloc)?;
         let clusters = self.clusters.iter().copied().collect(alloc)?;
+        let order = self.order.iter().copied().collect(alloc)?;
         Ok(Compressor {
             sessions,
             clusters,
             places,
+            order,
         })
     }
 }
