@@ -12,7 +12,7 @@ use Rattle.std.specs.List.Sorted.{IsPartitionedBy, IsPartitionPoint}
 use Rattle.st_clusters.specs.Free.{free_number, ahead, free_after, spans_meet}
 use Rattle.st_clusters.specs.Table.{no_session, last_of, meeting, new_session}
 use Rattle.st_clusters.specs.inside.Kept.{session_at, start, turn, AreInOrder, IsSound}
-use Rattle.st_clusters.specs.inside.Spans.{spanning, starts_by, StartBy, IsNearest}
+use Rattle.st_clusters.specs.inside.Spans.{spanning, least, starts_by, StartBy, IsNearest}
 use Rattle.st_clusters.specs.declared.ids.Cluster.{Cluster}
 use Rattle.st_clusters.specs.declared.ids.SessionIds.{SessionIds}
 use Rattle.st_clusters.proofs.Counts.{field_set, read_at}
@@ -253,63 +253,51 @@ first_of_two p q r xs d same lp lq = position_or_len_is r xs (min (position_or_l
           rw e (there ∙ either (p (get_or xs (position_or_len p xs) d)) (q (get_or xs (position_or_len p xs) d)) (inl yes))
     ])
 
-chosen : (b : Bool) (m a : ℕ) → cond b (Some m) None ≡ Some a → (b ≡ true) × (m ≡ a)
-chosen true m a e = (refl, cc)
-chosen false m a e = cc
-
-unchosen : (b : Bool) (m : ℕ) → cond b (Some m) None ≡ None → b ≡ false
-unchosen true m e = cc
-unchosen false m e = refl
-
 -- the first session that has a free number in its span, or the number of all
 abbrev first_span : ℕ → List SessionIds → ℕ
 first_span free ss = position_or_len (λ (x : SessionIds). nat_lt (ahead (free_number x.uuid) free) (2 ^ 32)) ss
 
-first_span_low : (free : ℕ) (ss : List SessionIds) → first_span free ss ≤ length ss
-first_span_low free ss = prefix_len-le-length _ ss
-
-spans_one : (free a : ℕ) (ss : List SessionIds) → spanning free ss ≡ Some a → (first_span free ss ≡ a) × (a < length ss)
-spans_one free a ss e =
-    let h = chosen (nat_lt (first_span free ss) (length ss)) (first_span free ss) a e in
-    let less : first_span free ss < length ss = grind (arith, nat_tests, h.0) in
-    (h.1, omega (arith, less, h.1))
-
-spans_none : (free : ℕ) (ss : List SessionIds) → spanning free ss ≡ None → first_span free ss ≡ length ss
-spans_none free ss e =
-    let h : nat_lt (first_span free ss) (length ss) ≡ false = unchosen (nat_lt (first_span free ss) (length ss)) (first_span free ss) e in
-    let past : length ss ≤ first_span free ss = grind (arith, nat_tests, h) in
-    omega (arith, past, first_span_low free ss)
-
 -- the first session that meets a span has its first number or its last
 meets_first : (ss : List SessionIds) (uuid first last : ℕ) → ((k : ℕ) → k < length ss → (session_at ss k).uuid < 2 ^ 128) → uuid < 2 ^ 128 → first ≡ free_number uuid → last ≡ free_after first (2 ^ 32 - 1)
     → position_or_len (λ (x : SessionIds). spans_meet (free_number x.uuid) (free_number uuid)) ss ≡ min (first_span first ss) (first_span last ss)
-meets_first ss uuid first last wide fits is ends = first_of_two (λ (x : SessionIds). nat_lt (ahead (free_number x.uuid) first) (2 ^ 32)) (λ (x : SessionIds). nat_lt (ahead (free_number x.uuid) last) (2 ^ 32)) (λ (x : SessionIds). spans_meet (free_number x.uuid) (free_number uuid)) ss no_session
+meets_first ss uuid first last wide fits is ends = first_of_two (λ (x : SessionIds). nat_lt (ahead (free_number x.uuid) first) (2 ^ 32)) (λ (x : SessionIds). nat_lt (ahead (free_number x.uuid) last) (2 ^ 32))
+    (λ (x : SessionIds). spans_meet (free_number x.uuid) (free_number uuid)) ss no_session
     (λ k h. rw (ends, is) (meets_by_ends (start ss k) (free_number uuid) (free_low (session_at ss k).uuid (wide k h)) (free_low uuid fits)))
-    (first_span_low first ss) (first_span_low last ss)
+    (prefix_len-le-length _ ss) (prefix_len-le-length _ ss)
 
--- what meets, by the first place of the sessions that do
-meeting_at : (ss : List SessionIds) (uuid i : ℕ) → position_or_len (λ (x : SessionIds). spans_meet (free_number x.uuid) (free_number uuid)) ss ≡ i → i < length ss → meeting uuid ss ≡ Some i
-meeting_at ss uuid i e less = let test : nat_lt i (length ss) ≡ true = grind (arith, nat_tests, less) in rw (e, test) refl
+-- a place that is given where it is below a length
+abbrev below : ℕ → ℕ → Option ℕ
+below n i = cond (nat_lt i n) (Some i) None
 
-pub meeting_both : (ss : List SessionIds) (uuid first last a b : ℕ) → ((k : ℕ) → k < length ss → (session_at ss k).uuid < 2 ^ 128) → uuid < 2 ^ 128 → first ≡ free_number uuid → last ≡ free_after first (2 ^ 32 - 1)
-    → spanning first ss ≡ Some a → spanning last ss ≡ Some b → meeting uuid ss ≡ Some (min a b)
-meeting_both ss uuid first last a b wide fits is ends one two =
-    let h : (first_span first ss ≡ a) × (a < length ss) = spans_one first a ss one in
-    let k : (first_span last ss ≡ b) × (b < length ss) = spans_one last b ss two in
-    meeting_at ss uuid (min a b) (rw (h.0, k.0) at (meets_first ss uuid first last wide fits is ends)) (omega (arith, h.1, k.1))
+least_below : (n a b : ℕ) → below n (min a b) ≡ least (below n a) (below n b)
+least_below n a b = elim (cases_lt a n) [
+  | inl l ↦ elim (cases_lt b n) [
+    | inl m ↦
+        let one : nat_lt a n ≡ true = grind (arith, nat_tests, l) in
+        let two : nat_lt b n ≡ true = grind (arith, nat_tests, m) in
+        let both : min a b < n = omega (arith, l) in
+        let all : nat_lt (min a b) n ≡ true = grind (arith, nat_tests, both) in
+        rw (one, two, all) refl
+    | inr m ↦
+        let one : nat_lt a n ≡ true = grind (arith, nat_tests, l) in
+        let two : nat_lt b n ≡ false = grind (arith, nat_tests, m) in
+        let same : min a b ≡ a = omega (arith, l, m) in
+        rw (same, one, two) refl
+  ]
+  | inr l ↦ elim (cases_lt b n) [
+    | inl m ↦
+        let one : nat_lt a n ≡ false = grind (arith, nat_tests, l) in
+        let same : min a b ≡ b = omega (arith, l, m) in
+        rw (same, one) refl
+    | inr m ↦
+        let one : nat_lt a n ≡ false = grind (arith, nat_tests, l) in
+        let two : nat_lt b n ≡ false = grind (arith, nat_tests, m) in
+        let both : n ≤ min a b = omega (arith, l, m) in
+        let all : nat_lt (min a b) n ≡ false = grind (arith, nat_tests, both) in
+        rw (one, two, all) refl
+  ]
+]
 
-pub meeting_one : (ss : List SessionIds) (uuid first last a : ℕ) → ((k : ℕ) → k < length ss → (session_at ss k).uuid < 2 ^ 128) → uuid < 2 ^ 128 → first ≡ free_number uuid → last ≡ free_after first (2 ^ 32 - 1)
-    → spanning first ss ≡ Some a → spanning last ss ≡ None → meeting uuid ss ≡ Some a
-meeting_one ss uuid first last a wide fits is ends one two =
-    let h : (first_span first ss ≡ a) × (a < length ss) = spans_one first a ss one in
-    let k : first_span last ss ≡ length ss = spans_none last ss two in
-    let least : min a (length ss) ≡ a = omega (arith, h.1) in
-    meeting_at ss uuid a ((rw (h.0, k) at (meets_first ss uuid first last wide fits is ends)) ∙ least) h.1
-
-pub meeting_other : (ss : List SessionIds) (uuid first last : ℕ) → ((k : ℕ) → k < length ss → (session_at ss k).uuid < 2 ^ 128) → uuid < 2 ^ 128 → first ≡ free_number uuid → last ≡ free_after first (2 ^ 32 - 1)
-    → spanning first ss ≡ None → meeting uuid ss ≡ spanning last ss
-meeting_other ss uuid first last wide fits is ends one =
-    let h : first_span first ss ≡ length ss = spans_none first ss one in
-    let least : min (length ss) (first_span last ss) ≡ first_span last ss = omega (arith, first_span_low last ss) in
-    let same : position_or_len (λ (x : SessionIds). spans_meet (free_number x.uuid) (free_number uuid)) ss ≡ first_span last ss = (rw h at (meets_first ss uuid first last wide fits is ends)) ∙ least in
-    rw same refl
+pub meeting_least : (ss : List SessionIds) (uuid first last : ℕ) → ((k : ℕ) → k < length ss → (session_at ss k).uuid < 2 ^ 128) → uuid < 2 ^ 128 → first ≡ free_number uuid → last ≡ free_after first (2 ^ 32 - 1)
+    → meeting uuid ss ≡ least (spanning first ss) (spanning last ss)
+meeting_least ss uuid first last wide fits is ends = ap (λ (i : ℕ). below (length ss) i) (meets_first ss uuid first last wide fits is ends) ∙ least_below (length ss) (first_span first ss) (first_span last ss)

@@ -1,5 +1,6 @@
 //! The table of ids as running code.
-ghost use Rattle.std.specs.Prelude.{◌≡◌, ◌≤◌, ◌<◌, ◌+◌, ◌-◌, Ok, Err, None, length, [], MatchOption, IfOk, IfErr, OnOk, OnErr, slice_get, option_map, option_copied};
+ghost use Rattle.std.specs.Prelude.{◌≡◌, ◌≤◌, ◌<◌, ◌+◌, ◌-◌, Ok, Err, None, length, vec_len, [], ◌∷◌, ◌++◌, MatchOption, IfOk, IfErr, OnOk, OnErr, slice_get, option_map, option_copied};
+ghost use Rattle.std.specs.List.{insert};
 ghost use Rattle.st_ids.specs.Or.{IfRefused};
 ghost use Rattle.st_clusters.specs.Table.{is_next, raise_to, new_session};
 ghost use Rattle.st_clusters.specs.inside.Kept.{IsSound, AreInOrder};
@@ -8,7 +9,7 @@ use crate::cluster::put_range;
 use crate::free::{free_number, is_v4};
 use crate::ids::{Cluster, IdFault, IdRange, SessionIds};
 use st_ids::{List, Or};
-use std::alloc::Global;
+use std::alloc::{AllocError, Global};
 
 /// How many ids a session can have.
 const MOST_IDS: u32 = 4_294_967_294;
@@ -69,9 +70,7 @@ impl Compressor {
         }
         let before = self.count_before(free_number(uuid));
         self.sessions.reserve(1)?;
-        self.places.reserve(1)?;
-        self.order.insert(before, self.sessions.len())?;
-        self.places.push_reserved(List::new(alloc));
+        add_place(alloc, &mut self.places, &mut self.order, before)?;
         self.sessions.push_reserved(new_session(uuid));
         Ok(self.sessions.len() as u32)
     }
@@ -188,6 +187,25 @@ fn raise_to(ids: SessionIds, count: u32) -> SessionIds
         finalised: count,
         ..ids
     }
+}
+
+// Puts the place of one more session into the order. The session has no clusters yet.
+fn add_place(
+    alloc: Global,
+    places: &mut Vec<List<usize>>,
+    order: &mut Vec<usize>,
+    before: usize,
+) -> Result<(), AllocError>
+    requires { before ≤ vec_len order.old }
+    ensures ok { OnOk result (places.new.items ≡ places.old.items ++ [] ∷ []) }
+    ensures place { OnOk result (order.new.items ≡ insert order.old.items before (vec_len places.old)) }
+    ensures err { OnErr result (places.new.items ≡ places.old.items) }
+    ensures err_place { OnErr result (order.new.items ≡ order.old.items) }
+{
+    places.reserve(1)?;
+    order.insert(before, places.len())?;
+    places.push_reserved(List::new(alloc));
+    Ok(())
 }
 
 // A session that has no ids yet.

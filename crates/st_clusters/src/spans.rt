@@ -1,7 +1,7 @@
 //! Which session's span has a free number, by halving the order in which the spans begin.
 ghost use Rattle.std.specs.Prelude.{◌≡◌, ◌<◌, ◌^◌, [], MatchOption};
 ghost use Rattle.st_clusters.specs.Table.{meeting};
-ghost use Rattle.st_clusters.specs.inside.Spans.{spanning, starts_by, StartBy, IsNearest};
+ghost use Rattle.st_clusters.specs.inside.Spans.{spanning, starts_by, least, StartBy, IsNearest};
 
 use crate::compressor::Compressor;
 use crate::free::{SPAN, ahead, free_after, free_number};
@@ -14,6 +14,17 @@ fn starts_by(sessions: &[SessionIds], free: u128, place: usize) -> bool
     match sessions.get(place) {
         Some(ids) => free_number(ids.uuid) <= free,
         None => false,
+    }
+}
+
+// The least of the places that there are.
+fn least(a: Option<usize>, b: Option<usize>) -> Option<usize>
+    ensures { result ≡ least a b }
+{
+    match (a, b) {
+        (Some(a), Some(b)) => Some(a.min(b)),
+        (Some(a), None) => Some(a),
+        (None, b) => b,
     }
 }
 
@@ -62,10 +73,6 @@ impl Compressor {
     {
         let first = free_number(uuid);
         let last = free_after(first, u32::MAX);
-        match (self.spanning(first), self.spanning(last)) {
-            (Some(a), Some(b)) => Some(a.min(b)),
-            (Some(a), None) => Some(a),
-            (None, b) => b,
-        }
+        least(self.spanning(first), self.spanning(last))
     }
 }
