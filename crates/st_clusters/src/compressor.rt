@@ -1,7 +1,8 @@
 //! The table of ids as running code.
-ghost use Rattle.std.specs.Prelude.{◌≡◌, ◌≤◌, ◌<◌, ◌+◌, ◌-◌, Ok, Err, None, length, vec_len, [], ◌∷◌, ◌++◌, MatchOption, IfOk, IfErr, OnOk, OnErr, slice_get, option_map, option_copied};
+ghost use Rattle.std.specs.Prelude.{◌≡◌, ◌≤◌, ◌<◌, ◌+◌, ◌-◌, Ok, Err, None, true, length, vec_len, [], ◌∷◌, ◌++◌, MatchOption, IfOk, IfErr, OnOk, OnErr, slice_get, option_map, option_copied};
 ghost use Rattle.std.specs.List.{insert};
 ghost use Rattle.st_ids.specs.Or.{IfRefused};
+ghost use Rattle.st_clusters.specs.Free.{is_v4};
 ghost use Rattle.st_clusters.specs.Table.{is_next, raise_to, new_session};
 ghost use Rattle.st_clusters.specs.inside.Kept.{IsSound, AreInOrder};
 
@@ -51,6 +52,19 @@ impl Compressor {
         Some(place as u32 + 1)
     }
 
+    // Why a session with that UUID can't join, if it can't.
+    fn refusal(&self, uuid: u128) -> Option<IdFault>
+        ensures { MatchOption result
+            ((is_v4 uuid ≡ true) × (clash uuid self.now.sessions.items ≡ None))
+            (λ f. after_joining uuid (ids_of self.now) ≡ Err f) }
+    {
+        if !is_v4(uuid) {
+            return Some(IdFault::NotV4);
+        }
+        let session = self.clash(uuid)?;
+        Some(IdFault::Clash { session })
+    }
+
     /// A session with that UUID joins: it gets the next number, from 1 on. After an `Err` nothing
     /// has changed.
     pub fn add_session(&mut self, alloc: Global, uuid: u128) -> Result<u32, Or<IdFault>>
@@ -62,11 +76,8 @@ impl Compressor {
         ensures count { OnOk result (length (ids_of self.new).sessions
             ≡ length (ids_of self.old).sessions + 1) }
     {
-        if !is_v4(uuid) {
-            return Err(Or::Fault(IdFault::NotV4));
-        }
-        if let Some(session) = self.clash(uuid) {
-            return Err(Or::Fault(IdFault::Clash { session }));
+        if let Some(fault) = self.refusal(uuid) {
+            return Err(Or::Fault(fault));
         }
         let before = self.count_before(free_number(uuid));
         self.sessions.reserve(1)?;
