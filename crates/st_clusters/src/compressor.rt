@@ -209,7 +209,8 @@ fn add_place(
 ) -> Result<(), AllocError>
     requires { before ≤ vec_len order.old }
     ensures ok { OnOk result (places.new.items ≡ places.old.items ++ [] ∷ []) }
-    ensures place { OnOk result (order.new.items ≡ insert order.old.items before (vec_len places.old)) }
+    ensures place { OnOk result (order.new.items
+        ≡ insert order.old.items before (vec_len places.old)) }
     ensures err { OnErr result (places.new.items ≡ places.old.items) }
     ensures err_place { OnErr result (order.new.items ≡ order.old.items) }
 {
