@@ -12,7 +12,8 @@ use Rattle.st_clusters.specs.inside.Kept.{AreApart, MayHaveId, MayHaveNumber, be
 use Rattle.st_clusters.specs.declared.ids.Cluster.{Cluster}
 use Rattle.st_clusters.proofs.Clusters.{places_are, places_rise, places_all}
 
-any_default : {A : Type 0} (xs : List A) (i : ℕ) (d e : A) → i < length xs → get_or xs i d ≡ get_or xs i e
+-- a place of a list, whatever is read past its end
+pub any_default : {A : Type 0} (xs : List A) (i : ℕ) (d e : A) → i < length xs → get_or xs i d ≡ get_or xs i e
 any_default {A = A} xs i d e h =
     let one : slice_get xs i ≡ Some (get_or xs i d) = slice_get-get_or xs i d h in
     let two : slice_get xs i ≡ Some (get_or xs i e) = slice_get-get_or xs i e h in

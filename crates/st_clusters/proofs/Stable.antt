@@ -31,7 +31,7 @@ one_way ss cs ps i k x sound less within low near far =
     cc (meets, apart)
 
 -- a free number is in one span alone
-one_span : (ss : List SessionIds) (cs : List Cluster) (ps : List (List ℕ)) (i k x : ℕ) → IsSound ss cs ps → i < length ss → k < length ss → x < 2 ^ 122 → ahead (free_at ss i) x < 2 ^ 32 → ahead (free_at ss k) x < 2 ^ 32 → i ≡ k
+pub one_span : (ss : List SessionIds) (cs : List Cluster) (ps : List (List ℕ)) (i k x : ℕ) → IsSound ss cs ps → i < length ss → k < length ss → x < 2 ^ 122 → ahead (free_at ss i) x < 2 ^ 32 → ahead (free_at ss k) x < 2 ^ 32 → i ≡ k
 one_span ss cs ps i k x sound hi hk low near far = elim (cases_eq i k) [
   | inl e ↦ e
   | inr ne ↦ elim (cases_lt i k) [

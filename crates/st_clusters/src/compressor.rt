@@ -1,26 +1,31 @@
 //! The table of ids as running code.
-ghost use Rattle.std.specs.Prelude.{◌≡◌, ◌≤◌, ◌<◌, ◌+◌, ◌-◌, Ok, Err, None, length, [], MatchOption, IfOk, IfErr, OnOk, OnErr, slice_get, option_map, option_copied};
+ghost use Rattle.std.specs.Prelude.{◌≡◌, ◌≤◌, ◌<◌, ◌+◌, ◌-◌, Ok, Err, None, true, length, vec_len, [], ◌∷◌, ◌++◌, MatchOption, IfOk, IfErr, OnOk, OnErr, slice_get, option_map, option_copied};
+ghost use Rattle.std.specs.List.{insert};
 ghost use Rattle.st_ids.specs.Or.{IfRefused};
-ghost use Rattle.st_clusters.specs.Table.{is_next, raise_to, new_session, meeting};
-ghost use Rattle.st_clusters.specs.inside.Kept.{IsSound};
+ghost use Rattle.st_clusters.specs.Free.{is_v4};
+ghost use Rattle.st_clusters.specs.Table.{is_next, raise_to, new_session};
+ghost use Rattle.st_clusters.specs.inside.Kept.{IsSound, AreInOrder};
 
 use crate::cluster::put_range;
-use crate::free::{free_number, is_v4, spans_meet};
+use crate::free::{free_number, is_v4};
 use crate::ids::{Cluster, IdFault, IdRange, SessionIds};
 use st_ids::{List, Or};
-use std::alloc::Global;
+use std::alloc::{AllocError, Global};
 
 /// How many ids a session can have.
 const MOST_IDS: u32 = 4_294_967_294;
 
 /// The sessions, the ids that each has generated, and the clusters that give final numbers. Beside
-/// the clusters it keeps the places of each session's, so that an id is found by halving.
+/// the clusters it keeps the places of each session's, and beside the sessions their places in the
+/// order in which their spans begin, so that an id, a number and a UUID are found by halving.
 #[derive(Drop)]
 pub struct Compressor {
     pub(crate) sessions: Vec<SessionIds>,
     pub(crate) clusters: Vec<Cluster>,
     pub(crate) places: Vec<List<usize>>,
+    pub(crate) order: Vec<usize>,
     ghost sound: { IsSound sessions.items clusters.items places.items },
+    ghost in_order: { AreInOrder sessions.items order.items },
 }
 
 impl Compressor {
@@ -35,6 +40,7 @@ impl Compressor {
             sessions: Vec::new(alloc),
             clusters: Vec::new(alloc),
             places: Vec::new(alloc),
+            order: Vec::new(alloc),
         }
     }
 
@@ -42,8 +48,21 @@ impl Compressor {
     pub fn clash(&self, uuid: u128) -> Option<u32>
         ensures { result ≡ clash uuid (ids_of self.now).sessions }
     {
-        let place = meeting(self.sessions.as_slice(), uuid)?;
+        let place = self.meeting(uuid)?;
         Some(place as u32 + 1)
+    }
+
+    // Why a session with that UUID can't join, if it can't.
+    fn refusal(&self, uuid: u128) -> Option<IdFault>
+        ensures { MatchOption result
+            ((is_v4 uuid ≡ true) × (clash uuid self.now.sessions.items ≡ None))
+            (λ f. after_joining uuid (ids_of self.now) ≡ Err f) }
+    {
+        if !is_v4(uuid) {
+            return Some(IdFault::NotV4);
+        }
+        let session = self.clash(uuid)?;
+        Some(IdFault::Clash { session })
     }
 
     /// A session with that UUID joins: it gets the next number, from 1 on. After an `Err` nothing
@@ -57,14 +76,12 @@ impl Compressor {
         ensures count { OnOk result (length (ids_of self.new).sessions
             ≡ length (ids_of self.old).sessions + 1) }
     {
-        if !is_v4(uuid) {
-            return Err(Or::Fault(IdFault::NotV4));
+        if let Some(fault) = self.refusal(uuid) {
+            return Err(Or::Fault(fault));
         }
-        if let Some(session) = self.clash(uuid) {
-            return Err(Or::Fault(IdFault::Clash { session }));
-        }
+        let before = self.count_before(free_number(uuid));
         self.sessions.reserve(1)?;
-        self.places.push(List::new(alloc))?;
+        add_place(alloc, &mut self.places, &mut self.order, before)?;
         self.sessions.push_reserved(new_session(uuid));
         Ok(self.sessions.len() as u32)
     }
@@ -183,6 +200,26 @@ fn raise_to(ids: SessionIds, count: u32) -> SessionIds
     }
 }
 
+// Puts the place of one more session into the order. The session has no clusters yet.
+fn add_place(
+    alloc: Global,
+    places: &mut Vec<List<usize>>,
+    order: &mut Vec<usize>,
+    before: usize,
+) -> Result<(), AllocError>
+    requires { before ≤ vec_len order.old }
+    ensures ok { OnOk result (places.new.items ≡ places.old.items ++ [] ∷ []) }
+    ensures place { OnOk result (order.new.items
+        ≡ insert order.old.items before (vec_len places.old)) }
+    ensures err { OnErr result (places.new.items ≡ places.old.items) }
+    ensures err_place { OnErr result (order.new.items ≡ order.old.items) }
+{
+    places.reserve(1)?;
+    order.insert(before, places.len())?;
+    places.push_reserved(List::new(alloc));
+    Ok(())
+}
+
 // A session that has no ids yet.
 fn new_session(uuid: u128) -> SessionIds
     ensures { result ≡ new_session uuid }
@@ -193,14 +230,4 @@ fn new_session(uuid: u128) -> SessionIds
         taken: 0,
         finalised: 0,
     }
-}
-
-// The place of the first session whose span meets that of a UUID.
-fn meeting(sessions: &[SessionIds], uuid: u128) -> Option<usize>
-    ensures { result ≡ meeting uuid sessions.now }
-{
-    let free = free_number(uuid);
-    sessions
-        .iter()
-        .position(|ids| spans_meet(free_number(ids.uuid), free))
 }

@@ -12,13 +12,14 @@ impl Compressor {
     pub fn copy(&self, alloc: Global) -> Result<Compressor, AllocError>
         ensures { IfOk result (λ c. ids_of c ≡ ids_of self.now) }
     {
-        let places = copy_places(alloc, self.places.as_slice())?;
+        let (places, order) = copy_kept(alloc, self.places.as_slice(), self.order.as_slice())?;
         let sessions = self.sessions.iter().copied().collect(alloc)?;
         let clusters = self.clusters.iter().copied().collect(alloc)?;
         Ok(Compressor {
             sessions,
             clusters,
             places,
+            order,
         })
     }
 }
@@ -37,4 +38,18 @@ fn copy_places(alloc: Global, places: &[List<usize>]) -> Result<Vec<List<usize>>
         copy.push(copy_list(alloc, list.as_slice())?)?;
     }
     Ok(copy)
+}
+
+// Copies what is kept beside the clusters and beside the sessions.
+fn copy_kept(
+    alloc: Global,
+    places: &[List<usize>],
+    order: &[usize],
+) -> Result<(Vec<List<usize>>, Vec<usize>), AllocError>
+    ensures places { IfOk result (λ kept. kept.0.items ≡ places.now) }
+    ensures order { IfOk result (λ kept. kept.1.items ≡ order.now) }
+{
+    let places = copy_places(alloc, places)?;
+    let order = order.iter().copied().collect(alloc)?;
+    Ok((places, order))
 }

@@ -1,8 +1,9 @@
 //! Version 4 UUIDs and their free numbers.
 ghost use Rattle.std.specs.Prelude.{◌≡◌, ◌<◌, ◌^◌};
-ghost use Rattle.st_clusters.specs.Free.{is_v4, free_number, uuid_of, ahead, free_after, spans_meet};
+ghost use Rattle.st_clusters.specs.Free.{is_v4, free_number, uuid_of, ahead, free_after};
 
-const SPAN: u128 = 1 << 32;
+/// How many free numbers the span of a session has.
+pub(crate) const SPAN: u128 = 1 << 32;
 
 const ROUND: u128 = 1 << 122;
 
@@ -54,13 +55,4 @@ pub(crate) fn free_after(free: u128, n: u32) -> u128
     ensures bound { result < 2 ^ 122 }
 {
     (free + u128::from(n)) % ROUND
-}
-
-/// Whether the spans of two free numbers meet.
-pub(crate) fn spans_meet(a: u128, b: u128) -> bool
-    requires first { a < 2 ^ 122 }
-    requires second { b < 2 ^ 122 }
-    ensures { result ≡ spans_meet a b }
-{
-    ahead(a, b) < SPAN || ahead(b, a) < SPAN
 }

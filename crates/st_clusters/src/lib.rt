@@ -10,6 +10,7 @@ mod ids;
 mod laws;
 mod look;
 mod names;
+mod spans;
 
 pub use at::At;
 pub use compressor::Compressor;

@@ -2,7 +2,7 @@
 ghost use Rattle.std.specs.Prelude.{◌≡◌, ℕ, ◌+◌, ◌-◌, ◌<◌, ◌≤◌, ◌^◌, ℤ, [], Some, None, Ok, length, slice_get, option_copied, option_map, MatchOption, MatchResult, IfOk, IfSome};
 ghost use Rattle.std.specs.Option.{ok_or};
 ghost use Rattle.st_clusters.specs.Table.{session_of};
-ghost use Rattle.st_clusters.specs.inside.Spans.{spanning, id_at};
+ghost use Rattle.st_clusters.specs.inside.Spans.{id_at};
 ghost use Rattle.st_clusters.specs.Names.{IsInTable, IsFinal, IsFinalBefore, IsOp, is_of, is_later, stable_of, nth_uuid, generated_by};
 ghost use Rattle.st_ids.specs.declared.names.Rev.{Rev as RevNames};
 
@@ -193,7 +193,7 @@ impl Compressor {
             return Err(Unknown);
         }
         let free = free_number(uuid);
-        match spanning(self.sessions.as_slice(), free) {
+        match self.spanning(free) {
             Some(place) => id_at(place, &self.sessions[place], free),
             None => Err(Unknown),
         }
@@ -245,16 +245,6 @@ fn nth_uuid(ids: &SessionIds, n: u32) -> u128
     ensures { result ≡ nth_uuid ids.now n }
 {
     uuid_of(free_after(free_number(ids.uuid), n - 1))
-}
-
-// The place of the first session that has a free number in its span.
-fn spanning(sessions: &[SessionIds], free: u128) -> Option<usize>
-    requires { free < 2 ^ 122 }
-    ensures { result ≡ spanning free sessions.now }
-{
-    sessions
-        .iter()
-        .position(|ids| ahead(free_number(ids.uuid), free) < 1 << 32)
 }
 
 // The id of a free number in the span of the session at a place.

@@ -1,6 +1,6 @@
 -- What holds of each table, and of the places of clusters that are kept beside it.
-use Rattle.std.specs.Prelude.{ℕ, ◌≡◌, ◌+◌, ◌-◌, ◌*◌, ◌^◌, ◌<◌, ◌≤◌, Bool, ◌&&◌, nat_lt, nat_le, true, false, List, [], length, slice_index_or}
-use Rattle.std.specs.List.{sum_by}
+use Rattle.std.specs.Prelude.{ℕ, ◌≡◌, ◌+◌, ◌-◌, ◌*◌, ◌^◌, ◌<◌, ◌≤◌, Bool, ◌&&◌, ◌==◌, nat_lt, nat_le, true, false, List, [], length, slice_index_or}
+use Rattle.std.specs.List.{sum_by, position_or_len}
 use Rattle.st_clusters.specs.Free.{is_v4, free_number, spans_meet}
 use Rattle.st_clusters.specs.Table.{at, next_free, places_of, most_ids, no_session}
 use Rattle.st_ids.specs.declared.names.Rev.{Rev}
@@ -10,6 +10,21 @@ use Rattle.st_clusters.specs.declared.ids.SessionIds.{SessionIds}
 
 abbrev pub session_at : List SessionIds → ℕ → SessionIds
 session_at ss k = slice_index_or ss k no_session
+
+-- the free number that the span of a session begins with
+abbrev pub start : List SessionIds → ℕ → ℕ
+start ss k = free_number (session_at ss k).uuid
+
+-- where a place first stands in an order
+abbrev pub turn : List ℕ → ℕ → ℕ
+turn os k = position_or_len (λ (o : ℕ). o == k) os
+
+-- the places of the sessions, in the order in which their spans begin
+pub record AreInOrder (ss : List SessionIds) (os : List ℕ) : Type 0 where
+  pub each : length os ≡ length ss
+  pub there : (i : ℕ) → i < length os → slice_index_or os i 0 < length ss
+  pub rise : (i j : ℕ) → i < j → j < length os → start ss (slice_index_or os i 0) ≤ start ss (slice_index_or os j 0)
+  pub every : (k : ℕ) → k < length ss → turn os k < length os
 
 -- clusters whose numbers and ids are apart
 pub record AreApart (cs : List Cluster) : Type 0 where

@@ -1,7 +1,8 @@
-use Rattle.std.proofs.Common.{◌≡◌, true, sym, arith}
+use Rattle.std.proofs.Common.{◌≡◌, true, refl, sym, arith}
 use Rattle.st_clusters.specs.Ids.{ids_of}
 use Rattle.st_clusters.specs.Table.{is_next}
 use Rattle.st_clusters.proofs.Finalising.{ends_before, numbers_fit, sound_finalised, finalising, next_parts}
+use Rattle.st_clusters.proofs.InOrder.{order_kept}
 use Rattle.st_clusters.proofs.compressor.Compressor.finalize.Goals as goal
 
 pub put_range-requires-clause-numbers : goal.put_range-requires-clause-numbers
@@ -25,6 +26,7 @@ invariant_of-self-2 c =
     record {
       sound = rw c.raise_to.ensures (sound_finalised self.sessions.items self.clusters.items c.put_range.new.clusters.items self.places.items c.in-Some.place c.index.result.now c.args.range c.put_range.new.places
           self.sound c.in-Some.ensures.1 c.index.ensures c.in-Some.ensures.0 parts.0 parts.1 c.in_ok-put_range.ensures.ok c.in_ok-put_range.ensures.places);
+      in_order = rw c.raise_to.ensures (order_kept self.sessions.items self.order.items c.in-Some.place c.index.result.now _ self.in_order c.in-Some.ensures.1 c.index.ensures refl);
     }
 
 pub returns-clause-ok : goal.returns-clause-ok

@@ -2,6 +2,7 @@ use Rattle.std.proofs.Common.{refl, arith}
 use Rattle.st_clusters.specs.Ids.{ids_of}
 use Rattle.st_clusters.specs.inside.Kept.{AreCounts}
 use Rattle.st_clusters.proofs.Counts.{recounted, rewinding}
+use Rattle.st_clusters.proofs.InOrder.{order_kept}
 use Rattle.st_clusters.proofs.compressor.Compressor.rewind.Goals as goal
 
 pub invariant_of-self : goal.invariant_of-self
@@ -10,6 +11,7 @@ invariant_of-self c =
     record {
       sound = recounted self.sessions.items self.clusters.items self.places.items c.in-Some.place c.index-ids.result.now _ self.sound
           c.in-Some.ensures.1 c.index-ids.ensures refl refl (λ (h : AreCounts c.index-ids.result.now). record { final_taken = omega arith; taken_made = omega (arith, h.taken_made, h.final_taken); made = h.made });
+      in_order = order_kept self.sessions.items self.order.items c.in-Some.place c.index-ids.result.now _ self.in_order c.in-Some.ensures.1 c.index-ids.ensures refl;
     }
 
 pub returns-clause-ok : goal.returns-clause-ok
