@@ -1,2 +1,3 @@
 pub mod OpText
+pub mod Reading
 pub mod TableText
