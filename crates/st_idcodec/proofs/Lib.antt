@@ -1,3 +1,6 @@
 pub mod Refusing
 pub mod Back
 pub mod Parsing
+pub mod Sound
+pub mod Sessions
+pub mod Tables

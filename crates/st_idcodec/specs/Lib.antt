@@ -1,3 +1,4 @@
 pub mod OpText
 pub mod Reading
 pub mod TableText
+pub mod Tables

@@ -12,6 +12,7 @@ use Rattle.st_clusters.specs.declared.ids.Cluster.{Cluster}
 use Rattle.st_clusters.specs.declared.ids.IdRange.{IdRange}
 use Rattle.st_idcodec.specs.OpText.{place_number}
 use Rattle.st_idcodec.specs.TableText.{uuid_text}
+use Rattle.st_idcodec.specs.Tables.{no_ids}
 
 abbrev pub same : List ℕ → List ℕ → Bool
 same s t = pointwise nat_eq s t
@@ -46,7 +47,7 @@ clusters_of (item d ds) = option_and_then (λ c. option_map (λ cs. c ∷ cs) (c
 
 -- the number of a UUID whose text is in lower case with hyphens
 abbrev pub with_text : List ℕ → ℕ → Option ℕ
-with_text s u = if same (uuid_text u) s then Some u else None
+with_text s u = if nat_lt u (2 ^ 128) && same (uuid_text u) s then Some u else None
 
 abbrev pub uuid_of_text : List ℕ → Option ℕ
 uuid_of_text s = option_and_then (with_text s) (option_map (from_be_bytes w128) (parsed s))
@@ -68,9 +69,6 @@ abbrev pub table_items : Data → Option (Items × Items)
 table_items d = option_and_then items_in (as_object d)
 
 -- ## The table that they lead to
-
-abbrev pub no_ids : Ids
-no_ids = record { sessions = []; clusters = [] }
 
 -- a session joins with a UUID, where there are fewer than 65,535
 abbrev pub after_uuid : ℕ → Ids → Option Ids

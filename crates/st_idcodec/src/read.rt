@@ -4,8 +4,9 @@ ghost use Rattle.serde_json.specs.View.{view, items_view, members_view};
 ghost use Rattle.st_clusters.specs.Ids.{ids_of};
 ghost use Rattle.st_clusters.specs.Table.{Ids};
 ghost use Rattle.st_ids.specs.Or.{IfRefused};
-ghost use Rattle.st_idcodec.specs.Reading.{same, cluster_of_numbers, cluster_in, cluster_of, clusters_of, with_text, uuid_of_text, uuid_of, both_items, items_in, table_items, no_ids, after_uuid, after_uuid_value, after_uuids, part, front_of, rest_of, after_range, after_cluster, after_clusters, led_to, IsRead};
-ghost use Rattle.st_idcodec.specs.TableText.{uuid_text};
+ghost use Rattle.st_idcodec.specs.Reading.{same, cluster_of_numbers, cluster_in, cluster_of, clusters_of, with_text, uuid_of_text, uuid_of, both_items, items_in, table_items, after_uuid, after_uuid_value, after_uuids, part, front_of, rest_of, after_range, after_cluster, after_clusters, led_to, IsRead};
+ghost use Rattle.st_idcodec.specs.TableText.{uuid_text, table_data};
+ghost use Rattle.st_idcodec.specs.Tables.{no_ids, IsTable};
 ghost use Rattle.uuid.specs.Text.{parsed};
 
 use crate::names::place_number;
@@ -304,9 +305,8 @@ fn rebuilt(alloc: Global, uuids: &[Value], clusters: &[Cluster]) -> Result<Compr
     }
 }
 
-/// The table that a value is. `Shape` where it is none, also where a UUID isn't of version 4 or the
-/// spans of two meet.
-pub fn read_table(alloc: Global, value: &Value) -> Result<Compressor, Or<Shape>>
+// What is read of a value as a table.
+fn read(alloc: Global, value: &Value) -> Result<Compressor, Or<Shape>>
     ensures ok { IfOk result (λ c. IsRead (view value.now) (ids_of c)) }
     ensures refused { IfRefused result (λ _. (t : Ids) → ¬ IsRead (view value.now) t) }
 {
@@ -315,4 +315,13 @@ pub fn read_table(alloc: Global, value: &Value) -> Result<Compressor, Or<Shape>>
     };
     let clusters = clusters_of(alloc, clusters)?;
     rebuilt(alloc, uuids, clusters.as_slice())
+}
+
+/// The table that a value is: all its ids that are finalised are generated, and no others.
+pub fn read_table(alloc: Global, value: &Value) -> Result<Compressor, Or<Shape>>
+    ensures ok { IfOk result (λ c. IsTable (ids_of c)
+        × (view value.now ≡ table_data (ids_of c))) }
+    ensures refused { IfRefused result (λ _. (t : Ids) → ¬ IsRead (view value.now) t) }
+{
+    read(alloc, value)
 }
