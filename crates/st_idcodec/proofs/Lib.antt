@@ -4,3 +4,7 @@ pub mod Parsing
 pub mod Sound
 pub mod Sessions
 pub mod Tables
+pub mod Going
+pub mod Gone
+pub mod Running
+pub mod Complete

@@ -1,9 +1,10 @@
 -- The tables that some sessions and some ranges lead to.
-use Rattle.std.specs.Prelude.{ℕ, ◌≡◌, ◌<◌, ◌≤◌, ◌^◌, List, [], ◌∷◌, length, Result, Ok}
-use Rattle.st_clusters.specs.Table.{Ids, after_joining}
+use Rattle.std.specs.Prelude.{ℕ, ◌≡◌, ◌<◌, ◌≤◌, ◌^◌, List, [], ◌∷◌, length, Some, Result, Ok}
+use Rattle.st_clusters.specs.Table.{Ids, session_of, after_joining}
 use Rattle.st_clusters.specs.Log.{and_then, after_log}
 use Rattle.st_clusters.specs.declared.ids.IdFault.{IdFault}
 use Rattle.st_clusters.specs.declared.ids.IdRange.{IdRange}
+use Rattle.st_clusters.specs.declared.ids.SessionIds.{SessionIds}
 
 -- the table of no sessions
 abbrev pub no_ids : Ids
@@ -25,3 +26,7 @@ pub record IsTable (t : Ids) : Type 0 where
   pub few : length uuids ≤ 65535
   pub wide : AreWide uuids
   pub led : and_then (after_joins uuids no_ids) (λ u. after_log ranges u) ≡ Ok t
+
+-- each session has taken and generated just the ids that are finalised
+abbrev pub AreSettled : Ids → Type 0
+AreSettled t = (s : ℕ) (x : SessionIds) → session_of t.sessions s ≡ Some x → (x.generated ≡ x.finalised) × (x.taken ≡ x.finalised)

@@ -317,11 +317,13 @@ fn read(alloc: Global, value: &Value) -> Result<Compressor, Or<Shape>>
     rebuilt(alloc, uuids, clusters.as_slice())
 }
 
-/// The table that a value is: all its ids that are finalised are generated, and no others.
+/// The table that a value is: all its ids that are finalised are generated, and no others. `Shape`
+/// where sessions and ranges lead to no table that is written so.
 pub fn read_table(alloc: Global, value: &Value) -> Result<Compressor, Or<Shape>>
     ensures ok { IfOk result (λ c. IsTable (ids_of c)
         × (view value.now ≡ table_data (ids_of c))) }
-    ensures refused { IfRefused result (λ _. (t : Ids) → ¬ IsRead (view value.now) t) }
+    ensures refused { IfRefused result (λ _. (t : Ids) → IsTable t
+        → ¬ (view value.now ≡ table_data t)) }
 {
     read(alloc, value)
 }
