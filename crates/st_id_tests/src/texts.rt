@@ -3,8 +3,8 @@
 use crate::sessions::worked;
 use serde_json::Value;
 use st_clusters::{At, Compressor, IdRange};
-use st_idcodec::{CodecFault, op_atom, op_rev, read_op_atom, read_op_rev, table_value};
-use st_ids::{Atom, List, Rev};
+use st_idcodec::{CodecFault, op_atom, op_rev, read_op_atom, read_op_rev, read_table, table_value};
+use st_ids::{Atom, List, Or, Rev};
 use std::alloc::{AllocError, Global};
 use std::test::Fail;
 
@@ -61,5 +61,64 @@ fn texts(rt: HostRuntime) -> Result<(), Fail> {
     let ids = worked(alloc).ok_or("a table")?;
     let (table, names) = (is_table(alloc, &ids)?, names(alloc, &ids)?);
     assert!(rt; table && names);
+    Ok(())
+}
+
+// A table whose first cluster grew.
+const GROWN: &str =
+    "{\"clusters\":[[2,1,1,1024,1000],[1,1,1025,512,7]],\"uuids\":[\"00000000-0000-4004-8000-000000000000\",\"00000000-0000-4008-8000-000000000000\"]}";
+
+// In turn: a gap before the first number, a cluster of 511, one that isn't full before the next of
+// its session, two neighbours of one session, a session that isn't there, one that grew while it had
+// room, a UUID in upper case, one of version 1, two that clash, no UUIDs, and no object.
+const REFUSED: [&str; 11] = [
+    "{\"clusters\":[[1,1,2,512,512]],\"uuids\":[\"00000000-0000-4004-8000-000000000000\"]}",
+    "{\"clusters\":[[1,1,1,511,511]],\"uuids\":[\"00000000-0000-4004-8000-000000000000\"]}",
+    "{\"clusters\":[[1,1,1,512,511],[2,1,513,512,1],[1,512,1025,512,1]],\"uuids\":[\"00000000-0000-4004-8000-000000000000\",\"00000000-0000-4008-8000-000000000000\"]}",
+    "{\"clusters\":[[1,1,1,512,512],[1,513,513,512,1]],\"uuids\":[\"00000000-0000-4004-8000-000000000000\"]}",
+    "{\"clusters\":[[2,1,1,512,1]],\"uuids\":[\"00000000-0000-4004-8000-000000000000\"]}",
+    "{\"clusters\":[[1,1,1,1024,512]],\"uuids\":[\"00000000-0000-4004-8000-000000000000\"]}",
+    "{\"clusters\":[],\"uuids\":[\"00000000-0000-4004-8000-00000000000A\"]}",
+    "{\"clusters\":[],\"uuids\":[\"00000000-0000-1004-8000-000000000000\"]}",
+    "{\"clusters\":[],\"uuids\":[\"00000000-0000-4004-8000-000000000000\",\"00000000-0000-4004-8000-000000000001\"]}",
+    "{\"clusters\":[]}",
+    "[]",
+];
+
+fn reads(alloc: Global, text: &str) -> Option<bool> {
+    let value = Value::from_str(alloc, text).ok()?;
+    let ids = read_table(alloc, &value).ok()?;
+    let back = table_value(alloc, &ids).ok()?;
+    let written = back.to_string(alloc).ok()?;
+    Some(written.as_str() == text)
+}
+
+fn reads_ids(alloc: Global) -> Option<bool> {
+    let value = Value::from_str(alloc, TABLE).ok()?;
+    let mut ids = read_table(alloc, &value).ok()?;
+    let finalised = ids.finalised(1) == Some(513) && ids.finalised(2) == Some(1);
+    Some(finalised && ids.generate(1) == Ok(514) && ids.generate(2) == Ok(2))
+}
+
+fn is_refused(alloc: Global, text: &str) -> bool {
+    match Value::from_str(alloc, text) {
+        Ok(value) => matches!(read_table(alloc, &value), Err(Or::Fault(_))),
+        Err(_) => false,
+    }
+}
+
+#[test]
+fn tables_are_read(rt: HostRuntime) -> Result<(), Fail> {
+    let alloc = rt.alloc();
+    let (table, grown, ids) = (reads(alloc, TABLE), reads(alloc, GROWN), reads_ids(alloc));
+    assert!(rt; table == Some(true) && grown == Some(true) && ids == Some(true));
+    Ok(())
+}
+
+#[test]
+fn tables_are_refused(rt: HostRuntime) -> Result<(), Fail> {
+    let alloc = rt.alloc();
+    let wrong = REFUSED.iter().position(|text| !is_refused(alloc, text));
+    assert!(rt; wrong.is_none(), "{wrong:?}");
     Ok(())
 }

@@ -1,2 +1,10 @@
 pub mod Refusing
 pub mod Back
+pub mod Parsing
+pub mod Sound
+pub mod Sessions
+pub mod Tables
+pub mod Going
+pub mod Gone
+pub mod Running
+pub mod Complete

@@ -1,2 +1,4 @@
 pub mod OpText
+pub mod Reading
 pub mod TableText
+pub mod Tables

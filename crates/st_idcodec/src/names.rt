@@ -134,7 +134,7 @@ fn two_items(value: &Value) -> Option<(&Value, &Value)>
 }
 
 // The place that a value is.
-fn place_number(value: &Value) -> Option<u32>
+pub(crate) fn place_number(value: &Value) -> Option<u32>
     ensures { result ≡ place_number (view value.now) }
 {
     let n = number(value).ok()?;
