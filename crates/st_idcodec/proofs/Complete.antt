@@ -1,6 +1,6 @@
 -- What is written for a table is read as that table.
-use Rattle.std.proofs.Common.{◌≡◌, ◌⊎◌, inl, inr, ◌<◌, ◌≤◌, ◌+◌, ◌-◌, ◌^◌, ◌%◌, ℕ, zero, suc, true, false, Bool, refl, sym, subst, ap, ◌∙◌, arith, List, [], ◌∷◌, ◌++◌, length, get_or, map, All, Option, Some, None}
-use Rattle.std.proofs.lemmas.Bool.{cases_eq, cases_lt}
+use Rattle.std.proofs.Common.{◌≡◌, ◌⊎◌, inl, inr, ◌<◌, ◌≤◌, ◌+◌, ◌-◌, ◌^◌, ◌%◌, ℕ, zero, suc, true, refl, sym, subst, ap, ◌∙◌, arith, List, [], ◌∷◌, ◌++◌, length, map, Option, Some}
+use Rattle.std.proofs.lemmas.Bool.{cases_lt}
 use Rattle.std.proofs.lemmas.Bool.Decides.{nat_tests}
 use Rattle.std.proofs.lemmas.List.{append_assoc, append-nil, length_push, get_or_push, get_or_append_left, map-append}
 use Rattle.std.proofs.lemmas.List.Elements.{All-from_recursion}
@@ -10,16 +10,15 @@ use Rattle.std.specs.Int.{w128, to_be_bytes, from_be_bytes, byte_at, bytes_high_
 use Rattle.std.specs.List.{AllByRecursion}
 use Rattle.std.specs.Option.{option_map}
 use Rattle.std.specs.Prelude.{◌==◌, cond, nat_lt, option_and_then, Result, Ok, Err}
-use Rattle.std.specs.Result.{result_ok}
-use Rattle.serde_json.specs.Data.{Data, Items, no_items, item}
+use Rattle.serde_json.specs.Data.{Data, Items, item}
 use Rattle.serde_json.specs.View.{items_of}
-use Rattle.uuid.specs.Text.{lower, parsed, hyphenated_text}
+use Rattle.uuid.specs.Text.{lower, parsed}
 use Rattle.uuid.proofs.OrderLemmas.{from_be_bytes-to_be_bytes_16}
 use Rattle.uuid.proofs.RoundTrips.{parses_hyphenated}
 use Rattle.st_ids.specs.Or.{IfRefused}
 use Rattle.st_ids.specs.declared.fault.Or.{Or}
 use Rattle.st_ids.specs.declared.fault.Or.TheVariants.{Fault, NoMemory}
-use Rattle.st_clusters.specs.Log.{and_then, after_log}
+use Rattle.st_clusters.specs.Log.{after_log}
 use Rattle.st_clusters.specs.Table.{Ids, no_session, new_session, after_joining, most_ids}
 use Rattle.st_clusters.specs.inside.Kept.{session_at}
 use Rattle.st_clusters.specs.declared.ids.Cluster.{Cluster}
@@ -29,8 +28,8 @@ use Rattle.st_clusters.proofs.Stable.{session_known}
 use Rattle.st_idcodec.specs.TableText.{uuid_text, uuid_data, cluster_data, table_data}
 use Rattle.st_idcodec.specs.Tables.{IsTable, AreWide, AreSettled, after_joins, no_ids}
 use Rattle.st_idcodec.specs.Reading.{IsRead, same, with_text, uuid_of_text, uuid_of, cluster_of, clusters_of, after_uuid, after_uuid_value, after_uuids, after_clusters, led_to}
-use Rattle.st_idcodec.proofs.Going.{used_of, used_new, Goes, AllGo}
-use Rattle.st_idcodec.proofs.Running.{HasAll, IsSettled, IsLed, log_led, AllGiven, all_given, one_table}
+use Rattle.st_idcodec.proofs.Going.{used_of, used_new, AllGo}
+use Rattle.st_idcodec.proofs.Running.{HasAll, IsLed, log_led, AllGiven, all_given, one_table}
 use Rattle.st_idcodec.proofs.Sessions.{uuids_in, with_joined, joined_is}
 use Rattle.st_idcodec.proofs.Tables.{text_data, texts_are}
 

@@ -1,10 +1,10 @@
 -- What is read of a value as a table is a table.
-use Rattle.std.proofs.Common.{◌≡◌, ◌⊎◌, inl, inr, ◌<◌, ◌≤◌, ◌+◌, ◌-◌, ◌^◌, ℕ, true, false, Bool, refl, sym, subst, ap, ◌∙◌, arith, List, [], ◌∷◌, ◌++◌, length, map, set, Option, Some, None}
+use Rattle.std.proofs.Common.{◌≡◌, inl, inr, ◌<◌, ◌≤◌, ◌+◌, ◌^◌, ℕ, refl, sym, ap, ◌∙◌, arith, List, [], ◌∷◌, ◌++◌, length, map, Option, Some, None}
 use Rattle.std.proofs.lemmas.Bool.{cases_Bool}
 use Rattle.std.proofs.lemmas.Bool.Decides.{nat_tests}
 use Rattle.std.proofs.lemmas.List.{map-append, length_push, append_assoc, append-nil}
 use Rattle.std.specs.Option.{option_map}
-use Rattle.std.specs.Prelude.{nat_lt, option_and_then, Result, Ok, Err, IfOk}
+use Rattle.std.specs.Prelude.{nat_lt, Result, Ok, Err, IfOk}
 use Rattle.std.specs.Result.{result_ok}
 use Rattle.serde_json.specs.Data.{Data, string, Items, no_items, item}
 use Rattle.serde_json.specs.View.{items_of}
@@ -13,10 +13,9 @@ use Rattle.st_clusters.specs.Ids.{ids_of}
 use Rattle.st_clusters.specs.declared.compressor.Compressor.{Compressor}
 use Rattle.st_clusters.specs.Log.{and_then, after_log}
 use Rattle.st_clusters.specs.declared.ids.Cluster.{Cluster}
-use Rattle.st_clusters.specs.declared.ids.IdFault.{IdFault}
 use Rattle.st_clusters.specs.declared.ids.IdRange.{IdRange}
 use Rattle.st_clusters.specs.declared.ids.SessionIds.{SessionIds}
-use Rattle.st_idcodec.specs.TableText.{uuid_text, uuid_data, cluster_data, table_data}
+use Rattle.st_idcodec.specs.TableText.{uuid_text, uuid_data, table_data}
 use Rattle.st_idcodec.specs.Tables.{IsTable, AreWide, after_joins, no_ids}
 use Rattle.st_idcodec.specs.Reading.{IsRead, uuid_of, after_uuid, after_uuid_value, after_uuids, front_of, rest_of, after_range, after_cluster, after_clusters}
 use Rattle.st_idcodec.proofs.Sound.{from_some, from_map, uuid_is, clusters_are, members_is}
