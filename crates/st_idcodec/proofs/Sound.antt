@@ -80,7 +80,7 @@ small_is m n e = elim (cases_Bool (nat_lt m (2 ^ 32))) [
   | inr t ↦ let none : ◌≡◌ {A = Option ℕ} None (Some n) = rw t at e in absurd (cc none)
 ]
 
-place_is : (d : Data) (n : ℕ) → place_number d ≡ Some n → d ≡ plain_number n
+pub place_is : (d : Data) (n : ℕ) → place_number d ≡ Some n → d ≡ plain_number n
 place_is d n e =
     let h = from_some (option_and_then as_u64 (as_number d)) small n e in
     wide_is d h.0 h.1 ∙ ap plain_number (small_is h.0 n h.2)
