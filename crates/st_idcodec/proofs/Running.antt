@@ -77,7 +77,7 @@ pub record IsLed (n : ℕ) (t : Ids) : Type 0 where
   pub go : AllGo n [] t.clusters
   pub settled : IsSettled n t
 
-led_after : (n : ℕ) (r : IdRange) (t u : Ids) → IsLed n t → after_finalising r t ≡ Ok u → IsLed n u
+pub led_after : (n : ℕ) (r : IdRange) (t u : Ids) → IsLed n t → after_finalising r t ≡ Ok u → IsLed n u
 led_after n r t u led e =
     let took : IsTaken r t u = is_taken r t u e in
     let has = has_own n r t u took led.settled in
