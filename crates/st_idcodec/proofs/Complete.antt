@@ -189,8 +189,8 @@ led_on us cs v u t e f g = ap (λ (o : Option Ids). option_and_then (λ t. after
 more_go : (n : ℕ) (before cs : List Cluster) → AllGo n before cs → AllGo (n + 1) before cs
 more_go n before [] go = tt
 more_go n before (c ∷ cs) go = (
-    record { low = go.0.low; high = omega (arith, go.0.high); begins = go.0.begins; size = go.0.size; final = go.0.final; first = go.0.first },
-    more_go n (before ++ c ∷ []) cs go.1,
+  record { low = go.0.low; high = omega (arith, go.0.high); begins = go.0.begins; size = go.0.size; final = go.0.final; first = go.0.first },
+  more_go n (before ++ c ∷ []) cs go.1,
 )
 
 -- a session that isn't there yet has no ids
@@ -234,7 +234,7 @@ unless_ok : (u : ℕ) (t v : Ids) (o : Option ℕ) (p : ℕ × Ids) → join_unl
 unless_ok u t v (Some s) p e = absurd (cc e)
 unless_ok u t v None p e = refl
 
-joins_too : (u : ℕ) (t v : Ids) (p : ℕ × Ids) → uuids_in t ≡ uuids_in v → after_joining u t ≡ Ok p → after_joining u v ≡ Ok (length v.sessions + 1, with_joined u v)
+pub joins_too : (u : ℕ) (t v : Ids) (p : ℕ × Ids) → uuids_in t ≡ uuids_in v → after_joining u t ≡ Ok p → after_joining u v ≡ Ok (length v.sessions + 1, with_joined u v)
 joins_too u t v p e f = elim (cases_Bool (is_v4 u)) [
   | inl y ↦
       let old : join_unless u t (clash u t.sessions) ≡ Ok p = rw y at f in

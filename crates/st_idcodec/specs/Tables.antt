@@ -35,3 +35,10 @@ pub record IsTable (t : Ids) : Type 0 where
 -- each session has taken and generated just the ids that are finalised
 abbrev pub AreSettled : Ids → Type 0
 AreSettled t = (s : ℕ) (x : SessionIds) → session_of t.sessions s ≡ Some x → (x.generated ≡ x.finalised) × (x.taken ≡ x.finalised)
+
+-- a session whose ids that aren't finalised are not generated
+abbrev pub only_finalised : SessionIds → SessionIds
+only_finalised x = record { uuid = x.uuid; generated = x.finalised; taken = x.finalised; finalised = x.finalised }
+
+abbrev pub only_final : Ids → Ids
+only_final t = record { sessions = map only_finalised t.sessions; clusters = t.clusters }
