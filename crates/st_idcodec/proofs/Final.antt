@@ -1,5 +1,5 @@
 -- A table of which only the finalised ids are kept.
-use Rattle.std.proofs.Common.{◌≡◌, ◌⊎◌, inl, inr, ◌<◌, ◌≤◌, ◌+◌, ◌-◌, ℕ, true, false, Bool, cond, refl, sym, ap, ◌∙◌, arith, List, [], ◌∷◌, ◌++◌, length, map, set, Option, Some, None}
+use Rattle.std.proofs.Common.{◌≡◌, ◌⊎◌, inl, inr, ◌<◌, ◌≤◌, ◌+◌, ◌-◌, ℕ, true, false, Bool, cond, refl, sym, ap, ◌∙◌, arith, List, [], ◌∷◌, ◌++◌, length, map, set, Option, Some, None, subst}
 use Rattle.std.proofs.lemmas.Bool.{cases_Bool}
 use Rattle.std.proofs.lemmas.List.{length-map, map-append, map-set, get_or-map}
 use Rattle.std.proofs.lemmas.Bool.Decides.{nat_tests}
@@ -10,6 +10,7 @@ use Rattle.serde_json.specs.Data.{Data, object, member, no_members, array}
 use Rattle.serde_json.specs.View.{items_of}
 use Rattle.st_clusters.specs.Free.{is_v4}
 use Rattle.st_clusters.specs.Table.{Ids, no_session, most_ids, session_of, is_next, raise_to, new_session, with_session, on_session, join_unless, clash, with_range, after_joining, after_generating, after_taking, after_rewinding, after_finalising}
+use Rattle.st_clusters.specs.Log.{and_then}
 use Rattle.st_clusters.specs.inside.Kept.{session_at}
 use Rattle.st_clusters.specs.declared.ids.IdFault.{IdFault}
 use Rattle.st_clusters.specs.declared.ids.IdFault.TheVariants.{Session, Full, NotV4}
@@ -17,7 +18,7 @@ use Rattle.st_clusters.specs.declared.ids.IdRange.{IdRange}
 use Rattle.st_clusters.specs.declared.ids.SessionIds.{SessionIds}
 use Rattle.st_clusters.proofs.Stable.{cases_session, session_known}
 use Rattle.st_idcodec.specs.TableText.{uuid_data, cluster_data, table_data}
-use Rattle.st_idcodec.specs.Tables.{only_finalised, only_final}
+use Rattle.st_idcodec.specs.Tables.{Step, joins, finalises, Call, joining, generating, taking, rewinding, finalising, IsTable, IsReached, AreWide, after_steps, after_calls, only_finalised, only_final, no_ids}
 use Rattle.st_idcodec.proofs.Complete.{joins_too}
 use Rattle.st_idcodec.proofs.Sessions.{uuids_in, with_joined, joined_is, IsTaken, is_taken}
 
@@ -113,3 +114,67 @@ final_finalises r t w e =
     let put : set (map only_finalised t.sessions) (r.session - 1) (raise_to (only_finalised took.ids) (took.ids.finalised + r.count)) ≡ map only_finalised (set t.sessions (r.session - 1) (raise_to took.ids (took.ids.finalised + r.count))) =
     ap (λ (y : SessionIds). set (map only_finalised t.sessions) (r.session - 1) y) (raise_same took.ids r.count) ∙ sym (map-set only_finalised t.sessions (r.session - 1) (raise_to took.ids (took.ids.finalised + r.count))) in
     rw (known_final t w r took, test) (ap (λ (ss : List SessionIds). Ok (record { sessions = ss; clusters = with_range r t.clusters })) put ∙ ap (λ (v : Ids). Ok (only_final v)) took.made)
+
+-- ## Any calls
+
+steps_then : (xs ys : List Step) (a : Ids) → after_steps (xs ++ ys) a ≡ and_then (after_steps xs a) (λ v. after_steps ys v)
+steps_then [] ys a = refl
+steps_then (joins u ∷ xs) ys a = elim (after_joining u a) as (λ o. and_then o (λ p. after_steps (xs ++ ys) p.1) ≡ and_then (and_then o (λ p. after_steps xs p.1)) (λ v. after_steps ys v)) [ Ok p ↦ steps_then xs ys p.1 | Err f ↦ refl ]
+steps_then (finalises r ∷ xs) ys a = elim (after_finalising r a) as (λ o. and_then o (λ v. after_steps (xs ++ ys) v) ≡ and_then (and_then o (λ v. after_steps xs v)) (λ v. after_steps ys v)) [ Ok v ↦ steps_then xs ys v | Err f ↦ refl ]
+
+-- steps that lead to a table
+abbrev LedTo : Ids → Type 0
+LedTo t = (steps : List Step) × (after_steps steps no_ids ≡ Ok t)
+
+one_more : (s : Step) (t v : Ids) → LedTo t → after_steps (s ∷ []) t ≡ Ok v → LedTo v
+one_more s t v led e = (led.0 ++ s ∷ [], steps_then led.0 (s ∷ []) no_ids ∙ ap (λ (o : Result Ids IdFault). and_then o (λ w. after_steps (s ∷ []) w)) led.1 ∙ e)
+
+join_more : (u n : ℕ) (t v : Ids) → LedTo t → after_joining u t ≡ Ok (n, v) → LedTo v
+join_more u n t v led e = one_more (joins u) t v led (rw e refl)
+
+range_more : (r : IdRange) (t v : Ids) → LedTo t → after_finalising r t ≡ Ok v → LedTo v
+range_more r t v led e = one_more (finalises r) t v led (rw e refl)
+
+same_led : (t v : Ids) → v ≡ t → LedTo t → LedTo v
+same_led t v e led = subst LedTo (sym e) led
+
+cases_of : {A : Type 0} (o : Result A IdFault) → ((a : A) × (o ≡ Ok a)) ⊎ ((f : IdFault) × (o ≡ Err f))
+cases_of (Ok a) = inl (a, refl)
+cases_of (Err f) = inr (f, refl)
+
+no_calls : (f : IdFault) (u : Ids) (B : Type 0) → ◌≡◌ {A = Result Ids IdFault} (Err f) (Ok u) → B
+no_calls f u B e = absurd (cc e)
+
+calls_led : (calls : List Call) (t u : Ids) → LedTo (only_final t) → after_calls calls t ≡ Ok u → LedTo (only_final u)
+calls_led [] t u led e = let equal : t ≡ u = cc e in subst (λ (v : Ids). LedTo (only_final v)) equal led
+calls_led (joining x ∷ calls) t u led e = elim (cases_of (after_joining x t)) [
+  | inr f ↦ no_calls f.0 u (LedTo (only_final u)) (rw f.1 at e)
+  | inl p ↦ let rest : after_calls calls p.0.1 ≡ Ok u = rw p.1 at e in
+      calls_led calls p.0.1 u (join_more x p.0.0 (only_final t) (only_final p.0.1) led (final_joins x p.0.0 t p.0.1 p.1)) rest
+]
+calls_led (generating s ∷ calls) t u led e = elim (cases_of (after_generating s t)) [
+  | inr f ↦ no_calls f.0 u (LedTo (only_final u)) (rw f.1 at e)
+  | inl p ↦ let rest : after_calls calls p.0.1 ≡ Ok u = rw p.1 at e in
+      calls_led calls p.0.1 u (same_led (only_final t) (only_final p.0.1) (final_generates s p.0.0 t p.0.1 p.1) led) rest
+]
+calls_led (taking s ∷ calls) t u led e = elim (cases_of (after_taking s t)) [
+  | inr f ↦ no_calls f.0 u (LedTo (only_final u)) (rw f.1 at e)
+  | inl p ↦ let rest : after_calls calls p.0.1 ≡ Ok u = rw p.1 at e in
+      calls_led calls p.0.1 u (same_led (only_final t) (only_final p.0.1) (final_takes s p.0.0 t p.0.1 p.1) led) rest
+]
+calls_led (rewinding s ∷ calls) t u led e = elim (cases_of (after_rewinding s t)) [
+  | inr f ↦ no_calls f.0 u (LedTo (only_final u)) (rw f.1 at e)
+  | inl v ↦ let rest : after_calls calls v.0 ≡ Ok u = rw v.1 at e in
+      calls_led calls v.0 u (same_led (only_final t) (only_final v.0) (final_rewinds s t v.0 v.1) led) rest
+]
+calls_led (finalising r ∷ calls) t u led e = elim (cases_of (after_finalising r t)) [
+  | inr f ↦ no_calls f.0 u (LedTo (only_final u)) (rw f.1 at e)
+  | inl v ↦ let rest : after_calls calls v.0 ≡ Ok u = rw v.1 at e in
+      calls_led calls v.0 u (range_more r (only_final t) (only_final v.0) led (final_finalises r t v.0 v.1)) rest
+]
+
+pub reached_is : (t : Ids) → IsReached t → IsTable (only_final t)
+reached_is t h =
+    let led : LedTo (only_final t) = calls_led h.calls no_ids t ([], refl) h.led in
+    let long : length (map only_finalised t.sessions) ≡ length t.sessions = length-map t.sessions only_finalised in
+    record { steps = led.0; led = led.1; few = omega (arith, h.few, long); wide = subst AreWide (sym (uuids_same t.sessions)) h.wide }

@@ -6,7 +6,7 @@ ghost use Rattle.st_clusters.specs.declared.ids.IdRange.{IdRange as Range};
 ghost use Rattle.st_ids.specs.declared.names.Rev.{Rev as RevNames};
 ghost use Rattle.st_idcodec.specs.OpText.{rev_data, atom_data, rev_number, atom_numbers, IsShort};
 ghost use Rattle.st_idcodec.specs.TableText.{table_data};
-ghost use Rattle.st_idcodec.specs.Tables.{IsTable, AreSettled, only_final};
+ghost use Rattle.st_idcodec.specs.Tables.{IsTable, IsReached, AreSettled, only_final};
 
 use st_clusters::At;
 
@@ -37,8 +37,10 @@ pub fn tables_are_read_back()
 
 /// The law that ids that aren't finalised change neither what is written for a table nor what it
 /// becomes: each call does with the table of the finalised ids what it does with the whole, or
-/// nothing. So what is written for a table is written for that of its finalised ids.
+/// nothing. So what is written for a table that any calls lead to is written for the table of its
+/// finalised ids, as which it is read.
 pub fn only_finalised_ids_are_written()
+    ensures reached { (t : Ids) → IsReached t → IsTable (only_final t) }
     ensures value { (t : Ids) → table_data (only_final t) ≡ table_data t }
     ensures joins { (u n : ℕ) (t v : Ids) → after_joining u t ≡ Ok (n, v)
         → after_joining u (only_final t) ≡ Ok (n, only_final v) }

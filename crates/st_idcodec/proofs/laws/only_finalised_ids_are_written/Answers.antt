@@ -1,4 +1,4 @@
-use Rattle.st_idcodec.proofs.Final.{value_same, final_joins, final_generates, final_takes, final_rewinds, final_finalises}
+use Rattle.st_idcodec.proofs.Final.{reached_is, value_same, final_joins, final_generates, final_takes, final_rewinds, final_finalises}
 use Rattle.st_idcodec.proofs.laws.only_finalised_ids_are_written.Goals as goal
 
 pub returns-clause-value : goal.returns-clause-value
@@ -18,3 +18,6 @@ returns-clause-rewinds c = final_rewinds
 
 pub returns-clause-finalises : goal.returns-clause-finalises
 returns-clause-finalises c = final_finalises
+
+pub returns-clause-reached : goal.returns-clause-reached
+returns-clause-reached c = reached_is
