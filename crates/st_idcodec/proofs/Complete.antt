@@ -18,7 +18,6 @@ use Rattle.uuid.proofs.RoundTrips.{parses_hyphenated}
 use Rattle.st_ids.specs.Or.{IfRefused}
 use Rattle.st_ids.specs.declared.fault.Or.{Or}
 use Rattle.st_ids.specs.declared.fault.Or.TheVariants.{Fault, NoMemory}
-use Rattle.st_clusters.specs.Log.{after_log}
 use Rattle.st_clusters.specs.Table.{Ids, no_session, new_session, clash, join_unless, after_joining, after_finalising, most_ids}
 use Rattle.st_clusters.specs.Free.{is_v4, free_number, spans_meet}
 use Rattle.st_clusters.specs.inside.Kept.{session_at}
@@ -32,7 +31,7 @@ use Rattle.st_idcodec.specs.TableText.{uuid_text, uuid_data, cluster_data, table
 use Rattle.st_idcodec.specs.Tables.{Step, joins, finalises, IsTable, AreWide, AreSettled, after_steps, no_ids}
 use Rattle.st_idcodec.specs.Reading.{IsRead, same, with_text, uuid_of_text, uuid_of, cluster_of, clusters_of, after_uuid, after_uuid_value, after_uuids, after_clusters, led_to}
 use Rattle.st_idcodec.proofs.Going.{used_of, used_new, AllGo}
-use Rattle.st_idcodec.proofs.Running.{led_after, HasAll, IsLed, log_led, AllGiven, all_given, one_table}
+use Rattle.st_idcodec.proofs.Running.{led_after, HasAll, IsLed, AllGiven, all_given, one_table}
 use Rattle.st_idcodec.proofs.Sessions.{after_joins, uuids_in, with_joined, joined_is, uuids_kept}
 use Rattle.st_idcodec.proofs.Tables.{text_data, texts_are}
 

@@ -1,5 +1,5 @@
 -- A table of which only the finalised ids are kept.
-use Rattle.std.proofs.Common.{◌≡◌, ◌⊎◌, inl, inr, ◌<◌, ◌≤◌, ◌+◌, ◌-◌, ℕ, true, false, Bool, cond, refl, sym, ap, ◌∙◌, arith, List, [], ◌∷◌, ◌++◌, length, map, set, Option, Some, None, subst}
+use Rattle.std.proofs.Common.{◌≡◌, ◌⊎◌, inl, inr, ◌+◌, ◌-◌, ℕ, true, false, refl, sym, ap, ◌∙◌, arith, List, [], ◌∷◌, ◌++◌, length, map, set, Option, Some, None, subst}
 use Rattle.std.proofs.lemmas.Bool.{cases_Bool}
 use Rattle.std.proofs.lemmas.List.{length-map, map-append, map-set, get_or-map}
 use Rattle.std.proofs.lemmas.Bool.Decides.{nat_tests}
@@ -9,9 +9,8 @@ use Rattle.std.specs.Prelude.{◌==◌, Result, Ok, Err, max, nat_lt, codes}
 use Rattle.serde_json.specs.Data.{Data, object, member, no_members, array}
 use Rattle.serde_json.specs.View.{items_of}
 use Rattle.st_clusters.specs.Free.{is_v4}
-use Rattle.st_clusters.specs.Table.{Ids, no_session, most_ids, session_of, is_next, raise_to, new_session, with_session, on_session, join_unless, clash, with_range, after_joining, after_generating, after_taking, after_rewinding, after_finalising}
+use Rattle.st_clusters.specs.Table.{Ids, no_session, most_ids, session_of, is_next, raise_to, new_session, with_session, join_unless, clash, with_range, after_joining, after_generating, after_taking, after_rewinding, after_finalising}
 use Rattle.st_clusters.specs.Log.{and_then}
-use Rattle.st_clusters.specs.inside.Kept.{session_at}
 use Rattle.st_clusters.specs.declared.ids.IdFault.{IdFault}
 use Rattle.st_clusters.specs.declared.ids.IdFault.TheVariants.{Session, Full, NotV4}
 use Rattle.st_clusters.specs.declared.ids.IdRange.{IdRange}
@@ -20,7 +19,7 @@ use Rattle.st_clusters.proofs.Stable.{cases_session, session_known}
 use Rattle.st_idcodec.specs.TableText.{uuid_data, cluster_data, table_data}
 use Rattle.st_idcodec.specs.Tables.{Step, joins, finalises, Call, joining, generating, taking, rewinding, finalising, IsTable, IsReached, AreWide, after_steps, after_calls, only_finalised, only_final, no_ids}
 use Rattle.st_idcodec.proofs.Complete.{joins_too}
-use Rattle.st_idcodec.proofs.Sessions.{uuids_in, with_joined, joined_is, IsTaken, is_taken}
+use Rattle.st_idcodec.proofs.Sessions.{with_joined, joined_is, IsTaken, is_taken}
 
 uuids_same : (ss : List SessionIds) → map (λ (x : SessionIds). x.uuid) (map only_finalised ss) ≡ map (λ (x : SessionIds). x.uuid) ss
 uuids_same [] = refl
