@@ -1,18 +1,16 @@
 -- The clusters of a table, each of which begins behind those before it.
-use Rattle.std.proofs.Common.{◌≡◌, ◌≢◌, ◌⊎◌, inl, inr, ◌<◌, ◌≤◌, ◌+◌, ◌-◌, ◌^◌, ℕ, zero, suc, true, false, Bool, cond, refl, sym, subst, ap, ◌∙◌, arith, List, [], ◌∷◌, ◌++◌, length, get_or, set, length-set, Option, Some, None}
-use Rattle.std.proofs.lemmas.Bool.{cases_Bool, cases_eq, cases_lt}
+use Rattle.std.proofs.Common.{◌≡◌, ◌≢◌, ◌⊎◌, inl, inr, ◌<◌, ◌≤◌, ◌+◌, ◌-◌, ◌^◌, ℕ, true, false, cond, refl, sym, ap, ◌∙◌, arith, List, [], ◌∷◌, ◌++◌, length, set, Some, None}
 use Rattle.std.proofs.lemmas.Bool.Decides.{nat_tests}
-use Rattle.std.proofs.lemmas.List.{length_push, append_assoc, append-nil, set-get_or, get_or-set_same, get_or-set_other, get_or_push, set-append_left, set-append_right}
+use Rattle.std.proofs.lemmas.List.{length_push, set-get_or, get_or_push, set-append_right}
 use Rattle.std.proofs.lemmas.List.Sums.{sum_by-set, sum_by_push}
 use Rattle.std.proofs.lemmas.Option.{slice_get-get_or}
 use Rattle.std.specs.List.{sum_by}
-use Rattle.std.specs.Prelude.{◌==◌, min, max, nat_le}
-use Rattle.st_clusters.specs.Table.{at, no_cluster, room, growth, next_free, new_cluster, with_more, with_growth, put_at, with_range, places_of, last_of, most_ids}
-use Rattle.st_clusters.specs.inside.Kept.{IsLastOf}
+use Rattle.std.specs.Prelude.{◌==◌, min, nat_le}
+use Rattle.st_clusters.specs.Table.{at, no_cluster, room, next_free, new_cluster, with_more, with_growth, with_range, places_of, last_of}
 use Rattle.st_clusters.specs.declared.ids.Cluster.{Cluster}
 use Rattle.st_clusters.specs.declared.ids.IdRange.{IdRange}
-use Rattle.st_clusters.proofs.Clusters.{at_front, places_push, places_set, last_is}
-use Rattle.st_clusters.proofs.Ranges.{free_set, range_cases}
+use Rattle.st_clusters.proofs.Clusters.{places_push}
+use Rattle.st_clusters.proofs.Ranges.{range_cases}
 use Rattle.st_idcodec.specs.Reading.{part, front_of, rest_of}
 use Rattle.st_idcodec.proofs.Parsing.{cluster_same}
 

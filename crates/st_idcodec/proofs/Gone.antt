@@ -1,10 +1,10 @@
 -- The clusters of a table go behind each other, also after a further range.
-use Rattle.std.proofs.Common.{◌≡◌, ◌≢◌, ◌⊎◌, inl, inr, ◌<◌, ◌≤◌, ◌+◌, ◌-◌, ℕ, zero, suc, true, false, Bool, refl, sym, subst, ap, ◌∙◌, arith, List, [], ◌∷◌, ◌++◌, length, set, length-set, Option, Some, None}
+use Rattle.std.proofs.Common.{◌≡◌, ◌≢◌, ◌⊎◌, inl, inr, ◌<◌, ◌≤◌, ◌+◌, ◌-◌, ℕ, zero, suc, true, false, refl, sym, subst, ap, ◌∙◌, arith, List, [], ◌∷◌, ◌++◌, length, set, length-set, Option, Some, None}
 use Rattle.std.proofs.lemmas.Bool.{cases_Bool, cases_eq, cases_lt}
 use Rattle.std.proofs.lemmas.Bool.Decides.{nat_tests}
 use Rattle.std.proofs.lemmas.List.{length_push, append_assoc, append-nil, get_or-set_same, get_or-set_other, get_or_push, set-append_left}
-use Rattle.std.specs.Prelude.{◌==◌, max, nat_le}
-use Rattle.st_clusters.specs.Table.{at, no_cluster, room, growth, next_free, new_cluster, with_more, with_growth, put_at, with_range, places_of, last_of}
+use Rattle.std.specs.Prelude.{◌==◌, nat_le}
+use Rattle.st_clusters.specs.Table.{at, no_cluster, room, new_cluster, with_more, with_growth, put_at, with_range, places_of, last_of}
 use Rattle.st_clusters.specs.inside.Kept.{IsLastOf}
 use Rattle.st_clusters.specs.declared.ids.Cluster.{Cluster}
 use Rattle.st_clusters.specs.declared.ids.IdRange.{IdRange}

@@ -8,3 +8,4 @@ pub mod Going
 pub mod Gone
 pub mod Running
 pub mod Complete
+pub mod Final

@@ -1,20 +1,19 @@
 -- The ranges of the clusters of a table lead to that table again.
-use Rattle.std.proofs.Common.{◌≡◌, ◌≢◌, ◌⊎◌, inl, inr, ◌<◌, ◌≤◌, ◌+◌, ◌-◌, ◌^◌, ℕ, zero, suc, true, false, Bool, refl, sym, subst, ap, ◌∙◌, arith, List, [], ◌∷◌, ◌++◌, length, get_or, set, map, length-set, Option, Some, None}
-use Rattle.std.proofs.lemmas.Bool.{cases_Bool, cases_eq, cases_lt}
+use Rattle.std.proofs.Common.{◌≡◌, ◌≢◌, ◌⊎◌, inl, inr, ◌<◌, ◌≤◌, ◌+◌, ◌-◌, ℕ, true, false, refl, sym, subst, ap, ◌∙◌, arith, List, [], ◌∷◌, ◌++◌, length, get_or, set, length-set, Some}
+use Rattle.std.proofs.lemmas.Bool.{cases_Bool, cases_eq}
 use Rattle.std.proofs.lemmas.Bool.Decides.{nat_tests}
 use Rattle.std.proofs.lemmas.List.{append_assoc, append-nil, get_or-set_same, get_or-set_other, get_or-map, ext_get_or}
 use Rattle.std.proofs.lemmas.List.Sums.{sum_by-append}
 use Rattle.std.proofs.lemmas.Option.{slice_get-get_or}
-use Rattle.std.specs.Prelude.{◌==◌, min, max, cond, Result, Ok, Err, option_and_then}
-use Rattle.std.specs.Result.{result_ok}
-use Rattle.st_clusters.specs.Log.{and_then, after_log}
+use Rattle.std.specs.Prelude.{◌==◌, cond, Result, Ok, Err}
+use Rattle.st_clusters.specs.Log.{after_log}
 use Rattle.st_clusters.specs.Table.{Ids, no_session, most_ids, session_of, is_next, raise_to, with_range, after_finalising}
 use Rattle.st_clusters.specs.inside.Kept.{session_at}
 use Rattle.st_clusters.specs.declared.ids.Cluster.{Cluster}
 use Rattle.st_clusters.specs.declared.ids.IdFault.{IdFault}
 use Rattle.st_clusters.specs.declared.ids.IdRange.{IdRange}
 use Rattle.st_clusters.specs.declared.ids.SessionIds.{SessionIds}
-use Rattle.st_idcodec.specs.Reading.{part, front_of, rest_of, after_range, after_cluster, after_clusters}
+use Rattle.st_idcodec.specs.Reading.{part, front_of, rest_of, after_cluster, after_clusters}
 use Rattle.st_idcodec.proofs.Going.{used_of, used_new, used_more, used_others, Goes, AllGo, both_parts}
 use Rattle.st_idcodec.proofs.Gone.{range_go}
 use Rattle.st_idcodec.proofs.Sessions.{uuids_in, IsTaken, is_taken, uuids_kept, to_ok}
@@ -78,7 +77,7 @@ pub record IsLed (n : ℕ) (t : Ids) : Type 0 where
   pub go : AllGo n [] t.clusters
   pub settled : IsSettled n t
 
-led_after : (n : ℕ) (r : IdRange) (t u : Ids) → IsLed n t → after_finalising r t ≡ Ok u → IsLed n u
+pub led_after : (n : ℕ) (r : IdRange) (t u : Ids) → IsLed n t → after_finalising r t ≡ Ok u → IsLed n u
 led_after n r t u led e =
     let took : IsTaken r t u = is_taken r t u e in
     let has = has_own n r t u took led.settled in

@@ -1,16 +1,15 @@
 -- Sessions that join, and ranges that are finalised.
-use Rattle.std.proofs.Common.{◌≡◌, ◌⊎◌, inl, inr, ◌<◌, ◌≤◌, ◌+◌, ◌-◌, ℕ, true, false, Bool, refl, sym, subst, ap, ◌∙◌, arith, List, [], ◌∷◌, ◌++◌, length, map, set, Option, Some, None}
+use Rattle.std.proofs.Common.{◌≡◌, inl, inr, ◌<◌, ◌≤◌, ◌+◌, ◌-◌, ℕ, true, sym, ap, ◌∙◌, List, [], ◌∷◌, ◌++◌, length, map, set, Option, Some, None}
 use Rattle.std.proofs.lemmas.Bool.{cases_Bool}
-use Rattle.std.proofs.lemmas.Bool.Decides.{nat_tests}
-use Rattle.std.proofs.lemmas.List.{map-append, length_push}
 use Rattle.std.proofs.Math.Seq.{map-set_same}
 use Rattle.std.specs.Prelude.{Result, Ok, Err}
 use Rattle.std.specs.Result.{result_ok}
 use Rattle.st_clusters.specs.Free.{is_v4}
 use Rattle.st_clusters.specs.Table.{Ids, no_session, most_ids, session_of, is_next, raise_to, new_session, clash, join_unless, with_range, after_joining, after_finalising}
+use Rattle.st_clusters.specs.Log.{and_then}
 use Rattle.st_clusters.specs.inside.Kept.{session_at}
 use Rattle.st_clusters.specs.declared.ids.IdFault.{IdFault}
-use Rattle.st_clusters.specs.declared.ids.IdFault.TheVariants.{Session, RangeOrder, NotV4, Clash}
+use Rattle.st_clusters.specs.declared.ids.IdFault.TheVariants.{Session, RangeOrder, NotV4}
 use Rattle.st_clusters.specs.declared.ids.IdRange.{IdRange}
 use Rattle.st_clusters.specs.declared.ids.SessionIds.{SessionIds}
 use Rattle.st_clusters.proofs.Finalising.{next_parts}
@@ -83,3 +82,8 @@ from_ok (Err f) a e = absurd (cc e)
 pub to_ok : {A E : Type 0} (r : Result A E) (a : A) → r ≡ Ok a → result_ok r ≡ Some a
 to_ok (Ok b) a e = cc e
 to_ok (Err f) a e = absurd (cc e)
+
+-- the table after sessions join in turn, or the first refusal
+abbrev pub after_joins : List ℕ → Ids → Result Ids IdFault
+after_joins [] t = Ok t
+after_joins (u ∷ us) t = and_then (after_joining u t) (λ p. after_joins us p.1)

@@ -1,13 +1,11 @@
 -- What is read of a value as a table is a table, and the value is what is written for it.
-use Rattle.std.proofs.Common.{◌≡◌, ◌⊎◌, inl, inr, ◌<◌, ◌≤◌, ◌+◌, ◌^◌, ℕ, true, false, Bool, refl, sym, subst, ap, ◌∙◌, arith, List, [], ◌∷◌, ◌++◌, length, map, set, Option, Some, None}
+use Rattle.std.proofs.Common.{◌≡◌, inl, inr, ◌<◌, ◌^◌, ℕ, true, false, Bool, refl, sym, subst, ap, ◌∙◌, arith, List, [], ◌∷◌, map, Option, Some, None}
 use Rattle.std.proofs.lemmas.Bool.{cases_Bool}
 use Rattle.std.proofs.lemmas.Bool.Decides.{nat_tests}
-use Rattle.std.proofs.lemmas.List.{map-append, length_push}
 use Rattle.std.specs.Cmp.Lexicographic.{same_text}
 use Rattle.std.specs.Int.{w128, from_be_bytes}
 use Rattle.std.specs.Option.{option_map}
-use Rattle.std.specs.Prelude.{codes, nat_lt, option_and_then, Result, Ok, Err}
-use Rattle.std.specs.Result.{result_ok}
+use Rattle.std.specs.Prelude.{codes, nat_lt, option_and_then}
 use Rattle.serde_json.specs.Data.{Num, unsigned, negative, float, Data, null, boolean, number, string, array, object, Items, no_items, item, Members, no_members, member}
 use Rattle.serde_json.specs.Find.{as_number, as_u64, as_array, as_object, as_str}
 use Rattle.serde_json.specs.View.{items_of}
@@ -82,7 +80,7 @@ small_is m n e = elim (cases_Bool (nat_lt m (2 ^ 32))) [
   | inr t ↦ let none : ◌≡◌ {A = Option ℕ} None (Some n) = rw t at e in absurd (cc none)
 ]
 
-place_is : (d : Data) (n : ℕ) → place_number d ≡ Some n → d ≡ plain_number n
+pub place_is : (d : Data) (n : ℕ) → place_number d ≡ Some n → d ≡ plain_number n
 place_is d n e =
     let h = from_some (option_and_then as_u64 (as_number d)) small n e in
     wide_is d h.0 h.1 ∙ ap plain_number (small_is h.0 n h.2)

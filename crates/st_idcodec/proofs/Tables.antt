@@ -1,10 +1,10 @@
 -- What is read of a value as a table is a table.
-use Rattle.std.proofs.Common.{◌≡◌, ◌⊎◌, inl, inr, ◌<◌, ◌≤◌, ◌+◌, ◌-◌, ◌^◌, ℕ, true, false, Bool, refl, sym, subst, ap, ◌∙◌, arith, List, [], ◌∷◌, ◌++◌, length, map, set, Option, Some, None}
+use Rattle.std.proofs.Common.{◌≡◌, inl, inr, subst, ◌<◌, ◌≤◌, ◌+◌, ◌^◌, ℕ, refl, sym, ap, ◌∙◌, arith, List, [], ◌∷◌, ◌++◌, length, map, Option, Some, None}
 use Rattle.std.proofs.lemmas.Bool.{cases_Bool}
 use Rattle.std.proofs.lemmas.Bool.Decides.{nat_tests}
-use Rattle.std.proofs.lemmas.List.{map-append, length_push, append_assoc, append-nil}
+use Rattle.std.proofs.lemmas.List.{length-map, map-append, length_push, append_assoc, append-nil}
 use Rattle.std.specs.Option.{option_map}
-use Rattle.std.specs.Prelude.{nat_lt, option_and_then, Result, Ok, Err, IfOk}
+use Rattle.std.specs.Prelude.{nat_lt, Result, Ok, Err, IfOk}
 use Rattle.std.specs.Result.{result_ok}
 use Rattle.serde_json.specs.Data.{Data, string, Items, no_items, item}
 use Rattle.serde_json.specs.View.{items_of}
@@ -13,14 +13,13 @@ use Rattle.st_clusters.specs.Ids.{ids_of}
 use Rattle.st_clusters.specs.declared.compressor.Compressor.{Compressor}
 use Rattle.st_clusters.specs.Log.{and_then, after_log}
 use Rattle.st_clusters.specs.declared.ids.Cluster.{Cluster}
-use Rattle.st_clusters.specs.declared.ids.IdFault.{IdFault}
 use Rattle.st_clusters.specs.declared.ids.IdRange.{IdRange}
 use Rattle.st_clusters.specs.declared.ids.SessionIds.{SessionIds}
-use Rattle.st_idcodec.specs.TableText.{uuid_text, uuid_data, cluster_data, table_data}
-use Rattle.st_idcodec.specs.Tables.{IsTable, AreWide, after_joins, no_ids}
+use Rattle.st_idcodec.specs.TableText.{uuid_text, uuid_data, table_data}
+use Rattle.st_idcodec.specs.Tables.{Step, joins, finalises, IsTable, AreWide, after_steps, no_ids}
 use Rattle.st_idcodec.specs.Reading.{IsRead, uuid_of, after_uuid, after_uuid_value, after_uuids, front_of, rest_of, after_range, after_cluster, after_clusters}
 use Rattle.st_idcodec.proofs.Sound.{from_some, from_map, uuid_is, clusters_are, members_is}
-use Rattle.st_idcodec.proofs.Sessions.{uuids_in, with_joined, joined_is, uuids_kept, from_ok}
+use Rattle.st_idcodec.proofs.Sessions.{after_joins, uuids_in, with_joined, joined_is, uuids_kept, from_ok}
 
 abbrev pub text_data : ℕ → Data
 text_data u = string (uuid_text u)
@@ -117,8 +116,22 @@ are_finalised (c ∷ cs) t u e =
 
 -- ## The whole
 
-led : (us : List ℕ) (rs : List IdRange) (v t : Ids) → after_joins us no_ids ≡ Ok v → after_log rs v ≡ Ok t → and_then (after_joins us no_ids) (λ u. after_log rs u) ≡ Ok t
-led us rs v t e f = rw e f
+-- the steps that some sessions and then some ranges are
+abbrev pub steps_of : List ℕ → List IdRange → List Step
+steps_of [] [] = []
+steps_of [] (r ∷ rs) = finalises r ∷ steps_of [] rs
+steps_of (u ∷ us) rs = joins u ∷ steps_of us rs
+
+ranges_led : (rs : List IdRange) (v : Ids) → after_steps (steps_of [] rs) v ≡ after_log rs v
+ranges_led [] v = refl
+ranges_led (r ∷ rs) v = elim (after_finalising r v) as (λ o. and_then o (λ w. after_steps (steps_of [] rs) w) ≡ and_then o (λ w. after_log rs w)) [ Ok w ↦ ranges_led rs w | Err f ↦ refl ]
+
+joins_led : (us : List ℕ) (rs : List IdRange) (a : Ids) → after_steps (steps_of us rs) a ≡ and_then (after_joins us a) (λ v. after_log rs v)
+joins_led [] rs a = ranges_led rs a
+joins_led (u ∷ us) rs a = elim (after_joining u a) as (λ o. and_then o (λ p. after_steps (steps_of us rs) p.1) ≡ and_then (and_then o (λ p. after_joins us p.1)) (λ v. after_log rs v)) [ Ok p ↦ joins_led us rs p.1 | Err f ↦ refl ]
+
+led : (us : List ℕ) (rs : List IdRange) (v t : Ids) → after_joins us no_ids ≡ Ok v → after_log rs v ≡ Ok t → after_steps (steps_of us rs) no_ids ≡ Ok t
+led us rs v t e f = joins_led us rs no_ids ∙ rw e f
 
 pub read_is : (d : Data) (t : Ids) → IsRead d t → IsTable t × (d ≡ table_data t)
 read_is d t r =
@@ -126,8 +139,9 @@ read_is d t r =
     let joined : HaveJoined r.uuids no_ids v.0 = have_joined r.uuids no_ids v.0 (omega arith) v.1 in
     let final : AreFinalised t.clusters v.0 t = are_finalised t.clusters v.0 t v.2 in
     let uuids : uuids_in t ≡ joined.uuids = final.1 ∙ joined.all in
+    let count : length t.sessions ≡ length joined.uuids = sym (length-map t.sessions (λ (x : SessionIds). x.uuid)) ∙ ap (λ (us : List ℕ). length us) uuids in
     let texts : r.uuids ≡ items_of (map uuid_data t.sessions) = joined.texts ∙ ap (λ (us : List ℕ). items_of (map text_data us)) (sym uuids) ∙ sym (texts_are t.sessions) in (
-      record { uuids = joined.uuids; ranges = ranges_of t.clusters; few = omega (arith, joined.few); wide = joined.wide; led = led joined.uuids (ranges_of t.clusters) v.0 t joined.joined final.0 },
+      record { steps = steps_of joined.uuids (ranges_of t.clusters); few = omega (arith, joined.few, count); wide = subst AreWide (sym uuids) joined.wide; led = led joined.uuids (ranges_of t.clusters) v.0 t joined.joined final.0 },
       rw (members_is d r.clusters r.uuids r.parts, clusters_are r.clusters t.clusters r.read, texts) refl,
     )
 

@@ -1,7 +1,7 @@
--- The tables that some sessions and some ranges lead to.
-use Rattle.std.specs.Prelude.{ℕ, ◌≡◌, ◌<◌, ◌≤◌, ◌^◌, List, [], ◌∷◌, length, Some, Result, Ok}
-use Rattle.st_clusters.specs.Table.{Ids, session_of, after_joining}
-use Rattle.st_clusters.specs.Log.{and_then, after_log}
+-- The tables that sessions and ranges lead to.
+use Rattle.std.specs.Prelude.{ℕ, ◌≡◌, map, ◌<◌, ◌≤◌, ◌^◌, List, [], ◌∷◌, length, Some, Result, Ok}
+use Rattle.st_clusters.specs.Table.{Ids, session_of, after_joining, after_generating, after_taking, after_rewinding, after_finalising}
+use Rattle.st_clusters.specs.Log.{and_then}
 use Rattle.st_clusters.specs.declared.ids.IdFault.{IdFault}
 use Rattle.st_clusters.specs.declared.ids.IdRange.{IdRange}
 use Rattle.st_clusters.specs.declared.ids.SessionIds.{SessionIds}
@@ -10,23 +10,61 @@ use Rattle.st_clusters.specs.declared.ids.SessionIds.{SessionIds}
 abbrev pub no_ids : Ids
 no_ids = record { sessions = []; clusters = [] }
 
--- the table after sessions with these UUIDs join in turn, or the first refusal
-abbrev pub after_joins : List ℕ → Ids → Result Ids IdFault
-after_joins [] t = Ok t
-after_joins (u ∷ us) t = and_then (after_joining u t) (λ p. after_joins us p.1)
-
 abbrev pub AreWide : List ℕ → Type 0
 AreWide [] = Unit {0}
 AreWide (u ∷ us) = (u < 2 ^ 128) × AreWide us
 
--- sessions with some UUIDs join, 65,535 at most, then some ranges are finalised in turn, and this is the table
+-- a session joins with a UUID, or a range is finalised
+pub data Step : Type 0 where
+  joins : ℕ → Step
+  finalises : IdRange → Step
+
+-- the table after some steps, or the first refusal
+abbrev pub after_steps : List Step → Ids → Result Ids IdFault
+after_steps [] t = Ok t
+after_steps (joins u ∷ steps) t = and_then (after_joining u t) (λ p. after_steps steps p.1)
+after_steps (finalises r ∷ steps) t = and_then (after_finalising r t) (λ v. after_steps steps v)
+
+-- a table of 65,535 sessions at most to which some steps lead
 pub record IsTable (t : Ids) : Type 0 where
-  pub uuids : List ℕ
-  pub ranges : List IdRange
-  pub few : length uuids ≤ 65535
-  pub wide : AreWide uuids
-  pub led : and_then (after_joins uuids no_ids) (λ u. after_log ranges u) ≡ Ok t
+  pub steps : List Step
+  pub led : after_steps steps no_ids ≡ Ok t
+  pub few : length t.sessions ≤ 65535
+  pub wide : AreWide (map (λ (x : SessionIds). x.uuid) t.sessions)
 
 -- each session has taken and generated just the ids that are finalised
 abbrev pub AreSettled : Ids → Type 0
 AreSettled t = (s : ℕ) (x : SessionIds) → session_of t.sessions s ≡ Some x → (x.generated ≡ x.finalised) × (x.taken ≡ x.finalised)
+
+-- a session whose ids that aren't finalised are not generated
+abbrev pub only_finalised : SessionIds → SessionIds
+only_finalised x = record { uuid = x.uuid; generated = x.finalised; taken = x.finalised; finalised = x.finalised }
+
+abbrev pub only_final : Ids → Ids
+only_final t = record { sessions = map only_finalised t.sessions; clusters = t.clusters }
+
+-- ## Any calls
+
+-- a session joins, generates an id, takes its ids, gives them back, or a range is finalised
+pub data Call : Type 0 where
+  joining : ℕ → Call
+  generating : ℕ → Call
+  taking : ℕ → Call
+  rewinding : ℕ → Call
+  finalising : IdRange → Call
+
+-- the table after some calls, or the first refusal
+abbrev pub after_calls : List Call → Ids → Result Ids IdFault
+after_calls [] t = Ok t
+after_calls (joining u ∷ calls) t = and_then (after_joining u t) (λ p. after_calls calls p.1)
+after_calls (generating s ∷ calls) t = and_then (after_generating s t) (λ p. after_calls calls p.1)
+after_calls (taking s ∷ calls) t = and_then (after_taking s t) (λ p. after_calls calls p.1)
+after_calls (rewinding s ∷ calls) t = and_then (after_rewinding s t) (λ v. after_calls calls v)
+after_calls (finalising r ∷ calls) t = and_then (after_finalising r t) (λ v. after_calls calls v)
+
+-- a table of 65,535 sessions at most to which some calls lead
+pub record IsReached (t : Ids) : Type 0 where
+  pub calls : List Call
+  pub led : after_calls calls no_ids ≡ Ok t
+  pub few : length t.sessions ≤ 65535
+  pub wide : AreWide (map (λ (x : SessionIds). x.uuid) t.sessions)
