@@ -69,7 +69,7 @@ cells-of p (s ∷ c) d h = go s.full h (λ i. cells-of p c d i)
     go true i more = elim (p.mentioned s.node) as (λ b. Has (cells_made (cond b (Touch s.cell s.node (how (p.goes s.node) (To.Cell s.cell))) Counted ∷ (embed_made p (p.made (Some s.cell)) ++ embed_cells p c))) d → (a : Option CellId) × (o : Owned) × Has (p.made a) o × (o.cell ≡ d)) [ true ↦ (λ j. rest j more) | false ↦ (λ j. rest j more) ] i
     go false i more = elim (is_here (how (p.goes s.node) (To.Cell s.cell))) as (λ b. Has (cells_made (cond b (Fill s.cell s.node) (Gap s.cell) ∷ (embed_made p (p.made (Some s.cell)) ++ embed_cells p c))) d → (a : Option CellId) × (o : Owned) × Has (p.made a) o × (o.cell ≡ d)) [ true ↦ (λ j. rest j more) | false ↦ (λ j. rest j more) ] i
 
-row-makes : (p : RowPart) (c : List Slot) (d : CellId) → Has (cells_made (embed_row p c)) d → (a : Option CellId) × (o : Owned) × Has (p.made a) o × (o.cell ≡ d)
+pub row-makes : (p : RowPart) (c : List Slot) (d : CellId) → Has (cells_made (embed_row p c)) d → (a : Option CellId) × (o : Owned) × Has (p.made a) o × (o.cell ≡ d)
 row-makes p c d h = elim (made-of p (p.made None) (embed_cells p c) d h) [ inl r ↦ (None, r.0, r.1, r.2) | inr i ↦ cells-of p c d i ]
 
 -- a full cell of a mentioned node is touched

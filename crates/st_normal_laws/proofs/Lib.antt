@@ -1,4 +1,5 @@
 pub mod Basics
+pub mod Lengths
 pub mod Told
 pub mod LaidSound
 pub mod SeedSound
@@ -20,3 +21,4 @@ pub mod EasyStaying
 pub mod EasyRules
 pub mod EasyRegisters
 pub mod EasyPuts
+pub mod EasyNames

@@ -1,5 +1,5 @@
 -- A change that obeys the rules stands over each sound document in which it finds what is so.
-use Rattle.std.proofs.Common.{◌^◌, ◌≡◌, ◌≢◌, ◌<◌, ◌+◌, ◌++◌, suc, Bool, true, false, not, ◌||◌, ◌&&◌, List, [], ◌∷◌, map, length, Option, Some, None, IsSome, IsTrue, cond, refl, sym, ap, ◌∙◌, subst, inl, inr, ◌⊎◌, arith}
+use Rattle.std.proofs.Common.{◌^◌, ◌≡◌, ◌≢◌, ◌<◌, ◌++◌, Bool, true, false, not, ◌||◌, ◌&&◌, List, [], ◌∷◌, map, length, Option, Some, None, IsSome, IsTrue, cond, refl, sym, ap, ◌∙◌, subst, inl, inr, ◌⊎◌}
 use Rattle.std.specs.List.{find, flat_map, list_any}
 use Rattle.st_ids.specs.Listing.{Has, item_of}
 use Rattle.st_ids.specs.Order.{node_cmp, field_cmp, same_node}
@@ -40,7 +40,7 @@ use Rattle.st_normal_laws.proofs.MeantFits.{rows_once, regs_once, new_once, foun
 use Rattle.st_marks.specs.CarryOut.{full, with_groups}
 use Rattle.st_marks.specs.Document.{HasShortRows, owned}
 use Rattle.st_marks.specs.Embedding.{IsEmbedding, embed_loose, is_among, is_loose, is_nowhere, row_marks, row_part, register_part, tells}
-use Rattle.st_marks.specs.Intent.{group_at, put_in, same_option}
+use Rattle.st_marks.specs.Intent.{put_in, same_option}
 use Rattle.st_marks.specs.Register.{comes_in, embed_register, holds_mentioned, how_held}
 use Rattle.st_marks.specs.Row.{RowPart, embed_cell, embed_cells, embed_made, embed_row, how, merge, same_to}
 use Rattle.st_normal.specs.Rules.{HasListedField, kept_at, staying}
@@ -57,24 +57,8 @@ use Rattle.st_normal_laws.proofs.Puts.{is_here-put, put-is_here, same_to-true}
 use Rattle.st_normal_laws.proofs.Groups.{AreMade, row_along, has-along, ts_once, at-start, at-cell, no-row, same_row}
 use Rattle.st_normal_laws.proofs.MeantIntent.{reg-put, clear-is, is-clear, meant_intent}
 use Rattle.st_normal_laws.proofs.Basics.{and-both, and-cases, is-one, not-false, not-true, or-left, or-right, register-not-nowhere, row-not-nowhere}
-
--- ## Lengths
-
-made-length : (p : RowPart) (os : List Owned) (ms : List CellMark) → length (embed_made p os ++ ms) ≡ length os + length ms
-made-length p [] ms = omega arith
-made-length p (q ∷ os) ms = omega (arith, made-length p os ms)
-
-append-length : {A : Type 0} (xs ys : List A) → length (xs ++ ys) ≡ length xs + length ys
-append-length [] ys = omega arith
-append-length (x ∷ xs) ys = omega (arith, append-length xs ys)
-
-after-length : (ms : List CellMark) → length (cells_after ms) ≡ length ms
-after-length [] = refl
-after-length (Counted ∷ ms) = ap suc (after-length ms)
-after-length (Gap c ∷ ms) = ap suc (after-length ms)
-after-length (Touch c n h ∷ ms) = ap suc (after-length ms)
-after-length (Make c n b ∷ ms) = ap suc (after-length ms)
-after-length (Fill c n ∷ ms) = ap suc (after-length ms)
+use Rattle.st_normal_laws.proofs.Lengths.{row-length}
+use Rattle.st_seq.proofs.Short.{all_after}
 
 -- ## Rows that aren't listed
 
@@ -524,13 +508,6 @@ module _ (D : Document) (C : Change) (x : IsSoundInForm D) (w : ObeysDataRules C
 
   -- ## Lengths
 
-  cells-length : (n : NodeId) (os : List Owned) → length (embed_cells (part n) (map (slot D) os)) ≡ length (with_groups N n os)
-  cells-length n [] = refl
-  cells-length n (p ∷ os) = let a = made-length (part n) (group_at N n (Some p.cell)) (embed_cells (part n) (map (slot D) os)) in let b = append-length (group_at N n (Some p.cell)) (with_groups N n os) in omega (arith, a, b, cells-length n os)
-
-  row-length : (n : NodeId) → length (embed_row (part n) (content D n)) ≡ length ((full D N).rows n)
-  row-length n = let a = made-length (part n) (group_at N n None) (embed_cells (part n) (content D n)) in let b = append-length (group_at N n None) (with_groups N n (D.rows n)) in let c = cells-length n (D.rows n) in omega (arith, a, b, c)
-
   no-groups : (n : NodeId) → ((r : RowMarks) → Has C.rows r → r.node ≡ n → ⊥) → (os : List Owned) → with_groups N n os ≡ os
   no-groups n none [] = refl
   no-groups n none (p ∷ os) = λ z. p ∷ (ap (λ l. l ++ with_groups N n os) (no-row D C x w o (rows_once D C x w o plain) n (Some p.cell) none) ∙ no-groups n none os) z
@@ -548,7 +525,7 @@ module _ (D : Document) (C : Change) (x : IsSoundInForm D) (w : ObeysDataRules C
       go (Some r) e =
           let i = item_of-has node_cmp node_cmp_total node_cmp_exact row_key C.rows n r e in
           let s = (all-has (λ (r : RowMarks). (length (cells_before (spread r.marks)) < 2 ^ 32) × (length (cells_after (spread r.marks)) < 2 ^ 32)) C.rows r w.common.short i.0).1 in
-          subst (λ k. k < 2 ^ 32) (after-length (spread r.marks) ∙ ap length (sym (row_is r i.0)) ∙ row-length r.node ∙ ap (λ n. length ((full D N).rows n)) i.1) s
+          subst (λ k. k < 2 ^ 32) (all_after (spread r.marks) ∙ ap length (sym (row_is r i.0)) ∙ row-length D N m r.node ∙ ap (λ n. length ((full D N).rows n)) i.1) s
 
   pub stands_over : IsEmbedding D N C
   stands_over = record {

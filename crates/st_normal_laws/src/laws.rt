@@ -9,7 +9,7 @@ ghost use Rattle.st_marks.specs.Document.{Document, HasShortRows, IsSoundInForm,
 ghost use Rattle.st_marks.specs.Embedding.{IsEmbedding, IsMentionedByIntent};
 ghost use Rattle.st_marks.specs.Intent.{Fits};
 ghost use Rattle.st_marks.specs.Normal.{IsNormalChange};
-ghost use Rattle.st_normal.specs.Rules.{ChangeIsRising, FieldsAreFound, FilledRegistersAreCleared, KeysAreThere, MarksAreMerged, NeededNodesAreFound, NewNodesAreNotFound, NewRegistersAreEmpty, NewRowsAreMade, NoRingBeforeChange, NodesAreFoundOnce, ObeysChangeRules, ObeysDataRules, OpeningIsBase, PutNodesLeave, RegisterMarksFit, RegistersTell, RootStays, RowsTell, StayingNodesAreMentioned, listed_by_change};
+ghost use Rattle.st_normal.specs.Rules.{ChangeIsRising, FieldsAreFound, FilledCellsAreOld, FilledRegistersAreCleared, HolesHaveMovers, KeysAreThere, MarksAreMerged, NeededNodesAreFound, NewNamesHaveItsRevision, NewNodesAreNotFound, NewRegistersAreEmpty, NewRowsAreMade, NoRingBeforeChange, NodesAreFoundOnce, ObeysChangeRules, ObeysDataRules, OpeningIsBase, PutNodesLeave, RegisterMarksFit, RegistersTell, RootStays, RowsAreShort, RowsTell, StayingNodesAreMentioned, listed_by_change};
 ghost use Rattle.st_normal_laws.specs.Laid.{IsLayout, Layout, laid};
 ghost use Rattle.st_normal_laws.specs.Meant.{IsOver, meant};
 ghost use Rattle.st_normal_laws.specs.Mentions.{mentions};
@@ -76,8 +76,8 @@ pub fn two_have_one_seed()
 {}
 
 /// The change of an intent that fits a sound document finds there what is so, and obeys these of the rules on changes of data.
-/// Not shown yet of the rules: `RowsAreShort`, `CellsAreOnce`, `NodesArePutOnce`, `FilledCellsAreOld`, `LooseNodesArePut`,
-/// `NewNamesHaveItsRevision`, `HolesHaveMovers` and `NoRingOfNewNodes`; nor the rules on changes of schema.
+/// Not shown yet of the rules: `CellsAreOnce`, `NodesArePutOnce`, `LooseNodesArePut` and `NoRingOfNewNodes`; nor the rules on
+/// changes of schema.
 pub fn embeddings_obey_most_rules()
     ensures over { (D : Document) (N : Intent) (C : Change)
         → IsSoundInForm D → Fits D N → IsEmbedding D N C
@@ -104,6 +104,12 @@ pub fn embeddings_obey_most_rules()
     ensures puts { (D : Document) (N : Intent) (C : Change)
         → IsSoundInForm D → Fits D N → IsEmbedding D N C
         → PutNodesLeave (listed_by_change C) × RootStays (listed_by_change C) }
+    ensures names { (D : Document) (N : Intent) (C : Change)
+        → IsSoundInForm D → Fits D N → IsEmbedding D N C
+        → NewNamesHaveItsRevision C × FilledCellsAreOld (listed_by_change C) × HolesHaveMovers C }
+    ensures short { (D : Document) (N : Intent) (C : Change)
+        → IsSoundInForm D → Fits D N → IsEmbedding D N C → HasShortRows (full D N)
+        → RowsAreShort (listed_by_change C) }
     ensures no_ring { (D : Document) (N : Intent) (C : Change)
         → IsSoundInForm D → Fits D N → IsEmbedding D N C
         → NoRingBeforeChange C }
