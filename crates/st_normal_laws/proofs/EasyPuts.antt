@@ -82,7 +82,7 @@ cells-incoming p (s ∷ c) n h = go s.full refl h (λ i. further p s c n (cells-
         empty true g (inr i) = rest i more
         empty false g i = rest i more
 
-row-incoming : (p : RowPart) (c : List Slot) (n : NodeId) → Has (incoming (embed_row p c)) n → (d : CellId) × ComesTo p c n d
+pub row-incoming : (p : RowPart) (c : List Slot) (n : NodeId) → Has (incoming (embed_row p c)) n → (d : CellId) × ComesTo p c n d
 row-incoming p c n h = made-incoming p c None (p.made None) (embed_cells p c) n (λ o j. j) h (λ i. cells-incoming p c n i)
 
 leave-is : (o : Option To) (t u : To) → o ≡ Some t → (t ≢ u) → how o u ≡ Leave

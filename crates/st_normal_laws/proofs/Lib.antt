@@ -22,3 +22,4 @@ pub mod EasyRules
 pub mod EasyRegisters
 pub mod EasyPuts
 pub mod EasyNames
+pub mod EasyRing

@@ -9,7 +9,7 @@ ghost use Rattle.st_marks.specs.Document.{Document, HasShortRows, IsSoundInForm,
 ghost use Rattle.st_marks.specs.Embedding.{IsEmbedding, IsMentionedByIntent};
 ghost use Rattle.st_marks.specs.Intent.{Fits};
 ghost use Rattle.st_marks.specs.Normal.{IsNormalChange};
-ghost use Rattle.st_normal.specs.Rules.{ChangeIsRising, FieldsAreFound, FilledCellsAreOld, FilledRegistersAreCleared, HolesHaveMovers, KeysAreThere, MarksAreMerged, NeededNodesAreFound, NewNamesHaveItsRevision, NewNodesAreNotFound, NewRegistersAreEmpty, NewRowsAreMade, NoRingBeforeChange, NodesAreFoundOnce, ObeysChangeRules, ObeysDataRules, OpeningIsBase, PutNodesLeave, RegisterMarksFit, RegistersTell, RootStays, RowsAreShort, RowsTell, StayingNodesAreMentioned, listed_by_change};
+ghost use Rattle.st_normal.specs.Rules.{ChangeIsRising, FieldsAreFound, FilledCellsAreOld, FilledRegistersAreCleared, HolesHaveMovers, KeysAreThere, MarksAreMerged, NeededNodesAreFound, NewNamesHaveItsRevision, NewNodesAreNotFound, NewRegistersAreEmpty, NewRowsAreMade, NoRingBeforeChange, NoRingOfNewNodes, NodesAreFoundOnce, ObeysChangeRules, ObeysDataRules, OpeningIsBase, PutNodesLeave, RegisterMarksFit, RegistersTell, RootStays, RowsAreShort, RowsTell, StayingNodesAreMentioned, listed_by_change};
 ghost use Rattle.st_normal_laws.specs.Laid.{IsLayout, Layout, laid};
 ghost use Rattle.st_normal_laws.specs.Meant.{IsOver, meant};
 ghost use Rattle.st_normal_laws.specs.Mentions.{mentions};
@@ -76,8 +76,7 @@ pub fn two_have_one_seed()
 {}
 
 /// The change of an intent that fits a sound document finds there what is so, and obeys these of the rules on changes of data.
-/// Not shown yet of the rules: `CellsAreOnce`, `NodesArePutOnce`, `LooseNodesArePut` and `NoRingOfNewNodes`; nor the rules on
-/// changes of schema.
+/// Not shown yet of the rules: `CellsAreOnce`, `NodesArePutOnce` and `LooseNodesArePut`; nor the rules on changes of schema.
 pub fn embeddings_obey_most_rules()
     ensures over { (D : Document) (N : Intent) (C : Change)
         → IsSoundInForm D → Fits D N → IsEmbedding D N C
@@ -112,7 +111,7 @@ pub fn embeddings_obey_most_rules()
         → RowsAreShort (listed_by_change C) }
     ensures no_ring { (D : Document) (N : Intent) (C : Change)
         → IsSoundInForm D → Fits D N → IsEmbedding D N C
-        → NoRingBeforeChange C }
+        → NoRingBeforeChange C × NoRingOfNewNodes C }
     ensures base { (D : Document) (N : Intent) (C : Change)
         → IsSoundInForm D → Fits D N → IsEmbedding D N C → N.schema ≡ None
         → OpeningIsBase C }
