@@ -23,3 +23,4 @@ pub mod EasyRegisters
 pub mod EasyPuts
 pub mod EasyNames
 pub mod EasyRing
+pub mod EasyCells

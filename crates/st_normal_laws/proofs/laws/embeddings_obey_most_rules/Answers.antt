@@ -1,4 +1,5 @@
 use Rattle.st_normal_laws.proofs.Easy.{embedding_over}
+use Rattle.st_normal_laws.proofs.EasyCells.{cells_are_once}
 use Rattle.st_normal_laws.proofs.EasyFound.{fields_are_found, nodes_are_found_once}
 use Rattle.st_normal_laws.proofs.EasyNames.{filled_cells_are_old, holes_have_movers, new_names_have_its_revision, rows_are_short}
 use Rattle.st_normal_laws.proofs.EasyPuts.{put_nodes_leave, root_stays}
@@ -12,7 +13,7 @@ pub returns : goal.returns
 returns c = record {
   over = λ D N C x f e. embedding_over D N C x f e;
   listed = λ D N C x f e. (marks_are_merged D N C x f e, rows_tell D N C x f e, lists_rise D N C x f e);
-  found_once = λ D N C x f e. nodes_are_found_once D N C x f e;
+  once = λ D N C x f e. (cells_are_once D N C x f e, nodes_are_found_once D N C x f e);
   fields_found = λ D N C x f e. (fields_are_found D N C x f e, keys_are_there D N C x f e);
   new = λ D N C x f e. (new_not_found D N C x f e, new_rows_are_made D N C x f e, new_registers_are_empty D N C x f e);
   mentioned = λ D N C x f e. (needed_are_found D N C x f e, staying_are_mentioned D N C x f e);
