@@ -154,13 +154,13 @@ module _ (D : Document) (N : Intent) (C : Change) (x : IsSoundInForm D) (f : Fit
   fresh n a o s h i e = let bad : None ≡ Some n = sym (new-row n a o h).0 ∙ ap D.row_of (sym e) ∙ old-row n s i in cc
 
   -- the row in which a cell is listed
-  abbrev IsInRow : NodeId → CellId → Type 0
+  abbrev pub IsInRow : NodeId → CellId → Type 0
   IsInRow n d = (D.row_of d ≡ Some n) ⊎ ((D.row_of d ≡ None) × (new_row_of N d ≡ Some n))
 
   of_group : (n : NodeId) (a : Option CellId) (d : CellId) → IsOf (group_at N n a) d → IsInRow n d
   of_group n a d r = subst (IsInRow n) r.2 (inr (new-row n a r.0 r.1))
 
-  in-row : (r : RowMarks) (d : CellId) → Has C.rows r → Has (cells_in (spread r.marks)) d → IsInRow r.node d
+  pub in-row : (r : RowMarks) (d : CellId) → Has C.rows r → Has (cells_in (spread r.marks)) d → IsInRow r.node d
   in-row r d i h = elim (in-made (row_part m N r.node) (group_at N r.node None) (embed_cells (row_part m N r.node) (content D r.node)) d (subst (λ ms. Has (cells_in ms) d) (row-look D N C x f emb r i).0 h)) [
     | inl w ↦ of_group r.node None d w
     | inr j ↦ elim (in-cells (row_part m N r.node) (content D r.node) d j) [
@@ -169,7 +169,7 @@ module _ (D : Document) (N : Intent) (C : Change) (x : IsSoundInForm D) (f : Fit
     ]
   ]
 
-  one-row : (n k : NodeId) (d : CellId) → IsInRow n d → IsInRow k d → n ≡ k
+  pub one-row : (n k : NodeId) (d : CellId) → IsInRow n d → IsInRow k d → n ≡ k
   one-row n k d (inl a) (inl b) = let q : Some n ≡ Some k = sym a ∙ b in cc
   one-row n k d (inl a) (inr b) = let bad : Some n ≡ None = sym a ∙ b.0 in cc
   one-row n k d (inr a) (inl b) = let bad : None ≡ Some k = sym a.0 ∙ b in cc

@@ -24,3 +24,4 @@ pub mod EasyPuts
 pub mod EasyNames
 pub mod EasyRing
 pub mod EasyCells
+pub mod EasyPutOnce

@@ -9,7 +9,7 @@ ghost use Rattle.st_marks.specs.Document.{Document, HasShortRows, IsSoundInForm,
 ghost use Rattle.st_marks.specs.Embedding.{IsEmbedding, IsMentionedByIntent};
 ghost use Rattle.st_marks.specs.Intent.{Fits};
 ghost use Rattle.st_marks.specs.Normal.{IsNormalChange};
-ghost use Rattle.st_normal.specs.Rules.{CellsAreOnce, ChangeIsRising, FieldsAreFound, FilledCellsAreOld, FilledRegistersAreCleared, HolesHaveMovers, KeysAreThere, MarksAreMerged, NeededNodesAreFound, NewNamesHaveItsRevision, NewNodesAreNotFound, NewRegistersAreEmpty, NewRowsAreMade, NoRingBeforeChange, NoRingOfNewNodes, NodesAreFoundOnce, ObeysChangeRules, ObeysDataRules, OpeningIsBase, PutNodesLeave, RegisterMarksFit, RegistersTell, RootStays, RowsAreShort, RowsTell, StayingNodesAreMentioned, listed_by_change};
+ghost use Rattle.st_normal.specs.Rules.{CellsAreOnce, ChangeIsRising, FieldsAreFound, FilledCellsAreOld, FilledRegistersAreCleared, HolesHaveMovers, KeysAreThere, MarksAreMerged, NeededNodesAreFound, NewNamesHaveItsRevision, NewNodesAreNotFound, NewRegistersAreEmpty, NewRowsAreMade, NoRingBeforeChange, NoRingOfNewNodes, NodesAreFoundOnce, NodesArePutOnce, ObeysChangeRules, ObeysDataRules, OpeningIsBase, PutNodesLeave, RegisterMarksFit, RegistersTell, RootStays, RowsAreShort, RowsTell, StayingNodesAreMentioned, listed_by_change};
 ghost use Rattle.st_normal_laws.specs.Laid.{IsLayout, Layout, laid};
 ghost use Rattle.st_normal_laws.specs.Meant.{IsOver, meant};
 ghost use Rattle.st_normal_laws.specs.Mentions.{mentions};
@@ -76,7 +76,7 @@ pub fn two_have_one_seed()
 {}
 
 /// The change of an intent that fits a sound document finds there what is so, and obeys these of the rules on changes of data.
-/// Not shown yet of the rules: `NodesArePutOnce` and `LooseNodesArePut`; nor the rules on changes of schema.
+/// Not shown yet of the rules: `LooseNodesArePut`; nor the rules on changes of schema.
 pub fn embeddings_obey_most_rules()
     ensures over { (D : Document) (N : Intent) (C : Change)
         → IsSoundInForm D → Fits D N → IsEmbedding D N C
@@ -102,7 +102,8 @@ pub fn embeddings_obey_most_rules()
         → RegistersTell C × FilledRegistersAreCleared C × RegisterMarksFit C }
     ensures puts { (D : Document) (N : Intent) (C : Change)
         → IsSoundInForm D → Fits D N → IsEmbedding D N C
-        → PutNodesLeave (listed_by_change C) × RootStays (listed_by_change C) }
+        → NodesArePutOnce (listed_by_change C)
+        × PutNodesLeave (listed_by_change C) × RootStays (listed_by_change C) }
     ensures names { (D : Document) (N : Intent) (C : Change)
         → IsSoundInForm D → Fits D N → IsEmbedding D N C
         → NewNamesHaveItsRevision C × FilledCellsAreOld (listed_by_change C) × HolesHaveMovers C }
