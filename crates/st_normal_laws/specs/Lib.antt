@@ -1,0 +1,7 @@
+pub mod Told
+pub mod Laid
+pub mod Seed
+pub mod Meant
+pub mod Mentions
+pub mod One
+pub mod Two

@@ -1,0 +1,119 @@
+//! Laws on normal form and documents: each is the contract of a function that does nothing.
+ghost use Rattle.std.specs.Prelude.{◌≡◌, ◌↔◌, ℕ, None, true};
+ghost use Rattle.st_ids.specs.Listing.{Has};
+ghost use Rattle.st_ids.specs.declared.names.NodeId.{NodeId};
+ghost use Rattle.st_marks.specs.declared.changes.Change.{Change};
+ghost use Rattle.st_marks.specs.declared.intents.Intent.{Intent};
+ghost use Rattle.st_marks.specs.CarryOut.{full};
+ghost use Rattle.st_marks.specs.Document.{Document, HasShortRows, IsSoundInForm, content};
+ghost use Rattle.st_marks.specs.Embedding.{IsEmbedding, IsMentionedByIntent};
+ghost use Rattle.st_marks.specs.Intent.{Fits};
+ghost use Rattle.st_marks.specs.Normal.{IsNormalChange};
+ghost use Rattle.st_normal.specs.Rules.{CellsAreOnce, ChangeIsRising, FieldsAreFound, FilledCellsAreOld, FilledRegistersAreCleared, HolesHaveMovers, KeysAreThere, MarksAreMerged, NeededNodesAreFound, NewNamesHaveItsRevision, NewNodesAreNotFound, NewRegistersAreEmpty, NewRowsAreMade, NoRingBeforeChange, NoRingOfNewNodes, NodesAreFoundOnce, NodesArePutOnce, ObeysChangeRules, ObeysDataRules, OpeningIsBase, PutNodesLeave, RegisterMarksFit, RegistersTell, RootStays, RowsAreShort, RowsTell, StayingNodesAreMentioned, listed_by_change};
+ghost use Rattle.st_normal_laws.specs.Laid.{IsLayout, Layout, laid};
+ghost use Rattle.st_normal_laws.specs.Meant.{IsOver, meant};
+ghost use Rattle.st_normal_laws.specs.Mentions.{mentions};
+ghost use Rattle.st_normal_laws.specs.Seed.{CanBeFound, Finds, FoundHeld, FoundRow, seed};
+ghost use Rattle.st_normal_laws.specs.Told.{AreAsSeen};
+ghost use Rattle.st_normal_laws.specs.Two.{AgreeBeside, both};
+
+/// A document that is laid out from lists is sound in form.
+pub fn laid_is_sound()
+    ensures { (L : Layout) → IsLayout L → IsSoundInForm (laid L) }
+{}
+
+/// What can be found together has a seed: a sound document that has it, with fresh names for what is found without one.
+/// No session that is found reaches F. Names of definitions are whole numbers, so those of a seed may pass 2^32.
+pub fn seed_is_sound()
+    ensures { (F : ℕ) (W : Finds) → CanBeFound F W → IsSoundInForm (laid (seed F W)) }
+{}
+
+/// What the intent of a change mentions, in each sound document in which the change finds what is so, is exactly what the
+/// change lists as mentioned: the document isn't needed to tell.
+pub fn mentions_are_exact()
+    ensures { (D : Document) (C : Change) (n : NodeId)
+        → IsSoundInForm D → ObeysDataRules C → IsOver D C
+        → (mentions C n ≡ true) ↔ IsMentionedByIntent D (meant D C) n }
+{}
+
+/// A change of data that obeys the rules stands over each sound document in which it finds what is so: the intent that it
+/// means there fits, leaves rows short, and has it as its change.
+pub fn changes_stand_over()
+    ensures fits { (D : Document) (C : Change)
+        → IsSoundInForm D → ObeysDataRules C → C.schema ≡ None → IsOver D C
+        → Fits D (meant D C) }
+    ensures short { (D : Document) (C : Change)
+        → IsSoundInForm D → ObeysDataRules C → C.schema ≡ None → IsOver D C
+        → HasShortRows (full D (meant D C)) }
+    ensures embedding { (D : Document) (C : Change)
+        → IsSoundInForm D → ObeysDataRules C → C.schema ≡ None → IsOver D C
+        → IsEmbedding D (meant D C) C }
+{}
+
+/// A change that obeys the rules of normal form is normal: it stands over some document. So `Change::check` lets through
+/// nothing that no intent could have given.
+pub fn changes_that_obey_are_normal()
+    ensures { (C : Change) → ObeysChangeRules C → IsNormalChange C }
+{}
+
+/// What two find that agree can be found together, and the seed of both has the rows and the occupants that each finds.
+pub fn two_have_one_seed()
+    ensures together { (F : ℕ) (A B : Finds)
+        → CanBeFound F A → CanBeFound F B → AgreeBeside A B
+        → CanBeFound F (both A B) }
+    ensures first_rows { (F : ℕ) (A B : Finds) (r : FoundRow)
+        → CanBeFound F A → CanBeFound F B → AgreeBeside A B → Has A.rows r
+        → AreAsSeen (content (laid (seed F (both A B))) r.node) r.cells }
+    ensures second_rows { (F : ℕ) (A B : Finds) (r : FoundRow)
+        → CanBeFound F A → CanBeFound F B → AgreeBeside A B → Has B.rows r
+        → AreAsSeen (content (laid (seed F (both A B))) r.node) r.cells }
+    ensures first_held { (F : ℕ) (A B : Finds) (h : FoundHeld)
+        → CanBeFound F A → CanBeFound F B → AgreeBeside A B → Has A.held h
+        → (laid (seed F (both A B))).held h.field ≡ h.node }
+    ensures second_held { (F : ℕ) (A B : Finds) (h : FoundHeld)
+        → CanBeFound F A → CanBeFound F B → AgreeBeside A B → Has B.held h
+        → (laid (seed F (both A B))).held h.field ≡ h.node }
+{}
+
+/// The change of an intent that fits a sound document finds there what is so, and obeys these of the rules on changes of data.
+/// Not shown yet of the rules: `LooseNodesArePut`; nor the rules on changes of schema.
+pub fn embeddings_obey_most_rules()
+    ensures over { (D : Document) (N : Intent) (C : Change)
+        → IsSoundInForm D → Fits D N → IsEmbedding D N C
+        → IsOver D C }
+    ensures listed { (D : Document) (N : Intent) (C : Change)
+        → IsSoundInForm D → Fits D N → IsEmbedding D N C
+        → MarksAreMerged (listed_by_change C) × RowsTell (listed_by_change C) × ChangeIsRising C }
+    ensures once { (D : Document) (N : Intent) (C : Change)
+        → IsSoundInForm D → Fits D N → IsEmbedding D N C
+        → CellsAreOnce (listed_by_change C) × NodesAreFoundOnce (listed_by_change C) }
+    ensures fields_found { (D : Document) (N : Intent) (C : Change)
+        → IsSoundInForm D → Fits D N → IsEmbedding D N C
+        → FieldsAreFound (listed_by_change C) × KeysAreThere (listed_by_change C) }
+    ensures new { (D : Document) (N : Intent) (C : Change)
+        → IsSoundInForm D → Fits D N → IsEmbedding D N C
+        → NewNodesAreNotFound (listed_by_change C)
+        × NewRowsAreMade (listed_by_change C) × NewRegistersAreEmpty C }
+    ensures mentioned { (D : Document) (N : Intent) (C : Change)
+        → IsSoundInForm D → Fits D N → IsEmbedding D N C
+        → NeededNodesAreFound C × StayingNodesAreMentioned C }
+    ensures registers { (D : Document) (N : Intent) (C : Change)
+        → IsSoundInForm D → Fits D N → IsEmbedding D N C
+        → RegistersTell C × FilledRegistersAreCleared C × RegisterMarksFit C }
+    ensures puts { (D : Document) (N : Intent) (C : Change)
+        → IsSoundInForm D → Fits D N → IsEmbedding D N C
+        → NodesArePutOnce (listed_by_change C)
+        × PutNodesLeave (listed_by_change C) × RootStays (listed_by_change C) }
+    ensures names { (D : Document) (N : Intent) (C : Change)
+        → IsSoundInForm D → Fits D N → IsEmbedding D N C
+        → NewNamesHaveItsRevision C × FilledCellsAreOld (listed_by_change C) × HolesHaveMovers C }
+    ensures short { (D : Document) (N : Intent) (C : Change)
+        → IsSoundInForm D → Fits D N → IsEmbedding D N C → HasShortRows (full D N)
+        → RowsAreShort (listed_by_change C) }
+    ensures no_ring { (D : Document) (N : Intent) (C : Change)
+        → IsSoundInForm D → Fits D N → IsEmbedding D N C
+        → NoRingBeforeChange C × NoRingOfNewNodes C }
+    ensures base { (D : Document) (N : Intent) (C : Change)
+        → IsSoundInForm D → Fits D N → IsEmbedding D N C → N.schema ≡ None
+        → OpeningIsBase C }
+{}
