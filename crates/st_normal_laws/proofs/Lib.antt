@@ -25,3 +25,4 @@ pub mod EasyNames
 pub mod EasyRing
 pub mod EasyCells
 pub mod EasyPutOnce
+pub mod EasyLoose

@@ -9,7 +9,7 @@ ghost use Rattle.st_marks.specs.Document.{Document, HasShortRows, IsSoundInForm,
 ghost use Rattle.st_marks.specs.Embedding.{IsEmbedding, IsMentionedByIntent};
 ghost use Rattle.st_marks.specs.Intent.{Fits};
 ghost use Rattle.st_marks.specs.Normal.{IsNormalChange};
-ghost use Rattle.st_normal.specs.Rules.{CellsAreOnce, ChangeIsRising, FieldsAreFound, FilledCellsAreOld, FilledRegistersAreCleared, HolesHaveMovers, KeysAreThere, MarksAreMerged, NeededNodesAreFound, NewNamesHaveItsRevision, NewNodesAreNotFound, NewRegistersAreEmpty, NewRowsAreMade, NoRingBeforeChange, NoRingOfNewNodes, NodesAreFoundOnce, NodesArePutOnce, ObeysChangeRules, ObeysDataRules, OpeningIsBase, PutNodesLeave, RegisterMarksFit, RegistersTell, RootStays, RowsAreShort, RowsTell, StayingNodesAreMentioned, listed_by_change};
+ghost use Rattle.st_normal.specs.Rules.{CellsAreOnce, ChangeIsRising, FieldsAreFound, FilledCellsAreOld, FilledRegistersAreCleared, HolesHaveMovers, KeysAreThere, LooseNodesArePut, MarksAreMerged, NeededNodesAreFound, NewNamesHaveItsRevision, NewNodesAreNotFound, NewRegistersAreEmpty, NewRowsAreMade, NoRingBeforeChange, NoRingOfNewNodes, NodesAreFoundOnce, NodesArePutOnce, ObeysChangeRules, ObeysDataRules, OpeningIsBase, PutNodesLeave, RegisterMarksFit, RegistersTell, RootStays, RowsAreShort, RowsTell, StayingNodesAreMentioned, listed_by_change};
 ghost use Rattle.st_normal_laws.specs.Laid.{IsLayout, Layout, laid};
 ghost use Rattle.st_normal_laws.specs.Meant.{IsOver, meant};
 ghost use Rattle.st_normal_laws.specs.Mentions.{mentions};
@@ -110,6 +110,9 @@ pub fn embeddings_obey_most_rules()
     ensures short { (D : Document) (N : Intent) (C : Change)
         → IsSoundInForm D → Fits D N → IsEmbedding D N C → HasShortRows (full D N)
         → RowsAreShort (listed_by_change C) }
+    ensures loose { (D : Document) (N : Intent) (C : Change)
+        → IsSoundInForm D → Fits D N → IsEmbedding D N C
+        → LooseNodesArePut (listed_by_change C) C.loose }
     ensures no_ring { (D : Document) (N : Intent) (C : Change)
         → IsSoundInForm D → Fits D N → IsEmbedding D N C
         → NoRingBeforeChange C × NoRingOfNewNodes C }

@@ -1,6 +1,7 @@
 use Rattle.st_normal_laws.proofs.Easy.{embedding_over}
 use Rattle.st_normal_laws.proofs.EasyCells.{cells_are_once}
 use Rattle.st_normal_laws.proofs.EasyFound.{fields_are_found, nodes_are_found_once}
+use Rattle.st_normal_laws.proofs.EasyLoose.{loose_are_put}
 use Rattle.st_normal_laws.proofs.EasyNames.{filled_cells_are_old, holes_have_movers, new_names_have_its_revision, rows_are_short}
 use Rattle.st_normal_laws.proofs.EasyPutOnce.{nodes_are_put_once}
 use Rattle.st_normal_laws.proofs.EasyPuts.{put_nodes_leave, root_stays}
@@ -22,6 +23,7 @@ returns c = record {
   puts = λ D N C x f e. (nodes_are_put_once D N C x f e, put_nodes_leave D N C x f e, root_stays D N C x f e);
   names = λ D N C x f e. (new_names_have_its_revision D N C x f e, filled_cells_are_old D N C x f e, holes_have_movers D N C x f e);
   short = λ D N C x f e s. rows_are_short D N C x f e s;
+  loose = λ D N C x f e. loose_are_put D N C x f e;
   no_ring = λ D N C x f e. (no_ring_before D N C x f e, no_ring_of_new D N C x f e);
   base = λ D N C x f e. opening_is_base D N C x f e;
 }
