@@ -1,5 +1,5 @@
 -- The easy half, in part: a node that is nowhere leaves only where it is put.
-use Rattle.std.proofs.Common.{◌≡◌, ◌≢◌, ◌++◌, ◌||◌, Bool, true, false, List, [], ◌∷◌, map, Option, Some, None, IfSome, cond, refl, sym, ap, ◌∙◌, subst, inl, inr, ◌⊎◌}
+use Rattle.std.proofs.Common.{◌≡◌, ◌++◌, ◌||◌, Bool, true, false, List, [], ◌∷◌, Option, Some, None, IfSome, cond, refl, sym, ap, ◌∙◌, subst, inl, inr}
 use Rattle.std.specs.List.{flat_map, list_any}
 use Rattle.st_ids.specs.Listing.{Has}
 use Rattle.st_ids.specs.Order.{field_cmp, same_node}
@@ -28,7 +28,7 @@ use Rattle.st_marks.proofs.Lookups.{group_found, has-put_in, put-has, put_clears
 use Rattle.st_marks.proofs.Members.{all-has, append_left, append_right, flat_map-has, has-all, has-flat_map, map-has}
 use Rattle.st_normal.specs.Rules.{Listed, LooseNodesArePut, incoming, in_rows, listed_by_change, put_at}
 use Rattle.st_normal.proofs.Linked.{item_of-has}
-use Rattle.st_normal_laws.proofs.Basics.{is-one, or-right, register-not-nowhere}
+use Rattle.st_normal_laws.proofs.Basics.{is-one, register-not-nowhere}
 use Rattle.st_normal_laws.proofs.Easy.{embedding_over, loose-look, row-listed}
 use Rattle.st_normal_laws.proofs.EasyStaying.{loose-how}
 use Rattle.st_normal_laws.proofs.Puts.{put-is_here}
