@@ -26,3 +26,4 @@ pub mod EasyRing
 pub mod EasyCells
 pub mod EasyPutOnce
 pub mod EasyLoose
+pub mod DataRules

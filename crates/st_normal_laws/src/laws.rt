@@ -85,3 +85,8 @@ pub fn embeddings_obey_data_rules()
         → IsSoundInForm D → Fits D N → HasShortRows (full D N) → N.schema ≡ None
         → IsEmbedding D N C → ObeysDataRules C }
 {}
+
+/// A change of data is normal exactly where it obeys the rules of normal form.
+pub fn normal_changes_of_data_obey()
+    ensures { (C : Change) → C.schema ≡ None → IsNormalChange C ↔ ObeysDataRules C }
+{}
