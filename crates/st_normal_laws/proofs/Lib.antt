@@ -25,3 +25,5 @@ pub mod EasyNames
 pub mod EasyRing
 pub mod EasyCells
 pub mod EasyPutOnce
+pub mod EasyLoose
+pub mod DataRules

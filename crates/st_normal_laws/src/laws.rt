@@ -9,7 +9,7 @@ ghost use Rattle.st_marks.specs.Document.{Document, HasShortRows, IsSoundInForm,
 ghost use Rattle.st_marks.specs.Embedding.{IsEmbedding, IsMentionedByIntent};
 ghost use Rattle.st_marks.specs.Intent.{Fits};
 ghost use Rattle.st_marks.specs.Normal.{IsNormalChange};
-ghost use Rattle.st_normal.specs.Rules.{CellsAreOnce, ChangeIsRising, FieldsAreFound, FilledCellsAreOld, FilledRegistersAreCleared, HolesHaveMovers, KeysAreThere, MarksAreMerged, NeededNodesAreFound, NewNamesHaveItsRevision, NewNodesAreNotFound, NewRegistersAreEmpty, NewRowsAreMade, NoRingBeforeChange, NoRingOfNewNodes, NodesAreFoundOnce, NodesArePutOnce, ObeysChangeRules, ObeysDataRules, OpeningIsBase, PutNodesLeave, RegisterMarksFit, RegistersTell, RootStays, RowsAreShort, RowsTell, StayingNodesAreMentioned, listed_by_change};
+ghost use Rattle.st_normal.specs.Rules.{ObeysChangeRules, ObeysDataRules};
 ghost use Rattle.st_normal_laws.specs.Laid.{IsLayout, Layout, laid};
 ghost use Rattle.st_normal_laws.specs.Meant.{IsOver, meant};
 ghost use Rattle.st_normal_laws.specs.Mentions.{mentions};
@@ -75,45 +75,18 @@ pub fn two_have_one_seed()
         → (laid (seed F (both A B))).held h.field ≡ h.node }
 {}
 
-/// The change of an intent that fits a sound document finds there what is so, and obeys these of the rules on changes of data.
-/// Not shown yet of the rules: `LooseNodesArePut`; nor the rules on changes of schema.
-pub fn embeddings_obey_most_rules()
+/// The change of an intent that fits a sound document finds there what is so; and where the intent leaves rows short and is no
+/// change of schema, its change obeys the rules on changes of data. The rules on changes of schema are not shown yet.
+pub fn embeddings_obey_data_rules()
     ensures over { (D : Document) (N : Intent) (C : Change)
         → IsSoundInForm D → Fits D N → IsEmbedding D N C
         → IsOver D C }
-    ensures listed { (D : Document) (N : Intent) (C : Change)
-        → IsSoundInForm D → Fits D N → IsEmbedding D N C
-        → MarksAreMerged (listed_by_change C) × RowsTell (listed_by_change C) × ChangeIsRising C }
-    ensures once { (D : Document) (N : Intent) (C : Change)
-        → IsSoundInForm D → Fits D N → IsEmbedding D N C
-        → CellsAreOnce (listed_by_change C) × NodesAreFoundOnce (listed_by_change C) }
-    ensures fields_found { (D : Document) (N : Intent) (C : Change)
-        → IsSoundInForm D → Fits D N → IsEmbedding D N C
-        → FieldsAreFound (listed_by_change C) × KeysAreThere (listed_by_change C) }
-    ensures new { (D : Document) (N : Intent) (C : Change)
-        → IsSoundInForm D → Fits D N → IsEmbedding D N C
-        → NewNodesAreNotFound (listed_by_change C)
-        × NewRowsAreMade (listed_by_change C) × NewRegistersAreEmpty C }
-    ensures mentioned { (D : Document) (N : Intent) (C : Change)
-        → IsSoundInForm D → Fits D N → IsEmbedding D N C
-        → NeededNodesAreFound C × StayingNodesAreMentioned C }
-    ensures registers { (D : Document) (N : Intent) (C : Change)
-        → IsSoundInForm D → Fits D N → IsEmbedding D N C
-        → RegistersTell C × FilledRegistersAreCleared C × RegisterMarksFit C }
-    ensures puts { (D : Document) (N : Intent) (C : Change)
-        → IsSoundInForm D → Fits D N → IsEmbedding D N C
-        → NodesArePutOnce (listed_by_change C)
-        × PutNodesLeave (listed_by_change C) × RootStays (listed_by_change C) }
-    ensures names { (D : Document) (N : Intent) (C : Change)
-        → IsSoundInForm D → Fits D N → IsEmbedding D N C
-        → NewNamesHaveItsRevision C × FilledCellsAreOld (listed_by_change C) × HolesHaveMovers C }
-    ensures short { (D : Document) (N : Intent) (C : Change)
-        → IsSoundInForm D → Fits D N → IsEmbedding D N C → HasShortRows (full D N)
-        → RowsAreShort (listed_by_change C) }
-    ensures no_ring { (D : Document) (N : Intent) (C : Change)
-        → IsSoundInForm D → Fits D N → IsEmbedding D N C
-        → NoRingBeforeChange C × NoRingOfNewNodes C }
-    ensures base { (D : Document) (N : Intent) (C : Change)
-        → IsSoundInForm D → Fits D N → IsEmbedding D N C → N.schema ≡ None
-        → OpeningIsBase C }
+    ensures rules { (D : Document) (N : Intent) (C : Change)
+        → IsSoundInForm D → Fits D N → HasShortRows (full D N) → N.schema ≡ None
+        → IsEmbedding D N C → ObeysDataRules C }
+{}
+
+/// A change of data is normal exactly where it obeys the rules of normal form.
+pub fn normal_changes_of_data_obey()
+    ensures { (C : Change) → C.schema ≡ None → IsNormalChange C ↔ ObeysDataRules C }
 {}

@@ -5,6 +5,6 @@
 mod laws;
 
 pub use laws::{
-    changes_stand_over, changes_that_obey_are_normal, embeddings_obey_most_rules, laid_is_sound,
-    mentions_are_exact, seed_is_sound, two_have_one_seed,
+    changes_stand_over, changes_that_obey_are_normal, embeddings_obey_data_rules, laid_is_sound,
+    mentions_are_exact, normal_changes_of_data_obey, seed_is_sound, two_have_one_seed,
 };
