@@ -1,7 +1,7 @@
 //! What becomes of the marks of one row: answers that were worked out by hand, cell by cell.
 ghost use Rattle.std.specs.Prelude.{◌+◌, ◌^◌, ◌<◌, length, IsTrue};
 ghost use Rattle.st_marks.specs.Row.{spread};
-ghost use Rattle.st_marks.specs.Shown.{cells_before};
+ghost use Rattle.st_marks.specs.Listings.{cells_before};
 ghost use Rattle.st_seq.specs.Changes.{may_list};
 
 use st_ids::{Atom, CellId, List, NodeId, Or, Rev};

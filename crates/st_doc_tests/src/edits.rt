@@ -1,7 +1,7 @@
 //! Each edit, and its refusals.
 use crate::given::{Case, Places, commit, edit, opened, schema};
 use st_doc::Doc;
-use st_edits::Given;
+use st_edits::NameCounters;
 use st_ids::{Limit, LimitOf, Or, Rev};
 use st_marks::Intent;
 use st_resolve::resolve;
@@ -12,7 +12,7 @@ use std::test::Fail;
 const TREE: &str = r#"{"list":["w","x",{"list":["n"]},{"list":[]},{"card":{"title":"t"}}]}"#;
 
 // Two names are left of a commit's.
-const GIVEN: Given = Given {
+const GIVEN: NameCounters = NameCounters {
     rev: Rev { session: 1, num: 2 },
     nodes: 2046,
     cells: 0,

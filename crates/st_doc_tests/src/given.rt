@@ -7,7 +7,7 @@ ghost use Rattle.st_doc.specs.Doc.{document_of};
 ghost use Rattle.st_edits.specs.Resolve.{IsWithin};
 
 use st_doc::Doc;
-use st_edits::Given;
+use st_edits::NameCounters;
 use st_ids::{Key, List, Path, Place, Rev, Text};
 use st_json::read_line;
 use st_marks::{Intent, Verdict};
@@ -210,7 +210,7 @@ pub fn edit(alloc: Global, case: Case) -> Result<Edit, Fail>
 
 /// The commit of an edit in a document, by a session.
 pub fn commit(alloc: Global, doc: &Doc, session: u32, case: Case) -> Result<Intent, Fail> {
-    let given = Given {
+    let given = NameCounters {
         rev: Rev { session, num: 1 },
         nodes: 0,
         cells: 0,

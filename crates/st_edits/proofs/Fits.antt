@@ -30,9 +30,9 @@ use Rattle.st_marks.specs.Intent.{Fits, IsKnown, Owns, cell_of, clears, is_new, 
 use Rattle.st_marks.proofs.Lookups.{both_true}
 use Rattle.st_marks.proofs.Members.{true-false, all-has, has-all, has-map, first-has}
 use Rattle.st_marks.specs.LiveTree.{live_slots}
-use Rattle.st_edits.specs.Paths.{and_then, there, child, field_at, items_from, row_length, walk_from}
-use Rattle.st_edits.specs.Resolve.{need, remove, removed, nothing_yet, walk, rule_for, within_row, rule_at, of_kind, is_optional, clear}
-use Rattle.st_edits.specs.declared.names.Given.{Given}
+use Rattle.st_edits.specs.Paths.{and_then, or_refuse, child, field_at, items_from, row_length, walk_from}
+use Rattle.st_edits.specs.Resolve.{need, remove, intent_to_remove, empty_intent, walk, rule_for, within_row, rule_at, of_kind, is_optional, clear}
+use Rattle.st_edits.specs.declared.names.NameCounters.{NameCounters}
 use Rattle.st_edits.specs.declared.names.Takes.TheVariants as field
 
 -- ## Steps that may be refused
@@ -41,7 +41,7 @@ pub passed : {A B : Type 0} (r : Result A EditFault) (next : A → Result B Edit
 passed (Err e) next y h = cc
 passed (Ok x) next y h = (x, refl, h)
 
-pub found : {A : Type 0} (o : Option A) (e : EditFault) (x : A) → there o e ≡ Ok x → o ≡ Some x
+pub found : {A : Type 0} (o : Option A) (e : EditFault) (x : A) → or_refuse o e ≡ Ok x → o ≡ Some x
 found None e x h = cc
 found (Some y) e x h = let q : y ≡ x = cc in ap (λ z. Some z) q
 
@@ -104,18 +104,18 @@ child_there D n m p sound e = go (length p.key.0 == 0) e
 pub walk_there : (D : Document) (k : ℕ) (n m : NodeId) (path : List Place) → IsSoundInForm D → IsSome (D.nodes n) → walk_from D k n path ≡ Ok m → IsSome (D.nodes m)
 walk_there D k n m [] sound known e = let q : n ≡ m = cc in subst (λ x. IsSome (D.nodes x)) q known
 walk_there D k n m (p ∷ ps) sound known e =
-    let x = passed (there (child D n p) _) (λ x. walk_from D (k + 1) x ps) m e in
+    let x = passed (or_refuse (child D n p) _) (λ x. walk_from D (k + 1) x ps) m e in
     walk_there D (k + 1) x.0 m ps sound (child_there D n x.0 p sound (found (child D n p) _ x.0 x.1)) x.2
 
 -- ## A need
 
-pub need_fits : (D : Document) (G : Given) (at : List Place) (N : Intent) → IsSoundInForm D → need D G at ≡ Ok N → Fits D N
+pub need_fits : (D : Document) (G : NameCounters) (at : List Place) (N : Intent) → IsSoundInForm D → need D G at ≡ Ok N → Fits D N
 need_fits D G at N sound e =
-    let n = passed (walk D at) (λ n. Ok (record (nothing_yet D G) { need = n ∷ [] })) N e in
-    let is : record (nothing_yet D G) { need = n.0 ∷ [] } ≡ N = cc in
+    let n = passed (walk D at) (λ n. Ok (record (empty_intent D G) { need = n ∷ [] })) N e in
+    let is : record (empty_intent D G) { need = n.0 ∷ [] } ≡ N = cc in
     subst (Fits D) is (fits n.0 (walk_there D 0 root n.0 at sound sound.root_known n.1))
   where
-    fits : (n : NodeId) → IsSome (D.nodes n) → Fits D (record (nothing_yet D G) { need = n ∷ [] })
+    fits : (n : NodeId) → IsSome (D.nodes n) → Fits D (record (empty_intent D G) { need = n ∷ [] })
     fits n known = record {
       itself = record {
         new_rev = tt;
@@ -241,8 +241,8 @@ not_put ms m apart = go (find (λ (p : Put). same_node p.node m) (map nowhere ms
         absurd (apart k.0 k.1 (ap (λ (p : Put). p.node) k.2 ∙ same_node-true p.node m f.1))
 
 -- nodes that are there, each once and none the root, can be put nowhere
-pub nowhere_fits : (D : Document) (G : Given) (ms : List NodeId) → AreDistinct (λ (m : NodeId). m) ms → ((m : NodeId) → Has ms m → IsSome (D.nodes m) × (m ≢ root)) → Fits D (removed D G ms)
-nowhere_fits D G ms once there = record {
+pub nowhere_fits : (D : Document) (G : NameCounters) (ms : List NodeId) → AreDistinct (λ (m : NodeId). m) ms → ((m : NodeId) → Has ms m → IsSome (D.nodes m) × (m ≢ root)) → Fits D (intent_to_remove D G ms)
+nowhere_fits D G ms once or_refuse = record {
   itself = record {
     new_rev = tt;
     new_once = tt;
@@ -253,12 +253,12 @@ nowhere_fits D G ms once there = record {
     anchor_once = tt;
     anchor_old = tt;
     owners = tt;
-    root_stays = not_put ms root (λ k h. (there k h).1);
+    root_stays = not_put ms root (λ k h. (or_refuse k h).1);
     put_once = distinct_map nowhere (λ (p : Put). p.node) ms once;
     no_cell_twice = subst (AreDistinct (λ (c : CellId). c)) (sym (none_kept nowhere (λ (p : Put). cell_of p.to) ms (λ m. refl))) tt;
     no_register_twice = subst (AreDistinct (λ (f : FieldId). f)) (sym (none_kept nowhere (λ (p : Put). register_of p.to) ms (λ m. refl))) tt;
-    new_somewhere = all_map (λ (p : Put). IsTrue (is_new (removed D G ms) p.node) → p.to ≢ To.Nowhere) nowhere ms (λ m h new. absurd (cc));
-    cleared = all_map (λ (p : Put). IfSome (register_of p.to) (λ f. IsTrue (clears (removed D G ms) f))) nowhere ms (λ m h. tt);
+    new_somewhere = all_map (λ (p : Put). IsTrue (is_new (intent_to_remove D G ms) p.node) → p.to ≢ To.Nowhere) nowhere ms (λ m h new. absurd (cc));
+    cleared = all_map (λ (p : Put). IfSome (register_of p.to) (λ f. IsTrue (clears (intent_to_remove D G ms) f))) nowhere ms (λ m h. tt);
     register_keys = tt;
     need_old = tt;
     no_ring = λ m. (1, refl);
@@ -269,20 +269,20 @@ nowhere_fits D G ms once there = record {
   fresh_schema = tt;
   groups_known = tt;
   owners_known = tt;
-  puts_known = all_map (λ (p : Put). IsKnown D (removed D G ms) p.node × IfSome (cell_of p.to) (Owns D (removed D G ms) p.node) × IfSome (register_of p.to) (λ f. IsKnown D (removed D G ms) f.node)) nowhere ms
-      (λ m h. (inr (there m h).0, tt, tt));
+  puts_known = all_map (λ (p : Put). IsKnown D (intent_to_remove D G ms) p.node × IfSome (cell_of p.to) (Owns D (intent_to_remove D G ms) p.node) × IfSome (register_of p.to) (λ f. IsKnown D (intent_to_remove D G ms) f.node)) nowhere ms
+      (λ m h. (inr (or_refuse m h).0, tt, tt));
   clears_known = tt;
   needs_known = tt;
 }
 
-pub remove_fits : (D : Document) (s : SchemaView) (G : Given) (at : List Place) (key : Key) (index count : ℕ) (N : Intent) → IsSoundInForm D → remove D s G at key index count ≡ Ok N → Fits D N
+pub remove_fits : (D : Document) (s : SchemaView) (G : NameCounters) (at : List Place) (key : Key) (index count : ℕ) (N : Intent) → IsSoundInForm D → remove D s G at key index count ≡ Ok N → Fits D N
 remove_fits D s G at key index count N sound e =
-    let n = passed (walk D at) (λ n. and_then (rule_for field.Row D s n key) (λ _. and_then (within_row D n index count) (λ ns. Ok (removed D G ns)))) N e in
-    let r = passed (rule_for field.Row D s n.0 key) (λ _. and_then (within_row D n.0 index count) (λ ns. Ok (removed D G ns))) N n.2 in
-    let ns = passed (within_row D n.0 index count) (λ ns. Ok (removed D G ns)) N r.2 in
-    let is : removed D G ns.0 ≡ N = cc in
+    let n = passed (walk D at) (λ n. and_then (rule_for field.Row D s n key) (λ _. and_then (within_row D n index count) (λ ns. Ok (intent_to_remove D G ns)))) N e in
+    let r = passed (rule_for field.Row D s n.0 key) (λ _. and_then (within_row D n.0 index count) (λ ns. Ok (intent_to_remove D G ns))) N n.2 in
+    let ns = passed (within_row D n.0 index count) (λ ns. Ok (intent_to_remove D G ns)) N r.2 in
+    let is : intent_to_remove D G ns.0 ≡ N = cc in
     let items : items_from D n.0 index count ≡ ns.0 = taken_is (nat_le (index + count) (row_length D n.0)) n.0 ns.0 ns.1 in
-    subst (Fits D) is (subst (λ ms. Fits D (removed D G ms)) items (nowhere_fits D G (items_from D n.0 index count) (items_once D n.0 index count sound) (item_there D n.0 index count sound)))
+    subst (Fits D) is (subst (λ ms. Fits D (intent_to_remove D G ms)) items (nowhere_fits D G (items_from D n.0 index count) (items_once D n.0 index count sound) (item_there D n.0 index count sound)))
   where
     taken_is : (b : Bool) (n : NodeId) (ns : List NodeId) → cond b (Ok (items_from D n index count)) (Err Range) ≡ Ok ns → items_from D n index count ≡ ns
     taken_is true n ns h = cc
@@ -353,7 +353,7 @@ optional_single Required e = refl
 optional_single Optional e = refl
 optional_single Sequence e = cc
 
-pub emptied_fits : (D : Document) (G : Given) (f : FieldId) → IsSome (D.nodes f.node) → f.key.0 ≢ [] → Fits D (record (nothing_yet D G) { clear = f ∷ [] })
+pub emptied_fits : (D : Document) (G : NameCounters) (f : FieldId) → IsSome (D.nodes f.node) → f.key.0 ≢ [] → Fits D (record (empty_intent D G) { clear = f ∷ [] })
 emptied_fits D G f known some = record {
   itself = record {
     new_rev = tt;
@@ -386,12 +386,12 @@ emptied_fits D G f known some = record {
   needs_known = tt;
 }
 
-pub clear_fits : (D : Document) (s : SchemaView) (G : Given) (at : List Place) (key : Key) (N : Intent) → IsSoundInForm D → is_sound s ≡ true → clear D s G at key ≡ Ok N → Fits D N
+pub clear_fits : (D : Document) (s : SchemaView) (G : NameCounters) (at : List Place) (key : Key) (N : Intent) → IsSoundInForm D → is_sound s ≡ true → clear D s G at key ≡ Ok N → Fits D N
 clear_fits D s G at key N sound schema e =
-    let n = passed (walk D at) (λ n. and_then (rule_for field.Optional D s n key) (λ _. Ok (record (nothing_yet D G) { clear = field_at n key ∷ [] }))) N e in
-    let r = passed (rule_for field.Optional D s n.0 key) (λ _. Ok (record (nothing_yet D G) { clear = field_at n.0 key ∷ [] })) N n.2 in
-    let is : record (nothing_yet D G) { clear = field_at n.0 key ∷ [] } ≡ N = cc in
-    let rule = passed (there (rule_at D s n.0 key) Kind) (of_kind is_optional) r.0 r.1 in
+    let n = passed (walk D at) (λ n. and_then (rule_for field.Optional D s n key) (λ _. Ok (record (empty_intent D G) { clear = field_at n key ∷ [] }))) N e in
+    let r = passed (rule_for field.Optional D s n.0 key) (λ _. Ok (record (empty_intent D G) { clear = field_at n.0 key ∷ [] })) N n.2 in
+    let is : record (empty_intent D G) { clear = field_at n.0 key ∷ [] } ≡ N = cc in
+    let rule = passed (or_refuse (rule_at D s n.0 key) Kind) (of_kind is_optional) r.0 r.1 in
     let w = ruled D s n.0 key rule.0 (found (rule_at D s n.0 key) Kind rule.0 rule.1) in
     let single = optional_single rule.0.kind (kind_taken is_optional rule.0 r.0 rule.2) in
     subst (Fits D) is (emptied_fits D G (field_at n.0 key) w.0 (key_some s w.1.0.ty key.0 rule.0 schema w.1.1 single))

@@ -31,15 +31,15 @@ use Rattle.st_marks.specs.Intent.{Fits, IsKnown, Owns, cell_of, clears, group_ce
 use Rattle.st_marks.proofs.Lookups.{both_true}
 use Rattle.st_marks.proofs.Members.{true-false, all-has, has-all, any-has, first-has, none-has, has-map, map-has}
 use Rattle.st_marks.specs.LiveTree.{live_slots}
-use Rattle.st_edits.specs.Paths.{and_then, there, field_at, items_from, left_of, row_length}
-use Rattle.st_edits.specs.Resolve.{ask, cells_for, moved_to_row, moved_to_field, nothing_yet, walk, rule_for, rule_at, of_kind, is_open, taken, is_there, may_move, moved, move}
-use Rattle.st_edits.specs.declared.names.Given.{Given}
+use Rattle.st_edits.specs.Paths.{and_then, or_refuse, field_at, items_from, left_of, row_length}
+use Rattle.st_edits.specs.Resolve.{require, cells_for, moved_to_row, moved_to_field, empty_intent, walk, rule_for, rule_at, of_kind, is_open, nodes_taken, is_there, may_move, intent_to_move, move}
+use Rattle.st_edits.specs.declared.names.NameCounters.{NameCounters}
 use Rattle.st_edits.specs.declared.names.Takes.TheVariants as field
 use Rattle.st_edits.proofs.Fits.{all_map, distinct_map, none_kept, passed, found, shown, gotten, item_there, items_once, nowhere_fits, emptied_fits, key_some, ruled}
 
 -- ## New cells
 
-abbrev pub CellsFresh : Document → Given → Type 0
+abbrev pub CellsFresh : Document → NameCounters → Type 0
 CellsFresh D G = (k : ℕ) → G.cells ≤ k → D.row_of (cell_named G.rev k) ≡ None
 
 -- a new cell is named by the commit, under a number from the first on, and owned by one of the nodes
@@ -106,13 +106,13 @@ into_cell o = record { node = o.node; to = To.Cell o.cell }
 -- ## Into a row
 
 -- the intent of a move of some nodes, at least one, into a row
-abbrev row_move : Document → Given → NodeId → Option CellId → Owned → List Owned → Intent
-row_move D G m after o os = record (nothing_yet D G) {
+abbrev row_move : Document → NameCounters → NodeId → Option CellId → Owned → List Owned → Intent
+row_move D G m after o os = record (empty_intent D G) {
   groups = record { node = m; after = after; cells = o ∷ os } ∷ [];
   put = map into_cell (o ∷ os);
 }
 
-module _ (D : Document) (G : Given) (m : NodeId) (after : Option CellId) (o : Owned) (os : List Owned) where
+module _ (D : Document) (G : NameCounters) (m : NodeId) (after : Option CellId) (o : Owned) (os : List Owned) where
   group_is : group_cells (row_move D G m after o os) ≡ o ∷ os
   group_is = append-nil (o ∷ os)
 
@@ -178,8 +178,8 @@ module _ (D : Document) (G : Given) (m : NodeId) (after : Option CellId) (o : Ow
       old_anchor : (a : Option CellId) → after ≡ a → IfSome a (λ c. new_row_of (row_move D G m after o os) c ≡ None)
       old_anchor None e = tt
       old_anchor (Some c) e = no_new_row c (λ p h same.
-          let there : D.row_of c ≡ Some m = subst (λ a. IfSome a (λ c. D.row_of c ≡ Some m)) e anchor in
-          let bad : None ≡ Some m = sym (each p h).1 ∙ ap D.row_of same ∙ there in cc)
+          let or_refuse : D.row_of c ≡ Some m = subst (λ a. IfSome a (λ c. D.row_of c ≡ Some m)) e anchor in
+          let bad : None ≡ Some m = sym (each p h).1 ∙ ap D.row_of same ∙ or_refuse in cc)
 
 -- the item left of an index is in the row
 pub left_in_row : (D : Document) (m : NodeId) (index : ℕ) → IsSoundInForm D → IfSome (left_of D m index) (λ c. D.row_of c ≡ Some m)
@@ -190,13 +190,13 @@ left_in_row D m (suc i) sound = go (slice_get (live_slots D m) i) refl
     go None e = tt
     go (Some s) e = (sound.one_row s.cell m).1 (s.node, (shown D m s (gotten (live_slots D m) i s e)).in_row)
 
-row_fits : (D : Document) (G : Given) (m : NodeId) (index : ℕ) (ns : List NodeId) → IsSoundInForm D → CellsFresh D G → AreDistinct (λ (n : NodeId). n) ns → ((n : NodeId) → Has ns n → IsSome (D.nodes n) × (n ≢ root))
+row_fits : (D : Document) (G : NameCounters) (m : NodeId) (index : ℕ) (ns : List NodeId) → IsSoundInForm D → CellsFresh D G → AreDistinct (λ (n : NodeId). n) ns → ((n : NodeId) → Has ns n → IsSome (D.nodes n) × (n ≢ root))
     → IsSome (D.nodes m) → Fits D (moved_to_row D G m index ns)
-row_fits D G m index [] sound fresh once there known = nowhere_fits D G [] tt (λ n h. absurd h)
-row_fits D G m index (n ∷ ns) sound fresh once there known =
+row_fits D G m index [] sound fresh once or_refuse known = nowhere_fits D G [] tt (λ n h. absurd h)
+row_fits D G m index (n ∷ ns) sound fresh once or_refuse known =
     row_move_fits D G m (left_of D m index) (owned (cell_named G.rev G.cells) n) (cells_for G.rev (G.cells + 1) ns)
     (λ p h. (let w = new_cell G.rev G.cells (n ∷ ns) p h in
-    (ap (λ (c : CellId). c.0.rev) w.named, ap D.row_of w.named ∙ fresh w.number w.low, (there p.node w.owner).0, (there p.node w.owner).1)))
+    (ap (λ (c : CellId). c.0.rev) w.named, ap D.row_of w.named ∙ fresh w.number w.low, (or_refuse p.node w.owner).0, (or_refuse p.node w.owner).1)))
     (cells_once G.rev G.cells (n ∷ ns)) (nodes_once G.rev G.cells (n ∷ ns) once) known (left_in_row D m index sound)
 
 -- ## Into a field
@@ -204,8 +204,8 @@ row_fits D G m index (n ∷ ns) sound fresh once there known =
 abbrev into_field : FieldId → NodeId → Put
 into_field f n = record { node = n; to = To.Register f }
 
-field_fits : (D : Document) (G : Given) (f : FieldId) (n : NodeId) → IsSome (D.nodes n) → n ≢ root → IsSome (D.nodes f.node) → f.key.0 ≢ [] → Fits D (moved_to_field D G f (n ∷ []))
-field_fits D G f n known other there some = record {
+field_fits : (D : Document) (G : NameCounters) (f : FieldId) (n : NodeId) → IsSome (D.nodes n) → n ≢ root → IsSome (D.nodes f.node) → f.key.0 ≢ [] → Fits D (moved_to_field D G f (n ∷ []))
+field_fits D G f n known other or_refuse some = record {
   itself = record {
     new_rev = tt;
     new_once = tt;
@@ -232,15 +232,15 @@ field_fits D G f n known other there some = record {
   fresh_schema = tt;
   groups_known = tt;
   owners_known = tt;
-  puts_known = ((inr known, tt, inr there), tt);
-  clears_known = (inr there, tt);
+  puts_known = ((inr known, tt, inr or_refuse), tt);
+  clears_known = (inr or_refuse, tt);
   needs_known = tt;
 }
 
-one_fits : (D : Document) (G : Given) (f : FieldId) (ns : List NodeId) → length ns ≤ 1 → ((n : NodeId) → Has ns n → IsSome (D.nodes n) × (n ≢ root)) → IsSome (D.nodes f.node) → f.key.0 ≢ [] → Fits D (moved_to_field D G f ns)
-one_fits D G f [] few each there some = emptied_fits D G f there some
-one_fits D G f (n ∷ []) few each there some = field_fits D G f n (each n (inl refl)).0 (each n (inl refl)).1 there some
-one_fits D G f (n ∷ (m ∷ ns)) few each there some = absurd (omega arith)
+one_fits : (D : Document) (G : NameCounters) (f : FieldId) (ns : List NodeId) → length ns ≤ 1 → ((n : NodeId) → Has ns n → IsSome (D.nodes n) × (n ≢ root)) → IsSome (D.nodes f.node) → f.key.0 ≢ [] → Fits D (moved_to_field D G f ns)
+one_fits D G f [] few each or_refuse some = emptied_fits D G f or_refuse some
+one_fits D G f (n ∷ []) few each or_refuse some = field_fits D G f n (each n (inl refl)).0 (each n (inl refl)).1 or_refuse some
+one_fits D G f (n ∷ (m ∷ ns)) few each or_refuse some = absurd (omega arith)
 
 -- ## What a move takes
 
@@ -257,14 +257,14 @@ take_few (suc k) (x ∷ xs) = let rest = take_few k xs in omega (arith, rest)
 held_taken : (D : Document) (f : FieldId) (n : NodeId) → IsSoundInForm D → D.held f ≡ Some n → IsSome (D.nodes n) × (n ≢ root)
 held_taken D f n sound e = ((sound.held_known n f e).0, λ r. (let at : D.place root ≡ Spot.Register f = ap D.place (sym r) ∙ (sound.one_held n f).0 e in let bad : Spot.Nowhere ≡ Spot.Register f = sym sound.root_nowhere ∙ at in cc))
 
-are_taken : (D : Document) (f : FieldId) (k : KindName) (index count : ℕ) (ns : List NodeId) → IsSoundInForm D → taken D f k index count ≡ Ok ns → AreTaken D count ns
+are_taken : (D : Document) (f : FieldId) (k : KindName) (index count : ℕ) (ns : List NodeId) → IsSoundInForm D → nodes_taken D f k index count ≡ Ok ns → AreTaken D count ns
 are_taken D f Required index count ns sound e = cc
 are_taken D f Optional index count ns sound e = go (index == 0 && count == 1) refl e
   where
-    go : (b : Bool) → (index == 0 && count == 1) ≡ b → cond b (and_then (there (D.held f) Range) (λ (n : NodeId). Ok (n ∷ []))) (Err Range) ≡ Ok ns → AreTaken D count ns
+    go : (b : Bool) → (index == 0 && count == 1) ≡ b → cond b (and_then (or_refuse (D.held f) Range) (λ (n : NodeId). Ok (n ∷ []))) (Err Range) ≡ Ok ns → AreTaken D count ns
     go false h g = cc
     go true h g =
-        let n = passed (there (D.held f) Range) (λ (n : NodeId). Ok (n ∷ [])) ns g in
+        let n = passed (or_refuse (D.held f) Range) (λ (n : NodeId). Ok (n ∷ [])) ns g in
         let is : n.0 ∷ [] ≡ ns = cc in
         let one : (count == 1) ≡ true = (both_true (index == 0) (count == 1) h).1 in
         let w = held_taken D f n.0 sound (found (D.held f) Range n.0 n.1) in
@@ -283,7 +283,7 @@ are_taken D f Sequence index count ns sound e = go (nat_le (index + count) (row_
 
 -- ## A move
 
-asked : (b : Bool) (e : EditFault) (u : Unit {0}) → ask b e ≡ Ok u → b ≡ true
+asked : (b : Bool) (e : EditFault) (u : Unit {0}) → require b e ≡ Ok u → b ≡ true
 asked true e u h = refl
 asked false e u h = cc
 
@@ -294,25 +294,25 @@ kind_same takes rule got e = go (takes rule.kind) e
     go true f = cc
     go false f = cc
 
-pub move_fits : (D : Document) (s : SchemaView) (G : Given) (at : List Place) (key : Key) (index count : ℕ) (to : List Place) (to_key : Key) (to_index : ℕ) (N : Intent)
+pub move_fits : (D : Document) (s : SchemaView) (G : NameCounters) (at : List Place) (key : Key) (index count : ℕ) (to : List Place) (to_key : Key) (to_index : ℕ) (N : Intent)
     → IsSoundInForm D → is_sound s ≡ true → CellsFresh D G → move D s G at key index count to to_key to_index ≡ Ok N → Fits D N
 move_fits D s G at key index count to to_key to_index N sound schema fresh e =
     let n = passed (walk D at) _ N e in
     let m = passed (walk D to) _ N n.2 in
     let source = passed (rule_for field.Open D s n.0 key) _ N m.2 in
     let target = passed (rule_for field.Open D s m.0 to_key) _ N source.2 in
-    let ns = passed (taken D (field_at n.0 key) source.0.kind index count) _ N target.2 in
+    let ns = passed (nodes_taken D (field_at n.0 key) source.0.kind index count) _ N target.2 in
     let may = passed (may_move D G m.0 target.0 to to_index count ns.0) _ N ns.2 in
-    let in_range = passed (ask (is_there D m.0 target.0.kind to_index count) Range) _ may.0 may.1 in
+    let in_range = passed (require (is_there D m.0 target.0.kind to_index count) Range) _ may.0 may.1 in
     let inside = asked (is_there D m.0 target.0.kind to_index count) Range in_range.0 in_range.1 in
-    let rule = passed (there (rule_at D s m.0 to_key) Kind) (of_kind is_open) target.0 target.1 in
+    let rule = passed (or_refuse (rule_at D s m.0 to_key) Kind) (of_kind is_open) target.0 target.1 in
     let known = ruled D s m.0 to_key rule.0 (found (rule_at D s m.0 to_key) Kind rule.0 rule.1) in
     let same = kind_same is_open rule.0 target.0 rule.2 in
-    let is : moved D G (field_at m.0 to_key) target.0.kind to_index ns.0 ≡ N = cc in
+    let is : intent_to_move D G (field_at m.0 to_key) target.0.kind to_index ns.0 ≡ N = cc in
     go m.0 target.0 ns.0 (are_taken D (field_at n.0 key) source.0.kind index count ns.0 sound ns.1) known.0 known.1.0 (known.1.1 ∙ ap (λ (r : FieldRule). Some r) same) target.0.kind refl is inside
   where
     go : (m : NodeId) (target : FieldRule) (ns : List NodeId) → AreTaken D count ns → IsSome (D.nodes m) → (t : NodeType) → field_of s t.ty to_key.0 ≡ Some target → (k : KindName) → target.kind ≡ k
-        → moved D G (field_at m to_key) k to_index ns ≡ N → is_there D m k to_index count ≡ true → Fits D N
+        → intent_to_move D G (field_at m to_key) k to_index ns ≡ N → is_there D m k to_index count ≡ true → Fits D N
     go m target ns w known t rule Required kind is inside = cc
     go m target ns w known t rule Optional kind is inside =
         let single : is_single_kind target.kind ≡ true = ap is_single_kind kind in

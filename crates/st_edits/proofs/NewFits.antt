@@ -34,9 +34,9 @@ use Rattle.st_marks.proofs.Lookups.{both_true}
 use Rattle.st_marks.proofs.Members.{all-has, has-all, any-has, has-any, append_right, has-append, first-has, none-has, first-distinct, has-map, map-has, has-flat_map, flat_map-has, has-filter_map}
 use Rattle.st_edits.specs.New.{new_nodes, puts, to_at, top_cell, row_cell, owned_by, top_cells, cells_under, group_of, group_under, groups_under, names_taken}
 use Rattle.st_opening.specs.Start.{registers, register_at}
-use Rattle.st_edits.specs.Paths.{and_then, there, field_at, left_of, row_length}
-use Rattle.st_edits.specs.Resolve.{ask, nothing_yet, walk, rule_for, rule_at, of_kind, trees_allowed, none_refused, names_left, named, allowed, with_group, inserted, placed, insert, put}
-use Rattle.st_edits.specs.declared.names.Given.{Given}
+use Rattle.st_edits.specs.Paths.{and_then, or_refuse, field_at, left_of, row_length}
+use Rattle.st_edits.specs.Resolve.{require, empty_intent, walk, rule_for, rule_at, of_kind, trees_allowed, none_refused, names_left, named, allowed_nodes, with_group, inserted, intent_to_place, insert, put}
+use Rattle.st_edits.specs.declared.names.NameCounters.{NameCounters}
 use Rattle.st_edits.specs.declared.names.Takes.TheVariants as field
 use Rattle.st_edits.proofs.Fits.{all_map, distinct_map, passed, found, key_some, ruled, walk_there, kind_taken}
 use Rattle.st_edits.proofs.MoveFits.{CellsFresh, left_in_row, put_none}
@@ -160,8 +160,8 @@ abbrev put_at : Option FieldId → FlatNode → Put
 put_at into x = record { node = x.node; to = to_at into x.at }
 
 -- new nodes, their cells in groups, and the registers that are cleared for them
-abbrev pub made : Document → Given → Option FieldId → List FlatNode → List Group → List FieldId → Intent
-made D G into xs gs fs = record (nothing_yet D G) { new = new_nodes xs; groups = gs; clear = fs; put = puts into xs }
+abbrev pub made : Document → NameCounters → Option FieldId → List FlatNode → List Group → List FieldId → Intent
+made D G into xs gs fs = record (empty_intent D G) { new = new_nodes xs; groups = gs; clear = fs; put = puts into xs }
 
 -- a cell in the row of r is some listed node's
 pub record IsCell (into : Option FieldId) (m : NodeId) (xs : List FlatNode) (r : NodeId) (o : Owned) : Type 0 where
@@ -178,7 +178,7 @@ pub record IsGroup (D : Document) (into : Option FieldId) (m : NodeId) (xs : Lis
   pub node : (g.node ≡ m) ⊎ ((x : FlatNode) × Has xs x × (x.node ≡ g.node))
   pub anchor : IfSome g.after (λ c. D.row_of c ≡ Some g.node)
 
-pub record IsMade (D : Document) (G : Given) (into : Option FieldId) (m : NodeId) (xs : List FlatNode) (gs : List Group) (fs : List FieldId) : Type 0 where
+pub record IsMade (D : Document) (G : NameCounters) (into : Option FieldId) (m : NodeId) (xs : List FlatNode) (gs : List Group) (fs : List FieldId) : Type 0 where
   pub counted : Counted G.rev G.nodes xs G.nodes G.cells
   pub nodes_fresh : (k : ℕ) → G.nodes ≤ k → D.nodes (node_named G.rev k) ≡ None
   pub cells_fresh : CellsFresh D G
@@ -201,7 +201,7 @@ start_distinct (g ∷ gs) d = (
   start_distinct gs d.1,
 )
 
-module _ (D : Document) (G : Given) (into : Option FieldId) (m : NodeId) (xs : List FlatNode) (gs : List Group) (fs : List FieldId) (w : IsMade D G into m xs gs fs) where
+module _ (D : Document) (G : NameCounters) (into : Option FieldId) (m : NodeId) (xs : List FlatNode) (gs : List Group) (fs : List FieldId) (w : IsMade D G into m xs gs fs) where
   node_new : (x : FlatNode) → Has xs x → is_new (made D G into xs gs fs) x.node ≡ true
   node_new x h = mapped_some type_of (find (λ (n : NewNode). same_node n.node x.node) (new_nodes xs))
       ∙ any_found (λ (n : NewNode). same_node n.node x.node) (new_nodes xs) (new_of x) (map-has new_of xs x h) (same_node-itself x.node)
@@ -518,7 +518,7 @@ same_register (FlatAt.Row r c) = refl
 same_register (FlatAt.Register f) = refl
 
 -- what is needed of a document and of a list of new nodes, whose groups or field come beneath a node
-pub record IsNew (D : Document) (G : Given) (m : NodeId) (xs : List FlatNode) : Type 0 where
+pub record IsNew (D : Document) (G : NameCounters) (m : NodeId) (xs : List FlatNode) : Type 0 where
   pub counted : Counted G.rev G.nodes xs G.nodes G.cells
   pub nodes_fresh : (k : ℕ) → G.nodes ≤ k → D.nodes (node_named G.rev k) ≡ None
   pub cells_fresh : CellsFresh D G
@@ -528,7 +528,7 @@ pub record IsNew (D : Document) (G : Given) (m : NodeId) (xs : List FlatNode) : 
   pub regs_once : AreDistinct (λ (f : FieldId). f) (registers xs)
   pub regs_keys : (f : FieldId) → Has (registers xs) f → f.key.0 ≢ []
 
-module _ (D : Document) (G : Given) (m : NodeId) (left : Option CellId) (xs : List FlatNode) (w : IsNew D G m xs) (anchor : IfSome left (λ c. D.row_of c ≡ Some m)) where
+module _ (D : Document) (G : NameCounters) (m : NodeId) (left : Option CellId) (xs : List FlatNode) (w : IsNew D G m xs) (anchor : IfSome left (λ c. D.row_of c ≡ Some m)) where
   new_not_old : (x : FlatNode) → Has xs x → x.node ≢ m
   new_not_old x h e =
       let r = numbered G.rev G.nodes xs G.nodes G.cells x w.counted h in
@@ -622,7 +622,7 @@ field_to f g (FlatAt.Top c) e = let q : f ≡ g = cc in inl q
 field_to f g (FlatAt.Row r c) e = absurd (cc)
 field_to f g (FlatAt.Register h) e = inr e
 
-module _ (D : Document) (G : Given) (f : FieldId) (x : FlatNode) (ys : List FlatNode) (c : CellId) (top : x.at ≡ FlatAt.Top c) (inner : (y : FlatNode) → Has ys y → IsInner y.at) (w : IsNew D G f.node (x ∷ ys)) (key : f.key.0 ≢ []) where
+module _ (D : Document) (G : NameCounters) (f : FieldId) (x : FlatNode) (ys : List FlatNode) (c : CellId) (top : x.at ≡ FlatAt.Top c) (inner : (y : FlatNode) → Has ys y → IsInner y.at) (w : IsNew D G f.node (x ∷ ys)) (key : f.key.0 ≢ []) where
   not_own : (g : FieldId) → Has (registers (x ∷ ys)) g → g ≢ f
   not_own g h e =
       let y = filter-from (λ (y : FlatNode). register_at y.at) (x ∷ ys) g h in
@@ -674,7 +674,7 @@ module _ (D : Document) (G : Given) (f : FieldId) (x : FlatNode) (ys : List Flat
 
 -- ## Allowed trees
 
-abbrev pub NodesFresh : Document → Given → Type 0
+abbrev pub NodesFresh : Document → NameCounters → Type 0
 NodesFresh D G = (k : ℕ) → G.nodes ≤ k → D.nodes (node_named G.rev k) ≡ None
 
 all_ok : (k : ℕ) (bs : List Bool) → position_from (λ ok. not ok) k bs ≡ None → list_all (λ ok. ok) bs ≡ true
@@ -694,18 +694,18 @@ items_form s types (first t ts) e =
     let rest : all_have_form ts ≡ true = items_form s types ts b.1 in
     (λ i. one i && rest i)
 
-pub record IsAllowed (s : SchemaView) (G : Given) (trees : Nodes) (xs : List FlatNode) : Type 0 where
+pub record IsAllowed (s : SchemaView) (G : NameCounters) (trees : Nodes) (xs : List FlatNode) : Type 0 where
   pub form : all_have_form trees ≡ true
   pub list : named G trees ≡ xs
 
-is_allowed : (s : SchemaView) (G : Given) (rule : FieldRule) (trees : Nodes) (xs : List FlatNode) → allowed s G rule trees ≡ Ok xs → IsAllowed s G trees xs
+is_allowed : (s : SchemaView) (G : NameCounters) (rule : FieldRule) (trees : Nodes) (xs : List FlatNode) → allowed_nodes s G rule trees ≡ Ok xs → IsAllowed s G trees xs
 is_allowed s G rule trees xs e =
     let u = passed (trees_allowed s rule trees) (λ _. and_then (names_left G (names_taken (named G trees))) (λ _. Ok (named G trees))) xs e in
     let v = passed (names_left G (names_taken (named G trees))) (λ _. Ok (named G trees)) xs u.2 in
     let is : named G trees ≡ xs = cc in
     record { form = items_form s rule.types trees (all_ok 0 (items_verdicts s rule.types trees) (none_is (position_from (λ ok. not ok) 0 (items_verdicts s rule.types trees)) u.0 u.1)); list = is }
 
-new_named : (D : Document) (G : Given) (m : NodeId) (trees : Nodes) → IsSoundInForm D → NodesFresh D G → CellsFresh D G → IsSome (D.nodes m) → all_have_form trees ≡ true → IsNew D G m (named G trees)
+new_named : (D : Document) (G : NameCounters) (m : NodeId) (trees : Nodes) → IsSoundInForm D → NodesFresh D G → CellsFresh D G → IsSome (D.nodes m) → all_have_form trees ≡ true → IsNew D G m (named G trees)
 new_named D G m trees sound nodes cells known form =
     let r = tops_regs G.rev G.nodes G.cells (G.nodes + item_count trees) trees (omega arith) form in
     record {
@@ -721,13 +721,13 @@ new_named D G m trees sound nodes cells known form =
 
 -- ## Edits with new trees
 
-pub insert_fits : (D : Document) (s : SchemaView) (G : Given) (at : List Place) (key : Key) (index : ℕ) (trees : Nodes) (N : Intent)
+pub insert_fits : (D : Document) (s : SchemaView) (G : NameCounters) (at : List Place) (key : Key) (index : ℕ) (trees : Nodes) (N : Intent)
     → IsSoundInForm D → NodesFresh D G → CellsFresh D G → insert D s G at key index trees ≡ Ok N → Fits D N
 insert_fits D s G at key index trees N sound nodes cells e =
     let n = passed (walk D at) _ N e in
     let rule = passed (rule_for field.Row D s n.0 key) _ N n.2 in
-    let at_end = passed (ask (nat_le index (row_length D n.0)) Range) (λ _. and_then (allowed s G rule.0 trees) (λ xs. Ok (inserted D G n.0 index xs))) N rule.2 in
-    let xs = passed (allowed s G rule.0 trees) (λ xs. Ok (inserted D G n.0 index xs)) N at_end.2 in
+    let at_end = passed (require (nat_le index (row_length D n.0)) Range) (λ _. and_then (allowed_nodes s G rule.0 trees) (λ xs. Ok (inserted D G n.0 index xs))) N rule.2 in
+    let xs = passed (allowed_nodes s G rule.0 trees) (λ xs. Ok (inserted D G n.0 index xs)) N at_end.2 in
     let is : inserted D G n.0 index xs.0 ≡ N = cc in
     go n.0 xs.0 (walk_there D 0 root n.0 at sound sound.root_known n.1) (is_allowed s G rule.0 trees xs.0 xs.1) is
   where
@@ -736,8 +736,8 @@ insert_fits D s G at key index trees N sound nodes cells e =
         subst (Fits D) (ap (inserted D G m index) a.list ∙ is)
         (row_fits D G m (left_of D m index) (named G trees) (new_named D G m trees sound nodes cells known a.form) (left_in_row D m index sound))
 
-tree_fits : (D : Document) (G : Given) (f : FieldId) (t : Node) → IsSoundInForm D → NodesFresh D G → CellsFresh D G → IsSome (D.nodes f.node) → f.key.0 ≢ [] → all_have_form (first t no_nodes) ≡ true
-    → Fits D (placed D G f (named G (first t no_nodes)))
+tree_fits : (D : Document) (G : NameCounters) (f : FieldId) (t : Node) → IsSoundInForm D → NodesFresh D G → CellsFresh D G → IsSome (D.nodes f.node) → f.key.0 ≢ [] → all_have_form (first t no_nodes) ≡ true
+    → Fits D (intent_to_place D G f (named G (first t no_nodes)))
 tree_fits D G f (node ty leaf fields) sound nodes cells known some form =
     field_fits D G f _ (fields_listed G.rev G.nodes (G.nodes + 1) (G.cells + 1) fields ++ []) (cell_named G.rev G.cells) refl
     (λ y h. elim (has-append (fields_listed G.rev G.nodes (G.nodes + 1) (G.cells + 1) fields) [] y h) [
@@ -745,16 +745,16 @@ tree_fits D G f (node ty leaf fields) sound nodes cells known some form =
       | inr k ↦ absurd k
     ]) (new_named D G f.node (first (node ty leaf fields) no_nodes) sound nodes cells known form) some
 
-pub put_fits : (D : Document) (s : SchemaView) (G : Given) (at : List Place) (key : Key) (t : Node) (N : Intent)
+pub put_fits : (D : Document) (s : SchemaView) (G : NameCounters) (at : List Place) (key : Key) (t : Node) (N : Intent)
     → IsSoundInForm D → is_sound s ≡ true → NodesFresh D G → CellsFresh D G → put D s G at key (first t no_nodes) ≡ Ok N → Fits D N
 put_fits D s G at key t N sound schema nodes cells e =
     let n = passed (walk D at) _ N e in
     let taken = passed (rule_for field.Single D s n.0 key) _ N n.2 in
-    let xs = passed (allowed s G taken.0 (first t no_nodes)) (λ xs. Ok (placed D G (field_at n.0 key) xs)) N taken.2 in
-    let is : placed D G (field_at n.0 key) xs.0 ≡ N = cc in
-    let rule = passed (there (rule_at D s n.0 key) Kind) (of_kind is_single_kind) taken.0 taken.1 in
+    let xs = passed (allowed_nodes s G taken.0 (first t no_nodes)) (λ xs. Ok (intent_to_place D G (field_at n.0 key) xs)) N taken.2 in
+    let is : intent_to_place D G (field_at n.0 key) xs.0 ≡ N = cc in
+    let rule = passed (or_refuse (rule_at D s n.0 key) Kind) (of_kind is_single_kind) taken.0 taken.1 in
     let w = ruled D s n.0 key rule.0 (found (rule_at D s n.0 key) Kind rule.0 rule.1) in
     go n.0 xs.0 w.0 (key_some s w.1.0.ty key.0 rule.0 schema w.1.1 (kind_taken is_single_kind rule.0 taken.0 rule.2)) (is_allowed s G taken.0 (first t no_nodes) xs.0 xs.1) is
   where
-    go : (m : NodeId) (xs : List FlatNode) → IsSome (D.nodes m) → key.0 ≢ [] → IsAllowed s G (first t no_nodes) xs → placed D G (field_at m key) xs ≡ N → Fits D N
-    go m xs known some a is = subst (Fits D) (ap (placed D G (field_at m key)) a.list ∙ is) (tree_fits D G (field_at m key) t sound nodes cells known some a.form)
+    go : (m : NodeId) (xs : List FlatNode) → IsSome (D.nodes m) → key.0 ≢ [] → IsAllowed s G (first t no_nodes) xs → intent_to_place D G (field_at m key) xs ≡ N → Fits D N
+    go m xs known some a is = subst (Fits D) (ap (intent_to_place D G (field_at m key)) a.list ∙ is) (tree_fits D G (field_at m key) t sound nodes cells known some a.form)

@@ -7,13 +7,13 @@ use Rattle.st_schema.specs.Schema.{SchemaView, is_sound}
 use Rattle.st_marks.specs.declared.intents.Intent.{Intent}
 use Rattle.st_marks.specs.Document.{Document, IsSoundInForm}
 use Rattle.st_marks.specs.Intent.{Fits}
-use Rattle.st_edits.specs.declared.names.Given.{Given}
+use Rattle.st_edits.specs.declared.names.NameCounters.{NameCounters}
 use Rattle.st_edits.specs.Resolve.{resolve}
 use Rattle.st_edits.proofs.Fits.{clear_fits, need_fits, remove_fits}
 use Rattle.st_edits.proofs.MoveFits.{move_fits}
 use Rattle.st_edits.proofs.NewFits.{insert_fits, put_fits}
 
-pub resolved_fits : (D : Document) (s : SchemaView) (G : Given) (edit : Edit) (N : Intent) → IsSoundInForm D → is_sound s ≡ true
+pub resolved_fits : (D : Document) (s : SchemaView) (G : NameCounters) (edit : Edit) (N : Intent) → IsSoundInForm D → is_sound s ≡ true
     → ((k : ℕ) → G.nodes ≤ k → D.nodes (node_named G.rev k) ≡ None) → ((k : ℕ) → G.cells ≤ k → D.row_of (cell_named G.rev k) ≡ None)
     → resolve D s G edit ≡ Ok N → Fits D N
 resolved_fits D s G (Edit.Insert at key index items) N sound schema nodes cells e = insert_fits D s G at key index (trees_view items) N sound nodes cells e

@@ -45,20 +45,20 @@ and_then (Err e) next = Err e
 and_then (Ok x) next = next x
 
 -- what is there, or a refusal
-abbrev pub there : {A : Type 0} → Option A → EditFault → Result A EditFault
-there None e = Err e
-there (Some x) e = Ok x
+abbrev pub or_refuse : {A : Type 0} → Option A → EditFault → Result A EditFault
+or_refuse None e = Err e
+or_refuse (Some x) e = Ok x
 
 -- the node that a path leads to from a node, or the number, counted from k, of the first place that leads to none
 abbrev pub walk_from : Document → ℕ → NodeId → List Place → Result NodeId EditFault
 walk_from D k n [] = Ok n
-walk_from D k n (p ∷ ps) = and_then (there (child D n p) (NoNode k)) (λ m. walk_from D (k + 1) m ps)
+walk_from D k n (p ∷ ps) = and_then (or_refuse (child D n p) (NoNode k)) (λ m. walk_from D (k + 1) m ps)
 
 -- the nodes on the way from a node, the last too
-abbrev pub beyond : Document → NodeId → List Place → List NodeId
-beyond D n [] = []
-beyond D n (p ∷ ps) = elim (child D n p) [ None ↦ [] | Some m ↦ m ∷ beyond D m ps ]
+abbrev pub nodes_below_path : Document → NodeId → List Place → List NodeId
+nodes_below_path D n [] = []
+nodes_below_path D n (p ∷ ps) = elim (child D n p) [ None ↦ [] | Some m ↦ m ∷ nodes_below_path D m ps ]
 
 -- the same with that node before them
-abbrev pub passes : Document → NodeId → List Place → List NodeId
-passes D n path = n ∷ beyond D n path
+abbrev pub nodes_on_path : Document → NodeId → List Place → List NodeId
+nodes_on_path D n path = n ∷ nodes_below_path D n path

@@ -26,19 +26,19 @@ use Rattle.st_marks.specs.declared.intents.Intent.{Intent}
 use Rattle.st_marks.specs.declared.intents.Owned.{Owned}
 use Rattle.st_marks.specs.declared.intents.To.{To}
 use Rattle.st_marks.specs.Document.{Document, NodeType, opening, root, last_of, revs, owned}
-use Rattle.st_edits.specs.declared.names.Given.{Given}
+use Rattle.st_edits.specs.declared.names.NameCounters.{NameCounters}
 use Rattle.st_edits.specs.declared.names.Takes.{Takes}
 use Rattle.st_edits.specs.declared.names.Takes.TheVariants as field
-use Rattle.st_edits.specs.Paths.{field_at, row_length, items_from, left_of, and_then, there, walk_from, passes}
+use Rattle.st_edits.specs.Paths.{field_at, row_length, items_from, left_of, and_then, or_refuse, walk_from, nodes_on_path}
 use Rattle.st_edits.specs.New.{new_nodes, puts, top_cells, group_of, groups_under, names_taken}
 use Rattle.st_opening.specs.Start.{registers}
 
 -- ## What is asked of an edit
 
 -- it holds, or the edit is refused
-abbrev pub ask : Bool → EditFault → Result (Unit {0}) EditFault
-ask true e = Ok tt
-ask false e = Err e
+abbrev pub require : Bool → EditFault → Result (Unit {0}) EditFault
+require true e = Ok tt
+require false e = Err e
 
 -- the node that a path leads to from the root
 abbrev pub walk : Document → List Place → Result NodeId EditFault
@@ -78,7 +78,7 @@ abbrev pub of_kind : (KindName → Bool) → FieldRule → Result FieldRule Edit
 of_kind takes rule = if takes rule.kind then Ok rule else Err Kind
 
 abbrev pub rule_for : Takes → Document → SchemaView → NodeId → Key → Result FieldRule EditFault
-rule_for takes D s n key = and_then (there (rule_at D s n key) Kind) (of_kind (takes_kind takes))
+rule_for takes D s n key = and_then (or_refuse (rule_at D s n key) Kind) (of_kind (takes_kind takes))
 
 -- nothing, or the number of the first that isn't allowed
 abbrev pub none_refused : Option ℕ → Result (Unit {0}) EditFault
@@ -98,8 +98,8 @@ abbrev pub nodes_allowed : Document → FieldRule → List NodeId → Result (Un
 nodes_allowed D rule ns = none_refused (position_from (λ n. not (has_type D rule.types n)) 0 ns)
 
 -- a commit gives at most 2,048 names
-abbrev pub names_left : Given → ℕ → Result (Unit {0}) EditFault
-names_left G k = ask (nat_le (G.nodes + G.cells + k) 2048) (LimitOver (record { of = Commit; kept = G.nodes + G.cells }))
+abbrev pub names_left : NameCounters → ℕ → Result (Unit {0}) EditFault
+names_left G k = require (nat_le (G.nodes + G.cells + k) 2048) (LimitOver (record { of = Commit; kept = G.nodes + G.cells }))
 
 -- so many items of a row, from an index on, where it shows them
 abbrev pub within_row : Document → NodeId → ℕ → ℕ → Result (List NodeId) EditFault
@@ -108,16 +108,16 @@ within_row D n index count = if nat_le (index + count) (row_length D n) then Ok 
 -- ## Intents
 
 -- an intent that wants nothing yet, under the last schema entry in effect
-abbrev pub nothing_yet : Document → Given → Intent
-nothing_yet D G = record { rev = G.rev; under = unwrap_or (last_of (revs D.schemas)) opening; new = []; groups = []; clear = []; put = []; need = []; schema = None }
+abbrev pub empty_intent : Document → NameCounters → Intent
+empty_intent D G = record { rev = G.rev; under = unwrap_or (last_of (revs D.schemas)) opening; new = []; groups = []; clear = []; put = []; need = []; schema = None }
 
 -- new trees as a list of their nodes, each under its name
-abbrev pub named : Given → Nodes → List FlatNode
+abbrev pub named : NameCounters → Nodes → List FlatNode
 named G trees = tops_listed G.rev G.nodes G.cells trees
 
 -- new trees, each node of which the schema allows where it comes, and whose names the commit may give
-abbrev pub allowed : SchemaView → Given → FieldRule → Nodes → Result (List FlatNode) EditFault
-allowed s G rule trees =
+abbrev pub allowed_nodes : SchemaView → NameCounters → FieldRule → Nodes → Result (List FlatNode) EditFault
+allowed_nodes s G rule trees =
     and_then (trees_allowed s rule trees) (λ _.
     and_then (names_left G (names_taken (named G trees))) (λ _.
     Ok (named G trees)))
@@ -128,8 +128,8 @@ with_group None gs = gs
 with_group (Some g) gs = g ∷ gs
 
 -- new items in a row, directly after the cell of the item left of the index
-abbrev pub inserted : Document → Given → NodeId → ℕ → List FlatNode → Intent
-inserted D G n index xs = record (nothing_yet D G) {
+abbrev pub inserted : Document → NameCounters → NodeId → ℕ → List FlatNode → Intent
+inserted D G n index xs = record (empty_intent D G) {
   new = new_nodes xs;
   groups = with_group (group_of n (left_of D n index) (top_cells xs)) (groups_under xs);
   clear = registers xs;
@@ -137,8 +137,8 @@ inserted D G n index xs = record (nothing_yet D G) {
 }
 
 -- a new item in a field, in the place of what is there
-abbrev pub placed : Document → Given → FieldId → List FlatNode → Intent
-placed D G f xs = record (nothing_yet D G) {
+abbrev pub intent_to_place : Document → NameCounters → FieldId → List FlatNode → Intent
+intent_to_place D G f xs = record (empty_intent D G) {
   new = new_nodes xs;
   groups = groups_under xs;
   clear = f ∷ registers xs;
@@ -146,8 +146,8 @@ placed D G f xs = record (nothing_yet D G) {
 }
 
 -- nodes put nowhere
-abbrev pub removed : Document → Given → List NodeId → Intent
-removed D G ns = record (nothing_yet D G) { put = map (λ n. record { node = n; to = To.Nowhere }) ns }
+abbrev pub intent_to_remove : Document → NameCounters → List NodeId → Intent
+intent_to_remove D G ns = record (empty_intent D G) { put = map (λ n. record { node = n; to = To.Nowhere }) ns }
 
 -- a new cell for each node, under the next names
 abbrev pub cells_for : Rev → ℕ → List NodeId → List Owned
@@ -155,27 +155,27 @@ cells_for rev c [] = []
 cells_for rev c (n ∷ ns) = owned (cell_named rev c) n ∷ cells_for rev (c + 1) ns
 
 -- each node is put into its new cell, directly after the cell of the item left of the index
-abbrev pub in_cells : Document → Given → NodeId → ℕ → List Owned → Intent
-in_cells D G n index cells = record (nothing_yet D G) {
+abbrev pub in_cells : Document → NameCounters → NodeId → ℕ → List Owned → Intent
+in_cells D G n index cells = record (empty_intent D G) {
   groups = with_group (group_of n (left_of D n index) cells) [];
   put = map (λ (o : Owned). record { node = o.node; to = To.Cell o.cell }) cells;
 }
 
 -- nodes put into new cells of a row
-abbrev pub moved_to_row : Document → Given → NodeId → ℕ → List NodeId → Intent
+abbrev pub moved_to_row : Document → NameCounters → NodeId → ℕ → List NodeId → Intent
 moved_to_row D G n index ns = in_cells D G n index (cells_for G.rev G.cells ns)
 
 -- nodes, of which there is one, put into a field, in the place of what is there
-abbrev pub moved_to_field : Document → Given → FieldId → List NodeId → Intent
-moved_to_field D G f ns = record (nothing_yet D G) { clear = f ∷ []; put = map (λ n. record { node = n; to = To.Register f }) ns }
+abbrev pub moved_to_field : Document → NameCounters → FieldId → List NodeId → Intent
+moved_to_field D G f ns = record (empty_intent D G) { clear = f ∷ []; put = map (λ n. record { node = n; to = To.Register f }) ns }
 
 -- ## Moves
 
 -- the nodes that a move takes from a row, or from an optional field, which has one
-abbrev pub taken : Document → FieldId → KindName → ℕ → ℕ → Result (List NodeId) EditFault
-taken D f Required index count = Err Kind
-taken D f Optional index count = if index == 0 && count == 1 then and_then (there (D.held f) Range) (λ n. Ok (n ∷ [])) else Err Range
-taken D f Sequence index count = within_row D f.node index count
+abbrev pub nodes_taken : Document → FieldId → KindName → ℕ → ℕ → Result (List NodeId) EditFault
+nodes_taken D f Required index count = Err Kind
+nodes_taken D f Optional index count = if index == 0 && count == 1 then and_then (or_refuse (D.held f) Range) (λ n. Ok (n ∷ [])) else Err Range
+nodes_taken D f Sequence index count = within_row D f.node index count
 
 -- whether the index of a move's target is there, which counts the row before the move
 abbrev pub is_there : Document → NodeId → KindName → ℕ → ℕ → Bool
@@ -185,7 +185,7 @@ is_there D n Sequence index count = nat_le index (row_length D n)
 
 -- whether the target is in a moved node or beneath one: its path leads through it
 abbrev pub is_inside : Document → List Place → List NodeId → Bool
-is_inside D to ns = list_any (λ m. list_any (λ n. same_node n m) ns) (passes D root to)
+is_inside D to ns = list_any (λ m. list_any (λ n. same_node n m) ns) (nodes_on_path D root to)
 
 -- a move into a row takes a cell for each node, and one into a field none
 abbrev pub cells_taken : KindName → List NodeId → ℕ
@@ -193,75 +193,75 @@ cells_taken Required ns = 0
 cells_taken Optional ns = 0
 cells_taken Sequence ns = length ns
 
-abbrev pub moved : Document → Given → FieldId → KindName → ℕ → List NodeId → Intent
-moved D G f Required index ns = nothing_yet D G
-moved D G f Optional index ns = moved_to_field D G f ns
-moved D G f Sequence index ns = moved_to_row D G f.node index ns
+abbrev pub intent_to_move : Document → NameCounters → FieldId → KindName → ℕ → List NodeId → Intent
+intent_to_move D G f Required index ns = empty_intent D G
+intent_to_move D G f Optional index ns = moved_to_field D G f ns
+intent_to_move D G f Sequence index ns = moved_to_row D G f.node index ns
 
 -- ## Edits
 
 -- new items at an index of a row
-abbrev pub insert : Document → SchemaView → Given → List Place → Key → ℕ → Nodes → Result Intent EditFault
+abbrev pub insert : Document → SchemaView → NameCounters → List Place → Key → ℕ → Nodes → Result Intent EditFault
 insert D s G at key index trees =
     and_then (walk D at) (λ n.
     and_then (rule_for field.Row D s n key) (λ rule.
-    and_then (ask (nat_le index (row_length D n)) Range) (λ _.
-    and_then (allowed s G rule trees) (λ xs.
+    and_then (require (nat_le index (row_length D n)) Range) (λ _.
+    and_then (allowed_nodes s G rule trees) (λ xs.
     Ok (inserted D G n index xs)))))
 
 -- so many items of a row, from an index on, go nowhere
-abbrev pub remove : Document → SchemaView → Given → List Place → Key → ℕ → ℕ → Result Intent EditFault
+abbrev pub remove : Document → SchemaView → NameCounters → List Place → Key → ℕ → ℕ → Result Intent EditFault
 remove D s G at key index count =
     and_then (walk D at) (λ n.
     and_then (rule_for field.Row D s n key) (λ _.
     and_then (within_row D n index count) (λ ns.
-    Ok (removed D G ns))))
+    Ok (intent_to_remove D G ns))))
 
 -- the target's index is there, the target isn't inside a moved node, its field allows them, and names are left for cells
-abbrev pub may_move : Document → Given → NodeId → FieldRule → List Place → ℕ → ℕ → List NodeId → Result (Unit {0}) EditFault
+abbrev pub may_move : Document → NameCounters → NodeId → FieldRule → List Place → ℕ → ℕ → List NodeId → Result (Unit {0}) EditFault
 may_move D G m target to to_index count ns =
-    and_then (ask (is_there D m target.kind to_index count) Range) (λ _.
-    and_then (ask (not (is_inside D to ns)) Inside) (λ _.
+    and_then (require (is_there D m target.kind to_index count) Range) (λ _.
+    and_then (require (not (is_inside D to ns)) Inside) (λ _.
     and_then (nodes_allowed D target ns) (λ _.
     names_left G (cells_taken target.kind ns))))
 
 -- the nodes of a move go to a place that is found
-abbrev pub move_to : Document → Given → FieldId → FieldRule → List Place → ℕ → ℕ → List NodeId → Result Intent EditFault
+abbrev pub move_to : Document → NameCounters → FieldId → FieldRule → List Place → ℕ → ℕ → List NodeId → Result Intent EditFault
 move_to D G f target to to_index count ns =
     and_then (may_move D G f.node target to to_index count ns) (λ _.
-    Ok (moved D G f target.kind to_index ns))
+    Ok (intent_to_move D G f target.kind to_index ns))
 
 -- items of a row, or the one of an optional field, go to a row or an optional field
-abbrev pub move : Document → SchemaView → Given → List Place → Key → ℕ → ℕ → List Place → Key → ℕ → Result Intent EditFault
+abbrev pub move : Document → SchemaView → NameCounters → List Place → Key → ℕ → ℕ → List Place → Key → ℕ → Result Intent EditFault
 move D s G at key index count to to_key to_index =
     and_then (walk D at) (λ n.
     and_then (walk D to) (λ m.
     and_then (rule_for field.Open D s n key) (λ source.
     and_then (rule_for field.Open D s m to_key) (λ target.
-    and_then (taken D (field_at n key) source.kind index count) (λ ns.
+    and_then (nodes_taken D (field_at n key) source.kind index count) (λ ns.
     move_to D G (field_at m to_key) target to to_index count ns)))))
 
 -- a new tree in an optional or required field
-abbrev pub put : Document → SchemaView → Given → List Place → Key → Nodes → Result Intent EditFault
+abbrev pub put : Document → SchemaView → NameCounters → List Place → Key → Nodes → Result Intent EditFault
 put D s G at key trees =
     and_then (walk D at) (λ n.
     and_then (rule_for field.Single D s n key) (λ rule.
-    and_then (allowed s G rule trees) (λ xs.
-    Ok (placed D G (field_at n key) xs))))
+    and_then (allowed_nodes s G rule trees) (λ xs.
+    Ok (intent_to_place D G (field_at n key) xs))))
 
 -- an optional field is emptied
-abbrev pub clear : Document → SchemaView → Given → List Place → Key → Result Intent EditFault
+abbrev pub clear : Document → SchemaView → NameCounters → List Place → Key → Result Intent EditFault
 clear D s G at key =
     and_then (walk D at) (λ n.
     and_then (rule_for field.Optional D s n key) (λ _.
-    Ok (record (nothing_yet D G) { clear = field_at n key ∷ [] })))
+    Ok (record (empty_intent D G) { clear = field_at n key ∷ [] })))
 
 -- a node has to be live
-abbrev pub need : Document → Given → List Place → Result Intent EditFault
-need D G at = and_then (walk D at) (λ n. Ok (record (nothing_yet D G) { need = n ∷ [] }))
+abbrev pub need : Document → NameCounters → List Place → Result Intent EditFault
+need D G at = and_then (walk D at) (λ n. Ok (record (empty_intent D G) { need = n ∷ [] }))
 
 -- the intent that an edit means, or the first refusal
-abbrev pub resolve : Document → SchemaView → Given → Edit → Result Intent EditFault
+abbrev pub resolve : Document → SchemaView → NameCounters → Edit → Result Intent EditFault
 resolve D s G (Edit.Insert at key index items) = insert D s G at key index (trees_view items)
 resolve D s G (Edit.Remove at key index count) = remove D s G at key index count
 resolve D s G (Edit.Move at key index count to to_key to_index) = move D s G at key index count to to_key to_index

@@ -6,4 +6,4 @@ mod laws;
 mod names;
 
 pub use laws::{new_trees_fit, resolved_edits_fit, simple_edits_fit};
-pub use names::{Given, Takes};
+pub use names::{NameCounters, Takes};

@@ -3,7 +3,7 @@ use st_ids::Rev;
 
 /// The revision of a commit, and how many names it has given: to nodes and to cells.
 #[derive(Clone, Copy, Debug, PartialEq, Eq)]
-pub struct Given {
+pub struct NameCounters {
     pub rev: Rev,
     pub nodes: u32,
     pub cells: u32,

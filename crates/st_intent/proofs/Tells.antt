@@ -4,7 +4,7 @@ use Rattle.std.specs.List.{list_any, list_all, AllByRecursion, filter_map, flat_
 use Rattle.std.proofs.lemmas.Bool.Decides.{nat_tests}
 use Rattle.st_ids.specs.Listing.{AreDistinct, Has}
 use Rattle.st_marks.proofs.Members.{any-has, has-any, all-has, has-all, has-flat_map, flat_map-has, has-filter_map}
-use Rattle.st_intent.specs.Rules.{are_apart}
+use Rattle.st_intent.specs.Rules.{are_distinct}
 
 -- a test tells a fact
 abbrev pub Tells : Bool → Type 0 → Type 0
@@ -58,10 +58,10 @@ tells_none p P h xs = (
     go true e a = let x = any-has p xs e in absurd (all-has (λ x. P x → ⊥) xs x.0 a x.1 ((h x.0).0 x.2))
 
 -- no two items have one key
-pub tells_apart : {A K : Type 0} (same : A → A → Bool) (key : A → K) → ((x y : A) → Tells (same y x) (key y ≡ key x)) → (xs : List A) → Tells (are_apart same xs) (AreDistinct key xs)
+pub tells_apart : {A K : Type 0} (same : A → A → Bool) (key : A → K) → ((x y : A) → Tells (same y x) (key y ≡ key x)) → (xs : List A) → Tells (are_distinct same xs) (AreDistinct key xs)
 tells_apart same key h [] = (λ e. tt, λ x. refl)
 tells_apart same key h (x ∷ xs) =
-    tells_both (not (list_any (λ y. same y x) xs)) (are_apart same xs) (AllByRecursion (λ y. key y ≢ key x) xs) (AreDistinct key xs)
+    tells_both (not (list_any (λ y. same y x) xs)) (are_distinct same xs) (AllByRecursion (λ y. key y ≢ key x) xs) (AreDistinct key xs)
     (tells_none (λ y. same y x) (λ y. key y ≡ key x) (λ y. h x y) xs) (tells_apart same key h xs)
 
 -- what a filter gives came from an item
@@ -76,7 +76,7 @@ filter_map-from {A} {K} g (y ∷ ys) j l = go (g y) refl (λ k. filter_map-from 
 
 -- the same of the keys that are there
 pub tells_apart_some : {A K : Type 0} (same : A → A → Bool) (key : A → Option K) → ((x y : A) (k : K) → key x ≡ Some k → Tells (same y x) (key y ≡ Some k)) → ((x y : A) → key x ≡ None → same y x ≡ false)
-    → (xs : List A) → Tells (are_apart same xs) (AreDistinct (λ (k : K). k) (filter_map key xs))
+    → (xs : List A) → Tells (are_distinct same xs) (AreDistinct (λ (k : K). k) (filter_map key xs))
 tells_apart_some same key h none [] = (λ e. tt, λ x. refl)
 tells_apart_some {A} {K} same key h none (x ∷ xs) = go (key x) refl (tells_apart_some same key h none xs)
   where
@@ -90,9 +90,9 @@ tells_apart_some {A} {K} same key h none (x ∷ xs) = go (key x) refl (tells_apa
         (λ a. has-all (λ y. key y ≡ Some k → ⊥) xs (λ y l q. all-has (λ j. j ≢ k) (filter_map key xs) k a (has-filter_map key xs y k l q) refl))
         (tells_none (λ y. same y x) (λ y. key y ≡ Some k) (λ y. h x y k e) xs)
 
-    go : (o : Option K) → key x ≡ o → Tells (are_apart same xs) (AreDistinct (λ (k : K). k) (filter_map key xs)) → Tells (not (list_any (λ y. same y x) xs) && are_apart same xs) (AreDistinct (λ (k : K). k) (filter_map key (x ∷ xs)))
+    go : (o : Option K) → key x ≡ o → Tells (are_distinct same xs) (AreDistinct (λ (k : K). k) (filter_map key xs)) → Tells (not (list_any (λ y. same y x) xs) && are_distinct same xs) (AreDistinct (λ (k : K). k) (filter_map key (x ∷ xs)))
     go None e rest = rw (nothing xs e, e) rest
-    go (Some k) e rest = rw e (tells_both (not (list_any (λ y. same y x) xs)) (are_apart same xs) (AllByRecursion (λ j. j ≢ k) (filter_map key xs)) (AreDistinct (λ (j : K). j) (filter_map key xs)) (others k e) rest)
+    go (Some k) e rest = rw e (tells_both (not (list_any (λ y. same y x) xs)) (are_distinct same xs) (AllByRecursion (λ j. j ≢ k) (filter_map key xs)) (AreDistinct (λ (j : K). j) (filter_map key xs)) (others k e) rest)
 
 -- a list has something in it
 pub tells_some : {A : Type 0} (xs : List A) → Tells (nat_lt 0 (length xs)) (xs ≢ [])

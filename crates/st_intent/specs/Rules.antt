@@ -15,9 +15,9 @@ use Rattle.st_marks.specs.Document.{root}
 use Rattle.st_marks.specs.Intent.{is_new, clears, cell_of, register_of, same_anchor, above_new}
 
 -- no item is the same as one before it
-abbrev pub are_apart : {A : Type 0} → (A → A → Bool) → List A → Bool
-are_apart same [] = true
-are_apart same (x ∷ xs) = not (list_any (λ y. same y x) xs) && are_apart same xs
+abbrev pub are_distinct : {A : Type 0} → (A → A → Bool) → List A → Bool
+are_distinct same [] = true
+are_distinct same (x ∷ xs) = not (list_any (λ y. same y x) xs) && are_distinct same xs
 
 -- both are there, and the same
 abbrev pub are_same : {A : Type 0} → (A → A → Bool) → Option A → Option A → Bool
@@ -37,14 +37,14 @@ is_put N n = list_any (λ (p : Put). same_node p.node n) N.put
 
 -- the new nodes have the intent's revision, each another name
 abbrev pub new_names_hold : Intent → Bool
-new_names_hold N = list_all (λ (m : NewNode). same_rev m.node.0.rev N.rev) N.new && are_apart (λ (m k : NewNode). same_node m.node k.node) N.new
+new_names_hold N = list_all (λ (m : NewNode). same_rev m.node.0.rev N.rev) N.new && are_distinct (λ (m k : NewNode). same_node m.node k.node) N.new
 
 -- ## Groups
 
 -- each cell is there once, in all groups together
-abbrev pub cells_apart : List Group → Bool
-cells_apart [] = true
-cells_apart (g ∷ gs) = are_apart (λ (o p : Owned). same_cell o.cell p.cell) g.cells && (list_all (λ (o : Owned). not (makes gs o.cell)) g.cells && cells_apart gs)
+abbrev pub cells_are_distinct : List Group → Bool
+cells_are_distinct [] = true
+cells_are_distinct (g ∷ gs) = are_distinct (λ (o p : Owned). same_cell o.cell p.cell) g.cells && (list_all (λ (o : Owned). not (makes gs o.cell)) g.cells && cells_are_distinct gs)
 
 -- whether an anchor is a new cell
 abbrev pub anchor_made : Intent → Option CellId → Bool
@@ -61,8 +61,8 @@ group_holds N g =
 abbrev pub groups_hold : Intent → Bool
 groups_hold N =
     list_all (group_holds N) N.groups
-    && (cells_apart N.groups
-    && (are_apart (λ (g h : Group). same_node g.node h.node && same_anchor g.after h.after) N.groups && are_apart (λ (g h : Group). are_same same_cell g.after h.after) N.groups))
+    && (cells_are_distinct N.groups
+    && (are_distinct (λ (g h : Group). same_node g.node h.node && same_anchor g.after h.after) N.groups && are_distinct (λ (g h : Group). are_same same_cell g.after h.after) N.groups))
 
 -- ## Puts
 
@@ -87,8 +87,8 @@ abbrev pub puts_hold : Intent → Bool
 puts_hold N =
     list_all (put_holds N) N.put
     && (not (is_put N root)
-    && (are_apart (λ (p q : Put). same_node p.node q.node) N.put
-    && (are_apart (λ (p q : Put). are_same same_cell (cell_of p.to) (cell_of q.to)) N.put && are_apart (λ (p q : Put). are_same same_field (register_of p.to) (register_of q.to)) N.put)))
+    && (are_distinct (λ (p q : Put). same_node p.node q.node) N.put
+    && (are_distinct (λ (p q : Put). are_same same_cell (cell_of p.to) (cell_of q.to)) N.put && are_distinct (λ (p q : Put). are_same same_field (register_of p.to) (register_of q.to)) N.put)))
 
 -- ## The rest
 

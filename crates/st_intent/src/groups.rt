@@ -2,10 +2,12 @@
 ghost use Rattle.std.specs.Prelude.{◌≡◌, ◌||◌, not, false};
 ghost use Rattle.std.specs.List.{list_all};
 ghost use Rattle.st_ids.specs.Order.{same_rev};
-ghost use Rattle.st_intent.specs.Rules.{new_names_hold, makes, is_put as is_put_by, cells_apart, anchor_made, group_holds, groups_hold};
+ghost use Rattle.st_intent.specs.Rules.{new_names_hold, makes, is_put as is_put_by, cells_are_distinct, anchor_made, group_holds, groups_hold};
 ghost use Rattle.st_marks.specs.Intent.{is_new as is_new_by};
 
-use crate::apart::{anchors_apart, cells_apart, new_apart, places_apart};
+use crate::distinct::{
+    anchors_are_distinct, cells_are_distinct, new_are_distinct, places_are_distinct,
+};
 use crate::finds::{is_made, is_new, is_put};
 use crate::same::is_same_rev;
 use st_ids::{CellId, Rev};
@@ -22,7 +24,7 @@ fn nodes_have_rev(new: &[NewNode], rev: Rev) -> bool
 pub fn new_names_hold(intent: &Intent) -> bool
     ensures { result ≡ new_names_hold intent.now }
 {
-    nodes_have_rev(intent.new.as_slice(), intent.rev) && new_apart(intent.new.as_slice())
+    nodes_have_rev(intent.new.as_slice(), intent.rev) && new_are_distinct(intent.new.as_slice())
 }
 
 // Whether all cells have a revision.
@@ -87,11 +89,11 @@ fn none_made(groups: &[Group], cells: &[Owned]) -> bool
 
 // Whether each cell is there once in all groups together.
 fn all_cells_apart(groups: &[Group]) -> bool
-    ensures { result ≡ cells_apart groups.now }
+    ensures { result ≡ cells_are_distinct groups.now }
 {
     for (i, group) in groups.iter().enumerate() {
         let cells = group.cells.as_slice();
-        if !cells_apart(cells) {
+        if !cells_are_distinct(cells) {
             return false;
         }
         if !none_made(&groups[i + 1..], cells) {
@@ -108,6 +110,6 @@ pub fn groups_hold(intent: &Intent) -> bool
     let groups = intent.groups.as_slice();
     each_group_holds(intent)
         && all_cells_apart(groups)
-        && places_apart(groups)
-        && anchors_apart(groups)
+        && places_are_distinct(groups)
+        && anchors_are_distinct(groups)
 }

@@ -1,7 +1,7 @@
 //! Whether what a commit wants obeys its own rules.
 #![tactic(auto)]
 
-mod apart;
+mod distinct;
 mod finds;
 mod groups;
 mod puts;

@@ -3,7 +3,7 @@ ghost use Rattle.std.specs.Prelude.{◌≡◌};
 ghost use Rattle.std.specs.List.{list_all};
 ghost use Rattle.st_intent.specs.Rules.{is_nowhere, fills_cleared, put_holds, puts_hold};
 
-use crate::apart::{put_cells_apart, put_registers_apart, puts_apart};
+use crate::distinct::{put_cells_are_distinct, put_registers_are_distinct, puts_are_distinct};
 use crate::finds::{is_cleared, is_new, is_put};
 use st_ids::{Atom, NodeId, Rev};
 use st_marks::{Intent, Put, To};
@@ -53,7 +53,7 @@ pub fn puts_hold(intent: &Intent) -> bool
     let puts = intent.put.as_slice();
     each_put_holds(intent)
         && !is_put(intent, root)
-        && puts_apart(puts)
-        && put_cells_apart(puts)
-        && put_registers_apart(puts)
+        && puts_are_distinct(puts)
+        && put_cells_are_distinct(puts)
+        && put_registers_are_distinct(puts)
 }

@@ -11,16 +11,16 @@ use Rattle.st_marks.specs.declared.intents.Owned.{Owned}
 use Rattle.st_marks.specs.declared.intents.Put.{Put}
 use Rattle.st_marks.specs.declared.schemas.SchemaEntry.{SchemaEntry}
 use Rattle.st_marks.specs.Document.{Document, NodeType, owned}
-use Rattle.st_marks.specs.Extends.{IsExtendedBy, done, gained, kept}
+use Rattle.st_marks.specs.Extends.{IsExtendedBy, no_more, item_gained, item_kept}
 use Rattle.st_marks.specs.Intent.{Fits, IsKnown, Owns, is_new, new_row_of, group_cells, cell_of, register_of}
 use Rattle.st_marks.proofs.Members.{all-has, has-all}
 use Rattle.st_marks.proofs.NewRows.{KeepsOrder}
 
 pub has_later : {xs ys : List Owned} → KeepsOrder xs ys → (o : Owned) → Has xs o → Has ys o
-has_later done o h = absurd h
-has_later (gained g) o h = inr (has_later g o h)
-has_later (kept e g) o (inl q) = inl (sym e ∙ q)
-has_later (kept e g) o (inr h) = inr (has_later g o h)
+has_later no_more o h = absurd h
+has_later (item_gained g) o h = inr (has_later g o h)
+has_later (item_kept e g) o (inl q) = inl (sym e ∙ q)
+has_later (item_kept e g) o (inr h) = inr (has_later g o h)
 
 pub node_later : (D E : Document) → IsExtendedBy D E → (n : NodeId) → IsSome (D.nodes n) → IsSome (E.nodes n)
 node_later D E x n h = go (D.nodes n) refl h

@@ -3,7 +3,8 @@ use Rattle.std.proofs.Common.{◌≡◌, ◌+◌, ◌<◌, min, ℕ, zero, suc, 
 use Rattle.std.proofs.lemmas.List.{take_more, get_or_default}
 use Rattle.st_marks.specs.declared.marks.Mark.{Mark}
 use Rattle.st_marks.specs.Row.{CellMark, Counted, Gap, Touch, Make, Fill, counted, spread}
-use Rattle.st_marks.specs.Shown.{seen, counted_cell, empty_cell, is_leave, cells_before, cells_after}
+use Rattle.st_marks.specs.Listings.{cell_view, counted_view, empty_view, cells_before, cells_after}
+use Rattle.st_marks.specs.How.{is_leave}
 
 counted-append : (k : ℕ) (xs ys : List CellMark) → counted k (xs ++ ys) ≡ counted k xs ++ ys
 counted-append zero xs ys = refl
@@ -19,19 +20,19 @@ spread-append (Mark.Fill c n ∷ xs) ys = ap (λ l. Fill c n ∷ l) (spread-appe
 
 before-append : (xs ys : List CellMark) → cells_before (xs ++ ys) ≡ cells_before xs ++ cells_before ys
 before-append [] ys = refl
-before-append (Counted ∷ xs) ys = ap (λ l. counted_cell ∷ l) (before-append xs ys)
-before-append (Gap c ∷ xs) ys = ap (λ l. empty_cell c ∷ l) (before-append xs ys)
-before-append (Touch c n h ∷ xs) ys = ap (λ l. seen c n true ∷ l) (before-append xs ys)
+before-append (Counted ∷ xs) ys = ap (λ l. counted_view ∷ l) (before-append xs ys)
+before-append (Gap c ∷ xs) ys = ap (λ l. empty_view c ∷ l) (before-append xs ys)
+before-append (Touch c n h ∷ xs) ys = ap (λ l. cell_view c n true ∷ l) (before-append xs ys)
 before-append (Make c n b ∷ xs) ys = before-append xs ys
-before-append (Fill c n ∷ xs) ys = ap (λ l. seen c n false ∷ l) (before-append xs ys)
+before-append (Fill c n ∷ xs) ys = ap (λ l. cell_view c n false ∷ l) (before-append xs ys)
 
 after-append : (xs ys : List CellMark) → cells_after (xs ++ ys) ≡ cells_after xs ++ cells_after ys
 after-append [] ys = refl
-after-append (Counted ∷ xs) ys = ap (λ l. counted_cell ∷ l) (after-append xs ys)
-after-append (Gap c ∷ xs) ys = ap (λ l. empty_cell c ∷ l) (after-append xs ys)
-after-append (Touch c n h ∷ xs) ys = ap (λ l. seen c n (not (is_leave h)) ∷ l) (after-append xs ys)
-after-append (Make c n b ∷ xs) ys = ap (λ l. seen c n b ∷ l) (after-append xs ys)
-after-append (Fill c n ∷ xs) ys = ap (λ l. seen c n true ∷ l) (after-append xs ys)
+after-append (Counted ∷ xs) ys = ap (λ l. counted_view ∷ l) (after-append xs ys)
+after-append (Gap c ∷ xs) ys = ap (λ l. empty_view c ∷ l) (after-append xs ys)
+after-append (Touch c n h ∷ xs) ys = ap (λ l. cell_view c n (not (is_leave h)) ∷ l) (after-append xs ys)
+after-append (Make c n b ∷ xs) ys = ap (λ l. cell_view c n b ∷ l) (after-append xs ys)
+after-append (Fill c n ∷ xs) ys = ap (λ l. cell_view c n true ∷ l) (after-append xs ys)
 
 pub counted_before : (k : ℕ) → k ≡ length (cells_before (counted k []))
 counted_before zero = refl

@@ -10,7 +10,7 @@ use Rattle.st_marks.specs.declared.intents.Group.{Group}
 use Rattle.st_marks.specs.declared.intents.Intent.{Intent}
 use Rattle.st_marks.specs.declared.intents.Owned.{Owned}
 use Rattle.st_marks.specs.Document.{Document, NodeType, IsSoundInForm, owned}
-use Rattle.st_marks.specs.Extends.{Grows, done, gained, kept}
+use Rattle.st_marks.specs.Extends.{GainsItems, no_more, item_gained, item_kept}
 use Rattle.st_marks.specs.Intent.{Fits, IsKnown, Owns, new_type, group_at, new_row_of, same_option, group_cells}
 use Rattle.st_marks.specs.CarryOut.{with_names, with_groups}
 use Rattle.st_marks.proofs.Members.{all-has, has-append, append_left, append_right, flat_map-has, has-all, has-flat_map, first-has, one_list, list_distinct, distinct-append}
@@ -38,15 +38,15 @@ made_kept N n (q ∷ os) p o (inr h) i = inr (append_right (group_at N n (Some q
 -- ## The old cells keep their order
 
 abbrev pub KeepsOrder : List Owned → List Owned → Type 0
-KeepsOrder = Grows (λ (o p : Owned). o ≡ p)
+KeepsOrder = GainsItems (λ (o p : Owned). o ≡ p)
 
 grows_behind : (xs : List Owned) {ys zs : List Owned} → KeepsOrder ys zs → KeepsOrder ys (xs ++ zs)
 grows_behind [] g = g
-grows_behind (x ∷ xs) g = gained (grows_behind xs g)
+grows_behind (x ∷ xs) g = item_gained (grows_behind xs g)
 
 grows_groups : (N : Intent) (n : NodeId) (os : List Owned) → KeepsOrder os (with_groups N n os)
-grows_groups N n [] = done
-grows_groups N n (o ∷ os) = kept refl (grows_behind (group_at N n (Some o.cell)) (grows_groups N n os))
+grows_groups N n [] = no_more
+grows_groups N n (o ∷ os) = item_kept refl (grows_behind (group_at N n (Some o.cell)) (grows_groups N n os))
 
 pub rows_grow : (D : Document) (N : Intent) (n : NodeId) → KeepsOrder (D.rows n) ((with_names D N).rows n)
 rows_grow D N n = grows_behind (group_at N n None) (grows_groups N n (D.rows n))

@@ -22,7 +22,7 @@ use Rattle.st_marks.specs.declared.schemas.SchemaEntry.{SchemaEntry}
 use Rattle.st_marks.specs.declared.schemas.SchemaStep.{SchemaStep}
 use Rattle.st_marks.specs.declared.steps.Step.{Step}
 use Rattle.st_marks.specs.Document.{Document, IsSoundInForm, slot, content, first_of, last_of, revs}
-use Rattle.st_marks.specs.Extends.{Grows, done, gained, kept}
+use Rattle.st_marks.specs.Extends.{GainsItems, no_more, item_gained, item_kept}
 use Rattle.st_marks.specs.Row.{Make, SameCell, step_cell, step_row, embed_row}
 use Rattle.st_marks.specs.Register.{embed_register, step_register}
 use Rattle.st_marks.specs.Embedding.{IsEmbedding, IsMentionedByIntent, row_marks, row_part, register_part, embed_loose}
@@ -61,18 +61,18 @@ one_embedding D N C K c k =
 -- ## The step
 
 -- a cell that isn't in the longer row isn't in the shorter
-not_before : (c : CellId) {x y : List Slot} → Grows SameCell x y → AllByRecursion (λ (t : Slot). t.cell ≢ c) y → AllByRecursion (λ (s : Slot). s.cell ≢ c) x
-not_before c done a = tt
-not_before c (gained g) a = not_before c g a.1
-not_before c (kept same g) a = ((λ e. a.0 (sym same.0 ∙ e)), not_before c g a.1)
+not_before : (c : CellId) {x y : List Slot} → GainsItems SameCell x y → AllByRecursion (λ (t : Slot). t.cell ≢ c) y → AllByRecursion (λ (s : Slot). s.cell ≢ c) x
+not_before c no_more a = tt
+not_before c (item_gained g) a = not_before c g a.1
+not_before c (item_kept same g) a = ((λ e. a.0 (sym same.0 ∙ e)), not_before c g a.1)
 
 -- the step of a row is the same, however the growth is told
-pub one_step_row : (m : NodeId → Bool) {c d : List Slot} (g h : Grows SameCell c d) → AreDistinct (λ (t : Slot). t.cell) d → step_row m g ≡ step_row m h
-one_step_row m done done k = refl
-one_step_row m (gained {y} g) (gained h) k = ap (λ l. Make y.cell y.node y.full ∷ l) (one_step_row m g h k.1)
-one_step_row m (kept {x} {y} a g) (kept b h) k = ap (λ l. step_cell m x.cell x.node x.full y.full ∷ l) (one_step_row m g h k.1)
-one_step_row m (gained {y} g) (kept a h) k = absurd ((not_before y.cell g k.0).0 a.0)
-one_step_row m (kept {x} {y} a g) (gained h) k = absurd ((not_before y.cell h k.0).0 a.0)
+pub one_step_row : (m : NodeId → Bool) {c d : List Slot} (g h : GainsItems SameCell c d) → AreDistinct (λ (t : Slot). t.cell) d → step_row m g ≡ step_row m h
+one_step_row m no_more no_more k = refl
+one_step_row m (item_gained {y} g) (item_gained h) k = ap (λ l. Make y.cell y.node y.full ∷ l) (one_step_row m g h k.1)
+one_step_row m (item_kept {x} {y} a g) (item_kept b h) k = ap (λ l. step_cell m x.cell x.node x.full y.full ∷ l) (one_step_row m g h k.1)
+one_step_row m (item_gained {y} g) (item_kept a h) k = absurd ((not_before y.cell g k.0).0 a.0)
+one_step_row m (item_kept {x} {y} a g) (item_gained h) k = absurd ((not_before y.cell h k.0).0 a.0)
 
 distinct_content : (D : Document) (os : List Owned) → AreDistinct (λ (o : Owned). o.cell) os → AreDistinct (λ (s : Slot). s.cell) (map (slot D) os)
 distinct_content D [] a = tt

@@ -16,7 +16,7 @@ use Rattle.st_marks.specs.declared.marks.RowMarks.{RowMarks}
 use Rattle.st_marks.specs.declared.places.Spot.{Spot}
 use Rattle.st_marks.specs.declared.steps.Step.{Step}
 use Rattle.st_marks.specs.Document.{Document, NodeType, root, opening, above, climb, slot, content}
-use Rattle.st_marks.specs.Extends.{Grows, done, kept}
+use Rattle.st_marks.specs.Extends.{GainsItems, no_more, item_kept}
 use Rattle.st_marks.specs.Intent.{put_of}
 use Rattle.st_marks.specs.CarryOut.{full, with_names, with_groups, place_after, unless_cleared}
 use Rattle.st_marks.specs.Row.{SameCell, embed_row, step_row}
@@ -196,9 +196,9 @@ no_others_changed n h = elim (changed h.0 h.1) [
 ]
 
 -- all cells stay
-abbrev stays : (n : NodeId) (os : List Owned) → Grows SameCell (map (slot two) os) (map (slot without) (with_groups removal n os))
-stays n [] = done
-stays n (o ∷ os) = kept (refl, refl) (stays n os)
+abbrev stays : (n : NodeId) (os : List Owned) → GainsItems SameCell (map (slot two) os) (map (slot without) (with_groups removal n os))
+stays n [] = no_more
+stays n (o ∷ os) = item_kept (refl, refl) (stays n os)
 
 stepped_root : item_of node_cmp (λ (r : RowMarks). r.node) (marks ∷ []) root ≡ row_marks root (step_row mentioned (stays root (two.rows root)))
 unfolding same_node same_cell

@@ -24,7 +24,7 @@ use Rattle.st_marks.specs.Document.{Document, root, opening, last_of, revs, CanB
 use Rattle.st_marks.specs.Verdict.{HasBase}
 use Rattle.st_marks.specs.Back.{IsBack}
 use Rattle.st_marks.specs.Normal.{IsNormalChange, IsNormalStep}
-use Rattle.st_marks.specs.Shown.{says_in_row, says_nowhere, shown_before_change, shown_after_change}
+use Rattle.st_marks.specs.Listings.{placed_in_row, placed_nowhere, listing_before_change, listing_after_change}
 use Rattle.st_marks.specs.Agree.{Differs, node_twice, cell_again, owned_early, ComposeClash, IsApartAt, row_field}
 use Rattle.st_marks.proofs.Members.{all-has, append_right}
 use Rattle.st_marks.proofs.Worked.{node, cell, old, old_cell, rev, field, new, puts, opening_entry}
@@ -127,7 +127,7 @@ evicts = record { rev = rev 1 1; under = opening; base = true; need = []; new = 
 abbrev finds : Change
 finds = record { rev = rev 1 1; under = opening; base = true; need = []; new = []; rows = record { node = root; marks = Mark.Touch (old_cell 1) (old 2) Leave ∷ [] } ∷ []; regs = []; loose = []; schema = None }
 
-evicted_elsewhere : Differs (shown_after_change evicts) (shown_before_change finds) (row_field root)
+evicted_elsewhere : Differs (listing_after_change evicts) (listing_before_change finds) (row_field root)
 unfolding same_node same_cell same_field
-evicted_elsewhere = node_twice (old 2) Spot.Nowhere (Spot.Row root (old_cell 1)) (says_nowhere (old 2) refl)
-    (says_in_row root (old 2) (old_cell 1) _ 0 refl refl) (λ e. cc) (row_field root) (inr refl)
+evicted_elsewhere = node_twice (old 2) Spot.Nowhere (Spot.Row root (old_cell 1)) (placed_nowhere (old 2) refl)
+    (placed_in_row root (old 2) (old_cell 1) _ 0 refl refl) (λ e. cc) (row_field root) (inr refl)

@@ -11,7 +11,7 @@ use Rattle.st_marks.specs.declared.places.Slot.{Slot}
 use Rattle.st_marks.specs.declared.places.Spot.{Spot}
 use Rattle.st_marks.specs.Document.{root, content}
 use Rattle.st_marks.specs.CarryOut.{full, void}
-use Rattle.st_marks.specs.Extends.{gained, kept, done}
+use Rattle.st_marks.specs.Extends.{item_gained, item_kept, no_more}
 use Rattle.st_marks.specs.Row.{step_row}
 use Rattle.st_marks.specs.Register.{embed_register, step_register}
 use Rattle.st_marks.specs.Embedding.{is_among, register_part, row_marks, named_by_intent}
@@ -87,7 +87,7 @@ grown_row : (content two root ≡ row_before) × (content (full two with_hole) r
 unfolding same_node same_cell
 grown_row = (refl, refl)
 
-hole_of_step : row_marks root (step_row (is_among (root ∷ [])) {c = row_before} {d = row_after} (kept (refl, refl) (kept (refl, refl) (gained done))))
+hole_of_step : row_marks root (step_row (is_among (root ∷ [])) {c = row_before} {d = row_after} (item_kept (refl, refl) (item_kept (refl, refl) (item_gained no_more))))
     ≡ Some (record { node = root; marks = Mark.Skip 2 ∷ Mark.Make (cell 1 1 0) (node 1 1 0) false ∷ [] })
 unfolding same_node same_cell
 hole_of_step = refl

@@ -13,7 +13,7 @@ use Rattle.st_marks.specs.declared.steps.Step.{Step}
 use Rattle.st_marks.specs.Document.{CanBeInEffect, root, node_of}
 use Rattle.st_marks.specs.Verdict.{HasBase, IsLeast}
 use Rattle.st_marks.specs.Step.{IsSchemaStep}
-use Rattle.st_marks.specs.Shown.{Shown, Seen, Says, ShowsCell, shown_before_change, shown_before_step, shown_after_change, shown_after_step}
+use Rattle.st_marks.specs.Listings.{Listing, CellView, Places, ListsCell, listing_before_change, listing_before_step, listing_after_change, listing_after_step}
 
 -- the field of a node's row
 abbrev pub row_field : NodeId → FieldId
@@ -32,39 +32,39 @@ SameIfBoth (Some a) None = Unit {0}
 SameIfBoth (Some a) (Some b) = a ≡ b
 
 -- a cell as two arguments show it: full in both or empty in both, with one name and one owner
-pub record IsSameSeen (a b : Seen) : Type 0 where
+pub record IsSameView (a b : CellView) : Type 0 where
   pub full : a.full ≡ b.full
   pub cell : SameIfBoth a.cell b.cell
   pub node : SameIfBoth a.node b.node
 
 -- L or M names the cell in the row of that node
-abbrev pub IsNamedInRow : Shown → Shown → CellId → NodeId → Type 0
+abbrev pub IsNamedInRow : Listing → Listing → CellId → NodeId → Type 0
 IsNamedInRow L M c r = IsTrue (L.names.names_cell r c || M.names.names_cell r c)
 
 -- ## What is shown twice of one document
 
 -- what L and M show of one document differs, and that names the field
-pub data Differs (L M : Shown) : FieldId → Type 0 where
+pub data Differs (L M : Listing) : FieldId → Type 0 where
   -- a row that both show doesn't have the same cells, place by place
-  rows_differ : (n : NodeId) (a b : List Seen) → L.row n ≡ Some a → M.row n ≡ Some b → (AllZip IsSameSeen a b → ⊥) → Differs L M (row_field n)
+  rows_differ : (n : NodeId) (a b : List CellView) → L.row n ≡ Some a → M.row n ≡ Some b → (AllZip IsSameView a b → ⊥) → Differs L M (row_field n)
   -- a cell that both show stands at two places or has two owners; the rows that name it are named
-  cell_twice : (c : CellId) (n m : NodeId) (k l : ℕ) (o p : Option NodeId) → ShowsCell L c n k o → ShowsCell M c m l p
+  cell_twice : (c : CellId) (n m : NodeId) (k l : ℕ) (o p : Option NodeId) → ListsCell L c n k o → ListsCell M c m l p
       → ((n ≡ m) × (k ≡ l) × SameIfBoth o p → ⊥) → (r : NodeId) → IsNamedInRow L M c r → Differs L M (row_field r)
   -- a register that both show has two occupants
   registers_differ : (f : FieldId) (a b : Option NodeId) → L.register f ≡ Some a → M.register f ≡ Some b → a ≢ b → Differs L M f
   -- a node that both show has two places; the fields of both are named
-  node_twice : (n : NodeId) (s t : Spot) → Says L n s → Says M n t → s ≢ t → (f : FieldId) → (field_of s ≡ Some f) ⊎ (field_of t ≡ Some f) → Differs L M f
+  node_twice : (n : NodeId) (s t : Spot) → Places L n s → Places M n t → s ≢ t → (f : FieldId) → (field_of s ≡ Some f) ⊎ (field_of t ≡ Some f) → Differs L M f
 
 -- ## Names
 
 -- the second makes what the first names already; that names the row of the new node, or the rows that name the new cell
-pub data MadeAgain (L M : Shown) : FieldId → Type 0 where
+pub data MadeAgain (L M : Listing) : FieldId → Type 0 where
   node_again : (n : NodeId) → IsTrue (M.names.makes_node n) → IsTrue (L.names.names_node n) → MadeAgain L M (row_field n)
   cell_again : (c : CellId) (q r : NodeId) → IsTrue (M.names.makes_cell c) → IsTrue (L.names.names_cell q c) → IsNamedInRow L M c r → MadeAgain L M (row_field r)
 
 -- the second finds a cell that the first doesn't make, owned by a node that the first makes; the rows that name it are named
-pub data OwnedTooEarly (L M : Shown) : FieldId → Type 0 where
-  owned_early : (c : CellId) (n q r : NodeId) (k : ℕ) → ShowsCell M c q k (Some n) → IsTrue (L.names.makes_node n) → L.names.makes_cell c ≡ false → IsNamedInRow L M c r → OwnedTooEarly L M (row_field r)
+pub data OwnedTooEarly (L M : Listing) : FieldId → Type 0 where
+  owned_early : (c : CellId) (n q r : NodeId) (k : ℕ) → ListsCell M c q k (Some n) → IsTrue (L.names.makes_node n) → L.names.makes_cell c ≡ false → IsNamedInRow L M c r → OwnedTooEarly L M (row_field r)
 
 -- ## Schemas
 
@@ -101,13 +101,13 @@ pub data LeadsUp (At : NodeId → Spot → Type 0) : NodeId → NodeId → Type 
 
 -- a node that either change makes, where both together leave it: where the second leaves it, or else where the first does
 abbrev pub MadeAt : Change → Change → NodeId → Spot → Type 0
-MadeAt C K n s = IsMade n × IfSome (node_of s) IsMade × (Says second n s ⊎ (((t : Spot) → Says second n t → ⊥) × Says first n s))
+MadeAt C K n s = IsMade n × IfSome (node_of s) IsMade × (Places second n s ⊎ (((t : Spot) → Places second n t → ⊥) × Places first n s))
   where
-    first : Shown
-    first = shown_after_change C
+    first : Listing
+    first = listing_after_change C
 
-    second : Shown
-    second = shown_after_change K
+    second : Listing
+    second = listing_after_change K
 
     IsMade : NodeId → Type 0
     IsMade x = IsTrue (first.names.makes_node x || second.names.makes_node x)
@@ -117,7 +117,7 @@ pub record CanBeParts (C K : Change) : Type 0 where
   pub one_rev : C.rev ≡ K.rev
   pub one_under : C.under ≡ K.under
   pub no_schema : (C.schema ≡ None) × (K.schema ≡ None)
-  pub first_no_ring : (n : NodeId) → LeadsUp (Says (shown_after_change C)) n n → ⊥
+  pub first_no_ring : (n : NodeId) → LeadsUp (Places (listing_after_change C)) n n → ⊥
   pub made_no_ring : (n : NodeId) → LeadsUp (MadeAt C K) n n → ⊥
 
 -- a rule that names the root's row where it is broken
@@ -130,31 +130,31 @@ pub data RootRule (Holds : Type 0) : FieldId → Type 0 where
 abbrev pub ComposeClash : Step → Step → FieldId → Type 0
 ComposeClash S T f = Differs L M f ⊎ MadeAgain L M f ⊎ OwnedTooEarly L M f ⊎ RootRule (HaveSchemasInTurn S T) f
   where
-    L : Shown
-    L = shown_after_step S
+    L : Listing
+    L = listing_after_step S
 
-    M : Shown
-    M = shown_before_step T
+    M : Listing
+    M = listing_before_step T
 
 -- what the first change leaves is what the second finds
 abbrev pub JoinClash : Change → Change → FieldId → Type 0
 JoinClash C K f = Differs L M f ⊎ MadeAgain L M f ⊎ OwnedTooEarly L M f ⊎ RootRule (HaveSchemasOfParts C K) f ⊎ RootRule (CanBeParts C K) f
   where
-    L : Shown
-    L = shown_after_change C
+    L : Listing
+    L = listing_after_change C
 
-    M : Shown
-    M = shown_before_change K
+    M : Listing
+    M = listing_before_change K
 
 -- both find the same: rebasing the change over the step, and the bridge from the step to the change
 abbrev pub RebaseClash : Change → Step → FieldId → Type 0
 RebaseClash C S f = Differs L M f ⊎ MadeAgain L M f ⊎ MadeAgain M L f ⊎ RootRule (HaveSchemasBeside C S) f
   where
-    L : Shown
-    L = shown_before_change C
+    L : Listing
+    L = listing_before_change C
 
-    M : Shown
-    M = shown_before_step S
+    M : Listing
+    M = listing_before_step S
 
 -- two arguments agree where no field is named
 abbrev pub Agrees : (FieldId → Type 0) → Type 0

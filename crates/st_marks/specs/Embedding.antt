@@ -53,11 +53,11 @@ row_marks n cells = if list_any tells cells then Some (record { node = n; marks 
 
 -- the part of an intent that concerns a node's row
 abbrev pub row_part : (NodeId → Bool) → Intent → NodeId → RowPart
-row_part mentioned N n = record { made = group_at N n; goes = put_of N; mentioned = mentioned }
+row_part mentioned N n = record { made = group_at N n; target_of = put_of N; mentioned = mentioned }
 
 -- the part of an intent that concerns a register
 abbrev pub register_part : (NodeId → Bool) → Intent → FieldId → RegisterPart
-register_part mentioned N f = record { clear = clears N f; fill = put_in N f; goes = put_of N; mentioned = mentioned }
+register_part mentioned N f = record { clear = clears N f; fill = put_in N f; target_of = put_of N; mentioned = mentioned }
 
 -- whether a place is nowhere
 abbrev pub is_nowhere : Spot → Bool

@@ -5,15 +5,15 @@ use Rattle.st_marks.specs.declared.intents.Owned.{Owned}
 use Rattle.st_marks.specs.Document.{Document, NodeType, IsSoundInForm, first_of}
 
 -- xs grew to ys: each item of xs is the same in ys, in the same order, and more may stand between
-pub data Grows {A : Type 0} (Same : A → A → Type 0) : List A → List A → Type 0 where
-  done : Grows Same [] []
-  gained : {y : A} {xs ys : List A} → Grows Same xs ys → Grows Same xs (y ∷ ys)
-  kept : {x y : A} {xs ys : List A} → Same x y → Grows Same xs ys → Grows Same (x ∷ xs) (y ∷ ys)
+pub data GainsItems {A : Type 0} (Same : A → A → Type 0) : List A → List A → Type 0 where
+  no_more : GainsItems Same [] []
+  item_gained : {y : A} {xs ys : List A} → GainsItems Same xs ys → GainsItems Same xs (y ∷ ys)
+  item_kept : {x y : A} {xs ys : List A} → Same x y → GainsItems Same xs ys → GainsItems Same (x ∷ xs) (y ∷ ys)
 
 -- E extends D: it has all that D has, in the same order
 pub record IsExtendedBy (D E : Document) : Type 0 where
   pub before : IsSoundInForm D
   pub after : IsSoundInForm E
   pub nodes : (n : NodeId) (t : NodeType) → D.nodes n ≡ Some t → E.nodes n ≡ Some t
-  pub rows : (n : NodeId) → Grows (λ (o p : Owned). o ≡ p) (D.rows n) (E.rows n)
+  pub rows : (n : NodeId) → GainsItems (λ (o p : Owned). o ≡ p) (D.rows n) (E.rows n)
   pub first_schema : first_of D.schemas ≡ first_of E.schemas

@@ -7,10 +7,11 @@ pub mod Verdict
 pub mod Run
 pub mod Join
 pub mod Back
+pub mod How
 pub mod Row
 pub mod Register
 pub mod Embedding
 pub mod Step
 pub mod Normal
-pub mod Shown
+pub mod Listings
 pub mod Agree

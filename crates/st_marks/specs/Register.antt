@@ -34,13 +34,13 @@ pub record RegisterPart : Type 0 where
   -- which node it puts there
   pub fill : Option NodeId
   -- where it puts a node
-  pub goes : NodeId → Option To
+  pub target_of : NodeId → Option To
   pub mentioned : NodeId → Bool
 
 -- what becomes of the occupant
 abbrev pub how_held : FieldId → RegisterPart → Option NodeId → How
 how_held f p None = Stay
-how_held f p (Some n) = how (p.goes n) (To.Register f)
+how_held f p (Some n) = how (p.target_of n) (To.Register f)
 
 -- which node comes in, unless it is there already
 abbrev pub comes_in : Option NodeId → Option NodeId → Option NodeId

@@ -9,7 +9,8 @@ use Rattle.st_marks.specs.declared.marks.How.{How}
 use Rattle.st_marks.specs.declared.marks.How.TheVariants.{Stay, Here, Leave}
 use Rattle.st_marks.specs.declared.marks.Mark.{Mark}
 use Rattle.st_marks.specs.declared.places.Slot.{Slot}
-use Rattle.st_marks.specs.Extends.{Grows, done, gained, kept}
+use Rattle.st_marks.specs.Extends.{GainsItems, no_more, item_gained, item_kept}
+use Rattle.st_marks.specs.How.{is_here}
 
 -- ## Marks, cell by cell
 
@@ -67,10 +68,10 @@ step_cell mentioned c n false true = Fill c n
 step_cell mentioned c n false false = Gap c
 
 -- the row c, which grew to d
-abbrev pub step_row : (NodeId → Bool) → {c d : List Slot} → Grows SameCell c d → List CellMark
-step_row mentioned done = []
-step_row mentioned (gained {y} g) = Make y.cell y.node y.full ∷ step_row mentioned g
-step_row mentioned (kept {x} {y} same g) = step_cell mentioned x.cell x.node x.full y.full ∷ step_row mentioned g
+abbrev pub step_row : (NodeId → Bool) → {c d : List Slot} → GainsItems SameCell c d → List CellMark
+step_row mentioned no_more = []
+step_row mentioned (item_gained {y} g) = Make y.cell y.node y.full ∷ step_row mentioned g
+step_row mentioned (item_kept {x} {y} same g) = step_cell mentioned x.cell x.node x.full y.full ∷ step_row mentioned g
 
 -- ## A row and an intent
 
@@ -91,35 +92,29 @@ abbrev pub how : Option To → To → How
 how None here = Stay
 how (Some to) here = if same_to to here then Here else Leave
 
--- whether the node is put right there
-abbrev pub is_here : How → Bool
-is_here Stay = false
-is_here Here = true
-is_here Leave = false
-
 -- the part of an intent that concerns one row
 pub record RowPart : Type 0 where
   -- the cells that it makes at the row's start (None) or after a cell
   pub made : Option CellId → List Owned
   -- where it puts a node
-  pub goes : NodeId → Option To
+  pub target_of : NodeId → Option To
   pub mentioned : NodeId → Bool
 
 -- a cell that it finds, full or not
 abbrev pub embed_cell : RowPart → CellId → NodeId → Bool → CellMark
-embed_cell p c n true = if p.mentioned n then Touch c n (how (p.goes n) (To.Cell c)) else Counted
-embed_cell p c n false = if is_here (how (p.goes n) (To.Cell c)) then Fill c n else Gap c
+embed_cell p c n true = if p.mentioned n then Touch c n (how (p.target_of n) (To.Cell c)) else Counted
+embed_cell p c n false = if is_here (how (p.target_of n) (To.Cell c)) then Fill c n else Gap c
 
 -- the cells that it makes
 abbrev pub embed_made : RowPart → List Owned → List CellMark
 embed_made p [] = []
-embed_made p (o ∷ os) = Make o.cell o.node (is_here (how (p.goes o.node) (To.Cell o.cell))) ∷ embed_made p os
+embed_made p (o ∷ os) = Make o.cell o.node (is_here (how (p.target_of o.node) (To.Cell o.cell))) ∷ embed_made p os
 
 -- the cells that it finds, each with the group after it
 abbrev pub embed_cells : RowPart → List Slot → List CellMark
 embed_cells p [] = []
-embed_cells p (s ∷ c) = embed_cell p s.cell s.node s.full ∷ (embed_made p (p.made (Some s.cell)) ++ embed_cells p c)
+embed_cells p (s ∷ c) = embed_cell p s.cell s.node s.full ∷ (embed_made p (p.new_cells (Some s.cell)) ++ embed_cells p c)
 
 -- the whole row
 abbrev pub embed_row : RowPart → List Slot → List CellMark
-embed_row p c = embed_made p (p.made None) ++ embed_cells p c
+embed_row p c = embed_made p (p.new_cells None) ++ embed_cells p c

@@ -13,7 +13,7 @@ use Rattle.st_marks.specs.declared.schemas.SchemaEntry.{SchemaEntry}
 use Rattle.st_marks.specs.declared.schemas.SchemaStep.{SchemaStep}
 use Rattle.st_marks.specs.declared.steps.Step.{Step}
 use Rattle.st_marks.specs.Document.{Document, NodeType, above, climb, content, first_of, last_of, revs}
-use Rattle.st_marks.specs.Extends.{Grows}
+use Rattle.st_marks.specs.Extends.{GainsItems}
 use Rattle.st_marks.specs.Row.{SameCell, step_row}
 use Rattle.st_marks.specs.Register.{step_register}
 use Rattle.st_marks.specs.Embedding.{row_marks, is_nowhere, is_loose}
@@ -52,7 +52,7 @@ pub record IsStep (D E : Document) (S : Step) : Type 0 where
   pub which : (n : NodeId) → (mentioned n ≡ true) ↔ IsMentionedByStep D E n
   pub schema : IsSchemaStep D.schemas E.schemas S.schema
   pub new : IsListing node_cmp (λ (m : NewNode). m.node) S.new (λ n. gained_node n (D.nodes n) (E.nodes n))
-  pub grows : (n : NodeId) → Grows SameCell (content D n) (content E n)
+  pub grows : (n : NodeId) → GainsItems SameCell (content D n) (content E n)
   pub rows : IsListing node_cmp (λ (r : RowMarks). r.node) S.rows (λ n. row_marks n (step_row mentioned (grows n)))
   pub regs : IsListing field_cmp (λ (r : RegStep). r.field) S.regs (λ f. step_register f mentioned (D.held f) (E.held f))
   pub loose : IsListing node_cmp (λ (l : Loose). l.node) S.loose (step_loose mentioned D E)

@@ -11,7 +11,7 @@ ghost use Rattle.st_marks.specs.declared.intents.Owned.{Owned};
 ghost use Rattle.st_marks.specs.declared.schemas.SchemaEntry.{SchemaEntry};
 ghost use Rattle.st_marks.specs.declared.verdicts.Verdict.{Verdict};
 ghost use Rattle.st_marks.specs.Document.{Document, IsSoundInForm, HasShortRows};
-ghost use Rattle.st_marks.specs.Extends.{Grows, IsExtendedBy};
+ghost use Rattle.st_marks.specs.Extends.{GainsItems, IsExtendedBy};
 ghost use Rattle.st_marks.specs.Intent.{Fits, is_new, new_row_of};
 ghost use Rattle.st_marks.specs.CarryOut.{full, void};
 ghost use Rattle.st_marks.specs.Verdict.{IsVerdict, IsAboveItself, carried};
@@ -32,7 +32,7 @@ pub fn carrying_out_extends()
 
 /// New cells come between the old ones of a row, which keep their order.
 pub fn rows_keep_their_order()
-    ensures { (D : Document) (N : Intent) (n : NodeId) → Grows (λ (o p : Owned). o ≡ p) (D.rows n) ((full D N).rows n) }
+    ensures { (D : Document) (N : Intent) (n : NodeId) → GainsItems (λ (o p : Owned). o ≡ p) (D.rows n) ((full D N).rows n) }
 {}
 
 /// A sound document extends itself, and what extends a document that extends another extends that one.

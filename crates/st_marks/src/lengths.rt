@@ -2,7 +2,7 @@
 
 ghost use Rattle.std.specs.Prelude.{◌≡◌, ◌^◌, ◌∷◌, [], length, min};
 ghost use Rattle.st_marks.specs.Row.{spread};
-ghost use Rattle.st_marks.specs.Shown.{cells_before, cells_after};
+ghost use Rattle.st_marks.specs.Listings.{cells_before, cells_after};
 
 use crate::marks::Mark;
 use st_ids::List;

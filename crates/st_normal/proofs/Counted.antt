@@ -5,7 +5,7 @@ use Rattle.st_marks.specs.Embedding.{tells}
 use Rattle.st_normal.specs.Links.{stands_before, stands_after}
 use Rattle.st_marks.specs.Row.{CellMark, counted}
 use Rattle.st_normal.specs.Rules.{found_in, incoming, hole_owners, fill_owners}
-use Rattle.st_marks.specs.Shown.{cells_in, cells_made}
+use Rattle.st_marks.specs.Listings.{cells_in, cells_made}
 
 pub found_counted : (k : ℕ) (ms : List CellMark) → found_in (counted k ms) ≡ found_in ms
 found_counted zero ms = refl

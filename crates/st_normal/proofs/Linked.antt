@@ -19,8 +19,8 @@ use Rattle.st_normal.specs.Links.{link, links_in, links_at, up_by}
 use Rattle.st_normal.specs.Naming.{is_named}
 use Rattle.st_normal.specs.Ring.{AreListed}
 use Rattle.st_marks.specs.Row.{CellMark, spread}
-use Rattle.st_marks.specs.Shown.{Shown, Seen, Says, seen, one_or_none}
-use Rattle.st_marks.specs.Shown.Says.{says_in_row, says_in_register, says_nowhere}
+use Rattle.st_marks.specs.Listings.{Listing, CellView, Places, cell_view, one_or_none}
+use Rattle.st_marks.specs.Listings.Says.{says_in_row, says_in_register, says_nowhere}
 use Rattle.st_marks.proofs.Members.{append_left, append_right, has-append, map-has, has-map, flat_map-has, has-flat_map, first-has, first-distinct}
 use Rattle.st_normal.proofs.Naming.{named-name, name-named}
 
@@ -99,15 +99,15 @@ module _ {K A : Type 0} (R : K → K → Ordering) (t : IsTotalOrder R) (exact :
 
 -- ## What is shown
 
-module _ {R : Type 0} (L : Shown) (rows : List RowMarks) (regs : List R) (field : R → FieldId) (held : R → Option NodeId) (stands : List CellMark → List NodeId) (cells : List CellMark → List Seen) where
+module _ {R : Type 0} (L : Listing) (rows : List RowMarks) (regs : List R) (field : R → FieldId) (held : R → Option NodeId) (stands : List CellMark → List NodeId) (cells : List CellMark → List CellView) where
   -- the listed rows and registers are shown, and only they hold a node
   pub record ShowsListed : Type 0 where
     pub row_shown : (r : RowMarks) → Has rows r → L.row r.node ≡ Some (cells (spread r.marks))
-    pub row_listed : (n m : NodeId) (c : CellId) (cs : List Seen) (k : ℕ) → L.row n ≡ Some cs → slice_get cs k ≡ Some (seen c m true) → (r : RowMarks) × Has rows r × (r.node ≡ n) × (cells (spread r.marks) ≡ cs)
+    pub row_listed : (n m : NodeId) (c : CellId) (cs : List CellView) (k : ℕ) → L.row n ≡ Some cs → slice_get cs k ≡ Some (cell_view c m true) → (r : RowMarks) × Has rows r × (r.node ≡ n) × (cells (spread r.marks) ≡ cs)
     pub register_shown : (r : R) → Has regs r → L.register (field r) ≡ Some (held r)
     pub register_listed : (f : FieldId) (m : NodeId) → L.register f ≡ Some (Some m) → (r : R) × Has regs r × (field r ≡ f) × (held r ≡ Some m)
-    pub cell_stands : (ms : List CellMark) (k : ℕ) (c : CellId) (m : NodeId) → slice_get (cells ms) k ≡ Some (seen c m true) → Has (stands ms) m
-    pub stands_cell : (ms : List CellMark) (m : NodeId) → Has (stands ms) m → (k : ℕ) × (c : CellId) × (slice_get (cells ms) k ≡ Some (seen c m true))
+    pub cell_stands : (ms : List CellMark) (k : ℕ) (c : CellId) (m : NodeId) → slice_get (cells ms) k ≡ Some (cell_view c m true) → Has (stands ms) m
+    pub stands_cell : (ms : List CellMark) (m : NodeId) → Has (stands ms) m → (k : ℕ) × (c : CellId) × (slice_get (cells ms) k ≡ Some (cell_view c m true))
 
   one-has : (o : Option NodeId) (m : NodeId) → Has (one_or_none o) m → o ≡ Some m
   one-has None m h = absurd h
@@ -120,10 +120,10 @@ module _ {R : Type 0} (L : Shown) (rows : List RowMarks) (regs : List R) (field 
   link-parts : (p q m n : NodeId) → link p m ≡ link q n → (p ≡ q) × (m ≡ n)
   link-parts p q m n e = (ap (λ (l : Link). l.up) e, ap link_node e)
 
-  pub says_linked : ShowsListed → (n p : NodeId) → Has (links_in stands rows ++ links_at field held regs) (link p n) ↔ ((s : Spot) × Says L n s × (node_of s ≡ Some p))
+  pub says_linked : ShowsListed → (n p : NodeId) → Has (links_in stands rows ++ links_at field held regs) (link p n) ↔ ((s : Spot) × Places L n s × (node_of s ≡ Some p))
   says_linked w n p = (λ h. elim (has-append (links_in stands rows) (links_at field held regs) (link p n) h) [ inl i ↦ from_row i | inr i ↦ from_register i ], λ (s, y, e). back s y e)
     where
-      from_row : Has (links_in stands rows) (link p n) → (s : Spot) × Says L n s × (node_of s ≡ Some p)
+      from_row : Has (links_in stands rows) (link p n) → (s : Spot) × Places L n s × (node_of s ≡ Some p)
       from_row h =
           let r = has-flat_map (λ (r : RowMarks). map (link r.node) (stands (spread r.marks))) rows (link p n) h in
           let m = has-map (link r.0.node) (stands (spread r.0.marks)) (link p n) r.2 in
@@ -131,14 +131,14 @@ module _ {R : Type 0} (L : Shown) (rows : List RowMarks) (regs : List R) (field 
           let k = w.stands_cell (spread r.0.marks) n (subst (Has (stands (spread r.0.marks))) e.1 m.1) in
           (Spot.Row r.0.node k.1, says_in_row r.0.node n k.1 (cells (spread r.0.marks)) k.0 (w.row_shown r.0 r.1) k.2, ap (λ x. Some x) e.0)
 
-      from_register : Has (links_at field held regs) (link p n) → (s : Spot) × Says L n s × (node_of s ≡ Some p)
+      from_register : Has (links_at field held regs) (link p n) → (s : Spot) × Places L n s × (node_of s ≡ Some p)
       from_register h =
           let r = has-flat_map (λ (r : R). map (link (field r).node) (one_or_none (held r))) regs (link p n) h in
           let m = has-map (link (field r.0).node) (one_or_none (held r.0)) (link p n) r.2 in
           let e = link-parts (field r.0).node p m.0 n m.2 in
           (Spot.Register (field r.0), says_in_register (field r.0) n (w.register_shown r.0 r.1 ∙ ap (λ o. Some o) (one-has (held r.0) m.0 m.1 ∙ ap (λ x. Some x) e.1)), ap (λ x. Some x) e.0)
 
-      in_row : (q : NodeId) (c : CellId) (cs : List Seen) (k : ℕ) → L.row q ≡ Some cs → slice_get cs k ≡ Some (seen c n true) → q ≡ p → Has (links_in stands rows ++ links_at field held regs) (link p n)
+      in_row : (q : NodeId) (c : CellId) (cs : List CellView) (k : ℕ) → L.row q ≡ Some cs → slice_get cs k ≡ Some (cell_view c n true) → q ≡ p → Has (links_in stands rows ++ links_at field held regs) (link p n)
       in_row q c cs k e f g =
           let r = w.row_listed q n c cs k e f in
           let i = w.cell_stands (spread r.0.marks) k c n (ap (λ x. slice_get x k) r.3 ∙ f) in
@@ -151,7 +151,7 @@ module _ {R : Type 0} (L : Shown) (rows : List RowMarks) (regs : List R) (field 
           append_right (links_in stands rows) (links_at field held regs) (link p n) (flat_map-has (λ (r : R). map (link (field r).node) (one_or_none (held r))) regs r.0 (link p n) r.1
           (subst (λ x. Has (map (link (field r.0).node) (one_or_none (held r.0))) (link x n)) (ap (λ (f : FieldId). f.node) r.2 ∙ g) (map-has (link (field r.0).node) (one_or_none (held r.0)) n (has-one (held r.0) n r.3))))
 
-      back : (s : Spot) → Says L n s → node_of s ≡ Some p → Has (links_in stands rows ++ links_at field held regs) (link p n)
+      back : (s : Spot) → Places L n s → node_of s ≡ Some p → Has (links_in stands rows ++ links_at field held regs) (link p n)
       back s (says_in_row q m c cs k e f) g = in_row q c cs k e f (let q : q ≡ p = cc in q)
       back s (says_in_register f m e) g = in_register f e (let q : f.node ≡ p = cc in q)
       back s (says_nowhere m e) g = cc

@@ -15,7 +15,7 @@ use Rattle.st_ids.specs.declared.names.Rev.{Rev}
 use Rattle.st_marks.specs.declared.schemas.SchemaEntry.{SchemaEntry}
 use Rattle.st_normal.specs.declared.entries.Found.{Found}
 use Rattle.st_marks.specs.declared.marks.How.{How}
-use Rattle.st_normal.specs.Rules.{Listed, NodesAreFoundOnce, IsFoundAs, how_found}
+use Rattle.st_normal.specs.Rules.{Entries, NodesAreFoundOnce, IsFoundAs, how_found}
 use Rattle.st_normal.specs.Naming.{is_named}
 use Rattle.st_marks.proofs.Members.{all-has, has-all, none-has, first-has, first-distinct, map-has, has-map, true-false}
 
@@ -194,7 +194,7 @@ pub cells_once : (xs : List CellId) → AreDistinct (λ (c : CellId). c.0) xs �
 cells_once xs = distinct_by (λ (c : CellId). c.0) (λ (c : CellId). c) (λ x y e i. record { 0 = e i }) (λ x y e. ap (λ (c : CellId). c.0) e) xs
 
 -- what becomes of a node that is found only once
-pub how_found-is : (L : Listed) → NodesAreFoundOnce L → (n : NodeId) (h : How) → (how_found L n ≡ Some h) ↔ IsFoundAs L n h
+pub how_found-is : (L : Entries) → NodesAreFoundOnce L → (n : NodeId) (h : How) → (how_found L n ≡ Some h) ↔ IsFoundAs L n h
 how_found-is L d n h = (
   go (find (is_named found_name n.0) L.found) refl,
   λ i. ap (option_map (λ (f : Found). f.how)) (first-distinct (λ (f : Found). f.node) L.found (is_named found_name n.0) (record { node = n; how = h }) d i

@@ -21,9 +21,9 @@ use Rattle.st_marks.specs.Embedding.{is_among}
 use Rattle.st_marks.specs.Intent.{same_option}
 use Rattle.st_normal.specs.Links.{link, links_in, links_at, stands_after, stands_before, up_by, are_new}
 use Rattle.st_normal.specs.Ring.{HasRing}
-use Rattle.st_marks.specs.Row.{is_here}
-use Rattle.st_normal.specs.Rules.{listed_by_change, listed_by_step, found_held, found_at, found_over, put_at, put_over, how_over, ChangeIsRising, StepIsRising, NodesAreFoundOnce, NodesArePutOnce, PutNodesLeave, NewNodesAreNotFound, NoRingBeforeChange, NoRingOfNewNodes, IsNewInNew}
-use Rattle.st_marks.specs.Shown.{Says, cells_after, cells_before, held_after, is_leave, nodes_new, one_or_none, shown_before_change, shown_after_change, shown_before_step, shown_after_step}
+use Rattle.st_marks.specs.How.{is_here, is_leave}
+use Rattle.st_normal.specs.Rules.{entries_of_change, entries_of_step, found_held, found_at, found_over, put_at, put_over, how_over, ChangeIsRising, StepIsRising, NodesAreFoundOnce, NodesArePutOnce, PutNodesLeave, NewNodesAreNotFound, NoRingBeforeChange, NoRingOfNewNodes, IsNewInNew}
+use Rattle.st_marks.specs.Listings.{Places, cells_after, cells_before, held_after, nodes_new, one_or_none, listing_before_change, listing_after_change, listing_before_step, listing_after_step}
 use Rattle.st_normal.proofs.AboveItself.{no_ring-leads_up}
 use Rattle.st_normal.proofs.Counts.{times}
 use Rattle.st_normal.proofs.Linked.{link_node, one_above, says_linked}
@@ -70,35 +70,35 @@ step-times r n = go (same_option same_node r.before r.after) refl
 
 -- ## Before
 
-pub before_change : (C : Change) → ChangeIsRising C → NodesAreFoundOnce (listed_by_change C) → (HasRing (up_by (links_in stands_before C.rows ++ links_at (λ (r : RegMark). r.field) (λ (r : RegMark). r.held) C.regs)) → ⊥) ↔ NoRingBeforeChange C
+pub before_change : (C : Change) → ChangeIsRising C → NodesAreFoundOnce (entries_of_change C) → (HasRing (up_by (links_in stands_before C.rows ++ links_at (λ (r : RegMark). r.field) (λ (r : RegMark). r.held) C.regs)) → ⊥) ↔ NoRingBeforeChange C
 before_change C r d =
     let field = λ (r : RegMark). r.field in
     let held = λ (r : RegMark). r.held in
     let links = links_in stands_before C.rows ++ links_at field held C.regs in
-    no_ring-leads_up (Says (shown_before_change C)) (up_by links)
-    (one_above (Says (shown_before_change C)) links (once_before found_at put_at field held (λ r n. held-times n r.held r.how) C.new C.rows C.regs C.loose d)
-    (says_linked (shown_before_change C) C.rows C.regs field held stands_before cells_before (before_shows (shown_before_change C) C.rows C.regs field held r.rows r.regs (λ n. refl) (λ f. refl))))
+    no_ring-leads_up (Places (listing_before_change C)) (up_by links)
+    (one_above (Places (listing_before_change C)) links (once_before found_at put_at field held (λ r n. held-times n r.held r.how) C.new C.rows C.regs C.loose d)
+    (says_linked (listing_before_change C) C.rows C.regs field held stands_before cells_before (before_shows (listing_before_change C) C.rows C.regs field held r.rows r.regs (λ n. refl) (λ f. refl))))
 
-pub before_step : (S : Step) → StepIsRising S → NodesAreFoundOnce (listed_by_step S) → (HasRing (up_by (links_in stands_before S.rows ++ links_at (λ (r : RegStep). r.field) (λ (r : RegStep). r.before) S.regs)) → ⊥) ↔ ((n : NodeId) → LeadsUp (Says (shown_before_step S)) n n → ⊥)
+pub before_step : (S : Step) → StepIsRising S → NodesAreFoundOnce (entries_of_step S) → (HasRing (up_by (links_in stands_before S.rows ++ links_at (λ (r : RegStep). r.field) (λ (r : RegStep). r.before) S.regs)) → ⊥) ↔ ((n : NodeId) → LeadsUp (Places (listing_before_step S)) n n → ⊥)
 before_step S r d =
     let field = λ (r : RegStep). r.field in
     let held = λ (r : RegStep). r.before in
     let links = links_in stands_before S.rows ++ links_at field held S.regs in
-    no_ring-leads_up (Says (shown_before_step S)) (up_by links)
-    (one_above (Says (shown_before_step S)) links (once_before found_over put_over field held (λ r n. held-times n r.before (how_over r)) S.new S.rows S.regs S.loose d)
-    (says_linked (shown_before_step S) S.rows S.regs field held stands_before cells_before (before_shows (shown_before_step S) S.rows S.regs field held r.rows r.regs (λ n. refl) (λ f. refl))))
+    no_ring-leads_up (Places (listing_before_step S)) (up_by links)
+    (one_above (Places (listing_before_step S)) links (once_before found_over put_over field held (λ r n. held-times n r.before (how_over r)) S.new S.rows S.regs S.loose d)
+    (says_linked (listing_before_step S) S.rows S.regs field held stands_before cells_before (before_shows (listing_before_step S) S.rows S.regs field held r.rows r.regs (λ n. refl) (λ f. refl))))
 
 -- ## After
 
-pub after_step : (S : Step) → StepIsRising S → NodesAreFoundOnce (listed_by_step S) → NodesArePutOnce (listed_by_step S) → PutNodesLeave (listed_by_step S) → NewNodesAreNotFound (listed_by_step S)
-    → (HasRing (up_by (links_in stands_after S.rows ++ links_at (λ (r : RegStep). r.field) (λ (r : RegStep). r.after) S.regs)) → ⊥) ↔ ((n : NodeId) → LeadsUp (Says (shown_after_step S)) n n → ⊥)
+pub after_step : (S : Step) → StepIsRising S → NodesAreFoundOnce (entries_of_step S) → NodesArePutOnce (entries_of_step S) → PutNodesLeave (entries_of_step S) → NewNodesAreNotFound (entries_of_step S)
+    → (HasRing (up_by (links_in stands_after S.rows ++ links_at (λ (r : RegStep). r.field) (λ (r : RegStep). r.after) S.regs)) → ⊥) ↔ ((n : NodeId) → LeadsUp (Places (listing_after_step S)) n n → ⊥)
 after_step S r d u p q =
     let field = λ (r : RegStep). r.field in
     let held = λ (r : RegStep). r.after in
     let links = links_in stands_after S.rows ++ links_at field held S.regs in
-    no_ring-leads_up (Says (shown_after_step S)) (up_by links)
-    (one_above (Says (shown_after_step S)) links (once_after found_over put_over field held step-times S.new S.rows S.regs S.loose d u p q)
-    (says_linked (shown_after_step S) S.rows S.regs field held stands_after cells_after (after_shows (shown_after_step S) S.rows S.regs field held r.rows r.regs S.new (λ n. refl) (λ f. refl))))
+    no_ring-leads_up (Places (listing_after_step S)) (up_by links)
+    (one_above (Places (listing_after_step S)) links (once_after found_over put_over field held step-times S.new S.rows S.regs S.loose d u p q)
+    (says_linked (listing_after_step S) S.rows S.regs field held stands_after cells_after (after_shows (listing_after_step S) S.rows S.regs field held r.rows r.regs S.new (λ n. refl) (λ f. refl))))
 
 -- ## New nodes in new nodes
 
@@ -140,7 +140,7 @@ filter-once {A} {K} key p (y ∷ ys) d = go (p y) (filter-once key p ys d.1)
     go true r = (has-all (λ z. key z ≡ key y → ⊥) (filter p ys) (λ z i. all-has (λ z. key z ≡ key y → ⊥) ys z d.0 (filter-has p ys z i).0), r)
     go false r = r
 
-pub new_in_new : (C : Change) → ChangeIsRising C → NodesAreFoundOnce (listed_by_change C) → NodesArePutOnce (listed_by_change C) → PutNodesLeave (listed_by_change C) → NewNodesAreNotFound (listed_by_change C)
+pub new_in_new : (C : Change) → ChangeIsRising C → NodesAreFoundOnce (entries_of_change C) → NodesArePutOnce (entries_of_change C) → PutNodesLeave (entries_of_change C) → NewNodesAreNotFound (entries_of_change C)
     → (HasRing (up_by (filter (are_new (nodes_new C.new)) (links_in stands_after C.rows ++ links_at (λ (r : RegMark). r.field) held_after C.regs))) → ⊥) ↔ NoRingOfNewNodes C
 new_in_new C r d u p q =
     no_ring-leads_up (IsNewInNew C) (up_by (filter (are_new new) links))
@@ -155,8 +155,8 @@ new_in_new C r d u p q =
     links : List Link
     links = links_in stands_after C.rows ++ links_at field held_after C.regs
 
-    shown : (n m : NodeId) → Has links (link m n) ↔ ((s : Spot) × Says (shown_after_change C) n s × (node_of s ≡ Some m))
-    shown = says_linked (shown_after_change C) C.rows C.regs field held_after stands_after cells_after (after_shows (shown_after_change C) C.rows C.regs field held_after r.rows r.regs C.new (λ n. refl) (λ f. refl))
+    shown : (n m : NodeId) → Has links (link m n) ↔ ((s : Spot) × Places (listing_after_change C) n s × (node_of s ≡ Some m))
+    shown = says_linked (listing_after_change C) C.rows C.regs field held_after stands_after cells_after (after_shows (listing_after_change C) C.rows C.regs field held_after r.rows r.regs C.new (λ n. refl) (λ f. refl))
 
     same : (n m : NodeId) → Has (filter (are_new new) links) (link m n) ↔ ((s : Spot) × IsNewInNew C n s × (node_of s ≡ Some m))
     same n m = (

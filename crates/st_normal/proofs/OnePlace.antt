@@ -12,8 +12,9 @@ use Rattle.st_marks.specs.declared.marks.RowMarks.{RowMarks}
 use Rattle.st_marks.specs.Document.{root}
 use Rattle.st_normal.specs.Links.{link, links_in, links_at, stands_after, stands_before}
 use Rattle.st_marks.specs.Row.{CellMark, Counted, Gap, Touch, Make, Fill, spread}
-use Rattle.st_normal.specs.Rules.{Listed, listed_by, found_in, found_loose, incoming, in_rows, NodesAreFoundOnce, NodesArePutOnce, PutNodesLeave, NewNodesAreNotFound, IsFound, IsFoundAs}
-use Rattle.st_marks.specs.Shown.{is_leave, one_or_none}
+use Rattle.st_normal.specs.Rules.{Entries, entries_by, found_in, found_loose, incoming, in_rows, NodesAreFoundOnce, NodesArePutOnce, PutNodesLeave, NewNodesAreNotFound, IsFound, IsFoundAs}
+use Rattle.st_marks.specs.Listings.{one_or_none}
+use Rattle.st_marks.specs.How.{is_leave}
 use Rattle.st_normal.proofs.Counts.{times, times-append, times-all, times-none, has-times, once-times, times-once}
 use Rattle.st_normal.proofs.Linked.{link_node}
 use Rattle.st_marks.proofs.Members.{all-has, append_left, append_right, distinct-has, has-append, map-has}
@@ -89,7 +90,7 @@ module _ {R : Type 0} (found : R → List Found) (put : R → List NodeId) (fiel
   before-times n (Fill c m ∷ ms) = before-times n ms
 
   pub once_before : (held : R → Option NodeId) → ((r : R) (n : NodeId) → times n (one_or_none (held r)) ≤ times n (map found_node (found r))) → (new : List NewNode) (rows : List RowMarks) (regs : List R) (loose : List Loose)
-      → NodesAreFoundOnce (listed_by found put field new rows regs loose) → AreDistinct link_node (links_in stands_before rows ++ links_at field held regs)
+      → NodesAreFoundOnce (entries_by found put field new rows regs loose) → AreDistinct link_node (links_in stands_before rows ++ links_at field held regs)
   once_before held l new rows regs loose d = times-once link_node (links_in stands_before rows ++ links_at field held regs) (λ n.
       let e = ap (times n) (linked_nodes stands_before held rows regs) ∙ times-append n (in_rows stands_before rows) (flat_map (λ r. one_or_none (held r)) regs) in
       let a = times-all n (λ (r : RowMarks). stands_before (spread r.marks)) (λ (r : RowMarks). map found_node (found_in (spread r.marks))) (λ r. []) (λ r. omega (arith, before-times n (spread r.marks))) rows in
@@ -100,7 +101,7 @@ module _ {R : Type 0} (found : R → List Found) (put : R → List NodeId) (fiel
       let i = ap (times n) (map-append found_node (flat_map found regs) (found_loose loose)) in
       let j = ap (times n) (map-all found_node (λ (r : RowMarks). found_in (spread r.marks)) rows) in
       let k = ap (times n) (map-all found_node found regs) in
-      let o = once-times found_node (listed_by found put field new rows regs loose).found d n in
+      let o = once-times found_node (entries_by found put field new rows regs loose).found d n in
       let z = nothing n rows in
       let y = nothing n regs in
       omega (arith, e, a, b, f, g, h, i, j, k, o, z, y))
@@ -126,18 +127,18 @@ module _ {R : Type 0} (found : R → List Found) (put : R → List NodeId) (fiel
   after-times n (Fill c m ∷ ms) = omega (arith, after-times n ms)
 
   -- a node that is put doesn't stay
-  put-leaves : (L : Listed) → NodesAreFoundOnce L → PutNodesLeave L → NewNodesAreNotFound L → (n : NodeId) → Has L.put n → (f : Found) → Has L.found f → f.node ≡ n → is_leave f.how ≡ false → ⊥
+  put-leaves : (L : Entries) → NodesAreFoundOnce L → PutNodesLeave L → NewNodesAreNotFound L → (n : NodeId) → Has L.put n → (f : Found) → Has L.found f → f.node ≡ n → is_leave f.how ≡ false → ⊥
   put-leaves L d p q n h f i e s = elim (all-has (λ (n : NodeId). Has L.new n ⊎ IsFoundAs L n Leave) L.put n p h) [
     | inl a ↦ (all-has (λ (n : NodeId). (n ≢ root) × (IsFound L n → ⊥)) L.new n q a).1 (subst (Has (map found_node L.found)) e (map-has found_node L.found f i))
     | inr j ↦ (let same : f ≡ record { node = n; how = Leave } = distinct-has found_node L.found f (record { node = n; how = Leave }) d i j e in let bad : ◌≡◌ {A = Bool} false true = sym s ∙ ap (λ (f : Found). is_leave f.how) same in cc)
   ]
 
   pub once_after : (held : R → Option NodeId) → ((r : R) (n : NodeId) → times n (one_or_none (held r)) ≤ times n (lasting (found r)) + times n (put r)) → (new : List NewNode) (rows : List RowMarks) (regs : List R) (loose : List Loose)
-      → let L = listed_by found put field new rows regs loose in NodesAreFoundOnce L → NodesArePutOnce L → PutNodesLeave L → NewNodesAreNotFound L → AreDistinct link_node (links_in stands_after rows ++ links_at field held regs)
+      → let L = entries_by found put field new rows regs loose in NodesAreFoundOnce L → NodesArePutOnce L → PutNodesLeave L → NewNodesAreNotFound L → AreDistinct link_node (links_in stands_after rows ++ links_at field held regs)
   once_after held l new rows regs loose d u p q = times-once link_node (links_in stands_after rows ++ links_at field held regs) (λ n. apart n (sum n))
     where
-      L : Listed
-      L = listed_by found put field new rows regs loose
+      L : Entries
+      L = entries_by found put field new rows regs loose
 
       fs : List Found
       fs = in_rows found_in rows ++ flat_map found regs

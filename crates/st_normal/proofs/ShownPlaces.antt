@@ -12,48 +12,49 @@ use Rattle.st_marks.specs.declared.marks.RowMarks.{RowMarks}
 use Rattle.st_marks.specs.Embedding.{is_among}
 use Rattle.st_normal.specs.Links.{stands_after, stands_before}
 use Rattle.st_marks.specs.Row.{CellMark, Counted, Gap, Touch, Make, Fill, spread}
-use Rattle.st_marks.specs.Shown.{Shown, Seen, seen, is_leave, cells_before, cells_after, rows_before, rows_after, registers_after, nodes_new}
+use Rattle.st_marks.specs.Listings.{Listing, CellView, cell_view, cells_before, cells_after, rows_before, rows_after, registers_after, nodes_new}
+use Rattle.st_marks.specs.How.{is_leave}
 use Rattle.st_normal.proofs.Linked.{ShowsListed, has-item_of, item_of-has}
 
 -- ## In one row
 
-not_full : {A : Type 0} {x y : Seen} → Some x ≡ Some y → x.full ≡ false → y.full ≡ true → A
-not_full {x = x} {y = y} e f g = let q : x ≡ y = cc in let bad : ◌≡◌ {A = Bool} false true = sym f ∙ ap (λ (s : Seen). s.full) q ∙ g in cc
+not_full : {A : Type 0} {x y : CellView} → Some x ≡ Some y → x.full ≡ false → y.full ≡ true → A
+not_full {x = x} {y = y} e f g = let q : x ≡ y = cc in let bad : ◌≡◌ {A = Bool} false true = sym f ∙ ap (λ (s : CellView). s.full) q ∙ g in cc
 
-not_named : {A : Type 0} {x y : Seen} (n : NodeId) → Some x ≡ Some y → x.node ≡ None → y.node ≡ Some n → A
-not_named {x = x} {y = y} n e f g = let q : x ≡ y = cc in let bad : None ≡ Some n = sym f ∙ ap (λ (s : Seen). s.node) q ∙ g in cc
+not_named : {A : Type 0} {x y : CellView} (n : NodeId) → Some x ≡ Some y → x.node ≡ None → y.node ≡ Some n → A
+not_named {x = x} {y = y} n e f g = let q : x ≡ y = cc in let bad : None ≡ Some n = sym f ∙ ap (λ (s : CellView). s.node) q ∙ g in cc
 
-same_owner : (x y : Seen) (n m : NodeId) → Some x ≡ Some y → x.node ≡ Some n → y.node ≡ Some m → n ≡ m
-same_owner x y n m e f g = let q : x ≡ y = cc in let r : Some n ≡ Some m = sym f ∙ ap (λ (s : Seen). s.node) q ∙ g in cc
+same_owner : (x y : CellView) (n m : NodeId) → Some x ≡ Some y → x.node ≡ Some n → y.node ≡ Some m → n ≡ m
+same_owner x y n m e f g = let q : x ≡ y = cc in let r : Some n ≡ Some m = sym f ∙ ap (λ (s : CellView). s.node) q ∙ g in cc
 
-pub before_stands : (ms : List CellMark) (k : ℕ) (c : CellId) (m : NodeId) → slice_get (cells_before ms) k ≡ Some (seen c m true) → Has (stands_before ms) m
+pub before_stands : (ms : List CellMark) (k : ℕ) (c : CellId) (m : NodeId) → slice_get (cells_before ms) k ≡ Some (cell_view c m true) → Has (stands_before ms) m
 before_stands [] k c m e = cc
 before_stands (Counted ∷ ms) zero c m e = not_named m e refl refl
 before_stands (Counted ∷ ms) (suc k) c m e = before_stands ms k c m e
 before_stands (Gap d ∷ ms) zero c m e = not_named m e refl refl
 before_stands (Gap d ∷ ms) (suc k) c m e = before_stands ms k c m e
-before_stands (Touch d n h ∷ ms) zero c m e = inl (same_owner (seen d n true) (seen c m true) n m e refl refl)
+before_stands (Touch d n h ∷ ms) zero c m e = inl (same_owner (cell_view d n true) (cell_view c m true) n m e refl refl)
 before_stands (Touch d n h ∷ ms) (suc k) c m e = inr (before_stands ms k c m e)
 before_stands (Make d n b ∷ ms) k c m e = before_stands ms k c m e
 before_stands (Fill d n ∷ ms) zero c m e = not_full e refl refl
 before_stands (Fill d n ∷ ms) (suc k) c m e = before_stands ms k c m e
 
-abbrev pub Stands : List Seen → NodeId → Type 0
-Stands cells m = (k : ℕ) × (c : CellId) × (slice_get cells k ≡ Some (seen c m true))
+abbrev pub Stands : List CellView → NodeId → Type 0
+Stands cells m = (k : ℕ) × (c : CellId) × (slice_get cells k ≡ Some (cell_view c m true))
 
-further : (s : Seen) (cells : List Seen) (m : NodeId) → Stands cells m → Stands (s ∷ cells) m
+further : (s : CellView) (cells : List CellView) (m : NodeId) → Stands cells m → Stands (s ∷ cells) m
 further s cells m (k, c, e) = (suc k, c, e)
 
 pub stands-before : (ms : List CellMark) (m : NodeId) → Has (stands_before ms) m → Stands (cells_before ms) m
 stands-before [] m h = absurd h
 stands-before (Counted ∷ ms) m h = further _ (cells_before ms) m (stands-before ms m h)
 stands-before (Gap d ∷ ms) m h = further _ (cells_before ms) m (stands-before ms m h)
-stands-before (Touch d n h ∷ ms) m (inl e) = (zero, d, ap (λ x. Some (seen d x true)) e)
+stands-before (Touch d n h ∷ ms) m (inl e) = (zero, d, ap (λ x. Some (cell_view d x true)) e)
 stands-before (Touch d n h ∷ ms) m (inr i) = further _ (cells_before ms) m (stands-before ms m i)
 stands-before (Make d n b ∷ ms) m h = stands-before ms m h
 stands-before (Fill d n ∷ ms) m h = further _ (cells_before ms) m (stands-before ms m h)
 
-pub after_stands : (ms : List CellMark) (k : ℕ) (c : CellId) (m : NodeId) → slice_get (cells_after ms) k ≡ Some (seen c m true) → Has (stands_after ms) m
+pub after_stands : (ms : List CellMark) (k : ℕ) (c : CellId) (m : NodeId) → slice_get (cells_after ms) k ≡ Some (cell_view c m true) → Has (stands_after ms) m
 after_stands [] k c m e = cc
 after_stands (Counted ∷ ms) zero c m e = not_named m e refl refl
 after_stands (Counted ∷ ms) (suc k) c m e = after_stands ms k c m e
@@ -63,13 +64,13 @@ after_stands (Touch d n h ∷ ms) zero c m e = go (is_leave h) refl
   where
     go : (b : Bool) → is_leave h ≡ b → Has (if b then stands_after ms else n ∷ stands_after ms) m
     go true f = not_full e (ap not f) refl
-    go false f = inl (same_owner (seen d n (not (is_leave h))) (seen c m true) n m e refl refl)
+    go false f = inl (same_owner (cell_view d n (not (is_leave h))) (cell_view c m true) n m e refl refl)
 after_stands (Touch d n h ∷ ms) (suc k) c m e = elim (is_leave h) as (λ b. Has (if b then stands_after ms else n ∷ stands_after ms) m) [ true ↦ after_stands ms k c m e | false ↦ inr (after_stands ms k c m e) ]
-after_stands (Make d n true ∷ ms) zero c m e = inl (same_owner (seen d n true) (seen c m true) n m e refl refl)
+after_stands (Make d n true ∷ ms) zero c m e = inl (same_owner (cell_view d n true) (cell_view c m true) n m e refl refl)
 after_stands (Make d n true ∷ ms) (suc k) c m e = inr (after_stands ms k c m e)
 after_stands (Make d n false ∷ ms) zero c m e = not_full e refl refl
 after_stands (Make d n false ∷ ms) (suc k) c m e = after_stands ms k c m e
-after_stands (Fill d n ∷ ms) zero c m e = inl (same_owner (seen d n true) (seen c m true) n m e refl refl)
+after_stands (Fill d n ∷ ms) zero c m e = inl (same_owner (cell_view d n true) (cell_view c m true) n m e refl refl)
 after_stands (Fill d n ∷ ms) (suc k) c m e = inr (after_stands ms k c m e)
 
 pub stands-after : (ms : List CellMark) (m : NodeId) → Has (stands_after ms) m → Stands (cells_after ms) m
@@ -78,19 +79,19 @@ stands-after (Counted ∷ ms) m h = further _ (cells_after ms) m (stands-after m
 stands-after (Gap d ∷ ms) m h = further _ (cells_after ms) m (stands-after ms m h)
 stands-after (Touch d n h ∷ ms) m i = go (is_leave h) refl (λ j. stands-after ms m j) i
   where
-    go : (b : Bool) → is_leave h ≡ b → (Has (stands_after ms) m → Stands (cells_after ms) m) → Has (if b then stands_after ms else n ∷ stands_after ms) m → Stands (seen d n (not (is_leave h)) ∷ cells_after ms) m
+    go : (b : Bool) → is_leave h ≡ b → (Has (stands_after ms) m → Stands (cells_after ms) m) → Has (if b then stands_after ms else n ∷ stands_after ms) m → Stands (cell_view d n (not (is_leave h)) ∷ cells_after ms) m
     go true f rest j = further _ (cells_after ms) m (rest j)
-    go false f rest (inl e) = (zero, d, ap (λ b. Some (seen d n (not b))) f ∙ ap (λ x. Some (seen d x true)) e)
+    go false f rest (inl e) = (zero, d, ap (λ b. Some (cell_view d n (not b))) f ∙ ap (λ x. Some (cell_view d x true)) e)
     go false f rest (inr j) = further _ (cells_after ms) m (rest j)
-stands-after (Make d n true ∷ ms) m (inl e) = (zero, d, ap (λ x. Some (seen d x true)) e)
+stands-after (Make d n true ∷ ms) m (inl e) = (zero, d, ap (λ x. Some (cell_view d x true)) e)
 stands-after (Make d n true ∷ ms) m (inr i) = further _ (cells_after ms) m (stands-after ms m i)
 stands-after (Make d n false ∷ ms) m h = further _ (cells_after ms) m (stands-after ms m h)
-stands-after (Fill d n ∷ ms) m (inl e) = (zero, d, ap (λ x. Some (seen d x true)) e)
+stands-after (Fill d n ∷ ms) m (inl e) = (zero, d, ap (λ x. Some (cell_view d x true)) e)
 stands-after (Fill d n ∷ ms) m (inr i) = further _ (cells_after ms) m (stands-after ms m i)
 
 -- ## In all rows and registers
 
-module _ {R : Type 0} (L : Shown) (rows : List RowMarks) (regs : List R) (field : R → FieldId) (held : R → Option NodeId)
+module _ {R : Type 0} (L : Listing) (rows : List RowMarks) (regs : List R) (field : R → FieldId) (held : R → Option NodeId)
     (rows_rise : IsRising node_cmp (λ (r : RowMarks). r.node) rows) (regs_rise : IsRising field_cmp field regs) where
   pub before_shows : ((n : NodeId) → L.row n ≡ rows_before rows n) → ((f : FieldId) → L.register f ≡ option_map held (item_of field_cmp field regs f)) → ShowsListed L rows regs field held stands_before cells_before
   before_shows row register = record {
@@ -102,7 +103,7 @@ module _ {R : Type 0} (L : Shown) (rows : List RowMarks) (regs : List R) (field 
     stands_cell = stands-before;
   }
     where
-      listed : (n : NodeId) (o : Option RowMarks) → item_of node_cmp (λ (r : RowMarks). r.node) rows n ≡ o → (cs : List Seen) → option_map (λ (r : RowMarks). cells_before (spread r.marks)) o ≡ Some cs → (r : RowMarks) × Has rows r × (r.node ≡ n) × (cells_before (spread r.marks) ≡ cs)
+      listed : (n : NodeId) (o : Option RowMarks) → item_of node_cmp (λ (r : RowMarks). r.node) rows n ≡ o → (cs : List CellView) → option_map (λ (r : RowMarks). cells_before (spread r.marks)) o ≡ Some cs → (r : RowMarks) × Has rows r × (r.node ≡ n) × (cells_before (spread r.marks) ≡ cs)
       listed n None q cs e = cc
       listed n (Some r) q cs e = let i = item_of-has node_cmp node_cmp_total node_cmp_exact (λ (r : RowMarks). r.node) rows n r q in (r, i.0, i.1, (let s : cells_before (spread r.marks) ≡ cs = cc in s))
 
@@ -120,8 +121,8 @@ module _ {R : Type 0} (L : Shown) (rows : List RowMarks) (regs : List R) (field 
     stands_cell = stands-after;
   }
     where
-      listed : (n : NodeId) (o : Option RowMarks) → item_of node_cmp (λ (r : RowMarks). r.node) rows n ≡ o → (b : Bool) (m : NodeId) (c : CellId) (cs : List Seen) (k : ℕ) → option_or (option_map (λ (r : RowMarks). cells_after (spread r.marks)) o) (if b then Some [] else None) ≡ Some cs → slice_get cs k ≡ Some (seen c m true) → (r : RowMarks) × Has rows r × (r.node ≡ n) × (cells_after (spread r.marks) ≡ cs)
-      listed n None q true m c cs k e f = let s : cs ≡ [] = cc in let bad : None ≡ Some (seen c m true) = ap (λ xs. slice_get xs k) (sym s) ∙ f in cc
+      listed : (n : NodeId) (o : Option RowMarks) → item_of node_cmp (λ (r : RowMarks). r.node) rows n ≡ o → (b : Bool) (m : NodeId) (c : CellId) (cs : List CellView) (k : ℕ) → option_or (option_map (λ (r : RowMarks). cells_after (spread r.marks)) o) (if b then Some [] else None) ≡ Some cs → slice_get cs k ≡ Some (cell_view c m true) → (r : RowMarks) × Has rows r × (r.node ≡ n) × (cells_after (spread r.marks) ≡ cs)
+      listed n None q true m c cs k e f = let s : cs ≡ [] = cc in let bad : None ≡ Some (cell_view c m true) = ap (λ xs. slice_get xs k) (sym s) ∙ f in cc
       listed n None q false m c cs k e f = cc
       listed n (Some r) q b m c cs k e f = let i = item_of-has node_cmp node_cmp_total node_cmp_exact (λ (r : RowMarks). r.node) rows n r q in (r, i.0, i.1, (let s : cells_after (spread r.marks) ≡ cs = cc in s))
 

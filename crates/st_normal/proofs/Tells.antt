@@ -9,8 +9,9 @@ use Rattle.std.specs.declared.cmp.Ordering.{Ordering}
 use Rattle.std.specs.declared.cmp.Ordering.TheVariants.{Less, Equal, Greater}
 use Rattle.st_ids.proofs.Orders.{same_node-true, same_node-itself, rev_cmp_exact, rev_cmp_total}
 use Rattle.st_normal.specs.declared.entries.Found.{Found}
-use Rattle.st_normal.specs.Rules.{is_stay, staying}
-use Rattle.st_marks.specs.Shown.{Seen}
+use Rattle.st_normal.specs.Rules.{staying}
+use Rattle.st_marks.specs.How.{is_stay}
+use Rattle.st_marks.specs.Listings.{CellView}
 
 -- one fact that follows from another
 pub all-along : {A : Type 0} (P Q : A → Type 0) → ((x : A) → P x → Q x) → (xs : List A) → AllByRecursion P xs → AllByRecursion Q xs
@@ -29,7 +30,7 @@ pub node_same : (a b : NodeId) → IsTrue (same_node a b) ↔ (a ≡ b)
 node_same a b = (same_node-true a b, λ e. subst (λ c. same_node a c ≡ true) e (same_node-itself a))
 
 -- no cells
-pub no_cells : (xs : List Seen) → length xs ≡ 0 → xs ≡ []
+pub no_cells : (xs : List CellView) → length xs ≡ 0 → xs ≡ []
 no_cells [] e = refl
 no_cells (x ∷ xs) e = cc
 

@@ -2,4 +2,4 @@ pub mod Naming
 pub mod Rules
 pub mod Ring
 pub mod Links
-pub mod Walk
+pub mod Scan

@@ -8,25 +8,32 @@ use Rattle.st_marks.specs.declared.marks.RowMarks.{RowMarks}
 use Rattle.st_marks.specs.Embedding.{is_among}
 use Rattle.st_normal.specs.Naming.{is_named}
 use Rattle.st_marks.specs.Row.{CellMark, Counted, Gap, Touch, Make, Fill, spread}
-use Rattle.st_marks.specs.Shown.{is_leave, one_or_none}
+use Rattle.st_marks.specs.Listings.{one_or_none}
+use Rattle.st_marks.specs.How.{is_leave}
+
+-- the node that stands in a cell before
+abbrev pub standing_before_in : CellMark → List NodeId
+standing_before_in Counted = []
+standing_before_in (Gap c) = []
+standing_before_in (Touch c n h) = n ∷ []
+standing_before_in (Make c n b) = []
+standing_before_in (Fill c n) = []
 
 -- the nodes that stand in a row's cells before
 abbrev pub stands_before : List CellMark → List NodeId
-stands_before [] = []
-stands_before (Counted ∷ ms) = stands_before ms
-stands_before (Gap c ∷ ms) = stands_before ms
-stands_before (Touch c n h ∷ ms) = n ∷ stands_before ms
-stands_before (Make c n b ∷ ms) = stands_before ms
-stands_before (Fill c n ∷ ms) = stands_before ms
+stands_before = flat_map standing_before_in
+
+-- the node that stands in a cell after
+abbrev pub standing_after_in : CellMark → List NodeId
+standing_after_in Counted = []
+standing_after_in (Gap c) = []
+standing_after_in (Touch c n h) = if is_leave h then stands_after ms else n ∷ []
+standing_after_in (Make c n b) = if b then n ∷ [] else []
+standing_after_in (Fill c n) = n ∷ []
 
 -- the nodes that stand in a row's cells after
 abbrev pub stands_after : List CellMark → List NodeId
-stands_after [] = []
-stands_after (Counted ∷ ms) = stands_after ms
-stands_after (Gap c ∷ ms) = stands_after ms
-stands_after (Touch c n h ∷ ms) = if is_leave h then stands_after ms else n ∷ stands_after ms
-stands_after (Make c n b ∷ ms) = if b then n ∷ stands_after ms else stands_after ms
-stands_after (Fill c n ∷ ms) = n ∷ stands_after ms
+stands_after = flat_map standing_after_in
 
 -- a node in the row or a register of another
 abbrev pub link : NodeId → NodeId → Link

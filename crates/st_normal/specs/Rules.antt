@@ -26,45 +26,58 @@ use Rattle.st_marks.specs.Embedding.{tells}
 use Rattle.st_marks.specs.Intent.{same_option}
 use Rattle.st_normal.specs.Naming.{is_named}
 use Rattle.st_marks.specs.Row.{CellMark, Counted, Gap, Touch, Make, Fill, merge, spread}
-use Rattle.st_marks.specs.Shown.{Says, cells_after, cells_before, cells_in, cells_made, nodes_new, one_or_none, shown_after_change, shown_after_step, shown_before_change, shown_before_step}
+use Rattle.st_marks.specs.Listings.{Places, cells_after, cells_before, cells_in, cells_made, nodes_new, one_or_none, listing_after_change, listing_after_step, listing_before_change, listing_before_step}
+use Rattle.st_marks.specs.How.{is_stay}
 
 -- ## What is listed
 
+-- the node that a mark finds in a full cell
+abbrev pub found_by : CellMark → List Found
+found_by Counted = []
+found_by (Gap c) = []
+found_by (Touch c n h) = record { node = n; how = h } ∷ []
+found_by (Make c n b) = []
+found_by (Fill c n) = []
+
 -- the nodes that a row's marks find in full cells
 abbrev pub found_in : List CellMark → List Found
-found_in [] = []
-found_in (Counted ∷ ms) = found_in ms
-found_in (Gap c ∷ ms) = found_in ms
-found_in (Touch c n h ∷ ms) = record { node = n; how = h } ∷ found_in ms
-found_in (Make c n b ∷ ms) = found_in ms
-found_in (Fill c n ∷ ms) = found_in ms
+found_in = flat_map found_by
+
+-- the node that comes into a cell
+abbrev pub incoming_by : CellMark → List NodeId
+incoming_by Counted = []
+incoming_by (Gap c) = []
+incoming_by (Touch c n h) = []
+incoming_by (Make c n b) = if b then n ∷ [] else []
+incoming_by (Fill c n) = n ∷ []
 
 -- the nodes that come into a row's cells
 abbrev pub incoming : List CellMark → List NodeId
-incoming [] = []
-incoming (Counted ∷ ms) = incoming ms
-incoming (Gap c ∷ ms) = incoming ms
-incoming (Touch c n h ∷ ms) = incoming ms
-incoming (Make c n b ∷ ms) = if b then n ∷ incoming ms else incoming ms
-incoming (Fill c n ∷ ms) = n ∷ incoming ms
+incoming = flat_map incoming_by
+
+-- the owner of the empty cell that a mark makes
+abbrev pub hole_owner : CellMark → List NodeId
+hole_owner Counted = []
+hole_owner (Gap c) = []
+hole_owner (Touch c n h) = []
+hole_owner (Make c n b) = if b then hole_owners ms else n ∷ []
+hole_owner (Fill c n) = []
 
 -- the owners of the empty cells that a row's marks make
 abbrev pub hole_owners : List CellMark → List NodeId
-hole_owners [] = []
-hole_owners (Counted ∷ ms) = hole_owners ms
-hole_owners (Gap c ∷ ms) = hole_owners ms
-hole_owners (Touch c n h ∷ ms) = hole_owners ms
-hole_owners (Make c n b ∷ ms) = if b then hole_owners ms else n ∷ hole_owners ms
-hole_owners (Fill c n ∷ ms) = hole_owners ms
+hole_owners = flat_map hole_owner
+
+-- the owner of the cell that a mark fills
+abbrev pub fill_owner : CellMark → List NodeId
+fill_owner Counted = []
+fill_owner (Gap c) = []
+fill_owner (Touch c n h) = []
+fill_owner (Make c n b) = []
+fill_owner (Fill c n) = n ∷ []
 
 -- the owners of the cells that a row's marks fill
 abbrev pub fill_owners : List CellMark → List NodeId
-fill_owners [] = []
-fill_owners (Counted ∷ ms) = fill_owners ms
-fill_owners (Gap c ∷ ms) = fill_owners ms
-fill_owners (Touch c n h ∷ ms) = fill_owners ms
-fill_owners (Make c n b ∷ ms) = fill_owners ms
-fill_owners (Fill c n ∷ ms) = n ∷ fill_owners ms
+fill_owners = flat_map fill_owner
 
 -- of all rows
 abbrev pub in_rows : {A : Type 0} → (List CellMark → List A) → List RowMarks → List A
@@ -84,7 +97,7 @@ abbrev pub how_over : RegStep → How
 how_over r = if same_option same_node r.before r.after then Stay else Leave
 
 -- what a change or a step lists, as far as one rule judges both
-pub record Listed : Type 0 where
+pub record Entries : Type 0 where
   -- the nodes that it makes
   pub new : List NodeId
   pub rows : List RowMarks
@@ -96,8 +109,8 @@ pub record Listed : Type 0 where
   pub registers : List FieldId
 
 -- what is listed by new nodes, rows, registers and nodes that are nowhere, where it is known whom a register finds, whom it puts, and which it is
-abbrev pub listed_by : {R : Type 0} → (R → List Found) → (R → List NodeId) → (R → FieldId) → List NewNode → List RowMarks → List R → List Loose → Listed
-listed_by found put field new rows regs loose = record {
+abbrev pub entries_by : {R : Type 0} → (R → List Found) → (R → List NodeId) → (R → FieldId) → List NewNode → List RowMarks → List R → List Loose → Entries
+entries_by found put field new rows regs loose = record {
   new = nodes_new new;
   rows = rows;
   found = in_rows found_in rows ++ (flat_map found regs ++ found_loose loose);
@@ -114,8 +127,8 @@ abbrev pub put_at : RegMark → List NodeId
 put_at r = one_or_none r.fill
 
 -- what a change lists
-abbrev pub listed_by_change : Change → Listed
-listed_by_change C = listed_by found_at put_at (λ r. r.field) C.new C.rows C.regs C.loose
+abbrev pub entries_of_change : Change → Entries
+entries_of_change C = entries_by found_at put_at (λ r. r.field) C.new C.rows C.regs C.loose
 
 -- whom a step finds in a register
 abbrev pub found_over : RegStep → List Found
@@ -126,34 +139,28 @@ abbrev pub put_over : RegStep → List NodeId
 put_over r = if same_option same_node r.before r.after then [] else one_or_none r.after
 
 -- what a step lists
-abbrev pub listed_by_step : Step → Listed
-listed_by_step S = listed_by found_over put_over (λ r. r.field) S.new S.rows S.regs S.loose
+abbrev pub entries_of_step : Step → Entries
+entries_of_step S = entries_by found_over put_over (λ r. r.field) S.new S.rows S.regs S.loose
 
 -- it finds the node
-abbrev pub IsFound : Listed → NodeId → Type 0
+abbrev pub IsFound : Entries → NodeId → Type 0
 IsFound L n = Has (map (λ (f : Found). f.node) L.found) n
 
 -- it finds the node, of which this becomes
-abbrev pub IsFoundAs : Listed → NodeId → How → Type 0
+abbrev pub IsFoundAs : Entries → NodeId → How → Type 0
 IsFoundAs L n h = Has L.found (record { node = n; how = h })
 
 -- what becomes of a node, where it finds it first
-abbrev pub how_found : Listed → NodeId → Option How
+abbrev pub how_found : Entries → NodeId → Option How
 how_found L n = option_map (λ (f : Found). f.how) (find (is_named (λ (f : Found). f.node.0) n.0) L.found)
 
 -- the nodes of listed fields
-abbrev pub fields_of : Listed → List NodeId
+abbrev pub fields_of : Entries → List NodeId
 fields_of L = map (λ (r : RowMarks). r.node) L.rows ++ map (λ (f : FieldId). f.node) L.registers
 
 -- it lists the node's row or a register of the node
-abbrev pub HasListedField : Listed → NodeId → Type 0
+abbrev pub HasListedField : Entries → NodeId → Type 0
 HasListedField L n = Has (fields_of L) n
-
--- whether a node stays where it is found
-abbrev pub is_stay : How → Bool
-is_stay Stay = true
-is_stay Here = false
-is_stay Leave = false
 
 -- the nodes that stay where they are found
 abbrev pub staying : List Found → List NodeId
@@ -163,65 +170,65 @@ staying (f ∷ fs) = if is_stay f.how then f.node ∷ staying fs else staying fs
 -- ## The rules on rows
 
 -- the marks of each row are in normal form: no Skip of 0, and no two side by side
-abbrev pub MarksAreMerged : Listed → Type 0
+abbrev pub MarksAreMerged : Entries → Type 0
 MarksAreMerged L = AllByRecursion (λ (r : RowMarks). r.marks ≡ merge (spread r.marks)) L.rows
 
 -- a row is listed for a cell that is made or filled, or for a node that is found
-abbrev pub RowsTell : Listed → Type 0
+abbrev pub RowsTell : Entries → Type 0
 RowsTell L = AllByRecursion (λ (r : RowMarks). IsTrue (list_any tells (spread r.marks))) L.rows
 
 -- a row lists fewer than 2^32 cells before and after
-abbrev pub RowsAreShort : Listed → Type 0
+abbrev pub RowsAreShort : Entries → Type 0
 RowsAreShort L = AllByRecursion (λ (r : RowMarks). (length (cells_before (spread r.marks)) < 2 ^ 32) × (length (cells_after (spread r.marks)) < 2 ^ 32)) L.rows
 
 -- no cell is listed twice
-abbrev pub CellsAreOnce : Listed → Type 0
+abbrev pub CellsAreOnce : Entries → Type 0
 CellsAreOnce L = AreDistinct (λ c. c) (in_rows cells_in L.rows)
 
 -- the row of a new node has only cells that are made
-abbrev pub NewRowsAreMade : Listed → Type 0
+abbrev pub NewRowsAreMade : Entries → Type 0
 NewRowsAreMade L = AllByRecursion (λ (r : RowMarks). Has L.new r.node → cells_before (spread r.marks) ≡ []) L.rows
 
 -- ## The rules on nodes
 
 -- a node is found once
-abbrev pub NodesAreFoundOnce : Listed → Type 0
+abbrev pub NodesAreFoundOnce : Entries → Type 0
 NodesAreFoundOnce L = AreDistinct (λ (f : Found). f.node) L.found
 
 -- a node is put once
-abbrev pub NodesArePutOnce : Listed → Type 0
+abbrev pub NodesArePutOnce : Entries → Type 0
 NodesArePutOnce L = AreDistinct (λ n. n) L.put
 
 -- a node that is put is new, or leaves the place where it is found
-abbrev pub PutNodesLeave : Listed → Type 0
+abbrev pub PutNodesLeave : Entries → Type 0
 PutNodesLeave L = AllByRecursion (λ (n : NodeId). Has L.new n ⊎ IsFoundAs L n Leave) L.put
 
 -- no new node is found, and the root isn't new
-abbrev pub NewNodesAreNotFound : Listed → Type 0
+abbrev pub NewNodesAreNotFound : Entries → Type 0
 NewNodesAreNotFound L = AllByRecursion (λ (n : NodeId). (n ≢ root) × (IsFound L n → ⊥)) L.new
 
 -- the root is neither found nor put
-abbrev pub RootStays : Listed → Type 0
+abbrev pub RootStays : Entries → Type 0
 RootStays L = (IsFound L root → ⊥) × (Has L.put root → ⊥)
 
 -- a cell that is filled was there before, and so was its owner
-abbrev pub FilledCellsAreOld : Listed → Type 0
+abbrev pub FilledCellsAreOld : Entries → Type 0
 FilledCellsAreOld L = AllByRecursion (λ (n : NodeId). Has L.new n → ⊥) (in_rows fill_owners L.rows)
 
 -- a node that is nowhere leaves only where it is put
-abbrev pub LooseNodesArePut : Listed → List Loose → Type 0
+abbrev pub LooseNodesArePut : Entries → List Loose → Type 0
 LooseNodesArePut L loose = AllByRecursion (λ (l : Loose). l.how ≡ Leave → Has L.put l.node) loose
 
 -- the node of each listed field is the root, new or found
-abbrev pub FieldsAreFound : Listed → Type 0
+abbrev pub FieldsAreFound : Entries → Type 0
 FieldsAreFound L = AllByRecursion (λ (n : NodeId). (n ≡ root) ⊎ Has L.new n ⊎ IsFound L n) (fields_of L)
 
 -- no register has the empty key
-abbrev pub KeysAreThere : Listed → Type 0
+abbrev pub KeysAreThere : Entries → Type 0
 KeysAreThere L = AllByRecursion (λ (f : FieldId). f.key.0 ≢ []) L.registers
 
 -- the rules that changes and steps have in common
-pub record ObeysCommonRules (L : Listed) : Type 0 where
+pub record ObeysCommonRules (L : Entries) : Type 0 where
   pub merged : MarksAreMerged L
   pub tells : RowsTell L
   pub short : RowsAreShort L
@@ -252,7 +259,7 @@ NewNamesHaveItsRevision C = AllByRecursion (λ (m : NewNode). m.node.0.rev ≡ C
 
 -- an empty cell is made for a node that is new, that is set where it is, or that leaves
 abbrev pub HolesHaveMovers : Change → Type 0
-HolesHaveMovers C = AllByRecursion (λ (n : NodeId). Has (nodes_new C.new) n ⊎ IsFoundAs (listed_by_change C) n Here ⊎ IsFoundAs (listed_by_change C) n Leave) (in_rows hole_owners C.rows)
+HolesHaveMovers C = AllByRecursion (λ (n : NodeId). Has (nodes_new C.new) n ⊎ IsFoundAs (entries_of_change C) n Here ⊎ IsFoundAs (entries_of_change C) n Leave) (in_rows hole_owners C.rows)
 
 -- a register that is filled, or whose occupant is set there, is cleared
 abbrev pub FilledRegistersAreCleared : Change → Type 0
@@ -272,7 +279,7 @@ NewRegistersAreEmpty C = AllByRecursion (λ (r : RegMark). Has (nodes_new C.new)
 
 -- a needed node is the root or found
 abbrev pub NeededNodesAreFound : Change → Type 0
-NeededNodesAreFound C = AllByRecursion (λ (n : NodeId). (n ≡ root) ⊎ IsFound (listed_by_change C) n) C.need
+NeededNodesAreFound C = AllByRecursion (λ (n : NodeId). (n ≡ root) ⊎ IsFound (entries_of_change C) n) C.need
 
 -- the occupant of a register that isn't cleared
 abbrev pub kept_at : RegMark → List Found
@@ -281,16 +288,16 @@ kept_at r = if r.clear then [] else found_held r.held r.how
 -- a node that stays is found because it is needed, or because a field of it is listed; but the occupant of a register that is
 -- cleared is found in any case
 abbrev pub StayingNodesAreMentioned : Change → Type 0
-StayingNodesAreMentioned C = AllByRecursion (λ (n : NodeId). Has C.need n ⊎ HasListedField (listed_by_change C) n)
+StayingNodesAreMentioned C = AllByRecursion (λ (n : NodeId). Has C.need n ⊎ HasListedField (entries_of_change C) n)
     (staying (in_rows found_in C.rows ++ (flat_map kept_at C.regs ++ found_loose C.loose)))
 
 -- the places before lead up without a ring
 abbrev pub NoRingBeforeChange : Change → Type 0
-NoRingBeforeChange C = (n : NodeId) → LeadsUp (Says (shown_before_change C)) n n → ⊥
+NoRingBeforeChange C = (n : NodeId) → LeadsUp (Places (listing_before_change C)) n n → ⊥
 
 -- a new node, where the change leaves it inside a new node
 abbrev pub IsNewInNew : Change → NodeId → Spot → Type 0
-IsNewInNew C n s = Has (nodes_new C.new) n × IfSome (node_of s) (Has (nodes_new C.new)) × Says (shown_after_change C) n s
+IsNewInNew C n s = Has (nodes_new C.new) n × IfSome (node_of s) (Has (nodes_new C.new)) × Places (listing_after_change C) n s
 
 -- new nodes inside new nodes form no ring
 abbrev pub NoRingOfNewNodes : Change → Type 0
@@ -302,7 +309,7 @@ OpeningIsBase C = C.under ≡ opening → IsTrue C.base
 
 -- a change of data
 pub record ObeysDataRules (C : Change) : Type 0 where
-  pub common : ObeysCommonRules (listed_by_change C)
+  pub common : ObeysCommonRules (entries_of_change C)
   pub rising : ChangeIsRising C
   pub revision : NewNamesHaveItsRevision C
   pub holes : HolesHaveMovers C
@@ -310,7 +317,7 @@ pub record ObeysDataRules (C : Change) : Type 0 where
   pub registers_fit : RegisterMarksFit C
   pub registers_tell : RegistersTell C
   pub new_registers : NewRegistersAreEmpty C
-  pub loose_put : LooseNodesArePut (listed_by_change C) C.loose
+  pub loose_put : LooseNodesArePut (entries_of_change C) C.loose
   pub needed : NeededNodesAreFound C
   pub mentioned : StayingNodesAreMentioned C
   pub no_ring : NoRingBeforeChange C
@@ -338,7 +345,7 @@ pub record StepIsRising (S : Step) : Type 0 where
 
 -- no node is set where it is: a step says only where nodes stand
 abbrev pub NothingIsSetHere : Step → Type 0
-NothingIsSetHere S = AllByRecursion (λ (f : Found). f.how ≢ Here) (listed_by_step S).found
+NothingIsSetHere S = AllByRecursion (λ (f : Found). f.how ≢ Here) (entries_of_step S).found
 
 -- a register is listed because its occupant differs, or for its occupant
 abbrev pub RegistersTellOver : Step → Type 0
@@ -350,12 +357,12 @@ NewRegistersAreEmptyBefore S = AllByRecursion (λ (r : RegStep). Has (nodes_new 
 
 -- a node that stays is found because a field of it is listed
 abbrev pub StayingNodesLeadOn : Step → Type 0
-StayingNodesLeadOn S = AllByRecursion (HasListedField (listed_by_step S)) (staying (listed_by_step S).found)
+StayingNodesLeadOn S = AllByRecursion (HasListedField (entries_of_step S)) (staying (entries_of_step S).found)
 
 -- the places before and after lead up without a ring
 pub record NoRingOverStep (S : Step) : Type 0 where
-  pub before : (n : NodeId) → LeadsUp (Says (shown_before_step S)) n n → ⊥
-  pub after : (n : NodeId) → LeadsUp (Says (shown_after_step S)) n n → ⊥
+  pub before : (n : NodeId) → LeadsUp (Places (listing_before_step S)) n n → ⊥
+  pub after : (n : NodeId) → LeadsUp (Places (listing_after_step S)) n n → ⊥
 
 -- entries of which each revision is there once, none the opening's and none the given one
 pub record AreEntriesBehind (on : Rev) (entries : List SchemaEntry) : Type 0 where
@@ -370,12 +377,12 @@ pub record SchemaStepFits (s : SchemaStep) : Type 0 where
 
 -- the rules of normal form of a step
 pub record ObeysStepRules (S : Step) : Type 0 where
-  pub common : ObeysCommonRules (listed_by_step S)
+  pub common : ObeysCommonRules (entries_of_step S)
   pub rising : StepIsRising S
   pub set_nowhere : NothingIsSetHere S
   pub registers_tell : RegistersTellOver S
   pub new_registers : NewRegistersAreEmptyBefore S
-  pub loose_put : LooseNodesArePut (listed_by_step S) S.loose
+  pub loose_put : LooseNodesArePut (entries_of_step S) S.loose
   pub mentioned : StayingNodesLeadOn S
   pub no_ring : NoRingOverStep S
   pub schema : IfSome S.schema SchemaStepFits

@@ -1,6 +1,6 @@
 //! Whether a change is in normal form.
 ghost use Rattle.std.specs.Prelude.{◌≡◌, ◌↔◌, [], IsTrue, MatchResult};
-ghost use Rattle.st_normal.specs.Rules.{ChangeIsRising, FilledRegistersAreCleared, HolesHaveMovers, LooseNodesArePut, NeededNodesAreFound, NewNamesHaveItsRevision, NewNodesAreNotFound, NewRegistersAreEmpty, NoRingBeforeChange, NoRingOfNewNodes, NodesAreFoundOnce, NodesArePutOnce, ObeysChangeRules, ObeysCommonRules, ObeysDataRules, ObeysSchemaRules, OpeningIsBase, PutNodesLeave, RegisterMarksFit, RegistersTell, StayingNodesAreMentioned, listed_by_change};
+ghost use Rattle.st_normal.specs.Rules.{ChangeIsRising, FilledRegistersAreCleared, HolesHaveMovers, LooseNodesArePut, NeededNodesAreFound, NewNamesHaveItsRevision, NewNodesAreNotFound, NewRegistersAreEmpty, NoRingBeforeChange, NoRingOfNewNodes, NodesAreFoundOnce, NodesArePutOnce, ObeysChangeRules, ObeysCommonRules, ObeysDataRules, ObeysSchemaRules, OpeningIsBase, PutNodesLeave, RegisterMarksFit, RegistersTell, StayingNodesAreMentioned, entries_of_change};
 
 use crate::change_rules::{
     CellHasRevision, FilledIsCleared, IsMentioned, IsThere, MarkFits, MarkTells, NewHasRevision,
@@ -43,7 +43,7 @@ fn names_have_revision(change: &Change) -> bool
 
 // Whether the owners of empty cells that are made are new, are set where they are, or leave.
 fn holes_have_movers(look: &Look<OfChange<'_>>) -> bool
-    ensures { NodesAreFoundOnce (listed_by_change look.now.lists.0.now) → (IsTrue result ↔ HolesHaveMovers look.now.lists.0.now) }
+    ensures { NodesAreFoundOnce (entries_of_change look.now.lists.0.now) → (IsTrue result ↔ HolesHaveMovers look.now.lists.0.now) }
 {
     let rows = look.lists.0.rows.as_slice();
     each(in_rows(rows, HoleOwners), &Moves(look))
@@ -103,14 +103,14 @@ fn staying_are_mentioned(alloc: Global, look: &Look<OfChange<'_>>) -> bool
 
 // Whether the places before lead up without a ring.
 fn no_ring_before(alloc: Global, change: &Change) -> bool
-    ensures { ChangeIsRising change.now → NodesAreFoundOnce (listed_by_change change.now) → (IsTrue result ↔ NoRingBeforeChange change.now) }
+    ensures { ChangeIsRising change.now → NodesAreFoundOnce (entries_of_change change.now) → (IsTrue result ↔ NoRingBeforeChange change.now) }
 {
     !ring_before(alloc, change.rows.as_slice(), change.regs.as_slice())
 }
 
 // Whether new nodes inside new nodes form no ring.
 fn no_new_ring(alloc: Global, look: &Look<OfChange<'_>>) -> bool
-    ensures { let C = look.now.lists.0.now in let L = listed_by_change C in ChangeIsRising C → NodesAreFoundOnce L → NodesArePutOnce L → PutNodesLeave L → NewNodesAreNotFound L → (IsTrue result ↔ NoRingOfNewNodes C) }
+    ensures { let C = look.now.lists.0.now in let L = entries_of_change C in ChangeIsRising C → NodesAreFoundOnce L → NodesArePutOnce L → PutNodesLeave L → NewNodesAreNotFound L → (IsTrue result ↔ NoRingOfNewNodes C) }
 {
     let change = look.lists.0;
     !ring_of_new(alloc, look, change.rows.as_slice(), change.regs.as_slice())
@@ -155,7 +155,7 @@ fn own_rules_hold(change: &Change) -> bool
 
 // Whether the rules hold that look nodes up.
 fn nodes_are_right(alloc: Global, look: &Look<OfChange<'_>>) -> bool
-    ensures { let C = look.now.lists.0.now in NodesAreFoundOnce (listed_by_change C) → (IsTrue result ↔ (HolesHaveMovers C × NewRegistersAreEmpty C × LooseNodesArePut (listed_by_change C) C.loose × NeededNodesAreFound C × StayingNodesAreMentioned C)) }
+    ensures { let C = look.now.lists.0.now in NodesAreFoundOnce (entries_of_change C) → (IsTrue result ↔ (HolesHaveMovers C × NewRegistersAreEmpty C × LooseNodesArePut (entries_of_change C) C.loose × NeededNodesAreFound C × StayingNodesAreMentioned C)) }
 {
     holes_have_movers(look)
         && new_are_empty(look)
@@ -166,7 +166,7 @@ fn nodes_are_right(alloc: Global, look: &Look<OfChange<'_>>) -> bool
 
 // Whether the rules on rings hold.
 fn has_no_ring(alloc: Global, look: &Look<OfChange<'_>>) -> bool
-    ensures { let C = look.now.lists.0.now in ChangeIsRising C → ObeysCommonRules (listed_by_change C) → (IsTrue result ↔ (NoRingBeforeChange C × NoRingOfNewNodes C)) }
+    ensures { let C = look.now.lists.0.now in ChangeIsRising C → ObeysCommonRules (entries_of_change C) → (IsTrue result ↔ (NoRingBeforeChange C × NoRingOfNewNodes C)) }
 {
     no_ring_before(alloc, look.lists.0) && no_new_ring(alloc, look)
 }

@@ -3,12 +3,13 @@ ghost use Rattle.std.specs.Prelude.{◌≡◌, ◌≢◌, ◌⊎◌, ◌↔◌, 
 ghost use Rattle.st_ids.specs.Listing.{Has};
 ghost use Rattle.st_ids.specs.declared.names.NodeId.{NodeId as Node};
 ghost use Rattle.st_marks.specs.Document.{root};
-ghost use Rattle.st_normal.specs.Rules.{HasListedField, IsFound, is_stay};
+ghost use Rattle.st_normal.specs.Rules.{HasListedField, IsFound};
+ghost use Rattle.st_marks.specs.How.{is_stay};
 ghost use Rattle.st_marks.specs.declared.marks.How.TheVariants.{Here as HereMark, Stay as StayMark};
 
 use crate::entries::Found;
 use crate::index::Index;
-use crate::listing::Lists;
+use crate::listing::HasEntries;
 use crate::lookup::Look;
 use crate::rules::{is_rev, is_root};
 use crate::scan::{Rule, Walk};
@@ -112,9 +113,9 @@ impl Rule for MarkTells {
 
 /// A register of a new node holds nothing before.
 #[derive(Drop)]
-pub struct NewRegister<'a, L: Lists>(pub &'a Look<L>);
+pub struct NewRegister<'a, L: HasEntries>(pub &'a Look<L>);
 
-impl<'a, L: Lists> Rule for NewRegister<'a, L> {
+impl<'a, L: HasEntries> Rule for NewRegister<'a, L> {
     type Item = RegMark;
 
     ghost Holds = { λ s r. Has (L.listed s.0.now.lists).new r.field.node → r.held ≡ None };
@@ -126,9 +127,9 @@ impl<'a, L: Lists> Rule for NewRegister<'a, L> {
 
 /// A node is the root or found.
 #[derive(Drop)]
-pub struct IsThere<'a, L: Lists>(pub &'a Look<L>);
+pub struct IsThere<'a, L: HasEntries>(pub &'a Look<L>);
 
-impl<'a, L: Lists> Rule for IsThere<'a, L> {
+impl<'a, L: HasEntries> Rule for IsThere<'a, L> {
     type Item = NodeId;
 
     ghost Holds = { λ s n. (n ≡ root) ⊎ IsFound (L.listed s.0.now.lists) n };
@@ -140,12 +141,12 @@ impl<'a, L: Lists> Rule for IsThere<'a, L> {
 
 /// A node that stays is needed, or a field of it is listed.
 #[derive(Drop)]
-pub struct IsMentioned<'a, L: Lists, W: Walk<Item = NodeId>> {
+pub struct IsMentioned<'a, L: HasEntries, W: Walk<Item = NodeId>> {
     pub look: &'a Look<L>,
     pub need: &'a Index<NodeId, W>,
 }
 
-impl<'a, L: Lists, W: Walk<Item = NodeId>> Rule for IsMentioned<'a, L, W> {
+impl<'a, L: HasEntries, W: Walk<Item = NodeId>> Rule for IsMentioned<'a, L, W> {
     type Item = Found;
 
     ghost Holds = { λ s f. IsTrue (is_stay f.how) → Has (W.left s.need.now.walk) f.node ⊎ HasListedField (L.listed s.look.now.lists) f.node };

@@ -4,7 +4,7 @@ ghost use Rattle.std.specs.List.{flat_map};
 ghost use Rattle.st_ids.specs.declared.names.FieldId.{FieldId as Field};
 ghost use Rattle.st_marks.specs.Row.{spread};
 ghost use Rattle.st_normal.specs.Rules.{found_in, found_loose, incoming, kept_at, hole_owners, fill_owners};
-ghost use Rattle.st_marks.specs.Shown.{cells_in, cells_made, nodes_new};
+ghost use Rattle.st_marks.specs.Listings.{cells_in, cells_made, nodes_new};
 ghost use Rattle.st_marks.specs.declared.marks.RowMarks.{RowMarks as Row};
 ghost use Rattle.st_marks.specs.declared.schemas.SchemaEntry.{SchemaEntry as Entry};
 

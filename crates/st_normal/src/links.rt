@@ -8,7 +8,7 @@ ghost use Rattle.st_normal.specs.declared.entries.Link.{Link as Linked};
 
 use crate::entries::Link;
 use crate::index::{Index, Named};
-use crate::listing::Lists;
+use crate::listing::HasEntries;
 use crate::lookup::Look;
 use crate::registers::Register;
 use crate::rings::{Hangs, has_ring};
@@ -145,7 +145,7 @@ pub fn stand_in_ring<W: Walk<Item = Link>>(alloc: Global, walk: W) -> bool
 }
 
 // Whether a node is new, and the one above it too.
-fn is_new_in_new<L: Lists>(look: &Look<L>, link: Link) -> bool
+fn is_new_in_new<L: HasEntries>(look: &Look<L>, link: Link) -> bool
     ensures { IsTrue result ↔ IsTrue (are_new (L.listed look.now.lists).new link) }
 {
     look.is_new(link.node) && look.is_new(link.up)
@@ -153,12 +153,12 @@ fn is_new_in_new<L: Lists>(look: &Look<L>, link: Link) -> bool
 
 /// New nodes as they stand in new nodes.
 #[derive_where(Clone, Copy; W)]
-struct NewInNew<'a, L: Lists, W> {
+struct NewInNew<'a, L: HasEntries, W> {
     walk: W,
     look: &'a Look<L>,
 }
 
-impl<'a, L: Lists, W: Walk<Item = Link>> Walk for NewInNew<'a, L, W> {
+impl<'a, L: HasEntries, W: Walk<Item = Link>> Walk for NewInNew<'a, L, W> {
     type Item = Link;
 
     ghost left = { λ s. filter (are_new (L.listed s.look.now.lists).new) (W.left s.walk) };
@@ -204,7 +204,7 @@ pub fn ring_after<G: Register>(alloc: Global, rows: &[RowMarks], regs: &[G]) -> 
 }
 
 /// Whether new nodes stand in new nodes in a ring.
-pub fn ring_of_new<L: Lists, G: Register>(
+pub fn ring_of_new<L: HasEntries, G: Register>(
     alloc: Global,
     look: &Look<L>,
     rows: &[RowMarks],

@@ -2,7 +2,7 @@
 ghost use Rattle.std.specs.Prelude.{◌≡◌, ◌≢◌, ◌↔◌, ◌++◌, [], IsTrue, map};
 ghost use Rattle.std.specs.List.{AllByRecursion, flat_map};
 ghost use Rattle.st_ids.specs.declared.names.FieldId.{FieldId as Field};
-ghost use Rattle.st_normal.specs.Rules.{KeysAreThere, Listed, fields_of, found_in, found_loose, in_rows, incoming, listed_by_change, listed_by_step};
+ghost use Rattle.st_normal.specs.Rules.{KeysAreThere, Entries, fields_of, found_in, found_loose, in_rows, incoming, entries_of_change, entries_of_step};
 ghost use Rattle.st_marks.specs.declared.marks.RowMarks.{RowMarks as Row};
 
 use crate::entries::Found;
@@ -14,7 +14,7 @@ use st_marks::{Change, Loose, NewNode, RegMark, RegStep, RowMarks, Step};
 use std::marker::PhantomData;
 
 /// What lists nodes.
-pub trait Lists: Copy {
+pub trait HasEntries: Copy {
     type Fresh: Walk<Item = NodeId>;
 
     type Finds: Walk<Item = Found>;
@@ -23,7 +23,7 @@ pub trait Lists: Copy {
 
     type Fields: Walk<Item = NodeId>;
 
-    ghost listed: { Self → Listed };
+    ghost listed: { Self → Entries };
 
     /// The nodes that it makes.
     fn fresh(&self) -> Self::Fresh
@@ -146,7 +146,7 @@ fn fields_in<'a, G: Register + 'static>(rows: &'a [RowMarks], regs: &'a [G]) -> 
 #[derive(Clone, Copy)]
 pub struct OfChange<'a>(pub &'a Change);
 
-impl<'a> Lists for OfChange<'a> {
+impl<'a> HasEntries for OfChange<'a> {
     type Fresh = Along<'a, NewNode, Fresh>;
 
     type Finds = Finds<'a, RegMark>;
@@ -155,7 +155,7 @@ impl<'a> Lists for OfChange<'a> {
 
     type Fields = Fields<'a, RegMark>;
 
-    ghost listed = { λ s. listed_by_change s.0.now };
+    ghost listed = { λ s. entries_of_change s.0.now };
 
     fn fresh(&self) -> Along<'a, NewNode, Fresh> {
         Along {
@@ -193,7 +193,7 @@ impl<'a> Lists for OfChange<'a> {
 #[derive(Clone, Copy)]
 pub struct OfStep<'a>(pub &'a Step);
 
-impl<'a> Lists for OfStep<'a> {
+impl<'a> HasEntries for OfStep<'a> {
     type Fresh = Along<'a, NewNode, Fresh>;
 
     type Finds = Finds<'a, RegStep>;
@@ -202,7 +202,7 @@ impl<'a> Lists for OfStep<'a> {
 
     type Fields = Fields<'a, RegStep>;
 
-    ghost listed = { λ s. listed_by_step s.0.now };
+    ghost listed = { λ s. entries_of_step s.0.now };
 
     fn fresh(&self) -> Along<'a, NewNode, Fresh> {
         Along {

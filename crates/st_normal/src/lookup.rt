@@ -5,14 +5,14 @@ ghost use Rattle.st_normal.specs.Rules.{HasListedField, IsFound, NodesAreFoundOn
 
 use crate::entries::Found;
 use crate::index::{Index, Named};
-use crate::listing::Lists;
+use crate::listing::HasEntries;
 use st_ids::NodeId;
 use st_marks::How;
 use std::alloc::Global;
 
 /// What is listed, by its names.
 #[derive(Drop)]
-pub struct Look<L: Lists> {
+pub struct Look<L: HasEntries> {
     pub lists: L,
     pub found_once: bool,
     pub put_once: bool,
@@ -26,7 +26,7 @@ pub struct Look<L: Lists> {
     ghost of_fields: { L.Fields.left fields.walk ≡ fields_of (L.listed lists) },
 }
 
-impl<L: Lists> Look<L> {
+impl<L: HasEntries> Look<L> {
     /// All that is listed.
     pub fn of(alloc: Global, lists: L) -> Self
         ensures lists { result.lists ≡ lists }

@@ -5,7 +5,7 @@ ghost use Rattle.st_ids.specs.declared.names.NodeId.{NodeId as Node};
 ghost use Rattle.st_ids.specs.Order.{same_node};
 ghost use Rattle.st_marks.specs.Intent.{same_option};
 ghost use Rattle.st_normal.specs.Rules.{found_at, found_over, put_at, put_over};
-ghost use Rattle.st_marks.specs.Shown.{held_after};
+ghost use Rattle.st_marks.specs.Listings.{held_after};
 ghost use Rattle.st_normal.specs.declared.entries.Found.{Found as FoundNode};
 
 use crate::entries::Found;

@@ -4,7 +4,7 @@ ghost use Rattle.std.specs.List.{list_any};
 ghost use Rattle.st_marks.specs.declared.marks.Mark.{Mark as Marked};
 ghost use Rattle.st_marks.specs.Embedding.{tells};
 ghost use Rattle.st_marks.specs.Row.{merge, spread};
-ghost use Rattle.st_marks.specs.Shown.{cells_after, cells_before};
+ghost use Rattle.st_marks.specs.Listings.{cells_after, cells_before};
 
 use crate::scan::Rule;
 use st_marks::{Mark, RowMarks, after, before};

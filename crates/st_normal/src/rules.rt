@@ -5,10 +5,10 @@ ghost use Rattle.st_ids.specs.declared.names.NodeId.{NodeId as Node};
 ghost use Rattle.st_marks.specs.Document.{root};
 ghost use Rattle.st_marks.specs.Row.{spread};
 ghost use Rattle.st_normal.specs.Rules.{IsFound, how_found};
-ghost use Rattle.st_marks.specs.Shown.{cells_before};
+ghost use Rattle.st_marks.specs.Listings.{cells_before};
 ghost use Rattle.st_marks.specs.declared.marks.How.TheVariants.{Here as HereMark, Leave as LeaveMark};
 
-use crate::listing::Lists;
+use crate::listing::HasEntries;
 use crate::lookup::Look;
 use crate::scan::Rule;
 use st_ids::{Atom, NodeId, Rev, rev_order};
@@ -32,14 +32,14 @@ pub fn is_root(node: NodeId) -> bool
 }
 
 // Whether a node leaves the place where it is found.
-fn is_leaving<L: Lists>(look: &Look<L>, node: NodeId) -> bool
+fn is_leaving<L: HasEntries>(look: &Look<L>, node: NodeId) -> bool
     ensures { IsTrue result ↔ (how_found (L.listed look.now.lists) node ≡ Some LeaveMark) }
 {
     matches!(look.how(node), Some(How::Leave))
 }
 
 // Whether a node is set where it is found.
-fn is_set<L: Lists>(look: &Look<L>, node: NodeId) -> bool
+fn is_set<L: HasEntries>(look: &Look<L>, node: NodeId) -> bool
     ensures { IsTrue result ↔ (how_found (L.listed look.now.lists) node ≡ Some HereMark) }
 {
     matches!(look.how(node), Some(How::Here))
@@ -47,9 +47,9 @@ fn is_set<L: Lists>(look: &Look<L>, node: NodeId) -> bool
 
 /// A node is new, or leaves the place where it is found.
 #[derive(Drop)]
-pub struct ComesIn<'a, L: Lists>(pub &'a Look<L>);
+pub struct ComesIn<'a, L: HasEntries>(pub &'a Look<L>);
 
-impl<'a, L: Lists> Rule for ComesIn<'a, L> {
+impl<'a, L: HasEntries> Rule for ComesIn<'a, L> {
     type Item = NodeId;
 
     ghost Holds = { λ s n. Has (L.listed s.0.now.lists).new n ⊎ (how_found (L.listed s.0.now.lists) n ≡ Some LeaveMark) };
@@ -61,9 +61,9 @@ impl<'a, L: Lists> Rule for ComesIn<'a, L> {
 
 /// A node is new, is set where it is found, or leaves there.
 #[derive(Drop)]
-pub struct Moves<'a, L: Lists>(pub &'a Look<L>);
+pub struct Moves<'a, L: HasEntries>(pub &'a Look<L>);
 
-impl<'a, L: Lists> Rule for Moves<'a, L> {
+impl<'a, L: HasEntries> Rule for Moves<'a, L> {
     type Item = NodeId;
 
     ghost Holds = { λ s n. Has (L.listed s.0.now.lists).new n ⊎ (how_found (L.listed s.0.now.lists) n ≡ Some HereMark) ⊎ (how_found (L.listed s.0.now.lists) n ≡ Some LeaveMark) };
@@ -75,9 +75,9 @@ impl<'a, L: Lists> Rule for Moves<'a, L> {
 
 /// A node isn't the root and isn't found.
 #[derive(Drop)]
-pub struct IsUnknown<'a, L: Lists>(pub &'a Look<L>);
+pub struct IsUnknown<'a, L: HasEntries>(pub &'a Look<L>);
 
-impl<'a, L: Lists> Rule for IsUnknown<'a, L> {
+impl<'a, L: HasEntries> Rule for IsUnknown<'a, L> {
     type Item = NodeId;
 
     ghost Holds = { λ s n. (n ≢ root) × (IsFound (L.listed s.0.now.lists) n → ⊥) };
@@ -89,9 +89,9 @@ impl<'a, L: Lists> Rule for IsUnknown<'a, L> {
 
 /// A node isn't new.
 #[derive(Drop)]
-pub struct IsOld<'a, L: Lists>(pub &'a Look<L>);
+pub struct IsOld<'a, L: HasEntries>(pub &'a Look<L>);
 
-impl<'a, L: Lists> Rule for IsOld<'a, L> {
+impl<'a, L: HasEntries> Rule for IsOld<'a, L> {
     type Item = NodeId;
 
     ghost Holds = { λ s n. Has (L.listed s.0.now.lists).new n → ⊥ };
@@ -103,9 +103,9 @@ impl<'a, L: Lists> Rule for IsOld<'a, L> {
 
 /// A node is the root, new or found.
 #[derive(Drop)]
-pub struct IsKnown<'a, L: Lists>(pub &'a Look<L>);
+pub struct IsKnown<'a, L: HasEntries>(pub &'a Look<L>);
 
-impl<'a, L: Lists> Rule for IsKnown<'a, L> {
+impl<'a, L: HasEntries> Rule for IsKnown<'a, L> {
     type Item = NodeId;
 
     ghost Holds = { λ s n. (n ≡ root) ⊎ Has (L.listed s.0.now.lists).new n ⊎ IsFound (L.listed s.0.now.lists) n };
@@ -117,10 +117,10 @@ impl<'a, L: Lists> Rule for IsKnown<'a, L> {
 
 /// The row of a new node has no cells before.
 #[derive(Drop)]
-pub struct NewRow<'a, L: Lists>(pub &'a Look<L>);
+pub struct NewRow<'a, L: HasEntries>(pub &'a Look<L>);
 
 #[tactic(auto, using(crate::proofs::Tells::no_cells))]
-impl<'a, L: Lists> Rule for NewRow<'a, L> {
+impl<'a, L: HasEntries> Rule for NewRow<'a, L> {
     type Item = RowMarks;
 
     ghost Holds = { λ s r. Has (L.listed s.0.now.lists).new r.node → cells_before (spread r.marks) ≡ [] };
@@ -132,9 +132,9 @@ impl<'a, L: Lists> Rule for NewRow<'a, L> {
 
 /// A node that leaves from nowhere is put.
 #[derive(Drop)]
-pub struct LeavesFromNowhere<'a, L: Lists>(pub &'a Look<L>);
+pub struct LeavesFromNowhere<'a, L: HasEntries>(pub &'a Look<L>);
 
-impl<'a, L: Lists> Rule for LeavesFromNowhere<'a, L> {
+impl<'a, L: HasEntries> Rule for LeavesFromNowhere<'a, L> {
     type Item = Loose;
 
     ghost Holds = { λ s l. l.how ≡ LeaveMark → Has (L.listed s.0.now.lists).put l.node };

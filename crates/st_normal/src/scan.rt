@@ -3,7 +3,7 @@ ghost use Rattle.std.specs.Prelude.{◌≡◌, List, [], ◌∷◌, ◌↔◌, �
 ghost use Rattle.std.specs.List.{AllByRecursion, flat_map};
 ghost use Rattle.st_ids.specs.declared.names.NodeId.{NodeId as Node};
 ghost use Rattle.st_marks.specs.declared.marks.Mark.{Mark as Marked};
-ghost use Rattle.st_normal.specs.Walk.{IsNext};
+ghost use Rattle.st_normal.specs.Scan.{TakesFirst};
 
 use crate::rules::ROOT;
 use st_ids::NodeId;
@@ -17,7 +17,7 @@ pub trait Walk: Copy {
 
     /// The next thing.
     fn step(&mut self) -> Option<Self::Item>
-        ensures { IsNext result (left self.old) (left self.new) };
+        ensures { TakesFirst result (left self.old) (left self.new) };
 }
 
 /// What may be asked of a thing.
@@ -138,7 +138,7 @@ pub struct InRows<'a, P> {
 impl<'a, P: InRow> InRows<'a, P> {
     // The next thing of the row.
     fn in_row(&mut self) -> Option<P::Item>
-        ensures next { IsNext result (P.of self.old.row self.old.marks.now) (P.of self.new.row self.new.marks.now) }
+        ensures next { TakesFirst result (P.of self.old.row self.old.marks.now) (P.of self.new.row self.new.marks.now) }
         ensures rows { self.new.rows ≡ self.old.rows }
     {
         while let [first, rest @ ..] = self.marks {

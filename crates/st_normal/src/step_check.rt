@@ -4,14 +4,14 @@ ghost use Rattle.st_ids.specs.Listing.{AreDistinct};
 ghost use Rattle.st_ids.specs.declared.names.NodeId.{NodeId as Node};
 ghost use Rattle.st_marks.specs.Agree.{LeadsUp};
 ghost use Rattle.st_marks.specs.Document.{first_of, opening};
-ghost use Rattle.st_normal.specs.Rules.{AreEntriesBehind, LooseNodesArePut, NewNodesAreNotFound, NewRegistersAreEmptyBefore, NoRingOverStep, NodesAreFoundOnce, NodesArePutOnce, NothingIsSetHere, ObeysCommonRules, ObeysStepRules, PutNodesLeave, RegistersTellOver, SchemaStepFits, StayingNodesLeadOn, StepIsRising, listed_by_step};
-ghost use Rattle.st_marks.specs.Shown.{Says, shown_after_step, shown_before_step};
+ghost use Rattle.st_normal.specs.Rules.{AreEntriesBehind, LooseNodesArePut, NewNodesAreNotFound, NewRegistersAreEmptyBefore, NoRingOverStep, NodesAreFoundOnce, NodesArePutOnce, NothingIsSetHere, ObeysCommonRules, ObeysStepRules, PutNodesLeave, RegistersTellOver, SchemaStepFits, StayingNodesLeadOn, StepIsRising, entries_of_step};
+ghost use Rattle.st_marks.specs.Listings.{Places, listing_after_step, listing_before_step};
 ghost use Rattle.st_marks.specs.declared.schemas.SchemaEntry.{SchemaEntry as Entry};
 
 use crate::extract::RevOf;
 use crate::index::Index;
 use crate::links::{ring_after, ring_before};
-use crate::listing::{Lists, OfStep};
+use crate::listing::{HasEntries, OfStep};
 use crate::lookup::Look;
 use crate::normal::{Check, NotNormal};
 use crate::rising::{ByField, ByNode, rises};
@@ -63,21 +63,21 @@ fn staying_lead_on(look: &Look<OfStep<'_>>) -> bool
 
 // Whether the places before lead up without a ring.
 fn no_ring_before(alloc: Global, step: &Step) -> bool
-    ensures { StepIsRising step.now → NodesAreFoundOnce (listed_by_step step.now) → (IsTrue result ↔ ((n : Node) → LeadsUp (Says (shown_before_step step.now)) n n → ⊥)) }
+    ensures { StepIsRising step.now → NodesAreFoundOnce (entries_of_step step.now) → (IsTrue result ↔ ((n : Node) → LeadsUp (Places (listing_before_step step.now)) n n → ⊥)) }
 {
     !ring_before(alloc, step.rows.as_slice(), step.regs.as_slice())
 }
 
 // Whether the places after lead up without a ring.
 fn no_ring_after(alloc: Global, step: &Step) -> bool
-    ensures { let L = listed_by_step step.now in StepIsRising step.now → NodesAreFoundOnce L → NodesArePutOnce L → PutNodesLeave L → NewNodesAreNotFound L → (IsTrue result ↔ ((n : Node) → LeadsUp (Says (shown_after_step step.now)) n n → ⊥)) }
+    ensures { let L = entries_of_step step.now in StepIsRising step.now → NodesAreFoundOnce L → NodesArePutOnce L → PutNodesLeave L → NewNodesAreNotFound L → (IsTrue result ↔ ((n : Node) → LeadsUp (Places (listing_after_step step.now)) n n → ⊥)) }
 {
     !ring_after(alloc, step.rows.as_slice(), step.regs.as_slice())
 }
 
 // Whether the places before and after lead up without a ring.
 fn has_no_ring(alloc: Global, step: &Step) -> bool
-    ensures { StepIsRising step.now → ObeysCommonRules (listed_by_step step.now) → (IsTrue result ↔ NoRingOverStep step.now) }
+    ensures { StepIsRising step.now → ObeysCommonRules (entries_of_step step.now) → (IsTrue result ↔ NoRingOverStep step.now) }
 {
     no_ring_before(alloc, step) && no_ring_after(alloc, step)
 }
@@ -162,7 +162,7 @@ fn own_rules_hold(step: &Step) -> bool
 
 // Whether the rules hold that look nodes up.
 fn nodes_are_right(look: &Look<OfStep<'_>>) -> bool
-    ensures { let S = look.now.lists.0.now in IsTrue result ↔ (NothingIsSetHere S × NewRegistersAreEmptyBefore S × LooseNodesArePut (listed_by_step S) S.loose × StayingNodesLeadOn S) }
+    ensures { let S = look.now.lists.0.now in IsTrue result ↔ (NothingIsSetHere S × NewRegistersAreEmptyBefore S × LooseNodesArePut (entries_of_step S) S.loose × StayingNodesLeadOn S) }
 {
     nothing_is_set(look)
         && new_are_empty(look)

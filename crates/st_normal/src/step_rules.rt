@@ -1,11 +1,12 @@
 //! The rules of normal form of what a step alone says.
 ghost use Rattle.std.specs.Prelude.{◌≡◌, ◌≢◌, ◌⊎◌, IsSome, IsTrue, None};
 ghost use Rattle.st_ids.specs.Listing.{Has};
-ghost use Rattle.st_normal.specs.Rules.{HasListedField, is_stay};
+ghost use Rattle.st_normal.specs.Rules.{HasListedField};
+ghost use Rattle.st_marks.specs.How.{is_stay};
 ghost use Rattle.st_marks.specs.declared.marks.How.TheVariants.{Here as HereMark};
 
 use crate::entries::Found;
-use crate::listing::Lists;
+use crate::listing::HasEntries;
 use crate::lookup::Look;
 use crate::scan::Rule;
 use st_marks::{How, RegStep};
@@ -40,9 +41,9 @@ impl Rule for StepTells {
 
 /// A register of a new node holds nothing before.
 #[derive(Drop)]
-pub struct EmptyBefore<'a, L: Lists>(pub &'a Look<L>);
+pub struct EmptyBefore<'a, L: HasEntries>(pub &'a Look<L>);
 
-impl<'a, L: Lists> Rule for EmptyBefore<'a, L> {
+impl<'a, L: HasEntries> Rule for EmptyBefore<'a, L> {
     type Item = RegStep;
 
     ghost Holds = { λ s r. Has (L.listed s.0.now.lists).new r.field.node → r.before ≡ None };
@@ -54,9 +55,9 @@ impl<'a, L: Lists> Rule for EmptyBefore<'a, L> {
 
 /// A node that stays has a listed field.
 #[derive(Drop)]
-pub struct LeadsOn<'a, L: Lists>(pub &'a Look<L>);
+pub struct LeadsOn<'a, L: HasEntries>(pub &'a Look<L>);
 
-impl<'a, L: Lists> Rule for LeadsOn<'a, L> {
+impl<'a, L: HasEntries> Rule for LeadsOn<'a, L> {
     type Item = Found;
 
     ghost Holds = { λ s f. IsTrue (is_stay f.how) → HasListedField (L.listed s.0.now.lists) f.node };

@@ -6,7 +6,7 @@ use Rattle.st_ids.specs.declared.names.CellId.{CellId}
 use Rattle.st_ids.specs.declared.names.FieldId.{FieldId}
 use Rattle.st_ids.specs.declared.names.NodeId.{NodeId}
 use Rattle.st_marks.specs.declared.places.Spot.{Spot}
-use Rattle.st_marks.specs.Shown.{one_or_none}
+use Rattle.st_marks.specs.Listings.{one_or_none}
 
 -- ## Booleans
 

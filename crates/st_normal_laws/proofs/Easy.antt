@@ -23,9 +23,10 @@ use Rattle.st_marks.specs.Document.{Document, IsSoundInForm, above, climb, conte
 use Rattle.st_marks.specs.Embedding.{IsEmbedding, embed_loose, is_loose, is_nowhere, row_marks, row_part, register_part, tells}
 use Rattle.st_marks.specs.Intent.{Fits, group_at, group_cells, is_new, new_node, new_row_of}
 use Rattle.st_marks.specs.Register.{RegisterPart, comes_in, embed_register, holds_mentioned, how_held}
-use Rattle.st_marks.specs.Row.{CellMark, Counted, Gap, Touch, Fill, RowPart, embed_cell, embed_cells, embed_made, embed_row, how, is_here, merge, spread}
-use Rattle.st_normal.specs.Rules.{IsFound, Listed, found_at, found_in, found_loose, in_rows, listed_by_change}
-use Rattle.st_marks.specs.Shown.{cells_before, cells_made, nodes_new}
+use Rattle.st_marks.specs.Row.{CellMark, Counted, Gap, Touch, Fill, RowPart, embed_cell, embed_cells, embed_made, embed_row, how, merge, spread}
+use Rattle.st_marks.specs.How.{is_here}
+use Rattle.st_normal.specs.Rules.{IsFound, Entries, found_at, found_in, found_loose, in_rows, entries_of_change}
+use Rattle.st_marks.specs.Listings.{cells_before, cells_made, nodes_new}
 use Rattle.st_marks.proofs.Climb.{above_known, shown}
 use Rattle.st_normal.proofs.Linked.{has-item_of, item_of-has}
 use Rattle.st_marks.proofs.Lookups.{group_at-group, made_there}
@@ -62,29 +63,29 @@ cells-of : (p : RowPart) (c : List Slot) (d : CellId) → Has (cells_made (embed
 cells-of p [] d h = absurd h
 cells-of p (s ∷ c) d h = go s.full h (λ i. cells-of p c d i)
   where
-    rest : Has (cells_made (embed_made p (p.made (Some s.cell)) ++ embed_cells p c)) d → (Has (cells_made (embed_cells p c)) d → (a : Option CellId) × (o : Owned) × Has (p.made a) o × (o.cell ≡ d)) → (a : Option CellId) × (o : Owned) × Has (p.made a) o × (o.cell ≡ d)
-    rest i more = elim (made-of p (p.made (Some s.cell)) (embed_cells p c) d i) [ inl r ↦ (Some s.cell, r.0, r.1, r.2) | inr j ↦ more j ]
+    rest : Has (cells_made (embed_made p (p.new_cells (Some s.cell)) ++ embed_cells p c)) d → (Has (cells_made (embed_cells p c)) d → (a : Option CellId) × (o : Owned) × Has (p.made a) o × (o.cell ≡ d)) → (a : Option CellId) × (o : Owned) × Has (p.made a) o × (o.cell ≡ d)
+    rest i more = elim (made-of p (p.new_cells (Some s.cell)) (embed_cells p c) d i) [ inl r ↦ (Some s.cell, r.0, r.1, r.2) | inr j ↦ more j ]
 
-    go : (b : Bool) → Has (cells_made (embed_cell p s.cell s.node b ∷ (embed_made p (p.made (Some s.cell)) ++ embed_cells p c))) d → (Has (cells_made (embed_cells p c)) d → (a : Option CellId) × (o : Owned) × Has (p.made a) o × (o.cell ≡ d)) → (a : Option CellId) × (o : Owned) × Has (p.made a) o × (o.cell ≡ d)
-    go true i more = elim (p.mentioned s.node) as (λ b. Has (cells_made (cond b (Touch s.cell s.node (how (p.goes s.node) (To.Cell s.cell))) Counted ∷ (embed_made p (p.made (Some s.cell)) ++ embed_cells p c))) d → (a : Option CellId) × (o : Owned) × Has (p.made a) o × (o.cell ≡ d)) [ true ↦ (λ j. rest j more) | false ↦ (λ j. rest j more) ] i
-    go false i more = elim (is_here (how (p.goes s.node) (To.Cell s.cell))) as (λ b. Has (cells_made (cond b (Fill s.cell s.node) (Gap s.cell) ∷ (embed_made p (p.made (Some s.cell)) ++ embed_cells p c))) d → (a : Option CellId) × (o : Owned) × Has (p.made a) o × (o.cell ≡ d)) [ true ↦ (λ j. rest j more) | false ↦ (λ j. rest j more) ] i
+    go : (b : Bool) → Has (cells_made (embed_cell p s.cell s.node b ∷ (embed_made p (p.new_cells (Some s.cell)) ++ embed_cells p c))) d → (Has (cells_made (embed_cells p c)) d → (a : Option CellId) × (o : Owned) × Has (p.made a) o × (o.cell ≡ d)) → (a : Option CellId) × (o : Owned) × Has (p.made a) o × (o.cell ≡ d)
+    go true i more = elim (p.mentioned s.node) as (λ b. Has (cells_made (cond b (Touch s.cell s.node (how (p.target_of s.node) (To.Cell s.cell))) Counted ∷ (embed_made p (p.new_cells (Some s.cell)) ++ embed_cells p c))) d → (a : Option CellId) × (o : Owned) × Has (p.made a) o × (o.cell ≡ d)) [ true ↦ (λ j. rest j more) | false ↦ (λ j. rest j more) ] i
+    go false i more = elim (is_here (how (p.target_of s.node) (To.Cell s.cell))) as (λ b. Has (cells_made (cond b (Fill s.cell s.node) (Gap s.cell) ∷ (embed_made p (p.new_cells (Some s.cell)) ++ embed_cells p c))) d → (a : Option CellId) × (o : Owned) × Has (p.made a) o × (o.cell ≡ d)) [ true ↦ (λ j. rest j more) | false ↦ (λ j. rest j more) ] i
 
 pub row-makes : (p : RowPart) (c : List Slot) (d : CellId) → Has (cells_made (embed_row p c)) d → (a : Option CellId) × (o : Owned) × Has (p.made a) o × (o.cell ≡ d)
-row-makes p c d h = elim (made-of p (p.made None) (embed_cells p c) d h) [ inl r ↦ (None, r.0, r.1, r.2) | inr i ↦ cells-of p c d i ]
+row-makes p c d h = elim (made-of p (p.new_cells None) (embed_cells p c) d h) [ inl r ↦ (None, r.0, r.1, r.2) | inr i ↦ cells-of p c d i ]
 
 -- a full cell of a mentioned node is touched
 pub skip-made : (p : RowPart) (os : List Owned) (ms : List CellMark) (y : CellMark) → Has ms y → Has (embed_made p os ++ ms) y
 skip-made p [] ms y h = h
 skip-made p (o ∷ os) ms y h = inr (skip-made p os ms y h)
 
-pub touches : (p : RowPart) (c : List Slot) (d : CellId) (n : NodeId) → Has c (record { cell = d; node = n; full = true }) → p.mentioned n ≡ true → Has (embed_cells p c) (Touch d n (how (p.goes n) (To.Cell d)))
+pub touches : (p : RowPart) (c : List Slot) (d : CellId) (n : NodeId) → Has c (record { cell = d; node = n; full = true }) → p.mentioned n ≡ true → Has (embed_cells p c) (Touch d n (how (p.target_of n) (To.Cell d)))
 touches p [] d n h e = absurd h
-touches p (s ∷ c) d n (inl q) e = inl ((λ i. embed_cell p (q i).cell (q i).node (q i).full) ∙ ap (λ b. cond b (Touch d n (how (p.goes n) (To.Cell d))) Counted) e)
-touches p (s ∷ c) d n (inr h) e = inr (skip-made p (p.made (Some s.cell)) (embed_cells p c) _ (touches p c d n h e))
+touches p (s ∷ c) d n (inl q) e = inl ((λ i. embed_cell p (q i).cell (q i).node (q i).full) ∙ ap (λ b. cond b (Touch d n (how (p.target_of n) (To.Cell d))) Counted) e)
+touches p (s ∷ c) d n (inr h) e = inr (skip-made p (p.new_cells (Some s.cell)) (embed_cells p c) _ (touches p c d n h e))
 
 module _ (D : Document) (N : Intent) (C : Change) (x : IsSoundInForm D) (f : Fits D N) (emb : IsEmbedding D N C) where
-  abbrev L : Listed
-  L = listed_by_change C
+  abbrev L : Entries
+  L = entries_of_change C
 
   abbrev m : NodeId → Bool
   m = emb.mentioned
@@ -176,7 +177,7 @@ module _ (D : Document) (N : Intent) (C : Change) (x : IsSoundInForm D) (f : Fit
 
   pub found-row : (n r : NodeId) (c : CellId) → m n ≡ true → D.place n ≡ Spot.Row r c → (q : RowMarks) × Has C.rows q × (q.node ≡ r) × IsFound L n
   found-row n r c e p =
-      let t = skip-made (part r) ((part r).made None) (embed_cells (part r) (content D r)) _ (touches (part r) (content D r) c n (shown D x n r c p) e) in
+      let t = skip-made (part r) ((part r).new_cells None) (embed_cells (part r) (content D r)) _ (touches (part r) (content D r) c n (shown D x n r c p) e) in
       let q = row-listed r (has-any tells (embed_row (part r) (content D r)) _ t refl) in (
         q.0,
         q.1,

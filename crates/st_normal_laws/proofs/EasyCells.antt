@@ -16,11 +16,12 @@ use Rattle.st_marks.specs.declared.places.Slot.{Slot}
 use Rattle.st_marks.specs.Document.{Document, IsSoundInForm, content, owned, slot}
 use Rattle.st_marks.specs.Embedding.{IsEmbedding, row_part}
 use Rattle.st_marks.specs.Intent.{Fits, cells_of, group_at, new_row_of, same_option}
-use Rattle.st_marks.specs.Row.{CellMark, Counted, Gap, Touch, Fill, RowPart, embed_cell, embed_cells, embed_made, embed_row, how, is_here, spread}
-use Rattle.st_marks.specs.Shown.{cells_in}
+use Rattle.st_marks.specs.Row.{CellMark, Counted, Gap, Touch, Fill, RowPart, embed_cell, embed_cells, embed_made, embed_row, how, spread}
+use Rattle.st_marks.specs.How.{is_here}
+use Rattle.st_marks.specs.Listings.{cells_in}
 use Rattle.st_marks.proofs.Lookups.{group_at-group, made_there, new_row_of-group}
 use Rattle.st_marks.proofs.Members.{all-has, first-has, flat_map-has, has-all, has-map, list_distinct, one_list}
-use Rattle.st_normal.specs.Rules.{CellsAreOnce, listed_by_change}
+use Rattle.st_normal.specs.Rules.{CellsAreOnce, entries_of_change}
 use Rattle.st_normal_laws.proofs.Easy.{row-look}
 use Rattle.st_normal_laws.proofs.EasyFound.{content_once}
 use Rattle.st_normal_laws.proofs.Groups.{distinct-flat}
@@ -31,7 +32,7 @@ IsOf os d = (o : Owned) × Has os o × (o.cell ≡ d)
 
 -- a cell in the marks of a row is the row's, or made behind one of its cells
 abbrev IsIn : RowPart → List Slot → CellId → Type 0
-IsIn p c d = ((s : Slot) × Has c s × (s.cell ≡ d)) ⊎ ((s : Slot) × Has c s × IsOf (p.made (Some s.cell)) d)
+IsIn p c d = ((s : Slot) × Has c s × (s.cell ≡ d)) ⊎ ((s : Slot) × Has c s × IsOf (p.new_cells (Some s.cell)) d)
 
 in-made : (p : RowPart) (os : List Owned) (ms : List CellMark) (d : CellId) → Has (cells_in (embed_made p os ++ ms)) d → IsOf os d ⊎ Has (cells_in ms) d
 in-made p [] ms d h = inr h
@@ -42,10 +43,10 @@ in-made p (o ∷ os) ms d (inr h) = elim (in-made p os ms d h) [ inl r ↦ inl (
 named-or-not : (p : RowPart) (c : CellId) (n : NodeId) (b : Bool) (ms : List CellMark) → (cells_in (embed_cell p c n b ∷ ms) ≡ cells_in ms) ⊎ (cells_in (embed_cell p c n b ∷ ms) ≡ c ∷ cells_in ms)
 named-or-not p c n true ms = go (p.mentioned n)
   where
-    go : (z : Bool) → (cells_in (cond z (Touch c n (how (p.goes n) (To.Cell c))) Counted ∷ ms) ≡ cells_in ms) ⊎ (cells_in (cond z (Touch c n (how (p.goes n) (To.Cell c))) Counted ∷ ms) ≡ c ∷ cells_in ms)
+    go : (z : Bool) → (cells_in (cond z (Touch c n (how (p.target_of n) (To.Cell c))) Counted ∷ ms) ≡ cells_in ms) ⊎ (cells_in (cond z (Touch c n (how (p.target_of n) (To.Cell c))) Counted ∷ ms) ≡ c ∷ cells_in ms)
     go true = inr refl
     go false = inl refl
-named-or-not p c n false ms = go (is_here (how (p.goes n) (To.Cell c)))
+named-or-not p c n false ms = go (is_here (how (p.target_of n) (To.Cell c)))
   where
     go : (z : Bool) → (cells_in (cond z (Fill c n) (Gap c) ∷ ms) ≡ cells_in ms) ⊎ (cells_in (cond z (Fill c n) (Gap c) ∷ ms) ≡ c ∷ cells_in ms)
     go true = inr refl
@@ -57,15 +58,15 @@ later p s c d (inr r) = inr (r.0, inr r.1, r.2)
 
 in-cells : (p : RowPart) (c : List Slot) (d : CellId) → Has (cells_in (embed_cells p c)) d → IsIn p c d
 in-cells p [] d h = absurd h
-in-cells p (s ∷ c) d h = elim (named-or-not p s.cell s.node s.full (embed_made p (p.made (Some s.cell)) ++ embed_cells p c)) [
+in-cells p (s ∷ c) d h = elim (named-or-not p s.cell s.node s.full (embed_made p (p.new_cells (Some s.cell)) ++ embed_cells p c)) [
   | inl e ↦ rest (λ j. in-cells p c d j) (subst (λ l. Has l d) e h)
   | inr e ↦ first (λ j. in-cells p c d j) (subst (λ l. Has l d) e h)
 ]
   where
-    rest : (Has (cells_in (embed_cells p c)) d → IsIn p c d) → Has (cells_in (embed_made p (p.made (Some s.cell)) ++ embed_cells p c)) d → IsIn p (s ∷ c) d
-    rest more i = elim (in-made p (p.made (Some s.cell)) (embed_cells p c) d i) [ inl r ↦ inr (s, inl refl, r) | inr j ↦ later p s c d (more j) ]
+    rest : (Has (cells_in (embed_cells p c)) d → IsIn p c d) → Has (cells_in (embed_made p (p.new_cells (Some s.cell)) ++ embed_cells p c)) d → IsIn p (s ∷ c) d
+    rest more i = elim (in-made p (p.new_cells (Some s.cell)) (embed_cells p c) d i) [ inl r ↦ inr (s, inl refl, r) | inr j ↦ later p s c d (more j) ]
 
-    first : (Has (cells_in (embed_cells p c)) d → IsIn p c d) → Has (s.cell ∷ cells_in (embed_made p (p.made (Some s.cell)) ++ embed_cells p c)) d → IsIn p (s ∷ c) d
+    first : (Has (cells_in (embed_cells p c)) d → IsIn p c d) → Has (s.cell ∷ cells_in (embed_made p (p.new_cells (Some s.cell)) ++ embed_cells p c)) d → IsIn p (s ∷ c) d
     first more (inl q) = inl (s, inl refl, q)
     first more (inr i) = rest more i
 
@@ -93,7 +94,7 @@ cells-once p [] w d new = tt
 cells-once p (s ∷ c) w d new = elim (named-or-not p s.cell s.node s.full rest) [
   | inl e ↦ subst (AreDistinct (λ (c : CellId). c)) (sym e) (once (cells-once p c w d.1 (λ a o t h i. new a o t h (inr i))))
   | inr e ↦ subst (AreDistinct (λ (c : CellId). c)) (sym e) (
-    has-all (λ k. k ≢ s.cell) (cells_in rest) (λ k h q. elim (in-made p (p.made (Some s.cell)) (embed_cells p c) k h) [
+    has-all (λ k. k ≢ s.cell) (cells_in rest) (λ k h q. elim (in-made p (p.new_cells (Some s.cell)) (embed_cells p c) k h) [
       | inl r ↦ new (Some s.cell) r.0 s r.1 (inl refl) (sym (r.2 ∙ q))
       | inr i ↦ elim (in-cells p c k i) [
         | inl r ↦ all-has (λ (t : Slot). t.cell ≢ s.cell) c r.0 d.0 r.1 (r.2 ∙ q)
@@ -108,16 +109,16 @@ cells-once p (s ∷ c) w d new = elim (named-or-not p s.cell s.node s.full rest)
     some-cell q = cc
 
     rest : List CellMark
-    rest = embed_made p (p.made (Some s.cell)) ++ embed_cells p c
+    rest = embed_made p (p.new_cells (Some s.cell)) ++ embed_cells p c
 
-    once : AreDistinct (λ (c : CellId). c) (cells_in (embed_cells p c)) → AreDistinct (λ (c : CellId). c) (cells_in (embed_made p (p.made (Some s.cell)) ++ embed_cells p c))
-    once behind = made-once p (p.made (Some s.cell)) (embed_cells p c) (w.each (Some s.cell)) behind (λ o h i. elim (in-cells p c o.cell i) [
+    once : AreDistinct (λ (c : CellId). c) (cells_in (embed_cells p c)) → AreDistinct (λ (c : CellId). c) (cells_in (embed_made p (p.new_cells (Some s.cell)) ++ embed_cells p c))
+    once behind = made-once p (p.new_cells (Some s.cell)) (embed_cells p c) (w.each (Some s.cell)) behind (λ o h i. elim (in-cells p c o.cell i) [
       | inl r ↦ new (Some s.cell) o r.0 h (inr r.1) r.2
       | inr r ↦ all-has (λ (t : Slot). t.cell ≢ s.cell) c r.0 d.0 r.1 (some-cell (w.anchor (Some r.0.cell) (Some s.cell) r.2.0 o r.2.1 h r.2.2))
     ])
 
 row-once : (p : RowPart) (c : List Slot) → IsMadeOnce p → AreDistinct (λ (s : Slot). s.cell) c → IsFresh p c → AreDistinct (λ (c : CellId). c) (cells_in (embed_row p c))
-row-once p c w d new = made-once p (p.made None) (embed_cells p c) (w.each None) (cells-once p c w d new) (λ o h i. elim (in-cells p c o.cell i) [
+row-once p c w d new = made-once p (p.new_cells None) (embed_cells p c) (w.each None) (cells-once p c w d new) (λ o h i. elim (in-cells p c o.cell i) [
   | inl r ↦ new None o r.0 h r.1 r.2
   | inr r ↦ (let bad : Some r.0.cell ≡ None = w.anchor (Some r.0.cell) None r.2.0 o r.2.1 h r.2.2 in cc)
 ])
@@ -175,7 +176,7 @@ module _ (D : Document) (N : Intent) (C : Change) (x : IsSoundInForm D) (f : Fit
   one-row n k d (inr a) (inl b) = let bad : None ≡ Some k = sym a.0 ∙ b in cc
   one-row n k d (inr a) (inr b) = let q : Some n ≡ Some k = sym a.1 ∙ b.1 in cc
 
-  pub cells_are_once : CellsAreOnce (listed_by_change C)
+  pub cells_are_once : CellsAreOnce (entries_of_change C)
   cells_are_once = distinct-flat (λ (c : CellId). c) (λ (r : RowMarks). cells_in (spread r.marks)) (λ (r : RowMarks). r.node) C.rows
       (rising_distinct node_cmp node_cmp_total (λ (r : RowMarks). r.node) C.rows emb.rows.rising)
       (λ r i. subst (λ ms. AreDistinct (λ (c : CellId). c) (cells_in ms)) (sym (row-look D N C x f emb r i).0)

@@ -20,27 +20,21 @@ use Rattle.st_marks.specs.declared.marks.RegMark.{RegMark}
 use Rattle.st_marks.specs.declared.marks.RowMarks.{RowMarks}
 use Rattle.st_marks.specs.declared.places.Slot.{Slot}
 use Rattle.st_marks.specs.declared.places.Spot.{Spot}
-use Rattle.st_marks.specs.Document.{Document, IsSoundInForm, above, climb, content, node_of, root}
-use Rattle.st_marks.specs.Embedding.{IsEmbedding, row_part, register_part, tells}
-use Rattle.st_marks.specs.Intent.{Fits, is_new, new_node}
+use Rattle.st_marks.specs.Document.{Document, IsSoundInForm, above, climb, content, node_of, root, owned, slot}
+use Rattle.st_marks.specs.Embedding.{IsEmbedding, row_part, register_part, tells, named_by_intent}
+use Rattle.st_marks.specs.Intent.{Fits, is_new, new_node, IsKnown, cell_of, clears, put_of}
 use Rattle.st_marks.specs.Register.{holds_mentioned}
-use Rattle.st_marks.specs.Row.{CellMark, Counted, Gap, Touch, Make, Fill, RowPart, embed_cell, embed_cells, embed_made, embed_row, how, is_here, spread}
-use Rattle.st_normal.specs.Rules.{IsFound, Listed, found_at, found_held, found_in, found_loose, in_rows, listed_by_change}
-use Rattle.st_marks.specs.Shown.{cells_before}
-use Rattle.st_marks.proofs.Climb.{climb_more}
+use Rattle.st_marks.specs.Row.{CellMark, Counted, Gap, Touch, Make, Fill, RowPart, embed_cell, embed_cells, embed_made, embed_row, how, spread}
+use Rattle.st_marks.specs.How.{is_here}
+use Rattle.st_normal.specs.Rules.{IsFound, Entries, found_at, found_held, found_in, found_loose, in_rows, entries_of_change, FieldsAreFound, NodesAreFoundOnce, fields_of}
+use Rattle.st_marks.specs.Listings.{cells_before}
+use Rattle.st_marks.proofs.Climb.{climb_more, stands}
 use Rattle.st_normal.proofs.Linked.{item_of-has}
-use Rattle.st_marks.proofs.Lookups.{group_at-group}
-use Rattle.st_marks.proofs.Members.{all-has, append_left, append_right, has-append, map-has, has-map, has-flat_map}
+use Rattle.st_marks.proofs.Lookups.{group_at-group, put-has, clears-has}
+use Rattle.st_marks.proofs.Members.{all-has, append_left, append_right, has-append, map-has, has-map, has-flat_map, distinct-append, has-all, has-filter_map}
 use Rattle.st_normal_laws.specs.Told.{AreAsSeen}
 use Rattle.st_normal_laws.specs.Meant.{IsOver}
-use Rattle.st_marks.specs.Document.{owned, slot}
-use Rattle.st_marks.specs.Embedding.{named_by_intent}
-use Rattle.st_marks.specs.Intent.{IsKnown, cell_of, clears, put_of}
 use Rattle.st_marks.specs.declared.intents.Put.{Put}
-use Rattle.st_normal.specs.Rules.{FieldsAreFound, NodesAreFoundOnce, fields_of}
-use Rattle.st_marks.proofs.Climb.{stands}
-use Rattle.st_marks.proofs.Lookups.{put-has, clears-has}
-use Rattle.st_marks.proofs.Members.{distinct-append, has-all, has-filter_map}
 use Rattle.st_normal_laws.proofs.FoundPlaces.{found_in-has, found_held-is, held_place, touch_place, touched}
 use Rattle.st_normal_laws.proofs.Easy.{embedding_over, held-is, mentioned-found, reg-look, row-look}
 use Rattle.st_normal_laws.proofs.Groups.{distinct-flat}
@@ -52,7 +46,7 @@ use Rattle.st_normal_laws.proofs.Basics.{register-not-nowhere, row-not-nowhere}
 
 data WhyTold (p : RowPart) (c : List Slot) : Type 0 where
   by_touch : (s : Slot) → Has c s → s.full ≡ true → p.mentioned s.node ≡ true → WhyTold p c
-  by_fill : (s : Slot) → Has c s → is_here (how (p.goes s.node) (To.Cell s.cell)) ≡ true → WhyTold p c
+  by_fill : (s : Slot) → Has c s → is_here (how (p.target_of s.node) (To.Cell s.cell)) ≡ true → WhyTold p c
   by_make : (a : Option CellId) (o : Owned) → Has (p.made a) o → WhyTold p c
 
 later : (p : RowPart) (s : Slot) (c : List Slot) → WhyTold p c → WhyTold p (s ∷ c)
@@ -68,23 +62,23 @@ told-cells : (p : RowPart) (c : List Slot) → list_any tells (embed_cells p c) 
 told-cells p [] e = cc
 told-cells p (s ∷ c) e = go s.full refl e (λ q. told-cells p c q)
   where
-    rest : list_any tells (embed_made p (p.made (Some s.cell)) ++ embed_cells p c) ≡ true → (list_any tells (embed_cells p c) ≡ true → WhyTold p c) → WhyTold p (s ∷ c)
-    rest q more = told-made p (s ∷ c) (Some s.cell) (p.made (Some s.cell)) (embed_cells p c) (λ o h. h) q (λ r. later p s c (more r))
+    rest : list_any tells (embed_made p (p.new_cells (Some s.cell)) ++ embed_cells p c) ≡ true → (list_any tells (embed_cells p c) ≡ true → WhyTold p c) → WhyTold p (s ∷ c)
+    rest q more = told-made p (s ∷ c) (Some s.cell) (p.new_cells (Some s.cell)) (embed_cells p c) (λ o h. h) q (λ r. later p s c (more r))
 
-    go : (b : Bool) → s.full ≡ b → (tells (embed_cell p s.cell s.node b) || list_any tells (embed_made p (p.made (Some s.cell)) ++ embed_cells p c)) ≡ true → (list_any tells (embed_cells p c) ≡ true → WhyTold p c) → WhyTold p (s ∷ c)
+    go : (b : Bool) → s.full ≡ b → (tells (embed_cell p s.cell s.node b) || list_any tells (embed_made p (p.new_cells (Some s.cell)) ++ embed_cells p c)) ≡ true → (list_any tells (embed_cells p c) ≡ true → WhyTold p c) → WhyTold p (s ∷ c)
     go true f q more = full (p.mentioned s.node) refl q
       where
-        full : (z : Bool) → p.mentioned s.node ≡ z → (tells (cond z (Touch s.cell s.node (how (p.goes s.node) (To.Cell s.cell))) Counted) || list_any tells (embed_made p (p.made (Some s.cell)) ++ embed_cells p c)) ≡ true → WhyTold p (s ∷ c)
+        full : (z : Bool) → p.mentioned s.node ≡ z → (tells (cond z (Touch s.cell s.node (how (p.target_of s.node) (To.Cell s.cell))) Counted) || list_any tells (embed_made p (p.new_cells (Some s.cell)) ++ embed_cells p c)) ≡ true → WhyTold p (s ∷ c)
         full true g q = by_touch s (inl refl) f g
         full false g q = rest q more
-    go false f q more = empty (is_here (how (p.goes s.node) (To.Cell s.cell))) refl q
+    go false f q more = empty (is_here (how (p.target_of s.node) (To.Cell s.cell))) refl q
       where
-        empty : (z : Bool) → is_here (how (p.goes s.node) (To.Cell s.cell)) ≡ z → (tells (cond z (Fill s.cell s.node) (Gap s.cell)) || list_any tells (embed_made p (p.made (Some s.cell)) ++ embed_cells p c)) ≡ true → WhyTold p (s ∷ c)
+        empty : (z : Bool) → is_here (how (p.target_of s.node) (To.Cell s.cell)) ≡ z → (tells (cond z (Fill s.cell s.node) (Gap s.cell)) || list_any tells (embed_made p (p.new_cells (Some s.cell)) ++ embed_cells p c)) ≡ true → WhyTold p (s ∷ c)
         empty true g q = by_fill s (inl refl) g
         empty false g q = rest q more
 
 told-row : (p : RowPart) (c : List Slot) → list_any tells (embed_row p c) ≡ true → WhyTold p c
-told-row p c e = told-made p c None (p.made None) (embed_cells p c) (λ o h. h) e (λ q. told-cells p c q)
+told-row p c e = told-made p c None (p.new_cells None) (embed_cells p c) (λ o h. h) e (λ q. told-cells p c q)
 
 -- ## Found once in a row
 
@@ -108,8 +102,8 @@ touched-once [] (Fill e k ∷ ms) p d one = absurd p
 touched-once (s ∷ c) (Fill e k ∷ ms) p d one = touched-once c ms p.1 d.1 (λ a b n h i. one a b n (inr h) (inr i))
 
 module _ (D : Document) (N : Intent) (C : Change) (x : IsSoundInForm D) (f : Fits D N) (emb : IsEmbedding D N C) where
-  abbrev L : Listed
-  L = listed_by_change C
+  abbrev L : Entries
+  L = entries_of_change C
 
   abbrev m : NodeId → Bool
   m = emb.mentioned

@@ -23,10 +23,11 @@ use Rattle.st_marks.specs.Document.{Document, IsSoundInForm, content, is_cell, o
 use Rattle.st_marks.specs.Embedding.{IsEmbedding, register_part, row_part, tells}
 use Rattle.st_marks.specs.Intent.{Fits, IsKnown, Owns, cell_of, clears, group_at, put_in, put_of, register_of}
 use Rattle.st_marks.specs.Register.{comes_in, how_held, holds_mentioned}
-use Rattle.st_marks.specs.Row.{CellMark, Counted, Gap, Touch, Make, Fill, RowPart, embed_cell, embed_cells, embed_made, embed_row, how, is_here, spread}
+use Rattle.st_marks.specs.Row.{CellMark, Counted, Gap, Touch, Make, Fill, RowPart, embed_cell, embed_cells, embed_made, embed_row, how, spread}
+use Rattle.st_marks.specs.How.{is_here}
 use Rattle.st_marks.proofs.Lookups.{group_found, has-put_in, put-has, put_clears}
 use Rattle.st_marks.proofs.Members.{all-has, append_left, append_right, flat_map-has, has-all, has-flat_map, map-has}
-use Rattle.st_normal.specs.Rules.{Listed, LooseNodesArePut, incoming, in_rows, listed_by_change, put_at}
+use Rattle.st_normal.specs.Rules.{Entries, LooseNodesArePut, incoming, in_rows, entries_of_change, put_at}
 use Rattle.st_normal.proofs.Linked.{item_of-has}
 use Rattle.st_normal_laws.proofs.Basics.{is-one, register-not-nowhere}
 use Rattle.st_normal_laws.proofs.Easy.{embedding_over, loose-look, row-listed}
@@ -52,32 +53,32 @@ skip-mark (Fill c k) ms n h = inr h
 
 skip-made : (p : RowPart) (os : List Owned) (ms : List CellMark) (n : NodeId) → Has (incoming ms) n → Has (incoming (embed_made p os ++ ms)) n
 skip-made p [] ms n h = h
-skip-made p (o ∷ os) ms n h = skip-mark (Make o.cell o.node (is_here (how (p.goes o.node) (To.Cell o.cell)))) (embed_made p os ++ ms) n (skip-made p os ms n h)
+skip-made p (o ∷ os) ms n h = skip-mark (Make o.cell o.node (is_here (how (p.target_of o.node) (To.Cell o.cell)))) (embed_made p os ++ ms) n (skip-made p os ms n h)
 
 -- the owner of a cell that is made comes in if it is put there
-made-comes : (p : RowPart) (os : List Owned) (ms : List CellMark) (o : Owned) → Has os o → p.goes o.node ≡ Some (To.Cell o.cell) → Has (incoming (embed_made p os ++ ms)) o.node
+made-comes : (p : RowPart) (os : List Owned) (ms : List CellMark) (o : Owned) → Has os o → p.target_of o.node ≡ Some (To.Cell o.cell) → Has (incoming (embed_made p os ++ ms)) o.node
 made-comes p [] ms o h e = absurd h
-made-comes p (q ∷ os) ms o (inr h) e = skip-mark (Make q.cell q.node (is_here (how (p.goes q.node) (To.Cell q.cell)))) (embed_made p os ++ ms) o.node (made-comes p os ms o h e)
+made-comes p (q ∷ os) ms o (inr h) e = skip-mark (Make q.cell q.node (is_here (how (p.target_of q.node) (To.Cell q.cell)))) (embed_made p os ++ ms) o.node (made-comes p os ms o h e)
 made-comes p (q ∷ os) ms o (inl s) e = subst (λ (b : Bool). Has (cond b (q.node ∷ incoming (embed_made p os ++ ms)) (incoming (embed_made p os ++ ms))) o.node)
-    (sym ((λ i. is_here (how (p.goes (s i).node) (To.Cell (s i).cell))) ∙ ap is_here (put-is_here (p.goes o.node) (To.Cell o.cell) e))) (inl (ap (λ (o : Owned). o.node) s))
+    (sym ((λ i. is_here (how (p.target_of (s i).node) (To.Cell (s i).cell))) ∙ ap is_here (put-is_here (p.target_of o.node) (To.Cell o.cell) e))) (inl (ap (λ (o : Owned). o.node) s))
 
-behind-comes : (p : RowPart) (c : List Slot) (s : Slot) (o : Owned) → Has c s → Has (p.made (Some s.cell)) o → p.goes o.node ≡ Some (To.Cell o.cell) → Has (incoming (embed_cells p c)) o.node
+behind-comes : (p : RowPart) (c : List Slot) (s : Slot) (o : Owned) → Has c s → Has (p.new_cells (Some s.cell)) o → p.target_of o.node ≡ Some (To.Cell o.cell) → Has (incoming (embed_cells p c)) o.node
 behind-comes p [] s o h i e = absurd h
-behind-comes p (t ∷ c) s o (inl q) i e = skip-mark (embed_cell p t.cell t.node t.full) (embed_made p (p.made (Some t.cell)) ++ embed_cells p c) o.node
-    (made-comes p (p.made (Some t.cell)) (embed_cells p c) o (subst (λ (t : Slot). Has (p.made (Some t.cell)) o) (sym q) i) e)
-behind-comes p (t ∷ c) s o (inr h) i e = skip-mark (embed_cell p t.cell t.node t.full) (embed_made p (p.made (Some t.cell)) ++ embed_cells p c) o.node
-    (skip-made p (p.made (Some t.cell)) (embed_cells p c) o.node (behind-comes p c s o h i e))
+behind-comes p (t ∷ c) s o (inl q) i e = skip-mark (embed_cell p t.cell t.node t.full) (embed_made p (p.new_cells (Some t.cell)) ++ embed_cells p c) o.node
+    (made-comes p (p.new_cells (Some t.cell)) (embed_cells p c) o (subst (λ (t : Slot). Has (p.new_cells (Some t.cell)) o) (sym q) i) e)
+behind-comes p (t ∷ c) s o (inr h) i e = skip-mark (embed_cell p t.cell t.node t.full) (embed_made p (p.new_cells (Some t.cell)) ++ embed_cells p c) o.node
+    (skip-made p (p.new_cells (Some t.cell)) (embed_cells p c) o.node (behind-comes p c s o h i e))
 
-fill-comes : (p : RowPart) (c : List Slot) (d : CellId) (n : NodeId) → Has c (record { cell = d; node = n; full = false }) → p.goes n ≡ Some (To.Cell d) → Has (incoming (embed_cells p c)) n
+fill-comes : (p : RowPart) (c : List Slot) (d : CellId) (n : NodeId) → Has c (record { cell = d; node = n; full = false }) → p.target_of n ≡ Some (To.Cell d) → Has (incoming (embed_cells p c)) n
 fill-comes p [] d n h e = absurd h
-fill-comes p (t ∷ c) d n (inl q) e = subst (λ y. Has (incoming (y ∷ (embed_made p (p.made (Some t.cell)) ++ embed_cells p c))) n)
-    (sym ((λ i. embed_cell p (q i).cell (q i).node (q i).full) ∙ ap (λ h. cond (is_here h) (Fill d n) (Gap d)) (put-is_here (p.goes n) (To.Cell d) e))) (inl refl)
-fill-comes p (t ∷ c) d n (inr h) e = skip-mark (embed_cell p t.cell t.node t.full) (embed_made p (p.made (Some t.cell)) ++ embed_cells p c) n
-    (skip-made p (p.made (Some t.cell)) (embed_cells p c) n (fill-comes p c d n h e))
+fill-comes p (t ∷ c) d n (inl q) e = subst (λ y. Has (incoming (y ∷ (embed_made p (p.new_cells (Some t.cell)) ++ embed_cells p c))) n)
+    (sym ((λ i. embed_cell p (q i).cell (q i).node (q i).full) ∙ ap (λ h. cond (is_here h) (Fill d n) (Gap d)) (put-is_here (p.target_of n) (To.Cell d) e))) (inl refl)
+fill-comes p (t ∷ c) d n (inr h) e = skip-mark (embed_cell p t.cell t.node t.full) (embed_made p (p.new_cells (Some t.cell)) ++ embed_cells p c) n
+    (skip-made p (p.new_cells (Some t.cell)) (embed_cells p c) n (fill-comes p c d n h e))
 
 module _ (D : Document) (N : Intent) (C : Change) (x : IsSoundInForm D) (f : Fits D N) (emb : IsEmbedding D N C) where
-  abbrev L : Listed
-  L = listed_by_change C
+  abbrev L : Entries
+  L = entries_of_change C
 
   abbrev part : NodeId → RowPart
   part n = row_part emb.mentioned N n

@@ -3,9 +3,8 @@ use Rattle.std.proofs.Common.{◌≡◌, ◌++◌, ◌<◌, ◌^◌, zero, suc, 
 use Rattle.std.specs.List.{filter_map}
 use Rattle.std.proofs.lemmas.Slice.Zip.{AllZip-long}
 use Rattle.st_ids.specs.Listing.{Has}
-use Rattle.st_ids.specs.Order.{same_node}
+use Rattle.st_ids.specs.Order.{same_node, node_cmp}
 use Rattle.st_ids.proofs.Orders.{node_cmp_exact, node_cmp_total}
-use Rattle.st_ids.specs.Order.{node_cmp}
 use Rattle.st_ids.specs.declared.names.CellId.{CellId}
 use Rattle.st_ids.specs.declared.names.FieldId.{FieldId}
 use Rattle.st_ids.specs.declared.names.NodeId.{NodeId}
@@ -25,12 +24,13 @@ use Rattle.st_marks.specs.Document.{Document, HasShortRows, IsSoundInForm, conte
 use Rattle.st_marks.specs.Embedding.{IsEmbedding, register_part, row_part}
 use Rattle.st_marks.specs.Intent.{Fits, IsKnown, cell_of, group_cells, is_new, put_of}
 use Rattle.st_marks.specs.Register.{how_held}
-use Rattle.st_marks.specs.Row.{CellMark, Counted, Gap, Touch, Make, Fill, RowPart, embed_cell, embed_cells, embed_made, embed_row, how, is_here, same_to, spread}
-use Rattle.st_marks.specs.Shown.{cells_after, cells_before, cells_made, nodes_new}
+use Rattle.st_marks.specs.Row.{CellMark, Counted, Gap, Touch, Make, Fill, RowPart, embed_cell, embed_cells, embed_made, embed_row, how, same_to, spread}
+use Rattle.st_marks.specs.How.{is_here}
+use Rattle.st_marks.specs.Listings.{cells_after, cells_before, cells_made, nodes_new}
 use Rattle.st_marks.proofs.Lookups.{group_at-group}
 use Rattle.st_marks.proofs.Members.{all-has, append_left, first-has, flat_map-has, has-all, has-flat_map, has-map, map-has}
 use Rattle.st_normal.specs.declared.entries.Found.{Found}
-use Rattle.st_normal.specs.Rules.{FilledCellsAreOld, HolesHaveMovers, IsFoundAs, Listed, NewNamesHaveItsRevision, RowsAreShort, fill_owners, hole_owners, in_rows, listed_by_change}
+use Rattle.st_normal.specs.Rules.{FilledCellsAreOld, HolesHaveMovers, IsFoundAs, Entries, NewNamesHaveItsRevision, RowsAreShort, fill_owners, hole_owners, in_rows, entries_of_change}
 use Rattle.st_normal.proofs.Linked.{has-item_of}
 use Rattle.st_normal_laws.specs.Meant.{IsOver}
 use Rattle.st_normal_laws.specs.Told.{IsAsSeen}
@@ -81,18 +81,18 @@ cells-mark p (s ∷ c) d n b (inl q) = absurd (other s.full q)
     other : (f : Bool) → embed_cell p s.cell s.node f ≡ Make d n b → ⊥
     other true q = full (p.mentioned s.node) q
       where
-        full : (z : Bool) → cond z (Touch s.cell s.node (how (p.goes s.node) (To.Cell s.cell))) Counted ≡ Make d n b → ⊥
+        full : (z : Bool) → cond z (Touch s.cell s.node (how (p.target_of s.node) (To.Cell s.cell))) Counted ≡ Make d n b → ⊥
         full true q = cc
         full false q = cc
-    other false q = empty (is_here (how (p.goes s.node) (To.Cell s.cell))) q
+    other false q = empty (is_here (how (p.target_of s.node) (To.Cell s.cell))) q
       where
         empty : (z : Bool) → cond z (Fill s.cell s.node) (Gap s.cell) ≡ Make d n b → ⊥
         empty true q = cc
         empty false q = cc
-cells-mark p (s ∷ c) d n b (inr h) = made-mark p (Some s.cell) (p.made (Some s.cell)) (embed_cells p c) d n b (λ o i. i) h (λ i. cells-mark p c d n b i)
+cells-mark p (s ∷ c) d n b (inr h) = made-mark p (Some s.cell) (p.new_cells (Some s.cell)) (embed_cells p c) d n b (λ o i. i) h (λ i. cells-mark p c d n b i)
 
 row-mark : (p : RowPart) (c : List Slot) (d : CellId) (n : NodeId) (b : Bool) → Has (embed_row p c) (Make d n b) → IsOfGroup p d n
-row-mark p c d n b h = made-mark p None (p.made None) (embed_cells p c) d n b (λ o i. i) h (λ i. cells-mark p c d n b i)
+row-mark p c d n b h = made-mark p None (p.new_cells None) (embed_cells p c) d n b (λ o i. i) h (λ i. cells-mark p c d n b i)
 
 -- who is put is set where it is, or leaves
 abbrev Moves : How → Type 0
@@ -107,8 +107,8 @@ moves (Some t) u e = go (same_to t u)
     go false = inr refl
 
 module _ (D : Document) (N : Intent) (C : Change) (x : IsSoundInForm D) (f : Fits D N) (emb : IsEmbedding D N C) where
-  abbrev L : Listed
-  L = listed_by_change C
+  abbrev L : Entries
+  L = entries_of_change C
 
   abbrev m : NodeId → Bool
   m = emb.mentioned

@@ -17,11 +17,12 @@ use Rattle.st_marks.specs.declared.places.Slot.{Slot}
 use Rattle.st_marks.specs.Document.{Document, IsSoundInForm, content}
 use Rattle.st_marks.specs.Embedding.{IsEmbedding, row_part}
 use Rattle.st_marks.specs.Intent.{Fits, put_of}
-use Rattle.st_marks.specs.Row.{CellMark, Counted, Gap, Touch, Make, Fill, RowPart, embed_cell, embed_cells, embed_made, embed_row, how, is_here, spread}
-use Rattle.st_marks.specs.Shown.{cells_in, one_or_none}
+use Rattle.st_marks.specs.Row.{CellMark, Counted, Gap, Touch, Make, Fill, RowPart, embed_cell, embed_cells, embed_made, embed_row, how, spread}
+use Rattle.st_marks.specs.How.{is_here}
+use Rattle.st_marks.specs.Listings.{cells_in, one_or_none}
 use Rattle.st_marks.proofs.Lookups.{has-put, put_in-has}
 use Rattle.st_marks.proofs.Members.{all-has, distinct-append, has-all, has-flat_map, list_distinct}
-use Rattle.st_normal.specs.Rules.{NodesArePutOnce, incoming, in_rows, listed_by_change, put_at}
+use Rattle.st_normal.specs.Rules.{NodesArePutOnce, incoming, in_rows, entries_of_change, put_at}
 use Rattle.st_normal_laws.proofs.Basics.{one-is}
 use Rattle.st_normal_laws.proofs.Easy.{row-look}
 use Rattle.st_normal_laws.proofs.EasyCells.{IsInRow, cells_are_once, in-row, one-row}
@@ -58,7 +59,7 @@ ArePut goes ms = (d : CellId) (n : NodeId) → Comes ms d n → goes n ≡ Some 
 one-cell : (c d : CellId) → Some (To.Cell c) ≡ Some (To.Cell d) → c ≡ d
 one-cell c d e = cc
 
-incoming-once : (goes : NodeId → Option To) (ms : List CellMark) → AreDistinct (λ (c : CellId). c) (cells_in ms) → ArePut goes ms → AreDistinct (λ (n : NodeId). n) (incoming ms)
+incoming-once : (target_of : NodeId → Option To) (ms : List CellMark) → AreDistinct (λ (c : CellId). c) (cells_in ms) → ArePut goes ms → AreDistinct (λ (n : NodeId). n) (incoming ms)
 incoming-once goes [] d p = tt
 incoming-once goes (Counted ∷ ms) d p = incoming-once goes ms d (λ c n r. p c n (more Counted ms c n r))
 incoming-once goes (Gap e ∷ ms) d p = incoming-once goes ms d.1 (λ c n r. p c n (more (Gap e) ms c n r))
@@ -75,38 +76,38 @@ incoming-once goes (Fill e k ∷ ms) d p = (
   incoming-once goes ms d.1 (λ c n r. p c n (more (Fill e k) ms c n r)),
 )
 
-made-put : (p : RowPart) (os : List Owned) (ms : List CellMark) → ArePut p.goes ms → ArePut p.goes (embed_made p os ++ ms)
+made-put : (p : RowPart) (os : List Owned) (ms : List CellMark) → ArePut p.target_of ms → ArePut p.target_of (embed_made p os ++ ms)
 made-put p [] ms w d n r = w d n r
 made-put p (o ∷ os) ms w d n (y, inl q, inl e) =
-    let mark : Make o.cell o.node (is_here (how (p.goes o.node) (To.Cell o.cell))) ≡ Make d n true = q ∙ e in
-    let a : o.cell ≡ d = cc in let b : o.node ≡ n = cc in let c : is_here (how (p.goes o.node) (To.Cell o.cell)) ≡ true = cc in
-    ap p.goes (sym b) ∙ is_here-put (p.goes o.node) (To.Cell o.cell) c ∙ ap (λ c. Some (To.Cell c)) a
-made-put p (o ∷ os) ms w d n (y, inl q, inr e) = let bad : Make o.cell o.node (is_here (how (p.goes o.node) (To.Cell o.cell))) ≡ Fill d n = q ∙ e in cc
+    let mark : Make o.cell o.node (is_here (how (p.target_of o.node) (To.Cell o.cell))) ≡ Make d n true = q ∙ e in
+    let a : o.cell ≡ d = cc in let b : o.node ≡ n = cc in let c : is_here (how (p.target_of o.node) (To.Cell o.cell)) ≡ true = cc in
+    ap p.target_of (sym b) ∙ is_here-put (p.target_of o.node) (To.Cell o.cell) c ∙ ap (λ c. Some (To.Cell c)) a
+made-put p (o ∷ os) ms w d n (y, inl q, inr e) = let bad : Make o.cell o.node (is_here (how (p.target_of o.node) (To.Cell o.cell))) ≡ Fill d n = q ∙ e in cc
 made-put p (o ∷ os) ms w d n (y, inr h, e) = made-put p os ms w d n (y, h, e)
 
-cell-put : (p : RowPart) (c : CellId) (k : NodeId) (b : Bool) (d : CellId) (n : NodeId) → IsComing (embed_cell p c k b) d n → p.goes n ≡ Some (To.Cell d)
+cell-put : (p : RowPart) (c : CellId) (k : NodeId) (b : Bool) (d : CellId) (n : NodeId) → IsComing (embed_cell p c k b) d n → p.target_of n ≡ Some (To.Cell d)
 cell-put p c k true d n e = go (p.mentioned k) e
   where
-    go : (z : Bool) → IsComing (cond z (Touch c k (how (p.goes k) (To.Cell c))) Counted) d n → p.goes n ≡ Some (To.Cell d)
+    go : (z : Bool) → IsComing (cond z (Touch c k (how (p.target_of k) (To.Cell c))) Counted) d n → p.target_of n ≡ Some (To.Cell d)
     go true (inl e) = cc
     go true (inr e) = cc
     go false (inl e) = cc
     go false (inr e) = cc
-cell-put p c k false d n e = go (is_here (how (p.goes k) (To.Cell c))) refl e
+cell-put p c k false d n e = go (is_here (how (p.target_of k) (To.Cell c))) refl e
   where
-    go : (z : Bool) → is_here (how (p.goes k) (To.Cell c)) ≡ z → IsComing (cond z (Fill c k) (Gap c)) d n → p.goes n ≡ Some (To.Cell d)
+    go : (z : Bool) → is_here (how (p.target_of k) (To.Cell c)) ≡ z → IsComing (cond z (Fill c k) (Gap c)) d n → p.target_of n ≡ Some (To.Cell d)
     go true h (inl e) = cc
-    go true h (inr e) = let a : c ≡ d = cc in let b : k ≡ n = cc in ap p.goes (sym b) ∙ is_here-put (p.goes k) (To.Cell c) h ∙ ap (λ c. Some (To.Cell c)) a
+    go true h (inr e) = let a : c ≡ d = cc in let b : k ≡ n = cc in ap p.target_of (sym b) ∙ is_here-put (p.target_of k) (To.Cell c) h ∙ ap (λ c. Some (To.Cell c)) a
     go false h (inl e) = cc
     go false h (inr e) = cc
 
-cells-put : (p : RowPart) (c : List Slot) → ArePut p.goes (embed_cells p c)
+cells-put : (p : RowPart) (c : List Slot) → ArePut p.target_of (embed_cells p c)
 cells-put p [] d n r = absurd r.1
 cells-put p (s ∷ c) d n (y, inl q, e) = cell-put p s.cell s.node s.full d n (subst (λ y. IsComing y d n) (sym q) e)
-cells-put p (s ∷ c) d n (y, inr h, e) = made-put p (p.made (Some s.cell)) (embed_cells p c) (λ d n r. cells-put p c d n r) d n (y, h, e)
+cells-put p (s ∷ c) d n (y, inr h, e) = made-put p (p.new_cells (Some s.cell)) (embed_cells p c) (λ d n r. cells-put p c d n r) d n (y, h, e)
 
-row-put : (p : RowPart) (c : List Slot) → ArePut p.goes (embed_row p c)
-row-put p c = made-put p (p.made None) (embed_cells p c) (cells-put p c)
+row-put : (p : RowPart) (c : List Slot) → ArePut p.target_of (embed_row p c)
+row-put p c = made-put p (p.new_cells None) (embed_cells p c) (cells-put p c)
 
 module _ (D : Document) (N : Intent) (C : Change) (x : IsSoundInForm D) (f : Fits D N) (emb : IsEmbedding D N C) where
   are-put : (r : RowMarks) → Has C.rows r → ArePut (put_of N) (spread r.marks)
@@ -129,7 +130,7 @@ module _ (D : Document) (N : Intent) (C : Change) (x : IsSoundInForm D) (f : Fit
   cell-register : (c : CellId) (k : FieldId) → Some (To.Cell c) ≡ Some (To.Register k) → ⊥
   cell-register c k e = cc
 
-  pub nodes_are_put_once : NodesArePutOnce (listed_by_change C)
+  pub nodes_are_put_once : NodesArePutOnce (entries_of_change C)
   nodes_are_put_once = distinct-append (λ (n : NodeId). n) (in_rows incoming C.rows) (flat_map put_at C.regs)
       (distinct-flat (λ (n : NodeId). n) (λ (r : RowMarks). incoming (spread r.marks)) (λ (r : RowMarks). r.node) C.rows (rising_distinct node_cmp node_cmp_total (λ (r : RowMarks). r.node) C.rows emb.rows.rising)
       (λ r i. incoming-once (put_of N) (spread r.marks) (list_distinct (λ (r : RowMarks). cells_in (spread r.marks)) (λ (c : CellId). c) C.rows r (cells_are_once D N C x f emb) i) (are-put r i))

@@ -17,73 +17,64 @@ use Rattle.st_marks.specs.declared.marks.How.{How}
 use Rattle.st_marks.specs.declared.marks.RowMarks.{RowMarks}
 use Rattle.st_marks.specs.declared.places.Slot.{Slot}
 use Rattle.st_marks.specs.declared.places.Spot.{Spot}
-use Rattle.st_marks.specs.Document.{Document, IsSoundInForm, above, climb, content, node_of, root}
+use Rattle.st_marks.specs.Document.{Document, IsSoundInForm, above, climb, content, node_of, root, owned, slot}
 use Rattle.st_marks.specs.Embedding.{IsEmbedding, is_nowhere, row_part, register_part}
-use Rattle.st_marks.specs.Intent.{Fits, group_at, group_cells, is_new, new_node, new_row_of}
+use Rattle.st_marks.specs.Intent.{Fits, group_at, group_cells, is_new, new_node, new_row_of, IsKnown, cell_of, clears, put_of, put_in}
 use Rattle.st_marks.specs.Register.{how_held}
-use Rattle.st_marks.specs.Row.{CellMark, Counted, Gap, Touch, Fill, RowPart, embed_cell, embed_cells, embed_made, embed_row, how, is_here, spread}
-use Rattle.st_normal.specs.Rules.{Listed, in_rows, listed_by_change}
-use Rattle.st_marks.proofs.Lookups.{group_at-group, made_there}
-use Rattle.st_marks.proofs.Members.{true-false, all-has, append_left, has-append, map-has, has-map, flat_map-has, has-flat_map}
+use Rattle.st_marks.specs.Row.{CellMark, Counted, Gap, Touch, Fill, RowPart, embed_cell, embed_cells, embed_made, embed_row, how, spread, same_to}
+use Rattle.st_marks.specs.How.{is_here}
+use Rattle.st_normal.specs.Rules.{Entries, in_rows, entries_of_change, IsFoundAs, PutNodesLeave, RootStays, incoming, put_at}
+use Rattle.st_marks.proofs.Lookups.{group_at-group, made_there, put-has, has-put, put_in-has}
+use Rattle.st_marks.proofs.Members.{true-false, all-has, append_left, has-append, map-has, has-map, flat_map-has, has-flat_map, has-all}
 use Rattle.st_normal_laws.specs.Meant.{IsOver}
-use Rattle.st_marks.specs.Document.{owned, slot}
-use Rattle.st_marks.specs.Intent.{IsKnown, cell_of, clears, put_of}
 use Rattle.st_marks.specs.declared.intents.Put.{Put}
-use Rattle.st_marks.proofs.Lookups.{put-has}
-use Rattle.st_marks.proofs.Members.{has-all}
 use Rattle.st_normal_laws.proofs.FoundPlaces.{PlacedAs, as_row, as_held, as_loose, found_placed}
-use Rattle.st_normal_laws.proofs.Easy.{embedding_over, mentioned-found, row-look}
-use Rattle.st_normal_laws.proofs.Puts.{is_here-put}
-use Rattle.st_marks.specs.Intent.{put_in}
-use Rattle.st_marks.specs.Row.{same_to}
-use Rattle.st_normal.specs.Rules.{IsFoundAs, PutNodesLeave, RootStays, incoming, put_at}
+use Rattle.st_normal_laws.proofs.Easy.{embedding_over, mentioned-found, row-look, loose-is, loose-look, parts}
+use Rattle.st_normal_laws.proofs.Puts.{is_here-put, same_to-true}
 use Rattle.st_marks.specs.declared.marks.How.TheVariants.{Here, Leave}
-use Rattle.st_marks.proofs.Lookups.{has-put, put_in-has}
-use Rattle.st_normal_laws.proofs.Easy.{loose-is, loose-look, parts}
 use Rattle.st_normal_laws.proofs.EasyFound.{has-new}
 use Rattle.st_normal_laws.proofs.EasyRegisters.{fill-put, how_is}
 use Rattle.st_normal_laws.proofs.EasyStaying.{loose-how, touch-row}
-use Rattle.st_normal_laws.proofs.Puts.{same_to-true}
 use Rattle.st_normal_laws.proofs.Basics.{not-true, one-is, register-not-nowhere, row-not-nowhere}
 
 -- who comes into a cell is put there; the cell is made, or empty
 abbrev ComesTo : RowPart → List Slot → NodeId → CellId → Type 0
-ComesTo p c n d = (p.goes n ≡ Some (To.Cell d)) × (((a : Option CellId) × Has (p.made a) (record { cell = d; node = n })) ⊎ Has c (record { cell = d; node = n; full = false }))
+ComesTo p c n d = (p.target_of n ≡ Some (To.Cell d)) × (((a : Option CellId) × Has (p.made a) (record { cell = d; node = n })) ⊎ Has c (record { cell = d; node = n; full = false }))
 
 further : (p : RowPart) (s : Slot) (c : List Slot) (n : NodeId) → ((d : CellId) × ComesTo p c n d) → (d : CellId) × ComesTo p (s ∷ c) n d
 further p s c n r = (r.0, (r.1.0, elim r.1.1 [ inl a ↦ inl a | inr h ↦ inr (inr h) ]))
 
 made-incoming : (p : RowPart) (c : List Slot) (a : Option CellId) (os : List Owned) (ms : List CellMark) (n : NodeId) → ((o : Owned) → Has os o → Has (p.made a) o) → Has (incoming (embed_made p os ++ ms)) n → (Has (incoming ms) n → (d : CellId) × ComesTo p c n d) → (d : CellId) × ComesTo p c n d
 made-incoming p c a [] ms n sub h rest = rest h
-made-incoming p c a (o ∷ os) ms n sub h rest = go (is_here (how (p.goes o.node) (To.Cell o.cell))) refl h (λ i. made-incoming p c a os ms n (λ q j. sub q (inr j)) i rest)
+made-incoming p c a (o ∷ os) ms n sub h rest = go (is_here (how (p.target_of o.node) (To.Cell o.cell))) refl h (λ i. made-incoming p c a os ms n (λ q j. sub q (inr j)) i rest)
   where
-    go : (b : Bool) → is_here (how (p.goes o.node) (To.Cell o.cell)) ≡ b → Has (cond b (o.node ∷ incoming (embed_made p os ++ ms)) (incoming (embed_made p os ++ ms))) n → (Has (incoming (embed_made p os ++ ms)) n → (d : CellId) × ComesTo p c n d) → (d : CellId) × ComesTo p c n d
+    go : (b : Bool) → is_here (how (p.target_of o.node) (To.Cell o.cell)) ≡ b → Has (cond b (o.node ∷ incoming (embed_made p os ++ ms)) (incoming (embed_made p os ++ ms))) n → (Has (incoming (embed_made p os ++ ms)) n → (d : CellId) × ComesTo p c n d) → (d : CellId) × ComesTo p c n d
     go false e i more = more i
-    go true e (inl q) more = (o.cell, (ap p.goes (sym q) ∙ is_here-put (p.goes o.node) (To.Cell o.cell) e, inl (a, subst (λ n. Has (p.made a) (record { cell = o.cell; node = n })) q (sub o (inl refl)))))
+    go true e (inl q) more = (o.cell, (ap p.target_of (sym q) ∙ is_here-put (p.target_of o.node) (To.Cell o.cell) e, inl (a, subst (λ n. Has (p.made a) (record { cell = o.cell; node = n })) q (sub o (inl refl)))))
     go true e (inr i) more = more i
 
 cells-incoming : (p : RowPart) (c : List Slot) (n : NodeId) → Has (incoming (embed_cells p c)) n → (d : CellId) × ComesTo p c n d
 cells-incoming p [] n h = absurd h
 cells-incoming p (s ∷ c) n h = go s.full refl h (λ i. further p s c n (cells-incoming p c n i))
   where
-    rest : Has (incoming (embed_made p (p.made (Some s.cell)) ++ embed_cells p c)) n → (Has (incoming (embed_cells p c)) n → (d : CellId) × ComesTo p (s ∷ c) n d) → (d : CellId) × ComesTo p (s ∷ c) n d
-    rest i more = made-incoming p (s ∷ c) (Some s.cell) (p.made (Some s.cell)) (embed_cells p c) n (λ o j. j) i more
+    rest : Has (incoming (embed_made p (p.new_cells (Some s.cell)) ++ embed_cells p c)) n → (Has (incoming (embed_cells p c)) n → (d : CellId) × ComesTo p (s ∷ c) n d) → (d : CellId) × ComesTo p (s ∷ c) n d
+    rest i more = made-incoming p (s ∷ c) (Some s.cell) (p.new_cells (Some s.cell)) (embed_cells p c) n (λ o j. j) i more
 
-    go : (b : Bool) → s.full ≡ b → Has (incoming (embed_cell p s.cell s.node b ∷ (embed_made p (p.made (Some s.cell)) ++ embed_cells p c))) n → (Has (incoming (embed_cells p c)) n → (d : CellId) × ComesTo p (s ∷ c) n d) → (d : CellId) × ComesTo p (s ∷ c) n d
+    go : (b : Bool) → s.full ≡ b → Has (incoming (embed_cell p s.cell s.node b ∷ (embed_made p (p.new_cells (Some s.cell)) ++ embed_cells p c))) n → (Has (incoming (embed_cells p c)) n → (d : CellId) × ComesTo p (s ∷ c) n d) → (d : CellId) × ComesTo p (s ∷ c) n d
     go true e i more = full (p.mentioned s.node) i
       where
-        full : (z : Bool) → Has (incoming (cond z (Touch s.cell s.node (how (p.goes s.node) (To.Cell s.cell))) Counted ∷ (embed_made p (p.made (Some s.cell)) ++ embed_cells p c))) n → (d : CellId) × ComesTo p (s ∷ c) n d
+        full : (z : Bool) → Has (incoming (cond z (Touch s.cell s.node (how (p.target_of s.node) (To.Cell s.cell))) Counted ∷ (embed_made p (p.new_cells (Some s.cell)) ++ embed_cells p c))) n → (d : CellId) × ComesTo p (s ∷ c) n d
         full true i = rest i more
         full false i = rest i more
-    go false e i more = empty (is_here (how (p.goes s.node) (To.Cell s.cell))) refl i
+    go false e i more = empty (is_here (how (p.target_of s.node) (To.Cell s.cell))) refl i
       where
-        empty : (z : Bool) → is_here (how (p.goes s.node) (To.Cell s.cell)) ≡ z → Has (incoming (cond z (Fill s.cell s.node) (Gap s.cell) ∷ (embed_made p (p.made (Some s.cell)) ++ embed_cells p c))) n → (d : CellId) × ComesTo p (s ∷ c) n d
-        empty true g (inl q) = (s.cell, (ap p.goes (sym q) ∙ is_here-put (p.goes s.node) (To.Cell s.cell) g, inr (inl (λ i. record { cell = s.cell; node = q i; full = e i }))))
+        empty : (z : Bool) → is_here (how (p.target_of s.node) (To.Cell s.cell)) ≡ z → Has (incoming (cond z (Fill s.cell s.node) (Gap s.cell) ∷ (embed_made p (p.new_cells (Some s.cell)) ++ embed_cells p c))) n → (d : CellId) × ComesTo p (s ∷ c) n d
+        empty true g (inl q) = (s.cell, (ap p.target_of (sym q) ∙ is_here-put (p.target_of s.node) (To.Cell s.cell) g, inr (inl (λ i. record { cell = s.cell; node = q i; full = e i }))))
         empty true g (inr i) = rest i more
         empty false g i = rest i more
 
 pub row-incoming : (p : RowPart) (c : List Slot) (n : NodeId) → Has (incoming (embed_row p c)) n → (d : CellId) × ComesTo p c n d
-row-incoming p c n h = made-incoming p c None (p.made None) (embed_cells p c) n (λ o j. j) h (λ i. cells-incoming p c n i)
+row-incoming p c n h = made-incoming p c None (p.new_cells None) (embed_cells p c) n (λ o j. j) h (λ i. cells-incoming p c n i)
 
 leave-is : (o : Option To) (t u : To) → o ≡ Some t → (t ≢ u) → how o u ≡ Leave
 leave-is o t u e apart = ap (λ o. how o u) e ∙ go (same_to t u) refl
@@ -93,8 +84,8 @@ leave-is o t u e apart = ap (λ o. how o u) e ∙ go (same_to t u) refl
     go false q = refl
 
 module _ (D : Document) (N : Intent) (C : Change) (x : IsSoundInForm D) (f : Fits D N) (emb : IsEmbedding D N C) where
-  abbrev L : Listed
-  L = listed_by_change C
+  abbrev L : Entries
+  L = entries_of_change C
 
   abbrev m : NodeId → Bool
   m = emb.mentioned

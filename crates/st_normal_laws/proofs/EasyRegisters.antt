@@ -11,35 +11,29 @@ use Rattle.st_marks.specs.declared.intents.To.{To}
 use Rattle.st_marks.specs.declared.marks.RegMark.{RegMark}
 use Rattle.st_marks.specs.declared.marks.RowMarks.{RowMarks}
 use Rattle.st_marks.specs.declared.places.Slot.{Slot}
-use Rattle.st_marks.specs.Document.{Document, IsSoundInForm, content}
+use Rattle.st_marks.specs.Document.{Document, IsSoundInForm, content, slot}
 use Rattle.st_marks.specs.Embedding.{IsEmbedding, register_part}
-use Rattle.st_marks.specs.Intent.{Fits}
+use Rattle.st_marks.specs.Intent.{Fits, clears, put_of, put_in}
 use Rattle.st_marks.specs.Register.{RegisterPart, comes_in, embed_register, holds_mentioned, how_held}
-use Rattle.st_marks.specs.Row.{how, is_here, spread}
-use Rattle.st_normal.specs.Rules.{Listed, listed_by_change}
-use Rattle.st_marks.specs.Shown.{cells_before}
-use Rattle.st_marks.proofs.Members.{true-false, all-has, has-map}
+use Rattle.st_marks.specs.Row.{how, spread}
+use Rattle.st_marks.specs.How.{is_here}
+use Rattle.st_normal.specs.Rules.{Entries, entries_of_change, FilledRegistersAreCleared, KeysAreThere, NewRowsAreMade, RegisterMarksFit, RegistersTell}
+use Rattle.st_marks.specs.Listings.{cells_before, CellView}
+use Rattle.st_marks.proofs.Members.{true-false, all-has, has-map, has-all}
 use Rattle.st_normal_laws.specs.Told.{AreAsSeen}
 use Rattle.st_normal_laws.specs.Meant.{IsOver}
-use Rattle.st_marks.specs.Document.{slot}
-use Rattle.st_marks.specs.Intent.{clears, put_of}
-use Rattle.st_marks.proofs.Lookups.{put-has, clears-has}
-use Rattle.st_marks.proofs.Members.{has-all}
+use Rattle.st_marks.proofs.Lookups.{put-has, clears-has, has-put_in, put_clears, put_in-has}
 use Rattle.st_normal_laws.proofs.Easy.{embedding_over, held-is, reg-look}
 use Rattle.st_normal_laws.proofs.Puts.{is_here-put}
-use Rattle.st_marks.specs.Intent.{put_in}
-use Rattle.st_normal.specs.Rules.{FilledRegistersAreCleared, KeysAreThere, NewRowsAreMade, RegisterMarksFit, RegistersTell}
-use Rattle.st_marks.specs.Shown.{Seen}
 use Rattle.st_marks.specs.declared.marks.How.TheVariants.{Stay, Here}
-use Rattle.st_marks.proofs.Lookups.{has-put_in, put_clears, put_in-has}
 use Rattle.st_normal_laws.proofs.EasyStaying.{reg-how}
 
 here-put : (o : Option To) (t : To) → how o t ≡ Here → o ≡ Some t
 here-put o t e = is_here-put o t (ap is_here e)
 
 module _ (D : Document) (N : Intent) (C : Change) (x : IsSoundInForm D) (f : Fits D N) (emb : IsEmbedding D N C) where
-  abbrev L : Listed
-  L = listed_by_change C
+  abbrev L : Entries
+  L = entries_of_change C
 
   abbrev m : NodeId → Bool
   m = emb.mentioned
@@ -149,7 +143,7 @@ module _ (D : Document) (N : Intent) (C : Change) (x : IsSoundInForm D) (f : Fit
   pub new_rows_are_made : NewRowsAreMade L
   new_rows_are_made = has-all (λ (r : RowMarks). Has L.new r.node → cells_before (spread r.marks) ≡ []) C.rows (λ r i h. none (content D r.node) (cells_before (spread r.marks)) (o.rows r i) (λ s j. nobody r.node (o.new_nodes r.node h) s j))
     where
-      none : (c : List Slot) (xs : List Seen) → AreAsSeen c xs → ((s : Slot) → Has c s → ⊥) → xs ≡ []
+      none : (c : List Slot) (xs : List CellView) → AreAsSeen c xs → ((s : Slot) → Has c s → ⊥) → xs ≡ []
       none [] [] p h = refl
       none [] (y ∷ ys) p h = absurd p
       none (s ∷ c) xs p h = absurd (h s (inl refl))

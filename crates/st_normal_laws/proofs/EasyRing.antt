@@ -22,7 +22,8 @@ use Rattle.st_marks.specs.Document.{Document, IsSoundInForm, content, node_of, s
 use Rattle.st_marks.specs.Embedding.{IsEmbedding, is_among, row_part}
 use Rattle.st_marks.specs.Intent.{Fits, above_new, group_at, is_new, new_row_of, put_of, put_under}
 use Rattle.st_marks.specs.Row.{CellMark, Counted, Gap, Touch, Make, Fill, spread}
-use Rattle.st_marks.specs.Shown.{Says, says_in_row, says_in_register, says_nowhere, Seen, cells_after, held_after, is_leave, nodes_new, seen, shown_after_change}
+use Rattle.st_marks.specs.Listings.{Places, placed_in_row, placed_in_register, placed_nowhere, CellView, cells_after, held_after, nodes_new, cell_view, listing_after_change}
+use Rattle.st_marks.specs.How.{is_leave}
 use Rattle.st_marks.proofs.Lookups.{group_at-group, has-put, new_row_of-group, put_in-has}
 use Rattle.st_marks.proofs.Members.{has-map}
 use Rattle.st_normal.specs.Links.{stands_after}
@@ -107,10 +108,10 @@ module _ (D : Document) (N : Intent) (C : Change) (x : IsSoundInForm D) (f : Fit
     | inr q ↦ absurd (old n h (x.held_known n r.field (o.held r i ∙ q)).0)
   ]
 
-  row-says : (n k : NodeId) (cells : List Seen) (b : Bool) (q : Option RowMarks) → item_of node_cmp (λ (r : RowMarks). r.node) C.rows k ≡ q
+  row-says : (n k : NodeId) (cells : List CellView) (b : Bool) (q : Option RowMarks) → item_of node_cmp (λ (r : RowMarks). r.node) C.rows k ≡ q
       → option_or (option_map (λ (r : RowMarks). cells_after (spread r.marks)) q) (cond b (Some []) None) ≡ Some cells
-      → (j : ℕ) (c : CellId) → slice_get cells j ≡ Some (seen c n true) → New n → put_under N (put_of N n) ≡ Some k
-  row-says n k cells true None e g j c h i = let same : [] ≡ cells = cc in let bad : None ≡ Some (seen c n true) = ap (λ l. slice_get l j) same ∙ h in cc
+      → (j : ℕ) (c : CellId) → slice_get cells j ≡ Some (cell_view c n true) → New n → put_under N (put_of N n) ≡ Some k
+  row-says n k cells true None e g j c h i = let same : [] ≡ cells = cc in let bad : None ≡ Some (cell_view c n true) = ap (λ l. slice_get l j) same ∙ h in cc
   row-says n k cells false None e g j c h i = cc
   row-says n k cells b (Some r) e g j c h i =
       let l = item_of-has node_cmp node_cmp_total node_cmp_exact (λ (r : RowMarks). r.node) C.rows k r e in
@@ -126,10 +127,10 @@ module _ (D : Document) (N : Intent) (C : Change) (x : IsSoundInForm D) (f : Fit
       let same : held_after r ≡ Some n = cc in
       in-register r n l.0 i same ∙ ap (λ (k : FieldId). Some k.node) l.1
 
-  says-under : (n p : NodeId) (s : Spot) → Says (shown_after_change C) n s → New n → node_of s ≡ Some p → put_under N (put_of N n) ≡ Some p
-  says-under n p s (says_in_row k _ c cells j e h) i g = row-says n k cells (is_among (nodes_new C.new) k) (item_of node_cmp (λ (r : RowMarks). r.node) C.rows k) refl e j c h i ∙ g
-  says-under n p s (says_in_register k _ e) i g = reg-says n k (is_among (nodes_new C.new) k.node) (item_of field_cmp (λ (r : RegMark). r.field) C.regs k) refl e i ∙ g
-  says-under n p s (says_nowhere _ e) i g = cc
+  says-under : (n p : NodeId) (s : Spot) → Places (listing_after_change C) n s → New n → node_of s ≡ Some p → put_under N (put_of N n) ≡ Some p
+  says-under n p s (placed_in_row k _ c cells j e h) i g = row-says n k cells (is_among (nodes_new C.new) k) (item_of node_cmp (λ (r : RowMarks). r.node) C.rows k) refl e j c h i ∙ g
+  says-under n p s (placed_in_register k _ e) i g = reg-says n k (is_among (nodes_new C.new) k.node) (item_of field_cmp (λ (r : RegMark). r.field) C.regs k) refl e i ∙ g
+  says-under n p s (placed_nowhere _ e) i g = cc
 
   says-above : (n p : NodeId) (s : Spot) → IsNewInNew C n s → node_of s ≡ Some p → above_new N n ≡ Some p
   says-above n p s a g = up-new n p a.0 (subst (λ (q : Option NodeId). IfSome q New) g a.1) (says-under n p s a.2 a.0 g)

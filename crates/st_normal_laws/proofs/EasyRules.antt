@@ -14,34 +14,26 @@ use Rattle.st_marks.specs.declared.marks.How.{How}
 use Rattle.st_marks.specs.declared.marks.RegMark.{RegMark}
 use Rattle.st_marks.specs.declared.marks.RowMarks.{RowMarks}
 use Rattle.st_marks.specs.declared.places.Spot.{Spot}
-use Rattle.st_marks.specs.Document.{Document, IsSoundInForm, above, content, node_of, root}
-use Rattle.st_marks.specs.Embedding.{IsEmbedding, row_marks, row_part, tells}
-use Rattle.st_marks.specs.Intent.{Fits}
+use Rattle.st_marks.specs.Document.{Document, IsSoundInForm, above, content, node_of, root, first_of, opening, revs}
+use Rattle.st_marks.specs.Embedding.{IsEmbedding, row_marks, row_part, tells, is_among}
+use Rattle.st_marks.specs.Intent.{Fits, cell_of}
 use Rattle.st_marks.specs.Row.{CellMark, Counted, Gap, Touch, Make, Fill, embed_row, merge, spread}
-use Rattle.st_normal.specs.Rules.{IsFound, Listed, listed_by_change}
-use Rattle.st_marks.specs.Shown.{cells_before, nodes_new}
+use Rattle.st_normal.specs.Rules.{IsFound, Entries, entries_of_change, ChangeIsRising, MarksAreMerged, NeededNodesAreFound, NewNodesAreNotFound, NewRegistersAreEmpty, NoRingBeforeChange, OpeningIsBase, RowsTell}
+use Rattle.st_marks.specs.Listings.{cells_before, nodes_new, Places, placed_in_row, placed_in_register, placed_nowhere, CellView, cell_view, listing_before_change}
 use Rattle.st_normal.proofs.Linked.{has-item_of, item_of-has}
-use Rattle.st_marks.proofs.Members.{all-has, append_left, append_right}
+use Rattle.st_marks.proofs.Members.{all-has, append_left, append_right, has-all}
 use Rattle.st_normal_laws.specs.Meant.{IsOver}
-use Rattle.st_marks.specs.Intent.{cell_of}
 use Rattle.st_marks.specs.declared.intents.Put.{Put}
-use Rattle.st_marks.proofs.Members.{has-all}
-use Rattle.st_normal_laws.proofs.FoundPlaces.{held_place, touch_place}
-use Rattle.st_normal_laws.proofs.Easy.{embedding_over, mentioned-found, row-look}
+use Rattle.st_normal_laws.proofs.FoundPlaces.{held_place, touch_place, found_there}
+use Rattle.st_normal_laws.proofs.Easy.{embedding_over, mentioned-found, row-look, row-told}
 use Rattle.st_marks.specs.Agree.{LeadsUp}
 use Rattle.st_marks.specs.Agree.LeadsUp.{one_up, further_up}
-use Rattle.st_marks.specs.Document.{first_of, opening, revs}
-use Rattle.st_marks.specs.Embedding.{is_among}
 use Rattle.st_normal.specs.Ring.{Reaches}
-use Rattle.st_normal.specs.Rules.{ChangeIsRising, MarksAreMerged, NeededNodesAreFound, NewNodesAreNotFound, NewRegistersAreEmpty, NoRingBeforeChange, OpeningIsBase, RowsTell}
-use Rattle.st_marks.specs.Shown.{Says, says_in_row, says_in_register, says_nowhere, Seen, seen, shown_before_change}
 use Rattle.st_marks.specs.Verdict.{HasBase}
 use Rattle.st_normal.proofs.AboveItself.{never_ends, one_step, step_before}
 use Rattle.st_normal.proofs.NoRings.{among_has}
 use Rattle.st_normal.proofs.ShownPlaces.{before_stands}
 use Rattle.st_normal.specs.Links.{stands_before}
-use Rattle.st_normal_laws.proofs.Easy.{row-told}
-use Rattle.st_normal_laws.proofs.FoundPlaces.{found_there}
 
 merged-told : (r : RowMarks) (n : NodeId) (cells : List CellMark) → row_marks n cells ≡ Some r → r.marks ≡ merge cells
 merged-told r n cells e = ap at (sym e ∙ ap (λ b. cond b (Some (record { node = n; marks = merge cells })) None) (row-told r n cells e).1)
@@ -60,8 +52,8 @@ stands-touch (Make e k b ∷ ms) n i = let r = stands-touch ms n i in (r.0, r.1,
 stands-touch (Fill e k ∷ ms) n i = let r = stands-touch ms n i in (r.0, r.1, inr r.2)
 
 module _ (D : Document) (N : Intent) (C : Change) (x : IsSoundInForm D) (f : Fits D N) (emb : IsEmbedding D N C) where
-  abbrev L : Listed
-  L = listed_by_change C
+  abbrev L : Entries
+  L = entries_of_change C
 
   abbrev m : NodeId → Bool
   m = emb.mentioned
@@ -115,13 +107,13 @@ module _ (D : Document) (N : Intent) (C : Change) (x : IsSoundInForm D) (f : Fit
 
   -- ## No ring
 
-  row-says : (n k : NodeId) (cells : List Seen) (q : Option RowMarks) → item_of node_cmp (λ (r : RowMarks). r.node) C.rows k ≡ q → option_map (λ (r : RowMarks). cells_before (spread r.marks)) q ≡ Some cells
-      → (j : ℕ) (c : CellId) → Rattle.std.specs.Prelude.slice_get cells j ≡ Some (seen c n true) → above D n ≡ Some k
+  row-says : (n k : NodeId) (cells : List CellView) (q : Option RowMarks) → item_of node_cmp (λ (r : RowMarks). r.node) C.rows k ≡ q → option_map (λ (r : RowMarks). cells_before (spread r.marks)) q ≡ Some cells
+      → (j : ℕ) (c : CellId) → Rattle.std.specs.Prelude.slice_get cells j ≡ Some (cell_view c n true) → above D n ≡ Some k
   row-says n k cells None e g j c h = cc
   row-says n k cells (Some r) e g j c h =
       let i = item_of-has node_cmp node_cmp_total node_cmp_exact (λ (r : RowMarks). r.node) C.rows k r e in
       let same : cells_before (spread r.marks) ≡ cells = cc in
-      let t = stands-touch (spread r.marks) n (before_stands (spread r.marks) j c n (subst (λ l. Rattle.std.specs.Prelude.slice_get l j ≡ Some (seen c n true)) (sym same) h)) in
+      let t = stands-touch (spread r.marks) n (before_stands (spread r.marks) j c n (subst (λ l. Rattle.std.specs.Prelude.slice_get l j ≡ Some (cell_view c n true)) (sym same) h)) in
       ap node_of (touch_place D C x o r t.0 n t.1 i.0 t.2) ∙ ap (λ k. Some k) i.1
 
   reg-says : (n : NodeId) (k : FieldId) (q : Option RegMark) → item_of field_cmp (λ (r : RegMark). r.field) C.regs k ≡ q → option_map (λ (r : RegMark). r.held) q ≡ Some (Some n) → above D n ≡ Some k.node
@@ -131,12 +123,12 @@ module _ (D : Document) (N : Intent) (C : Change) (x : IsSoundInForm D) (f : Fit
       let same : r.held ≡ Some n = cc in
       ap node_of (held_place D C x o r n i.0 same) ∙ ap (λ (k : FieldId). Some k.node) i.1
 
-  says-above : (n p : NodeId) (s : Spot) → Says (shown_before_change C) n s → node_of s ≡ Some p → above D n ≡ Some p
-  says-above n p s (says_in_row k _ c cells j e h) g = row-says n k cells (item_of node_cmp (λ (r : RowMarks). r.node) C.rows k) refl e j c h ∙ g
-  says-above n p s (says_in_register k _ e) g = reg-says n k (item_of field_cmp (λ (r : RegMark). r.field) C.regs k) refl e ∙ g
-  says-above n p s (says_nowhere _ e) g = cc
+  says-above : (n p : NodeId) (s : Spot) → Places (listing_before_change C) n s → node_of s ≡ Some p → above D n ≡ Some p
+  says-above n p s (placed_in_row k _ c cells j e h) g = row-says n k cells (item_of node_cmp (λ (r : RowMarks). r.node) C.rows k) refl e j c h ∙ g
+  says-above n p s (placed_in_register k _ e) g = reg-says n k (item_of field_cmp (λ (r : RegMark). r.field) C.regs k) refl e ∙ g
+  says-above n p s (placed_nowhere _ e) g = cc
 
-  reaches : (n q : NodeId) → LeadsUp (Says (shown_before_change C)) n q → Reaches (above D) n q
+  reaches : (n q : NodeId) → LeadsUp (Places (listing_before_change C)) n q → Reaches (above D) n q
   reaches n q (one_up s a e) = one_step (above D) n q (says-above n q s a e)
   reaches n q (further_up {p = k} s a e l) = step_before (above D) n k q (says-above n k s a e) (reaches k q l)
 

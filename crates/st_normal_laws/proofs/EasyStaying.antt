@@ -19,29 +19,21 @@ use Rattle.st_marks.specs.declared.marks.RegMark.{RegMark}
 use Rattle.st_marks.specs.declared.marks.RowMarks.{RowMarks}
 use Rattle.st_marks.specs.declared.places.Slot.{Slot}
 use Rattle.st_marks.specs.declared.places.Spot.{Spot}
-use Rattle.st_marks.specs.Document.{Document, IsSoundInForm, above, climb, content, node_of, root}
-use Rattle.st_marks.specs.Embedding.{IsEmbedding, embed_loose, is_nowhere, row_part, register_part, tells}
-use Rattle.st_marks.specs.Intent.{Fits, group_at, group_cells, is_new, new_node, new_row_of}
+use Rattle.st_marks.specs.Document.{Document, IsSoundInForm, above, climb, content, node_of, root, owned, slot}
+use Rattle.st_marks.specs.Embedding.{IsEmbedding, embed_loose, is_nowhere, row_part, register_part, tells, named_by_intent}
+use Rattle.st_marks.specs.Intent.{Fits, group_at, group_cells, is_new, new_node, new_row_of, IsKnown, cell_of, clears, put_of, Owns}
 use Rattle.st_marks.specs.Register.{RegisterPart, comes_in, embed_register, holds_mentioned, how_held}
-use Rattle.st_marks.specs.Row.{CellMark, Counted, Gap, Touch, Make, Fill, RowPart, embed_cell, embed_cells, embed_made, embed_row, how, is_here, merge, spread}
-use Rattle.st_normal.specs.Rules.{Listed, found_held, found_in, found_loose, in_rows, listed_by_change}
-use Rattle.st_marks.proofs.Climb.{above_known, climb_more, shown}
+use Rattle.st_marks.specs.Row.{CellMark, Counted, Gap, Touch, Make, Fill, RowPart, embed_cell, embed_cells, embed_made, embed_row, how, merge, spread}
+use Rattle.st_marks.specs.How.{is_here, is_stay}
+use Rattle.st_normal.specs.Rules.{Entries, found_held, found_in, found_loose, in_rows, entries_of_change, HasListedField, StayingNodesAreMentioned, kept_at, staying}
+use Rattle.st_marks.proofs.Climb.{above_known, climb_more, shown, stands}
 use Rattle.st_normal.proofs.Linked.{item_of-has}
-use Rattle.st_marks.proofs.Lookups.{made_there}
-use Rattle.st_marks.proofs.Members.{all-has, append_left, append_right, has-append, map-has, has-map, has-flat_map, has-any}
-use Rattle.st_marks.specs.Document.{owned, slot}
-use Rattle.st_marks.specs.Embedding.{named_by_intent}
-use Rattle.st_marks.specs.Intent.{IsKnown, cell_of, clears, put_of}
+use Rattle.st_marks.proofs.Lookups.{made_there, group_found, has-put}
+use Rattle.st_marks.proofs.Members.{all-has, append_left, append_right, has-append, map-has, has-map, has-flat_map, has-any, has-all}
 use Rattle.st_marks.specs.declared.intents.Put.{Put}
-use Rattle.st_marks.proofs.Climb.{stands}
-use Rattle.st_marks.proofs.Members.{has-all}
 use Rattle.st_normal_laws.proofs.FoundPlaces.{found_in-has, found_held-is}
-use Rattle.st_normal_laws.proofs.Easy.{held-is, reg-look, row-look}
-use Rattle.st_marks.specs.Intent.{Owns}
-use Rattle.st_normal.specs.Rules.{HasListedField, StayingNodesAreMentioned, is_stay, kept_at, staying}
-use Rattle.st_marks.proofs.Lookups.{group_found, has-put}
+use Rattle.st_normal_laws.proofs.Easy.{held-is, reg-look, row-look, row-listed, found-row, found-register, loose-is, loose-look, parts}
 use Rattle.st_normal.proofs.NoRings.{among_has}
-use Rattle.st_normal_laws.proofs.Easy.{row-listed, found-row, found-register, loose-is, loose-look, parts}
 use Rattle.st_normal_laws.proofs.Puts.{put-is_here}
 use Rattle.st_normal_laws.proofs.Basics.{or-right}
 
@@ -64,7 +56,7 @@ stay-none (Some u) t e = go (Rattle.st_marks.specs.Row.same_to u t) e
     go false e = cc
 
 abbrev pub IsTouched : RowPart → CellId → NodeId → How → Type 0
-IsTouched p d n h = (p.mentioned n ≡ true) × (how (p.goes n) (To.Cell d) ≡ h)
+IsTouched p d n h = (p.mentioned n ≡ true) × (how (p.target_of n) (To.Cell d) ≡ h)
 
 touch-made : (p : RowPart) (os : List Owned) (ms : List CellMark) (d : CellId) (n : NodeId) (h : How) → Has (embed_made p os ++ ms) (Touch d n h) → (Has ms (Touch d n h) → IsTouched p d n h) → IsTouched p d n h
 touch-made p [] ms d n h i rest = rest i
@@ -73,23 +65,23 @@ touch-made p (o ∷ os) ms d n h (inr i) rest = touch-made p os ms d n h i rest
 
 touch-cells : (p : RowPart) (c : List Slot) (d : CellId) (n : NodeId) (h : How) → Has (embed_cells p c) (Touch d n h) → IsTouched p d n h
 touch-cells p [] d n h i = absurd i
-touch-cells p (s ∷ c) d n h (inr i) = touch-made p (p.made (Some s.cell)) (embed_cells p c) d n h i (λ j. touch-cells p c d n h j)
+touch-cells p (s ∷ c) d n h (inr i) = touch-made p (p.new_cells (Some s.cell)) (embed_cells p c) d n h i (λ j. touch-cells p c d n h j)
 touch-cells p (s ∷ c) d n h (inl q) = go s.full q
   where
     go : (b : Bool) → embed_cell p s.cell s.node b ≡ Touch d n h → IsTouched p d n h
     go true e = full (p.mentioned s.node) refl e
       where
-        full : (z : Bool) → p.mentioned s.node ≡ z → cond z (Touch s.cell s.node (how (p.goes s.node) (To.Cell s.cell))) Counted ≡ Touch d n h → IsTouched p d n h
-        full true g e = let a : s.cell ≡ d = cc in let b : s.node ≡ n = cc in let k : how (p.goes s.node) (To.Cell s.cell) ≡ h = cc in (ap p.mentioned (sym b) ∙ g, (λ i. how (p.goes (sym b i)) (To.Cell (sym a i))) ∙ k)
+        full : (z : Bool) → p.mentioned s.node ≡ z → cond z (Touch s.cell s.node (how (p.target_of s.node) (To.Cell s.cell))) Counted ≡ Touch d n h → IsTouched p d n h
+        full true g e = let a : s.cell ≡ d = cc in let b : s.node ≡ n = cc in let k : how (p.target_of s.node) (To.Cell s.cell) ≡ h = cc in (ap p.mentioned (sym b) ∙ g, (λ i. how (p.target_of (sym b i)) (To.Cell (sym a i))) ∙ k)
         full false g e = cc
-    go false e = empty (is_here (how (p.goes s.node) (To.Cell s.cell))) e
+    go false e = empty (is_here (how (p.target_of s.node) (To.Cell s.cell))) e
       where
         empty : (z : Bool) → cond z (Fill s.cell s.node) (Gap s.cell) ≡ Touch d n h → IsTouched p d n h
         empty true e = cc
         empty false e = cc
 
 pub touch-row : (p : RowPart) (c : List Slot) (d : CellId) (n : NodeId) (h : How) → Has (embed_row p c) (Touch d n h) → IsTouched p d n h
-touch-row p c d n h i = touch-made p (p.made None) (embed_cells p c) d n h i (λ j. touch-cells p c d n h j)
+touch-row p c d n h i = touch-made p (p.new_cells None) (embed_cells p c) d n h i (λ j. touch-cells p c d n h j)
 
 -- a made cell, and a cell that is filled, tell
 make-told : (p : RowPart) (os : List Owned) (ms : List CellMark) (o : Owned) → Has os o → list_any tells (embed_made p os ++ ms) ≡ true
@@ -100,16 +92,16 @@ rest-told : (p : RowPart) (os : List Owned) (ms : List CellMark) → list_any te
 rest-told p [] ms e = e
 rest-told p (q ∷ os) ms e = refl
 
-after-told : (p : RowPart) (c : List Slot) (s : Slot) (o : Owned) → Has c s → Has (p.made (Some s.cell)) o → list_any tells (embed_cells p c) ≡ true
+after-told : (p : RowPart) (c : List Slot) (s : Slot) (o : Owned) → Has c s → Has (p.new_cells (Some s.cell)) o → list_any tells (embed_cells p c) ≡ true
 after-told p [] s o h i = absurd h
-after-told p (t ∷ c) s o (inl q) i = or-right (tells (embed_cell p t.cell t.node t.full)) _ (make-told p (p.made (Some t.cell)) (embed_cells p c) o (subst (λ (t : Slot). Has (p.made (Some t.cell)) o) (sym q) i))
-after-told p (t ∷ c) s o (inr h) i = or-right (tells (embed_cell p t.cell t.node t.full)) _ (rest-told p (p.made (Some t.cell)) (embed_cells p c) (after-told p c s o h i))
+after-told p (t ∷ c) s o (inl q) i = or-right (tells (embed_cell p t.cell t.node t.full)) _ (make-told p (p.new_cells (Some t.cell)) (embed_cells p c) o (subst (λ (t : Slot). Has (p.new_cells (Some t.cell)) o) (sym q) i))
+after-told p (t ∷ c) s o (inr h) i = or-right (tells (embed_cell p t.cell t.node t.full)) _ (rest-told p (p.new_cells (Some t.cell)) (embed_cells p c) (after-told p c s o h i))
 
-fill-told : (p : RowPart) (c : List Slot) (s : Slot) → Has c s → s.full ≡ false → how (p.goes s.node) (To.Cell s.cell) ≡ Rattle.st_marks.specs.declared.marks.How.TheVariants.Here → list_any tells (embed_cells p c) ≡ true
+fill-told : (p : RowPart) (c : List Slot) (s : Slot) → Has c s → s.full ≡ false → how (p.target_of s.node) (To.Cell s.cell) ≡ Rattle.st_marks.specs.declared.marks.How.TheVariants.Here → list_any tells (embed_cells p c) ≡ true
 fill-told p [] s h e f = absurd h
-fill-told p (t ∷ c) s (inl q) e f = ap (λ y. tells y || list_any tells (embed_made p (p.made (Some t.cell)) ++ embed_cells p c))
+fill-told p (t ∷ c) s (inl q) e f = ap (λ y. tells y || list_any tells (embed_made p (p.new_cells (Some t.cell)) ++ embed_cells p c))
     ((λ i. embed_cell p (q i).cell (q i).node (q i).full) ∙ ap (embed_cell p s.cell s.node) e ∙ ap (λ h. cond (is_here h) (Fill s.cell s.node) (Gap s.cell)) f)
-fill-told p (t ∷ c) s (inr h) e f = or-right (tells (embed_cell p t.cell t.node t.full)) _ (rest-told p (p.made (Some t.cell)) (embed_cells p c) (fill-told p c s h e f))
+fill-told p (t ∷ c) s (inr h) e f = or-right (tells (embed_cell p t.cell t.node t.full)) _ (rest-told p (p.new_cells (Some t.cell)) (embed_cells p c) (fill-told p c s h e f))
 
 climb-last : (up : NodeId → Option NodeId) (k : ℕ) (s n : NodeId) → climb up (suc k) s ≡ Some n → (q : NodeId) × (climb up k s ≡ Some q) × (up q ≡ Some n)
 climb-last up zero s n e = go (up s) refl
@@ -124,8 +116,8 @@ climb-last up (suc k) s n e = go (up s) refl (λ p f. climb-last up k p n f)
     go (Some p) f rest = let r = rest p (ap (option_and_then (climb up (suc k))) (sym f) ∙ e) in (r.0, ap (option_and_then (climb up k)) f ∙ r.1, r.2)
 
 module _ (D : Document) (N : Intent) (C : Change) (x : IsSoundInForm D) (f : Fits D N) (emb : IsEmbedding D N C) where
-  abbrev L : Listed
-  L = listed_by_change C
+  abbrev L : Entries
+  L = entries_of_change C
 
   abbrev m : NodeId → Bool
   m = emb.mentioned
@@ -155,7 +147,7 @@ module _ (D : Document) (N : Intent) (C : Change) (x : IsSoundInForm D) (f : Fit
   reg-why r n i e = inr (subst (HasListedField L) e (append_right (map (λ (r : RowMarks). r.node) C.rows) (map (λ (k : FieldId). k.node) L.registers) r.field.node (map-has (λ (k : FieldId). k.node) L.registers r.field (map-has (λ (r : RegMark). r.field) C.regs r i))))
 
   told-why : (n : NodeId) → list_any tells (embed_cells (part n) (content D n)) ≡ true → Why n
-  told-why n e = let r = row-listed D N C x f emb n (rest-told (part n) ((part n).made None) (embed_cells (part n) (content D n)) e) in row-why r.0 n r.1 r.2
+  told-why n e = let r = row-listed D N C x f emb n (rest-told (part n) ((part n).new_cells None) (embed_cells (part n) (content D n)) e) in row-why r.0 n r.1 r.2
 
   some-node : {a b : NodeId} → ◌≡◌ {A = Option NodeId} (Some a) (Some b) → a ≡ b
   some-node q = cc
@@ -179,7 +171,7 @@ module _ (D : Document) (N : Intent) (C : Change) (x : IsSoundInForm D) (f : Fit
       go a e [] q = absurd (some q)
       go None e (o ∷ os) q =
           let made : Has (group_at N g.node None) o = subst (λ a. Has (group_at N g.node a) o) e (subst (λ l. Has l o) (sym at) (subst (λ l. Has l o) (sym q) (inl refl))) in
-          let r = row-listed D N C x f emb g.node (make-told (part g.node) ((part g.node).made None) (embed_cells (part g.node) (content D g.node)) o made) in row-why r.0 g.node r.1 r.2
+          let r = row-listed D N C x f emb g.node (make-told (part g.node) ((part g.node).new_cells None) (embed_cells (part g.node) (content D g.node)) o made) in row-why r.0 g.node r.1 r.2
       go (Some c) e (o ∷ os) q =
           let made : Has (group_at N g.node (Some c)) o = subst (λ a. Has (group_at N g.node a) o) e (subst (λ l. Has l o) (sym at) (subst (λ l. Has l o) (sym q) (inl refl))) in
           let row = (x.one_row c g.node).0 (subst (λ a. IfSome a (λ c. D.row_of c ≡ Some g.node)) e known) in
@@ -191,8 +183,8 @@ module _ (D : Document) (N : Intent) (C : Change) (x : IsSoundInForm D) (f : Fit
     | inl r ↦ (let same = some-node (sym ((x.one_row c r.0).1 (p.node, r.1)) ∙ q) in at (slot D (owned c p.node)).full refl (subst (λ k. Has (content D k) (slot D (owned c p.node))) same (map-has (slot D) (D.rows r.0) (owned c p.node) r.1)))
   ]
     where
-      goes : put_of N p.node ≡ Some (To.Cell c)
-      goes = has-put N f.itself p h ∙ ap (λ t. Some t) e
+      target_of : put_of N p.node ≡ Some (To.Cell c)
+      target_of = has-put N f.itself p h ∙ ap (λ t. Some t) e
 
       at : (b : Bool) → (slot D (owned c p.node)).full ≡ b → Has (content D n) (slot D (owned c p.node)) → Why n
       at false g i = told-why n (fill-told (part n) (content D n) (slot D (owned c p.node)) i g (put-is_here (put_of N p.node) (To.Cell c) goes))

@@ -21,9 +21,10 @@ use Rattle.st_marks.specs.declared.places.Slot.{Slot}
 use Rattle.st_marks.specs.Document.{Document, IsSoundInForm, above, climb, content, node_of, owned, root, slot}
 use Rattle.st_marks.specs.Embedding.{IsMentionedByIntent, is_among, named_by_intent, tells}
 use Rattle.st_marks.specs.Intent.{cell_of}
-use Rattle.st_marks.specs.Row.{CellMark, Counted, Gap, Touch, Make, Fill, spread, is_here}
-use Rattle.st_normal.specs.Rules.{IsFound, IsFoundAs, HasListedField, Listed, ObeysDataRules, fields_of, found_at, found_held, found_in, found_loose, in_rows, incoming, is_stay, kept_at, listed_by_change, put_at, staying}
-use Rattle.st_marks.specs.Shown.{Seen, cells_before, is_leave, nodes_new, one_or_none}
+use Rattle.st_marks.specs.Row.{CellMark, Counted, Gap, Touch, Make, Fill, spread}
+use Rattle.st_marks.specs.How.{is_here, is_stay, is_leave}
+use Rattle.st_normal.specs.Rules.{IsFound, IsFoundAs, HasListedField, Entries, ObeysDataRules, fields_of, found_at, found_held, found_in, found_loose, in_rows, incoming, kept_at, entries_of_change, put_at, staying}
+use Rattle.st_marks.specs.Listings.{CellView, cells_before, nodes_new, one_or_none}
 use Rattle.st_marks.proofs.Climb.{above_known, climb_more}
 use Rattle.st_normal.proofs.NoRings.{among_has}
 use Rattle.st_marks.proofs.Members.{true-false, all-has, append_left, append_right, has-append, map-has, has-map, flat_map-has, has-flat_map, any-has, has-filter_map}
@@ -61,8 +62,8 @@ stay-leave Here = inr (inl refl)
 stay-leave Leave = inr (inr refl)
 
 module _ (D : Document) (C : Change) (x : IsSoundInForm D) (w : ObeysDataRules C) (o : IsOver D C) where
-  abbrev L : Listed
-  L = listed_by_change C
+  abbrev L : Entries
+  L = entries_of_change C
 
   abbrev N : Intent
   N = meant D C
@@ -141,7 +142,7 @@ module _ (D : Document) (C : Change) (x : IsSoundInForm D) (w : ObeysDataRules C
       )
       set here (as_loose l j k q p g) = (To.Nowhere, put-loose l (put_to f.node To.Nowhere) j (subst (λ b. Has (cond b (put_to l.node To.Nowhere ∷ []) []) (put_to f.node To.Nowhere)) (sym (here-true l.how (q ∙ here))) (inl (ap (λ n. put_to n To.Nowhere) k))))
 
-      goes : f.how ≡ Leave → (t : To) × Has N.put (put_to f.node t)
+      target_of : f.how ≡ Leave → (t : To) × Has N.put (put_to f.node t)
       goes leave = decide (is_among L.put f.node) refl
         where
           decide : (b : Bool) → is_among L.put f.node ≡ b → (t : To) × Has N.put (put_to f.node t)
@@ -402,7 +403,7 @@ module _ (D : Document) (C : Change) (x : IsSoundInForm D) (w : ObeysDataRules C
         elim q.2 [
           | inl a ↦ at r i (row-cell r q.0 p.node true (touched (content D r.node) (spread r.marks) q.0 p.node Here (o.rows r i) a)) same
           | inr b ↦ elim b [
-            | inl a ↦ (let bad : None ≡ Some n = sym (o.new_cells q.0 (flat_map-has (λ (r : RowMarks). Rattle.st_marks.specs.Shown.cells_made (spread r.marks)) C.rows r q.0 i (made-cell (spread r.marks) q.0 p.node true a))) ∙ ap D.row_of same ∙ f in cc)
+            | inl a ↦ (let bad : None ≡ Some n = sym (o.new_cells q.0 (flat_map-has (λ (r : RowMarks). Rattle.st_marks.specs.Listings.cells_made (spread r.marks)) C.rows r q.0 i (made-cell (spread r.marks) q.0 p.node true a))) ∙ ap D.row_of same ∙ f in cc)
             | inr a ↦ at r i (row-cell r q.0 p.node false (filled (content D r.node) (spread r.marks) q.0 p.node (o.rows r i) a)) same
           ]
         ])
@@ -439,7 +440,7 @@ module _ (D : Document) (C : Change) (x : IsSoundInForm D) (w : ObeysDataRules C
       at : (r : RowMarks) → Has C.rows r → {d : CellId} → D.row_of d ≡ Some r.node → d ≡ c → Has (fields_of L) n
       at r i q same = subst (Has (fields_of L)) (some-one (sym q ∙ ap D.row_of same ∙ f)) (Rattle.st_normal_laws.proofs.FoundPlaces.row_field-has D C x o r i)
 
-      made-cell : (ms : List CellMark) (d : CellId) (m : NodeId) (b : Bool) → Has ms (Make d m b) → Has (Rattle.st_marks.specs.Shown.cells_made ms) d
+      made-cell : (ms : List CellMark) (d : CellId) (m : NodeId) (b : Bool) → Has ms (Make d m b) → Has (Rattle.st_marks.specs.Listings.cells_made ms) d
       made-cell [] d m b i = absurd i
       made-cell (Counted ∷ ms) d m b (inl q) = cc
       made-cell (Counted ∷ ms) d m b (inr i) = made-cell ms d m b i

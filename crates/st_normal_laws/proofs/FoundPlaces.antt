@@ -15,8 +15,8 @@ use Rattle.st_marks.specs.declared.places.Slot.{Slot}
 use Rattle.st_marks.specs.declared.places.Spot.{Spot}
 use Rattle.st_marks.specs.Document.{Document, IsSoundInForm, above, content, node_of}
 use Rattle.st_marks.specs.Row.{CellMark, Counted, Gap, Touch, Make, Fill, spread}
-use Rattle.st_normal.specs.Rules.{IsFound, Listed, fields_of, found_at, found_held, found_in, found_loose, in_rows, listed_by_change}
-use Rattle.st_marks.specs.Shown.{cells_before}
+use Rattle.st_normal.specs.Rules.{IsFound, Entries, fields_of, found_at, found_held, found_in, found_loose, in_rows, entries_of_change}
+use Rattle.st_marks.specs.Listings.{cells_before}
 use Rattle.st_marks.proofs.Climb.{stands, placed_known}
 use Rattle.st_marks.proofs.Members.{append_left, append_right, has-append, map-has, has-map, has-flat_map}
 use Rattle.st_normal_laws.specs.Told.{AreAsSeen}
@@ -101,8 +101,8 @@ pub data PlacedAs (D : Document) (C : Change) (n : NodeId) (h : How) : Type 0 wh
   as_loose : (l : Loose) → Has C.loose l → l.node ≡ n → l.how ≡ h → D.place n ≡ Spot.Nowhere → IsSome (D.nodes n) → PlacedAs D C n h
 
 module _ (D : Document) (C : Change) (x : IsSoundInForm D) (o : IsOver D C) where
-  abbrev L : Listed
-  L = listed_by_change C
+  abbrev L : Entries
+  L = entries_of_change C
 
   pub touch_place : (r : RowMarks) (c : CellId) (n : NodeId) (h : How) → Has C.rows r → Has (spread r.marks) (Touch c n h) → D.place n ≡ Spot.Row r.node c
   touch_place r c n h i j = stands D x n r.node c (touched (content D r.node) (spread r.marks) c n h (o.rows r i) j)

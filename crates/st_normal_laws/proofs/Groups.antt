@@ -16,9 +16,10 @@ use Rattle.st_marks.specs.declared.places.Slot.{Slot}
 use Rattle.st_marks.specs.declared.intents.To.{To}
 use Rattle.st_marks.specs.Document.{Document, IsSoundInForm, content, slot}
 use Rattle.st_marks.specs.Intent.{cells_of, group_at, same_option}
-use Rattle.st_marks.specs.Row.{CellMark, Counted, Gap, Touch, Make, Fill, RowPart, spread, is_here, how, embed_cell, embed_made, embed_cells}
+use Rattle.st_marks.specs.Row.{CellMark, Counted, Gap, Touch, Make, Fill, RowPart, spread, how, embed_cell, embed_made, embed_cells}
+use Rattle.st_marks.specs.How.{is_here}
 use Rattle.st_normal.specs.Rules.{ObeysDataRules}
-use Rattle.st_marks.specs.Shown.{cells_before}
+use Rattle.st_marks.specs.Listings.{cells_before}
 use Rattle.st_marks.proofs.Lookups.{group_at-group}
 use Rattle.st_marks.proofs.Members.{all-has, has-all, append_left, append_right, has-append, map-has, has-map, flat_map-has, has-flat_map, distinct-has, distinct-append, first-distinct}
 use Rattle.st_normal_laws.specs.Told.{AreAsSeen}
@@ -94,10 +95,10 @@ along_once c ms p d = slots-distinct (along c ms) (subst (AreDistinct (λ (s : S
 -- ## A row by its cells
 
 abbrev pub IsEmbedded : RowPart → Along → Type 0
-IsEmbedded p t = (embed_cell p t.slot.cell t.slot.node t.slot.full ≡ t.mark) × (p.made (Some t.slot.cell) ≡ t.made)
+IsEmbedded p t = (embed_cell p t.slot.cell t.slot.node t.slot.full ≡ t.mark) × (p.new_cells (Some t.slot.cell) ≡ t.made)
 
 abbrev pub AreMade : RowPart → List CellMark → Type 0
-AreMade p ms = (d : CellId) (n : NodeId) (b : Bool) → Has ms (Make d n b) → is_here (how (p.goes n) (To.Cell d)) ≡ b
+AreMade p ms = (d : CellId) (n : NodeId) (b : Bool) → Has ms (Make d n b) → is_here (how (p.target_of n) (To.Cell d)) ≡ b
 
 -- where each cell has its mark and its group, the row has its marks
 pub row_along : (p : RowPart) (c : List Slot) (ms : List CellMark) → AreAsSeen c (cells_before ms) → ((t : Along) → Has (along c ms) t → IsEmbedded p t) → AreMade p ms → embed_made p (made_first ms) ++ embed_cells p c ≡ ms

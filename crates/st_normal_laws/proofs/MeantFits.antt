@@ -25,9 +25,10 @@ use Rattle.st_marks.specs.declared.marks.RowMarks.{RowMarks}
 use Rattle.st_marks.specs.declared.places.Slot.{Slot}
 use Rattle.st_marks.specs.Document.{Document, IsSoundInForm, ClimbsToAnEnd, climb, content, node_of, owned, root, slot}
 use Rattle.st_marks.specs.Intent.{group_cells, is_new, new_row_of, put_of}
-use Rattle.st_marks.specs.Row.{CellMark, Counted, Gap, Touch, Make, Fill, spread, is_here}
-use Rattle.st_normal.specs.Rules.{IsFound, IsFoundAs, Listed, ObeysDataRules, hole_owners, in_rows, is_stay, listed_by_change}
-use Rattle.st_marks.specs.Shown.{cells_before, cells_in, cells_made, nodes_new}
+use Rattle.st_marks.specs.Row.{CellMark, Counted, Gap, Touch, Make, Fill, spread}
+use Rattle.st_marks.specs.How.{is_here, is_stay}
+use Rattle.st_normal.specs.Rules.{IsFound, IsFoundAs, Entries, ObeysDataRules, hole_owners, in_rows, entries_of_change}
+use Rattle.st_marks.specs.Listings.{cells_before, cells_in, cells_made, nodes_new}
 use Rattle.st_marks.proofs.Lookups.{group-new_row_of}
 use Rattle.st_marks.proofs.Members.{true-false, all-has, has-all, append_left, append_right, has-append, map-has, has-map, flat_map-has, has-flat_map, first-has, none-has, any-has, has-any, distinct-has, distinct-append, has-filter_map}
 use Rattle.st_normal_laws.specs.Told.{AreAsSeen}
@@ -224,8 +225,8 @@ make-put (Fill d m ∷ ms) c n (inl q) = cc
 make-put (Fill d m ∷ ms) c n (inr k) = inr (make-put ms c n k)
 
 module _ (D : Document) (C : Change) (x : IsSoundInForm D) (w : ObeysDataRules C) (o : IsOver D C) (plain : C.schema ≡ None) where
-  abbrev L : Listed
-  L = listed_by_change C
+  abbrev L : Entries
+  L = entries_of_change C
 
   abbrev N : Intent
   N = meant D C

@@ -29,23 +29,22 @@ use Rattle.st_marks.specs.Agree.LeadsUp.{one_up, further_up}
 use Rattle.st_marks.specs.Document.{Document, IsSoundInForm, ClimbsToAnEnd, climb, content, node_of, owned, root, slot}
 use Rattle.st_marks.specs.Intent.{Fits, IsIntent, IsKnown, Owns, above_new, cell_of, clears, group_cells, is_new, new_row_of, put_of, put_under, register_of}
 use Rattle.st_normal.specs.Ring.{AreListed}
-use Rattle.st_marks.specs.Row.{CellMark, Counted, Gap, Touch, Make, Fill, spread, is_here}
-use Rattle.st_normal.specs.Rules.{IsFound, IsNewInNew, Listed, ObeysDataRules, fields_of, found_at, found_in, found_loose, in_rows, listed_by_change}
-use Rattle.st_marks.specs.Shown.{Says, says_in_row, says_in_register, cells_after, cells_made, held_after, is_leave, nodes_new, one_or_none, shown_after_change}
+use Rattle.st_marks.specs.Row.{CellMark, Counted, Gap, Touch, Make, Fill, spread}
+use Rattle.st_marks.specs.How.{is_here, is_leave}
+use Rattle.st_normal.specs.Rules.{IsFound, IsNewInNew, Entries, ObeysDataRules, fields_of, found_at, found_in, found_loose, in_rows, entries_of_change}
+use Rattle.st_marks.specs.Listings.{Places, placed_in_row, placed_in_register, cells_after, cells_made, held_after, nodes_new, one_or_none, listing_after_change, registers_after}
 use Rattle.st_normal.proofs.AboveItself.{no_ring-leads_up, too_long}
 use Rattle.st_normal.proofs.Linked.{has-item_of}
 use Rattle.st_marks.proofs.Lookups.{put-has, group-new_row_of}
 use Rattle.st_marks.proofs.Members.{all-has, has-all, append_left, append_right, has-append, map-has, has-map, flat_map-has, has-flat_map, any-has, has-any, distinct-has}
 use Rattle.st_normal.proofs.ShownPlaces.{stands-after}
 use Rattle.st_normal_laws.specs.Meant.{IsOver, cleared_at, leaving, meant, put_to, reg_puts}
-use Rattle.st_normal_laws.proofs.FoundPlaces.{touched, filled, found_there}
+use Rattle.st_normal_laws.proofs.FoundPlaces.{touched, filled, found_there, row_field-has, reg_field-has}
 use Rattle.st_normal_laws.proofs.Mentioned.{filter-has, leaving-has, row_put-has}
 use Rattle.st_normal_laws.proofs.Exact.{put-cases, put-moved, known-need}
 use Rattle.st_normal_laws.proofs.Puts.{put_once, put-is, cell-put, one_mark}
 use Rattle.st_normal_laws.proofs.Groups.{start_once, group-cases}
 use Rattle.st_normal.specs.Links.{stands_after}
-use Rattle.st_marks.specs.Shown.{registers_after}
-use Rattle.st_normal_laws.proofs.FoundPlaces.{row_field-has, reg_field-has}
 use Rattle.st_normal_laws.proofs.MeantFits.{rows_once, regs_once, new_once, new-is, is-new, found-old, moving-found, group-nonempty, group-cell, cell-made, make-made, made_all, once-filter_map, cell_once, anchor_once, anchor-row, new_row-none, make-owner, made-new, made-all, group-cells}
 use Rattle.st_normal_laws.proofs.Basics.{one-is}
 
@@ -68,8 +67,8 @@ make-stands (Fill d m ∷ ms) c n (inl q) = cc
 make-stands (Fill d m ∷ ms) c n (inr k) = inr (make-stands ms c n k)
 
 module _ (D : Document) (C : Change) (x : IsSoundInForm D) (w : ObeysDataRules C) (o : IsOver D C) (plain : C.schema ≡ None) where
-  abbrev L : Listed
-  L = listed_by_change C
+  abbrev L : Entries
+  L = entries_of_change C
 
   abbrev N : Intent
   N = meant D C
@@ -257,16 +256,16 @@ module _ (D : Document) (C : Change) (x : IsSoundInForm D) (w : ObeysDataRules C
 
   -- ## New nodes form no ring
 
-  row-after : (r : RowMarks) → Has C.rows r → (shown_after_change C).row r.node ≡ Some (cells_after (spread r.marks))
+  row-after : (r : RowMarks) → Has C.rows r → (listing_after_change C).row r.node ≡ Some (cells_after (spread r.marks))
   row-after r i = ap (λ q. option_or (option_map (λ (r : RowMarks). cells_after (spread r.marks)) q) (cond (Rattle.st_marks.specs.Embedding.is_among (nodes_new C.new) r.node) (Some []) None)) (has-item_of node_cmp node_cmp_total node_cmp_exact (λ (r : RowMarks). r.node) C.rows r w.rising.rows i)
 
-  reg-after : (r : RegMark) → Has C.regs r → (shown_after_change C).register r.field ≡ Some (held_after r)
+  reg-after : (r : RegMark) → Has C.regs r → (listing_after_change C).register r.field ≡ Some (held_after r)
   reg-after r i = ap (λ q. registers_after (option_map held_after q) C.new r.field) (has-item_of field_cmp field_cmp_total field_cmp_exact (λ (r : RegMark). r.field) C.regs r w.rising.regs i)
 
   some-node : {a b : NodeId} → ◌≡◌ {A = Option NodeId} (Some a) (Some b) → a ≡ b
   some-node q = cc
 
-  under-says : (n p : NodeId) (q : Option To) → put_of N n ≡ q → put_under N q ≡ Some p → Has (nodes_new C.new) n → (s : Spot) × Says (shown_after_change C) n s × (node_of s ≡ Some p)
+  under-says : (n p : NodeId) (q : Option To) → put_of N n ≡ q → put_under N q ≡ Some p → Has (nodes_new C.new) n → (s : Spot) × Places (listing_after_change C) n s × (node_of s ≡ Some p)
   under-says n p None e f h = cc
   under-says n p (Some To.Nowhere) e f h = cc
   under-says n p (Some (To.Cell c)) e f h =
@@ -275,9 +274,9 @@ module _ (D : Document) (C : Change) (x : IsSoundInForm D) (w : ObeysDataRules C
       let q = cell-put D C x w o n c e in
       made q.0 q.1 q.2 r.0 r.1 r.2 g.3.0.node (subst (λ c. Has (spread r.0.marks) (Make c g.3.0.node r.1)) g.3.2 r.3) (sym r.4 ∙ g.2)
     where
-      by : (r : RowMarks) → Has C.rows r → r.node ≡ p → Has (spread r.marks) (Make c n true) → (s : Spot) × Says (shown_after_change C) n s × (node_of s ≡ Some p)
+      by : (r : RowMarks) → Has C.rows r → r.node ≡ p → Has (spread r.marks) (Make c n true) → (s : Spot) × Places (listing_after_change C) n s × (node_of s ≡ Some p)
       by r i t m = let a = stands-after (spread r.marks) n (make-stands (spread r.marks) c n m) in
-          (Spot.Row r.node a.1, says_in_row r.node n a.1 (cells_after (spread r.marks)) a.0 (row-after r i) a.2, ap (λ n. Some n) t)
+          (Spot.Row r.node a.1, placed_in_row r.node n a.1 (cells_after (spread r.marks)) a.0 (row-after r i) a.2, ap (λ n. Some n) t)
 
       not-touch : {d : CellId} {m : NodeId} {b : Bool} → Touch c n Here ≡ Make d m b → ⊥
       not-touch e = cc
@@ -286,13 +285,13 @@ module _ (D : Document) (C : Change) (x : IsSoundInForm D) (w : ObeysDataRules C
       not-fill e = cc
 
       made : (q : RowMarks) → Has C.rows q → (Has (spread q.marks) (Touch c n Here) ⊎ Has (spread q.marks) (Make c n true) ⊎ Has (spread q.marks) (Fill c n))
-          → (r : RowMarks) (b : Bool) → Has C.rows r → (m : NodeId) → Has (spread r.marks) (Make c m b) → r.node ≡ p → (s : Spot) × Says (shown_after_change C) n s × (node_of s ≡ Some p)
+          → (r : RowMarks) (b : Bool) → Has C.rows r → (m : NodeId) → Has (spread r.marks) (Make c m b) → r.node ≡ p → (s : Spot) × Places (listing_after_change C) n s × (node_of s ≡ Some p)
       made q i (inl a) r b j m k t = absurd (not-touch (one_mark D C x w o q r (Touch c n Here) (Make c m b) c i j a k refl refl).1)
       made q i (inr (inl a)) r b j m k t = by q i (ap (λ (r : RowMarks). r.node) (one_mark D C x w o q r (Make c n true) (Make c m b) c i j a k refl refl).0 ∙ t) a
       made q i (inr (inr a)) r b j m k t = absurd (not-fill (one_mark D C x w o q r (Fill c n) (Make c m b) c i j a k refl refl).1)
   under-says n p (Some (To.Register f)) e g h =
       let r = reg-put n f (put-has N n (To.Register f) e) in
-      (Spot.Register f, says_in_register f n (subst (λ f. (shown_after_change C).register f ≡ Some (held_after r.0)) r.2 (reg-after r.0 r.1) ∙ ap (λ q. Some q) (held r.0 r.1 r.3)), g)
+      (Spot.Register f, placed_in_register f n (subst (λ f. (listing_after_change C).register f ≡ Some (held_after r.0)) r.2 (reg-after r.0 r.1) ∙ ap (λ q. Some q) (held r.0 r.1 r.3)), g)
     where
       held : (r : RegMark) → Has C.regs r → (r.fill ≡ Some n) ⊎ ((r.how ≡ Here) × (r.held ≡ Some n)) → held_after r ≡ Some n
       held r i (inl e) = ap (λ q. option_or q (cond (is_leave r.how) None (cond (Rattle.std.specs.Prelude.◌&&◌ r.clear (not (is_here r.how))) None r.held))) e
@@ -300,7 +299,7 @@ module _ (D : Document) (C : Change) (x : IsSoundInForm D) (w : ObeysDataRules C
           (append_right (in_rows found_in C.rows) (flat_map found_at C.regs ++ found_loose C.loose) (record { node = n; how = r.how })
           (append_left (flat_map found_at C.regs) (found_loose C.loose) (record { node = n; how = r.how }) (flat_map-has found_at C.regs r (record { node = n; how = r.how }) i (Rattle.st_normal_laws.proofs.FoundPlaces.is-found_held r.held n r.how e.1))))) h)
 
-  new-above : (n p : NodeId) → above_new N n ≡ Some p → Has (nodes_new C.new) n × Has (nodes_new C.new) p × ((s : Spot) × Says (shown_after_change C) n s × (node_of s ≡ Some p))
+  new-above : (n p : NodeId) → above_new N n ≡ Some p → Has (nodes_new C.new) n × Has (nodes_new C.new) p × ((s : Spot) × Places (listing_after_change C) n s × (node_of s ≡ Some p))
   new-above n p e = one (is_new N n) refl e
     where
       only : (b : Bool) (q : NodeId) → is_new N q ≡ b → cond b (Some q) None ≡ Some p → (q ≡ p) × (is_new N q ≡ true)
@@ -311,7 +310,7 @@ module _ (D : Document) (C : Change) (x : IsSoundInForm D) (w : ObeysDataRules C
       two None f g = cc
       two (Some q) f g = let r = only (is_new N q) q refl g in (f ∙ ap (λ q. Some q) r.0, ap (is_new N) (sym r.0) ∙ r.1)
 
-      one : (b : Bool) → is_new N n ≡ b → cond b (option_and_then (λ p. cond (is_new N p) (Some p) None) (put_under N (put_of N n))) None ≡ Some p → Has (nodes_new C.new) n × Has (nodes_new C.new) p × ((s : Spot) × Says (shown_after_change C) n s × (node_of s ≡ Some p))
+      one : (b : Bool) → is_new N n ≡ b → cond b (option_and_then (λ p. cond (is_new N p) (Some p) None) (put_under N (put_of N n))) None ≡ Some p → Has (nodes_new C.new) n × Has (nodes_new C.new) p × ((s : Spot) × Places (listing_after_change C) n s × (node_of s ≡ Some p))
       one false f g = cc
       one true f g = let r = two (put_under N (put_of N n)) refl g in let h = is-new D C x w o plain n f in (h, is-new D C x w o plain p r.1, under-says n p (put_of N n) refl r.0 h)
 

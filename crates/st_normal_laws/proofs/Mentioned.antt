@@ -13,9 +13,10 @@ use Rattle.st_marks.specs.declared.marks.How.{How}
 use Rattle.st_marks.specs.declared.marks.How.TheVariants.{Stay, Here, Leave}
 use Rattle.st_marks.specs.declared.places.Slot.{Slot}
 use Rattle.st_marks.specs.Document.{owned}
-use Rattle.st_marks.specs.Row.{CellMark, Counted, Gap, Touch, Make, Fill, is_here}
-use Rattle.st_normal.specs.Rules.{incoming, is_stay, staying}
-use Rattle.st_marks.specs.Shown.{cells_before, is_leave}
+use Rattle.st_marks.specs.Row.{CellMark, Counted, Gap, Touch, Make, Fill}
+use Rattle.st_marks.specs.How.{is_here, is_stay, is_leave}
+use Rattle.st_normal.specs.Rules.{incoming, staying}
+use Rattle.st_marks.specs.Listings.{cells_before}
 use Rattle.st_marks.proofs.Members.{true-false, append_right}
 use Rattle.st_normal_laws.specs.Told.{AreAsSeen}
 use Rattle.st_normal_laws.specs.Mentions.{moving}

@@ -2,8 +2,8 @@
 use Rattle.std.proofs.Common.{◌^◌, ◌≡◌, ◌≢◌, ◌↔◌, ◌<◌, ◌++◌, ℕ, Bool, true, false, List, [], ◌∷◌, map, length, Option, Some, None, IsSome, IsTrue, IfSome, cond, refl, sym, ap, ◌∙◌, subst, inl, inr, ◌⊎◌, arith, option_map}
 use Rattle.std.specs.List.{AllByRecursion, flat_map}
 use Rattle.st_ids.specs.Listing.{AreDistinct, Has}
-use Rattle.st_ids.specs.Order.{node_cmp, field_cmp}
-use Rattle.st_ids.proofs.Orders.{node_cmp_exact, node_cmp_total, field_cmp_exact, field_cmp_total}
+use Rattle.st_ids.specs.Order.{node_cmp, field_cmp, same_rev}
+use Rattle.st_ids.proofs.Orders.{node_cmp_exact, node_cmp_total, field_cmp_exact, field_cmp_total, same_rev-true, same_rev-itself}
 use Rattle.st_ids.specs.declared.names.CellId.{CellId}
 use Rattle.st_ids.specs.declared.names.FieldId.{FieldId}
 use Rattle.st_ids.specs.declared.names.NodeId.{NodeId}
@@ -18,29 +18,22 @@ use Rattle.st_marks.specs.declared.places.Slot.{Slot}
 use Rattle.st_marks.specs.declared.places.Spot.{Spot}
 use Rattle.st_marks.specs.Agree.{LeadsUp}
 use Rattle.st_marks.specs.Agree.LeadsUp.{one_up, further_up}
-use Rattle.st_marks.specs.Document.{Document, IsSoundInForm, node_of, owned, root}
+use Rattle.st_marks.specs.Document.{Document, IsSoundInForm, node_of, owned, root, CanBeInEffect, opening, revs}
 use Rattle.st_marks.specs.Intent.{Fits}
 use Rattle.st_marks.specs.Row.{CellMark, Counted, Gap, Touch, Make, Fill, spread}
-use Rattle.st_normal.specs.Rules.{IsFound, Listed, ObeysDataRules, fields_of, found_at, found_held, found_in, found_loose, in_rows, listed_by_change}
-use Rattle.st_marks.specs.Shown.{Seen, Says, says_in_row, says_in_register, cells_after, cells_before, cells_in, cells_made, nodes_new, one_or_none}
+use Rattle.st_normal.specs.Rules.{IsFound, Entries, ObeysDataRules, fields_of, found_at, found_held, found_in, found_loose, in_rows, entries_of_change, fill_owners}
+use Rattle.st_marks.specs.Listings.{CellView, Places, placed_in_row, placed_in_register, cells_after, cells_before, cells_in, cells_made, nodes_new, one_or_none, nodes_standing, listing_before_change}
 use Rattle.st_normal.proofs.Linked.{has-item_of}
-use Rattle.st_marks.proofs.Members.{true-false, all-has, has-all, append_left, append_right, has-append, map-has, has-map, flat_map-has, has-flat_map}
+use Rattle.st_marks.proofs.Members.{true-false, all-has, has-all, append_left, append_right, has-append, map-has, has-map, flat_map-has, has-flat_map, distinct-left, distinct-between, list_distinct, one_list}
 use Rattle.st_normal_laws.specs.Meant.{IsOver, meant}
-use Rattle.st_normal_laws.proofs.FoundPlaces.{touched, filled, found_there}
+use Rattle.st_normal_laws.proofs.FoundPlaces.{touched, filled, found_there, row_field-has, reg_field-has}
 use Rattle.st_normal_laws.proofs.Groups.{distinct-flat}
-use Rattle.st_normal_laws.proofs.FoundPlaces.{row_field-has, reg_field-has}
 use Rattle.st_normal_laws.proofs.MeantFits.{rising_distinct, append-assoc}
-use Rattle.st_ids.specs.Order.{same_rev}
-use Rattle.st_ids.proofs.Orders.{same_rev-true, same_rev-itself}
 use Rattle.st_ids.specs.declared.names.Atom.{Atom}
 use Rattle.st_marks.specs.declared.schemas.SchemaEntry.{SchemaEntry}
-use Rattle.st_marks.specs.Document.{CanBeInEffect, opening, revs}
 use Rattle.st_marks.specs.Embedding.{is_among}
 use Rattle.st_marks.specs.Normal.{IsNormalChange}
-use Rattle.st_normal.specs.Rules.{fill_owners}
-use Rattle.st_marks.specs.Shown.{nodes_shown, shown_before_change}
 use Rattle.st_marks.specs.Verdict.{HasBase}
-use Rattle.st_marks.proofs.Members.{distinct-left, distinct-between, list_distinct, one_list}
 use Rattle.st_normal.proofs.ShownPlaces.{stands-before}
 use Rattle.st_normal.specs.Links.{stands_before}
 use Rattle.st_normal_laws.specs.Laid.{laid, LaidRow, owned_at, cells_at}
@@ -102,7 +95,7 @@ found-unmade (Make e m b ∷ ms) c d h (inr i) = found-unmade ms c d.1 h i
 found-unmade (Fill e m ∷ ms) c d (inl q) i = all-has (λ c. c ≢ e) (cells_in ms) c d.0 (made-in ms c i) (sym q)
 found-unmade (Fill e m ∷ ms) c d (inr h) i = found-unmade ms c d.1 h i
 
-shown-found : (ms : List CellMark) → nodes_shown (cells_before ms) ≡ map (λ (f : Found). f.node) (found_in ms)
+shown-found : (ms : List CellMark) → nodes_standing (cells_before ms) ≡ map (λ (f : Found). f.node) (found_in ms)
 shown-found [] = refl
 shown-found (Counted ∷ ms) = shown-found ms
 shown-found (Gap e ∷ ms) = shown-found ms
@@ -110,7 +103,7 @@ shown-found (Touch e m g ∷ ms) = ap (λ l. m ∷ l) (shown-found ms)
 shown-found (Make e m b ∷ ms) = shown-found ms
 shown-found (Fill e m ∷ ms) = shown-found ms
 
-shown-stands : (ms : List CellMark) → nodes_shown (cells_before ms) ≡ stands_before ms
+shown-stands : (ms : List CellMark) → nodes_standing (cells_before ms) ≡ stands_before ms
 shown-stands [] = refl
 shown-stands (Counted ∷ ms) = shown-stands ms
 shown-stands (Gap e ∷ ms) = shown-stands ms
@@ -144,8 +137,8 @@ held-found None h = refl
 held-found (Some n) h = refl
 
 module _ (C : Change) (w : ObeysDataRules C) (plain : C.schema ≡ None) where
-  abbrev L : Listed
-  L = listed_by_change C
+  abbrev L : Entries
+  L = entries_of_change C
 
   abbrev W : Finds
   W = finds_of C
@@ -161,7 +154,7 @@ module _ (C : Change) (w : ObeysDataRules C) (plain : C.schema ≡ None) where
 
   nodes-are : nodes_found W ≡ map (λ (f : Found). f.node) (found_rows ++ found_regs)
   nodes-are =
-      (λ z. (flat-of-map (λ (r : FoundRow). nodes_shown r.cells) found_row C.rows ∙ flat-same (λ (r : RowMarks). nodes_shown (cells_before (spread r.marks))) (λ (r : RowMarks). map (λ (f : Found). f.node) (found_in (spread r.marks))) (λ r. shown-found (spread r.marks)) C.rows ∙ sym (map-all (λ (f : Found). f.node) (λ (r : RowMarks). found_in (spread r.marks)) C.rows)) z
+      (λ z. (flat-of-map (λ (r : FoundRow). nodes_standing r.cells) found_row C.rows ∙ flat-same (λ (r : RowMarks). nodes_standing (cells_before (spread r.marks))) (λ (r : RowMarks). map (λ (f : Found). f.node) (found_in (spread r.marks))) (λ r. shown-found (spread r.marks)) C.rows ∙ sym (map-all (λ (f : Found). f.node) (λ (r : RowMarks). found_in (spread r.marks)) C.rows)) z
       ++ (flat-of-map (λ (h : FoundHeld). one_or_none h.node) found_reg C.regs ∙ flat-same (λ (r : RegMark). one_or_none r.held) (λ (r : RegMark). map (λ (f : Found). f.node) (found_at r)) (λ r. held-found r.held r.how) C.regs ∙ sym (map-all (λ (f : Found). f.node) found_at C.regs)) z)
       ∙ sym (map-append (λ (f : Found). f.node) found_rows found_regs)
 
@@ -215,20 +208,20 @@ module _ (C : Change) (w : ObeysDataRules C) (plain : C.schema ≡ None) where
   -- ## No ring
 
   abbrev Shows : NodeId → Spot → Type 0
-  Shows = Says (shown_before_change C)
+  Shows = Places (listing_before_change C)
 
   says-of : (n : NodeId) (s : Spot) → IsFoundAt W n s → (t : Spot) × Shows n t × (node_of t ≡ node_of s)
   says-of n s (inl (r, c, h, i, e)) =
       let q = row-from r h in
-      let a = stands-before (spread q.0.marks) n (subst (λ l. Has l n) (shown-stands (spread q.0.marks)) (subst (λ (r : FoundRow). Has (nodes_shown r.cells) n) (sym q.2) i)) in (
+      let a = stands-before (spread q.0.marks) n (subst (λ l. Has l n) (shown-stands (spread q.0.marks)) (subst (λ (r : FoundRow). Has (nodes_standing r.cells) n) (sym q.2) i)) in (
         Spot.Row q.0.node a.1,
-        says_in_row q.0.node n a.1 (cells_before (spread q.0.marks)) a.0 (ap (option_map (λ (r : RowMarks). cells_before (spread r.marks))) (has-item_of node_cmp node_cmp_total node_cmp_exact (λ (r : RowMarks). r.node) C.rows q.0 w.rising.rows q.1)) a.2,
+        placed_in_row q.0.node n a.1 (cells_before (spread q.0.marks)) a.0 (ap (option_map (λ (r : RowMarks). cells_before (spread r.marks))) (has-item_of node_cmp node_cmp_total node_cmp_exact (λ (r : RowMarks). r.node) C.rows q.0 w.rising.rows q.1)) a.2,
         ap (λ (r : FoundRow). Some r.node) q.2 ∙ sym (ap node_of e),
       )
   says-of n s (inr (h, i, e, f)) =
       let q = reg-from h i in (
         Spot.Register q.0.field,
-        says_in_register q.0.field n (ap (option_map (λ (r : RegMark). r.held)) (has-item_of field_cmp field_cmp_total field_cmp_exact (λ (r : RegMark). r.field) C.regs q.0 w.rising.regs q.1) ∙ ap (λ o. Some o) (ap (λ (h : FoundHeld). h.node) q.2 ∙ e)),
+        placed_in_register q.0.field n (ap (option_map (λ (r : RegMark). r.held)) (has-item_of field_cmp field_cmp_total field_cmp_exact (λ (r : RegMark). r.field) C.regs q.0 w.rising.regs q.1) ∙ ap (λ o. Some o) (ap (λ (h : FoundHeld). h.node) q.2 ∙ e)),
         ap (λ (h : FoundHeld). Some h.field.node) q.2 ∙ sym (ap node_of f),
       )
 
@@ -283,7 +276,7 @@ module _ (C : Change) (w : ObeysDataRules C) (plain : C.schema ≡ None) where
     below_fields = λ h i. let q = reg-from h i in subst (λ (h : FoundHeld). IsBelow F h.field.node.0) q.2 (below-field q.0.field.node (reg-field q.0 q.1));
   }
     where
-      empty-not : (xs : List Seen) (y : Seen) → Has xs y → xs ≡ [] → ⊥
+      empty-not : (xs : List CellView) (y : CellView) → Has xs y → xs ≡ [] → ⊥
       empty-not xs y h e = absurd (subst (λ l. Has l y) e h)
 
       none-not : (n : NodeId) → ◌≡◌ {A = Option NodeId} None (Some n) → ⊥

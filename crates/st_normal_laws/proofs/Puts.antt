@@ -20,9 +20,10 @@ use Rattle.st_marks.specs.declared.marks.RowMarks.{RowMarks}
 use Rattle.st_marks.specs.Document.{Document, IsSoundInForm, root}
 use Rattle.st_marks.specs.Embedding.{is_among}
 use Rattle.st_marks.specs.Intent.{put_of}
-use Rattle.st_marks.specs.Row.{CellMark, Counted, Gap, Touch, Make, Fill, spread, is_here, how, same_to}
-use Rattle.st_normal.specs.Rules.{IsFound, IsFoundAs, Listed, ObeysDataRules, found_at, found_held, found_in, found_loose, in_rows, incoming, listed_by_change, put_at}
-use Rattle.st_marks.specs.Shown.{cells_in, is_leave, one_or_none}
+use Rattle.st_marks.specs.Row.{CellMark, Counted, Gap, Touch, Make, Fill, spread, how, same_to}
+use Rattle.st_marks.specs.How.{is_here, is_leave}
+use Rattle.st_normal.specs.Rules.{IsFound, IsFoundAs, Entries, ObeysDataRules, found_at, found_held, found_in, found_loose, in_rows, incoming, entries_of_change, put_at}
+use Rattle.st_marks.specs.Listings.{cells_in, one_or_none}
 use Rattle.st_normal.proofs.Counts.{times, times-append, times-all, times-has, times-none, has-times, once-times, times-once}
 use Rattle.st_marks.proofs.Members.{true-false, all-has, append_left, append_right, has-append, map-has, has-map, flat_map-has, has-flat_map, first-has, none-has, first-distinct, distinct-has, distinct-filter_map, one_list, list_distinct}
 use Rattle.st_normal_laws.specs.Meant.{IsOver, gone, leaving, loose_puts, meant, put_to, reg_puts, row_puts}
@@ -163,8 +164,8 @@ pub mark-cell : (ms : List CellMark) (y : CellMark) (c : CellId) → Has ms y �
 mark-cell ms y c h e = subst (λ l. Has l c) (sym (cells_in-marks ms)) (Rattle.st_marks.proofs.Members.has-filter_map mark_cell ms y c h e)
 
 module _ (D : Document) (C : Change) (x : IsSoundInForm D) (w : ObeysDataRules C) (o : IsOver D C) where
-  abbrev L : Listed
-  L = listed_by_change C
+  abbrev L : Entries
+  L = entries_of_change C
 
   abbrev N : Intent
   N = meant D C

@@ -14,7 +14,7 @@ use Rattle.st_marks.specs.declared.places.Spot.{Spot}
 use Rattle.st_marks.specs.Agree.{LeadsUp}
 use Rattle.st_marks.specs.Agree.LeadsUp.{one_up, further_up}
 use Rattle.st_marks.specs.Document.{content, node_of, root, IsSoundInForm}
-use Rattle.st_marks.specs.Shown.{Seen, one_or_none, nodes_shown}
+use Rattle.st_marks.specs.Listings.{CellView, one_or_none, nodes_standing}
 use Rattle.st_marks.proofs.Members.{all-has, has-all, append_left, append_right, has-append, map-has, has-map, flat_map-has, has-flat_map, first-has, distinct-has, distinct-append, distinct-between, distinct-left, distinct-right, one_list}
 use Rattle.st_normal_laws.specs.Told.{AreAsSeen, IfTold}
 use Rattle.st_normal_laws.specs.Laid.{LaidRow, LaidHeld, Stand, Layout, stands_in, standing, laid, StandsAt, IsLayout}
@@ -45,7 +45,7 @@ fresh-not F n k a p e = let s = ap (λ (a : Atom). a.rev.session) e in absurd (o
 -- ## One row
 
 -- a cell is named, or has a fresh name
-pub cell_is : (F : ℕ) (n : NodeId) (xs : List Seen) (s : Slot) → Has (lay F n xs) s → Has (cells_named xs) s.cell ⊎ ((k : ℕ) × (k < length xs) × (s.cell ≡ fresh_cell F n k))
+pub cell_is : (F : ℕ) (n : NodeId) (xs : List CellView) (s : Slot) → Has (lay F n xs) s → Has (cells_named xs) s.cell ⊎ ((k : ℕ) × (k < length xs) × (s.cell ≡ fresh_cell F n k))
 cell_is F n [] s h = absurd h
 cell_is F n (x ∷ xs) s (inl e) = go x.cell refl
   where
@@ -59,7 +59,7 @@ cell_is F n (x ∷ xs) s (inr h) = elim (cell_is F n xs s h) [
 ]
 
 module _ (F : ℕ) (n : NodeId) (below : IsBelow F n.0) where
-  pub cells_apart : (xs : List Seen) → AreDistinct (λ c. c) (cells_named xs) → ((c : CellId) → Has (cells_named xs) c → IsBelow F c.0) → AreDistinct (λ (s : Slot). s.cell) (lay F n xs)
+  pub cells_apart : (xs : List CellView) → AreDistinct (λ c. c) (cells_named xs) → ((c : CellId) → Has (cells_named xs) c → IsBelow F c.0) → AreDistinct (λ (s : Slot). s.cell) (lay F n xs)
   cells_apart [] d b = tt
   cells_apart (x ∷ xs) d b = (has-all (λ (s : Slot). s.cell ≢ (lay_cell F n (length xs) x).cell) (lay F n xs) (λ s h. go x.cell refl s (cell_is F n xs s h)), cells_apart xs (distinct-right (λ c. c) (one_or_none x.cell) (cells_named xs) d) (λ c h. b c (append_right (one_or_none x.cell) (cells_named xs) c h)))
     where
@@ -73,16 +73,16 @@ module _ (F : ℕ) (n : NodeId) (below : IsBelow F n.0) where
           (ap (λ (c : CellId). c.0) (sym (e ∙ ap (λ o. option_map_or (λ (c : CellId). c) o (fresh_cell F n (length xs))) q) ∙ k.2))
 
 -- the node of a full cell is found there, or has a fresh name
-abbrev pub IsNodeOf : ℕ → NodeId → List Seen → NodeId → Type 0
-IsNodeOf F n xs m = Has (nodes_shown xs) m ⊎ ((k : ℕ) × (k < length xs) × (m ≡ fresh_node F n k))
+abbrev pub IsNodeOf : ℕ → NodeId → List CellView → NodeId → Type 0
+IsNodeOf F n xs m = Has (nodes_standing xs) m ⊎ ((k : ℕ) × (k < length xs) × (m ≡ fresh_node F n k))
 
-head_node : (F : ℕ) (n : NodeId) (k : ℕ) (x : Seen) (o : Option NodeId) → x.full ≡ true → x.node ≡ o → (lay_cell F n k x).node ≡ option_map_or (λ (m : NodeId). m) o (fresh_node F n k)
+head_node : (F : ℕ) (n : NodeId) (k : ℕ) (x : CellView) (o : Option NodeId) → x.full ≡ true → x.node ≡ o → (lay_cell F n k x).node ≡ option_map_or (λ (m : NodeId). m) o (fresh_node F n k)
 head_node F n k x o f q = ap (λ b. option_map_or (λ (m : NodeId). m) x.node (cond b (fresh_node F n k) root)) f ∙ ap (λ o. option_map_or (λ (m : NodeId). m) o (fresh_node F n k)) q
 
-shown_head : (x : Seen) (xs : List Seen) (m : NodeId) → x.full ≡ true → x.node ≡ Some m → Has (nodes_shown (x ∷ xs)) m
-shown_head x xs m f q = append_left (cond x.full (one_or_none x.node) []) (nodes_shown xs) m (subst (λ b. Has (cond b (one_or_none x.node) []) m) (sym f) (subst (λ o. Has (one_or_none o) m) (sym q) (inl refl)))
+shown_head : (x : CellView) (xs : List CellView) (m : NodeId) → x.full ≡ true → x.node ≡ Some m → Has (nodes_standing (x ∷ xs)) m
+shown_head x xs m f q = append_left (cond x.full (one_or_none x.node) []) (nodes_standing xs) m (subst (λ b. Has (cond b (one_or_none x.node) []) m) (sym f) (subst (λ o. Has (one_or_none o) m) (sym q) (inl refl)))
 
-pub node_is : (F : ℕ) (n : NodeId) (xs : List Seen) (s : Slot) → Has (lay F n xs) s → s.full ≡ true → IsNodeOf F n xs s.node
+pub node_is : (F : ℕ) (n : NodeId) (xs : List CellView) (s : Slot) → Has (lay F n xs) s → s.full ≡ true → IsNodeOf F n xs s.node
 node_is F n [] s h f = absurd h
 node_is F n (x ∷ xs) s (inl e) f = go x.node refl
   where
@@ -93,25 +93,25 @@ node_is F n (x ∷ xs) s (inl e) f = go x.node refl
     go None q = inr (length xs, omega arith, ap (λ (t : Slot). t.node) (sym e) ∙ head_node F n (length xs) x None full q)
     go (Some m) q = inl (shown_head x xs s.node full (q ∙ ap (λ m. Some m) (sym (ap (λ (t : Slot). t.node) (sym e) ∙ head_node F n (length xs) x (Some m) full q))))
 node_is F n (x ∷ xs) s (inr h) f = elim (node_is F n xs s h f) [
-  | inl i ↦ inl (append_right (cond x.full (one_or_none x.node) []) (nodes_shown xs) s.node i)
+  | inl i ↦ inl (append_right (cond x.full (one_or_none x.node) []) (nodes_standing xs) s.node i)
   | inr k ↦ inr (k.0, omega (arith, k.1), k.2)
 ]
 
 module _ (F : ℕ) (n : NodeId) (below : IsBelow F n.0) where
-  pub nodes_apart : (xs : List Seen) → AreDistinct (λ m. m) (nodes_shown xs) → ((m : NodeId) → Has (nodes_shown xs) m → IsBelow F m.0) → AreDistinct (λ (s : Stand). s.node) (stands_in n (lay F n xs))
+  pub nodes_apart : (xs : List CellView) → AreDistinct (λ m. m) (nodes_standing xs) → ((m : NodeId) → Has (nodes_standing xs) m → IsBelow F m.0) → AreDistinct (λ (s : Stand). s.node) (stands_in n (lay F n xs))
   nodes_apart [] d b = tt
-  nodes_apart (x ∷ xs) d b = go x.full refl (nodes_apart xs (distinct-right (λ m. m) (cond x.full (one_or_none x.node) []) (nodes_shown xs) d) (λ m h. b m (append_right (cond x.full (one_or_none x.node) []) (nodes_shown xs) m h)))
+  nodes_apart (x ∷ xs) d b = go x.full refl (nodes_apart xs (distinct-right (λ m. m) (cond x.full (one_or_none x.node) []) (nodes_standing xs) d) (λ m h. b m (append_right (cond x.full (one_or_none x.node) []) (nodes_standing xs) m h)))
     where
       head : Stand
       head = record { node = (lay_cell F n (length xs) x).node; spot = Spot.Row n (lay_cell F n (length xs) x).cell }
 
       apart : x.full ≡ true → (o : Option NodeId) → x.node ≡ o → (s : Slot) → IsNodeOf F n xs s.node → s.node ≢ (lay_cell F n (length xs) x).node
-      apart f None q s (inl h) e = fresh-not F n (length xs) s.node.0 (b s.node (append_right (cond x.full (one_or_none x.node) []) (nodes_shown xs) s.node h)) (ap (λ (m : NodeId). m.0) (e ∙ head_node F n (length xs) x None f q))
+      apart f None q s (inl h) e = fresh-not F n (length xs) s.node.0 (b s.node (append_right (cond x.full (one_or_none x.node) []) (nodes_standing xs) s.node h)) (ap (λ (m : NodeId). m.0) (e ∙ head_node F n (length xs) x None f q))
       apart f None q s (inr k) e =
           let r = fresh-one F n n k.0 (length xs) below below (ap (λ (m : NodeId). m.0) (sym k.2 ∙ e ∙ head_node F n (length xs) x None f q)) in
           absurd (omega (arith, k.1, r.1))
       apart f (Some m) q s (inl h) e =
-          distinct-between (λ m. m) (cond x.full (one_or_none x.node) []) (nodes_shown xs) m s.node d (subst (λ b. Has (cond b (one_or_none x.node) []) m) (sym f) (subst (λ o. Has (one_or_none o) m) (sym q) (inl refl))) h (e ∙ head_node F n (length xs) x (Some m) f q)
+          distinct-between (λ m. m) (cond x.full (one_or_none x.node) []) (nodes_standing xs) m s.node d (subst (λ b. Has (cond b (one_or_none x.node) []) m) (sym f) (subst (λ o. Has (one_or_none o) m) (sym q) (inl refl))) h (e ∙ head_node F n (length xs) x (Some m) f q)
       apart f (Some m) q s (inr k) e = fresh-not F n k.0 m.0 (b m (shown_head x xs m f q)) (ap (λ (m : NodeId). m.0) (sym (e ∙ head_node F n (length xs) x (Some m) f q) ∙ k.2))
 
       go : (c : Bool) → x.full ≡ c → AreDistinct (λ (s : Stand). s.node) (stands_in n (lay F n xs)) → AreDistinct (λ (s : Stand). s.node) (cond c (record { node = (lay_cell F n (length xs) x).node; spot = Spot.Row n (lay_cell F n (length xs) x).cell } ∷ stands_in n (lay F n xs)) (stands_in n (lay F n xs)))
@@ -122,16 +122,16 @@ module _ (F : ℕ) (n : NodeId) (below : IsBelow F n.0) where
       )
       go false f rest = rest
 
-pub lay_length : (F : ℕ) (n : NodeId) (xs : List Seen) → length (lay F n xs) ≡ length xs
+pub lay_length : (F : ℕ) (n : NodeId) (xs : List CellView) → length (lay F n xs) ≡ length xs
 lay_length F n [] = refl
 lay_length F n (x ∷ xs) = ap suc (lay_length F n xs)
 
-pub lay_some : (F : ℕ) (n : NodeId) (xs : List Seen) (s : Slot) → Has (lay F n xs) s → (x : Seen) × Has xs x
+pub lay_some : (F : ℕ) (n : NodeId) (xs : List CellView) (s : Slot) → Has (lay F n xs) s → (x : CellView) × Has xs x
 lay_some F n [] s h = absurd h
 lay_some F n (x ∷ xs) s h = (x, inl refl)
 
 -- the laid row is as it is found
-pub lay_describes : (F : ℕ) (n : NodeId) (xs : List Seen) → AreAsSeen (lay F n xs) xs
+pub lay_describes : (F : ℕ) (n : NodeId) (xs : List CellView) → AreAsSeen (lay F n xs) xs
 lay_describes F n [] = tt
 lay_describes F n (x ∷ xs) = ((refl, told x.cell (fresh_cell F n (length xs)), told x.node (cond x.full (fresh_node F n (length xs)) root)), lay_describes F n xs)
   where
@@ -175,7 +175,7 @@ module _ (F : ℕ) (W : Finds) (w : CanBeFound F W) where
   -- ## Who stands
 
   abbrev found_in_rows : List FoundRow → List NodeId
-  found_in_rows rs = flat_map (λ (r : FoundRow). nodes_shown r.cells) rs
+  found_in_rows rs = flat_map (λ (r : FoundRow). nodes_standing r.cells) rs
 
   abbrev stands_of : List FoundRow → List Stand
   stands_of rs = flat_map (λ (l : LaidRow). stands_in l.node l.cells) (map (lay_row F) rs)
@@ -191,20 +191,20 @@ module _ (F : ℕ) (W : Finds) (w : CanBeFound F W) where
       nodes_of : (r : FoundRow) (m : NodeId) (s : Slot) → Has (lay F r.node r.cells) s → s.full ≡ true → m ≡ s.node → IsNodeOf F r.node r.cells m
       nodes_of r m s h f e = subst (IsNodeOf F r.node r.cells) (sym e) (node_is F r.node r.cells s h f)
 
-  below_row : (r : FoundRow) (m : NodeId) → Has W.rows r → Has (nodes_shown r.cells) m → IsBelow F m.0
-  below_row r m h i = w.below_nodes m (append_left (found_in_rows W.rows) (flat_map (λ (h : FoundHeld). one_or_none h.node) W.held) m (flat_map-has (λ (r : FoundRow). nodes_shown r.cells) W.rows r m h i))
+  below_row : (r : FoundRow) (m : NodeId) → Has W.rows r → Has (nodes_standing r.cells) m → IsBelow F m.0
+  below_row r m h i = w.below_nodes m (append_left (found_in_rows W.rows) (flat_map (λ (h : FoundHeld). one_or_none h.node) W.held) m (flat_map-has (λ (r : FoundRow). nodes_standing r.cells) W.rows r m h i))
 
   stands_apart : (rs : List FoundRow) → ((r : FoundRow) → Has rs r → Has W.rows r) → AreDistinct (λ (r : FoundRow). r.node) rs → AreDistinct (λ n. n) (found_in_rows rs) → AreDistinct (λ (s : Stand). s.node) (stands_of rs)
   stands_apart [] sub d e = tt
   stands_apart (r ∷ rs) sub d e =
       distinct-append (λ (s : Stand). s.node) (stands_in r.node (lay F r.node r.cells)) (stands_of rs)
-      (nodes_apart F r.node (w.below_rows r (sub r (inl refl))) r.cells (distinct-left (λ n. n) (nodes_shown r.cells) (found_in_rows rs) e) (λ m h. below_row r m (sub r (inl refl)) h))
-      (stands_apart rs (λ q h. sub q (inr h)) d.1 (distinct-right (λ n. n) (nodes_shown r.cells) (found_in_rows rs) e))
+      (nodes_apart F r.node (w.below_rows r (sub r (inl refl))) r.cells (distinct-left (λ n. n) (nodes_standing r.cells) (found_in_rows rs) e) (λ m h. below_row r m (sub r (inl refl)) h))
+      (stands_apart rs (λ q h. sub q (inr h)) d.1 (distinct-right (λ n. n) (nodes_standing r.cells) (found_in_rows rs) e))
       (λ s t h i. let q = stand_row rs t i in let a = has-stands r.node (lay F r.node r.cells) s h in
       apart s.node t.node q.0 q.2 (subst (IsNodeOf F r.node r.cells) (sym a.3) (node_is F r.node r.cells a.0 a.1 a.2)) q.4)
     where
       apart : (m n : NodeId) (q : FoundRow) → Has rs q → IsNodeOf F r.node r.cells m → IsNodeOf F q.node q.cells n → n ≢ m
-      apart m n q k (inl h) (inl i) f = distinct-between (λ n. n) (nodes_shown r.cells) (found_in_rows rs) m n e h (flat_map-has (λ (r : FoundRow). nodes_shown r.cells) rs q n k i) f
+      apart m n q k (inl h) (inl i) f = distinct-between (λ n. n) (nodes_standing r.cells) (found_in_rows rs) m n e h (flat_map-has (λ (r : FoundRow). nodes_standing r.cells) rs q n k i) f
       apart m n q k (inl h) (inr j) f = fresh-not F q.node j.0 m.0 (below_row r m (sub r (inl refl)) h) (ap (λ (n : NodeId). n.0) (sym f ∙ j.2))
       apart m n q k (inr j) (inl i) f = fresh-not F r.node j.0 n.0 (below_row q n (sub q (inr k)) i) (ap (λ (n : NodeId). n.0) (f ∙ j.2))
       apart m n q k (inr j) (inr i) f = all-has (λ (q : FoundRow). q.node ≢ r.node) rs q d.0 k (fresh-one F q.node r.node i.0 j.0 (w.below_rows q (sub q (inr k))) (w.below_rows r (sub r (inl refl))) (ap (λ (n : NodeId). n.0) (sym i.2 ∙ f ∙ j.2))).0
@@ -249,7 +249,7 @@ module _ (F : ℕ) (W : Finds) (w : CanBeFound F W) where
   ]
 
   found-has : (n : NodeId) (s : Spot) → IsFoundAt W n s → Has (nodes_found W) n
-  found-has n s (inl x) = append_left (found_in_rows W.rows) (flat_map (λ (h : FoundHeld). one_or_none h.node) W.held) n (flat_map-has (λ (r : FoundRow). nodes_shown r.cells) W.rows x.0 n x.2 x.3)
+  found-has n s (inl x) = append_left (found_in_rows W.rows) (flat_map (λ (h : FoundHeld). one_or_none h.node) W.held) n (flat_map-has (λ (r : FoundRow). nodes_standing r.cells) W.rows x.0 n x.2 x.3)
   found-has n s (inr x) = found_held x.0 n x.1 x.2
 
   -- ## No ring
@@ -319,7 +319,7 @@ module _ (F : ℕ) (W : Finds) (w : CanBeFound F W) where
   }
     where
       apart : (m n : NodeId) (r : FoundRow) → Has W.rows r → IsNodeOf F r.node r.cells m → (h : FoundHeld) → Has W.held h → h.node ≡ Some n → n ≢ m
-      apart m n r k (inl i) h j q e = distinct-between (λ n. n) (found_in_rows W.rows) (flat_map (λ (h : FoundHeld). one_or_none h.node) W.held) m n w.nodes_once (flat_map-has (λ (r : FoundRow). nodes_shown r.cells) W.rows r m k i) (flat_map-has (λ (h : FoundHeld). one_or_none h.node) W.held h n j (is-one h.node n q)) e
+      apart m n r k (inl i) h j q e = distinct-between (λ n. n) (found_in_rows W.rows) (flat_map (λ (h : FoundHeld). one_or_none h.node) W.held) m n w.nodes_once (flat_map-has (λ (r : FoundRow). nodes_standing r.cells) W.rows r m k i) (flat_map-has (λ (h : FoundHeld). one_or_none h.node) W.held h n j (is-one h.node n q)) e
       apart m n r k (inr i) h j q e = fresh-not F r.node i.0 n.0 (w.below_nodes n (found_held h n j q)) (ap (λ (n : NodeId). n.0) (e ∙ i.2))
 
       root_below : (r : FoundRow) → Has W.rows r → IsBelow F root.0

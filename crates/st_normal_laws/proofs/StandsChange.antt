@@ -21,40 +21,28 @@ use Rattle.st_marks.specs.declared.marks.RegMark.{RegMark}
 use Rattle.st_marks.specs.declared.marks.RowMarks.{RowMarks}
 use Rattle.st_marks.specs.declared.places.Slot.{Slot}
 use Rattle.st_marks.specs.declared.places.Spot.{Spot}
-use Rattle.st_marks.specs.Document.{Document, IsSoundInForm, content, owned, root, slot}
-use Rattle.st_marks.specs.Intent.{clears, new_node, put_of}
-use Rattle.st_marks.specs.Row.{CellMark, Counted, Gap, Touch, Make, Fill, spread, is_here}
-use Rattle.st_normal.specs.Rules.{IsFound, Listed, ObeysDataRules, found_held, found_in, found_loose, in_rows, is_stay, listed_by_change}
-use Rattle.st_marks.specs.Shown.{cells_after, cells_before, one_or_none}
-use Rattle.st_normal.proofs.Linked.{has-item_of}
-use Rattle.st_marks.proofs.Lookups.{put-has}
-use Rattle.st_marks.proofs.Members.{true-false, all-has, append_left, append_right, has-append, map-has, has-map, flat_map-has, first-has, distinct-has}
+use Rattle.st_marks.specs.Document.{Document, IsSoundInForm, content, owned, root, slot, HasShortRows}
+use Rattle.st_marks.specs.Intent.{clears, new_node, put_of, put_in, same_option}
+use Rattle.st_marks.specs.Row.{CellMark, Counted, Gap, Touch, Make, Fill, spread, RowPart, embed_cell, embed_cells, embed_made, embed_row, how, merge, same_to}
+use Rattle.st_marks.specs.How.{is_here, is_stay}
+use Rattle.st_normal.specs.Rules.{IsFound, Entries, ObeysDataRules, found_held, found_in, found_loose, in_rows, entries_of_change, HasListedField, kept_at, staying}
+use Rattle.st_marks.specs.Listings.{cells_after, cells_before, one_or_none}
+use Rattle.st_normal.proofs.Linked.{has-item_of, item_of-has}
+use Rattle.st_marks.proofs.Lookups.{put-has, has-put_in, put_in-has}
+use Rattle.st_marks.proofs.Members.{true-false, all-has, append_left, append_right, has-append, map-has, has-map, flat_map-has, first-has, distinct-has, first-distinct}
 use Rattle.st_normal_laws.specs.Meant.{Along, IsOver, along, leaving, meant, put_to}
-use Rattle.st_normal_laws.proofs.FoundPlaces.{touched, filled, found_there}
-use Rattle.st_normal_laws.specs.Mentions.{moving}
-use Rattle.st_normal_laws.proofs.Mentioned.{moving-has, filter-has, row_put-has, here-put, fill-put}
-use Rattle.st_normal_laws.proofs.Exact.{put-cases, put-moved, moved-put}
-use Rattle.st_normal_laws.proofs.Puts.{put-is, cell-put, one_mark}
-use Rattle.st_normal_laws.proofs.Groups.{along-has, IsMarkOf}
+use Rattle.st_normal_laws.proofs.FoundPlaces.{touched, filled, found_there, PlacedAs, as_row, as_held, as_loose, found_placed, is-found_held, has-found_in}
+use Rattle.st_normal_laws.specs.Mentions.{moving, mentions}
+use Rattle.st_normal_laws.proofs.Mentioned.{moving-has, filter-has, row_put-has, here-put, fill-put, has-moving, has-staying}
+use Rattle.st_normal_laws.proofs.Exact.{put-cases, put-moved, moved-put, mentions-exact, mentions-found, listed-field, listed-moved, stay-leave, found-row, found-reg, found-loose, is-found, put-reg, put-loose}
+use Rattle.st_normal_laws.proofs.Puts.{put-is, cell-put, one_mark, is_here-put, put-is_here, same_to-true}
+use Rattle.st_normal_laws.proofs.Groups.{along-has, IsMarkOf, AreMade, row_along, has-along, ts_once, at-start, at-cell, no-row, same_row}
 use Rattle.st_normal_laws.proofs.MeantFits.{rows_once, regs_once, new_once, found-old, make-put, put-row, made-new}
 use Rattle.st_marks.specs.CarryOut.{full, with_groups}
-use Rattle.st_marks.specs.Document.{HasShortRows, owned}
 use Rattle.st_marks.specs.Embedding.{IsEmbedding, embed_loose, is_among, is_loose, is_nowhere, row_marks, row_part, register_part, tells}
-use Rattle.st_marks.specs.Intent.{put_in, same_option}
 use Rattle.st_marks.specs.Register.{comes_in, embed_register, holds_mentioned, how_held}
-use Rattle.st_marks.specs.Row.{RowPart, embed_cell, embed_cells, embed_made, embed_row, how, merge, same_to}
-use Rattle.st_normal.specs.Rules.{HasListedField, kept_at, staying}
-use Rattle.st_normal.proofs.Linked.{item_of-has}
-use Rattle.st_marks.proofs.Lookups.{has-put_in, put_in-has}
-use Rattle.st_marks.proofs.Members.{first-distinct}
 use Rattle.st_normal.proofs.NoRings.{among_has}
 use Rattle.st_marks.proofs.Climb.{stands}
-use Rattle.st_normal_laws.proofs.FoundPlaces.{PlacedAs, as_row, as_held, as_loose, found_placed, is-found_held, has-found_in}
-use Rattle.st_normal_laws.proofs.Mentioned.{has-moving, has-staying}
-use Rattle.st_normal_laws.specs.Mentions.{mentions}
-use Rattle.st_normal_laws.proofs.Exact.{mentions-exact, mentions-found, listed-field, listed-moved, stay-leave, found-row, found-reg, found-loose, is-found, put-reg, put-loose}
-use Rattle.st_normal_laws.proofs.Puts.{is_here-put, put-is_here, same_to-true}
-use Rattle.st_normal_laws.proofs.Groups.{AreMade, row_along, has-along, ts_once, at-start, at-cell, no-row, same_row}
 use Rattle.st_normal_laws.proofs.MeantIntent.{reg-put, clear-is, is-clear, meant_intent}
 use Rattle.st_normal_laws.proofs.Basics.{and-both, and-cases, is-one, not-false, not-true, or-left, or-right, register-not-nowhere, row-not-nowhere}
 use Rattle.st_normal_laws.proofs.Lengths.{row-length}
@@ -62,18 +50,18 @@ use Rattle.st_seq.proofs.Short.{all_after}
 
 -- ## Rows that aren't listed
 
-silent : (p : RowPart) (c : List Slot) → ((s : Slot) → Has c s → (tells (embed_cell p s.cell s.node s.full) ≡ false) × (p.made (Some s.cell) ≡ [])) → list_any tells (embed_cells p c) ≡ false
+silent : (p : RowPart) (c : List Slot) → ((s : Slot) → Has c s → (tells (embed_cell p s.cell s.node s.full) ≡ false) × (p.new_cells (Some s.cell) ≡ [])) → list_any tells (embed_cells p c) ≡ false
 silent p [] f = refl
 silent p (s ∷ c) f = let q = f s (inl refl) in
     go (tells (embed_cell p s.cell s.node s.full)) q.0 (ap (λ os. list_any tells (embed_made p os ++ embed_cells p c)) q.1 ∙ silent p c (λ t h. f t (inr h)))
   where
-    go : (b : Bool) → b ≡ false → list_any tells (embed_made p (p.made (Some s.cell)) ++ embed_cells p c) ≡ false → (b || list_any tells (embed_made p (p.made (Some s.cell)) ++ embed_cells p c)) ≡ false
+    go : (b : Bool) → b ≡ false → list_any tells (embed_made p (p.new_cells (Some s.cell)) ++ embed_cells p c) ≡ false → (b || list_any tells (embed_made p (p.new_cells (Some s.cell)) ++ embed_cells p c)) ≡ false
     go true e f = cc
     go false e f = f
 
 module _ (D : Document) (C : Change) (x : IsSoundInForm D) (w : ObeysDataRules C) (o : IsOver D C) (plain : C.schema ≡ None) where
-  abbrev L : Listed
-  L = listed_by_change C
+  abbrev L : Entries
+  L = entries_of_change C
 
   abbrev N : Intent
   N = meant D C

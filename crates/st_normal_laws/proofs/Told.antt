@@ -2,7 +2,7 @@
 use Rattle.std.proofs.Common.{List, [], ◌∷◌, Option, Some, None}
 use Rattle.st_marks.specs.declared.places.Slot.{Slot}
 use Rattle.st_marks.specs.Row.{RowPart, embed_row}
-use Rattle.st_marks.specs.Shown.{Seen, cells_before}
+use Rattle.st_marks.specs.Listings.{CellView, cells_before}
 use Rattle.st_normal_laws.specs.Told.{AreAsSeen, IfTold}
 use Rattle.st_seq.proofs.Described as seq
 
@@ -10,7 +10,7 @@ told : {A : Type 0} (o : Option A) (a : A) → seq.IfTold o a → IfTold o a
 told None a h = tt
 told (Some b) a h = h
 
-as-seen : (c : List Slot) (xs : List Seen) → seq.DescribeAll c xs → AreAsSeen c xs
+as-seen : (c : List Slot) (xs : List CellView) → seq.DescribeAll c xs → AreAsSeen c xs
 as-seen [] [] h = tt
 as-seen [] (x ∷ xs) h = absurd h
 as-seen (s ∷ c) [] h = absurd h

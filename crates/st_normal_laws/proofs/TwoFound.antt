@@ -7,10 +7,10 @@ use Rattle.st_ids.specs.Order.{same_node}
 use Rattle.st_ids.proofs.Orders.{same_node-true, same_node-itself}
 use Rattle.st_ids.specs.declared.names.NodeId.{NodeId}
 use Rattle.st_marks.specs.declared.places.Spot.{Spot}
-use Rattle.st_marks.specs.Agree.{IsSameSeen, LeadsUp}
+use Rattle.st_marks.specs.Agree.{IsSameView, LeadsUp}
 use Rattle.st_marks.specs.Agree.LeadsUp.{one_up, further_up}
 use Rattle.st_marks.specs.Document.{node_of}
-use Rattle.st_marks.specs.Shown.{Seen, one_or_none}
+use Rattle.st_marks.specs.Listings.{CellView, one_or_none}
 use Rattle.st_marks.proofs.Members.{all-has, has-all, append_left, append_right, has-append, has-map, first-has, has-any, distinct-append, distinct-right, distinct-between, list_distinct, one_list}
 use Rattle.st_normal_laws.specs.Seed.{FoundRow}
 use Rattle.st_normal_laws.specs.Two.{AreInPlace, IsNamedAt, RowsAgree, cell_key, cells_of_row, join, joined, joined_row, keys, lists_row, node_key, rows_of_both}
@@ -86,12 +86,12 @@ module _ (P Q : NodeId → Spot → Type 0) (same : AgreeOnPlaces P Q) (closed :
 
 -- ## One row
 
-named-has : {K : Type 0} (key : Seen → Option K) (xs : List Seen) (k : ℕ) (c : K) → IsNamedAt key xs k c → Has (keys key xs) c
+named-has : {K : Type 0} (key : CellView → Option K) (xs : List CellView) (k : ℕ) (c : K) → IsNamedAt key xs k c → Has (keys key xs) c
 named-has key [] k c h = absurd h
 named-has key (x ∷ xs) zero c h = append_left (one_or_none (key x)) (keys key xs) c (subst (λ o. Has (one_or_none o) c) (sym h) (inl refl))
 named-has key (x ∷ xs) (suc k) c h = append_right (one_or_none (key x)) (keys key xs) c (named-has key xs k c h)
 
-pub has-named : {K : Type 0} (key : Seen → Option K) (xs : List Seen) (c : K) → Has (keys key xs) c → (k : ℕ) × IsNamedAt key xs k c
+pub has-named : {K : Type 0} (key : CellView → Option K) (xs : List CellView) (c : K) → Has (keys key xs) c → (k : ℕ) × IsNamedAt key xs k c
 has-named key [] c h = absurd h
 has-named key (x ∷ xs) c h = elim (has-append (one_or_none (key x)) (keys key xs) c h) [
   | inl i ↦ (zero, one-is (key x) c i)
@@ -99,16 +99,16 @@ has-named key (x ∷ xs) c h = elim (has-append (one_or_none (key x)) (keys key 
 ]
 
 -- what is named of a cell that both show
-abbrev pub IsJoined : {K : Type 0} → (Seen → Option K) → Type 0
-IsJoined key = (x y : Seen) → IsSameSeen x y → key (join x y) ≡ option_or (key x) (key y)
+abbrev pub IsJoined : {K : Type 0} → (CellView → Option K) → Type 0
+IsJoined key = (x y : CellView) → IsSameView x y → key (join x y) ≡ option_or (key x) (key y)
 
 or-is : {K : Type 0} (o p : Option K) (c : K) → option_or o p ≡ Some c → (o ≡ Some c) ⊎ ((o ≡ None) × (p ≡ Some c))
 or-is None p c e = inr (refl, e)
 or-is (Some d) p c e = inl e
 
-module _ {K : Type 0} (key : Seen → Option K) (on : IsJoined key) where
+module _ {K : Type 0} (key : CellView → Option K) (on : IsJoined key) where
   -- what is named in the joined row is named by one of both
-  joined-has : (xs ys : List Seen) → AllZip IsSameSeen xs ys → (c : K) → Has (keys key (joined xs ys)) c → Has (keys key xs) c ⊎ Has (keys key ys) c
+  joined-has : (xs ys : List CellView) → AllZip IsSameView xs ys → (c : K) → Has (keys key (joined xs ys)) c → Has (keys key xs) c ⊎ Has (keys key ys) c
   joined-has [] ys z c h = absurd h
   joined-has (x ∷ xs) [] z c h = inl h
   joined-has (x ∷ xs) (y ∷ ys) z c h = elim (has-append (one_or_none (key (join x y))) (keys key (joined xs ys)) c h) [
@@ -122,7 +122,7 @@ module _ {K : Type 0} (key : Seen → Option K) (on : IsJoined key) where
   next : (k l : ℕ) → suc k ≡ suc l → k ≡ l
   next k l e = omega (arith, e)
 
-  joined-once : (xs ys : List Seen) → AllZip IsSameSeen xs ys → AreDistinct (λ (c : K). c) (keys key xs) → AreDistinct (λ (c : K). c) (keys key ys) → AreInPlace key xs ys → AreDistinct (λ (c : K). c) (keys key (joined xs ys))
+  joined-once : (xs ys : List CellView) → AllZip IsSameView xs ys → AreDistinct (λ (c : K). c) (keys key xs) → AreDistinct (λ (c : K). c) (keys key ys) → AreInPlace key xs ys → AreDistinct (λ (c : K). c) (keys key (joined xs ys))
   joined-once [] ys z d e f = tt
   joined-once (x ∷ xs) [] z d e f = d
   joined-once (x ∷ xs) (y ∷ ys) z d e f =
@@ -154,9 +154,9 @@ nodes_joined x y s = go x.full y.full s.full
 
 -- ## All rows
 
-module _ {K : Type 0} (key : Seen → Option K) (on : IsJoined key) (ps qs : List FoundRow)
+module _ {K : Type 0} (key : CellView → Option K) (on : IsJoined key) (ps qs : List FoundRow)
     (ps_once : AreDistinct (λ (r : FoundRow). r.node) ps) (qs_once : AreDistinct (λ (r : FoundRow). r.node) qs)
-    (zipped : (p q : FoundRow) → Has ps p → Has qs q → p.node ≡ q.node → AllZip IsSameSeen p.cells q.cells)
+    (zipped : (p q : FoundRow) → Has ps p → Has qs q → p.node ≡ q.node → AllZip IsSameView p.cells q.cells)
     (p_keys : AreDistinct (λ (c : K). c) (flat_map (λ (r : FoundRow). keys key r.cells) ps)) (q_keys : AreDistinct (λ (c : K). c) (flat_map (λ (r : FoundRow). keys key r.cells) qs))
     (agree : RowsAgree key ps qs) where
   -- the other's row, if it lists it
@@ -167,7 +167,7 @@ module _ {K : Type 0} (key : Seen → Option K) (on : IsJoined key) (ps qs : Lis
       go None e = inr (ap (λ o. option_map_or (λ (r : FoundRow). r.cells) o []) e)
       go (Some q) e = let r = first-has (λ (r : FoundRow). same_node r.node n) qs q e in inl (q, r.0, same_node-true q.node n r.1, ap (λ o. option_map_or (λ (r : FoundRow). r.cells) o []) e)
 
-  joined-none : (xs : List Seen) → joined xs [] ≡ xs
+  joined-none : (xs : List CellView) → joined xs [] ≡ xs
   joined-none [] = refl
   joined-none (x ∷ xs) = refl
 
@@ -225,7 +225,7 @@ module _ {K : Type 0} (key : Seen → Option K) (on : IsJoined key) (ps qs : Lis
   keys_once_together = distinct-flat (λ (c : K). c) (λ (r : FoundRow). keys key r.cells) (λ (r : FoundRow). r.node) (rows_of_both ps qs) rows_once_together row-once
       (λ r s c d i j h k e. same r.node s.node c (both-named r i c h) (subst (Named s.node) e (both-named s j d k)))
     where
-      at : (xs : List Seen) (c : K) → Has (keys key xs) c → (k : ℕ) × IsNamedAt key xs k c
+      at : (xs : List CellView) (c : K) → Has (keys key xs) c → (k : ℕ) × IsNamedAt key xs k c
       at xs c h = has-named key xs c h
 
       same : (n m : NodeId) (c : K) → Named n c → Named m c → m ≡ n

@@ -9,10 +9,10 @@ use Rattle.st_ids.specs.declared.names.CellId.{CellId}
 use Rattle.st_ids.specs.declared.names.NodeId.{NodeId}
 use Rattle.st_marks.specs.declared.places.Slot.{Slot}
 use Rattle.st_marks.specs.declared.places.Spot.{Spot}
-use Rattle.st_marks.specs.Agree.{IsSameSeen, LeadsUp, row_field}
+use Rattle.st_marks.specs.Agree.{IsSameView, LeadsUp, row_field}
 use Rattle.st_marks.specs.Agree.LeadsUp.{one_up, further_up}
 use Rattle.st_marks.specs.Document.{content, node_of, root}
-use Rattle.st_marks.specs.Shown.{Seen, one_or_none, nodes_shown}
+use Rattle.st_marks.specs.Listings.{CellView, one_or_none, nodes_standing}
 use Rattle.st_marks.proofs.Members.{true-false, all-has, has-all, append_left, append_right, has-append, map-has, has-map, flat_map-has, has-flat_map, first-has, none-has, any-has, has-any, distinct-has, distinct-append, distinct-left, distinct-right, distinct-between, list_distinct, one_list}
 use Rattle.st_normal_laws.specs.Told.{AreAsSeen, IfTold}
 use Rattle.st_normal_laws.specs.Laid.{laid}
@@ -23,19 +23,19 @@ use Rattle.st_normal_laws.proofs.SeedSound.{seed_row, seed_held}
 use Rattle.st_normal_laws.proofs.TwoFound.{Either, both-named, cells_joined, keys_once_together, nodes_joined, no_ring_together, rows_once_together}
 use Rattle.st_normal_laws.proofs.Basics.{flat-same, is-one, not-true, one-is}
 
-nodes-keys : (xs : List Seen) → nodes_shown xs ≡ keys node_key xs
+nodes-keys : (xs : List CellView) → nodes_standing xs ≡ keys node_key xs
 nodes-keys [] = refl
-nodes-keys (x ∷ xs) = elim x.full as (λ b. cond b (one_or_none x.node) [] ++ nodes_shown xs ≡ one_or_none (cond b x.node None) ++ keys node_key xs) [
+nodes-keys (x ∷ xs) = elim x.full as (λ b. cond b (one_or_none x.node) [] ++ nodes_standing xs ≡ one_or_none (cond b x.node None) ++ keys node_key xs) [
   | true ↦ ap (λ l. one_or_none x.node ++ l) (nodes-keys xs)
   | false ↦ nodes-keys xs
 ]
 
-rows-nodes : (rs : List FoundRow) → flat_map (λ (r : FoundRow). nodes_shown r.cells) rs ≡ flat_map (λ (r : FoundRow). keys node_key r.cells) rs
-rows-nodes rs = flat-same (λ (r : FoundRow). nodes_shown r.cells) (λ (r : FoundRow). keys node_key r.cells) (λ r. nodes-keys r.cells) rs
+rows-nodes : (rs : List FoundRow) → flat_map (λ (r : FoundRow). nodes_standing r.cells) rs ≡ flat_map (λ (r : FoundRow). keys node_key r.cells) rs
+rows-nodes rs = flat-same (λ (r : FoundRow). nodes_standing r.cells) (λ (r : FoundRow). keys node_key r.cells) (λ r. nodes-keys r.cells) rs
 
 -- ## What is true of the joined row is true of both
 
-joined-length : (xs ys : List Seen) → length (joined xs ys) ≡ length xs
+joined-length : (xs ys : List CellView) → length (joined xs ys) ≡ length xs
 joined-length [] ys = refl
 joined-length (x ∷ xs) [] = refl
 joined-length (x ∷ xs) (y ∷ ys) = ap suc (joined-length xs ys)
@@ -49,14 +49,14 @@ second-told None p a s h = h
 second-told (Some b) None a s h = tt
 second-told (Some b) (Some c) a s h = sym s ∙ h
 
-pub first-described : (c : List Slot) (xs ys : List Seen) → AreAsSeen c (joined xs ys) → AreAsSeen c xs
+pub first-described : (c : List Slot) (xs ys : List CellView) → AreAsSeen c (joined xs ys) → AreAsSeen c xs
 first-described [] [] ys h = tt
 first-described (s ∷ c) [] ys h = h
 first-described c (x ∷ xs) [] h = h
 first-described [] (x ∷ xs) (y ∷ ys) h = absurd h
 first-described (s ∷ c) (x ∷ xs) (y ∷ ys) h = ((h.0.0, first-told x.cell y.cell s.cell h.0.1, first-told x.node y.node s.node h.0.2), first-described c xs ys h.1)
 
-pub second-described : (c : List Slot) (xs ys : List Seen) → AllZip IsSameSeen xs ys → AreAsSeen c (joined xs ys) → AreAsSeen c ys
+pub second-described : (c : List Slot) (xs ys : List CellView) → AllZip IsSameView xs ys → AreAsSeen c (joined xs ys) → AreAsSeen c ys
 second-described [] [] [] z h = tt
 second-described [] [] (y ∷ ys) z h = absurd z
 second-described (s ∷ c) [] ys z h = absurd h
@@ -69,10 +69,10 @@ module _ (F : ℕ) (A B : Finds) (a : CanBeFound F A) (b : CanBeFound F B) (g : 
   W = both A B
 
   abbrev a_rows : List NodeId
-  a_rows = flat_map (λ (r : FoundRow). nodes_shown r.cells) A.rows
+  a_rows = flat_map (λ (r : FoundRow). nodes_standing r.cells) A.rows
 
   abbrev b_rows : List NodeId
-  b_rows = flat_map (λ (r : FoundRow). nodes_shown r.cells) B.rows
+  b_rows = flat_map (λ (r : FoundRow). nodes_standing r.cells) B.rows
 
   abbrev a_held : List NodeId
   a_held = flat_map (λ (h : FoundHeld). one_or_none h.node) A.held
@@ -87,8 +87,8 @@ module _ (F : ℕ) (A B : Finds) (a : CanBeFound F A) (b : CanBeFound F B) (g : 
   b-nodes = subst (AreDistinct (λ (n : NodeId). n)) (rows-nodes B.rows) (distinct-left (λ n. n) b_rows b_held b.nodes_once)
 
   -- who is found in a row of both is found in it by one of them
-  pub row-shown : (r : FoundRow) (n : NodeId) → Has W.rows r → Has (nodes_shown r.cells) n
-      → ((p : FoundRow) × Has A.rows p × (p.node ≡ r.node) × Has (nodes_shown p.cells) n) ⊎ ((q : FoundRow) × Has B.rows q × (q.node ≡ r.node) × Has (nodes_shown q.cells) n)
+  pub row-shown : (r : FoundRow) (n : NodeId) → Has W.rows r → Has (nodes_standing r.cells) n
+      → ((p : FoundRow) × Has A.rows p × (p.node ≡ r.node) × Has (nodes_standing p.cells) n) ⊎ ((q : FoundRow) × Has B.rows q × (q.node ≡ r.node) × Has (nodes_standing q.cells) n)
   row-shown r n h i = elim (both-named node_key nodes_joined A.rows B.rows a.rows_once b.rows_once g.rows a-nodes b-nodes g.nodes r h n (subst (λ l. Has l n) (nodes-keys r.cells) i)) [
     | inl p ↦ inl (p.0, p.1, p.2, subst (λ l. Has l n) (sym (nodes-keys p.0.cells)) p.3)
     | inr q ↦ inr (q.0, q.1, q.2, subst (λ l. Has l n) (sym (nodes-keys q.0.cells)) q.3)
@@ -113,10 +113,10 @@ module _ (F : ℕ) (A B : Finds) (a : CanBeFound F A) (b : CanBeFound F B) (g : 
 
   -- who is found by both is found by one of them
   pub found-of : (n : NodeId) → Has (nodes_found W) n → Has (nodes_found A) n ⊎ Has (nodes_found B) n
-  found-of n h = elim (has-append (flat_map (λ (r : FoundRow). nodes_shown r.cells) W.rows) (flat_map (λ (h : FoundHeld). one_or_none h.node) W.held) n h) [
-    | inl i ↦ (let r = has-flat_map (λ (r : FoundRow). nodes_shown r.cells) W.rows n i in elim (row-shown r.0 n r.1 r.2) [
-      | inl p ↦ inl (append_left a_rows a_held n (flat_map-has (λ (r : FoundRow). nodes_shown r.cells) A.rows p.0 n p.1 p.3))
-      | inr q ↦ inr (append_left b_rows b_held n (flat_map-has (λ (r : FoundRow). nodes_shown r.cells) B.rows q.0 n q.1 q.3))
+  found-of n h = elim (has-append (flat_map (λ (r : FoundRow). nodes_standing r.cells) W.rows) (flat_map (λ (h : FoundHeld). one_or_none h.node) W.held) n h) [
+    | inl i ↦ (let r = has-flat_map (λ (r : FoundRow). nodes_standing r.cells) W.rows n i in elim (row-shown r.0 n r.1 r.2) [
+      | inl p ↦ inl (append_left a_rows a_held n (flat_map-has (λ (r : FoundRow). nodes_standing r.cells) A.rows p.0 n p.1 p.3))
+      | inr q ↦ inr (append_left b_rows b_held n (flat_map-has (λ (r : FoundRow). nodes_standing r.cells) B.rows q.0 n q.1 q.3))
     ])
     | inr i ↦ (let k = has-flat_map (λ (h : FoundHeld). one_or_none h.node) W.held n i in elim (held-of k.0 k.1) [
       | inl j ↦ inl (append_right a_rows a_held n (flat_map-has (λ (h : FoundHeld). one_or_none h.node) A.held k.0 n j k.2))
@@ -134,7 +134,7 @@ module _ (F : ℕ) (A B : Finds) (a : CanBeFound F A) (b : CanBeFound F B) (g : 
       let u = at p.0.cells p.2 in let v = at q.0.cells q.2 in
       p.3 ∙ ap (λ k. Spot.Register (row_field k)) (g.nodes p.0 q.0 u.0 v.0 n p.1 q.1 u.1 v.1).0 ∙ sym q.3
     where
-      at : (xs : List Seen) → Has (nodes_shown xs) n → (k : ℕ) × IsNamedAt node_key xs k n
+      at : (xs : List CellView) → Has (nodes_standing xs) n → (k : ℕ) × IsNamedAt node_key xs k n
       at xs h = Rattle.st_normal_laws.proofs.TwoFound.has-named node_key xs n (subst (λ l. Has l n) (nodes-keys xs) h)
   places-agree n s t (inl p) (inr k) = absurd (g.row_held p.0 k.0 n p.1 k.1 p.2 k.2)
   places-agree n s t (inr h) (inl q) = absurd (g.held_row h.0 q.0 n h.1 q.1 h.2 q.2)
@@ -179,7 +179,7 @@ module _ (F : ℕ) (A B : Finds) (a : CanBeFound F A) (b : CanBeFound F B) (g : 
   known-b n (inl e) = inl e
   known-b n (inr h) = inr (append_right A.known B.known n h)
 
-  some-cell : (xs : List Seen) (ys : List Seen) (y : Seen) → length ys ≡ length xs → Has ys y → (x : Seen) × Has xs x
+  some-cell : (xs : List CellView) (ys : List CellView) (y : CellView) → length ys ≡ length xs → Has ys y → (x : CellView) × Has xs x
   some-cell [] [] y e h = absurd h
   some-cell [] (z ∷ ys) y e h = absurd (omega (arith, e))
   some-cell (x ∷ xs) ys y e h = (x, inl refl)
@@ -204,7 +204,7 @@ module _ (F : ℕ) (A B : Finds) (a : CanBeFound F A) (b : CanBeFound F B) (g : 
   one-holder h k n i j e f = go (held-of h i) (held-of k j)
     where
       alone : (V : Finds) → CanBeFound F V → Has V.held h → Has V.held k → h.field ≡ k.field
-      alone V v p q = ap (λ (h : FoundHeld). h.field) (one_list (λ (h : FoundHeld). one_or_none h.node) (λ n. n) V.held h k n n (distinct-right (λ n. n) (flat_map (λ (r : FoundRow). nodes_shown r.cells) V.rows) (flat_map (λ (h : FoundHeld). one_or_none h.node) V.held) v.nodes_once) p q (is-one h.node n e) (is-one k.node n f) refl)
+      alone V v p q = ap (λ (h : FoundHeld). h.field) (one_list (λ (h : FoundHeld). one_or_none h.node) (λ n. n) V.held h k n n (distinct-right (λ n. n) (flat_map (λ (r : FoundRow). nodes_standing r.cells) V.rows) (flat_map (λ (h : FoundHeld). one_or_none h.node) V.held) v.nodes_once) p q (is-one h.node n e) (is-one k.node n f) refl)
 
       go : Has A.held h ⊎ (Has B.held h × ((k : FoundHeld) → Has A.held k → k.field ≡ h.field → ⊥)) → Has A.held k ⊎ (Has B.held k × ((l : FoundHeld) → Has A.held l → l.field ≡ k.field → ⊥)) → h.field ≡ k.field
       go (inl p) (inl q) = alone A a p q
@@ -213,21 +213,21 @@ module _ (F : ℕ) (A B : Finds) (a : CanBeFound F A) (b : CanBeFound F B) (g : 
       go (inr p) (inr q) = alone B b p.0 q.0
 
   nodes-once : AreDistinct (λ (n : NodeId). n) (nodes_found W)
-  nodes-once = distinct-append (λ (n : NodeId). n) (flat_map (λ (r : FoundRow). nodes_shown r.cells) W.rows) (flat_map (λ (h : FoundHeld). one_or_none h.node) W.held)
+  nodes-once = distinct-append (λ (n : NodeId). n) (flat_map (λ (r : FoundRow). nodes_standing r.cells) W.rows) (flat_map (λ (h : FoundHeld). one_or_none h.node) W.held)
       (subst (AreDistinct (λ (n : NodeId). n)) (sym (rows-nodes W.rows)) (keys_once_together node_key nodes_joined A.rows B.rows a.rows_once b.rows_once g.rows a-nodes b-nodes g.nodes))
       (Rattle.st_normal_laws.proofs.Groups.distinct-flat (λ (n : NodeId). n) (λ (h : FoundHeld). one_or_none h.node) (λ (h : FoundHeld). h.field) W.held fields-once (λ h i. alone h.node)
       (λ h k m n i j p q e. one-holder k h n j i (one-is k.node n q) (one-is h.node m p ∙ ap (λ n. Some n) (sym e))))
-      (λ m n h i e. let r = has-flat_map (λ (r : FoundRow). nodes_shown r.cells) W.rows m h in let k = has-flat_map (λ (h : FoundHeld). one_or_none h.node) W.held n i in
+      (λ m n h i e. let r = has-flat_map (λ (r : FoundRow). nodes_standing r.cells) W.rows m h in let k = has-flat_map (λ (h : FoundHeld). one_or_none h.node) W.held n i in
       cross m r.0 (row-shown r.0 m r.1 r.2) k.0 (held-of k.0 k.1) (one-is k.0.node n k.2 ∙ ap (λ n. Some n) e))
     where
       alone : (o : Option NodeId) → AreDistinct (λ (n : NodeId). n) (one_or_none o)
       alone None = tt
       alone (Some n) = (tt, tt)
 
-      within : (V : Finds) → CanBeFound F V → (p : FoundRow) (k : FoundHeld) (n : NodeId) → Has V.rows p → Has (nodes_shown p.cells) n → Has V.held k → k.node ≡ Some n → ⊥
-      within V v p k n h i j e = distinct-between (λ n. n) (flat_map (λ (r : FoundRow). nodes_shown r.cells) V.rows) (flat_map (λ (h : FoundHeld). one_or_none h.node) V.held) n n v.nodes_once (flat_map-has (λ (r : FoundRow). nodes_shown r.cells) V.rows p n h i) (flat_map-has (λ (h : FoundHeld). one_or_none h.node) V.held k n j (is-one k.node n e)) refl
+      within : (V : Finds) → CanBeFound F V → (p : FoundRow) (k : FoundHeld) (n : NodeId) → Has V.rows p → Has (nodes_standing p.cells) n → Has V.held k → k.node ≡ Some n → ⊥
+      within V v p k n h i j e = distinct-between (λ n. n) (flat_map (λ (r : FoundRow). nodes_standing r.cells) V.rows) (flat_map (λ (h : FoundHeld). one_or_none h.node) V.held) n n v.nodes_once (flat_map-has (λ (r : FoundRow). nodes_standing r.cells) V.rows p n h i) (flat_map-has (λ (h : FoundHeld). one_or_none h.node) V.held k n j (is-one k.node n e)) refl
 
-      cross : (n : NodeId) (r : FoundRow) → ((p : FoundRow) × Has A.rows p × (p.node ≡ r.node) × Has (nodes_shown p.cells) n) ⊎ ((q : FoundRow) × Has B.rows q × (q.node ≡ r.node) × Has (nodes_shown q.cells) n)
+      cross : (n : NodeId) (r : FoundRow) → ((p : FoundRow) × Has A.rows p × (p.node ≡ r.node) × Has (nodes_standing p.cells) n) ⊎ ((q : FoundRow) × Has B.rows q × (q.node ≡ r.node) × Has (nodes_standing q.cells) n)
           → (k : FoundHeld) → Has A.held k ⊎ (Has B.held k × ((l : FoundHeld) → Has A.held l → l.field ≡ k.field → ⊥)) → k.node ≡ Some n → ⊥
       cross n r (inl p) k (inl j) e = within A a p.0 k n p.1 p.3 j e
       cross n r (inl p) k (inr j) e = g.row_held p.0 k n p.1 j.0 p.3 e

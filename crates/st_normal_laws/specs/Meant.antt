@@ -20,9 +20,10 @@ use Rattle.st_marks.specs.declared.places.Spot.{Spot}
 use Rattle.st_marks.specs.declared.schemas.SchemaEntry.{SchemaEntry}
 use Rattle.st_marks.specs.Document.{Document, content, owned}
 use Rattle.st_marks.specs.Embedding.{is_among}
-use Rattle.st_marks.specs.Row.{CellMark, Counted, Gap, Touch, Make, Fill, spread, is_here}
-use Rattle.st_normal.specs.Rules.{in_rows, listed_by_change}
-use Rattle.st_marks.specs.Shown.{cells_before, cells_made, is_leave, nodes_new, one_or_none}
+use Rattle.st_marks.specs.Row.{CellMark, Counted, Gap, Touch, Make, Fill, spread}
+use Rattle.st_marks.specs.How.{is_here, is_leave}
+use Rattle.st_normal.specs.Rules.{in_rows, entries_of_change}
+use Rattle.st_marks.specs.Listings.{cells_before, cells_made, nodes_new, one_or_none}
 use Rattle.st_marks.specs.Verdict.{HasBase}
 use Rattle.st_normal_laws.specs.Told.{AreAsSeen}
 
@@ -108,7 +109,7 @@ leaving (f ∷ fs) = if is_leave f.how then f.node ∷ leaving fs else leaving f
 -- those that leave and are put nowhere
 abbrev pub gone : Change → List NodeId
 gone C =
-    filter (λ n. not (is_among (listed_by_change C).put n)) (leaving (listed_by_change C).found)
+    filter (λ n. not (is_among (entries_of_change C).put n)) (leaving (entries_of_change C).found)
 
 -- the register, if it is cleared
 abbrev pub cleared_at : RegMark → List FieldId

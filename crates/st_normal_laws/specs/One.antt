@@ -12,8 +12,8 @@ use Rattle.st_marks.specs.declared.marks.RowMarks.{RowMarks}
 use Rattle.st_marks.specs.declared.schemas.SchemaEntry.{SchemaEntry}
 use Rattle.st_marks.specs.Document.{opening}
 use Rattle.st_marks.specs.Row.{spread}
-use Rattle.st_normal.specs.Rules.{in_rows, fields_of, listed_by_change}
-use Rattle.st_marks.specs.Shown.{cells_before, cells_in, nodes_new}
+use Rattle.st_normal.specs.Rules.{in_rows, fields_of, entries_of_change}
+use Rattle.st_marks.specs.Listings.{cells_before, cells_in, nodes_new}
 use Rattle.st_normal_laws.specs.Seed.{Finds, FoundHeld, FoundRow}
 
 -- a number above all sessions of some names
@@ -49,7 +49,7 @@ entries_for base under = if base
 
 -- the nodes that a change finds
 abbrev pub nodes_of_found : Change → List NodeId
-nodes_of_found C = map (λ (f : Found). f.node) (listed_by_change C).found
+nodes_of_found C = map (λ (f : Found). f.node) (entries_of_change C).found
 
 -- what a change finds
 abbrev pub finds_of : Change → Finds
@@ -64,4 +64,4 @@ finds_of C = record {
 abbrev pub names_in : Change → List Atom
 names_in C = node_atoms (nodes_new C.new)
     ++ (node_atoms (nodes_of_found C)
-    ++ (node_atoms (fields_of (listed_by_change C)) ++ cell_atoms (in_rows cells_in C.rows)))
+    ++ (node_atoms (fields_of (entries_of_change C)) ++ cell_atoms (in_rows cells_in C.rows)))

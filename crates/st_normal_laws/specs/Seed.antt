@@ -12,7 +12,7 @@ use Rattle.st_marks.specs.declared.places.Spot.{Spot}
 use Rattle.st_marks.specs.declared.schemas.SchemaEntry.{SchemaEntry}
 use Rattle.st_marks.specs.Agree.{LeadsUp}
 use Rattle.st_marks.specs.Document.{CanBeInEffect, root}
-use Rattle.st_marks.specs.Shown.{Seen, one_or_none, nodes_shown}
+use Rattle.st_marks.specs.Listings.{CellView, one_or_none, nodes_standing}
 use Rattle.st_normal_laws.specs.Laid.{LaidRow, LaidHeld, Layout}
 
 -- ## Fresh names
@@ -42,7 +42,7 @@ fresh_node F n k = record { 0 = fresh F n k }
 
 pub record FoundRow : Type 0 where
   pub node : NodeId
-  pub cells : List Seen
+  pub cells : List CellView
 
 pub record FoundHeld : Type 0 where
   pub field : FieldId
@@ -59,7 +59,7 @@ pub record Finds : Type 0 where
 
 -- one cell of a node's row: what isn't told has a fresh name; an empty cell whose owner isn't told
 -- is the root's
-abbrev pub lay_cell : ℕ → NodeId → ℕ → Seen → Slot
+abbrev pub lay_cell : ℕ → NodeId → ℕ → CellView → Slot
 lay_cell F n k x = record {
   cell = option_map_or (λ (c : CellId). c) x.cell (fresh_cell F n k);
   node = option_map_or (λ (m : NodeId). m) x.node (if x.full then fresh_node F n k else root);
@@ -67,7 +67,7 @@ lay_cell F n k x = record {
 }
 
 -- the cells of a node's row
-abbrev pub lay : ℕ → NodeId → List Seen → List Slot
+abbrev pub lay : ℕ → NodeId → List CellView → List Slot
 lay F n [] = []
 lay F n (x ∷ xs) = lay_cell F n (length xs) x ∷ lay F n xs
 
@@ -97,19 +97,19 @@ seed F W = record {
 -- ## What can be found together
 
 -- the cells that are named in a row
-abbrev pub cells_named : List Seen → List CellId
-cells_named cells = flat_map (λ (x : Seen). one_or_none x.cell) cells
+abbrev pub cells_named : List CellView → List CellId
+cells_named cells = flat_map (λ (x : CellView). one_or_none x.cell) cells
 
 -- the nodes that are found in rows and registers
 abbrev pub nodes_found : Finds → List NodeId
-nodes_found W = flat_map (λ (r : FoundRow). nodes_shown r.cells) W.rows
+nodes_found W = flat_map (λ (r : FoundRow). nodes_standing r.cells) W.rows
     ++ flat_map (λ (h : FoundHeld). one_or_none h.node) W.held
 
 -- a node is found in a row or a register
 abbrev pub IsFoundAt : Finds → NodeId → Spot → Type 0
 IsFoundAt W n s =
     ((r : FoundRow) × (c : CellId)
-    × Has W.rows r × Has (nodes_shown r.cells) n × (s ≡ Spot.Row r.node c))
+    × Has W.rows r × Has (nodes_standing r.cells) n × (s ≡ Spot.Row r.node c))
     ⊎ ((h : FoundHeld) × Has W.held h × (h.node ≡ Some n) × (s ≡ Spot.Register h.field))
 
 -- a name with a session below F
@@ -123,7 +123,7 @@ pub record CanBeFound (F : ℕ) (W : Finds) : Type 0 where
   pub fields_once : AreDistinct (λ (h : FoundHeld). h.field) W.held
   pub nodes_once : AreDistinct (λ n. n) (nodes_found W)
   pub root_stays : Has (nodes_found W) root → ⊥
-  pub row_known : (r : FoundRow) (x : Seen) → Has W.rows r → Has r.cells x
+  pub row_known : (r : FoundRow) (x : CellView) → Has W.rows r → Has r.cells x
       → Has (root ∷ W.known) r.node
   pub held_known : (h : FoundHeld) (n : NodeId) → Has W.held h → h.node ≡ Some n
       → Has (root ∷ W.known) n × Has (root ∷ W.known) h.field.node

@@ -7,23 +7,23 @@ use Rattle.st_ids.specs.Order.{same_field, same_node}
 use Rattle.st_ids.specs.declared.names.CellId.{CellId}
 use Rattle.st_ids.specs.declared.names.NodeId.{NodeId}
 use Rattle.st_marks.specs.declared.places.Spot.{Spot}
-use Rattle.st_marks.specs.Agree.{IsSameSeen, row_field}
+use Rattle.st_marks.specs.Agree.{IsSameView, row_field}
 use Rattle.st_marks.specs.Document.{node_of}
-use Rattle.st_marks.specs.Shown.{Seen, nodes_shown, one_or_none}
+use Rattle.st_marks.specs.Listings.{CellView, nodes_standing, one_or_none}
 use Rattle.st_normal_laws.specs.Seed.{Finds, FoundHeld, FoundRow}
 
 -- a cell as both show it
-abbrev pub join : Seen → Seen → Seen
+abbrev pub join : CellView → CellView → CellView
 join x y = record { cell = option_or x.cell y.cell; node = option_or x.node y.node; full = x.full }
 
 -- a row as both show it
-abbrev pub joined : List Seen → List Seen → List Seen
+abbrev pub joined : List CellView → List CellView → List CellView
 joined [] ys = []
 joined (x ∷ xs) [] = x ∷ xs
 joined (x ∷ xs) (y ∷ ys) = join x y ∷ joined xs ys
 
 -- the cells that the other lists in the row
-abbrev pub cells_of_row : List FoundRow → NodeId → List Seen
+abbrev pub cells_of_row : List FoundRow → NodeId → List CellView
 cells_of_row rows n = option_map_or (λ (r : FoundRow). r.cells)
     (find (λ (r : FoundRow). same_node r.node n) rows) []
 
@@ -58,30 +58,30 @@ both A B = record {
 -- ## Names by their places
 
 -- the names in a row, by what is named of one cell
-abbrev pub keys : {K : Type 0} → (Seen → Option K) → List Seen → List K
+abbrev pub keys : {K : Type 0} → (CellView → Option K) → List CellView → List K
 keys key xs = flat_map (λ x. one_or_none (key x)) xs
 
 -- the name of a cell
-abbrev pub cell_key : Seen → Option CellId
+abbrev pub cell_key : CellView → Option CellId
 cell_key x = x.cell
 
 -- the node of a full cell
-abbrev pub node_key : Seen → Option NodeId
+abbrev pub node_key : CellView → Option NodeId
 node_key x = if x.full then x.node else None
 
 -- the k-th cell of a row has this name
-abbrev pub IsNamedAt : {K : Type 0} → (Seen → Option K) → List Seen → ℕ → K → Type 0
+abbrev pub IsNamedAt : {K : Type 0} → (CellView → Option K) → List CellView → ℕ → K → Type 0
 IsNamedAt key [] k c = ⊥
 IsNamedAt key (x ∷ xs) zero c = key x ≡ Some c
 IsNamedAt key (x ∷ xs) (suc k) c = IsNamedAt key xs k c
 
 -- what two rows name is at one place
-abbrev pub AreInPlace : {K : Type 0} → (Seen → Option K) → List Seen → List Seen → Type 0
+abbrev pub AreInPlace : {K : Type 0} → (CellView → Option K) → List CellView → List CellView → Type 0
 AreInPlace {K} key xs ys =
     (k l : ℕ) (c : K) → IsNamedAt key xs k c → IsNamedAt key ys l c → k ≡ l
 
 -- rows of two that name one thing are those of one node, and name it at one place
-abbrev pub RowsAgree : {K : Type 0} → (Seen → Option K) → List FoundRow → List FoundRow → Type 0
+abbrev pub RowsAgree : {K : Type 0} → (CellView → Option K) → List FoundRow → List FoundRow → Type 0
 RowsAgree {K} key ps qs = (p q : FoundRow) (k l : ℕ) (c : K) → Has ps p → Has qs q
     → IsNamedAt key p.cells k c → IsNamedAt key q.cells l c → (p.node ≡ q.node) × (k ≡ l)
 
@@ -91,7 +91,7 @@ RowsAgree {K} key ps qs = (p q : FoundRow) (k l : ℕ) (c : K) → Has ps p → 
 abbrev pub IsUnder : Finds → NodeId → Spot → Type 0
 IsUnder W n s =
     ((r : FoundRow)
-    × Has W.rows r × Has (nodes_shown r.cells) n × (s ≡ Spot.Register (row_field r.node)))
+    × Has W.rows r × Has (nodes_standing r.cells) n × (s ≡ Spot.Register (row_field r.node)))
     ⊎ ((h : FoundHeld) × Has W.held h × (h.node ≡ Some n) × (s ≡ Spot.Register h.field))
 
 -- the node above one that is found is found too, or by neither
@@ -108,15 +108,15 @@ IsClosedAfter B A = (n p : NodeId) (s : Spot) → IsUnder B n s → node_of s �
 -- what two find differs nowhere
 pub record AgreeBeside (A B : Finds) : Type 0 where
   pub rows : (p q : FoundRow) → Has A.rows p → Has B.rows q → p.node ≡ q.node
-      → AllZip IsSameSeen p.cells q.cells
+      → AllZip IsSameView p.cells q.cells
   pub cells : RowsAgree cell_key A.rows B.rows
   pub nodes : RowsAgree node_key A.rows B.rows
   pub held : (h k : FoundHeld) → Has A.held h → Has B.held k → h.field ≡ k.field → h.node ≡ k.node
   pub held_once : (h k : FoundHeld) (n : NodeId) → Has A.held h → Has B.held k
       → h.node ≡ Some n → k.node ≡ Some n → h.field ≡ k.field
   pub row_held : (p : FoundRow) (k : FoundHeld) (n : NodeId) → Has A.rows p → Has B.held k
-      → Has (nodes_shown p.cells) n → k.node ≡ Some n → ⊥
+      → Has (nodes_standing p.cells) n → k.node ≡ Some n → ⊥
   pub held_row : (h : FoundHeld) (q : FoundRow) (n : NodeId) → Has A.held h → Has B.rows q
-      → h.node ≡ Some n → Has (nodes_shown q.cells) n → ⊥
+      → h.node ≡ Some n → Has (nodes_standing q.cells) n → ⊥
   pub first_closed : IsClosedBeside A B
   pub second_closed : IsClosedAfter B A

@@ -20,24 +20,24 @@ use Rattle.st_marks.proofs.Lookups.{put-has, has-put, put_in-has, has-put_in, pu
 use Rattle.st_marks.proofs.Members.{all-has, first-has}
 use Rattle.st_register.specs.declared.values.RegHeld.{RegHeld}
 use Rattle.st_register.specs.declared.values.RegSwap.{RegSwap}
-use Rattle.st_register.specs.Register.{RegPart, CanHold, FitsIn, LeadsOver, carried_to, change_of, part_of, unless_put, only_made}
-use Rattle.st_register.specs.Told.{as_mark, as_step}
+use Rattle.st_register.specs.Register.{RegPart, RegCanHold, RegFits, RegLeadsOver, reg_carried, reg_change_of, reg_part_of, unless_put, only_made}
+use Rattle.st_register.specs.Readings.{as_mark, as_step}
 use Rattle.st_register.proofs.Occupants.{not_true}
 
 -- ## What is listed
 
-pub change_is : (p : RegPart) (c : RegHeld) → embed_register p.field p.does c.node ≡ cond (p.does.clear || holds_mentioned p.does.mentioned c.node) (Some (as_mark p.field (change_of p c))) None
+pub change_is : (p : RegPart) (c : RegHeld) → embed_register p.field p.part c.node ≡ cond (p.part.clear || holds_mentioned p.part.mentioned c.node) (Some (as_mark p.field (reg_change_of p c))) None
 change_is p c = refl
 
-pub step_is : (f : FieldId) (m : NodeId → Bool) (c d : RegHeld) (s : RegSwap) → LeadsOver c d s → step_register f m c.node d.node ≡ cond (not (same_option same_node c.node d.node) || holds_mentioned m c.node) (Some (as_step f s)) None
+pub step_is : (f : FieldId) (m : NodeId → Bool) (c d : RegHeld) (s : RegSwap) → RegLeadsOver c d s → step_register f m c.node d.node ≡ cond (not (same_option same_node c.node d.node) || holds_mentioned m c.node) (Some (as_step f s)) None
 step_is f m c d s l = ap (λ (t : RegSwap). cond (not (same_option same_node c.node d.node) || holds_mentioned m c.node) (Some (as_step f t)) None) (sym l.swap)
 
 -- no register of a document holds the root
-pub can_hold : (D : Document) (f : FieldId) → IsSoundInForm D → CanHold (record { node = D.held f })
+pub can_hold : (D : Document) (f : FieldId) → IsSoundInForm D → RegCanHold (record { node = D.held f })
 can_hold D f x e = let q : ◌≡◌ {A = Spot} Spot.Nowhere (Spot.Register f) = sym x.root_nowhere ∙ (x.one_held root f).0 e in cc
 
 -- the step of a whole step leads from a register to the register after it
-pub document_is : (D E : Document) (f : FieldId) → IsExtendedBy D E → LeadsOver (record { node = D.held f }) (record { node = E.held f }) (record { before = D.held f; after = E.held f })
+pub document_is : (D E : Document) (f : FieldId) → IsExtendedBy D E → RegLeadsOver (record { node = D.held f }) (record { node = E.held f }) (record { before = D.held f; after = E.held f })
 document_is D E f x = record { before = can_hold D f x.before; after = can_hold E f x.after; swap = refl }
 
 -- ## The part of an intent
@@ -62,7 +62,7 @@ not_made D N w n h =
       | false ↦ λ e. refl
     ] refl
 
-pub part_fits : (D : Document) (N : Intent) (m : NodeId → Bool) (f : FieldId) → IsSoundInForm D → Fits D N → FitsIn (part_of m N f) (record { node = D.held f })
+pub part_fits : (D : Document) (N : Intent) (m : NodeId → Bool) (f : FieldId) → IsSoundInForm D → Fits D N → RegFits (reg_part_of m N f) (record { node = D.held f })
 part_fits D N m f x w = record {
   content = λ e. let q : Spot.Nowhere ≡ Spot.Register f = sym x.root_nowhere ∙ (x.one_held root f).0 e in cc;
   cleared = if_some (put_in N f) (λ _. clears N f ≡ true) (λ n e. put_clears N w.itself n f (put_in-has N f n e));
@@ -78,14 +78,14 @@ unless_put_is : (N : Intent) (o : Option NodeId) → carry.unless_put N o ≡ un
 unless_put_is N None = refl
 unless_put_is N (Some n) = refl
 
-pub whole_is : (D : Document) (N : Intent) (m : NodeId → Bool) (f : FieldId) → (full D N).held f ≡ (carried_to (part_of m N f) false (record { node = D.held f })).node
+pub whole_is : (D : Document) (N : Intent) (m : NodeId → Bool) (f : FieldId) → (full D N).held f ≡ (reg_carried (reg_part_of m N f) false (record { node = D.held f })).node
 whole_is D N m f = ap (λ (o : Option NodeId). option_or (put_in N f) (cond (clears N f) None o)) (unless_put_is N (D.held f))
 
 only_made_is : (N : Intent) (o : Option NodeId) → only_new N o ≡ only_made (is_new N) o
 only_made_is N None = refl
 only_made_is N (Some n) = refl
 
-pub void_is : (D : Document) (N : Intent) (m : NodeId → Bool) (f : FieldId) → Fits D N → (void D N).held f ≡ (carried_to (part_of m N f) true (record { node = D.held f })).node
+pub void_is : (D : Document) (N : Intent) (m : NodeId → Bool) (f : FieldId) → Fits D N → (void D N).held f ≡ (reg_carried (reg_part_of m N f) true (record { node = D.held f })).node
 void_is D N m f w = go N.schema w.itself.schema_alone
   where
     go : (s : Option (List ℕ)) → IfSome s (λ _. (N.new ≡ []) × (N.groups ≡ []) × (N.clear ≡ []) × (N.put ≡ []) × (N.need ≡ [])) → (option_map_or (λ _. D) s (carry.void_data D N)).held f ≡ cond (is_new N f.node) (only_made (is_new N) (put_in N f)) (D.held f)

@@ -7,8 +7,8 @@ use Rattle.st_marks.specs.declared.marks.How.TheVariants.{Stay}
 use Rattle.st_marks.specs.Document.{root}
 use Rattle.st_register.specs.declared.values.RegChange.{RegChange}
 use Rattle.st_register.specs.declared.values.RegHeld.{RegHeld}
-use Rattle.st_register.specs.Form.{IsOfForm}
-use Rattle.st_register.specs.Register.{RegPart, FitsIn, KeepsIn, LeadsOver, CanHold, carried_to, change_of}
+use Rattle.st_register.specs.NormalForm.{IsNormalRegChange}
+use Rattle.st_register.specs.Register.{RegPart, RegFits, RegKeeps, RegLeadsOver, RegCanHold, reg_carried, reg_change_of}
 use Rattle.st_register.proofs.Parts.{told}
 use Rattle.st_register.proofs.Registers.{holding}
 use Rattle.st_register.proofs.Forms.{told_fits, told_is}
@@ -23,7 +23,7 @@ sets = record { rev = record { session = 2; num = 1 }; in_new = false; held = So
 two : (m n : ℕ) (j k : ℕ) → (m ≡ n → ⊥) → Some (node m j) ≢ Some (node n k)
 two m n j k h e = h (ap (λ (o : Option NodeId). option_map_or (λ (n : NodeId). n.0.rev.session) o 0) e)
 
-in_form : IsOfForm sets
+in_form : IsNormalRegChange sets
 in_form = record {
   nobody = λ e. cc;
   put = λ e. cc;
@@ -36,7 +36,7 @@ not_root : (s k : ℕ) → (s ≡ 0 → ⊥) → Some (node s k) ≢ Some root
 not_root s k h e = h (ap (λ (o : Option NodeId). option_map_or (λ (n : NodeId). n.0.rev.session) o 0) e)
 
 -- the part fits elsewhere
-fits_at : (d : RegHeld) → CanHold d → IfSome d.node (λ n. ((told sets).makes n ≡ false) × ((told sets).makes (told sets).field.node ≡ false)) → FitsIn (told sets) d
+fits_at : (d : RegHeld) → RegCanHold d → IfSome d.node (λ n. ((told sets).makes n ≡ false) × ((told sets).makes (told sets).field.node ≡ false)) → RegFits (told sets) d
 fits_at d h o =
     let w = told_fits sets in_form (not_root 1 0 (λ e. omega (arith, e))) in
     record { content = h; cleared = w.cleared; put_here = w.put_here; root_stays = w.root_stays; made = w.made; old = o }
@@ -45,13 +45,13 @@ old : IfSome (Some (node 1 1)) (λ n. ((told sets).makes n ≡ false) × ((told 
 unfolding same_node
 old = (refl, refl)
 
-keeps : KeepsIn (told sets) (holding (Some (node 1 0))) (holding (Some (node 1 1)))
+keeps : RegKeeps (told sets) (holding (Some (node 1 0))) (holding (Some (node 1 1)))
 unfolding same_node
 keeps a e = cc
 
 pub stands : (n : RegPart) × (m : NodeId → Bool) × (k : NodeId → Bool) × (c : RegHeld) × (d : RegHeld) × (e : RegHeld)
-    × (sets ≡ change_of n c) × LeadsOver c d (record { before = Some (node 1 0); after = Some (node 1 1) }) × LeadsOver d e (record { before = Some (node 1 1); after = None })
-    × FitsIn n c × FitsIn n d × FitsIn n e × KeepsIn n c d × KeepsIn n d e × CanHold (carried_to n false d) × CanHold (carried_to n false e)
+    × (sets ≡ reg_change_of n c) × RegLeadsOver c d (record { before = Some (node 1 0); after = Some (node 1 1) }) × RegLeadsOver d e (record { before = Some (node 1 1); after = None })
+    × RegFits n c × RegFits n d × RegFits n e × RegKeeps n c d × RegKeeps n d e × RegCanHold (reg_carried n false d) × RegCanHold (reg_carried n false e)
 stands =
     let a : Some (node 1 0) ≢ Some root = not_root 1 0 (λ e. omega (arith, e)) in
     let b : Some (node 1 1) ≢ Some root = not_root 1 1 (λ e. omega (arith, e)) in

@@ -10,13 +10,13 @@ use Rattle.st_marks.specs.declared.marks.How.TheVariants.{Stay, Here, Leave}
 use Rattle.st_marks.specs.Document.{root}
 use Rattle.st_marks.specs.Intent.{same_option}
 use Rattle.st_marks.specs.Register.{comes_in, how_held}
-use Rattle.st_marks.specs.Row.{how, is_here}
-use Rattle.st_marks.specs.Shown.{is_leave}
+use Rattle.st_marks.specs.Row.{how}
+use Rattle.st_marks.specs.How.{is_here, is_leave}
 use Rattle.st_register.specs.declared.values.RegChange.{RegChange}
 use Rattle.st_register.specs.declared.values.RegHeld.{RegHeld}
-use Rattle.st_register.specs.Form.{IsOfForm}
-use Rattle.st_register.specs.Register.{RegPart, FitsIn, CanHold, change_of}
-use Rattle.st_register.specs.Told.{put_by, makes_by}
+use Rattle.st_register.specs.NormalForm.{IsNormalRegChange}
+use Rattle.st_register.specs.Register.{RegPart, RegFits, RegCanHold, reg_change_of}
+use Rattle.st_register.specs.Readings.{put_by, makes_by}
 use Rattle.st_register.proofs.Parts.{field_told, goes_told, told, other_number}
 use Rattle.st_register.proofs.Occupants.{not_true, one_occupant, same_occupant, other_occupant, comes_in-other, comes_in-same, to-here}
 use Rattle.st_register.proofs.Registers.{holding, here-fill, comes-fill}
@@ -31,46 +31,46 @@ some_is (Some m) P n h e = subst P (ap (λ (q : Option NodeId). option_map_or (�
 
 -- ## From a part
 
-of_put : (p : RegPart) (o : Option NodeId) → FitsIn p (holding o) → how_held p.field p.does o ≡ Here → (p.does.clear ≡ true) × (comes_in o p.does.fill ≡ None)
+of_put : (p : RegPart) (o : Option NodeId) → RegFits p (holding o) → how_held p.field p.part o ≡ Here → (p.part.clear ≡ true) × (comes_in o p.part.fill ≡ None)
 of_put p None w e = cc
 of_put p (Some n) w e =
-    let f : p.does.fill ≡ Some n = here-fill p (holding (Some n)) w n e in
-    (some_is p.does.fill (λ _. p.does.clear ≡ true) n w.cleared f, comes_in-same (Some n) p.does.fill (sym f))
+    let f : p.part.fill ≡ Some n = here-fill p (holding (Some n)) w n e in
+    (some_is p.part.fill (λ _. p.part.clear ≡ true) n w.cleared f, comes_in-same (Some n) p.part.fill (sym f))
 
-of_filled : (p : RegPart) (o : Option NodeId) → FitsIn p (holding o) → (n : NodeId) → comes_in o p.does.fill ≡ Some n → (p.does.clear ≡ true) × (o ≢ Some n) × (n ≢ root)
+of_filled : (p : RegPart) (o : Option NodeId) → RegFits p (holding o) → (n : NodeId) → comes_in o p.part.fill ≡ Some n → (p.part.clear ≡ true) × (o ≢ Some n) × (n ≢ root)
 of_filled p o w n e =
-    let f : p.does.fill ≡ Some n = comes-fill o p.does.fill n e in (
-      some_is p.does.fill (λ _. p.does.clear ≡ true) n w.cleared f,
-      (λ h. let q : ◌≡◌ {A = Option NodeId} None (Some n) = sym (comes_in-same o p.does.fill (h ∙ sym f)) ∙ e in cc),
-      (λ h. let q : ◌≡◌ {A = Option To} (Some (To.Register p.field)) None = sym ((w.put_here n).1 f) ∙ ap p.does.goes h ∙ w.root_stays in cc),
+    let f : p.part.fill ≡ Some n = comes-fill o p.part.fill n e in (
+      some_is p.part.fill (λ _. p.part.clear ≡ true) n w.cleared f,
+      (λ h. let q : ◌≡◌ {A = Option NodeId} None (Some n) = sym (comes_in-same o p.part.fill (h ∙ sym f)) ∙ e in cc),
+      (λ h. let q : ◌≡◌ {A = Option To} (Some (To.Register p.field)) None = sym ((w.put_here n).1 f) ∙ ap p.part.target_of h ∙ w.root_stays in cc),
     )
 
-of_made : (p : RegPart) (o : Option NodeId) → FitsIn p (holding o) → (fill : Option NodeId) → option_map_or p.makes fill false ≡ true → (n : NodeId) × (fill ≡ Some n) × (n.0.rev ≡ p.rev)
+of_made : (p : RegPart) (o : Option NodeId) → RegFits p (holding o) → (fill : Option NodeId) → option_map_or p.makes fill false ≡ true → (n : NodeId) × (fill ≡ Some n) × (n.0.rev ≡ p.rev)
 of_made p o w None e = cc
 of_made p o w (Some n) e = (n, refl, w.made n e)
 
-of_empty : (p : RegPart) (o : Option NodeId) → FitsIn p (holding o) → p.makes p.field.node ≡ true → o ≡ None
+of_empty : (p : RegPart) (o : Option NodeId) → RegFits p (holding o) → p.makes p.field.node ≡ true → o ≡ None
 of_empty p None w e = refl
 of_empty p (Some n) w e = absurd (not_true w.old.1 e)
 
-of_nobody : (p : RegPart) (o : Option NodeId) → o ≡ None → how_held p.field p.does o ≡ Stay
+of_nobody : (p : RegPart) (o : Option NodeId) → o ≡ None → how_held p.field p.part o ≡ Stay
 of_nobody p o e = rw e refl
 
-change_keeps : (p : RegPart) (o : Option NodeId) → FitsIn p (holding o) → IsOfForm (change_of p (holding o))
+change_keeps : (p : RegPart) (o : Option NodeId) → RegFits p (holding o) → IsNormalRegChange (reg_change_of p (holding o))
 change_keeps p o w = record {
   nobody = of_nobody p o;
   put = of_put p o w;
-  filled = if_some (comes_in o p.does.fill) _ (of_filled p o w);
-  made = of_made p o w (comes_in o p.does.fill);
+  filled = if_some (comes_in o p.part.fill) _ (of_filled p o w);
+  made = of_made p o w (comes_in o p.part.fill);
   empty = of_empty p o w;
 }
 
-pub keeps_rules : (p : RegPart) (c : RegHeld) (x : RegChange) → FitsIn p c → x ≡ change_of p c → IsOfForm x
-keeps_rules p c x w e = subst IsOfForm (sym e) (change_keeps p c.node w)
+pub keeps_rules : (p : RegPart) (c : RegHeld) (x : RegChange) → RegFits p c → x ≡ reg_change_of p c → IsNormalRegChange x
+keeps_rules p c x w e = subst IsNormalRegChange (sym e) (change_keeps p c.node w)
 
 -- ## To a part
 
-module _ (x : RegChange) (w : IsOfForm x) (h : x.held ≢ Some root) where
+module _ (x : RegChange) (w : IsNormalRegChange x) (h : x.held ≢ Some root) where
   put_cleared : IfSome (put_by x) (λ _. x.clear ≡ true)
   put_cleared =
       elim (is_here x.how) as (λ b. is_here x.how ≡ b → IfSome (cond b x.held x.fill) (λ _. x.clear ≡ true)) [
@@ -150,7 +150,7 @@ module _ (x : RegChange) (w : IsOfForm x) (h : x.held ≢ Some root) where
   old n e =
       rw (old_new n e, not_makes n (λ f. (some_is x.fill _ n w.filled f).1 e), not_makes root not_root) (refl, refl)
 
-  pub told_fits : FitsIn (told x) (holding x.held)
+  pub told_fits : RegFits (told x) (holding x.held)
   told_fits = record {
     content = h;
     cleared = put_cleared;
@@ -190,7 +190,7 @@ module _ (x : RegChange) (w : IsOfForm x) (h : x.held ≢ Some root) where
   how_some n e Here k = sym (to-here (goes_told x n) (field_told x) (goes_here n e k))
   how_some n e Leave k = sym (ap (λ (g : Option To). how g (To.Register (field_told x))) (goes_leave n e k))
 
-  how_told : (o : Option NodeId) → x.held ≡ o → x.how ≡ how_held (field_told x) (told x).does o
+  how_told : (o : Option NodeId) → x.held ≡ o → x.how ≡ how_held (field_told x) (told x).part o
   how_told None e = w.nobody e
   how_told (Some n) e = how_some n e x.how refl
 
@@ -242,7 +242,7 @@ module _ (x : RegChange) (w : IsOfForm x) (h : x.held ≢ Some root) where
       none (n, f, r) = let q : ◌≡◌ {A = Option NodeId} None (Some n) = sym e ∙ f in cc
   fill_new_told (Some n) e = makes_told n e
 
-  pub told_is : x ≡ change_of (told x) (holding x.held)
+  pub told_is : x ≡ reg_change_of (told x) (holding x.held)
   told_is = λ i. record {
     rev = x.rev;
     in_new = in_new_is i;
@@ -253,7 +253,7 @@ module _ (x : RegChange) (w : IsOfForm x) (h : x.held ≢ Some root) where
     fill_new = (fill_new_told x.fill refl ∙ ap (λ (q : Option NodeId). option_map_or (told x).makes q false) fill_told) i;
   }
 
-pub form_is_told : (x : RegChange) (c : RegHeld) → IsOfForm x → x.held ≡ c.node → CanHold c → (p : RegPart) × FitsIn p c × (x ≡ change_of p c)
+pub form_is_told : (x : RegChange) (c : RegHeld) → IsNormalRegChange x → x.held ≡ c.node → RegCanHold c → (p : RegPart) × RegFits p c × (x ≡ reg_change_of p c)
 form_is_told x c w e h =
     let k : x.held ≢ Some root = λ f. h (sym e ∙ f) in
-    subst (λ (d : RegHeld). (p : RegPart) × FitsIn p d × (x ≡ change_of p d)) (ap holding e) (told x, told_fits x w k, told_is x w k)
+    subst (λ (d : RegHeld). (p : RegPart) × RegFits p d × (x ≡ reg_change_of p d)) (ap holding e) (told x, told_fits x w k, told_is x w k)

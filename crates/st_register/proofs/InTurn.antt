@@ -10,12 +10,12 @@ use Rattle.st_marks.specs.declared.marks.How.TheVariants.{Stay, Here, Leave}
 use Rattle.st_marks.specs.Intent.{same_option}
 use Rattle.st_marks.specs.Register.{comes_in, how_held}
 use Rattle.st_marks.specs.Row.{how, same_to}
-use Rattle.st_marks.specs.Shown.{is_leave}
+use Rattle.st_marks.specs.How.{is_leave}
 use Rattle.st_register.specs.declared.values.RegChange.{RegChange}
 use Rattle.st_register.specs.declared.values.RegHeld.{RegHeld}
 use Rattle.st_register.specs.Joined.{AreJoinedIn, fills}
-use Rattle.st_register.specs.Register.{RegPart, FitsIn, carried_to, change_of, held_whole, unless_put}
-use Rattle.st_register.specs.Told.{makes_by, put_in_turn, how_in_turn, held_in_turn, stays_in_turn}
+use Rattle.st_register.specs.Register.{RegPart, RegFits, reg_carried, reg_change_of, held_whole, unless_put}
+use Rattle.st_register.specs.Readings.{makes_by, put_in_turn, how_in_turn, held_in_turn, stays_in_turn}
 use Rattle.st_register.proofs.Occupants.{not_true, one_occupant, same_occupant, other_occupant, to-here, stay-to}
 use Rattle.st_register.proofs.Registers.{holding, here-fill, put_is, makes_is, comes-fill, all_new}
 
@@ -138,85 +138,85 @@ cleared : (fill : Option NodeId) (clear : Bool) → IfSome fill (λ _. clear ≡
 cleared None clear h e = refl
 cleared (Some n) clear h e = absurd (not_true e h)
 
-fills_makes : (p : RegPart) (o : Option NodeId) (n : NodeId) → FitsIn p (holding o) → makes_by (change_of p (holding o)) n ≡ (fills p n && p.makes n)
+fills_makes : (p : RegPart) (o : Option NodeId) (n : NodeId) → RegFits p (holding o) → makes_by (reg_change_of p (holding o)) n ≡ (fills p n && p.makes n)
 fills_makes p o n w =
-    elim (fills p n) as (λ b. fills p n ≡ b → makes_by (change_of p (holding o)) n ≡ (b && p.makes n)) [
-      | true ↦ λ e. makes_is p o n w (one_occupant p.does.fill (Some n) e)
-      | false ↦ λ e. rw (other_occupant (comes_in o p.does.fill) (Some n) (λ h. not_true e (same_occupant p.does.fill (Some n) (comes-fill o p.does.fill n h))))
-          (elim (option_map_or p.makes (comes_in o p.does.fill) false) as (λ b. (b && false) ≡ false) [ true ↦ refl | false ↦ refl ])
+    elim (fills p n) as (λ b. fills p n ≡ b → makes_by (reg_change_of p (holding o)) n ≡ (b && p.makes n)) [
+      | true ↦ λ e. makes_is p o n w (one_occupant p.part.fill (Some n) e)
+      | false ↦ λ e. rw (other_occupant (comes_in o p.part.fill) (Some n) (λ h. not_true e (same_occupant p.part.fill (Some n) (comes-fill o p.part.fill n h))))
+          (elim (option_map_or p.makes (comes_in o p.part.fill) false) as (λ b. (b && false) ≡ false) [ true ↦ refl | false ↦ refl ])
     ] refl
 
-module _ (p q j : RegPart) (o : Option NodeId) (t : AreJoinedIn p q (holding o) j) (w : FitsIn p (holding o)) (v : FitsIn q (carried_to p false (holding o))) where
+module _ (p q j : RegPart) (o : Option NodeId) (t : AreJoinedIn p q (holding o) j) (w : RegFits p (holding o)) (v : RegFits q (reg_carried p false (holding o))) where
   abbrev first : RegChange
-  first = change_of p (holding o)
+  first = reg_change_of p (holding o)
 
   abbrev next : RegChange
-  next = change_of q (carried_to p false (holding o))
+  next = reg_change_of q (reg_carried p false (holding o))
 
   -- who is there between the two
   abbrev between : Option NodeId
-  between = held_whole p.does o
+  between = held_whole p.part o
 
-  leaves_it : (n : NodeId) → q.does.fill ≡ None → (g : Option To) → q.does.goes n ≡ g → cond (is_leave (how g (To.Register q.field))) None (Some n) ≡ cond (is_some g) None (Some n)
+  leaves_it : (n : NodeId) → q.part.fill ≡ None → (g : Option To) → q.part.target_of n ≡ g → cond (is_leave (how g (To.Register q.field))) None (Some n) ≡ cond (is_some g) None (Some n)
   leaves_it n f None e = refl
   leaves_it n f (Some to) e =
-      let away : Leave ≡ how (Some to) (To.Register q.field) = leaves to q.field (λ h. let r : ◌≡◌ {A = Option NodeId} None (Some n) = sym f ∙ here-fill q (carried_to p false (holding o)) v n (ap (λ (x : Option To). how x (To.Register q.field)) e ∙ h) in cc) in
+      let away : Leave ≡ how (Some to) (To.Register q.field) = leaves to q.field (λ h. let r : ◌≡◌ {A = Option NodeId} None (Some n) = sym f ∙ here-fill q (reg_carried p false (holding o)) v n (ap (λ (x : Option To). how x (To.Register q.field)) e ∙ h) in cc) in
       ap (λ (h : How). cond (is_leave h) None (Some n)) (sym away)
 
-  put_first : q.does.fill ≡ None → (x : Option NodeId) → p.does.fill ≡ x → cond (is_leave (how_held q.field q.does between)) None x ≡ unless_put q.does.goes x
-  put_first f None e = elim (is_leave (how_held q.field q.does between)) as (λ b. ◌≡◌ {A = Option NodeId} (cond b None None) None) [ true ↦ refl | false ↦ refl ]
+  put_first : q.part.fill ≡ None → (x : Option NodeId) → p.part.fill ≡ x → cond (is_leave (how_held q.field q.part between)) None x ≡ unless_put q.part.target_of x
+  put_first f None e = elim (is_leave (how_held q.field q.part between)) as (λ b. ◌≡◌ {A = Option NodeId} (cond b None None) None) [ true ↦ refl | false ↦ refl ]
   put_first f (Some n) e =
-      let there : between ≡ Some n = ap (λ (x : Option NodeId). option_or x (cond p.does.clear None (unless_put p.does.goes o))) e in
-      ap (λ (x : Option NodeId). cond (is_leave (how_held q.field q.does x)) None (Some n)) there ∙ leaves_it n f (q.does.goes n) refl
+      let there : between ≡ Some n = ap (λ (x : Option NodeId). option_or x (cond p.part.clear None (unless_put p.part.target_of o))) e in
+      ap (λ (x : Option NodeId). cond (is_leave (how_held q.field q.part x)) None (Some n)) there ∙ leaves_it n f (q.part.target_of n) refl
 
-  last : (x : Option NodeId) (b : Bool) → q.does.fill ≡ x → option_or x (cond (b || is_leave (how_held q.field q.does between)) None p.does.fill) ≡ at_last x b q.does.goes p.does.fill
+  last : (x : Option NodeId) (b : Bool) → q.part.fill ≡ x → option_or x (cond (b || is_leave (how_held q.field q.part between)) None p.part.fill) ≡ at_last x b q.part.target_of p.part.fill
   last (Some n) b e = refl
   last None true e = refl
-  last None false e = put_first e p.does.fill refl
+  last None false e = put_first e p.part.fill refl
 
-  last_is : put_in_turn first next ≡ at_last q.does.fill q.does.clear q.does.goes p.does.fill
+  last_is : put_in_turn first next ≡ at_last q.part.fill q.part.clear q.part.target_of p.part.fill
   last_is =
-      (λ i. option_or (put_is q between v i) (cond (q.does.clear || is_leave (how_held q.field q.does between)) None (put_is p o w i)))
-      ∙ last q.does.fill q.does.clear refl
+      (λ i. option_or (put_is q between v i) (cond (q.part.clear || is_leave (how_held q.field q.part between)) None (put_is p o w i)))
+      ∙ last q.part.fill q.part.clear refl
 
-  goes_on : (n : NodeId) → o ≡ Some n → p.does.clear ≡ false → p.does.fill ≡ None → p.does.goes n ≡ None → how_held q.field q.does between ≡ how (q.does.goes n) (To.Register j.field)
+  goes_on : (n : NodeId) → o ≡ Some n → p.part.clear ≡ false → p.part.fill ≡ None → p.part.target_of n ≡ None → how_held q.field q.part between ≡ how (q.part.target_of n) (To.Register j.field)
   goes_on n e c f g =
       let there : between ≡ Some n = rw (e, c, f, g) refl in
-      ap (how_held q.field q.does) there ∙ ap (λ (k : FieldId). how (q.does.goes n) (To.Register k)) t.field.1
+      ap (how_held q.field q.part) there ∙ ap (λ (k : FieldId). how (q.part.target_of n) (To.Register k)) t.field.1
 
-  here_first : (n : NodeId) → how (p.does.goes n) (To.Register j.field) ≡ Here → p.does.fill ≡ Some n
-  here_first n h = here-fill p (holding o) w n (ap (λ (k : FieldId). how (p.does.goes n) (To.Register k)) t.field.0 ∙ h)
+  here_first : (n : NodeId) → how (p.part.target_of n) (To.Register j.field) ≡ Here → p.part.fill ≡ Some n
+  here_first n h = here-fill p (holding o) w n (ap (λ (k : FieldId). how (p.part.target_of n) (To.Register k)) t.field.0 ∙ h)
 
-  here_next : (n : NodeId) → how (q.does.goes n) (To.Register j.field) ≡ Here → q.does.fill ≡ Some n
-  here_next n h = here-fill q (carried_to p false (holding o)) v n (ap (λ (k : FieldId). how (q.does.goes n) (To.Register k)) t.field.1 ∙ h)
+  here_next : (n : NodeId) → how (q.part.target_of n) (To.Register j.field) ≡ Here → q.part.fill ≡ Some n
+  here_next n h = here-fill q (reg_carried p false (holding o)) v n (ap (λ (k : FieldId). how (q.part.target_of n) (To.Register k)) t.field.1 ∙ h)
 
-  first_here : (n : NodeId) → p.does.fill ≡ Some n → p.does.goes n ≡ Some (To.Register j.field)
+  first_here : (n : NodeId) → p.part.fill ≡ Some n → p.part.target_of n ≡ Some (To.Register j.field)
   first_here n h = (w.put_here n).1 h ∙ ap (λ (k : FieldId). Some (To.Register k)) t.field.0
 
-  next_here : (n : NodeId) → q.does.fill ≡ Some n → q.does.goes n ≡ Some (To.Register j.field)
+  next_here : (n : NodeId) → q.part.fill ≡ Some n → q.part.target_of n ≡ Some (To.Register j.field)
   next_here n h = (v.put_here n).1 h ∙ ap (λ (k : FieldId). Some (To.Register k)) t.field.1
 
-  how_at : (x : Option NodeId) → o ≡ x → held_in_turn first next x ≡ how_held j.field j.does x
+  how_at : (x : Option NodeId) → o ≡ x → held_in_turn first next x ≡ how_held j.field j.part x
   how_at None e = refl
   how_at (Some n) e =
-      (λ i. cond (same_option same_node (last_is i) (Some n)) Here (stays_in_turn p.does.clear (how_held q.field q.does between) ((ap (how_held p.field p.does) e ∙ ap (λ (k : FieldId). how (p.does.goes n) (To.Register k)) t.field.0) i)))
-      ∙ how_turns n j.field (p.does.goes n) q.does.goes p.does.fill q.does.fill p.does.clear q.does.clear (how_held q.field q.does between)
-      (here_first n) (first_here n) (here_next n) (next_here n) (cleared p.does.fill p.does.clear w.cleared) (cleared q.does.fill q.does.clear v.cleared) (goes_on n e)
-      ∙ sym (some_is o _ n t.goes e)
+      (λ i. cond (same_option same_node (last_is i) (Some n)) Here (stays_in_turn p.part.clear (how_held q.field q.part between) ((ap (how_held p.field p.part) e ∙ ap (λ (k : FieldId). how (p.part.target_of n) (To.Register k)) t.field.0) i)))
+      ∙ how_turns n j.field (p.part.target_of n) q.part.target_of p.part.fill q.part.fill p.part.clear q.part.clear (how_held q.field q.part between)
+      (here_first n) (first_here n) (here_next n) (next_here n) (cleared p.part.fill p.part.clear w.cleared) (cleared q.part.fill q.part.clear v.cleared) (goes_on n e)
+      ∙ sym (some_is o _ n t.target_of e)
 
-  pub how_is : how_in_turn first next ≡ how_held j.field j.does o
+  pub how_is : how_in_turn first next ≡ how_held j.field j.part o
   how_is = how_at o refl
 
-  pub fill_is : put_in_turn first next ≡ j.does.fill
+  pub fill_is : put_in_turn first next ≡ j.part.fill
   fill_is = last_is ∙ sym t.fill
 
-  pub new_is : option_map_or (λ n. makes_by first n || makes_by next n) (comes_in o j.does.fill) false ≡ option_map_or j.makes (comes_in o j.does.fill) false
-  new_is = all_new (λ n. makes_by first n || makes_by next n) j.makes (comes_in o j.does.fill)
-      (λ n e. (λ i. fills_makes p o n w i || fills_makes q between n v i) ∙ sym (some_is j.does.fill _ n t.made (comes-fill o j.does.fill n e)))
+  pub new_is : option_map_or (λ n. makes_by first n || makes_by next n) (comes_in o j.part.fill) false ≡ option_map_or j.makes (comes_in o j.part.fill) false
+  new_is = all_new (λ n. makes_by first n || makes_by next n) j.makes (comes_in o j.part.fill)
+      (λ n e. (λ i. fills_makes p o n w i || fills_makes q between n v i) ∙ sym (some_is j.part.fill _ n t.made (comes-fill o j.part.fill n e)))
 
-pub joined_is : (p q j : RegPart) (c : RegHeld) (x y : RegChange) (in_new clear fill_new : Bool) (k : How) (put fill : Option NodeId) → AreJoinedIn p q c j → FitsIn p c → FitsIn q (carried_to p false c) → x ≡ change_of p c → y ≡ change_of q (carried_to p false c)
+pub joined_is : (p q j : RegPart) (c : RegHeld) (x y : RegChange) (in_new clear fill_new : Bool) (k : How) (put fill : Option NodeId) → AreJoinedIn p q c j → RegFits p c → RegFits q (reg_carried p false c) → x ≡ reg_change_of p c → y ≡ reg_change_of q (reg_carried p false c)
     → put ≡ put_in_turn x y → fill ≡ comes_in x.held put → in_new ≡ (x.in_new || y.in_new) → k ≡ how_in_turn x y → clear ≡ (x.clear || y.clear) → fill_new ≡ option_map_or (λ n. makes_by x n || makes_by y n) fill false
-    → ◌≡◌ {A = RegChange} (record { rev = x.rev; in_new = in_new; held = x.held; how = k; clear = clear; fill = fill; fill_new = fill_new }) (change_of j c)
+    → ◌≡◌ {A = RegChange} (record { rev = x.rev; in_new = in_new; held = x.held; how = k; clear = clear; fill = fill; fill_new = fill_new }) (reg_change_of j c)
 joined_is p q j c x y in_new clear fill_new k put fill t w v e f a b d g h m = λ i. record {
   rev = (ap (λ (z : RegChange). z.rev) e ∙ t.rev) i;
   in_new = (d ∙ (λ l. (e l).in_new || (f l).in_new) ∙ sym t.in_new) i;
@@ -227,5 +227,5 @@ joined_is p q j c x y in_new clear fill_new k put fill t w v e f a b d g h m = �
   fill_new = (m ∙ (λ l. option_map_or (λ n. makes_by (e l) n || makes_by (f l) n) (comes l) false) ∙ new_is p q j c.node t w v) i;
 }
   where
-    comes : fill ≡ comes_in c.node j.does.fill
+    comes : fill ≡ comes_in c.node j.part.fill
     comes = b ∙ (λ l. comes_in (e l).held ((a ∙ (λ n. put_in_turn (e n) (f n)) ∙ fill_is p q j c.node t w v) l))

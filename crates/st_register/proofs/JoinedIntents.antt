@@ -17,7 +17,7 @@ use Rattle.st_marks.specs.Row.{how}
 use Rattle.st_marks.proofs.Lookups.{put-has, has-put, put_in-has, has-put_in, put_clears}
 use Rattle.st_marks.proofs.Members.{all-has}
 use Rattle.st_register.specs.Joined.{AreJoinedIn, evicts}
-use Rattle.st_register.specs.Register.{part_of, unless_put}
+use Rattle.st_register.specs.Register.{reg_part_of, unless_put}
 use Rattle.st_register.proofs.Documents.{if_some, not_made}
 use Rattle.st_register.proofs.Occupants.{not_true, same_occupant, other_occupant}
 
@@ -26,7 +26,7 @@ use Rattle.st_register.proofs.Occupants.{not_true, same_occupant, other_occupant
 goes-in : (N : Intent) → IsIntent N → (n : NodeId) (f : FieldId) → put_of N n ≡ Some (To.Register f) → put_in N f ≡ Some n
 goes-in N w n f e = has-put_in N w n f (put-has N n (To.Register f) e)
 
-in-goes : (N : Intent) → IsIntent N → (n : NodeId) (f : FieldId) → put_in N f ≡ Some n → put_of N n ≡ Some (To.Register f)
+in-target_of : (N : Intent) → IsIntent N → (n : NodeId) (f : FieldId) → put_in N f ≡ Some n → put_of N n ≡ Some (To.Register f)
 in-goes N w n f e = has-put N w (record { node = n; to = To.Register f }) (put_in-has N f n e)
 
 filled-cleared : (N : Intent) → IsIntent N → (n : NodeId) (f : FieldId) → put_in N f ≡ Some n → clears N f ≡ true
@@ -255,15 +255,15 @@ module _ (D : Document) (N M J : Intent) (f : FieldId) (x : IsSoundInForm D) (p 
       go false a false c = rw (a, c) (sym (none (same_option same_node (put_in N f) (Some n)) (same_option same_node (put_in M f) (Some n))))
 
 pub parts_join : (D : Document) (N M J : Intent) (m k l : NodeId → Bool) (f : FieldId) → IsSoundInForm D → AreParts D N M → IsJoin N M J
-    → IfSome (D.held f) (λ n. IsTrue (evicts (part_of m N f) n) → (put_of M n ≡ None) ⊎ (put_in M f ≡ Some n))
+    → IfSome (D.held f) (λ n. IsTrue (evicts (reg_part_of m N f) n) → (put_of M n ≡ None) ⊎ (put_in M f ≡ Some n))
     → IfSome (put_in J f) (λ n. IsTrue (is_new N n) → put_in N f ≡ Some n)
-    → AreJoinedIn (part_of m N f) (part_of k M f) (record { node = D.held f }) (part_of l J f)
+    → AreJoinedIn (reg_part_of m N f) (reg_part_of k M f) (record { node = D.held f }) (reg_part_of l J f)
 parts_join D N M J m k l f x p j h g = record {
   field = (refl, refl);
   rev = sym j.rev;
   clear = j.clears_both f;
   fill = fill_is D N M J f x p j;
-  goes = if_some (D.held f) _ (λ n e. goes_is D N M J f x p j n e (some_is (D.held f) _ n h e));
+  target_of = if_some (D.held f) _ (λ n e. goes_is D N M J f x p j n e (some_is (D.held f) _ n h e));
   in_new = new_is D N M J f x p j f.node;
   made = if_some (put_in J f) _ (λ n e. made_is D N M J f x p j n e (some_is (put_in J f) _ n g e));
 }

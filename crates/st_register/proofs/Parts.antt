@@ -6,10 +6,10 @@ use Rattle.st_ids.specs.declared.names.NodeId.{NodeId}
 use Rattle.st_marks.specs.declared.intents.To.{To}
 use Rattle.st_marks.specs.Document.{root}
 use Rattle.st_marks.specs.Intent.{same_option}
-use Rattle.st_marks.specs.Shown.{is_leave}
+use Rattle.st_marks.specs.How.{is_leave}
 use Rattle.st_register.specs.declared.values.RegChange.{RegChange}
 use Rattle.st_register.specs.Register.{RegPart}
-use Rattle.st_register.specs.Told.{put_by, makes_by}
+use Rattle.st_register.specs.Readings.{put_by, makes_by}
 
 -- a number that the node doesn't have
 abbrev pub other_number : Option NodeId → ℕ
@@ -36,5 +36,5 @@ told x = record {
   field = field_told x;
   rev = x.rev;
   makes = λ n. (x.in_new && same_node (field_told x).node n) || makes_by x n;
-  does = record { clear = x.clear; fill = put_by x; goes = goes_told x; mentioned = λ _. true };
+  part = record { clear = x.clear; fill = put_by x; target_of = goes_told x; mentioned = λ _. true };
 }

@@ -9,11 +9,11 @@ use Rattle.st_marks.specs.declared.marks.How.{How}
 use Rattle.st_marks.specs.declared.marks.How.TheVariants.{Stay, Here, Leave}
 use Rattle.st_marks.specs.Intent.{same_option}
 use Rattle.st_marks.specs.Register.{comes_in, how_held}
-use Rattle.st_marks.specs.Row.{how, is_here}
-use Rattle.st_marks.specs.Shown.{is_leave}
+use Rattle.st_marks.specs.Row.{how}
+use Rattle.st_marks.specs.How.{is_here, is_leave}
 use Rattle.st_register.specs.declared.values.RegHeld.{RegHeld}
-use Rattle.st_register.specs.Register.{RegPart, FitsIn, KeepsIn, change_of, held_whole, held_void, only_made}
-use Rattle.st_register.specs.Told.{put_by, left_by, left_void_by, how_by, makes_by}
+use Rattle.st_register.specs.Register.{RegPart, RegFits, RegKeeps, reg_change_of, held_whole, held_void, only_made}
+use Rattle.st_register.specs.Readings.{put_by, left_by, left_void_by, how_by, makes_by}
 use Rattle.st_register.proofs.Occupants.{not_true, one_occupant, same_occupant, comes_in-nobody, comes_in-other, here-to, to-here, stay-to, leave-to}
 
 -- a register that holds this
@@ -22,11 +22,11 @@ holding held = record { node = held }
 
 -- ## Who is put there
 
-pub here-fill : (p : RegPart) (c : RegHeld) → FitsIn p c → (n : NodeId) → how (p.does.goes n) (To.Register p.field) ≡ Here → p.does.fill ≡ Some n
-here-fill p c w n e = (w.put_here n).0 (here-to (p.does.goes n) p.field e)
+pub here-fill : (p : RegPart) (c : RegHeld) → RegFits p c → (n : NodeId) → how (p.part.target_of n) (To.Register p.field) ≡ Here → p.part.fill ≡ Some n
+here-fill p c w n e = (w.put_here n).0 (here-to (p.part.target_of n) p.field e)
 
-pub fill-here : (p : RegPart) (c : RegHeld) → FitsIn p c → (n : NodeId) → p.does.fill ≡ Some n → how (p.does.goes n) (To.Register p.field) ≡ Here
-fill-here p c w n e = to-here (p.does.goes n) p.field ((w.put_here n).1 e)
+pub fill-here : (p : RegPart) (c : RegHeld) → RegFits p c → (n : NodeId) → p.part.fill ≡ Some n → how (p.part.target_of n) (To.Register p.field) ≡ Here
+fill-here p c w n e = to-here (p.part.target_of n) p.field ((w.put_here n).1 e)
 
 put_some : (n : NodeId) (h : How) (fill : Option NodeId) → (h ≡ Here → fill ≡ Some n) → (fill ≡ Some n → h ≡ Here) → cond (is_here h) (Some n) (comes_in (Some n) fill) ≡ fill
 put_some n Here fill a b = sym (a refl)
@@ -34,9 +34,9 @@ put_some n Stay fill a b = comes_in-other (Some n) fill (λ e. let h : Stay ≡ 
 put_some n Leave fill a b = comes_in-other (Some n) fill (λ e. let h : Leave ≡ Here = b (sym e) in cc)
 
 -- the node that the part puts there is read off its change
-pub put_is : (p : RegPart) (o : Option NodeId) → FitsIn p (holding o) → put_by (change_of p (holding o)) ≡ p.does.fill
-put_is p None w = comes_in-nobody p.does.fill
-put_is p (Some n) w = put_some n (how (p.does.goes n) (To.Register p.field)) p.does.fill (here-fill p (holding (Some n)) w n) (fill-here p (holding (Some n)) w n)
+pub put_is : (p : RegPart) (o : Option NodeId) → RegFits p (holding o) → put_by (reg_change_of p (holding o)) ≡ p.part.fill
+put_is p None w = comes_in-nobody p.part.fill
+put_is p (Some n) w = put_some n (how (p.part.target_of n) (To.Register p.field)) p.part.fill (here-fill p (holding (Some n)) w n) (fill-here p (holding (Some n)) w n)
 
 -- ## Who is there after it
 
@@ -60,11 +60,11 @@ left_some n Leave fill true put a b s l = not_filled n Leave fill None b (λ e. 
 left_some n Leave fill false put a b s l = rw (l refl) (not_filled n Leave fill None b (λ e. cc))
 
 -- who is there after the part is read off its change
-pub left_is : (p : RegPart) (o : Option NodeId) → FitsIn p (holding o) → left_by (change_of p (holding o)) ≡ held_whole p.does o
-left_is p None w = left_none p.does.fill p.does.clear
+pub left_is : (p : RegPart) (o : Option NodeId) → RegFits p (holding o) → left_by (reg_change_of p (holding o)) ≡ held_whole p.part o
+left_is p None w = left_none p.part.fill p.part.clear
 left_is p (Some n) w =
-    left_some n (how (p.does.goes n) (To.Register p.field)) p.does.fill p.does.clear (is_some (p.does.goes n)) (here-fill p (holding (Some n)) w n) (fill-here p (holding (Some n)) w n)
-    (stay-to (p.does.goes n) p.field) (leave-to (p.does.goes n) p.field)
+    left_some n (how (p.part.target_of n) (To.Register p.field)) p.part.fill p.part.clear (is_some (p.part.target_of n)) (here-fill p (holding (Some n)) w n) (fill-here p (holding (Some n)) w n)
+    (stay-to (p.part.target_of n) p.field) (leave-to (p.part.target_of n) p.field)
 
 void_none : (fill : Option NodeId) (makes : NodeId → Bool) (new : Bool) → cond (new && option_map_or makes (comes_in None fill) false) (comes_in None fill) None ≡ cond new (only_made makes fill) None
 void_none None makes true = refl
@@ -73,8 +73,8 @@ void_none (Some q) makes true = refl
 void_none (Some q) makes false = refl
 
 -- the same where the part is void
-pub void_is : (p : RegPart) (o : Option NodeId) → FitsIn p (holding o) → left_void_by (change_of p (holding o)) ≡ held_void p o
-void_is p None w = void_none p.does.fill p.makes (p.makes p.field.node)
+pub void_is : (p : RegPart) (o : Option NodeId) → RegFits p (holding o) → left_void_by (reg_change_of p (holding o)) ≡ held_void p o
+void_is p None w = void_none p.part.fill p.makes (p.makes p.field.node)
 void_is p (Some n) w = rw (w.old.1) refl
 
 -- ## After a step
@@ -84,24 +84,24 @@ otherwise_stays Stay a b = refl
 otherwise_stays Here a b = absurd (a refl)
 otherwise_stays Leave a b = absurd (b refl)
 
-how_some : (p : RegPart) (o : Option NodeId) (n : NodeId) → FitsIn p (holding o) → KeepsIn p (holding o) (holding (Some n))
-    → cond (same_option same_node p.does.fill (Some n)) Here (cond (same_option same_node o (Some n)) (how_held p.field p.does o) Stay) ≡ how (p.does.goes n) (To.Register p.field)
+how_some : (p : RegPart) (o : Option NodeId) (n : NodeId) → RegFits p (holding o) → RegKeeps p (holding o) (holding (Some n))
+    → cond (same_option same_node p.part.fill (Some n)) Here (cond (same_option same_node o (Some n)) (how_held p.field p.part o) Stay) ≡ how (p.part.target_of n) (To.Register p.field)
 how_some p o n w k =
-    elim (same_option same_node p.does.fill (Some n)) as (λ b. same_option same_node p.does.fill (Some n) ≡ b → cond b Here (cond (same_option same_node o (Some n)) (how_held p.field p.does o) Stay) ≡ how (p.does.goes n) (To.Register p.field)) [
-      | true ↦ λ e. sym (fill-here p (holding o) w n (one_occupant p.does.fill (Some n) e))
-      | false ↦ λ e. elim (same_option same_node o (Some n)) as (λ b. same_option same_node o (Some n) ≡ b → cond b (how_held p.field p.does o) Stay ≡ how (p.does.goes n) (To.Register p.field)) [
-        | true ↦ λ f. ap (how_held p.field p.does) (one_occupant o (Some n) f)
-        | false ↦ λ f. otherwise_stays (how (p.does.goes n) (To.Register p.field)) (λ h. not_true e (same_occupant p.does.fill (Some n) (here-fill p (holding o) w n h))) (k (λ h. not_true f (same_occupant o (Some n) h)))
+    elim (same_option same_node p.part.fill (Some n)) as (λ b. same_option same_node p.part.fill (Some n) ≡ b → cond b Here (cond (same_option same_node o (Some n)) (how_held p.field p.part o) Stay) ≡ how (p.part.target_of n) (To.Register p.field)) [
+      | true ↦ λ e. sym (fill-here p (holding o) w n (one_occupant p.part.fill (Some n) e))
+      | false ↦ λ e. elim (same_option same_node o (Some n)) as (λ b. same_option same_node o (Some n) ≡ b → cond b (how_held p.field p.part o) Stay ≡ how (p.part.target_of n) (To.Register p.field)) [
+        | true ↦ λ f. ap (how_held p.field p.part) (one_occupant o (Some n) f)
+        | false ↦ λ f. otherwise_stays (how (p.part.target_of n) (To.Register p.field)) (λ h. not_true e (same_occupant p.part.fill (Some n) (here-fill p (holding o) w n h))) (k (λ h. not_true f (same_occupant o (Some n) h)))
       ] refl
     ] refl
 
 -- what becomes of the occupant that a step leaves is read off the change before it
-pub how_is : (p : RegPart) (o d : Option NodeId) → FitsIn p (holding o) → KeepsIn p (holding o) (holding d) → how_by (change_of p (holding o)) d ≡ how_held p.field p.does d
+pub how_is : (p : RegPart) (o d : Option NodeId) → RegFits p (holding o) → RegKeeps p (holding o) (holding d) → how_by (reg_change_of p (holding o)) d ≡ how_held p.field p.part d
 how_is p o None w k = refl
 how_is p o (Some n) w k = rw (put_is p o w) (how_some p o n w k)
 
 -- whether the node that is put there is new, too
-pub makes_is : (p : RegPart) (o : Option NodeId) (n : NodeId) → FitsIn p (holding o) → p.does.fill ≡ Some n → makes_by (change_of p (holding o)) n ≡ p.makes n
+pub makes_is : (p : RegPart) (o : Option NodeId) (n : NodeId) → RegFits p (holding o) → p.part.fill ≡ Some n → makes_by (reg_change_of p (holding o)) n ≡ p.makes n
 makes_is p o n w e =
     subst (λ (q : Option NodeId). (option_map_or p.makes (comes_in o q) false && same_option same_node (comes_in o q) (Some n)) ≡ p.makes n) (sym e) (go o w.old)
   where
@@ -126,5 +126,5 @@ pub all_new : (f g : NodeId → Bool) (fill : Option NodeId) → ((n : NodeId) �
 all_new f g None h = refl
 all_new f g (Some n) h = h n refl
 
-pub new_is : (p : RegPart) (o d : Option NodeId) → FitsIn p (holding o) → option_map_or (makes_by (change_of p (holding o))) (comes_in d p.does.fill) false ≡ option_map_or p.makes (comes_in d p.does.fill) false
-new_is p o d w = all_new (makes_by (change_of p (holding o))) p.makes (comes_in d p.does.fill) (λ n e. makes_is p o n w (comes-fill d p.does.fill n e))
+pub new_is : (p : RegPart) (o d : Option NodeId) → RegFits p (holding o) → option_map_or (makes_by (reg_change_of p (holding o))) (comes_in d p.part.fill) false ≡ option_map_or p.makes (comes_in d p.part.fill) false
+new_is p o d w = all_new (makes_by (reg_change_of p (holding o))) p.makes (comes_in d p.part.fill) (λ n e. makes_is p o n w (comes-fill d p.part.fill n e))

@@ -11,14 +11,14 @@ use Rattle.st_marks.specs.Row.{how}
 use Rattle.st_register.specs.declared.values.RegChange.{RegChange}
 use Rattle.st_register.specs.declared.values.RegHeld.{RegHeld}
 use Rattle.st_register.specs.declared.values.RegSwap.{RegSwap}
-use Rattle.st_register.specs.Register.{RegPart, change_of, LeadsOver, KeepsIn}
+use Rattle.st_register.specs.Register.{RegPart, reg_change_of, RegLeadsOver, RegKeeps}
 
 -- a part has one change in a content
-pub one_change : (p : RegPart) (c : RegHeld) (x y : RegChange) → x ≡ change_of p c → y ≡ change_of p c → x ≡ y
+pub one_change : (p : RegPart) (c : RegHeld) (x y : RegChange) → x ≡ reg_change_of p c → y ≡ reg_change_of p c → x ≡ y
 one_change p c x y e f = e ∙ sym f
 
 -- one step leads from one content to another
-pub one_swap : (m : NodeId → Bool) (c d : RegHeld) (s t : RegSwap) → LeadsOver c d s → LeadsOver c d t → s ≡ t
+pub one_swap : (m : NodeId → Bool) (c d : RegHeld) (s t : RegSwap) → RegLeadsOver c d s → RegLeadsOver c d t → s ≡ t
 one_swap m c d s t e f = e.swap ∙ sym f.swap
 
 -- a node is there or not
@@ -34,12 +34,12 @@ there_or_not (Some m) n =
     ] refl
 
 -- who comes in from the first to the third content comes in from the first to the second, or from there to the third
-pub kept_in_turn : (p : RegPart) (c d e : RegHeld) → KeepsIn p c d → KeepsIn p d e → KeepsIn p c e
+pub kept_in_turn : (p : RegPart) (c d e : RegHeld) → RegKeeps p c d → RegKeeps p d e → RegKeeps p c e
 kept_in_turn p c d e k l = go e.node l
   where
-    go : (o : Option NodeId) → IfSome o (λ n. d.node ≢ Some n → how (p.does.goes n) (To.Register p.field) ≢ Leave) → IfSome o (λ n. c.node ≢ Some n → how (p.does.goes n) (To.Register p.field) ≢ Leave)
+    go : (o : Option NodeId) → IfSome o (λ n. d.node ≢ Some n → how (p.part.target_of n) (To.Register p.field) ≢ Leave) → IfSome o (λ n. c.node ≢ Some n → how (p.part.target_of n) (To.Register p.field) ≢ Leave)
     go None h = tt
     go (Some n) h = elim (there_or_not d.node n) [
-      | inl t ↦ subst (λ (o : Option NodeId). IfSome o (λ m. c.node ≢ Some m → how (p.does.goes m) (To.Register p.field) ≢ Leave)) t k
+      | inl t ↦ subst (λ (o : Option NodeId). IfSome o (λ m. c.node ≢ Some m → how (p.part.target_of m) (To.Register p.field) ≢ Leave)) t k
       | inr t ↦ λ a. h t
     ]

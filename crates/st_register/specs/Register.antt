@@ -26,24 +26,24 @@ pub record RegPart : Type 0 where
   -- which nodes the intent makes
   pub makes : NodeId → Bool
   -- what it does with the register
-  pub does : RegisterPart
+  pub part : RegisterPart
 
 -- the part of an intent that mentions these nodes
-abbrev pub part_of : (NodeId → Bool) → Intent → FieldId → RegPart
-part_of mentioned N f = record { field = f; rev = N.rev; makes = is_new N; does = register_part mentioned N f }
+abbrev pub reg_part_of : (NodeId → Bool) → Intent → FieldId → RegPart
+reg_part_of mentioned N f = record { field = f; rev = N.rev; makes = is_new N; part = register_part mentioned N f }
 
 -- a register of a document can hold this: the root stands nowhere
-abbrev pub CanHold : RegHeld → Type 0
-CanHold c = c.node ≢ Some root
+abbrev pub RegCanHold : RegHeld → Type 0
+RegCanHold c = c.node ≢ Some root
 
 -- the part is that of an intent which fits where the register holds this
-pub record FitsIn (p : RegPart) (c : RegHeld) : Type 0 where
-  pub content : CanHold c
+pub record RegFits (p : RegPart) (c : RegHeld) : Type 0 where
+  pub content : RegCanHold c
   -- a register that is filled is cleared, and is filled with the one node that is put there
-  pub cleared : IfSome p.does.fill (λ _. p.does.clear ≡ true)
-  pub put_here : (n : NodeId) → (p.does.goes n ≡ Some (To.Register p.field)) ↔ (p.does.fill ≡ Some n)
+  pub cleared : IfSome p.part.fill (λ _. p.part.clear ≡ true)
+  pub put_here : (n : NodeId) → (p.part.target_of n ≡ Some (To.Register p.field)) ↔ (p.part.fill ≡ Some n)
   -- the root isn't put
-  pub root_stays : p.does.goes root ≡ None
+  pub root_stays : p.part.target_of root ≡ None
   -- a new node has the intent's revision
   pub made : (n : NodeId) → p.makes n ≡ true → n.0.rev ≡ p.rev
   -- who is there isn't new, nor is the node whose register it is
@@ -58,7 +58,7 @@ unless_put goes (Some n) = if is_some (goes n) then None else Some n
 
 -- who is there after the clear and then the puts
 abbrev pub held_whole : RegisterPart → Option NodeId → Option NodeId
-held_whole p held = option_or p.fill (if p.clear then None else unless_put p.goes held)
+held_whole p held = option_or p.fill (if p.clear then None else unless_put p.target_of held)
 
 -- the node, if it is new
 abbrev pub only_made : (NodeId → Bool) → Option NodeId → Option NodeId
@@ -67,35 +67,35 @@ only_made makes (Some n) = if makes n then Some n else None
 
 -- who is there after a void part, which places new nodes inside new nodes alone
 abbrev pub held_void : RegPart → Option NodeId → Option NodeId
-held_void p held = if p.makes p.field.node then only_made p.makes p.does.fill else held
+held_void p held = if p.makes p.field.node then only_made p.makes p.part.fill else held
 
 -- what the register holds after the part, void or whole
-abbrev pub carried_to : RegPart → Bool → RegHeld → RegHeld
-carried_to p void c = record { node = if void then held_void p c.node else held_whole p.does c.node }
+abbrev pub reg_carried : RegPart → Bool → RegHeld → RegHeld
+reg_carried p void c = record { node = if void then held_void p c.node else held_whole p.part c.node }
 
 -- ## Changes and steps
 
 -- the change of the part where the register holds this
-abbrev pub change_of : RegPart → RegHeld → RegChange
-change_of p c = record {
+abbrev pub reg_change_of : RegPart → RegHeld → RegChange
+reg_change_of p c = record {
   rev = p.rev;
   in_new = p.makes p.field.node;
   held = c.node;
-  how = how_held p.field p.does c.node;
-  clear = p.does.clear;
-  fill = comes_in c.node p.does.fill;
-  fill_new = option_map_or p.makes (comes_in c.node p.does.fill) false;
+  how = how_held p.field p.part c.node;
+  clear = p.part.clear;
+  fill = comes_in c.node p.part.fill;
+  fill_new = option_map_or p.makes (comes_in c.node p.part.fill) false;
 }
 
 -- the step leads from one content to another
-pub record LeadsOver (c d : RegHeld) (s : RegSwap) : Type 0 where
-  pub before : CanHold c
-  pub after : CanHold d
+pub record RegLeadsOver (c d : RegHeld) (s : RegSwap) : Type 0 where
+  pub before : RegCanHold c
+  pub after : RegCanHold d
   pub swap : s ≡ record { before = c.node; after = d.node }
 
 -- a node that comes in from one content to the other isn't put elsewhere
-abbrev pub KeepsIn : RegPart → RegHeld → RegHeld → Type 0
-KeepsIn p c d = IfSome d.node (λ n. c.node ≢ Some n → how (p.does.goes n) (To.Register p.field) ≢ Leave)
+abbrev pub RegKeeps : RegPart → RegHeld → RegHeld → Type 0
+RegKeeps p c d = IfSome d.node (λ n. c.node ≢ Some n → how (p.part.target_of n) (To.Register p.field) ≢ Leave)
 
 -- the one place at which two sayings of who is there can differ
 abbrev pub DifferAt : Option NodeId → Option NodeId → ℕ → Type 0

@@ -2,7 +2,7 @@
 ghost use Rattle.std.specs.Prelude.{◌≡◌, ◌≢◌, ◌↔◌, true, Option, IfSome, IsTrue};
 ghost use Rattle.st_ids.specs.declared.names.NodeId.{NodeId as Node};
 ghost use Rattle.st_marks.specs.Document.{root};
-ghost use Rattle.st_register.specs.Form.{IsOfForm};
+ghost use Rattle.st_register.specs.NormalForm.{IsNormalRegChange};
 
 use crate::values::RegChange;
 use st_ids::{Atom, NodeId, Rev};
@@ -56,7 +56,7 @@ fn is_empty_if_new(change: &RegChange) -> bool
 
 // Whether the change keeps all of the rules.
 pub(crate) fn is_of_form(change: &RegChange) -> bool
-    ensures { IsTrue result ↔ IsOfForm change.now }
+    ensures { IsTrue result ↔ IsNormalRegChange change.now }
 {
     is_nobody_staying(change)
         && is_put_alone(change)

@@ -2,8 +2,8 @@
 ghost use Rattle.std.specs.Prelude.{◌≡◌, ◌||◌, false};
 ghost use Rattle.std.specs.Option.{option_map_or};
 ghost use Rattle.st_register.specs.Joined.{AreJoinedIn};
-ghost use Rattle.st_register.specs.Register.{RegPart, FitsIn, carried_to, change_of};
-ghost use Rattle.st_register.specs.Told.{put_in_turn, stays_in_turn, how_in_turn, makes_by};
+ghost use Rattle.st_register.specs.Register.{RegPart, RegFits, reg_carried, reg_change_of};
+ghost use Rattle.st_register.specs.Readings.{put_in_turn, stays_in_turn, how_in_turn, makes_by};
 
 use crate::told::{coming, is_same, makes, put_there};
 use crate::values::{RegChange, RegHeld};
@@ -62,8 +62,8 @@ fn either(first: bool, then: bool) -> bool
 
 // The two as one.
 pub(crate) fn joined(first: &RegChange, then: &RegChange) -> RegChange
-    ensures { (p q j : RegPart) (c : RegHeld) → AreJoinedIn p q c j → FitsIn p c → FitsIn q (carried_to p false c)
-        → first.now ≡ change_of p c → then.now ≡ change_of q (carried_to p false c) → result ≡ change_of j c }
+    ensures { (p q j : RegPart) (c : RegHeld) → AreJoinedIn p q c j → RegFits p c → RegFits q (reg_carried p false c)
+        → first.now ≡ reg_change_of p c → then.now ≡ reg_change_of q (reg_carried p false c) → result ≡ reg_change_of j c }
 {
     let fill = coming(first.held, put(first, then));
     RegChange {

@@ -15,8 +15,8 @@ impl FieldKind for Register {
     ghost use Rattle.std.specs.Prelude.{◌≡◌, Some};
     ghost use Rattle.st_ids.specs.Order.{same_node};
     ghost use Rattle.st_marks.specs.Intent.{same_option};
-    ghost use Rattle.st_register.specs.Register.{RegPart, CanHold, FitsIn, carried_to, change_of, LeadsOver, KeepsIn, DifferAt};
-    ghost use Rattle.st_register.specs.Told.{left_by};
+    ghost use Rattle.st_register.specs.Register.{RegPart, RegCanHold, RegFits, reg_carried, reg_change_of, RegLeadsOver, RegKeeps, DifferAt};
+    ghost use Rattle.st_register.specs.Readings.{left_by};
     ghost use Rattle.st_register.specs.Joined.{AreJoinedIn};
     ghost use Rattle.st_register.specs.Laws.{kept_in_turn, one_change, one_swap};
 
@@ -28,25 +28,25 @@ impl FieldKind for Register {
 
     ghost Part = { RegPart };
 
-    ghost IsContent = { CanHold };
+    ghost IsContent = { RegCanHold };
 
-    ghost Fits = { FitsIn };
+    ghost Fits = { RegFits };
 
-    ghost mentions = { λ p. p.does.mentioned };
+    ghost mentions = { λ p. p.part.mentioned };
 
     ghost makes = { λ p. p.makes };
 
-    ghost carry = { carried_to };
+    ghost carry = { reg_carried };
 
     ghost retreat = { λ c d. c };
 
-    ghost IsEmbedding = { λ p c x. x ≡ change_of p c };
+    ghost IsEmbedding = { λ p c x. x ≡ reg_change_of p c };
 
-    ghost IsStep = { λ m c d s. LeadsOver c d s };
+    ghost IsStep = { λ m c d s. RegLeadsOver c d s };
 
     ghost brings = { λ s n. same_option same_node s.after (Some n) };
 
-    ghost Keeps = { KeepsIn };
+    ghost Keeps = { RegKeeps };
 
     ghost AreJoined = { AreJoinedIn };
 

@@ -12,10 +12,10 @@ ghost use Rattle.st_marks.specs.Extends.{IsExtendedBy};
 ghost use Rattle.st_marks.specs.Intent.{Fits, is_new, put_in, put_of, same_option};
 ghost use Rattle.st_marks.specs.Join.{AreParts, IsJoin};
 ghost use Rattle.st_marks.specs.Register.{embed_register, holds_mentioned, step_register};
-ghost use Rattle.st_marks.specs.Shown.{held_after};
+ghost use Rattle.st_marks.specs.Listings.{held_after};
 ghost use Rattle.st_register.specs.Joined.{AreJoinedIn, evicts};
-ghost use Rattle.st_register.specs.Register.{RegPart, CanHold, FitsIn, LeadsOver, carried_to, change_of, part_of};
-ghost use Rattle.st_register.specs.Told.{as_mark, as_step, left_by};
+ghost use Rattle.st_register.specs.Register.{RegPart, RegCanHold, RegFits, RegLeadsOver, reg_carried, reg_change_of, reg_part_of};
+ghost use Rattle.st_register.specs.Readings.{as_mark, as_step, left_by};
 ghost use Rattle.st_register.specs.declared.values.RegChange.{RegChange};
 ghost use Rattle.st_register.specs.declared.values.RegHeld.{RegHeld};
 ghost use Rattle.st_register.specs.declared.values.RegSwap.{RegSwap};
@@ -23,29 +23,29 @@ ghost use Rattle.st_register.specs.declared.values.RegSwap.{RegSwap};
 /// A whole change and a whole step list of a register what its change and its step say, where they list it. A step from one
 /// document to another leads from each register to the register after it. What a change leaves is what its mark shows.
 pub fn registers_are_listed()
-    ensures change { (p : RegPart) (c : RegHeld) → embed_register p.field p.does c.node
-        ≡ (if p.does.clear || holds_mentioned p.does.mentioned c.node then Some (as_mark p.field (change_of p c)) else None) }
-    ensures step { (f : FieldId) (m : NodeId → Bool) (c d : RegHeld) (s : RegSwap) → LeadsOver c d s → step_register f m c.node d.node
+    ensures change { (p : RegPart) (c : RegHeld) → embed_register p.field p.part c.node
+        ≡ (if p.part.clear || holds_mentioned p.part.mentioned c.node then Some (as_mark p.field (reg_change_of p c)) else None) }
+    ensures step { (f : FieldId) (m : NodeId → Bool) (c d : RegHeld) (s : RegSwap) → RegLeadsOver c d s → step_register f m c.node d.node
         ≡ (if not (same_option same_node c.node d.node) || holds_mentioned m c.node then Some (as_step f s) else None) }
     ensures document { (D E : Document) (f : FieldId) → IsExtendedBy D E
-        → LeadsOver (record { node = D.held f }) (record { node = E.held f }) (record { before = D.held f; after = E.held f }) }
+        → RegLeadsOver (record { node = D.held f }) (record { node = E.held f }) (record { before = D.held f; after = E.held f }) }
     ensures left { (f : FieldId) (x : RegChange) → held_after (as_mark f x) ≡ left_by x }
 {}
 
 /// A register of a document that is sound in form holds what a register can hold.
 pub fn registers_hold()
-    ensures { (D : Document) (f : FieldId) → IsSoundInForm D → CanHold (record { node = D.held f }) }
+    ensures { (D : Document) (f : FieldId) → IsSoundInForm D → RegCanHold (record { node = D.held f }) }
 {}
 
 /// The part of an intent that fits a sound document fits its register, and what the register holds after the part, whole or
 /// void, is what it holds in the document after the intent. A register of a node that was there goes back to what it held.
 pub fn registers_are_of_documents()
     ensures fits { (D : Document) (N : Intent) (m : NodeId → Bool) (f : FieldId) → IsSoundInForm D → Fits D N
-        → FitsIn (part_of m N f) (record { node = D.held f }) }
+        → RegFits (reg_part_of m N f) (record { node = D.held f }) }
     ensures whole { (D : Document) (N : Intent) (m : NodeId → Bool) (f : FieldId)
-        → (full D N).held f ≡ (carried_to (part_of m N f) false (record { node = D.held f })).node }
+        → (full D N).held f ≡ (reg_carried (reg_part_of m N f) false (record { node = D.held f })).node }
     ensures void { (D : Document) (N : Intent) (m : NodeId → Bool) (f : FieldId) → Fits D N
-        → (void D N).held f ≡ (carried_to (part_of m N f) true (record { node = D.held f })).node }
+        → (void D N).held f ≡ (reg_carried (reg_part_of m N f) true (record { node = D.held f })).node }
     ensures back { (D E : Document) (f : FieldId) → IsSome (D.nodes f.node) → (retreat D E).held f ≡ D.held f }
 {}
 
@@ -53,7 +53,7 @@ pub fn registers_are_of_documents()
 /// doesn't put elsewhere whom the first evicts, and puts there no node that the first makes and doesn't put there.
 pub fn registers_are_joined()
     ensures { (D : Document) (N M J : Intent) (m k l : NodeId → Bool) (f : FieldId) → IsSoundInForm D → AreParts D N M → IsJoin N M J
-        → IfSome (D.held f) (λ n. IsTrue (evicts (part_of m N f) n) → (put_of M n ≡ None) ⊎ (put_in M f ≡ Some n))
+        → IfSome (D.held f) (λ n. IsTrue (evicts (reg_part_of m N f) n) → (put_of M n ≡ None) ⊎ (put_in M f ≡ Some n))
         → IfSome (put_in J f) (λ n. IsTrue (is_new N n) → put_in N f ≡ Some n)
-        → AreJoinedIn (part_of m N f) (part_of k M f) (record { node = D.held f }) (part_of l J f) }
+        → AreJoinedIn (reg_part_of m N f) (reg_part_of k M f) (record { node = D.held f }) (reg_part_of l J f) }
 {}

@@ -5,8 +5,8 @@ ghost use Rattle.st_ids.specs.Order.{same_node};
 ghost use Rattle.st_marks.specs.Intent.{same_option};
 ghost use Rattle.st_marks.specs.Register.{comes_in};
 ghost use Rattle.st_kind.specs.Refused.{IsApartWhere};
-ghost use Rattle.st_register.specs.Register.{RegPart, FitsIn, KeepsIn, change_of, held_void, DifferAt};
-ghost use Rattle.st_register.specs.Told.{put_by, left_by, left_void_by, how_by, makes_by};
+ghost use Rattle.st_register.specs.Register.{RegPart, RegFits, RegKeeps, reg_change_of, held_void, DifferAt};
+ghost use Rattle.st_register.specs.Readings.{put_by, left_by, left_void_by, how_by, makes_by};
 
 use crate::values::{RegChange, RegHeld};
 use st_ids::{NodeId, Or};
@@ -113,9 +113,9 @@ fn makes_any(change: &RegChange, fill: Option<NodeId>) -> bool
 
 // The change where someone else is there.
 pub(crate) fn moved(change: &RegChange, held: Option<NodeId>) -> RegChange
-    ensures kept { (p : RegPart) (c d : RegHeld) → FitsIn p c → FitsIn p d → KeepsIn p c d → d.node ≡ held
-        → change.now ≡ change_of p c → result ≡ change_of p d }
-    ensures void { (p : RegPart) (c d : RegHeld) → FitsIn p c → FitsIn p d → d.node ≡ held → change.now ≡ change_of p c
+    ensures kept { (p : RegPart) (c d : RegHeld) → RegFits p c → RegFits p d → RegKeeps p c d → d.node ≡ held
+        → change.now ≡ reg_change_of p c → result ≡ reg_change_of p d }
+    ensures void { (p : RegPart) (c d : RegHeld) → RegFits p c → RegFits p d → d.node ≡ held → change.now ≡ reg_change_of p c
         → left_void_by result ≡ held_void p d.node }
 {
     let fill = coming(held, put_there(change));

@@ -4,15 +4,15 @@ ghost use Rattle.st_ids.specs.Or.{IfRefused};
 ghost use Rattle.st_tree.specs.Node.{trees_view, view, first, no_nodes};
 ghost use Rattle.st_tree.specs.Size.{check_of, check_items};
 ghost use Rattle.st_doc.specs.Doc.{document_of};
-ghost use Rattle.st_edits.specs.Resolve.{named, allowed, insert, remove, move_to, move as move_of, put, clear, need, may_move, resolve, IsWithin};
+ghost use Rattle.st_edits.specs.Resolve.{named, allowed_nodes, insert, remove, move_to, move as move_of, put, clear, need, may_move, resolve, IsWithin};
 
 use crate::intents::{inserted, nothing_yet, placed, removed};
-use crate::lists::names_taken;
 use crate::moves::{cells_taken, is_inside, is_there, items_from, moved, taken};
+use crate::new_trees::names_taken;
 use crate::paths::{field_at, walk};
-use crate::rules::{ask, names_left, nodes_allowed, rule_for, trees_allowed};
+use crate::rules::{names_left, nodes_allowed, require, rule_for, trees_allowed};
 use st_doc::Doc;
-use st_edits::{Given, Takes};
+use st_edits::{NameCounters, Takes};
 use st_ids::{Copied, FieldId, Key, List, NodeId, Or, Path};
 use st_marks::Intent;
 use st_schema::{FieldRule, Schema};
@@ -31,7 +31,11 @@ fn refuse(checked: Result<(), EditFault>) -> Result<(), Or<EditFault>>
 }
 
 // New trees as the list of their nodes, each under its name. Within the limits of trees nothing but memory is wanting.
-fn named(alloc: Global, given: Given, trees: &List<Tree>) -> Result<List<FlatNode>, Or<EditFault>>
+fn named(
+    alloc: Global,
+    given: NameCounters,
+    trees: &List<Tree>,
+) -> Result<List<FlatNode>, Or<EditFault>>
     requires within { check_items (trees_view trees.now) ≡ Ok tt }
     requires nodes { given.nodes < 2 ^ 31 }
     requires cells { given.cells < 2 ^ 31 }
@@ -46,18 +50,18 @@ fn named(alloc: Global, given: Given, trees: &List<Tree>) -> Result<List<FlatNod
 }
 
 // New trees, where the schema allows each of their nodes and the commit may give their names.
-fn allowed(
+fn allowed_nodes(
     alloc: Global,
     schema: &Schema,
-    given: Given,
+    given: NameCounters,
     rule: &FieldRule,
     trees: &List<Tree>,
 ) -> Result<List<FlatNode>, Or<EditFault>>
     requires within { check_items (trees_view trees.now) ≡ Ok tt }
     requires nodes { given.nodes < 2 ^ 31 }
     requires cells { given.cells < 2 ^ 31 }
-    ensures ok { IfOk result (λ xs. allowed schema.now given rule.now (trees_view trees.now) ≡ Ok xs) }
-    ensures bad { IfRefused result (λ e. allowed schema.now given rule.now (trees_view trees.now) ≡ Err e) }
+    ensures ok { IfOk result (λ xs. allowed_nodes schema.now given rule.now (trees_view trees.now) ≡ Ok xs) }
+    ensures bad { IfRefused result (λ e. allowed_nodes schema.now given rule.now (trees_view trees.now) ≡ Err e) }
 {
     refuse(trees_allowed(schema, rule, trees))?;
     let nodes = named(alloc, given, trees)?;
@@ -70,7 +74,7 @@ pub fn insert(
     alloc: Global,
     doc: &Doc,
     schema: &Schema,
-    given: Given,
+    given: NameCounters,
     at: &Path,
     key: &Key,
     index: u32,
@@ -86,8 +90,8 @@ pub fn insert(
     let node = walk(alloc, doc, at)?;
     let rule = rule_for(alloc, Takes::Row, doc, schema, node, key)?;
     let count = doc.live_slots(alloc, node)?.len();
-    refuse(ask(index as usize <= count, EditFault::Range))?;
-    let nodes = allowed(alloc, schema, given, &rule, items)?;
+    refuse(require(index as usize <= count, EditFault::Range))?;
+    let nodes = allowed_nodes(alloc, schema, given, &rule, items)?;
     Ok(inserted(alloc, doc, given, node, index, nodes.as_slice())?)
 }
 
@@ -96,7 +100,7 @@ pub fn remove(
     alloc: Global,
     doc: &Doc,
     schema: &Schema,
-    given: Given,
+    given: NameCounters,
     at: &Path,
     key: &Key,
     index: u32,
@@ -117,7 +121,7 @@ fn put(
     alloc: Global,
     doc: &Doc,
     schema: &Schema,
-    given: Given,
+    given: NameCounters,
     at: &Path,
     key: &Key,
     item: &List<Tree>,
@@ -131,7 +135,7 @@ fn put(
 {
     let node = walk(alloc, doc, at)?;
     let rule = rule_for(alloc, Takes::Single, doc, schema, node, key)?;
-    let nodes = allowed(alloc, schema, given, &rule, item)?;
+    let nodes = allowed_nodes(alloc, schema, given, &rule, item)?;
     let field = field_at(alloc, node, key)?;
     Ok(placed(alloc, doc, given, field, nodes.as_slice())?)
 }
@@ -141,7 +145,7 @@ pub fn clear(
     alloc: Global,
     doc: &Doc,
     schema: &Schema,
-    given: Given,
+    given: NameCounters,
     at: &Path,
     key: &Key,
 ) -> Result<Intent, Or<EditFault>>
@@ -157,7 +161,7 @@ pub fn clear(
 }
 
 // A node has to be live.
-fn need(alloc: Global, doc: &Doc, given: Given, at: &Path) -> Result<Intent, Or<EditFault>>
+fn need(alloc: Global, doc: &Doc, given: NameCounters, at: &Path) -> Result<Intent, Or<EditFault>>
     requires short { length at.now < 2 ^ 32 }
     ensures ok { IfOk result (λ i. need (document_of doc.now) given at.now ≡ Ok i) }
     ensures bad { IfRefused result (λ e. need (document_of doc.now) given at.now ≡ Err e) }
@@ -172,7 +176,7 @@ fn need(alloc: Global, doc: &Doc, given: Given, at: &Path) -> Result<Intent, Or<
 fn may_move(
     alloc: Global,
     doc: &Doc,
-    given: Given,
+    given: NameCounters,
     node: NodeId,
     rule: &FieldRule,
     to: &Path,
@@ -187,9 +191,9 @@ fn may_move(
     ensures bad { IfRefused result (λ e. may_move (document_of doc.now) given node rule.now to.now index count nodes.now ≡ Err e) }
 {
     let there = is_there(alloc, doc, node, rule.kind, index, count)?;
-    refuse(ask(there, EditFault::Range))?;
+    refuse(require(there, EditFault::Range))?;
     let inside = is_inside(alloc, doc, to, nodes)?;
-    refuse(ask(!inside, EditFault::Inside))?;
+    refuse(require(!inside, EditFault::Inside))?;
     refuse(nodes_allowed(doc, rule, nodes))?;
     refuse(names_left(given, cells_taken(rule.kind, nodes)))
 }
@@ -198,7 +202,7 @@ fn may_move(
 fn move_to(
     alloc: Global,
     doc: &Doc,
-    given: Given,
+    given: NameCounters,
     field: FieldId,
     rule: &FieldRule,
     to: &Path,
@@ -221,7 +225,7 @@ pub fn move_items(
     alloc: Global,
     doc: &Doc,
     schema: &Schema,
-    given: Given,
+    given: NameCounters,
     at: &Path,
     key: &Key,
     index: u32,
@@ -272,7 +276,7 @@ pub fn set(
     alloc: Global,
     doc: &Doc,
     schema: &Schema,
-    given: Given,
+    given: NameCounters,
     at: &Path,
     key: &Key,
     item: &Tree,
@@ -296,7 +300,7 @@ pub fn resolve(
     alloc: Global,
     doc: &Doc,
     schema: &Schema,
-    given: Given,
+    given: NameCounters,
     edit: &Edit,
 ) -> Result<Intent, Or<EditFault>>
     requires within { IsWithin edit.now }

@@ -5,12 +5,12 @@ ghost use Rattle.st_marks.specs.Document.{last_of, opening, revs};
 ghost use Rattle.st_doc.specs.Doc.{document_of};
 ghost use Rattle.st_opening.specs.Start.{registers};
 ghost use Rattle.st_edits.specs.New.{new_nodes, group_of, groups_under, puts, top_cells};
-ghost use Rattle.st_edits.specs.Resolve.{nothing_yet, with_group, inserted, placed, removed, cells_for, in_cells, moved_to_row, moved_to_field};
+ghost use Rattle.st_edits.specs.Resolve.{empty_intent, with_group, inserted, intent_to_place, intent_to_remove, cells_for, in_cells, moved_to_row, moved_to_field};
 
-use crate::lists::{add_groups, add_registers, group_of, new_nodes, puts, top_cells};
+use crate::new_trees::{add_groups, add_registers, group_of, new_nodes, puts, top_cells};
 use crate::paths::left_of;
 use st_doc::Doc;
-use st_edits::Given;
+use st_edits::NameCounters;
 use st_ids::{Atom, CellId, Copied, FieldId, List, NodeId, Rev};
 use st_marks::{Group, Intent, Owned, Put, To};
 use st_tree::FlatNode;
@@ -27,8 +27,8 @@ fn under(doc: &Doc) -> Rev
 }
 
 /// An intent that wants nothing yet.
-pub fn nothing_yet(alloc: Global, doc: &Doc, given: Given) -> Intent
-    ensures { result ≡ nothing_yet (document_of doc.now) given }
+pub fn empty_intent(alloc: Global, doc: &Doc, given: NameCounters) -> Intent
+    ensures { result ≡ empty_intent (document_of doc.now) given }
 {
     Intent {
         rev: given.rev,
@@ -103,7 +103,7 @@ fn fill_inserted(
 pub fn inserted(
     alloc: Global,
     doc: &Doc,
-    given: Given,
+    given: NameCounters,
     node: NodeId,
     index: u32,
     nodes: &[FlatNode],
@@ -111,7 +111,7 @@ pub fn inserted(
     ensures { IfOk result (λ i. i ≡ inserted (document_of doc.now) given node index nodes.now) }
 {
     let after = left_of(doc, node, index);
-    let mut intent = nothing_yet(alloc, doc, given);
+    let mut intent = empty_intent(alloc, doc, given);
     fill_inserted(alloc, &mut intent, node, after, nodes)?;
     Ok(intent)
 }
@@ -151,30 +151,30 @@ fn fill_placed(
 }
 
 /// A new item in a field, in the place of what is there.
-pub fn placed(
+pub fn intent_to_place(
     alloc: Global,
     doc: &Doc,
-    given: Given,
+    given: NameCounters,
     field: FieldId,
     nodes: &[FlatNode],
 ) -> Result<Intent, AllocError>
-    ensures { IfOk result (λ i. i ≡ placed (document_of doc.now) given field nodes.now) }
+    ensures { IfOk result (λ i. i ≡ intent_to_place (document_of doc.now) given field nodes.now) }
 {
-    let mut intent = nothing_yet(alloc, doc, given);
+    let mut intent = empty_intent(alloc, doc, given);
     fill_placed(alloc, &mut intent, &field, nodes)?;
     Ok(intent)
 }
 
 /// Nodes put nowhere.
-pub fn removed(
+pub fn intent_to_remove(
     alloc: Global,
     doc: &Doc,
-    given: Given,
+    given: NameCounters,
     nodes: &[NodeId],
 ) -> Result<Intent, AllocError>
-    ensures { IfOk result (λ i. i ≡ removed (document_of doc.now) given nodes.now) }
+    ensures { IfOk result (λ i. i ≡ intent_to_remove (document_of doc.now) given nodes.now) }
 {
-    let mut intent = nothing_yet(alloc, doc, given);
+    let mut intent = empty_intent(alloc, doc, given);
     intent.put = puts_nowhere(alloc, nodes)?;
     Ok(intent)
 }
@@ -252,7 +252,7 @@ fn fill_moved(
 pub fn moved_to_row(
     alloc: Global,
     doc: &Doc,
-    given: Given,
+    given: NameCounters,
     node: NodeId,
     index: u32,
     nodes: &[NodeId],
@@ -262,7 +262,7 @@ pub fn moved_to_row(
 {
     let after = left_of(doc, node, index);
     let cells = cells_for(alloc, given.rev, given.cells, nodes)?;
-    let mut intent = nothing_yet(alloc, doc, given);
+    let mut intent = empty_intent(alloc, doc, given);
     fill_moved(alloc, &mut intent, node, after, cells)?;
     Ok(intent)
 }
@@ -284,13 +284,13 @@ fn puts_at(alloc: Global, field: &FieldId, nodes: &[NodeId]) -> Result<List<Put>
 pub fn moved_to_field(
     alloc: Global,
     doc: &Doc,
-    given: Given,
+    given: NameCounters,
     field: FieldId,
     nodes: &[NodeId],
 ) -> Result<Intent, AllocError>
     ensures { IfOk result (λ i. i ≡ moved_to_field (document_of doc.now) given field nodes.now) }
 {
-    let mut intent = nothing_yet(alloc, doc, given);
+    let mut intent = empty_intent(alloc, doc, given);
     intent.put = puts_at(alloc, &field, nodes)?;
     intent.clear = one_field(alloc, field)?;
     Ok(intent)

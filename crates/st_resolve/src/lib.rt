@@ -3,8 +3,8 @@
 
 mod edits;
 mod intents;
-mod lists;
 mod moves;
+mod new_trees;
 mod paths;
 mod rules;
 

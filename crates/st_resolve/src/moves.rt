@@ -7,13 +7,13 @@ ghost use Rattle.st_marks.specs.declared.places.Slot.{Slot as Cell};
 ghost use Rattle.st_schema.specs.declared.names.KindName.{KindName as Kinds};
 ghost use Rattle.st_doc.specs.Doc.{document_of};
 ghost use Rattle.st_marks.specs.LiveTree.{live_slots};
-ghost use Rattle.st_edits.specs.Resolve.{within_row, taken, is_there, is_inside, cells_taken, moved, move_to};
+ghost use Rattle.st_edits.specs.Resolve.{within_row, nodes_taken, is_there, is_inside, cells_taken, intent_to_move, move_to};
 
 use crate::intents::{moved_to_field, moved_to_row, nothing_yet};
 use crate::paths::passes;
-use crate::rules::{ask, names_left, nodes_allowed};
+use crate::rules::{names_left, nodes_allowed, require};
 use st_doc::Doc;
-use st_edits::Given;
+use st_edits::NameCounters;
 use st_ids::{FieldId, List, NodeId, Or, Path};
 use st_intent::is_same_node;
 use st_marks::{Intent, Slot};
@@ -61,8 +61,8 @@ fn occupant(
     index: u32,
     count: u32,
 ) -> Result<List<NodeId>, Or<EditFault>>
-    ensures ok { IfOk result (λ ns. taken (document_of doc.now) field.now Kinds.Optional index count ≡ Ok ns) }
-    ensures bad { IfRefused result (λ e. taken (document_of doc.now) field.now Kinds.Optional index count ≡ Err e) }
+    ensures ok { IfOk result (λ ns. nodes_taken (document_of doc.now) field.now Kinds.Optional index count ≡ Ok ns) }
+    ensures bad { IfRefused result (λ e. nodes_taken (document_of doc.now) field.now Kinds.Optional index count ≡ Err e) }
     ensures few { IfOk result (λ ns. length ns ≡ count) }
 {
     if index != 0 || count != 1 {
@@ -77,7 +77,7 @@ fn occupant(
 }
 
 /// The nodes that a move takes from a row, or from an optional field, which has one.
-pub fn taken(
+pub fn nodes_taken(
     alloc: Global,
     doc: &Doc,
     field: &FieldId,
@@ -85,8 +85,8 @@ pub fn taken(
     index: u32,
     count: u32,
 ) -> Result<List<NodeId>, Or<EditFault>>
-    ensures ok { IfOk result (λ ns. taken (document_of doc.now) field.now kind index count ≡ Ok ns) }
-    ensures bad { IfRefused result (λ e. taken (document_of doc.now) field.now kind index count ≡ Err e) }
+    ensures ok { IfOk result (λ ns. nodes_taken (document_of doc.now) field.now kind index count ≡ Ok ns) }
+    ensures bad { IfRefused result (λ e. nodes_taken (document_of doc.now) field.now kind index count ≡ Err e) }
     ensures few { IfOk result (λ ns. length ns ≡ count) }
 {
     match kind {
@@ -140,17 +140,17 @@ pub fn cells_taken(kind: KindName, nodes: &[NodeId]) -> usize
 }
 
 // The intent of a move.
-pub fn moved(
+pub fn intent_to_move(
     alloc: Global,
     doc: &Doc,
-    given: Given,
+    given: NameCounters,
     field: FieldId,
     kind: KindName,
     index: u32,
     nodes: &[NodeId],
 ) -> Result<Intent, AllocError>
     requires { given.cells + cells_taken kind nodes.now < 2 ^ 32 }
-    ensures { IfOk result (λ i. i ≡ moved (document_of doc.now) given field kind index nodes.now) }
+    ensures { IfOk result (λ i. i ≡ intent_to_move (document_of doc.now) given field kind index nodes.now) }
 {
     match kind {
         KindName::Required => Ok(nothing_yet(alloc, doc, given)),

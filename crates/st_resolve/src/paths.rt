@@ -4,7 +4,7 @@ ghost use Rattle.st_ids.specs.Or.{IfRefused};
 ghost use Rattle.st_marks.specs.Document.{root};
 ghost use Rattle.st_doc.specs.Doc.{document_of};
 ghost use Rattle.st_marks.specs.LiveTree.{live_slots};
-ghost use Rattle.st_edits.specs.Paths.{field_at, left_of, child, passes};
+ghost use Rattle.st_edits.specs.Paths.{field_at, left_of, child, nodes_on_path};
 ghost use Rattle.st_edits.specs.Resolve.{walk};
 
 use st_doc::Doc;
@@ -83,8 +83,8 @@ pub fn walk(alloc: Global, doc: &Doc, path: &Path) -> Result<NodeId, Or<EditFaul
 }
 
 /// The nodes on the way, the root and the last too.
-pub fn passes(alloc: Global, doc: &Doc, path: &Path) -> Result<List<NodeId>, AllocError>
-    ensures { IfOk result (λ ns. ns ≡ passes (document_of doc.now) root path.now) }
+pub fn nodes_on_path(alloc: Global, doc: &Doc, path: &Path) -> Result<List<NodeId>, AllocError>
+    ensures { IfOk result (λ ns. ns ≡ nodes_on_path (document_of doc.now) root path.now) }
 {
     let mut node = root();
     let mut nodes = List::new(alloc);

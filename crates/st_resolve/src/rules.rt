@@ -4,10 +4,10 @@ ghost use Rattle.st_ids.specs.Or.{IfRefused};
 ghost use Rattle.st_tree.specs.Node.{trees_view};
 ghost use Rattle.st_tree.specs.Size.{item_count};
 ghost use Rattle.st_doc.specs.Doc.{document_of};
-ghost use Rattle.st_edits.specs.Resolve.{takes_kind, rule_at, rule_for, trees_allowed, has_type, nodes_allowed, names_left, ask};
+ghost use Rattle.st_edits.specs.Resolve.{takes_kind, rule_at, rule_for, trees_allowed, has_type, nodes_allowed, names_left, require};
 
 use st_doc::Doc;
-use st_edits::{Given, Takes};
+use st_edits::{NameCounters, Takes};
 use st_ids::{Key, Limit, LimitOf, List, NodeId, Or, Rev, Text};
 use st_schema::{FieldRule, KindName, Schema};
 use st_tree::{EditFault, Tree};
@@ -61,8 +61,8 @@ pub fn rule_for(
 }
 
 /// Nothing, where it holds.
-pub fn ask(holds: bool, fault: EditFault) -> Result<(), EditFault>
-    ensures { result ≡ ask holds fault }
+pub fn require(holds: bool, fault: EditFault) -> Result<(), EditFault>
+    ensures { result ≡ require holds fault }
 {
     if holds { Ok(()) } else { Err(fault) }
 }
@@ -102,7 +102,7 @@ pub fn nodes_allowed(doc: &Doc, rule: &FieldRule, nodes: &[NodeId]) -> Result<()
 }
 
 /// Nothing, where a commit may give so many names more.
-pub fn names_left(given: Given, more: usize) -> Result<(), EditFault>
+pub fn names_left(given: NameCounters, more: usize) -> Result<(), EditFault>
     requires nodes { given.nodes < 2 ^ 31 }
     requires cells { given.cells < 2 ^ 31 }
     ensures { result ≡ names_left given more }

@@ -8,8 +8,8 @@ use Rattle.st_json.specs.declared.fault.BadCause.TheVariants.{Header}
 use Rattle.st_script.specs.Header.{HeaderView, header_line}
 use Rattle.st_script.specs.Line.{line_of}
 use Rattle.st_script.specs.Steps.{StepView}
-use Rattle.st_trace.specs.World.{begun}
-use Rattle.st_trace.specs.declared.lists.Lists.{Lists}
+use Rattle.st_trace.specs.World.{empty_state}
+use Rattle.st_trace.specs.declared.state.WorldState.{WorldState}
 use Rattle.st_run.specs.Lines.{cut}
 use Rattle.st_run.specs.Answers.{Output, cut_short, WritesPrefix, OrCutShort, AnswersLine, AnswersOpening, AnswersTrace, IsOutput, IsTraced, IsAnswered, IsAnsweredAs, Answers, AnswersBy, AnswersFrom, max_input, long_output, long_line, is_trace, bad_line}
 use Rattle.st_run.proofs.Outputs.{output_also, appends_nothing}
@@ -25,11 +25,11 @@ or_cut_short : (Wanted : Output → Type 0) → NotUsage Wanted → NotUsage (Or
 or_cut_short Wanted other t (inl e) is = cc
 or_cut_short Wanted other t (inr h) is = other t h is
 
-line_other : (h : HeaderView) (n : ℕ) (line : Result StepView BadCause) (w : Lists) (Rest : Lists → Output → Type 0) → ((v : Lists) → NotUsage (Rest v)) → NotUsage (AnswersLine h n line w Rest)
+line_other : (h : HeaderView) (n : ℕ) (line : Result StepView BadCause) (w : WorldState) (Rest : WorldState → Output → Type 0) → ((v : WorldState) → NotUsage (Rest v)) → NotUsage (AnswersLine h n line w Rest)
 line_other h n (Err c) w Rest other t e is = cc
 line_other h n (Ok s) w Rest other t out is = other out.world out.rest out.follows (sym (ap (λ (x : Output). x.outcome) out.whole) ∙ is)
 
-from_other : (h : HeaderView) (w : Lists) (n : ℕ) (ls : List (List ℕ)) → NotUsage (AnswersFrom h w n ls)
+from_other : (h : HeaderView) (w : WorldState) (n : ℕ) (ls : List (List ℕ)) → NotUsage (AnswersFrom h w n ls)
 from_other h w n [] = or_cut_short (λ (t : Output). t ≡ record { bytes = []; outcome = Done }) (λ t e is. cc)
 from_other h w n (l ∷ ls) = or_cut_short (AnswersLine h n (line_of l) w (λ v. AnswersFrom h v (n + 1) ls)) (line_other h n (line_of l) w (λ v. AnswersFrom h v (n + 1) ls) (λ v. from_other h v (n + 1) ls))
 
@@ -39,7 +39,7 @@ begun_other (Ok h) Rest other t out is = other h out.rest out.follows (sym (ap (
 
 trace_other : (ls : List (List ℕ)) → NotUsage (AnswersTrace ls)
 trace_other [] = or_cut_short (λ (t : Output). t ≡ bad_line 1 Header) (λ t e is. cc)
-trace_other (l ∷ ls) = or_cut_short (AnswersOpening (header_line (codes "trace") l) (λ h. AnswersFrom h begun 2 ls)) (begun_other (header_line (codes "trace") l) (λ h. AnswersFrom h begun 2 ls) (λ h. from_other h begun 2 ls))
+trace_other (l ∷ ls) = or_cut_short (AnswersOpening (header_line (codes "trace") l) (λ h. AnswersFrom h empty_state 2 ls)) (begun_other (header_line (codes "trace") l) (λ h. AnswersFrom h empty_state 2 ls) (λ h. from_other h empty_state 2 ls))
 
 -- ## What was told is the answer
 

@@ -11,8 +11,8 @@ use Rattle.st_script.specs.Header.{HeaderView, header_line}
 use Rattle.st_script.specs.Line.{line_of}
 use Rattle.st_script.specs.Steps.{StepView}
 use Rattle.st_script.specs.declared.answer.Answer.{Answer}
-use Rattle.st_trace.specs.World.{begun, IsNext}
-use Rattle.st_trace.specs.declared.lists.Lists.{Lists}
+use Rattle.st_trace.specs.World.{empty_state, IsNext}
+use Rattle.st_trace.specs.declared.state.WorldState.{WorldState}
 use Rattle.st_run.specs.Lines.{cut}
 use Rattle.st_run.specs.Parts.{AppendsPrefix}
 use Rattle.st_run.specs.Answers.{Output, before, cut_short, OrCutShort, AnswersLine, AnswersHeader, AnswersOpening, AnswersTrace, IsOutput, WritesAll, WritesPrefix, AnswersFrom, EndsAtLine, IsCutShort, IsLineAnswered, bad_line}
@@ -84,20 +84,20 @@ output_also old new These Those up NoMemory h = in_part_also old new These Those
 -- ## A line
 
 -- a step is answered
-pub step_is_output : (h : HeaderView) (n : ℕ) (w v : Lists) (s : StepView) (a : Answer) (r : Output) (line : Result StepView BadCause) (Rest : Lists → Output → Type 0)
+pub step_is_output : (h : HeaderView) (n : ℕ) (w v : WorldState) (s : StepView) (a : Answer) (r : Output) (line : Result StepView BadCause) (Rest : WorldState → Output → Type 0)
     → Ok s ≡ line → IsNext h w s v a → Rest v r → OrCutShort (AnswersLine h n line w Rest) (before (answer_line a) r)
 step_is_output h n w v s a r line Rest is next follows =
     inr (subst (λ (x : Result StepView BadCause). AnswersLine h n x w Rest (before (answer_line a) r)) is
     (record { world = v; answer = a; rest = r; next = next; follows = follows; whole = refl }))
 
 -- a line that was answered, and what follows it
-pub answered_more : (h : HeaderView) (n : ℕ) (line : Result StepView BadCause) (w v : Lists) (old mid new : Option (List ℕ)) (Rest : Lists → Output → Type 0) (o : Outcome)
+pub answered_more : (h : HeaderView) (n : ℕ) (line : Result StepView BadCause) (w v : WorldState) (old mid new : Option (List ℕ)) (Rest : WorldState → Output → Type 0) (o : Outcome)
     → IsLineAnswered h line w v old mid → IsOutput mid new (Rest v) o → IsOutput old new (OrCutShort (AnswersLine h n line w Rest)) o
 answered_more h n line w v old mid new Rest o out rest =
     output_more old mid new (answer_line out.answer) (Rest v) (OrCutShort (AnswersLine h n line w Rest)) (λ r follows. step_is_output h n w v out.step out.answer r line Rest (sym out.is) out.next follows) o out.written rest
 
 -- a line is named as bad
-pub bad_is_output : (h : HeaderView) (n : ℕ) (w : Lists) (c : BadCause) (line : Result StepView BadCause) (Rest : Lists → Output → Type 0) (t : Output)
+pub bad_is_output : (h : HeaderView) (n : ℕ) (w : WorldState) (c : BadCause) (line : Result StepView BadCause) (Rest : WorldState → Output → Type 0) (t : Output)
     → Err c ≡ line → OrCutShort (λ (out : Output). out ≡ bad_line n c) t → OrCutShort (AnswersLine h n line w Rest) t
 bad_is_output h n w c line Rest t is (inl e) = inl e
 bad_is_output h n w c line Rest t is (inr e) = inr (subst (λ (x : Result StepView BadCause). AnswersLine h n x w Rest t) is e)
@@ -105,12 +105,12 @@ bad_is_output h n w c line Rest t is (inr e) = inr (subst (λ (x : Result StepVi
 -- ## Lines
 
 -- the rest may have stopped at once
-pub cut_short_from : (h : HeaderView) (w : Lists) (n : ℕ) (ls : List (List ℕ)) → AnswersFrom h w n ls cut_short
+pub cut_short_from : (h : HeaderView) (w : WorldState) (n : ℕ) (ls : List (List ℕ)) → AnswersFrom h w n ls cut_short
 cut_short_from h w n [] = inl refl
 cut_short_from h w n (l ∷ ls) = inl refl
 
 -- a line that ends a run is one of the lines
-pub ended_also : (h : HeaderView) (n : ℕ) (line : Result StepView BadCause) (w : Lists) (Rest : Lists → Output → Type 0) → ((v : Lists) → Rest v cut_short) → (t : Output)
+pub ended_also : (h : HeaderView) (n : ℕ) (line : Result StepView BadCause) (w : WorldState) (Rest : WorldState → Output → Type 0) → ((v : WorldState) → Rest v cut_short) → (t : Output)
     → EndsAtLine h n line w t → OrCutShort (AnswersLine h n line w Rest) t
 ended_also h n line w Rest always t (inl e) = inl e
 ended_also h n (Err c) w Rest always t (inr e) = inr e
@@ -123,12 +123,12 @@ header_ended_also Rest always t (inl e) = inl e
 header_ended_also Rest always t (inr out) = inr (record { rest = out.rest; follows = subst Rest (sym out.follows) always; whole = out.whole })
 
 -- where no line is left
-pub no_line_is_output : (old : Option (List ℕ)) (h : HeaderView) (w : Lists) (n : ℕ) (bs : List ℕ) → length bs ≡ 0 → IsOutput old old (AnswersFrom h w n (cut bs)) Done
+pub no_line_is_output : (old : Option (List ℕ)) (h : HeaderView) (w : WorldState) (n : ℕ) (bs : List ℕ) → length bs ≡ 0 → IsOutput old old (AnswersFrom h w n (cut bs)) Done
 no_line_is_output old h w n [] e = (record { bytes = []; outcome = Done }, inr refl, refl, appends_nothing old)
 no_line_is_output old h w n (b ∷ bs) e = absurd (omega arith)
 
 -- where one line is left, and what follows it
-pub line_is_output : (old new : Option (List ℕ)) (h : HeaderView) (w : Lists) (n : ℕ) (bs line after : List ℕ) (o : Outcome) → 0 < length bs → line ≡ before_first (λ b. b == 10) bs → after ≡ after_first (λ b. b == 10) bs
+pub line_is_output : (old new : Option (List ℕ)) (h : HeaderView) (w : WorldState) (n : ℕ) (bs line after : List ℕ) (o : Outcome) → 0 < length bs → line ≡ before_first (λ b. b == 10) bs → after ≡ after_first (λ b. b == 10) bs
     → IsOutput old new (OrCutShort (AnswersLine h n (line_of line) w (λ v. AnswersFrom h v (n + 1) (cut after)))) o → IsOutput old new (AnswersFrom h w n (cut bs)) o
 line_is_output old new h w n bs line after o some is_line is_after t =
     let lines : line ∷ cut after ≡ cut bs = (λ i. is_line i ∷ cut (is_after i)) ∙ sym (cut-step bs some) in
@@ -141,7 +141,7 @@ after-shorter bs after some is_after = omega (arith, ap length is_after, length-
 
 -- where the first line is a header, or none
 pub output_head : (old new : Option (List ℕ)) (bs line after : List ℕ) (o : Outcome) → 0 < length bs → line ≡ before_first (λ b. b == 10) bs → after ≡ after_first (λ b. b == 10) bs
-    → IsOutput old new (OrCutShort (AnswersOpening (header_line (codes "trace") line) (λ h. AnswersFrom h begun 2 (cut after)))) o → IsOutput old new (AnswersTrace (cut bs)) o
+    → IsOutput old new (OrCutShort (AnswersOpening (header_line (codes "trace") line) (λ h. AnswersFrom h empty_state 2 (cut after)))) o → IsOutput old new (AnswersTrace (cut bs)) o
 output_head old new bs line after o some is_line is_after t =
     let lines : line ∷ cut after ≡ cut bs = (λ i. is_line i ∷ cut (is_after i)) ∙ sym (cut-step bs some) in
     subst (λ (ls : List (List ℕ)). IsOutput old new (AnswersTrace ls) o) lines t

@@ -12,8 +12,8 @@ use Rattle.st_script.specs.Line.{line_of}
 use Rattle.st_script.specs.Steps.{StepView}
 use Rattle.st_script.specs.declared.answer.Answer.{Answer}
 use Rattle.st_script.specs.declared.answer.Answer.TheVariants as answer
-use Rattle.st_trace.specs.World.{begun, IsNext}
-use Rattle.st_trace.specs.declared.lists.Lists.{Lists}
+use Rattle.st_trace.specs.World.{empty_state, IsNext}
+use Rattle.st_trace.specs.declared.state.WorldState.{WorldState}
 use Rattle.st_run.specs.Lines.{cut}
 use Rattle.st_run.specs.Parts.{AppendsPrefix}
 use Rattle.st_run.specs.declared.outcome.Outcome.{Outcome}
@@ -71,8 +71,8 @@ abbrev pub OrCutShort : (Output → Type 0) → Output → Type 0
 OrCutShort Wanted out = (out ≡ cut_short) ⊎ Wanted out
 
 -- the answer to a step, and what follows it
-pub record AnswersStep (h : HeaderView) (w : Lists) (s : StepView) (Rest : Lists → Output → Type 0) (out : Output) : Type 0 where
-  pub world : Lists
+pub record AnswersStep (h : HeaderView) (w : WorldState) (s : StepView) (Rest : WorldState → Output → Type 0) (out : Output) : Type 0 where
+  pub world : WorldState
   pub answer : Answer
   pub rest : Output
   pub next : IsNext h w s world answer
@@ -80,12 +80,12 @@ pub record AnswersStep (h : HeaderView) (w : Lists) (s : StepView) (Rest : Lists
   pub whole : out ≡ before (answer_line answer) rest
 
 -- a line that is a step or a bad one, and what follows it
-abbrev pub AnswersLine : HeaderView → ℕ → Result StepView BadCause → Lists → (Lists → Output → Type 0) → Output → Type 0
+abbrev pub AnswersLine : HeaderView → ℕ → Result StepView BadCause → WorldState → (WorldState → Output → Type 0) → Output → Type 0
 AnswersLine h n (Err c) w Rest out = out ≡ bad_line n c
 AnswersLine h n (Ok s) w Rest out = AnswersStep h w s Rest out
 
 -- the answers to the lines from the n-th on, or to some first ones of them where something failed
-abbrev pub AnswersFrom : HeaderView → Lists → ℕ → List (List ℕ) → Output → Type 0
+abbrev pub AnswersFrom : HeaderView → WorldState → ℕ → List (List ℕ) → Output → Type 0
 AnswersFrom h w n [] out = OrCutShort (λ (t : Output). t ≡ record { bytes = []; outcome = Done }) out
 AnswersFrom h w n (l ∷ ls) out = OrCutShort (AnswersLine h n (line_of l) w (λ v. AnswersFrom h v (n + 1) ls)) out
 
@@ -101,7 +101,7 @@ AnswersOpening (Ok h) Rest out = AnswersHeader (Rest h) out
 
 abbrev pub AnswersTrace : List (List ℕ) → Output → Type 0
 AnswersTrace [] out = OrCutShort (λ (t : Output). t ≡ bad_line 1 Header) out
-AnswersTrace (l ∷ ls) out = OrCutShort (AnswersOpening (header_line (codes "trace") l) (λ h. AnswersFrom h begun 2 ls)) out
+AnswersTrace (l ∷ ls) out = OrCutShort (AnswersOpening (header_line (codes "trace") l) (λ h. AnswersFrom h empty_state 2 ls)) out
 
 abbrev pub AnswersBy : Bool → List ℕ → Output → Type 0
 AnswersBy true bytes out = out ≡ long_output (long_line bytes)
@@ -134,7 +134,7 @@ IsOutput old new Wanted (TooLong n) = WritesAll old new Wanted (TooLong n)
 -- ## One line
 
 -- a step was answered, and the world is now so
-pub record IsLineAnswered (h : HeaderView) (line : Result StepView BadCause) (w v : Lists) (old new : Option (List ℕ)) : Type 0 where
+pub record IsLineAnswered (h : HeaderView) (line : Result StepView BadCause) (w v : WorldState) (old new : Option (List ℕ)) : Type 0 where
   pub step : StepView
   pub answer : Answer
   pub is : line ≡ Ok step
@@ -146,7 +146,7 @@ abbrev pub IsCutShort : Output → Type 0
 IsCutShort out = out ≡ cut_short
 
 -- a line at which a run ended
-abbrev pub EndsAtLine : HeaderView → ℕ → Result StepView BadCause → Lists → Output → Type 0
+abbrev pub EndsAtLine : HeaderView → ℕ → Result StepView BadCause → WorldState → Output → Type 0
 EndsAtLine h n line w out = OrCutShort (AnswersLine h n line w (λ v. IsCutShort)) out
 
 -- the words are the one command

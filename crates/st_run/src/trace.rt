@@ -8,8 +8,8 @@ ghost use Rattle.st_script.specs.AnswerText.{answer_line};
 ghost use Rattle.st_script.specs.Header.{header_view, header_line};
 ghost use Rattle.st_script.specs.Line.{line_of, line_view};
 ghost use Rattle.st_script.specs.Steps.{step_view};
-ghost use Rattle.st_trace.specs.Kept.{IsSound};
-ghost use Rattle.st_trace.specs.World.{begun};
+ghost use Rattle.st_trace.specs.Replicas.{IsSound};
+ghost use Rattle.st_trace.specs.World.{empty_state};
 ghost use Rattle.st_run.specs.Lines.{cut};
 ghost use Rattle.st_run.specs.Answers.{OrCutShort, AnswersHeader, IsCutShort, IsLineAnswered, EndsAtLine, cause_name, bad_data, bad_line, AnswersFrom, AnswersTrace, IsOutput};
 
@@ -180,7 +180,7 @@ fn take_lines<K: Sink>(alloc: Global, world: &mut World, bytes: &[u8], sink: &mu
 // The world that a line opens.
 fn read_header(alloc: Global, line: &[u8]) -> Result<World, Or<BadCause>>
     ensures ok { IfOk result (λ w. header_line (codes "trace") line.now ≡ Ok (header_view w.header)) }
-    ensures lists { IfOk result (λ w. w.lists ≡ begun) }
+    ensures lists { IfOk result (λ w. w.lists ≡ empty_state) }
     ensures sound { IfOk result (λ w. (w.spent ≡ false) × IsSound w) }
     ensures fresh { IfOk result (λ w. w.steps ≡ 0) }
     ensures bad { IfRefused result (λ c. header_line (codes "trace") line.now ≡ Err c) }
@@ -209,9 +209,9 @@ fn send_header<K: Sink>(alloc: Global, sink: &mut K) -> Result<(), Outcome>
 fn trace_from<K: Sink>(alloc: Global, world: &mut World, bytes: &[u8], sink: &mut K) -> Outcome
     requires size { length bytes.now < 2 ^ 24 }
     requires sound { (world.old.spent ≡ false) × IsSound world.old }
-    requires fresh { (world.old.steps ≡ 0) × (world.old.lists ≡ begun) }
+    requires fresh { (world.old.steps ≡ 0) × (world.old.lists ≡ empty_state) }
     ensures output { IsOutput (K.written sink.old) (K.written sink.new)
-        (OrCutShort (AnswersHeader (AnswersFrom (header_view world.old.header) begun 2 (cut bytes.now)))) result }
+        (OrCutShort (AnswersHeader (AnswersFrom (header_view world.old.header) empty_state 2 (cut bytes.now)))) result }
     ensures fault { result ≡ Outcome.WriteFault → Rose (K.faults sink.old) (K.faults sink.new) }
 {
     match send_header(alloc, sink) {

@@ -1,6 +1,5 @@
 //! Which trees a schema allows.
-ghost use Rattle.std.specs.Prelude.{◌≡◌, ◌+◌, ◌<◌, ◌^◌, ◌&&◌, not, is_some, true, [], None};
-ghost use Rattle.std.specs.Prelude.{ℕ, List as Seq};
+ghost use Rattle.std.specs.Prelude.{◌≡◌, ◌+◌, ◌<◌, ◌^◌, ◌&&◌, not, is_some, true, [], None, ℕ, List as Seq};
 ghost use Rattle.std.specs.Option.{option_copied};
 ghost use Rattle.st_tree.specs.declared.tree.Tree.{out-Tree};
 ghost use Rattle.st_tree.specs.Node.{Node, view, field_view, fields_view, trees_view};

@@ -9,9 +9,10 @@ use Rattle.st_marks.specs.declared.marks.How.{How}
 use Rattle.st_marks.specs.declared.marks.How.TheVariants.{Stay, Here, Leave}
 use Rattle.st_marks.specs.declared.places.Slot.{Slot}
 use Rattle.st_marks.specs.Embedding.{is_among}
-use Rattle.st_marks.specs.Extends.{Grows, done, gained, kept}
-use Rattle.st_marks.specs.Row.{CellMark, Counted, Gap, Touch, Make, Fill, RowPart, SameCell, same_to, how, is_here, step_cell, step_row, embed_cell, embed_made, embed_cells, embed_row}
-use Rattle.st_seq.specs.Agreement.{seen_before, seen_after}
+use Rattle.st_marks.specs.Extends.{GainsItems, no_more, item_gained, item_kept}
+use Rattle.st_marks.specs.Row.{CellMark, Counted, Gap, Touch, Make, Fill, RowPart, SameCell, same_to, how, step_cell, step_row, embed_cell, embed_made, embed_cells, embed_row}
+use Rattle.st_marks.specs.How.{is_here}
+use Rattle.st_seq.specs.Views.{view_before, view_after}
 use Rattle.st_seq.specs.Cells.{turned, stepped, full_first, full_then, bridged, bridged_piece, bridge_row, made_full, gained_full}
 use Rattle.st_seq.specs.Changes.{StandsIn, AreOld, NamesNoGained, NoGroupAtGained, full_after, made_cells, carried_cells, carried_row, placed_by, row_after, void_part}
 use Rattle.st_seq.specs.Rows.{NamesMoved}
@@ -22,31 +23,31 @@ use Rattle.st_seq.proofs.Rebased.{Tells, rebased-found, gained-found}
 
 -- ## How full a cell is
 
-pub before_full : (p : RowPart) (c : CellId) (n : NodeId) (a : Bool) → (seen_before (embed_cell p c n a)).full ≡ a
-before_full p c n true = elim (p.mentioned n) as (λ b. (seen_before (cond b (Touch c n (how (p.goes n) (To.Cell c))) Counted)).full ≡ true) [ true ↦ refl | false ↦ refl ]
-before_full p c n false = elim (is_here (how (p.goes n) (To.Cell c))) as (λ b. (seen_before (cond b (Fill c n) (Gap c))).full ≡ false) [ true ↦ refl | false ↦ refl ]
+pub before_full : (p : RowPart) (c : CellId) (n : NodeId) (a : Bool) → (view_before (embed_cell p c n a)).full ≡ a
+before_full p c n true = elim (p.mentioned n) as (λ b. (view_before (cond b (Touch c n (how (p.target_of n) (To.Cell c))) Counted)).full ≡ true) [ true ↦ refl | false ↦ refl ]
+before_full p c n false = elim (is_here (how (p.target_of n) (To.Cell c))) as (λ b. (view_before (cond b (Fill c n) (Gap c))).full ≡ false) [ true ↦ refl | false ↦ refl ]
 
-pub left_full : (p : RowPart) (c : CellId) (n : NodeId) (a : Bool) → (p.goes n ≢ None → p.mentioned n ≡ true) → (seen_after (embed_cell p c n a)).full ≡ full_after (p.goes n) c a
-left_full p c n true h = elim (p.mentioned n) as (λ b. p.mentioned n ≡ b → (seen_after (cond b (Touch c n (how (p.goes n) (To.Cell c))) Counted)).full ≡ full_after (p.goes n) c true) [
-  | true ↦ (λ e. touched (p.goes n))
-  | false ↦ (λ e. unput (p.goes n) h e)
+pub left_full : (p : RowPart) (c : CellId) (n : NodeId) (a : Bool) → (p.target_of n ≢ None → p.mentioned n ≡ true) → (view_after (embed_cell p c n a)).full ≡ full_after (p.target_of n) c a
+left_full p c n true h = elim (p.mentioned n) as (λ b. p.mentioned n ≡ b → (view_after (cond b (Touch c n (how (p.target_of n) (To.Cell c))) Counted)).full ≡ full_after (p.target_of n) c true) [
+  | true ↦ (λ e. touched (p.target_of n))
+  | false ↦ (λ e. unput (p.target_of n) h e)
 ] refl
   where
-    touched : (g : Option To) → (seen_after (Touch c n (how g (To.Cell c)))).full ≡ full_after g c true
+    touched : (g : Option To) → (view_after (Touch c n (how g (To.Cell c)))).full ≡ full_after g c true
     touched None = refl
-    touched (Some to) = elim (same_to to (To.Cell c)) as (λ b. (seen_after (Touch c n (cond b Here Leave))).full ≡ b) [ true ↦ refl | false ↦ refl ]
+    touched (Some to) = elim (same_to to (To.Cell c)) as (λ b. (view_after (Touch c n (cond b Here Leave))).full ≡ b) [ true ↦ refl | false ↦ refl ]
 
     unput : (g : Option To) → (g ≢ None → p.mentioned n ≡ true) → p.mentioned n ≡ false → true ≡ full_after g c true
     unput None k e = refl
     unput (Some to) k e = let q : ◌≡◌ {A = Bool} false true = sym e ∙ k (λ z. cc) in cc
-left_full p c n false h = free (p.goes n)
+left_full p c n false h = free (p.target_of n)
   where
-    free : (g : Option To) → (seen_after (cond (is_here (how g (To.Cell c))) (Fill c n) (Gap c))).full ≡ full_after g c false
+    free : (g : Option To) → (view_after (cond (is_here (how g (To.Cell c))) (Fill c n) (Gap c))).full ≡ full_after g c false
     free None = refl
-    free (Some to) = elim (same_to to (To.Cell c)) as (λ b. (seen_after (cond (is_here (cond b Here Leave)) (Fill c n) (Gap c))).full ≡ b) [ true ↦ refl | false ↦ refl ]
+    free (Some to) = elim (same_to to (To.Cell c)) as (λ b. (view_after (cond (is_here (cond b Here Leave)) (Fill c n) (Gap c))).full ≡ b) [ true ↦ refl | false ↦ refl ]
 
-step_full : (m : Nodes) (c : CellId) (n : NodeId) (a b : Bool) → (seen_after (step_cell m c n a b)).full ≡ b
-step_full m c n true true = elim (m n) as (λ b. (seen_after (cond b (Touch c n Stay) Counted)).full ≡ true) [ true ↦ refl | false ↦ refl ]
+step_full : (m : Nodes) (c : CellId) (n : NodeId) (a b : Bool) → (view_after (step_cell m c n a b)).full ≡ b
+step_full m c n true true = elim (m n) as (λ b. (view_after (cond b (Touch c n Stay) Counted)).full ≡ true) [ true ↦ refl | false ↦ refl ]
 step_full m c n true false = refl
 step_full m c n false true = refl
 step_full m c n false false = refl
@@ -72,13 +73,13 @@ unlisted m k c n false false h = refl
 
 -- what has to be known of a cell's owner, where the step's listing names one set and the result another
 record Owner (p : RowPart) (m k : Nodes) (n : NodeId) : Type 0 where
-  put : p.goes n ≢ None → p.mentioned n ≡ true
+  put : p.target_of n ≢ None → p.mentioned n ≡ true
   named : p.mentioned n ≡ true → k n ≡ true
   unnamed : p.mentioned n ≡ false → k n ≡ m n
 
 module _ (p : RowPart) (m k : Nodes) (c : CellId) (n : NodeId) (w : Owner p m k n) where
-  not_put : p.mentioned n ≡ false → p.goes n ≡ None
-  not_put e = go (p.goes n) w.put
+  not_put : p.mentioned n ≡ false → p.target_of n ≡ None
+  not_put e = go (p.target_of n) w.put
     where
       go : (g : Option To) → (g ≢ None → p.mentioned n ≡ true) → g ≡ None
       go None h = refl
@@ -89,15 +90,15 @@ module _ (p : RowPart) (m k : Nodes) (c : CellId) (n : NodeId) (w : Owner p m k 
   empty_is false e f h j = λ i. sym (ap (λ x. step_cell k c n x f) h ∙ ap (λ x. step_cell k c n false x) (j refl)) i
 
   stepped_is : (a b e f : Bool)
-      → (p.goes n ≡ None → e ≡ a) → (p.goes n ≡ None → f ≡ b)
-      → (is_here (how (p.goes n) (To.Cell c)) ≡ false → a ≡ false → e ≡ false) → (is_here (how (p.goes n) (To.Cell c)) ≡ false → b ≡ false → f ≡ false)
+      → (p.target_of n ≡ None → e ≡ a) → (p.target_of n ≡ None → f ≡ b)
+      → (is_here (how (p.target_of n) (To.Cell c)) ≡ false → a ≡ false → e ≡ false) → (is_here (how (p.target_of n) (To.Cell c)) ≡ false → b ≡ false → f ≡ false)
       → stepped (embed_cell p c n a) (step_cell m c n a b) e f ≡ step_cell k c n e f
-  stepped_is true b e f e_none f_none e_away f_away = elim (p.mentioned n) as (λ x. p.mentioned n ≡ x → stepped (cond x (Touch c n (how (p.goes n) (To.Cell c))) Counted) (step_cell m c n true b) e f ≡ step_cell k c n e f) [
+  stepped_is true b e f e_none f_none e_away f_away = elim (p.mentioned n) as (λ x. p.mentioned n ≡ x → stepped (cond x (Touch c n (how (p.target_of n) (To.Cell c))) Counted) (step_cell m c n true b) e f ≡ step_cell k c n e f) [
     | true ↦ (λ h. turned_is k c n e f (λ _ _. w.named h))
     | false ↦ (λ h. unlisted m k c n true b (w.unnamed h) ∙ (λ i. step_cell k c n (sym (e_none (not_put h)) i) (sym (f_none (not_put h)) i)))
   ] refl
-  stepped_is false b e f e_none f_none e_away f_away = elim (is_here (how (p.goes n) (To.Cell c))) as (λ x. is_here (how (p.goes n) (To.Cell c)) ≡ x → stepped (cond x (Fill c n) (Gap c)) (step_cell m c n false b) e f ≡ step_cell k c n e f) [
-    | true ↦ (λ h. turned_is k c n e f (λ _ _. w.named (w.put (put_here (p.goes n) h))))
+  stepped_is false b e f e_none f_none e_away f_away = elim (is_here (how (p.target_of n) (To.Cell c))) as (λ x. is_here (how (p.target_of n) (To.Cell c)) ≡ x → stepped (cond x (Fill c n) (Gap c)) (step_cell m c n false b) e f ≡ step_cell k c n e f) [
+    | true ↦ (λ h. turned_is k c n e f (λ _ _. w.named (w.put (put_here (p.target_of n) h))))
     | false ↦ (λ h. empty_is b e f (e_away h refl) (f_away h))
   ] refl
     where
@@ -115,14 +116,14 @@ counted_stays false false t = refl
 
 -- the cells are those of a step from the row c to the row d that names these nodes, among them those that it moves
 abbrev pub Led : Nodes → List Slot → List Slot → List CellMark → Type 0
-Led k c d cells = (g : Grows SameCell c d) × (cells ≡ step_row k g) × NamesMoved k g
+Led k c d cells = (g : GainsItems SameCell c d) × (cells ≡ step_row k g) × NamesMoved k g
 
 led-gained : (k : Nodes) (c : CellId) (n : NodeId) (b : Bool) {xs ys : List Slot} {cells : List CellMark} → Led k xs ys cells → Led k xs (record { cell = c; node = n; full = b } ∷ ys) (Make c n b ∷ cells)
-led-gained k c n b (g, e, w) = (gained g, ap (λ l. Make c n b ∷ l) e, w)
+led-gained k c n b (g, e, w) = (item_gained g, ap (λ l. Make c n b ∷ l) e, w)
 
 led-kept : (k : Nodes) (c : CellId) (n : NodeId) (a b : Bool) (x : CellMark) {xs ys : List Slot} {cells : List CellMark} → x ≡ step_cell k c n a b → (a ≢ b → k n ≡ true) → Led k xs ys cells
     → Led k (record { cell = c; node = n; full = a } ∷ xs) (record { cell = c; node = n; full = b } ∷ ys) (x ∷ cells)
-led-kept k c n a b x q r (g, e, w) = (kept (refl, refl) g, (λ i. q i ∷ e i), (r, w))
+led-kept k c n a b x q r (g, e, w) = (item_kept (refl, refl) g, (λ i. q i ∷ e i), (r, w))
 
 -- ## The step beside a change
 
@@ -142,19 +143,19 @@ and_second : (a b : Bool) → (a && b) ≡ true → b ≡ true
 and_second true b e = e
 and_second false b e = cc
 
-module _ (t : NodeId → Option How) (p : RowPart) (m placed makes : Nodes) (was is : Bool) (sub : (n : NodeId) → makes n ≡ false → placed n ≡ false) (put : (n : NodeId) → p.goes n ≢ None → makes n ≡ false → p.mentioned n ≡ true) where
+module _ (t : NodeId → Option How) (p : RowPart) (m placed makes : Nodes) (was is : Bool) (sub : (n : NodeId) → makes n ≡ false → placed n ≡ false) (put : (n : NodeId) → p.target_of n ≢ None → makes n ≡ false → p.mentioned n ≡ true) where
   -- where the change puts a node
-  abbrev goes : Bool → NodeId → Option To
-  goes void n = cond (placing void placed n) (p.goes n) None
+  abbrev target_of : Bool → NodeId → Option To
+  goes void n = cond (placing void placed n) (p.target_of n) None
 
   abbrev named : Nodes
   named = named_beside m p.mentioned makes was is
 
   void_goes : (n : NodeId) (v : Bool) → v ≡ true → makes n ≡ false → goes v n ≡ None
-  void_goes n v e h = ap (λ b. cond (not b || placed n) (p.goes n) None) e ∙ ap (λ b. cond b (p.goes n) None) (sub n h)
+  void_goes n v e h = ap (λ b. cond (not b || placed n) (p.target_of n) None) e ∙ ap (λ b. cond b (p.target_of n) None) (sub n h)
 
-  none_goes : (n : NodeId) (v : Bool) → p.goes n ≡ None → goes v n ≡ None
-  none_goes n v e = elim (placing v placed n) as (λ b. cond b (p.goes n) None ≡ None) [ true ↦ e | false ↦ refl ]
+  none_goes : (n : NodeId) (v : Bool) → p.target_of n ≡ None → goes v n ≡ None
+  none_goes n v e = elim (placing v placed n) as (λ b. cond b (p.target_of n) None ≡ None) [ true ↦ e | false ↦ refl ]
 
   first_is : (v : Bool) (c : CellId) (n : NodeId) (a : Bool) → makes n ≡ false → full_first v (embed_cell p c n a) ≡ full_after (goes v n) c a
   first_is true c n a h = before_full p c n a ∙ sym (ap (λ g. full_after g c a) (void_goes n true refl h))
@@ -162,10 +163,10 @@ module _ (t : NodeId → Option How) (p : RowPart) (m placed makes : Nodes) (was
 
   then_is : (v : Bool) (c : CellId) (n : NodeId) (a b : Bool) → makes n ≡ false → (v ≡ false → b ≡ true → Tells p n (t n)) → full_then v t (embed_cell p c n a) (step_cell m c n a b) ≡ full_after (goes v n) c b
   then_is true c n a b h k = step_full m c n a b ∙ sym (ap (λ g. full_after g c b) (void_goes n true refl h))
-  then_is false c n a b h k = ap (λ x. (seen_after x).full) (rebased-found t p m c n a b (λ _ q. put n q h) (k refl)) ∙ left_full p c n b (λ q. put n q h)
+  then_is false c n a b h k = ap (λ x. (view_after x).full) (rebased-found t p m c n a b (λ _ q. put n q h) (k refl)) ∙ left_full p c n b (λ q. put n q h)
 
-  away_is : (v : Bool) (c : CellId) (n : NodeId) (a : Bool) → is_here (how (p.goes n) (To.Cell c)) ≡ false → a ≡ false → full_after (goes v n) c a ≡ false
-  away_is v c n a e f = elim (placing v placed n) as (λ b. full_after (cond b (p.goes n) None) c a ≡ false) [ true ↦ away_full (p.goes n) c a e f | false ↦ f ]
+  away_is : (v : Bool) (c : CellId) (n : NodeId) (a : Bool) → is_here (how (p.target_of n) (To.Cell c)) ≡ false → a ≡ false → full_after (goes v n) c a ≡ false
+  away_is v c n a e f = elim (placing v placed n) as (λ b. full_after (cond b (p.target_of n) None) c a ≡ false) [ true ↦ away_full (p.target_of n) c a e f | false ↦ f ]
 
   named_is : (n : NodeId) → named n ≡ (m n || cond (was && is) (makes n) (p.mentioned n || makes n))
   named_is n = elim (was && is) as (λ z. (m n || (cond z makes (λ x. p.mentioned x || makes x)) n) ≡ (m n || cond z (makes n) (p.mentioned n || makes n))) [ true ↦ refl | false ↦ refl ]
@@ -204,12 +205,12 @@ module _ (t : NodeId → Option How) (p : RowPart) (m placed makes : Nodes) (was
 
   -- ## A cell that the change makes
 
-  made_is : (v : Bool) (o : Owned) → made_full placed o.node (is_here (how (p.goes o.node) (To.Cell o.cell))) v ≡ is_here (how (goes v o.node) (To.Cell o.cell))
+  made_is : (v : Bool) (o : Owned) → made_full placed o.node (is_here (how (p.target_of o.node) (To.Cell o.cell))) v ≡ is_here (how (goes v o.node) (To.Cell o.cell))
   made_is true o = void-made placed p o
   made_is false o = refl
 
-  put_here : (n : NodeId) (c : CellId) → is_here (how (p.goes n) (To.Cell c)) ≡ true → p.goes n ≢ None
-  put_here n c = go (p.goes n)
+  put_here : (n : NodeId) (c : CellId) → is_here (how (p.target_of n) (To.Cell c)) ≡ true → p.target_of n ≢ None
+  put_here n c = go (p.target_of n)
     where
       go : (g : Option To) → is_here (how g (To.Cell c)) ≡ true → g ≢ None
       go None e = cc
@@ -218,7 +219,7 @@ module _ (t : NodeId → Option How) (p : RowPart) (m placed makes : Nodes) (was
   new_named : (n : NodeId) → makes n ≡ true → named n ≡ true
   new_named n e = named_is n ∙ or_right (m n) (cond (was && is) (makes n) (p.mentioned n || makes n)) (elim (was && is) as (λ z. cond z (makes n) (p.mentioned n || makes n) ≡ true) [ true ↦ e | false ↦ or_right (p.mentioned n) (makes n) e ])
 
-  full_named : (v : Bool) → ((was && is) ≡ true → v ≡ true) → (n : NodeId) (c : CellId) → made_full placed n (is_here (how (p.goes n) (To.Cell c))) v ≡ true → named n ≡ true
+  full_named : (v : Bool) → ((was && is) ≡ true → v ≡ true) → (n : NodeId) (c : CellId) → made_full placed n (is_here (how (p.target_of n) (To.Cell c))) v ≡ true → named n ≡ true
   full_named v w n c e = elim (makes n) as (λ z. makes n ≡ z → named n ≡ true) [
     | true ↦ new_named n
     | false ↦ (λ h. elim (was && is) as (λ z. (was && is) ≡ z → named n ≡ true) [
@@ -227,12 +228,12 @@ module _ (t : NodeId → Option How) (p : RowPart) (m placed makes : Nodes) (was
     ] refl)
   ] refl
     where
-      made_here : (v : Bool) → made_full placed n (is_here (how (p.goes n) (To.Cell c))) v ≡ true → is_here (how (p.goes n) (To.Cell c)) ≡ true
-      made_here true e = and_first (is_here (how (p.goes n) (To.Cell c))) (placed n) e
+      made_here : (v : Bool) → made_full placed n (is_here (how (p.target_of n) (To.Cell c))) v ≡ true → is_here (how (p.target_of n) (To.Cell c)) ≡ true
+      made_here true e = and_first (is_here (how (p.target_of n) (To.Cell c))) (placed n) e
       made_here false e = e
 
-      void_full : (v : Bool) → v ≡ true → made_full placed n (is_here (how (p.goes n) (To.Cell c))) v ≡ true → placed n ≡ true
-      void_full true q e = and_second (is_here (how (p.goes n) (To.Cell c))) (placed n) e
+      void_full : (v : Bool) → v ≡ true → made_full placed n (is_here (how (p.target_of n) (To.Cell c))) v ≡ true → placed n ≡ true
+      void_full true q e = and_second (is_here (how (p.target_of n) (To.Cell c))) (placed n) e
       void_full false q e = cc
 
   one_full : (a b a' b' : Bool) → a ≡ a' → b ≡ b' → {P : Type 0} → (a ≡ true → P) → (b ≡ true → P) → a' ≢ b' → P
@@ -244,7 +245,7 @@ module _ (t : NodeId → Option How) (p : RowPart) (m placed makes : Nodes) (was
       → Led named (made_cells (void_part (placing was placed) p) os ++ c) (made_cells (void_part (placing is placed) p) os ++ d) (bridge_row was is placed t (embed_made p os ++ xs) ys)
   beside_made [] xs ys l = l
   beside_made (o ∷ os) xs ys l =
-      let put = is_here (how (p.goes o.node) (To.Cell o.cell)) in
+      let put = is_here (how (p.target_of o.node) (To.Cell o.cell)) in
       led-kept named o.cell o.node (is_here (how (goes was o.node) (To.Cell o.cell))) (is_here (how (goes is o.node) (To.Cell o.cell))) (turned o.cell o.node (made_full placed o.node put was) (made_full placed o.node put is))
       (turned_is named o.cell o.node (made_full placed o.node put was) (made_full placed o.node put is) (λ e f. full_named was (and_first was is) o.node o.cell e) ∙ (λ i. step_cell named o.cell o.node (made_is was o i) (made_is is o i)))
       (one_full (made_full placed o.node put was) (made_full placed o.node put is) (is_here (how (goes was o.node) (To.Cell o.cell))) (is_here (how (goes is o.node) (To.Cell o.cell))) (made_is was o) (made_is is o) (full_named was (and_first was is) o.node o.cell) (full_named is (and_second was is) o.node o.cell))
@@ -252,39 +253,39 @@ module _ (t : NodeId → Option How) (p : RowPart) (m placed makes : Nodes) (was
 
   -- ## The row
 
-  gained_is : (v : Bool) (c : CellId) (n : NodeId) (b : Bool) → makes n ≡ false → (v ≡ false → p.goes n ≢ Some (To.Cell c)) → (v ≡ false → b ≡ true → Tells p n (t n)) → gained_full t c n b v ≡ full_after (goes v n) c b
+  gained_is : (v : Bool) (c : CellId) (n : NodeId) (b : Bool) → makes n ≡ false → (v ≡ false → p.target_of n ≢ Some (To.Cell c)) → (v ≡ false → b ≡ true → Tells p n (t n)) → gained_full t c n b v ≡ full_after (goes v n) c b
   gained_is true c n b h g k = sym (ap (λ g. full_after g c b) (void_goes n true refl h))
-  gained_is false c n b h g k = ap (λ x. (seen_after x).full) (gained-found t p c n b (g refl) (k refl)) ∙ left_full p c n b (λ q. put n q h)
+  gained_is false c n b h g k = ap (λ x. (view_after x).full) (gained-found t p c n b (g refl) (k refl)) ∙ left_full p c n b (λ q. put n q h)
 
-  beside_cells : {c d : List Slot} (g : Grows SameCell c d) → NoGroupAtGained p g → AreOld makes c → AreOld makes d → NamesMoved m g → (is ≡ false → NamesNoGained p g) → (is ≡ false → (n : NodeId) → StandsIn n d → Tells p n (t n))
+  beside_cells : {c d : List Slot} (g : GainsItems SameCell c d) → NoGroupAtGained p g → AreOld makes c → AreOld makes d → NamesMoved m g → (is ≡ false → NamesNoGained p g) → (is ≡ false → (n : NodeId) → StandsIn n d → Tells p n (t n))
       → Led named (carried_cells (void_part (placing was placed) p) c) (carried_cells (void_part (placing is placed) p) d) (bridge_row was is placed t (embed_cells p c) (step_row m g))
-  beside_cells done z o q w h k = (done, refl, tt)
-  beside_cells (gained {y = s} {xs = c} {ys = d} g) z o q w h k =
+  beside_cells no_more z o q w h k = (no_more, refl, tt)
+  beside_cells (item_gained {y = s} {xs = c} {ys = d} g) z o q w h k =
       let rest = beside_cells g z.1 o q.1 w (λ e. (h e).2) (λ e n x. k e n (inr x)) in
       rw z.0 (subst (Led named (carried_cells (void_part (placing was placed) p) c) (record s { full = full_after (goes is s.node) s.cell s.full } ∷ carried_cells (void_part (placing is placed) p) d))
       ((λ i. Make s.cell s.node (sym (gained_is is s.cell s.node s.full q.0 (λ e. (h e).1) (λ e r. k e s.node (inl (refl, r)))) i) ∷ bridge_row was is placed t (embed_cells p c) (step_row m g))
       ∙ sym (beside-gained (bridged_piece was is placed t) p c s.cell s.node s.full (step_row m g)))
       (led-gained named s.cell s.node (full_after (goes is s.node) s.cell s.full) rest))
-  beside_cells (kept {x = s} {y = u} {xs = c} {ys = d} a g) z o q w h k =
+  beside_cells (item_kept {x = s} {y = u} {xs = c} {ys = d} a g) z o q w h k =
       let same : ◌≡◌ {A = Slot} (record { cell = s.cell; node = s.node; full = u.full }) u = λ i. record { cell = a.0 i; node = a.1 i; full = u.full } in
-      let rest = beside_made (p.made (Some s.cell)) (embed_cells p c) (step_row m g) (beside_cells g z o.1 q.1 w.1 h (λ e n x. k e n (inr x))) in
+      let rest = beside_made (p.new_cells (Some s.cell)) (embed_cells p c) (step_row m g) (beside_cells g z o.1 q.1 w.1 h (λ e n x. k e n (inr x))) in
       let one = led-kept named s.cell s.node (full_after (goes was s.node) s.cell s.full) (full_after (goes is s.node) s.cell u.full) (bridged was is t (embed_cell p s.cell s.node s.full) (step_cell m s.cell s.node s.full u.full))
       (found_is s.cell s.node s.full u.full o.0 (λ e r. subst (λ n. Tells p n (t n)) (sym a.1) (k e u.node (inl (refl, r))))) (found_moved s.cell s.node s.full u.full o.0 w.0) rest in
       subst (λ (v : Slot). Led named (carried_cells (void_part (placing was placed) p) (s ∷ c)) (carried_cells (void_part (placing is placed) p) (v ∷ d)) (bridge_row was is placed t (embed_cells p (s ∷ c)) (step_cell m s.cell s.node s.full u.full ∷ step_row m g))) same
       (subst (Led named (carried_cells (void_part (placing was placed) p) (s ∷ c)) (carried_cells (void_part (placing is placed) p) (record { cell = s.cell; node = s.node; full = u.full } ∷ d)))
-      (sym (beside-kept (bridged_piece was is placed t) p m s.cell s.node s.full u.full (embed_made p (p.made (Some s.cell)) ++ embed_cells p c) (step_row m g))) one)
+      (sym (beside-kept (bridged_piece was is placed t) p m s.cell s.node s.full u.full (embed_made p (p.new_cells (Some s.cell)) ++ embed_cells p c) (step_row m g))) one)
 
   row_is : (v : Bool) (c : List Slot) → carried_row (void_part (placing v placed) p) c ≡ row_after placed p v c
   row_is true c = refl
   row_is false c = refl
 
   -- the law of the bridge, with a look-up that tells what it has to
-  pub bridge_row-embed_row : {c d : List Slot} (g : Grows SameCell c d) → NoGroupAtGained p g → AreOld makes c → AreOld makes d → NamesMoved m g → (is ≡ false → NamesNoGained p g) → (is ≡ false → (n : NodeId) → StandsIn n d → Tells p n (t n))
+  pub bridge_row-embed_row : {c d : List Slot} (g : GainsItems SameCell c d) → NoGroupAtGained p g → AreOld makes c → AreOld makes d → NamesMoved m g → (is ≡ false → NamesNoGained p g) → (is ≡ false → (n : NodeId) → StandsIn n d → Tells p n (t n))
       → Led named (row_after placed p was c) (row_after placed p is d) (bridge_row was is placed t (embed_row p c) (step_row m g))
   bridge_row-embed_row {c} {d} g z o q w h k =
       subst (λ (x : List Slot). Led named x (row_after placed p is d) (bridge_row was is placed t (embed_row p c) (step_row m g))) (row_is was c)
       (subst (λ (x : List Slot). Led named (carried_row (void_part (placing was placed) p) c) x (bridge_row was is placed t (embed_row p c) (step_row m g))) (row_is is d)
-      (beside_made (p.made None) (embed_cells p c) (step_row m g) (beside_cells g z o q w h k)))
+      (beside_made (p.new_cells None) (embed_cells p c) (step_row m g) (beside_cells g z o q w h k)))
 
 -- only new nodes are placed
 pub placed_new : (in_new : Bool) (new : List NodeId) (n : NodeId) → is_among new n ≡ false → placed_by in_new new n ≡ false

@@ -4,17 +4,17 @@ use Rattle.st_ids.specs.declared.names.CellId.{CellId}
 use Rattle.st_ids.specs.declared.names.NodeId.{NodeId}
 use Rattle.st_marks.specs.declared.marks.How.TheVariants.{Stay, Leave}
 use Rattle.st_marks.specs.declared.places.Slot.{Slot}
-use Rattle.st_marks.specs.Extends.{Grows, done, gained, kept}
+use Rattle.st_marks.specs.Extends.{GainsItems, no_more, item_gained, item_kept}
 use Rattle.st_marks.specs.Row.{CellMark, Counted, Touch, Make, Fill, SameCell, step_cell, step_row}
 use Rattle.st_seq.specs.Cells.{composed, compose_row}
 use Rattle.st_kind.specs.Named.{either}
 use Rattle.st_seq.specs.Rows.{NamesLeavers}
 
-abbrev pub grows_on : {c d e : List Slot} → Grows SameCell c d → Grows SameCell d e → Grows SameCell c e
-grows_on g done = g
-grows_on g (gained h) = gained (grows_on g h)
-grows_on (gained g) (kept a h) = gained (grows_on g h)
-grows_on (kept a g) (kept b h) = kept (a.0 ∙ b.0, a.1 ∙ b.1) (grows_on g h)
+abbrev pub grows_on : {c d e : List Slot} → GainsItems SameCell c d → GainsItems SameCell d e → GainsItems SameCell c e
+grows_on g no_more = g
+grows_on g (item_gained h) = item_gained (grows_on g h)
+grows_on (item_gained g) (item_kept a h) = item_gained (grows_on g h)
+grows_on (item_kept a g) (item_kept b h) = item_kept (a.0 ∙ b.0, a.1 ∙ b.1) (grows_on g h)
 
 compose-step_cell : (x : CellMark) (xs ys : List CellMark) (m : NodeId → Bool) (c : CellId) (n : NodeId) (a b : Bool) → compose_row (x ∷ xs) (step_cell m c n a b ∷ ys) ≡ composed x (step_cell m c n a b) ∷ compose_row xs ys
 compose-step_cell x xs ys m c n true true =
@@ -53,13 +53,13 @@ composed-step_cell m k c n false true false h = refl
 composed-step_cell m k c n false false true h = refl
 composed-step_cell m k c n false false false h = refl
 
-pub compose_row-step_row : (m k : NodeId → Bool) {d e : List Slot} (h : Grows SameCell d e) {c : List Slot} (g : Grows SameCell c d) → NamesLeavers m g → compose_row (step_row m g) (step_row k h) ≡ step_row (either m k) (grows_on g h)
-compose_row-step_row m k done done l = refl
-compose_row-step_row m k (gained {y = t} h) g l = ap (λ l. Make t.cell t.node t.full ∷ l) (compose_row-step_row m k h g l)
-compose_row-step_row m k (kept {y = t} a h) (gained {y = s} g) l =
+pub compose_row-step_row : (m k : NodeId → Bool) {d e : List Slot} (h : GainsItems SameCell d e) {c : List Slot} (g : GainsItems SameCell c d) → NamesLeavers m g → compose_row (step_row m g) (step_row k h) ≡ step_row (either m k) (grows_on g h)
+compose_row-step_row m k no_more no_more l = refl
+compose_row-step_row m k (item_gained {y = t} h) g l = ap (λ l. Make t.cell t.node t.full ∷ l) (compose_row-step_row m k h g l)
+compose_row-step_row m k (item_kept {y = t} a h) (item_gained {y = s} g) l =
     compose-step_cell (Make s.cell s.node s.full) (step_row m g) (step_row k h) k s.cell s.node s.full t.full
     ∙ (λ i. (composed-made k s.cell s.node s.full t.full ∙ (λ j. Make (a.0 j) (a.1 j) t.full)) i ∷ compose_row-step_row m k h g l i)
-compose_row-step_row m k (kept {y = t} b h) (kept {x = r} {y = s} a g) l =
+compose_row-step_row m k (item_kept {y = t} b h) (item_kept {x = r} {y = s} a g) l =
     compose-step_cell (step_cell m r.cell r.node r.full s.full) (step_row m g) (step_row k h) k s.cell s.node s.full t.full
     ∙ (λ i. (ap (λ (x : CellMark). composed (step_cell m r.cell r.node r.full s.full) x) (λ j. step_cell k (sym a.0 j) (sym a.1 j) s.full t.full) ∙ composed-step_cell m k r.cell r.node r.full s.full t.full l.0) i ∷ compose_row-step_row m k h g l.1 i)
 
@@ -70,11 +70,11 @@ pub or_right : (a b : Bool) → b ≡ true → (a || b) ≡ true
 or_right true b e = refl
 or_right false b e = e
 
-pub leavers_named : (m k : NodeId → Bool) {d e : List Slot} (h : Grows SameCell d e) {c : List Slot} (g : Grows SameCell c d) → NamesLeavers m g → NamesLeavers k h → NamesLeavers (either m k) (grows_on g h)
-leavers_named m k done done l r = tt
-leavers_named m k (gained h) g l r = leavers_named m k h g l r
-leavers_named m k (kept b h) (gained g) l r = leavers_named m k h g l r.1
-leavers_named m k (kept {y = u} b h) (kept {x = s} {y = t} a g) l r = (λ e f. changed t.full refl e f, leavers_named m k h g l.1 r.1)
+pub leavers_named : (m k : NodeId → Bool) {d e : List Slot} (h : GainsItems SameCell d e) {c : List Slot} (g : GainsItems SameCell c d) → NamesLeavers m g → NamesLeavers k h → NamesLeavers (either m k) (grows_on g h)
+leavers_named m k no_more no_more l r = tt
+leavers_named m k (item_gained h) g l r = leavers_named m k h g l r
+leavers_named m k (item_kept b h) (item_gained g) l r = leavers_named m k h g l r.1
+leavers_named m k (item_kept {y = u} b h) (item_kept {x = s} {y = t} a g) l r = (λ e f. changed t.full refl e f, leavers_named m k h g l.1 r.1)
   where
     changed : (x : Bool) → t.full ≡ x → s.full ≡ true → u.full ≡ false → (m s.node || k s.node) ≡ true
     changed true q e f = or_right (m s.node) (k s.node) (ap k a.1 ∙ r.0 q f)

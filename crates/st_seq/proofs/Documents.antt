@@ -23,7 +23,7 @@ use Rattle.st_marks.proofs.Full.{known_put}
 use Rattle.st_marks.proofs.Lookups.{group_at-group, group_found, made_there, put-has}
 use Rattle.st_marks.proofs.Members.{all-has, append_left, distinct-append, distinct-has, first-has, flat_map-has, has-all, has-flat_map, has-map, list_distinct, map-has, one_list}
 use Rattle.st_seq.specs.Changes.{StandsIn}
-use Rattle.st_seq.specs.Sequence.{CanHold, FitsIn, ListsNew, SeqPart, cells_of, made_in, part_of, standing}
+use Rattle.st_seq.specs.Sequence.{RowCanHold, RowFits, ListsNew, SeqPart, cells_of, made_in, row_part_of, standing}
 use Rattle.st_seq.proofs.Telling.{any_has}
 use Rattle.st_seq.proofs.Truth.{not_so, true_false}
 
@@ -79,7 +79,7 @@ root_nowhere D h [] w = w
 root_nowhere D h (o ∷ os) (inl w) = let q : ◌≡◌ {A = Bool} false true = sym (ap (is_cell o.cell) (ap D.place w.0 ∙ h)) ∙ w.1 in cc
 root_nowhere D h (o ∷ os) (inr w) = root_nowhere D h os w
 
-pub can_hold : (D : Document) → IsSoundInForm D → (n : NodeId) → CanHold (content D n)
+pub can_hold : (D : Document) → IsSoundInForm D → (n : NodeId) → RowCanHold (content D n)
 can_hold D x n = record {
   once = slots_once D (D.rows n) (x.once n);
   stand_once = stands_once D (D.rows n) (x.once n);
@@ -108,7 +108,7 @@ distinct-flat_map f key (x ∷ xs) o h k = distinct-append key (f x) (flat_map f
 
 module _ (D : Document) (N : Intent) (m : Nodes) (new : List NodeId) (n : NodeId) (x : IsSoundInForm D) (w : Fits D N) (listed : ListsNew N new) (mentions : (k : NodeId) → IsMentionedByIntent D N k → m k ≡ true) where
   abbrev p : SeqPart
-  p = part_of m new N n
+  p = row_part_of m new N n
 
   abbrev c : List Slot
   c = content D n
@@ -122,17 +122,17 @@ module _ (D : Document) (N : Intent) (m : Nodes) (new : List NodeId) (n : NodeId
   abbrev anchors : List (Option CellId)
   anchors = None ∷ map (λ (s : Slot). Some s.cell) c
 
-  made_all : made_in p.does c ≡ flat_map (group_at N n) anchors
+  made_all : made_in p.part c ≡ flat_map (group_at N n) anchors
   made_all = ap (λ l. group_at N n None ++ l) (sym (flat_map-map (group_at N n) (λ (s : Slot). Some s.cell) c))
 
-  is_made : (o : Owned) → Has (made_in p.does c) o → Has (group_cells N) o
+  is_made : (o : Owned) → Has (made_in p.part c) o → Has (group_cells N) o
   is_made o v =
       let r = has-flat_map (group_at N n) anchors o (subst (λ l. Has l o) made_all v) in
       let g = group_at-group N n r.0 o r.2 in
       flat_map-has (λ (g : Group). g.cells) N.groups g.group o g.listed g.cell
 
-  over_made : (P : Owned → Type 0) → ((o : Owned) → Has (group_cells N) o → P o) → AllByRecursion P (made_in p.does c)
-  over_made P h = has-all P (made_in p.does c) (λ o v. h o (is_made o v))
+  over_made : (P : Owned → Type 0) → ((o : Owned) → Has (group_cells N) o → P o) → AllByRecursion P (made_in p.part c)
+  over_made P h = has-all P (made_in p.part c) (λ o v. h o (is_made o v))
 
   new_cell : (o : Owned) → Has (group_cells N) o → D.row_of o.cell ≡ None
   new_cell o v = w.fresh_cells o.cell (made_there N o v)
@@ -164,7 +164,7 @@ module _ (D : Document) (N : Intent) (m : Nodes) (new : List NodeId) (n : NodeId
           let same : group_at N n a ≡ g.group.cells = (λ i. group_at N (sym g.node i) (sym g.after i)) ∙ group_found N w.itself g.group g.listed in
           subst (AreDistinct (λ (o : Owned). o.cell)) (sym same ∙ e) (list_distinct (λ (g : Group). g.cells) (λ (o : Owned). o.cell) N.groups g.group w.itself.cell_once g.listed)
 
-  made_once : AreDistinct (λ (o : Owned). o.cell) (made_in p.does c)
+  made_once : AreDistinct (λ (o : Owned). o.cell) (made_in p.part c)
   made_once = subst (AreDistinct (λ (o : Owned). o.cell)) (sym made_all) (distinct-flat_map (group_at N n) (λ (o : Owned). o.cell) anchors anchors_once group_once (λ a b o q v u e.
       let g = group_at-group N n a o v in
       let k = group_at-group N n b q u in
@@ -241,7 +241,7 @@ module _ (D : Document) (N : Intent) (m : Nodes) (new : List NodeId) (n : NodeId
   is_some_put None h = cc
   is_some_put (Some to) h = λ e. cc
 
-  pub part_fits : FitsIn p c
+  pub part_fits : RowFits p c
   part_fits = record {
     content = can_hold D x n;
     empty = rows_empty;

@@ -21,12 +21,13 @@ use Rattle.st_marks.specs.Embedding.{row_part}
 use Rattle.std.specs.List.{find}
 use Rattle.st_seq.proofs.Documents.{not_made}
 use Rattle.st_seq.proofs.Rebased.{same_put}
-use Rattle.st_marks.specs.Row.{RowPart, how, is_here, same_to}
+use Rattle.st_marks.specs.Row.{RowPart, how, same_to}
+use Rattle.st_marks.specs.How.{is_here}
 use Rattle.st_marks.proofs.Climb.{is_cell-true}
 use Rattle.st_marks.proofs.Lookups.{group_at-group, made_there, new_row_of-group}
 use Rattle.st_marks.proofs.Members.{flat_map-has}
 use Rattle.st_seq.specs.Changes.{carried_cells, carried_row, full_after, made_cells, placed_by, void_part}
-use Rattle.st_seq.specs.Sequence.{ListsNew, carried_to, part_of}
+use Rattle.st_seq.specs.Sequence.{ListsNew, row_carried, row_part_of}
 use Rattle.st_seq.proofs.Truth.{not_so, true_false}
 
 same_turned : (a b : CellId) → same_cell a b ≡ same_cell b a
@@ -80,13 +81,13 @@ module _ (D : Document) (N : Intent) (n : NodeId) (x : IsSoundInForm D) (w : Fit
   here_full None a b e = e
   here_full (Some to) a b e = elim (same_to to (To.Cell a)) as (λ z. z ≡ is_here (cond z Here Leave)) [ true ↦ refl | false ↦ refl ]
 
-  module _ (p : RowPart) (made : (a : Option CellId) → p.made a ≡ group_at N n a) (goes : (k : NodeId) → p.goes k ≡ put_of N k) where
-    made_slot : (a : Option CellId) (o : Owned) → Has (group_at N n a) o → (slot (full D N) o).full ≡ is_here (how (p.goes o.node) (To.Cell o.cell))
+  module _ (p : RowPart) (made : (a : Option CellId) → p.made a ≡ group_at N n a) (target_of : (k : NodeId) → p.target_of k ≡ put_of N k) where
+    made_slot : (a : Option CellId) (o : Owned) → Has (group_at N n a) o → (slot (full D N) o).full ≡ is_here (how (p.target_of o.node) (To.Cell o.cell))
     made_slot a o v =
         let r = grouped a o v in
         place_full o.cell o.node n r.1 (put_of N o.node) ∙ here_full (put_of N o.node) o.cell (is_cell o.cell (D.place o.node)) (not_yet o r.0 o.node) ∙ ap (λ g. is_here (how g (To.Cell o.cell))) (sym (goes o.node))
 
-    made_slots : (os : List Owned) → ((o : Owned) → Has os o → (slot (full D N) o).full ≡ is_here (how (p.goes o.node) (To.Cell o.cell))) → (xs : List Owned) (ys : List Slot) → map (slot (full D N)) xs ≡ ys → map (slot (full D N)) (os ++ xs) ≡ made_cells p os ++ ys
+    made_slots : (os : List Owned) → ((o : Owned) → Has os o → (slot (full D N) o).full ≡ is_here (how (p.target_of o.node) (To.Cell o.cell))) → (xs : List Owned) (ys : List Slot) → map (slot (full D N)) xs ≡ ys → map (slot (full D N)) (os ++ xs) ≡ made_cells p os ++ ys
     made_slots [] h xs ys e = e
     made_slots (o ∷ os) h xs ys e = λ i. record { cell = o.cell; node = o.node; full = h o (inl refl) i } ∷ made_slots os (λ q v. h q (inr v)) xs ys e i
 
@@ -97,11 +98,11 @@ module _ (D : Document) (N : Intent) (n : NodeId) (x : IsSoundInForm D) (w : Fit
         ∷ (made_slots (group_at N n (Some o.cell)) (made_slot (Some o.cell)) (with_groups N n os) (carried_cells p (map (slot D) os)) (old_slots os (λ q v. h q (inr v)))
         ∙ ap (λ l. made_cells p l ++ carried_cells p (map (slot D) os)) (sym (made (Some o.cell)))) i
 
-    pub whole_row : content (full D N) n ≡ made_cells p (p.made None) ++ carried_cells p (content D n)
+    pub whole_row : content (full D N) n ≡ made_cells p (p.new_cells None) ++ carried_cells p (content D n)
     whole_row = made_slots (group_at N n None) (made_slot None) (with_groups N n (D.rows n)) (carried_cells p (content D n)) (old_slots (D.rows n) (λ o v. v)) ∙ ap (λ l. made_cells p l ++ carried_cells p (content D n)) (sym (made None))
 
-  pub whole_is : (m : Nodes) (new : List NodeId) → content (full D N) n ≡ carried_to (part_of m new N n) false (content D n)
-  whole_is m new = whole_row (part_of m new N n).does (λ a. refl) (λ k. refl)
+  pub whole_is : (m : Nodes) (new : List NodeId) → content (full D N) n ≡ row_carried (row_part_of m new N n) false (content D n)
+  whole_is m new = whole_row (row_part_of m new N n).part (λ a. refl) (λ k. refl)
 
   -- ## Void
 
@@ -126,7 +127,7 @@ module _ (D : Document) (N : Intent) (n : NodeId) (x : IsSoundInForm D) (w : Fit
     abbrev place : NodeId → Spot
     place k = cond (is_new N k && is_put_in_new D N k) (place_after row_of N (put_of N k) (D.place k)) (D.place k)
 
-    old_full : (o : Owned) → Has (D.rows n) o → is_cell o.cell (place o.node) ≡ full_after (p.goes o.node) o.cell (is_cell o.cell (D.place o.node))
+    old_full : (o : Owned) → Has (D.rows n) o → is_cell o.cell (place o.node) ≡ full_after (p.target_of o.node) o.cell (is_cell o.cell (D.place o.node))
     old_full o v =
         ap (λ b. is_cell o.cell (cond (b && is_put_in_new D N o.node) (place_after row_of N (put_of N o.node) (D.place o.node)) (D.place o.node))) (old_owner o v)
         ∙ sym (ap (λ b. full_after (cond b (put_of N o.node) None) o.cell (is_cell o.cell (D.place o.node))) (not_placed o.node (old_owner o v)))
@@ -139,8 +140,8 @@ module _ (D : Document) (N : Intent) (n : NodeId) (x : IsSoundInForm D) (w : Fit
     elsewhere true to a e = ap (λ z. is_here (cond z Here Leave)) e
     elsewhere false to a e = refl
 
-    made_full : (a : Option CellId) (o : Owned) → Has (group_at N n a) o → is_cell o.cell (place o.node) ≡ is_here (how (p.goes o.node) (To.Cell o.cell))
-    made_full a o v = elim (is_new N o.node) as (λ u. is_new N o.node ≡ u → is_cell o.cell (cond (u && is_put_in_new D N o.node) (place_after row_of N (put_of N o.node) (D.place o.node)) (D.place o.node)) ≡ is_here (how (p.goes o.node) (To.Cell o.cell))) [
+    made_full : (a : Option CellId) (o : Owned) → Has (group_at N n a) o → is_cell o.cell (place o.node) ≡ is_here (how (p.target_of o.node) (To.Cell o.cell))
+    made_full a o v = elim (is_new N o.node) as (λ u. is_new N o.node ≡ u → is_cell o.cell (cond (u && is_put_in_new D N o.node) (place_after row_of N (put_of N o.node) (D.place o.node)) (D.place o.node)) ≡ is_here (how (p.target_of o.node) (To.Cell o.cell))) [
       | true ↦ (λ e. put_by (put_of N o.node) ∙ ap (λ b. is_here (how (cond (is_new N n && b) (put_of N o.node) None) (To.Cell o.cell))) (sym (listed.each o.node ∙ e)))
       | false ↦ (λ e. away ∙ sym (ap (λ b. is_here (how (cond b (put_of N o.node) None) (To.Cell o.cell))) (not_placed o.node e)))
     ] refl
@@ -174,7 +175,7 @@ module _ (D : Document) (N : Intent) (n : NodeId) (x : IsSoundInForm D) (w : Fit
           | false ↦ (λ e. either_spot (leads_new (Some to)) (spot_of row_of to) (put_full row_of o.cell n there to ∙ e) ∙ sym (elsewhere (is_new N n && true) to o.cell e))
         ] refl
 
-    void_made : (os : List Owned) → ((o : Owned) → Has os o → is_cell o.cell (place o.node) ≡ is_here (how (p.goes o.node) (To.Cell o.cell))) → (xs : List Owned) (ys : List Slot) → map (slot (void_data D N)) xs ≡ ys → map (slot (void_data D N)) (os ++ xs) ≡ made_cells p os ++ ys
+    void_made : (os : List Owned) → ((o : Owned) → Has os o → is_cell o.cell (place o.node) ≡ is_here (how (p.target_of o.node) (To.Cell o.cell))) → (xs : List Owned) (ys : List Slot) → map (slot (void_data D N)) xs ≡ ys → map (slot (void_data D N)) (os ++ xs) ≡ made_cells p os ++ ys
     void_made [] h xs ys e = e
     void_made (o ∷ os) h xs ys e = λ i. record { cell = o.cell; node = o.node; full = h o (inl refl) i } ∷ void_made os (λ q v. h q (inr v)) xs ys e i
 
@@ -195,7 +196,7 @@ module _ (D : Document) (N : Intent) (n : NodeId) (x : IsSoundInForm D) (w : Fit
     same_slots e (o ∷ os) h = λ i. record { cell = o.cell; node = o.node; full = sym (ap (λ b. full_after (cond b (put_of N o.node) None) o.cell (is_cell o.cell (D.place o.node))) (not_placed o.node (old_owner o (h o (inl refl))))) i }
         ∷ (same_slots e os (λ q v. h q (inr v)) ∙ ap (λ l. made_cells p l ++ carried_cells p (map (slot D) os)) (sym (unmade e (Some o.cell)))) i
 
-    pub void_is : content (void D N) n ≡ carried_to (part_of m new N n) true (content D n)
+    pub void_is : content (void D N) n ≡ row_carried (row_part_of m new N n) true (content D n)
     void_is = go N.schema refl
       where
         alone : (q : Option (List ℕ)) → N.schema ≡ q → is_some q ≡ true → N.groups ≡ []

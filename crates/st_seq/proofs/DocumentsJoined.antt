@@ -16,12 +16,13 @@ use Rattle.st_marks.specs.Document.{Document, IsSoundInForm, NodeType, content, 
 use Rattle.st_marks.specs.Embedding.{row_part}
 use Rattle.st_marks.specs.Intent.{clears, group_at, group_cells, is_new, new_node, new_row_of, put_of}
 use Rattle.st_marks.specs.Join.{AreParts, IsJoin, IsOldAnchor, put_unless_new, unless_cleared_by}
-use Rattle.st_marks.specs.Row.{how, is_here}
+use Rattle.st_marks.specs.Row.{how}
+use Rattle.st_marks.specs.How.{is_here}
 use Rattle.st_marks.proofs.Full.{known_put}
 use Rattle.st_marks.proofs.Lookups.{group_at-group, made_there}
 use Rattle.st_marks.proofs.Members.{flat_map-has, has-all}
-use Rattle.st_seq.specs.Changes.{StandsIn, goes_in_turn, woven}
-use Rattle.st_seq.specs.Sequence.{AreJoinedIn, ListsNew, cells_of, part_of}
+use Rattle.st_seq.specs.Changes.{StandsIn, goes_in_turn, interleaved_cells}
+use Rattle.st_seq.specs.Sequence.{RowPartsAreJoined, ListsNew, cells_of, row_part_of}
 use Rattle.st_seq.proofs.Documents.{in_document, is_slot, not_made}
 
 -- ## Names
@@ -39,11 +40,11 @@ new_in_either N M J j n = ap (λ (o : Option NewNode). is_some (option_map type_
 -- ## Groups
 
 -- the two recursions through a list of cells are one
-same_weave : (k : Nodes) (M : Intent) (n : NodeId) (os : List Owned) → with_groups M n os ≡ woven (row_part k M n) os
+same_weave : (k : Nodes) (M : Intent) (n : NodeId) (os : List Owned) → with_groups M n os ≡ interleaved_cells (row_part k M n) os
 same_weave k M n [] = refl
 same_weave k M n (o ∷ os) = ap (λ l. o ∷ (group_at M n (Some o.cell) ++ l)) (same_weave k M n os)
 
-joined_groups : (k : Nodes) (N M J : Intent) (n : NodeId) (a : Option CellId) → IsJoin N M J → IsOldAnchor N a → group_at J n a ≡ group_at M n a ++ woven (row_part k M n) (group_at N n a)
+joined_groups : (k : Nodes) (N M J : Intent) (n : NodeId) (a : Option CellId) → IsJoin N M J → IsOldAnchor N a → group_at J n a ≡ group_at M n a ++ interleaved_cells (row_part k M n) (group_at N n a)
 joined_groups k N M J n a j h = j.groups n a h ∙ ap (λ l. group_at M n a ++ l) (same_weave k M n (group_at N n a))
 
 none_of : (o : Option NodeId) → (IsSome o → ⊥) → o ≡ None
@@ -100,7 +101,7 @@ module _ (D : Document) (N M J : Intent) (m k l : Nodes) (a b c : List NodeId) (
       standing_slot (s ∷ d) (inl e) = (s, inl refl, e.0)
       standing_slot (s ∷ d) (inr w) = let r = standing_slot d w in (r.0, inr r.1, r.2)
 
-  goes : (y : NodeId) (e : CellId) → StandsIn y (content D n) → how (put_of J y) (To.Cell e) ≡ how (goes_in_turn (row_part m N n) (row_part k M n) y) (To.Cell e)
+  target_of : (y : NodeId) (e : CellId) → StandsIn y (content D n) → how (put_of J y) (To.Cell e) ≡ how (goes_in_turn (row_part m N n) (row_part k M n) y) (To.Cell e)
   goes y e h =
       let put : put_of J y ≡ option_or (put_of M y) (option_map (unless_cleared_by M) (put_of N y)) =
       j.puts y ∙ (λ i. option_and_then (put_unless_new (old_node y h i)) (option_or (put_of M y) (option_map (unless_cleared_by M) (put_of N y)))) ∙ old_put (option_or (put_of M y) (option_map (unless_cleared_by M) (put_of N y))) in
@@ -127,17 +128,17 @@ module _ (D : Document) (N M J : Intent) (m k l : Nodes) (a b c : List NodeId) (
       never None None (inl s) f = cc
       never None None (inr s) f = cc
 
-  pub parts_join : AreJoinedIn (part_of m a N n) (part_of k b M n) (content D n) (part_of l c J n)
+  pub parts_join : RowPartsAreJoined (row_part_of m a N n) (row_part_of k b M n) (content D n) (row_part_of l c J n)
   parts_join = record {
     rev = sym j.rev;
     in_new = new_in_either N M J j n;
     rising = listJ.rising;
     new = λ y. listJ.each y ∙ new_in_either N M J j y ∙ (λ i. sym (listN.each y) i || sym (listM.each y) i);
-    does = record {
+    part = record {
       first = joined_groups k N M J n None j tt;
       behind = λ e h. joined_groups k N M J n (Some e) j (old_anchor e h);
       mentions = mentions;
-      goes = goes;
+      target_of = goes;
       comes = comes;
       older = λ e. has-all (λ (o : Owned). put_of N o.node ≢ Some (To.Cell o.cell)) (group_at M n e) (λ o h. older o (let g = group_at-group M n e o h in flat_map-has (λ (g : Group). g.cells) M.groups g.group o g.listed g.cell));
     };

@@ -9,19 +9,19 @@ use Rattle.st_marks.specs.declared.places.Slot.{Slot}
 use Rattle.st_marks.specs.declared.steps.Step.{Step}
 use Rattle.st_marks.specs.Document.{Document, content, is_cell}
 use Rattle.st_marks.specs.Embedding.{row_marks, tells}
-use Rattle.st_marks.specs.Extends.{Grows, IsExtendedBy, done, gained, kept}
+use Rattle.st_marks.specs.Extends.{GainsItems, IsExtendedBy, no_more, item_gained, item_kept}
 use Rattle.st_marks.specs.Row.{SameCell, embed_row, merge, spread, step_row}
 use Rattle.st_marks.specs.Step.{IsStep}
 use Rattle.st_seq.specs.Laws.{same_grown, spread-merge, spread_of}
 use Rattle.st_seq.specs.Rows.{NamesMoved}
-use Rattle.st_seq.specs.Sequence.{LeadsOver, SeqPart, change_of}
+use Rattle.st_seq.specs.Sequence.{RowLeadsOver, SeqPart, row_change_of}
 use Rattle.st_seq.proofs.Documents.{can_hold, is_slot}
 
-pub change_is : (p : SeqPart) (c : List Slot) (n : NodeId) → row_marks n (embed_row p.does c)
-    ≡ cond (list_any tells (spread (change_of p c).marks)) (Some (record { node = n; marks = (change_of p c).marks })) None
-change_is p c n = ap (λ xs. cond (list_any tells xs) (Some (record { node = n; marks = merge (embed_row p.does c) })) None) (sym (spread-merge (embed_row p.does c)))
+pub change_is : (p : SeqPart) (c : List Slot) (n : NodeId) → row_marks n (embed_row p.part c)
+    ≡ cond (list_any tells (spread (row_change_of p c).marks)) (Some (record { node = n; marks = (row_change_of p c).marks })) None
+change_is p c n = ap (λ xs. cond (list_any tells xs) (Some (record { node = n; marks = merge (embed_row p.part c) })) None) (sym (spread-merge (embed_row p.part c)))
 
-pub step_is : (m : Nodes) (c d : List Slot) (marks : List Mark) (n : NodeId) → LeadsOver m c d marks → (g : Grows SameCell c d)
+pub step_is : (m : Nodes) (c d : List Slot) (marks : List Mark) (n : NodeId) → RowLeadsOver m c d marks → (g : GainsItems SameCell c d)
     → row_marks n (step_row m g) ≡ cond (list_any tells (spread marks)) (Some (record { node = n; marks = marks })) None
 step_is m c d marks n l g =
     let one : step_row m g ≡ step_row m l.step.grows = (same_grown m g l.step.grows l.after.once).0 in
@@ -30,10 +30,10 @@ step_is m c d marks n l g =
     λ i. cond (list_any tells (lists i)) (Some (record { node = n; marks = says i })) None
 
 -- a node is named where its cell is full before and not after, or after and not before
-names_moved : (m : Nodes) {c d : List Slot} (g : Grows SameCell c d) → ((s t : Slot) → Has c s → Has d t → SameCell s t → s.full ≢ t.full → m s.node ≡ true) → NamesMoved m g
-names_moved m done h = tt
-names_moved m (gained g) h = names_moved m g (λ s t v w same q. h s t v (inr w) same q)
-names_moved m (kept {x = s} {y = t} same g) h = (λ q. h s t (inl refl) (inl refl) same q, names_moved m g (λ x y v w one q. h x y (inr v) (inr w) one q))
+names_moved : (m : Nodes) {c d : List Slot} (g : GainsItems SameCell c d) → ((s t : Slot) → Has c s → Has d t → SameCell s t → s.full ≢ t.full → m s.node ≡ true) → NamesMoved m g
+names_moved m no_more h = tt
+names_moved m (item_gained g) h = names_moved m g (λ s t v w same q. h s t v (inr w) same q)
+names_moved m (item_kept {x = s} {y = t} same g) h = (λ q. h s t (inl refl) (inl refl) same q, names_moved m g (λ x y v w one q. h x y (inr v) (inr w) one q))
 
 module _ (D E : Document) (S : Step) (n : NodeId) (s : IsStep D E S) (x : IsExtendedBy D E) where
   moved : (a b : Slot) → Has (content D n) a → Has (content E n) b → SameCell a b → a.full ≢ b.full → s.mentioned a.node ≡ true
@@ -47,7 +47,7 @@ module _ (D E : Document) (S : Step) (n : NodeId) (s : IsStep D E S) (x : IsExte
       (s.which a.node).1 (a.node, (known, inl apart), 0, refl)
 
   -- the step of a whole step leads from the row to the row after it
-  pub document_is : LeadsOver s.mentioned (content D n) (content E n) (merge (step_row s.mentioned (s.grows n)))
+  pub document_is : RowLeadsOver s.mentioned (content D n) (content E n) (merge (step_row s.mentioned (s.grows n)))
   document_is = record {
     before = can_hold D x.before n;
     after = can_hold E x.after n;

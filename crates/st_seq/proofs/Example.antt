@@ -13,9 +13,9 @@ use Rattle.st_marks.specs.declared.marks.Mark.{Mark}
 use Rattle.st_marks.specs.declared.places.Slot.{Slot}
 use Rattle.st_marks.specs.Document.{root}
 use Rattle.st_marks.specs.Embedding.{is_among}
-use Rattle.st_marks.specs.Extends.{done, gained, kept}
+use Rattle.st_marks.specs.Extends.{no_more, item_gained, item_kept}
 use Rattle.st_seq.proofs.Truth.{true_false}
-use Rattle.st_seq.specs.Sequence.{SeqPart, CanHold, FitsIn, KeepsIn, LeadsOver, cells_of, carried_to, change_of}
+use Rattle.st_seq.specs.Sequence.{SeqPart, RowCanHold, RowFits, RowKeeps, RowLeadsOver, cells_of, row_carried, row_change_of}
 use Rattle.st_seq.specs.declared.values.RowChange.{RowChange}
 use Rattle.st_seq.specs.declared.values.RowHeld.{RowHeld}
 use Rattle.st_seq.specs.declared.values.RowStep.{RowStep}
@@ -46,7 +46,7 @@ adds = record {
   rev = record { session = 2; num = 1 };
   in_new = false;
   new = node 2 ∷ [];
-  does = record { made = made; goes = put; mentioned = λ n. false };
+  part = record { made = made; target_of = put; mentioned = λ n. false };
 }
 
 other_nodes : (m n : ℕ) → (m ≡ n → ⊥) → node m ≢ node n
@@ -58,14 +58,14 @@ other_cells m n h e = h (ap (λ (x : CellId). x.0.rev.session) e)
 not_root : (s : ℕ) → (s ≡ 0 → ⊥) → node s ≢ root
 not_root s h e = h (ap (λ (x : NodeId). x.0.rev.session) e)
 
-holds_one : (full : Bool) → CanHold (held full)
+holds_one : (full : Bool) → RowCanHold (held full)
 holds_one true = record { once = (tt, tt); stand_once = (tt, tt); no_root = λ w. elim w [ inl e ↦ not_root 1 (λ q. omega (arith, q)) e.0 | inr v ↦ v ]; short = omega arith }
 holds_one false = record { once = (tt, tt); stand_once = tt; no_root = λ w. elim w [ inl e ↦ (let q : ◌≡◌ {A = Bool} false true = e.1 in cc) | inr v ↦ v ]; short = omega arith }
 
-holds_none : CanHold []
+holds_none : RowCanHold []
 holds_none = record { once = tt; stand_once = tt; no_root = λ w. w; short = omega arith }
 
-holds_both : (full : Bool) → CanHold (slot 2 true ∷ held full)
+holds_both : (full : Bool) → RowCanHold (slot 2 true ∷ held full)
 holds_both true = record {
   once = ((other_cells 1 2 (λ q. omega (arith, q)), tt), (tt, tt));
   stand_once = ((other_nodes 1 2 (λ q. omega (arith, q)), tt), (tt, tt));
@@ -117,7 +117,7 @@ others_old = refl
 not_nowhere : (n : NodeId) → put n ≢ Some To.Nowhere
 not_nowhere n = elim (same_node n (node 2)) as (λ b. cond b (Some (To.Cell (cell 2))) None ≢ Some To.Nowhere) [ true ↦ (λ e. cc) | false ↦ (λ e. cc) ]
 
-fits_none : FitsIn adds []
+fits_none : RowFits adds []
 fits_none = record {
   content = holds_none;
   empty = λ e. refl;
@@ -137,7 +137,7 @@ fits_none = record {
   mentions = λ n h e. absurd (true_false (put_some n h) e);
 }
 
-fits_one : (full : Bool) → FitsIn adds (held full)
+fits_one : (full : Bool) → RowFits adds (held full)
 fits_one full = record {
   content = holds_one full;
   empty = λ e. cc;
@@ -157,7 +157,7 @@ fits_one full = record {
   mentions = λ n h e. absurd (true_false (put_some n h) e);
 }
 
-keeps : (c d : List Slot) → (Has (cells_of d) (cell 2) → ⊥) → KeepsIn adds.does c d
+keeps : (c d : List Slot) → (Has (cells_of d) (cell 2) → ⊥) → RowKeeps adds.part c d
 keeps c d h = record { stays = λ n e w. cc; older = λ n a e w. absurd (h (subst (Has (cells_of d)) (sym (put_new n a e).1) w)) }
 
 abbrev named : Nodes
@@ -167,17 +167,17 @@ named_one : named (node 1) ≡ true
 unfolding same_node
 named_one = refl
 
-first : LeadsOver named [] (held true) (Mark.Make (cell 1) (node 1) true ∷ [])
-first = record { before = holds_none; after = holds_one true; step = record { grows = gained done; says = refl }; moved = tt }
+first : RowLeadsOver named [] (held true) (Mark.Make (cell 1) (node 1) true ∷ [])
+first = record { before = holds_none; after = holds_one true; step = record { grows = item_gained no_more; says = refl }; moved = tt }
 
-then : LeadsOver named (held true) (held false) (Mark.Touch (cell 1) (node 1) Leave ∷ [])
-then = record { before = holds_one true; after = holds_one false; step = record { grows = kept (refl, refl) done; says = refl }; moved = ((λ e. named_one), tt) }
+then : RowLeadsOver named (held true) (held false) (Mark.Touch (cell 1) (node 1) Leave ∷ [])
+then = record { before = holds_one true; after = holds_one false; step = record { grows = item_kept (refl, refl) no_more; says = refl }; moved = ((λ e. named_one), tt) }
 
-change_is : ◌≡◌ {A = RowChange} (record { rev = record { session = 2; num = 1 }; in_new = false; new = node 2 ∷ []; marks = Mark.Make (cell 2) (node 2) true ∷ [] }) (change_of adds [])
+change_is : ◌≡◌ {A = RowChange} (record { rev = record { session = 2; num = 1 }; in_new = false; new = node 2 ∷ []; marks = Mark.Make (cell 2) (node 2) true ∷ [] }) (row_change_of adds [])
 unfolding same_node same_cell
 change_is = refl
 
-holds_after : (full : Bool) → CanHold (carried_to adds false (held full))
+holds_after : (full : Bool) → RowCanHold (row_carried adds false (held full))
 unfolding same_node same_cell
 holds_after true = holds_both true
 holds_after false = holds_both false
@@ -186,8 +186,8 @@ holds_after false = holds_both false
 pub stands : (x : RowChange) (s t : RowStep) → x ≡ record { rev = record { session = 2; num = 1 }; in_new = false; new = node 2 ∷ []; marks = Mark.Make (cell 2) (node 2) true ∷ [] }
     → s.marks ≡ Mark.Make (cell 1) (node 1) true ∷ [] → t.marks ≡ Mark.Touch (cell 1) (node 1) Leave ∷ []
     → (n : SeqPart) × (m : Nodes) × (k : Nodes) × (c : RowHeld) × (d : RowHeld) × (e : RowHeld)
-    × (x ≡ change_of n c.cells) × LeadsOver m c.cells d.cells s.marks × LeadsOver k d.cells e.cells t.marks
-    × FitsIn n c.cells × FitsIn n d.cells × FitsIn n e.cells × KeepsIn n.does c.cells d.cells × KeepsIn n.does d.cells e.cells × CanHold (carried_to n false d.cells) × CanHold (carried_to n false e.cells)
+    × (x ≡ row_change_of n c.cells) × RowLeadsOver m c.cells d.cells s.marks × RowLeadsOver k d.cells e.cells t.marks
+    × RowFits n c.cells × RowFits n d.cells × RowFits n e.cells × RowKeeps n.part c.cells d.cells × RowKeeps n.part d.cells e.cells × RowCanHold (row_carried n false d.cells) × RowCanHold (row_carried n false e.cells)
 stands x s t f g h =
     let away : Has (cell 1 ∷ []) (cell 2) → ⊥ = λ w. elim w [ inl e ↦ other_cells 1 2 (λ q. omega (arith, q)) e | inr v ↦ v ] in (
       adds,
@@ -197,8 +197,8 @@ stands x s t f g h =
       record { cells = held true },
       record { cells = held false },
       f ∙ change_is,
-      subst (LeadsOver named [] (held true)) (sym g) first,
-      subst (LeadsOver named (held true) (held false)) (sym h) then,
+      subst (RowLeadsOver named [] (held true)) (sym g) first,
+      subst (RowLeadsOver named (held true) (held false)) (sym h) then,
       fits_none,
       fits_one true,
       fits_one false,

@@ -10,24 +10,25 @@ use Rattle.st_marks.specs.declared.intents.To.{To}
 use Rattle.st_marks.specs.declared.marks.How.{How}
 use Rattle.st_marks.specs.declared.marks.How.TheVariants.{Stay, Here, Leave}
 use Rattle.st_marks.specs.declared.places.Slot.{Slot}
-use Rattle.st_marks.specs.Row.{CellMark, Counted, Gap, Touch, Make, Fill, RowPart, same_to, how, is_here, embed_cell, embed_made, embed_cells, embed_row}
+use Rattle.st_marks.specs.Row.{CellMark, Counted, Gap, Touch, Make, Fill, RowPart, same_to, how, embed_cell, embed_made, embed_cells, embed_row}
+use Rattle.st_marks.specs.How.{is_here}
 use Rattle.st_seq.specs.Cells.{joined, join_row}
 use Rattle.st_seq.proofs.Rebased.{same_put}
-use Rattle.st_seq.specs.Changes.{StandsIn, full_after, made_cells, carried_cells, carried_row, woven, goes_in_turn, AreJoined}
+use Rattle.st_seq.specs.Changes.{StandsIn, full_after, made_cells, carried_cells, carried_row, interleaved_cells, goes_in_turn, AreJoined}
 
 -- ## The walk
 
 join-made_then : (q : RowPart) (os : List Owned) (xs ys : List CellMark) → join_row xs (embed_made q os ++ ys) ≡ embed_made q os ++ join_row xs ys
 join-made_then q [] xs ys = refl
-join-made_then q (o ∷ os) xs ys = ap (λ l. Make o.cell o.node (is_here (how (q.goes o.node) (To.Cell o.cell))) ∷ l) (join-made_then q os xs ys)
+join-made_then q (o ∷ os) xs ys = ap (λ l. Make o.cell o.node (is_here (how (q.target_of o.node) (To.Cell o.cell))) ∷ l) (join-made_then q os xs ys)
 
 join-found : (q : RowPart) (x : CellMark) (c : CellId) (n : NodeId) (b : Bool) (xs ys : List CellMark) → join_row (x ∷ xs) (embed_cell q c n b ∷ ys) ≡ joined x (embed_cell q c n b) ∷ join_row xs ys
-join-found q x c n true xs ys = elim (q.mentioned n) as (λ b. join_row (x ∷ xs) (cond b (Touch c n (how (q.goes n) (To.Cell c))) Counted ∷ ys) ≡ joined x (cond b (Touch c n (how (q.goes n) (To.Cell c))) Counted) ∷ join_row xs ys) [ true ↦ refl | false ↦ refl ]
-join-found q x c n false xs ys = elim (is_here (how (q.goes n) (To.Cell c))) as (λ b. join_row (x ∷ xs) (cond b (Fill c n) (Gap c) ∷ ys) ≡ joined x (cond b (Fill c n) (Gap c)) ∷ join_row xs ys) [ true ↦ refl | false ↦ refl ]
+join-found q x c n true xs ys = elim (q.mentioned n) as (λ b. join_row (x ∷ xs) (cond b (Touch c n (how (q.target_of n) (To.Cell c))) Counted ∷ ys) ≡ joined x (cond b (Touch c n (how (q.target_of n) (To.Cell c))) Counted) ∷ join_row xs ys) [ true ↦ refl | false ↦ refl ]
+join-found q x c n false xs ys = elim (is_here (how (q.target_of n) (To.Cell c))) as (λ b. join_row (x ∷ xs) (cond b (Fill c n) (Gap c) ∷ ys) ≡ joined x (cond b (Fill c n) (Gap c)) ∷ join_row xs ys) [ true ↦ refl | false ↦ refl ]
 
 embed_made-append : (j : RowPart) (xs ys : List Owned) → embed_made j (xs ++ ys) ≡ embed_made j xs ++ embed_made j ys
 embed_made-append j [] ys = refl
-embed_made-append j (o ∷ xs) ys = ap (λ l. Make o.cell o.node (is_here (how (j.goes o.node) (To.Cell o.cell))) ∷ l) (embed_made-append j xs ys)
+embed_made-append j (o ∷ xs) ys = ap (λ l. Make o.cell o.node (is_here (how (j.target_of o.node) (To.Cell o.cell))) ∷ l) (embed_made-append j xs ys)
 
 -- ## One cell
 
@@ -144,9 +145,9 @@ module _ (c : CellId) (n : NodeId) where
   made-joined (Some false) (Some false) true hq = refl
   made-joined (Some false) (Some false) false hq = refl
 
-cell-told : (q : RowPart) (c : CellId) (n : NodeId) (b : Bool) → embed_cell q c n b ≡ told_cell c n (q.mentioned n) (seen_from c (q.goes n)) b
-cell-told q c n true = λ i. cond (q.mentioned n) (Touch c n (how-told c (q.goes n) i)) Counted
-cell-told q c n false = λ i. cond (is_here (how-told c (q.goes n) i)) (Fill c n) (Gap c)
+cell-told : (q : RowPart) (c : CellId) (n : NodeId) (b : Bool) → embed_cell q c n b ≡ told_cell c n (q.mentioned n) (seen_from c (q.target_of n)) b
+cell-told q c n true = λ i. cond (q.mentioned n) (Touch c n (how-told c (q.target_of n) i)) Counted
+cell-told q c n false = λ i. cond (is_here (how-told c (q.target_of n) i)) (Fill c n) (Gap c)
 
 -- who isn't put into a cell by the first comes into it by the second alone
 alone : (g h : Option To) (c : CellId) → h ≢ Some (To.Cell c) → is_here (how g (To.Cell c)) ≡ is_here (how (option_or g h) (To.Cell c))
@@ -159,70 +160,70 @@ behind-made p [] n d w = w
 behind-made p (o ∷ os) n d w = inr (behind-made p os n d w)
 
 module _ (p q j : RowPart) where
-  both-how : (c : CellId) (n : NodeId) → how (goes_in_turn p q n) (To.Cell c) ≡ told_how (option_or (seen_from c (q.goes n)) (seen_from c (p.goes n)))
-  both-how c n = how-told c (goes_in_turn p q n) ∙ ap told_how (both-told c (q.goes n) (p.goes n))
+  both-how : (c : CellId) (n : NodeId) → how (goes_in_turn p q n) (To.Cell c) ≡ told_how (option_or (seen_from c (q.target_of n)) (seen_from c (p.target_of n)))
+  both-how c n = how-told c (goes_in_turn p q n) ∙ ap told_how (both-told c (q.target_of n) (p.target_of n))
 
   -- what the second finds of a cell that the first found
-  then-found : (c : CellId) (n : NodeId) (b : Bool) → embed_cell q c n (full_after (p.goes n) c b) ≡ told_cell c n (q.mentioned n) (seen_from c (q.goes n)) (told_full (seen_from c (p.goes n)) b)
-  then-found c n b = cell-told q c n (full_after (p.goes n) c b) ∙ ap (told_cell c n (q.mentioned n) (seen_from c (q.goes n))) (full-told c (p.goes n) b)
+  then-found : (c : CellId) (n : NodeId) (b : Bool) → embed_cell q c n (full_after (p.target_of n) c b) ≡ told_cell c n (q.mentioned n) (seen_from c (q.target_of n)) (told_full (seen_from c (p.target_of n)) b)
+  then-found c n b = cell-told q c n (full_after (p.target_of n) c b) ∙ ap (told_cell c n (q.mentioned n) (seen_from c (q.target_of n))) (full-told c (p.target_of n) b)
 
-  joined-cell : (c : CellId) (n : NodeId) (b : Bool) → (b ≡ true → j.mentioned n ≡ (p.mentioned n || q.mentioned n)) → (b ≡ true → how (j.goes n) (To.Cell c) ≡ how (goes_in_turn p q n) (To.Cell c)) → is_here (how (j.goes n) (To.Cell c)) ≡ is_here (how (goes_in_turn p q n) (To.Cell c))
-      → (b ≡ true → p.goes n ≢ None → p.mentioned n ≡ true) → (full_after (p.goes n) c b ≡ true → q.goes n ≢ None → q.mentioned n ≡ true) → joined (embed_cell p c n b) (embed_cell q c n (full_after (p.goes n) c b)) ≡ embed_cell j c n b
+  joined-cell : (c : CellId) (n : NodeId) (b : Bool) → (b ≡ true → j.mentioned n ≡ (p.mentioned n || q.mentioned n)) → (b ≡ true → how (j.target_of n) (To.Cell c) ≡ how (goes_in_turn p q n) (To.Cell c)) → is_here (how (j.target_of n) (To.Cell c)) ≡ is_here (how (goes_in_turn p q n) (To.Cell c))
+      → (b ≡ true → p.target_of n ≢ None → p.mentioned n ≡ true) → (full_after (p.target_of n) c b ≡ true → q.target_of n ≢ None → q.mentioned n ≡ true) → joined (embed_cell p c n b) (embed_cell q c n (full_after (p.target_of n) c b)) ≡ embed_cell j c n b
   joined-cell c n true mj gj cj pm qm =
-      (λ i. joined (cond (p.mentioned n) (Touch c n (how-told c (p.goes n) i)) Counted) (then-found c n true i))
-      ∙ full-joined c n (seen_from c (p.goes n)) (seen_from c (q.goes n)) (p.mentioned n) (q.mentioned n) (λ z. pm refl (put-told c (p.goes n) z)) (λ f z. qm (full-told c (p.goes n) true ∙ f) (put-told c (q.goes n) z))
+      (λ i. joined (cond (p.mentioned n) (Touch c n (how-told c (p.target_of n) i)) Counted) (then-found c n true i))
+      ∙ full-joined c n (seen_from c (p.target_of n)) (seen_from c (q.target_of n)) (p.mentioned n) (q.mentioned n) (λ z. pm refl (put-told c (p.target_of n) z)) (λ f z. qm (full-told c (p.target_of n) true ∙ f) (put-told c (q.target_of n) z))
       ∙ (λ i. cond (sym (mj refl) i) (Touch c n (sym (gj refl ∙ both-how c n) i)) Counted)
   joined-cell c n false mj gj cj pm qm =
-      (λ i. joined (cond (is_here (how-told c (p.goes n) i)) (Fill c n) (Gap c)) (then-found c n false i))
-      ∙ empty-joined c n (seen_from c (p.goes n)) (seen_from c (q.goes n)) (q.mentioned n) (λ f z. qm (full-told c (p.goes n) false ∙ f) (put-told c (q.goes n) z))
+      (λ i. joined (cond (is_here (how-told c (p.target_of n) i)) (Fill c n) (Gap c)) (then-found c n false i))
+      ∙ empty-joined c n (seen_from c (p.target_of n)) (seen_from c (q.target_of n)) (q.mentioned n) (λ f z. qm (full-told c (p.target_of n) false ∙ f) (put-told c (q.target_of n) z))
       ∙ (λ i. cond (sym (cj ∙ ap is_here (both-how c n)) i) (Fill c n) (Gap c))
 
-  joined-made : (c : CellId) (n : NodeId) → is_here (how (j.goes n) (To.Cell c)) ≡ is_here (how (goes_in_turn p q n) (To.Cell c)) → (is_here (how (p.goes n) (To.Cell c)) ≡ true → q.goes n ≢ None → q.mentioned n ≡ true)
-      → joined (Make c n (is_here (how (p.goes n) (To.Cell c)))) (embed_cell q c n (is_here (how (p.goes n) (To.Cell c)))) ≡ Make c n (is_here (how (j.goes n) (To.Cell c)))
+  joined-made : (c : CellId) (n : NodeId) → is_here (how (j.target_of n) (To.Cell c)) ≡ is_here (how (goes_in_turn p q n) (To.Cell c)) → (is_here (how (p.target_of n) (To.Cell c)) ≡ true → q.target_of n ≢ None → q.mentioned n ≡ true)
+      → joined (Make c n (is_here (how (p.target_of n) (To.Cell c)))) (embed_cell q c n (is_here (how (p.target_of n) (To.Cell c)))) ≡ Make c n (is_here (how (j.target_of n) (To.Cell c)))
   joined-made c n cj qm =
-      (λ i. joined (Make c n (is_here (how-told c (p.goes n) i))) ((cell-told q c n (is_here (how (p.goes n) (To.Cell c))) ∙ ap (λ h. told_cell c n (q.mentioned n) (seen_from c (q.goes n)) (is_here h)) (how-told c (p.goes n))) i))
-      ∙ made-joined c n (seen_from c (p.goes n)) (seen_from c (q.goes n)) (q.mentioned n) (λ f z. qm (ap is_here (how-told c (p.goes n)) ∙ f) (put-told c (q.goes n) z))
+      (λ i. joined (Make c n (is_here (how-told c (p.target_of n) i))) ((cell-told q c n (is_here (how (p.target_of n) (To.Cell c))) ∙ ap (λ h. told_cell c n (q.mentioned n) (seen_from c (q.target_of n)) (is_here h)) (how-told c (p.target_of n))) i))
+      ∙ made-joined c n (seen_from c (p.target_of n)) (seen_from c (q.target_of n)) (q.mentioned n) (λ f z. qm (ap is_here (how-told c (p.target_of n)) ∙ f) (put-told c (q.target_of n) z))
       ∙ (λ i. Make c n (sym (cj ∙ ap is_here (both-how c n)) i))
 
   -- ## The row
 
   -- a cell that the second makes is filled as the second says
-  made-alone : (os : List Owned) → ((n : NodeId) (a : CellId) → is_here (how (j.goes n) (To.Cell a)) ≡ is_here (how (goes_in_turn p q n) (To.Cell a))) → AllByRecursion (λ (o : Owned). p.goes o.node ≢ Some (To.Cell o.cell)) os → embed_made q os ≡ embed_made j os
+  made-alone : (os : List Owned) → ((n : NodeId) (a : CellId) → is_here (how (j.target_of n) (To.Cell a)) ≡ is_here (how (goes_in_turn p q n) (To.Cell a))) → AllByRecursion (λ (o : Owned). p.target_of o.node ≢ Some (To.Cell o.cell)) os → embed_made q os ≡ embed_made j os
   made-alone [] cj k = refl
-  made-alone (o ∷ os) cj k = λ i. Make o.cell o.node ((alone (q.goes o.node) (p.goes o.node) o.cell k.0 ∙ sym (cj o.node o.cell)) i) ∷ made-alone os cj k.1 i
+  made-alone (o ∷ os) cj k = λ i. Make o.cell o.node ((alone (q.target_of o.node) (p.target_of o.node) o.cell k.0 ∙ sym (cj o.node o.cell)) i) ∷ made-alone os cj k.1 i
 
-  module _ (cj : (n : NodeId) (a : CellId) → is_here (how (j.goes n) (To.Cell a)) ≡ is_here (how (goes_in_turn p q n) (To.Cell a))) (older : (a : Option CellId) → AllByRecursion (λ (o : Owned). p.goes o.node ≢ Some (To.Cell o.cell)) (q.made a)) where
+  module _ (cj : (n : NodeId) (a : CellId) → is_here (how (j.target_of n) (To.Cell a)) ≡ is_here (how (goes_in_turn p q n) (To.Cell a))) (older : (a : Option CellId) → AllByRecursion (λ (o : Owned). p.target_of o.node ≢ Some (To.Cell o.cell)) (q.made a)) where
     -- cells that the second makes, then both groups of the first
     gathered : (new os : List Owned) (R : List CellMark) → embed_made j new ++ (embed_made j os ++ R) ≡ embed_made j (new ++ os) ++ R
     gathered new os R = sym (append_assoc (embed_made j new) (embed_made j os) R) ∙ ap (λ l. l ++ R) (sym (embed_made-append j new os))
 
-    join-made : (os : List Owned) (xs : List CellMark) (d : List Slot) → ((n : NodeId) → StandsIn n (made_cells p os ++ d) → q.goes n ≢ None → q.mentioned n ≡ true)
-        → join_row (embed_made p os ++ xs) (embed_cells q (made_cells p os ++ d)) ≡ embed_made j (woven q os) ++ join_row xs (embed_cells q d)
+    join-made : (os : List Owned) (xs : List CellMark) (d : List Slot) → ((n : NodeId) → StandsIn n (made_cells p os ++ d) → q.target_of n ≢ None → q.mentioned n ≡ true)
+        → join_row (embed_made p os ++ xs) (embed_cells q (made_cells p os ++ d)) ≡ embed_made j (interleaved_cells q os) ++ join_row xs (embed_cells q d)
     join-made [] xs d qm = refl
     join-made (o ∷ os) xs d qm =
-        join-found q (Make o.cell o.node (is_here (how (p.goes o.node) (To.Cell o.cell)))) o.cell o.node (is_here (how (p.goes o.node) (To.Cell o.cell))) _ _
+        join-found q (Make o.cell o.node (is_here (how (p.target_of o.node) (To.Cell o.cell)))) o.cell o.node (is_here (how (p.target_of o.node) (To.Cell o.cell))) _ _
         ∙ (λ i. joined-made o.cell o.node (cj o.node o.cell) (λ f z. qm o.node (inl (refl, f)) z) i
-        ∷ (join-made_then q (q.made (Some o.cell)) (embed_made p os ++ xs) (embed_cells q (made_cells p os ++ d))
-        ∙ (λ k. made-alone (q.made (Some o.cell)) cj (older (Some o.cell)) k ++ join-made os xs d (λ n w. qm n (inr w)) k)
-        ∙ gathered (q.made (Some o.cell)) (woven q os) (join_row xs (embed_cells q d))) i)
+        ∷ (join-made_then q (q.new_cells (Some o.cell)) (embed_made p os ++ xs) (embed_cells q (made_cells p os ++ d))
+        ∙ (λ k. made-alone (q.new_cells (Some o.cell)) cj (older (Some o.cell)) k ++ join-made os xs d (λ n w. qm n (inr w)) k)
+        ∙ gathered (q.new_cells (Some o.cell)) (interleaved_cells q os) (join_row xs (embed_cells q d))) i)
 
-    join-cells : (c : List Slot) → ((a : CellId) → Has (map (λ (s : Slot). s.cell) c) a → j.made (Some a) ≡ q.made (Some a) ++ woven q (p.made (Some a))) → ((n : NodeId) → StandsIn n c → j.mentioned n ≡ (p.mentioned n || q.mentioned n))
-        → ((n : NodeId) (a : CellId) → StandsIn n c → how (j.goes n) (To.Cell a) ≡ how (goes_in_turn p q n) (To.Cell a)) → ((n : NodeId) → StandsIn n c → p.goes n ≢ None → p.mentioned n ≡ true) → ((n : NodeId) → StandsIn n (carried_cells p c) → q.goes n ≢ None → q.mentioned n ≡ true)
+    join-cells : (c : List Slot) → ((a : CellId) → Has (map (λ (s : Slot). s.cell) c) a → j.new_cells (Some a) ≡ q.new_cells (Some a) ++ interleaved_cells q (p.new_cells (Some a))) → ((n : NodeId) → StandsIn n c → j.mentioned n ≡ (p.mentioned n || q.mentioned n))
+        → ((n : NodeId) (a : CellId) → StandsIn n c → how (j.target_of n) (To.Cell a) ≡ how (goes_in_turn p q n) (To.Cell a)) → ((n : NodeId) → StandsIn n c → p.target_of n ≢ None → p.mentioned n ≡ true) → ((n : NodeId) → StandsIn n (carried_cells p c) → q.target_of n ≢ None → q.mentioned n ≡ true)
         → join_row (embed_cells p c) (embed_cells q (carried_cells p c)) ≡ embed_cells j c
     join-cells [] b mj gj pm qm = refl
     join-cells (s ∷ c) b mj gj pm qm =
-        join-found q (embed_cell p s.cell s.node s.full) s.cell s.node (full_after (p.goes s.node) s.cell s.full) _ _
+        join-found q (embed_cell p s.cell s.node s.full) s.cell s.node (full_after (p.target_of s.node) s.cell s.full) _ _
         ∙ (λ i. joined-cell s.cell s.node s.full (λ e. mj s.node (inl (refl, e))) (λ e. gj s.node s.cell (inl (refl, e))) (cj s.node s.cell) (λ e. pm s.node (inl (refl, e))) (λ e. qm s.node (inl (refl, e))) i
-        ∷ (join-made_then q (q.made (Some s.cell)) (embed_made p (p.made (Some s.cell)) ++ embed_cells p c) (embed_cells q (made_cells p (p.made (Some s.cell)) ++ carried_cells p c))
-        ∙ (λ k. made-alone (q.made (Some s.cell)) cj (older (Some s.cell)) k ++ join-made (p.made (Some s.cell)) (embed_cells p c) (carried_cells p c) (λ n w. qm n (inr w)) k)
-        ∙ gathered (q.made (Some s.cell)) (woven q (p.made (Some s.cell))) (join_row (embed_cells p c) (embed_cells q (carried_cells p c)))
-        ∙ (λ k. embed_made j (sym (b s.cell (inl refl)) k) ++ join-cells c (λ a h. b a (inr h)) (λ n w. mj n (inr w)) (λ n a w. gj n a (inr w)) (λ n w. pm n (inr w)) (λ n w. qm n (inr (behind-made p (p.made (Some s.cell)) n (carried_cells p c) w))) k)) i)
+        ∷ (join-made_then q (q.new_cells (Some s.cell)) (embed_made p (p.new_cells (Some s.cell)) ++ embed_cells p c) (embed_cells q (made_cells p (p.new_cells (Some s.cell)) ++ carried_cells p c))
+        ∙ (λ k. made-alone (q.new_cells (Some s.cell)) cj (older (Some s.cell)) k ++ join-made (p.new_cells (Some s.cell)) (embed_cells p c) (carried_cells p c) (λ n w. qm n (inr w)) k)
+        ∙ gathered (q.new_cells (Some s.cell)) (interleaved_cells q (p.new_cells (Some s.cell))) (join_row (embed_cells p c) (embed_cells q (carried_cells p c)))
+        ∙ (λ k. embed_made j (sym (b s.cell (inl refl)) k) ++ join-cells c (λ a h. b a (inr h)) (λ n w. mj n (inr w)) (λ n a w. gj n a (inr w)) (λ n w. pm n (inr w)) (λ n w. qm n (inr (behind-made p (p.new_cells (Some s.cell)) n (carried_cells p c) w))) k)) i)
 
 -- the law of joining
-pub join_row-embed_row : (p q j : RowPart) (c : List Slot) → AreJoined p q c j → ((n : NodeId) → StandsIn n c → p.goes n ≢ None → p.mentioned n ≡ true) → ((n : NodeId) → StandsIn n (carried_row p c) → q.goes n ≢ None → q.mentioned n ≡ true)
+pub join_row-embed_row : (p q j : RowPart) (c : List Slot) → AreJoined p q c j → ((n : NodeId) → StandsIn n c → p.target_of n ≢ None → p.mentioned n ≡ true) → ((n : NodeId) → StandsIn n (carried_row p c) → q.target_of n ≢ None → q.mentioned n ≡ true)
     → join_row (embed_row p c) (embed_row q (carried_row p c)) ≡ embed_row j c
 join_row-embed_row p q j c both pm qm =
-    join-made_then q (q.made None) (embed_row p c) (embed_cells q (carried_row p c))
-    ∙ (λ k. made-alone p q j (q.made None) both.comes (both.older None) k ++ join-made p q j both.comes both.older (p.made None) (embed_cells p c) (carried_cells p c) qm k)
-    ∙ gathered p q j both.comes both.older (q.made None) (woven q (p.made None)) (join_row (embed_cells p c) (embed_cells q (carried_cells p c)))
-    ∙ (λ k. embed_made j (sym both.first k) ++ join-cells p q j both.comes both.older c both.behind both.mentions both.goes pm (λ n w. qm n (behind-made p (p.made None) n (carried_cells p c) w)) k)
+    join-made_then q (q.new_cells None) (embed_row p c) (embed_cells q (carried_row p c))
+    ∙ (λ k. made-alone p q j (q.new_cells None) both.comes (both.older None) k ++ join-made p q j both.comes both.older (p.new_cells None) (embed_cells p c) (carried_cells p c) qm k)
+    ∙ gathered p q j both.comes both.older (q.new_cells None) (interleaved_cells q (p.new_cells None)) (join_row (embed_cells p c) (embed_cells q (carried_cells p c)))
+    ∙ (λ k. embed_made j (sym both.first k) ++ join-cells p q j both.comes both.older c both.behind both.mentions both.target_of pm (λ n w. qm n (behind-made p (p.new_cells None) n (carried_cells p c) w)) k)

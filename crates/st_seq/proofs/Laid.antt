@@ -9,10 +9,11 @@ use Rattle.st_ids.specs.declared.names.NodeId.{NodeId}
 use Rattle.st_marks.specs.declared.intents.Owned.{Owned}
 use Rattle.st_marks.specs.declared.intents.To.{To}
 use Rattle.st_marks.specs.declared.places.Slot.{Slot}
-use Rattle.st_marks.specs.Row.{CellMark, Counted, Gap, Touch, Make, Fill, RowPart, how, is_here, embed_cell, embed_made, embed_cells}
-use Rattle.st_marks.specs.Shown.{seen, cells_before}
+use Rattle.st_marks.specs.Row.{CellMark, Counted, Gap, Touch, Make, Fill, RowPart, how, embed_cell, embed_made, embed_cells}
+use Rattle.st_marks.specs.How.{is_here}
+use Rattle.st_marks.specs.Listings.{cell_view, cells_before}
 use Rattle.st_seq.proofs.Truth.{and_parts}
-use Rattle.st_seq.specs.Agreement.{agree, first_difference, row_seen, same_bool, seen_before}
+use Rattle.st_seq.specs.Views.{agree, first_difference, row_views, same_bool, view_before}
 use Rattle.st_seq.specs.Changes.{StandsIn}
 use Rattle.st_seq.specs.Laws.{not_again}
 use Rattle.st_seq.specs.Reading.{is_made}
@@ -41,7 +42,7 @@ same_full true false e = cc
 same_full false true e = cc
 same_full false false e = refl
 
-says_seen : (s : Slot) (x : CellMark) → is_made x ≡ false → agree (seen s.cell s.node s.full) (seen_before x) ≡ true → Says s x
+says_seen : (s : Slot) (x : CellMark) → is_made x ≡ false → agree (cell_view s.cell s.node s.full) (view_before x) ≡ true → Says s x
 says_seen s Counted m e = let p = and_parts _ _ (and_parts _ _ e).0 in same_full s.full true p.0
 says_seen s (Gap a) m e = let p = and_parts _ _ (and_parts _ _ e).0 in (same_cell-true s.cell a p.1, same_full s.full false p.0)
 says_seen s (Touch a n h) m e = let q = and_parts _ _ e in let p = and_parts _ _ q.0 in (same_cell-true s.cell a p.1, same_node-true s.node n q.1, same_full s.full true p.0)
@@ -53,7 +54,7 @@ none_more true None e = (refl, refl)
 none_more true (Some k) e = cc
 none_more false o e = cc
 
-pub none_lays : (c : List Slot) (xs : List CellMark) → first_difference (row_seen c) (cells_before xs) ≡ None → Lays c xs
+pub none_lays : (c : List Slot) (xs : List CellMark) → first_difference (row_views c) (cells_before xs) ≡ None → Lays c xs
 none_lays [] [] e = end
 none_lays (s ∷ c) [] e = cc
 none_lays c (Make a n b ∷ xs) e = made (none_lays c xs e)
@@ -180,9 +181,9 @@ no_make s (Fill a n) xs h = refl
 abbrev pub Groups : RowPart → {c : List Slot} {xs : List CellMark} → Lays c xs → Type 0
 Groups p end = Unit {0}
 Groups p (made l) = Groups p l
-Groups p (found {s} {xs = xs} h l) = (p.made (Some s.cell) ≡ lead xs) × Groups p l
+Groups p (found {s} {xs = xs} h l) = (p.new_cells (Some s.cell) ≡ lead xs) × Groups p l
 
-pub groups_of : (p : RowPart) {c : List Slot} {xs : List CellMark} (l : Lays c xs) → AreDistinct (λ (s : Slot). s.cell) c → ((a : CellId) → Has (cells_of c) a → p.made (Some a) ≡ behind l a) → Groups p l
+pub groups_of : (p : RowPart) {c : List Slot} {xs : List CellMark} (l : Lays c xs) → AreDistinct (λ (s : Slot). s.cell) c → ((a : CellId) → Has (cells_of c) a → p.new_cells (Some a) ≡ behind l a) → Groups p l
 groups_of p end o h = tt
 groups_of p (made l) o h = groups_of p l o h
 groups_of p (found {s} {c = c} {xs = xs} k l) o h = (
@@ -202,7 +203,7 @@ behind_cell (found {s} {c = c} {xs = xs} k l) a h = elim (same_cell s.cell a) as
 ] refl h
 
 -- the marks are those of a part that says the same of each cell
-pub embeds : (p : RowPart) {c : List Slot} {xs : List CellMark} (l : Lays c xs) → Groups p l → ((t : Slot) (y : CellMark) → FoundAt l t y → embed_cell p t.cell t.node t.full ≡ y) → ((a : CellId) (n : NodeId) (b : Bool) → Has xs (Make a n b) → is_here (how (p.goes n) (To.Cell a)) ≡ b)
+pub embeds : (p : RowPart) {c : List Slot} {xs : List CellMark} (l : Lays c xs) → Groups p l → ((t : Slot) (y : CellMark) → FoundAt l t y → embed_cell p t.cell t.node t.full ≡ y) → ((a : CellId) (n : NodeId) (b : Bool) → Has xs (Make a n b) → is_here (how (p.target_of n) (To.Cell a)) ≡ b)
     → embed_made p (lead xs) ++ embed_cells p c ≡ xs
 embeds p end g f m = refl
 embeds p (made {a} {n} {b} l) g f m = λ i. Make a n (m a n b (inl refl) i) ∷ embeds p l g f (λ a' n' b' w. m a' n' b' (inr w)) i
@@ -210,12 +211,12 @@ embeds p (found {s} {x} {c} {xs} h l) g f m =
     ap (λ os. embed_made p os ++ embed_cells p (s ∷ c)) (no_lead s x xs h)
     ∙ (λ i. f s x (inl (refl, refl)) i ∷ ((λ j. embed_made p (g.0 j) ++ embed_cells p c) ∙ embeds p l g.1 (λ t y w. f t y (inr w)) (λ a n b w. m a n b (inr w))) i)
 
-pub makes_them : (p : RowPart) {c : List Slot} {xs : List CellMark} (l : Lays c xs) → Groups p l → lead xs ++ flat_map (λ (s : Slot). p.made (Some s.cell)) c ≡ makes xs
+pub makes_them : (p : RowPart) {c : List Slot} {xs : List CellMark} (l : Lays c xs) → Groups p l → lead xs ++ flat_map (λ (s : Slot). p.new_cells (Some s.cell)) c ≡ makes xs
 makes_them p end g = refl
 makes_them p (made {a} {n} l) g = ap (λ os. record { cell = a; node = n } ∷ os) (makes_them p l g)
 makes_them p (found {s} {x} {c} {xs} h l) g =
-    ap (λ os. os ++ flat_map (λ (t : Slot). p.made (Some t.cell)) (s ∷ c)) (no_lead s x xs h)
-    ∙ (λ i. g.0 i ++ flat_map (λ (t : Slot). p.made (Some t.cell)) c) ∙ makes_them p l g.1 ∙ sym (no_make s x xs h)
+    ap (λ os. os ++ flat_map (λ (t : Slot). p.new_cells (Some t.cell)) (s ∷ c)) (no_lead s x xs h)
+    ∙ (λ i. g.0 i ++ flat_map (λ (t : Slot). p.new_cells (Some t.cell)) c) ∙ makes_them p l g.1 ∙ sym (no_make s x xs h)
 
 pub has_makes : (xs : List CellMark) (o : Owned) → Has (makes xs) o → (b : Bool) × Has xs (Make o.cell o.node b)
 has_makes [] o w = absurd w

@@ -5,15 +5,16 @@ use Rattle.st_ids.specs.declared.names.NodeId.{NodeId}
 use Rattle.st_marks.specs.declared.intents.To.{To}
 use Rattle.st_marks.specs.declared.marks.How.TheVariants.{Stay}
 use Rattle.st_marks.specs.declared.places.Slot.{Slot}
-use Rattle.st_marks.specs.Row.{CellMark, Counted, Gap, Touch, Make, Fill, RowPart, how, is_here, step_cell, embed_cell, embed_made, embed_cells}
+use Rattle.st_marks.specs.Row.{CellMark, Counted, Gap, Touch, Make, Fill, RowPart, how, step_cell, embed_cell, embed_made, embed_cells}
+use Rattle.st_marks.specs.How.{is_here}
 use Rattle.st_seq.specs.Walks.{CellPiece, Both, Then, beside, meeting}
 
 -- what is found is never a made cell
 pub beside-found : (f : CellPiece → CellMark) (p : RowPart) (c : CellId) (n : NodeId) (b : Bool) (xs ys : List CellMark) → map f (beside (embed_cell p c n b ∷ xs) ys) ≡ map f (meeting (embed_cell p c n b) (beside xs) ys)
 beside-found f p c n true xs ys =
-    elim (p.mentioned n) as (λ b. map f (beside (cond b (Touch c n (how (p.goes n) (To.Cell c))) Counted ∷ xs) ys) ≡ map f (meeting (cond b (Touch c n (how (p.goes n) (To.Cell c))) Counted) (beside xs) ys)) [ true ↦ refl | false ↦ refl ]
+    elim (p.mentioned n) as (λ b. map f (beside (cond b (Touch c n (how (p.target_of n) (To.Cell c))) Counted ∷ xs) ys) ≡ map f (meeting (cond b (Touch c n (how (p.target_of n) (To.Cell c))) Counted) (beside xs) ys)) [ true ↦ refl | false ↦ refl ]
 beside-found f p c n false xs ys =
-    elim (is_here (how (p.goes n) (To.Cell c))) as (λ b. map f (beside (cond b (Fill c n) (Gap c) ∷ xs) ys) ≡ map f (meeting (cond b (Fill c n) (Gap c)) (beside xs) ys)) [ true ↦ refl | false ↦ refl ]
+    elim (is_here (how (p.target_of n) (To.Cell c))) as (λ b. map f (beside (cond b (Fill c n) (Gap c) ∷ xs) ys) ≡ map f (meeting (cond b (Fill c n) (Gap c)) (beside xs) ys)) [ true ↦ refl | false ↦ refl ]
 
 pub meeting-found : (f : CellPiece → CellMark) (x : CellMark) (rest : List CellMark → List CellPiece) (m : NodeId → Bool) (c : CellId) (n : NodeId) (a b : Bool) (ys : List CellMark) → map f (meeting x rest (step_cell m c n a b ∷ ys)) ≡ f (Both x (step_cell m c n a b)) ∷ map f (rest ys)
 meeting-found f x rest m c n true true ys =
@@ -30,5 +31,5 @@ beside-kept f p m c n a b xs ys = beside-found f p c n a xs (step_cell m c n a b
 pub beside-gained : (f : CellPiece → CellMark) (p : RowPart) (c : List Slot) (a : CellId) (n : NodeId) (b : Bool) (ys : List CellMark) → map f (beside (embed_cells p c) (Make a n b ∷ ys)) ≡ f (Then (Make a n b)) ∷ map f (beside (embed_cells p c) ys)
 beside-gained f p [] a n b ys = refl
 beside-gained f p (s ∷ c) a n b ys =
-    beside-found f p s.cell s.node s.full (embed_made p (p.made (Some s.cell)) ++ embed_cells p c) (Make a n b ∷ ys)
-    ∙ ap (λ l. f (Then (Make a n b)) ∷ l) (sym (beside-found f p s.cell s.node s.full (embed_made p (p.made (Some s.cell)) ++ embed_cells p c) ys))
+    beside-found f p s.cell s.node s.full (embed_made p (p.new_cells (Some s.cell)) ++ embed_cells p c) (Make a n b ∷ ys)
+    ∙ ap (λ l. f (Then (Make a n b)) ∷ l) (sym (beside-found f p s.cell s.node s.full (embed_made p (p.new_cells (Some s.cell)) ++ embed_cells p c) ys))

@@ -3,9 +3,9 @@ use Rattle.std.proofs.Common.{◌≡◌, Bool, true, false, List, [], ◌∷◌,
 use Rattle.st_ids.specs.declared.names.NodeId.{NodeId}
 use Rattle.st_marks.specs.declared.marks.How.TheVariants.{Stay}
 use Rattle.st_marks.specs.declared.places.Slot.{Slot}
-use Rattle.st_marks.specs.Extends.{Grows, done, gained, kept}
+use Rattle.st_marks.specs.Extends.{GainsItems, no_more, item_gained, item_kept}
 use Rattle.st_marks.specs.Row.{CellMark, Counted, Touch, SameCell, step_cell, step_row}
-use Rattle.st_seq.specs.Agreement.{row_seen}
+use Rattle.st_seq.specs.Views.{row_views}
 use Rattle.st_seq.specs.Cells.{after_row}
 use Rattle.st_seq.proofs.Described.{DescribeAll}
 
@@ -19,12 +19,12 @@ after-cell m s t c xs same = go s.full t.full ∙ (λ i. record { cell = same.0 
     go false false = refl
 
 -- the law of the row after a step
-pub after_row-step_row : (m : NodeId → Bool) {c d : List Slot} (g : Grows SameCell c d) → after_row c (step_row m g) ≡ d
-after_row-step_row m done = refl
-after_row-step_row m (gained {y = t} g) = ap (λ l. t ∷ l) (after_row-step_row m g)
-after_row-step_row m (kept {x = s} {y = t} {xs = c} a g) = after-cell m s t c (step_row m g) a ∙ ap (λ l. t ∷ l) (after_row-step_row m g)
+pub after_row-step_row : (m : NodeId → Bool) {c d : List Slot} (g : GainsItems SameCell c d) → after_row c (step_row m g) ≡ d
+after_row-step_row m no_more = refl
+after_row-step_row m (item_gained {y = t} g) = ap (λ l. t ∷ l) (after_row-step_row m g)
+after_row-step_row m (item_kept {x = s} {y = t} {xs = c} a g) = after-cell m s t c (step_row m g) a ∙ ap (λ l. t ∷ l) (after_row-step_row m g)
 
 -- a row shows itself
-pub row_itself : (c : List Slot) → DescribeAll c (row_seen c)
+pub row_itself : (c : List Slot) → DescribeAll c (row_views c)
 row_itself [] = tt
 row_itself (s ∷ c) = ((refl, refl, refl), row_itself c)

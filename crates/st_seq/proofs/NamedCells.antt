@@ -12,10 +12,11 @@ use Rattle.st_marks.proofs.MarkLengths.{spread-append, before_more, after_more}
 use Rattle.st_marks.specs.declared.marks.Mark.{Mark}
 use Rattle.st_marks.specs.declared.places.Slot.{Slot}
 use Rattle.st_marks.specs.Row.{CellMark, Counted, Gap, Touch, Make, Fill, counted, spread}
-use Rattle.st_marks.specs.Shown.{Seen, cells_after, cells_before, counted_cell, empty_cell, is_leave, seen}
-use Rattle.st_seq.specs.Agreement.{row_seen}
+use Rattle.st_marks.specs.Listings.{CellView, cells_after, cells_before, counted_view, empty_view, cell_view}
+use Rattle.st_marks.specs.How.{is_leave}
+use Rattle.st_seq.specs.Views.{row_views}
 use Rattle.st_seq.specs.NamedApart.{stands_at, standing_at, found_at, made_at, named_before, named_after, named_in_row, first_named, same_atom, CantBoth, NamedApart, named_apart, lesser, clash_with, first_clash, IsPlace}
-use Rattle.st_seq.specs.declared.names.NamedAt.{NamedAt}
+use Rattle.st_seq.specs.declared.name_clashes.NamedAt.{NamedAt}
 
 -- ## Marks one after another
 
@@ -133,7 +134,7 @@ pub with_none : (xs : List NamedAt) → xs ++ [] ≡ xs
 with_none [] = refl
 with_none (x ∷ xs) = ap (λ l. x ∷ l) (with_none xs)
 
-standing_at-append : (k : ℕ) (X Y : List Seen) → standing_at k (X ++ Y) ≡ standing_at k X ++ standing_at (k + length X) Y
+standing_at-append : (k : ℕ) (X Y : List CellView) → standing_at k (X ++ Y) ≡ standing_at k X ++ standing_at (k + length X) Y
 standing_at-append k [] Y = ap (λ j. standing_at j Y) (omega arith)
 standing_at-append k (s ∷ X) Y =
     ap (λ l. stands_at s.full s.node k ++ l) (standing_at-append (suc k) X Y ∙ ap (λ j. standing_at (suc k) X ++ standing_at j Y) (moved_on k (length X)))
@@ -141,19 +142,19 @@ standing_at-append k (s ∷ X) Y =
 
 pub cells_before-append : (xs ys : List CellMark) → cells_before (xs ++ ys) ≡ cells_before xs ++ cells_before ys
 cells_before-append [] ys = refl
-cells_before-append (Counted ∷ xs) ys = ap (λ l. counted_cell ∷ l) (cells_before-append xs ys)
-cells_before-append (Gap c ∷ xs) ys = ap (λ l. empty_cell c ∷ l) (cells_before-append xs ys)
-cells_before-append (Touch c n h ∷ xs) ys = ap (λ l. seen c n true ∷ l) (cells_before-append xs ys)
+cells_before-append (Counted ∷ xs) ys = ap (λ l. counted_view ∷ l) (cells_before-append xs ys)
+cells_before-append (Gap c ∷ xs) ys = ap (λ l. empty_view c ∷ l) (cells_before-append xs ys)
+cells_before-append (Touch c n h ∷ xs) ys = ap (λ l. cell_view c n true ∷ l) (cells_before-append xs ys)
 cells_before-append (Make c n b ∷ xs) ys = cells_before-append xs ys
-cells_before-append (Fill c n ∷ xs) ys = ap (λ l. seen c n false ∷ l) (cells_before-append xs ys)
+cells_before-append (Fill c n ∷ xs) ys = ap (λ l. cell_view c n false ∷ l) (cells_before-append xs ys)
 
 cells_after-append : (xs ys : List CellMark) → cells_after (xs ++ ys) ≡ cells_after xs ++ cells_after ys
 cells_after-append [] ys = refl
-cells_after-append (Counted ∷ xs) ys = ap (λ l. counted_cell ∷ l) (cells_after-append xs ys)
-cells_after-append (Gap c ∷ xs) ys = ap (λ l. empty_cell c ∷ l) (cells_after-append xs ys)
-cells_after-append (Touch c n h ∷ xs) ys = ap (λ l. seen c n (not (is_leave h)) ∷ l) (cells_after-append xs ys)
-cells_after-append (Make c n b ∷ xs) ys = ap (λ l. seen c n b ∷ l) (cells_after-append xs ys)
-cells_after-append (Fill c n ∷ xs) ys = ap (λ l. seen c n true ∷ l) (cells_after-append xs ys)
+cells_after-append (Counted ∷ xs) ys = ap (λ l. counted_view ∷ l) (cells_after-append xs ys)
+cells_after-append (Gap c ∷ xs) ys = ap (λ l. empty_view c ∷ l) (cells_after-append xs ys)
+cells_after-append (Touch c n h ∷ xs) ys = ap (λ l. cell_view c n (not (is_leave h)) ∷ l) (cells_after-append xs ys)
+cells_after-append (Make c n b ∷ xs) ys = ap (λ l. cell_view c n b ∷ l) (cells_after-append xs ys)
+cells_after-append (Fill c n ∷ xs) ys = ap (λ l. cell_view c n true ∷ l) (cells_after-append xs ys)
 
 -- counted cells name no node
 pub counted-standing_before : (j k : ℕ) → standing_at k (cells_before (counted j [])) ≡ []
@@ -164,7 +165,7 @@ pub counted-standing_after : (j k : ℕ) → standing_at k (cells_after (counted
 counted-standing_after zero k = refl
 counted-standing_after (suc j) k = counted-standing_after j (suc k)
 
-standing_on : (X Y : List Seen) (left : ℕ) (out new one : List NamedAt) → out ≡ standing_at 0 X → left ≡ length X → standing_at left Y ≡ one → new ≡ out ++ one → new ≡ standing_at 0 (X ++ Y)
+standing_on : (X Y : List CellView) (left : ℕ) (out new one : List NamedAt) → out ≡ standing_at 0 X → left ≡ length X → standing_at left Y ≡ one → new ≡ out ++ one → new ≡ standing_at 0 (X ++ Y)
 standing_on X Y left out new one o a e n =
     n ∙ (λ j. o j ++ sym e j) ∙ ap (λ k. standing_at 0 X ++ standing_at k Y) (a ∙ none_left (length X)) ∙ sym (standing_at-append 0 X Y)
 
@@ -180,19 +181,19 @@ standing_after_on ms i left d out new one l o a e n =
     standing_on (cells_after (spread (take i ms))) (cells_after (spread (get_or ms i d ∷ []))) left out new one o a e n
     ∙ ap (standing_at 0) (sym (cells_after-append (spread (take i ms)) (spread (get_or ms i d ∷ []))) ∙ ap cells_after (sym (one_more ms i (get_or ms i d) l (get_or_default ms i (get_or ms i d) d l))))
 
-row_seen-append : (c d : List Slot) → row_seen (c ++ d) ≡ row_seen c ++ row_seen d
+row_seen-append : (c d : List Slot) → row_views (c ++ d) ≡ row_views c ++ row_views d
 row_seen-append [] d = refl
-row_seen-append (s ∷ c) d = ap (λ l. seen s.cell s.node s.full ∷ l) (row_seen-append c d)
+row_seen-append (s ∷ c) d = ap (λ l. cell_view s.cell s.node s.full ∷ l) (row_seen-append c d)
 
-row_seen_length : (c : List Slot) → length (row_seen c) ≡ length c
+row_seen_length : (c : List Slot) → length (row_views c) ≡ length c
 row_seen_length [] = refl
 row_seen_length (s ∷ c) = ap suc (row_seen_length c)
 
-pub standing_row_on : (c : List Slot) (i left : ℕ) (d : Slot) (out new one : List NamedAt) → i < length c → out ≡ standing_at 0 (row_seen (take i c)) → left ≡ i → standing_at left (row_seen (get_or c i d ∷ [])) ≡ one → new ≡ out ++ one
-    → new ≡ standing_at 0 (row_seen (take (i + 1) c))
+pub standing_row_on : (c : List Slot) (i left : ℕ) (d : Slot) (out new one : List NamedAt) → i < length c → out ≡ standing_at 0 (row_views (take i c)) → left ≡ i → standing_at left (row_views (get_or c i d ∷ [])) ≡ one → new ≡ out ++ one
+    → new ≡ standing_at 0 (row_views (take (i + 1) c))
 standing_row_on c i left d out new one l o a e n =
-    standing_on (row_seen (take i c)) (row_seen (get_or c i d ∷ [])) left out new one o (a ∙ sym (taken c i l) ∙ sym (row_seen_length (take i c))) e n
-    ∙ ap (standing_at 0) (sym (row_seen-append (take i c) (get_or c i d ∷ [])) ∙ ap row_seen (sym (take_more c i (get_or c i d) l ∙ ap (λ y. take i c ++ y ∷ []) (get_or_default c i (get_or c i d) d l))))
+    standing_on (row_views (take i c)) (row_views (get_or c i d ∷ [])) left out new one o (a ∙ sym (taken c i l) ∙ sym (row_seen_length (take i c))) e n
+    ∙ ap (standing_at 0) (sym (row_seen-append (take i c) (get_or c i d ∷ [])) ∙ ap row_views (sym (take_more c i (get_or c i d) l ∙ ap (λ y. take i c ++ y ∷ []) (get_or_default c i (get_or c i d) d l))))
 
 -- ## By name
 

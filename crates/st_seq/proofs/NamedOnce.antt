@@ -11,15 +11,16 @@ use Rattle.st_marks.specs.declared.intents.To.{To}
 use Rattle.st_marks.specs.declared.marks.Mark.{Mark}
 use Rattle.st_marks.specs.declared.marks.How.TheVariants.{Stay}
 use Rattle.st_marks.specs.declared.places.Slot.{Slot}
-use Rattle.st_marks.specs.Extends.{Grows, done, gained, kept}
-use Rattle.st_marks.specs.Row.{CellMark, Counted, Gap, Touch, Fill, RowPart, SameCell, how, is_here, spread, step_cell, step_row, embed_cell, embed_made, embed_cells, embed_row}
+use Rattle.st_marks.specs.Extends.{GainsItems, no_more, item_gained, item_kept}
+use Rattle.st_marks.specs.Row.{CellMark, Counted, Gap, Touch, Fill, RowPart, SameCell, how, spread, step_cell, step_row, embed_cell, embed_made, embed_cells, embed_row}
+use Rattle.st_marks.specs.How.{is_here}
 use Rattle.st_marks.proofs.Members.{all-has, append_left, append_right, first-has, has-append}
 use Rattle.st_seq.specs.Changes.{carried_cells, carried_row, full_after, made_cells}
 use Rattle.st_seq.specs.Laws.{has_grown, not_again, spread_of}
 use Rattle.st_seq.proofs.NamedCells.{same_atom-true}
 use Rattle.st_seq.specs.NamedApart.{same_atom, CantBoth, NamedApart, named_apart, found_at, named_after, named_before, named_in_row}
-use Rattle.st_seq.specs.Sequence.{FitsIn, LeadsOver, SeqPart, carried_to, cells_of, change_of, made_in}
-use Rattle.st_seq.specs.declared.names.NamedAt.{NamedAt}
+use Rattle.st_seq.specs.Sequence.{RowFits, RowLeadsOver, SeqPart, row_carried, cells_of, row_change_of, made_in}
+use Rattle.st_seq.specs.declared.name_clashes.NamedAt.{NamedAt}
 use Rattle.st_seq.specs.declared.values.RowChange.{RowChange}
 
 -- ## What is true of a row
@@ -94,23 +95,23 @@ row_true (s ∷ c) k e (inr h) = later_true s c NoCell k e (row_true c (suc k) e
 -- ## Steps
 
 -- the step gains the cell
-abbrev Gains : {c d : List Slot} → Grows SameCell c d → CellId → Type 0
-Gains done a = ⊥
-Gains (gained {y} g) a = (y.cell ≡ a) ⊎ Gains g a
-Gains (kept same g) a = Gains g a
+abbrev Gains : {c d : List Slot} → GainsItems SameCell c d → CellId → Type 0
+Gains no_more a = ⊥
+Gains (item_gained {y} g) a = (y.cell ≡ a) ⊎ Gains g a
+Gains (item_kept same g) a = Gains g a
 
-gains_has : {c d : List Slot} (g : Grows SameCell c d) (a : CellId) → Gains g a → Has (cells_of d) a
-gains_has done a h = h
-gains_has (gained g) a (inl e) = inl e
-gains_has (gained g) a (inr h) = inr (gains_has g a h)
-gains_has (kept same g) a h = inr (gains_has g a h)
+gains_has : {c d : List Slot} (g : GainsItems SameCell c d) (a : CellId) → Gains g a → Has (cells_of d) a
+gains_has no_more a h = h
+gains_has (item_gained g) a (inl e) = inl e
+gains_has (item_gained g) a (inr h) = inr (gains_has g a h)
+gains_has (item_kept same g) a h = inr (gains_has g a h)
 
-gains_new : {c d : List Slot} (g : Grows SameCell c d) → AreDistinct (λ (s : Slot). s.cell) d → AreNew c (Gains g)
-gains_new done o a h w = h
-gains_new (gained {y = t} {xs = c} {ys = d} g) o a (inl e) w = not_again d t.cell o.0 (has_grown g t.cell (subst (Has (cells_of c)) (sym e) w))
-gains_new (gained g) o a (inr h) w = gains_new g o.1 a h w
-gains_new (kept {y = t} {ys = d} same g) o a h (inl e) = not_again d t.cell o.0 (subst (Has (cells_of d)) (sym e ∙ same.0) (gains_has g a h))
-gains_new (kept same g) o a h (inr w) = gains_new g o.1 a h w
+gains_new : {c d : List Slot} (g : GainsItems SameCell c d) → AreDistinct (λ (s : Slot). s.cell) d → AreNew c (Gains g)
+gains_new no_more o a h w = h
+gains_new (item_gained {y = t} {xs = c} {ys = d} g) o a (inl e) w = not_again d t.cell o.0 (has_grown g t.cell (subst (Has (cells_of c)) (sym e) w))
+gains_new (item_gained g) o a (inr h) w = gains_new g o.1 a h w
+gains_new (item_kept {y = t} {ys = d} same g) o a h (inl e) = not_again d t.cell o.0 (subst (Has (cells_of d)) (sym e ∙ same.0) (gains_has g a h))
+gains_new (item_kept same g) o a h (inr w) = gains_new g o.1 a h w
 
 step_cell_before : (m : Nodes) (c : CellId) (n : NodeId) (a b : Bool) (k : ℕ) (xs : List CellMark) (e : NamedAt) → Has (named_before k (step_cell m c n a b ∷ xs)) e → (found_at c.0 k ≡ e) ⊎ Has (named_before (suc k) xs) e
 step_cell_before m c n true true k xs e = elim (m n) as (λ b. Has (named_before k (cond b (Touch c n Stay) Counted ∷ xs)) e → (found_at c.0 k ≡ e) ⊎ Has (named_before (suc k) xs) e) [ true ↦ (λ h. h) | false ↦ (λ h. inr h) ]
@@ -125,21 +126,21 @@ step_cell_after m c n false true k xs e = λ h. h
 step_cell_after m c n false false k xs e = λ h. h
 
 -- a step names the cells of the row before it, and makes those that it gains
-step_before : (m : Nodes) {c d : List Slot} (g : Grows SameCell c d) (k : ℕ) → AreTrueOf c (Gains g) k (named_before k (step_row m g))
-step_before m done k e h = absurd h
-step_before m (gained {y = t} {xs = c} g) k e (inl q) = subst (IsTrueOf c (Gains (gained {y = t} g)) k) q (inr (refl, inl refl))
-step_before m (gained g) k e (inr h) = elim (step_before m g k e h) [ inl w ↦ inl w | inr w ↦ inr (w.0, inr w.1) ]
-step_before m (kept {x = s} {y = t} {xs = c} same g) k e h = elim (step_cell_before m s.cell s.node s.full t.full k (step_row m g) e h) [
+step_before : (m : Nodes) {c d : List Slot} (g : GainsItems SameCell c d) (k : ℕ) → AreTrueOf c (Gains g) k (named_before k (step_row m g))
+step_before m no_more k e h = absurd h
+step_before m (item_gained {y = t} {xs = c} g) k e (inl q) = subst (IsTrueOf c (Gains (item_gained {y = t} g)) k) q (inr (refl, inl refl))
+step_before m (item_gained g) k e (inr h) = elim (step_before m g k e h) [ inl w ↦ inl w | inr w ↦ inr (w.0, inr w.1) ]
+step_before m (item_kept {x = s} {y = t} {xs = c} same g) k e h = elim (step_cell_before m s.cell s.node s.full t.full k (step_row m g) e h) [
   | inl q ↦ first_true s c (Gains g) k s.cell e refl q
   | inr v ↦ later_true s c (Gains g) k e (step_before m g (suc k) e v)
 ]
 
 -- what comes after a step finds the cells of the row after it
-step_after : (m : Nodes) {c d : List Slot} (g : Grows SameCell c d) (k : ℕ) → AreTrueOf d NoCell k (named_after k (step_row m g))
-step_after m done k e h = absurd h
-step_after m (gained {y = t} {ys = d} g) k e (inl q) = first_true t d NoCell k t.cell e refl q
-step_after m (gained {y = t} {ys = d} g) k e (inr h) = later_true t d NoCell k e (step_after m g (suc k) e h)
-step_after m (kept {x = s} {y = t} {ys = d} same g) k e h = elim (step_cell_after m s.cell s.node s.full t.full k (step_row m g) e h) [
+step_after : (m : Nodes) {c d : List Slot} (g : GainsItems SameCell c d) (k : ℕ) → AreTrueOf d NoCell k (named_after k (step_row m g))
+step_after m no_more k e h = absurd h
+step_after m (item_gained {y = t} {ys = d} g) k e (inl q) = first_true t d NoCell k t.cell e refl q
+step_after m (item_gained {y = t} {ys = d} g) k e (inr h) = later_true t d NoCell k e (step_after m g (suc k) e h)
+step_after m (item_kept {x = s} {y = t} {ys = d} same g) k e h = elim (step_cell_after m s.cell s.node s.full t.full k (step_row m g) e h) [
   | inl q ↦ first_true t d NoCell k s.cell e (sym same.0) q
   | inr v ↦ later_true t d NoCell k e (step_after m g (suc k) e v)
 ]
@@ -148,22 +149,22 @@ step_after m (kept {x = s} {y = t} {ys = d} same g) k e h = elim (step_cell_afte
 
 -- what a part makes after the cells of a row
 abbrev groups_in : RowPart → List Slot → List Owned
-groups_in p c = flat_map (λ (s : Slot). p.made (Some s.cell)) c
+groups_in p c = flat_map (λ (s : Slot). p.new_cells (Some s.cell)) c
 
 -- one of these is the cell
 abbrev MakesCell : List Owned → CellId → Type 0
 MakesCell os a = (o : Owned) × Has os o × (o.cell ≡ a)
 
-makes_new : (c : List Slot) (p : SeqPart) → FitsIn p c → AreNew c (MakesCell (made_in p.does c))
-makes_new c p w a h = λ v. all-has (λ (o : Owned). Has (cells_of c) o.cell → ⊥) (made_in p.does c) h.0 w.fresh h.1 (subst (Has (cells_of c)) (sym h.2) v)
+makes_new : (c : List Slot) (p : SeqPart) → RowFits p c → AreNew c (MakesCell (made_in p.part c))
+makes_new c p w a h = λ v. all-has (λ (o : Owned). Has (cells_of c) o.cell → ⊥) (made_in p.part c) h.0 w.fresh h.1 (subst (Has (cells_of c)) (sym h.2) v)
 
 embed_cell_before : (p : RowPart) (c : CellId) (n : NodeId) (b : Bool) (k : ℕ) (xs : List CellMark) (e : NamedAt) → Has (named_before k (embed_cell p c n b ∷ xs)) e → (found_at c.0 k ≡ e) ⊎ Has (named_before (suc k) xs) e
-embed_cell_before p c n true k xs e = elim (p.mentioned n) as (λ b. Has (named_before k (cond b (Touch c n (how (p.goes n) (To.Cell c))) Counted ∷ xs)) e → (found_at c.0 k ≡ e) ⊎ Has (named_before (suc k) xs) e) [ true ↦ (λ h. h) | false ↦ (λ h. inr h) ]
-embed_cell_before p c n false k xs e = elim (is_here (how (p.goes n) (To.Cell c))) as (λ b. Has (named_before k (cond b (Fill c n) (Gap c) ∷ xs)) e → (found_at c.0 k ≡ e) ⊎ Has (named_before (suc k) xs) e) [ true ↦ (λ h. h) | false ↦ (λ h. h) ]
+embed_cell_before p c n true k xs e = elim (p.mentioned n) as (λ b. Has (named_before k (cond b (Touch c n (how (p.target_of n) (To.Cell c))) Counted ∷ xs)) e → (found_at c.0 k ≡ e) ⊎ Has (named_before (suc k) xs) e) [ true ↦ (λ h. h) | false ↦ (λ h. inr h) ]
+embed_cell_before p c n false k xs e = elim (is_here (how (p.target_of n) (To.Cell c))) as (λ b. Has (named_before k (cond b (Fill c n) (Gap c) ∷ xs)) e → (found_at c.0 k ≡ e) ⊎ Has (named_before (suc k) xs) e) [ true ↦ (λ h. h) | false ↦ (λ h. h) ]
 
 embed_cell_after : (p : RowPart) (c : CellId) (n : NodeId) (b : Bool) (k : ℕ) (xs : List CellMark) (e : NamedAt) → Has (named_after k (embed_cell p c n b ∷ xs)) e → (found_at c.0 k ≡ e) ⊎ Has (named_after (suc k) xs) e
-embed_cell_after p c n true k xs e = elim (p.mentioned n) as (λ b. Has (named_after k (cond b (Touch c n (how (p.goes n) (To.Cell c))) Counted ∷ xs)) e → (found_at c.0 k ≡ e) ⊎ Has (named_after (suc k) xs) e) [ true ↦ (λ h. h) | false ↦ (λ h. inr h) ]
-embed_cell_after p c n false k xs e = elim (is_here (how (p.goes n) (To.Cell c))) as (λ b. Has (named_after k (cond b (Fill c n) (Gap c) ∷ xs)) e → (found_at c.0 k ≡ e) ⊎ Has (named_after (suc k) xs) e) [ true ↦ (λ h. h) | false ↦ (λ h. h) ]
+embed_cell_after p c n true k xs e = elim (p.mentioned n) as (λ b. Has (named_after k (cond b (Touch c n (how (p.target_of n) (To.Cell c))) Counted ∷ xs)) e → (found_at c.0 k ≡ e) ⊎ Has (named_after (suc k) xs) e) [ true ↦ (λ h. h) | false ↦ (λ h. inr h) ]
+embed_cell_after p c n false k xs e = elim (is_here (how (p.target_of n) (To.Cell c))) as (λ b. Has (named_after k (cond b (Fill c n) (Gap c) ∷ xs)) e → (found_at c.0 k ≡ e) ⊎ Has (named_after (suc k) xs) e) [ true ↦ (λ h. h) | false ↦ (λ h. h) ]
 
 made_before : (p : RowPart) (os : List Owned) (xs : List CellMark) (k : ℕ) (e : NamedAt) → Has (named_before k (embed_made p os ++ xs)) e → ((e.made ≡ true) × MakesCell os (cell_named e)) ⊎ Has (named_before k xs) e
 made_before p [] xs k e h = inr h
@@ -179,18 +180,18 @@ before_others p os ps c xs k rest e h = elim (made_before p os xs k e h) [
 
 cells_before : (p : RowPart) (c : List Slot) (k : ℕ) → AreTrueOf c (MakesCell (groups_in p c)) k (named_before k (embed_cells p c))
 cells_before p [] k e h = absurd h
-cells_before p (s ∷ c) k e h = elim (embed_cell_before p s.cell s.node s.full k (embed_made p (p.made (Some s.cell)) ++ embed_cells p c) e h) [
+cells_before p (s ∷ c) k e h = elim (embed_cell_before p s.cell s.node s.full k (embed_made p (p.new_cells (Some s.cell)) ++ embed_cells p c) e h) [
   | inl q ↦ first_true s c (MakesCell (groups_in p (s ∷ c))) k s.cell e refl q
-  | inr v ↦ later_true s c (MakesCell (groups_in p (s ∷ c))) k e (before_others p (p.made (Some s.cell)) (groups_in p c) c (embed_cells p c) (suc k) (cells_before p c (suc k)) e v)
+  | inr v ↦ later_true s c (MakesCell (groups_in p (s ∷ c))) k e (before_others p (p.new_cells (Some s.cell)) (groups_in p c) c (embed_cells p c) (suc k) (cells_before p c (suc k)) e v)
 ]
 
 -- a change names the cells of the row where it stands, and makes those of its groups
 change_before : (p : RowPart) (c : List Slot) → AreTrueOf c (MakesCell (made_in p c)) 0 (named_before 0 (embed_row p c))
-change_before p c = before_others p (p.made None) (groups_in p c) c (embed_cells p c) 0 (cells_before p c 0)
+change_before p c = before_others p (p.new_cells None) (groups_in p c) c (embed_cells p c) 0 (cells_before p c 0)
 
 -- a cell that is made, as it stands in the row after
 abbrev made_cell : RowPart → Owned → Slot
-made_cell p o = record { cell = o.cell; node = o.node; full = is_here (how (p.goes o.node) (To.Cell o.cell)) }
+made_cell p o = record { cell = o.cell; node = o.node; full = is_here (how (p.target_of o.node) (To.Cell o.cell)) }
 
 after_others : (p : RowPart) (os : List Owned) (d : List Slot) (xs : List CellMark) → ((k : ℕ) → AreTrueOf d NoCell k (named_after k xs)) → (k : ℕ) → AreTrueOf (made_cells p os ++ d) NoCell k (named_after k (embed_made p os ++ xs))
 after_others p [] d xs rest k e h = rest k e h
@@ -199,37 +200,37 @@ after_others p (o ∷ os) d xs rest k e (inr h) = later_true (made_cell p o) (ma
 
 -- a cell that is found, as it stands in the row after
 abbrev carried_cell : RowPart → Slot → Slot
-carried_cell p s = record s { full = full_after (p.goes s.node) s.cell s.full }
+carried_cell p s = record s { full = full_after (p.target_of s.node) s.cell s.full }
 
 cells_after : (p : RowPart) (c : List Slot) (k : ℕ) → AreTrueOf (carried_cells p c) NoCell k (named_after k (embed_cells p c))
 cells_after p [] k e h = absurd h
-cells_after p (s ∷ c) k e h = elim (embed_cell_after p s.cell s.node s.full k (embed_made p (p.made (Some s.cell)) ++ embed_cells p c) e h) [
-  | inl q ↦ first_true (carried_cell p s) (made_cells p (p.made (Some s.cell)) ++ carried_cells p c) NoCell k s.cell e refl q
-  | inr v ↦ later_true (carried_cell p s) (made_cells p (p.made (Some s.cell)) ++ carried_cells p c) NoCell k e (after_others p (p.made (Some s.cell)) (carried_cells p c) (embed_cells p c) (cells_after p c) (suc k) e v)
+cells_after p (s ∷ c) k e h = elim (embed_cell_after p s.cell s.node s.full k (embed_made p (p.new_cells (Some s.cell)) ++ embed_cells p c) e h) [
+  | inl q ↦ first_true (carried_cell p s) (made_cells p (p.new_cells (Some s.cell)) ++ carried_cells p c) NoCell k s.cell e refl q
+  | inr v ↦ later_true (carried_cell p s) (made_cells p (p.new_cells (Some s.cell)) ++ carried_cells p c) NoCell k e (after_others p (p.new_cells (Some s.cell)) (carried_cells p c) (embed_cells p c) (cells_after p c) (suc k) e v)
 ]
 
 -- what comes after a change finds the cells of the row after it
 change_after : (p : RowPart) (c : List Slot) → AreTrueOf (carried_row p c) NoCell 0 (named_after 0 (embed_row p c))
-change_after p c = after_others p (p.made None) (carried_cells p c) (embed_cells p c) (cells_after p c) 0
+change_after p c = after_others p (p.new_cells None) (carried_cells p c) (embed_cells p c) (cells_after p c) 0
 
-groups_grown : (p : RowPart) {c d : List Slot} → Grows SameCell c d → (o : Owned) → Has (groups_in p c) o → Has (groups_in p d) o
-groups_grown p done o h = h
-groups_grown p (gained {y = t} {ys = d} g) o h = append_right (p.made (Some t.cell)) (groups_in p d) o (groups_grown p g o h)
-groups_grown p (kept {x = s} {y = t} {xs = c} {ys = d} same g) o h = elim (has-append (p.made (Some s.cell)) (groups_in p c) o h) [
-  | inl w ↦ append_left (p.made (Some t.cell)) (groups_in p d) o (subst (λ a. Has (p.made (Some a)) o) same.0 w)
-  | inr w ↦ append_right (p.made (Some t.cell)) (groups_in p d) o (groups_grown p g o w)
+groups_grown : (p : RowPart) {c d : List Slot} → GainsItems SameCell c d → (o : Owned) → Has (groups_in p c) o → Has (groups_in p d) o
+groups_grown p no_more o h = h
+groups_grown p (item_gained {y = t} {ys = d} g) o h = append_right (p.new_cells (Some t.cell)) (groups_in p d) o (groups_grown p g o h)
+groups_grown p (item_kept {x = s} {y = t} {xs = c} {ys = d} same g) o h = elim (has-append (p.new_cells (Some s.cell)) (groups_in p c) o h) [
+  | inl w ↦ append_left (p.new_cells (Some t.cell)) (groups_in p d) o (subst (λ a. Has (p.new_cells (Some a)) o) same.0 w)
+  | inr w ↦ append_right (p.new_cells (Some t.cell)) (groups_in p d) o (groups_grown p g o w)
 ]
 
 -- what a change makes in a row, it makes also after a step of it
-made_grown : (p : RowPart) {c d : List Slot} → Grows SameCell c d → (o : Owned) → Has (made_in p c) o → Has (made_in p d) o
-made_grown p {c} {d} g o h = elim (has-append (p.made None) (groups_in p c) o h) [
-  | inl w ↦ append_left (p.made None) (groups_in p d) o w
-  | inr w ↦ append_right (p.made None) (groups_in p d) o (groups_grown p g o w)
+made_grown : (p : RowPart) {c d : List Slot} → GainsItems SameCell c d → (o : Owned) → Has (made_in p c) o → Has (made_in p d) o
+made_grown p {c} {d} g o h = elim (has-append (p.new_cells None) (groups_in p c) o h) [
+  | inl w ↦ append_left (p.new_cells None) (groups_in p d) o w
+  | inr w ↦ append_right (p.new_cells None) (groups_in p d) o (groups_grown p g o w)
 ]
 
 -- ## Listings of one field
 
-module _ (m : Nodes) (c d : List Slot) (marks : List Mark) (l : LeadsOver m c d marks) where
+module _ (m : Nodes) (c d : List Slot) (marks : List Mark) (l : RowLeadsOver m c d marks) where
   steps_before : AreTrueOf c (Gains l.step.grows) 0 (named_before 0 (spread marks))
   steps_before = subst (λ xs. AreTrueOf c (Gains l.step.grows) 0 (named_before 0 xs)) (sym (spread_of marks (step_row m l.step.grows) l.step.says)) (step_before m l.step.grows 0)
 
@@ -239,30 +240,30 @@ module _ (m : Nodes) (c d : List Slot) (marks : List Mark) (l : LeadsOver m c d 
   steps_new : AreNew c (Gains l.step.grows)
   steps_new = gains_new l.step.grows l.after.once
 
-module _ (p : SeqPart) (c : List Slot) (x : RowChange) (e : x ≡ change_of p c) where
-  changes_before : AreTrueOf c (MakesCell (made_in p.does c)) 0 (named_before 0 (spread x.marks))
-  changes_before = subst (λ xs. AreTrueOf c (MakesCell (made_in p.does c)) 0 (named_before 0 xs)) (sym (spread_of x.marks (embed_row p.does c) (ap (λ (y : RowChange). y.marks) e))) (change_before p.does c)
+module _ (p : SeqPart) (c : List Slot) (x : RowChange) (e : x ≡ row_change_of p c) where
+  changes_before : AreTrueOf c (MakesCell (made_in p.part c)) 0 (named_before 0 (spread x.marks))
+  changes_before = subst (λ xs. AreTrueOf c (MakesCell (made_in p.part c)) 0 (named_before 0 xs)) (sym (spread_of x.marks (embed_row p.part c) (ap (λ (y : RowChange). y.marks) e))) (change_before p.part c)
 
-  changes_after : AreTrueOf (carried_to p false c) NoCell 0 (named_after 0 (spread x.marks))
-  changes_after = subst (λ xs. AreTrueOf (carried_to p false c) NoCell 0 (named_after 0 xs)) (sym (spread_of x.marks (embed_row p.does c) (ap (λ (y : RowChange). y.marks) e))) (change_after p.does c)
+  changes_after : AreTrueOf (row_carried p false c) NoCell 0 (named_after 0 (spread x.marks))
+  changes_after = subst (λ xs. AreTrueOf (row_carried p false c) NoCell 0 (named_after 0 xs)) (sym (spread_of x.marks (embed_row p.part c) (ap (λ (y : RowChange). y.marks) e))) (change_after p.part c)
 
 -- a row and a step over it
-pub named_once-after : (m : Nodes) (c d : List Slot) (marks : List Mark) → LeadsOver m c d marks → (k : ℕ) → NamedApart (named_in_row 0 c) (named_before 0 (spread marks)) k → ⊥
+pub named_once-after : (m : Nodes) (c d : List Slot) (marks : List Mark) → RowLeadsOver m c d marks → (k : ℕ) → NamedApart (named_in_row 0 c) (named_before 0 (spread marks)) k → ⊥
 named_once-after m c d marks l = true_together c NoCell (Gains l.step.grows) l.before.once (λ a h v. h) (steps_new m c d marks l) (λ a h v. h) (named_in_row 0 c) (named_before 0 (spread marks)) (row_true c 0) (steps_before m c d marks l)
 
 -- two steps in turn
-pub named_once-compose : (m k : Nodes) (c d e : List Slot) (s t : List Mark) → LeadsOver m c d s → LeadsOver k d e t → (j : ℕ) → NamedApart (named_after 0 (spread s)) (named_before 0 (spread t)) j → ⊥
+pub named_once-compose : (m k : Nodes) (c d e : List Slot) (s t : List Mark) → RowLeadsOver m c d s → RowLeadsOver k d e t → (j : ℕ) → NamedApart (named_after 0 (spread s)) (named_before 0 (spread t)) j → ⊥
 named_once-compose m k c d e s t l r = true_together d NoCell (Gains r.step.grows) r.before.once (λ a h v. h) (steps_new k d e t r) (λ a h v. h) (named_after 0 (spread s)) (named_before 0 (spread t)) (steps_after m c d s l) (steps_before k d e t r)
 
 -- two changes in turn
-pub named_once-join : (p q : SeqPart) (c : List Slot) (x y : RowChange) → FitsIn p c → x ≡ change_of p c → FitsIn q (carried_to p false c) → y ≡ change_of q (carried_to p false c) → (j : ℕ) → NamedApart (named_after 0 (spread x.marks)) (named_before 0 (spread y.marks)) j → ⊥
+pub named_once-join : (p q : SeqPart) (c : List Slot) (x y : RowChange) → RowFits p c → x ≡ row_change_of p c → RowFits q (row_carried p false c) → y ≡ row_change_of q (row_carried p false c) → (j : ℕ) → NamedApart (named_after 0 (spread x.marks)) (named_before 0 (spread y.marks)) j → ⊥
 named_once-join p q c x y w e v f =
-    let d = carried_to p false c in
-    true_together d NoCell (MakesCell (made_in q.does d)) v.content.once (λ a h v. h) (makes_new d q v) (λ a h v. h) (named_after 0 (spread x.marks)) (named_before 0 (spread y.marks)) (changes_after p c x e) (changes_before q d y f)
+    let d = row_carried p false c in
+    true_together d NoCell (MakesCell (made_in q.part d)) v.content.once (λ a h v. h) (makes_new d q v) (λ a h v. h) (named_after 0 (spread x.marks)) (named_before 0 (spread y.marks)) (changes_after p c x e) (changes_before q d y f)
 
 -- a change and a step over one row
-pub named_once-rebase : (p : SeqPart) (m : Nodes) (c d : List Slot) (x : RowChange) (s : List Mark) → FitsIn p c → FitsIn p d → x ≡ change_of p c → LeadsOver m c d s → (j : ℕ) → NamedApart (named_before 0 (spread x.marks)) (named_before 0 (spread s)) j → ⊥
+pub named_once-rebase : (p : SeqPart) (m : Nodes) (c d : List Slot) (x : RowChange) (s : List Mark) → RowFits p c → RowFits p d → x ≡ row_change_of p c → RowLeadsOver m c d s → (j : ℕ) → NamedApart (named_before 0 (spread x.marks)) (named_before 0 (spread s)) j → ⊥
 named_once-rebase p m c d x s w v e l =
     let g = l.step.grows in
-    let others : (a : CellId) → MakesCell (made_in p.does c) a → Gains g a → ⊥ = λ a h u. makes_new d p v a (h.0, made_grown p.does g h.0 h.1, h.2) (gains_has g a u) in
-    true_together c (MakesCell (made_in p.does c)) (Gains g) l.before.once (makes_new c p w) (steps_new m c d s l) others (named_before 0 (spread x.marks)) (named_before 0 (spread s)) (changes_before p c x e) (steps_before m c d s l)
+    let others : (a : CellId) → MakesCell (made_in p.part c) a → Gains g a → ⊥ = λ a h u. makes_new d p v a (h.0, made_grown p.part g h.0 h.1, h.2) (gains_has g a u) in
+    true_together c (MakesCell (made_in p.part c)) (Gains g) l.before.once (makes_new c p w) (steps_new m c d s l) others (named_before 0 (spread x.marks)) (named_before 0 (spread s)) (changes_before p c x e) (steps_before m c d s l)

@@ -7,13 +7,13 @@ use Rattle.st_kind.specs.Named.{Nodes}
 use Rattle.st_marks.specs.declared.marks.Mark.{Mark}
 use Rattle.st_marks.specs.declared.places.Slot.{Slot}
 use Rattle.st_marks.specs.Row.{spread, step_row, embed_row}
-use Rattle.st_marks.specs.Shown.{Seen, cells_after, cells_before}
+use Rattle.st_marks.specs.Listings.{CellView, cells_after, cells_before}
 use Rattle.st_marks.proofs.Members.{all-has, first-has, has-append}
-use Rattle.st_seq.specs.Agreement.{row_seen}
+use Rattle.st_seq.specs.Views.{row_views}
 use Rattle.st_seq.specs.Laws.{spread_of}
 use Rattle.st_seq.specs.NamedApart.{NamedApart, named_apart, same_atom, stands_at, standing_at}
-use Rattle.st_seq.specs.Sequence.{FitsIn, LeadsOver, SeqPart, carried_to, change_of, standing}
-use Rattle.st_seq.specs.declared.names.NamedAt.{NamedAt}
+use Rattle.st_seq.specs.Sequence.{RowFits, RowLeadsOver, SeqPart, row_carried, row_change_of, standing}
+use Rattle.st_seq.specs.declared.name_clashes.NamedAt.{NamedAt}
 use Rattle.st_seq.specs.declared.values.RowChange.{RowChange}
 use Rattle.st_seq.proofs.Described.{DescribeAll, IfTold, change_finds, change_leaves, step_finds, step_leaves}
 use Rattle.st_seq.proofs.Fitting.{change_is}
@@ -80,7 +80,7 @@ first_true s c k true (Some n) f t e (inr w) = absurd w
 first_true s c k false (Some n) f t e h = absurd h
 
 -- a listing that describes a row names the nodes that stand there
-names_true : (c : List Slot) (X : List Seen) (k : ℕ) → DescribeAll c X → AreTrueOf c k (standing_at k X)
+names_true : (c : List Slot) (X : List CellView) (k : ℕ) → DescribeAll c X → AreTrueOf c k (standing_at k X)
 names_true [] [] k d e h = absurd h
 names_true [] (x ∷ X) k d e h = absurd d
 names_true (s ∷ c) [] k d e h = absurd d
@@ -90,37 +90,37 @@ names_true (s ∷ c) (x ∷ X) k d e h = elim (has-append (stands_at x.full x.no
 ]
 
 -- two listings that describe one row don't name a node apart
-described_together : (c : List Slot) (X Y : List Seen) → AreDistinct (λ (x : NodeId). x) (standing c) → DescribeAll c X → DescribeAll c Y → (j : ℕ) → NamedApart (standing_at 0 X) (standing_at 0 Y) j → ⊥
+described_together : (c : List Slot) (X Y : List CellView) → AreDistinct (λ (x : NodeId). x) (standing c) → DescribeAll c X → DescribeAll c Y → (j : ℕ) → NamedApart (standing_at 0 X) (standing_at 0 Y) j → ⊥
 described_together c X Y o x y = true_together c o (standing_at 0 X) (standing_at 0 Y) (names_true c X 0 x) (names_true c Y 0 y)
 
 -- ## Listings of one field
 
-module _ (m : Nodes) (c d : List Slot) (marks : List Mark) (l : LeadsOver m c d marks) where
+module _ (m : Nodes) (c d : List Slot) (marks : List Mark) (l : RowLeadsOver m c d marks) where
   step_before : DescribeAll c (cells_before (spread marks))
   step_before = subst (λ xs. DescribeAll c (cells_before xs)) (sym (spread_of marks (step_row m l.step.grows) l.step.says)) (step_finds m l.step.grows)
 
   step_after : DescribeAll d (cells_after (spread marks))
   step_after = subst (λ xs. DescribeAll d (cells_after xs)) (sym (spread_of marks (step_row m l.step.grows) l.step.says)) (step_leaves m l.step.grows)
 
-module _ (p : SeqPart) (c : List Slot) (x : RowChange) (w : FitsIn p c) (e : x ≡ change_of p c) where
+module _ (p : SeqPart) (c : List Slot) (x : RowChange) (w : RowFits p c) (e : x ≡ row_change_of p c) where
   pub change_before : DescribeAll c (cells_before (spread x.marks))
-  change_before = subst (λ xs. DescribeAll c (cells_before xs)) (sym (spread_of x.marks (embed_row p.does c) (ap (λ (y : RowChange). y.marks) e))) (change_finds p.does c)
+  change_before = subst (λ xs. DescribeAll c (cells_before xs)) (sym (spread_of x.marks (embed_row p.part c) (ap (λ (y : RowChange). y.marks) e))) (change_finds p.part c)
 
-  change_after : DescribeAll (carried_to p false c) (cells_after (spread x.marks))
-  change_after = subst (λ xs. DescribeAll (carried_to p false c) (cells_after xs)) (sym (spread_of x.marks (embed_row p.does c) (ap (λ (y : RowChange). y.marks) e))) (change_leaves p.does c (change_is p c x w e).mentions)
+  change_after : DescribeAll (row_carried p false c) (cells_after (spread x.marks))
+  change_after = subst (λ xs. DescribeAll (row_carried p false c) (cells_after xs)) (sym (spread_of x.marks (embed_row p.part c) (ap (λ (y : RowChange). y.marks) e))) (change_leaves p.part c (change_is p c x w e).mentions)
 
 -- a row and a step over it
-pub stands_once-after : (m : Nodes) (c d : List Slot) (marks : List Mark) → LeadsOver m c d marks → (k : ℕ) → NamedApart (standing_at 0 (row_seen c)) (standing_at 0 (cells_before (spread marks))) k → ⊥
-stands_once-after m c d marks l = described_together c (row_seen c) (cells_before (spread marks)) l.before.stand_once (row_itself c) (step_before m c d marks l)
+pub stands_once-after : (m : Nodes) (c d : List Slot) (marks : List Mark) → RowLeadsOver m c d marks → (k : ℕ) → NamedApart (standing_at 0 (row_views c)) (standing_at 0 (cells_before (spread marks))) k → ⊥
+stands_once-after m c d marks l = described_together c (row_views c) (cells_before (spread marks)) l.before.stand_once (row_itself c) (step_before m c d marks l)
 
 -- two steps in turn
-pub stands_once-compose : (m k : Nodes) (c d e : List Slot) (s t : List Mark) → LeadsOver m c d s → LeadsOver k d e t → (j : ℕ) → NamedApart (standing_at 0 (cells_after (spread s))) (standing_at 0 (cells_before (spread t))) j → ⊥
+pub stands_once-compose : (m k : Nodes) (c d e : List Slot) (s t : List Mark) → RowLeadsOver m c d s → RowLeadsOver k d e t → (j : ℕ) → NamedApart (standing_at 0 (cells_after (spread s))) (standing_at 0 (cells_before (spread t))) j → ⊥
 stands_once-compose m k c d e s t l r = described_together d (cells_after (spread s)) (cells_before (spread t)) r.before.stand_once (step_after m c d s l) (step_before k d e t r)
 
 -- two changes in turn
-pub stands_once-join : (p q : SeqPart) (c : List Slot) (x y : RowChange) → FitsIn p c → x ≡ change_of p c → FitsIn q (carried_to p false c) → y ≡ change_of q (carried_to p false c) → (j : ℕ) → NamedApart (standing_at 0 (cells_after (spread x.marks))) (standing_at 0 (cells_before (spread y.marks))) j → ⊥
-stands_once-join p q c x y w e v f = described_together (carried_to p false c) (cells_after (spread x.marks)) (cells_before (spread y.marks)) v.content.stand_once (change_after p c x w e) (change_before q (carried_to p false c) y v f)
+pub stands_once-join : (p q : SeqPart) (c : List Slot) (x y : RowChange) → RowFits p c → x ≡ row_change_of p c → RowFits q (row_carried p false c) → y ≡ row_change_of q (row_carried p false c) → (j : ℕ) → NamedApart (standing_at 0 (cells_after (spread x.marks))) (standing_at 0 (cells_before (spread y.marks))) j → ⊥
+stands_once-join p q c x y w e v f = described_together (row_carried p false c) (cells_after (spread x.marks)) (cells_before (spread y.marks)) v.content.stand_once (change_after p c x w e) (change_before q (row_carried p false c) y v f)
 
 -- a change and a step over one row
-pub stands_once-rebase : (p : SeqPart) (m : Nodes) (c d : List Slot) (x : RowChange) (s : List Mark) → FitsIn p c → x ≡ change_of p c → LeadsOver m c d s → (j : ℕ) → NamedApart (standing_at 0 (cells_before (spread x.marks))) (standing_at 0 (cells_before (spread s))) j → ⊥
+pub stands_once-rebase : (p : SeqPart) (m : Nodes) (c d : List Slot) (x : RowChange) (s : List Mark) → RowFits p c → x ≡ row_change_of p c → RowLeadsOver m c d s → (j : ℕ) → NamedApart (standing_at 0 (cells_before (spread x.marks))) (standing_at 0 (cells_before (spread s))) j → ⊥
 stands_once-rebase p m c d x s w e l = described_together c (cells_before (spread x.marks)) (cells_before (spread s)) l.before.stand_once (change_before p c x w e) (step_before m c d s l)

@@ -13,24 +13,25 @@ use Rattle.st_marks.specs.declared.intents.To.{To}
 use Rattle.st_marks.specs.declared.marks.Mark.{Mark}
 use Rattle.st_marks.specs.declared.places.Slot.{Slot}
 use Rattle.st_marks.specs.Embedding.{is_among}
-use Rattle.st_marks.specs.Row.{CellMark, Counted, Gap, Touch, Make, Fill, RowPart, counted, how, is_here, spread, embed_cell, embed_made, embed_cells, embed_row}
-use Rattle.st_marks.specs.Shown.{Seen, seen, cells_before, cells_made}
+use Rattle.st_marks.specs.Row.{CellMark, Counted, Gap, Touch, Make, Fill, RowPart, counted, how, spread, embed_cell, embed_made, embed_cells, embed_row}
+use Rattle.st_marks.specs.How.{is_here}
+use Rattle.st_marks.specs.Listings.{CellView, cell_view, cells_before, cells_made}
 use Rattle.st_marks.proofs.Members.{all-has, has-any, has-append}
 use Rattle.st_seq.specs.Changes.{carried_cells, carried_row, made_cells}
 use Rattle.st_seq.specs.Laws.{spread_of}
-use Rattle.st_seq.specs.Sequence.{FitsIn, SeqPart, carried_to, change_of}
+use Rattle.st_seq.specs.Sequence.{RowFits, SeqPart, row_carried, row_change_of}
 use Rattle.st_seq.specs.declared.values.RowChange.{RowChange}
 use Rattle.st_seq.proofs.Described.{DescribeAll, IfTold}
 use Rattle.st_seq.proofs.NodesOnce.{change_before}
 use Rattle.st_seq.proofs.Truth.{not_so, true_false}
 use Rattle.st_seq.specs.NamedApart.{IsPlace, found_at, first_named, same_atom, lesser}
 use Rattle.st_seq.specs.OwnedEarly.{OwnedEarly, owned_early, has_name, early_place, first_early}
-use Rattle.st_seq.specs.declared.names.NamedAt.{NamedAt}
+use Rattle.st_seq.specs.declared.name_clashes.NamedAt.{NamedAt}
 use Rattle.st_seq.proofs.NamedCells.{lesser-assoc, cells_before-append, one_more, none_left, moved_on, same_atom-itself, same_atom-true}
 
 -- ## One mark more
 
-first_early-append : (N M : List NamedAt) (k : ℕ) (X Y : List Seen) → first_early N M k (X ++ Y) ≡ lesser (first_early N M k X) (first_early N M (k + length X) Y)
+first_early-append : (N M : List NamedAt) (k : ℕ) (X Y : List CellView) → first_early N M k (X ++ Y) ≡ lesser (first_early N M k X) (first_early N M (k + length X) Y)
 first_early-append N M k [] Y = ap (λ j. first_early N M j Y) (omega arith)
 first_early-append N M k (s ∷ X) Y =
     ap (lesser (early_place N M k s.cell s.node)) (first_early-append N M (suc k) X Y ∙ ap (λ j. lesser (first_early N M (suc k) X) (first_early N M j Y)) (moved_on k (length X)))
@@ -84,12 +85,12 @@ nodes_on ns i d out new l o n =
 -- ## What the search tells
 
 -- at a place of what is shown, a cell of a node that is among some, and which isn't among others
-abbrev pub IsEarly : List NamedAt → List NamedAt → List Seen → ℕ → Type 0
-IsEarly N M X i = (c : CellId) × (n : NodeId) × (b : Bool) × (slice_get X i ≡ Some (seen c n b)) × (has_name N n.0 ≡ true) × (has_name M c.0 ≡ false)
+abbrev pub IsEarly : List NamedAt → List NamedAt → List CellView → ℕ → Type 0
+IsEarly N M X i = (c : CellId) × (n : NodeId) × (b : Bool) × (slice_get X i ≡ Some (cell_view c n b)) × (has_name N n.0 ≡ true) × (has_name M c.0 ≡ false)
 
-abbrev OneTold : List NamedAt → List NamedAt → ℕ → Seen → Option ℕ → Type 0
-OneTold N M k s None = (c : CellId) (n : NodeId) (b : Bool) → s ≡ seen c n b → has_name N n.0 ≡ true → has_name M c.0 ≡ false → ⊥
-OneTold N M k s (Some j) = (j ≡ k) × ((c : CellId) × (n : NodeId) × (b : Bool) × (s ≡ seen c n b) × (has_name N n.0 ≡ true) × (has_name M c.0 ≡ false))
+abbrev OneTold : List NamedAt → List NamedAt → ℕ → CellView → Option ℕ → Type 0
+OneTold N M k s None = (c : CellId) (n : NodeId) (b : Bool) → s ≡ cell_view c n b → has_name N n.0 ≡ true → has_name M c.0 ≡ false → ⊥
+OneTold N M k s (Some j) = (j ≡ k) × ((c : CellId) × (n : NodeId) × (b : Bool) × (s ≡ cell_view c n b) × (has_name N n.0 ≡ true) × (has_name M c.0 ≡ false))
 
 one_cell : (c d : CellId) → Some c ≡ Some d → c ≡ d
 one_cell c d e = ap (λ (o : Option CellId). option_map_or (λ (x : CellId). x) o c) e
@@ -97,53 +98,53 @@ one_cell c d e = ap (λ (o : Option CellId). option_map_or (λ (x : CellId). x) 
 one_node : (n m : NodeId) → Some n ≡ Some m → n ≡ m
 one_node n m e = ap (λ (o : Option NodeId). option_map_or (λ (x : NodeId). x) o n) e
 
-one_seen : (s t : Seen) → Some s ≡ Some t → s ≡ t
-one_seen s t e = ap (λ (o : Option Seen). option_map_or (λ (x : Seen). x) o s) e
+one_seen : (s t : CellView) → Some s ≡ Some t → s ≡ t
+one_seen s t e = ap (λ (o : Option CellView). option_map_or (λ (x : CellView). x) o s) e
 
-tell_one : (N M : List NamedAt) (k : ℕ) (s : Seen) → OneTold N M k s (early_place N M k s.cell s.node)
+tell_one : (N M : List NamedAt) (k : ℕ) (s : CellView) → OneTold N M k s (early_place N M k s.cell s.node)
 tell_one N M k s = go s.cell s.node refl refl
   where
     go : (o : Option CellId) (p : Option NodeId) → s.cell ≡ o → s.node ≡ p → OneTold N M k s (early_place N M k o p)
-    go None p e f = λ c n b h x y. (let z : ◌≡◌ {A = Option CellId} None (Some c) = sym e ∙ ap (λ (v : Seen). v.cell) h in cc)
-    go (Some a) None e f = λ c n b h x y. (let z : ◌≡◌ {A = Option NodeId} None (Some n) = sym f ∙ ap (λ (v : Seen). v.node) h in cc)
+    go None p e f = λ c n b h x y. (let z : ◌≡◌ {A = Option CellId} None (Some c) = sym e ∙ ap (λ (v : CellView). v.cell) h in cc)
+    go (Some a) None e f = λ c n b h x y. (let z : ◌≡◌ {A = Option NodeId} None (Some n) = sym f ∙ ap (λ (v : CellView). v.node) h in cc)
     go (Some a) (Some m) e f = by (has_name N m.0) refl (has_name M a.0) refl
       where
         by : (u : Bool) → has_name N m.0 ≡ u → (v : Bool) → has_name M a.0 ≡ v → OneTold N M k s (cond (u && not v) (Some k) None)
-        by true g true i = λ c n b h x y. true_false i (ap (λ (z : CellId). has_name M z.0) (one_cell a c (sym e ∙ ap (λ (v : Seen). v.cell) h)) ∙ y)
+        by true g true i = λ c n b h x y. true_false i (ap (λ (z : CellId). has_name M z.0) (one_cell a c (sym e ∙ ap (λ (v : CellView). v.cell) h)) ∙ y)
         by true g false i = (refl, (a, m, s.full, (λ j. record { cell = e j; node = f j; full = s.full }), g, i))
-        by false g v i = λ c n b h x y. true_false (ap (λ (z : NodeId). has_name N z.0) (one_node m n (sym f ∙ ap (λ (v : Seen). v.node) h)) ∙ x) g
+        by false g v i = λ c n b h x y. true_false (ap (λ (z : NodeId). has_name N z.0) (one_node m n (sym f ∙ ap (λ (v : CellView). v.node) h)) ∙ x) g
 
-abbrev ListTold : List NamedAt → List NamedAt → ℕ → List Seen → Option ℕ → Type 0
+abbrev ListTold : List NamedAt → List NamedAt → ℕ → List CellView → Option ℕ → Type 0
 ListTold N M k X None = (i : ℕ) → IsEarly N M X i → ⊥
 ListTold N M k X (Some j) = ((i : ℕ) × (j ≡ k + i) × IsEarly N M X i) × ((i : ℕ) → IsEarly N M X i → j ≤ k + i)
 
-tell_more : (N M : List NamedAt) (k : ℕ) (s : Seen) (X : List Seen) (p q : Option ℕ) → OneTold N M k s p → ListTold N M (suc k) X q → ListTold N M k (s ∷ X) (lesser p q)
+tell_more : (N M : List NamedAt) (k : ℕ) (s : CellView) (X : List CellView) (p q : Option ℕ) → OneTold N M k s p → ListTold N M (suc k) X q → ListTold N M k (s ∷ X) (lesser p q)
 tell_more N M k s X None None t a = none
   where
     none : (i : ℕ) → IsEarly N M (s ∷ X) i → ⊥
-    none zero (c, n, b, e, x, y) = t c n b (one_seen s (seen c n b) e) x y
+    none zero (c, n, b, e, x, y) = t c n b (one_seen s (cell_view c n b) e) x y
     none (suc i) h = a i h
 tell_more N M k s X None (Some j) t a = ((suc a.0.0, (let e = a.0.1 in omega (arith, e)), a.0.2), most)
   where
     most : (i : ℕ) → IsEarly N M (s ∷ X) i → j ≤ k + i
-    most zero (c, n, b, e, x, y) = absurd (t c n b (one_seen s (seen c n b) e) x y)
+    most zero (c, n, b, e, x, y) = absurd (t c n b (one_seen s (cell_view c n b) e) x y)
     most (suc i) h = let l = a.1 i h in omega (arith, l)
 tell_more N M k s X (Some j) None t a = ((0, (let e = t.0 in omega (arith, e)), here t.1), most)
   where
-    here : (c : CellId) × (n : NodeId) × (b : Bool) × (s ≡ seen c n b) × (has_name N n.0 ≡ true) × (has_name M c.0 ≡ false) → IsEarly N M (s ∷ X) 0
-    here (c, n, b, e, x, y) = (c, n, b, ap (λ (v : Seen). Some v) e, x, y)
+    here : (c : CellId) × (n : NodeId) × (b : Bool) × (s ≡ cell_view c n b) × (has_name N n.0 ≡ true) × (has_name M c.0 ≡ false) → IsEarly N M (s ∷ X) 0
+    here (c, n, b, e, x, y) = (c, n, b, ap (λ (v : CellView). Some v) e, x, y)
 
     most : (i : ℕ) → IsEarly N M (s ∷ X) i → j ≤ k + i
     most i h = let e = t.0 in omega (arith, e)
 tell_more N M k s X (Some j) (Some l) t a = ((0, (let e = t.0 in let f = a.0.1 in omega (arith, e, f)), here t.1), most)
   where
-    here : (c : CellId) × (n : NodeId) × (b : Bool) × (s ≡ seen c n b) × (has_name N n.0 ≡ true) × (has_name M c.0 ≡ false) → IsEarly N M (s ∷ X) 0
-    here (c, n, b, e, x, y) = (c, n, b, ap (λ (v : Seen). Some v) e, x, y)
+    here : (c : CellId) × (n : NodeId) × (b : Bool) × (s ≡ cell_view c n b) × (has_name N n.0 ≡ true) × (has_name M c.0 ≡ false) → IsEarly N M (s ∷ X) 0
+    here (c, n, b, e, x, y) = (c, n, b, ap (λ (v : CellView). Some v) e, x, y)
 
     most : (i : ℕ) → IsEarly N M (s ∷ X) i → min j l ≤ k + i
     most i h = let e = t.0 in omega (arith, e)
 
-tell_list : (N M : List NamedAt) (k : ℕ) (X : List Seen) → ListTold N M k X (first_early N M k X)
+tell_list : (N M : List NamedAt) (k : ℕ) (X : List CellView) → ListTold N M k X (first_early N M k X)
 tell_list N M k [] = λ i h. let e = h.3 in cc
 tell_list N M k (s ∷ X) = tell_more N M k s X (early_place N M k s.cell s.node) (first_early N M (suc k) X) (tell_one N M k s) (tell_list N M (suc k) X)
 
@@ -204,12 +205,12 @@ early_is_place new xs ys = place_of new xs ys (first_early (names new xs ys) (ma
 -- ## Changes of one row
 
 -- a described row has the cell that is shown at a place
-described_at : (d : List Slot) (Y : List Seen) (k : ℕ) (c : CellId) (n : NodeId) (b : Bool) → DescribeAll d Y → slice_get Y k ≡ Some (seen c n b) → (s : Slot) × Has d s × (c ≡ s.cell) × (n ≡ s.node)
+described_at : (d : List Slot) (Y : List CellView) (k : ℕ) (c : CellId) (n : NodeId) (b : Bool) → DescribeAll d Y → slice_get Y k ≡ Some (cell_view c n b) → (s : Slot) × Has d s × (c ≡ s.cell) × (n ≡ s.node)
 described_at [] [] k c n b h e = cc
 described_at [] (x ∷ Y) k c n b h e = absurd h
 described_at (s ∷ d) [] k c n b h e = absurd h
 described_at (s ∷ d) (x ∷ Y) zero c n b h e =
-    let told = subst (λ (y : Seen). IfTold y.cell s.cell × IfTold y.node s.node) (one_seen x (seen c n b) e) (h.0.1, h.0.2) in
+    let told = subst (λ (y : CellView). IfTold y.cell s.cell × IfTold y.node s.node) (one_seen x (cell_view c n b) e) (h.0.1, h.0.2) in
     (s, inl refl, told.0, told.1)
 described_at (s ∷ d) (x ∷ Y) (suc k) c n b h e = let r = described_at d Y k c n b h.1 e in (r.0, inr r.1, r.2, r.3)
 
@@ -224,8 +225,8 @@ rest_listed p (o ∷ os) xs a h = inr (rest_listed p os xs a h)
 
 -- what is found isn't made
 unmade : (p : RowPart) (c : CellId) (n : NodeId) (b : Bool) (xs : List CellMark) → cells_made (embed_cell p c n b ∷ xs) ≡ cells_made xs
-unmade p c n true xs = elim (p.mentioned n) as (λ b. cells_made (cond b (Touch c n (how (p.goes n) (To.Cell c))) Counted ∷ xs) ≡ cells_made xs) [ true ↦ refl | false ↦ refl ]
-unmade p c n false xs = elim (is_here (how (p.goes n) (To.Cell c))) as (λ b. cells_made (cond b (Fill c n) (Gap c) ∷ xs) ≡ cells_made xs) [ true ↦ refl | false ↦ refl ]
+unmade p c n true xs = elim (p.mentioned n) as (λ b. cells_made (cond b (Touch c n (how (p.target_of n) (To.Cell c))) Counted ∷ xs) ≡ cells_made xs) [ true ↦ refl | false ↦ refl ]
+unmade p c n false xs = elim (is_here (how (p.target_of n) (To.Cell c))) as (λ b. cells_made (cond b (Fill c n) (Gap c) ∷ xs) ≡ cells_made xs) [ true ↦ refl | false ↦ refl ]
 
 -- the cell of a row has the owner of a cell of another row
 abbrev IsOwnedIn : List Slot → Slot → Type 0
@@ -235,30 +236,30 @@ cells_owned : (p : RowPart) (c : List Slot) (s : Slot) → Has (carried_cells p 
 cells_owned p [] s h = absurd h
 cells_owned p (t ∷ c) s (inl e) = inl (t, inl refl, ap (λ (y : Slot). y.node) e)
 cells_owned p (t ∷ c) s (inr h) =
-    let back = subst (λ l. Has l s.cell) (sym (unmade p t.cell t.node t.full (embed_made p (p.made (Some t.cell)) ++ embed_cells p c))) in
-    elim (has-append (made_cells p (p.made (Some t.cell))) (carried_cells p c) s h) [
-      | inl w ↦ inr (back (made_listed p (p.made (Some t.cell)) (embed_cells p c) s w))
+    let back = subst (λ l. Has l s.cell) (sym (unmade p t.cell t.node t.full (embed_made p (p.new_cells (Some t.cell)) ++ embed_cells p c))) in
+    elim (has-append (made_cells p (p.new_cells (Some t.cell))) (carried_cells p c) s h) [
+      | inl w ↦ inr (back (made_listed p (p.new_cells (Some t.cell)) (embed_cells p c) s w))
       | inr w ↦ (elim (cells_owned p c s w) [
         | inl r ↦ inl (r.0, inr r.1, r.2)
-        | inr r ↦ inr (back (rest_listed p (p.made (Some t.cell)) (embed_cells p c) s.cell r))
+        | inr r ↦ inr (back (rest_listed p (p.new_cells (Some t.cell)) (embed_cells p c) s.cell r))
       ])
     ]
 
 -- a cell after a change has the owner of one that was there, or is made
 row_owned : (p : RowPart) (c : List Slot) (s : Slot) → Has (carried_row p c) s → IsOwnedIn c s ⊎ Has (cells_made (embed_row p c)) s.cell
-row_owned p c s h = elim (has-append (made_cells p (p.made None)) (carried_cells p c) s h) [
-  | inl w ↦ inr (made_listed p (p.made None) (embed_cells p c) s w)
-  | inr w ↦ (elim (cells_owned p c s w) [ inl r ↦ inl r | inr r ↦ inr (rest_listed p (p.made None) (embed_cells p c) s.cell r) ])
+row_owned p c s h = elim (has-append (made_cells p (p.new_cells None)) (carried_cells p c) s h) [
+  | inl w ↦ inr (made_listed p (p.new_cells None) (embed_cells p c) s w)
+  | inr w ↦ (elim (cells_owned p c s w) [ inl r ↦ inl r | inr r ↦ inr (rest_listed p (p.new_cells None) (embed_cells p c) s.cell r) ])
 ]
 
 -- two changes in turn
-pub never_early : (p q : SeqPart) (c : List Slot) (x y : RowChange) → FitsIn p c → x ≡ change_of p c → FitsIn q (carried_to p false c) → y ≡ change_of q (carried_to p false c) → (k : ℕ) → OwnedEarly x.new (spread x.marks) (spread y.marks) k → ⊥
+pub never_early : (p q : SeqPart) (c : List Slot) (x y : RowChange) → RowFits p c → x ≡ row_change_of p c → RowFits q (row_carried p false c) → y ≡ row_change_of q (row_carried p false c) → (k : ℕ) → OwnedEarly x.new (spread x.marks) (spread y.marks) k → ⊥
 never_early p q c x y w e v f _ (owned_early a n b k at has none) =
-    let s = described_at (carried_to p false c) (cells_before (spread y.marks)) k a n b (change_before q (carried_to p false c) y v f) at in
-    elim (row_owned p.does c s.0 s.1) [
+    let s = described_at (row_carried p false c) (cells_before (spread y.marks)) k a n b (change_before q (row_carried p false c) y v f) at in
+    elim (row_owned p.part c s.0 s.1) [
       | inl r ↦
           (let new : Has p.new n = subst (λ l. Has l n) (ap (λ (z : RowChange). z.new) e) has in
           let old : is_among p.new r.0.node ≡ false = all-has (λ (t : Slot). is_among p.new t.node ≡ false) c r.0 w.old r.1 in
           true_false (has-any (λ (m : NodeId). same_node m n) p.new n new (same_node-itself n)) (ap (is_among p.new) (s.3 ∙ sym r.2) ∙ old))
-      | inr r ↦ none (subst (λ l. Has (cells_made l) a) (sym (spread_of x.marks (embed_row p.does c) (ap (λ (z : RowChange). z.marks) e))) (subst (Has (cells_made (embed_row p.does c))) (sym s.2) r))
+      | inr r ↦ none (subst (λ l. Has (cells_made l) a) (sym (spread_of x.marks (embed_row p.part c) (ap (λ (z : RowChange). z.marks) e))) (subst (Has (cells_made (embed_row p.part c))) (sym s.2) r))
     ]

@@ -3,12 +3,12 @@ use Rattle.std.proofs.Common.{sym, ◌≡◌, ℕ, zero, suc, ◌+◌, ◌-◌, 
 use Rattle.st_marks.specs.declared.marks.Mark.{Mark}
 use Rattle.st_marks.specs.Row.{CellMark, Counted, Gap, Touch, Make, Fill, spread, counted}
 use Rattle.st_marks.specs.declared.places.Slot.{Slot}
-use Rattle.st_marks.specs.Shown.{Seen, seen, cells_before, cells_after}
+use Rattle.st_marks.specs.Listings.{CellView, cell_view, cells_before, cells_after}
 use Rattle.st_seq.specs.Cells.{after_row}
-use Rattle.st_seq.specs.Agreement.{agree, first_difference, row_seen, seen_before, seen_after}
+use Rattle.st_seq.specs.Views.{agree, first_difference, row_views, view_before, view_after}
 use Rattle.st_seq.specs.Merged.{is_skip}
 use Rattle.st_seq.specs.Reading.{left, cell_of, is_made, is_make, IsFirst, IsSingle}
-use Rattle.st_seq.specs.declared.read.Head.{Head}
+use Rattle.st_seq.specs.declared.front_mark.Head.{Head}
 use Rattle.st_ids.specs.declared.names.CellId.{CellId}
 use Rattle.st_ids.specs.declared.names.NodeId.{NodeId}
 use Rattle.st_seq.specs.Turns.{both_counted}
@@ -23,14 +23,14 @@ single (Mark.Make c n b) s = refl
 single (Mark.Fill c n) s = refl
 
 -- what is shown of one cell and of those behind it
-shown-before : (b : CellMark) (ys : List CellMark) → is_made b ≡ false → cells_before (b ∷ ys) ≡ seen_before b ∷ cells_before ys
+shown-before : (b : CellMark) (ys : List CellMark) → is_made b ≡ false → cells_before (b ∷ ys) ≡ view_before b ∷ cells_before ys
 shown-before Counted ys e = refl
 shown-before (Gap c) ys e = refl
 shown-before (Touch c n h) ys e = refl
 shown-before (Make c n b) ys e = cc
 shown-before (Fill c n) ys e = refl
 
-shown-after : (a : CellMark) (xs : List CellMark) → cells_after (a ∷ xs) ≡ seen_after a ∷ cells_after xs
+shown-after : (a : CellMark) (xs : List CellMark) → cells_after (a ∷ xs) ≡ view_after a ∷ cells_after xs
 shown-after Counted xs = refl
 shown-after (Gap c) xs = refl
 shown-after (Touch c n h) xs = refl
@@ -64,32 +64,32 @@ one_more None = refl
 one_more (Some k) = let e : k + 1 ≡ 1 + k = omega arith in ap (λ j. Some j) e
 
 -- one cell of each
-pub next_agrees : (s t : Seen) (ss ts : List Seen) → agree s t ≡ true → first_difference (s ∷ ss) (t ∷ ts) ≡ option_map (λ k. 1 + k) (first_difference ss ts)
+pub next_agrees : (s t : CellView) (ss ts : List CellView) → agree s t ≡ true → first_difference (s ∷ ss) (t ∷ ts) ≡ option_map (λ k. 1 + k) (first_difference ss ts)
 next_agrees s t ss ts e = rw e (one_more (first_difference ss ts))
 
-pub next_differs : (s t : Seen) (ss ts : List Seen) → agree s t ≡ false → first_difference (s ∷ ss) (t ∷ ts) ≡ Some 0
+pub next_differs : (s t : CellView) (ss ts : List CellView) → agree s t ≡ false → first_difference (s ∷ ss) (t ∷ ts) ≡ Some 0
 next_differs s t ss ts e = rw e refl
 
 -- one cell that both find
-pub found_by_both : (a b : CellMark) (X Y xs ys : List CellMark) → X ≡ a ∷ xs → Y ≡ b ∷ ys → is_made a ≡ false → is_made b ≡ false → agree (seen_before a) (seen_before b) ≡ true
+pub found_by_both : (a b : CellMark) (X Y xs ys : List CellMark) → X ≡ a ∷ xs → Y ≡ b ∷ ys → is_made a ≡ false → is_made b ≡ false → agree (view_before a) (view_before b) ≡ true
     → (beside X Y ≡ Both a b ∷ beside xs ys) × (first_difference (cells_before X) (cells_before Y) ≡ option_map (λ k. 1 + k) (first_difference (cells_before xs) (cells_before ys))) × (length xs + length ys < length X + length Y) × (length (cells_before Y) ≡ 1 + length (cells_before ys))
 found_by_both a b X Y xs ys e f m l g = rw (e, f) (
   beside-both a b xs ys m l,
-  (λ i. first_difference (shown-before a xs m i) (shown-before b ys l i)) ∙ next_agrees (seen_before a) (seen_before b) (cells_before xs) (cells_before ys) g,
+  (λ i. first_difference (shown-before a xs m i) (shown-before b ys l i)) ∙ next_agrees (view_before a) (view_before b) (cells_before xs) (cells_before ys) g,
   omega arith,
   (let n : length (cells_before (b ∷ ys)) ≡ suc (length (cells_before ys)) = ap length (shown-before b ys l) in omega (arith, n)),
 )
 
-pub found_otherwise : (a b : CellMark) (X Y xs ys : List CellMark) → X ≡ a ∷ xs → Y ≡ b ∷ ys → is_made a ≡ false → is_made b ≡ false → agree (seen_before a) (seen_before b) ≡ false
+pub found_otherwise : (a b : CellMark) (X Y xs ys : List CellMark) → X ≡ a ∷ xs → Y ≡ b ∷ ys → is_made a ≡ false → is_made b ≡ false → agree (view_before a) (view_before b) ≡ false
     → first_difference (cells_before X) (cells_before Y) ≡ Some 0
-found_otherwise a b X Y xs ys e f m l g = rw (e, f) ((λ i. first_difference (shown-before a xs m i) (shown-before b ys l i)) ∙ next_differs (seen_before a) (seen_before b) (cells_before xs) (cells_before ys) g)
+found_otherwise a b X Y xs ys e f m l g = rw (e, f) ((λ i. first_difference (shown-before a xs m i) (shown-before b ys l i)) ∙ next_differs (view_before a) (view_before b) (cells_before xs) (cells_before ys) g)
 
 -- one cell that the first leaves and the second finds
-pub left_and_found : (a b : CellMark) (X Y xs ys : List CellMark) → X ≡ a ∷ xs → Y ≡ b ∷ ys → is_made b ≡ false → agree (seen_after a) (seen_before b) ≡ true
+pub left_and_found : (a b : CellMark) (X Y xs ys : List CellMark) → X ≡ a ∷ xs → Y ≡ b ∷ ys → is_made b ≡ false → agree (view_after a) (view_before b) ≡ true
     → (in_turn X Y ≡ Both a b ∷ in_turn xs ys) × (first_difference (cells_after X) (cells_before Y) ≡ option_map (λ k. 1 + k) (first_difference (cells_after xs) (cells_before ys))) × (length xs + length ys < length X + length Y) × (length (cells_before Y) ≡ 1 + length (cells_before ys))
 left_and_found a b X Y xs ys e f l g = rw (e, f) (
   in_turn-both a b xs ys l,
-  (λ i. first_difference (shown-after a xs i) (shown-before b ys l i)) ∙ next_agrees (seen_after a) (seen_before b) (cells_after xs) (cells_before ys) g,
+  (λ i. first_difference (shown-after a xs i) (shown-before b ys l i)) ∙ next_agrees (view_after a) (view_before b) (cells_after xs) (cells_before ys) g,
   omega arith,
   (let n : length (cells_before (b ∷ ys)) ≡ suc (length (cells_before ys)) = ap length (shown-before b ys l) in omega (arith, n)),
 )
@@ -175,18 +175,18 @@ then_beside X Y x rest h e c n b ys f = rw f (made_then X x rest h e c n b ys, n
 
 -- ## A slot of a row, and a mark that finds it
 
-after-met : (s : Slot) (m : CellMark) (d : List Slot) (xs : List CellMark) → is_made m ≡ false → after_row (s ∷ d) (m ∷ xs) ≡ record s { full = (seen_after m).full } ∷ after_row d xs
+after-met : (s : Slot) (m : CellMark) (d : List Slot) (xs : List CellMark) → is_made m ≡ false → after_row (s ∷ d) (m ∷ xs) ≡ record s { full = (view_after m).full } ∷ after_row d xs
 after-met s Counted d xs e = refl
 after-met s (Gap c) d xs e = refl
 after-met s (Touch c n h) d xs e = refl
 after-met s (Make c n b) d xs e = cc
 after-met s (Fill c n) d xs e = refl
 
-pub slot_met : (s : Slot) (m : CellMark) (full : Bool) (C d : List Slot) (X xs : List CellMark) → C ≡ s ∷ d → X ≡ m ∷ xs → is_made m ≡ false → agree (seen s.cell s.node s.full) (seen_before m) ≡ true → full ≡ (seen_after m).full
-    → (after_row C X ≡ record { cell = s.cell; node = s.node; full = full } ∷ after_row d xs) × (first_difference (row_seen C) (cells_before X) ≡ option_map (λ k. 1 + k) (first_difference (row_seen d) (cells_before xs))) × (length d + length xs < length C + length X) × (length (cells_before X) ≡ 1 + length (cells_before xs))
+pub slot_met : (s : Slot) (m : CellMark) (full : Bool) (C d : List Slot) (X xs : List CellMark) → C ≡ s ∷ d → X ≡ m ∷ xs → is_made m ≡ false → agree (cell_view s.cell s.node s.full) (view_before m) ≡ true → full ≡ (view_after m).full
+    → (after_row C X ≡ record { cell = s.cell; node = s.node; full = full } ∷ after_row d xs) × (first_difference (row_views C) (cells_before X) ≡ option_map (λ k. 1 + k) (first_difference (row_views d) (cells_before xs))) × (length d + length xs < length C + length X) × (length (cells_before X) ≡ 1 + length (cells_before xs))
 slot_met s m full C d X xs e f l g h = rw (e, f) (
   after-met s m d xs l ∙ (λ i. record { cell = s.cell; node = s.node; full = sym h i } ∷ after_row d xs),
-  (λ i. first_difference (seen s.cell s.node s.full ∷ row_seen d) (shown-before m xs l i)) ∙ next_agrees (seen s.cell s.node s.full) (seen_before m) (row_seen d) (cells_before xs) g,
+  (λ i. first_difference (cell_view s.cell s.node s.full ∷ row_views d) (shown-before m xs l i)) ∙ next_agrees (cell_view s.cell s.node s.full) (view_before m) (row_views d) (cells_before xs) g,
   omega arith,
   (let n : length (cells_before (m ∷ xs)) ≡ suc (length (cells_before xs)) = ap length (shown-before m xs l) in omega (arith, n)),
 )

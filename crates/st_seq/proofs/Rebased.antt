@@ -10,8 +10,9 @@ use Rattle.st_marks.specs.declared.intents.To.{To}
 use Rattle.st_marks.specs.declared.marks.How.{How}
 use Rattle.st_marks.specs.declared.marks.How.TheVariants.{Stay, Here, Leave}
 use Rattle.st_marks.specs.declared.places.Slot.{Slot}
-use Rattle.st_marks.specs.Extends.{Grows, done, gained, kept}
-use Rattle.st_marks.specs.Row.{CellMark, Counted, Gap, Touch, Make, Fill, RowPart, SameCell, same_to, how, is_here, step_cell, step_row, embed_cell, embed_made, embed_cells, embed_row}
+use Rattle.st_marks.specs.Extends.{GainsItems, no_more, item_gained, item_kept}
+use Rattle.st_marks.specs.Row.{CellMark, Counted, Gap, Touch, Make, Fill, RowPart, SameCell, same_to, how, step_cell, step_row, embed_cell, embed_made, embed_cells, embed_row}
+use Rattle.st_marks.specs.How.{is_here}
 use Rattle.st_seq.specs.Cells.{touch_of, still, emptied, how_there, filled, rebased, gained_cell, rebased_piece, over_row}
 use Rattle.st_seq.specs.Changes.{StandsIn, NamesNoGained}
 use Rattle.st_seq.proofs.Laying.{beside-kept, beside-gained}
@@ -25,7 +26,7 @@ same_put (To.Register f) c e = cc
 
 over-made : (t : NodeId → Option How) (p : RowPart) (os : List Owned) (xs ys : List CellMark) → over_row t (embed_made p os ++ xs) ys ≡ embed_made p os ++ over_row t xs ys
 over-made t p [] xs ys = refl
-over-made t p (o ∷ os) xs ys = ap (λ l. Make o.cell o.node (is_here (how (p.goes o.node) (To.Cell o.cell))) ∷ l) (over-made t p os xs ys)
+over-made t p (o ∷ os) xs ys = ap (λ l. Make o.cell o.node (is_here (how (p.target_of o.node) (To.Cell o.cell))) ∷ l) (over-made t p os xs ys)
 
 -- ## What the marks tell of a node
 
@@ -50,22 +51,22 @@ is-here Leave e = cc
 -- what the look-up has to tell of a node that stands in the row after the step: whether it is mentioned, and whether it is put
 abbrev pub Tells : RowPart → NodeId → Option How → Type 0
 Tells p n None = p.mentioned n ≡ false
-Tells p n (Some h) = (p.mentioned n ≡ true) × (still h ≡ moved (p.goes n))
+Tells p n (Some h) = (p.mentioned n ≡ true) × (still h ≡ moved (p.target_of n))
 
 module _ (t : NodeId → Option How) (p : RowPart) where
   -- a cell that is filled
   filled-found : (c : CellId) (n : NodeId) (o : Option How) → Tells p n o → filled c n (embed_cell p c n false) o ≡ embed_cell p c n true
   filled-found c n None e = rw e refl
-  filled-found c n (Some h) e = rw e.0 (ap (λ (k : How). Touch c n k) (elim (is_here (how (p.goes n) (To.Cell c))) as (λ b. is_here (how (p.goes n) (To.Cell c)) ≡ b → how_there (cond b (Fill c n) (Gap c)) h ≡ how (p.goes n) (To.Cell c)) [
-    | true ↦ (λ k. sym (is-here (how (p.goes n) (To.Cell c)) k))
-    | false ↦ (λ k. e.1 ∙ sym (not-here (p.goes n) (To.Cell c) k))
+  filled-found c n (Some h) e = rw e.0 (ap (λ (k : How). Touch c n k) (elim (is_here (how (p.target_of n) (To.Cell c))) as (λ b. is_here (how (p.target_of n) (To.Cell c)) ≡ b → how_there (cond b (Fill c n) (Gap c)) h ≡ how (p.target_of n) (To.Cell c)) [
+    | true ↦ (λ k. sym (is-here (how (p.target_of n) (To.Cell c)) k))
+    | false ↦ (λ k. e.1 ∙ sym (not-here (p.target_of n) (To.Cell c) k))
   ] refl))
 
   -- a cell that is emptied
-  emptied-found : (c : CellId) (n : NodeId) → (p.goes n ≢ None → p.mentioned n ≡ true) → emptied c n (embed_cell p c n true) ≡ embed_cell p c n false
-  emptied-found c n h = elim (p.mentioned n) as (λ b. p.mentioned n ≡ b → emptied c n (cond b (Touch c n (how (p.goes n) (To.Cell c))) Counted) ≡ embed_cell p c n false) [
-    | true ↦ (λ e. touched (how (p.goes n) (To.Cell c)))
-    | false ↦ (λ e. unput (p.goes n) h e)
+  emptied-found : (c : CellId) (n : NodeId) → (p.target_of n ≢ None → p.mentioned n ≡ true) → emptied c n (embed_cell p c n true) ≡ embed_cell p c n false
+  emptied-found c n h = elim (p.mentioned n) as (λ b. p.mentioned n ≡ b → emptied c n (cond b (Touch c n (how (p.target_of n) (To.Cell c))) Counted) ≡ embed_cell p c n false) [
+    | true ↦ (λ e. touched (how (p.target_of n) (To.Cell c)))
+    | false ↦ (λ e. unput (p.target_of n) h e)
   ] refl
     where
       touched : (k : How) → emptied c n (Touch c n k) ≡ cond (is_here k) (Fill c n) (Gap c)
@@ -77,18 +78,18 @@ module _ (t : NodeId → Option How) (p : RowPart) where
       unput None h e = refl
       unput (Some to) h e = let q : ◌≡◌ {A = Bool} false true = sym e ∙ h (λ z. cc) in cc
 
-  pub rebased-found : (m : NodeId → Bool) (c : CellId) (n : NodeId) (a b : Bool) → (a ≡ true → p.goes n ≢ None → p.mentioned n ≡ true) → (b ≡ true → Tells p n (t n)) → rebased t (embed_cell p c n a) (step_cell m c n a b) ≡ embed_cell p c n b
+  pub rebased-found : (m : NodeId → Bool) (c : CellId) (n : NodeId) (a b : Bool) → (a ≡ true → p.target_of n ≢ None → p.mentioned n ≡ true) → (b ≡ true → Tells p n (t n)) → rebased t (embed_cell p c n a) (step_cell m c n a b) ≡ embed_cell p c n b
   rebased-found m c n true true h e = elim (m n) as (λ b. rebased t (embed_cell p c n true) (cond b (Touch c n Stay) Counted) ≡ embed_cell p c n true) [ true ↦ refl | false ↦ refl ]
   rebased-found m c n true false h e = emptied-found c n (h refl)
   rebased-found m c n false true h e = filled-found c n (t n) (e refl)
   rebased-found m c n false false h e = refl
 
   -- a cell that is gained
-  pub gained-found : (c : CellId) (n : NodeId) (b : Bool) → p.goes n ≢ Some (To.Cell c) → (b ≡ true → Tells p n (t n)) → gained_cell t c n b ≡ embed_cell p c n b
+  pub gained-found : (c : CellId) (n : NodeId) (b : Bool) → p.target_of n ≢ Some (To.Cell c) → (b ≡ true → Tells p n (t n)) → gained_cell t c n b ≡ embed_cell p c n b
   gained-found c n b h e = go b e
     where
-      away : is_here (how (p.goes n) (To.Cell c)) ≡ false
-      away = elsewhere (p.goes n) h
+      away : is_here (how (p.target_of n) (To.Cell c)) ≡ false
+      away = elsewhere (p.target_of n) h
         where
           elsewhere : (g : Option To) → g ≢ Some (To.Cell c) → is_here (how g (To.Cell c)) ≡ false
           elsewhere None k = refl
@@ -101,19 +102,19 @@ module _ (t : NodeId → Option How) (p : RowPart) where
       go true e = ap (λ x. filled c n x (t n)) (sym (ap (λ b. cond b (Fill c n) (Gap c)) away)) ∙ filled-found c n (t n) (e refl)
       go false e = sym (ap (λ b. cond b (Fill c n) (Gap c)) away)
 
-  over-cells : (m : NodeId → Bool) {c d : List Slot} (g : Grows SameCell c d) → NamesNoGained p g → ((n : NodeId) → StandsIn n c → p.goes n ≢ None → p.mentioned n ≡ true) → ((n : NodeId) → StandsIn n d → Tells p n (t n)) → over_row t (embed_cells p c) (step_row m g) ≡ embed_cells p d
-  over-cells m done h k e = refl
-  over-cells m (gained {y = s} {xs = c} {ys = d} g) h k e =
+  over-cells : (m : NodeId → Bool) {c d : List Slot} (g : GainsItems SameCell c d) → NamesNoGained p g → ((n : NodeId) → StandsIn n c → p.target_of n ≢ None → p.mentioned n ≡ true) → ((n : NodeId) → StandsIn n d → Tells p n (t n)) → over_row t (embed_cells p c) (step_row m g) ≡ embed_cells p d
+  over-cells m no_more h k e = refl
+  over-cells m (item_gained {y = s} {xs = c} {ys = d} g) h k e =
       rw h.0 (beside-gained (rebased_piece t) p c s.cell s.node s.full (step_row m g) ∙ (λ i. gained-found s.cell s.node s.full h.1 (λ q. e s.node (inl (refl, q))) i ∷ over-cells m g h.2 k (λ n w. e n (inr w)) i))
-  over-cells m (kept {x = s} {y = u} {xs = c} {ys = d} a g) h k e =
-      beside-kept (rebased_piece t) p m s.cell s.node s.full u.full (embed_made p (p.made (Some s.cell)) ++ embed_cells p c) (step_row m g)
+  over-cells m (item_kept {x = s} {y = u} {xs = c} {ys = d} a g) h k e =
+      beside-kept (rebased_piece t) p m s.cell s.node s.full u.full (embed_made p (p.new_cells (Some s.cell)) ++ embed_cells p c) (step_row m g)
       ∙ (λ i. rebased-found m s.cell s.node s.full u.full (λ q. k s.node (inl (refl, q))) (λ q. subst (λ n. Tells p n (t n)) (sym a.1) (e u.node (inl (refl, q)))) i
-      ∷ (over-made t p (p.made (Some s.cell)) (embed_cells p c) (step_row m g) ∙ ap (λ l. embed_made p (p.made (Some s.cell)) ++ l) (over-cells m g h (λ n w. k n (inr w)) (λ n w. e n (inr w)))) i)
-      ∙ (λ i. embed_cell p (a.0 i) (a.1 i) u.full ∷ (embed_made p (p.made (Some (a.0 i))) ++ embed_cells p d))
+      ∷ (over-made t p (p.new_cells (Some s.cell)) (embed_cells p c) (step_row m g) ∙ ap (λ l. embed_made p (p.new_cells (Some s.cell)) ++ l) (over-cells m g h (λ n w. k n (inr w)) (λ n w. e n (inr w)))) i)
+      ∙ (λ i. embed_cell p (a.0 i) (a.1 i) u.full ∷ (embed_made p (p.new_cells (Some (a.0 i))) ++ embed_cells p d))
 
   -- the law of rebasing, with a look-up that tells what it has to
-  pub over_row-embed_row : (m : NodeId → Bool) {c d : List Slot} (g : Grows SameCell c d) → NamesNoGained p g → ((n : NodeId) → StandsIn n c → p.goes n ≢ None → p.mentioned n ≡ true) → ((n : NodeId) → StandsIn n d → Tells p n (t n)) → over_row t (embed_row p c) (step_row m g) ≡ embed_row p d
-  over_row-embed_row m {c} {d} g h k e = over-made t p (p.made None) (embed_cells p c) (step_row m g) ∙ ap (λ l. embed_made p (p.made None) ++ l) (over-cells m g h k e)
+  pub over_row-embed_row : (m : NodeId → Bool) {c d : List Slot} (g : GainsItems SameCell c d) → NamesNoGained p g → ((n : NodeId) → StandsIn n c → p.target_of n ≢ None → p.mentioned n ≡ true) → ((n : NodeId) → StandsIn n d → Tells p n (t n)) → over_row t (embed_row p c) (step_row m g) ≡ embed_row p d
+  over_row-embed_row m {c} {d} g h k e = over-made t p (p.new_cells None) (embed_cells p c) (step_row m g) ∙ ap (λ l. embed_made p (p.new_cells None) ++ l) (over-cells m g h k e)
 
 -- ## The marks of the change tell it
 
@@ -123,8 +124,8 @@ touch-made p n (o ∷ os) xs = touch-made p n os xs
 
 -- a node that isn't mentioned isn't touched
 untouched-cell : (p : RowPart) (n : NodeId) → p.mentioned n ≡ false → (xs : List CellMark) → touch_of xs n ≡ None → (c : CellId) (m : NodeId) (b : Bool) → touch_of (embed_cell p c m b ∷ xs) n ≡ None
-untouched-cell p n e xs rest c m true = elim (p.mentioned m) as (λ b. p.mentioned m ≡ b → touch_of (cond b (Touch c m (how (p.goes m) (To.Cell c))) Counted ∷ xs) n ≡ None) [
-  | true ↦ (λ h. (λ i. option_or (rest i) (cond (apart h i) (Some (how (p.goes m) (To.Cell c))) None)))
+untouched-cell p n e xs rest c m true = elim (p.mentioned m) as (λ b. p.mentioned m ≡ b → touch_of (cond b (Touch c m (how (p.target_of m) (To.Cell c))) Counted ∷ xs) n ≡ None) [
+  | true ↦ (λ h. (λ i. option_or (rest i) (cond (apart h i) (Some (how (p.target_of m) (To.Cell c))) None)))
   | false ↦ (λ h. rest)
 ] refl
   where
@@ -133,16 +134,16 @@ untouched-cell p n e xs rest c m true = elim (p.mentioned m) as (λ b. p.mention
       | true ↦ (λ q. let z : ◌≡◌ {A = Bool} true false = sym h ∙ ap p.mentioned (same_node-true m n q) ∙ e in cc)
       | false ↦ (λ q. refl)
     ] refl
-untouched-cell p n e xs rest c m false = elim (is_here (how (p.goes m) (To.Cell c))) as (λ b. touch_of (cond b (Fill c m) (Gap c) ∷ xs) n ≡ None) [ true ↦ rest | false ↦ rest ]
+untouched-cell p n e xs rest c m false = elim (is_here (how (p.target_of m) (To.Cell c))) as (λ b. touch_of (cond b (Fill c m) (Gap c) ∷ xs) n ≡ None) [ true ↦ rest | false ↦ rest ]
 
 untouched : (p : RowPart) (n : NodeId) → p.mentioned n ≡ false → (c : List Slot) → touch_of (embed_cells p c) n ≡ None
 untouched p n e [] = refl
-untouched p n e (s ∷ c) = untouched-cell p n e _ (touch-made p n (p.made (Some s.cell)) (embed_cells p c) ∙ untouched p n e c) s.cell s.node s.full
+untouched p n e (s ∷ c) = untouched-cell p n e _ (touch-made p n (p.new_cells (Some s.cell)) (embed_cells p c) ∙ untouched p n e c) s.cell s.node s.full
 
 -- a mentioned node is touched where it stands, as it goes
 abbrev Right : RowPart → NodeId → Option How → Type 0
 Right p n None = Unit {0}
-Right p n (Some h) = still h ≡ moved (p.goes n)
+Right p n (Some h) = still h ≡ moved (p.target_of n)
 
 abbrev Told : RowPart → NodeId → List Slot → Option How → Type 0
 Told p n c o = Right p n o × (StandsIn n c → o ≢ None)
@@ -152,7 +153,7 @@ behind : (p : RowPart) (n : NodeId) (s : Slot) (c : List Slot) (o : Option How) 
 behind p n s c o r k = (r.0, λ w. elim w [ inl q ↦ absurd (k q.0 q.1) | inr q ↦ r.1 q ])
 
 -- behind its own
-own : (p : RowPart) (n : NodeId) (s : Slot) (c : List Slot) (o : Option How) (h : How) → Told p n c o → still h ≡ moved (p.goes n) → Told p n (s ∷ c) (option_or o (Some h))
+own : (p : RowPart) (n : NodeId) (s : Slot) (c : List Slot) (o : Option How) (h : How) → Told p n c o → still h ≡ moved (p.target_of n) → Told p n (s ∷ c) (option_or o (Some h))
 own p n s c None h r q = (q, λ w z. cc)
 own p n s c (Some k) h r q = (r.0, λ w z. cc)
 
@@ -161,25 +162,25 @@ other p n s c None r k = behind p n s c None r k
 other p n s c (Some h) r k = behind p n s c (Some h) r k
 
 told-cell : (p : RowPart) (n : NodeId) → p.mentioned n ≡ true → (s : Slot) (c : List Slot) (xs : List CellMark) → Told p n c (touch_of xs n) → (a : CellId) (m : NodeId) (b : Bool) → s.node ≡ m → s.full ≡ b → Told p n (s ∷ c) (touch_of (embed_cell p a m b ∷ xs) n)
-told-cell p n e s c xs rest a m true f g = elim (p.mentioned m) as (λ b. p.mentioned m ≡ b → Told p n (s ∷ c) (touch_of (cond b (Touch a m (how (p.goes m) (To.Cell a))) Counted ∷ xs) n)) [
-  | true ↦ (λ h. elim (same_node m n) as (λ b. same_node m n ≡ b → Told p n (s ∷ c) (option_or (touch_of xs n) (cond b (Some (how (p.goes m) (To.Cell a))) None))) [
-    | true ↦ (λ q. own p n s c (touch_of xs n) (how (p.goes m) (To.Cell a)) rest (still-how (p.goes m) (To.Cell a) ∙ ap (λ x. moved (p.goes x)) (same_node-true m n q)))
+told-cell p n e s c xs rest a m true f g = elim (p.mentioned m) as (λ b. p.mentioned m ≡ b → Told p n (s ∷ c) (touch_of (cond b (Touch a m (how (p.target_of m) (To.Cell a))) Counted ∷ xs) n)) [
+  | true ↦ (λ h. elim (same_node m n) as (λ b. same_node m n ≡ b → Told p n (s ∷ c) (option_or (touch_of xs n) (cond b (Some (how (p.target_of m) (To.Cell a))) None))) [
+    | true ↦ (λ q. own p n s c (touch_of xs n) (how (p.target_of m) (To.Cell a)) rest (still-how (p.target_of m) (To.Cell a) ∙ ap (λ x. moved (p.target_of x)) (same_node-true m n q)))
     | false ↦ (λ q. other p n s c (touch_of xs n) rest (λ z w. let y : ◌≡◌ {A = Bool} true false = sym (same_node-itself n) ∙ ap (λ x. same_node x n) (sym z ∙ f) ∙ q in cc))
   ] refl)
   | false ↦ (λ h. behind p n s c (touch_of xs n) rest (λ z w. let y : ◌≡◌ {A = Bool} true false = sym e ∙ ap p.mentioned (sym z ∙ f) ∙ h in cc))
 ] refl
-told-cell p n e s c xs rest a m false f g = elim (is_here (how (p.goes m) (To.Cell a))) as (λ b. Told p n (s ∷ c) (touch_of (cond b (Fill a m) (Gap a) ∷ xs) n)) [
+told-cell p n e s c xs rest a m false f g = elim (is_here (how (p.target_of m) (To.Cell a))) as (λ b. Told p n (s ∷ c) (touch_of (cond b (Fill a m) (Gap a) ∷ xs) n)) [
   | true ↦ behind p n s c (touch_of xs n) rest (λ z w. let y : ◌≡◌ {A = Bool} true false = sym w ∙ g in cc)
   | false ↦ behind p n s c (touch_of xs n) rest (λ z w. let y : ◌≡◌ {A = Bool} true false = sym w ∙ g in cc)
 ]
 
 told : (p : RowPart) (n : NodeId) → p.mentioned n ≡ true → (c : List Slot) → Told p n c (touch_of (embed_cells p c) n)
 told p n e [] = (tt, λ w. absurd w)
-told p n e (s ∷ c) = told-cell p n e s c _ (subst (Told p n c) (sym (touch-made p n (p.made (Some s.cell)) (embed_cells p c))) (told p n e c)) s.cell s.node s.full refl refl
+told p n e (s ∷ c) = told-cell p n e s c _ (subst (Told p n c) (sym (touch-made p n (p.new_cells (Some s.cell)) (embed_cells p c))) (told p n e c)) s.cell s.node s.full refl refl
 
 -- what a look-up in the marks of the change tells
 pub marks_tell : (p : RowPart) (c d : List Slot) → ((n : NodeId) → p.mentioned n ≡ true → StandsIn n d → StandsIn n c) → (n : NodeId) → StandsIn n d → Tells p n (touch_of (embed_row p c) n)
-marks_tell p c d stays n w = subst (Tells p n) (sym (touch-made p n (p.made None) (embed_cells p c))) (elim (p.mentioned n) as (λ b. p.mentioned n ≡ b → Tells p n (touch_of (embed_cells p c) n)) [
+marks_tell p c d stays n w = subst (Tells p n) (sym (touch-made p n (p.new_cells None) (embed_cells p c))) (elim (p.mentioned n) as (λ b. p.mentioned n ≡ b → Tells p n (touch_of (embed_cells p c) n)) [
   | true ↦ (λ e. whole (touch_of (embed_cells p c) n) e (told p n e c))
   | false ↦ (λ e. subst (Tells p n) (sym (untouched p n e c)) e)
 ] refl)

@@ -7,8 +7,8 @@ use Rattle.st_kind.specs.declared.apart.Apart.{Apart}
 use Rattle.st_kind.specs.Refused.{IsApartWhere}
 use Rattle.st_marks.specs.declared.places.Slot.{Slot}
 use Rattle.st_marks.specs.Row.{CellMark}
-use Rattle.st_marks.specs.Shown.{Seen, seen, cells_after, cells_before}
-use Rattle.st_seq.specs.Agreement.{DifferAt, row_seen}
+use Rattle.st_marks.specs.Listings.{CellView, cell_view, cells_after, cells_before}
+use Rattle.st_seq.specs.Views.{DifferAt, row_views}
 use Rattle.st_seq.specs.Changes.{may_list}
 use Rattle.st_seq.proofs.Short.{all_after}
 use Rattle.st_seq.proofs.Walking.{found_length}
@@ -19,16 +19,16 @@ nothing_apart (Fault a) D h n = absurd (n a.place h.0)
 nothing_apart NoMemory D h n = refl
 
 -- two listings that differ nowhere are equally long
-pub equally_long : (xs ys : List Seen) → ((k : ℕ) → DifferAt xs ys k → ⊥) → length xs ≡ length ys
+pub equally_long : (xs ys : List CellView) → ((k : ℕ) → DifferAt xs ys k → ⊥) → length xs ≡ length ys
 equally_long [] [] h = refl
 equally_long [] (y ∷ ys) h = absurd (h 0 tt)
 equally_long (x ∷ xs) [] h = absurd (h 0 tt)
 equally_long (x ∷ xs) (y ∷ ys) h = ap suc (equally_long xs ys (λ k d. h (suc k) d))
 
-pub row_short : (c : List Slot) (ys : List CellMark) (most : ℕ) → ((k : ℕ) → DifferAt (row_seen c) (cells_before ys) k → ⊥) → length ys < most → length c < most
+pub row_short : (c : List Slot) (ys : List CellMark) (most : ℕ) → ((k : ℕ) → DifferAt (row_views c) (cells_before ys) k → ⊥) → length ys < most → length c < most
 row_short c ys most h l =
-    let a : length (row_seen c) ≡ length c = length-map c (λ (s : Slot). seen s.cell s.node s.full) in
-    let b = equally_long (row_seen c) (cells_before ys) h in
+    let a : length (row_views c) ≡ length c = length-map c (λ (s : Slot). cell_view s.cell s.node s.full) in
+    let b = equally_long (row_views c) (cells_before ys) h in
     let d = found_length ys in
     omega (arith, a, b, d, l)
 

@@ -3,12 +3,11 @@ use Rattle.std.proofs.Common.{◌≡◌, ◌<◌, ◌≤◌, ◌+◌, ℕ, zero,
 use Rattle.std.specs.declared.cmp.Ordering.{Ordering}
 use Rattle.std.specs.declared.cmp.Ordering.TheVariants.{Less, Equal, Greater}
 use Rattle.std.specs.List.Sorted.{IsBinarySearchResult, IsNonDecreasingBy}
-use Rattle.std.specs.Prelude.{Result, Ok, Err, is_ok, MatchResult}
+use Rattle.std.specs.Prelude.{Result, Ok, Err, is_ok, MatchResult, IsTrue}
 use Rattle.std.proofs.lemmas.List.Sorted.{searchable_from_sorted}
 use Rattle.st_ids.specs.Listing.{IsRising, keyed}
 use Rattle.std.specs.FinMap.Entries.{below_all}
 use Rattle.std.specs.Ordering.{is_lt, ordering_reverse, ordering_index, is_eq}
-use Rattle.std.specs.Prelude.{IsTrue}
 use Rattle.st_ids.proofs.Orders.{node_cmp_total}
 use Rattle.st_ids.specs.Order.{node_cmp, same_node}
 use Rattle.st_ids.specs.declared.names.NodeId.{NodeId}

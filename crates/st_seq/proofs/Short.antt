@@ -1,7 +1,7 @@
 -- How many cells a row lists.
 use Rattle.std.proofs.Common.{◌≡◌, ◌+◌, ◌<◌, ◌≤◌, ℕ, min, List, [], ◌∷◌, length, arith}
 use Rattle.st_marks.specs.Row.{CellMark, Counted, Gap, Touch, Make, Fill}
-use Rattle.st_marks.specs.Shown.{cells_before, cells_after}
+use Rattle.st_marks.specs.Listings.{cells_before, cells_after}
 use Rattle.st_seq.specs.Changes.{may_list}
 use Rattle.st_seq.specs.Laws.{made_or_found}
 

@@ -9,8 +9,7 @@ use Rattle.st_marks.proofs.Members.{all-has, has-all}
 use Rattle.st_seq.proofs.Truth.{and_parts, off, true_false}
 use Rattle.st_seq.specs.Changes.{StandsIn}
 use Rattle.st_seq.proofs.Composed.{or_right}
-use Rattle.st_ids.specs.Order.{node_cmp}
-use Rattle.st_ids.specs.Order.{same_cell, same_node, same_rev}
+use Rattle.st_ids.specs.Order.{node_cmp, same_cell, same_node, same_rev}
 use Rattle.st_ids.proofs.Orders.{same_cell-true, same_cell-itself, same_node-true, same_node-itself, rev_cmp_exact}
 use Rattle.st_ids.specs.declared.names.CellId.{CellId}
 use Rattle.st_ids.specs.declared.names.NodeId.{NodeId}
@@ -22,9 +21,10 @@ use Rattle.st_marks.specs.declared.marks.How.TheVariants.{Stay, Here, Leave}
 use Rattle.st_marks.specs.declared.places.Slot.{Slot}
 use Rattle.st_marks.specs.Document.{root}
 use Rattle.st_marks.specs.Embedding.{is_among}
-use Rattle.st_marks.specs.Row.{CellMark, Counted, Gap, Touch, Make, Fill, RowPart, how, is_here, embed_cell, embed_row}
-use Rattle.st_seq.specs.Form.{places, makes_cell, puts_found, has_cell, stands_in, may_put, may_make, is_allowed, are_allowed}
-use Rattle.st_seq.specs.Sequence.{CanHold, FitsIn, cells_of, made_in}
+use Rattle.st_marks.specs.Row.{CellMark, Counted, Gap, Touch, Make, Fill, RowPart, how, embed_cell, embed_row}
+use Rattle.st_marks.specs.How.{is_here}
+use Rattle.st_seq.specs.NormalForm.{places, makes_cell, puts_found, has_cell, stands_in, may_put, may_make, is_allowed, are_allowed}
+use Rattle.st_seq.specs.Sequence.{RowCanHold, RowFits, cells_of, made_in}
 use Rattle.st_seq.proofs.Rebased.{is-here, not-here, moved}
 use Rattle.st_seq.proofs.Laid.{Groups, groups_of, embeds, makes, makes_them, has_makes, behind_cell, Lays, FoundAt, Says, behind, lead, found_says, found_slot, found_mark, has_slot, has_mark, one_cell, one_stands, in_row, in_cells}
 
@@ -119,7 +119,7 @@ told_made l (Some a) = behind l a
 abbrev pub told : List NodeId → {c : List Slot} {xs : List CellMark} → Lays c xs → RowPart
 told new {xs = xs} l = record {
   made = told_made l;
-  goes = told_goes new xs;
+  target_of = told_goes new xs;
   mentioned = λ n. list_any (touches n) xs || is_some (told_goes new xs n);
 }
 
@@ -194,7 +194,7 @@ one_make rev c all (y ∷ xs) h a n m b e (inr v) (inr w) = one_make rev c all x
 
 -- ## The part says the same of each cell
 
-module _ (rev : Rev) (new : List NodeId) {c : List Slot} {xs : List CellMark} (l : Lays c xs) (hold : CanHold c) (old : AllByRecursion (λ (s : Slot). is_among new s.node ≡ false) c) (ok : are_allowed rev c xs xs ≡ true) where
+module _ (rev : Rev) (new : List NodeId) {c : List Slot} {xs : List CellMark} (l : Lays c xs) (hold : RowCanHold c) (old : AllByRecursion (λ (s : Slot). is_among new s.node ≡ false) c) (ok : are_allowed rev c xs xs ≡ true) where
   -- a made cell isn't in the row
   not_there : (a : CellId) (n : NodeId) (b : Bool) → Has xs (Make a n b) → Has (cells_of c) a → ⊥
   not_there a n b w h = true_false (in_list c h) (allowed_make rev c xs xs ok a n b w).1
@@ -540,7 +540,7 @@ module _ (rev : Rev) (new : List NodeId) {c : List Slot} {xs : List CellMark} (l
   of_made : (P : Owned → Type 0) → ((o : Owned) (b : Bool) → Has xs (Make o.cell o.node b) → P o) → AllByRecursion P (made_in (told new l) c)
   of_made P h = subst (AllByRecursion P) (sym all_made) (has-all P (makes xs) (λ o w. let r = has_makes xs o w in h o r.0 r.1))
 
-  pub told_fits : (in_new : Bool) → (in_new ≡ true → c ≡ []) → IsRising node_cmp (λ (n : NodeId). n) new → AllByRecursion (λ (n : NodeId). n.0.rev ≡ rev) new → is_among new root ≡ false → FitsIn (record { rev = rev; in_new = in_new; new = new; does = told new l }) c
+  pub told_fits : (in_new : Bool) → (in_new ≡ true → c ≡ []) → IsRising node_cmp (λ (n : NodeId). n) new → AllByRecursion (λ (n : NodeId). n.0.rev ≡ rev) new → is_among new root ≡ false → RowFits (record { rev = rev; in_new = in_new; new = new; part = told new l }) c
   told_fits in_new empty rises revs no_root = record {
     content = hold;
     empty = empty;

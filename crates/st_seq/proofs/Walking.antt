@@ -2,7 +2,7 @@
 use Rattle.std.proofs.Common.{◌≡◌, ℕ, zero, suc, ◌+◌, ◌≤◌, List, [], ◌∷◌, ◌++◌, Option, Some, None, option_map, map, length, refl, sym, ap, ◌∙◌, arith, append_assoc, length-append}
 use Rattle.std.proofs.lemmas.List.{map-append}
 use Rattle.st_marks.specs.Row.{CellMark, Counted, Gap, Touch, Make, Fill, counted}
-use Rattle.st_marks.specs.Shown.{cells_before, cells_made}
+use Rattle.st_marks.specs.Listings.{cells_before, cells_made}
 use Rattle.st_seq.specs.Changes.{may_list}
 use Rattle.st_seq.specs.Turns.{both_counted}
 use Rattle.st_seq.specs.Walks.{CellPiece, Both, in_turn, meeting, beside}

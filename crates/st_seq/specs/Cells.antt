@@ -8,7 +8,7 @@ use Rattle.st_marks.specs.declared.marks.How.{How}
 use Rattle.st_marks.specs.declared.marks.How.TheVariants.{Stay, Here, Leave}
 use Rattle.st_kind.specs.Named.{Nodes}
 use Rattle.st_marks.specs.declared.places.Slot.{Slot}
-use Rattle.st_seq.specs.Agreement.{seen_before, seen_after}
+use Rattle.st_seq.specs.Views.{view_before, view_after}
 use Rattle.st_seq.specs.Walks.{CellPiece, Both, First, Then, in_turn, beside}
 use Rattle.st_marks.specs.Row.{CellMark, Counted, Gap, Touch, Make, Fill, step_cell}
 
@@ -45,7 +45,7 @@ abbrev pub after_row : List Slot → List CellMark → List Slot
 after_row c [] = []
 after_row c (Make a n b ∷ ms) = record { cell = a; node = n; full = b } ∷ after_row c ms
 after_row [] (m ∷ ms) = []
-after_row (s ∷ c) (m ∷ ms) = record s { full = (seen_after m).full } ∷ after_row c ms
+after_row (s ∷ c) (m ∷ ms) = record s { full = (view_after m).full } ∷ after_row c ms
 
 -- ## The way back
 
@@ -163,11 +163,11 @@ stepped Counted y a b = y
 
 -- whether the cell is full before: as the change finds it, if it was void, and else as the change leaves it
 abbrev pub full_first : Bool → CellMark → Bool
-full_first void x = if void then (seen_before x).full else (seen_after x).full
+full_first void x = if void then (view_before x).full else (view_after x).full
 
 -- whether it is full after: as the step leaves it, if the change is void, and else as the change does where it stands then
 abbrev pub full_then : Bool → (NodeId → Option How) → CellMark → CellMark → Bool
-full_then void seen x y = if void then (seen_after y).full else (seen_after (rebased seen x y)).full
+full_then void seen x y = if void then (view_after y).full else (view_after (rebased seen x y)).full
 
 -- what the step says of the cell over the change
 abbrev pub bridged : Bool → Bool → (NodeId → Option How) → CellMark → CellMark → CellMark
@@ -179,7 +179,7 @@ made_full placed n full void = if void then full && placed n else full
 
 -- whether a cell that the step makes is full
 abbrev pub gained_full : (NodeId → Option How) → CellId → NodeId → Bool → Bool → Bool
-gained_full seen c n full void = if void then full else (seen_after (gained_cell seen c n full)).full
+gained_full seen c n full void = if void then full else (view_after (gained_cell seen c n full)).full
 
 -- a cell of the step after the change
 abbrev pub bridged_piece : Bool → Bool → Nodes → (NodeId → Option How) → CellPiece → CellMark

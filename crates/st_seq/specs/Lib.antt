@@ -1,5 +1,5 @@
 pub mod Merged
-pub mod Agreement
+pub mod Views
 pub mod Walks
 pub mod Cells
 pub mod Rows
@@ -8,6 +8,6 @@ pub mod Reading
 pub mod Turns
 pub mod Sequence
 pub mod Laws
-pub mod Form
+pub mod NormalForm
 pub mod NamedApart
 pub mod OwnedEarly

@@ -9,9 +9,9 @@ use Rattle.st_ids.specs.declared.names.NodeId.{NodeId}
 use Rattle.st_kind.specs.Refused.{IsFirstPlace}
 use Rattle.st_marks.specs.declared.places.Slot.{Slot}
 use Rattle.st_marks.specs.Row.{CellMark, Counted, Gap, Touch, Make, Fill}
-use Rattle.st_marks.specs.Shown.{Seen, cells_after, cells_before}
-use Rattle.st_seq.specs.Agreement.{DifferAt, row_seen}
-use Rattle.st_seq.specs.declared.names.NamedAt.{NamedAt}
+use Rattle.st_marks.specs.Listings.{CellView, cells_after, cells_before}
+use Rattle.st_seq.specs.Views.{DifferAt, row_views}
+use Rattle.st_seq.specs.declared.name_clashes.NamedAt.{NamedAt}
 
 -- ## The cells that a listing names
 
@@ -53,7 +53,7 @@ stands_at b None k = []
 stands_at b (Some n) k = if b then found_at n.0 k ∷ [] else []
 
 -- the nodes that are named in the full cells of a listing, of which so many stand before them
-abbrev pub standing_at : ℕ → List Seen → List NamedAt
+abbrev pub standing_at : ℕ → List CellView → List NamedAt
 standing_at k [] = []
 standing_at k (s ∷ X) = stands_at s.full s.node k ++ standing_at (suc k) X
 
@@ -76,12 +76,12 @@ pub data NamedApart (A B : List NamedAt) : ℕ → Type 0 where
   named_apart : (e f : NamedAt) → first_named A f.name ≡ Some e → Has B f → CantBoth e f → (k : ℕ) → (k ≡ e.left) ⊎ (k ≡ f.left) → NamedApart A B k
 
 -- both name a cell apart, or a node that stands at two places
-abbrev pub SaidApart : List Seen → List Seen → List NamedAt → List NamedAt → ℕ → Type 0
+abbrev pub SaidApart : List CellView → List CellView → List NamedAt → List NamedAt → ℕ → Type 0
 SaidApart X Y A B k = NamedApart A B k ⊎ NamedApart (standing_at 0 X) (standing_at 0 Y) k
 
 -- the same of a row and a step, of two listings in turn, and of two beside one another
 abbrev pub SaidOver : List Slot → List CellMark → ℕ → Type 0
-SaidOver c ys = SaidApart (row_seen c) (cells_before ys) (named_in_row 0 c) (named_before 0 ys)
+SaidOver c ys = SaidApart (row_views c) (cells_before ys) (named_in_row 0 c) (named_before 0 ys)
 
 abbrev pub SaidInTurn : List CellMark → List CellMark → ℕ → Type 0
 SaidInTurn xs ys = SaidApart (cells_after xs) (cells_before ys) (named_after 0 xs) (named_before 0 ys)
@@ -91,7 +91,7 @@ SaidBeside xs ys = SaidApart (cells_before xs) (cells_before ys) (named_before 0
 
 -- two listings of one row are apart at a place: they differ there, or they differ nowhere, and name a cell or a node of that
 -- place apart
-abbrev pub ApartAt : List Seen → List Seen → List NamedAt → List NamedAt → ℕ → Type 0
+abbrev pub ApartAt : List CellView → List CellView → List NamedAt → List NamedAt → ℕ → Type 0
 ApartAt X Y A B k = DifferAt X Y k ⊎ (((j : ℕ) → DifferAt X Y j → ⊥) × SaidApart X Y A B k)
 
 -- ## The same as a search

@@ -3,7 +3,7 @@ use Rattle.std.specs.Prelude.{◌≡◌, ℕ, ◌<◌, Bool, true, false, Option
 use Rattle.st_marks.specs.declared.marks.Mark.{Mark}
 use Rattle.st_marks.specs.Row.{CellMark, Counted, Gap, Touch, Make, Fill, spread, counted}
 use Rattle.st_seq.specs.Merged.{is_skip}
-use Rattle.st_seq.specs.declared.read.Head.{Head}
+use Rattle.st_seq.specs.declared.front_mark.Head.{Head}
 
 -- so many counted cells, and then what the marks say
 abbrev pub left : ℕ → List Mark → List CellMark

@@ -1,15 +1,15 @@
 -- Two listings of one row that are laid over each other in turns.
 use Rattle.std.specs.Prelude.{◌≡◌, ℕ, zero, suc, ◌+◌, ◌<◌, Some, None, option_map, List, [], ◌∷◌, ◌++◌, length}
 use Rattle.st_marks.specs.Row.{CellMark, Counted}
-use Rattle.st_marks.specs.Shown.{Seen, cells_before, cells_after}
+use Rattle.st_marks.specs.Listings.{CellView, cells_before, cells_after}
 use Rattle.st_marks.specs.declared.places.Slot.{Slot}
-use Rattle.st_seq.specs.Agreement.{first_difference, row_seen}
+use Rattle.st_seq.specs.Views.{first_difference, row_views}
 use Rattle.st_seq.specs.Cells.{after_row}
 use Rattle.st_seq.specs.declared.rows.SlotTurn.{SlotTurn}
 use Rattle.st_seq.specs.Reading.{left, cell_of, IsSingle}
 use Rattle.st_seq.specs.Walks.{CellPiece, Both, First, Then, in_turn, beside}
-use Rattle.st_seq.specs.declared.walk.Piece.{Piece}
-use Rattle.st_seq.specs.declared.walk.Turn.{Turn}
+use Rattle.st_seq.specs.declared.pieces.Piece.{Piece}
+use Rattle.st_seq.specs.declared.pieces.Turn.{Turn}
 
 -- so many cells that both count
 abbrev pub both_counted : ℕ → List CellPiece
@@ -17,11 +17,11 @@ both_counted zero = []
 both_counted (suc k) = Both Counted Counted ∷ both_counted k
 
 -- a piece, cell by cell
-abbrev pub laid : Piece → List CellPiece
-laid (Piece.Counted k) = both_counted k
-laid (Piece.Both a b) = Both (cell_of a) (cell_of b) ∷ []
-laid (Piece.First a) = First (cell_of a) ∷ []
-laid (Piece.Then b) = Then (cell_of b) ∷ []
+abbrev pub cells_of_piece : Piece → List CellPiece
+cells_of_piece (Piece.Counted k) = both_counted k
+cells_of_piece (Piece.Both a b) = Both (cell_of a) (cell_of b) ∷ []
+cells_of_piece (Piece.First a) = First (cell_of a) ∷ []
+cells_of_piece (Piece.Then b) = Then (cell_of b) ∷ []
 
 -- the marks of a piece are of one cell each
 abbrev pub IsOfCells : Piece → Type 0
@@ -31,22 +31,22 @@ IsOfCells (Piece.First a) = IsSingle a
 IsOfCells (Piece.Then b) = IsSingle b
 
 -- how many cells both find
-abbrev pub met : Piece → ℕ
-met (Piece.Counted k) = k
-met (Piece.Both a b) = 1
-met (Piece.First a) = 0
-met (Piece.Then b) = 0
+abbrev pub found_count : Piece → ℕ
+found_count (Piece.Counted k) = k
+found_count (Piece.Both a b) = 1
+found_count (Piece.First a) = 0
+found_count (Piece.Then b) = 0
 
 -- one turn of a walk over two listings, of which the first shows these cells to the second: the piece and what is left
 -- give the whole, and so does the place of the first difference
-abbrev pub GoesOn : (List CellMark → List CellMark → List CellPiece) → (List CellMark → List Seen) → List CellMark → List CellMark → Turn → Type 0
+abbrev pub GoesOn : (List CellMark → List CellMark → List CellPiece) → (List CellMark → List CellView) → List CellMark → List CellMark → Turn → Type 0
 GoesOn walk shows xs ys Turn.Done = (walk xs ys ≡ []) × (first_difference (shows xs) (cells_before ys) ≡ None)
 GoesOn walk shows xs ys Turn.Apart = first_difference (shows xs) (cells_before ys) ≡ Some 0
 GoesOn walk shows xs ys (Turn.Go piece p more q rest) =
-    IsOfCells piece × (walk xs ys ≡ laid piece ++ walk (left p more.now) (left q rest.now))
-    × (first_difference (shows xs) (cells_before ys) ≡ option_map (λ k. met piece + k) (first_difference (shows (left p more.now)) (cells_before (left q rest.now))))
+    IsOfCells piece × (walk xs ys ≡ cells_of_piece piece ++ walk (left p more.now) (left q rest.now))
+    × (first_difference (shows xs) (cells_before ys) ≡ option_map (λ k. found_count piece + k) (first_difference (shows (left p more.now)) (cells_before (left q rest.now))))
     × (length (left p more.now) + length (left q rest.now) < length xs + length ys)
-    × (length (cells_before ys) ≡ met piece + length (cells_before (left q rest.now)))
+    × (length (cells_before ys) ≡ found_count piece + length (cells_before (left q rest.now)))
 
 -- one turn, where the second listing finds what the first leaves
 abbrev pub IsTurnInTurn : List CellMark → List CellMark → Turn → Type 0
@@ -60,10 +60,10 @@ IsTurnBeside xs ys turn = GoesOn beside cells_before xs ys turn
 
 -- one turn of a walk over a row and the step that leads on from it: the cell that is written and what is left
 abbrev pub IsSlotTurn : List Slot → List CellMark → SlotTurn → Type 0
-IsSlotTurn c xs SlotTurn.Done = (after_row c xs ≡ []) × (first_difference (row_seen c) (cells_before xs) ≡ None)
-IsSlotTurn c xs SlotTurn.Apart = first_difference (row_seen c) (cells_before xs) ≡ Some 0
+IsSlotTurn c xs SlotTurn.Done = (after_row c xs ≡ []) × (first_difference (row_views c) (cells_before xs) ≡ None)
+IsSlotTurn c xs SlotTurn.Apart = first_difference (row_views c) (cells_before xs) ≡ Some 0
 IsSlotTurn c xs (SlotTurn.Go slot found d k rest) =
     (after_row c xs ≡ slot ∷ after_row d.now (left k rest.now))
-    × (first_difference (row_seen c) (cells_before xs) ≡ option_map (λ j. found + j) (first_difference (row_seen d.now) (cells_before (left k rest.now))))
+    × (first_difference (row_views c) (cells_before xs) ≡ option_map (λ j. found + j) (first_difference (row_views d.now) (cells_before (left k rest.now))))
     × (length d.now + length (left k rest.now) < length c + length xs)
     × (length (cells_before xs) ≡ found + length (cells_before (left k rest.now)))

@@ -1,19 +1,18 @@
 //! The rules that the change of a row keeps.
 ghost use Rattle.std.specs.Prelude.{◌≡◌, ◌↔◌, ◌&&◌, ◌∷◌, [], None, MatchOption, IsTrue, not, true};
 ghost use Rattle.std.specs.List.{list_all, list_any};
-ghost use Rattle.st_ids.specs.Order.{same_cell, same_node, same_rev};
+ghost use Rattle.st_ids.specs.Order.{same_cell, same_node, same_rev, node_cmp};
 ghost use Rattle.st_ids.specs.Listing.{IsRising};
-ghost use Rattle.st_ids.specs.Order.{node_cmp};
 ghost use Rattle.st_marks.specs.Document.{root};
 ghost use Rattle.st_marks.specs.Embedding.{is_among as among};
 ghost use Rattle.st_marks.specs.Row.{spread};
-ghost use Rattle.st_marks.specs.Shown.{cells_before};
-ghost use Rattle.st_seq.specs.Agreement.{first_difference, row_seen};
-ghost use Rattle.st_seq.specs.Form.{KeepsForm, begins_with_skip as counts_first, stands_before as stands_well, is_normal as normal, places as puts_into, makes_cell as makes_a_cell, puts_found as puts_one_found, has_cell as holds_cell, stands_in as holds_node, may_put as may_be_put, may_make as may_be_made, is_allowed as allowed, are_allowed as all_allowed};
+ghost use Rattle.st_marks.specs.Listings.{cells_before};
+ghost use Rattle.st_seq.specs.Views.{first_difference, row_views};
+ghost use Rattle.st_seq.specs.NormalForm.{IsNormalRowChange, begins_with_skip as counts_first, stands_before as stands_well, is_normal as normal, places as puts_into, makes_cell as makes_a_cell, puts_found as puts_one_found, has_cell as holds_cell, stands_in as holds_node, may_put as may_be_put, may_make as may_be_made, is_allowed as allowed, are_allowed as all_allowed};
 ghost use Rattle.st_seq.specs.Reading.{cell_of, IsSingle};
 
-use crate::among::is_among;
-use crate::new::is_rising;
+use crate::new_nodes::is_rising;
+use crate::node_set::is_among;
 use crate::rows::{SlotTurn, slot_turn};
 use crate::values::RowChange;
 use st_ids::{Atom, CellId, List, NodeId, Rev};
@@ -71,7 +70,7 @@ fn is_normal(marks: &[Mark]) -> bool
 
 /// Whether marks list a row, place by place.
 fn is_listed(row: &[Slot], marks: &[Mark]) -> bool
-    ensures { IsTrue result ↔ (first_difference (row_seen row.now) (cells_before (spread marks.now)) ≡ None) }
+    ensures { IsTrue result ↔ (first_difference (row_views row.now) (cells_before (spread marks.now)) ≡ None) }
 {
     let mut slots_left = row;
     let mut count_left = 0;
@@ -279,7 +278,7 @@ fn is_empty_if_new(in_new: bool, row: &[Slot]) -> bool
 
 /// Whether a change keeps all rules where a row holds this. Its time grows with the square of what the marks put and make.
 pub fn is_of_form(change: &RowChange, row: &[Slot]) -> bool
-    ensures { IsTrue result ↔ KeepsForm change.now row.now }
+    ensures { IsTrue result ↔ IsNormalRowChange change.now row.now }
 {
     let marks = change.marks.as_slice();
     let made = Made {

@@ -3,8 +3,8 @@ ghost use Rattle.std.specs.Prelude.{◌≡◌, ◌↔◌, ◌<◌, ◌^◌, leng
 ghost use Rattle.st_marks.specs.Row.{spread};
 
 use crate::form::is_of_form;
-use crate::names::{agree_beside, agree_in_turn, agree_over};
-use crate::new::{merged, rising};
+use crate::name_clashes::{agree_beside, agree_in_turn, agree_over};
+use crate::new_nodes::{merged, rising};
 use crate::owners::agree_as_changes;
 use crate::values::{RowChange, RowHeld, RowStep};
 use crate::{across, back, beside, carry, rows, turns};
@@ -20,13 +20,13 @@ impl FieldKind for Sequence {
     ghost use Rattle.std.specs.Prelude.{◌≡◌, ◌<◌, ◌^◌, length};
     ghost use Rattle.st_marks.specs.Embedding.{is_among};
     ghost use Rattle.st_marks.specs.Row.{spread};
-    ghost use Rattle.st_marks.specs.Shown.{cells_after, cells_before};
-    ghost use Rattle.st_seq.specs.Agreement.{row_seen};
+    ghost use Rattle.st_marks.specs.Listings.{cells_after, cells_before};
+    ghost use Rattle.st_seq.specs.Views.{row_views};
     ghost use Rattle.st_seq.specs.Changes.{may_list};
     ghost use Rattle.st_seq.specs.Laws.{kept_in_turn, one_row_change, one_row_step, row_changes_are_short, row_has_room, row_steps_are_short};
     ghost use Rattle.st_seq.specs.NamedApart.{ApartAt, named_after, named_before, named_in_row};
     ghost use Rattle.st_seq.specs.OwnedEarly.{TurnsApartAt};
-    ghost use Rattle.st_seq.specs.Sequence.{SeqPart, AreJoinedIn, CanHold, FitsIn, KeepsIn, LeadsOver, brought, carried_to, change_of, retreat_to};
+    ghost use Rattle.st_seq.specs.Sequence.{SeqPart, RowPartsAreJoined, RowCanHold, RowFits, RowKeeps, RowLeadsOver, brought, row_carried, row_change_of, retreat_to};
 
     type Ctx = RowHeld;
 
@@ -36,27 +36,27 @@ impl FieldKind for Sequence {
 
     ghost Part = { SeqPart };
 
-    ghost IsContent = { λ c. CanHold c.cells };
+    ghost IsContent = { λ c. RowCanHold c.cells };
 
-    ghost Fits = { λ p c. FitsIn p c.cells };
+    ghost Fits = { λ p c. RowFits p c.cells };
 
-    ghost mentions = { λ p. p.does.mentioned };
+    ghost mentions = { λ p. p.part.mentioned };
 
     ghost makes = { λ p. is_among p.new };
 
-    ghost carry = { λ p void c. record { cells = carried_to p void c.cells } };
+    ghost carry = { λ p void c. record { cells = row_carried p void c.cells } };
 
     ghost retreat = { λ c d. record { cells = retreat_to c.cells d.cells } };
 
-    ghost IsEmbedding = { λ p c x. x ≡ change_of p c.cells };
+    ghost IsEmbedding = { λ p c x. x ≡ row_change_of p c.cells };
 
-    ghost IsStep = { λ m c d s. LeadsOver m c.cells d.cells s.marks };
+    ghost IsStep = { λ m c d s. RowLeadsOver m c.cells d.cells s.marks };
 
     ghost brings = { λ s. brought (spread s.marks) };
 
-    ghost Keeps = { λ p c d. KeepsIn p.does c.cells d.cells };
+    ghost Keeps = { λ p c d. RowKeeps p.part c.cells d.cells };
 
-    ghost AreJoined = { λ p q c j. AreJoinedIn p q c.cells j };
+    ghost AreJoined = { λ p q c j. RowPartsAreJoined p q c.cells j };
 
     ghost IsShortStep = { λ s. length (spread s.marks) < 2 ^ 32 };
 
@@ -64,7 +64,7 @@ impl FieldKind for Sequence {
 
     ghost HasRoom = { λ x s. may_list (spread x.marks) (spread s.marks) < 2 ^ 32 };
 
-    ghost AfterClash = { λ c s. ApartAt (row_seen c.cells) (cells_before (spread s.marks)) (named_in_row 0 c.cells) (named_before 0 (spread s.marks)) };
+    ghost AfterClash = { λ c s. ApartAt (row_views c.cells) (cells_before (spread s.marks)) (named_in_row 0 c.cells) (named_before 0 (spread s.marks)) };
 
     ghost ComposeClash = { λ s t. ApartAt (cells_after (spread s.marks)) (cells_before (spread t.marks)) (named_after 0 (spread s.marks)) (named_before 0 (spread t.marks)) };
 

@@ -8,7 +8,7 @@ ghost use Rattle.st_marks.specs.Back.{retreat};
 ghost use Rattle.st_marks.specs.CarryOut.{full, void};
 ghost use Rattle.st_marks.specs.Document.{Document, IsSoundInForm, content};
 ghost use Rattle.st_marks.specs.Embedding.{IsMentionedByIntent, row_marks, tells};
-ghost use Rattle.st_marks.specs.Extends.{Grows, IsExtendedBy};
+ghost use Rattle.st_marks.specs.Extends.{GainsItems, IsExtendedBy};
 ghost use Rattle.st_marks.specs.Intent.{Fits};
 ghost use Rattle.st_marks.specs.Join.{AreParts, IsJoin};
 ghost use Rattle.st_marks.specs.Row.{SameCell, embed_row, merge, spread, step_row};
@@ -17,35 +17,35 @@ ghost use Rattle.st_marks.specs.declared.marks.Mark.{Mark};
 ghost use Rattle.st_marks.specs.declared.places.Slot.{Slot};
 ghost use Rattle.st_marks.specs.declared.steps.Step.{Step};
 ghost use Rattle.st_seq.specs.Changes.{StandsIn};
-ghost use Rattle.st_seq.specs.Sequence.{AreJoinedIn, CanHold, FitsIn, LeadsOver, ListsNew, SeqPart, carried_to, change_of, part_of, retreat_to};
+ghost use Rattle.st_seq.specs.Sequence.{RowPartsAreJoined, RowCanHold, RowFits, RowLeadsOver, ListsNew, SeqPart, row_carried, row_change_of, row_part_of, retreat_to};
 
 /// The part of an intent that fits a sound document fits each of its rows, and what the row holds after the part is what it
 /// holds in the document after the intent, whole or void. On the way back the row of a node that was there holds what stood in
 /// it.
 pub fn rows_are_of_documents()
     ensures fits { (D : Document) (N : Intent) (m : Nodes) (new : Seq NodeId) (n : NodeId) → IsSoundInForm D → Fits D N → ListsNew N new
-        → ((k : NodeId) → IsMentionedByIntent D N k → m k ≡ true) → FitsIn (part_of m new N n) (content D n) }
+        → ((k : NodeId) → IsMentionedByIntent D N k → m k ≡ true) → RowFits (row_part_of m new N n) (content D n) }
     ensures whole { (D : Document) (N : Intent) (m : Nodes) (new : Seq NodeId) (n : NodeId) → IsSoundInForm D → Fits D N
-        → content (full D N) n ≡ carried_to (part_of m new N n) false (content D n) }
+        → content (full D N) n ≡ row_carried (row_part_of m new N n) false (content D n) }
     ensures void { (D : Document) (N : Intent) (m : Nodes) (new : Seq NodeId) (n : NodeId) → IsSoundInForm D → Fits D N → ListsNew N new
-        → content (void D N) n ≡ carried_to (part_of m new N n) true (content D n) }
+        → content (void D N) n ≡ row_carried (row_part_of m new N n) true (content D n) }
     ensures back { (D E : Document) (n : NodeId) → IsExtendedBy D E → IsSome (D.nodes n) → content (retreat D E) n ≡ retreat_to (content D n) (content E n) }
 {}
 
 /// A whole change and a whole step list of a row what its change and its step say, where they list it. A whole step from one
 /// document to another leads from each row to the row after it.
 pub fn rows_are_listed()
-    ensures change { (p : SeqPart) (c : Seq Slot) (n : NodeId) → row_marks n (embed_row p.does c)
-        ≡ (if list_any tells (spread (change_of p c).marks) then Some (record { node = n; marks = (change_of p c).marks }) else None) }
-    ensures step { (m : Nodes) (c d : Seq Slot) (marks : Seq Mark) (n : NodeId) → LeadsOver m c d marks → (g : Grows SameCell c d)
+    ensures change { (p : SeqPart) (c : Seq Slot) (n : NodeId) → row_marks n (embed_row p.part c)
+        ≡ (if list_any tells (spread (row_change_of p c).marks) then Some (record { node = n; marks = (row_change_of p c).marks }) else None) }
+    ensures step { (m : Nodes) (c d : Seq Slot) (marks : Seq Mark) (n : NodeId) → RowLeadsOver m c d marks → (g : GainsItems SameCell c d)
         → row_marks n (step_row m g) ≡ (if list_any tells (spread marks) then Some (record { node = n; marks = marks }) else None) }
     ensures document { (D E : Document) (S : Step) (n : NodeId) (s : IsStep D E S) → IsExtendedBy D E
-        → LeadsOver s.mentioned (content D n) (content E n) (merge (step_row s.mentioned (s.grows n))) }
+        → RowLeadsOver s.mentioned (content D n) (content E n) (merge (step_row s.mentioned (s.grows n))) }
 {}
 
 /// A row of a document that is sound in form is what a row can hold.
 pub fn rows_hold()
-    ensures { (D : Document) (n : NodeId) → IsSoundInForm D → CanHold (content D n) }
+    ensures { (D : Document) (n : NodeId) → IsSoundInForm D → RowCanHold (content D n) }
 {}
 
 /// The part of the join of two intents is that of both parts in turn, where it mentions of the row's nodes those that either
@@ -53,5 +53,5 @@ pub fn rows_hold()
 pub fn rows_are_joined()
     ensures { (D : Document) (N M J : Intent) (m k l : Nodes) (a b c : Seq NodeId) (n : NodeId) → IsSoundInForm D → AreParts D N M → IsJoin N M J
         → ListsNew N a → ListsNew M b → ListsNew J c → ((x : NodeId) → StandsIn x (content D n) → l x ≡ (m x || k x))
-        → AreJoinedIn (part_of m a N n) (part_of k b M n) (content D n) (part_of l c J n) }
+        → RowPartsAreJoined (row_part_of m a N n) (row_part_of k b M n) (content D n) (row_part_of l c J n) }
 {}

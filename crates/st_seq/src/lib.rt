@@ -1,33 +1,33 @@
 //! Rows: what steps and changes of one row become, on their marks alone, and rows as a kind of field.
 #![tactic(auto)]
 
-mod across;
-mod among;
-mod back;
-mod beside;
-mod carry;
+mod bridge;
+mod cell_view;
+mod compose;
+mod effect;
 mod form;
+mod front_mark;
+mod invert;
 mod kind;
 mod laws;
-mod lay;
-mod names;
-mod new;
+mod mark_builder;
+mod merge_walk;
+mod name_clashes;
+mod new_nodes;
+mod node_set;
 mod owners;
-mod push;
-mod read;
+mod pieces;
+mod rebase;
 mod rows;
-mod said;
 mod touches;
-mod turns;
 mod values;
-mod walk;
 
-pub use across::bridge;
-pub use back::invert;
-pub use beside::rebase;
-pub use carry::{effect, void_effect};
+pub use bridge::bridge;
+pub use compose::{compose, join};
+pub use effect::{effect, void_effect};
+pub use invert::invert;
 pub use kind::Sequence;
 pub use laws::{rows_are_joined, rows_are_listed, rows_are_of_documents, rows_hold};
+pub use rebase::rebase;
 pub use rows::after;
-pub use turns::{compose, join};
 pub use values::{RowChange, RowHeld, RowStep};

@@ -7,12 +7,14 @@ ghost use Rattle.st_ids.specs.declared.names.CellId.{CellId as Cell};
 ghost use Rattle.st_ids.specs.declared.names.NodeId.{NodeId as Node};
 ghost use Rattle.st_kind.specs.Refused.{IsApartWhere};
 ghost use Rattle.st_marks.specs.Row.{spread};
-ghost use Rattle.st_marks.specs.Shown.{cells_after, cells_before, cells_made};
+ghost use Rattle.st_marks.specs.Listings.{cells_after, cells_before, cells_made};
 ghost use Rattle.st_seq.specs.NamedApart.{IsPlace, SaidInTurn, first_named, found_at as at};
 ghost use Rattle.st_seq.specs.OwnedEarly.{OwnedEarly, early_place as early_at, first_early as early_in};
-ghost use Rattle.st_seq.specs.declared.names.NamedAt.{NamedAt as Named};
+ghost use Rattle.st_seq.specs.declared.name_clashes.NamedAt.{NamedAt as Named};
 
-use crate::names::{NamedAt, by_name, found, found_at, lesser, named, push_name, said_in_turn};
+use crate::name_clashes::{
+    NamedAt, by_name, found, found_at, lesser, named, push_name, said_in_turn,
+};
 use st_ids::{Atom, CellId, List, NodeId, Or};
 use st_kind::Apart;
 use st_marks::Mark;

@@ -4,16 +4,16 @@ ghost use Rattle.st_kind.specs.Named.{Nodes};
 ghost use Rattle.st_kind.specs.Refused.{IfMemory, IsApartWhere};
 ghost use Rattle.st_marks.specs.declared.places.Slot.{Slot as Cell};
 ghost use Rattle.st_marks.specs.Row.{CellMark, spread};
-ghost use Rattle.st_marks.specs.Shown.{cells_before, seen};
-ghost use Rattle.st_seq.specs.Agreement.{DifferAt, first_difference, row_seen, told, IsApart};
+ghost use Rattle.st_marks.specs.Listings.{cells_before, cell_view};
+ghost use Rattle.st_seq.specs.Views.{DifferAt, first_difference, row_views, view_of, IsApart};
 ghost use Rattle.st_seq.specs.Cells.{after_row};
 ghost use Rattle.st_seq.specs.Reading.{left, is_make, IsFirst};
 ghost use Rattle.st_seq.specs.Rows.{IsRowStep};
 ghost use Rattle.st_seq.specs.Turns.{IsSlotTurn};
 
-use crate::read::{Head, next};
-use crate::said::{Said, after as said_after, before, is_same};
-use crate::walk::one;
+use crate::cell_view::{Sighting, after as said_after, before, is_same};
+use crate::front_mark::{Head, next};
+use crate::pieces::one;
 use st_ids::{List, Or};
 use st_kind::Apart;
 use st_marks::{Mark, Slot};
@@ -35,10 +35,10 @@ pub enum SlotTurn<'a> {
 }
 
 /// What a row says of a cell.
-fn slot_said(slot: Slot) -> Said
-    ensures { told result ≡ seen slot.cell slot.node slot.full }
+fn slot_said(slot: Slot) -> Sighting
+    ensures { view_of result ≡ cell_view slot.cell slot.node slot.full }
 {
-    Said {
+    Sighting {
         cell: Some(slot.cell),
         node: Some(slot.node),
         full: slot.full,
@@ -112,7 +112,7 @@ pub fn slot_turn<'a>(slots: &'a [Slot], count: u32, marks: &'a [Mark]) -> SlotTu
 pub fn after(alloc: Global, row: &List<Slot>, step: &List<Mark>) -> Result<List<Slot>, Or<Apart>>
     requires { length (cells_before (spread step.now)) < 2 ^ 32 }
     ensures after { (m : Nodes) (d : Seq Cell) → IsRowStep m row.now d step.now → IfMemory result (λ e. e ≡ d) }
-    ensures apart { IsApartWhere result (DifferAt (row_seen row.now) (cells_before (spread step.now))) }
+    ensures apart { IsApartWhere result (DifferAt (row_views row.now) (cells_before (spread step.now))) }
 {
     slots_after(alloc, row.as_slice(), step.as_slice())
 }
@@ -121,7 +121,7 @@ pub fn after(alloc: Global, row: &List<Slot>, step: &List<Mark>) -> Result<List<
 fn slots_after(alloc: Global, row: &[Slot], step: &[Mark]) -> Result<List<Slot>, Or<Apart>>
     requires { length (cells_before (spread step.now)) < 2 ^ 32 }
     ensures cells { IfOk result (λ d. d ≡ after_row row.now (spread step.now)) }
-    ensures apart { IsApart (first_difference (row_seen row.now) (cells_before (spread step.now))) result }
+    ensures apart { IsApart (first_difference (row_views row.now) (cells_before (spread step.now))) result }
 {
     let mut out = List::new(alloc);
     let mut place = 0;

@@ -9,7 +9,7 @@ use Rattle.st_marks.specs.declared.intents.Intent.{Intent}
 use Rattle.st_marks.specs.Document.{IsSoundInForm, Document}
 use Rattle.st_marks.specs.Intent.{Fits}
 use Rattle.st_marks.specs.LiveTree.{IsTreeText}
-use Rattle.st_conform.proofs.Resolved.{resolved_agrees}
+use Rattle.st_schema_laws.proofs.Resolved.{resolved_agrees}
 use Rattle.st_doc.specs.Doc.{document_of}
 use Rattle.st_doc.specs.LiveText.{is_among}
 use Rattle.st_edits.specs.Resolve.{resolve}
@@ -19,13 +19,13 @@ use Rattle.st_edits.proofs.Resolved.{resolved_fits}
 use Rattle.st_script.specs.Header.{HeaderView, header_view}
 use Rattle.st_script.specs.declared.answer.Answer.{Answer}
 use Rattle.st_script.specs.declared.answer.Answer.TheVariants.{Show}
-use Rattle.st_trace.specs.Kept.{CanReceive, HasMoved, IsEditedKept, IsPending, IsSound, IsSoundAfter}
-use Rattle.st_trace.specs.World.{AtRefusal, HasReceived, HasShown, IsDelivered, IsDeliveredTo, IsEdited, IsShown, answered, edited, given, limit_passed, next_rev, pends, taken, with_client}
+use Rattle.st_trace.specs.Replica.{CanReceive, HasMoved, IsEditedReplica, IsPending, IsSound, IsSoundAfter}
+use Rattle.st_trace.specs.World.{AtRefusal, HasReceived, HasShown, IsDelivered, IsDeliveredTo, IsEdited, IsShown, answer_of, after_edit, next_names, limit_passed, next_rev, with_pending, with_received, with_client}
 use Rattle.st_trace.specs.declared.client.EditWord.{EditWord}
-use Rattle.st_trace.specs.declared.kept.Kept.{Kept}
-use Rattle.st_trace.specs.declared.lists.Client.{Client}
-use Rattle.st_trace.specs.declared.lists.Entry.{Entry}
-use Rattle.st_trace.specs.declared.lists.Lists.{Lists}
+use Rattle.st_trace.specs.declared.replica.Replica.{Replica}
+use Rattle.st_trace.specs.declared.state.Client.{Client}
+use Rattle.st_trace.specs.declared.state.Entry.{Entry}
+use Rattle.st_trace.specs.declared.state.WorldState.{WorldState}
 use Rattle.st_trace.specs.declared.world.World.{World}
 use Rattle.st_trace.proofs.Agreed.{delivered_keeps, edited_keeps}
 use Rattle.st_trace.proofs.Clients.{fresh_cells, fresh_nodes, shown_sound}
@@ -35,7 +35,7 @@ use Rattle.st_trace.proofs.Meanings.{meant_of}
 use Rattle.st_trace.proofs.Stepping.{sound_client, start_of}
 
 -- a client and what is kept of it
-pub one_at : (w : World) (i : ℕ) (c : Client) (k : Kept) → IsSound w → slice_get w.lists.clients i ≡ Some c → slice_get w.kept i ≡ Some k → AreOne (header_view w.header) w.lists.log c k
+pub one_at : (w : World) (i : ℕ) (c : Client) (k : Replica) → IsSound w → slice_get w.lists.clients i ≡ Some c → slice_get w.kept i ≡ Some k → AreOne (header_view w.header) w.lists.log c k
 one_at w i c k s at_c at_k = kept_at (header_view w.header) w.lists.log w.lists.clients w.kept i c k s.kept at_c at_k
 
 pub few_ids : (w : World) (i : ℕ) (c : Client) → IsSound w → slice_get w.lists.clients i ≡ Some c → c.ids ≤ w.steps
@@ -54,51 +54,51 @@ goes_as c d c' g is = subst (GoesOn c) is g
 stays : (c : Client) → GoesOn c c
 stays c = record { session = refl; ids = omega arith }
 
-edited_on : (c c' : Client) (word : EditWord) (r : Result Intent EditFault) (a : Answer) → edited c word r ≡ (c', a) → GoesOn c c'
+edited_on : (c c' : Client) (word : EditWord) (r : Result Intent EditFault) (a : Answer) → after_edit c word r ≡ (c', a) → GoesOn c c'
 edited_on c c' word (Err f) a is = goes_as c c c' (stays c) (ap (λ (p : Client × Answer). p.0) is)
 edited_on c c' word (Ok N) a is = go (limit_passed c N) is
   where
-    go : (o : Option Limit) → pends c word N o ≡ (c', a) → GoesOn c c'
+    go : (o : Option Limit) → with_pending c word N o ≡ (c', a) → GoesOn c c'
     go (Some l) is = goes_as c c c' (stays c) (ap (λ (p : Client × Answer). p.0) is)
     go None is = goes_as c _ c' (record { session = refl; ids = omega arith }) (ap (λ (p : Client × Answer). p.0) is)
 
-pub sound_edited : (w : World) (i : ℕ) (c c' : Client) (k k' : Kept) (word : EditWord) (edit : Edit) (a : Answer) → IsSound w → slice_get w.lists.clients i ≡ Some c → slice_get w.kept i ≡ Some k
-    → edited c word (resolve (document_of k.shown) w.header.schema (given c) edit) ≡ (c', a) → IsEditedKept c k (resolve (document_of k.shown) w.header.schema (given c) edit) k'
+pub sound_edited : (w : World) (i : ℕ) (c c' : Client) (k k' : Replica) (word : EditWord) (edit : Edit) (a : Answer) → IsSound w → slice_get w.lists.clients i ≡ Some c → slice_get w.kept i ≡ Some k
+    → after_edit c word (resolve (document_of k.shown) w.header.schema (next_names c) edit) ≡ (c', a) → IsEditedReplica c k (resolve (document_of k.shown) w.header.schema (next_names c) edit) k'
     → IsSoundAfter (w.steps + 1) (record w { lists = record w.lists { clients = slice_set w.lists.clients i c' }; kept = slice_set w.kept i k' })
 sound_edited w i c c' k k' word edit a s at_c at_k done kept =
     let h = header_view w.header in
     let st = start_of w w.steps s in
     let log = w.lists.log in
     let D = document_of k.shown in
-    let r = resolve D w.header.schema (given c) edit in
+    let r = resolve D w.header.schema (next_names c) edit in
     let one = one_at w i c k s at_c at_k in
     let on = edited_on c c' word r a done in
     let sound = shown_sound h st log c D one.client one.kept.shown in
-    let nodes : NodesFresh D (given c) = λ j low. fresh_nodes h st log c D one.client one.kept.shown j in
-    let cells : CellsFresh D (given c) = λ j low. fresh_cells h st log c D one.client one.kept.shown j in
-    let fits : (N : Intent) → r ≡ Ok N → Fits D N = λ N e. resolved_fits D w.header.schema (given c) edit N sound s.header.schema nodes cells e in
+    let nodes : NodesFresh D (next_names c) = λ j low. fresh_nodes h st log c D one.client one.kept.shown j in
+    let cells : CellsFresh D (next_names c) = λ j low. fresh_cells h st log c D one.client one.kept.shown j in
+    let fits : (N : Intent) → r ≡ Ok N → Fits D N = λ N e. resolved_fits D w.header.schema (next_names c) edit N sound s.header.schema nodes cells e in
     sound_client w i c c' k' s at_c
-    (one_edited h st log c c' k k' word r a one s.few_names (λ N e. let m = meant_of D w.header.schema (given c) edit N e in (fits N e, m.0, m.1)) done kept)
+    (one_edited h st log c c' k k' word r a one s.few_names (λ N e. let m = meant_of D w.header.schema (next_names c) edit N e in (fits N e, m.0, m.1)) done kept)
     on.session on.ids
     (edited_keeps h st log w.lists.clients w.kept i c c' D word r a s.sessions s.kept at_c one.kept.shown (λ N e. record {
       itself = (fits N e).itself;
-      rev = (meant_of D w.header.schema (given c) edit N e).0;
-      agrees = λ home conforms tells. resolved_agrees w.header.schema home D (given c) N sound s.header.schema conforms nodes cells tells edit e;
+      rev = (meant_of D w.header.schema (next_names c) edit N e).0;
+      agrees = λ home conforms tells. resolved_agrees w.header.schema home D (next_names c) N sound s.header.schema conforms nodes cells tells edit e;
     }) done s.schema)
 
 -- a refusal leaves the client and what is kept of it
-no_refusal : (word : EditWord) (rev : Rev) (P : Type 0) → AtRefusal (answered word rev) P
+no_refusal : (word : EditWord) (rev : Rev) (P : Type 0) → AtRefusal (answer_of word rev) P
 no_refusal EditWord.Insert rev P = tt
 no_refusal EditWord.Remove rev P = tt
 no_refusal EditWord.Move rev P = tt
 no_refusal EditWord.Set rev P = tt
 no_refusal EditWord.Clear rev P = tt
 
-edit_refused : (c c' : Client) (k k' : Kept) (word : EditWord) (r : Result Intent EditFault) (a : Answer) → edited c word r ≡ (c', a) → IsEditedKept c k r k' → AtRefusal a ((c' ≡ c) × (k' ≡ k))
+edit_refused : (c c' : Client) (k k' : Replica) (word : EditWord) (r : Result Intent EditFault) (a : Answer) → after_edit c word r ≡ (c', a) → IsEditedReplica c k r k' → AtRefusal a ((c' ≡ c) × (k' ≡ k))
 edit_refused c c' k k' word (Err f) a is kept = subst (λ x. AtRefusal x ((c' ≡ c) × (k' ≡ k))) (ap (λ (p : Client × Answer). p.1) is) (sym (ap (λ (p : Client × Answer). p.0) is), kept)
 edit_refused c c' k k' word (Ok N) a is kept = go (limit_passed c N) is kept
   where
-    go : (o : Option Limit) → pends c word N o ≡ (c', a) → IsPending k N o k' → AtRefusal a ((c' ≡ c) × (k' ≡ k))
+    go : (o : Option Limit) → with_pending c word N o ≡ (c', a) → IsPending k N o k' → AtRefusal a ((c' ≡ c) × (k' ≡ k))
     go (Some l) is kept = subst (λ x. AtRefusal x ((c' ≡ c) × (k' ≡ k))) (ap (λ (p : Client × Answer). p.1) is) (sym (ap (λ (p : Client × Answer). p.0) is), kept)
     go None is kept = subst (λ x. AtRefusal x ((c' ≡ c) × (k' ≡ k))) (ap (λ (p : Client × Answer). p.1) is) (no_refusal word (next_rev c) ((c' ≡ c) × (k' ≡ k)))
 
@@ -116,20 +116,20 @@ refusal_as (Answer.Show tree) P Q f p = tt
 refusal_as (Answer.No why) P Q f p = f p
 
 -- a world whose client and what is kept of it are the same is the same
-same_world : (w : World) (i : ℕ) (c c' : Client) (k k' : Kept) → slice_get w.lists.clients i ≡ Some c → slice_get w.kept i ≡ Some k → (c' ≡ c) × (k' ≡ k)
+same_world : (w : World) (i : ℕ) (c c' : Client) (k k' : Replica) → slice_get w.lists.clients i ≡ Some c → slice_get w.kept i ≡ Some k → (c' ≡ c) × (k' ≡ k)
     → ◌≡◌ {A = World} (record w { lists = record w.lists { clients = slice_set w.lists.clients i c' }; kept = slice_set w.kept i k' }) w
 same_world w i c c' k k' at_c at_k same =
     let clients : slice_set w.lists.clients i c' ≡ w.lists.clients = ap (slice_set w.lists.clients i) same.0 ∙ set_same w.lists.clients i c at_c in
     let kept : slice_set w.kept i k' ≡ w.kept = ap (slice_set w.kept i) same.1 ∙ set_same w.kept i k at_k in
     λ j. record w { lists = record w.lists { clients = clients j }; kept = kept j }
 
-pub edited_refused : (w : World) (i : ℕ) (c c' : Client) (k k' : Kept) (word : EditWord) (r : Result Intent EditFault) (a : Answer) → slice_get w.lists.clients i ≡ Some c → slice_get w.kept i ≡ Some k
-    → edited c word r ≡ (c', a) → IsEditedKept c k r k' → AtRefusal a (record w { lists = record w.lists { clients = slice_set w.lists.clients i c' }; kept = slice_set w.kept i k' } ≡ w)
+pub edited_refused : (w : World) (i : ℕ) (c c' : Client) (k k' : Replica) (word : EditWord) (r : Result Intent EditFault) (a : Answer) → slice_get w.lists.clients i ≡ Some c → slice_get w.kept i ≡ Some k
+    → after_edit c word r ≡ (c', a) → IsEditedReplica c k r k' → AtRefusal a (record w { lists = record w.lists { clients = slice_set w.lists.clients i c' }; kept = slice_set w.kept i k' } ≡ w)
 edited_refused w i c c' k k' word r a at_c at_k is kept = refusal_as a _ _ (same_world w i c c' k k' at_c at_k) (edit_refused c c' k k' word r a is kept)
 
 -- what a client does with the document that is kept, it does with one that it shows
-pub next_edited : (h : HeaderView) (w : Lists) (i : ℕ) (c q c' : Client) (word : EditWord) (f : Client → Document → Result Intent EditFault) (D : Document) (a : Answer) → slice_get w.clients i ≡ Some c → slice_get w.clients i ≡ Some q
-    → HasShown h w.log c D → edited c word (f c D) ≡ (c', a) → IsEdited h w i q word (f q) (record w { clients = slice_set w.clients i c' }) a
+pub next_edited : (h : HeaderView) (w : WorldState) (i : ℕ) (c q c' : Client) (word : EditWord) (f : Client → Document → Result Intent EditFault) (D : Document) (a : Answer) → slice_get w.clients i ≡ Some c → slice_get w.clients i ≡ Some q
+    → HasShown h w.log c D → after_edit c word (f c D) ≡ (c', a) → IsEdited h w i q word (f q) (record w { clients = slice_set w.clients i c' }) a
 next_edited h w i c q c' word f D a at_c at_q shown done =
     let same : c ≡ q = cc in
     subst (λ (x : Client). IsEdited h w i x word (f x) (record w { clients = slice_set w.clients i c' }) a) same (D, shown, ap (with_client w i) done)
@@ -138,17 +138,17 @@ next_edited h w i c q c' word f D a at_c at_q shown done =
 
 delivered_on : (D : Document) (c c' : Client) (o : Option Entry) (a : Answer) → IsDeliveredTo D c o c' a → GoesOn c c'
 delivered_on D c c' None a is = goes_as c c c' (stays c) (sym is.0)
-delivered_on D c c' (Some e) a is = goes_as c (taken e c) c' (record { session = refl; ids = omega arith }) (sym is.2)
+delivered_on D c c' (Some e) a is = goes_as c (with_received e c) c' (record { session = refl; ids = omega arith }) (sym is.2)
 
 -- the next entry, if there is one, can be received
-pub can_deliver : (w : World) (i : ℕ) (c : Client) (k : Kept) → IsSound w → slice_get w.lists.clients i ≡ Some c → slice_get w.kept i ≡ Some k → IfSome (slice_get w.lists.log c.received) (CanReceive c k)
+pub can_deliver : (w : World) (i : ℕ) (c : Client) (k : Replica) → IsSound w → slice_get w.lists.clients i ≡ Some c → slice_get w.kept i ≡ Some k → IfSome (slice_get w.lists.log c.received) (CanReceive c k)
 can_deliver w i c k s at_c at_k = go (slice_get w.lists.log c.received) refl
   where
     go : (o : Option Entry) → slice_get w.lists.log c.received ≡ o → IfSome o (CanReceive c k)
     go None at = tt
     go (Some e) at = can_receive (header_view w.header) (start_of w w.steps s) w.lists.log c k e (one_at w i c k s at_c at_k) s.few_names at
 
-pub sound_delivered : (w : World) (i : ℕ) (c c' : Client) (k k' : Kept) (D : Document) (a : Answer) → IsSound w → slice_get w.lists.clients i ≡ Some c → slice_get w.kept i ≡ Some k
+pub sound_delivered : (w : World) (i : ℕ) (c c' : Client) (k k' : Replica) (D : Document) (a : Answer) → IsSound w → slice_get w.lists.clients i ≡ Some c → slice_get w.kept i ≡ Some k
     → IsDeliveredTo D c (slice_get w.lists.log c.received) c' a → HasMoved c k (slice_get w.lists.log c.received) k'
     → IsSoundAfter (w.steps + 1) (record w { lists = record w.lists { clients = slice_set w.lists.clients i c' }; kept = slice_set w.kept i k' })
 sound_delivered w i c c' k k' D a s at_c at_k done moved =
@@ -158,15 +158,15 @@ sound_delivered w i c c' k k' D a s at_c at_k done moved =
     sound_client w i c c' k' s at_c (one_delivered h st w.lists.log c c' k k' D a (one_at w i c k s at_c at_k) s.few_names done moved) on.session on.ids
     (delivered_keeps h st w.lists.log w.lists.clients w.kept i c c' D a s.kept s.few_names at_c done s.schema)
 
-delivery_refused : (D : Document) (c c' : Client) (k k' : Kept) (o : Option Entry) (a : Answer) → IsDeliveredTo D c o c' a → HasMoved c k o k' → AtRefusal a ((c' ≡ c) × (k' ≡ k))
+delivery_refused : (D : Document) (c c' : Client) (k k' : Replica) (o : Option Entry) (a : Answer) → IsDeliveredTo D c o c' a → HasMoved c k o k' → AtRefusal a ((c' ≡ c) × (k' ≡ k))
 delivery_refused D c c' k k' None a done moved = subst (λ x. AtRefusal x ((c' ≡ c) × (k' ≡ k))) (sym done.1) (done.0, moved)
 delivery_refused D c c' k k' (Some e) a done moved = subst (λ x. AtRefusal x ((c' ≡ c) × (k' ≡ k))) (sym done.3) tt
 
-pub delivered_refused : (w : World) (i : ℕ) (c c' : Client) (k k' : Kept) (D : Document) (o : Option Entry) (a : Answer) → slice_get w.lists.clients i ≡ Some c → slice_get w.kept i ≡ Some k
+pub delivered_refused : (w : World) (i : ℕ) (c c' : Client) (k k' : Replica) (D : Document) (o : Option Entry) (a : Answer) → slice_get w.lists.clients i ≡ Some c → slice_get w.kept i ≡ Some k
     → IsDeliveredTo D c o c' a → HasMoved c k o k' → AtRefusal a (record w { lists = record w.lists { clients = slice_set w.lists.clients i c' }; kept = slice_set w.kept i k' } ≡ w)
 delivered_refused w i c c' k k' D o a at_c at_k done moved = refusal_as a _ _ (same_world w i c c' k k' at_c at_k) (delivery_refused D c c' k k' o a done moved)
 
-pub next_delivered : (h : HeaderView) (w : Lists) (i : ℕ) (c q c' : Client) (D : Document) (a : Answer) → slice_get w.clients i ≡ Some c → slice_get w.clients i ≡ Some q → HasReceived h w.log c D
+pub next_delivered : (h : HeaderView) (w : WorldState) (i : ℕ) (c q c' : Client) (D : Document) (a : Answer) → slice_get w.clients i ≡ Some c → slice_get w.clients i ≡ Some q → HasReceived h w.log c D
     → IsDeliveredTo D c (slice_get w.log c.received) c' a → IsDelivered h w i q (record w { clients = slice_set w.clients i c' }) a
 next_delivered h w i c q c' D a at_c at_q received done =
     let same : c ≡ q = cc in
@@ -175,14 +175,14 @@ next_delivered h w i c q c' D a at_c at_q received done =
 -- ## What is shown
 
 -- what a client shows is sound in form
-pub shown_in_form : (w : World) (i : ℕ) (k : Kept) → IsSound w → slice_get w.kept i ≡ Some k → IsSoundInForm (document_of k.shown)
+pub shown_in_form : (w : World) (i : ℕ) (k : Replica) → IsSound w → slice_get w.kept i ≡ Some k → IsSoundInForm (document_of k.shown)
 shown_in_form w i k s at_k =
     let h = header_view w.header in
     let c = kept_of h w.lists.log w.lists.clients w.kept i k s.kept at_k in
     let one = one_at w i c.0 k s c.1 at_k in
     shown_sound h (start_of w w.steps s) w.lists.log c.0 (document_of k.shown) one.client one.kept.shown
 
-pub next_shown : (w : World) (i : ℕ) (q : Client) (k : Kept) (tree : List ℕ) → IsSound w → slice_get w.lists.clients i ≡ Some q → slice_get w.kept i ≡ Some k → IsTreeText (is_among w.arrays) (document_of k.shown) tree
+pub next_shown : (w : World) (i : ℕ) (q : Client) (k : Replica) (tree : List ℕ) → IsSound w → slice_get w.lists.clients i ≡ Some q → slice_get w.kept i ≡ Some k → IsTreeText (is_among w.arrays) (document_of k.shown) tree
     → IsShown (header_view w.header) w.lists q (Show tree)
 next_shown w i q k tree s at_q at_k text =
     (document_of k.shown, tree, (one_at w i q k s at_q at_k).kept.shown, subst (λ f. IsTreeText f (document_of k.shown) tree) s.arrays text, refl)

@@ -13,31 +13,31 @@ use Rattle.st_schema.specs.Written.{schema_data}
 use Rattle.serde_json.specs.Written.{compact_text}
 use Rattle.st_marks.specs.declared.intents.Intent.{Intent}
 use Rattle.st_marks.specs.Document.{Document, NodeType, opening}
-use Rattle.st_marks.specs.Extends.{kept}
+use Rattle.st_marks.specs.Extends.{item_kept}
 use Rattle.st_marks.specs.Intent.{IsIntent, is_new}
 use Rattle.st_marks.proofs.Members.{all-has, append_left, append_right, has-append, has-map, map-has}
-use Rattle.st_commits.specs.Names.{revisions}
-use Rattle.st_commits.specs.Turns.{FitInTurn, IsSublist}
-use Rattle.st_commits.proofs.Names.{new_node_rev}
-use Rattle.st_commits.proofs.Shorter.{sublist_itself, sublist_joined, sublist_none}
-use Rattle.st_commits.proofs.Turns.{front}
-use Rattle.st_conform.specs.Agreeing.{AgreeInTurn, Agrees, TellsHomes, with_homes}
-use Rattle.st_conform.specs.Conforming.{IsConforming, register_in}
-use Rattle.st_conform.proofs.Homes.{document_keeps, tells_own}
-use Rattle.st_conform.proofs.InTurn.{agree_front, agree_longer, agree_then_one, list_conforms, list_keeps}
-use Rattle.st_conform.proofs.Opened.{allowed_conforms}
+use Rattle.st_log_laws.specs.Names.{revisions}
+use Rattle.st_log_laws.specs.Turns.{FitInTurn, IsSublist}
+use Rattle.st_log_laws.proofs.Names.{new_node_rev}
+use Rattle.st_log_laws.proofs.Shorter.{sublist_itself, sublist_joined, sublist_none}
+use Rattle.st_log_laws.proofs.Turns.{front}
+use Rattle.st_schema_laws.specs.Agreeing.{KeepSchemaInTurn, KeepsSchema, TellsHomes, with_homes}
+use Rattle.st_schema_laws.specs.Conforming.{IsConforming, register_in}
+use Rattle.st_schema_laws.proofs.Homes.{document_keeps, tells_own}
+use Rattle.st_schema_laws.proofs.InTurn.{agree_front, agree_longer, agree_then_one, list_conforms, list_keeps}
+use Rattle.st_schema_laws.proofs.Opened.{allowed_conforms}
 use Rattle.st_script.specs.Header.{HeaderView}
 use Rattle.st_script.specs.declared.answer.Answer.{Answer}
-use Rattle.st_trace.specs.Kept.{AreKept, HaveSessionsFrom, IsClient, IsHeader, KeepToSchema, commits_by, intents_of, sent}
-use Rattle.st_trace.specs.Log.{commit_of, commits_in, entered}
-use Rattle.st_trace.specs.World.{HasShown, IsDeliveredTo, committed, edited, joined, limit_passed, names_in, next_rev, opened, pending_after, pends, received_by, taken}
+use Rattle.st_trace.specs.Replica.{AreReplicas, HaveSessionsFrom, IsClient, IsHeader, KeepToSchema, commits_by, intents_of, log_and_queue}
+use Rattle.st_trace.specs.Log.{commit_of, commits_in, log_with}
+use Rattle.st_trace.specs.World.{HasShown, IsDeliveredTo, with_commit, after_edit, new_client, limit_passed, names_in, next_rev, opening_document, pending_after, with_pending, received_by, with_received}
 use Rattle.st_trace.specs.declared.client.EditWord.{EditWord}
-use Rattle.st_trace.specs.declared.kept.Kept.{Kept}
-use Rattle.st_trace.specs.declared.lists.Body.{Body}
-use Rattle.st_trace.specs.declared.lists.Body.TheVariants.{Join, Commit}
-use Rattle.st_trace.specs.declared.lists.Client.{Client}
-use Rattle.st_trace.specs.declared.lists.Entry.{Entry}
-use Rattle.st_trace.specs.declared.lists.Queued.{Queued}
+use Rattle.st_trace.specs.declared.replica.Replica.{Replica}
+use Rattle.st_trace.specs.declared.state.Body.{Body}
+use Rattle.st_trace.specs.declared.state.Body.TheVariants.{Join, Commit}
+use Rattle.st_trace.specs.declared.state.Client.{Client}
+use Rattle.st_trace.specs.declared.state.Entry.{Entry}
+use Rattle.st_trace.specs.declared.state.Queued.{Queued}
 use Rattle.st_trace.proofs.Begun.{IsStart, opens_allowed}
 use Rattle.st_trace.proofs.Clients.{all_append, has_longer, next_new, other_fit, own_first, received_more, shown_among, shown_new}
 use Rattle.st_trace.proofs.Everyone.{all_get, all_set, kept_some, session_at, set_same}
@@ -46,23 +46,23 @@ use Rattle.st_trace.proofs.Logs.{by_sublist, commits_split, entered_commits, ent
 -- before any client joins
 pub begun_keeps : (h : HeaderView) → IsHeader h → KeepToSchema h [] []
 begun_keeps h k =
-    let home : NodeId → Option FieldId = λ m. register_in ((opened h).place m) in
+    let home : NodeId → Option FieldId = λ m. register_in ((opening_document h).place m) in
     (home, record { start = allowed_conforms h.schema home h.tree (compact_text (schema_data h.schema)) k.schema (opens_allowed h.schema h.tree k.tree) (λ m i. refl); logged = tt; shown = tt })
 
 front_sublist : (As Bs : List Intent) → IsSublist As (As ++ Bs)
 front_sublist [] Bs = sublist_none Bs
-front_sublist (N ∷ As) Bs = kept refl (front_sublist As Bs)
+front_sublist (N ∷ As) Bs = item_kept refl (front_sublist As Bs)
 
 -- what an edit means, and how it agrees wherever the homes of its new nodes are told
 pub record MeansWell (h : HeaderView) (c : Client) (D : Document) (N : Intent) : Type 0 where
   pub itself : IsIntent N
   pub rev : N.rev ≡ next_rev c
-  pub agrees : (home : NodeId → Option FieldId) → IsConforming h.schema home D → TellsHomes home N → Agrees h.schema home D N
+  pub agrees : (home : NodeId → Option FieldId) → IsConforming h.schema home D → TellsHomes home N → KeepsSchema h.schema home D N
 
-module _ (h : HeaderView) (st : IsStart (opened h)) where
+module _ (h : HeaderView) (st : IsStart (opening_document h)) where
   -- these commits agree with the schema in turn
   abbrev Agree : (NodeId → Option FieldId) → List Intent → Type 0
-  Agree home Ns = AgreeInTurn h.schema home (opened h) Ns
+  Agree home Ns = KeepSchemaInTurn h.schema home (opening_document h) Ns
 
   -- those that a client shows do
   abbrev Shown : (NodeId → Option FieldId) → List Entry → Client → Type 0
@@ -75,7 +75,7 @@ module _ (h : HeaderView) (st : IsStart (opened h)) where
   -- ## An entry is received
 
   taken_shows : (home : NodeId → Option FieldId) (log : List Entry) (c : Client) (e : Entry) → IsClient h log c → names_in (commits_in log) ≤ 131072 → slice_get log c.received ≡ Some e
-      → Agree home (commits_in log) → Shown home log c → Shown home log (taken e c)
+      → Agree home (commits_in log) → Shown home log c → Shown home log (with_received e c)
   taken_shows home log c e k few at logged shown = go (commit_of e) refl
     where
       A : List Intent
@@ -95,9 +95,9 @@ module _ (h : HeaderView) (st : IsStart (opened h)) where
           let front_log = commits_in (take (c.received + 1) log) in
           let now : front_log ≡ A ++ N ∷ [] = received_more h st log c e at ∙ ap (λ l. A ++ l) (one_commit e N is) in
           let same : c.pending ≡ pending_after e c = sym (rw (is, b) refl) in
-          let fit = subst (FitInTurn (opened h)) (sym (append_assoc A (N ∷ []) c.pending)) (other_fit h st log c e N k at is b few) in
-          let longer = subst (Agree home) now (agree_front h.schema home front_log (commits_in (drop (c.received + 1) log)) (opened h) (subst (Agree home) (commits_split (c.received + 1) log) logged)) in
-          let all = agree_longer h.schema home (opened h) A (A ++ N ∷ []) c.pending st.sound (front_sublist A (N ∷ [])) k.shown_fit fit longer shown in
+          let fit = subst (FitInTurn (opening_document h)) (sym (append_assoc A (N ∷ []) c.pending)) (other_fit h st log c e N k at is b few) in
+          let longer = subst (Agree home) now (agree_front h.schema home front_log (commits_in (drop (c.received + 1) log)) (opening_document h) (subst (Agree home) (commits_split (c.received + 1) log) logged)) in
+          let all = agree_longer h.schema home (opening_document h) A (A ++ N ∷ []) c.pending st.sound (front_sublist A (N ∷ [])) k.shown_fit fit longer shown in
           subst (Agree home) (ap (λ l. l ++ c.pending) (sym now) ∙ ap (λ l. front_log ++ l) same) all
 
       by : (N : Intent) → commit_of e ≡ Some N → (b : Bool) → (e.session == c.session) ≡ b → Agree home (commits_in (take (c.received + 1) log) ++ pending_after e c)
@@ -111,7 +111,7 @@ module _ (h : HeaderView) (st : IsStart (opened h)) where
           let same : c.pending ≡ pending_after e c = sym (rw is refl) in
           subst (Agree home) (ap (λ l. l ++ c.pending) (sym now) ∙ ap (λ l. commits_in (take (c.received + 1) log) ++ l) same) shown
 
-  pub delivered_keeps : (log : List Entry) (cs : List Client) (ks : List Kept) (i : ℕ) (c c' : Client) (D : Document) (a : Answer) → AreKept h log cs ks → names_in (commits_in log) ≤ 131072 → slice_get cs i ≡ Some c
+  pub delivered_keeps : (log : List Entry) (cs : List Client) (ks : List Replica) (i : ℕ) (c c' : Client) (D : Document) (a : Answer) → AreReplicas h log cs ks → names_in (commits_in log) ≤ 131072 → slice_get cs i ≡ Some c
       → IsDeliveredTo D c (slice_get log c.received) c' a → KeepToSchema h log cs → KeepToSchema h log (slice_set cs i c')
   delivered_keeps log cs ks i c c' D a are few at is w = go (slice_get log c.received) refl is
     where
@@ -123,16 +123,16 @@ module _ (h : HeaderView) (st : IsStart (opened h)) where
 
   -- ## The log grows
 
-  entered_shows : (home : NodeId → Option FieldId) (log : List Entry) (session : ℕ) (body : Body) (c : Client) → c.received ≤ length log → Shown home log c → Shown home (entered log session body) c
+  entered_shows : (home : NodeId → Option FieldId) (log : List Entry) (session : ℕ) (body : Body) (c : Client) → c.received ≤ length log → Shown home log c → Shown home (log_with log session body) c
   entered_shows home log session body c within shown = subst (λ (es : List Entry). Agree home (commits_in es ++ c.pending)) (sym (entered_front log session body c.received within)) shown
 
-  all_entered : (home : NodeId → Option FieldId) (log : List Entry) (session : ℕ) (body : Body) (cs : List Client) (ks : List Kept) → AreKept h log cs ks → AllByRecursion (Shown home log) cs → AllByRecursion (Shown home (entered log session body)) cs
+  all_entered : (home : NodeId → Option FieldId) (log : List Entry) (session : ℕ) (body : Body) (cs : List Client) (ks : List Replica) → AreReplicas h log cs ks → AllByRecursion (Shown home log) cs → AllByRecursion (Shown home (log_with log session body)) cs
   all_entered home log session body [] ks are shown = tt
   all_entered home log session body (c ∷ cs) [] are shown = absurd are
   all_entered home log session body (c ∷ cs) (k ∷ ks) are shown = (entered_shows home log session body c are.0.within shown.0, all_entered home log session body cs ks are.2 shown.1)
 
   -- the oldest text of a client comes after the commits of the log
-  last_agrees : (home : NodeId → Option FieldId) (log : List Entry) (c : Client) (q : Queued) (rest : List Queued) → IsClient h log c → c.queue ≡ q ∷ rest → FitInTurn (opened h) (commits_in log ++ q.intent ∷ [])
+  last_agrees : (home : NodeId → Option FieldId) (log : List Entry) (c : Client) (q : Queued) (rest : List Queued) → IsClient h log c → c.queue ≡ q ∷ rest → FitInTurn (opening_document h) (commits_in log ++ q.intent ∷ [])
       → Agree home (commits_in log) → Shown home log c → Agree home (commits_in log ++ q.intent ∷ [])
   last_agrees home log c q rest k is last_fit logged shown =
       let A = received_by log c in
@@ -143,11 +143,11 @@ module _ (h : HeaderView) (st : IsStart (opened h)) where
       let all : A ++ c.pending ≡ ((A ++ B) ++ N ∷ []) ++ R =
       ap (λ l. A ++ l) (k.under_way ∙ ap (λ l. B ++ l) waiting) ∙ sym (append_assoc A B (N ∷ R)) ∙ sym (append_assoc (A ++ B) (N ∷ []) R) in
       let among : IsSublist (A ++ B) (commits_in log) = subst (IsSublist (A ++ B)) (sym (commits_split c.received log)) (sublist_joined (sublist_itself A) (by_sublist c.session (drop c.received log))) in
-      agree_longer h.schema home (opened h) (A ++ B) (commits_in log) (N ∷ []) st.sound among (front ((A ++ B) ++ N ∷ []) R (opened h) (subst (FitInTurn (opened h)) all k.shown_fit)) last_fit logged
-      (agree_front h.schema home ((A ++ B) ++ N ∷ []) R (opened h) (subst (Agree home) all shown))
+      agree_longer h.schema home (opening_document h) (A ++ B) (commits_in log) (N ∷ []) st.sound among (front ((A ++ B) ++ N ∷ []) R (opening_document h) (subst (FitInTurn (opening_document h)) all k.shown_fit)) last_fit logged
+      (agree_front h.schema home ((A ++ B) ++ N ∷ []) R (opening_document h) (subst (Agree home) all shown))
 
-  pub sent_keeps : (log : List Entry) (cs : List Client) (ks : List Kept) (i : ℕ) (c c' : Client) (q : Queued) → AreKept h log cs ks → slice_get cs i ≡ Some c → c.queue ≡ q ∷ c'.queue → c' ≡ record c { queue = c'.queue }
-      → FitInTurn (opened h) (commits_in log ++ q.intent ∷ []) → KeepToSchema h log cs → KeepToSchema h (entered log c.session (Commit q.reference q.intent)) (slice_set cs i c')
+  pub sent_keeps : (log : List Entry) (cs : List Client) (ks : List Replica) (i : ℕ) (c c' : Client) (q : Queued) → AreReplicas h log cs ks → slice_get cs i ≡ Some c → c.queue ≡ q ∷ c'.queue → c' ≡ record c { queue = c'.queue }
+      → FitInTurn (opening_document h) (commits_in log ++ q.intent ∷ []) → KeepToSchema h log cs → KeepToSchema h (log_with log c.session (Commit q.reference q.intent)) (slice_set cs i c')
   sent_keeps log cs ks i c c' q are at is is_c last_fit w =
       let body = Commit q.reference q.intent in
       let k = kept_some h log cs ks i c are at in
@@ -156,15 +156,15 @@ module _ (h : HeaderView) (st : IsStart (opened h)) where
         record {
           start = w.1.start;
           logged = subst (Agree w.0) (sym (entered_commits log c.session body)) (last_agrees w.0 log c q c'.queue k is last_fit w.1.logged mine);
-          shown = all_set (Shown w.0 (entered log c.session body)) cs i c' (all_entered w.0 log c.session body cs ks are w.1.shown)
-              (subst (Shown w.0 (entered log c.session body)) (sym is_c) (entered_shows w.0 log c.session body (record c { queue = c'.queue }) k.within mine));
+          shown = all_set (Shown w.0 (log_with log c.session body)) cs i c' (all_entered w.0 log c.session body cs ks are w.1.shown)
+              (subst (Shown w.0 (log_with log c.session body)) (sym is_c) (entered_shows w.0 log c.session body (record c { queue = c'.queue }) k.within mine));
         },
       )
 
-  pub joined_keeps : (log : List Entry) (cs : List Client) (ks : List Kept) (session : ℕ) (name : List ℕ) (c : Client) → AreKept h log cs ks → c ≡ joined (length log + 1) session name
-      → KeepToSchema h log cs → KeepToSchema h (entered log session Join) (cs ++ c ∷ [])
+  pub joined_keeps : (log : List Entry) (cs : List Client) (ks : List Replica) (session : ℕ) (name : List ℕ) (c : Client) → AreReplicas h log cs ks → c ≡ new_client (length log + 1) session name
+      → KeepToSchema h log cs → KeepToSchema h (log_with log session Join) (cs ++ c ∷ [])
   joined_keeps log cs ks session name c are is_c w =
-      let longer = entered log session Join in
+      let longer = log_with log session Join in
       let size : length longer ≡ length log + 1 = omega (arith, length-append log (last_entry log session Join ∷ [])) in
       let commits : commits_in log ≡ commits_in longer = sym (entered_commits log session Join ∙ append-nil (commits_in log)) in
       let whole : take (length log + 1) longer ≡ longer = take_all (length log + 1) longer (omega (arith, size)) in
@@ -182,10 +182,10 @@ module _ (h : HeaderView) (st : IsStart (opened h)) where
   module _ (log : List Entry) (c : Client) (D : Document) (N : Intent) (k : IsClient h log c) (is_shown : HasShown h log c D) (itself : IsIntent N) (rev : N.rev ≡ next_rev c) (home : NodeId → Option FieldId) where
     -- no commit of the log and no client has its revision, nor has the opening
     not_opening : Has (opening ∷ []) N.rev → ⊥
-    not_opening i = next_new h st log c N.rev k rev (append_right (revisions (sent log c)) (opening ∷ []) N.rev i)
+    not_opening i = next_new h st log c N.rev k rev (append_right (revisions (log_and_queue log c)) (opening ∷ []) N.rev i)
 
-    not_sent : (M : Intent) → Has (sent log c) M → M.rev ≡ N.rev → ⊥
-    not_sent M i e = next_new h st log c N.rev k rev (append_left (revisions (sent log c)) (opening ∷ []) N.rev (subst (Has (revisions (sent log c))) e (map-has (λ (X : Intent). X.rev) (sent log c) M i)))
+    not_sent : (M : Intent) → Has (log_and_queue log c) M → M.rev ≡ N.rev → ⊥
+    not_sent M i e = next_new h st log c N.rev k rev (append_left (revisions (log_and_queue log c)) (opening ∷ []) N.rev (subst (Has (revisions (log_and_queue log c))) e (map-has (λ (X : Intent). X.rev) (log_and_queue log c) M i)))
 
     not_among : (Ns : List Intent) → ((M : Intent) → Has Ns M → M.rev ≡ N.rev → ⊥) → Has (revisions Ns ++ opening ∷ []) N.rev → ⊥
     not_among Ns none i = elim (has-append (revisions Ns) (opening ∷ []) N.rev i) [
@@ -210,20 +210,20 @@ module _ (h : HeaderView) (st : IsStart (opened h)) where
     abbrev told : NodeId → Option FieldId
     told = with_homes home N
 
-    keeps : (Ns : List Intent) → FitInTurn (opened h) Ns → (Has (revisions Ns ++ opening ∷ []) N.rev → ⊥) → Agree home Ns → Agree told Ns
-    keeps Ns fit new a = list_keeps h.schema home N itself Ns (opening ∷ []) (opened h) st.made fit new a
+    keeps : (Ns : List Intent) → FitInTurn (opening_document h) Ns → (Has (revisions Ns ++ opening ∷ []) N.rev → ⊥) → Agree home Ns → Agree told Ns
+    keeps Ns fit new a = list_keeps h.schema home N itself Ns (opening ∷ []) (opening_document h) st.made fit new a
 
-    start_told : IsConforming h.schema home (opened h) → IsConforming h.schema told (opened h)
-    start_told start = document_keeps h.schema home (opened h) N st.sound fresh start
+    start_told : IsConforming h.schema home (opening_document h) → IsConforming h.schema told (opening_document h)
+    start_told start = document_keeps h.schema home (opening_document h) N st.sound fresh start
       where
-        fresh : (n : NodeId) → is_new N n ≡ true → (opened h).nodes n ≡ None
-        fresh n new = go ((opened h).nodes n) refl
+        fresh : (n : NodeId) → is_new N n ≡ true → (opening_document h).nodes n ≡ None
+        fresh n new = go ((opening_document h).nodes n) refl
           where
-            go : (o : Option NodeType) → (opened h).nodes n ≡ o → (opened h).nodes n ≡ None
+            go : (o : Option NodeType) → (opening_document h).nodes n ≡ o → (opening_document h).nodes n ≡ None
             go None e = e
             go (Some t) e = absurd (not_opening (subst (Has (opening ∷ [])) (new_node_rev N itself n new) (st.made.nodes n (ap is_some e))))
 
-    mine_told : IsConforming h.schema home (opened h) → Shown home log c → ((other : NodeId → Option FieldId) → IsConforming h.schema other D → TellsHomes other N → Agrees h.schema other D N) → Shown told log (committed c N)
+    mine_told : IsConforming h.schema home (opening_document h) → Shown home log c → ((other : NodeId → Option FieldId) → IsConforming h.schema other D → TellsHomes other N → KeepsSchema h.schema other D N) → Shown told log (with_commit c N)
     mine_told start shown means =
         let Ns = received_by log c ++ c.pending in
         let before = keeps Ns k.shown_fit (λ i. shown_new h st log c N.rev k rev i) shown in
@@ -239,13 +239,13 @@ module _ (h : HeaderView) (st : IsStart (opened h)) where
     apart_before : (d : Client) (n : ℕ) → d.session ≡ n → n < c.session → (c.session == d.session) ≡ false
     apart_before d n e less = grind (arith, nat_tests)
 
-    later_told : (n : ℕ) (cs : List Client) (ks : List Kept) → HaveSessionsFrom n cs → c.session < n → AreKept h log cs ks → AllByRecursion (Shown home log) cs → AllByRecursion (Shown told log) cs
+    later_told : (n : ℕ) (cs : List Client) (ks : List Replica) → HaveSessionsFrom n cs → c.session < n → AreReplicas h log cs ks → AllByRecursion (Shown home log) cs → AllByRecursion (Shown told log) cs
     later_told n [] ks s less are shown = tt
     later_told n (d ∷ cs) [] s less are shown = absurd are
     later_told n (d ∷ cs) (x ∷ ks) s less are shown = (other_told d are.0 (apart_later d n s.0 less) shown.0, later_told (n + 1) cs ks s.1 (omega (arith, less)) are.2 shown.1)
 
-    all_told : (n : ℕ) (cs : List Client) (ks : List Kept) (i : ℕ) → HaveSessionsFrom n cs → slice_get cs i ≡ Some c → AreKept h log cs ks → AllByRecursion (Shown home log) cs → (Shown home log c → Shown told log (committed c N))
-        → AllByRecursion (Shown told log) (slice_set cs i (committed c N))
+    all_told : (n : ℕ) (cs : List Client) (ks : List Replica) (i : ℕ) → HaveSessionsFrom n cs → slice_get cs i ≡ Some c → AreReplicas h log cs ks → AllByRecursion (Shown home log) cs → (Shown home log c → Shown told log (with_commit c N))
+        → AllByRecursion (Shown told log) (slice_set cs i (with_commit c N))
     all_told n [] ks i s at are shown own = tt
     all_told n (d ∷ cs) [] i s at are shown own = absurd are
     all_told n (d ∷ cs) (x ∷ ks) zero s at are shown own =
@@ -256,19 +256,19 @@ module _ (h : HeaderView) (st : IsStart (opened h)) where
         let far = session_at (n + 1) cs i c s.1 at in
         (other_told d are.0 (apart_before d n s.0 (omega (arith, far))) shown.0, all_told (n + 1) cs ks i s.1 at are.2 shown.1 own)
 
-  pub edited_keeps : (log : List Entry) (cs : List Client) (ks : List Kept) (i : ℕ) (c c' : Client) (D : Document) (word : EditWord) (r : Result Intent EditFault) (a : Answer) → HaveSessionsFrom 1 cs → AreKept h log cs ks
-      → slice_get cs i ≡ Some c → HasShown h log c D → ((N : Intent) → r ≡ Ok N → MeansWell h c D N) → edited c word r ≡ (c', a) → KeepToSchema h log cs → KeepToSchema h log (slice_set cs i c')
+  pub edited_keeps : (log : List Entry) (cs : List Client) (ks : List Replica) (i : ℕ) (c c' : Client) (D : Document) (word : EditWord) (r : Result Intent EditFault) (a : Answer) → HaveSessionsFrom 1 cs → AreReplicas h log cs ks
+      → slice_get cs i ≡ Some c → HasShown h log c D → ((N : Intent) → r ≡ Ok N → MeansWell h c D N) → after_edit c word r ≡ (c', a) → KeepToSchema h log cs → KeepToSchema h log (slice_set cs i c')
   edited_keeps log cs ks i c c' D word (Err f) a sessions are at is_shown means is w = same_keeps log cs i c c' at (ap (λ (p : Client × Answer). p.0) is) w
   edited_keeps log cs ks i c c' D word (Ok N) a sessions are at is_shown means is w = go (limit_passed c N) is
     where
-      go : (o : Option Limit) → pends c word N o ≡ (c', a) → KeepToSchema h log (slice_set cs i c')
+      go : (o : Option Limit) → with_pending c word N o ≡ (c', a) → KeepToSchema h log (slice_set cs i c')
       go (Some l) is = same_keeps log cs i c c' at (ap (λ (p : Client × Answer). p.0) is) w
       go None is =
           let k = kept_some h log cs ks i c are at in
           let m = means N refl in
           let home = w.0 in
           let shown = all_told log c D N k is_shown m.itself m.rev home 1 cs ks i sessions at are w.1.shown (λ mine. mine_told log c D N k is_shown m.itself m.rev home w.1.start mine m.agrees) in
-          let same : committed c N ≡ c' = ap (λ (p : Client × Answer). p.0) is in
+          let same : with_commit c N ≡ c' = ap (λ (p : Client × Answer). p.0) is in
           subst (λ x. KeepToSchema h log (slice_set cs i x)) same (
             with_homes home N,
             record {
@@ -278,5 +278,5 @@ module _ (h : HeaderView) (st : IsStart (opened h)) where
             },
           )
         where
-          log_fit : IsClient h log c → FitInTurn (opened h) (commits_in log)
-          log_fit k = front (commits_in log) (intents_of c.queue) (opened h) k.sent_fit
+          log_fit : IsClient h log c → FitInTurn (opening_document h) (commits_in log)
+          log_fit k = front (commits_in log) (intents_of c.queue) (opening_document h) k.sent_fit

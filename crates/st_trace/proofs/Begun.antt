@@ -27,12 +27,12 @@ use Rattle.st_schema.specs.Written.{schema_data}
 use Rattle.st_schema.proofs.AllowedForm.{conforming_formed}
 use Rattle.st_opening.specs.Start.{first_said, type_at, cell_at, start_of}
 use Rattle.st_opening.proofs.StartSound.{start_sound}
-use Rattle.st_commits.specs.Names.{IsMadeUnder}
+use Rattle.st_log_laws.specs.Names.{IsMadeUnder}
 use Rattle.st_schema.specs.declared.header.Header.{Header}
 use Rattle.st_script.specs.Header.{HeaderView, header_line, header_view, may_open}
 use Rattle.st_script.proofs.OfForm.{header_line_kept}
-use Rattle.st_trace.specs.Kept.{IsHeader}
-use Rattle.st_trace.specs.World.{opened}
+use Rattle.st_trace.specs.Replica.{IsHeader}
+use Rattle.st_trace.specs.World.{opening_document}
 
 -- ## The list of a tree's nodes
 
@@ -181,7 +181,7 @@ opens_allowed s t h = ok_is (allows_of s s.root t) (both_true (is_ok (check_of t
 pub opens_formed : (s : SchemaView) (t : Node) → may_open s t ≡ true → has_form t ≡ true
 opens_formed s t h = conforming_formed s s.root t (none_refused 0 (verdicts s s.root t) (opens_allowed s t h))
 
-pub opened_start : (h : HeaderView) → IsHeader h → IsStart (opened h)
+pub opened_start : (h : HeaderView) → IsHeader h → IsStart (opening_document h)
 opened_start h k =
     let within = opens_within h.schema h.tree k.tree in
     let few = few_nodes h.tree within in

@@ -11,26 +11,26 @@ use Rattle.st_script.specs.declared.answer.Answer.{Answer}
 use Rattle.st_script.specs.declared.step.TraceStep.{TraceStep}
 use Rattle.st_script.specs.declared.step.TraceStep.TheVariants as step
 use Rattle.st_trace.specs.Edits.{word_of, edit_of}
-use Rattle.st_trace.specs.World.{IsEdited, IsNextOf, IsShown, given}
+use Rattle.st_trace.specs.World.{IsEdited, IsNextOf, IsShown, next_names}
 use Rattle.st_trace.specs.declared.client.EditWord.{EditWord}
 use Rattle.st_trace.specs.declared.client.EditWord.TheVariants as word
-use Rattle.st_trace.specs.declared.lists.Client.{Client}
-use Rattle.st_trace.specs.declared.lists.Lists.{Lists}
+use Rattle.st_trace.specs.declared.state.Client.{Client}
+use Rattle.st_trace.specs.declared.state.WorldState.{WorldState}
 
 -- what holds of a result's value, and what follows from it
 pub if_ok_as : {A E : Type 0} (r : Result A E) (P Q : A → Type 0) → ((a : A) → P a → Q a) → IfOk r P → IfOk r Q
 if_ok_as (Ok a) P Q f p = f a p
 if_ok_as (Err e) P Q f p = tt
 
-abbrev IsMeant : HeaderView → Lists → ℕ → Client → Lists → Answer → TraceStep → EditWord → Type 0
-IsMeant h w i c v a s x = IsEdited h w i c x (λ D. resolve D h.schema (given c) (edit_of s)) v a
+abbrev IsMeant : HeaderView → WorldState → ℕ → Client → WorldState → Answer → TraceStep → EditWord → Type 0
+IsMeant h w i c v a s x = IsEdited h w i c x (λ D. resolve D h.schema (next_names c) (edit_of s)) v a
 
 one_word : (x y : EditWord) → ◌≡◌ {A = Option EditWord} (Some y) (Some x) → x ≡ y
 one_word x y e = cc
 
 -- an edit of the tree
-pub next_edit : (h : HeaderView) (w : Lists) (i : ℕ) (c : Client) (v : Lists) (a : Answer) (s : TraceStep) (x : EditWord) → word_of s ≡ Some x
-    → IsEdited h w i c x (λ D. resolve D h.schema (given c) (edit_of s)) v a → IsNextOf h w (step_view s) i c v a
+pub next_edit : (h : HeaderView) (w : WorldState) (i : ℕ) (c : Client) (v : WorldState) (a : Answer) (s : TraceStep) (x : EditWord) → word_of s ≡ Some x
+    → IsEdited h w i c x (λ D. resolve D h.schema (next_names c) (edit_of s)) v a → IsNextOf h w (step_view s) i c v a
 next_edit h w i c v a (step.Join client) x e m = cc
 next_edit h w i c v a (step.Insert client branch at key index items) x e m = subst (IsMeant h w i c v a (step.Insert client branch at key index items)) (one_word x word.Insert e) m
 next_edit h w i c v a (step.Remove client branch at key index count) x e m = subst (IsMeant h w i c v a (step.Remove client branch at key index count)) (one_word x word.Remove e) m
@@ -54,7 +54,7 @@ within_edit (step.Deliver client) x e f = cc
 within_edit (step.Show client branch) x e f = cc
 
 -- the rest is what is shown
-pub next_show : (h : HeaderView) (w : Lists) (i : ℕ) (c : Client) (a : Answer) (s : TraceStep) → word_of s ≡ None → ((client : List ℕ) → s ≡ step.Join client → ⊥) → ((client : List ℕ) → s ≡ step.Sequence client → ⊥)
+pub next_show : (h : HeaderView) (w : WorldState) (i : ℕ) (c : Client) (a : Answer) (s : TraceStep) → word_of s ≡ None → ((client : List ℕ) → s ≡ step.Join client → ⊥) → ((client : List ℕ) → s ≡ step.Sequence client → ⊥)
     → ((client : List ℕ) → s ≡ step.Deliver client → ⊥) → IsShown h w c a → IsNextOf h w (step_view s) i c w a
 next_show h w i c a (step.Join client) none no_join no_sequence no_deliver shown = absurd (no_join client refl)
 next_show h w i c a (step.Insert client branch at key index items) none no_join no_sequence no_deliver shown = cc

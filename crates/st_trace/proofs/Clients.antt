@@ -10,23 +10,23 @@ use Rattle.st_ids.specs.declared.names.Rev.{Rev}
 use Rattle.st_tree.specs.Preorder.{cell_named, node_named}
 use Rattle.st_marks.specs.declared.intents.Intent.{Intent}
 use Rattle.st_marks.specs.Document.{Document, NodeType, IsSoundInForm, opening, owned}
-use Rattle.st_marks.specs.Extends.{done, gained, kept}
+use Rattle.st_marks.specs.Extends.{no_more, item_gained, item_kept}
 use Rattle.st_marks.specs.Intent.{Fits}
 use Rattle.st_marks.proofs.Members.{all-has, has-all, append_left, append_right, has-append, has-map, map-has, distinct-append, distinct-between}
-use Rattle.st_commits.specs.Names.{HaveNewRevisions, revisions}
-use Rattle.st_commits.specs.Turns.{FitInTurn, HasRoom, IsSublist}
-use Rattle.st_commits.proofs.Turns.{front, then_one, turn_extends, made_in_run}
-use Rattle.st_commits.proofs.Room.{room_in_run}
-use Rattle.st_commits.proofs.Shorter.{sublist_itself, sublist_joined, new_shorter}
-use Rattle.st_commits.proofs.Beside.{another_later, later_fits, one_fits}
+use Rattle.st_log_laws.specs.Names.{HaveNewRevisions, revisions}
+use Rattle.st_log_laws.specs.Turns.{FitInTurn, HasRoom, IsSublist}
+use Rattle.st_log_laws.proofs.Turns.{front, then_one, turn_extends, made_in_run}
+use Rattle.st_log_laws.proofs.Room.{room_in_run}
+use Rattle.st_log_laws.proofs.Shorter.{sublist_itself, sublist_joined, new_shorter}
+use Rattle.st_log_laws.proofs.Beside.{another_later, later_fits, one_fits}
 use Rattle.st_script.specs.Header.{HeaderView}
-use Rattle.st_trace.specs.Kept.{IsClient, commits_by, intents_of, sent}
-use Rattle.st_trace.specs.Log.{commit_of, commits_in, entered}
-use Rattle.st_trace.specs.World.{HasReceived, HasShown, committed, joined, names_in, names_made, next_rev, opened, received_by}
-use Rattle.st_trace.specs.declared.lists.Body.TheVariants.{Join, Commit}
-use Rattle.st_trace.specs.declared.lists.Client.{Client}
-use Rattle.st_trace.specs.declared.lists.Entry.{Entry}
-use Rattle.st_trace.specs.declared.lists.Queued.{Queued}
+use Rattle.st_trace.specs.Replica.{IsClient, commits_by, intents_of, log_and_queue}
+use Rattle.st_trace.specs.Log.{commit_of, commits_in, log_with}
+use Rattle.st_trace.specs.World.{HasReceived, HasShown, with_commit, new_client, names_in, names_made, next_rev, opening_document, received_by}
+use Rattle.st_trace.specs.declared.state.Body.TheVariants.{Join, Commit}
+use Rattle.st_trace.specs.declared.state.Client.{Client}
+use Rattle.st_trace.specs.declared.state.Entry.{Entry}
+use Rattle.st_trace.specs.declared.state.Queued.{Queued}
 use Rattle.st_trace.proofs.Begun.{IsStart}
 use Rattle.st_trace.proofs.Counting.{names_append, fewer_names, room_left}
 use Rattle.st_trace.proofs.Logs.{drop-get, take-get, commits_append, commits_split, by_sublist, by_own, by_other, by_none, one_commit, no_commit, last_entry, entered_commits, entered_front, entered_rest}
@@ -37,10 +37,10 @@ sublist_of : {As Bs Cs Ds : List Intent} → As ≡ Cs → Bs ≡ Ds → IsSubli
 sublist_of {As} {Bs} {Cs} {Ds} p q g = subst (λ l. IsSublist Cs l) q (subst (λ l. IsSublist l Bs) p g)
 
 pub has_longer : {As Bs : List Intent} → IsSublist As Bs → (N : Intent) → Has As N → Has Bs N
-has_longer done N h = absurd h
-has_longer (gained g) N h = inr (has_longer g N h)
-has_longer (kept e g) N (inl q) = inl (sym e ∙ q)
-has_longer (kept e g) N (inr h) = inr (has_longer g N h)
+has_longer no_more N h = absurd h
+has_longer (item_gained g) N h = inr (has_longer g N h)
+has_longer (item_kept e g) N (inl q) = inl (sym e ∙ q)
+has_longer (item_kept e g) N (inr h) = inr (has_longer g N h)
 
 pub all_append : {A : Type 0} (P : A → Type 0) (xs ys : List A) → AllByRecursion P xs → AllByRecursion P ys → AllByRecursion P (xs ++ ys)
 all_append P [] ys p q = q
@@ -97,11 +97,11 @@ new_between rs (A ∷ As) Bs N h fresh =
         go (inr (inl e)) = fresh (inr (append_right (revisions (As ++ Bs)) rs N.rev (subst (Has rs) (ap (λ (X : Intent). X.rev) (sym e)) k)))
         go (inr (inr j)) = h.new M (inr (append_right As Bs M j)) k
 
-module _ (h : HeaderView) (st : IsStart (opened h)) where
+module _ (h : HeaderView) (st : IsStart (opening_document h)) where
   -- ## What a client has
 
   -- what it shows is among what the log comes to
-  pub shown_among : (log : List Entry) (c : Client) → IsClient h log c → IsSublist (received_by log c ++ c.pending) (sent log c)
+  pub shown_among : (log : List Entry) (c : Client) → IsClient h log c → IsSublist (received_by log c ++ c.pending) (log_and_queue log c)
   shown_among log c k =
       let A = received_by log c in
       let rest = drop c.received log in
@@ -113,16 +113,16 @@ module _ (h : HeaderView) (st : IsStart (opened h)) where
   pub waiting_few : (log : List Entry) (c : Client) → IsClient h log c → names_in (intents_of c.queue) ≤ 16384
   waiting_few log c k = omega (arith, names_append (commits_by c.session (drop c.received log)) (intents_of c.queue), ap names_in k.under_way, k.few_names)
 
-  pub sent_few : (log : List Entry) (c : Client) → IsClient h log c → names_in (sent log c) ≤ names_in (commits_in log) + 16384
+  pub sent_few : (log : List Entry) (c : Client) → IsClient h log c → names_in (log_and_queue log c) ≤ names_in (commits_in log) + 16384
   sent_few log c k = omega (arith, names_append (commits_in log) (intents_of c.queue), waiting_few log c k)
 
   -- its next revision is new
-  pub next_new : (log : List Entry) (c : Client) (r : Rev) → IsClient h log c → r ≡ next_rev c → Has (revisions (sent log c) ++ opening ∷ []) r → ⊥
-  next_new log c r k is i = go (has-append (revisions (sent log c)) (opening ∷ []) r i)
+  pub next_new : (log : List Entry) (c : Client) (r : Rev) → IsClient h log c → r ≡ next_rev c → Has (revisions (log_and_queue log c) ++ opening ∷ []) r → ⊥
+  next_new log c r k is i = go (has-append (revisions (log_and_queue log c)) (opening ∷ []) r i)
     where
-      go : Has (revisions (sent log c)) r ⊎ Has (opening ∷ []) r → ⊥
+      go : Has (revisions (log_and_queue log c)) r ⊎ Has (opening ∷ []) r → ⊥
       go (inl j) =
-          let m = has-map (λ (N : Intent). N.rev) (sent log c) r j in
+          let m = has-map (λ (N : Intent). N.rev) (log_and_queue log c) r j in
           let same : m.0.rev ≡ next_rev c = m.2 ∙ is in
           let low = k.ids m.0 m.1 (ap (λ (q : Rev). q.session) same) in
           let num : m.0.rev.num ≡ c.ids + 1 = ap (λ (q : Rev). q.num) same in
@@ -136,14 +136,14 @@ module _ (h : HeaderView) (st : IsStart (opened h)) where
       go : Has (revisions (received_by log c ++ c.pending)) r ⊎ Has (opening ∷ []) r → ⊥
       go (inl j) =
           let m = has-map (λ (N : Intent). N.rev) (received_by log c ++ c.pending) r j in
-          next_new log c r k is (append_left (revisions (sent log c)) (opening ∷ []) r (subst (Has (revisions (sent log c))) m.2 (map-has (λ (N : Intent). N.rev) (sent log c) m.0 (has_longer (shown_among log c k) m.0 m.1))))
-      go (inr j) = next_new log c r k is (append_right (revisions (sent log c)) (opening ∷ []) r j)
+          next_new log c r k is (append_left (revisions (log_and_queue log c)) (opening ∷ []) r (subst (Has (revisions (log_and_queue log c))) m.2 (map-has (λ (N : Intent). N.rev) (log_and_queue log c) m.0 (has_longer (shown_among log c k) m.0 m.1))))
+      go (inr j) = next_new log c r k is (append_right (revisions (log_and_queue log c)) (opening ∷ []) r j)
 
   pub shown_sound : (log : List Entry) (c : Client) (D : Document) → IsClient h log c → HasShown h log c D → IsSoundInForm D
   shown_sound log c D k r = (turn_extends st.sound k.shown_fit r).after
 
-  pub received_fit : (log : List Entry) (c : Client) → IsClient h log c → FitInTurn (opened h) (received_by log c)
-  received_fit log c k = front (received_by log c) c.pending (opened h) k.shown_fit
+  pub received_fit : (log : List Entry) (c : Client) → IsClient h log c → FitInTurn (opening_document h) (received_by log c)
+  received_fit log c k = front (received_by log c) c.pending (opening_document h) k.shown_fit
 
   pub received_sound : (log : List Entry) (c : Client) (D : Document) → IsClient h log c → HasReceived h log c D → IsSoundInForm D
   received_sound log c D k r = (turn_extends st.sound (received_fit log c k) r).after
@@ -168,18 +168,18 @@ module _ (h : HeaderView) (st : IsStart (opened h)) where
   -- ## A commit of its own is pending
 
   pub client_committed : (log : List Entry) (c : Client) (D : Document) (N : Intent) → IsClient h log c → HasShown h log c D → Fits D N → N.rev ≡ next_rev c → N.schema ≡ None
-      → length c.pending < 256 → names_in c.pending + names_made N ≤ 16384 → names_in (commits_in log) ≤ 131072 → IsClient h log (committed c N)
+      → length c.pending < 256 → names_in c.pending + names_made N ≤ 16384 → names_in (commits_in log) ≤ 131072 → IsClient h log (with_commit c N)
   client_committed log c D N k shown fits rev none few few_names all =
-      let O = opened h in
+      let O = opening_document h in
       let A = received_by log c in
       let B = commits_by c.session (drop c.received log) in
       let Q = intents_of c.queue in
       let q : Queued = record { reference = c.received; intent = N } in
-      let more : sent log c ++ N ∷ [] ≡ sent log (committed c N) = append_assoc (commits_in log) Q (N ∷ []) ∙ ap (λ l. commits_in log ++ l) (sym (intents_more c.queue q)) in
+      let more : log_and_queue log c ++ N ∷ [] ≡ log_and_queue log (with_commit c N) = append_assoc (commits_in log) Q (N ∷ []) ∙ ap (λ l. commits_in log ++ l) (sym (intents_more c.queue q)) in
       let fresh = next_new log c N.rev k rev in
       let sound = shown_sound log c D k shown in
       let one_name : names_in (N ∷ []) ≡ names_made N = omega arith in
-      let room_all : HasRoom O (sent log c ++ N ∷ []) = room_left O (sent log c ++ N ∷ []) st (omega (arith, names_append (sent log c) (N ∷ []), sent_few log c k, one_name, few_names, all)) in
+      let room_all : HasRoom O (log_and_queue log c ++ N ∷ []) = room_left O (log_and_queue log c ++ N ∷ []) st (omega (arith, names_append (log_and_queue log c) (N ∷ []), sent_few log c k, one_name, few_names, all)) in
       let room_shown : HasRoom O ((A ++ c.pending) ++ N ∷ []) =
       room_left O ((A ++ c.pending) ++ N ∷ []) st (omega (arith, names_append (A ++ c.pending) (N ∷ []), fewer_names (shown_among log c k), sent_few log c k, one_name, few_names, all)) in
       let last = one_fits D N sound fits none (room_in_run (N ∷ []) st.sound k.shown_fit shown room_shown) in
@@ -189,13 +189,13 @@ module _ (h : HeaderView) (st : IsStart (opened h)) where
         few_names = omega (arith, names_append c.pending (N ∷ []), one_name, few_names);
         under_way = ap (λ l. l ++ N ∷ []) k.under_way ∙ append_assoc B Q (N ∷ []) ∙ ap (λ l. B ++ l) (sym (intents_more c.queue q));
         shown_fit = subst (FitInTurn O) (append_assoc A c.pending (N ∷ [])) (then_one (A ++ c.pending) (N ∷ []) k.shown_fit shown last);
-        sent_fit = subst (FitInTurn O) more (later_fits (opening ∷ []) O D (A ++ c.pending) (sent log c) N st.sound st.made (shown_among log c k) k.shown_fit k.sent_fit shown fits none fresh room_all);
-        new = subst (HaveNewRevisions (opening ∷ [])) more (new_more (opening ∷ []) (sent log c) N k.new fresh);
+        sent_fit = subst (FitInTurn O) more (later_fits (opening ∷ []) O D (A ++ c.pending) (log_and_queue log c) N st.sound st.made (shown_among log c k) k.shown_fit k.sent_fit shown fits none fresh room_all);
+        new = subst (HaveNewRevisions (opening ∷ [])) more (new_more (opening ∷ []) (log_and_queue log c) N k.new fresh);
         own = subst (AllByRecursion (λ (M : Intent). M.rev.session ≡ c.session)) (sym (intents_more c.queue q)) (all_append (λ (M : Intent). M.rev.session ≡ c.session) Q (N ∷ []) k.own (ap (λ (r : Rev). r.session) rev, tt));
-        ids = λ M i s. ids M (has-append (sent log c) (N ∷ []) M (subst (λ l. Has l M) (sym more) i)) s;
+        ids = λ M i s. ids M (has-append (log_and_queue log c) (N ∷ []) M (subst (λ l. Has l M) (sym more) i)) s;
       }
     where
-      ids : (M : Intent) → Has (sent log c) M ⊎ Has (N ∷ []) M → M.rev.session ≡ c.session → M.rev.num ≤ c.ids + 1
+      ids : (M : Intent) → Has (log_and_queue log c) M ⊎ Has (N ∷ []) M → M.rev.session ≡ c.session → M.rev.num ≤ c.ids + 1
       ids M (inl i) s = omega (arith, k.ids M i s)
       ids M (inr (inl e)) s = let num : M.rev.num ≡ c.ids + 1 = ap (λ (X : Intent). X.rev.num) (sym e) ∙ ap (λ (r : Rev). r.num) rev in omega (arith, num)
       ids M (inr (inr i)) s = absurd i
@@ -228,7 +228,7 @@ module _ (h : HeaderView) (st : IsStart (opened h)) where
         few = omega (arith, size, k.few);
         few_names = omega (arith, names, k.few_names);
         under_way = same;
-        shown_fit = subst (FitInTurn (opened h)) all k.shown_fit;
+        shown_fit = subst (FitInTurn (opening_document h)) all k.shown_fit;
         sent_fit = k.sent_fit;
         new = k.new;
         own = k.own;
@@ -237,7 +237,7 @@ module _ (h : HeaderView) (st : IsStart (opened h)) where
 
   -- what the log has and what waits, told around an entry
   sent_around : (log : List Entry) (c : Client) (e : Entry) (N : Intent) → slice_get log c.received ≡ Some e → commit_of e ≡ Some N
-      → received_by log c ++ N ∷ (commits_in (drop (c.received + 1) log) ++ intents_of c.queue) ≡ sent log c
+      → received_by log c ++ N ∷ (commits_in (drop (c.received + 1) log) ++ intents_of c.queue) ≡ log_and_queue log c
   sent_around log c e N at is =
       let A = received_by log c in
       let C = commits_in (drop (c.received + 1) log) in
@@ -247,19 +247,19 @@ module _ (h : HeaderView) (st : IsStart (opened h)) where
 
   -- what another sent can be carried out before what is pending
   pub other_fit : (log : List Entry) (c : Client) (e : Entry) (N : Intent) → IsClient h log c → slice_get log c.received ≡ Some e → commit_of e ≡ Some N → (e.session == c.session) ≡ false
-      → names_in (commits_in log) ≤ 131072 → FitInTurn (opened h) (received_by log c ++ N ∷ c.pending)
+      → names_in (commits_in log) ≤ 131072 → FitInTurn (opening_document h) (received_by log c ++ N ∷ c.pending)
   other_fit log c e N k at is other all =
-      let O = opened h in
+      let O = opening_document h in
       let A = received_by log c in
       let rest = drop (c.received + 1) log in
       let C = commits_in rest in
       let Q = intents_of c.queue in
       let pending : commits_by c.session rest ++ Q ≡ c.pending = sym (k.under_way ∙ ap (λ l. commits_by c.session l ++ Q) (drop-get log c.received e at) ∙ ap (λ l. l ++ Q) (by_other c.session e rest other)) in
       let around = sent_around log c e N at is in
-      let among : IsSublist (A ++ N ∷ c.pending) (sent log c) =
-      sublist_of (ap (λ l. A ++ N ∷ l) pending) around (sublist_joined (sublist_itself A) (kept refl (sublist_joined (by_sublist c.session rest) (sublist_itself Q)))) in
+      let among : IsSublist (A ++ N ∷ c.pending) (log_and_queue log c) =
+      sublist_of (ap (λ l. A ++ N ∷ l) pending) around (sublist_joined (sublist_itself A) (item_kept refl (sublist_joined (by_sublist c.session rest) (sublist_itself Q)))) in
       let front_fit : FitInTurn O (A ++ N ∷ []) = front (A ++ N ∷ []) (C ++ Q) O (subst (FitInTurn O) (sym around ∙ sym (append_assoc A (N ∷ []) (C ++ Q))) k.sent_fit) in
-      another_later (opening ∷ []) O A N c.pending st.sound st.made front_fit k.shown_fit (new_shorter (opening ∷ []) (A ++ N ∷ c.pending) (sent log c) among k.new)
+      another_later (opening ∷ []) O A N c.pending st.sound st.made front_fit k.shown_fit (new_shorter (opening ∷ []) (A ++ N ∷ c.pending) (log_and_queue log c) among k.new)
       (room_left O (A ++ N ∷ c.pending) st (omega (arith, fewer_names among, sent_few log c k, all)))
 
   pub client_other : (log : List Entry) (c : Client) (e : Entry) (N : Intent) → IsClient h log c → slice_get log c.received ≡ Some e → commit_of e ≡ Some N → (e.session == c.session) ≡ false
@@ -272,7 +272,7 @@ module _ (h : HeaderView) (st : IsStart (opened h)) where
         few = k.few;
         few_names = k.few_names;
         under_way = k.under_way ∙ ap (λ l. commits_by c.session l ++ intents_of c.queue) (drop-get log c.received e at) ∙ ap (λ l. l ++ intents_of c.queue) (by_other c.session e (drop (c.received + 1) log) other);
-        shown_fit = subst (FitInTurn (opened h)) (sym (append_assoc A (N ∷ []) c.pending) ∙ ap (λ l. l ++ c.pending) (sym now)) (other_fit log c e N k at is other all);
+        shown_fit = subst (FitInTurn (opening_document h)) (sym (append_assoc A (N ∷ []) c.pending) ∙ ap (λ l. l ++ c.pending) (sym now)) (other_fit log c e N k at is other all);
         sent_fit = k.sent_fit;
         new = k.new;
         own = k.own;
@@ -288,7 +288,7 @@ module _ (h : HeaderView) (st : IsStart (opened h)) where
         few = k.few;
         few_names = k.few_names;
         under_way = k.under_way ∙ ap (λ l. commits_by c.session l ++ intents_of c.queue) (drop-get log c.received e at) ∙ ap (λ l. l ++ intents_of c.queue) (by_none c.session e (drop (c.received + 1) log) is);
-        shown_fit = subst (FitInTurn (opened h)) (ap (λ l. l ++ c.pending) (sym now)) k.shown_fit;
+        shown_fit = subst (FitInTurn (opening_document h)) (ap (λ l. l ++ c.pending) (sym now)) k.shown_fit;
         sent_fit = k.sent_fit;
         new = k.new;
         own = k.own;
@@ -298,41 +298,41 @@ module _ (h : HeaderView) (st : IsStart (opened h)) where
   -- ## The log grows
 
   -- of one with the same queue and pending commits, after an entry without a commit
-  pub client_after_join : (log : List Entry) (session : ℕ) (c : Client) → IsClient h log c → IsClient h (entered log session Join) c
+  pub client_after_join : (log : List Entry) (session : ℕ) (c : Client) → IsClient h log c → IsClient h (log_with log session Join) c
   client_after_join log session c k =
       let e = last_entry log session Join in
       let Q = intents_of c.queue in
-      let commits : commits_in (entered log session Join) ≡ commits_in log = entered_commits log session Join ∙ append-nil (commits_in log) in
-      let all : sent log c ≡ sent (entered log session Join) c = ap (λ l. l ++ Q) (sym commits) in
-      let by : commits_by c.session (drop c.received (entered log session Join)) ≡ commits_by c.session (drop c.received log) =
+      let commits : commits_in (log_with log session Join) ≡ commits_in log = entered_commits log session Join ∙ append-nil (commits_in log) in
+      let all : log_and_queue log c ≡ log_and_queue (log_with log session Join) c = ap (λ l. l ++ Q) (sym commits) in
+      let by : commits_by c.session (drop c.received (log_with log session Join)) ≡ commits_by c.session (drop c.received log) =
       entered_rest log session Join c.session c.received k.within ∙ ap (λ l. commits_by c.session (drop c.received log) ++ l) (by_none c.session e [] refl) ∙ append-nil (commits_by c.session (drop c.received log)) in
       record {
         within = omega (arith, k.within, length-append log (e ∷ []));
         few = k.few;
         few_names = k.few_names;
         under_way = k.under_way ∙ ap (λ l. l ++ Q) (sym by);
-        shown_fit = subst (FitInTurn (opened h)) (ap (λ l. commits_in l ++ c.pending) (sym (entered_front log session Join c.received k.within))) k.shown_fit;
-        sent_fit = subst (FitInTurn (opened h)) all k.sent_fit;
+        shown_fit = subst (FitInTurn (opening_document h)) (ap (λ l. commits_in l ++ c.pending) (sym (entered_front log session Join c.received k.within))) k.shown_fit;
+        sent_fit = subst (FitInTurn (opening_document h)) all k.sent_fit;
         new = subst (HaveNewRevisions (opening ∷ [])) all k.new;
         own = k.own;
         ids = λ N i s. k.ids N (subst (λ l. Has l N) (sym all) i) s;
       }
 
   -- of a client that joins
-  pub client_joined : (log : List Entry) (session : ℕ) (name : List ℕ) → FitInTurn (opened h) (commits_in log) → HaveNewRevisions (opening ∷ []) (commits_in log)
-      → ((N : Intent) → Has (commits_in log) N → N.rev.session ≡ session → ⊥) → IsClient h (entered log session Join) (joined (length log + 1) session name)
+  pub client_joined : (log : List Entry) (session : ℕ) (name : List ℕ) → FitInTurn (opening_document h) (commits_in log) → HaveNewRevisions (opening ∷ []) (commits_in log)
+      → ((N : Intent) → Has (commits_in log) N → N.rev.session ≡ session → ⊥) → IsClient h (log_with log session Join) (new_client (length log + 1) session name)
   client_joined log session name fit new none =
-      let O = opened h in
+      let O = opening_document h in
       let e = last_entry log session Join in
-      let size : length (entered log session Join) ≡ length log + 1 = omega (arith, length-append log (e ∷ [])) in
-      let commits : commits_in log ≡ commits_in (entered log session Join) = sym (entered_commits log session Join ∙ append-nil (commits_in log)) in
-      let all : commits_in log ≡ commits_in (entered log session Join) ++ [] = commits ∙ sym (append-nil (commits_in (entered log session Join))) in
-      let whole : take (length log + 1) (entered log session Join) ≡ entered log session Join = take_all (length log + 1) (entered log session Join) (omega (arith, size)) in
+      let size : length (log_with log session Join) ≡ length log + 1 = omega (arith, length-append log (e ∷ [])) in
+      let commits : commits_in log ≡ commits_in (log_with log session Join) = sym (entered_commits log session Join ∙ append-nil (commits_in log)) in
+      let all : commits_in log ≡ commits_in (log_with log session Join) ++ [] = commits ∙ sym (append-nil (commits_in (log_with log session Join))) in
+      let whole : take (length log + 1) (log_with log session Join) ≡ log_with log session Join = take_all (length log + 1) (log_with log session Join) (omega (arith, size)) in
       record {
         within = omega (arith, size);
         few = omega arith;
         few_names = omega arith;
-        under_way = sym (ap (λ l. commits_by session l ++ []) (drop_whole (length log + 1) (entered log session Join) size));
+        under_way = sym (ap (λ l. commits_by session l ++ []) (drop_whole (length log + 1) (log_with log session Join) size));
         shown_fit = subst (FitInTurn O) (all ∙ ap (λ l. commits_in l ++ []) (sym whole)) fit;
         sent_fit = subst (FitInTurn O) all fit;
         new = subst (HaveNewRevisions (opening ∷ [])) all new;
@@ -347,25 +347,25 @@ module _ (h : HeaderView) (st : IsStart (opened h)) where
       drop_whole (suc n) (x ∷ xs) e = drop_whole n xs (omega (arith, e))
 
   -- of the sender
-  pub client_sent : (log : List Entry) (c : Client) (q : Queued) (rest : List Queued) → IsClient h log c → c.queue ≡ q ∷ rest → IsClient h (entered log c.session (Commit q.reference q.intent)) (record c { queue = rest })
+  pub client_sent : (log : List Entry) (c : Client) (q : Queued) (rest : List Queued) → IsClient h log c → c.queue ≡ q ∷ rest → IsClient h (log_with log c.session (Commit q.reference q.intent)) (record c { queue = rest })
   client_sent log c q rest k is =
       let body = Commit q.reference q.intent in
       let e = last_entry log c.session body in
       let N = q.intent in
       let B = commits_by c.session (drop c.received log) in
       let R = intents_of rest in
-      let commits : commits_in (entered log c.session body) ≡ commits_in log ++ N ∷ [] = entered_commits log c.session body in
+      let commits : commits_in (log_with log c.session body) ≡ commits_in log ++ N ∷ [] = entered_commits log c.session body in
       let waiting : intents_of c.queue ≡ N ∷ R = ap intents_of is in
-      let all : sent log c ≡ commits_in (entered log c.session body) ++ R = ap (λ l. commits_in log ++ l) waiting ∙ sym (append_assoc (commits_in log) (N ∷ []) R) ∙ ap (λ l. l ++ R) (sym commits) in
-      let by : commits_by c.session (drop c.received (entered log c.session body)) ≡ B ++ N ∷ [] =
+      let all : log_and_queue log c ≡ commits_in (log_with log c.session body) ++ R = ap (λ l. commits_in log ++ l) waiting ∙ sym (append_assoc (commits_in log) (N ∷ []) R) ∙ ap (λ l. l ++ R) (sym commits) in
+      let by : commits_by c.session (drop c.received (log_with log c.session body)) ≡ B ++ N ∷ [] =
       entered_rest log c.session body c.session c.received k.within ∙ ap (λ l. B ++ l) (by_own c.session e [] N (itself c.session) refl) in
       record {
         within = omega (arith, k.within, length-append log (e ∷ []));
         few = k.few;
         few_names = k.few_names;
         under_way = k.under_way ∙ ap (λ l. B ++ l) waiting ∙ sym (append_assoc B (N ∷ []) R) ∙ ap (λ l. l ++ R) (sym by);
-        shown_fit = subst (FitInTurn (opened h)) (ap (λ l. commits_in l ++ c.pending) (sym (entered_front log c.session body c.received k.within))) k.shown_fit;
-        sent_fit = subst (FitInTurn (opened h)) all k.sent_fit;
+        shown_fit = subst (FitInTurn (opening_document h)) (ap (λ l. commits_in l ++ c.pending) (sym (entered_front log c.session body c.received k.within))) k.shown_fit;
+        sent_fit = subst (FitInTurn (opening_document h)) all k.sent_fit;
         new = subst (HaveNewRevisions (opening ∷ [])) all k.new;
         own = (subst (AllByRecursion (λ (M : Intent). M.rev.session ≡ c.session)) waiting k.own).1;
         ids = λ M i s. k.ids M (subst (λ l. Has l M) (sym all) i) s;
@@ -376,9 +376,9 @@ module _ (h : HeaderView) (st : IsStart (opened h)) where
 
   -- of each other client
   pub client_beside : (log : List Entry) (c d : Client) (q : Queued) (rest : List Queued) → IsClient h log c → IsClient h log d → c.queue ≡ q ∷ rest → (c.session == d.session) ≡ false
-      → names_in (commits_in log) + names_made q.intent ≤ 131072 → IsClient h (entered log c.session (Commit q.reference q.intent)) d
+      → names_in (commits_in log) + names_made q.intent ≤ 131072 → IsClient h (log_with log c.session (Commit q.reference q.intent)) d
   client_beside log c d q rest k l is apart few =
-      let O = opened h in
+      let O = opening_document h in
       let body = Commit q.reference q.intent in
       let e = last_entry log c.session body in
       let N = q.intent in
@@ -386,11 +386,11 @@ module _ (h : HeaderView) (st : IsStart (opened h)) where
       let R = intents_of rest in
       let Q = intents_of d.queue in
       let B = commits_by d.session (drop d.received log) in
-      let commits : commits_in (entered log c.session body) ≡ L ++ N ∷ [] = entered_commits log c.session body in
+      let commits : commits_in (log_with log c.session body) ≡ L ++ N ∷ [] = entered_commits log c.session body in
       let waiting : intents_of c.queue ≡ N ∷ R = ap intents_of is in
-      let from : sent log c ≡ (L ++ N ∷ []) ++ R = ap (λ l. L ++ l) waiting ∙ sym (append_assoc L (N ∷ []) R) in
-      let all : L ++ N ∷ Q ≡ sent (entered log c.session body) d = sym (append_assoc L (N ∷ []) Q) ∙ ap (λ l. l ++ Q) (sym commits) in
-      let by : commits_by d.session (drop d.received (entered log c.session body)) ≡ B =
+      let from : log_and_queue log c ≡ (L ++ N ∷ []) ++ R = ap (λ l. L ++ l) waiting ∙ sym (append_assoc L (N ∷ []) R) in
+      let all : L ++ N ∷ Q ≡ log_and_queue (log_with log c.session body) d = sym (append_assoc L (N ∷ []) Q) ∙ ap (λ l. l ++ Q) (sym commits) in
+      let by : commits_by d.session (drop d.received (log_with log c.session body)) ≡ B =
       entered_rest log c.session body d.session d.received l.within ∙ ap (λ l. B ++ l) (by_other d.session e [] apart) ∙ append-nil B in
       let mine : N.rev.session ≡ c.session = (subst (AllByRecursion (λ (M : Intent). M.rev.session ≡ c.session)) waiting k.own).0 in
       let front_fit : FitInTurn O (L ++ N ∷ []) = front (L ++ N ∷ []) R O (subst (FitInTurn O) from k.sent_fit) in

@@ -2,8 +2,8 @@
 use Rattle.std.proofs.Common.{◌≡◌, ◌≤◌, ◌+◌, List, [], ◌∷◌, ◌++◌, ap, arith}
 use Rattle.st_marks.specs.declared.intents.Intent.{Intent}
 use Rattle.st_marks.specs.Document.{Document}
-use Rattle.st_marks.specs.Extends.{done, gained, kept}
-use Rattle.st_commits.specs.Turns.{IsSublist, HasRoom, cells_made}
+use Rattle.st_marks.specs.Extends.{no_more, item_gained, item_kept}
+use Rattle.st_log_laws.specs.Turns.{IsSublist, HasRoom, cells_made}
 use Rattle.st_trace.specs.World.{names_made, names_in}
 use Rattle.st_trace.proofs.Begun.{IsStart}
 
@@ -16,9 +16,9 @@ cells_few [] = omega arith
 cells_few (N ∷ Ns) = omega (arith, cells_few Ns)
 
 pub fewer_names : {As Bs : List Intent} → IsSublist As Bs → names_in As ≤ names_in Bs
-fewer_names done = omega arith
-fewer_names (gained g) = omega (arith, fewer_names g)
-fewer_names (kept {x} {y} e g) = omega (arith, fewer_names g, ap names_made e)
+fewer_names no_more = omega arith
+fewer_names (item_gained g) = omega (arith, fewer_names g)
+fewer_names (item_kept {x} {y} e g) = omega (arith, fewer_names g, ap names_made e)
 
 -- commits with few names leave room
 pub room_left : (D : Document) (Ns : List Intent) → IsStart D → names_in Ns ≤ 200000 → HasRoom D Ns

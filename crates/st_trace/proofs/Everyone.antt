@@ -3,14 +3,14 @@ use Rattle.std.proofs.Common.{◌≡◌, ◌≤◌, ◌<◌, ◌+◌, ◌==◌, 
 use Rattle.std.specs.List.{slice_get, slice_set, AllByRecursion}
 use Rattle.std.proofs.lemmas.Bool.Decides.{nat_tests}
 use Rattle.st_script.specs.Header.{HeaderView}
-use Rattle.st_trace.specs.Kept.{IsClient, IsKept, AreKept, HaveSessionsFrom}
-use Rattle.st_trace.specs.Log.{entered, commits_in}
-use Rattle.st_trace.specs.World.{names_in, names_made, opened}
-use Rattle.st_trace.specs.declared.kept.Kept.{Kept}
-use Rattle.st_trace.specs.declared.lists.Body.TheVariants.{Join, Commit}
-use Rattle.st_trace.specs.declared.lists.Client.{Client}
-use Rattle.st_trace.specs.declared.lists.Entry.{Entry}
-use Rattle.st_trace.specs.declared.lists.Queued.{Queued}
+use Rattle.st_trace.specs.Replica.{IsClient, IsReplicaOf, AreReplicas, HaveSessionsFrom}
+use Rattle.st_trace.specs.Log.{log_with, commits_in}
+use Rattle.st_trace.specs.World.{names_in, names_made, opening_document}
+use Rattle.st_trace.specs.declared.replica.Replica.{Replica}
+use Rattle.st_trace.specs.declared.state.Body.TheVariants.{Join, Commit}
+use Rattle.st_trace.specs.declared.state.Client.{Client}
+use Rattle.st_trace.specs.declared.state.Entry.{Entry}
+use Rattle.st_trace.specs.declared.state.Queued.{Queued}
 use Rattle.st_trace.proofs.Begun.{IsStart}
 use Rattle.st_trace.proofs.Clients.{client_after_join, client_beside, client_sent}
 use Rattle.st_trace.proofs.Keeping.{AreOne, kept_entered, kept_rest}
@@ -65,7 +65,7 @@ sessions_push k (x ∷ cs) c s e = (s.0, sessions_push (k + 1) cs c s.1 (e ∙ o
 -- ## What is kept
 
 module _ (h : HeaderView) (log : List Entry) where
-  pub kept_at : (cs : List Client) (ks : List Kept) (i : ℕ) (c : Client) (k : Kept) → AreKept h log cs ks → slice_get cs i ≡ Some c → slice_get ks i ≡ Some k → AreOne h log c k
+  pub kept_at : (cs : List Client) (ks : List Replica) (i : ℕ) (c : Client) (k : Replica) → AreReplicas h log cs ks → slice_get cs i ≡ Some c → slice_get ks i ≡ Some k → AreOne h log c k
   kept_at [] ks i c k w p q = cc
   kept_at (x ∷ cs) [] i c k w p q = absurd w
   kept_at (x ∷ cs) (y ∷ ks) zero c k w p q =
@@ -75,43 +75,43 @@ module _ (h : HeaderView) (log : List Entry) where
   kept_at (x ∷ cs) (y ∷ ks) (suc i) c k w p q = kept_at cs ks i c k w.2 p q
 
   -- a client has something kept
-  pub kept_none : (cs : List Client) (ks : List Kept) (i : ℕ) (c : Client) → AreKept h log cs ks → slice_get cs i ≡ Some c → slice_get ks i ≡ None → ⊥
+  pub kept_none : (cs : List Client) (ks : List Replica) (i : ℕ) (c : Client) → AreReplicas h log cs ks → slice_get cs i ≡ Some c → slice_get ks i ≡ None → ⊥
   kept_none [] ks i c w p q = cc
   kept_none (x ∷ cs) [] i c w p q = w
   kept_none (x ∷ cs) (y ∷ ks) zero c w p q = cc
   kept_none (x ∷ cs) (y ∷ ks) (suc i) c w p q = kept_none cs ks i c w.2 p q
 
   -- what is kept is a client's
-  pub kept_of : (cs : List Client) (ks : List Kept) (i : ℕ) (k : Kept) → AreKept h log cs ks → slice_get ks i ≡ Some k → (c : Client) × (slice_get cs i ≡ Some c)
+  pub kept_of : (cs : List Client) (ks : List Replica) (i : ℕ) (k : Replica) → AreReplicas h log cs ks → slice_get ks i ≡ Some k → (c : Client) × (slice_get cs i ≡ Some c)
   kept_of [] [] i k w q = cc
   kept_of [] (y ∷ ks) i k w q = absurd w
   kept_of (x ∷ cs) [] i k w q = cc
   kept_of (x ∷ cs) (y ∷ ks) zero k w q = (x, refl)
   kept_of (x ∷ cs) (y ∷ ks) (suc i) k w q = kept_of cs ks i k w.2 q
 
-  pub kept_some : (cs : List Client) (ks : List Kept) (i : ℕ) (c : Client) → AreKept h log cs ks → slice_get cs i ≡ Some c → IsClient h log c
+  pub kept_some : (cs : List Client) (ks : List Replica) (i : ℕ) (c : Client) → AreReplicas h log cs ks → slice_get cs i ≡ Some c → IsClient h log c
   kept_some [] ks i c w p = cc
   kept_some (x ∷ cs) [] i c w p = absurd w
   kept_some (x ∷ cs) (y ∷ ks) zero c w p = let same : x ≡ c = cc in rw (← same) w.0
   kept_some (x ∷ cs) (y ∷ ks) (suc i) c w p = kept_some cs ks i c w.2 p
 
   -- one client goes on, and the others stay
-  pub kept_set : (cs : List Client) (ks : List Kept) (i : ℕ) (c : Client) (k : Kept) → AreKept h log cs ks → AreOne h log c k → AreKept h log (slice_set cs i c) (slice_set ks i k)
+  pub kept_set : (cs : List Client) (ks : List Replica) (i : ℕ) (c : Client) (k : Replica) → AreReplicas h log cs ks → AreOne h log c k → AreReplicas h log (slice_set cs i c) (slice_set ks i k)
   kept_set [] [] i c k w one = tt
   kept_set [] (y ∷ ks) i c k w one = absurd w
   kept_set (x ∷ cs) [] i c k w one = absurd w
   kept_set (x ∷ cs) (y ∷ ks) zero c k w one = (one.client, one.kept, w.2)
   kept_set (x ∷ cs) (y ∷ ks) (suc i) c k w one = (w.0, w.1, kept_set cs ks i c k w.2 one)
 
-  pub kept_push : (cs : List Client) (ks : List Kept) (c : Client) (k : Kept) → AreKept h log cs ks → IsClient h log c → IsKept h log c k → AreKept h log (cs ++ c ∷ []) (ks ++ k ∷ [])
+  pub kept_push : (cs : List Client) (ks : List Replica) (c : Client) (k : Replica) → AreReplicas h log cs ks → IsClient h log c → IsReplicaOf h log c k → AreReplicas h log (cs ++ c ∷ []) (ks ++ k ∷ [])
   kept_push [] [] c k w p q = (p, q, tt)
   kept_push [] (y ∷ ks) c k w p q = absurd w
   kept_push (x ∷ cs) [] c k w p q = absurd w
   kept_push (x ∷ cs) (y ∷ ks) c k w p q = (w.0, w.1, kept_push cs ks c k w.2 p q)
 
-module _ (h : HeaderView) (st : IsStart (opened h)) (log : List Entry) where
+module _ (h : HeaderView) (st : IsStart (opening_document h)) (log : List Entry) where
   -- another joins
-  pub all_after_join : (session : ℕ) (cs : List Client) (ks : List Kept) → AreKept h log cs ks → AreKept h (entered log session Join) cs ks
+  pub all_after_join : (session : ℕ) (cs : List Client) (ks : List Replica) → AreReplicas h log cs ks → AreReplicas h (log_with log session Join) cs ks
   all_after_join session [] [] w = tt
   all_after_join session [] (k ∷ ks) w = absurd w
   all_after_join session (c ∷ cs) [] w = absurd w
@@ -121,9 +121,9 @@ module _ (h : HeaderView) (st : IsStart (opened h)) (log : List Entry) where
   -- the oldest text of one client is in the log
   module _ (c : Client) (q : Queued) (rest : List Queued) (own : IsClient h log c) (is : c.queue ≡ q ∷ rest) (few : names_in (commits_in log) + names_made q.intent ≤ 131072) where
     abbrev longer : List Entry
-    longer = entered log c.session (Commit q.reference q.intent)
+    longer = log_with log c.session (Commit q.reference q.intent)
 
-    beside : (d : Client) (k : Kept) → (c.session == d.session) ≡ false → IsClient h log d → IsKept h log d k → AreOne h longer d k
+    beside : (d : Client) (k : Replica) → (c.session == d.session) ≡ false → IsClient h log d → IsReplicaOf h log d k → AreOne h longer d k
     beside d k apart w v = record { client = client_beside h st log c d q rest own w is apart few; kept = kept_entered h st log c.session (Commit q.reference q.intent) d k w.within v }
 
     apart_later : (d : Client) (n : ℕ) → d.session ≡ n → c.session < n → (c.session == d.session) ≡ false
@@ -132,7 +132,7 @@ module _ (h : HeaderView) (st : IsStart (opened h)) (log : List Entry) where
     apart_before : (d : Client) (n : ℕ) → d.session ≡ n → n < c.session → (c.session == d.session) ≡ false
     apart_before d n e less = grind (arith, nat_tests)
 
-    all_later : (n : ℕ) (cs : List Client) (ks : List Kept) → HaveSessionsFrom n cs → c.session < n → AreKept h log cs ks → AreKept h longer cs ks
+    all_later : (n : ℕ) (cs : List Client) (ks : List Replica) → HaveSessionsFrom n cs → c.session < n → AreReplicas h log cs ks → AreReplicas h longer cs ks
     all_later n [] [] s less w = tt
     all_later n [] (k ∷ ks) s less w = absurd w
     all_later n (d ∷ cs) [] s less w = absurd w
@@ -140,12 +140,12 @@ module _ (h : HeaderView) (st : IsStart (opened h)) (log : List Entry) where
         let one = beside d k (apart_later d n s.0 less) w.0 w.1 in
         (one.client, one.kept, all_later (n + 1) cs ks s.1 (omega (arith, less)) w.2)
 
-    pub all_sent : (n : ℕ) (cs : List Client) (ks : List Kept) (i : ℕ) → HaveSessionsFrom n cs → slice_get cs i ≡ Some c → AreKept h log cs ks → AreKept h longer (slice_set cs i (record c { queue = rest })) ks
+    pub all_sent : (n : ℕ) (cs : List Client) (ks : List Replica) (i : ℕ) → HaveSessionsFrom n cs → slice_get cs i ≡ Some c → AreReplicas h log cs ks → AreReplicas h longer (slice_set cs i (record c { queue = rest })) ks
     all_sent n [] ks i s at w = cc
     all_sent n (d ∷ cs) [] i s at w = absurd w
     all_sent n (d ∷ cs) (k ∷ ks) zero s at w =
         let same : d ≡ c = cc in
-        let kept : IsKept h log c k = rw (← same) w.1 in
+        let kept : IsReplicaOf h log c k = rw (← same) w.1 in
         let here : c.session ≡ n = ap (λ (x : Client). x.session) (sym same) ∙ s.0 in (
           client_sent h st log c q rest own is,
           kept_rest h st longer c rest k (kept_entered h st log c.session (Commit q.reference q.intent) c k own.within kept),

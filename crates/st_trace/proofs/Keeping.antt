@@ -13,21 +13,21 @@ use Rattle.st_marks.specs.Intent.{Fits}
 use Rattle.st_marks.specs.Run.{Run, done as nothing, next}
 use Rattle.st_marks.specs.Verdict.{IsVerdict, carried}
 use Rattle.st_marks.proofs.OneVerdict.{run_then, run_front, one_run, one_carried}
-use Rattle.st_commits.specs.Turns.{FitInTurn}
-use Rattle.st_commits.proofs.Turns.{in_turn, rest as rest_fit}
+use Rattle.st_log_laws.specs.Turns.{FitInTurn}
+use Rattle.st_log_laws.proofs.Turns.{in_turn, rest as rest_fit}
 use Rattle.st_doc.specs.Doc.{document_of}
 use Rattle.st_doc.specs.declared.doc.Doc.{Doc}
 use Rattle.st_script.specs.Header.{HeaderView}
 use Rattle.st_script.specs.declared.answer.Answer.{Answer}
-use Rattle.st_trace.specs.Kept.{IsClient, IsKept, IsCommitted, IsPending, IsEditedKept, CanReceive, CanCarry, HasMoved, HasReceivedNext, HasReceivedOf, HasReceivedOne}
-use Rattle.st_trace.specs.Log.{commit_of, commits_in, entered}
-use Rattle.st_trace.specs.World.{IsDeliveredTo, committed, edited, joined, limit_passed, names_in, names_made, next_rev, opened, pending_after, pends, received_by, taken}
+use Rattle.st_trace.specs.Replica.{IsClient, IsReplicaOf, IsCommitted, IsPending, IsEditedReplica, CanReceive, CanCarry, HasMoved, HasReceivedNext, HasReceivedOf, HasReceivedOne}
+use Rattle.st_trace.specs.Log.{commit_of, commits_in, log_with}
+use Rattle.st_trace.specs.World.{IsDeliveredTo, with_commit, after_edit, new_client, limit_passed, names_in, names_made, next_rev, opening_document, pending_after, with_pending, received_by, with_received}
 use Rattle.st_trace.specs.declared.client.EditWord.{EditWord}
-use Rattle.st_trace.specs.declared.kept.Kept.{Kept}
-use Rattle.st_trace.specs.declared.lists.Body.{Body}
-use Rattle.st_trace.specs.declared.lists.Client.{Client}
-use Rattle.st_trace.specs.declared.lists.Entry.{Entry}
-use Rattle.st_trace.specs.declared.lists.Queued.{Queued}
+use Rattle.st_trace.specs.declared.replica.Replica.{Replica}
+use Rattle.st_trace.specs.declared.state.Body.{Body}
+use Rattle.st_trace.specs.declared.state.Client.{Client}
+use Rattle.st_trace.specs.declared.state.Entry.{Entry}
+use Rattle.st_trace.specs.declared.state.Queued.{Queued}
 use Rattle.st_trace.proofs.Begun.{IsStart}
 use Rattle.st_trace.proofs.Counting.{names_append}
 use Rattle.st_trace.proofs.Clients.{client_committed, client_own, client_other, client_none, other_fit, own_first, received_more}
@@ -42,20 +42,20 @@ pub both_carried : (D E X Y : Document) (N : Intent) (v w : Verdict) → D ≡ E
 both_carried D E X Y N v w same a b x y = x ∙ ap (λ F. carried v F N) same ∙ one_carried E N v w (subst (λ F. IsVerdict F N v) same a) b ∙ sym y
 
 -- what a client and what is kept of it are together
-pub record AreOne (h : HeaderView) (log : List Entry) (c : Client) (k : Kept) : Type 0 where
+pub record AreOne (h : HeaderView) (log : List Entry) (c : Client) (k : Replica) : Type 0 where
   pub client : IsClient h log c
-  pub kept : IsKept h log c k
+  pub kept : IsReplicaOf h log c k
 
-module _ (h : HeaderView) (st : IsStart (opened h)) where
+module _ (h : HeaderView) (st : IsStart (opening_document h)) where
   -- ## Edits
 
-  kept_committed : (log : List Entry) (c : Client) (k k' : Kept) (N : Intent) → IsKept h log c k → IsCommitted k N k' → IsKept h log (committed c N) k'
+  kept_committed : (log : List Entry) (c : Client) (k k' : Replica) (N : Intent) → IsReplicaOf h log c k → IsCommitted k N k' → IsReplicaOf h log (with_commit c N) k'
   kept_committed log c k k' N w done =
       let A = received_by log c in
       let one_name : names_in (N ∷ []) ≡ names_made N = omega arith in
       record {
-        received = subst (λ (d : Doc). Run (opened h) A (document_of d)) (sym done.received) w.received;
-        shown = subst (λ l. Run (opened h) l (document_of k'.shown)) (append_assoc A c.pending (N ∷ [])) (run_more N (document_of k'.shown) done.shown.0 w.shown done.shown.1 done.shown.2);
+        received = subst (λ (d : Doc). Run (opening_document h) A (document_of d)) (sym done.received) w.received;
+        shown = subst (λ l. Run (opening_document h) l (document_of k'.shown)) (append_assoc A c.pending (N ∷ [])) (run_more N (document_of k'.shown) done.shown.0 w.shown done.shown.1 done.shown.2);
         names = omega (arith, done.names, w.names, names_append c.pending (N ∷ []), one_name);
       }
 
@@ -76,19 +76,19 @@ module _ (h : HeaderView) (st : IsStart (opened h)) where
           few_names : nat_lt 16384 (names_in c.pending + names_made N) ≡ false → names_in c.pending + names_made N ≤ 16384
           few_names q = grind (arith, nat_tests)
 
-  pub one_edited : (log : List Entry) (c c' : Client) (k k' : Kept) (word : EditWord) (r : Result Intent EditFault) (a : Answer) → AreOne h log c k → names_in (commits_in log) ≤ 131072
-      → ((N : Intent) → r ≡ Ok N → Fits (document_of k.shown) N × (N.rev ≡ next_rev c) × (N.schema ≡ None)) → edited c word r ≡ (c', a) → IsEditedKept c k r k' → AreOne h log c' k'
+  pub one_edited : (log : List Entry) (c c' : Client) (k k' : Replica) (word : EditWord) (r : Result Intent EditFault) (a : Answer) → AreOne h log c k → names_in (commits_in log) ≤ 131072
+      → ((N : Intent) → r ≡ Ok N → Fits (document_of k.shown) N × (N.rev ≡ next_rev c) × (N.schema ≡ None)) → after_edit c word r ≡ (c', a) → IsEditedReplica c k r k' → AreOne h log c' k'
   one_edited log c c' k k' word (Err f) a w all meant is kept =
       let same : c ≡ c' = ap (λ (p : Client × Answer). p.0) is in
       subst (λ x. AreOne h log x k') same (subst (λ x. AreOne h log c x) (sym kept) w)
   one_edited log c c' k k' word (Ok N) a w all meant is kept = go (limit_passed c N) refl is kept
     where
-      go : (o : Option Limit) → limit_passed c N ≡ o → pends c word N o ≡ (c', a) → IsPending k N o k' → AreOne h log c' k'
+      go : (o : Option Limit) → limit_passed c N ≡ o → with_pending c word N o ≡ (c', a) → IsPending k N o k' → AreOne h log c' k'
       go (Some l) e is kept =
           let same : c ≡ c' = ap (λ (p : Client × Answer). p.0) is in
           subst (λ x. AreOne h log x k') same (subst (λ x. AreOne h log c x) (sym kept) w)
       go None e is kept =
-          let same : committed c N ≡ c' = ap (λ (p : Client × Answer). p.0) is in
+          let same : with_commit c N ≡ c' = ap (λ (p : Client × Answer). p.0) is in
           let m = meant N refl in
           let few = within_limits c N e in
           subst (λ x. AreOne h log x k') same (record {
@@ -99,13 +99,13 @@ module _ (h : HeaderView) (st : IsStart (opened h)) where
   -- ## Receiving
 
   -- what is pending leads from what was received to what is shown
-  pub pending_run : (log : List Entry) (c : Client) (k : Kept) → AreOne h log c k → Run (document_of k.received) c.pending (document_of k.shown)
+  pub pending_run : (log : List Entry) (c : Client) (k : Replica) → AreOne h log c k → Run (document_of k.received) c.pending (document_of k.shown)
   pending_run log c k w =
       let f = run_front (received_by log c) w.kept.shown st.sound (in_turn w.kept.shown w.client.shown_fit) in
       subst (λ (D : Document). Run D c.pending (document_of k.shown)) (one_run f.1 w.kept.received) f.2
 
   -- the next entry can be received
-  pub can_receive : (log : List Entry) (c : Client) (k : Kept) (e : Entry) → AreOne h log c k → names_in (commits_in log) ≤ 131072 → slice_get log c.received ≡ Some e → CanReceive c k e
+  pub can_receive : (log : List Entry) (c : Client) (k : Replica) (e : Entry) → AreOne h log c k → names_in (commits_in log) ≤ 131072 → slice_get log c.received ≡ Some e → CanReceive c k e
   can_receive log c k e w all at = go (commit_of e) refl
     where
       own : (N : Intent) → commit_of e ≡ Some N → (e.session == c.session) ≡ true → CanCarry c k true N
@@ -131,8 +131,8 @@ module _ (h : HeaderView) (st : IsStart (opened h)) where
       go None is = tt
       go (Some N) is = by N is (e.session == c.session) refl
 
-  kept_own : (log : List Entry) (c : Client) (k k' : Kept) (e : Entry) (N : Intent) (v : Verdict) → AreOne h log c k → slice_get log c.received ≡ Some e → commit_of e ≡ Some N → (e.session == c.session) ≡ true
-      → HasReceivedOne c k true N v k' → IsKept h log (record c { received = c.received + 1; pending = drop 1 c.pending }) k'
+  kept_own : (log : List Entry) (c : Client) (k k' : Replica) (e : Entry) (N : Intent) (v : Verdict) → AreOne h log c k → slice_get log c.received ≡ Some e → commit_of e ≡ Some N → (e.session == c.session) ≡ true
+      → HasReceivedOne c k true N v k' → IsReplicaOf h log (record c { received = c.received + 1; pending = drop 1 c.pending }) k'
   kept_own log c k k' e N v w at is own got =
       let A = received_by log c in
       let first = own_first h st log c e N w.client at is own in
@@ -142,35 +142,35 @@ module _ (h : HeaderView) (st : IsStart (opened h)) where
       let all : A ++ c.pending ≡ commits_in (take (c.received + 1) log) ++ drop 1 c.pending = ap (λ l. A ++ l) head ∙ sym (append_assoc A (N ∷ []) (drop 1 c.pending)) ∙ ap (λ l. l ++ drop 1 c.pending) (sym now) in
       let names : names_in c.pending ≡ names_made N + names_in (drop 1 c.pending) = ap names_in head in
       record {
-        received = subst (λ l. Run (opened h) l (document_of k'.received)) (sym now) (run_more N (document_of k'.received) v w.kept.received got.0.verdict got.0.after);
-        shown = subst (λ l. Run (opened h) l (document_of k'.shown)) all (subst (λ (D : Document). Run (opened h) (A ++ c.pending) D) (sym got.1.0) w.kept.shown);
+        received = subst (λ l. Run (opening_document h) l (document_of k'.received)) (sym now) (run_more N (document_of k'.received) v w.kept.received got.0.verdict got.0.after);
+        shown = subst (λ l. Run (opening_document h) l (document_of k'.shown)) all (subst (λ (D : Document). Run (opening_document h) (A ++ c.pending) D) (sym got.1.0) w.kept.shown);
         names = omega (arith, got.1.1, names, w.kept.names);
       }
 
-  kept_other : (log : List Entry) (c : Client) (k k' : Kept) (e : Entry) (N : Intent) (v : Verdict) → AreOne h log c k → slice_get log c.received ≡ Some e → commit_of e ≡ Some N
-      → HasReceivedOne c k false N v k' → IsKept h log (record c { received = c.received + 1 }) k'
+  kept_other : (log : List Entry) (c : Client) (k k' : Replica) (e : Entry) (N : Intent) (v : Verdict) → AreOne h log c k → slice_get log c.received ≡ Some e → commit_of e ≡ Some N
+      → HasReceivedOne c k false N v k' → IsReplicaOf h log (record c { received = c.received + 1 }) k'
   kept_other log c k k' e N v w at is got =
       let A = received_by log c in
       let now : commits_in (take (c.received + 1) log) ≡ A ++ N ∷ [] = received_more h st log c e at ∙ ap (λ l. A ++ l) (one_commit e N is) in
-      let r : Run (opened h) (commits_in (take (c.received + 1) log)) (document_of k'.received) =
-      subst (λ l. Run (opened h) l (document_of k'.received)) (sym now) (run_more N (document_of k'.received) v w.kept.received got.0.verdict got.0.after) in
+      let r : Run (opening_document h) (commits_in (take (c.received + 1) log)) (document_of k'.received) =
+      subst (λ l. Run (opening_document h) l (document_of k'.received)) (sym now) (run_more N (document_of k'.received) v w.kept.received got.0.verdict got.0.after) in
       record { received = r; shown = run_then r got.1.0; names = got.1.1 ∙ w.kept.names }
 
-  kept_none : (log : List Entry) (c : Client) (k : Kept) (e : Entry) → AreOne h log c k → slice_get log c.received ≡ Some e → commit_of e ≡ None → IsKept h log (record c { received = c.received + 1 }) k
+  kept_none : (log : List Entry) (c : Client) (k : Replica) (e : Entry) → AreOne h log c k → slice_get log c.received ≡ Some e → commit_of e ≡ None → IsReplicaOf h log (record c { received = c.received + 1 }) k
   kept_none log c k e w at is =
       let A = received_by log c in
       let now : A ≡ commits_in (take (c.received + 1) log) = sym (received_more h st log c e at ∙ ap (λ l. A ++ l) (no_commit e is) ∙ append-nil A) in
       record {
-        received = subst (λ l. Run (opened h) l (document_of k.received)) now w.kept.received;
-        shown = subst (λ l. Run (opened h) (l ++ c.pending) (document_of k.shown)) now w.kept.shown;
+        received = subst (λ l. Run (opening_document h) l (document_of k.received)) now w.kept.received;
+        shown = subst (λ l. Run (opening_document h) (l ++ c.pending) (document_of k.shown)) now w.kept.shown;
         names = w.kept.names;
       }
 
-  one_taken : (log : List Entry) (c : Client) (k k' : Kept) (e : Entry) (v : Verdict) → AreOne h log c k → names_in (commits_in log) ≤ 131072 → slice_get log c.received ≡ Some e
-      → HasReceivedNext c k e v k' → AreOne h log (taken e c) k'
+  one_taken : (log : List Entry) (c : Client) (k k' : Replica) (e : Entry) (v : Verdict) → AreOne h log c k → names_in (commits_in log) ≤ 131072 → slice_get log c.received ≡ Some e
+      → HasReceivedNext c k e v k' → AreOne h log (with_received e c) k'
   one_taken log c k k' e v w all at got = go (commit_of e) refl got
     where
-      by : (N : Intent) → commit_of e ≡ Some N → (b : Bool) → (e.session == c.session) ≡ b → HasReceivedOne c k b N v k' → AreOne h log (taken e c) k'
+      by : (N : Intent) → commit_of e ≡ Some N → (b : Bool) → (e.session == c.session) ≡ b → HasReceivedOne c k b N v k' → AreOne h log (with_received e c) k'
       by N is true own got =
           let same : drop 1 c.pending ≡ pending_after e c = sym (rw (is, own) refl) in
           subst (λ (l : List Intent). AreOne h log (record c { received = c.received + 1; pending = l }) k') same
@@ -180,14 +180,14 @@ module _ (h : HeaderView) (st : IsStart (opened h)) where
           subst (λ (l : List Intent). AreOne h log (record c { received = c.received + 1; pending = l }) k') same
           (record { client = client_other h st log c e N w.client at is other all; kept = kept_other log c k k' e N v w at is got })
 
-      go : (o : Option Intent) → commit_of e ≡ o → HasReceivedOf c k (e.session == c.session) o v k' → AreOne h log (taken e c) k'
+      go : (o : Option Intent) → commit_of e ≡ o → HasReceivedOf c k (e.session == c.session) o v k' → AreOne h log (with_received e c) k'
       go (Some N) is got = by N is (e.session == c.session) refl got
       go None is got =
           let same : c.pending ≡ pending_after e c = sym (rw is refl) in
           subst (λ (l : List Intent). AreOne h log (record c { received = c.received + 1; pending = l }) k') same
           (subst (λ x. AreOne h log (record c { received = c.received + 1 }) x) (sym got.1) (record { client = client_none h st log c e w.client at is; kept = kept_none log c k e w at is }))
 
-  pub one_delivered : (log : List Entry) (c c' : Client) (k k' : Kept) (D : Document) (a : Answer) → AreOne h log c k → names_in (commits_in log) ≤ 131072
+  pub one_delivered : (log : List Entry) (c c' : Client) (k k' : Replica) (D : Document) (a : Answer) → AreOne h log c k → names_in (commits_in log) ≤ 131072
       → IsDeliveredTo D c (slice_get log c.received) c' a → HasMoved c k (slice_get log c.received) k' → AreOne h log c' k'
   one_delivered log c c' k k' D a w all done moved = go (slice_get log c.received) refl done moved
     where
@@ -197,25 +197,25 @@ module _ (h : HeaderView) (st : IsStart (opened h)) where
 
   -- ## The log grows
 
-  pub kept_entered : (log : List Entry) (session : ℕ) (body : Body) (c : Client) (k : Kept) → c.received ≤ length log → IsKept h log c k → IsKept h (entered log session body) c k
+  pub kept_entered : (log : List Entry) (session : ℕ) (body : Body) (c : Client) (k : Replica) → c.received ≤ length log → IsReplicaOf h log c k → IsReplicaOf h (log_with log session body) c k
   kept_entered log session body c k within w =
       let front = sym (entered_front log session body c.received within) in
       record {
-        received = subst (λ (es : List Entry). Run (opened h) (commits_in es) (document_of k.received)) front w.received;
-        shown = subst (λ (es : List Entry). Run (opened h) (commits_in es ++ c.pending) (document_of k.shown)) front w.shown;
+        received = subst (λ (es : List Entry). Run (opening_document h) (commits_in es) (document_of k.received)) front w.received;
+        shown = subst (λ (es : List Entry). Run (opening_document h) (commits_in es ++ c.pending) (document_of k.shown)) front w.shown;
         names = w.names;
       }
 
-  pub kept_rest : (log : List Entry) (c : Client) (rest : List Queued) (k : Kept) → IsKept h log c k → IsKept h log (record c { queue = rest }) k
+  pub kept_rest : (log : List Entry) (c : Client) (rest : List Queued) (k : Replica) → IsReplicaOf h log c k → IsReplicaOf h log (record c { queue = rest }) k
   kept_rest log c rest k w = record { received = w.received; shown = w.shown; names = w.names }
 
   -- of a client that joins
-  pub kept_joined : (log : List Entry) (n session : ℕ) (name : List ℕ) (k : Kept) (D : Document) → n ≡ length log → Run (opened h) (commits_in log) D → document_of k.received ≡ D → document_of k.shown ≡ D → k.names ≡ 0
-      → IsKept h log (joined n session name) k
+  pub kept_joined : (log : List Entry) (n session : ℕ) (name : List ℕ) (k : Replica) (D : Document) → n ≡ length log → Run (opening_document h) (commits_in log) D → document_of k.received ≡ D → document_of k.shown ≡ D → k.names ≡ 0
+      → IsReplicaOf h log (new_client n session name) k
   kept_joined log n session name k D is_n run received shown names =
       let whole : log ≡ take n log = sym (take_all n log (omega (arith, is_n))) in
       record {
-        received = subst (λ (es : List Entry). Run (opened h) (commits_in es) (document_of k.received)) whole (subst (λ (E : Document). Run (opened h) (commits_in log) E) (sym received) run);
-        shown = subst (λ l. Run (opened h) l (document_of k.shown)) (ap commits_in whole ∙ sym (append-nil (commits_in (take n log)))) (subst (λ (E : Document). Run (opened h) (commits_in log) E) (sym shown) run);
+        received = subst (λ (es : List Entry). Run (opening_document h) (commits_in es) (document_of k.received)) whole (subst (λ (E : Document). Run (opening_document h) (commits_in log) E) (sym received) run);
+        shown = subst (λ l. Run (opening_document h) l (document_of k.shown)) (ap commits_in whole ∙ sym (append-nil (commits_in (take n log)))) (subst (λ (E : Document). Run (opening_document h) (commits_in log) E) (sym shown) run);
         names = names;
       }

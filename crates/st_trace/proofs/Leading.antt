@@ -15,7 +15,7 @@ use Rattle.st_marks.specs.declared.intents.Intent.{Intent}
 use Rattle.st_marks.specs.declared.verdicts.Verdict.{Verdict}
 use Rattle.st_marks.specs.Document.{Document, IsSoundInForm, root}
 use Rattle.st_marks.specs.LiveTree.{IsTreeText}
-use Rattle.st_commits.proofs.Verdicts.{has_verdict}
+use Rattle.st_log_laws.proofs.Verdicts.{has_verdict}
 use Rattle.st_doc.specs.Doc.{document_of}
 use Rattle.st_doc.specs.Nodes.{type_of}
 use Rattle.st_doc.specs.declared.doc.Doc.{Doc}
@@ -28,14 +28,14 @@ use Rattle.st_script.specs.Steps as step
 use Rattle.st_script.specs.declared.answer.Answer.{Answer}
 use Rattle.st_script.specs.declared.answer.Answer.TheVariants.{Deliver, No, Show}
 use Rattle.st_script.specs.declared.refusal.Refusal.TheVariants.{NoBranch, NoClient, NothingNew}
-use Rattle.st_trace.specs.Kept.{IsSound}
+use Rattle.st_trace.specs.Replica.{IsSound}
 use Rattle.st_trace.specs.Log.{commit_of}
-use Rattle.st_trace.specs.World.{AtClient, IsDelivered, IsDeliveredTo, IsEdited, IsNext, IsNextOf, IsShown, IsVerdictOf, OnBranch, edited, found, given, join, place_of, sequence, taken, with_client}
+use Rattle.st_trace.specs.World.{AtClient, IsDelivered, IsDeliveredTo, IsEdited, IsNext, IsNextOf, IsShown, IsVerdictOf, OnBranch, after_edit, client_named, next_names, join, place_of, sequence, with_received, with_client}
 use Rattle.st_trace.specs.declared.client.EditWord.{EditWord}
-use Rattle.st_trace.specs.declared.kept.Kept.{Kept}
-use Rattle.st_trace.specs.declared.lists.Client.{Client}
-use Rattle.st_trace.specs.declared.lists.Entry.{Entry}
-use Rattle.st_trace.specs.declared.lists.Lists.{Lists}
+use Rattle.st_trace.specs.declared.replica.Replica.{Replica}
+use Rattle.st_trace.specs.declared.state.Client.{Client}
+use Rattle.st_trace.specs.declared.state.Entry.{Entry}
+use Rattle.st_trace.specs.declared.state.WorldState.{WorldState}
 use Rattle.st_trace.specs.declared.world.World.{World}
 use Rattle.st_trace.proofs.Acting.{one_at}
 use Rattle.st_trace.proofs.Clients.{received_sound, shown_sound}
@@ -77,18 +77,18 @@ has_text is_array d sound =
 -- ## The steps of a client that is there
 
 -- something is kept of it
-kept_there : (w : World) (i : ℕ) (c : Client) → IsSound w → slice_get w.lists.clients i ≡ Some c → (k : Kept) × AreOne (header_view w.header) w.lists.log c k
+kept_there : (w : World) (i : ℕ) (c : Client) → IsSound w → slice_get w.lists.clients i ≡ Some c → (k : Replica) × AreOne (header_view w.header) w.lists.log c k
 kept_there w i c s at = go (slice_get w.kept i) refl
   where
-    go : (o : Option Kept) → slice_get w.kept i ≡ o → (k : Kept) × AreOne (header_view w.header) w.lists.log c k
+    go : (o : Option Replica) → slice_get w.kept i ≡ o → (k : Replica) × AreOne (header_view w.header) w.lists.log c k
     go None e = absurd (kept_none (header_view w.header) w.lists.log w.lists.clients w.kept i c s.kept at e)
     go (Some k) e = (k, one_at w i c k s at e)
 
 has_edited : (w : World) (i : ℕ) (c : Client) (word : EditWord) (meant : Document → Result Intent EditFault) → IsSound w → slice_get w.lists.clients i ≡ Some c
-    → (v : Lists) × (a : Answer) × IsEdited (header_view w.header) w.lists i c word meant v a
+    → (v : WorldState) × (a : Answer) × IsEdited (header_view w.header) w.lists i c word meant v a
 has_edited w i c word meant s at =
     let k = kept_there w i c s at in
-    let p = with_client w.lists i (edited c word (meant (document_of k.0.shown))) in
+    let p = with_client w.lists i (after_edit c word (meant (document_of k.0.shown))) in
     (p.0, p.1, (document_of k.0.shown, k.1.kept.shown, refl))
 
 verdict_of : (D : Document) (o : Option Intent) → IsSoundInForm D → (v : Verdict) × IsVerdictOf D o v
@@ -97,9 +97,9 @@ verdict_of D (Some N) s = has_verdict D N s
 
 has_delivery : (D : Document) (c : Client) (o : Option Entry) → IsSoundInForm D → (d : Client) × (a : Answer) × IsDeliveredTo D c o d a
 has_delivery D c None s = (c, No NothingNew, (refl, refl))
-has_delivery D c (Some e) s = let v = verdict_of D (commit_of e) s in (taken e c, Deliver (c.received + 1) v.0, (v.0, v.1, refl, refl))
+has_delivery D c (Some e) s = let v = verdict_of D (commit_of e) s in (with_received e c, Deliver (c.received + 1) v.0, (v.0, v.1, refl, refl))
 
-has_delivered : (w : World) (i : ℕ) (c : Client) → IsSound w → slice_get w.lists.clients i ≡ Some c → (v : Lists) × (a : Answer) × IsDelivered (header_view w.header) w.lists i c v a
+has_delivered : (w : World) (i : ℕ) (c : Client) → IsSound w → slice_get w.lists.clients i ≡ Some c → (v : WorldState) × (a : Answer) × IsDelivered (header_view w.header) w.lists i c v a
 has_delivered w i c s at =
     let k = kept_there w i c s at in
     let D = document_of k.0.received in
@@ -114,16 +114,16 @@ has_shown w i c s at =
     (Show t.0, (D, t.0, k.1.kept.shown, t.1, refl))
 
 abbrev HasNextOf : World → StepView → ℕ → Client → Type 0
-HasNextOf w s i c = (v : Lists) × (a : Answer) × IsNextOf (header_view w.header) w.lists s i c v a
+HasNextOf w s i c = (v : WorldState) × (a : Answer) × IsNextOf (header_view w.header) w.lists s i c v a
 
 has_next_of : (w : World) (s : StepView) (i : ℕ) (c : Client) → IsSound w → slice_get w.lists.clients i ≡ Some c → HasNextOf w s i c
 has_next_of w (step.join name) i c s at = let p = join w.lists name in (p.0, p.1, refl)
-has_next_of w (step.insert name branch path key index items) i c s at = has_edited w i c EditWord.Insert (λ D. insert D (header_view w.header).schema (given c) path key index (nodes_of items)) s at
-has_next_of w (step.remove name branch path key index count) i c s at = has_edited w i c EditWord.Remove (λ D. remove D (header_view w.header).schema (given c) path key index count) s at
+has_next_of w (step.insert name branch path key index items) i c s at = has_edited w i c EditWord.Insert (λ D. insert D (header_view w.header).schema (next_names c) path key index (nodes_of items)) s at
+has_next_of w (step.remove name branch path key index count) i c s at = has_edited w i c EditWord.Remove (λ D. remove D (header_view w.header).schema (next_names c) path key index count) s at
 has_next_of w (step.move name branch path key index count to to_key to_index) i c s at =
-    has_edited w i c EditWord.Move (λ D. move D (header_view w.header).schema (given c) path key index count to to_key to_index) s at
-has_next_of w (step.set name branch path key item) i c s at = has_edited w i c EditWord.Set (λ D. put D (header_view w.header).schema (given c) path key (first item no_nodes)) s at
-has_next_of w (step.clear name branch path key) i c s at = has_edited w i c EditWord.Clear (λ D. clear D (header_view w.header).schema (given c) path key) s at
+    has_edited w i c EditWord.Move (λ D. move D (header_view w.header).schema (next_names c) path key index count to to_key to_index) s at
+has_next_of w (step.set name branch path key item) i c s at = has_edited w i c EditWord.Set (λ D. put D (header_view w.header).schema (next_names c) path key (first item no_nodes)) s at
+has_next_of w (step.clear name branch path key) i c s at = has_edited w i c EditWord.Clear (λ D. clear D (header_view w.header).schema (next_names c) path key) s at
 has_next_of w (step.sequence name) i c s at = let p = sequence w.lists i c c.queue in (p.0, p.1, refl)
 has_next_of w (step.deliver name) i c s at = has_delivered w i c s at
 has_next_of w (step.show name branch) i c s at = let r = has_shown w i c s at in (w.lists, r.0, (refl, r.1))
@@ -132,12 +132,12 @@ has_next_of w (step.show name branch) i c s at = let r = has_shown w i c s at in
 
 -- of the client at a place, if one is there
 abbrev HasNextAt : World → StepView → Option (ℕ × Client) → Type 0
-HasNextAt w s o = (v : Lists) × (a : Answer) × AtClient (header_view w.header) w.lists s o v a
+HasNextAt w s o = (v : WorldState) × (a : Answer) × AtClient (header_view w.header) w.lists s o v a
 
-has_next_at : (w : World) (s : StepView) → IsSound w → HasNextAt w s (found (name_of s) w.lists.clients)
+has_next_at : (w : World) (s : StepView) → IsSound w → HasNextAt w s (client_named (name_of s) w.lists.clients)
 has_next_at w s sound = place (place_of (name_of s) w.lists.clients)
   where
-    on : (branch i : ℕ) (c : Client) → HasNextOf w s i c → (v : Lists) × (a : Answer) × OnBranch branch w.lists v a (IsNextOf (header_view w.header) w.lists s i c v a)
+    on : (branch i : ℕ) (c : Client) → HasNextOf w s i c → (v : WorldState) × (a : Answer) × OnBranch branch w.lists v a (IsNextOf (header_view w.header) w.lists s i c v a)
     on zero i c next = next
     on (suc k) i c next = (w.lists, No NoBranch, (refl, refl))
 
@@ -149,7 +149,7 @@ has_next_at w s sound = place (place_of (name_of s) w.lists.clients)
     place None = (w.lists, No NoClient, (refl, refl))
     place (Some i) = client i (slice_get w.lists.clients i) refl
 
-pub has_next : (w : World) (s : StepView) → IsSound w → (v : Lists) × (a : Answer) × IsNext (header_view w.header) w.lists s v a
+pub has_next : (w : World) (s : StepView) → IsSound w → (v : WorldState) × (a : Answer) × IsNext (header_view w.header) w.lists s v a
 has_next w (step.join name) sound = let p = join w.lists name in (p.0, p.1, refl)
 has_next w (step.insert name branch path key index items) sound = has_next_at w (step.insert name branch path key index items) sound
 has_next w (step.remove name branch path key index count) sound = has_next_at w (step.remove name branch path key index count) sound

@@ -4,12 +4,12 @@ use Rattle.std.specs.List.{slice_get, filter_map, cons_option}
 use Rattle.std.proofs.lemmas.List.{take-append-le, drop-append-le, take-append-drop}
 use Rattle.std.proofs.lemmas.List.Elements.{filter_map-append, filter-append}
 use Rattle.st_marks.specs.declared.intents.Intent.{Intent}
-use Rattle.st_marks.specs.Extends.{done, gained, kept}
-use Rattle.st_commits.specs.Turns.{IsSublist}
-use Rattle.st_trace.specs.Kept.{commits_by}
-use Rattle.st_trace.specs.Log.{commit_of, commits_in, entered}
-use Rattle.st_trace.specs.declared.lists.Body.{Body}
-use Rattle.st_trace.specs.declared.lists.Entry.{Entry}
+use Rattle.st_marks.specs.Extends.{no_more, item_gained, item_kept}
+use Rattle.st_log_laws.specs.Turns.{IsSublist}
+use Rattle.st_trace.specs.Replica.{commits_by}
+use Rattle.st_trace.specs.Log.{commit_of, commits_in, log_with}
+use Rattle.st_trace.specs.declared.state.Body.{Body}
+use Rattle.st_trace.specs.declared.state.Entry.{Entry}
 
 -- ## Lists
 
@@ -41,7 +41,7 @@ by_append s xs ys = ap commits_in (filter-append (λ (e : Entry). e.session == s
 
 -- those of one session are among all
 pub by_sublist : (s : ℕ) (es : List Entry) → IsSublist (commits_by s es) (commits_in es)
-by_sublist s [] = done
+by_sublist s [] = no_more
 by_sublist s (e ∷ es) = go (e.session == s) (commit_of e) (by_sublist s es)
   where
     go : (b : Bool) (o : Option Intent) → IsSublist (commits_by s es) (commits_in es) → IsSublist (filter_map commit_of (cond b (e ∷ filter (λ (e : Entry). e.session == s) es) (filter (λ (e : Entry). e.session == s) es))) (cons_option (commit_of e) (commits_in es))
@@ -49,12 +49,12 @@ by_sublist s (e ∷ es) = go (e.session == s) (commit_of e) (by_sublist s es)
       where
         here : (o : Option Intent) → IsSublist (commits_by s es) (commits_in es) → IsSublist (cons_option o (commits_by s es)) (cons_option o (commits_in es))
         here None g = g
-        here (Some N) g = kept refl g
+        here (Some N) g = item_kept refl g
     go false o g = here (commit_of e) g
       where
         here : (o : Option Intent) → IsSublist (commits_by s es) (commits_in es) → IsSublist (commits_by s es) (cons_option o (commits_in es))
         here None g = g
-        here (Some N) g = gained g
+        here (Some N) g = item_gained g
 
 -- a commit of the session is the first of its own, one of another isn't among them, and a join is none
 pub by_own : (s : ℕ) (e : Entry) (es : List Entry) (N : Intent) → (e.session == s) ≡ true → commit_of e ≡ Some N → commits_by s (e ∷ es) ≡ N ∷ commits_by s es
@@ -81,12 +81,12 @@ no_commit e is = rw is refl
 abbrev pub last_entry : List Entry → ℕ → Body → Entry
 last_entry log session body = record { n = length log + 1; session = session; body = body }
 
-pub entered_commits : (log : List Entry) (session : ℕ) (body : Body) → commits_in (entered log session body) ≡ commits_in log ++ commits_in (last_entry log session body ∷ [])
+pub entered_commits : (log : List Entry) (session : ℕ) (body : Body) → commits_in (log_with log session body) ≡ commits_in log ++ commits_in (last_entry log session body ∷ [])
 entered_commits log session body = commits_append log (last_entry log session body ∷ [])
 
-pub entered_front : (log : List Entry) (session : ℕ) (body : Body) (i : ℕ) → i ≤ length log → take i (entered log session body) ≡ take i log
+pub entered_front : (log : List Entry) (session : ℕ) (body : Body) (i : ℕ) → i ≤ length log → take i (log_with log session body) ≡ take i log
 entered_front log session body i within = take-append-le i log (last_entry log session body ∷ []) within
 
-pub entered_rest : (log : List Entry) (session : ℕ) (body : Body) (s i : ℕ) → i ≤ length log → commits_by s (drop i (entered log session body)) ≡ commits_by s (drop i log) ++ commits_by s (last_entry log session body ∷ [])
+pub entered_rest : (log : List Entry) (session : ℕ) (body : Body) (s i : ℕ) → i ≤ length log → commits_by s (drop i (log_with log session body)) ≡ commits_by s (drop i log) ++ commits_by s (last_entry log session body ∷ [])
 entered_rest log session body s i within =
     ap (commits_by s) (drop-append-le i log (last_entry log session body ∷ []) within) ∙ by_append s (drop i log) (last_entry log session body ∷ [])

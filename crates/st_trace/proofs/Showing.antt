@@ -9,23 +9,23 @@ use Rattle.st_schema.specs.Schema.{SchemaView}
 use Rattle.st_marks.specs.declared.intents.Intent.{Intent}
 use Rattle.st_marks.specs.Document.{Document}
 use Rattle.st_marks.specs.LiveTree.{IsTreeText}
-use Rattle.st_commits.proofs.Turns.{turn_extends}
-use Rattle.st_conform.proofs.InTurn.{list_conforms}
-use Rattle.st_conform.proofs.ShownTree.{shown_conforms}
+use Rattle.st_log_laws.proofs.Turns.{turn_extends}
+use Rattle.st_schema_laws.proofs.InTurn.{list_conforms}
+use Rattle.st_schema_laws.proofs.ShownTree.{shown_conforms}
 use Rattle.st_edits.specs.ArrayTypes.{is_array_type}
 use Rattle.st_script.specs.Header.{HeaderView, header_view}
 use Rattle.st_script.specs.Steps.{StepView, branch_of, name_of}
 use Rattle.st_script.specs.Steps as step
 use Rattle.st_script.specs.declared.answer.Answer.{Answer}
-use Rattle.st_trace.specs.Kept.{IsSound}
-use Rattle.st_trace.specs.World.{AtClient, HasShown, IsAllowedText, IsDeliveredTo, IsEdited, IsNext, IsNextOf, OnBranch, ShowsAllowed, answered, edited, entering, found, join, limit_passed, log_limit_passed, names_made, next_rev, opened, pends, place_of, received_by, sequence}
+use Rattle.st_trace.specs.Replica.{IsSound}
+use Rattle.st_trace.specs.World.{AtClient, HasShown, IsAllowedText, IsDeliveredTo, IsEdited, IsNext, IsNextOf, OnBranch, ShowsAllowed, answer_of, after_edit, entering, client_named, join, limit_passed, log_limit_passed, names_made, next_rev, opening_document, with_pending, place_of, received_by, sequence}
 use Rattle.st_trace.specs.declared.client.EditWord.{EditWord}
-use Rattle.st_trace.specs.declared.lists.Client.{Client}
-use Rattle.st_trace.specs.declared.lists.Entry.{Entry}
-use Rattle.st_trace.specs.declared.lists.Lists.{Lists}
-use Rattle.st_trace.specs.declared.lists.Queued.{Queued}
+use Rattle.st_trace.specs.declared.state.Client.{Client}
+use Rattle.st_trace.specs.declared.state.Entry.{Entry}
+use Rattle.st_trace.specs.declared.state.WorldState.{WorldState}
+use Rattle.st_trace.specs.declared.state.Queued.{Queued}
 use Rattle.st_trace.specs.declared.world.World.{World}
-use Rattle.st_conform.specs.Agreeing.{AgreeInTurn}
+use Rattle.st_schema_laws.specs.Agreeing.{KeepSchemaInTurn}
 use Rattle.st_trace.proofs.Everyone.{all_get, kept_some}
 use Rattle.st_trace.proofs.Stepping.{start_of}
 
@@ -38,7 +38,7 @@ text_allowed w i c D text s at shown is =
     let log = w.lists.log in
     let home = s.schema.0 in
     let k = kept_some h log w.lists.clients w.kept i c s.kept at in
-    let agree = all_get (λ (c : Client). AgreeInTurn h.schema home (opened h) (received_by log c ++ c.pending)) w.lists.clients i c s.schema.1.shown at in
+    let agree = all_get (λ (c : Client). KeepSchemaInTurn h.schema home (opening_document h) (received_by log c ++ c.pending)) w.lists.clients i c s.schema.1.shown at in
     let here = list_conforms h.schema home st.sound k.shown_fit s.schema.1.start agree shown in
     let tree = shown_conforms h.schema s.header.schema home D (turn_extends st.sound k.shown_fit shown).after here (is_array_type h.schema) (λ ty. refl) is.0 is.1 in
     (tree.0, tree.2, is.2 ∙ ap compact_text (sym tree.1))
@@ -48,28 +48,28 @@ either P true x y p q = p
 either P false x y p q = q
 
 module _ (s : SchemaView) where
-  abbrev Fine : Lists × Answer → Type 0
+  abbrev Fine : WorldState × Answer → Type 0
   Fine p = ShowsAllowed s p.1
 
-  answered_fine : (word : EditWord) (rev : Rev) → ShowsAllowed s (answered word rev)
+  answered_fine : (word : EditWord) (rev : Rev) → ShowsAllowed s (answer_of word rev)
   answered_fine EditWord.Insert rev = tt
   answered_fine EditWord.Remove rev = tt
   answered_fine EditWord.Move rev = tt
   answered_fine EditWord.Set rev = tt
   answered_fine EditWord.Clear rev = tt
 
-  join_fine : (w : Lists) (name : List ℕ) → Fine (join w name)
+  join_fine : (w : WorldState) (name : List ℕ) → Fine (join w name)
   join_fine w name = either Fine (is_some (place_of name w.clients)) _ _ tt (either Fine (nat_le 64 (length w.clients)) _ _ tt (either Fine (nat_le 65535 (length w.log)) _ _ tt tt))
 
-  edited_fine : (c : Client) (word : EditWord) (r : Result Intent EditFault) → ShowsAllowed s (edited c word r).1
+  edited_fine : (c : Client) (word : EditWord) (r : Result Intent EditFault) → ShowsAllowed s (after_edit c word r).1
   edited_fine c word (Err f) = tt
   edited_fine c word (Ok N) = go (limit_passed c N)
     where
-      go : (o : Option Limit) → ShowsAllowed s (pends c word N o).1
+      go : (o : Option Limit) → ShowsAllowed s (with_pending c word N o).1
       go None = answered_fine word (next_rev c)
       go (Some l) = tt
 
-  sequence_fine : (w : Lists) (i : ℕ) (c : Client) (qs : List Queued) → Fine (sequence w i c qs)
+  sequence_fine : (w : WorldState) (i : ℕ) (c : Client) (qs : List Queued) → Fine (sequence w i c qs)
   sequence_fine w i c [] = tt
   sequence_fine w i c (q ∷ rest) = go (log_limit_passed w.log (names_made q.intent))
     where
@@ -81,14 +81,14 @@ module _ (s : SchemaView) where
   delivery_fine D c d None a is = subst (ShowsAllowed s) (sym is.1) tt
   delivery_fine D c d (Some e) a is = subst (ShowsAllowed s) (sym is.3) tt
 
-  one_fine : (p : Lists × Answer) (v : Lists) (a : Answer) → p ≡ (v, a) → Fine p → ShowsAllowed s a
-  one_fine p v a is fine = subst (ShowsAllowed s) (ap (λ (q : Lists × Answer). q.1) is) fine
+  one_fine : (p : WorldState × Answer) (v : WorldState) (a : Answer) → p ≡ (v, a) → Fine p → ShowsAllowed s a
+  one_fine p v a is fine = subst (ShowsAllowed s) (ap (λ (q : WorldState × Answer). q.1) is) fine
 
-  edit_fine : (h : HeaderView) (w : Lists) (i : ℕ) (c : Client) (word : EditWord) (meant : Document → Result Intent EditFault) (v : Lists) (a : Answer) → IsEdited h w i c word meant v a → ShowsAllowed s a
-  edit_fine h w i c word meant v a is = subst (ShowsAllowed s) (ap (λ (q : Lists × Answer). q.1) is.2) (edited_fine c word (meant is.0))
+  edit_fine : (h : HeaderView) (w : WorldState) (i : ℕ) (c : Client) (word : EditWord) (meant : Document → Result Intent EditFault) (v : WorldState) (a : Answer) → IsEdited h w i c word meant v a → ShowsAllowed s a
+  edit_fine h w i c word meant v a is = subst (ShowsAllowed s) (ap (λ (q : WorldState × Answer). q.1) is.2) (edited_fine c word (meant is.0))
 
 -- what the client at a place does
-of_fine : (w : World) (s : StepView) (i : ℕ) (c : Client) (v : Lists) (a : Answer) → IsSound w → slice_get w.lists.clients i ≡ Some c → IsNextOf (header_view w.header) w.lists s i c v a → ShowsAllowed w.header.schema a
+of_fine : (w : World) (s : StepView) (i : ℕ) (c : Client) (v : WorldState) (a : Answer) → IsSound w → slice_get w.lists.clients i ≡ Some c → IsNextOf (header_view w.header) w.lists s i c v a → ShowsAllowed w.header.schema a
 of_fine w (step.join name) i c v a sound at is = one_fine w.header.schema (join w.lists name) v a is (join_fine w.header.schema w.lists name)
 of_fine w (step.insert name branch path key index items) i c v a sound at is = edit_fine w.header.schema (header_view w.header) w.lists i c EditWord.Insert _ v a is
 of_fine w (step.remove name branch path key index count) i c v a sound at is = edit_fine w.header.schema (header_view w.header) w.lists i c EditWord.Remove _ v a is
@@ -101,7 +101,7 @@ of_fine w (step.show name branch) i c v a sound at is =
     let shown = is.1 in
     subst (ShowsAllowed w.header.schema) (sym shown.4) (text_allowed w i c shown.0 shown.1 sound at shown.2 shown.3)
 
-at_fine : (w : World) (s : StepView) (v : Lists) (a : Answer) → IsSound w → AtClient (header_view w.header) w.lists s (found (name_of s) w.lists.clients) v a → ShowsAllowed w.header.schema a
+at_fine : (w : World) (s : StepView) (v : WorldState) (a : Answer) → IsSound w → AtClient (header_view w.header) w.lists s (client_named (name_of s) w.lists.clients) v a → ShowsAllowed w.header.schema a
 at_fine w s v a sound is = place (place_of (name_of s) w.lists.clients) is
   where
     on : (branch : ℕ) (next : Type 0) → (next → ShowsAllowed w.header.schema a) → OnBranch branch w.lists v a next → ShowsAllowed w.header.schema a
@@ -116,7 +116,7 @@ at_fine w s v a sound is = place (place_of (name_of s) w.lists.clients) is
     place None is = subst (ShowsAllowed w.header.schema) (sym is.1) tt
     place (Some i) is = client i (slice_get w.lists.clients i) refl is
 
-pub next_allowed : (w : World) (s : StepView) (v : Lists) (a : Answer) → IsSound w → IsNext (header_view w.header) w.lists s v a → ShowsAllowed w.header.schema a
+pub next_allowed : (w : World) (s : StepView) (v : WorldState) (a : Answer) → IsSound w → IsNext (header_view w.header) w.lists s v a → ShowsAllowed w.header.schema a
 next_allowed w (step.join name) v a sound is = one_fine w.header.schema (join w.lists name) v a is (join_fine w.header.schema w.lists name)
 next_allowed w (step.insert name branch path key index items) v a sound is = at_fine w (step.insert name branch path key index items) v a sound is
 next_allowed w (step.remove name branch path key index count) v a sound is = at_fine w (step.remove name branch path key index count) v a sound is

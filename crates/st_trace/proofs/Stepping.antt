@@ -18,10 +18,10 @@ use Rattle.st_marks.specs.Document.{IsSoundInForm, opening}
 use Rattle.st_marks.specs.Intent.{Fits}
 use Rattle.st_marks.specs.Run.{Run}
 use Rattle.st_marks.specs.Verdict.{IsVerdict, carried}
-use Rattle.st_commits.specs.Names.{HaveNewRevisions}
-use Rattle.st_commits.specs.Turns.{FitInTurn}
-use Rattle.st_commits.proofs.Shorter.{sublist_itself, sublist_joined, sublist_none, new_shorter}
-use Rattle.st_commits.proofs.Turns.{front, rest as rest_fit, turn_extends}
+use Rattle.st_log_laws.specs.Names.{HaveNewRevisions}
+use Rattle.st_log_laws.specs.Turns.{FitInTurn}
+use Rattle.st_log_laws.proofs.Shorter.{sublist_itself, sublist_joined, sublist_none, new_shorter}
+use Rattle.st_log_laws.proofs.Turns.{front, rest as rest_fit, turn_extends}
 use Rattle.st_doc.specs.Doc.{document_of}
 use Rattle.st_doc.specs.declared.doc.Doc.{Doc}
 use Rattle.st_script.specs.Header.{HeaderView, header_view}
@@ -30,16 +30,16 @@ use Rattle.st_script.specs.declared.answer.Answer.TheVariants.{No}
 use Rattle.st_script.specs.declared.refusal.Refusal.TheVariants.{NothingToSend, NoClient, NoBranch}
 use Rattle.st_script.specs.Steps.{StepView, name_of, branch_of}
 use Rattle.st_script.specs.Steps as step
-use Rattle.st_trace.specs.Kept.{AreKept, IsClient, IsEntryOf, IsKept, IsSound, IsSoundAfter, KeepToSchema, intents_of, sent}
+use Rattle.st_trace.specs.Replica.{AreReplicas, IsClient, IsEntryOf, IsReplicaOf, IsSound, IsSoundAfter, KeepToSchema, intents_of, log_and_queue}
 use Rattle.st_trace.specs.Known.{AreKnown}
-use Rattle.st_trace.specs.Log.{commit_of, commits_in, entered}
-use Rattle.st_trace.specs.World.{AtClient, IsNext, IsNextOf, OnBranch, found, joined, log_limit_passed, names_in, names_made, opened, place_of, sequence}
-use Rattle.st_trace.specs.declared.kept.Kept.{Kept}
-use Rattle.st_trace.specs.declared.lists.Body.TheVariants.{Join, Commit}
-use Rattle.st_trace.specs.declared.lists.Client.{Client}
-use Rattle.st_trace.specs.declared.lists.Entry.{Entry}
-use Rattle.st_trace.specs.declared.lists.Lists.{Lists}
-use Rattle.st_trace.specs.declared.lists.Queued.{Queued}
+use Rattle.st_trace.specs.Log.{commit_of, commits_in, log_with}
+use Rattle.st_trace.specs.World.{AtClient, IsNext, IsNextOf, OnBranch, client_named, new_client, log_limit_passed, names_in, names_made, opening_document, place_of, sequence}
+use Rattle.st_trace.specs.declared.replica.Replica.{Replica}
+use Rattle.st_trace.specs.declared.state.Body.TheVariants.{Join, Commit}
+use Rattle.st_trace.specs.declared.state.Client.{Client}
+use Rattle.st_trace.specs.declared.state.Entry.{Entry}
+use Rattle.st_trace.specs.declared.state.WorldState.{WorldState}
+use Rattle.st_trace.specs.declared.state.Queued.{Queued}
 use Rattle.st_trace.specs.declared.world.World.{World}
 use Rattle.st_trace.proofs.Agreed.{joined_keeps, sent_keeps}
 use Rattle.st_trace.proofs.Begun.{IsStart, opened_start}
@@ -49,7 +49,7 @@ use Rattle.st_trace.proofs.Everyone.{all_after_join, all_as, all_get, all_sent, 
 use Rattle.st_trace.proofs.Keeping.{AreOne, kept_joined, run_more}
 use Rattle.st_trace.proofs.Logs.{entered_commits, last_entry}
 
-abbrev pub start_of : (w : World) (steps : ℕ) → IsSoundAfter steps w → IsStart (opened (header_view w.header))
+abbrev pub start_of : (w : World) (steps : ℕ) → IsSoundAfter steps w → IsStart (opening_document (header_view w.header))
 start_of w steps s = opened_start (header_view w.header) s.header
 
 -- a step on
@@ -73,7 +73,7 @@ sound_later steps w s = record {
 }
 
 -- one client goes on
-pub sound_client : (w : World) (i : ℕ) (c c' : Client) (k' : Kept) → IsSound w → slice_get w.lists.clients i ≡ Some c → AreOne (header_view w.header) w.lists.log c' k' → c'.session ≡ c.session → c'.ids ≤ c.ids + 1
+pub sound_client : (w : World) (i : ℕ) (c c' : Client) (k' : Replica) → IsSound w → slice_get w.lists.clients i ≡ Some c → AreOne (header_view w.header) w.lists.log c' k' → c'.session ≡ c.session → c'.ids ≤ c.ids + 1
     → KeepToSchema (header_view w.header) w.lists.log (slice_set w.lists.clients i c') → IsSoundAfter (w.steps + 1) (record w { lists = record w.lists { clients = slice_set w.lists.clients i c' }; kept = slice_set w.kept i k' })
 sound_client w i c c' k' s at one session ids keeps = record {
   header = s.header;
@@ -98,7 +98,7 @@ sound_client w i c c' k' s at one session ids keeps = record {
 
 -- the oldest text of a client, after the commits of the log
 pub record IsLast (h : HeaderView) (log : List Entry) (c : Client) (N : Intent) : Type 0 where
-  pub fit : FitInTurn (opened h) (commits_in log ++ N ∷ [])
+  pub fit : FitInTurn (opening_document h) (commits_in log ++ N ∷ [])
   pub new : HaveNewRevisions (opening ∷ []) (commits_in log ++ N ∷ [])
   pub session : N.rev.session ≡ c.session
 
@@ -108,10 +108,10 @@ is_last h log c q rest k is =
     let N = q.intent in
     let R = intents_of rest in
     let waiting : intents_of c.queue ≡ N ∷ R = ap intents_of is in
-    let all : sent log c ≡ (L ++ N ∷ []) ++ R = ap (λ l. L ++ l) waiting ∙ sym (append_assoc L (N ∷ []) R) in
+    let all : log_and_queue log c ≡ (L ++ N ∷ []) ++ R = ap (λ l. L ++ l) waiting ∙ sym (append_assoc L (N ∷ []) R) in
     let whole = subst (HaveNewRevisions (opening ∷ [])) all k.new in
     record {
-      fit = front (L ++ N ∷ []) R (opened h) (subst (FitInTurn (opened h)) all k.sent_fit);
+      fit = front (L ++ N ∷ []) R (opening_document h) (subst (FitInTurn (opening_document h)) all k.sent_fit);
       new = subst (HaveNewRevisions (opening ∷ [])) (append-nil (L ++ N ∷ [])) (new_shorter (opening ∷ []) ((L ++ N ∷ []) ++ []) ((L ++ N ∷ []) ++ R) (sublist_joined (sublist_itself (L ++ N ∷ [])) (sublist_none R)) whole);
       session = (subst (AllByRecursion (λ (M : Intent). M.rev.session ≡ c.session)) waiting k.own).0;
     }
@@ -151,9 +151,9 @@ limit_stopped log made = ap (λ b. cond (nat_le 65535 (length log)) (Some (recor
 
 pub sound_sent : (w : World) (i : ℕ) (c c' : Client) (q : Queued) (head : Doc) (known : BTreeMap ℕ ℕ) (v : Verdict) → IsSound w → slice_get w.lists.clients i ≡ Some c → c.queue ≡ q ∷ c'.queue → c' ≡ record c { queue = c'.queue }
     → length w.lists.log < 65535 → names_in (commits_in w.lists.log) + names_made q.intent ≤ 131072 → IsVerdict (document_of w.head) q.intent v → document_of head ≡ carried v (document_of w.head) q.intent
-    → AreKnown (entered w.lists.log c.session (Commit q.reference q.intent)) known
+    → AreKnown (log_with w.lists.log c.session (Commit q.reference q.intent)) known
     → IsSoundAfter (w.steps + 1) (record w {
-      lists = record w.lists { log = entered w.lists.log c.session (Commit q.reference q.intent); clients = slice_set w.lists.clients i c' };
+      lists = record w.lists { log = log_with w.lists.log c.session (Commit q.reference q.intent); clients = slice_set w.lists.clients i c' };
       head = head;
       known = known;
       names = w.names + names_made q.intent;
@@ -167,26 +167,26 @@ sound_sent w i c c' q head known v s at is is_c few few_names verdict after know
     let body = Commit q.reference q.intent in
     let k = kept_some h log w.lists.clients w.kept i c s.kept at in
     let last = is_last h log c q c'.queue k is in
-    let commits : L ++ N ∷ [] ≡ commits_in (entered log c.session body) = sym (entered_commits log c.session body) in
+    let commits : L ++ N ∷ [] ≡ commits_in (log_with log c.session body) = sym (entered_commits log c.session body) in
     let one_name : names_in (N ∷ []) ≡ names_made N = omega arith in
-    let names : names_in (commits_in (entered log c.session body)) ≡ names_in L + names_made N = ap names_in (sym commits) ∙ names_append L (N ∷ []) ∙ ap (λ n. names_in L + n) one_name in
+    let names : names_in (commits_in (log_with log c.session body)) ≡ names_in L + names_made N = ap names_in (sym commits) ∙ names_append L (N ∷ []) ∙ ap (λ n. names_in L + n) one_name in
     let set : slice_set w.lists.clients i (record c { queue = c'.queue }) ≡ slice_set w.lists.clients i c' = ap (slice_set w.lists.clients i) (sym is_c) in
     let size = length-set w.lists.clients i c' in
     let bound = session_bound 1 w.lists.clients i c s.sessions at in
     let low = all_get (λ (x : Client). x.ids ≤ w.steps) w.lists.clients i c s.ids at in
     record {
       header = s.header;
-      kept = subst (λ (cs : List Client). AreKept h (entered log c.session body) cs w.kept) set (all_sent h st log c q c'.queue k is few_names 1 w.lists.clients w.kept i s.sessions at s.kept);
+      kept = subst (λ (cs : List Client). AreReplicas h (log_with log c.session body) cs w.kept) set (all_sent h st log c q c'.queue k is few_names 1 w.lists.clients w.kept i s.sessions at s.kept);
       sessions = sessions_set 1 w.lists.clients i c c' s.sessions at (ap (λ (x : Client). x.session) is_c);
       clients = omega (arith, s.clients, size);
       ids = all_set (λ (x : Client). x.ids ≤ w.steps + 1) w.lists.clients i c' (all_as (λ (x : Client). x.ids ≤ w.steps) (λ (x : Client). x.ids ≤ w.steps + 1) w.lists.clients (λ x p. omega (arith, p)) s.ids)
           (omega (arith, low, ap (λ (x : Client). x.ids) is_c));
-      log = subst (λ n. AllByRecursion (IsEntryOf n) (entered log c.session body)) (sym size)
+      log = subst (λ n. AllByRecursion (IsEntryOf n) (log_with log c.session body)) (sym size)
           (all_append (IsEntryOf (length w.lists.clients)) log (last_entry log c.session body ∷ []) s.log ((omega (arith, bound), last.session), tt));
-      log_fit = subst (FitInTurn (opened h)) commits last.fit;
+      log_fit = subst (FitInTurn (opening_document h)) commits last.fit;
       log_new = subst (HaveNewRevisions (opening ∷ [])) commits last.new;
       schema = sent_keeps h st log w.lists.clients w.kept i c c' q s.kept at is is_c last.fit s.schema;
-      head = subst (λ l. Run (opened h) l (document_of head)) commits (run_more N (document_of head) v s.head verdict after);
+      head = subst (λ l. Run (opening_document h) l (document_of head)) commits (run_more N (document_of head) v s.head verdict after);
       entries = omega (arith, few, length-append log (last_entry log c.session body ∷ []));
       names = omega (arith, s.names, names);
       few_names = omega (arith, few_names, names);
@@ -206,10 +206,10 @@ of_sessions sessions (e ∷ es) N all i = go (commit_of e) all.0.1 i (λ j. of_s
     go (Some M) own (inl same) rest = let at : N.rev.session ≡ e.session = ap (λ (X : Intent). X.rev.session) (sym same) ∙ own in omega (arith, at, all.0.0)
     go (Some M) own (inr i) rest = rest i
 
-pub sound_joined : (w : World) (name : List ℕ) (n session : ℕ) (c : Client) (k : Kept) (known : BTreeMap ℕ ℕ) → IsSound w → length w.lists.clients < 64 → length w.lists.log < 65535 → session ≡ length w.lists.clients + 1
-    → n ≡ length w.lists.log + 1 → AreKnown (entered w.lists.log session Join) known → c ≡ joined n session name → document_of k.received ≡ document_of w.head → document_of k.shown ≡ document_of w.head → k.names ≡ 0
+pub sound_joined : (w : World) (name : List ℕ) (n session : ℕ) (c : Client) (k : Replica) (known : BTreeMap ℕ ℕ) → IsSound w → length w.lists.clients < 64 → length w.lists.log < 65535 → session ≡ length w.lists.clients + 1
+    → n ≡ length w.lists.log + 1 → AreKnown (log_with w.lists.log session Join) known → c ≡ new_client n session name → document_of k.received ≡ document_of w.head → document_of k.shown ≡ document_of w.head → k.names ≡ 0
     → IsSoundAfter (w.steps + 1) (record w {
-      lists = record w.lists { log = entered w.lists.log session Join; clients = w.lists.clients ++ c ∷ [] };
+      lists = record w.lists { log = log_with w.lists.log session Join; clients = w.lists.clients ++ c ∷ [] };
       kept = w.kept ++ k ∷ [];
       known = known;
     })
@@ -218,27 +218,27 @@ sound_joined w name n session c k known s few few_entries is_s is_n knows is_c r
     let st = start_of w w.steps s in
     let log = w.lists.log in
     let L = commits_in log in
-    let commits : L ≡ commits_in (entered log session Join) = sym (entered_commits log session Join ∙ append-nil L) in
-    let size : length (entered log session Join) ≡ length log + 1 = omega (arith, length-append log (last_entry log session Join ∷ [])) in
+    let commits : L ≡ commits_in (log_with log session Join) = sym (entered_commits log session Join ∙ append-nil L) in
+    let size : length (log_with log session Join) ≡ length log + 1 = omega (arith, length-append log (last_entry log session Join ∷ [])) in
     let more : length (w.lists.clients ++ c ∷ []) ≡ length w.lists.clients + 1 = omega (arith, length-append w.lists.clients (c ∷ [])) in
     let client = client_joined h st log session name s.log_fit s.log_new (λ N i e. omega (arith, of_sessions (length w.lists.clients) log N s.log i, e, is_s)) in
-    let kept = kept_joined h st (entered log session Join) (length log + 1) session name k (document_of w.head) (sym size) (subst (λ l. Run (opened h) l (document_of w.head)) commits s.head) received shown no_names in
-    let is : joined (length log + 1) session name ≡ c = ap (λ m. joined m session name) (sym is_n) ∙ sym is_c in
+    let kept = kept_joined h st (log_with log session Join) (length log + 1) session name k (document_of w.head) (sym size) (subst (λ l. Run (opening_document h) l (document_of w.head)) commits s.head) received shown no_names in
+    let is : new_client (length log + 1) session name ≡ c = ap (λ m. new_client m session name) (sym is_n) ∙ sym is_c in
     record {
       header = s.header;
-      kept = kept_push h (entered log session Join) w.lists.clients w.kept c k (all_after_join h st log session w.lists.clients w.kept s.kept)
-          (subst (λ x. IsClient h (entered log session Join) x) is client) (subst (λ x. IsKept h (entered log session Join) x k) is kept);
+      kept = kept_push h (log_with log session Join) w.lists.clients w.kept c k (all_after_join h st log session w.lists.clients w.kept s.kept)
+          (subst (λ x. IsClient h (log_with log session Join) x) is client) (subst (λ x. IsReplicaOf h (log_with log session Join) x k) is kept);
       sessions = sessions_push 1 w.lists.clients c s.sessions (ap (λ (x : Client). x.session) is_c ∙ is_s ∙ omega arith);
       clients = omega (arith, few, more);
       ids = all_append (λ (x : Client). x.ids ≤ w.steps + 1) w.lists.clients (c ∷ []) (all_as (λ (x : Client). x.ids ≤ w.steps) (λ (x : Client). x.ids ≤ w.steps + 1) w.lists.clients (λ x p. omega (arith, p)) s.ids)
           (omega (arith, ap (λ (x : Client). x.ids) is_c), tt);
-      log = subst (λ m. AllByRecursion (IsEntryOf m) (entered log session Join)) (sym more)
+      log = subst (λ m. AllByRecursion (IsEntryOf m) (log_with log session Join)) (sym more)
           (all_append (IsEntryOf (length w.lists.clients + 1)) log (last_entry log session Join ∷ [])
           (all_as (IsEntryOf (length w.lists.clients)) (IsEntryOf (length w.lists.clients + 1)) log (λ e p. (omega (arith, p.0), p.1)) s.log) ((omega (arith, is_s), tt), tt));
-      log_fit = subst (FitInTurn (opened h)) commits s.log_fit;
+      log_fit = subst (FitInTurn (opening_document h)) commits s.log_fit;
       log_new = subst (HaveNewRevisions (opening ∷ [])) commits s.log_new;
       schema = joined_keeps h st log w.lists.clients w.kept session name c s.kept (sym is) s.schema;
-      head = subst (λ l. Run (opened h) l (document_of w.head)) commits s.head;
+      head = subst (λ l. Run (opening_document h) l (document_of w.head)) commits s.head;
       entries = omega (arith, few_entries, size);
       names = s.names ∙ ap names_in commits;
       few_names = omega (arith, s.few_names, ap names_in commits);
@@ -249,7 +249,7 @@ sound_joined w name n session c k known s few few_entries is_s is_n knows is_c r
 -- ## Answers
 
 -- all steps but a join are those of the client that they name
-pub next_other : (h : HeaderView) (w : Lists) (s : StepView) (v : Lists) (a : Answer) → ((name : List ℕ) → s ≡ step.join name → ⊥) → AtClient h w s (found (name_of s) w.clients) v a → IsNext h w s v a
+pub next_other : (h : HeaderView) (w : WorldState) (s : StepView) (v : WorldState) (a : Answer) → ((name : List ℕ) → s ≡ step.join name → ⊥) → AtClient h w s (client_named (name_of s) w.clients) v a → IsNext h w s v a
 next_other h w (step.join name) v a other is = absurd (other name refl)
 next_other h w (step.insert name branch at key index items) v a other is = is
 next_other h w (step.remove name branch at key index count) v a other is = is
@@ -260,31 +260,31 @@ next_other h w (step.sequence name) v a other is = is
 next_other h w (step.deliver name) v a other is = is
 next_other h w (step.show name branch) v a other is = is
 
-pub next_absent : (h : HeaderView) (w : Lists) (s : StepView) → place_of (name_of s) w.clients ≡ None → AtClient h w s (found (name_of s) w.clients) w (No NoClient)
+pub next_absent : (h : HeaderView) (w : WorldState) (s : StepView) → place_of (name_of s) w.clients ≡ None → AtClient h w s (client_named (name_of s) w.clients) w (No NoClient)
 next_absent h w s none = rw none (refl, refl)
 
 -- what the client at the place does
-pub next_present : (h : HeaderView) (w : Lists) (s : StepView) (i : ℕ) (v : Lists) (a : Answer) → place_of (name_of s) w.clients ≡ Some i
-    → ((c : Client) → slice_get w.clients i ≡ Some c → OnBranch (branch_of s) w v a (IsNextOf h w s i c v a)) → AtClient h w s (found (name_of s) w.clients) v a
+pub next_present : (h : HeaderView) (w : WorldState) (s : StepView) (i : ℕ) (v : WorldState) (a : Answer) → place_of (name_of s) w.clients ≡ Some i
+    → ((c : Client) → slice_get w.clients i ≡ Some c → OnBranch (branch_of s) w v a (IsNextOf h w s i c v a)) → AtClient h w s (client_named (name_of s) w.clients) v a
 next_present h w s i v a is does = rw is (at (slice_get w.clients i) refl)
   where
     within : i < length w.clients
-    within = (position-Some (λ (c : Client). pointwise nat_eq c.name (name_of s)) w.clients i (joined 0 0 []) is).0
+    within = (position-Some (λ (c : Client). pointwise nat_eq c.name (name_of s)) w.clients i (new_client 0 0 []) is).0
 
     at : (o : Option Client) → slice_get w.clients i ≡ o → AtClient h w s (option_map (λ c. (i, c)) (slice_get w.clients i)) v a
     at None none = absurd (past w.clients i within none)
     at (Some c) there = rw there (does c there)
 
-pub on_main : (branch : ℕ) (w v : Lists) (a : Answer) (next : Type 0) → branch ≡ 0 → next → OnBranch branch w v a next
+pub on_main : (branch : ℕ) (w v : WorldState) (a : Answer) (next : Type 0) → branch ≡ 0 → next → OnBranch branch w v a next
 on_main zero w v a next e n = n
 on_main (suc k) w v a next e n = absurd (omega (arith, e))
 
-pub on_none : (branch : ℕ) (w : Lists) (next : Type 0) → (branch ≡ 0 → ⊥) → OnBranch branch w w (No NoBranch) next
+pub on_none : (branch : ℕ) (w : WorldState) (next : Type 0) → (branch ≡ 0 → ⊥) → OnBranch branch w w (No NoBranch) next
 on_none zero w next e = absurd (e refl)
 on_none (suc k) w next e = (refl, refl)
 
 -- a client whose queue is empty sends nothing
-pub next_unsent : (w : Lists) (i : ℕ) (c q : Client) → slice_get w.clients i ≡ Some c → slice_get w.clients i ≡ Some q → c.queue ≡ [] → sequence w i q q.queue ≡ (w, No NothingToSend)
+pub next_unsent : (w : WorldState) (i : ℕ) (c q : Client) → slice_get w.clients i ≡ Some c → slice_get w.clients i ≡ Some q → c.queue ≡ [] → sequence w i q q.queue ≡ (w, No NothingToSend)
 next_unsent w i c q at_c at_q none =
     let same : c ≡ q = cc in
     let empty : q.queue ≡ [] = rw (← same) none in

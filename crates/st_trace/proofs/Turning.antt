@@ -8,7 +8,7 @@ use Rattle.st_marks.specs.Document.{Document, IsSoundInForm}
 use Rattle.st_marks.specs.Run.{Run}
 use Rattle.st_marks.specs.Verdict.{IsVerdict, carried}
 use Rattle.st_marks.proofs.OneVerdict.{carried_extends}
-use Rattle.st_commits.specs.Turns.{FitInTurn}
+use Rattle.st_log_laws.specs.Turns.{FitInTurn}
 use Rattle.st_trace.proofs.Keeping.{run_more}
 use Rattle.st_trace.proofs.Logs.{drop-get, take-get}
 

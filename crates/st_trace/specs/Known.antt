@@ -3,7 +3,7 @@ use Rattle.std.specs.Prelude.{◌≡◌, ℕ, List, unwrap_or}
 use Rattle.std.specs.BTreeMap.{BTreeMap, get}
 use Rattle.std.specs.Ordering.{nat_cmp}
 use Rattle.st_trace.specs.Log.{known_reference}
-use Rattle.st_trace.specs.declared.lists.Entry.{Entry}
+use Rattle.st_trace.specs.declared.state.Entry.{Entry}
 
 abbrev pub known_so_far : BTreeMap ℕ ℕ → ℕ → ℕ
 known_so_far known session = unwrap_or (get nat_cmp known session) 0

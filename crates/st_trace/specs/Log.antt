@@ -2,10 +2,10 @@
 use Rattle.std.specs.Prelude.{ℕ, ◌+◌, ◌==◌, min, max, List, [], ◌∷◌, ◌++◌, length, fold, Option, Some, None, if◌then◌else◌}
 use Rattle.std.specs.List.{filter_map}
 use Rattle.st_marks.specs.declared.intents.Intent.{Intent}
-use Rattle.st_trace.specs.declared.lists.Body.{Body}
-use Rattle.st_trace.specs.declared.lists.Body.TheVariants.{Join, Commit}
-use Rattle.st_trace.specs.declared.lists.Client.{Client}
-use Rattle.st_trace.specs.declared.lists.Entry.{Entry}
+use Rattle.st_trace.specs.declared.state.Body.{Body}
+use Rattle.st_trace.specs.declared.state.Body.TheVariants.{Join, Commit}
+use Rattle.st_trace.specs.declared.state.Client.{Client}
+use Rattle.st_trace.specs.declared.state.Entry.{Entry}
 
 -- the commit of an entry, if it is one
 abbrev pub commit_in : Body → Option Intent
@@ -20,23 +20,23 @@ abbrev pub commits_in : List Entry → List Intent
 commits_in entries = filter_map commit_of entries
 
 -- the log with one more entry
-abbrev pub entered : List Entry → ℕ → Body → List Entry
-entered log session body = log ++ record { n = length log + 1; session = session; body = body } ∷ []
+abbrev pub log_with : List Entry → ℕ → Body → List Entry
+log_with log session body = log ++ record { n = length log + 1; session = session; body = body } ∷ []
 
 -- up to which entry its session had received the log: a join says so of itself, a commit by its reference
-abbrev pub heard_in : ℕ → Body → ℕ
-heard_in n Join = n
-heard_in n (Commit reference intent) = reference
+abbrev pub reference_in : ℕ → Body → ℕ
+reference_in n Join = n
+reference_in n (Commit reference intent) = reference
 
-abbrev pub heard : Entry → ℕ
-heard e = heard_in e.n e.body
+abbrev pub reference_of : Entry → ℕ
+reference_of e = reference_in e.n e.body
 
 -- the known reference of a session: the greatest that its entries say
-abbrev pub raised : ℕ → ℕ → Entry → ℕ
-raised session known e = if e.session == session then max known (heard e) else known
+abbrev pub with_reference : ℕ → ℕ → Entry → ℕ
+with_reference session known e = if e.session == session then max known (reference_of e) else known
 
 abbrev pub known_reference : ℕ → List Entry → ℕ
-known_reference session log = fold (raised session) 0 log
+known_reference session log = fold (with_reference session) 0 log
 
 -- the least known reference of the clients; with no client, the number of the last entry
 abbrev pub minimum : List Entry → List Client → ℕ

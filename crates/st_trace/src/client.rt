@@ -6,17 +6,17 @@ ghost use Rattle.st_marks.specs.Intent.{Fits};
 ghost use Rattle.st_marks.specs.Run.{Run};
 ghost use Rattle.st_doc.specs.Doc.{document_of};
 ghost use Rattle.st_edits.specs.Resolve.{IsWithin, resolve};
-ghost use Rattle.st_commits.specs.Turns.{FitInTurn};
+ghost use Rattle.st_log_laws.specs.Turns.{FitInTurn};
 ghost use Rattle.st_trace.specs.Edits.{word_of, edit_of};
-ghost use Rattle.st_trace.specs.Kept.{IsCommitted, IsPending, IsEditedKept, HasCarried, HasReceivedOne, CanReceive, HasReceivedNext, HasMoved};
-ghost use Rattle.st_trace.specs.World.{names_made, names_in, next_rev, committed, given, refused, limit_passed, pends, edited, answered, is_own, taken, IsDeliveredTo, joined};
+ghost use Rattle.st_trace.specs.Replica.{IsCommitted, IsPending, IsEditedReplica, HasCarried, HasReceivedOne, CanReceive, HasReceivedNext, HasMoved};
+ghost use Rattle.st_trace.specs.World.{names_made, names_in, next_rev, with_commit, next_names, refusal_of, limit_passed, with_pending, after_edit, answer_of, is_own, with_received, IsDeliveredTo, new_client};
 
 use crate::edits::resolve_step;
-use crate::kept::Kept;
-use crate::lists::{Body, Client, Entry, Queued};
 use crate::names::names_made;
+use crate::replica::Replica;
+use crate::state::{Body, Client, Entry, Queued};
 use st_doc::Doc;
-use st_edits::Given;
+use st_edits::NameCounters;
 use st_ids::{Copied, Limit, LimitOf, List, Or, Rev, Text};
 use st_marks::{Intent, Verdict};
 use st_schema::Schema;
@@ -41,8 +41,8 @@ pub enum EditWord {
 }
 
 // The answer to an edit whose commit is pending.
-fn answered(done: EditWord, rev: Rev) -> Answer
-    ensures { result ≡ answered done rev }
+fn answer_of(done: EditWord, rev: Rev) -> Answer
+    ensures { result ≡ answer_of done rev }
 {
     match done {
         EditWord::Insert => Answer::Insert { rev },
@@ -54,8 +54,8 @@ fn answered(done: EditWord, rev: Rev) -> Answer
 }
 
 // What is refused of an edit.
-fn refused(fault: EditFault) -> Refusal
-    ensures { result ≡ refused fault }
+fn refusal_of(fault: EditFault) -> Refusal
+    ensures { result ≡ refusal_of fault }
 {
     match fault {
         EditFault::NoNode { depth } => Refusal::NoNode { depth },
@@ -68,13 +68,13 @@ fn refused(fault: EditFault) -> Refusal
 }
 
 // The names that a client's next commit may give.
-fn given(client: &Client) -> Given
+fn next_names(client: &Client) -> NameCounters
     requires { client.now.ids + 1 < 2 ^ 32 }
-    ensures { result ≡ given client.now }
+    ensures { result ≡ next_names client.now }
 {
     let session = client.session;
     let num = client.ids + 1;
-    Given {
+    NameCounters {
         rev: Rev { session, num },
         nodes: 0,
         cells: 0,
@@ -105,7 +105,7 @@ fn limit_passed(client: &Client, names: u64, intent: &Intent) -> Option<Limit>
 // Keeps a commit as pending and in the queue.
 fn enqueue(alloc: Global, client: &mut Client, intent: Intent) -> Result<(), AllocError>
     requires few { client.old.ids + 1 < 2 ^ 32 }
-    ensures client { OnOk result (client.new ≡ committed client.old intent) }
+    ensures client { OnOk result (client.new ≡ with_commit client.old intent) }
 {
     client.pending.push(intent.copy(alloc)?)?;
     let reference = client.received;
@@ -118,14 +118,14 @@ fn enqueue(alloc: Global, client: &mut Client, intent: Intent) -> Result<(), All
 fn commit(
     alloc: Global,
     client: &mut Client,
-    kept: &mut Kept,
+    kept: &mut Replica,
     intent: Intent,
 ) -> Result<(), AllocError>
     requires few { client.old.ids + 1 < 2 ^ 32 }
     requires names { kept.old.names + names_made intent ≤ 16384 }
     requires sound { IsSoundInForm (document_of kept.old.shown) }
     requires fits { Fits (document_of kept.old.shown) intent }
-    ensures client { OnOk result (client.new ≡ committed client.old intent) }
+    ensures client { OnOk result (client.new ≡ with_commit client.old intent) }
     ensures kept { OnOk result (IsCommitted kept.old intent kept.new) }
 {
     kept.names += names_made(&intent);
@@ -135,10 +135,10 @@ fn commit(
 }
 
 // Keeps a commit as pending, if it passes no limit.
-fn pend(
+fn add_pending(
     alloc: Global,
     client: &mut Client,
-    kept: &mut Kept,
+    kept: &mut Replica,
     done: EditWord,
     intent: Intent,
 ) -> Result<Answer, AllocError>
@@ -148,15 +148,15 @@ fn pend(
     requires few_names { names_in client.old.pending ≤ 16384 }
     requires sound { IsSoundInForm (document_of kept.old.shown) }
     requires fits { Fits (document_of kept.old.shown) intent }
-    ensures answer { IfOk result (λ a. pends client.old done intent (limit_passed client.old intent) ≡ (client.new, a)) }
+    ensures answer { IfOk result (λ a. with_pending client.old done intent (limit_passed client.old intent) ≡ (client.new, a)) }
     ensures kept { OnOk result (IsPending kept.old intent (limit_passed client.old intent) kept.new) }
 {
     if let Some(limit) = limit_passed(client, kept.names, &intent) {
         return Ok(Answer::No(Refusal::Limit(limit)));
     }
-    let rev = given(client).rev;
+    let rev = next_names(client).rev;
     commit(alloc, client, kept, intent)?;
-    Ok(answered(done, rev))
+    Ok(answer_of(done, rev))
 }
 
 /// Makes an edit of the tree that a client shows, or refuses it.
@@ -164,7 +164,7 @@ pub fn edit(
     alloc: Global,
     schema: &Schema,
     client: &mut Client,
-    kept: &mut Kept,
+    kept: &mut Replica,
     done: EditWord,
     step: &TraceStep,
 ) -> Result<Answer, AllocError>
@@ -177,16 +177,16 @@ pub fn edit(
     requires sound { IsSoundInForm (document_of kept.old.shown) }
     requires fresh_nodes { (k : ℕ) → (document_of kept.old.shown).nodes (node_named (next_rev client.old) k) ≡ None }
     requires fresh_cells { (k : ℕ) → (document_of kept.old.shown).row_of (cell_named (next_rev client.old) k) ≡ None }
-    ensures answer { IfOk result (λ a. edited client.old done (resolve (document_of kept.old.shown) schema.now (given client.old) (edit_of step.now)) ≡ (client.new, a)) }
-    ensures kept { OnOk result (IsEditedKept client.old kept.old (resolve (document_of kept.old.shown) schema.now (given client.old) (edit_of step.now)) kept.new) }
+    ensures answer { IfOk result (λ a. after_edit client.old done (resolve (document_of kept.old.shown) schema.now (next_names client.old) (edit_of step.now)) ≡ (client.new, a)) }
+    ensures kept { OnOk result (IsEditedReplica client.old kept.old (resolve (document_of kept.old.shown) schema.now (next_names client.old) (edit_of step.now)) kept.new) }
 {
     schema.is_kept();
-    match resolve_step(alloc, &kept.shown, schema, given(client), step) {
+    match resolve_step(alloc, &kept.shown, schema, next_names(client), step) {
         Ok(intent) => {
-            let answer = pend(alloc, client, kept, done, intent)?;
+            let answer = add_pending(alloc, client, kept, done, intent)?;
             Ok(answer)
         }
-        Err(Or::Fault(fault)) => Ok(Answer::No(refused(fault))),
+        Err(Or::Fault(fault)) => Ok(Answer::No(refusal_of(fault))),
         Err(Or::NoMemory) => Err(AllocError),
     }
 }
@@ -204,7 +204,7 @@ fn carry_all(alloc: Global, doc: &mut Doc, intents: &[Intent]) -> Result<(), All
 }
 
 // Makes the document that a client shows, from what it received and what it has pending.
-fn refold(alloc: Global, kept: &mut Kept, pending: &[Intent]) -> Result<(), AllocError>
+fn replay_pending(alloc: Global, kept: &mut Replica, pending: &[Intent]) -> Result<(), AllocError>
     requires sound { IsSoundInForm (document_of kept.old.received) }
     requires fit { FitInTurn (document_of kept.old.received) pending.now }
     ensures shown { OnOk result (Run (document_of kept.old.received) pending.now (document_of kept.new.shown)) }
@@ -218,7 +218,7 @@ fn refold(alloc: Global, kept: &mut Kept, pending: &[Intent]) -> Result<(), Allo
 }
 
 // A commit of the client's own comes back: it is no longer pending, and what the client shows stays.
-fn receive_own(alloc: Global, kept: &mut Kept, intent: &Intent) -> Result<Verdict, AllocError>
+fn receive_own(alloc: Global, kept: &mut Replica, intent: &Intent) -> Result<Verdict, AllocError>
     requires sound { IsSoundInForm (document_of kept.old.received) }
     requires fits { Fits (document_of kept.old.received) intent.now }
     requires names { names_made intent.now ≤ kept.old.names }
@@ -233,7 +233,7 @@ fn receive_own(alloc: Global, kept: &mut Kept, intent: &Intent) -> Result<Verdic
 }
 
 // A commit comes where nothing is pending.
-fn receive_last(alloc: Global, kept: &mut Kept, intent: &Intent) -> Result<Verdict, AllocError>
+fn receive_last(alloc: Global, kept: &mut Replica, intent: &Intent) -> Result<Verdict, AllocError>
     requires sound { IsSoundInForm (document_of kept.old.received) }
     requires same { document_of kept.old.shown ≡ document_of kept.old.received }
     requires fits { Fits (document_of kept.old.received) intent.now }
@@ -249,7 +249,7 @@ fn receive_last(alloc: Global, kept: &mut Kept, intent: &Intent) -> Result<Verdi
 // A commit comes before those that are pending, which are carried out anew.
 fn receive_before(
     alloc: Global,
-    kept: &mut Kept,
+    kept: &mut Replica,
     intent: &Intent,
     pending: &[Intent],
 ) -> Result<Verdict, AllocError>
@@ -260,7 +260,7 @@ fn receive_before(
     ensures names { OnOk result (kept.new.names ≡ kept.old.names) }
 {
     let verdict = kept.received.carry(alloc, intent)?;
-    refold(alloc, kept, pending)?;
+    replay_pending(alloc, kept, pending)?;
     Ok(verdict)
 }
 
@@ -268,7 +268,7 @@ fn receive_before(
 fn receive(
     alloc: Global,
     client: &Client,
-    kept: &mut Kept,
+    kept: &mut Replica,
     is_own: bool,
     intent: &Intent,
 ) -> Result<Verdict, AllocError>
@@ -303,7 +303,7 @@ fn is_from(entry: &Entry, client: &Client) -> bool
 fn receive_entry(
     alloc: Global,
     client: &Client,
-    kept: &mut Kept,
+    kept: &mut Replica,
     entry: &Entry,
 ) -> Result<Verdict, AllocError>
     requires sound { IsSoundInForm (document_of kept.old.received) }
@@ -323,9 +323,9 @@ fn receive_entry(
 }
 
 // Notes that a client received an entry: a commit of its own is no longer pending.
-fn take(client: &mut Client, entry: &Entry)
+fn advance(client: &mut Client, entry: &Entry)
     requires { client.old.received + 1 < 2 ^ 32 }
-    ensures { client.new ≡ taken entry.now client.old }
+    ensures { client.new ≡ with_received entry.now client.old }
 {
     if is_own(entry, client) && !client.pending.is_empty() {
         let _ = client.pending.remove(0);
@@ -355,7 +355,7 @@ pub fn deliver(
     alloc: Global,
     log: &[Entry],
     client: &mut Client,
-    kept: &mut Kept,
+    kept: &mut Replica,
 ) -> Result<Answer, AllocError>
     requires entries { length log.now < 2 ^ 32 - 1 }
     requires sound { IsSoundInForm (document_of kept.old.received) }
@@ -369,7 +369,7 @@ pub fn deliver(
         return Ok(Answer::No(Refusal::NothingNew));
     };
     let void = receive_entry(alloc, client, kept, entry)?;
-    take(client, entry);
+    advance(client, entry);
     let n = client.received;
     Ok(Answer::Deliver { n, void })
 }
@@ -396,8 +396,8 @@ pub fn take_text(client: &mut Client) -> Option<Queued>
 }
 
 /// A client that has received so many entries, with its own join as the last.
-pub fn joined(alloc: Global, n: u32, session: u32, name: &Text) -> Result<Client, AllocError>
-    ensures { IfOk result (λ c. c ≡ joined n session name.now) }
+pub fn new_client(alloc: Global, n: u32, session: u32, name: &Text) -> Result<Client, AllocError>
+    ensures { IfOk result (λ c. c ≡ new_client n session name.now) }
 {
     Ok(Client {
         name: name.copy(alloc)?,
@@ -411,14 +411,14 @@ pub fn joined(alloc: Global, n: u32, session: u32, name: &Text) -> Result<Client
 
 /// What is kept of a client that has received the whole log, to whose commits `head` is the document, and has nothing
 /// pending.
-pub fn opened(alloc: Global, head: &Doc) -> Result<Kept, AllocError>
+pub fn new_replica(alloc: Global, head: &Doc) -> Result<Replica, AllocError>
     ensures received { IfOk result (λ k. document_of k.received ≡ document_of head.now) }
     ensures shown { IfOk result (λ k. document_of k.shown ≡ document_of head.now) }
     ensures names { IfOk result (λ k. k.names ≡ 0) }
 {
     let received = head.copy(alloc)?;
     let shown = head.copy(alloc)?;
-    Ok(Kept {
+    Ok(Replica {
         received,
         shown,
         names: 0,

@@ -7,7 +7,7 @@ ghost use Rattle.st_trace.specs.Edits.{word_of, edit_of};
 
 use crate::client::EditWord;
 use st_doc::Doc;
-use st_edits::Given;
+use st_edits::NameCounters;
 use st_ids::Or;
 use st_marks::Intent;
 use st_resolve::{clear, insert, move_items, remove, set};
@@ -35,7 +35,7 @@ pub fn resolve_step(
     alloc: Global,
     doc: &Doc,
     schema: &Schema,
-    given: Given,
+    given: NameCounters,
     step: &TraceStep,
 ) -> Result<Intent, Or<EditFault>>
     requires edit { is_some (word_of step.now) ≡ true }

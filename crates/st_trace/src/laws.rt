@@ -2,13 +2,13 @@
 ghost use Rattle.st_script.specs.Header.{header_view};
 ghost use Rattle.st_script.specs.Steps.{StepView};
 ghost use Rattle.st_script.specs.declared.answer.Answer.{Answer};
-ghost use Rattle.st_trace.specs.Kept.{IsSound};
+ghost use Rattle.st_trace.specs.Replica.{IsSound};
 ghost use Rattle.st_trace.specs.World.{IsNext};
-ghost use Rattle.st_trace.specs.declared.lists.Lists.{Lists};
+ghost use Rattle.st_trace.specs.declared.state.WorldState.{WorldState};
 ghost use Rattle.st_trace.specs.declared.world.World.{World};
 
 /// From each sound world each step leads to a next world, and has an answer.
 pub fn each_step_has_a_next()
     ensures { (w : World) (s : StepView) → IsSound w
-        → (v : Lists) × (a : Answer) × IsNext (header_view w.header) w.lists s v a }
+        → (v : WorldState) × (a : Answer) × IsNext (header_view w.header) w.lists s v a }
 {}

@@ -3,14 +3,14 @@
 
 mod client;
 mod edits;
-mod kept;
 mod laws;
-mod lists;
 mod log;
 mod names;
+mod replica;
+mod state;
 mod world;
 
 pub use client::EditWord;
 pub use laws::each_step_has_a_next;
-pub use lists::{Body, Client, Entry, Lists, Queued};
+pub use state::{Body, Client, Entry, Queued, WorldState};
 pub use world::{Spent, World};

@@ -1,16 +1,16 @@
 //! The log, and how much of it each session is known to have received.
 ghost use Rattle.std.specs.Prelude.{◌≡◌, ℕ, ◌+◌, ◌^◌, ◌<◌, length, fold, min, OnOk};
-ghost use Rattle.st_trace.specs.Log.{entered, heard, raised};
+ghost use Rattle.st_trace.specs.Log.{log_with, reference_of, with_reference};
 ghost use Rattle.st_trace.specs.Known.{known_so_far, AreKnown};
 
-use crate::lists::{Body, Client, Entry};
+use crate::state::{Body, Client, Entry};
 use st_ids::List;
 use std::alloc::AllocError;
 use std::collections::BTreeMap;
 
 // Up to which entry the session of an entry had received the log.
-fn heard(entry: &Entry) -> u32
-    ensures { result ≡ heard entry.now }
+fn reference_of(entry: &Entry) -> u32
+    ensures { result ≡ reference_of entry.now }
 {
     match &entry.body {
         Body::Join => entry.n,
@@ -26,16 +26,16 @@ fn known_so_far(known: &BTreeMap<u32, u32>, session: u32) -> u32
 }
 
 // Takes note of what an entry says of its session.
-fn note(known: &mut BTreeMap<u32, u32>, entry: &Entry) -> Result<(), AllocError>
-    ensures { OnOk result ((session : ℕ) → known_so_far known.new session ≡ raised session (known_so_far known.old session) entry.now) }
+fn note_reference(known: &mut BTreeMap<u32, u32>, entry: &Entry) -> Result<(), AllocError>
+    ensures { OnOk result ((session : ℕ) → known_so_far known.new session ≡ with_reference session (known_so_far known.old session) entry.now) }
 {
     let known_before = known_so_far(known, entry.session);
-    known.insert(entry.session, known_before.max(heard(entry)))?;
+    known.insert(entry.session, known_before.max(reference_of(entry)))?;
     Ok(())
 }
 
 /// Puts an entry at the end of the log. After an `Err` nothing is promised of either.
-pub fn enter(
+pub fn append_entry(
     log: &mut List<Entry>,
     known: &mut BTreeMap<u32, u32>,
     session: u32,
@@ -43,12 +43,12 @@ pub fn enter(
 ) -> Result<(), AllocError>
     requires few { length log.old + 1 < 2 ^ 32 }
     requires known { AreKnown log.old known.old }
-    ensures log { OnOk result (log.new ≡ entered log.old session body) }
+    ensures log { OnOk result (log.new ≡ log_with log.old session body) }
     ensures known { OnOk result (AreKnown log.new known.new) }
 {
     let n = log.len() as u32 + 1;
     let entry = Entry { n, session, body };
-    note(known, &entry)?;
+    note_reference(known, &entry)?;
     log.push(entry)?;
     Ok(())
 }

@@ -10,20 +10,20 @@ ghost use Rattle.st_script.specs.Steps.{step_view, IsOfForm};
 ghost use Rattle.st_doc.specs.LiveText.{is_among};
 ghost use Rattle.st_edits.specs.Resolve.{IsWithin, resolve};
 ghost use Rattle.st_edits.specs.ArrayTypes.{is_array_type};
-ghost use Rattle.st_trace.specs.World.{begun, opened, names_made, place_of, over, log_limit_passed, join, sequence, given, IsEdited, IsDelivered, IsShown, IsNextOf, IsNext, AtRefusal, ShowsAllowed};
-ghost use Rattle.st_trace.specs.Kept.{IsHeader, IsSound, IsSoundNext};
+ghost use Rattle.st_trace.specs.World.{empty_state, opening_document, names_made, place_of, limit_refusal, log_limit_passed, join, sequence, next_names, IsEdited, IsDelivered, IsShown, IsNextOf, IsNext, AtRefusal, ShowsAllowed};
+ghost use Rattle.st_trace.specs.Replica.{IsHeader, IsSound, IsSoundNext};
 ghost use Rattle.st_trace.specs.Known.{AreKnown};
-ghost use Rattle.st_trace.specs.Log.{entered, minimum};
-ghost use Rattle.st_trace.specs.declared.lists.Body.TheVariants.{Commit};
+ghost use Rattle.st_trace.specs.Log.{log_with, minimum};
+ghost use Rattle.st_trace.specs.declared.state.Body.TheVariants.{Commit};
 ghost use Rattle.st_trace.specs.Edits.{word_of, edit_of};
-ghost use Rattle.st_trace.specs.declared.lists.Client.{Client as Present};
+ghost use Rattle.st_trace.specs.declared.state.Client.{Client as Present};
 
 use crate::client::{self, EditWord};
 use crate::edits::word_of;
-use crate::kept::Kept;
-use crate::lists::{Body, Client, Lists, Queued};
-use crate::log::{enter, least_known};
+use crate::log::{append_entry, least_known};
 use crate::names::names_made;
+use crate::replica::Replica;
+use crate::state::{Body, Client, Queued, WorldState};
 use st_doc::Doc;
 use st_ids::{Copied, Limit, LimitOf, List, Or, Text};
 use st_marks::Intent;
@@ -49,8 +49,8 @@ pub struct World {
     pub header: Header,
     pub arrays: List<Text>,
     pub head: Doc,
-    pub lists: Lists,
-    pub kept: List<Kept>,
+    pub lists: WorldState,
+    pub kept: List<Replica>,
     pub known: BTreeMap<u32, u32>,
     pub names: u64,
     pub steps: u32,
@@ -71,8 +71,8 @@ fn place_of(clients: &[Client], name: &str) -> Option<usize>
 }
 
 // A refusal by a limit, with the count that stands.
-fn over(of: LimitOf, kept: u32) -> Answer
-    ensures { result ≡ over (record { of = of; kept = kept }) }
+fn limit_refusal(of: LimitOf, kept: u32) -> Answer
+    ensures { result ≡ limit_refusal (record { of = of; kept = kept }) }
 {
     Answer::No(Refusal::Limit(Limit { of, kept }))
 }
@@ -103,7 +103,7 @@ fn array_types(alloc: Global, schema: &Schema) -> Result<List<Text>, AllocError>
 // The document of a header's tree.
 fn opening(alloc: Global, header: &Header) -> Result<Doc, AllocError>
     requires { IsHeader (header_view header.now) }
-    ensures { IfOk result (λ d. document_of d ≡ opened (header_view header.now)) }
+    ensures { IfOk result (λ d. document_of d ≡ opening_document (header_view header.now)) }
 {
     let schema = header.schema.text(alloc)?;
     let doc = Doc::start(alloc, schema, &header.tree)?;
@@ -114,7 +114,7 @@ impl World {
     /// The world that opens with a header, before any client joins.
     pub fn new(alloc: Global, header: Header) -> Result<World, AllocError>
         requires { IsHeader (header_view header) }
-        ensures lists { IfOk result (λ w. w.lists ≡ begun) }
+        ensures lists { IfOk result (λ w. w.lists ≡ empty_state) }
         ensures header { IfOk result (λ w. w.header ≡ header) }
         ensures sound { IfOk result IsSound }
         ensures fresh { IfOk result (λ w. (w.spent ≡ false) × (w.steps ≡ 0)) }
@@ -125,7 +125,7 @@ impl World {
             header,
             arrays,
             head,
-            lists: Lists {
+            lists: WorldState {
                 log: List::new(alloc),
                 clients: List::new(alloc),
             },
@@ -150,7 +150,7 @@ impl World {
         requires edit { is_some (word_of step.now) ≡ true }
         requires within { IsWithin (edit_of step.now) }
         ensures next { IfOk result (λ a. (c : Present) → slice_get self.old.lists.clients i ≡ Some c
-            → IsEdited (header_view self.old.header) self.old.lists i c done (λ D. resolve D (header_view self.old.header).schema (given c) (edit_of step.now)) self.new.lists a) }
+            → IsEdited (header_view self.old.header) self.old.lists i c done (λ D. resolve D (header_view self.old.header).schema (next_names c) (edit_of step.now)) self.new.lists a) }
         ensures sound { OnOk result (IsSoundNext self.new) }
         ensures steps { OnOk result (self.new.steps ≡ self.old.steps) }
         ensures header { OnOk result (self.new.header ≡ self.old.header) }
@@ -210,7 +210,7 @@ impl World {
     }
 
     // Puts a commit into the log.
-    fn send(
+    fn sequence_commit(
         &mut self,
         alloc: Global,
         session: u32,
@@ -226,7 +226,7 @@ impl World {
         ensures known { OnOk result (AreKnown self.new.lists.log self.new.known) }
         ensures head { OnOk result ((v : Outcome) × IsVerdict (document_of self.old.head) intent v × (document_of self.new.head ≡ carried v (document_of self.old.head) intent)) }
         ensures world { OnOk result (self.new ≡ record self.old {
-          lists = record self.old.lists { log = entered self.old.lists.log session (Commit reference intent) };
+          lists = record self.old.lists { log = log_with self.old.lists.log session (Commit reference intent) };
           head = self.new.head;
           known = self.new.known;
           names = self.old.names + names_made intent;
@@ -236,7 +236,7 @@ impl World {
         self.names += names_made(&intent);
         self.head.carry(alloc, &intent)?;
         let body = Body::Commit { reference, intent };
-        enter(&mut self.lists.log, &mut self.known, session, body)?;
+        append_entry(&mut self.lists.log, &mut self.known, session, body)?;
         let n = self.lists.log.len() as u32;
         let min = least_known(self.lists.clients.as_slice(), &self.known, n);
         Ok(Answer::Sequence { min, n })
@@ -270,7 +270,7 @@ impl World {
         match client::take_text(client) {
             None => Ok(Answer::No(Refusal::NothingToSend)),
             Some(Queued { reference, intent }) => {
-                let answer = self.send(alloc, session, reference, intent)?;
+                let answer = self.sequence_commit(alloc, session, reference, intent)?;
                 Ok(answer)
             }
         }
@@ -292,17 +292,20 @@ impl World {
         }
         let count = self.lists.clients.len();
         if count >= MOST_CLIENTS {
-            return Ok(over(LimitOf::Clients, count as u32));
+            return Ok(limit_refusal(LimitOf::Clients, count as u32));
         }
         let entries = self.lists.log.len();
         if entries >= MOST_ENTRIES {
-            return Ok(over(LimitOf::Log, entries as u32));
+            return Ok(limit_refusal(LimitOf::Log, entries as u32));
         }
         let s = count as u32 + 1;
-        enter(&mut self.lists.log, &mut self.known, s, Body::Join)?;
+        append_entry(&mut self.lists.log, &mut self.known, s, Body::Join)?;
         let n = self.lists.log.len() as u32;
-        self.kept.push(client::opened(alloc, &self.head)?)?;
-        self.lists.clients.push(client::joined(alloc, n, s, name)?)?;
+        self.kept
+            .push(client::opening_document(alloc, &self.head)?)?;
+        self.lists
+            .clients
+            .push(client::new_client(alloc, n, s, name)?)?;
         Ok(Answer::Join { n, s })
     }
 

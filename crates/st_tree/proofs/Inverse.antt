@@ -13,7 +13,7 @@ use Rattle.st_tree.specs.Node.{Node, node, Fields, no_fields, field, Nodes, no_n
 use Rattle.st_tree.specs.Size.{node_count, item_count}
 use Rattle.st_tree.specs.Form.{is_row_alone, keys_rise, fields_fit, has_form, fields_have_form, all_have_form}
 use Rattle.st_tree.specs.Preorder.{node_named, cell_named, cells_taken, cell_count, item_cells, is_array, at_of, listed, fields_listed, items_listed, tops_listed, opening_listed}
-use Rattle.st_tree.specs.Rebuilt.{Waiting, is_below, first_is_below, mine, others, keyed, fields_above, hung, rebuilt}
+use Rattle.st_tree.specs.Rebuilt.{Waiting, is_below, first_is_below, fields_of_node, fields_of_others, keyed, fields_above, attached, rebuilt}
 use Rattle.st_tree.specs.declared.flat.FlatAt.{FlatAt}
 use Rattle.st_tree.specs.declared.flat.FlatAt.TheVariants.{Root, Top}
 use Rattle.st_tree.specs.declared.flat.FlatNode.{FlatNode}
@@ -65,12 +65,12 @@ AllBelow-append : (n : NodeId) (ws xs : List Waiting) → AllBelow n ws → AllB
 AllBelow-append n [] xs p q = q
 AllBelow-append n (w ∷ ws) xs p q = (p.0, AllBelow-append n ws xs p.1 q)
 
-mine_all : (n : NodeId) (ws xs : List Waiting) → AllBelow n ws → first_is_below n xs ≡ false → mine n (ws ++ xs) ≡ ws
+mine_all : (n : NodeId) (ws xs : List Waiting) → AllBelow n ws → first_is_below n xs ≡ false → fields_of_node n (ws ++ xs) ≡ ws
 mine_all n [] [] p q = refl
 mine_all n [] (x ∷ xs) p q = rw q
 mine_all n (w ∷ ws) xs p q = rw p.0 (ap (λ vs. w ∷ vs) (mine_all n ws xs p.1 q))
 
-others_all : (n : NodeId) (ws xs : List Waiting) → AllBelow n ws → first_is_below n xs ≡ false → others n (ws ++ xs) ≡ xs
+others_all : (n : NodeId) (ws xs : List Waiting) → AllBelow n ws → first_is_below n xs ≡ false → fields_of_others n (ws ++ xs) ≡ xs
 others_all n [] [] p q = refl
 others_all n [] (x ∷ xs) p q = rw q
 others_all n (w ∷ ws) xs p q = rw p.0 (others_all n ws xs p.1 q)
@@ -157,7 +157,7 @@ mutual
       let own = fields_below rev n c fields in
       let after = none n (omega arith) in
       let x : FlatNode = record { node = node_named rev n; ty = ty; leaf = leaf; row = is_array fields; at = at } in
-      ap (hung x) below
+      ap (attached x) below
       ∙ (λ i. (at, node ty leaf (fields_above (is_array fields) (mine_all (node_named rev n) (placed_fields rev n c fields) (rebuilt rest) own after i))) ∷ others_all (node_named rev n) (placed_fields rev n c fields) (rebuilt rest) own after i)
       ∙ ap (λ fs. (at, node ty leaf fs) ∷ rebuilt rest) (fields_back rev n c leaf fields parts.0)
 

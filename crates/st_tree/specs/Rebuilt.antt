@@ -27,14 +27,14 @@ first_is_below n [] = false
 first_is_below n (w ∷ ws) = is_below n w.0
 
 -- the first trees that wait for the node
-abbrev pub mine : NodeId → List Waiting → List Waiting
-mine n [] = []
-mine n (w ∷ ws) = if is_below n w.0 then w ∷ mine n ws else []
+abbrev pub fields_of_node : NodeId → List Waiting → List Waiting
+fields_of_node n [] = []
+fields_of_node n (w ∷ ws) = if is_below n w.0 then w ∷ fields_of_node n ws else []
 
 -- what waits behind them
-abbrev pub others : NodeId → List Waiting → List Waiting
-others n [] = []
-others n (w ∷ ws) = if is_below n w.0 then others n ws else w ∷ ws
+abbrev pub fields_of_others : NodeId → List Waiting → List Waiting
+fields_of_others n [] = []
+fields_of_others n (w ∷ ws) = if is_below n w.0 then fields_of_others n ws else w ∷ ws
 
 abbrev pub key_at : FlatAt → List ℕ
 key_at Root = []
@@ -52,12 +52,12 @@ fields_above true ws = field [] true (nodes_of (map (λ w. w.1) ws)) no_fields
 fields_above false ws = fields_of (map keyed ws)
 
 -- the node takes the trees that wait for it, and waits itself
-abbrev pub hung : FlatNode → List Waiting → List Waiting
-hung x ws = (x.at, node x.ty x.leaf (fields_above x.row (mine x.node ws))) ∷ others x.node ws
+abbrev pub attached : FlatNode → List Waiting → List Waiting
+attached x ws = (x.at, node x.ty x.leaf (fields_above x.row (fields_of_node x.node ws))) ∷ fields_of_others x.node ws
 
 abbrev pub rebuilt : List FlatNode → List Waiting
 rebuilt [] = []
-rebuilt (x ∷ xs) = hung x (rebuilt xs)
+rebuilt (x ∷ xs) = attached x (rebuilt xs)
 
 -- what waits in the program, where the first stands last
 abbrev pub waiting_view : List Placed → List Waiting

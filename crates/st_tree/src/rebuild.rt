@@ -1,12 +1,11 @@
 //! Trees built back from the list of their nodes.
-ghost use Rattle.std.specs.Prelude.{◌≡◌, ◌∷◌, [], true, false, map, IfOk, OnOk, MatchOption};
-ghost use Rattle.std.specs.Prelude.{ℕ, List as Seq};
+ghost use Rattle.std.specs.Prelude.{◌≡◌, ◌∷◌, [], true, false, map, IfOk, OnOk, MatchOption, ℕ, List as Seq};
 ghost use Rattle.st_ids.specs.declared.names.Rev.{Rev as RevNames};
 ghost use Rattle.st_tree.specs.declared.tree.Tree.{Tree as TreeValue};
 ghost use Rattle.st_tree.specs.Form.{has_form, all_have_form};
 ghost use Rattle.st_tree.specs.Preorder.{tops_listed, opening_listed};
 ghost use Rattle.st_tree.specs.Node.{node as node_of, field, no_fields, view, field_view, trees_view, fields_view, nodes_of, fields_of};
-ghost use Rattle.st_tree.specs.Rebuilt.{is_below, first_is_below, mine, others, keyed, fields_above, hung, rebuilt, waiting_view};
+ghost use Rattle.st_tree.specs.Rebuilt.{is_below, first_is_below, fields_of_node, fields_of_others, keyed, fields_above, attached, rebuilt, waiting_view};
 
 use crate::flat::{Flat, FlatAt, FlatNode};
 use crate::tree::{Field, Tree};
@@ -63,8 +62,8 @@ fn row_below(
     waiting: &mut List<Placed>,
     node: NodeId,
 ) -> Result<List<Tree>, AllocError>
-    ensures items { IfOk result (λ ts. map view ts ≡ map (λ w. w.1) (mine node (waiting_view waiting.old))) }
-    ensures rest { OnOk result (waiting_view waiting.new ≡ others node (waiting_view waiting.old)) }
+    ensures items { IfOk result (λ ts. map view ts ≡ map (λ w. w.1) (fields_of_node node (waiting_view waiting.old))) }
+    ensures rest { OnOk result (waiting_view waiting.new ≡ fields_of_others node (waiting_view waiting.old)) }
 {
     let mut items = List::new(alloc);
     while let Some(placed) = next_below(waiting, node) {
@@ -98,8 +97,8 @@ fn fields_below(
     waiting: &mut List<Placed>,
     node: NodeId,
 ) -> Result<List<Field>, AllocError>
-    ensures fields { IfOk result (λ fs. map field_view fs ≡ map keyed (mine node (waiting_view waiting.old))) }
-    ensures rest { OnOk result (waiting_view waiting.new ≡ others node (waiting_view waiting.old)) }
+    ensures fields { IfOk result (λ fs. map field_view fs ≡ map keyed (fields_of_node node (waiting_view waiting.old))) }
+    ensures rest { OnOk result (waiting_view waiting.new ≡ fields_of_others node (waiting_view waiting.old)) }
 {
     let mut fields = List::new(alloc);
     while let Some(placed) = next_below(waiting, node) {
@@ -128,8 +127,8 @@ fn all_below(
     waiting: &mut List<Placed>,
     node: NodeId,
 ) -> Result<List<Field>, AllocError>
-    ensures fields { IfOk result (λ fs. fields_view fs ≡ fields_above row (mine node (waiting_view waiting.old))) }
-    ensures rest { OnOk result (waiting_view waiting.new ≡ others node (waiting_view waiting.old)) }
+    ensures fields { IfOk result (λ fs. fields_view fs ≡ fields_above row (fields_of_node node (waiting_view waiting.old))) }
+    ensures rest { OnOk result (waiting_view waiting.new ≡ fields_of_others node (waiting_view waiting.old)) }
 {
     if row {
         let items = row_below(alloc, waiting, node)?;
@@ -151,7 +150,7 @@ fn tree_of(alloc: Global, node: &FlatNode, fields: List<Field>) -> Result<Tree, 
 // Puts a node above the trees that wait for it.
 #[tactic(auto, using(crate::proofs::Waits::waiting_last))]
 fn hang(alloc: Global, node: &FlatNode, waiting: &mut List<Placed>) -> Result<(), AllocError>
-    ensures { OnOk result (waiting_view waiting.new ≡ hung node.now (waiting_view waiting.old)) }
+    ensures { OnOk result (waiting_view waiting.new ≡ attached node.now (waiting_view waiting.old)) }
 {
     let fields = all_below(alloc, node.row, waiting, node.node)?;
     let tree = tree_of(alloc, node, fields)?;

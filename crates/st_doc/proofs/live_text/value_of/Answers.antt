@@ -1,8 +1,8 @@
-use Rattle.st_doc.proofs.LiveTexts.{on_any}
+use Rattle.st_doc.proofs.LiveTexts.{on_any, if_ok_along, leaf_shown, row_shown, registers_shown}
 use Rattle.st_ids.specs.Listing.{AreDistinct, Has}
 use Rattle.st_ids.specs.declared.names.NodeId.{NodeId}
 use Rattle.st_marks.specs.Document.{Document, IsSoundInForm, above}
-use Rattle.st_marks.specs.LiveTree.{register}
+use Rattle.st_marks.specs.LiveTree.{register, leaf_data, one_member, Shows}
 use Rattle.st_marks.proofs.Members.{all-has, has-map}
 use Rattle.std.specs.List.{AllByRecursion}
 use Rattle.st_doc.specs.declared.seats.Seat.{Seat}
@@ -10,13 +10,11 @@ use Rattle.std.proofs.Common.{◌≡◌, ◌∙◌, List, Some, map, sym, ap, su
 use Rattle.serde_json.specs.View.{view, members_view}
 use Rattle.serde_json.specs.declared.value.Value.{Array, Object}
 use Rattle.serde_json.proofs.Views.{view-Array, view-Object}
-use Rattle.st_marks.specs.LiveTree.{leaf_data, one_member, Shows}
 use Rattle.st_doc.specs.Doc.{document_of}
 use Rattle.st_doc.specs.LiveText.{AllShown, AreMembers, is_among, seats_of}
 use Rattle.st_doc.specs.Nodes.{type_of}
 use Rattle.st_doc.proofs.KeyOrder.{keys_rising, keys_found}
 use Rattle.st_doc.proofs.Children.{row_child, seat_child, seats_once}
-use Rattle.st_doc.proofs.LiveTexts.{if_ok_along, leaf_shown, row_shown, registers_shown}
 use Rattle.st_doc.proofs.live_text.value_of.Goals as goal
 
 pub returns-in-Some-leaf-clause-shown : goal.returns-in-Some-leaf-clause-shown

@@ -2,8 +2,7 @@ use Rattle.std.proofs.Common.{refl}
 use Rattle.std.specs.BTreeMap.{get}
 use Rattle.st_ids.specs.Order.{same_cell, cell_cmp}
 use Rattle.st_marks.specs.declared.intents.Owned.{Owned}
-use Rattle.st_doc.proofs.Look.{no_cell}
-use Rattle.st_doc.proofs.Look.{told_more}
+use Rattle.st_doc.proofs.Look.{no_cell, told_more}
 use Rattle.st_doc.proofs.names.add_cells.Goals as goal
 
 pub loop-owned-preserved : goal.loop-owned-preserved

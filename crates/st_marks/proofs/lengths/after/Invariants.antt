@@ -1,6 +1,6 @@
 use Rattle.std.proofs.Common.{◌≡◌, ◌^◌, length, min, take}
 use Rattle.st_marks.specs.Row.{spread}
-use Rattle.st_marks.specs.Shown.{cells_after}
+use Rattle.st_marks.specs.Listings.{cells_after}
 use Rattle.st_marks.proofs.lengths.after.Given as goal
 
 abbrev pub invariant-loop-mark : goal.invariant-loop-mark

@@ -1,6 +1,6 @@
 use Rattle.std.proofs.Common.{◌≡◌, ◌^◌, length, min, take}
 use Rattle.st_marks.specs.Row.{spread}
-use Rattle.st_marks.specs.Shown.{cells_before}
+use Rattle.st_marks.specs.Listings.{cells_before}
 use Rattle.st_marks.proofs.lengths.before.Given as goal
 
 abbrev pub invariant-loop-mark : goal.invariant-loop-mark

@@ -5,7 +5,7 @@ use Rattle.st_marks.specs.declared.marks.RowMarks.{RowMarks}
 use Rattle.st_normal.specs.Links.{are_new, links_at, links_in, stands_after, up_by}
 use Rattle.st_normal.specs.Ring.{HasRing}
 use Rattle.st_normal.specs.Rules.{NoRingOfNewNodes}
-use Rattle.st_marks.specs.Shown.{held_after, nodes_new}
+use Rattle.st_marks.specs.Listings.{held_after, nodes_new}
 use Rattle.st_normal.proofs.NoRings.{new_in_new}
 use Rattle.st_normal.proofs.Tells.{tells_not}
 use Rattle.st_normal.proofs.change_check.no_new_ring.Goals as goal

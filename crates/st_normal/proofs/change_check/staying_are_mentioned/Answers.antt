@@ -5,14 +5,15 @@ use Rattle.st_ids.specs.declared.names.NodeId.{NodeId}
 use Rattle.st_normal.specs.declared.entries.Found.{Found}
 use Rattle.st_marks.specs.declared.marks.Loose.{Loose}
 use Rattle.st_marks.specs.declared.marks.RegMark.{RegMark}
-use Rattle.st_normal.specs.Rules.{HasListedField, found_in, found_loose, in_rows, is_stay, kept_at, listed_by_change}
+use Rattle.st_normal.specs.Rules.{HasListedField, found_in, found_loose, in_rows, kept_at, entries_of_change}
+use Rattle.st_marks.specs.How.{is_stay}
 use Rattle.st_normal.proofs.Tells.{all_staying}
 use Rattle.st_normal.proofs.change_check.staying_are_mentioned.Goals as goal
 
 pub returns : goal.returns
 returns c =
     let C = c.args.look.now.lists.0.now in
-    let P = λ (need : List NodeId) (n : NodeId). Has need n ⊎ HasListedField (listed_by_change C) n in
+    let P = λ (need : List NodeId) (n : NodeId). Has need n ⊎ HasListedField (entries_of_change C) n in
     let Q = λ (need : List NodeId) (fs : List Found). IsTrue c.each.result ↔ AllByRecursion (λ (f : Found). IsTrue (is_stay f.how) → P need f.node) fs in
     let need = c.of-need.result.walk.items.now in
     let a = subst (λ (xs : List Found). Q need (xs ++ (flat_map kept_at c.as_slice-2.result.now ++ found_loose c.as_slice-3.result.now))) (c.in_rows.ensures ∙ ap (in_rows found_in) c.as_slice-4.ensures) c.each.ensures in

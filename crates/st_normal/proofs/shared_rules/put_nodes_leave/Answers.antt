@@ -9,6 +9,6 @@ use Rattle.st_normal.proofs.shared_rules.put_nodes_leave.Goals as goal
 
 pub returns : goal.returns
 returns g c = λ once.
-    let L = g.L.Lists.listed c.args.look.now.lists in
+    let L = g.L.HasEntries.listed c.args.look.now.lists in
     let e = subst (λ (ys : List NodeId). IsTrue c.each.result ↔ AllByRecursion (λ n. Has L.new n ⊎ (how_found L n ≡ Some Leave)) ys) c.puts.ensures c.each.ensures in
     (λ t. (comes_in L once L.put).0 (e.0 t), λ a. e.1 ((comes_in L once L.put).1 a))

@@ -2,7 +2,7 @@ use Rattle.std.proofs.Common.{ap, ◌∙◌, ◌∷◌, [], map}
 use Rattle.st_ids.specs.declared.names.CellId.{CellId}
 use Rattle.st_marks.specs.declared.marks.Mark.{Mark}
 use Rattle.st_marks.specs.Row.{spread}
-use Rattle.st_marks.specs.Shown.{cells_made}
+use Rattle.st_marks.specs.Listings.{cells_made}
 use Rattle.st_seq.specs.NamedApart.{found_at}
 use Rattle.st_seq.proofs.OwnersEarly.{counted-made}
 use Rattle.st_seq.proofs.owners.name_made.Goals as goal

@@ -1,7 +1,7 @@
 use Rattle.std.proofs.Common.{◌≡◌, map, take}
 use Rattle.st_ids.specs.declared.names.CellId.{CellId}
 use Rattle.st_marks.specs.Row.{spread}
-use Rattle.st_marks.specs.Shown.{cells_made}
+use Rattle.st_marks.specs.Listings.{cells_made}
 use Rattle.st_seq.specs.NamedApart.{found_at}
 use Rattle.st_seq.proofs.owners.names_made.Given as goal
 

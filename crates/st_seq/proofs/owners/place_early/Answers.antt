@@ -2,7 +2,7 @@ use Rattle.std.proofs.Common.{map, sym, subst}
 use Rattle.st_ids.specs.declared.names.CellId.{CellId}
 use Rattle.st_ids.specs.declared.names.NodeId.{NodeId}
 use Rattle.st_marks.specs.Row.{spread}
-use Rattle.st_marks.specs.Shown.{cells_made}
+use Rattle.st_marks.specs.Listings.{cells_made}
 use Rattle.st_seq.specs.NamedApart.{IsPlace, found_at}
 use Rattle.st_seq.specs.OwnedEarly.{OwnedEarly}
 use Rattle.st_seq.proofs.OwnersEarly.{early_is_place}

@@ -1,7 +1,7 @@
 use Rattle.std.proofs.Common.{◌≡◌, ◌+◌, ◌++◌, option_map, length}
 use Rattle.st_marks.specs.Row.{spread}
-use Rattle.st_marks.specs.Shown.{cells_before}
-use Rattle.st_seq.specs.Agreement.{first_difference, row_seen}
+use Rattle.st_marks.specs.Listings.{cells_before}
+use Rattle.st_seq.specs.Views.{first_difference, row_views}
 use Rattle.st_seq.specs.Cells.{after_row}
 use Rattle.st_seq.specs.Reading.{left}
 use Rattle.st_seq.proofs.rows.slots_after.Given as goal
@@ -10,7 +10,7 @@ abbrev pub invariant-cells : goal.invariant-cells
 invariant-cells l = record {
   whole : l.out ++ after_row l.slots_left (left l.count_left l.marks_left) ≡ after_row l.row (spread l.step);
   place : l.place + length (cells_before (left l.count_left l.marks_left)) ≡ length (cells_before (spread l.step));
-  apart : first_difference (row_seen l.row) (cells_before (spread l.step)) ≡ option_map (λ k. l.place + k) (first_difference (row_seen l.slots_left) (cells_before (left l.count_left l.marks_left)));
+  apart : first_difference (row_views l.row) (cells_before (spread l.step)) ≡ option_map (λ k. l.place + k) (first_difference (row_views l.slots_left) (cells_before (left l.count_left l.marks_left)));
 }
 
 abbrev pub decreases-cells : goal.decreases-cells

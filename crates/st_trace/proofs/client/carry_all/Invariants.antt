@@ -2,7 +2,7 @@
 use Rattle.std.proofs.Common.{drop, take}
 use Rattle.st_marks.specs.Document.{IsSoundInForm}
 use Rattle.st_marks.specs.Run.{Run}
-use Rattle.st_commits.specs.Turns.{FitInTurn}
+use Rattle.st_log_laws.specs.Turns.{FitInTurn}
 use Rattle.st_doc.specs.Doc.{document_of}
 use Rattle.st_trace.proofs.client.carry_all.Given as goal
 

@@ -1,10 +1,10 @@
 use Rattle.st_doc.specs.Doc.{document_of}
 use Rattle.st_edits.proofs.Resolved.{resolved_fits}
 use Rattle.st_trace.specs.Edits.{edit_of}
-use Rattle.st_trace.specs.World.{given}
+use Rattle.st_trace.specs.World.{next_names}
 use Rattle.st_trace.proofs.client.edit.Goals as goal
 
 pub pend-requires-clause-fits : goal.pend-requires-clause-fits
 pend-requires-clause-fits c =
-    let meant = rw c.given.ensures at c.in-Ok.ensures.ok in
-    resolved_fits (document_of c.args.kept.now.shown) c.args.schema.now (given c.args.client.now) (edit_of c.args.step.now) c.in-Ok.intent c.requires.sound c.is_kept.ensures (λ k low. c.requires.fresh_nodes k) (λ k low. c.requires.fresh_cells k) meant
+    let meant = rw c.next_names.ensures at c.in-Ok.ensures.ok in
+    resolved_fits (document_of c.args.kept.now.shown) c.args.schema.now (next_names c.args.client.now) (edit_of c.args.step.now) c.in-Ok.intent c.requires.sound c.is_kept.ensures (λ k low. c.requires.fresh_nodes k) (λ k low. c.requires.fresh_cells k) meant

@@ -2,7 +2,7 @@
 use Rattle.std.proofs.Common.{◌≡◌, ℕ, drop, min}
 use Rattle.std.specs.List.{fold}
 use Rattle.st_trace.specs.Known.{known_so_far}
-use Rattle.st_trace.specs.declared.lists.Client.{Client}
+use Rattle.st_trace.specs.declared.state.Client.{Client}
 use Rattle.st_trace.proofs.log.least_known.Given as goal
 
 abbrev pub invariant-loop-client : goal.invariant-loop-client

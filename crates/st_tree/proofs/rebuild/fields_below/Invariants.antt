@@ -1,13 +1,13 @@
 -- what is taken and what is still to take make the whole
 use Rattle.std.proofs.Common.{◌≡◌, ◌++◌, map, length}
 use Rattle.st_tree.specs.Node.{field_view}
-use Rattle.st_tree.specs.Rebuilt.{mine, others, keyed, waiting_view}
+use Rattle.st_tree.specs.Rebuilt.{fields_of_node, fields_of_others, keyed, waiting_view}
 use Rattle.st_tree.proofs.rebuild.fields_below.Given as goal
 
 abbrev pub invariant-loop-placed : goal.invariant-loop-placed
 invariant-loop-placed l = record {
-  fields : map field_view l.fields ++ map keyed (mine l.node (waiting_view l.waiting)) ≡ map keyed (mine l.node (waiting_view l.initial.waiting));
-  rest : others l.node (waiting_view l.waiting) ≡ others l.node (waiting_view l.initial.waiting);
+  fields : map field_view l.fields ++ map keyed (fields_of_node l.node (waiting_view l.waiting)) ≡ map keyed (fields_of_node l.node (waiting_view l.initial.waiting));
+  rest : fields_of_others l.node (waiting_view l.waiting) ≡ fields_of_others l.node (waiting_view l.initial.waiting);
 }
 
 abbrev pub decreases-loop-placed : goal.decreases-loop-placed

@@ -1,13 +1,13 @@
 -- what is taken and what is still to take make the whole
 use Rattle.std.proofs.Common.{◌≡◌, ◌++◌, map, length}
 use Rattle.st_tree.specs.Node.{view}
-use Rattle.st_tree.specs.Rebuilt.{mine, others, waiting_view}
+use Rattle.st_tree.specs.Rebuilt.{fields_of_node, fields_of_others, waiting_view}
 use Rattle.st_tree.proofs.rebuild.row_below.Given as goal
 
 abbrev pub invariant-loop-placed : goal.invariant-loop-placed
 invariant-loop-placed l = record {
-  items : map view l.items ++ map (λ w. w.1) (mine l.node (waiting_view l.waiting)) ≡ map (λ w. w.1) (mine l.node (waiting_view l.initial.waiting));
-  rest : others l.node (waiting_view l.waiting) ≡ others l.node (waiting_view l.initial.waiting);
+  items : map view l.items ++ map (λ w. w.1) (fields_of_node l.node (waiting_view l.waiting)) ≡ map (λ w. w.1) (fields_of_node l.node (waiting_view l.initial.waiting));
+  rest : fields_of_others l.node (waiting_view l.waiting) ≡ fields_of_others l.node (waiting_view l.initial.waiting);
 }
 
 abbrev pub decreases-loop-placed : goal.decreases-loop-placed

@@ -1,4 +1,4 @@
-use Rattle.std.proofs.Common.{◌≡◌, ◌↔◌, ◌-◌, true, false, sym, ap, ◌∙◌, subst, length}
+use Rattle.std.proofs.Common.{◌≡◌, ◌↔◌, ◌-◌, true, false, sym, ap, ◌∙◌, subst, length, Some}
 use Rattle.std.specs.List.{list_any, slice_get}
 use Rattle.std.specs.Option.{option_map_or}
 use Rattle.st_ids.specs.Listing.{Has}
@@ -6,7 +6,6 @@ use Rattle.st_ids.specs.Order.{same_rev}
 use Rattle.st_marks.specs.declared.schemas.SchemaEntry.{SchemaEntry}
 use Rattle.st_marks.specs.Document.{revs, last_of}
 use Rattle.st_marks.specs.Verdict.{HasBase}
-use Rattle.std.proofs.Common.{Some}
 use Rattle.st_doc.proofs.Verdicts.{among_revs, last_rev}
 use Rattle.st_doc.proofs.doc.Doc.has_base.Goals as goal
 

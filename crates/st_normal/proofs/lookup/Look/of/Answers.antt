@@ -7,12 +7,12 @@ use Rattle.st_normal.proofs.lookup.Look.of.Goals as goal
 
 pub returns-clause-found_once : goal.returns-clause-found_once
 returns-clause-found_once g c =
-    let xs = (g.L.Lists.listed c.args.lists).found in
+    let xs = (g.L.HasEntries.listed c.args.lists).found in
     let e = subst (λ (ys : List Found). IsTrue c.of-found.result.once ↔ AreDistinct found_name ys) c.finds.ensures c.of-found.ensures.once in
     (λ t. (found_once xs).0 (e.0 t), λ d. e.1 ((found_once xs).1 d))
 
 pub returns-clause-put_once : goal.returns-clause-put_once
 returns-clause-put_once g c =
-    let xs = (g.L.Lists.listed c.args.lists).put in
+    let xs = (g.L.HasEntries.listed c.args.lists).put in
     let e = subst (λ (ys : List NodeId). IsTrue c.of-put.result.once ↔ AreDistinct node_name ys) c.puts.ensures c.of-put.ensures.once in
     (λ t. (nodes_once xs).0 (e.0 t), λ d. e.1 ((nodes_once xs).1 d))

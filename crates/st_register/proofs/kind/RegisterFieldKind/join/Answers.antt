@@ -1,5 +1,5 @@
 use Rattle.std.proofs.Common.{◌≡◌, ap, sym, ◌∙◌, rules}
-use Rattle.st_register.specs.Told.{left_by}
+use Rattle.st_register.specs.Readings.{left_by}
 use Rattle.st_register.proofs.Registers.{left_is}
 use Rattle.st_register.proofs.kind.RegisterFieldKind.join.Goals as goal
 

@@ -1,11 +1,9 @@
-use Rattle.std.proofs.Common.{rules, arith}
+use Rattle.std.proofs.Common.{rules, arith, sym, subst, length, ◌<◌, ℕ, inl, inr}
 use Rattle.st_kind.proofs.Memory.{no_memory}
 use Rattle.st_marks.specs.Row.{spread}
 use Rattle.st_seq.proofs.Walking.{found_length}
-use Rattle.std.proofs.Common.{sym, subst, length, ◌<◌}
-use Rattle.st_marks.specs.Shown.{cells_before}
-use Rattle.std.proofs.Common.{ℕ, inl, inr}
-use Rattle.st_seq.specs.Agreement.{row_seen}
+use Rattle.st_marks.specs.Listings.{cells_before}
+use Rattle.st_seq.specs.Views.{row_views}
 use Rattle.st_seq.proofs.NamedOnce.{named_once-after}
 use Rattle.st_seq.proofs.NodesOnce.{stands_once-after}
 use Rattle.st_seq.proofs.Refusing.{nothing_apart, row_short, before_short}
@@ -29,9 +27,9 @@ agree_over-requires-clause-step c = subst (λ r. length (cells_before (spread r)
 
 pub returns-in_err-agree_over-clause-after : goal.returns-in_err-agree_over-clause-after
 returns-in_err-agree_over-clause-after c m d l = let none = nothing_apart c.in_err-agree_over.field-0.0 _ c.in_err-agree_over.ensures (λ k n. apart k (
-    subst (λ x. SaidApart (row_seen x) (cells_before (spread c.args.step.now.marks)) (named_in_row 0 x) (named_before 0 (spread c.args.step.now.marks)) k) c.as_slice.ensures
-    (subst (λ y. SaidApart (row_seen c.as_slice.result.now) (cells_before (spread y)) (named_in_row 0 c.as_slice.result.now) (named_before 0 (spread y)) k) c.as_slice-2.ensures n))) in search rules
+    subst (λ x. SaidApart (row_views x) (cells_before (spread c.args.step.now.marks)) (named_in_row 0 x) (named_before 0 (spread c.args.step.now.marks)) k) c.as_slice.ensures
+    (subst (λ y. SaidApart (row_views c.as_slice.result.now) (cells_before (spread y)) (named_in_row 0 c.as_slice.result.now) (named_before 0 (spread y)) k) c.as_slice-2.ensures n))) in search rules
   where
-    apart : (k : ℕ) → SaidApart (row_seen c.args.ctx.now.cells) (cells_before (spread c.args.step.now.marks)) (named_in_row 0 c.args.ctx.now.cells) (named_before 0 (spread c.args.step.now.marks)) k → ⊥
+    apart : (k : ℕ) → SaidApart (row_views c.args.ctx.now.cells) (cells_before (spread c.args.step.now.marks)) (named_in_row 0 c.args.ctx.now.cells) (named_before 0 (spread c.args.step.now.marks)) k → ⊥
     apart k (inl n) = named_once-after m c.args.ctx.now.cells d.cells c.args.step.now.marks l k n
     apart k (inr n) = stands_once-after m c.args.ctx.now.cells d.cells c.args.step.now.marks l k n

@@ -1,4 +1,4 @@
-use Rattle.std.proofs.Common.{ap, sym, ◌∙◌, subst, rules}
+use Rattle.std.proofs.Common.{ap, sym, ◌∙◌, subst, rules, length, ◌<◌, ℕ, inl, inr}
 use Rattle.st_kind.proofs.Memory.{no_memory}
 use Rattle.st_ids.specs.Listing.{IsRising}
 use Rattle.st_ids.specs.Order.{node_cmp}
@@ -7,10 +7,8 @@ use Rattle.st_marks.specs.Embedding.{is_among}
 use Rattle.st_seq.specs.Changes.{StandsOver}
 use Rattle.st_seq.proofs.Fitting.{beside_leads, change_is, keeps_is, stands_over}
 use Rattle.st_seq.specs.declared.values.RowChange.{RowChange}
-use Rattle.std.proofs.Common.{length, ◌<◌}
 use Rattle.st_marks.specs.Row.{spread}
-use Rattle.st_marks.specs.Shown.{cells_before}
-use Rattle.std.proofs.Common.{ℕ, inl, inr}
+use Rattle.st_marks.specs.Listings.{cells_before}
 use Rattle.st_seq.proofs.NamedOnce.{named_once-rebase}
 use Rattle.st_seq.proofs.NodesOnce.{stands_once-rebase}
 use Rattle.st_seq.proofs.Refusing.{nothing_apart, beside_short}
@@ -21,16 +19,16 @@ pub returns-in_err-marks-clause-bridged : goal.returns-in_err-marks-clause-bridg
 returns-in_err-marks-clause-bridged c p m a d w v k e l h g =
     let listed = ap (λ (x : RowChange). x.new) e in
     let new = c.in_ok-new.ensures.same (subst (λ n. IsRising node_cmp (λ (x : NodeId). x) n) (sym listed) w.rising) ∙ listed in
-    let stands = subst (λ n. StandsOver p.does (is_among n) a.cells d.cells l.step.grows) (sym new) (stands_over p l.step.grows w l.after.once v) in
-    let none = no_memory c.in_err-marks.field-0.0 _ (c.in_err-marks.ensures.bridged p.does m a.cells d.cells (change_is p a.cells _ w e) l.step l.moved stands (λ q. keeps_is p l.step.grows w l.after.once (k q))) in
+    let stands = subst (λ n. StandsOver p.part (is_among n) a.cells d.cells l.step.grows) (sym new) (stands_over p l.step.grows w l.after.once v) in
+    let none = no_memory c.in_err-marks.field-0.0 _ (c.in_err-marks.ensures.bridged p.part m a.cells d.cells (change_is p a.cells _ w e) l.step l.moved stands (λ q. keeps_is p l.step.grows w l.after.once (k q))) in
     search rules
 
 pub returns-clause-bridged : goal.returns-clause-bridged
 returns-clause-bridged c p m a d w v k e l h g =
     let listed = ap (λ (x : RowChange). x.new) e in
     let new = c.in_ok-new.ensures.same (subst (λ n. IsRising node_cmp (λ (x : NodeId). x) n) (sym listed) w.rising) ∙ listed in
-    let stands = subst (λ n. StandsOver p.does (is_among n) a.cells d.cells l.step.grows) (sym new) (stands_over p l.step.grows w l.after.once v) in
-    let both = c.in_ok-marks.ensures.bridged p.does m a.cells d.cells (change_is p a.cells _ w e) l.step l.moved stands (λ q. keeps_is p l.step.grows w l.after.once (k q)) in
+    let stands = subst (λ n. StandsOver p.part (is_among n) a.cells d.cells l.step.grows) (sym new) (stands_over p l.step.grows w l.after.once v) in
+    let both = c.in_ok-marks.ensures.bridged p.part m a.cells d.cells (change_is p a.cells _ w e) l.step l.moved stands (λ q. keeps_is p l.step.grows w l.after.once (k q)) in
     beside_leads p m a.cells d.cells c.args.was_void c.args.is_void c.in_ok-marks.marks c.args.change.now.in_new c.in_ok-new.new (ap (λ (x : RowChange). x.in_new) e) new h g both
 
 pub agree_beside-requires-clause-first : goal.agree_beside-requires-clause-first

@@ -1,13 +1,11 @@
-use Rattle.std.proofs.Common.{rules}
+use Rattle.std.proofs.Common.{rules, sym, subst, length, ◌<◌, ℕ, inl, inr}
 use Rattle.st_kind.specs.Named.{either}
 use Rattle.st_kind.proofs.Memory.{no_memory}
 use Rattle.st_seq.specs.Laws.{same_grown}
 use Rattle.st_seq.proofs.Composed.{grows_on}
 use Rattle.st_seq.proofs.Fitting.{leavers_of, moved_in_turn}
-use Rattle.std.proofs.Common.{sym, subst, length, ◌<◌}
 use Rattle.st_marks.specs.Row.{spread}
-use Rattle.st_marks.specs.Shown.{cells_after, cells_before}
-use Rattle.std.proofs.Common.{ℕ, inl, inr}
+use Rattle.st_marks.specs.Listings.{cells_after, cells_before}
 use Rattle.st_seq.proofs.NamedOnce.{named_once-compose}
 use Rattle.st_seq.proofs.NodesOnce.{stands_once-compose}
 use Rattle.st_seq.proofs.Refusing.{nothing_apart, before_short, after_short}

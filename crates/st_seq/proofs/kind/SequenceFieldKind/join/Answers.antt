@@ -1,24 +1,20 @@
-use Rattle.std.proofs.Common.{ap, sym, ◌∙◌, subst, rules}
+use Rattle.std.proofs.Common.{ap, sym, ◌∙◌, subst, rules, false, length, ◌<◌, ℕ, inl, inr, ◌⊎◌, List}
 use Rattle.st_kind.proofs.Memory.{no_memory}
 use Rattle.st_ids.specs.Listing.{IsRising}
 use Rattle.st_ids.specs.Order.{node_cmp}
 use Rattle.st_ids.specs.declared.names.NodeId.{NodeId}
 use Rattle.st_marks.specs.Embedding.{is_among}
 use Rattle.std.specs.Prelude.{◌||◌}
-use Rattle.st_seq.specs.Sequence.{carried_to}
-use Rattle.std.proofs.Common.{false}
+use Rattle.st_seq.specs.Sequence.{row_carried}
 use Rattle.st_seq.proofs.Fitting.{change_is}
 use Rattle.st_seq.proofs.Rising.{one_rising}
 use Rattle.st_seq.specs.declared.values.RowChange.{RowChange}
-use Rattle.std.proofs.Common.{length, ◌<◌}
 use Rattle.st_marks.specs.Row.{spread}
-use Rattle.st_marks.specs.Shown.{cells_after, cells_before}
-use Rattle.std.proofs.Common.{ℕ, inl, inr}
+use Rattle.st_marks.specs.Listings.{cells_after, cells_before}
 use Rattle.st_seq.proofs.NamedOnce.{named_once-join}
 use Rattle.st_seq.proofs.NodesOnce.{stands_once-join}
 use Rattle.st_seq.proofs.Refusing.{nothing_apart, before_short, after_short}
 use Rattle.st_seq.specs.NamedApart.{SaidApart, named_after, named_before}
-use Rattle.std.proofs.Common.{◌⊎◌, List}
 use Rattle.st_marks.specs.declared.marks.Mark.{Mark}
 use Rattle.st_seq.specs.OwnedEarly.{OwnedEarly}
 use Rattle.st_seq.proofs.OwnersEarly.{never_early}
@@ -26,12 +22,12 @@ use Rattle.st_seq.proofs.kind.SequenceFieldKind.join.Goals as goal
 
 pub returns-in_err-marks-clause-joined : goal.returns-in_err-marks-clause-joined
 returns-in_err-marks-clause-joined c p q j a t w e v g =
-    let none = no_memory c.in_err-marks.field-0.0 _ (c.in_err-marks.ensures.joined p.does q.does j.does a.cells t.does (change_is p a.cells _ w e) (change_is q (carried_to p false a.cells) _ v g)) in
+    let none = no_memory c.in_err-marks.field-0.0 _ (c.in_err-marks.ensures.joined p.part q.part j.part a.cells t.part (change_is p a.cells _ w e) (change_is q (row_carried p false a.cells) _ v g)) in
     search rules
 
 pub returns-clause-joined : goal.returns-clause-joined
 returns-clause-joined c p q j a t w e v g =
-    let marks = c.in_ok-marks.ensures.joined p.does q.does j.does a.cells t.does (change_is p a.cells _ w e) (change_is q (carried_to p false a.cells) _ v g) in
+    let marks = c.in_ok-marks.ensures.joined p.part q.part j.part a.cells t.part (change_is p a.cells _ w e) (change_is q (row_carried p false a.cells) _ v g) in
     let first = ap (λ (x : RowChange). x.new) e in
     let then = ap (λ (x : RowChange). x.new) g in
     let new = c.in_ok-new.ensures (subst (λ n. IsRising node_cmp (λ (x : NodeId). x) n) (sym first) w.rising) in

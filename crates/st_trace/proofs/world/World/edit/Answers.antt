@@ -3,7 +3,7 @@ use Rattle.st_doc.specs.Doc.{document_of}
 use Rattle.st_edits.specs.Resolve.{resolve}
 use Rattle.st_script.specs.Header.{header_view}
 use Rattle.st_trace.specs.Edits.{edit_of}
-use Rattle.st_trace.specs.World.{given}
+use Rattle.st_trace.specs.World.{next_names}
 use Rattle.st_trace.proofs.Acting.{edited_refused, few_ids, next_edited, one_at, sound_edited}
 use Rattle.st_trace.proofs.Clients.{fresh_cells, fresh_nodes, shown_sound}
 use Rattle.st_trace.proofs.Everyone.{kept_none, set_same}
@@ -57,7 +57,7 @@ returns-clause-next c = λ q at.
     let w = c.args.self.now in
     let client = c.in-Some-get_mut.client.now in
     let one = one_at w c.args.i client c.in-Some.kept.now c.requires.sound (sym c.in-Some-get_mut.ensures.value) (sym c.in-Some.ensures.value) in
-    next_edited (header_view w.header) w.lists c.args.i client q c.edit.new.client c.args.done (λ x D. resolve D w.header.schema (given x) (edit_of c.args.step.now)) (document_of c.in-Some.kept.now.shown) c.in_ok-answer.answer
+    next_edited (header_view w.header) w.lists c.args.i client q c.edit.new.client c.args.done (λ x D. resolve D w.header.schema (next_names x) (edit_of c.args.step.now)) (document_of c.in-Some.kept.now.shown) c.in_ok-answer.answer
     (sym c.in-Some-get_mut.ensures.value) at one.kept.shown c.in_ok-answer.ensures.answer
 
 pub returns-clause-sound : goal.returns-clause-sound
@@ -71,5 +71,5 @@ returns-in_default-get_mut-clause-refused c = rw (set_same c.args.self.now.kept 
 pub returns-clause-refused : goal.returns-clause-refused
 returns-clause-refused c =
     let client = c.in-Some-get_mut.client.now in
-    edited_refused c.args.self.now c.args.i client c.edit.new.client c.in-Some.kept.now c.edit.new.kept c.args.done (resolve (document_of c.in-Some.kept.now.shown) c.args.self.now.header.schema (given client) (edit_of c.args.step.now)) c.in_ok-answer.answer
+    edited_refused c.args.self.now c.args.i client c.edit.new.client c.in-Some.kept.now c.edit.new.kept c.args.done (resolve (document_of c.in-Some.kept.now.shown) c.args.self.now.header.schema (next_names client) (edit_of c.args.step.now)) c.in_ok-answer.answer
     (sym c.in-Some-get_mut.ensures.value) (sym c.in-Some.ensures.value) c.in_ok-answer.ensures.answer c.in_ok-answer.ensures.kept

@@ -1,10 +1,9 @@
-use Rattle.std.proofs.Common.{[], refl, sym, subst, arith}
-use Rattle.std.proofs.Common.{rules}
+use Rattle.std.proofs.Common.{[], refl, sym, subst, arith, rules}
 use Rattle.std.proofs.lemmas.Grind.{common_steps}
 use Rattle.st_marks.specs.Document.{Document}
 use Rattle.st_marks.specs.Run.{Run, done}
 use Rattle.st_script.specs.Header.{header_view}
-use Rattle.st_trace.specs.World.{opened}
+use Rattle.st_trace.specs.World.{opening_document}
 use Rattle.st_trace.proofs.Agreed.{begun_keeps}
 use Rattle.st_trace.proofs.world.World.new.Goals as goal
 
@@ -20,7 +19,7 @@ returns-clause-sound c =
       log_fit = tt;
       log_new = record { once = tt; new = λ N i j. i };
       schema = begun_keeps (header_view c.args.header) c.requires;
-      head = subst (λ (D : Document). Run (opened (header_view c.args.header)) [] D) (sym c.in_ok-head.ensures) done;
+      head = subst (λ (D : Document). Run (opening_document (header_view c.args.header)) [] D) (sym c.in_ok-head.ensures) done;
       entries = omega arith;
       names = refl;
       few_names = omega arith;

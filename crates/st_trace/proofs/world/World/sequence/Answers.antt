@@ -1,5 +1,5 @@
 use Rattle.std.proofs.Common.{◌+◌, sym, ap, subst}
-use Rattle.st_trace.specs.Kept.{IsSoundAfter}
+use Rattle.st_trace.specs.Replica.{IsSoundAfter}
 use Rattle.st_trace.specs.Known.{AreKnown}
 use Rattle.st_trace.specs.declared.world.World.{World}
 use Rattle.st_trace.proofs.Stepping.{head_fits, head_sound, sound_sent, text_within}
@@ -21,8 +21,8 @@ returns-in_ok-answer-in-Some-take_text-clause-sound c =
     let rest = c.take_text.new.client.queue in
     let world = c.in_ok-answer-in-Some-take_text.ensures.world in
     let head = c.in_ok-answer-in-Some-take_text.ensures.head in
-    let knows = subst (λ l. AreKnown l c.send.new.self.known) (ap (λ (x : World). x.lists.log) world) c.in_ok-answer-in-Some-take_text.ensures.known in
+    let knows = subst (λ l. AreKnown l c.sequence_commit.new.self.known) (ap (λ (x : World). x.lists.log) world) c.in_ok-answer-in-Some-take_text.ensures.known in
     let few = text_within w c.args.i c.in-Some.client.now client q rest c.in-Some-names_waiting.made c.names_waiting.result c.limit_passed.result (sym c.in-Some.ensures) at c.in-Some-take_text.ensures.0
     c.names_waiting.ensures c.in-Some-names_waiting.is c.limit_passed.ensures c.in_default-limit_passed.is in
     subst (λ (x : World). IsSoundAfter (x.steps + 1) x) (sym world)
-    (sound_sent w c.args.i client c.take_text.new.client q c.send.new.self.head c.send.new.self.known head.0 c.requires.sound at c.in-Some-take_text.ensures.0 c.in-Some-take_text.ensures.1 few.0 few.1 head.1 head.2 knows)
+    (sound_sent w c.args.i client c.take_text.new.client q c.sequence_commit.new.self.head c.sequence_commit.new.self.known head.0 c.requires.sound at c.in-Some-take_text.ensures.0 c.in-Some-take_text.ensures.1 few.0 few.1 head.1 head.2 knows)

@@ -1,5 +1,0 @@
-use Rattle.st_commits.proofs.Beside.{another_first, another_later}
-use Rattle.st_commits.proofs.laws.another_first.Goals as goal
-
-pub returns : goal.returns
-returns c = record { at_once = another_first; later = another_later }

@@ -1,5 +1,0 @@
-use Rattle.st_commits.proofs.Beside.{names_later, later_fits}
-use Rattle.st_commits.proofs.laws.fit_later.Goals as goal
-
-pub returns : goal.returns
-returns c = record { names = λ D E F As Bs g f r q. names_later D g f r q; fits = later_fits }

@@ -1,5 +1,0 @@
-use Rattle.st_conform.proofs.Simple.{schema_agrees}
-use Rattle.st_conform.proofs.laws.schema_changes_agree.Goals as goal
-
-pub returns : goal.returns
-returns c = schema_agrees

@@ -1,7 +1,0 @@
-use Rattle.std.proofs.Common.{◌≡◌, drop}
-use Rattle.st_ids.specs.Order.{same_cell}
-use Rattle.st_intent.specs.Rules.{are_apart}
-use Rattle.st_intent.proofs.apart.cells_apart.Given as goal
-
-abbrev pub invariant-loop-i : goal.invariant-loop-i
-invariant-loop-i l = are_apart (λ o p. same_cell o.cell p.cell) (drop l.i l.cells) ≡ are_apart (λ o p. same_cell o.cell p.cell) l.cells

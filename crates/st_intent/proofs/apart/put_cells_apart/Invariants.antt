@@ -1,8 +1,0 @@
-use Rattle.std.proofs.Common.{◌≡◌, drop}
-use Rattle.st_ids.specs.Order.{same_cell}
-use Rattle.st_marks.specs.Intent.{cell_of}
-use Rattle.st_intent.specs.Rules.{are_apart, are_same}
-use Rattle.st_intent.proofs.apart.put_cells_apart.Given as goal
-
-abbrev pub invariant-loop-i : goal.invariant-loop-i
-invariant-loop-i l = are_apart (λ p q. are_same same_cell (cell_of p.to) (cell_of q.to)) (drop l.i l.puts) ≡ are_apart (λ p q. are_same same_cell (cell_of p.to) (cell_of q.to)) l.puts

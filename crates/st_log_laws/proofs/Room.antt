@@ -1,0 +1,73 @@
+-- How long rows become.
+use Rattle.std.proofs.Common.{◌≡◌, ◌≤◌, ◌+◌, suc, List, [], ◌∷◌, ◌++◌, length, refl, sym, ap, ◌∙◌, inl, inr, arith}
+use Rattle.st_ids.specs.Listing.{AreDistinct, Has}
+use Rattle.st_ids.specs.declared.names.NodeId.{NodeId}
+use Rattle.st_marks.specs.declared.intents.Intent.{Intent}
+use Rattle.st_marks.specs.declared.intents.Owned.{Owned}
+use Rattle.st_marks.specs.declared.verdicts.Verdict.{Verdict}
+use Rattle.st_marks.specs.Document.{Document, IsSoundInForm, HasShortRows}
+use Rattle.st_marks.specs.Intent.{Fits, group_cells}
+use Rattle.st_marks.specs.CarryOut.{full, with_names}
+use Rattle.st_marks.specs.Verdict.{carried}
+use Rattle.st_marks.specs.Run.{Run, done, next}
+use Rattle.st_marks.proofs.Members.{all-has, append_left, append_right}
+use Rattle.st_marks.proofs.NewRows.{rows_once}
+use Rattle.st_marks.proofs.OneVerdict.{carried_extends}
+use Rattle.st_log_laws.specs.Turns.{FitInTurn, HasRoom, cells_made}
+use Rattle.st_log_laws.proofs.Names.{if_carried, old_or_made}
+
+-- ## A list of distinct items, all of which another has, is no longer
+
+abbrev removed : {A : Type 0} (ys : List A) (x : A) → Has ys x → List A
+removed [] x h = []
+removed (y ∷ ys) x (inl e) = ys
+removed (y ∷ ys) x (inr h) = y ∷ removed ys x h
+
+removed_length : {A : Type 0} (ys : List A) (x : A) (h : Has ys x) → length ys ≡ suc (length (removed ys x h))
+removed_length [] x h = absurd h
+removed_length (y ∷ ys) x (inl e) = refl
+removed_length (y ∷ ys) x (inr h) = ap suc (removed_length ys x h)
+
+others_stay : {A : Type 0} (ys : List A) (x z : A) (h : Has ys x) → Has ys z → (z ≡ x → ⊥) → Has (removed ys x h) z
+others_stay [] x z h i apart = absurd h
+others_stay (y ∷ ys) x z (inl e) (inl f) apart = absurd (apart (sym f ∙ e))
+others_stay (y ∷ ys) x z (inl e) (inr i) apart = i
+others_stay (y ∷ ys) x z (inr h) (inl f) apart = inl f
+others_stay (y ∷ ys) x z (inr h) (inr i) apart = inr (others_stay ys x z h i apart)
+
+no_longer : {A K : Type 0} (key : A → K) (xs ys : List A) → AreDistinct key xs → ((x : A) → Has xs x → Has ys x) → length xs ≤ length ys
+no_longer key [] ys d h = omega arith
+no_longer key (x ∷ xs) ys d h =
+    let i = h x (inl refl) in
+    let rest = no_longer key xs (removed ys x i) d.1 (λ z j. others_stay ys x z i (h z (inr j)) (λ e. all-has (λ y. key y ≡ key x → ⊥) xs z d.0 j (ap key e))) in
+    omega (arith, rest, removed_length ys x i)
+
+joined_length : {A : Type 0} (xs ys : List A) → length (xs ++ ys) ≡ length xs + length ys
+joined_length [] ys = omega arith
+joined_length (x ∷ xs) ys = omega (arith, joined_length xs ys)
+
+-- ## Rows
+
+module _ (D : Document) (N : Intent) (s : IsSoundInForm D) (f : Fits D N) where
+  named_bound : (n : NodeId) → length ((with_names D N).rows n) ≤ length (D.rows n) + length (group_cells N)
+  named_bound n =
+      let l = no_longer (λ (o : Owned). o.cell) ((with_names D N).rows n) (D.rows n ++ group_cells N) (rows_once D N s f n)
+      (λ o h. elim (old_or_made D N n o h) [ inl i ↦ append_left (D.rows n) (group_cells N) o i | inr i ↦ append_right (D.rows n) (group_cells N) o i ]) in
+      omega (arith, l, joined_length (D.rows n) (group_cells N))
+
+  carried_bound : (n : NodeId) (v : Verdict) → length ((carried v D N).rows n) ≤ length (D.rows n) + length (group_cells N)
+  carried_bound n v = if_carried (λ (C : Document). length (C.rows n) ≤ length (D.rows n) + length (group_cells N)) D N (omega arith) (named_bound n) (named_bound n) v
+
+  pub row_bound : (n : NodeId) (v : Verdict) → length ((carried v D N).rows n) ≤ length (D.rows n) + cells_made (N ∷ [])
+  row_bound n v = omega (arith, carried_bound n v)
+
+  pub short_after : (Ns : List Intent) → HasRoom D (N ∷ Ns) → HasShortRows (full D N)
+  short_after Ns room n = omega (arith, named_bound n, room n)
+
+  pub room_after : (Ns : List Intent) (v : Verdict) → HasRoom D (N ∷ Ns) → HasRoom (carried v D N) Ns
+  room_after Ns v room n = omega (arith, carried_bound n v, room n)
+
+pub room_in_run : {Ns : List Intent} (Ms : List Intent) {D E : Document} → IsSoundInForm D → FitInTurn D Ns → Run D Ns E → HasRoom D (Ns ++ Ms) → HasRoom E Ms
+room_in_run Ms s f done room = room
+room_in_run Ms s f (next {D} {N = N} {Ns} v a r) room =
+    room_in_run Ms (carried_extends D N v s f.1 f.2 a).after (f.3 v a) r (room_after D N s f.1 (Ns ++ Ms) v room)

@@ -1,0 +1,300 @@
+-- What keeps to a schema keeps to each wider one.
+use Rattle.std.proofs.Common.{◌≡◌, ℕ, ◌+◌, Bool, true, false, not, cond, ◌||◌, List, [], ◌∷◌, ◌++◌, Option, Some, None, is_some, option_map, option_and_then, Ok, refl, sym, ap, ◌∙◌, subst, inl, inr}
+use Rattle.std.specs.List.{list_all, position_from}
+use Rattle.std.specs.Option.{option_or, option_map_or}
+use Rattle.std.proofs.lemmas.List.Folds.{list_all-append}
+use Rattle.st_ids.specs.declared.names.FieldId.{FieldId}
+use Rattle.st_ids.specs.declared.names.Key.{Key}
+use Rattle.st_ids.specs.declared.names.Leaf.{Leaf}
+use Rattle.st_ids.specs.declared.names.NodeId.{NodeId}
+use Rattle.st_schema.specs.Schema.{SchemaView, same, is_among, is_key, form_of, declared, field_in, field_of, is_single_kind, is_sound}
+use Rattle.st_schema.specs.Conforms.{is_required}
+use Rattle.st_schema.specs.Wider.{contains_all, is_optional, kind_widens, widens_found, def_widens, defs_widen, form_widens, definition_widens, types_widen, narrowing, wider_of}
+use Rattle.st_schema.specs.declared.names.FieldDef.{FieldDef}
+use Rattle.st_schema.specs.declared.names.FieldRule.{FieldRule}
+use Rattle.st_schema.specs.declared.names.Form.{Form}
+use Rattle.st_schema.specs.declared.names.Form.TheVariants.{Array, Map, Object}
+use Rattle.st_schema.specs.declared.names.KindName.{KindName}
+use Rattle.st_schema.specs.declared.names.KindName.TheVariants.{Required, Optional, Sequence}
+use Rattle.st_marks.specs.declared.intents.Intent.{Intent}
+use Rattle.st_marks.specs.declared.intents.To.{To}
+use Rattle.st_marks.specs.declared.places.Spot.{Spot}
+use Rattle.st_marks.specs.Document.{Document, NodeType, root}
+use Rattle.st_marks.specs.Intent.{new_type}
+use Rattle.st_marks.specs.CarryOut.{with_names}
+use Rattle.st_marks.proofs.Lookups.{both_true}
+use Rattle.st_marks.proofs.Members.{true-false, first-has}
+use Rattle.st_edits.specs.Resolve.{is_row, rule_at, has_type}
+use Rattle.st_schema_laws.specs.Conforming.{Admits, MayStand, IsConforming, IsFree, row_key, type_fits, is_required_field}
+use Rattle.st_schema_laws.specs.Agreeing.{KeepsSchema, MayGo, MayBeLeft}
+use Rattle.st_schema_laws.proofs.Kept.{one_rule, required_by, required_rule}
+use Rattle.st_schema_laws.proofs.Rules.{text_same, all_pass, leaf_undefined}
+
+-- ## Lists of types
+
+no_narrowing : (n : ℕ) (vs : List Bool) → narrowing (position_from (λ ok. not ok) n vs) ≡ Ok tt → list_all (λ ok. ok) vs ≡ true
+no_narrowing n [] h = refl
+no_narrowing n (true ∷ vs) h = no_narrowing (n + 1) vs h
+no_narrowing n (false ∷ vs) h = absurd (cc)
+
+among_all : (t : List ℕ) (new old : List (List ℕ)) → contains_all new old ≡ true → is_among t old ≡ true → is_among t new ≡ true
+among_all t new [] wide among = absurd (cc)
+among_all t new (u ∷ us) wide among =
+    let parts = both_true (is_among u new) (contains_all new us) wide in
+    go (same u t) refl parts.0 (among_all t new us parts.1) among
+  where
+    go : (b : Bool) → same u t ≡ b → is_among u new ≡ true → (is_among t us ≡ true → is_among t new ≡ true) → (b || is_among t us) ≡ true → is_among t new ≡ true
+    go true e here later f = ap (λ v. is_among v new) (sym (text_same u t e)) ∙ here
+    go false e here later f = later f
+
+-- ## Rules
+
+-- a rule that takes what another takes, and more
+pub record Widens (old new : FieldRule) : Type 0 where
+  pub types : contains_all new.types old.types ≡ true
+  pub rows : is_row old.kind ≡ true → is_row new.kind ≡ true
+  pub singles : is_single_kind old.kind ≡ true → is_single_kind new.kind ≡ true
+
+kind_single : (k l : KindName) → kind_widens k l ≡ true → (is_row k ≡ true → is_row l ≡ true) × (is_single_kind k ≡ true → is_single_kind l ≡ true)
+kind_single Required Required e = (λ f. f, λ f. f)
+kind_single Required Optional e = (λ f. f, λ f. f)
+kind_single Required Sequence e = absurd (cc)
+kind_single Optional Required e = absurd (cc)
+kind_single Optional Optional e = (λ f. f, λ f. f)
+kind_single Optional Sequence e = absurd (cc)
+kind_single Sequence l e = absurd (cc)
+
+only_required : (k l : KindName) → kind_widens k l ≡ true → is_required l ≡ true → is_required k ≡ true
+only_required Required l e f = refl
+only_required Optional Required e f = absurd (cc)
+only_required Optional Optional e f = f
+only_required Optional Sequence e f = absurd (cc)
+only_required Sequence l e f = absurd (cc)
+
+not_optional : (k : KindName) → is_optional k ≡ true → is_required k ≡ true → ⊥
+not_optional Required e f = cc
+not_optional Optional e f = cc
+not_optional Sequence e f = cc
+
+some_there : {A : Type 0} (o : Option A) → is_some o ≡ true → (x : A) × (o ≡ Some x)
+some_there None h = absurd (cc)
+some_there (Some x) h = (x, refl)
+
+-- a field that the old object declares is declared by the new one, and is wider there
+declared_wider : (olds news : List FieldDef) (key : List ℕ) (o : FieldDef) → defs_widen olds news ≡ true → declared olds key ≡ Some o
+    → (n : FieldDef) × (declared news key ≡ Some n) × (kind_widens o.kind n.kind ≡ true) × (contains_all n.types o.types ≡ true)
+declared_wider olds news key o wide e =
+    let parts = both_true (list_all (λ (old : FieldDef). is_some (declared news old.key.0)) olds) (list_all (def_widens olds) news) wide in
+    let there = first-has (λ (f : FieldDef). same f.key.0 key) olds o e in
+    let new = some_there (declared news key) (ap (λ k. is_some (declared news k)) (sym (text_same o.key.0 key there.1)) ∙ all_pass (λ (old : FieldDef). is_some (declared news old.key.0)) olds o parts.0 there.0) in
+    let found = first-has (λ (f : FieldDef). same f.key.0 key) news new.0 new.1 in
+    let widens : widens_found (declared olds new.0.key.0) new.0 ≡ true = all_pass (def_widens olds) news new.0 parts.1 found.0 in
+    let at : declared olds new.0.key.0 ≡ Some o = ap (declared olds) (text_same new.0.key.0 key found.1) ∙ e in
+    let b = both_true (kind_widens o.kind new.0.kind) (contains_all new.0.types o.types) (ap (λ (p : Option FieldDef). widens_found p new.0) (sym at) ∙ widens) in
+    (new.0, new.1, b.0, b.1)
+
+rule_wider : (f g : Form) (key : List ℕ) (rule : FieldRule) → form_widens f g ≡ true → field_in f key ≡ Some rule → (r : FieldRule) × (field_in g key ≡ Some r) × Widens rule r
+rule_wider (Array old) (Array new) [] rule wide e =
+    let is : record { kind = Sequence; types = old } ≡ rule = cc in
+    (record { kind = Sequence; types = new }, refl, subst (λ r. Widens r (record { kind = Sequence; types = new })) is (record { types = wide; rows = λ f. f; singles = λ f. f }))
+rule_wider (Array old) (Array new) (b ∷ key) rule wide e = absurd (cc)
+rule_wider (Array old) (Map new) key rule wide e = absurd (cc)
+rule_wider (Array old) (Object new) key rule wide e = absurd (cc)
+rule_wider (Map old) (Array new) key rule wide e = absurd (cc)
+rule_wider (Map old) (Map new) key rule wide e = go (is_key key) e
+  where
+    go : (b : Bool) → cond b (Some (record { kind = Optional; types = old })) None ≡ Some rule → (r : FieldRule) × (cond b (Some (record { kind = Optional; types = new })) None ≡ Some r) × Widens rule r
+    go true f =
+        let is : record { kind = Optional; types = old } ≡ rule = cc in
+        (record { kind = Optional; types = new }, refl, subst (λ r. Widens r (record { kind = Optional; types = new })) is (record { types = wide; rows = λ f. f; singles = λ f. f }))
+    go false f = absurd (cc)
+rule_wider (Map old) (Object new) key rule wide e = absurd (cc)
+rule_wider (Object olds) (Array new) key rule wide e = absurd (cc)
+rule_wider (Object olds) (Map new) key rule wide e = absurd (cc)
+rule_wider (Object olds) (Object news) key rule wide e = go (declared olds key) refl e
+  where
+    go : (o : Option FieldDef) → declared olds key ≡ o → option_map (λ (f : FieldDef). record { kind = f.kind; types = f.types }) o ≡ Some rule → (r : FieldRule) × (field_in (Object news) key ≡ Some r) × Widens rule r
+    go None q f = absurd (cc)
+    go (Some o) q f =
+        let is : record { kind = o.kind; types = o.types } ≡ rule = cc in
+        let n = declared_wider olds news key o wide q in
+        let kinds = kind_single o.kind n.0.kind n.2 in (
+          record { kind = n.0.kind; types = n.0.types },
+          ap (option_map (λ (f : FieldDef). record { kind = f.kind; types = f.types })) n.1,
+          subst (λ r. Widens r (record { kind = n.0.kind; types = n.0.types })) is (record { types = n.3; rows = kinds.0; singles = kinds.1 }),
+        )
+
+-- what the new form requires, the old one did
+required_before : (f g : Form) (key : List ℕ) (r : FieldRule) → form_widens f g ≡ true → field_in g key ≡ Some r → is_required r.kind ≡ true → (rule : FieldRule) × (field_in f key ≡ Some rule) × (is_required rule.kind ≡ true)
+required_before f (Array new) [] r wide e required = let is : record { kind = Sequence; types = new } ≡ r = cc in absurd (true-false required (ap (λ (r : FieldRule). is_required r.kind) (sym is)))
+required_before f (Array new) (b ∷ key) r wide e required = absurd (cc)
+required_before f (Map new) key r wide e required = go (is_key key) e
+  where
+    go : (b : Bool) → cond b (Some (record { kind = Optional; types = new })) None ≡ Some r → (rule : FieldRule) × (field_in f key ≡ Some rule) × (is_required rule.kind ≡ true)
+    go true q = let is : record { kind = Optional; types = new } ≡ r = cc in absurd (true-false required (ap (λ (r : FieldRule). is_required r.kind) (sym is)))
+    go false q = absurd (cc)
+required_before (Array old) (Object news) key r wide e required = absurd (cc)
+required_before (Map old) (Object news) key r wide e required = absurd (cc)
+required_before (Object olds) (Object news) key r wide e required = go (declared news key) refl e
+  where
+    was : (n : FieldDef) → is_required n.kind ≡ true → (o : Option FieldDef) → declared olds key ≡ o → widens_found o n ≡ true → (rule : FieldRule) × (field_in (Object olds) key ≡ Some rule) × (is_required rule.kind ≡ true)
+    was n need None q w = absurd (not_optional n.kind w need)
+    was n need (Some o) q w = (
+      record { kind = o.kind; types = o.types },
+      ap (option_map (λ (f : FieldDef). record { kind = f.kind; types = f.types })) q,
+      only_required o.kind n.kind (both_true (kind_widens o.kind n.kind) _ w).0 need,
+    )
+
+    go : (p : Option FieldDef) → declared news key ≡ p → option_map (λ (f : FieldDef). record { kind = f.kind; types = f.types }) p ≡ Some r → (rule : FieldRule) × (field_in (Object olds) key ≡ Some rule) × (is_required rule.kind ≡ true)
+    go None q h = absurd (cc)
+    go (Some n) q h =
+        let is : record { kind = n.kind; types = n.types } ≡ r = cc in
+        let found = first-has (λ (f : FieldDef). same f.key.0 key) news n q in
+        let widens : widens_found (declared olds n.key.0) n ≡ true = all_pass (def_widens olds) news n (both_true (list_all (λ (old : FieldDef). is_some (declared news old.key.0)) olds) (list_all (def_widens olds) news) wide).1 found.0 in
+        was n (ap (λ (r : FieldRule). is_required r.kind) is ∙ required) (declared olds key) refl (ap (λ k. widens_found (declared olds k) n) (sym (text_same n.key.0 key found.1)) ∙ widens)
+
+-- ## The form of a type
+
+form_found : (olds news : List (List ℕ × Form)) (ty : List ℕ) (f : Form) → list_all (λ ok. ok) (types_widen olds news) ≡ true → form_of olds ty ≡ Some f → (g : Form) × (form_of news ty ≡ Some g) × (form_widens f g ≡ true)
+form_found [] news ty f wide h = absurd (cc)
+form_found (o ∷ os) [] ty f wide h = absurd (cc)
+form_found (o ∷ os) (n ∷ ns) ty f wide h =
+    let parts = both_true (definition_widens o n) (list_all (λ ok. ok) (types_widen os ns)) wide in
+    go (same ty o.0) refl (both_true (same o.0 n.0) (form_widens o.1 n.1) parts.0).0 (both_true (same o.0 n.0) (form_widens o.1 n.1) parts.0).1 (λ e. form_found os ns ty f parts.1 e) h
+  where
+    go : (b : Bool) → same ty o.0 ≡ b → same o.0 n.0 ≡ true → form_widens o.1 n.1 ≡ true → (form_of os ty ≡ Some f → (g : Form) × (form_of ns ty ≡ Some g) × (form_widens f g ≡ true)) → cond b (Some o.1) (form_of os ty) ≡ Some f
+        → (g : Form) × (form_of (n ∷ ns) ty ≡ Some g) × (form_widens f g ≡ true)
+    go true q names w later e =
+        let is : o.1 ≡ f = cc in
+        let at : same ty n.0 ≡ true = ap (same ty) (sym (text_same o.0 n.0 names)) ∙ q in
+        (n.1, ap (λ c. cond c (Some n.1) (form_of ns ty)) at, ap (λ x. form_widens x n.1) (sym is) ∙ w)
+    go false q names w later e =
+        let at : same ty n.0 ≡ false = ap (same ty) (sym (text_same o.0 n.0 names)) ∙ q in
+        let g = later e in
+        (g.0, ap (λ c. cond c (Some n.1) (form_of ns ty)) at ∙ g.1, g.2)
+
+-- ## Documents and intents
+
+module _ (old new : SchemaView) (sound : is_sound new ≡ true) (wide : wider_of old new ≡ Ok tt) where
+  parts : (list_all (λ ok. ok) (types_widen old.types new.types) ≡ true) × (contains_all new.root old.root ≡ true)
+  parts =
+      let b = both_true _ _ (sym (list_all-append (λ ok. ok) (types_widen old.types new.types) (contains_all new.root old.root ∷ [])) ∙ no_narrowing 0 (types_widen old.types new.types ++ contains_all new.root old.root ∷ []) wide) in
+      (b.0, (both_true (contains_all new.root old.root) true b.1).0)
+
+  type_wider : (ty : List ℕ) (leaf : Option Leaf) → type_fits old ty leaf ≡ true → type_fits new ty leaf ≡ true
+  type_wider ty (Some v) e = e
+  type_wider ty None e = let f = some_there (form_of old.types ty) e in ap is_some (form_found old.types new.types ty f.0 parts.0 f.1).1
+
+  field_wider : (ty key : List ℕ) (rule : FieldRule) → field_of old ty key ≡ Some rule → (r : FieldRule) × (field_of new ty key ≡ Some r) × Widens rule r
+  field_wider ty key rule e = go (form_of old.types ty) refl e
+    where
+      go : (o : Option Form) → form_of old.types ty ≡ o → option_and_then (λ (form : Form). field_in form key) o ≡ Some rule → (r : FieldRule) × (field_of new ty key ≡ Some r) × Widens rule r
+      go None q f = absurd (cc)
+      go (Some form) q f =
+          let g = form_found old.types new.types ty form parts.0 q in
+          let r = rule_wider form g.0 key rule g.2 f in
+          (r.0, ap (option_and_then (λ (form : Form). field_in form key)) g.1 ∙ r.1, r.2)
+
+  field_before : (ty key : List ℕ) (leaf : Option Leaf) (r : FieldRule) → type_fits old ty leaf ≡ true → field_of new ty key ≡ Some r → is_required r.kind ≡ true → (rule : FieldRule) × (field_of old ty key ≡ Some rule) × (is_required rule.kind ≡ true)
+  field_before ty key (Some v) r fits e required =
+      let bad : None ≡ Some r = sym (ap (option_and_then (λ (form : Form). field_in form key)) (leaf_undefined new sound ty v fits)) ∙ e in
+      absurd (cc)
+  field_before ty key None r fits e required =
+      let f = some_there (form_of old.types ty) fits in
+      let g = form_found old.types new.types ty f.0 parts.0 f.1 in
+      let rule = required_before f.0 g.0 key r g.2 (sym (ap (option_and_then (λ (form : Form). field_in form key)) g.1) ∙ e) required in
+      (rule.0, ap (option_and_then (λ (form : Form). field_in form key)) f.1 ∙ rule.1, rule.2)
+
+  among_wider : (E : Document) (types more : List (List ℕ)) (m : NodeId) → contains_all more types ≡ true → has_type E types m ≡ true → has_type E more m ≡ true
+  among_wider E types more m contains e = go (E.nodes m) e
+    where
+      go : (o : Option NodeType) → option_map_or (λ (t : NodeType). is_among t.ty types) o false ≡ true → option_map_or (λ (t : NodeType). is_among t.ty more) o false ≡ true
+      go None f = absurd (cc)
+      go (Some t) f = among_all t.ty more types contains f
+
+  -- in a document whose nodes have types as the old schema wants them
+  module _ (E : Document) (typed : (n : NodeId) (t : NodeType) → E.nodes n ≡ Some t → type_fits old t.ty t.leaf ≡ true) where
+    rule_later_wider : (n : NodeId) (key : Key) (rule : FieldRule) → rule_at E old n key ≡ Some rule → (r : FieldRule) × (rule_at E new n key ≡ Some r) × Widens rule r
+    rule_later_wider n key rule e = go (E.nodes n) e
+      where
+        go : (o : Option NodeType) → option_and_then (λ (t : NodeType). field_of old t.ty key.0) o ≡ Some rule → (r : FieldRule) × (option_and_then (λ (t : NodeType). field_of new t.ty key.0) o ≡ Some r) × Widens rule r
+        go None f = absurd (cc)
+        go (Some t) f = field_wider t.ty key.0 rule f
+
+    rule_before : (n : NodeId) (key : Key) (r : FieldRule) → rule_at E new n key ≡ Some r → is_required r.kind ≡ true → (rule : FieldRule) × (rule_at E old n key ≡ Some rule) × (is_required rule.kind ≡ true)
+    rule_before n key r e required = go (E.nodes n) refl e
+      where
+        go : (o : Option NodeType) → E.nodes n ≡ o → option_and_then (λ (t : NodeType). field_of new t.ty key.0) o ≡ Some r → (rule : FieldRule) × (rule_at E old n key ≡ Some rule) × (is_required rule.kind ≡ true)
+        go None q f = absurd (cc)
+        go (Some t) q f =
+            let rule = field_before t.ty key.0 t.leaf r (typed n t q) f required in
+            (rule.0, ap (option_and_then (λ (t : NodeType). field_of old t.ty key.0)) q ∙ rule.1, rule.2)
+
+    required_was : (f : FieldId) → is_required_field new E f ≡ true → is_required_field old E f ≡ true
+    required_was f e =
+        let r = required_rule new E f e in
+        let rule = rule_before f.node f.key r.0 r.1 r.2 in
+        required_by E old f.node f.key rule.0 rule.1 rule.2
+
+    free_still : (f : FieldId) → IsFree old E f → IsFree new E f
+    free_still f free = record { known = free.known; open_field = go (is_required_field new E f) refl }
+      where
+        go : (b : Bool) → is_required_field new E f ≡ b → is_required_field new E f ≡ false
+        go false e = e
+        go true e = absurd (true-false (required_was f e) free.open_field)
+
+    admits_wider : (home : NodeId → Option FieldId) (kinds : KindName → Bool) (n : NodeId) (key : Key) (m : NodeId) → ((rule r : FieldRule) → Widens rule r → kinds rule.kind ≡ true → kinds r.kind ≡ true) → Admits old home E kinds n key m → Admits new home E kinds n key m
+    admits_wider home kinds n key m kept a =
+        let r = rule_later_wider n key a.rule a.ruled in
+        record {
+          rule = r.0;
+          ruled = r.1;
+          kind = kept a.rule r.0 r.2 a.kind;
+          typed = among_wider E a.rule.types r.0.types m r.2.types a.typed;
+          at_home = λ required. (let rule = rule_before n key r.0 r.1 required in
+              a.at_home (ap (λ (r : FieldRule). is_required r.kind) (one_rule E old n key a.rule rule.0 a.ruled rule.1) ∙ rule.2));
+          away = λ f e. elim (a.away f e) [ inl q ↦ inl q | inr free ↦ inr (free_still f free) ];
+        }
+
+    stands_wider : (home : NodeId → Option FieldId) (m : NodeId) (spot : Spot) → MayStand old home E m spot → MayStand new home E m spot
+    stands_wider home m Spot.Nowhere h = tt
+    stands_wider home m (Spot.Row n c) h = admits_wider home is_row n row_key m (λ rule r w e. w.rows e) h
+    stands_wider home m (Spot.Register f) h = admits_wider home is_single_kind f.node f.key m (λ rule r w e. w.singles e) h
+
+  pub conforms_wider : (home : NodeId → Option FieldId) (D : Document) → IsConforming old home D → IsConforming new home D
+  conforms_wider home D here = record {
+    types = λ n t e. type_wider t.ty t.leaf (here.types n t e);
+    places = λ m. stands_wider D here.types home m (D.place m) (here.places m);
+    filled = λ n key r e required. (let rule = rule_before D here.types n key r e required in here.filled n key rule.0 rule.1 rule.2);
+    homes = here.homes;
+    root_type = among_wider D old.root new.root root parts.1 here.root_type;
+  }
+
+  module _ (home : NodeId → Option FieldId) (D : Document) (N : Intent) (types : (n : NodeId) (t : NodeType) → D.nodes n ≡ Some t → type_fits old t.ty t.leaf ≡ true) (a : KeepsSchema old home D N) where
+    named : (n : NodeId) (t : NodeType) → (with_names D N).nodes n ≡ Some t → type_fits old t.ty t.leaf ≡ true
+    named n t e = go (D.nodes n) refl e
+      where
+        go : (o : Option NodeType) → D.nodes n ≡ o → option_or o (new_type N n) ≡ Some t → type_fits old t.ty t.leaf ≡ true
+        go None q f = a.types n t f
+        go (Some u) q f = types n t (q ∙ f)
+
+    goes_wider : (m : NodeId) (to : To) → MayGo old home D N m to → MayGo new home D N m to
+    goes_wider m To.Nowhere h = tt
+    goes_wider m (To.Cell c) h = (h.0, h.1, admits_wider (with_names D N) named home is_row h.0 row_key m (λ rule r w e. w.rows e) h.2)
+    goes_wider m (To.Register f) h = admits_wider (with_names D N) named home is_single_kind f.node f.key m (λ rule r w e. w.singles e) h
+
+    left_wider : (f : FieldId) → MayBeLeft old D N f → MayBeLeft new D N f
+    left_wider f h = record { known = h.known; filled = λ required. h.filled (required_was (with_names D N) named f required) }
+
+    agrees_wider : KeepsSchema new home D N
+    agrees_wider = record {
+      types = λ n t e. type_wider t.ty t.leaf (a.types n t e);
+      puts = λ m to e. goes_wider m to (a.puts m to e);
+      leaves = λ m f put old_node lives. left_wider f (a.leaves m f put old_node lives);
+      clears = λ f e. left_wider f (a.clears f e);
+      homes = a.homes;
+      filled = λ n key r new_node e required. (let rule = rule_before (with_names D N) named n key r e required in a.filled n key rule.0 new_node rule.1 rule.2);
+    }
+
+  pub intent_wider : (home : NodeId → Option FieldId) (D : Document) (N : Intent) → IsConforming old home D → KeepsSchema old home D N → KeepsSchema new home D N
+  intent_wider home D N here a = agrees_wider home D N here.types a

@@ -1,0 +1,126 @@
+//! What two listings say of one cell.
+ghost use Rattle.std.specs.Prelude.{◌≡◌};
+ghost use Rattle.st_seq.specs.Views.{agree, agree_if_named, same_bool, view_of, view_before, view_after};
+ghost use Rattle.st_ids.specs.Order.{same_cell, same_node};
+ghost use Rattle.st_seq.specs.Reading.{cell_of};
+
+use st_ids::{CellId, NodeId};
+use st_marks::{How, Mark, is_same_cell, is_same_node};
+
+/// What a listing says of a cell: its name and its owner, where it names them, and whether it is full.
+#[derive(Clone, Copy)]
+pub struct Sighting {
+    pub cell: Option<CellId>,
+    pub node: Option<NodeId>,
+    pub full: bool,
+}
+
+/// What a mark says of its cell before, if the cell is there; of a Skip, what it says of each.
+pub fn before(mark: Mark) -> Sighting
+    ensures { view_of result ≡ view_before (cell_of mark) }
+{
+    match mark {
+        Mark::Touch { cell, node, .. } => Sighting {
+            cell: Some(cell),
+            node: Some(node),
+            full: true,
+        },
+        Mark::Fill { cell, node } => Sighting {
+            cell: Some(cell),
+            node: Some(node),
+            full: false,
+        },
+        Mark::Gap(cell) => Sighting {
+            cell: Some(cell),
+            node: None,
+            full: false,
+        },
+        Mark::Make { cell, node, full } => Sighting {
+            cell: Some(cell),
+            node: Some(node),
+            full,
+        },
+        Mark::Skip(_) => Sighting {
+            cell: None,
+            node: None,
+            full: true,
+        },
+    }
+}
+
+/// What a mark says of its cell after; of a Skip, what it says of each.
+pub fn after(mark: Mark) -> Sighting
+    ensures { view_of result ≡ view_after (cell_of mark) }
+{
+    match mark {
+        Mark::Touch { cell, node, how } => Sighting {
+            cell: Some(cell),
+            node: Some(node),
+            full: match how {
+                How::Leave => false,
+                _ => true,
+            },
+        },
+        Mark::Fill { cell, node } => Sighting {
+            cell: Some(cell),
+            node: Some(node),
+            full: true,
+        },
+        Mark::Make { cell, node, full } => Sighting {
+            cell: Some(cell),
+            node: Some(node),
+            full,
+        },
+        Mark::Gap(cell) => Sighting {
+            cell: Some(cell),
+            node: None,
+            full: false,
+        },
+        Mark::Skip(_) => Sighting {
+            cell: None,
+            node: None,
+            full: true,
+        },
+    }
+}
+
+/// Whether two names of cells are one, if both are told.
+fn same_cells(a: Option<CellId>, b: Option<CellId>) -> bool
+    ensures { result ≡ agree_if_named same_cell a b }
+{
+    match a {
+        None => true,
+        Some(x) => match b {
+            None => true,
+            Some(y) => is_same_cell(x, y),
+        },
+    }
+}
+
+/// Whether two names of nodes are one, if both are told.
+fn same_nodes(a: Option<NodeId>, b: Option<NodeId>) -> bool
+    ensures { result ≡ agree_if_named same_node a b }
+{
+    match a {
+        None => true,
+        Some(x) => match b {
+            None => true,
+            Some(y) => is_same_node(x, y),
+        },
+    }
+}
+
+fn same_bools(a: bool, b: bool) -> bool
+    ensures { result ≡ same_bool a b }
+{
+    if a { b } else { !b }
+}
+
+/// Whether both say the same, as far as they tell.
+pub fn is_same(first: Sighting, then: Sighting) -> bool
+    ensures { result ≡ agree (view_of first) (view_of then) }
+{
+    same_bools(first.full, then.full)
+        && same_cells(first.cell, then.cell)
+        && same_nodes(first.node, then.node)
+}

@@ -1,0 +1,178 @@
+-- What the kept documents and numbers stand for, and what holds of the lists of each world that steps lead to.
+use Rattle.std.specs.Prelude.{◌-◌, false, Result, Ok, Err, ◌≡◌, ◌==◌, ℕ, ◌+◌, ◌≤◌, Bool, true, List, [], ◌∷◌, ◌++◌, length, map, drop, filter, Option, Some, None, IfSome}
+use Rattle.std.specs.List.{AllByRecursion}
+use Rattle.st_ids.specs.Listing.{Has}
+use Rattle.st_ids.specs.declared.names.FieldId.{FieldId}
+use Rattle.st_ids.specs.declared.names.NodeId.{NodeId}
+use Rattle.st_marks.specs.declared.intents.Intent.{Intent}
+use Rattle.st_marks.specs.declared.verdicts.Verdict.{Verdict}
+use Rattle.st_marks.specs.Document.{opening}
+use Rattle.st_marks.specs.Intent.{Fits}
+use Rattle.st_marks.specs.Run.{Run}
+use Rattle.st_marks.specs.Verdict.{IsVerdict, carried}
+use Rattle.st_ids.specs.declared.names.Limit.{Limit}
+use Rattle.st_tree.specs.declared.edit.EditFault.{EditFault}
+use Rattle.st_log_laws.specs.Names.{HaveNewRevisions}
+use Rattle.st_log_laws.specs.Turns.{FitInTurn}
+use Rattle.st_schema_laws.specs.Agreeing.{KeepSchemaInTurn}
+use Rattle.st_schema_laws.specs.Conforming.{IsConforming}
+use Rattle.st_doc.specs.Doc.{document_of}
+use Rattle.st_doc.specs.LiveText.{is_among}
+use Rattle.st_schema.specs.Schema.{is_sound}
+use Rattle.st_edits.specs.ArrayTypes.{is_array_type}
+use Rattle.st_script.specs.Header.{HeaderView, header_view, may_open}
+use Rattle.st_trace.specs.Known.{AreKnown}
+use Rattle.st_trace.specs.Log.{commit_of, commits_in}
+use Rattle.st_trace.specs.World.{HasReceived, HasShown, opening_document, received_by, names_made, names_in, limit_passed}
+use Rattle.st_trace.specs.declared.replica.Replica.{Replica}
+use Rattle.st_trace.specs.declared.state.Client.{Client}
+use Rattle.st_trace.specs.declared.state.Entry.{Entry}
+use Rattle.st_trace.specs.declared.state.Queued.{Queued}
+use Rattle.st_trace.specs.declared.world.World.{World}
+
+-- ## One client
+
+-- the commits of the texts that wait
+abbrev pub intents_of : List Queued → List Intent
+intents_of qs = map (λ (q : Queued). q.intent) qs
+
+-- the commits of a session among some entries
+abbrev pub commits_by : ℕ → List Entry → List Intent
+commits_by s entries = commits_in (filter (λ (e : Entry). e.session == s) entries)
+
+-- all commits that are in the log, and those of a client that are on their way there
+abbrev pub log_and_queue : List Entry → Client → List Intent
+log_and_queue log c = commits_in log ++ intents_of c.queue
+
+-- what a client's lists are, beside the log
+pub record IsClient (h : HeaderView) (log : List Entry) (c : Client) : Type 0 where
+  pub within : c.received ≤ length log
+  -- it has at most 256 commits pending, with 16,384 names
+  pub few : length c.pending ≤ 256
+  pub few_names : names_in c.pending ≤ 16384
+  -- pending are its commits in the log that it has not received, and then those that wait
+  pub under_way : c.pending ≡ commits_by c.session (drop c.received log) ++ intents_of c.queue
+  -- what it shows, and what the log comes to when its queue is sent, can be carried out in turn
+  pub shown_fit : FitInTurn (opening_document h) (received_by log c ++ c.pending)
+  pub sent_fit : FitInTurn (opening_document h) (log_and_queue log c)
+  -- no revision is there twice, those that wait are of its session, and those of its session are among the ids that it generated
+  pub new : HaveNewRevisions (opening ∷ []) (log_and_queue log c)
+  pub own : AllByRecursion (λ (N : Intent). N.rev.session ≡ c.session) (intents_of c.queue)
+  pub ids : (N : Intent) → Has (log_and_queue log c) N → N.rev.session ≡ c.session → N.rev.num ≤ c.ids
+
+-- the kept documents are those to which the client's lists lead
+pub record IsReplicaOf (h : HeaderView) (log : List Entry) (c : Client) (k : Replica) : Type 0 where
+  pub received : HasReceived h log c (document_of k.received)
+  pub shown : HasShown h log c (document_of k.shown)
+  pub names : k.names ≡ names_in c.pending
+
+-- ## The world
+
+-- the clients' sessions are counted from k on
+abbrev pub HaveSessionsFrom : ℕ → List Client → Type 0
+HaveSessionsFrom k [] = Unit {0}
+HaveSessionsFrom k (c ∷ cs) = (c.session ≡ k) × HaveSessionsFrom (k + 1) cs
+
+-- the header is one that a trace may open with
+pub record IsHeader (h : HeaderView) : Type 0 where
+  pub schema : is_sound h.schema ≡ true
+  pub tree : may_open h.schema h.tree ≡ true
+
+-- what is kept of each client stands for its lists
+abbrev pub AreReplicas : HeaderView → List Entry → List Client → List Replica → Type 0
+AreReplicas h log [] [] = Unit {0}
+AreReplicas h log (c ∷ cs) [] = ⊥
+AreReplicas h log [] (k ∷ ks) = ⊥
+AreReplicas h log (c ∷ cs) (k ∷ ks) = IsClient h log c × IsReplicaOf h log c k × AreReplicas h log cs ks
+
+-- the homes of nodes are such that the document opened conforms to the schema, and each commit agrees with it where it comes
+pub record KeepSchemaWith (h : HeaderView) (log : List Entry) (cs : List Client) (home : NodeId → Option FieldId) : Type 0 where
+  pub start : IsConforming h.schema home (opening_document h)
+  -- the commits of the log, one after the other, and those that each client shows
+  pub logged : KeepSchemaInTurn h.schema home (opening_document h) (commits_in log)
+  pub shown : AllByRecursion (λ (c : Client). KeepSchemaInTurn h.schema home (opening_document h) (received_by log c ++ c.pending)) cs
+
+-- there are such homes
+abbrev pub KeepToSchema : HeaderView → List Entry → List Client → Type 0
+KeepToSchema h log cs = (home : NodeId → Option FieldId) × KeepSchemaWith h log cs home
+
+-- an entry's commit has the revision of its session, which is one of those given
+abbrev pub IsEntryOf : ℕ → Entry → Type 0
+IsEntryOf sessions e = (e.session ≤ sessions) × IfSome (commit_of e) (λ N. N.rev.session ≡ e.session)
+
+-- what holds of a world after so many steps
+pub record IsSoundAfter (steps : ℕ) (w : World) : Type 0 where
+  pub header : IsHeader (header_view w.header)
+  pub kept : AreReplicas (header_view w.header) w.lists.log w.lists.clients w.kept
+  pub sessions : HaveSessionsFrom 1 w.lists.clients
+  pub clients : length w.lists.clients ≤ 64
+  pub ids : AllByRecursion (λ (c : Client). c.ids ≤ steps) w.lists.clients
+  pub log : AllByRecursion (IsEntryOf (length w.lists.clients)) w.lists.log
+  pub log_fit : FitInTurn (opening_document (header_view w.header)) (commits_in w.lists.log)
+  pub log_new : HaveNewRevisions (opening ∷ []) (commits_in w.lists.log)
+  pub schema : KeepToSchema (header_view w.header) w.lists.log w.lists.clients
+  pub head : Run (opening_document (header_view w.header)) (commits_in w.lists.log) (document_of w.head)
+  pub entries : length w.lists.log ≤ 65535
+  pub names : w.names ≡ names_in (commits_in w.lists.log)
+  pub few_names : names_in (commits_in w.lists.log) ≤ 131072
+  pub known : AreKnown w.lists.log w.known
+  pub arrays : is_among w.arrays ≡ is_array_type (header_view w.header).schema
+
+abbrev pub IsSound : World → Type 0
+IsSound w = IsSoundAfter w.steps w
+
+-- the same with one step more
+abbrev pub IsSoundNext : World → Type 0
+IsSoundNext w = IsSoundAfter (w.steps + 1) w
+
+-- ## Steps of a client
+
+-- a commit is carried out in the document that a client shows
+pub record IsCommitted (old : Replica) (N : Intent) (new : Replica) : Type 0 where
+  pub shown : (v : Verdict) × IsVerdict (document_of old.shown) N v × (document_of new.shown ≡ carried v (document_of old.shown) N)
+  pub received : new.received ≡ old.received
+  pub names : new.names ≡ old.names + names_made N
+
+-- a commit that passes no limit is carried out, and after another nothing has changed
+abbrev pub IsPending : Replica → Intent → Option Limit → Replica → Type 0
+IsPending old N None new = IsCommitted old N new
+IsPending old N (Some l) new = new ≡ old
+
+abbrev pub IsEditedReplica : Client → Replica → Result Intent EditFault → Replica → Type 0
+IsEditedReplica c old (Err f) new = new ≡ old
+IsEditedReplica c old (Ok N) new = IsPending old N (limit_passed c N) new
+
+-- a commit with this verdict is carried out in the document of what was received
+pub record HasCarried (old : Replica) (N : Intent) (v : Verdict) (new : Replica) : Type 0 where
+  pub verdict : IsVerdict (document_of old.received) N v
+  pub after : document_of new.received ≡ carried v (document_of old.received) N
+
+-- a commit of its own leaves what a client shows, and another comes before what is pending
+abbrev pub HasShownAfter : Client → Replica → Bool → Intent → Replica → Type 0
+HasShownAfter c old true N new = (document_of new.shown ≡ document_of old.shown) × (new.names ≡ old.names - names_made N)
+HasShownAfter c old false N new = Run (document_of new.received) c.pending (document_of new.shown) × (new.names ≡ old.names)
+
+abbrev pub HasReceivedOne : Client → Replica → Bool → Intent → Verdict → Replica → Type 0
+HasReceivedOne c old own N v new = HasCarried old N v new × HasShownAfter c old own N new
+
+-- a commit can be received: it fits what was received, and what is pending then still fits
+pub record CanCarry (c : Client) (k : Replica) (own : Bool) (N : Intent) : Type 0 where
+  pub fits : Fits (document_of k.received) N
+  pub later : own ≡ false → FitInTurn (document_of k.received) (N ∷ c.pending)
+  pub names : own ≡ true → names_made N ≤ k.names
+
+abbrev pub CanReceive : Client → Replica → Entry → Type 0
+CanReceive c k e = IfSome (commit_of e) (CanCarry c k (e.session == c.session))
+
+-- an entry was received
+abbrev pub HasReceivedOf : Client → Replica → Bool → Option Intent → Verdict → Replica → Type 0
+HasReceivedOf c old own None v new = (v ≡ Verdict.Sound) × (new ≡ old)
+HasReceivedOf c old own (Some N) v new = HasReceivedOne c old own N v new
+
+abbrev pub HasReceivedNext : Client → Replica → Entry → Verdict → Replica → Type 0
+HasReceivedNext c old e v new = HasReceivedOf c old (e.session == c.session) (commit_of e) v new
+
+-- the next entry, if there is one, was received
+abbrev pub HasMoved : Client → Replica → Option Entry → Replica → Type 0
+HasMoved c old None new = new ≡ old
+HasMoved c old (Some e) new = (v : Verdict) × HasReceivedNext c old e v new

@@ -1,0 +1,45 @@
+//! The world as lists: what the answers are defined by.
+
+use st_ids::{List, Text};
+use st_marks::Intent;
+
+/// The log, and the clients in the order of their joins.
+#[derive(Drop)]
+pub struct WorldState {
+    pub log: List<Entry>,
+    pub clients: List<Client>,
+}
+
+/// An entry of the log. `n` is its number, counted from 1.
+#[derive(Drop)]
+pub struct Entry {
+    pub n: u32,
+    pub session: u32,
+    pub body: Body,
+}
+
+/// What an entry says. A commit's reference is the number of entries that its author had received.
+#[derive(Drop)]
+pub enum Body {
+    Join,
+    Commit { reference: u32, intent: Intent },
+}
+
+/// A client: how many entries it received, how many ids it generated, its commits that it has not received back, and
+/// the texts of commits that are not in the log yet.
+#[derive(Drop)]
+pub struct Client {
+    pub name: Text,
+    pub session: u32,
+    pub received: u32,
+    pub ids: u32,
+    pub pending: List<Intent>,
+    pub queue: List<Queued>,
+}
+
+/// A text that waits: a commit, and the number of entries that were received when it was written.
+#[derive(Drop)]
+pub struct Queued {
+    pub reference: u32,
+    pub intent: Intent,
+}
