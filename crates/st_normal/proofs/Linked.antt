@@ -20,7 +20,7 @@ use Rattle.st_normal.specs.Naming.{is_named}
 use Rattle.st_normal.specs.Ring.{AreListed}
 use Rattle.st_marks.specs.Row.{CellMark, spread}
 use Rattle.st_marks.specs.Listings.{Listing, CellView, Places, cell_view, one_or_none}
-use Rattle.st_marks.specs.Listings.Says.{says_in_row, says_in_register, says_nowhere}
+use Rattle.st_marks.specs.Listings.Places.{placed_in_row, placed_in_register, placed_nowhere}
 use Rattle.st_marks.proofs.Members.{append_left, append_right, has-append, map-has, has-map, flat_map-has, has-flat_map, first-has, first-distinct}
 use Rattle.st_normal.proofs.Naming.{named-name, name-named}
 
@@ -129,14 +129,14 @@ module _ {R : Type 0} (L : Listing) (rows : List RowMarks) (regs : List R) (fiel
           let m = has-map (link r.0.node) (stands (spread r.0.marks)) (link p n) r.2 in
           let e = link-parts r.0.node p m.0 n m.2 in
           let k = w.stands_cell (spread r.0.marks) n (subst (Has (stands (spread r.0.marks))) e.1 m.1) in
-          (Spot.Row r.0.node k.1, says_in_row r.0.node n k.1 (cells (spread r.0.marks)) k.0 (w.row_shown r.0 r.1) k.2, ap (λ x. Some x) e.0)
+          (Spot.Row r.0.node k.1, placed_in_row r.0.node n k.1 (cells (spread r.0.marks)) k.0 (w.row_shown r.0 r.1) k.2, ap (λ x. Some x) e.0)
 
       from_register : Has (links_at field held regs) (link p n) → (s : Spot) × Places L n s × (node_of s ≡ Some p)
       from_register h =
           let r = has-flat_map (λ (r : R). map (link (field r).node) (one_or_none (held r))) regs (link p n) h in
           let m = has-map (link (field r.0).node) (one_or_none (held r.0)) (link p n) r.2 in
           let e = link-parts (field r.0).node p m.0 n m.2 in
-          (Spot.Register (field r.0), says_in_register (field r.0) n (w.register_shown r.0 r.1 ∙ ap (λ o. Some o) (one-has (held r.0) m.0 m.1 ∙ ap (λ x. Some x) e.1)), ap (λ x. Some x) e.0)
+          (Spot.Register (field r.0), placed_in_register (field r.0) n (w.register_shown r.0 r.1 ∙ ap (λ o. Some o) (one-has (held r.0) m.0 m.1 ∙ ap (λ x. Some x) e.1)), ap (λ x. Some x) e.0)
 
       in_row : (q : NodeId) (c : CellId) (cs : List CellView) (k : ℕ) → L.row q ≡ Some cs → slice_get cs k ≡ Some (cell_view c n true) → q ≡ p → Has (links_in stands rows ++ links_at field held regs) (link p n)
       in_row q c cs k e f g =
@@ -152,6 +152,6 @@ module _ {R : Type 0} (L : Listing) (rows : List RowMarks) (regs : List R) (fiel
           (subst (λ x. Has (map (link (field r.0).node) (one_or_none (held r.0))) (link x n)) (ap (λ (f : FieldId). f.node) r.2 ∙ g) (map-has (link (field r.0).node) (one_or_none (held r.0)) n (has-one (held r.0) n r.3))))
 
       back : (s : Spot) → Places L n s → node_of s ≡ Some p → Has (links_in stands rows ++ links_at field held regs) (link p n)
-      back s (says_in_row q m c cs k e f) g = in_row q c cs k e f (let q : q ≡ p = cc in q)
-      back s (says_in_register f m e) g = in_register f e (let q : f.node ≡ p = cc in q)
-      back s (says_nowhere m e) g = cc
+      back s (placed_in_row q m c cs k e f) g = in_row q c cs k e f (let q : q ≡ p = cc in q)
+      back s (placed_in_register f m e) g = in_register f e (let q : f.node ≡ p = cc in q)
+      back s (placed_nowhere m e) g = cc

@@ -1,6 +1,6 @@
 //! A world that is opened, and two of its steps.
 ghost use Rattle.std.specs.Prelude.{◌≡◌, false, ◌+◌, ◌^◌, ◌<◌, IfOk, OnOk};
-ghost use Rattle.st_trace.specs.Replica.{IsSound};
+ghost use Rattle.st_trace.specs.Replicas.{IsSound};
 
 use st_script::{Answer, Line, answer_line, read_header, read_step_line};
 use st_trace::World;

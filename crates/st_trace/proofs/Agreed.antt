@@ -28,7 +28,7 @@ use Rattle.st_schema_laws.proofs.InTurn.{agree_front, agree_longer, agree_then_o
 use Rattle.st_schema_laws.proofs.Opened.{allowed_conforms}
 use Rattle.st_script.specs.Header.{HeaderView}
 use Rattle.st_script.specs.declared.answer.Answer.{Answer}
-use Rattle.st_trace.specs.Replica.{AreReplicas, HaveSessionsFrom, IsClient, IsHeader, KeepToSchema, commits_by, intents_of, log_and_queue}
+use Rattle.st_trace.specs.Replicas.{AreReplicas, HaveSessionsFrom, IsClient, IsHeader, KeepToSchema, commits_by, intents_of, log_and_queue}
 use Rattle.st_trace.specs.Log.{commit_of, commits_in, log_with}
 use Rattle.st_trace.specs.World.{HasShown, IsDeliveredTo, with_commit, after_edit, new_client, limit_passed, names_in, next_rev, opening_document, pending_after, with_pending, received_by, with_received}
 use Rattle.st_trace.specs.declared.client.EditWord.{EditWord}

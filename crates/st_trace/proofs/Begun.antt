@@ -31,7 +31,7 @@ use Rattle.st_log_laws.specs.Names.{IsMadeUnder}
 use Rattle.st_schema.specs.declared.header.Header.{Header}
 use Rattle.st_script.specs.Header.{HeaderView, header_line, header_view, may_open}
 use Rattle.st_script.proofs.OfForm.{header_line_kept}
-use Rattle.st_trace.specs.Replica.{IsHeader}
+use Rattle.st_trace.specs.Replicas.{IsHeader}
 use Rattle.st_trace.specs.World.{opening_document}
 
 -- ## The list of a tree's nodes

@@ -20,7 +20,7 @@ use Rattle.st_log_laws.proofs.Room.{room_in_run}
 use Rattle.st_log_laws.proofs.Shorter.{sublist_itself, sublist_joined, new_shorter}
 use Rattle.st_log_laws.proofs.Beside.{another_later, later_fits, one_fits}
 use Rattle.st_script.specs.Header.{HeaderView}
-use Rattle.st_trace.specs.Replica.{IsClient, commits_by, intents_of, log_and_queue}
+use Rattle.st_trace.specs.Replicas.{IsClient, commits_by, intents_of, log_and_queue}
 use Rattle.st_trace.specs.Log.{commit_of, commits_in, log_with}
 use Rattle.st_trace.specs.World.{HasReceived, HasShown, with_commit, new_client, names_in, names_made, next_rev, opening_document, received_by}
 use Rattle.st_trace.specs.declared.state.Body.TheVariants.{Join, Commit}

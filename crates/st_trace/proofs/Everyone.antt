@@ -3,7 +3,7 @@ use Rattle.std.proofs.Common.{◌≡◌, ◌≤◌, ◌<◌, ◌+◌, ◌==◌, 
 use Rattle.std.specs.List.{slice_get, slice_set, AllByRecursion}
 use Rattle.std.proofs.lemmas.Bool.Decides.{nat_tests}
 use Rattle.st_script.specs.Header.{HeaderView}
-use Rattle.st_trace.specs.Replica.{IsClient, IsReplicaOf, AreReplicas, HaveSessionsFrom}
+use Rattle.st_trace.specs.Replicas.{IsClient, IsReplicaOf, AreReplicas, HaveSessionsFrom}
 use Rattle.st_trace.specs.Log.{log_with, commits_in}
 use Rattle.st_trace.specs.World.{names_in, names_made, opening_document}
 use Rattle.st_trace.specs.declared.replica.Replica.{Replica}

@@ -28,7 +28,7 @@ use Rattle.st_script.specs.Steps as step
 use Rattle.st_script.specs.declared.answer.Answer.{Answer}
 use Rattle.st_script.specs.declared.answer.Answer.TheVariants.{Deliver, No, Show}
 use Rattle.st_script.specs.declared.refusal.Refusal.TheVariants.{NoBranch, NoClient, NothingNew}
-use Rattle.st_trace.specs.Replica.{IsSound}
+use Rattle.st_trace.specs.Replicas.{IsSound}
 use Rattle.st_trace.specs.Log.{commit_of}
 use Rattle.st_trace.specs.World.{AtClient, IsDelivered, IsDeliveredTo, IsEdited, IsNext, IsNextOf, IsShown, IsVerdictOf, OnBranch, after_edit, client_named, next_names, join, place_of, sequence, with_received, with_client}
 use Rattle.st_trace.specs.declared.client.EditWord.{EditWord}

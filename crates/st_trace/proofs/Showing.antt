@@ -17,7 +17,7 @@ use Rattle.st_script.specs.Header.{HeaderView, header_view}
 use Rattle.st_script.specs.Steps.{StepView, branch_of, name_of}
 use Rattle.st_script.specs.Steps as step
 use Rattle.st_script.specs.declared.answer.Answer.{Answer}
-use Rattle.st_trace.specs.Replica.{IsSound}
+use Rattle.st_trace.specs.Replicas.{IsSound}
 use Rattle.st_trace.specs.World.{AtClient, HasShown, IsAllowedText, IsDeliveredTo, IsEdited, IsNext, IsNextOf, OnBranch, ShowsAllowed, answer_of, after_edit, entering, client_named, join, limit_passed, log_limit_passed, names_made, next_rev, opening_document, with_pending, place_of, received_by, sequence}
 use Rattle.st_trace.specs.declared.client.EditWord.{EditWord}
 use Rattle.st_trace.specs.declared.state.Client.{Client}

@@ -30,7 +30,7 @@ use Rattle.st_script.specs.declared.answer.Answer.TheVariants.{No}
 use Rattle.st_script.specs.declared.refusal.Refusal.TheVariants.{NothingToSend, NoClient, NoBranch}
 use Rattle.st_script.specs.Steps.{StepView, name_of, branch_of}
 use Rattle.st_script.specs.Steps as step
-use Rattle.st_trace.specs.Replica.{AreReplicas, IsClient, IsEntryOf, IsReplicaOf, IsSound, IsSoundAfter, KeepToSchema, intents_of, log_and_queue}
+use Rattle.st_trace.specs.Replicas.{AreReplicas, IsClient, IsEntryOf, IsReplicaOf, IsSound, IsSoundAfter, KeepToSchema, intents_of, log_and_queue}
 use Rattle.st_trace.specs.Known.{AreKnown}
 use Rattle.st_trace.specs.Log.{commit_of, commits_in, log_with}
 use Rattle.st_trace.specs.World.{AtClient, IsNext, IsNextOf, OnBranch, client_named, new_client, log_limit_passed, names_in, names_made, opening_document, place_of, sequence}

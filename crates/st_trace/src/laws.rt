@@ -2,7 +2,7 @@
 ghost use Rattle.st_script.specs.Header.{header_view};
 ghost use Rattle.st_script.specs.Steps.{StepView};
 ghost use Rattle.st_script.specs.declared.answer.Answer.{Answer};
-ghost use Rattle.st_trace.specs.Replica.{IsSound};
+ghost use Rattle.st_trace.specs.Replicas.{IsSound};
 ghost use Rattle.st_trace.specs.World.{IsNext};
 ghost use Rattle.st_trace.specs.declared.state.WorldState.{WorldState};
 ghost use Rattle.st_trace.specs.declared.world.World.{World};

@@ -1,5 +1,5 @@
 use Rattle.std.proofs.Common.{◌+◌, sym, ap, subst}
-use Rattle.st_trace.specs.Replica.{IsSoundAfter}
+use Rattle.st_trace.specs.Replicas.{IsSoundAfter}
 use Rattle.st_trace.specs.Known.{AreKnown}
 use Rattle.st_trace.specs.declared.world.World.{World}
 use Rattle.st_trace.proofs.Stepping.{head_fits, head_sound, sound_sent, text_within}
