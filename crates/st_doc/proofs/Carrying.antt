@@ -14,8 +14,8 @@ use Rattle.st_marks.specs.declared.places.Spot.{Spot}
 use Rattle.st_marks.specs.Document.{Document, IsSoundInForm, NodeType}
 use Rattle.st_marks.specs.Intent.{Fits, is_new, put_of, clears}
 use Rattle.st_marks.specs.CarryOut.{spot_of, place_after, with_names, is_put_in_new}
-use Rattle.st_doc.specs.Ahead.{in_new, inside_new}
-use Rattle.st_doc.specs.Evictions.{evicted}
+use Rattle.st_doc.specs.inside.Ahead.{in_new, inside_new}
+use Rattle.st_doc.specs.inside.Evictions.{evicted}
 use Rattle.st_doc.proofs.Look.{any_more}
 
 -- where nodes stand after evictions and puts

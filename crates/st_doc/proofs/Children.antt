@@ -15,7 +15,7 @@ use Rattle.st_marks.specs.Document.{Document, IsSoundInForm, above, content, is_
 use Rattle.st_marks.specs.LiveTree.{owners_shown, register}
 use Rattle.st_marks.proofs.Climb.{shown, stands, is_cell-true}
 use Rattle.st_marks.proofs.Members.{all-has, has-all, append_left, append_right, has-append, map-has, has-map, distinct-append}
-use Rattle.st_doc.specs.LiveText.{KeysRise}
+use Rattle.st_doc.specs.inside.LiveText.{KeysRise}
 use Rattle.st_doc.specs.declared.seats.Seat.{Seat}
 
 -- ## Rows

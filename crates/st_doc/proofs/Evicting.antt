@@ -15,7 +15,7 @@ use Rattle.st_marks.specs.declared.intents.To.{To}
 use Rattle.st_marks.specs.declared.places.Spot.{Spot}
 use Rattle.st_marks.specs.Intent.{is_new, is_register}
 use Rattle.st_marks.specs.CarryOut.{only_new, unless_put}
-use Rattle.st_doc.specs.Evictions.{stands_in, is_held, evicted}
+use Rattle.st_doc.specs.inside.Evictions.{stands_in, is_held, evicted}
 use Rattle.st_intent.proofs.Scans.{is_some-find, is_some-map}
 use Rattle.st_doc.proofs.Look.{any_more, drop_one}
 

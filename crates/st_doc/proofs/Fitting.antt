@@ -21,7 +21,7 @@ use Rattle.st_marks.proofs.Members.{any-has, has-any, all-has, has-all, has-flat
 use Rattle.st_intent.proofs.Obeyed.{one_rev, made_is}
 use Rattle.st_intent.proofs.Scans.{is_new-listed}
 use Rattle.st_intent.proofs.Tells.{Tells, tells_both, tells_either, tells_not, tells_as, tells_all, tells_parts}
-use Rattle.st_doc.specs.Fitting.{nodes_fresh, cells_fresh, schema_fresh, is_known, is_that, anchor_known, group_known, has_owned, owns_old, owns_new, owns, target_known, put_known, names_fresh, names_known, names_fit}
+use Rattle.st_doc.specs.inside.Fitting.{nodes_fresh, cells_fresh, schema_fresh, is_known, is_that, anchor_known, group_known, has_owned, owns_old, owns_new, owns, target_known, put_known, names_fresh, names_known, names_fit}
 
 is_none_tells : {A : Type 0} (o : Option A) → Tells (not (is_some o)) (o ≡ None)
 is_none_tells None = (λ e. refl, λ e. refl)

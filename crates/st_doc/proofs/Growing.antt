@@ -15,7 +15,7 @@ use Rattle.st_marks.specs.declared.intents.Owned.{Owned}
 use Rattle.st_marks.specs.Intent.{IsIntent, group_at, new_row_of, same_anchor, cells_of}
 use Rattle.st_marks.specs.CarryOut.{with_groups}
 use Rattle.st_marks.proofs.Members.{all-has, first-has, none-has, distinct-between, distinct-left}
-use Rattle.st_doc.specs.Growing.{behind, at_anchor, with_group, IsPlaceOf}
+use Rattle.st_doc.specs.inside.Growing.{behind, at_anchor, with_group, IsPlaceOf}
 use Rattle.st_doc.proofs.Look.{take_one, drop_one}
 
 -- ## A place in a row

@@ -18,7 +18,7 @@ use Rattle.st_ids.specs.declared.names.NodeId.{NodeId}
 use Rattle.st_ids.proofs.Orders.{same_node-true, same_node-itself, field_cmp_exact, field_cmp_total, node_cmp_total}
 use Rattle.st_marks.specs.LiveTree.{register}
 use Rattle.st_marks.proofs.Members.{all-has, has-all}
-use Rattle.st_doc.specs.LiveText.{seat_at, seats_of, KeysRise}
+use Rattle.st_doc.specs.inside.LiveText.{seat_at, seats_of, KeysRise}
 use Rattle.st_doc.specs.declared.seats.Seat.{Seat}
 
 abbrev bytes_cmp : List ℕ → List ℕ → Ordering

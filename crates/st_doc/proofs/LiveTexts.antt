@@ -25,7 +25,7 @@ use Rattle.st_marks.specs.declared.places.Slot.{Slot}
 use Rattle.st_marks.specs.Document.{Document, content, slot}
 use Rattle.st_marks.specs.LiveTree.{leaf_data, owners_shown, register, one_member, Shows, shows_leaf, shows_row, shows_registers, ShowsItems, no_more_items, next_item, ShowsMembers, no_more_members, next_member, key_at}
 use Rattle.st_marks.proofs.Members.{all-has, append_left, append_right, distinct-between, distinct-left, has-map, map-has}
-use Rattle.st_doc.specs.LiveText.{seat_at, seats_of, KeysRise, AllShown, IsPart, AreMade, AreValues, AreMembers, KeepsOthers}
+use Rattle.st_doc.specs.inside.LiveText.{seat_at, seats_of, KeysRise, AllShown, IsPart, AreMade, AreValues, AreMembers, KeepsOthers}
 use Rattle.st_doc.specs.declared.seats.Seat.{Seat}
 use Rattle.st_doc.proofs.Look.{take_one, drop_one}
 use Rattle.st_doc.proofs.Ordered.{drop_has}

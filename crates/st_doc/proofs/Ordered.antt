@@ -18,7 +18,7 @@ use Rattle.st_marks.specs.Document.{Document, IsLive, IsSoundInForm, above, clim
 use Rattle.st_marks.proofs.Climb.{placed_known}
 use Rattle.st_marks.proofs.Members.{all-has, has-all, append_left, append_right, has-append, any-has, distinct-append}
 use Rattle.st_doc.specs.Nodes.{type_of}
-use Rattle.st_doc.specs.TopDown.{IsTopDown}
+use Rattle.st_doc.specs.inside.TopDown.{IsTopDown}
 
 -- ## Places in a list
 

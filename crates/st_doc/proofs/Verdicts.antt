@@ -23,7 +23,7 @@ use Rattle.st_marks.specs.CarryOut.{full, with_names, spot_of, unless_cleared, p
 use Rattle.st_marks.specs.Verdict.{IsLeast}
 use Rattle.st_marks.proofs.Members.{any-has, has-any, map-has, has-map, has-append, append_left, append_right}
 use Rattle.st_marks.proofs.Lookups.{put-has}
-use Rattle.st_doc.specs.Ahead.{IsLeastOf, least_with, Reaches, above_ahead, place_ahead}
+use Rattle.st_doc.specs.inside.Ahead.{IsLeastOf, least_with, Reaches, above_ahead, place_ahead}
 use Rattle.st_intent.proofs.Scans.{is_some-find, is_some-map}
 
 -- ## Schemas

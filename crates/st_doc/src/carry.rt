@@ -4,7 +4,7 @@ ghost use Rattle.st_marks.specs.Document.{HasShortRows, IsSoundInForm};
 ghost use Rattle.st_marks.specs.Intent.{Fits};
 ghost use Rattle.st_marks.specs.CarryOut.{full, void, with_schema};
 ghost use Rattle.st_marks.specs.Verdict.{IsVerdict, carried};
-ghost use Rattle.st_doc.specs.Ahead.{AreTargets};
+ghost use Rattle.st_doc.specs.inside.Ahead.{AreTargets};
 
 use crate::doc::Doc;
 use crate::evictions::{clear_all, evict_all, fill_all, fill_all_new, leave_all};

@@ -6,7 +6,7 @@ ghost use Rattle.st_ids.specs.declared.names.NodeId.{NodeId as Node};
 ghost use Rattle.st_ids.specs.Order.{node_cmp};
 ghost use Rattle.st_marks.specs.Document.{node_of};
 ghost use Rattle.st_marks.specs.CarryOut.{unless_cleared};
-ghost use Rattle.st_doc.specs.Ahead.{above_ahead, Reaches};
+ghost use Rattle.st_doc.specs.inside.Ahead.{above_ahead, Reaches};
 
 use st_ids::NodeId;
 use st_intent::is_cleared;

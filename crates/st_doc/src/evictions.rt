@@ -8,7 +8,7 @@ ghost use Rattle.st_ids.specs.Order.{node_cmp, field_cmp, same_node, same_field}
 ghost use Rattle.st_marks.specs.declared.places.Spot.{Spot as Standing};
 ghost use Rattle.st_marks.specs.Intent.{clears, is_new, is_register, put_in};
 ghost use Rattle.st_marks.specs.CarryOut.{only_new, unless_put};
-ghost use Rattle.st_doc.specs.Evictions.{IsOneHeld, stands_in, is_held, evicted};
+ghost use Rattle.st_doc.specs.inside.Evictions.{IsOneHeld, stands_in, is_held, evicted};
 
 use crate::maps::{add, set, unset};
 use st_ids::{Copied, FieldId, NodeId};

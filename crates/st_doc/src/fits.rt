@@ -5,7 +5,7 @@ ghost use Rattle.st_ids.specs.Order.{same_rev};
 ghost use Rattle.st_marks.specs.Document.{IsSoundInForm};
 ghost use Rattle.st_marks.specs.Intent.{Fits};
 ghost use Rattle.st_doc.specs.Doc.{document_of};
-ghost use Rattle.st_doc.specs.Fitting.{nodes_fresh, cells_fresh, schema_fresh, is_known as is_known_in, anchor_known, group_known as group_known_in, owners_known, has_owned, owns_old, owns_new, owns as owns_in, target_known, put_known as put_known_in, names_fresh, names_known, names_fit};
+ghost use Rattle.st_doc.specs.inside.Fitting.{nodes_fresh, cells_fresh, schema_fresh, is_known as is_known_in, anchor_known, group_known as group_known_in, owners_known, has_owned, owns_old, owns_new, owns as owns_in, target_known, put_known as put_known_in, names_fresh, names_known, names_fit};
 
 use crate::doc::Doc;
 use crate::rows::cells_of;

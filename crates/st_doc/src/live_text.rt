@@ -8,7 +8,8 @@ ghost use Rattle.st_ids.specs.Order.{node_cmp, same_node};
 ghost use Rattle.st_marks.specs.Document.{IsSoundInForm, above, content, root};
 ghost use Rattle.st_marks.specs.LiveTree.{leaf_data, one_member, owners_shown, Shows, IsTreeText};
 ghost use Rattle.st_doc.specs.Doc.{document_of};
-ghost use Rattle.st_doc.specs.LiveText.{AllShown, AreMade, AreMembers, AreSeats, AreValues, IsPart, KeepsOthers, KeysRise, is_among};
+ghost use Rattle.st_doc.specs.LiveText.{is_among};
+ghost use Rattle.st_doc.specs.inside.LiveText.{AllShown, AreMade, AreMembers, AreSeats, AreValues, IsPart, KeepsOthers, KeysRise};
 ghost use Rattle.st_doc.specs.declared.seats.Seat.{Seat as Held};
 
 use crate::doc::Doc;

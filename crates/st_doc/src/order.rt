@@ -4,8 +4,8 @@ ghost use Rattle.st_marks.specs.Document.{IsSoundInForm, content};
 ghost use Rattle.st_marks.specs.LiveTree.{owners_shown};
 ghost use Rattle.st_doc.specs.declared.seats.Seat.{Seat as Held};
 ghost use Rattle.st_doc.specs.Doc.{document_of};
-ghost use Rattle.st_doc.specs.LiveText.{AreSeats};
-ghost use Rattle.st_doc.specs.TopDown.{IsTopDown};
+ghost use Rattle.st_doc.specs.inside.LiveText.{AreSeats};
+ghost use Rattle.st_doc.specs.inside.TopDown.{IsTopDown};
 
 use crate::doc::Doc;
 use crate::live::is_full;

@@ -7,7 +7,7 @@ ghost use Rattle.st_ids.specs.Order.{node_cmp, same_node};
 ghost use Rattle.st_marks.specs.declared.intents.Owned.{Owned as OwnedCell};
 ghost use Rattle.st_marks.specs.Intent.{IsIntent, same_anchor, group_at};
 ghost use Rattle.st_marks.specs.CarryOut.{with_groups};
-ghost use Rattle.st_doc.specs.Growing.{IsPlaceOf, at_anchor, at_place, with_group};
+ghost use Rattle.st_doc.specs.inside.Growing.{IsPlaceOf, at_anchor, at_place, with_group};
 
 use crate::maps::set;
 use st_ids::{CellId, List, NodeId};

@@ -4,7 +4,7 @@ ghost use Rattle.std.specs.BTreeMap.{get};
 ghost use Rattle.std.specs.Option.{option_to_list};
 ghost use Rattle.st_ids.specs.declared.names.NodeId.{NodeId as Node};
 ghost use Rattle.st_ids.specs.Order.{node_cmp};
-ghost use Rattle.st_doc.specs.LiveText.{seat_at, AreSeats};
+ghost use Rattle.st_doc.specs.inside.LiveText.{seat_at, AreSeats};
 
 use crate::maps::push_at;
 use st_ids::{Copied, FieldId, List, NodeId, Text};

@@ -7,7 +7,7 @@ ghost use Rattle.st_ids.specs.declared.names.NodeId.{NodeId as Node};
 ghost use Rattle.st_ids.specs.Order.{node_cmp, cell_cmp, same_node};
 ghost use Rattle.st_marks.specs.Intent.{put_of, new_row_of, is_new};
 ghost use Rattle.st_marks.specs.CarryOut.{spot_of};
-ghost use Rattle.st_doc.specs.Ahead.{AreTargets, in_new, inside_new};
+ghost use Rattle.st_doc.specs.inside.Ahead.{AreTargets, in_new, inside_new};
 
 use crate::climb::node_of;
 use crate::maps::set;

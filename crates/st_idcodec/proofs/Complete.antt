@@ -29,7 +29,7 @@ use Rattle.st_clusters.specs.declared.ids.SessionIds.{SessionIds}
 use Rattle.st_clusters.proofs.Stable.{session_known}
 use Rattle.st_idcodec.specs.TableText.{uuid_text, uuid_data, cluster_data, table_data}
 use Rattle.st_idcodec.specs.Tables.{Step, joins, finalises, IsTable, AreWide, AreSettled, after_steps, no_ids}
-use Rattle.st_idcodec.specs.Reading.{IsRead, same, with_text, uuid_of_text, uuid_of, cluster_of, clusters_of, after_uuid, after_uuid_value, after_uuids, after_clusters, led_to}
+use Rattle.st_idcodec.specs.inside.Reading.{IsRead, same, with_text, uuid_of_text, uuid_of, cluster_of, clusters_of, after_uuid, after_uuid_value, after_uuids, after_clusters, led_to}
 use Rattle.st_idcodec.proofs.Going.{used_of, used_new, AllGo}
 use Rattle.st_idcodec.proofs.Running.{led_after, HasAll, IsLed, AllGiven, all_given, one_table}
 use Rattle.st_idcodec.proofs.Sessions.{after_joins, uuids_in, with_joined, joined_is, uuids_kept}

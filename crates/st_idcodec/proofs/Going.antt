@@ -11,7 +11,7 @@ use Rattle.st_clusters.specs.declared.ids.Cluster.{Cluster}
 use Rattle.st_clusters.specs.declared.ids.IdRange.{IdRange}
 use Rattle.st_clusters.proofs.Clusters.{places_push}
 use Rattle.st_clusters.proofs.Ranges.{range_cases}
-use Rattle.st_idcodec.specs.Reading.{part, front_of, rest_of}
+use Rattle.st_idcodec.specs.inside.Reading.{part, front_of, rest_of}
 use Rattle.st_idcodec.proofs.Parsing.{cluster_same}
 
 -- ## How many ids of a session the clusters give

@@ -8,7 +8,7 @@ use Rattle.serde_json.specs.View.{items_view}
 use Rattle.serde_json.specs.declared.value.Value.{Value}
 use Rattle.uuid.specs.Text.{parsed}
 use Rattle.st_clusters.specs.declared.ids.Cluster.{Cluster}
-use Rattle.st_idcodec.specs.Reading.{cluster_in, with_text, uuid_of_text}
+use Rattle.st_idcodec.specs.inside.Reading.{cluster_in, with_text, uuid_of_text}
 
 pub few_values : (vs : List Value) → length vs < 5 → ◌≡◌ {A = Option Cluster} None (cluster_in (items_view vs))
 few_values [] h = refl

@@ -13,7 +13,7 @@ use Rattle.st_clusters.specs.declared.ids.Cluster.{Cluster}
 use Rattle.st_clusters.specs.declared.ids.IdFault.{IdFault}
 use Rattle.st_clusters.specs.declared.ids.IdRange.{IdRange}
 use Rattle.st_clusters.specs.declared.ids.SessionIds.{SessionIds}
-use Rattle.st_idcodec.specs.Reading.{part, front_of, rest_of, after_cluster, after_clusters}
+use Rattle.st_idcodec.specs.inside.Reading.{part, front_of, rest_of, after_cluster, after_clusters}
 use Rattle.st_idcodec.proofs.Going.{used_of, used_new, used_more, used_others, Goes, AllGo, both_parts}
 use Rattle.st_idcodec.proofs.Gone.{range_go}
 use Rattle.st_idcodec.proofs.Sessions.{uuids_in, IsTaken, is_taken, uuids_kept, to_ok}

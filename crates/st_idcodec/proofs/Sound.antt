@@ -13,7 +13,7 @@ use Rattle.uuid.specs.Text.{parsed}
 use Rattle.st_clusters.specs.declared.ids.Cluster.{Cluster}
 use Rattle.st_idcodec.specs.OpText.{small, place_number}
 use Rattle.st_idcodec.specs.TableText.{plain_number, cluster_data, uuid_text}
-use Rattle.st_idcodec.specs.Reading.{same, wide_number, cluster_of_numbers, cluster_in, cluster_of, clusters_of, with_text, uuid_of_text, uuid_of, both_items, items_in, table_items}
+use Rattle.st_idcodec.specs.inside.Reading.{same, wide_number, cluster_of_numbers, cluster_in, cluster_of, clusters_of, with_text, uuid_of_text, uuid_of, both_items, items_in, table_items}
 
 -- ## Options
 

@@ -17,7 +17,7 @@ use Rattle.st_clusters.specs.declared.ids.IdRange.{IdRange}
 use Rattle.st_clusters.specs.declared.ids.SessionIds.{SessionIds}
 use Rattle.st_idcodec.specs.TableText.{uuid_text, uuid_data, table_data}
 use Rattle.st_idcodec.specs.Tables.{Step, joins, finalises, IsTable, AreWide, after_steps, no_ids}
-use Rattle.st_idcodec.specs.Reading.{IsRead, uuid_of, after_uuid, after_uuid_value, after_uuids, front_of, rest_of, after_range, after_cluster, after_clusters}
+use Rattle.st_idcodec.specs.inside.Reading.{IsRead, uuid_of, after_uuid, after_uuid_value, after_uuids, front_of, rest_of, after_range, after_cluster, after_clusters}
 use Rattle.st_idcodec.proofs.Sound.{from_some, from_map, uuid_is, clusters_are, members_is}
 use Rattle.st_idcodec.proofs.Sessions.{after_joins, uuids_in, with_joined, joined_is, uuids_kept, from_ok}
 

@@ -1,4 +1,4 @@
 pub mod OpText
-pub mod Reading
 pub mod TableText
 pub mod Tables
+pub mod inside

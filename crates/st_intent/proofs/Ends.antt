@@ -6,7 +6,7 @@ use Rattle.st_ids.specs.Order.{same_node}
 use Rattle.st_ids.specs.declared.names.NodeId.{NodeId}
 use Rattle.st_ids.proofs.Orders.{same_node-true, same_node-itself}
 use Rattle.st_marks.specs.Document.{climb, ClimbsToAnEnd}
-use Rattle.st_intent.specs.Rules.{ends_within}
+use Rattle.st_intent.specs.inside.Rules.{ends_within}
 
 module _ (up : NodeId → Option NodeId) where
   -- an end that is reached is an end

@@ -22,7 +22,8 @@ use Rattle.st_marks.specs.declared.intents.To.{To}
 use Rattle.st_marks.specs.Document.{ClimbsToAnEnd, root}
 use Rattle.st_marks.specs.Intent.{IsIntent, is_new, put_of, new_row_of, clears, cell_of, register_of, same_anchor, group_cells, above_new}
 use Rattle.st_marks.proofs.Members.{any-has, has-any, all-has, has-all, has-flat_map, flat_map-has, map-has, distinct-append, distinct-left, distinct-right, distinct-between}
-use Rattle.st_intent.specs.Rules.{are_same, makes, is_put, new_names_hold, cells_are_distinct, anchor_made, group_holds, groups_hold, is_nowhere, fills_cleared, put_holds, puts_hold, ends_within, no_ring_holds, is_empty, has_nothing, schema_holds, others_hold, is_intent}
+use Rattle.st_intent.specs.Rules.{makes, is_put}
+use Rattle.st_intent.specs.inside.Rules.{are_same, new_names_hold, cells_are_distinct, anchor_made, group_holds, groups_hold, is_nowhere, fills_cleared, put_holds, puts_hold, ends_within, no_ring_holds, is_empty, has_nothing, schema_holds, others_hold, is_intent}
 use Rattle.st_intent.proofs.Tells.{Tells, true-false, tells_both, tells_either, tells_not, not_false, tells_as, tells_all, tells_apart, tells_apart_some, tells_some}
 use Rattle.st_intent.proofs.Scans.{is_some-find, is_some-map, is_new-listed}
 use Rattle.st_intent.proofs.Ends.{ends_from, ends_soon}

@@ -4,7 +4,7 @@ use Rattle.std.specs.List.{list_any, list_all, AllByRecursion, filter_map, flat_
 use Rattle.std.proofs.lemmas.Bool.Decides.{nat_tests}
 use Rattle.st_ids.specs.Listing.{AreDistinct, Has}
 use Rattle.st_marks.proofs.Members.{any-has, has-any, all-has, has-all, has-flat_map, flat_map-has, has-filter_map}
-use Rattle.st_intent.specs.Rules.{are_distinct}
+use Rattle.st_intent.specs.inside.Rules.{are_distinct}
 
 -- a test tells a fact
 abbrev pub Tells : Bool → Type 0 → Type 0

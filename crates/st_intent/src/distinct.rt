@@ -3,7 +3,7 @@ ghost use Rattle.std.specs.Prelude.{◌≡◌, ◌&&◌};
 ghost use Rattle.std.specs.List.{list_any};
 ghost use Rattle.st_ids.specs.Order.{same_node, same_cell, same_field};
 ghost use Rattle.st_marks.specs.Intent.{same_anchor, cell_of, register_of};
-ghost use Rattle.st_intent.specs.Rules.{are_distinct, are_same};
+ghost use Rattle.st_intent.specs.inside.Rules.{are_distinct, are_same};
 
 use crate::finds::has_cell;
 use crate::same::{is_same_anchor, is_same_cell, is_same_field, is_same_node};

@@ -2,7 +2,8 @@
 ghost use Rattle.std.specs.Prelude.{◌≡◌, ◌||◌, not, false};
 ghost use Rattle.std.specs.List.{list_all};
 ghost use Rattle.st_ids.specs.Order.{same_rev};
-ghost use Rattle.st_intent.specs.Rules.{new_names_hold, makes, is_put as is_put_by, cells_are_distinct, anchor_made, group_holds, groups_hold};
+ghost use Rattle.st_intent.specs.Rules.{makes, is_put as is_put_by};
+ghost use Rattle.st_intent.specs.inside.Rules.{new_names_hold, cells_are_distinct, anchor_made, group_holds, groups_hold};
 ghost use Rattle.st_marks.specs.Intent.{is_new as is_new_by};
 
 use crate::distinct::{

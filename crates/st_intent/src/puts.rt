@@ -1,7 +1,7 @@
 //! The rules on puts.
 ghost use Rattle.std.specs.Prelude.{◌≡◌};
 ghost use Rattle.std.specs.List.{list_all};
-ghost use Rattle.st_intent.specs.Rules.{is_nowhere, fills_cleared, put_holds, puts_hold};
+ghost use Rattle.st_intent.specs.inside.Rules.{is_nowhere, fills_cleared, put_holds, puts_hold};
 
 use crate::distinct::{put_cells_are_distinct, put_registers_are_distinct, puts_are_distinct};
 use crate::finds::{is_cleared, is_new, is_put};

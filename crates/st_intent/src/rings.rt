@@ -1,7 +1,7 @@
 //! New nodes inside new nodes.
 ghost use Rattle.std.specs.Prelude.{◌≡◌, ◌+◌, length};
 ghost use Rattle.st_marks.specs.Intent.{put_under, above_new, put_of};
-ghost use Rattle.st_intent.specs.Rules.{ends_within, no_ring_holds};
+ghost use Rattle.st_intent.specs.inside.Rules.{ends_within, no_ring_holds};
 
 use crate::finds::{is_new, new_row_of, put_of};
 use st_ids::NodeId;

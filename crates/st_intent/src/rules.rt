@@ -1,7 +1,7 @@
 //! All rules together.
 ghost use Rattle.std.specs.Prelude.{◌≡◌, ◌↔◌, ◌<◌, true, not, nat_lt, length};
 ghost use Rattle.std.specs.List.{list_all};
-ghost use Rattle.st_intent.specs.Rules.{has_nothing, schema_holds, others_hold, is_intent as is_intent_by};
+ghost use Rattle.st_intent.specs.inside.Rules.{has_nothing, schema_holds, others_hold, is_intent as is_intent_by};
 ghost use Rattle.st_marks.specs.Intent.{IsIntent, is_new as is_new_by};
 
 use crate::finds::is_new;

@@ -2,7 +2,7 @@
 use Rattle.std.proofs.Common.{◌≡◌, ℕ, zero, suc, List, refl}
 use Rattle.std.specs.List.{list_any}
 use Rattle.st_marks.specs.Embedding.{tells}
-use Rattle.st_normal.specs.Links.{stands_before, stands_after}
+use Rattle.st_normal.specs.inside.Links.{stands_before, stands_after}
 use Rattle.st_marks.specs.Row.{CellMark, counted}
 use Rattle.st_normal.specs.Rules.{found_in, incoming, hole_owners, fill_owners}
 use Rattle.st_marks.specs.Listings.{cells_in, cells_made}

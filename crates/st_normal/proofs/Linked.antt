@@ -15,9 +15,9 @@ use Rattle.st_normal.specs.declared.entries.Link.{Link}
 use Rattle.st_marks.specs.declared.marks.RowMarks.{RowMarks}
 use Rattle.st_marks.specs.declared.places.Spot.{Spot}
 use Rattle.st_marks.specs.Document.{node_of}
-use Rattle.st_normal.specs.Links.{link, links_in, links_at, up_by}
-use Rattle.st_normal.specs.Naming.{is_named}
-use Rattle.st_normal.specs.Ring.{AreListed}
+use Rattle.st_normal.specs.inside.Links.{link, links_in, links_at, up_by}
+use Rattle.st_normal.specs.inside.Naming.{is_named}
+use Rattle.st_normal.specs.inside.Ring.{AreListed}
 use Rattle.st_marks.specs.Row.{CellMark, spread}
 use Rattle.st_marks.specs.Listings.{Listing, CellView, Places, cell_view, one_or_none}
 use Rattle.st_marks.specs.Listings.Places.{placed_in_row, placed_in_register, placed_nowhere}

@@ -15,8 +15,9 @@ use Rattle.st_ids.specs.declared.names.Rev.{Rev}
 use Rattle.st_marks.specs.declared.schemas.SchemaEntry.{SchemaEntry}
 use Rattle.st_normal.specs.declared.entries.Found.{Found}
 use Rattle.st_marks.specs.declared.marks.How.{How}
-use Rattle.st_normal.specs.Rules.{Entries, NodesAreFoundOnce, IsFoundAs, how_found}
-use Rattle.st_normal.specs.Naming.{is_named}
+use Rattle.st_normal.specs.Rules.{Entries, NodesAreFoundOnce, IsFoundAs}
+use Rattle.st_normal.specs.inside.Rules.{how_found}
+use Rattle.st_normal.specs.inside.Naming.{is_named}
 use Rattle.st_marks.proofs.Members.{all-has, has-all, none-has, first-has, first-distinct, map-has, has-map, true-false}
 
 is_eq_equal : (o : Ordering) → is_eq o ≡ true → o ≡ Equal

@@ -19,8 +19,8 @@ use Rattle.st_marks.specs.Agree.{LeadsUp}
 use Rattle.st_marks.specs.Document.{node_of}
 use Rattle.st_marks.specs.Embedding.{is_among}
 use Rattle.st_marks.specs.Intent.{same_option}
-use Rattle.st_normal.specs.Links.{link, links_in, links_at, stands_after, stands_before, up_by, are_new}
-use Rattle.st_normal.specs.Ring.{HasRing}
+use Rattle.st_normal.specs.inside.Links.{link, links_in, links_at, stands_after, stands_before, up_by, are_new}
+use Rattle.st_normal.specs.inside.Ring.{HasRing}
 use Rattle.st_marks.specs.How.{is_here, is_leave}
 use Rattle.st_normal.specs.Rules.{entries_of_change, entries_of_step, found_held, found_at, found_over, put_at, put_over, how_over, ChangeIsRising, StepIsRising, NodesAreFoundOnce, NodesArePutOnce, PutNodesLeave, NewNodesAreNotFound, NoRingBeforeChange, NoRingOfNewNodes, IsNewInNew}
 use Rattle.st_marks.specs.Listings.{Places, cells_after, cells_before, held_after, nodes_new, one_or_none, listing_before_change, listing_after_change, listing_before_step, listing_after_step}

@@ -4,7 +4,8 @@ use Rattle.std.specs.List.{AllByRecursion}
 use Rattle.st_ids.specs.Listing.{Has}
 use Rattle.st_ids.specs.declared.names.NodeId.{NodeId}
 use Rattle.st_marks.specs.declared.marks.How.TheVariants.{Here, Leave}
-use Rattle.st_normal.specs.Rules.{Entries, NodesAreFoundOnce, IsFoundAs, how_found}
+use Rattle.st_normal.specs.Rules.{Entries, NodesAreFoundOnce, IsFoundAs}
+use Rattle.st_normal.specs.inside.Rules.{how_found}
 use Rattle.st_normal.proofs.Naming.{how_found-is}
 use Rattle.st_normal.proofs.Tells.{all-iff}
 

@@ -10,7 +10,7 @@ use Rattle.st_ids.proofs.Orders.{node_cmp_total, node_cmp_exact, field_cmp_total
 use Rattle.st_marks.specs.declared.changes.NewNode.{NewNode}
 use Rattle.st_marks.specs.declared.marks.RowMarks.{RowMarks}
 use Rattle.st_marks.specs.Embedding.{is_among}
-use Rattle.st_normal.specs.Links.{stands_after, stands_before}
+use Rattle.st_normal.specs.inside.Links.{stands_after, stands_before}
 use Rattle.st_marks.specs.Row.{CellMark, Counted, Gap, Touch, Make, Fill, spread}
 use Rattle.st_marks.specs.Listings.{Listing, CellView, cell_view, cells_before, cells_after, rows_before, rows_after, registers_after, nodes_new}
 use Rattle.st_marks.specs.How.{is_leave}

@@ -1,5 +1,2 @@
-pub mod Naming
 pub mod Rules
-pub mod Ring
-pub mod Links
-pub mod Scan
+pub mod inside

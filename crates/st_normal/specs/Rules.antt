@@ -1,5 +1,5 @@
 -- The rules of normal form: a closed list by which a change or a step is judged as it stands alone, without a document.
-use Rattle.std.specs.Prelude.{◌≡◌, ◌≢◌, ◌⊎◌, ◌^◌, ◌<◌, ◌++◌, Bool, true, false, List, [], ◌∷◌, map, length, Option, Some, None, option_map, IsSome, IsTrue, IfSome, MatchOption, if◌then◌else◌}
+use Rattle.std.specs.Prelude.{◌≡◌, ◌≢◌, ◌⊎◌, ◌^◌, ◌<◌, ◌++◌, List, [], ◌∷◌, map, length, Option, Some, None, IsSome, IsTrue, IfSome, MatchOption, if◌then◌else◌}
 use Rattle.std.specs.List.{AllByRecursion, find, list_any, flat_map}
 use Rattle.st_ids.specs.Listing.{AreDistinct, Has, IsRising}
 use Rattle.st_ids.specs.Order.{same_node, node_cmp, field_cmp}
@@ -24,7 +24,6 @@ use Rattle.st_marks.specs.Agree.{LeadsUp}
 use Rattle.st_marks.specs.Document.{first_of, node_of, opening, root}
 use Rattle.st_marks.specs.Embedding.{tells}
 use Rattle.st_marks.specs.Intent.{same_option}
-use Rattle.st_normal.specs.Naming.{is_named}
 use Rattle.st_marks.specs.Row.{CellMark, Counted, Gap, Touch, Make, Fill, merge, spread}
 use Rattle.st_marks.specs.Listings.{Places, cells_after, cells_before, cells_in, cells_made, nodes_new, one_or_none, listing_after_change, listing_after_step, listing_before_change, listing_before_step}
 use Rattle.st_marks.specs.How.{is_stay}
@@ -149,10 +148,6 @@ IsFound L n = Has (map (λ (f : Found). f.node) L.found) n
 -- it finds the node, of which this becomes
 abbrev pub IsFoundAs : Entries → NodeId → How → Type 0
 IsFoundAs L n h = Has L.found (record { node = n; how = h })
-
--- what becomes of a node, where it finds it first
-abbrev pub how_found : Entries → NodeId → Option How
-how_found L n = option_map (λ (f : Found). f.how) (find (is_named (λ (f : Found). f.node.0) n.0) L.found)
 
 -- the nodes of listed fields
 abbrev pub fields_of : Entries → List NodeId

@@ -6,7 +6,7 @@ ghost use Rattle.std.specs.Option.{option_or};
 ghost use Rattle.st_ids.specs.Listing.{AreDistinct, Has};
 ghost use Rattle.st_ids.specs.Order.{atom_cmp};
 ghost use Rattle.st_ids.specs.declared.names.Atom.{Atom as Name};
-ghost use Rattle.st_normal.specs.Naming.{is_named};
+ghost use Rattle.st_normal.specs.inside.Naming.{is_named};
 
 use crate::entries::{Found, Link};
 use crate::scan::Walk;

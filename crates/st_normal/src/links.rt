@@ -1,8 +1,8 @@
 //! Which nodes stand in the rows and registers of which, and whether they do in a ring.
 ghost use Rattle.std.specs.Prelude.{◌≡◌, ◌↔◌, ◌++◌, IsTrue, map, refl};
 ghost use Rattle.std.specs.List.{filter};
-ghost use Rattle.st_normal.specs.Links.{link, links_at, links_in, are_new, stands_after, stands_before, up_by};
-ghost use Rattle.st_normal.specs.Ring.{HasRing};
+ghost use Rattle.st_normal.specs.inside.Links.{link, links_at, links_in, are_new, stands_after, stands_before, up_by};
+ghost use Rattle.st_normal.specs.inside.Ring.{HasRing};
 ghost use Rattle.st_marks.specs.Row.{spread};
 ghost use Rattle.st_normal.specs.declared.entries.Link.{Link as Linked};
 

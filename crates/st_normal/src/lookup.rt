@@ -1,7 +1,8 @@
 //! Looking up what a change or a step lists.
 ghost use Rattle.std.specs.Prelude.{◌≡◌, ◌↔◌, IsTrue};
 ghost use Rattle.st_ids.specs.Listing.{Has};
-ghost use Rattle.st_normal.specs.Rules.{HasListedField, IsFound, NodesAreFoundOnce, NodesArePutOnce, fields_of, how_found};
+ghost use Rattle.st_normal.specs.Rules.{HasListedField, IsFound, NodesAreFoundOnce, NodesArePutOnce, fields_of};
+ghost use Rattle.st_normal.specs.inside.Rules.{how_found};
 
 use crate::entries::Found;
 use crate::index::{Index, Named};

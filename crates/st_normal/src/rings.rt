@@ -4,7 +4,7 @@ ghost use Rattle.std.specs.BTreeMap.{get};
 ghost use Rattle.st_ids.specs.declared.names.NodeId.{NodeId as Node};
 ghost use Rattle.st_ids.specs.Order.{node_cmp, same_node};
 ghost use Rattle.st_marks.specs.Document.{ClimbsToAnEnd};
-ghost use Rattle.st_normal.specs.Ring.{AreListed, HasRing, HaveEnded};
+ghost use Rattle.st_normal.specs.inside.Ring.{AreListed, HasRing, HaveEnded};
 
 use st_ids::NodeId;
 use st_marks::is_same_node;

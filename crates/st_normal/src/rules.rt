@@ -4,7 +4,8 @@ ghost use Rattle.st_ids.specs.Listing.{Has};
 ghost use Rattle.st_ids.specs.declared.names.NodeId.{NodeId as Node};
 ghost use Rattle.st_marks.specs.Document.{root};
 ghost use Rattle.st_marks.specs.Row.{spread};
-ghost use Rattle.st_normal.specs.Rules.{IsFound, how_found};
+ghost use Rattle.st_normal.specs.Rules.{IsFound};
+ghost use Rattle.st_normal.specs.inside.Rules.{how_found};
 ghost use Rattle.st_marks.specs.Listings.{cells_before};
 ghost use Rattle.st_marks.specs.declared.marks.How.TheVariants.{Here as HereMark, Leave as LeaveMark};
 

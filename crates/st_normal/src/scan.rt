@@ -3,7 +3,7 @@ ghost use Rattle.std.specs.Prelude.{◌≡◌, List, [], ◌∷◌, ◌↔◌, �
 ghost use Rattle.std.specs.List.{AllByRecursion, flat_map};
 ghost use Rattle.st_ids.specs.declared.names.NodeId.{NodeId as Node};
 ghost use Rattle.st_marks.specs.declared.marks.Mark.{Mark as Marked};
-ghost use Rattle.st_normal.specs.Scan.{TakesFirst};
+ghost use Rattle.st_normal.specs.inside.Scan.{TakesFirst};
 
 use crate::rules::ROOT;
 use st_ids::NodeId;

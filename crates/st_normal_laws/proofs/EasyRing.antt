@@ -26,8 +26,8 @@ use Rattle.st_marks.specs.Listings.{Places, placed_in_row, placed_in_register, p
 use Rattle.st_marks.specs.How.{is_leave}
 use Rattle.st_marks.proofs.Lookups.{group_at-group, has-put, new_row_of-group, put_in-has}
 use Rattle.st_marks.proofs.Members.{has-map}
-use Rattle.st_normal.specs.Links.{stands_after}
-use Rattle.st_normal.specs.Ring.{Reaches}
+use Rattle.st_normal.specs.inside.Links.{stands_after}
+use Rattle.st_normal.specs.inside.Ring.{Reaches}
 use Rattle.st_normal.specs.Rules.{IsNewInNew, NoRingOfNewNodes, incoming}
 use Rattle.st_normal.proofs.AboveItself.{never_ends, one_step, step_before}
 use Rattle.st_normal.proofs.Linked.{item_of-has}

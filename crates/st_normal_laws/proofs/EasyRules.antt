@@ -28,12 +28,12 @@ use Rattle.st_normal_laws.proofs.FoundPlaces.{held_place, touch_place, found_the
 use Rattle.st_normal_laws.proofs.Easy.{embedding_over, mentioned-found, row-look, row-told}
 use Rattle.st_marks.specs.Agree.{LeadsUp}
 use Rattle.st_marks.specs.Agree.LeadsUp.{one_up, further_up}
-use Rattle.st_normal.specs.Ring.{Reaches}
+use Rattle.st_normal.specs.inside.Ring.{Reaches}
 use Rattle.st_marks.specs.Verdict.{HasBase}
 use Rattle.st_normal.proofs.AboveItself.{never_ends, one_step, step_before}
 use Rattle.st_normal.proofs.NoRings.{among_has}
 use Rattle.st_normal.proofs.ShownPlaces.{before_stands}
-use Rattle.st_normal.specs.Links.{stands_before}
+use Rattle.st_normal.specs.inside.Links.{stands_before}
 
 merged-told : (r : RowMarks) (n : NodeId) (cells : List CellMark) → row_marks n cells ≡ Some r → r.marks ≡ merge cells
 merged-told r n cells e = ap at (sym e ∙ ap (λ b. cond b (Some (record { node = n; marks = merge cells })) None) (row-told r n cells e).1)

@@ -12,7 +12,7 @@ use Rattle.st_marks.specs.declared.intents.Owned.{Owned}
 use Rattle.st_marks.specs.declared.places.Slot.{Slot}
 use Rattle.st_marks.specs.declared.places.Spot.{Spot}
 use Rattle.st_marks.specs.Document.{IsSoundInForm, ClimbsToAnEnd, above, climb, content, is_cell, node_of, owned, root, slot}
-use Rattle.st_normal.specs.Ring.{AreListed}
+use Rattle.st_normal.specs.inside.Ring.{AreListed}
 use Rattle.st_normal.proofs.AboveItself.{no_ring-leads_up, too_long}
 use Rattle.st_marks.proofs.Climb.{is_cell-true}
 use Rattle.st_marks.proofs.Members.{true-false, all-has, has-all, append_left, append_right, has-append, map-has, has-map, flat_map-has, has-flat_map, first-has, none-has, any-has, has-any, distinct-has, first-distinct, one_list, list_distinct}

@@ -28,7 +28,7 @@ use Rattle.st_marks.specs.Agree.{LeadsUp}
 use Rattle.st_marks.specs.Agree.LeadsUp.{one_up, further_up}
 use Rattle.st_marks.specs.Document.{Document, IsSoundInForm, ClimbsToAnEnd, climb, content, node_of, owned, root, slot}
 use Rattle.st_marks.specs.Intent.{Fits, IsIntent, IsKnown, Owns, above_new, cell_of, clears, group_cells, is_new, new_row_of, put_of, put_under, register_of}
-use Rattle.st_normal.specs.Ring.{AreListed}
+use Rattle.st_normal.specs.inside.Ring.{AreListed}
 use Rattle.st_marks.specs.Row.{CellMark, Counted, Gap, Touch, Make, Fill, spread}
 use Rattle.st_marks.specs.How.{is_here, is_leave}
 use Rattle.st_normal.specs.Rules.{IsFound, IsNewInNew, Entries, ObeysDataRules, fields_of, found_at, found_in, found_loose, in_rows, entries_of_change}
@@ -44,7 +44,7 @@ use Rattle.st_normal_laws.proofs.Mentioned.{filter-has, leaving-has, row_put-has
 use Rattle.st_normal_laws.proofs.Exact.{put-cases, put-moved, known-need}
 use Rattle.st_normal_laws.proofs.Puts.{put_once, put-is, cell-put, one_mark}
 use Rattle.st_normal_laws.proofs.Groups.{start_once, group-cases}
-use Rattle.st_normal.specs.Links.{stands_after}
+use Rattle.st_normal.specs.inside.Links.{stands_after}
 use Rattle.st_normal_laws.proofs.MeantFits.{rows_once, regs_once, new_once, new-is, is-new, found-old, moving-found, group-nonempty, group-cell, cell-made, make-made, made_all, once-filter_map, cell_once, anchor_once, anchor-row, new_row-none, make-owner, made-new, made-all, group-cells}
 use Rattle.st_normal_laws.proofs.Basics.{one-is}
 

@@ -35,9 +35,9 @@ use Rattle.st_marks.specs.Embedding.{is_among}
 use Rattle.st_marks.specs.Normal.{IsNormalChange}
 use Rattle.st_marks.specs.Verdict.{HasBase}
 use Rattle.st_normal.proofs.ShownPlaces.{stands-before}
-use Rattle.st_normal.specs.Links.{stands_before}
+use Rattle.st_normal.specs.inside.Links.{stands_before}
 use Rattle.st_normal_laws.specs.Laid.{laid, LaidRow, owned_at, cells_at}
-use Rattle.st_normal_laws.specs.One.{over_all, node_atoms, found_row, found_reg, entry, entries_for, nodes_of_found, finds_of, names_in}
+use Rattle.st_normal_laws.specs.inside.One.{over_all, node_atoms, found_row, found_reg, entry, entries_for, nodes_of_found, finds_of, names_in}
 use Rattle.st_normal_laws.specs.Seed.{CanBeFound, Finds, FoundHeld, FoundRow, IsBelow, IsFoundAt, cells_named, fresh_cell, fresh_node, lay, lay_cell, nodes_found, owners_laid, seed}
 use Rattle.st_normal_laws.proofs.LaidSound.{cell_found}
 use Rattle.st_normal_laws.proofs.SeedSound.{cell_is, fresh-not, seed_held, seed_layout, seed_nowhere, seed_row, seed_sound}

@@ -25,7 +25,7 @@ use Rattle.st_normal.specs.Rules.{ObeysChangeRules, ObeysDataRules, ObeysSchemaR
 use Rattle.st_marks.specs.Verdict.{HasBase}
 use Rattle.st_marks.proofs.Members.{true-false}
 use Rattle.st_normal_laws.specs.Laid.{IsLayout, Layout, laid, StandsAt}
-use Rattle.st_normal_laws.specs.One.{entry}
+use Rattle.st_normal_laws.specs.inside.One.{entry}
 use Rattle.st_normal_laws.proofs.LaidSound.{laid_sound}
 use Rattle.st_normal_laws.proofs.OneSeed.{data_normal}
 

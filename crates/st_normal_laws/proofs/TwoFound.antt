@@ -13,7 +13,8 @@ use Rattle.st_marks.specs.Document.{node_of}
 use Rattle.st_marks.specs.Listings.{CellView, one_or_none}
 use Rattle.st_marks.proofs.Members.{all-has, has-all, append_left, append_right, has-append, has-map, first-has, has-any, distinct-append, distinct-right, distinct-between, list_distinct, one_list}
 use Rattle.st_normal_laws.specs.Seed.{FoundRow}
-use Rattle.st_normal_laws.specs.Two.{AreInPlace, IsNamedAt, RowsAgree, cell_key, cells_of_row, join, joined, joined_row, keys, lists_row, node_key, rows_of_both}
+use Rattle.st_normal_laws.specs.Two.{IsNamedAt, RowsAgree, cell_key, cells_of_row, join, joined, joined_row, lists_row, node_key, rows_of_both}
+use Rattle.st_normal_laws.specs.inside.Two.{AreInPlace, keys}
 use Rattle.st_normal_laws.proofs.Groups.{distinct-flat}
 use Rattle.st_normal_laws.proofs.Mentioned.{filter-has}
 use Rattle.st_normal_laws.proofs.Basics.{not-true, one-is}

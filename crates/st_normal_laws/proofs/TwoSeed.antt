@@ -17,7 +17,8 @@ use Rattle.st_marks.proofs.Members.{true-false, all-has, has-all, append_left, a
 use Rattle.st_normal_laws.specs.Told.{AreAsSeen, IfTold}
 use Rattle.st_normal_laws.specs.Laid.{laid}
 use Rattle.st_normal_laws.specs.Seed.{CanBeFound, Finds, FoundHeld, FoundRow, IsBelow, IsFoundAt, cells_named, nodes_found, seed}
-use Rattle.st_normal_laws.specs.Two.{AgreeBeside, IsNamedAt, IsUnder, both, cell_key, cells_of_row, joined, joined_row, keys, lists_row, node_key}
+use Rattle.st_normal_laws.specs.Two.{AgreeBeside, IsNamedAt, IsUnder, both, cell_key, cells_of_row, joined, joined_row, lists_row, node_key}
+use Rattle.st_normal_laws.specs.inside.Two.{keys}
 use Rattle.st_normal_laws.proofs.Mentioned.{filter-has, has-filter}
 use Rattle.st_normal_laws.proofs.SeedSound.{seed_row, seed_held}
 use Rattle.st_normal_laws.proofs.TwoFound.{Either, both-named, cells_joined, keys_once_together, nodes_joined, no_ring_together, rows_once_together}

@@ -3,5 +3,5 @@ pub mod Laid
 pub mod Seed
 pub mod Meant
 pub mod Mentions
-pub mod One
 pub mod Two
+pub mod inside

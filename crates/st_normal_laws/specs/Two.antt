@@ -1,7 +1,7 @@
 -- What two find of one document, together.
 use Rattle.std.specs.Prelude.{◌≡◌, ◌⊎◌, ◌++◌, ℕ, zero, suc, Bool, not, List, [], ◌∷◌, map, Option, Some, None, if◌then◌else◌}
 use Rattle.std.specs.Option.{option_map_or, option_or}
-use Rattle.std.specs.List.{AllZip, filter, find, flat_map, list_any}
+use Rattle.std.specs.List.{AllZip, filter, find, list_any}
 use Rattle.st_ids.specs.Listing.{Has}
 use Rattle.st_ids.specs.Order.{same_field, same_node}
 use Rattle.st_ids.specs.declared.names.CellId.{CellId}
@@ -9,7 +9,7 @@ use Rattle.st_ids.specs.declared.names.NodeId.{NodeId}
 use Rattle.st_marks.specs.declared.places.Spot.{Spot}
 use Rattle.st_marks.specs.Agree.{IsSameView, row_field}
 use Rattle.st_marks.specs.Document.{node_of}
-use Rattle.st_marks.specs.Listings.{CellView, nodes_standing, one_or_none}
+use Rattle.st_marks.specs.Listings.{CellView, nodes_standing}
 use Rattle.st_normal_laws.specs.Seed.{Finds, FoundHeld, FoundRow}
 
 -- a cell as both show it
@@ -57,10 +57,6 @@ both A B = record {
 
 -- ## Names by their places
 
--- the names in a row, by what is named of one cell
-abbrev pub keys : {K : Type 0} → (CellView → Option K) → List CellView → List K
-keys key xs = flat_map (λ x. one_or_none (key x)) xs
-
 -- the name of a cell
 abbrev pub cell_key : CellView → Option CellId
 cell_key x = x.cell
@@ -74,11 +70,6 @@ abbrev pub IsNamedAt : {K : Type 0} → (CellView → Option K) → List CellVie
 IsNamedAt key [] k c = ⊥
 IsNamedAt key (x ∷ xs) zero c = key x ≡ Some c
 IsNamedAt key (x ∷ xs) (suc k) c = IsNamedAt key xs k c
-
--- what two rows name is at one place
-abbrev pub AreInPlace : {K : Type 0} → (CellView → Option K) → List CellView → List CellView → Type 0
-AreInPlace {K} key xs ys =
-    (k l : ℕ) (c : K) → IsNamedAt key xs k c → IsNamedAt key ys l c → k ≡ l
 
 -- rows of two that name one thing are those of one node, and name it at one place
 abbrev pub RowsAgree : {K : Type 0} → (CellView → Option K) → List FoundRow → List FoundRow → Type 0

@@ -8,7 +8,8 @@ use Rattle.st_register.specs.declared.values.RegChange.{RegChange}
 use Rattle.st_register.specs.declared.values.RegHeld.{RegHeld}
 use Rattle.st_register.specs.declared.values.RegSwap.{RegSwap}
 use Rattle.st_register.specs.Register.{RegPart, RegFits, RegKeeps, RegCanHold, RegLeadsOver, reg_carried, reg_change_of, held_void}
-use Rattle.st_register.specs.Readings.{put_by, left_by, left_void_by, how_by, makes_by}
+use Rattle.st_register.specs.Readings.{left_by}
+use Rattle.st_register.specs.inside.Readings.{put_by, left_void_by, how_by, makes_by}
 use Rattle.st_register.proofs.Registers.{put_is, left_is, void_is, how_is, new_is}
 
 -- who is there after the part, void or whole

@@ -7,7 +7,7 @@ use Rattle.st_marks.specs.declared.marks.How.TheVariants.{Stay}
 use Rattle.st_marks.specs.Document.{root}
 use Rattle.st_register.specs.declared.values.RegChange.{RegChange}
 use Rattle.st_register.specs.declared.values.RegHeld.{RegHeld}
-use Rattle.st_register.specs.NormalForm.{IsNormalRegChange}
+use Rattle.st_register.specs.inside.NormalForm.{IsNormalRegChange}
 use Rattle.st_register.specs.Register.{RegPart, RegFits, RegKeeps, RegLeadsOver, RegCanHold, reg_carried, reg_change_of}
 use Rattle.st_register.proofs.Parts.{told}
 use Rattle.st_register.proofs.Registers.{holding}

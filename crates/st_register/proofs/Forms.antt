@@ -14,9 +14,9 @@ use Rattle.st_marks.specs.Row.{how}
 use Rattle.st_marks.specs.How.{is_here, is_leave}
 use Rattle.st_register.specs.declared.values.RegChange.{RegChange}
 use Rattle.st_register.specs.declared.values.RegHeld.{RegHeld}
-use Rattle.st_register.specs.NormalForm.{IsNormalRegChange}
+use Rattle.st_register.specs.inside.NormalForm.{IsNormalRegChange}
 use Rattle.st_register.specs.Register.{RegPart, RegFits, RegCanHold, reg_change_of}
-use Rattle.st_register.specs.Readings.{put_by, makes_by}
+use Rattle.st_register.specs.inside.Readings.{put_by, makes_by}
 use Rattle.st_register.proofs.Parts.{field_told, goes_told, told, other_number}
 use Rattle.st_register.proofs.Occupants.{not_true, one_occupant, same_occupant, other_occupant, comes_in-other, comes_in-same, to-here}
 use Rattle.st_register.proofs.Registers.{holding, here-fill, comes-fill}

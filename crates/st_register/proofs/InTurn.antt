@@ -15,7 +15,7 @@ use Rattle.st_register.specs.declared.values.RegChange.{RegChange}
 use Rattle.st_register.specs.declared.values.RegHeld.{RegHeld}
 use Rattle.st_register.specs.Joined.{AreJoinedIn, fills}
 use Rattle.st_register.specs.Register.{RegPart, RegFits, reg_carried, reg_change_of, held_whole, unless_put}
-use Rattle.st_register.specs.Readings.{makes_by, put_in_turn, how_in_turn, held_in_turn, stays_in_turn}
+use Rattle.st_register.specs.inside.Readings.{makes_by, put_in_turn, how_in_turn, held_in_turn, stays_in_turn}
 use Rattle.st_register.proofs.Occupants.{not_true, one_occupant, same_occupant, other_occupant, to-here, stay-to}
 use Rattle.st_register.proofs.Registers.{holding, here-fill, put_is, makes_is, comes-fill, all_new}
 

@@ -9,7 +9,7 @@ use Rattle.st_marks.specs.Intent.{same_option}
 use Rattle.st_marks.specs.How.{is_leave}
 use Rattle.st_register.specs.declared.values.RegChange.{RegChange}
 use Rattle.st_register.specs.Register.{RegPart}
-use Rattle.st_register.specs.Readings.{put_by, makes_by}
+use Rattle.st_register.specs.inside.Readings.{put_by, makes_by}
 
 -- a number that the node doesn't have
 abbrev pub other_number : Option NodeId → ℕ

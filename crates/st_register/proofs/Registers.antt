@@ -13,7 +13,8 @@ use Rattle.st_marks.specs.Row.{how}
 use Rattle.st_marks.specs.How.{is_here, is_leave}
 use Rattle.st_register.specs.declared.values.RegHeld.{RegHeld}
 use Rattle.st_register.specs.Register.{RegPart, RegFits, RegKeeps, reg_change_of, held_whole, held_void, only_made}
-use Rattle.st_register.specs.Readings.{put_by, left_by, left_void_by, how_by, makes_by}
+use Rattle.st_register.specs.Readings.{left_by}
+use Rattle.st_register.specs.inside.Readings.{put_by, left_void_by, how_by, makes_by}
 use Rattle.st_register.proofs.Occupants.{not_true, one_occupant, same_occupant, comes_in-nobody, comes_in-other, here-to, to-here, stay-to, leave-to}
 
 -- a register that holds this

@@ -1,5 +1,5 @@
-pub mod NormalForm
 pub mod Joined
 pub mod Laws
 pub mod Register
 pub mod Readings
+pub mod inside

@@ -2,7 +2,7 @@
 ghost use Rattle.std.specs.Prelude.{◌≡◌, ◌≢◌, ◌↔◌, true, Option, IfSome, IsTrue};
 ghost use Rattle.st_ids.specs.declared.names.NodeId.{NodeId as Node};
 ghost use Rattle.st_marks.specs.Document.{root};
-ghost use Rattle.st_register.specs.NormalForm.{IsNormalRegChange};
+ghost use Rattle.st_register.specs.inside.NormalForm.{IsNormalRegChange};
 
 use crate::values::RegChange;
 use st_ids::{Atom, NodeId, Rev};

@@ -3,7 +3,7 @@ ghost use Rattle.std.specs.Prelude.{◌≡◌, ◌||◌, false};
 ghost use Rattle.std.specs.Option.{option_map_or};
 ghost use Rattle.st_register.specs.Joined.{AreJoinedIn};
 ghost use Rattle.st_register.specs.Register.{RegPart, RegFits, reg_carried, reg_change_of};
-ghost use Rattle.st_register.specs.Readings.{put_in_turn, stays_in_turn, how_in_turn, makes_by};
+ghost use Rattle.st_register.specs.inside.Readings.{put_in_turn, stays_in_turn, how_in_turn, makes_by};
 
 use crate::told::{coming, is_same, makes, put_there};
 use crate::values::{RegChange, RegHeld};

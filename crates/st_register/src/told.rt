@@ -6,7 +6,8 @@ ghost use Rattle.st_marks.specs.Intent.{same_option};
 ghost use Rattle.st_marks.specs.Register.{comes_in};
 ghost use Rattle.st_kind.specs.Refused.{IsApartWhere};
 ghost use Rattle.st_register.specs.Register.{RegPart, RegFits, RegKeeps, reg_change_of, held_void, DifferAt};
-ghost use Rattle.st_register.specs.Readings.{put_by, left_by, left_void_by, how_by, makes_by};
+ghost use Rattle.st_register.specs.Readings.{left_by};
+ghost use Rattle.st_register.specs.inside.Readings.{put_by, left_void_by, how_by, makes_by};
 
 use crate::values::{RegChange, RegHeld};
 use st_ids::{NodeId, Or};

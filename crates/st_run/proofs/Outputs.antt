@@ -15,7 +15,8 @@ use Rattle.st_trace.specs.World.{empty_state, IsNext}
 use Rattle.st_trace.specs.declared.state.WorldState.{WorldState}
 use Rattle.st_run.specs.Lines.{cut}
 use Rattle.st_run.specs.Parts.{AppendsPrefix}
-use Rattle.st_run.specs.Answers.{Output, before, cut_short, OrCutShort, AnswersLine, AnswersHeader, AnswersOpening, AnswersTrace, IsOutput, WritesAll, WritesPrefix, AnswersFrom, EndsAtLine, IsCutShort, IsLineAnswered, bad_line}
+use Rattle.st_run.specs.Answers.{Output, before, cut_short, OrCutShort, AnswersLine, AnswersHeader, AnswersOpening, AnswersTrace, IsOutput, WritesAll, WritesPrefix, AnswersFrom, bad_line}
+use Rattle.st_run.specs.inside.Answers.{EndsAtLine, IsCutShort, IsLineAnswered}
 use Rattle.st_run.specs.declared.outcome.Outcome.{Outcome}
 use Rattle.st_run.specs.declared.outcome.Outcome.TheVariants.{Done, Usage, BadLine, TooLong, ReadFault, WriteFault, NoMemory}
 use Rattle.st_run.proofs.Appending.{appends_more}

@@ -133,22 +133,6 @@ IsOutput old new Wanted (TooLong n) = WritesAll old new Wanted (TooLong n)
 
 -- ## One line
 
--- a step was answered, and the world is now so
-pub record IsLineAnswered (h : HeaderView) (line : Result StepView BadCause) (w v : WorldState) (old new : Option (List ℕ)) : Type 0 where
-  pub step : StepView
-  pub answer : Answer
-  pub is : line ≡ Ok step
-  pub next : IsNext h w step v answer
-  pub written : Appends old (answer_line answer) new
-
--- nothing more is told
-abbrev pub IsCutShort : Output → Type 0
-IsCutShort out = out ≡ cut_short
-
--- a line at which a run ended
-abbrev pub EndsAtLine : HeaderView → ℕ → Result StepView BadCause → WorldState → Output → Type 0
-EndsAtLine h n line w out = OrCutShort (AnswersLine h n line w (λ v. IsCutShort)) out
-
 -- the words are the one command
 abbrev pub is_trace : List (List ℕ) → Bool
 is_trace [] = false

@@ -1,5 +1,5 @@
 pub mod Answers
-pub mod Inputs
 pub mod Lines
 pub mod Parts
 pub mod Status
+pub mod inside

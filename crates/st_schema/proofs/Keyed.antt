@@ -5,7 +5,8 @@ use Rattle.std.proofs.lemmas.List.{map-append}
 use Rattle.std.specs.declared.alloc.Global.{Global}
 use Rattle.serde_json.specs.View.{view as value_view, members_view}
 use Rattle.serde_json.specs.declared.value.Value.{Value}
-use Rattle.st_tree.specs.Node.{Node, no_nodes, first, FieldNode, view, field_view}
+use Rattle.st_tree.specs.Node.{Node, no_nodes, first, FieldNode, view}
+use Rattle.st_tree.specs.inside.Node.{field_view}
 use Rattle.st_tree.specs.declared.tree.Tree.{Tree}
 use Rattle.st_tree.specs.declared.tree.Field.{Field}
 use Rattle.st_schema.specs.TreeText.{tree_in, fields_in}

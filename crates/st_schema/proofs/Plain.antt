@@ -5,7 +5,8 @@ use Rattle.serde_json.specs.Data.{string, depth, items_depth, members_depth}
 use Rattle.serde_json.specs.Read.{max_depth}
 use Rattle.serde_json.specs.Written.{has_float, items_have_float, members_have_float}
 use Rattle.serde_json.specs.View.{items_of}
-use Rattle.st_schema.specs.Schema.{SchemaView, is_distinct, type_names, names_are_sound, forms_are_sound, list_is_sound, form_is_sound, field_is_sound, form_rises, defs_rise, is_sound}
+use Rattle.st_schema.specs.Schema.{SchemaView, is_distinct, type_names, names_are_sound, forms_are_sound, list_is_sound, form_is_sound, field_is_sound, defs_rise, is_sound}
+use Rattle.st_schema.specs.inside.Schema.{form_rises}
 use Rattle.st_schema.specs.Written.{fields_data, form_data, definition_data, schema_data}
 use Rattle.st_schema.specs.declared.names.FieldDef.{FieldDef}
 use Rattle.st_schema.specs.declared.names.Form.{Form}

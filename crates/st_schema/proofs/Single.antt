@@ -1,7 +1,8 @@
 -- A field of one item, and a node without fields.
 use Rattle.std.proofs.Common.{◌≡◌, ◌==◌, List, [], ◌∷◌, length, refl, arith}
 use Rattle.std.proofs.lemmas.Bool.Decides.{nat_tests}
-use Rattle.st_tree.specs.Node.{trees_view, fields_view}
+use Rattle.st_tree.specs.Node.{trees_view}
+use Rattle.st_tree.specs.inside.Node.{fields_view}
 use Rattle.st_tree.specs.Form.{is_single}
 use Rattle.st_tree.specs.declared.tree.Tree.{Tree}
 use Rattle.st_tree.specs.declared.tree.Field.{Field}

@@ -2,14 +2,16 @@
 use Rattle.std.proofs.Common.{◌≡◌, ◌∙◌, ℕ, suc, ◌+◌, ◌<◌, ◌≤◌, length, drop, get_or, drop-cons, arith, Bool, true, false, not, ◌&&◌, List, [], ◌∷◌, ◌++◌, Option, None, Some, Result, Ok, Err, refl, sym, ap}
 use Rattle.std.specs.List.{position_from}
 use Rattle.std.proofs.lemmas.List.{drop_all}
-use Rattle.st_tree.specs.Node.{Node, Nodes, no_nodes, first, Fields, no_fields, field, FieldNode, view, field_view, trees_view, fields_view}
+use Rattle.st_tree.specs.Node.{Node, Nodes, no_nodes, first, Fields, no_fields, field, FieldNode, view, trees_view}
+use Rattle.st_tree.specs.inside.Node.{field_view, fields_view}
 use Rattle.st_tree.specs.Size.{node_count, item_count, field_count}
 use Rattle.st_tree.specs.declared.tree.Tree.{Tree}
 use Rattle.st_tree.specs.declared.tree.Field.{Field}
 use Rattle.st_tree.specs.declared.tree.Field.TheViews.{out-Tree, out-Field}
 use Rattle.st_tree.proofs.Views.{view_out, field_view_out}
 use Rattle.st_schema.specs.Schema.{SchemaView, is_among, form_of}
-use Rattle.st_schema.specs.Conforms.{is_as_typed, types_under, verdicts, fields_verdicts, items_verdicts, refusal, allows_of, allows_all_of, first_fault, looked, walked}
+use Rattle.st_schema.specs.Conforms.{is_as_typed, types_under, verdicts, fields_verdicts, items_verdicts, refusal, allows_of, allows_all_of}
+use Rattle.st_schema.specs.inside.Conforms.{first_fault, looked, walked}
 use Rattle.st_schema.specs.declared.allows.Walk.{Walk}
 use Rattle.st_schema.specs.declared.names.Form.{Form}
 use Rattle.st_schema.specs.declared.names.NotAllowed.{NotAllowed}

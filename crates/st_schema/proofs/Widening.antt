@@ -5,7 +5,8 @@ use borrow.Author.Tests.{leb-true}
 use Rattle.st_schema.specs.declared.names.Form.{Form}
 use Rattle.std.specs.List.{position_from}
 use Rattle.st_schema.specs.Schema.{SchemaView, is_sound, type_names, names_are_sound}
-use Rattle.st_schema.specs.Wider.{contains_all, types_widen, narrowing, wider_of, widened}
+use Rattle.st_schema.specs.Wider.{contains_all, types_widen, narrowing, wider_of}
+use Rattle.st_schema.specs.inside.Wider.{widened}
 use Rattle.st_schema.specs.declared.names.NotWider.{NotWider}
 
 -- the answer once the root's list is tested too

@@ -15,7 +15,8 @@ use Rattle.serde_json.proofs.Views.{view-Array, view-Object, members_view-insert
 use Rattle.serde_json.specs.declared.value.Value.{Value, Array, Object}
 use Rattle.st_tree.specs.declared.tree.Tree.{Tree}
 use Rattle.st_tree.specs.declared.tree.Field.{Field}
-use Rattle.st_tree.specs.Node.{Node, node, Fields, field, Nodes, no_nodes, first, view, field_view, trees_view, fields_view}
+use Rattle.st_tree.specs.Node.{Node, node, Fields, field, Nodes, no_nodes, first, view, trees_view}
+use Rattle.st_tree.specs.inside.Node.{field_view, fields_view}
 use Rattle.st_tree.specs.declared.tree.Field.TheViews.{out-Tree, out-Field}
 use Rattle.st_tree.proofs.Views.{view_out}
 use Rattle.st_tree.specs.Form.{is_single, keys_rise, fields_fit, has_form, fields_have_form, all_have_form}

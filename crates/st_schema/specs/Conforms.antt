@@ -6,7 +6,6 @@ use Rattle.st_ids.specs.declared.names.Leaf.TheVariants as leaf
 use Rattle.st_tree.specs.Node.{Node, node, Fields, no_fields, field, Nodes, no_nodes, first}
 use Rattle.st_tree.specs.Form.{is_row_alone, keys_rise}
 use Rattle.st_schema.specs.Schema.{SchemaView, same, is_among, form_of, field_in}
-use Rattle.st_schema.specs.declared.allows.Walk.{Walk}
 use Rattle.st_schema.specs.declared.names.NotAllowed.{NotAllowed}
 use Rattle.st_schema.specs.declared.names.KindName.{KindName}
 use Rattle.st_schema.specs.declared.names.KindName.TheVariants.{Required, Optional, Sequence}
@@ -100,21 +99,3 @@ abbrev pub allows_all_of : SchemaView → List (List ℕ) → Nodes → Result (
 allows_all_of s types ts = refusal (position_from (λ ok. not ok) 0 (items_verdicts s types ts))
 
 -- ---- looked at in turn
-
--- the earlier refusal, or that of the node of this number
-abbrev pub first_fault : Option NotAllowed → ℕ → Option NotAllowed
-first_fault None n = Some (record { at = n })
-first_fault (Some f) n = Some f
-
-abbrev pub fault_after : Option NotAllowed → ℕ → Bool → Option NotAllowed
-fault_after fault n true = fault
-fault_after fault n false = first_fault fault n
-
--- one node further
-abbrev pub looked : Walk → Bool → Walk
-looked w ok = record { next = w.next + 1; fault = fault_after w.fault w.next ok }
-
--- further by nodes with these verdicts
-abbrev pub walked : Walk → List Bool → Walk
-walked w [] = w
-walked w (ok ∷ vs) = walked (looked w ok) vs

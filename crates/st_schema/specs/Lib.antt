@@ -4,3 +4,4 @@ pub mod Schema
 pub mod TreeText
 pub mod Wider
 pub mod Written
+pub mod inside

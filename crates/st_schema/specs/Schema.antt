@@ -81,12 +81,6 @@ abbrev pub defs_rise : List ℕ → List FieldDef → Bool
 defs_rise before [] = true
 defs_rise before (f ∷ fs) = is_lt (slice_cmp nat_cmp before f.key.0) && defs_rise f.key.0 fs
 
--- the declared fields are in rising order of their keys
-abbrev pub form_rises : Form → Bool
-form_rises (Array types) = true
-form_rises (Map types) = true
-form_rises (Object fields) = defs_rise [] fields
-
 -- at most 64 fields, in rising order of their keys
 abbrev pub form_is_sound : List (List ℕ) → Form → Bool
 form_is_sound names (Array types) = list_is_sound names types

@@ -72,9 +72,3 @@ abbrev pub wider_of : SchemaView → SchemaView → Result (Unit {0}) NotWider
 wider_of old new = narrowing (position_from (λ ok. not ok) 0 (types_widen old.types new.types ++ contains_all new.root old.root ∷ []))
 
 -- ---- counted on
-
--- the number after types of which each is wider, the first having the number n, or that of the first that is not
-abbrev pub widened : ℕ → List Bool → Result ℕ NotWider
-widened n [] = Ok n
-widened n (true ∷ vs) = widened (n + 1) vs
-widened n (false ∷ vs) = Err (record { at = n })

@@ -2,11 +2,13 @@
 ghost use Rattle.std.specs.Prelude.{◌≡◌, ◌+◌, ◌<◌, ◌^◌, ◌&&◌, not, is_some, true, [], None, ℕ, List as Seq};
 ghost use Rattle.std.specs.Option.{option_copied};
 ghost use Rattle.st_tree.specs.declared.tree.Tree.{out-Tree};
-ghost use Rattle.st_tree.specs.Node.{Node, view, field_view, fields_view, trees_view};
+ghost use Rattle.st_tree.specs.Node.{Node, view, trees_view};
+ghost use Rattle.st_tree.specs.inside.Node.{field_view, fields_view};
 ghost use Rattle.st_tree.specs.Size.{node_count, item_count};
 ghost use Rattle.st_tree.specs.Form.{is_row_alone, is_single, keys_rise, has_form};
 ghost use Rattle.st_schema.specs.Schema.{SchemaView, is_among, form_of, field_in};
-ghost use Rattle.st_schema.specs.Conforms.{leaf_type, is_required, has_key, have_rules, required_there, fields_fit, has_none, is_as_typed, node_fits, types_under, verdicts, items_verdicts, conforms, allows_of, allows_all_of, looked, walked};
+ghost use Rattle.st_schema.specs.Conforms.{leaf_type, is_required, has_key, have_rules, required_there, fields_fit, has_none, is_as_typed, node_fits, types_under, verdicts, items_verdicts, conforms, allows_of, allows_all_of};
+ghost use Rattle.st_schema.specs.inside.Conforms.{looked, walked};
 
 use crate::names::{FieldDef, Form, KindName, NotAllowed};
 use crate::rules::is_key;

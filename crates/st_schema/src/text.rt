@@ -5,7 +5,8 @@ ghost use Rattle.serde_json.specs.Data.{array, object, member, no_members};
 ghost use Rattle.serde_json.specs.View.{view, items_of};
 ghost use Rattle.serde_json.specs.Read.{read};
 ghost use Rattle.serde_json.specs.Written.{compact_text};
-ghost use Rattle.st_schema.specs.Schema.{defs_rise, form_rises};
+ghost use Rattle.st_schema.specs.Schema.{defs_rise};
+ghost use Rattle.st_schema.specs.inside.Schema.{form_rises};
 ghost use Rattle.st_schema.specs.declared.names.Form.TheVariants.{Array, Map as MapOf, Object};
 ghost use Rattle.st_schema.specs.Written.{names_data, kind_text, field_data, fields_data, form_data, definition_data, schema_data};
 

@@ -3,7 +3,8 @@ ghost use Rattle.std.specs.Prelude.{◌≡◌, Some, None, Ok, true, false, [], 
 ghost use Rattle.serde_json.specs.View.{view as value_view, items_view, members_view};
 ghost use Rattle.st_ids.specs.Or.{IfRefused};
 ghost use Rattle.st_tree.specs.Form.{has_form};
-ghost use Rattle.st_tree.specs.Node.{Node, field, no_fields, first, no_nodes, view, field_view, trees_view, fields_view};
+ghost use Rattle.st_tree.specs.Node.{Node, field, no_fields, first, no_nodes, view, trees_view};
+ghost use Rattle.st_tree.specs.inside.Node.{field_view, fields_view};
 ghost use Rattle.st_tree.specs.Size.{check_of};
 ghost use Rattle.st_schema.specs.TreeText.{leaf_of, leaf_node, leaf_in, tree_in, node_in, body_in, trees_in, fields_in, tree_of, tree_data, is_typed};
 

@@ -4,7 +4,8 @@ ghost use Rattle.std.specs.List.{list_all};
 ghost use Rattle.st_tree.specs.Node.{Node};
 ghost use Rattle.st_schema.specs.Schema.{SchemaView, declared};
 ghost use Rattle.st_schema.specs.Conforms.{conforms};
-ghost use Rattle.st_schema.specs.Wider.{contains_all, kind_widens, widens_found, def_widens, defs_widen, form_widens, types_widen, widened, wider_of};
+ghost use Rattle.st_schema.specs.Wider.{contains_all, kind_widens, widens_found, def_widens, defs_widen, form_widens, types_widen, wider_of};
+ghost use Rattle.st_schema.specs.inside.Wider.{widened};
 
 use crate::names::{FieldDef, Form, KindName, NotWider};
 use crate::schema::{Schema, declared};

@@ -4,3 +4,4 @@ pub mod Line
 pub mod Members
 pub mod StepText
 pub mod Steps
+pub mod inside

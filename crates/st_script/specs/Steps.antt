@@ -14,7 +14,6 @@ use Rattle.st_script.specs.declared.read.Actor.{Actor}
 use Rattle.st_script.specs.declared.read.Target.{Target}
 use Rattle.st_script.specs.declared.read.Span.{Span}
 use Rattle.st_script.specs.declared.read.Goal.{Goal}
-use Rattle.st_script.specs.declared.read.Plain.{Plain}
 use Rattle.st_script.specs.declared.read.Plain.TheVariants as plain
 use Rattle.st_script.specs.Members.{client_in, number_in, number_or, count_of, key_or_empty, path_in, items_in, item_in}
 
@@ -123,12 +122,6 @@ read_show d = if has_only (codes "branch client do") d then option_map (λ a. sh
 -- the client of a step that has no other member
 abbrev pub lone_client : Data → Option (List ℕ)
 lone_client d = if has_only (codes "client do") d then client_in d else None
-
--- the step of a word, with its client
-abbrev pub plain_step : Plain → List ℕ → StepView
-plain_step plain.Join = join
-plain_step plain.Sequence = sequence
-plain_step plain.Deliver = deliver
 
 -- two texts have the same bytes
 abbrev pub same : List ℕ → List ℕ → Bool

@@ -1,7 +1,8 @@
 //! Steps read from the value of a line.
 ghost use Rattle.std.specs.Prelude.{◌≡◌, codes, IfOk, option_map};
 ghost use Rattle.serde_json.specs.View.{view};
-ghost use Rattle.st_script.specs.Steps.{actor_of, target_of, site_of, span_of, goal_of, step_view, plain_step, lone_client, word_of, read_insert, read_remove, read_move, read_set, read_clear, read_show, read_of, step_of};
+ghost use Rattle.st_script.specs.Steps.{actor_of, target_of, site_of, span_of, goal_of, step_view, lone_client, word_of, read_insert, read_remove, read_move, read_set, read_clear, read_show, read_of, step_of};
+ghost use Rattle.st_script.specs.inside.Steps.{plain_step};
 
 use crate::member::{
     client, count, has_only, item, items, key_member, number_member, number_or_zero, path_member,

@@ -11,10 +11,10 @@ use Rattle.st_marks.specs.Extends.{GainsItems, no_more, item_gained, item_kept}
 use Rattle.st_marks.specs.Row.{CellMark, Counted, Gap, Touch, Make, Fill, RowPart, SameCell, how, step_cell, step_row, embed_cell, embed_made, embed_cells, embed_row}
 use Rattle.st_marks.specs.How.{is_here}
 use Rattle.st_marks.specs.Listings.{CellView, cell_view, counted_view, empty_view, cells_before, cells_after}
-use Rattle.st_seq.specs.Cells.{effect_row}
+use Rattle.st_seq.specs.inside.Cells.{effect_row}
 use Rattle.st_seq.specs.Changes.{StandsIn, carried_row}
 use Rattle.st_seq.proofs.Effected.{effect_row-embed_row, grown_row}
-use Rattle.st_seq.specs.Views.{agree, agree_if_named, same_bool, first_difference}
+use Rattle.st_seq.specs.inside.Views.{agree, agree_if_named, same_bool, first_difference}
 
 -- a name that is told is this one
 abbrev pub IfTold : {A : Type 0} → Option A → A → Type 0

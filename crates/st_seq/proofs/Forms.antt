@@ -5,7 +5,7 @@ use Rattle.st_marks.specs.declared.marks.Mark.{Mark}
 use Rattle.st_marks.specs.declared.places.Slot.{Slot}
 use Rattle.st_ids.specs.declared.names.Rev.{Rev}
 use Rattle.st_marks.specs.Row.{CellMark, Counted, Gap, Touch, Make, Fill, spread, counted}
-use Rattle.st_seq.specs.NormalForm.{is_allowed, are_allowed}
+use Rattle.st_seq.specs.inside.NormalForm.{is_allowed, are_allowed}
 use Rattle.st_seq.specs.Reading.{cell_of}
 
 any_counted : (t : CellMark → Bool) → t Counted ≡ false → (k : ℕ) (xs : List CellMark) → list_any t xs ≡ list_any t (counted k xs)

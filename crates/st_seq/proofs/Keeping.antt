@@ -22,9 +22,10 @@ use Rattle.st_marks.specs.How.{is_here}
 use Rattle.st_marks.specs.Listings.{cells_before, cells_in}
 use Rattle.st_marks.proofs.Members.{all-has, has-all, append_left, append_right, has-append, map-has, has-map, distinct-append, distinct-between, distinct-left, distinct-right}
 use Rattle.st_seq.proofs.Truth.{and_parts, and_true, not_so, off, on}
-use Rattle.st_seq.specs.Views.{first_difference, row_views}
+use Rattle.st_seq.specs.Views.{row_views}
+use Rattle.st_seq.specs.inside.Views.{first_difference}
 use Rattle.st_seq.specs.Changes.{AreOld}
-use Rattle.st_seq.specs.NormalForm.{IsNormalRowChange, is_normal, stands_before, begins_with_skip, places, makes_cell, puts_found, has_cell, stands_in, may_put, are_allowed}
+use Rattle.st_seq.specs.inside.NormalForm.{IsNormalRowChange, is_normal, stands_before, begins_with_skip, places, makes_cell, puts_found, has_cell, stands_in, may_put, are_allowed}
 use Rattle.st_seq.specs.Laws.{spread-merge, not_again}
 use Rattle.st_seq.specs.Sequence.{SeqPart, RowCanHold, RowFits, cells_of, row_change_of, made_in}
 use Rattle.st_seq.specs.declared.values.RowChange.{RowChange}

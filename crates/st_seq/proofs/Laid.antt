@@ -13,10 +13,11 @@ use Rattle.st_marks.specs.Row.{CellMark, Counted, Gap, Touch, Make, Fill, RowPar
 use Rattle.st_marks.specs.How.{is_here}
 use Rattle.st_marks.specs.Listings.{cell_view, cells_before}
 use Rattle.st_seq.proofs.Truth.{and_parts}
-use Rattle.st_seq.specs.Views.{agree, first_difference, row_views, same_bool, view_before}
+use Rattle.st_seq.specs.Views.{row_views}
+use Rattle.st_seq.specs.inside.Views.{agree, first_difference, same_bool, view_before}
 use Rattle.st_seq.specs.Changes.{StandsIn}
 use Rattle.st_seq.specs.Laws.{not_again}
-use Rattle.st_seq.specs.Reading.{is_made}
+use Rattle.st_seq.specs.inside.Reading.{is_made}
 use Rattle.st_seq.specs.Sequence.{cells_of, standing}
 use Rattle.st_seq.proofs.Retreating.{stands_not, stand_others}
 

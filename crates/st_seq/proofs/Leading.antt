@@ -6,7 +6,7 @@ use Rattle.st_marks.specs.declared.places.Slot.{Slot}
 use Rattle.st_marks.specs.Extends.{GainsItems, no_more, item_gained, item_kept}
 use Rattle.st_marks.specs.Row.{CellMark, Counted, Touch, SameCell, step_cell, step_row}
 use Rattle.st_seq.specs.Views.{row_views}
-use Rattle.st_seq.specs.Cells.{after_row}
+use Rattle.st_seq.specs.inside.Cells.{after_row}
 use Rattle.st_seq.proofs.Described.{DescribeAll}
 
 after-cell : (m : NodeId → Bool) (s t : Slot) (c : List Slot) (xs : List CellMark) → SameCell s t → after_row (s ∷ c) (step_cell m s.cell s.node s.full t.full ∷ xs) ≡ t ∷ after_row c xs

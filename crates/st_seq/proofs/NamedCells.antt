@@ -15,7 +15,8 @@ use Rattle.st_marks.specs.Row.{CellMark, Counted, Gap, Touch, Make, Fill, counte
 use Rattle.st_marks.specs.Listings.{CellView, cells_after, cells_before, counted_view, empty_view, cell_view}
 use Rattle.st_marks.specs.How.{is_leave}
 use Rattle.st_seq.specs.Views.{row_views}
-use Rattle.st_seq.specs.NamedApart.{stands_at, standing_at, found_at, made_at, named_before, named_after, named_in_row, first_named, same_atom, CantBoth, NamedApart, named_apart, lesser, clash_with, first_clash, IsPlace}
+use Rattle.st_seq.specs.NamedApart.{stands_at, standing_at, found_at, made_at, named_before, named_after, named_in_row, first_named, same_atom, CantBoth, NamedApart, named_apart}
+use Rattle.st_seq.specs.inside.NamedApart.{lesser, clash_with, first_clash, IsPlace}
 use Rattle.st_seq.specs.declared.name_clashes.NamedAt.{NamedAt}
 
 -- ## Marks one after another

@@ -24,8 +24,10 @@ use Rattle.st_seq.specs.declared.values.RowChange.{RowChange}
 use Rattle.st_seq.proofs.Described.{DescribeAll, IfTold}
 use Rattle.st_seq.proofs.NodesOnce.{change_before}
 use Rattle.st_seq.proofs.Truth.{not_so, true_false}
-use Rattle.st_seq.specs.NamedApart.{IsPlace, found_at, first_named, same_atom, lesser}
-use Rattle.st_seq.specs.OwnedEarly.{OwnedEarly, owned_early, has_name, early_place, first_early}
+use Rattle.st_seq.specs.NamedApart.{found_at, first_named, same_atom}
+use Rattle.st_seq.specs.inside.NamedApart.{IsPlace, lesser}
+use Rattle.st_seq.specs.OwnedEarly.{OwnedEarly, owned_early}
+use Rattle.st_seq.specs.inside.OwnedEarly.{has_name, early_place, first_early}
 use Rattle.st_seq.specs.declared.name_clashes.NamedAt.{NamedAt}
 use Rattle.st_seq.proofs.NamedCells.{lesser-assoc, cells_before-append, one_more, none_left, moved_on, same_atom-itself, same_atom-true}
 

@@ -14,7 +14,7 @@ use Rattle.st_ids.specs.Order.{node_cmp, same_node}
 use Rattle.st_ids.proofs.Orders.{node_cmp_total, node_cmp_exact, same_node-true, same_listing}
 use Rattle.st_ids.specs.declared.names.NodeId.{NodeId}
 use Rattle.st_marks.specs.Embedding.{is_among}
-use Rattle.st_seq.specs.Sequence.{below_first}
+use Rattle.st_seq.specs.inside.Sequence.{below_first}
 
 -- a node is found where it is
 one_way : (a b : NodeId) → is_eq (node_cmp a b) ≡ same_node b a

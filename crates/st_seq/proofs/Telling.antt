@@ -23,7 +23,7 @@ use Rattle.st_marks.specs.Document.{root}
 use Rattle.st_marks.specs.Embedding.{is_among}
 use Rattle.st_marks.specs.Row.{CellMark, Counted, Gap, Touch, Make, Fill, RowPart, how, embed_cell, embed_row}
 use Rattle.st_marks.specs.How.{is_here}
-use Rattle.st_seq.specs.NormalForm.{places, makes_cell, puts_found, has_cell, stands_in, may_put, may_make, is_allowed, are_allowed}
+use Rattle.st_seq.specs.inside.NormalForm.{places, makes_cell, puts_found, has_cell, stands_in, may_put, may_make, is_allowed, are_allowed}
 use Rattle.st_seq.specs.Sequence.{RowCanHold, RowFits, cells_of, made_in}
 use Rattle.st_seq.proofs.Rebased.{is-here, not-here, moved}
 use Rattle.st_seq.proofs.Laid.{Groups, groups_of, embeds, makes, makes_them, has_makes, behind_cell, Lays, FoundAt, Says, behind, lead, found_says, found_slot, found_mark, has_slot, has_mark, one_cell, one_stands, in_row, in_cells}

@@ -8,7 +8,7 @@ use Rattle.st_marks.specs.declared.marks.How.{How}
 use Rattle.st_marks.proofs.MarkLengths.{spread-append}
 use Rattle.st_marks.specs.declared.marks.Mark.{Mark}
 use Rattle.st_marks.specs.Row.{CellMark, Counted, Gap, Touch, Make, Fill, spread, counted}
-use Rattle.st_seq.specs.Cells.{touch_of}
+use Rattle.st_seq.specs.inside.Cells.{touch_of}
 
 or-assoc : {A : Type 0} (a b c : Option A) → option_or (option_or a b) c ≡ option_or a (option_or b c)
 or-assoc None b c = refl

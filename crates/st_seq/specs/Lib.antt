@@ -1,13 +1,9 @@
-pub mod Merged
 pub mod Views
-pub mod Walks
-pub mod Cells
 pub mod Rows
 pub mod Changes
 pub mod Reading
-pub mod Turns
 pub mod Sequence
 pub mod Laws
-pub mod NormalForm
 pub mod NamedApart
 pub mod OwnedEarly
+pub mod inside

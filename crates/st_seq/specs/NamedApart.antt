@@ -1,16 +1,15 @@
 -- When two listings of one row name one cell, or one node, in ways that can't both be true.
-use Rattle.std.specs.Prelude.{◌≡◌, ◌≢◌, ◌⊎◌, ◌&&◌, ◌==◌, ℕ, suc, Bool, true, false, not, List, [], ◌∷◌, ◌++◌, Option, Some, None, min, if◌then◌else◌}
+use Rattle.std.specs.Prelude.{◌≡◌, ◌≢◌, ◌⊎◌, ℕ, suc, Bool, true, false, List, [], ◌∷◌, ◌++◌, Option, Some, None, if◌then◌else◌}
 use Rattle.std.specs.List.{find}
 use Rattle.std.specs.Ordering.{is_eq}
 use Rattle.st_ids.specs.Listing.{Has}
 use Rattle.st_ids.specs.Order.{atom_cmp}
 use Rattle.st_ids.specs.declared.names.Atom.{Atom}
 use Rattle.st_ids.specs.declared.names.NodeId.{NodeId}
-use Rattle.st_kind.specs.Refused.{IsFirstPlace}
 use Rattle.st_marks.specs.declared.places.Slot.{Slot}
 use Rattle.st_marks.specs.Row.{CellMark, Counted, Gap, Touch, Make, Fill}
 use Rattle.st_marks.specs.Listings.{CellView, cells_after, cells_before}
-use Rattle.st_seq.specs.Views.{DifferAt, row_views}
+use Rattle.st_seq.specs.Views.{DifferAt}
 use Rattle.st_seq.specs.declared.name_clashes.NamedAt.{NamedAt}
 
 -- ## The cells that a listing names
@@ -79,39 +78,10 @@ pub data NamedApart (A B : List NamedAt) : ℕ → Type 0 where
 abbrev pub SaidApart : List CellView → List CellView → List NamedAt → List NamedAt → ℕ → Type 0
 SaidApart X Y A B k = NamedApart A B k ⊎ NamedApart (standing_at 0 X) (standing_at 0 Y) k
 
--- the same of a row and a step, of two listings in turn, and of two beside one another
-abbrev pub SaidOver : List Slot → List CellMark → ℕ → Type 0
-SaidOver c ys = SaidApart (row_views c) (cells_before ys) (named_in_row 0 c) (named_before 0 ys)
-
 abbrev pub SaidInTurn : List CellMark → List CellMark → ℕ → Type 0
 SaidInTurn xs ys = SaidApart (cells_after xs) (cells_before ys) (named_after 0 xs) (named_before 0 ys)
-
-abbrev pub SaidBeside : List CellMark → List CellMark → ℕ → Type 0
-SaidBeside xs ys = SaidApart (cells_before xs) (cells_before ys) (named_before 0 xs) (named_before 0 ys)
 
 -- two listings of one row are apart at a place: they differ there, or they differ nowhere, and name a cell or a node of that
 -- place apart
 abbrev pub ApartAt : List CellView → List CellView → List NamedAt → List NamedAt → ℕ → Type 0
 ApartAt X Y A B k = DifferAt X Y k ⊎ (((j : ℕ) → DifferAt X Y j → ⊥) × SaidApart X Y A B k)
-
--- ## The same as a search
-
--- the first place at which something is so, if it is so at any
-abbrev pub IsPlace : (ℕ → Type 0) → Option ℕ → Type 0
-IsPlace D None = (k : ℕ) → D k → ⊥
-IsPlace D (Some k) = IsFirstPlace D k
-
--- the lesser of two places
-abbrev pub lesser : Option ℕ → Option ℕ → Option ℕ
-lesser None o = o
-lesser (Some a) None = Some a
-lesser (Some a) (Some b) = Some (min a b)
-
--- the first place at which something is named apart
-abbrev pub clash_with : NamedAt → Option NamedAt → Option ℕ
-clash_with f None = None
-clash_with f (Some e) = if not e.made && (not f.made && (e.left == f.left)) then None else Some (min e.left f.left)
-
-abbrev pub first_clash : List NamedAt → List NamedAt → Option ℕ
-first_clash A [] = None
-first_clash A (f ∷ B) = lesser (clash_with f (first_named A f.name)) (first_clash A B)

@@ -1,13 +1,6 @@
 -- Marks that are read from the front.
-use Rattle.std.specs.Prelude.{◌≡◌, ℕ, ◌<◌, Bool, true, false, Option, Some, None, List, [], ◌∷◌}
 use Rattle.st_marks.specs.declared.marks.Mark.{Mark}
-use Rattle.st_marks.specs.Row.{CellMark, Counted, Gap, Touch, Make, Fill, spread, counted}
-use Rattle.st_seq.specs.Merged.{is_skip}
-use Rattle.st_seq.specs.declared.front_mark.Head.{Head}
-
--- so many counted cells, and then what the marks say
-abbrev pub left : ℕ → List Mark → List CellMark
-left k ms = counted k (spread ms)
+use Rattle.st_marks.specs.Row.{CellMark, Counted, Gap, Touch, Make, Fill}
 
 -- what a mark says of its cell; of a Skip, what it says of each
 abbrev pub cell_of : Mark → CellMark
@@ -16,35 +9,3 @@ cell_of (Mark.Gap c) = Gap c
 cell_of (Mark.Touch c n h) = Touch c n h
 cell_of (Mark.Make c n b) = Make c n b
 cell_of (Mark.Fill c n) = Fill c n
-
--- whether a cell is made
-abbrev pub is_made : CellMark → Bool
-is_made Counted = false
-is_made (Gap c) = false
-is_made (Touch c n h) = false
-is_made (Make c n b) = true
-is_made (Fill c n) = false
-
--- what comes first, and the marks behind it
-abbrev pub IsFirst : List CellMark → Head → List Mark → Type 0
-IsFirst cells Head.End ms = (cells ≡ []) × (ms ≡ [])
-IsFirst cells (Head.Many k) ms = (0 < k) × (cells ≡ left k ms)
-IsFirst cells (Head.Make c n b) ms = cells ≡ Make c n b ∷ spread ms
-IsFirst cells (Head.Cell m) ms = (is_skip m ≡ false) × (cells ≡ cell_of m ∷ spread ms) × (is_made (cell_of m) ≡ false)
-
--- whether it is a cell that is made
-abbrev pub is_make : Head → Bool
-is_make Head.End = false
-is_make (Head.Many k) = false
-is_make (Head.Make c n b) = true
-is_make (Head.Cell m) = false
-
--- a mark of one cell
-abbrev pub IsSingle : Mark → Type 0
-IsSingle m = spread (m ∷ []) ≡ cell_of m ∷ []
-
--- the first cell of what comes first, and how many counted cells stand behind it
-abbrev pub IsOne : Head → Option (Mark × ℕ) → Type 0
-IsOne head None = (cells : List CellMark) (ms : List Mark) → IsFirst cells head ms → cells ≡ []
-IsOne head (Some p) = (cells : List CellMark) (ms : List Mark) → IsFirst cells head ms
-    → IsSingle p.0 × (cells ≡ cell_of p.0 ∷ left p.1 ms) × (is_make head ≡ false → is_made (cell_of p.0) ≡ false)

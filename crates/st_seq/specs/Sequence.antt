@@ -2,7 +2,6 @@
 -- and a step say of it.
 use Rattle.std.specs.Prelude.{◌≡◌, ◌≢◌, ◌⊎◌, ◌<◌, ◌^◌, ◌||◌, ◌&&◌, Bool, true, false, List, [], ◌∷◌, ◌++◌, Some, None, map, length, if◌then◌else◌}
 use Rattle.std.specs.List.{AllByRecursion, list_any, flat_map}
-use Rattle.std.specs.Ordering.{is_lt}
 use Rattle.st_ids.specs.Listing.{AreDistinct, Has, IsRising}
 use Rattle.st_ids.specs.Order.{node_cmp, same_cell, same_node}
 use Rattle.st_ids.specs.declared.names.CellId.{CellId}
@@ -143,10 +142,3 @@ pub record RowPartsAreJoined (p q : SeqPart) (c : List Slot) (j : SeqPart) : Typ
   pub rising : IsRising node_cmp (λ (n : NodeId). n) j.new
   pub new : (n : NodeId) → is_among j.new n ≡ (is_among p.new n || is_among q.new n)
   pub part : AreJoined p.part q.part c j.part
-
--- ## Nodes in rising order
-
--- whether a node's name is below that of the first of others, if there is one
-abbrev pub below_first : NodeId → List NodeId → Bool
-below_first n [] = true
-below_first n (m ∷ ms) = is_lt (node_cmp n m)

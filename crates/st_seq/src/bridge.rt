@@ -10,11 +10,12 @@ ghost use Rattle.st_marks.specs.Embedding.{is_among as among};
 ghost use Rattle.st_marks.specs.Row.{RowPart, spread};
 ghost use Rattle.st_marks.specs.Listings.{cells_before};
 ghost use Rattle.st_seq.specs.Views.{DifferAt};
-ghost use Rattle.st_seq.specs.Cells.{turned as turned_cell, stepped as stepped_cell, bridged as bridged_cell, bridged_piece, full_first as full_by_change, full_then as full_by_both, made_full as full_if_made, gained_full as full_if_gained};
+ghost use Rattle.st_seq.specs.inside.Cells.{turned as turned_cell, stepped as stepped_cell, bridged as bridged_cell, bridged_piece, full_first as full_by_change, full_then as full_by_both, made_full as full_if_made, gained_full as full_if_gained};
 ghost use Rattle.st_seq.specs.Changes.{IsRowChange, Keeps, StandsOver, may_list, placed_by, row_after};
-ghost use Rattle.st_seq.specs.Reading.{cell_of, IsSingle};
+ghost use Rattle.st_seq.specs.Reading.{cell_of};
+ghost use Rattle.st_seq.specs.inside.Reading.{IsSingle};
 ghost use Rattle.st_seq.specs.Rows.{IsRowStep, NamesMoved};
-ghost use Rattle.st_seq.specs.Walks.{First, Then};
+ghost use Rattle.st_seq.specs.inside.Walks.{First, Then};
 
 use crate::cell_view::{after, before};
 use crate::merge_walk::{Table, lay_beside};
@@ -167,7 +168,7 @@ impl<'a> Across<'a> {
 impl<'a> Table for Across<'a> {
     ghost use Rattle.std.specs.BTreeMap.{get};
     ghost use Rattle.st_ids.specs.Order.{node_cmp};
-    ghost use Rattle.st_seq.specs.Cells.{bridged_piece};
+    ghost use Rattle.st_seq.specs.inside.Cells.{bridged_piece};
     ghost use Rattle.st_seq.specs.Changes.{placed_by};
 
     ghost cell = { λ t. bridged_piece t.was_void t.is_void (placed_by t.in_new t.new.now) (get node_cmp t.seen.now) };

@@ -6,9 +6,10 @@ ghost use Rattle.st_marks.specs.declared.places.Slot.{Slot};
 ghost use Rattle.st_marks.specs.Row.{Fill, Make, RowPart, spread, merge, embed_row};
 ghost use Rattle.st_marks.specs.Listings.{cells_after, cells_before};
 ghost use Rattle.st_seq.specs.Views.{DifferAt};
-ghost use Rattle.st_seq.specs.Cells.{composed as composed_cell, joined as joined_cell};
+ghost use Rattle.st_seq.specs.inside.Cells.{composed as composed_cell, joined as joined_cell};
 ghost use Rattle.st_seq.specs.Changes.{AreJoined, IsRowChange, carried_row};
-ghost use Rattle.st_seq.specs.Reading.{cell_of, IsSingle};
+ghost use Rattle.st_seq.specs.Reading.{cell_of};
+ghost use Rattle.st_seq.specs.inside.Reading.{IsSingle};
 ghost use Rattle.st_seq.specs.Rows.{IsRowStep, NamesLeavers};
 
 use crate::merge_walk::{Table, lay_in_turn};
@@ -86,7 +87,7 @@ fn composed(first: Mark, then: Mark) -> Mark
 struct Steps;
 
 impl Table for Steps {
-    ghost use Rattle.st_seq.specs.Cells.{composed_piece};
+    ghost use Rattle.st_seq.specs.inside.Cells.{composed_piece};
 
     ghost cell = { λ t. composed_piece };
 
@@ -150,7 +151,7 @@ fn joined(first: Mark, then: Mark) -> Mark
 struct Changes;
 
 impl Table for Changes {
-    ghost use Rattle.st_seq.specs.Cells.{joined_piece};
+    ghost use Rattle.st_seq.specs.inside.Cells.{joined_piece};
 
     ghost cell = { λ t. joined_piece };
 

@@ -1,6 +1,6 @@
 //! Marks that are read from the front.
 ghost use Rattle.std.specs.Prelude.{◌≡◌};
-ghost use Rattle.st_seq.specs.Reading.{left, IsFirst};
+ghost use Rattle.st_seq.specs.inside.Reading.{left, IsFirst};
 
 use st_ids::{CellId, NodeId};
 use st_marks::Mark;

@@ -2,11 +2,11 @@
 ghost use Rattle.std.specs.Prelude.{◌≡◌, ◌^◌, ◌<◌, ◌∷◌, [], map, length, IfOk};
 ghost use Rattle.st_marks.specs.Row.{CellMark, spread};
 ghost use Rattle.st_marks.specs.Listings.{cells_after, cells_before};
-ghost use Rattle.st_seq.specs.Views.{first_difference, IsApart};
+ghost use Rattle.st_seq.specs.inside.Views.{first_difference, IsApart};
 ghost use Rattle.st_seq.specs.Changes.{may_list};
-ghost use Rattle.st_seq.specs.Merged.{IsMerged};
-ghost use Rattle.st_seq.specs.Turns.{cells_of_piece, IsOfCells};
-ghost use Rattle.st_seq.specs.Walks.{CellPiece, in_turn, beside};
+ghost use Rattle.st_seq.specs.inside.Merged.{IsMerged};
+ghost use Rattle.st_seq.specs.inside.Turns.{cells_of_piece, IsOfCells};
+ghost use Rattle.st_seq.specs.inside.Walks.{CellPiece, in_turn, beside};
 
 use crate::mark_builder::push;
 use crate::pieces::{Piece, Turn, met, turn_beside, turn_in_turn};

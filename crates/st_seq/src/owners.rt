@@ -8,8 +8,10 @@ ghost use Rattle.st_ids.specs.declared.names.NodeId.{NodeId as Node};
 ghost use Rattle.st_kind.specs.Refused.{IsApartWhere};
 ghost use Rattle.st_marks.specs.Row.{spread};
 ghost use Rattle.st_marks.specs.Listings.{cells_after, cells_before, cells_made};
-ghost use Rattle.st_seq.specs.NamedApart.{IsPlace, SaidInTurn, first_named, found_at as at};
-ghost use Rattle.st_seq.specs.OwnedEarly.{OwnedEarly, early_place as early_at, first_early as early_in};
+ghost use Rattle.st_seq.specs.NamedApart.{SaidInTurn, first_named, found_at as at};
+ghost use Rattle.st_seq.specs.inside.NamedApart.{IsPlace};
+ghost use Rattle.st_seq.specs.OwnedEarly.{OwnedEarly};
+ghost use Rattle.st_seq.specs.inside.OwnedEarly.{early_place as early_at, first_early as early_in};
 ghost use Rattle.st_seq.specs.declared.name_clashes.NamedAt.{NamedAt as Named};
 
 use crate::name_clashes::{

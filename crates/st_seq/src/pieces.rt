@@ -1,8 +1,9 @@
 //! Two listings of one row, laid over each other piece by piece.
 ghost use Rattle.std.specs.Prelude.{◌≡◌, ◌<◌, false, List as Seq};
 ghost use Rattle.st_marks.specs.Row.{CellMark, spread};
-ghost use Rattle.st_seq.specs.Reading.{left, cell_of, is_made, is_make, IsFirst, IsOne};
-ghost use Rattle.st_seq.specs.Turns.{IsTurnInTurn, IsTurnBeside, found_count as met_by};
+ghost use Rattle.st_seq.specs.Reading.{cell_of};
+ghost use Rattle.st_seq.specs.inside.Reading.{left, is_made, is_make, IsFirst, IsOne};
+ghost use Rattle.st_seq.specs.inside.Turns.{IsTurnInTurn, IsTurnBeside, found_count as met_by};
 
 use crate::cell_view::{after, before, is_same};
 use crate::front_mark::{Head, next};

@@ -8,11 +8,12 @@ ghost use Rattle.st_marks.specs.declared.places.Slot.{Slot};
 ghost use Rattle.st_marks.specs.Row.{RowPart, spread, merge, embed_row};
 ghost use Rattle.st_marks.specs.Listings.{cells_before};
 ghost use Rattle.st_seq.specs.Views.{DifferAt};
-ghost use Rattle.st_seq.specs.Cells.{rebased as rebased_cell, rebased_piece, gained_cell, emptied as emptied_cell, filled as filled_cell, how_there as there};
+ghost use Rattle.st_seq.specs.inside.Cells.{rebased as rebased_cell, rebased_piece, gained_cell, emptied as emptied_cell, filled as filled_cell, how_there as there};
 ghost use Rattle.st_seq.specs.Changes.{IsRowChange, Keeps, may_list};
-ghost use Rattle.st_seq.specs.Reading.{cell_of, IsSingle};
+ghost use Rattle.st_seq.specs.Reading.{cell_of};
+ghost use Rattle.st_seq.specs.inside.Reading.{IsSingle};
 ghost use Rattle.st_seq.specs.Rows.{IsRowStep};
-ghost use Rattle.st_seq.specs.Walks.{Then};
+ghost use Rattle.st_seq.specs.inside.Walks.{Then};
 
 use crate::merge_walk::{Table, lay_beside};
 use crate::pieces::Piece;
@@ -107,7 +108,7 @@ struct Beside<'a> {
 impl<'a> Table for Beside<'a> {
     ghost use Rattle.std.specs.BTreeMap.{get};
     ghost use Rattle.st_ids.specs.Order.{node_cmp};
-    ghost use Rattle.st_seq.specs.Cells.{rebased_piece};
+    ghost use Rattle.st_seq.specs.inside.Cells.{rebased_piece};
 
     ghost cell = { λ t. rebased_piece (get node_cmp t.seen.now) };
 

@@ -5,11 +5,12 @@ ghost use Rattle.st_kind.specs.Refused.{IfMemory, IsApartWhere};
 ghost use Rattle.st_marks.specs.declared.places.Slot.{Slot as Cell};
 ghost use Rattle.st_marks.specs.Row.{CellMark, spread};
 ghost use Rattle.st_marks.specs.Listings.{cells_before, cell_view};
-ghost use Rattle.st_seq.specs.Views.{DifferAt, first_difference, row_views, view_of, IsApart};
-ghost use Rattle.st_seq.specs.Cells.{after_row};
-ghost use Rattle.st_seq.specs.Reading.{left, is_make, IsFirst};
+ghost use Rattle.st_seq.specs.Views.{DifferAt, row_views, view_of};
+ghost use Rattle.st_seq.specs.inside.Views.{first_difference, IsApart};
+ghost use Rattle.st_seq.specs.inside.Cells.{after_row};
+ghost use Rattle.st_seq.specs.inside.Reading.{left, is_make, IsFirst};
 ghost use Rattle.st_seq.specs.Rows.{IsRowStep};
-ghost use Rattle.st_seq.specs.Turns.{IsSlotTurn};
+ghost use Rattle.st_seq.specs.inside.Turns.{IsSlotTurn};
 
 use crate::cell_view::{Sighting, after as said_after, before, is_same};
 use crate::front_mark::{Head, next};

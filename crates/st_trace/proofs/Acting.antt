@@ -19,7 +19,8 @@ use Rattle.st_edits.proofs.Resolved.{resolved_fits}
 use Rattle.st_script.specs.Header.{HeaderView, header_view}
 use Rattle.st_script.specs.declared.answer.Answer.{Answer}
 use Rattle.st_script.specs.declared.answer.Answer.TheVariants.{Show}
-use Rattle.st_trace.specs.Replicas.{CanReceive, HasMoved, IsEditedReplica, IsPending, IsSound, IsSoundAfter}
+use Rattle.st_trace.specs.Replicas.{IsSound, IsSoundAfter}
+use Rattle.st_trace.specs.inside.Replicas.{CanReceive, HasMoved, IsEditedReplica, IsPending}
 use Rattle.st_trace.specs.World.{AtRefusal, HasReceived, HasShown, IsDelivered, IsDeliveredTo, IsEdited, IsShown, answer_of, after_edit, next_names, limit_passed, next_rev, with_pending, with_received, with_client}
 use Rattle.st_trace.specs.declared.client.EditWord.{EditWord}
 use Rattle.st_trace.specs.declared.replica.Replica.{Replica}

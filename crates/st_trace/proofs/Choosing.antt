@@ -10,7 +10,7 @@ use Rattle.st_script.proofs.OfForm.{line_formed as formed}
 use Rattle.st_script.specs.declared.answer.Answer.{Answer}
 use Rattle.st_script.specs.declared.step.TraceStep.{TraceStep}
 use Rattle.st_script.specs.declared.step.TraceStep.TheVariants as step
-use Rattle.st_trace.specs.Edits.{word_of, edit_of}
+use Rattle.st_trace.specs.inside.Edits.{word_of, edit_of}
 use Rattle.st_trace.specs.World.{IsEdited, IsNextOf, IsShown, next_names}
 use Rattle.st_trace.specs.declared.client.EditWord.{EditWord}
 use Rattle.st_trace.specs.declared.client.EditWord.TheVariants as word

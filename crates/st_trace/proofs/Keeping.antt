@@ -19,7 +19,8 @@ use Rattle.st_doc.specs.Doc.{document_of}
 use Rattle.st_doc.specs.declared.doc.Doc.{Doc}
 use Rattle.st_script.specs.Header.{HeaderView}
 use Rattle.st_script.specs.declared.answer.Answer.{Answer}
-use Rattle.st_trace.specs.Replicas.{IsClient, IsReplicaOf, IsCommitted, IsPending, IsEditedReplica, CanReceive, CanCarry, HasMoved, HasReceivedNext, HasReceivedOf, HasReceivedOne}
+use Rattle.st_trace.specs.Replicas.{IsClient, IsReplicaOf}
+use Rattle.st_trace.specs.inside.Replicas.{IsCommitted, IsPending, IsEditedReplica, CanReceive, CanCarry, HasMoved, HasReceivedNext, HasReceivedOf, HasReceivedOne}
 use Rattle.st_trace.specs.Log.{commit_of, commits_in, log_with}
 use Rattle.st_trace.specs.World.{IsDeliveredTo, with_commit, after_edit, new_client, limit_passed, names_in, names_made, next_rev, opening_document, pending_after, with_pending, received_by, with_received}
 use Rattle.st_trace.specs.declared.client.EditWord.{EditWord}

@@ -5,7 +5,7 @@ use Rattle.st_marks.specs.declared.verdicts.Verdict.{Verdict}
 use Rattle.st_marks.specs.Document.{Document}
 use Rattle.st_marks.specs.Run.{Run, done}
 use Rattle.st_doc.specs.Doc.{document_of}
-use Rattle.st_trace.specs.Replicas.{CanCarry, CanReceive, HasCarried, HasReceivedNext, HasReceivedOf, HasReceivedOne}
+use Rattle.st_trace.specs.inside.Replicas.{CanCarry, CanReceive, HasCarried, HasReceivedNext, HasReceivedOf, HasReceivedOne}
 use Rattle.st_trace.specs.Log.{commit_of}
 use Rattle.st_trace.specs.declared.replica.Replica.{Replica}
 use Rattle.st_trace.specs.declared.state.Body.TheVariants.{Commit}

@@ -1,5 +1,5 @@
-pub mod Edits
 pub mod Replicas
 pub mod Known
 pub mod Log
 pub mod World
+pub mod inside

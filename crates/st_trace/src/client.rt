@@ -7,8 +7,8 @@ ghost use Rattle.st_marks.specs.Run.{Run};
 ghost use Rattle.st_doc.specs.Doc.{document_of};
 ghost use Rattle.st_edits.specs.Resolve.{IsWithin, resolve};
 ghost use Rattle.st_log_laws.specs.Turns.{FitInTurn};
-ghost use Rattle.st_trace.specs.Edits.{word_of, edit_of};
-ghost use Rattle.st_trace.specs.Replicas.{IsCommitted, IsPending, IsEditedReplica, HasCarried, HasReceivedOne, CanReceive, HasReceivedNext, HasMoved};
+ghost use Rattle.st_trace.specs.inside.Edits.{word_of, edit_of};
+ghost use Rattle.st_trace.specs.inside.Replicas.{IsCommitted, IsPending, IsEditedReplica, HasCarried, HasReceivedOne, CanReceive, HasReceivedNext, HasMoved};
 ghost use Rattle.st_trace.specs.World.{names_made, names_in, next_rev, with_commit, next_names, refusal_of, limit_passed, with_pending, after_edit, answer_of, is_own, with_received, IsDeliveredTo, new_client};
 
 use crate::edits::resolve_step;

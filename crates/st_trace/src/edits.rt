@@ -3,7 +3,7 @@ ghost use Rattle.std.specs.Prelude.{◌≡◌, ◌<◌, ◌^◌, true, is_some, 
 ghost use Rattle.st_ids.specs.Or.{IfRefused};
 ghost use Rattle.st_doc.specs.Doc.{document_of};
 ghost use Rattle.st_edits.specs.Resolve.{IsWithin, resolve};
-ghost use Rattle.st_trace.specs.Edits.{word_of, edit_of};
+ghost use Rattle.st_trace.specs.inside.Edits.{word_of, edit_of};
 
 use crate::client::EditWord;
 use st_doc::Doc;

@@ -11,11 +11,12 @@ ghost use Rattle.st_doc.specs.LiveText.{is_among};
 ghost use Rattle.st_edits.specs.Resolve.{IsWithin, resolve};
 ghost use Rattle.st_edits.specs.ArrayTypes.{is_array_type};
 ghost use Rattle.st_trace.specs.World.{empty_state, opening_document, names_made, place_of, limit_refusal, log_limit_passed, join, sequence, next_names, IsEdited, IsDelivered, IsShown, IsNextOf, IsNext, AtRefusal, ShowsAllowed};
-ghost use Rattle.st_trace.specs.Replicas.{IsHeader, IsSound, IsSoundNext};
+ghost use Rattle.st_trace.specs.Replicas.{IsHeader, IsSound};
+ghost use Rattle.st_trace.specs.inside.Replicas.{IsSoundNext};
 ghost use Rattle.st_trace.specs.Known.{AreKnown};
 ghost use Rattle.st_trace.specs.Log.{log_with, minimum};
 ghost use Rattle.st_trace.specs.declared.state.Body.TheVariants.{Commit};
-ghost use Rattle.st_trace.specs.Edits.{word_of, edit_of};
+ghost use Rattle.st_trace.specs.inside.Edits.{word_of, edit_of};
 ghost use Rattle.st_trace.specs.declared.state.Client.{Client as Present};
 
 use crate::client::{self, EditWord};

@@ -1,6 +1,7 @@
 -- A tree is told by what is seen of it.
 use Rattle.std.proofs.Common.{◌≡◌, List, [], ◌∷◌, ◌∙◌, map, refl, sym, ap, subst}
-use Rattle.st_tree.specs.Node.{Node, node, Fields, no_fields, field, Nodes, no_nodes, first, FieldNode, view, field_view, trees_view, fields_view}
+use Rattle.st_tree.specs.Node.{Node, node, Fields, no_fields, field, Nodes, no_nodes, first, FieldNode, view, trees_view}
+use Rattle.st_tree.specs.inside.Node.{field_view, fields_view}
 use Rattle.st_tree.specs.declared.tree.Tree.{Tree}
 use Rattle.st_tree.specs.declared.tree.Field.{Field}
 use Rattle.st_tree.specs.declared.tree.Field.TheViews.{roll-Tree, roll-Field}

@@ -13,7 +13,7 @@ use Rattle.st_tree.specs.Node.{Node, node, Fields, no_fields, field, Nodes, no_n
 use Rattle.st_tree.specs.Size.{node_count, item_count}
 use Rattle.st_tree.specs.Form.{is_row_alone, keys_rise, fields_fit, has_form, fields_have_form, all_have_form}
 use Rattle.st_tree.specs.Preorder.{node_named, cell_named, cells_taken, cell_count, item_cells, is_array, at_of, listed, fields_listed, items_listed, tops_listed, opening_listed}
-use Rattle.st_tree.specs.Rebuilt.{Waiting, is_below, first_is_below, fields_of_node, fields_of_others, keyed, fields_above, attached, rebuilt}
+use Rattle.st_tree.specs.inside.Rebuilt.{Waiting, is_below, first_is_below, fields_of_node, fields_of_others, keyed, fields_above, attached, rebuilt}
 use Rattle.st_tree.specs.declared.flat.FlatAt.{FlatAt}
 use Rattle.st_tree.specs.declared.flat.FlatAt.TheVariants.{Root, Top}
 use Rattle.st_tree.specs.declared.flat.FlatNode.{FlatNode}

@@ -1,6 +1,7 @@
 -- What is seen of a tree, one level at a time.
 use Rattle.std.proofs.Common.{◌≡◌}
-use Rattle.st_tree.specs.Node.{Node, node, FieldNode, field_step, tree_step, view, field_view, trees_view, fields_view}
+use Rattle.st_tree.specs.Node.{Node, node, FieldNode, field_step, tree_step, view, trees_view}
+use Rattle.st_tree.specs.inside.Node.{field_view, fields_view}
 use Rattle.st_tree.specs.declared.tree.Tree.{Tree}
 use Rattle.st_tree.specs.declared.tree.Field.{Field}
 use Rattle.st_tree.specs.declared.tree.Field.TheOpen.{Field-F, Tree-F}

@@ -4,7 +4,7 @@ use Rattle.std.proofs.lemmas.List.{map-append, reverse-append}
 use Rattle.std.specs.Prelude.{reverse}
 use Rattle.st_ids.specs.declared.names.NodeId.{NodeId}
 use Rattle.st_tree.specs.Node.{view}
-use Rattle.st_tree.specs.Rebuilt.{Waiting, first_is_below, fields_of_node, fields_of_others, waiting_view}
+use Rattle.st_tree.specs.inside.Rebuilt.{Waiting, first_is_below, fields_of_node, fields_of_others, waiting_view}
 use Rattle.st_tree.specs.declared.rebuild.Placed.{Placed}
 
 -- the last in the program is the first that waits

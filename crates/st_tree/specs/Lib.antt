@@ -1,5 +1,5 @@
 pub mod Form
 pub mod Node
 pub mod Preorder
-pub mod Rebuilt
 pub mod Size
+pub mod inside

@@ -3,7 +3,6 @@
 use Rattle.std.specs.Prelude.{ℕ, List, [], ◌∷◌, Bool, Option, map}
 use Rattle.st_ids.specs.declared.names.Leaf.{Leaf}
 use Rattle.st_tree.specs.declared.tree.Tree.{Tree, fold-Tree}
-use Rattle.st_tree.specs.declared.tree.Field.{Field, fold-Field}
 use Rattle.st_tree.specs.declared.tree.Field.TheOpen.{Field-F, Tree-F}
 
 mutual
@@ -43,11 +42,5 @@ tree_step t = node t.ty t.leaf (fields_of t.fields)
 abbrev pub view : Tree → Node
 view = fold-Tree FieldNode Node field_step tree_step
 
-abbrev pub field_view : Field → FieldNode
-field_view = fold-Field FieldNode Node field_step tree_step
-
 abbrev pub trees_view : List Tree → Nodes
 trees_view ts = nodes_of (map view ts)
-
-abbrev pub fields_view : List Field → Fields
-fields_view fs = fields_of (map field_view fs)

@@ -1,6 +1,7 @@
 //! The limits of trees.
 ghost use Rattle.std.specs.Prelude.{◌≡◌, ◌+◌, ◌≤◌, min, nat_le};
-ghost use Rattle.st_tree.specs.Node.{view, field_view, trees_view};
+ghost use Rattle.st_tree.specs.Node.{view, trees_view};
+ghost use Rattle.st_tree.specs.inside.Node.{field_view};
 ghost use Rattle.st_tree.specs.Size.{node_count, height, item_count, items_height, check_of, check_items};
 
 use crate::tree::{Field, Tree};

@@ -1,7 +1,8 @@
 //! The list of a tree's nodes under given names.
 ghost use Rattle.std.specs.Prelude.{◌≡◌, ◌+◌, ◌<◌, ◌++◌, ◌^◌, true, IfOk, OnOk, Ok, Err};
 ghost use Rattle.st_ids.specs.Or.{IfRefused};
-ghost use Rattle.st_tree.specs.Node.{view, field_view, fields_view, trees_view};
+ghost use Rattle.st_tree.specs.Node.{view, trees_view};
+ghost use Rattle.st_tree.specs.inside.Node.{field_view, fields_view};
 ghost use Rattle.st_tree.specs.Size.{node_count, item_count, check_of, check_items};
 ghost use Rattle.st_tree.specs.declared.tree.Tree.{out-Tree};
 ghost use Rattle.st_tree.specs.Preorder.{cell_count, item_cells, cells_taken, is_array, at_of, listed, items_listed, tops_listed, opening_listed};

@@ -4,8 +4,9 @@ ghost use Rattle.st_ids.specs.declared.names.Rev.{Rev as RevNames};
 ghost use Rattle.st_tree.specs.declared.tree.Tree.{Tree as TreeValue};
 ghost use Rattle.st_tree.specs.Form.{has_form, all_have_form};
 ghost use Rattle.st_tree.specs.Preorder.{tops_listed, opening_listed};
-ghost use Rattle.st_tree.specs.Node.{node as node_of, field, no_fields, view, field_view, trees_view, fields_view, nodes_of, fields_of};
-ghost use Rattle.st_tree.specs.Rebuilt.{is_below, first_is_below, fields_of_node, fields_of_others, keyed, fields_above, attached, rebuilt, waiting_view};
+ghost use Rattle.st_tree.specs.Node.{node as node_of, field, no_fields, view, trees_view, nodes_of, fields_of};
+ghost use Rattle.st_tree.specs.inside.Node.{field_view, fields_view};
+ghost use Rattle.st_tree.specs.inside.Rebuilt.{is_below, first_is_below, fields_of_node, fields_of_others, keyed, fields_above, attached, rebuilt, waiting_view};
 
 use crate::flat::{Flat, FlatAt, FlatNode};
 use crate::tree::{Field, Tree};

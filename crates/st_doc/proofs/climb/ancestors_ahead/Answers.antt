@@ -2,7 +2,7 @@ use Rattle.std.proofs.Common.{◌≡◌, sym, ap, ◌∙◌, Some, None}
 use Rattle.std.specs.BTreeSet.{contains}
 use Rattle.std.specs.List.{list_any}
 use Rattle.st_ids.specs.Order.{node_cmp, same_node}
-use Rattle.st_doc.specs.Ahead.{above_ahead}
+use Rattle.st_doc.specs.inside.Ahead.{above_ahead}
 use Rattle.st_doc.proofs.Climbing.{climb_begun, climbed, climbed_all, climbed_less}
 use Rattle.st_doc.proofs.climb.ancestors_ahead.Goals as goal
 use Rattle.st_doc.proofs.climb.ancestors_ahead.Goals.{in-Some+then-contains, in_default}

@@ -2,7 +2,7 @@ use Rattle.std.proofs.Common.{◌+◌, ◌*◌}
 use Rattle.std.specs.BTreeMap.{keys}
 use Rattle.std.specs.BTreeSet.{contains}
 use Rattle.st_ids.specs.Order.{node_cmp}
-use Rattle.st_doc.specs.Ahead.{above_ahead}
+use Rattle.st_doc.specs.inside.Ahead.{above_ahead}
 use Rattle.st_doc.proofs.Climbing.{Climbing, missing, flag}
 use Rattle.st_doc.proofs.climb.ancestors_ahead.Given as goal
 

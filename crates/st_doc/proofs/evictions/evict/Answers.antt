@@ -4,7 +4,7 @@ use Rattle.std.specs.Option.{option_or}
 use Rattle.st_ids.specs.Order.{node_cmp, same_node}
 use Rattle.st_ids.specs.declared.names.NodeId.{NodeId}
 use Rattle.st_marks.specs.declared.places.Spot.{Spot}
-use Rattle.st_doc.specs.Evictions.{is_held}
+use Rattle.st_doc.specs.inside.Evictions.{is_held}
 use Rattle.st_doc.proofs.evictions.evict.Goals as goal
 
 pub returns-in_ok-add-in-Some : goal.returns-in_ok-add-in-Some

@@ -3,7 +3,7 @@ use Rattle.std.specs.BTreeMap.{get}
 use Rattle.std.specs.Option.{option_or}
 use Rattle.st_ids.specs.Order.{field_cmp, node_cmp}
 use Rattle.st_marks.specs.declared.places.Spot.{Spot}
-use Rattle.st_doc.specs.Evictions.{is_held, evicted}
+use Rattle.st_doc.specs.inside.Evictions.{is_held, evicted}
 use Rattle.st_doc.proofs.Evicting.{evicted_one}
 use Rattle.st_doc.proofs.evictions.evict_all.Goals as goal
 

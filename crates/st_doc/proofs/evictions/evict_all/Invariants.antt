@@ -4,7 +4,7 @@ use Rattle.std.specs.Option.{option_or}
 use Rattle.st_ids.specs.declared.names.NodeId.{NodeId}
 use Rattle.st_ids.specs.Order.{node_cmp}
 use Rattle.st_marks.specs.declared.places.Spot.{Spot}
-use Rattle.st_doc.specs.Evictions.{IsOneHeld, evicted}
+use Rattle.st_doc.specs.inside.Evictions.{IsOneHeld, evicted}
 use Rattle.st_doc.proofs.evictions.evict_all.Given as goal
 
 abbrev pub invariant-loop-field : goal.invariant-loop-field

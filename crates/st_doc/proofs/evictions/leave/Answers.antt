@@ -2,7 +2,7 @@ use Rattle.std.proofs.Common.{sym, ap, ◌∙◌, cond, None, Some, Option, unwr
 use Rattle.std.specs.BTreeMap.{get}
 use Rattle.st_ids.specs.Order.{field_cmp, same_field}
 use Rattle.st_marks.specs.declared.places.Spot.{Spot}
-use Rattle.st_doc.specs.Evictions.{stands_in}
+use Rattle.st_doc.specs.inside.Evictions.{stands_in}
 use Rattle.st_doc.proofs.evictions.leave.Goals as goal
 
 pub returns-in-Some-Register : goal.returns-in-Some-Register

@@ -2,7 +2,7 @@ use Rattle.std.proofs.Common.{sym, ap, ◌∙◌, cond, None, unwrap_or, take_al
 use Rattle.std.specs.BTreeMap.{get}
 use Rattle.st_ids.specs.Order.{field_cmp, node_cmp}
 use Rattle.st_marks.specs.declared.places.Spot.{Spot}
-use Rattle.st_doc.specs.Evictions.{stands_in}
+use Rattle.st_doc.specs.inside.Evictions.{stands_in}
 use Rattle.st_doc.proofs.Evicting.{left_one, unless_among, among_all}
 use Rattle.st_doc.proofs.evictions.leave_all.Goals as goal
 

@@ -1,6 +1,6 @@
 use Rattle.std.proofs.Common.{◌≤◌, length, drop, map}
 use Rattle.serde_json.specs.View.{members_view}
-use Rattle.st_doc.specs.LiveText.{AreMembers, IsPart, KeepsOthers}
+use Rattle.st_doc.specs.inside.LiveText.{AreMembers, IsPart, KeepsOthers}
 use Rattle.st_doc.specs.declared.seats.Seat.{Seat}
 use Rattle.st_doc.proofs.live_text.members_of.Given as goal
 

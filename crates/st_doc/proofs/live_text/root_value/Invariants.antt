@@ -1,6 +1,7 @@
 use Rattle.std.proofs.Common.{◌≤◌, length}
 use Rattle.st_doc.specs.Doc.{document_of}
-use Rattle.st_doc.specs.LiveText.{AllShown, is_among}
+use Rattle.st_doc.specs.LiveText.{is_among}
+use Rattle.st_doc.specs.inside.LiveText.{AllShown}
 use Rattle.st_doc.proofs.Ordered.{AreReady}
 use Rattle.st_doc.proofs.live_text.root_value.Given as goal
 

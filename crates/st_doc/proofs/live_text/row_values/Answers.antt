@@ -3,7 +3,7 @@ use Rattle.st_ids.specs.Listing.{AreDistinct}
 use Rattle.st_ids.specs.declared.names.NodeId.{NodeId}
 use Rattle.st_marks.specs.Document.{slot}
 use Rattle.st_marks.specs.LiveTree.{owners_shown}
-use Rattle.st_doc.specs.LiveText.{AreMade}
+use Rattle.st_doc.specs.inside.LiveText.{AreMade}
 use Rattle.std.specs.BTreeMap.{get}
 use Rattle.st_ids.specs.Order.{node_cmp}
 use Rattle.st_doc.specs.Doc.{document_of}

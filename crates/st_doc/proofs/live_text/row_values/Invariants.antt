@@ -2,7 +2,7 @@ use Rattle.std.proofs.Common.{map, take}
 use Rattle.st_marks.specs.Document.{slot}
 use Rattle.st_marks.specs.LiveTree.{owners_shown}
 use Rattle.st_doc.specs.Doc.{document_of}
-use Rattle.st_doc.specs.LiveText.{AreValues, IsPart, KeepsOthers}
+use Rattle.st_doc.specs.inside.LiveText.{AreValues, IsPart, KeepsOthers}
 use Rattle.st_doc.proofs.live_text.row_values.Given as goal
 
 abbrev pub invariant-loop-owned : goal.invariant-loop-owned

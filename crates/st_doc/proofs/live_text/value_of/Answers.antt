@@ -11,7 +11,8 @@ use Rattle.serde_json.specs.View.{view, members_view}
 use Rattle.serde_json.specs.declared.value.Value.{Array, Object}
 use Rattle.serde_json.proofs.Views.{view-Array, view-Object}
 use Rattle.st_doc.specs.Doc.{document_of}
-use Rattle.st_doc.specs.LiveText.{AllShown, AreMembers, is_among, seats_of}
+use Rattle.st_doc.specs.LiveText.{is_among}
+use Rattle.st_doc.specs.inside.LiveText.{AllShown, AreMembers, seats_of}
 use Rattle.st_doc.specs.Nodes.{type_of}
 use Rattle.st_doc.proofs.KeyOrder.{keys_rising, keys_found}
 use Rattle.st_doc.proofs.Children.{row_child, seat_child, seats_once}

@@ -4,7 +4,7 @@ use Rattle.st_ids.specs.declared.names.NodeId.{NodeId}
 use Rattle.st_marks.specs.Document.{content}
 use Rattle.st_marks.specs.LiveTree.{owners_shown}
 use Rattle.st_doc.specs.Doc.{document_of}
-use Rattle.st_doc.specs.LiveText.{seats_of}
+use Rattle.st_doc.specs.inside.LiveText.{seats_of}
 use Rattle.st_doc.specs.declared.seats.Seat.{Seat}
 use Rattle.st_doc.proofs.Children.{children, children_once, child_above, above_child}
 use Rattle.st_doc.proofs.KeyOrder.{seat_there}

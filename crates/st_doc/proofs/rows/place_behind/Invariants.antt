@@ -1,6 +1,6 @@
 use Rattle.std.proofs.Common.{◌≡◌, ◌++◌, List, take, drop}
 use Rattle.st_marks.specs.declared.intents.Owned.{Owned}
-use Rattle.st_doc.specs.Growing.{behind}
+use Rattle.st_doc.specs.inside.Growing.{behind}
 use Rattle.st_doc.proofs.rows.place_behind.Given as goal
 
 -- the cells before are others

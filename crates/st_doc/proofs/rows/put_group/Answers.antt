@@ -1,7 +1,7 @@
 use Rattle.std.proofs.Common.{◌∙◌}
 use Rattle.std.specs.BTreeMap.{get}
 use Rattle.st_ids.specs.Order.{node_cmp, same_node}
-use Rattle.st_doc.specs.Growing.{at_anchor}
+use Rattle.st_doc.specs.inside.Growing.{at_anchor}
 use Rattle.st_doc.proofs.Growing.{group_put}
 use Rattle.st_doc.proofs.rows.put_group.Goals as goal
 

@@ -1,7 +1,7 @@
 use Rattle.std.proofs.Common.{[], unwrap_or}
 use Rattle.std.specs.BTreeMap.{get}
 use Rattle.st_ids.specs.Order.{node_cmp}
-use Rattle.st_doc.specs.LiveText.{seats_of}
+use Rattle.st_doc.specs.inside.LiveText.{seats_of}
 use Rattle.st_doc.proofs.KeyOrder.{keys_rise, seat_held}
 use Rattle.st_doc.proofs.LiveTexts.{seats_more, seats_end}
 use Rattle.st_doc.proofs.seats.seats_of.Goals as goal

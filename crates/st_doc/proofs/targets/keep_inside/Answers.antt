@@ -3,7 +3,7 @@ use Rattle.std.specs.BTreeMap.{get}
 use Rattle.std.specs.Option.{option_or}
 use Rattle.st_ids.specs.Order.{node_cmp, same_node}
 use Rattle.st_marks.specs.declared.places.Spot.{Spot}
-use Rattle.st_doc.specs.Ahead.{inside_new}
+use Rattle.st_doc.specs.inside.Ahead.{inside_new}
 use Rattle.st_doc.proofs.targets.keep_inside.Goals as goal
 
 pub returns : goal.returns

@@ -4,7 +4,7 @@ use Rattle.std.specs.List.{list_any}
 use Rattle.std.specs.Option.{option_or}
 use Rattle.st_ids.specs.Order.{node_cmp, same_node}
 use Rattle.st_marks.specs.declared.changes.NewNode.{NewNode}
-use Rattle.st_doc.specs.Ahead.{inside_new}
+use Rattle.st_doc.specs.inside.Ahead.{inside_new}
 use Rattle.st_doc.proofs.Carrying.{kept_one}
 use Rattle.st_intent.proofs.Scans.{is_new-listed}
 use Rattle.st_doc.proofs.targets.targets_inside.Goals as goal

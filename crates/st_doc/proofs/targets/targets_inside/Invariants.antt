@@ -3,7 +3,7 @@ use Rattle.std.specs.BTreeMap.{get}
 use Rattle.std.specs.List.{list_any}
 use Rattle.st_ids.specs.declared.names.NodeId.{NodeId}
 use Rattle.st_ids.specs.Order.{node_cmp, same_node}
-use Rattle.st_doc.specs.Ahead.{inside_new}
+use Rattle.st_doc.specs.inside.Ahead.{inside_new}
 use Rattle.st_doc.proofs.targets.targets_inside.Given as goal
 
 abbrev pub invariant-loop-new : goal.invariant-loop-new

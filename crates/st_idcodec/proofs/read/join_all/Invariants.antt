@@ -2,7 +2,7 @@
 use Rattle.std.proofs.Common.{◌≡◌, drop}
 use Rattle.serde_json.specs.View.{items_view}
 use Rattle.st_clusters.specs.Ids.{ids_of}
-use Rattle.st_idcodec.specs.Reading.{after_uuids}
+use Rattle.st_idcodec.specs.inside.Reading.{after_uuids}
 use Rattle.st_idcodec.proofs.read.join_all.Given as goal
 
 abbrev pub invariant-loop-value : goal.invariant-loop-value

@@ -1,6 +1,6 @@
 use Rattle.std.proofs.Common.{◌≡◌, drop}
 use Rattle.st_ids.specs.Order.{same_cell}
-use Rattle.st_intent.specs.Rules.{are_distinct, are_same}
+use Rattle.st_intent.specs.inside.Rules.{are_distinct, are_same}
 use Rattle.st_intent.proofs.distinct.anchors_are_distinct.Given as goal
 
 abbrev pub invariant-loop-i : goal.invariant-loop-i

@@ -1,7 +1,7 @@
 use Rattle.std.proofs.Common.{◌≡◌, ◌&&◌, drop}
 use Rattle.st_ids.specs.Order.{same_node}
 use Rattle.st_marks.specs.Intent.{same_anchor}
-use Rattle.st_intent.specs.Rules.{are_distinct}
+use Rattle.st_intent.specs.inside.Rules.{are_distinct}
 use Rattle.st_intent.proofs.distinct.places_are_distinct.Given as goal
 
 abbrev pub invariant-loop-i : goal.invariant-loop-i

@@ -1,7 +1,7 @@
 use Rattle.std.proofs.Common.{◌≡◌, drop}
 use Rattle.st_ids.specs.Order.{same_field}
 use Rattle.st_marks.specs.Intent.{register_of}
-use Rattle.st_intent.specs.Rules.{are_distinct, are_same}
+use Rattle.st_intent.specs.inside.Rules.{are_distinct, are_same}
 use Rattle.st_intent.proofs.distinct.put_registers_are_distinct.Given as goal
 
 abbrev pub invariant-loop-i : goal.invariant-loop-i

@@ -1,5 +1,5 @@
 use Rattle.std.proofs.Common.{◌≡◌, drop}
-use Rattle.st_intent.specs.Rules.{cells_are_distinct}
+use Rattle.st_intent.specs.inside.Rules.{cells_are_distinct}
 use Rattle.st_intent.proofs.groups.all_cells_apart.Given as goal
 
 abbrev pub invariant-loop-i : goal.invariant-loop-i

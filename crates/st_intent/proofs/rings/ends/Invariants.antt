@@ -1,6 +1,6 @@
 use Rattle.std.proofs.Common.{◌≡◌, ◌+◌, suc, length}
 use Rattle.st_marks.specs.Intent.{above_new}
-use Rattle.st_intent.specs.Rules.{ends_within}
+use Rattle.st_intent.specs.inside.Rules.{ends_within}
 use Rattle.st_intent.proofs.rings.ends.Given as goal
 
 abbrev pub invariant-loop-left : goal.invariant-loop-left

@@ -3,7 +3,8 @@ use Rattle.std.specs.List.{AllByRecursion}
 use Rattle.st_ids.specs.Listing.{Has}
 use Rattle.st_ids.specs.declared.names.NodeId.{NodeId}
 use Rattle.st_marks.specs.declared.marks.How.TheVariants.{Here, Leave}
-use Rattle.st_normal.specs.Rules.{hole_owners, how_found, in_rows, entries_of_change}
+use Rattle.st_normal.specs.Rules.{hole_owners, in_rows, entries_of_change}
+use Rattle.st_normal.specs.inside.Rules.{how_found}
 use Rattle.st_normal.proofs.Obeyed.{moves}
 use Rattle.st_normal.proofs.change_check.holes_have_movers.Goals as goal
 

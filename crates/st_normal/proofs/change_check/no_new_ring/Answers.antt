@@ -2,8 +2,8 @@ use Rattle.std.proofs.Common.{◌↔◌, ◌++◌, IsTrue, List, subst}
 use Rattle.std.specs.List.{filter}
 use Rattle.st_marks.specs.declared.marks.RegMark.{RegMark}
 use Rattle.st_marks.specs.declared.marks.RowMarks.{RowMarks}
-use Rattle.st_normal.specs.Links.{are_new, links_at, links_in, stands_after, up_by}
-use Rattle.st_normal.specs.Ring.{HasRing}
+use Rattle.st_normal.specs.inside.Links.{are_new, links_at, links_in, stands_after, up_by}
+use Rattle.st_normal.specs.inside.Ring.{HasRing}
 use Rattle.st_normal.specs.Rules.{NoRingOfNewNodes}
 use Rattle.st_marks.specs.Listings.{held_after, nodes_new}
 use Rattle.st_normal.proofs.NoRings.{new_in_new}

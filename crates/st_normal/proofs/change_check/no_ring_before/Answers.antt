@@ -1,8 +1,8 @@
 use Rattle.std.proofs.Common.{◌↔◌, ◌++◌, IsTrue, List, subst}
 use Rattle.st_marks.specs.declared.marks.RegMark.{RegMark}
 use Rattle.st_marks.specs.declared.marks.RowMarks.{RowMarks}
-use Rattle.st_normal.specs.Links.{links_at, links_in, stands_before, up_by}
-use Rattle.st_normal.specs.Ring.{HasRing}
+use Rattle.st_normal.specs.inside.Links.{links_at, links_in, stands_before, up_by}
+use Rattle.st_normal.specs.inside.Ring.{HasRing}
 use Rattle.st_normal.specs.Rules.{NoRingBeforeChange}
 use Rattle.st_normal.proofs.NoRings.{before_change}
 use Rattle.st_normal.proofs.Tells.{tells_not}

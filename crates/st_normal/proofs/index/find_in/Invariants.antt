@@ -1,6 +1,6 @@
 use Rattle.std.proofs.Common.{◌≡◌, length}
 use Rattle.std.specs.List.{find}
-use Rattle.st_normal.specs.Naming.{is_named}
+use Rattle.st_normal.specs.inside.Naming.{is_named}
 use Rattle.st_normal.proofs.index.find_in.Given as goal
 
 abbrev pub invariant-loop-item : goal.invariant-loop-item

@@ -1,8 +1,8 @@
 use Rattle.std.proofs.Common.{◌↔◌, ◌++◌, IsTrue, List, subst}
 use Rattle.std.specs.List.{filter}
 use Rattle.st_normal.specs.declared.entries.Link.{Link}
-use Rattle.st_normal.specs.Links.{are_new, links_at, up_by}
-use Rattle.st_normal.specs.Ring.{HasRing}
+use Rattle.st_normal.specs.inside.Links.{are_new, links_at, up_by}
+use Rattle.st_normal.specs.inside.Ring.{HasRing}
 use Rattle.st_normal.proofs.links.ring_of_new.Goals as goal
 
 pub returns : goal.returns

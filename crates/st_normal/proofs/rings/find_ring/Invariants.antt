@@ -4,7 +4,7 @@ use Rattle.st_ids.specs.declared.names.NodeId.{NodeId}
 use Rattle.st_ids.specs.Listing.{Has}
 use Rattle.st_ids.specs.Order.{node_cmp}
 use Rattle.st_marks.specs.Document.{ClimbsToAnEnd}
-use Rattle.st_normal.specs.Ring.{HaveEnded}
+use Rattle.st_normal.specs.inside.Ring.{HaveEnded}
 use Rattle.st_normal.proofs.rings.find_ring.Given as goal
 
 abbrev pub invariant-nodes : goal.invariant-nodes

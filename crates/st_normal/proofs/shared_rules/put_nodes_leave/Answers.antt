@@ -3,7 +3,7 @@ use Rattle.std.specs.List.{AllByRecursion}
 use Rattle.st_ids.specs.Listing.{Has}
 use Rattle.st_ids.specs.declared.names.NodeId.{NodeId}
 use Rattle.st_marks.specs.declared.marks.How.TheVariants.{Leave}
-use Rattle.st_normal.specs.Rules.{how_found}
+use Rattle.st_normal.specs.inside.Rules.{how_found}
 use Rattle.st_normal.proofs.Obeyed.{comes_in}
 use Rattle.st_normal.proofs.shared_rules.put_nodes_leave.Goals as goal
 

@@ -3,8 +3,8 @@ use Rattle.st_ids.specs.declared.names.NodeId.{NodeId}
 use Rattle.st_marks.specs.declared.marks.RegStep.{RegStep}
 use Rattle.st_marks.specs.declared.marks.RowMarks.{RowMarks}
 use Rattle.st_marks.specs.Agree.{LeadsUp}
-use Rattle.st_normal.specs.Links.{links_at, links_in, stands_before, up_by}
-use Rattle.st_normal.specs.Ring.{HasRing}
+use Rattle.st_normal.specs.inside.Links.{links_at, links_in, stands_before, up_by}
+use Rattle.st_normal.specs.inside.Ring.{HasRing}
 use Rattle.st_marks.specs.Listings.{Places, listing_before_step}
 use Rattle.st_normal.proofs.NoRings.{before_step}
 use Rattle.st_normal.proofs.Tells.{tells_not}

@@ -5,7 +5,8 @@ use Rattle.st_script.specs.declared.answer.Answer.TheVariants as answer
 use Rattle.st_trace.specs.World.{empty_state}
 use Rattle.st_trace.specs.declared.state.WorldState.{WorldState}
 use Rattle.st_run.specs.Lines.{cut}
-use Rattle.st_run.specs.Answers.{OrCutShort, AnswersHeader, IsCutShort, IsOutput, AnswersFrom}
+use Rattle.st_run.specs.Answers.{OrCutShort, AnswersHeader, IsOutput, AnswersFrom}
+use Rattle.st_run.specs.inside.Answers.{IsCutShort}
 use Rattle.st_run.proofs.Outputs.{output_more, output_also, header_ended_also, cut_short_from}
 use Rattle.st_run.proofs.trace.trace_from.Goals as goal
 

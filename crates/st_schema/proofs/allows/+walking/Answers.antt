@@ -1,8 +1,10 @@
 use Rattle.std.proofs.Common.{◌≡◌, ◌∙◌, ◌+◌, sym, ap, arith}
 use Rattle.std.specs.Option.{option_copied}
-use Rattle.st_tree.specs.Node.{view, field_view, trees_view, fields_view}
+use Rattle.st_tree.specs.Node.{view, trees_view}
+use Rattle.st_tree.specs.inside.Node.{field_view, fields_view}
 use Rattle.st_tree.specs.Size.{item_count, field_count}
-use Rattle.st_schema.specs.Conforms.{types_under, verdicts, fields_verdicts, items_verdicts, walked}
+use Rattle.st_schema.specs.Conforms.{types_under, verdicts, fields_verdicts, items_verdicts}
+use Rattle.st_schema.specs.inside.Conforms.{walked}
 use Rattle.st_schema.specs.declared.allows.Walk.{Walk}
 use Rattle.st_schema.proofs.Walking.{items_next, items_end, fields_next, fields_end, items_number, items_walked, fields_number, fields_walked, field_whole, field_key, tree_number, tree_walked}
 use Rattle.st_schema.proofs.allows.+walking.Goals as goal

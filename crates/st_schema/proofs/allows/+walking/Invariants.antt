@@ -1,9 +1,11 @@
 -- what is past was looked at, and the rest follows from here
 use Rattle.std.proofs.Common.{◌≡◌, ◌+◌, drop}
 use Rattle.std.specs.Option.{option_copied}
-use Rattle.st_tree.specs.Node.{view, trees_view, fields_view}
+use Rattle.st_tree.specs.Node.{view, trees_view}
+use Rattle.st_tree.specs.inside.Node.{fields_view}
 use Rattle.st_tree.specs.Size.{item_count, field_count}
-use Rattle.st_schema.specs.Conforms.{verdicts, fields_verdicts, items_verdicts, walked}
+use Rattle.st_schema.specs.Conforms.{verdicts, fields_verdicts, items_verdicts}
+use Rattle.st_schema.specs.inside.Conforms.{walked}
 use Rattle.st_schema.proofs.allows.+walking.Given as goal
 
 abbrev pub invariant-walk_field-loop-item : goal.invariant-walk_field-loop-item

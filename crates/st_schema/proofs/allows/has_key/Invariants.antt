@@ -1,6 +1,6 @@
 -- the key is not among the fields so far
 use Rattle.std.proofs.Common.{◌≡◌, drop}
-use Rattle.st_tree.specs.Node.{fields_view}
+use Rattle.st_tree.specs.inside.Node.{fields_view}
 use Rattle.st_schema.specs.Conforms.{has_key}
 use Rattle.st_schema.proofs.allows.has_key.Given as goal
 

@@ -1,6 +1,6 @@
 -- the form has the fields so far
 use Rattle.std.proofs.Common.{◌≡◌, drop}
-use Rattle.st_tree.specs.Node.{fields_view}
+use Rattle.st_tree.specs.inside.Node.{fields_view}
 use Rattle.st_schema.specs.Conforms.{have_rules}
 use Rattle.st_schema.proofs.allows.have_rules.Given as goal
 

@@ -1,6 +1,6 @@
 -- the keys so far rise
 use Rattle.std.proofs.Common.{◌≡◌, drop, []}
-use Rattle.st_tree.specs.Node.{fields_view}
+use Rattle.st_tree.specs.inside.Node.{fields_view}
 use Rattle.st_tree.specs.Form.{keys_rise}
 use Rattle.st_schema.proofs.allows.keys_rise.Given as goal
 

@@ -1,7 +1,8 @@
 use Rattle.std.proofs.Common.{◌∙◌, sym, ap, None}
 use Rattle.st_tree.specs.Node.{view, trees_view}
 use Rattle.st_tree.specs.Size.{item_count}
-use Rattle.st_schema.specs.Conforms.{items_verdicts, walked}
+use Rattle.st_schema.specs.Conforms.{items_verdicts}
+use Rattle.st_schema.specs.inside.Conforms.{walked}
 use Rattle.st_schema.proofs.Walking.{items_next, items_end, items_number, items_walked}
 use Rattle.st_schema.proofs.allows.walk_trees.Goals as goal
 

@@ -2,7 +2,8 @@
 use Rattle.std.proofs.Common.{◌≡◌, ◌+◌, drop, None}
 use Rattle.st_tree.specs.Node.{trees_view}
 use Rattle.st_tree.specs.Size.{item_count}
-use Rattle.st_schema.specs.Conforms.{items_verdicts, walked}
+use Rattle.st_schema.specs.Conforms.{items_verdicts}
+use Rattle.st_schema.specs.inside.Conforms.{walked}
 use Rattle.st_schema.proofs.allows.walk_trees.Given as goal
 
 abbrev pub invariant-loop-tree : goal.invariant-loop-tree

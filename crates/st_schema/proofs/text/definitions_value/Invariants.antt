@@ -2,7 +2,7 @@
 use Rattle.std.proofs.Common.{◌≡◌, ◌++◌, map, true}
 use Rattle.std.specs.List.{list_all}
 use Rattle.serde_json.specs.View.{view}
-use Rattle.st_schema.specs.Schema.{form_rises}
+use Rattle.st_schema.specs.inside.Schema.{form_rises}
 use Rattle.st_schema.specs.Written.{definition_data}
 use Rattle.st_schema.proofs.text.definitions_value.Given as goal
 

@@ -2,7 +2,8 @@
 use Rattle.std.proofs.Common.{◌≡◌, ◌+◌, ◌*◌, ◌++◌, drop, map, List}
 use Rattle.std.specs.Option.{option_map}
 use Rattle.serde_json.specs.View.{items_view, members_view}
-use Rattle.st_tree.specs.Node.{Node, FieldNode, view, field_view}
+use Rattle.st_tree.specs.Node.{Node, FieldNode, view}
+use Rattle.st_tree.specs.inside.Node.{field_view}
 use Rattle.st_schema.specs.TreeText.{trees_in, fields_in}
 use Rattle.st_schema.proofs.tree_text.+reading.Given as goal
 

@@ -1,5 +1,5 @@
 use Rattle.std.proofs.Common.{◌∙◌}
-use Rattle.st_tree.specs.Node.{field_view}
+use Rattle.st_tree.specs.inside.Node.{field_view}
 use Rattle.st_schema.proofs.Walking.{field_whole}
 use Rattle.st_schema.proofs.Writing.{item_written, row_written, member_written, members_written, field_put, node_written}
 use Rattle.st_schema.proofs.tree_write.+writing.Goals as goal

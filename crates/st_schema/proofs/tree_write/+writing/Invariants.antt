@@ -2,7 +2,8 @@
 use Rattle.std.proofs.Common.{◌≡◌, true, [], map, take}
 use Rattle.serde_json.specs.View.{view as value_view, members_view}
 use Rattle.st_tree.specs.Form.{keys_rise, fields_have_form, all_have_form}
-use Rattle.st_tree.specs.Node.{trees_view, fields_view}
+use Rattle.st_tree.specs.Node.{trees_view}
+use Rattle.st_tree.specs.inside.Node.{fields_view}
 use Rattle.st_schema.specs.TreeText.{members_data}
 use Rattle.st_schema.proofs.Writing.{shown}
 use Rattle.st_schema.proofs.tree_write.+writing.Given as goal

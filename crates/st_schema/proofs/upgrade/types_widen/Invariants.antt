@@ -1,6 +1,7 @@
 -- the types so far are wider, and the rest is counted on from here
 use Rattle.std.proofs.Common.{◌≡◌, ◌+◌, length}
-use Rattle.st_schema.specs.Wider.{types_widen, widened}
+use Rattle.st_schema.specs.Wider.{types_widen}
+use Rattle.st_schema.specs.inside.Wider.{widened}
 use Rattle.st_schema.proofs.upgrade.types_widen.Given as goal
 
 abbrev pub invariant-loop-name : goal.invariant-loop-name

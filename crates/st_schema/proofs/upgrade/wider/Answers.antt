@@ -1,5 +1,6 @@
 use Rattle.std.proofs.Common.{Ok, Err, ◌∙◌, ap, sym}
-use Rattle.st_schema.specs.Wider.{contains_all, types_widen, widened}
+use Rattle.st_schema.specs.Wider.{contains_all, types_widen}
+use Rattle.st_schema.specs.inside.Wider.{widened}
 use Rattle.st_schema.proofs.Widening.{settled, wider_counted}
 use Rattle.st_schema.proofs.upgrade.wider.Goals as goal
 

@@ -5,8 +5,9 @@ use Rattle.st_kind.specs.Refused.{IsApartWhere}
 use Rattle.st_marks.specs.Embedding.{is_among}
 use Rattle.st_marks.specs.Row.{spread, step_row, embed_row}
 use Rattle.st_marks.specs.Listings.{cells_before}
-use Rattle.st_seq.specs.Views.{DifferAt, first_difference}
-use Rattle.st_seq.specs.Cells.{bridge_row, touch_of}
+use Rattle.st_seq.specs.Views.{DifferAt}
+use Rattle.st_seq.specs.inside.Views.{first_difference}
+use Rattle.st_seq.specs.inside.Cells.{bridge_row, touch_of}
 use Rattle.st_seq.specs.Changes.{placed_by}
 use Rattle.st_seq.proofs.Answered.{none_apart}
 use Rattle.st_seq.proofs.Bridged.{bridge_row-embed_row, placed_new}

@@ -2,8 +2,9 @@ use Rattle.std.proofs.Common.{ap, ◌∙◌, subst}
 use Rattle.st_kind.specs.Named.{either}
 use Rattle.st_marks.specs.Row.{spread, step_row}
 use Rattle.st_marks.specs.Listings.{cells_before, cells_after}
-use Rattle.st_seq.specs.Views.{first_difference, DifferAt}
-use Rattle.st_seq.specs.Cells.{compose_row}
+use Rattle.st_seq.specs.Views.{DifferAt}
+use Rattle.st_seq.specs.inside.Views.{first_difference}
+use Rattle.st_seq.specs.inside.Cells.{compose_row}
 use Rattle.st_seq.proofs.Answered.{none_apart}
 use Rattle.st_seq.proofs.Composed.{compose_row-step_row, grows_on}
 use Rattle.st_seq.proofs.Described.{no_difference, step_finds, step_leaves}

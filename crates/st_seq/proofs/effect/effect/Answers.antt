@@ -1,6 +1,6 @@
 use Rattle.std.proofs.Common.{ap, ◌∙◌}
 use Rattle.st_marks.specs.Row.{spread, step_row, embed_row}
-use Rattle.st_seq.specs.Cells.{effect_row}
+use Rattle.st_seq.specs.inside.Cells.{effect_row}
 use Rattle.st_seq.proofs.Answered.{both_ok}
 use Rattle.st_seq.proofs.Effected.{effect_row-embed_row, grown_row}
 use Rattle.st_seq.proofs.Merging.{merged_is}

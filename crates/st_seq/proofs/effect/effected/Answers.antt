@@ -1,5 +1,5 @@
 use Rattle.std.proofs.Common.{refl}
-use Rattle.st_seq.specs.Cells.{effected}
+use Rattle.st_seq.specs.inside.Cells.{effected}
 use Rattle.st_seq.proofs.MarkByMark.{map-counted}
 use Rattle.st_seq.proofs.effect.effected.Goals as goal
 

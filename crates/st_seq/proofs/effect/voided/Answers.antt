@@ -1,5 +1,5 @@
 use Rattle.std.proofs.Common.{refl}
-use Rattle.st_seq.specs.Cells.{voided}
+use Rattle.st_seq.specs.inside.Cells.{voided}
 use Rattle.st_seq.specs.Changes.{placed_by}
 use Rattle.st_seq.proofs.MarkByMark.{map-counted}
 use Rattle.st_seq.proofs.effect.voided.Goals as goal

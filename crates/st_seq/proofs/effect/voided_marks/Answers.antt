@@ -1,6 +1,6 @@
 use Rattle.std.proofs.Common.{◌^◌}
 use Rattle.st_marks.specs.declared.marks.Mark.{Mark}
-use Rattle.st_seq.specs.Cells.{voided}
+use Rattle.st_seq.specs.inside.Cells.{voided}
 use Rattle.st_seq.specs.Changes.{placed_by}
 use Rattle.st_seq.proofs.MarkByMark.{map_on, map_fits}
 use Rattle.st_seq.proofs.effect.voided_marks.Goals as goal

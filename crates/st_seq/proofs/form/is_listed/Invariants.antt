@@ -2,8 +2,9 @@ use Rattle.std.proofs.Common.{◌≡◌, ◌+◌, length}
 use Rattle.std.specs.Prelude.{is_none}
 use Rattle.st_marks.specs.Row.{spread}
 use Rattle.st_marks.specs.Listings.{cells_before}
-use Rattle.st_seq.specs.Views.{first_difference, row_views}
-use Rattle.st_seq.specs.Reading.{left}
+use Rattle.st_seq.specs.Views.{row_views}
+use Rattle.st_seq.specs.inside.Views.{first_difference}
+use Rattle.st_seq.specs.inside.Reading.{left}
 use Rattle.st_seq.proofs.form.is_listed.Given as goal
 
 abbrev pub invariant-cells : goal.invariant-cells

@@ -1,5 +1,5 @@
 use Rattle.std.proofs.Common.{◌≡◌, length}
-use Rattle.st_seq.specs.NormalForm.{is_normal}
+use Rattle.st_seq.specs.inside.NormalForm.{is_normal}
 use Rattle.st_seq.proofs.form.is_normal.Given as goal
 
 abbrev pub invariant-marks : goal.invariant-marks

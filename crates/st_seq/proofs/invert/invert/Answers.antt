@@ -1,6 +1,6 @@
 use Rattle.std.proofs.Common.{ap, ◌∙◌}
 use Rattle.st_marks.specs.Row.{spread, step_row}
-use Rattle.st_seq.specs.Cells.{invert_row}
+use Rattle.st_seq.specs.inside.Cells.{invert_row}
 use Rattle.st_seq.proofs.Answered.{both_ok}
 use Rattle.st_seq.proofs.Inverted.{invert_row-step_row, backward}
 use Rattle.st_seq.proofs.Merging.{merged_is}

@@ -1,5 +1,5 @@
 use Rattle.std.proofs.Common.{refl}
-use Rattle.st_seq.specs.Cells.{inverted}
+use Rattle.st_seq.specs.inside.Cells.{inverted}
 use Rattle.st_seq.proofs.MarkByMark.{map-counted}
 use Rattle.st_seq.proofs.invert.inverted.Goals as goal
 

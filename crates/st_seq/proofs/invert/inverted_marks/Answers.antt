@@ -1,6 +1,6 @@
 use Rattle.std.proofs.Common.{◌^◌}
 use Rattle.st_marks.specs.declared.marks.Mark.{Mark}
-use Rattle.st_seq.specs.Cells.{inverted}
+use Rattle.st_seq.specs.inside.Cells.{inverted}
 use Rattle.st_seq.proofs.MarkByMark.{map_on, map_fits}
 use Rattle.st_seq.proofs.invert.inverted_marks.Goals as goal
 

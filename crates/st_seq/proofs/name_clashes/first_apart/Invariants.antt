@@ -2,7 +2,8 @@ use Rattle.std.proofs.Common.{◌≡◌, List, take}
 use Rattle.std.specs.BTreeMap.{get}
 use Rattle.st_ids.specs.Order.{atom_cmp}
 use Rattle.st_ids.specs.declared.names.Atom.{Atom}
-use Rattle.st_seq.specs.NamedApart.{first_clash, first_named}
+use Rattle.st_seq.specs.NamedApart.{first_named}
+use Rattle.st_seq.specs.inside.NamedApart.{first_clash}
 use Rattle.st_seq.specs.declared.name_clashes.NamedAt.{NamedAt}
 use Rattle.st_seq.proofs.name_clashes.first_apart.Given as goal
 

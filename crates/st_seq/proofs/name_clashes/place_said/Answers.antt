@@ -1,5 +1,6 @@
 use Rattle.std.proofs.Common.{◌⊎◌, sym, ◌∙◌, subst}
-use Rattle.st_seq.specs.NamedApart.{IsPlace, NamedApart, first_clash, lesser}
+use Rattle.st_seq.specs.NamedApart.{NamedApart}
+use Rattle.st_seq.specs.inside.NamedApart.{IsPlace, first_clash, lesser}
 use Rattle.st_seq.proofs.NamedCells.{clash_place, lesser_place}
 use Rattle.st_seq.proofs.name_clashes.place_said.Goals as goal
 

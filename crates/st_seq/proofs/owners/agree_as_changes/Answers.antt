@@ -1,7 +1,8 @@
 use Rattle.std.proofs.Common.{◌⊎◌, ℕ, sym, ◌∙◌, subst}
 use Rattle.st_marks.specs.Row.{spread}
 use Rattle.st_marks.specs.Listings.{cells_after, cells_before}
-use Rattle.st_seq.specs.NamedApart.{IsPlace, SaidApart, named_after, named_before}
+use Rattle.st_seq.specs.NamedApart.{SaidApart, named_after, named_before}
+use Rattle.st_seq.specs.inside.NamedApart.{IsPlace}
 use Rattle.st_seq.specs.OwnedEarly.{OwnedEarly}
 use Rattle.st_seq.proofs.NamedCells.{lesser_place}
 use Rattle.st_seq.proofs.owners.agree_as_changes.Goals as goal

@@ -2,7 +2,7 @@ use Rattle.std.proofs.Common.{ap, sym, ◌∙◌, ◌∷◌, []}
 use Rattle.st_marks.specs.declared.marks.Mark.{Mark}
 use Rattle.st_marks.specs.Row.{spread}
 use Rattle.st_marks.specs.Listings.{cells_before}
-use Rattle.st_seq.specs.OwnedEarly.{first_early}
+use Rattle.st_seq.specs.inside.OwnedEarly.{first_early}
 use Rattle.st_seq.proofs.OwnersEarly.{counted-early}
 use Rattle.st_seq.proofs.owners.early_mark.Goals as goal
 

@@ -5,7 +5,7 @@ use Rattle.st_ids.specs.declared.names.Atom.{Atom}
 use Rattle.st_marks.specs.Row.{spread}
 use Rattle.st_marks.specs.Listings.{cells_before}
 use Rattle.st_seq.specs.NamedApart.{first_named}
-use Rattle.st_seq.specs.OwnedEarly.{first_early as early_in}
+use Rattle.st_seq.specs.inside.OwnedEarly.{first_early as early_in}
 use Rattle.st_seq.specs.declared.name_clashes.NamedAt.{NamedAt}
 use Rattle.st_seq.proofs.owners.first_early.Given as goal
 

@@ -3,7 +3,8 @@ use Rattle.st_ids.specs.declared.names.CellId.{CellId}
 use Rattle.st_ids.specs.declared.names.NodeId.{NodeId}
 use Rattle.st_marks.specs.Row.{spread}
 use Rattle.st_marks.specs.Listings.{cells_made}
-use Rattle.st_seq.specs.NamedApart.{IsPlace, found_at}
+use Rattle.st_seq.specs.NamedApart.{found_at}
+use Rattle.st_seq.specs.inside.NamedApart.{IsPlace}
 use Rattle.st_seq.specs.OwnedEarly.{OwnedEarly}
 use Rattle.st_seq.proofs.OwnersEarly.{early_is_place}
 use Rattle.st_seq.proofs.owners.place_early.Goals as goal

@@ -1,7 +1,8 @@
 use Rattle.std.proofs.Common.{◌≡◌, ap, sym, ◌∙◌, true}
 use Rattle.st_marks.specs.Listings.{CellView, cell_view}
-use Rattle.st_seq.specs.Views.{agree, view_before}
-use Rattle.st_seq.specs.Reading.{left, cell_of}
+use Rattle.st_seq.specs.inside.Views.{agree, view_before}
+use Rattle.st_seq.specs.Reading.{cell_of}
+use Rattle.st_seq.specs.inside.Reading.{left}
 use Rattle.st_seq.proofs.Pairs.{slot_met}
 use Rattle.st_seq.proofs.rows.found_turn.Goals as goal
 

@@ -4,7 +4,7 @@ use Rattle.std.specs.Option.{option_or}
 use Rattle.st_ids.specs.Order.{node_cmp}
 use Rattle.st_marks.specs.declared.marks.Mark.{Mark}
 use Rattle.st_marks.specs.Row.{spread}
-use Rattle.st_seq.specs.Cells.{touch_of}
+use Rattle.st_seq.specs.inside.Cells.{touch_of}
 use Rattle.st_seq.proofs.Touched.{counted-untouched}
 use Rattle.st_seq.proofs.touches.add.Goals as goal
 

@@ -1,6 +1,6 @@
 use Rattle.st_doc.specs.Doc.{document_of}
 use Rattle.st_edits.proofs.Resolved.{resolved_fits}
-use Rattle.st_trace.specs.Edits.{edit_of}
+use Rattle.st_trace.specs.inside.Edits.{edit_of}
 use Rattle.st_trace.specs.World.{next_names}
 use Rattle.st_trace.proofs.client.edit.Goals as goal
 

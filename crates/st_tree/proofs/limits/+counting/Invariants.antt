@@ -1,6 +1,7 @@
 -- the count so far and what is left make the whole count, up to one above the limit
 use Rattle.std.proofs.Common.{◌≡◌, ◌+◌, ◌≤◌, min, drop}
-use Rattle.st_tree.specs.Node.{trees_view, fields_view}
+use Rattle.st_tree.specs.Node.{trees_view}
+use Rattle.st_tree.specs.inside.Node.{fields_view}
 use Rattle.st_tree.specs.Size.{item_count, field_count}
 use Rattle.st_tree.proofs.limits.+counting.Given as goal
 

@@ -1,6 +1,7 @@
 -- what is past is low enough, so the whole is exactly where the rest is
 use Rattle.std.proofs.Common.{◌≡◌, drop, nat_le, ◌-◌}
-use Rattle.st_tree.specs.Node.{trees_view, fields_view}
+use Rattle.st_tree.specs.Node.{trees_view}
+use Rattle.st_tree.specs.inside.Node.{fields_view}
 use Rattle.st_tree.specs.Size.{items_height, fields_height}
 use Rattle.st_tree.proofs.limits.+measuring.Given as goal
 

@@ -1,6 +1,7 @@
 -- what is listed so far and what is left to list make the whole list, and the numbers go on to the same ends
 use Rattle.std.proofs.Common.{◌≡◌, ◌+◌, ◌++◌, drop}
-use Rattle.st_tree.specs.Node.{field_view, trees_view, fields_view}
+use Rattle.st_tree.specs.Node.{trees_view}
+use Rattle.st_tree.specs.inside.Node.{field_view, fields_view}
 use Rattle.st_tree.specs.Size.{item_count, field_count}
 use Rattle.st_tree.specs.Preorder.{fields_listed, items_listed, field_cells, item_cells}
 use Rattle.st_tree.proofs.preorder.+flattening.Given as goal

@@ -1,6 +1,6 @@
 -- the nodes from the place on are built up
 use Rattle.std.proofs.Common.{◌≡◌, ◌≤◌, drop, length}
-use Rattle.st_tree.specs.Rebuilt.{rebuilt, waiting_view}
+use Rattle.st_tree.specs.inside.Rebuilt.{rebuilt, waiting_view}
 use Rattle.st_tree.proofs.rebuild.build_up.Given as goal
 
 abbrev pub invariant-loop-left : goal.invariant-loop-left

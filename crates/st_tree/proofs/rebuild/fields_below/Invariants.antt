@@ -1,7 +1,7 @@
 -- what is taken and what is still to take make the whole
 use Rattle.std.proofs.Common.{◌≡◌, ◌++◌, map, length}
-use Rattle.st_tree.specs.Node.{field_view}
-use Rattle.st_tree.specs.Rebuilt.{fields_of_node, fields_of_others, keyed, waiting_view}
+use Rattle.st_tree.specs.inside.Node.{field_view}
+use Rattle.st_tree.specs.inside.Rebuilt.{fields_of_node, fields_of_others, keyed, waiting_view}
 use Rattle.st_tree.proofs.rebuild.fields_below.Given as goal
 
 abbrev pub invariant-loop-placed : goal.invariant-loop-placed

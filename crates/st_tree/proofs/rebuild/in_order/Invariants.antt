@@ -1,7 +1,7 @@
 -- what is in order and what still waits make the whole
 use Rattle.std.proofs.Common.{◌≡◌, ◌++◌, map, length}
 use Rattle.st_tree.specs.Node.{view}
-use Rattle.st_tree.specs.Rebuilt.{waiting_view}
+use Rattle.st_tree.specs.inside.Rebuilt.{waiting_view}
 use Rattle.st_tree.proofs.rebuild.in_order.Given as goal
 
 abbrev pub invariant-loop-placed : goal.invariant-loop-placed

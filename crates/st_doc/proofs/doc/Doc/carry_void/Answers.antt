@@ -7,7 +7,7 @@ use Rattle.st_marks.specs.declared.changes.NewNode.{NewNode}
 use Rattle.st_marks.specs.declared.places.Spot.{Spot}
 use Rattle.st_marks.specs.Intent.{is_new}
 use Rattle.st_marks.specs.CarryOut.{void_data}
-use Rattle.st_doc.specs.Ahead.{inside_new}
+use Rattle.st_doc.specs.inside.Ahead.{inside_new}
 use Rattle.st_doc.specs.Doc.{document_of}
 use Rattle.st_doc.specs.Nodes.{type_of}
 use Rattle.st_doc.proofs.Carrying.{placed_void, new_empty, void_is_of_data}

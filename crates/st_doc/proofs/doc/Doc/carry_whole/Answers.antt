@@ -8,7 +8,7 @@ use Rattle.st_marks.specs.declared.places.Spot.{Spot}
 use Rattle.st_marks.specs.Intent.{put_of, put_in, clears}
 use Rattle.st_marks.specs.CarryOut.{full, with_names}
 use Rattle.st_doc.specs.Doc.{document_of}
-use Rattle.st_doc.specs.Evictions.{evicted}
+use Rattle.st_doc.specs.inside.Evictions.{evicted}
 use Rattle.st_doc.specs.Nodes.{type_of}
 use Rattle.st_doc.proofs.Carrying.{placed_whole}
 use Rattle.st_doc.proofs.Look.{option_map-or}

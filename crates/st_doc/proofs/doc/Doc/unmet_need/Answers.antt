@@ -2,7 +2,7 @@ use Rattle.std.proofs.Common.{refl, sym, ◌∙◌, subst, List, take, take_all,
 use Rattle.st_ids.specs.Listing.{Has}
 use Rattle.st_ids.specs.declared.names.NodeId.{NodeId}
 use Rattle.st_marks.specs.Document.{IsLive, root}
-use Rattle.st_doc.specs.Ahead.{IsLeastOf}
+use Rattle.st_doc.specs.inside.Ahead.{IsLeastOf}
 use Rattle.st_doc.specs.Doc.{document_of}
 use Rattle.st_doc.proofs.Look.{take_one}
 use Rattle.st_doc.proofs.Verdicts.{least_more, not_tells}

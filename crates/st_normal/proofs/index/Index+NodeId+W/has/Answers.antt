@@ -1,7 +1,7 @@
 use Rattle.std.proofs.Common.{◌↔◌, IsTrue, is_some, sym, ap, ◌∙◌, subst}
 use Rattle.std.specs.List.{find}
 use Rattle.st_ids.specs.Listing.{Has}
-use Rattle.st_normal.specs.Naming.{is_named}
+use Rattle.st_normal.specs.inside.Naming.{is_named}
 use Rattle.st_normal.proofs.Naming.{node_name, node-there}
 use Rattle.st_normal.proofs.index.«Index+NodeId+W».has.Goals as goal
 

@@ -1,6 +1,6 @@
 use Rattle.std.proofs.Common.{◌≡◌, length}
 use Rattle.std.specs.List.{filter}
-use Rattle.st_normal.specs.Links.{are_new}
+use Rattle.st_normal.specs.inside.Links.{are_new}
 use Rattle.st_normal.proofs.links.NewInNewWalk.step.Given as goal
 
 abbrev pub invariant-loop-link : goal.invariant-loop-link

@@ -2,7 +2,7 @@ use Rattle.std.proofs.Common.{◌↔◌, IsTrue, List, is_some, map, sym, ap, �
 use Rattle.std.specs.List.{find}
 use Rattle.st_ids.specs.Listing.{Has}
 use Rattle.st_normal.specs.declared.entries.Found.{Found}
-use Rattle.st_normal.specs.Naming.{is_named}
+use Rattle.st_normal.specs.inside.Naming.{is_named}
 use Rattle.st_normal.proofs.Naming.{found_name, found-there}
 use Rattle.st_normal.proofs.lookup.Look.is_found.Goals as goal
 

@@ -1,6 +1,7 @@
 use Rattle.std.proofs.Common.{None, ◌∙◌, sym, ap}
 use Rattle.st_tree.specs.Node.{view}
-use Rattle.st_schema.specs.Conforms.{verdicts, walked}
+use Rattle.st_schema.specs.Conforms.{verdicts}
+use Rattle.st_schema.specs.inside.Conforms.{walked}
 use Rattle.st_schema.proofs.Walking.{settled, allows_walked}
 use Rattle.st_schema.proofs.schema.Schema.allows.Goals as goal
 

@@ -1,9 +1,9 @@
 use Rattle.std.proofs.Common.{◌∙◌, sym, ap, map}
 use Rattle.std.specs.BTreeMap.{get}
 use Rattle.st_ids.specs.Order.{node_cmp}
-use Rattle.st_seq.specs.Cells.{bridged_piece}
+use Rattle.st_seq.specs.inside.Cells.{bridged_piece}
 use Rattle.st_seq.specs.Changes.{placed_by}
-use Rattle.st_seq.specs.Turns.{cells_of_piece}
+use Rattle.st_seq.specs.inside.Turns.{cells_of_piece}
 use Rattle.st_seq.proofs.Bridged.{counted_stays}
 use Rattle.st_seq.proofs.Walking.{map-both_counted}
 use Rattle.st_seq.proofs.bridge.AcrossTable.mark.Goals as goal

@@ -1,6 +1,6 @@
 use Rattle.std.proofs.Common.{ap, sym, ◌&&◌, ◌∙◌}
 use Rattle.st_marks.specs.Row.{spread}
-use Rattle.st_seq.specs.NormalForm.{are_allowed}
+use Rattle.st_seq.specs.inside.NormalForm.{are_allowed}
 use Rattle.st_seq.proofs.Forms.{allowed_on}
 use Rattle.st_seq.proofs.form.Made.are_allowed.Goals as goal
 

@@ -1,6 +1,6 @@
 use Rattle.std.proofs.Common.{◌≡◌, length}
 use Rattle.st_marks.specs.Row.{spread}
-use Rattle.st_seq.specs.NormalForm.{are_allowed}
+use Rattle.st_seq.specs.inside.NormalForm.{are_allowed}
 use Rattle.st_seq.proofs.form.Made.are_allowed.Given as goal
 
 abbrev pub invariant-marks : goal.invariant-marks

@@ -1,8 +1,8 @@
 use Rattle.std.proofs.Common.{refl, ◌∙◌, sym, ap, map}
 use Rattle.std.specs.BTreeMap.{get}
 use Rattle.st_ids.specs.Order.{node_cmp}
-use Rattle.st_seq.specs.Cells.{rebased_piece}
-use Rattle.st_seq.specs.Turns.{cells_of_piece}
+use Rattle.st_seq.specs.inside.Cells.{rebased_piece}
+use Rattle.st_seq.specs.inside.Turns.{cells_of_piece}
 use Rattle.st_seq.proofs.Walking.{map-both_counted}
 use Rattle.st_seq.proofs.rebase.BesideTable.mark.Goals as goal
 

@@ -3,7 +3,7 @@ use Rattle.std.specs.List.{slice_get}
 use Rattle.st_edits.specs.Resolve.{resolve}
 use Rattle.st_script.specs.Header.{header_view}
 use Rattle.st_script.specs.Steps.{step_view}
-use Rattle.st_trace.specs.Edits.{word_of, edit_of}
+use Rattle.st_trace.specs.inside.Edits.{word_of, edit_of}
 use Rattle.st_trace.specs.World.{IsEdited, IsNextOf, next_names}
 use Rattle.st_trace.specs.declared.state.Client.{Client}
 use Rattle.st_trace.proofs.Choosing.{if_ok_as, next_edit}

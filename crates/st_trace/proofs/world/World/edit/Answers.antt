@@ -2,7 +2,7 @@ use Rattle.std.proofs.Common.{refl, sym, arith}
 use Rattle.st_doc.specs.Doc.{document_of}
 use Rattle.st_edits.specs.Resolve.{resolve}
 use Rattle.st_script.specs.Header.{header_view}
-use Rattle.st_trace.specs.Edits.{edit_of}
+use Rattle.st_trace.specs.inside.Edits.{edit_of}
 use Rattle.st_trace.specs.World.{next_names}
 use Rattle.st_trace.proofs.Acting.{edited_refused, few_ids, next_edited, one_at, sound_edited}
 use Rattle.st_trace.proofs.Clients.{fresh_cells, fresh_nodes, shown_sound}

@@ -6,7 +6,7 @@ use Rattle.st_ids.specs.declared.names.NodeId.{NodeId}
 use Rattle.st_normal.specs.declared.entries.Link.{Link}
 use Rattle.st_marks.specs.declared.marks.RowMarks.{RowMarks}
 use Rattle.st_marks.specs.Embedding.{is_among}
-use Rattle.st_normal.specs.Naming.{is_named}
+use Rattle.st_normal.specs.inside.Naming.{is_named}
 use Rattle.st_marks.specs.Row.{CellMark, Counted, Gap, Touch, Make, Fill, spread}
 use Rattle.st_marks.specs.Listings.{one_or_none}
 use Rattle.st_marks.specs.How.{is_leave}

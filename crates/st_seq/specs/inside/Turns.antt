@@ -3,11 +3,13 @@ use Rattle.std.specs.Prelude.{◌≡◌, ℕ, zero, suc, ◌+◌, ◌<◌, Some,
 use Rattle.st_marks.specs.Row.{CellMark, Counted}
 use Rattle.st_marks.specs.Listings.{CellView, cells_before, cells_after}
 use Rattle.st_marks.specs.declared.places.Slot.{Slot}
-use Rattle.st_seq.specs.Views.{first_difference, row_views}
-use Rattle.st_seq.specs.Cells.{after_row}
+use Rattle.st_seq.specs.Views.{row_views}
+use Rattle.st_seq.specs.inside.Views.{first_difference}
+use Rattle.st_seq.specs.inside.Cells.{after_row}
 use Rattle.st_seq.specs.declared.rows.SlotTurn.{SlotTurn}
-use Rattle.st_seq.specs.Reading.{left, cell_of, IsSingle}
-use Rattle.st_seq.specs.Walks.{CellPiece, Both, First, Then, in_turn, beside}
+use Rattle.st_seq.specs.Reading.{cell_of}
+use Rattle.st_seq.specs.inside.Reading.{left, IsSingle}
+use Rattle.st_seq.specs.inside.Walks.{CellPiece, Both, First, Then, in_turn, beside}
 use Rattle.st_seq.specs.declared.pieces.Piece.{Piece}
 use Rattle.st_seq.specs.declared.pieces.Turn.{Turn}
 

@@ -1,0 +1,4 @@
+-- The words of loops and of private functions: no public contract reaches them.
+pub mod Conforms
+pub mod Schema
+pub mod Wider

@@ -1,0 +1,25 @@
+-- Words of the private functions behind `Conforms`.
+use Rattle.std.specs.Prelude.{ℕ, ◌+◌, List, [], ◌∷◌, Bool, true, false, Option, None, Some}
+use Rattle.st_ids.specs.declared.names.Leaf.TheVariants as leaf
+use Rattle.st_tree.specs.Node.{node}
+use Rattle.st_schema.specs.declared.allows.Walk.{Walk}
+use Rattle.st_schema.specs.declared.names.NotAllowed.{NotAllowed}
+use Rattle.st_schema.specs.Conforms.{refusal}
+
+-- the earlier refusal, or that of the node of this number
+abbrev pub first_fault : Option NotAllowed → ℕ → Option NotAllowed
+first_fault None n = Some (record { at = n })
+first_fault (Some f) n = Some f
+
+abbrev pub fault_after : Option NotAllowed → ℕ → Bool → Option NotAllowed
+fault_after fault n true = fault
+fault_after fault n false = first_fault fault n
+
+-- one node further
+abbrev pub looked : Walk → Bool → Walk
+looked w ok = record { next = w.next + 1; fault = fault_after w.fault w.next ok }
+
+-- further by nodes with these verdicts
+abbrev pub walked : Walk → List Bool → Walk
+walked w [] = w
+walked w (ok ∷ vs) = walked (looked w ok) vs

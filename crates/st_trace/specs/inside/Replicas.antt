@@ -1,0 +1,76 @@
+-- Words of the private functions behind `Replicas`.
+use Rattle.std.specs.Prelude.{◌-◌, false, Result, Ok, Err, ◌≡◌, ◌==◌, ◌+◌, ◌≤◌, Bool, true, ◌∷◌, Option, Some, None, IfSome}
+use Rattle.st_marks.specs.declared.intents.Intent.{Intent}
+use Rattle.st_marks.specs.declared.verdicts.Verdict.{Verdict}
+use Rattle.st_marks.specs.Intent.{Fits}
+use Rattle.st_marks.specs.Run.{Run}
+use Rattle.st_marks.specs.Verdict.{IsVerdict, carried}
+use Rattle.st_ids.specs.declared.names.Limit.{Limit}
+use Rattle.st_tree.specs.declared.edit.EditFault.{EditFault}
+use Rattle.st_log_laws.specs.Turns.{FitInTurn}
+use Rattle.st_doc.specs.Doc.{document_of}
+use Rattle.st_trace.specs.Log.{commit_of}
+use Rattle.st_trace.specs.World.{names_made, limit_passed}
+use Rattle.st_trace.specs.declared.replica.Replica.{Replica}
+use Rattle.st_trace.specs.declared.state.Client.{Client}
+use Rattle.st_trace.specs.declared.state.Entry.{Entry}
+use Rattle.st_trace.specs.declared.world.World.{World}
+use Rattle.st_trace.specs.Replicas.{IsSoundAfter}
+
+-- ## The world
+
+-- the same with one step more
+abbrev pub IsSoundNext : World → Type 0
+IsSoundNext w = IsSoundAfter (w.steps + 1) w
+
+-- ## Steps of a client
+
+-- a commit is carried out in the document that a client shows
+pub record IsCommitted (old : Replica) (N : Intent) (new : Replica) : Type 0 where
+  pub shown : (v : Verdict) × IsVerdict (document_of old.shown) N v × (document_of new.shown ≡ carried v (document_of old.shown) N)
+  pub received : new.received ≡ old.received
+  pub names : new.names ≡ old.names + names_made N
+
+-- a commit that passes no limit is carried out, and after another nothing has changed
+abbrev pub IsPending : Replica → Intent → Option Limit → Replica → Type 0
+IsPending old N None new = IsCommitted old N new
+IsPending old N (Some l) new = new ≡ old
+
+abbrev pub IsEditedReplica : Client → Replica → Result Intent EditFault → Replica → Type 0
+IsEditedReplica c old (Err f) new = new ≡ old
+IsEditedReplica c old (Ok N) new = IsPending old N (limit_passed c N) new
+
+-- a commit with this verdict is carried out in the document of what was received
+pub record HasCarried (old : Replica) (N : Intent) (v : Verdict) (new : Replica) : Type 0 where
+  pub verdict : IsVerdict (document_of old.received) N v
+  pub after : document_of new.received ≡ carried v (document_of old.received) N
+
+-- a commit of its own leaves what a client shows, and another comes before what is pending
+abbrev pub HasShownAfter : Client → Replica → Bool → Intent → Replica → Type 0
+HasShownAfter c old true N new = (document_of new.shown ≡ document_of old.shown) × (new.names ≡ old.names - names_made N)
+HasShownAfter c old false N new = Run (document_of new.received) c.pending (document_of new.shown) × (new.names ≡ old.names)
+
+abbrev pub HasReceivedOne : Client → Replica → Bool → Intent → Verdict → Replica → Type 0
+HasReceivedOne c old own N v new = HasCarried old N v new × HasShownAfter c old own N new
+
+-- a commit can be received: it fits what was received, and what is pending then still fits
+pub record CanCarry (c : Client) (k : Replica) (own : Bool) (N : Intent) : Type 0 where
+  pub fits : Fits (document_of k.received) N
+  pub later : own ≡ false → FitInTurn (document_of k.received) (N ∷ c.pending)
+  pub names : own ≡ true → names_made N ≤ k.names
+
+abbrev pub CanReceive : Client → Replica → Entry → Type 0
+CanReceive c k e = IfSome (commit_of e) (CanCarry c k (e.session == c.session))
+
+-- an entry was received
+abbrev pub HasReceivedOf : Client → Replica → Bool → Option Intent → Verdict → Replica → Type 0
+HasReceivedOf c old own None v new = (v ≡ Verdict.Sound) × (new ≡ old)
+HasReceivedOf c old own (Some N) v new = HasReceivedOne c old own N v new
+
+abbrev pub HasReceivedNext : Client → Replica → Entry → Verdict → Replica → Type 0
+HasReceivedNext c old e v new = HasReceivedOf c old (e.session == c.session) (commit_of e) v new
+
+-- the next entry, if there is one, was received
+abbrev pub HasMoved : Client → Replica → Option Entry → Replica → Type 0
+HasMoved c old None new = new ≡ old
+HasMoved c old (Some e) new = (v : Verdict) × HasReceivedNext c old e v new
