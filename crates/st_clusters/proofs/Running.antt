@@ -81,7 +81,7 @@ carried_on before r t u have took s x e =
           sym count ∙ old ∙ sym (carried_other s before r apart)
     ]
 
-cases_result : (o : Result Ids IdFault) → ((v : Ids) × (o ≡ Ok v)) ⊎ ((f : IdFault) × (o ≡ Err f))
+pub cases_result : (o : Result Ids IdFault) → ((v : Ids) × (o ≡ Ok v)) ⊎ ((f : IdFault) × (o ≡ Err f))
 cases_result (Ok v) = inl (v, refl)
 cases_result (Err f) = inr (f, refl)
 

@@ -2,7 +2,6 @@
 use Rattle.std.proofs.Common.{◌≡◌, ◌⊎◌, inl, inr, ◌<◌, ◌≤◌, ◌+◌, ◌-◌, ◌^◌, ℕ, true, false, Bool, cond, List, length, get_or, refl, sym, ap, ◌∙◌, arith, Option, Some, None}
 use Rattle.std.proofs.lemmas.Bool.{cases_eq, cases_lt, cases_Bool}
 use Rattle.std.proofs.lemmas.Bool.Decides.{nat_tests}
-use Rattle.std.proofs.lemmas.List.{get_or_read}
 use Rattle.std.proofs.lemmas.List.Quantifiers.{position-Some}
 use Rattle.std.proofs.lemmas.List.Sums.{fails_before_first}
 use Rattle.std.proofs.lemmas.Option.{slice_get-get_or, slice_get_within}
@@ -18,6 +17,7 @@ use Rattle.st_clusters.specs.declared.ids.Cluster.{Cluster}
 use Rattle.st_clusters.specs.declared.ids.SessionIds.{SessionIds}
 use Rattle.st_clusters.proofs.Rounds.{after_ahead, ahead_after, after_low, both_meet, free_low, uuid_of_free, free_of_uuid, uuid_is_v4}
 use Rattle.st_clusters.proofs.Unique.{rev_is}
+use Rattle.st_clusters.proofs.Counts.{read_at}
 
 -- the free number of a session
 abbrev free_at : List SessionIds → ℕ → ℕ
@@ -118,9 +118,6 @@ spans_it : (free : ℕ) (ss : List SessionIds) (place : ℕ) → spanning free s
 spans_it free ss place e =
     let found = position-Some (λ (x : SessionIds). nat_lt (ahead (free_number x.uuid) free) (2 ^ 32)) ss place no_session e in
     (found.0, grind (arith, nat_tests, found.1))
-
-read_at : (ss : List SessionIds) (k : ℕ) (x : SessionIds) → k < length ss → x ≡ get_or ss k x → session_at ss k ≡ x
-read_at ss k x within is = sym (get_or_read ss k x within is no_session)
 
 pub found_ok : (ss : List SessionIds) (cs : List Cluster) (ps : List (List ℕ)) (u free place : ℕ) (x : SessionIds) → IsSound ss cs ps → u < 2 ^ 128 → is_v4 u ≡ true → free ≡ free_number u → spanning free ss ≡ Some place → x ≡ get_or ss place x
     → IfOk (id_at place x free) (λ r. stable_of ss r ≡ Some u)

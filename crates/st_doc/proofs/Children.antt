@@ -17,18 +17,9 @@ use Rattle.st_marks.proofs.Climb.{shown, stands, is_cell-true}
 use Rattle.st_marks.proofs.Members.{all-has, has-all, append_left, append_right, has-append, map-has, has-map, distinct-append}
 use Rattle.st_doc.specs.inside.LiveText.{KeysRise}
 use Rattle.st_doc.specs.declared.seats.Seat.{Seat}
+use Rattle.st_marks.proofs.Shared.{owner_full}
 
 -- ## Rows
-
-owner_full : (cells : List Slot) (x : NodeId) → Has (owners_shown cells) x → (s : Slot) × Has cells s × (s.full ≡ true) × (s.node ≡ x)
-owner_full [] x h = absurd h
-owner_full (s ∷ cells) x h = go s.full refl (owner_full cells x) h
-  where
-    go : (b : Bool) → s.full ≡ b → (Has (owners_shown cells) x → (t : Slot) × Has cells t × (t.full ≡ true) × (t.node ≡ x)) → Has (cond b (s.node ∷ []) [] ++ owners_shown cells) x
-        → (t : Slot) × Has (s ∷ cells) t × (t.full ≡ true) × (t.node ≡ x)
-    go true e rest (inl q) = (s, inl refl, e, q)
-    go true e rest (inr k) = let r = rest k in (r.0, inr r.1, r.2, r.3)
-    go false e rest k = let r = rest k in (r.0, inr r.1, r.2, r.3)
 
 full_owner : (cells : List Slot) (s : Slot) → Has cells s → s.full ≡ true → Has (owners_shown cells) s.node
 full_owner [] s h e = absurd h

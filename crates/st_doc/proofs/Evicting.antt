@@ -16,11 +16,10 @@ use Rattle.st_marks.specs.declared.places.Spot.{Spot}
 use Rattle.st_marks.specs.Intent.{is_new, is_register}
 use Rattle.st_marks.specs.CarryOut.{only_new, unless_put}
 use Rattle.st_doc.specs.inside.Evictions.{stands_in, is_held, evicted}
-use Rattle.st_intent.proofs.Scans.{is_some-find, is_some-map}
+use Rattle.st_intent.proofs.Scans.{is_some-find}
 use Rattle.st_doc.proofs.Look.{any_more, drop_one}
-
-true-false : {b : Bool} → b ≡ true → b ≡ false → ⊥
-true-false e f = let q : ◌≡◌ {A = Bool} true false = sym e ∙ f in cc
+use Rattle.st_lemmas.proofs.Bools.{or-false, true-false}
+use Rattle.st_lemmas.proofs.Options.{is_some-option_map}
 
 reversed : (o : Ordering) → is_eq (ordering_reverse o) ≡ is_eq o
 reversed Less = refl
@@ -39,10 +38,6 @@ stands-true f (Spot.Register g) e = ap (λ h. Spot.Register h) (same_field-true 
 held-true : (o : Option NodeId) (n : NodeId) → is_held o n ≡ true → o ≡ Some n
 held-true None n e = cc
 held-true (Some m) n e = ap (λ k. Some k) (same_node-true m n e)
-
-or_false : (b : Bool) → (b || false) ≡ b
-or_false true = refl
-or_false false = refl
 
 or_true : (b : Bool) → (b || true) ≡ true
 or_true true = refl
@@ -80,7 +75,7 @@ module _ (fs : List FieldId) (i : ℕ) (f : FieldId) (inside : i < length fs) (a
           or_nowhere (list_any (λ h. same_field h g) (take i fs))
           ∙ sym (ap (λ b. cond b (Some Spot.Nowhere) None) (any_with g ∙ ap (λ b. list_any (λ h. same_field h g) (take i fs) || b) (ap (same_field f) is_f ∙ same_field-itself f) ∙ or_true _))
       go (Spot.Register g) p false e None =
-          or_none (evicted (take i fs) (Spot.Register g)) ∙ sym (ap (λ b. cond b (Some Spot.Nowhere) None) (any_with g ∙ ap (λ b. list_any (λ h. same_field h g) (take i fs) || b) (apart (same_field f g) refl) ∙ or_false _))
+          or_none (evicted (take i fs) (Spot.Register g)) ∙ sym (ap (λ b. cond b (Some Spot.Nowhere) None) (any_with g ∙ ap (λ b. list_any (λ h. same_field h g) (take i fs) || b) (apart (same_field f g) refl) ∙ or-false _))
         where
           apart : (b : Bool) → same_field f g ≡ b → same_field f g ≡ false
           apart false q = q
@@ -107,7 +102,7 @@ unless_among ps (Some n) = cond (list_any (λ (p : Put). same_node p.node n) ps)
 
 pub among_all : (N : Intent) (o : Option NodeId) → unless_among N.put o ≡ unless_put N o
 among_all N None = refl
-among_all N (Some n) = ap (λ b. cond b None (Some n)) (sym (is_some-map (λ (p : Put). p.to) _ ∙ is_some-find (λ (p : Put). same_node p.node n) N.put))
+among_all N (Some n) = ap (λ b. cond b None (Some n)) (sym (is_some-option_map (λ (p : Put). p.to) _ ∙ is_some-find (λ (p : Put). same_node p.node n) N.put))
 
 -- one more put
 pub left_one : (puts : List Put) (i : ℕ) (p : Put) (f : FieldId) (o : Option NodeId) (s : Spot) → i < length puts → get_or puts i p ≡ p → ((o ≡ Some p.node) ↔ (s ≡ Spot.Register f))
@@ -132,7 +127,7 @@ left_one puts i p f o s inside at one = go (stands_in f s) refl o refl
     go : (b : Bool) → stands_in f s ≡ b → (q : Option NodeId) → o ≡ q → cond b None (unless_among (take i puts) q) ≡ unless_among (take (i + 1) puts) q
     go true e q h = let is : q ≡ Some p.node = sym h ∙ one.1 (stands-true f s e) in sym (ap (unless_among (take (i + 1) puts)) is ∙ gone)
     go false e None h = refl
-    go false e (Some n) h = sym (ap (λ b. cond b None (Some n)) (any_with n ∙ ap (λ b. list_any (λ (q : Put). same_node q.node n) (take i puts) || b) (other n h e (same_node p.node n) refl) ∙ or_false _))
+    go false e (Some n) h = sym (ap (λ b. cond b None (Some n)) (any_with n ∙ ap (λ b. list_any (λ (q : Put). same_node q.node n) (take i puts) || b) (other n h e (same_node p.node n) refl) ∙ or-false _))
 
 -- ## Fills
 

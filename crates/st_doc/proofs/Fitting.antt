@@ -16,16 +16,13 @@ use Rattle.st_marks.specs.declared.intents.To.{To}
 use Rattle.st_marks.specs.declared.schemas.SchemaEntry.{SchemaEntry}
 use Rattle.st_marks.specs.Document.{Document, IsSoundInForm, owned}
 use Rattle.st_marks.specs.Intent.{IsIntent, Fits, IsKnown, Owns, is_new, new_row_of, group_cells, cell_of, register_of}
-use Rattle.st_marks.proofs.Lookups.{made_there, both_true}
+use Rattle.st_marks.proofs.Lookups.{made_there}
 use Rattle.st_marks.proofs.Members.{any-has, has-any, all-has, has-all, has-flat_map, flat_map-has}
-use Rattle.st_intent.proofs.Obeyed.{one_rev, made_is}
+use Rattle.st_intent.proofs.Obeyed.{one_rev, made_is, is_none_tells}
 use Rattle.st_intent.proofs.Scans.{is_new-listed}
 use Rattle.st_intent.proofs.Tells.{Tells, tells_both, tells_either, tells_not, tells_as, tells_all, tells_parts}
 use Rattle.st_doc.specs.inside.Fitting.{nodes_fresh, cells_fresh, schema_fresh, is_known, is_that, anchor_known, group_known, has_owned, owns_old, owns_new, owns, target_known, put_known, names_fresh, names_known, names_fit}
-
-is_none_tells : {A : Type 0} (o : Option A) → Tells (not (is_some o)) (o ≡ None)
-is_none_tells None = (λ e. refl, λ e. refl)
-is_none_tells (Some x) = (λ e. cc, λ e. cc)
+use Rattle.st_lemmas.proofs.Bools.{and-true}
 
 -- ## New names
 
@@ -85,7 +82,7 @@ owned_tells c n os = (to, from)
     to : has_owned c n os ≡ true → Has os (owned c n)
     to e =
         let o = any-has (λ (o : Owned). same_cell o.cell c && same_node o.node n) os e in
-        let b = both_true _ _ o.2 in
+        let b = and-true _ _ o.2 in
         subst (Has os) (λ i. record { cell = same_cell-true o.0.cell c b.0 i; node = same_node-true o.0.node n b.1 i }) o.1
 
     itself : (same_cell c c && same_node n n) ≡ true

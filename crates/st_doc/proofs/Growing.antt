@@ -17,6 +17,7 @@ use Rattle.st_marks.specs.CarryOut.{with_groups}
 use Rattle.st_marks.proofs.Members.{all-has, first-has, none-has, distinct-between, distinct-left}
 use Rattle.st_doc.specs.inside.Growing.{behind, at_anchor, with_group, IsPlaceOf}
 use Rattle.st_doc.proofs.Look.{take_one, drop_one}
+use Rattle.st_lemmas.proofs.Bools.{and-true}
 
 -- ## A place in a row
 
@@ -89,10 +90,6 @@ other_cell c d e = go (same_cell d c) refl
     go true h = let bad : ◌≡◌ {A = Bool} true false = sym (same_cell-itself c) ∙ ap (same_cell c) (sym (same_cell-true d c h)) ∙ e in cc
     go false h = h
 
-both-true : (a b : Bool) → (a && b) ≡ true → (a ≡ true) × (b ≡ true)
-both-true true b e = (refl, e)
-both-true false b e = cc
-
 -- cells without that name come before
 skipped : (c : CellId) (more front row : List Owned) → list_any (λ (o : Owned). same_cell o.cell c) front ≡ false → behind c more (front ++ row) ≡ front ++ behind c more row
 skipped c more [] row none = refl
@@ -141,7 +138,7 @@ module _ (N : Intent) (itself : IsIntent N) (i : ℕ) (d g : Group) (inside : i 
       go None e = e
       go (Some h) e =
           let r = first-has (is_at g.node g.after) (take i N.groups) h e in
-          let both = both-true (same_node h.node g.node) (same_anchor h.after g.after) r.1 in
+          let both = and-true (same_node h.node g.node) (same_anchor h.after g.after) r.1 in
           let node = same_node-true h.node g.node both.0 in
           let after = same_anchor-true h.after g.after both.1 in
           absurd (distinct-between key (take i N.groups) (g ∷ []) h g once r.0 (inl refl) (λ j. (sym node j, sym after j)))

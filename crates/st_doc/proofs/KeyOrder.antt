@@ -6,7 +6,7 @@ use Rattle.std.specs.Map.{lookup}
 use Rattle.std.specs.Ordering.{nat_cmp, is_eq, is_lt, ordering_then}
 use Rattle.std.specs.Cmp.Lexicographic.{slice_cmp}
 use Rattle.std.specs.declared.cmp.Ordering.{Ordering}
-use Rattle.std.specs.declared.cmp.Ordering.TheVariants.{Less, Equal, Greater}
+use Rattle.std.specs.declared.cmp.Ordering.TheVariants.{Less, Equal}
 use Rattle.std.specs.FinMap.Entries.{is_sorted, below_all}
 use Rattle.std.proofs.lemmas.Cmp.{tied_itself}
 use Rattle.std.proofs.lemmas.Map.Keys.{sorted_head, sorted_tail}
@@ -15,7 +15,7 @@ use Rattle.st_ids.specs.Listing.{Has, IsRising, item_of, keyed}
 use Rattle.st_ids.specs.Order.{node_cmp, field_cmp, same_node}
 use Rattle.st_ids.specs.declared.names.FieldId.{FieldId}
 use Rattle.st_ids.specs.declared.names.NodeId.{NodeId}
-use Rattle.st_ids.proofs.Orders.{same_node-true, same_node-itself, field_cmp_exact, field_cmp_total, node_cmp_total}
+use Rattle.st_ids.proofs.Orders.{same_node-true, same_node-itself, field_cmp_exact, field_cmp_total, node_cmp_total, is_eq_equal}
 use Rattle.st_marks.specs.LiveTree.{register}
 use Rattle.st_marks.proofs.Members.{all-has, has-all}
 use Rattle.st_doc.specs.inside.LiveText.{seat_at, seats_of, KeysRise}
@@ -26,11 +26,6 @@ bytes_cmp = slice_cmp nat_cmp
 
 abbrev keys_of : List Seat → List (List ℕ)
 keys_of ss = map (λ (s : Seat). s.key) ss
-
-is_eq_equal : (o : Ordering) → is_eq o ≡ true → o ≡ Equal
-is_eq_equal Less e = cc
-is_eq_equal Equal e = refl
-is_eq_equal Greater e = cc
 
 -- a register of the node comes from an entry
 seat_from : (n : NodeId) (e : FieldId × NodeId) (s : Seat) → seat_at n e ≡ Some s → (e.0 ≡ register n s.key) × (e.1 ≡ s.node)

@@ -1,6 +1,6 @@
 -- The values of nodes, made from the bottom up, are what the nodes show.
 use Rattle.std.specs.Prelude.{ℤ, pos, negsuc}
-use Rattle.std.proofs.Common.{◌≡◌, ◌≢◌, ℕ, zero, suc, ◌+◌, ◌<◌, ◌⊎◌, inl, inr, IsSome, take-append-drop, Bool, true, false, cond, ◌||◌, List, [], ◌∷◌, ◌++◌, length, map, take, drop, get_or, Option, Some, None, refl, sym, ap, ◌∙◌, subst, append_assoc, Result, Ok, Err, IfOk, OnOk}
+use Rattle.std.proofs.Common.{◌≡◌, ◌≢◌, ℕ, zero, suc, ◌+◌, ◌<◌, ◌⊎◌, inl, inr, IsSome, take-append-drop, Bool, true, false, cond, ◌||◌, List, [], ◌∷◌, ◌++◌, length, map, take, drop, get_or, Option, Some, None, refl, sym, ap, ◌∙◌, subst, append_assoc, Result, Ok, Err, OnOk}
 use Rattle.std.specs.BTreeMap.{BTreeMap, get}
 use Rattle.std.specs.List.{AllByRecursion, cons_option}
 use Rattle.std.specs.Map.{lookup}
@@ -21,7 +21,6 @@ use Rattle.st_ids.specs.declared.names.Leaf.{Leaf}
 use Rattle.st_ids.specs.declared.names.NodeId.{NodeId}
 use Rattle.st_ids.proofs.Orders.{same_node-true}
 use Rattle.st_marks.specs.declared.intents.Owned.{Owned}
-use Rattle.st_marks.specs.declared.places.Slot.{Slot}
 use Rattle.st_marks.specs.Document.{Document, content, slot}
 use Rattle.st_marks.specs.LiveTree.{leaf_data, owners_shown, register, one_member, Shows, shows_leaf, shows_row, shows_registers, ShowsItems, no_more_items, next_item, ShowsMembers, no_more_members, next_member, key_at}
 use Rattle.st_marks.proofs.Members.{all-has, append_left, append_right, distinct-between, distinct-left, has-map, map-has}
@@ -29,6 +28,7 @@ use Rattle.st_doc.specs.inside.LiveText.{seat_at, seats_of, KeysRise, AllShown, 
 use Rattle.st_doc.specs.declared.seats.Seat.{Seat}
 use Rattle.st_doc.proofs.Look.{take_one, drop_one}
 use Rattle.st_doc.proofs.Ordered.{drop_has}
+use Rattle.st_marks.proofs.Shared.{owners_append}
 
 -- ## Registers, entry by entry
 
@@ -90,10 +90,6 @@ values_push done [] [] n v h e = (e, tt)
 values_push done [] (w ∷ vs) n v h e = absurd h
 values_push done (m ∷ ns) [] n v h e = absurd h
 values_push done (m ∷ ns) (w ∷ vs) n v h e = (h.0, values_push done ns vs n v h.1 e)
-
-owners_append : (xs ys : List Slot) → owners_shown (xs ++ ys) ≡ owners_shown xs ++ owners_shown ys
-owners_append [] ys = refl
-owners_append (s ∷ xs) ys = ap (λ ns. cond s.full (s.node ∷ []) [] ++ ns) (owners_append xs ys) ∙ sym (append_assoc (cond s.full (s.node ∷ []) []) (owners_shown xs) (owners_shown ys))
 
 module _ (D : Document) (os : List Owned) (i : ℕ) (d o : Owned) (inside : i < length os) (at : get_or os i d ≡ o) where
   first_owners : owners_shown (map (slot D) (take (i + 1) os)) ≡ owners_shown (map (slot D) (take i os)) ++ cond (slot D o).full (o.node ∷ []) []
@@ -263,10 +259,6 @@ module _ (is_array : List ℕ → Bool) (D : Document) where
   shows_no_float n d h = node_no_float h
 
 -- ## One node, by what is known of it
-
-pub if_ok_along : {T E : Type 0} (r : Result T E) (P Q : T → Type 0) → ((x : T) → P x → Q x) → IfOk r P → IfOk r Q
-if_ok_along (Ok x) P Q f p = f x p
-if_ok_along (Err e) P Q f p = tt
 
 module _ (is_array : List ℕ → Bool) (D : Document) (n : NodeId) (ty : List ℕ) (l : Option Leaf) (known : D.nodes n ≡ Some (record { ty = ty; leaf = l })) where
   typed : (k : Option Leaf) → l ≡ k → D.nodes n ≡ Some (record { ty = ty; leaf = k })

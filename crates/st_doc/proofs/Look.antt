@@ -16,10 +16,7 @@ use Rattle.std.proofs.lemmas.List.Folds.{find-append}
 use Rattle.std.proofs.lemmas.List.{append-nil, take_more}
 use Rattle.st_marks.specs.declared.intents.Owned.{Owned}
 use Rattle.st_marks.specs.Document.{root, owned}
-
-option_or_assoc : {A : Type 0} (a b c : Option A) → option_or (option_or a b) c ≡ option_or a (option_or b c)
-option_or_assoc None b c = refl
-option_or_assoc (Some x) b c = refl
+use Rattle.st_lemmas.proofs.Options.{option_or-assoc}
 
 -- the first items with one more
 pub take_one : {A : Type 0} (xs : List A) (i : ℕ) (d x : A) → i < length xs → get_or xs i d ≡ x → take (i + 1) xs ≡ take i xs ++ x ∷ []
@@ -29,7 +26,7 @@ take_one xs i d x l e = take_more xs i d l ∙ ap (λ y. take i xs ++ y ∷ []) 
 find_more : {A : Type 0} (p : A → Bool) (o : Option A) (xs : List A) (i : ℕ) (d x : A) → i < length xs → get_or xs i d ≡ x
     → option_or (option_or o (find p (take i xs))) (cond (p x) (Some x) None) ≡ option_or o (find p (take (i + 1) xs))
 find_more p o xs i d x l e =
-    option_or_assoc o (find p (take i xs)) (cond (p x) (Some x) None)
+    option_or-assoc o (find p (take i xs)) (cond (p x) (Some x) None)
     ∙ ap (option_or o) (sym (find-append p (take i xs) (x ∷ [])) ∙ ap (find p) (sym (take_one xs i d x l e)))
 
 -- an item is added where none is there yet, after the first ones were

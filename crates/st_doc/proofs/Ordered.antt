@@ -19,13 +19,10 @@ use Rattle.st_marks.proofs.Climb.{placed_known}
 use Rattle.st_marks.proofs.Members.{all-has, has-all, append_left, append_right, has-append, any-has, distinct-append}
 use Rattle.st_doc.specs.Nodes.{type_of}
 use Rattle.st_doc.specs.inside.TopDown.{IsTopDown}
+use Rattle.st_lemmas.proofs.Lists.{drop-slice_get}
+use Rattle.st_ids.proofs.Shared.{at_has}
 
 -- ## Places in a list
-
-pub at_has : {A : Type 0} (xs : List A) (i : ℕ) (x : A) → slice_get xs i ≡ Some x → Has xs x
-at_has [] i x e = cc
-at_has (y ∷ xs) zero x e = inl (let same : y ≡ x = cc in same)
-at_has (y ∷ xs) (suc i) x e = inr (at_has xs i x e)
 
 at_append : {A : Type 0} (xs ys : List A) (i : ℕ) (x : A) → i < length xs → slice_get (xs ++ ys) i ≡ Some x → slice_get xs i ≡ Some x
 at_append [] ys i x l e = absurd (omega arith)
@@ -65,11 +62,6 @@ later_has [] i j x l e = cc
 later_has (y ∷ xs) i zero x l e = absurd (omega arith)
 later_has (y ∷ xs) zero (suc j) x l e = at_has xs j x e
 later_has (y ∷ xs) (suc i) (suc j) x l e = subst (λ k. Has (drop k (y ∷ xs)) x) (sym (one_on i)) (later_has xs i j x (omega arith) e)
-
-pub opened_at : {A : Type 0} (xs : List A) (i : ℕ) (x : A) → slice_get xs i ≡ Some x → drop i xs ≡ x ∷ drop (i + 1) xs
-opened_at [] i x e = cc
-opened_at (y ∷ xs) zero x e = let same : y ≡ x = cc in ap (λ z. z ∷ xs) same
-opened_at (y ∷ xs) (suc i) x e = opened_at xs i x e ∙ ap (λ k. x ∷ drop k (y ∷ xs)) (sym (one_on i))
 
 -- ## Live nodes
 
@@ -242,7 +234,7 @@ module _ (D : Document) (sound : IsSoundInForm D) (order : List NodeId) (t : IsT
     ready_more between new w kept set m h parents = go (same_node n m) refl (subst (λ l. Has l m) opened h)
       where
         opened : drop i order ≡ n ∷ drop (i + 1) order
-        opened = opened_at order i n here
+        opened = drop-slice_get order i n here
 
         go : (b : Bool) → same_node n m ≡ b → (n ≡ m) ⊎ Has (drop (i + 1) order) m → IsSome (get node_cmp new m)
         go true e c = subst (λ o. IsSome o) (sym (set m ∙ ap (λ b. cond b (Some w) (get node_cmp between m)) e)) refl

@@ -10,14 +10,8 @@ use Rattle.st_tree.specs.declared.flat.FlatNode.{FlatNode}
 use Rattle.st_doc.specs.Nodes.{type_of}
 use Rattle.st_opening.specs.Start.{first_said, type_at}
 use Rattle.st_doc.proofs.Look.{take_one}
-
-option_or-None : {A : Type 0} (o : Option A) → option_or o None ≡ o
-option_or-None None = refl
-option_or-None (Some x) = refl
-
-option_or-assoc : {A : Type 0} (a b c : Option A) → option_or (option_or a b) c ≡ option_or a (option_or b c)
-option_or-assoc None b c = refl
-option_or-assoc (Some x) b c = refl
+use Rattle.st_lemmas.proofs.Lists.{filter_map-append}
+use Rattle.st_lemmas.proofs.Options.{option_or-assoc, option_or-None}
 
 said_append : {A B : Type 0} (say : A → Option B) (xs ys : List A) → first_said say (xs ++ ys) ≡ option_or (first_said say xs) (first_said say ys)
 said_append say [] ys = refl
@@ -30,20 +24,12 @@ said_more say before now xs i d x l e b h =
     h ∙ ap (λ o. option_or o (say x)) b ∙ ap (option_or (first_said say (take i xs))) (sym (option_or-None (say x)))
     ∙ sym (said_append say (take i xs) (x ∷ [])) ∙ ap (first_said say) (sym (take_one xs i d x l e))
 
-filter_append : {A B : Type 0} (f : A → Option B) (xs ys : List A) → filter_map f (xs ++ ys) ≡ filter_map f xs ++ filter_map f ys
-filter_append f [] ys = refl
-filter_append {A} {B} f (x ∷ xs) ys = ap (cons_option (f x)) (filter_append f xs ys) ∙ go (f x)
-  where
-    go : (o : Option B) → cons_option o (filter_map f xs ++ filter_map f ys) ≡ cons_option o (filter_map f xs) ++ filter_map f ys
-    go None = refl
-    go (Some y) = refl
-
 -- the same of what is kept
 pub filtered_more : {A B : Type 0} (f : A → Option B) (before now : List B) (xs : List A) (i : ℕ) (d x : A) → i < length xs → get_or xs i d ≡ x
     → before ≡ filter_map f (take i xs) → now ≡ before ++ option_to_list (f x) → now ≡ filter_map f (take (i + 1) xs)
 filtered_more {A} {B} f before now xs i d x l e b h =
     h ∙ ap (λ ys. ys ++ option_to_list (f x)) b ∙ ap (λ ys. filter_map f (take i xs) ++ ys) (one (f x))
-    ∙ sym (filter_append f (take i xs) (x ∷ [])) ∙ ap (filter_map f) (sym (take_one xs i d x l e))
+    ∙ sym (filter_map-append f (take i xs) (x ∷ [])) ∙ ap (filter_map f) (sym (take_one xs i d x l e))
   where
     one : (o : Option B) → option_to_list o ≡ cons_option o []
     one None = refl

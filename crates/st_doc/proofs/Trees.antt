@@ -22,6 +22,7 @@ use Rattle.st_marks.proofs.Members.{has-all, all-has}
 use Rattle.st_marks.proofs.NoRing.{without, shorter, others}
 use Rattle.st_intent.proofs.Ends.{met_again}
 use Rattle.st_doc.proofs.Children.{row_child, seat_child}
+use Rattle.st_lemmas.proofs.Bools.{T-true}
 
 -- ## The keys of a node's registers, in order
 
@@ -52,10 +53,6 @@ same_bytes k l e = exact_bytes k l (equal (bytes_cmp k l) e)
 
 bytes_itself : (k : List ℕ) → eq_by_cmp bytes_cmp k k ≡ true
 bytes_itself k = ap is_eq (tied_itself nat_list_cmp_total k)
-
-is_true : (b : Bool) → T b → b ≡ true
-is_true true h = refl
-is_true false h = absurd h
 
 put_keyed : (k : List ℕ) (es : Keys) → es ≡ keyed key_of (keys_in es) → put bytes_cmp k k es ≡ keyed key_of (keys_in (put bytes_cmp k k es))
 put_keyed k [] e = refl
@@ -187,7 +184,7 @@ module _ (D : Document) (n : NodeId) where
 
     pub keys_listed : IsListing bytes_cmp key_of (keys_in (key_list ms)) (key_at D n)
     keys_listed = record {
-      rising = is_true _ (subst (λ es. T (is_sorted bytes_cmp es)) (list_keyed ms) (list_sorted ms));
+      rising = T-true _ (subst (λ es. T (is_sorted bytes_cmp es)) (list_keyed ms) (list_sorted ms));
       at_each = λ k. ap (find bytes_cmp k) (sym (list_keyed ms)) ∙ found k (D.held (register n k)) refl;
     }
 

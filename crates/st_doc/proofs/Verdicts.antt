@@ -1,17 +1,15 @@
 -- Whether a schema is in effect, a node live, a node above itself, and which node is the least.
 use Rattle.std.proofs.Common.{◌≡◌, ◌↔◌, ℕ, zero, suc, ◌-◌, Bool, true, false, cond, not, List, [], ◌∷◌, ◌++◌, length, map, Option, Some, None, IsSome, refl, sym, ap, ◌∙◌, subst, arith, inl, inr, ◌⊎◌, option_map, unwrap_or, is_some}
-use Rattle.std.specs.declared.cmp.Ordering.{Ordering}
-use Rattle.std.specs.declared.cmp.Ordering.TheVariants.{Less, Equal, Greater}
 use Rattle.std.specs.List.{list_any, last_or, slice_get}
 use Rattle.std.specs.Option.{option_map_or}
-use Rattle.std.specs.Ordering.{is_eq, is_lt}
+use Rattle.std.specs.Ordering.{is_lt}
 use Rattle.std.specs.BTreeMap.{BTreeMap, get}
 use Rattle.std.proofs.lemmas.Cmp.{tied_itself}
 use Rattle.st_ids.specs.Listing.{Has}
 use Rattle.st_ids.specs.Order.{same_rev, node_cmp, same_node}
 use Rattle.st_ids.specs.declared.names.NodeId.{NodeId}
 use Rattle.st_ids.specs.declared.names.Rev.{Rev}
-use Rattle.st_ids.proofs.Orders.{rev_cmp_exact, rev_cmp_total, node_cmp_total, same_node-itself}
+use Rattle.st_ids.proofs.Orders.{node_cmp_total, same_node-itself, same_rev-itself, same_rev-true}
 use Rattle.st_marks.specs.declared.intents.Intent.{Intent}
 use Rattle.st_marks.specs.declared.intents.Put.{Put}
 use Rattle.st_marks.specs.declared.intents.To.{To}
@@ -24,22 +22,11 @@ use Rattle.st_marks.specs.Verdict.{IsLeast}
 use Rattle.st_marks.proofs.Members.{any-has, has-any, map-has, has-map, has-append, append_left, append_right}
 use Rattle.st_marks.proofs.Lookups.{put-has}
 use Rattle.st_doc.specs.inside.Ahead.{IsLeastOf, least_with, Reaches, above_ahead, place_ahead}
-use Rattle.st_intent.proofs.Scans.{is_some-find, is_some-map}
+use Rattle.st_intent.proofs.Scans.{is_some-find}
+use Rattle.st_lemmas.proofs.Orders.{is_lt-Less}
+use Rattle.st_lemmas.proofs.Options.{is_some-option_map}
 
 -- ## Schemas
-
-is_eq_equal : (o : Ordering) → is_eq o ≡ true → o ≡ Equal
-is_eq_equal Less e = cc
-is_eq_equal Equal e = refl
-is_eq_equal Greater e = cc
-
-same_rev-true : (a b : Rev) → same_rev a b ≡ true → a ≡ b
-unfolding same_rev
-same_rev-true a b e = rev_cmp_exact a b (is_eq_equal _ e)
-
-same_rev-itself : (a : Rev) → same_rev a a ≡ true
-unfolding same_rev
-same_rev-itself a = ap is_eq (tied_itself rev_cmp_total a)
 
 pub among_revs : (es : List SchemaEntry) (r : Rev) → (list_any (λ (e : SchemaEntry). same_rev e.rev r) es ≡ true) ↔ Has (revs es) r
 among_revs es r = (
@@ -99,7 +86,7 @@ live_reaches D n apart = (λ h. go h.0 h.1, λ h. (suc h.0, h.1))
 pub put_among : (N : Intent) (n : NodeId) → Has (map (λ (p : Put). p.node) N.put) n ↔ IsSome (put_of N n)
 put_among N n = (
   λ h. let p = has-map (λ (p : Put). p.node) N.put n h in
-      to_some (is_some-map (λ (p : Put). p.to) _ ∙ is_some-find (λ (p : Put). same_node p.node n) N.put ∙ has-any (λ (p : Put). same_node p.node n) N.put p.0 p.1 (ap (same_node p.0.node) (sym p.2) ∙ same_node-itself p.0.node)),
+      to_some (is_some-option_map (λ (p : Put). p.to) _ ∙ is_some-find (λ (p : Put). same_node p.node n) N.put ∙ has-any (λ (p : Put). same_node p.node n) N.put p.0 p.1 (ap (same_node p.0.node) (sym p.2) ∙ same_node-itself p.0.node)),
   λ h. from (put_of N n) refl h,
 )
   where
@@ -119,11 +106,6 @@ least_from P Q (Some n) to from h = (to n h.0, λ m q. h.1 m (from m q))
 -- a node is not before itself, and of two that are not before one another neither hides a third
 pub not_before_itself : (n : NodeId) → is_lt (node_cmp n n) ≡ false
 not_before_itself n = ap is_lt (tied_itself node_cmp_total n)
-
-is_lt-Less : (o : Ordering) → is_lt o ≡ true → o ≡ Less
-is_lt-Less Less e = refl
-is_lt-Less Equal e = cc
-is_lt-Less Greater e = cc
 
 still_not_before : (m x n : NodeId) → is_lt (node_cmp x n) ≡ true → is_lt (node_cmp m n) ≡ false → is_lt (node_cmp m x) ≡ false
 still_not_before m x n less above = go (is_lt (node_cmp m x)) refl

@@ -1,8 +1,6 @@
 -- Where one node changes, the tree changes at the end of the path that leads there.
 use Rattle.std.proofs.Common.{◌≡◌, ◌≢◌, ℕ, zero, suc, ◌+◌, ◌==◌, Bool, true, false, cond, List, [], ◌∷◌, ◌++◌, map, length, filter, take_all, Some, None, IsSome, is_some, option_map, slice_get, Ok, refl, sym, ap, ◌∙◌, subst, arith, inl, inr}
 use Rattle.std.specs.Ordering.{nat_cmp, is_eq}
-use Rattle.std.specs.declared.cmp.Ordering.{Ordering}
-use Rattle.std.specs.declared.cmp.Ordering.TheVariants.{Less, Equal, Greater}
 use Rattle.std.specs.Cmp.Lexicographic.{slice_cmp, nat_list_cmp_total}
 use Rattle.std.proofs.lemmas.Cmp.{tied_itself}
 use Rattle.std.proofs.lemmas.Map.Lookups.{exact_bytes}
@@ -18,13 +16,16 @@ use Rattle.st_marks.specs.declared.places.Slot.{Slot}
 use Rattle.st_marks.specs.declared.places.Spot.{Spot}
 use Rattle.st_marks.specs.Document.{Document, IsSoundInForm, above, content}
 use Rattle.st_marks.specs.LiveTree.{Shows, shows_leaf, shows_row, shows_registers, ShowsItems, no_more_items, next_item, ShowsMembers, no_more_members, next_member, owners_shown, register, key_at, leaf_data, one_member, live_slots}
-use Rattle.st_marks.proofs.Members.{true-false, all-has}
+use Rattle.st_marks.proofs.Members.{all-has}
 use Rattle.st_edits.specs.Paths.{child, field_at, or_refuse, walk_from}
-use Rattle.st_edits.proofs.Fits.{passed, found, gotten, items_once}
+use Rattle.st_edits.proofs.Fits.{passed, found, items_once}
 use Rattle.st_edit_laws.specs.Alike.{IsFrom, AreAlikeAt}
 use Rattle.st_edit_laws.specs.Edited.{in_node, in_row, in_fields, listed, at_index, at_key, at_place, at_path, same_key}
 use Rattle.st_edit_laws.proofs.Beneath.{in_row as stands_in_row, row_above, held_above, from_child, not_beneath, one_child}
 use Rattle.st_edit_laws.proofs.Alike.{same_below, same_keys}
+use Rattle.st_ids.proofs.Orders.{is_eq_equal}
+use Rattle.st_lemmas.proofs.Bools.{true-false}
+use Rattle.st_ids.proofs.Shared.{at_has}
 
 -- ## Items as a list
 
@@ -71,11 +72,6 @@ owners_once D n sound =
     (items_once D n 0 (length (live_slots D n)) sound)
 
 -- ## Keys
-
-is_eq_equal : (o : Ordering) → is_eq o ≡ true → o ≡ Equal
-is_eq_equal Less e = cc
-is_eq_equal Equal e = refl
-is_eq_equal Greater e = cc
 
 pub same_key-true : (k l : List ℕ) → same_key k l ≡ true → k ≡ l
 same_key-true k l e = exact_bytes k l (is_eq_equal (slice_cmp nat_cmp k l) e)
@@ -137,7 +133,7 @@ module _ (is_array : List ℕ → Bool) (D E : Document) where
         kept_items ns ds h.1 (λ y k. kept y (inr k) (λ q. all-has (λ z. z ≢ n) ns y once.0 k (q ∙ sym same))),
       )
   one_item x f now (n ∷ ns) (d ∷ ds) (suc i) once e kept h = (
-    kept n (inl refl) (λ q. all-has (λ z. z ≢ n) ns x once.0 (gotten ns i x e) (sym q)) d h.0,
+    kept n (inl refl) (λ q. all-has (λ z. z ≢ n) ns x once.0 (at_has ns i x e) (sym q)) d h.0,
     one_item x f now ns ds i once.1 e (λ y k. kept y (inr k)) h.1,
   )
 
@@ -166,7 +162,7 @@ child_up D sound n x p e = go (length p.key.0 == 0) e
     field false f = cc
 
     go : (b : Bool) → cond b (option_map (λ (s : Slot). s.node) (slice_get (live_slots D n) p.index)) (cond (p.index == 0) (D.held (field_at n p.key)) None) ≡ Some x → above D x ≡ Some n
-    go true f = row_above D sound n x (gotten (owners_shown (content D n)) p.index x (owner_at D n p.index ∙ f))
+    go true f = row_above D sound n x (at_has (owners_shown (content D n)) p.index x (owner_at D n p.index ∙ f))
     go false f = field (p.index == 0) f
 
 -- a path leads downwards
@@ -211,7 +207,7 @@ module _ (is_array : List ℕ → Bool) (D E : Document) (sound : IsSoundInForm 
       at = owner_at D n i ∙ e
 
       or_refuse : Has (owners_shown (content D n)) x
-      or_refuse = gotten (owners_shown (content D n)) i x at
+      or_refuse = at_has (owners_shown (content D n)) i x at
 
       up : above D x ≡ Some n
       up = row_above D sound n x or_refuse

@@ -15,7 +15,9 @@ use Rattle.st_marks.specs.LiveTree.{owners_shown, live_slots}
 use Rattle.st_marks.proofs.Lookups.{group_at-group, group_found}
 use Rattle.st_marks.proofs.Members.{all-has}
 use Rattle.st_edits.specs.Paths.{left_of, row_length}
-use Rattle.st_edit_laws.proofs.Rows.{owners_filtered, no_members, all_full, owners_joined}
+use Rattle.st_edit_laws.proofs.Rows.{owners_filtered, all_full}
+use Rattle.st_ids.proofs.Shared.{no_members}
+use Rattle.st_marks.proofs.Shared.{owners_append}
 
 kept_first : (b : Bool) (x : NodeId) (xs ys zs : List NodeId) → xs ≡ ys ++ zs → cond (cond b true false) (x ∷ []) [] ++ xs ≡ cond b (x ∷ ys) ys ++ zs
 kept_first true x xs ys zs e = ap (λ l. x ∷ l) e
@@ -92,7 +94,7 @@ module _ (N : Intent) (itself : IsIntent N) (m : NodeId) (left : Option CellId) 
         first_here q =
             (λ i. now ((ap (group_at N m) (ap (λ c. Some c) q ∙ sym is) ∙ at_left) i
             ++ ungrown os (λ r h t. (let both : Some r.cell ≡ Some s.cell = t ∙ is in let same : r.cell ≡ s.cell = cc in all-has (λ (r : Owned). r.cell ≢ o.cell) os r once.0 h (same ∙ sym q))) i))
-            ∙ ap owners_shown (map-append (slot E) cells os) ∙ owners_joined (map (slot E) cells) (map (slot E) os)
+            ∙ ap owners_shown (map-append (slot E) cells os) ∙ owners_append (map (slot E) cells) (map (slot E) os)
             ∙ (λ i. all_full E cells full_new i ++ owners_filtered D E p os old_rest i)
 
         go : (b : Bool) (i : ℕ) → ((j : ℕ) → slice_get (live os) j ≡ Some s → Grown os j) → slice_get (cond b (slot D o ∷ live os) (live os)) i ≡ Some s
@@ -110,7 +112,7 @@ module _ (N : Intent) (itself : IsIntent N) (m : NodeId) (left : Option CellId) 
         → now (group_at N m None ++ with_groups N m (D.rows m)) ≡ filter p (take i (was (D.rows m))) ++ (new ++ filter p (drop i (was (D.rows m))))
     row_with zero is le once old =
         (λ i. now ((ap (group_at N m) (sym is) ∙ at_left) i ++ ungrown (D.rows m) (λ o h t. (let bad : Some o.cell ≡ None = t ∙ is in cc)) i))
-        ∙ ap owners_shown (map-append (slot E) cells (D.rows m)) ∙ owners_joined (map (slot E) cells) (map (slot E) (D.rows m))
+        ∙ ap owners_shown (map-append (slot E) cells (D.rows m)) ∙ owners_append (map (slot E) cells) (map (slot E) (D.rows m))
         ∙ (λ i. all_full E cells full_new i ++ owners_filtered D E p (D.rows m) old i)
     row_with (suc k) is le once old = go (slice_get (live_slots D m) k) refl
       where

@@ -23,7 +23,7 @@ use Rattle.st_marks.specs.Verdict.{IsVerdict}
 use Rattle.st_marks.specs.LiveTree.{owners_shown}
 use Rattle.st_marks.proofs.Full.{unput_above}
 use Rattle.st_marks.proofs.Lookups.{group_at-group, has-put, put-has, new_row_of-group}
-use Rattle.st_marks.proofs.Members.{true-false, has-map, map-has}
+use Rattle.st_marks.proofs.Members.{has-map, map-has}
 use Rattle.st_marks.proofs.NewRows.{made_cell, row_cells}
 use Rattle.st_edits.specs.New.{group_of}
 use Rattle.st_edits.specs.Paths.{left_of, row_length}
@@ -31,11 +31,14 @@ use Rattle.st_edits.specs.Resolve.{cells_for, moved_to_field, moved_to_row}
 use Rattle.st_edits.specs.declared.names.NameCounters.{NameCounters}
 use Rattle.st_edit_laws.specs.Alike.{IsFrom}
 use Rattle.st_edit_laws.proofs.Anchored.{row_with}
-use Rattle.st_edit_laws.proofs.Named.{group_is, with_first, with_has}
+use Rattle.st_edit_laws.proofs.Named.{group_is}
 use Rattle.st_edit_laws.proofs.Parted.{parted, parted_row, unless_among}
-use Rattle.st_edit_laws.proofs.Removed.{or_none}
-use Rattle.st_edit_laws.proofs.Rows.{among, among-has, has-among, not-among, owners_filtered, no_members}
+use Rattle.st_edit_laws.proofs.Rows.{among, among-has, has-among, not-among, owners_filtered}
 use Rattle.st_edit_laws.proofs.Sound.{last_in_effect}
+use Rattle.st_lemmas.proofs.Bools.{true-false}
+use Rattle.st_edits.proofs.NewFits.{with_first, with_has}
+use Rattle.st_lemmas.proofs.Options.{option_or-None}
+use Rattle.st_ids.proofs.Shared.{no_members}
 
 cells_nodes : (rev : Rev) (c : ℕ) (ns : List NodeId) → map (λ (o : Owned). o.node) (cells_for rev c ns) ≡ ns
 cells_nodes rev c [] = refl
@@ -178,7 +181,7 @@ module _ (D : Document) (G : NameCounters) (m : NodeId) (i : ℕ) (ns : List Nod
       go (Some y) = ap (λ b. cond b None (Some y)) (put_some y)
 
   pub node_there : (x : NodeId) → E.nodes x ≡ F.nodes x
-  node_there x = or_none (D.nodes x)
+  node_there x = option_or-None (D.nodes x)
 
   pub row_verdict : ((z : NodeId) → IsFrom D z m → Has ns z → ⊥) → IsVerdict D N Verdict.Sound
   row_verdict clear_way = (
@@ -252,7 +255,7 @@ module _ (D : Document) (G : NameCounters) (g : FieldId) (x : NodeId) (sound : I
       go false e = ap (λ b. cond b None (unless_put M (D.held h))) (or_false (same_field g h) ∙ swap h g e) ∙ unput (D.held h)
 
   pub nodes_there : (y : NodeId) → C.nodes y ≡ B.nodes y
-  nodes_there y = or_none (D.nodes y)
+  nodes_there y = option_or-None (D.nodes y)
 
   pub field_verdict : ((z : NodeId) → IsFrom D z g.node → Has (x ∷ []) z → ⊥) → IsVerdict D M Verdict.Sound
   field_verdict clear_way = (

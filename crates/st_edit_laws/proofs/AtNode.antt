@@ -5,7 +5,6 @@ use Rattle.serde_json.specs.View.{items_of}
 use Rattle.st_ids.specs.declared.names.NodeId.{NodeId}
 use Rattle.st_marks.specs.Document.{Document, NodeType, IsSoundInForm, content}
 use Rattle.st_marks.specs.LiveTree.{Shows, shows_leaf, shows_row, shows_registers, owners_shown, register, key_at}
-use Rattle.st_marks.proofs.Members.{true-false}
 use Rattle.st_edit_laws.specs.Alike.{AreAlikeAt}
 use Rattle.st_edit_laws.specs.Edited.{in_node, in_row, in_fields, listed, same_key, with_items, with_key, without, without_items, without_key}
 use Rattle.st_edit_laws.proofs.Along.{AreShown, Shape, as_leaf, as_row, as_registers, shape, as_list, as_items, kept_items, kept_child, leaf_kept, same_key-true}
@@ -13,6 +12,7 @@ use Rattle.st_edit_laws.proofs.Beneath.{row_above, held_above}
 use Rattle.st_edit_laws.proofs.Keys.{one_less, one_more, other_keys, with_one}
 use Rattle.st_edit_laws.proofs.Members.{members_with, members_without}
 use Rattle.st_edit_laws.proofs.Rows.{shown_drop, shown_joined, shown_take}
+use Rattle.st_lemmas.proofs.Bools.{true-false}
 
 module _ (is_array : List ℕ → Bool) (D F : Document) (sound : IsSoundInForm D) (m : NodeId) (alike : (x : NodeId) → IsSome (D.nodes x) → x ≢ m → AreAlikeAt D F x) (kept : (t : NodeType) → D.nodes m ≡ Some t → F.nodes m ≡ Some t)
     (type : NodeType) (known : D.nodes m ≡ Some type) where

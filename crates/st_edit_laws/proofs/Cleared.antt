@@ -19,7 +19,6 @@ use Rattle.st_marks.specs.Intent.{clears}
 use Rattle.st_marks.specs.CarryOut.{full, unless_cleared, unless_put}
 use Rattle.st_marks.specs.Verdict.{IsVerdict}
 use Rattle.st_marks.specs.LiveTree.{Shows, owners_shown, register}
-use Rattle.st_marks.proofs.Members.{true-false}
 use Rattle.st_edits.specs.Paths.{field_at}
 use Rattle.st_edits.specs.Resolve.{clear, need, empty_intent, rule_for, walk, is_optional, is_row}
 use Rattle.st_edits.specs.declared.names.NameCounters.{NameCounters}
@@ -30,10 +29,12 @@ use Rattle.st_edit_laws.specs.Edited.{TellsRows, at_path, same_key, without_key}
 use Rattle.st_edit_laws.proofs.Alike.{same_below}
 use Rattle.st_edit_laws.proofs.Along.{along, live_at, same_key-true, same_key-itself}
 use Rattle.st_edit_laws.proofs.AtNode.{member_left}
-use Rattle.st_edit_laws.proofs.Removed.{no_groups, or_none}
+use Rattle.st_edit_laws.proofs.Removed.{no_groups}
 use Rattle.st_edit_laws.proofs.Rows.{owners_same}
 use Rattle.st_edit_laws.proofs.Ruled.{ruled_kind}
 use Rattle.st_edit_laws.proofs.Sound.{last_in_effect}
+use Rattle.st_lemmas.proofs.Bools.{true-false}
+use Rattle.st_lemmas.proofs.Options.{option_or-None}
 
 -- ## Registers by their keys
 
@@ -92,7 +93,7 @@ module _ (D : Document) (G : NameCounters) (sound : IsSoundInForm D) (m : NodeId
       unput (Some n) = refl
 
   nodes_are : (x : NodeId) → E.nodes x ≡ D.nodes x
-  nodes_are x = or_none (D.nodes x)
+  nodes_are x = option_or-None (D.nodes x)
 
   alike : (x : NodeId) → x ≢ m → AreAlikeAt D E x
   alike x apart = record {
@@ -153,7 +154,7 @@ module _ (D : Document) (G : NameCounters) (sound : IsSoundInForm D) (n : NodeId
 
   needed_alike : (x : NodeId) → AreAlikeAt D (full D M) x
   needed_alike x = record {
-    node = λ t e. or_none (D.nodes x) ∙ e;
+    node = λ t e. option_or-None (D.nodes x) ∙ e;
     row = ap (λ os. owners_shown (map (slot (full D M)) os)) (no_groups M x (λ a. refl) (D.rows x)) ∙ owners_same D (full D M) (D.rows x) (λ o h. ap (is_cell o.cell) (stays (D.place o.node)));
     held = λ k. unput (D.held (register x k));
   }

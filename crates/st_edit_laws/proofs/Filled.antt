@@ -28,7 +28,7 @@ use Rattle.st_marks.specs.CarryOut.{full, unless_put}
 use Rattle.st_marks.specs.Verdict.{IsVerdict}
 use Rattle.st_marks.specs.LiveTree.{Shows, register}
 use Rattle.st_marks.proofs.Lookups.{clears-has}
-use Rattle.st_marks.proofs.Members.{true-false, has-filter_map}
+use Rattle.st_marks.proofs.Members.{has-filter_map}
 use Rattle.st_edits.specs.New.{groups_under, group_under, to_at}
 use Rattle.st_opening.specs.Start.{registers}
 use Rattle.st_edits.specs.Paths.{field_at}
@@ -37,17 +37,19 @@ use Rattle.st_edits.specs.declared.names.NameCounters.{NameCounters}
 use Rattle.st_edits.specs.declared.names.Takes.TheVariants as field
 use Rattle.st_edits.proofs.Fits.{passed}
 use Rattle.st_edits.proofs.MoveFits.{CellsFresh}
-use Rattle.st_edits.proofs.NewFits.{put_fits, NodesFresh}
-use Rattle.st_edits.proofs.Numbered.{filter-from, Counted, tops_counted, tops_rows}
+use Rattle.st_edits.proofs.NewFits.{put_fits, NodesFresh, items_form}
+use Rattle.st_edits.proofs.Numbered.{Counted, tops_counted, tops_rows}
 use Rattle.st_edit_laws.specs.Alike.{AreAlikeAt}
 use Rattle.st_edit_laws.specs.Edited.{TellsRows, at_path, same_key, with_key}
 use Rattle.st_edit_laws.proofs.Along.{as_list, along, same_key-true, same_key-itself}
 use Rattle.st_edit_laws.proofs.AtNode.{member_comes}
 use Rattle.st_edit_laws.proofs.Made.{IsFilled, alike, filled, filled_from, keeps, made_verdict, new_field, old_node, old_unput, put_there}
-use Rattle.st_edit_laws.proofs.Named.{are_allowed, own_all, registers_new, trees_form}
+use Rattle.st_edit_laws.proofs.Named.{are_allowed, own_all, registers_new}
 use Rattle.st_edit_laws.proofs.NewTrees.{tops_shown, first_top, top_of, top_at, top_node}
 use Rattle.st_edit_laws.proofs.Ruled.{ruled_kind}
-use Rattle.st_edit_laws.proofs.Rows.{none_some}
+use Rattle.st_lemmas.proofs.Bools.{true-false}
+use Rattle.st_ids.proofs.Shared.{filter-from}
+use Rattle.st_lemmas.proofs.Options.{None-IsSome}
 
 -- ## A new tree in a field
 
@@ -101,7 +103,7 @@ module _ (D : Document) (G : NameCounters) (m : NodeId) (key : Key) (t : Node) (
       uncleared false e = e
       uncleared true e = elim (clears-has fs (register m k) e) [
         | inl q ↦ absurd (true-false (same_key-itself key.0) (ap (λ (g : FieldId). same_key key.0 g.key.0) q ∙ apart))
-        | inr h ↦ absurd (none_some (D.nodes m) (registers_new D G xs counted nodes (register m k) h) known)
+        | inr h ↦ absurd (None-IsSome (D.nodes m) (registers_new D G xs counted nodes (register m k) h) known)
       ]
 
       unput : (o : Option NodeId) → D.held (register m k) ≡ o → unless_put N o ≡ o
@@ -114,7 +116,7 @@ module _ (D : Document) (G : NameCounters) (m : NodeId) (key : Key) (t : Node) (
           let v = filled_from D G (Some f) m xs (groups_under xs) fs all (register m k) y e in
           elim (put_there D G (Some f) m xs (groups_under xs) fs all v.0 (register m k) v.1 v.3) [
             | inl q ↦ (let same : f ≡ register m k = cc in absurd (true-false (same_key-itself key.0) (ap (λ (g : FieldId). same_key key.0 g.key.0) same ∙ apart)))
-            | inr q ↦ absurd (none_some (D.nodes m) (new_field D G (Some f) m xs (groups_under xs) fs all v.0 (register m k) v.1 q) known)
+            | inr q ↦ absurd (None-IsSome (D.nodes m) (new_field D G (Some f) m xs (groups_under xs) fs all v.0 (register m k) v.1 q) known)
           ]
 
   swap_false : (k : List ℕ) → same_key k key.0 ≡ false → same_key key.0 k ≡ false
@@ -177,7 +179,7 @@ module _ (D : Document) (s : SchemaView) (G : NameCounters) (at : List Place) (k
   w = is_setting D s G at key t N e
 
   form : all_have_form (first t no_nodes) ≡ true
-  form = trees_form s w.types (first t no_nodes) w.allowed
+  form = items_form s w.types (first t no_nodes) w.allowed
 
   fits_here : Fits D (intent_to_place D G (field_at w.node key) (named G (first t no_nodes)))
   fits_here = subst (Fits D) (sym w.intent) (put_fits D s G at key t N sound schema nodes cells e)

@@ -5,7 +5,8 @@ use Rattle.std.proofs.lemmas.Bool.Decides.{nat_tests}
 use Rattle.st_ids.specs.Listing.{Has, AreDistinct}
 use Rattle.st_ids.specs.declared.names.NodeId.{NodeId}
 use Rattle.st_edit_laws.specs.Moved.{index_after}
-use Rattle.st_edit_laws.proofs.Rows.{among, filter_all, filter_joined, filter_none, has-among, left_apart, not-among, right_apart, has_take, has_drop}
+use Rattle.st_edit_laws.proofs.Rows.{among, filter_all, filter_joined, filter_none, has-among, left_apart, not-among, right_apart}
+use Rattle.st_edits.proofs.Fits.{has_take, has_drop}
 
 -- ## Lists that are joined, cut
 

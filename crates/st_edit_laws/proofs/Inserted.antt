@@ -39,17 +39,20 @@ use Rattle.st_edits.specs.declared.names.NameCounters.{NameCounters}
 use Rattle.st_edits.specs.declared.names.Takes.TheVariants as field
 use Rattle.st_edits.proofs.Fits.{passed}
 use Rattle.st_edits.proofs.MoveFits.{CellsFresh}
-use Rattle.st_edits.proofs.NewFits.{insert_fits, NodesFresh}
-use Rattle.st_edits.proofs.Numbered.{filter-from, tops_counted, tops_rows}
+use Rattle.st_edits.proofs.NewFits.{insert_fits, NodesFresh, top_from, top_has, items_form, with_first, with_has}
+use Rattle.st_edits.proofs.Numbered.{tops_counted, tops_rows}
 use Rattle.st_edit_laws.specs.Edited.{TellsRows, at_path, listed, with_items}
 use Rattle.st_edit_laws.proofs.Along.{AreShown, as_list, along}
 use Rattle.st_edit_laws.proofs.Anchored.{row_with}
 use Rattle.st_edit_laws.proofs.AtNode.{items_come}
 use Rattle.st_edit_laws.proofs.Made.{IsFilled, alike, fresh, keeps, made_verdict, old_full, old_node, put_is}
-use Rattle.st_edit_laws.proofs.Named.{are_allowed, group_is, own_all, registers_new, top_from, top_has, top_nodes, trees_form, with_first, with_has, with_others}
+use Rattle.st_edit_laws.proofs.Named.{are_allowed, group_is, own_all, registers_new, top_nodes}
 use Rattle.st_edit_laws.proofs.NewTrees.{tops_shown}
-use Rattle.st_edit_laws.proofs.Rows.{filter_all, none_some}
+use Rattle.st_edit_laws.proofs.Rows.{filter_all}
 use Rattle.st_edit_laws.proofs.Ruled.{row_ruled}
+use Rattle.st_ids.proofs.Shared.{filter-from}
+use Rattle.st_edits.proofs.Shared.{with_others}
+use Rattle.st_lemmas.proofs.Options.{None-IsSome}
 
 -- ## New items in a row
 
@@ -110,7 +113,7 @@ module _ (D : Document) (G : NameCounters) (m : NodeId) (index : ℕ) (trees : N
   ]
     where
       new_not_m : (x : FlatNode) → Has xs x → x.node ≡ m → ⊥
-      new_not_m x i q = none_some (D.nodes m) (ap D.nodes (sym q) ∙ fresh D G None m xs gs (registers xs) filled x i) known
+      new_not_m x i q = None-IsSome (D.nodes m) (ap D.nodes (sym q) ∙ fresh D G None m xs gs (registers xs) filled x i) known
 
       under_node : (x : FlatNode) (g : Group) → group_under xs x ≡ Some g → g.node ≡ x.node
       under_node x g q = go x.row q
@@ -174,7 +177,7 @@ module _ (D : Document) (s : SchemaView) (G : NameCounters) (at : List Place) (k
   w = is_insertion D s G at key index trees N e
 
   form : Rattle.st_tree.specs.Form.all_have_form trees ≡ true
-  form = trees_form s w.types trees w.allowed
+  form = items_form s w.types trees w.allowed
 
   fits : Fits D (inserted D G w.node index (named G trees))
   fits = subst (Fits D) (sym w.intent) (insert_fits D s G at key index trees N sound nodes cells e)

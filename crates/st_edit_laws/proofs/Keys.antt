@@ -8,16 +8,13 @@ use Rattle.std.specs.FinMap.Entries.{find, put, by_order, where_key, is_sorted, 
 use Rattle.std.proofs.lemmas.Map.Lookups.{exact_bytes}
 use Rattle.st_ids.specs.Listing.{IsListing, keyed}
 use Rattle.st_edit_laws.specs.Edited.{same_key}
+use Rattle.st_lemmas.proofs.Bools.{T-true}
 
 abbrev bytes_cmp : List ℕ → List ℕ → Ordering
 bytes_cmp = slice_cmp nat_cmp
 
 abbrev itself : List ℕ → List ℕ
 itself k = k
-
-true_is : (b : Bool) → T b → b ≡ true
-true_is true h = refl
-true_is false h = absurd h
 
 -- ## One less
 
@@ -36,7 +33,7 @@ other_keys key ks = filter (λ k. not (same_key key k)) ks
 pub one_less : (key : List ℕ) (ks : List (List ℕ)) (look now : List ℕ → Option (List ℕ)) → ((k : List ℕ) → now k ≡ cond (not (same_key key k)) (look k) None)
     → IsListing bytes_cmp itself ks look → IsListing bytes_cmp itself (other_keys key ks) now
 one_less key ks look now is l = record {
-  rising = ap (is_sorted bytes_cmp) (keyed_filter p ks) ∙ true_is (is_sorted bytes_cmp (where_key bytes_cmp p (keyed itself ks))) (is_sorted-where_key bytes_cmp p (keyed itself ks) (subst T (sym l.rising) tt));
+  rising = ap (is_sorted bytes_cmp) (keyed_filter p ks) ∙ T-true (is_sorted bytes_cmp (where_key bytes_cmp p (keyed itself ks))) (is_sorted-where_key bytes_cmp p (keyed itself ks) (subst T (sym l.rising) tt));
   at_each = λ k. ap (find bytes_cmp k) (keyed_filter p ks) ∙ find-where_key bytes_cmp p k (λ x e. ap p (sym (exact_bytes k x e))) (keyed itself ks)
       ∙ ap (λ o. cond (p k) o None) (l.at_each k) ∙ sym (is k);
 }
@@ -63,7 +60,7 @@ keyed_put key (k ∷ ks) = go (bytes_cmp key k) refl (keyed_put key ks)
 pub one_more : (key : List ℕ) (ks : List (List ℕ)) (look now : List ℕ → Option (List ℕ)) → ((k : List ℕ) → now k ≡ cond (same_key k key) (Some key) (look k))
     → IsListing bytes_cmp itself ks look → IsListing bytes_cmp itself (with_one key ks) now
 one_more key ks look now is l = record {
-  rising = ap (is_sorted bytes_cmp) (keyed_put key ks) ∙ true_is (is_sorted bytes_cmp (put bytes_cmp key key (keyed itself ks))) (is_sorted-put bytes_cmp nat_list_cmp_total key key (keyed itself ks) (subst T (sym l.rising) tt));
+  rising = ap (is_sorted bytes_cmp) (keyed_put key ks) ∙ T-true (is_sorted bytes_cmp (put bytes_cmp key key (keyed itself ks))) (is_sorted-put bytes_cmp nat_list_cmp_total key key (keyed itself ks) (subst T (sym l.rising) tt));
   at_each = λ k. ap (find bytes_cmp k) (keyed_put key ks) ∙ find-put bytes_cmp nat_list_cmp_total k key key (keyed itself ks)
       ∙ ap (λ o. cond (same_key k key) (Some key) o) (l.at_each k) ∙ sym (is k);
 }

@@ -17,13 +17,13 @@ use Rattle.st_tree.specs.declared.edit.EditFault.TheVariants.{NoNode}
 use Rattle.st_marks.specs.declared.places.Slot.{Slot}
 use Rattle.st_marks.specs.Document.{Document, NodeType, IsSoundInForm, content, owned}
 use Rattle.st_marks.specs.LiveTree.{Shows, ShowsMembers, no_more_members, next_member, owners_shown, register, key_at, leaf_data, live_slots}
-use Rattle.st_marks.proofs.Members.{true-false}
 use Rattle.st_edits.specs.Paths.{child, field_at, or_refuse, walk_from}
 use Rattle.st_edits.proofs.Fits.{passed, found}
 use Rattle.st_edit_laws.specs.Moved.{child_in, inside, node_in, row_items}
 use Rattle.st_edit_laws.specs.Typed.{IsAsTyped, IsFieldType, IsRowType}
 use Rattle.st_edit_laws.proofs.Beneath.{in_row as stands_in_row}
 use Rattle.st_edit_laws.proofs.Along.{AreShown, Shape, as_leaf, as_row, as_registers, shape, as_list, owner_at}
+use Rattle.st_lemmas.proofs.Bools.{true-false}
 
 -- ## Documents whose nodes show all that stands beneath them
 

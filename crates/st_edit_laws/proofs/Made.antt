@@ -24,41 +24,23 @@ use Rattle.st_marks.specs.CarryOut.{full, with_groups, with_names, spot_of, plac
 use Rattle.st_marks.specs.Verdict.{IsVerdict}
 use Rattle.st_marks.specs.LiveTree.{owners_shown, register}
 use Rattle.st_marks.proofs.Lookups.{put-has, has-put, put_in-has, has-put_in, clears-has, group_at-group, group_found}
-use Rattle.st_marks.proofs.Members.{has-map, map-has, first-distinct, has-filter_map}
+use Rattle.st_marks.proofs.Members.{has-map, map-has, first-distinct}
 use Rattle.st_marks.proofs.NewRows.{row_cells}
 use Rattle.st_marks.proofs.Full.{unput_above}
 use Rattle.st_marks.proofs.Climb.{above_known}
-use Rattle.st_edits.specs.New.{new_nodes, to_at, owned_by, row_cell, cells_under, group_of, group_under}
+use Rattle.st_edits.specs.New.{new_nodes, to_at, cells_under, group_of, group_under}
 use Rattle.st_edits.specs.declared.names.NameCounters.{NameCounters}
-use Rattle.st_edits.proofs.NewFits.{made, NodesFresh}
-use Rattle.st_edits.proofs.Numbered.{filter-from, Counted, IsAt, IsNumbered, numbered, one_named, there_is, IsUnderArray}
+use Rattle.st_edits.proofs.NewFits.{made, NodesFresh, cells_under_has, cells_under_from}
+use Rattle.st_edits.proofs.Numbered.{Counted, IsAt, IsNumbered, numbered, one_named, there_is, IsUnderArray}
 use Rattle.st_opening.proofs.PreorderNames.{same_number}
 use Rattle.st_edit_laws.specs.Alike.{AreAlikeAt}
 use Rattle.st_edit_laws.proofs.NewTrees.{Keeps}
-use Rattle.st_edit_laws.proofs.Rows.{owners_same, no_members, all_full, none_some}
+use Rattle.st_edit_laws.proofs.Rows.{owners_same, all_full}
 use Rattle.st_edit_laws.proofs.Sound.{last_in_effect}
+use Rattle.st_ids.proofs.Shared.{no_members}
+use Rattle.st_lemmas.proofs.Options.{None-IsSome}
 
 -- ## Lists
-
-row_owned : (r n : NodeId) (o : Owned) (at : FlatAt) → owned_by n (row_cell r at) ≡ Some o → (at ≡ FlatAt.Row r o.cell) × (n ≡ o.node)
-row_owned r n o FlatAt.Root e = absurd (cc)
-row_owned r n o (FlatAt.Top d) e = absurd (cc)
-row_owned r n o (FlatAt.Register f) e = absurd (cc)
-row_owned r n o (FlatAt.Row q d) e = go (same_node q r) refl e
-  where
-    go : (b : Bool) → same_node q r ≡ b → owned_by n (cond b (Some d) None) ≡ Some o → (FlatAt.Row q d ≡ FlatAt.Row r o.cell) × (n ≡ o.node)
-    go true p e = let s : owned d n ≡ o = cc in ((λ i. FlatAt.Row (same_node-true q r p i) (s i).cell), ap (λ (o : Owned). o.node) s)
-    go false p e = absurd (cc)
-
-pub in_row_of : (xs : List FlatNode) (r : NodeId) (o : Owned) → Has (cells_under xs r) o → (y : FlatNode) × Has xs y × (y.at ≡ FlatAt.Row r o.cell) × (y.node ≡ o.node)
-in_row_of xs r o h =
-    let y = filter-from (λ (x : FlatNode). owned_by x.node (row_cell r x.at)) xs o h in
-    let c = row_owned r y.0.node o y.0.at y.2 in
-    (y.0, y.1, c.0, c.1)
-
-row_of_in : (xs : List FlatNode) (r : NodeId) (x : FlatNode) (c : CellId) → Has xs x → x.at ≡ FlatAt.Row r c → Has (cells_under xs r) (owned c x.node)
-row_of_in xs r x c h e = has-filter_map (λ (x : FlatNode). owned_by x.node (row_cell r x.at)) xs x (owned c x.node) h
-    (ap (λ at. owned_by x.node (row_cell r at)) e ∙ ap (λ b. owned_by x.node (cond b (Some c) None)) (same_node-itself r))
 
 -- ## What is known of such an intent
 
@@ -104,7 +86,7 @@ module _ (D : Document) (G : NameCounters) (into : Option FieldId) (m : NodeId) 
       go None e = e
       go (Some to) e =
           let x = has-map put_at xs (record { node = y; to = to }) (put-has N y to e) in
-          absurd (none_some (D.nodes y) (ap D.nodes (sym (ap (λ (p : Put). p.node) x.2)) ∙ fresh x.0 x.1) known)
+          absurd (None-IsSome (D.nodes y) (ap D.nodes (sym (ap (λ (p : Put). p.node) x.2)) ∙ fresh x.0 x.1) known)
 
   -- a node that is put is new
   put_new : (y : NodeId) → IsSome (put_of N y) → (x : FlatNode) × Has xs x × (x.node ≡ y)
@@ -144,7 +126,7 @@ module _ (D : Document) (G : NameCounters) (into : Option FieldId) (m : NodeId) 
       let g = group_at-group N n a o h in
       elim (group_new g.group g.listed) [
         | inl e ↦ apart (sym g.node ∙ e)
-        | inr e ↦ none_some (D.nodes n) (ap D.nodes (sym g.node) ∙ e) known
+        | inr e ↦ None-IsSome (D.nodes n) (ap D.nodes (sym g.node) ∙ e) known
       ])
 
   new_row : (x : FlatNode) → Has xs x → group_at N x.node None ≡ cells_under xs x.node
@@ -152,7 +134,7 @@ module _ (D : Document) (G : NameCounters) (into : Option FieldId) (m : NodeId) 
     where
       is_row : (o : Owned) → Has (cells_under xs x.node) o → x.row ≡ true
       is_row o k =
-          let y = in_row_of xs x.node o k in
+          let y = cells_under_from xs x.node o k in
           let a = subst (IsUnderArray xs) y.2 (w.rows y.0 y.1) in
           ap (λ (z : FlatNode). z.row) (sym (one_named G.rev G.nodes xs G.nodes G.cells a.0 x w.counted a.1 h a.2)) ∙ a.3
 
@@ -160,7 +142,7 @@ module _ (D : Document) (G : NameCounters) (into : Option FieldId) (m : NodeId) 
       go [] e = no_members (group_at N x.node None) (λ o k.
           let g = group_at-group N x.node None o k in
           elim (w.groups g.group g.listed) [
-            | inl q ↦ none_some (D.nodes m) (ap D.nodes (sym q ∙ g.node) ∙ fresh x h) w.known
+            | inl q ↦ None-IsSome (D.nodes m) (ap D.nodes (sym q ∙ g.node) ∙ fresh x h) w.known
             | inr y ↦ (let own = own_cells y.0 g.group y.2 in subst (λ os. Has os o) (own.2 ∙ ap (cells_under xs) (sym own.0 ∙ g.node) ∙ e) g.cell)
           ]) ∙ sym e
       go (o ∷ os) e =
@@ -170,7 +152,7 @@ module _ (D : Document) (G : NameCounters) (into : Option FieldId) (m : NodeId) 
           group_found N w.fits.itself g (w.own_group x g h is) ∙ sym e
 
   no_rows : (x : FlatNode) → Has xs x → D.rows x.node ≡ []
-  no_rows x h = no_members (D.rows x.node) (λ o k. none_some (D.nodes x.node) (fresh x h) (w.sound.cells_known x.node o k).0)
+  no_rows x h = no_members (D.rows x.node) (λ o k. None-IsSome (D.nodes x.node) (fresh x h) (w.sound.cells_known x.node o k).0)
 
   pub new_rows : (x : FlatNode) → Has xs x → E.rows x.node ≡ cells_under xs x.node
   new_rows x h = (λ i. new_row x h i ++ with_groups N x.node (no_rows x h i)) ∙ append-nil (cells_under xs x.node)
@@ -180,7 +162,7 @@ module _ (D : Document) (G : NameCounters) (into : Option FieldId) (m : NodeId) 
 
   full_new : (x : FlatNode) (o : Owned) → Has xs x → Has (cells_under xs x.node) o → is_cell o.cell (E.place o.node) ≡ true
   full_new x o h k =
-      let y = in_row_of xs x.node o k in
+      let y = cells_under_from xs x.node o k in
       let put : put_of N o.node ≡ Some (To.Cell o.cell) = ap (put_of N) (sym y.3) ∙ put_is y.0 y.1 ∙ ap (λ at. Some (to_at into at)) y.2 in
       ap (λ p. is_cell o.cell (place_after (with_names D N).row_of N p (D.place o.node))) put
       ∙ ap (λ r. is_cell o.cell (option_map_or (λ n. Spot.Row n o.cell) r Spot.Nowhere)) (row_of_new x o h k) ∙ same_cell-itself o.cell
@@ -223,7 +205,7 @@ module _ (D : Document) (G : NameCounters) (into : Option FieldId) (m : NodeId) 
     where
       not_cleared : (b : Bool) → clears N f ≡ b → clears N f ≡ false
       not_cleared false e = e
-      not_cleared true e = elim (w.clears_old f (clears-has fs f e)) [ inl q ↦ absurd (apart q) | inr q ↦ absurd (none_some (D.nodes f.node) q known) ]
+      not_cleared true e = elim (w.clears_old f (clears-has fs f e)) [ inl q ↦ absurd (apart q) | inr q ↦ absurd (None-IsSome (D.nodes f.node) q known) ]
 
       unput : (o : Option NodeId) → D.held f ≡ o → unless_put N o ≡ o
       unput None e = refl
@@ -235,7 +217,7 @@ module _ (D : Document) (G : NameCounters) (into : Option FieldId) (m : NodeId) 
           let v = filled_from f y e in
           elim (put_there v.0 f v.1 v.3) [
             | inl q ↦ absurd (apart (into_is f q))
-            | inr q ↦ absurd (none_some (D.nodes f.node) (new_field v.0 f v.1 q) known)
+            | inr q ↦ absurd (None-IsSome (D.nodes f.node) (new_field v.0 f v.1 q) known)
           ]
 
   pub old_node : (x : NodeId) (t : NodeType) → D.nodes x ≡ Some t → E.nodes x ≡ Some t
@@ -269,7 +251,7 @@ module _ (D : Document) (G : NameCounters) (into : Option FieldId) (m : NodeId) 
 
       empty : (o : Option NodeId) → D.held f ≡ o → unless_put N o ≡ None
       empty None q = refl
-      empty (Some x) q = absurd (none_some (D.nodes f.node) unknown (w.sound.held_known x f q).1)
+      empty (Some x) q = absurd (None-IsSome (D.nodes f.node) unknown (w.sound.held_known x f q).1)
 
       nothing : (b : Bool) → cond b None (unless_put N (D.held f)) ≡ Some y → ⊥
       nothing true q = cc
@@ -280,7 +262,7 @@ module _ (D : Document) (G : NameCounters) (into : Option FieldId) (m : NodeId) 
       go (Some x) p q =
           let v = filled_from f x p in
           elim (put_there v.0 f v.1 v.3) [
-            | inl r ↦ absurd (none_some (D.nodes m) (ap D.nodes (sym (into_is f r)) ∙ unknown) w.known)
+            | inl r ↦ absurd (None-IsSome (D.nodes m) (ap D.nodes (sym (into_is f r)) ∙ unknown) w.known)
             | inr r ↦ (v.0, v.1, r)
           ]
 
@@ -341,7 +323,7 @@ module _ (D : Document) (G : NameCounters) (into : Option FieldId) (m : NodeId) 
       go (Some g) i (FlatAt.Top d) a is f = inl (is_m g.node (into_is g i) (let c : Some g.node ≡ Some p = f in cc))
       go o i (FlatAt.Row r d) a is f =
           let z = subst (IsUnderArray xs) a (w.rows v h) in
-          let row = row_of_new z.0 (owned d v.node) z.1 (row_of_in xs z.0.node v d h (a ∙ ap (λ q. FlatAt.Row q d) (sym z.2))) in
+          let row = row_of_new z.0 (owned d v.node) z.1 (cells_under_has xs z.0.node v d h (a ∙ ap (λ q. FlatAt.Row q d) (sym z.2))) in
           let same = in_cell d z.0.node p row f in
           inr (less_than j is.1.0 p z.0 z.1 same (sym same ∙ z.2 ∙ is.1.3) is.1.2)
       go o i (FlatAt.Register g) a is f =
@@ -377,7 +359,7 @@ module _ (D : Document) (G : NameCounters) (into : Option FieldId) (m : NodeId) 
   no_ring v h k e = go (above E v.node) refl e
     where
       new : IsOld v.node → ⊥
-      new old = none_some (D.nodes v.node) (fresh v h) old
+      new old = None-IsSome (D.nodes v.node) (fresh v h) old
 
       again : (u : FlatNode) (i : Has xs u) → (number u i).number < (number v h).number → IsOld v.node ⊎ IsLow (number u i).number v.node → ⊥
       again u i less (inl old) = new old

@@ -12,10 +12,11 @@ use Rattle.st_ids.specs.Listing.{Has, keyed}
 use Rattle.st_ids.specs.declared.names.NodeId.{NodeId}
 use Rattle.st_marks.specs.Document.{Document}
 use Rattle.st_marks.specs.LiveTree.{Shows, ShowsMembers, no_more_members, next_member, register}
-use Rattle.st_marks.proofs.Lookups.{both_true}
 use Rattle.st_edit_laws.specs.Edited.{same_key, without}
 use Rattle.st_edit_laws.proofs.Along.{same_key-true, same_key-itself}
 use Rattle.st_edit_laws.proofs.Keys.{other_keys, with_one}
+use Rattle.st_lemmas.proofs.Orders.{is_lt-Less}
+use Rattle.st_lemmas.proofs.Bools.{and-true}
 
 -- ## Members without those of a key
 
@@ -38,11 +39,6 @@ bytes_cmp = slice_cmp nat_cmp
 abbrev itself : List ℕ → List ℕ
 itself k = k
 
-less_is : (o : Ordering) → is_lt o ≡ true → o ≡ Less
-less_is Less e = refl
-less_is Equal e = cc
-less_is Greater e = cc
-
 -- keys that differ
 apart_less : (key k : List ℕ) → bytes_cmp key k ≡ Less → same_key k key ≡ false
 apart_less key k less = go (same_key k key) refl
@@ -64,8 +60,8 @@ AllAbove key ks = (k : List ℕ) → Has ks k → bytes_cmp key k ≡ Less
 
 above_all : (key : List ℕ) (ks : List (List ℕ)) → below_all bytes_cmp key (keyed itself ks) ≡ true → AllAbove key ks
 above_all key [] e k h = absurd h
-above_all key (l ∷ ks) e k (inl q) = subst (λ k. bytes_cmp key k ≡ Less) q (less_is (bytes_cmp key l) (both_true _ _ e).0)
-above_all key (l ∷ ks) e k (inr h) = above_all key ks (both_true (is_lt (bytes_cmp key l)) _ e).1 k h
+above_all key (l ∷ ks) e k (inl q) = subst (λ k. bytes_cmp key k ≡ Less) q (is_lt-Less (bytes_cmp key l) (and-true _ _ e).0)
+above_all key (l ∷ ks) e k (inr h) = above_all key ks (and-true (is_lt (bytes_cmp key l)) _ e).1 k h
 
 module _ (is_array : List ℕ → Bool) (D E : Document) (key : List ℕ) (top : NodeId) (new : Data) (shown : Shows is_array E top new) where
   abbrev Held : NodeId → Type 0
@@ -86,7 +82,7 @@ module _ (is_array : List ℕ → Bool) (D E : Document) (key : List ℕ) (top :
   members_with (next_member n m k d ks ms p a s) rising held kept = go (bytes_cmp key k) refl (members_with s parts.1 held kept)
     where
       parts : (below_all bytes_cmp k (keyed itself ks) ≡ true) × (is_sorted bytes_cmp (keyed itself ks) ≡ true)
-      parts = both_true (below_all bytes_cmp k (keyed itself ks)) _ rising
+      parts = and-true (below_all bytes_cmp k (keyed itself ks)) _ rising
 
       top_held : E.held (register n key) ≡ Some top
       top_held = held key ∙ ap (λ b. cond b (Some top) (D.held (register n key))) (same_key-itself key)

@@ -12,7 +12,6 @@ use Rattle.st_ids.specs.declared.names.Key.{Key}
 use Rattle.st_ids.specs.declared.names.NodeId.{NodeId}
 use Rattle.st_ids.specs.declared.names.Place.{Place}
 use Rattle.st_ids.proofs.Orders.{same_field-true, same_field-itself}
-use Rattle.st_tree.specs.declared.edit.EditFault.{EditFault}
 use Rattle.st_tree.specs.declared.edit.EditFault.TheVariants.{Inside, NoNode, Range}
 use Rattle.st_schema.specs.Schema.{SchemaView, is_sound}
 use Rattle.st_schema.specs.declared.names.FieldRule.{FieldRule}
@@ -27,14 +26,13 @@ use Rattle.st_marks.specs.Intent.{Fits}
 use Rattle.st_marks.specs.CarryOut.{full}
 use Rattle.st_marks.specs.Verdict.{IsVerdict}
 use Rattle.st_marks.specs.LiveTree.{Shows, owners_shown, register, live_slots}
-use Rattle.st_marks.proofs.Lookups.{both_true}
-use Rattle.st_marks.proofs.Members.{true-false, has-any}
+use Rattle.st_marks.proofs.Members.{has-any}
 use Rattle.st_edits.specs.Paths.{nodes_below_path, child, field_at, items_from, nodes_on_path, row_length, or_refuse, walk_from, and_then}
 use Rattle.st_edits.specs.Resolve.{require, is_inside, is_row, is_there, may_move, move, intent_to_move, moved_to_field, moved_to_row, rule_for, nodes_taken, takes_kind, walk}
 use Rattle.st_edits.specs.declared.names.NameCounters.{NameCounters}
 use Rattle.st_edits.specs.declared.names.Takes.TheVariants as field
-use Rattle.st_edits.proofs.Fits.{passed, found}
-use Rattle.st_edits.proofs.MoveFits.{CellsFresh, move_fits}
+use Rattle.st_edits.proofs.Fits.{passed, found, has_take, has_drop}
+use Rattle.st_edits.proofs.MoveFits.{CellsFresh, move_fits, asked}
 use Rattle.st_edit_laws.specs.Alike.{IsFrom, AreAlikeAt}
 use Rattle.st_edit_laws.specs.Edited.{TellsRows, at_path, same_key, with_items, without_items, without_key, is_row_key}
 use Rattle.st_edit_laws.specs.Moved.{index_after, inside, moved_in, path_after, row_items, same_path, taken_from, taken_here, target_index, target_path, with_first, with_taken, without_taken}
@@ -48,9 +46,10 @@ use Rattle.st_edit_laws.proofs.Gap.{cut_at}
 use Rattle.st_edit_laws.proofs.Looked.{StandsAsTyped, member_seen, node_seen, row_seen, stands_typed}
 use Rattle.st_edit_laws.proofs.Parted.{from_before, parted, parted_row, parted_sound, unless_among}
 use Rattle.st_edit_laws.proofs.Removed.{items_in, taken_from as taken_part}
-use Rattle.st_edit_laws.proofs.Rows.{among, filter_all, has-among, not-among, shown_drop, shown_take, without_part, has_take, has_drop}
+use Rattle.st_edit_laws.proofs.Rows.{among, filter_all, has-among, not-among, shown_drop, shown_take, without_part}
 use Rattle.st_edit_laws.proofs.Ruled.{ruled_key, ruled_kind}
 use Rattle.st_edit_laws.proofs.Ways.{one_path, path_same, walks, walks_after}
+use Rattle.st_lemmas.proofs.Bools.{not-true, and-true, true-false}
 
 -- ## What stands above the target
 
@@ -313,14 +312,6 @@ single [] k e f = absurd (omega (arith, e, f))
 single (x ∷ []) k e f = (x, refl)
 single (x ∷ (y ∷ ns)) k e f = absurd (omega (arith, e, f))
 
-asked : (b : Bool) (e : EditFault) (u : Unit {0}) → require b e ≡ Ok u → b ≡ true
-asked true e u h = refl
-asked false e u h = cc
-
-not_true : (b : Bool) → not b ≡ true → b ≡ false
-not_true true e = cc
-not_true false e = refl
-
 pub record IsMove (D : Document) (s : SchemaView) (G : NameCounters) (at : List Place) (key : Key) (index count : ℕ) (to : List Place) (to_key : Key) (to_index : ℕ) (N : Intent) : Type 0 where
   pub node : NodeId
   pub way : walk D at ≡ Ok node
@@ -360,7 +351,7 @@ is_move D s G at key index count to to_key to_index N e =
       nodes = ns.0;
       taken_nodes = ns.1;
       there_is = asked (is_there D m.0 target.0.kind to_index count) Range range.0 range.1;
-      outside = not_true (is_inside D to ns.0) (asked (not (is_inside D to ns.0)) Inside inside_not.0 inside_not.1);
+      outside = not-true (is_inside D to ns.0) (asked (not (is_inside D to ns.0)) Inside inside_not.0 inside_not.1);
       intent = is;
     }
 
@@ -381,7 +372,7 @@ module _ (D : Document) (s : SchemaView) (G : NameCounters) (at : List Place) (k
       go true h g =
           let x = passed (or_refuse (D.held (field_at w.node key)) Range) (λ (n : NodeId). Ok (n ∷ [])) w.nodes g in
           let is : x.0 ∷ [] ≡ w.nodes = cc in
-          let test = (both_true (index == 0) (count == 1) h).1 in
+          let test = (and-true (index == 0) (count == 1) h).1 in
           let one : count ≡ 1 = grind (arith, nat_tests) in
           ap length (sym is) ∙ sym one
   many_taken Sequence f = go (nat_le (index + count) (row_length D w.node)) refl f
@@ -401,7 +392,7 @@ module _ (D : Document) (s : SchemaView) (G : NameCounters) (at : List Place) (k
 
   one_there : w.target_rule.kind ≡ Optional → count ≡ 1
   one_there q =
-      let both = both_true (to_index == 0) (count == 1) (ap (λ k. is_there D w.target k to_index count) (sym q) ∙ w.there_is) in
+      let both = and-true (to_index == 0) (count == 1) (ap (λ k. is_there D w.target k to_index count) (sym q) ∙ w.there_is) in
       let test = both.1 in
       grind (arith, nat_tests)
 
@@ -447,7 +438,7 @@ module _ (D : Document) (s : SchemaView) (G : NameCounters) (at : List Place) (k
         go true h g =
             let x = passed (or_refuse (D.held (field_at w.node key)) Range) (λ (n : NodeId). Ok (n ∷ [])) w.nodes g in
             let is : x.0 ∷ [] ≡ w.nodes = cc in
-            let test = (both_true (index == 0) (count == 1) h).1 in
+            let test = (and-true (index == 0) (count == 1) h).1 in
             let one : count ≡ 1 = grind (arith, nat_tests) in
             subst Goes is
             (field_departs is_array D sound typed w.node w.target x.0 at key index count to d t.0 t.1 (t.2 is_array schema tells ∙ ap is_row q) (ruled_key field.Open D s w.node key w.source_rule schema w.source_ruled ∙ ap is_row q) w.way w.target_way

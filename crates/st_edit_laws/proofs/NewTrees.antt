@@ -1,12 +1,11 @@
 -- A document that has the nodes of new trees, as their list says, shows those trees.
-use Rattle.std.proofs.Common.{◌≡◌, ℕ, ◌+◌, ◌<◌, ◌≤◌, Bool, true, false, cond, not, ◌&&◌, List, [], ◌∷◌, ◌++◌, map, Option, Some, None, is_some, refl, sym, ap, ◌∙◌, subst, arith, append-nil, inl, inr, ◌⊎◌}
+use Rattle.std.proofs.Common.{◌≡◌, ℕ, ◌+◌, ◌<◌, ◌≤◌, Bool, true, false, cond, not, List, [], ◌∷◌, ◌++◌, map, Option, Some, None, is_some, refl, sym, ap, ◌∙◌, subst, arith, append-nil, inl, inr, ◌⊎◌}
 use Rattle.std.specs.List.{cons_option, list_all}
 use Rattle.std.specs.Ordering.{nat_cmp, is_lt}
 use Rattle.std.specs.declared.cmp.Ordering.{Ordering}
-use Rattle.std.specs.declared.cmp.Ordering.TheVariants.{Less, Equal, Greater}
+use Rattle.std.specs.declared.cmp.Ordering.TheVariants.{Less}
 use Rattle.std.specs.Cmp.Lexicographic.{slice_cmp, nat_list_cmp_total}
 use Rattle.std.specs.FinMap.Entries.{find, below_all, is_sorted}
-use Rattle.std.proofs.lemmas.List.Folds.{list_all-append}
 use Rattle.serde_json.specs.Data.{object}
 use Rattle.st_ids.specs.Listing.{Has, item_of, keyed}
 use Rattle.st_ids.specs.Order.{same_node}
@@ -29,13 +28,15 @@ use Rattle.st_schema.specs.declared.names.Form.TheVariants.{Array, Map, Object}
 use Rattle.st_marks.specs.declared.intents.Owned.{Owned}
 use Rattle.st_marks.specs.Document.{Document, content}
 use Rattle.st_marks.specs.LiveTree.{Shows, shows_leaf, shows_row, shows_registers, ShowsItems, no_more_items, next_item, ShowsMembers, no_more_members, next_member, owners_shown, register, key_at, leaf_data, one_member}
-use Rattle.st_marks.proofs.Lookups.{both_true}
-use Rattle.st_marks.proofs.Members.{true-false, has-append, append_left, append_right}
+use Rattle.st_marks.proofs.Members.{has-append, append_left, append_right}
 use Rattle.st_edits.specs.New.{owned_by, row_cell, cells_under}
 use Rattle.st_opening.proofs.PreorderNames.{same_number}
 use Rattle.st_edits.specs.ArrayTypes.{is_array_form}
 use Rattle.st_edit_laws.specs.Edited.{TellsRows, same_key}
 use Rattle.st_edit_laws.proofs.Along.{same_key-true, same_key-itself}
+use Rattle.st_schema.proofs.AllowedForm.{all-parts}
+use Rattle.st_lemmas.proofs.Bools.{and-both, and-true, true-false}
+use Rattle.st_lemmas.proofs.Orders.{is_lt-Less}
 
 -- ## Beneath which node a place is
 
@@ -174,40 +175,32 @@ bytes_cmp = slice_cmp nat_cmp
 abbrev itself : List ℕ → List ℕ
 itself k = k
 
-less_is : (o : Ordering) → is_lt o ≡ true → o ≡ Less
-less_is Less e = refl
-less_is Equal e = cc
-less_is Greater e = cc
-
 abbrev Rise : List ℕ → List ℕ → Bool → Bool → Fields → Type 0
 Rise before key row single rest = (row ≡ false) × (single ≡ true) × (bytes_cmp before key ≡ Less) × (keys_rise key rest ≡ true)
 
 rise_parts : (before key : List ℕ) (row : Bool) (items : Nodes) (rest : Fields) → keys_rise before (field key row items rest) ≡ true → Rise before key row (is_single items) rest
 rise_parts before key row items rest e =
-    let a = both_true (not row) _ e in
-    let b = both_true (is_single items) _ a.1 in
-    let c = both_true (is_lt (bytes_cmp before key)) _ b.1 in
-    (off row a.0, b.0, less_is (bytes_cmp before key) c.0, c.1)
+    let a = and-true (not row) _ e in
+    let b = and-true (is_single items) _ a.1 in
+    let c = and-true (is_lt (bytes_cmp before key)) _ b.1 in
+    (off row a.0, b.0, is_lt-Less (bytes_cmp before key) c.0, c.1)
   where
     off : (b : Bool) → not b ≡ true → b ≡ false
     off true h = cc
     off false h = refl
-
-both : (a b : Bool) → a ≡ true → b ≡ true → (a && b) ≡ true
-both a b e f = rw (e, f) refl
 
 below_keys : (b before : List ℕ) (fs : Fields) → keys_rise before fs ≡ true → ((k : List ℕ) → bytes_cmp before k ≡ Less → bytes_cmp b k ≡ Less) → below_all bytes_cmp b (keyed itself (keys_of fs)) ≡ true
 below_keys b before no_fields e less = refl
 below_keys b before (field key row items rest) e less =
     let r = rise_parts before key row items rest e in
     let here = less key r.2 in
-    both (is_lt (bytes_cmp b key)) _ (ap is_lt here) (below_keys b key rest r.3 (λ k l. nat_list_cmp_total.trans b key k here l))
+    and-both (is_lt (bytes_cmp b key)) _ (ap is_lt here) (below_keys b key rest r.3 (λ k l. nat_list_cmp_total.trans b key k here l))
 
 rising_keys : (before : List ℕ) (fs : Fields) → keys_rise before fs ≡ true → is_sorted bytes_cmp (keyed itself (keys_of fs)) ≡ true
 rising_keys before no_fields e = refl
 rising_keys before (field key row items rest) e =
     let r = rise_parts before key row items rest e in
-    both (below_all bytes_cmp key (keyed itself (keys_of rest))) _ (below_keys key key rest r.3 (λ k l. l)) (rising_keys key rest r.3)
+    and-both (below_all bytes_cmp key (keyed itself (keys_of rest))) _ (below_keys key key rest r.3 (λ k l. l)) (rising_keys key rest r.3)
 
 key_found : (k : List ℕ) (ks : List (List ℕ)) → Has ks k → find bytes_cmp k (keyed itself ks) ≡ Some k
 key_found k [] h = absurd h
@@ -304,9 +297,6 @@ body_is : (before : List ℕ) (fs : Fields) → keys_rise before fs ≡ true →
 body_is before no_fields e = refl
 body_is before (field key true items rest) e = cc
 body_is before (field key false items rest) e = refl
-
-pub split_all : (a b : List Bool) → list_all (λ ok. ok) (a ++ b) ≡ true → (list_all (λ ok. ok) a ≡ true) × (list_all (λ ok. ok) b ≡ true)
-split_all a b e = both_true (list_all (λ ok. ok) a) (list_all (λ ok. ok) b) (sym (list_all-append (λ ok. ok) a b) ∙ e)
 
 -- ## A tree and what follows it in a list
 
@@ -441,11 +431,11 @@ module _ (s : SchemaView) (is_array : List ℕ → Bool) (tells : TellsRows is_a
   by_form n c ty fs at None e fit h own rowed keyed = cc
   by_form n c ty fs at (Some (Array types)) e fit h own rowed keyed = row_shown n c ty fs at (tells ty ∙ ap is_array_form e) fit h own rowed
   by_form n c ty fs at (Some (Map types)) e fit h own rowed keyed =
-      let rises = (both_true (keys_rise [] fs) _ fit).0 in
+      let rises = (and-true (keys_rise [] fs) _ fit).0 in
       let k = keyed rises in
       keyed_shown n c ty fs at (tells ty ∙ ap is_array_form e) rises h own k.0 k.1
   by_form n c ty fs at (Some (Object defs)) e fit h own rowed keyed =
-      let rises = (both_true (keys_rise [] fs) _ fit).0 in
+      let rises = (and-true (keys_rise [] fs) _ fit).0 in
       let k = keyed rises in
       keyed_shown n c ty fs at (tells ty ∙ ap is_array_form e) rises h own k.0 k.1
 
@@ -454,8 +444,8 @@ module _ (s : SchemaView) (is_array : List ℕ → Bool) (tells : TellsRows is_a
         → Shows is_array E (node_named rev n) (tree_data t)
     tree_shown types at n c (node ty (Some v) fs) ok h own = subst (Shows is_array E (node_named rev n)) (leaf_same v) (shows_leaf (node_named rev n) ty v (w.node_is (top_of rev at n (node ty (Some v) fs)) h))
     tree_shown types at n c (node ty None fs) ok h own =
-        let parts = both_true (node_fits s types ty None fs) _ ok in
-        by_form n c ty fs at (form_of s.types ty) refl (both_true _ (is_as_typed (form_of s.types ty) ty None fs) parts.0).1 h own
+        let parts = and-true (node_fits s types ty None fs) _ ok in
+        by_form n c ty fs at (form_of s.types ty) refl (and-true _ (is_as_typed (form_of s.types ty) ty None fs) parts.0).1 h own
         (one_field_shown (form_of s.types ty) n (n + 1) c fs parts.1 (omega arith) (own_fields rev xs n c fs own))
         (λ rises. fields_shown (form_of s.types ty) [] n (n + 1) c fs parts.1 rises (omega arith) (top_of rev at n (node ty None fs)) h refl (own_fields rev xs n c fs own))
 
@@ -465,7 +455,7 @@ module _ (s : SchemaView) (is_array : List ℕ → Bool) (tells : TellsRows is_a
     one_field_shown form owner n c no_fields ok less own = tt
     one_field_shown form owner n c (field key false items rest) ok less own = tt
     one_field_shown form owner n c (field key true items rest) ok less own =
-        items_shown (types_under form key) owner key n c items (split_all (items_verdicts s (types_under form key) items) (fields_verdicts s form rest) ok).0 less
+        items_shown (types_under form key) owner key n c items (all-parts (items_verdicts s (types_under form key) items) (fields_verdicts s form rest) ok).0 less
         (own_left rev xs (items_listed rev owner key true n c items) (fields_listed rev owner (n + item_count items) (c + item_cells true items) rest) n (n + (item_count items + field_count rest)) n (n + item_count items) (omega arith) (omega arith)
         (outside_one rev (fields_listed rev owner (n + item_count items) (c + item_cells true items) rest) owner (n + item_count items) (n + item_count items + field_count rest) n (n + item_count items) less (inr (omega arith))
         (fields_under rev owner (n + item_count items) (c + item_cells true items) rest)) own)
@@ -479,7 +469,7 @@ module _ (s : SchemaView) (is_array : List ℕ → Bool) (tells : TellsRows is_a
     fields_shown form before owner n c (field key false (first t (first u ts)) rest) ok rises less z h same own = cc
     fields_shown form before owner n c (field key false (first t no_nodes) rest) ok rises less z h same own =
         let r = rise_parts before key false (first t no_nodes) rest rises in
-        let oks = split_all (verdicts s (types_under form key) t ++ []) (fields_verdicts s form rest) ok in
+        let oks = all-parts (verdicts s (types_under form key) t ++ []) (fields_verdicts s form rest) ok in
         let f = register (node_named rev owner) key in
         let at = FlatAt.Register f in
         let here = listed rev at n (c + 0) t ++ [] in
@@ -498,14 +488,14 @@ module _ (s : SchemaView) (is_array : List ℕ → Bool) (tells : TellsRows is_a
             | inr j ↦ rest_shown.0 k j
           ]),
           next_member (node_named rev owner) (node_named rev n) key (tree_data t) (keys_of rest) (members_data rest) held
-              (tree_shown (types_under form key) at n (c + 0) t (split_all (verdicts s (types_under form key) t) [] oks.0).0 tree.0 tree.1) rest_shown.1,
+              (tree_shown (types_under form key) at n (c + 0) t (all-parts (verdicts s (types_under form key) t) [] oks.0).0 tree.0 tree.1) rest_shown.1,
         )
 
     items_shown : (types : List (List ℕ)) (owner : ℕ) (key : List ℕ) (n c : ℕ) (ts : Nodes) → Conforming (items_verdicts s types ts) → owner < n → Own rev xs (items_listed rev owner key true n c ts) n (n + item_count ts)
         → ShowsItems is_array E (item_nodes rev n ts) (trees_data ts)
     items_shown types owner key n c no_nodes ok less own = no_more_items
     items_shown types owner key n c (first t ts) ok less own =
-        let oks = split_all (verdicts s types t) (items_verdicts s types ts) ok in
+        let oks = all-parts (verdicts s types t) (items_verdicts s types ts) ok in
         let at = FlatAt.Row (node_named rev owner) (cell_named rev c) in
         let later = items_listed rev owner key true (n + node_count t) (c + (1 + cell_count t)) ts in
         let all_later = items_under rev owner key true (n + node_count t) (c + (1 + cell_count t)) ts in
@@ -519,7 +509,7 @@ module _ (s : SchemaView) (is_array : List ℕ → Bool) (tells : TellsRows is_a
   pub tops_shown : (types : List (List ℕ)) (n c : ℕ) (ts : Nodes) → Conforming (items_verdicts s types ts) → Own rev xs (tops_listed rev n c ts) n (n + item_count ts) → ShowsItems is_array E (item_nodes rev n ts) (trees_data ts)
   tops_shown types n c no_nodes ok own = no_more_items
   tops_shown types n c (first t ts) ok own =
-      let oks = split_all (verdicts s types t) (items_verdicts s types ts) ok in
+      let oks = all-parts (verdicts s types t) (items_verdicts s types ts) ok in
       let tree = first_top rev xs n c t ts n (n + (node_count t + item_count ts)) (omega arith) (omega arith) own in
       next_item (node_named rev n) (tree_data t) (item_nodes rev (n + node_count t) ts) (trees_data ts) (tree_shown types (FlatAt.Top (cell_named rev c)) n (c + 1) t oks.0 tree.0 tree.1)
       (tops_shown types (n + node_count t) (c + (1 + cell_count t)) ts oks.1 (later_tops rev xs n c t ts own))

@@ -23,17 +23,17 @@ use Rattle.st_marks.specs.Document.{Document, NodeType, IsSoundInForm, is_cell, 
 use Rattle.st_marks.specs.LiveTree.{Shows, owners_shown}
 use Rattle.st_marks.proofs.Members.{distinct-has, has-all}
 use Rattle.st_opening.specs.Start.{cell_at, first_said, held_at, place_at, spot_at, start_of, type_at}
-use Rattle.st_opening.proofs.StartSound.{start_sound}
+use Rattle.st_opening.proofs.StartSound.{start_sound, at_register}
 use Rattle.st_edits.specs.New.{cells_under, owned_by, row_cell}
-use Rattle.st_edits.proofs.Numbered.{filter-from}
 use Rattle.st_opening.proofs.PreorderNames.{same_number}
 use Rattle.st_edit_laws.specs.Edited.{TellsRows}
 use Rattle.st_edit_laws.specs.Typed.{IsAsTyped}
-use Rattle.st_edit_laws.proofs.Made.{in_row_of}
 use Rattle.st_edit_laws.proofs.Named.{own_all}
 use Rattle.st_edit_laws.proofs.NewTrees.{Keeps, no_under, own_tree, tree_shown}
 use Rattle.st_edit_laws.proofs.Rows.{all_full}
 use Rattle.st_edit_laws.proofs.TypedTrees.{above_at, tree_own, tree_owner}
+use Rattle.st_ids.proofs.Shared.{filter-from}
+use Rattle.st_edits.proofs.NewFits.{cells_under_from}
 
 -- ## Names are counted up
 
@@ -129,12 +129,6 @@ held_place f n m (FlatAt.Top c) e = absurd (cc)
 held_place f n m (FlatAt.Row r c) e = absurd (cc)
 held_place f n m (FlatAt.Register g) e = ap (λ (h : FieldId). Some h.node) (same_field-true g f (if_some (same_field g f) n m e).0)
 
-spot_register : (at : FlatAt) (f : FieldId) → spot_at at ≡ Spot.Register f → at ≡ FlatAt.Register f
-spot_register FlatAt.Root f e = absurd (cc)
-spot_register (FlatAt.Top c) f e = absurd (cc)
-spot_register (FlatAt.Row r c) f e = absurd (cc)
-spot_register (FlatAt.Register g) f e = let q : g ≡ f = cc in ap (λ x. FlatAt.Register x) q
-
 -- ## The opening document
 
 module _ (s : SchemaView) (is_array : List ℕ → Bool) (tells : TellsRows is_array s) (types : List (List ℕ)) (t : Node) (schema : List ℕ) (ok : conforms s types t ≡ true) (few : node_count t < 2 ^ 32) where
@@ -170,7 +164,7 @@ module _ (s : SchemaView) (is_array : List ℕ → Bool) (tells : TellsRows is_a
   kept : Keeps E xs
   kept = record {
     node_is = node_is;
-    row_is = λ z h. ap (λ os. owners_shown (map (slot E) os)) (rows_are z.node) ∙ all_full E (cells_under xs z.node) (λ o k. (let y = in_row_of xs z.node o k in
+    row_is = λ z h. ap (λ os. owners_shown (map (slot E) os)) (rows_are z.node) ∙ all_full E (cells_under xs z.node) (λ o k. (let y = cells_under_from xs z.node o k in
         ap (is_cell o.cell) (ap E.place (sym y.3) ∙ place_is y.0 y.1 ∙ ap spot_at y.2) ∙ same_cell-itself o.cell));
     in_register = λ v z f h k e own. (sound.one_held v.node f).1 (place_is v k ∙ ap spot_at e);
     from_register = λ z f y h own e. placed f y (first_said (place_at y) xs) refl ((sound.one_held y f).0 e);
@@ -180,7 +174,7 @@ module _ (s : SchemaView) (is_array : List ℕ → Bool) (tells : TellsRows is_a
       placed f y None q e = absurd (cc)
       placed f y (Some spot) q e =
           let v = said_from (place_at y) xs spot q in
-          (v.0, v.1, spot_register v.0.at f ((if_some (same_node v.0.node y) (spot_at v.0.at) spot v.2).1 ∙ e))
+          (v.0, v.1, at_register v.0.at f ((if_some (same_node v.0.node y) (spot_at v.0.at) spot v.2).1 ∙ e))
 
   pub opening_seen : Shows is_array E root (tree_data t)
   opening_seen =

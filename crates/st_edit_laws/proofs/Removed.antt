@@ -19,7 +19,7 @@ use Rattle.st_marks.specs.declared.places.Slot.{Slot}
 use Rattle.st_marks.specs.declared.places.Spot.{Spot}
 use Rattle.st_marks.specs.declared.verdicts.Verdict.{Verdict}
 use Rattle.st_marks.specs.Document.{Document, NodeType, IsSoundInForm, above, climb, node_of, content, is_cell, slot, root}
-use Rattle.st_marks.specs.Intent.{put_of, put_in, is_register}
+use Rattle.st_marks.specs.Intent.{put_of, is_register}
 use Rattle.st_marks.specs.CarryOut.{full, with_groups, with_names, place_after, unless_cleared, unless_put}
 use Rattle.st_marks.specs.Verdict.{IsVerdict}
 use Rattle.st_marks.specs.LiveTree.{Shows, owners_shown, register, live_slots}
@@ -27,15 +27,16 @@ use Rattle.st_edits.specs.Paths.{items_from, row_length}
 use Rattle.st_edits.specs.Resolve.{remove, intent_to_remove, rule_for, walk, within_row}
 use Rattle.st_edits.specs.declared.names.NameCounters.{NameCounters}
 use Rattle.st_edits.specs.declared.names.Takes.TheVariants as field
-use Rattle.st_edits.proofs.Fits.{passed}
+use Rattle.st_edits.proofs.Fits.{passed, has_take, has_drop}
 use Rattle.st_edit_laws.specs.Alike.{AreAlikeAt}
 use Rattle.st_edit_laws.specs.Edited.{TellsRows, at_path, without_items}
 use Rattle.st_edit_laws.proofs.Along.{along, owners_live, owners_once}
 use Rattle.st_edit_laws.proofs.AtNode.{items_left}
 use Rattle.st_edit_laws.proofs.Beneath.{in_row as stands_in_row}
-use Rattle.st_edit_laws.proofs.Rows.{among, among-has, not-among, filter_all, without_part, owners_filtered, has_take, has_drop}
+use Rattle.st_edit_laws.proofs.Rows.{among, among-has, not-among, filter_all, without_part, owners_filtered}
 use Rattle.st_edit_laws.proofs.Sound.{last_in_effect}
 use Rattle.st_edit_laws.proofs.Ruled.{row_ruled}
+use Rattle.st_lemmas.proofs.Options.{option_or-None}
 
 abbrev nowhere : NodeId → Put
 nowhere n = record { node = n; to = To.Nowhere }
@@ -57,10 +58,6 @@ none_in (n ∷ ns) f = none_in ns f
 pub no_groups : (N : Intent) (n : NodeId) → ((a : _) → Rattle.st_marks.specs.Intent.group_at N n a ≡ []) → (os : List Owned) → with_groups N n os ≡ os
 no_groups N n none [] = refl
 no_groups N n none (o ∷ os) = ap (λ l. o ∷ (l ++ with_groups N n os)) (none (Some o.cell)) ∙ ap (λ l. o ∷ l) (no_groups N n none os)
-
-pub or_none : {A : Type 0} (o : Option A) → option_or o None ≡ o
-or_none None = refl
-or_none (Some x) = refl
 
 module _ (D : Document) (G : NameCounters) (sound : IsSoundInForm D) (m : NodeId) (ns : List NodeId) (in_m : (x : NodeId) → Has ns x → Has (owners_shown (content D m)) x) where
   abbrev N : Intent
@@ -121,7 +118,7 @@ module _ (D : Document) (G : NameCounters) (sound : IsSoundInForm D) (m : NodeId
       go (Some y) e = ap (λ b. cond b None (Some y)) (unput y e (among ns y) refl)
 
   pub nodes_are : (x : NodeId) → E.nodes x ≡ D.nodes x
-  nodes_are x = or_none (D.nodes x)
+  nodes_are x = option_or-None (D.nodes x)
 
   pub alike : (x : NodeId) → x ≢ m → AreAlikeAt D E x
   alike x apart = record { node = λ t e. nodes_are x ∙ e; row = other_row x apart; held = λ k. held_is (register x k) }

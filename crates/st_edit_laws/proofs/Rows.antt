@@ -1,5 +1,5 @@
 -- Lists of nodes and of what they show, cut and filtered.
-use Rattle.std.proofs.Common.{◌≡◌, ℕ, zero, suc, ◌+◌, Bool, true, false, cond, not, List, [], ◌∷◌, ◌++◌, map, take, drop, filter, drop-drop, take-append-drop, refl, sym, ap, ◌∙◌, subst, inl, inr, Option, Some, None, IsSome, append_assoc}
+use Rattle.std.proofs.Common.{◌≡◌, ℕ, zero, suc, ◌+◌, Bool, true, false, cond, not, List, [], ◌∷◌, ◌++◌, map, take, drop, filter, drop-drop, take-append-drop, refl, sym, ap, ◌∙◌, subst, inl, inr}
 use Rattle.std.specs.List.{list_any}
 use Rattle.serde_json.specs.Data.{Data}
 use Rattle.st_ids.specs.Listing.{Has, AreDistinct}
@@ -7,32 +7,12 @@ use Rattle.st_ids.specs.Order.{same_node}
 use Rattle.st_ids.specs.declared.names.NodeId.{NodeId}
 use Rattle.st_ids.proofs.Orders.{same_node-true, same_node-itself}
 use Rattle.st_marks.specs.declared.intents.Owned.{Owned}
-use Rattle.st_marks.specs.declared.places.Slot.{Slot}
 use Rattle.st_marks.specs.Document.{Document, is_cell, slot}
 use Rattle.st_marks.specs.LiveTree.{owners_shown}
 use Rattle.st_marks.proofs.Members.{any-has, has-any, distinct-between, distinct-right}
 use Rattle.st_edit_laws.proofs.Along.{AreShown}
 
 -- ## Members
-
-pub no_members : {A : Type 0} (xs : List A) → ((x : A) → Has xs x → ⊥) → xs ≡ []
-no_members [] out = refl
-no_members (x ∷ xs) out = absurd (out x (inl refl))
-
-pub has_take : {A : Type 0} (k : ℕ) (xs : List A) (x : A) → Has (take k xs) x → Has xs x
-has_take zero xs x h = absurd h
-has_take (suc k) [] x h = absurd h
-has_take (suc k) (y ∷ xs) x (inl e) = inl e
-has_take (suc k) (y ∷ xs) x (inr h) = inr (has_take k xs x h)
-
-pub has_drop : {A : Type 0} (k : ℕ) (xs : List A) (x : A) → Has (drop k xs) x → Has xs x
-has_drop zero xs x h = h
-has_drop (suc k) [] x h = absurd h
-has_drop (suc k) (y ∷ xs) x h = inr (has_drop k xs x h)
-
-pub none_some : {A : Type 0} (o : Option A) → o ≡ None → IsSome o → ⊥
-none_some None e h = cc
-none_some (Some x) e h = cc
 
 -- ## Filtered
 
@@ -133,10 +113,6 @@ owners_same D E (o ∷ os) h = λ i. cond (h o (inl refl) i) (o.node ∷ []) [] 
 pub all_full : (E : Document) (os : List Owned) → ((o : Owned) → Has os o → is_cell o.cell (E.place o.node) ≡ true) → owners_shown (map (slot E) os) ≡ map (λ (o : Owned). o.node) os
 all_full E [] h = refl
 all_full E (o ∷ os) h = (λ i. cond (h o (inl refl) i) (o.node ∷ []) [] ++ owners_shown (map (slot E) os)) ∙ ap (λ ns. o.node ∷ ns) (all_full E os (λ p k. h p (inr k)))
-
-pub owners_joined : (xs ys : List Slot) → owners_shown (xs ++ ys) ≡ owners_shown xs ++ owners_shown ys
-owners_joined [] ys = refl
-owners_joined (s ∷ xs) ys = ap (λ ns. cond s.full (s.node ∷ []) [] ++ ns) (owners_joined xs ys) ∙ sym (append_assoc (cond s.full (s.node ∷ []) []) (owners_shown xs) (owners_shown ys))
 
 -- ## What nodes show, cut and joined
 

@@ -1,9 +1,7 @@
 -- What it says of a node's form that the schema has a field of a kind there.
-use Rattle.std.proofs.Common.{◌≡◌, ◌≢◌, ◌==◌, suc, arith, Bool, true, false, cond, ◌&&◌, nat_le, List, [], ◌∷◌, map, length, Option, Some, None, option_map, option_and_then, Ok, Err, ℕ, refl, sym, ap, ◌∙◌, inl, inr}
+use Rattle.std.proofs.Common.{◌≡◌, ◌≢◌, ◌==◌, suc, arith, Bool, true, false, cond, ◌&&◌, nat_le, List, [], ◌∷◌, map, length, Option, Some, None, option_map, option_and_then, Ok, Err, ℕ, refl, sym, ap, ◌∙◌}
 use Rattle.std.specs.List.{list_all}
 use Rattle.std.proofs.lemmas.Bool.Decides.{nat_tests}
-use Rattle.std.specs.Map.{lookup}
-use Rattle.st_ids.specs.Listing.{Has}
 use Rattle.st_ids.specs.declared.names.Key.{Key}
 use Rattle.st_ids.specs.declared.names.NodeId.{NodeId}
 use Rattle.st_tree.specs.declared.edit.EditFault.TheVariants.{Kind}
@@ -15,28 +13,15 @@ use Rattle.st_schema.specs.declared.names.Form.TheVariants.{Array, Map, Object}
 use Rattle.st_schema.specs.declared.names.KindName.{KindName}
 use Rattle.st_schema.specs.declared.names.KindName.TheVariants.{Required, Optional, Sequence}
 use Rattle.st_marks.specs.Document.{Document, NodeType}
-use Rattle.st_marks.proofs.Lookups.{both_true}
 use Rattle.st_marks.proofs.Members.{first-has}
 use Rattle.st_edits.specs.Paths.{or_refuse}
 use Rattle.st_edits.specs.Resolve.{rule_at, rule_for, of_kind, takes_kind, is_row}
 use Rattle.st_edits.specs.declared.names.Takes.{Takes}
 use Rattle.st_edits.specs.declared.names.Takes.TheVariants as field
-use Rattle.st_edits.proofs.Fits.{passed, found, key_some, kind_taken}
+use Rattle.st_edits.proofs.Fits.{passed, found, key_some, kind_taken, looked_up, all_pass}
 use Rattle.st_edits.specs.ArrayTypes.{is_array_form}
 use Rattle.st_edit_laws.specs.Edited.{TellsRows}
-
-pub all_pass : {A : Type 0} (p : A → Bool) (xs : List A) (x : A) → list_all p xs ≡ true → Has xs x → p x ≡ true
-all_pass p [] x e h = absurd h
-all_pass p (y ∷ xs) x e (inl q) = ap p (sym q) ∙ (both_true (p y) (list_all p xs) e).0
-all_pass p (y ∷ xs) x e (inr h) = all_pass p xs x (both_true (p y) (list_all p xs) e).1 h
-
-pub looked_up : {K X : Type 0} (test : K → Bool) (es : List (K × X)) (x : X) → lookup test es ≡ Some x → Has (map (λ e. e.1) es) x
-looked_up test [] x e = cc
-looked_up {K} {X} test (d ∷ es) x e = go (test d.0) (λ f. looked_up test es x f) e
-  where
-    go : (b : Bool) → (lookup test es ≡ Some x → Has (map (λ (e : K × X). e.1) es) x) → cond b (Some d.1) (lookup test es) ≡ Some x → Has (map (λ (e : K × X). e.1) (d ∷ es)) x
-    go true rest f = let q : d.1 ≡ x = cc in inl q
-    go false rest f = inr (rest f)
+use Rattle.st_lemmas.proofs.Bools.{and-true}
 
 -- ## Which form has a field of a kind
 
@@ -59,9 +44,9 @@ form_row names (Object fields) key rule sound e = go (declared fields key) refl 
     go None h g = cc
     go (Some d) h g =
         let w = first-has (λ (f : FieldDef). same f.key.0 key) fields d h in
-        let all = (both_true (nat_le (length fields) 64) (list_all (field_is_sound names) fields && defs_rise [] fields) sound).1 in
-        let own = all_pass (field_is_sound names) fields d (both_true (list_all (field_is_sound names) fields) (defs_rise [] fields) all).0 w.0 in
-        let kind = (both_true (is_single_kind d.kind) _ (both_true (is_key d.key.0) _ own).1).0 in
+        let all = (and-true (nat_le (length fields) 64) (list_all (field_is_sound names) fields && defs_rise [] fields) sound).1 in
+        let own = all_pass (field_is_sound names) fields d (and-true (list_all (field_is_sound names) fields) (defs_rise [] fields) all).0 w.0 in
+        let kind = (and-true (is_single_kind d.kind) _ (and-true (is_key d.key.0) _ own).1).0 in
         let q : record { kind = d.kind; types = d.types } ≡ rule = cc in
         single d.kind kind ∙ ap (λ (r : FieldRule). is_row r.kind) q
 
@@ -69,7 +54,7 @@ type_row : (s : SchemaView) (ty key : List ℕ) (rule : FieldRule) → is_sound 
 type_row s ty key rule sound e = go (form_of s.types ty) refl e
   where
     forms : forms_are_sound s.types ≡ true
-    forms = (both_true (forms_are_sound s.types) _ (both_true (names_are_sound (type_names s.types)) _ sound).1).0
+    forms = (and-true (forms_are_sound s.types) _ (and-true (names_are_sound (type_names s.types)) _ sound).1).0
 
     go : (o : Option Form) → form_of s.types ty ≡ o → option_and_then (λ (form : Form). field_in form key) o ≡ Some rule → is_array_form o ≡ is_row rule.kind
     go None h f = cc

@@ -1,5 +1,5 @@
 -- What edits mean is typed.
-use Rattle.std.proofs.Common.{◌≡◌, ◌≢◌, ℕ, ◌+◌, ◌&&◌, ◌||◌, not, nat_le, length, Bool, true, false, cond, List, [], ◌∷◌, map, Option, Some, None, IsSome, is_some, option_map, option_and_then, Result, Ok, Err, refl, sym, ap, ◌∙◌, subst, inl, inr, ◌⊎◌}
+use Rattle.std.proofs.Common.{◌≡◌, ℕ, not, nat_le, length, Bool, true, false, cond, List, [], ◌∷◌, map, Option, Some, None, IsSome, is_some, option_map, option_and_then, Ok, refl, sym, ap, ◌∙◌, subst, inl, inr}
 use Rattle.std.specs.List.{find, list_all}
 use Rattle.std.specs.Cmp.Lexicographic.{nat_list_eq_equiv}
 use Rattle.std.specs.Map.{lookup}
@@ -30,8 +30,7 @@ use Rattle.st_marks.specs.declared.intents.To.{To}
 use Rattle.st_marks.specs.Document.{Document, NodeType, IsSoundInForm}
 use Rattle.st_marks.specs.Intent.{Fits, new_type}
 use Rattle.st_marks.specs.CarryOut.{with_names}
-use Rattle.st_marks.proofs.Lookups.{both_true}
-use Rattle.st_marks.proofs.Members.{true-false, first-has, has-any, has-map}
+use Rattle.st_marks.proofs.Members.{first-has, has-any, has-map}
 use Rattle.st_edits.specs.New.{cells_under, group_of, group_under, new_nodes, groups_under, to_at, top_cells}
 use Rattle.st_opening.specs.Start.{registers}
 use Rattle.st_edits.specs.Paths.{field_at, left_of, or_refuse}
@@ -39,10 +38,9 @@ use Rattle.st_edits.specs.Resolve.{cells_for, clear, insert, is_row, move, inten
 use Rattle.st_edits.specs.declared.names.NameCounters.{NameCounters}
 use Rattle.st_edits.specs.declared.names.Takes.{Takes}
 use Rattle.st_edits.specs.declared.names.Takes.TheVariants as field
-use Rattle.st_edits.proofs.Fits.{passed, found}
+use Rattle.st_edits.proofs.Fits.{passed, found, all_pass}
 use Rattle.st_edits.proofs.MoveFits.{CellsFresh}
-use Rattle.st_edits.proofs.NewFits.{made, insert_fits, put_fits, NodesFresh}
-use Rattle.st_edits.proofs.Numbered.{filter-from}
+use Rattle.st_edits.proofs.NewFits.{made, insert_fits, put_fits, NodesFresh, items_form, with_has}
 use Rattle.st_edit_laws.specs.Edited.{TellsRows}
 use Rattle.st_edit_laws.specs.Typed.{IsAsTyped, IsFieldType, IsLeafTyped, IsRowType, IsTypedIntent}
 use Rattle.st_edit_laws.proofs.Cleared.{is_clearing, is_need}
@@ -50,10 +48,13 @@ use Rattle.st_edit_laws.proofs.Filled.{all, is_setting, single_unrowed}
 use Rattle.st_edit_laws.proofs.Inserted.{filled, is_insertion}
 use Rattle.st_edit_laws.proofs.Made.{IsFilled, fresh, new_is, own_cells, put_there}
 use Rattle.st_edit_laws.proofs.Moves.{is_move}
-use Rattle.st_edit_laws.proofs.Named.{group_is, trees_form, with_has}
+use Rattle.st_edit_laws.proofs.Named.{group_is}
 use Rattle.st_edit_laws.proofs.Removed.{is_removal}
-use Rattle.st_edit_laws.proofs.Ruled.{all_pass, ruled_kind}
-use Rattle.st_edit_laws.proofs.TypedTrees.{HasOwner, IsOwnTyped, above_at, text_same, tops_own, tops_owner}
+use Rattle.st_edit_laws.proofs.Ruled.{ruled_kind}
+use Rattle.st_edit_laws.proofs.TypedTrees.{HasOwner, IsOwnTyped, above_at, tops_own, tops_owner}
+use Rattle.st_lemmas.proofs.Bools.{and-true, true-false}
+use Rattle.st_ids.proofs.Shared.{filter-from}
+use Rattle.st_schema.proofs.Forms.{text_same}
 
 -- ## A node with a field isn't a leaf
 
@@ -74,10 +75,10 @@ lookup_key {X} ty (d ∷ es) x e = go (same ty d.0) refl (λ f. lookup_key ty es
 -- no definition has a leaf's type
 no_leaf_form : (s : SchemaView) (v : Leaf) (form : Form) → is_sound s ≡ true → form_of s.types (leaf_type v) ≡ Some form → ⊥
 no_leaf_form s v form sound e =
-    let names = (both_true (names_are_sound (type_names s.types)) _ sound).0 in
-    let each = (both_true (is_distinct (type_names s.types)) (list_all is_type_name (type_names s.types)) (both_true (nat_le (length (type_names s.types)) 256) _ names).1).1 in
+    let names = (and-true (names_are_sound (type_names s.types)) _ sound).0 in
+    let each = (and-true (is_distinct (type_names s.types)) (list_all is_type_name (type_names s.types)) (and-true (nat_le (length (type_names s.types)) 256) _ names).1).1 in
     let name = all_pass is_type_name (type_names s.types) (leaf_type v) each (lookup_key (leaf_type v) s.types form e) in
-    let out = (both_true (is_key (leaf_type v)) (not (is_among (leaf_type v) leaf_types)) name).1 in
+    let out = (and-true (is_key (leaf_type v)) (not (is_among (leaf_type v) leaf_types)) name).1 in
     true-false out (ap not (has-any (λ u. same u (leaf_type v)) leaf_types (leaf_type v) (leaf_among v) (nat_list_eq_equiv.refl (leaf_type v))))
 
 unleafed : (takes : Takes) (D : Document) (s : SchemaView) (n : NodeId) (key : Key) (rule : FieldRule) → is_sound s ≡ true → rule_for takes D s n key ≡ Ok rule → (t : NodeType) → D.nodes n ≡ Some t → IsLeafTyped t → t.leaf ≡ None
@@ -218,7 +219,7 @@ module _ (is_array : List ℕ → Bool) (D : Document) (s : SchemaView) (G : Nam
       let w = is_insertion D s G at key index trees N e in
       let xs = named G trees in
       let fits = subst (Fits D) (sym w.intent) (insert_fits D s G at key index trees N sound nodes cells e) in
-      let all = filled D G w.node index trees sound nodes (ap is_some w.known) (trees_form s w.types trees w.allowed) fits in
+      let all = filled D G w.node index trees sound nodes (ap is_some w.known) (items_form s w.types trees w.allowed) fits in
       subst (IsTypedIntent is_array D) w.intent
       (trees_typed is_array D G None w.node xs (with_group (group_of w.node (left_of D w.node index) (top_cells xs)) (groups_under xs)) (registers xs) all
       (tops_own s is_array tells w.types G.rev G.nodes G.cells trees w.allowed) (tops_owner s is_array tells false w.types G.rev G.nodes G.cells trees w.allowed)
@@ -229,7 +230,7 @@ module _ (is_array : List ℕ → Bool) (D : Document) (s : SchemaView) (G : Nam
       let w = is_setting D s G at key tree N e in
       let xs = named G (first tree no_nodes) in
       let fits = subst (Fits D) (sym w.intent) (put_fits D s G at key tree N sound schema nodes cells e) in
-      let all_here = all D G w.node key tree sound nodes (ap is_some w.known) (trees_form s w.types (first tree no_nodes) w.allowed) fits in
+      let all_here = all D G w.node key tree sound nodes (ap is_some w.known) (items_form s w.types (first tree no_nodes) w.allowed) fits in
       let cleared = field_at w.node key ∷ registers xs in
       subst (IsTypedIntent is_array D) w.intent
       (trees_typed is_array D G (Some (field_at w.node key)) w.node xs (groups_under xs) cleared all_here (tops_own s is_array tells w.types G.rev G.nodes G.cells (first tree no_nodes) w.allowed)

@@ -1,7 +1,7 @@
 -- The nodes of trees that a schema allows are as typed.
 use Rattle.std.proofs.Common.{◌≡◌, ℕ, ◌+◌, Bool, true, false, List, [], ◌++◌, Option, Some, None, refl, sym, ap, ◌∙◌, subst, inl, inr, ◌⊎◌}
 use Rattle.std.specs.List.{list_all}
-use Rattle.std.specs.Cmp.Lexicographic.{same_text, slice_cmp}
+use Rattle.std.specs.Cmp.Lexicographic.{slice_cmp}
 use Rattle.st_ids.specs.Listing.{Has}
 use Rattle.st_ids.specs.declared.names.Leaf.{Leaf}
 use Rattle.st_ids.specs.declared.names.NodeId.{NodeId}
@@ -17,14 +17,12 @@ use Rattle.st_schema.specs.Conforms.{verdicts, fields_verdicts, items_verdicts, 
 use Rattle.st_schema.specs.Schema.{SchemaView, form_of, same}
 use Rattle.st_schema.specs.declared.names.Form.{Form}
 use Rattle.st_schema.specs.declared.names.Form.TheVariants.{Array, Map, Object}
-use Rattle.st_marks.proofs.Lookups.{both_true}
 use Rattle.st_marks.proofs.Members.{has-append, append_left, append_right}
 use Rattle.st_edits.specs.ArrayTypes.{is_array_form}
 use Rattle.st_edit_laws.specs.Edited.{TellsRows}
-use Rattle.st_edit_laws.proofs.NewTrees.{split_all}
-
-pub text_same : (a b : List ℕ) → same a b ≡ true → a ≡ b
-text_same a b e = same_text a b (sym e)
+use Rattle.st_schema.proofs.Forms.{text_same}
+use Rattle.st_lemmas.proofs.Bools.{and-true}
+use Rattle.st_schema.proofs.AllowedForm.{all-parts}
 
 -- a field is a row, or isn't
 abbrev HasKind : Bool → Fields → Type 0
@@ -42,7 +40,7 @@ rise_kind : (b : Bool) (before : List ℕ) (fs : Fields) → keys_rise before fs
 rise_kind b before no_fields e h = absurd h
 rise_kind b before (field key true items rest) e h = cc
 rise_kind b before (field key false items rest) e (inl q) = sym q
-rise_kind b before (field key false items rest) e (inr h) = rise_kind b key rest (both_true (is_lt (slice_cmp nat_cmp before key)) _ (both_true (is_single items) _ e).1).1 h
+rise_kind b before (field key false items rest) e (inr h) = rise_kind b key rest (and-true (is_lt (slice_cmp nat_cmp before key)) _ (and-true (is_single items) _ e).1).1 h
 
 none_kind : (b : Bool) (fs : Fields) → has_none fs ≡ true → HasKind b fs → ⊥
 none_kind b no_fields e h = h
@@ -50,18 +48,18 @@ none_kind b (field key row items rest) e h = cc
 
 -- what it says of a node that it has a field of a kind
 kind_form : (b : Bool) (form : Option Form) (ty : List ℕ) (leaf : Option Leaf) (fs : Fields) → is_as_typed form ty leaf fs ≡ true → HasKind b fs → (leaf ≡ None) × (is_array_form form ≡ b)
-kind_form b form ty (Some v) fs fit h = absurd (none_kind b fs (both_true (same ty (leaf_type v)) (has_none fs) fit).1 h)
+kind_form b form ty (Some v) fs fit h = absurd (none_kind b fs (and-true (same ty (leaf_type v)) (has_none fs) fit).1 h)
 kind_form b None ty None fs fit h = absurd (cc)
 kind_form b (Some (Array types)) ty None fs fit h = (refl, sym (row_alone_kind b fs fit h))
-kind_form b (Some (Map types)) ty None fs fit h = (refl, sym (rise_kind b [] fs (both_true (keys_rise [] fs) _ fit).0 h))
-kind_form b (Some (Object defs)) ty None fs fit h = (refl, sym (rise_kind b [] fs (both_true (keys_rise [] fs) _ fit).0 h))
+kind_form b (Some (Map types)) ty None fs fit h = (refl, sym (rise_kind b [] fs (and-true (keys_rise [] fs) _ fit).0 h))
+kind_form b (Some (Object defs)) ty None fs fit h = (refl, sym (rise_kind b [] fs (and-true (keys_rise [] fs) _ fit).0 h))
 
 first_kind : (fs : Fields) → has_array_fields fs ≡ true → HasKind true fs
 first_kind no_fields e = absurd (cc)
 first_kind (field key row items rest) e = inl e
 
 leaf_form : (form : Option Form) (ty : List ℕ) (leaf : Option Leaf) (fs : Fields) (v : Leaf) → is_as_typed form ty leaf fs ≡ true → leaf ≡ Some v → ty ≡ leaf_type v
-leaf_form form ty (Some u) fs v fit e = let q : u ≡ v = cc in text_same ty (leaf_type u) (both_true (same ty (leaf_type u)) (has_none fs) fit).0 ∙ ap leaf_type q
+leaf_form form ty (Some u) fs v fit e = let q : u ≡ v = cc in text_same ty (leaf_type u) (and-true (same ty (leaf_type u)) (has_none fs) fit).0 ∙ ap leaf_type q
 leaf_form None ty None fs v fit e = absurd (cc)
 leaf_form (Some form) ty None fs v fit e = absurd (let bad : None ≡ Some v = e in cc)
 
@@ -99,14 +97,14 @@ module _ (s : SchemaView) (is_array : List ℕ → Bool) (tells : TellsRows is_a
   mutual
     pub tree_own : (types : List (List ℕ)) (rev : Rev) (at : FlatAt) (n c : ℕ) (t : Node) → Conforming (verdicts s types t) → (y : FlatNode) → Has (listed rev at n c t) y → IsOwnTyped is_array y
     tree_own types rev at n c (node ty leaf fs) ok y (inl e) =
-        let fit = (both_true _ (is_as_typed (form_of s.types ty) ty leaf fs) (both_true (node_fits s types ty leaf fs) _ ok).0).1 in
+        let fit = (and-true _ (is_as_typed (form_of s.types ty) ty leaf fs) (and-true (node_fits s types ty leaf fs) _ ok).0).1 in
         subst (IsOwnTyped is_array) e (record { row = λ r. (let w = kind_form true (form_of s.types ty) ty leaf fs fit (first_kind fs r) in (w.0, tells ty ∙ w.1)); leaf = λ v q. leaf_form (form_of s.types ty) ty leaf fs v fit q })
-    tree_own types rev at n c (node ty leaf fs) ok y (inr h) = fields_own (form_of s.types ty) rev n (n + 1) c fs (both_true (node_fits s types ty leaf fs) _ ok).1 y h
+    tree_own types rev at n c (node ty leaf fs) ok y (inr h) = fields_own (form_of s.types ty) rev n (n + 1) c fs (and-true (node_fits s types ty leaf fs) _ ok).1 y h
 
     fields_own : (form : Option Form) (rev : Rev) (owner n c : ℕ) (fs : Fields) → Conforming (fields_verdicts s form fs) → (y : FlatNode) → Has (fields_listed rev owner n c fs) y → IsOwnTyped is_array y
     fields_own form rev owner n c no_fields ok y h = absurd h
     fields_own form rev owner n c (field key row items rest) ok y h =
-        let oks = split_all (items_verdicts s (types_under form key) items) (fields_verdicts s form rest) ok in
+        let oks = all-parts (items_verdicts s (types_under form key) items) (fields_verdicts s form rest) ok in
         elim (has-append (items_listed rev owner key row n c items) (fields_listed rev owner (n + item_count items) (c + item_cells row items) rest) y h) [
           | inl k ↦ items_own (types_under form key) rev owner key row n c items oks.0 y k
           | inr k ↦ fields_own form rev owner (n + item_count items) (c + item_cells row items) rest oks.1 y k
@@ -115,7 +113,7 @@ module _ (s : SchemaView) (is_array : List ℕ → Bool) (tells : TellsRows is_a
     items_own : (types : List (List ℕ)) (rev : Rev) (owner : ℕ) (key : List ℕ) (row : Bool) (n c : ℕ) (ts : Nodes) → Conforming (items_verdicts s types ts) → (y : FlatNode) → Has (items_listed rev owner key row n c ts) y → IsOwnTyped is_array y
     items_own types rev owner key row n c no_nodes ok y h = absurd h
     items_own types rev owner key row n c (first t ts) ok y h =
-        let oks = split_all (verdicts s types t) (items_verdicts s types ts) ok in
+        let oks = all-parts (verdicts s types t) (items_verdicts s types ts) ok in
         elim (has-append (listed rev (at_of rev owner key row c) n (c + cells_taken row) t) (items_listed rev owner key row (n + node_count t) (c + (cells_taken row + cell_count t)) ts) y h) [
           | inl k ↦ tree_own types rev (at_of rev owner key row c) n (c + cells_taken row) t oks.0 y k
           | inr k ↦ items_own types rev owner key row (n + node_count t) (c + (cells_taken row + cell_count t)) ts oks.1 y k
@@ -127,8 +125,8 @@ module _ (s : SchemaView) (is_array : List ℕ → Bool) (tells : TellsRows is_a
         → (above_at b at ≡ Some r) ⊎ HasOwner is_array b (listed rev at n c t) r
     tree_owner b types rev at n c (node ty leaf fs) ok y r (inl e) q = inl (ap (λ (z : FlatNode). above_at b z.at) e ∙ q)
     tree_owner b types rev at n c (node ty leaf fs) ok y r (inr h) q =
-        let parts = both_true (node_fits s types ty leaf fs) _ ok in
-        let fit = (both_true _ (is_as_typed (form_of s.types ty) ty leaf fs) parts.0).1 in
+        let parts = and-true (node_fits s types ty leaf fs) _ ok in
+        let fit = (and-true _ (is_as_typed (form_of s.types ty) ty leaf fs) parts.0).1 in
         inr (elim (fields_owner b (form_of s.types ty) rev n (n + 1) c fs parts.1 y r h q) [
           | inl own ↦ (let w = kind_form b (form_of s.types ty) ty leaf fs fit own.1 in (record { node = node_named rev n; ty = ty; leaf = leaf; row = has_array_fields fs; at = at }, inl refl, sym own.0, w.0, tells ty ∙ w.1))
           | inr w ↦ owner_in b (fields_listed rev n (n + 1) c fs) (listed rev at n c (node ty leaf fs)) r (λ z k. inr k) w
@@ -138,7 +136,7 @@ module _ (s : SchemaView) (is_array : List ℕ → Bool) (tells : TellsRows is_a
         → ((r ≡ node_named rev owner) × HasKind b fs) ⊎ HasOwner is_array b (fields_listed rev owner n c fs) r
     fields_owner b form rev owner n c no_fields ok y r h q = absurd h
     fields_owner b form rev owner n c (field key row items rest) ok y r h q =
-        let oks = split_all (items_verdicts s (types_under form key) items) (fields_verdicts s form rest) ok in
+        let oks = all-parts (items_verdicts s (types_under form key) items) (fields_verdicts s form rest) ok in
         let here = items_listed rev owner key row n c items in
         let later = fields_listed rev owner (n + item_count items) (c + item_cells row items) rest in
         elim (has-append here later y h) [
@@ -156,7 +154,7 @@ module _ (s : SchemaView) (is_array : List ℕ → Bool) (tells : TellsRows is_a
         → above_at b y.at ≡ Some r → ((r ≡ node_named rev owner) × (row ≡ b)) ⊎ HasOwner is_array b (items_listed rev owner key row n c ts) r
     items_owner b types rev owner key row n c no_nodes ok y r h q = absurd h
     items_owner b types rev owner key row n c (first t ts) ok y r h q =
-        let oks = split_all (verdicts s types t) (items_verdicts s types ts) ok in
+        let oks = all-parts (verdicts s types t) (items_verdicts s types ts) ok in
         let here = listed rev (at_of rev owner key row c) n (c + cells_taken row) t in
         let later = items_listed rev owner key row (n + node_count t) (c + (cells_taken row + cell_count t)) ts in
         elim (has-append here later y h) [
@@ -173,7 +171,7 @@ module _ (s : SchemaView) (is_array : List ℕ → Bool) (tells : TellsRows is_a
   pub tops_own : (types : List (List ℕ)) (rev : Rev) (n c : ℕ) (ts : Nodes) → Conforming (items_verdicts s types ts) → (y : FlatNode) → Has (tops_listed rev n c ts) y → IsOwnTyped is_array y
   tops_own types rev n c no_nodes ok y h = absurd h
   tops_own types rev n c (first t ts) ok y h =
-      let oks = split_all (verdicts s types t) (items_verdicts s types ts) ok in
+      let oks = all-parts (verdicts s types t) (items_verdicts s types ts) ok in
       elim (has-append (listed rev (FlatAt.Top (cell_named rev c)) n (c + 1) t) (tops_listed rev (n + node_count t) (c + (1 + cell_count t)) ts) y h) [
         | inl k ↦ tree_own types rev (FlatAt.Top (cell_named rev c)) n (c + 1) t oks.0 y k
         | inr k ↦ tops_own types rev (n + node_count t) (c + (1 + cell_count t)) ts oks.1 y k
@@ -183,7 +181,7 @@ module _ (s : SchemaView) (is_array : List ℕ → Bool) (tells : TellsRows is_a
       → HasOwner is_array b (tops_listed rev n c ts) r
   tops_owner b types rev n c no_nodes ok y r h q = absurd h
   tops_owner b types rev n c (first t ts) ok y r h q =
-      let oks = split_all (verdicts s types t) (items_verdicts s types ts) ok in
+      let oks = all-parts (verdicts s types t) (items_verdicts s types ts) ok in
       let here = listed rev (FlatAt.Top (cell_named rev c)) n (c + 1) t in
       let later = tops_listed rev (n + node_count t) (c + (1 + cell_count t)) ts in
       elim (has-append here later y h) [

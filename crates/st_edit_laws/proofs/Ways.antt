@@ -1,5 +1,5 @@
 -- Ways through a document, and through the same with some nodes taken away.
-use Rattle.std.proofs.Common.{◌≡◌, ◌≢◌, ℕ, zero, suc, ◌+◌, ◌-◌, ◌==◌, ◌≤◌, ◌<◌, ◌&&◌, max, nat_le, Bool, true, false, cond, List, [], ◌∷◌, ◌++◌, map, take, drop, length, take-append-drop, drop-drop, length-take-le, Option, Some, None, IsSome, is_some, option_map, slice_get, Result, Ok, refl, sym, ap, ◌∙◌, subst, arith, inl, inr, ◌⊎◌}
+use Rattle.std.proofs.Common.{◌≡◌, ◌≢◌, ℕ, zero, suc, ◌+◌, ◌-◌, ◌==◌, ◌≤◌, ◌<◌, ◌&&◌, max, nat_le, Bool, true, false, cond, List, [], ◌∷◌, ◌++◌, take, drop, length, take-append-drop, drop-drop, length-take-le, Option, Some, None, slice_get, Ok, refl, sym, ap, ◌∙◌, subst, arith, inl, inr}
 use Rattle.std.proofs.lemmas.Bool.{cases_lt}
 use Rattle.std.proofs.lemmas.Bool.Decides.{nat_tests}
 use Rattle.st_ids.specs.Listing.{Has, AreDistinct}
@@ -10,10 +10,9 @@ use Rattle.st_tree.specs.declared.edit.EditFault.TheVariants.{NoNode}
 use Rattle.st_marks.specs.declared.places.Spot.{Spot}
 use Rattle.st_marks.specs.Document.{Document, IsSoundInForm, above, content}
 use Rattle.st_marks.specs.LiveTree.{owners_shown, register}
-use Rattle.st_marks.proofs.Lookups.{both_true}
-use Rattle.st_marks.proofs.Members.{true-false, all-has}
+use Rattle.st_marks.proofs.Members.{all-has}
 use Rattle.st_edits.specs.Paths.{and_then, child, or_refuse, walk_from}
-use Rattle.st_edits.proofs.Fits.{passed, found, gotten}
+use Rattle.st_edits.proofs.Fits.{passed, found}
 use Rattle.st_edit_laws.specs.Alike.{IsFrom}
 use Rattle.st_edit_laws.specs.Edited.{same_key, is_row_key}
 use Rattle.st_edit_laws.specs.Moved.{index_after, path_after, place_after, same_path, same_place}
@@ -21,6 +20,9 @@ use Rattle.st_edit_laws.proofs.Along.{child_up, live_at, owner_at, owners_once, 
 use Rattle.st_edit_laws.proofs.Beneath.{from_child, in_row as stands_in_row, not_beneath, one_child}
 use Rattle.st_edit_laws.proofs.Parted.{parted, unless_among}
 use Rattle.st_edit_laws.proofs.Rows.{not-among}
+use Rattle.st_lemmas.proofs.Lists.{length-zero}
+use Rattle.st_lemmas.proofs.Bools.{and-true, true-false}
+use Rattle.st_ids.proofs.Shared.{at_has}
 
 -- ## A child, by its place
 
@@ -29,10 +31,6 @@ child_by D n p b = cond b (slice_get (owners_shown (content D n)) p.index) (cond
 
 child_is : (D : Document) (n : NodeId) (p : Place) → child D n p ≡ child_by D n p (is_row_key p.key)
 child_is D n p = ap (λ o. cond (is_row_key p.key) o (cond (p.index == 0) (D.held (register n p.key.0)) None)) (sym (owner_at D n p.index))
-
-empty_key : (k : List ℕ) → (length k == 0) ≡ true → k ≡ []
-empty_key [] e = refl
-empty_key (b ∷ k) e = let bad : suc (length k) ≡ 0 = grind (arith, nat_tests) in absurd (omega (arith, bad))
 
 zero_index : (i : ℕ) (o : Option NodeId) (x : NodeId) → cond (i == 0) o None ≡ Some x → (i ≡ 0) × (o ≡ Some x)
 zero_index i o x e = go (i == 0) refl e
@@ -52,8 +50,8 @@ equal_index i j e = go (i == j) refl
 one_index : (xs : List NodeId) (i j : ℕ) (x : NodeId) → AreDistinct (λ (y : NodeId). y) xs → slice_get xs i ≡ Some x → slice_get xs j ≡ Some x → i ≡ j
 one_index [] i j x once e f = cc
 one_index (y ∷ xs) zero zero x once e f = refl
-one_index (y ∷ xs) zero (suc j) x once e f = let same : y ≡ x = cc in absurd (all-has (λ z. z ≢ y) xs x once.0 (gotten xs j x f) (sym same))
-one_index (y ∷ xs) (suc i) zero x once e f = let same : y ≡ x = cc in absurd (all-has (λ z. z ≢ y) xs x once.0 (gotten xs i x e) (sym same))
+one_index (y ∷ xs) zero (suc j) x once e f = let same : y ≡ x = cc in absurd (all-has (λ z. z ≢ y) xs x once.0 (at_has xs j x f) (sym same))
+one_index (y ∷ xs) (suc i) zero x once e f = let same : y ≡ x = cc in absurd (all-has (λ z. z ≢ y) xs x once.0 (at_has xs i x e) (sym same))
 one_index (y ∷ xs) (suc i) (suc j) x once e f = ap suc (one_index xs i j x once.1 e f)
 
 -- places that lead to one node are one
@@ -69,9 +67,9 @@ one_place D sound n x p q e f = go (is_row_key p.key) refl (is_row_key q.key) re
         let bad : Spot.Row n b.0 ≡ Spot.Register (register n k) = sym b.1 ∙ (sound.one_held x (register n k)).0 g in cc
 
     go : (a : Bool) → is_row_key p.key ≡ a → (b : Bool) → is_row_key q.key ≡ b → child_by D n p a ≡ Some x → child_by D n q b ≡ Some x → same_place p q ≡ true
-    go true a true b g h = both_same (empty_key p.key.0 a ∙ sym (empty_key q.key.0 b)) (one_index (owners_shown (content D n)) p.index q.index x (owners_once D n sound) g h)
-    go true a false b g h = absurd (row_or_register q.key.0 (gotten (owners_shown (content D n)) p.index x g) (zero_index q.index (D.held (register n q.key.0)) x h).1)
-    go false a true b g h = absurd (row_or_register p.key.0 (gotten (owners_shown (content D n)) q.index x h) (zero_index p.index (D.held (register n p.key.0)) x g).1)
+    go true a true b g h = both_same (length-zero p.key.0 a ∙ sym (length-zero q.key.0 b)) (one_index (owners_shown (content D n)) p.index q.index x (owners_once D n sound) g h)
+    go true a false b g h = absurd (row_or_register q.key.0 (at_has (owners_shown (content D n)) p.index x g) (zero_index q.index (D.held (register n q.key.0)) x h).1)
+    go false a true b g h = absurd (row_or_register p.key.0 (at_has (owners_shown (content D n)) q.index x h) (zero_index p.index (D.held (register n p.key.0)) x g).1)
     go false a false b g h =
         let u = zero_index p.index (D.held (register n p.key.0)) x g in
         let v = zero_index q.index (D.held (register n q.key.0)) x h in
@@ -81,7 +79,7 @@ one_place D sound n x p q e f = go (is_row_key p.key) refl (is_row_key q.key) re
 
 place_same : (p q : Place) → same_place p q ≡ true → p ≡ q
 place_same p q e =
-    let b = both_true (same_key p.key.0 q.key.0) (p.index == q.index) e in
+    let b = and-true (same_key p.key.0 q.key.0) (p.index == q.index) e in
     let key = same_key-true p.key.0 q.key.0 b.0 in
     let test = b.1 in
     let index : p.index ≡ q.index = grind (arith, nat_tests) in
@@ -113,7 +111,7 @@ module _ (D : Document) (sound : IsSoundInForm D) where
   path_same [] [] e = refl
   path_same [] (q ∷ qs) e = cc
   path_same (p ∷ ps) [] e = cc
-  path_same (p ∷ ps) (q ∷ qs) e = let b = both_true (same_place p q) (same_path ps qs) e in (λ i. place_same p q b.0 i ∷ path_same ps qs b.1 i)
+  path_same (p ∷ ps) (q ∷ qs) e = let b = and-true (same_place p q) (same_path ps qs) e in (λ i. place_same p q b.0 i ∷ path_same ps qs b.1 i)
 
 -- ## An item behind a part that was taken
 
@@ -132,7 +130,7 @@ get_after a b c i x out e = elim (cases_lt i (length a)) [ inl less ↦ front le
   where
     taken : length a ≤ i → i < length a + length b → ⊥
     taken past less =
-        out (gotten b (i - length a) x (sym (get_past i (i - length a) a (b ++ c) (omega arith) ∙ get_within (i - length a) b c (omega arith)) ∙ e))
+        out (at_has b (i - length a) x (sym (get_past i (i - length a) a (b ++ c) (omega arith) ∙ get_within (i - length a) b c (omega arith)) ∙ e))
 
     index_is : (j : ℕ) → ((t : Bool) → nat_le i (length a) ≡ t → cond t i (max (length a) (i - length b)) ≡ j) → index_after (length a) (length b) i ≡ j
     index_is j h = h (nat_le i (length a)) refl

@@ -9,7 +9,7 @@ use Rattle.st_ids.specs.declared.names.FieldId.{FieldId}
 use Rattle.st_ids.specs.declared.names.Key.{Key}
 use Rattle.st_ids.specs.declared.names.NodeId.{NodeId}
 use Rattle.st_ids.specs.declared.names.Place.{Place}
-use Rattle.st_ids.proofs.Orders.{same_node-true, same_cell-true}
+use Rattle.st_ids.proofs.Orders.{same_node-true}
 use Rattle.st_tree.specs.declared.edit.EditFault.{EditFault}
 use Rattle.st_tree.specs.declared.edit.EditFault.TheVariants.{Kind, Range}
 use Rattle.st_schema.specs.Schema.{SchemaView, same, is_key, declared, field_in, field_is_sound, form_of, form_is_sound, defs_rise, type_names, forms_are_sound, names_are_sound, is_single_kind, is_sound, field_of}
@@ -24,16 +24,17 @@ use Rattle.st_marks.specs.declared.intents.Owned.{Owned}
 use Rattle.st_marks.specs.declared.intents.Put.{Put}
 use Rattle.st_marks.specs.declared.intents.To.{To}
 use Rattle.st_marks.specs.declared.places.Slot.{Slot}
-use Rattle.st_marks.specs.declared.places.Spot.{Spot}
 use Rattle.st_marks.specs.Document.{Document, NodeType, IsSoundInForm, is_cell, slot, root, owned}
 use Rattle.st_marks.specs.Intent.{Fits, IsKnown, Owns, cell_of, clears, is_new, register_of}
-use Rattle.st_marks.proofs.Lookups.{both_true}
-use Rattle.st_marks.proofs.Members.{true-false, all-has, has-all, has-map, first-has}
+use Rattle.st_marks.proofs.Members.{all-has, has-all, has-map, first-has}
 use Rattle.st_marks.specs.LiveTree.{live_slots}
 use Rattle.st_edits.specs.Paths.{and_then, or_refuse, child, field_at, items_from, row_length, walk_from}
 use Rattle.st_edits.specs.Resolve.{need, remove, intent_to_remove, empty_intent, walk, rule_for, within_row, rule_at, of_kind, is_optional, clear}
 use Rattle.st_edits.specs.declared.names.NameCounters.{NameCounters}
 use Rattle.st_edits.specs.declared.names.Takes.TheVariants as field
+use Rattle.st_marks.proofs.Shared.{one_cell}
+use Rattle.st_ids.proofs.Shared.{at_has, filtered}
+use Rattle.st_lemmas.proofs.Bools.{and-true, true-false}
 
 -- ## Steps that may be refused
 
@@ -46,15 +47,6 @@ found None e x h = cc
 found (Some y) e x h = let q : y ≡ x = cc in ap (λ z. Some z) q
 
 -- ## What a row shows
-
-filtered : {A : Type 0} (p : A → Bool) (xs : List A) (x : A) → Has (filter p xs) x → Has xs x × (p x ≡ true)
-filtered p [] x h = absurd h
-filtered {A} p (y ∷ xs) x h = go (p y) refl (λ k. filtered p xs x k) h
-  where
-    go : (b : Bool) → p y ≡ b → (Has (filter p xs) x → Has xs x × (p x ≡ true)) → Has (cond b (y ∷ filter p xs) (filter p xs)) x → Has (y ∷ xs) x × (p x ≡ true)
-    go true e rest (inl q) = (inl q, ap p (sym q) ∙ e)
-    go true e rest (inr k) = let r = rest k in (inr r.0, r.1)
-    go false e rest k = let r = rest k in (inr r.0, r.1)
 
 -- a node that a row shows stands in its cell there
 pub record IsShown (D : Document) (n : NodeId) (s : Slot) : Type 0 where
@@ -76,11 +68,6 @@ placed_not_root D s sound full e =
     let none : is_cell s.cell (D.place s.node) ≡ false = ap (λ n. is_cell s.cell (D.place n)) e ∙ ap (is_cell s.cell) sound.root_nowhere in
     true-false full none
 
-pub gotten : {A : Type 0} (xs : List A) (i : ℕ) (x : A) → slice_get xs i ≡ Some x → Has xs x
-gotten [] i x e = cc
-gotten (y ∷ xs) zero x e = let q : y ≡ x = cc in inl q
-gotten (y ∷ xs) (suc i) x e = inr (gotten xs i x e)
-
 -- ## Paths lead to nodes that are there
 
 child_there : (D : Document) (n m : NodeId) (p : Place) → IsSoundInForm D → child D n p ≡ Some m → IsSome (D.nodes m)
@@ -90,7 +77,7 @@ child_there D n m p sound e = go (length p.key.0 == 0) e
     item None f e = cc
     item (Some s) f e =
         let q : s.node ≡ m = cc in
-        let w = shown D n s (gotten (live_slots D n) p.index s f) in
+        let w = shown D n s (at_has (live_slots D n) p.index s f) in
         subst (λ k. IsSome (D.nodes k)) q (sound.cells_known n (owned s.cell s.node) w.in_row).1
 
     register : (b : Bool) → cond b (D.held (field_at n p.key)) None ≡ Some m → IsSome (D.nodes m)
@@ -162,13 +149,13 @@ pub none_kept : {A B K : Type 0} (f : A → B) (g : B → Option K) (xs : List A
 none_kept f g [] h = refl
 none_kept f g (x ∷ xs) h = ap (λ o. cons_option o (filter_map g (map f xs))) (h x) ∙ none_kept f g xs h
 
-has_take : {A : Type 0} (k : ℕ) (xs : List A) (x : A) → Has (take k xs) x → Has xs x
+pub has_take : {A : Type 0} (k : ℕ) (xs : List A) (x : A) → Has (take k xs) x → Has xs x
 has_take zero xs x h = absurd h
 has_take (suc k) [] x h = absurd h
 has_take (suc k) (y ∷ xs) x (inl e) = inl e
 has_take (suc k) (y ∷ xs) x (inr h) = inr (has_take k xs x h)
 
-has_drop : {A : Type 0} (k : ℕ) (xs : List A) (x : A) → Has (drop k xs) x → Has xs x
+pub has_drop : {A : Type 0} (k : ℕ) (xs : List A) (x : A) → Has (drop k xs) x → Has xs x
 has_drop zero xs x h = h
 has_drop (suc k) [] x h = absurd h
 has_drop (suc k) (y ∷ xs) x h = inr (has_drop k xs x h)
@@ -182,11 +169,6 @@ distinct_drop : {A K : Type 0} (key : A → K) (k : ℕ) (xs : List A) → AreDi
 distinct_drop key zero xs d = d
 distinct_drop key (suc k) [] d = tt
 distinct_drop key (suc k) (x ∷ xs) d = distinct_drop key k xs d.1
-
-one_cell : (c d : CellId) (s : Spot) → is_cell c s ≡ true → is_cell d s ≡ true → c ≡ d
-one_cell c d Spot.Nowhere e f = cc
-one_cell c d (Spot.Row n b) e f = same_cell-true c b e ∙ sym (same_cell-true d b f)
-one_cell c d (Spot.Register r) e f = cc
 
 -- a row shows each node once
 shown_once : (D : Document) (os : List Owned) → AreDistinct (λ (o : Owned). o.cell) os → AreDistinct (λ (s : Slot). s.node) (filter (λ (s : Slot). s.full) (map (slot D) os))
@@ -290,12 +272,12 @@ remove_fits D s G at key index count N sound e =
 
 -- ## An emptied field
 
-all_pass : {A : Type 0} (p : A → Bool) (xs : List A) (x : A) → list_all p xs ≡ true → Has xs x → p x ≡ true
+pub all_pass : {A : Type 0} (p : A → Bool) (xs : List A) (x : A) → list_all p xs ≡ true → Has xs x → p x ≡ true
 all_pass p [] x e h = absurd h
-all_pass p (y ∷ xs) x e (inl q) = ap p (sym q) ∙ (both_true (p y) (list_all p xs) e).0
-all_pass p (y ∷ xs) x e (inr h) = all_pass p xs x (both_true (p y) (list_all p xs) e).1 h
+all_pass p (y ∷ xs) x e (inl q) = ap p (sym q) ∙ (and-true (p y) (list_all p xs) e).0
+all_pass p (y ∷ xs) x e (inr h) = all_pass p xs x (and-true (p y) (list_all p xs) e).1 h
 
-looked_up : {K X : Type 0} (test : K → Bool) (es : List (K × X)) (x : X) → lookup test es ≡ Some x → Has (map (λ e. e.1) es) x
+pub looked_up : {K X : Type 0} (test : K → Bool) (es : List (K × X)) (x : X) → lookup test es ≡ Some x → Has (map (λ e. e.1) es) x
 looked_up test [] x e = cc
 looked_up {K} {X} test (d ∷ es) x e = go (test d.0) (λ f. looked_up test es x f) e
   where
@@ -319,15 +301,15 @@ rule_key names (Object fields) [] rule sound e single f = go (declared fields []
     go None h g = cc
     go (Some d) h g =
         let w = first-has (λ (f : FieldDef). same f.key.0 []) fields d h in
-        let all = (both_true (nat_le (length fields) 64) (list_all (field_is_sound names) fields && defs_rise [] fields) sound).1 in
-        let own = all_pass (field_is_sound names) fields d (both_true (list_all (field_is_sound names) fields) (defs_rise [] fields) all).0 w.0 in
-        declared_some d.key.0 (both_true (is_key d.key.0) _ own).0 w.1
+        let all = (and-true (nat_le (length fields) 64) (list_all (field_is_sound names) fields && defs_rise [] fields) sound).1 in
+        let own = all_pass (field_is_sound names) fields d (and-true (list_all (field_is_sound names) fields) (defs_rise [] fields) all).0 w.0 in
+        declared_some d.key.0 (and-true (is_key d.key.0) _ own).0 w.1
 
 pub key_some : (s : SchemaView) (ty key : List ℕ) (rule : FieldRule) → is_sound s ≡ true → field_of s ty key ≡ Some rule → is_single_kind rule.kind ≡ true → key ≢ []
 key_some s ty key rule sound e single = go (form_of s.types ty) refl e
   where
     forms : forms_are_sound s.types ≡ true
-    forms = (both_true (forms_are_sound s.types) _ (both_true (names_are_sound (type_names s.types)) _ sound).1).0
+    forms = (and-true (forms_are_sound s.types) _ (and-true (names_are_sound (type_names s.types)) _ sound).1).0
 
     go : (o : Option Form) → form_of s.types ty ≡ o → option_and_then (λ (form : Form). field_in form key) o ≡ Some rule → key ≢ []
     go None h f = cc
@@ -348,7 +330,7 @@ kind_taken takes rule got e = go (takes rule.kind) e
     go true f = refl
     go false f = cc
 
-optional_single : (k : KindName) → is_optional k ≡ true → is_single_kind k ≡ true
+pub optional_single : (k : KindName) → is_optional k ≡ true → is_single_kind k ≡ true
 optional_single Required e = refl
 optional_single Optional e = refl
 optional_single Sequence e = cc

@@ -3,3 +3,4 @@ pub mod MoveFits
 pub mod Numbered
 pub mod NewFits
 pub mod Resolved
+pub mod Shared

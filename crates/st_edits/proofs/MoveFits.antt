@@ -28,14 +28,15 @@ use Rattle.st_marks.specs.declared.places.Slot.{Slot}
 use Rattle.st_marks.specs.declared.places.Spot.{Spot}
 use Rattle.st_marks.specs.Document.{Document, NodeType, IsSoundInForm, root, owned}
 use Rattle.st_marks.specs.Intent.{Fits, IsKnown, Owns, cell_of, clears, group_cells, is_new, new_row_of, put_of, register_of}
-use Rattle.st_marks.proofs.Lookups.{both_true}
-use Rattle.st_marks.proofs.Members.{true-false, all-has, has-all, any-has, first-has, none-has, has-map, map-has}
+use Rattle.st_marks.proofs.Members.{all-has, has-all, any-has, first-has, none-has, has-map, map-has}
 use Rattle.st_marks.specs.LiveTree.{live_slots}
 use Rattle.st_edits.specs.Paths.{and_then, or_refuse, field_at, items_from, left_of, row_length}
 use Rattle.st_edits.specs.Resolve.{require, cells_for, moved_to_row, moved_to_field, empty_intent, walk, rule_for, rule_at, of_kind, is_open, nodes_taken, is_there, may_move, intent_to_move, move}
 use Rattle.st_edits.specs.declared.names.NameCounters.{NameCounters}
 use Rattle.st_edits.specs.declared.names.Takes.TheVariants as field
-use Rattle.st_edits.proofs.Fits.{all_map, distinct_map, none_kept, passed, found, shown, gotten, item_there, items_once, nowhere_fits, emptied_fits, key_some, ruled}
+use Rattle.st_edits.proofs.Fits.{all_map, distinct_map, none_kept, passed, found, shown, item_there, items_once, nowhere_fits, emptied_fits, key_some, ruled}
+use Rattle.st_lemmas.proofs.Bools.{and-true, true-false}
+use Rattle.st_ids.proofs.Shared.{at_has}
 
 -- ## New cells
 
@@ -188,7 +189,7 @@ left_in_row D m (suc i) sound = go (slice_get (live_slots D m) i) refl
   where
     go : (o : Option Slot) → slice_get (live_slots D m) i ≡ o → IfSome (option_map (λ (s : Slot). s.cell) o) (λ c. D.row_of c ≡ Some m)
     go None e = tt
-    go (Some s) e = (sound.one_row s.cell m).1 (s.node, (shown D m s (gotten (live_slots D m) i s e)).in_row)
+    go (Some s) e = (sound.one_row s.cell m).1 (s.node, (shown D m s (at_has (live_slots D m) i s e)).in_row)
 
 row_fits : (D : Document) (G : NameCounters) (m : NodeId) (index : ℕ) (ns : List NodeId) → IsSoundInForm D → CellsFresh D G → AreDistinct (λ (n : NodeId). n) ns → ((n : NodeId) → Has ns n → IsSome (D.nodes n) × (n ≢ root))
     → IsSome (D.nodes m) → Fits D (moved_to_row D G m index ns)
@@ -266,7 +267,7 @@ are_taken D f Optional index count ns sound e = go (index == 0 && count == 1) re
     go true h g =
         let n = passed (or_refuse (D.held f) Range) (λ (n : NodeId). Ok (n ∷ [])) ns g in
         let is : n.0 ∷ [] ≡ ns = cc in
-        let one : (count == 1) ≡ true = (both_true (index == 0) (count == 1) h).1 in
+        let one : (count == 1) ≡ true = (and-true (index == 0) (count == 1) h).1 in
         let w = held_taken D f n.0 sound (found (D.held f) Range n.0 n.1) in
         let few : 1 ≤ count = grind (arith, nat_tests) in
         subst (AreTaken D count) is (record { once = (tt, tt); each = λ m i. elim i [ inl q ↦ subst (λ x. IsSome (D.nodes x) × (x ≢ root)) q w | inr j ↦ absurd j ]; few = few })
@@ -283,7 +284,7 @@ are_taken D f Sequence index count ns sound e = go (nat_le (index + count) (row_
 
 -- ## A move
 
-asked : (b : Bool) (e : EditFault) (u : Unit {0}) → require b e ≡ Ok u → b ≡ true
+pub asked : (b : Bool) (e : EditFault) (u : Unit {0}) → require b e ≡ Ok u → b ≡ true
 asked true e u h = refl
 asked false e u h = cc
 
@@ -316,7 +317,7 @@ move_fits D s G at key index count to to_key to_index N sound schema fresh e =
     go m target ns w known t rule Required kind is inside = cc
     go m target ns w known t rule Optional kind is inside =
         let single : is_single_kind target.kind ≡ true = ap is_single_kind kind in
-        let test : (count == 1) ≡ true = (both_true (to_index == 0) (count == 1) inside).1 in
+        let test : (count == 1) ≡ true = (and-true (to_index == 0) (count == 1) inside).1 in
         let few : length ns ≤ count = w.few in
         let one : length ns ≤ 1 = grind (arith, nat_tests) in
         subst (Fits D) is (one_fits D G (field_at m to_key) ns one w.each known (key_some s t.ty to_key.0 target schema rule single))

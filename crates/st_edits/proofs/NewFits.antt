@@ -1,5 +1,5 @@
 -- What new trees mean fits the document where they come.
-use Rattle.std.proofs.Common.{◌≡◌, ◌≢◌, ℕ, zero, suc, ◌+◌, ◌<◌, ◌≤◌, nat_le, ◌&&◌, not, Bool, true, false, cond, List, [], ◌∷◌, ◌++◌, map, length, Option, Some, None, IsSome, IfSome, IsTrue, is_some, option_map, option_and_then, Ok, refl, sym, ap, ◌∙◌, subst, arith, ◌⊎◌, inl, inr}
+use Rattle.std.proofs.Common.{◌≡◌, ◌≢◌, ℕ, ◌+◌, ◌<◌, ◌≤◌, nat_le, ◌&&◌, not, Bool, true, false, cond, List, [], ◌∷◌, ◌++◌, map, length, Option, Some, None, IsSome, IfSome, IsTrue, is_some, option_map, option_and_then, Ok, refl, sym, ap, ◌∙◌, subst, arith, ◌⊎◌, inl, inr}
 use Rattle.std.specs.List.{AllByRecursion, filter_map, flat_map, cons_option, find, list_any, list_all, position_from}
 use Rattle.std.proofs.lemmas.List.Folds.{list_all-append}
 use Rattle.st_ids.specs.Listing.{AreDistinct, Has}
@@ -28,9 +28,8 @@ use Rattle.st_marks.specs.declared.intents.Intent.{Intent}
 use Rattle.st_marks.specs.declared.intents.Owned.{Owned}
 use Rattle.st_marks.specs.declared.intents.Put.{Put}
 use Rattle.st_marks.specs.declared.intents.To.{To}
-use Rattle.st_marks.specs.Document.{Document, NodeType, IsSoundInForm, ClimbsToAnEnd, climb, root, owned}
+use Rattle.st_marks.specs.Document.{Document, NodeType, IsSoundInForm, root, owned}
 use Rattle.st_marks.specs.Intent.{Fits, IsKnown, Owns, above_new, cell_of, clears, group_cells, is_new, new_row_of, put_of, put_under, register_of}
-use Rattle.st_marks.proofs.Lookups.{both_true}
 use Rattle.st_marks.proofs.Members.{all-has, has-all, any-has, has-any, append_right, has-append, first-has, none-has, first-distinct, has-map, map-has, has-flat_map, flat_map-has, has-filter_map}
 use Rattle.st_edits.specs.New.{new_nodes, puts, to_at, top_cell, row_cell, owned_by, top_cells, cells_under, group_of, group_under, groups_under, names_taken}
 use Rattle.st_opening.specs.Start.{registers, register_at}
@@ -40,8 +39,12 @@ use Rattle.st_edits.specs.declared.names.NameCounters.{NameCounters}
 use Rattle.st_edits.specs.declared.names.Takes.TheVariants as field
 use Rattle.st_edits.proofs.Fits.{all_map, distinct_map, passed, found, key_some, ruled, walk_there, kind_taken}
 use Rattle.st_edits.proofs.MoveFits.{CellsFresh, left_in_row, put_none}
-use Rattle.st_edits.proofs.Numbered.{filter-from, distinct_filter, distinct_flat, IsAt, Counted, IsNumbered, numbered, there_is, nodes_distinct, own_cell, cell_is, one_in_cell, IsArray, IsUnderArray, tops_rows, tops_counted, IsInner, fields_inner, tops_regs}
-use Rattle.st_opening.proofs.PreorderNames.{same_number}
+use Rattle.st_edits.proofs.Numbered.{distinct_filter, distinct_flat, IsAt, Counted, IsNumbered, numbered, there_is, nodes_distinct, own_cell, cell_is, one_in_cell, IsArray, IsUnderArray, tops_rows, tops_counted, IsInner, fields_inner, tops_regs}
+use Rattle.st_lemmas.proofs.Lists.{position_from-None}
+use Rattle.st_opening.proofs.StartSound.{all_end}
+use Rattle.st_lemmas.proofs.Options.{None-IsSome, IsSome-Some, is_some-option_map}
+use Rattle.st_lemmas.proofs.Bools.{and-true}
+use Rattle.st_ids.proofs.Shared.{filter-from}
 
 -- ## Lists
 
@@ -57,10 +60,6 @@ all_none : {A K : Type 0} (f : A → Option K) (xs : List A) → ((x : A) → Ha
 all_none f [] none = refl
 all_none f (x ∷ xs) none = ap (λ o. cons_option o (filter_map f xs)) (none x (inl refl)) ∙ all_none f xs (λ y h. none y (inr h))
 
-mapped_some : {A B : Type 0} (f : A → B) (o : Option A) → is_some (option_map f o) ≡ is_some o
-mapped_some f None = refl
-mapped_some f (Some x) = refl
-
 any_found : {A : Type 0} (p : A → Bool) (xs : List A) (x : A) → Has xs x → p x ≡ true → is_some (find p xs) ≡ true
 any_found {A} p xs x h e = go (find p xs) refl
   where
@@ -75,37 +74,10 @@ found_any {A} p xs e = go (find p xs) refl e
     go None f g = cc
     go (Some y) f g = let r = first-has p xs y f in (y, r.0, r.1)
 
-some_is : {A : Type 0} (o : Option A) → IsSome o → (x : A) × (o ≡ Some x)
-some_is None h = absurd (cc)
-some_is (Some x) h = (x, refl)
-
-none_some : {A : Type 0} (o : Option A) → o ≡ None → IsSome o → ⊥
-none_some None e h = cc
-none_some (Some x) e h = cc
-
 -- ## Steps to lower numbers
 
 abbrev HasLower : Rev → (NodeId → Option NodeId) → NodeId → Type 0
 HasLower rev up n = (up n ≡ None) ⊎ ((j : ℕ) × (k : ℕ) × (j < k) × (n ≡ node_named rev k) × (up n ≡ Some (node_named rev j)))
-
--- where each step up leads to a lower number, steps end
-lower_ends : (rev : Rev) (up : NodeId → Option NodeId) → ((n : NodeId) → HasLower rev up n) → (fuel k : ℕ) → k < fuel → ClimbsToAnEnd up (node_named rev k)
-lower_ends rev up lower zero k less = absurd (omega arith)
-lower_ends rev up lower (suc fuel) k less = go (lower (node_named rev k)) (λ j l. lower_ends rev up lower fuel j l)
-  where
-    go : HasLower rev up (node_named rev k) → ((j : ℕ) → j < fuel → ClimbsToAnEnd up (node_named rev j)) → ClimbsToAnEnd up (node_named rev k)
-    go (inl e) rest = (1, ap (option_and_then (λ p. Some p)) e)
-    go (inr h) rest =
-        let same : k ≡ h.1 = same_number rev k h.1 h.3 in
-        let r = rest h.0 (omega (arith, h.2, same)) in
-        (suc r.0, ap (option_and_then (climb up r.0)) h.4 ∙ r.1)
-
-all_end : (rev : Rev) (up : NodeId → Option NodeId) → ((n : NodeId) → HasLower rev up n) → (n : NodeId) → ClimbsToAnEnd up n
-all_end rev up lower n = go (lower n)
-  where
-    go : HasLower rev up n → ClimbsToAnEnd up n
-    go (inl e) = (1, ap (option_and_then (λ p. Some p)) e)
-    go (inr h) = subst (ClimbsToAnEnd up) (sym h.3) (lower_ends rev up lower (h.1 + 1) h.1 (omega arith))
 
 -- ## Places
 
@@ -203,12 +175,12 @@ start_distinct (g ∷ gs) d = (
 
 module _ (D : Document) (G : NameCounters) (into : Option FieldId) (m : NodeId) (xs : List FlatNode) (gs : List Group) (fs : List FieldId) (w : IsMade D G into m xs gs fs) where
   node_new : (x : FlatNode) → Has xs x → is_new (made D G into xs gs fs) x.node ≡ true
-  node_new x h = mapped_some type_of (find (λ (n : NewNode). same_node n.node x.node) (new_nodes xs))
+  node_new x h = is_some-option_map type_of (find (λ (n : NewNode). same_node n.node x.node) (new_nodes xs))
       ∙ any_found (λ (n : NewNode). same_node n.node x.node) (new_nodes xs) (new_of x) (map-has new_of xs x h) (same_node-itself x.node)
 
   new_from : (n : NodeId) → is_new (made D G into xs gs fs) n ≡ true → (x : FlatNode) × Has xs x × (x.node ≡ n)
   new_from n e =
-      let y = found_any (λ (k : NewNode). same_node k.node n) (new_nodes xs) (sym (mapped_some type_of (find (λ (k : NewNode). same_node k.node n) (new_nodes xs))) ∙ e) in
+      let y = found_any (λ (k : NewNode). same_node k.node n) (new_nodes xs) (sym (is_some-option_map type_of (find (λ (k : NewNode). same_node k.node n) (new_nodes xs))) ∙ e) in
       let x = has-map new_of xs y.0 y.1 in
       (x.0, x.1, ap (λ (k : NewNode). k.node) x.2 ∙ same_node-true y.0.node n y.2)
 
@@ -219,7 +191,7 @@ module _ (D : Document) (G : NameCounters) (into : Option FieldId) (m : NodeId) 
   fresh_node x h = let r = number x h in ap D.nodes r.named ∙ w.nodes_fresh r.number r.low
 
   not_old : (x : FlatNode) (n : NodeId) → Has xs x → IsSome (D.nodes n) → x.node ≢ n
-  not_old x n h known e = none_some (D.nodes n) (ap D.nodes (sym e) ∙ fresh_node x h) known
+  not_old x n h known e = None-IsSome (D.nodes n) (ap D.nodes (sym e) ∙ fresh_node x h) known
 
   target_old : is_new (made D G into xs gs fs) m ≡ false
   target_old = go (is_new (made D G into xs gs fs) m) refl
@@ -291,7 +263,7 @@ module _ (D : Document) (G : NameCounters) (into : Option FieldId) (m : NodeId) 
 
   new_row_fresh : (c : CellId) → IsSome (new_row_of (made D G into xs gs fs) c) → D.row_of c ≡ None
   new_row_fresh c h =
-      let p = some_is (new_row_of (made D G into xs gs fs) c) h in
+      let p = IsSome-Some (new_row_of (made D G into xs gs fs) c) h in
       let o = row_from c p.0 p.1 in
       ap D.row_of (sym o.2) ∙ (cell_fresh o.1.item o.0.cell o.1.listed o.1.cell).1
 
@@ -301,7 +273,7 @@ module _ (D : Document) (G : NameCounters) (into : Option FieldId) (m : NodeId) 
     where
       go : (o : Option NodeId) → new_row_of (made D G into xs gs fs) c ≡ o → new_row_of (made D G into xs gs fs) c ≡ None
       go None e = e
-      go (Some p) e = absurd (none_some (D.row_of c) (new_row_fresh c (ap is_some e)) (ap is_some h))
+      go (Some p) e = absurd (None-IsSome (D.row_of c) (new_row_fresh c (ap is_some e)) (ap is_some h))
 
   under_lower : (x : FlatNode) (h : Has xs x) (p : NodeId) (t : To) → to_at into x.at ≡ t → put_under (made D G into xs gs fs) (Some t) ≡ Some p → (p ≡ m) ⊎ IsLower G.rev G.nodes (number x h).number p
   under_lower x h p To.Nowhere e f = absurd (cc)
@@ -410,7 +382,7 @@ group_there : (n : NodeId) (after : Option CellId) (os : List Owned) (o : Owned)
 group_there n after [] o h = absurd h
 group_there n after (p ∷ ps) o h = (record { node = n; after = after; cells = p ∷ ps }, refl, refl)
 
-row_owned : (r n : NodeId) (o : Owned) (at : FlatAt) → owned_by n (row_cell r at) ≡ Some o → (at ≡ FlatAt.Row r o.cell) × (n ≡ o.node)
+pub row_owned : (r n : NodeId) (o : Owned) (at : FlatAt) → owned_by n (row_cell r at) ≡ Some o → (at ≡ FlatAt.Row r o.cell) × (n ≡ o.node)
 row_owned r n o FlatAt.Root e = absurd (cc)
 row_owned r n o (FlatAt.Top d) e = absurd (cc)
 row_owned r n o (FlatAt.Register f) e = absurd (cc)
@@ -420,7 +392,7 @@ row_owned r n o (FlatAt.Row q d) e = go (same_node q r) refl e
     go true p e = let s : owned d n ≡ o = cc in ((λ i. FlatAt.Row (same_node-true q r p i) (s i).cell), ap (λ (o : Owned). o.node) s)
     go false p e = absurd (cc)
 
-top_owned : (n : NodeId) (o : Owned) (at : FlatAt) → owned_by n (top_cell at) ≡ Some o → (at ≡ FlatAt.Top o.cell) × (n ≡ o.node)
+pub top_owned : (n : NodeId) (o : Owned) (at : FlatAt) → owned_by n (top_cell at) ≡ Some o → (at ≡ FlatAt.Top o.cell) × (n ≡ o.node)
 top_owned n o FlatAt.Root e = absurd (cc)
 top_owned n o (FlatAt.Top d) e = let s : owned d n ≡ o = cc in (ap (λ (o : Owned). FlatAt.Top o.cell) s, ap (λ (o : Owned). o.node) s)
 top_owned n o (FlatAt.Row q d) e = absurd (cc)
@@ -436,23 +408,23 @@ under_at xs x g e = go x.row e
 no_anchors : (xs : List FlatNode) → filter_map (λ (g : Group). g.after) (groups_under xs) ≡ []
 no_anchors xs = all_none (λ (g : Group). g.after) (groups_under xs) (λ g h. (let x = filter-from (group_under xs) xs g h in (under_at xs x.0 g x.2).after))
 
-cells_under_from : (xs : List FlatNode) (r : NodeId) (o : Owned) → Has (cells_under xs r) o → (y : FlatNode) × Has xs y × (y.at ≡ FlatAt.Row r o.cell) × (y.node ≡ o.node)
+pub cells_under_from : (xs : List FlatNode) (r : NodeId) (o : Owned) → Has (cells_under xs r) o → (y : FlatNode) × Has xs y × (y.at ≡ FlatAt.Row r o.cell) × (y.node ≡ o.node)
 cells_under_from xs r o h =
     let y = filter-from (λ (x : FlatNode). owned_by x.node (row_cell r x.at)) xs o h in
     let c = row_owned r y.0.node o y.0.at y.2 in
     (y.0, y.1, c.0, c.1)
 
-cells_under_has : (xs : List FlatNode) (r : NodeId) (x : FlatNode) (c : CellId) → Has xs x → x.at ≡ FlatAt.Row r c → Has (cells_under xs r) (owned c x.node)
+pub cells_under_has : (xs : List FlatNode) (r : NodeId) (x : FlatNode) (c : CellId) → Has xs x → x.at ≡ FlatAt.Row r c → Has (cells_under xs r) (owned c x.node)
 cells_under_has xs r x c h e = has-filter_map (λ (x : FlatNode). owned_by x.node (row_cell r x.at)) xs x (owned c x.node) h
     (ap (λ at. owned_by x.node (row_cell r at)) e ∙ ap (λ b. owned_by x.node (cond b (Some c) None)) (same_node-itself r))
 
-top_from : (xs : List FlatNode) (o : Owned) → Has (top_cells xs) o → (y : FlatNode) × Has xs y × (y.at ≡ FlatAt.Top o.cell) × (y.node ≡ o.node)
+pub top_from : (xs : List FlatNode) (o : Owned) → Has (top_cells xs) o → (y : FlatNode) × Has xs y × (y.at ≡ FlatAt.Top o.cell) × (y.node ≡ o.node)
 top_from xs o h =
     let y = filter-from (λ (x : FlatNode). owned_by x.node (top_cell x.at)) xs o h in
     let c = top_owned y.0.node o y.0.at y.2 in
     (y.0, y.1, c.0, c.1)
 
-top_has : (xs : List FlatNode) (x : FlatNode) (c : CellId) → Has xs x → x.at ≡ FlatAt.Top c → Has (top_cells xs) (owned c x.node)
+pub top_has : (xs : List FlatNode) (x : FlatNode) (c : CellId) → Has xs x → x.at ≡ FlatAt.Top c → Has (top_cells xs) (owned c x.node)
 top_has xs x c h e = has-filter_map (λ (x : FlatNode). owned_by x.node (top_cell x.at)) xs x (owned c x.node) h (ap (λ at. owned_by x.node (top_cell at)) e)
 
 -- the cells in the row of an array node are in its group
@@ -498,12 +470,12 @@ module _ (rev : Rev) (l : ℕ) (xs : List FlatNode) (n c : ℕ) (counted : Count
 
 -- ## Into a row
 
-with_has : (o : Option Group) (gs : List Group) (g : Group) → Has (with_group o gs) g → (o ≡ Some g) ⊎ Has gs g
+pub with_has : (o : Option Group) (gs : List Group) (g : Group) → Has (with_group o gs) g → (o ≡ Some g) ⊎ Has gs g
 with_has None gs g h = inr h
 with_has (Some a) gs g (inl e) = inl (ap (λ b. Some b) e)
 with_has (Some a) gs g (inr h) = inr h
 
-with_first : (o : Option Group) (gs : List Group) (g : Group) → o ≡ Some g → Has (with_group o gs) g
+pub with_first : (o : Option Group) (gs : List Group) (g : Group) → o ≡ Some g → Has (with_group o gs) g
 with_first o gs g e = subst (λ q. Has (with_group q gs) g) (sym e) (inl refl)
 
 with_flat : (o : Option Group) (gs : List Group) (p : Owned) → Has (flat_map (λ (g : Group). g.cells) gs) p → Has (flat_map (λ (g : Group). g.cells) (with_group o gs)) p
@@ -532,7 +504,7 @@ module _ (D : Document) (G : NameCounters) (m : NodeId) (left : Option CellId) (
   new_not_old : (x : FlatNode) → Has xs x → x.node ≢ m
   new_not_old x h e =
       let r = numbered G.rev G.nodes xs G.nodes G.cells x w.counted h in
-      none_some (D.nodes m) (ap D.nodes (sym e ∙ r.named) ∙ w.nodes_fresh r.number r.low) w.target_known
+      None-IsSome (D.nodes m) (ap D.nodes (sym e ∙ r.named) ∙ w.nodes_fresh r.number r.low) w.target_known
 
   top_group : (g : Group) → group_of m left (top_cells xs) ≡ Some g → IsGroup D None m xs g
   top_group g e =
@@ -628,8 +600,8 @@ module _ (D : Document) (G : NameCounters) (f : FieldId) (x : FlatNode) (ys : Li
       let y = filter-from (λ (y : FlatNode). register_at y.at) (x ∷ ys) g h in
       let r = numbered G.rev G.nodes (x ∷ ys) G.nodes G.cells y.0 w.counted y.1 in
       elim (field_lower G.rev G.nodes r.number r.cell None (node_named G.rev r.number) g y.0.at tt r.at (same_register y.0.at ∙ y.2)) [
-        | inl q ↦ none_some (D.nodes f.node) (ap D.nodes (ap (λ (k : FieldId). k.node) (sym e) ∙ q) ∙ w.nodes_fresh r.number r.low) w.target_known
-        | inr j ↦ none_some (D.nodes f.node) (ap D.nodes (ap (λ (k : FieldId). k.node) (sym e) ∙ j.3) ∙ w.nodes_fresh j.0 j.1) w.target_known
+        | inl q ↦ None-IsSome (D.nodes f.node) (ap D.nodes (ap (λ (k : FieldId). k.node) (sym e) ∙ q) ∙ w.nodes_fresh r.number r.low) w.target_known
+        | inr j ↦ None-IsSome (D.nodes f.node) (ap D.nodes (ap (λ (k : FieldId). k.node) (sym e) ∙ j.3) ∙ w.nodes_fresh j.0 j.1) w.target_known
       ]
 
   no_top : registers (x ∷ ys) ≡ registers ys
@@ -677,19 +649,14 @@ module _ (D : Document) (G : NameCounters) (f : FieldId) (x : FlatNode) (ys : Li
 abbrev pub NodesFresh : Document → NameCounters → Type 0
 NodesFresh D G = (k : ℕ) → G.nodes ≤ k → D.nodes (node_named G.rev k) ≡ None
 
-all_ok : (k : ℕ) (bs : List Bool) → position_from (λ ok. not ok) k bs ≡ None → list_all (λ ok. ok) bs ≡ true
-all_ok k [] e = refl
-all_ok k (true ∷ bs) e = all_ok (k + 1) bs e
-all_ok k (false ∷ bs) e = absurd (cc)
-
-none_is : (o : Option ℕ) (u : Unit {0}) → none_refused o ≡ Ok u → o ≡ None
+pub none_is : (o : Option ℕ) (u : Unit {0}) → none_refused o ≡ Ok u → o ≡ None
 none_is None u e = refl
 none_is (Some i) u e = absurd (cc)
 
-items_form : (s : SchemaView) (types : List (List ℕ)) (ts : Nodes) → list_all (λ ok. ok) (items_verdicts s types ts) ≡ true → all_have_form ts ≡ true
+pub items_form : (s : SchemaView) (types : List (List ℕ)) (ts : Nodes) → list_all (λ ok. ok) (items_verdicts s types ts) ≡ true → all_have_form ts ≡ true
 items_form s types no_nodes e = refl
 items_form s types (first t ts) e =
-    let b = both_true _ _ (sym (list_all-append (λ ok. ok) (verdicts s types t) (items_verdicts s types ts)) ∙ e) in
+    let b = and-true _ _ (sym (list_all-append (λ ok. ok) (verdicts s types t) (items_verdicts s types ts)) ∙ e) in
     let one : has_form t ≡ true = conforming_formed s types t b.0 in
     let rest : all_have_form ts ≡ true = items_form s types ts b.1 in
     (λ i. one i && rest i)
@@ -703,7 +670,7 @@ is_allowed s G rule trees xs e =
     let u = passed (trees_allowed s rule trees) (λ _. and_then (names_left G (names_taken (named G trees))) (λ _. Ok (named G trees))) xs e in
     let v = passed (names_left G (names_taken (named G trees))) (λ _. Ok (named G trees)) xs u.2 in
     let is : named G trees ≡ xs = cc in
-    record { form = items_form s rule.types trees (all_ok 0 (items_verdicts s rule.types trees) (none_is (position_from (λ ok. not ok) 0 (items_verdicts s rule.types trees)) u.0 u.1)); list = is }
+    record { form = items_form s rule.types trees (position_from-None 0 (items_verdicts s rule.types trees) (none_is (position_from (λ ok. not ok) 0 (items_verdicts s rule.types trees)) u.0 u.1)); list = is }
 
 new_named : (D : Document) (G : NameCounters) (m : NodeId) (trees : Nodes) → IsSoundInForm D → NodesFresh D G → CellsFresh D G → IsSome (D.nodes m) → all_have_form trees ≡ true → IsNew D G m (named G trees)
 new_named D G m trees sound nodes cells known form =

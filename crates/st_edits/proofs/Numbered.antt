@@ -1,5 +1,5 @@
 -- The nodes of new trees: their names are counted up, a row's cells have an array node, and no two nodes stand in one register.
-use Rattle.std.proofs.Common.{◌≡◌, ◌≢◌, ℕ, suc, ◌+◌, ◌<◌, ◌≤◌, ◌||◌, Bool, true, false, List, [], ◌∷◌, ◌++◌, length, length-append, Option, Some, None, refl, sym, ap, ◌∙◌, subst, arith, inl, inr}
+use Rattle.std.proofs.Common.{◌≡◌, ◌≢◌, ℕ, suc, ◌+◌, ◌<◌, ◌≤◌, ◌||◌, Bool, true, false, List, [], ◌∷◌, ◌++◌, length, Option, Some, None, refl, sym, ap, ◌∙◌, subst, arith, inl, inr}
 use Rattle.std.specs.List.{filter_map, cons_option, flat_map}
 use Rattle.std.proofs.lemmas.Bool.{cases_lt}
 use Rattle.st_ids.specs.Listing.{AreDistinct, Has}
@@ -7,28 +7,21 @@ use Rattle.st_ids.specs.declared.names.CellId.{CellId}
 use Rattle.st_ids.specs.declared.names.NodeId.{NodeId}
 use Rattle.st_ids.specs.declared.names.Leaf.{Leaf}
 use Rattle.st_ids.specs.declared.names.Rev.{Rev}
-use Rattle.st_marks.proofs.Lookups.{both_true}
 use Rattle.st_marks.proofs.Members.{has-all, all-has, has-append, append_left, append_right, has-flat_map, distinct-append}
 use Rattle.st_tree.specs.declared.flat.FlatAt.{FlatAt}
 use Rattle.st_tree.specs.declared.flat.FlatNode.{FlatNode}
 use Rattle.st_tree.specs.Node.{Node, node, Fields, no_fields, field, Nodes, no_nodes, first}
-use Rattle.st_tree.specs.Size.{node_count, field_count, item_count}
+use Rattle.st_tree.specs.Size.{node_count, item_count}
 use Rattle.st_tree.specs.Form.{is_row_alone, keys_rise, fields_fit, has_form, fields_have_form, all_have_form}
 use Rattle.st_tree.specs.Preorder.{node_named, cell_named, cells_taken, cell_count, field_cells, item_cells, is_array, at_of, listed, fields_listed, items_listed, tops_listed}
 use Rattle.st_opening.specs.Start.{registers, register_at}
-use Rattle.st_opening.proofs.PreorderNames.{AreBetween, none_between, between_append, tree_regs, fields_under, row_regs, filter_append, same_number, taken, cells_used, taken_at, listed_length, items_length, listed_cells, items_cells}
+use Rattle.st_opening.proofs.PreorderNames.{AreBetween, none_between, between_append, tree_regs, fields_under, row_regs, same_number, taken, cells_used, taken_at, listed_length, items_length, listed_cells, items_cells}
+use Rattle.st_lemmas.proofs.Bools.{or-right, and-true}
+use Rattle.st_opening.proofs.StartSound.{same_cell_number}
+use Rattle.st_ids.proofs.Shared.{filter-from}
+use Rattle.st_lemmas.proofs.Lists.{filter_map-append}
 
 -- ## Lists
-
--- what a filter gives came from an item
-pub filter-from : {A B : Type 0} (f : A → Option B) (xs : List A) (y : B) → Has (filter_map f xs) y → (x : A) × Has xs x × (f x ≡ Some y)
-filter-from f [] y h = absurd h
-filter-from {A} {B} f (x ∷ xs) y h = go (f x) refl (λ k. filter-from f xs y k) h
-  where
-    go : (o : Option B) → f x ≡ o → (Has (filter_map f xs) y → (z : A) × Has xs z × (f z ≡ Some y)) → Has (cons_option o (filter_map f xs)) y → (z : A) × Has (x ∷ xs) z × (f z ≡ Some y)
-    go None e rest k = let z = rest k in (z.0, inr z.1, z.2)
-    go (Some w) e rest (inl q) = (x, inl refl, e ∙ ap (λ a. Some a) q)
-    go (Some w) e rest (inr k) = let z = rest k in (z.0, inr z.1, z.2)
 
 -- items of lists that are distinct by a name, what a filter makes of them being distinct by a key
 pub distinct_filter : {A B K L : Type 0} (name : A → L) (g : A → Option B) (key : B → K) (xs : List A) → AreDistinct name xs
@@ -155,9 +148,6 @@ numbered rev l (y ∷ xs) n c x h (inr k) =
     let cell_low : c + taken y.at ≤ r.cell = r.cell_low in
     record { number = r.number; cell = r.cell; low = omega arith; high = omega arith; cell_low = omega arith; named = r.named; at = r.at }
 
-pub same_cell_number : (rev : Rev) (j k : ℕ) → cell_named rev j ≡ cell_named rev k → j ≡ k
-same_cell_number rev j k e = ap (λ (n : CellId). n.0.at) e
-
 -- each number is some node's
 pub there_is : (rev : Rev) (l : ℕ) (xs : List FlatNode) (n c k : ℕ) → Counted rev l xs n c → n ≤ k → k < n + length xs → (x : FlatNode) × Has xs x × (x.node ≡ node_named rev k)
 there_is rev l [] n c k h low high = absurd (omega arith)
@@ -249,11 +239,11 @@ any_row (field key row items rest) = row || any_row rest
 none_row : (before : List ℕ) (fs : Fields) → keys_rise before fs ≡ true → any_row fs ≡ true → ⊥
 none_row before no_fields rises e = cc
 none_row before (field key true items rest) rises e = cc
-none_row before (field key false items rest) rises e = none_row key rest (both_true _ _ (both_true _ _ rises).1).1 e
+none_row before (field key false items rest) rises e = none_row key rest (and-true _ _ (and-true _ _ rises).1).1 e
 
 row_alone_array : (fs : Fields) → is_row_alone fs ≡ true → is_array fs ≡ true
 row_alone_array no_fields e = cc
-row_alone_array (field key row items no_fields) e = (both_true _ _ e).0
+row_alone_array (field key row items no_fields) e = (and-true _ _ e).0
 row_alone_array (field key row items (field key' row' items' rest)) e = cc
 
 array_of_row : (leaf : Option Leaf) (fs : Fields) → fields_fit leaf fs ≡ true → any_row fs ≡ true → is_array fs ≡ true
@@ -269,16 +259,12 @@ at_under : (ys : List FlatNode) (rev : Rev) (owner c : ℕ) (key : List ℕ) (ro
 at_under ys rev owner c key true own = own refl
 at_under ys rev owner c key false own = tt
 
-or_right : (a b : Bool) → b ≡ true → (a || b) ≡ true
-or_right true b e = refl
-or_right false b e = e
-
 mutual
   tree_rows : (ys : List FlatNode) (rev : Rev) (at : FlatAt) (n c : ℕ) (t : Node) → has_form t ≡ true → IsUnderArray ys at → ((x : FlatNode) → Has (listed rev at n c t) x → Has ys x)
       → (x : FlatNode) → Has (listed rev at n c t) x → IsUnderArray ys x.at
   tree_rows ys rev at n c (node ty leaf fs) form here inside x (inl e) = subst (λ (z : FlatNode). IsUnderArray ys z.at) e here
   tree_rows ys rev at n c (node ty leaf fs) form here inside x (inr h) =
-      let b = both_true _ _ form in
+      let b = and-true _ _ form in
       fields_rows ys rev n (n + 1) c fs b.1
       (λ some. (record { node = node_named rev n; ty = ty; leaf = leaf; row = is_array fs; at = at }, inside _ (inl refl), refl, array_of_row leaf fs b.0 some))
       (λ z k. inside z (inr k)) x h
@@ -287,19 +273,19 @@ mutual
       → (x : FlatNode) → Has (fields_listed rev owner n c fs) x → IsUnderArray ys x.at
   fields_rows ys rev owner n c no_fields form own inside x h = absurd h
   fields_rows ys rev owner n c (field key row items rest) form own inside x h =
-      let b = both_true _ _ form in
+      let b = and-true _ _ form in
       let here = items_listed rev owner key row n c items in
       let later = fields_listed rev owner (n + item_count items) (c + item_cells row items) rest in
       elim (has-append here later x h) [
         | inl k ↦ items_rows ys rev owner key row n c items b.0 (λ r. own (ap (λ q. q || any_row rest) r)) (λ z l. inside z (append_left here later z l)) x k
-        | inr k ↦ fields_rows ys rev owner (n + item_count items) (c + item_cells row items) rest b.1 (λ r. own (or_right row (any_row rest) r)) (λ z l. inside z (append_right here later z l)) x k
+        | inr k ↦ fields_rows ys rev owner (n + item_count items) (c + item_cells row items) rest b.1 (λ r. own (or-right row (any_row rest) r)) (λ z l. inside z (append_right here later z l)) x k
       ]
 
   items_rows : (ys : List FlatNode) (rev : Rev) (owner : ℕ) (key : List ℕ) (row : Bool) (n c : ℕ) (ts : Nodes) → all_have_form ts ≡ true → (row ≡ true → IsArray ys (node_named rev owner)) → ((x : FlatNode) → Has (items_listed rev owner key row n c ts) x → Has ys x)
       → (x : FlatNode) → Has (items_listed rev owner key row n c ts) x → IsUnderArray ys x.at
   items_rows ys rev owner key row n c no_nodes form own inside x h = absurd h
   items_rows ys rev owner key row n c (first t ts) form own inside x h =
-      let b = both_true _ _ form in
+      let b = and-true _ _ form in
       let here = listed rev (at_of rev owner key row c) n (c + cells_taken row) t in
       let later = items_listed rev owner key row (n + node_count t) (c + (cells_taken row + cell_count t)) ts in
       elim (has-append here later x h) [
@@ -311,7 +297,7 @@ pub tops_rows : (ys : List FlatNode) (rev : Rev) (n c : ℕ) (ts : Nodes) → al
     → (x : FlatNode) → Has (tops_listed rev n c ts) x → IsUnderArray ys x.at
 tops_rows ys rev n c no_nodes form inside x h = absurd h
 tops_rows ys rev n c (first t ts) form inside x h =
-    let b = both_true _ _ form in
+    let b = and-true _ _ form in
     let here = listed rev (FlatAt.Top (cell_named rev c)) n (c + 1) t in
     let later = tops_listed rev (n + node_count t) (c + (1 + cell_count t)) ts in
     elim (has-append here later x h) [
@@ -362,9 +348,9 @@ tops_regs rev n c high (first (node ty leaf fields) ts) le form =
     let d = c + (1 + field_cells fields) in
     let below = fields_listed rev n (n + 1) (c + 1) fields in
     let later = tops_listed rev m d ts in
-    let forms = both_true _ _ form in
-    let own = both_true _ _ forms.0 in
-    subst (AreBetween rev n high) (sym (filter_append (λ (x : FlatNode). register_at x.at) below later))
+    let forms = and-true _ _ form in
+    let own = and-true _ _ forms.0 in
+    subst (AreBetween rev n high) (sym (filter_map-append (λ (x : FlatNode). register_at x.at) below later))
     (between_append rev n m high (registers below) (registers later) (omega arith) (omega arith)
     (tree_regs rev n (c + 1) m leaf fields (omega arith) own.0
     (λ keys. fields_under rev n (n + 1) (c + 1) m [] fields (omega arith) (omega arith) keys own.1)

@@ -34,6 +34,7 @@ use Rattle.st_idcodec.proofs.Going.{used_of, used_new, AllGo}
 use Rattle.st_idcodec.proofs.Running.{led_after, HasAll, IsLed, AllGiven, all_given, one_table}
 use Rattle.st_idcodec.proofs.Sessions.{after_joins, uuids_in, with_joined, joined_is, uuids_kept}
 use Rattle.st_idcodec.proofs.Tables.{text_data, texts_are}
+use Rattle.st_clusters.proofs.Running.{cases_result}
 
 -- ## UUIDs
 
@@ -162,10 +163,6 @@ all_join (u ∷ us) t v wide none few e = elim (cases_joining (after_joining u t
 ]
 
 -- ## The whole
-
-cases_result : (o : Result Ids IdFault) → ((v : Ids) × (o ≡ Ok v)) ⊎ ((f : IdFault) × (o ≡ Err f))
-cases_result (Ok v) = inl (v, refl)
-cases_result (Err f) = inr (f, refl)
 
 -- the sessions before any range
 fresh_led : (us : List ℕ) (v : Ids) → Joins us no_ids v → IsLed (length us) v

@@ -1,5 +1,5 @@
 -- The ranges of the clusters of a table lead to that table again.
-use Rattle.std.proofs.Common.{◌≡◌, ◌≢◌, ◌⊎◌, inl, inr, ◌<◌, ◌≤◌, ◌+◌, ◌-◌, ℕ, true, false, refl, sym, subst, ap, ◌∙◌, arith, List, [], ◌∷◌, ◌++◌, length, get_or, set, length-set, Some}
+use Rattle.std.proofs.Common.{◌≡◌, ◌≢◌, inl, inr, ◌<◌, ◌≤◌, ◌+◌, ◌-◌, ℕ, true, false, refl, sym, subst, ap, ◌∙◌, arith, List, [], ◌∷◌, ◌++◌, length, get_or, set, length-set, Some}
 use Rattle.std.proofs.lemmas.Bool.{cases_Bool, cases_eq}
 use Rattle.std.proofs.lemmas.Bool.Decides.{nat_tests}
 use Rattle.std.proofs.lemmas.List.{append_assoc, append-nil, get_or-set_same, get_or-set_other, get_or-map, ext_get_or}
@@ -17,6 +17,7 @@ use Rattle.st_idcodec.specs.inside.Reading.{part, front_of, rest_of, after_clust
 use Rattle.st_idcodec.proofs.Going.{used_of, used_new, used_more, used_others, Goes, AllGo, both_parts}
 use Rattle.st_idcodec.proofs.Gone.{range_go}
 use Rattle.st_idcodec.proofs.Sessions.{uuids_in, IsTaken, is_taken, uuids_kept, to_ok}
+use Rattle.st_clusters.proofs.Running.{cases_result}
 
 -- ## What the sessions have
 
@@ -84,10 +85,6 @@ led_after n r t u led e =
     let final : took.ids.finalised ≡ used_of r.session t.clusters = has.2 in
     let go : AllGo n [] (with_range r t.clusters) = range_go n r t.clusters led.go (omega (arith, took.number)) (omega (arith, took.number, took.within, led.settled.count)) (omega (arith, took.next, final)) in
     record { go = subst (λ (v : Ids). AllGo n [] v.clusters) took.made go; settled = settled_after n r t u led.settled e }
-
-cases_result : (o : Result Ids IdFault) → ((v : Ids) × (o ≡ Ok v)) ⊎ ((f : IdFault) × (o ≡ Err f))
-cases_result (Ok v) = inl (v, refl)
-cases_result (Err f) = inr (f, refl)
 
 pub log_led : (n : ℕ) (rs : List IdRange) (t u : Ids) → IsLed n t → after_log rs t ≡ Ok u → IsLed n u × (uuids_in u ≡ uuids_in t)
 log_led n [] t u led e =

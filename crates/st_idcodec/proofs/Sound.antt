@@ -14,6 +14,7 @@ use Rattle.st_clusters.specs.declared.ids.Cluster.{Cluster}
 use Rattle.st_idcodec.specs.OpText.{small, place_number}
 use Rattle.st_idcodec.specs.TableText.{plain_number, cluster_data, uuid_text}
 use Rattle.st_idcodec.specs.inside.Reading.{same, wide_number, cluster_of_numbers, cluster_in, cluster_of, clusters_of, with_text, uuid_of_text, uuid_of, both_items, items_in, table_items}
+use Rattle.st_json.proofs.Shared.{is_string, is_object, is_array}
 
 -- ## Options
 
@@ -31,30 +32,6 @@ from_test true a b e = (refl, cc e)
 from_test false a b e = absurd (cc e)
 
 -- ## Numbers
-
-is_array : (d : Data) (ds : Items) → as_array d ≡ Some ds → d ≡ array ds
-is_array null ds e = absurd (cc e)
-is_array (boolean b) ds e = absurd (cc e)
-is_array (number n) ds e = absurd (cc e)
-is_array (string s) ds e = absurd (cc e)
-is_array (array es) ds e = cc e
-is_array (object ms) ds e = absurd (cc e)
-
-is_object : (d : Data) (ms : Members) → as_object d ≡ Some ms → d ≡ object ms
-is_object null ms e = absurd (cc e)
-is_object (boolean b) ms e = absurd (cc e)
-is_object (number n) ms e = absurd (cc e)
-is_object (string s) ms e = absurd (cc e)
-is_object (array es) ms e = absurd (cc e)
-is_object (object ns) ms e = cc e
-
-is_string : (d : Data) (s : List ℕ) → as_str d ≡ Some s → d ≡ string s
-is_string null s e = absurd (cc e)
-is_string (boolean b) s e = absurd (cc e)
-is_string (number n) s e = absurd (cc e)
-is_string (string t) s e = cc e
-is_string (array es) s e = absurd (cc e)
-is_string (object ms) s e = absurd (cc e)
 
 is_number : (d : Data) (n : Num) → as_number d ≡ Some n → d ≡ number n
 is_number null n e = absurd (cc e)

@@ -2,3 +2,4 @@ pub mod Numerals
 pub mod Orders
 pub mod Points
 pub mod Rising
+pub mod Shared

@@ -65,7 +65,7 @@ cell_cmp_total = on_total (λ (c : CellId). c.0) atom_cmp_total
 pub field_cmp_total : IsTotalOrder field_cmp
 field_cmp_total = then_total (on_total (λ (f : FieldId). f.node) node_cmp_total) (on_total (λ (f : FieldId). f.key.0) nat_list_cmp_total)
 
-is_eq_equal : (o : Ordering) → is_eq o ≡ true → o ≡ Equal
+pub is_eq_equal : (o : Ordering) → is_eq o ≡ true → o ≡ Equal
 is_eq_equal Less e = cc
 is_eq_equal Equal e = refl
 is_eq_equal Greater e = cc

@@ -4,9 +4,10 @@ use Rattle.std.proofs.lemmas.Bool.{cases_lt}
 use Rattle.st_ids.specs.Listing.{Has}
 use Rattle.st_ids.specs.Order.{same_node}
 use Rattle.st_ids.specs.declared.names.NodeId.{NodeId}
-use Rattle.st_ids.proofs.Orders.{same_node-true, same_node-itself}
+use Rattle.st_ids.proofs.Orders.{same_node-true}
 use Rattle.st_marks.specs.Document.{climb, ClimbsToAnEnd}
 use Rattle.st_intent.specs.inside.Rules.{ends_within}
+use Rattle.st_marks.proofs.NoRing.{shorter}
 
 module _ (up : NodeId → Option NodeId) where
   -- an end that is reached is an end
@@ -68,23 +69,6 @@ abbrev pub without : NodeId → List NodeId → List NodeId
 without n [] = []
 without n (x ∷ xs) = cond (same_node n x) (without n xs) (x ∷ without n xs)
 
-without_at_most : (n : NodeId) (xs : List NodeId) → length (without n xs) ≤ length xs
-without_at_most n [] = omega arith
-without_at_most n (x ∷ xs) = go (same_node n x) (without_at_most n xs)
-  where
-    go : (b : Bool) → length (without n xs) ≤ length xs → length (cond b (without n xs) (x ∷ without n xs)) ≤ suc (length xs)
-    go true h = omega (arith, h)
-    go false h = omega (arith, h)
-
-without_less : (n : NodeId) (xs : List NodeId) → Has xs n → length (without n xs) < length xs
-without_less n [] h = absurd h
-without_less n (x ∷ xs) h = go (same_node n x) refl (without_at_most n xs) (λ k. without_less n xs k) h
-  where
-    go : (b : Bool) → same_node n x ≡ b → length (without n xs) ≤ length xs → (Has xs n → length (without n xs) < length xs) → (x ≡ n) ⊎ Has xs n → length (cond b (without n xs) (x ∷ without n xs)) < suc (length xs)
-    go true e most rest k = omega (arith, most)
-    go false e most rest (inl p) = let bad : true ≡ false = sym (same_node-itself n) ∙ ap (same_node n) (sym p) ∙ e in cc
-    go false e most rest (inr k) = let less = rest k in omega (arith, less)
-
 has_without : (n y : NodeId) (xs : List NodeId) → Has xs y → (y ≡ n → ⊥) → Has (without n xs) y
 has_without n y [] h apart = absurd h
 has_without n y (x ∷ xs) h apart = go (same_node n x) refl (λ k. has_without n y xs k apart) h
@@ -116,7 +100,7 @@ module _ (up : NodeId → Option NodeId) where
       go None u k e rest = refl
       go (Some p) u zero e rest = cc
       go (Some p) u (suc i) e rest =
-          let less : length (without n ns) < length ns = without_less n ns (closed 0 n p refl u) in
+          let less : length (without n ns) < length ns = shorter n ns (closed 0 n p refl u) in
           let fewer : length (without n ns) ≤ most = omega (arith, less) in
           rest p (without n ns) i fewer (sym (ap (option_and_then (climb up i)) u) ∙ e) (λ j x m c v.
           let from_n : climb up (suc j) n ≡ Some x = ap (option_and_then (climb up j)) u ∙ c in

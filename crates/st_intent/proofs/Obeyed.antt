@@ -1,7 +1,5 @@
 -- The tests of the rules tell whether the rules are obeyed.
 use Rattle.std.proofs.Common.{◌≡◌, ◌≢◌, ℕ, ◌+◌, ◌≤◌, Bool, true, false, not, ◌&&◌, ◌||◌, List, [], ◌∷◌, ◌++◌, length, map, Option, Some, None, IsSome, IfSome, IsTrue, refl, sym, ap, ◌∙◌, subst, arith, ◌⊎◌, is_some, option_and_then, add-one}
-use Rattle.std.specs.declared.cmp.Ordering.{Ordering}
-use Rattle.std.specs.declared.cmp.Ordering.TheVariants.{Less, Equal, Greater}
 use Rattle.std.specs.Ordering.{is_eq}
 use Rattle.std.specs.List.{list_any, AllByRecursion, filter_map, flat_map}
 use Rattle.std.proofs.lemmas.Cmp.{tied_itself}
@@ -12,7 +10,7 @@ use Rattle.st_ids.specs.declared.names.CellId.{CellId}
 use Rattle.st_ids.specs.declared.names.FieldId.{FieldId}
 use Rattle.st_ids.specs.declared.names.NodeId.{NodeId}
 use Rattle.st_ids.specs.declared.names.Rev.{Rev}
-use Rattle.st_ids.proofs.Orders.{rev_cmp_exact, rev_cmp_total, same_node-true, same_node-itself, same_cell-true, same_cell-itself, same_field-true, same_field-itself}
+use Rattle.st_ids.proofs.Orders.{rev_cmp_exact, rev_cmp_total, same_node-true, same_node-itself, same_cell-true, same_cell-itself, same_field-true, same_field-itself, is_eq_equal}
 use Rattle.st_marks.specs.declared.changes.NewNode.{NewNode}
 use Rattle.st_marks.specs.declared.intents.Group.{Group}
 use Rattle.st_marks.specs.declared.intents.Intent.{Intent}
@@ -24,16 +22,13 @@ use Rattle.st_marks.specs.Intent.{IsIntent, is_new, put_of, new_row_of, clears, 
 use Rattle.st_marks.proofs.Members.{any-has, has-any, all-has, has-all, has-flat_map, flat_map-has, map-has, distinct-append, distinct-left, distinct-right, distinct-between}
 use Rattle.st_intent.specs.Rules.{makes, is_put}
 use Rattle.st_intent.specs.inside.Rules.{are_same, new_names_hold, cells_are_distinct, anchor_made, group_holds, groups_hold, is_nowhere, fills_cleared, put_holds, puts_hold, ends_within, no_ring_holds, is_empty, has_nothing, schema_holds, others_hold, is_intent}
-use Rattle.st_intent.proofs.Tells.{Tells, true-false, tells_both, tells_either, tells_not, not_false, tells_as, tells_all, tells_apart, tells_apart_some, tells_some}
-use Rattle.st_intent.proofs.Scans.{is_some-find, is_some-map, is_new-listed}
+use Rattle.st_intent.proofs.Tells.{Tells, tells_both, tells_either, tells_not, not_false, tells_as, tells_all, tells_apart, tells_apart_some, tells_some}
+use Rattle.st_intent.proofs.Scans.{is_some-find, is_new-listed}
 use Rattle.st_intent.proofs.Ends.{ends_from, ends_soon}
+use Rattle.st_lemmas.proofs.Bools.{true-false}
+use Rattle.st_lemmas.proofs.Options.{is_some-option_map}
 
 -- ## Names
-
-is_eq_equal : (o : Ordering) → is_eq o ≡ true → o ≡ Equal
-is_eq_equal Less e = cc
-is_eq_equal Equal e = refl
-is_eq_equal Greater e = cc
 
 pub one_rev : (a b : Rev) → Tells (same_rev a b) (a ≡ b)
 unfolding same_rev
@@ -75,14 +70,14 @@ new_names N =
 -- ## Groups
 
 pub put_tells : (N : Intent) (n : NodeId) → Tells (is_put N n) (IsSome (put_of N n))
-put_tells N n = let same = is_some-map (λ (p : Put). p.to) _ ∙ is_some-find (λ (p : Put). same_node p.node n) N.put in (λ e. same ∙ e, λ h. sym same ∙ h)
+put_tells N n = let same = is_some-option_map (λ (p : Put). p.to) _ ∙ is_some-find (λ (p : Put). same_node p.node n) N.put in (λ e. same ∙ e, λ h. sym same ∙ h)
 
-is_none_tells : {A : Type 0} (o : Option A) → Tells (not (is_some o)) (o ≡ None)
+pub is_none_tells : {A : Type 0} (o : Option A) → Tells (not (is_some o)) (o ≡ None)
 is_none_tells None = (λ e. refl, λ e. refl)
 is_none_tells (Some x) = (λ e. cc, λ e. cc)
 
 pub made_is : (N : Intent) (c : CellId) → is_some (new_row_of N c) ≡ makes N.groups c
-made_is N c = is_some-map (λ (g : Group). g.node) _ ∙ is_some-find (λ (g : Group). list_any (λ (o : Owned). same_cell o.cell c) g.cells) N.groups
+made_is N c = is_some-option_map (λ (g : Group). g.node) _ ∙ is_some-find (λ (g : Group). list_any (λ (o : Owned). same_cell o.cell c) g.cells) N.groups
 
 old_anchor : (N : Intent) (a : Option CellId) → Tells (not (anchor_made N a)) (IfSome a (λ c. new_row_of N c ≡ None))
 old_anchor N None = (λ e. tt, λ h. refl)
@@ -171,7 +166,7 @@ one_put N p =
     (cleared_tells N p.to)
 
 root_tells : (N : Intent) → Tells (not (is_put N root)) (put_of N root ≡ None)
-root_tells N = subst (λ b. Tells (not b) (put_of N root ≡ None)) (is_some-map (λ (p : Put). p.to) _ ∙ is_some-find (λ (p : Put). same_node p.node root) N.put) (is_none_tells (put_of N root))
+root_tells N = subst (λ b. Tells (not b) (put_of N root ≡ None)) (is_some-option_map (λ (p : Put). p.to) _ ∙ is_some-find (λ (p : Put). same_node p.node root) N.put) (is_none_tells (put_of N root))
 
 puts_obey : (N : Intent) → Tells (puts_hold N) (AllByRecursion (PutObeys N) N.put
     × ((put_of N root ≡ None) × (AreDistinct (λ (p : Put). p.node) N.put

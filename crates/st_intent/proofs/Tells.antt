@@ -1,17 +1,16 @@
 -- Tests, and the facts that they tell.
-use Rattle.std.proofs.Common.{◌≡◌, ◌≢◌, ◌↔◌, nat_lt, Bool, true, false, not, ◌&&◌, ◌||◌, List, [], ◌∷◌, length, Option, Some, None, refl, sym, ap, ◌∙◌, arith, inl, inr, ◌⊎◌}
-use Rattle.std.specs.List.{list_any, list_all, AllByRecursion, filter_map, flat_map, cons_option}
+use Rattle.std.proofs.Common.{◌≡◌, ◌≢◌, ◌↔◌, nat_lt, Bool, true, false, not, ◌&&◌, ◌||◌, List, [], ◌∷◌, length, Option, Some, None, refl, ap, ◌∙◌, arith, inl, inr, ◌⊎◌}
+use Rattle.std.specs.List.{list_any, list_all, AllByRecursion, filter_map, flat_map}
 use Rattle.std.proofs.lemmas.Bool.Decides.{nat_tests}
-use Rattle.st_ids.specs.Listing.{AreDistinct, Has}
+use Rattle.st_ids.specs.Listing.{AreDistinct}
 use Rattle.st_marks.proofs.Members.{any-has, has-any, all-has, has-all, has-flat_map, flat_map-has, has-filter_map}
 use Rattle.st_intent.specs.inside.Rules.{are_distinct}
+use Rattle.st_ids.proofs.Shared.{filter-from}
+use Rattle.st_lemmas.proofs.Bools.{true-false}
 
 -- a test tells a fact
 abbrev pub Tells : Bool → Type 0 → Type 0
 Tells b P = (b ≡ true) ↔ P
-
-pub true-false : {b : Bool} → b ≡ true → b ≡ false → ⊥
-true-false e f = let q : ◌≡◌ {A = Bool} true false = sym e ∙ f in cc
 
 pub tells_both : (a b : Bool) (P Q : Type 0) → Tells a P → Tells b Q → Tells (a && b) (P × Q)
 tells_both true b P Q p q = (λ e. (p.0 refl, q.0 e), λ h. q.1 h.1)
@@ -64,16 +63,6 @@ tells_apart same key h (x ∷ xs) =
     tells_both (not (list_any (λ y. same y x) xs)) (are_distinct same xs) (AllByRecursion (λ y. key y ≢ key x) xs) (AreDistinct key xs)
     (tells_none (λ y. same y x) (λ y. key y ≡ key x) (λ y. h x y) xs) (tells_apart same key h xs)
 
--- what a filter gives came from an item
-filter_map-from : {A K : Type 0} (g : A → Option K) (ys : List A) (j : K) → Has (filter_map g ys) j → (y : A) × Has ys y × (g y ≡ Some j)
-filter_map-from g [] j l = absurd l
-filter_map-from {A} {K} g (y ∷ ys) j l = go (g y) refl (λ k. filter_map-from g ys j k) l
-  where
-    go : (o : Option K) → g y ≡ o → (Has (filter_map g ys) j → (z : A) × Has ys z × (g z ≡ Some j)) → Has (cons_option o (filter_map g ys)) j → (z : A) × Has (y ∷ ys) z × (g z ≡ Some j)
-    go None e rest k = let z = rest k in (z.0, inr z.1, z.2)
-    go (Some i) e rest (inl q) = (y, inl refl, e ∙ ap (λ a. Some a) q)
-    go (Some i) e rest (inr k) = let z = rest k in (z.0, inr z.1, z.2)
-
 -- the same of the keys that are there
 pub tells_apart_some : {A K : Type 0} (same : A → A → Bool) (key : A → Option K) → ((x y : A) (k : K) → key x ≡ Some k → Tells (same y x) (key y ≡ Some k)) → ((x y : A) → key x ≡ None → same y x ≡ false)
     → (xs : List A) → Tells (are_distinct same xs) (AreDistinct (λ (k : K). k) (filter_map key xs))
@@ -86,7 +75,7 @@ tells_apart_some {A} {K} same key h none (x ∷ xs) = go (key x) refl (tells_apa
 
     others : (k : K) → key x ≡ Some k → Tells (not (list_any (λ y. same y x) xs)) (AllByRecursion (λ j. j ≢ k) (filter_map key xs))
     others k e = tells_as (not (list_any (λ y. same y x) xs)) (AllByRecursion (λ y. key y ≡ Some k → ⊥) xs) (AllByRecursion (λ j. j ≢ k) (filter_map key xs))
-        (λ a. has-all (λ j. j ≢ k) (filter_map key xs) (λ j l q. let y = filter_map-from key xs j l in all-has (λ y. key y ≡ Some k → ⊥) xs y.0 a y.1 (y.2 ∙ ap (λ i. Some i) q)))
+        (λ a. has-all (λ j. j ≢ k) (filter_map key xs) (λ j l q. let y = filter-from key xs j l in all-has (λ y. key y ≡ Some k → ⊥) xs y.0 a y.1 (y.2 ∙ ap (λ i. Some i) q)))
         (λ a. has-all (λ y. key y ≡ Some k → ⊥) xs (λ y l q. all-has (λ j. j ≢ k) (filter_map key xs) k a (has-filter_map key xs y k l q) refl))
         (tells_none (λ y. same y x) (λ y. key y ≡ Some k) (λ y. h x y k e) xs)
 

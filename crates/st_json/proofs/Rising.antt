@@ -16,11 +16,11 @@ abbrev Holds : {A : Type 0} → (A → Type 0) → Option A → Type 0
 Holds P None = ⊤
 Holds P (Some a) = P a
 
-Holds-map : {A B : Type 0} (P : A → Type 0) (Q : B → Type 0) (h : A → B) → ((a : A) → P a → Q (h a)) → (o : Option A) → Holds P o → Holds Q (option_map h o)
+pub Holds-map : {A B : Type 0} (P : A → Type 0) (Q : B → Type 0) (h : A → B) → ((a : A) → P a → Q (h a)) → (o : Option A) → Holds P o → Holds Q (option_map h o)
 Holds-map P Q h k None x = tt
 Holds-map P Q h k (Some a) x = k a x
 
-Holds-and_then : {A B : Type 0} (P : A → Type 0) (Q : B → Type 0) (h : A → Option B) → ((a : A) → P a → Holds Q (h a)) → (o : Option A) → Holds P o → Holds Q (option_and_then h o)
+pub Holds-and_then : {A B : Type 0} (P : A → Type 0) (Q : B → Type 0) (h : A → Option B) → ((a : A) → P a → Holds Q (h a)) → (o : Option A) → Holds P o → Holds Q (option_and_then h o)
 Holds-and_then P Q h k None x = tt
 Holds-and_then P Q h k (Some a) x = k a x
 

@@ -15,6 +15,7 @@ use Rattle.st_marks.proofs.NewRows.{rows_once}
 use Rattle.st_marks.proofs.OneVerdict.{carried_extends}
 use Rattle.st_log_laws.specs.Turns.{FitInTurn, HasRoom, cells_made}
 use Rattle.st_log_laws.proofs.Names.{if_carried, old_or_made}
+use Rattle.st_lemmas.proofs.Lists.{length-append}
 
 -- ## A list of distinct items, all of which another has, is no longer
 
@@ -42,10 +43,6 @@ no_longer key (x ∷ xs) ys d h =
     let rest = no_longer key xs (removed ys x i) d.1 (λ z j. others_stay ys x z i (h z (inr j)) (λ e. all-has (λ y. key y ≡ key x → ⊥) xs z d.0 j (ap key e))) in
     omega (arith, rest, removed_length ys x i)
 
-joined_length : {A : Type 0} (xs ys : List A) → length (xs ++ ys) ≡ length xs + length ys
-joined_length [] ys = omega arith
-joined_length (x ∷ xs) ys = omega (arith, joined_length xs ys)
-
 -- ## Rows
 
 module _ (D : Document) (N : Intent) (s : IsSoundInForm D) (f : Fits D N) where
@@ -53,7 +50,7 @@ module _ (D : Document) (N : Intent) (s : IsSoundInForm D) (f : Fits D N) where
   named_bound n =
       let l = no_longer (λ (o : Owned). o.cell) ((with_names D N).rows n) (D.rows n ++ group_cells N) (rows_once D N s f n)
       (λ o h. elim (old_or_made D N n o h) [ inl i ↦ append_left (D.rows n) (group_cells N) o i | inr i ↦ append_right (D.rows n) (group_cells N) o i ]) in
-      omega (arith, l, joined_length (D.rows n) (group_cells N))
+      omega (arith, l, length-append (D.rows n) (group_cells N))
 
   carried_bound : (n : NodeId) (v : Verdict) → length ((carried v D N).rows n) ≤ length (D.rows n) + length (group_cells N)
   carried_bound n v = if_carried (λ (C : Document). length (C.rows n) ≤ length (D.rows n) + length (group_cells N)) D N (omega arith) (named_bound n) (named_bound n) v

@@ -35,7 +35,7 @@ sublist_filtered p (N ∷ Ns) = elim (p N) as (λ b. IsSublist (cond b (N ∷ fi
 
 -- ## What a list says of its sublists
 
-has_longer : {As Bs : List Intent} → IsSublist As Bs → (N : Intent) → Has As N → Has Bs N
+pub has_longer : {As Bs : List Intent} → IsSublist As Bs → (N : Intent) → Has As N → Has Bs N
 has_longer no_more N h = absurd h
 has_longer (item_gained g) N h = inr (has_longer g N h)
 has_longer (item_kept e g) N (inl q) = inl (sym e ∙ q)

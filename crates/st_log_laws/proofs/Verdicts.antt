@@ -19,10 +19,12 @@ use Rattle.st_marks.specs.Document.{Document, IsSoundInForm, IsAncestor, IsLive,
 use Rattle.st_marks.specs.Intent.{put_of}
 use Rattle.st_marks.specs.CarryOut.{full}
 use Rattle.st_marks.specs.Verdict.{HasBase, IsBaseInEffect, IsLeast, IsUnmetNeed, IsAboveItself, IsVerdict}
-use Rattle.st_marks.proofs.Members.{true-false, map-has}
+use Rattle.st_marks.proofs.Members.{map-has}
 use Rattle.st_marks.proofs.Lookups.{put-has}
 use Rattle.st_marks.proofs.Climb.{climb_end, ends_above}
 use Rattle.st_marks.proofs.Full.{unput_above}
+use Rattle.st_marks.proofs.NoRing.{reaches_above}
+use Rattle.st_lemmas.proofs.Bools.{true-false}
 
 -- it holds, or it doesn't
 abbrev Decided : Type 0 → Type 0
@@ -113,9 +115,6 @@ node_decided = same_decided node_cmp_total node_cmp_exact
 
 abbrev Reaches : (NodeId → Option NodeId) → NodeId → NodeId → Type 0
 Reaches up n p = (k : ℕ) × (climb up k n ≡ Some p)
-
-reaches_above : (up : NodeId → Option NodeId) (n m p : NodeId) → up n ≡ Some m → Reaches up m p → Reaches up n p
-reaches_above up n m p e r = (suc r.0, rw e r.1)
 
 reaches_on : (up : NodeId → Option NodeId) (k : ℕ) (n m p : NodeId) → climb up k n ≡ Some m → Reaches up m p → Reaches up n p
 reaches_on up zero n m p e r = let q : n ≡ m = cc in subst (λ x. Reaches up x p) (sym q) r

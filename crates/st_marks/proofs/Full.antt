@@ -15,10 +15,11 @@ use Rattle.st_marks.specs.Document.{Document, root, node_of, above, IsAncestor, 
 use Rattle.st_marks.specs.Extends.{IsExtendedBy}
 use Rattle.st_marks.specs.Intent.{put_of, put_in, clears, cell_of, register_of, IsIntent, Fits, IsKnown, Owns}
 use Rattle.st_marks.specs.CarryOut.{full, with_names, spot_of, place_after, unless_cleared, unless_put, with_schema}
-use Rattle.st_marks.proofs.Members.{true-false, all-has, map-has, distinct-append}
+use Rattle.st_marks.proofs.Members.{all-has, map-has, distinct-append}
 use Rattle.st_marks.proofs.Lookups.{put-has, has-put, put_in-has, has-put_in, put_clears, clears-has}
 use Rattle.st_marks.proofs.NoRing.{no_ring_made}
 use Rattle.st_marks.proofs.NewRows.{old_cell, known_after, row_cells, one_row_each, rows_once, owns_in_row, rows_grow}
+use Rattle.st_lemmas.proofs.Bools.{true-false}
 
 -- ## Where a put leads
 

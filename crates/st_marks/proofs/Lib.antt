@@ -15,10 +15,11 @@ mod WorkedVerdicts
 mod WorkedRegisters
 mod WorkedNegative
 mod WorkedJoin
-mod WorkedBack
+pub mod WorkedBack
 mod WorkedEmbedding
 pub mod Retreat
 pub mod WayBack
 pub mod Joined
 pub mod OneTree
 pub mod MarkLengths
+pub mod Shared

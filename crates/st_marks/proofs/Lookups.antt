@@ -1,5 +1,5 @@
 -- What an intent's lists say by look-ups.
-use Rattle.std.proofs.Common.{◌≡◌, Bool, true, false, List, Option, Some, None, ◌&&◌, refl, sym, ap, ◌∙◌, subst, IsSome, IsTrue, IfSome, option_map}
+use Rattle.std.proofs.Common.{◌≡◌, true, List, Option, Some, None, ◌&&◌, refl, sym, ap, ◌∙◌, subst, IsSome, IsTrue, IfSome, option_map}
 use Rattle.std.specs.List.{find, list_any}
 use Rattle.st_ids.specs.Listing.{Has}
 use Rattle.st_ids.specs.Order.{same_node, same_cell, same_field}
@@ -13,7 +13,8 @@ use Rattle.st_marks.specs.declared.intents.Owned.{Owned}
 use Rattle.st_marks.specs.declared.intents.Put.{Put}
 use Rattle.st_marks.specs.declared.intents.To.{To}
 use Rattle.st_marks.specs.Intent.{put_of, put_in, clears, is_register, register_of, same_option, group_at, new_row_of, group_cells, IsIntent}
-use Rattle.st_marks.proofs.Members.{true-false, all-has, first-has, none-has, any-has, has-any, distinct-has, first-distinct, distinct-filter_map, flat_map-has, has-flat_map, one_list}
+use Rattle.st_marks.proofs.Members.{all-has, first-has, none-has, any-has, has-any, distinct-has, first-distinct, distinct-filter_map, flat_map-has, has-flat_map, one_list}
+use Rattle.st_lemmas.proofs.Bools.{and-true, true-false}
 
 -- ## Puts and clears
 
@@ -64,17 +65,13 @@ clears-has fs f e = let r = any-has (λ g. same_field g f) fs e in subst (Has fs
 
 -- ## Groups
 
-pub both_true : (a b : Bool) → (a && b) ≡ true → (a ≡ true) × (b ≡ true)
-both_true true b e = (refl, e)
-both_true false b e = cc
-
-anchor_is : (a b : Option CellId) → same_option same_cell a b ≡ true → a ≡ b
+pub anchor_is : (a b : Option CellId) → same_option same_cell a b ≡ true → a ≡ b
 anchor_is None None e = refl
 anchor_is None (Some d) e = cc
 anchor_is (Some c) None e = cc
 anchor_is (Some c) (Some d) e = ap (λ c. Some c) (same_cell-true c d e)
 
-anchor_itself : (a : Option CellId) → same_option same_cell a a ≡ true
+pub anchor_itself : (a : Option CellId) → same_option same_cell a a ≡ true
 anchor_itself None = refl
 anchor_itself (Some c) = same_cell-itself c
 
@@ -93,7 +90,7 @@ group_at-group N n a o h = go (find (λ (g : Group). same_node g.node n && same_
     go None e h = absurd (rw e at h)
     go (Some g) e h =
         let r = first-has (λ (g : Group). same_node g.node n && same_option same_cell g.after a) N.groups g e in
-        let b = both_true _ _ r.1 in
+        let b = and-true _ _ r.1 in
         record { group = g; listed = r.0; node = same_node-true g.node n b.0; after = anchor_is g.after a b.1; cell = rw e at h }
 
 -- a group is found at its anchor
@@ -107,7 +104,7 @@ group_found N w g h = go (find (λ (k : Group). same_node k.node g.node && same_
     go None e = absurd (true-false passes (none-has (λ (k : Group). same_node k.node g.node && same_option same_cell k.after g.after) N.groups g e h))
     go (Some k) e =
         let r = first-has (λ (k : Group). same_node k.node g.node && same_option same_cell k.after g.after) N.groups k e in
-        let b = both_true _ _ r.1 in
+        let b = and-true _ _ r.1 in
         let same = distinct-has {K = NodeId × Option CellId} (λ (g : Group). (g.node, g.after)) N.groups k g w.start_once r.0 h
         (λ i. (same_node-true k.node g.node b.0 i, anchor_is k.after g.after b.1 i)) in
         rw e (ap (λ (g : Group). g.cells) same)

@@ -18,7 +18,7 @@ spread-append (Mark.Touch c n h ∷ xs) ys = ap (λ l. Touch c n h ∷ l) (sprea
 spread-append (Mark.Make c n b ∷ xs) ys = ap (λ l. Make c n b ∷ l) (spread-append xs ys)
 spread-append (Mark.Fill c n ∷ xs) ys = ap (λ l. Fill c n ∷ l) (spread-append xs ys)
 
-before-append : (xs ys : List CellMark) → cells_before (xs ++ ys) ≡ cells_before xs ++ cells_before ys
+pub before-append : (xs ys : List CellMark) → cells_before (xs ++ ys) ≡ cells_before xs ++ cells_before ys
 before-append [] ys = refl
 before-append (Counted ∷ xs) ys = ap (λ l. counted_view ∷ l) (before-append xs ys)
 before-append (Gap c ∷ xs) ys = ap (λ l. empty_view c ∷ l) (before-append xs ys)
@@ -26,7 +26,7 @@ before-append (Touch c n h ∷ xs) ys = ap (λ l. cell_view c n true ∷ l) (bef
 before-append (Make c n b ∷ xs) ys = before-append xs ys
 before-append (Fill c n ∷ xs) ys = ap (λ l. cell_view c n false ∷ l) (before-append xs ys)
 
-after-append : (xs ys : List CellMark) → cells_after (xs ++ ys) ≡ cells_after xs ++ cells_after ys
+pub after-append : (xs ys : List CellMark) → cells_after (xs ++ ys) ≡ cells_after xs ++ cells_after ys
 after-append [] ys = refl
 after-append (Counted ∷ xs) ys = ap (λ l. counted_view ∷ l) (after-append xs ys)
 after-append (Gap c ∷ xs) ys = ap (λ l. empty_view c ∷ l) (after-append xs ys)

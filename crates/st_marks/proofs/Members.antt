@@ -2,9 +2,7 @@
 use Rattle.std.proofs.Common.{◌≡◌, ◌≢◌, Bool, true, false, List, [], ◌∷◌, ◌++◌, map, Option, Some, None, cond, ◌||◌, refl, sym, ap, ◌∙◌, subst, inl, inr, ◌⊎◌}
 use Rattle.std.specs.List.{AllByRecursion, filter_map, flat_map, find, list_any}
 use Rattle.st_ids.specs.Listing.{AreDistinct, Has}
-
-pub true-false : {b : Bool} → b ≡ true → b ≡ false → ⊥
-true-false e f = let q : ◌≡◌ {A = Bool} true false = sym e ∙ f in cc
+use Rattle.st_lemmas.proofs.Bools.{true-false}
 
 pub all-has : {A : Type 0} (P : A → Type 0) (xs : List A) (x : A) → AllByRecursion P xs → Has xs x → P x
 all-has P [] x a h = absurd h

@@ -34,7 +34,7 @@ others p q (r ∷ qs) (inr h) apart =
 abbrev Reaches : (NodeId → Option NodeId) → NodeId → NodeId → Type 0
 Reaches up n q = (k : ℕ) × (climb up k n ≡ Some q)
 
-reaches_above : (up : NodeId → Option NodeId) (n m q : NodeId) → up n ≡ Some m → Reaches up m q → Reaches up n q
+pub reaches_above : (up : NodeId → Option NodeId) (n m q : NodeId) → up n ≡ Some m → Reaches up m q → Reaches up n q
 reaches_above up n m q e r = (suc r.0, rw e r.1)
 
 module _ (up base : NodeId → Option NodeId) (put : NodeId → Bool) (follows : (n : NodeId) → put n ≡ false → (up n ≡ None) ⊎ (up n ≡ base n)) (ends : (n : NodeId) → ClimbsToAnEnd base n) (no_ring : (p : NodeId) → put p ≡ true → (k : ℕ) → climb up (suc k) p ≢ Some p) where

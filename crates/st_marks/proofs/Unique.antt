@@ -1,5 +1,5 @@
 -- An intent has one embedding in a document, and there is one step between two documents.
-use Rattle.std.proofs.Common.{◌≡◌, ◌≢◌, Bool, true, false, List, [], ◌∷◌, ◌++◌, map, Option, Some, None, refl, sym, ap, ◌∙◌, ◌↔◌}
+use Rattle.std.proofs.Common.{◌≡◌, ◌≢◌, Bool, true, List, [], ◌∷◌, ◌++◌, map, Option, Some, None, refl, sym, ap, ◌∙◌, ◌↔◌}
 use Rattle.std.specs.List.{AllByRecursion}
 use Rattle.std.specs.declared.cmp.Ordering.{Ordering}
 use Rattle.std.specs.Cmp.{IsTotalOrder}
@@ -27,16 +27,10 @@ use Rattle.st_marks.specs.Row.{Make, SameCell, step_cell, step_row, embed_row}
 use Rattle.st_marks.specs.Register.{embed_register, step_register}
 use Rattle.st_marks.specs.Embedding.{IsEmbedding, IsMentionedByIntent, row_marks, row_part, register_part, embed_loose}
 use Rattle.st_marks.specs.Step.{IsStep, IsMentionedByStep, IsSchemaStep, step_loose}
-
--- two tests that hold at the same nodes are one
-both_or_none : (a b : Bool) → (a ≡ true → b ≡ true) → (b ≡ true → a ≡ true) → a ≡ b
-both_or_none true true f g = refl
-both_or_none true false f g = sym (f refl)
-both_or_none false true f g = g refl
-both_or_none false false f g = refl
+use Rattle.st_lemmas.proofs.Bools.{both-ways-same}
 
 one_test : (m m' : NodeId → Bool) (P : NodeId → Type 0) → ((n : NodeId) → (m n ≡ true) ↔ P n) → ((n : NodeId) → (m' n ≡ true) ↔ P n) → m ≡ m'
-one_test m m' P h h' = fun_ext (λ n. both_or_none (m n) (m' n) (λ e. (h' n).1 ((h n).0 e)) (λ e. (h n).1 ((h' n).0 e)))
+one_test m m' P h h' = fun_ext (λ n. both-ways-same (m n) (m' n) (λ e. (h' n).1 ((h n).0 e)) (λ e. (h n).1 ((h' n).0 e)))
 
 -- two listings that have the same at each name are one
 pub one_list : {K A : Type 0} {cmp : K → K → Ordering} → IsTotalOrder cmp → CmpEqualImpliesEq cmp → (key : A → K) (xs ys : List A) (at at' : K → Option A) → at ≡ at' → IsListing cmp key xs at → IsListing cmp key ys at' → xs ≡ ys
@@ -49,7 +43,7 @@ one_embedding D N C K c k =
     let m = one_test c.mentioned k.mentioned (IsMentionedByIntent D N) c.which k.which in
     let rev : C.rev ≡ K.rev = c.rev ∙ sym k.rev in
     let under : C.under ≡ K.under = c.under ∙ sym k.under in
-    let base : C.base ≡ K.base = both_or_none C.base K.base (λ e. k.base.1 (c.base.0 e)) (λ e. c.base.1 (k.base.0 e)) in
+    let base : C.base ≡ K.base = both-ways-same C.base K.base (λ e. k.base.1 (c.base.0 e)) (λ e. c.base.1 (k.base.0 e)) in
     let need = one_list node_cmp_total node_cmp_exact (λ (n : NodeId). n) C.need K.need _ _ refl c.need k.need in
     let new = one_list node_cmp_total node_cmp_exact (λ (x : NewNode). x.node) C.new K.new _ _ refl c.new k.new in
     let rows = one_list node_cmp_total node_cmp_exact (λ (r : RowMarks). r.node) C.rows K.rows _ _ (ap (λ (m : NodeId → Bool). λ n. row_marks n (embed_row (row_part m N n) (content D n))) m) c.rows k.rows in
@@ -74,7 +68,7 @@ one_step_row m (item_kept {x} {y} a g) (item_kept b h) k = ap (λ l. step_cell m
 one_step_row m (item_gained {y} g) (item_kept a h) k = absurd ((not_before y.cell g k.0).0 a.0)
 one_step_row m (item_kept {x} {y} a g) (item_gained h) k = absurd ((not_before y.cell h k.0).0 a.0)
 
-distinct_content : (D : Document) (os : List Owned) → AreDistinct (λ (o : Owned). o.cell) os → AreDistinct (λ (s : Slot). s.cell) (map (slot D) os)
+pub distinct_content : (D : Document) (os : List Owned) → AreDistinct (λ (o : Owned). o.cell) os → AreDistinct (λ (s : Slot). s.cell) (map (slot D) os)
 distinct_content D [] a = tt
 distinct_content D (o ∷ os) a = (apart os a.0, distinct_content D os a.1)
   where

@@ -12,12 +12,12 @@ use Rattle.st_marks.specs.Document.{Document, root, node_of, above, climb, Climb
 use Rattle.st_marks.specs.Extends.{IsExtendedBy}
 use Rattle.st_marks.specs.Intent.{put_of, put_in, put_under, above_new, is_new, new_row_of, Fits}
 use Rattle.st_marks.specs.CarryOut.{full, void, void_data, with_names, spot_of, place_after, is_put_in_new, only_new}
-use Rattle.st_marks.proofs.Members.{true-false}
-use Rattle.st_marks.proofs.Lookups.{both_true, put-has, has-put, put_in-has, has-put_in}
+use Rattle.st_marks.proofs.Lookups.{put-has, has-put, put_in-has, has-put_in}
 use Rattle.st_marks.proofs.Climb.{climb_end, ends_above, above_known, unknown_nowhere}
 use Rattle.st_marks.proofs.NewRows.{old_cell, known_after, row_cells, one_row_each, rows_once, owns_in_row, rows_grow}
 use Rattle.st_marks.proofs.Full.{put_to_register, put_to_cell, known_put, known_put_in, old_register, IsRegister}
 use Rattle.st_marks.proofs.Turns.{extends_itself}
+use Rattle.st_lemmas.proofs.Bools.{true-false, and-true}
 
 module _ (D : Document) (N : Intent) (s : IsSoundInForm D) (f : Fits D N) where
   -- a node of the document isn't new
@@ -43,7 +43,7 @@ module _ (D : Document) (N : Intent) (s : IsSoundInForm D) (f : Fits D N) where
 
   -- a node that is placed is put
   moved_put : (n : NodeId) → moves n ≡ true → (to : To) × (put_of N n ≡ Some to) × ((void_data D N).place n ≡ spot_of (with_names D N).row_of to) × (option_map_or (is_new N) (node_of (spot_of (with_names D N).row_of to)) false ≡ true)
-  moved_put n e = go (put_of N n) refl (both_true _ _ e).1
+  moved_put n e = go (put_of N n) refl (and-true _ _ e).1
     where
       go : (o : Option To) → put_of N n ≡ o → option_map_or (λ to. option_map_or (is_new N) (node_of (spot_of (with_names D N).row_of to)) false) o false ≡ true
           → (to : To) × (put_of N n ≡ Some to) × ((void_data D N).place n ≡ spot_of (with_names D N).row_of to) × (option_map_or (is_new N) (node_of (spot_of (with_names D N).row_of to)) false ≡ true)
@@ -80,7 +80,7 @@ module _ (D : Document) (N : Intent) (s : IsSoundInForm D) (f : Fits D N) where
           let q = put_to_register (with_names D N).row_of p.0 r (sym p.2 ∙ e) in
           let new : is_new N r.node ≡ true = rw q at p.3 in
           let i = has-put_in N f.itself m r (put-has N m (To.Register r) (p.1 ∙ ap (λ t. Some t) q)) in
-          let is : is_new N m ≡ true = (both_true _ _ t).0 in
+          let is : is_new N m ≡ true = (and-true _ _ t).0 in
           rw (new, i, is) refl
       go false t =
           let h = (s.one_held m r).1 (sym (place_of_other m t) ∙ e) in

@@ -17,16 +17,14 @@ use Rattle.st_marks.specs.Extends.{IsExtendedBy}
 use Rattle.st_marks.specs.Intent.{Fits, IsKnown, Owns, put_of, clears, cell_of, register_of, group_at, new_row_of, new_type, is_new}
 use Rattle.st_marks.specs.CarryOut.{full, with_names, with_groups, spot_of, place_after, unless_cleared}
 use Rattle.st_marks.specs.Back.{IsBack, place_back, retreat, is_in, to_of}
-use Rattle.st_marks.proofs.Members.{true-false, has-all}
+use Rattle.st_marks.proofs.Members.{has-all}
 use Rattle.st_marks.proofs.Lookups.{has-put}
 use Rattle.st_marks.proofs.Climb.{unknown_nowhere}
 use Rattle.st_marks.proofs.Later.{node_later}
 use Rattle.st_marks.proofs.Full.{full_one_held, same_held}
 use Rattle.st_marks.proofs.Retreat.{retreat_sound, retreat_one_held, back_old}
-
-or_none : {A : Type 0} (o : Option A) → option_or o None ≡ o
-or_none None = refl
-or_none (Some x) = refl
+use Rattle.st_lemmas.proofs.Options.{option_or-None}
+use Rattle.st_lemmas.proofs.Bools.{true-false}
 
 module _ (D E : Document) (x : IsExtendedBy D E) (r u : Rev) (B : Intent) (b : IsBack D E r u B) where
   -- ## Nothing new
@@ -45,7 +43,7 @@ module _ (D E : Document) (x : IsExtendedBy D E) (r u : Rev) (B : Intent) (b : I
   same_row n (o ∷ os) = λ i. o ∷ (no_group n (Some o.cell) i ++ same_row n os i)
 
   row_of_same : (c : CellId) → (with_names E B).row_of c ≡ E.row_of c
-  row_of_same c = ap (option_or (E.row_of c)) (no_row c) ∙ or_none (E.row_of c)
+  row_of_same c = ap (option_or (E.row_of c)) (no_row c) ∙ option_or-None (E.row_of c)
 
   -- ## Places
 
@@ -95,7 +93,7 @@ module _ (D E : Document) (x : IsExtendedBy D E) (r u : Rev) (B : Intent) (b : I
 
   pub leads_back : full E B ≡ record (retreat D E) { schemas = E.schemas }
   leads_back =
-      let nodes : (λ n. option_or (E.nodes n) (new_type B n)) ≡ E.nodes = fun_ext (λ n. ap (option_or (E.nodes n)) (no_type n) ∙ or_none (E.nodes n)) in
+      let nodes : (λ n. option_or (E.nodes n) (new_type B n)) ≡ E.nodes = fun_ext (λ n. ap (option_or (E.nodes n)) (no_type n) ∙ option_or-None (E.nodes n)) in
       let rows : (λ n. group_at B n None ++ with_groups B n (E.rows n)) ≡ E.rows = fun_ext (λ n. λ i. no_group n None i ++ same_row n (E.rows n) i) in
       let row_of : (with_names E B).row_of ≡ E.row_of = fun_ext row_of_same in
       let place : (full E B).place ≡ (λ n. place_back D E n) = fun_ext place_led in

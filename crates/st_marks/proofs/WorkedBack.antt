@@ -12,8 +12,8 @@ use Rattle.st_marks.specs.Document.{Document, opening, node_of}
 use Rattle.st_marks.specs.Intent.{IsIntent, put_of, clears}
 use Rattle.st_marks.specs.CarryOut.{full}
 use Rattle.st_marks.specs.Back.{IsBack, place_back, is_in, to_of}
-use Rattle.st_marks.proofs.Members.{true-false}
 use Rattle.st_marks.proofs.Worked.{node, old, rev, field, one_held, intent, puts, sets, is_one}
+use Rattle.st_lemmas.proofs.Bools.{true-false}
 
 -- 1.1.0 stands in the register of 0.0.1, and 0.0.2 nowhere
 abbrev later : Document
@@ -73,7 +73,7 @@ nowhere_stays true p q f a b = a ∙ sym b
 nowhere_stays false p q f a b = rw b refl
 
 -- whether it is the same node doesn't depend on the order
-not_same_node : (a b : NodeId) → same_node a b ≡ false → same_node b a ≡ false
+pub not_same_node : (a b : NodeId) → same_node a b ≡ false → same_node b a ≡ false
 not_same_node a b e = go (same_node b a) refl
   where
     go : (t : Bool) → same_node b a ≡ t → same_node b a ≡ false

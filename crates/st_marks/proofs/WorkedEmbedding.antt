@@ -5,7 +5,7 @@ use Rattle.std.specs.Option.{option_or}
 use Rattle.st_ids.specs.Listing.{item_of}
 use Rattle.st_ids.specs.Order.{node_cmp, same_node, same_cell}
 use Rattle.st_ids.specs.declared.names.NodeId.{NodeId}
-use Rattle.st_ids.proofs.Orders.{same_node-true, same_node-itself}
+use Rattle.st_ids.proofs.Orders.{same_node-true}
 use Rattle.st_marks.specs.declared.changes.Change.{Change}
 use Rattle.st_marks.specs.declared.intents.Intent.{Intent}
 use Rattle.st_marks.specs.declared.intents.Owned.{Owned}
@@ -22,8 +22,8 @@ use Rattle.st_marks.specs.CarryOut.{full, with_names, with_groups, place_after, 
 use Rattle.st_marks.specs.Row.{SameCell, embed_row, step_row}
 use Rattle.st_marks.specs.Embedding.{IsEmbedding, IsMentionedByIntent, is_among, row_part, row_marks, embed_loose}
 use Rattle.st_marks.specs.Step.{IsStep, IsMentionedByStep, IsChanged, gained_node, step_loose}
-use Rattle.st_marks.proofs.Members.{true-false}
 use Rattle.st_marks.proofs.Worked.{old, old_cell, rev, two, removes}
+use Rattle.st_marks.proofs.WorkedBack.{not_same_node}
 
 abbrev removal : Intent
 removal = removes 1 (old 1)
@@ -168,13 +168,6 @@ empty_row s (o ∷ os) e = cc
 no_other_row : (s : NodeId) → same_node s root ≡ false → two.rows s ≡ []
 no_other_row s e = rw e refl
 
-other_order : (a b : NodeId) → same_node a b ≡ false → same_node b a ≡ false
-other_order a b e = go (same_node b a) refl
-  where
-    go : (t : Bool) → same_node b a ≡ t → same_node b a ≡ false
-    go true f = absurd (true-false (subst (λ b. same_node a b ≡ true) (sym (same_node-true b a f)) (same_node-itself a)) e)
-    go false f = f
-
 changed : (s : NodeId) → IsChanged two without s → (root ≡ s) ⊎ (old 1 ≡ s)
 changed s h = go (same_node root s) (same_node (old 1) s) refl refl
   where
@@ -184,7 +177,7 @@ changed s h = go (same_node root s) (same_node (old 1) s) refl refl
     go false false e f = elim h.1 [
       | inl p ↦ absurd (p (same_place s f))
       | inr r ↦ elim r [
-        | inl c ↦ absurd (c (empty_row s (two.rows s) (no_other_row s (other_order root s e))))
+        | inl c ↦ absurd (c (empty_row s (two.rows s) (no_other_row s (not_same_node root s e))))
         | inr g ↦ absurd (g.2 refl)
       ]
     ]

@@ -22,15 +22,12 @@ use Rattle.st_marks.specs.Row.{CellMark, spread}
 use Rattle.st_marks.specs.Listings.{Listing, CellView, Places, cell_view, one_or_none}
 use Rattle.st_marks.specs.Listings.Places.{placed_in_row, placed_in_register, placed_nowhere}
 use Rattle.st_marks.proofs.Members.{append_left, append_right, has-append, map-has, has-map, flat_map-has, has-flat_map, first-has, first-distinct}
-use Rattle.st_normal.proofs.Naming.{named-name, name-named}
+use Rattle.st_normal.proofs.Naming.{named-name, name-named, same-node}
 
 -- ## The node above
 
 abbrev pub link_node : Link → NodeId
 link_node l = l.node
-
-same-node : (m n : NodeId) → m.0 ≡ n.0 → m ≡ n
-same-node m n e = λ i. record { 0 = e i }
 
 up_by-has : (links : List Link) (n p : NodeId) → up_by links n ≡ Some p → Has links (link p n)
 up_by-has links n p e = go (find (is_named (λ (l : Link). l.node.0) n.0) links) refl e

@@ -6,7 +6,7 @@ use Rattle.std.specs.Ordering.{is_eq, ordering_reverse}
 use Rattle.st_ids.specs.Listing.{AreDistinct, Has}
 use Rattle.st_ids.specs.Order.{atom_cmp}
 use Rattle.st_ids.specs.declared.names.Atom.{Atom}
-use Rattle.st_ids.proofs.Orders.{atom_cmp_exact, atom_cmp_total}
+use Rattle.st_ids.proofs.Orders.{atom_cmp_exact, atom_cmp_total, is_eq_equal}
 use Rattle.std.specs.declared.cmp.Ordering.{Ordering}
 use Rattle.std.specs.declared.cmp.Ordering.TheVariants.{Less, Equal, Greater}
 use Rattle.st_ids.specs.declared.names.NodeId.{NodeId}
@@ -18,12 +18,8 @@ use Rattle.st_marks.specs.declared.marks.How.{How}
 use Rattle.st_normal.specs.Rules.{Entries, NodesAreFoundOnce, IsFoundAs}
 use Rattle.st_normal.specs.inside.Rules.{how_found}
 use Rattle.st_normal.specs.inside.Naming.{is_named}
-use Rattle.st_marks.proofs.Members.{all-has, has-all, none-has, first-has, first-distinct, map-has, has-map, true-false}
-
-is_eq_equal : (o : Ordering) → is_eq o ≡ true → o ≡ Equal
-is_eq_equal Less e = cc
-is_eq_equal Equal e = refl
-is_eq_equal Greater e = cc
+use Rattle.st_marks.proofs.Members.{all-has, has-all, none-has, first-has, first-distinct, map-has, has-map}
+use Rattle.st_lemmas.proofs.Bools.{true-false}
 
 self_reverse : (o : Ordering) → o ≡ ordering_reverse o → is_eq o ≡ true
 self_reverse Less e = cc
@@ -160,7 +156,7 @@ has-found {I} name a xs x h e = go (find (is_named name a) xs) refl
 abbrev pub node_name : NodeId → Atom
 node_name n = n.0
 
-same-node : (m n : NodeId) → m.0 ≡ n.0 → m ≡ n
+pub same-node : (m n : NodeId) → m.0 ≡ n.0 → m ≡ n
 same-node m n e = λ i. record { 0 = e i }
 
 -- a node is there exactly where it is found

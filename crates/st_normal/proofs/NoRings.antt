@@ -30,6 +30,9 @@ use Rattle.st_normal.proofs.Linked.{link_node, one_above, says_linked}
 use Rattle.st_marks.proofs.Members.{all-has, has-all, any-has, has-any}
 use Rattle.st_normal.proofs.OnePlace.{found_node, lasting, once_before, once_after}
 use Rattle.st_normal.proofs.ShownPlaces.{before_shows, after_shows}
+use Rattle.st_ids.proofs.Shared.{filtered}
+use Rattle.st_lemmas.proofs.Bools.{and-both, and-true}
+use Rattle.st_marks.proofs.Shared.{same-held}
 
 -- ## Registers
 
@@ -50,12 +53,6 @@ mark-times n None (Some m) Stay false = omega arith
 mark-times n None (Some m) Here true = omega arith
 mark-times n None (Some m) Here false = omega arith
 mark-times n None (Some m) Leave clear = omega arith
-
-same-held : (a b : Option NodeId) → same_option same_node a b ≡ true → a ≡ b
-same-held None None e = refl
-same-held None (Some y) e = cc
-same-held (Some x) None e = cc
-same-held (Some x) (Some y) e = ap (λ z. Some z) (same_node-true x y e)
 
 stay-times : (n : NodeId) (o : Option NodeId) → times n (one_or_none o) ≤ times n (lasting (found_held o Stay)) + times n []
 stay-times n None = omega arith
@@ -105,24 +102,7 @@ after_step S r d u p q =
 pub among_has : (xs : List NodeId) (n : NodeId) → IsTrue (is_among xs n) ↔ Has xs n
 among_has xs n = (λ t. let r = any-has (λ (m : NodeId). same_node m n) xs t in subst (Has xs) (same_node-true r.0 n r.2) r.1, λ h. has-any (λ (m : NodeId). same_node m n) xs n h (same_node-itself n))
 
-both-parts : (a b : Bool) → (a && b) ≡ true → (a ≡ true) × (b ≡ true)
-both-parts true b e = (refl, e)
-both-parts false b e = cc
-
-both-true : (a b : Bool) → a ≡ true → b ≡ true → (a && b) ≡ true
-both-true true b e f = f
-both-true false b e f = e
-
-filter-has : {A : Type 0} (p : A → Bool) (xs : List A) (x : A) → Has (filter p xs) x → Has xs x × (p x ≡ true)
-filter-has p [] x h = absurd h
-filter-has p (y ∷ ys) x h = go (p y) refl (λ i. filter-has p ys x i) h
-  where
-    go : (b : Bool) → p y ≡ b → (Has (filter p ys) x → Has ys x × (p x ≡ true)) → Has (if b then y ∷ filter p ys else filter p ys) x → ((y ≡ x) ⊎ Has ys x) × (p x ≡ true)
-    go true e rest (inl q) = (inl q, ap p (sym q) ∙ e)
-    go true e rest (inr i) = let r = rest i in (inr r.0, r.1)
-    go false e rest i = let r = rest i in (inr r.0, r.1)
-
-has-filter : {A : Type 0} (p : A → Bool) (xs : List A) (x : A) → Has xs x → p x ≡ true → Has (filter p xs) x
+pub has-filter : {A : Type 0} (p : A → Bool) (xs : List A) (x : A) → Has xs x → p x ≡ true → Has (filter p xs) x
 has-filter p [] x h e = absurd h
 has-filter p (y ∷ ys) x h e = go (p y) refl (λ i. has-filter p ys x i e) h
   where
@@ -137,7 +117,7 @@ filter-once key p [] d = tt
 filter-once {A} {K} key p (y ∷ ys) d = go (p y) (filter-once key p ys d.1)
   where
     go : (b : Bool) → AreDistinct key (filter p ys) → AreDistinct key (if b then y ∷ filter p ys else filter p ys)
-    go true r = (has-all (λ z. key z ≡ key y → ⊥) (filter p ys) (λ z i. all-has (λ z. key z ≡ key y → ⊥) ys z d.0 (filter-has p ys z i).0), r)
+    go true r = (has-all (λ z. key z ≡ key y → ⊥) (filter p ys) (λ z i. all-has (λ z. key z ≡ key y → ⊥) ys z d.0 (filtered p ys z i).0), r)
     go false r = r
 
 pub new_in_new : (C : Change) → ChangeIsRising C → NodesAreFoundOnce (entries_of_change C) → NodesArePutOnce (entries_of_change C) → PutNodesLeave (entries_of_change C) → NewNodesAreNotFound (entries_of_change C)
@@ -160,16 +140,16 @@ new_in_new C r d u p q =
 
     same : (n m : NodeId) → Has (filter (are_new new) links) (link m n) ↔ ((s : Spot) × IsNewInNew C n s × (node_of s ≡ Some m))
     same n m = (
-      λ h. (let f = filter-has (are_new new) links (link m n) h in
-          let b = both-parts (is_among new n) (is_among new m) f.1 in
+      λ h. (let f = filtered (are_new new) links (link m n) h in
+          let b = and-true (is_among new n) (is_among new m) f.1 in
           let s = (shown n m).0 f.0 in
           (s.0, ((among_has new n).0 b.0, subst (λ o. IfSome o (Has new)) (sym s.2) ((among_has new m).0 b.1), s.1), s.2)),
       λ (s, w, e). has-filter (are_new new) links (link m n) ((shown n m).1 (s, w.2, e))
-          (both-true (is_among new n) (is_among new m) ((among_has new n).1 w.0) ((among_has new m).1 (subst (λ o. IfSome o (Has new)) e w.1))),
+          (and-both (is_among new n) (is_among new m) ((among_has new n).1 w.0) ((among_has new m).1 (subst (λ o. IfSome o (Has new)) e w.1))),
     )
 
 pub both_new : (xs : List NodeId) (l : Link) → IsTrue (are_new xs l) ↔ (Has xs l.node × Has xs l.up)
 both_new xs l = (
-  λ t. (let b = both-parts (is_among xs l.node) (is_among xs l.up) t in ((among_has xs l.node).0 b.0, (among_has xs l.up).0 b.1)),
-  λ h. both-true (is_among xs l.node) (is_among xs l.up) ((among_has xs l.node).1 h.0) ((among_has xs l.up).1 h.1),
+  λ t. (let b = and-true (is_among xs l.node) (is_among xs l.up) t in ((among_has xs l.node).0 b.0, (among_has xs l.up).0 b.1)),
+  λ h. and-both (is_among xs l.node) (is_among xs l.up) ((among_has xs l.node).1 h.0) ((among_has xs l.up).1 h.1),
 )

@@ -18,6 +18,7 @@ use Rattle.st_marks.specs.How.{is_leave}
 use Rattle.st_normal.proofs.Counts.{times, times-append, times-all, times-none, has-times, once-times, times-once}
 use Rattle.st_normal.proofs.Linked.{link_node}
 use Rattle.st_marks.proofs.Members.{all-has, append_left, append_right, distinct-has, has-append, map-has}
+use Rattle.st_lemmas.proofs.Lists.{flat_map-same, map-append}
 
 abbrev pub found_node : Found → NodeId
 found_node f = f.node
@@ -54,11 +55,7 @@ lasting-times n (f ∷ fs) = elim (is_leave f.how) as (λ b. times n (if b then 
   | false ↦ omega (arith, lasting-times n fs)
 ]
 
-map-append : {A B : Type 0} (f : A → B) (xs ys : List A) → map f (xs ++ ys) ≡ map f xs ++ map f ys
-map-append f [] ys = refl
-map-append f (x ∷ xs) ys = ap (λ l. f x ∷ l) (map-append f xs ys)
-
-map-all : {A B C : Type 0} (f : B → C) (g : A → List B) (xs : List A) → map f (flat_map g xs) ≡ flat_map (λ x. map f (g x)) xs
+pub map-all : {A B C : Type 0} (f : B → C) (g : A → List B) (xs : List A) → map f (flat_map g xs) ≡ flat_map (λ x. map f (g x)) xs
 map-all f g [] = refl
 map-all f g (x ∷ xs) = map-append f (g x) (flat_map g xs) ∙ ap (λ l. map f (g x) ++ l) (map-all f g xs)
 
@@ -66,18 +63,14 @@ linked : (p : NodeId) (xs : List NodeId) → map link_node (map (link p) xs) ≡
 linked p [] = refl
 linked p (x ∷ xs) = ap (λ l. x ∷ l) (linked p xs)
 
-all-same : {A B : Type 0} (f g : A → List B) → ((x : A) → f x ≡ g x) → (xs : List A) → flat_map f xs ≡ flat_map g xs
-all-same f g e [] = refl
-all-same f g e (x ∷ xs) = ap (λ l. l ++ flat_map f xs) (e x) ∙ ap (λ l. g x ++ l) (all-same f g e xs)
-
 module _ {R : Type 0} (found : R → List Found) (put : R → List NodeId) (field : R → FieldId) where
   -- the nodes of the links
   linked_nodes : (stands : List CellMark → List NodeId) (held : R → Option NodeId) (rows : List RowMarks) (regs : List R)
       → map link_node (links_in stands rows ++ links_at field held regs) ≡ in_rows stands rows ++ flat_map (λ r. one_or_none (held r)) regs
   linked_nodes stands held rows regs =
       map-append link_node (links_in stands rows) (links_at field held regs)
-      ∙ ap (λ l. l ++ map link_node (links_at field held regs)) (map-all link_node (λ (r : RowMarks). map (link r.node) (stands (spread r.marks))) rows ∙ all-same (λ (r : RowMarks). map link_node (map (link r.node) (stands (spread r.marks)))) (λ (r : RowMarks). stands (spread r.marks)) (λ r. linked r.node (stands (spread r.marks))) rows)
-      ∙ ap (λ l. in_rows stands rows ++ l) (map-all link_node (λ (r : R). map (link (field r).node) (one_or_none (held r))) regs ∙ all-same (λ (r : R). map link_node (map (link (field r).node) (one_or_none (held r)))) (λ (r : R). one_or_none (held r)) (λ r. linked (field r).node (one_or_none (held r))) regs)
+      ∙ ap (λ l. l ++ map link_node (links_at field held regs)) (map-all link_node (λ (r : RowMarks). map (link r.node) (stands (spread r.marks))) rows ∙ flat_map-same (λ (r : RowMarks). map link_node (map (link r.node) (stands (spread r.marks)))) (λ (r : RowMarks). stands (spread r.marks)) (λ r. linked r.node (stands (spread r.marks))) rows)
+      ∙ ap (λ l. in_rows stands rows ++ l) (map-all link_node (λ (r : R). map (link (field r).node) (one_or_none (held r))) regs ∙ flat_map-same (λ (r : R). map link_node (map (link (field r).node) (one_or_none (held r)))) (λ (r : R). one_or_none (held r)) (λ r. linked (field r).node (one_or_none (held r))) regs)
 
   -- ## Before
 

@@ -4,25 +4,15 @@ use Rattle.std.specs.Cmp.{IsTotalOrder}
 use Rattle.std.specs.FinMap.Entries.{below_all, is_sorted}
 use Rattle.std.specs.Ordering.{is_lt}
 use Rattle.std.specs.declared.cmp.Ordering.{Ordering}
-use Rattle.std.specs.declared.cmp.Ordering.TheVariants.{Less, Equal, Greater}
+use Rattle.std.specs.declared.cmp.Ordering.TheVariants.{Less}
 use Rattle.st_ids.specs.Listing.{keyed}
-
-less : (o : Ordering) → is_lt o ≡ true → o ≡ Less
-less Less e = refl
-less Equal e = cc
-less Greater e = cc
-
-parts_true : (a b : Bool) → (a && b) ≡ true → (a ≡ true) × (b ≡ true)
-parts_true true b e = (refl, e)
-parts_true false b e = cc
-
-both_true : (a b : Bool) → a ≡ true → b ≡ true → (a && b) ≡ true
-both_true a b e f = rw (e, f) refl
+use Rattle.st_lemmas.proofs.Bools.{and-both, and-true}
+use Rattle.st_lemmas.proofs.Orders.{is_lt-Less}
 
 module _ {K A : Type 0} (R : K → K → Ordering) (t : IsTotalOrder R) (key : A → K) where
   below-lower : (j k : K) (xs : List A) → R j k ≡ Less → below_all R k (keyed key xs) ≡ true → below_all R j (keyed key xs) ≡ true
   below-lower j k [] e f = refl
-  below-lower j k (x ∷ xs) e f = let p = parts_true _ _ f in both_true _ _ (ap is_lt (t.trans j k (key x) e (less _ p.0))) (below-lower j k xs e p.1)
+  below-lower j k (x ∷ xs) e f = let p = and-true _ _ f in and-both _ _ (ap is_lt (t.trans j k (key x) e (is_lt-Less _ p.0))) (below-lower j k xs e p.1)
 
   absorbed : (b c d e : Bool) → (b ≡ true → d ≡ true → c ≡ true) → ((b && c) && (d && e)) ≡ (b && (d && e))
   absorbed true true d e h = refl
@@ -31,7 +21,7 @@ module _ {K A : Type 0} (R : K → K → Ordering) (t : IsTotalOrder R) (key : A
   absorbed false c d e h = refl
 
   pub rising_step : (x y : A) (zs : List A) → is_sorted R (keyed key (x ∷ y ∷ zs)) ≡ (is_lt (R (key x) (key y)) && is_sorted R (keyed key (y ∷ zs)))
-  rising_step x y zs = absorbed (is_lt (R (key x) (key y))) (below_all R (key x) (keyed key zs)) (below_all R (key y) (keyed key zs)) (is_sorted R (keyed key zs)) (λ e f. below-lower (key x) (key y) zs (less _ e) f)
+  rising_step x y zs = absorbed (is_lt (R (key x) (key y))) (below_all R (key x) (keyed key zs)) (below_all R (key y) (keyed key zs)) (is_sorted R (keyed key zs)) (λ e f. below-lower (key x) (key y) zs (is_lt-Less _ e) f)
 
   -- the second by its place
   pub rising_first : (x y : A) (xs : List A) (b : Bool) → 1 ≤ length xs → y ≡ get_or xs 0 y → b ≡ is_lt (R (key x) (key y)) → is_sorted R (keyed key (x ∷ xs)) ≡ (b && is_sorted R (keyed key xs))

@@ -21,7 +21,7 @@ use Rattle.st_marks.specs.declared.places.Slot.{Slot}
 use Rattle.st_marks.specs.declared.places.Spot.{Spot}
 use Rattle.st_marks.specs.Document.{Document, IsSoundInForm, above, climb, content, root}
 use Rattle.st_marks.specs.Embedding.{IsEmbedding, embed_loose, is_loose, is_nowhere, row_marks, row_part, register_part, tells}
-use Rattle.st_marks.specs.Intent.{Fits, group_at, group_cells, is_new, new_node, new_row_of}
+use Rattle.st_marks.specs.Intent.{Fits, group_at, is_new, new_node}
 use Rattle.st_marks.specs.Register.{RegisterPart, comes_in, embed_register, holds_mentioned, how_held}
 use Rattle.st_marks.specs.Row.{CellMark, Counted, Gap, Touch, Fill, RowPart, embed_cell, embed_cells, embed_made, embed_row, how, merge, spread}
 use Rattle.st_marks.specs.How.{is_here}
@@ -36,7 +36,7 @@ use Rattle.st_normal_laws.specs.Told.{AreAsSeen}
 use Rattle.st_normal_laws.proofs.Told.{change_sees}
 use Rattle.st_normal_laws.specs.Meant.{IsOver}
 use Rattle.st_normal_laws.proofs.FoundPlaces.{has-found_in, is-found_held}
-use Rattle.st_normal_laws.proofs.Basics.{or-right}
+use Rattle.st_lemmas.proofs.Bools.{or-right}
 
 some-row : {a b : RowMarks} → ◌≡◌ {A = Option RowMarks} (Some a) (Some b) → a ≡ b
 some-row {a = a} e = ap at e

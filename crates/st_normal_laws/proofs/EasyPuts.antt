@@ -3,7 +3,7 @@ use Rattle.std.proofs.Common.{◌≡◌, ◌≢◌, ◌++◌, ◌&&◌, zero, Bo
 use Rattle.std.specs.List.{filter_map, flat_map}
 use Rattle.st_ids.specs.Listing.{Has}
 use Rattle.st_ids.specs.Order.{same_node}
-use Rattle.st_ids.proofs.Orders.{field_cmp_exact, field_cmp_total, node_cmp_exact, node_cmp_total, same_node-true, same_node-itself}
+use Rattle.st_ids.proofs.Orders.{same_node-itself}
 use Rattle.st_ids.specs.declared.names.CellId.{CellId}
 use Rattle.st_ids.specs.declared.names.FieldId.{FieldId}
 use Rattle.st_ids.specs.declared.names.NodeId.{NodeId}
@@ -17,15 +17,15 @@ use Rattle.st_marks.specs.declared.marks.How.{How}
 use Rattle.st_marks.specs.declared.marks.RowMarks.{RowMarks}
 use Rattle.st_marks.specs.declared.places.Slot.{Slot}
 use Rattle.st_marks.specs.declared.places.Spot.{Spot}
-use Rattle.st_marks.specs.Document.{Document, IsSoundInForm, above, climb, content, node_of, root, owned, slot}
+use Rattle.st_marks.specs.Document.{Document, IsSoundInForm, content, root, slot}
 use Rattle.st_marks.specs.Embedding.{IsEmbedding, is_nowhere, row_part, register_part}
-use Rattle.st_marks.specs.Intent.{Fits, group_at, group_cells, is_new, new_node, new_row_of, IsKnown, cell_of, clears, put_of, put_in}
+use Rattle.st_marks.specs.Intent.{Fits, group_at, IsKnown, cell_of, put_of}
 use Rattle.st_marks.specs.Register.{how_held}
 use Rattle.st_marks.specs.Row.{CellMark, Counted, Gap, Touch, Fill, RowPart, embed_cell, embed_cells, embed_made, embed_row, how, spread, same_to}
 use Rattle.st_marks.specs.How.{is_here}
 use Rattle.st_normal.specs.Rules.{Entries, in_rows, entries_of_change, IsFoundAs, PutNodesLeave, RootStays, incoming, put_at}
 use Rattle.st_marks.proofs.Lookups.{group_at-group, made_there, put-has, has-put, put_in-has}
-use Rattle.st_marks.proofs.Members.{true-false, all-has, append_left, has-append, map-has, has-map, flat_map-has, has-flat_map, has-all}
+use Rattle.st_marks.proofs.Members.{all-has, append_left, has-append, map-has, has-map, flat_map-has, has-flat_map, has-all}
 use Rattle.st_normal_laws.specs.Meant.{IsOver}
 use Rattle.st_marks.specs.declared.intents.Put.{Put}
 use Rattle.st_normal_laws.proofs.FoundPlaces.{PlacedAs, as_row, as_held, as_loose, found_placed}
@@ -36,6 +36,7 @@ use Rattle.st_normal_laws.proofs.EasyFound.{has-new}
 use Rattle.st_normal_laws.proofs.EasyRegisters.{fill-put, how_is}
 use Rattle.st_normal_laws.proofs.EasyStaying.{loose-how, touch-row}
 use Rattle.st_normal_laws.proofs.Basics.{not-true, one-is, register-not-nowhere, row-not-nowhere}
+use Rattle.st_lemmas.proofs.Bools.{true-false}
 
 -- who comes into a cell is put there; the cell is made, or empty
 abbrev ComesTo : RowPart → List Slot → NodeId → CellId → Type 0

@@ -19,7 +19,7 @@ use Rattle.st_marks.specs.Row.{how, spread}
 use Rattle.st_marks.specs.How.{is_here}
 use Rattle.st_normal.specs.Rules.{Entries, entries_of_change, FilledRegistersAreCleared, KeysAreThere, NewRowsAreMade, RegisterMarksFit, RegistersTell}
 use Rattle.st_marks.specs.Listings.{cells_before, CellView}
-use Rattle.st_marks.proofs.Members.{true-false, all-has, has-map, has-all}
+use Rattle.st_marks.proofs.Members.{all-has, has-map, has-all}
 use Rattle.st_normal_laws.specs.Told.{AreAsSeen}
 use Rattle.st_normal_laws.specs.Meant.{IsOver}
 use Rattle.st_marks.proofs.Lookups.{put-has, clears-has, has-put_in, put_clears, put_in-has}
@@ -27,6 +27,7 @@ use Rattle.st_normal_laws.proofs.Easy.{embedding_over, held-is, reg-look}
 use Rattle.st_normal_laws.proofs.Puts.{is_here-put}
 use Rattle.st_marks.specs.declared.marks.How.TheVariants.{Stay, Here}
 use Rattle.st_normal_laws.proofs.EasyStaying.{reg-how}
+use Rattle.st_lemmas.proofs.Bools.{true-false}
 
 here-put : (o : Option To) (t : To) → how o t ≡ Here → o ≡ Some t
 here-put o t e = is_here-put o t (ap is_here e)

@@ -3,7 +3,7 @@ use Rattle.std.proofs.Common.{◌≡◌, ◌≢◌, ◌++◌, ◌||◌, ◌&&◌
 use Rattle.std.specs.List.{filter_map, flat_map, list_any}
 use Rattle.st_ids.specs.Listing.{Has}
 use Rattle.st_ids.specs.Order.{field_cmp, node_cmp, same_node}
-use Rattle.st_ids.proofs.Orders.{field_cmp_exact, field_cmp_total, node_cmp_exact, node_cmp_total, same_node-true, same_node-itself}
+use Rattle.st_ids.proofs.Orders.{field_cmp_exact, field_cmp_total, node_cmp_exact, node_cmp_total}
 use Rattle.st_ids.specs.declared.names.CellId.{CellId}
 use Rattle.st_ids.specs.declared.names.FieldId.{FieldId}
 use Rattle.st_ids.specs.declared.names.NodeId.{NodeId}
@@ -21,12 +21,12 @@ use Rattle.st_marks.specs.declared.places.Slot.{Slot}
 use Rattle.st_marks.specs.declared.places.Spot.{Spot}
 use Rattle.st_marks.specs.Document.{Document, IsSoundInForm, above, climb, content, node_of, root, owned, slot}
 use Rattle.st_marks.specs.Embedding.{IsEmbedding, embed_loose, is_nowhere, row_part, register_part, tells, named_by_intent}
-use Rattle.st_marks.specs.Intent.{Fits, group_at, group_cells, is_new, new_node, new_row_of, IsKnown, cell_of, clears, put_of, Owns}
+use Rattle.st_marks.specs.Intent.{Fits, group_at, IsKnown, cell_of, clears, put_of, Owns}
 use Rattle.st_marks.specs.Register.{RegisterPart, comes_in, embed_register, holds_mentioned, how_held}
-use Rattle.st_marks.specs.Row.{CellMark, Counted, Gap, Touch, Make, Fill, RowPart, embed_cell, embed_cells, embed_made, embed_row, how, merge, spread}
+use Rattle.st_marks.specs.Row.{CellMark, Counted, Gap, Touch, Fill, RowPart, embed_cell, embed_cells, embed_made, embed_row, how, spread}
 use Rattle.st_marks.specs.How.{is_here, is_stay}
 use Rattle.st_normal.specs.Rules.{Entries, found_held, found_in, found_loose, in_rows, entries_of_change, HasListedField, StayingNodesAreMentioned, kept_at, staying}
-use Rattle.st_marks.proofs.Climb.{above_known, climb_more, shown, stands}
+use Rattle.st_marks.proofs.Climb.{stands}
 use Rattle.st_normal.proofs.Linked.{item_of-has}
 use Rattle.st_marks.proofs.Lookups.{made_there, group_found, has-put}
 use Rattle.st_marks.proofs.Members.{all-has, append_left, append_right, has-append, map-has, has-map, has-flat_map, has-any, has-all}
@@ -35,7 +35,7 @@ use Rattle.st_normal_laws.proofs.FoundPlaces.{found_in-has, found_held-is}
 use Rattle.st_normal_laws.proofs.Easy.{held-is, reg-look, row-look, row-listed, found-row, found-register, loose-is, loose-look, parts}
 use Rattle.st_normal.proofs.NoRings.{among_has}
 use Rattle.st_normal_laws.proofs.Puts.{put-is_here}
-use Rattle.st_normal_laws.proofs.Basics.{or-right}
+use Rattle.st_lemmas.proofs.Bools.{or-right}
 
 staying-has : (fs : List Found) (n : NodeId) → Has (staying fs) n → (g : Found) × Has fs g × (g.node ≡ n) × (is_stay g.how ≡ true)
 staying-has [] n h = absurd h

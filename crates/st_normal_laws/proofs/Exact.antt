@@ -24,27 +24,17 @@ use Rattle.st_marks.specs.Intent.{cell_of}
 use Rattle.st_marks.specs.Row.{CellMark, Counted, Gap, Touch, Make, Fill, spread}
 use Rattle.st_marks.specs.How.{is_here, is_stay, is_leave}
 use Rattle.st_normal.specs.Rules.{IsFound, IsFoundAs, HasListedField, Entries, ObeysDataRules, fields_of, found_at, found_held, found_in, found_loose, in_rows, incoming, kept_at, entries_of_change, put_at, staying}
-use Rattle.st_marks.specs.Listings.{CellView, cells_before, nodes_new, one_or_none}
+use Rattle.st_marks.specs.Listings.{nodes_new, one_or_none}
 use Rattle.st_marks.proofs.Climb.{above_known, climb_more}
-use Rattle.st_normal.proofs.NoRings.{among_has}
-use Rattle.st_marks.proofs.Members.{true-false, all-has, append_left, append_right, has-append, map-has, has-map, flat_map-has, has-flat_map, any-has, has-filter_map}
+use Rattle.st_normal.proofs.NoRings.{among_has, has-filter}
+use Rattle.st_marks.proofs.Members.{all-has, append_left, append_right, has-append, map-has, has-map, flat_map-has, has-flat_map, any-has, has-filter_map}
 use Rattle.st_normal_laws.specs.Mentions.{mentions, moving}
 use Rattle.st_normal_laws.specs.Meant.{IsOver, cleared_at, gone, group_of, groups_along, groups_of, leaving, loose_puts, made_first, meant, put_to, reg_puts, row_puts, along, Along}
-use Rattle.st_normal_laws.proofs.FoundPlaces.{PlacedAs, as_row, as_held, as_loose, touched, filled, found_in-has, has-found_in, found_held-is, is-found_held, found_placed, found_there, found_above, placed_above, touch_place, held_place}
-use Rattle.st_normal_laws.proofs.Mentioned.{filter-has, has-filter, moving-has, has-moving, has-staying, has-leaving, leaving-has, row_put-has, here-put, fill-put, incoming-put, make-incoming, fill-incoming, row_made}
-use Rattle.st_normal_laws.proofs.Basics.{and-both, and-cases, is-one, not-false, not-true, one-is, or-cases, or-left, or-right}
-
-pub filter_map-has : {A K : Type 0} (g : A → Option K) (xs : List A) (k : K) → Has (filter_map g xs) k → (x : A) × Has xs x × (g x ≡ Some k)
-filter_map-has g [] k h = absurd h
-filter_map-has {A} {K} g (y ∷ xs) k h = go (g y) refl (λ i. filter_map-has g xs k i) h
-  where
-    go : (o : Option K) → g y ≡ o → (Has (filter_map g xs) k → (x : A) × Has xs x × (g x ≡ Some k)) → Has (filter_map g (y ∷ xs)) k → (x : A) × Has (y ∷ xs) x × (g x ≡ Some k)
-    go None e rest i = let r = rest (rw e at i) in (r.0, inr r.1, r.2)
-    go (Some j) e rest i = split (rw e at i)
-      where
-        split : (j ≡ k) ⊎ Has (filter_map g xs) k → (x : A) × Has (y ∷ xs) x × (g x ≡ Some k)
-        split (inl q) = (y, inl refl, e ∙ ap (λ z. Some z) q)
-        split (inr i) = let r = rest i in (r.0, inr r.1, r.2)
+use Rattle.st_normal_laws.proofs.FoundPlaces.{PlacedAs, as_row, as_held, as_loose, touched, filled, has-found_in, is-found_held, found_placed, found_there, found_above, touch_place, held_place}
+use Rattle.st_normal_laws.proofs.Mentioned.{moving-has, has-moving, has-staying, has-leaving, leaving-has, row_put-has, here-put, fill-put, incoming-put, make-incoming, fill-incoming, row_made}
+use Rattle.st_normal_laws.proofs.Basics.{is-one, not-false, not-true, one-is}
+use Rattle.st_ids.proofs.Shared.{filter-from, filtered}
+use Rattle.st_lemmas.proofs.Bools.{true-false, and-both, and-true, or-cases, or-left, or-right}
 
 -- a climb that ends is longer than one that doesn't
 climb_lt : (up : NodeId → Option NodeId) (k i : ℕ) (m n : NodeId) → climb up k m ≡ None → climb up i m ≡ Some n → i < k
@@ -171,7 +161,7 @@ module _ (D : Document) (C : Change) (x : IsSoundInForm D) (w : ObeysDataRules C
       ]
       | inr b ↦ elim b [
         | inl (l, i, j) ↦ inr (nowhere l i (is_here l.how) refl j)
-        | inr (n, i, e) ↦ (let f = leaving-has L.found n (filter-has (λ n. not (is_among L.put n)) (leaving L.found) n i).0 in
+        | inr (n, i, e) ↦ (let f = leaving-has L.found n (filtered (λ n. not (is_among L.put n)) (leaving L.found) n i).0 in
             inr (subst (Has (moving L.found)) (f.2 ∙ ap (λ (p : Put). p.node) (sym e)) (has-moving L.found f.0 f.1 (leave-not f.0.how f.3))))
       ]
     ]
@@ -333,7 +323,7 @@ module _ (D : Document) (C : Change) (x : IsSoundInForm D) (w : ObeysDataRules C
     | inl a ↦ (let f = moving-has L.found n ((among_has (moving L.found) n).0 a) in subst M f.2 (m-moved f.0 f.1 f.3))
     | inr b ↦ elim (or-cases (is_among C.need n) _ b) [
       | inl a ↦ (let h = (among_has C.need n).0 a in m-need n h (known-need n h))
-      | inr c ↦ (let d = and-cases (is_among (fields_of L) n) _ c in
+      | inr c ↦ (let d = and-true (is_among (fields_of L) n) _ c in
           let h = (among_has (fields_of L) n).0 d.0 in
           m-field n h (known-field n h (λ i. not-true (is_among (nodes_new C.new) n) d.1 ((among_has (nodes_new C.new) n).1 i))))
     ]
@@ -356,7 +346,7 @@ module _ (D : Document) (C : Change) (x : IsSoundInForm D) (w : ObeysDataRules C
     | inl a ↦ (let f = moving-has L.found n ((among_has (moving L.found) n).0 a) in inr (subst (IsFound L) f.2 (map-has (λ (f : Found). f.node) L.found f.0 f.1)))
     | inr b ↦ elim (or-cases (is_among C.need n) _ b) [
       | inl a ↦ all-has (λ (n : NodeId). (n ≡ root) ⊎ IsFound L n) C.need n w.needed ((among_has C.need n).0 a)
-      | inr c ↦ (let d = and-cases (is_among (fields_of L) n) _ c in elim (all-has (λ (n : NodeId). (n ≡ root) ⊎ Has L.new n ⊎ IsFound L n) (fields_of L) n w.common.fields_found ((among_has (fields_of L) n).0 d.0)) [
+      | inr c ↦ (let d = and-true (is_among (fields_of L) n) _ c in elim (all-has (λ (n : NodeId). (n ≡ root) ⊎ Has L.new n ⊎ IsFound L n) (fields_of L) n w.common.fields_found ((among_has (fields_of L) n).0 d.0)) [
         | inl q ↦ inl q
         | inr a ↦ elim a [ inl i ↦ absurd (not-true (is_among (nodes_new C.new) n) d.1 ((among_has (nodes_new C.new) n).1 i)) | inr f ↦ inr f ]
       ])
@@ -465,7 +455,7 @@ module _ (D : Document) (C : Change) (x : IsSoundInForm D) (w : ObeysDataRules C
   listed-named s h k = elim (has-append (put_nodes ++ N.need ++ group_nodes ++ target_nodes) clear_nodes s h) [
     | inr i ↦ (let f = has-map (λ (f : FieldId). f.node) N.clear s i in listed-field s (subst (Has (fields_of L)) f.2 (clear-row f.0 f.1)) k)
     | inl a ↦ elim (has-append (put_nodes ++ N.need ++ group_nodes) target_nodes s a) [
-      | inr i ↦ (let p = filter_map-has (λ (p : Put). option_and_then D.row_of (cell_of p.to)) N.put s i in listed-field s (target p.0 p.1 (cell_of p.0.to) refl p.2) k)
+      | inr i ↦ (let p = filter-from (λ (p : Put). option_and_then D.row_of (cell_of p.to)) N.put s i in listed-field s (target p.0 p.1 (cell_of p.0.to) refl p.2) k)
       | inl b ↦ elim (has-append (put_nodes ++ N.need) group_nodes s b) [
         | inr i ↦ (let g = has-map (λ (g : Group). g.node) N.groups s i in let r = group-row g.0 g.1 in
             listed-field s (subst (Has (fields_of L)) (sym r.2 ∙ g.2) (Rattle.st_normal_laws.proofs.FoundPlaces.row_field-has D C x o r.0 r.1)) k)

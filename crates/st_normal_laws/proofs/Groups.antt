@@ -3,7 +3,7 @@ use Rattle.std.proofs.Common.{◌≡◌, ◌≢◌, ◌++◌, Bool, true, false,
 use Rattle.std.specs.List.{flat_map}
 use Rattle.st_ids.specs.Listing.{AreDistinct, Has}
 use Rattle.st_ids.specs.Order.{same_cell, same_node}
-use Rattle.st_ids.proofs.Orders.{same_cell-true, same_cell-itself, same_node-true, same_node-itself}
+use Rattle.st_ids.proofs.Orders.{same_node-true, same_node-itself}
 use Rattle.st_ids.specs.declared.names.CellId.{CellId}
 use Rattle.st_ids.specs.declared.names.NodeId.{NodeId}
 use Rattle.st_marks.specs.declared.changes.Change.{Change}
@@ -20,11 +20,12 @@ use Rattle.st_marks.specs.Row.{CellMark, Counted, Gap, Touch, Make, Fill, RowPar
 use Rattle.st_marks.specs.How.{is_here}
 use Rattle.st_normal.specs.Rules.{ObeysDataRules}
 use Rattle.st_marks.specs.Listings.{cells_before}
-use Rattle.st_marks.proofs.Lookups.{group_at-group}
+use Rattle.st_marks.proofs.Lookups.{group_at-group, anchor_itself, anchor_is}
 use Rattle.st_marks.proofs.Members.{all-has, has-all, append_left, append_right, has-append, map-has, has-map, flat_map-has, has-flat_map, distinct-has, distinct-append, first-distinct}
 use Rattle.st_normal_laws.specs.Told.{AreAsSeen}
 use Rattle.st_normal_laws.specs.Meant.{Along, IsOver, along, group_of, groups_along, groups_of, made_first, meant}
-use Rattle.st_normal_laws.proofs.Basics.{and-both, and-cases}
+use Rattle.st_ids.proofs.Shared.{no_members}
+use Rattle.st_lemmas.proofs.Bools.{and-both, and-true}
 
 -- ## Cells with their marks
 
@@ -139,22 +140,8 @@ group_of-has n a (p ∷ os) g (inr h) = absurd h
 pub has-group_of : (n : NodeId) (a : Option CellId) (o : Owned) (os : List Owned) → Has (group_of n a (o ∷ os)) (record { node = n; after = a; cells = o ∷ os })
 has-group_of n a o os = inl refl
 
-anchor-same : (a b : Option CellId) → same_option same_cell a b ≡ true → a ≡ b
-anchor-same None None e = refl
-anchor-same None (Some c) e = cc
-anchor-same (Some c) None e = cc
-anchor-same (Some c) (Some d) e = ap (λ c. Some c) (same_cell-true c d e)
-
-anchor-itself : (a : Option CellId) → same_option same_cell a a ≡ true
-anchor-itself None = refl
-anchor-itself (Some c) = same_cell-itself c
-
 abbrev pub anchor_key : Group → NodeId × Option CellId
 anchor_key g = (g.node, g.after)
-
-none-left : {A : Type 0} (xs : List A) → ((y : A) → Has xs y → ⊥) → xs ≡ []
-none-left [] h = refl
-none-left (y ∷ xs) h = absurd (h y (inl refl))
 
 module _ (D : Document) (C : Change) (x : IsSoundInForm D) (w : ObeysDataRules C) (o : IsOver D C) (rows_once : AreDistinct (λ (r : RowMarks). r.node) C.rows) where
   abbrev N : Intent
@@ -229,11 +216,11 @@ module _ (D : Document) (C : Change) (x : IsSoundInForm D) (w : ObeysDataRules C
   -- a group is found at its anchor
   pub group-found : (g : Group) → Has N.groups g → group_at N g.node g.after ≡ g.cells
   group-found g h = ap cells_of (first-distinct anchor_key N.groups (λ (k : Group). same_node k.node g.node && same_option same_cell k.after g.after) g start_once h
-      (and-both (same_node g.node g.node) (same_option same_cell g.after g.after) (same_node-itself g.node) (anchor-itself g.after))
-      (λ k e. let q = and-cases (same_node k.node g.node) (same_option same_cell k.after g.after) e in λ i. (same_node-true k.node g.node q.0 i, anchor-same k.after g.after q.1 i)))
+      (and-both (same_node g.node g.node) (same_option same_cell g.after g.after) (same_node-itself g.node) (anchor_itself g.after))
+      (λ k e. let q = and-true (same_node k.node g.node) (same_option same_cell k.after g.after) e in λ i. (same_node-true k.node g.node q.0 i, anchor_is k.after g.after q.1 i)))
 
   pub no-group : (n : NodeId) (a : Option CellId) → ((g : Group) → Has N.groups g → g.node ≡ n → g.after ≡ a → g.cells ≢ [] → ⊥) → group_at N n a ≡ []
-  no-group n a h = none-left (group_at N n a) (λ p i. let g = group_at-group N n a p i in h g.group g.listed g.node g.after (λ e. absurd (subst (λ l. Has l p) e g.cell)))
+  no-group n a h = no_members (group_at N n a) (λ p i. let g = group_at-group N n a p i in h g.group g.listed g.node g.after (λ e. absurd (subst (λ l. Has l p) e g.cell)))
 
   pub at-start : (r : RowMarks) → Has C.rows r → group_at N r.node None ≡ made_first (spread r.marks)
   at-start r i = go (made_first (spread r.marks)) refl

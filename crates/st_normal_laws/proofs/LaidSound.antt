@@ -15,8 +15,9 @@ use Rattle.st_marks.specs.Document.{IsSoundInForm, ClimbsToAnEnd, above, climb, 
 use Rattle.st_normal.specs.inside.Ring.{AreListed}
 use Rattle.st_normal.proofs.AboveItself.{no_ring-leads_up, too_long}
 use Rattle.st_marks.proofs.Climb.{is_cell-true}
-use Rattle.st_marks.proofs.Members.{true-false, all-has, has-all, append_left, append_right, has-append, map-has, has-map, flat_map-has, has-flat_map, first-has, none-has, any-has, has-any, distinct-has, first-distinct, one_list, list_distinct}
+use Rattle.st_marks.proofs.Members.{all-has, has-all, append_left, append_right, has-append, map-has, has-map, flat_map-has, has-flat_map, first-has, none-has, any-has, has-any, distinct-has, first-distinct, one_list, list_distinct}
 use Rattle.st_normal_laws.specs.Laid.{LaidRow, LaidHeld, Stand, Layout, cells_at, stands_in, standing, owned_at, laid, StandsAt, IsLayout}
+use Rattle.st_lemmas.proofs.Bools.{true-false}
 
 -- ## Rows
 

@@ -8,14 +8,11 @@ use Rattle.st_marks.specs.Document.{Document, content, slot}
 use Rattle.st_marks.specs.Embedding.{row_part}
 use Rattle.st_marks.specs.Intent.{group_at}
 use Rattle.st_marks.specs.Row.{CellMark, RowPart, embed_cells, embed_made, embed_row}
+use Rattle.st_lemmas.proofs.Lists.{length-append}
 
 made-length : (p : RowPart) (os : List Owned) (ms : List CellMark) → length (embed_made p os ++ ms) ≡ length os + length ms
 made-length p [] ms = omega arith
 made-length p (q ∷ os) ms = omega (arith, made-length p os ms)
-
-append-length : {A : Type 0} (xs ys : List A) → length (xs ++ ys) ≡ length xs + length ys
-append-length [] ys = omega arith
-append-length (x ∷ xs) ys = omega (arith, append-length xs ys)
 
 module _ (D : Document) (N : Intent) (m : NodeId → Bool) where
   abbrev part : NodeId → RowPart
@@ -23,7 +20,7 @@ module _ (D : Document) (N : Intent) (m : NodeId → Bool) where
 
   cells-length : (n : NodeId) (os : List Owned) → length (embed_cells (part n) (map (slot D) os)) ≡ length (with_groups N n os)
   cells-length n [] = refl
-  cells-length n (p ∷ os) = let a = made-length (part n) (group_at N n (Some p.cell)) (embed_cells (part n) (map (slot D) os)) in let b = append-length (group_at N n (Some p.cell)) (with_groups N n os) in omega (arith, a, b, cells-length n os)
+  cells-length n (p ∷ os) = let a = made-length (part n) (group_at N n (Some p.cell)) (embed_cells (part n) (map (slot D) os)) in let b = length-append (group_at N n (Some p.cell)) (with_groups N n os) in omega (arith, a, b, cells-length n os)
 
   pub row-length : (n : NodeId) → length (embed_row (part n) (content D n)) ≡ length ((full D N).rows n)
-  row-length n = let a = made-length (part n) (group_at N n None) (embed_cells (part n) (content D n)) in let b = append-length (group_at N n None) (with_groups N n (D.rows n)) in let c = cells-length n (D.rows n) in omega (arith, a, b, c)
+  row-length n = let a = made-length (part n) (group_at N n None) (embed_cells (part n) (content D n)) in let b = length-append (group_at N n None) (with_groups N n (D.rows n)) in let c = cells-length n (D.rows n) in omega (arith, a, b, c)

@@ -23,22 +23,23 @@ use Rattle.st_marks.specs.declared.marks.How.TheVariants.{Here, Leave}
 use Rattle.st_marks.specs.declared.marks.RegMark.{RegMark}
 use Rattle.st_marks.specs.declared.marks.RowMarks.{RowMarks}
 use Rattle.st_marks.specs.declared.places.Slot.{Slot}
-use Rattle.st_marks.specs.Document.{Document, IsSoundInForm, ClimbsToAnEnd, climb, content, node_of, owned, root, slot}
+use Rattle.st_marks.specs.Document.{Document, IsSoundInForm, content, owned, root, slot}
 use Rattle.st_marks.specs.Intent.{group_cells, is_new, new_row_of, put_of}
 use Rattle.st_marks.specs.Row.{CellMark, Counted, Gap, Touch, Make, Fill, spread}
 use Rattle.st_marks.specs.How.{is_here, is_stay}
 use Rattle.st_normal.specs.Rules.{IsFound, IsFoundAs, Entries, ObeysDataRules, hole_owners, in_rows, entries_of_change}
 use Rattle.st_marks.specs.Listings.{cells_before, cells_in, cells_made, nodes_new}
 use Rattle.st_marks.proofs.Lookups.{group-new_row_of}
-use Rattle.st_marks.proofs.Members.{true-false, all-has, has-all, append_left, append_right, has-append, map-has, has-map, flat_map-has, has-flat_map, first-has, none-has, any-has, has-any, distinct-has, distinct-append, has-filter_map}
+use Rattle.st_marks.proofs.Members.{all-has, has-all, append_left, has-append, map-has, has-map, flat_map-has, has-flat_map, first-has, none-has}
 use Rattle.st_normal_laws.specs.Told.{AreAsSeen}
 use Rattle.st_normal_laws.specs.Meant.{Along, IsOver, along, group_of, groups_along, groups_of, made_first, meant, put_to, row_puts}
 use Rattle.st_normal_laws.specs.Mentions.{moving}
 use Rattle.st_normal_laws.proofs.Mentioned.{moving-has}
-use Rattle.st_normal_laws.proofs.Exact.{moved-put, filter_map-has}
+use Rattle.st_normal_laws.proofs.Exact.{moved-put}
 use Rattle.st_normal_laws.proofs.Puts.{put-is, one_mark, mark-cell}
 use Rattle.st_normal_laws.proofs.Groups.{along-has, distinct-flat, anchor_key, start_once, group-cases}
-use Rattle.st_normal_laws.proofs.Basics.{and-cases}
+use Rattle.st_lemmas.proofs.Bools.{true-false, and-true}
+use Rattle.st_ids.proofs.Shared.{filter-from}
 
 -- ## Rising lists have each name once
 
@@ -50,12 +51,12 @@ not-below Greater e = cc
 module _ {K A : Type 0} (R : K → K → Ordering) (t : IsTotalOrder R) (key : A → K) where
   below-has : (k : K) (xs : List A) (y : A) → below_all R k (keyed key xs) ≡ true → Has xs y → is_lt (R k (key y)) ≡ true
   below-has k [] y e h = absurd h
-  below-has k (z ∷ xs) y e (inl q) = subst (λ z. is_lt (R k (key z)) ≡ true) q (and-cases _ _ e).0
-  below-has k (z ∷ xs) y e (inr h) = below-has k xs y (and-cases _ _ e).1 h
+  below-has k (z ∷ xs) y e (inl q) = subst (λ z. is_lt (R k (key z)) ≡ true) q (and-true _ _ e).0
+  below-has k (z ∷ xs) y e (inr h) = below-has k xs y (and-true _ _ e).1 h
 
   pub rising_distinct : (xs : List A) → IsRising R key xs → AreDistinct key xs
   rising_distinct [] r = tt
-  rising_distinct (y ∷ xs) r = let q = and-cases _ _ r in (
+  rising_distinct (y ∷ xs) r = let q = and-true _ _ r in (
     has-all (λ z. key z ≢ key y) xs (λ z h e. let a = below-has (key y) xs z q.0 h in let b : is_lt (R (key y) (key z)) ≡ false = ap (λ k. is_lt (R (key y) k)) e ∙ not-below (R (key y) (key y)) (t.antisymm (key y) (key y)) in true-false a b),
     rising_distinct xs q.1,
   )
@@ -208,7 +209,7 @@ once-filter_map {A} {K} {J} g name (y ∷ xs) d h = go (g y) refl (once-filter_m
   where
     go : (o : Option K) → g y ≡ o → AreDistinct (λ (k : K). k) (filter_map g xs) → AreDistinct (λ (k : K). k) (filter_map g (y ∷ xs))
     go None e rest = rw e rest
-    go (Some k) e rest = rw e (has-all (λ j. j ≢ k) (filter_map g xs) (λ j i q. let z = filter_map-has g xs j i in all-has (λ z. name z ≢ name y) xs z.0 d.0 z.1 (h y z.0 k (inl refl) (inr z.1) e (z.2 ∙ ap (λ k. Some k) q))), rest)
+    go (Some k) e rest = rw e (has-all (λ j. j ≢ k) (filter_map g xs) (λ j i q. let z = filter-from g xs j i in all-has (λ z. name z ≢ name y) xs z.0 d.0 z.1 (h y z.0 k (inl refl) (inr z.1) e (z.2 ∙ ap (λ k. Some k) q))), rest)
 
 -- a full cell that is made is a put
 pub make-put : (ms : List CellMark) (c : CellId) (n : NodeId) → Has ms (Make c n true) → Has (row_puts ms) (put_to n (To.Cell c))

@@ -1,9 +1,7 @@
 -- The intent of a change that obeys the rules, over a document in which it finds what is so, obeys the rules on intents and fits.
 use Rattle.std.proofs.Common.{◌≡◌, ◌≢◌, ◌↔◌, ◌++◌, ℕ, suc, Bool, true, false, not, ◌&&◌, List, [], ◌∷◌, map, length, Option, Some, None, IsSome, IsTrue, IfSome, cond, refl, sym, ap, ◌∙◌, subst, inl, inr, ◌⊎◌, option_map, option_and_then}
-use Rattle.std.specs.Cmp.{IsTotalOrder}
-use Rattle.std.specs.List.{AllByRecursion, filter_map, find, flat_map, list_any}
+use Rattle.std.specs.List.{AllByRecursion, filter_map, flat_map}
 use Rattle.std.specs.Option.{option_or}
-use Rattle.std.specs.Ordering.{is_lt, ordering_reverse}
 use Rattle.st_ids.specs.Listing.{AreDistinct, Has}
 use Rattle.st_ids.specs.Order.{node_cmp, field_cmp, same_field}
 use Rattle.st_ids.proofs.Orders.{node_cmp_exact, node_cmp_total, field_cmp_exact, field_cmp_total, same_field-true, same_field-itself}
@@ -17,8 +15,7 @@ use Rattle.st_marks.specs.declared.intents.Owned.{Owned}
 use Rattle.st_marks.specs.declared.intents.Put.{Put}
 use Rattle.st_marks.specs.declared.intents.To.{To}
 use Rattle.st_normal.specs.declared.entries.Found.{Found}
-use Rattle.st_marks.specs.declared.marks.How.{How}
-use Rattle.st_marks.specs.declared.marks.How.TheVariants.{Stay, Here, Leave}
+use Rattle.st_marks.specs.declared.marks.How.TheVariants.{Stay, Here}
 use Rattle.st_marks.specs.declared.marks.Loose.{Loose}
 use Rattle.st_marks.specs.declared.marks.RegMark.{RegMark}
 use Rattle.st_marks.specs.declared.marks.RowMarks.{RowMarks}
@@ -40,18 +37,15 @@ use Rattle.st_marks.proofs.Members.{all-has, has-all, append_left, append_right,
 use Rattle.st_normal.proofs.ShownPlaces.{stands-after}
 use Rattle.st_normal_laws.specs.Meant.{IsOver, cleared_at, leaving, meant, put_to, reg_puts}
 use Rattle.st_normal_laws.proofs.FoundPlaces.{touched, filled, found_there, row_field-has, reg_field-has}
-use Rattle.st_normal_laws.proofs.Mentioned.{filter-has, leaving-has, row_put-has}
+use Rattle.st_normal_laws.proofs.Mentioned.{leaving-has, row_put-has}
 use Rattle.st_normal_laws.proofs.Exact.{put-cases, put-moved, known-need}
 use Rattle.st_normal_laws.proofs.Puts.{put_once, put-is, cell-put, one_mark}
 use Rattle.st_normal_laws.proofs.Groups.{start_once, group-cases}
 use Rattle.st_normal.specs.inside.Links.{stands_after}
 use Rattle.st_normal_laws.proofs.MeantFits.{rows_once, regs_once, new_once, new-is, is-new, found-old, moving-found, group-nonempty, group-cell, cell-made, make-made, made_all, once-filter_map, cell_once, anchor_once, anchor-row, new_row-none, make-owner, made-new, made-all, group-cells}
 use Rattle.st_normal_laws.proofs.Basics.{one-is}
-
-here-is : (h : How) → is_here h ≡ true → h ≡ Here
-here-is Stay e = cc
-here-is Here e = refl
-here-is Leave e = cc
+use Rattle.st_seq.proofs.Rebased.{is-here}
+use Rattle.st_ids.proofs.Shared.{filtered}
 
 make-stands : (ms : List CellMark) (c : CellId) (n : NodeId) → Has ms (Make c n true) → Has (stands_after ms) n
 make-stands [] c n k = absurd k
@@ -99,7 +93,7 @@ module _ (D : Document) (C : Change) (x : IsSoundInForm D) (w : ObeysDataRules C
       set : (r : RegMark) (b : Bool) → is_here r.how ≡ b → Has (cond b (map (λ n. put_to n (To.Register r.field)) (one_or_none r.held)) []) (put_to n (To.Register f)) → (r.field ≡ f) × ((r.fill ≡ Some n) ⊎ ((r.how ≡ Here) × (r.held ≡ Some n)))
       set r false e k = absurd k
       set r true e k = let m = has-map (λ n. put_to n (To.Register r.field)) (one_or_none r.held) (put_to n (To.Register f)) k in
-          (same-register r.field f (ap (λ (p : Put). p.to) m.2), inr (here-is r.how e, one-is r.held n (subst (λ y. Has (one_or_none r.held) y) (ap (λ (p : Put). p.node) m.2) m.1)))
+          (same-register r.field f (ap (λ (p : Put). p.to) m.2), inr (is-here r.how e, one-is r.held n (subst (λ y. Has (one_or_none r.held) y) (ap (λ (p : Put). p.node) m.2) m.1)))
 
       of_reg : (r : RegMark) → Has (reg_puts r) (put_to n (To.Register f)) → (r.field ≡ f) × ((r.fill ≡ Some n) ⊎ ((r.how ≡ Here) × (r.held ≡ Some n)))
       of_reg r j = elim (has-append (map (λ n. put_to n (To.Register r.field)) (one_or_none r.fill)) (cond (is_here r.how) (map (λ n. put_to n (To.Register r.field)) (one_or_none r.held)) []) (put_to n (To.Register f)) j) [
@@ -207,7 +201,7 @@ module _ (D : Document) (C : Change) (x : IsSoundInForm D) (w : ObeysDataRules C
       ]
       | inr b ↦ elim b [
         | inl (l, i, j) ↦ loose l i (is_here l.how) j
-        | inr (m, i, q) ↦ old (leaving-found m (filter-has (λ n. not (Rattle.st_marks.specs.Embedding.is_among L.put n)) (leaving L.found) m i).0 (ap (λ (p : Put). p.node) (sym q)))
+        | inr (m, i, q) ↦ old (leaving-found m (filtered (λ n. not (Rattle.st_marks.specs.Embedding.is_among L.put n)) (leaving L.found) m i).0 (ap (λ (p : Put). p.node) (sym q)))
       ]
     ]
   ]

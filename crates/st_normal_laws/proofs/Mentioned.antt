@@ -1,6 +1,5 @@
 -- What the intent of a change mentions is exactly what the change lists as mentioned.
 use Rattle.std.proofs.Common.{◌≡◌, ◌++◌, Bool, true, false, List, [], ◌∷◌, Some, None, cond, refl, sym, ap, ◌∙◌, subst, inl, inr, ◌⊎◌}
-use Rattle.std.specs.List.{filter}
 use Rattle.st_ids.specs.Listing.{Has}
 use Rattle.st_ids.specs.declared.names.CellId.{CellId}
 use Rattle.st_ids.specs.declared.names.NodeId.{NodeId}
@@ -17,31 +16,12 @@ use Rattle.st_marks.specs.Row.{CellMark, Counted, Gap, Touch, Make, Fill}
 use Rattle.st_marks.specs.How.{is_here, is_stay, is_leave}
 use Rattle.st_normal.specs.Rules.{incoming, staying}
 use Rattle.st_marks.specs.Listings.{cells_before}
-use Rattle.st_marks.proofs.Members.{true-false, append_right}
+use Rattle.st_marks.proofs.Members.{append_right}
 use Rattle.st_normal_laws.specs.Told.{AreAsSeen}
 use Rattle.st_normal_laws.specs.Mentions.{moving}
 use Rattle.st_normal_laws.specs.Meant.{along, group_of, groups_along, leaving, made_first, put_to, row_puts}
 
 -- ## Lists
-
-pub filter-has : {A : Type 0} (p : A → Bool) (xs : List A) (x : A) → Has (filter p xs) x → Has xs x × (p x ≡ true)
-filter-has p [] x h = absurd h
-filter-has {A} p (y ∷ ys) x h = go (p y) refl (λ i. filter-has p ys x i) h
-  where
-    go : (b : Bool) → p y ≡ b → (Has (filter p ys) x → Has ys x × (p x ≡ true)) → Has (cond b (y ∷ filter p ys) (filter p ys)) x → ((y ≡ x) ⊎ Has ys x) × (p x ≡ true)
-    go true e rest (inl q) = (inl q, ap p (sym q) ∙ e)
-    go true e rest (inr i) = let r = rest i in (inr r.0, r.1)
-    go false e rest i = let r = rest i in (inr r.0, r.1)
-
-pub has-filter : {A : Type 0} (p : A → Bool) (xs : List A) (x : A) → Has xs x → p x ≡ true → Has (filter p xs) x
-has-filter p [] x h e = absurd h
-has-filter {A} p (y ∷ ys) x h e = go (p y) refl (λ i. has-filter p ys x i e) h
-  where
-    go : (b : Bool) → p y ≡ b → (Has ys x → Has (filter p ys) x) → (y ≡ x) ⊎ Has ys x → Has (cond b (y ∷ filter p ys) (filter p ys)) x
-    go true f rest (inl q) = inl q
-    go true f rest (inr i) = inr (rest i)
-    go false f rest (inl q) = absurd (true-false (ap p q ∙ e) f)
-    go false f rest (inr i) = rest i
 
 pub moving-has : (fs : List Found) (n : NodeId) → Has (moving fs) n → (f : Found) × Has fs f × (f.node ≡ n) × (is_stay f.how ≡ false)
 moving-has [] n h = absurd h

@@ -24,9 +24,8 @@ use Rattle.st_marks.specs.Row.{CellMark, Counted, Gap, Touch, Make, Fill, spread
 use Rattle.st_normal.specs.Rules.{IsFound, Entries, ObeysDataRules, fields_of, found_at, found_held, found_in, found_loose, in_rows, entries_of_change, fill_owners}
 use Rattle.st_marks.specs.Listings.{CellView, Places, placed_in_row, placed_in_register, cells_after, cells_before, cells_in, cells_made, nodes_new, one_or_none, nodes_standing, listing_before_change}
 use Rattle.st_normal.proofs.Linked.{has-item_of}
-use Rattle.st_marks.proofs.Members.{true-false, all-has, has-all, append_left, append_right, has-append, map-has, has-map, flat_map-has, has-flat_map, distinct-left, distinct-between, list_distinct, one_list}
+use Rattle.st_marks.proofs.Members.{all-has, has-all, append_left, append_right, has-append, map-has, has-map, flat_map-has, has-flat_map, distinct-left, distinct-between, list_distinct, one_list}
 use Rattle.st_normal_laws.specs.Meant.{IsOver, meant}
-use Rattle.st_normal_laws.proofs.FoundPlaces.{touched, filled, found_there, row_field-has, reg_field-has}
 use Rattle.st_normal_laws.proofs.Groups.{distinct-flat}
 use Rattle.st_normal_laws.proofs.MeantFits.{rising_distinct, append-assoc}
 use Rattle.st_ids.specs.declared.names.Atom.{Atom}
@@ -38,12 +37,14 @@ use Rattle.st_normal.proofs.ShownPlaces.{stands-before}
 use Rattle.st_normal.specs.inside.Links.{stands_before}
 use Rattle.st_normal_laws.specs.Laid.{laid, LaidRow, owned_at, cells_at}
 use Rattle.st_normal_laws.specs.inside.One.{over_all, node_atoms, found_row, found_reg, entry, entries_for, nodes_of_found, finds_of, names_in}
-use Rattle.st_normal_laws.specs.Seed.{CanBeFound, Finds, FoundHeld, FoundRow, IsBelow, IsFoundAt, cells_named, fresh_cell, fresh_node, lay, lay_cell, nodes_found, owners_laid, seed}
+use Rattle.st_normal_laws.specs.Seed.{CanBeFound, Finds, FoundHeld, FoundRow, IsBelow, IsFoundAt, cells_named, fresh_node, lay, nodes_found, owners_laid, seed}
 use Rattle.st_normal_laws.proofs.LaidSound.{cell_found}
 use Rattle.st_normal_laws.proofs.SeedSound.{cell_is, fresh-not, seed_held, seed_layout, seed_nowhere, seed_row, seed_sound}
 use Rattle.st_normal_laws.proofs.StandsChange.{short_after, stands_over}
 use Rattle.st_normal.proofs.NoRings.{among_has}
-use Rattle.st_normal_laws.proofs.Basics.{flat-same, map-all, map-append}
+use Rattle.st_lemmas.proofs.Lists.{flat_map-map, flat_map-same, map-append}
+use Rattle.st_lemmas.proofs.Bools.{true-false}
+use Rattle.st_normal.proofs.OnePlace.{map-all}
 
 -- ## Above all
 
@@ -124,10 +125,6 @@ owner_is F n (Make d m b ∷ ms) s h = owner_is F n ms s h
 owner_is F n (Fill d m ∷ ms) s (inl e) = inr (inl (inl (ap (λ (s : Slot). s.node) e)))
 owner_is F n (Fill d m ∷ ms) s (inr h) = elim (owner_is F n ms s h) [ inl i ↦ inl i | inr a ↦ elim a [ inl i ↦ inr (inl (inr i)) | inr b ↦ inr (inr b) ] ]
 
-flat-of-map : {A B E : Type 0} (f : B → List E) (g : A → B) (xs : List A) → flat_map f (map g xs) ≡ flat_map (λ x. f (g x)) xs
-flat-of-map f g [] = refl
-flat-of-map f g (x ∷ xs) = ap (λ l. f (g x) ++ l) (flat-of-map f g xs)
-
 distinct-of-map : {A B K : Type 0} (key : B → K) (g : A → B) (xs : List A) → AreDistinct (λ x. key (g x)) xs → AreDistinct key (map g xs)
 distinct-of-map key g [] d = tt
 distinct-of-map key g (x ∷ xs) d = (has-all (λ y. key y ≢ key (g x)) (map g xs) (λ y h. let z = has-map g xs y h in λ e. all-has (λ z. key (g z) ≢ key (g x)) xs z.0 d.0 z.1 (ap key z.2 ∙ e)), distinct-of-map key g xs d.1)
@@ -154,8 +151,8 @@ module _ (C : Change) (w : ObeysDataRules C) (plain : C.schema ≡ None) where
 
   nodes-are : nodes_found W ≡ map (λ (f : Found). f.node) (found_rows ++ found_regs)
   nodes-are =
-      (λ z. (flat-of-map (λ (r : FoundRow). nodes_standing r.cells) found_row C.rows ∙ flat-same (λ (r : RowMarks). nodes_standing (cells_before (spread r.marks))) (λ (r : RowMarks). map (λ (f : Found). f.node) (found_in (spread r.marks))) (λ r. shown-found (spread r.marks)) C.rows ∙ sym (map-all (λ (f : Found). f.node) (λ (r : RowMarks). found_in (spread r.marks)) C.rows)) z
-      ++ (flat-of-map (λ (h : FoundHeld). one_or_none h.node) found_reg C.regs ∙ flat-same (λ (r : RegMark). one_or_none r.held) (λ (r : RegMark). map (λ (f : Found). f.node) (found_at r)) (λ r. held-found r.held r.how) C.regs ∙ sym (map-all (λ (f : Found). f.node) found_at C.regs)) z)
+      (λ z. (flat_map-map (λ (r : FoundRow). nodes_standing r.cells) found_row C.rows ∙ flat_map-same (λ (r : RowMarks). nodes_standing (cells_before (spread r.marks))) (λ (r : RowMarks). map (λ (f : Found). f.node) (found_in (spread r.marks))) (λ r. shown-found (spread r.marks)) C.rows ∙ sym (map-all (λ (f : Found). f.node) (λ (r : RowMarks). found_in (spread r.marks)) C.rows)) z
+      ++ (flat_map-map (λ (h : FoundHeld). one_or_none h.node) found_reg C.regs ∙ flat_map-same (λ (r : RegMark). one_or_none r.held) (λ (r : RegMark). map (λ (f : Found). f.node) (found_at r)) (λ r. held-found r.held r.how) C.regs ∙ sym (map-all (λ (f : Found). f.node) found_at C.regs)) z)
       ∙ sym (map-append (λ (f : Found). f.node) found_rows found_regs)
 
   split : L.found ≡ (found_rows ++ found_regs) ++ found_loose C.loose
@@ -252,7 +249,7 @@ module _ (C : Change) (w : ObeysDataRules C) (plain : C.schema ≡ None) where
   pub can_be_found : CanBeFound F W
   can_be_found = record {
     rows_once = distinct-of-map (λ (r : FoundRow). r.node) found_row C.rows (rising_distinct node_cmp node_cmp_total (λ (r : RowMarks). r.node) C.rows w.rising.rows);
-    cells_once = subst (AreDistinct (λ (c : CellId). c)) (sym (flat-of-map (λ (r : FoundRow). cells_named r.cells) found_row C.rows)) (distinct-flat (λ (c : CellId). c) (λ (r : RowMarks). cells_named (cells_before (spread r.marks))) (λ (r : RowMarks). r.node) C.rows
+    cells_once = subst (AreDistinct (λ (c : CellId). c)) (sym (flat_map-map (λ (r : FoundRow). cells_named r.cells) found_row C.rows)) (distinct-flat (λ (c : CellId). c) (λ (r : RowMarks). cells_named (cells_before (spread r.marks))) (λ (r : RowMarks). r.node) C.rows
         (rising_distinct node_cmp node_cmp_total (λ (r : RowMarks). r.node) C.rows w.rising.rows)
         (λ r i. named-distinct (spread r.marks) (list_distinct (λ (r : RowMarks). cells_in (spread r.marks)) (λ (c : CellId). c) C.rows r w.common.cells_once i))
         (λ r q a b i j h k e. ap (λ (r : RowMarks). r.node) (sym (one_list (λ (r : RowMarks). cells_in (spread r.marks)) (λ (c : CellId). c) C.rows r q a b w.common.cells_once i j (named-in (spread r.marks) a h) (named-in (spread q.marks) b k) (sym e)))));

@@ -25,11 +25,13 @@ use Rattle.st_marks.specs.How.{is_here, is_leave}
 use Rattle.st_normal.specs.Rules.{IsFound, IsFoundAs, Entries, ObeysDataRules, found_at, found_held, found_in, found_loose, in_rows, incoming, entries_of_change, put_at}
 use Rattle.st_marks.specs.Listings.{cells_in, one_or_none}
 use Rattle.st_normal.proofs.Counts.{times, times-append, times-all, times-has, times-none, has-times, once-times, times-once}
-use Rattle.st_marks.proofs.Members.{true-false, all-has, append_left, append_right, has-append, map-has, has-map, flat_map-has, has-flat_map, first-has, none-has, first-distinct, distinct-has, distinct-filter_map, one_list, list_distinct}
+use Rattle.st_marks.proofs.Members.{all-has, has-append, has-map, first-distinct, distinct-filter_map, one_list, list_distinct}
 use Rattle.st_normal_laws.specs.Meant.{IsOver, gone, leaving, loose_puts, meant, put_to, reg_puts, row_puts}
-use Rattle.st_normal_laws.proofs.Mentioned.{filter-has, has-leaving, row_put-has}
+use Rattle.st_normal_laws.proofs.Mentioned.{has-leaving, row_put-has}
 use Rattle.st_normal_laws.proofs.Exact.{put-cases}
-use Rattle.st_normal_laws.proofs.Basics.{map-all, map-append}
+use Rattle.st_ids.proofs.Shared.{filtered}
+use Rattle.st_normal.proofs.OnePlace.{map-all}
+use Rattle.st_lemmas.proofs.Lists.{map-append}
 
 abbrev put_node : Put → NodeId
 put_node p = p.node
@@ -213,7 +215,7 @@ module _ (D : Document) (C : Change) (x : IsSoundInForm D) (w : ObeysDataRules C
           omega (arith, s, e, a, b, c)
       few n s (suc k) e =
           let h = has-times n L.put (omega (arith, e)) in
-          let z = times-none n (gone C) (λ i. let q = filter-has (λ n. not (is_among L.put n)) (leaving L.found) n i in not-among h q.1) in
+          let z = times-none n (gone C) (λ i. let q = filtered (λ n. not (is_among L.put n)) (leaving L.found) n i in not-among h q.1) in
           let y = none-here h in
           let p = put_few n in
           omega (arith, s, z, y, p)

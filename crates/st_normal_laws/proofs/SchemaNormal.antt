@@ -23,11 +23,11 @@ use Rattle.st_marks.specs.Register.{embed_register}
 use Rattle.st_marks.specs.Row.{embed_row}
 use Rattle.st_normal.specs.Rules.{ObeysChangeRules, ObeysDataRules, ObeysSchemaRules}
 use Rattle.st_marks.specs.Verdict.{HasBase}
-use Rattle.st_marks.proofs.Members.{true-false}
 use Rattle.st_normal_laws.specs.Laid.{IsLayout, Layout, laid, StandsAt}
 use Rattle.st_normal_laws.specs.inside.One.{entry}
 use Rattle.st_normal_laws.proofs.LaidSound.{laid_sound}
 use Rattle.st_normal_laws.proofs.OneSeed.{data_normal}
+use Rattle.st_lemmas.proofs.Bools.{true-false}
 
 -- a revision that is neither the opening's nor this one
 abbrev other : Rev → Rev

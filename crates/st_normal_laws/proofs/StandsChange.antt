@@ -29,11 +29,11 @@ use Rattle.st_normal.specs.Rules.{IsFound, Entries, ObeysDataRules, found_held, 
 use Rattle.st_marks.specs.Listings.{cells_after, cells_before, one_or_none}
 use Rattle.st_normal.proofs.Linked.{has-item_of, item_of-has}
 use Rattle.st_marks.proofs.Lookups.{put-has, has-put_in, put_in-has}
-use Rattle.st_marks.proofs.Members.{true-false, all-has, append_left, append_right, has-append, map-has, has-map, flat_map-has, first-has, distinct-has, first-distinct}
+use Rattle.st_marks.proofs.Members.{all-has, append_left, append_right, has-append, map-has, has-map, flat_map-has, first-has, distinct-has, first-distinct}
 use Rattle.st_normal_laws.specs.Meant.{Along, IsOver, along, leaving, meant, put_to}
 use Rattle.st_normal_laws.proofs.FoundPlaces.{touched, filled, found_there, PlacedAs, as_row, as_held, as_loose, found_placed, is-found_held, has-found_in}
 use Rattle.st_normal_laws.specs.Mentions.{moving, mentions}
-use Rattle.st_normal_laws.proofs.Mentioned.{moving-has, filter-has, row_put-has, here-put, fill-put, has-moving, has-staying}
+use Rattle.st_normal_laws.proofs.Mentioned.{moving-has, row_put-has, here-put, fill-put, has-moving, has-staying}
 use Rattle.st_normal_laws.proofs.Exact.{put-cases, put-moved, moved-put, mentions-exact, mentions-found, listed-field, listed-moved, stay-leave, found-row, found-reg, found-loose, is-found, put-reg, put-loose}
 use Rattle.st_normal_laws.proofs.Puts.{put-is, cell-put, one_mark, is_here-put, put-is_here, same_to-true}
 use Rattle.st_normal_laws.proofs.Groups.{along-has, IsMarkOf, AreMade, row_along, has-along, ts_once, at-start, at-cell, no-row, same_row}
@@ -44,9 +44,11 @@ use Rattle.st_marks.specs.Register.{comes_in, embed_register, holds_mentioned, h
 use Rattle.st_normal.proofs.NoRings.{among_has}
 use Rattle.st_marks.proofs.Climb.{stands}
 use Rattle.st_normal_laws.proofs.MeantIntent.{reg-put, clear-is, is-clear, meant_intent}
-use Rattle.st_normal_laws.proofs.Basics.{and-both, and-cases, is-one, not-false, not-true, or-left, or-right, register-not-nowhere, row-not-nowhere}
+use Rattle.st_normal_laws.proofs.Basics.{is-one, not-false, not-true, register-not-nowhere, row-not-nowhere}
 use Rattle.st_normal_laws.proofs.Lengths.{row-length}
 use Rattle.st_seq.proofs.Short.{all_after}
+use Rattle.st_lemmas.proofs.Bools.{true-false, and-both, and-true, or-left, or-right}
+use Rattle.st_ids.proofs.Shared.{filtered}
 
 -- ## Rows that aren't listed
 
@@ -453,7 +455,7 @@ module _ (D : Document) (C : Change) (x : IsSoundInForm D) (w : ObeysDataRules C
           ]
           | inr b ↦ elim b [
             | inl (k, j, g) ↦ loose-at k j (is_here k.how) refl g
-            | inr (n, j, q) ↦ (let f = filter-has (λ n. not (is_among L.put n)) (leaving L.found) n j in not-true (is_among L.put n) f.1 ((among_has L.put n).1 (subst (Has L.put) (ap (λ (p : Put). p.node) q) put)))
+            | inr (n, j, q) ↦ (let f = filtered (λ n. not (is_among L.put n)) (leaving L.found) n j in not-true (is_among L.put n) f.1 ((among_has L.put n).1 (subst (Has L.put) (ap (λ (p : Put). p.node) q) put)))
           ]
         ]
       ]
@@ -478,7 +480,7 @@ module _ (D : Document) (C : Change) (x : IsSoundInForm D) (w : ObeysDataRules C
       at h (as_loose l i f g k t) p = (l, i, f)
 
       listed : is_loose m D n ≡ true → (l : Loose) × Has C.loose l × (l.node ≡ n)
-      listed e = let a = and-cases (m n && is_nowhere (D.place n)) (not (same_node n root)) e in let b = and-cases (m n) (is_nowhere (D.place n)) a.0 in
+      listed e = let a = and-true (m n && is_nowhere (D.place n)) (not (same_node n root)) e in let b = and-true (m n) (is_nowhere (D.place n)) a.0 in
           elim (placed n b.0) [
             | inl q ↦ absurd (not-true (same_node n root) a.1 (ap (λ k. same_node k root) q ∙ same_node-itself root))
             | inr q ↦ at q.0 q.1 (nowhere-is (D.place n) b.1)

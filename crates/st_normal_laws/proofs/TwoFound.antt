@@ -16,8 +16,8 @@ use Rattle.st_normal_laws.specs.Seed.{FoundRow}
 use Rattle.st_normal_laws.specs.Two.{IsNamedAt, RowsAgree, cell_key, cells_of_row, join, joined, joined_row, lists_row, node_key, rows_of_both}
 use Rattle.st_normal_laws.specs.inside.Two.{AreInPlace, keys}
 use Rattle.st_normal_laws.proofs.Groups.{distinct-flat}
-use Rattle.st_normal_laws.proofs.Mentioned.{filter-has}
 use Rattle.st_normal_laws.proofs.Basics.{not-true, one-is}
+use Rattle.st_ids.proofs.Shared.{filtered}
 
 -- ## No ring
 
@@ -178,7 +178,7 @@ module _ {K : Type 0} (key : CellView → Option K) (on : IsJoined key) (ps qs :
   -- what is named in a row of both is named by one of them
   pub both-named : (r : FoundRow) → Has (rows_of_both ps qs) r → (c : K) → Has (keys key r.cells) c → Named r.node c
   both-named r h c i = elim (has-append (map (joined_row qs) ps) (filter (λ (r : FoundRow). not (lists_row ps r.node)) qs) r h) [
-    | inr j ↦ inr (r, (filter-has (λ (r : FoundRow). not (lists_row ps r.node)) qs r j).0, refl, i)
+    | inr j ↦ inr (r, (filtered (λ (r : FoundRow). not (lists_row ps r.node)) qs r j).0, refl, i)
     | inl j ↦ (let p = has-map (joined_row qs) ps r j in subst (λ (r : FoundRow). Named r.node c) p.2 (of p.0 p.1 (subst (λ (r : FoundRow). Has (keys key r.cells) c) (sym p.2) i)))
   ]
     where
@@ -193,7 +193,7 @@ module _ {K : Type 0} (key : CellView → Option K) (on : IsJoined key) (ps qs :
 
   row-once : (r : FoundRow) → Has (rows_of_both ps qs) r → AreDistinct (λ (c : K). c) (keys key r.cells)
   row-once r h = elim (has-append (map (joined_row qs) ps) (filter (λ (r : FoundRow). not (lists_row ps r.node)) qs) r h) [
-    | inr j ↦ list_distinct (λ (r : FoundRow). keys key r.cells) (λ (c : K). c) qs r q_keys (filter-has (λ (r : FoundRow). not (lists_row ps r.node)) qs r j).0
+    | inr j ↦ list_distinct (λ (r : FoundRow). keys key r.cells) (λ (c : K). c) qs r q_keys (filtered (λ (r : FoundRow). not (lists_row ps r.node)) qs r j).0
     | inl j ↦ (let p = has-map (joined_row qs) ps r j in subst (λ (r : FoundRow). AreDistinct (λ (c : K). c) (keys key r.cells)) p.2 (of p.0 p.1))
   ]
     where
@@ -208,7 +208,7 @@ module _ {K : Type 0} (key : CellView → Option K) (on : IsJoined key) (ps qs :
   filter-once : (p : FoundRow → Bool) (xs : List FoundRow) → AreDistinct (λ (r : FoundRow). r.node) xs → AreDistinct (λ (r : FoundRow). r.node) (filter p xs)
   filter-once p [] d = tt
   filter-once p (x ∷ xs) d = elim (p x) as (λ b. AreDistinct (λ (r : FoundRow). r.node) (cond b (x ∷ filter p xs) (filter p xs))) [
-    | true ↦ (has-all (λ (r : FoundRow). r.node ≢ x.node) (filter p xs) (λ r h. all-has (λ (r : FoundRow). r.node ≢ x.node) xs r d.0 (filter-has p xs r h).0), filter-once p xs d.1)
+    | true ↦ (has-all (λ (r : FoundRow). r.node ≢ x.node) (filter p xs) (λ r h. all-has (λ (r : FoundRow). r.node ≢ x.node) xs r d.0 (filtered p xs r h).0), filter-once p xs d.1)
     | false ↦ filter-once p xs d.1
   ]
 
@@ -218,7 +218,7 @@ module _ {K : Type 0} (key : CellView → Option K) (on : IsJoined key) (ps qs :
 
   pub rows_once_together : AreDistinct (λ (r : FoundRow). r.node) (rows_of_both ps qs)
   rows_once_together = distinct-append (λ (r : FoundRow). r.node) (map (joined_row qs) ps) (filter (λ (r : FoundRow). not (lists_row ps r.node)) qs) (map-once ps ps_once) (filter-once (λ (r : FoundRow). not (lists_row ps r.node)) qs qs_once)
-      (λ r q h i e. let p = has-map (joined_row qs) ps r h in let f = filter-has (λ (r : FoundRow). not (lists_row ps r.node)) qs q i in
+      (λ r q h i e. let p = has-map (joined_row qs) ps r h in let f = filtered (λ (r : FoundRow). not (lists_row ps r.node)) qs q i in
       not-true (lists_row ps q.node) f.1 (has-any (λ (r : FoundRow). same_node r.node q.node) ps p.0 p.1 (ap (λ n. same_node n q.node) (ap (λ (r : FoundRow). r.node) p.2 ∙ sym e) ∙ same_node-itself q.node)))
 
   -- in the rows of both each name is in one row, and there once

@@ -13,16 +13,18 @@ use Rattle.st_marks.specs.Agree.{IsSameView, LeadsUp, row_field}
 use Rattle.st_marks.specs.Agree.LeadsUp.{one_up, further_up}
 use Rattle.st_marks.specs.Document.{content, node_of, root}
 use Rattle.st_marks.specs.Listings.{CellView, one_or_none, nodes_standing}
-use Rattle.st_marks.proofs.Members.{true-false, all-has, has-all, append_left, append_right, has-append, map-has, has-map, flat_map-has, has-flat_map, first-has, none-has, any-has, has-any, distinct-has, distinct-append, distinct-left, distinct-right, distinct-between, list_distinct, one_list}
+use Rattle.st_marks.proofs.Members.{all-has, has-all, append_left, append_right, has-append, map-has, has-map, flat_map-has, has-flat_map, any-has, has-any, distinct-append, distinct-left, distinct-right, distinct-between, one_list}
 use Rattle.st_normal_laws.specs.Told.{AreAsSeen, IfTold}
 use Rattle.st_normal_laws.specs.Laid.{laid}
 use Rattle.st_normal_laws.specs.Seed.{CanBeFound, Finds, FoundHeld, FoundRow, IsBelow, IsFoundAt, cells_named, nodes_found, seed}
 use Rattle.st_normal_laws.specs.Two.{AgreeBeside, IsNamedAt, IsUnder, both, cell_key, cells_of_row, joined, joined_row, lists_row, node_key}
 use Rattle.st_normal_laws.specs.inside.Two.{keys}
-use Rattle.st_normal_laws.proofs.Mentioned.{filter-has, has-filter}
 use Rattle.st_normal_laws.proofs.SeedSound.{seed_row, seed_held}
 use Rattle.st_normal_laws.proofs.TwoFound.{Either, both-named, cells_joined, keys_once_together, nodes_joined, no_ring_together, rows_once_together}
-use Rattle.st_normal_laws.proofs.Basics.{flat-same, is-one, not-true, one-is}
+use Rattle.st_normal_laws.proofs.Basics.{is-one, not-true, one-is}
+use Rattle.st_ids.proofs.Shared.{filtered}
+use Rattle.st_normal.proofs.NoRings.{has-filter}
+use Rattle.st_lemmas.proofs.Lists.{flat_map-same}
 
 nodes-keys : (xs : List CellView) → nodes_standing xs ≡ keys node_key xs
 nodes-keys [] = refl
@@ -32,7 +34,7 @@ nodes-keys (x ∷ xs) = elim x.full as (λ b. cond b (one_or_none x.node) [] ++ 
 ]
 
 rows-nodes : (rs : List FoundRow) → flat_map (λ (r : FoundRow). nodes_standing r.cells) rs ≡ flat_map (λ (r : FoundRow). keys node_key r.cells) rs
-rows-nodes rs = flat-same (λ (r : FoundRow). nodes_standing r.cells) (λ (r : FoundRow). keys node_key r.cells) (λ r. nodes-keys r.cells) rs
+rows-nodes rs = flat_map-same (λ (r : FoundRow). nodes_standing r.cells) (λ (r : FoundRow). keys node_key r.cells) (λ r. nodes-keys r.cells) rs
 
 -- ## What is true of the joined row is true of both
 
@@ -101,14 +103,14 @@ module _ (F : ℕ) (A B : Finds) (a : CanBeFound F A) (b : CanBeFound F B) (g : 
 
   row-of : (r : FoundRow) → Has W.rows r → ((p : FoundRow) × Has A.rows p × (p.node ≡ r.node) × (length r.cells ≡ length p.cells)) ⊎ Has B.rows r
   row-of r h = elim (has-append (map (joined_row B.rows) A.rows) (filter (λ (r : FoundRow). not (lists_row A.rows r.node)) B.rows) r h) [
-    | inr j ↦ inr (filter-has (λ (r : FoundRow). not (lists_row A.rows r.node)) B.rows r j).0
+    | inr j ↦ inr (filtered (λ (r : FoundRow). not (lists_row A.rows r.node)) B.rows r j).0
     | inl j ↦ (let p = has-map (joined_row B.rows) A.rows r j in inl (p.0, p.1, ap (λ (r : FoundRow). r.node) p.2, ap (λ (r : FoundRow). length r.cells) (sym p.2) ∙ joined-length p.0.cells (cells_of_row B.rows p.0.node)))
   ]
 
   held-of : (h : FoundHeld) → Has W.held h → Has A.held h ⊎ (Has B.held h × ((k : FoundHeld) → Has A.held k → k.field ≡ h.field → ⊥))
   held-of h i = elim (has-append A.held (filter (λ (h : FoundHeld). not (list_any (λ (k : FoundHeld). same_field k.field h.field) A.held)) B.held) h i) [
     | inl j ↦ inl j
-    | inr j ↦ (let f = filter-has (λ (h : FoundHeld). not (list_any (λ (k : FoundHeld). same_field k.field h.field) A.held)) B.held h j in
+    | inr j ↦ (let f = filtered (λ (h : FoundHeld). not (list_any (λ (k : FoundHeld). same_field k.field h.field) A.held)) B.held h j in
         inr (f.0, λ k l e. not-true (list_any (λ (k : FoundHeld). same_field k.field h.field) A.held) f.1 (has-any (λ (k : FoundHeld). same_field k.field h.field) A.held k l (ap (λ f. same_field f h.field) e ∙ same_field-itself h.field))))
   ]
 
@@ -188,7 +190,7 @@ module _ (F : ℕ) (A B : Finds) (a : CanBeFound F A) (b : CanBeFound F B) (g : 
   filter-once : (p : FoundHeld → Bool) (xs : List FoundHeld) → AreDistinct (λ (h : FoundHeld). h.field) xs → AreDistinct (λ (h : FoundHeld). h.field) (filter p xs)
   filter-once p [] d = tt
   filter-once p (x ∷ xs) d = elim (p x) as (λ b. AreDistinct (λ (h : FoundHeld). h.field) (cond b (x ∷ filter p xs) (filter p xs))) [
-    | true ↦ (has-all (λ (h : FoundHeld). h.field ≢ x.field) (filter p xs) (λ h i. all-has (λ (h : FoundHeld). h.field ≢ x.field) xs h d.0 (filter-has p xs h i).0), filter-once p xs d.1)
+    | true ↦ (has-all (λ (h : FoundHeld). h.field ≢ x.field) (filter p xs) (λ h i. all-has (λ (h : FoundHeld). h.field ≢ x.field) xs h d.0 (filtered p xs h i).0), filter-once p xs d.1)
     | false ↦ filter-once p xs d.1
   ]
 
@@ -197,7 +199,7 @@ module _ (F : ℕ) (A B : Finds) (a : CanBeFound F A) (b : CanBeFound F B) (g : 
 
   fields-once : AreDistinct (λ (h : FoundHeld). h.field) W.held
   fields-once = distinct-append (λ (h : FoundHeld). h.field) A.held new_held a.fields_once (filter-once (λ (h : FoundHeld). not (list_any (λ (k : FoundHeld). same_field k.field h.field) A.held)) B.held b.fields_once)
-      (λ h k i j e. let f = filter-has (λ (h : FoundHeld). not (list_any (λ (k : FoundHeld). same_field k.field h.field) A.held)) B.held k j in
+      (λ h k i j e. let f = filtered (λ (h : FoundHeld). not (list_any (λ (k : FoundHeld). same_field k.field h.field) A.held)) B.held k j in
       not-true (list_any (λ (l : FoundHeld). same_field l.field k.field) A.held) f.1 (has-any (λ (l : FoundHeld). same_field l.field k.field) A.held h i (ap (λ f. same_field f k.field) (sym e) ∙ same_field-itself k.field)))
 
   -- one holder of a node

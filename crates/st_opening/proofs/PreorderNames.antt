@@ -1,11 +1,9 @@
 -- The nodes of a tree in preorder, under names that are counted up: how many there are, how many cells they take, and in
 -- which registers they stand: each of a node of the tree, under a key that isn't empty, and none twice.
 use Rattle.std.proofs.Common.{◌≡◌, ◌≢◌, ℕ, ◌+◌, ◌<◌, ◌≤◌, ◌||◌, Bool, true, false, List, [], ◌∷◌, ◌++◌, length, length-append, Option, Some, None, refl, sym, ap, ◌∙◌, subst, arith, ◌⊎◌, inl, inr}
-use Rattle.std.specs.List.{filter_map, cons_option}
-use Rattle.std.specs.Ordering.{nat_cmp, is_lt}
+use Rattle.std.specs.Ordering.{nat_cmp}
 use Rattle.std.specs.Cmp.Lexicographic.{slice_cmp, nat_list_cmp_total}
-use Rattle.std.specs.declared.cmp.Ordering.{Ordering}
-use Rattle.std.specs.declared.cmp.Ordering.TheVariants.{Less, Equal, Greater}
+use Rattle.std.specs.declared.cmp.Ordering.TheVariants.{Less, Equal}
 use Rattle.std.proofs.lemmas.Cmp.{tied_itself}
 use Rattle.std.proofs.lemmas.List.{append-nil}
 use Rattle.st_ids.specs.Listing.{AreDistinct, Has}
@@ -13,7 +11,6 @@ use Rattle.st_ids.specs.declared.names.FieldId.{FieldId}
 use Rattle.st_ids.specs.declared.names.NodeId.{NodeId}
 use Rattle.st_ids.specs.declared.names.Leaf.{Leaf}
 use Rattle.st_ids.specs.declared.names.Rev.{Rev}
-use Rattle.st_marks.proofs.Lookups.{both_true}
 use Rattle.st_marks.proofs.Members.{has-all, has-append, distinct-append}
 use Rattle.st_tree.specs.declared.flat.FlatAt.{FlatAt}
 use Rattle.st_tree.specs.declared.flat.FlatNode.{FlatNode}
@@ -22,6 +19,9 @@ use Rattle.st_tree.specs.Size.{node_count, field_count, item_count}
 use Rattle.st_tree.specs.Form.{is_row_alone, keys_rise, fields_fit, fields_have_form, all_have_form}
 use Rattle.st_tree.specs.Preorder.{node_named, cells_taken, cell_count, field_cells, item_cells, at_of, listed, fields_listed, items_listed}
 use Rattle.st_opening.specs.Start.{register_at, registers}
+use Rattle.st_lemmas.proofs.Orders.{is_lt-Less}
+use Rattle.st_lemmas.proofs.Lists.{filter_map-append}
+use Rattle.st_lemmas.proofs.Bools.{and-true}
 
 -- ## Names that are counted up
 
@@ -82,14 +82,6 @@ mutual
 
 -- ## Registers, in a tree of the form
 
-pub filter_append : {A B : Type 0} (f : A → Option B) (xs ys : List A) → filter_map f (xs ++ ys) ≡ filter_map f xs ++ filter_map f ys
-filter_append f [] ys = refl
-filter_append f (x ∷ xs) ys = ap (cons_option (f x)) (filter_append f xs ys) ∙ go (f x)
-  where
-    go : (o : Option _) → cons_option o (filter_map f xs ++ filter_map f ys) ≡ cons_option o (filter_map f xs) ++ filter_map f ys
-    go None = refl
-    go (Some y) = refl
-
 pub same_number : (rev : Rev) (j k : ℕ) → node_named rev j ≡ node_named rev k → j ≡ k
 same_number rev j k e = ap (λ (n : NodeId). n.0.at) e
 
@@ -130,11 +122,6 @@ between_append rev low middle high fs gs p q a b = record {
     | inr l ↦ (let w = b.between f l in (w.0, within_more rev middle high low high f p (omega arith) w.1))
   ];
 }
-
-pub less_is : (o : Ordering) → is_lt o ≡ true → o ≡ Less
-less_is Less e = refl
-less_is Equal e = cc
-less_is Greater e = cc
 
 -- a key above another isn't empty, and is another
 pub above_some : (a b : List ℕ) → slice_cmp nat_cmp a b ≡ Less → b ≢ []
@@ -233,12 +220,12 @@ mutual
       let d = c + item_cells false (first (node ty leaf fields) no_nodes) in
       let below = fields_listed rev n (n + 1) (c + 0) fields in
       let later = fields_listed rev owner m d rest in
-      let up = both_true _ _ rises in
-      let forms = both_true _ _ form in
-      let own = both_true _ _ (both_true _ _ forms.0).0 in
-      let split : registers ((below ++ []) ++ later) ≡ registers below ++ registers later = filter_append (λ (x : FlatNode). register_at x.at) (below ++ []) later ∙ ap (λ xs. registers xs ++ registers later) (append-nil below) in
+      let up = and-true _ _ rises in
+      let forms = and-true _ _ form in
+      let own = and-true _ _ (and-true _ _ forms.0).0 in
+      let split : registers ((below ++ []) ++ later) ≡ registers below ++ registers later = filter_map-append (λ (x : FlatNode). register_at x.at) (below ++ []) later ∙ ap (λ xs. registers xs ++ registers later) (append-nil below) in
       subst (AreUnder rev owner before n high) (ap (λ fs. record { node = node_named rev owner; key = record { 0 = key } } ∷ fs) (sym split))
-      (under_more rev owner n m high before key (record { node = node_named rev owner; key = record { 0 = key } }) (registers below) (registers later) less (omega arith) (omega arith) refl (less_is _ up.0)
+      (under_more rev owner n m high before key (record { node = node_named rev owner; key = record { 0 = key } }) (registers below) (registers later) less (omega arith) (omega arith) refl (is_lt-Less _ up.0)
       (tree_regs rev n (c + 0) m leaf fields (omega arith) own.0
       (λ keys. fields_under rev n (n + 1) (c + 0) m [] fields (omega arith) (omega arith) keys own.1)
       (λ alone. row_regs rev n (n + 1) (c + 0) m fields (omega arith) alone own.1))
@@ -249,7 +236,7 @@ mutual
   row_regs rev owner n c high (field key false items no_fields) le alone form = absurd (cc)
   row_regs rev owner n c high (field key row items (field key' row' items' rest)) le alone form = absurd (cc)
   row_regs rev owner n c high (field key true items no_fields) le alone form =
-      rw append-nil (items_regs rev owner key n c high items (omega arith) (both_true _ _ form).0)
+      rw append-nil (items_regs rev owner key n c high items (omega arith) (and-true _ _ form).0)
 
   pub items_regs : (rev : Rev) (owner : ℕ) (key : List ℕ) (n c high : ℕ) (ts : Nodes) → n + item_count ts ≤ high → all_have_form ts ≡ true → AreBetween rev n high (registers (items_listed rev owner key true n c ts))
   items_regs rev owner key n c high no_nodes le form = none_between rev n high
@@ -258,9 +245,9 @@ mutual
       let d = c + (1 + field_cells fields) in
       let below = fields_listed rev n (n + 1) (c + 1) fields in
       let later = items_listed rev owner key true m d ts in
-      let forms = both_true _ _ form in
-      let own = both_true _ _ forms.0 in
-      subst (AreBetween rev n high) (sym (filter_append (λ (x : FlatNode). register_at x.at) below later))
+      let forms = and-true _ _ form in
+      let own = and-true _ _ forms.0 in
+      subst (AreBetween rev n high) (sym (filter_map-append (λ (x : FlatNode). register_at x.at) below later))
       (between_append rev n m high (registers below) (registers later) (omega arith) (omega arith)
       (tree_regs rev n (c + 1) m leaf fields (omega arith) own.0
       (λ keys. fields_under rev n (n + 1) (c + 1) m [] fields (omega arith) (omega arith) keys own.1)

@@ -14,7 +14,6 @@ use Rattle.st_ids.proofs.Orders.{same_node-true, same_node-itself, same_cell-tru
 use Rattle.st_marks.specs.declared.intents.Owned.{Owned}
 use Rattle.st_marks.specs.declared.places.Spot.{Spot}
 use Rattle.st_marks.specs.Document.{IsSoundInForm, ClimbsToAnEnd, above, climb, node_of, root, opening, owned}
-use Rattle.st_marks.proofs.Lookups.{both_true}
 use Rattle.st_marks.proofs.Members.{has-all, has-filter_map, distinct-filter_map}
 use Rattle.st_tree.specs.declared.flat.FlatAt.{FlatAt}
 use Rattle.st_tree.specs.declared.flat.FlatNode.{FlatNode}
@@ -26,26 +25,11 @@ use Rattle.st_tree.specs.Form.{has_form}
 use Rattle.st_tree.specs.Preorder.{node_named, cell_named, cells_taken, cell_count, item_cells, is_array, at_of, listed, fields_listed, items_listed, opening_listed}
 use Rattle.st_opening.specs.Start.{first_said, type_at, spot_at, place_at, row_at, cell_at, held_at, start_of, registers, register_at}
 use Rattle.st_opening.proofs.PreorderNames.{tree_regs, fields_under, row_regs, same_number, taken, cells_used, taken_at, listed_length, items_length, listed_cells, items_cells}
+use Rattle.st_lemmas.proofs.Lists.{filter_map-length}
+use Rattle.st_ids.proofs.Shared.{filter-from}
+use Rattle.st_lemmas.proofs.Bools.{and-true}
 
 -- ## Lists
-
--- what a filter gives came from an item
-filter-from : {A B : Type 0} (f : A → Option B) (xs : List A) (y : B) → Has (filter_map f xs) y → (x : A) × Has xs x × (f x ≡ Some y)
-filter-from f [] y h = absurd h
-filter-from {A} {B} f (x ∷ xs) y h = go (f x) refl (λ k. filter-from f xs y k) h
-  where
-    go : (o : Option B) → f x ≡ o → (Has (filter_map f xs) y → (z : A) × Has xs z × (f z ≡ Some y)) → Has (cons_option o (filter_map f xs)) y → (z : A) × Has (x ∷ xs) z × (f z ≡ Some y)
-    go None e rest k = let z = rest k in (z.0, inr z.1, z.2)
-    go (Some w) e rest (inl q) = (x, inl refl, e ∙ ap (λ a. Some a) q)
-    go (Some w) e rest (inr k) = let z = rest k in (z.0, inr z.1, z.2)
-
-filter_short : {A B : Type 0} (f : A → Option B) (xs : List A) → length (filter_map f xs) ≤ length xs
-filter_short f [] = omega arith
-filter_short {A} {B} f (x ∷ xs) = go (f x) (filter_short f xs)
-  where
-    go : (o : Option B) → length (filter_map f xs) ≤ length xs → length (cons_option o (filter_map f xs)) ≤ suc (length xs)
-    go None h = omega arith
-    go (Some y) h = omega arith
 
 module _ {A B : Type 0} (say : A → Option B) where
   -- what is said, an item says
@@ -162,7 +146,7 @@ numbered rev (y ∷ xs) n c x h (inr k) =
     let cell_low : c + taken y.at ≤ r.cell = r.cell_low in
     record { number = r.number; cell = r.cell; low = omega arith; high = omega arith; cell_low = omega arith; named = r.named; at = r.at }
 
-same_cell_number : (rev : Rev) (j k : ℕ) → cell_named rev j ≡ cell_named rev k → j ≡ k
+pub same_cell_number : (rev : Rev) (j k : ℕ) → cell_named rev j ≡ cell_named rev k → j ≡ k
 same_cell_number rev j k e = ap (λ (n : CellId). n.0.at) e
 
 -- each number is some node's
@@ -222,7 +206,7 @@ one_in_cell rev (z ∷ xs) n c x y r s d h (inr p) (inr q) e f = one_in_cell rev
 
 -- ## What the document says of the list
 
-place_of : (n : NodeId) (x : FlatNode) (s : Spot) → place_at n x ≡ Some s → (x.node ≡ n) × (spot_at x.at ≡ s)
+pub place_of : (n : NodeId) (x : FlatNode) (s : Spot) → place_at n x ≡ Some s → (x.node ≡ n) × (spot_at x.at ≡ s)
 place_of n x s e = go (same_node x.node n) refl e
   where
     go : (b : Bool) → same_node x.node n ≡ b → cond b (Some (spot_at x.at)) None ≡ Some s → (x.node ≡ n) × (spot_at x.at ≡ s)
@@ -274,7 +258,7 @@ at_row (FlatAt.Top d) n c e = cc
 at_row (FlatAt.Register f) n c e = cc
 at_row (FlatAt.Row r d) n c e = let p : r ≡ n = cc in let q : d ≡ c = cc in λ i. FlatAt.Row (p i) (q i)
 
-at_register : (at : FlatAt) (f : FieldId) → spot_at at ≡ Spot.Register f → at ≡ FlatAt.Register f
+pub at_register : (at : FlatAt) (f : FieldId) → spot_at at ≡ Spot.Register f → at ≡ FlatAt.Register f
 at_register FlatAt.Root f e = cc
 at_register (FlatAt.Top d) f e = cc
 at_register (FlatAt.Row r d) f e = cc
@@ -292,7 +276,7 @@ pub record IsOpening (xs : List FlatNode) : Type 0 where
 
 is_opening : (t : Node) → has_form t ≡ true → node_count t < 2 ^ 32 → IsOpening (opening_listed t)
 is_opening (node ty leaf fields) form few =
-    let b = both_true _ _ form in
+    let b = and-true _ _ form in
     let r = tree_regs opening 0 0 (0 + 1 + field_count fields) leaf fields (omega arith) b.0
     (λ keys. fields_under opening 0 (0 + 1) 0 (0 + 1 + field_count fields) [] fields (omega arith) (omega arith) keys b.1)
     (λ alone. row_regs opening 0 (0 + 1) 0 (0 + 1 + field_count fields) fields (omega arith) alone b.1) in
@@ -337,7 +321,7 @@ abbrev HasLower : Rev → (NodeId → Option NodeId) → NodeId → Type 0
 HasLower rev up n = (up n ≡ None) ⊎ ((j : ℕ) × (k : ℕ) × (j < k) × (n ≡ node_named rev k) × (up n ≡ Some (node_named rev j)))
 
 -- where each step up leads to a lower number, steps end
-lower_ends : (rev : Rev) (up : NodeId → Option NodeId) → ((n : NodeId) → HasLower rev up n) → (fuel k : ℕ) → k < fuel → ClimbsToAnEnd up (node_named rev k)
+pub lower_ends : (rev : Rev) (up : NodeId → Option NodeId) → ((n : NodeId) → HasLower rev up n) → (fuel k : ℕ) → k < fuel → ClimbsToAnEnd up (node_named rev k)
 lower_ends rev up lower zero k less = absurd (omega arith)
 lower_ends rev up lower (suc fuel) k less = go (lower (node_named rev k)) (λ j l. lower_ends rev up lower fuel j l)
   where
@@ -348,7 +332,7 @@ lower_ends rev up lower (suc fuel) k less = go (lower (node_named rev k)) (λ j 
         let r = rest h.0 (omega (arith, h.2, same)) in
         (suc r.0, ap (option_and_then (climb up r.0)) h.4 ∙ r.1)
 
-all_end : (rev : Rev) (up : NodeId → Option NodeId) → ((n : NodeId) → HasLower rev up n) → (n : NodeId) → ClimbsToAnEnd up n
+pub all_end : (rev : Rev) (up : NodeId → Option NodeId) → ((n : NodeId) → HasLower rev up n) → (n : NodeId) → ClimbsToAnEnd up n
 all_end rev up lower n = go (lower n)
   where
     go : HasLower rev up n → ClimbsToAnEnd up n
@@ -469,7 +453,7 @@ module _ (xs : List FlatNode) (schema : List ℕ) (w : IsOpening xs) where
     root_nowhere = stands_at w.top.0 root Spot.Nowhere w.top.1 w.top.2 (ap spot_at w.top.3);
     one_row = λ c n. (row_of_has c n, λ h. has_row_of c n h.0 h.1);
     once = λ n. rows_once opening xs 0 0 n w.counted;
-    short = λ n. (let short : length (filter_map (λ (x : FlatNode). cell_at n x.node x.at) xs) ≤ length xs = filter_short (λ (x : FlatNode). cell_at n x.node x.at) xs in let few : length xs < 2 ^ 32 = w.few in omega arith);
+    short = λ n. (let short : length (filter_map (λ (x : FlatNode). cell_at n x.node x.at) xs) ≤ length xs = filter_map-length (λ (x : FlatNode). cell_at n x.node x.at) xs in let few : length xs < 2 ^ 32 = w.few in omega arith);
     own_cell = in_own_cell;
     one_held = λ m f. (held_stands m f, stands_held m f);
     cells_known = cells_there;

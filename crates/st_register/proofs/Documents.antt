@@ -4,7 +4,6 @@ use Rattle.std.specs.Option.{option_or, option_map_or}
 use Rattle.st_ids.specs.Order.{same_node}
 use Rattle.st_ids.specs.declared.names.FieldId.{FieldId}
 use Rattle.st_ids.specs.declared.names.NodeId.{NodeId}
-use Rattle.st_ids.proofs.Orders.{same_node-true}
 use Rattle.st_marks.specs.declared.changes.NewNode.{NewNode}
 use Rattle.st_marks.specs.declared.intents.Intent.{Intent}
 use Rattle.st_marks.specs.declared.intents.To.{To}
@@ -14,15 +13,15 @@ use Rattle.st_marks.specs.CarryOut.{full, void, only_new}
 use Rattle.st_marks.specs.CarryOut as carry
 use Rattle.st_marks.specs.Document.{Document, IsSoundInForm, root}
 use Rattle.st_marks.specs.Extends.{IsExtendedBy}
-use Rattle.st_marks.specs.Intent.{Fits, IsIntent, new_node, is_new, put_of, put_in, clears, same_option}
+use Rattle.st_marks.specs.Intent.{Fits, is_new, put_of, put_in, clears, same_option}
 use Rattle.st_marks.specs.Register.{embed_register, holds_mentioned, step_register}
 use Rattle.st_marks.proofs.Lookups.{put-has, has-put, put_in-has, has-put_in, put_clears}
-use Rattle.st_marks.proofs.Members.{all-has, first-has}
 use Rattle.st_register.specs.declared.values.RegHeld.{RegHeld}
 use Rattle.st_register.specs.declared.values.RegSwap.{RegSwap}
 use Rattle.st_register.specs.Register.{RegPart, RegCanHold, RegFits, RegLeadsOver, reg_carried, reg_change_of, reg_part_of, unless_put, only_made}
 use Rattle.st_register.specs.Readings.{as_mark, as_step}
 use Rattle.st_register.proofs.Occupants.{not_true}
+use Rattle.st_marks.proofs.Shared.{made}
 
 -- ## What is listed
 
@@ -45,15 +44,6 @@ document_is D E f x = record { before = can_hold D f x.before; after = can_hold 
 pub if_some : (o : Option NodeId) (P : NodeId → Type 0) → ((n : NodeId) → o ≡ Some n → P n) → IfSome o P
 if_some None P h = tt
 if_some (Some n) P h = h n refl
-
-made : (N : Intent) → IsIntent N → (n : NodeId) → is_new N n ≡ true → n.0.rev ≡ N.rev
-made N w n e = go (new_node N n) refl e
-  where
-    go : (o : Option NewNode) → new_node N n ≡ o → is_new N n ≡ true → n.0.rev ≡ N.rev
-    go None f e = let q : ◌≡◌ {A = Bool} false true = sym (rw f refl) ∙ e in cc
-    go (Some m) f e =
-        let r = first-has (λ (k : NewNode). same_node k.node n) N.new m f in
-        ap (λ (k : NodeId). k.0.rev) (sym (same_node-true m.node n r.1)) ∙ all-has (λ (k : NewNode). k.node.0.rev ≡ N.rev) N.new m w.new_rev r.0
 
 pub not_made : (D : Document) (N : Intent) → Fits D N → (n : NodeId) → IsSome (D.nodes n) → is_new N n ≡ false
 not_made D N w n h =

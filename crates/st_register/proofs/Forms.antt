@@ -18,14 +18,12 @@ use Rattle.st_register.specs.inside.NormalForm.{IsNormalRegChange}
 use Rattle.st_register.specs.Register.{RegPart, RegFits, RegCanHold, reg_change_of}
 use Rattle.st_register.specs.inside.Readings.{put_by, makes_by}
 use Rattle.st_register.proofs.Parts.{field_told, goes_told, told, other_number}
-use Rattle.st_register.proofs.Occupants.{not_true, one_occupant, same_occupant, other_occupant, comes_in-other, comes_in-same, to-here}
+use Rattle.st_register.proofs.Occupants.{not_true, same_occupant, other_occupant, comes_in-other, comes_in-same, to-here}
 use Rattle.st_register.proofs.Registers.{holding, here-fill, comes-fill}
+use Rattle.st_register.proofs.Documents.{if_some}
+use Rattle.st_marks.proofs.Shared.{same-held}
 
-if_some : (o : Option NodeId) (P : NodeId → Type 0) → ((n : NodeId) → o ≡ Some n → P n) → IfSome o P
-if_some None P h = tt
-if_some (Some n) P h = h n refl
-
-some_is : (o : Option NodeId) (P : NodeId → Type 0) (n : NodeId) → IfSome o P → o ≡ Some n → P n
+pub some_is : (o : Option NodeId) (P : NodeId → Type 0) (n : NodeId) → IfSome o P → o ≡ Some n → P n
 some_is None P n h e = cc
 some_is (Some m) P n h e = subst P (ap (λ (q : Option NodeId). option_map_or (λ k. k) q m) e) h
 
@@ -89,7 +87,7 @@ module _ (x : RegChange) (w : IsNormalRegChange x) (h : x.held ≢ Some root) wh
       to : goes_told x n ≡ Some (To.Register (field_told x)) → put_by x ≡ Some n
       to e =
           elim (same_option same_node (put_by x) (Some n)) as (λ b. same_option same_node (put_by x) (Some n) ≡ b → cond b (Some (To.Register (field_told x))) (cond (is_leave x.how && same_option same_node x.held (Some n)) (Some To.Nowhere) None) ≡ Some (To.Register (field_told x)) → put_by x ≡ Some n) [
-            | true ↦ λ f g. one_occupant (put_by x) (Some n) f
+            | true ↦ λ f g. same-held (put_by x) (Some n) f
             | false ↦ λ f g. absurd (elim (is_leave x.how && same_option same_node x.held (Some n)) as (λ b. cond b (Some To.Nowhere) None ≡ Some (To.Register (field_told x)) → ⊥) [ true ↦ λ k. cc | false ↦ λ k. cc ] g)
           ] refl e
 
@@ -109,7 +107,7 @@ module _ (x : RegChange) (w : IsNormalRegChange x) (h : x.held ≢ Some root) wh
   makes_fill : (n : NodeId) → makes_by x n ≡ true → (x.fill_new ≡ true) × (x.fill ≡ Some n)
   makes_fill n e =
       elim x.fill_new as (λ b. b && same_option same_node x.fill (Some n) ≡ true → (b ≡ true) × (x.fill ≡ Some n)) [
-        | true ↦ λ f. (refl, one_occupant x.fill (Some n) f)
+        | true ↦ λ f. (refl, same-held x.fill (Some n) f)
         | false ↦ λ f. cc
       ] e
 

@@ -1,5 +1,5 @@
 -- What two changes in turn tell of the part that is both.
-use Rattle.std.proofs.Common.{◌≡◌, ◌≢◌, Bool, true, false, ◌&&◌, ◌||◌, not, Option, Some, None, cond, refl, sym, ap, ◌∙◌, subst, IfSome, is_some}
+use Rattle.std.proofs.Common.{◌≡◌, ◌≢◌, Bool, true, false, ◌&&◌, ◌||◌, not, Option, Some, None, cond, refl, sym, ap, ◌∙◌, IfSome, is_some}
 use Rattle.std.specs.Option.{option_or, option_map_or}
 use Rattle.st_ids.specs.Order.{same_node}
 use Rattle.st_ids.specs.declared.names.FieldId.{FieldId}
@@ -16,8 +16,10 @@ use Rattle.st_register.specs.declared.values.RegHeld.{RegHeld}
 use Rattle.st_register.specs.Joined.{AreJoinedIn, fills}
 use Rattle.st_register.specs.Register.{RegPart, RegFits, reg_carried, reg_change_of, held_whole, unless_put}
 use Rattle.st_register.specs.inside.Readings.{makes_by, put_in_turn, how_in_turn, held_in_turn, stays_in_turn}
-use Rattle.st_register.proofs.Occupants.{not_true, one_occupant, same_occupant, other_occupant, to-here, stay-to}
+use Rattle.st_register.proofs.Occupants.{not_true, same_occupant, other_occupant, to-here, stay-to}
 use Rattle.st_register.proofs.Registers.{holding, here-fill, put_is, makes_is, comes-fill, all_new}
+use Rattle.st_register.proofs.Forms.{some_is}
+use Rattle.st_marks.proofs.Shared.{same-held}
 
 -- who is put there at last
 abbrev at_last : Option NodeId → Bool → (NodeId → Option To) → Option NodeId → Option NodeId
@@ -124,15 +126,11 @@ module _ (o : NodeId) (f : FieldId) (pg : Option To) (g : NodeId → Option To) 
       ≡ how (cond ((pc && not (is_some pg)) && not (same_option same_node qf (Some o))) None rest) (To.Register f)
   how_turns =
       elim (same_option same_node qf (Some o)) as (λ b. same_option same_node qf (Some o) ≡ b → cond (same_option same_node (at_last qf qc g pf) (Some o)) Here (stays_in_turn pc yh (how pg (To.Register f))) ≡ how (cond ((pc && not (is_some pg)) && not b) None rest) (To.Register f)) [
-        | true ↦ λ e. filled (pc && not (is_some pg)) (one_occupant qf (Some o) e)
+        | true ↦ λ e. filled (pc && not (is_some pg)) (same-held qf (Some o) e)
         | false ↦ λ e. not_filled (λ h. not_true e (same_occupant qf (Some o) h)) pg refl
       ] refl
 
 -- ## The change of the joint part
-
-some_is : (o : Option NodeId) (P : NodeId → Type 0) (n : NodeId) → IfSome o P → o ≡ Some n → P n
-some_is None P n h e = cc
-some_is (Some m) P n h e = subst P (ap (λ (q : Option NodeId). option_map_or (λ k. k) q m) e) h
 
 cleared : (fill : Option NodeId) (clear : Bool) → IfSome fill (λ _. clear ≡ true) → clear ≡ false → fill ≡ None
 cleared None clear h e = refl
@@ -141,7 +139,7 @@ cleared (Some n) clear h e = absurd (not_true e h)
 fills_makes : (p : RegPart) (o : Option NodeId) (n : NodeId) → RegFits p (holding o) → makes_by (reg_change_of p (holding o)) n ≡ (fills p n && p.makes n)
 fills_makes p o n w =
     elim (fills p n) as (λ b. fills p n ≡ b → makes_by (reg_change_of p (holding o)) n ≡ (b && p.makes n)) [
-      | true ↦ λ e. makes_is p o n w (one_occupant p.part.fill (Some n) e)
+      | true ↦ λ e. makes_is p o n w (same-held p.part.fill (Some n) e)
       | false ↦ λ e. rw (other_occupant (comes_in o p.part.fill) (Some n) (λ h. not_true e (same_occupant p.part.fill (Some n) (comes-fill o p.part.fill n h))))
           (elim (option_map_or p.makes (comes_in o p.part.fill) false) as (λ b. (b && false) ≡ false) [ true ↦ refl | false ↦ refl ])
     ] refl

@@ -1,5 +1,5 @@
 -- The register's part of the join of two intents.
-use Rattle.std.proofs.Common.{◌≡◌, ◌≢◌, ◌⊎◌, inl, inr, Bool, true, false, ◌&&◌, ◌||◌, not, Option, Some, None, cond, refl, sym, ap, ◌∙◌, subst, IfSome, IsSome, IsTrue, is_some, option_map}
+use Rattle.std.proofs.Common.{◌≡◌, ◌≢◌, ◌⊎◌, inl, inr, Bool, true, false, ◌&&◌, ◌||◌, not, Option, Some, None, cond, refl, sym, ap, ◌∙◌, IfSome, IsSome, IsTrue, is_some, option_map}
 use Rattle.std.specs.Option.{option_or, option_map_or, option_and_then}
 use Rattle.st_ids.specs.Order.{same_node, same_field}
 use Rattle.st_ids.specs.declared.names.FieldId.{FieldId}
@@ -20,6 +20,8 @@ use Rattle.st_register.specs.Joined.{AreJoinedIn, evicts}
 use Rattle.st_register.specs.Register.{reg_part_of, unless_put}
 use Rattle.st_register.proofs.Documents.{if_some, not_made}
 use Rattle.st_register.proofs.Occupants.{not_true, same_occupant, other_occupant}
+use Rattle.st_marks.proofs.Shared.{old_put}
+use Rattle.st_register.proofs.Forms.{some_is}
 
 -- ## Puts of an intent, from both sides
 
@@ -36,10 +38,6 @@ one_option : (a b : Option NodeId) → ((n : NodeId) → a ≡ Some n → b ≡ 
 one_option None None to from = refl
 one_option None (Some n) to from = from n refl
 one_option (Some n) b to from = sym (to n refl)
-
-some_is : (o : Option NodeId) (P : NodeId → Type 0) (n : NodeId) → IfSome o P → o ≡ Some n → P n
-some_is None P n h e = cc
-some_is (Some m) P n h e = subst P (ap (λ (q : Option NodeId). option_map_or (λ k. k) q m) e) h
 
 register_is : (f g : FieldId) → ◌≡◌ {A = Option To} (Some (To.Register f)) (Some (To.Register g)) → f ≡ g
 register_is f g e = ap (λ (o : Option To). field o) e
@@ -74,10 +72,6 @@ still M (To.Register g) f e =
       | true ↦ λ c h. cc
       | false ↦ λ c h. (h, ap (clears M) (sym (register_is g f (ap (λ (t : To). Some t) h))) ∙ c)
     ] refl e
-
-old_puts : (o : Option To) → option_and_then (put_unless_new false) o ≡ o
-old_puts None = refl
-old_puts (Some t) = unless_old t
 
 abbrev type_of : NewNode → NodeType
 type_of m = record { ty = m.ty; leaf = m.leaf }
@@ -200,7 +194,7 @@ module _ (D : Document) (N M J : Intent) (f : FieldId) (x : IsSoundInForm D) (p 
   goes_is n e h = ap (λ (o : Option To). how o (To.Register f)) (j.puts n ∙ joined) ∙ go (put_of M n) refl
     where
       joined : joined_put N M n ≡ option_or (put_of M n) (option_map (unless_cleared_by M) (put_of N n))
-      joined = ap (λ (b : Bool). option_and_then (put_unless_new b) (option_or (put_of M n) (option_map (unless_cleared_by M) (put_of N n)))) (not_made D N p.first_fits n (x.held_known n f e).0) ∙ old_puts _
+      joined = ap (λ (b : Bool). option_and_then (put_unless_new b) (option_or (put_of M n) (option_map (unless_cleared_by M) (put_of N n)))) (not_made D N p.first_fits n (x.held_known n f e).0) ∙ old_put _
 
       go : (a : Option To) → put_of M n ≡ a → how (option_or (put_of M n) (option_map (unless_cleared_by M) (put_of N n))) (To.Register f) ≡ how (told n) (To.Register f)
       go None a = ap (λ (o : Option To). how (option_or o (option_map (unless_cleared_by M) (put_of N n))) (To.Register f)) a ∙ by_neither n a (put_of N n) refl

@@ -3,23 +3,18 @@ use Rattle.std.proofs.Common.{◌≡◌, ◌≢◌, Bool, true, false, Option, S
 use Rattle.st_ids.specs.Order.{same_node}
 use Rattle.st_ids.specs.declared.names.FieldId.{FieldId}
 use Rattle.st_ids.specs.declared.names.NodeId.{NodeId}
-use Rattle.st_ids.proofs.Orders.{same_node-true, same_node-itself, same_field-true, same_field-itself}
+use Rattle.st_ids.proofs.Orders.{same_node-itself, same_field-true, same_field-itself}
 use Rattle.st_marks.specs.declared.intents.To.{To}
 use Rattle.st_marks.specs.declared.marks.How.TheVariants.{Stay, Here, Leave}
 use Rattle.st_marks.specs.Intent.{same_option}
 use Rattle.st_marks.specs.Register.{comes_in}
 use Rattle.st_marks.specs.Row.{how, same_to}
+use Rattle.st_marks.proofs.Shared.{same-held}
 
 -- ## One occupant
 
 pub not_true : {b : Bool} → b ≡ false → b ≡ true → ⊥
 not_true e f = let g : ◌≡◌ {A = Bool} false true = sym e ∙ f in cc
-
-pub one_occupant : (a b : Option NodeId) → same_option same_node a b ≡ true → a ≡ b
-one_occupant None None e = refl
-one_occupant None (Some y) e = cc
-one_occupant (Some x) None e = cc
-one_occupant (Some x) (Some y) e = ap (λ (n : NodeId). Some n) (same_node-true x y e)
 
 pub same_occupant : (a b : Option NodeId) → a ≡ b → same_option same_node a b ≡ true
 same_occupant None b e = subst (λ (q : Option NodeId). same_option same_node None q ≡ true) e refl
@@ -27,7 +22,7 @@ same_occupant (Some x) b e = subst (λ (q : Option NodeId). same_option same_nod
 
 pub other_occupant : (a b : Option NodeId) → a ≢ b → same_option same_node a b ≡ false
 other_occupant a b h =
-    elim (same_option same_node a b) as (λ t. same_option same_node a b ≡ t → t ≡ false) [ true ↦ λ e. absurd (h (one_occupant a b e)) | false ↦ λ e. refl ] refl
+    elim (same_option same_node a b) as (λ t. same_option same_node a b ≡ t → t ≡ false) [ true ↦ λ e. absurd (h (same-held a b e)) | false ↦ λ e. refl ] refl
 
 -- the test of names, from the two directions
 pub decided : (r : Bool) (a b : Option NodeId) → (IsTrue r → a ≡ b) → (a ≡ b → IsTrue r) → r ≡ same_option same_node a b

@@ -15,7 +15,8 @@ use Rattle.st_register.specs.declared.values.RegHeld.{RegHeld}
 use Rattle.st_register.specs.Register.{RegPart, RegFits, RegKeeps, reg_change_of, held_whole, held_void, only_made}
 use Rattle.st_register.specs.Readings.{left_by}
 use Rattle.st_register.specs.inside.Readings.{put_by, left_void_by, how_by, makes_by}
-use Rattle.st_register.proofs.Occupants.{not_true, one_occupant, same_occupant, comes_in-nobody, comes_in-other, here-to, to-here, stay-to, leave-to}
+use Rattle.st_register.proofs.Occupants.{not_true, same_occupant, comes_in-nobody, comes_in-other, here-to, to-here, stay-to, leave-to}
+use Rattle.st_marks.proofs.Shared.{same-held}
 
 -- a register that holds this
 abbrev pub holding : Option NodeId → RegHeld
@@ -89,9 +90,9 @@ how_some : (p : RegPart) (o : Option NodeId) (n : NodeId) → RegFits p (holding
     → cond (same_option same_node p.part.fill (Some n)) Here (cond (same_option same_node o (Some n)) (how_held p.field p.part o) Stay) ≡ how (p.part.target_of n) (To.Register p.field)
 how_some p o n w k =
     elim (same_option same_node p.part.fill (Some n)) as (λ b. same_option same_node p.part.fill (Some n) ≡ b → cond b Here (cond (same_option same_node o (Some n)) (how_held p.field p.part o) Stay) ≡ how (p.part.target_of n) (To.Register p.field)) [
-      | true ↦ λ e. sym (fill-here p (holding o) w n (one_occupant p.part.fill (Some n) e))
+      | true ↦ λ e. sym (fill-here p (holding o) w n (same-held p.part.fill (Some n) e))
       | false ↦ λ e. elim (same_option same_node o (Some n)) as (λ b. same_option same_node o (Some n) ≡ b → cond b (how_held p.field p.part o) Stay ≡ how (p.part.target_of n) (To.Register p.field)) [
-        | true ↦ λ f. ap (how_held p.field p.part) (one_occupant o (Some n) f)
+        | true ↦ λ f. ap (how_held p.field p.part) (same-held o (Some n) f)
         | false ↦ λ f. otherwise_stays (how (p.part.target_of n) (To.Register p.field)) (λ h. not_true e (same_occupant p.part.fill (Some n) (here-fill p (holding o) w n h))) (k (λ h. not_true f (same_occupant o (Some n) h)))
       ] refl
     ] refl

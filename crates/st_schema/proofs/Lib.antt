@@ -13,3 +13,4 @@ pub mod Steps
 pub mod Walking
 pub mod Widening
 pub mod Writing
+pub mod Shared

@@ -2,7 +2,6 @@
 use Rattle.std.proofs.Common.{◌≡◌, ◌∙◌, ℕ, ◌+◌, Bool, true, false, not, ◌&&◌, ◌||◌, List, [], ◌∷◌, ◌++◌, Option, None, Some, is_some, Ok, refl, sym, ap, subst}
 use Rattle.std.specs.Prelude.{if◌then◌else◌, option_map}
 use Rattle.std.specs.List.{list_all, position_from}
-use Rattle.std.specs.Cmp.Lexicographic.{same_text}
 use Rattle.st_tree.specs.Node.{Node, node, Fields, no_fields, field, Nodes, no_nodes, first}
 use Rattle.st_tree.specs.Form.{keys_rise}
 use Rattle.st_schema.specs.Schema.{SchemaView, same, is_among, is_key, declared, field_in, form_of}
@@ -14,35 +13,21 @@ use Rattle.st_schema.specs.declared.names.FieldRule.{FieldRule}
 use Rattle.st_schema.specs.declared.names.FieldDef.{FieldDef}
 use Rattle.st_schema.specs.declared.names.Form.{Form}
 use Rattle.st_schema.specs.declared.names.Form.TheVariants.{Array, Map, Object}
+use Rattle.st_lemmas.proofs.Options.{is_some-option_map}
+use Rattle.st_schema.proofs.Forms.{text_same}
+use Rattle.st_schema.proofs.AllowedForm.{all-parts}
+use Rattle.st_lemmas.proofs.Bools.{and-both, and-true}
 
 -- ---- tests
 
-both : (a b : Bool) → a && b ≡ true → (a ≡ true) × (b ≡ true)
-both true b h = (refl, h)
-both false b h = absurd (cc)
-
-join : (a b : Bool) → a ≡ true → b ≡ true → a && b ≡ true
-join true b p q = q
-join false b p q = absurd (cc)
-
-all-append : (us vs : List Bool) → list_all (λ ok. ok) us ≡ true → list_all (λ ok. ok) vs ≡ true → list_all (λ ok. ok) (us ++ vs) ≡ true
+pub all-append : (us vs : List Bool) → list_all (λ ok. ok) us ≡ true → list_all (λ ok. ok) vs ≡ true → list_all (λ ok. ok) (us ++ vs) ≡ true
 all-append [] vs p q = q
-all-append (u ∷ us) vs p q = let parts = both u (list_all (λ ok. ok) us) p in join u _ parts.0 (all-append us vs parts.1 q)
+all-append (u ∷ us) vs p q = let parts = and-true u (list_all (λ ok. ok) us) p in and-both u _ parts.0 (all-append us vs parts.1 q)
 
-all-parts : (us vs : List Bool) → list_all (λ ok. ok) (us ++ vs) ≡ true → (list_all (λ ok. ok) us ≡ true) × (list_all (λ ok. ok) vs ≡ true)
-all-parts [] vs h = (refl, h)
-all-parts (u ∷ us) vs h =
-    let parts = both u (list_all (λ ok. ok) (us ++ vs)) h in
-    let rest = all-parts us vs parts.1 in
-    (join u _ parts.0 rest.0, rest.1)
-
-no_narrowing : (n : ℕ) (vs : List Bool) → narrowing (position_from (λ ok. not ok) n vs) ≡ Ok tt → list_all (λ ok. ok) vs ≡ true
+pub no_narrowing : (n : ℕ) (vs : List Bool) → narrowing (position_from (λ ok. not ok) n vs) ≡ Ok tt → list_all (λ ok. ok) vs ≡ true
 no_narrowing n [] h = refl
 no_narrowing n (true ∷ vs) h = no_narrowing (n + 1) vs h
 no_narrowing n (false ∷ vs) h = absurd (cc)
-
-text_same : (xs ys : List ℕ) → same xs ys ≡ true → xs ≡ ys
-text_same xs ys h = same_text xs ys (sym h)
 
 -- ---- lists of types
 
@@ -50,10 +35,10 @@ among_first : (b : Bool) (u t : List ℕ) (new us : List (List ℕ)) → same u 
 among_first true u t new us is here later among = ap (λ v. is_among v new) (sym (text_same u t is)) ∙ here
 among_first false u t new us is here later among = later among
 
-among_all : (t : List ℕ) (new old : List (List ℕ)) → contains_all new old ≡ true → is_among t old ≡ true → is_among t new ≡ true
+pub among_all : (t : List ℕ) (new old : List (List ℕ)) → contains_all new old ≡ true → is_among t old ≡ true → is_among t new ≡ true
 among_all t new [] wide among = absurd (cc)
 among_all t new (u ∷ us) wide among =
-    let parts = both (is_among u new) (contains_all new us) wide in
+    let parts = and-true (is_among u new) (contains_all new us) wide in
     among_first (same u t) u t new us refl parts.0 (among_all t new us parts.1) among
 
 -- ---- declared fields
@@ -66,7 +51,7 @@ found_at false f g fs key p is here later h = later h
 
 found : (fs : List FieldDef) (key : List ℕ) (g : FieldDef) (p : FieldDef → Bool) → list_all p fs ≡ true → declared fs key ≡ Some g → (same g.key.0 key ≡ true) × (p g ≡ true)
 found [] key g p all h = absurd (cc)
-found (f ∷ fs) key g p all h = let parts = both (p f) (list_all p fs) all in found_at (same f.key.0 key) f g fs key p refl parts.0 (found fs key g p parts.1) h
+found (f ∷ fs) key g p all h = let parts = and-true (p f) (list_all p fs) all in found_at (same f.key.0 key) f g fs key p refl parts.0 (found fs key g p parts.1) h
 
 is_some_found : (o : Option FieldDef) → is_some o ≡ true → (g : FieldDef) × (o ≡ Some g)
 is_some_found None h = absurd (cc)
@@ -76,7 +61,7 @@ is_some_found (Some g) h = (g, refl)
 declared_wider : (olds news : List FieldDef) (key : List ℕ) (o : FieldDef) → defs_widen olds news ≡ true → declared olds key ≡ Some o
     → (n : FieldDef) × (declared news key ≡ Some n) × (kind_widens o.kind n.kind && contains_all n.types o.types ≡ true)
 declared_wider olds news key o wide h =
-    let parts = both (list_all (λ (old : FieldDef). is_some (declared news old.key.0)) olds) (list_all (def_widens olds) news) wide in
+    let parts = and-true (list_all (λ (old : FieldDef). is_some (declared news old.key.0)) olds) (list_all (def_widens olds) news) wide in
     let there = found olds key o (λ old. is_some (declared news old.key.0)) parts.0 h in
     let new = is_some_found (declared news key) (ap (λ k. is_some (declared news k)) (sym (text_same o.key.0 key there.0)) ∙ there.1) in
     let n = new.0 in
@@ -88,22 +73,18 @@ declared_wider olds news key o wide h =
 rules_kept : (f g : Form) (fs : Fields) → ((key : List ℕ) → is_some (field_in f key) ≡ true → is_some (field_in g key) ≡ true) → have_rules f fs ≡ true → have_rules g fs ≡ true
 rules_kept f g no_fields keep h = refl
 rules_kept f g (field key row items rest) keep h =
-    let parts = both (is_some (field_in f key)) (have_rules f rest) h in
-    join (is_some (field_in g key)) _ (keep key parts.0) (rules_kept f g rest keep parts.1)
+    let parts = and-true (is_some (field_in f key)) (have_rules f rest) h in
+    and-both (is_some (field_in g key)) _ (keep key parts.0) (rules_kept f g rest keep parts.1)
 
 map_rule : (b : Bool) (old new : FieldRule) → is_some (if b then Some old else None) ≡ true → is_some (if b then Some new else None) ≡ true
 map_rule true old new h = refl
 map_rule false old new h = absurd (cc)
 
-some_map : {A B : Type 0} (f : A → B) (o : Option A) → is_some (option_map f o) ≡ is_some o
-some_map f None = refl
-some_map f (Some a) = refl
-
 object_rule : (olds news : List FieldDef) (key : List ℕ) → defs_widen olds news ≡ true → is_some (field_in (Object olds) key) ≡ true → is_some (field_in (Object news) key) ≡ true
 object_rule olds news key wide h =
-    let o = is_some_found (declared olds key) (sym (some_map _ (declared olds key)) ∙ h) in
+    let o = is_some_found (declared olds key) (sym (is_some-option_map _ (declared olds key)) ∙ h) in
     let n = declared_wider olds news key o.0 wide o.1 in
-    some_map _ (declared news key) ∙ ap is_some n.1
+    is_some-option_map _ (declared news key) ∙ ap is_some n.1
 
 only_required : (k : KindName) → kind_widens k Required ≡ true → k ≡ Required
 only_required Required h = refl
@@ -116,7 +97,7 @@ required_one olds fs n Optional o is h wide there = ap (λ k. not (is_required k
 required_one olds fs n Sequence o is h wide there = ap (λ k. not (is_required k) || has_key fs n.key.0) is
 required_one olds fs n Required None is h wide there = let no = sym (ap is_optional is) ∙ wide in absurd (cc)
 required_one olds fs n Required (Some old) is h wide there =
-    let kinds = (both (kind_widens old.kind n.kind) _ wide).0 in
+    let kinds = (and-true (kind_widens old.kind n.kind) _ wide).0 in
     let was = only_required old.kind (ap (kind_widens old.kind) (sym is) ∙ kinds) in
     let held = found olds n.key.0 old (λ d. not (is_required d.kind) || has_key fs d.key.0) there h in
     ap (λ k. not (is_required k) || has_key fs n.key.0) is
@@ -127,8 +108,8 @@ required_one olds fs n Required (Some old) is h wide there =
 required_kept : (olds : List FieldDef) (fs : Fields) (ns : List FieldDef) → list_all (def_widens olds) ns ≡ true → required_there olds fs ≡ true → required_there ns fs ≡ true
 required_kept olds fs [] wide there = refl
 required_kept olds fs (n ∷ ns) wide there =
-    let parts = both (def_widens olds n) (list_all (def_widens olds) ns) wide in
-    join _ _ (required_one olds fs n n.kind (declared olds n.key.0) refl refl parts.0 there) (required_kept olds fs ns parts.1 there)
+    let parts = and-true (def_widens olds n) (list_all (def_widens olds) ns) wide in
+    and-both _ _ (required_one olds fs n n.kind (declared olds n.key.0) refl refl parts.0 there) (required_kept olds fs ns parts.1 there)
 
 fit_kept : (f g : Form) (fs : Fields) → form_widens f g ≡ true → fields_fit f fs ≡ true → fields_fit g fs ≡ true
 fit_kept (Array old) (Array new) fs wide h = h
@@ -136,16 +117,16 @@ fit_kept (Array old) (Map new) fs wide h = absurd (cc)
 fit_kept (Array old) (Object new) fs wide h = absurd (cc)
 fit_kept (Map old) (Array new) fs wide h = absurd (cc)
 fit_kept (Map old) (Map new) fs wide h =
-    let parts = both (keys_rise [] fs) (have_rules (Map old) fs) h in
-    join (keys_rise [] fs) _ parts.0 (rules_kept (Map old) (Map new) fs (λ key k. map_rule (is_key key) (record { kind = Optional; types = old }) (record { kind = Optional; types = new }) k) parts.1)
+    let parts = and-true (keys_rise [] fs) (have_rules (Map old) fs) h in
+    and-both (keys_rise [] fs) _ parts.0 (rules_kept (Map old) (Map new) fs (λ key k. map_rule (is_key key) (record { kind = Optional; types = old }) (record { kind = Optional; types = new }) k) parts.1)
 fit_kept (Map old) (Object new) fs wide h = absurd (cc)
 fit_kept (Object olds) (Array new) fs wide h = absurd (cc)
 fit_kept (Object olds) (Map new) fs wide h = absurd (cc)
 fit_kept (Object olds) (Object news) fs wide h =
-    let parts = both (keys_rise [] fs) (have_rules (Object olds) fs && required_there olds fs) h in
-    let rules = both (have_rules (Object olds) fs) (required_there olds fs) parts.1 in
-    let widens = both (list_all (λ (old : FieldDef). is_some (declared news old.key.0)) olds) (list_all (def_widens olds) news) wide in
-    join (keys_rise [] fs) _ parts.0 (join (have_rules (Object news) fs) _
+    let parts = and-true (keys_rise [] fs) (have_rules (Object olds) fs && required_there olds fs) h in
+    let rules = and-true (have_rules (Object olds) fs) (required_there olds fs) parts.1 in
+    let widens = and-true (list_all (λ (old : FieldDef). is_some (declared news old.key.0)) olds) (list_all (def_widens olds) news) wide in
+    and-both (keys_rise [] fs) _ parts.0 (and-both (have_rules (Object news) fs) _
     (rules_kept (Object olds) (Object news) fs (λ key k. object_rule olds news key wide k) rules.0) (required_kept olds fs news widens.1 rules.1))
 
 -- ---- what a field may hold
@@ -160,7 +141,7 @@ object_types : (olds news : List FieldDef) (key : List ℕ) (o : Option FieldDef
 object_types olds news key None wide h = refl
 object_types olds news key (Some o) wide h =
     let n = declared_wider olds news key o wide h in
-    let lists = (both (kind_widens o.kind n.0.kind) (contains_all n.0.types o.types) n.2).1 in
+    let lists = (and-true (kind_widens o.kind n.0.kind) (contains_all n.0.types o.types) n.2).1 in
     ap (λ (m : Option FieldDef). contains_all (types_in (option_map (λ f. record { kind = f.kind; types = f.types }) m)) o.types) n.1 ∙ lists
 
 types_kept : (f g : Form) (key : List ℕ) → form_widens f g ≡ true → contains_all (types_under (Some g) key) (types_under (Some f) key) ≡ true
@@ -181,22 +162,22 @@ form_at : (b : Bool) (ty : List ℕ) (o n : List ℕ × Form) (os ns : List (Lis
     → (form_of os ty ≡ Some f → (g : Form) × (form_of ns ty ≡ Some g) × (form_widens f g ≡ true)) → (if b then Some o.1 else form_of os ty) ≡ Some f
     → (g : Form) × (form_of (n ∷ ns) ty ≡ Some g) × (form_widens f g ≡ true)
 form_at true ty o n os ns f is wide later h =
-    let parts = both (same o.0 n.0) (form_widens o.1 n.1) wide in
+    let parts = and-true (same o.0 n.0) (form_widens o.1 n.1) wide in
     let e : o.1 ≡ f = cc in
     let at : same ty n.0 ≡ true = ap (same ty) (sym (text_same o.0 n.0 parts.0)) ∙ is in
     (n.1, ap (λ c. if c then Some n.1 else form_of ns ty) at, ap (λ x. form_widens x n.1) (sym e) ∙ parts.1)
 form_at false ty o n os ns f is wide later h =
-    let parts = both (same o.0 n.0) (form_widens o.1 n.1) wide in
+    let parts = and-true (same o.0 n.0) (form_widens o.1 n.1) wide in
     let at : same ty n.0 ≡ false = ap (same ty) (sym (text_same o.0 n.0 parts.0)) ∙ is in
     let g = later h in
     (g.0, ap (λ c. if c then Some n.1 else form_of ns ty) at ∙ g.1, g.2)
 
-form_found : (olds news : List (List ℕ × Form)) (ty : List ℕ) (f : Form) → list_all (λ ok. ok) (types_widen olds news) ≡ true → form_of olds ty ≡ Some f
+pub form_found : (olds news : List (List ℕ × Form)) (ty : List ℕ) (f : Form) → list_all (λ ok. ok) (types_widen olds news) ≡ true → form_of olds ty ≡ Some f
     → (g : Form) × (form_of news ty ≡ Some g) × (form_widens f g ≡ true)
 form_found [] news ty f wide h = absurd (cc)
 form_found (o ∷ os) [] ty f wide h = absurd (cc)
 form_found (o ∷ os) (n ∷ ns) ty f wide h =
-    let parts = both (definition_widens o n) (list_all (λ ok. ok) (types_widen os ns)) wide in
+    let parts = and-true (definition_widens o n) (list_all (λ ok. ok) (types_widen os ns)) wide in
     form_at (same ty o.0) ty o n os ns f refl parts.0 (form_found os ns ty f parts.1) h
 
 -- ---- trees
@@ -215,16 +196,16 @@ module _ (old new : SchemaView) (wide : list_all (λ ok. ok) (types_widen old.ty
   mutual
     tree_kept : (t : Node) (was is : List (List ℕ)) → contains_all is was ≡ true → conforms old was t ≡ true → conforms new is t ≡ true
     tree_kept (node ty (Some v) no_fields) was is more h =
-        let fits = both (is_among ty was) (same ty (leaf_type v) && true) (both _ true h).0 in
-        join _ true (join (is_among ty is) _ (among_all ty is was more fits.0) fits.1) refl
+        let fits = and-true (is_among ty was) (same ty (leaf_type v) && true) (and-true _ true h).0 in
+        and-both _ true (and-both (is_among ty is) _ (among_all ty is was more fits.0) fits.1) refl
     tree_kept (node ty (Some v) (field key row items rest)) was is more h =
-        let fits = both (is_among ty was) (same ty (leaf_type v) && false) (both _ _ h).0 in
-        let no = (both (same ty (leaf_type v)) false fits.1).1 in absurd (cc)
+        let fits = and-true (is_among ty was) (same ty (leaf_type v) && false) (and-true _ _ h).0 in
+        let no = (and-true (same ty (leaf_type v)) false fits.1).1 in absurd (cc)
     tree_kept (node ty None fs) was is more h =
-        let parts = both (node_fits old was ty None fs) (list_all (λ ok. ok) (fields_verdicts old (form_of old.types ty) fs)) h in
-        let fits = both (is_among ty was) (is_as_typed (form_of old.types ty) ty None fs) parts.0 in
+        let parts = and-true (node_fits old was ty None fs) (list_all (λ ok. ok) (fields_verdicts old (form_of old.types ty) fs)) h in
+        let fits = and-true (is_among ty was) (is_as_typed (form_of old.types ty) ty None fs) parts.0 in
         let kept = node_kept ty fs (form_of old.types ty) refl fits.1 parts.1 (λ f g w k. fields_kept f g fs w k) in
-        join _ _ (join (is_among ty is) _ (among_all ty is was more fits.0) kept.0) kept.1
+        and-both _ _ (and-both (is_among ty is) _ (among_all ty is was more fits.0) kept.0) kept.1
 
     fields_kept : (f g : Form) (fs : Fields) → form_widens f g ≡ true → list_all (λ ok. ok) (fields_verdicts old (Some f) fs) ≡ true → list_all (λ ok. ok) (fields_verdicts new (Some g) fs) ≡ true
     fields_kept f g no_fields widens h = refl
@@ -242,4 +223,4 @@ module _ (old new : SchemaView) (wide : list_all (λ ok. ok) (types_widen old.ty
 pub wider_conforms : (old new : SchemaView) (t : Node) → wider_of old new ≡ Ok tt → conforms old old.root t ≡ true → conforms new new.root t ≡ true
 wider_conforms old new t wide conforming =
     let parts = all-parts (types_widen old.types new.types) (contains_all new.root old.root ∷ []) (no_narrowing 0 (types_widen old.types new.types ++ contains_all new.root old.root ∷ []) wide) in
-    tree_kept old new parts.0 t old.root new.root (both (contains_all new.root old.root) true parts.1).0 conforming
+    tree_kept old new parts.0 t old.root new.root (and-true (contains_all new.root old.root) true parts.1).0 conforming

@@ -1,5 +1,5 @@
 -- The form of a schema has no floating-point number, and nests little.
-use Rattle.std.proofs.Common.{◌≡◌, ℕ, ◌≤◌, Bool, true, false, ◌&&◌, List, [], ◌∷◌, map, refl, arith, nat_le, length}
+use Rattle.std.proofs.Common.{◌≡◌, ℕ, ◌≤◌, true, false, List, [], ◌∷◌, map, refl, arith, nat_le, length}
 use Rattle.std.specs.List.{list_all}
 use Rattle.serde_json.specs.Data.{string, depth, items_depth, members_depth}
 use Rattle.serde_json.specs.Read.{max_depth}
@@ -11,6 +11,7 @@ use Rattle.st_schema.specs.Written.{fields_data, form_data, definition_data, sch
 use Rattle.st_schema.specs.declared.names.FieldDef.{FieldDef}
 use Rattle.st_schema.specs.declared.names.Form.{Form}
 use Rattle.st_schema.specs.declared.names.Form.TheVariants.{Array, Map, Object}
+use Rattle.st_lemmas.proofs.Bools.{and-true}
 
 -- ---- no floating-point number
 
@@ -58,23 +59,19 @@ schema_shallow s = omega (arith, names_shallow s.root, definitions_shallow s.typ
 
 -- ---- the fields of a sound schema are in order
 
-both : (a b : Bool) → a && b ≡ true → (a ≡ true) × (b ≡ true)
-both true b h = (refl, h)
-both false b h = absurd (cc)
-
 form_in_order : (names : List (List ℕ)) (form : Form) → form_is_sound names form ≡ true → form_rises form ≡ true
 form_in_order names (Array types) h = refl
 form_in_order names (Map types) h = refl
-form_in_order names (Object fields) h = (both (list_all (field_is_sound names) fields) (defs_rise [] fields) (both _ _ h).1).1
+form_in_order names (Object fields) h = (and-true (list_all (field_is_sound names) fields) (defs_rise [] fields) (and-true _ _ h).1).1
 
 forms_in_order : (names : List (List ℕ)) (ds : List (List ℕ × Form)) → list_all (form_is_sound names) (map (λ d. d.1) ds) ≡ true → list_all (λ (d : List ℕ × Form). form_rises d.1) ds ≡ true
 forms_in_order names [] h = refl
 forms_in_order names (d ∷ ds) h =
-    let parts = both (form_is_sound names d.1) (list_all (form_is_sound names) (map (λ d. d.1) ds)) h in
+    let parts = and-true (form_is_sound names d.1) (list_all (form_is_sound names) (map (λ d. d.1) ds)) h in
     rw (form_in_order names d.1 parts.0) (forms_in_order names ds parts.1)
 
 pub sound_rises : (s : SchemaView) → is_sound s ≡ true → list_all (λ (d : List ℕ × Form). form_rises d.1) s.types ≡ true
-sound_rises s h = forms_in_order (type_names s.types) s.types (both (forms_are_sound s.types) (list_is_sound (type_names s.types) s.root) (both (names_are_sound (type_names s.types)) _ h).1).0
+sound_rises s h = forms_in_order (type_names s.types) s.types (and-true (forms_are_sound s.types) (list_is_sound (type_names s.types) s.root) (and-true (names_are_sound (type_names s.types)) _ h).1).0
 
 pub sound_distinct : (s : SchemaView) → is_sound s ≡ true → is_distinct (type_names s.types) ≡ true
-sound_distinct s h = (both (is_distinct (type_names s.types)) _ (both (nat_le (length (type_names s.types)) 256) _ (both (names_are_sound (type_names s.types)) _ h).0).1).0
+sound_distinct s h = (and-true (is_distinct (type_names s.types)) _ (and-true (nat_le (length (type_names s.types)) 256) _ (and-true (names_are_sound (type_names s.types)) _ h).0).1).0

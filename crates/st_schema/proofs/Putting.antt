@@ -1,5 +1,5 @@
 -- A member goes to the end of an object whose names are all before its own.
-use Rattle.std.proofs.Common.{◌≡◌, ◌∙◌, ℕ, suc, ◌+◌, ◌<◌, Bool, true, false, ◌&&◌, List, [], ◌∷◌, ◌++◌, length, take, drop, get_or, Ordering, Less, Equal, Greater, String, string_bytes, refl, sym, ap, arith, append_assoc, ◌≤◌, take_all}
+use Rattle.std.proofs.Common.{◌≡◌, ◌∙◌, ℕ, suc, ◌+◌, ◌<◌, true, List, [], ◌∷◌, ◌++◌, length, take, drop, get_or, Less, String, string_bytes, refl, sym, ap, arith, append_assoc, ◌≤◌, take_all}
 use Rattle.std.specs.declared.alloc.Global.{Global}
 use Rattle.std.specs.Ordering.{nat_cmp, is_lt, match_ordering, ordering_reverse}
 use Rattle.std.specs.Cmp.Lexicographic.{slice_cmp}
@@ -15,27 +15,20 @@ use Rattle.std.proofs.lemmas.List.{take-append-drop}
 use Rattle.st_schema.specs.Schema.{defs_rise}
 use Rattle.st_schema.specs.Written.{field_data, fields_data}
 use Rattle.st_schema.specs.declared.names.FieldDef.{FieldDef}
-
-both : (a b : Bool) → a && b ≡ true → (a ≡ true) × (b ≡ true)
-both true b h = (refl, h)
-both false b h = absurd (cc)
-
-less : (o : Ordering) → is_lt o ≡ true → o ≡ Less
-less Less h = refl
-less Equal h = absurd (cc)
-less Greater h = absurd (cc)
+use Rattle.st_lemmas.proofs.Orders.{is_lt-Less}
+use Rattle.st_lemmas.proofs.Bools.{and-true}
 
 -- each key is above the first bound
 above : (before : List ℕ) (done : List FieldDef) (f : FieldDef) (rest : List FieldDef) → defs_rise before (done ++ f ∷ rest) ≡ true → slice_cmp nat_cmp before f.key.0 ≡ Less
-above before [] f rest h = less _ (both (is_lt (slice_cmp nat_cmp before f.key.0)) (defs_rise f.key.0 rest) h).0
+above before [] f rest h = is_lt-Less _ (and-true (is_lt (slice_cmp nat_cmp before f.key.0)) (defs_rise f.key.0 rest) h).0
 above before (e ∷ done) f rest h =
-    let parts = both (is_lt (slice_cmp nat_cmp before e.key.0)) (defs_rise e.key.0 (done ++ f ∷ rest)) h in
-    nat_list_cmp_total.trans before e.key.0 f.key.0 (less _ parts.0) (above e.key.0 done f rest parts.1)
+    let parts = and-true (is_lt (slice_cmp nat_cmp before e.key.0)) (defs_rise e.key.0 (done ++ f ∷ rest)) h in
+    nat_list_cmp_total.trans before e.key.0 f.key.0 (is_lt-Less _ parts.0) (above e.key.0 done f rest parts.1)
 
 put_after : (before : List ℕ) (done : List FieldDef) (f : FieldDef) (rest : List FieldDef) → defs_rise before (done ++ f ∷ rest) ≡ true → put f.key.0 (field_data f) (fields_data done) ≡ fields_data (done ++ f ∷ [])
 put_after before [] f rest h = refl
 put_after before (e ∷ done) f rest h =
-    let later = (both (is_lt (slice_cmp nat_cmp before e.key.0)) (defs_rise e.key.0 (done ++ f ∷ rest)) h).1 in
+    let later = (and-true (is_lt (slice_cmp nat_cmp before e.key.0)) (defs_rise e.key.0 (done ++ f ∷ rest)) h).1 in
     let greater = nat_list_cmp_total.antisymm f.key.0 e.key.0 ∙ ap ordering_reverse (above e.key.0 done f rest later) in
     ap (λ o. match_ordering o (member f.key.0 (field_data f) (fields_data (e ∷ done))) (member e.key.0 (field_data f) (fields_data done)) (member e.key.0 (field_data e) (put f.key.0 (field_data f) (fields_data done)))) greater
     ∙ ap (λ ms. member e.key.0 (field_data e) ms) (put_after e.key.0 done f rest later)

@@ -1,7 +1,7 @@
 -- The form of a tree is read as that tree.
 use Rattle.std.proofs.Common.{◌≡◌, ◌∙◌, ℕ, ◌+◌, ◌-◌, ◌≤◌, ℤ, pos, negsuc, Bool, true, false, ◌&&◌, ◌||◌, ◌==◌, List, [], ◌∷◌, length, Option, None, Some, option_map, option_and_then, is_some, nat_le, nat_lt, refl, sym, ap, arith}
 use Rattle.std.specs.Prelude.{if◌then◌else◌, Result, Ok, Err, is_ok}
-use Rattle.std.specs.Cmp.Lexicographic.{same_text, slice_cmp}
+use Rattle.std.specs.Cmp.Lexicographic.{slice_cmp}
 use Rattle.std.specs.Ordering.{nat_cmp, is_lt}
 use Rattle.std.proofs.lemmas.Bool.Decides.{nat_tests}
 use Rattle.st_ids.specs.declared.names.Leaf.{Leaf}
@@ -16,25 +16,19 @@ use Rattle.st_tree.specs.declared.limits.TreeFault.TheVariants.{TooDeep, TooMany
 use Rattle.st_schema.specs.Schema.{same}
 use Rattle.st_schema.specs.Conforms.{leaf_type}
 use Rattle.st_schema.specs.TreeText.{leaf_data, tree_data, body_data, keyed_data, members_data, trees_data, leaf_of, leaf_node, tree_in, body_in, trees_in, fields_in, within_limits, tree_of, leaf_fits, is_typed, fields_typed, all_typed}
+use Rattle.st_tree.proofs.Inverse.{not_alone}
+use Rattle.st_lemmas.proofs.Orders.{nat_lt-false}
+use Rattle.st_schema.proofs.Forms.{text_same}
+use Rattle.st_lemmas.proofs.Bools.{and-true}
 
 -- ---- tests
-
-both : (a b : Bool) → a && b ≡ true → (a ≡ true) × (b ≡ true)
-both true b h = (refl, h)
-both false b h = absurd (cc)
 
 or_right : (a b : Bool) → a ≡ false → a || b ≡ true → b ≡ true
 or_right true b off h = absurd (cc)
 or_right false b off h = h
 
-text_same : (xs ys : List ℕ) → same xs ys ≡ true → xs ≡ ys
-text_same xs ys h = same_text xs ys (sym h)
-
 a_level : (n m : ℕ) → 1 + m ≤ n → nat_le 1 n ≡ true
 a_level n m h = grind (arith, nat_tests)
-
-low_enough : (n m : ℕ) → nat_lt m n ≡ false → n ≤ m
-low_enough n m h = grind (arith, nat_tests)
 
 not_empty : (b : ℕ) (key : List ℕ) → (length (b ∷ key) == 0) ≡ false
 not_empty b key = grind (arith, nat_tests)
@@ -91,10 +85,6 @@ fields_of-fields_list (field key row items rest) = ap (field key row items) (fie
 
 -- ---- fields
 
-no_row : (key : List ℕ) (items : Nodes) (rest : Fields) → is_row_alone (field key false items rest) ≡ false
-no_row key items no_fields = refl
-no_row key items (field k row is rest) = refl
-
 sole : (t : Node) (o : Option Node) → option_and_then (λ u. Some (u ∷ [])) o ≡ Some (t ∷ []) → o ≡ Some t
 sole t None h = absurd (cc)
 sole t (Some u) h = cc
@@ -119,11 +109,11 @@ field_read key (first t (first u ts)) ms fs n single short items later = absurd 
 mutual
   tree_read : (t : Node) (n : ℕ) → has_form t ≡ true → is_typed t ≡ true → height t ≤ n → tree_in (tree_data t) n ≡ Some t
   tree_read (node ty (Some v) no_fields) n form typed low =
-      let parts = both (same ty (leaf_type v)) (leaf_fits v && true) typed in
-      leaf_read v n (both (leaf_fits v) true parts.1).0 (a_level n 0 low) ∙ ap (λ u. Some (node u (Some v) no_fields)) (sym (text_same ty (leaf_type v) parts.0))
+      let parts = and-true (same ty (leaf_type v)) (leaf_fits v && true) typed in
+      leaf_read v n (and-true (leaf_fits v) true parts.1).0 (a_level n 0 low) ∙ ap (λ u. Some (node u (Some v) no_fields)) (sym (text_same ty (leaf_type v) parts.0))
   tree_read (node ty (Some v) (field key row items rest)) n form typed low = absurd (cc)
   tree_read (node ty None fields) n form typed low =
-      let parts = both (fields_fit None fields) (fields_have_form fields) form in
+      let parts = and-true (fields_fit None fields) (fields_have_form fields) form in
       let below : fields_height fields ≤ n - 1 = omega arith in
       ap (λ (b : Bool). if b then option_map (node ty None) (body_in (body_data fields) (n - 1)) else None) (a_level n (fields_height fields) low)
       ∙ ap (option_map (node ty None)) (body_read fields (n - 1) parts.0 parts.1 typed below)
@@ -131,19 +121,19 @@ mutual
   body_read : (fs : Fields) (n : ℕ) → fields_fit None fs ≡ true → fields_have_form fs ≡ true → fields_typed fs ≡ true → fields_height fs ≤ n → body_in (body_data fs) n ≡ Some fs
   body_read no_fields n fits form typed low = refl
   body_read (field key true items no_fields) n fits form typed low =
-      let forms = both (all_have_form items) true form in
-      let types = both (all_typed items) true (both (nat_le (length key) 64) (all_typed items && true) typed).1 in
+      let forms = and-true (all_have_form items) true form in
+      let types = and-true (all_typed items) true (and-true (nat_le (length key) 64) (all_typed items && true) typed).1 in
       let below : items_height items ≤ n = omega arith in
       ap (option_map (λ ts. field [] true (nodes_of ts) no_fields)) (trees_read items n forms.0 types.0 below)
       ∙ (λ i. Some (field (empty_key key fits i) true (nodes_of-nodes_list items i) no_fields))
   body_read (field key true items (field k row is rest)) n fits form typed low = absurd (cc)
   body_read (field key false items rest) n fits form typed low =
-      let rises = or_right (is_row_alone (field key false items rest)) _ (no_row key items rest) fits in
-      let parts = both (is_single items) (is_lt (slice_cmp nat_cmp [] key) && keys_rise key rest) rises in
-      let rise = both (is_lt (slice_cmp nat_cmp [] key)) (keys_rise key rest) parts.1 in
-      let forms = both (all_have_form items) (fields_have_form rest) form in
-      let short = both (nat_le (length key) 64) (all_typed items && fields_typed rest) typed in
-      let types = both (all_typed items) (fields_typed rest) short.1 in
+      let rises = or_right (is_row_alone (field key false items rest)) _ (not_alone key items rest) fits in
+      let parts = and-true (is_single items) (is_lt (slice_cmp nat_cmp [] key) && keys_rise key rest) rises in
+      let rise = and-true (is_lt (slice_cmp nat_cmp [] key)) (keys_rise key rest) parts.1 in
+      let forms = and-true (all_have_form items) (fields_have_form rest) form in
+      let short = and-true (nat_le (length key) 64) (all_typed items && fields_typed rest) typed in
+      let types = and-true (all_typed items) (fields_typed rest) short.1 in
       let below : items_height items ≤ n = omega arith in
       let beside : fields_height rest ≤ n = omega arith in
       ap (option_map fields_of) (field_read key items (members_data rest) (fields_list rest) n parts.0 short.0 (trees_read items n forms.0 types.0 below) (members_read key rest n rise.1 forms.1 types.1 beside))
@@ -153,11 +143,11 @@ mutual
   members_read before no_fields n rises form typed low = refl
   members_read before (field key true items rest) n rises form typed low = absurd (cc)
   members_read before (field key false items rest) n rises form typed low =
-      let parts = both (is_single items) (is_lt (slice_cmp nat_cmp before key) && keys_rise key rest) rises in
-      let rise = both (is_lt (slice_cmp nat_cmp before key)) (keys_rise key rest) parts.1 in
-      let forms = both (all_have_form items) (fields_have_form rest) form in
-      let short = both (nat_le (length key) 64) (all_typed items && fields_typed rest) typed in
-      let types = both (all_typed items) (fields_typed rest) short.1 in
+      let parts = and-true (is_single items) (is_lt (slice_cmp nat_cmp before key) && keys_rise key rest) rises in
+      let rise = and-true (is_lt (slice_cmp nat_cmp before key)) (keys_rise key rest) parts.1 in
+      let forms = and-true (all_have_form items) (fields_have_form rest) form in
+      let short = and-true (nat_le (length key) 64) (all_typed items && fields_typed rest) typed in
+      let types = and-true (all_typed items) (fields_typed rest) short.1 in
       let below : items_height items ≤ n = omega arith in
       let beside : fields_height rest ≤ n = omega arith in
       field_read key items (members_data rest) (fields_list rest) n parts.0 short.0 (trees_read items n forms.0 types.0 below) (members_read key rest n rise.1 forms.1 types.1 beside)
@@ -165,8 +155,8 @@ mutual
   trees_read : (ts : Nodes) (n : ℕ) → all_have_form ts ≡ true → all_typed ts ≡ true → items_height ts ≤ n → trees_in (trees_data ts) n ≡ Some (nodes_list ts)
   trees_read no_nodes n form typed low = refl
   trees_read (first t ts) n form typed low =
-      let forms = both (has_form t) (all_have_form ts) form in
-      let types = both (is_typed t) (all_typed ts) typed in
+      let forms = and-true (has_form t) (all_have_form ts) form in
+      let types = and-true (is_typed t) (all_typed ts) typed in
       let here : height t ≤ n = omega arith in
       let later : items_height ts ≤ n = omega arith in
       ap (λ (o : Option Node). option_and_then (λ u. option_map (λ us. u ∷ us) (trees_in (trees_data ts) n)) o) (tree_read t n forms.0 types.0 here)
@@ -180,7 +170,7 @@ not_deep false true x y h = absurd (cc)
 not_deep false false x y h = refl
 
 pub low_within : (t : Node) → check_of t ≡ Ok tt → height t ≤ 48
-low_within t within = low_enough (height t) 48 (not_deep (nat_lt 1024 (node_count t)) (nat_lt 48 (height t)) TooMany TooDeep within)
+low_within t within = nat_lt-false (height t) 48 (not_deep (nat_lt 1024 (node_count t)) (nat_lt 48 (height t)) TooMany TooDeep within)
 
 pub form_read : (t : Node) → check_of t ≡ Ok tt → has_form t ≡ true → is_typed t ≡ true → tree_of (tree_data t) ≡ Some t
 form_read t within form typed =

@@ -1,5 +1,5 @@
 -- The first narrower type, by counting on.
-use Rattle.std.proofs.Common.{◌≡◌, ◌∙◌, ℕ, ◌+◌, ◌≤◌, Bool, true, false, not, ◌&&◌, List, [], ◌∷◌, ◌++◌, length, Result, Ok, Err, refl, ap, arith, nat_le}
+use Rattle.std.proofs.Common.{◌≡◌, ◌∙◌, ℕ, ◌+◌, ◌≤◌, Bool, true, false, not, List, [], ◌∷◌, ◌++◌, length, Result, Ok, Err, refl, ap, arith, nat_le}
 use Rattle.std.proofs.lemmas.List.{length-map}
 use borrow.Author.Tests.{leb-true}
 use Rattle.st_schema.specs.declared.names.Form.{Form}
@@ -8,6 +8,7 @@ use Rattle.st_schema.specs.Schema.{SchemaView, is_sound, type_names, names_are_s
 use Rattle.st_schema.specs.Wider.{contains_all, types_widen, narrowing, wider_of}
 use Rattle.st_schema.specs.inside.Wider.{widened}
 use Rattle.st_schema.specs.declared.names.NotWider.{NotWider}
+use Rattle.st_lemmas.proofs.Bools.{and-true}
 
 -- the answer once the root's list is tested too
 abbrev pub settled : Result ℕ NotWider → Bool → Result (Unit {0}) NotWider
@@ -24,11 +25,7 @@ widened_first n (false ∷ vs) ok = refl
 pub wider_counted : (old new : SchemaView) (r : Result ℕ NotWider) → r ≡ widened 0 (types_widen old.types new.types) → settled r (contains_all new.root old.root) ≡ wider_of old new
 wider_counted old new r h = ap (λ r. settled r (contains_all new.root old.root)) h ∙ widened_first 0 (types_widen old.types new.types) (contains_all new.root old.root)
 
-both : (a b : Bool) → a && b ≡ true → (a ≡ true) × (b ≡ true)
-both true b h = (refl, h)
-both false b h = absurd (cc)
-
 pub few_types : (s : SchemaView) → is_sound s ≡ true → length s.types ≤ 256
 few_types s h =
-    let few = (both (nat_le (length (type_names s.types)) 256) _ (both (names_are_sound (type_names s.types)) _ h).0).0 in
+    let few = (and-true (nat_le (length (type_names s.types)) 256) _ (and-true (names_are_sound (type_names s.types)) _ h).0).0 in
     omega (arith, leb-true _ _ few, length-map s.types (λ (d : List ℕ × Form). d.0))

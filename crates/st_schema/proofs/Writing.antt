@@ -1,5 +1,5 @@
 -- A tree of the form is written as its JSON form.
-use Rattle.std.proofs.Common.{◌≡◌, ◌∙◌, ℕ, zero, suc, ◌+◌, ◌<◌, ◌≤◌, Bool, true, false, ◌&&◌, List, [], ◌∷◌, ◌++◌, length, take, drop, take_all, get_or, map, None, Ordering, Less, Equal, Greater, String, string_bytes, Vec, BTreeMap, refl, sym, ap, arith, append_assoc}
+use Rattle.std.proofs.Common.{◌≡◌, ◌∙◌, ℕ, zero, suc, ◌+◌, ◌<◌, ◌≤◌, Bool, true, false, ◌&&◌, List, [], ◌∷◌, ◌++◌, length, take, drop, take_all, get_or, map, None, Less, String, string_bytes, Vec, BTreeMap, refl, sym, ap, arith, append_assoc}
 use Rattle.std.specs.Prelude.{Result, Ok, Err, IfOk}
 use Rattle.std.specs.BTreeMap.{insert_entry}
 use Rattle.std.specs.String.{string_cmp}
@@ -22,17 +22,10 @@ use Rattle.st_tree.proofs.Views.{view_out}
 use Rattle.st_tree.specs.Form.{is_single, keys_rise, fields_fit, has_form, fields_have_form, all_have_form}
 use Rattle.st_schema.specs.TreeText.{tree_data, body_data, keyed_data, members_data, trees_data}
 use Rattle.st_schema.proofs.Walking.{field_whole, field_key}
+use Rattle.st_lemmas.proofs.Orders.{is_lt-Less}
+use Rattle.st_lemmas.proofs.Bools.{and-true}
 
 -- ---- tests
-
-both : (a b : Bool) → a && b ≡ true → (a ≡ true) × (b ≡ true)
-both true b h = (refl, h)
-both false b h = absurd (cc)
-
-less : (o : Ordering) → is_lt o ≡ true → o ≡ Less
-less Less h = refl
-less Equal h = absurd (cc)
-less Greater h = absurd (cc)
 
 -- ---- the items of a row
 
@@ -41,8 +34,8 @@ shown t = tree_data (view t)
 
 form_at : (ts : List Tree) (i : ℕ) (t : Tree) → all_have_form (trees_view ts) ≡ true → i < length ts → has_form (view (get_or ts i t)) ≡ true
 form_at [] i t h within = absurd (omega arith)
-form_at (u ∷ ts) zero t h within = (both (has_form (view u)) (all_have_form (trees_view ts)) h).0
-form_at (u ∷ ts) (suc i) t h within = form_at ts i t (both (has_form (view u)) (all_have_form (trees_view ts)) h).1 (omega arith)
+form_at (u ∷ ts) zero t h within = (and-true (has_form (view u)) (all_have_form (trees_view ts)) h).0
+form_at (u ∷ ts) (suc i) t h within = form_at ts i t (and-true (has_form (view u)) (all_have_form (trees_view ts)) h).1 (omega arith)
 
 -- one item more is written
 pub item_written : (ts : List Tree) (i : ℕ) (t : Tree) (old new : List Value) (v : Value) → i < length ts → t ≡ get_or ts i t → (has_form (view t) ≡ true → value_view v ≡ shown t) → new ≡ old ++ v ∷ []
@@ -97,9 +90,9 @@ record Rises (before key : List ℕ) (row : Bool) (items : Nodes) (rest : Fields
 rises : (before key : List ℕ) (row : Bool) (items : Nodes) (rest : Fields) → keys_rise before (field key row items rest) ≡ true → Rises before key row items rest
 rises before key true items rest h = absurd (cc)
 rises before key false items rest h =
-    let parts = both (is_single items) (is_lt (slice_cmp nat_cmp before key) && keys_rise key rest) h in
-    let rise = both (is_lt (slice_cmp nat_cmp before key)) (keys_rise key rest) parts.1 in
-    record { single = refl; one = parts.0; above = less _ rise.0; later = rise.1 }
+    let parts = and-true (is_single items) (is_lt (slice_cmp nat_cmp before key) && keys_rise key rest) h in
+    let rise = and-true (is_lt (slice_cmp nat_cmp before key)) (keys_rise key rest) parts.1 in
+    record { single = refl; one = parts.0; above = is_lt-Less _ rise.0; later = rise.1 }
 
 first_rises : (before : List ℕ) (f : Field) (rest : List Field) → keys_rise before (fields_view (f ∷ rest)) ≡ true → Rises before (field_view f).key (field_view f).row (field_view f).items (fields_view rest)
 first_rises before f rest h = rises before (field_view f).key (field_view f).row (field_view f).items (fields_view rest) h
@@ -126,8 +119,8 @@ single_at before (e ∷ fs) (suc i) f h within = single_at (field_view e).key fs
 
 items_form_at : (fs : List Field) (i : ℕ) (f : Field) → fields_have_form (fields_view fs) ≡ true → i < length fs → all_have_form (field_view (get_or fs i f)).items ≡ true
 items_form_at [] i f h within = absurd (omega arith)
-items_form_at (e ∷ fs) zero f h within = (both (all_have_form (field_view e).items) (fields_have_form (fields_view fs)) h).0
-items_form_at (e ∷ fs) (suc i) f h within = items_form_at fs i f (both (all_have_form (field_view e).items) (fields_have_form (fields_view fs)) h).1 (omega arith)
+items_form_at (e ∷ fs) zero f h within = (and-true (all_have_form (field_view e).items) (fields_have_form (fields_view fs)) h).0
+items_form_at (e ∷ fs) (suc i) f h within = items_form_at fs i f (and-true (all_have_form (field_view e).items) (fields_have_form (fields_view fs)) h).1 (omega arith)
 
 -- one field more is written
 pub member_written : (fs : List Field) (i : ℕ) (f : Field) (old new : List (String Global × Value)) → i < length fs → f ≡ get_or fs i f
@@ -140,7 +133,7 @@ member_written fs i f old new within is written so_far rise form =
     let whole : take i fs ++ f ∷ drop (suc i) fs ≡ fs = sym (append_assoc (take i fs) (f ∷ []) (drop (suc i) fs)) ∙ ap (λ gs. gs ++ drop (suc i) fs) (sym here) ∙ take-append-drop (suc i) fs in
     let t = sole (field_view f).items (ap (λ g. is_single (field_view g).items) is ∙ single_at [] fs i f rise within) in
     let formed : has_form t.0 && true ≡ true = sym (ap all_have_form t.1) ∙ ap (λ g. all_have_form (field_view g).items) is ∙ items_form_at fs i f form within in
-    written t.0 t.1 (both (has_form t.0) true formed).0
+    written t.0 t.1 (and-true (has_form t.0) true formed).0
     ∙ ap (put (field_view f).key (tree_data t.0)) (so_far rise form)
     ∙ put_last [] (take i fs) f (drop (suc i) fs) t.0 t.1 (ap (λ gs. keys_rise [] (fields_view gs)) whole ∙ rise)
     ∙ ap (λ gs. members_data (fields_view gs)) (sym here)
@@ -180,7 +173,7 @@ node_shown : (t : Tree) (name : List ℕ) (body v : Value) → (out-Tree t).leaf
 node_shown t name body v leafless named written is form =
     let x = out-Tree t in
     let seen : view t ≡ node x.ty None (fields_view x.fields) = view_out t ∙ ap (λ o. node x.ty o (fields_view x.fields)) leafless in
-    let parts = both (fields_fit None (fields_view x.fields)) (fields_have_form (fields_view x.fields)) (sym (ap has_form seen) ∙ form) in
+    let parts = and-true (fields_fit None (fields_view x.fields)) (fields_have_form (fields_view x.fields)) (sym (ap has_form seen) ∙ form) in
     is ∙ (λ j. object (member (named j) (written parts.0 parts.1 j) no_members)) ∙ ap tree_data (sym seen)
 
 -- a node that is no leaf is written

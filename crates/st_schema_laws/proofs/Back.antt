@@ -15,14 +15,15 @@ use Rattle.st_marks.specs.CarryOut.{with_names}
 use Rattle.st_marks.specs.Back.{IsBack, is_in, place_back, to_of}
 use Rattle.st_marks.proofs.Climb.{same_spot, unknown_nowhere}
 use Rattle.st_marks.proofs.Lookups.{put-has, has-put_in}
-use Rattle.st_marks.proofs.Members.{true-false}
 use Rattle.st_marks.proofs.Retreat.{retreat_sound}
 use Rattle.st_edits.specs.Resolve.{is_row}
 use Rattle.st_schema_laws.specs.Conforming.{MayStand, IsConforming, IsFree, row_key, is_required_field}
 use Rattle.st_schema_laws.specs.Agreeing.{KeepsSchema, MayGo, MayBeLeft}
 use Rattle.st_schema_laws.proofs.Kept.{required_later, known_later, free_later, admits_later, stands_later, named_later, required_rule}
 use Rattle.st_schema_laws.proofs.Rules.{required_not_row}
-use Rattle.st_schema_laws.proofs.Simple.{some_of, rule_free}
+use Rattle.st_schema_laws.proofs.Simple.{rule_free}
+use Rattle.st_lemmas.proofs.Bools.{true-false}
+use Rattle.st_lemmas.proofs.Options.{IsSome-Some}
 
 -- a home of a node that stands elsewhere isn't required
 away_free : (s : SchemaView) (home : NodeId → Option FieldId) (D : Document) (m : NodeId) (f : FieldId) (spot : Spot) → MayStand s home D m spot → spot ≢ Spot.Nowhere → spot ≢ Spot.Register f → home m ≡ Some f → IsFree s D f
@@ -71,7 +72,7 @@ module _ (s : SchemaView) (home : NodeId → Option FieldId) (D E : Document) (x
   filled_back : (f : FieldId) → IsSome (D.nodes f.node) → is_required_field s E f ≡ true → D.held f ≢ E.held f → IsSome (put_in B f)
   filled_back f known required apart =
       let rule = required_rule s D f (sym (required_later s D E x.nodes f known) ∙ required) in
-      let y = some_of (D.held f) (before.filled f.node f.key rule.0 rule.1 rule.2) in
+      let y = IsSome-Some (D.held f) (before.filled f.node f.key rule.0 rule.1 rule.2) in
       let stood : D.place y.0 ≡ Spot.Register f = (x.before.one_held y.0 f).0 y.1 in
       let back : place_back D E y.0 ≡ Spot.Register f = back_old y.0 (x.before.held_known y.0 f y.1).0 ∙ stood in
       let put = must_put y.0 (Spot.Register f) back (λ e. apart (y.1 ∙ sym ((x.after.one_held y.0 f).1 (sym e)))) in
@@ -156,7 +157,7 @@ module _ (s : SchemaView) (home : NodeId → Option FieldId) (D E : Document) (x
   back_agrees = record {
     types = λ n t e. (let none : new_type B n ≡ None = rw b.nothing_new.0 refl in let bad : None ≡ Some t = sym none ∙ e in cc);
     puts = λ m to e. subst (MayGo s home E B m) (sym (put_is m to e).1) (goes_back m (place_back D E m) refl (stands_back m));
-    leaves = λ m f put old lives. (let to = some_of (put_of B m) put in
+    leaves = λ m f put old lives. (let to = IsSome-Some (put_of B m) put in
         let known = after.homes m f (put_known m (put_is m to.0 to.1).0) lives in
         record { known = known_there f.node known; filled = λ required. leaves_required m f to.0 to.1 lives (is_required_there f known required) });
     clears = clears_back;

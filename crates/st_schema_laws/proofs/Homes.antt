@@ -11,10 +11,10 @@ use Rattle.st_marks.specs.declared.places.Spot.{Spot}
 use Rattle.st_marks.specs.Document.{Document, IsSoundInForm, owned}
 use Rattle.st_marks.specs.Intent.{is_new, put_of}
 use Rattle.st_marks.specs.CarryOut.{with_names}
-use Rattle.st_marks.proofs.Members.{true-false}
 use Rattle.st_edits.specs.Resolve.{is_row}
 use Rattle.st_schema_laws.specs.Conforming.{Admits, MayStand, IsConforming, row_key}
 use Rattle.st_schema_laws.specs.Agreeing.{KeepsSchema, MayGo, TellsHomes, with_homes}
+use Rattle.st_lemmas.proofs.Bools.{true-false}
 
 module _ (s : SchemaView) (home other : NodeId → Option FieldId) where
   admits_as : (D : Document) (kinds : KindName → Bool) (n : NodeId) (key : Key) (m : NodeId) → home m ≡ other m → Admits s home D kinds n key m → Admits s other D kinds n key m

@@ -18,22 +18,18 @@ use Rattle.st_marks.specs.Join.{AreParts, IsJoin, put_unless_new, unless_cleared
 use Rattle.st_marks.proofs.Full.{known_put}
 use Rattle.st_marks.proofs.Joined.{joined_in_turn}
 use Rattle.st_marks.proofs.Lookups.{put-has, has-put, put_in-has, has-put_in}
-use Rattle.st_marks.proofs.Members.{true-false}
 use Rattle.st_marks.proofs.NewRows.{known_after}
 use Rattle.st_edits.specs.Paths.{field_at}
 use Rattle.st_edits.specs.Resolve.{is_row, rule_at}
 use Rattle.st_schema_laws.specs.Conforming.{Admits, IsConforming, row_key, type_fits, is_required_field}
 use Rattle.st_schema_laws.specs.Agreeing.{KeepsSchema, MayGo, MayBeLeft}
 use Rattle.st_schema_laws.proofs.Kept.{HasNodes, required_later, known_later, admits_later, named_later, required_by}
-use Rattle.st_schema_laws.proofs.Simple.{some_of}
+use Rattle.st_lemmas.proofs.Bools.{or-cases, true-false}
+use Rattle.st_lemmas.proofs.Options.{IsSome-Some}
 
 -- a field with a rule is required where the rule is
 required_is : (s : SchemaView) (D : Document) (f : FieldId) (rule : FieldRule) → rule_at D s f.node f.key ≡ Some rule → is_required_field s D f ≡ is_required rule.kind
 required_is s D f rule e = ap (λ o. option_map_or (λ (rule : FieldRule). is_required rule.kind) o false) e
-
-either_new : (a b : Bool) → (a || b) ≡ true → (a ≡ true) ⊎ (b ≡ true)
-either_new true b e = inl refl
-either_new false b e = inr e
 
 -- a node that a part puts into the register, and that the join puts there too
 pub record IsFilled (N M J : Intent) (f : FieldId) : Type 0 where
@@ -179,7 +175,7 @@ module _ (s : SchemaView) (home : NodeId → Option FieldId) (D : Document) (N M
     where
       go : (o : Option NodeId) → put_in M f ≡ o → IsSome (put_in N f) ⊎ IsSome (put_in M f) → IsFilled N M J f
       go (Some y) e h = by_second f y e
-      go None e (inl h) = let x = some_of (put_in N f) h in by_first f x.0 x.1 required e
+      go None e (inl h) = let x = IsSome-Some (put_in N f) h in by_first f x.0 x.1 required e
       go None e (inr h) = absurd (true-false h (ap is_some e))
 
   left_first : (f : FieldId) → MayBeLeft s D N f → MayBeLeft s D J f
@@ -203,7 +199,7 @@ module _ (s : SchemaView) (home : NodeId → Option FieldId) (D : Document) (N M
       ]
 
   clears_joined : (f : FieldId) → clears J f ≡ true → MayBeLeft s D J f
-  clears_joined f e = elim (either_new (clears N f) (clears M f) (sym (j.clears_both f) ∙ e)) [
+  clears_joined f e = elim (or-cases (clears N f) (clears M f) (sym (j.clears_both f) ∙ e)) [
     | inl first ↦ left_first f (a.clears f first)
     | inr second ↦ left_second f (c.clears f second)
   ]
@@ -218,7 +214,7 @@ module _ (s : SchemaView) (home : NodeId → Option FieldId) (D : Document) (N M
       go (Some u) q f = a.types n t (q ∙ f)
 
   homes_joined : (m : NodeId) (f : FieldId) → is_new J m ≡ true → home m ≡ Some f → IsSome ((with_names D J).nodes f.node)
-  homes_joined m f new lives = elim (either_new (is_new N m) (is_new M m) (sym (new_joined m) ∙ new)) [
+  homes_joined m f new lives = elim (or-cases (is_new N m) (is_new M m) (sym (new_joined m) ∙ new)) [
     | inl first ↦ known_later s (with_names D N) (with_names D J) from_first f.node (a.homes m f first lives)
     | inr second ↦ known_later s (with_names (full D N) M) (with_names D J) from_second f.node (c.homes m f second lives)
   ]
@@ -257,7 +253,7 @@ module _ (s : SchemaView) (home : NodeId → Option FieldId) (D : Document) (N M
 
   new_filled : (n : NodeId) (key : Key) (rule : FieldRule) → is_new J n ≡ true → rule_at (with_names D J) s n key ≡ Some rule → is_required rule.kind ≡ true
       → (m : NodeId) × (put_in J (field_at n key) ≡ Some m) × (is_new J m ≡ true)
-  new_filled n key rule new ruled required = elim (either_new (is_new N n) (is_new M n) (sym (new_joined n) ∙ new)) [
+  new_filled n key rule new ruled required = elim (or-cases (is_new N n) (is_new M n) (sym (new_joined n) ∙ new)) [
     | inl first ↦ of_first first
     | inr second ↦ of_second second
   ]
@@ -279,7 +275,7 @@ module _ (s : SchemaView) (home : NodeId → Option FieldId) (D : Document) (N M
 
       first_rule : is_new N n ≡ true → rule_at (with_names D N) s n key ≡ Some rule
       first_rule new_there =
-          let t = some_of (new_type N n) new_there in
+          let t = IsSome-Some (new_type N n) new_there in
           let own : (with_names D N).nodes n ≡ Some t.0 = rw (p.first_fits.fresh_nodes n new_there) t.1 in
           ap (option_and_then (λ (t : NodeType). field_of s t.ty key.0)) (own ∙ sym (from_first n t.0 own)) ∙ ruled
 

@@ -16,11 +16,11 @@ use Rattle.st_marks.specs.Document.{Document, NodeType, IsSoundInForm, root}
 use Rattle.st_marks.specs.Intent.{Fits, new_type, is_new, put_of, put_in, clears}
 use Rattle.st_marks.specs.CarryOut.{with_names, full, void, void_data, spot_of, place_after, unless_cleared, unless_put, is_put_in_new, only_new}
 use Rattle.st_marks.specs.Verdict.{carried}
-use Rattle.st_marks.proofs.Members.{true-false}
 use Rattle.st_edits.specs.Paths.{field_at}
 use Rattle.st_edits.specs.Resolve.{is_row, rule_at, has_type}
 use Rattle.st_schema_laws.specs.Conforming.{Admits, MayStand, IsConforming, IsFree, row_key, type_fits, is_required_field}
 use Rattle.st_schema_laws.specs.Agreeing.{KeepsSchema, MayGo}
+use Rattle.st_lemmas.proofs.Bools.{true-false}
 
 -- ## What is said of nodes stays said where they are the same
 

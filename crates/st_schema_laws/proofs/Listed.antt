@@ -1,11 +1,9 @@
 -- What the schema allows of trees, told of the list of their nodes: each has its type and stands in a field that takes it, and the
 -- required fields of each are filled.
-use Rattle.std.proofs.Common.{◌≡◌, ℕ, ◌+◌, ◌==◌, Bool, true, false, not, cond, ◌||◌, List, [], ◌∷◌, ◌++◌, length, Option, Some, None, is_some, refl, sym, ap, ◌∙◌, subst, arith, inl, inr, ◌⊎◌, option_map, option_and_then}
+use Rattle.std.proofs.Common.{◌≡◌, ℕ, ◌+◌, Bool, true, false, not, cond, ◌||◌, List, [], ◌∷◌, Option, Some, None, is_some, refl, sym, ap, ◌∙◌, subst, inl, inr, ◌⊎◌, option_map, option_and_then}
 use Rattle.std.specs.List.{list_all}
 use Rattle.std.specs.Ordering.{nat_cmp, is_lt}
 use Rattle.std.specs.Cmp.Lexicographic.{slice_cmp}
-use Rattle.std.proofs.lemmas.Bool.Decides.{nat_tests}
-use Rattle.std.proofs.lemmas.List.Folds.{list_all-append}
 use Rattle.st_ids.specs.Listing.{Has}
 use Rattle.st_ids.specs.declared.names.Key.{Key}
 use Rattle.st_ids.specs.declared.names.Leaf.{Leaf}
@@ -25,12 +23,16 @@ use Rattle.st_schema.specs.declared.names.Form.{Form}
 use Rattle.st_schema.specs.declared.names.Form.TheVariants.{Array, Map, Object}
 use Rattle.st_schema.specs.declared.names.KindName.{KindName}
 use Rattle.st_schema.specs.declared.names.KindName.TheVariants.{Optional, Sequence}
-use Rattle.st_marks.proofs.Lookups.{both_true}
-use Rattle.st_marks.proofs.Members.{true-false, first-has, has-append, append_left, append_right}
+use Rattle.st_marks.proofs.Members.{first-has, has-append, append_left, append_right}
 use Rattle.st_edits.specs.Paths.{field_at}
 use Rattle.st_edits.specs.Resolve.{is_row}
 use Rattle.st_schema_laws.specs.Conforming.{type_fits, row_key}
-use Rattle.st_schema_laws.proofs.Rules.{text_same, all_pass, declared_single, leaf_undefined}
+use Rattle.st_schema_laws.proofs.Rules.{declared_single, leaf_undefined}
+use Rattle.st_lemmas.proofs.Lists.{length-zero}
+use Rattle.st_schema.proofs.AllowedForm.{all-parts}
+use Rattle.st_lemmas.proofs.Bools.{and-true, true-false}
+use Rattle.st_schema.proofs.Forms.{text_same}
+use Rattle.st_edits.proofs.Fits.{all_pass}
 
 -- a listed node of this name has a field of one of these kinds under the key, which takes nodes of the type
 pub record HasField (s : SchemaView) (zs : List FlatNode) (kinds : KindName → Bool) (n : NodeId) (key : Key) (ty : List ℕ) : Type 0 where
@@ -59,31 +61,24 @@ abbrev HasKey : Fields → List ℕ → Bool → Type 0
 HasKey no_fields key row = ⊥
 HasKey (field k r items rest) key row = ((k ≡ key) × (r ≡ row)) ⊎ HasKey rest key row
 
-all_both : (us vs : List Bool) → list_all (λ ok. ok) (us ++ vs) ≡ true → (list_all (λ ok. ok) us ≡ true) × (list_all (λ ok. ok) vs ≡ true)
-all_both us vs e = both_true _ _ (sym (list_all-append (λ ok. ok) us vs) ∙ e)
-
 rises_single : (before key : List ℕ) (row : Bool) (fs : Fields) → keys_rise before fs ≡ true → HasKey fs key row → row ≡ false
 rises_single before key row no_fields e h = absurd h
 rises_single before key row (field k true items rest) e h = absurd (cc)
 rises_single before key row (field k false items rest) e (inl q) = sym q.1
-rises_single before key row (field k false items rest) e (inr h) = rises_single k key row rest (both_true _ _ (both_true _ _ e).1).1 h
+rises_single before key row (field k false items rest) e (inr h) = rises_single k key row rest (and-true _ _ (and-true _ _ e).1).1 h
 
 have_rule : (form : Form) (key : List ℕ) (row : Bool) (fs : Fields) → have_rules form fs ≡ true → HasKey fs key row → (rule : FieldRule) × (field_in form key ≡ Some rule)
 have_rule form key row no_fields e h = absurd h
-have_rule form key row (field k r items rest) e (inl q) = go (field_in form k) refl (both_true _ _ e).0
+have_rule form key row (field k r items rest) e (inl q) = go (field_in form k) refl (and-true _ _ e).0
   where
     go : (o : Option FieldRule) → field_in form k ≡ o → is_some o ≡ true → (rule : FieldRule) × (field_in form key ≡ Some rule)
     go None f g = absurd (cc)
     go (Some rule) f g = (rule, ap (field_in form) (sym q.0) ∙ f)
-have_rule form key row (field k r items rest) e (inr h) = have_rule form key row rest (both_true _ _ e).1 h
-
-no_length : (k : List ℕ) → (length k == 0) ≡ true → k ≡ []
-no_length [] e = refl
-no_length (b ∷ k) e = absurd (grind (arith, nat_tests))
+have_rule form key row (field k r items rest) e (inr h) = have_rule form key row rest (and-true _ _ e).1 h
 
 alone : (key : List ℕ) (row : Bool) (fs : Fields) → is_row_alone fs ≡ true → HasKey fs key row → (key ≡ []) × (row ≡ true)
 alone key row no_fields e h = absurd h
-alone key row (field k r items no_fields) e (inl q) = let b = both_true _ _ e in (sym q.0 ∙ no_length k b.1, sym q.1 ∙ b.0)
+alone key row (field k r items no_fields) e (inl q) = let b = and-true _ _ e in (sym q.0 ∙ length-zero k b.1, sym q.1 ∙ b.0)
 alone key row (field k r items no_fields) e (inr h) = absurd h
 alone key row (field k r items (field k' r' items' rest)) e h = absurd (cc)
 
@@ -96,7 +91,7 @@ field_there rev owner n c before key (field k false no_nodes rest) e h = absurd 
 field_there rev owner n c before key (field k false (first t (first u ts)) rest) e h = absurd (cc)
 field_there rev owner n c before key (field k false (first (node ty leaf fields) no_nodes) rest) e h =
     go (same k key) refl h
-    (λ f. field_there rev owner (n + item_count (first (node ty leaf fields) no_nodes)) (c + item_cells false (first (node ty leaf fields) no_nodes)) k key rest (both_true (is_lt (slice_cmp nat_cmp before k)) (keys_rise k rest) e).1 f)
+    (λ f. field_there rev owner (n + item_count (first (node ty leaf fields) no_nodes)) (c + item_cells false (first (node ty leaf fields) no_nodes)) k key rest (and-true (is_lt (slice_cmp nat_cmp before k)) (keys_rise k rest) e).1 f)
   where
     go : (b : Bool) → same k key ≡ b → (b || has_key rest key) ≡ true
         → (has_key rest key ≡ true → (y : FlatNode) × Has (fields_listed rev owner (n + item_count (first (node ty leaf fields) no_nodes)) (c + item_cells false (first (node ty leaf fields) no_nodes)) rest) y × (y.at ≡ FlatAt.Register (record { node = node_named rev owner; key = record { 0 = key } })))
@@ -106,7 +101,7 @@ field_there rev owner n c before key (field k false (first (node ty leaf fields)
 
 module _ (s : SchemaView) (sound : is_sound s ≡ true) (zs : List FlatNode) (types : List (List ℕ)) (rev : Rev) where
   fits_type : (ty : List ℕ) (leaf : Option Leaf) (fs : Fields) → is_as_typed (form_of s.types ty) ty leaf fs ≡ true → type_fits s ty leaf ≡ true
-  fits_type ty (Some v) fs e = (both_true _ _ e).0
+  fits_type ty (Some v) fs e = (and-true _ _ e).0
   fits_type ty None fs e = go (form_of s.types ty) e
     where
       go : (o : Option Form) → is_as_typed o ty None fs ≡ true → is_some o ≡ true
@@ -138,8 +133,8 @@ module _ (s : SchemaView) (sound : is_sound s ≡ true) (zs : List FlatNode) (ty
           let w = first-has (λ (f : FieldDef). same f.key.0 key.0) defs d f in
           let r : record { kind = d.kind; types = d.types } ≡ rule = cc in
           let need : is_required d.kind ≡ true = ap (λ (r : FieldRule). is_required r.kind) r ∙ required in
-          let rest = both_true (keys_rise [] fs) _ fit in
-          let all = (both_true (have_rules (Object defs) fs) _ rest.1).1 in
+          let rest = and-true (keys_rise [] fs) _ fit in
+          let all = (and-true (have_rules (Object defs) fs) _ rest.1).1 in
           let y = field_there rev owner n c [] d.key.0 fs rest.0 (present d w.0 need (all_pass (λ (d : FieldDef). not (is_required d.kind) || has_key fs d.key.0) defs d all w.0)) in
           (y.0, y.1, y.2 ∙ ap (λ k. FlatAt.Register (record { node = node_named rev owner; key = record { 0 = k } })) (text_same d.key.0 key.0 w.1))
 
@@ -152,7 +147,7 @@ module _ (s : SchemaView) (sound : is_sound s ≡ true) (zs : List FlatNode) (ty
       subst (λ r. IsPlaced s zs types ty (at_of rev owner key r c)) (sym a.1)
       (record { owner = x; listed = listed; named = named; rule = record { kind = Sequence; types = ts }; ruled = ap (option_and_then (λ (form : Form). field_in form [])) form; kind = refl; typed = among })
   field_takes x owner c (Map ts) fs key row ty listed named form fit h e =
-      let b = both_true (keys_rise [] fs) _ fit in
+      let b = and-true (keys_rise [] fs) _ fit in
       let r = have_rule (Map ts) key row fs b.1 h in
       let single : is_single_kind r.0.kind ≡ true = go (is_key key) r.0 r.1 in
       subst (λ w. IsPlaced s zs types ty (at_of rev owner key w c)) (sym (rises_single [] key row fs b.0 h))
@@ -162,8 +157,8 @@ module _ (s : SchemaView) (sound : is_sound s ≡ true) (zs : List FlatNode) (ty
       go true rule f = let r : record { kind = Optional; types = ts } ≡ rule = cc in ap (λ (r : FieldRule). is_single_kind r.kind) (sym r)
       go false rule f = absurd (cc)
   field_takes x owner c (Object defs) fs key row ty listed named form fit h e =
-      let b = both_true (keys_rise [] fs) _ fit in
-      let r = have_rule (Object defs) key row fs (both_true (have_rules (Object defs) fs) _ b.1).0 h in
+      let b = and-true (keys_rise [] fs) _ fit in
+      let r = have_rule (Object defs) key row fs (and-true (have_rules (Object defs) fs) _ b.1).0 h in
       let single : is_single_kind r.0.kind ≡ true = go (declared defs key) refl r.0 r.1 in
       subst (λ w. IsPlaced s zs types ty (at_of rev owner key w c)) (sym (rises_single [] key row fs b.0 h))
       (record { owner = x; listed = listed; named = named; rule = r.0; ruled = ap (option_and_then (λ (form : Form). field_in form key)) form ∙ r.1; kind = single; typed = rw r.1 at e })
@@ -184,25 +179,25 @@ module _ (s : SchemaView) (sound : is_sound s ≡ true) (zs : List FlatNode) (ty
     tree_allowed : (at : FlatAt) (n c : ℕ) (own : List (List ℕ)) (t : Node) → list_all (λ ok. ok) (verdicts s own t) ≡ true → ((ty : List ℕ) → is_among ty own ≡ true → IsPlaced s zs types ty at)
         → AreInside (listed rev at n c t) → AreAllowed (listed rev at n c t)
     tree_allowed at n c own (node ty (Some v) fs) e here inside x (inl q) =
-        let fits = both_true (is_among ty own) _ (both_true _ _ e).0 in
+        let fits = and-true (is_among ty own) _ (and-true _ _ e).0 in
         subst (IsAllowedItem s zs types) q (record {
           typed = fits_type ty (Some v) fs fits.1;
           placed = here ty fits.0;
-          filled = λ key rule ruled required. absurd (undefined key rule ruled (leaf_undefined s sound ty v (both_true _ _ fits.1).0));
+          filled = λ key rule ruled required. absurd (undefined key rule ruled (leaf_undefined s sound ty v (and-true _ _ fits.1).0));
         })
       where
         undefined : (key : Key) (rule : FieldRule) → field_of s ty key.0 ≡ Some rule → form_of s.types ty ≡ None → ⊥
         undefined key rule f g = let bad : None ≡ Some rule = sym (ap (option_and_then (λ (form : Form). field_in form key.0)) g) ∙ f in cc
     tree_allowed at n c own (node ty (Some v) no_fields) e here inside x (inr h) = absurd h
     tree_allowed at n c own (node ty (Some v) (field key row items rest)) e here inside x (inr h) =
-        let fits = both_true (is_among ty own) _ (both_true _ _ e).0 in
-        absurd (true-false (both_true (same ty (leaf_type v)) false fits.1).1 refl)
+        let fits = and-true (is_among ty own) _ (and-true _ _ e).0 in
+        absurd (true-false (and-true (same ty (leaf_type v)) false fits.1).1 refl)
     tree_allowed at n c own (node ty None fs) e here inside x h =
-        go (form_of s.types ty) refl (both_true (is_among ty own) _ (both_true _ _ e).0).1 h
+        go (form_of s.types ty) refl (and-true (is_among ty own) _ (and-true _ _ e).0).1 h
         (λ form ok takes within k. fields_allowed n (n + 1) c form fs ok takes within x k)
       where
         parts : (node_fits s own ty None fs ≡ true) × (list_all (λ ok. ok) (fields_verdicts s (form_of s.types ty) fs) ≡ true)
-        parts = both_true _ _ e
+        parts = and-true _ _ e
 
         item : FlatNode
         item = record { node = node_named rev n; ty = ty; leaf = None; row = is_array fs; at = at }
@@ -215,7 +210,7 @@ module _ (s : SchemaView) (sound : is_sound s ≡ true) (zs : List FlatNode) (ty
         go None q fit k below = absurd (cc)
         go (Some form) q fit (inl same_item) below = subst (IsAllowedItem s zs types) same_item (record {
           typed = ap is_some q;
-          placed = here ty (both_true (is_among ty own) _ parts.0).0;
+          placed = here ty (and-true (is_among ty own) _ parts.0).0;
           filled = λ key rule ruled required. (let y = required_filled form n (n + 1) c fs key rule fit (sym (ap (option_and_then (λ (form : Form). field_in form key.0)) q) ∙ ruled) required in
               (y.0, inside y.0 (inr y.1), y.2));
         })
@@ -229,7 +224,7 @@ module _ (s : SchemaView) (sound : is_sound s ≡ true) (zs : List FlatNode) (ty
         → AreInside (fields_listed rev owner n c fs) → AreAllowed (fields_listed rev owner n c fs)
     fields_allowed owner n c form no_fields e takes inside x h = absurd h
     fields_allowed owner n c form (field key row items rest) e takes inside x h =
-        let both = all_both (items_verdicts s (types_under (Some form) key) items) (fields_verdicts s (Some form) rest) e in
+        let both = all-parts (items_verdicts s (types_under (Some form) key) items) (fields_verdicts s (Some form) rest) e in
         let here = items_listed rev owner key row n c items in
         let later = fields_listed rev owner (n + item_count items) (c + item_cells row items) rest in
         elim (has-append here later x h) [
@@ -242,7 +237,7 @@ module _ (s : SchemaView) (sound : is_sound s ≡ true) (zs : List FlatNode) (ty
         → AreInside (items_listed rev owner key row n c ts) → AreAllowed (items_listed rev owner key row n c ts)
     items_allowed owner key row n c own no_nodes e takes inside x h = absurd h
     items_allowed owner key row n c own (first t ts) e takes inside x h =
-        let both = all_both (verdicts s own t) (items_verdicts s own ts) e in
+        let both = all-parts (verdicts s own t) (items_verdicts s own ts) e in
         let here = listed rev (at_of rev owner key row c) n (c + cells_taken row) t in
         let later = items_listed rev owner key row (n + node_count t) (c + (cells_taken row + cell_count t)) ts in
         elim (has-append here later x h) [
@@ -253,7 +248,7 @@ module _ (s : SchemaView) (sound : is_sound s ≡ true) (zs : List FlatNode) (ty
   pub tops_allowed : (n c : ℕ) (ts : Nodes) → list_all (λ ok. ok) (items_verdicts s types ts) ≡ true → AreInside (tops_listed rev n c ts) → AreAllowed (tops_listed rev n c ts)
   tops_allowed n c no_nodes e inside x h = absurd h
   tops_allowed n c (first t ts) e inside x h =
-      let both = all_both (verdicts s types t) (items_verdicts s types ts) e in
+      let both = all-parts (verdicts s types t) (items_verdicts s types ts) e in
       let here = listed rev (FlatAt.Top (cell_named rev c)) n (c + 1) t in
       let later = tops_listed rev (n + node_count t) (c + (1 + cell_count t)) ts in
       elim (has-append here later x h) [

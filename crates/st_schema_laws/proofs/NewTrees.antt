@@ -1,8 +1,7 @@
 -- What new trees mean agrees with the schema, where it allows them.
-use Rattle.std.proofs.Common.{◌≡◌, ℕ, ◌+◌, nat_le, Bool, true, false, not, cond, ◌&&◌, List, [], ◌∷◌, Option, Some, None, IsSome, is_some, option_map, option_and_then, Ok, refl, sym, ap, ◌∙◌, subst, inl, inr}
+use Rattle.std.proofs.Common.{◌≡◌, ℕ, nat_le, Bool, true, false, not, cond, List, [], ◌∷◌, Option, Some, None, IsSome, is_some, option_map, option_and_then, Ok, refl, sym, ap, ◌∙◌, subst, inl, inr}
 use Rattle.std.specs.List.{find, list_all, position_from}
 use Rattle.std.specs.Option.{option_map_or}
-use Rattle.std.proofs.lemmas.List.Folds.{list_all-append}
 use Rattle.st_ids.specs.Listing.{Has}
 use Rattle.st_ids.specs.Order.{same_node}
 use Rattle.st_ids.specs.declared.names.CellId.{CellId}
@@ -14,13 +13,11 @@ use Rattle.st_ids.proofs.Orders.{same_node-true, same_node-itself}
 use Rattle.st_tree.specs.declared.flat.FlatAt.{FlatAt}
 use Rattle.st_tree.specs.declared.flat.FlatNode.{FlatNode}
 use Rattle.st_tree.specs.Node.{Node, node, Nodes, no_nodes, first}
-use Rattle.st_tree.specs.Form.{has_form, all_have_form}
 use Rattle.st_tree.specs.declared.edit.EditFault.TheVariants.{Range}
 use Rattle.st_schema.specs.Schema.{SchemaView, field_of, is_among, is_single_kind, is_sound}
-use Rattle.st_schema.specs.Conforms.{is_required, verdicts, items_verdicts}
+use Rattle.st_schema.specs.Conforms.{is_required, items_verdicts}
 use Rattle.st_schema.specs.declared.names.FieldRule.{FieldRule}
 use Rattle.st_schema.specs.declared.names.KindName.{KindName}
-use Rattle.st_schema.proofs.AllowedForm.{conforming_formed}
 use Rattle.st_marks.specs.declared.changes.NewNode.{NewNode}
 use Rattle.st_marks.specs.declared.intents.Group.{Group}
 use Rattle.st_marks.specs.declared.intents.Intent.{Intent}
@@ -30,24 +27,29 @@ use Rattle.st_marks.specs.declared.intents.To.{To}
 use Rattle.st_marks.specs.Document.{Document, NodeType, IsSoundInForm, owned}
 use Rattle.st_marks.specs.Intent.{Fits, register_of, new_node, new_type, is_new, new_row_of, put_of, put_in, clears}
 use Rattle.st_marks.specs.CarryOut.{with_names}
-use Rattle.st_marks.proofs.Lookups.{both_true, put-has, has-put, has-put_in, clears-has, new_row_of-group}
-use Rattle.st_marks.proofs.Members.{true-false, first-has, first-distinct, has-map, map-has, has-filter_map}
+use Rattle.st_marks.proofs.Lookups.{put-has, has-put, has-put_in, clears-has, new_row_of-group}
+use Rattle.st_marks.proofs.Members.{first-has, first-distinct, has-map, map-has, has-filter_map}
 use Rattle.st_edits.specs.New.{new_nodes, puts, to_at, top_to, top_cell, row_cell, owned_by, top_cells, cells_under, group_of, group_under, groups_under, names_taken}
 use Rattle.st_opening.specs.Start.{registers, register_at}
 use Rattle.st_edits.specs.Paths.{and_then, field_at, left_of, row_length}
-use Rattle.st_edits.specs.Resolve.{require, walk, rule_for, rule_at, is_row, has_type, trees_allowed, names_left, named, allowed_nodes, with_group, inserted, intent_to_place, insert, put}
+use Rattle.st_edits.specs.Resolve.{require, walk, rule_for, rule_at, is_row, has_type, trees_allowed, names_left, named, allowed_nodes, inserted, intent_to_place, insert, put}
 use Rattle.st_edits.specs.declared.names.NameCounters.{NameCounters}
 use Rattle.st_edits.specs.declared.names.Takes.TheVariants as field
 use Rattle.st_edits.proofs.Fits.{passed, ruled}
 use Rattle.st_edits.proofs.MoveFits.{CellsFresh}
-use Rattle.st_edits.proofs.NewFits.{NodesFresh, insert_fits, put_fits}
-use Rattle.st_edits.proofs.Numbered.{filter-from, IsArray, IsUnderArray, tops_rows}
+use Rattle.st_edits.proofs.NewFits.{NodesFresh, insert_fits, put_fits, items_form, with_first, none_is}
+use Rattle.st_edits.proofs.Numbered.{IsArray, IsUnderArray, tops_rows}
 use Rattle.st_schema_laws.specs.Conforming.{row_key, type_fits}
 use Rattle.st_schema_laws.specs.Agreeing.{KeepsSchema, MayGo, MayBeLeft, TellsHomes}
 use Rattle.st_schema_laws.proofs.Kept.{rule_later, named_later}
 use Rattle.st_schema_laws.proofs.Rules.{required_not_row, row_of_array}
 use Rattle.st_schema_laws.proofs.Listed.{HasField, IsPlaced, IsAllowedItem, tops_allowed}
-use Rattle.st_schema_laws.proofs.Simple.{some_of, rule_there, rule_found, key_is, none_is}
+use Rattle.st_schema_laws.proofs.Simple.{rule_there, rule_found, key_is}
+use Rattle.st_lemmas.proofs.Lists.{position_from-None}
+use Rattle.st_edits.proofs.Shared.{with_others}
+use Rattle.st_lemmas.proofs.Bools.{true-false}
+use Rattle.st_ids.proofs.Shared.{filter-from}
+use Rattle.st_lemmas.proofs.Options.{IsSome-Some}
 
 -- ## An intent with new nodes of a list
 
@@ -151,7 +153,7 @@ module _ (s : SchemaView) (home : NodeId → Option FieldId) (D : Document) (N :
   new_filled : (n : NodeId) (key : Key) (rule : FieldRule) → is_new N n ≡ true → rule_at (with_names D N) s n key ≡ Some rule → is_required rule.kind ≡ true
       → (m : NodeId) × (put_in N (field_at n key) ≡ Some m) × (is_new N m ≡ true)
   new_filled n key rule new ruled required =
-      let t = some_of (new_type N n) new in
+      let t = IsSome-Some (new_type N n) new in
       let x = new_from n t.0 t.1 in
       let own : field_of s x.0.ty key.0 ≡ Some rule = sym (ap (option_and_then (λ (t : NodeType). field_of s t.ty key.0)) (node_is x.0 x.1)) ∙ ap (λ n. rule_at (with_names D N) s n key) x.2 ∙ ruled in
       let y = (w.items x.0 x.1).filled key rule own required in
@@ -159,7 +161,7 @@ module _ (s : SchemaView) (home : NodeId → Option FieldId) (D : Document) (N :
 
   home_there : (m : NodeId) (f : FieldId) → is_new N m ≡ true → home m ≡ Some f → IsSome ((with_names D N).nodes f.node)
   home_there m f new lives =
-      let t = some_of (new_type N m) new in
+      let t = IsSome-Some (new_type N m) new in
       let x = new_from m t.0 t.1 in
       go x.0 x.1 (to_at into x.0.at) refl (sym (home_is x.0 x.1) ∙ ap home x.2 ∙ lives)
     where
@@ -175,7 +177,7 @@ module _ (s : SchemaView) (home : NodeId → Option FieldId) (D : Document) (N :
   listed_agrees = record {
     types = λ n t e. (let x = new_from n t e in ap (λ (t : NodeType). type_fits s t.ty t.leaf) (sym x.3) ∙ (w.items x.0 x.1).typed);
     puts = λ m to e. (let x = put_from m to e in subst (λ (p : Put). MayGo s home D N p.node p.to) x.2 (listed_goes x.0 x.1));
-    leaves = λ m f some old lives. (let to = some_of (put_of N m) some in
+    leaves = λ m f some old lives. (let to = IsSome-Some (put_of N m) some in
         let x = put_from m to.0 to.1 in
         absurd (true-false (ap (is_new N) (sym (ap (λ (p : Put). p.node) x.2)) ∙ node_new x.0 x.1) old));
     clears = clear_may;
@@ -188,13 +190,6 @@ module _ (s : SchemaView) (home : NodeId → Option FieldId) (D : Document) (N :
 group_made : (n : NodeId) (after : Option CellId) (os : List Owned) (o : Owned) → Has os o → (g : Group) × (group_of n after os ≡ Some g) × (g.node ≡ n) × Has g.cells o
 group_made n after [] o h = absurd h
 group_made n after (p ∷ ps) o h = (record { node = n; after = after; cells = p ∷ ps }, refl, refl, h)
-
-with_first : (o : Option Group) (gs : List Group) (g : Group) → o ≡ Some g → Has (with_group o gs) g
-with_first o gs g e = subst (λ q. Has (with_group q gs) g) (sym e) (inl refl)
-
-with_rest : (o : Option Group) (gs : List Group) (g : Group) → Has gs g → Has (with_group o gs) g
-with_rest None gs g h = h
-with_rest (Some a) gs g h = inr h
 
 -- the cell of a node that stands in a row is in the group of that row
 under_group : (xs : List FlatNode) (x : FlatNode) (r : NodeId) (c : CellId) → Has xs x → x.at ≡ FlatAt.Row r c → IsArray xs r → (g : Group) × Has (groups_under xs) g × (g.node ≡ r) × Has g.cells (owned c x.node)
@@ -220,25 +215,12 @@ register_from into xs g h = let x = filter-from (λ (x : FlatNode). register_at 
 
 -- ## What is allowed
 
-pub all_ok : (k : ℕ) (bs : List Bool) → position_from (λ ok. not ok) k bs ≡ None → list_all (λ ok. ok) bs ≡ true
-all_ok k [] e = refl
-all_ok k (true ∷ bs) e = all_ok (k + 1) bs e
-all_ok k (false ∷ bs) e = absurd (cc)
-
-items_form : (s : SchemaView) (types : List (List ℕ)) (ts : Nodes) → list_all (λ ok. ok) (items_verdicts s types ts) ≡ true → all_have_form ts ≡ true
-items_form s types no_nodes e = refl
-items_form s types (first t ts) e =
-    let b = both_true _ _ (sym (list_all-append (λ ok. ok) (verdicts s types t) (items_verdicts s types ts)) ∙ e) in
-    let one : has_form t ≡ true = conforming_formed s types t b.0 in
-    let rest : all_have_form ts ≡ true = items_form s types ts b.1 in
-    (λ i. one i && rest i)
-
 is_allowed : (s : SchemaView) (G : NameCounters) (rule : FieldRule) (trees : Nodes) (xs : List FlatNode) → allowed_nodes s G rule trees ≡ Ok xs → (list_all (λ ok. ok) (items_verdicts s rule.types trees) ≡ true) × (named G trees ≡ xs)
 is_allowed s G rule trees xs e =
     let u = passed (trees_allowed s rule trees) (λ _. and_then (names_left G (names_taken (named G trees))) (λ _. Ok (named G trees))) xs e in
     let v = passed (names_left G (names_taken (named G trees))) (λ _. Ok (named G trees)) xs u.2 in
     let is : named G trees ≡ xs = cc in
-    (all_ok 0 (items_verdicts s rule.types trees) (none_is (position_from (λ ok. not ok) 0 (items_verdicts s rule.types trees)) u.0 u.1), is)
+    (position_from-None 0 (items_verdicts s rule.types trees) (none_is (position_from (λ ok. not ok) 0 (items_verdicts s rule.types trees)) u.0 u.1), is)
 
 named_allowed : (s : SchemaView) (G : NameCounters) (types : List (List ℕ)) (trees : Nodes) → is_sound s ≡ true → list_all (λ ok. ok) (items_verdicts s types trees) ≡ true → (x : FlatNode) → Has (named G trees) x → IsAllowedItem s (named G trees) types x
 named_allowed s G types trees schema ok = tops_allowed s schema (named G trees) types G.rev G.nodes G.cells trees ok (λ x h. h)
@@ -259,7 +241,7 @@ inserted_agrees s home D G n index rule trees schema ruled row ok fits own = lis
     row_made : (x : FlatNode) (r : NodeId) (c : CellId) → Has (named G trees) x → x.at ≡ FlatAt.Row r c → new_row_of (inserted D G n index (named G trees)) c ≡ Some r
     row_made x r c h e =
         let g = under_group (named G trees) x r c h e (subst (IsUnderArray (named G trees)) e (named_under s G rule.types trees ok x h)) in
-        new_row_of-group (inserted D G n index (named G trees)) fits.itself g.0 (owned c x.node) (with_rest (group_of n (left_of D n index) (top_cells (named G trees))) (groups_under (named G trees)) g.0 g.1) g.3 ∙ ap (λ n. Some n) g.2
+        new_row_of-group (inserted D G n index (named G trees)) fits.itself g.0 (owned c x.node) (with_others (group_of n (left_of D n index) (top_cells (named G trees))) (groups_under (named G trees)) g.0 g.1) g.3 ∙ ap (λ n. Some n) g.2
 
     top_made : (x : FlatNode) (c : CellId) → Has (named G trees) x → x.at ≡ FlatAt.Top c → new_row_of (inserted D G n index (named G trees)) c ≡ Some n
     top_made x c h e =

@@ -20,15 +20,17 @@ use Rattle.st_schema.specs.declared.names.FieldRule.{FieldRule}
 use Rattle.st_schema.specs.declared.names.KindName.{KindName}
 use Rattle.st_marks.specs.declared.places.Spot.{Spot}
 use Rattle.st_marks.specs.Document.{Document, NodeType, root, opening}
-use Rattle.st_marks.proofs.Members.{true-false}
 use Rattle.st_opening.specs.Start.{first_said, type_at, spot_at, place_at, held_at, start_of}
 use Rattle.st_edits.specs.Paths.{field_at}
 use Rattle.st_edits.specs.Resolve.{is_row, rule_at, has_type}
 use Rattle.st_schema_laws.specs.Conforming.{MayStand, IsConforming, row_key, type_fits, register_in}
 use Rattle.st_schema_laws.proofs.Rules.{required_not_row}
-use Rattle.st_schema_laws.proofs.NewTrees.{all_ok, no_home, one_home}
+use Rattle.st_schema_laws.proofs.NewTrees.{no_home, one_home}
 use Rattle.st_schema_laws.proofs.Simple.{rule_there}
 use Rattle.st_schema_laws.proofs.Listed.{HasField, IsPlaced, IsAllowedItem, root_allowed}
+use Rattle.st_opening.proofs.StartSound.{place_of}
+use Rattle.st_lemmas.proofs.Bools.{true-false}
+use Rattle.st_lemmas.proofs.Lists.{position_from-None}
 
 -- ## What is said of a list
 
@@ -131,13 +133,6 @@ type_of_at n x t e = go (same_node x.node n) refl e
     go true p f = (same_node-true x.node n p, cc)
     go false p f = absurd (cc)
 
-place_of_at : (n : NodeId) (x : FlatNode) (spot : Spot) → place_at n x ≡ Some spot → (x.node ≡ n) × (spot_at x.at ≡ spot)
-place_of_at n x spot e = go (same_node x.node n) refl e
-  where
-    go : (b : Bool) → same_node x.node n ≡ b → cond b (Some (spot_at x.at)) None ≡ Some spot → (x.node ≡ n) × (spot_at x.at ≡ spot)
-    go true p f = (same_node-true x.node n p, cc)
-    go false p f = absurd (cc)
-
 -- the homes of a document's nodes are the registers in which they stand
 abbrev AreAtHome : (NodeId → Option FieldId) → Document → Type 0
 AreAtHome home D = (m : NodeId) → IsSome (D.nodes m) → home m ≡ register_in (D.place m)
@@ -182,7 +177,7 @@ module _ (s : SchemaView) (home : NodeId → Option FieldId) (xs : List FlatNode
       go None q = subst (λ o. MayStand s home (start_of xs schema) m (unwrap_or o Spot.Nowhere)) (sym q) tt
       go (Some spot) q =
           let x = said-has (place_at m) xs spot q in
-          let p = place_of_at m x.0 spot x.2 in
+          let p = place_of m x.0 spot x.2 in
           let here : (start_of xs schema).place m ≡ spot = ap (λ o. unwrap_or o Spot.Nowhere) q in
           let known : IsSome ((start_of xs schema).nodes m) = subst (λ n. IsSome ((start_of xs schema).nodes n)) p.0 (ap is_some (node_is x.0 x.1)) in
           let lives : home x.0.node ≡ register_in (spot_at x.0.at) = ap home p.0 ∙ own m known ∙ ap register_in (here ∙ sym p.1) in
@@ -242,4 +237,4 @@ none_refused (Some i) e = absurd (cc)
 
 pub allowed_conforms : (s : SchemaView) (home : NodeId → Option FieldId) (t : Node) (schema : List ℕ) → is_sound s ≡ true → allows_of s s.root t ≡ Ok tt
     → AreAtHome home (start_of (opening_listed t) schema) → IsConforming s home (start_of (opening_listed t) schema)
-allowed_conforms s home t schema sound e own = opening_conforms s home t schema sound (all_ok 0 (verdicts s s.root t) (none_refused (position_from (λ ok. not ok) 0 (verdicts s s.root t)) e)) own
+allowed_conforms s home t schema sound e own = opening_conforms s home t schema sound (position_from-None 0 (verdicts s s.root t) (none_refused (position_from (λ ok. not ok) 0 (verdicts s s.root t)) e)) own

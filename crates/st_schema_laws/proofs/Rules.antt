@@ -3,9 +3,8 @@ use Rattle.std.proofs.Common.{◌≡◌, ◌≢◌, ℕ, Bool, true, false, not,
 use Rattle.std.specs.List.{list_all}
 use Rattle.std.specs.Map.{lookup}
 use Rattle.std.specs.Ordering.{nat_cmp, is_lt}
-use Rattle.std.specs.Cmp.Lexicographic.{slice_cmp, same_text, nat_list_cmp_total, bytes_decides}
-use Rattle.std.specs.declared.cmp.Ordering.{Ordering}
-use Rattle.std.specs.declared.cmp.Ordering.TheVariants.{Less, Equal, Greater}
+use Rattle.std.specs.Cmp.Lexicographic.{slice_cmp, nat_list_cmp_total, bytes_decides}
+use Rattle.std.specs.declared.cmp.Ordering.TheVariants.{Less, Equal}
 use Rattle.std.proofs.lemmas.Cmp.{tied_itself}
 use Rattle.st_ids.specs.Listing.{AreDistinct, Has}
 use Rattle.st_ids.specs.declared.names.Leaf.{Leaf}
@@ -17,17 +16,12 @@ use Rattle.st_schema.specs.declared.names.Form.{Form}
 use Rattle.st_schema.specs.declared.names.Form.TheVariants.{Array, Map, Object}
 use Rattle.st_schema.specs.declared.names.KindName.{KindName}
 use Rattle.st_schema.specs.declared.names.KindName.TheVariants.{Required, Optional, Sequence}
-use Rattle.st_marks.proofs.Lookups.{both_true}
-use Rattle.st_marks.proofs.Members.{true-false, has-all, first-has, first-distinct}
+use Rattle.st_marks.proofs.Members.{has-all, first-has, first-distinct, map-has}
 use Rattle.st_edits.specs.Resolve.{is_row, is_optional}
-
-pub text_same : (xs ys : List ℕ) → same xs ys ≡ true → xs ≡ ys
-text_same xs ys h = same_text xs ys (sym h)
-
-pub all_pass : {A : Type 0} (p : A → Bool) (xs : List A) (x : A) → list_all p xs ≡ true → Has xs x → p x ≡ true
-all_pass p [] x e h = absurd h
-all_pass p (y ∷ xs) x e (inl q) = ap p (sym q) ∙ (both_true (p y) (list_all p xs) e).0
-all_pass p (y ∷ xs) x e (inr h) = all_pass p xs x (both_true (p y) (list_all p xs) e).1 h
+use Rattle.st_lemmas.proofs.Orders.{is_lt-Less}
+use Rattle.st_edits.proofs.Fits.{all_pass}
+use Rattle.st_schema.proofs.Forms.{text_same}
+use Rattle.st_lemmas.proofs.Bools.{and-true, true-false}
 
 -- what is looked up is an entry whose name passes
 looked_up : {K X : Type 0} (test : K → Bool) (es : List (K × X)) (x : X) → lookup test es ≡ Some x → (e : K × X) × Has es e × (test e.0 ≡ true) × (e.1 ≡ x)
@@ -38,11 +32,6 @@ looked_up {K} {X} test (d ∷ es) x f = go (test d.0) refl (λ g. looked_up test
         → (e : K × X) × Has (d ∷ es) e × (test e.0 ≡ true) × (e.1 ≡ x)
     go true t rest g = let q : d.1 ≡ x = cc in (d, inl refl, t, q)
     go false t rest g = let r = rest g in (r.0, inr r.1, r.2, r.3)
-
-mapped : {A B : Type 0} (f : A → B) (xs : List A) (x : A) → Has xs x → Has (map f xs) (f x)
-mapped f [] x h = absurd h
-mapped f (y ∷ xs) x (inl e) = inl (ap f e)
-mapped f (y ∷ xs) x (inr h) = inr (mapped f xs x h)
 
 pub required_not_row : (k : KindName) → is_row k ≡ true → is_required k ≡ false
 required_not_row Required e = cc
@@ -59,21 +48,16 @@ row_not_single Required e f = cc
 row_not_single Optional e f = cc
 row_not_single Sequence e f = cc
 
-lt_less : (o : Ordering) → is_lt o ≡ true → o ≡ Less
-lt_less Less e = refl
-lt_less Equal e = cc
-lt_less Greater e = cc
-
 above_all : (before : List ℕ) (defs : List FieldDef) → defs_rise before defs ≡ true → (d : FieldDef) → Has defs d → slice_cmp nat_cmp before d.key.0 ≡ Less
 above_all before [] e d h = absurd h
-above_all before (f ∷ fs) e d (inl q) = ap (λ (g : FieldDef). slice_cmp nat_cmp before g.key.0) (sym q) ∙ lt_less _ (both_true _ _ e).0
-above_all before (f ∷ fs) e d (inr h) = let b = both_true _ _ e in nat_list_cmp_total.trans before f.key.0 d.key.0 (lt_less _ b.0) (above_all f.key.0 fs b.1 d h)
+above_all before (f ∷ fs) e d (inl q) = ap (λ (g : FieldDef). slice_cmp nat_cmp before g.key.0) (sym q) ∙ is_lt-Less _ (and-true _ _ e).0
+above_all before (f ∷ fs) e d (inr h) = let b = and-true _ _ e in nat_list_cmp_total.trans before f.key.0 d.key.0 (is_lt-Less _ b.0) (above_all f.key.0 fs b.1 d h)
 
 -- keys that rise are distinct
 defs_distinct : (before : List ℕ) (defs : List FieldDef) → defs_rise before defs ≡ true → AreDistinct (λ (f : FieldDef). f.key.0) defs
 defs_distinct before [] e = tt
 defs_distinct before (f ∷ fs) e =
-    let rest : defs_rise f.key.0 fs ≡ true = (both_true (is_lt (slice_cmp nat_cmp before f.key.0)) (defs_rise f.key.0 fs) e).1 in (
+    let rest : defs_rise f.key.0 fs ≡ true = (and-true (is_lt (slice_cmp nat_cmp before f.key.0)) (defs_rise f.key.0 fs) e).1 in (
       has-all (λ (g : FieldDef). g.key.0 ≢ f.key.0) fs (λ g h same.
           let less : slice_cmp nat_cmp f.key.0 g.key.0 ≡ Less = above_all f.key.0 fs rest g h in
           let bad : Equal ≡ Less = sym (tied_itself nat_list_cmp_total f.key.0) ∙ ap (slice_cmp nat_cmp f.key.0) (sym same) ∙ less in
@@ -85,16 +69,16 @@ module _ (s : SchemaView) (sound : is_sound s ≡ true) where
   form_sound : (ty : List ℕ) (form : Form) → form_of s.types ty ≡ Some form → form_is_sound (type_names s.types) form ≡ true
   form_sound ty form e =
       let w = looked_up (same ty) s.types form e in
-      let forms = (both_true (forms_are_sound s.types) _ (both_true (names_are_sound (type_names s.types)) _ sound).1).0 in
-      ap (form_is_sound (type_names s.types)) (sym w.3) ∙ all_pass (form_is_sound (type_names s.types)) (map (λ d. d.1) s.types) w.0.1 forms (mapped (λ (d : List ℕ × Form). d.1) s.types w.0 w.1)
+      let forms = (and-true (forms_are_sound s.types) _ (and-true (names_are_sound (type_names s.types)) _ sound).1).0 in
+      ap (form_is_sound (type_names s.types)) (sym w.3) ∙ all_pass (form_is_sound (type_names s.types)) (map (λ d. d.1) s.types) w.0.1 forms (map-has (λ (d : List ℕ × Form). d.1) s.types w.0 w.1)
 
   -- a declared field is of a single kind
   pub declared_single : (ty key : List ℕ) (defs : List FieldDef) (d : FieldDef) → form_of s.types ty ≡ Some (Object defs) → declared defs key ≡ Some d → (is_key d.key.0 ≡ true) × (is_single_kind d.kind ≡ true)
   declared_single ty key defs d e f =
       let w = first-has (λ (f : FieldDef). same f.key.0 key) defs d f in
-      let all = (both_true (nat_le (length defs) 64) _ (form_sound ty (Object defs) e)).1 in
-      let own = both_true (is_key d.key.0) _ (all_pass (field_is_sound (type_names s.types)) defs d (both_true _ (defs_rise [] defs) all).0 w.0) in
-      (own.0, (both_true (is_single_kind d.kind) _ own.1).0)
+      let all = (and-true (nat_le (length defs) 64) _ (form_sound ty (Object defs) e)).1 in
+      let own = and-true (is_key d.key.0) _ (all_pass (field_is_sound (type_names s.types)) defs d (and-true _ (defs_rise [] defs) all).0 w.0) in
+      (own.0, (and-true (is_single_kind d.kind) _ own.1).0)
 
   -- a row is an array's, under the empty key
   pub row_of_array : (ty key : List ℕ) (rule : FieldRule) → field_of s ty key ≡ Some rule → is_row rule.kind ≡ true → (key ≡ []) × (form_of s.types ty ≡ Some (Array rule.types))
@@ -134,9 +118,9 @@ module _ (s : SchemaView) (sound : is_sound s ≡ true) where
       go None q = q
       go (Some form) q =
           let w = looked_up (same ty) s.types form q in
-          let names = (both_true (nat_le (length (type_names s.types)) 256) _ (both_true (names_are_sound (type_names s.types)) _ sound).0).1 in
-          let named = all_pass is_type_name (type_names s.types) w.0.0 (both_true (is_distinct (type_names s.types)) _ names).1 (mapped (λ (d : List ℕ × Form). d.0) s.types w.0 w.1) in
-          let apart : not (is_among w.0.0 leaf_types) ≡ true = (both_true (is_key w.0.0) _ named).1 in
+          let names = (and-true (nat_le (length (type_names s.types)) 256) _ (and-true (names_are_sound (type_names s.types)) _ sound).0).1 in
+          let named = all_pass is_type_name (type_names s.types) w.0.0 (and-true (is_distinct (type_names s.types)) _ names).1 (map-has (λ (d : List ℕ × Form). d.0) s.types w.0 w.1) in
+          let apart : not (is_among w.0.0 leaf_types) ≡ true = (and-true (is_key w.0.0) _ named).1 in
           let here : w.0.0 ≡ leaf_type v = sym (text_same ty w.0.0 w.2) ∙ text_same ty (leaf_type v) e in
           let in_leaves : is_among w.0.0 leaf_types ≡ true = ap (λ t. is_among t leaf_types) here ∙ among v in
           absurd (true-false apart (ap not in_leaves))
@@ -144,6 +128,6 @@ module _ (s : SchemaView) (sound : is_sound s ≡ true) where
   -- keys of declared fields rise, so each is found by its key
   pub rising_defs : (ty : List ℕ) (defs : List FieldDef) (d : FieldDef) → form_of s.types ty ≡ Some (Object defs) → Has defs d → declared defs d.key.0 ≡ Some d
   rising_defs ty defs d e h =
-      let all = (both_true (nat_le (length defs) 64) _ (form_sound ty (Object defs) e)).1 in
-      let rise = (both_true (list_all (field_is_sound (type_names s.types)) defs) _ all).1 in
+      let all = (and-true (nat_le (length defs) 64) _ (form_sound ty (Object defs) e)).1 in
+      let rise = (and-true (list_all (field_is_sound (type_names s.types)) defs) _ all).1 in
       first-distinct (λ (f : FieldDef). f.key.0) defs (λ (f : FieldDef). same f.key.0 d.key.0) d (defs_distinct [] defs rise) h ((bytes_decides d.key.0 d.key.0).1 refl) (λ f t. text_same f.key.0 d.key.0 t)

@@ -1,13 +1,11 @@
 -- What a conforming document shows is a tree that the schema allows.
-use Rattle.std.proofs.Common.{◌≡◌, ◌≢◌, ℕ, Bool, true, false, not, cond, ◌&&◌, ◌||◌, List, [], ◌∷◌, ◌++◌, Option, Some, None, IsSome, is_some, refl, sym, ap, ◌∙◌, subst, inl, inr, ◌⊎◌, option_map, option_and_then}
+use Rattle.std.proofs.Common.{◌≡◌, ◌≢◌, ℕ, Bool, true, false, not, cond, ◌&&◌, ◌||◌, List, [], ◌∷◌, Option, Some, None, IsSome, is_some, refl, sym, ap, ◌∙◌, subst, inl, inr, ◌⊎◌, option_map, option_and_then}
 use Rattle.std.specs.List.{list_all}
 use Rattle.std.specs.Option.{option_map_or}
 use Rattle.std.specs.Ordering.{nat_cmp, is_lt, eq_by_cmp}
 use Rattle.std.specs.Cmp.Lexicographic.{slice_cmp, bytes_decides}
 use Rattle.std.specs.declared.cmp.Ordering.{Ordering}
-use Rattle.std.specs.declared.cmp.Ordering.TheVariants.{Less, Equal, Greater}
 use Rattle.std.specs.FinMap.Entries.{is_sorted, below_all}
-use Rattle.std.proofs.lemmas.List.Folds.{list_all-append}
 use Rattle.serde_json.specs.Data.{Data, array, object, Items, item, Members, member}
 use Rattle.st_ids.specs.Listing.{Has, IsListing, item_of, keyed}
 use Rattle.st_ids.specs.declared.names.CellId.{CellId}
@@ -31,13 +29,15 @@ use Rattle.st_marks.specs.declared.places.Slot.{Slot}
 use Rattle.st_marks.specs.declared.places.Spot.{Spot}
 use Rattle.st_marks.specs.Document.{Document, NodeType, IsSoundInForm, root, slot, content, is_cell}
 use Rattle.st_marks.specs.LiveTree.{Shows, shows_leaf, shows_row, shows_registers, ShowsItems, no_more_items, next_item, ShowsMembers, no_more_members, next_member, leaf_data, one_member, owners_shown, key_at, register}
-use Rattle.st_marks.proofs.Lookups.{both_true}
 use Rattle.st_marks.proofs.Members.{has-map}
 use Rattle.st_edits.specs.Resolve.{is_row, rule_at, has_type}
 use Rattle.st_ids.proofs.Orders.{same_cell-true}
 use Rattle.st_schema_laws.specs.Conforming.{Admits, MayStand, IsConforming, row_key}
 use Rattle.st_edits.specs.ArrayTypes.{is_array_form, is_array_type}
 use Rattle.st_schema_laws.proofs.Rules.{rising_defs}
+use Rattle.st_schema.proofs.MoreTrees.{all-append}
+use Rattle.st_marks.proofs.Shared.{owner_full}
+use Rattle.st_lemmas.proofs.Bools.{and-both, and-true}
 
 abbrev bytes_cmp : List ℕ → List ℕ → Ordering
 bytes_cmp = slice_cmp nat_cmp
@@ -45,19 +45,10 @@ bytes_cmp = slice_cmp nat_cmp
 abbrev itself : List ℕ → List ℕ
 itself k = k
 
-join : (a b : Bool) → a ≡ true → b ≡ true → (a && b) ≡ true
-join true b e f = f
-join false b e f = absurd (cc)
-
 same_itself : (k : List ℕ) → same k k ≡ true
 same_itself k = (bytes_decides k k).1 refl
 
 -- ## Keys of a listing
-
-is_less : (o : Ordering) → is_lt o ≡ true → o ≡ Less
-is_less Less e = refl
-is_less Equal e = cc
-is_less Greater e = cc
 
 -- what is found of a list of keys is in it
 key_listed : (ks : List (List ℕ)) (q k : List ℕ) → item_of bytes_cmp itself ks q ≡ Some k → Has ks k
@@ -90,9 +81,9 @@ fields_rise before [] (field key row items rest) h below sorted = absurd h
 fields_rise before (k ∷ ks) no_fields h below sorted = absurd h
 fields_rise before (k ∷ ks) (field key true items rest) h below sorted = absurd h
 fields_rise before (k ∷ ks) (field key false items rest) h below sorted =
-    let b = both_true _ _ below in
-    let s = both_true _ _ sorted in
-    join (is_single items) _ h.1 (join (is_lt (bytes_cmp before key)) _ (ap (λ k. is_lt (bytes_cmp before k)) h.0 ∙ b.0)
+    let b = and-true _ _ below in
+    let s = and-true _ _ sorted in
+    and-both (is_single items) _ h.1 (and-both (is_lt (bytes_cmp before key)) _ (ap (λ k. is_lt (bytes_cmp before k)) h.0 ∙ b.0)
     (fields_rise key ks rest h.2 (subst (λ l. below_all bytes_cmp l (keyed itself ks) ≡ true) (sym h.0) s.0) s.1))
 
 -- keys that aren't empty are above the empty key
@@ -107,7 +98,7 @@ rules_had form [] (field key row items rest) h each = absurd h
 rules_had form (k ∷ ks) no_fields h each = absurd h
 rules_had form (k ∷ ks) (field key true items rest) h each = absurd h
 rules_had form (k ∷ ks) (field key false items rest) h each =
-    join (is_some (field_in form key)) _ (ap (λ k. is_some (field_in form k)) h.0 ∙ each k (inl refl)) (rules_had form ks rest h.2 (λ l i. each l (inr i)))
+    and-both (is_some (field_in form key)) _ (ap (λ k. is_some (field_in form k)) h.0 ∙ each k (inl refl)) (rules_had form ks rest h.2 (λ l i. each l (inr i)))
 
 key_had : (ks : List (List ℕ)) (fs : Fields) (k : List ℕ) → HasKeys ks fs → Has ks k → has_key fs k ≡ true
 key_had [] no_fields k h i = absurd i
@@ -119,19 +110,9 @@ key_had (l ∷ ks) (field key false items rest) k h (inr i) = elim (same key k) 
 
 all_from : {A : Type 0} (p : A → Bool) (xs : List A) → ((x : A) → Has xs x → p x ≡ true) → list_all p xs ≡ true
 all_from p [] h = refl
-all_from p (x ∷ xs) h = join (p x) _ (h x (inl refl)) (all_from p xs (λ y i. h y (inr i)))
+all_from p (x ∷ xs) h = and-both (p x) _ (h x (inl refl)) (all_from p xs (λ y i. h y (inr i)))
 
 -- ## What a row shows
-
-owner_shown : (ss : List Slot) (m : NodeId) → Has (owners_shown ss) m → (o : Slot) × Has ss o × (o.full ≡ true) × (o.node ≡ m)
-owner_shown [] m h = absurd h
-owner_shown (s ∷ ss) m h = go s.full refl h (λ k. owner_shown ss m k)
-  where
-    go : (b : Bool) → s.full ≡ b → Has (cond b (s.node ∷ []) [] ++ owners_shown ss) m → (Has (owners_shown ss) m → (o : Slot) × Has ss o × (o.full ≡ true) × (o.node ≡ m))
-        → (o : Slot) × Has (s ∷ ss) o × (o.full ≡ true) × (o.node ≡ m)
-    go true f (inl e) rest = (s, inl refl, f, e)
-    go true f (inr k) rest = let r = rest k in (r.0, inr r.1, r.2, r.3)
-    go false f k rest = let r = rest k in (r.0, inr r.1, r.2, r.3)
 
 -- ## The tree
 
@@ -148,9 +129,6 @@ pub record FieldsBuilt (s : SchemaView) (form : Form) (ks : List (List ℕ)) (ms
   pub allowed : list_all (λ ok. ok) (fields_verdicts s (Some form) fields) ≡ true
   pub keys : HasKeys ks fields
 
-all_append : (us vs : List Bool) → list_all (λ ok. ok) us ≡ true → list_all (λ ok. ok) vs ≡ true → list_all (λ ok. ok) (us ++ vs) ≡ true
-all_append us vs e f = list_all-append (λ ok. ok) us vs ∙ join (list_all (λ ok. ok) us) _ e f
-
 leaf_shown : (v : Leaf) → text.leaf_data v ≡ leaf_data v
 leaf_shown Leaf.Null = refl
 leaf_shown (Leaf.Bool b) = refl
@@ -162,7 +140,7 @@ module _ (s : SchemaView) (schema : is_sound s ≡ true) (home : NodeId → Opti
   node_allowed : (types : List (List ℕ)) (ty : List ℕ) (form : Form) (fs : Fields) → form_of s.types ty ≡ Some form → is_among ty types ≡ true → fields_fit form fs ≡ true
       → list_all (λ ok. ok) (fields_verdicts s (Some form) fs) ≡ true → conforms s types (node ty None fs) ≡ true
   node_allowed types ty form fs q among fit ok =
-      subst (λ o. ((is_among ty types && is_as_typed o ty None fs) && list_all (λ ok. ok) (fields_verdicts s o fs)) ≡ true) (sym q) (join (is_among ty types && fields_fit form fs) _ (join (is_among ty types) _ among fit) ok)
+      subst (λ o. ((is_among ty types && is_as_typed o ty None fs) && list_all (λ ok. ok) (fields_verdicts s o fs)) ≡ true) (sym q) (and-both (is_among ty types && fields_fit form fs) _ (and-both (is_among ty types) _ among fit) ok)
 
   type_among : (n : NodeId) (t : NodeType) (types : List (List ℕ)) → D.nodes n ≡ Some t → has_type D types n ≡ true → is_among t.ty types ≡ true
   type_among n t types q e = sym (ap (λ o. option_map_or (λ (t : NodeType). is_among t.ty types) o false) q) ∙ e
@@ -177,7 +155,7 @@ module _ (s : SchemaView) (schema : is_sound s ≡ true) (home : NodeId → Opti
   -- an item of a row is of the row's types
   item_typed : (n : NodeId) (t : NodeType) (types : List (List ℕ)) → D.nodes n ≡ Some t → form_of s.types t.ty ≡ Some (Array types) → (m : NodeId) → Has (owners_shown (content D n)) m → has_type D types m ≡ true
   item_typed n t types q f m h =
-      let o = owner_shown (content D n) m h in
+      let o = owner_full (content D n) m h in
       let p = has-map (slot D) (D.rows n) o.0 o.1 in
       let node : p.0.node ≡ m = ap (λ (s : Slot). s.node) p.2 ∙ o.3 in
       let full : is_cell p.0.cell (D.place p.0.node) ≡ true = ap (λ (s : Slot). s.full) p.2 ∙ o.2 in
@@ -227,8 +205,8 @@ module _ (s : SchemaView) (schema : is_sound s ≡ true) (home : NodeId → Opti
 
       go : (form : Form) → form_of s.types t.ty ≡ Some form → is_array_form (Some form) ≡ false → fields_fit form fs ≡ true
       go (Array types) f apart = absurd (cc)
-      go (Map types) f apart = join (keys_rise [] fs) _ rise (ruled (Map types) f)
-      go (Object defs) f apart = join (keys_rise [] fs) _ rise (join (have_rules (Object defs) fs) _ (ruled (Object defs) f) (all_from (λ (d : FieldDef). not (is_required d.kind) || has_key fs d.key.0) defs there))
+      go (Map types) f apart = and-both (keys_rise [] fs) _ rise (ruled (Map types) f)
+      go (Object defs) f apart = and-both (keys_rise [] fs) _ rise (and-both (have_rules (Object defs) fs) _ (ruled (Object defs) f) (all_from (λ (d : FieldDef). not (is_required d.kind) || has_key fs d.key.0) defs there))
         where
           there : (d : FieldDef) → Has defs d → (not (is_required d.kind) || has_key fs d.key.0) ≡ true
           there d i = need (is_required d.kind) refl
@@ -245,7 +223,7 @@ module _ (s : SchemaView) (schema : is_sound s ≡ true) (home : NodeId → Opti
     tree_shown (shows_leaf n ty v q) types e =
         let among : is_among ty types ≡ true = type_among n (record { ty = ty; leaf = Some v }) types q e in
         let typed : same ty (leaf_type v) ≡ true = here.types n (record { ty = ty; leaf = Some v }) q in
-        (node ty (Some v) no_fields, leaf_shown v, join (is_among ty types && (same ty (leaf_type v) && true)) true (join (is_among ty types) _ among (join (same ty (leaf_type v)) true typed refl)) refl)
+        (node ty (Some v) no_fields, leaf_shown v, and-both (is_among ty types && (same ty (leaf_type v) && true)) true (and-both (is_among ty types) _ among (and-both (same ty (leaf_type v)) true typed refl)) refl)
     tree_shown (shows_row n ty items q a r) types e = go (form_of s.types ty) refl (sym (tells ty) ∙ a) (λ ts f. items_shown r ts (item_typed n (record { ty = ty; leaf = None }) ts q f))
       where
         go : (o : Option Form) → form_of s.types ty ≡ o → is_array_form o ≡ true → ((ts : List (List ℕ)) → form_of s.types ty ≡ Some (Array ts) → AreBuilt s ts items) → IsBuilt s types (one_member ty (array items))
@@ -256,7 +234,7 @@ module _ (s : SchemaView) (schema : is_sound s ≡ true) (home : NodeId → Opti
             let below = build ts f in (
               node ty None (field [] true below.0 no_fields),
               ap (λ ds. one_member ty (array ds)) below.1,
-              node_allowed types ty (Array ts) (field [] true below.0 no_fields) f (type_among n (record { ty = ty; leaf = None }) types q e) refl (all_append (items_verdicts s ts below.0) [] below.2 refl),
+              node_allowed types ty (Array ts) (field [] true below.0 no_fields) f (type_among n (record { ty = ty; leaf = None }) types q e) refl (all-append (items_verdicts s ts below.0) [] below.2 refl),
             )
     tree_shown (shows_registers n ty keys ms q a l r) types e = go (form_of s.types ty) refl (sym (tells ty) ∙ a) (here.types n (record { ty = ty; leaf = None }) q) (λ form f. members_shown r form (λ k m held. occupant_typed n m (record { ty = ty; leaf = None }) form k q f held)) (each_held r)
       where
@@ -276,7 +254,7 @@ module _ (s : SchemaView) (schema : is_sound s ≡ true) (home : NodeId → Opti
     items_shown (next_item n d ns ds a r) types each =
         let t = tree_shown a types (each n (inl refl)) in
         let ts = items_shown r types (λ m h. each m (inr h)) in
-        (first t.0 ts.0, (λ i. item (t.1 i) (ts.1 i)), all_append (verdicts s types t.0) (items_verdicts s types ts.0) t.2 ts.2)
+        (first t.0 ts.0, (λ i. item (t.1 i) (ts.1 i)), all-append (verdicts s types t.0) (items_verdicts s types ts.0) t.2 ts.2)
 
     members_shown : {n : NodeId} {ks : List (List ℕ)} {ms : Members} → ShowsMembers is_array D n ks ms → (form : Form) → ((k : List ℕ) (m : NodeId) → D.held (register n k) ≡ Some m → has_type D (types_under (Some form) k) m ≡ true) → FieldsBuilt s form ks ms
     members_shown (no_more_members n) form each = record { fields = no_fields; data_is = refl; allowed = refl; keys = tt }
@@ -286,7 +264,7 @@ module _ (s : SchemaView) (schema : is_sound s ≡ true) (home : NodeId → Opti
         record {
           fields = field k false (first t.0 no_nodes) rest.fields;
           data_is = λ i. member k (t.1 i) (rest.data_is i);
-          allowed = all_append (items_verdicts s (types_under (Some form) k) (first t.0 no_nodes)) (fields_verdicts s (Some form) rest.fields) (all_append (verdicts s (types_under (Some form) k) t.0) [] t.2 refl) rest.allowed;
+          allowed = all-append (items_verdicts s (types_under (Some form) k) (first t.0 no_nodes)) (fields_verdicts s (Some form) rest.fields) (all-append (verdicts s (types_under (Some form) k) t.0) [] t.2 refl) rest.allowed;
           keys = (refl, refl, rest.keys);
         }
 

@@ -26,25 +26,24 @@ use Rattle.st_marks.specs.Document.{Document, IsSoundInForm, is_cell}
 use Rattle.st_marks.specs.Intent.{Fits, IsIntent, new_type, is_new, put_of, new_row_of, clears}
 use Rattle.st_marks.specs.CarryOut.{with_names}
 use Rattle.st_marks.proofs.Lookups.{put-has, clears-has, new_row_of-group}
-use Rattle.st_marks.proofs.Members.{true-false, has-map}
+use Rattle.st_marks.proofs.Members.{has-map}
 use Rattle.st_marks.specs.LiveTree.{live_slots}
 use Rattle.st_edits.specs.Paths.{and_then, or_refuse, field_at, items_from, left_of, row_length}
 use Rattle.st_edits.specs.New.{group_of}
-use Rattle.st_edits.specs.Resolve.{need, remove, intent_to_remove, clear, move, intent_to_move, moved_to_field, in_cells, cells_for, empty_intent, walk, rule_for, rule_at, within_row, of_kind, is_optional, is_open, is_row, nodes_taken, is_inside, is_there, may_move, nodes_allowed, none_refused, names_left, cells_taken, has_type, with_group, require}
+use Rattle.st_edits.specs.Resolve.{need, remove, intent_to_remove, clear, move, intent_to_move, moved_to_field, in_cells, cells_for, empty_intent, walk, rule_for, rule_at, within_row, of_kind, is_optional, is_open, is_row, nodes_taken, is_inside, is_there, may_move, nodes_allowed, names_left, cells_taken, has_type, with_group, require}
 use Rattle.st_edits.specs.declared.names.NameCounters.{NameCounters}
 use Rattle.st_edits.specs.declared.names.Takes.TheVariants as field
-use Rattle.st_edits.proofs.Fits.{passed, found, shown, ruled}
+use Rattle.st_edits.proofs.Fits.{passed, found, shown, ruled, optional_single}
 use Rattle.st_edits.proofs.MoveFits.{CellsFresh, move_fits}
 use Rattle.st_schema_laws.specs.Conforming.{Admits, MayStand, IsConforming, IsFree, row_key}
 use Rattle.st_schema_laws.specs.Agreeing.{KeepsSchema, MayGo, MayBeLeft}
 use Rattle.st_schema_laws.proofs.Kept.{rule_later, type_later, free_later, named_later, one_rule}
 use Rattle.st_schema_laws.proofs.Rules.{required_not_row, required_not_optional, row_of_array}
+use Rattle.st_edits.proofs.NewFits.{none_is}
+use Rattle.st_lemmas.proofs.Options.{IsSome-Some}
+use Rattle.st_lemmas.proofs.Bools.{true-false}
 
 -- ## Nodes whose home isn't required
-
-pub some_of : {A : Type 0} (o : Option A) → IsSome o → (x : A) × (o ≡ Some x)
-some_of None h = absurd (cc)
-some_of (Some x) h = (x, refl)
 
 -- if the node has a home, that isn't required
 abbrev IsMovable : SchemaView → (NodeId → Option FieldId) → Document → NodeId → Type 0
@@ -159,7 +158,7 @@ removed_agrees : (s : SchemaView) (home : NodeId → Option FieldId) (D : Docume
 removed_agrees s home D G ns movable = record {
   types = λ n t e. cc;
   puts = λ m to e. (let w = put_from (intent_to_remove D G ns) nowhere ns m to refl e in subst (MayGo s home D (intent_to_remove D G ns) m) (ap (λ (p : Put). p.to) w.2) tt);
-  leaves = λ m f put old lives. (let to = some_of (put_of (intent_to_remove D G ns) m) put in
+  leaves = λ m f put old lives. (let to = IsSome-Some (put_of (intent_to_remove D G ns) m) put in
       let w = put_from (intent_to_remove D G ns) nowhere ns m to.0 refl to.1 in
       free_left s D (intent_to_remove D G ns) f (movable m (subst (Has ns) (ap (λ (p : Put). p.node) w.2) w.1) f lives));
   clears = λ f e. absurd (cc);
@@ -202,11 +201,6 @@ rule_found takes D s n key rule e =
     kind r true q f = (cc, q)
     kind r false q f = cc
 
-optional_single : (k : KindName) → is_optional k ≡ true → is_single_kind k ≡ true
-optional_single Required e = refl
-optional_single Optional e = refl
-optional_single Sequence e = cc
-
 abbrev into_field : FieldId → NodeId → Put
 into_field f n = record { node = n; to = To.Register f }
 
@@ -218,7 +212,7 @@ field_agrees s home D G f rule ns ruled optional each = record {
       let one = each m (subst (Has ns) (ap (λ (p : Put). p.node) w.2) w.1) in
       subst (MayGo s home D (moved_to_field D G f ns) m) (ap (λ (p : Put). p.to) w.2)
       (admits_movable s home D (moved_to_field D G f ns) is_single_kind f.node f.key rule m ruled (optional_single rule.kind optional) (required_not_optional rule.kind optional) one.0 one.1));
-  leaves = λ m g put old lives. (let to = some_of (put_of (moved_to_field D G f ns) m) put in
+  leaves = λ m g put old lives. (let to = IsSome-Some (put_of (moved_to_field D G f ns) m) put in
       let w = put_from (moved_to_field D G f ns) (into_field f) ns m to.0 refl to.1 in
       free_left s D (moved_to_field D G f ns) g ((each m (subst (Has ns) (ap (λ (p : Put). p.node) w.2) w.1)).0 g lives));
   clears = λ g e. elim (clears-has (f ∷ []) g e) [
@@ -261,7 +255,7 @@ row_agrees s home D G m index rule cells fits ruled row each = record {
       let one = each w.0 w.1 in
       subst (λ (p : Put). MayGo s home D (in_cells D G m index cells) p.node p.to) w.2
       (m, new_row w.0 w.1, admits_movable s home D (in_cells D G m index cells) is_row m row_key rule w.0.node ruled row (required_not_row rule.kind row) one.0 one.1));
-  leaves = λ n f put old lives. (let to = some_of (put_of (in_cells D G m index cells) n) put in
+  leaves = λ n f put old lives. (let to = IsSome-Some (put_of (in_cells D G m index cells) n) put in
       let w = put_from (in_cells D G m index cells) into_cell cells n to.0 refl to.1 in
       free_left s D (in_cells D G m index cells) f ((each w.0 w.1).0 f (ap (λ (p : Put). home p.node) w.2 ∙ lives)));
   clears = λ f e. absurd (cc);
@@ -285,10 +279,6 @@ each_passes {A} p k (y ∷ xs) e x h = go (p y) refl (λ f i. each_passes p (k +
     go true q rest f (inl same) = ap p (sym same) ∙ q
     go true q rest f (inr i) = rest f i
     go false q rest f i = cc
-
-pub none_is : (o : Option ℕ) (u : Unit {0}) → none_refused o ≡ Ok u → o ≡ None
-none_is None u e = refl
-none_is (Some i) u e = absurd (cc)
 
 pub key_is : (k : Key) → k.0 ≡ [] → k ≡ row_key
 key_is k e = λ i. record { 0 = e i }

@@ -1,6 +1,6 @@
 -- What keeps to a schema keeps to each wider one.
-use Rattle.std.proofs.Common.{◌≡◌, ℕ, ◌+◌, Bool, true, false, not, cond, ◌||◌, List, [], ◌∷◌, ◌++◌, Option, Some, None, is_some, option_map, option_and_then, Ok, refl, sym, ap, ◌∙◌, subst, inl, inr}
-use Rattle.std.specs.List.{list_all, position_from}
+use Rattle.std.proofs.Common.{◌≡◌, ℕ, ◌+◌, Bool, true, false, cond, List, [], ◌∷◌, ◌++◌, Option, Some, None, is_some, option_map, option_and_then, Ok, refl, sym, ap, ◌∙◌, subst, inl, inr}
+use Rattle.std.specs.List.{list_all}
 use Rattle.std.specs.Option.{option_or, option_map_or}
 use Rattle.std.proofs.lemmas.List.Folds.{list_all-append}
 use Rattle.st_ids.specs.declared.names.FieldId.{FieldId}
@@ -9,7 +9,7 @@ use Rattle.st_ids.specs.declared.names.Leaf.{Leaf}
 use Rattle.st_ids.specs.declared.names.NodeId.{NodeId}
 use Rattle.st_schema.specs.Schema.{SchemaView, same, is_among, is_key, form_of, declared, field_in, field_of, is_single_kind, is_sound}
 use Rattle.st_schema.specs.Conforms.{is_required}
-use Rattle.st_schema.specs.Wider.{contains_all, is_optional, kind_widens, widens_found, def_widens, defs_widen, form_widens, definition_widens, types_widen, narrowing, wider_of}
+use Rattle.st_schema.specs.Wider.{contains_all, is_optional, kind_widens, widens_found, def_widens, defs_widen, form_widens, types_widen, wider_of}
 use Rattle.st_schema.specs.declared.names.FieldDef.{FieldDef}
 use Rattle.st_schema.specs.declared.names.FieldRule.{FieldRule}
 use Rattle.st_schema.specs.declared.names.Form.{Form}
@@ -22,30 +22,18 @@ use Rattle.st_marks.specs.declared.places.Spot.{Spot}
 use Rattle.st_marks.specs.Document.{Document, NodeType, root}
 use Rattle.st_marks.specs.Intent.{new_type}
 use Rattle.st_marks.specs.CarryOut.{with_names}
-use Rattle.st_marks.proofs.Lookups.{both_true}
-use Rattle.st_marks.proofs.Members.{true-false, first-has}
+use Rattle.st_marks.proofs.Members.{first-has}
 use Rattle.st_edits.specs.Resolve.{is_row, rule_at, has_type}
 use Rattle.st_schema_laws.specs.Conforming.{Admits, MayStand, IsConforming, IsFree, row_key, type_fits, is_required_field}
 use Rattle.st_schema_laws.specs.Agreeing.{KeepsSchema, MayGo, MayBeLeft}
 use Rattle.st_schema_laws.proofs.Kept.{one_rule, required_by, required_rule}
-use Rattle.st_schema_laws.proofs.Rules.{text_same, all_pass, leaf_undefined}
+use Rattle.st_schema_laws.proofs.Rules.{leaf_undefined}
+use Rattle.st_schema.proofs.MoreTrees.{form_found, among_all, no_narrowing}
+use Rattle.st_lemmas.proofs.Bools.{and-true, true-false}
+use Rattle.st_schema.proofs.Forms.{text_same}
+use Rattle.st_edits.proofs.Fits.{all_pass}
 
 -- ## Lists of types
-
-no_narrowing : (n : ℕ) (vs : List Bool) → narrowing (position_from (λ ok. not ok) n vs) ≡ Ok tt → list_all (λ ok. ok) vs ≡ true
-no_narrowing n [] h = refl
-no_narrowing n (true ∷ vs) h = no_narrowing (n + 1) vs h
-no_narrowing n (false ∷ vs) h = absurd (cc)
-
-among_all : (t : List ℕ) (new old : List (List ℕ)) → contains_all new old ≡ true → is_among t old ≡ true → is_among t new ≡ true
-among_all t new [] wide among = absurd (cc)
-among_all t new (u ∷ us) wide among =
-    let parts = both_true (is_among u new) (contains_all new us) wide in
-    go (same u t) refl parts.0 (among_all t new us parts.1) among
-  where
-    go : (b : Bool) → same u t ≡ b → is_among u new ≡ true → (is_among t us ≡ true → is_among t new ≡ true) → (b || is_among t us) ≡ true → is_among t new ≡ true
-    go true e here later f = ap (λ v. is_among v new) (sym (text_same u t e)) ∙ here
-    go false e here later f = later f
 
 -- ## Rules
 
@@ -84,13 +72,13 @@ some_there (Some x) h = (x, refl)
 declared_wider : (olds news : List FieldDef) (key : List ℕ) (o : FieldDef) → defs_widen olds news ≡ true → declared olds key ≡ Some o
     → (n : FieldDef) × (declared news key ≡ Some n) × (kind_widens o.kind n.kind ≡ true) × (contains_all n.types o.types ≡ true)
 declared_wider olds news key o wide e =
-    let parts = both_true (list_all (λ (old : FieldDef). is_some (declared news old.key.0)) olds) (list_all (def_widens olds) news) wide in
+    let parts = and-true (list_all (λ (old : FieldDef). is_some (declared news old.key.0)) olds) (list_all (def_widens olds) news) wide in
     let there = first-has (λ (f : FieldDef). same f.key.0 key) olds o e in
     let new = some_there (declared news key) (ap (λ k. is_some (declared news k)) (sym (text_same o.key.0 key there.1)) ∙ all_pass (λ (old : FieldDef). is_some (declared news old.key.0)) olds o parts.0 there.0) in
     let found = first-has (λ (f : FieldDef). same f.key.0 key) news new.0 new.1 in
     let widens : widens_found (declared olds new.0.key.0) new.0 ≡ true = all_pass (def_widens olds) news new.0 parts.1 found.0 in
     let at : declared olds new.0.key.0 ≡ Some o = ap (declared olds) (text_same new.0.key.0 key found.1) ∙ e in
-    let b = both_true (kind_widens o.kind new.0.kind) (contains_all new.0.types o.types) (ap (λ (p : Option FieldDef). widens_found p new.0) (sym at) ∙ widens) in
+    let b = and-true (kind_widens o.kind new.0.kind) (contains_all new.0.types o.types) (ap (λ (p : Option FieldDef). widens_found p new.0) (sym at) ∙ widens) in
     (new.0, new.1, b.0, b.1)
 
 rule_wider : (f g : Form) (key : List ℕ) (rule : FieldRule) → form_widens f g ≡ true → field_in f key ≡ Some rule → (r : FieldRule) × (field_in g key ≡ Some r) × Widens rule r
@@ -142,7 +130,7 @@ required_before (Object olds) (Object news) key r wide e required = go (declared
     was n need (Some o) q w = (
       record { kind = o.kind; types = o.types },
       ap (option_map (λ (f : FieldDef). record { kind = f.kind; types = f.types })) q,
-      only_required o.kind n.kind (both_true (kind_widens o.kind n.kind) _ w).0 need,
+      only_required o.kind n.kind (and-true (kind_widens o.kind n.kind) _ w).0 need,
     )
 
     go : (p : Option FieldDef) → declared news key ≡ p → option_map (λ (f : FieldDef). record { kind = f.kind; types = f.types }) p ≡ Some r → (rule : FieldRule) × (field_in (Object olds) key ≡ Some rule) × (is_required rule.kind ≡ true)
@@ -150,36 +138,18 @@ required_before (Object olds) (Object news) key r wide e required = go (declared
     go (Some n) q h =
         let is : record { kind = n.kind; types = n.types } ≡ r = cc in
         let found = first-has (λ (f : FieldDef). same f.key.0 key) news n q in
-        let widens : widens_found (declared olds n.key.0) n ≡ true = all_pass (def_widens olds) news n (both_true (list_all (λ (old : FieldDef). is_some (declared news old.key.0)) olds) (list_all (def_widens olds) news) wide).1 found.0 in
+        let widens : widens_found (declared olds n.key.0) n ≡ true = all_pass (def_widens olds) news n (and-true (list_all (λ (old : FieldDef). is_some (declared news old.key.0)) olds) (list_all (def_widens olds) news) wide).1 found.0 in
         was n (ap (λ (r : FieldRule). is_required r.kind) is ∙ required) (declared olds key) refl (ap (λ k. widens_found (declared olds k) n) (sym (text_same n.key.0 key found.1)) ∙ widens)
 
 -- ## The form of a type
-
-form_found : (olds news : List (List ℕ × Form)) (ty : List ℕ) (f : Form) → list_all (λ ok. ok) (types_widen olds news) ≡ true → form_of olds ty ≡ Some f → (g : Form) × (form_of news ty ≡ Some g) × (form_widens f g ≡ true)
-form_found [] news ty f wide h = absurd (cc)
-form_found (o ∷ os) [] ty f wide h = absurd (cc)
-form_found (o ∷ os) (n ∷ ns) ty f wide h =
-    let parts = both_true (definition_widens o n) (list_all (λ ok. ok) (types_widen os ns)) wide in
-    go (same ty o.0) refl (both_true (same o.0 n.0) (form_widens o.1 n.1) parts.0).0 (both_true (same o.0 n.0) (form_widens o.1 n.1) parts.0).1 (λ e. form_found os ns ty f parts.1 e) h
-  where
-    go : (b : Bool) → same ty o.0 ≡ b → same o.0 n.0 ≡ true → form_widens o.1 n.1 ≡ true → (form_of os ty ≡ Some f → (g : Form) × (form_of ns ty ≡ Some g) × (form_widens f g ≡ true)) → cond b (Some o.1) (form_of os ty) ≡ Some f
-        → (g : Form) × (form_of (n ∷ ns) ty ≡ Some g) × (form_widens f g ≡ true)
-    go true q names w later e =
-        let is : o.1 ≡ f = cc in
-        let at : same ty n.0 ≡ true = ap (same ty) (sym (text_same o.0 n.0 names)) ∙ q in
-        (n.1, ap (λ c. cond c (Some n.1) (form_of ns ty)) at, ap (λ x. form_widens x n.1) (sym is) ∙ w)
-    go false q names w later e =
-        let at : same ty n.0 ≡ false = ap (same ty) (sym (text_same o.0 n.0 names)) ∙ q in
-        let g = later e in
-        (g.0, ap (λ c. cond c (Some n.1) (form_of ns ty)) at ∙ g.1, g.2)
 
 -- ## Documents and intents
 
 module _ (old new : SchemaView) (sound : is_sound new ≡ true) (wide : wider_of old new ≡ Ok tt) where
   parts : (list_all (λ ok. ok) (types_widen old.types new.types) ≡ true) × (contains_all new.root old.root ≡ true)
   parts =
-      let b = both_true _ _ (sym (list_all-append (λ ok. ok) (types_widen old.types new.types) (contains_all new.root old.root ∷ [])) ∙ no_narrowing 0 (types_widen old.types new.types ++ contains_all new.root old.root ∷ []) wide) in
-      (b.0, (both_true (contains_all new.root old.root) true b.1).0)
+      let b = and-true _ _ (sym (list_all-append (λ ok. ok) (types_widen old.types new.types) (contains_all new.root old.root ∷ [])) ∙ no_narrowing 0 (types_widen old.types new.types ++ contains_all new.root old.root ∷ []) wide) in
+      (b.0, (and-true (contains_all new.root old.root) true b.1).0)
 
   type_wider : (ty : List ℕ) (leaf : Option Leaf) → type_fits old ty leaf ≡ true → type_fits new ty leaf ≡ true
   type_wider ty (Some v) e = e

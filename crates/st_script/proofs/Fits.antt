@@ -22,14 +22,12 @@ use Rattle.st_script.specs.declared.read.Actor.{Actor}
 use Rattle.st_script.specs.declared.read.Goal.{Goal}
 use Rattle.st_script.specs.declared.read.Span.{Span}
 use Rattle.st_script.specs.declared.read.Target.{Target}
-use Rattle.st_script.proofs.Holds.{Holds, Holds-map, Holds-and_then, Holds-cond}
+use Rattle.st_script.proofs.Holds.{Holds, Holds-cond}
 use Rattle.st_script.proofs.Sound.{Sound, SoundItems, line_sound, get_sound, array_sound, tree_shown, trees_shown}
+use Rattle.st_lemmas.proofs.Bools.{and-true}
+use Rattle.st_json.proofs.Rising.{Holds-map, Holds-and_then}
 
 -- ---- tests
-
-both_true : (a b : Bool) → (a && b) ≡ true → (a ≡ true) × (b ≡ true)
-both_true true b e = (refl, e)
-both_true false b e = absurd cc
 
 within : (r : Result (Unit {0}) TreeFault) → is_ok r ≡ true → r ≡ Ok tt
 within (Ok u) e = refl
@@ -67,7 +65,7 @@ abbrev IsPath : List Place → Type 0
 IsPath ps = (length ps < 2 ^ 32) × ArePlaces ps
 
 name_fits : (t : List ℕ) → Holds IsName (client_named t)
-name_fits t = Holds-cond IsName (nat_le 1 (length t) && nat_le (length t) 64) (Some t) None (λ h. let b = both_true (nat_le 1 (length t)) (nat_le (length t) 64) h in (at_most 1 (length t) b.0, at_most (length t) 64 b.1)) tt
+name_fits t = Holds-cond IsName (nat_le 1 (length t) && nat_le (length t) 64) (Some t) None (λ h. let b = and-true (nat_le 1 (length t)) (nat_le (length t) 64) h in (at_most 1 (length t) b.0, at_most (length t) 64 b.1)) tt
 
 client_fits : (d : Data) → Holds IsName (client_in d)
 client_fits d = Holds-and_then Any IsName client_named (λ t _. name_fits t) (option_and_then as_str (get (codes "client") d)) (any _)
@@ -166,7 +164,7 @@ goal_fits d =
 few_fit : (ts : List Node) → AreShown ts → Holds AreItems (few ts)
 few_fit ts h =
     Holds-cond AreItems (nat_le 1 (length ts) && is_ok (check_items (nodes_of ts))) (Some ts) None
-    (λ e. let b = both_true (nat_le 1 (length ts)) (is_ok (check_items (nodes_of ts))) e in (at_most 1 (length ts) b.0, within (check_items (nodes_of ts)) b.1, h)) tt
+    (λ e. let b = and-true (nat_le 1 (length ts)) (is_ok (check_items (nodes_of ts))) e in (at_most 1 (length ts) b.0, within (check_items (nodes_of ts)) b.1, h)) tt
 
 items_fit : (d : Data) → Sound d → Holds AreItems (items_in d)
 items_fit d sound =

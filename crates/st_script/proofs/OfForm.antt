@@ -11,17 +11,9 @@ use Rattle.st_script.specs.Header.{HeaderView, header_line, header_or_cause, hea
 use Rattle.st_script.specs.Line.{line_of}
 use Rattle.st_script.specs.Steps.{StepView, IsOfForm}
 use Rattle.st_script.proofs.Fits.{line_fits, fits_form}
+use Rattle.st_lemmas.proofs.Options.{option_map-Some, option_and_then-Some}
 
 -- ## What gave a value
-
--- what was bound gave the value
-bound : {A B : Type 0} (f : A → Option B) (o : Option A) (y : B) → option_and_then f o ≡ Some y → (x : A) × (o ≡ Some x) × (f x ≡ Some y)
-bound f None y e = absurd cc
-bound f (Some x) y e = (x, refl, e)
-
-mapped : {A B : Type 0} (f : A → B) (o : Option A) (y : B) → option_map f o ≡ Some y → (x : A) × (o ≡ Some x) × (f x ≡ y)
-mapped f None y e = absurd cc
-mapped f (Some x) y e = (x, refl, cc)
 
 guarded : {A : Type 0} (b : Bool) (o : Option A) (y : A) → cond b o None ≡ Some y → (b ≡ true) × (o ≡ Some y)
 guarded true o y e = (refl, e)
@@ -38,14 +30,14 @@ line_formed bytes s e = fits_form s (line_fits bytes s e)
 header_kept : (d : Data) (word : List ℕ) (h : HeaderView) → header_of word d ≡ Some h → (is_sound h.schema ≡ true) × (may_open h.schema h.tree ≡ true)
 header_kept d word h e =
     let g = guarded (is_begun word d) (option_and_then opened (parts_of d)) h e in
-    let p = bound opened (parts_of d) h g.1 in
+    let p = option_and_then-Some opened (parts_of d) h g.1 in
     let o = guarded (may_open p.0.schema p.0.tree) (Some p.0) h p.2 in
     let same_header : p.0 ≡ h = cc in
-    let n = bound (λ history. option_and_then (λ schema. option_map (λ tree. record { history = history; schema = schema; tree = tree }) (tree_in d)) (schema_in d)) (history_or_64 (get (codes "history") d)) p.0 p.1 in
-    let s = bound (λ schema. option_map (λ tree. record { history = n.0; schema = schema; tree = tree }) (tree_in d)) (schema_in d) p.0 n.2 in
-    let t = mapped (λ tree. record { history = n.0; schema = s.0; tree = tree }) (tree_in d) p.0 s.2 in
-    let x = bound sound_schema (get (codes "schema") d) s.0 s.1 in
-    let v = bound (λ (v : SchemaView). cond (is_sound v) (Some v) None) (schema_of x.0) s.0 x.2 in
+    let n = option_and_then-Some (λ history. option_and_then (λ schema. option_map (λ tree. record { history = history; schema = schema; tree = tree }) (tree_in d)) (schema_in d)) (history_or_64 (get (codes "history") d)) p.0 p.1 in
+    let s = option_and_then-Some (λ schema. option_map (λ tree. record { history = n.0; schema = schema; tree = tree }) (tree_in d)) (schema_in d) p.0 n.2 in
+    let t = option_map-Some (λ tree. record { history = n.0; schema = s.0; tree = tree }) (tree_in d) p.0 s.2 in
+    let x = option_and_then-Some sound_schema (get (codes "schema") d) s.0 s.1 in
+    let v = option_and_then-Some (λ (v : SchemaView). cond (is_sound v) (Some v) None) (schema_of x.0) s.0 x.2 in
     let w = guarded (is_sound v.0) (Some v.0) s.0 v.2 in
     let same_schema : v.0 ≡ s.0 = cc in
     let sound : is_sound s.0 ≡ true = subst (λ (y : SchemaView). is_sound y ≡ true) same_schema w.0 in

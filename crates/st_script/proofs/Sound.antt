@@ -20,7 +20,8 @@ use Rattle.st_tree.specs.Size.{check_of}
 use Rattle.st_schema.specs.TreeText.{leaf_data, tree_data, body_data, members_data, trees_data, leaf_of, leaf_node, leaf_in, tree_in, node_in, body_in, trees_in as trees_below, fields_in, within_limits, tree_of}
 use Rattle.st_script.specs.Members.{trees_in}
 use Rattle.st_script.specs.StepText.{IsShown, AreShown}
-use Rattle.st_script.proofs.Holds.{Holds, Holds-map, Holds-and_then, Holds-cond}
+use Rattle.st_script.proofs.Holds.{Holds, Holds-cond}
+use Rattle.st_json.proofs.Rising.{Holds-map, Holds-and_then}
 
 -- ---- values whose whole numbers below 0 are so
 

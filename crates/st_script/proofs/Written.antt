@@ -12,6 +12,7 @@ use Rattle.st_tree.specs.Size.{node_count, item_count, height, items_height, che
 use Rattle.st_tree.specs.declared.tree.Tree.{Tree}
 use Rattle.st_tree.specs.declared.limits.TreeFault.{TreeFault}
 use Rattle.st_tree.specs.declared.limits.TreeFault.TheVariants.{TooDeep, TooMany}
+use Rattle.st_lemmas.proofs.Orders.{nat_lt-false}
 
 -- one more member
 pub member_put : (old new : List (String Global × Value)) (k : String Global) (v : Value) (name : List ℕ) → string_bytes k ≡ name → new ≡ insert_entry string_cmp old k v
@@ -30,9 +31,6 @@ keeps true b p q = absurd (cc)
 keeps false true p q = absurd (cc)
 keeps false false p q = refl
 
-few_enough : (n m : ℕ) → nat_lt m n ≡ false → n ≤ m
-few_enough n m h = grind (arith, nat_tests)
-
 not_more : (n m : ℕ) → n ≤ m → nat_lt m n ≡ false
 not_more n m h = grind (arith, nat_tests)
 
@@ -40,10 +38,10 @@ abbrev pub Small : ℕ → ℕ → Type 0
 Small nodes levels = (nodes ≤ 1024) × (levels ≤ 48)
 
 pub all_small : (ts : Nodes) → check_items ts ≡ Ok tt → Small (item_count ts) (items_height ts)
-all_small ts h = let k = kept (nat_lt 1024 (item_count ts)) (nat_lt 48 (items_height ts)) h in (few_enough (item_count ts) 1024 k.0, few_enough (items_height ts) 48 k.1)
+all_small ts h = let k = kept (nat_lt 1024 (item_count ts)) (nat_lt 48 (items_height ts)) h in (nat_lt-false (item_count ts) 1024 k.0, nat_lt-false (items_height ts) 48 k.1)
 
 pub one_small : (t : Node) → check_of t ≡ Ok tt → Small (node_count t) (height t)
-one_small t h = let k = kept (nat_lt 1024 (node_count t)) (nat_lt 48 (height t)) h in (few_enough (node_count t) 1024 k.0, few_enough (height t) 48 k.1)
+one_small t h = let k = kept (nat_lt 1024 (node_count t)) (nat_lt 48 (height t)) h in (nat_lt-false (node_count t) 1024 k.0, nat_lt-false (height t) 48 k.1)
 
 one_checked : (t : Node) → node_count t ≤ 1024 → height t ≤ 48 → check_of t ≡ Ok tt
 one_checked t few low = keeps (nat_lt 1024 (node_count t)) (nat_lt 48 (height t)) (not_more (node_count t) 1024 few) (not_more (height t) 48 low)

@@ -17,10 +17,10 @@ use Rattle.st_seq.specs.inside.Views.{view_before}
 use Rattle.st_seq.specs.inside.Cells.{turned, stepped, full_first, full_then, bridged, bridged_piece, bridge_row, made_full, gained_full}
 use Rattle.st_seq.specs.Changes.{StandsIn, AreOld, NamesNoGained, NoGroupAtGained, full_after, made_cells, carried_cells, carried_row, placed_by, row_after, void_part}
 use Rattle.st_seq.specs.Rows.{NamesMoved}
-use Rattle.st_seq.proofs.Composed.{or_left, or_right}
 use Rattle.st_seq.proofs.Voided.{void-made}
 use Rattle.st_seq.proofs.Laying.{beside-kept, beside-gained}
 use Rattle.st_seq.proofs.Rebased.{Tells, rebased-found, gained-found}
+use Rattle.st_lemmas.proofs.Bools.{and-second, or-false, and-first, or-left, or-right}
 
 -- ## How full a cell is
 
@@ -132,18 +132,6 @@ led-kept k c n a b x q r (g, e, w) = (item_kept (refl, refl) g, (λ i. q i ∷ e
 abbrev pub placing : Bool → Nodes → Nodes
 placing void placed n = not void || placed n
 
-and_first : (a b : Bool) → (a && b) ≡ true → a ≡ true
-and_first true b e = refl
-and_first false b e = e
-
-or_none : (a : Bool) → (a || false) ≡ a
-or_none true = refl
-or_none false = refl
-
-and_second : (a b : Bool) → (a && b) ≡ true → b ≡ true
-and_second true b e = e
-and_second false b e = cc
-
 module _ (t : NodeId → Option How) (p : RowPart) (m placed makes : Nodes) (was is : Bool) (sub : (n : NodeId) → makes n ≡ false → placed n ≡ false) (put : (n : NodeId) → p.target_of n ≢ None → makes n ≡ false → p.mentioned n ≡ true) where
   -- where the change puts a node
   abbrev target_of : Bool → NodeId → Option To
@@ -175,18 +163,18 @@ module _ (t : NodeId → Option How) (p : RowPart) (m placed makes : Nodes) (was
   owner : (n : NodeId) → makes n ≡ false → (was && is) ≡ false → Owner p m named n
   owner n h e = record {
     put = λ q. put n q h;
-    named = λ q. named_is n ∙ or_right (m n) (cond (was && is) (makes n) (p.mentioned n || makes n)) (ap (λ b. cond b (makes n) (p.mentioned n || makes n)) e ∙ or_left (p.mentioned n) (makes n) q);
-    unnamed = λ q. named_is n ∙ ap (λ b. m n || cond b (makes n) (p.mentioned n || makes n)) e ∙ (λ i. m n || (q i || h i)) ∙ or_none (m n);
+    named = λ q. named_is n ∙ or-right (m n) (cond (was && is) (makes n) (p.mentioned n || makes n)) (ap (λ b. cond b (makes n) (p.mentioned n || makes n)) e ∙ or-left (p.mentioned n) (makes n) q);
+    unnamed = λ q. named_is n ∙ ap (λ b. m n || cond b (makes n) (p.mentioned n || makes n)) e ∙ (λ i. m n || (q i || h i)) ∙ or-false (m n);
   }
 
   both_named : (n : NodeId) → makes n ≡ false → (was && is) ≡ true → named n ≡ m n
-  both_named n h e = named_is n ∙ ap (λ b. m n || cond b (makes n) (p.mentioned n || makes n)) e ∙ ap (λ b. m n || b) h ∙ or_none (m n)
+  both_named n h e = named_is n ∙ ap (λ b. m n || cond b (makes n) (p.mentioned n || makes n)) e ∙ ap (λ b. m n || b) h ∙ or-false (m n)
 
   -- a cell that both find
   found_is : (c : CellId) (n : NodeId) (a b : Bool) → makes n ≡ false → (is ≡ false → b ≡ true → Tells p n (t n))
       → bridged was is t (embed_cell p c n a) (step_cell m c n a b) ≡ step_cell named c n (full_after (goes was n) c a) (full_after (goes is n) c b)
   found_is c n a b h k = elim (was && is) as (λ z. (was && is) ≡ z → cond z (step_cell m c n a b) (stepped (embed_cell p c n a) (step_cell m c n a b) (full_first was (embed_cell p c n a)) (full_then is t (embed_cell p c n a) (step_cell m c n a b))) ≡ step_cell named c n (full_after (goes was n) c a) (full_after (goes is n) c b)) [
-    | true ↦ (λ e. unlisted m named c n a b (both_named n h e) ∙ (λ i. step_cell named c n (full_after (sym (void_goes n was (and_first was is e) h) i) c a) (full_after (sym (void_goes n is (and_second was is e) h) i) c b)))
+    | true ↦ (λ e. unlisted m named c n a b (both_named n h e) ∙ (λ i. step_cell named c n (full_after (sym (void_goes n was (and-first was is e) h) i) c a) (full_after (sym (void_goes n is (and-second was is e) h) i) c b)))
     | false ↦ (λ e. (λ i. stepped (embed_cell p c n a) (step_cell m c n a b) (first_is was c n a h i) (then_is is c n a b h k i))
         ∙ stepped_is p m named c n (owner n h e) a b (full_after (goes was n) c a) (full_after (goes is n) c b)
         (λ q. ap (λ g. full_after g c a) (none_goes n was q)) (λ q. ap (λ g. full_after g c b) (none_goes n is q)) (away_is was c n a) (away_is is c n b))
@@ -194,7 +182,7 @@ module _ (t : NodeId → Option How) (p : RowPart) (m placed makes : Nodes) (was
 
   found_moved : (c : CellId) (n : NodeId) (a b : Bool) → makes n ≡ false → (a ≢ b → m n ≡ true) → full_after (goes was n) c a ≢ full_after (goes is n) c b → named n ≡ true
   found_moved c n a b h k = elim (was && is) as (λ z. (was && is) ≡ z → full_after (goes was n) c a ≢ full_after (goes is n) c b → named n ≡ true) [
-    | true ↦ (λ e q. as_step (void_goes n was (and_first was is e) h) (void_goes n is (and_second was is e) h) q)
+    | true ↦ (λ e q. as_step (void_goes n was (and-first was is e) h) (void_goes n is (and-second was is e) h) q)
     | false ↦ (λ e. elim (p.mentioned n) as (λ z. p.mentioned n ≡ z → full_after (goes was n) c a ≢ full_after (goes is n) c b → named n ≡ true) [
       | true ↦ (λ f q. (owner n h e).named f)
       | false ↦ (λ f q. let none = not_put p m named c n (owner n h e) f in as_step (none_goes n was none) (none_goes n is none) q)
@@ -202,7 +190,7 @@ module _ (t : NodeId → Option How) (p : RowPart) (m placed makes : Nodes) (was
   ] refl
     where
       as_step : goes was n ≡ None → goes is n ≡ None → full_after (goes was n) c a ≢ full_after (goes is n) c b → named n ≡ true
-      as_step e f q = named_is n ∙ or_left (m n) (cond (was && is) (makes n) (p.mentioned n || makes n)) (k (λ r. q (ap (λ g. full_after g c a) e ∙ r ∙ sym (ap (λ g. full_after g c b) f))))
+      as_step e f q = named_is n ∙ or-left (m n) (cond (was && is) (makes n) (p.mentioned n || makes n)) (k (λ r. q (ap (λ g. full_after g c a) e ∙ r ∙ sym (ap (λ g. full_after g c b) f))))
 
   -- ## A cell that the change makes
 
@@ -218,7 +206,7 @@ module _ (t : NodeId → Option How) (p : RowPart) (m placed makes : Nodes) (was
       go (Some to) e = λ z. cc
 
   new_named : (n : NodeId) → makes n ≡ true → named n ≡ true
-  new_named n e = named_is n ∙ or_right (m n) (cond (was && is) (makes n) (p.mentioned n || makes n)) (elim (was && is) as (λ z. cond z (makes n) (p.mentioned n || makes n) ≡ true) [ true ↦ e | false ↦ or_right (p.mentioned n) (makes n) e ])
+  new_named n e = named_is n ∙ or-right (m n) (cond (was && is) (makes n) (p.mentioned n || makes n)) (elim (was && is) as (λ z. cond z (makes n) (p.mentioned n || makes n) ≡ true) [ true ↦ e | false ↦ or-right (p.mentioned n) (makes n) e ])
 
   full_named : (v : Bool) → ((was && is) ≡ true → v ≡ true) → (n : NodeId) (c : CellId) → made_full placed n (is_here (how (p.target_of n) (To.Cell c))) v ≡ true → named n ≡ true
   full_named v w n c e = elim (makes n) as (λ z. makes n ≡ z → named n ≡ true) [
@@ -230,11 +218,11 @@ module _ (t : NodeId → Option How) (p : RowPart) (m placed makes : Nodes) (was
   ] refl
     where
       made_here : (v : Bool) → made_full placed n (is_here (how (p.target_of n) (To.Cell c))) v ≡ true → is_here (how (p.target_of n) (To.Cell c)) ≡ true
-      made_here true e = and_first (is_here (how (p.target_of n) (To.Cell c))) (placed n) e
+      made_here true e = and-first (is_here (how (p.target_of n) (To.Cell c))) (placed n) e
       made_here false e = e
 
       void_full : (v : Bool) → v ≡ true → made_full placed n (is_here (how (p.target_of n) (To.Cell c))) v ≡ true → placed n ≡ true
-      void_full true q e = and_second (is_here (how (p.target_of n) (To.Cell c))) (placed n) e
+      void_full true q e = and-second (is_here (how (p.target_of n) (To.Cell c))) (placed n) e
       void_full false q e = cc
 
   one_full : (a b a' b' : Bool) → a ≡ a' → b ≡ b' → {P : Type 0} → (a ≡ true → P) → (b ≡ true → P) → a' ≢ b' → P
@@ -248,8 +236,8 @@ module _ (t : NodeId → Option How) (p : RowPart) (m placed makes : Nodes) (was
   beside_made (o ∷ os) xs ys l =
       let put = is_here (how (p.target_of o.node) (To.Cell o.cell)) in
       led-kept named o.cell o.node (is_here (how (goes was o.node) (To.Cell o.cell))) (is_here (how (goes is o.node) (To.Cell o.cell))) (turned o.cell o.node (made_full placed o.node put was) (made_full placed o.node put is))
-      (turned_is named o.cell o.node (made_full placed o.node put was) (made_full placed o.node put is) (λ e f. full_named was (and_first was is) o.node o.cell e) ∙ (λ i. step_cell named o.cell o.node (made_is was o i) (made_is is o i)))
-      (one_full (made_full placed o.node put was) (made_full placed o.node put is) (is_here (how (goes was o.node) (To.Cell o.cell))) (is_here (how (goes is o.node) (To.Cell o.cell))) (made_is was o) (made_is is o) (full_named was (and_first was is) o.node o.cell) (full_named is (and_second was is) o.node o.cell))
+      (turned_is named o.cell o.node (made_full placed o.node put was) (made_full placed o.node put is) (λ e f. full_named was (and-first was is) o.node o.cell e) ∙ (λ i. step_cell named o.cell o.node (made_is was o i) (made_is is o i)))
+      (one_full (made_full placed o.node put was) (made_full placed o.node put is) (is_here (how (goes was o.node) (To.Cell o.cell))) (is_here (how (goes is o.node) (To.Cell o.cell))) (made_is was o) (made_is is o) (full_named was (and-first was is) o.node o.cell) (full_named is (and-second was is) o.node o.cell))
       (beside_made os xs ys l)
 
   -- ## The row

@@ -9,6 +9,7 @@ use Rattle.st_marks.specs.Row.{CellMark, Counted, Touch, Make, Fill, SameCell, s
 use Rattle.st_seq.specs.inside.Cells.{composed, compose_row}
 use Rattle.st_kind.specs.Named.{either}
 use Rattle.st_seq.specs.Rows.{NamesLeavers}
+use Rattle.st_lemmas.proofs.Bools.{or-right, or-left}
 
 abbrev pub grows_on : {c d e : List Slot} → GainsItems SameCell c d → GainsItems SameCell d e → GainsItems SameCell c e
 grows_on g no_more = g
@@ -63,13 +64,6 @@ compose_row-step_row m k (item_kept {y = t} b h) (item_kept {x = r} {y = s} a g)
     compose-step_cell (step_cell m r.cell r.node r.full s.full) (step_row m g) (step_row k h) k s.cell s.node s.full t.full
     ∙ (λ i. (ap (λ (x : CellMark). composed (step_cell m r.cell r.node r.full s.full) x) (λ j. step_cell k (sym a.0 j) (sym a.1 j) s.full t.full) ∙ composed-step_cell m k r.cell r.node r.full s.full t.full l.0) i ∷ compose_row-step_row m k h g l.1 i)
 
-pub or_left : (a b : Bool) → a ≡ true → (a || b) ≡ true
-or_left a b e = rw e refl
-
-pub or_right : (a b : Bool) → b ≡ true → (a || b) ≡ true
-or_right true b e = refl
-or_right false b e = e
-
 pub leavers_named : (m k : NodeId → Bool) {d e : List Slot} (h : GainsItems SameCell d e) {c : List Slot} (g : GainsItems SameCell c d) → NamesLeavers m g → NamesLeavers k h → NamesLeavers (either m k) (grows_on g h)
 leavers_named m k no_more no_more l r = tt
 leavers_named m k (item_gained h) g l r = leavers_named m k h g l r
@@ -77,5 +71,5 @@ leavers_named m k (item_kept b h) (item_gained g) l r = leavers_named m k h g l 
 leavers_named m k (item_kept {y = u} b h) (item_kept {x = s} {y = t} a g) l r = (λ e f. changed t.full refl e f, leavers_named m k h g l.1 r.1)
   where
     changed : (x : Bool) → t.full ≡ x → s.full ≡ true → u.full ≡ false → (m s.node || k s.node) ≡ true
-    changed true q e f = or_right (m s.node) (k s.node) (ap k a.1 ∙ r.0 q f)
-    changed false q e f = or_left (m s.node) (k s.node) (l.0 e q)
+    changed true q e f = or-right (m s.node) (k s.node) (ap k a.1 ∙ r.0 q f)
+    changed false q e f = or-left (m s.node) (k s.node) (l.0 e q)

@@ -11,6 +11,7 @@ use Rattle.st_marks.specs.Agree.{SameIfBoth, IsSameView}
 use Rattle.st_marks.specs.Listings.{CellView}
 use Rattle.st_seq.specs.Views.{DifferAt}
 use Rattle.st_seq.specs.inside.Views.{agree, agree_if_named, same_bool, first_difference, IsApart}
+use Rattle.st_lemmas.proofs.Bools.{and-second, and-first}
 
 -- ## One cell
 
@@ -24,7 +25,7 @@ same-told same h None y e = refl
 same-told same h (Some x) None e = refl
 same-told same h (Some x) (Some y) e = ap (same x) (sym e) ∙ h x
 
-bools-same : (a b : Bool) → same_bool a b ≡ true → a ≡ b
+pub bools-same : (a b : Bool) → same_bool a b ≡ true → a ≡ b
 bools-same true b e = sym e
 bools-same false true e = let z : ◌≡◌ {A = Bool} false true = e in cc
 bools-same false false e = refl
@@ -34,21 +35,13 @@ same-bools true b e = sym e
 same-bools false true e = let z : ◌≡◌ {A = Bool} false true = e in cc
 same-bools false false e = refl
 
-left_of : (a b : Bool) → (a && b) ≡ true → a ≡ true
-left_of true b e = refl
-left_of false b e = e
-
-right_of : (a b : Bool) → (a && b) ≡ true → b ≡ true
-right_of true b e = e
-right_of false b e = let z : ◌≡◌ {A = Bool} false true = e in cc
-
 agree-same : (s t : CellView) → agree s t ≡ true → IsSameView s t
 agree-same s t e =
-    let front = left_of (same_bool s.full t.full && agree_if_named same_cell s.cell t.cell) (agree_if_named same_node s.node t.node) e in
+    let front = and-first (same_bool s.full t.full && agree_if_named same_cell s.cell t.cell) (agree_if_named same_node s.node t.node) e in
     record {
-      full = bools-same s.full t.full (left_of (same_bool s.full t.full) (agree_if_named same_cell s.cell t.cell) front);
-      cell = told-same same_cell same_cell-true s.cell t.cell (right_of (same_bool s.full t.full) (agree_if_named same_cell s.cell t.cell) front);
-      node = told-same same_node same_node-true s.node t.node (right_of (same_bool s.full t.full && agree_if_named same_cell s.cell t.cell) (agree_if_named same_node s.node t.node) e);
+      full = bools-same s.full t.full (and-first (same_bool s.full t.full) (agree_if_named same_cell s.cell t.cell) front);
+      cell = told-same same_cell same_cell-true s.cell t.cell (and-second (same_bool s.full t.full) (agree_if_named same_cell s.cell t.cell) front);
+      node = told-same same_node same_node-true s.node t.node (and-second (same_bool s.full t.full && agree_if_named same_cell s.cell t.cell) (agree_if_named same_node s.node t.node) e);
     }
 
 same-agree : (s t : CellView) → IsSameView s t → agree s t ≡ true

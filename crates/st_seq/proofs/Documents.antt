@@ -4,11 +4,10 @@ use Rattle.std.specs.List.{AllByRecursion, flat_map}
 use Rattle.std.proofs.lemmas.List.{length-map}
 use Rattle.st_ids.specs.Listing.{AreDistinct, Has}
 use Rattle.st_ids.specs.Order.{same_node}
-use Rattle.st_ids.proofs.Orders.{same_cell-true, same_node-true, same_node-itself}
+use Rattle.st_ids.proofs.Orders.{same_node-itself}
 use Rattle.st_ids.specs.declared.names.CellId.{CellId}
 use Rattle.st_ids.specs.declared.names.NodeId.{NodeId}
 use Rattle.st_kind.specs.Named.{Nodes}
-use Rattle.st_marks.specs.declared.changes.NewNode.{NewNode}
 use Rattle.st_marks.specs.declared.intents.Group.{Group}
 use Rattle.st_marks.specs.declared.intents.Intent.{Intent}
 use Rattle.st_marks.specs.declared.intents.Owned.{Owned}
@@ -18,42 +17,27 @@ use Rattle.st_marks.specs.declared.places.Slot.{Slot}
 use Rattle.st_marks.specs.declared.places.Spot.{Spot}
 use Rattle.st_marks.specs.Document.{Document, IsSoundInForm, content, is_cell, owned, root, slot}
 use Rattle.st_marks.specs.Embedding.{IsMentionedByIntent, is_among}
-use Rattle.st_marks.specs.Intent.{Fits, IsIntent, Owns, group_at, group_cells, is_new, new_node, put_of}
+use Rattle.st_marks.specs.Intent.{Fits, Owns, group_at, group_cells, is_new, put_of}
 use Rattle.st_marks.proofs.Full.{known_put}
 use Rattle.st_marks.proofs.Lookups.{group_at-group, group_found, made_there, put-has}
-use Rattle.st_marks.proofs.Members.{all-has, append_left, distinct-append, distinct-has, first-has, flat_map-has, has-all, has-flat_map, has-map, list_distinct, map-has, one_list}
+use Rattle.st_marks.proofs.Members.{all-has, append_left, distinct-append, distinct-has, flat_map-has, has-all, has-flat_map, has-map, list_distinct, map-has, one_list}
 use Rattle.st_seq.specs.Changes.{StandsIn}
 use Rattle.st_seq.specs.Sequence.{RowCanHold, RowFits, ListsNew, SeqPart, cells_of, made_in, row_part_of, standing}
 use Rattle.st_seq.proofs.Telling.{any_has}
-use Rattle.st_seq.proofs.Truth.{not_so, true_false}
+use Rattle.st_lemmas.proofs.Lists.{flat_map-map}
+use Rattle.st_marks.proofs.Shared.{one_cell, made}
+use Rattle.st_marks.proofs.Unique.{distinct_content}
+use Rattle.st_lemmas.proofs.Bools.{refuted-false, true-false}
 
 -- ## New nodes
 
-made : (N : Intent) → IsIntent N → (n : NodeId) → is_new N n ≡ true → n.0.rev ≡ N.rev
-made N w n e = go (new_node N n) refl e
-  where
-    go : (o : Option NewNode) → new_node N n ≡ o → is_new N n ≡ true → n.0.rev ≡ N.rev
-    go None f e = let q : ◌≡◌ {A = Bool} false true = sym (rw f refl) ∙ e in cc
-    go (Some m) f e =
-        let r = first-has (λ (k : NewNode). same_node k.node n) N.new m f in
-        ap (λ (k : NodeId). k.0.rev) (sym (same_node-true m.node n r.1)) ∙ all-has (λ (k : NewNode). k.node.0.rev ≡ N.rev) N.new m w.new_rev r.0
-
 pub not_made : (D : Document) (N : Intent) → Fits D N → (n : NodeId) → IsSome (D.nodes n) → is_new N n ≡ false
-not_made D N w n h = not_so (is_new N n) (λ e. true_false h (ap is_some (w.fresh_nodes n e)))
+not_made D N w n h = refuted-false (is_new N n) (λ e. true-false h (ap is_some (w.fresh_nodes n e)))
 
 -- ## What the row holds
 
 pub is_slot : (D : Document) (n : NodeId) (s : Slot) → Has (content D n) s → (o : Owned) × Has (D.rows n) o × (slot D o ≡ s)
 is_slot D n s w = has-map (slot D) (D.rows n) s w
-
-slots_once : (D : Document) (os : List Owned) → AreDistinct (λ (o : Owned). o.cell) os → AreDistinct (λ (s : Slot). s.cell) (map (slot D) os)
-slots_once D [] h = tt
-slots_once D (o ∷ os) h = (has-all (λ (s : Slot). s.cell ≢ o.cell) (map (slot D) os) (λ s w e. let r = has-map (slot D) os s w in all-has (λ (p : Owned). p.cell ≢ o.cell) os r.0 h.0 r.1 (ap (λ (t : Slot). t.cell) r.2 ∙ e)), slots_once D os h.1)
-
-one_place : (a b : CellId) (s : Spot) → is_cell a s ≡ true → is_cell b s ≡ true → a ≡ b
-one_place a b Spot.Nowhere e f = cc
-one_place a b (Spot.Row n d) e f = same_cell-true a d e ∙ sym (same_cell-true b d f)
-one_place a b (Spot.Register g) e f = cc
 
 has_standing : (D : Document) (os : List Owned) (n : NodeId) → Has (standing (map (slot D) os)) n → (o : Owned) × Has os o × (o.node ≡ n) × (is_cell o.cell (D.place o.node) ≡ true)
 has_standing D [] n w = absurd w
@@ -68,7 +52,7 @@ stands_once D (o ∷ os) h = elim (is_cell o.cell (D.place o.node)) as (λ b. is
   | true ↦ (λ e. (
     has-all (λ (k : NodeId). k ≢ o.node) (standing (map (slot D) os)) (λ k w q.
         let r = has_standing D os k w in
-        all-has (λ (p : Owned). p.cell ≢ o.cell) os r.0 h.0 r.1 (one_place r.0.cell o.cell (D.place o.node) (subst (λ x. is_cell r.0.cell (D.place x) ≡ true) (r.2 ∙ q) r.3) e)),
+        all-has (λ (p : Owned). p.cell ≢ o.cell) os r.0 h.0 r.1 (one_cell r.0.cell o.cell (D.place o.node) (subst (λ x. is_cell r.0.cell (D.place x) ≡ true) (r.2 ∙ q) r.3) e)),
     stands_once D os h.1,
   ))
   | false ↦ (λ e. stands_once D os h.1)
@@ -81,7 +65,7 @@ root_nowhere D h (o ∷ os) (inr w) = root_nowhere D h os w
 
 pub can_hold : (D : Document) → IsSoundInForm D → (n : NodeId) → RowCanHold (content D n)
 can_hold D x n = record {
-  once = slots_once D (D.rows n) (x.once n);
+  once = distinct_content D (D.rows n) (x.once n);
   stand_once = stands_once D (D.rows n) (x.once n);
   no_root = root_nowhere D x.root_nowhere (D.rows n);
   short = let e : length (content D n) ≡ length (D.rows n) = length-map (D.rows n) (slot D) in let s = x.short n in omega (arith, e, s);
@@ -97,10 +81,6 @@ cell_there : (D : Document) (n : NodeId) (o : Owned) → Has (D.rows n) o → Ha
 cell_there D n o w = map-has (λ (s : Slot). s.cell) (content D n) (slot D o) (map-has (slot D) (D.rows n) o w)
 
 -- ## What the intent makes there
-
-flat_map-map : {A B C : Type 0} (f : B → List C) (g : A → B) (xs : List A) → flat_map f (map g xs) ≡ flat_map (λ x. f (g x)) xs
-flat_map-map f g [] = refl
-flat_map-map f g (x ∷ xs) = ap (λ l. f (g x) ++ l) (flat_map-map f g xs)
 
 distinct-flat_map : {A B K : Type 0} (f : A → List B) (key : B → K) (xs : List A) → AreDistinct (λ x. x) xs → ((x : A) → AreDistinct key (f x)) → ((x y : A) (a b : B) → Has (f x) a → Has (f y) b → key a ≡ key b → x ≡ y) → AreDistinct key (flat_map f xs)
 distinct-flat_map f key [] o h k = tt
@@ -227,7 +207,7 @@ module _ (D : Document) (N : Intent) (m : Nodes) (new : List NodeId) (n : NodeId
       mentions k (k, append_left _ _ k (append_left _ _ k (append_left _ _ k (append_left (map (λ (p : Put). p.node) N.put) N.need k (map-has (λ (p : Put). p.node) N.put (record { node = k; to = q.0 }) there)))), known (known_put D N w k q.0 q.1).0, 0, refl)
     where
       known : (is_new N k ≡ true) ⊎ IsSome (D.nodes k) → IsSome (D.nodes k)
-      known (inl f) = absurd (true_false (listed.each k ∙ f) e)
+      known (inl f) = absurd (true-false (listed.each k ∙ f) e)
       known (inr f) = f
 
   rows_empty : is_new N n ≡ true → c ≡ []
@@ -235,7 +215,7 @@ module _ (D : Document) (N : Intent) (m : Nodes) (new : List NodeId) (n : NodeId
     where
       go : (os : List Owned) → D.rows n ≡ os → os ≡ []
       go [] f = refl
-      go (o ∷ os) f = absurd (true_false (x.cells_known n o (subst (λ l. Has l o) (sym f) (inl refl))).0 (ap is_some (w.fresh_nodes n e)))
+      go (o ∷ os) f = absurd (true-false (x.cells_known n o (subst (λ l. Has l o) (sym f) (inl refl))).0 (ap is_some (w.fresh_nodes n e)))
 
   is_some_put : (g : Option To) → IsSome g → g ≢ None
   is_some_put None h = cc

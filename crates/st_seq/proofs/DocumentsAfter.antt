@@ -28,12 +28,12 @@ use Rattle.st_marks.proofs.Lookups.{group_at-group, made_there, new_row_of-group
 use Rattle.st_marks.proofs.Members.{flat_map-has}
 use Rattle.st_seq.specs.Changes.{carried_cells, carried_row, full_after, made_cells, placed_by, void_part}
 use Rattle.st_seq.specs.Sequence.{ListsNew, row_carried, row_part_of}
-use Rattle.st_seq.proofs.Truth.{not_so, true_false}
+use Rattle.st_lemmas.proofs.Bools.{refuted-false, true-false}
 
 same_turned : (a b : CellId) → same_cell a b ≡ same_cell b a
 same_turned a b = elim (same_cell a b) as (λ z. same_cell a b ≡ z → z ≡ same_cell b a) [
   | true ↦ (λ e. sym (ap (same_cell b) (same_cell-true a b e) ∙ same_cell-itself b))
-  | false ↦ (λ e. sym (not_so (same_cell b a) (λ f. true_false (ap (same_cell a) (same_cell-true b a f) ∙ same_cell-itself a) e)))
+  | false ↦ (λ e. sym (refuted-false (same_cell b a) (λ f. true-false (ap (same_cell a) (same_cell-true b a f) ∙ same_cell-itself a) e)))
 ] refl
 
 -- ## Where a put leads
@@ -45,7 +45,7 @@ put_full row_of a r h (To.Cell d) = go (row_of d) refl
   where
     go : (o : Option NodeId) → row_of d ≡ o → is_cell a (option_map_or (λ n. Spot.Row n d) o Spot.Nowhere) ≡ same_cell d a
     go (Some k) e = same_turned a d
-    go None e = sym (not_so (same_cell d a) (λ f. let q : ◌≡◌ {A = Option NodeId} None (Some r) = sym e ∙ ap row_of (same_cell-true d a f) ∙ h in cc))
+    go None e = sym (refuted-false (same_cell d a) (λ f. let q : ◌≡◌ {A = Option NodeId} None (Some r) = sym e ∙ ap row_of (same_cell-true d a f) ∙ h in cc))
 
 module _ (D : Document) (N : Intent) (n : NodeId) (x : IsSoundInForm D) (w : Fits D N) where
   cleared_full : (a : CellId) (s : Spot) → is_cell a (unless_cleared N s) ≡ is_cell a s
@@ -65,7 +65,7 @@ module _ (D : Document) (N : Intent) (n : NodeId) (x : IsSoundInForm D) (w : Fit
 
   -- a node doesn't stand in a cell that is new
   not_yet : (o : Owned) → Has (group_cells N) o → (k : NodeId) → is_cell o.cell (D.place k) ≡ false
-  not_yet o v k = not_so (is_cell o.cell (D.place k)) (λ e.
+  not_yet o v k = refuted-false (is_cell o.cell (D.place k)) (λ e.
       let r = is_cell-true o.cell (D.place k) e in
       let there = (x.one_row o.cell r.0).1 (k, x.own_cell k r.0 o.cell r.1) in
       let q : ◌≡◌ {A = Option NodeId} None (Some r.0) = sym (w.fresh_cells o.cell (made_there N o v)) ∙ there in

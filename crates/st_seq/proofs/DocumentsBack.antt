@@ -19,12 +19,7 @@ use Rattle.st_marks.proofs.Retreat.{back_old}
 use Rattle.st_seq.specs.Sequence.{is_full_in, retreat_to}
 use Rattle.st_seq.proofs.Documents.{is_slot}
 use Rattle.st_seq.proofs.Telling.{any_has, has_any}
-use Rattle.st_seq.proofs.Truth.{and_parts, true_false}
-
-one_test : (a b : Bool) → (a ≡ true → b ≡ true) → (b ≡ true → a ≡ true) → a ≡ b
-one_test true b f g = sym (f refl)
-one_test false true f g = g refl
-one_test false false f g = refl
+use Rattle.st_lemmas.proofs.Bools.{both-ways-same, and-true, true-false}
 
 -- a node that D has not stands after the way back where it stands in E, in a field of a node that D has not
 back_new : (D E : Document) (k : NodeId) (r : NodeId) (a : CellId) → is_in D k ≡ false → place_back D E k ≡ Spot.Row r a → (E.place k ≡ Spot.Row r a) × (option_map_or (is_in D) (node_of (E.place k)) false ≡ false)
@@ -59,7 +54,7 @@ module _ (D E : Document) (n : NodeId) (x : IsExtendedBy D E) (known : IsSome (D
       new_one b g r f h =
           let row = one_row o.cell o.node r o.node (x.after.own_cell o.node r o.cell f) v in
           let old : option_map_or (is_in D) (node_of (E.place o.node)) false ≡ true = ap (λ s. option_map_or (is_in D) (node_of s) false) f ∙ ap (is_in D) row ∙ known in
-          absurd (true_false old (g ∙ h))
+          absurd (true-false old (g ∙ h))
 
       go : (b : Bool) → is_in D o.node ≡ b → (r : NodeId) → place_back D E o.node ≡ Spot.Row r o.cell → is_full_in (content D n) o.cell ≡ true
       go true f r h = stands r (sym (back_old D E x o.node f) ∙ h)
@@ -68,7 +63,7 @@ module _ (D E : Document) (n : NodeId) (x : IsExtendedBy D E) (known : IsSome (D
   back : (o : Owned) → Has (E.rows n) o → is_full_in (content D n) o.cell ≡ true → is_cell o.cell (place_back D E o.node) ≡ true
   back o v e =
       let r = has_any (λ (s : Slot). s.full && same_cell s.cell o.cell) (content D n) e in
-      let t = and_parts r.0.full (same_cell r.0.cell o.cell) r.2 in
+      let t = and-true r.0.full (same_cell r.0.cell o.cell) r.2 in
       let q = is_slot D n r.0 r.1 in
       let cell : q.0.cell ≡ o.cell = ap (λ (s : Slot). s.cell) q.2 ∙ same_cell-true r.0.cell o.cell t.1 in
       let same : q.0 ≡ o = distinct-has (λ (p : Owned). p.cell) (E.rows n) q.0 o (x.after.once n) (has_later (x.rows n) q.0 q.1) v cell in
@@ -78,7 +73,7 @@ module _ (D E : Document) (n : NodeId) (x : IsExtendedBy D E) (known : IsSome (D
 
   back_slots : (os : List Owned) → ((o : Owned) → Has os o → Has (E.rows n) o) → map (slot (retreat D E)) os ≡ retreat_to (content D n) (map (slot E) os)
   back_slots [] h = refl
-  back_slots (o ∷ os) h = λ i. record { cell = o.cell; node = o.node; full = one_test (is_cell o.cell (place_back D E o.node)) (is_full_in (content D n) o.cell) (forth o (h o (inl refl))) (back o (h o (inl refl))) i } ∷ back_slots os (λ q v. h q (inr v)) i
+  back_slots (o ∷ os) h = λ i. record { cell = o.cell; node = o.node; full = both-ways-same (is_cell o.cell (place_back D E o.node)) (is_full_in (content D n) o.cell) (forth o (h o (inl refl))) (back o (h o (inl refl))) i } ∷ back_slots os (λ q v. h q (inr v)) i
 
   pub back_is : content (retreat D E) n ≡ retreat_to (content D n) (content E n)
   back_is = back_slots (E.rows n) (λ o v. v)

@@ -24,6 +24,7 @@ use Rattle.st_marks.proofs.Members.{flat_map-has, has-all}
 use Rattle.st_seq.specs.Changes.{StandsIn, goes_in_turn, interleaved_cells}
 use Rattle.st_seq.specs.Sequence.{RowPartsAreJoined, ListsNew, cells_of, row_part_of}
 use Rattle.st_seq.proofs.Documents.{in_document, is_slot, not_made}
+use Rattle.st_marks.proofs.Shared.{old_put}
 
 -- ## Names
 
@@ -52,12 +53,6 @@ none_of None h = refl
 none_of (Some x) h = absurd (h refl)
 
 -- ## Puts
-
-old_put : (o : Option To) → option_and_then (put_unless_new false) o ≡ o
-old_put None = refl
-old_put (Some To.Nowhere) = refl
-old_put (Some (To.Cell c)) = refl
-old_put (Some (To.Register f)) = refl
 
 -- seen from a cell, a put into a register and one that leads nowhere are alike
 cleared_alike : (M : Intent) (o : Option To) (a : CellId) → how (option_map (unless_cleared_by M) o) (To.Cell a) ≡ how o (To.Cell a)

@@ -14,11 +14,11 @@ use Rattle.st_marks.specs.declared.places.Slot.{Slot}
 use Rattle.st_marks.specs.Document.{root}
 use Rattle.st_marks.specs.Embedding.{is_among}
 use Rattle.st_marks.specs.Extends.{no_more, item_gained, item_kept}
-use Rattle.st_seq.proofs.Truth.{true_false}
 use Rattle.st_seq.specs.Sequence.{SeqPart, RowCanHold, RowFits, RowKeeps, RowLeadsOver, cells_of, row_carried, row_change_of}
 use Rattle.st_seq.specs.declared.values.RowChange.{RowChange}
 use Rattle.st_seq.specs.declared.values.RowHeld.{RowHeld}
 use Rattle.st_seq.specs.declared.values.RowStep.{RowStep}
+use Rattle.st_lemmas.proofs.Bools.{true-false}
 
 abbrev node : ℕ → NodeId
 node s = record { 0 = record { rev = record { session = s; num = 1 }; at = 0 } }
@@ -134,7 +134,7 @@ fits_none = record {
   own_made = ((λ n e. sym (put_new n (cell 2) e).0), tt);
   root_stays = root_stays;
   somewhere = λ n e. not_nowhere n;
-  mentions = λ n h e. absurd (true_false (put_some n h) e);
+  mentions = λ n h e. absurd (true-false (put_some n h) e);
 }
 
 fits_one : (full : Bool) → RowFits adds (held full)
@@ -154,7 +154,7 @@ fits_one full = record {
   own_made = ((λ n e. sym (put_new n (cell 2) e).0), tt);
   root_stays = root_stays;
   somewhere = λ n e. not_nowhere n;
-  mentions = λ n h e. absurd (true_false (put_some n h) e);
+  mentions = λ n h e. absurd (true-false (put_some n h) e);
 }
 
 keeps : (c d : List Slot) → (Has (cells_of d) (cell 2) → ⊥) → RowKeeps adds.part c d

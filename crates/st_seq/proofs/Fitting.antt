@@ -18,8 +18,9 @@ use Rattle.st_seq.specs.Rows.{IsRowStep, NamesLeavers, NamesMoved}
 use Rattle.st_seq.specs.Sequence.{SeqPart, RowCanHold, RowFits, RowLeadsOver, row_carried, RowKeeps, cells_of, row_change_of}
 use Rattle.st_seq.specs.declared.values.RowChange.{RowChange}
 use Rattle.st_seq.proofs.Bridged.{placed_new}
-use Rattle.st_seq.proofs.Composed.{grows_on, or_left, or_right}
+use Rattle.st_seq.proofs.Composed.{grows_on}
 use Rattle.st_seq.proofs.Effected.{behind_made, grown_cells, grown_row}
+use Rattle.st_lemmas.proofs.Bools.{or-left, or-right}
 
 -- ## Its change
 
@@ -110,10 +111,10 @@ moved_in_turn m k (item_kept b h) (item_gained g) l r = moved_in_turn m k h g l 
 moved_in_turn m k (item_kept {y = u} b h) (item_kept {x = s} {y = t} a g) l r = (moved s.full t.full u.full l.0 (λ q. ap k a.1 ∙ r.0 q), moved_in_turn m k h g l.1 r.1)
   where
     moved : (x y z : Bool) → (x ≢ y → m s.node ≡ true) → (y ≢ z → k s.node ≡ true) → x ≢ z → (m s.node || k s.node) ≡ true
-    moved true true z f g q = or_right (m s.node) (k s.node) (g q)
-    moved true false z f g q = or_left (m s.node) (k s.node) (f (λ e. cc))
-    moved false false z f g q = or_right (m s.node) (k s.node) (g q)
-    moved false true z f g q = or_left (m s.node) (k s.node) (f (λ e. cc))
+    moved true true z f g q = or-right (m s.node) (k s.node) (g q)
+    moved true false z f g q = or-left (m s.node) (k s.node) (f (λ e. cc))
+    moved false false z f g q = or-right (m s.node) (k s.node) (g q)
+    moved false true z f g q = or-left (m s.node) (k s.node) (f (λ e. cc))
 
 -- ## Steps of a change
 

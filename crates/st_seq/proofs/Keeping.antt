@@ -6,7 +6,7 @@ use Rattle.std.specs.declared.cmp.Ordering.{Ordering}
 use Rattle.std.specs.declared.cmp.Ordering.TheVariants.{Less, Equal, Greater}
 use Rattle.st_ids.specs.Listing.{AreDistinct, Has}
 use Rattle.st_ids.specs.Order.{same_cell, same_node, same_rev, rev_cmp}
-use Rattle.st_ids.proofs.Orders.{same_cell-true, same_node-true, same_node-itself, rev_cmp_total}
+use Rattle.st_ids.proofs.Orders.{same_cell-true, same_node-true, same_node-itself, rev_cmp_total, same_rev-true}
 use Rattle.st_ids.specs.declared.names.CellId.{CellId}
 use Rattle.st_ids.specs.declared.names.NodeId.{NodeId}
 use Rattle.st_ids.specs.declared.names.Rev.{Rev}
@@ -21,7 +21,7 @@ use Rattle.st_marks.specs.Row.{CellMark, Counted, Gap, Touch, Make, Fill, RowPar
 use Rattle.st_marks.specs.How.{is_here}
 use Rattle.st_marks.specs.Listings.{cells_before, cells_in}
 use Rattle.st_marks.proofs.Members.{all-has, has-all, append_left, append_right, has-append, map-has, has-map, distinct-append, distinct-between, distinct-left, distinct-right}
-use Rattle.st_seq.proofs.Truth.{and_parts, and_true, not_so, off, on}
+use Rattle.st_seq.proofs.Truth.{and_true, on}
 use Rattle.st_seq.specs.Views.{row_views}
 use Rattle.st_seq.specs.inside.Views.{first_difference}
 use Rattle.st_seq.specs.Changes.{AreOld}
@@ -34,17 +34,18 @@ use Rattle.st_seq.proofs.Laid.{none_lays, in_cells}
 use Rattle.st_seq.proofs.Leading.{row_itself}
 use Rattle.st_seq.proofs.Merging.{AllStand, Stands, merge-stands, stands-merge}
 use Rattle.st_seq.proofs.Rebased.{same_put}
-use Rattle.st_seq.proofs.Telling.{any_has, has_any, none_any, same_rev-true, told, told_fits, told_row}
+use Rattle.st_seq.proofs.Telling.{any_has, has_any, none_any, told, told_fits, told_row}
+use Rattle.st_lemmas.proofs.Bools.{and-true, refuted-false, not-true}
 
 -- ## Tests and what they tell
 
 normal_stands : (ms : List Mark) → is_normal ms ≡ true → AllStand ms
 normal_stands [] h = tt
-normal_stands (m ∷ ms) h = let p = and_parts (stands_before m ms) (is_normal ms) h in (stands m p.0, normal_stands ms p.1)
+normal_stands (m ∷ ms) h = let p = and-true (stands_before m ms) (is_normal ms) h in (stands m p.0, normal_stands ms p.1)
   where
     stands : (m : Mark) → stands_before m ms ≡ true → Stands m ms
     stands (Mark.Skip zero) e = cc
-    stands (Mark.Skip (suc k)) e = off (begins_with_skip ms) e
+    stands (Mark.Skip (suc k)) e = not-true (begins_with_skip ms) e
     stands (Mark.Gap c) e = tt
     stands (Mark.Touch c n h) e = tt
     stands (Mark.Make c n b) e = tt
@@ -64,7 +65,7 @@ stands_normal (m ∷ ms) h = and_true (stands m h.0) (stands_normal ms h.1)
 
 old_told : (new : List NodeId) (c : List Slot) → list_all (λ (s : Slot). not (is_among new s.node)) c ≡ true → AreOld (is_among new) c
 old_told new [] h = tt
-old_told new (s ∷ c) h = let p = and_parts (not (is_among new s.node)) _ h in (off (is_among new s.node) p.0, old_told new c p.1)
+old_told new (s ∷ c) h = let p = and-true (not (is_among new s.node)) _ h in (not-true (is_among new s.node) p.0, old_told new c p.1)
 
 old_tested : (new : List NodeId) (c : List Slot) → AreOld (is_among new) c → list_all (λ (s : Slot). not (is_among new s.node)) c ≡ true
 old_tested new [] h = refl
@@ -82,10 +83,10 @@ same_rev-itself a b e = ap (λ x. is_eq (rev_cmp a x)) (sym e) ∙ tied (rev_cmp
 new_told : (rev : Rev) (new : List NodeId) → list_all (λ (n : NodeId). same_rev n.0.rev rev && not (same_node n root)) new ≡ true → AllByRecursion (λ (n : NodeId). n.0.rev ≡ rev) new × (is_among new root ≡ false)
 new_told rev [] h = (tt, refl)
 new_told rev (n ∷ new) h =
-    let p = and_parts (same_rev n.0.rev rev && not (same_node n root)) _ h in
-    let q = and_parts (same_rev n.0.rev rev) _ p.0 in
+    let p = and-true (same_rev n.0.rev rev && not (same_node n root)) _ h in
+    let q = and-true (same_rev n.0.rev rev) _ p.0 in
     let r = new_told rev new p.1 in
-    ((same_rev-true n.0.rev rev q.0, r.0), λ i. off (same_node n root) q.1 i || r.1 i)
+    ((same_rev-true n.0.rev rev q.0, r.0), λ i. not-true (same_node n root) q.1 i || r.1 i)
 
 or_off : (a b : Bool) → (a || b) ≡ false → (a ≡ false) × (b ≡ false)
 or_off true b e = cc
@@ -206,17 +207,17 @@ module _ (p : RowPart) (rev : Rev) (c : List Slot) (all : List CellMark) where
   no_more n a e (Counted ∷ xs) g o = no_more n a e xs g.1 o
   no_more n a e (Gap d ∷ xs) g o = no_more n a e xs g.1 o.1
   no_more n a e (Touch d m Stay ∷ xs) g o = no_more n a e xs g.1 o.1
-  no_more n a e (Touch d m Here ∷ xs) g o = λ i. not_so (same_node m n) (λ q. o.0 (one_to n a d e (ap p.target_of (sym (same_node-true m n q)) ∙ g.0 refl))) i || no_more n a e xs g.1 o.1 i
+  no_more n a e (Touch d m Here ∷ xs) g o = λ i. refuted-false (same_node m n) (λ q. o.0 (one_to n a d e (ap p.target_of (sym (same_node-true m n q)) ∙ g.0 refl))) i || no_more n a e xs g.1 o.1 i
   no_more n a e (Touch d m Leave ∷ xs) g o = no_more n a e xs g.1 o.1
-  no_more n a e (Make d m b ∷ xs) g o = λ i. not_so (b && same_node m n) (λ q. let z = and_parts b (same_node m n) q in o.0 (one_to n a d e (ap p.target_of (sym (same_node-true m n z.1)) ∙ g.0.3 z.0))) i || no_more n a e xs g.1 o.1 i
-  no_more n a e (Fill d m ∷ xs) g o = λ i. not_so (same_node m n) (λ q. o.0 (one_to n a d e (ap p.target_of (sym (same_node-true m n q)) ∙ g.0.1))) i || no_more n a e xs g.1 o.1 i
+  no_more n a e (Make d m b ∷ xs) g o = λ i. refuted-false (b && same_node m n) (λ q. let z = and-true b (same_node m n) q in o.0 (one_to n a d e (ap p.target_of (sym (same_node-true m n z.1)) ∙ g.0.3 z.0))) i || no_more n a e xs g.1 o.1 i
+  no_more n a e (Fill d m ∷ xs) g o = λ i. refuted-false (same_node m n) (λ q. o.0 (one_to n a d e (ap p.target_of (sym (same_node-true m n q)) ∙ g.0.1))) i || no_more n a e xs g.1 o.1 i
 
   no_cell : (a : CellId) (xs : List CellMark) → Others a xs → list_any (makes_cell a) xs ≡ false
   no_cell a [] o = refl
   no_cell a (Counted ∷ xs) o = no_cell a xs o
   no_cell a (Gap d ∷ xs) o = no_cell a xs o.1
   no_cell a (Touch d m h ∷ xs) o = no_cell a xs o.1
-  no_cell a (Make d m b ∷ xs) o = λ i. not_so (same_cell d a) (λ q. o.0 (same_cell-true d a q)) i || no_cell a xs o.1 i
+  no_cell a (Make d m b ∷ xs) o = λ i. refuted-false (same_cell d a) (λ q. o.0 (same_cell-true d a q)) i || no_cell a xs o.1 i
   no_cell a (Fill d m ∷ xs) o = no_cell a xs o.1
 
   good_allowed : (xs : List CellMark) → AllByRecursion Good xs → AreDistinct (λ (d : CellId). d) (cells_in xs) → are_allowed rev c all xs ≡ true
@@ -262,10 +263,10 @@ module _ (p : SeqPart) (c : List Slot) (w : RowFits p c) where
       ∙ puts_touch (p.part.target_of s.node) s.cell s.node n put ∙ ap (λ m. same_node m n) e ∙ same_node-itself n
 
   may_be : (n : NodeId) → (n ≢ root) → ((s : Slot) → Has c s → s.node ≡ n → p.part.target_of n ≢ None) → may_put c all n ≡ true
-  may_be n r h = and_true (on (same_node n root) (not_so (same_node n root) (λ e. r (same_node-true n root e)))) (elim (stands_in c n) as (λ z. stands_in c n ≡ z → (not z || list_any (puts_found n) all) ≡ true) [
+  may_be n r h = and_true (on (same_node n root) (refuted-false (same_node n root) (λ e. r (same_node-true n root e)))) (elim (stands_in c n) as (λ z. stands_in c n ≡ z → (not z || list_any (puts_found n) all) ≡ true) [
     | true ↦ (λ e.
         let q = has_any (λ (s : Slot). s.full && same_node s.node n) c e in
-        let t = and_parts (q.0.full) (same_node q.0.node n) q.2 in
+        let t = and-true (q.0.full) (same_node q.0.node n) q.2 in
         let same = same_node-true q.0.node n t.1 in
         any_has (puts_found n) all (embed_cell p.part q.0.cell q.0.node q.0.full) (append_right (embed_made p.part (p.part.new_cells None)) (embed_cells p.part c) (embed_cell p.part q.0.cell q.0.node q.0.full) (embedded p.part c q.0 q.1)) (puts_it q.0 q.1 t.0 n same (h q.0 q.1 same)))
     | false ↦ (λ e. refl)

@@ -12,14 +12,15 @@ use Rattle.st_marks.specs.declared.places.Slot.{Slot}
 use Rattle.st_marks.specs.Row.{CellMark, Counted, Gap, Touch, Make, Fill, RowPart, how, embed_cell, embed_made, embed_cells}
 use Rattle.st_marks.specs.How.{is_here}
 use Rattle.st_marks.specs.Listings.{cell_view, cells_before}
-use Rattle.st_seq.proofs.Truth.{and_parts}
 use Rattle.st_seq.specs.Views.{row_views}
-use Rattle.st_seq.specs.inside.Views.{agree, first_difference, same_bool, view_before}
+use Rattle.st_seq.specs.inside.Views.{agree, first_difference, view_before}
 use Rattle.st_seq.specs.Changes.{StandsIn}
 use Rattle.st_seq.specs.Laws.{not_again}
 use Rattle.st_seq.specs.inside.Reading.{is_made}
 use Rattle.st_seq.specs.Sequence.{cells_of, standing}
 use Rattle.st_seq.proofs.Retreating.{stands_not, stand_others}
+use Rattle.st_seq.proofs.Differences.{bools-same}
+use Rattle.st_lemmas.proofs.Bools.{and-true}
 
 -- what a mark says of a cell is true of it
 abbrev pub Says : Slot → CellMark → Type 0
@@ -37,18 +38,12 @@ pub data Lays : List Slot → List CellMark → Type 0 where
 
 -- ## From the search for a difference
 
-same_full : (a b : Bool) → same_bool a b ≡ true → a ≡ b
-same_full true true e = refl
-same_full true false e = cc
-same_full false true e = cc
-same_full false false e = refl
-
 says_seen : (s : Slot) (x : CellMark) → is_made x ≡ false → agree (cell_view s.cell s.node s.full) (view_before x) ≡ true → Says s x
-says_seen s Counted m e = let p = and_parts _ _ (and_parts _ _ e).0 in same_full s.full true p.0
-says_seen s (Gap a) m e = let p = and_parts _ _ (and_parts _ _ e).0 in (same_cell-true s.cell a p.1, same_full s.full false p.0)
-says_seen s (Touch a n h) m e = let q = and_parts _ _ e in let p = and_parts _ _ q.0 in (same_cell-true s.cell a p.1, same_node-true s.node n q.1, same_full s.full true p.0)
+says_seen s Counted m e = let p = and-true _ _ (and-true _ _ e).0 in bools-same s.full true p.0
+says_seen s (Gap a) m e = let p = and-true _ _ (and-true _ _ e).0 in (same_cell-true s.cell a p.1, bools-same s.full false p.0)
+says_seen s (Touch a n h) m e = let q = and-true _ _ e in let p = and-true _ _ q.0 in (same_cell-true s.cell a p.1, same_node-true s.node n q.1, bools-same s.full true p.0)
 says_seen s (Make a n b) m e = cc
-says_seen s (Fill a n) m e = let q = and_parts _ _ e in let p = and_parts _ _ q.0 in (same_cell-true s.cell a p.1, same_node-true s.node n q.1, same_full s.full false p.0)
+says_seen s (Fill a n) m e = let q = and-true _ _ e in let p = and-true _ _ q.0 in (same_cell-true s.cell a p.1, same_node-true s.node n q.1, bools-same s.full false p.0)
 
 none_more : (b : Bool) (o : Option ℕ) → cond b (option_map (λ k. k + 1) o) (Some 0) ≡ None → (b ≡ true) × (o ≡ None)
 none_more true None e = (refl, refl)

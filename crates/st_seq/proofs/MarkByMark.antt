@@ -11,7 +11,7 @@ pub map-counted : (f : CellMark → CellMark) (k : ℕ) → f Counted ≡ Counte
 map-counted f zero e = refl
 map-counted f (suc k) e = λ i. sym e i ∷ map-counted f k e i
 
-more_cells : (ms : List Mark) (i : ℕ) (m : Mark) → i < length ms → get_or ms i m ≡ m → spread (take (i + 1) ms) ≡ spread (take i ms) ++ spread (m ∷ [])
+pub more_cells : (ms : List Mark) (i : ℕ) (m : Mark) → i < length ms → get_or ms i m ≡ m → spread (take (i + 1) ms) ≡ spread (take i ms) ++ spread (m ∷ [])
 more_cells ms i m l e = ap spread (take_more ms i m l ∙ ap (λ y. take i ms ++ y ∷ []) e) ∙ spread-append (take i ms) (m ∷ [])
 
 pub map_more : (f : CellMark → CellMark) (ms : List Mark) (i : ℕ) (m : Mark) → i < length ms → get_or ms i m ≡ m → map f (spread (take (i + 1) ms)) ≡ map f (spread (take i ms)) ++ map f (spread (m ∷ []))

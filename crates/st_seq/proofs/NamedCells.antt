@@ -8,16 +8,16 @@ use Rattle.st_ids.specs.Order.{same_cell}
 use Rattle.st_ids.proofs.Orders.{same_cell-itself, same_cell-true}
 use Rattle.st_ids.specs.declared.names.Atom.{Atom}
 use Rattle.st_ids.specs.declared.names.CellId.{CellId}
-use Rattle.st_marks.proofs.MarkLengths.{spread-append, before_more, after_more}
+use Rattle.st_marks.proofs.MarkLengths.{spread-append, before_more, after_more, after-append as cells_after-append, before-append as cells_before-append}
 use Rattle.st_marks.specs.declared.marks.Mark.{Mark}
 use Rattle.st_marks.specs.declared.places.Slot.{Slot}
 use Rattle.st_marks.specs.Row.{CellMark, Counted, Gap, Touch, Make, Fill, counted, spread}
-use Rattle.st_marks.specs.Listings.{CellView, cells_after, cells_before, counted_view, empty_view, cell_view}
-use Rattle.st_marks.specs.How.{is_leave}
+use Rattle.st_marks.specs.Listings.{CellView, cells_after, cells_before, cell_view}
 use Rattle.st_seq.specs.Views.{row_views}
 use Rattle.st_seq.specs.NamedApart.{stands_at, standing_at, found_at, made_at, named_before, named_after, named_in_row, first_named, same_atom, CantBoth, NamedApart, named_apart}
 use Rattle.st_seq.specs.inside.NamedApart.{lesser, clash_with, first_clash, IsPlace}
 use Rattle.st_seq.specs.declared.name_clashes.NamedAt.{NamedAt}
+use Rattle.st_seq.proofs.MarkByMark.{more_cells}
 
 -- ## Marks one after another
 
@@ -56,23 +56,19 @@ pub counted-after : (j k : ℕ) → named_after k (counted j []) ≡ []
 counted-after zero k = refl
 counted-after (suc j) k = counted-after j (suc k)
 
--- one mark more
-pub one_more : (ms : List Mark) (i : ℕ) (m : Mark) → i < length ms → get_or ms i m ≡ m → spread (take (i + 1) ms) ≡ spread (take i ms) ++ spread (m ∷ [])
-one_more ms i m l e = ap spread (take_more ms i m l ∙ ap (λ y. take i ms ++ y ∷ []) e) ∙ spread-append (take i ms) (m ∷ [])
-
 pub before_on : (ms : List Mark) (i left : ℕ) (d : Mark) (out new one : List NamedAt) → i < length ms → out ≡ named_before 0 (spread (take i ms)) → left ≡ length (cells_before (spread (take i ms)))
     → named_before left (spread (get_or ms i d ∷ [])) ≡ one → new ≡ out ++ one → new ≡ named_before 0 (spread (take (i + 1) ms))
 before_on ms i left d out new one l o a e n =
     n ∙ (λ j. o j ++ sym e j) ∙ ap (λ k. named_before 0 (spread (take i ms)) ++ named_before k (spread (get_or ms i d ∷ []))) (a ∙ none_left (length (cells_before (spread (take i ms)))))
     ∙ sym (named_before-append 0 (spread (take i ms)) (spread (get_or ms i d ∷ [])))
-    ∙ ap (named_before 0) (sym (one_more ms i (get_or ms i d) l (get_or_default ms i (get_or ms i d) d l)))
+    ∙ ap (named_before 0) (sym (more_cells ms i (get_or ms i d) l (get_or_default ms i (get_or ms i d) d l)))
 
 pub after_on : (ms : List Mark) (i left : ℕ) (d : Mark) (out new one : List NamedAt) → i < length ms → out ≡ named_after 0 (spread (take i ms)) → left ≡ length (cells_after (spread (take i ms)))
     → named_after left (spread (get_or ms i d ∷ [])) ≡ one → new ≡ out ++ one → new ≡ named_after 0 (spread (take (i + 1) ms))
 after_on ms i left d out new one l o a e n =
     n ∙ (λ j. o j ++ sym e j) ∙ ap (λ k. named_after 0 (spread (take i ms)) ++ named_after k (spread (get_or ms i d ∷ []))) (a ∙ none_left (length (cells_after (spread (take i ms)))))
     ∙ sym (named_after-append 0 (spread (take i ms)) (spread (get_or ms i d ∷ [])))
-    ∙ ap (named_after 0) (sym (one_more ms i (get_or ms i d) l (get_or_default ms i (get_or ms i d) d l)))
+    ∙ ap (named_after 0) (sym (more_cells ms i (get_or ms i d) l (get_or_default ms i (get_or ms i d) d l)))
 
 taken : (c : List Slot) (i : ℕ) → i < length c → length (take i c) ≡ i
 taken [] i l = absurd (omega (arith, l))
@@ -141,22 +137,6 @@ standing_at-append k (s ∷ X) Y =
     ap (λ l. stands_at s.full s.node k ++ l) (standing_at-append (suc k) X Y ∙ ap (λ j. standing_at (suc k) X ++ standing_at j Y) (moved_on k (length X)))
     ∙ sym (both_lists (stands_at s.full s.node k) (standing_at (suc k) X) (standing_at (k + suc (length X)) Y))
 
-pub cells_before-append : (xs ys : List CellMark) → cells_before (xs ++ ys) ≡ cells_before xs ++ cells_before ys
-cells_before-append [] ys = refl
-cells_before-append (Counted ∷ xs) ys = ap (λ l. counted_view ∷ l) (cells_before-append xs ys)
-cells_before-append (Gap c ∷ xs) ys = ap (λ l. empty_view c ∷ l) (cells_before-append xs ys)
-cells_before-append (Touch c n h ∷ xs) ys = ap (λ l. cell_view c n true ∷ l) (cells_before-append xs ys)
-cells_before-append (Make c n b ∷ xs) ys = cells_before-append xs ys
-cells_before-append (Fill c n ∷ xs) ys = ap (λ l. cell_view c n false ∷ l) (cells_before-append xs ys)
-
-cells_after-append : (xs ys : List CellMark) → cells_after (xs ++ ys) ≡ cells_after xs ++ cells_after ys
-cells_after-append [] ys = refl
-cells_after-append (Counted ∷ xs) ys = ap (λ l. counted_view ∷ l) (cells_after-append xs ys)
-cells_after-append (Gap c ∷ xs) ys = ap (λ l. empty_view c ∷ l) (cells_after-append xs ys)
-cells_after-append (Touch c n h ∷ xs) ys = ap (λ l. cell_view c n (not (is_leave h)) ∷ l) (cells_after-append xs ys)
-cells_after-append (Make c n b ∷ xs) ys = ap (λ l. cell_view c n b ∷ l) (cells_after-append xs ys)
-cells_after-append (Fill c n ∷ xs) ys = ap (λ l. cell_view c n true ∷ l) (cells_after-append xs ys)
-
 -- counted cells name no node
 pub counted-standing_before : (j k : ℕ) → standing_at k (cells_before (counted j [])) ≡ []
 counted-standing_before zero k = refl
@@ -174,13 +154,13 @@ pub standing_before_on : (ms : List Mark) (i left : ℕ) (d : Mark) (out new one
     → standing_at left (cells_before (spread (get_or ms i d ∷ []))) ≡ one → new ≡ out ++ one → new ≡ standing_at 0 (cells_before (spread (take (i + 1) ms)))
 standing_before_on ms i left d out new one l o a e n =
     standing_on (cells_before (spread (take i ms))) (cells_before (spread (get_or ms i d ∷ []))) left out new one o a e n
-    ∙ ap (standing_at 0) (sym (cells_before-append (spread (take i ms)) (spread (get_or ms i d ∷ []))) ∙ ap cells_before (sym (one_more ms i (get_or ms i d) l (get_or_default ms i (get_or ms i d) d l))))
+    ∙ ap (standing_at 0) (sym (cells_before-append (spread (take i ms)) (spread (get_or ms i d ∷ []))) ∙ ap cells_before (sym (more_cells ms i (get_or ms i d) l (get_or_default ms i (get_or ms i d) d l))))
 
 pub standing_after_on : (ms : List Mark) (i left : ℕ) (d : Mark) (out new one : List NamedAt) → i < length ms → out ≡ standing_at 0 (cells_after (spread (take i ms))) → left ≡ length (cells_after (spread (take i ms)))
     → standing_at left (cells_after (spread (get_or ms i d ∷ []))) ≡ one → new ≡ out ++ one → new ≡ standing_at 0 (cells_after (spread (take (i + 1) ms)))
 standing_after_on ms i left d out new one l o a e n =
     standing_on (cells_after (spread (take i ms))) (cells_after (spread (get_or ms i d ∷ []))) left out new one o a e n
-    ∙ ap (standing_at 0) (sym (cells_after-append (spread (take i ms)) (spread (get_or ms i d ∷ []))) ∙ ap cells_after (sym (one_more ms i (get_or ms i d) l (get_or_default ms i (get_or ms i d) d l))))
+    ∙ ap (standing_at 0) (sym (cells_after-append (spread (take i ms)) (spread (get_or ms i d ∷ []))) ∙ ap cells_after (sym (more_cells ms i (get_or ms i d) l (get_or_default ms i (get_or ms i d) d l))))
 
 row_seen-append : (c d : List Slot) → row_views (c ++ d) ≡ row_views c ++ row_views d
 row_seen-append [] d = refl

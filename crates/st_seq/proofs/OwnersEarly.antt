@@ -23,13 +23,16 @@ use Rattle.st_seq.specs.Sequence.{RowFits, SeqPart, row_carried, row_change_of}
 use Rattle.st_seq.specs.declared.values.RowChange.{RowChange}
 use Rattle.st_seq.proofs.Described.{DescribeAll, IfTold}
 use Rattle.st_seq.proofs.NodesOnce.{change_before}
-use Rattle.st_seq.proofs.Truth.{not_so, true_false}
 use Rattle.st_seq.specs.NamedApart.{found_at, first_named, same_atom}
 use Rattle.st_seq.specs.inside.NamedApart.{IsPlace, lesser}
 use Rattle.st_seq.specs.OwnedEarly.{OwnedEarly, owned_early}
 use Rattle.st_seq.specs.inside.OwnedEarly.{has_name, early_place, first_early}
 use Rattle.st_seq.specs.declared.name_clashes.NamedAt.{NamedAt}
-use Rattle.st_seq.proofs.NamedCells.{lesser-assoc, cells_before-append, one_more, none_left, moved_on, same_atom-itself, same_atom-true}
+use Rattle.st_seq.proofs.NamedCells.{lesser-assoc, none_left, moved_on, same_atom-itself, same_atom-true}
+use Rattle.st_lemmas.proofs.Lists.{map-append}
+use Rattle.st_lemmas.proofs.Bools.{refuted-false, true-false}
+use Rattle.st_marks.proofs.MarkLengths.{before-append}
+use Rattle.st_seq.proofs.MarkByMark.{more_cells}
 
 -- ## One mark more
 
@@ -44,7 +47,7 @@ pub early_on : (N M : List NamedAt) (ms : List Mark) (i left : ℕ) (d : Mark) (
 early_on N M ms i left d old one new l o a e n =
     n ∙ (λ j. lesser (o j) (e j)) ∙ ap (λ k. lesser (first_early N M 0 (cells_before (spread (take i ms)))) (first_early N M k (cells_before (spread (get_or ms i d ∷ []))))) (a ∙ none_left (length (cells_before (spread (take i ms)))))
     ∙ sym (first_early-append N M 0 (cells_before (spread (take i ms))) (cells_before (spread (get_or ms i d ∷ []))))
-    ∙ ap (first_early N M 0) (sym (cells_before-append (spread (take i ms)) (spread (get_or ms i d ∷ []))) ∙ ap cells_before (sym (one_more ms i (get_or ms i d) l (get_or_default ms i (get_or ms i d) d l))))
+    ∙ ap (first_early N M 0) (sym (before-append (spread (take i ms)) (spread (get_or ms i d ∷ []))) ∙ ap cells_before (sym (more_cells ms i (get_or ms i d) l (get_or_default ms i (get_or ms i d) d l))))
 
 pub counted-early : (N M : List NamedAt) (j k : ℕ) → first_early N M k (cells_before (counted j [])) ≡ None
 counted-early N M zero k = refl
@@ -58,10 +61,6 @@ cells_made-append (Touch c n h ∷ xs) ys = cells_made-append xs ys
 cells_made-append (Make c n b ∷ xs) ys = ap (λ l. c ∷ l) (cells_made-append xs ys)
 cells_made-append (Fill c n ∷ xs) ys = cells_made-append xs ys
 
-map-append : {A B : Type 0} (f : A → B) (xs ys : List A) → map f (xs ++ ys) ≡ map f xs ++ map f ys
-map-append f [] ys = refl
-map-append f (x ∷ xs) ys = ap (λ l. f x ∷ l) (map-append f xs ys)
-
 -- the names of cells and of nodes
 abbrev cell_name : CellId → NamedAt
 cell_name c = found_at c.0 0
@@ -73,7 +72,7 @@ pub made_on : (ms : List Mark) (i : ℕ) (d : Mark) (out new one : List NamedAt)
     → new ≡ map cell_name (cells_made (spread (take (i + 1) ms)))
 made_on ms i d out new one l o e n =
     n ∙ (λ j. o j ++ sym e j) ∙ sym (map-append cell_name (cells_made (spread (take i ms))) (cells_made (spread (get_or ms i d ∷ []))))
-    ∙ ap (map cell_name) (sym (cells_made-append (spread (take i ms)) (spread (get_or ms i d ∷ []))) ∙ ap cells_made (sym (one_more ms i (get_or ms i d) l (get_or_default ms i (get_or ms i d) d l))))
+    ∙ ap (map cell_name) (sym (cells_made-append (spread (take i ms)) (spread (get_or ms i d ∷ []))) ∙ ap cells_made (sym (more_cells ms i (get_or ms i d) l (get_or_default ms i (get_or ms i d) d l))))
 
 pub counted-made : (j : ℕ) → map cell_name (cells_made (counted j [])) ≡ []
 counted-made zero = refl
@@ -112,9 +111,9 @@ tell_one N M k s = go s.cell s.node refl refl
     go (Some a) (Some m) e f = by (has_name N m.0) refl (has_name M a.0) refl
       where
         by : (u : Bool) → has_name N m.0 ≡ u → (v : Bool) → has_name M a.0 ≡ v → OneTold N M k s (cond (u && not v) (Some k) None)
-        by true g true i = λ c n b h x y. true_false i (ap (λ (z : CellId). has_name M z.0) (one_cell a c (sym e ∙ ap (λ (v : CellView). v.cell) h)) ∙ y)
+        by true g true i = λ c n b h x y. true-false i (ap (λ (z : CellId). has_name M z.0) (one_cell a c (sym e ∙ ap (λ (v : CellView). v.cell) h)) ∙ y)
         by true g false i = (refl, (a, m, s.full, (λ j. record { cell = e j; node = f j; full = s.full }), g, i))
-        by false g v i = λ c n b h x y. true_false (ap (λ (z : NodeId). has_name N z.0) (one_node m n (sym f ∙ ap (λ (v : CellView). v.node) h)) ∙ x) g
+        by false g v i = λ c n b h x y. true-false (ap (λ (z : NodeId). has_name N z.0) (one_node m n (sym f ∙ ap (λ (v : CellView). v.node) h)) ∙ x) g
 
 abbrev ListTold : List NamedAt → List NamedAt → ℕ → List CellView → Option ℕ → Type 0
 ListTold N M k X None = (i : ℕ) → IsEarly N M X i → ⊥
@@ -176,7 +175,7 @@ module _ (new : List NodeId) (xs ys : List CellMark) where
   to_owned k (c, n, b, e, x, y) =
       let r = listed (λ (m : NodeId). m.0) new n.0 x in
       let one : r.0 ≡ n = λ i. record { 0 = r.2 i } in
-      owned_early c n b k e (subst (Has new) one r.1) (λ h. true_false (named_there (λ (d : CellId). d.0) (cells_made xs) c h) y)
+      owned_early c n b k e (subst (Has new) one r.1) (λ h. true-false (named_there (λ (d : CellId). d.0) (cells_made xs) c h) y)
 
   of_owned : (k : ℕ) → OwnedEarly new xs ys k → IsEarly names made (cells_before ys) k
   unfolding names made
@@ -186,7 +185,7 @@ module _ (new : List NodeId) (xs ys : List CellMark) where
     b,
     e,
     named_there (λ (m : NodeId). m.0) new n h,
-    not_so (has_name (map cell_name (cells_made xs)) c.0) (λ t.
+    refuted-false (has_name (map cell_name (cells_made xs)) c.0) (λ t.
         let r = listed (λ (d : CellId). d.0) (cells_made xs) c.0 t in
         let one : r.0 ≡ c = λ i. record { 0 = r.2 i } in
         none (subst (Has (cells_made xs)) one r.1)),
@@ -262,6 +261,6 @@ never_early p q c x y w e v f _ (owned_early a n b k at has none) =
       | inl r ↦
           (let new : Has p.new n = subst (λ l. Has l n) (ap (λ (z : RowChange). z.new) e) has in
           let old : is_among p.new r.0.node ≡ false = all-has (λ (t : Slot). is_among p.new t.node ≡ false) c r.0 w.old r.1 in
-          true_false (has-any (λ (m : NodeId). same_node m n) p.new n new (same_node-itself n)) (ap (is_among p.new) (s.3 ∙ sym r.2) ∙ old))
+          true-false (has-any (λ (m : NodeId). same_node m n) p.new n new (same_node-itself n)) (ap (is_among p.new) (s.3 ∙ sym r.2) ∙ old))
       | inr r ↦ none (subst (λ l. Has (cells_made l) a) (sym (spread_of x.marks (embed_row p.part c) (ap (λ (z : RowChange). z.marks) e))) (subst (Has (cells_made (embed_row p.part c))) (sym s.2) r))
     ]

@@ -13,13 +13,12 @@ use Rattle.st_marks.specs.declared.places.Slot.{Slot}
 use Rattle.st_marks.specs.Document.{root}
 use Rattle.st_marks.specs.Extends.{GainsItems, no_more, item_gained, item_kept}
 use Rattle.st_marks.specs.Row.{CellMark, Counted, Touch, SameCell, merge, spread, step_cell, step_row}
-use Rattle.st_seq.proofs.Truth.{and_parts, not_so, or_split}
 use Rattle.st_seq.specs.Changes.{StandsIn}
 use Rattle.st_seq.specs.Laws.{has_grown, not_again, same_grown, spread_of}
 use Rattle.st_seq.specs.Rows.{IsRowStep, NamesMoved, retreat_row}
 use Rattle.st_seq.specs.Sequence.{RowCanHold, RowLeadsOver, brought, cells_of, is_full_in, retreat_to, standing}
-use Rattle.st_seq.proofs.Composed.{or_left, or_right}
 use Rattle.st_seq.proofs.Inverted.{backward}
+use Rattle.st_lemmas.proofs.Bools.{and-true, refuted-false, or-cases, or-left, or-right}
 
 -- ## By look-up
 
@@ -111,8 +110,8 @@ none_brought m c n false false x xs = refl
 
 brought_in : (m : Nodes) {c d : List Slot} (g : GainsItems SameCell c d) (n : NodeId) → brought (step_row m g) n ≡ true → StandsIn n d
 brought_in m no_more n e = cc
-brought_in m (item_gained {y = t} g) n e = elim (or_split (t.full && same_node t.node n) (brought (step_row m g) n) e) [
-  | inl f ↦ (let r = and_parts t.full (same_node t.node n) f in inl (same_node-true t.node n r.1, r.0))
+brought_in m (item_gained {y = t} g) n e = elim (or-cases (t.full && same_node t.node n) (brought (step_row m g) n) e) [
+  | inl f ↦ (let r = and-true t.full (same_node t.node n) f in inl (same_node-true t.node n r.1, r.0))
   | inr f ↦ inr (brought_in m g n f)
 ]
 brought_in m (item_kept {x = s} {y = t} a g) n e = inr (brought_in m g n (sym (none_brought m s.cell s.node s.full t.full n (step_row m g)) ∙ e))
@@ -148,8 +147,8 @@ stand_others s d = go s.full
 
 none_both : (m : Nodes) {c d : List Slot} (g : GainsItems SameCell c d) → AreDistinct (λ (n : NodeId). n) (standing d) → (n : NodeId) → brought (step_row m g) n ≡ true → StandsKept n g → ⊥
 none_both m no_more o n e k = k
-none_both m (item_gained {y = t} {ys = d} g) o n e k = elim (or_split (t.full && same_node t.node n) (brought (step_row m g) n) e) [
-  | inl f ↦ (let r = and_parts t.full (same_node t.node n) f in stands_not d t.node ((stand_others t d o).0 r.0) (subst (λ x. StandsIn x d) (sym (same_node-true t.node n r.1)) (kept_in g n k)))
+none_both m (item_gained {y = t} {ys = d} g) o n e k = elim (or-cases (t.full && same_node t.node n) (brought (step_row m g) n) e) [
+  | inl f ↦ (let r = and-true t.full (same_node t.node n) f in stands_not d t.node ((stand_others t d o).0 r.0) (subst (λ x. StandsIn x d) (sym (same_node-true t.node n r.1)) (kept_in g n k)))
   | inr f ↦ none_both m g (stand_others t d o).1 n f k
 ]
 none_both m (item_kept {x = s} {y = t} {ys = d} a g) o n e (inl w) =
@@ -175,12 +174,12 @@ back_named m b (item_kept {x = s} {y = t} a g) h = λ i. left_as m (either m b) 
 
 back_moved : (m b : Nodes) {c d : List Slot} (g : GainsItems SameCell c d) → NamesMoved m g → ((n : NodeId) → brought (step_row m g) n ≡ true → b n ≡ true) → NamesMoved (either m b) (backward g)
 back_moved m b no_more w h = tt
-back_moved m b (item_gained {y = t} g) w h = (λ q. or_right (m t.node) (b t.node) (h t.node (ap (λ x. x || brought (step_row m g) t.node) (λ i. full t.full q i && same_node-itself t.node i))), back_moved m b g w (λ n e. h n (or_right (t.full && same_node t.node n) (brought (step_row m g) n) e)))
+back_moved m b (item_gained {y = t} g) w h = (λ q. or-right (m t.node) (b t.node) (h t.node (ap (λ x. x || brought (step_row m g) t.node) (λ i. full t.full q i && same_node-itself t.node i))), back_moved m b g w (λ n e. h n (or-right (t.full && same_node t.node n) (brought (step_row m g) n) e)))
   where
     full : (x : Bool) → x ≢ false → x ≡ true
     full true q = refl
     full false q = absurd (q refl)
-back_moved m b (item_kept {x = s} {y = t} a g) w h = (λ q. or_left (m t.node) (b t.node) (ap m (sym a.1) ∙ w.0 (λ e. q (sym e))), back_moved m b g w.1 (λ n e. h n (none_brought m s.cell s.node s.full t.full n (step_row m g) ∙ e)))
+back_moved m b (item_kept {x = s} {y = t} a g) w h = (λ q. or-left (m t.node) (b t.node) (ap m (sym a.1) ∙ w.0 (λ e. q (sym e))), back_moved m b g w.1 (λ n e. h n (none_brought m s.cell s.node s.full t.full n (step_row m g) ∙ e)))
 
 pub back_leads : (m : Nodes) (c d : List Slot) (marks back : List Mark) (l : RowLeadsOver m c d marks) → IsRowStep m d (retreat_row l.step.grows) back → RowLeadsOver (either m (brought (spread marks))) d (retreat_to c d) back
 back_leads m c d marks back l r =
@@ -188,7 +187,7 @@ back_leads m c d marks back l r =
     let b = brought (spread marks) in
     let listed : (n : NodeId) → b n ≡ brought (step_row m g) n = λ n. ap (λ x. brought x n) (spread_of marks (step_row m g) l.step.says) in
     let holds = holds_back g l.before l.after in
-    let none : (n : NodeId) → StandsKept n g → b n ≡ false = λ n w. not_so (b n) (λ e. none_both m g l.after.stand_once n (sym (listed n) ∙ e) w) in
+    let none : (n : NodeId) → StandsKept n g → b n ≡ false = λ n w. refuted-false (b n) (λ e. none_both m g l.after.stand_once n (sym (listed n) ∙ e) w) in
     let step : IsRowStep (either m b) d (retreat_row g) back = record { grows = backward g; says = r.says ∙ ap merge ((same_grown m r.grows (backward g) holds.once).0 ∙ back_named m b g none) } in
     let one : RowLeadsOver (either m b) d (retreat_row g) back = record { before = l.after; after = holds; step = step; moved = back_moved m b g l.moved (λ n e. listed n ∙ e) } in
     subst (λ e. RowLeadsOver (either m b) d e back) (retreat_is c g l.after.once (λ a w. refl)) one

@@ -15,6 +15,8 @@ use Rattle.st_ids.proofs.Orders.{node_cmp_total, node_cmp_exact, same_node-true,
 use Rattle.st_ids.specs.declared.names.NodeId.{NodeId}
 use Rattle.st_marks.specs.Embedding.{is_among}
 use Rattle.st_seq.specs.inside.Sequence.{below_first}
+use Rattle.st_lemmas.proofs.Bools.{and-true, and-both}
+use Rattle.st_lemmas.proofs.Orders.{is_lt-Less}
 
 -- a node is found where it is
 one_way : (a b : NodeId) → is_eq (node_cmp a b) ≡ same_node b a
@@ -39,26 +41,14 @@ one_rising xs ys r q h = same_listing node_cmp_total node_cmp_exact (λ (x : Nod
 
 -- ## Node by node
 
-is_less : (o : Ordering) → is_lt o ≡ true → o ≡ Less
-is_less Less e = refl
-is_less Equal e = cc
-is_less Greater e = cc
-
-both_true : (a b : Bool) → a ≡ true → b ≡ true → (a && b) ≡ true
-both_true a b e f = rw (e, f) refl
-
-parts_true : (a b : Bool) → (a && b) ≡ true → (a ≡ true) × (b ≡ true)
-parts_true true b e = (refl, e)
-parts_true false b e = cc
-
 abbrev Below : NodeId → List NodeId → Type 0
 Below a xs = below_all node_cmp a (keyed (λ (x : NodeId). x) xs) ≡ true
 
 below_more : (a b : NodeId) (xs : List NodeId) → is_lt (node_cmp a b) ≡ true → Below b xs → Below a xs
 below_more a b [] e h = refl
 below_more a b (x ∷ xs) e h =
-    let r = parts_true (is_lt (node_cmp b x)) (below_all node_cmp b (keyed (λ (x : NodeId). x) xs)) h in
-    both_true (is_lt (node_cmp a x)) (below_all node_cmp a (keyed (λ (x : NodeId). x) xs)) (ap is_lt (node_cmp_total.trans a b x (is_less (node_cmp a b) e) (is_less (node_cmp b x) r.0))) (below_more a b xs e r.1)
+    let r = and-true (is_lt (node_cmp b x)) (below_all node_cmp b (keyed (λ (x : NodeId). x) xs)) h in
+    and-both (is_lt (node_cmp a x)) (below_all node_cmp a (keyed (λ (x : NodeId). x) xs)) (ap is_lt (node_cmp_total.trans a b x (is_lt-Less (node_cmp a b) e) (is_lt-Less (node_cmp b x) r.0))) (below_more a b xs e r.1)
 
 -- whether nodes rise
 abbrev pub rising : List NodeId → Bool
@@ -66,7 +56,7 @@ rising xs = is_sorted node_cmp (keyed (λ (x : NodeId). x) xs)
 
 rising_on : (a b : NodeId) (xs : List NodeId) → is_lt (node_cmp a b) ≡ true → rising (a ∷ (b ∷ xs)) ≡ rising (b ∷ xs)
 rising_on a b xs e = elim (rising (b ∷ xs)) as (λ z. rising (b ∷ xs) ≡ z → (below_all node_cmp a (keyed (λ (x : NodeId). x) (b ∷ xs)) && z) ≡ z) [
-  | true ↦ (λ h. both_true _ true (both_true _ _ e (below_more a b xs e (parts_true _ _ h).0)) refl)
+  | true ↦ (λ h. and-both _ true (and-both _ _ e (below_more a b xs e (and-true _ _ h).0)) refl)
   | false ↦ (λ h. none (below_all node_cmp a (keyed (λ (x : NodeId). x) (b ∷ xs))))
 ] refl
   where
@@ -88,8 +78,8 @@ rising_before a (b ∷ xs) e = rising_not a b xs e
 -- ## A node more
 
 below_split : (a : NodeId) (xs ys : List NodeId) (x : NodeId) → is_lt (node_cmp a x) ≡ true → Below a (xs ++ ys) → Below a (xs ++ x ∷ ys)
-below_split a [] ys x e h = both_true _ _ e h
-below_split a (y ∷ xs) ys x e h = let r = parts_true _ _ h in both_true _ _ r.0 (below_split a xs ys x e r.1)
+below_split a [] ys x e h = and-both _ _ e h
+below_split a (y ∷ xs) ys x e h = let r = and-true _ _ h in and-both _ _ r.0 (below_split a xs ys x e r.1)
 
 -- all stand below a node, or above it
 abbrev AllLess : List NodeId → NodeId → Type 0
@@ -100,11 +90,11 @@ AllGreater xs x = AllByRecursion (λ y. node_cmp y x ≡ Greater) xs
 
 below_all_greater : (x : NodeId) (ys : List NodeId) → AllGreater ys x → Below x ys
 below_all_greater x [] h = refl
-below_all_greater x (y ∷ ys) h = both_true _ _ (ap is_lt (node_cmp_total.antisymm x y ∙ ap ordering_reverse h.0)) (below_all_greater x ys h.1)
+below_all_greater x (y ∷ ys) h = and-both _ _ (ap is_lt (node_cmp_total.antisymm x y ∙ ap ordering_reverse h.0)) (below_all_greater x ys h.1)
 
 pub rising_between : (xs ys : List NodeId) (x : NodeId) → AllLess xs x → AllGreater ys x → rising (xs ++ ys) ≡ true → rising (xs ++ x ∷ ys) ≡ true
-rising_between [] ys x l g r = both_true _ _ (below_all_greater x ys g) r
-rising_between (y ∷ xs) ys x l g r = let p = parts_true _ _ r in both_true _ _ (below_split y xs ys x (ap is_lt l.0) p.0) (rising_between xs ys x l.1 g p.1)
+rising_between [] ys x l g r = and-both _ _ (below_all_greater x ys g) r
+rising_between (y ∷ xs) ys x l g r = let p = and-true _ _ r in and-both _ _ (below_split y xs ys x (ap is_lt l.0) p.0) (rising_between xs ys x l.1 g p.1)
 
 among_between : (xs ys : List NodeId) (x n : NodeId) → is_among (xs ++ x ∷ ys) n ≡ (same_node x n || is_among (xs ++ ys) n)
 among_between [] ys x n = refl

@@ -1,5 +1,5 @@
 -- A node that is looked for in a rising list.
-use Rattle.std.proofs.Common.{◌≡◌, ◌<◌, ◌≤◌, ◌+◌, ℕ, zero, suc, Bool, true, false, ◌||◌, ◌&&◌, List, [], ◌∷◌, length, get_or, refl, sym, ap, ◌∙◌, arith, subst, inl, inr, ◌⊎◌}
+use Rattle.std.proofs.Common.{◌≡◌, ◌<◌, ◌≤◌, ◌+◌, ℕ, zero, suc, true, false, ◌||◌, List, [], ◌∷◌, length, get_or, refl, sym, ap, ◌∙◌, arith, subst, inl, inr, ◌⊎◌}
 use Rattle.std.specs.declared.cmp.Ordering.{Ordering}
 use Rattle.std.specs.declared.cmp.Ordering.TheVariants.{Less, Equal, Greater}
 use Rattle.std.specs.List.Sorted.{IsBinarySearchResult, IsNonDecreasingBy}
@@ -12,6 +12,7 @@ use Rattle.st_ids.proofs.Orders.{node_cmp_total}
 use Rattle.st_ids.specs.Order.{node_cmp, same_node}
 use Rattle.st_ids.specs.declared.names.NodeId.{NodeId}
 use Rattle.st_marks.specs.Embedding.{is_among}
+use Rattle.st_lemmas.proofs.Bools.{and-second, and-first}
 
 none_less : (xs : List NodeId) (x : NodeId) → ((k : ℕ) (d : NodeId) → k < length xs → same_node (get_or xs k d) x ≡ false) → is_among xs x ≡ false
 none_less [] x h = refl
@@ -35,21 +36,13 @@ not_after a b h = ap is_lt (node_cmp_total.antisymm b a) ∙ turned (node_cmp a 
     turned Equal h = cc
     turned Greater h = cc
 
-first_of_two : (a b : Bool) → (a && b) ≡ true → a ≡ true
-first_of_two true b h = refl
-first_of_two false b h = h
-
-second_of_two : (a b : Bool) → (a && b) ≡ true → b ≡ true
-second_of_two true b h = h
-second_of_two false b h = let q : ◌≡◌ {A = Bool} false true = h in cc
-
 adjacent : (xs : List NodeId) → IsRising node_cmp (λ (n : NodeId). n) xs → (k : ℕ) (d : NodeId) → k + 1 < length xs → is_lt (node_cmp (get_or xs (k + 1) d) (get_or xs k d)) ≡ false
 adjacent [] h k d l = absurd (omega (arith, l))
 adjacent (x ∷ []) h k d l = absurd (omega (arith, l))
-adjacent (x ∷ (y ∷ zs)) h zero d l = not_after x y (first_of_two _ _ (first_of_two _ _ h))
+adjacent (x ∷ (y ∷ zs)) h zero d l = not_after x y (and-first _ _ (and-first _ _ h))
 adjacent (x ∷ (y ∷ zs)) h (suc k) d l =
     let e : suc k + 1 ≡ suc (k + 1) = omega arith in
-    subst (λ i. is_lt (node_cmp (get_or (x ∷ (y ∷ zs)) i d) (get_or (x ∷ (y ∷ zs)) (suc k) d)) ≡ false) (sym e) (adjacent (y ∷ zs) (second_of_two _ _ h) k d (omega (arith, l)))
+    subst (λ i. is_lt (node_cmp (get_or (x ∷ (y ∷ zs)) i d) (get_or (x ∷ (y ∷ zs)) (suc k) d)) ≡ false) (sym e) (adjacent (y ∷ zs) (and-second _ _ h) k d (omega (arith, l)))
 
 pub rises : (xs : List NodeId) (x : NodeId) → IsRising node_cmp (λ (n : NodeId). n) xs → IsNonDecreasingBy (λ y. ordering_index (node_cmp y x)) xs
 rises xs x h = searchable_from_sorted node_cmp_total (λ y. y) xs x (λ k d a b. adjacent xs h k d b)

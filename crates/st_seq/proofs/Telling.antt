@@ -1,16 +1,11 @@
 -- The part of an intent of which the change of a row tells.
 use Rattle.std.proofs.Common.{◌≡◌, ◌≢◌, Bool, true, false, ◌&&◌, ◌||◌, not, List, [], ◌∷◌, Option, Some, None, is_some, cond, refl, sym, ap, ◌∙◌, subst, inl, inr, ◌⊎◌}
 use Rattle.std.specs.List.{AllByRecursion, list_any}
-use Rattle.std.specs.Ordering.{is_eq}
-use Rattle.std.specs.declared.cmp.Ordering.{Ordering}
-use Rattle.std.specs.declared.cmp.Ordering.TheVariants.{Less, Equal, Greater}
 use Rattle.st_ids.specs.Listing.{AreDistinct, Has, IsRising}
 use Rattle.st_marks.proofs.Members.{all-has, has-all}
-use Rattle.st_seq.proofs.Truth.{and_parts, off, true_false}
 use Rattle.st_seq.specs.Changes.{StandsIn}
-use Rattle.st_seq.proofs.Composed.{or_right}
 use Rattle.st_ids.specs.Order.{node_cmp, same_cell, same_node, same_rev}
-use Rattle.st_ids.proofs.Orders.{same_cell-true, same_cell-itself, same_node-true, same_node-itself, rev_cmp_exact}
+use Rattle.st_ids.proofs.Orders.{same_cell-true, same_cell-itself, same_node-true, same_node-itself, same_rev-true}
 use Rattle.st_ids.specs.declared.names.CellId.{CellId}
 use Rattle.st_ids.specs.declared.names.NodeId.{NodeId}
 use Rattle.st_ids.specs.declared.names.Rev.{Rev}
@@ -27,15 +22,7 @@ use Rattle.st_seq.specs.inside.NormalForm.{places, makes_cell, puts_found, has_c
 use Rattle.st_seq.specs.Sequence.{RowCanHold, RowFits, cells_of, made_in}
 use Rattle.st_seq.proofs.Rebased.{is-here, not-here, moved}
 use Rattle.st_seq.proofs.Laid.{Groups, groups_of, embeds, makes, makes_them, has_makes, behind_cell, Lays, FoundAt, Says, behind, lead, found_says, found_slot, found_mark, has_slot, has_mark, one_cell, one_stands, in_row, in_cells}
-
-pub same_rev-true : (a b : Rev) → same_rev a b ≡ true → a ≡ b
-unfolding same_rev
-same_rev-true a b e = rev_cmp_exact a b (equal _ e)
-  where
-    equal : (o : Ordering) → is_eq o ≡ true → o ≡ Equal
-    equal Less e = cc
-    equal Equal e = refl
-    equal Greater e = cc
+use Rattle.st_lemmas.proofs.Bools.{and-true, not-true, true-false, or-right}
 
 -- ## Tests on lists
 
@@ -146,20 +133,20 @@ none_behind : (rev : Rev) (c : List Slot) (all : List CellMark) (n : NodeId) (y 
 none_behind rev c all n Counted ys h e = cc
 none_behind rev c all n (Gap a) ys h e = cc
 none_behind rev c all n (Touch a x Stay) ys h e = cc
-none_behind rev c all n (Touch a x Here) ys h e = ap (λ m. list_any (places m) ys) (sym (same_node-true x n e)) ∙ off _ h
+none_behind rev c all n (Touch a x Here) ys h e = ap (λ m. list_any (places m) ys) (sym (same_node-true x n e)) ∙ not-true _ h
 none_behind rev c all n (Touch a x Leave) ys h e = cc
 none_behind rev c all n (Make a x b) ys h e =
-    let p = and_parts b (same_node x n) e in
-    let q = off _ (and_parts (may_put c all x) _ (and_parts (may_make rev c a ys) _ h).1).1 in
+    let p = and-true b (same_node x n) e in
+    let q = not-true _ (and-true (may_put c all x) _ (and-true (may_make rev c a ys) _ h).1).1 in
     ap (λ m. list_any (places m) ys) (sym (same_node-true x n p.1)) ∙ ap (λ z. z && list_any (places x) ys) (sym p.0) ∙ q
-none_behind rev c all n (Fill a x) ys h e = ap (λ m. list_any (places m) ys) (sym (same_node-true x n e)) ∙ off _ (and_parts (may_put c all x) _ h).1
+none_behind rev c all n (Fill a x) ys h e = ap (λ m. list_any (places m) ys) (sym (same_node-true x n e)) ∙ not-true _ (and-true (may_put c all x) _ h).1
 
 placed_is : (rev : Rev) (c : List Slot) (all : List CellMark) (n : NodeId) (xs : List CellMark) → are_allowed rev c all xs ≡ true → (x : CellMark) → Has xs x → places n x ≡ true → placed_at xs n ≡ named_cell x
 placed_is rev c all n [] h x w e = absurd w
 placed_is rev c all n (y ∷ xs) h x (inl q) e = ap (λ b. cond b (named_cell y) (placed_at xs n)) (ap (places n) q ∙ e) ∙ ap named_cell q
 placed_is rev c all n (y ∷ xs) h x (inr w) e = elim (places n y) as (λ b. places n y ≡ b → cond b (named_cell y) (placed_at xs n) ≡ named_cell x) [
-  | true ↦ (λ q. let p = and_parts (is_allowed rev c all y xs) _ h in let z : ◌≡◌ {A = Bool} true false = sym (any_has (places n) xs x w e) ∙ none_behind rev c all n y xs p.0 q in cc)
-  | false ↦ (λ q. placed_is rev c all n xs (and_parts (is_allowed rev c all y xs) _ h).1 x w e)
+  | true ↦ (λ q. let p = and-true (is_allowed rev c all y xs) _ h in let z : ◌≡◌ {A = Bool} true false = sym (any_has (places n) xs x w e) ∙ none_behind rev c all n y xs p.0 q in cc)
+  | false ↦ (λ q. placed_is rev c all n xs (and-true (is_allowed rev c all y xs) _ h).1 x w e)
 ] refl
 
 -- ## Marks that make or fill
@@ -167,37 +154,37 @@ placed_is rev c all n (y ∷ xs) h x (inr w) e = elim (places n y) as (λ b. pla
 allowed_make : (rev : Rev) (c : List Slot) (all : List CellMark) (xs : List CellMark) → are_allowed rev c all xs ≡ true → (a : CellId) (n : NodeId) (b : Bool) → Has xs (Make a n b) → (same_rev a.0.rev rev ≡ true) × (has_cell c a ≡ false) × (may_put c all n ≡ true)
 allowed_make rev c all [] h a n b w = absurd w
 allowed_make rev c all (y ∷ xs) h a n b (inl q) =
-    let z = subst (λ x. is_allowed rev c all x xs ≡ true) q (and_parts (is_allowed rev c all y xs) _ h).0 in
-    let p = and_parts (may_make rev c a xs) _ z in
-    let r = and_parts (same_rev a.0.rev rev) _ p.0 in
-    (r.0, off _ (and_parts (not (has_cell c a)) _ r.1).0, (and_parts (may_put c all n) _ p.1).0)
-allowed_make rev c all (y ∷ xs) h a n b (inr w) = allowed_make rev c all xs (and_parts (is_allowed rev c all y xs) _ h).1 a n b w
+    let z = subst (λ x. is_allowed rev c all x xs ≡ true) q (and-true (is_allowed rev c all y xs) _ h).0 in
+    let p = and-true (may_make rev c a xs) _ z in
+    let r = and-true (same_rev a.0.rev rev) _ p.0 in
+    (r.0, not-true _ (and-true (not (has_cell c a)) _ r.1).0, (and-true (may_put c all n) _ p.1).0)
+allowed_make rev c all (y ∷ xs) h a n b (inr w) = allowed_make rev c all xs (and-true (is_allowed rev c all y xs) _ h).1 a n b w
 
 allowed_fill : (rev : Rev) (c : List Slot) (all : List CellMark) (xs : List CellMark) → are_allowed rev c all xs ≡ true → (a : CellId) (n : NodeId) → Has xs (Fill a n) → may_put c all n ≡ true
 allowed_fill rev c all [] h a n w = absurd w
-allowed_fill rev c all (y ∷ xs) h a n (inl q) = (and_parts (may_put c all n) _ (subst (λ x. is_allowed rev c all x xs ≡ true) q (and_parts (is_allowed rev c all y xs) _ h).0)).0
-allowed_fill rev c all (y ∷ xs) h a n (inr w) = allowed_fill rev c all xs (and_parts (is_allowed rev c all y xs) _ h).1 a n w
+allowed_fill rev c all (y ∷ xs) h a n (inl q) = (and-true (may_put c all n) _ (subst (λ x. is_allowed rev c all x xs ≡ true) q (and-true (is_allowed rev c all y xs) _ h).0)).0
+allowed_fill rev c all (y ∷ xs) h a n (inr w) = allowed_fill rev c all xs (and-true (is_allowed rev c all y xs) _ h).1 a n w
 
 -- none makes the cell behind one that does
 made_before : (rev : Rev) (c : List Slot) (all : List CellMark) (a : CellId) (n : NodeId) (b : Bool) (y : CellMark) (xs : List CellMark) → is_allowed rev c all y xs ≡ true → y ≡ Make a n b → list_any (makes_cell a) xs ≡ false
 made_before rev c all a n b y xs h q =
     let z = subst (λ x. is_allowed rev c all x xs ≡ true) q h in
-    off _ (and_parts (not (has_cell c a)) _ (and_parts (same_rev a.0.rev rev) _ (and_parts (may_make rev c a xs) _ z).0).1).1
+    not-true _ (and-true (not (has_cell c a)) _ (and-true (same_rev a.0.rev rev) _ (and-true (may_make rev c a xs) _ z).0).1).1
 
 -- one cell is made once
 one_make : (rev : Rev) (c : List Slot) (all : List CellMark) (xs : List CellMark) → are_allowed rev c all xs ≡ true → (a : CellId) (n m : NodeId) (b e : Bool) → Has xs (Make a n b) → Has xs (Make a m e) → ◌≡◌ {A = CellMark} (Make a n b) (Make a m e)
 one_make rev c all [] h a n m b e v w = absurd v
 one_make rev c all (y ∷ xs) h a n m b e (inl v) (inl w) = sym v ∙ w
-one_make rev c all (y ∷ xs) h a n m b e (inl v) (inr w) = let z : ◌≡◌ {A = Bool} true false = sym (any_has (makes_cell a) xs (Make a m e) w (same_cell-itself a)) ∙ made_before rev c all a n b y xs (and_parts (is_allowed rev c all y xs) _ h).0 v in cc
-one_make rev c all (y ∷ xs) h a n m b e (inr v) (inl w) = let z : ◌≡◌ {A = Bool} true false = sym (any_has (makes_cell a) xs (Make a n b) v (same_cell-itself a)) ∙ made_before rev c all a m e y xs (and_parts (is_allowed rev c all y xs) _ h).0 w in cc
-one_make rev c all (y ∷ xs) h a n m b e (inr v) (inr w) = one_make rev c all xs (and_parts (is_allowed rev c all y xs) _ h).1 a n m b e v w
+one_make rev c all (y ∷ xs) h a n m b e (inl v) (inr w) = let z : ◌≡◌ {A = Bool} true false = sym (any_has (makes_cell a) xs (Make a m e) w (same_cell-itself a)) ∙ made_before rev c all a n b y xs (and-true (is_allowed rev c all y xs) _ h).0 v in cc
+one_make rev c all (y ∷ xs) h a n m b e (inr v) (inl w) = let z : ◌≡◌ {A = Bool} true false = sym (any_has (makes_cell a) xs (Make a n b) v (same_cell-itself a)) ∙ made_before rev c all a m e y xs (and-true (is_allowed rev c all y xs) _ h).0 w in cc
+one_make rev c all (y ∷ xs) h a n m b e (inr v) (inr w) = one_make rev c all xs (and-true (is_allowed rev c all y xs) _ h).1 a n m b e v w
 
 -- ## The part says the same of each cell
 
 module _ (rev : Rev) (new : List NodeId) {c : List Slot} {xs : List CellMark} (l : Lays c xs) (hold : RowCanHold c) (old : AllByRecursion (λ (s : Slot). is_among new s.node ≡ false) c) (ok : are_allowed rev c xs xs ≡ true) where
   -- a made cell isn't in the row
   not_there : (a : CellId) (n : NodeId) (b : Bool) → Has xs (Make a n b) → Has (cells_of c) a → ⊥
-  not_there a n b w h = true_false (in_list c h) (allowed_make rev c xs xs ok a n b w).1
+  not_there a n b w h = true-false (in_list c h) (allowed_make rev c xs xs ok a n b w).1
     where
       in_list : (d : List Slot) → Has (cells_of d) a → has_cell d a ≡ true
       in_list [] h = absurd h
@@ -211,7 +198,7 @@ module _ (rev : Rev) (new : List NodeId) {c : List Slot} {xs : List CellMark} (l
   -- a node that is put, and stands in the row, is put by its mark there
   put_found : (n : NodeId) → may_put c xs n ≡ true → (t : Slot) (y : CellMark) → FoundAt l t y → t.full ≡ true → t.node ≡ n → puts_found n y ≡ true
   put_found n h t y w f e =
-      let r = has_any (puts_found n) xs (either_way (stands_in c n) (list_any (puts_found n) xs) (any_has (λ (s : Slot). s.full && same_node s.node n) c t (found_slot l t y w) (all_two f (ap (λ m. same_node m n) e ∙ same_node-itself n))) (and_parts (not (same_node n root)) _ h).1) in
+      let r = has_any (puts_found n) xs (either_way (stands_in c n) (list_any (puts_found n) xs) (any_has (λ (s : Slot). s.full && same_node s.node n) c t (found_slot l t y w) (all_two f (ap (λ m. same_node m n) e ∙ same_node-itself n))) (and-true (not (same_node n root)) _ h).1) in
       let z = standing_mark (r.0) (r.1) (r.2) in
       ap (puts_found n) (sym z) ∙ r.2
     where
@@ -266,7 +253,7 @@ module _ (rev : Rev) (new : List NodeId) {c : List Slot} {xs : List CellMark} (l
   here_is : (t : Slot) (y : CellMark) → FoundAt l t y → is_here (how (told_goes new xs t.node) (To.Cell t.cell)) ≡ places t.node y
   here_is t y w = elim (places t.node y) as (λ b. places t.node y ≡ b → is_here (how (told_goes new xs t.node) (To.Cell t.cell)) ≡ b) [
     | true ↦ (λ p. here_at _ _ _ (placed_is rev c xs t.node xs ok y (found_mark l t y w) p ∙ own y p (found_says l t y w)))
-    | false ↦ (λ p. here_iff _ _ _ (λ q. true_false (placed_here t.node t y w q) p))
+    | false ↦ (λ p. here_iff _ _ _ (λ q. true-false (placed_here t.node t y w q) p))
   ] refl
     where
       own : (x : CellMark) → places t.node x ≡ true → Says t x → named_cell x ≡ Some t.cell
@@ -287,15 +274,15 @@ module _ (rev : Rev) (new : List NodeId) {c : List Slot} {xs : List CellMark} (l
   idle t y w f p = go (placed_at xs t.node) refl
     where
       not_put : may_put c xs t.node ≡ true → ⊥
-      not_put h = true_false (put_found t.node h t y w f refl) p
+      not_put h = true-false (put_found t.node h t y w f refl) p
 
       no_place : (x : CellMark) → Has xs x → places t.node x ≡ true → ⊥
       no_place Counted v q = cc
       no_place (Gap a) v q = cc
       no_place (Touch a m Stay) v q = cc
-      no_place (Touch a m Here) v q = let e = same_node-true m t.node q in true_false (ap (puts_found t.node) (sym (touch_is a m Here v t y w f e)) ∙ q) p
+      no_place (Touch a m Here) v q = let e = same_node-true m t.node q in true-false (ap (puts_found t.node) (sym (touch_is a m Here v t y w f e)) ∙ q) p
       no_place (Touch a m Leave) v q = cc
-      no_place (Make a m b) v q = not_put (subst (λ n. may_put c xs n ≡ true) (same_node-true m t.node (and_parts b (same_node m t.node) q).1) (allowed_make rev c xs xs ok a m b v).2)
+      no_place (Make a m b) v q = not_put (subst (λ n. may_put c xs n ≡ true) (same_node-true m t.node (and-true b (same_node m t.node) q).1) (allowed_make rev c xs xs ok a m b v).2)
       no_place (Fill a m) v q = not_put (subst (λ n. may_put c xs n ≡ true) (same_node-true m t.node q) (allowed_fill rev c xs xs ok a m v))
 
       no_leave : (x : CellMark) → Has xs x → leaves t.node x ≡ true → ⊥
@@ -303,7 +290,7 @@ module _ (rev : Rev) (new : List NodeId) {c : List Slot} {xs : List CellMark} (l
       no_leave (Gap a) v q = cc
       no_leave (Touch a m Stay) v q = cc
       no_leave (Touch a m Here) v q = cc
-      no_leave (Touch a m Leave) v q = let e = same_node-true m t.node q in true_false (ap (puts_found t.node) (sym (touch_is a m Leave v t y w f e)) ∙ q) p
+      no_leave (Touch a m Leave) v q = let e = same_node-true m t.node q in true-false (ap (puts_found t.node) (sym (touch_is a m Leave v t y w f e)) ∙ q) p
       no_leave (Make a m b) v q = cc
       no_leave (Fill a m) v q = cc
 
@@ -311,7 +298,7 @@ module _ (rev : Rev) (new : List NodeId) {c : List Slot} {xs : List CellMark} (l
       no_hole Counted v q = cc
       no_hole (Gap a) v q = cc
       no_hole (Touch a m h) v q = cc
-      no_hole (Make a m b) v q = not_put (subst (λ n. may_put c xs n ≡ true) (same_node-true m t.node (and_parts (not b) (same_node m t.node) q).1) (allowed_make rev c xs xs ok a m b v).2)
+      no_hole (Make a m b) v q = not_put (subst (λ n. may_put c xs n ≡ true) (same_node-true m t.node (and-true (not b) (same_node m t.node) q).1) (allowed_make rev c xs xs ok a m b v).2)
       no_hole (Fill a m) v q = cc
 
       go : (o : Option CellId) → placed_at xs t.node ≡ o → go_to o (away new xs t.node) ≡ None
@@ -378,7 +365,7 @@ module _ (rev : Rev) (new : List NodeId) {c : List Slot} {xs : List CellMark} (l
       go (Touch d k Here) u p q = let s = has_slot l (Touch d k Here) refl u in absurd (not_there a n b v (subst (Has (cells_of c)) ((found_says l s.0 _ s.1).0 ∙ ap option_or_else q) (in_cells c s.0 (found_slot l s.0 _ s.1))))
       go (Touch d k Leave) u p q = cc
       go (Make d k f) u p q =
-          let z = and_parts f (same_node k m) p in
+          let z = and-true f (same_node k m) p in
           one_make rev c xs xs ok a n m b true v (subst (Has xs) (λ i. Make (ap option_or_else q i) (same_node-true k m z.1 i) (z.0 i)) u)
       go (Fill d k) u p q = let s = has_slot l (Fill d k) refl u in absurd (not_there a n b v (subst (Has (cells_of c)) ((found_says l s.0 _ s.1).0 ∙ ap option_or_else q) (in_cells c s.0 (found_slot l s.0 _ s.1))))
 
@@ -410,12 +397,12 @@ module _ (rev : Rev) (new : List NodeId) {c : List Slot} {xs : List CellMark} (l
   make_once (Counted ∷ ys) h = make_once ys h
   make_once (Gap a ∷ ys) h = make_once ys h
   make_once (Touch a n Stay ∷ ys) h = make_once ys h
-  make_once (Touch a n Here ∷ ys) h = make_once ys (and_parts _ _ h).1
+  make_once (Touch a n Here ∷ ys) h = make_once ys (and-true _ _ h).1
   make_once (Touch a n Leave ∷ ys) h = make_once ys h
   make_once (Make a n b ∷ ys) h =
-      let p = and_parts (is_allowed rev c xs (Make a n b) ys) _ h in
-      (has-all (λ (o : Owned). o.cell ≢ a) (makes ys) (λ o w e. let r = has_makes ys o w in true_false (any_has (makes_cell a) ys (Make o.cell o.node r.0) r.1 (ap (λ x. same_cell x a) e ∙ same_cell-itself a)) (made_before rev c xs a n b (Make a n b) ys p.0 refl)), make_once ys p.1)
-  make_once (Fill a n ∷ ys) h = make_once ys (and_parts _ _ h).1
+      let p = and-true (is_allowed rev c xs (Make a n b) ys) _ h in
+      (has-all (λ (o : Owned). o.cell ≢ a) (makes ys) (λ o w e. let r = has_makes ys o w in true-false (any_has (makes_cell a) ys (Make o.cell o.node r.0) r.1 (ap (λ x. same_cell x a) e ∙ same_cell-itself a)) (made_before rev c xs a n b (Make a n b) ys p.0 refl)), make_once ys p.1)
+  make_once (Fill a n ∷ ys) h = make_once ys (and-true _ _ h).1
 
   goes_some : (o : Option CellId) (b : Bool) → b ≡ true → go_to o b ≢ None
   goes_some None true e = λ q. cc
@@ -469,7 +456,7 @@ module _ (rev : Rev) (new : List NodeId) {c : List Slot} {xs : List CellMark} (l
       owner (Fill a k) = k
 
   root_not_put : may_put c xs root ≡ true → ⊥
-  root_not_put h = true_false (same_node-itself root) (off _ (and_parts (not (same_node root root)) _ h).0)
+  root_not_put h = true-false (same_node-itself root) (not-true _ (and-true (not (same_node root root)) _ h).0)
 
   root_absent : (a : CellId) (m : NodeId) (k : How) → Has xs (Touch a m k) → m ≡ root → ⊥
   root_absent a m k v e = let u = has_slot l (Touch a m k) refl v in let g = found_says l u.0 _ u.1 in hold.no_root (subst (λ n. StandsIn n c) (g.1 ∙ e) (in_row c u.0 (found_slot l u.0 _ u.1) g.2))
@@ -483,7 +470,7 @@ module _ (rev : Rev) (new : List NodeId) {c : List Slot} {xs : List CellMark} (l
       no_place (Touch a m Stay) v q = cc
       no_place (Touch a m Here) v q = root_absent a m Here v (same_node-true m root q)
       no_place (Touch a m Leave) v q = cc
-      no_place (Make a m b) v q = root_not_put (subst (λ n. may_put c xs n ≡ true) (same_node-true m root (and_parts b (same_node m root) q).1) (allowed_make rev c xs xs ok a m b v).2)
+      no_place (Make a m b) v q = root_not_put (subst (λ n. may_put c xs n ≡ true) (same_node-true m root (and-true b (same_node m root) q).1) (allowed_make rev c xs xs ok a m b v).2)
       no_place (Fill a m) v q = root_not_put (subst (λ n. may_put c xs n ≡ true) (same_node-true m root q) (allowed_fill rev c xs xs ok a m v))
 
       no_leave : (x : CellMark) → Has xs x → leaves root x ≡ true → ⊥
@@ -499,7 +486,7 @@ module _ (rev : Rev) (new : List NodeId) {c : List Slot} {xs : List CellMark} (l
       no_hole Counted v q = cc
       no_hole (Gap a) v q = cc
       no_hole (Touch a m h) v q = cc
-      no_hole (Make a m b) v q = root_not_put (subst (λ n. may_put c xs n ≡ true) (same_node-true m root (and_parts (not b) (same_node m root) q).1) (allowed_make rev c xs xs ok a m b v).2)
+      no_hole (Make a m b) v q = root_not_put (subst (λ n. may_put c xs n ≡ true) (same_node-true m root (and-true (not b) (same_node m root) q).1) (allowed_make rev c xs xs ok a m b v).2)
       no_hole (Fill a m) v q = cc
 
       go : (o : Option CellId) → placed_at xs root ≡ o → go_to o (away new xs root) ≡ None
@@ -517,7 +504,7 @@ module _ (rev : Rev) (new : List NodeId) {c : List Slot} {xs : List CellMark} (l
       no_leave (Touch a m Leave) v q =
           let u = has_slot l (Touch a m Leave) refl v in
           let g = found_says l u.0 _ u.1 in
-          true_false e (ap (is_among new) (sym (g.1 ∙ same_node-true m n q)) ∙ all-has (λ (s : Slot). is_among new s.node ≡ false) c u.0 old (found_slot l u.0 _ u.1))
+          true-false e (ap (is_among new) (sym (g.1 ∙ same_node-true m n q)) ∙ all-has (λ (s : Slot). is_among new s.node ≡ false) c u.0 old (found_slot l u.0 _ u.1))
       no_leave (Make a m b) v q = cc
       no_leave (Fill a m) v q = cc
 
@@ -560,5 +547,5 @@ module _ (rev : Rev) (new : List NodeId) {c : List Slot} {xs : List CellMark} (l
     own_made = of_made (λ (o : Owned). (n : NodeId) → told_goes new xs n ≡ Some (To.Cell o.cell) → o.node ≡ n) (λ o b v. own_new o.cell o.node b v);
     root_stays = root_told;
     somewhere = new_told;
-    mentions = λ n q e. or_right (list_any (touches n) xs) (is_some (told_goes new xs n)) (is_put (told_goes new xs n) q);
+    mentions = λ n q e. or-right (list_any (touches n) xs) (is_some (told_goes new xs n)) (is_put (told_goes new xs n) q);
   }

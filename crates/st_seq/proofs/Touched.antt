@@ -9,10 +9,7 @@ use Rattle.st_marks.proofs.MarkLengths.{spread-append}
 use Rattle.st_marks.specs.declared.marks.Mark.{Mark}
 use Rattle.st_marks.specs.Row.{CellMark, Counted, Gap, Touch, Make, Fill, spread, counted}
 use Rattle.st_seq.specs.inside.Cells.{touch_of}
-
-or-assoc : {A : Type 0} (a b c : Option A) → option_or (option_or a b) c ≡ option_or a (option_or b c)
-or-assoc None b c = refl
-or-assoc (Some x) b c = refl
+use Rattle.st_lemmas.proofs.Options.{option_or-assoc}
 
 touch-append : (xs ys : List CellMark) (n : NodeId) → touch_of (xs ++ ys) n ≡ option_or (touch_of ys n) (touch_of xs n)
 touch-append [] ys n = none (touch_of ys n)
@@ -22,7 +19,7 @@ touch-append [] ys n = none (touch_of ys n)
     none (Some h) = refl
 touch-append (Counted ∷ xs) ys n = touch-append xs ys n
 touch-append (Gap c ∷ xs) ys n = touch-append xs ys n
-touch-append (Touch c m h ∷ xs) ys n = ap (λ o. option_or o (cond (same_node m n) (Some h) None)) (touch-append xs ys n) ∙ or-assoc (touch_of ys n) (touch_of xs n) (cond (same_node m n) (Some h) None)
+touch-append (Touch c m h ∷ xs) ys n = ap (λ o. option_or o (cond (same_node m n) (Some h) None)) (touch-append xs ys n) ∙ option_or-assoc (touch_of ys n) (touch_of xs n) (cond (same_node m n) (Some h) None)
 touch-append (Make c m b ∷ xs) ys n = touch-append xs ys n
 touch-append (Fill c m ∷ xs) ys n = touch-append xs ys n
 

@@ -19,7 +19,7 @@ use Rattle.st_marks.proofs.Members.{all-has, append_left, append_right, has-appe
 use Rattle.st_log_laws.specs.Names.{revisions}
 use Rattle.st_log_laws.specs.Turns.{FitInTurn, IsSublist}
 use Rattle.st_log_laws.proofs.Names.{new_node_rev}
-use Rattle.st_log_laws.proofs.Shorter.{sublist_itself, sublist_joined, sublist_none}
+use Rattle.st_log_laws.proofs.Shorter.{sublist_itself, sublist_joined, sublist_none, has_longer}
 use Rattle.st_log_laws.proofs.Turns.{front}
 use Rattle.st_schema_laws.specs.Agreeing.{KeepSchemaInTurn, KeepsSchema, TellsHomes, with_homes}
 use Rattle.st_schema_laws.specs.Conforming.{IsConforming, register_in}
@@ -39,9 +39,10 @@ use Rattle.st_trace.specs.declared.state.Client.{Client}
 use Rattle.st_trace.specs.declared.state.Entry.{Entry}
 use Rattle.st_trace.specs.declared.state.Queued.{Queued}
 use Rattle.st_trace.proofs.Begun.{IsStart, opens_allowed}
-use Rattle.st_trace.proofs.Clients.{all_append, has_longer, next_new, other_fit, own_first, received_more, shown_among, shown_new}
+use Rattle.st_trace.proofs.Clients.{next_new, other_fit, own_first, received_more, shown_among, shown_new}
 use Rattle.st_trace.proofs.Everyone.{all_get, all_set, kept_some, session_at, set_same}
 use Rattle.st_trace.proofs.Logs.{by_sublist, commits_split, entered_commits, entered_front, last_entry, no_commit, one_commit}
+use Rattle.st_lemmas.proofs.Lists.{AllByRecursion-append}
 
 -- before any client joins
 pub begun_keeps : (h : HeaderView) → IsHeader h → KeepToSchema h [] []
@@ -173,7 +174,7 @@ module _ (h : HeaderView) (st : IsStart (opening_document h)) where
         record {
           start = w.1.start;
           logged = subst (Agree w.0) commits w.1.logged;
-          shown = all_append (Shown w.0 longer) cs (c ∷ []) (all_entered w.0 log session Join cs ks are w.1.shown) (subst (Shown w.0 longer) (sym is_c) (subst (Agree w.0) all w.1.logged), tt);
+          shown = AllByRecursion-append (Shown w.0 longer) cs (c ∷ []) (all_entered w.0 log session Join cs ks are w.1.shown) (subst (Shown w.0 longer) (sym is_c) (subst (Agree w.0) all w.1.logged), tt);
         },
       )
 

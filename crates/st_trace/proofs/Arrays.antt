@@ -8,19 +8,20 @@ use Rattle.std.proofs.lemmas.Bool.Decides.{nat_tests}
 use Rattle.std.proofs.lemmas.List.{take_all}
 use Rattle.std.proofs.lemmas.List.Elements.{filter-append}
 use Rattle.std.proofs.lemmas.Map.Views.{any-filter_same}
-use Rattle.st_marks.proofs.Lookups.{both_true}
-use Rattle.st_schema.specs.Schema.{SchemaView, is_sound}
+use Rattle.st_schema.specs.Schema.{SchemaView}
 use Rattle.st_schema.specs.declared.names.Form.{Form}
 use Rattle.st_doc.specs.LiveText.{is_among}
 use Rattle.st_edits.specs.ArrayTypes.{is_array_form, is_array_type}
 use Rattle.st_trace.proofs.Logs.{take-get}
+use Rattle.st_lemmas.proofs.Lists.{map-append}
+use Rattle.st_lemmas.proofs.Bools.{and-true}
 
 text_same : (xs ys : List ℕ) → pointwise nat_eq xs ys ≡ true → xs ≡ ys
 text_same [] [] e = refl
 text_same [] (y ∷ ys) e = cc
 text_same (x ∷ xs) [] e = cc
 text_same (x ∷ xs) (y ∷ ys) e =
-    let both = both_true (nat_eq x y) (pointwise nat_eq xs ys) e in
+    let both = and-true (nat_eq x y) (pointwise nat_eq xs ys) e in
     let test : nat_eq x y ≡ true = both.0 in
     let first : x ≡ y = grind (arith, nat_tests) in
     λ i. first i ∷ text_same xs ys both.1 i
@@ -33,14 +34,10 @@ text_itself (x ∷ xs) = let one : nat_eq x x ≡ true = grind (arith, nat_tests
 abbrev pub arrays_before : SchemaView → ℕ → List (List ℕ)
 arrays_before s i = filter (is_array_type s) (map (λ (d : List ℕ × Form). d.0) (take i s.types))
 
-map_append : {A B : Type 0} (f : A → B) (xs ys : List A) → map f (xs ++ ys) ≡ map f xs ++ map f ys
-map_append f [] ys = refl
-map_append f (x ∷ xs) ys = ap (λ l. f x ∷ l) (map_append f xs ys)
-
 next_type : (s : SchemaView) (i : ℕ) (d : List ℕ × Form) → slice_get s.types i ≡ Some d → arrays_before s (i + 1) ≡ arrays_before s i ++ filter (is_array_type s) (d.0 ∷ [])
 next_type s i d at =
     ap (λ l. filter (is_array_type s) (map (λ (d : List ℕ × Form). d.0) l)) (take-get s.types i d at)
-    ∙ ap (filter (is_array_type s)) (map_append (λ (d : List ℕ × Form). d.0) (take i s.types) (d ∷ []))
+    ∙ ap (filter (is_array_type s)) (map-append (λ (d : List ℕ × Form). d.0) (take i s.types) (d ∷ []))
     ∙ filter-append (is_array_type s) (map (λ (d : List ℕ × Form). d.0) (take i s.types)) (d.0 ∷ [])
 
 -- the definition of a name
@@ -83,13 +80,6 @@ length_map f (x ∷ xs) = ap suc (length_map f xs)
 
 few_names : (names : List (List ℕ)) (b : Bool) → nat_le (length names) 256 ≡ b → b ≡ true → length names ≤ 256
 few_names names b is holds = grind (arith, nat_tests)
-
--- a sound schema has at most 256 definitions
-pub few_types : (s : SchemaView) → is_sound s ≡ true → length s.types ≤ 256
-few_types s h =
-    let names = map (λ (d : List ℕ × Form). d.0) s.types in
-    let test = (both_true (nat_le (length names) 256) _ (both_true _ _ h).0).0 in
-    omega (arith, few_names names (nat_le (length names) 256) refl test, length_map (λ (d : List ℕ × Form). d.0) s.types)
 
 past : {X : Type 0} (xs : List X) (i : ℕ) → slice_get xs i ≡ None → length xs ≤ i
 past [] i e = omega arith

@@ -1,6 +1,6 @@
 -- The opening document: it is sound in form, its names are the opening's, and its rows are short.
-use Rattle.std.proofs.Common.{◌≡◌, ℕ, ◌+◌, ◌≤◌, Bool, true, false, cond, List, [], ◌∷◌, ◌++◌, length, length-append, Option, Some, None, IsSome, refl, sym, ap, ◌∙◌, arith, inl, inr, nat_lt, not, Result, Ok, Err, is_ok}
-use Rattle.std.specs.List.{filter_map, cons_option, AllByRecursion, list_all, position_from}
+use Rattle.std.proofs.Common.{◌≡◌, ℕ, ◌+◌, ◌≤◌, Bool, true, false, cond, List, [], ◌∷◌, length, length-append, Option, Some, None, IsSome, refl, sym, ap, ◌∙◌, arith, inl, inr, nat_lt, Result, Ok, Err, is_ok}
+use Rattle.std.specs.List.{AllByRecursion}
 use Rattle.std.specs.Option.{option_or}
 use Rattle.std.proofs.lemmas.Bool.Decides.{nat_tests}
 use Rattle.serde_json.specs.Written.{compact_text}
@@ -11,7 +11,6 @@ use Rattle.st_ids.specs.declared.names.Rev.{Rev}
 use Rattle.st_ids.proofs.Orders.{same_node-true}
 use Rattle.st_marks.specs.declared.intents.Owned.{Owned}
 use Rattle.st_marks.specs.Document.{Document, NodeType, IsSoundInForm, opening}
-use Rattle.st_marks.proofs.Lookups.{both_true}
 use Rattle.st_marks.proofs.Members.{all-has}
 use Rattle.st_tree.specs.declared.flat.FlatAt.{FlatAt}
 use Rattle.st_tree.specs.declared.flat.FlatNode.{FlatNode}
@@ -22,7 +21,7 @@ use Rattle.st_tree.specs.Form.{has_form}
 use Rattle.st_tree.specs.Size.{node_count, field_count, item_count, height, check_of}
 use Rattle.st_tree.specs.Preorder.{cells_taken, cell_count, item_cells, at_of, listed, fields_listed, items_listed, opening_listed}
 use Rattle.st_schema.specs.Schema.{SchemaView}
-use Rattle.st_schema.specs.Conforms.{verdicts, refusal, allows_of}
+use Rattle.st_schema.specs.Conforms.{verdicts, allows_of}
 use Rattle.st_schema.specs.Written.{schema_data}
 use Rattle.st_schema.proofs.AllowedForm.{conforming_formed}
 use Rattle.st_opening.specs.Start.{first_said, type_at, cell_at, start_of}
@@ -33,6 +32,10 @@ use Rattle.st_script.specs.Header.{HeaderView, header_line, header_view, may_ope
 use Rattle.st_script.proofs.OfForm.{header_line_kept}
 use Rattle.st_trace.specs.Replicas.{IsHeader}
 use Rattle.st_trace.specs.World.{opening_document}
+use Rattle.st_schema.proofs.Shared.{none_refused}
+use Rattle.st_lemmas.proofs.Lists.{filter_map-length, AllByRecursion-append}
+use Rattle.st_ids.proofs.Shared.{filter-from}
+use Rattle.st_lemmas.proofs.Bools.{and-true}
 
 -- ## The list of a tree's nodes
 
@@ -46,10 +49,6 @@ IsCellOf rev (FlatAt.Register f) = Unit {0}
 abbrev IsOf : Rev → FlatNode → Type 0
 IsOf rev x = (x.node.0.rev ≡ rev) × IsCellOf rev x.at
 
-all_append : {A : Type 0} (P : A → Type 0) (xs ys : List A) → AllByRecursion P xs → AllByRecursion P ys → AllByRecursion P (xs ++ ys)
-all_append P [] ys p q = q
-all_append P (x ∷ xs) ys p q = (p.0, all_append P xs ys p.1 q)
-
 cell_of : (rev : Rev) (owner : ℕ) (key : List ℕ) (row : Bool) (c : ℕ) → IsCellOf rev (at_of rev owner key row c)
 cell_of rev owner key true c = refl
 cell_of rev owner key false c = tt
@@ -61,13 +60,13 @@ mutual
   fields_of : (rev : Rev) (owner n c : ℕ) (fs : Fields) → AllByRecursion (IsOf rev) (fields_listed rev owner n c fs)
   fields_of rev owner n c no_fields = tt
   fields_of rev owner n c (field key row items rest) =
-      all_append (IsOf rev) (items_listed rev owner key row n c items) (fields_listed rev owner (n + item_count items) (c + item_cells row items) rest)
+      AllByRecursion-append (IsOf rev) (items_listed rev owner key row n c items) (fields_listed rev owner (n + item_count items) (c + item_cells row items) rest)
       (items_of rev owner key row n c items) (fields_of rev owner (n + item_count items) (c + item_cells row items) rest)
 
   items_of : (rev : Rev) (owner : ℕ) (key : List ℕ) (row : Bool) (n c : ℕ) (ts : Nodes) → AllByRecursion (IsOf rev) (items_listed rev owner key row n c ts)
   items_of rev owner key row n c no_nodes = tt
   items_of rev owner key row n c (first t ts) =
-      all_append (IsOf rev) (listed rev (at_of rev owner key row c) n (c + cells_taken row) t) (items_listed rev owner key row (n + node_count t) (c + (cells_taken row + cell_count t)) ts)
+      AllByRecursion-append (IsOf rev) (listed rev (at_of rev owner key row c) n (c + cells_taken row) t) (items_listed rev owner key row (n + node_count t) (c + (cells_taken row + cell_count t)) ts)
       (tree_of rev (at_of rev owner key row c) n (c + cells_taken row) t (cell_of rev owner key row c))
       (items_of rev owner key row (n + node_count t) (c + (cells_taken row + cell_count t)) ts)
 
@@ -100,23 +99,6 @@ said_by {A} {B} say (x ∷ xs) h = go (say x) refl (λ k. said_by say xs k) h
     go None e rest h = let y = rest h in (y.0, inr y.1, y.2)
     go (Some b) e rest h = (x, inl refl, rw e refl)
 
-filter_from : {A B : Type 0} (f : A → Option B) (xs : List A) (y : B) → Has (filter_map f xs) y → (x : A) × Has xs x × (f x ≡ Some y)
-filter_from f [] y h = absurd h
-filter_from {A} {B} f (x ∷ xs) y h = go (f x) refl (λ k. filter_from f xs y k) h
-  where
-    go : (o : Option B) → f x ≡ o → (Has (filter_map f xs) y → (z : A) × Has xs z × (f z ≡ Some y)) → Has (cons_option o (filter_map f xs)) y → (z : A) × Has (x ∷ xs) z × (f z ≡ Some y)
-    go None e rest k = let z = rest k in (z.0, inr z.1, z.2)
-    go (Some w) e rest (inl q) = (x, inl refl, e ∙ ap (λ a. Some a) q)
-    go (Some w) e rest (inr k) = let z = rest k in (z.0, inr z.1, z.2)
-
-filter_short : {A B : Type 0} (f : A → Option B) (xs : List A) → length (filter_map f xs) ≤ length xs
-filter_short f [] = omega arith
-filter_short {A} {B} f (x ∷ xs) = go (f x) (filter_short f xs)
-  where
-    go : (o : Option B) → length (filter_map f xs) ≤ length xs → length (cons_option o (filter_map f xs)) ≤ length (x ∷ xs)
-    go None h = omega arith
-    go (Some y) h = omega arith
-
 typed_name : (n : NodeId) (x : FlatNode) → IsSome (type_at n x) → x.node ≡ n
 typed_name n x h = go (same_node x.node n) refl h
   where
@@ -141,7 +123,7 @@ list_made xs schema h = record {
       let w = all-has (IsOf opening) xs x.0 h x.1 in
       inl (sym w.0 ∙ ap (λ (m : NodeId). m.0.rev) (typed_name n x.0 x.2));
   cells = λ n o i.
-      let x = filter_from (λ (x : FlatNode). cell_at n x.node x.at) xs o i in
+      let x = filter-from (λ (x : FlatNode). cell_at n x.node x.at) xs o i in
       let w = all-has (IsOf opening) xs x.0 h x.1 in
       inl (sym (cell_there opening n x.0.node x.0.at o w.1 x.2));
 }
@@ -165,18 +147,12 @@ few_nodes t h = go (nat_lt 1024 (node_count t)) refl h
     go true e f = absurd (cc)
     go false e f = grind (arith, nat_tests)
 
--- where no verdict is a refusal, all allow
-none_refused : (k : ℕ) (vs : List Bool) → refusal (position_from (λ ok. not ok) k vs) ≡ Ok tt → list_all (λ ok. ok) vs ≡ true
-none_refused k [] h = refl
-none_refused k (true ∷ vs) h = none_refused (k + 1) vs h
-none_refused k (false ∷ vs) h = cc
-
 -- a tree that a trace may open with is within the limits, and of the form
 pub opens_within : (s : SchemaView) (t : Node) → may_open s t ≡ true → check_of t ≡ Ok tt
-opens_within s t h = ok_is (check_of t) (both_true (is_ok (check_of t)) (is_ok (allows_of s s.root t)) h).0
+opens_within s t h = ok_is (check_of t) (and-true (is_ok (check_of t)) (is_ok (allows_of s s.root t)) h).0
 
 pub opens_allowed : (s : SchemaView) (t : Node) → may_open s t ≡ true → allows_of s s.root t ≡ Ok tt
-opens_allowed s t h = ok_is (allows_of s s.root t) (both_true (is_ok (check_of t)) (is_ok (allows_of s s.root t)) h).1
+opens_allowed s t h = ok_is (allows_of s s.root t) (and-true (is_ok (check_of t)) (is_ok (allows_of s s.root t)) h).1
 
 pub opens_formed : (s : SchemaView) (t : Node) → may_open s t ≡ true → has_form t ≡ true
 opens_formed s t h = conforming_formed s s.root t (none_refused 0 (verdicts s s.root t) (opens_allowed s t h))
@@ -191,7 +167,7 @@ opened_start h k =
     record {
       sound = start_sound h.tree schema (opens_formed h.schema h.tree k.tree) (omega (arith, few));
       made = list_made xs schema (tree_of opening FlatAt.Root 0 0 h.tree tt);
-      short = λ n. omega (arith, few, many, filter_short (λ (x : FlatNode). cell_at n x.node x.at) xs);
+      short = λ n. omega (arith, few, many, filter_map-length (λ (x : FlatNode). cell_at n x.node x.at) xs);
     }
 
 -- the header that a line is

@@ -1,6 +1,5 @@
 -- Which step is which.
-use Rattle.std.proofs.Common.{◌≡◌, ℕ, List, Option, Some, None, Result, Ok, Err, refl, sym, ap, ◌∙◌, subst}
-use Rattle.std.specs.Result.{IfOk}
+use Rattle.std.proofs.Common.{◌≡◌, ℕ, List, Option, Some, None, refl, sym, ap, ◌∙◌, subst}
 use Rattle.st_edits.specs.Resolve.{IsWithin, resolve}
 use Rattle.st_script.specs.Header.{HeaderView}
 use Rattle.st_script.specs.Line.{line_of, line_view}
@@ -16,11 +15,6 @@ use Rattle.st_trace.specs.declared.client.EditWord.{EditWord}
 use Rattle.st_trace.specs.declared.client.EditWord.TheVariants as word
 use Rattle.st_trace.specs.declared.state.Client.{Client}
 use Rattle.st_trace.specs.declared.state.WorldState.{WorldState}
-
--- what holds of a result's value, and what follows from it
-pub if_ok_as : {A E : Type 0} (r : Result A E) (P Q : A → Type 0) → ((a : A) → P a → Q a) → IfOk r P → IfOk r Q
-if_ok_as (Ok a) P Q f p = f a p
-if_ok_as (Err e) P Q f p = tt
 
 abbrev IsMeant : HeaderView → WorldState → ℕ → Client → WorldState → Answer → TraceStep → EditWord → Type 0
 IsMeant h w i c v a s x = IsEdited h w i c x (λ D. resolve D h.schema (next_names c) (edit_of s)) v a

@@ -10,14 +10,14 @@ use Rattle.st_ids.specs.declared.names.Rev.{Rev}
 use Rattle.st_tree.specs.Preorder.{cell_named, node_named}
 use Rattle.st_marks.specs.declared.intents.Intent.{Intent}
 use Rattle.st_marks.specs.Document.{Document, NodeType, IsSoundInForm, opening, owned}
-use Rattle.st_marks.specs.Extends.{no_more, item_gained, item_kept}
+use Rattle.st_marks.specs.Extends.{item_kept}
 use Rattle.st_marks.specs.Intent.{Fits}
 use Rattle.st_marks.proofs.Members.{all-has, has-all, append_left, append_right, has-append, has-map, map-has, distinct-append, distinct-between}
 use Rattle.st_log_laws.specs.Names.{HaveNewRevisions, revisions}
 use Rattle.st_log_laws.specs.Turns.{FitInTurn, HasRoom, IsSublist}
 use Rattle.st_log_laws.proofs.Turns.{front, then_one, turn_extends, made_in_run}
 use Rattle.st_log_laws.proofs.Room.{room_in_run}
-use Rattle.st_log_laws.proofs.Shorter.{sublist_itself, sublist_joined, new_shorter}
+use Rattle.st_log_laws.proofs.Shorter.{sublist_itself, sublist_joined, new_shorter, has_longer}
 use Rattle.st_log_laws.proofs.Beside.{another_later, later_fits, one_fits}
 use Rattle.st_script.specs.Header.{HeaderView}
 use Rattle.st_trace.specs.Replicas.{IsClient, commits_by, intents_of, log_and_queue}
@@ -29,22 +29,13 @@ use Rattle.st_trace.specs.declared.state.Entry.{Entry}
 use Rattle.st_trace.specs.declared.state.Queued.{Queued}
 use Rattle.st_trace.proofs.Begun.{IsStart}
 use Rattle.st_trace.proofs.Counting.{names_append, fewer_names, room_left}
-use Rattle.st_trace.proofs.Logs.{drop-get, take-get, commits_append, commits_split, by_sublist, by_own, by_other, by_none, one_commit, no_commit, last_entry, entered_commits, entered_front, entered_rest}
+use Rattle.st_trace.proofs.Logs.{take-get, commits_append, commits_split, by_sublist, by_own, by_other, by_none, one_commit, no_commit, last_entry, entered_commits, entered_front, entered_rest}
+use Rattle.st_lemmas.proofs.Lists.{AllByRecursion-append, drop-slice_get}
 
 -- ## Lists
 
 sublist_of : {As Bs Cs Ds : List Intent} → As ≡ Cs → Bs ≡ Ds → IsSublist As Bs → IsSublist Cs Ds
 sublist_of {As} {Bs} {Cs} {Ds} p q g = subst (λ l. IsSublist Cs l) q (subst (λ l. IsSublist l Bs) p g)
-
-pub has_longer : {As Bs : List Intent} → IsSublist As Bs → (N : Intent) → Has As N → Has Bs N
-has_longer no_more N h = absurd h
-has_longer (item_gained g) N h = inr (has_longer g N h)
-has_longer (item_kept e g) N (inl q) = inl (sym e ∙ q)
-has_longer (item_kept e g) N (inr h) = inr (has_longer g N h)
-
-pub all_append : {A : Type 0} (P : A → Type 0) (xs ys : List A) → AllByRecursion P xs → AllByRecursion P ys → AllByRecursion P (xs ++ ys)
-all_append P [] ys p q = q
-all_append P (x ∷ xs) ys p q = (p.0, all_append P xs ys p.1 q)
 
 -- the commits of texts, the last being one more
 intents_more : (qs : List Queued) (q : Queued) → intents_of (qs ++ q ∷ []) ≡ intents_of qs ++ q.intent ∷ []
@@ -191,7 +182,7 @@ module _ (h : HeaderView) (st : IsStart (opening_document h)) where
         shown_fit = subst (FitInTurn O) (append_assoc A c.pending (N ∷ [])) (then_one (A ++ c.pending) (N ∷ []) k.shown_fit shown last);
         sent_fit = subst (FitInTurn O) more (later_fits (opening ∷ []) O D (A ++ c.pending) (log_and_queue log c) N st.sound st.made (shown_among log c k) k.shown_fit k.sent_fit shown fits none fresh room_all);
         new = subst (HaveNewRevisions (opening ∷ [])) more (new_more (opening ∷ []) (log_and_queue log c) N k.new fresh);
-        own = subst (AllByRecursion (λ (M : Intent). M.rev.session ≡ c.session)) (sym (intents_more c.queue q)) (all_append (λ (M : Intent). M.rev.session ≡ c.session) Q (N ∷ []) k.own (ap (λ (r : Rev). r.session) rev, tt));
+        own = subst (AllByRecursion (λ (M : Intent). M.rev.session ≡ c.session)) (sym (intents_more c.queue q)) (AllByRecursion-append (λ (M : Intent). M.rev.session ≡ c.session) Q (N ∷ []) k.own (ap (λ (r : Rev). r.session) rev, tt));
         ids = λ M i s. ids M (has-append (log_and_queue log c) (N ∷ []) M (subst (λ l. Has l M) (sym more) i)) s;
       }
     where
@@ -210,7 +201,7 @@ module _ (h : HeaderView) (st : IsStart (opening_document h)) where
   pub own_first : (log : List Entry) (c : Client) (e : Entry) (N : Intent) → IsClient h log c → slice_get log c.received ≡ Some e → commit_of e ≡ Some N → (e.session == c.session) ≡ true
       → c.pending ≡ N ∷ (commits_by c.session (drop (c.received + 1) log) ++ intents_of c.queue)
   own_first log c e N k at is own =
-      k.under_way ∙ ap (λ l. commits_by c.session l ++ intents_of c.queue) (drop-get log c.received e at) ∙ ap (λ l. l ++ intents_of c.queue) (by_own c.session e (drop (c.received + 1) log) N own is)
+      k.under_way ∙ ap (λ l. commits_by c.session l ++ intents_of c.queue) (drop-slice_get log c.received e at) ∙ ap (λ l. l ++ intents_of c.queue) (by_own c.session e (drop (c.received + 1) log) N own is)
 
   pub client_own : (log : List Entry) (c : Client) (e : Entry) (N : Intent) (rest : List Intent) → IsClient h log c → slice_get log c.received ≡ Some e → commit_of e ≡ Some N → (e.session == c.session) ≡ true
       → rest ≡ drop 1 c.pending → IsClient h log (record c { received = c.received + 1; pending = rest })
@@ -254,7 +245,7 @@ module _ (h : HeaderView) (st : IsStart (opening_document h)) where
       let rest = drop (c.received + 1) log in
       let C = commits_in rest in
       let Q = intents_of c.queue in
-      let pending : commits_by c.session rest ++ Q ≡ c.pending = sym (k.under_way ∙ ap (λ l. commits_by c.session l ++ Q) (drop-get log c.received e at) ∙ ap (λ l. l ++ Q) (by_other c.session e rest other)) in
+      let pending : commits_by c.session rest ++ Q ≡ c.pending = sym (k.under_way ∙ ap (λ l. commits_by c.session l ++ Q) (drop-slice_get log c.received e at) ∙ ap (λ l. l ++ Q) (by_other c.session e rest other)) in
       let around = sent_around log c e N at is in
       let among : IsSublist (A ++ N ∷ c.pending) (log_and_queue log c) =
       sublist_of (ap (λ l. A ++ N ∷ l) pending) around (sublist_joined (sublist_itself A) (item_kept refl (sublist_joined (by_sublist c.session rest) (sublist_itself Q)))) in
@@ -271,7 +262,7 @@ module _ (h : HeaderView) (st : IsStart (opening_document h)) where
         within = omega (arith, slice_get_within log c.received e at);
         few = k.few;
         few_names = k.few_names;
-        under_way = k.under_way ∙ ap (λ l. commits_by c.session l ++ intents_of c.queue) (drop-get log c.received e at) ∙ ap (λ l. l ++ intents_of c.queue) (by_other c.session e (drop (c.received + 1) log) other);
+        under_way = k.under_way ∙ ap (λ l. commits_by c.session l ++ intents_of c.queue) (drop-slice_get log c.received e at) ∙ ap (λ l. l ++ intents_of c.queue) (by_other c.session e (drop (c.received + 1) log) other);
         shown_fit = subst (FitInTurn (opening_document h)) (sym (append_assoc A (N ∷ []) c.pending) ∙ ap (λ l. l ++ c.pending) (sym now)) (other_fit log c e N k at is other all);
         sent_fit = k.sent_fit;
         new = k.new;
@@ -287,7 +278,7 @@ module _ (h : HeaderView) (st : IsStart (opening_document h)) where
         within = omega (arith, slice_get_within log c.received e at);
         few = k.few;
         few_names = k.few_names;
-        under_way = k.under_way ∙ ap (λ l. commits_by c.session l ++ intents_of c.queue) (drop-get log c.received e at) ∙ ap (λ l. l ++ intents_of c.queue) (by_none c.session e (drop (c.received + 1) log) is);
+        under_way = k.under_way ∙ ap (λ l. commits_by c.session l ++ intents_of c.queue) (drop-slice_get log c.received e at) ∙ ap (λ l. l ++ intents_of c.queue) (by_none c.session e (drop (c.received + 1) log) is);
         shown_fit = subst (FitInTurn (opening_document h)) (ap (λ l. l ++ c.pending) (sym now)) k.shown_fit;
         sent_fit = k.sent_fit;
         new = k.new;

@@ -13,13 +13,6 @@ use Rattle.st_trace.specs.declared.state.Entry.{Entry}
 
 -- ## Lists
 
-pub drop-get : {X : Type 0} (xs : List X) (i : ℕ) (x : X) → slice_get xs i ≡ Some x → drop i xs ≡ x ∷ drop (i + 1) xs
-drop-get [] i x e = cc
-drop-get (y ∷ ys) zero x e = let same : y ≡ x = cc in rw same refl
-drop-get (y ∷ ys) (suc i) x e =
-    let one : suc i + 1 ≡ suc (i + 1) = omega arith in
-    rw one (drop-get ys i x e)
-
 pub take-get : {X : Type 0} (xs : List X) (i : ℕ) (x : X) → slice_get xs i ≡ Some x → take (i + 1) xs ≡ take i xs ++ x ∷ []
 take-get [] i x e = cc
 take-get (y ∷ ys) zero x e = let same : y ≡ x = cc in rw same refl

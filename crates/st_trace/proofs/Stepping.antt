@@ -43,11 +43,12 @@ use Rattle.st_trace.specs.declared.state.Queued.{Queued}
 use Rattle.st_trace.specs.declared.world.World.{World}
 use Rattle.st_trace.proofs.Agreed.{joined_keeps, sent_keeps}
 use Rattle.st_trace.proofs.Begun.{IsStart, opened_start}
-use Rattle.st_trace.proofs.Clients.{all_append, client_joined}
+use Rattle.st_trace.proofs.Clients.{client_joined}
 use Rattle.st_trace.proofs.Counting.{names_append}
 use Rattle.st_trace.proofs.Everyone.{all_after_join, all_as, all_get, all_sent, all_set, kept_push, kept_set, kept_some, past, session_bound, sessions_push, sessions_set}
 use Rattle.st_trace.proofs.Keeping.{AreOne, kept_joined, run_more}
 use Rattle.st_trace.proofs.Logs.{entered_commits, last_entry}
+use Rattle.st_lemmas.proofs.Lists.{AllByRecursion-append}
 
 abbrev pub start_of : (w : World) (steps : ℕ) → IsSoundAfter steps w → IsStart (opening_document (header_view w.header))
 start_of w steps s = opened_start (header_view w.header) s.header
@@ -182,7 +183,7 @@ sound_sent w i c c' q head known v s at is is_c few few_names verdict after know
       ids = all_set (λ (x : Client). x.ids ≤ w.steps + 1) w.lists.clients i c' (all_as (λ (x : Client). x.ids ≤ w.steps) (λ (x : Client). x.ids ≤ w.steps + 1) w.lists.clients (λ x p. omega (arith, p)) s.ids)
           (omega (arith, low, ap (λ (x : Client). x.ids) is_c));
       log = subst (λ n. AllByRecursion (IsEntryOf n) (log_with log c.session body)) (sym size)
-          (all_append (IsEntryOf (length w.lists.clients)) log (last_entry log c.session body ∷ []) s.log ((omega (arith, bound), last.session), tt));
+          (AllByRecursion-append (IsEntryOf (length w.lists.clients)) log (last_entry log c.session body ∷ []) s.log ((omega (arith, bound), last.session), tt));
       log_fit = subst (FitInTurn (opening_document h)) commits last.fit;
       log_new = subst (HaveNewRevisions (opening ∷ [])) commits last.new;
       schema = sent_keeps h st log w.lists.clients w.kept i c c' q s.kept at is is_c last.fit s.schema;
@@ -230,10 +231,10 @@ sound_joined w name n session c k known s few few_entries is_s is_n knows is_c r
           (subst (λ x. IsClient h (log_with log session Join) x) is client) (subst (λ x. IsReplicaOf h (log_with log session Join) x k) is kept);
       sessions = sessions_push 1 w.lists.clients c s.sessions (ap (λ (x : Client). x.session) is_c ∙ is_s ∙ omega arith);
       clients = omega (arith, few, more);
-      ids = all_append (λ (x : Client). x.ids ≤ w.steps + 1) w.lists.clients (c ∷ []) (all_as (λ (x : Client). x.ids ≤ w.steps) (λ (x : Client). x.ids ≤ w.steps + 1) w.lists.clients (λ x p. omega (arith, p)) s.ids)
+      ids = AllByRecursion-append (λ (x : Client). x.ids ≤ w.steps + 1) w.lists.clients (c ∷ []) (all_as (λ (x : Client). x.ids ≤ w.steps) (λ (x : Client). x.ids ≤ w.steps + 1) w.lists.clients (λ x p. omega (arith, p)) s.ids)
           (omega (arith, ap (λ (x : Client). x.ids) is_c), tt);
       log = subst (λ m. AllByRecursion (IsEntryOf m) (log_with log session Join)) (sym more)
-          (all_append (IsEntryOf (length w.lists.clients + 1)) log (last_entry log session Join ∷ [])
+          (AllByRecursion-append (IsEntryOf (length w.lists.clients + 1)) log (last_entry log session Join ∷ [])
           (all_as (IsEntryOf (length w.lists.clients)) (IsEntryOf (length w.lists.clients + 1)) log (λ e p. (omega (arith, p.0), p.1)) s.log) ((omega (arith, is_s), tt), tt));
       log_fit = subst (FitInTurn (opening_document h)) commits s.log_fit;
       log_new = subst (HaveNewRevisions (opening ∷ [])) commits s.log_new;

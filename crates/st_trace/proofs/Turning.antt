@@ -10,7 +10,8 @@ use Rattle.st_marks.specs.Verdict.{IsVerdict, carried}
 use Rattle.st_marks.proofs.OneVerdict.{carried_extends}
 use Rattle.st_log_laws.specs.Turns.{FitInTurn}
 use Rattle.st_trace.proofs.Keeping.{run_more}
-use Rattle.st_trace.proofs.Logs.{drop-get, take-get}
+use Rattle.st_trace.proofs.Logs.{take-get}
+use Rattle.st_lemmas.proofs.Lists.{drop-slice_get}
 
 there : {X : Type 0} (xs : List X) (i : ℕ) (x : X) → i < length xs → x ≡ get_or xs i x → slice_get xs i ≡ Some x
 there [] i x less e = absurd (omega (arith, less))
@@ -18,7 +19,7 @@ there (y ∷ ys) zero x less e = ap (λ z. Some z) (sym e)
 there (y ∷ ys) (suc i) x less e = there ys i x (omega (arith, less)) e
 
 pub left_fit : (D : Document) (Ns : List Intent) (i : ℕ) (N : Intent) → i < length Ns → N ≡ get_or Ns i N → FitInTurn D (drop i Ns) → FitInTurn D (N ∷ drop (i + 1) Ns)
-left_fit D Ns i N less is fit = subst (FitInTurn D) (drop-get Ns i N (there Ns i N less is)) fit
+left_fit D Ns i N less is fit = subst (FitInTurn D) (drop-slice_get Ns i N (there Ns i N less is)) fit
 
 pub record AreTurned (O D : Document) (Ns : List Intent) (i : ℕ) : Type 0 where
   pub sound : IsSoundInForm D

@@ -1,5 +1,5 @@
 -- The list of a tree's nodes builds the tree back.
-use Rattle.std.proofs.Common.{◌≡◌, ℕ, ◌+◌, ◌<◌, ◌≤◌, ◌==◌, List, [], ◌∷◌, ◌++◌, ◌∙◌, length, map, Bool, true, false, ◌&&◌, ◌||◌, Option, None, Some, refl, sym, ap, subst, arith, append_assoc}
+use Rattle.std.proofs.Common.{◌≡◌, ℕ, ◌+◌, ◌<◌, ◌≤◌, ◌==◌, List, [], ◌∷◌, ◌++◌, ◌∙◌, length, map, Bool, true, false, ◌||◌, Option, None, Some, refl, sym, ap, subst, arith, append_assoc}
 use Rattle.std.proofs.lemmas.Bool.Decides.{nat_tests}
 use Rattle.std.proofs.lemmas.List.{append-nil}
 use Rattle.std.specs.Prelude.{⊤}
@@ -19,16 +19,9 @@ use Rattle.st_tree.specs.declared.flat.FlatAt.TheVariants.{Root, Top}
 use Rattle.st_tree.specs.declared.flat.FlatNode.{FlatNode}
 use Rattle.st_tree.specs.declared.tree.Tree.{Tree}
 use Rattle.st_tree.proofs.Back.{same_trees}
+use Rattle.st_lemmas.proofs.Bools.{refuted-false, and-true}
 
 -- ---- tests
-
-both : (a b : Bool) → a && b ≡ true → (a ≡ true) × (b ≡ true)
-both true b h = (refl, h)
-both false b h = absurd (cc)
-
-not_true : (b : Bool) → (b ≡ true → ⊥) → b ≡ false
-not_true true h = absurd (h refl)
-not_true false h = refl
 
 one_node : (a : NodeId) → is_eq (node_cmp a a) ≡ true
 unfolding same_node
@@ -39,7 +32,7 @@ unfolding same_node
 equal_nodes a b h = same_node-true a b h
 
 two_nodes : (rev : Rev) (owner m : ℕ) → owner < m → is_eq (node_cmp (node_named rev owner) (node_named rev m)) ≡ false
-two_nodes rev owner m h = not_true _ (λ e. let same : owner ≡ m = ap (λ (x : NodeId). x.0.at) (equal_nodes (node_named rev owner) (node_named rev m) e) in omega arith)
+two_nodes rev owner m h = refuted-false _ (λ e. let same : owner ≡ m = ap (λ (x : NodeId). x.0.at) (equal_nodes (node_named rev owner) (node_named rev m) e) in omega arith)
 
 -- ---- what the fields of a node leave waiting for it
 
@@ -123,7 +116,7 @@ keyed_back : (rev : Rev) (owner c : ℕ) (before : List ℕ) (fs : Fields) → k
 keyed_back rev owner c before no_fields h = refl
 keyed_back rev owner c before (field key true items rest) h = absurd (cc)
 keyed_back rev owner c before (field key false no_nodes rest) h = absurd (cc)
-keyed_back rev owner c before (field key false (first t no_nodes) rest) h = ap (field key false (first t no_nodes)) (keyed_back rev owner (c + item_cells false (first t no_nodes)) key rest (both _ _ h).1)
+keyed_back rev owner c before (field key false (first t no_nodes) rest) h = ap (field key false (first t no_nodes)) (keyed_back rev owner (c + item_cells false (first t no_nodes)) key rest (and-true _ _ h).1)
 keyed_back rev owner c before (field key false (first t (first u ts)) rest) h = absurd (cc)
 
 empty_key : (key : List ℕ) → length key == 0 ≡ true → key ≡ []
@@ -134,7 +127,7 @@ either : (a : Bool) → a || false ≡ true → a ≡ true
 either true h = refl
 either false h = h
 
-not_alone : (key : List ℕ) (items : Nodes) (rest : Fields) → is_row_alone (field key false items rest) ≡ false
+pub not_alone : (key : List ℕ) (items : Nodes) (rest : Fields) → is_row_alone (field key false items rest) ≡ false
 not_alone key items no_fields = refl
 not_alone key items (field key' row' items' rest) = refl
 
@@ -152,7 +145,7 @@ mutual
   tree_rebuilt : (rev : Rev) (at : FlatAt) (n c : ℕ) (t : Node) (rest : List FlatNode) → has_form t ≡ true → NoneFrom rev n (rebuilt rest)
       → rebuilt (listed rev at n c t ++ rest) ≡ (at, t) ∷ rebuilt rest
   tree_rebuilt rev at n c (node ty leaf fields) rest form none =
-      let parts = both (fields_fit leaf fields) (fields_have_form fields) form in
+      let parts = and-true (fields_fit leaf fields) (fields_have_form fields) form in
       let below = fields_rebuilt rev n (n + 1) c fields rest parts.1 (omega arith) (NoneFrom-later rev n (n + 1) (rebuilt rest) (omega arith) none) in
       let own = fields_below rev n c fields in
       let after = none n (omega arith) in
@@ -165,7 +158,7 @@ mutual
       → rebuilt (fields_listed rev owner n c fs ++ rest) ≡ placed_fields rev owner c fs ++ rebuilt rest
   fields_rebuilt rev owner n c no_fields rest form h none = refl
   fields_rebuilt rev owner n c (field key row items more) rest form h none =
-      let parts = both (all_have_form items) (fields_have_form more) form in
+      let parts = and-true (all_have_form items) (fields_have_form more) form in
       let k = n + item_count items in
       let d = c + item_cells row items in
       let later = fields_rebuilt rev owner k d more rest parts.1 (omega arith) (NoneFrom-later rev n k (rebuilt rest) (omega arith) none) in
@@ -179,7 +172,7 @@ mutual
       → rebuilt (items_listed rev owner key row n c ts ++ rest) ≡ placed_items rev owner key row c ts ++ rebuilt rest
   items_rebuilt rev owner key row n c no_nodes rest form h none = refl
   items_rebuilt rev owner key row n c (first t ts) rest form h none =
-      let parts = both (has_form t) (all_have_form ts) form in
+      let parts = and-true (has_form t) (all_have_form ts) form in
       let k = n + node_count t in
       let d = c + (cells_taken row + cell_count t) in
       let later = items_rebuilt rev owner key row k d ts rest parts.1 (omega arith) (NoneFrom-later rev n k (rebuilt rest) (omega arith) none) in
@@ -191,7 +184,7 @@ mutual
 tops_rebuilt : (rev : Rev) (n c : ℕ) (ts : Nodes) → all_have_form ts ≡ true → rebuilt (tops_listed rev n c ts) ≡ placed_tops rev c ts
 tops_rebuilt rev n c no_nodes form = refl
 tops_rebuilt rev n c (first t ts) form =
-    let parts = both _ _ form in
+    let parts = and-true _ _ form in
     let k = n + node_count t in
     let d = c + (1 + cell_count t) in
     let later = tops_rebuilt rev k d ts parts.1 in

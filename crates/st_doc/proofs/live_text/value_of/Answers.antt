@@ -1,4 +1,4 @@
-use Rattle.st_doc.proofs.LiveTexts.{on_any, if_ok_along, leaf_shown, row_shown, registers_shown}
+use Rattle.st_doc.proofs.LiveTexts.{on_any, leaf_shown, row_shown, registers_shown}
 use Rattle.st_ids.specs.Listing.{AreDistinct, Has}
 use Rattle.st_ids.specs.declared.names.NodeId.{NodeId}
 use Rattle.st_marks.specs.Document.{Document, IsSoundInForm, above}
@@ -17,6 +17,7 @@ use Rattle.st_doc.specs.Nodes.{type_of}
 use Rattle.st_doc.proofs.KeyOrder.{keys_rising, keys_found}
 use Rattle.st_doc.proofs.Children.{row_child, seat_child, seats_once}
 use Rattle.st_doc.proofs.live_text.value_of.Goals as goal
+use Rattle.st_lemmas.proofs.Options.{IfOk-along}
 
 pub returns-in-Some-leaf-clause-shown : goal.returns-in-Some-leaf-clause-shown
 returns-in-Some-leaf-clause-shown c =
@@ -25,7 +26,7 @@ returns-in-Some-leaf-clause-shown c =
     let n = c.args.node in
     let new = c.in-Some.new.now in
     let v = c.in-Some-leaf.leaf in
-    if_ok_along c.leaf_value.result (λ x. view x ≡ leaf_data v) (λ x. AllShown is D c.args.done.now → Shows is D n (view x))
+    IfOk-along c.leaf_value.result (λ x. view x ≡ leaf_data v) (λ x. AllShown is D c.args.done.now → Shows is D n (view x))
     (λ x e all. leaf_shown is D n new.ty new.leaf (ap type_of (sym c.in-Some.ensures.value)) v (view x) c.in-Some-leaf.is e) c.leaf_value.ensures
 
 pub returns-then-is_among-clause-shown : goal.returns-then-is_among-clause-shown
@@ -35,7 +36,7 @@ returns-then-is_among-clause-shown c =
     let n = c.args.node in
     let new = c.in-Some.new.now in
     let values = c.in_ok-values.values in
-    if_ok_along c.one_member.result (λ x. view x ≡ one_member new.ty (view (Array values))) (λ x. AllShown is D c.args.done.now → Shows is D n (view x))
+    IfOk-along c.one_member.result (λ x. view x ≡ one_member new.ty (view (Array values))) (λ x. AllShown is D c.args.done.now → Shows is D n (view x))
     (λ x e all. row_shown is D n new.ty new.leaf (ap type_of (sym c.in-Some.ensures.value)) c.args.done.now values.items (view (Array values)) (view x) all c.in_default-leaf.is
     (sym c.is_among.ensures ∙ c.if-is_among.true) c.in_ok-values.ensures.values (view-Array values) e) c.one_member.ensures
 
@@ -47,7 +48,7 @@ returns-clause-shown c =
     let new = c.in-Some.new.now in
     let entries = c.args.doc.now.held.entries in
     let members = c.in_ok-members.members in
-    if_ok_along c.one_member-2.result (λ x. view x ≡ one_member new.ty (view (Object members))) (λ x. AllShown is D c.args.done.now → Shows is D n (view x))
+    IfOk-along c.one_member-2.result (λ x. view x ≡ one_member new.ty (view (Object members))) (λ x. AllShown is D c.args.done.now → Shows is D n (view x))
     (λ x e all. registers_shown is D n new.ty new.leaf (ap type_of (sym c.in-Some.ensures.value)) c.args.done.now (seats_of n entries) (members_view members.entries) (view (Object members)) (view x) all c.in_default-leaf.is
     (sym c.is_among.ensures ∙ c.if-is_among.false) (record { rising = keys_rising (seats_of n entries) (c.requires.seats.rise n); at_each = keys_found n entries }) (c.requires.seats.holds n)
     (subst (λ ss. AreMembers c.args.done.now ss (members_view members.entries)) (c.seats_at.ensures ∙ c.requires.seats.listed n) c.in_ok-members.ensures.members) (view-Object members) e) c.one_member-2.ensures

@@ -1,17 +1,12 @@
 -- A tree that the schema allows is of the form of trees.
-use Rattle.std.proofs.Common.{◌≡◌, ℕ, ◌+◌, Bool, true, false, not, List, [], ◌∷◌, Ok, refl, sym}
-use Rattle.std.specs.List.{list_all, position_from}
+use Rattle.std.proofs.Common.{◌≡◌, ℕ, true, List, Ok, sym}
 use Rattle.st_tree.specs.Form.{has_form}
 use Rattle.st_tree.specs.Node.{Node, view}
-use Rattle.st_schema.specs.Conforms.{allows_of, refusal, verdicts}
+use Rattle.st_schema.specs.Conforms.{allows_of, verdicts}
 use Rattle.st_schema.specs.Schema.{SchemaView}
 use Rattle.st_schema.proofs.AllowedForm.{conforming_formed}
 use Rattle.st_doc_tests.proofs.given.start.Goals as goal
-
-none_refused : (k : ℕ) (vs : List Bool) → refusal (position_from (λ ok. not ok) k vs) ≡ Ok tt → list_all (λ ok. ok) vs ≡ true
-none_refused k [] h = refl
-none_refused k (true ∷ vs) h = none_refused (k + 1) vs h
-none_refused k (false ∷ vs) h = cc
+use Rattle.st_schema.proofs.Shared.{none_refused}
 
 formed : (s : SchemaView) (types : List (List ℕ)) (t : Node) → allows_of s types t ≡ Ok tt → has_form t ≡ true
 formed s types t h = conforming_formed s types t (none_refused 0 (verdicts s types t) h)

@@ -1,6 +1,6 @@
-use Rattle.st_marks.proofs.Members.{true-false}
 use Rattle.st_normal.proofs.NoRings.{both_new}
 use Rattle.st_normal.proofs.links.is_new_in_new.Goals as goal
+use Rattle.st_lemmas.proofs.Bools.{true-false}
 
 pub returns-then-is_new : goal.returns-then-is_new
 returns-then-is_new g c =
