@@ -1,11 +1,13 @@
 //! Copies, counts of cells, and laws that are called for their contracts.
 
-use st_ids::{Atom, CellId, Copied, FieldId, Key, List, NodeId, Rev, Text};
+use st_ids::{
+    Atom, CellId, Copied, FieldId, Key, List, NodeId, Rev, Text, is_same_cell, is_same_node,
+    is_same_rev,
+};
 use st_marks::{
     Change, How, Intent, Mark, RegMark, RowMarks, Spot, Step, Verdict, after, back_leads_back,
-    before, carrying_out_extends, extends_in_turn, fits_later, is_same_cell, is_same_node,
-    is_same_rev, joined_in_turn, one_embedding, one_step, one_tree, one_verdict, retreat_extends,
-    rows_keep_their_order, run_in_turn,
+    before, carrying_out_extends, extends_in_turn, fits_later, joined_in_turn, one_embedding,
+    one_step, one_tree, one_verdict, retreat_extends, rows_keep_their_order, run_in_turn,
 };
 use std::alloc::{AllocError, Global};
 use std::test::Fail;

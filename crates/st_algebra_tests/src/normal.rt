@@ -1,19 +1,12 @@
 //! A change and a step in normal form, and one of each that isn't.
 
-use st_ids::{Atom, CellId, List, NodeId, Rev, Text};
+use st_ids::{Atom, CellId, List, NodeId, OPENING, ROOT, Rev, Text};
 use st_marks::{Change, Mark, NewNode, RowMarks, SchemaStep, Step};
 use st_normal::{Check, NotNormal};
 use std::alloc::{AllocError, Global};
 use std::test::Fail;
 
-const OPENING: Rev = Rev { session: 0, num: 0 };
-
 const REV: Rev = Rev { session: 2, num: 1 };
-
-const ROOT: NodeId = NodeId(Atom {
-    rev: OPENING,
-    at: 0,
-});
 
 const NODE: NodeId = NodeId(Atom { rev: REV, at: 1 });
 

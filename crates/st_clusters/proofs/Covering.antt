@@ -4,7 +4,8 @@ use Rattle.std.proofs.lemmas.List.{get_or_append_left, get_or_push, length_push,
 use Rattle.std.proofs.lemmas.Bool.{cases_eq, cases_lt}
 use Rattle.st_ids.specs.declared.names.Rev.{Rev}
 use Rattle.st_clusters.specs.Table.{at, no_cluster, room, new_cluster, with_more, with_growth, with_range, table_of}
-use Rattle.st_clusters.specs.Names.{IsInTable, IsWithin, IsFinal, opening}
+use Rattle.st_clusters.specs.Names.{IsInTable, IsWithin, IsFinal}
+use Rattle.st_ids.specs.Root.{opening}
 use Rattle.st_clusters.specs.Log.{carried, GoOn, AreInTurn}
 use Rattle.st_clusters.specs.inside.Kept.{AreApart}
 use Rattle.st_clusters.specs.declared.ids.Cluster.{Cluster}

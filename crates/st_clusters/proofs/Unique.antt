@@ -6,7 +6,8 @@ use Rattle.std.proofs.lemmas.Option.{slice_get-get_or}
 use Rattle.std.specs.Prelude.{slice_get, ◌==◌, IfSome}
 use Rattle.st_ids.specs.declared.names.Rev.{Rev}
 use Rattle.st_clusters.specs.Table.{at, no_session, next_free, session_of}
-use Rattle.st_clusters.specs.Names.{IsInTable, IsFinal, IsFinalBefore, opening, is_later}
+use Rattle.st_clusters.specs.Names.{IsInTable, IsFinal, IsFinalBefore, is_later}
+use Rattle.st_ids.specs.Root.{opening}
 use Rattle.st_clusters.specs.inside.Kept.{AreApart, IsSound, AreCounts, session_at}
 use Rattle.st_clusters.specs.declared.ids.Cluster.{Cluster}
 use Rattle.st_clusters.specs.declared.ids.IdRange.{IdRange}

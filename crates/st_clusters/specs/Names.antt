@@ -7,11 +7,9 @@ use Rattle.st_clusters.specs.Table.{at, session_of}
 use Rattle.st_clusters.specs.declared.ids.Cluster.{Cluster}
 use Rattle.st_clusters.specs.declared.ids.IdRange.{IdRange}
 use Rattle.st_clusters.specs.declared.ids.SessionIds.{SessionIds}
+use Rattle.st_ids.specs.Root.{opening}
 
 -- ## Final numbers
-
-abbrev pub opening : Rev
-opening = record { session = 0; num = 0 }
 
 -- a cluster has an id, with a final number
 pub record IsWithin (c : Cluster) (r : Rev) (n : ℕ) : Type 0 where

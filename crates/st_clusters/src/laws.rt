@@ -1,7 +1,8 @@
 //! Laws of the table, over its definition.
 ghost use Rattle.std.specs.Prelude.{◌≡◌, ◌↔◌, ◌⊎◌, ◌≤◌, ℕ, ℤ, Ok, Some, List as Seq, [], ◌∷◌, ◌++◌};
 ghost use Rattle.st_clusters.specs.Log.{AreInTurn, IsFresh, after_log, carried};
-ghost use Rattle.st_clusters.specs.Names.{opening, IsFinal, IsFinalBefore, IsOp, stable_of};
+ghost use Rattle.st_clusters.specs.Names.{IsFinal, IsFinalBefore, IsOp, stable_of};
+ghost use Rattle.st_ids.specs.Root.{opening};
 ghost use Rattle.st_clusters.specs.Table.{Ids, table_of, with_range};
 ghost use Rattle.st_clusters.specs.declared.ids.Cluster.{Cluster as Clusters};
 ghost use Rattle.st_clusters.specs.declared.ids.IdRange.{IdRange as Range};

@@ -15,7 +15,8 @@ use Rattle.std.specs.List.{find, list_any}
 use Rattle.std.proofs.lemmas.List.Folds.{find-append}
 use Rattle.std.proofs.lemmas.List.{append-nil, take_more}
 use Rattle.st_marks.specs.declared.intents.Owned.{Owned}
-use Rattle.st_marks.specs.Document.{root, owned}
+use Rattle.st_marks.specs.Document.{owned}
+use Rattle.st_ids.specs.Root.{root}
 use Rattle.st_lemmas.proofs.Options.{option_or-assoc}
 
 -- the first items with one more

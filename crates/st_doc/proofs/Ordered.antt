@@ -14,7 +14,8 @@ use Rattle.st_ids.specs.Order.{node_cmp, same_node}
 use Rattle.st_ids.specs.declared.names.NodeId.{NodeId}
 use Rattle.st_ids.proofs.Orders.{node_cmp_total, same_node-true, same_node-itself}
 use Rattle.st_marks.specs.declared.changes.NewNode.{NewNode}
-use Rattle.st_marks.specs.Document.{Document, IsLive, IsSoundInForm, above, climb, first_of, node_of, root}
+use Rattle.st_marks.specs.Document.{Document, IsLive, IsSoundInForm, above, climb, first_of, node_of}
+use Rattle.st_ids.specs.Root.{root}
 use Rattle.st_marks.proofs.Climb.{placed_known}
 use Rattle.st_marks.proofs.Members.{all-has, has-all, append_left, append_right, has-append, any-has, distinct-append}
 use Rattle.st_doc.specs.Nodes.{type_of}

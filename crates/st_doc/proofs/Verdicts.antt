@@ -15,7 +15,8 @@ use Rattle.st_marks.specs.declared.intents.Put.{Put}
 use Rattle.st_marks.specs.declared.intents.To.{To}
 use Rattle.st_marks.specs.declared.places.Spot.{Spot}
 use Rattle.st_marks.specs.declared.schemas.SchemaEntry.{SchemaEntry}
-use Rattle.st_marks.specs.Document.{Document, last_of, revs, above, climb, node_of, root, IsLive}
+use Rattle.st_marks.specs.Document.{Document, last_of, revs, above, climb, node_of, IsLive}
+use Rattle.st_ids.specs.Root.{root}
 use Rattle.st_marks.specs.Intent.{put_of}
 use Rattle.st_marks.specs.CarryOut.{full, with_names, spot_of, unless_cleared, place_after}
 use Rattle.st_marks.specs.Verdict.{IsLeast}

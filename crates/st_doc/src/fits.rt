@@ -9,8 +9,8 @@ ghost use Rattle.st_doc.specs.inside.Fitting.{nodes_fresh, cells_fresh, schema_f
 
 use crate::doc::Doc;
 use crate::rows::cells_of;
-use st_ids::{CellId, NodeId, Rev};
-use st_intent::{is_intent, is_new, is_same_cell, is_same_node, is_same_rev};
+use st_ids::{CellId, NodeId, Rev, is_same_cell, is_same_node, is_same_rev};
+use st_intent::{is_intent, is_new};
 use st_marks::{Group, Intent, Owned, Put, SchemaEntry, To};
 
 // Whether a document has a node.

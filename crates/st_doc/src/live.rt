@@ -7,8 +7,7 @@ ghost use Rattle.st_marks.specs.Document.{is_cell};
 
 use crate::doc::Doc;
 use crate::rows::cells_of;
-use st_ids::{List, NodeId};
-use st_intent::is_same_cell;
+use st_ids::{List, NodeId, is_same_cell};
 use st_marks::{Owned, Slot, Spot};
 use std::alloc::{AllocError, Global};
 use std::collections::BTreeMap;

@@ -10,8 +10,8 @@ ghost use Rattle.st_marks.specs.CarryOut.{with_groups};
 ghost use Rattle.st_doc.specs.inside.Growing.{IsPlaceOf, at_anchor, at_place, with_group};
 
 use crate::maps::set;
-use st_ids::{CellId, List, NodeId};
-use st_intent::{is_same_anchor, is_same_cell, is_same_node};
+use st_ids::{CellId, List, NodeId, is_same_cell, is_same_node};
+use st_intent::is_same_anchor;
 use st_marks::{Group, Intent, Owned};
 use std::alloc::{AllocError, Global};
 use std::collections::BTreeMap;

@@ -1,12 +1,10 @@
 //! What a document tells, and intents that no edit comes to.
 use crate::given::{Case, carry, commit, opened, shows};
 use st_doc::Doc;
-use st_ids::{Atom, CellId, FieldId, Key, List, NodeId, Rev, Text};
+use st_ids::{Atom, CellId, FieldId, Key, List, NodeId, OPENING, Rev, Text};
 use st_marks::{Group, Intent, Owned, Put, To, Verdict};
 use std::alloc::{AllocError, Global};
 use std::test::Fail;
-
-const OPENING: Rev = Rev { session: 0, num: 0 };
 
 const REV: Rev = Rev { session: 1, num: 1 };
 

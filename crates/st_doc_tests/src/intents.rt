@@ -1,18 +1,11 @@
 //! What an intent may not do.
-use st_ids::{Atom, CellId, FieldId, Key, List, NodeId, Rev, Text};
+use st_ids::{Atom, CellId, FieldId, Key, List, NodeId, OPENING, ROOT, Rev, Text};
 use st_intent::is_intent;
 use st_marks::{Group, Intent, NewNode, Owned, Put, To};
 use std::alloc::{AllocError, Global};
 use std::test::Fail;
 
-const OPENING: Rev = Rev { session: 0, num: 0 };
-
 const REV: Rev = Rev { session: 1, num: 1 };
-
-const ROOT: NodeId = NodeId(Atom {
-    rev: OPENING,
-    at: 0,
-});
 
 fn old(at: u32) -> NodeId {
     NodeId(Atom { rev: OPENING, at })

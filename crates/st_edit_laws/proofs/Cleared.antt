@@ -14,7 +14,8 @@ use Rattle.st_schema.specs.declared.names.KindName.TheVariants.{Required, Option
 use Rattle.st_marks.specs.declared.intents.Intent.{Intent}
 use Rattle.st_marks.specs.declared.places.Spot.{Spot}
 use Rattle.st_marks.specs.declared.verdicts.Verdict.{Verdict}
-use Rattle.st_marks.specs.Document.{Document, NodeType, IsSoundInForm, IsLive, content, is_cell, slot, root}
+use Rattle.st_marks.specs.Document.{Document, NodeType, IsSoundInForm, IsLive, content, is_cell, slot}
+use Rattle.st_ids.specs.Root.{root}
 use Rattle.st_marks.specs.Intent.{clears}
 use Rattle.st_marks.specs.CarryOut.{full, unless_cleared, unless_put}
 use Rattle.st_marks.specs.Verdict.{IsVerdict}

@@ -6,7 +6,8 @@ use Rattle.st_tree.specs.declared.edit.Edit.{Edit}
 use Rattle.st_schema.specs.Schema.{SchemaView, is_sound}
 use Rattle.st_marks.specs.declared.intents.Intent.{Intent}
 use Rattle.st_marks.specs.declared.verdicts.Verdict.{Verdict}
-use Rattle.st_marks.specs.Document.{Document, IsSoundInForm, root}
+use Rattle.st_marks.specs.Document.{Document, IsSoundInForm}
+use Rattle.st_ids.specs.Root.{root}
 use Rattle.st_marks.specs.CarryOut.{full}
 use Rattle.st_marks.specs.Verdict.{IsVerdict}
 use Rattle.st_marks.specs.LiveTree.{Shows}

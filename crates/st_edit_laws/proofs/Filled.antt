@@ -22,7 +22,8 @@ use Rattle.st_schema.specs.declared.names.KindName.{KindName}
 use Rattle.st_schema.specs.declared.names.KindName.TheVariants.{Required, Optional, Sequence}
 use Rattle.st_marks.specs.declared.intents.Intent.{Intent}
 use Rattle.st_marks.specs.declared.verdicts.Verdict.{Verdict}
-use Rattle.st_marks.specs.Document.{Document, NodeType, IsSoundInForm, root}
+use Rattle.st_marks.specs.Document.{Document, NodeType, IsSoundInForm}
+use Rattle.st_ids.specs.Root.{root}
 use Rattle.st_marks.specs.Intent.{Fits, clears, put_in}
 use Rattle.st_marks.specs.CarryOut.{full, unless_put}
 use Rattle.st_marks.specs.Verdict.{IsVerdict}

@@ -24,7 +24,8 @@ use Rattle.st_marks.specs.declared.intents.Owned.{Owned}
 use Rattle.st_marks.specs.declared.intents.To.{To}
 use Rattle.st_marks.specs.declared.places.Spot.{Spot}
 use Rattle.st_marks.specs.declared.verdicts.Verdict.{Verdict}
-use Rattle.st_marks.specs.Document.{Document, NodeType, IsSoundInForm, content, is_cell, root, owned}
+use Rattle.st_marks.specs.Document.{Document, NodeType, IsSoundInForm, content, is_cell, owned}
+use Rattle.st_ids.specs.Root.{root}
 use Rattle.st_marks.specs.Intent.{Fits, put_of}
 use Rattle.st_marks.specs.CarryOut.{full, with_names, place_after}
 use Rattle.st_marks.specs.Verdict.{IsVerdict}

@@ -21,7 +21,8 @@ use Rattle.st_marks.specs.declared.intents.Intent.{Intent}
 use Rattle.st_marks.specs.declared.places.Slot.{Slot}
 use Rattle.st_marks.specs.declared.places.Spot.{Spot}
 use Rattle.st_marks.specs.declared.verdicts.Verdict.{Verdict}
-use Rattle.st_marks.specs.Document.{Document, NodeType, IsSoundInForm, above, climb, content, node_of, root}
+use Rattle.st_marks.specs.Document.{Document, NodeType, IsSoundInForm, above, climb, content, node_of}
+use Rattle.st_ids.specs.Root.{root}
 use Rattle.st_marks.specs.Intent.{Fits}
 use Rattle.st_marks.specs.CarryOut.{full}
 use Rattle.st_marks.specs.Verdict.{IsVerdict}

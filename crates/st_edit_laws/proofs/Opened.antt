@@ -19,7 +19,8 @@ use Rattle.st_schema.specs.TreeText.{tree_data}
 use Rattle.st_schema.proofs.AllowedForm.{conforming_formed}
 use Rattle.st_marks.specs.declared.intents.Owned.{Owned}
 use Rattle.st_marks.specs.declared.places.Spot.{Spot}
-use Rattle.st_marks.specs.Document.{Document, NodeType, IsSoundInForm, is_cell, opening, owned, root, slot}
+use Rattle.st_marks.specs.Document.{Document, NodeType, IsSoundInForm, is_cell, owned, slot}
+use Rattle.st_ids.specs.Root.{opening, root}
 use Rattle.st_marks.specs.LiveTree.{Shows, owners_shown}
 use Rattle.st_marks.proofs.Members.{distinct-has, has-all}
 use Rattle.st_opening.specs.Start.{cell_at, first_said, held_at, place_at, spot_at, start_of, type_at}

@@ -4,7 +4,8 @@ use Rattle.st_ids.specs.declared.names.FieldId.{FieldId}
 use Rattle.st_ids.specs.declared.names.NodeId.{NodeId}
 use Rattle.st_marks.specs.declared.intents.Owned.{Owned}
 use Rattle.st_marks.specs.declared.places.Spot.{Spot}
-use Rattle.st_marks.specs.Document.{Document, IsSoundInForm, above, climb, node_of, content, is_cell, root}
+use Rattle.st_marks.specs.Document.{Document, IsSoundInForm, above, climb, node_of, content, is_cell}
+use Rattle.st_ids.specs.Root.{root}
 use Rattle.st_marks.specs.LiveTree.{owners_shown}
 use Rattle.st_edit_laws.proofs.Rows.{among, owners_filtered}
 

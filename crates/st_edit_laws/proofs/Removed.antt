@@ -18,7 +18,8 @@ use Rattle.st_marks.specs.declared.intents.To.{To}
 use Rattle.st_marks.specs.declared.places.Slot.{Slot}
 use Rattle.st_marks.specs.declared.places.Spot.{Spot}
 use Rattle.st_marks.specs.declared.verdicts.Verdict.{Verdict}
-use Rattle.st_marks.specs.Document.{Document, NodeType, IsSoundInForm, above, climb, node_of, content, is_cell, slot, root}
+use Rattle.st_marks.specs.Document.{Document, NodeType, IsSoundInForm, above, climb, node_of, content, is_cell, slot}
+use Rattle.st_ids.specs.Root.{root}
 use Rattle.st_marks.specs.Intent.{put_of, is_register}
 use Rattle.st_marks.specs.CarryOut.{full, with_groups, with_names, place_after, unless_cleared, unless_put}
 use Rattle.st_marks.specs.Verdict.{IsVerdict}

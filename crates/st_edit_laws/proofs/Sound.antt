@@ -4,7 +4,8 @@ use Rattle.std.specs.List.{last_or}
 use Rattle.std.specs.Option.{unwrap_or}
 use Rattle.st_ids.specs.Listing.{Has}
 use Rattle.st_ids.specs.declared.names.Rev.{Rev}
-use Rattle.st_marks.specs.Document.{Document, IsSoundInForm, first_of, last_of, revs, opening}
+use Rattle.st_marks.specs.Document.{Document, IsSoundInForm, first_of, last_of, revs}
+use Rattle.st_ids.specs.Root.{opening}
 use Rattle.st_edits.specs.Resolve.{empty_intent}
 use Rattle.st_edits.specs.declared.names.NameCounters.{NameCounters}
 

@@ -24,7 +24,8 @@ use Rattle.st_marks.specs.declared.intents.Owned.{Owned}
 use Rattle.st_marks.specs.declared.intents.Put.{Put}
 use Rattle.st_marks.specs.declared.intents.To.{To}
 use Rattle.st_marks.specs.declared.places.Slot.{Slot}
-use Rattle.st_marks.specs.Document.{Document, NodeType, IsSoundInForm, is_cell, slot, root, owned}
+use Rattle.st_marks.specs.Document.{Document, NodeType, IsSoundInForm, is_cell, slot, owned}
+use Rattle.st_ids.specs.Root.{root}
 use Rattle.st_marks.specs.Intent.{Fits, IsKnown, Owns, cell_of, clears, is_new, register_of}
 use Rattle.st_marks.proofs.Members.{all-has, has-all, has-map, first-has}
 use Rattle.st_marks.specs.LiveTree.{live_slots}

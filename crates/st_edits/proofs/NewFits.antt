@@ -28,7 +28,8 @@ use Rattle.st_marks.specs.declared.intents.Intent.{Intent}
 use Rattle.st_marks.specs.declared.intents.Owned.{Owned}
 use Rattle.st_marks.specs.declared.intents.Put.{Put}
 use Rattle.st_marks.specs.declared.intents.To.{To}
-use Rattle.st_marks.specs.Document.{Document, NodeType, IsSoundInForm, root, owned}
+use Rattle.st_marks.specs.Document.{Document, NodeType, IsSoundInForm, owned}
+use Rattle.st_ids.specs.Root.{root}
 use Rattle.st_marks.specs.Intent.{Fits, IsKnown, Owns, above_new, cell_of, clears, group_cells, is_new, new_row_of, put_of, put_under, register_of}
 use Rattle.st_marks.proofs.Members.{all-has, has-all, any-has, has-any, append_right, has-append, first-has, none-has, first-distinct, has-map, map-has, has-flat_map, flat_map-has, has-filter_map}
 use Rattle.st_edits.specs.New.{new_nodes, puts, to_at, top_cell, row_cell, owned_by, top_cells, cells_under, group_of, group_under, groups_under, names_taken}

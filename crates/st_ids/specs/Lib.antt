@@ -5,3 +5,4 @@ pub mod Names
 pub mod Numeral
 pub mod Or
 pub mod Order
+pub mod Root

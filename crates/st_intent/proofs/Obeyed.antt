@@ -17,7 +17,8 @@ use Rattle.st_marks.specs.declared.intents.Intent.{Intent}
 use Rattle.st_marks.specs.declared.intents.Owned.{Owned}
 use Rattle.st_marks.specs.declared.intents.Put.{Put}
 use Rattle.st_marks.specs.declared.intents.To.{To}
-use Rattle.st_marks.specs.Document.{ClimbsToAnEnd, root}
+use Rattle.st_marks.specs.Document.{ClimbsToAnEnd}
+use Rattle.st_ids.specs.Root.{root}
 use Rattle.st_marks.specs.Intent.{IsIntent, is_new, put_of, new_row_of, clears, cell_of, register_of, same_anchor, group_cells, above_new}
 use Rattle.st_marks.proofs.Members.{any-has, has-any, all-has, has-all, has-flat_map, flat_map-has, map-has, distinct-append, distinct-left, distinct-right, distinct-between}
 use Rattle.st_intent.specs.Rules.{makes, is_put}

@@ -6,8 +6,8 @@ ghost use Rattle.st_marks.specs.Intent.{same_anchor, cell_of, register_of};
 ghost use Rattle.st_intent.specs.inside.Rules.{are_distinct, are_same};
 
 use crate::finds::has_cell;
-use crate::same::{is_same_anchor, is_same_cell, is_same_field, is_same_node};
-use st_ids::CellId;
+use crate::same::is_same_anchor;
+use st_ids::{CellId, is_same_cell, is_same_field, is_same_node};
 use st_marks::{Group, NewNode, Owned, Put, To};
 
 fn has_new(new: &[NewNode], node: &NewNode) -> bool

@@ -5,8 +5,7 @@ ghost use Rattle.st_ids.specs.Order.{same_node, same_cell, same_field};
 ghost use Rattle.st_marks.specs.Intent.{clears, put_of, is_new, new_row_of};
 ghost use Rattle.st_intent.specs.Rules.{makes, is_put};
 
-use crate::same::{is_same_cell, is_same_field, is_same_node};
-use st_ids::{CellId, FieldId, NodeId};
+use st_ids::{CellId, FieldId, NodeId, is_same_cell, is_same_field, is_same_node};
 use st_marks::{Group, Intent, Owned, To};
 
 /// Whether an intent clears a register.

@@ -10,8 +10,7 @@ use crate::distinct::{
     anchors_are_distinct, cells_are_distinct, new_are_distinct, places_are_distinct,
 };
 use crate::finds::{is_made, is_new, is_put};
-use crate::same::is_same_rev;
-use st_ids::{CellId, Rev};
+use st_ids::{CellId, Rev, is_same_rev};
 use st_marks::{Group, Intent, NewNode, Owned};
 
 // Whether all new nodes have a revision.

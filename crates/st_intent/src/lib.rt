@@ -11,4 +11,4 @@ mod same;
 
 pub use finds::{is_cleared, is_made, is_new, is_put, new_row_of, put_of};
 pub use rules::is_intent;
-pub use same::{is_before, is_same_anchor, is_same_cell, is_same_field, is_same_node, is_same_rev};
+pub use same::{is_before, is_same_anchor};

@@ -1,26 +1,10 @@
 //! Whether two names are one.
 ghost use Rattle.std.specs.Prelude.{◌≡◌};
 ghost use Rattle.std.specs.Ordering.{is_lt};
-ghost use Rattle.st_ids.specs.Order.{same_node, same_cell, same_field, same_rev, node_cmp};
+ghost use Rattle.st_ids.specs.Order.{node_cmp};
 ghost use Rattle.st_marks.specs.Intent.{same_anchor};
 
-use st_ids::{CellId, FieldId, NodeId, Rev};
-
-/// Whether two nodes have one name.
-#[tactic(auto, unfolding(st_ids::specs::Order::same_node))]
-pub fn is_same_node(a: NodeId, b: NodeId) -> bool
-    ensures { result ≡ same_node a b }
-{
-    a.cmp(&b).is_eq()
-}
-
-/// Whether two cells have one name.
-#[tactic(auto, unfolding(st_ids::specs::Order::same_cell))]
-pub fn is_same_cell(a: CellId, b: CellId) -> bool
-    ensures { result ≡ same_cell a b }
-{
-    a.cmp(&b).is_eq()
-}
+use st_ids::{CellId, NodeId, is_same_cell};
 
 /// Whether two groups stand after one cell, or both at the start; `None` is a row's start.
 pub fn is_same_anchor(a: Option<CellId>, b: Option<CellId>) -> bool
@@ -31,22 +15,6 @@ pub fn is_same_anchor(a: Option<CellId>, b: Option<CellId>) -> bool
         (Some(a), Some(b)) => is_same_cell(a, b),
         _ => false,
     }
-}
-
-/// Whether two fields have one name.
-#[tactic(auto, unfolding(st_ids::specs::Order::same_field))]
-pub fn is_same_field(a: &FieldId, b: &FieldId) -> bool
-    ensures { result ≡ same_field a.now b.now }
-{
-    a.cmp(b).is_eq()
-}
-
-/// Whether two revisions are one.
-#[tactic(auto, unfolding(st_ids::specs::Order::same_rev))]
-pub fn is_same_rev(a: Rev, b: Rev) -> bool
-    ensures { result ≡ same_rev a b }
-{
-    a.cmp(&b).is_eq()
 }
 
 /// Whether one node's name is before another's.

@@ -15,7 +15,8 @@ use Rattle.st_marks.specs.declared.intents.Intent.{Intent}
 use Rattle.st_marks.specs.declared.intents.Put.{Put}
 use Rattle.st_marks.specs.declared.intents.To.{To}
 use Rattle.st_marks.specs.declared.verdicts.Verdict.{Verdict}
-use Rattle.st_marks.specs.Document.{Document, IsSoundInForm, IsAncestor, IsLive, above, climb, ClimbsToAnEnd, root, revs, last_of}
+use Rattle.st_marks.specs.Document.{Document, IsSoundInForm, IsAncestor, IsLive, above, climb, ClimbsToAnEnd, revs, last_of}
+use Rattle.st_ids.specs.Root.{root}
 use Rattle.st_marks.specs.Intent.{put_of}
 use Rattle.st_marks.specs.CarryOut.{full}
 use Rattle.st_marks.specs.Verdict.{HasBase, IsBaseInEffect, IsLeast, IsUnmetNeed, IsAboveItself, IsVerdict}

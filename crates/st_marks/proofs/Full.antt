@@ -11,7 +11,8 @@ use Rattle.st_marks.specs.declared.intents.Put.{Put}
 use Rattle.st_marks.specs.declared.intents.To.{To}
 use Rattle.st_marks.specs.declared.places.Spot.{Spot}
 use Rattle.st_marks.specs.declared.schemas.SchemaEntry.{SchemaEntry}
-use Rattle.st_marks.specs.Document.{Document, root, node_of, above, IsAncestor, ClimbsToAnEnd, CanBeInEffect, IsSoundInForm, owned, opening, first_of, revs}
+use Rattle.st_marks.specs.Document.{Document, node_of, above, IsAncestor, ClimbsToAnEnd, CanBeInEffect, IsSoundInForm, owned, first_of, revs}
+use Rattle.st_ids.specs.Root.{root, opening}
 use Rattle.st_marks.specs.Extends.{IsExtendedBy}
 use Rattle.st_marks.specs.Intent.{put_of, put_in, clears, cell_of, register_of, IsIntent, Fits, IsKnown, Owns}
 use Rattle.st_marks.specs.CarryOut.{full, with_names, spot_of, place_after, unless_cleared, unless_put, with_schema}

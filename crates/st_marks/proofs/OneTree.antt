@@ -5,7 +5,8 @@ use Rattle.std.proofs.lemmas.Map.Lookups.{exact_bytes}
 use Rattle.serde_json.specs.Data.{Data, array, object, Items, item, Members, member}
 use Rattle.serde_json.specs.Written.{compact_text}
 use Rattle.st_ids.specs.declared.names.NodeId.{NodeId}
-use Rattle.st_marks.specs.Document.{Document, NodeType, root}
+use Rattle.st_marks.specs.Document.{Document, NodeType}
+use Rattle.st_ids.specs.Root.{root}
 use Rattle.st_marks.specs.LiveTree.{Shows, shows_leaf, shows_row, shows_registers, ShowsItems, no_more_items, next_item, ShowsMembers, no_more_members, next_member, leaf_data, one_member, key_at, IsTreeText}
 use Rattle.st_marks.proofs.Unique.{one_list}
 use Rattle.st_lemmas.proofs.Bools.{true-false}

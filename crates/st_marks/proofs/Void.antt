@@ -8,7 +8,8 @@ use Rattle.st_ids.specs.declared.names.NodeId.{NodeId}
 use Rattle.st_marks.specs.declared.intents.Intent.{Intent}
 use Rattle.st_marks.specs.declared.intents.To.{To}
 use Rattle.st_marks.specs.declared.places.Spot.{Spot}
-use Rattle.st_marks.specs.Document.{Document, root, node_of, above, climb, ClimbsToAnEnd, IsSoundInForm, owned}
+use Rattle.st_marks.specs.Document.{Document, node_of, above, climb, ClimbsToAnEnd, IsSoundInForm, owned}
+use Rattle.st_ids.specs.Root.{root}
 use Rattle.st_marks.specs.Extends.{IsExtendedBy}
 use Rattle.st_marks.specs.Intent.{put_of, put_in, put_under, above_new, is_new, new_row_of, Fits}
 use Rattle.st_marks.specs.CarryOut.{full, void, void_data, with_names, spot_of, place_after, is_put_in_new, only_new}

@@ -13,7 +13,8 @@ use Rattle.st_marks.specs.declared.intents.To.{To}
 use Rattle.st_marks.specs.declared.places.Slot.{Slot}
 use Rattle.st_marks.specs.declared.places.Spot.{Spot}
 use Rattle.st_marks.specs.declared.schemas.SchemaEntry.{SchemaEntry}
-use Rattle.st_marks.specs.Document.{Document, NodeType, root, opening, owned}
+use Rattle.st_marks.specs.Document.{Document, NodeType, owned}
+use Rattle.st_ids.specs.Root.{root, opening}
 use Rattle.st_marks.specs.Embedding.{is_among}
 
 -- ## Names

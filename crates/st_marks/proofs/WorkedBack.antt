@@ -8,7 +8,8 @@ use Rattle.st_ids.proofs.Orders.{same_node-true, same_node-itself, same_field-tr
 use Rattle.st_marks.specs.declared.intents.Intent.{Intent}
 use Rattle.st_marks.specs.declared.intents.To.{To}
 use Rattle.st_marks.specs.declared.places.Spot.{Spot}
-use Rattle.st_marks.specs.Document.{Document, opening, node_of}
+use Rattle.st_marks.specs.Document.{Document, node_of}
+use Rattle.st_ids.specs.Root.{opening}
 use Rattle.st_marks.specs.Intent.{IsIntent, put_of, clears}
 use Rattle.st_marks.specs.CarryOut.{full}
 use Rattle.st_marks.specs.Back.{IsBack, place_back, is_in, to_of}

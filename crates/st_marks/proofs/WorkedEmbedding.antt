@@ -15,7 +15,8 @@ use Rattle.st_marks.specs.declared.marks.Mark.{Mark}
 use Rattle.st_marks.specs.declared.marks.RowMarks.{RowMarks}
 use Rattle.st_marks.specs.declared.places.Spot.{Spot}
 use Rattle.st_marks.specs.declared.steps.Step.{Step}
-use Rattle.st_marks.specs.Document.{Document, NodeType, root, opening, above, climb, slot, content}
+use Rattle.st_marks.specs.Document.{Document, NodeType, above, climb, slot, content}
+use Rattle.st_ids.specs.Root.{root, opening}
 use Rattle.st_marks.specs.Extends.{GainsItems, no_more, item_kept}
 use Rattle.st_marks.specs.Intent.{put_of}
 use Rattle.st_marks.specs.CarryOut.{full, with_names, with_groups, place_after, unless_cleared}

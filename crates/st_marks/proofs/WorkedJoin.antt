@@ -9,7 +9,8 @@ use Rattle.st_marks.specs.declared.intents.Group.{Group}
 use Rattle.st_marks.specs.declared.intents.Intent.{Intent}
 use Rattle.st_marks.specs.declared.intents.Put.{Put}
 use Rattle.st_marks.specs.declared.intents.To.{To}
-use Rattle.st_marks.specs.Document.{root, climb, content, owned}
+use Rattle.st_marks.specs.Document.{climb, content, owned}
+use Rattle.st_ids.specs.Root.{root}
 use Rattle.st_marks.specs.Intent.{IsIntent, new_node, put_of, put_under, is_new, above_new, cells_of, group_at}
 use Rattle.st_marks.specs.CarryOut.{full, with_groups}
 use Rattle.st_marks.specs.Join.{IsJoin, IsOldAnchor, joined_put, put_unless_new, unless_cleared_by}

@@ -20,7 +20,8 @@ use Rattle.st_marks.specs.declared.marks.Mark.{Mark}
 use Rattle.st_marks.specs.declared.places.Spot.{Spot}
 use Rattle.st_marks.specs.declared.schemas.SchemaEntry.{SchemaEntry}
 use Rattle.st_marks.specs.declared.steps.Step.{Step}
-use Rattle.st_marks.specs.Document.{Document, root, opening, last_of, revs, CanBeInEffect}
+use Rattle.st_marks.specs.Document.{Document, last_of, revs, CanBeInEffect}
+use Rattle.st_ids.specs.Root.{root, opening}
 use Rattle.st_marks.specs.Verdict.{HasBase}
 use Rattle.st_marks.specs.Back.{IsBack}
 use Rattle.st_marks.specs.Normal.{IsNormalChange, IsNormalStep}

@@ -9,7 +9,8 @@ use Rattle.st_marks.specs.declared.marks.Mark.{Mark}
 use Rattle.st_marks.specs.declared.marks.RegMark.{RegMark}
 use Rattle.st_marks.specs.declared.places.Slot.{Slot}
 use Rattle.st_marks.specs.declared.places.Spot.{Spot}
-use Rattle.st_marks.specs.Document.{root, content}
+use Rattle.st_marks.specs.Document.{content}
+use Rattle.st_ids.specs.Root.{root}
 use Rattle.st_marks.specs.CarryOut.{full, void}
 use Rattle.st_marks.specs.Extends.{item_gained, item_kept, no_more}
 use Rattle.st_marks.specs.Row.{step_row}

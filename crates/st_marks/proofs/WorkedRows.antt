@@ -8,7 +8,8 @@ use Rattle.st_marks.specs.declared.intents.To.{To}
 use Rattle.st_marks.specs.declared.marks.How.TheVariants.{Stay, Here, Leave}
 use Rattle.st_marks.specs.declared.marks.Mark.{Mark}
 use Rattle.st_marks.specs.declared.marks.RowMarks.{RowMarks}
-use Rattle.st_marks.specs.Document.{Document, root, content}
+use Rattle.st_marks.specs.Document.{Document, content}
+use Rattle.st_ids.specs.Root.{root}
 use Rattle.st_marks.specs.CarryOut.{full}
 use Rattle.st_marks.specs.Run.{run_whole}
 use Rattle.st_marks.specs.Row.{embed_row}

@@ -9,7 +9,8 @@ use Rattle.st_marks.specs.declared.intents.Put.{Put}
 use Rattle.st_marks.specs.declared.intents.To.{To}
 use Rattle.st_marks.specs.declared.places.Spot.{Spot}
 use Rattle.st_marks.specs.declared.verdicts.Verdict.{Verdict}
-use Rattle.st_marks.specs.Document.{Document, IsLive, root, above, climb, content}
+use Rattle.st_marks.specs.Document.{Document, IsLive, above, climb, content}
+use Rattle.st_ids.specs.Root.{root}
 use Rattle.st_marks.specs.Intent.{put_of}
 use Rattle.st_marks.specs.CarryOut.{full, void}
 use Rattle.st_marks.specs.Verdict.{IsLeast, IsVerdict, IsAboveItself}

@@ -10,7 +10,8 @@ use Rattle.st_marks.specs.declared.changes.Change.{Change}
 use Rattle.st_marks.specs.declared.places.Spot.{Spot}
 use Rattle.st_marks.specs.declared.schemas.SchemaEntry.{SchemaEntry}
 use Rattle.st_marks.specs.declared.steps.Step.{Step}
-use Rattle.st_marks.specs.Document.{CanBeInEffect, root, node_of}
+use Rattle.st_marks.specs.Document.{CanBeInEffect, node_of}
+use Rattle.st_ids.specs.Root.{root}
 use Rattle.st_marks.specs.Verdict.{HasBase, IsLeast}
 use Rattle.st_marks.specs.Step.{IsSchemaStep}
 use Rattle.st_marks.specs.Listings.{Listing, CellView, Places, ListsCell, listing_before_change, listing_before_step, listing_after_change, listing_after_step}

@@ -14,6 +14,7 @@ use Rattle.st_marks.specs.declared.intents.Owned.{Owned}
 use Rattle.st_marks.specs.declared.places.Slot.{Slot}
 use Rattle.st_marks.specs.declared.places.Spot.{Spot}
 use Rattle.st_marks.specs.declared.schemas.SchemaEntry.{SchemaEntry}
+use Rattle.st_ids.specs.Root.{opening, root}
 
 -- the first of a list
 abbrev pub first_of : {A : Type 0} → List A → Option A
@@ -45,14 +46,6 @@ pub record Document : Type 0 where
   pub held : FieldId → Option NodeId
   -- the schema entries in effect, in order
   pub schemas : List SchemaEntry
-
--- the revision under which the opening document was made
-abbrev pub opening : Rev
-opening = record { session = 0; num = 0 }
-
--- the node from which the tree is read
-abbrev pub root : NodeId
-root = record { 0 = record { rev = opening; at = 0 } }
 
 -- ## What stands above what
 

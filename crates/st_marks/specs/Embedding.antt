@@ -15,7 +15,8 @@ use Rattle.st_marks.specs.declared.marks.Loose.{Loose}
 use Rattle.st_marks.specs.declared.marks.RegMark.{RegMark}
 use Rattle.st_marks.specs.declared.marks.RowMarks.{RowMarks}
 use Rattle.st_marks.specs.declared.places.Spot.{Spot}
-use Rattle.st_marks.specs.Document.{Document, root, above, climb, content}
+use Rattle.st_marks.specs.Document.{Document, above, climb, content}
+use Rattle.st_ids.specs.Root.{root}
 use Rattle.st_marks.specs.Intent.{new_node, put_of, put_in, clears, group_at, cell_of}
 use Rattle.st_marks.specs.Verdict.{IsBaseInEffect}
 use Rattle.st_marks.specs.Row.{CellMark, Counted, Gap, Touch, Make, Fill, RowPart, merge, embed_row, how}

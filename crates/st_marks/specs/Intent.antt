@@ -13,7 +13,8 @@ use Rattle.st_marks.specs.declared.intents.Owned.{Owned}
 use Rattle.st_marks.specs.declared.intents.Put.{Put}
 use Rattle.st_marks.specs.declared.intents.To.{To}
 use Rattle.st_marks.specs.declared.schemas.SchemaEntry.{SchemaEntry}
-use Rattle.st_marks.specs.Document.{Document, NodeType, root, owned, ClimbsToAnEnd}
+use Rattle.st_marks.specs.Document.{Document, NodeType, owned, ClimbsToAnEnd}
+use Rattle.st_ids.specs.Root.{root}
 
 -- ## What its lists say
 

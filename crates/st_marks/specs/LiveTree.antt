@@ -10,7 +10,8 @@ use Rattle.st_ids.specs.declared.names.FieldId.{FieldId}
 use Rattle.st_ids.specs.declared.names.Leaf.{Leaf}
 use Rattle.st_ids.specs.declared.names.NodeId.{NodeId}
 use Rattle.st_marks.specs.declared.places.Slot.{Slot}
-use Rattle.st_marks.specs.Document.{Document, root, content}
+use Rattle.st_marks.specs.Document.{Document, content}
+use Rattle.st_ids.specs.Root.{root}
 
 -- the full cells of a node's row, in order: what the row shows
 abbrev pub live_slots : Document → NodeId → List Slot

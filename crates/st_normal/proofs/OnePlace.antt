@@ -9,7 +9,7 @@ use Rattle.st_normal.specs.declared.entries.Found.{Found}
 use Rattle.st_marks.specs.declared.marks.How.TheVariants.{Leave}
 use Rattle.st_marks.specs.declared.marks.Loose.{Loose}
 use Rattle.st_marks.specs.declared.marks.RowMarks.{RowMarks}
-use Rattle.st_marks.specs.Document.{root}
+use Rattle.st_ids.specs.Root.{root}
 use Rattle.st_normal.specs.inside.Links.{link, links_in, links_at, stands_after, stands_before}
 use Rattle.st_marks.specs.Row.{CellMark, Counted, Gap, Touch, Make, Fill, spread}
 use Rattle.st_normal.specs.Rules.{Entries, entries_by, found_in, found_loose, incoming, in_rows, NodesAreFoundOnce, NodesArePutOnce, PutNodesLeave, NewNodesAreNotFound, IsFound, IsFoundAs}

@@ -21,7 +21,8 @@ use Rattle.st_marks.specs.declared.schemas.SchemaEntry.{SchemaEntry}
 use Rattle.st_marks.specs.declared.schemas.SchemaStep.{SchemaStep}
 use Rattle.st_marks.specs.declared.steps.Step.{Step}
 use Rattle.st_marks.specs.Agree.{LeadsUp}
-use Rattle.st_marks.specs.Document.{first_of, node_of, opening, root}
+use Rattle.st_marks.specs.Document.{first_of, node_of}
+use Rattle.st_ids.specs.Root.{opening, root}
 use Rattle.st_marks.specs.Embedding.{tells}
 use Rattle.st_marks.specs.Intent.{same_option}
 use Rattle.st_marks.specs.Row.{CellMark, Counted, Gap, Touch, Make, Fill, merge, spread}

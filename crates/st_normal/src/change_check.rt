@@ -13,9 +13,10 @@ use crate::listing::OfChange;
 use crate::lookup::Look;
 use crate::normal::{Check, NotNormal};
 use crate::rising::{ByField, ByNode, rises};
-use crate::rules::{Moves, OPENING, is_rev};
+use crate::rules::{Moves, is_rev};
 use crate::scan::{Along, Then, each, each_of, in_rows};
 use crate::shared_rules::{loose_are_put, obeys_common};
+use st_ids::OPENING;
 use st_marks::Change;
 use std::alloc::Global;
 

@@ -2,7 +2,7 @@
 ghost use Rattle.std.specs.Prelude.{◌≡◌, ◌≢◌, ◌⊎◌, ◌↔◌, IsSome, IsTrue, None};
 ghost use Rattle.st_ids.specs.Listing.{Has};
 ghost use Rattle.st_ids.specs.declared.names.NodeId.{NodeId as Node};
-ghost use Rattle.st_marks.specs.Document.{root};
+ghost use Rattle.st_ids.specs.Root.{root};
 ghost use Rattle.st_normal.specs.Rules.{HasListedField, IsFound};
 ghost use Rattle.st_marks.specs.How.{is_stay};
 ghost use Rattle.st_marks.specs.declared.marks.How.TheVariants.{Here as HereMark, Stay as StayMark};
@@ -13,8 +13,8 @@ use crate::listing::HasEntries;
 use crate::lookup::Look;
 use crate::rules::{is_rev, is_root};
 use crate::scan::{Rule, Walk};
-use st_ids::{CellId, NodeId, Rev};
-use st_marks::{How, NewNode, RegMark, is_same_node};
+use st_ids::{CellId, NodeId, Rev, is_same_node};
+use st_marks::{How, NewNode, RegMark};
 
 /// A new node has a revision.
 #[derive(Drop)]

@@ -9,8 +9,8 @@ ghost use Rattle.st_marks.specs.Listings.{held_after};
 ghost use Rattle.st_normal.specs.declared.entries.Found.{Found as FoundNode};
 
 use crate::entries::Found;
-use st_ids::{FieldId, NodeId};
-use st_marks::{How, RegMark, RegStep, is_same_node};
+use st_ids::{FieldId, NodeId, is_same_node};
+use st_marks::{How, RegMark, RegStep};
 
 /// A listed register.
 pub trait Register {

@@ -6,8 +6,7 @@ ghost use Rattle.st_ids.specs.Order.{node_cmp, same_node};
 ghost use Rattle.st_marks.specs.Document.{ClimbsToAnEnd};
 ghost use Rattle.st_normal.specs.inside.Ring.{AreListed, HasRing, HaveEnded};
 
-use st_ids::NodeId;
-use st_marks::is_same_node;
+use st_ids::{NodeId, is_same_node};
 use std::alloc::{AllocError, Global};
 use std::collections::BTreeMap;
 

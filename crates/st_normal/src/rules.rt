@@ -2,7 +2,7 @@
 ghost use Rattle.std.specs.Prelude.{◌≡◌, ◌≢◌, ◌⊎◌, ◌↔◌, [], IsTrue, Some};
 ghost use Rattle.st_ids.specs.Listing.{Has};
 ghost use Rattle.st_ids.specs.declared.names.NodeId.{NodeId as Node};
-ghost use Rattle.st_marks.specs.Document.{root};
+ghost use Rattle.st_ids.specs.Root.{root};
 ghost use Rattle.st_marks.specs.Row.{spread};
 ghost use Rattle.st_normal.specs.Rules.{IsFound};
 ghost use Rattle.st_normal.specs.inside.Rules.{how_found};
@@ -12,17 +12,8 @@ ghost use Rattle.st_marks.specs.declared.marks.How.TheVariants.{Here as HereMark
 use crate::listing::HasEntries;
 use crate::lookup::Look;
 use crate::scan::Rule;
-use st_ids::{Atom, NodeId, Rev, rev_order};
-use st_marks::{How, Loose, RowMarks, before, is_same_node};
-
-/// The opening's revision.
-pub const OPENING: Rev = Rev { session: 0, num: 0 };
-
-/// The root of the tree.
-pub const ROOT: NodeId = NodeId(Atom {
-    rev: OPENING,
-    at: 0,
-});
+use st_ids::{NodeId, ROOT, Rev, is_same_node, rev_order};
+use st_marks::{How, Loose, RowMarks, before};
 
 /// Whether a node is the root.
 #[tactic(auto, using(crate::proofs::Tells::node_same))]

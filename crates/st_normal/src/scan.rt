@@ -5,8 +5,7 @@ ghost use Rattle.st_ids.specs.declared.names.NodeId.{NodeId as Node};
 ghost use Rattle.st_marks.specs.declared.marks.Mark.{Mark as Marked};
 ghost use Rattle.st_normal.specs.inside.Scan.{TakesFirst};
 
-use crate::rules::ROOT;
-use st_ids::NodeId;
+use st_ids::{NodeId, ROOT};
 use st_marks::{Mark, RowMarks};
 
 /// A way through a list of things, of which some are left.

@@ -7,8 +7,9 @@ use crate::index::Index;
 use crate::listing::HasEntries;
 use crate::lookup::Look;
 use crate::row_rules::{Merged, Short, Telling};
-use crate::rules::{ComesIn, IsKnown, IsOld, IsUnknown, LeavesFromNowhere, NewRow, ROOT};
+use crate::rules::{ComesIn, IsKnown, IsOld, IsUnknown, LeavesFromNowhere, NewRow};
 use crate::scan::{each, each_of, in_rows};
+use st_ids::ROOT;
 use st_marks::Loose;
 use std::alloc::Global;
 

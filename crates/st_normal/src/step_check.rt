@@ -3,7 +3,8 @@ ghost use Rattle.std.specs.Prelude.{◌≡◌, ◌≢◌, ◌↔◌, IfSome, IsT
 ghost use Rattle.st_ids.specs.Listing.{AreDistinct};
 ghost use Rattle.st_ids.specs.declared.names.NodeId.{NodeId as Node};
 ghost use Rattle.st_marks.specs.Agree.{LeadsUp};
-ghost use Rattle.st_marks.specs.Document.{first_of, opening};
+ghost use Rattle.st_marks.specs.Document.{first_of};
+ghost use Rattle.st_ids.specs.Root.{opening};
 ghost use Rattle.st_normal.specs.Rules.{AreEntriesBehind, LooseNodesArePut, NewNodesAreNotFound, NewRegistersAreEmptyBefore, NoRingOverStep, NodesAreFoundOnce, NodesArePutOnce, NothingIsSetHere, ObeysCommonRules, ObeysStepRules, PutNodesLeave, RegistersTellOver, SchemaStepFits, StayingNodesLeadOn, StepIsRising, entries_of_step};
 ghost use Rattle.st_marks.specs.Listings.{Places, listing_after_step, listing_before_step};
 ghost use Rattle.st_marks.specs.declared.schemas.SchemaEntry.{SchemaEntry as Entry};
@@ -15,11 +16,11 @@ use crate::listing::{HasEntries, OfStep};
 use crate::lookup::Look;
 use crate::normal::{Check, NotNormal};
 use crate::rising::{ByField, ByNode, rises};
-use crate::rules::{OPENING, is_rev};
+use crate::rules::is_rev;
 use crate::scan::{Along, Rule, each, each_of};
 use crate::shared_rules::{loose_are_put, obeys_common};
 use crate::step_rules::{EmptyBefore, IsNotSet, LeadsOn, StepTells};
-use st_ids::Rev;
+use st_ids::{OPENING, Rev};
 use st_marks::{SchemaEntry, SchemaStep, Step};
 use std::alloc::Global;
 

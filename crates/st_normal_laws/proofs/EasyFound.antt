@@ -20,7 +20,8 @@ use Rattle.st_marks.specs.declared.marks.RegMark.{RegMark}
 use Rattle.st_marks.specs.declared.marks.RowMarks.{RowMarks}
 use Rattle.st_marks.specs.declared.places.Slot.{Slot}
 use Rattle.st_marks.specs.declared.places.Spot.{Spot}
-use Rattle.st_marks.specs.Document.{Document, IsSoundInForm, above, climb, content, node_of, root, owned, slot}
+use Rattle.st_marks.specs.Document.{Document, IsSoundInForm, above, climb, content, node_of, owned, slot}
+use Rattle.st_ids.specs.Root.{root}
 use Rattle.st_marks.specs.Embedding.{IsEmbedding, row_part, register_part, tells, named_by_intent}
 use Rattle.st_marks.specs.Intent.{Fits, is_new, new_node, IsKnown, cell_of, clears, put_of}
 use Rattle.st_marks.specs.Register.{holds_mentioned}

@@ -17,7 +17,8 @@ use Rattle.st_marks.specs.declared.marks.How.{How}
 use Rattle.st_marks.specs.declared.marks.RowMarks.{RowMarks}
 use Rattle.st_marks.specs.declared.places.Slot.{Slot}
 use Rattle.st_marks.specs.declared.places.Spot.{Spot}
-use Rattle.st_marks.specs.Document.{Document, IsSoundInForm, content, root, slot}
+use Rattle.st_marks.specs.Document.{Document, IsSoundInForm, content, slot}
+use Rattle.st_ids.specs.Root.{root}
 use Rattle.st_marks.specs.Embedding.{IsEmbedding, is_nowhere, row_part, register_part}
 use Rattle.st_marks.specs.Intent.{Fits, group_at, IsKnown, cell_of, put_of}
 use Rattle.st_marks.specs.Register.{how_held}

@@ -14,7 +14,8 @@ use Rattle.st_marks.specs.declared.marks.How.{How}
 use Rattle.st_marks.specs.declared.marks.RegMark.{RegMark}
 use Rattle.st_marks.specs.declared.marks.RowMarks.{RowMarks}
 use Rattle.st_marks.specs.declared.places.Spot.{Spot}
-use Rattle.st_marks.specs.Document.{Document, IsSoundInForm, above, content, node_of, root, first_of, opening, revs}
+use Rattle.st_marks.specs.Document.{Document, IsSoundInForm, above, content, node_of, first_of, revs}
+use Rattle.st_ids.specs.Root.{root, opening}
 use Rattle.st_marks.specs.Embedding.{IsEmbedding, row_marks, row_part, tells, is_among}
 use Rattle.st_marks.specs.Intent.{Fits, cell_of}
 use Rattle.st_marks.specs.Row.{CellMark, Counted, Gap, Touch, Make, Fill, embed_row, merge, spread}

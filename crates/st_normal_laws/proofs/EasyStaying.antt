@@ -19,7 +19,8 @@ use Rattle.st_marks.specs.declared.marks.RegMark.{RegMark}
 use Rattle.st_marks.specs.declared.marks.RowMarks.{RowMarks}
 use Rattle.st_marks.specs.declared.places.Slot.{Slot}
 use Rattle.st_marks.specs.declared.places.Spot.{Spot}
-use Rattle.st_marks.specs.Document.{Document, IsSoundInForm, above, climb, content, node_of, root, owned, slot}
+use Rattle.st_marks.specs.Document.{Document, IsSoundInForm, above, climb, content, node_of, owned, slot}
+use Rattle.st_ids.specs.Root.{root}
 use Rattle.st_marks.specs.Embedding.{IsEmbedding, embed_loose, is_nowhere, row_part, register_part, tells, named_by_intent}
 use Rattle.st_marks.specs.Intent.{Fits, group_at, IsKnown, cell_of, clears, put_of, Owns}
 use Rattle.st_marks.specs.Register.{RegisterPart, comes_in, embed_register, holds_mentioned, how_held}

@@ -18,7 +18,8 @@ use Rattle.st_marks.specs.declared.marks.Loose.{Loose}
 use Rattle.st_marks.specs.declared.marks.RegMark.{RegMark}
 use Rattle.st_marks.specs.declared.marks.RowMarks.{RowMarks}
 use Rattle.st_marks.specs.declared.places.Slot.{Slot}
-use Rattle.st_marks.specs.Document.{Document, IsSoundInForm, above, climb, content, node_of, owned, root, slot}
+use Rattle.st_marks.specs.Document.{Document, IsSoundInForm, above, climb, content, node_of, owned, slot}
+use Rattle.st_ids.specs.Root.{root}
 use Rattle.st_marks.specs.Embedding.{IsMentionedByIntent, is_among, named_by_intent, tells}
 use Rattle.st_marks.specs.Intent.{cell_of}
 use Rattle.st_marks.specs.Row.{CellMark, Counted, Gap, Touch, Make, Fill, spread}

@@ -11,7 +11,8 @@ use Rattle.st_ids.specs.declared.names.NodeId.{NodeId}
 use Rattle.st_marks.specs.declared.intents.Owned.{Owned}
 use Rattle.st_marks.specs.declared.places.Slot.{Slot}
 use Rattle.st_marks.specs.declared.places.Spot.{Spot}
-use Rattle.st_marks.specs.Document.{IsSoundInForm, ClimbsToAnEnd, above, climb, content, is_cell, node_of, owned, root, slot}
+use Rattle.st_marks.specs.Document.{IsSoundInForm, ClimbsToAnEnd, above, climb, content, is_cell, node_of, owned, slot}
+use Rattle.st_ids.specs.Root.{root}
 use Rattle.st_normal.specs.inside.Ring.{AreListed}
 use Rattle.st_normal.proofs.AboveItself.{no_ring-leads_up, too_long}
 use Rattle.st_marks.proofs.Climb.{is_cell-true}

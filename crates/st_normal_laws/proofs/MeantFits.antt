@@ -23,7 +23,8 @@ use Rattle.st_marks.specs.declared.marks.How.TheVariants.{Here, Leave}
 use Rattle.st_marks.specs.declared.marks.RegMark.{RegMark}
 use Rattle.st_marks.specs.declared.marks.RowMarks.{RowMarks}
 use Rattle.st_marks.specs.declared.places.Slot.{Slot}
-use Rattle.st_marks.specs.Document.{Document, IsSoundInForm, content, owned, root, slot}
+use Rattle.st_marks.specs.Document.{Document, IsSoundInForm, content, owned, slot}
+use Rattle.st_ids.specs.Root.{root}
 use Rattle.st_marks.specs.Intent.{group_cells, is_new, new_row_of, put_of}
 use Rattle.st_marks.specs.Row.{CellMark, Counted, Gap, Touch, Make, Fill, spread}
 use Rattle.st_marks.specs.How.{is_here, is_stay}

@@ -18,7 +18,8 @@ use Rattle.st_marks.specs.declared.places.Slot.{Slot}
 use Rattle.st_marks.specs.declared.places.Spot.{Spot}
 use Rattle.st_marks.specs.Agree.{LeadsUp}
 use Rattle.st_marks.specs.Agree.LeadsUp.{one_up, further_up}
-use Rattle.st_marks.specs.Document.{Document, IsSoundInForm, node_of, owned, root, CanBeInEffect, opening, revs}
+use Rattle.st_marks.specs.Document.{Document, IsSoundInForm, node_of, owned, CanBeInEffect, revs}
+use Rattle.st_ids.specs.Root.{root, opening}
 use Rattle.st_marks.specs.Intent.{Fits}
 use Rattle.st_marks.specs.Row.{CellMark, Counted, Gap, Touch, Make, Fill, spread}
 use Rattle.st_normal.specs.Rules.{IsFound, Entries, ObeysDataRules, fields_of, found_at, found_held, found_in, found_loose, in_rows, entries_of_change, fill_owners}

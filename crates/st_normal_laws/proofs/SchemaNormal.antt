@@ -15,7 +15,8 @@ use Rattle.st_marks.specs.declared.marks.RowMarks.{RowMarks}
 use Rattle.st_marks.specs.declared.schemas.SchemaEntry.{SchemaEntry}
 use Rattle.st_marks.specs.Agree.{LeadsUp}
 use Rattle.st_marks.specs.Agree.LeadsUp.{one_up, further_up}
-use Rattle.st_marks.specs.Document.{CanBeInEffect, Document, opening}
+use Rattle.st_marks.specs.Document.{CanBeInEffect, Document}
+use Rattle.st_ids.specs.Root.{opening}
 use Rattle.st_marks.specs.Embedding.{IsEmbedding, embed_loose, register_part, row_marks, row_part}
 use Rattle.st_marks.specs.Intent.{Fits, IsIntent, new_node}
 use Rattle.st_marks.specs.Normal.{IsNormalChange}

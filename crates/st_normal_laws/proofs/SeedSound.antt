@@ -13,7 +13,8 @@ use Rattle.st_marks.specs.declared.places.Slot.{Slot}
 use Rattle.st_marks.specs.declared.places.Spot.{Spot}
 use Rattle.st_marks.specs.Agree.{LeadsUp}
 use Rattle.st_marks.specs.Agree.LeadsUp.{one_up, further_up}
-use Rattle.st_marks.specs.Document.{content, node_of, root, IsSoundInForm}
+use Rattle.st_marks.specs.Document.{content, node_of, IsSoundInForm}
+use Rattle.st_ids.specs.Root.{root}
 use Rattle.st_marks.specs.Listings.{CellView, one_or_none, nodes_standing}
 use Rattle.st_marks.proofs.Members.{all-has, has-all, append_left, append_right, has-append, map-has, has-map, flat_map-has, has-flat_map, first-has, distinct-has, distinct-append, distinct-between, distinct-left, distinct-right, one_list}
 use Rattle.st_normal_laws.specs.Told.{AreAsSeen, IfTold}

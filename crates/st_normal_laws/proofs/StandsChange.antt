@@ -21,7 +21,8 @@ use Rattle.st_marks.specs.declared.marks.RegMark.{RegMark}
 use Rattle.st_marks.specs.declared.marks.RowMarks.{RowMarks}
 use Rattle.st_marks.specs.declared.places.Slot.{Slot}
 use Rattle.st_marks.specs.declared.places.Spot.{Spot}
-use Rattle.st_marks.specs.Document.{Document, IsSoundInForm, content, owned, root, slot, HasShortRows}
+use Rattle.st_marks.specs.Document.{Document, IsSoundInForm, content, owned, slot, HasShortRows}
+use Rattle.st_ids.specs.Root.{root}
 use Rattle.st_marks.specs.Intent.{clears, new_node, put_of, put_in, same_option}
 use Rattle.st_marks.specs.Row.{CellMark, Counted, Gap, Touch, Make, Fill, spread, RowPart, embed_cell, embed_cells, embed_made, embed_row, how, merge, same_to}
 use Rattle.st_marks.specs.How.{is_here, is_stay}

@@ -11,7 +11,8 @@ use Rattle.st_marks.specs.declared.places.Slot.{Slot}
 use Rattle.st_marks.specs.declared.places.Spot.{Spot}
 use Rattle.st_marks.specs.Agree.{IsSameView, LeadsUp, row_field}
 use Rattle.st_marks.specs.Agree.LeadsUp.{one_up, further_up}
-use Rattle.st_marks.specs.Document.{content, node_of, root}
+use Rattle.st_marks.specs.Document.{content, node_of}
+use Rattle.st_ids.specs.Root.{root}
 use Rattle.st_marks.specs.Listings.{CellView, one_or_none, nodes_standing}
 use Rattle.st_marks.proofs.Members.{all-has, has-all, append_left, append_right, has-append, map-has, has-map, flat_map-has, has-flat_map, any-has, has-any, distinct-append, distinct-left, distinct-right, distinct-between, one_list}
 use Rattle.st_normal_laws.specs.Told.{AreAsSeen, IfTold}

@@ -12,7 +12,8 @@ use Rattle.st_marks.specs.declared.places.Slot.{Slot}
 use Rattle.st_marks.specs.declared.places.Spot.{Spot}
 use Rattle.st_marks.specs.declared.schemas.SchemaEntry.{SchemaEntry}
 use Rattle.st_marks.specs.Agree.{LeadsUp}
-use Rattle.st_marks.specs.Document.{Document, NodeType, CanBeInEffect, root}
+use Rattle.st_marks.specs.Document.{Document, NodeType, CanBeInEffect}
+use Rattle.st_ids.specs.Root.{root}
 use Rattle.st_marks.specs.Embedding.{is_among}
 
 -- a row with its cells

@@ -11,7 +11,8 @@ use Rattle.st_marks.specs.declared.places.Slot.{Slot}
 use Rattle.st_marks.specs.declared.places.Spot.{Spot}
 use Rattle.st_marks.specs.declared.schemas.SchemaEntry.{SchemaEntry}
 use Rattle.st_marks.specs.Agree.{LeadsUp}
-use Rattle.st_marks.specs.Document.{CanBeInEffect, root}
+use Rattle.st_marks.specs.Document.{CanBeInEffect}
+use Rattle.st_ids.specs.Root.{root}
 use Rattle.st_marks.specs.Listings.{CellView, one_or_none, nodes_standing}
 use Rattle.st_normal_laws.specs.Laid.{LaidRow, LaidHeld, Layout}
 

@@ -13,7 +13,8 @@ use Rattle.st_ids.specs.declared.names.Rev.{Rev}
 use Rattle.st_ids.proofs.Orders.{same_node-true, same_node-itself, same_cell-true, same_cell-itself, same_field-true, same_field-itself}
 use Rattle.st_marks.specs.declared.intents.Owned.{Owned}
 use Rattle.st_marks.specs.declared.places.Spot.{Spot}
-use Rattle.st_marks.specs.Document.{IsSoundInForm, ClimbsToAnEnd, above, climb, node_of, root, opening, owned}
+use Rattle.st_marks.specs.Document.{IsSoundInForm, ClimbsToAnEnd, above, climb, node_of, owned}
+use Rattle.st_ids.specs.Root.{root, opening}
 use Rattle.st_marks.proofs.Members.{has-all, has-filter_map, distinct-filter_map}
 use Rattle.st_tree.specs.declared.flat.FlatAt.{FlatAt}
 use Rattle.st_tree.specs.declared.flat.FlatNode.{FlatNode}

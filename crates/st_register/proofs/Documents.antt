@@ -11,7 +11,8 @@ use Rattle.st_marks.specs.declared.places.Spot.{Spot}
 use Rattle.st_marks.specs.Back.{retreat, unless_in}
 use Rattle.st_marks.specs.CarryOut.{full, void, only_new}
 use Rattle.st_marks.specs.CarryOut as carry
-use Rattle.st_marks.specs.Document.{Document, IsSoundInForm, root}
+use Rattle.st_marks.specs.Document.{Document, IsSoundInForm}
+use Rattle.st_ids.specs.Root.{root}
 use Rattle.st_marks.specs.Extends.{IsExtendedBy}
 use Rattle.st_marks.specs.Intent.{Fits, is_new, put_of, put_in, clears, same_option}
 use Rattle.st_marks.specs.Register.{embed_register, holds_mentioned, step_register}

@@ -4,7 +4,7 @@ use Rattle.st_ids.specs.Order.{same_node}
 use Rattle.st_ids.specs.declared.names.FieldId.{FieldId}
 use Rattle.st_ids.specs.declared.names.NodeId.{NodeId}
 use Rattle.st_marks.specs.declared.intents.To.{To}
-use Rattle.st_marks.specs.Document.{root}
+use Rattle.st_ids.specs.Root.{root}
 use Rattle.st_marks.specs.Intent.{same_option}
 use Rattle.st_marks.specs.How.{is_leave}
 use Rattle.st_register.specs.declared.values.RegChange.{RegChange}

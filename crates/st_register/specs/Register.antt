@@ -8,7 +8,7 @@ use Rattle.st_ids.specs.declared.names.Rev.{Rev}
 use Rattle.st_marks.specs.declared.intents.Intent.{Intent}
 use Rattle.st_marks.specs.declared.intents.To.{To}
 use Rattle.st_marks.specs.declared.marks.How.TheVariants.{Leave}
-use Rattle.st_marks.specs.Document.{root}
+use Rattle.st_ids.specs.Root.{root}
 use Rattle.st_marks.specs.Embedding.{register_part}
 use Rattle.st_marks.specs.Intent.{is_new}
 use Rattle.st_marks.specs.Register.{RegisterPart, how_held, comes_in}

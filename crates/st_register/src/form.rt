@@ -1,17 +1,12 @@
 //! The rules that the change of a register keeps.
 ghost use Rattle.std.specs.Prelude.{◌≡◌, ◌≢◌, ◌↔◌, true, Option, IfSome, IsTrue};
 ghost use Rattle.st_ids.specs.declared.names.NodeId.{NodeId as Node};
-ghost use Rattle.st_marks.specs.Document.{root};
+ghost use Rattle.st_ids.specs.Root.{root};
 ghost use Rattle.st_register.specs.inside.NormalForm.{IsNormalRegChange};
 
 use crate::values::RegChange;
-use st_ids::{Atom, NodeId, Rev};
+use st_ids::{NodeId, ROOT, Rev};
 use st_marks::How;
-
-const ROOT: NodeId = NodeId(Atom {
-    rev: Rev { session: 0, num: 0 },
-    at: 0,
-});
 
 // Nobody stays.
 fn is_nobody_staying(change: &RegChange) -> bool

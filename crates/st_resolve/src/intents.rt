@@ -1,7 +1,8 @@
 //! The intents of edits.
 ghost use Rattle.std.specs.Prelude.{◌≡◌, ◌∷◌, ◌++◌, ◌<◌, ◌^◌, ◌+◌, [], length, map, IfOk, OnOk, None, Some, unwrap_or};
 ghost use Rattle.st_marks.specs.declared.intents.To.{To as Target};
-ghost use Rattle.st_marks.specs.Document.{last_of, opening, revs};
+ghost use Rattle.st_marks.specs.Document.{last_of, revs};
+ghost use Rattle.st_ids.specs.Root.{opening};
 ghost use Rattle.st_doc.specs.Doc.{document_of};
 ghost use Rattle.st_opening.specs.Start.{registers};
 ghost use Rattle.st_edits.specs.New.{new_nodes, group_of, groups_under, puts, top_cells};

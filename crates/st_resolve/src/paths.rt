@@ -1,24 +1,16 @@
 //! Paths, from the root of a document down.
 ghost use Rattle.std.specs.Prelude.{◌≡◌, ◌<◌, ◌^◌, length, Ok, Err, IfOk, slice_get, option_map};
 ghost use Rattle.st_ids.specs.Or.{IfRefused};
-ghost use Rattle.st_marks.specs.Document.{root};
 ghost use Rattle.st_doc.specs.Doc.{document_of};
 ghost use Rattle.st_marks.specs.LiveTree.{live_slots};
 ghost use Rattle.st_edits.specs.Paths.{field_at, left_of, child, nodes_on_path};
 ghost use Rattle.st_edits.specs.Resolve.{walk};
+ghost use Rattle.st_ids.specs.Root.{root};
 
 use st_doc::Doc;
-use st_ids::{Atom, CellId, Copied, FieldId, Key, List, NodeId, Or, Path, Place, Rev};
+use st_ids::{CellId, Copied, FieldId, Key, List, NodeId, Or, Path, Place, ROOT};
 use st_tree::EditFault;
 use std::alloc::{AllocError, Global};
-
-// The root of each document.
-fn root() -> NodeId
-    ensures { result ≡ root }
-{
-    let rev = Rev { session: 0, num: 0 };
-    NodeId(Atom { rev, at: 0 })
-}
 
 /// A node's field under a key.
 pub fn field_at(alloc: Global, node: NodeId, key: &Key) -> Result<FieldId, AllocError>
@@ -72,7 +64,7 @@ pub fn walk(alloc: Global, doc: &Doc, path: &Path) -> Result<NodeId, Or<EditFaul
     ensures ok { IfOk result (λ n. walk (document_of doc.now) path.now ≡ Ok n) }
     ensures bad { IfRefused result (λ e. walk (document_of doc.now) path.now ≡ Err e) }
 {
-    let mut node = root();
+    let mut node = ROOT;
     for (i, place) in path.as_slice().iter().enumerate() {
         match child(alloc, doc, node, place)? {
             None => return Err(Or::Fault(EditFault::NoNode { depth: i as u32 })),
@@ -86,7 +78,7 @@ pub fn walk(alloc: Global, doc: &Doc, path: &Path) -> Result<NodeId, Or<EditFaul
 pub fn nodes_on_path(alloc: Global, doc: &Doc, path: &Path) -> Result<List<NodeId>, AllocError>
     ensures { IfOk result (λ ns. ns ≡ nodes_on_path (document_of doc.now) root path.now) }
 {
-    let mut node = root();
+    let mut node = ROOT;
     let mut nodes = List::new(alloc);
     nodes.push(node)?;
     for place in path.as_slice() {

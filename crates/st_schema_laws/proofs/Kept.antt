@@ -12,7 +12,8 @@ use Rattle.st_marks.specs.declared.intents.Intent.{Intent}
 use Rattle.st_marks.specs.declared.intents.To.{To}
 use Rattle.st_marks.specs.declared.places.Spot.{Spot}
 use Rattle.st_marks.specs.declared.verdicts.Verdict.{Verdict}
-use Rattle.st_marks.specs.Document.{Document, NodeType, IsSoundInForm, root}
+use Rattle.st_marks.specs.Document.{Document, NodeType, IsSoundInForm}
+use Rattle.st_ids.specs.Root.{root}
 use Rattle.st_marks.specs.Intent.{Fits, new_type, is_new, put_of, put_in, clears}
 use Rattle.st_marks.specs.CarryOut.{with_names, full, void, void_data, spot_of, place_after, unless_cleared, unless_put, is_put_in_new, only_new}
 use Rattle.st_marks.specs.Verdict.{carried}

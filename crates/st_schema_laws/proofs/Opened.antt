@@ -19,7 +19,8 @@ use Rattle.st_schema.specs.Conforms.{is_required, verdicts, refusal, allows_of}
 use Rattle.st_schema.specs.declared.names.FieldRule.{FieldRule}
 use Rattle.st_schema.specs.declared.names.KindName.{KindName}
 use Rattle.st_marks.specs.declared.places.Spot.{Spot}
-use Rattle.st_marks.specs.Document.{Document, NodeType, root, opening}
+use Rattle.st_marks.specs.Document.{Document, NodeType}
+use Rattle.st_ids.specs.Root.{root, opening}
 use Rattle.st_opening.specs.Start.{first_said, type_at, spot_at, place_at, held_at, start_of}
 use Rattle.st_edits.specs.Paths.{field_at}
 use Rattle.st_edits.specs.Resolve.{is_row, rule_at, has_type}

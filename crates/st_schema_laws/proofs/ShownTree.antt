@@ -27,7 +27,8 @@ use Rattle.st_schema.specs.declared.names.KindName.TheVariants.{Sequence}
 use Rattle.st_marks.specs.declared.intents.Owned.{Owned}
 use Rattle.st_marks.specs.declared.places.Slot.{Slot}
 use Rattle.st_marks.specs.declared.places.Spot.{Spot}
-use Rattle.st_marks.specs.Document.{Document, NodeType, IsSoundInForm, root, slot, content, is_cell}
+use Rattle.st_marks.specs.Document.{Document, NodeType, IsSoundInForm, slot, content, is_cell}
+use Rattle.st_ids.specs.Root.{root}
 use Rattle.st_marks.specs.LiveTree.{Shows, shows_leaf, shows_row, shows_registers, ShowsItems, no_more_items, next_item, ShowsMembers, no_more_members, next_member, leaf_data, one_member, owners_shown, key_at, register}
 use Rattle.st_marks.proofs.Members.{has-map}
 use Rattle.st_edits.specs.Resolve.{is_row, rule_at, has_type}

@@ -19,7 +19,8 @@ use Rattle.st_schema.specs.declared.names.KindName.TheVariants.{Required, Option
 use Rattle.st_marks.specs.declared.intents.Intent.{Intent}
 use Rattle.st_marks.specs.declared.intents.To.{To}
 use Rattle.st_marks.specs.declared.places.Spot.{Spot}
-use Rattle.st_marks.specs.Document.{Document, NodeType, root}
+use Rattle.st_marks.specs.Document.{Document, NodeType}
+use Rattle.st_ids.specs.Root.{root}
 use Rattle.st_marks.specs.Intent.{new_type}
 use Rattle.st_marks.specs.CarryOut.{with_names}
 use Rattle.st_marks.proofs.Members.{first-has}

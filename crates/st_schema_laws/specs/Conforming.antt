@@ -10,7 +10,8 @@ use Rattle.st_schema.specs.Conforms.{leaf_type, is_required}
 use Rattle.st_schema.specs.declared.names.FieldRule.{FieldRule}
 use Rattle.st_schema.specs.declared.names.KindName.{KindName}
 use Rattle.st_marks.specs.declared.places.Spot.{Spot}
-use Rattle.st_marks.specs.Document.{Document, NodeType, root}
+use Rattle.st_marks.specs.Document.{Document, NodeType}
+use Rattle.st_ids.specs.Root.{root}
 use Rattle.st_edits.specs.Paths.{field_at}
 use Rattle.st_edits.specs.Resolve.{is_row, rule_at, has_type}
 

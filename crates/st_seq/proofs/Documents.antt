@@ -15,7 +15,8 @@ use Rattle.st_marks.specs.declared.intents.Put.{Put}
 use Rattle.st_marks.specs.declared.intents.To.{To}
 use Rattle.st_marks.specs.declared.places.Slot.{Slot}
 use Rattle.st_marks.specs.declared.places.Spot.{Spot}
-use Rattle.st_marks.specs.Document.{Document, IsSoundInForm, content, is_cell, owned, root, slot}
+use Rattle.st_marks.specs.Document.{Document, IsSoundInForm, content, is_cell, owned, slot}
+use Rattle.st_ids.specs.Root.{root}
 use Rattle.st_marks.specs.Embedding.{IsMentionedByIntent, is_among}
 use Rattle.st_marks.specs.Intent.{Fits, Owns, group_at, group_cells, is_new, put_of}
 use Rattle.st_marks.proofs.Full.{known_put}

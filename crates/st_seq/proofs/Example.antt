@@ -11,7 +11,7 @@ use Rattle.st_marks.specs.declared.intents.To.{To}
 use Rattle.st_marks.specs.declared.marks.How.TheVariants.{Leave}
 use Rattle.st_marks.specs.declared.marks.Mark.{Mark}
 use Rattle.st_marks.specs.declared.places.Slot.{Slot}
-use Rattle.st_marks.specs.Document.{root}
+use Rattle.st_ids.specs.Root.{root}
 use Rattle.st_marks.specs.Embedding.{is_among}
 use Rattle.st_marks.specs.Extends.{no_more, item_gained, item_kept}
 use Rattle.st_seq.specs.Sequence.{SeqPart, RowCanHold, RowFits, RowKeeps, RowLeadsOver, cells_of, row_carried, row_change_of}

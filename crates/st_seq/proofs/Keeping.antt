@@ -15,7 +15,7 @@ use Rattle.st_marks.specs.declared.intents.To.{To}
 use Rattle.st_marks.specs.declared.marks.How.TheVariants.{Stay, Here, Leave}
 use Rattle.st_marks.specs.declared.marks.Mark.{Mark}
 use Rattle.st_marks.specs.declared.places.Slot.{Slot}
-use Rattle.st_marks.specs.Document.{root}
+use Rattle.st_ids.specs.Root.{root}
 use Rattle.st_marks.specs.Embedding.{is_among}
 use Rattle.st_marks.specs.Row.{CellMark, Counted, Gap, Touch, Make, Fill, RowPart, how, same_to, merge, spread, embed_cell, embed_made, embed_cells, embed_row}
 use Rattle.st_marks.specs.How.{is_here}

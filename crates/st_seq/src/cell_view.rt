@@ -5,8 +5,8 @@ ghost use Rattle.st_seq.specs.inside.Views.{agree, agree_if_named, same_bool, vi
 ghost use Rattle.st_ids.specs.Order.{same_cell, same_node};
 ghost use Rattle.st_seq.specs.Reading.{cell_of};
 
-use st_ids::{CellId, NodeId};
-use st_marks::{How, Mark, is_same_cell, is_same_node};
+use st_ids::{CellId, NodeId, is_same_cell, is_same_node};
+use st_marks::{How, Mark};
 
 /// What a listing says of a cell: its name and its owner, where it names them, and whether it is full.
 #[derive(Clone, Copy)]

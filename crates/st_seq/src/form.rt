@@ -3,7 +3,7 @@ ghost use Rattle.std.specs.Prelude.{◌≡◌, ◌↔◌, ◌&&◌, ◌∷◌, [
 ghost use Rattle.std.specs.List.{list_all, list_any};
 ghost use Rattle.st_ids.specs.Order.{same_cell, same_node, same_rev, node_cmp};
 ghost use Rattle.st_ids.specs.Listing.{IsRising};
-ghost use Rattle.st_marks.specs.Document.{root};
+ghost use Rattle.st_ids.specs.Root.{root};
 ghost use Rattle.st_marks.specs.Embedding.{is_among as among};
 ghost use Rattle.st_marks.specs.Row.{spread};
 ghost use Rattle.st_marks.specs.Listings.{cells_before};
@@ -17,13 +17,8 @@ use crate::new_nodes::is_rising;
 use crate::node_set::is_among;
 use crate::rows::{SlotTurn, slot_turn};
 use crate::values::RowChange;
-use st_ids::{Atom, CellId, List, NodeId, Rev};
-use st_marks::{How, Mark, Slot, is_same_cell, is_same_node, is_same_rev};
-
-const ROOT: NodeId = NodeId(Atom {
-    rev: Rev { session: 0, num: 0 },
-    at: 0,
-});
+use st_ids::{CellId, List, NodeId, ROOT, Rev, is_same_cell, is_same_node, is_same_rev};
+use st_marks::{How, Mark, Slot};
 
 /// The first mark, and those behind it.
 fn first_mark<'a>(marks: &'a [Mark]) -> Option<(Mark, &'a [Mark])>

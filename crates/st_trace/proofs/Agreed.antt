@@ -12,7 +12,8 @@ use Rattle.st_tree.specs.declared.edit.EditFault.{EditFault}
 use Rattle.st_schema.specs.Written.{schema_data}
 use Rattle.serde_json.specs.Written.{compact_text}
 use Rattle.st_marks.specs.declared.intents.Intent.{Intent}
-use Rattle.st_marks.specs.Document.{Document, NodeType, opening}
+use Rattle.st_marks.specs.Document.{Document, NodeType}
+use Rattle.st_ids.specs.Root.{opening}
 use Rattle.st_marks.specs.Extends.{item_kept}
 use Rattle.st_marks.specs.Intent.{IsIntent, is_new}
 use Rattle.st_marks.proofs.Members.{all-has, append_left, append_right, has-append, has-map, map-has}

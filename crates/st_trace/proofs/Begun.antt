@@ -10,7 +10,8 @@ use Rattle.st_ids.specs.declared.names.NodeId.{NodeId}
 use Rattle.st_ids.specs.declared.names.Rev.{Rev}
 use Rattle.st_ids.proofs.Orders.{same_node-true}
 use Rattle.st_marks.specs.declared.intents.Owned.{Owned}
-use Rattle.st_marks.specs.Document.{Document, NodeType, IsSoundInForm, opening}
+use Rattle.st_marks.specs.Document.{Document, NodeType, IsSoundInForm}
+use Rattle.st_ids.specs.Root.{opening}
 use Rattle.st_marks.proofs.Members.{all-has}
 use Rattle.st_tree.specs.declared.flat.FlatAt.{FlatAt}
 use Rattle.st_tree.specs.declared.flat.FlatNode.{FlatNode}

@@ -9,7 +9,8 @@ use Rattle.st_ids.specs.declared.names.NodeId.{NodeId}
 use Rattle.st_ids.specs.declared.names.Rev.{Rev}
 use Rattle.st_tree.specs.Preorder.{cell_named, node_named}
 use Rattle.st_marks.specs.declared.intents.Intent.{Intent}
-use Rattle.st_marks.specs.Document.{Document, NodeType, IsSoundInForm, opening, owned}
+use Rattle.st_marks.specs.Document.{Document, NodeType, IsSoundInForm, owned}
+use Rattle.st_ids.specs.Root.{opening}
 use Rattle.st_marks.specs.Extends.{item_kept}
 use Rattle.st_marks.specs.Intent.{Fits}
 use Rattle.st_marks.proofs.Members.{all-has, has-all, append_left, append_right, has-append, has-map, map-has, distinct-append, distinct-between}

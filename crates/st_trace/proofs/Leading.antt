@@ -13,7 +13,8 @@ use Rattle.st_tree.specs.declared.edit.EditFault.{EditFault}
 use Rattle.st_marks.specs.declared.changes.NewNode.{NewNode}
 use Rattle.st_marks.specs.declared.intents.Intent.{Intent}
 use Rattle.st_marks.specs.declared.verdicts.Verdict.{Verdict}
-use Rattle.st_marks.specs.Document.{Document, IsSoundInForm, root}
+use Rattle.st_marks.specs.Document.{Document, IsSoundInForm}
+use Rattle.st_ids.specs.Root.{root}
 use Rattle.st_marks.specs.LiveTree.{IsTreeText}
 use Rattle.st_log_laws.proofs.Verdicts.{has_verdict}
 use Rattle.st_doc.specs.Doc.{document_of}

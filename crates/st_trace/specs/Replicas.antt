@@ -5,7 +5,7 @@ use Rattle.st_ids.specs.Listing.{Has}
 use Rattle.st_ids.specs.declared.names.FieldId.{FieldId}
 use Rattle.st_ids.specs.declared.names.NodeId.{NodeId}
 use Rattle.st_marks.specs.declared.intents.Intent.{Intent}
-use Rattle.st_marks.specs.Document.{opening}
+use Rattle.st_ids.specs.Root.{opening}
 use Rattle.st_marks.specs.Run.{Run}
 use Rattle.st_marks.specs.Verdict.{carried}
 use Rattle.st_log_laws.specs.Names.{HaveNewRevisions}

@@ -3,7 +3,8 @@
 use Rattle.std.specs.Prelude.{◌≡◌, ℕ, ◌+◌, List, drop, Some, slice_get}
 use Rattle.st_ids.specs.Listing.{AreDistinct, Has}
 use Rattle.st_ids.specs.declared.names.NodeId.{NodeId}
-use Rattle.st_marks.specs.Document.{Document, IsLive, above, first_of, root}
+use Rattle.st_marks.specs.Document.{Document, IsLive, above, first_of}
+use Rattle.st_ids.specs.Root.{root}
 
 -- the root is first, each node is there once and live, and whatever stands in the row or a register of a node comes
 -- behind that node

@@ -10,7 +10,7 @@ use Rattle.st_normal.specs.declared.entries.Found.{Found}
 use Rattle.st_marks.specs.declared.marks.RegMark.{RegMark}
 use Rattle.st_marks.specs.declared.marks.RowMarks.{RowMarks}
 use Rattle.st_marks.specs.declared.schemas.SchemaEntry.{SchemaEntry}
-use Rattle.st_marks.specs.Document.{opening}
+use Rattle.st_ids.specs.Root.{opening}
 use Rattle.st_marks.specs.Row.{spread}
 use Rattle.st_normal.specs.Rules.{in_rows, fields_of, entries_of_change}
 use Rattle.st_marks.specs.Listings.{cells_before, cells_in, nodes_new}

@@ -1,6 +1,6 @@
 -- the nodes so far, and then those beyond this one
 use Rattle.std.proofs.Common.{◌≡◌, ◌++◌, drop}
-use Rattle.st_marks.specs.Document.{root}
+use Rattle.st_ids.specs.Root.{root}
 use Rattle.st_doc.specs.Doc.{document_of}
 use Rattle.st_edits.specs.Paths.{nodes_below_path, nodes_on_path}
 use Rattle.st_resolve.proofs.paths.passes.Given as goal

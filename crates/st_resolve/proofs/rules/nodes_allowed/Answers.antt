@@ -1,7 +1,7 @@
 use Rattle.std.proofs.Common.{◌≡◌, ◌+◌, Bool, true, false, cond, not, drop, get_or, Some, refl, sym, ap, ◌∙◌, rules}
 use Rattle.std.specs.List.{position_from}
 use Rattle.st_ids.specs.declared.names.NodeId.{NodeId}
-use Rattle.st_marks.specs.Document.{root}
+use Rattle.st_ids.specs.Root.{root}
 use Rattle.st_doc.specs.Doc.{document_of}
 use Rattle.st_doc.proofs.Look.{drop_one}
 use Rattle.st_edits.specs.Resolve.{none_refused, has_type}

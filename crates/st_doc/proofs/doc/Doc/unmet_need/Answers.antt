@@ -1,7 +1,8 @@
 use Rattle.std.proofs.Common.{refl, sym, ◌∙◌, subst, List, take, take_all, arith}
 use Rattle.st_ids.specs.Listing.{Has}
 use Rattle.st_ids.specs.declared.names.NodeId.{NodeId}
-use Rattle.st_marks.specs.Document.{IsLive, root}
+use Rattle.st_marks.specs.Document.{IsLive}
+use Rattle.st_ids.specs.Root.{root}
 use Rattle.st_doc.specs.inside.Ahead.{IsLeastOf}
 use Rattle.st_doc.specs.Doc.{document_of}
 use Rattle.st_doc.proofs.Look.{take_one}
