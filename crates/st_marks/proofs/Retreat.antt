@@ -121,7 +121,7 @@ module _ (D E : Document) (x : IsExtendedBy D E) where
   pub retreat_sound : IsSoundInForm (retreat D E)
   retreat_sound = record {
     root_known = x.after.root_known;
-    root_nowhere = back_old Rattle.st_marks.specs.Document.root x.before.root_known ∙ x.before.root_nowhere;
+    root_nowhere = back_old Rattle.st_ids.specs.Root.root x.before.root_known ∙ x.before.root_nowhere;
     one_row = x.after.one_row;
     once = x.after.once;
     short = x.after.short;
