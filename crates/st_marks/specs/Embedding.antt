@@ -54,7 +54,7 @@ row_marks n cells = if list_any tells cells then Some (record { node = n; marks 
 
 -- the part of an intent that concerns a node's row
 abbrev pub row_part : (NodeId → Bool) → Intent → NodeId → RowPart
-row_part mentioned N n = record { made = group_at N n; target_of = put_of N; mentioned = mentioned }
+row_part mentioned N n = record { new_cells = group_at N n; target_of = put_of N; mentioned = mentioned }
 
 -- the part of an intent that concerns a register
 abbrev pub register_part : (NodeId → Bool) → Intent → FieldId → RegisterPart

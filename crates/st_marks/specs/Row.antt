@@ -95,7 +95,7 @@ how (Some to) here = if same_to to here then Here else Leave
 -- the part of an intent that concerns one row
 pub record RowPart : Type 0 where
   -- the cells that it makes at the row's start (None) or after a cell
-  pub made : Option CellId → List Owned
+  pub new_cells : Option CellId → List Owned
   -- where it puts a node
   pub target_of : NodeId → Option To
   pub mentioned : NodeId → Bool

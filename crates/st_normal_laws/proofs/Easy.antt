@@ -60,18 +60,18 @@ made-of p [] ms c h = inr h
 made-of p (o ∷ os) ms c (inl e) = inl (o, inl refl, e)
 made-of p (o ∷ os) ms c (inr h) = elim (made-of p os ms c h) [ inl r ↦ inl (r.0, inr r.1, r.2) | inr i ↦ inr i ]
 
-cells-of : (p : RowPart) (c : List Slot) (d : CellId) → Has (cells_made (embed_cells p c)) d → (a : Option CellId) × (o : Owned) × Has (p.made a) o × (o.cell ≡ d)
+cells-of : (p : RowPart) (c : List Slot) (d : CellId) → Has (cells_made (embed_cells p c)) d → (a : Option CellId) × (o : Owned) × Has (p.new_cells a) o × (o.cell ≡ d)
 cells-of p [] d h = absurd h
 cells-of p (s ∷ c) d h = go s.full h (λ i. cells-of p c d i)
   where
-    rest : Has (cells_made (embed_made p (p.new_cells (Some s.cell)) ++ embed_cells p c)) d → (Has (cells_made (embed_cells p c)) d → (a : Option CellId) × (o : Owned) × Has (p.made a) o × (o.cell ≡ d)) → (a : Option CellId) × (o : Owned) × Has (p.made a) o × (o.cell ≡ d)
+    rest : Has (cells_made (embed_made p (p.new_cells (Some s.cell)) ++ embed_cells p c)) d → (Has (cells_made (embed_cells p c)) d → (a : Option CellId) × (o : Owned) × Has (p.new_cells a) o × (o.cell ≡ d)) → (a : Option CellId) × (o : Owned) × Has (p.new_cells a) o × (o.cell ≡ d)
     rest i more = elim (made-of p (p.new_cells (Some s.cell)) (embed_cells p c) d i) [ inl r ↦ (Some s.cell, r.0, r.1, r.2) | inr j ↦ more j ]
 
-    go : (b : Bool) → Has (cells_made (embed_cell p s.cell s.node b ∷ (embed_made p (p.new_cells (Some s.cell)) ++ embed_cells p c))) d → (Has (cells_made (embed_cells p c)) d → (a : Option CellId) × (o : Owned) × Has (p.made a) o × (o.cell ≡ d)) → (a : Option CellId) × (o : Owned) × Has (p.made a) o × (o.cell ≡ d)
-    go true i more = elim (p.mentioned s.node) as (λ b. Has (cells_made (cond b (Touch s.cell s.node (how (p.target_of s.node) (To.Cell s.cell))) Counted ∷ (embed_made p (p.new_cells (Some s.cell)) ++ embed_cells p c))) d → (a : Option CellId) × (o : Owned) × Has (p.made a) o × (o.cell ≡ d)) [ true ↦ (λ j. rest j more) | false ↦ (λ j. rest j more) ] i
-    go false i more = elim (is_here (how (p.target_of s.node) (To.Cell s.cell))) as (λ b. Has (cells_made (cond b (Fill s.cell s.node) (Gap s.cell) ∷ (embed_made p (p.new_cells (Some s.cell)) ++ embed_cells p c))) d → (a : Option CellId) × (o : Owned) × Has (p.made a) o × (o.cell ≡ d)) [ true ↦ (λ j. rest j more) | false ↦ (λ j. rest j more) ] i
+    go : (b : Bool) → Has (cells_made (embed_cell p s.cell s.node b ∷ (embed_made p (p.new_cells (Some s.cell)) ++ embed_cells p c))) d → (Has (cells_made (embed_cells p c)) d → (a : Option CellId) × (o : Owned) × Has (p.new_cells a) o × (o.cell ≡ d)) → (a : Option CellId) × (o : Owned) × Has (p.new_cells a) o × (o.cell ≡ d)
+    go true i more = elim (p.mentioned s.node) as (λ b. Has (cells_made (cond b (Touch s.cell s.node (how (p.target_of s.node) (To.Cell s.cell))) Counted ∷ (embed_made p (p.new_cells (Some s.cell)) ++ embed_cells p c))) d → (a : Option CellId) × (o : Owned) × Has (p.new_cells a) o × (o.cell ≡ d)) [ true ↦ (λ j. rest j more) | false ↦ (λ j. rest j more) ] i
+    go false i more = elim (is_here (how (p.target_of s.node) (To.Cell s.cell))) as (λ b. Has (cells_made (cond b (Fill s.cell s.node) (Gap s.cell) ∷ (embed_made p (p.new_cells (Some s.cell)) ++ embed_cells p c))) d → (a : Option CellId) × (o : Owned) × Has (p.new_cells a) o × (o.cell ≡ d)) [ true ↦ (λ j. rest j more) | false ↦ (λ j. rest j more) ] i
 
-pub row-makes : (p : RowPart) (c : List Slot) (d : CellId) → Has (cells_made (embed_row p c)) d → (a : Option CellId) × (o : Owned) × Has (p.made a) o × (o.cell ≡ d)
+pub row-makes : (p : RowPart) (c : List Slot) (d : CellId) → Has (cells_made (embed_row p c)) d → (a : Option CellId) × (o : Owned) × Has (p.new_cells a) o × (o.cell ≡ d)
 row-makes p c d h = elim (made-of p (p.new_cells None) (embed_cells p c) d h) [ inl r ↦ (None, r.0, r.1, r.2) | inr i ↦ cells-of p c d i ]
 
 -- a full cell of a mentioned node is touched

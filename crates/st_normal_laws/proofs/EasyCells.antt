@@ -83,11 +83,11 @@ made-once p (o ∷ os) ms d w apart = (
 
 -- what is made is made once, at one anchor
 record IsMadeOnce (p : RowPart) : Type 0 where
-  each : (a : Option CellId) → AreDistinct (λ (o : Owned). o.cell) (p.made a)
-  anchor : (a b : Option CellId) (o q : Owned) → Has (p.made a) o → Has (p.made b) q → o.cell ≡ q.cell → a ≡ b
+  each : (a : Option CellId) → AreDistinct (λ (o : Owned). o.cell) (p.new_cells a)
+  anchor : (a b : Option CellId) (o q : Owned) → Has (p.new_cells a) o → Has (p.new_cells b) q → o.cell ≡ q.cell → a ≡ b
 
 abbrev IsFresh : RowPart → List Slot → Type 0
-IsFresh p c = (a : Option CellId) (o : Owned) (s : Slot) → Has (p.made a) o → Has c s → s.cell ≡ o.cell → ⊥
+IsFresh p c = (a : Option CellId) (o : Owned) (s : Slot) → Has (p.new_cells a) o → Has c s → s.cell ≡ o.cell → ⊥
 
 cells-once : (p : RowPart) (c : List Slot) → IsMadeOnce p → AreDistinct (λ (s : Slot). s.cell) c → IsFresh p c → AreDistinct (λ (c : CellId). c) (cells_in (embed_cells p c))
 cells-once p [] w d new = tt

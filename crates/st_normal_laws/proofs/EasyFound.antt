@@ -48,14 +48,14 @@ use Rattle.st_normal_laws.proofs.Basics.{register-not-nowhere, row-not-nowhere}
 data WhyTold (p : RowPart) (c : List Slot) : Type 0 where
   by_touch : (s : Slot) → Has c s → s.full ≡ true → p.mentioned s.node ≡ true → WhyTold p c
   by_fill : (s : Slot) → Has c s → is_here (how (p.target_of s.node) (To.Cell s.cell)) ≡ true → WhyTold p c
-  by_make : (a : Option CellId) (o : Owned) → Has (p.made a) o → WhyTold p c
+  by_make : (a : Option CellId) (o : Owned) → Has (p.new_cells a) o → WhyTold p c
 
 later : (p : RowPart) (s : Slot) (c : List Slot) → WhyTold p c → WhyTold p (s ∷ c)
 later p s c (by_touch t h e f) = by_touch t (inr h) e f
 later p s c (by_fill t h e) = by_fill t (inr h) e
 later p s c (by_make a o h) = by_make a o h
 
-told-made : (p : RowPart) (c : List Slot) (a : Option CellId) (os : List Owned) (ms : List CellMark) → ((o : Owned) → Has os o → Has (p.made a) o) → list_any tells (embed_made p os ++ ms) ≡ true → (list_any tells ms ≡ true → WhyTold p c) → WhyTold p c
+told-made : (p : RowPart) (c : List Slot) (a : Option CellId) (os : List Owned) (ms : List CellMark) → ((o : Owned) → Has os o → Has (p.new_cells a) o) → list_any tells (embed_made p os ++ ms) ≡ true → (list_any tells ms ≡ true → WhyTold p c) → WhyTold p c
 told-made p c a [] ms sub e rest = rest e
 told-made p c a (o ∷ os) ms sub e rest = by_make a o (sub o (inl refl))
 

@@ -65,13 +65,13 @@ hole-owner (Fill c k ∷ ms) n h = let r = hole-owner ms n h in (r.0, inr r.1)
 
 -- a cell that is made is in a group, with its owner
 abbrev IsOfGroup : RowPart → CellId → NodeId → Type 0
-IsOfGroup p d n = (a : Option CellId) × Has (p.made a) (record { cell = d; node = n })
+IsOfGroup p d n = (a : Option CellId) × Has (p.new_cells a) (record { cell = d; node = n })
 
-made-mark : (p : RowPart) (a : Option CellId) (os : List Owned) (ms : List CellMark) (d : CellId) (n : NodeId) (b : Bool) → ((o : Owned) → Has os o → Has (p.made a) o)
+made-mark : (p : RowPart) (a : Option CellId) (os : List Owned) (ms : List CellMark) (d : CellId) (n : NodeId) (b : Bool) → ((o : Owned) → Has os o → Has (p.new_cells a) o)
     → Has (embed_made p os ++ ms) (Make d n b) → (Has ms (Make d n b) → IsOfGroup p d n) → IsOfGroup p d n
 made-mark p a [] ms d n b sub h rest = rest h
 made-mark p a (o ∷ os) ms d n b sub (inl q) rest = let e : o.cell ≡ d = cc in let g : o.node ≡ n = cc in
-    (a, subst (Has (p.made a)) (λ z. record { cell = e z; node = g z }) (sub o (inl refl)))
+    (a, subst (Has (p.new_cells a)) (λ z. record { cell = e z; node = g z }) (sub o (inl refl)))
 made-mark p a (o ∷ os) ms d n b sub (inr h) rest = made-mark p a os ms d n b (λ q i. sub q (inr i)) h rest
 
 cells-mark : (p : RowPart) (c : List Slot) (d : CellId) (n : NodeId) (b : Bool) → Has (embed_cells p c) (Make d n b) → IsOfGroup p d n

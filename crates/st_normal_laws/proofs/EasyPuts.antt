@@ -41,18 +41,18 @@ use Rattle.st_lemmas.proofs.Bools.{true-false}
 
 -- who comes into a cell is put there; the cell is made, or empty
 abbrev ComesTo : RowPart → List Slot → NodeId → CellId → Type 0
-ComesTo p c n d = (p.target_of n ≡ Some (To.Cell d)) × (((a : Option CellId) × Has (p.made a) (record { cell = d; node = n })) ⊎ Has c (record { cell = d; node = n; full = false }))
+ComesTo p c n d = (p.target_of n ≡ Some (To.Cell d)) × (((a : Option CellId) × Has (p.new_cells a) (record { cell = d; node = n })) ⊎ Has c (record { cell = d; node = n; full = false }))
 
 further : (p : RowPart) (s : Slot) (c : List Slot) (n : NodeId) → ((d : CellId) × ComesTo p c n d) → (d : CellId) × ComesTo p (s ∷ c) n d
 further p s c n r = (r.0, (r.1.0, elim r.1.1 [ inl a ↦ inl a | inr h ↦ inr (inr h) ]))
 
-made-incoming : (p : RowPart) (c : List Slot) (a : Option CellId) (os : List Owned) (ms : List CellMark) (n : NodeId) → ((o : Owned) → Has os o → Has (p.made a) o) → Has (incoming (embed_made p os ++ ms)) n → (Has (incoming ms) n → (d : CellId) × ComesTo p c n d) → (d : CellId) × ComesTo p c n d
+made-incoming : (p : RowPart) (c : List Slot) (a : Option CellId) (os : List Owned) (ms : List CellMark) (n : NodeId) → ((o : Owned) → Has os o → Has (p.new_cells a) o) → Has (incoming (embed_made p os ++ ms)) n → (Has (incoming ms) n → (d : CellId) × ComesTo p c n d) → (d : CellId) × ComesTo p c n d
 made-incoming p c a [] ms n sub h rest = rest h
 made-incoming p c a (o ∷ os) ms n sub h rest = go (is_here (how (p.target_of o.node) (To.Cell o.cell))) refl h (λ i. made-incoming p c a os ms n (λ q j. sub q (inr j)) i rest)
   where
     go : (b : Bool) → is_here (how (p.target_of o.node) (To.Cell o.cell)) ≡ b → Has (cond b (o.node ∷ incoming (embed_made p os ++ ms)) (incoming (embed_made p os ++ ms))) n → (Has (incoming (embed_made p os ++ ms)) n → (d : CellId) × ComesTo p c n d) → (d : CellId) × ComesTo p c n d
     go false e i more = more i
-    go true e (inl q) more = (o.cell, (ap p.target_of (sym q) ∙ is_here-put (p.target_of o.node) (To.Cell o.cell) e, inl (a, subst (λ n. Has (p.made a) (record { cell = o.cell; node = n })) q (sub o (inl refl)))))
+    go true e (inl q) more = (o.cell, (ap p.target_of (sym q) ∙ is_here-put (p.target_of o.node) (To.Cell o.cell) e, inl (a, subst (λ n. Has (p.new_cells a) (record { cell = o.cell; node = n })) q (sub o (inl refl)))))
     go true e (inr i) more = more i
 
 cells-incoming : (p : RowPart) (c : List Slot) (n : NodeId) → Has (incoming (embed_cells p c)) n → (d : CellId) × ComesTo p c n d

@@ -81,7 +81,7 @@ module _ (D : Document) (N : Intent) (n : NodeId) (x : IsSoundInForm D) (w : Fit
   here_full None a b e = e
   here_full (Some to) a b e = elim (same_to to (To.Cell a)) as (λ z. z ≡ is_here (cond z Here Leave)) [ true ↦ refl | false ↦ refl ]
 
-  module _ (p : RowPart) (made : (a : Option CellId) → p.made a ≡ group_at N n a) (target_of : (k : NodeId) → p.target_of k ≡ put_of N k) where
+  module _ (p : RowPart) (made : (a : Option CellId) → p.new_cells a ≡ group_at N n a) (target_of : (k : NodeId) → p.target_of k ≡ put_of N k) where
     made_slot : (a : Option CellId) (o : Owned) → Has (group_at N n a) o → (slot (full D N) o).full ≡ is_here (how (p.target_of o.node) (To.Cell o.cell))
     made_slot a o v =
         let r = grouped a o v in

@@ -46,7 +46,7 @@ adds = record {
   rev = record { session = 2; num = 1 };
   in_new = false;
   new = node 2 ∷ [];
-  part = record { made = made; target_of = put; mentioned = λ n. false };
+  part = record { new_cells = made; target_of = put; mentioned = λ n. false };
 }
 
 other_nodes : (m n : ℕ) → (m ≡ n → ⊥) → node m ≢ node n

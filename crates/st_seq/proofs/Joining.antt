@@ -192,7 +192,7 @@ module _ (p q j : RowPart) where
   made-alone [] cj k = refl
   made-alone (o ∷ os) cj k = λ i. Make o.cell o.node ((alone (q.target_of o.node) (p.target_of o.node) o.cell k.0 ∙ sym (cj o.node o.cell)) i) ∷ made-alone os cj k.1 i
 
-  module _ (cj : (n : NodeId) (a : CellId) → is_here (how (j.target_of n) (To.Cell a)) ≡ is_here (how (goes_in_turn p q n) (To.Cell a))) (older : (a : Option CellId) → AllByRecursion (λ (o : Owned). p.target_of o.node ≢ Some (To.Cell o.cell)) (q.made a)) where
+  module _ (cj : (n : NodeId) (a : CellId) → is_here (how (j.target_of n) (To.Cell a)) ≡ is_here (how (goes_in_turn p q n) (To.Cell a))) (older : (a : Option CellId) → AllByRecursion (λ (o : Owned). p.target_of o.node ≢ Some (To.Cell o.cell)) (q.new_cells a)) where
     -- cells that the second makes, then both groups of the first
     gathered : (new os : List Owned) (R : List CellMark) → embed_made j new ++ (embed_made j os ++ R) ≡ embed_made j (new ++ os) ++ R
     gathered new os R = sym (append_assoc (embed_made j new) (embed_made j os) R) ∙ ap (λ l. l ++ R) (sym (embed_made-append j new os))

@@ -51,7 +51,7 @@ carried_row p c = made_cells p (p.new_cells None) ++ carried_cells p c
 
 -- the part of a void intent: it puts none but placed nodes, which are new nodes inside new nodes
 abbrev pub void_part : Nodes → RowPart → RowPart
-void_part placed p = record { made = p.made; target_of = λ n. if placed n then p.target_of n else None; mentioned = p.mentioned }
+void_part placed p = record { new_cells = p.new_cells; target_of = λ n. if placed n then p.target_of n else None; mentioned = p.mentioned }
 
 -- no node that owns a cell of the row is placed, since those are old
 abbrev pub AreOld : Nodes → List Slot → Type 0
@@ -118,4 +118,4 @@ pub record AreJoined (p q : RowPart) (c : List Slot) (j : RowPart) : Type 0 wher
   pub target_of : (n : NodeId) (a : CellId) → StandsIn n c → how (j.target_of n) (To.Cell a) ≡ how (goes_in_turn p q n) (To.Cell a)
   pub comes : (n : NodeId) (a : CellId) → is_here (how (j.target_of n) (To.Cell a)) ≡ is_here (how (goes_in_turn p q n) (To.Cell a))
   -- the first puts no node into a cell that the second makes
-  pub older : (a : Option CellId) → AllByRecursion (λ (o : Owned). p.target_of o.node ≢ Some (To.Cell o.cell)) (q.made a)
+  pub older : (a : Option CellId) → AllByRecursion (λ (o : Owned). p.target_of o.node ≢ Some (To.Cell o.cell)) (q.new_cells a)
