@@ -68,16 +68,16 @@ pub trait FieldKind: Sized {
     ghost HasRoom: { Self.Change → Self.Step → Type 0 };
 
     /// The places at which a step isn't over a content.
-    ghost AfterClash: { Self.Ctx → Self.Step → ℕ → Type 0 };
+    ghost AfterClashAt: { Self.Ctx → Self.Step → ℕ → Type 0 };
 
     /// The places at which what a step leaves differs from what the next one finds.
-    ghost ComposeClash: { Self.Step → Self.Step → ℕ → Type 0 };
+    ghost ComposeClashAt: { Self.Step → Self.Step → ℕ → Type 0 };
 
     /// The places at which what a change leaves differs from what the next one finds.
-    ghost JoinClash: { Self.Change → Self.Change → ℕ → Type 0 };
+    ghost JoinClashAt: { Self.Change → Self.Change → ℕ → Type 0 };
 
     /// The places at which what a change finds differs from what a step finds.
-    ghost RebaseClash: { Self.Change → Self.Step → ℕ → Type 0 };
+    ghost RebaseClashAt: { Self.Change → Self.Step → ℕ → Type 0 };
 
     /// Whether the change is the embedding of some part in this content.
     fn over(change: &Self::Change, ctx: &Self::Ctx) -> bool
@@ -87,7 +87,7 @@ pub trait FieldKind: Sized {
     fn after(alloc: Global, ctx: &Self::Ctx, step: &Self::Step) -> Result<Self::Ctx, Or<Apart>>
         requires { IsShortStep step.now }
         ensures after { (m : Nodes) (d : Self.Ctx) → IsStep m ctx.now d step.now → IfMemory result (λ e. e ≡ d) }
-        ensures apart { IsApartWhere result (AfterClash ctx.now step.now) };
+        ensures apart { IsApartWhere result (AfterClashAt ctx.now step.now) };
 
     /// What a change does, void or whole.
     fn effect(alloc: Global, change: &Self::Change, void: bool) -> Result<Self::Step, AllocError>
@@ -105,7 +105,7 @@ pub trait FieldKind: Sized {
         requires then { IsShortStep then.now }
         ensures composed { (m k : Nodes) (c d e : Self.Ctx) → IsStep m c d first.now → IsStep k d e then.now
             → IfMemory result (IsStep (either m k) c e) }
-        ensures apart { IsApartWhere result (ComposeClash first.now then.now) };
+        ensures apart { IsApartWhere result (ComposeClashAt first.now then.now) };
 
     /// Two changes of one commit in turn as one.
     fn join(
@@ -117,7 +117,7 @@ pub trait FieldKind: Sized {
         requires then { IsShortChange then.now }
         ensures joined { (n p j : Part) (c : Self.Ctx) → AreJoined n p c j → Fits n c → IsEmbedding n c first.now
             → Fits p (carry n false c) → IsEmbedding p (carry n false c) then.now → IfMemory result (IsEmbedding j c) }
-        ensures apart { IsApartWhere result (JoinClash first.now then.now) };
+        ensures apart { IsApartWhere result (JoinClashAt first.now then.now) };
 
     /// The step back. What a step made stays, and is empty after it.
     fn invert(alloc: Global, step: &Self::Step) -> Result<Self::Step, AllocError>
@@ -133,7 +133,7 @@ pub trait FieldKind: Sized {
         requires { HasRoom change.now step.now }
         ensures rebased { (n : Part) (m : Nodes) (c d : Self.Ctx) → Fits n c → Fits n d → Keeps n c d
             → IsEmbedding n c change.now → IsStep m c d step.now → IfMemory result (IsEmbedding n d) }
-        ensures apart { IsApartWhere result (RebaseClash change.now step.now) };
+        ensures apart { IsApartWhere result (RebaseClashAt change.now step.now) };
 
     /// The step where it stands after a change, which was and is void or not.
     fn bridge(
@@ -147,7 +147,7 @@ pub trait FieldKind: Sized {
         ensures bridged { (n : Part) (m : Nodes) (c d : Self.Ctx) → Fits n c → Fits n d → (is_void ≡ false → Keeps n c d)
             → IsEmbedding n c change.now → IsStep m c d step.now → IsContent (carry n was_void c) → IsContent (carry n is_void d)
             → IfMemory result (IsStep (named_beside m (mentions n) (makes n) was_void is_void) (carry n was_void c) (carry n is_void d)) }
-        ensures apart { IsApartWhere result (RebaseClash change.now step.now) };
+        ensures apart { IsApartWhere result (RebaseClashAt change.now step.now) };
 
     /// A part has one embedding in a content.
     ghost one_embedding: { (n : Part) (c : Self.Ctx) (x y : Self.Change) → IsEmbedding n c x → IsEmbedding n c y → x ≡ y };

@@ -56,13 +56,13 @@ impl FieldKind for Register {
 
     ghost HasRoom = { λ x s. Unit {0} };
 
-    ghost AfterClash = { λ c s. DifferAt c.node s.before };
+    ghost AfterClashAt = { λ c s. DifferAt c.node s.before };
 
-    ghost ComposeClash = { λ s t. DifferAt s.after t.before };
+    ghost ComposeClashAt = { λ s t. DifferAt s.after t.before };
 
-    ghost JoinClash = { λ x y. DifferAt (left_by x) y.held };
+    ghost JoinClashAt = { λ x y. DifferAt (left_by x) y.held };
 
-    ghost RebaseClash = { λ x s. DifferAt x.held s.before };
+    ghost RebaseClashAt = { λ x s. DifferAt x.held s.before };
 
     fn over(change: &RegChange, ctx: &RegHeld) -> bool {
         is_same(change.held, ctx.node) && is_of_form(change)

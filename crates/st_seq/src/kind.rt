@@ -64,13 +64,13 @@ impl FieldKind for Sequence {
 
     ghost HasRoom = { λ x s. may_list (spread x.marks) (spread s.marks) < 2 ^ 32 };
 
-    ghost AfterClash = { λ c s. ApartAt (row_views c.cells) (cells_before (spread s.marks)) (named_in_row 0 c.cells) (named_before 0 (spread s.marks)) };
+    ghost AfterClashAt = { λ c s. ApartAt (row_views c.cells) (cells_before (spread s.marks)) (named_in_row 0 c.cells) (named_before 0 (spread s.marks)) };
 
-    ghost ComposeClash = { λ s t. ApartAt (cells_after (spread s.marks)) (cells_before (spread t.marks)) (named_after 0 (spread s.marks)) (named_before 0 (spread t.marks)) };
+    ghost ComposeClashAt = { λ s t. ApartAt (cells_after (spread s.marks)) (cells_before (spread t.marks)) (named_after 0 (spread s.marks)) (named_before 0 (spread t.marks)) };
 
-    ghost JoinClash = { λ x y. TurnsApartAt x.new (spread x.marks) (spread y.marks) };
+    ghost JoinClashAt = { λ x y. TurnsApartAt x.new (spread x.marks) (spread y.marks) };
 
-    ghost RebaseClash = { λ x s. ApartAt (cells_before (spread x.marks)) (cells_before (spread s.marks)) (named_before 0 (spread x.marks)) (named_before 0 (spread s.marks)) };
+    ghost RebaseClashAt = { λ x s. ApartAt (cells_before (spread x.marks)) (cells_before (spread s.marks)) (named_before 0 (spread x.marks)) (named_before 0 (spread s.marks)) };
 
     fn over(change: &RowChange, ctx: &RowHeld) -> bool {
         is_of_form(change, ctx.cells.as_slice())
