@@ -471,7 +471,7 @@ module _ (D : Document) (s : SchemaView) (G : NameCounters) (at : List Place) (k
         go Required q = absurd (none_required q)
         go Sequence q =
             subst (λ N. Shows is_array (full D N) root (moved_in at key index count to to_key to_index d)) (is_at Sequence q)
-            (into_row is_array D sound w.nodes w.target clear at key index count to to_key to_index d goes t.0 t.1 (full D (moved_to_row D G w.target to_index w.nodes))
+            (into_row is_array D sound w.nodes w.target clear at key index count to to_key to_index d target_of t.0 t.1 (full D (moved_to_row D G w.target to_index w.nodes))
             (node_there D G w.target to_index w.nodes sound (fits_at Sequence q) (row_there q)) (row_elsewhere D G w.target to_index w.nodes sound (fits_at Sequence q) (row_there q))
             (λ f _. held_there D G w.target to_index w.nodes sound (fits_at Sequence q) (row_there q) f) (t.2 is_array schema tells ∙ ap is_row q) (ruled_key field.Open D s w.target to_key w.target_rule schema w.target_ruled ∙ ap is_row q)
             (row_here D G w.target to_index w.nodes sound (fits_at Sequence q) (row_there q)))
@@ -479,7 +479,7 @@ module _ (D : Document) (s : SchemaView) (G : NameCounters) (at : List Place) (k
             let x = single w.nodes count (many_taken w.source_rule.kind w.taken_nodes) (one_there q) in
             let g = field_at w.target to_key in
             subst (λ N. Shows is_array (full D N) root (moved_in at key index count to to_key to_index d)) (ap (moved_to_field D G g) (sym x.1) ∙ is_at Optional q)
-            (into_field is_array D sound (x.0 ∷ []) w.target (λ z v h. clear z v (subst (λ l. Has l z) (sym x.1) h)) at key index count to to_key to_index d (subst Goes x.1 goes) t.0 t.1 (full D (moved_to_field D G g (x.0 ∷ [])))
+            (into_field is_array D sound (x.0 ∷ []) w.target (λ z v h. clear z v (subst (λ l. Has l z) (sym x.1) h)) at key index count to to_key to_index d (subst Goes x.1 target_of) t.0 t.1 (full D (moved_to_field D G g (x.0 ∷ [])))
             (nodes_there D G g x.0 sound) (λ y _. rows_there D G g x.0 sound y)
             (λ f apart. held_after D G g x.0 sound f ∙ ap (λ b. cond b (Some x.0) ((parted D (x.0 ∷ [])).held f)) (other_register f.node w.target f.key.0 to_key.0 (λ same. apart (sym same))))
             x.0 refl (t.2 is_array schema tells ∙ ap is_row q) (ruled_key field.Open D s w.target to_key w.target_rule schema w.target_ruled ∙ ap is_row q)

@@ -7,7 +7,7 @@ use Rattle.st_ids.specs.declared.names.NodeId.{NodeId}
 use Rattle.st_ids.proofs.Orders.{same_node-true}
 use Rattle.st_marks.specs.Document.{climb, ClimbsToAnEnd}
 use Rattle.st_intent.specs.inside.Rules.{ends_within}
-use Rattle.st_marks.proofs.NoRing.{shorter}
+use Rattle.st_marks.proofs.NoRing.{others, shorter, without}
 
 module _ (up : NodeId → Option NodeId) where
   -- an end that is reached is an end
@@ -64,21 +64,6 @@ module _ (up : NodeId → Option NodeId) where
           let less : k - suc j ≤ fuel = omega arith in
           again (k - suc j) less back (sym (climb_on (suc j) (k - suc j) n n back) ∙ ap (λ (i : ℕ). climb up i n) whole ∙ e)
 
--- a list without a node
-abbrev pub without : NodeId → List NodeId → List NodeId
-without n [] = []
-without n (x ∷ xs) = cond (same_node n x) (without n xs) (x ∷ without n xs)
-
-has_without : (n y : NodeId) (xs : List NodeId) → Has xs y → (y ≡ n → ⊥) → Has (without n xs) y
-has_without n y [] h apart = absurd h
-has_without n y (x ∷ xs) h apart = go (same_node n x) refl (λ k. has_without n y xs k apart) h
-  where
-    go : (b : Bool) → same_node n x ≡ b → (Has xs y → Has (without n xs) y) → (x ≡ y) ⊎ Has xs y → Has (cond b (without n xs) (x ∷ without n xs)) y
-    go true e rest (inl p) = absurd (apart (sym p ∙ sym (same_node-true n x e)))
-    go true e rest (inr k) = rest k
-    go false e rest (inl p) = inl p
-    go false e rest (inr k) = inr (rest k)
-
 has_some : (n : NodeId) (xs : List NodeId) → Has xs n → 0 < length xs
 has_some n [] h = absurd h
 has_some n (x ∷ xs) h = omega arith
@@ -104,4 +89,4 @@ module _ (up : NodeId → Option NodeId) where
           let fewer : length (without n ns) ≤ most = omega (arith, less) in
           rest p (without n ns) i fewer (sym (ap (option_and_then (climb up i)) u) ∙ e) (λ j x m c v.
           let from_n : climb up (suc j) n ≡ Some x = ap (option_and_then (climb up j)) u ∙ c in
-          has_without n x ns (closed (suc j) x m from_n v) (λ q. met_again up (suc i) (suc i) j n (omega arith) (from_n ∙ ap (λ y. Some y) q) e))
+          others n x ns (closed (suc j) x m from_n v) (λ q. met_again up (suc i) (suc i) j n (omega arith) (from_n ∙ ap (λ y. Some y) q) e))

@@ -60,7 +60,7 @@ abbrev pub hole_owner : CellMark → List NodeId
 hole_owner Counted = []
 hole_owner (Gap c) = []
 hole_owner (Touch c n h) = []
-hole_owner (Make c n b) = if b then hole_owners ms else n ∷ []
+hole_owner (Make c n b) = if b then [] else n ∷ []
 hole_owner (Fill c n) = []
 
 -- the owners of the empty cells that a row's marks make

@@ -54,26 +54,26 @@ incoming-mark (Fill c k ∷ ms) n (inr h) = let r = incoming-mark ms n h in (r.0
 
 -- who comes into a cell is put there
 abbrev ArePut : (NodeId → Option To) → List CellMark → Type 0
-ArePut goes ms = (d : CellId) (n : NodeId) → Comes ms d n → goes n ≡ Some (To.Cell d)
+ArePut target_of ms = (d : CellId) (n : NodeId) → Comes ms d n → target_of n ≡ Some (To.Cell d)
 
 one-cell : (c d : CellId) → Some (To.Cell c) ≡ Some (To.Cell d) → c ≡ d
 one-cell c d e = cc
 
-incoming-once : (target_of : NodeId → Option To) (ms : List CellMark) → AreDistinct (λ (c : CellId). c) (cells_in ms) → ArePut goes ms → AreDistinct (λ (n : NodeId). n) (incoming ms)
-incoming-once goes [] d p = tt
-incoming-once goes (Counted ∷ ms) d p = incoming-once goes ms d (λ c n r. p c n (more Counted ms c n r))
-incoming-once goes (Gap e ∷ ms) d p = incoming-once goes ms d.1 (λ c n r. p c n (more (Gap e) ms c n r))
-incoming-once goes (Touch e k g ∷ ms) d p = incoming-once goes ms d.1 (λ c n r. p c n (more (Touch e k g) ms c n r))
-incoming-once goes (Make e k false ∷ ms) d p = incoming-once goes ms d.1 (λ c n r. p c n (more (Make e k false) ms c n r))
-incoming-once goes (Make e k true ∷ ms) d p = (
+incoming-once : (target_of : NodeId → Option To) (ms : List CellMark) → AreDistinct (λ (c : CellId). c) (cells_in ms) → ArePut target_of ms → AreDistinct (λ (n : NodeId). n) (incoming ms)
+incoming-once target_of [] d p = tt
+incoming-once target_of (Counted ∷ ms) d p = incoming-once target_of ms d (λ c n r. p c n (more Counted ms c n r))
+incoming-once target_of (Gap e ∷ ms) d p = incoming-once target_of ms d.1 (λ c n r. p c n (more (Gap e) ms c n r))
+incoming-once target_of (Touch e k g ∷ ms) d p = incoming-once target_of ms d.1 (λ c n r. p c n (more (Touch e k g) ms c n r))
+incoming-once target_of (Make e k false ∷ ms) d p = incoming-once target_of ms d.1 (λ c n r. p c n (more (Make e k false) ms c n r))
+incoming-once target_of (Make e k true ∷ ms) d p = (
   has-all (λ n. n ≢ k) (incoming ms) (λ n h q. let r = incoming-mark ms n h in
-      all-has (λ c. c ≢ e) (cells_in ms) r.0 d.0 r.2 (one-cell r.0 e (sym (p r.0 n (more (Make e k true) ms r.0 n r.1)) ∙ ap goes q ∙ p e k (Make e k true, inl refl, inl refl)))),
-  incoming-once goes ms d.1 (λ c n r. p c n (more (Make e k true) ms c n r)),
+      all-has (λ c. c ≢ e) (cells_in ms) r.0 d.0 r.2 (one-cell r.0 e (sym (p r.0 n (more (Make e k true) ms r.0 n r.1)) ∙ ap target_of q ∙ p e k (Make e k true, inl refl, inl refl)))),
+  incoming-once target_of ms d.1 (λ c n r. p c n (more (Make e k true) ms c n r)),
 )
-incoming-once goes (Fill e k ∷ ms) d p = (
+incoming-once target_of (Fill e k ∷ ms) d p = (
   has-all (λ n. n ≢ k) (incoming ms) (λ n h q. let r = incoming-mark ms n h in
-      all-has (λ c. c ≢ e) (cells_in ms) r.0 d.0 r.2 (one-cell r.0 e (sym (p r.0 n (more (Fill e k) ms r.0 n r.1)) ∙ ap goes q ∙ p e k (Fill e k, inl refl, inr refl)))),
-  incoming-once goes ms d.1 (λ c n r. p c n (more (Fill e k) ms c n r)),
+      all-has (λ c. c ≢ e) (cells_in ms) r.0 d.0 r.2 (one-cell r.0 e (sym (p r.0 n (more (Fill e k) ms r.0 n r.1)) ∙ ap target_of q ∙ p e k (Fill e k, inl refl, inr refl)))),
+  incoming-once target_of ms d.1 (λ c n r. p c n (more (Fill e k) ms c n r)),
 )
 
 made-put : (p : RowPart) (os : List Owned) (ms : List CellMark) → ArePut p.target_of ms → ArePut p.target_of (embed_made p os ++ ms)

@@ -188,7 +188,7 @@ module _ (D : Document) (N : Intent) (C : Change) (x : IsSoundInForm D) (f : Fit
       target_of = has-put N f.itself p h ∙ ap (λ t. Some t) e
 
       at : (b : Bool) → (slot D (owned c p.node)).full ≡ b → Has (content D n) (slot D (owned c p.node)) → Why n
-      at false g i = told-why n (fill-told (part n) (content D n) (slot D (owned c p.node)) i g (put-is_here (put_of N p.node) (To.Cell c) goes))
+      at false g i = told-why n (fill-told (part n) (content D n) (slot D (owned c p.node)) i g (put-is_here (put_of N p.node) (To.Cell c) target_of))
       at true g i =
           let j = subst (λ b. Has (content D n) (record { cell = c; node = p.node; full = b })) g i in
           let place = stands D x p.node n c j in

@@ -119,7 +119,7 @@ module _ (D : Document) (C : Change) (x : IsSoundInForm D) (w : ObeysDataRules C
   pub moved-put : (f : Found) → Has L.found f → is_stay f.how ≡ false → (t : To) × Has N.put (put_to f.node t)
   moved-put f i e = elim (stay-leave f.how) [
     | inl s ↦ absurd (true-false s e)
-    | inr b ↦ elim b [ inl here ↦ set here (found_placed D C x o f i) | inr leave ↦ goes leave ]
+    | inr b ↦ elim b [ inl here ↦ set here (found_placed D C x o f i) | inr leave ↦ target_of leave ]
   ]
     where
       set : f.how ≡ Here → PlacedAs D C f.node f.how → (t : To) × Has N.put (put_to f.node t)
@@ -134,7 +134,7 @@ module _ (D : Document) (C : Change) (x : IsSoundInForm D) (w : ObeysDataRules C
       set here (as_loose l j k q p g) = (To.Nowhere, put-loose l (put_to f.node To.Nowhere) j (subst (λ b. Has (cond b (put_to l.node To.Nowhere ∷ []) []) (put_to f.node To.Nowhere)) (sym (here-true l.how (q ∙ here))) (inl (ap (λ n. put_to n To.Nowhere) k))))
 
       target_of : f.how ≡ Leave → (t : To) × Has N.put (put_to f.node t)
-      goes leave = decide (is_among L.put f.node) refl
+      target_of leave = decide (is_among L.put f.node) refl
         where
           decide : (b : Bool) → is_among L.put f.node ≡ b → (t : To) × Has N.put (put_to f.node t)
           decide true q = put-list f.node ((among_has L.put f.node).0 q)

@@ -29,7 +29,7 @@ goes-in : (N : Intent) → IsIntent N → (n : NodeId) (f : FieldId) → put_of 
 goes-in N w n f e = has-put_in N w n f (put-has N n (To.Register f) e)
 
 in-target_of : (N : Intent) → IsIntent N → (n : NodeId) (f : FieldId) → put_in N f ≡ Some n → put_of N n ≡ Some (To.Register f)
-in-goes N w n f e = has-put N w (record { node = n; to = To.Register f }) (put_in-has N f n e)
+in-target_of N w n f e = has-put N w (record { node = n; to = To.Register f }) (put_in-has N f n e)
 
 filled-cleared : (N : Intent) → IsIntent N → (n : NodeId) (f : FieldId) → put_in N f ≡ Some n → clears N f ≡ true
 filled-cleared N w n f e = put_clears N w n f (put_in-has N f n e)
@@ -95,7 +95,7 @@ module _ (D : Document) (N M J : Intent) (f : FieldId) (x : IsSoundInForm D) (p 
   next = p.then_fits.itself
 
   fill_to : (n : NodeId) → put_in J f ≡ Some n → at_last ≡ Some n
-  fill_to n e = go (put_of M n) refl (put_of N n) refl (sym (j.puts n) ∙ in-goes J j.itself n f e)
+  fill_to n e = go (put_of M n) refl (put_of N n) refl (sym (j.puts n) ∙ in-target_of J j.itself n f e)
     where
       nobody : clears M f ≡ false → (q : Option NodeId) → put_in M f ≡ q → q ≡ None
       nobody c None h = refl
@@ -123,7 +123,7 @@ module _ (D : Document) (N M J : Intent) (f : FieldId) (x : IsSoundInForm D) (p 
           go None a k =
               let same : q ≡ n = same_some q n k in
               let unput : put_of M n ≡ None = ap (put_of M) (sym same) ∙ a in
-              let put : put_of N n ≡ Some (To.Register f) = in-goes N first n f (g ∙ k) in
+              let put : put_of N n ≡ Some (To.Register f) = in-target_of N first n f (g ∙ k) in
               rw (unput, put, c) refl
           go (Some t) a k = cc
 
@@ -133,7 +133,7 @@ module _ (D : Document) (N M J : Intent) (f : FieldId) (x : IsSoundInForm D) (p 
 
       by_second : (q : Option NodeId) → put_in M f ≡ q → option_or q (cond (clears M f) None (unless_put (put_of M) (put_in N f))) ≡ Some n → joined_put N M n ≡ Some (To.Register f)
       by_second (Some q) g h =
-          let put : put_of M n ≡ Some (To.Register f) = in-goes M next n f (g ∙ h) in
+          let put : put_of M n ≡ Some (To.Register f) = in-target_of M next n f (g ∙ h) in
           rw put refl
       by_second None g h = cleared (clears M f) refl h
 
@@ -147,7 +147,7 @@ module _ (D : Document) (N M J : Intent) (f : FieldId) (x : IsSoundInForm D) (p 
       (option_or (put_of M n) (cond (same_option same_node (put_in N f) (Some n) && clears M f) (Some To.Nowhere) (put_of N n)))
 
   not_filled : (K : Intent) → IsIntent K → (n : NodeId) (o : Option To) → put_of K n ≡ o → o ≢ Some (To.Register f) → same_option same_node (put_in K f) (Some n) ≡ false
-  not_filled K w n o e h = other_occupant (put_in K f) (Some n) (λ k. h (sym e ∙ in-goes K w n f k))
+  not_filled K w n o e h = other_occupant (put_in K f) (Some n) (λ k. h (sym e ∙ in-target_of K w n f k))
 
   -- the second puts it somewhere
   by_next : (n : NodeId) (t : To) → put_of M n ≡ Some t → (IsTrue (clears N f && not (is_some (put_of N n))) → (put_of M n ≡ None) ⊎ (put_in M f ≡ Some n)) → Some t ≡ told n

@@ -48,7 +48,7 @@ same_to-register To.Nowhere f e = cc
 same_to-register (To.Cell c) f e = cc
 same_to-register (To.Register g) f e = ap (λ (k : FieldId). To.Register k) (same_field-true g f e)
 
-pub here-to : (target_of : Option To) (f : FieldId) → how goes (To.Register f) ≡ Here → goes ≡ Some (To.Register f)
+pub here-to : (target_of : Option To) (f : FieldId) → how target_of (To.Register f) ≡ Here → target_of ≡ Some (To.Register f)
 here-to None f e = cc
 here-to (Some to) f e =
     elim (same_to to (To.Register f)) as (λ b. same_to to (To.Register f) ≡ b → cond b Here Leave ≡ Here → Some to ≡ Some (To.Register f)) [
@@ -56,14 +56,14 @@ here-to (Some to) f e =
       | false ↦ λ t h. cc
     ] refl e
 
-pub to-here : (target_of : Option To) (f : FieldId) → goes ≡ Some (To.Register f) → how goes (To.Register f) ≡ Here
-to-here goes f e = subst (λ (q : Option To). how q (To.Register f) ≡ Here) (sym e) (rw (same_field-itself f) refl)
+pub to-here : (target_of : Option To) (f : FieldId) → target_of ≡ Some (To.Register f) → how target_of (To.Register f) ≡ Here
+to-here target_of f e = subst (λ (q : Option To). how q (To.Register f) ≡ Here) (sym e) (rw (same_field-itself f) refl)
 
-pub stay-to : (target_of : Option To) (f : FieldId) → how goes (To.Register f) ≡ Stay → is_some goes ≡ false
+pub stay-to : (target_of : Option To) (f : FieldId) → how target_of (To.Register f) ≡ Stay → is_some target_of ≡ false
 stay-to None f e = refl
 stay-to (Some to) f e =
     elim (same_to to (To.Register f)) as (λ b. cond b Here Leave ≡ Stay → true ≡ false) [ true ↦ λ h. cc | false ↦ λ h. cc ] e
 
-pub leave-to : (target_of : Option To) (f : FieldId) → how goes (To.Register f) ≡ Leave → is_some goes ≡ true
+pub leave-to : (target_of : Option To) (f : FieldId) → how target_of (To.Register f) ≡ Leave → is_some target_of ≡ true
 leave-to None f e = cc
 leave-to (Some to) f e = refl

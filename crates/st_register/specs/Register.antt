@@ -53,8 +53,8 @@ pub record RegFits (p : RegPart) (c : RegHeld) : Type 0 where
 
 -- the occupant, unless it is put
 abbrev pub unless_put : (NodeId → Option To) → Option NodeId → Option NodeId
-unless_put goes None = None
-unless_put goes (Some n) = if is_some (goes n) then None else Some n
+unless_put target_of None = None
+unless_put target_of (Some n) = if is_some (target_of n) then None else Some n
 
 -- who is there after the clear and then the puts
 abbrev pub held_whole : RegisterPart → Option NodeId → Option NodeId

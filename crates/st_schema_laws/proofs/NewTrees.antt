@@ -126,18 +126,18 @@ module _ (s : SchemaView) (home : NodeId → Option FieldId) (D : Document) (N :
   type_is x ts h e = ap (λ o. option_map_or (λ (t : NodeType). is_among t.ty ts) o false) (node_is x h) ∙ e
 
   target_of : (x : FlatNode) → Has xs x → (at : FlatAt) → x.at ≡ at → IsPlaced s xs types x.ty at → home x.node ≡ register_of (to_at into at) → MayGo s home D N x.node (to_at into at)
-  goes x h FlatAt.Root q p f = tt
-  goes x h (FlatAt.Top c) q p f = w.tops x c h q (type_is x types h p) f
-  goes x h (FlatAt.Row r c) q p f = (
+  target_of x h FlatAt.Root q p f = tt
+  target_of x h (FlatAt.Top c) q p f = w.tops x c h q (type_is x types h p) f
+  target_of x h (FlatAt.Row r c) q p f = (
     r,
     rw (w.fits.fresh_cells c (ap is_some (w.rows x r c h q))) (w.rows x r c h q),
     record { rule = p.rule; ruled = rule_is is_row r row_key x.ty p; kind = p.kind; typed = type_is x p.rule.types h p.typed; at_home = λ required. absurd (true-false required (required_not_row p.rule.kind p.kind)); away = λ g e. absurd (no_home home x.node g f e) },
   )
-  goes x h (FlatAt.Register g) q p f =
+  target_of x h (FlatAt.Register g) q p f =
       record { rule = p.rule; ruled = rule_is is_single_kind g.node g.key x.ty p; kind = p.kind; typed = type_is x p.rule.types h p.typed; at_home = λ required. f; away = λ g' e. inl (one_home home x.node g g' f e) }
 
   listed_goes : (x : FlatNode) → Has xs x → MayGo s home D N x.node (to_at into x.at)
-  listed_goes x h = goes x h x.at refl (w.items x h).placed (home_is x h)
+  listed_goes x h = target_of x h x.at refl (w.items x h).placed (home_is x h)
 
   -- a register is filled by the node that is put into it
   fills : (x : FlatNode) (f : FieldId) → Has xs x → to_at into x.at ≡ To.Register f → put_in N f ≡ Some x.node

@@ -135,26 +135,26 @@ placing void placed n = not void || placed n
 module _ (t : NodeId → Option How) (p : RowPart) (m placed makes : Nodes) (was is : Bool) (sub : (n : NodeId) → makes n ≡ false → placed n ≡ false) (put : (n : NodeId) → p.target_of n ≢ None → makes n ≡ false → p.mentioned n ≡ true) where
   -- where the change puts a node
   abbrev target_of : Bool → NodeId → Option To
-  goes void n = cond (placing void placed n) (p.target_of n) None
+  target_of void n = cond (placing void placed n) (p.target_of n) None
 
   abbrev named : Nodes
   named = named_beside m p.mentioned makes was is
 
-  void_goes : (n : NodeId) (v : Bool) → v ≡ true → makes n ≡ false → goes v n ≡ None
+  void_goes : (n : NodeId) (v : Bool) → v ≡ true → makes n ≡ false → target_of v n ≡ None
   void_goes n v e h = ap (λ b. cond (not b || placed n) (p.target_of n) None) e ∙ ap (λ b. cond b (p.target_of n) None) (sub n h)
 
-  none_goes : (n : NodeId) (v : Bool) → p.target_of n ≡ None → goes v n ≡ None
+  none_goes : (n : NodeId) (v : Bool) → p.target_of n ≡ None → target_of v n ≡ None
   none_goes n v e = elim (placing v placed n) as (λ b. cond b (p.target_of n) None ≡ None) [ true ↦ e | false ↦ refl ]
 
-  first_is : (v : Bool) (c : CellId) (n : NodeId) (a : Bool) → makes n ≡ false → full_first v (embed_cell p c n a) ≡ full_after (goes v n) c a
+  first_is : (v : Bool) (c : CellId) (n : NodeId) (a : Bool) → makes n ≡ false → full_first v (embed_cell p c n a) ≡ full_after (target_of v n) c a
   first_is true c n a h = before_full p c n a ∙ sym (ap (λ g. full_after g c a) (void_goes n true refl h))
   first_is false c n a h = left_full p c n a (λ q. put n q h)
 
-  then_is : (v : Bool) (c : CellId) (n : NodeId) (a b : Bool) → makes n ≡ false → (v ≡ false → b ≡ true → Tells p n (t n)) → full_then v t (embed_cell p c n a) (step_cell m c n a b) ≡ full_after (goes v n) c b
+  then_is : (v : Bool) (c : CellId) (n : NodeId) (a b : Bool) → makes n ≡ false → (v ≡ false → b ≡ true → Tells p n (t n)) → full_then v t (embed_cell p c n a) (step_cell m c n a b) ≡ full_after (target_of v n) c b
   then_is true c n a b h k = step_full m c n a b ∙ sym (ap (λ g. full_after g c b) (void_goes n true refl h))
   then_is false c n a b h k = ap (λ x. (view_after x).full) (rebased-found t p m c n a b (λ _ q. put n q h) (k refl)) ∙ left_full p c n b (λ q. put n q h)
 
-  away_is : (v : Bool) (c : CellId) (n : NodeId) (a : Bool) → is_here (how (p.target_of n) (To.Cell c)) ≡ false → a ≡ false → full_after (goes v n) c a ≡ false
+  away_is : (v : Bool) (c : CellId) (n : NodeId) (a : Bool) → is_here (how (p.target_of n) (To.Cell c)) ≡ false → a ≡ false → full_after (target_of v n) c a ≡ false
   away_is v c n a e f = elim (placing v placed n) as (λ b. full_after (cond b (p.target_of n) None) c a ≡ false) [ true ↦ away_full (p.target_of n) c a e f | false ↦ f ]
 
   named_is : (n : NodeId) → named n ≡ (m n || cond (was && is) (makes n) (p.mentioned n || makes n))
@@ -172,29 +172,29 @@ module _ (t : NodeId → Option How) (p : RowPart) (m placed makes : Nodes) (was
 
   -- a cell that both find
   found_is : (c : CellId) (n : NodeId) (a b : Bool) → makes n ≡ false → (is ≡ false → b ≡ true → Tells p n (t n))
-      → bridged was is t (embed_cell p c n a) (step_cell m c n a b) ≡ step_cell named c n (full_after (goes was n) c a) (full_after (goes is n) c b)
-  found_is c n a b h k = elim (was && is) as (λ z. (was && is) ≡ z → cond z (step_cell m c n a b) (stepped (embed_cell p c n a) (step_cell m c n a b) (full_first was (embed_cell p c n a)) (full_then is t (embed_cell p c n a) (step_cell m c n a b))) ≡ step_cell named c n (full_after (goes was n) c a) (full_after (goes is n) c b)) [
+      → bridged was is t (embed_cell p c n a) (step_cell m c n a b) ≡ step_cell named c n (full_after (target_of was n) c a) (full_after (target_of is n) c b)
+  found_is c n a b h k = elim (was && is) as (λ z. (was && is) ≡ z → cond z (step_cell m c n a b) (stepped (embed_cell p c n a) (step_cell m c n a b) (full_first was (embed_cell p c n a)) (full_then is t (embed_cell p c n a) (step_cell m c n a b))) ≡ step_cell named c n (full_after (target_of was n) c a) (full_after (target_of is n) c b)) [
     | true ↦ (λ e. unlisted m named c n a b (both_named n h e) ∙ (λ i. step_cell named c n (full_after (sym (void_goes n was (and-first was is e) h) i) c a) (full_after (sym (void_goes n is (and-second was is e) h) i) c b)))
     | false ↦ (λ e. (λ i. stepped (embed_cell p c n a) (step_cell m c n a b) (first_is was c n a h i) (then_is is c n a b h k i))
-        ∙ stepped_is p m named c n (owner n h e) a b (full_after (goes was n) c a) (full_after (goes is n) c b)
+        ∙ stepped_is p m named c n (owner n h e) a b (full_after (target_of was n) c a) (full_after (target_of is n) c b)
         (λ q. ap (λ g. full_after g c a) (none_goes n was q)) (λ q. ap (λ g. full_after g c b) (none_goes n is q)) (away_is was c n a) (away_is is c n b))
   ] refl
 
-  found_moved : (c : CellId) (n : NodeId) (a b : Bool) → makes n ≡ false → (a ≢ b → m n ≡ true) → full_after (goes was n) c a ≢ full_after (goes is n) c b → named n ≡ true
-  found_moved c n a b h k = elim (was && is) as (λ z. (was && is) ≡ z → full_after (goes was n) c a ≢ full_after (goes is n) c b → named n ≡ true) [
+  found_moved : (c : CellId) (n : NodeId) (a b : Bool) → makes n ≡ false → (a ≢ b → m n ≡ true) → full_after (target_of was n) c a ≢ full_after (target_of is n) c b → named n ≡ true
+  found_moved c n a b h k = elim (was && is) as (λ z. (was && is) ≡ z → full_after (target_of was n) c a ≢ full_after (target_of is n) c b → named n ≡ true) [
     | true ↦ (λ e q. as_step (void_goes n was (and-first was is e) h) (void_goes n is (and-second was is e) h) q)
-    | false ↦ (λ e. elim (p.mentioned n) as (λ z. p.mentioned n ≡ z → full_after (goes was n) c a ≢ full_after (goes is n) c b → named n ≡ true) [
+    | false ↦ (λ e. elim (p.mentioned n) as (λ z. p.mentioned n ≡ z → full_after (target_of was n) c a ≢ full_after (target_of is n) c b → named n ≡ true) [
       | true ↦ (λ f q. (owner n h e).named f)
       | false ↦ (λ f q. let none = not_put p m named c n (owner n h e) f in as_step (none_goes n was none) (none_goes n is none) q)
     ] refl)
   ] refl
     where
-      as_step : goes was n ≡ None → goes is n ≡ None → full_after (goes was n) c a ≢ full_after (goes is n) c b → named n ≡ true
+      as_step : target_of was n ≡ None → target_of is n ≡ None → full_after (target_of was n) c a ≢ full_after (target_of is n) c b → named n ≡ true
       as_step e f q = named_is n ∙ or-left (m n) (cond (was && is) (makes n) (p.mentioned n || makes n)) (k (λ r. q (ap (λ g. full_after g c a) e ∙ r ∙ sym (ap (λ g. full_after g c b) f))))
 
   -- ## A cell that the change makes
 
-  made_is : (v : Bool) (o : Owned) → made_full placed o.node (is_here (how (p.target_of o.node) (To.Cell o.cell))) v ≡ is_here (how (goes v o.node) (To.Cell o.cell))
+  made_is : (v : Bool) (o : Owned) → made_full placed o.node (is_here (how (p.target_of o.node) (To.Cell o.cell))) v ≡ is_here (how (target_of v o.node) (To.Cell o.cell))
   made_is true o = void-made placed p o
   made_is false o = refl
 
@@ -235,14 +235,14 @@ module _ (t : NodeId → Option How) (p : RowPart) (m placed makes : Nodes) (was
   beside_made [] xs ys l = l
   beside_made (o ∷ os) xs ys l =
       let put = is_here (how (p.target_of o.node) (To.Cell o.cell)) in
-      led-kept named o.cell o.node (is_here (how (goes was o.node) (To.Cell o.cell))) (is_here (how (goes is o.node) (To.Cell o.cell))) (turned o.cell o.node (made_full placed o.node put was) (made_full placed o.node put is))
+      led-kept named o.cell o.node (is_here (how (target_of was o.node) (To.Cell o.cell))) (is_here (how (target_of is o.node) (To.Cell o.cell))) (turned o.cell o.node (made_full placed o.node put was) (made_full placed o.node put is))
       (turned_is named o.cell o.node (made_full placed o.node put was) (made_full placed o.node put is) (λ e f. full_named was (and-first was is) o.node o.cell e) ∙ (λ i. step_cell named o.cell o.node (made_is was o i) (made_is is o i)))
-      (one_full (made_full placed o.node put was) (made_full placed o.node put is) (is_here (how (goes was o.node) (To.Cell o.cell))) (is_here (how (goes is o.node) (To.Cell o.cell))) (made_is was o) (made_is is o) (full_named was (and-first was is) o.node o.cell) (full_named is (and-second was is) o.node o.cell))
+      (one_full (made_full placed o.node put was) (made_full placed o.node put is) (is_here (how (target_of was o.node) (To.Cell o.cell))) (is_here (how (target_of is o.node) (To.Cell o.cell))) (made_is was o) (made_is is o) (full_named was (and-first was is) o.node o.cell) (full_named is (and-second was is) o.node o.cell))
       (beside_made os xs ys l)
 
   -- ## The row
 
-  gained_is : (v : Bool) (c : CellId) (n : NodeId) (b : Bool) → makes n ≡ false → (v ≡ false → p.target_of n ≢ Some (To.Cell c)) → (v ≡ false → b ≡ true → Tells p n (t n)) → gained_full t c n b v ≡ full_after (goes v n) c b
+  gained_is : (v : Bool) (c : CellId) (n : NodeId) (b : Bool) → makes n ≡ false → (v ≡ false → p.target_of n ≢ Some (To.Cell c)) → (v ≡ false → b ≡ true → Tells p n (t n)) → gained_full t c n b v ≡ full_after (target_of v n) c b
   gained_is true c n b h g k = sym (ap (λ g. full_after g c b) (void_goes n true refl h))
   gained_is false c n b h g k = ap (λ x. (view_after x).full) (gained-found t p c n b (g refl) (k refl)) ∙ left_full p c n b (λ q. put n q h)
 
@@ -251,14 +251,14 @@ module _ (t : NodeId → Option How) (p : RowPart) (m placed makes : Nodes) (was
   beside_cells no_more z o q w h k = (no_more, refl, tt)
   beside_cells (item_gained {y = s} {xs = c} {ys = d} g) z o q w h k =
       let rest = beside_cells g z.1 o q.1 w (λ e. (h e).2) (λ e n x. k e n (inr x)) in
-      rw z.0 (subst (Led named (carried_cells (void_part (placing was placed) p) c) (record s { full = full_after (goes is s.node) s.cell s.full } ∷ carried_cells (void_part (placing is placed) p) d))
+      rw z.0 (subst (Led named (carried_cells (void_part (placing was placed) p) c) (record s { full = full_after (target_of is s.node) s.cell s.full } ∷ carried_cells (void_part (placing is placed) p) d))
       ((λ i. Make s.cell s.node (sym (gained_is is s.cell s.node s.full q.0 (λ e. (h e).1) (λ e r. k e s.node (inl (refl, r)))) i) ∷ bridge_row was is placed t (embed_cells p c) (step_row m g))
       ∙ sym (beside-gained (bridged_piece was is placed t) p c s.cell s.node s.full (step_row m g)))
-      (led-gained named s.cell s.node (full_after (goes is s.node) s.cell s.full) rest))
+      (led-gained named s.cell s.node (full_after (target_of is s.node) s.cell s.full) rest))
   beside_cells (item_kept {x = s} {y = u} {xs = c} {ys = d} a g) z o q w h k =
       let same : ◌≡◌ {A = Slot} (record { cell = s.cell; node = s.node; full = u.full }) u = λ i. record { cell = a.0 i; node = a.1 i; full = u.full } in
       let rest = beside_made (p.new_cells (Some s.cell)) (embed_cells p c) (step_row m g) (beside_cells g z o.1 q.1 w.1 h (λ e n x. k e n (inr x))) in
-      let one = led-kept named s.cell s.node (full_after (goes was s.node) s.cell s.full) (full_after (goes is s.node) s.cell u.full) (bridged was is t (embed_cell p s.cell s.node s.full) (step_cell m s.cell s.node s.full u.full))
+      let one = led-kept named s.cell s.node (full_after (target_of was s.node) s.cell s.full) (full_after (target_of is s.node) s.cell u.full) (bridged was is t (embed_cell p s.cell s.node s.full) (step_cell m s.cell s.node s.full u.full))
       (found_is s.cell s.node s.full u.full o.0 (λ e r. subst (λ n. Tells p n (t n)) (sym a.1) (k e u.node (inl (refl, r))))) (found_moved s.cell s.node s.full u.full o.0 w.0) rest in
       subst (λ (v : Slot). Led named (carried_cells (void_part (placing was placed) p) (s ∷ c)) (carried_cells (void_part (placing is placed) p) (v ∷ d)) (bridge_row was is placed t (embed_cells p (s ∷ c)) (step_cell m s.cell s.node s.full u.full ∷ step_row m g))) same
       (subst (Led named (carried_cells (void_part (placing was placed) p) (s ∷ c)) (carried_cells (void_part (placing is placed) p) (record { cell = s.cell; node = s.node; full = u.full } ∷ d)))

@@ -85,7 +85,7 @@ module _ (D : Document) (N : Intent) (n : NodeId) (x : IsSoundInForm D) (w : Fit
     made_slot : (a : Option CellId) (o : Owned) → Has (group_at N n a) o → (slot (full D N) o).full ≡ is_here (how (p.target_of o.node) (To.Cell o.cell))
     made_slot a o v =
         let r = grouped a o v in
-        place_full o.cell o.node n r.1 (put_of N o.node) ∙ here_full (put_of N o.node) o.cell (is_cell o.cell (D.place o.node)) (not_yet o r.0 o.node) ∙ ap (λ g. is_here (how g (To.Cell o.cell))) (sym (goes o.node))
+        place_full o.cell o.node n r.1 (put_of N o.node) ∙ here_full (put_of N o.node) o.cell (is_cell o.cell (D.place o.node)) (not_yet o r.0 o.node) ∙ ap (λ g. is_here (how g (To.Cell o.cell))) (sym (target_of o.node))
 
     made_slots : (os : List Owned) → ((o : Owned) → Has os o → (slot (full D N) o).full ≡ is_here (how (p.target_of o.node) (To.Cell o.cell))) → (xs : List Owned) (ys : List Slot) → map (slot (full D N)) xs ≡ ys → map (slot (full D N)) (os ++ xs) ≡ made_cells p os ++ ys
     made_slots [] h xs ys e = e
@@ -94,7 +94,7 @@ module _ (D : Document) (N : Intent) (n : NodeId) (x : IsSoundInForm D) (w : Fit
     old_slots : (os : List Owned) → ((o : Owned) → Has os o → Has (D.rows n) o) → map (slot (full D N)) (with_groups N n os) ≡ carried_cells p (map (slot D) os)
     old_slots [] h = refl
     old_slots (o ∷ os) h =
-        λ i. record { cell = o.cell; node = o.node; full = (place_full o.cell o.node n (old_row o (h o (inl refl))) (put_of N o.node) ∙ ap (λ g. full_after g o.cell (is_cell o.cell (D.place o.node))) (sym (goes o.node))) i }
+        λ i. record { cell = o.cell; node = o.node; full = (place_full o.cell o.node n (old_row o (h o (inl refl))) (put_of N o.node) ∙ ap (λ g. full_after g o.cell (is_cell o.cell (D.place o.node))) (sym (target_of o.node))) i }
         ∷ (made_slots (group_at N n (Some o.cell)) (made_slot (Some o.cell)) (with_groups N n os) (carried_cells p (map (slot D) os)) (old_slots os (λ q v. h q (inr v)))
         ∙ ap (λ l. made_cells p l ++ carried_cells p (map (slot D) os)) (sym (made (Some o.cell)))) i
 

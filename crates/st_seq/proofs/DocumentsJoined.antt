@@ -97,7 +97,7 @@ module _ (D : Document) (N M J : Intent) (m k l : Nodes) (a b c : List NodeId) (
       standing_slot (s ∷ d) (inr w) = let r = standing_slot d w in (r.0, inr r.1, r.2)
 
   target_of : (y : NodeId) (e : CellId) → StandsIn y (content D n) → how (put_of J y) (To.Cell e) ≡ how (goes_in_turn (row_part m N n) (row_part k M n) y) (To.Cell e)
-  goes y e h =
+  target_of y e h =
       let put : put_of J y ≡ option_or (put_of M y) (option_map (unless_cleared_by M) (put_of N y)) =
       j.puts y ∙ (λ i. option_and_then (put_unless_new (old_node y h i)) (option_or (put_of M y) (option_map (unless_cleared_by M) (put_of N y)))) ∙ old_put (option_or (put_of M y) (option_map (unless_cleared_by M) (put_of N y))) in
       ap (λ o. how o (To.Cell e)) put ∙ turns_alike M (put_of M y) (put_of N y) e
@@ -133,7 +133,7 @@ module _ (D : Document) (N M J : Intent) (m k l : Nodes) (a b c : List NodeId) (
       first = joined_groups k N M J n None j tt;
       behind = λ e h. joined_groups k N M J n (Some e) j (old_anchor e h);
       mentions = mentions;
-      target_of = goes;
+      target_of = target_of;
       comes = comes;
       older = λ e. has-all (λ (o : Owned). put_of N o.node ≢ Some (To.Cell o.cell)) (group_at M n e) (λ o h. older o (let g = group_at-group M n e o h in flat_map-has (λ (g : Group). g.cells) M.groups g.group o g.listed g.cell));
     };

@@ -27,7 +27,7 @@ stands_before = flat_map standing_before_in
 abbrev pub standing_after_in : CellMark → List NodeId
 standing_after_in Counted = []
 standing_after_in (Gap c) = []
-standing_after_in (Touch c n h) = if is_leave h then stands_after ms else n ∷ []
+standing_after_in (Touch c n h) = if is_leave h then [] else n ∷ []
 standing_after_in (Make c n b) = if b then n ∷ [] else []
 standing_after_in (Fill c n) = n ∷ []
 
