@@ -109,11 +109,11 @@ module _ {R : Type 0} (found : R → List Found) (put : R → List NodeId) (fiel
   after-times n [] = omega arith
   after-times n (Counted ∷ ms) = after-times n ms
   after-times n (Gap c ∷ ms) = after-times n ms
-  after-times n (Touch c m h ∷ ms) = elim (is_leave h) as (λ b. times n (if b then stands_after ms else m ∷ stands_after ms) ≤ times n (if b then lasting (found_in ms) else m ∷ lasting (found_in ms)) + times n (incoming ms)) [
+  after-times n (Touch c m h ∷ ms) = elim (is_leave h) as (λ b. times n ((if b then [] else m ∷ []) ++ stands_after ms) ≤ times n (if b then lasting (found_in ms) else m ∷ lasting (found_in ms)) + times n (incoming ms)) [
     | true ↦ after-times n ms
     | false ↦ omega (arith, after-times n ms)
   ]
-  after-times n (Make c m b ∷ ms) = elim b as (λ b. times n (if b then m ∷ stands_after ms else stands_after ms) ≤ times n (lasting (found_in ms)) + times n (if b then m ∷ incoming ms else incoming ms)) [
+  after-times n (Make c m b ∷ ms) = elim b as (λ b. times n ((if b then m ∷ [] else []) ++ stands_after ms) ≤ times n (lasting (found_in ms)) + times n ((if b then m ∷ [] else []) ++ incoming ms)) [
     | true ↦ omega (arith, after-times n ms)
     | false ↦ after-times n ms
   ]

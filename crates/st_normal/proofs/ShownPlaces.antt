@@ -1,5 +1,5 @@
 -- What changes and steps show of the places of nodes, before and after.
-use Rattle.std.proofs.Common.{◌≡◌, ℕ, zero, suc, Bool, true, false, not, List, [], ◌∷◌, slice_get, Option, Some, None, option_map, refl, sym, ap, ◌∙◌, inl, inr, if◌then◌else◌}
+use Rattle.std.proofs.Common.{◌++◌, ◌≡◌, ℕ, zero, suc, Bool, true, false, not, List, [], ◌∷◌, slice_get, Option, Some, None, option_map, refl, sym, ap, ◌∙◌, inl, inr, if◌then◌else◌}
 use Rattle.std.specs.Option.{option_or}
 use Rattle.st_ids.specs.Listing.{Has, IsRising, item_of}
 use Rattle.st_ids.specs.Order.{node_cmp, field_cmp}
@@ -62,10 +62,10 @@ after_stands (Gap d ∷ ms) zero c m e = not_named m e refl refl
 after_stands (Gap d ∷ ms) (suc k) c m e = after_stands ms k c m e
 after_stands (Touch d n h ∷ ms) zero c m e = go (is_leave h) refl
   where
-    go : (b : Bool) → is_leave h ≡ b → Has (if b then stands_after ms else n ∷ stands_after ms) m
+    go : (b : Bool) → is_leave h ≡ b → Has ((if b then [] else n ∷ []) ++ stands_after ms) m
     go true f = not_full e (ap not f) refl
     go false f = inl (same_owner (cell_view d n (not (is_leave h))) (cell_view c m true) n m e refl refl)
-after_stands (Touch d n h ∷ ms) (suc k) c m e = elim (is_leave h) as (λ b. Has (if b then stands_after ms else n ∷ stands_after ms) m) [ true ↦ after_stands ms k c m e | false ↦ inr (after_stands ms k c m e) ]
+after_stands (Touch d n h ∷ ms) (suc k) c m e = elim (is_leave h) as (λ b. Has ((if b then [] else n ∷ []) ++ stands_after ms) m) [ true ↦ after_stands ms k c m e | false ↦ inr (after_stands ms k c m e) ]
 after_stands (Make d n true ∷ ms) zero c m e = inl (same_owner (cell_view d n true) (cell_view c m true) n m e refl refl)
 after_stands (Make d n true ∷ ms) (suc k) c m e = inr (after_stands ms k c m e)
 after_stands (Make d n false ∷ ms) zero c m e = not_full e refl refl
@@ -79,7 +79,7 @@ stands-after (Counted ∷ ms) m h = further _ (cells_after ms) m (stands-after m
 stands-after (Gap d ∷ ms) m h = further _ (cells_after ms) m (stands-after ms m h)
 stands-after (Touch d n h ∷ ms) m i = go (is_leave h) refl (λ j. stands-after ms m j) i
   where
-    go : (b : Bool) → is_leave h ≡ b → (Has (stands_after ms) m → Stands (cells_after ms) m) → Has (if b then stands_after ms else n ∷ stands_after ms) m → Stands (cell_view d n (not (is_leave h)) ∷ cells_after ms) m
+    go : (b : Bool) → is_leave h ≡ b → (Has (stands_after ms) m → Stands (cells_after ms) m) → Has ((if b then [] else n ∷ []) ++ stands_after ms) m → Stands (cell_view d n (not (is_leave h)) ∷ cells_after ms) m
     go true f rest j = further _ (cells_after ms) m (rest j)
     go false f rest (inl e) = (zero, d, ap (λ b. Some (cell_view d n (not b))) f ∙ ap (λ x. Some (cell_view d x true)) e)
     go false f rest (inr j) = further _ (cells_after ms) m (rest j)

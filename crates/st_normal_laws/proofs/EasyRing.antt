@@ -1,5 +1,5 @@
 -- The easy half, in part: new nodes inside new nodes form no ring.
-use Rattle.std.proofs.Common.{◌≡◌, ◌&&◌, Bool, true, false, not, List, [], ◌∷◌, ℕ, Option, Some, None, IfSome, IsSome, cond, refl, ap, ◌∙◌, subst, inl, inr, ◌⊎◌, option_and_then, option_map}
+use Rattle.std.proofs.Common.{◌++◌, ◌≡◌, ◌&&◌, Bool, true, false, not, List, [], ◌∷◌, ℕ, Option, Some, None, IfSome, IsSome, cond, refl, ap, ◌∙◌, subst, inl, inr, ◌⊎◌, option_and_then, option_map}
 use Rattle.std.specs.Prelude.{slice_get}
 use Rattle.std.specs.Option.{option_or}
 use Rattle.st_ids.specs.Listing.{Has, item_of}
@@ -49,7 +49,7 @@ after-comes (Touch e k g ∷ ms) n i = go (is_leave g) i (λ j. after-comes ms n
     rest (inl r) = inl (r.0, r.1, inr r.2)
     rest (inr j) = inr j
 
-    go : (b : Bool) → Has (cond b (stands_after ms) (k ∷ stands_after ms)) n → (Has (stands_after ms) n → ((d : CellId) × (h : How) × Has ms (Touch d n h)) ⊎ Has (incoming ms) n) → ((d : CellId) × (h : How) × Has (Touch e k g ∷ ms) (Touch d n h)) ⊎ Has (incoming ms) n
+    go : (b : Bool) → Has (cond b [] (k ∷ []) ++ stands_after ms) n → (Has (stands_after ms) n → ((d : CellId) × (h : How) × Has ms (Touch d n h)) ⊎ Has (incoming ms) n) → ((d : CellId) × (h : How) × Has (Touch e k g ∷ ms) (Touch d n h)) ⊎ Has (incoming ms) n
     go true j more = rest (more j)
     go false (inl q) more = inl (e, g, inl (ap (λ k. Touch e k g) q))
     go false (inr j) more = rest (more j)

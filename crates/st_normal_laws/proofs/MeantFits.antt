@@ -185,8 +185,8 @@ hole-owner (Gap d ∷ ms) c n (inl q) = cc
 hole-owner (Gap d ∷ ms) c n (inr i) = hole-owner ms c n i
 hole-owner (Touch d m h ∷ ms) c n (inl q) = cc
 hole-owner (Touch d m h ∷ ms) c n (inr i) = hole-owner ms c n i
-hole-owner (Make d m b ∷ ms) c n (inl q) = let a : m ≡ n = cc in let e : b ≡ false = cc in subst (λ b. Has (cond b (hole_owners ms) (m ∷ hole_owners ms)) n) (sym e) (inl a)
-hole-owner (Make d m b ∷ ms) c n (inr i) = elim b as (λ b. Has (cond b (hole_owners ms) (m ∷ hole_owners ms)) n) [ true ↦ hole-owner ms c n i | false ↦ inr (hole-owner ms c n i) ]
+hole-owner (Make d m b ∷ ms) c n (inl q) = let a : m ≡ n = cc in let e : b ≡ false = cc in subst (λ b. Has (cond b [] (m ∷ []) ++ hole_owners ms) n) (sym e) (inl a)
+hole-owner (Make d m b ∷ ms) c n (inr i) = elim b as (λ b. Has (cond b [] (m ∷ []) ++ hole_owners ms) n) [ true ↦ hole-owner ms c n i | false ↦ inr (hole-owner ms c n i) ]
 hole-owner (Fill d m ∷ ms) c n (inl q) = cc
 hole-owner (Fill d m ∷ ms) c n (inr i) = hole-owner ms c n i
 

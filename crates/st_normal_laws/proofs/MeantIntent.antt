@@ -55,9 +55,9 @@ make-stands (Counted ∷ ms) c n (inr k) = make-stands ms c n k
 make-stands (Gap d ∷ ms) c n (inl q) = cc
 make-stands (Gap d ∷ ms) c n (inr k) = make-stands ms c n k
 make-stands (Touch d m h ∷ ms) c n (inl q) = cc
-make-stands (Touch d m h ∷ ms) c n (inr k) = elim (is_leave h) as (λ b. Has (cond b (stands_after ms) (m ∷ stands_after ms)) n) [ true ↦ make-stands ms c n k | false ↦ inr (make-stands ms c n k) ]
-make-stands (Make d m b ∷ ms) c n (inl q) = let z : m ≡ n = cc in let e : b ≡ true = cc in subst (λ b. Has (cond b (m ∷ stands_after ms) (stands_after ms)) n) (sym e) (inl z)
-make-stands (Make d m b ∷ ms) c n (inr k) = elim b as (λ b. Has (cond b (m ∷ stands_after ms) (stands_after ms)) n) [ true ↦ inr (make-stands ms c n k) | false ↦ make-stands ms c n k ]
+make-stands (Touch d m h ∷ ms) c n (inr k) = elim (is_leave h) as (λ b. Has (cond b [] (m ∷ []) ++ stands_after ms) n) [ true ↦ make-stands ms c n k | false ↦ inr (make-stands ms c n k) ]
+make-stands (Make d m b ∷ ms) c n (inl q) = let z : m ≡ n = cc in let e : b ≡ true = cc in subst (λ b. Has (cond b (m ∷ []) [] ++ stands_after ms) n) (sym e) (inl z)
+make-stands (Make d m b ∷ ms) c n (inr k) = elim b as (λ b. Has (cond b (m ∷ []) [] ++ stands_after ms) n) [ true ↦ inr (make-stands ms c n k) | false ↦ make-stands ms c n k ]
 make-stands (Fill d m ∷ ms) c n (inl q) = cc
 make-stands (Fill d m ∷ ms) c n (inr k) = inr (make-stands ms c n k)
 

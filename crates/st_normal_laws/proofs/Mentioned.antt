@@ -135,8 +135,8 @@ make-incoming (Gap d ∷ ms) c n (inl q) = cc
 make-incoming (Gap d ∷ ms) c n (inr i) = make-incoming ms c n i
 make-incoming (Touch d m h ∷ ms) c n (inl q) = cc
 make-incoming (Touch d m h ∷ ms) c n (inr i) = make-incoming ms c n i
-make-incoming (Make d m b ∷ ms) c n (inl q) = let a : m ≡ n = cc in let e : b ≡ true = cc in subst (λ b. Has (cond b (m ∷ incoming ms) (incoming ms)) n) (sym e) (inl a)
-make-incoming (Make d m b ∷ ms) c n (inr i) = elim b as (λ b. Has (cond b (m ∷ incoming ms) (incoming ms)) n) [ true ↦ inr (make-incoming ms c n i) | false ↦ make-incoming ms c n i ]
+make-incoming (Make d m b ∷ ms) c n (inl q) = let a : m ≡ n = cc in let e : b ≡ true = cc in subst (λ b. Has (cond b (m ∷ []) [] ++ incoming ms) n) (sym e) (inl a)
+make-incoming (Make d m b ∷ ms) c n (inr i) = elim b as (λ b. Has (cond b (m ∷ []) [] ++ incoming ms) n) [ true ↦ inr (make-incoming ms c n i) | false ↦ make-incoming ms c n i ]
 make-incoming (Fill d m ∷ ms) c n (inl q) = cc
 make-incoming (Fill d m ∷ ms) c n (inr i) = inr (make-incoming ms c n i)
 
@@ -149,7 +149,7 @@ fill-incoming (Gap d ∷ ms) c n (inr i) = fill-incoming ms c n i
 fill-incoming (Touch d m h ∷ ms) c n (inl q) = cc
 fill-incoming (Touch d m h ∷ ms) c n (inr i) = fill-incoming ms c n i
 fill-incoming (Make d m b ∷ ms) c n (inl q) = cc
-fill-incoming (Make d m b ∷ ms) c n (inr i) = elim b as (λ b. Has (cond b (m ∷ incoming ms) (incoming ms)) n) [ true ↦ inr (fill-incoming ms c n i) | false ↦ fill-incoming ms c n i ]
+fill-incoming (Make d m b ∷ ms) c n (inr i) = elim b as (λ b. Has (cond b (m ∷ []) [] ++ incoming ms) n) [ true ↦ inr (fill-incoming ms c n i) | false ↦ fill-incoming ms c n i ]
 fill-incoming (Fill d m ∷ ms) c n (inl q) = let a : m ≡ n = cc in inl a
 fill-incoming (Fill d m ∷ ms) c n (inr i) = inr (fill-incoming ms c n i)
 

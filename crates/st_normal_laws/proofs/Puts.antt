@@ -76,7 +76,7 @@ row-times n (Touch c m h ∷ ms) = elim (is_here h) as (λ b. times n (map put_n
   | true ↦ omega (arith, row-times n ms)
   | false ↦ row-times n ms
 ]
-row-times n (Make c m b ∷ ms) = elim b as (λ b. times n (map put_node (cond b (put_to m (To.Cell c) ∷ row_puts ms) (row_puts ms))) ≤ times n (cond b (m ∷ incoming ms) (incoming ms)) + times n (heres (found_in ms))) [
+row-times n (Make c m b ∷ ms) = elim b as (λ b. times n (map put_node (cond b (put_to m (To.Cell c) ∷ row_puts ms) (row_puts ms))) ≤ times n (cond b (m ∷ []) [] ++ incoming ms) + times n (heres (found_in ms))) [
   | true ↦ omega (arith, row-times n ms)
   | false ↦ row-times n ms
 ]

@@ -7,7 +7,7 @@ use crate::name_clashes::{agree_beside, agree_in_turn, agree_over};
 use crate::new_nodes::{merged, rising};
 use crate::owners::agree_as_changes;
 use crate::values::{RowChange, RowHeld, RowStep};
-use crate::{bridge, compose, effect, invert, rebase, rows};
+use crate::{row_bridge, row_compose, row_effect, row_invert, row_rebase, rows};
 use st_ids::{Copied, List, Or};
 use st_kind::{Apart, FieldKind};
 use st_marks::{Mark, after};
@@ -84,22 +84,22 @@ impl FieldKind for Sequence {
 
     fn effect(alloc: Global, change: &RowChange, void: bool) -> Result<RowStep, AllocError> {
         if !void {
-            let marks = effect::effect(alloc, &change.marks)?;
+            let marks = row_effect::effect(alloc, &change.marks)?;
             return Ok(RowStep { marks });
         }
         let new = rising(alloc, &change.new)?;
-        let marks = effect::void_effect(alloc, &change.marks, change.in_new, &new)?;
+        let marks = row_effect::void_effect(alloc, &change.marks, change.in_new, &new)?;
         Ok(RowStep { marks })
     }
 
     fn compose(alloc: Global, first: &RowStep, then: &RowStep) -> Result<RowStep, Or<Apart>> {
-        let marks = compose::compose(alloc, &first.marks, &then.marks)?;
+        let marks = row_compose::compose(alloc, &first.marks, &then.marks)?;
         agree_in_turn(alloc, first.marks.as_slice(), then.marks.as_slice())?;
         Ok(RowStep { marks })
     }
 
     fn join(alloc: Global, first: &RowChange, then: &RowChange) -> Result<RowChange, Or<Apart>> {
-        let marks = compose::join(alloc, &first.marks, &then.marks)?;
+        let marks = row_compose::join(alloc, &first.marks, &then.marks)?;
         agree_as_changes(
             alloc,
             first.new.as_slice(),
@@ -116,12 +116,12 @@ impl FieldKind for Sequence {
     }
 
     fn invert(alloc: Global, step: &RowStep) -> Result<RowStep, AllocError> {
-        let marks = invert::invert(alloc, &step.marks)?;
+        let marks = row_invert::invert(alloc, &step.marks)?;
         Ok(RowStep { marks })
     }
 
     fn rebase(alloc: Global, change: &RowChange, step: &RowStep) -> Result<RowChange, Or<Apart>> {
-        let marks = rebase::rebase(alloc, &change.marks, &step.marks)?;
+        let marks = row_rebase::rebase(alloc, &change.marks, &step.marks)?;
         agree_beside(alloc, change.marks.as_slice(), step.marks.as_slice())?;
         let new = change.new.copy(alloc)?;
         Ok(RowChange {
@@ -140,7 +140,7 @@ impl FieldKind for Sequence {
         is_void: bool,
     ) -> Result<RowStep, Or<Apart>> {
         let new = rising(alloc, &change.new)?;
-        let marks = bridge::bridge(
+        let marks = row_bridge::bridge(
             alloc,
             &step.marks,
             &change.marks,
