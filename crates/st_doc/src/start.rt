@@ -193,13 +193,27 @@ fn no_nodes(alloc: Global) -> Doc {
     }
 }
 
+// Fills rows with the cells in which nodes of a list stand.
+fn fill_rows(
+    alloc: Global,
+    rows: &mut BTreeMap<NodeId, List<Owned>>,
+    row_of: &mut BTreeMap<CellId, NodeId>,
+    flat: &[FlatNode],
+) -> Result<(), AllocError>
+    ensures rows { OnOk result ((n : Node) → unwrap_or (get node_cmp rows.new n) [] ≡ filter_map (λ x. cell_at n x.node x.at) flat.now) }
+    ensures row_of { OnOk result ((c : Cell) → get cell_cmp row_of.new c ≡ first_said (λ x. row_at c x.at) flat.now) }
+{
+    *rows = rows_of(alloc, flat)?;
+    *row_of = start_row_of(alloc, flat)?;
+    Ok(())
+}
+
 // Fills a document with a list of nodes, and with the schema.
 fn fill(alloc: Global, doc: &mut Doc, flat: &[FlatNode], schema: Text) -> Result<(), AllocError>
     ensures { OnOk result (document_of doc.new ≡ start_of flat.now schema) }
 {
     doc.nodes = start_nodes(alloc, flat)?;
-    doc.rows = rows_of(alloc, flat)?;
-    doc.row_of = start_row_of(alloc, flat)?;
+    fill_rows(alloc, &mut doc.rows, &mut doc.row_of, flat)?;
     doc.place = start_places(alloc, flat)?;
     doc.held = start_held(alloc, flat)?;
     doc.schemas = first_entry(alloc, schema)?;
