@@ -14,22 +14,27 @@ use Rattle.st_marks.specs.declared.places.Spot.{Spot}
 use Rattle.st_marks.specs.Document.{Document, IsSoundInForm, NodeType}
 use Rattle.st_marks.specs.Intent.{Fits, is_new, put_of, clears}
 use Rattle.st_marks.specs.CarryOut.{spot_of, place_after, with_names, is_put_in_new}
-use Rattle.st_doc.specs.inside.Ahead.{in_new, inside_new}
+use Rattle.st_doc.specs.inside.Ahead.{place_ahead, in_new, inside_new}
 use Rattle.st_doc.specs.inside.Evictions.{evicted}
 use Rattle.st_doc.proofs.Look.{any_more}
 
--- where nodes stand after evictions and puts
-pub placed_whole : (row_of : CellId → Option NodeId) (N : Intent) (to : Option To) (o : Option Spot)
-    → unwrap_or (option_or (option_or (option_map (spot_of row_of) to) (evicted N.clear (unwrap_or o Spot.Nowhere))) o) Spot.Nowhere ≡ place_after row_of N to (unwrap_or o Spot.Nowhere)
-placed_whole row_of N (Some to) o = refl
-placed_whole row_of N None None = refl
-placed_whole row_of N None (Some Spot.Nowhere) = refl
-placed_whole row_of N None (Some (Spot.Row n c)) = refl
-placed_whole row_of N None (Some (Spot.Register f)) = go (clears N f)
+-- where a node stands after evictions and puts, by where its put leads
+pub placed_ahead : (N : Intent) (target o : Option Spot)
+    → unwrap_or (option_or (option_or target (evicted N.clear (unwrap_or o Spot.Nowhere))) o) Spot.Nowhere ≡ place_ahead N target (unwrap_or o Spot.Nowhere)
+placed_ahead N (Some spot) o = refl
+placed_ahead N None None = refl
+placed_ahead N None (Some Spot.Nowhere) = refl
+placed_ahead N None (Some (Spot.Row n c)) = refl
+placed_ahead N None (Some (Spot.Register f)) = go (clears N f)
   where
     go : (b : Bool) → unwrap_or (option_or (cond b (Some Spot.Nowhere) None) (Some (Spot.Register f))) Spot.Nowhere ≡ cond b Spot.Nowhere (Spot.Register f)
     go true = refl
     go false = refl
+
+-- where it stands after its put
+pub ahead_after : (row_of : CellId → Option NodeId) (N : Intent) (to : Option To) (before : Spot) → place_ahead N (option_map (spot_of row_of) to) before ≡ place_after row_of N to before
+ahead_after row_of N (Some to) before = refl
+ahead_after row_of N None before = refl
 
 -- where they stand after a void intent
 pub placed_void : (D : Document) (N : Intent) (n : NodeId) (o : Option Spot)

@@ -1,13 +1,18 @@
 //! Carrying out an intent, whole or void.
-ghost use Rattle.std.specs.Prelude.{◌≡◌, IfOk, OnOk};
+ghost use Rattle.std.specs.Prelude.{◌≡◌, cond, None, IfOk, OnOk};
+ghost use Rattle.std.specs.BTreeMap.{get};
+ghost use Rattle.std.specs.Option.{option_or};
+ghost use Rattle.st_ids.specs.declared.names.NodeId.{NodeId as Node};
+ghost use Rattle.st_ids.specs.Order.{node_cmp};
 ghost use Rattle.st_marks.specs.Document.{HasShortRows, IsSoundInForm};
-ghost use Rattle.st_marks.specs.Intent.{Fits};
-ghost use Rattle.st_marks.specs.CarryOut.{full, void, with_schema};
+ghost use Rattle.st_marks.specs.Intent.{Fits, is_new};
+ghost use Rattle.st_marks.specs.CarryOut.{full, void, with_names, with_schema};
 ghost use Rattle.st_marks.specs.Verdict.{IsVerdict, carried};
-ghost use Rattle.st_doc.specs.inside.Ahead.{AreTargets};
+ghost use Rattle.st_doc.specs.inside.Ahead.{AreTargets, inside_new, with_moves};
+ghost use Rattle.st_doc.specs.inside.Evictions.{IsOneHeld};
 
 use crate::doc::Doc;
-use crate::evictions::{clear_all, evict_all, fill_all, fill_all_new, leave_all};
+use crate::evictions::{evict_all, fill_all_new, refill};
 use crate::maps::put_all;
 use crate::names::{add_nodes, add_rows};
 use crate::rows::grow_rows;
@@ -34,29 +39,66 @@ fn add_schema(
     Ok(())
 }
 
+// Puts new nodes inside new nodes where they are to stand.
+fn put_inside(
+    alloc: Global,
+    place: &mut BTreeMap<NodeId, Spot>,
+    targets: &BTreeMap<NodeId, Spot>,
+    intent: &Intent,
+) -> Result<(), AllocError>
+    ensures { OnOk result ((n : Node) → get node_cmp place.new n
+        ≡ option_or (cond (is_new intent.now n) (inside_new intent.now (get node_cmp targets.now n)) None) (get node_cmp place.old n)) }
+{
+    let inside = targets_inside(alloc, targets, intent)?;
+    put_all(place, inside)?;
+    Ok(())
+}
+
 impl Doc {
     ghost use Rattle.st_doc.specs.Doc.{document_of};
+
+    // Makes the new nodes and cells. Nothing is moved.
+    fn add_names(&mut self, alloc: Global, intent: &Intent) -> Result<(), AllocError>
+        requires sound { IsSoundInForm (document_of self.old) }
+        requires fits { Fits (document_of self.old) intent.now }
+        ensures { OnOk result (document_of self.new ≡ with_names (document_of self.old) intent.now) }
+    {
+        add_nodes(alloc, &mut self.nodes, intent)?;
+        add_rows(&mut self.row_of, intent)?;
+        grow_rows(alloc, &mut self.rows, intent)?;
+        Ok(())
+    }
+
+    // Clears, and then puts, which lead to the targets.
+    fn move_nodes(
+        &mut self,
+        alloc: Global,
+        intent: &Intent,
+        mut targets: BTreeMap<NodeId, Spot>,
+    ) -> Result<(), AllocError>
+        requires { IsOneHeld self.old.held (document_of self.old).place }
+        ensures { OnOk result (document_of self.new ≡ with_moves intent.now targets (document_of self.old)) }
+    {
+        evict_all(&mut targets, &self.held, intent)?;
+        refill(alloc, &mut self.held, &self.place, intent)?;
+        put_all(&mut self.place, targets)?;
+        Ok(())
+    }
 
     // Carries out an intent whole: new nodes and cells, then the clears, then the puts.
     fn carry_whole(
         &mut self,
         alloc: Global,
         intent: &Intent,
-        mut targets: BTreeMap<NodeId, Spot>,
+        targets: BTreeMap<NodeId, Spot>,
     ) -> Result<(), AllocError>
         requires sound { IsSoundInForm (document_of self.old) }
         requires fits { Fits (document_of self.old) intent.now }
         requires targets { AreTargets self.old.row_of intent.now targets }
         ensures { OnOk result (document_of self.new ≡ full (document_of self.old) intent.now) }
     {
-        evict_all(&mut targets, &self.held, intent)?;
-        add_nodes(alloc, &mut self.nodes, intent)?;
-        add_rows(&mut self.row_of, intent)?;
-        grow_rows(alloc, &mut self.rows, intent)?;
-        leave_all(&mut self.held, &self.place, intent);
-        clear_all(&mut self.held, intent);
-        fill_all(alloc, &mut self.held, intent)?;
-        put_all(&mut self.place, targets)?;
+        self.add_names(alloc, intent)?;
+        self.move_nodes(alloc, intent, targets)?;
         add_schema(alloc, &mut self.schemas, intent)?;
         Ok(())
     }
@@ -76,12 +118,9 @@ impl Doc {
         if intent.schema.is_some() {
             return Ok(());
         }
-        let inside = targets_inside(alloc, targets, intent)?;
-        add_nodes(alloc, &mut self.nodes, intent)?;
-        add_rows(&mut self.row_of, intent)?;
-        grow_rows(alloc, &mut self.rows, intent)?;
+        self.add_names(alloc, intent)?;
         fill_all_new(alloc, &mut self.held, intent)?;
-        put_all(&mut self.place, inside)?;
+        put_inside(alloc, &mut self.place, targets, intent)?;
         Ok(())
     }
 

@@ -1,5 +1,5 @@
 //! Copies of documents.
-ghost use Rattle.std.specs.Prelude.{◌≡◌, IfOk, OnOk};
+ghost use Rattle.std.specs.Prelude.{◌≡◌, ◌++◌, ◌∷◌, [], IfOk, OnOk};
 ghost use Rattle.std.specs.BTreeMap.{IsOrdered, get};
 
 use crate::doc::Doc;
@@ -7,6 +7,21 @@ use st_ids::Copied;
 use std::alloc::{AllocError, Global};
 use std::collections::BTreeMap;
 use std::iter::FromIterator;
+
+// Puts a copy of an entry behind others.
+fn push_copy<K: Copied + Drop, V: Copied + Drop>(
+    alloc: Global,
+    entries: &mut Vec<(K, V)>,
+    key: &K,
+    value: &V,
+) -> Result<(), AllocError>
+    ensures { OnOk result (entries.new.items ≡ entries.old.items ++ (key.now, value.now) ∷ []) }
+{
+    let key = key.copy(alloc)?;
+    let value = value.copy(alloc)?;
+    entries.push((key, value))?;
+    Ok(())
+}
 
 // The entries of a map, in order.
 fn copy_entries<K: Ord + Copied + Drop, V: Copied + Drop>(
@@ -18,7 +33,7 @@ fn copy_entries<K: Ord + Copied + Drop, V: Copied + Drop>(
 {
     let mut entries = Vec::new(alloc);
     for (key, value) in map.iter() {
-        entries.push((key.copy(alloc)?, value.copy(alloc)?))?;
+        push_copy(alloc, &mut entries, key, value)?;
     }
     Ok(entries)
 }

@@ -60,12 +60,8 @@ fn leave(held: &mut BTreeMap<FieldId, NodeId>, place: &BTreeMap<NodeId, Spot>, n
     }
 }
 
-/// Empties the registers whose occupants are put.
-pub fn leave_all(
-    held: &mut BTreeMap<FieldId, NodeId>,
-    place: &BTreeMap<NodeId, Spot>,
-    intent: &Intent,
-)
+// Empties the registers whose occupants are put.
+fn leave_all(held: &mut BTreeMap<FieldId, NodeId>, place: &BTreeMap<NodeId, Spot>, intent: &Intent)
     requires { IsOneHeld held.old (λ n. unwrap_or (get node_cmp place.now n) Standing.Nowhere) }
     ensures { (f : Register) → get field_cmp held.new f ≡ unless_put intent.now (get field_cmp held.old f) }
 {
@@ -74,8 +70,8 @@ pub fn leave_all(
     }
 }
 
-/// Empties the cleared registers.
-pub fn clear_all(held: &mut BTreeMap<FieldId, NodeId>, intent: &Intent)
+// Empties the cleared registers.
+fn clear_all(held: &mut BTreeMap<FieldId, NodeId>, intent: &Intent)
     ensures { (f : Register) → get field_cmp held.new f ≡ cond (clears intent.now f) None (get field_cmp held.old f) }
 {
     for field in intent.clear.as_slice() {
@@ -95,8 +91,8 @@ fn fill(alloc: Global, held: &mut BTreeMap<FieldId, NodeId>, put: &Put) -> Resul
     Ok(())
 }
 
-/// Fills each register by the first put into it. The puts are taken from the last to the first.
-pub fn fill_all(
+// Fills each register by the first put into it. The puts are taken from the last to the first.
+fn fill_all(
     alloc: Global,
     held: &mut BTreeMap<FieldId, NodeId>,
     intent: &Intent,
@@ -109,6 +105,23 @@ pub fn fill_all(
         left -= 1;
         fill(alloc, held, &puts[left])?;
     }
+    Ok(())
+}
+
+/// Empties the registers whose occupants are put and the cleared ones, and then fills those into which an intent puts.
+pub fn refill(
+    alloc: Global,
+    held: &mut BTreeMap<FieldId, NodeId>,
+    place: &BTreeMap<NodeId, Spot>,
+    intent: &Intent,
+) -> Result<(), AllocError>
+    requires { IsOneHeld held.old (λ n. unwrap_or (get node_cmp place.now n) Standing.Nowhere) }
+    ensures { OnOk result ((f : Register) → get field_cmp held.new f
+        ≡ option_or (put_in intent.now f) (cond (clears intent.now f) None (unless_put intent.now (get field_cmp held.old f)))) }
+{
+    leave_all(held, place, intent);
+    clear_all(held, intent);
+    fill_all(alloc, held, intent)?;
     Ok(())
 }
 

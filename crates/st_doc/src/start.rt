@@ -1,5 +1,5 @@
 //! The opening document of a tree.
-ghost use Rattle.std.specs.Prelude.{◌≡◌, ◌++◌, [], true, IfOk, OnOk, Ok, unwrap_or};
+ghost use Rattle.std.specs.Prelude.{◌≡◌, ◌++◌, ◌∷◌, [], true, IfOk, OnOk, Ok, unwrap_or};
 ghost use Rattle.std.specs.BTreeMap.{get};
 ghost use Rattle.std.specs.List.{filter_map};
 ghost use Rattle.std.specs.Option.{option_or, option_to_list};
@@ -8,6 +8,7 @@ ghost use Rattle.st_ids.specs.declared.names.FieldId.{FieldId as Register};
 ghost use Rattle.st_ids.specs.declared.names.NodeId.{NodeId as Node};
 ghost use Rattle.st_ids.specs.Order.{node_cmp, cell_cmp, field_cmp};
 ghost use Rattle.st_marks.specs.Document.{IsSoundInForm};
+ghost use Rattle.st_ids.specs.Root.{opening as opening_name};
 ghost use Rattle.st_tree.specs.Form.{has_form};
 ghost use Rattle.st_tree.specs.Node.{view};
 ghost use Rattle.st_tree.specs.Preorder.{opening_listed};
@@ -171,26 +172,62 @@ pub fn rows_of(
     Ok(rows)
 }
 
+// The entry of the schema under which a document opens.
+fn first_entry(alloc: Global, schema: Text) -> Result<List<SchemaEntry>, AllocError>
+    ensures { IfOk result (λ es. es ≡ record { rev = opening_name; text = schema } ∷ []) }
+{
+    let rev = opening_rev();
+    let mut entries = List::new(alloc);
+    entries.push(SchemaEntry { rev, text: schema })?;
+    Ok(entries)
+}
+
+// A document without nodes.
+fn no_nodes(alloc: Global) -> Doc {
+    Doc {
+        nodes: BTreeMap::new(alloc),
+        rows: BTreeMap::new(alloc),
+        row_of: BTreeMap::new(alloc),
+        place: BTreeMap::new(alloc),
+        held: BTreeMap::new(alloc),
+        schemas: List::new(alloc),
+    }
+}
+
+// Fills rows with the cells in which nodes of a list stand.
+fn fill_rows(
+    alloc: Global,
+    rows: &mut BTreeMap<NodeId, List<Owned>>,
+    row_of: &mut BTreeMap<CellId, NodeId>,
+    flat: &[FlatNode],
+) -> Result<(), AllocError>
+    ensures rows { OnOk result ((n : Node) → unwrap_or (get node_cmp rows.new n) [] ≡ filter_map (λ x. cell_at n x.node x.at) flat.now) }
+    ensures row_of { OnOk result ((c : Cell) → get cell_cmp row_of.new c ≡ first_said (λ x. row_at c x.at) flat.now) }
+{
+    *rows = rows_of(alloc, flat)?;
+    *row_of = start_row_of(alloc, flat)?;
+    Ok(())
+}
+
+// Fills a document with a list of nodes, and with the schema.
+fn fill(alloc: Global, doc: &mut Doc, flat: &[FlatNode], schema: Text) -> Result<(), AllocError>
+    ensures { OnOk result (document_of doc.new ≡ start_of flat.now schema) }
+{
+    doc.nodes = start_nodes(alloc, flat)?;
+    fill_rows(alloc, &mut doc.rows, &mut doc.row_of, flat)?;
+    doc.place = start_places(alloc, flat)?;
+    doc.held = start_held(alloc, flat)?;
+    doc.schemas = first_entry(alloc, schema)?;
+    Ok(())
+}
+
 // The document of a list of nodes.
 fn of_nodes(alloc: Global, flat: &[FlatNode], schema: Text) -> Result<Doc, AllocError>
     ensures { IfOk result (λ d. document_of d ≡ start_of flat.now schema) }
 {
-    let nodes = start_nodes(alloc, flat)?;
-    let rows = rows_of(alloc, flat)?;
-    let row_of = start_row_of(alloc, flat)?;
-    let place = start_places(alloc, flat)?;
-    let held = start_held(alloc, flat)?;
-    let rev = opening_rev();
-    let mut schemas = List::new(alloc);
-    schemas.push(SchemaEntry { rev, text: schema })?;
-    Ok(Doc {
-        nodes,
-        rows,
-        row_of,
-        place,
-        held,
-        schemas,
-    })
+    let mut doc = no_nodes(alloc);
+    fill(alloc, &mut doc, flat, schema)?;
+    Ok(doc)
 }
 
 impl Doc {

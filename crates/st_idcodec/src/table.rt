@@ -1,11 +1,11 @@
 //! The table of ids as a JSON value.
-ghost use Rattle.std.specs.Prelude.{◌≡◌, ℕ, IfOk, map};
-ghost use Rattle.serde_json.specs.Data.{string, array};
-ghost use Rattle.serde_json.specs.View.{view, items_of};
+ghost use Rattle.std.specs.Prelude.{◌≡◌, ℕ, IfOk, OnOk, codes, map};
+ghost use Rattle.serde_json.specs.Data.{string, array, put};
+ghost use Rattle.serde_json.specs.View.{view, items_of, members_view};
 ghost use Rattle.st_clusters.specs.Ids.{ids_of};
 ghost use Rattle.st_idcodec.specs.TableText.{plain_number, cluster_data, uuid_data, uuid_text, table_data};
 
-use serde_json::{Value, json};
+use serde_json::{Map, Value};
 use st_clusters::{Cluster, Compressor, SessionIds};
 use std::alloc::{AllocError, Global};
 use uuid::Uuid;
@@ -72,12 +72,41 @@ fn uuids_value(alloc: Global, sessions: &[SessionIds]) -> Result<Value, AllocErr
     Ok(Value::Array(items))
 }
 
+// Puts the clusters into a table.
+fn put_clusters(
+    alloc: Global,
+    table: &mut Map<String, Value>,
+    clusters: &[Cluster],
+) -> Result<(), AllocError>
+    ensures { OnOk result (members_view table.new.entries
+        ≡ put (codes "clusters") (array (items_of (map cluster_data clusters.now))) (members_view table.old.entries)) }
+{
+    let clusters = clusters_value(alloc, clusters)?;
+    serde_json::put(table, alloc, "clusters", clusters)?;
+    Ok(())
+}
+
+// Puts the UUIDs of the sessions into a table.
+fn put_uuids(
+    alloc: Global,
+    table: &mut Map<String, Value>,
+    sessions: &[SessionIds],
+) -> Result<(), AllocError>
+    ensures { OnOk result (members_view table.new.entries
+        ≡ put (codes "uuids") (array (items_of (map uuid_data sessions.now))) (members_view table.old.entries)) }
+{
+    let uuids = uuids_value(alloc, sessions)?;
+    serde_json::put(table, alloc, "uuids", uuids)?;
+    Ok(())
+}
+
 /// The value of a table: its clusters, and the UUIDs of its sessions. Ids that aren't finalised
 /// aren't in it.
 pub fn table_value(alloc: Global, ids: &Compressor) -> Result<Value, AllocError>
     ensures { IfOk result (λ v. view v ≡ table_data (ids_of ids.now)) }
 {
-    let clusters = clusters_value(alloc, ids.clusters())?;
-    let uuids = uuids_value(alloc, ids.sessions())?;
-    json!(in alloc; {"clusters": clusters, "uuids": uuids})
+    let mut table = Map::new(alloc);
+    put_clusters(alloc, &mut table, ids.clusters())?;
+    put_uuids(alloc, &mut table, ids.sessions())?;
+    Ok(Value::Object(table))
 }

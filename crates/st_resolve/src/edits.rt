@@ -3,11 +3,15 @@ ghost use Rattle.std.specs.Prelude.{◌≡◌, ◌<◌, ◌^◌, ◌+◌, ◌∷
 ghost use Rattle.st_ids.specs.Or.{IfRefused};
 ghost use Rattle.st_tree.specs.Node.{trees_view, view, first, no_nodes};
 ghost use Rattle.st_tree.specs.Size.{check_of, check_items};
+ghost use Rattle.st_tree.specs.declared.edit.EditFault.{EditFault as Faults};
+ghost use Rattle.st_schema.specs.declared.names.FieldRule.{FieldRule as Rule};
 ghost use Rattle.st_doc.specs.Doc.{document_of};
-ghost use Rattle.st_edits.specs.Resolve.{named, allowed_nodes, insert, remove, move_to, move as move_of, put, clear, need, may_move, resolve, IsWithin};
+ghost use Rattle.st_edits.specs.Paths.{field_at, row_length, and_then};
+ghost use Rattle.st_edits.specs.declared.names.Takes.{Takes as Taking};
+ghost use Rattle.st_edits.specs.Resolve.{named, require, allowed_nodes, inserted, intent_to_place, rule_for, nodes_taken, insert, remove, move_to, move as move_of, put, clear, need, may_move, resolve, IsWithin};
 
-use crate::intents::{inserted, nothing_yet, placed, removed};
-use crate::moves::{cells_taken, is_inside, is_there, items_from, moved, taken};
+use crate::intents::{cleared, inserted, intent_to_place, nothing_yet, removed};
+use crate::moves::{cells_taken, is_inside, is_there, items_from, moved, nodes_taken};
 use crate::new_trees::names_taken;
 use crate::paths::{field_at, walk};
 use crate::rules::{names_left, nodes_allowed, require, rule_for, trees_allowed};
@@ -15,7 +19,7 @@ use st_doc::Doc;
 use st_edits::{NameCounters, Takes};
 use st_ids::{Copied, FieldId, Key, List, NodeId, Or, Path};
 use st_marks::Intent;
-use st_schema::{FieldRule, Schema};
+use st_schema::{FieldRule, KindName, Schema};
 use st_tree::{Edit, EditFault, FlatNode, Tree, flatten};
 use std::alloc::{AllocError, Global};
 
@@ -69,6 +73,36 @@ fn allowed_nodes(
     Ok(nodes)
 }
 
+// Nothing, where the row of a node has an item at the index, or ends there.
+fn ask_index(alloc: Global, doc: &Doc, node: NodeId, index: u32) -> Result<(), Or<EditFault>>
+    ensures ok { IfOk result (λ u. require (nat_le index (row_length (document_of doc.now) node)) Faults.Range ≡ Ok u) }
+    ensures bad { IfRefused result (λ e. require (nat_le index (row_length (document_of doc.now) node)) Faults.Range ≡ Err e) }
+{
+    let count = doc.live_slots(alloc, node)?.len();
+    refuse(require(index as usize <= count, EditFault::Range))
+}
+
+// New items at an index of a row that has it, where the row's rule allows them.
+fn insert_at(
+    alloc: Global,
+    doc: &Doc,
+    schema: &Schema,
+    given: NameCounters,
+    rule: &FieldRule,
+    node: NodeId,
+    index: u32,
+    items: &List<Tree>,
+) -> Result<Intent, Or<EditFault>>
+    requires within { check_items (trees_view items.now) ≡ Ok tt }
+    requires nodes { given.nodes < 2 ^ 31 }
+    requires cells { given.cells < 2 ^ 31 }
+    ensures ok { IfOk result (λ i. and_then (allowed_nodes schema.now given rule.now (trees_view items.now)) (λ xs. Ok (inserted (document_of doc.now) given node index xs)) ≡ Ok i) }
+    ensures bad { IfRefused result (λ e. and_then (allowed_nodes schema.now given rule.now (trees_view items.now)) (λ xs. Ok (inserted (document_of doc.now) given node index xs)) ≡ Err e) }
+{
+    let nodes = allowed_nodes(alloc, schema, given, rule, items)?;
+    Ok(inserted(alloc, doc, given, node, index, nodes.as_slice())?)
+}
+
 /// New items at an index of a row, as `resolve` says it of that edit.
 pub fn insert(
     alloc: Global,
@@ -89,10 +123,8 @@ pub fn insert(
 {
     let node = walk(alloc, doc, at)?;
     let rule = rule_for(alloc, Takes::Row, doc, schema, node, key)?;
-    let count = doc.live_slots(alloc, node)?.len();
-    refuse(require(index as usize <= count, EditFault::Range))?;
-    let nodes = allowed_nodes(alloc, schema, given, &rule, items)?;
-    Ok(inserted(alloc, doc, given, node, index, nodes.as_slice())?)
+    ask_index(alloc, doc, node, index)?;
+    insert_at(alloc, doc, schema, given, &rule, node, index, items)
 }
 
 /// Items of a row go nowhere, as `resolve` says it of that edit.
@@ -116,6 +148,28 @@ pub fn remove(
     Ok(removed(alloc, doc, given, nodes.as_slice())?)
 }
 
+// A new tree in a node's field, where the field's rule allows it.
+fn put_at(
+    alloc: Global,
+    doc: &Doc,
+    schema: &Schema,
+    given: NameCounters,
+    rule: &FieldRule,
+    node: NodeId,
+    key: &Key,
+    item: &List<Tree>,
+) -> Result<Intent, Or<EditFault>>
+    requires within { check_items (trees_view item.now) ≡ Ok tt }
+    requires nodes { given.nodes < 2 ^ 31 }
+    requires cells { given.cells < 2 ^ 31 }
+    ensures ok { IfOk result (λ i. and_then (allowed_nodes schema.now given rule.now (trees_view item.now)) (λ xs. Ok (intent_to_place (document_of doc.now) given (field_at node key.now) xs)) ≡ Ok i) }
+    ensures bad { IfRefused result (λ e. and_then (allowed_nodes schema.now given rule.now (trees_view item.now)) (λ xs. Ok (intent_to_place (document_of doc.now) given (field_at node key.now) xs)) ≡ Err e) }
+{
+    let nodes = allowed_nodes(alloc, schema, given, rule, item)?;
+    let field = field_at(alloc, node, key)?;
+    Ok(intent_to_place(alloc, doc, given, field, nodes.as_slice())?)
+}
+
 // A new tree in an optional or required field.
 fn put(
     alloc: Global,
@@ -135,9 +189,7 @@ fn put(
 {
     let node = walk(alloc, doc, at)?;
     let rule = rule_for(alloc, Takes::Single, doc, schema, node, key)?;
-    let nodes = allowed_nodes(alloc, schema, given, &rule, item)?;
-    let field = field_at(alloc, node, key)?;
-    Ok(placed(alloc, doc, given, field, nodes.as_slice())?)
+    put_at(alloc, doc, schema, given, &rule, node, key, item)
 }
 
 /// An optional field is emptied, as `resolve` says it of that edit.
@@ -155,9 +207,8 @@ pub fn clear(
 {
     let node = walk(alloc, doc, at)?;
     rule_for(alloc, Takes::Optional, doc, schema, node, key)?;
-    let mut intent = nothing_yet(alloc, doc, given);
-    intent.clear.push(field_at(alloc, node, key)?)?;
-    Ok(intent)
+    let field = field_at(alloc, node, key)?;
+    Ok(cleared(alloc, doc, given, field)?)
 }
 
 // A node has to be live.
@@ -220,6 +271,62 @@ fn move_to(
     Ok(moved(alloc, doc, given, field, rule.kind, index, nodes)?)
 }
 
+// The nodes of a move, which leave a field of that kind.
+fn taken_from(
+    alloc: Global,
+    doc: &Doc,
+    node: NodeId,
+    key: &Key,
+    kind: KindName,
+    index: u32,
+    count: u32,
+) -> Result<List<NodeId>, Or<EditFault>>
+    ensures ok { IfOk result (λ ns. nodes_taken (document_of doc.now) (field_at node key.now) kind index count ≡ Ok ns) }
+    ensures bad { IfRefused result (λ e. nodes_taken (document_of doc.now) (field_at node key.now) kind index count ≡ Err e) }
+    ensures few { IfOk result (λ ns. length ns ≡ count) }
+{
+    let field = field_at(alloc, node, key)?;
+    nodes_taken(alloc, doc, &field, kind, index, count)
+}
+
+// The nodes of a move go to a node's field.
+fn move_into(
+    alloc: Global,
+    doc: &Doc,
+    given: NameCounters,
+    node: NodeId,
+    key: &Key,
+    rule: &FieldRule,
+    to: &Path,
+    index: u32,
+    count: u32,
+    nodes: &[NodeId],
+) -> Result<Intent, Or<EditFault>>
+    requires few { length nodes.now < 2 ^ 32 }
+    requires nodes { given.nodes < 2 ^ 31 }
+    requires cells { given.cells < 2 ^ 31 }
+    ensures ok { IfOk result (λ i. move_to (document_of doc.now) given (field_at node key.now) rule.now to.now index count nodes.now ≡ Ok i) }
+    ensures bad { IfRefused result (λ e. move_to (document_of doc.now) given (field_at node key.now) rule.now to.now index count nodes.now ≡ Err e) }
+{
+    let field = field_at(alloc, node, key)?;
+    move_to(alloc, doc, given, field, rule, to, index, count, nodes)
+}
+
+// The kind of a node's field, if items may leave it and come into it.
+fn open_kind(
+    alloc: Global,
+    doc: &Doc,
+    schema: &Schema,
+    node: NodeId,
+    key: &Key,
+) -> Result<KindName, Or<EditFault>>
+    ensures ok { IfOk result (λ k. (r : Rule) × (rule_for Taking.Open (document_of doc.now) schema.now node key.now ≡ Ok r) × (r.kind ≡ k)) }
+    ensures bad { IfRefused result (λ e. rule_for Taking.Open (document_of doc.now) schema.now node key.now ≡ Err e) }
+{
+    let rule = rule_for(alloc, Takes::Open, doc, schema, node, key)?;
+    Ok(rule.kind)
+}
+
 /// Items of a row, or the one of an optional field, go to a row or an optional field, as `resolve` says it of that edit.
 pub fn move_items(
     alloc: Global,
@@ -243,16 +350,15 @@ pub fn move_items(
 {
     let node = walk(alloc, doc, at)?;
     let target = walk(alloc, doc, to)?;
-    let source = rule_for(alloc, Takes::Open, doc, schema, node, key)?;
+    let kind = open_kind(alloc, doc, schema, node, key)?;
     let rule = rule_for(alloc, Takes::Open, doc, schema, target, to_key)?;
-    let from = field_at(alloc, node, key)?;
-    let nodes = taken(alloc, doc, &from, source.kind, index, count)?;
-    let field = field_at(alloc, target, to_key)?;
-    move_to(
+    let nodes = taken_from(alloc, doc, node, key, kind, index, count)?;
+    move_into(
         alloc,
         doc,
         given,
-        field,
+        target,
+        to_key,
         &rule,
         to,
         to_index,

@@ -63,6 +63,20 @@ fn one_field(alloc: Global, field: FieldId) -> Result<List<FieldId>, AllocError>
     Ok(fields)
 }
 
+/// A field that is emptied.
+pub fn cleared(
+    alloc: Global,
+    doc: &Doc,
+    given: NameCounters,
+    field: FieldId,
+) -> Result<Intent, AllocError>
+    ensures { IfOk result (λ i. i ≡ record (empty_intent (document_of doc.now) given) { clear = field ∷ [] }) }
+{
+    let mut intent = empty_intent(alloc, doc, given);
+    intent.clear = one_field(alloc, field)?;
+    Ok(intent)
+}
+
 // The groups of new items of a row, which stand after a cell or at the row's start.
 fn groups_inserted(
     alloc: Global,
@@ -281,6 +295,23 @@ fn puts_at(alloc: Global, field: &FieldId, nodes: &[NodeId]) -> Result<List<Put>
     Ok(puts)
 }
 
+// Fills an intent with nodes that are put into a field, in the place of what is there.
+fn fill_field(
+    alloc: Global,
+    intent: &mut Intent,
+    field: FieldId,
+    nodes: &[NodeId],
+) -> Result<(), AllocError>
+    ensures { OnOk result (intent.exit.now ≡ record intent.entry.now {
+      clear = field ∷ [];
+      put = map (λ n. record { node = n; to = Target.Register field }) nodes.now;
+    }) }
+{
+    intent.put = puts_at(alloc, &field, nodes)?;
+    intent.clear = one_field(alloc, field)?;
+    Ok(())
+}
+
 /// Nodes, of which there is one, put into a field, in the place of what is there.
 pub fn moved_to_field(
     alloc: Global,
@@ -292,7 +323,6 @@ pub fn moved_to_field(
     ensures { IfOk result (λ i. i ≡ moved_to_field (document_of doc.now) given field nodes.now) }
 {
     let mut intent = empty_intent(alloc, doc, given);
-    intent.put = puts_at(alloc, &field, nodes)?;
-    intent.clear = one_field(alloc, field)?;
+    fill_field(alloc, &mut intent, field, nodes)?;
     Ok(intent)
 }

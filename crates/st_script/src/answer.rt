@@ -1,11 +1,11 @@
 //! What is answered to a header or a step, and the line of an answer.
-ghost use Rattle.std.specs.Prelude.{◌≡◌, [], ◌∷◌, ◌++◌, codes, IfOk};
-ghost use Rattle.serde_json.specs.Data.{object, member, no_members, number, unsigned, string};
-ghost use Rattle.serde_json.specs.View.{view};
+ghost use Rattle.std.specs.Prelude.{◌≡◌, [], ◌∷◌, ◌++◌, codes, IfOk, OnOk};
+ghost use Rattle.serde_json.specs.Data.{object, member, no_members, number, unsigned, string, put};
+ghost use Rattle.serde_json.specs.View.{view, members_view};
 ghost use Rattle.st_script.specs.AnswerText.{ok_data, join_data, rev_data, sequence_data, void_data, deliver_data, show_text, answer_line};
 
 use crate::refusal::{Refusal, refusal_value};
-use serde_json::{Value, json};
+use serde_json::{Map, Value, json};
 use st_ids::{NodeId, Rev, Text};
 use st_json::write_line;
 use st_marks::Verdict;
@@ -90,17 +90,37 @@ fn void_value(alloc: Global, verdict: Verdict) -> Result<Value, AllocError>
     }
 }
 
-fn delivery_value(alloc: Global, n: u32, void: Value) -> Result<Value, AllocError>
-    ensures { IfOk result (λ v. view v ≡ object (member (codes "n") (number (unsigned n)) (member (codes "ok") (string (codes "deliver")) (member (codes "void") (view void) no_members)))) }
+// Puts the number of a delivery into its answer.
+fn put_delivery(alloc: Global, members: &mut Map<String, Value>, n: u32) -> Result<(), AllocError>
+    ensures { OnOk result (members_view members.new.entries
+        ≡ put (codes "ok") (string (codes "deliver")) (put (codes "n") (number (unsigned n)) (members_view members.old.entries))) }
 {
-    json!(in alloc; {"n": n, "ok": "deliver", "void": void})
+    serde_json::put(members, alloc, "n", Value::from(n))?;
+    let word = String::from_str(alloc, "deliver")?;
+    serde_json::put(members, alloc, "ok", Value::String(word))?;
+    Ok(())
+}
+
+// Puts into it why the commit is void.
+fn put_void(
+    alloc: Global,
+    members: &mut Map<String, Value>,
+    void: Verdict,
+) -> Result<(), AllocError>
+    ensures { OnOk result (members_view members.new.entries ≡ put (codes "void") (void_data void) (members_view members.old.entries)) }
+{
+    let void = void_value(alloc, void)?;
+    serde_json::put(members, alloc, "void", void)?;
+    Ok(())
 }
 
 fn deliver_value(alloc: Global, n: u32, void: Verdict) -> Result<Value, AllocError>
     ensures { IfOk result (λ v. view v ≡ deliver_data n void) }
 {
-    let void = void_value(alloc, void)?;
-    delivery_value(alloc, n, void)
+    let mut members = Map::new(alloc);
+    put_delivery(alloc, &mut members, n)?;
+    put_void(alloc, &mut members, void)?;
+    Ok(Value::Object(members))
 }
 
 // The line of a tree, which is a JSON text.

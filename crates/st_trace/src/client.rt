@@ -1,5 +1,5 @@
 //! What one client does: its edits, and what it receives. Its documents are kept beside it.
-ghost use Rattle.std.specs.Prelude.{◌≡◌, ◌==◌, ◌+◌, ◌-◌, ◌^◌, ◌<◌, ◌≤◌, ℕ, true, false, is_some, [], ◌∷◌, length, slice_get, option_copied, option_map, min, MatchOption, IfOk, IfSome, OnOk, None};
+ghost use Rattle.std.specs.Prelude.{◌≡◌, ◌==◌, ◌+◌, ◌-◌, ◌^◌, ◌<◌, ◌≤◌, ℕ, true, false, is_some, [], ◌∷◌, ◌++◌, length, slice_get, option_copied, option_map, min, MatchOption, IfOk, IfSome, OnOk, None};
 ghost use Rattle.st_tree.specs.Preorder.{cell_named, node_named};
 ghost use Rattle.st_marks.specs.Document.{IsSoundInForm};
 ghost use Rattle.st_marks.specs.Intent.{Fits};
@@ -10,6 +10,7 @@ ghost use Rattle.st_log_laws.specs.Turns.{FitInTurn};
 ghost use Rattle.st_trace.specs.inside.Edits.{word_of, edit_of};
 ghost use Rattle.st_trace.specs.inside.Replicas.{IsCommitted, IsPending, IsEditedReplica, HasCarried, HasReceivedOne, CanReceive, HasReceivedNext, HasMoved};
 ghost use Rattle.st_trace.specs.World.{names_made, names_in, next_rev, with_commit, next_names, refusal_of, limit_passed, with_pending, after_edit, answer_of, is_own, with_received, IsDeliveredTo, new_client};
+ghost use Rattle.st_trace.specs.declared.replica.Replica.{Replica as KeptOf};
 
 use crate::edits::resolve_step;
 use crate::names::names_made;
@@ -102,14 +103,34 @@ fn limit_passed(client: &Client, names: u64, intent: &Intent) -> Option<Limit>
     None
 }
 
+// Puts a copy of a commit behind those that are pending.
+fn push_pending(
+    alloc: Global,
+    pending: &mut List<Intent>,
+    intent: &Intent,
+) -> Result<(), AllocError>
+    ensures { OnOk result (pending.new ≡ pending.old ++ intent.now ∷ []) }
+{
+    let intent = intent.copy(alloc)?;
+    pending.push(intent)?;
+    Ok(())
+}
+
+// Puts a commit behind those that wait.
+fn push_waiting(queue: &mut List<Queued>, reference: u32, intent: Intent) -> Result<(), AllocError>
+    ensures { OnOk result (queue.new ≡ queue.old ++ record { reference = reference; intent = intent } ∷ []) }
+{
+    queue.push(Queued { reference, intent })?;
+    Ok(())
+}
+
 // Keeps a commit as pending and in the queue.
 fn enqueue(alloc: Global, client: &mut Client, intent: Intent) -> Result<(), AllocError>
     requires few { client.old.ids + 1 < 2 ^ 32 }
     ensures client { OnOk result (client.new ≡ with_commit client.old intent) }
 {
-    client.pending.push(intent.copy(alloc)?)?;
-    let reference = client.received;
-    client.queue.push(Queued { reference, intent })?;
+    push_pending(alloc, &mut client.pending, &intent)?;
+    push_waiting(&mut client.queue, client.received, intent)?;
     client.ids += 1;
     Ok(())
 }
@@ -395,8 +416,8 @@ pub fn take_text(client: &mut Client) -> Option<Queued>
     }
 }
 
-/// A client that has received so many entries, with its own join as the last.
-pub fn new_client(alloc: Global, n: u32, session: u32, name: &Text) -> Result<Client, AllocError>
+// A client that has received so many entries, with its own join as the last.
+fn new_client(alloc: Global, n: u32, session: u32, name: &Text) -> Result<Client, AllocError>
     ensures { IfOk result (λ c. c ≡ new_client n session name.now) }
 {
     Ok(Client {
@@ -409,9 +430,24 @@ pub fn new_client(alloc: Global, n: u32, session: u32, name: &Text) -> Result<Cl
     })
 }
 
-/// What is kept of a client that has received the whole log, to whose commits `head` is the document, and has nothing
-/// pending.
-pub fn new_replica(alloc: Global, head: &Doc) -> Result<Replica, AllocError>
+/// Puts a client that joins behind the others: it has received so many entries, with its own join as the last.
+pub fn add_client(
+    alloc: Global,
+    clients: &mut List<Client>,
+    n: u32,
+    session: u32,
+    name: &Text,
+) -> Result<(), AllocError>
+    ensures { OnOk result (clients.new ≡ clients.old ++ new_client n session name.now ∷ []) }
+{
+    let client = new_client(alloc, n, session, name)?;
+    clients.push(client)?;
+    Ok(())
+}
+
+// What is kept of a client that has received the whole log, to whose commits `head` is the document, and has nothing
+// pending.
+fn new_replica(alloc: Global, head: &Doc) -> Result<Replica, AllocError>
     ensures received { IfOk result (λ k. document_of k.received ≡ document_of head.now) }
     ensures shown { IfOk result (λ k. document_of k.shown ≡ document_of head.now) }
     ensures names { IfOk result (λ k. k.names ≡ 0) }
@@ -423,4 +459,14 @@ pub fn new_replica(alloc: Global, head: &Doc) -> Result<Replica, AllocError>
         shown,
         names: 0,
     })
+}
+
+/// Puts behind the others what is kept of a client that has received the whole log and has nothing pending.
+pub fn add_kept(alloc: Global, all: &mut List<Replica>, head: &Doc) -> Result<(), AllocError>
+    ensures { OnOk result ((k : KeptOf) × (all.new ≡ all.old ++ k ∷ [])
+        × (document_of k.received ≡ document_of head.now) × (document_of k.shown ≡ document_of head.now) × (k.names ≡ 0)) }
+{
+    let kept = new_replica(alloc, head)?;
+    all.push(kept)?;
+    Ok(())
 }

@@ -122,7 +122,20 @@ impl World {
     {
         let arrays = array_types(alloc, &header.schema)?;
         let head = opening(alloc, &header)?;
-        Ok(World {
+        Ok(World::begin(alloc, header, arrays, head))
+    }
+
+    // The world of a header, of which the types with a row and the opening document are known.
+    fn begin(alloc: Global, header: Header, arrays: List<Text>, head: Doc) -> World
+        requires header { IsHeader (header_view header) }
+        requires arrays { is_among arrays ≡ is_array_type (header_view header).schema }
+        requires head { document_of head ≡ opening_document (header_view header) }
+        ensures lists { result.lists ≡ empty_state }
+        ensures header { result.header ≡ header }
+        ensures sound { IsSound result }
+        ensures fresh { (result.spent ≡ false) × (result.steps ≡ 0) }
+    {
+        World {
             header,
             arrays,
             head,
@@ -135,7 +148,7 @@ impl World {
             names: 0,
             steps: 0,
             spent: false,
-        })
+        }
     }
 
     // Makes an edit of the tree that the client at a place shows.
@@ -302,11 +315,8 @@ impl World {
         let s = count as u32 + 1;
         append_entry(&mut self.lists.log, &mut self.known, s, Body::Join)?;
         let n = self.lists.log.len() as u32;
-        self.kept
-            .push(client::opening_document(alloc, &self.head)?)?;
-        self.lists
-            .clients
-            .push(client::new_client(alloc, n, s, name)?)?;
+        client::add_kept(alloc, &mut self.kept, &self.head)?;
+        client::add_client(alloc, &mut self.lists.clients, n, s, name)?;
         Ok(Answer::Join { n, s })
     }
 

@@ -12,11 +12,11 @@ use std::alloc::{AllocError, Global};
 fn copy_tree(alloc: Global, tree: &Tree) -> Result<Tree, AllocError>
     ensures { IfOk result (λ t. t ≡ tree.now) }
 {
-    let ty = tree.ty.copy(alloc)?;
     let mut fields = List::new(alloc);
     for field in tree.fields.as_slice() {
         fields.push(copy_field(alloc, field)?)?;
     }
+    let ty = tree.ty.copy(alloc)?;
     let leaf = tree.leaf.copy(alloc)?;
     Ok(Tree { ty, leaf, fields })
 }
@@ -80,6 +80,15 @@ impl Copied for Flat {
     }
 }
 
+// Copies of a path and of a key, which together name a field.
+fn copy_site(alloc: Global, at: &Path, key: &Key) -> Result<(Path, Key), AllocError>
+    ensures { IfOk result (λ s. s ≡ (at.now, key.now)) }
+{
+    let at = at.copy(alloc)?;
+    let key = key.copy(alloc)?;
+    Ok((at, key))
+}
+
 fn copy_insert(
     alloc: Global,
     at: &Path,
@@ -126,13 +135,15 @@ fn copy_move(
 ) -> Result<Edit, AllocError>
     ensures { IfOk result (λ e. e ≡ Move at.now key.now index count to.now to_key.now to_index) }
 {
+    let (at, key) = copy_site(alloc, at, key)?;
+    let (to, to_key) = copy_site(alloc, to, to_key)?;
     Ok(Edit::Move {
-        at: at.copy(alloc)?,
-        key: key.copy(alloc)?,
+        at,
+        key,
         index,
         count,
-        to: to.copy(alloc)?,
-        to_key: to_key.copy(alloc)?,
+        to,
+        to_key,
         to_index,
     })
 }

@@ -8,9 +8,9 @@ use Rattle.st_ids.specs.declared.names.CellId.{CellId}
 use Rattle.st_ids.specs.declared.names.NodeId.{NodeId}
 use Rattle.st_marks.specs.declared.intents.Intent.{Intent}
 use Rattle.st_marks.specs.declared.places.Spot.{Spot}
-use Rattle.st_marks.specs.Document.{node_of, climb}
-use Rattle.st_marks.specs.Intent.{is_new, new_row_of, put_of}
-use Rattle.st_marks.specs.CarryOut.{spot_of, unless_cleared}
+use Rattle.st_marks.specs.Document.{Document, node_of, climb}
+use Rattle.st_marks.specs.Intent.{is_new, new_row_of, put_of, put_in, clears}
+use Rattle.st_marks.specs.CarryOut.{spot_of, unless_cleared, unless_put}
 use Rattle.st_marks.specs.Verdict.{IsLeast}
 
 -- where a node will stand: where its put leads, or where it stood, unless its register is cleared
@@ -21,6 +21,13 @@ place_ahead N (Some spot) before = spot
 -- the node that will be above a node, where `targets` tells where puts lead and `place` where nodes stand
 abbrev pub above_ahead : Intent → BTreeMap NodeId Spot → BTreeMap NodeId Spot → NodeId → Option NodeId
 above_ahead N targets place n = node_of (place_ahead N (get node_cmp targets n) (unwrap_or (get node_cmp place n) Spot.Nowhere))
+
+-- a document after the clears and then the puts, where `targets` tells where puts lead
+abbrev pub with_moves : Intent → BTreeMap NodeId Spot → Document → Document
+with_moves N targets D = record D {
+  place = λ n. place_ahead N (get node_cmp targets n) (D.place n);
+  held = λ f. option_or (put_in N f) (if clears N f then None else unless_put N (D.held f));
+}
 
 -- m is reached from n by steps up, at least one
 abbrev pub Reaches : (NodeId → Option NodeId) → NodeId → NodeId → Type 0

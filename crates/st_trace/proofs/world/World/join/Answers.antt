@@ -1,5 +1,6 @@
-use Rattle.std.proofs.Common.{◌≡◌, ◌<◌, ◌+◌, [], ◌∷◌, length, length-append, ap, arith}
+use Rattle.std.proofs.Common.{◌≡◌, ◌<◌, ◌+◌, [], ◌∷◌, length, length-append, refl, ap, arith}
 use Rattle.st_trace.specs.declared.state.Body.TheVariants.{Join}
+use Rattle.st_trace.specs.World.{new_client}
 use Rattle.st_trace.proofs.Logs.{last_entry}
 use Rattle.st_trace.proofs.Stepping.{sound_joined}
 use Rattle.st_trace.proofs.world.World.join.Goals as goal
@@ -13,6 +14,7 @@ returns-clause-sound c =
     let logged = c.in_ok-enter.ensures.log in
     let n : c.len-n.result ≡ length w.lists.log + 1 = omega (arith, c.len-n.ensures, ap length logged, length-append w.lists.log (last_entry w.lists.log session Join ∷ [])) in
     let knows = rw logged at c.in_ok-enter.ensures.known in
-    rw (c.in_ok-push-2.ensures.ok, c.in_ok-push.ensures.ok, logged)
-    (sound_joined w c.args.name.now c.len-n.result session c.in_ok-joined.field-0 c.in_ok-opened.field-0 c.append_entry.new.known c.requires.sound few few_entries (omega (arith, c.len-count.ensures)) n knows c.in_ok-joined.ensures
-    c.in_ok-opened.ensures.received c.in_ok-opened.ensures.shown c.in_ok-opened.ensures.names)
+    let opened = c.in_ok-add_kept.ensures in
+    rw (c.in_ok-add_client.ensures, opened.1, logged)
+    (sound_joined w c.args.name.now c.len-n.result session (new_client c.len-n.result session c.args.name.now) opened.0 c.append_entry.new.known c.requires.sound few few_entries (omega (arith, c.len-count.ensures)) n knows refl
+    opened.2 opened.3 opened.4)

@@ -5,12 +5,12 @@ use Rattle.st_marks.specs.Run.{Run, done}
 use Rattle.st_script.specs.Header.{header_view}
 use Rattle.st_trace.specs.World.{opening_document}
 use Rattle.st_trace.proofs.Agreed.{begun_keeps}
-use Rattle.st_trace.proofs.world.World.new.Goals as goal
+use Rattle.st_trace.proofs.world.World.begin.Goals as goal
 
 pub returns-clause-sound : goal.returns-clause-sound
 returns-clause-sound c =
     rw (c.new.ensures, c.new-2.ensures, c.new-3.ensures) (record {
-      header = c.requires;
+      header = c.requires.header;
       kept = tt;
       sessions = tt;
       clients = omega arith;
@@ -18,11 +18,11 @@ returns-clause-sound c =
       log = tt;
       log_fit = tt;
       log_new = record { once = tt; new = λ N i j. i };
-      schema = begun_keeps (header_view c.args.header) c.requires;
-      head = subst (λ (D : Document). Run (opening_document (header_view c.args.header)) [] D) (sym c.in_ok-head.ensures) done;
+      schema = begun_keeps (header_view c.args.header) c.requires.header;
+      head = subst (λ (D : Document). Run (opening_document (header_view c.args.header)) [] D) (sym c.requires.head) done;
       entries = omega arith;
       names = refl;
       few_names = omega arith;
       known = λ session. search (rules, common_steps);
-      arrays = c.in_ok-arrays.ensures;
+      arrays = c.requires.arrays;
     })
