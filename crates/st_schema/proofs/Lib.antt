@@ -1,14 +1,17 @@
 pub mod AllowedForm
 pub mod Forms
 pub mod Keyed
+pub mod Holds
 pub mod Known
 pub mod Leaves
 pub mod MoreTrees
 pub mod Plain
 pub mod PlainTrees
 pub mod Putting
+pub mod Shaped
 pub mod Shown
 pub mod Single
+pub mod Sound
 pub mod Steps
 pub mod Walking
 pub mod Widening

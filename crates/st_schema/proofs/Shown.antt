@@ -10,11 +10,12 @@ use Rattle.serde_json.specs.Data.{Members}
 use Rattle.serde_json.specs.Find.{as_i64, of_integer}
 use Rattle.st_tree.specs.Node.{Node, node, Fields, no_fields, field, Nodes, no_nodes, first, FieldNode, nodes_of, fields_of}
 use Rattle.st_tree.specs.Size.{node_count, height, fields_height, items_height, check_of}
-use Rattle.st_tree.specs.Form.{is_row_alone, is_single, keys_rise, fields_fit, has_form, fields_have_form, all_have_form}
+use Rattle.st_tree.specs.Form.{is_row_alone, is_single, keys_rise}
 use Rattle.st_tree.specs.declared.limits.TreeFault.{TreeFault}
 use Rattle.st_tree.specs.declared.limits.TreeFault.TheVariants.{TooDeep, TooMany}
 use Rattle.st_schema.specs.Schema.{same}
 use Rattle.st_schema.specs.Conforms.{leaf_type}
+use Rattle.st_schema.specs.Shape.{fields_shaped, has_shape, fields_have_shape, all_have_shape}
 use Rattle.st_schema.specs.TreeText.{leaf_data, tree_data, body_data, keyed_data, members_data, trees_data, leaf_of, leaf_node, tree_in, body_in, trees_in, fields_in, within_limits, tree_of, leaf_fits, is_typed, fields_typed, all_typed}
 use Rattle.st_tree.proofs.Inverse.{not_alone}
 use Rattle.st_lemmas.proofs.Orders.{nat_lt-false}
@@ -107,21 +108,21 @@ field_read key (first t (first u ts)) ms fs n single short items later = absurd 
 -- ---- trees
 
 mutual
-  tree_read : (t : Node) (n : ℕ) → has_form t ≡ true → is_typed t ≡ true → height t ≤ n → tree_in (tree_data t) n ≡ Some t
+  tree_read : (t : Node) (n : ℕ) → has_shape t ≡ true → is_typed t ≡ true → height t ≤ n → tree_in (tree_data t) n ≡ Some t
   tree_read (node ty (Some v) no_fields) n form typed low =
       let parts = and-true (same ty (leaf_type v)) (leaf_fits v && true) typed in
       leaf_read v n (and-true (leaf_fits v) true parts.1).0 (a_level n 0 low) ∙ ap (λ u. Some (node u (Some v) no_fields)) (sym (text_same ty (leaf_type v) parts.0))
   tree_read (node ty (Some v) (field key row items rest)) n form typed low = absurd (cc)
   tree_read (node ty None fields) n form typed low =
-      let parts = and-true (fields_fit None fields) (fields_have_form fields) form in
+      let parts = and-true (fields_shaped None fields) (fields_have_shape fields) form in
       let below : fields_height fields ≤ n - 1 = omega arith in
       ap (λ (b : Bool). if b then option_map (node ty None) (body_in (body_data fields) (n - 1)) else None) (a_level n (fields_height fields) low)
       ∙ ap (option_map (node ty None)) (body_read fields (n - 1) parts.0 parts.1 typed below)
 
-  body_read : (fs : Fields) (n : ℕ) → fields_fit None fs ≡ true → fields_have_form fs ≡ true → fields_typed fs ≡ true → fields_height fs ≤ n → body_in (body_data fs) n ≡ Some fs
+  body_read : (fs : Fields) (n : ℕ) → fields_shaped None fs ≡ true → fields_have_shape fs ≡ true → fields_typed fs ≡ true → fields_height fs ≤ n → body_in (body_data fs) n ≡ Some fs
   body_read no_fields n fits form typed low = refl
   body_read (field key true items no_fields) n fits form typed low =
-      let forms = and-true (all_have_form items) true form in
+      let forms = and-true (all_have_shape items) true form in
       let types = and-true (all_typed items) true (and-true (nat_le (length key) 64) (all_typed items && true) typed).1 in
       let below : items_height items ≤ n = omega arith in
       ap (option_map (λ ts. field [] true (nodes_of ts) no_fields)) (trees_read items n forms.0 types.0 below)
@@ -129,33 +130,32 @@ mutual
   body_read (field key true items (field k row is rest)) n fits form typed low = absurd (cc)
   body_read (field key false items rest) n fits form typed low =
       let rises = or_right (is_row_alone (field key false items rest)) _ (not_alone key items rest) fits in
-      let parts = and-true (is_single items) (is_lt (slice_cmp nat_cmp [] key) && keys_rise key rest) rises in
-      let rise = and-true (is_lt (slice_cmp nat_cmp [] key)) (keys_rise key rest) parts.1 in
-      let forms = and-true (all_have_form items) (fields_have_form rest) form in
+      let parts = and-true (is_single items) (keys_rise key rest) rises in
+      let forms = and-true (all_have_shape items) (fields_have_shape rest) form in
       let short = and-true (nat_le (length key) 64) (all_typed items && fields_typed rest) typed in
       let types = and-true (all_typed items) (fields_typed rest) short.1 in
       let below : items_height items ≤ n = omega arith in
       let beside : fields_height rest ≤ n = omega arith in
-      ap (option_map fields_of) (field_read key items (members_data rest) (fields_list rest) n parts.0 short.0 (trees_read items n forms.0 types.0 below) (members_read key rest n rise.1 forms.1 types.1 beside))
+      ap (option_map fields_of) (field_read key items (members_data rest) (fields_list rest) n parts.0 short.0 (trees_read items n forms.0 types.0 below) (members_read key rest n parts.1 forms.1 types.1 beside))
       ∙ ap Some (fields_of-fields_list (field key false items rest))
 
-  members_read : (before : List ℕ) (fs : Fields) (n : ℕ) → keys_rise before fs ≡ true → fields_have_form fs ≡ true → fields_typed fs ≡ true → fields_height fs ≤ n → fields_in (members_data fs) n ≡ Some (fields_list fs)
+  members_read : (before : List ℕ) (fs : Fields) (n : ℕ) → keys_rise before fs ≡ true → fields_have_shape fs ≡ true → fields_typed fs ≡ true → fields_height fs ≤ n → fields_in (members_data fs) n ≡ Some (fields_list fs)
   members_read before no_fields n rises form typed low = refl
   members_read before (field key true items rest) n rises form typed low = absurd (cc)
   members_read before (field key false items rest) n rises form typed low =
       let parts = and-true (is_single items) (is_lt (slice_cmp nat_cmp before key) && keys_rise key rest) rises in
       let rise = and-true (is_lt (slice_cmp nat_cmp before key)) (keys_rise key rest) parts.1 in
-      let forms = and-true (all_have_form items) (fields_have_form rest) form in
+      let forms = and-true (all_have_shape items) (fields_have_shape rest) form in
       let short = and-true (nat_le (length key) 64) (all_typed items && fields_typed rest) typed in
       let types = and-true (all_typed items) (fields_typed rest) short.1 in
       let below : items_height items ≤ n = omega arith in
       let beside : fields_height rest ≤ n = omega arith in
       field_read key items (members_data rest) (fields_list rest) n parts.0 short.0 (trees_read items n forms.0 types.0 below) (members_read key rest n rise.1 forms.1 types.1 beside)
 
-  trees_read : (ts : Nodes) (n : ℕ) → all_have_form ts ≡ true → all_typed ts ≡ true → items_height ts ≤ n → trees_in (trees_data ts) n ≡ Some (nodes_list ts)
+  trees_read : (ts : Nodes) (n : ℕ) → all_have_shape ts ≡ true → all_typed ts ≡ true → items_height ts ≤ n → trees_in (trees_data ts) n ≡ Some (nodes_list ts)
   trees_read no_nodes n form typed low = refl
   trees_read (first t ts) n form typed low =
-      let forms = and-true (has_form t) (all_have_form ts) form in
+      let forms = and-true (has_shape t) (all_have_shape ts) form in
       let types = and-true (is_typed t) (all_typed ts) typed in
       let here : height t ≤ n = omega arith in
       let later : items_height ts ≤ n = omega arith in
@@ -172,7 +172,7 @@ not_deep false false x y h = refl
 pub low_within : (t : Node) → check_of t ≡ Ok tt → height t ≤ 48
 low_within t within = nat_lt-false (height t) 48 (not_deep (nat_lt 1024 (node_count t)) (nat_lt 48 (height t)) TooMany TooDeep within)
 
-pub form_read : (t : Node) → check_of t ≡ Ok tt → has_form t ≡ true → is_typed t ≡ true → tree_of (tree_data t) ≡ Some t
+pub form_read : (t : Node) → check_of t ≡ Ok tt → has_shape t ≡ true → is_typed t ≡ true → tree_of (tree_data t) ≡ Some t
 form_read t within form typed =
     ap (option_and_then within_limits) (tree_read t 48 form typed (low_within t within))
     ∙ ap (λ (r : Result (Unit {0}) TreeFault). if is_ok r then Some t else None) within

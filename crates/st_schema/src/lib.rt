@@ -18,6 +18,6 @@ pub use allows::allowed_has_form;
 pub use header::Header;
 pub use names::{FieldDef, FieldRule, Form, KindName, NotAllowed, NotWider};
 pub use schema::Schema;
-pub use tree_text::{form_is_read, read_tree};
+pub use tree_text::{form_is_read, formed_trees_have_shape, read_tree, read_trees_have_shape};
 pub use tree_write::write_tree;
 pub use upgrade::{wider, wider_allows_more};

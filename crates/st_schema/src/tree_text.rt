@@ -1,11 +1,14 @@
 //! Trees read from a JSON value.
 ghost use Rattle.std.specs.Prelude.{◌≡◌, Some, None, Ok, true, false, [], map, IfOk};
+ghost use Rattle.serde_json.specs.Data.{Data};
 ghost use Rattle.serde_json.specs.View.{view as value_view, items_view, members_view};
 ghost use Rattle.st_ids.specs.Or.{IfRefused};
 ghost use Rattle.st_tree.specs.Form.{has_form};
 ghost use Rattle.st_tree.specs.Node.{Node, field, no_fields, first, no_nodes, view, trees_view};
 ghost use Rattle.st_tree.specs.inside.Node.{field_view, fields_view};
 ghost use Rattle.st_tree.specs.Size.{check_of};
+ghost use Rattle.st_json.specs.Order.{NamesRise};
+ghost use Rattle.st_schema.specs.Shape.{has_shape};
 ghost use Rattle.st_schema.specs.TreeText.{leaf_of, leaf_node, leaf_in, tree_in, node_in, body_in, trees_in, fields_in, tree_of, tree_data, is_typed};
 
 use crate::allows::leaf_type;
@@ -170,9 +173,11 @@ fn read_fields(
 /// The tree that a value shows: a leaf by its value, another node by an object of one member, its
 /// type's name, over an array of trees or an object from keys to trees. `Shape` exactly where the
 /// value shows none with at most 1,024 nodes, 48 levels and keys of 64 bytes.
+#[tactic(auto, using(crate::proofs::Shaped::shaped_at))]
 pub fn read_tree(alloc: Global, value: &Value) -> Result<Tree, Or<Shape>>
     ensures ok { IfOk result (λ t. tree_of (value_view value.now) ≡ Some (view t)) }
     ensures bad { IfRefused result (λ _. tree_of (value_view value.now) ≡ None) }
+    ensures shape { IfOk result (λ t. NamesRise (value_view value.now) → has_shape (view t) ≡ true) }
 {
     let tree = read_at(alloc, value, MOST_LEVELS)?;
     match check(&tree) {
@@ -181,9 +186,23 @@ pub fn read_tree(alloc: Global, value: &Value) -> Result<Tree, Or<Shape>>
     }
 }
 
-/// The JSON form of a tree is read as that tree: of each tree within the limits that is of the form
-/// of trees, whose leaves have the types of their values and whose keys have at most 64 bytes.
+/// The JSON form of a tree is read as that tree: of each tree within the limits that has the shape
+/// of trees that values show, whose leaves have the types of their values and whose keys have at
+/// most 64 bytes.
 #[tactic(none)]
 pub fn form_is_read()
-    ensures { (t : Node) → check_of t ≡ Ok tt → has_form t ≡ true → is_typed t ≡ true → tree_of (tree_data t) ≡ Some t }
+    ensures { (t : Node) → check_of t ≡ Ok tt → has_shape t ≡ true → is_typed t ≡ true → tree_of (tree_data t) ≡ Some t }
+{}
+
+/// A tree that a value shows has the shape, where the names rise in each of the value's objects, as
+/// they do in each value that is read.
+#[tactic(none)]
+pub fn read_trees_have_shape()
+    ensures { (d : Data) (t : Node) → NamesRise d → tree_of d ≡ Some t → has_shape t ≡ true }
+{}
+
+/// A tree of the form of trees has the shape.
+#[tactic(none)]
+pub fn formed_trees_have_shape()
+    ensures { (t : Node) → has_form t ≡ true → has_shape t ≡ true }
 {}

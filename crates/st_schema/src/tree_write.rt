@@ -1,14 +1,15 @@
 //! Trees written as a JSON value.
-ghost use Rattle.std.specs.Prelude.{◌≡◌, ◌≤◌, None, Some, Ok, Err, true, false, [], IfOk, OnOk};
-ghost use Rattle.serde_json.specs.Data.{member, no_members, object, array, put, depth};
-ghost use Rattle.serde_json.specs.Read.{max_depth};
+ghost use Rattle.std.specs.Prelude.{ℕ, List as Seq, ◌≡◌, ◌≤◌, None, Some, Ok, Err, true, false, [], IfOk, OnOk};
+ghost use Rattle.serde_json.specs.Data.{Data, member, no_members, object, array, put, depth};
+ghost use Rattle.serde_json.specs.Read.{read, max_depth};
 ghost use Rattle.serde_json.specs.Written.{has_float};
 ghost use Rattle.serde_json.specs.View.{view as value_view, members_view};
 ghost use Rattle.st_ids.specs.Or.{IfRefused};
-ghost use Rattle.st_tree.specs.Form.{keys_rise, fields_fit, has_form, fields_have_form, all_have_form};
 ghost use Rattle.st_tree.specs.Node.{Node, first, no_nodes, view};
 ghost use Rattle.st_tree.specs.inside.Node.{field_view, fields_view};
+ghost use Rattle.st_tree.specs.Form.{keys_rise, fields_fit, has_form, fields_have_form, all_have_form};
 ghost use Rattle.st_tree.specs.Size.{check_of};
+ghost use Rattle.st_schema.specs.Shape.{members_rise, fields_shaped, has_shape, fields_have_shape, all_have_shape};
 ghost use Rattle.st_schema.specs.TreeText.{leaf_data, tree_data, body_data, members_data, trees_data, tree_of, is_typed};
 
 use serde_json::{Map, Value};
@@ -40,7 +41,7 @@ fn one_member(alloc: Global, name: &str, value: Value) -> Result<Value, AllocErr
 // The value of a tree.
 #[cycle(writing)]
 fn tree_value(alloc: Global, tree: &Tree) -> Result<Value, AllocError>
-    ensures { IfOk result (λ v. has_form (view tree.now) ≡ true → value_view v ≡ tree_data (view tree.now)) }
+    ensures { IfOk result (λ v. has_shape (view tree.now) ≡ true → value_view v ≡ tree_data (view tree.now)) }
 {
     match &tree.leaf {
         Some(leaf) => leaf_value(alloc, leaf),
@@ -54,7 +55,7 @@ fn tree_value(alloc: Global, tree: &Tree) -> Result<Value, AllocError>
 // What stands under a type's name: an array for a row, and else an object.
 #[cycle(writing)]
 fn body_value(alloc: Global, fields: &List<Field>) -> Result<Value, AllocError>
-    ensures { IfOk result (λ v. fields_fit None (fields_view fields.now) ≡ true → fields_have_form (fields_view fields.now) ≡ true → value_view v ≡ body_data (fields_view fields.now)) }
+    ensures { IfOk result (λ v. fields_shaped None (fields_view fields.now) ≡ true → fields_have_shape (fields_view fields.now) ≡ true → value_view v ≡ body_data (fields_view fields.now)) }
 {
     match fields.as_slice() {
         [field, ..] => {
@@ -71,7 +72,7 @@ fn body_value(alloc: Global, fields: &List<Field>) -> Result<Value, AllocError>
 // The items of a row.
 #[cycle(writing)]
 fn row_value(alloc: Global, field: &Field) -> Result<Value, AllocError>
-    ensures { IfOk result (λ v. all_have_form (field_view field.now).items ≡ true → value_view v ≡ array (trees_data (field_view field.now).items)) }
+    ensures { IfOk result (λ v. all_have_shape (field_view field.now).items ≡ true → value_view v ≡ array (trees_data (field_view field.now).items)) }
 {
     let mut items = Vec::new(alloc);
     for item in field.items.as_slice() {
@@ -83,7 +84,7 @@ fn row_value(alloc: Global, field: &Field) -> Result<Value, AllocError>
 // Each field of one item as a member. An empty field is left out.
 #[cycle(writing)]
 fn members_value(alloc: Global, fields: &List<Field>) -> Result<Value, AllocError>
-    ensures { IfOk result (λ v. keys_rise [] (fields_view fields.now) ≡ true → fields_have_form (fields_view fields.now) ≡ true → value_view v ≡ object (members_data (fields_view fields.now))) }
+    ensures { IfOk result (λ v. members_rise (fields_view fields.now) ≡ true → fields_have_shape (fields_view fields.now) ≡ true → value_view v ≡ object (members_data (fields_view fields.now))) }
 {
     let mut members = Map::new(alloc);
     for field in fields.as_slice() {
@@ -99,7 +100,7 @@ fn put_field(
     field: &Field,
     members: &mut Map<String, Value>,
 ) -> Result<(), AllocError>
-    ensures { OnOk result ((t : Node) → (field_view field.now).items ≡ first t no_nodes → has_form t ≡ true → members_view members.new.entries ≡ put (field_view field.now).key (tree_data t) (members_view members.old.entries)) }
+    ensures { OnOk result ((t : Node) → (field_view field.now).items ≡ first t no_nodes → has_shape t ≡ true → members_view members.new.entries ≡ put (field_view field.now).key (tree_data t) (members_view members.old.entries)) }
 {
     match field.items.as_slice() {
         [item, ..] => {
@@ -112,18 +113,20 @@ fn put_field(
     }
 }
 
-/// The JSON form of a tree of the form of trees: a leaf is its value, another node an object of one
-/// member, its type's name, over an array of its row's items or an object of its fields, with keys in
-/// byte order. It is read back as the tree. A tree beyond the limits is refused, so writing goes down
-/// no further than 48 levels.
+/// The JSON form of a tree: a leaf is its value, another node an object of one member, its type's
+/// name, over an array of its row's items or an object of its fields, with keys in byte order. It is
+/// told of trees of the shape that values show, whatever their types, and is read back as the tree.
+/// A tree that was read of a text is written as the value that it was read of. A tree beyond the
+/// limits is refused, so writing goes down no further than 48 levels.
 #[tactic(auto, using(crate::proofs::Shown::form_read, crate::proofs::PlainTrees::tree_plain, crate::proofs::PlainTrees::tree_shallow))]
 pub fn write_tree(alloc: Global, tree: &Tree) -> Result<Value, Or<TreeFault>>
-    ensures ok { IfOk result (λ v. has_form (view tree.now) ≡ true → value_view v ≡ tree_data (view tree.now)) }
+    ensures ok { IfOk result (λ v. has_shape (view tree.now) ≡ true → value_view v ≡ tree_data (view tree.now)) }
     ensures within { OnOk result (check_of (view tree.now) ≡ Ok tt) }
     ensures bad { IfRefused result (λ e. check_of (view tree.now) ≡ Err e) }
-    ensures back { IfOk result (λ v. has_form (view tree.now) ≡ true → is_typed (view tree.now) ≡ true → tree_of (value_view v) ≡ Some (view tree.now)) }
-    ensures plain { IfOk result (λ v. has_form (view tree.now) ≡ true → has_float (value_view v) ≡ false) }
-    ensures shallow { IfOk result (λ v. has_form (view tree.now) ≡ true → depth (value_view v) ≤ max_depth) }
+    ensures back { IfOk result (λ v. has_shape (view tree.now) ≡ true → is_typed (view tree.now) ≡ true → tree_of (value_view v) ≡ Some (view tree.now)) }
+    ensures again { IfOk result (λ v. (text : Seq ℕ) (d : Data) → read text ≡ Some d → tree_of d ≡ Some (view tree.now) → value_view v ≡ d) }
+    ensures plain { IfOk result (λ v. has_shape (view tree.now) ≡ true → has_float (value_view v) ≡ false) }
+    ensures shallow { IfOk result (λ v. has_shape (view tree.now) ≡ true → depth (value_view v) ≤ max_depth) }
 {
     match check(tree) {
         Err(fault) => Err(Or::Fault(fault)),

@@ -22,10 +22,11 @@ use Rattle.st_script.specs.declared.read.Actor.{Actor}
 use Rattle.st_script.specs.declared.read.Goal.{Goal}
 use Rattle.st_script.specs.declared.read.Span.{Span}
 use Rattle.st_script.specs.declared.read.Target.{Target}
-use Rattle.st_script.proofs.Holds.{Holds, Holds-cond}
-use Rattle.st_script.proofs.Sound.{Sound, SoundItems, line_sound, get_sound, array_sound, tree_shown, trees_shown}
+use Rattle.st_schema.proofs.Holds.{Holds-cond}
+use Rattle.st_json.proofs.Rising.{Holds, Holds-map, Holds-and_then}
+use Rattle.st_schema.proofs.Sound.{Sound, SoundItems, line_sound, get_sound, array_sound}
+use Rattle.st_script.proofs.Sound.{tree_shown, trees_shown}
 use Rattle.st_lemmas.proofs.Bools.{and-true}
-use Rattle.st_json.proofs.Rising.{Holds-map, Holds-and_then}
 
 -- ---- tests
 

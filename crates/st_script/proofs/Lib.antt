@@ -1,9 +1,9 @@
 pub mod Again
 pub mod Fits
-pub mod Holds
 pub mod OfForm
 pub mod Places
 pub mod Schemas
+pub mod Shaped
 pub mod Sound
 pub mod StepLines
 pub mod Written

@@ -18,9 +18,10 @@ use Rattle.st_schema.specs.TreeText.{leaf_data, tree_data, body_data, keyed_data
 use Rattle.st_schema.proofs.PlainTrees.{tree_plain, tree_low, items_low}
 use Rattle.st_script.specs.Line.{line_of, judged}
 use Rattle.st_script.specs.Steps.{StepView, join, insert, remove, move, set, clear, sequence, deliver, show}
-use Rattle.st_script.specs.StepText.{places_data, step_data, step_text, limits_of, trees_have_form, FitsLine}
+use Rattle.st_script.specs.StepText.{places_data, step_data, step_text, limits_of, trees_have_shape, IsReadBack, FitsLine}
 use Rattle.st_script.proofs.Again.{read_again}
 use Rattle.st_script.proofs.Fits.{line_fits}
+use Rattle.st_script.proofs.Shaped.{line_shaped}
 use Rattle.st_script.proofs.Written.{all_small, one_small}
 
 -- ---- no floating-point number
@@ -75,19 +76,19 @@ line_again s d is back fits =
     ap judged told ∙ ap (λ (o : Option StepView). ok_or o BadCause.Shape) (read_again s fits)
 
 -- the line of a step's value
-pub told_text : {E : Type 0} (r : Result (List ℕ) E) (s : StepView) (d : Data) → (trees_have_form s ≡ true → d ≡ step_data s) → IfOk r (λ t. has_float d ≡ false → t ≡ compact_text d ++ 10 ∷ [])
-    → IfOk r (λ t. trees_have_form s ≡ true → t ≡ step_text s ++ 10 ∷ [])
+pub told_text : {E : Type 0} (r : Result (List ℕ) E) (s : StepView) (d : Data) → (trees_have_shape s ≡ true → d ≡ step_data s) → IfOk r (λ t. has_float d ≡ false → t ≡ compact_text d ++ 10 ∷ [])
+    → IfOk r (λ t. trees_have_shape s ≡ true → t ≡ step_text s ++ 10 ∷ [])
 told_text (Ok t) s d is h = λ form. h (ap has_float (is form) ∙ step_plain s) ∙ ap (λ (e : Data). compact_text e ++ 10 ∷ []) (is form)
 told_text (Err e) s d is h = tt
 
-pub told_back : {T E : Type 0} (r : Result T E) (s : StepView) (d : Data) → limits_of s ≡ Ok tt → (trees_have_form s ≡ true → d ≡ step_data s)
-    → OnOk r (has_float d ≡ false → depth d ≤ max_depth → line_value (compact_text d) ≡ Some d) → OnOk r (trees_have_form s ≡ true → FitsLine s → line_of (step_text s) ≡ Ok s)
+pub told_back : {T E : Type 0} (r : Result T E) (s : StepView) (d : Data) → limits_of s ≡ Ok tt → (trees_have_shape s ≡ true → d ≡ step_data s)
+    → OnOk r (has_float d ≡ false → depth d ≤ max_depth → line_value (compact_text d) ≡ Some d) → OnOk r (trees_have_shape s ≡ true → FitsLine s → line_of (step_text s) ≡ Ok s)
 told_back (Ok t) s d within is h = λ form fits.
     line_again s d (is form) (h (ap has_float (is form) ∙ step_plain s) (subst (λ (e : Data). depth e ≤ max_depth) (sym (is form)) (step_low s within))) fits
 told_back (Err e) s d within is h = tt
 
 -- the line of a step that a line is
-pub told_again : {T E : Type 0} (r : Result T E) (s : StepView) → OnOk r (trees_have_form s ≡ true → FitsLine s → line_of (step_text s) ≡ Ok s)
-    → OnOk r ((bytes : List ℕ) → line_of bytes ≡ Ok s → trees_have_form s ≡ true → line_of (step_text s) ≡ Ok s)
-told_again (Ok t) s h = λ bytes is form. h form (line_fits bytes s is)
-told_again (Err e) s h = tt
+pub told_again : {E : Type 0} (r : Result (List ℕ) E) (s : StepView) → IfOk r (λ t. trees_have_shape s ≡ true → t ≡ step_text s ++ 10 ∷ [])
+    → OnOk r (trees_have_shape s ≡ true → FitsLine s → line_of (step_text s) ≡ Ok s) → IfOk r (λ t. (bytes : List ℕ) → line_of bytes ≡ Ok s → IsReadBack t s)
+told_again (Ok t) s text back = λ bytes is. (text (line_shaped bytes s is), back (line_shaped bytes s is) (line_fits bytes s is))
+told_again (Err e) s text back = tt

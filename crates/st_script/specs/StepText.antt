@@ -1,15 +1,16 @@
 -- The value that stands for a step, and which steps are read of theirs.
-use Rattle.std.specs.Prelude.{◌≡◌, ◌<◌, ◌≤◌, ◌^◌, ℕ, List, [], ◌∷◌, length, Bool, true, Some, Result, Ok, codes}
+use Rattle.std.specs.Prelude.{◌≡◌, ◌<◌, ◌≤◌, ◌^◌, ℕ, List, [], ◌∷◌, ◌++◌, length, Bool, true, Some, Result, Ok, codes}
 use Rattle.serde_json.specs.Data.{Data, number, unsigned, string, array, object, Members, no_members, member}
 use Rattle.serde_json.specs.View.{items_of}
 use Rattle.serde_json.specs.Written.{compact_text}
 use Rattle.st_ids.specs.declared.names.Key.{Key}
 use Rattle.st_ids.specs.declared.names.Place.{Place}
-use Rattle.st_tree.specs.Form.{has_form, all_have_form}
 use Rattle.st_tree.specs.Node.{Node, nodes_of}
 use Rattle.st_tree.specs.Size.{check_of, check_items}
 use Rattle.st_tree.specs.declared.limits.TreeFault.{TreeFault}
+use Rattle.st_schema.specs.Shape.{has_shape, all_have_shape}
 use Rattle.st_schema.specs.TreeText.{tree_data, trees_data, tree_of}
+use Rattle.st_script.specs.Line.{line_of}
 use Rattle.st_script.specs.Steps.{StepView, join, insert, remove, move, set, clear, sequence, deliver, show}
 
 -- keys and indexes in turn
@@ -72,17 +73,17 @@ limits_of (sequence client) = Ok tt
 limits_of (deliver client) = Ok tt
 limits_of (show client branch) = Ok tt
 
--- a step's trees are of the form of trees
-abbrev pub trees_have_form : StepView → Bool
-trees_have_form (join client) = true
-trees_have_form (insert client branch at key index items) = all_have_form (nodes_of items)
-trees_have_form (remove client branch at key index count) = true
-trees_have_form (move client branch at key index count to to_key to_index) = true
-trees_have_form (set client branch at key item) = has_form item
-trees_have_form (clear client branch at key) = true
-trees_have_form (sequence client) = true
-trees_have_form (deliver client) = true
-trees_have_form (show client branch) = true
+-- a step's trees have the shape of trees that values show
+abbrev pub trees_have_shape : StepView → Bool
+trees_have_shape (join client) = true
+trees_have_shape (insert client branch at key index items) = all_have_shape (nodes_of items)
+trees_have_shape (remove client branch at key index count) = true
+trees_have_shape (move client branch at key index count to to_key to_index) = true
+trees_have_shape (set client branch at key item) = has_shape item
+trees_have_shape (clear client branch at key) = true
+trees_have_shape (sequence client) = true
+trees_have_shape (deliver client) = true
+trees_have_shape (show client branch) = true
 
 -- ---- the steps that a line can hold
 
@@ -105,8 +106,8 @@ IsTarget at key = (length at < 2 ^ 32) × ArePlaces at × (length key.0 ≤ 64)
 abbrev pub IsSpan : ℕ → ℕ → Type 0
 IsSpan index count = (index < 2 ^ 32) × (1 ≤ count) × (count < 2 ^ 32)
 
--- the tree is read of its form: so is each tree within the limits that is of the form of trees, whose leaves have the
--- types of their values and whose keys have at most 64 bytes
+-- the tree is read of its JSON form: so is each tree within the limits that has the shape of trees that values show, whose
+-- leaves have the types of their values and whose keys have at most 64 bytes
 abbrev pub IsShown : Node → Type 0
 IsShown t = tree_of (tree_data t) ≡ Some t
 
@@ -129,3 +130,9 @@ FitsLine (clear client branch at key) = IsActor client branch × IsTarget at key
 FitsLine (sequence client) = IsName client
 FitsLine (deliver client) = IsName client
 FitsLine (show client branch) = IsActor client branch
+
+-- ---- lines that are written
+
+-- a line is the step's, and without its line feed is read as that step
+abbrev pub IsReadBack : List ℕ → StepView → Type 0
+IsReadBack line s = (line ≡ step_text s ++ 10 ∷ []) × (line_of (step_text s) ≡ Ok s)

@@ -4,7 +4,7 @@ ghost use Rattle.st_schema.specs.Schema.{is_sound};
 ghost use Rattle.st_script.specs.Header.{HeaderView, header_line, may_open};
 ghost use Rattle.st_script.specs.Line.{line_of};
 ghost use Rattle.st_script.specs.Steps.{StepView, IsOfForm, step_of};
-ghost use Rattle.st_script.specs.StepText.{FitsLine, step_data};
+ghost use Rattle.st_script.specs.StepText.{FitsLine, step_data, trees_have_shape};
 
 /// The trees of a step that a line is are within the limits of trees, and its paths are short.
 pub fn read_steps_are_of_form()
@@ -15,6 +15,12 @@ pub fn read_steps_are_of_form()
 /// the tree's own JSON form.
 pub fn read_steps_fit_lines()
     ensures { (bytes : List ℕ) (s : StepView) → line_of bytes ≡ Ok s → FitsLine s }
+{}
+
+/// The trees of a step that a line is have the shape of trees that values show, of which `step_line`
+/// tells the line.
+pub fn read_steps_have_shape()
+    ensures { (bytes : List ℕ) (s : StepView) → line_of bytes ≡ Ok s → trees_have_shape s ≡ true }
 {}
 
 /// The value that is written for a step is read as that step, where each member is as a line can

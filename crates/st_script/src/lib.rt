@@ -15,7 +15,7 @@ pub use answer::{Answer, answer_line};
 pub use header::read_header;
 pub use laws::{
     read_headers_may_open, read_steps_are_of_form, read_steps_are_read_again, read_steps_fit_lines,
-    step_lines_are_read,
+    read_steps_have_shape, step_lines_are_read,
 };
 pub use line::{Line, read_step_line};
 pub use refusal::Refusal;

@@ -6,13 +6,13 @@ ghost use Rattle.serde_json.specs.View.{view as value_view, members_view};
 ghost use Rattle.serde_json.specs.Written.{has_float, compact_text};
 ghost use Rattle.st_ids.specs.Or.{IfRefused};
 ghost use Rattle.st_json.specs.Line.{line_value};
+ghost use Rattle.st_schema.specs.Shape.{has_shape, all_have_shape};
 ghost use Rattle.st_schema.specs.TreeText.{tree_data, trees_data};
-ghost use Rattle.st_tree.specs.Form.{has_form, all_have_form};
 ghost use Rattle.st_tree.specs.Node.{view, trees_view};
 ghost use Rattle.st_tree.specs.Size.{check_of, check_items};
 ghost use Rattle.st_script.specs.Line.{line_of};
 ghost use Rattle.st_script.specs.Steps.{step_view, name_of, branch_of};
-ghost use Rattle.st_script.specs.StepText.{places_data, path_data, items_data, plain_data, actor_members, site_members, step_data, step_text, limits_of, trees_have_form, FitsLine};
+ghost use Rattle.st_script.specs.StepText.{places_data, path_data, items_data, plain_data, actor_members, site_members, step_data, step_text, limits_of, trees_have_shape, IsReadBack, FitsLine};
 
 use crate::step::TraceStep;
 use serde_json::{Map, Value};
@@ -44,7 +44,7 @@ fn path_value(alloc: Global, path: &Path) -> Result<Value, AllocError>
 // The value of a tree within the limits.
 fn tree_value(alloc: Global, tree: &Tree) -> Result<Value, AllocError>
     requires { check_of (view tree.now) ≡ Ok tt }
-    ensures { IfOk result (λ v. has_form (view tree.now) ≡ true → value_view v ≡ tree_data (view tree.now)) }
+    ensures { IfOk result (λ v. has_shape (view tree.now) ≡ true → value_view v ≡ tree_data (view tree.now)) }
 {
     match write_tree(alloc, tree) {
         Ok(value) => Ok(value),
@@ -56,7 +56,7 @@ fn tree_value(alloc: Global, tree: &Tree) -> Result<Value, AllocError>
 // The values of trees that are within the limits together.
 fn items_value(alloc: Global, trees: &List<Tree>) -> Result<Value, AllocError>
     requires { check_items (trees_view trees.now) ≡ Ok tt }
-    ensures { IfOk result (λ v. all_have_form (trees_view trees.now) ≡ true → value_view v ≡ array (trees_data (trees_view trees.now))) }
+    ensures { IfOk result (λ v. all_have_shape (trees_view trees.now) ≡ true → value_view v ≡ array (trees_data (trees_view trees.now))) }
 {
     let mut items = Vec::new(alloc);
     for tree in trees.as_slice() {
@@ -194,7 +194,7 @@ fn insert_value(
     items: &List<Tree>,
 ) -> Result<Value, AllocError>
     requires { check_items (trees_view items.now) ≡ Ok tt }
-    ensures { IfOk result (λ v. all_have_form (trees_view items.now) ≡ true → value_view v ≡ object (put (codes "items") (array (trees_data (trees_view items.now))) (put (codes "index") (number (unsigned index)) (members_view others.entries)))) }
+    ensures { IfOk result (λ v. all_have_shape (trees_view items.now) ≡ true → value_view v ≡ object (put (codes "items") (array (trees_data (trees_view items.now))) (put (codes "index") (number (unsigned index)) (members_view others.entries)))) }
 {
     let mut members = others;
     put_number(alloc, &mut members, "index", index)?;
@@ -206,7 +206,7 @@ fn insert_value(
 // A set, with its other members.
 fn set_value(alloc: Global, others: Map<String, Value>, item: &Tree) -> Result<Value, AllocError>
     requires { check_of (view item.now) ≡ Ok tt }
-    ensures { IfOk result (λ v. has_form (view item.now) ≡ true → value_view v ≡ object (put (codes "item") (tree_data (view item.now)) (members_view others.entries))) }
+    ensures { IfOk result (λ v. has_shape (view item.now) ≡ true → value_view v ≡ object (put (codes "item") (tree_data (view item.now)) (members_view others.entries))) }
 {
     let mut members = others;
     let item = tree_value(alloc, item)?;
@@ -217,7 +217,7 @@ fn set_value(alloc: Global, others: Map<String, Value>, item: &Tree) -> Result<V
 // The value of a step whose trees are within the limits.
 fn step_value(alloc: Global, step: &TraceStep) -> Result<Value, AllocError>
     requires { limits_of (step_view step.now) ≡ Ok tt }
-    ensures { IfOk result (λ v. trees_have_form (step_view step.now) ≡ true → value_view v ≡ step_data (step_view step.now)) }
+    ensures { IfOk result (λ v. trees_have_shape (step_view step.now) ≡ true → value_view v ≡ step_data (step_view step.now)) }
 {
     match step {
         TraceStep::Join { client } => plain_value(alloc, "join", client),
@@ -302,9 +302,9 @@ fn limits(step: &TraceStep) -> Result<(), TreeFault>
 // The line of a step whose trees are within the limits.
 fn line_within(alloc: Global, step: &TraceStep) -> Result<Text, AllocError>
     requires { limits_of (step_view step.now) ≡ Ok tt }
-    ensures text { IfOk result (λ t. trees_have_form (step_view step.now) ≡ true → t ≡ step_text (step_view step.now) ++ 10 ∷ []) }
-    ensures back { OnOk result (trees_have_form (step_view step.now) ≡ true → FitsLine (step_view step.now) → line_of (step_text (step_view step.now)) ≡ Ok (step_view step.now)) }
-    ensures again { OnOk result ((bytes : Seq ℕ) → line_of bytes ≡ Ok (step_view step.now) → trees_have_form (step_view step.now) ≡ true → line_of (step_text (step_view step.now)) ≡ Ok (step_view step.now)) }
+    ensures text { IfOk result (λ t. trees_have_shape (step_view step.now) ≡ true → t ≡ step_text (step_view step.now) ++ 10 ∷ []) }
+    ensures back { OnOk result (trees_have_shape (step_view step.now) ≡ true → FitsLine (step_view step.now) → line_of (step_text (step_view step.now)) ≡ Ok (step_view step.now)) }
+    ensures again { IfOk result (λ t. (bytes : Seq ℕ) → line_of bytes ≡ Ok (step_view step.now) → IsReadBack t (step_view step.now)) }
 {
     let value = step_value(alloc, step)?;
     value_line(alloc, &value)
@@ -312,13 +312,14 @@ fn line_within(alloc: Global, step: &TraceStep) -> Result<Text, AllocError>
 
 /// The line of a step, with its line feed: every member that the step has, also one that may be
 /// left out, in byte order of the names. A step whose trees pass the limits is refused, an insert's
-/// together. The line is told, and is read as the step, where the trees are of the form of trees.
+/// together. The line is told where the trees have the shape of trees that values show, and is read
+/// as the step. So it is of each step that was read of a line.
 pub fn step_line(alloc: Global, step: &TraceStep) -> Result<Text, Or<TreeFault>>
-    ensures text { IfOk result (λ t. trees_have_form (step_view step.now) ≡ true → t ≡ step_text (step_view step.now) ++ 10 ∷ []) }
+    ensures text { IfOk result (λ t. trees_have_shape (step_view step.now) ≡ true → t ≡ step_text (step_view step.now) ++ 10 ∷ []) }
     ensures within { OnOk result (limits_of (step_view step.now) ≡ Ok tt) }
     ensures bad { IfRefused result (λ e. limits_of (step_view step.now) ≡ Err e) }
-    ensures back { OnOk result (trees_have_form (step_view step.now) ≡ true → FitsLine (step_view step.now) → line_of (step_text (step_view step.now)) ≡ Ok (step_view step.now)) }
-    ensures again { OnOk result ((bytes : Seq ℕ) → line_of bytes ≡ Ok (step_view step.now) → trees_have_form (step_view step.now) ≡ true → line_of (step_text (step_view step.now)) ≡ Ok (step_view step.now)) }
+    ensures back { OnOk result (trees_have_shape (step_view step.now) ≡ true → FitsLine (step_view step.now) → line_of (step_text (step_view step.now)) ≡ Ok (step_view step.now)) }
+    ensures again { IfOk result (λ t. (bytes : Seq ℕ) → line_of bytes ≡ Ok (step_view step.now) → IsReadBack t (step_view step.now)) }
 {
     match limits(step) {
         Err(fault) => Err(Or::Fault(fault)),

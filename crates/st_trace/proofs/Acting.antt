@@ -30,7 +30,7 @@ use Rattle.st_trace.specs.declared.state.WorldState.{WorldState}
 use Rattle.st_trace.specs.declared.world.World.{World}
 use Rattle.st_trace.proofs.Agreed.{delivered_keeps, edited_keeps}
 use Rattle.st_trace.proofs.Clients.{fresh_cells, fresh_nodes, shown_sound}
-use Rattle.st_trace.proofs.Everyone.{kept_of, all_get, kept_at, set_same}
+use Rattle.st_trace.proofs.Everyone.{all_get, clients_of, kept_at, kept_of, set_same}
 use Rattle.st_trace.proofs.Keeping.{AreOne, can_receive, one_delivered, one_edited}
 use Rattle.st_trace.proofs.Meanings.{meant_of}
 use Rattle.st_trace.proofs.Stepping.{sound_client, start_of}
@@ -55,7 +55,7 @@ goes_as c d c' g is = subst (GoesOn c) is g
 stays : (c : Client) → GoesOn c c
 stays c = record { session = refl; ids = omega arith }
 
-edited_on : (c c' : Client) (word : EditWord) (r : Result Intent EditFault) (a : Answer) → after_edit c word r ≡ (c', a) → GoesOn c c'
+pub edited_on : (c c' : Client) (word : EditWord) (r : Result Intent EditFault) (a : Answer) → after_edit c word r ≡ (c', a) → GoesOn c c'
 edited_on c c' word (Err f) a is = goes_as c c c' (stays c) (ap (λ (p : Client × Answer). p.0) is)
 edited_on c c' word (Ok N) a is = go (limit_passed c N) is
   where
@@ -81,7 +81,7 @@ sound_edited w i c c' k k' word edit a s at_c at_k done kept =
     sound_client w i c c' k' s at_c
     (one_edited h st log c c' k k' word r a one s.few_names (λ N e. let m = meant_of D w.header.schema (next_names c) edit N e in (fits N e, m.0, m.1)) done kept)
     on.session on.ids
-    (edited_keeps h st log w.lists.clients w.kept i c c' D word r a s.sessions s.kept at_c one.kept.shown (λ N e. record {
+    (edited_keeps h st log w.lists.clients i c c' D word r a s.sessions (clients_of h log w.lists.clients w.kept s.kept) at_c one.kept.shown (λ N e. record {
       itself = (fits N e).itself;
       rev = (meant_of D w.header.schema (next_names c) edit N e).0;
       agrees = λ home conforms tells. resolved_agrees w.header.schema home D (next_names c) N sound s.header.schema conforms nodes cells tells edit e;
@@ -137,7 +137,7 @@ next_edited h w i c q c' word f D a at_c at_q shown done =
 
 -- ## Deliveries
 
-delivered_on : (D : Document) (c c' : Client) (o : Option Entry) (a : Answer) → IsDeliveredTo D c o c' a → GoesOn c c'
+pub delivered_on : (D : Document) (c c' : Client) (o : Option Entry) (a : Answer) → IsDeliveredTo D c o c' a → GoesOn c c'
 delivered_on D c c' None a is = goes_as c c c' (stays c) (sym is.0)
 delivered_on D c c' (Some e) a is = goes_as c (with_received e c) c' (record { session = refl; ids = omega arith }) (sym is.2)
 
@@ -157,7 +157,7 @@ sound_delivered w i c c' k k' D a s at_c at_k done moved =
     let st = start_of w w.steps s in
     let on = delivered_on D c c' (slice_get w.lists.log c.received) a done in
     sound_client w i c c' k' s at_c (one_delivered h st w.lists.log c c' k k' D a (one_at w i c k s at_c at_k) s.few_names done moved) on.session on.ids
-    (delivered_keeps h st w.lists.log w.lists.clients w.kept i c c' D a s.kept s.few_names at_c done s.schema)
+    (delivered_keeps h st w.lists.log w.lists.clients i c c' D a (clients_of h w.lists.log w.lists.clients w.kept s.kept) s.few_names at_c done s.schema)
 
 delivery_refused : (D : Document) (c c' : Client) (k k' : Replica) (o : Option Entry) (a : Answer) → IsDeliveredTo D c o c' a → HasMoved c k o k' → AtRefusal a ((c' ≡ c) × (k' ≡ k))
 delivery_refused D c c' k k' None a done moved = subst (λ x. AtRefusal x ((c' ≡ c) × (k' ≡ k))) (sym done.1) (done.0, moved)

@@ -29,11 +29,10 @@ use Rattle.st_schema_laws.proofs.InTurn.{agree_front, agree_longer, agree_then_o
 use Rattle.st_schema_laws.proofs.Opened.{allowed_conforms}
 use Rattle.st_script.specs.Header.{HeaderView}
 use Rattle.st_script.specs.declared.answer.Answer.{Answer}
-use Rattle.st_trace.specs.Replicas.{AreReplicas, HaveSessionsFrom, IsClient, IsHeader, KeepToSchema, commits_by, intents_of, log_and_queue}
+use Rattle.st_trace.specs.Replicas.{HaveSessionsFrom, IsClient, IsHeader, KeepToSchema, commits_by, intents_of, log_and_queue}
 use Rattle.st_trace.specs.Log.{commit_of, commits_in, log_with}
 use Rattle.st_trace.specs.World.{HasShown, IsDeliveredTo, with_commit, after_edit, new_client, limit_passed, names_in, next_rev, opening_document, pending_after, with_pending, received_by, with_received}
 use Rattle.st_trace.specs.declared.client.EditWord.{EditWord}
-use Rattle.st_trace.specs.declared.replica.Replica.{Replica}
 use Rattle.st_trace.specs.declared.state.Body.{Body}
 use Rattle.st_trace.specs.declared.state.Body.TheVariants.{Join, Commit}
 use Rattle.st_trace.specs.declared.state.Client.{Client}
@@ -41,7 +40,7 @@ use Rattle.st_trace.specs.declared.state.Entry.{Entry}
 use Rattle.st_trace.specs.declared.state.Queued.{Queued}
 use Rattle.st_trace.proofs.Begun.{IsStart, opens_allowed}
 use Rattle.st_trace.proofs.Clients.{next_new, other_fit, own_first, received_more, shown_among, shown_new}
-use Rattle.st_trace.proofs.Everyone.{all_get, all_set, kept_some, session_at, set_same}
+use Rattle.st_trace.proofs.Everyone.{all_get, all_set, session_at, set_same}
 use Rattle.st_trace.proofs.Logs.{by_sublist, commits_split, entered_commits, entered_front, last_entry, no_commit, one_commit}
 use Rattle.st_lemmas.proofs.Lists.{AllByRecursion-append}
 
@@ -113,14 +112,14 @@ module _ (h : HeaderView) (st : IsStart (opening_document h)) where
           let same : c.pending ≡ pending_after e c = sym (rw is refl) in
           subst (Agree home) (ap (λ l. l ++ c.pending) (sym now) ∙ ap (λ l. commits_in (take (c.received + 1) log) ++ l) same) shown
 
-  pub delivered_keeps : (log : List Entry) (cs : List Client) (ks : List Replica) (i : ℕ) (c c' : Client) (D : Document) (a : Answer) → AreReplicas h log cs ks → names_in (commits_in log) ≤ 131072 → slice_get cs i ≡ Some c
+  pub delivered_keeps : (log : List Entry) (cs : List Client) (i : ℕ) (c c' : Client) (D : Document) (a : Answer) → AllByRecursion (IsClient h log) cs → names_in (commits_in log) ≤ 131072 → slice_get cs i ≡ Some c
       → IsDeliveredTo D c (slice_get log c.received) c' a → KeepToSchema h log cs → KeepToSchema h log (slice_set cs i c')
-  delivered_keeps log cs ks i c c' D a are few at is w = go (slice_get log c.received) refl is
+  delivered_keeps log cs i c c' D a are few at is w = go (slice_get log c.received) refl is
     where
       go : (o : Option Entry) → slice_get log c.received ≡ o → IsDeliveredTo D c o c' a → KeepToSchema h log (slice_set cs i c')
       go None e d = same_keeps log cs i c c' at (sym d.0) w
       go (Some x) e d =
-          let now = taken_shows w.0 log c x (kept_some h log cs ks i c are at) few e w.1.logged (all_get (Shown w.0 log) cs i c w.1.shown at) in
+          let now = taken_shows w.0 log c x (all_get (IsClient h log) cs i c are at) few e w.1.logged (all_get (Shown w.0 log) cs i c w.1.shown at) in
           (w.0, record { start = w.1.start; logged = w.1.logged; shown = all_set (Shown w.0 log) cs i c' w.1.shown (subst (Shown w.0 log) (sym d.2) now) })
 
   -- ## The log grows
@@ -128,10 +127,9 @@ module _ (h : HeaderView) (st : IsStart (opening_document h)) where
   entered_shows : (home : NodeId → Option FieldId) (log : List Entry) (session : ℕ) (body : Body) (c : Client) → c.received ≤ length log → Shown home log c → Shown home (log_with log session body) c
   entered_shows home log session body c within shown = subst (λ (es : List Entry). Agree home (commits_in es ++ c.pending)) (sym (entered_front log session body c.received within)) shown
 
-  all_entered : (home : NodeId → Option FieldId) (log : List Entry) (session : ℕ) (body : Body) (cs : List Client) (ks : List Replica) → AreReplicas h log cs ks → AllByRecursion (Shown home log) cs → AllByRecursion (Shown home (log_with log session body)) cs
-  all_entered home log session body [] ks are shown = tt
-  all_entered home log session body (c ∷ cs) [] are shown = absurd are
-  all_entered home log session body (c ∷ cs) (k ∷ ks) are shown = (entered_shows home log session body c are.0.within shown.0, all_entered home log session body cs ks are.2 shown.1)
+  all_entered : (home : NodeId → Option FieldId) (log : List Entry) (session : ℕ) (body : Body) (cs : List Client) → AllByRecursion (IsClient h log) cs → AllByRecursion (Shown home log) cs → AllByRecursion (Shown home (log_with log session body)) cs
+  all_entered home log session body [] are shown = tt
+  all_entered home log session body (c ∷ cs) are shown = (entered_shows home log session body c are.0.within shown.0, all_entered home log session body cs are.1 shown.1)
 
   -- the oldest text of a client comes after the commits of the log
   last_agrees : (home : NodeId → Option FieldId) (log : List Entry) (c : Client) (q : Queued) (rest : List Queued) → IsClient h log c → c.queue ≡ q ∷ rest → FitInTurn (opening_document h) (commits_in log ++ q.intent ∷ [])
@@ -148,24 +146,24 @@ module _ (h : HeaderView) (st : IsStart (opening_document h)) where
       agree_longer h.schema home (opening_document h) (A ++ B) (commits_in log) (N ∷ []) st.sound among (front ((A ++ B) ++ N ∷ []) R (opening_document h) (subst (FitInTurn (opening_document h)) all k.shown_fit)) last_fit logged
       (agree_front h.schema home ((A ++ B) ++ N ∷ []) R (opening_document h) (subst (Agree home) all shown))
 
-  pub sent_keeps : (log : List Entry) (cs : List Client) (ks : List Replica) (i : ℕ) (c c' : Client) (q : Queued) → AreReplicas h log cs ks → slice_get cs i ≡ Some c → c.queue ≡ q ∷ c'.queue → c' ≡ record c { queue = c'.queue }
+  pub sent_keeps : (log : List Entry) (cs : List Client) (i : ℕ) (c c' : Client) (q : Queued) → AllByRecursion (IsClient h log) cs → slice_get cs i ≡ Some c → c.queue ≡ q ∷ c'.queue → c' ≡ record c { queue = c'.queue }
       → FitInTurn (opening_document h) (commits_in log ++ q.intent ∷ []) → KeepToSchema h log cs → KeepToSchema h (log_with log c.session (Commit q.reference q.intent)) (slice_set cs i c')
-  sent_keeps log cs ks i c c' q are at is is_c last_fit w =
+  sent_keeps log cs i c c' q are at is is_c last_fit w =
       let body = Commit q.reference q.intent in
-      let k = kept_some h log cs ks i c are at in
+      let k = all_get (IsClient h log) cs i c are at in
       let mine = all_get (Shown w.0 log) cs i c w.1.shown at in (
         w.0,
         record {
           start = w.1.start;
           logged = subst (Agree w.0) (sym (entered_commits log c.session body)) (last_agrees w.0 log c q c'.queue k is last_fit w.1.logged mine);
-          shown = all_set (Shown w.0 (log_with log c.session body)) cs i c' (all_entered w.0 log c.session body cs ks are w.1.shown)
+          shown = all_set (Shown w.0 (log_with log c.session body)) cs i c' (all_entered w.0 log c.session body cs are w.1.shown)
               (subst (Shown w.0 (log_with log c.session body)) (sym is_c) (entered_shows w.0 log c.session body (record c { queue = c'.queue }) k.within mine));
         },
       )
 
-  pub joined_keeps : (log : List Entry) (cs : List Client) (ks : List Replica) (session : ℕ) (name : List ℕ) (c : Client) → AreReplicas h log cs ks → c ≡ new_client (length log + 1) session name
+  pub joined_keeps : (log : List Entry) (cs : List Client) (session : ℕ) (name : List ℕ) (c : Client) → AllByRecursion (IsClient h log) cs → c ≡ new_client (length log + 1) session name
       → KeepToSchema h log cs → KeepToSchema h (log_with log session Join) (cs ++ c ∷ [])
-  joined_keeps log cs ks session name c are is_c w =
+  joined_keeps log cs session name c are is_c w =
       let longer = log_with log session Join in
       let size : length longer ≡ length log + 1 = omega (arith, length-append log (last_entry log session Join ∷ [])) in
       let commits : commits_in log ≡ commits_in longer = sym (entered_commits log session Join ∙ append-nil (commits_in log)) in
@@ -175,7 +173,7 @@ module _ (h : HeaderView) (st : IsStart (opening_document h)) where
         record {
           start = w.1.start;
           logged = subst (Agree w.0) commits w.1.logged;
-          shown = AllByRecursion-append (Shown w.0 longer) cs (c ∷ []) (all_entered w.0 log session Join cs ks are w.1.shown) (subst (Shown w.0 longer) (sym is_c) (subst (Agree w.0) all w.1.logged), tt);
+          shown = AllByRecursion-append (Shown w.0 longer) cs (c ∷ []) (all_entered w.0 log session Join cs are w.1.shown) (subst (Shown w.0 longer) (sym is_c) (subst (Agree w.0) all w.1.logged), tt);
         },
       )
 
@@ -241,35 +239,33 @@ module _ (h : HeaderView) (st : IsStart (opening_document h)) where
     apart_before : (d : Client) (n : ℕ) → d.session ≡ n → n < c.session → (c.session == d.session) ≡ false
     apart_before d n e less = grind (arith, nat_tests)
 
-    later_told : (n : ℕ) (cs : List Client) (ks : List Replica) → HaveSessionsFrom n cs → c.session < n → AreReplicas h log cs ks → AllByRecursion (Shown home log) cs → AllByRecursion (Shown told log) cs
-    later_told n [] ks s less are shown = tt
-    later_told n (d ∷ cs) [] s less are shown = absurd are
-    later_told n (d ∷ cs) (x ∷ ks) s less are shown = (other_told d are.0 (apart_later d n s.0 less) shown.0, later_told (n + 1) cs ks s.1 (omega (arith, less)) are.2 shown.1)
+    later_told : (n : ℕ) (cs : List Client) → HaveSessionsFrom n cs → c.session < n → AllByRecursion (IsClient h log) cs → AllByRecursion (Shown home log) cs → AllByRecursion (Shown told log) cs
+    later_told n [] s less are shown = tt
+    later_told n (d ∷ cs) s less are shown = (other_told d are.0 (apart_later d n s.0 less) shown.0, later_told (n + 1) cs s.1 (omega (arith, less)) are.1 shown.1)
 
-    all_told : (n : ℕ) (cs : List Client) (ks : List Replica) (i : ℕ) → HaveSessionsFrom n cs → slice_get cs i ≡ Some c → AreReplicas h log cs ks → AllByRecursion (Shown home log) cs → (Shown home log c → Shown told log (with_commit c N))
+    all_told : (n : ℕ) (cs : List Client) (i : ℕ) → HaveSessionsFrom n cs → slice_get cs i ≡ Some c → AllByRecursion (IsClient h log) cs → AllByRecursion (Shown home log) cs → (Shown home log c → Shown told log (with_commit c N))
         → AllByRecursion (Shown told log) (slice_set cs i (with_commit c N))
-    all_told n [] ks i s at are shown own = tt
-    all_told n (d ∷ cs) [] i s at are shown own = absurd are
-    all_told n (d ∷ cs) (x ∷ ks) zero s at are shown own =
+    all_told n [] i s at are shown own = tt
+    all_told n (d ∷ cs) zero s at are shown own =
         let same : d ≡ c = cc in
         let here : c.session ≡ n = ap (λ (y : Client). y.session) (sym same) ∙ s.0 in
-        (own (subst (Shown home log) same shown.0), later_told (n + 1) cs ks s.1 (omega (arith, here)) are.2 shown.1)
-    all_told n (d ∷ cs) (x ∷ ks) (suc i) s at are shown own =
+        (own (subst (Shown home log) same shown.0), later_told (n + 1) cs s.1 (omega (arith, here)) are.1 shown.1)
+    all_told n (d ∷ cs) (suc i) s at are shown own =
         let far = session_at (n + 1) cs i c s.1 at in
-        (other_told d are.0 (apart_before d n s.0 (omega (arith, far))) shown.0, all_told (n + 1) cs ks i s.1 at are.2 shown.1 own)
+        (other_told d are.0 (apart_before d n s.0 (omega (arith, far))) shown.0, all_told (n + 1) cs i s.1 at are.1 shown.1 own)
 
-  pub edited_keeps : (log : List Entry) (cs : List Client) (ks : List Replica) (i : ℕ) (c c' : Client) (D : Document) (word : EditWord) (r : Result Intent EditFault) (a : Answer) → HaveSessionsFrom 1 cs → AreReplicas h log cs ks
+  pub edited_keeps : (log : List Entry) (cs : List Client) (i : ℕ) (c c' : Client) (D : Document) (word : EditWord) (r : Result Intent EditFault) (a : Answer) → HaveSessionsFrom 1 cs → AllByRecursion (IsClient h log) cs
       → slice_get cs i ≡ Some c → HasShown h log c D → ((N : Intent) → r ≡ Ok N → MeansWell h c D N) → after_edit c word r ≡ (c', a) → KeepToSchema h log cs → KeepToSchema h log (slice_set cs i c')
-  edited_keeps log cs ks i c c' D word (Err f) a sessions are at is_shown means is w = same_keeps log cs i c c' at (ap (λ (p : Client × Answer). p.0) is) w
-  edited_keeps log cs ks i c c' D word (Ok N) a sessions are at is_shown means is w = go (limit_passed c N) is
+  edited_keeps log cs i c c' D word (Err f) a sessions are at is_shown means is w = same_keeps log cs i c c' at (ap (λ (p : Client × Answer). p.0) is) w
+  edited_keeps log cs i c c' D word (Ok N) a sessions are at is_shown means is w = go (limit_passed c N) is
     where
       go : (o : Option Limit) → with_pending c word N o ≡ (c', a) → KeepToSchema h log (slice_set cs i c')
       go (Some l) is = same_keeps log cs i c c' at (ap (λ (p : Client × Answer). p.0) is) w
       go None is =
-          let k = kept_some h log cs ks i c are at in
+          let k = all_get (IsClient h log) cs i c are at in
           let m = means N refl in
           let home = w.0 in
-          let shown = all_told log c D N k is_shown m.itself m.rev home 1 cs ks i sessions at are w.1.shown (λ mine. mine_told log c D N k is_shown m.itself m.rev home w.1.start mine m.agrees) in
+          let shown = all_told log c D N k is_shown m.itself m.rev home 1 cs i sessions at are w.1.shown (λ mine. mine_told log c D N k is_shown m.itself m.rev home w.1.start mine m.agrees) in
           let same : with_commit c N ≡ c' = ap (λ (p : Client × Answer). p.0) is in
           subst (λ x. KeepToSchema h log (slice_set cs i x)) same (
             with_homes home N,

@@ -92,7 +92,7 @@ mutual
 -- ## The document of such a list
 
 -- what is said, an item says
-said_by : {A B : Type 0} (say : A → Option B) (xs : List A) → IsSome (first_said say xs) → (x : A) × Has xs x × IsSome (say x)
+pub said_by : {A B : Type 0} (say : A → Option B) (xs : List A) → IsSome (first_said say xs) → (x : A) × Has xs x × IsSome (say x)
 said_by say [] h = cc
 said_by {A} {B} say (x ∷ xs) h = go (say x) refl (λ k. said_by say xs k) h
   where
@@ -100,7 +100,7 @@ said_by {A} {B} say (x ∷ xs) h = go (say x) refl (λ k. said_by say xs k) h
     go None e rest h = let y = rest h in (y.0, inr y.1, y.2)
     go (Some b) e rest h = (x, inl refl, rw e refl)
 
-typed_name : (n : NodeId) (x : FlatNode) → IsSome (type_at n x) → x.node ≡ n
+pub typed_name : (n : NodeId) (x : FlatNode) → IsSome (type_at n x) → x.node ≡ n
 typed_name n x h = go (same_node x.node n) refl h
   where
     go : (b : Bool) → same_node x.node n ≡ b → IsSome {T = NodeType} (cond b (Some (record { ty = x.ty; leaf = x.leaf })) None) → x.node ≡ n

@@ -95,6 +95,11 @@ module _ (h : HeaderView) (log : List Entry) where
   kept_some (x ∷ cs) (y ∷ ks) zero c w p = let same : x ≡ c = cc in rw (← same) w.0
   kept_some (x ∷ cs) (y ∷ ks) (suc i) c w p = kept_some cs ks i c w.2 p
 
+  pub clients_of : (cs : List Client) (ks : List Replica) → AreReplicas h log cs ks → AllByRecursion (IsClient h log) cs
+  clients_of [] ks w = tt
+  clients_of (x ∷ cs) [] w = absurd w
+  clients_of (x ∷ cs) (y ∷ ks) w = (w.0, clients_of cs ks w.2)
+
   -- one client goes on, and the others stay
   pub kept_set : (cs : List Client) (ks : List Replica) (i : ℕ) (c : Client) (k : Replica) → AreReplicas h log cs ks → AreOne h log c k → AreReplicas h log (slice_set cs i c) (slice_set ks i k)
   kept_set [] [] i c k w one = tt

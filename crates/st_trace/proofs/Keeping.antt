@@ -61,7 +61,7 @@ module _ (h : HeaderView) (st : IsStart (opening_document h)) where
       }
 
   -- a commit that passes no limit
-  within_limits : (c : Client) (N : Intent) → limit_passed c N ≡ None → (length c.pending < 256) × (names_in c.pending + names_made N ≤ 16384)
+  pub within_limits : (c : Client) (N : Intent) → limit_passed c N ≡ None → (length c.pending < 256) × (names_in c.pending + names_made N ≤ 16384)
   within_limits c N e = go (nat_le 256 (length c.pending)) refl (nat_lt 16384 (names_in c.pending + names_made N)) refl e
     where
       go : (a : Bool) → nat_le 256 (length c.pending) ≡ a → (b : Bool) → nat_lt 16384 (names_in c.pending + names_made N) ≡ b

@@ -1,162 +1,305 @@
--- From each sound world each step leads on: there are a next world and an answer.
-use Rattle.std.proofs.Common.{◌≡◌, ℕ, zero, suc, ◌+◌, Bool, true, false, cond, List, [], ◌∷◌, Option, Some, None, IsSome, option_map, option_and_then, Result, refl, sym, subst, inl, inr}
-use Rattle.std.specs.BTreeMap.{get, is_at, keys}
-use Rattle.std.specs.List.{slice_get, slice_set}
-use Rattle.std.specs.Map.{keys_of, lookup}
+-- From lists of which holds what steps keep, each step leads on: there are next lists, of which the same holds, and an answer.
+use Rattle.std.proofs.Common.{◌≡◌, ℕ, zero, suc, ◌+◌, Bool, true, false, cond, nat_le, List, [], ◌∷◌, ◌++◌, length, map, Option, Some, None, IsSome, is_some, option_map, option_and_then, Result, Ok, refl, sym, ap, subst, ◌⊎◌, inl, inr}
+use Rattle.std.specs.List.{find, slice_get, slice_set}
+use Rattle.std.specs.Option.{option_map_or, option_or}
 use Rattle.serde_json.specs.Written.{compact_text}
 use Rattle.st_ids.specs.Listing.{Has}
-use Rattle.st_ids.specs.Order.{node_cmp, same_node}
+use Rattle.st_ids.specs.Order.{same_node}
+use Rattle.st_ids.specs.declared.names.FieldId.{FieldId}
+use Rattle.st_ids.specs.declared.names.Key.{Key}
+use Rattle.st_ids.specs.declared.names.Limit.{Limit}
+use Rattle.st_ids.specs.declared.names.LimitOf.TheVariants.{Clients, Log}
 use Rattle.st_ids.specs.declared.names.NodeId.{NodeId}
+use Rattle.st_ids.specs.declared.names.Place.{Place}
 use Rattle.st_ids.proofs.Orders.{same_node-true}
-use Rattle.st_tree.specs.Node.{nodes_of, first, no_nodes}
+use Rattle.st_tree.specs.Node.{Node, Nodes, nodes_of, first, no_nodes}
+use Rattle.st_tree.specs.Preorder.{opening_listed}
 use Rattle.st_tree.specs.declared.edit.EditFault.{EditFault}
+use Rattle.st_tree.specs.declared.flat.FlatNode.{FlatNode}
+use Rattle.st_schema.specs.Schema.{is_sound}
 use Rattle.st_marks.specs.declared.changes.NewNode.{NewNode}
 use Rattle.st_marks.specs.declared.intents.Intent.{Intent}
 use Rattle.st_marks.specs.declared.verdicts.Verdict.{Verdict}
-use Rattle.st_marks.specs.Document.{Document, IsSoundInForm}
+use Rattle.st_marks.specs.Document.{Document, IsSoundInForm, NodeType}
 use Rattle.st_ids.specs.Root.{root}
+use Rattle.st_marks.specs.CarryOut.{full, void, void_data}
+use Rattle.st_marks.specs.Intent.{Fits, new_node, new_type}
 use Rattle.st_marks.specs.LiveTree.{IsTreeText}
+use Rattle.st_marks.specs.Run.{Run, done, next}
+use Rattle.st_marks.specs.Verdict.{IsVerdict, carried}
+use Rattle.st_marks.proofs.Members.{append_left, append_right}
+use Rattle.st_opening.specs.Start.{first_said, type_at}
+use Rattle.st_log_laws.proofs.Turns.{has_run}
 use Rattle.st_log_laws.proofs.Verdicts.{has_verdict}
-use Rattle.st_doc.specs.Doc.{document_of}
-use Rattle.st_doc.specs.Nodes.{type_of}
-use Rattle.st_doc.specs.declared.doc.Doc.{Doc}
+use Rattle.st_schema_laws.specs.Agreeing.{KeepsSchema, TellsHomes}
+use Rattle.st_schema_laws.specs.Conforming.{IsConforming}
+use Rattle.st_schema_laws.proofs.NewTrees.{insert_agrees, put_agrees}
+use Rattle.st_schema_laws.proofs.Simple.{clear_agrees, move_agrees, remove_agrees}
 use Rattle.st_doc.proofs.Trees.{node_shows}
 use Rattle.st_edits.specs.ArrayTypes.{is_array_type}
 use Rattle.st_edits.specs.Resolve.{insert, remove, move, put, clear}
-use Rattle.st_script.specs.Header.{header_view}
+use Rattle.st_edits.proofs.Fits.{clear_fits, remove_fits}
+use Rattle.st_edits.proofs.MoveFits.{CellsFresh, move_fits}
+use Rattle.st_edits.proofs.NewFits.{NodesFresh, insert_fits, put_fits}
+use Rattle.st_script.specs.Header.{HeaderView, header_view}
 use Rattle.st_script.specs.Steps.{StepView, branch_of, name_of}
 use Rattle.st_script.specs.Steps as step
 use Rattle.st_script.specs.declared.answer.Answer.{Answer}
-use Rattle.st_script.specs.declared.answer.Answer.TheVariants.{Deliver, No, Show}
-use Rattle.st_script.specs.declared.refusal.Refusal.TheVariants.{NoBranch, NoClient, NothingNew}
-use Rattle.st_trace.specs.Replicas.{IsSound}
-use Rattle.st_trace.specs.Log.{commit_of}
-use Rattle.st_trace.specs.World.{AtClient, IsDelivered, IsDeliveredTo, IsEdited, IsNext, IsNextOf, IsShown, IsVerdictOf, OnBranch, after_edit, client_named, next_names, join, place_of, sequence, with_received, with_client}
+use Rattle.st_script.specs.declared.answer.Answer.TheVariants.{Deliver, Join as Joins, No, Show}
+use Rattle.st_script.specs.declared.refusal.Refusal.TheVariants.{NoBranch, NoClient, NothingNew, NothingToSend, Taken}
+use Rattle.st_trace.specs.Replicas.{IsClient, IsSound}
+use Rattle.st_trace.specs.Log.{commit_of, commits_in, log_with}
+use Rattle.st_trace.specs.World.{AtClient, HasReceived, HasShown, IsDelivered, IsDeliveredTo, IsEdited, IsNext, IsNextOf, IsShown, IsVerdictOf, OnBranch, after_edit, entering, client_named, next_names, join, new_client, log_limit_passed, names_made, next_rev, opening_document, limit_refusal, place_of, received_by, sequence, with_received, with_client}
 use Rattle.st_trace.specs.declared.client.EditWord.{EditWord}
-use Rattle.st_trace.specs.declared.replica.Replica.{Replica}
+use Rattle.st_trace.specs.declared.state.Body.TheVariants.{Join}
 use Rattle.st_trace.specs.declared.state.Client.{Client}
 use Rattle.st_trace.specs.declared.state.Entry.{Entry}
 use Rattle.st_trace.specs.declared.state.WorldState.{WorldState}
+use Rattle.st_trace.specs.declared.state.Queued.{Queued}
 use Rattle.st_trace.specs.declared.world.World.{World}
-use Rattle.st_trace.proofs.Acting.{one_at}
-use Rattle.st_trace.proofs.Clients.{received_sound, shown_sound}
-use Rattle.st_trace.proofs.Everyone.{kept_none}
-use Rattle.st_trace.proofs.Keeping.{AreOne}
-use Rattle.st_trace.proofs.Stepping.{start_of}
+use Rattle.st_trace.proofs.Acting.{delivered_on, edited_on}
+use Rattle.st_trace.proofs.Agreed.{delivered_keeps, edited_keeps}
+use Rattle.st_trace.proofs.Begun.{opened_start, typed_name}
+use Rattle.st_trace.proofs.Clients.{fresh_cells, fresh_nodes, received_fit, received_sound, shown_sound}
+use Rattle.st_trace.proofs.Everyone.{all_get}
+use Rattle.st_trace.proofs.Going.{AreSound, client_delivered, client_edited, joined_sound, lists_sound, sent_sound, set_sound}
+use Rattle.st_trace.proofs.Meanings.{clear_of, insert_of, move_of, put_of, remove_of}
+use Rattle.st_trace.proofs.Stepping.{within_log}
 
--- ## The tree of a kept document
+-- ## The nodes of a document can be listed
 
--- what is found has a key that passes
-found_key : {K X : Type 0} (test : K → Bool) (es : List (K × X)) → IsSome (lookup test es) → (k : K) × Has (keys_of es) k × (test k ≡ true)
-found_key test [] h = cc
-found_key {K} {X} test (e ∷ es) h = go (test e.0) refl h (λ i. found_key test es i)
+abbrev Lists-all : Document → List NodeId → Type 0
+Lists-all D ns = (n : NodeId) → IsSome (D.nodes n) → Has ns n
+
+said_node : (xs : List FlatNode) (n : NodeId) → IsSome (first_said (type_at n) xs) → Has (map (λ (x : FlatNode). x.node) xs) n
+said_node [] n h = cc
+said_node (x ∷ xs) n h = go (type_at n x) refl (λ i. said_node xs n i) h
   where
-    go : (b : Bool) → test e.0 ≡ b → IsSome (cond b (Some e.1) (lookup test es)) → (IsSome (lookup test es) → (k : K) × Has (keys_of es) k × (test k ≡ true))
-        → (k : K) × Has (keys_of (e ∷ es)) k × (test k ≡ true)
-    go true p h rest = (e.0, inl refl, p)
-    go false p h rest = let r = rest h in (r.0, inr r.1, r.2)
+    go : (o : Option NodeType) → type_at n x ≡ o → (IsSome (first_said (type_at n) xs) → Has (map (λ (y : FlatNode). y.node) xs) n) → IsSome (option_or o (first_said (type_at n) xs))
+        → Has (map (λ (y : FlatNode). y.node) (x ∷ xs)) n
+    go None e rest i = inr (rest i)
+    go (Some t) e rest i = inl (typed_name n x (rw e refl))
 
-is_key : (n k : NodeId) → is_at (node_cmp n) k ≡ true → n ≡ k
-unfolding same_node
-is_key n k e = same_node-true n k e
-
--- the nodes of a kept document are in the list of its map's keys
-all_listed : (d : Doc) (n : NodeId) → IsSome ((document_of d).nodes n) → Has (keys d.nodes) n
-all_listed d n h =
-    let r = found_key (is_at (node_cmp n)) d.nodes.entries (there (get node_cmp d.nodes n) h) in
-    subst (Has (keys d.nodes)) (sym (is_key n r.0 r.2)) r.1
+new_among : (n : NodeId) (ms : List NewNode) → IsSome (find (λ (m : NewNode). same_node m.node n) ms) → Has (map (λ (m : NewNode). m.node) ms) n
+new_among n [] h = cc
+new_among n (m ∷ ms) h = go (same_node m.node n) refl (λ i. new_among n ms i) h
   where
-    there : (o : Option NewNode) → IsSome (type_of o) → IsSome o
+    go : (b : Bool) → same_node m.node n ≡ b → (IsSome (find (λ (x : NewNode). same_node x.node n) ms) → Has (map (λ (x : NewNode). x.node) ms) n)
+        → IsSome {T = NewNode} (cond b (Some m) (find (λ (x : NewNode). same_node x.node n) ms)) → Has (map (λ (x : NewNode). x.node) (m ∷ ms)) n
+    go true e rest i = inl (same_node-true m.node n e)
+    go false e rest i = inr (rest i)
+
+new_listed : (N : Intent) (n : NodeId) → IsSome (new_type N n) → Has (map (λ (m : NewNode). m.node) N.new) n
+new_listed N n h = new_among n N.new (there (new_node N n) h)
+  where
+    there : (o : Option NewNode) → IsSome {T = NodeType} (option_map (λ (m : NewNode). record { ty = m.ty; leaf = m.leaf }) o) → IsSome o
     there None h = h
     there (Some m) h = h
 
-has_text : (is_array : List ℕ → Bool) (d : Doc) → IsSoundInForm (document_of d) → (text : List ℕ) × IsTreeText is_array (document_of d) text
-has_text is_array d sound =
-    let t = node_shows is_array (document_of d) sound (keys d.nodes) (λ n there. all_listed d n there) root sound.root_known in
+-- a node is an old one or one that the commit makes
+one_of : (o p : Option NodeType) → IsSome (option_or o p) → IsSome o ⊎ IsSome p
+one_of None p h = inr h
+one_of (Some t) p h = inl h
+
+void_nodes : (D : Document) (N : Intent) (n : NodeId) → IsSome ((void D N).nodes n) → IsSome (D.nodes n) ⊎ IsSome (new_type N n)
+void_nodes D N n h = go N.schema h
+  where
+    go : (o : Option (List ℕ)) → IsSome ((option_map_or (λ _. D) o (void_data D N)).nodes n) → IsSome (D.nodes n) ⊎ IsSome (new_type N n)
+    go None h = one_of (D.nodes n) (new_type N n) h
+    go (Some t) h = inl h
+
+carried_nodes : (v : Verdict) (D : Document) (N : Intent) (n : NodeId) → IsSome ((carried v D N).nodes n) → IsSome (D.nodes n) ⊎ IsSome (new_type N n)
+carried_nodes Verdict.Sound D N n h = one_of (D.nodes n) (new_type N n) h
+carried_nodes (Verdict.Need m) D N n h = void_nodes D N n h
+carried_nodes (Verdict.Cycle m) D N n h = void_nodes D N n h
+carried_nodes (Verdict.Schema u) D N n h = void_nodes D N n h
+
+run_listed : {Ns : List Intent} {D E : Document} → Run D Ns E → (ns : List NodeId) → Lists-all D ns → (ms : List NodeId) × Lists-all E ms
+run_listed done ns all = (ns, all)
+run_listed (next {D} {N = N} v is rest) ns all =
+    let new = map (λ (m : NewNode). m.node) N.new in
+    run_listed rest (ns ++ new) (λ n h. either n (carried_nodes v D N n h))
+  where
+    either : (n : NodeId) → IsSome (D.nodes n) ⊎ IsSome (new_type N n) → Has (ns ++ map (λ (m : NewNode). m.node) N.new) n
+    either n (inl h) = append_left ns (map (λ (m : NewNode). m.node) N.new) n (all n h)
+    either n (inr h) = append_right ns (map (λ (m : NewNode). m.node) N.new) n (new_listed N n h)
+
+has_text : (is_array : List ℕ → Bool) (h : HeaderView) (Ns : List Intent) (D : Document) → Run (opening_document h) Ns D → IsSoundInForm D → (text : List ℕ) × IsTreeText is_array D text
+has_text is_array h Ns D run sound =
+    let xs = opening_listed h.tree in
+    let known = run_listed run (map (λ (x : FlatNode). x.node) xs) (λ n there. said_node xs n there) in
+    let t = node_shows is_array D sound known.0 known.1 root sound.root_known in
     (compact_text t.0, (t.0, t.1, refl))
+
+-- ## Edits
+
+-- what an edit means fits the document and agrees with the schema
+abbrev MeansWell : HeaderView → Client → Document → Result Intent EditFault → Type 0
+MeansWell h c D r = (N : Intent) → r ≡ Ok N
+    → Fits D N × (N.rev ≡ next_rev c) × (N.schema ≡ None) × ((home : NodeId → Option FieldId) → IsConforming h.schema home D → TellsHomes home N → KeepsSchema h.schema home D N)
+
+module _ (h : HeaderView) (c : Client) (schema : is_sound h.schema ≡ true) (D : Document) (sound : IsSoundInForm D) (nodes : NodesFresh D (next_names c)) (cells : CellsFresh D (next_names c)) where
+  insert_means : (at : List Place) (key : Key) (index : ℕ) (trees : Nodes) → MeansWell h c D (insert D h.schema (next_names c) at key index trees)
+  insert_means at key index trees N e =
+      let m = insert_of D h.schema (next_names c) at key index trees N e in
+      (insert_fits D h.schema (next_names c) at key index trees N sound nodes cells e, m.0, m.1, λ home here tells. insert_agrees h.schema home D (next_names c) at key index trees N sound schema nodes cells tells e)
+
+  remove_means : (at : List Place) (key : Key) (index count : ℕ) → MeansWell h c D (remove D h.schema (next_names c) at key index count)
+  remove_means at key index count N e =
+      let m = remove_of D h.schema (next_names c) at key index count N e in
+      (remove_fits D h.schema (next_names c) at key index count N sound e, m.0, m.1, λ home here tells. remove_agrees h.schema home D (next_names c) at key index count N sound here e)
+
+  move_means : (at : List Place) (key : Key) (index count : ℕ) (to : List Place) (to_key : Key) (to_index : ℕ) → MeansWell h c D (move D h.schema (next_names c) at key index count to to_key to_index)
+  move_means at key index count to to_key to_index N e =
+      let m = move_of D h.schema (next_names c) at key index count to to_key to_index N e in (
+        move_fits D h.schema (next_names c) at key index count to to_key to_index N sound schema cells e,
+        m.0,
+        m.1,
+        λ home here tells. move_agrees h.schema home D (next_names c) at key index count to to_key to_index N sound schema here cells e,
+      )
+
+  put_means : (at : List Place) (key : Key) (t : Node) → MeansWell h c D (put D h.schema (next_names c) at key (first t no_nodes))
+  put_means at key t N e =
+      let m = put_of D h.schema (next_names c) at key (first t no_nodes) N e in
+      (put_fits D h.schema (next_names c) at key t N sound schema nodes cells e, m.0, m.1, λ home here tells. put_agrees h.schema home D (next_names c) at key t N sound schema nodes cells tells e)
+
+  clear_means : (at : List Place) (key : Key) → MeansWell h c D (clear D h.schema (next_names c) at key)
+  clear_means at key N e =
+      let m = clear_of D h.schema (next_names c) at key N e in
+      (clear_fits D h.schema (next_names c) at key N sound schema e, m.0, m.1, λ home here tells. clear_agrees h.schema home D (next_names c) at key N e)
+
+-- whatever it is resolved in
+abbrev MeansAlways : HeaderView → Client → (Document → Result Intent EditFault) → Type 0
+MeansAlways h c meant = (D : Document) → IsSoundInForm D → NodesFresh D (next_names c) → CellsFresh D (next_names c) → MeansWell h c D (meant D)
 
 -- ## The steps of a client that is there
 
--- something is kept of it
-kept_there : (w : World) (i : ℕ) (c : Client) → IsSound w → slice_get w.lists.clients i ≡ Some c → (k : Replica) × AreOne (header_view w.header) w.lists.log c k
-kept_there w i c s at = go (slice_get w.kept i) refl
-  where
-    go : (o : Option Replica) → slice_get w.kept i ≡ o → (k : Replica) × AreOne (header_view w.header) w.lists.log c k
-    go None e = absurd (kept_none (header_view w.header) w.lists.log w.lists.clients w.kept i c s.kept at e)
-    go (Some k) e = (k, one_at w i c k s at e)
+module _ (h : HeaderView) (w : WorldState) (s : AreSound h w) where
+  -- next lists, an answer, and that the same holds
+  abbrev Leads : (WorldState → Answer → Type 0) → Type 0
+  Leads is_next = (v : WorldState) × (a : Answer) × is_next v a × AreSound h v
 
-has_edited : (w : World) (i : ℕ) (c : Client) (word : EditWord) (meant : Document → Result Intent EditFault) → IsSound w → slice_get w.lists.clients i ≡ Some c
-    → (v : WorldState) × (a : Answer) × IsEdited (header_view w.header) w.lists i c word meant v a
-has_edited w i c word meant s at =
-    let k = kept_there w i c s at in
-    let p = with_client w.lists i (after_edit c word (meant (document_of k.0.shown))) in
-    (p.0, p.1, (document_of k.0.shown, k.1.kept.shown, refl))
+  abbrev stays : (a : Answer) → Leads (λ v b. (v ≡ w) × (b ≡ a))
+  stays a = (w, a, (refl, refl), s)
 
-verdict_of : (D : Document) (o : Option Intent) → IsSoundInForm D → (v : Verdict) × IsVerdictOf D o v
-verdict_of D None s = (Verdict.Sound, refl)
-verdict_of D (Some N) s = has_verdict D N s
+  module _ (i : ℕ) (c : Client) (at : slice_get w.clients i ≡ Some c) where
+    client : IsClient h w.log c
+    client = all_get (IsClient h w.log) w.clients i c s.clients at
 
-has_delivery : (D : Document) (c : Client) (o : Option Entry) → IsSoundInForm D → (d : Client) × (a : Answer) × IsDeliveredTo D c o d a
-has_delivery D c None s = (c, No NothingNew, (refl, refl))
-has_delivery D c (Some e) s = let v = verdict_of D (commit_of e) s in (with_received e c, Deliver (c.received + 1) v.0, (v.0, v.1, refl, refl))
+    shown : (D : Document) × HasShown h w.log c D
+    shown = has_run (received_by w.log c ++ c.pending) (opening_document h) (opened_start h s.header).sound client.shown_fit
 
-has_delivered : (w : World) (i : ℕ) (c : Client) → IsSound w → slice_get w.lists.clients i ≡ Some c → (v : WorldState) × (a : Answer) × IsDelivered (header_view w.header) w.lists i c v a
-has_delivered w i c s at =
-    let k = kept_there w i c s at in
-    let D = document_of k.0.received in
-    let r = has_delivery D c (slice_get w.lists.log c.received) (received_sound (header_view w.header) (start_of w w.steps s) w.lists.log c D k.1.client k.1.kept.received) in
-    (record w.lists { clients = slice_set w.lists.clients i r.0 }, r.1, (D, r.0, k.1.kept.received, r.2, refl))
+    received : (D : Document) × HasReceived h w.log c D
+    received = has_run (received_by w.log c) (opening_document h) (opened_start h s.header).sound (received_fit h (opened_start h s.header) w.log c client)
 
-has_shown : (w : World) (i : ℕ) (c : Client) → IsSound w → slice_get w.lists.clients i ≡ Some c → (a : Answer) × IsShown (header_view w.header) w.lists c a
-has_shown w i c s at =
-    let k = kept_there w i c s at in
-    let D = document_of k.0.shown in
-    let t = has_text (is_array_type (header_view w.header).schema) k.0.shown (shown_sound (header_view w.header) (start_of w w.steps s) w.lists.log c D k.1.client k.1.kept.shown) in
-    (Show t.0, (D, t.0, k.1.kept.shown, t.1, refl))
+    has_edited : (word : EditWord) (meant : Document → Result Intent EditFault) → MeansAlways h c meant → Leads (IsEdited h w i c word meant)
+    has_edited word meant means =
+        let st = opened_start h s.header in
+        let D = shown.0 in
+        let m : MeansWell h c D (meant D) = means D (shown_sound h st w.log c D client shown.1) (λ j low. fresh_nodes h st w.log c D client shown.1 j) (λ j low. fresh_cells h st w.log c D client shown.1 j) in
+        let p = after_edit c word (meant D) in
+        let q = with_client w i p in (
+          q.0,
+          q.1,
+          (D, shown.1, refl),
+          set_sound h w i c p.0 s at (client_edited h st w.log c p.0 D word (meant D) p.1 client s.few_names shown.1 (λ N e. let f = m N e in (f.0, f.1, f.2)) refl) (edited_on c p.0 word (meant D) p.1 refl).session
+              (edited_keeps h st w.log w.clients i c p.0 D word (meant D) p.1 s.sessions s.clients at shown.1 (λ N e. let f = m N e in record { itself = f.0.itself; rev = f.1; agrees = f.3 }) refl s.schema),
+        )
 
-abbrev HasNextOf : World → StepView → ℕ → Client → Type 0
-HasNextOf w s i c = (v : WorldState) × (a : Answer) × IsNextOf (header_view w.header) w.lists s i c v a
+    verdict_of : (D : Document) (o : Option Intent) → IsSoundInForm D → (v : Verdict) × IsVerdictOf D o v
+    verdict_of D None sound = (Verdict.Sound, refl)
+    verdict_of D (Some N) sound = has_verdict D N sound
 
-has_next_of : (w : World) (s : StepView) (i : ℕ) (c : Client) → IsSound w → slice_get w.lists.clients i ≡ Some c → HasNextOf w s i c
-has_next_of w (step.join name) i c s at = let p = join w.lists name in (p.0, p.1, refl)
-has_next_of w (step.insert name branch path key index items) i c s at = has_edited w i c EditWord.Insert (λ D. insert D (header_view w.header).schema (next_names c) path key index (nodes_of items)) s at
-has_next_of w (step.remove name branch path key index count) i c s at = has_edited w i c EditWord.Remove (λ D. remove D (header_view w.header).schema (next_names c) path key index count) s at
-has_next_of w (step.move name branch path key index count to to_key to_index) i c s at =
-    has_edited w i c EditWord.Move (λ D. move D (header_view w.header).schema (next_names c) path key index count to to_key to_index) s at
-has_next_of w (step.set name branch path key item) i c s at = has_edited w i c EditWord.Set (λ D. put D (header_view w.header).schema (next_names c) path key (first item no_nodes)) s at
-has_next_of w (step.clear name branch path key) i c s at = has_edited w i c EditWord.Clear (λ D. clear D (header_view w.header).schema (next_names c) path key) s at
-has_next_of w (step.sequence name) i c s at = let p = sequence w.lists i c c.queue in (p.0, p.1, refl)
-has_next_of w (step.deliver name) i c s at = has_delivered w i c s at
-has_next_of w (step.show name branch) i c s at = let r = has_shown w i c s at in (w.lists, r.0, (refl, r.1))
+    has_delivery : (D : Document) (o : Option Entry) → IsSoundInForm D → (d : Client) × (a : Answer) × IsDeliveredTo D c o d a
+    has_delivery D None sound = (c, No NothingNew, (refl, refl))
+    has_delivery D (Some e) sound = let v = verdict_of D (commit_of e) sound in (with_received e c, Deliver (c.received + 1) v.0, (v.0, v.1, refl, refl))
 
--- ## Steps
+    has_delivered : Leads (IsDelivered h w i c)
+    has_delivered =
+        let st = opened_start h s.header in
+        let D = received.0 in
+        let r = has_delivery D (slice_get w.log c.received) (received_sound h st w.log c D client received.1) in (
+          record w { clients = slice_set w.clients i r.0 },
+          r.1,
+          (D, r.0, received.1, r.2, refl),
+          set_sound h w i c r.0 s at (client_delivered h st w.log c r.0 D r.1 client s.few_names r.2) (delivered_on D c r.0 (slice_get w.log c.received) r.1 r.2).session
+              (delivered_keeps h st w.log w.clients i c r.0 D r.1 s.clients s.few_names at r.2 s.schema),
+        )
 
--- of the client at a place, if one is there
-abbrev HasNextAt : World → StepView → Option (ℕ × Client) → Type 0
-HasNextAt w s o = (v : WorldState) × (a : Answer) × AtClient (header_view w.header) w.lists s o v a
+    has_sent : (qs : List Queued) → c.queue ≡ qs → Leads (λ v a. sequence w i c qs ≡ (v, a))
+    has_sent [] is = (w, No NothingToSend, refl, s)
+    has_sent (q ∷ rest) is = go (log_limit_passed w.log (names_made q.intent)) refl
+      where
+        go : (o : Option Limit) → log_limit_passed w.log (names_made q.intent) ≡ o → Leads (λ v a. entering w i c q rest o ≡ (v, a))
+        go (Some l) e = (w, limit_refusal l, refl, s)
+        go None e = let p = entering w i c q rest None in (p.0, p.1, refl, sent_sound h w i c q rest s at is (within_log w.log (names_made q.intent) e).1)
 
-has_next_at : (w : World) (s : StepView) → IsSound w → HasNextAt w s (client_named (name_of s) w.lists.clients)
-has_next_at w s sound = place (place_of (name_of s) w.lists.clients)
-  where
-    on : (branch i : ℕ) (c : Client) → HasNextOf w s i c → (v : WorldState) × (a : Answer) × OnBranch branch w.lists v a (IsNextOf (header_view w.header) w.lists s i c v a)
-    on zero i c next = next
-    on (suc k) i c next = (w.lists, No NoBranch, (refl, refl))
+    has_shown : (a : Answer) × IsShown h w c a
+    has_shown =
+        let D = shown.0 in
+        let t = has_text (is_array_type h.schema) h (received_by w.log c ++ c.pending) D shown.1 (shown_sound h (opened_start h s.header) w.log c D client shown.1) in
+        (Show t.0, (D, t.0, shown.1, t.1, refl))
 
-    client : (i : ℕ) (o : Option Client) → slice_get w.lists.clients i ≡ o → HasNextAt w s (option_map (λ c. (i, c)) o)
-    client i None at = (w.lists, No NoClient, (refl, refl))
-    client i (Some c) at = on (branch_of s) i c (has_next_of w s i c sound at)
+  has_joined : (name : List ℕ) → Leads (λ v a. join w name ≡ (v, a))
+  has_joined name = go (is_some (place_of name w.clients)) (nat_le 64 (length w.clients)) (nat_le 65535 (length w.log))
+    where
+      longer : WorldState × Answer
+      longer = (
+        record w { log = log_with w.log (length w.clients + 1) Join; clients = w.clients ++ new_client (length w.log + 1) (length w.clients + 1) name ∷ [] },
+        Joins (length w.log + 1) (length w.clients + 1),
+      )
 
-    place : (o : Option ℕ) → HasNextAt w s (option_and_then (λ i. option_map (λ c. (i, c)) (slice_get w.lists.clients i)) o)
-    place None = (w.lists, No NoClient, (refl, refl))
-    place (Some i) = client i (slice_get w.lists.clients i) refl
+      go : (a b c : Bool) → Leads (λ v x. cond a (w, No Taken) (cond b (w, limit_refusal (record { of = Clients; kept = length w.clients })) (cond c (w, limit_refusal (record { of = Log; kept = length w.log })) longer)) ≡ (v, x))
+      go true b c = (w, No Taken, refl, s)
+      go false true c = (w, limit_refusal (record { of = Clients; kept = length w.clients }), refl, s)
+      go false false true = (w, limit_refusal (record { of = Log; kept = length w.log }), refl, s)
+      go false false false = (longer.0, longer.1, refl, joined_sound h w name s)
+
+  has_next_of : (x : StepView) (i : ℕ) (c : Client) → slice_get w.clients i ≡ Some c → Leads (IsNextOf h w x i c)
+  has_next_of (step.join name) i c at = has_joined name
+  has_next_of (step.insert name branch path key index items) i c at =
+      has_edited i c at EditWord.Insert (λ D. insert D h.schema (next_names c) path key index (nodes_of items)) (λ D sound nodes cells. insert_means h c s.header.schema D sound nodes cells path key index (nodes_of items))
+  has_next_of (step.remove name branch path key index count) i c at =
+      has_edited i c at EditWord.Remove (λ D. remove D h.schema (next_names c) path key index count) (λ D sound nodes cells. remove_means h c s.header.schema D sound nodes cells path key index count)
+  has_next_of (step.move name branch path key index count to to_key to_index) i c at =
+      has_edited i c at EditWord.Move (λ D. move D h.schema (next_names c) path key index count to to_key to_index)
+      (λ D sound nodes cells. move_means h c s.header.schema D sound nodes cells path key index count to to_key to_index)
+  has_next_of (step.set name branch path key item) i c at =
+      has_edited i c at EditWord.Set (λ D. put D h.schema (next_names c) path key (first item no_nodes)) (λ D sound nodes cells. put_means h c s.header.schema D sound nodes cells path key item)
+  has_next_of (step.clear name branch path key) i c at =
+      has_edited i c at EditWord.Clear (λ D. clear D h.schema (next_names c) path key) (λ D sound nodes cells. clear_means h c s.header.schema D sound nodes cells path key)
+  has_next_of (step.sequence name) i c at = has_sent i c at c.queue refl
+  has_next_of (step.deliver name) i c at = has_delivered i c at
+  has_next_of (step.show name branch) i c at = let r = has_shown i c at in (w, r.0, (refl, r.1), s)
+
+  -- ## Steps
+
+  -- of the client at a place, if one is there
+  has_next_at : (x : StepView) → Leads (AtClient h w x (client_named (name_of x) w.clients))
+  has_next_at x = place (place_of (name_of x) w.clients)
+    where
+      on : (branch i : ℕ) (c : Client) → Leads (IsNextOf h w x i c) → Leads (λ v a. OnBranch branch w v a (IsNextOf h w x i c v a))
+      on zero i c onward = onward
+      on (suc k) i c onward = stays (No NoBranch)
+
+      client_at : (i : ℕ) (o : Option Client) → slice_get w.clients i ≡ o → Leads (AtClient h w x (option_map (λ c. (i, c)) o))
+      client_at i None at = stays (No NoClient)
+      client_at i (Some c) at = on (branch_of x) i c (has_next_of x i c at)
+
+      place : (o : Option ℕ) → Leads (AtClient h w x (option_and_then (λ i. option_map (λ c. (i, c)) (slice_get w.clients i)) o))
+      place None = stays (No NoClient)
+      place (Some i) = client_at i (slice_get w.clients i) refl
+
+  pub leads_on : (x : StepView) → Leads (IsNext h w x)
+  leads_on (step.join name) = has_joined name
+  leads_on (step.insert name branch path key index items) = has_next_at (step.insert name branch path key index items)
+  leads_on (step.remove name branch path key index count) = has_next_at (step.remove name branch path key index count)
+  leads_on (step.move name branch path key index count to to_key to_index) = has_next_at (step.move name branch path key index count to to_key to_index)
+  leads_on (step.set name branch path key item) = has_next_at (step.set name branch path key item)
+  leads_on (step.clear name branch path key) = has_next_at (step.clear name branch path key)
+  leads_on (step.sequence name) = has_next_at (step.sequence name)
+  leads_on (step.deliver name) = has_next_at (step.deliver name)
+  leads_on (step.show name branch) = has_next_at (step.show name branch)
 
 pub has_next : (w : World) (s : StepView) → IsSound w → (v : WorldState) × (a : Answer) × IsNext (header_view w.header) w.lists s v a
-has_next w (step.join name) sound = let p = join w.lists name in (p.0, p.1, refl)
-has_next w (step.insert name branch path key index items) sound = has_next_at w (step.insert name branch path key index items) sound
-has_next w (step.remove name branch path key index count) sound = has_next_at w (step.remove name branch path key index count) sound
-has_next w (step.move name branch path key index count to to_key to_index) sound = has_next_at w (step.move name branch path key index count to to_key to_index) sound
-has_next w (step.set name branch path key item) sound = has_next_at w (step.set name branch path key item) sound
-has_next w (step.clear name branch path key) sound = has_next_at w (step.clear name branch path key) sound
-has_next w (step.sequence name) sound = has_next_at w (step.sequence name) sound
-has_next w (step.deliver name) sound = has_next_at w (step.deliver name) sound
-has_next w (step.show name branch) sound = has_next_at w (step.show name branch) sound
+has_next w s sound = let r = leads_on (header_view w.header) w.lists (lists_sound w sound) s in (r.0, r.1, r.2)

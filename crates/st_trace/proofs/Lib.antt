@@ -13,4 +13,5 @@ pub mod Acting
 pub mod Showing
 pub mod Choosing
 pub mod Arrays
+pub mod Going
 pub mod Leading

@@ -19,7 +19,7 @@ use Rattle.st_edits.specs.Paths.{and_then, field_at, row_length}
 use Rattle.st_edits.specs.Resolve.{allowed_nodes, require, clear, insert, inserted, may_move, move, intent_to_move, need, empty_intent, intent_to_place, put, remove, intent_to_remove, resolve, rule_for, nodes_taken, walk, within_row}
 use Rattle.st_edits.proofs.Fits.{passed}
 
-abbrev IsOf : NameCounters → Intent → Type 0
+abbrev pub IsOf : NameCounters → Intent → Type 0
 IsOf G N = (N.rev ≡ G.rev) × (N.schema ≡ None)
 
 ended : (G : NameCounters) (M N : Intent) → IsOf G M → ◌≡◌ {A = Result Intent EditFault} (Ok M) (Ok N) → IsOf G N
@@ -30,7 +30,7 @@ moved_of D G f Required index ns = (refl, refl)
 moved_of D G f Optional index ns = (refl, refl)
 moved_of D G f Sequence index ns = (refl, refl)
 
-insert_of : (D : Document) (s : SchemaView) (G : NameCounters) (at : List Place) (key : Key) (index : ℕ) (trees : Nodes) (N : Intent) → insert D s G at key index trees ≡ Ok N → IsOf G N
+pub insert_of : (D : Document) (s : SchemaView) (G : NameCounters) (at : List Place) (key : Key) (index : ℕ) (trees : Nodes) (N : Intent) → insert D s G at key index trees ≡ Ok N → IsOf G N
 insert_of D s G at key index trees N e =
     let n = passed (walk D at) _ N e in
     let rule = passed (rule_for field.Row D s n.0 key) _ N n.2 in
@@ -38,14 +38,14 @@ insert_of D s G at key index trees N e =
     let xs = passed (allowed_nodes s G rule.0 trees) (λ xs. Ok (inserted D G n.0 index xs)) N at_end.2 in
     ended G (inserted D G n.0 index xs.0) N (refl, refl) xs.2
 
-remove_of : (D : Document) (s : SchemaView) (G : NameCounters) (at : List Place) (key : Key) (index count : ℕ) (N : Intent) → remove D s G at key index count ≡ Ok N → IsOf G N
+pub remove_of : (D : Document) (s : SchemaView) (G : NameCounters) (at : List Place) (key : Key) (index count : ℕ) (N : Intent) → remove D s G at key index count ≡ Ok N → IsOf G N
 remove_of D s G at key index count N e =
     let n = passed (walk D at) (λ n. and_then (rule_for field.Row D s n key) (λ _. and_then (within_row D n index count) (λ ns. Ok (intent_to_remove D G ns)))) N e in
     let r = passed (rule_for field.Row D s n.0 key) (λ _. and_then (within_row D n.0 index count) (λ ns. Ok (intent_to_remove D G ns))) N n.2 in
     let ns = passed (within_row D n.0 index count) (λ ns. Ok (intent_to_remove D G ns)) N r.2 in
     ended G (intent_to_remove D G ns.0) N (refl, refl) ns.2
 
-move_of : (D : Document) (s : SchemaView) (G : NameCounters) (at : List Place) (key : Key) (index count : ℕ) (to : List Place) (to_key : Key) (to_index : ℕ) (N : Intent)
+pub move_of : (D : Document) (s : SchemaView) (G : NameCounters) (at : List Place) (key : Key) (index count : ℕ) (to : List Place) (to_key : Key) (to_index : ℕ) (N : Intent)
     → move D s G at key index count to to_key to_index ≡ Ok N → IsOf G N
 move_of D s G at key index count to to_key to_index N e =
     let n = passed (walk D at) _ N e in
@@ -56,14 +56,14 @@ move_of D s G at key index count to to_key to_index N e =
     let may = passed (may_move D G m.0 target.0 to to_index count ns.0) _ N ns.2 in
     ended G (intent_to_move D G (field_at m.0 to_key) target.0.kind to_index ns.0) N (moved_of D G (field_at m.0 to_key) target.0.kind to_index ns.0) may.2
 
-put_of : (D : Document) (s : SchemaView) (G : NameCounters) (at : List Place) (key : Key) (trees : Nodes) (N : Intent) → put D s G at key trees ≡ Ok N → IsOf G N
+pub put_of : (D : Document) (s : SchemaView) (G : NameCounters) (at : List Place) (key : Key) (trees : Nodes) (N : Intent) → put D s G at key trees ≡ Ok N → IsOf G N
 put_of D s G at key trees N e =
     let n = passed (walk D at) _ N e in
     let nodes_taken = passed (rule_for field.Single D s n.0 key) _ N n.2 in
     let xs = passed (allowed_nodes s G nodes_taken.0 trees) (λ xs. Ok (intent_to_place D G (field_at n.0 key) xs)) N nodes_taken.2 in
     ended G (intent_to_place D G (field_at n.0 key) xs.0) N (refl, refl) xs.2
 
-clear_of : (D : Document) (s : SchemaView) (G : NameCounters) (at : List Place) (key : Key) (N : Intent) → clear D s G at key ≡ Ok N → IsOf G N
+pub clear_of : (D : Document) (s : SchemaView) (G : NameCounters) (at : List Place) (key : Key) (N : Intent) → clear D s G at key ≡ Ok N → IsOf G N
 clear_of D s G at key N e =
     let n = passed (walk D at) (λ n. and_then (rule_for field.Optional D s n key) (λ _. Ok (record (empty_intent D G) { clear = field_at n key ∷ [] }))) N e in
     let r = passed (rule_for field.Optional D s n.0 key) (λ _. Ok (record (empty_intent D G) { clear = field_at n.0 key ∷ [] })) N n.2 in

@@ -46,7 +46,7 @@ use Rattle.st_trace.proofs.Agreed.{joined_keeps, sent_keeps}
 use Rattle.st_trace.proofs.Begun.{IsStart, opened_start}
 use Rattle.st_trace.proofs.Clients.{client_joined}
 use Rattle.st_trace.proofs.Counting.{names_append}
-use Rattle.st_trace.proofs.Everyone.{all_after_join, all_as, all_get, all_sent, all_set, kept_push, kept_set, kept_some, past, session_bound, sessions_push, sessions_set}
+use Rattle.st_trace.proofs.Everyone.{all_after_join, all_as, all_get, all_sent, all_set, clients_of, kept_push, kept_set, kept_some, past, session_bound, sessions_push, sessions_set}
 use Rattle.st_trace.proofs.Keeping.{AreOne, kept_joined, run_more}
 use Rattle.st_trace.proofs.Logs.{entered_commits, last_entry}
 use Rattle.st_lemmas.proofs.Lists.{AllByRecursion-append}
@@ -187,7 +187,7 @@ sound_sent w i c c' q head known v s at is is_c few few_names verdict after know
           (AllByRecursion-append (IsEntryOf (length w.lists.clients)) log (last_entry log c.session body ∷ []) s.log ((omega (arith, bound), last.session), tt));
       log_fit = subst (FitInTurn (opening_document h)) commits last.fit;
       log_new = subst (HaveNewRevisions (opening ∷ [])) commits last.new;
-      schema = sent_keeps h st log w.lists.clients w.kept i c c' q s.kept at is is_c last.fit s.schema;
+      schema = sent_keeps h st log w.lists.clients i c c' q (clients_of h log w.lists.clients w.kept s.kept) at is is_c last.fit s.schema;
       head = subst (λ l. Run (opening_document h) l (document_of head)) commits (run_more N (document_of head) v s.head verdict after);
       entries = omega (arith, few, length-append log (last_entry log c.session body ∷ []));
       names = omega (arith, s.names, names);
@@ -199,7 +199,7 @@ sound_sent w i c c' q head known v s at is is_c few few_names verdict after know
 -- ## A client joins
 
 -- a commit of the log is of one of the sessions
-of_sessions : (sessions : ℕ) (es : List Entry) (N : Intent) → AllByRecursion (IsEntryOf sessions) es → Has (commits_in es) N → N.rev.session ≤ sessions
+pub of_sessions : (sessions : ℕ) (es : List Entry) (N : Intent) → AllByRecursion (IsEntryOf sessions) es → Has (commits_in es) N → N.rev.session ≤ sessions
 of_sessions sessions [] N all i = absurd i
 of_sessions sessions (e ∷ es) N all i = go (commit_of e) all.0.1 i (λ j. of_sessions sessions es N all.1 j)
   where
@@ -239,7 +239,7 @@ sound_joined w name n session c k known s few few_entries is_s is_n knows is_c r
           (all_as (IsEntryOf (length w.lists.clients)) (IsEntryOf (length w.lists.clients + 1)) log (λ e p. (omega (arith, p.0), p.1)) s.log) ((omega (arith, is_s), tt), tt));
       log_fit = subst (FitInTurn (opening_document h)) commits s.log_fit;
       log_new = subst (HaveNewRevisions (opening ∷ [])) commits s.log_new;
-      schema = joined_keeps h st log w.lists.clients w.kept session name c s.kept (sym is) s.schema;
+      schema = joined_keeps h st log w.lists.clients session name c (clients_of h log w.lists.clients w.kept s.kept) (sym is) s.schema;
       head = subst (λ l. Run (opening_document h) l (document_of w.head)) commits s.head;
       entries = omega (arith, few_entries, size);
       names = s.names ∙ ap names_in commits;

@@ -12,4 +12,5 @@ returns-clause-back c = told_back c.value_line.result (step_view c.args.step.now
 pub returns-clause-again : goal.returns-clause-again
 returns-clause-again c =
     let s = step_view c.args.step.now in
-    told_again c.value_line.result s (told_back c.value_line.result s (view c.in_ok-value.value) c.requires c.in_ok-value.ensures c.value_line.ensures.back)
+    told_again c.value_line.result s (told_text c.value_line.result s (view c.in_ok-value.value) c.in_ok-value.ensures c.value_line.ensures.text)
+    (told_back c.value_line.result s (view c.in_ok-value.value) c.requires c.in_ok-value.ensures c.value_line.ensures.back)

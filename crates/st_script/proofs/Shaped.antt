@@ -1,0 +1,188 @@
+-- The trees of the steps that lines are read as have the shape of trees that values show.
+use Rattle.std.proofs.Common.{◌≡◌, ℕ, ◌==◌, nat_le, Bool, true, false, cond, ◌&&◌, List, ◌∷◌, length, Option, Some, None, option_and_then, option_map, is_ok, Ordering, Less, Equal, Greater, Ok, codes, refl, subst}
+use Rattle.std.specs.Prelude.{⊤}
+use Rattle.std.specs.Ordering.{nat_cmp, match_ordering}
+use Rattle.std.specs.Option.{ok_or}
+use Rattle.std.specs.Str.Lossy.{utf8_valid_len}
+use Rattle.std.specs.Cmp.Lexicographic.{slice_cmp}
+use Rattle.serde_json.specs.Data.{Data, null, boolean, number, string, array, object, Items, no_items, item, Members, no_members, member}
+use Rattle.serde_json.specs.Find.{get, get_member, as_array}
+use Rattle.serde_json.specs.Read.{read}
+use Rattle.st_json.specs.Line.{line_value}
+use Rattle.st_json.specs.Look.{has_only}
+use Rattle.st_json.specs.Order.{NamesRise, ItemsRise, MembersRise}
+use Rattle.st_json.specs.declared.fault.BadCause.{BadCause}
+use Rattle.st_json.proofs.Rising.{read_rises, Holds-map, Holds-and_then, Holds}
+use Rattle.st_tree.specs.Node.{Node, nodes_of}
+use Rattle.st_tree.specs.Size.{check_items}
+use Rattle.st_schema.specs.Shape.{has_shape, all_have_shape}
+use Rattle.st_schema.specs.TreeText.{tree_of}
+use Rattle.st_schema.proofs.Holds.{Holds-cond}
+use Rattle.st_schema.proofs.Shaped.{IsShaped, shown_shaped}
+use Rattle.st_script.specs.Line.{line_of, judged}
+use Rattle.st_script.specs.Members.{number_in, trees_in, few, items_in, item_in}
+use Rattle.st_script.specs.Steps.{StepView, join, insert, remove, move, set, clear, sequence, deliver, show, same, actor_of, site_of, span_of, goal_of, read_insert, read_remove, read_move, read_set, read_clear, read_show, lone_client, read_of, word_of, step_of}
+use Rattle.st_script.specs.StepText.{trees_have_shape}
+use Rattle.st_script.specs.declared.read.Actor.{Actor}
+use Rattle.st_script.specs.declared.read.Goal.{Goal}
+use Rattle.st_script.specs.declared.read.Span.{Span}
+use Rattle.st_script.specs.declared.read.Target.{Target}
+
+-- ---- members and items of a value whose names rise
+
+get_at_rises : (o : Ordering) (d : Data) (rest : Option Data) → NamesRise d → Holds NamesRise rest → Holds NamesRise (match_ordering o rest (Some d) rest)
+get_at_rises Less d rest p q = q
+get_at_rises Equal d rest p q = p
+get_at_rises Greater d rest p q = q
+
+member_rises : (k : List ℕ) (ms : Members) → MembersRise ms → Holds NamesRise (get_member k ms)
+member_rises k no_members p = tt
+member_rises k (member l e ms) p = get_at_rises (slice_cmp nat_cmp k l) e (get_member k ms) p.1 (member_rises k ms p.2)
+
+get_rises : (k : List ℕ) (d : Data) → NamesRise d → Holds NamesRise (get k d)
+get_rises k null p = tt
+get_rises k (boolean b) p = tt
+get_rises k (number n) p = tt
+get_rises k (string s) p = tt
+get_rises k (array ds) p = tt
+get_rises k (object ms) p = member_rises k ms p
+
+array_rises : (d : Data) → NamesRise d → Holds ItemsRise (as_array d)
+array_rises null p = tt
+array_rises (boolean b) p = tt
+array_rises (number n) p = tt
+array_rises (string s) p = tt
+array_rises (array ds) p = p
+array_rises (object ms) p = tt
+
+line_rises : (bytes : List ℕ) → Holds NamesRise (line_value bytes)
+line_rises bytes = Holds-cond NamesRise (utf8_valid_len bytes == length bytes) (read bytes) None (λ _. text_rises (read bytes) refl) tt
+  where
+    text_rises : (o : Option Data) → read bytes ≡ o → Holds NamesRise o
+    text_rises None is = tt
+    text_rises (Some d) is = read_rises bytes d is
+
+-- ---- trees
+
+abbrev AreShaped : List Node → Type 0
+AreShaped ts = all_have_shape (nodes_of ts) ≡ true
+
+both : (a b : Bool) → a ≡ true → b ≡ true → a && b ≡ true
+both true b h k = k
+both false b h k = absurd (cc)
+
+trees_shaped : (ds : Items) → ItemsRise ds → Holds AreShaped (trees_in ds)
+trees_shaped no_items p = refl
+trees_shaped (item d ds) p =
+    Holds-and_then IsShaped AreShaped (λ (t : Node). option_map (λ (ts : List Node). t ∷ ts) (trees_in ds))
+    (λ t h. Holds-map AreShaped AreShaped (λ (ts : List Node). t ∷ ts) (λ ts hs. both (has_shape t) (all_have_shape (nodes_of ts)) h hs) (trees_in ds) (trees_shaped ds p.1)) (tree_of d) (shown_shaped d p.0)
+
+few_shaped : (ts : List Node) → AreShaped ts → Holds AreShaped (few ts)
+few_shaped ts h = Holds-cond AreShaped (nat_le 1 (length ts) && is_ok (check_items (nodes_of ts))) (Some ts) None (λ _. h) tt
+
+items_shaped : (d : Data) → NamesRise d → Holds AreShaped (items_in d)
+items_shaped d p =
+    Holds-and_then ItemsRise AreShaped (λ ds. option_and_then few (trees_in ds)) (λ ds s. Holds-and_then AreShaped AreShaped few few_shaped (trees_in ds) (trees_shaped ds s)) (option_and_then as_array (get (codes "items") d))
+    (Holds-and_then NamesRise ItemsRise as_array array_rises (get (codes "items") d) (get_rises (codes "items") d p))
+
+item_shaped : (d : Data) → NamesRise d → Holds IsShaped (item_in d)
+item_shaped d p = Holds-and_then NamesRise IsShaped tree_of shown_shaped (get (codes "item") d) (get_rises (codes "item") d p)
+
+-- ---- steps
+
+abbrev IsStep : StepView → Type 0
+IsStep s = trees_have_shape s ≡ true
+
+abbrev Shaped : Option StepView → Type 0
+Shaped o = Holds IsStep o
+
+-- where a value has only these members
+only : (names : List ℕ) (d : Data) (o : Option StepView) → Shaped o → Shaped (cond (has_only names d) o None)
+only names d o h = Holds-cond IsStep (has_only names d) o None (λ _. h) tt
+
+-- whatever the values are that a step is made of
+made : {A : Type 0} (f : A → StepView) → ((a : A) → IsStep (f a)) → (o : Option A) → Shaped (option_map f o)
+made f each None = tt
+made f each (Some a) = each a
+
+bound : {A : Type 0} (f : A → Option StepView) → ((a : A) → Shaped (f a)) → (o : Option A) → Shaped (option_and_then f o)
+bound f each None = tt
+bound f each (Some a) = each a
+
+abbrev inserted : Actor × Target → ℕ → List Node → StepView
+inserted p index items = insert p.0.client p.0.branch p.1.at p.1.key index items
+
+insert_shaped : (d : Data) → NamesRise d → Shaped (read_insert d)
+insert_shaped d rise =
+    only (codes "at branch client do index items key") d (option_and_then (λ p. option_and_then (λ index. option_map (inserted p index) (items_in d)) (number_in (codes "index") d)) (site_of d))
+    (bound (λ p. option_and_then (λ index. option_map (inserted p index) (items_in d)) (number_in (codes "index") d))
+    (λ p. bound (λ index. option_map (inserted p index) (items_in d)) (λ n. Holds-map AreShaped IsStep (inserted p n) (λ ts h. h) (items_in d) (items_shaped d rise)) (number_in (codes "index") d)) (site_of d))
+
+abbrev removed : Actor × Target → Span → StepView
+removed p span = remove p.0.client p.0.branch p.1.at p.1.key span.index span.count
+
+remove_shaped : (d : Data) → Shaped (read_remove d)
+remove_shaped d =
+    only (codes "at branch client count do index key") d (option_and_then (λ p. option_map (removed p) (span_of d)) (site_of d))
+    (bound (λ p. option_map (removed p) (span_of d)) (λ p. made (removed p) (λ span. refl) (span_of d)) (site_of d))
+
+abbrev moved : Actor × Target → Span → Goal → StepView
+moved p span goal = move p.0.client p.0.branch p.1.at p.1.key span.index span.count goal.to goal.to_key goal.to_index
+
+move_shaped : (d : Data) → Shaped (read_move d)
+move_shaped d =
+    only (codes "at branch client count do index key to to_index to_key") d (option_and_then (λ p. option_and_then (λ span. option_map (moved p span) (goal_of d)) (span_of d)) (site_of d))
+    (bound (λ p. option_and_then (λ span. option_map (moved p span) (goal_of d)) (span_of d))
+    (λ p. bound (λ span. option_map (moved p span) (goal_of d)) (λ span. made (moved p span) (λ goal. refl) (goal_of d)) (span_of d)) (site_of d))
+
+abbrev put_there : Actor × Target → Node → StepView
+put_there p tree = set p.0.client p.0.branch p.1.at p.1.key tree
+
+set_shaped : (d : Data) → NamesRise d → Shaped (read_set d)
+set_shaped d rise =
+    only (codes "at branch client do item key") d (option_and_then (λ p. option_map (put_there p) (item_in d)) (site_of d))
+    (bound (λ p. option_map (put_there p) (item_in d)) (λ p. Holds-map IsShaped IsStep (put_there p) (λ t h. h) (item_in d) (item_shaped d rise)) (site_of d))
+
+abbrev cleared : Actor × Target → StepView
+cleared p = clear p.0.client p.0.branch p.1.at p.1.key
+
+clear_shaped : (d : Data) → Shaped (read_clear d)
+clear_shaped d = only (codes "at branch client do key") d (option_map cleared (site_of d)) (made cleared (λ p. refl) (site_of d))
+
+abbrev shown : Actor → StepView
+shown a = show a.client a.branch
+
+show_shaped : (d : Data) → Shaped (read_show d)
+show_shaped d = only (codes "branch client do") d (option_map shown (actor_of d)) (made shown (λ a. refl) (actor_of d))
+
+-- one of two, each of which has the shape
+either : (b : Bool) (o p : Option StepView) → Shaped o → Shaped p → Shaped (cond b o p)
+either true o p l r = l
+either false o p l r = r
+
+word_shaped : (word : List ℕ) (d : Data) → NamesRise d → Shaped (read_of word d)
+word_shaped word d rise =
+    either (same word (codes "join")) _ _ (made join (λ c. refl) (lone_client d))
+    (either (same word (codes "insert")) _ _ (insert_shaped d rise)
+    (either (same word (codes "remove")) _ _ (remove_shaped d)
+    (either (same word (codes "move")) _ _ (move_shaped d)
+    (either (same word (codes "set")) _ _ (set_shaped d rise)
+    (either (same word (codes "clear")) _ _ (clear_shaped d)
+    (either (same word (codes "sequence")) _ _ (made sequence (λ c. refl) (lone_client d))
+    (either (same word (codes "deliver")) _ _ (made deliver (λ c. refl) (lone_client d))
+    (either (same word (codes "show")) _ _ (show_shaped d) tt))))))))
+
+value_step_shaped : (d : Data) → NamesRise d → Shaped (step_of d)
+value_step_shaped d rise = bound (λ word. read_of word d) (λ word. word_shaped word d rise) (word_of d)
+
+-- the step of a line
+pub line_shaped : (bytes : List ℕ) (s : StepView) → line_of bytes ≡ Ok s → trees_have_shape s ≡ true
+line_shaped bytes s e = go (line_value bytes) (line_rises bytes) e
+  where
+    step : (o : Option StepView) → Shaped o → ok_or o BadCause.Shape ≡ Ok s → trees_have_shape s ≡ true
+    step None h f = absurd cc
+    step (Some x) h f = let same_step : x ≡ s = cc in subst IsStep same_step h
+
+    go : (o : Option Data) → Holds NamesRise o → judged o ≡ Ok s → trees_have_shape s ≡ true
+    go None h e = absurd cc
+    go (Some d) h e = step (step_of d) (value_step_shaped d h) e
