@@ -12,7 +12,7 @@ use Rattle.serde_json.specs.Read.{number_of, of_json, of_items, of_members, max_
 use Rattle.st_json.specs.Order.{is_before, NamesRise, ItemsRise, MembersRise}
 
 -- a fact of the value, if there is one
-abbrev Holds : {A : Type 0} → (A → Type 0) → Option A → Type 0
+abbrev pub Holds : {A : Type 0} → (A → Type 0) → Option A → Type 0
 Holds P None = ⊤
 Holds P (Some a) = P a
 
