@@ -1,3 +1,4 @@
+pub mod Existence
 pub mod Form
 pub mod Joined
 pub mod Laws

@@ -17,7 +17,7 @@ use Rattle.st_marks.specs.Embedding.{is_among}
 use Rattle.st_seq.specs.Sequence.{below_first}
 
 -- a node is found where it is
-one_way : (a b : NodeId) → is_eq (node_cmp a b) ≡ same_node b a
+pub one_way : (a b : NodeId) → is_eq (node_cmp a b) ≡ same_node b a
 unfolding same_node
 one_way a b = ap is_eq (node_cmp_total.antisymm a b) ∙ turned (node_cmp b a)
   where

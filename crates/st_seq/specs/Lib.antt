@@ -11,3 +11,4 @@ pub mod Laws
 pub mod Form
 pub mod NamedApart
 pub mod OwnedEarly
+pub mod Existence

@@ -27,7 +27,10 @@ pub use back::invert;
 pub use beside::rebase;
 pub use carry::{effect, void_effect};
 pub use kind::Sequence;
-pub use laws::{rows_are_joined, rows_are_listed, rows_are_of_documents, rows_hold};
+pub use laws::{
+    rows_are_joined, rows_are_listed, rows_are_of_documents, rows_have_changes, rows_have_steps,
+    rows_hold,
+};
 pub use rows::after;
 pub use turns::{compose, join};
 pub use values::{RowChange, RowHeld, RowStep};
