@@ -88,7 +88,7 @@ told-row p c e = told-made p c None (p.made None) (embed_cells p c) (λ o h. h) 
 
 -- ## Found once in a row
 
-touched-once : (c : List Slot) (ms : List CellMark) → AreAsSeen c (cells_before ms) → AreDistinct (λ (s : Slot). s.cell) c
+pub touched-once : (c : List Slot) (ms : List CellMark) → AreAsSeen c (cells_before ms) → AreDistinct (λ (s : Slot). s.cell) c
     → ((d e : CellId) (n : NodeId) → Has c (record { cell = d; node = n; full = true }) → Has c (record { cell = e; node = n; full = true }) → d ≡ e) → AreDistinct (λ (f : Found). f.node) (found_in ms)
 touched-once c [] p d one = tt
 touched-once c (Make e k b ∷ ms) p d one = touched-once c ms p d one
