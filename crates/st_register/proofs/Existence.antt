@@ -72,6 +72,9 @@ has_step c d w v = record { step = record { before = c.node; after = d.node }; l
 abbrev holding : Document → FieldId → RegHeld
 holding D f = record { node = D.held f }
 
+pub part_has_change : (D : Document) (N : Intent) (m : NodeId → Bool) (f : FieldId) → IsSoundInForm D → Fits D N → HasChange (part_of m N f) (holding D f)
+part_has_change D N m f x w = has_change (part_of m N f) (holding D f) (part_fits D N m f x w)
+
 pub change_there : (D : Document) (N : Intent) (C : Change) (f : FieldId) (e : IsEmbedding D N C) → IsSoundInForm D → Fits D N
     → FitsIn (part_of e.mentioned N f) (holding D f)
     × ((h : HasChange (part_of e.mentioned N f) (holding D f))

@@ -66,18 +66,24 @@ pub fn registers_are_joined()
         → AreJoinedIn (part_of m N f) (part_of k M f) (record { node = D.held f }) (part_of l J f) }
 {}
 
-/// A part that fits a register has a change there, and what it leads to, whole or void, is what a register can hold. So a whole
-/// change lists of each register a change of the kind: that of the part of its intent, which fits.
+/// A part that fits a register has a change there, and what it leads to, whole or void, is what a register can hold. So the part
+/// of an intent that fits a sound document has one in each register; and a whole change lists of each register a change of the
+/// kind: that of the part.
 pub fn registers_have_changes()
     ensures register { (p : RegPart) (c : RegHeld) → FitsIn p c → HasChange p c }
-    ensures document { (D : Document) (N : Intent) (C : Change) (f : FieldId) (e : IsEmbedding D N C) → IsSoundInForm D → Fits D N
-        → let p = part_of e.mentioned N f in FitsIn p (record { node = D.held f }) × ((h : HasChange p (record { node = D.held f }))
+    ensures intent { (D : Document) (N : Intent) (m : NodeId → Bool) (f : FieldId)
+        → IsSoundInForm D → Fits D N → HasChange (part_of m N f) (record { node = D.held f }) }
+    ensures listed { (D : Document) (N : Intent) (C : Change) (f : FieldId) (e : IsEmbedding D N C)
+        → IsSoundInForm D → Fits D N → let p = part_of e.mentioned N f in
+        FitsIn p (record { node = D.held f }) × ((h : HasChange p (record { node = D.held f }))
         × (item_of field_cmp (λ (r : RegMark). r.field) C.regs f
-        ≡ (if h.change.clear || holds_mentioned e.mentioned h.change.held then Some (as_mark f h.change) else None))) }
+        ≡ (if h.change.clear || holds_mentioned e.mentioned h.change.held
+        then Some (as_mark f h.change)
+        else None))) }
 {}
 
 /// A step leads from each content to each other one. So one leads from each register of a document to the register after it in
-/// each document that extends it, and a whole step lists of each register one.
+/// each document that extends it; and a whole step lists of each register one.
 pub fn registers_have_steps()
     ensures register { (c d : RegHeld) → CanHold c → CanHold d → HasStep c d }
     ensures documents { (D E : Document) (f : FieldId) → IsExtendedBy D E
@@ -85,7 +91,8 @@ pub fn registers_have_steps()
     ensures listed { (D E : Document) (S : Step) (f : FieldId) (s : IsStep D E S) → IsExtendedBy D E
         → (h : HasStep (record { node = D.held f }) (record { node = E.held f }))
         × (item_of field_cmp (λ (r : RegStep). r.field) S.regs f
-        ≡ (if not (same_option same_node h.step.before h.step.after) || holds_mentioned s.mentioned h.step.before
+        ≡ (if not (same_option same_node h.step.before h.step.after)
+        || holds_mentioned s.mentioned h.step.before
         then Some (as_step f h.step)
         else None)) }
 {}

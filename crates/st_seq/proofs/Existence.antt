@@ -17,7 +17,7 @@ use Rattle.st_marks.specs.declared.places.Slot.{Slot}
 use Rattle.st_marks.specs.declared.steps.Step.{Step}
 use Rattle.st_marks.specs.CarryOut.{full}
 use Rattle.st_marks.specs.Document.{Document, HasShortRows, IsSoundInForm, NodeType, content, slot}
-use Rattle.st_marks.specs.Embedding.{IsEmbedding, is_among, row_marks}
+use Rattle.st_marks.specs.Embedding.{IsEmbedding, IsMentionedByIntent, is_among, row_marks}
 use Rattle.st_marks.specs.Extends.{Grows, IsExtendedBy, done, gained, kept}
 use Rattle.st_marks.specs.Intent.{Fits, new_node}
 use Rattle.st_marks.specs.Row.{SameCell, embed_row, merge, spread, step_row}
@@ -96,6 +96,10 @@ full_short D N m new n x w short =
     let l : length (content (full D N) n) ≡ length ((full D N).rows n) = length-map ((full D N).rows n) (slot (full D N)) in
     let s = short n in
     omega (arith, e, l, s)
+
+pub part_has_change : (D : Document) (N : Intent) (m : Nodes) (new : List NodeId) (n : NodeId) → IsSoundInForm D → Fits D N → HasShortRows (full D N) → ListsNew N new → ((k : NodeId) → IsMentionedByIntent D N k → m k ≡ true)
+    → HasChange (part_of m new N n) (content D n)
+part_has_change D N m new n x w short listed mentions = has_change (part_of m new N n) (content D n) (part_fits D N m new n x w listed mentions) (full_short D N m new n x w short)
 
 module _ (D : Document) (N : Intent) (C : Change) (n : NodeId) (e : IsEmbedding D N C) (x : IsSoundInForm D) (w : Fits D N) (short : HasShortRows (full D N)) where
   abbrev p : SeqPart

@@ -63,23 +63,33 @@ pub fn rows_are_joined()
         → AreJoinedIn (part_of m a N n) (part_of k b M n) (content D n) (part_of l c J n) }
 {}
 
-/// A part that fits a row has a change there, if what it leads to is short enough for a row. So a whole change lists of each
-/// row a change of the kind: that of the part of its intent, which fits.
+/// A part that fits a row has a change there, if what it leads to is short enough for a row. So the part of an intent that fits
+/// a sound document has one in each row; and a whole change lists of each row a change of the kind: that of the part.
 pub fn rows_have_changes()
-    ensures row { (p : SeqPart) (c : Seq Slot) → FitsIn p c → length (carried_to p false c) < 2 ^ 32 → HasChange p c }
-    ensures document { (D : Document) (N : Intent) (C : Change) (n : NodeId) (e : IsEmbedding D N C) → IsSoundInForm D → Fits D N
-        → HasShortRows (full D N) → let p = part_of e.mentioned (nodes_new C.new) N n in
+    ensures row { (p : SeqPart) (c : Seq Slot) → FitsIn p c
+        → length (carried_to p false c) < 2 ^ 32 → HasChange p c }
+    ensures intent { (D : Document) (N : Intent) (m : Nodes) (new : Seq NodeId) (n : NodeId)
+        → IsSoundInForm D → Fits D N → HasShortRows (full D N) → ListsNew N new
+        → ((k : NodeId) → IsMentionedByIntent D N k → m k ≡ true)
+        → HasChange (part_of m new N n) (content D n) }
+    ensures listed { (D : Document) (N : Intent) (C : Change) (n : NodeId) (e : IsEmbedding D N C)
+        → IsSoundInForm D → Fits D N → HasShortRows (full D N)
+        → let p = part_of e.mentioned (nodes_new C.new) N n in
         FitsIn p (content D n) × ((h : HasChange p (content D n))
-        × (item_of node_cmp (λ (r : RowMarks). r.node) C.rows n ≡ row_marks n (spread h.change.marks))) }
+        × (item_of node_cmp (λ (r : RowMarks). r.node) C.rows n
+        ≡ row_marks n (spread h.change.marks))) }
 {}
 
 /// A step leads from a row to each that has all its cells, whichever nodes it names beside those that move. So one leads from
-/// each row of a document to the row after it in each document that extends it, and a whole step lists of each row one.
+/// each row of a document to the row after it in each document that extends it; and a whole step lists of each row one.
 pub fn rows_have_steps()
-    ensures row { (m : Nodes) (c d : Seq Slot) (g : Grows SameCell c d) → CanHold c → CanHold d → NamesMoved m g → HasStep m c d }
+    ensures row { (m : Nodes) (c d : Seq Slot) (g : Grows SameCell c d)
+        → CanHold c → CanHold d → NamesMoved m g → HasStep m c d }
     ensures documents { (D E : Document) (m : Nodes) (n : NodeId) → IsExtendedBy D E
-        → ((k : NodeId) → IsMentionedByStep D E k → m k ≡ true) → HasStep m (content D n) (content E n) }
+        → ((k : NodeId) → IsMentionedByStep D E k → m k ≡ true)
+        → HasStep m (content D n) (content E n) }
     ensures listed { (D E : Document) (S : Step) (n : NodeId) (s : IsStep D E S) → IsExtendedBy D E
         → (h : HasStep s.mentioned (content D n) (content E n))
-        × (item_of node_cmp (λ (r : RowMarks). r.node) S.rows n ≡ row_marks n (spread h.step.marks)) }
+        × (item_of node_cmp (λ (r : RowMarks). r.node) S.rows n
+        ≡ row_marks n (spread h.step.marks)) }
 {}
