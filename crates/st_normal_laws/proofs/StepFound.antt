@@ -1,6 +1,6 @@
 -- What a step from one document to another finds and puts: each node that it names stands before where it is found, and after
 -- where it stays or is put.
-use Rattle.std.proofs.Common.{◌≡◌, ◌≢◌, ◌++◌, ◌||◌, ◌&&◌, ℕ, zero, suc, Bool, true, false, not, List, [], Option, Some, None, IsSome, cond, refl, sym, ap, ◌∙◌, subst, inl, inr, ◌⊎◌, option_and_then}
+use Rattle.std.proofs.Common.{◌≡◌, ◌≢◌, ◌++◌, ◌||◌, ◌&&◌, zero, suc, Bool, true, false, not, List, [], Option, Some, None, IsSome, cond, refl, sym, ap, ◌∙◌, subst, inl, inr, ◌⊎◌}
 use Rattle.std.specs.List.{flat_map, list_any}
 use Rattle.st_ids.specs.Listing.{AreDistinct, Has}
 use Rattle.st_ids.specs.Order.{field_cmp, node_cmp, same_node}
@@ -16,7 +16,7 @@ use Rattle.st_marks.specs.declared.marks.RowMarks.{RowMarks}
 use Rattle.st_marks.specs.declared.places.Slot.{Slot}
 use Rattle.st_marks.specs.declared.places.Spot.{Spot}
 use Rattle.st_marks.specs.declared.steps.Step.{Step}
-use Rattle.st_marks.specs.Document.{Document, IsSoundInForm, above, climb, content, is_cell, root}
+use Rattle.st_marks.specs.Document.{Document, IsSoundInForm, above, content, is_cell, root}
 use Rattle.st_marks.specs.Embedding.{is_loose, is_nowhere, tells}
 use Rattle.st_marks.specs.Extends.{IsExtendedBy}
 use Rattle.st_marks.specs.Intent.{same_option}
@@ -24,13 +24,13 @@ use Rattle.st_marks.specs.Register.{holds_mentioned, step_register}
 use Rattle.st_marks.specs.Row.{CellMark, Counted, Touch, Make, Fill, merge, spread, step_cell, step_row}
 use Rattle.st_marks.specs.Shown.{one_or_none}
 use Rattle.st_marks.specs.Step.{IsStep, step_loose}
-use Rattle.st_marks.proofs.Climb.{above_known, climb_more, placed_known, same_spot, shown, stands}
+use Rattle.st_marks.proofs.Climb.{climb_more, placed_known, same_spot, shown, stands}
 use Rattle.st_marks.proofs.Members.{append_left, append_right, flat_map-has, has-any, has-append, has-flat_map, has-map, map-has}
 use Rattle.st_normal.specs.declared.entries.Found.{Found}
 use Rattle.st_normal.specs.Rules.{IsFound, IsFoundAs, Listed, found_held, found_in, found_loose, found_over, how_over, in_rows, incoming, listed_by_step, put_over}
 use Rattle.st_normal.proofs.Linked.{has-item_of, item_of-has}
 use Rattle.st_normal_laws.proofs.Basics.{and-cases, is-one, one-is, or-left, or-right, register-not-nowhere, row-not-nowhere}
-use Rattle.st_normal_laws.proofs.Easy.{row-told}
+use Rattle.st_normal_laws.proofs.Easy.{climb-known, row-told}
 use Rattle.st_normal_laws.proofs.FoundPlaces.{found_held-is, found_in-has, has-found_in, is-found_held}
 use Rattle.st_normal_laws.proofs.StepRows.{IsKept, StandsOnce, after-mark, cell_with, fill-incoming, fill-step, incoming-mark, kept-mark, make-incoming, make-step, touch-step}
 use Rattle.st_seq.specs.Laws.{spread-merge}
@@ -96,14 +96,6 @@ stands-once D x n a b k h i = (same-row (sym (stands D x k n a h) ∙ stands D x
 -- a node in a document's row is there, and so is the row's
 pub slot-known : (D : Document) → IsSoundInForm D → (r : NodeId) (s : Slot) → Has (content D r) s → IsSome (D.nodes r) × IsSome (D.nodes s.node)
 slot-known D x r s h = let q = is_slot D r s h in let k = x.cells_known r q.0 q.1 in (k.0, subst (λ n. IsSome (D.nodes n)) (ap (λ (s : Slot). s.node) q.2) k.1)
-
-climb-known : (D : Document) → IsSoundInForm D → (k : ℕ) (s n : NodeId) → IsSome (D.nodes s) → climb (above D) k s ≡ Some n → IsSome (D.nodes n)
-climb-known D x zero s n h e = let q : s ≡ n = cc in subst (λ y. IsSome (D.nodes y)) q h
-climb-known D x (suc k) s n h e = go (above D s) refl (λ p a b. climb-known D x k p n a b)
-  where
-    go : (q : Option NodeId) → above D s ≡ q → ((p : NodeId) → IsSome (D.nodes p) → climb (above D) k p ≡ Some n → IsSome (D.nodes n)) → IsSome (D.nodes n)
-    go None q rest = let bad : None ≡ Some n = ap (option_and_then (climb (above D) k)) (sym q) ∙ e in cc
-    go (Some p) q rest = rest p (above_known D x s p q) (ap (option_and_then (climb (above D) k)) (sym q) ∙ e)
 
 -- ## Two documents and a step
 

@@ -32,17 +32,17 @@ use Rattle.st_marks.specs.Register.{holds_mentioned}
 use Rattle.st_marks.specs.Row.{CellMark, Counted, Gap, Touch, Make, Fill, SameCell, merge, spread, step_cell, step_row}
 use Rattle.st_marks.specs.Shown.{Says, Seen, Shown, cells_after, cells_before, cells_in, nodes_new, one_or_none, says_in_register, says_in_row, says_nowhere, seen, shown_after_step, shown_before_step}
 use Rattle.st_marks.specs.Step.{IsChanged, IsSchemaStep, IsStep, gained_node}
-use Rattle.st_marks.proofs.Members.{all-has, append_left, append_right, distinct-append, distinct-between, distinct-right, has-all, has-any, has-append, has-flat_map, has-map, map-has}
+use Rattle.st_marks.proofs.Members.{append_left, append_right, distinct-append, distinct-between, distinct-right, has-all, has-any, has-append, has-flat_map, has-map, map-has}
 use Rattle.st_marks.proofs.Climb.{placed_known, stands}
 use Rattle.st_marks.proofs.Later.{node_later}
 use Rattle.st_normal.specs.Ring.{Reaches}
 use Rattle.st_normal.specs.declared.entries.Found.{Found}
-use Rattle.st_normal.specs.Rules.{AreEntriesBehind, CellsAreOnce, FieldsAreFound, FilledCellsAreOld, HasListedField, IsFound, IsFoundAs, KeysAreThere, Listed, LooseNodesArePut, MarksAreMerged, NewNodesAreNotFound, NewRegistersAreEmptyBefore, NewRowsAreMade, NoRingOverStep, NodesAreFoundOnce, NodesArePutOnce, NothingIsSetHere, ObeysStepRules, PutNodesLeave, RegistersTellOver, RootStays, RowsAreShort, RowsTell, SchemaStepFits, StayingNodesLeadOn, StepIsRising, fields_of, fill_owners, found_held, found_in, found_loose, found_over, in_rows, incoming, is_stay, listed_by_step, put_over, staying}
+use Rattle.st_normal.specs.Rules.{AreEntriesBehind, CellsAreOnce, FieldsAreFound, FilledCellsAreOld, HasListedField, IsFound, IsFoundAs, KeysAreThere, Listed, LooseNodesArePut, MarksAreMerged, NewNodesAreNotFound, NewRegistersAreEmptyBefore, NewRowsAreMade, NoRingOverStep, NodesAreFoundOnce, NodesArePutOnce, NothingIsSetHere, ObeysStepRules, PutNodesLeave, RegistersTellOver, RootStays, RowsAreShort, RowsTell, SchemaStepFits, StayingNodesLeadOn, StepIsRising, fields_of, fill_owners, found_in, found_loose, found_over, in_rows, incoming, is_stay, listed_by_step, put_over, staying}
 use Rattle.st_normal.proofs.AboveItself.{never_ends, one_step, step_before}
 use Rattle.st_normal.proofs.Linked.{has-item_of, item_of-has}
 use Rattle.st_normal_laws.specs.Told.{AreAsSeen, IsAsSeen}
 use Rattle.st_normal_laws.proofs.Basics.{or-left, or-right, register-not-nowhere, row-not-nowhere}
-use Rattle.st_normal_laws.proofs.EasyFound.{touched-once}
+use Rattle.st_normal_laws.proofs.EasyFound.{held-alone, loose-once, touched-once}
 use Rattle.st_normal_laws.proofs.EasyNames.{fill-owner}
 use Rattle.st_normal_laws.proofs.EasyRules.{merged-told}
 use Rattle.st_normal_laws.proofs.FoundPlaces.{found_held-is, found_in-has}
@@ -208,14 +208,6 @@ module _ (D E : Document) (S : Step) (x : IsExtendedBy D E) (s : IsStep D E S) w
   nowhere-place : (g : Found) → Has (found_loose S.loose) g → D.place g.node ≡ Spot.Nowhere
   nowhere-place g h = let l = has-map (λ (l : Loose). let g : Found = record { node = l.node; how = l.how } in g) S.loose g h in ap D.place (sym (ap (λ (g : Found). g.node) l.2)) ∙ (loose-place D E S x s l.0 l.1).0
 
-  map-once : (ls : List Loose) → AreDistinct (λ (l : Loose). l.node) ls → AreDistinct (λ (g : Found). g.node) (found_loose ls)
-  map-once [] d = tt
-  map-once (l ∷ ls) d = (has-all (λ (g : Found). g.node ≢ l.node) (found_loose ls) (λ g h. let k = has-map (λ (l : Loose). let g : Found = record { node = l.node; how = l.how } in g) ls g h in λ e. all-has (λ (k : Loose). k.node ≢ l.node) ls k.0 d.0 k.1 (ap (λ (g : Found). g.node) k.2 ∙ e)), map-once ls d.1)
-
-  held-alone : (q : Option NodeId) (h : How) → AreDistinct (λ (g : Found). g.node) (found_held q h)
-  held-alone None h = tt
-  held-alone (Some n) h = (tt, tt)
-
   found_once : NodesAreFoundOnce L
   found_once =
       distinct-append (λ (g : Found). g.node) (in_rows found_in S.rows) (flat_map found_over S.regs ++ found_loose S.loose)
@@ -226,7 +218,7 @@ module _ (D E : Document) (S : Step) (x : IsExtendedBy D E) (s : IsStep D E S) w
       (distinct-flat (λ (g : Found). g.node) found_over (λ (r : RegStep). r.field) S.regs regs-once
       (λ r i. held-alone r.before _)
       (λ r q a b i j h k e. same-register (sym (reg-place q b j k) ∙ ap D.place e ∙ reg-place r a i h)))
-      (map-once S.loose (rising_distinct node_cmp node_cmp_total (λ (l : Loose). l.node) S.loose s.loose.rising))
+      (loose-once S.loose (rising_distinct node_cmp node_cmp_total (λ (l : Loose). l.node) S.loose s.loose.rising))
       (λ a b h i e. let r = has-flat_map found_over S.regs a h in register-not-nowhere r.0.field (sym (reg-place r.0 a r.1 r.2) ∙ ap D.place (sym e) ∙ nowhere-place b i)))
       (λ a b h i e. let r = has-flat_map (λ (r : RowMarks). found_in (spread r.marks)) S.rows a h in let u = row-place r.0 a r.1 r.2 in
       elim (has-append (flat_map found_over S.regs) (found_loose S.loose) b i) [
