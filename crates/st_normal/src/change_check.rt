@@ -197,8 +197,8 @@ fn is_normal(change: &Change) -> bool
 impl Check for Change {
     ghost ObeysRules = { ObeysChangeRules };
 
-    /// Refuses a change that breaks a rule of normal form. The rules are meant to allow just what stands over some
-    /// document; that they do isn't proved here. They are judged alone, in the time that sorting the change would take.
+    /// Refuses a change that breaks a rule of normal form. The rules allow just what stands over some document, by the law
+    /// `normal_changes_obey` of `st_normal_laws`. They are judged alone, in the time that sorting the change would take.
     /// What is looked up is kept in maps in the memory from which the change's lists come; where there is none left the
     /// answer is the same, but slow to come.
     fn check(&self) -> Result<(), NotNormal>

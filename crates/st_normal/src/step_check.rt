@@ -186,10 +186,10 @@ fn is_normal(step: &Step) -> bool
 impl Check for Step {
     ghost ObeysRules = { ObeysStepRules };
 
-    /// Refuses a step that breaks a rule of normal form. The rules are meant to allow just what leads from some document
-    /// to one that extends it; that they do isn't proved here. They are judged alone, in the time that sorting the step
-    /// would take. What is looked up is kept in maps in the memory from which the step's lists come; where there is none
-    /// left the answer is the same, but slow to come.
+    /// Refuses a step that breaks a rule of normal form. The rules allow each step that leads from some document to one that
+    /// extends it, by the law `normal_steps_obey` of `st_normal_laws`, and are meant to allow no other, which isn't proved.
+    /// They are judged alone, in the time that sorting the step would take. What is looked up is kept in maps in the memory
+    /// from which the step's lists come; where there is none left the answer is the same, but slow to come.
     fn check(&self) -> Result<(), NotNormal>
         ensures { MatchResult result (λ _. ObeysStepRules self.now) (λ _. ObeysStepRules self.now → ⊥) }
     {

@@ -84,6 +84,15 @@ touches p [] d n h e = absurd h
 touches p (s ∷ c) d n (inl q) e = inl ((λ i. embed_cell p (q i).cell (q i).node (q i).full) ∙ ap (λ b. cond b (Touch d n (how (p.target_of n) (To.Cell d))) Counted) e)
 touches p (s ∷ c) d n (inr h) e = inr (skip-made p (p.new_cells (Some s.cell)) (embed_cells p c) _ (touches p c d n h e))
 
+-- a climb from a node that is there leads to one that is there
+pub climb-known : (D : Document) → IsSoundInForm D → (k : ℕ) (s n : NodeId) → IsSome (D.nodes s) → climb (above D) k s ≡ Some n → IsSome (D.nodes n)
+climb-known D x zero s n h e = let q : s ≡ n = cc in subst (λ y. IsSome (D.nodes y)) q h
+climb-known D x (suc k) s n h e = go (above D s) refl (λ p a b. climb-known D x k p n a b)
+  where
+    go : (q : Option NodeId) → above D s ≡ q → ((p : NodeId) → IsSome (D.nodes p) → climb (above D) k p ≡ Some n → IsSome (D.nodes n)) → IsSome (D.nodes n)
+    go None q rest = let bad : None ≡ Some n = ap (option_and_then (climb (above D) k)) (sym q) ∙ e in cc
+    go (Some p) q rest = rest p (above_known D x s p q) (ap (option_and_then (climb (above D) k)) (sym q) ∙ e)
+
 module _ (D : Document) (N : Intent) (C : Change) (x : IsSoundInForm D) (f : Fits D N) (emb : IsEmbedding D N C) where
   abbrev L : Entries
   L = entries_of_change C
@@ -114,16 +123,8 @@ module _ (D : Document) (N : Intent) (C : Change) (x : IsSoundInForm D) (f : Fit
       go true q = (ap at (ap (λ b. cond b (Some (record { field = k; held = o; how = how_held k p o; clear = p.clear; fill = comes_in o p.fill })) None) (sym q) ∙ e), q)
       go false q = let bad : None ≡ Some r = ap (λ b. cond b (Some (record { field = k; held = o; how = how_held k p o; clear = p.clear; fill = comes_in o p.fill })) None) (sym q) ∙ e in cc
 
-  climb-known : (k : ℕ) (s n : NodeId) → IsSome (D.nodes s) → climb (above D) k s ≡ Some n → IsSome (D.nodes n)
-  climb-known zero s n h e = let q : s ≡ n = cc in subst (λ y. IsSome (D.nodes y)) q h
-  climb-known (suc k) s n h e = go (above D s) refl (λ p a b. climb-known k p n a b)
-    where
-      go : (q : Option NodeId) → above D s ≡ q → ((p : NodeId) → IsSome (D.nodes p) → climb (above D) k p ≡ Some n → IsSome (D.nodes n)) → IsSome (D.nodes n)
-      go None q rest = let bad : None ≡ Some n = ap (option_and_then (climb (above D) k)) (sym q) ∙ e in cc
-      go (Some p) q rest = rest p (above_known D x s p q) (ap (option_and_then (climb (above D) k)) (sym q) ∙ e)
-
   pub mentioned-known : (n : NodeId) → m n ≡ true → IsSome (D.nodes n)
-  mentioned-known n e = let k = (emb.which n).0 e in climb-known k.3 k.0 n k.2 k.4
+  mentioned-known n e = let k = (emb.which n).0 e in climb-known D x k.3 k.0 n k.2 k.4
 
   pub loose-is : (n : NodeId) (l : Loose) → embed_loose m D N n ≡ Some l → is_loose m D n ≡ true
   loose-is n l e = go (is_loose m D n) refl

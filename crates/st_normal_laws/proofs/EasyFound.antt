@@ -83,7 +83,7 @@ told-row p c e = told-made p c None (p.new_cells None) (embed_cells p c) (λ o h
 
 -- ## Found once in a row
 
-touched-once : (c : List Slot) (ms : List CellMark) → AreAsSeen c (cells_before ms) → AreDistinct (λ (s : Slot). s.cell) c
+pub touched-once : (c : List Slot) (ms : List CellMark) → AreAsSeen c (cells_before ms) → AreDistinct (λ (s : Slot). s.cell) c
     → ((d e : CellId) (n : NodeId) → Has c (record { cell = d; node = n; full = true }) → Has c (record { cell = e; node = n; full = true }) → d ≡ e) → AreDistinct (λ (f : Found). f.node) (found_in ms)
 touched-once c [] p d one = tt
 touched-once c (Make e k b ∷ ms) p d one = touched-once c ms p d one
@@ -101,6 +101,16 @@ touched-once (s ∷ c) (Touch e k h ∷ ms) p d one = (
 )
 touched-once [] (Fill e k ∷ ms) p d one = absurd p
 touched-once (s ∷ c) (Fill e k ∷ ms) p d one = touched-once c ms p.1 d.1 (λ a b n h i. one a b n (inr h) (inr i))
+
+-- ## Found once in registers and nowhere
+
+pub loose-once : (ls : List Loose) → AreDistinct (λ (l : Loose). l.node) ls → AreDistinct (λ (g : Found). g.node) (found_loose ls)
+loose-once [] d = tt
+loose-once (l ∷ ls) d = (has-all (λ (g : Found). g.node ≢ l.node) (found_loose ls) (λ g h. let k = has-map (λ (l : Loose). let g : Found = record { node = l.node; how = l.how } in g) ls g h in λ e. all-has (λ (k : Loose). k.node ≢ l.node) ls k.0 d.0 k.1 (ap (λ (g : Found). g.node) k.2 ∙ e)), loose-once ls d.1)
+
+pub held-alone : (q : Option NodeId) (h : How) → AreDistinct (λ (g : Found). g.node) (found_held q h)
+held-alone None h = tt
+held-alone (Some n) h = (tt, tt)
 
 module _ (D : Document) (N : Intent) (C : Change) (x : IsSoundInForm D) (f : Fits D N) (emb : IsEmbedding D N C) where
   abbrev L : Entries
@@ -212,14 +222,6 @@ module _ (D : Document) (N : Intent) (C : Change) (x : IsSoundInForm D) (f : Fit
   abbrev found_node : Found → NodeId
   found_node g = g.node
 
-  map-once : (ls : List Loose) → AreDistinct (λ (l : Loose). l.node) ls → AreDistinct found_node (found_loose ls)
-  map-once [] d = tt
-  map-once (l ∷ ls) d = (has-all (λ (g : Found). g.node ≢ l.node) (found_loose ls) (λ g h. let k = has-map (λ (l : Loose). let g : Found = record { node = l.node; how = l.how } in g) ls g h in λ e. all-has (λ (k : Loose). k.node ≢ l.node) ls k.0 d.0 k.1 (ap found_node k.2 ∙ e)), map-once ls d.1)
-
-  held-alone : (q : Option NodeId) (h : How) → AreDistinct found_node (found_held q h)
-  held-alone None h = tt
-  held-alone (Some n) h = (tt, tt)
-
   pub nodes_are_found_once : NodesAreFoundOnce L
   nodes_are_found_once =
       distinct-append found_node (in_rows found_in C.rows) (flat_map found_at C.regs ++ found_loose C.loose)
@@ -230,7 +232,7 @@ module _ (D : Document) (N : Intent) (C : Change) (x : IsSoundInForm D) (f : Fit
       (distinct-flat found_node found_at (λ (r : RegMark). r.field) C.regs (rising_distinct field_cmp field_cmp_total (λ (r : RegMark). r.field) C.regs emb.regs.rising)
       (λ r i. held-alone r.held r.how)
       (λ r q a b i j h k e. same-register q.field r.field (sym (reg-place q b j k) ∙ ap D.place e ∙ reg-place r a i h)))
-      (map-once C.loose (rising_distinct node_cmp node_cmp_total (λ (l : Loose). l.node) C.loose emb.loose.rising))
+      (loose-once C.loose (rising_distinct node_cmp node_cmp_total (λ (l : Loose). l.node) C.loose emb.loose.rising))
       (λ a b h i e. let r = has-flat_map found_at C.regs a h in register-not-nowhere r.0.field (sym (reg-place r.0 a r.1 r.2) ∙ ap D.place (sym e) ∙ loose-place b i)))
       (λ a b h i e. let r = has-flat_map (λ (r : RowMarks). found_in (spread r.marks)) C.rows a h in let u = row-place r.0 a r.1 r.2 in
       elim (has-append (flat_map found_at C.regs) (found_loose C.loose) b i) [

@@ -43,7 +43,7 @@ use Rattle.st_normal_laws.proofs.Lengths.{row-length}
 use Rattle.st_seq.proofs.Short.{all_after}
 
 -- an owner of a filled cell, with the cell
-fill-owner : (ms : List CellMark) (n : NodeId) → Has (fill_owners ms) n → (d : CellId) × Has ms (Fill d n)
+pub fill-owner : (ms : List CellMark) (n : NodeId) → Has (fill_owners ms) n → (d : CellId) × Has ms (Fill d n)
 fill-owner [] n h = absurd h
 fill-owner (Counted ∷ ms) n h = let r = fill-owner ms n h in (r.0, inr r.1)
 fill-owner (Gap c ∷ ms) n h = let r = fill-owner ms n h in (r.0, inr r.1)

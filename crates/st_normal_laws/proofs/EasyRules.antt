@@ -36,7 +36,7 @@ use Rattle.st_normal.proofs.NoRings.{among_has}
 use Rattle.st_normal.proofs.ShownPlaces.{before_stands}
 use Rattle.st_normal.specs.inside.Links.{stands_before}
 
-merged-told : (r : RowMarks) (n : NodeId) (cells : List CellMark) → row_marks n cells ≡ Some r → r.marks ≡ merge cells
+pub merged-told : (r : RowMarks) (n : NodeId) (cells : List CellMark) → row_marks n cells ≡ Some r → r.marks ≡ merge cells
 merged-told r n cells e = ap at (sym e ∙ ap (λ b. cond b (Some (record { node = n; marks = merge cells })) None) (row-told r n cells e).1)
   where
     at : Option RowMarks → List Rattle.st_marks.specs.declared.marks.Mark.Mark

@@ -27,3 +27,7 @@ pub mod EasyCells
 pub mod EasyPutOnce
 pub mod EasyLoose
 pub mod DataRules
+pub mod SchemaRules
+pub mod StepRows
+pub mod StepFound
+pub mod StepRules

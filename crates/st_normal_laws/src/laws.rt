@@ -4,12 +4,13 @@ ghost use Rattle.st_ids.specs.Listing.{Has};
 ghost use Rattle.st_ids.specs.declared.names.NodeId.{NodeId};
 ghost use Rattle.st_marks.specs.declared.changes.Change.{Change};
 ghost use Rattle.st_marks.specs.declared.intents.Intent.{Intent};
+ghost use Rattle.st_marks.specs.declared.steps.Step.{Step};
 ghost use Rattle.st_marks.specs.CarryOut.{full};
 ghost use Rattle.st_marks.specs.Document.{Document, HasShortRows, IsSoundInForm, content};
 ghost use Rattle.st_marks.specs.Embedding.{IsEmbedding, IsMentionedByIntent};
 ghost use Rattle.st_marks.specs.Intent.{Fits};
-ghost use Rattle.st_marks.specs.Normal.{IsNormalChange};
-ghost use Rattle.st_normal.specs.Rules.{ObeysChangeRules, ObeysDataRules};
+ghost use Rattle.st_marks.specs.Normal.{IsNormalChange, IsNormalStep};
+ghost use Rattle.st_normal.specs.Rules.{ObeysChangeRules, ObeysDataRules, ObeysStepRules};
 ghost use Rattle.st_normal_laws.specs.Laid.{IsLayout, Layout, laid};
 ghost use Rattle.st_normal_laws.specs.Meant.{IsOver, meant};
 ghost use Rattle.st_normal_laws.specs.Mentions.{mentions};
@@ -75,18 +76,25 @@ pub fn two_have_one_seed()
         → (laid (seed F (both A B))).held h.field ≡ h.node }
 {}
 
-/// The change of an intent that fits a sound document finds there what is so; and where the intent leaves rows short and is no
-/// change of schema, its change obeys the rules on changes of data. The rules on changes of schema are not shown yet.
-pub fn embeddings_obey_data_rules()
+/// The change of an intent that fits a sound document finds there what is so; and where the intent leaves rows short, its change
+/// obeys the rules: those on changes of data, or, where it changes the schema, those on changes of schema.
+pub fn embeddings_obey_rules()
     ensures over { (D : Document) (N : Intent) (C : Change)
         → IsSoundInForm D → Fits D N → IsEmbedding D N C
         → IsOver D C }
     ensures rules { (D : Document) (N : Intent) (C : Change)
-        → IsSoundInForm D → Fits D N → HasShortRows (full D N) → N.schema ≡ None
-        → IsEmbedding D N C → ObeysDataRules C }
+        → IsSoundInForm D → Fits D N → HasShortRows (full D N) → IsEmbedding D N C
+        → ObeysChangeRules C }
 {}
 
-/// A change of data is normal exactly where it obeys the rules of normal form.
-pub fn normal_changes_of_data_obey()
-    ensures { (C : Change) → C.schema ≡ None → IsNormalChange C ↔ ObeysDataRules C }
+/// A change is normal exactly where it obeys the rules of normal form: what `Change::check` lets through is what some intent
+/// gives, and nothing else.
+pub fn normal_changes_obey()
+    ensures { (C : Change) → IsNormalChange C ↔ ObeysChangeRules C }
+{}
+
+/// A step from a document to one that extends it obeys the rules of normal form. That each step which obeys them leads from some
+/// document is not shown yet.
+pub fn normal_steps_obey()
+    ensures { (S : Step) → IsNormalStep S → ObeysStepRules S }
 {}

@@ -1,6 +1,7 @@
 pub mod Carried
 pub mod Documents
 pub mod Example
+pub mod Existence
 pub mod Forms
 pub mod InTurn
 pub mod JoinedIntents

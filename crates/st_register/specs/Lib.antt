@@ -1,3 +1,4 @@
+pub mod Existence
 pub mod Joined
 pub mod Laws
 pub mod Register

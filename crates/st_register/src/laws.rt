@@ -1,18 +1,26 @@
 //! What a register as a field has to do with the register of a document: each law is the contract of a function that does
 //! nothing.
-ghost use Rattle.std.specs.Prelude.{◌≡◌, ◌⊎◌, ◌||◌, Bool, true, false, not, IsSome, IsTrue, IfSome, if◌then◌else◌};
-ghost use Rattle.st_ids.specs.Order.{same_node};
+ghost use Rattle.std.specs.Prelude.{◌≡◌, ◌⊎◌, ◌||◌, Bool, true, false, not, IsSome, IsTrue, IfSome, None, Some, if◌then◌else◌};
+ghost use Rattle.st_ids.specs.Listing.{item_of};
+ghost use Rattle.st_ids.specs.Order.{field_cmp, same_node};
 ghost use Rattle.st_ids.specs.declared.names.FieldId.{FieldId};
 ghost use Rattle.st_ids.specs.declared.names.NodeId.{NodeId};
+ghost use Rattle.st_marks.specs.declared.changes.Change.{Change};
 ghost use Rattle.st_marks.specs.declared.intents.Intent.{Intent};
+ghost use Rattle.st_marks.specs.declared.marks.RegMark.{RegMark};
+ghost use Rattle.st_marks.specs.declared.marks.RegStep.{RegStep};
+ghost use Rattle.st_marks.specs.declared.steps.Step.{Step};
 ghost use Rattle.st_marks.specs.Back.{retreat};
 ghost use Rattle.st_marks.specs.CarryOut.{full, void};
 ghost use Rattle.st_marks.specs.Document.{Document, IsSoundInForm};
+ghost use Rattle.st_marks.specs.Embedding.{IsEmbedding};
 ghost use Rattle.st_marks.specs.Extends.{IsExtendedBy};
 ghost use Rattle.st_marks.specs.Intent.{Fits, is_new, put_in, put_of, same_option};
 ghost use Rattle.st_marks.specs.Join.{AreParts, IsJoin};
 ghost use Rattle.st_marks.specs.Register.{embed_register, holds_mentioned, step_register};
 ghost use Rattle.st_marks.specs.Listings.{held_after};
+ghost use Rattle.st_marks.specs.Step.{IsStep};
+ghost use Rattle.st_register.specs.Existence.{HasChange, HasStep};
 ghost use Rattle.st_register.specs.Joined.{AreJoinedIn, evicts};
 ghost use Rattle.st_register.specs.Register.{RegPart, RegCanHold, RegFits, RegLeadsOver, reg_carried, reg_change_of, reg_part_of};
 ghost use Rattle.st_register.specs.Readings.{as_mark, as_step, left_by};
@@ -56,4 +64,35 @@ pub fn registers_are_joined()
         → IfSome (D.held f) (λ n. IsTrue (evicts (reg_part_of m N f) n) → (put_of M n ≡ None) ⊎ (put_in M f ≡ Some n))
         → IfSome (put_in J f) (λ n. IsTrue (is_new N n) → put_in N f ≡ Some n)
         → AreJoinedIn (reg_part_of m N f) (reg_part_of k M f) (record { node = D.held f }) (reg_part_of l J f) }
+{}
+
+/// A part that fits a register has a change there, and what it leads to, whole or void, is what a register can hold. So the part
+/// of an intent that fits a sound document has one in each register; and a whole change lists of each register a change of the
+/// kind: that of the part.
+pub fn registers_have_changes()
+    ensures register { (p : RegPart) (c : RegHeld) → RegFits p c → HasChange p c }
+    ensures intent { (D : Document) (N : Intent) (m : NodeId → Bool) (f : FieldId)
+        → IsSoundInForm D → Fits D N → HasChange (reg_part_of m N f) (record { node = D.held f }) }
+    ensures listed { (D : Document) (N : Intent) (C : Change) (f : FieldId) (e : IsEmbedding D N C)
+        → IsSoundInForm D → Fits D N → let p = reg_part_of e.mentioned N f in
+        RegFits p (record { node = D.held f }) × ((h : HasChange p (record { node = D.held f }))
+        × (item_of field_cmp (λ (r : RegMark). r.field) C.regs f
+        ≡ (if h.change.clear || holds_mentioned e.mentioned h.change.held
+        then Some (as_mark f h.change)
+        else None))) }
+{}
+
+/// A step leads from each content to each other one. So one leads from each register of a document to the register after it in
+/// each document that extends it; and a whole step lists of each register one.
+pub fn registers_have_steps()
+    ensures register { (c d : RegHeld) → RegCanHold c → RegCanHold d → HasStep c d }
+    ensures documents { (D E : Document) (f : FieldId) → IsExtendedBy D E
+        → HasStep (record { node = D.held f }) (record { node = E.held f }) }
+    ensures listed { (D E : Document) (S : Step) (f : FieldId) (s : IsStep D E S) → IsExtendedBy D E
+        → (h : HasStep (record { node = D.held f }) (record { node = E.held f }))
+        × (item_of field_cmp (λ (r : RegStep). r.field) S.regs f
+        ≡ (if not (same_option same_node h.step.before h.step.after)
+        || holds_mentioned s.mentioned h.step.before
+        then Some (as_step f h.step)
+        else None)) }
 {}

@@ -10,6 +10,7 @@ mod values;
 
 pub use kind::Register;
 pub use laws::{
-    registers_are_joined, registers_are_listed, registers_are_of_documents, registers_hold,
+    registers_are_joined, registers_are_listed, registers_are_of_documents, registers_have_changes,
+    registers_have_steps, registers_hold,
 };
 pub use values::{RegChange, RegHeld, RegSwap};

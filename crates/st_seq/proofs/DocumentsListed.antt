@@ -30,21 +30,26 @@ step_is m c d marks n l g =
     λ i. cond (list_any tells (lists i)) (Some (record { node = n; marks = says i })) None
 
 -- a node is named where its cell is full before and not after, or after and not before
-names_moved : (m : Nodes) {c d : List Slot} (g : GainsItems SameCell c d) → ((s t : Slot) → Has c s → Has d t → SameCell s t → s.full ≢ t.full → m s.node ≡ true) → NamesMoved m g
+pub names_moved : (m : Nodes) {c d : List Slot} (g : GainsItems SameCell c d) → ((s t : Slot) → Has c s → Has d t → SameCell s t → s.full ≢ t.full → m s.node ≡ true) → NamesMoved m g
 names_moved m no_more h = tt
 names_moved m (item_gained g) h = names_moved m g (λ s t v w same q. h s t v (inr w) same q)
 names_moved m (item_kept {x = s} {y = t} same g) h = (λ q. h s t (inl refl) (inl refl) same q, names_moved m g (λ x y v w one q. h x y (inr v) (inr w) one q))
+
+-- a node whose cell is full in one row and empty in the other stands at two places
+pub moved_apart : (D E : Document) (n : NodeId) (a b : Slot) → Has (content D n) a → Has (content E n) b → SameCell a b → a.full ≢ b.full → D.place a.node ≢ E.place a.node
+moved_apart D E n a b v w same q e =
+    let o = is_slot D n a v in
+    let p = is_slot E n b w in
+    let before : is_cell a.cell (D.place a.node) ≡ a.full = ap (λ (t : Slot). is_cell t.cell (D.place t.node)) (sym o.2) ∙ ap (λ (t : Slot). t.full) o.2 in
+    let after : is_cell b.cell (E.place b.node) ≡ b.full = ap (λ (t : Slot). is_cell t.cell (E.place t.node)) (sym p.2) ∙ ap (λ (t : Slot). t.full) p.2 in
+    q (sym before ∙ ap (is_cell a.cell) e ∙ (λ i. is_cell (same.0 i) (E.place (same.1 i))) ∙ after)
 
 module _ (D E : Document) (S : Step) (n : NodeId) (s : IsStep D E S) (x : IsExtendedBy D E) where
   moved : (a b : Slot) → Has (content D n) a → Has (content E n) b → SameCell a b → a.full ≢ b.full → s.mentioned a.node ≡ true
   moved a b v w same q =
       let o = is_slot D n a v in
-      let p = is_slot E n b w in
       let known : IsSome (D.nodes a.node) = subst (λ k. IsSome (D.nodes k)) (ap (λ (t : Slot). t.node) o.2) (x.before.cells_known n o.0 o.1).1 in
-      let before : is_cell a.cell (D.place a.node) ≡ a.full = ap (λ (t : Slot). is_cell t.cell (D.place t.node)) (sym o.2) ∙ ap (λ (t : Slot). t.full) o.2 in
-      let after : is_cell b.cell (E.place b.node) ≡ b.full = ap (λ (t : Slot). is_cell t.cell (E.place t.node)) (sym p.2) ∙ ap (λ (t : Slot). t.full) p.2 in
-      let apart : D.place a.node ≢ E.place a.node = (λ e. q (sym before ∙ ap (is_cell a.cell) e ∙ (λ i. is_cell (same.0 i) (E.place (same.1 i))) ∙ after)) in
-      (s.which a.node).1 (a.node, (known, inl apart), 0, refl)
+      (s.which a.node).1 (a.node, (known, inl (moved_apart D E n a b v w same q)), 0, refl)
 
   -- the step of a whole step leads from the row to the row after it
   pub document_is : RowLeadsOver s.mentioned (content D n) (content E n) (merge (step_row s.mentioned (s.grows n)))

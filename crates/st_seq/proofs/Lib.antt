@@ -36,3 +36,5 @@ pub mod NamedOnce
 pub mod NodesOnce
 pub mod OwnersEarly
 pub mod Refusing
+pub mod Carried
+pub mod Existence

@@ -19,7 +19,7 @@ use Rattle.st_lemmas.proofs.Bools.{and-true, and-both}
 use Rattle.st_lemmas.proofs.Orders.{is_lt-Less}
 
 -- a node is found where it is
-one_way : (a b : NodeId) → is_eq (node_cmp a b) ≡ same_node b a
+pub one_way : (a b : NodeId) → is_eq (node_cmp a b) ≡ same_node b a
 unfolding same_node
 one_way a b = ap is_eq (node_cmp_total.antisymm a b) ∙ turned (node_cmp b a)
   where

@@ -7,3 +7,4 @@ pub mod Laws
 pub mod NamedApart
 pub mod OwnedEarly
 pub mod inside
+pub mod Existence

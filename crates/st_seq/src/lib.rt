@@ -23,7 +23,10 @@ mod touches;
 mod values;
 
 pub use kind::Sequence;
-pub use laws::{rows_are_joined, rows_are_listed, rows_are_of_documents, rows_hold};
+pub use laws::{
+    rows_are_joined, rows_are_listed, rows_are_of_documents, rows_have_changes, rows_have_steps,
+    rows_hold,
+};
 pub use row_bridge::bridge;
 pub use row_compose::{compose, join};
 pub use row_effect::{effect, void_effect};
