@@ -103,7 +103,7 @@ found-cell p s xs c h = go s.full refl
 
 change-cells : (p : RowPart) (c : List Slot) → DescribeAll c (cells_before (embed_cells p c))
 change-cells p [] = tt
-change-cells p (s ∷ c) = found-cell p s _ c (subst (DescribeAll c) (sym (made-unfound p (p.new_cells (Some s.cell)) (embed_cells p c))) (change-cells p c))
+change-cells p (s ∷ c) = found-cell p s (embed_made p (p.new_cells (Some s.cell)) ++ embed_cells p c) c (subst (DescribeAll c) (sym (made-unfound p (p.new_cells (Some s.cell)) (embed_cells p c))) (change-cells p c))
 
 -- a change finds the row where it stands
 pub change_finds : (p : RowPart) (c : List Slot) → DescribeAll c (cells_before (embed_row p c))

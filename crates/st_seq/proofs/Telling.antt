@@ -105,7 +105,7 @@ told_made l (Some a) = behind l a
 -- the part
 abbrev pub told : List NodeId → {c : List Slot} {xs : List CellMark} → Lays c xs → RowPart
 told new {xs = xs} l = record {
-  made = told_made l;
+  new_cells = told_made l;
   target_of = told_goes new xs;
   mentioned = λ n. list_any (touches n) xs || is_some (told_goes new xs n);
 }
