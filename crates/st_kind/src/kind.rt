@@ -52,6 +52,9 @@ pub trait FieldKind: Sized {
     /// The nodes that come into the field with what the step makes.
     ghost brings: { Self.Step → Nodes };
 
+    /// The second content has all that the first has, and the nodes that move from one to the other belong to a set.
+    ghost HasGrown: { Nodes → Self.Ctx → Self.Ctx → Type 0 };
+
     /// No mentioned node comes into the field, from one content to another, unless the marks tell what becomes of it.
     ghost Keeps: { Part → Self.Ctx → Self.Ctx → Type 0 };
 
@@ -148,6 +151,12 @@ pub trait FieldKind: Sized {
             → IsEmbedding n c change.now → IsStep m c d step.now → IsContent (carry n was_void c) → IsContent (carry n is_void d)
             → IfMemory result (IsStep (named_beside m (mentions n) (makes n) was_void is_void) (carry n was_void c) (carry n is_void d)) }
         ensures apart { IsApartWhere result (RebaseClashAt change.now step.now) };
+
+    /// A part has an embedding in each content that it fits.
+    ghost has_embedding: { (n : Part) (c : Self.Ctx) → Fits n c → (x : Self.Change) × IsEmbedding n c x };
+
+    /// A step leads from a content to each that has all that it has.
+    ghost has_step: { (m : Nodes) (c d : Self.Ctx) → IsContent c → IsContent d → HasGrown m c d → (s : Self.Step) × IsStep m c d s };
 
     /// A part has one embedding in a content.
     ghost one_embedding: { (n : Part) (c : Self.Ctx) (x y : Self.Change) → IsEmbedding n c x → IsEmbedding n c y → x ≡ y };

@@ -11,7 +11,15 @@ use Rattle.st_marks.specs.Row.{how}
 use Rattle.st_register.specs.declared.values.RegChange.{RegChange}
 use Rattle.st_register.specs.declared.values.RegHeld.{RegHeld}
 use Rattle.st_register.specs.declared.values.RegSwap.{RegSwap}
-use Rattle.st_register.specs.Register.{RegPart, reg_change_of, RegLeadsOver, RegKeeps}
+use Rattle.st_register.specs.Register.{RegPart, RegCanHold, RegFits, reg_change_of, RegLeadsOver, RegKeeps}
+
+-- a part that fits has a change
+pub has_change : (p : RegPart) (c : RegHeld) → RegFits p c → (x : RegChange) × (x ≡ reg_change_of p c)
+has_change p c w = (reg_change_of p c, refl)
+
+-- a step leads from one content to each other one
+pub swap_between : (m : NodeId → Bool) (c d : RegHeld) → RegCanHold c → RegCanHold d → Unit {0} → (s : RegSwap) × RegLeadsOver c d s
+swap_between m c d w v g = (record { before = c.node; after = d.node }, record { before = w; after = v; swap = refl })
 
 -- a part has one change in a content
 pub one_change : (p : RegPart) (c : RegHeld) (x y : RegChange) → x ≡ reg_change_of p c → y ≡ reg_change_of p c → x ≡ y

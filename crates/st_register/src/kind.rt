@@ -18,7 +18,7 @@ impl FieldKind for Register {
     ghost use Rattle.st_register.specs.Register.{RegPart, RegCanHold, RegFits, reg_carried, reg_change_of, RegLeadsOver, RegKeeps, DifferAt};
     ghost use Rattle.st_register.specs.Readings.{left_by};
     ghost use Rattle.st_register.specs.Joined.{AreJoinedIn};
-    ghost use Rattle.st_register.specs.Laws.{kept_in_turn, one_change, one_swap};
+    ghost use Rattle.st_register.specs.Laws.{has_change, kept_in_turn, one_change, one_swap, swap_between};
 
     type Ctx = RegHeld;
 
@@ -45,6 +45,8 @@ impl FieldKind for Register {
     ghost IsStep = { λ m c d s. RegLeadsOver c d s };
 
     ghost brings = { λ s n. same_option same_node s.after (Some n) };
+
+    ghost HasGrown = { λ m c d. Unit {0} };
 
     ghost Keeps = { RegKeeps };
 
@@ -119,6 +121,10 @@ impl FieldKind for Register {
             after: left(&after, is_void),
         })
     }
+
+    ghost has_embedding = { has_change };
+
+    ghost has_step = { swap_between };
 
     ghost one_embedding = { one_change };
 

@@ -68,6 +68,14 @@ same_grown m (item_kept {x = s} {y = t} a g) (item_kept b h) o = let r = same_gr
 pub one_row_step : (m : Nodes) (c d : RowHeld) (s t : RowStep) → RowLeadsOver m c.cells d.cells s.marks → RowLeadsOver m c.cells d.cells t.marks → s ≡ t
 one_row_step m c d s t u v = λ i. record { marks = (u.step.says ∙ ap merge (same_grown m u.step.grows v.step.grows u.after.once).0 ∙ sym v.step.says) i }
 
+-- ## There is a change and a step
+
+pub has_row_change : (p : SeqPart) (c : RowHeld) → RowFits p c.cells → (x : RowChange) × (x ≡ row_change_of p c.cells)
+has_row_change p c w = (row_change_of p c.cells, refl)
+
+pub has_row_step : (m : Nodes) (c d : RowHeld) → RowCanHold c.cells → RowCanHold d.cells → ((g : GainsItems SameCell c.cells d.cells) × NamesMoved m g) → (s : RowStep) × RowLeadsOver m c.cells d.cells s.marks
+has_row_step m c d w v g = (record { marks = merge (step_row m g.0) }, record { before = w; after = v; step = record { grows = g.0; says = refl }; moved = g.1 })
+
 -- ## One change
 
 pub one_row_change : (p : SeqPart) (c : RowHeld) (x y : RowChange) → x ≡ row_change_of p c.cells → y ≡ row_change_of p c.cells → x ≡ y

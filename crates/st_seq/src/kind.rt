@@ -19,13 +19,15 @@ pub struct Sequence;
 impl FieldKind for Sequence {
     ghost use Rattle.std.specs.Prelude.{◌≡◌, ◌<◌, ◌^◌, length};
     ghost use Rattle.st_marks.specs.Embedding.{is_among};
-    ghost use Rattle.st_marks.specs.Row.{spread};
+    ghost use Rattle.st_marks.specs.Extends.{GainsItems};
+    ghost use Rattle.st_marks.specs.Row.{SameCell, spread};
     ghost use Rattle.st_marks.specs.Listings.{cells_after, cells_before};
     ghost use Rattle.st_seq.specs.Views.{row_views};
     ghost use Rattle.st_seq.specs.Changes.{may_list};
-    ghost use Rattle.st_seq.specs.Laws.{kept_in_turn, one_row_change, one_row_step, row_changes_are_short, row_has_room, row_steps_are_short};
+    ghost use Rattle.st_seq.specs.Laws.{has_row_change, has_row_step, kept_in_turn, one_row_change, one_row_step, row_changes_are_short, row_has_room, row_steps_are_short};
     ghost use Rattle.st_seq.specs.NamedApart.{ApartAt, named_after, named_before, named_in_row};
     ghost use Rattle.st_seq.specs.OwnedEarly.{TurnsApartAt};
+    ghost use Rattle.st_seq.specs.Rows.{NamesMoved};
     ghost use Rattle.st_seq.specs.Sequence.{SeqPart, RowPartsAreJoined, RowCanHold, RowFits, RowKeeps, RowLeadsOver, brought, row_carried, row_change_of, retreat_to};
 
     type Ctx = RowHeld;
@@ -53,6 +55,8 @@ impl FieldKind for Sequence {
     ghost IsStep = { λ m c d s. RowLeadsOver m c.cells d.cells s.marks };
 
     ghost brings = { λ s. brought (spread s.marks) };
+
+    ghost HasGrown = { λ m c d. (g : GainsItems SameCell c.cells d.cells) × NamesMoved m g };
 
     ghost Keeps = { λ p c d. RowKeeps p.part c.cells d.cells };
 
@@ -152,6 +156,10 @@ impl FieldKind for Sequence {
         agree_beside(alloc, change.marks.as_slice(), step.marks.as_slice())?;
         Ok(RowStep { marks })
     }
+
+    ghost has_embedding = { has_row_change };
+
+    ghost has_step = { has_row_step };
 
     ghost one_embedding = { one_row_change };
 
