@@ -1,7 +1,5 @@
-use Rattle.std.proofs.Common.{◌≡◌, Ok, sym}
 use Rattle.st_script.specs.Header.{header_view}
 use Rattle.st_script.specs.Line.{line_of}
-use Rattle.st_script.specs.Steps.{step_view}
 use Rattle.st_run.specs.Answers.{AnswersLine, IsCutShort}
 use Rattle.st_run.proofs.Outputs.{nothing_is_output}
 use Rattle.st_run.proofs.trace.take_line.Goals as goal

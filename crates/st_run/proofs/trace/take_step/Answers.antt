@@ -1,4 +1,4 @@
-use Rattle.std.proofs.Common.{◌≡◌, Ok, sym, refl}
+use Rattle.std.proofs.Common.{◌≡◌, sym, refl}
 use Rattle.st_script.specs.AnswerText.{answer_line}
 use Rattle.st_script.specs.Header.{header_view}
 use Rattle.st_script.specs.Line.{line_of}
