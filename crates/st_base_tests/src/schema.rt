@@ -3,8 +3,8 @@ use serde_json::Value;
 use st_ids::{Copied, Key, Text};
 use st_json::read_line;
 use st_schema::{
-    Header, NotWider, Schema, allowed_has_form, form_is_read, read_tree, wider, wider_allows_more,
-    write_tree,
+    Header, NotWider, Schema, allowed_has_form, form_is_read, formed_trees_have_shape, read_tree,
+    read_trees_have_shape, wider, wider_allows_more, write_tree,
 };
 use st_tree::Tree;
 use std::alloc::{AllocError, Global};
@@ -226,6 +226,8 @@ fn first_use(rt: HostRuntime) -> Result<(), Fail> {
     wider_allows_more();
     allowed_has_form();
     form_is_read();
+    formed_trees_have_shape();
+    read_trees_have_shape();
     Ok(())
 }
 

@@ -3,3 +3,4 @@ pub mod Fronts
 pub mod Appending
 pub mod LineSteps
 pub mod Outputs
+pub mod Deciding

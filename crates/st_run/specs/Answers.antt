@@ -157,3 +157,13 @@ IsAnsweredAs false left rest old new outcome = (rest ≡ left) × IsOutput old n
 -- usage line, and nothing of the source is read
 abbrev pub IsAnswered : List (List ℕ) → Option (List ℕ) → Option (List ℕ) → Option (List ℕ) → Option (List ℕ) → Outcome → Type 0
 IsAnswered words = IsAnsweredAs (is_trace words)
+
+-- the words and the bytes decide how it ends: neither memory nor the source nor the sink failed
+abbrev pub NothingFailed : Outcome → Type 0
+NothingFailed Done = Unit {0}
+NothingFailed Usage = Unit {0}
+NothingFailed (BadLine n c) = Unit {0}
+NothingFailed (TooLong n) = Unit {0}
+NothingFailed ReadFault = ⊥
+NothingFailed WriteFault = ⊥
+NothingFailed NoMemory = ⊥

@@ -2,6 +2,7 @@
 #![tactic(auto)]
 
 mod command;
+mod laws;
 mod lines;
 mod outcome;
 mod send;
@@ -9,4 +10,5 @@ mod take;
 mod trace;
 
 pub use command::run;
+pub use laws::{each_input_has_answers, each_run_has_an_answer};
 pub use outcome::Outcome;

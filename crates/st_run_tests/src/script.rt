@@ -5,7 +5,7 @@ use st_marks::Verdict;
 use st_script::{
     Answer, Line, Refusal, TraceStep, answer_line, read_header, read_headers_may_open,
     read_step_line, read_steps_are_of_form, read_steps_are_read_again, read_steps_fit_lines,
-    step_line, step_lines_are_read,
+    read_steps_have_shape, step_line, step_lines_are_read,
 };
 use st_tree::{Field, Tree, TreeFault};
 use std::alloc::{AllocError, Global};
@@ -43,6 +43,7 @@ fn first_use(rt: HostRuntime) {
     assert!(rt; is_written_as(rt.alloc(), INSERT_LINE, WHOLE_INSERT_LINE));
     read_steps_are_of_form();
     read_steps_fit_lines();
+    read_steps_have_shape();
     step_lines_are_read();
     read_steps_are_read_again();
     read_headers_may_open();

@@ -1,6 +1,5 @@
 -- The trees of the steps that lines are read as have the shape of trees that values show.
 use Rattle.std.proofs.Common.{◌≡◌, ℕ, ◌==◌, nat_le, Bool, true, false, cond, ◌&&◌, List, ◌∷◌, length, Option, Some, None, option_and_then, option_map, is_ok, Ordering, Less, Equal, Greater, Ok, codes, refl, subst}
-use Rattle.std.specs.Prelude.{⊤}
 use Rattle.std.specs.Ordering.{nat_cmp, match_ordering}
 use Rattle.std.specs.Option.{ok_or}
 use Rattle.std.specs.Str.Lossy.{utf8_valid_len}

@@ -1,5 +1,5 @@
 -- From lists of which holds what steps keep, each step leads on: there are next lists, of which the same holds, and an answer.
-use Rattle.std.proofs.Common.{◌≡◌, ℕ, zero, suc, ◌+◌, Bool, true, false, cond, nat_le, List, [], ◌∷◌, ◌++◌, length, map, Option, Some, None, IsSome, is_some, option_map, option_and_then, Result, Ok, refl, sym, ap, subst, ◌⊎◌, inl, inr}
+use Rattle.std.proofs.Common.{◌≡◌, ℕ, zero, suc, ◌+◌, Bool, true, false, cond, nat_le, List, [], ◌∷◌, ◌++◌, length, map, Option, Some, None, IsSome, is_some, option_map, option_and_then, Result, Ok, refl, ◌⊎◌, inl, inr}
 use Rattle.std.specs.List.{find, slice_get, slice_set}
 use Rattle.std.specs.Option.{option_map_or, option_or}
 use Rattle.serde_json.specs.Written.{compact_text}
@@ -22,11 +22,11 @@ use Rattle.st_marks.specs.declared.intents.Intent.{Intent}
 use Rattle.st_marks.specs.declared.verdicts.Verdict.{Verdict}
 use Rattle.st_marks.specs.Document.{Document, IsSoundInForm, NodeType}
 use Rattle.st_ids.specs.Root.{root}
-use Rattle.st_marks.specs.CarryOut.{full, void, void_data}
+use Rattle.st_marks.specs.CarryOut.{void, void_data}
 use Rattle.st_marks.specs.Intent.{Fits, new_node, new_type}
 use Rattle.st_marks.specs.LiveTree.{IsTreeText}
 use Rattle.st_marks.specs.Run.{Run, done, next}
-use Rattle.st_marks.specs.Verdict.{IsVerdict, carried}
+use Rattle.st_marks.specs.Verdict.{carried}
 use Rattle.st_marks.proofs.Members.{append_left, append_right}
 use Rattle.st_opening.specs.Start.{first_said, type_at}
 use Rattle.st_log_laws.proofs.Turns.{has_run}
@@ -48,7 +48,7 @@ use Rattle.st_script.specs.declared.answer.Answer.{Answer}
 use Rattle.st_script.specs.declared.answer.Answer.TheVariants.{Deliver, Join as Joins, No, Show}
 use Rattle.st_script.specs.declared.refusal.Refusal.TheVariants.{NoBranch, NoClient, NothingNew, NothingToSend, Taken}
 use Rattle.st_trace.specs.Replicas.{IsClient, IsSound}
-use Rattle.st_trace.specs.Log.{commit_of, commits_in, log_with}
+use Rattle.st_trace.specs.Log.{commit_of, log_with}
 use Rattle.st_trace.specs.World.{AtClient, HasReceived, HasShown, IsDelivered, IsDeliveredTo, IsEdited, IsNext, IsNextOf, IsShown, IsVerdictOf, OnBranch, after_edit, entering, client_named, next_names, join, new_client, log_limit_passed, names_made, next_rev, opening_document, limit_refusal, place_of, received_by, sequence, with_received, with_client}
 use Rattle.st_trace.specs.declared.client.EditWord.{EditWord}
 use Rattle.st_trace.specs.declared.state.Body.TheVariants.{Join}

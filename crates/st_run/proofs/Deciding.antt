@@ -1,0 +1,97 @@
+-- Each input has its answers: some output is told of it in which nothing failed.
+use Rattle.std.proofs.Common.{◌≡◌, ℕ, ◌+◌, nat_lt, Bool, true, false, List, [], ◌∷◌, ◌++◌, length, Option, Some, Result, Ok, Err, codes, refl, inr}
+use Rattle.st_json.specs.declared.fault.BadCause.{BadCause}
+use Rattle.st_json.specs.declared.fault.BadCause.TheVariants.{Header}
+use Rattle.st_script.specs.AnswerText.{answer_line}
+use Rattle.st_script.specs.Header.{HeaderView, header_line}
+use Rattle.st_script.specs.Line.{line_of}
+use Rattle.st_script.specs.Steps.{StepView}
+use Rattle.st_script.specs.declared.answer.Answer.TheVariants as answer
+use Rattle.st_script.proofs.OfForm.{header_line_kept}
+use Rattle.st_trace.specs.World.{empty_state}
+use Rattle.st_trace.specs.declared.state.WorldState.{WorldState}
+use Rattle.st_trace.proofs.Going.{AreSound, begun_sound}
+use Rattle.st_trace.proofs.Leading.{leads_on}
+use Rattle.st_run.specs.Answers.{Answers, AnswersBy, AnswersFrom, AnswersLine, AnswersOpening, AnswersTrace, IsAnswered, IsAnsweredAs, NothingFailed, OrCutShort, Output, bad_line, before, is_trace, long_line, long_output, max_input, usage_output}
+use Rattle.st_run.specs.Lines.{cut}
+use Rattle.st_run.specs.declared.outcome.Outcome.{Outcome}
+use Rattle.st_run.specs.declared.outcome.Outcome.TheVariants.{Done, Usage, BadLine, TooLong, ReadFault, WriteFault, NoMemory}
+
+-- how the lines of an input end, where nothing fails
+abbrev IsEnd : Outcome → Type 0
+IsEnd Done = Unit {0}
+IsEnd Usage = ⊥
+IsEnd (BadLine n c) = Unit {0}
+IsEnd (TooLong n) = Unit {0}
+IsEnd ReadFault = ⊥
+IsEnd WriteFault = ⊥
+IsEnd NoMemory = ⊥
+
+end_unfailed : (o : Outcome) → IsEnd o → NothingFailed o
+end_unfailed Done h = tt
+end_unfailed Usage h = tt
+end_unfailed (BadLine n c) h = tt
+end_unfailed (TooLong n) h = tt
+end_unfailed ReadFault h = h
+end_unfailed WriteFault h = h
+end_unfailed NoMemory h = h
+
+abbrev Whole : (Output → Type 0) → Type 0
+Whole Wanted = (out : Output) × Wanted out × IsEnd out.outcome
+
+-- one line, and what follows it from lists of which holds what steps keep
+line_has : (h : HeaderView) (n : ℕ) (r : Result StepView BadCause) (w : WorldState) (Rest : WorldState → Output → Type 0) → AreSound h w → ((v : WorldState) → AreSound h v → Whole (Rest v))
+    → Whole (OrCutShort (AnswersLine h n r w Rest))
+line_has h n (Err c) w Rest s rest = (bad_line n c, inr refl, tt)
+line_has h n (Ok x) w Rest s rest =
+    let r = leads_on h w s x in
+    let t = rest r.0 r.3 in
+    (before (answer_line r.1) t.0, inr (record { world = r.0; answer = r.1; rest = t.0; next = r.2; follows = t.1; whole = refl }), t.2)
+
+lines_have : (h : HeaderView) (ls : List (List ℕ)) (w : WorldState) (n : ℕ) → AreSound h w → Whole (AnswersFrom h w n ls)
+lines_have h [] w n s = (record { bytes = []; outcome = Done }, inr refl, tt)
+lines_have h (l ∷ ls) w n s = line_has h n (line_of l) w (λ v. AnswersFrom h v (n + 1) ls) s (λ v t. lines_have h ls v (n + 1) t)
+
+trace_has : (ls : List (List ℕ)) → Whole (AnswersTrace ls)
+trace_has [] = (bad_line 1 Header, inr refl, tt)
+trace_has (l ∷ ls) = opening (header_line (codes "trace") l) refl
+  where
+    opening : (r : Result HeaderView BadCause) → header_line (codes "trace") l ≡ r → Whole (OrCutShort (AnswersOpening r (λ h. AnswersFrom h empty_state 2 ls)))
+    opening (Err c) e = (bad_line 1 c, inr refl, tt)
+    opening (Ok h) e =
+        let kept = header_line_kept (codes "trace") l h e in
+        let t = lines_have h ls empty_state 2 (begun_sound h (record { schema = kept.0; tree = kept.1 })) in
+        (before (answer_line answer.Header) t.0, inr (record { rest = t.0; follows = t.1; whole = refl }), t.2)
+
+bytes_have : (bytes : List ℕ) → Whole (Answers bytes)
+bytes_have bytes = by (nat_lt max_input (length bytes))
+  where
+    by : (over : Bool) → Whole (AnswersBy over bytes)
+    by true = (long_output (long_line bytes), refl, tt)
+    by false = trace_has (cut bytes)
+
+pub has_answers : (bytes : List ℕ) → (out : Output) × Answers bytes out × NothingFailed out.outcome
+has_answers bytes = let t = bytes_have bytes in (t.0, t.1, end_unfailed t.0.outcome t.2)
+
+-- ## Any words
+
+abbrev IsDecided : Bool → List ℕ → List ℕ → Type 0
+IsDecided command left written =
+    (outcome : Outcome) × (rest : Option (List ℕ)) × (after : Option (List ℕ)) × NothingFailed outcome × IsAnsweredAs command (Some left) rest (Some written) after outcome
+
+trace_decided : (left written : List ℕ) (out : Output) → Answers left out → (o : Outcome) → out.outcome ≡ o → IsEnd o → IsDecided true left written
+trace_decided left written out wanted Done is h = (Done, Some [], Some (written ++ out.bytes), tt, (refl, (out, wanted, is, refl)))
+trace_decided left written out wanted Usage is h = absurd h
+trace_decided left written out wanted (BadLine n c) is h = (BadLine n c, Some [], Some (written ++ out.bytes), tt, (out, wanted, is, refl))
+trace_decided left written out wanted (TooLong n) is h = (TooLong n, Some [], Some (written ++ out.bytes), tt, (out, wanted, is, refl))
+trace_decided left written out wanted ReadFault is h = absurd h
+trace_decided left written out wanted WriteFault is h = absurd h
+trace_decided left written out wanted NoMemory is h = absurd h
+
+pub has_answer : (words : List (List ℕ)) (left written : List ℕ)
+    → (outcome : Outcome) × (rest : Option (List ℕ)) × (after : Option (List ℕ)) × NothingFailed outcome × IsAnswered words (Some left) rest (Some written) after outcome
+has_answer words left written = by (is_trace words)
+  where
+    by : (command : Bool) → IsDecided command left written
+    by true = let t = bytes_have left in trace_decided left written t.0 t.1 t.0.outcome refl t.2
+    by false = (Usage, Some left, Some (written ++ usage_output.bytes), tt, (refl, (usage_output, refl, refl, refl)))

@@ -1,0 +1,16 @@
+//! Laws about answers: each is the contract of a function that does nothing.
+ghost use Rattle.std.specs.Prelude.{ℕ, List, Option, Some};
+ghost use Rattle.st_run.specs.Answers.{Answers, IsAnswered, NothingFailed, Output};
+ghost use Rattle.st_run.specs.declared.outcome.Outcome.{Outcome};
+
+/// Each input has its answers, from the first line to the one that ends the run, and not cut short.
+pub fn each_input_has_answers()
+    ensures { (bytes : List ℕ) → (out : Output) × Answers bytes out × NothingFailed out.outcome }
+{}
+
+/// Whatever the words are, whatever bytes a source has left and whatever a sink has written: there
+/// is an outcome at which nothing failed, with what is then left and written.
+pub fn each_run_has_an_answer()
+    ensures { (words : List (List ℕ)) (left written : List ℕ) → (outcome : Outcome) × (rest : Option (List ℕ))
+        × (after : Option (List ℕ)) × NothingFailed outcome × IsAnswered words (Some left) rest (Some written) after outcome }
+{}
