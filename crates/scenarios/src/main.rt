@@ -34,15 +34,29 @@ fn run_over(alloc: Global, words: &Vec<String>, input: Vec<u8>) -> Ran {
     }
 }
 
+// The bytes of a scenario's file with that ending.
+fn read_file(rt: &HostRuntime, name: &str, ending: &str) -> io::Result<Vec<u8>> {
+    let file = format!(in rt.alloc(); "{name}.{ending}")?;
+    fs::read(rt, file.as_str())
+}
+
+// What a scenario comes to.
+fn run_scenario(rt: &HostRuntime, name: &str, words: &str) -> io::Result<Ran> {
+    let words = words_of(rt.alloc(), words)?;
+    let input = read_file(rt, name, "trace")?;
+    Ok(run_over(rt.alloc(), &words, input))
+}
+
+// Whether it ended with a status and wrote the answers.
+fn came_to(ran: &Ran, status: &str, answers: &[u8]) -> bool {
+    status.parse::<u8>().ok() == Some(ran.status) && ran.sink.bytes() == answers
+}
+
 // Whether a scenario ends with its status and writes its answers.
 fn is_as_wanted(rt: &HostRuntime, name: &str, status: &str, words: &str) -> io::Result<bool> {
-    let alloc = rt.alloc();
-    let words = words_of(alloc, words)?;
-    let input = fs::read(rt, format!(in alloc; "{name}.trace")?.as_str())?;
-    let wanted = fs::read(rt, format!(in alloc; "{name}.answers")?.as_str())?;
-    let came = run_over(alloc, &words, input);
-    let ends = status.parse::<u8>().ok() == Some(came.status);
-    Ok(ends && came.sink.bytes() == wanted.as_slice())
+    let ran = run_scenario(rt, name, words)?;
+    let wanted = read_file(rt, name, "answers")?;
+    Ok(came_to(&ran, status, wanted.as_slice()))
 }
 
 // The same of a line of the table: a name, a status and the words.

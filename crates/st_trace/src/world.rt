@@ -111,6 +111,17 @@ fn opening(alloc: Global, header: &Header) -> Result<Doc, AllocError>
     Ok(doc)
 }
 
+// What is read off a header: the types whose nodes have a row, and the opening document.
+fn read_off(alloc: Global, header: &Header) -> Result<(List<Text>, Doc), AllocError>
+    requires { IsHeader (header_view header.now) }
+    ensures arrays { IfOk result (λ r. is_among r.0 ≡ is_array_type (header_view header.now).schema) }
+    ensures head { IfOk result (λ r. document_of r.1 ≡ opening_document (header_view header.now)) }
+{
+    let arrays = array_types(alloc, &header.schema)?;
+    let head = opening(alloc, header)?;
+    Ok((arrays, head))
+}
+
 impl World {
     /// The world that opens with a header, before any client joins.
     pub fn new(alloc: Global, header: Header) -> Result<World, AllocError>
@@ -120,8 +131,7 @@ impl World {
         ensures sound { IfOk result IsSound }
         ensures fresh { IfOk result (λ w. (w.spent ≡ false) × (w.steps ≡ 0)) }
     {
-        let arrays = array_types(alloc, &header.schema)?;
-        let head = opening(alloc, &header)?;
+        let (arrays, head) = read_off(alloc, &header)?;
         Ok(World::begin(alloc, header, arrays, head))
     }
 
