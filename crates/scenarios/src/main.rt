@@ -70,17 +70,29 @@ fn line_is_as_wanted(rt: &HostRuntime, line: &str) -> io::Result<bool> {
     }
 }
 
-fn main(rt: HostRuntime) -> io::Result<ExitCode> {
-    let table = fs::read_to_string(&rt, "scenarios.txt")?;
+// Runs the scenario of a line, and tells where it isn't as wanted: how many are not.
+fn others_in(rt: &HostRuntime, line: &str) -> io::Result<u64> {
+    if line_is_as_wanted(rt, line)? {
+        return Ok(0);
+    }
+    println!(rt; "not as wanted: {line}")?;
+    Ok(1)
+}
+
+// Runs all scenarios of the table: how many there are, and how many are not as wanted.
+fn run_all(rt: &HostRuntime, table: &str) -> io::Result<(u64, u64)> {
     let mut count = 0u64;
     let mut others = 0u64;
     for line in table.lines() {
         count = count.saturating_add(1);
-        if !line_is_as_wanted(&rt, line)? {
-            others = others.saturating_add(1);
-            println!(rt; "not as wanted: {line}")?;
-        }
+        others = others.saturating_add(others_in(rt, line)?);
     }
+    Ok((count, others))
+}
+
+fn main(rt: HostRuntime) -> io::Result<ExitCode> {
+    let table = fs::read_to_string(&rt, "scenarios.txt")?;
+    let (count, others) = run_all(&rt, table.as_str())?;
     println!(rt; "{count} scenarios, {others} not as wanted")?;
     Ok(ExitCode::from(u8::from(others > 0)))
 }

@@ -3,9 +3,10 @@
 ghost use Rattle.st_marks.specs.Document.{IsSoundInForm};
 ghost use Rattle.st_doc.specs.Doc.{document_of};
 
-use crate::given::{Case, carry, commit, opened, shows};
+use crate::given::{Case, carry, commit, opened, schema, shows};
 use st_doc::Doc;
 use st_marks::{Intent, Verdict};
+use st_schema::Schema;
 use std::alloc::Global;
 use std::test::Fail;
 
@@ -36,13 +37,60 @@ fn leads(
     Ok(same && is_void == to.1)
 }
 
-fn is_so(alloc: Global, row: &Row) -> Result<bool, Fail> {
-    let mut doc = opened(alloc, row.tree)?;
-    let first = commit(alloc, &doc, 1, row.first)?;
-    let second = commit(alloc, &doc, 2, row.second)?;
-    let mut turned = doc.copy(alloc)?;
-    let in_order = leads(alloc, &mut doc, &first, &second, row.in_order)?;
-    Ok(in_order && leads(alloc, &mut turned, &second, &first, row.turned)?)
+// The same in a copy of a document.
+fn copy_leads(
+    alloc: Global,
+    doc: &Doc,
+    first: &Intent,
+    second: &Intent,
+    to: (&str, bool),
+) -> Result<bool, Fail>
+    requires { IsSoundInForm (document_of doc.now) }
+{
+    let mut copy = doc.copy(alloc)?;
+    leads(alloc, &mut copy, first, second, to)
+}
+
+// Whether two commits lead to the trees of a row, in order and turned.
+fn both_lead(
+    alloc: Global,
+    doc: &Doc,
+    first: &Intent,
+    second: &Intent,
+    row: &Row,
+) -> Result<bool, Fail>
+    requires { IsSoundInForm (document_of doc.now) }
+{
+    let in_order = copy_leads(alloc, doc, first, second, row.in_order)?;
+    let turned = copy_leads(alloc, doc, second, first, row.turned)?;
+    Ok(in_order && turned)
+}
+
+// The same with the second commit made in the document.
+fn second_leads(
+    alloc: Global,
+    schema: &Schema,
+    doc: &Doc,
+    first: &Intent,
+    row: &Row,
+) -> Result<bool, Fail>
+    requires { IsSoundInForm (document_of doc.now) }
+{
+    let second = commit(alloc, schema, doc, 2, row.second)?;
+    both_lead(alloc, doc, first, &second, row)
+}
+
+// The same with both made in it.
+fn row_leads(alloc: Global, schema: &Schema, doc: &Doc, row: &Row) -> Result<bool, Fail>
+    requires { IsSoundInForm (document_of doc.now) }
+{
+    let first = commit(alloc, schema, doc, 1, row.first)?;
+    second_leads(alloc, schema, doc, &first, row)
+}
+
+fn is_so(alloc: Global, schema: &Schema, row: &Row) -> Result<bool, Fail> {
+    let doc = opened(alloc, schema, row.tree)?;
+    row_leads(alloc, schema, &doc, row)
 }
 
 const MOVED: Case = Case::Move(&[("", 0)], 0, 1, &[("", 1)], "", 0);
@@ -99,18 +147,23 @@ const ROWS: [Row; 6] = [
 ];
 
 // The first row that isn't so.
-fn first_wrong(alloc: Global) -> Result<Option<&'static str>, Fail> {
-    for row in &ROWS {
-        if !is_so(alloc, row)? {
+fn first_wrong(alloc: Global, schema: &Schema, rows: &[Row]) -> Result<Option<&'static str>, Fail> {
+    for row in rows {
+        if !is_so(alloc, schema, row)? {
             return Ok(Some(row.in_order.0));
         }
     }
     Ok(None)
 }
 
+fn wrong_row(alloc: Global) -> Result<Option<&'static str>, Fail> {
+    let schema = schema(alloc)?;
+    first_wrong(alloc, &schema, &ROWS)
+}
+
 #[test]
 fn both_orders(rt: HostRuntime) -> Result<(), Fail> {
-    let wrong = first_wrong(rt.alloc())?;
+    let wrong = wrong_row(rt.alloc())?;
     assert!(rt; wrong.is_none(), "{wrong:?}");
     Ok(())
 }

@@ -1,11 +1,14 @@
 //! Each edit, and its refusals.
+ghost use Rattle.st_edits.specs.Resolve.{IsWithin};
+
 use crate::given::{Case, Places, commit, edit, opened, schema};
 use st_doc::Doc;
 use st_edits::NameCounters;
 use st_ids::{Limit, LimitOf, Or, Rev};
 use st_marks::Intent;
 use st_resolve::resolve;
-use st_tree::EditFault;
+use st_schema::Schema;
+use st_tree::{Edit, EditFault};
 use std::alloc::Global;
 use std::test::Fail;
 
@@ -29,8 +32,14 @@ fn parts(intent: &Intent) -> [usize; 5] {
     ]
 }
 
-fn comes_to(alloc: Global, doc: &Doc, case: Case, to: &[usize; 5]) -> Result<bool, Fail> {
-    let intent = commit(alloc, doc, 1, case)?;
+fn comes_to(
+    alloc: Global,
+    schema: &Schema,
+    doc: &Doc,
+    case: Case,
+    to: &[usize; 5],
+) -> Result<bool, Fail> {
+    let intent = commit(alloc, schema, doc, 1, case)?;
     Ok(parts(&intent) == *to)
 }
 
@@ -52,21 +61,43 @@ const EDITS: [(Case, [usize; 5]); 8] = [
     (Case::Need(CARD), [0, 0, 0, 0, 1]),
 ];
 
-fn all_made(alloc: Global) -> Result<bool, Fail> {
-    let doc = opened(alloc, TREE)?;
-    for (case, to) in &EDITS {
-        if !comes_to(alloc, &doc, *case, to)? {
+fn all_made(
+    alloc: Global,
+    schema: &Schema,
+    doc: &Doc,
+    edits: &[(Case, [usize; 5])],
+) -> Result<bool, Fail> {
+    for (case, to) in edits {
+        if !comes_to(alloc, schema, doc, *case, to)? {
             return Ok(false);
         }
     }
     Ok(true)
 }
 
-fn is_refused(alloc: Global, doc: &Doc, case: Case, fault: EditFault) -> Result<bool, Fail> {
-    let edit = edit(alloc, case)?;
-    match resolve(alloc, doc, &schema(alloc)?, GIVEN, &edit) {
-        Ok(_) => Ok(false),
-        Err(refusal) => Ok(refusal == Or::Fault(fault)),
+fn is_fault(resolved: Result<Intent, Or<EditFault>>, fault: EditFault) -> bool {
+    match resolved {
+        Ok(_) => false,
+        Err(refusal) => refusal == Or::Fault(fault),
+    }
+}
+
+fn fails(alloc: Global, schema: &Schema, doc: &Doc, edit: &Edit, fault: EditFault) -> bool
+    requires { IsWithin edit.now }
+{
+    is_fault(resolve(alloc, doc, schema, GIVEN, edit), fault)
+}
+
+fn is_refused(
+    alloc: Global,
+    schema: &Schema,
+    doc: &Doc,
+    case: Case,
+    fault: EditFault,
+) -> Result<bool, Fail> {
+    match edit(alloc, case) {
+        Ok(edit) => Ok(fails(alloc, schema, doc, &edit, fault)),
+        Err(fail) => Err(fail),
     }
 }
 
@@ -101,19 +132,36 @@ const REFUSALS: [(Case, EditFault); 13] = [
     ),
 ];
 
-fn all_refused(alloc: Global) -> Result<bool, Fail> {
-    let doc = opened(alloc, TREE)?;
-    for (case, fault) in &REFUSALS {
-        if !is_refused(alloc, &doc, *case, *fault)? {
+fn all_refused(
+    alloc: Global,
+    schema: &Schema,
+    doc: &Doc,
+    refusals: &[(Case, EditFault)],
+) -> Result<bool, Fail> {
+    for (case, fault) in refusals {
+        if !is_refused(alloc, schema, doc, *case, *fault)? {
             return Ok(false);
         }
     }
     Ok(true)
 }
 
+// Whether all are made, and whether all are refused.
+fn all_in(alloc: Global, schema: &Schema) -> Result<(bool, bool), Fail> {
+    let doc = opened(alloc, schema, TREE)?;
+    let made = all_made(alloc, schema, &doc, &EDITS)?;
+    let refused = all_refused(alloc, schema, &doc, &REFUSALS)?;
+    Ok((made, refused))
+}
+
+fn all_cases(alloc: Global) -> Result<(bool, bool), Fail> {
+    let schema = schema(alloc)?;
+    all_in(alloc, &schema)
+}
+
 #[test]
 fn resolved(rt: HostRuntime) -> Result<(), Fail> {
-    let (made, refused) = (all_made(rt.alloc())?, all_refused(rt.alloc())?);
+    let (made, refused) = all_cases(rt.alloc())?;
     assert!(rt; made && refused, "{made} {refused}");
     Ok(())
 }

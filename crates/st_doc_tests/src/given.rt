@@ -1,7 +1,7 @@
 //! A schema, documents that open under it, and edits in short.
 ghost use Rattle.std.specs.Prelude.{◌≡◌, ◌<◌, ◌^◌, length, Ok, IfOk, OnOk};
-ghost use Rattle.st_tree.specs.Node.{trees_view};
-ghost use Rattle.st_tree.specs.Size.{check_items};
+ghost use Rattle.st_tree.specs.Node.{trees_view, view};
+ghost use Rattle.st_tree.specs.Size.{check_items, check_of};
 ghost use Rattle.st_marks.specs.Document.{IsSoundInForm};
 ghost use Rattle.st_doc.specs.Doc.{document_of};
 ghost use Rattle.st_edits.specs.Resolve.{IsWithin};
@@ -45,11 +45,11 @@ fn start(alloc: Global, schema: &Schema, tree: &Tree) -> Result<Doc, Fail>
 }
 
 /// The document that opens with the tree of a line.
-pub fn opened(alloc: Global, line: &str) -> Result<Doc, Fail>
+pub fn opened(alloc: Global, schema: &Schema, line: &str) -> Result<Doc, Fail>
     ensures { IfOk result (λ d. IsSoundInForm (document_of d)) }
 {
     let tree = tree(alloc, line)?;
-    start(alloc, &schema(alloc)?, &tree)
+    start(alloc, schema, &tree)
 }
 
 /// Carries an intent out in a document that it fits.
@@ -71,12 +71,18 @@ pub fn shows(alloc: Global, doc: &Doc, line: &str) -> Result<bool, AllocError>
     Ok(doc.whole(alloc, &arrays)?.as_str() == line)
 }
 
+fn push_tree(alloc: Global, trees: &mut List<Tree>, line: &str) -> Result<(), Fail> {
+    let tree = tree(alloc, line)?;
+    trees.push(tree)?;
+    Ok(())
+}
+
 fn trees(alloc: Global, lines: &[&str]) -> Result<List<Tree>, Fail>
     ensures { IfOk result (λ ts. check_items (trees_view ts) ≡ Ok tt) }
 {
     let mut trees = List::new(alloc);
     for line in lines {
-        trees.push(tree(alloc, line)?)?;
+        push_tree(alloc, &mut trees, line)?;
     }
     if check_trees(&trees) != Ok(()) {
         return Err(Fail::from("too large"));
@@ -87,14 +93,18 @@ fn trees(alloc: Global, lines: &[&str]) -> Result<List<Tree>, Fail>
 /// The places of a path: keys and indexes.
 pub type Places = &'static [(&'static str, u32)];
 
+fn push_place(alloc: Global, path: &mut Path, key: &str, index: u32) -> Result<(), AllocError> {
+    let key = Key(Text::from_str(alloc, key)?);
+    path.push(Place { key, index })?;
+    Ok(())
+}
+
 fn path(alloc: Global, places: Places) -> Result<Path, Fail>
     ensures { IfOk result (λ p. length p < 2 ^ 32) }
 {
     let mut path = Path::new(alloc);
     for (key, index) in places {
-        let key = Key(Text::from_str(alloc, key)?);
-        let index = *index;
-        path.push(Place { key, index })?;
+        push_place(alloc, &mut path, key, *index)?;
     }
     if path.len() > 9 {
         return Err(Fail::from("too long"));
@@ -170,13 +180,21 @@ fn relocate(
     })
 }
 
+// A tree within the limits.
+fn small_tree(alloc: Global, line: &str) -> Result<Tree, Fail>
+    ensures { IfOk result (λ t. check_of (view t) ≡ Ok tt) }
+{
+    let tree = tree(alloc, line)?;
+    if check(&tree) != Ok(()) {
+        return Err(Fail::from("too large"));
+    }
+    Ok(tree)
+}
+
 fn put(alloc: Global, at: Places, under: &str, item: &str) -> Result<Edit, Fail>
     ensures { IfOk result IsWithin }
 {
-    let item = tree(alloc, item)?;
-    if check(&item) != Ok(()) {
-        return Err(Fail::from("too large"));
-    }
+    let item = small_tree(alloc, item)?;
     let at = path(alloc, at)?;
     let key = key(alloc, under)?;
     Ok(Edit::Put { at, key, item })
@@ -208,13 +226,34 @@ pub fn edit(alloc: Global, case: Case) -> Result<Edit, Fail>
     }
 }
 
-/// The commit of an edit in a document, by a session.
-pub fn commit(alloc: Global, doc: &Doc, session: u32, case: Case) -> Result<Intent, Fail> {
+// The commit of an edit in a document, by a session.
+fn resolved(
+    alloc: Global,
+    schema: &Schema,
+    doc: &Doc,
+    session: u32,
+    edit: &Edit,
+) -> Result<Intent, Fail>
+    requires { IsWithin edit.now }
+{
     let given = NameCounters {
         rev: Rev { session, num: 1 },
         nodes: 0,
         cells: 0,
     };
-    let edit = edit(alloc, case)?;
-    Ok(resolve(alloc, doc, &schema(alloc)?, given, &edit)?)
+    Ok(resolve(alloc, doc, schema, given, edit)?)
+}
+
+/// The commit of a case in a document, by a session.
+pub fn commit(
+    alloc: Global,
+    schema: &Schema,
+    doc: &Doc,
+    session: u32,
+    case: Case,
+) -> Result<Intent, Fail> {
+    match edit(alloc, case) {
+        Ok(edit) => resolved(alloc, schema, doc, session, &edit),
+        Err(fail) => Err(fail),
+    }
 }

@@ -206,6 +206,16 @@ fn holds_with(alloc: Global, added: Added) -> Result<bool, AllocError> {
     Ok(is_intent(&intent))
 }
 
+// Whether each of these, added to an intent, leaves it within the rules, or each breaks one.
+fn all_hold(alloc: Global, cases: &[Added], holds: bool) -> Result<bool, AllocError> {
+    for added in cases {
+        if holds_with(alloc, *added)? != holds {
+            return Ok(false);
+        }
+    }
+    Ok(true)
+}
+
 #[test]
 fn broken_rules(rt: HostRuntime) -> Result<(), Fail> {
     let broken = [
@@ -229,16 +239,10 @@ fn broken_rules(rt: HostRuntime) -> Result<(), Fail> {
         Added::Clear(""),
         Added::Schema,
     ];
-    for added in &broken {
-        if holds_with(rt.alloc(), *added)? {
-            return Err(Fail::from("a broken rule isn't seen"));
-        }
-    }
-    for added in &[Added::Clear("k"), Added::New(new(2)), Added::Out(old(1))] {
-        if !holds_with(rt.alloc(), *added)? {
-            return Err(Fail::from("what is allowed is refused"));
-        }
-    }
+    let allowed = [Added::Clear("k"), Added::New(new(2)), Added::Out(old(1))];
+    let refused = all_hold(rt.alloc(), &broken, false)?;
+    let held = all_hold(rt.alloc(), &allowed, true)?;
+    assert!(rt; refused && held, "{refused} {held}");
     Ok(())
 }
 
