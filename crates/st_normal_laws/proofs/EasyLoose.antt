@@ -59,7 +59,7 @@ skip-made p (o ∷ os) ms n h = skip-mark (Make o.cell o.node (is_here (how (p.t
 made-comes : (p : RowPart) (os : List Owned) (ms : List CellMark) (o : Owned) → Has os o → p.target_of o.node ≡ Some (To.Cell o.cell) → Has (incoming (embed_made p os ++ ms)) o.node
 made-comes p [] ms o h e = absurd h
 made-comes p (q ∷ os) ms o (inr h) e = skip-mark (Make q.cell q.node (is_here (how (p.target_of q.node) (To.Cell q.cell)))) (embed_made p os ++ ms) o.node (made-comes p os ms o h e)
-made-comes p (q ∷ os) ms o (inl s) e = subst (λ (b : Bool). Has (cond b (q.node ∷ incoming (embed_made p os ++ ms)) (incoming (embed_made p os ++ ms))) o.node)
+made-comes p (q ∷ os) ms o (inl s) e = subst (λ (b : Bool). Has (cond b (q.node ∷ []) [] ++ incoming (embed_made p os ++ ms)) o.node)
     (sym ((λ i. is_here (how (p.target_of (s i).node) (To.Cell (s i).cell))) ∙ ap is_here (put-is_here (p.target_of o.node) (To.Cell o.cell) e))) (inl (ap (λ (o : Owned). o.node) s))
 
 behind-comes : (p : RowPart) (c : List Slot) (s : Slot) (o : Owned) → Has c s → Has (p.new_cells (Some s.cell)) o → p.target_of o.node ≡ Some (To.Cell o.cell) → Has (incoming (embed_cells p c)) o.node

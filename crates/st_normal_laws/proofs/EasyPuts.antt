@@ -50,7 +50,7 @@ made-incoming : (p : RowPart) (c : List Slot) (a : Option CellId) (os : List Own
 made-incoming p c a [] ms n sub h rest = rest h
 made-incoming p c a (o ∷ os) ms n sub h rest = go (is_here (how (p.target_of o.node) (To.Cell o.cell))) refl h (λ i. made-incoming p c a os ms n (λ q j. sub q (inr j)) i rest)
   where
-    go : (b : Bool) → is_here (how (p.target_of o.node) (To.Cell o.cell)) ≡ b → Has (cond b (o.node ∷ incoming (embed_made p os ++ ms)) (incoming (embed_made p os ++ ms))) n → (Has (incoming (embed_made p os ++ ms)) n → (d : CellId) × ComesTo p c n d) → (d : CellId) × ComesTo p c n d
+    go : (b : Bool) → is_here (how (p.target_of o.node) (To.Cell o.cell)) ≡ b → Has (cond b (o.node ∷ []) [] ++ incoming (embed_made p os ++ ms)) n → (Has (incoming (embed_made p os ++ ms)) n → (d : CellId) × ComesTo p c n d) → (d : CellId) × ComesTo p c n d
     go false e i more = more i
     go true e (inl q) more = (o.cell, (ap p.target_of (sym q) ∙ is_here-put (p.target_of o.node) (To.Cell o.cell) e, inl (a, subst (λ n. Has (p.new_cells a) (record { cell = o.cell; node = n })) q (sub o (inl refl)))))
     go true e (inr i) more = more i

@@ -68,9 +68,9 @@ held-comes r n e = go r.fill refl e
     kept false true e = cc
     kept false false e = e
 
-    go : (q : Option NodeId) → r.fill ≡ q → option_or q (cond (is_leave r.how) None (cond (r.clear && not (Rattle.st_marks.specs.Row.is_here r.how)) None r.held)) ≡ Some n → (r.fill ≡ Some n) ⊎ (r.held ≡ Some n)
+    go : (q : Option NodeId) → r.fill ≡ q → option_or q (cond (is_leave r.how) None (cond (r.clear && not (Rattle.st_marks.specs.How.is_here r.how)) None r.held)) ≡ Some n → (r.fill ≡ Some n) ⊎ (r.held ≡ Some n)
     go (Some k) f e = inl (f ∙ e)
-    go None f e = inr (kept (is_leave r.how) (r.clear && not (Rattle.st_marks.specs.Row.is_here r.how)) e)
+    go None f e = inr (kept (is_leave r.how) (r.clear && not (Rattle.st_marks.specs.How.is_here r.how)) e)
 
 module _ (D : Document) (N : Intent) (C : Change) (x : IsSoundInForm D) (f : Fits D N) (emb : IsEmbedding D N C) where
   abbrev m : NodeId → Bool

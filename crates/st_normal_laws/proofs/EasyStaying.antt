@@ -215,7 +215,7 @@ module _ (D : Document) (N : Intent) (C : Change) (x : IsSoundInForm D) (f : Fit
   named-why n free h = elim (has-append (put_nodes ++ N.need ++ group_nodes ++ target_nodes) clear_nodes n h) [
     | inr i ↦ (let k = has-map (λ (k : FieldId). k.node) N.clear n i in subst Why k.2 (clear-why k.0 k.1))
     | inl a ↦ elim (has-append (put_nodes ++ N.need ++ group_nodes) target_nodes n a) [
-      | inr i ↦ (let p = Rattle.st_normal_laws.proofs.Exact.filter_map-has (λ (p : Put). option_and_then D.row_of (cell_of p.to)) N.put n i in target p.0 p.1 (cell_of p.0.to) refl p.2)
+      | inr i ↦ (let p = Rattle.st_ids.proofs.Shared.filter-from (λ (p : Put). option_and_then D.row_of (cell_of p.to)) N.put n i in target p.0 p.1 (cell_of p.0.to) refl p.2)
       | inl b ↦ elim (has-append (put_nodes ++ N.need) group_nodes n b) [
         | inr i ↦ (let g = has-map (λ (g : Group). g.node) N.groups n i in subst Why g.2 (group-why g.0 g.1))
         | inl c ↦ elim (has-append put_nodes N.need n c) [

@@ -1,5 +1,5 @@
 -- The marks of one row over a step, each with the cell that it is of.
-use Rattle.std.proofs.Common.{◌≡◌, ◌≢◌, Bool, true, false, List, [], ◌∷◌, cond, refl, sym, ap, ◌∙◌, subst, inl, inr, ◌⊎◌}
+use Rattle.std.proofs.Common.{◌++◌, ◌≡◌, ◌≢◌, Bool, true, false, List, [], ◌∷◌, cond, refl, sym, ap, ◌∙◌, subst, inl, inr, ◌⊎◌}
 use Rattle.st_ids.specs.Listing.{AreDistinct, Has}
 use Rattle.st_ids.specs.declared.names.CellId.{CellId}
 use Rattle.st_ids.specs.declared.names.NodeId.{NodeId}
@@ -270,7 +270,7 @@ not-behind m {d = d} g t o one f n h e =
 
 pub incoming-once : (m : NodeId → Bool) {c d : List Slot} (g : GainsItems SameCell c d) → AreDistinct (λ (s : Slot). s.cell) d → StandsOnce d → AreDistinct (λ (n : NodeId). n) (incoming (step_row m g))
 incoming-once m no_more o one = tt
-incoming-once m (item_gained {y = t} {ys = d} g) o one = elim t.full as (λ b. t.full ≡ b → AreDistinct (λ (n : NodeId). n) (cond b (t.node ∷ incoming (step_row m g)) (incoming (step_row m g)))) [
+incoming-once m (item_gained {y = t} {ys = d} g) o one = elim t.full as (λ b. t.full ≡ b → AreDistinct (λ (n : NodeId). n) (cond b (t.node ∷ []) [] ++ incoming (step_row m g))) [
   | true ↦ (λ f. (has-all (λ n. n ≢ t.node) (incoming (step_row m g)) (not-behind m g t o one f), incoming-once m g o.1 (λ a b n h i. one a b n (inr h) (inr i))))
   | false ↦ (λ f. incoming-once m g o.1 (λ a b n h i. one a b n (inr h) (inr i)))
 ] refl
