@@ -10,8 +10,8 @@ ghost use Rattle.st_edits.specs.Paths.{field_at, row_length, and_then};
 ghost use Rattle.st_edits.specs.declared.names.Takes.{Takes as Taking};
 ghost use Rattle.st_edits.specs.Resolve.{named, require, allowed_nodes, inserted, intent_to_place, rule_for, nodes_taken, insert, remove, move_to, move as move_of, put, clear, need, may_move, resolve, IsWithin};
 
-use crate::intents::{cleared, inserted, intent_to_place, nothing_yet, removed};
-use crate::moves::{cells_taken, is_inside, is_there, items_from, moved, nodes_taken};
+use crate::intents::{cleared, empty_intent, inserted, intent_to_place, intent_to_remove};
+use crate::moves::{cells_taken, intent_to_move, is_inside, is_there, items_from, nodes_taken};
 use crate::new_trees::names_taken;
 use crate::paths::{field_at, walk};
 use crate::rules::{names_left, nodes_allowed, require, rule_for, trees_allowed};
@@ -145,7 +145,7 @@ pub fn remove(
     let node = walk(alloc, doc, at)?;
     rule_for(alloc, Takes::Row, doc, schema, node, key)?;
     let nodes = items_from(alloc, doc, node, index, count)?;
-    Ok(removed(alloc, doc, given, nodes.as_slice())?)
+    Ok(intent_to_remove(alloc, doc, given, nodes.as_slice())?)
 }
 
 // A new tree in a node's field, where the field's rule allows it.
@@ -218,7 +218,7 @@ fn need(alloc: Global, doc: &Doc, given: NameCounters, at: &Path) -> Result<Inte
     ensures bad { IfRefused result (λ e. need (document_of doc.now) given at.now ≡ Err e) }
 {
     let node = walk(alloc, doc, at)?;
-    let mut intent = nothing_yet(alloc, doc, given);
+    let mut intent = empty_intent(alloc, doc, given);
     intent.need.push(node)?;
     Ok(intent)
 }
@@ -268,7 +268,7 @@ fn move_to(
     ensures bad { IfRefused result (λ e. move_to (document_of doc.now) given field rule.now to.now index count nodes.now ≡ Err e) }
 {
     may_move(alloc, doc, given, field.node, rule, to, index, count, nodes)?;
-    Ok(moved(alloc, doc, given, field, rule.kind, index, nodes)?)
+    Ok(intent_to_move(alloc, doc, given, field, rule.kind, index, nodes)?)
 }
 
 // The nodes of a move, which leave a field of that kind.

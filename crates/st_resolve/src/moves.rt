@@ -9,8 +9,8 @@ ghost use Rattle.st_doc.specs.Doc.{document_of};
 ghost use Rattle.st_marks.specs.LiveTree.{live_slots};
 ghost use Rattle.st_edits.specs.Resolve.{within_row, nodes_taken, is_there, is_inside, cells_taken, intent_to_move, move_to};
 
-use crate::intents::{moved_to_field, moved_to_row, nothing_yet};
-use crate::paths::passes;
+use crate::intents::{empty_intent, moved_to_field, moved_to_row};
+use crate::paths::nodes_on_path;
 use crate::rules::{names_left, nodes_allowed, require};
 use st_doc::Doc;
 use st_edits::NameCounters;
@@ -124,7 +124,7 @@ fn is_among(nodes: &[NodeId], node: NodeId) -> bool
 pub fn is_inside(alloc: Global, doc: &Doc, to: &Path, nodes: &[NodeId]) -> Result<bool, AllocError>
     ensures { IfOk result (λ b. b ≡ is_inside (document_of doc.now) to.now nodes.now) }
 {
-    let passed = passes(alloc, doc, to)?;
+    let passed = nodes_on_path(alloc, doc, to)?;
     Ok(passed.as_slice().iter().any(|n| is_among(nodes, *n)))
 }
 
@@ -152,7 +152,7 @@ pub fn intent_to_move(
     ensures { IfOk result (λ i. i ≡ intent_to_move (document_of doc.now) given field kind index nodes.now) }
 {
     match kind {
-        KindName::Required => Ok(nothing_yet(alloc, doc, given)),
+        KindName::Required => Ok(empty_intent(alloc, doc, given)),
         KindName::Optional => moved_to_field(alloc, doc, given, field, nodes),
         KindName::Sequence => moved_to_row(alloc, doc, given, field.node, index, nodes),
     }
