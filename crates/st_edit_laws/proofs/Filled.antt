@@ -150,7 +150,7 @@ pub record IsSetting (D : Document) (s : SchemaView) (G : NameCounters) (at : Li
   pub rule : FieldRule
   pub ruled : rule_for field.Single D s node key ≡ Ok rule
   pub types : List (List ℕ)
-  pub allowed_nodes : list_all (λ ok. ok) (items_verdicts s types (first t no_nodes)) ≡ true
+  pub allowed : list_all (λ ok. ok) (items_verdicts s types (first t no_nodes)) ≡ true
   pub intent : intent_to_place D G (field_at node key) (named G (first t no_nodes)) ≡ N
 
 pub is_setting : (D : Document) (s : SchemaView) (G : NameCounters) (at : List Place) (key : Key) (t : Node) (N : Intent) → put D s G at key (first t no_nodes) ≡ Ok N → IsSetting D s G at key t N
@@ -170,7 +170,7 @@ is_setting D s G at key t N e =
       rule = rule.0;
       ruled = rule.1;
       types = rule.0.types;
-      allowed_nodes = a.0;
+      allowed = a.0;
       intent = ap (intent_to_place D G (field_at n.0 key)) a.1 ∙ is;
     }
 

@@ -153,7 +153,7 @@ pub record IsInsertion (D : Document) (s : SchemaView) (G : NameCounters) (at : 
   pub rule : FieldRule
   pub ruled : rule_for field.Row D s node key ≡ Ok rule
   pub types : List (List ℕ)
-  pub allowed_nodes : list_all (λ ok. ok) (items_verdicts s types trees) ≡ true
+  pub allowed : list_all (λ ok. ok) (items_verdicts s types trees) ≡ true
   pub in_range : index ≤ row_length D node
   pub intent : inserted D G node index (named G trees) ≡ N
 
@@ -167,7 +167,7 @@ is_insertion D s G at key index trees N e =
     let t = row_ruled D s n.0 key rule.0 rule.1 in
     let a = are_allowed s G rule.0 trees xs.0 xs.1 in
     let test : nat_le index (row_length D n.0) ≡ true = asked (nat_le index (row_length D n.0)) u.0 u.1 in
-    record { node = n.0; way = n.1; type = t.0; known = t.1; rowed = t.2; rule = rule.0; ruled = rule.1; types = rule.0.types; allowed_nodes = a.0; in_range = grind (arith, nat_tests); intent = ap (inserted D G n.0 index) a.1 ∙ is }
+    record { node = n.0; way = n.1; type = t.0; known = t.1; rowed = t.2; rule = rule.0; ruled = rule.1; types = rule.0.types; allowed = a.0; in_range = grind (arith, nat_tests); intent = ap (inserted D G n.0 index) a.1 ∙ is }
   where
     asked : (b : Bool) (u : Unit {0}) → require b Range ≡ Ok u → b ≡ true
     asked true u h = refl
