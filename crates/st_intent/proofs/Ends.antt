@@ -1,10 +1,8 @@
 -- Steps up that come to an end do so before they have met each node.
-use Rattle.std.proofs.Common.{◌≡◌, ℕ, zero, suc, ◌+◌, ◌<◌, ◌≤◌, Bool, true, false, cond, List, [], ◌∷◌, length, Option, Some, None, refl, sym, ap, ◌∙◌, arith, option_and_then, ◌-◌, ◌⊎◌, inl, inr}
+use Rattle.std.proofs.Common.{◌≡◌, ℕ, zero, suc, ◌+◌, ◌<◌, ◌≤◌, true, List, [], ◌∷◌, length, Option, Some, None, refl, sym, ap, ◌∙◌, arith, option_and_then, ◌-◌, ◌⊎◌, inl, inr}
 use Rattle.std.proofs.lemmas.Bool.{cases_lt}
 use Rattle.st_ids.specs.Listing.{Has}
-use Rattle.st_ids.specs.Order.{same_node}
 use Rattle.st_ids.specs.declared.names.NodeId.{NodeId}
-use Rattle.st_ids.proofs.Orders.{same_node-true}
 use Rattle.st_marks.specs.Document.{climb, ClimbsToAnEnd}
 use Rattle.st_intent.specs.inside.Rules.{ends_within}
 use Rattle.st_marks.proofs.NoRing.{others, shorter, without}

@@ -1,5 +1,5 @@
 -- On orderings and comparisons of numbers.
-use Rattle.std.proofs.Common.{◌≡◌, ◌-◌, true, refl, ℕ, ◌≤◌, false, nat_lt, arith}
+use Rattle.std.proofs.Common.{◌≡◌, true, refl, ℕ, ◌≤◌, false, nat_lt, arith}
 use Rattle.std.specs.declared.cmp.Ordering.{Ordering}
 use Rattle.std.specs.declared.cmp.Ordering.TheVariants.{Less, Equal, Greater}
 use Rattle.std.specs.Ordering.{is_lt}

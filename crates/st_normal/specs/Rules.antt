@@ -1,6 +1,6 @@
 -- The rules of normal form: a closed list by which a change or a step is judged as it stands alone, without a document.
 use Rattle.std.specs.Prelude.{◌≡◌, ◌≢◌, ◌⊎◌, ◌^◌, ◌<◌, ◌++◌, List, [], ◌∷◌, map, length, Option, Some, None, IsSome, IsTrue, IfSome, MatchOption, if◌then◌else◌}
-use Rattle.std.specs.List.{AllByRecursion, find, list_any, flat_map}
+use Rattle.std.specs.List.{AllByRecursion, list_any, flat_map}
 use Rattle.st_ids.specs.Listing.{AreDistinct, Has, IsRising}
 use Rattle.st_ids.specs.Order.{same_node, node_cmp, field_cmp}
 use Rattle.st_ids.specs.declared.names.CellId.{CellId}

@@ -1,5 +1,5 @@
 -- A tree of the shape that values show is written as its JSON form.
-use Rattle.std.proofs.Common.{◌≡◌, ◌∙◌, ℕ, zero, suc, ◌+◌, ◌<◌, ◌≤◌, Bool, true, false, not, ◌&&◌, List, [], ◌∷◌, ◌++◌, length, take, drop, take_all, get_or, map, None, Ordering, Less, Equal, Greater, String, string_bytes, Vec, BTreeMap, refl, sym, ap, arith, append_assoc}
+use Rattle.std.proofs.Common.{◌≡◌, ◌∙◌, ℕ, zero, suc, ◌+◌, ◌<◌, ◌≤◌, Bool, true, false, not, ◌&&◌, List, [], ◌∷◌, ◌++◌, length, take, drop, take_all, get_or, map, None, Less, String, string_bytes, Vec, BTreeMap, refl, sym, ap, arith, append_assoc}
 use Rattle.std.specs.Prelude.{Result, Ok, Err, IfOk}
 use Rattle.std.specs.BTreeMap.{insert_entry}
 use Rattle.std.specs.String.{string_cmp}

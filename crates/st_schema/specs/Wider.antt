@@ -1,6 +1,6 @@
 -- Which schemas are wider than another: the old types stand first, each with its form, its lists and its fields, to which
 -- only optional ones are added.
-use Rattle.std.specs.Prelude.{ℕ, ◌+◌, List, [], ◌∷◌, ◌++◌, Bool, true, false, not, ◌&&◌, Option, None, Some, is_some, Result, Ok, Err}
+use Rattle.std.specs.Prelude.{ℕ, List, [], ◌∷◌, ◌++◌, Bool, true, false, not, ◌&&◌, Option, None, Some, is_some, Result, Ok, Err}
 use Rattle.std.specs.List.{list_all, position_from}
 use Rattle.st_schema.specs.Schema.{SchemaView, same, is_among, declared}
 use Rattle.st_schema.specs.declared.names.NotWider.{NotWider}

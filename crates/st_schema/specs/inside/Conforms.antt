@@ -1,10 +1,7 @@
 -- Words of the private functions behind `Conforms`.
 use Rattle.std.specs.Prelude.{ℕ, ◌+◌, List, [], ◌∷◌, Bool, true, false, Option, None, Some}
-use Rattle.st_ids.specs.declared.names.Leaf.TheVariants as leaf
-use Rattle.st_tree.specs.Node.{node}
 use Rattle.st_schema.specs.declared.allows.Walk.{Walk}
 use Rattle.st_schema.specs.declared.names.NotAllowed.{NotAllowed}
-use Rattle.st_schema.specs.Conforms.{refusal}
 
 -- the earlier refusal, or that of the node of this number
 abbrev pub first_fault : Option NotAllowed → ℕ → Option NotAllowed

@@ -2,7 +2,7 @@
 use Rattle.std.specs.Prelude.{[], Bool, true}
 use Rattle.st_schema.specs.declared.names.Form.{Form}
 use Rattle.st_schema.specs.declared.names.Form.TheVariants.{Array, Map, Object}
-use Rattle.st_schema.specs.Schema.{declared, defs_rise}
+use Rattle.st_schema.specs.Schema.{defs_rise}
 
 -- the declared fields are in rising order of their keys
 abbrev pub form_rises : Form → Bool

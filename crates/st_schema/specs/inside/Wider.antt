@@ -1,5 +1,5 @@
 -- Words of the private functions behind `Wider`.
-use Rattle.std.specs.Prelude.{ℕ, ◌+◌, List, [], ◌∷◌, Bool, true, false, not, Result, Ok, Err}
+use Rattle.std.specs.Prelude.{ℕ, ◌+◌, List, [], ◌∷◌, Bool, true, false, Result, Ok, Err}
 use Rattle.st_schema.specs.declared.names.NotWider.{NotWider}
 
 -- the number after types of which each is wider, the first having the number n, or that of the first that is not

@@ -3,7 +3,6 @@ use Rattle.std.specs.Prelude.{Bool, true, List, [], ◌∷◌}
 use Rattle.std.specs.Ordering.{is_lt}
 use Rattle.st_ids.specs.Order.{node_cmp}
 use Rattle.st_ids.specs.declared.names.NodeId.{NodeId}
-use Rattle.st_kind.specs.Named.{Nodes}
 
 -- ## Nodes in rising order
 

@@ -4,7 +4,6 @@ use Rattle.serde_json.specs.View.{view as value_view, members_view}
 use Rattle.st_tree.specs.Node.{trees_view}
 use Rattle.st_tree.specs.inside.Node.{fields_view}
 use Rattle.st_schema.specs.Shape.{members_rise, fields_have_shape, all_have_shape}
-use Rattle.st_tree.specs.Form.{keys_rise, fields_have_form, all_have_form}
 use Rattle.st_schema.specs.TreeText.{members_data}
 use Rattle.st_schema.proofs.Writing.{shown}
 use Rattle.st_schema.proofs.tree_write.+writing.Given as goal

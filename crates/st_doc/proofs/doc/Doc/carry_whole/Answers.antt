@@ -8,9 +8,6 @@ use Rattle.st_marks.specs.CarryOut.{full, with_names, with_schema}
 use Rattle.st_doc.specs.inside.Ahead.{place_ahead, with_moves}
 use Rattle.st_doc.specs.Doc.{document_of}
 use Rattle.st_doc.proofs.Carrying.{ahead_after}
-use Rattle.st_doc.specs.inside.Evictions.{evicted}
-use Rattle.st_doc.specs.Nodes.{type_of}
-use Rattle.st_doc.proofs.Look.{option_map-or}
 use Rattle.st_doc.proofs.OneDocument.{same_document}
 use Rattle.st_doc.proofs.doc.Doc.carry_whole.Goals as goal
 
