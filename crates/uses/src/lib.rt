@@ -1,0 +1,4 @@
+//! Uses of the libraries, as callers write them: one short proved caller for each crate that a user calls.
+#![tactic(auto)]
+
+pub mod registers;
