@@ -2,3 +2,4 @@
 #![tactic(auto)]
 
 pub mod registers;
+pub mod rows;
