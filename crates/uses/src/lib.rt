@@ -1,5 +1,8 @@
 //! Uses of the libraries, as callers write them: one short proved caller for each crate that a user calls.
 #![tactic(auto)]
 
+pub mod ids;
 pub mod registers;
 pub mod rows;
+pub mod schemas;
+pub mod tables;
