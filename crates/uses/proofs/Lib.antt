@@ -1,3 +1,4 @@
 pub mod Allowed
 pub mod Clusters
 pub mod Refusals
+pub mod Limits
