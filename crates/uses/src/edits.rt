@@ -40,10 +40,12 @@ pub fn insert_items(
     requires within { check_items (trees_view items.now) ≡ Ok tt }
     requires limits { (length at.now < 2 ^ 32) × (given.nodes < 2 ^ 31) × (given.cells < 2 ^ 31) }
     ensures verdict { IfOk result (λ v. v ≡ Verdict.Sound) }
-    ensures shown { OnOk result ((is_array : Seq ℕ → Bool) (d : Data) → TellsRows is_array schema.now
-        → Shows is_array (document_of doc.old) root d
-        → Shows is_array (document_of doc.new) root (at_path at.now (with_items index (listed (trees_data (trees_view items.now)))) d)) }
-    ensures refused { IfRefused result (λ e. insert (document_of doc.old) schema.now given at.now key.now index (trees_view items.now) ≡ Err e) }
+    ensures shown { OnOk result ((is_array : Seq ℕ → Bool) (d : Data)
+        → TellsRows is_array schema.now → Shows is_array (document_of doc.old) root d
+        → Shows is_array (document_of doc.new) root
+        (at_path at.now (with_items index (listed (trees_data (trees_view items.now)))) d)) }
+    ensures refused { IfRefused result (λ e. insert (document_of doc.old) schema.now given at.now
+        key.now index (trees_view items.now) ≡ Err e) }
     ensures unchanged { IfRefused result (λ _. document_of doc.new ≡ document_of doc.old) }
 {
     schema.is_kept();

@@ -1,6 +1,7 @@
 //! Uses of the libraries, as callers write them: one short proved caller for each crate that a user calls.
 #![tactic(auto)]
 
+pub mod changes;
 pub mod documents;
 pub mod edits;
 pub mod ids;

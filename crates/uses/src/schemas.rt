@@ -19,8 +19,10 @@ use std::alloc::Global;
 #[tactic(auto, using(crate::proofs::Allowed::allowed_conforms))]
 pub fn is_allowed(alloc: Global, value: &Value, tree: &Tree) -> Result<bool, Or<Shape>>
     requires few { node_count (view tree.now) < 2 ^ 32 }
-    ensures told { IfOk result (λ b. (s : SchemaView) × (data_of value.now ≡ schema_data s) × (b ≡ conforms s s.root (view tree.now))) }
-    ensures refused { IfRefused result (λ _. (s : SchemaView) → IsTrue (is_sound s) → data_of value.now ≢ schema_data s) }
+    ensures told { IfOk result (λ b. (s : SchemaView) × IsTrue (is_sound s)
+        × (data_of value.now ≡ schema_data s) × (b ≡ conforms s s.root (view tree.now))) }
+    ensures refused { IfRefused result (λ _. (s : SchemaView) → IsTrue (is_sound s)
+        → data_of value.now ≢ schema_data s) }
 {
     let schema = Schema::read(alloc, value)?;
     Ok(schema.allows(schema.root(), tree).is_ok())

@@ -1,11 +1,9 @@
-use Rattle.std.proofs.Common.{sym, ◌∙◌, ap, subst}
-use Rattle.serde_json.specs.Data.{Data}
+use Rattle.std.proofs.Common.{sym, ◌∙◌, subst}
 use Rattle.st_ids.specs.Root.{root}
 use Rattle.st_tree.specs.Node.{trees_view}
 use Rattle.st_schema.specs.TreeText.{trees_data}
 use Rattle.st_marks.specs.Document.{Document}
 use Rattle.st_marks.specs.LiveTree.{Shows}
-use Rattle.st_marks.specs.Verdict.{carried}
 use Rattle.st_marks.specs.declared.verdicts.Verdict.{Verdict}
 use Rattle.st_doc.specs.Doc.{document_of}
 use Rattle.st_edit_laws.specs.Edited.{at_path, listed, with_items}
