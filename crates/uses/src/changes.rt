@@ -5,7 +5,7 @@ ghost use Rattle.st_normal.specs.Rules.{ObeysChangeRules};
 use st_marks::Change;
 use st_normal::Check;
 
-/// Whether two changes that came from outside are both in normal form, so that they can be read as changes of a document.
+/// Whether two changes that came from outside are both in normal form.
 pub fn are_normal(first: &Change, then: &Change) -> bool
     ensures { IsTrue result ↔ (ObeysChangeRules first.now × ObeysChangeRules then.now) }
 {
