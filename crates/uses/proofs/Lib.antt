@@ -1,0 +1,4 @@
+pub mod Allowed
+pub mod Clusters
+pub mod Refusals
+pub mod Limits
