@@ -11,9 +11,9 @@ returns-clause-sound c =
     let session = c.len-count.result + 1 in
     let few : length w.lists.clients < 64 = omega (arith, c.len-count.ensures) in
     let few_entries : length w.lists.log < 65535 = omega (arith, c.len-entries.ensures) in
-    let logged = c.in_ok-enter.ensures.log in
+    let logged = c.in_ok-append_entry.ensures.log in
     let n : c.len-n.result ≡ length w.lists.log + 1 = omega (arith, c.len-n.ensures, ap length logged, length-append w.lists.log (last_entry w.lists.log session Join ∷ [])) in
-    let knows = rw logged at c.in_ok-enter.ensures.known in
+    let knows = rw logged at c.in_ok-append_entry.ensures.known in
     let opened = c.in_ok-add_kept.ensures in
     rw (c.in_ok-add_client.ensures, opened.1, logged)
     (sound_joined w c.args.name.now c.len-n.result session (new_client c.len-n.result session c.args.name.now) opened.0 c.append_entry.new.known c.requires.sound few few_entries (omega (arith, c.len-count.ensures)) n knows refl

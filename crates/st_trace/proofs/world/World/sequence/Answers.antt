@@ -5,11 +5,11 @@ use Rattle.st_trace.specs.declared.world.World.{World}
 use Rattle.st_trace.proofs.Stepping.{head_fits, head_sound, sound_sent, text_within}
 use Rattle.st_trace.proofs.world.World.sequence.Goals as goal
 
-pub send-requires-clause-sound : goal.send-requires-clause-sound
-send-requires-clause-sound c = head_sound c.args.self.now c.requires.sound
+pub sequence_commit-requires-clause-sound : goal.sequence_commit-requires-clause-sound
+sequence_commit-requires-clause-sound c = head_sound c.args.self.now c.requires.sound
 
-pub send-requires-clause-fits : goal.send-requires-clause-fits
-send-requires-clause-fits c =
+pub sequence_commit-requires-clause-fits : goal.sequence_commit-requires-clause-fits
+sequence_commit-requires-clause-fits c =
     head_fits c.args.self.now c.args.i c.in-Some-get_mut.client.now c.in-Some-take_text.field-0 c.take_text.new.client.queue c.requires.sound (sym c.in-Some-get_mut.ensures.value) c.in-Some-take_text.ensures.0
 
 pub returns-in_ok-answer-in-Some-take_text-clause-sound : goal.returns-in_ok-answer-in-Some-take_text-clause-sound
