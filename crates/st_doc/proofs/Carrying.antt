@@ -15,12 +15,12 @@ use Rattle.st_marks.specs.Document.{Document, IsSoundInForm, NodeType}
 use Rattle.st_marks.specs.Intent.{Fits, is_new, put_of, clears}
 use Rattle.st_marks.specs.CarryOut.{spot_of, place_after, with_names, is_put_in_new}
 use Rattle.st_doc.specs.inside.Ahead.{place_ahead, in_new, inside_new}
-use Rattle.st_doc.specs.inside.Evictions.{evicted}
+use Rattle.st_doc.specs.inside.Evictions.{spot_if_cleared}
 use Rattle.st_doc.proofs.Look.{any_more}
 
 -- where a node stands after evictions and puts, by where its put leads
 pub placed_ahead : (N : Intent) (target o : Option Spot)
-    → unwrap_or (option_or (option_or target (evicted N.clear (unwrap_or o Spot.Nowhere))) o) Spot.Nowhere ≡ place_ahead N target (unwrap_or o Spot.Nowhere)
+    → unwrap_or (option_or (option_or target (spot_if_cleared N.clear (unwrap_or o Spot.Nowhere))) o) Spot.Nowhere ≡ place_ahead N target (unwrap_or o Spot.Nowhere)
 placed_ahead N (Some spot) o = refl
 placed_ahead N None None = refl
 placed_ahead N None (Some Spot.Nowhere) = refl

@@ -15,7 +15,7 @@ use Rattle.st_marks.specs.declared.intents.To.{To}
 use Rattle.st_marks.specs.declared.places.Spot.{Spot}
 use Rattle.st_marks.specs.Intent.{is_new, is_register}
 use Rattle.st_marks.specs.CarryOut.{only_new, unless_put}
-use Rattle.st_doc.specs.inside.Evictions.{stands_in, is_held, evicted}
+use Rattle.st_doc.specs.inside.Evictions.{stands_in, is_held, spot_if_cleared}
 use Rattle.st_intent.proofs.Scans.{is_some-find}
 use Rattle.st_doc.proofs.Look.{any_more, drop_one}
 use Rattle.st_lemmas.proofs.Bools.{or-false, true-false}
@@ -51,7 +51,7 @@ module _ (fs : List FieldId) (i : ℕ) (f : FieldId) (inside : i < length fs) (a
 
   -- the occupant of one more cleared register
   pub evicted_one : (held : Option NodeId) (n : NodeId) (s : Spot) → ((held ≡ Some n) ↔ (s ≡ Spot.Register f)) → (target : Option Spot)
-      → option_or (option_or target (evicted (take i fs) s)) (cond (is_held held n) (Some Spot.Nowhere) None) ≡ option_or target (evicted (take (i + 1) fs) s)
+      → option_or (option_or target (spot_if_cleared (take i fs) s)) (cond (is_held held n) (Some Spot.Nowhere) None) ≡ option_or target (spot_if_cleared (take (i + 1) fs) s)
   evicted_one held n s one target = go s refl (is_held held n) refl target
     where
       or_none : (a : Option Spot) → option_or a None ≡ a
@@ -63,7 +63,7 @@ module _ (fs : List FieldId) (i : ℕ) (f : FieldId) (inside : i < length fs) (a
       or_nowhere false = refl
 
       go : (t : Spot) → s ≡ t → (b : Bool) → is_held held n ≡ b → (a : Option Spot)
-          → option_or (option_or a (evicted (take i fs) t)) (cond b (Some Spot.Nowhere) None) ≡ option_or a (evicted (take (i + 1) fs) t)
+          → option_or (option_or a (spot_if_cleared (take i fs) t)) (cond b (Some Spot.Nowhere) None) ≡ option_or a (spot_if_cleared (take (i + 1) fs) t)
       go t p b e (Some x) = refl
       go Spot.Nowhere p true e None = let bad : Spot.Nowhere ≡ Spot.Register f = sym p ∙ one.0 (held-true held n e) in cc
       go Spot.Nowhere p false e None = refl
@@ -75,7 +75,7 @@ module _ (fs : List FieldId) (i : ℕ) (f : FieldId) (inside : i < length fs) (a
           or_nowhere (list_any (λ h. same_field h g) (take i fs))
           ∙ sym (ap (λ b. cond b (Some Spot.Nowhere) None) (any_with g ∙ ap (λ b. list_any (λ h. same_field h g) (take i fs) || b) (ap (same_field f) is_f ∙ same_field-itself f) ∙ or_true _))
       go (Spot.Register g) p false e None =
-          or_none (evicted (take i fs) (Spot.Register g)) ∙ sym (ap (λ b. cond b (Some Spot.Nowhere) None) (any_with g ∙ ap (λ b. list_any (λ h. same_field h g) (take i fs) || b) (apart (same_field f g) refl) ∙ or-false _))
+          or_none (spot_if_cleared (take i fs) (Spot.Register g)) ∙ sym (ap (λ b. cond b (Some Spot.Nowhere) None) (any_with g ∙ ap (λ b. list_any (λ h. same_field h g) (take i fs) || b) (apart (same_field f g) refl) ∙ or-false _))
         where
           apart : (b : Bool) → same_field f g ≡ b → same_field f g ≡ false
           apart false q = q

@@ -8,7 +8,7 @@ ghost use Rattle.st_ids.specs.Order.{node_cmp, field_cmp, same_node, same_field}
 ghost use Rattle.st_marks.specs.declared.places.Spot.{Spot as Standing};
 ghost use Rattle.st_marks.specs.Intent.{clears, is_new, is_register, put_in};
 ghost use Rattle.st_marks.specs.CarryOut.{only_new, unless_put};
-ghost use Rattle.st_doc.specs.inside.Evictions.{IsOneHeld, stands_in, is_held, evicted};
+ghost use Rattle.st_doc.specs.inside.Evictions.{IsOneHeld, stands_in, is_held, spot_if_cleared};
 
 use crate::maps::{add, set, unset};
 use st_ids::{Copied, FieldId, NodeId};
@@ -42,7 +42,7 @@ pub fn evict_all(
     intent: &Intent,
 ) -> Result<(), AllocError>
     ensures { OnOk result ((place : Node → Standing) → IsOneHeld held.now place → (n : Node)
-        → get node_cmp targets.new n ≡ option_or (get node_cmp targets.old n) (evicted intent.now.clear (place n))) }
+        → get node_cmp targets.new n ≡ option_or (get node_cmp targets.old n) (spot_if_cleared intent.now.clear (place n))) }
 {
     for field in intent.clear.as_slice() {
         evict(targets, held, field)?;

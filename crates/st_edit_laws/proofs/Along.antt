@@ -20,7 +20,7 @@ use Rattle.st_marks.proofs.Members.{all-has}
 use Rattle.st_edits.specs.Paths.{child, field_at, or_refuse, walk_from}
 use Rattle.st_edits.proofs.Fits.{passed, found, items_once}
 use Rattle.st_edit_laws.specs.Alike.{IsFrom, AreAlikeAt}
-use Rattle.st_edit_laws.specs.Edited.{in_node, in_row, in_fields, listed, at_index, at_key, at_place, at_path, same_key}
+use Rattle.st_edit_laws.specs.Edited.{in_node, in_row, in_fields, data_items, at_index, at_key, at_place, at_path, same_key}
 use Rattle.st_edit_laws.proofs.Beneath.{in_row as stands_in_row, row_above, held_above, from_child, not_beneath, one_child}
 use Rattle.st_edit_laws.proofs.Alike.{same_below, same_keys}
 use Rattle.st_ids.proofs.Orders.{is_eq_equal}
@@ -37,7 +37,7 @@ module _ (is_array : List ℕ → Bool) (D : Document) where
   AreShown (n ∷ ns) [] = ⊥
   AreShown (n ∷ ns) (d ∷ ds) = Shows is_array D n d × AreShown ns ds
 
-  pub as_list : {ns : List NodeId} {items : Items} → ShowsItems is_array D ns items → AreShown ns (listed items)
+  pub as_list : {ns : List NodeId} {items : Items} → ShowsItems is_array D ns items → AreShown ns (data_items items)
   as_list no_more_items = tt
   as_list (next_item n d ns ds a s) = (a, as_list s)
 
@@ -223,9 +223,9 @@ module _ (is_array : List ℕ → Bool) (D E : Document) (sound : IsSoundInForm 
               let here = alike_above n x up w (ap is_some p) in
               subst (λ d. Shows is_array E n (in_node (in_row (at_index i g)) d)) (sym q)
               (shows_row n ty _ (here.node _ p) a
-              (subst (λ ns. ShowsItems is_array E ns (items_of (at_index i g (listed items)))) (sym here.row)
-              (as_items is_array E (owners_shown (content D n)) (at_index i g (listed items))
-              (one_item is_array D E x g now (owners_shown (content D n)) (listed items) i (owners_once D n sound) at
+              (subst (λ ns. ShowsItems is_array E ns (items_of (at_index i g (data_items items)))) (sym here.row)
+              (as_items is_array E (owners_shown (content D n)) (at_index i g (data_items items))
+              (one_item is_array D E x g now (owners_shown (content D n)) (data_items items) i (owners_once D n sound) at
               (λ y h apart. kept_beside n x y up (row_above D sound n y h) w apart) (as_list is_array D s)))))
           by d (as_registers ty keys ms p a l s q) =
               let here = alike_above n x up w (ap is_some p) in

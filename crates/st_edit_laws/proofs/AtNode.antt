@@ -6,7 +6,7 @@ use Rattle.st_ids.specs.declared.names.NodeId.{NodeId}
 use Rattle.st_marks.specs.Document.{Document, NodeType, IsSoundInForm, content}
 use Rattle.st_marks.specs.LiveTree.{Shows, shows_leaf, shows_row, shows_registers, owners_shown, register, key_at}
 use Rattle.st_edit_laws.specs.Alike.{AreAlikeAt}
-use Rattle.st_edit_laws.specs.Edited.{in_node, in_row, in_fields, listed, same_key, with_items, with_key, without, without_items, without_key}
+use Rattle.st_edit_laws.specs.Edited.{in_node, in_row, in_fields, data_items, same_key, with_items, with_key, without, without_items, without_key}
 use Rattle.st_edit_laws.proofs.Along.{AreShown, Shape, as_leaf, as_row, as_registers, shape, as_list, as_items, kept_items, kept_child, leaf_kept, same_key-true}
 use Rattle.st_edit_laws.proofs.Beneath.{row_above, held_above}
 use Rattle.st_edit_laws.proofs.Keys.{one_less, one_more, other_keys, with_one}
@@ -32,9 +32,9 @@ module _ (is_array : List ℕ → Bool) (D F : Document) (sound : IsSoundInForm 
       by d (as_leaf ty v p q) =
           subst (λ d. Shows is_array F m (in_node (in_row g) d)) (sym q) (subst (Shows is_array F m) (sym (leaf_kept (in_row g) v)) (shows_leaf m ty v (kept _ p)))
       by d (as_row ty items p a r q) =
-          let now = kept_items is_array D F owners (listed items) (as_list is_array D r) (λ x h. kept_child is_array D F sound m alike x (row_above D sound m x h)) in
+          let now = kept_items is_array D F owners (data_items items) (as_list is_array D r) (λ x h. kept_child is_array D F sound m alike x (row_above D sound m x h)) in
           subst (λ d. Shows is_array F m (in_node (in_row g) d)) (sym q)
-          (shows_row m ty (items_of (g (listed items))) (kept _ p) a (as_items is_array F (owners_shown (content F m)) (g (listed items)) (change (listed items) now)))
+          (shows_row m ty (items_of (g (data_items items))) (kept _ p) a (as_items is_array F (owners_shown (content F m)) (g (data_items items)) (change (data_items items) now)))
       by d (as_registers ty keys ms p a l r q) = absurd (true-false rowed (sym (same_type _ p) ∙ a))
 
   -- items leave

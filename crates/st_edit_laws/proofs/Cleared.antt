@@ -21,7 +21,8 @@ use Rattle.st_marks.specs.CarryOut.{full, unless_cleared, unless_put}
 use Rattle.st_marks.specs.Verdict.{IsVerdict}
 use Rattle.st_marks.specs.LiveTree.{Shows, owners_shown, register}
 use Rattle.st_edits.specs.Paths.{field_at}
-use Rattle.st_edits.specs.Resolve.{clear, need, empty_intent, rule_for, walk, is_optional, is_row}
+use Rattle.st_edits.specs.Resolve.{clear, need, empty_intent, rule_for, walk}
+use Rattle.st_schema.specs.Kind.{is_optional, is_row}
 use Rattle.st_edits.specs.declared.names.NameCounters.{NameCounters}
 use Rattle.st_edits.specs.declared.names.Takes.TheVariants as field
 use Rattle.st_edits.proofs.Fits.{passed}

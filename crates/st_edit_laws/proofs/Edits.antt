@@ -16,7 +16,7 @@ use Rattle.st_edits.specs.declared.names.NameCounters.{NameCounters}
 use Rattle.st_edits.proofs.MoveFits.{CellsFresh}
 use Rattle.st_edits.proofs.NewFits.{NodesFresh}
 use Rattle.st_edit_laws.specs.Edited.{TellsRows}
-use Rattle.st_edit_laws.specs.Edits.{edited}
+use Rattle.st_edit_laws.specs.Edits.{tree_after_edit}
 use Rattle.st_edit_laws.specs.Typed.{IsAsTyped}
 use Rattle.st_edit_laws.proofs.Cleared.{clearing_seen, clearing_verdict, needing_seen, needing_verdict}
 use Rattle.st_edit_laws.proofs.Filled.{setting_seen, setting_verdict}
@@ -33,7 +33,7 @@ any_verdict D s G (Edit.Clear at key) N sound schema nodes cells e = clearing_ve
 any_verdict D s G (Edit.Need at) N sound schema nodes cells e = needing_verdict D G at N sound e
 
 pub any_seen : (is_array : List ℕ → Bool) (D : Document) (s : SchemaView) (G : NameCounters) (edit : Edit) (N : Intent) (d : Data) → IsSoundInForm D → is_sound s ≡ true → TellsRows is_array s → IsAsTyped is_array D → NodesFresh D G → CellsFresh D G
-    → resolve D s G edit ≡ Ok N → Shows is_array D root d → Shows is_array (full D N) root (edited edit d)
+    → resolve D s G edit ≡ Ok N → Shows is_array D root d → Shows is_array (full D N) root (tree_after_edit edit d)
 any_seen is_array D s G (Edit.Insert at key index items) N d sound schema tells typed nodes cells e shows = insertion_seen D s G at key index (trees_view items) N sound nodes cells e is_array schema tells d shows
 any_seen is_array D s G (Edit.Remove at key index count) N d sound schema tells typed nodes cells e shows = removal_seen is_array D s G at key index count N d sound schema tells e shows
 any_seen is_array D s G (Edit.Move at key index count to to_key to_index) N d sound schema tells typed nodes cells e shows =

@@ -15,7 +15,7 @@ use Rattle.st_tree.specs.Size.{item_count}
 use Rattle.st_tree.specs.declared.flat.FlatAt.{FlatAt}
 use Rattle.st_tree.specs.declared.flat.FlatNode.{FlatNode}
 use Rattle.st_schema.specs.Conforms.{items_verdicts}
-use Rattle.st_schema.specs.Schema.{SchemaView, is_sound, is_single_kind}
+use Rattle.st_schema.specs.Schema.{SchemaView, is_sound}
 use Rattle.st_schema.specs.TreeText.{tree_data}
 use Rattle.st_schema.specs.declared.names.FieldRule.{FieldRule}
 use Rattle.st_schema.specs.declared.names.KindName.{KindName}
@@ -33,7 +33,8 @@ use Rattle.st_marks.proofs.Members.{has-filter_map}
 use Rattle.st_edits.specs.New.{groups_under, group_under, to_at}
 use Rattle.st_opening.specs.Start.{registers}
 use Rattle.st_edits.specs.Paths.{field_at}
-use Rattle.st_edits.specs.Resolve.{allowed_nodes, named, intent_to_place, put, rule_for, walk, is_row}
+use Rattle.st_edits.specs.Resolve.{allowed_nodes, named_nodes, intent_to_place, put, rule_for, walk}
+use Rattle.st_schema.specs.Kind.{is_row, is_single_kind}
 use Rattle.st_edits.specs.declared.names.NameCounters.{NameCounters}
 use Rattle.st_edits.specs.declared.names.Takes.TheVariants as field
 use Rattle.st_edits.proofs.Fits.{passed}
@@ -55,9 +56,9 @@ use Rattle.st_lemmas.proofs.Options.{None-IsSome}
 -- ## A new tree in a field
 
 module _ (D : Document) (G : NameCounters) (m : NodeId) (key : Key) (t : Node) (sound : IsSoundInForm D) (nodes : NodesFresh D G) (known : IsSome (D.nodes m)) (form : all_have_form (first t no_nodes) ≡ true)
-    (fits : Fits D (intent_to_place D G (field_at m key) (named G (first t no_nodes)))) where
+    (fits : Fits D (intent_to_place D G (field_at m key) (named_nodes G (first t no_nodes)))) where
   abbrev xs : List FlatNode
-  xs = named G (first t no_nodes)
+  xs = named_nodes G (first t no_nodes)
 
   abbrev f : FieldId
   f = field_at m key
@@ -151,7 +152,7 @@ pub record IsSetting (D : Document) (s : SchemaView) (G : NameCounters) (at : Li
   pub ruled : rule_for field.Single D s node key ≡ Ok rule
   pub types : List (List ℕ)
   pub allowed : list_all (λ ok. ok) (items_verdicts s types (first t no_nodes)) ≡ true
-  pub intent : intent_to_place D G (field_at node key) (named G (first t no_nodes)) ≡ N
+  pub intent : intent_to_place D G (field_at node key) (named_nodes G (first t no_nodes)) ≡ N
 
 pub is_setting : (D : Document) (s : SchemaView) (G : NameCounters) (at : List Place) (key : Key) (t : Node) (N : Intent) → put D s G at key (first t no_nodes) ≡ Ok N → IsSetting D s G at key t N
 is_setting D s G at key t N e =
@@ -182,37 +183,37 @@ module _ (D : Document) (s : SchemaView) (G : NameCounters) (at : List Place) (k
   form : all_have_form (first t no_nodes) ≡ true
   form = items_form s w.types (first t no_nodes) w.allowed
 
-  fits_here : Fits D (intent_to_place D G (field_at w.node key) (named G (first t no_nodes)))
+  fits_here : Fits D (intent_to_place D G (field_at w.node key) (named_nodes G (first t no_nodes)))
   fits_here = subst (Fits D) (sym w.intent) (put_fits D s G at key t N sound schema nodes cells e)
 
   there : IsSome (D.nodes w.node)
   there = ap is_some w.known
 
   abbrev F : Document
-  F = full D (intent_to_place D G (field_at w.node key) (named G (first t no_nodes)))
+  F = full D (intent_to_place D G (field_at w.node key) (named_nodes G (first t no_nodes)))
 
   abbrev cleared : List FieldId
-  cleared = field_at w.node key ∷ registers (named G (first t no_nodes))
+  cleared = field_at w.node key ∷ registers (named_nodes G (first t no_nodes))
 
-  filled_here : IsFilled D G (Some (field_at w.node key)) w.node (named G (first t no_nodes)) (groups_under (named G (first t no_nodes))) cleared
+  filled_here : IsFilled D G (Some (field_at w.node key)) w.node (named_nodes G (first t no_nodes)) (groups_under (named_nodes G (first t no_nodes))) cleared
   filled_here = all D G w.node key t sound nodes there form fits_here
 
   pub setting_verdict : IsVerdict D N Verdict.Sound
-  setting_verdict = subst (λ N. IsVerdict D N Verdict.Sound) w.intent (made_verdict D G (Some (field_at w.node key)) w.node (named G (first t no_nodes)) (groups_under (named G (first t no_nodes))) cleared filled_here)
+  setting_verdict = subst (λ N. IsVerdict D N Verdict.Sound) w.intent (made_verdict D G (Some (field_at w.node key)) w.node (named_nodes G (first t no_nodes)) (groups_under (named_nodes G (first t no_nodes))) cleared filled_here)
 
   module _ (is_array : List ℕ → Bool) (tells : TellsRows is_array s) where
     old_alike : (x : NodeId) → IsSome (D.nodes x) → x ≢ w.node → AreAlikeAt D F x
-    old_alike = alike D G (Some (field_at w.node key)) w.node (named G (first t no_nodes)) (groups_under (named G (first t no_nodes))) cleared filled_here
+    old_alike = alike D G (Some (field_at w.node key)) w.node (named_nodes G (first t no_nodes)) (groups_under (named_nodes G (first t no_nodes))) cleared filled_here
 
     new_shown : Shows is_array F (node_named G.rev G.nodes) (tree_data t)
     new_shown =
         (as_list is_array F
-        (tops_shown s is_array tells G.rev F (named G (first t no_nodes)) (keeps D G (Some (field_at w.node key)) w.node (named G (first t no_nodes)) (groups_under (named G (first t no_nodes))) cleared filled_here)
-        w.types G.nodes G.cells (first t no_nodes) w.allowed (own_all G.rev (named G (first t no_nodes)) G.nodes (G.nodes + item_count (first t no_nodes))))).0
+        (tops_shown s is_array tells G.rev F (named_nodes G (first t no_nodes)) (keeps D G (Some (field_at w.node key)) w.node (named_nodes G (first t no_nodes)) (groups_under (named_nodes G (first t no_nodes))) cleared filled_here)
+        w.types G.nodes G.cells (first t no_nodes) w.allowed (own_all G.rev (named_nodes G (first t no_nodes)) G.nodes (G.nodes + item_count (first t no_nodes))))).0
 
     pub setting_seen : (d : Data) → Shows is_array D root d → Shows is_array (full D N) root (at_path at (with_key key.0 (tree_data t)) d)
     setting_seen d shows =
         subst (λ N. Shows is_array (full D N) root (at_path at (with_key key.0 (tree_data t)) d)) w.intent
         ((along is_array D F sound w.node old_alike (with_key key.0 (tree_data t))
-        (member_comes is_array D F sound w.node old_alike (old_node D G (Some (field_at w.node key)) w.node (named G (first t no_nodes)) (groups_under (named G (first t no_nodes))) cleared filled_here w.node) w.type w.known key.0
+        (member_comes is_array D F sound w.node old_alike (old_node D G (Some (field_at w.node key)) w.node (named_nodes G (first t no_nodes)) (groups_under (named_nodes G (first t no_nodes))) cleared filled_here w.node) w.type w.known key.0
         (node_named G.rev G.nodes) (tree_data t) (w.unrowed is_array schema tells) new_shown (held_here D G w.node key t sound nodes there form fits_here)) at 0 root w.way).1 d shows)

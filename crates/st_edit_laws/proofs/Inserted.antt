@@ -35,14 +35,14 @@ use Rattle.st_marks.proofs.NewRows.{made_cell, row_cells}
 use Rattle.st_edits.specs.New.{group_of, group_under, groups_under, to_at, top_cells}
 use Rattle.st_opening.specs.Start.{registers}
 use Rattle.st_edits.specs.Paths.{left_of, row_length}
-use Rattle.st_edits.specs.Resolve.{allowed_nodes, require, insert, inserted, named, rule_for, walk, with_group}
+use Rattle.st_edits.specs.Resolve.{allowed_nodes, require, insert, intent_to_insert, named_nodes, rule_for, walk, with_group}
 use Rattle.st_edits.specs.declared.names.NameCounters.{NameCounters}
 use Rattle.st_edits.specs.declared.names.Takes.TheVariants as field
 use Rattle.st_edits.proofs.Fits.{passed}
 use Rattle.st_edits.proofs.MoveFits.{CellsFresh}
 use Rattle.st_edits.proofs.NewFits.{insert_fits, NodesFresh, top_from, top_has, items_form, with_first, with_has}
 use Rattle.st_edits.proofs.Numbered.{tops_counted, tops_rows}
-use Rattle.st_edit_laws.specs.Edited.{TellsRows, at_path, listed, with_items}
+use Rattle.st_edit_laws.specs.Edited.{TellsRows, at_path, data_items, with_items}
 use Rattle.st_edit_laws.proofs.Along.{AreShown, as_list, along}
 use Rattle.st_edit_laws.proofs.Anchored.{row_with}
 use Rattle.st_edit_laws.proofs.AtNode.{items_come}
@@ -58,9 +58,9 @@ use Rattle.st_lemmas.proofs.Options.{None-IsSome}
 -- ## New items in a row
 
 module _ (D : Document) (G : NameCounters) (m : NodeId) (index : ℕ) (trees : Nodes) (sound : IsSoundInForm D) (nodes : NodesFresh D G) (known : IsSome (D.nodes m)) (form : Rattle.st_tree.specs.Form.all_have_form trees ≡ true)
-    (fits : Fits D (inserted D G m index (named G trees))) where
+    (fits : Fits D (intent_to_insert D G m index (named_nodes G trees))) where
   abbrev xs : List FlatNode
-  xs = named G trees
+  xs = named_nodes G trees
 
   abbrev left : Option CellId
   left = left_of D m index
@@ -69,7 +69,7 @@ module _ (D : Document) (G : NameCounters) (m : NodeId) (index : ℕ) (trees : N
   gs = with_group (group_of m left (top_cells xs)) (groups_under xs)
 
   abbrev N : Intent
-  N = inserted D G m index xs
+  N = intent_to_insert D G m index xs
 
   abbrev E : Document
   E = full D N
@@ -155,19 +155,19 @@ pub record IsInsertion (D : Document) (s : SchemaView) (G : NameCounters) (at : 
   pub types : List (List ℕ)
   pub allowed : list_all (λ ok. ok) (items_verdicts s types trees) ≡ true
   pub in_range : index ≤ row_length D node
-  pub intent : inserted D G node index (named G trees) ≡ N
+  pub intent : intent_to_insert D G node index (named_nodes G trees) ≡ N
 
 pub is_insertion : (D : Document) (s : SchemaView) (G : NameCounters) (at : List Place) (key : Key) (index : ℕ) (trees : Nodes) (N : Intent) → insert D s G at key index trees ≡ Ok N → IsInsertion D s G at key index trees N
 is_insertion D s G at key index trees N e =
     let n = passed (walk D at) _ N e in
     let rule = passed (rule_for field.Row D s n.0 key) _ N n.2 in
     let u = passed (require (nat_le index (row_length D n.0)) Range) _ N rule.2 in
-    let xs = passed (allowed_nodes s G rule.0 trees) (λ xs. Ok (inserted D G n.0 index xs)) N u.2 in
-    let is : inserted D G n.0 index xs.0 ≡ N = cc in
+    let xs = passed (allowed_nodes s G rule.0 trees) (λ xs. Ok (intent_to_insert D G n.0 index xs)) N u.2 in
+    let is : intent_to_insert D G n.0 index xs.0 ≡ N = cc in
     let t = row_ruled D s n.0 key rule.0 rule.1 in
     let a = are_allowed s G rule.0 trees xs.0 xs.1 in
     let test : nat_le index (row_length D n.0) ≡ true = asked (nat_le index (row_length D n.0)) u.0 u.1 in
-    record { node = n.0; way = n.1; type = t.0; known = t.1; rowed = t.2; rule = rule.0; ruled = rule.1; types = rule.0.types; allowed = a.0; in_range = grind (arith, nat_tests); intent = ap (inserted D G n.0 index) a.1 ∙ is }
+    record { node = n.0; way = n.1; type = t.0; known = t.1; rowed = t.2; rule = rule.0; ruled = rule.1; types = rule.0.types; allowed = a.0; in_range = grind (arith, nat_tests); intent = ap (intent_to_insert D G n.0 index) a.1 ∙ is }
   where
     asked : (b : Bool) (u : Unit {0}) → require b Range ≡ Ok u → b ≡ true
     asked true u h = refl
@@ -180,38 +180,38 @@ module _ (D : Document) (s : SchemaView) (G : NameCounters) (at : List Place) (k
   form : Rattle.st_tree.specs.Form.all_have_form trees ≡ true
   form = items_form s w.types trees w.allowed
 
-  fits : Fits D (inserted D G w.node index (named G trees))
+  fits : Fits D (intent_to_insert D G w.node index (named_nodes G trees))
   fits = subst (Fits D) (sym w.intent) (insert_fits D s G at key index trees N sound nodes cells e)
 
   there : IsSome (D.nodes w.node)
   there = ap is_some w.known
 
   abbrev F : Document
-  F = full D (inserted D G w.node index (named G trees))
+  F = full D (intent_to_insert D G w.node index (named_nodes G trees))
 
   abbrev groups : List Group
-  groups = with_group (group_of w.node (left_of D w.node index) (top_cells (named G trees))) (groups_under (named G trees))
+  groups = with_group (group_of w.node (left_of D w.node index) (top_cells (named_nodes G trees))) (groups_under (named_nodes G trees))
 
-  all : IsFilled D G None w.node (named G trees) groups (registers (named G trees))
+  all : IsFilled D G None w.node (named_nodes G trees) groups (registers (named_nodes G trees))
   all = filled D G w.node index trees sound nodes there form fits
 
   pub insertion_verdict : IsVerdict D N Verdict.Sound
-  insertion_verdict = subst (λ N. IsVerdict D N Verdict.Sound) w.intent (made_verdict D G None w.node (named G trees) groups (registers (named G trees)) all)
+  insertion_verdict = subst (λ N. IsVerdict D N Verdict.Sound) w.intent (made_verdict D G None w.node (named_nodes G trees) groups (registers (named_nodes G trees)) all)
 
   module _ (is_array : List ℕ → Bool) (schema : is_sound s ≡ true) (tells : TellsRows is_array s) where
     old_alike : (x : NodeId) → IsSome (D.nodes x) → x ≢ w.node → Rattle.st_edit_laws.specs.Alike.AreAlikeAt D F x
-    old_alike = alike D G None w.node (named G trees) groups (registers (named G trees)) all
+    old_alike = alike D G None w.node (named_nodes G trees) groups (registers (named_nodes G trees)) all
 
-    new_shown : AreShown is_array F (map (λ (o : Owned). o.node) (top_cells (named G trees))) (listed (trees_data trees))
+    new_shown : AreShown is_array F (map (λ (o : Owned). o.node) (top_cells (named_nodes G trees))) (data_items (trees_data trees))
     new_shown =
-        subst (λ ns. AreShown is_array F ns (listed (trees_data trees))) (sym (top_nodes G.rev G.nodes G.cells trees))
+        subst (λ ns. AreShown is_array F ns (data_items (trees_data trees))) (sym (top_nodes G.rev G.nodes G.cells trees))
         (as_list is_array F
-        (tops_shown s is_array tells G.rev F (named G trees) (keeps D G None w.node (named G trees) groups (registers (named G trees)) all) w.types G.nodes G.cells trees w.allowed
-        (own_all G.rev (named G trees) G.nodes (G.nodes + item_count trees))))
+        (tops_shown s is_array tells G.rev F (named_nodes G trees) (keeps D G None w.node (named_nodes G trees) groups (registers (named_nodes G trees)) all) w.types G.nodes G.cells trees w.allowed
+        (own_all G.rev (named_nodes G trees) G.nodes (G.nodes + item_count trees))))
 
-    pub insertion_seen : (d : Data) → Shows is_array D root d → Shows is_array (full D N) root (at_path at (with_items index (listed (trees_data trees))) d)
+    pub insertion_seen : (d : Data) → Shows is_array D root d → Shows is_array (full D N) root (at_path at (with_items index (data_items (trees_data trees))) d)
     insertion_seen d shows =
-        subst (λ N. Shows is_array (full D N) root (at_path at (with_items index (listed (trees_data trees))) d)) w.intent
-        ((along is_array D F sound w.node old_alike (with_items index (listed (trees_data trees)))
-        (items_come is_array D F sound w.node old_alike (old_node D G None w.node (named G trees) groups (registers (named G trees)) all w.node) w.type w.known index (map (λ (o : Owned). o.node) (top_cells (named G trees))) (listed (trees_data trees))
+        subst (λ N. Shows is_array (full D N) root (at_path at (with_items index (data_items (trees_data trees))) d)) w.intent
+        ((along is_array D F sound w.node old_alike (with_items index (data_items (trees_data trees)))
+        (items_come is_array D F sound w.node old_alike (old_node D G None w.node (named_nodes G trees) groups (registers (named_nodes G trees)) all w.node) w.type w.known index (map (λ (o : Owned). o.node) (top_cells (named_nodes G trees))) (data_items (trees_data trees))
         (w.rowed is_array schema tells) (row_after D G w.node index trees sound nodes there form fits w.in_range) new_shown) at 0 root w.way).1 d shows)

@@ -7,7 +7,7 @@ use Rattle.st_ids.specs.declared.names.FieldId.{FieldId}
 use Rattle.st_ids.specs.declared.names.NodeId.{NodeId}
 use Rattle.st_ids.specs.declared.names.Rev.{Rev}
 use Rattle.st_tree.specs.Node.{Node, node, Nodes, no_nodes, first}
-use Rattle.st_tree.specs.Preorder.{node_named, cell_named, cell_count, listed, tops_listed, fields_listed}
+use Rattle.st_tree.specs.Preorder.{node_named, cell_named, cell_count, tree_listed, tops_listed, fields_listed}
 use Rattle.st_tree.specs.Size.{node_count}
 use Rattle.st_tree.specs.declared.flat.FlatAt.{FlatAt}
 use Rattle.st_tree.specs.declared.flat.FlatNode.{FlatNode}
@@ -20,7 +20,7 @@ use Rattle.st_marks.specs.Document.{Document, owned}
 use Rattle.st_edits.specs.New.{owned_by, top_cell, top_cells, group_of, names_taken}
 use Rattle.st_opening.specs.Start.{register_at, registers}
 use Rattle.st_edits.specs.Paths.{and_then}
-use Rattle.st_edits.specs.Resolve.{allowed_nodes, named, names_left, trees_allowed}
+use Rattle.st_edits.specs.Resolve.{allowed_nodes, named_nodes, names_left, trees_allowed}
 use Rattle.st_edits.specs.declared.names.NameCounters.{NameCounters}
 use Rattle.st_edits.proofs.Fits.{passed}
 use Rattle.st_edits.proofs.NewFits.{NodesFresh, none_is}
@@ -32,11 +32,11 @@ use Rattle.st_ids.proofs.Shared.{filter-from}
 -- ## Allowed trees
 
 -- the schema allows each node, and the list is theirs
-pub are_allowed : (s : SchemaView) (G : NameCounters) (rule : FieldRule) (trees : Nodes) (xs : List FlatNode) → allowed_nodes s G rule trees ≡ Ok xs → (list_all (λ ok. ok) (items_verdicts s rule.types trees) ≡ true) × (named G trees ≡ xs)
+pub are_allowed : (s : SchemaView) (G : NameCounters) (rule : FieldRule) (trees : Nodes) (xs : List FlatNode) → allowed_nodes s G rule trees ≡ Ok xs → (list_all (λ ok. ok) (items_verdicts s rule.types trees) ≡ true) × (named_nodes G trees ≡ xs)
 are_allowed s G rule trees xs e =
-    let u = passed (trees_allowed s rule trees) (λ _. and_then (names_left G (names_taken (named G trees))) (λ _. Ok (named G trees))) xs e in
-    let v = passed (names_left G (names_taken (named G trees))) (λ _. Ok (named G trees)) xs u.2 in
-    let is : named G trees ≡ xs = cc in
+    let u = passed (trees_allowed s rule trees) (λ _. and_then (names_left G (names_taken (named_nodes G trees))) (λ _. Ok (named_nodes G trees))) xs e in
+    let v = passed (names_left G (names_taken (named_nodes G trees))) (λ _. Ok (named_nodes G trees)) xs u.2 in
+    let is : named_nodes G trees ≡ xs = cc in
     (position_from-None 0 (items_verdicts s rule.types trees) (none_is (position_from (λ ok. not ok) 0 (items_verdicts s rule.types trees)) u.0 u.1), is)
 
 -- the whole list has all
@@ -63,14 +63,14 @@ none_top : (xs : List FlatNode) → ((y : FlatNode) → Has xs y → IsInner y.a
 none_top [] inside = refl
 none_top (x ∷ xs) inside = ap (λ o. cons_option o (top_cells xs)) (no_top x.node x.at (inside x (inl refl))) ∙ none_top xs (λ y h. inside y (inr h))
 
-tree_top : (rev : Rev) (c d n : ℕ) (t : Node) → top_cells (listed rev (FlatAt.Top (cell_named rev c)) n d t) ≡ owned (cell_named rev c) (node_named rev n) ∷ []
+tree_top : (rev : Rev) (c d n : ℕ) (t : Node) → top_cells (tree_listed rev (FlatAt.Top (cell_named rev c)) n d t) ≡ owned (cell_named rev c) (node_named rev n) ∷ []
 tree_top rev c d n (node ty leaf fields) = ap (λ os. owned (cell_named rev c) (node_named rev n) ∷ os) (none_top (fields_listed rev n (n + 1) d fields) (fields_inner rev n (n + 1) d fields))
 
 pub top_nodes : (rev : Rev) (n c : ℕ) (ts : Nodes) → map (λ (o : Owned). o.node) (top_cells (tops_listed rev n c ts)) ≡ item_nodes rev n ts
 top_nodes rev n c no_nodes = refl
 top_nodes rev n c (first t ts) =
     let later = tops_listed rev (n + node_count t) (c + (1 + cell_count t)) ts in
-    ap (map (λ (o : Owned). o.node)) (tops_joined (listed rev (FlatAt.Top (cell_named rev c)) n (c + 1) t) later ∙ ap (λ os. os ++ top_cells later) (tree_top rev c (c + 1) n t))
+    ap (map (λ (o : Owned). o.node)) (tops_joined (tree_listed rev (FlatAt.Top (cell_named rev c)) n (c + 1) t) later ∙ ap (λ os. os ++ top_cells later) (tree_top rev c (c + 1) n t))
     ∙ ap (λ ns. node_named rev n ∷ ns) (top_nodes rev (n + node_count t) (c + (1 + cell_count t)) ts)
 
 -- ## Groups and registers

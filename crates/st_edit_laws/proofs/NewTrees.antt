@@ -17,7 +17,7 @@ use Rattle.st_ids.proofs.Orders.{same_node-true, same_node-itself}
 use Rattle.st_tree.specs.Node.{Node, node, Fields, no_fields, field, Nodes, no_nodes, first}
 use Rattle.st_tree.specs.Size.{node_count, field_count, item_count}
 use Rattle.st_tree.specs.Form.{is_row_alone, keys_rise, is_single}
-use Rattle.st_tree.specs.Preorder.{node_named, cell_named, cells_taken, cell_count, item_cells, is_array as has_array_fields, at_of, listed, fields_listed, items_listed, tops_listed}
+use Rattle.st_tree.specs.Preorder.{node_named, cell_named, cells_taken, cell_count, item_cells, is_array as has_array_fields, at_of, tree_listed, fields_listed, items_listed, tops_listed}
 use Rattle.st_tree.specs.declared.flat.FlatAt.{FlatAt}
 use Rattle.st_tree.specs.declared.flat.FlatNode.{FlatNode}
 use Rattle.st_schema.specs.Schema.{SchemaView, form_of}
@@ -63,7 +63,7 @@ under_owner rev owner c key false = refl
 
 -- the nodes of a tree stand where the tree stands, or beneath its nodes
 mutual
-  pub tree_under : (rev : Rev) (at : FlatAt) (n c : ℕ) (t : Node) (y : FlatNode) → Has (listed rev at n c t) y → (y.at ≡ at) ⊎ IsUnder rev n (n + node_count t) y.at
+  pub tree_under : (rev : Rev) (at : FlatAt) (n c : ℕ) (t : Node) (y : FlatNode) → Has (tree_listed rev at n c t) y → (y.at ≡ at) ⊎ IsUnder rev n (n + node_count t) y.at
   tree_under rev at n c (node ty leaf fs) y (inl e) = inl (ap (λ (z : FlatNode). z.at) (sym e))
   tree_under rev at n c (node ty leaf fs) y (inr h) = elim (fields_under rev n (n + 1) c fs y h) [
     | inl q ↦ inr (n, omega arith, omega arith, q)
@@ -88,7 +88,7 @@ mutual
       → (under y.at ≡ Some (node_named rev owner)) ⊎ IsUnder rev n (n + item_count ts) y.at
   items_under rev owner key row n c no_nodes y h = absurd h
   items_under rev owner key row n c (first t ts) y h =
-      elim (has-append (listed rev (at_of rev owner key row c) n (c + cells_taken row) t) (items_listed rev owner key row (n + node_count t) (c + (cells_taken row + cell_count t)) ts) y h) [
+      elim (has-append (tree_listed rev (at_of rev owner key row c) n (c + cells_taken row) t) (items_listed rev owner key row (n + node_count t) (c + (cells_taken row + cell_count t)) ts) y h) [
         | inl k ↦ elim (tree_under rev (at_of rev owner key row c) n (c + cells_taken row) t y k) [
           | inl q ↦ inl (ap under q ∙ under_owner rev owner c key row)
           | inr w ↦ inr (under_more rev n (n + node_count t) n (n + (node_count t + item_count ts)) y.at (omega arith) (omega arith) w)
@@ -232,7 +232,7 @@ key_there k (l ∷ ks) = go (same_key k l) refl (key_there k ks)
 item_key : (rev : Rev) (owner : ℕ) (key : List ℕ) (row : Bool) (n c : ℕ) (ts : Nodes) (v : FlatNode) (f : FieldId) → owner < n → Has (items_listed rev owner key row n c ts) v → v.at ≡ FlatAt.Register f → f.node ≡ node_named rev owner → f.key.0 ≡ key
 item_key rev owner key row n c no_nodes v f less h e own = absurd h
 item_key rev owner key row n c (first t ts) v f less h e own =
-    elim (has-append (listed rev (at_of rev owner key row c) n (c + cells_taken row) t) (items_listed rev owner key row (n + node_count t) (c + (cells_taken row + cell_count t)) ts) v h) [
+    elim (has-append (tree_listed rev (at_of rev owner key row c) n (c + cells_taken row) t) (items_listed rev owner key row (n + node_count t) (c + (cells_taken row + cell_count t)) ts) v h) [
       | inl k ↦ elim (tree_under rev (at_of rev owner key row c) n (c + cells_taken row) t v k) [
         | inl q ↦ here row (sym q ∙ e)
         | inr w ↦ (let same = one_under rev owner w.0 v.at (ap under e ∙ ap (λ x. Some x) own) w.3 in absurd (omega (arith, same, less, w.1)))
@@ -264,7 +264,7 @@ inner rev n c (node ty leaf fs) = fields_listed rev n (n + 1) c fs
 abbrev pub top_of : Rev → FlatAt → ℕ → Node → FlatNode
 top_of rev at n (node ty leaf fs) = record { node = node_named rev n; ty = ty; leaf = leaf; row = has_array_fields fs; at = at }
 
-pub listed_parts : (rev : Rev) (at : FlatAt) (n c : ℕ) (t : Node) → listed rev at n c t ≡ top_of rev at n t ∷ inner rev n c t
+pub listed_parts : (rev : Rev) (at : FlatAt) (n c : ℕ) (t : Node) → tree_listed rev at n c t ≡ top_of rev at n t ∷ inner rev n c t
 listed_parts rev at n c (node ty leaf fs) = refl
 
 pub inner_under : (rev : Rev) (n c : ℕ) (t : Node) (y : FlatNode) → Has (inner rev n c t) y → IsUnder rev n (n + node_count t) y.at
@@ -307,7 +307,7 @@ pub top_node : (rev : Rev) (at : FlatAt) (n : ℕ) (t : Node) → (top_of rev at
 top_node rev at n (node ty leaf fs) = refl
 
 pub own_tree : (rev : Rev) (xs : List FlatNode) (at : FlatAt) (n d : ℕ) (t : Node) (later : List FlatNode) (low high : ℕ) → low ≤ n → n + node_count t ≤ high → (IsUnder rev n (n + node_count t) at → ⊥)
-    → Outside rev later n (n + node_count t) → Own rev xs (listed rev at n d t ++ later) low high → Has xs (top_of rev at n t) × Own rev xs (inner rev n d t) n (n + node_count t)
+    → Outside rev later n (n + node_count t) → Own rev xs (tree_listed rev at n d t ++ later) low high → Has xs (top_of rev at n t) × Own rev xs (inner rev n d t) n (n + node_count t)
 own_tree rev xs at n d t later low high p q apart out own =
     let o = subst (λ l. Own rev xs (l ++ later) low high) (listed_parts rev at n d t) own in (
       o.inside (top_of rev at n t) (inl refl),
@@ -317,14 +317,14 @@ own_tree rev xs at n d t later low high p q apart out own =
     )
 
 first_tree : (rev : Rev) (xs : List FlatNode) (at : FlatAt) (owner n d : ℕ) (t : Node) (later : List FlatNode) (low high : ℕ) → low ≤ n → n + node_count t ≤ high → under at ≡ Some (node_named rev owner) → owner < n
-    → Outside rev later n (n + node_count t) → Own rev xs (listed rev at n d t ++ later) low high → Has xs (top_of rev at n t) × Own rev xs (inner rev n d t) n (n + node_count t)
+    → Outside rev later n (n + node_count t) → Own rev xs (tree_listed rev at n d t ++ later) low high → Has xs (top_of rev at n t) × Own rev xs (inner rev n d t) n (n + node_count t)
 first_tree rev xs at owner n d t later low high p q up less out own =
     own_tree rev xs at n d t later low high p q (λ w. let same = one_under rev owner w.0 at up w.3 in omega (arith, same, less, w.1)) out own
 
 later_trees : (rev : Rev) (xs : List FlatNode) (at : FlatAt) (owner n d : ℕ) (t : Node) (later : List FlatNode) (low high l h : ℕ) → low ≤ l → h ≤ high → n + node_count t ≤ l → under at ≡ Some (node_named rev owner) → owner < n
-    → Own rev xs (listed rev at n d t ++ later) low high → Own rev xs later l h
+    → Own rev xs (tree_listed rev at n d t ++ later) low high → Own rev xs later l h
 later_trees rev xs at owner n d t later low high l h p q past up less own =
-    own_right rev xs (listed rev at n d t) later low high l h p q
+    own_right rev xs (tree_listed rev at n d t) later low high l h p q
     (λ y k w. elim (tree_under rev at n d t y k) [
       | inl e ↦ (let same = one_under rev owner w.0 y.at (ap under e ∙ up) w.3 in omega (arith, same, less, past, w.1))
       | inr v ↦ (let same = one_under rev v.0 w.0 y.at v.3 w.3 in omega (arith, same, past, v.2, w.1))
@@ -332,7 +332,7 @@ later_trees rev xs at owner n d t later low high l h p q past up less own =
 
 tops_under : (rev : Rev) (n c : ℕ) (ts : Nodes) (y : FlatNode) → Has (tops_listed rev n c ts) y → (under y.at ≡ None) ⊎ IsUnder rev n (n + item_count ts) y.at
 tops_under rev n c no_nodes y h = absurd h
-tops_under rev n c (first t ts) y h = elim (has-append (listed rev (FlatAt.Top (cell_named rev c)) n (c + 1) t) (tops_listed rev (n + node_count t) (c + (1 + cell_count t)) ts) y h) [
+tops_under rev n c (first t ts) y h = elim (has-append (tree_listed rev (FlatAt.Top (cell_named rev c)) n (c + 1) t) (tops_listed rev (n + node_count t) (c + (1 + cell_count t)) ts) y h) [
   | inl k ↦ elim (tree_under rev (FlatAt.Top (cell_named rev c)) n (c + 1) t y k) [
     | inl q ↦ inl (ap under q)
     | inr w ↦ inr (under_more rev n (n + node_count t) n (n + (node_count t + item_count ts)) y.at (omega arith) (omega arith) w)
@@ -359,7 +359,7 @@ first_top rev xs n c t ts low high p q own =
 later_tops : (rev : Rev) (xs : List FlatNode) (n c : ℕ) (t : Node) (ts : Nodes) → Own rev xs (tops_listed rev n c (first t ts)) n (n + (node_count t + item_count ts))
     → Own rev xs (tops_listed rev (n + node_count t) (c + (1 + cell_count t)) ts) (n + node_count t) (n + node_count t + item_count ts)
 later_tops rev xs n c t ts own =
-    own_right rev xs (listed rev (FlatAt.Top (cell_named rev c)) n (c + 1) t) (tops_listed rev (n + node_count t) (c + (1 + cell_count t)) ts) n (n + (node_count t + item_count ts)) (n + node_count t) (n + node_count t + item_count ts)
+    own_right rev xs (tree_listed rev (FlatAt.Top (cell_named rev c)) n (c + 1) t) (tops_listed rev (n + node_count t) (c + (1 + cell_count t)) ts) n (n + (node_count t + item_count ts)) (n + node_count t) (n + node_count t + item_count ts)
     (omega arith) (omega arith)
     (λ y k w. elim (tree_under rev (FlatAt.Top (cell_named rev c)) n (c + 1) t y k) [
       | inl e ↦ no_under rev (n + node_count t) (n + node_count t + item_count ts) y.at (ap under e) w
@@ -472,7 +472,7 @@ module _ (s : SchemaView) (is_array : List ℕ → Bool) (tells : TellsRows is_a
         let oks = all-parts (verdicts s (types_under form key) t ++ []) (fields_verdicts s form rest) ok in
         let f = register (node_named rev owner) key in
         let at = FlatAt.Register f in
-        let here = listed rev at n (c + 0) t ++ [] in
+        let here = tree_listed rev at n (c + 0) t ++ [] in
         let later = fields_listed rev owner (n + (node_count t + 0)) (c + item_cells false (first t no_nodes)) rest in
         let all_here = items_under rev owner key false n c (first t no_nodes) in
         let all_later = fields_under rev owner (n + (node_count t + 0)) (c + item_cells false (first t no_nodes)) rest in

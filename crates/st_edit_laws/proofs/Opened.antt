@@ -9,7 +9,7 @@ use Rattle.st_ids.specs.declared.names.NodeId.{NodeId}
 use Rattle.st_ids.specs.declared.names.Rev.{Rev}
 use Rattle.st_ids.proofs.Orders.{same_node-true, same_node-itself, same_cell-itself, same_field-true}
 use Rattle.st_tree.specs.Node.{Node, node, Fields, no_fields, field, Nodes, no_nodes, first}
-use Rattle.st_tree.specs.Preorder.{node_named, cells_taken, cell_count, item_cells, at_of, listed, fields_listed, items_listed, opening_listed}
+use Rattle.st_tree.specs.Preorder.{node_named, cells_taken, cell_count, item_cells, at_of, tree_listed, fields_listed, items_listed, opening_listed}
 use Rattle.st_tree.specs.Size.{node_count, field_count, item_count}
 use Rattle.st_tree.specs.declared.flat.FlatAt.{FlatAt}
 use Rattle.st_tree.specs.declared.flat.FlatNode.{FlatNode}
@@ -56,7 +56,7 @@ named_append : (rev : Rev) (xs ys : List FlatNode) (n a b : ℕ) → AreNamed re
 named_append rev xs ys n a b h k = (length-append xs ys ∙ (λ i. h.0 i + k.0 i), names_append rev xs ys n h.1 (names_at rev ys (n + a) (n + length xs) (ap (λ l. n + l) (sym h.0)) k.1))
 
 mutual
-  tree_named : (rev : Rev) (at : FlatAt) (n c : ℕ) (t : Node) → AreNamed rev (listed rev at n c t) n (node_count t)
+  tree_named : (rev : Rev) (at : FlatAt) (n c : ℕ) (t : Node) → AreNamed rev (tree_listed rev at n c t) n (node_count t)
   tree_named rev at n c (node ty leaf fs) = let r = fields_named rev n (n + 1) c fs in let l = r.0 in (omega (arith, l), (refl, r.1))
 
   fields_named : (rev : Rev) (owner n c : ℕ) (fs : Fields) → AreNamed rev (fields_listed rev owner n c fs) n (field_count fs)
@@ -68,7 +68,7 @@ mutual
   items_named : (rev : Rev) (owner : ℕ) (key : List ℕ) (row : Bool) (n c : ℕ) (ts : Nodes) → AreNamed rev (items_listed rev owner key row n c ts) n (item_count ts)
   items_named rev owner key row n c no_nodes = (refl, tt)
   items_named rev owner key row n c (first t ts) =
-      named_append rev (listed rev (at_of rev owner key row c) n (c + cells_taken row) t) (items_listed rev owner key row (n + node_count t) (c + (cells_taken row + cell_count t)) ts) n (node_count t) (item_count ts)
+      named_append rev (tree_listed rev (at_of rev owner key row c) n (c + cells_taken row) t) (items_listed rev owner key row (n + node_count t) (c + (cells_taken row + cell_count t)) ts) n (node_count t) (item_count ts)
       (tree_named rev (at_of rev owner key row c) n (c + cells_taken row) t) (items_named rev owner key row (n + node_count t) (c + (cells_taken row + cell_count t)) ts)
 
 number_of : (rev : Rev) (xs : List FlatNode) (n : ℕ) (x : FlatNode) → Names rev xs n → Has xs x → (k : ℕ) × (n ≤ k) × (x.node ≡ node_named rev k)

@@ -5,7 +5,7 @@ use Rattle.std.proofs.lemmas.Bool.Decides.{nat_tests}
 use Rattle.st_ids.specs.declared.names.Key.{Key}
 use Rattle.st_ids.specs.declared.names.NodeId.{NodeId}
 use Rattle.st_tree.specs.declared.edit.EditFault.TheVariants.{Kind}
-use Rattle.st_schema.specs.Schema.{SchemaView, same, is_key, declared, field_in, field_is_sound, field_of, form_of, form_is_sound, forms_are_sound, names_are_sound, type_names, is_single_kind, is_sound, defs_rise}
+use Rattle.st_schema.specs.Schema.{SchemaView, same, is_key, declared_field, field_in, field_is_sound, field_of, form_of, form_is_sound, forms_are_sound, names_are_sound, type_names, is_sound, defs_rise}
 use Rattle.st_schema.specs.declared.names.FieldDef.{FieldDef}
 use Rattle.st_schema.specs.declared.names.FieldRule.{FieldRule}
 use Rattle.st_schema.specs.declared.names.Form.{Form}
@@ -15,7 +15,8 @@ use Rattle.st_schema.specs.declared.names.KindName.TheVariants.{Required, Option
 use Rattle.st_marks.specs.Document.{Document, NodeType}
 use Rattle.st_marks.proofs.Members.{first-has}
 use Rattle.st_edits.specs.Paths.{or_refuse}
-use Rattle.st_edits.specs.Resolve.{rule_at, rule_for, of_kind, takes_kind, is_row}
+use Rattle.st_edits.specs.Resolve.{rule_at, rule_for, of_kind, takes_kind}
+use Rattle.st_schema.specs.Kind.{is_row, is_single_kind}
 use Rattle.st_edits.specs.declared.names.Takes.{Takes}
 use Rattle.st_edits.specs.declared.names.Takes.TheVariants as field
 use Rattle.st_edits.proofs.Fits.{passed, found, key_some, kind_taken, looked_up, all_pass}
@@ -33,14 +34,14 @@ form_row names (Map types) key rule sound e = go (is_key key) e
     go : (b : Bool) → cond b (Some (record { kind = Optional; types = types })) None ≡ Some rule → false ≡ is_row rule.kind
     go true f = let q : record { kind = Optional; types = types } ≡ rule = cc in ap (λ (r : FieldRule). is_row r.kind) q
     go false f = cc
-form_row names (Object fields) key rule sound e = go (declared fields key) refl e
+form_row names (Object fields) key rule sound e = go (declared_field fields key) refl e
   where
     single : (k : KindName) → is_single_kind k ≡ true → false ≡ is_row k
     single Required h = refl
     single Optional h = refl
     single Sequence h = cc
 
-    go : (o : Option FieldDef) → declared fields key ≡ o → option_map (λ (f : FieldDef). record { kind = f.kind; types = f.types }) o ≡ Some rule → false ≡ is_row rule.kind
+    go : (o : Option FieldDef) → declared_field fields key ≡ o → option_map (λ (f : FieldDef). record { kind = f.kind; types = f.types }) o ≡ Some rule → false ≡ is_row rule.kind
     go None h g = cc
     go (Some d) h g =
         let w = first-has (λ (f : FieldDef). same f.key.0 key) fields d h in

@@ -34,7 +34,8 @@ use Rattle.st_marks.proofs.Members.{first-has, has-any, has-map}
 use Rattle.st_edits.specs.New.{cells_under, group_of, group_under, new_nodes, groups_under, to_at, top_cells}
 use Rattle.st_opening.specs.Start.{registers}
 use Rattle.st_edits.specs.Paths.{field_at, left_of, or_refuse}
-use Rattle.st_edits.specs.Resolve.{cells_for, clear, insert, is_row, move, intent_to_move, moved_to_field, moved_to_row, named, need, empty_intent, of_kind, put, remove, intent_to_remove, resolve, rule_at, rule_for, takes_kind, with_group}
+use Rattle.st_edits.specs.Resolve.{cells_for, clear, insert, move, intent_to_move, moved_to_field, moved_to_row, named_nodes, need, empty_intent, of_kind, put, remove, intent_to_remove, resolve, rule_at, rule_for, takes_kind, with_group}
+use Rattle.st_schema.specs.Kind.{is_row}
 use Rattle.st_edits.specs.declared.names.NameCounters.{NameCounters}
 use Rattle.st_edits.specs.declared.names.Takes.{Takes}
 use Rattle.st_edits.specs.declared.names.Takes.TheVariants as field
@@ -217,7 +218,7 @@ module _ (is_array : List ℕ → Bool) (D : Document) (s : SchemaView) (G : Nam
   insert_typed : (at : List Place) (key : Key) (index : ℕ) (trees : Nodes) (N : Intent) → NodesFresh D G → CellsFresh D G → insert D s G at key index trees ≡ Ok N → IsTypedIntent is_array D N
   insert_typed at key index trees N nodes cells e =
       let w = is_insertion D s G at key index trees N e in
-      let xs = named G trees in
+      let xs = named_nodes G trees in
       let fits = subst (Fits D) (sym w.intent) (insert_fits D s G at key index trees N sound nodes cells e) in
       let all = filled D G w.node index trees sound nodes (ap is_some w.known) (items_form s w.types trees w.allowed) fits in
       subst (IsTypedIntent is_array D) w.intent
@@ -228,7 +229,7 @@ module _ (is_array : List ℕ → Bool) (D : Document) (s : SchemaView) (G : Nam
   put_typed : (at : List Place) (key : Key) (tree : Node) (N : Intent) → NodesFresh D G → CellsFresh D G → put D s G at key (first tree no_nodes) ≡ Ok N → IsTypedIntent is_array D N
   put_typed at key tree N nodes cells e =
       let w = is_setting D s G at key tree N e in
-      let xs = named G (first tree no_nodes) in
+      let xs = named_nodes G (first tree no_nodes) in
       let fits = subst (Fits D) (sym w.intent) (put_fits D s G at key tree N sound schema nodes cells e) in
       let all_here = all D G w.node key tree sound nodes (ap is_some w.known) (items_form s w.types (first tree no_nodes) w.allowed) fits in
       let cleared = field_at w.node key ∷ registers xs in

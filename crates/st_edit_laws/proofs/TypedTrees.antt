@@ -9,7 +9,7 @@ use Rattle.st_ids.specs.declared.names.Rev.{Rev}
 use Rattle.std.specs.Ordering.{nat_cmp, is_lt}
 use Rattle.st_tree.specs.Form.{is_row_alone, is_single, keys_rise}
 use Rattle.st_tree.specs.Node.{Node, node, Fields, no_fields, field, Nodes, no_nodes, first}
-use Rattle.st_tree.specs.Preorder.{node_named, cell_named, cells_taken, cell_count, item_cells, is_array as has_array_fields, at_of, listed, fields_listed, items_listed, tops_listed}
+use Rattle.st_tree.specs.Preorder.{node_named, cell_named, cells_taken, cell_count, item_cells, is_array as has_array_fields, at_of, tree_listed, fields_listed, items_listed, tops_listed}
 use Rattle.st_tree.specs.Size.{node_count, item_count}
 use Rattle.st_tree.specs.declared.flat.FlatAt.{FlatAt}
 use Rattle.st_tree.specs.declared.flat.FlatNode.{FlatNode}
@@ -95,7 +95,7 @@ module _ (s : SchemaView) (is_array : List ℕ → Bool) (tells : TellsRows is_a
   owner_in b xs ys r inside w = (w.0, inside w.0 w.1, w.2, w.3, w.4)
 
   mutual
-    pub tree_own : (types : List (List ℕ)) (rev : Rev) (at : FlatAt) (n c : ℕ) (t : Node) → Conforming (verdicts s types t) → (y : FlatNode) → Has (listed rev at n c t) y → IsOwnTyped is_array y
+    pub tree_own : (types : List (List ℕ)) (rev : Rev) (at : FlatAt) (n c : ℕ) (t : Node) → Conforming (verdicts s types t) → (y : FlatNode) → Has (tree_listed rev at n c t) y → IsOwnTyped is_array y
     tree_own types rev at n c (node ty leaf fs) ok y (inl e) =
         let fit = (and-true _ (is_as_typed (form_of s.types ty) ty leaf fs) (and-true (node_fits s types ty leaf fs) _ ok).0).1 in
         subst (IsOwnTyped is_array) e (record { row = λ r. (let w = kind_form true (form_of s.types ty) ty leaf fs fit (first_kind fs r) in (w.0, tells ty ∙ w.1)); leaf = λ v q. leaf_form (form_of s.types ty) ty leaf fs v fit q })
@@ -114,22 +114,22 @@ module _ (s : SchemaView) (is_array : List ℕ → Bool) (tells : TellsRows is_a
     items_own types rev owner key row n c no_nodes ok y h = absurd h
     items_own types rev owner key row n c (first t ts) ok y h =
         let oks = all-parts (verdicts s types t) (items_verdicts s types ts) ok in
-        elim (has-append (listed rev (at_of rev owner key row c) n (c + cells_taken row) t) (items_listed rev owner key row (n + node_count t) (c + (cells_taken row + cell_count t)) ts) y h) [
+        elim (has-append (tree_listed rev (at_of rev owner key row c) n (c + cells_taken row) t) (items_listed rev owner key row (n + node_count t) (c + (cells_taken row + cell_count t)) ts) y h) [
           | inl k ↦ tree_own types rev (at_of rev owner key row c) n (c + cells_taken row) t oks.0 y k
           | inr k ↦ items_own types rev owner key row (n + node_count t) (c + (cells_taken row + cell_count t)) ts oks.1 y k
         ]
 
   -- a node in a row or register stands where the tree does, or beneath a node of the tree that has a row or registers
   mutual
-    pub tree_owner : (b : Bool) (types : List (List ℕ)) (rev : Rev) (at : FlatAt) (n c : ℕ) (t : Node) → Conforming (verdicts s types t) → (y : FlatNode) (r : NodeId) → Has (listed rev at n c t) y → above_at b y.at ≡ Some r
-        → (above_at b at ≡ Some r) ⊎ HasOwner is_array b (listed rev at n c t) r
+    pub tree_owner : (b : Bool) (types : List (List ℕ)) (rev : Rev) (at : FlatAt) (n c : ℕ) (t : Node) → Conforming (verdicts s types t) → (y : FlatNode) (r : NodeId) → Has (tree_listed rev at n c t) y → above_at b y.at ≡ Some r
+        → (above_at b at ≡ Some r) ⊎ HasOwner is_array b (tree_listed rev at n c t) r
     tree_owner b types rev at n c (node ty leaf fs) ok y r (inl e) q = inl (ap (λ (z : FlatNode). above_at b z.at) e ∙ q)
     tree_owner b types rev at n c (node ty leaf fs) ok y r (inr h) q =
         let parts = and-true (node_fits s types ty leaf fs) _ ok in
         let fit = (and-true _ (is_as_typed (form_of s.types ty) ty leaf fs) parts.0).1 in
         inr (elim (fields_owner b (form_of s.types ty) rev n (n + 1) c fs parts.1 y r h q) [
           | inl own ↦ (let w = kind_form b (form_of s.types ty) ty leaf fs fit own.1 in (record { node = node_named rev n; ty = ty; leaf = leaf; row = has_array_fields fs; at = at }, inl refl, sym own.0, w.0, tells ty ∙ w.1))
-          | inr w ↦ owner_in b (fields_listed rev n (n + 1) c fs) (listed rev at n c (node ty leaf fs)) r (λ z k. inr k) w
+          | inr w ↦ owner_in b (fields_listed rev n (n + 1) c fs) (tree_listed rev at n c (node ty leaf fs)) r (λ z k. inr k) w
         ])
 
     fields_owner : (b : Bool) (form : Option Form) (rev : Rev) (owner n c : ℕ) (fs : Fields) → Conforming (fields_verdicts s form fs) → (y : FlatNode) (r : NodeId) → Has (fields_listed rev owner n c fs) y → above_at b y.at ≡ Some r
@@ -155,7 +155,7 @@ module _ (s : SchemaView) (is_array : List ℕ → Bool) (tells : TellsRows is_a
     items_owner b types rev owner key row n c no_nodes ok y r h q = absurd h
     items_owner b types rev owner key row n c (first t ts) ok y r h q =
         let oks = all-parts (verdicts s types t) (items_verdicts s types ts) ok in
-        let here = listed rev (at_of rev owner key row c) n (c + cells_taken row) t in
+        let here = tree_listed rev (at_of rev owner key row c) n (c + cells_taken row) t in
         let later = items_listed rev owner key row (n + node_count t) (c + (cells_taken row + cell_count t)) ts in
         elim (has-append here later y h) [
           | inl k ↦ elim (tree_owner b types rev (at_of rev owner key row c) n (c + cells_taken row) t oks.0 y r k q) [
@@ -172,7 +172,7 @@ module _ (s : SchemaView) (is_array : List ℕ → Bool) (tells : TellsRows is_a
   tops_own types rev n c no_nodes ok y h = absurd h
   tops_own types rev n c (first t ts) ok y h =
       let oks = all-parts (verdicts s types t) (items_verdicts s types ts) ok in
-      elim (has-append (listed rev (FlatAt.Top (cell_named rev c)) n (c + 1) t) (tops_listed rev (n + node_count t) (c + (1 + cell_count t)) ts) y h) [
+      elim (has-append (tree_listed rev (FlatAt.Top (cell_named rev c)) n (c + 1) t) (tops_listed rev (n + node_count t) (c + (1 + cell_count t)) ts) y h) [
         | inl k ↦ tree_own types rev (FlatAt.Top (cell_named rev c)) n (c + 1) t oks.0 y k
         | inr k ↦ tops_own types rev (n + node_count t) (c + (1 + cell_count t)) ts oks.1 y k
       ]
@@ -182,7 +182,7 @@ module _ (s : SchemaView) (is_array : List ℕ → Bool) (tells : TellsRows is_a
   tops_owner b types rev n c no_nodes ok y r h q = absurd h
   tops_owner b types rev n c (first t ts) ok y r h q =
       let oks = all-parts (verdicts s types t) (items_verdicts s types ts) ok in
-      let here = listed rev (FlatAt.Top (cell_named rev c)) n (c + 1) t in
+      let here = tree_listed rev (FlatAt.Top (cell_named rev c)) n (c + 1) t in
       let later = tops_listed rev (n + node_count t) (c + (1 + cell_count t)) ts in
       elim (has-append here later y h) [
         | inl k ↦ elim (tree_owner b types rev (FlatAt.Top (cell_named rev c)) n (c + 1) t oks.0 y r k q) [ inl bad ↦ absurd (cc) | inr w ↦ owner_in b here (here ++ later) r (append_left here later) w ]

@@ -31,9 +31,9 @@ in_node f (object (member ty d no_members)) = object (member ty (f d) no_members
 in_node f (object (member ty d (member k e ms))) = object (member ty d (member k e ms))
 
 -- the items of an array as a list
-abbrev pub listed : Items → List Data
-listed no_items = []
-listed (item d ds) = d ∷ listed ds
+abbrev pub data_items : Items → List Data
+data_items no_items = []
+data_items (item d ds) = d ∷ data_items ds
 
 -- the items of a row, changed
 abbrev pub in_row : (List Data → List Data) → Data → Data
@@ -41,7 +41,7 @@ in_row f null = null
 in_row f (boolean b) = boolean b
 in_row f (number x) = number x
 in_row f (string text) = string text
-in_row f (array ds) = array (items_of (f (listed ds)))
+in_row f (array ds) = array (items_of (f (data_items ds)))
 in_row f (object ms) = object ms
 
 -- the fields that hold something, changed

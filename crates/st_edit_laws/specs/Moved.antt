@@ -5,7 +5,7 @@ use Rattle.serde_json.specs.Data.{Data, null, boolean, number, string, array, ob
 use Rattle.serde_json.specs.Find.{get}
 use Rattle.st_ids.specs.declared.names.Key.{Key}
 use Rattle.st_ids.specs.declared.names.Place.{Place}
-use Rattle.st_edit_laws.specs.Edited.{at_path, is_row_key, listed, same_key, with_items, with_key, without_items, without_key}
+use Rattle.st_edit_laws.specs.Edited.{at_path, is_row_key, data_items, same_key, with_items, with_key, without_items, without_key}
 
 -- ## Looking into a tree
 
@@ -26,7 +26,7 @@ items_in null = []
 items_in (boolean b) = []
 items_in (number x) = []
 items_in (string text) = []
-items_in (array ds) = listed ds
+items_in (array ds) = data_items ds
 items_in (object ms) = []
 
 -- the items of a node's row

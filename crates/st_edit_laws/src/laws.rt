@@ -23,8 +23,8 @@ ghost use Rattle.st_opening.specs.Start.{start_of};
 ghost use Rattle.st_edits.specs.declared.names.NameCounters.{NameCounters};
 ghost use Rattle.st_edits.specs.Resolve.{clear, insert, move as move_of, need, put, remove, resolve};
 ghost use Rattle.st_edit_laws.specs.Alike.{AreAlikeFrom};
-ghost use Rattle.st_edit_laws.specs.Edited.{TellsRows, at_path, listed, with_items, with_key, without_items, without_key};
-ghost use Rattle.st_edit_laws.specs.Edits.{edited};
+ghost use Rattle.st_edit_laws.specs.Edited.{TellsRows, at_path, data_items, with_items, with_key, without_items, without_key};
+ghost use Rattle.st_edit_laws.specs.Edits.{tree_after_edit};
 ghost use Rattle.st_edit_laws.specs.Moved.{moved_in};
 ghost use Rattle.st_edit_laws.specs.Typed.{IsAsTyped, IsTypedIntent};
 
@@ -64,7 +64,7 @@ pub fn insertion_is_seen()
     ensures tree { (is_array : List ℕ → Bool) (D : Document) (s : SchemaView) (G : NameCounters) (at : List Place) (key : Key) (index : ℕ) (trees : Nodes) (N : Intent) (d : Data) → IsSoundInForm D
         → is_sound s ≡ true → TellsRows is_array s
         → ((k : ℕ) → G.nodes ≤ k → D.nodes (node_named G.rev k) ≡ None) → ((k : ℕ) → G.cells ≤ k → D.row_of (cell_named G.rev k) ≡ None)
-        → insert D s G at key index trees ≡ Ok N → Shows is_array D root d → Shows is_array (full D N) root (at_path at (with_items index (listed (trees_data trees))) d) }
+        → insert D s G at key index trees ≡ Ok N → Shows is_array D root d → Shows is_array (full D N) root (at_path at (with_items index (data_items (trees_data trees))) d) }
 {}
 
 /// A new tree in a field is sound, and shows the tree with the new one under the key, in the place of what was there.
@@ -96,7 +96,7 @@ pub fn edits_are_seen()
         → resolve D s G edit ≡ Ok N → IsVerdict D N Verdict.Sound }
     ensures tree { (is_array : List ℕ → Bool) (D : Document) (s : SchemaView) (G : NameCounters) (edit : Edit) (N : Intent) (d : Data) → IsSoundInForm D → is_sound s ≡ true → TellsRows is_array s → IsAsTyped is_array D
         → ((k : ℕ) → G.nodes ≤ k → D.nodes (node_named G.rev k) ≡ None) → ((k : ℕ) → G.cells ≤ k → D.row_of (cell_named G.rev k) ≡ None)
-        → resolve D s G edit ≡ Ok N → Shows is_array D root d → Shows is_array (full D N) root (edited edit d) }
+        → resolve D s G edit ≡ Ok N → Shows is_array D root d → Shows is_array (full D N) root (tree_after_edit edit d) }
 {}
 
 /// What an edit means is typed, where the document is.

@@ -12,7 +12,7 @@ use Rattle.st_ids.specs.declared.names.Place.{Place}
 use Rattle.st_ids.proofs.Orders.{same_node-true}
 use Rattle.st_tree.specs.declared.edit.EditFault.{EditFault}
 use Rattle.st_tree.specs.declared.edit.EditFault.TheVariants.{Kind, Range}
-use Rattle.st_schema.specs.Schema.{SchemaView, same, is_key, declared, field_in, field_is_sound, form_of, form_is_sound, defs_rise, type_names, forms_are_sound, names_are_sound, is_single_kind, is_sound, field_of}
+use Rattle.st_schema.specs.Schema.{SchemaView, same, is_key, declared_field, field_in, field_is_sound, form_of, form_is_sound, defs_rise, type_names, forms_are_sound, names_are_sound, is_sound, field_of}
 use Rattle.st_schema.specs.declared.names.FieldDef.{FieldDef}
 use Rattle.st_schema.specs.declared.names.FieldRule.{FieldRule}
 use Rattle.st_schema.specs.declared.names.Form.{Form}
@@ -30,7 +30,8 @@ use Rattle.st_marks.specs.Intent.{Fits, IsKnown, Owns, cell_of, clears, is_new, 
 use Rattle.st_marks.proofs.Members.{all-has, has-all, has-map, first-has}
 use Rattle.st_marks.specs.LiveTree.{live_slots}
 use Rattle.st_edits.specs.Paths.{and_then, or_refuse, child, field_at, items_from, row_length, walk_from}
-use Rattle.st_edits.specs.Resolve.{need, remove, intent_to_remove, empty_intent, walk, rule_for, within_row, rule_at, of_kind, is_optional, clear}
+use Rattle.st_edits.specs.Resolve.{need, remove, intent_to_remove, empty_intent, walk, rule_for, within_row, rule_at, of_kind, clear}
+use Rattle.st_schema.specs.Kind.{is_optional, is_single_kind}
 use Rattle.st_edits.specs.declared.names.NameCounters.{NameCounters}
 use Rattle.st_edits.specs.declared.names.Takes.TheVariants as field
 use Rattle.st_marks.proofs.Shared.{one_cell}
@@ -296,9 +297,9 @@ rule_key names form (b ∷ key) rule sound e single f = cc
 rule_key names (Array types) [] rule sound e single f =
     let q : record { kind = Sequence; types = types } ≡ rule = cc in true-false single (ap (λ (r : FieldRule). is_single_kind r.kind) (sym q))
 rule_key names (Map types) [] rule sound e single f = cc
-rule_key names (Object fields) [] rule sound e single f = go (declared fields []) refl e
+rule_key names (Object fields) [] rule sound e single f = go (declared_field fields []) refl e
   where
-    go : (o : Option FieldDef) → declared fields [] ≡ o → option_map (λ (f : FieldDef). record { kind = f.kind; types = f.types }) o ≡ Some rule → ⊥
+    go : (o : Option FieldDef) → declared_field fields [] ≡ o → option_map (λ (f : FieldDef). record { kind = f.kind; types = f.types }) o ≡ Some rule → ⊥
     go None h g = cc
     go (Some d) h g =
         let w = first-has (λ (f : FieldDef). same f.key.0 []) fields d h in

@@ -15,7 +15,7 @@ use Rattle.st_ids.proofs.Orders.{same_node-true, same_node-itself, same_cell-tru
 use Rattle.st_tree.specs.Preorder.{cell_named}
 use Rattle.st_tree.specs.declared.edit.EditFault.{EditFault}
 use Rattle.st_tree.specs.declared.edit.EditFault.TheVariants.{Kind, Range}
-use Rattle.st_schema.specs.Schema.{SchemaView, is_single_kind, is_sound, field_of}
+use Rattle.st_schema.specs.Schema.{SchemaView, is_sound, field_of}
 use Rattle.st_schema.specs.declared.names.FieldRule.{FieldRule}
 use Rattle.st_schema.specs.declared.names.KindName.{KindName}
 use Rattle.st_schema.specs.declared.names.KindName.TheVariants.{Required, Optional, Sequence}
@@ -32,7 +32,8 @@ use Rattle.st_marks.specs.Intent.{Fits, IsKnown, Owns, cell_of, clears, group_ce
 use Rattle.st_marks.proofs.Members.{all-has, has-all, any-has, first-has, none-has, has-map, map-has}
 use Rattle.st_marks.specs.LiveTree.{live_slots}
 use Rattle.st_edits.specs.Paths.{and_then, or_refuse, field_at, items_from, left_of, row_length}
-use Rattle.st_edits.specs.Resolve.{require, cells_for, moved_to_row, moved_to_field, empty_intent, walk, rule_for, rule_at, of_kind, is_open, nodes_taken, is_there, may_move, intent_to_move, move}
+use Rattle.st_edits.specs.Resolve.{require, cells_for, moved_to_row, moved_to_field, empty_intent, walk, rule_for, rule_at, of_kind, nodes_taken, is_there, may_move, intent_to_move, move}
+use Rattle.st_schema.specs.Kind.{is_open, is_single_kind}
 use Rattle.st_edits.specs.declared.names.NameCounters.{NameCounters}
 use Rattle.st_edits.specs.declared.names.Takes.TheVariants as field
 use Rattle.st_edits.proofs.Fits.{all_map, distinct_map, none_kept, passed, found, shown, item_there, items_once, nowhere_fits, emptied_fits, key_some, ruled}

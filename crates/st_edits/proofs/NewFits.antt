@@ -18,7 +18,8 @@ use Rattle.st_tree.specs.Size.{item_count}
 use Rattle.st_tree.specs.Form.{has_form, all_have_form}
 use Rattle.st_tree.specs.Preorder.{node_named, cell_named, fields_listed}
 use Rattle.st_tree.specs.declared.edit.EditFault.TheVariants.{Kind, Range}
-use Rattle.st_schema.specs.Schema.{SchemaView, is_single_kind, is_sound}
+use Rattle.st_schema.specs.Schema.{SchemaView, is_sound}
+use Rattle.st_schema.specs.Kind.{is_single_kind}
 use Rattle.st_schema.specs.Conforms.{verdicts, items_verdicts}
 use Rattle.st_schema.proofs.AllowedForm.{conforming_formed}
 use Rattle.st_schema.specs.declared.names.FieldRule.{FieldRule}
@@ -35,7 +36,7 @@ use Rattle.st_marks.proofs.Members.{all-has, has-all, any-has, has-any, append_r
 use Rattle.st_edits.specs.New.{new_nodes, puts, to_at, top_cell, row_cell, owned_by, top_cells, cells_under, group_of, group_under, groups_under, names_taken}
 use Rattle.st_opening.specs.Start.{registers, register_at}
 use Rattle.st_edits.specs.Paths.{and_then, or_refuse, field_at, left_of, row_length}
-use Rattle.st_edits.specs.Resolve.{require, empty_intent, walk, rule_for, rule_at, of_kind, trees_allowed, none_refused, names_left, named, allowed_nodes, with_group, inserted, intent_to_place, insert, put}
+use Rattle.st_edits.specs.Resolve.{require, empty_intent, walk, rule_for, rule_at, of_kind, trees_allowed, none_refused, names_left, named_nodes, allowed_nodes, with_group, intent_to_insert, intent_to_place, insert, put}
 use Rattle.st_edits.specs.declared.names.NameCounters.{NameCounters}
 use Rattle.st_edits.specs.declared.names.Takes.TheVariants as field
 use Rattle.st_edits.proofs.Fits.{all_map, distinct_map, passed, found, key_some, ruled, walk_there, kind_taken}
@@ -664,16 +665,16 @@ items_form s types (first t ts) e =
 
 pub record IsAllowed (s : SchemaView) (G : NameCounters) (trees : Nodes) (xs : List FlatNode) : Type 0 where
   pub form : all_have_form trees ≡ true
-  pub list : named G trees ≡ xs
+  pub list : named_nodes G trees ≡ xs
 
 is_allowed : (s : SchemaView) (G : NameCounters) (rule : FieldRule) (trees : Nodes) (xs : List FlatNode) → allowed_nodes s G rule trees ≡ Ok xs → IsAllowed s G trees xs
 is_allowed s G rule trees xs e =
-    let u = passed (trees_allowed s rule trees) (λ _. and_then (names_left G (names_taken (named G trees))) (λ _. Ok (named G trees))) xs e in
-    let v = passed (names_left G (names_taken (named G trees))) (λ _. Ok (named G trees)) xs u.2 in
-    let is : named G trees ≡ xs = cc in
+    let u = passed (trees_allowed s rule trees) (λ _. and_then (names_left G (names_taken (named_nodes G trees))) (λ _. Ok (named_nodes G trees))) xs e in
+    let v = passed (names_left G (names_taken (named_nodes G trees))) (λ _. Ok (named_nodes G trees)) xs u.2 in
+    let is : named_nodes G trees ≡ xs = cc in
     record { form = items_form s rule.types trees (position_from-None 0 (items_verdicts s rule.types trees) (none_is (position_from (λ ok. not ok) 0 (items_verdicts s rule.types trees)) u.0 u.1)); list = is }
 
-new_named : (D : Document) (G : NameCounters) (m : NodeId) (trees : Nodes) → IsSoundInForm D → NodesFresh D G → CellsFresh D G → IsSome (D.nodes m) → all_have_form trees ≡ true → IsNew D G m (named G trees)
+new_named : (D : Document) (G : NameCounters) (m : NodeId) (trees : Nodes) → IsSoundInForm D → NodesFresh D G → CellsFresh D G → IsSome (D.nodes m) → all_have_form trees ≡ true → IsNew D G m (named_nodes G trees)
 new_named D G m trees sound nodes cells known form =
     let r = tops_regs G.rev G.nodes G.cells (G.nodes + item_count trees) trees (omega arith) form in
     record {
@@ -682,7 +683,7 @@ new_named D G m trees sound nodes cells known form =
       cells_fresh = cells;
       root_known = sound.root_known;
       target_known = known;
-      rows = tops_rows (named G trees) G.rev G.nodes G.cells trees form (λ x h. h);
+      rows = tops_rows (named_nodes G trees) G.rev G.nodes G.cells trees form (λ x h. h);
       regs_once = r.once;
       regs_keys = λ f h. (r.between f h).0;
     }
@@ -694,18 +695,18 @@ pub insert_fits : (D : Document) (s : SchemaView) (G : NameCounters) (at : List 
 insert_fits D s G at key index trees N sound nodes cells e =
     let n = passed (walk D at) _ N e in
     let rule = passed (rule_for field.Row D s n.0 key) _ N n.2 in
-    let at_end = passed (require (nat_le index (row_length D n.0)) Range) (λ _. and_then (allowed_nodes s G rule.0 trees) (λ xs. Ok (inserted D G n.0 index xs))) N rule.2 in
-    let xs = passed (allowed_nodes s G rule.0 trees) (λ xs. Ok (inserted D G n.0 index xs)) N at_end.2 in
-    let is : inserted D G n.0 index xs.0 ≡ N = cc in
+    let at_end = passed (require (nat_le index (row_length D n.0)) Range) (λ _. and_then (allowed_nodes s G rule.0 trees) (λ xs. Ok (intent_to_insert D G n.0 index xs))) N rule.2 in
+    let xs = passed (allowed_nodes s G rule.0 trees) (λ xs. Ok (intent_to_insert D G n.0 index xs)) N at_end.2 in
+    let is : intent_to_insert D G n.0 index xs.0 ≡ N = cc in
     go n.0 xs.0 (walk_there D 0 root n.0 at sound sound.root_known n.1) (is_allowed s G rule.0 trees xs.0 xs.1) is
   where
-    go : (m : NodeId) (xs : List FlatNode) → IsSome (D.nodes m) → IsAllowed s G trees xs → inserted D G m index xs ≡ N → Fits D N
+    go : (m : NodeId) (xs : List FlatNode) → IsSome (D.nodes m) → IsAllowed s G trees xs → intent_to_insert D G m index xs ≡ N → Fits D N
     go m xs known a is =
-        subst (Fits D) (ap (inserted D G m index) a.list ∙ is)
-        (row_fits D G m (left_of D m index) (named G trees) (new_named D G m trees sound nodes cells known a.form) (left_in_row D m index sound))
+        subst (Fits D) (ap (intent_to_insert D G m index) a.list ∙ is)
+        (row_fits D G m (left_of D m index) (named_nodes G trees) (new_named D G m trees sound nodes cells known a.form) (left_in_row D m index sound))
 
 tree_fits : (D : Document) (G : NameCounters) (f : FieldId) (t : Node) → IsSoundInForm D → NodesFresh D G → CellsFresh D G → IsSome (D.nodes f.node) → f.key.0 ≢ [] → all_have_form (first t no_nodes) ≡ true
-    → Fits D (intent_to_place D G f (named G (first t no_nodes)))
+    → Fits D (intent_to_place D G f (named_nodes G (first t no_nodes)))
 tree_fits D G f (node ty leaf fields) sound nodes cells known some form =
     field_fits D G f _ (fields_listed G.rev G.nodes (G.nodes + 1) (G.cells + 1) fields ++ []) (cell_named G.rev G.cells) refl
     (λ y h. elim (has-append (fields_listed G.rev G.nodes (G.nodes + 1) (G.cells + 1) fields) [] y h) [

@@ -12,8 +12,8 @@ use Rattle.st_tree.specs.declared.flat.FlatAt.{FlatAt}
 use Rattle.st_tree.specs.declared.flat.FlatNode.{FlatNode}
 use Rattle.st_tree.specs.Node.{Node, node, Fields, no_fields, field, Nodes, no_nodes, first}
 use Rattle.st_tree.specs.Size.{node_count, item_count}
-use Rattle.st_tree.specs.Form.{is_row_alone, keys_rise, fields_fit, has_form, fields_have_form, all_have_form}
-use Rattle.st_tree.specs.Preorder.{node_named, cell_named, cells_taken, cell_count, field_cells, item_cells, is_array, at_of, listed, fields_listed, items_listed, tops_listed}
+use Rattle.st_tree.specs.Form.{is_row_alone, keys_rise, fields_fit_leaf, has_form, fields_have_form, all_have_form}
+use Rattle.st_tree.specs.Preorder.{node_named, cell_named, cells_taken, cell_count, field_cells, item_cells, is_array, at_of, tree_listed, fields_listed, items_listed, tops_listed}
 use Rattle.st_opening.specs.Start.{registers, register_at}
 use Rattle.st_opening.proofs.PreorderNames.{AreBetween, none_between, between_append, tree_regs, fields_under, row_regs, same_number, taken, cells_used, taken_at, listed_length, items_length, listed_cells, items_cells}
 use Rattle.st_lemmas.proofs.Bools.{or-right, and-true}
@@ -80,7 +80,7 @@ at_is rev l owner n c key true low less = (refl, (owner, low, less, refl))
 at_is rev l owner n c key false low less = (owner, low, less, refl)
 
 mutual
-  tree_counted : (rev : Rev) (l : ℕ) (at : FlatAt) (n c d : ℕ) (t : Node) → l ≤ n → d ≡ c + taken at → IsAt rev l n c at → Counted rev l (listed rev at n d t) n c
+  tree_counted : (rev : Rev) (l : ℕ) (at : FlatAt) (n c d : ℕ) (t : Node) → l ≤ n → d ≡ c + taken at → IsAt rev l n c at → Counted rev l (tree_listed rev at n d t) n c
   tree_counted rev l at n c d (node ty leaf fields) low e is =
       (refl, is, counted_at rev l (fields_listed rev n (n + 1) d fields) (n + 1) (n + 1) d (c + taken at) refl e (fields_counted rev l n (n + 1) d fields low (omega arith)))
 
@@ -97,7 +97,7 @@ mutual
   items_counted rev l owner key row n c no_nodes low less = tt
   items_counted rev l owner key row n c (first t ts) low less =
       let at = at_of rev owner key row c in
-      let one = listed rev at n (c + cells_taken row) t in
+      let one = tree_listed rev at n (c + cells_taken row) t in
       let m = n + node_count t in
       let d = c + (cells_taken row + cell_count t) in
       counted_append rev l one (items_listed rev owner key row m d ts) n c
@@ -109,7 +109,7 @@ mutual
 pub tops_counted : (rev : Rev) (l n c : ℕ) (ts : Nodes) → l ≤ n → Counted rev l (tops_listed rev n c ts) n c
 tops_counted rev l n c no_nodes low = tt
 tops_counted rev l n c (first t ts) low =
-    let one = listed rev (FlatAt.Top (cell_named rev c)) n (c + 1) t in
+    let one = tree_listed rev (FlatAt.Top (cell_named rev c)) n (c + 1) t in
     let m = n + node_count t in
     let d = c + (1 + cell_count t) in
     counted_append rev l one (tops_listed rev m d ts) n c
@@ -246,7 +246,7 @@ row_alone_array no_fields e = cc
 row_alone_array (field key row items no_fields) e = (and-true _ _ e).0
 row_alone_array (field key row items (field key' row' items' rest)) e = cc
 
-array_of_row : (leaf : Option Leaf) (fs : Fields) → fields_fit leaf fs ≡ true → any_row fs ≡ true → is_array fs ≡ true
+array_of_row : (leaf : Option Leaf) (fs : Fields) → fields_fit_leaf leaf fs ≡ true → any_row fs ≡ true → is_array fs ≡ true
 array_of_row (Some v) no_fields fit e = cc
 array_of_row (Some v) (field key row items rest) fit e = cc
 array_of_row None fs fit e = go (is_row_alone fs) refl fit
@@ -260,8 +260,8 @@ at_under ys rev owner c key true own = own refl
 at_under ys rev owner c key false own = tt
 
 mutual
-  tree_rows : (ys : List FlatNode) (rev : Rev) (at : FlatAt) (n c : ℕ) (t : Node) → has_form t ≡ true → IsUnderArray ys at → ((x : FlatNode) → Has (listed rev at n c t) x → Has ys x)
-      → (x : FlatNode) → Has (listed rev at n c t) x → IsUnderArray ys x.at
+  tree_rows : (ys : List FlatNode) (rev : Rev) (at : FlatAt) (n c : ℕ) (t : Node) → has_form t ≡ true → IsUnderArray ys at → ((x : FlatNode) → Has (tree_listed rev at n c t) x → Has ys x)
+      → (x : FlatNode) → Has (tree_listed rev at n c t) x → IsUnderArray ys x.at
   tree_rows ys rev at n c (node ty leaf fs) form here inside x (inl e) = subst (λ (z : FlatNode). IsUnderArray ys z.at) e here
   tree_rows ys rev at n c (node ty leaf fs) form here inside x (inr h) =
       let b = and-true _ _ form in
@@ -286,7 +286,7 @@ mutual
   items_rows ys rev owner key row n c no_nodes form own inside x h = absurd h
   items_rows ys rev owner key row n c (first t ts) form own inside x h =
       let b = and-true _ _ form in
-      let here = listed rev (at_of rev owner key row c) n (c + cells_taken row) t in
+      let here = tree_listed rev (at_of rev owner key row c) n (c + cells_taken row) t in
       let later = items_listed rev owner key row (n + node_count t) (c + (cells_taken row + cell_count t)) ts in
       elim (has-append here later x h) [
         | inl k ↦ tree_rows ys rev (at_of rev owner key row c) n (c + cells_taken row) t b.0 (at_under ys rev owner c key row own) (λ z l. inside z (append_left here later z l)) x k
@@ -298,7 +298,7 @@ pub tops_rows : (ys : List FlatNode) (rev : Rev) (n c : ℕ) (ts : Nodes) → al
 tops_rows ys rev n c no_nodes form inside x h = absurd h
 tops_rows ys rev n c (first t ts) form inside x h =
     let b = and-true _ _ form in
-    let here = listed rev (FlatAt.Top (cell_named rev c)) n (c + 1) t in
+    let here = tree_listed rev (FlatAt.Top (cell_named rev c)) n (c + 1) t in
     let later = tops_listed rev (n + node_count t) (c + (1 + cell_count t)) ts in
     elim (has-append here later x h) [
       | inl k ↦ tree_rows ys rev (FlatAt.Top (cell_named rev c)) n (c + 1) t b.0 tt (λ z l. inside z (append_left here later z l)) x k
@@ -319,7 +319,7 @@ at_inner rev owner c key true = tt
 at_inner rev owner c key false = tt
 
 mutual
-  tree_inner : (rev : Rev) (at : FlatAt) (n c : ℕ) (t : Node) → IsInner at → (x : FlatNode) → Has (listed rev at n c t) x → IsInner x.at
+  tree_inner : (rev : Rev) (at : FlatAt) (n c : ℕ) (t : Node) → IsInner at → (x : FlatNode) → Has (tree_listed rev at n c t) x → IsInner x.at
   tree_inner rev at n c (node ty leaf fs) here x (inl e) = subst (λ (z : FlatNode). IsInner z.at) e here
   tree_inner rev at n c (node ty leaf fs) here x (inr h) = fields_inner rev n (n + 1) c fs x h
 
@@ -334,7 +334,7 @@ mutual
   items_inner : (rev : Rev) (owner : ℕ) (key : List ℕ) (row : Bool) (n c : ℕ) (ts : Nodes) (x : FlatNode) → Has (items_listed rev owner key row n c ts) x → IsInner x.at
   items_inner rev owner key row n c no_nodes x h = absurd h
   items_inner rev owner key row n c (first t ts) x h =
-      elim (has-append (listed rev (at_of rev owner key row c) n (c + cells_taken row) t) (items_listed rev owner key row (n + node_count t) (c + (cells_taken row + cell_count t)) ts) x h) [
+      elim (has-append (tree_listed rev (at_of rev owner key row c) n (c + cells_taken row) t) (items_listed rev owner key row (n + node_count t) (c + (cells_taken row + cell_count t)) ts) x h) [
         | inl k ↦ tree_inner rev (at_of rev owner key row c) n (c + cells_taken row) t (at_inner rev owner c key row) x k
         | inr k ↦ items_inner rev owner key row (n + node_count t) (c + (cells_taken row + cell_count t)) ts x k
       ]

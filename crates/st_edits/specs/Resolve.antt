@@ -16,7 +16,8 @@ use Rattle.st_tree.specs.declared.edit.Edit.{Edit}
 use Rattle.st_tree.specs.declared.edit.EditFault.{EditFault}
 use Rattle.st_tree.specs.declared.edit.EditFault.TheVariants.{Kind, Range, Inside, NotAllowed, Limit as LimitOver}
 use Rattle.st_tree.specs.declared.flat.FlatNode.{FlatNode}
-use Rattle.st_schema.specs.Schema.{SchemaView, field_of, is_among, is_single_kind}
+use Rattle.st_schema.specs.Kind.{is_row, is_single_kind, is_optional, is_open}
+use Rattle.st_schema.specs.Schema.{SchemaView, field_of, is_among}
 use Rattle.st_schema.specs.Conforms.{items_verdicts}
 use Rattle.st_schema.specs.declared.names.FieldRule.{FieldRule}
 use Rattle.st_schema.specs.declared.names.KindName.{KindName}
@@ -44,24 +45,6 @@ require false e = Err e
 -- the node that a path leads to from the root
 abbrev pub walk : Document → List Place → Result NodeId EditFault
 walk D path = walk_from D 0 root path
-
--- a row
-abbrev pub is_row : KindName → Bool
-is_row Required = false
-is_row Optional = false
-is_row Sequence = true
-
--- a field of at most one item, which may be empty
-abbrev pub is_optional : KindName → Bool
-is_optional Required = false
-is_optional Optional = true
-is_optional Sequence = false
-
--- a field whose items may leave and come: a row, or an optional field
-abbrev pub is_open : KindName → Bool
-is_open Required = false
-is_open Optional = true
-is_open Sequence = true
 
 -- what the schema says of a node's field
 abbrev pub rule_at : Document → SchemaView → NodeId → Key → Option FieldRule
@@ -113,15 +96,15 @@ abbrev pub empty_intent : Document → NameCounters → Intent
 empty_intent D G = record { rev = G.rev; under = unwrap_or (last_of (revs D.schemas)) opening; new = []; groups = []; clear = []; put = []; need = []; schema = None }
 
 -- new trees as a list of their nodes, each under its name
-abbrev pub named : NameCounters → Nodes → List FlatNode
-named G trees = tops_listed G.rev G.nodes G.cells trees
+abbrev pub named_nodes : NameCounters → Nodes → List FlatNode
+named_nodes G trees = tops_listed G.rev G.nodes G.cells trees
 
 -- new trees, each node of which the schema allows where it comes, and whose names the commit may give
 abbrev pub allowed_nodes : SchemaView → NameCounters → FieldRule → Nodes → Result (List FlatNode) EditFault
 allowed_nodes s G rule trees =
     and_then (trees_allowed s rule trees) (λ _.
-    and_then (names_left G (names_taken (named G trees))) (λ _.
-    Ok (named G trees)))
+    and_then (names_left G (names_taken (named_nodes G trees))) (λ _.
+    Ok (named_nodes G trees)))
 
 -- a list of a group, if it is there, and others
 abbrev pub with_group : Option Group → List Group → List Group
@@ -129,8 +112,8 @@ with_group None gs = gs
 with_group (Some g) gs = g ∷ gs
 
 -- new items in a row, directly after the cell of the item left of the index
-abbrev pub inserted : Document → NameCounters → NodeId → ℕ → List FlatNode → Intent
-inserted D G n index xs = record (empty_intent D G) {
+abbrev pub intent_to_insert : Document → NameCounters → NodeId → ℕ → List FlatNode → Intent
+intent_to_insert D G n index xs = record (empty_intent D G) {
   new = new_nodes xs;
   groups = with_group (group_of n (left_of D n index) (top_cells xs)) (groups_under xs);
   clear = registers xs;
@@ -208,7 +191,7 @@ insert D s G at key index trees =
     and_then (rule_for field.Row D s n key) (λ rule.
     and_then (require (nat_le index (row_length D n)) Range) (λ _.
     and_then (allowed_nodes s G rule trees) (λ xs.
-    Ok (inserted D G n index xs)))))
+    Ok (intent_to_insert D G n index xs)))))
 
 -- so many items of a row, from an index on, go nowhere
 abbrev pub remove : Document → SchemaView → NameCounters → List Place → Key → ℕ → ℕ → Result Intent EditFault

@@ -16,8 +16,8 @@ use Rattle.st_tree.specs.declared.flat.FlatAt.{FlatAt}
 use Rattle.st_tree.specs.declared.flat.FlatNode.{FlatNode}
 use Rattle.st_tree.specs.Node.{Node, node, Fields, no_fields, field, Nodes, no_nodes, first}
 use Rattle.st_tree.specs.Size.{node_count, field_count, item_count}
-use Rattle.st_tree.specs.Form.{is_row_alone, keys_rise, fields_fit, fields_have_form, all_have_form}
-use Rattle.st_tree.specs.Preorder.{node_named, cells_taken, cell_count, field_cells, item_cells, at_of, listed, fields_listed, items_listed}
+use Rattle.st_tree.specs.Form.{is_row_alone, keys_rise, fields_fit_leaf, fields_have_form, all_have_form}
+use Rattle.st_tree.specs.Preorder.{node_named, cells_taken, cell_count, field_cells, item_cells, at_of, tree_listed, fields_listed, items_listed}
 use Rattle.st_opening.specs.Start.{register_at, registers}
 use Rattle.st_lemmas.proofs.Orders.{is_lt-Less}
 use Rattle.st_lemmas.proofs.Lists.{filter_map-append}
@@ -45,7 +45,7 @@ taken_at rev owner key true c = refl
 taken_at rev owner key false c = refl
 
 mutual
-  pub listed_length : (rev : Rev) (at : FlatAt) (n c : ℕ) (t : Node) → length (listed rev at n c t) ≡ node_count t
+  pub listed_length : (rev : Rev) (at : FlatAt) (n c : ℕ) (t : Node) → length (tree_listed rev at n c t) ≡ node_count t
   listed_length rev at n c (node ty leaf fields) = let h = fields_length rev n (n + 1) c fields in omega (arith, h)
 
   pub fields_length : (rev : Rev) (owner n c : ℕ) (fs : Fields) → length (fields_listed rev owner n c fs) ≡ field_count fs
@@ -60,10 +60,10 @@ mutual
   items_length rev owner key row n c (first t ts) =
       let a = listed_length rev (at_of rev owner key row c) n (c + cells_taken row) t in
       let b = items_length rev owner key row (n + node_count t) (c + (cells_taken row + cell_count t)) ts in
-      length-append (listed rev (at_of rev owner key row c) n (c + cells_taken row) t) _ ∙ (λ i. a i + b i)
+      length-append (tree_listed rev (at_of rev owner key row c) n (c + cells_taken row) t) _ ∙ (λ i. a i + b i)
 
 mutual
-  pub listed_cells : (rev : Rev) (at : FlatAt) (n c : ℕ) (t : Node) → cells_used (listed rev at n c t) ≡ taken at + cell_count t
+  pub listed_cells : (rev : Rev) (at : FlatAt) (n c : ℕ) (t : Node) → cells_used (tree_listed rev at n c t) ≡ taken at + cell_count t
   listed_cells rev at n c (node ty leaf fields) = ap (λ k. taken at + k) (fields_cells rev n (n + 1) c fields)
 
   pub fields_cells : (rev : Rev) (owner n c : ℕ) (fs : Fields) → cells_used (fields_listed rev owner n c fs) ≡ field_cells fs
@@ -78,7 +78,7 @@ mutual
   items_cells rev owner key row n c (first t ts) =
       let a = listed_cells rev (at_of rev owner key row c) n (c + cells_taken row) t ∙ ap (λ k. k + cell_count t) (taken_at rev owner key row c) in
       let b = items_cells rev owner key row (n + node_count t) (c + (cells_taken row + cell_count t)) ts in
-      cells_append (listed rev (at_of rev owner key row c) n (c + cells_taken row) t) _ ∙ (λ i. a i + b i)
+      cells_append (tree_listed rev (at_of rev owner key row c) n (c + cells_taken row) t) _ ∙ (λ i. a i + b i)
 
 -- ## Registers, in a tree of the form
 
@@ -196,7 +196,7 @@ from_under rev owner high fs le u = record {
 }
 
 -- what stands below a node, from what its fields are
-pub tree_regs : (rev : Rev) (n c high : ℕ) (leaf : Option Leaf) (fields : Fields) → n + 1 + field_count fields ≤ high → fields_fit leaf fields ≡ true
+pub tree_regs : (rev : Rev) (n c high : ℕ) (leaf : Option Leaf) (fields : Fields) → n + 1 + field_count fields ≤ high → fields_fit_leaf leaf fields ≡ true
     → (keys_rise [] fields ≡ true → AreUnder rev n [] (n + 1) high (registers (fields_listed rev n (n + 1) c fields)))
     → (is_row_alone fields ≡ true → AreBetween rev (n + 1) high (registers (fields_listed rev n (n + 1) c fields)))
     → AreBetween rev n high (registers (fields_listed rev n (n + 1) c fields))

@@ -23,7 +23,7 @@ use Rattle.st_tree.specs.Size.{node_count, field_count, item_count, height, chec
 use Rattle.st_tree.specs.declared.limits.TreeFault.{TreeFault}
 use Rattle.st_tree.specs.declared.limits.TreeFault.TheVariants.{TooDeep, TooMany}
 use Rattle.st_tree.specs.Form.{has_form}
-use Rattle.st_tree.specs.Preorder.{node_named, cell_named, cells_taken, cell_count, item_cells, is_array, at_of, listed, fields_listed, items_listed, opening_listed}
+use Rattle.st_tree.specs.Preorder.{node_named, cell_named, cells_taken, cell_count, item_cells, is_array, at_of, tree_listed, fields_listed, items_listed, opening_listed}
 use Rattle.st_opening.specs.Start.{first_said, type_at, spot_at, place_at, row_at, cell_at, held_at, start_of, registers, register_at}
 use Rattle.st_opening.proofs.PreorderNames.{tree_regs, fields_under, row_regs, same_number, taken, cells_used, taken_at, listed_length, items_length, listed_cells, items_cells}
 use Rattle.st_lemmas.proofs.Lists.{filter_map-length}
@@ -91,7 +91,7 @@ at_is rev owner n c key true less = (refl, (owner, less, refl))
 at_is rev owner n c key false less = (owner, less, refl)
 
 mutual
-  tree_counted : (rev : Rev) (at : FlatAt) (n c d : ℕ) (t : Node) → d ≡ c + taken at → IsAt rev n c at → Counted rev (listed rev at n d t) n c
+  tree_counted : (rev : Rev) (at : FlatAt) (n c d : ℕ) (t : Node) → d ≡ c + taken at → IsAt rev n c at → Counted rev (tree_listed rev at n d t) n c
   tree_counted rev at n c d (node ty leaf fields) e is =
       (refl, is, counted_at rev (fields_listed rev n (n + 1) d fields) (n + 1) (n + 1) d (c + taken at) refl e (fields_counted rev n (n + 1) d fields (omega arith)))
 
@@ -108,7 +108,7 @@ mutual
   items_counted rev owner key row n c no_nodes less = tt
   items_counted rev owner key row n c (first t ts) less =
       let at = at_of rev owner key row c in
-      let one = listed rev at n (c + cells_taken row) t in
+      let one = tree_listed rev at n (c + cells_taken row) t in
       let m = n + node_count t in
       let d = c + (cells_taken row + cell_count t) in
       counted_append rev one (items_listed rev owner key row m d ts) n c

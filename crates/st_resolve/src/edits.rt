@@ -8,9 +8,9 @@ ghost use Rattle.st_schema.specs.declared.names.FieldRule.{FieldRule as Rule};
 ghost use Rattle.st_doc.specs.Doc.{document_of};
 ghost use Rattle.st_edits.specs.Paths.{field_at, row_length, and_then};
 ghost use Rattle.st_edits.specs.declared.names.Takes.{Takes as Taking};
-ghost use Rattle.st_edits.specs.Resolve.{named, require, allowed_nodes, inserted, intent_to_place, rule_for, nodes_taken, insert, remove, move_to, move as move_of, put, clear, need, may_move, resolve, IsWithin};
+ghost use Rattle.st_edits.specs.Resolve.{named_nodes, require, allowed_nodes, intent_to_insert, intent_to_place, rule_for, nodes_taken, insert, remove, move_to, move as move_of, put, clear, need, may_move, resolve, IsWithin};
 
-use crate::intents::{cleared, empty_intent, inserted, intent_to_place, intent_to_remove};
+use crate::intents::{intent_to_clear, empty_intent, intent_to_insert, intent_to_place, intent_to_remove};
 use crate::moves::{cells_taken, intent_to_move, is_inside, is_there, items_from, nodes_taken};
 use crate::new_trees::names_taken;
 use crate::paths::{field_at, walk};
@@ -35,7 +35,7 @@ fn refuse(checked: Result<(), EditFault>) -> Result<(), Or<EditFault>>
 }
 
 // New trees as the list of their nodes, each under its name. Within the limits of trees nothing but memory is wanting.
-fn named(
+fn named_nodes(
     alloc: Global,
     given: NameCounters,
     trees: &List<Tree>,
@@ -43,7 +43,7 @@ fn named(
     requires within { check_items (trees_view trees.now) ≡ Ok tt }
     requires nodes { given.nodes < 2 ^ 31 }
     requires cells { given.cells < 2 ^ 31 }
-    ensures ok { IfOk result (λ xs. xs ≡ named given (trees_view trees.now)) }
+    ensures ok { IfOk result (λ xs. xs ≡ named_nodes given (trees_view trees.now)) }
     ensures bad { IfRefused result (λ _. ⊥) }
 {
     match flatten(alloc, trees, given.rev, given.nodes, given.cells) {
@@ -68,7 +68,7 @@ fn allowed_nodes(
     ensures bad { IfRefused result (λ e. allowed_nodes schema.now given rule.now (trees_view trees.now) ≡ Err e) }
 {
     refuse(trees_allowed(schema, rule, trees))?;
-    let nodes = named(alloc, given, trees)?;
+    let nodes = named_nodes(alloc, given, trees)?;
     refuse(names_left(given, names_taken(nodes.as_slice())))?;
     Ok(nodes)
 }
@@ -96,11 +96,11 @@ fn insert_at(
     requires within { check_items (trees_view items.now) ≡ Ok tt }
     requires nodes { given.nodes < 2 ^ 31 }
     requires cells { given.cells < 2 ^ 31 }
-    ensures ok { IfOk result (λ i. and_then (allowed_nodes schema.now given rule.now (trees_view items.now)) (λ xs. Ok (inserted (document_of doc.now) given node index xs)) ≡ Ok i) }
-    ensures bad { IfRefused result (λ e. and_then (allowed_nodes schema.now given rule.now (trees_view items.now)) (λ xs. Ok (inserted (document_of doc.now) given node index xs)) ≡ Err e) }
+    ensures ok { IfOk result (λ i. and_then (allowed_nodes schema.now given rule.now (trees_view items.now)) (λ xs. Ok (intent_to_insert (document_of doc.now) given node index xs)) ≡ Ok i) }
+    ensures bad { IfRefused result (λ e. and_then (allowed_nodes schema.now given rule.now (trees_view items.now)) (λ xs. Ok (intent_to_insert (document_of doc.now) given node index xs)) ≡ Err e) }
 {
     let nodes = allowed_nodes(alloc, schema, given, rule, items)?;
-    Ok(inserted(alloc, doc, given, node, index, nodes.as_slice())?)
+    Ok(intent_to_insert(alloc, doc, given, node, index, nodes.as_slice())?)
 }
 
 /// New items at an index of a row, as `resolve` says it of that edit.
@@ -208,7 +208,7 @@ pub fn clear(
     let node = walk(alloc, doc, at)?;
     rule_for(alloc, Takes::Optional, doc, schema, node, key)?;
     let field = field_at(alloc, node, key)?;
-    Ok(cleared(alloc, doc, given, field)?)
+    Ok(intent_to_clear(alloc, doc, given, field)?)
 }
 
 // A node has to be live.

@@ -6,7 +6,7 @@ ghost use Rattle.st_ids.specs.Root.{opening};
 ghost use Rattle.st_doc.specs.Doc.{document_of};
 ghost use Rattle.st_opening.specs.Start.{registers};
 ghost use Rattle.st_edits.specs.New.{new_nodes, group_of, groups_under, puts, top_cells};
-ghost use Rattle.st_edits.specs.Resolve.{empty_intent, with_group, inserted, intent_to_place, intent_to_remove, cells_for, in_cells, moved_to_row, moved_to_field};
+ghost use Rattle.st_edits.specs.Resolve.{empty_intent, with_group, intent_to_insert, intent_to_place, intent_to_remove, cells_for, in_cells, moved_to_row, moved_to_field};
 
 use crate::new_trees::{add_groups, add_registers, group_of, new_nodes, puts, top_cells};
 use crate::paths::left_of;
@@ -64,7 +64,7 @@ fn one_field(alloc: Global, field: FieldId) -> Result<List<FieldId>, AllocError>
 }
 
 /// A field that is emptied.
-pub fn cleared(
+pub fn intent_to_clear(
     alloc: Global,
     doc: &Doc,
     given: NameCounters,
@@ -115,7 +115,7 @@ fn fill_inserted(
 }
 
 /// New items in a row, directly after the cell of the item left of the index.
-pub fn inserted(
+pub fn intent_to_insert(
     alloc: Global,
     doc: &Doc,
     given: NameCounters,
@@ -123,7 +123,7 @@ pub fn inserted(
     index: u32,
     nodes: &[FlatNode],
 ) -> Result<Intent, AllocError>
-    ensures { IfOk result (λ i. i ≡ inserted (document_of doc.now) given node index nodes.now) }
+    ensures { IfOk result (λ i. i ≡ intent_to_insert (document_of doc.now) given node index nodes.now) }
 {
     let after = left_of(doc, node, index);
     let mut intent = empty_intent(alloc, doc, given);

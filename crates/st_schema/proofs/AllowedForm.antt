@@ -17,12 +17,12 @@ all-parts (u ∷ us) vs h =
     let rest = all-parts us vs parts.1 in
     (and-both u (list_all (λ ok. ok) us) parts.0 rest.0, rest.1)
 
-fields_formed_as : (form : Form) (fs : Fields) → fields_fit form fs ≡ true → tree.fields_fit None fs ≡ true
+fields_formed_as : (form : Form) (fs : Fields) → fields_fit form fs ≡ true → tree.fields_fit_leaf None fs ≡ true
 fields_formed_as (Array types) fs h = or-left (is_row_alone fs) (keys_rise [] fs) h
 fields_formed_as (Map types) fs h = or-right (is_row_alone fs) (keys_rise [] fs) (and-true (keys_rise [] fs) (have_rules (Map types) fs) h).0
 fields_formed_as (Object defs) fs h = or-right (is_row_alone fs) (keys_rise [] fs) (and-true (keys_rise [] fs) (have_rules (Object defs) fs && required_there defs fs) h).0
 
-typed_formed : (form : Option Form) (ty : List ℕ) (fs : Fields) → is_as_typed form ty None fs ≡ true → tree.fields_fit None fs ≡ true
+typed_formed : (form : Option Form) (ty : List ℕ) (fs : Fields) → is_as_typed form ty None fs ≡ true → tree.fields_fit_leaf None fs ≡ true
 typed_formed None ty fs h = absurd (cc)
 typed_formed (Some form) ty fs h = fields_formed_as form fs h
 
@@ -35,7 +35,7 @@ mutual
   tree_formed s types (node ty None fs) h =
       let parts = and-true (node_fits s types ty None fs) (list_all (λ ok. ok) (fields_verdicts s (form_of s.types ty) fs)) h in
       let fits = and-true (is_among ty types) (is_as_typed (form_of s.types ty) ty None fs) parts.0 in
-      and-both (tree.fields_fit None fs) (fields_have_form fs) (typed_formed (form_of s.types ty) ty fs fits.1) (fields_formed s (form_of s.types ty) fs parts.1)
+      and-both (tree.fields_fit_leaf None fs) (fields_have_form fs) (typed_formed (form_of s.types ty) ty fs fits.1) (fields_formed s (form_of s.types ty) fs parts.1)
 
   fields_formed : (s : SchemaView) (form : Option Form) (fs : Fields) → list_all (λ ok. ok) (fields_verdicts s form fs) ≡ true → fields_have_form fs ≡ true
   fields_formed s form no_fields h = refl

@@ -9,7 +9,8 @@ use Rattle.std.specs.Cmp.Lexicographic.{same_text}
 use Rattle.serde_json.specs.Data.{Data, string, array, object, Items, no_items, item, Members, no_members, member}
 use Rattle.serde_json.specs.Find.{as_str, as_array, as_object}
 use Rattle.serde_json.specs.View.{items_of}
-use Rattle.st_schema.specs.Schema.{SchemaView, same, is_key, is_single_kind, list_is_sound, field_is_sound, defs_rise, form_is_sound, forms_are_sound, names_are_sound, type_names, is_sound}
+use Rattle.st_schema.specs.Schema.{SchemaView, same, is_key, list_is_sound, field_is_sound, defs_rise, form_is_sound, forms_are_sound, names_are_sound, type_names, is_sound}
+use Rattle.st_schema.specs.Kind.{is_single_kind}
 use Rattle.st_schema.specs.Reading.{pair_in, pair_of, texts_in, texts_of, kind_named, kind_of, two_in, two_items, field_of_data, fields_of_members, fields_of_data, array_of, map_of, object_of, first_of, definition_of, definitions_in, definitions_of, schema_of}
 use Rattle.st_schema.specs.Written.{names_data, kind_text, field_data, fields_data, form_data, definition_data, schema_data}
 use Rattle.st_schema.specs.declared.names.KindName.{KindName}

@@ -4,9 +4,10 @@ use Rattle.std.specs.Prelude.{if◌then◌else◌, option_map}
 use Rattle.std.specs.List.{list_all, position_from}
 use Rattle.st_tree.specs.Node.{Node, node, Fields, no_fields, field, Nodes, no_nodes, first}
 use Rattle.st_tree.specs.Form.{keys_rise}
-use Rattle.st_schema.specs.Schema.{SchemaView, same, is_among, is_key, declared, field_in, form_of}
-use Rattle.st_schema.specs.Conforms.{leaf_type, is_required, has_key, have_rules, required_there, fields_fit, is_as_typed, node_fits, types_in, types_under, verdicts, fields_verdicts, items_verdicts, conforms}
-use Rattle.st_schema.specs.Wider.{contains_all, is_optional, kind_widens, widens_found, def_widens, defs_widen, form_widens, definition_widens, types_widen, narrowing, wider_of}
+use Rattle.st_schema.specs.Schema.{SchemaView, same, is_among, is_key, declared_field, field_in, form_of}
+use Rattle.st_schema.specs.Conforms.{leaf_type, has_key, have_rules, required_there, fields_fit, is_as_typed, node_fits, types_in, types_under, verdicts, fields_verdicts, items_verdicts, conforms}
+use Rattle.st_schema.specs.Wider.{contains_all, kind_widens, widens_found, def_widens, defs_widen, form_widens, definition_widens, types_widen, narrowing, wider_of}
+use Rattle.st_schema.specs.Kind.{is_optional, is_required}
 use Rattle.st_schema.specs.declared.names.KindName.{KindName}
 use Rattle.st_schema.specs.declared.names.KindName.TheVariants.{Required, Optional, Sequence}
 use Rattle.st_schema.specs.declared.names.FieldRule.{FieldRule}
@@ -44,12 +45,12 @@ among_all t new (u ∷ us) wide among =
 -- ---- declared fields
 
 -- what is found under a key has that key, and all that holds of each field
-found_at : (b : Bool) (f g : FieldDef) (fs : List FieldDef) (key : List ℕ) (p : FieldDef → Bool) → same f.key.0 key ≡ b → p f ≡ true → (declared fs key ≡ Some g → (same g.key.0 key ≡ true) × (p g ≡ true))
-    → (if b then Some f else declared fs key) ≡ Some g → (same g.key.0 key ≡ true) × (p g ≡ true)
+found_at : (b : Bool) (f g : FieldDef) (fs : List FieldDef) (key : List ℕ) (p : FieldDef → Bool) → same f.key.0 key ≡ b → p f ≡ true → (declared_field fs key ≡ Some g → (same g.key.0 key ≡ true) × (p g ≡ true))
+    → (if b then Some f else declared_field fs key) ≡ Some g → (same g.key.0 key ≡ true) × (p g ≡ true)
 found_at true f g fs key p is here later h = let e : f ≡ g = cc in subst (λ (x : FieldDef). (same x.key.0 key ≡ true) × (p x ≡ true)) e (is, here)
 found_at false f g fs key p is here later h = later h
 
-found : (fs : List FieldDef) (key : List ℕ) (g : FieldDef) (p : FieldDef → Bool) → list_all p fs ≡ true → declared fs key ≡ Some g → (same g.key.0 key ≡ true) × (p g ≡ true)
+found : (fs : List FieldDef) (key : List ℕ) (g : FieldDef) (p : FieldDef → Bool) → list_all p fs ≡ true → declared_field fs key ≡ Some g → (same g.key.0 key ≡ true) × (p g ≡ true)
 found [] key g p all h = absurd (cc)
 found (f ∷ fs) key g p all h = let parts = and-true (p f) (list_all p fs) all in found_at (same f.key.0 key) f g fs key p refl parts.0 (found fs key g p parts.1) h
 
@@ -58,15 +59,15 @@ is_some_found None h = absurd (cc)
 is_some_found (Some g) h = (g, refl)
 
 -- a field that the old object declares is declared by the new one, and is wider there
-declared_wider : (olds news : List FieldDef) (key : List ℕ) (o : FieldDef) → defs_widen olds news ≡ true → declared olds key ≡ Some o
-    → (n : FieldDef) × (declared news key ≡ Some n) × (kind_widens o.kind n.kind && contains_all n.types o.types ≡ true)
+declared_wider : (olds news : List FieldDef) (key : List ℕ) (o : FieldDef) → defs_widen olds news ≡ true → declared_field olds key ≡ Some o
+    → (n : FieldDef) × (declared_field news key ≡ Some n) × (kind_widens o.kind n.kind && contains_all n.types o.types ≡ true)
 declared_wider olds news key o wide h =
-    let parts = and-true (list_all (λ (old : FieldDef). is_some (declared news old.key.0)) olds) (list_all (def_widens olds) news) wide in
-    let there = found olds key o (λ old. is_some (declared news old.key.0)) parts.0 h in
-    let new = is_some_found (declared news key) (ap (λ k. is_some (declared news k)) (sym (text_same o.key.0 key there.0)) ∙ there.1) in
+    let parts = and-true (list_all (λ (old : FieldDef). is_some (declared_field news old.key.0)) olds) (list_all (def_widens olds) news) wide in
+    let there = found olds key o (λ old. is_some (declared_field news old.key.0)) parts.0 h in
+    let new = is_some_found (declared_field news key) (ap (λ k. is_some (declared_field news k)) (sym (text_same o.key.0 key there.0)) ∙ there.1) in
     let n = new.0 in
     let widens = found news key n (def_widens olds) parts.1 new.1 in
-    (n, new.1, ap (λ (x : Option FieldDef). widens_found x n) (sym (ap (declared olds) (text_same n.key.0 key widens.0) ∙ h)) ∙ widens.1)
+    (n, new.1, ap (λ (x : Option FieldDef). widens_found x n) (sym (ap (declared_field olds) (text_same n.key.0 key widens.0) ∙ h)) ∙ widens.1)
 
 -- ---- the fields of a node
 
@@ -82,16 +83,16 @@ map_rule false old new h = absurd (cc)
 
 object_rule : (olds news : List FieldDef) (key : List ℕ) → defs_widen olds news ≡ true → is_some (field_in (Object olds) key) ≡ true → is_some (field_in (Object news) key) ≡ true
 object_rule olds news key wide h =
-    let o = is_some_found (declared olds key) (sym (is_some-option_map _ (declared olds key)) ∙ h) in
+    let o = is_some_found (declared_field olds key) (sym (is_some-option_map _ (declared_field olds key)) ∙ h) in
     let n = declared_wider olds news key o.0 wide o.1 in
-    is_some-option_map _ (declared news key) ∙ ap is_some n.1
+    is_some-option_map _ (declared_field news key) ∙ ap is_some n.1
 
 only_required : (k : KindName) → kind_widens k Required ≡ true → k ≡ Required
 only_required Required h = refl
 only_required Optional h = absurd (cc)
 only_required Sequence h = absurd (cc)
 
-required_one : (olds : List FieldDef) (fs : Fields) (n : FieldDef) (k : KindName) (o : Option FieldDef) → n.kind ≡ k → declared olds n.key.0 ≡ o → widens_found o n ≡ true → required_there olds fs ≡ true
+required_one : (olds : List FieldDef) (fs : Fields) (n : FieldDef) (k : KindName) (o : Option FieldDef) → n.kind ≡ k → declared_field olds n.key.0 ≡ o → widens_found o n ≡ true → required_there olds fs ≡ true
     → not (is_required n.kind) || has_key fs n.key.0 ≡ true
 required_one olds fs n Optional o is h wide there = ap (λ k. not (is_required k) || has_key fs n.key.0) is
 required_one olds fs n Sequence o is h wide there = ap (λ k. not (is_required k) || has_key fs n.key.0) is
@@ -109,7 +110,7 @@ required_kept : (olds : List FieldDef) (fs : Fields) (ns : List FieldDef) → li
 required_kept olds fs [] wide there = refl
 required_kept olds fs (n ∷ ns) wide there =
     let parts = and-true (def_widens olds n) (list_all (def_widens olds) ns) wide in
-    and-both _ _ (required_one olds fs n n.kind (declared olds n.key.0) refl refl parts.0 there) (required_kept olds fs ns parts.1 there)
+    and-both _ _ (required_one olds fs n n.kind (declared_field olds n.key.0) refl refl parts.0 there) (required_kept olds fs ns parts.1 there)
 
 fit_kept : (f g : Form) (fs : Fields) → form_widens f g ≡ true → fields_fit f fs ≡ true → fields_fit g fs ≡ true
 fit_kept (Array old) (Array new) fs wide h = h
@@ -125,7 +126,7 @@ fit_kept (Object olds) (Map new) fs wide h = absurd (cc)
 fit_kept (Object olds) (Object news) fs wide h =
     let parts = and-true (keys_rise [] fs) (have_rules (Object olds) fs && required_there olds fs) h in
     let rules = and-true (have_rules (Object olds) fs) (required_there olds fs) parts.1 in
-    let widens = and-true (list_all (λ (old : FieldDef). is_some (declared news old.key.0)) olds) (list_all (def_widens olds) news) wide in
+    let widens = and-true (list_all (λ (old : FieldDef). is_some (declared_field news old.key.0)) olds) (list_all (def_widens olds) news) wide in
     and-both (keys_rise [] fs) _ parts.0 (and-both (have_rules (Object news) fs) _
     (rules_kept (Object olds) (Object news) fs (λ key k. object_rule olds news key wide k) rules.0) (required_kept olds fs news widens.1 rules.1))
 
@@ -136,7 +137,7 @@ map_types : (b : Bool) (old new : List (List ℕ)) → contains_all new old ≡ 
 map_types true old new wide = wide
 map_types false old new wide = refl
 
-object_types : (olds news : List FieldDef) (key : List ℕ) (o : Option FieldDef) → defs_widen olds news ≡ true → declared olds key ≡ o
+object_types : (olds news : List FieldDef) (key : List ℕ) (o : Option FieldDef) → defs_widen olds news ≡ true → declared_field olds key ≡ o
     → contains_all (types_in (field_in (Object news) key)) (types_in (option_map (λ f. record { kind = f.kind; types = f.types }) o)) ≡ true
 object_types olds news key None wide h = refl
 object_types olds news key (Some o) wide h =
@@ -154,7 +155,7 @@ types_kept (Map old) (Map new) key wide = map_types (is_key key) old new wide
 types_kept (Map old) (Object new) key wide = absurd (cc)
 types_kept (Object olds) (Array new) key wide = absurd (cc)
 types_kept (Object olds) (Map new) key wide = absurd (cc)
-types_kept (Object olds) (Object news) key wide = object_types olds news key (declared olds key) wide refl
+types_kept (Object olds) (Object news) key wide = object_types olds news key (declared_field olds key) wide refl
 
 -- ---- the form of a type
 

@@ -8,7 +8,7 @@ use Rattle.serde_json.specs.Data.{Data, null, boolean, number, string, array, ob
 use Rattle.serde_json.specs.Read.{read}
 use Rattle.st_json.specs.Order.{is_before, NamesRise, ItemsRise, MembersRise}
 use Rattle.st_json.proofs.Rising.{read_rises, Holds-map, Holds-and_then, Holds}
-use Rattle.st_tree.specs.Form.{is_row_alone, is_single, keys_rise, fields_fit, has_form, fields_have_form, all_have_form}
+use Rattle.st_tree.specs.Form.{is_row_alone, is_single, keys_rise, fields_fit_leaf, has_form, fields_have_form, all_have_form}
 use Rattle.st_tree.specs.Node.{Node, node, Fields, no_fields, field, Nodes, no_nodes, first, FieldNode, nodes_of, fields_of}
 use Rattle.st_tree.specs.Size.{check_of}
 use Rattle.st_schema.specs.Shape.{members_rise, fields_shaped, has_shape, fields_have_shape, all_have_shape}
@@ -43,7 +43,7 @@ rising (field key false items rest) h =
     let parts = both (is_single items) (is_lt (slice_cmp nat_cmp [] key) && keys_rise key rest) h in
     join (is_single items) (keys_rise key rest) parts.0 (both (is_lt (slice_cmp nat_cmp [] key)) (keys_rise key rest) parts.1).1
 
-fitting : (leaf : Option Leaf) (fs : Fields) → fields_fit leaf fs ≡ true → fields_shaped leaf fs ≡ true
+fitting : (leaf : Option Leaf) (fs : Fields) → fields_fit_leaf leaf fs ≡ true → fields_shaped leaf fs ≡ true
 fitting (Some v) no_fields h = refl
 fitting (Some v) (field key row items rest) h = absurd (cc)
 fitting None fs h = or_kept (is_row_alone fs) (keys_rise [] fs) (members_rise fs) (rising fs) h
@@ -51,7 +51,7 @@ fitting None fs h = or_kept (is_row_alone fs) (keys_rise [] fs) (members_rise fs
 mutual
   pub form_shaped : (t : Node) → has_form t ≡ true → has_shape t ≡ true
   form_shaped (node ty leaf fs) h =
-      let parts = both (fields_fit leaf fs) (fields_have_form fs) h in
+      let parts = both (fields_fit_leaf leaf fs) (fields_have_form fs) h in
       join (fields_shaped leaf fs) (fields_have_shape fs) (fitting leaf fs parts.0) (fields_form_shaped fs parts.1)
 
   fields_form_shaped : (fs : Fields) → fields_have_form fs ≡ true → fields_have_shape fs ≡ true

@@ -11,7 +11,7 @@ use Rattle.st_tree.specs.declared.tree.Field.TheViews.{out-Tree, out-Field}
 use Rattle.st_tree.proofs.Views.{view_out, field_view_out}
 use Rattle.st_schema.specs.Schema.{SchemaView, is_among, form_of}
 use Rattle.st_schema.specs.Conforms.{is_as_typed, types_under, verdicts, fields_verdicts, items_verdicts, refusal, allows_of, allows_all_of}
-use Rattle.st_schema.specs.inside.Conforms.{first_fault, looked, walked}
+use Rattle.st_schema.specs.inside.Conforms.{first_fault, walk_on, walk_over}
 use Rattle.st_schema.specs.declared.allows.Walk.{Walk}
 use Rattle.st_schema.specs.declared.names.Form.{Form}
 use Rattle.st_schema.specs.declared.names.NotAllowed.{NotAllowed}
@@ -21,25 +21,25 @@ abbrev pub settled : Option NotAllowed → Result (Unit {0}) NotAllowed
 settled None = Ok tt
 settled (Some e) = Err e
 
-fault_kept : (w : Walk) (f : NotAllowed) (vs : List Bool) → w.fault ≡ Some f → (walked w vs).fault ≡ Some f
+fault_kept : (w : Walk) (f : NotAllowed) (vs : List Bool) → w.fault ≡ Some f → (walk_over w vs).fault ≡ Some f
 fault_kept w f [] h = h
-fault_kept w f (true ∷ vs) h = fault_kept (looked w true) f vs h
-fault_kept w f (false ∷ vs) h = fault_kept (looked w false) f vs (ap (λ o. first_fault o w.next) h)
+fault_kept w f (true ∷ vs) h = fault_kept (walk_on w true) f vs h
+fault_kept w f (false ∷ vs) h = fault_kept (walk_on w false) f vs (ap (λ o. first_fault o w.next) h)
 
-fault_found : (w : Walk) (vs : List Bool) → w.fault ≡ None → settled (walked w vs).fault ≡ refusal (position_from (λ ok. not ok) w.next vs)
+fault_found : (w : Walk) (vs : List Bool) → w.fault ≡ None → settled (walk_over w vs).fault ≡ refusal (position_from (λ ok. not ok) w.next vs)
 fault_found w [] h = ap settled h
-fault_found w (true ∷ vs) h = fault_found (looked w true) vs h
-fault_found w (false ∷ vs) h = ap settled (fault_kept (looked w false) (record { at = w.next }) vs (ap (λ o. first_fault o w.next) h))
+fault_found w (true ∷ vs) h = fault_found (walk_on w true) vs h
+fault_found w (false ∷ vs) h = ap settled (fault_kept (walk_on w false) (record { at = w.next }) vs (ap (λ o. first_fault o w.next) h))
 
-pub allows_walked : (s : SchemaView) (types : List (List ℕ)) (t : Node) (w : Walk) → w ≡ walked (record { next = 0; fault = None }) (verdicts s types t) → settled w.fault ≡ allows_of s types t
+pub allows_walked : (s : SchemaView) (types : List (List ℕ)) (t : Node) (w : Walk) → w ≡ walk_over (record { next = 0; fault = None }) (verdicts s types t) → settled w.fault ≡ allows_of s types t
 allows_walked s types t w h = ap (λ (v : Walk). settled v.fault) h ∙ fault_found (record { next = 0; fault = None }) (verdicts s types t) refl
 
-pub allows_all_walked : (s : SchemaView) (types : List (List ℕ)) (ts : Nodes) (w : Walk) → w ≡ walked (record { next = 0; fault = None }) (items_verdicts s types ts) → settled w.fault ≡ allows_all_of s types ts
+pub allows_all_walked : (s : SchemaView) (types : List (List ℕ)) (ts : Nodes) (w : Walk) → w ≡ walk_over (record { next = 0; fault = None }) (items_verdicts s types ts) → settled w.fault ≡ allows_all_of s types ts
 allows_all_walked s types ts w h = ap (λ (v : Walk). settled v.fault) h ∙ fault_found (record { next = 0; fault = None }) (items_verdicts s types ts) refl
 
-walked-append : (w : Walk) (us vs : List Bool) → walked w (us ++ vs) ≡ walked (walked w us) vs
+walked-append : (w : Walk) (us vs : List Bool) → walk_over w (us ++ vs) ≡ walk_over (walk_over w us) vs
 walked-append w [] vs = refl
-walked-append w (ok ∷ us) vs = walked-append (looked w ok) us vs
+walked-append w (ok ∷ us) vs = walked-append (walk_on w ok) us vs
 
 -- ---- one item on, and the end
 
@@ -61,22 +61,22 @@ module _ (s : SchemaView) (types : List (List ℕ)) (left rest : Nodes) (t : Nod
   pub items_number : (n m total : ℕ) → m ≡ n + node_count t → n + item_count left ≡ total → m + item_count rest ≡ total
   items_number n m total h whole = omega (arith, ap item_count next)
 
-  pub items_walked : (w v all : Walk) → v ≡ walked w (verdicts s types t) → walked w (items_verdicts s types left) ≡ all → walked v (items_verdicts s types rest) ≡ all
+  pub items_walked : (w v all : Walk) → v ≡ walk_over w (verdicts s types t) → walk_over w (items_verdicts s types left) ≡ all → walk_over v (items_verdicts s types rest) ≡ all
   items_walked w v all h whole =
-      ap (λ x. walked x (items_verdicts s types rest)) h
+      ap (λ x. walk_over x (items_verdicts s types rest)) h
       ∙ sym (walked-append w (verdicts s types t) (items_verdicts s types rest))
-      ∙ ap (λ us. walked w (items_verdicts s types us)) (sym next)
+      ∙ ap (λ us. walk_over w (items_verdicts s types us)) (sym next)
       ∙ whole
 
 module _ (s : SchemaView) (form : Option Form) (left rest : Fields) (key : List ℕ) (row : Bool) (items : Nodes) (next : left ≡ field key row items rest) where
   pub fields_number : (n m total : ℕ) → m ≡ n + item_count items → n + field_count left ≡ total → m + field_count rest ≡ total
   fields_number n m total h whole = omega (arith, ap field_count next)
 
-  pub fields_walked : (types : List (List ℕ)) (w v all : Walk) → types ≡ types_under form key → v ≡ walked w (items_verdicts s types items) → walked w (fields_verdicts s form left) ≡ all → walked v (fields_verdicts s form rest) ≡ all
+  pub fields_walked : (types : List (List ℕ)) (w v all : Walk) → types ≡ types_under form key → v ≡ walk_over w (items_verdicts s types items) → walk_over w (fields_verdicts s form left) ≡ all → walk_over v (fields_verdicts s form rest) ≡ all
   fields_walked types w v all allowed h whole =
-      ap (λ x. walked x (fields_verdicts s form rest)) (h ∙ ap (λ ts. walked w (items_verdicts s ts items)) allowed)
+      ap (λ x. walk_over x (fields_verdicts s form rest)) (h ∙ ap (λ ts. walk_over w (items_verdicts s ts items)) allowed)
       ∙ sym (walked-append w (items_verdicts s (types_under form key) items) (fields_verdicts s form rest))
-      ∙ ap (λ us. walked w (fields_verdicts s form us)) (sym next)
+      ∙ ap (λ us. walk_over w (fields_verdicts s form us)) (sym next)
       ∙ whole
 
 -- ---- the whole
@@ -90,13 +90,13 @@ tree_number t fs is = ap node_count (view_out t) ∙ ap (λ gs. 1 + field_count 
 -- a node is looked at, and its fields follow
 pub tree_walked : (s : SchemaView) (types : List (List ℕ)) (t : Tree) (fs : List Field) (form : Option Form) (b : Bool) (w : Walk) → fs ≡ (out-Tree t).fields → form ≡ form_of s.types (out-Tree t).ty
     → b ≡ (is_among (out-Tree t).ty types && is_as_typed form (out-Tree t).ty (out-Tree t).leaf (fields_view (out-Tree t).fields))
-    → walked (looked w b) (fields_verdicts s form (fields_view fs)) ≡ walked w (verdicts s types (view t))
+    → walk_over (walk_on w b) (fields_verdicts s form (fields_view fs)) ≡ walk_over w (verdicts s types (view t))
 tree_walked s types t fs form b w is formed fits =
     let x = out-Tree t in
-    ap (λ gs. walked (looked w b) (fields_verdicts s form (fields_view gs))) is
-    ∙ ap (λ ok. walked (looked w ok) (fields_verdicts s form (fields_view x.fields))) fits
-    ∙ ap (λ (o : Option Form). walked w ((is_among x.ty types && is_as_typed o x.ty x.leaf (fields_view x.fields)) ∷ fields_verdicts s o (fields_view x.fields))) formed
-    ∙ ap (λ v. walked w (verdicts s types v)) (sym (view_out t))
+    ap (λ gs. walk_over (walk_on w b) (fields_verdicts s form (fields_view gs))) is
+    ∙ ap (λ ok. walk_over (walk_on w ok) (fields_verdicts s form (fields_view x.fields))) fits
+    ∙ ap (λ (o : Option Form). walk_over w ((is_among x.ty types && is_as_typed o x.ty x.leaf (fields_view x.fields)) ∷ fields_verdicts s o (fields_view x.fields))) formed
+    ∙ ap (λ v. walk_over w (verdicts s types v)) (sym (view_out t))
 
 pub field_key : (f : Field) → (field_view f).key ≡ (out-Field f).key.0
 field_key f = ap (λ (v : FieldNode). v.key) (field_view_out f)

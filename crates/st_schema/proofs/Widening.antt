@@ -6,7 +6,7 @@ use Rattle.st_schema.specs.declared.names.Form.{Form}
 use Rattle.std.specs.List.{position_from}
 use Rattle.st_schema.specs.Schema.{SchemaView, is_sound, type_names, names_are_sound}
 use Rattle.st_schema.specs.Wider.{contains_all, types_widen, narrowing, wider_of}
-use Rattle.st_schema.specs.inside.Wider.{widened}
+use Rattle.st_schema.specs.inside.Wider.{count_wider}
 use Rattle.st_schema.specs.declared.names.NotWider.{NotWider}
 use Rattle.st_lemmas.proofs.Bools.{and-true}
 
@@ -16,13 +16,13 @@ settled (Err e) ok = Err e
 settled (Ok n) true = Ok tt
 settled (Ok n) false = Err (record { at = n })
 
-widened_first : (n : ℕ) (vs : List Bool) (ok : Bool) → settled (widened n vs) ok ≡ narrowing (position_from (λ ok. not ok) n (vs ++ ok ∷ []))
+widened_first : (n : ℕ) (vs : List Bool) (ok : Bool) → settled (count_wider n vs) ok ≡ narrowing (position_from (λ ok. not ok) n (vs ++ ok ∷ []))
 widened_first n [] true = refl
 widened_first n [] false = refl
 widened_first n (true ∷ vs) ok = widened_first (n + 1) vs ok
 widened_first n (false ∷ vs) ok = refl
 
-pub wider_counted : (old new : SchemaView) (r : Result ℕ NotWider) → r ≡ widened 0 (types_widen old.types new.types) → settled r (contains_all new.root old.root) ≡ wider_of old new
+pub wider_counted : (old new : SchemaView) (r : Result ℕ NotWider) → r ≡ count_wider 0 (types_widen old.types new.types) → settled r (contains_all new.root old.root) ≡ wider_of old new
 wider_counted old new r h = ap (λ r. settled r (contains_all new.root old.root)) h ∙ widened_first 0 (types_widen old.types new.types) (contains_all new.root old.root)
 
 pub few_types : (s : SchemaView) → is_sound s ≡ true → length s.types ≤ 256

@@ -5,10 +5,9 @@ use Rattle.st_ids.specs.declared.names.Leaf.{Leaf}
 use Rattle.st_ids.specs.declared.names.Leaf.TheVariants as leaf
 use Rattle.st_tree.specs.Node.{Node, node, Fields, no_fields, field, Nodes, no_nodes, first}
 use Rattle.st_tree.specs.Form.{is_row_alone, keys_rise}
+use Rattle.st_schema.specs.Kind.{is_required}
 use Rattle.st_schema.specs.Schema.{SchemaView, same, is_among, form_of, field_in}
 use Rattle.st_schema.specs.declared.names.NotAllowed.{NotAllowed}
-use Rattle.st_schema.specs.declared.names.KindName.{KindName}
-use Rattle.st_schema.specs.declared.names.KindName.TheVariants.{Required, Optional, Sequence}
 use Rattle.st_schema.specs.declared.names.FieldRule.{FieldRule}
 use Rattle.st_schema.specs.declared.names.FieldDef.{FieldDef}
 use Rattle.st_schema.specs.declared.names.Form.{Form}
@@ -20,11 +19,6 @@ leaf_type leaf.Null = codes "null"
 leaf_type (leaf.Bool b) = codes "bool"
 leaf_type (leaf.Int n) = codes "int"
 leaf_type (leaf.Words w) = codes "text"
-
-abbrev pub is_required : KindName → Bool
-is_required Required = true
-is_required Optional = false
-is_required Sequence = false
 
 abbrev pub has_key : Fields → List ℕ → Bool
 has_key no_fields key = false

@@ -4,8 +4,8 @@ use Rattle.std.specs.List.{list_all, list_any, find}
 use Rattle.std.specs.Map.{lookup}
 use Rattle.std.specs.Ordering.{nat_cmp, is_lt}
 use Rattle.std.specs.Cmp.Lexicographic.{pointwise, slice_cmp}
-use Rattle.st_schema.specs.declared.names.KindName.{KindName}
-use Rattle.st_schema.specs.declared.names.KindName.TheVariants.{Required, Optional, Sequence}
+use Rattle.st_schema.specs.Kind.{is_single_kind}
+use Rattle.st_schema.specs.declared.names.KindName.TheVariants.{Optional, Sequence}
 use Rattle.st_schema.specs.declared.names.FieldRule.{FieldRule}
 use Rattle.st_schema.specs.declared.names.FieldDef.{FieldDef}
 use Rattle.st_schema.specs.declared.names.Form.{Form}
@@ -28,8 +28,8 @@ abbrev pub form_of : List (List ℕ × Form) → List ℕ → Option Form
 form_of types ty = lookup (same ty) types
 
 -- what an object type declares under a key
-abbrev pub declared : List FieldDef → List ℕ → Option FieldDef
-declared fields key = find (λ f. same f.key.0 key) fields
+abbrev pub declared_field : List FieldDef → List ℕ → Option FieldDef
+declared_field fields key = find (λ f. same f.key.0 key) fields
 
 abbrev pub is_key : List ℕ → Bool
 is_key key = nat_le 1 (length key) && nat_le (length key) 64
@@ -40,7 +40,7 @@ abbrev pub field_in : Form → List ℕ → Option FieldRule
 field_in (Array types) [] = Some (record { kind = Sequence; types = types })
 field_in (Array types) (b ∷ key) = None
 field_in (Map types) key = if is_key key then Some (record { kind = Optional; types = types }) else None
-field_in (Object fields) key = option_map (λ f. record { kind = f.kind; types = f.types }) (declared fields key)
+field_in (Object fields) key = option_map (λ f. record { kind = f.kind; types = f.types }) (declared_field fields key)
 
 abbrev pub field_of : SchemaView → List ℕ → List ℕ → Option FieldRule
 field_of s ty key = option_and_then (λ form. field_in form key) (form_of s.types ty)
@@ -67,11 +67,6 @@ is_known names t = is_among t leaf_types || is_among t names
 -- a list of types names known ones, and none twice
 abbrev pub list_is_sound : List (List ℕ) → List (List ℕ) → Bool
 list_is_sound names ts = list_all (is_known names) ts && is_distinct ts
-
-abbrev pub is_single_kind : KindName → Bool
-is_single_kind Required = true
-is_single_kind Optional = true
-is_single_kind Sequence = false
 
 abbrev pub field_is_sound : List (List ℕ) → FieldDef → Bool
 field_is_sound names f = is_key f.key.0 && (is_single_kind f.kind && list_is_sound names f.types)

@@ -2,7 +2,8 @@
 -- only optional ones are added.
 use Rattle.std.specs.Prelude.{ℕ, List, [], ◌∷◌, ◌++◌, Bool, true, false, not, ◌&&◌, Option, None, Some, is_some, Result, Ok, Err}
 use Rattle.std.specs.List.{list_all, position_from}
-use Rattle.st_schema.specs.Schema.{SchemaView, same, is_among, declared}
+use Rattle.st_schema.specs.Kind.{is_optional}
+use Rattle.st_schema.specs.Schema.{SchemaView, same, is_among, declared_field}
 use Rattle.st_schema.specs.declared.names.NotWider.{NotWider}
 use Rattle.st_schema.specs.declared.names.KindName.{KindName}
 use Rattle.st_schema.specs.declared.names.KindName.TheVariants.{Required, Optional, Sequence}
@@ -13,11 +14,6 @@ use Rattle.st_schema.specs.declared.names.Form.TheVariants.{Array, Map, Object}
 -- a new list has each type of the old one
 abbrev pub contains_all : List (List ℕ) → List (List ℕ) → Bool
 contains_all new old = list_all (λ t. is_among t new) old
-
-abbrev pub is_optional : KindName → Bool
-is_optional Required = false
-is_optional Optional = true
-is_optional Sequence = false
 
 -- a required field stays so or becomes optional, and an optional one stays so
 abbrev pub kind_widens : KindName → KindName → Bool
@@ -35,11 +31,11 @@ widens_found None new = is_optional new.kind
 widens_found (Some old) new = kind_widens old.kind new.kind && contains_all new.types old.types
 
 abbrev pub def_widens : List FieldDef → FieldDef → Bool
-def_widens olds new = widens_found (declared olds new.key.0) new
+def_widens olds new = widens_found (declared_field olds new.key.0) new
 
 -- each old field is there, and each new one widens it or is added as an optional one
 abbrev pub defs_widen : List FieldDef → List FieldDef → Bool
-defs_widen olds news = list_all (λ old. is_some (declared news old.key.0)) olds && list_all (def_widens olds) news
+defs_widen olds news = list_all (λ old. is_some (declared_field news old.key.0)) olds && list_all (def_widens olds) news
 
 -- the form is the same, with wider lists and fields
 abbrev pub form_widens : Form → Form → Bool

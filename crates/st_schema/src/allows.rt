@@ -7,12 +7,13 @@ ghost use Rattle.st_tree.specs.inside.Node.{field_view, fields_view};
 ghost use Rattle.st_tree.specs.Size.{node_count, item_count};
 ghost use Rattle.st_tree.specs.Form.{is_row_alone, is_single, keys_rise, has_form};
 ghost use Rattle.st_schema.specs.Schema.{SchemaView, is_among, form_of, field_in};
-ghost use Rattle.st_schema.specs.Conforms.{leaf_type, is_required, has_key, have_rules, required_there, fields_fit, has_none, is_as_typed, node_fits, types_under, verdicts, items_verdicts, conforms, allows_of, allows_all_of};
-ghost use Rattle.st_schema.specs.inside.Conforms.{looked, walked};
+ghost use Rattle.st_schema.specs.Conforms.{leaf_type, has_key, have_rules, required_there, fields_fit, has_none, is_as_typed, node_fits, types_under, verdicts, items_verdicts, conforms, allows_of, allows_all_of};
+ghost use Rattle.st_schema.specs.Kind.{is_required};
+ghost use Rattle.st_schema.specs.inside.Conforms.{walk_on, walk_over};
 
 use crate::names::{FieldDef, Form, KindName, NotAllowed};
 use crate::rules::is_key;
-use crate::schema::{Schema, declared};
+use crate::schema::{Schema, declared_field};
 use st_ids::{Key, Leaf, List, Text};
 use st_tree::{Field, Tree};
 
@@ -35,7 +36,7 @@ fn has_rule(form: &Form, key: &Key) -> bool
     match form {
         Form::Array(_) => key.0.is_empty(),
         Form::Map(_) => is_key(key.0.as_str()),
-        Form::Object(fields) => declared(fields, key).is_some(),
+        Form::Object(fields) => declared_field(fields, key).is_some(),
     }
 }
 
@@ -46,7 +47,7 @@ fn types_under<'a>(form: Option<&'a Form>, key: &Key) -> &'a [Text]
     match form {
         Some(Form::Array(types)) if key.0.is_empty() => types.as_slice(),
         Some(Form::Map(types)) if is_key(key.0.as_str()) => types.as_slice(),
-        Some(Form::Object(fields)) => match declared(fields, key) {
+        Some(Form::Object(fields)) => match declared_field(fields, key) {
             Some(field) => field.types.as_slice(),
             None => &[],
         },
@@ -173,9 +174,9 @@ struct Walk {
 }
 
 // One node further, which is allowed or not.
-fn looked(walk: Walk, fits: bool) -> Walk
+fn walk_on(walk: Walk, fits: bool) -> Walk
     requires { walk.next + 1 < 2 ^ 32 }
-    ensures { result ≡ looked walk fits }
+    ensures { result ≡ walk_on walk fits }
 {
     let fault = match walk.fault {
         None if !fits => Some(NotAllowed { at: walk.next }),
@@ -191,11 +192,11 @@ fn looked(walk: Walk, fits: bool) -> Walk
 #[cycle(walking)]
 fn walk_tree(schema: &Schema, types: &[Text], tree: &Tree, walk: Walk) -> Walk
     requires { walk.next + node_count (view tree.now) < 2 ^ 32 }
-    ensures walked { result ≡ walked walk (verdicts schema.now types.now (view tree.now)) }
+    ensures walked { result ≡ walk_over walk (verdicts schema.now types.now (view tree.now)) }
     ensures counted { result.next ≡ walk.next + node_count (view tree.now) }
 {
     let form = schema.form(&tree.ty);
-    let mut now = looked(walk, node_fits(types, form, tree));
+    let mut now = walk_on(walk, node_fits(types, form, tree));
     for field in tree.fields.as_slice() {
         now = walk_field(schema, types_under(form, &field.key), field, now);
     }
@@ -206,7 +207,7 @@ fn walk_tree(schema: &Schema, types: &[Text], tree: &Tree, walk: Walk) -> Walk
 #[cycle(walking)]
 fn walk_field(schema: &Schema, types: &[Text], field: &Field, walk: Walk) -> Walk
     requires { walk.next + item_count (field_view field.now).items < 2 ^ 32 }
-    ensures walked { result ≡ walked walk (items_verdicts schema.now types.now (field_view field.now).items) }
+    ensures walked { result ≡ walk_over walk (items_verdicts schema.now types.now (field_view field.now).items) }
     ensures counted { result.next ≡ walk.next + item_count (field_view field.now).items }
 {
     let mut now = walk;
@@ -219,7 +220,7 @@ fn walk_field(schema: &Schema, types: &[Text], field: &Field, walk: Walk) -> Wal
 // Goes through trees in preorder, from the first.
 fn walk_trees(schema: &Schema, types: &[Text], trees: &[Tree]) -> Walk
     requires { item_count (trees_view trees.now) < 2 ^ 32 }
-    ensures { result ≡ walked (record { next = 0; fault = None }) (items_verdicts schema.now types.now (trees_view trees.now)) }
+    ensures { result ≡ walk_over (record { next = 0; fault = None }) (items_verdicts schema.now types.now (trees_view trees.now)) }
 {
     let mut now = Walk {
         next: 0,

@@ -1,7 +1,8 @@
 //! The rules that each schema keeps.
 ghost use Rattle.std.specs.Prelude.{◌≡◌, ◌&&◌, map, [], ◌∷◌};
 ghost use Rattle.std.specs.List.{list_all};
-ghost use Rattle.st_schema.specs.Schema.{is_key, is_among, leaf_types, is_type_name, is_distinct, is_known, list_is_sound, is_single_kind, field_is_sound, defs_rise, form_is_sound, type_names, forms_are_sound};
+ghost use Rattle.st_schema.specs.Schema.{is_key, is_among, leaf_types, is_type_name, is_distinct, is_known, list_is_sound, field_is_sound, defs_rise, form_is_sound, type_names, forms_are_sound};
+ghost use Rattle.st_schema.specs.Kind.{is_single_kind};
 
 use crate::names::{FieldDef, Form, KindName};
 use indexmap::IndexMap;

@@ -1,7 +1,7 @@
 //! A schema and what is looked up in it.
 ghost use Rattle.std.specs.Prelude.{◌≡◌, ◌≤◌, true, false, length, IfOk, slice_get, option_map};
 ghost use Rattle.std.specs.Option.{option_copied};
-ghost use Rattle.st_schema.specs.Schema.{is_sound, is_distinct, type_names, form_of, declared, field_in};
+ghost use Rattle.st_schema.specs.Schema.{is_sound, is_distinct, type_names, form_of, declared_field, field_in};
 ghost use Rattle.st_ids.specs.Or.{IfRefused};
 
 use crate::names::{FieldDef, FieldRule, Form, KindName};
@@ -48,8 +48,8 @@ fn form_in<'a>(types: &'a IndexMap<Text, Form>, ty: &Text) -> Option<&'a Form>
 }
 
 // What an object type declares under a key.
-pub(crate) fn declared<'a>(fields: &'a List<FieldDef>, key: &Key) -> Option<&'a FieldDef>
-    ensures { option_copied result ≡ declared fields.now key.now.0 }
+pub(crate) fn declared_field<'a>(fields: &'a List<FieldDef>, key: &Key) -> Option<&'a FieldDef>
+    ensures { option_copied result ≡ declared_field fields.now key.now.0 }
 {
     fields.as_slice().iter().find(|field| field.key == *key)
 }
@@ -73,7 +73,7 @@ fn field_in(alloc: Global, form: &Form, key: &Key) -> Result<Option<FieldRule>, 
                 Ok(None)
             }
         }
-        Form::Object(fields) => match declared(fields, key) {
+        Form::Object(fields) => match declared_field(fields, key) {
             Some(field) => rule(alloc, field.kind, &field.types),
             None => Ok(None),
         },

@@ -2,13 +2,13 @@
 ghost use Rattle.std.specs.Prelude.{◌≡◌, ◌≤◌, ◌&&◌, length, is_some, true, Ok};
 ghost use Rattle.std.specs.List.{list_all};
 ghost use Rattle.st_tree.specs.Node.{Node};
-ghost use Rattle.st_schema.specs.Schema.{SchemaView, declared};
+ghost use Rattle.st_schema.specs.Schema.{SchemaView, declared_field};
 ghost use Rattle.st_schema.specs.Conforms.{conforms};
 ghost use Rattle.st_schema.specs.Wider.{contains_all, kind_widens, widens_found, def_widens, defs_widen, form_widens, types_widen, wider_of};
-ghost use Rattle.st_schema.specs.inside.Wider.{widened};
+ghost use Rattle.st_schema.specs.inside.Wider.{count_wider};
 
 use crate::names::{FieldDef, Form, KindName, NotWider};
-use crate::schema::{Schema, declared};
+use crate::schema::{Schema, declared_field};
 use indexmap::IndexMap;
 use st_ids::{List, Text};
 
@@ -34,7 +34,7 @@ fn kind_widens(old: KindName, new: KindName) -> bool
 fn def_widens(olds: &List<FieldDef>, new: &FieldDef) -> bool
     ensures { result ≡ def_widens olds.now new.now }
 {
-    match declared(olds, &new.key) {
+    match declared_field(olds, &new.key) {
         Some(old) => kind_widens(old.kind, new.kind) && contains_all(&new.types, &old.types),
         None => new.kind == KindName::Optional,
     }
@@ -42,11 +42,11 @@ fn def_widens(olds: &List<FieldDef>, new: &FieldDef) -> bool
 
 // Whether each old field is there.
 fn all_there(olds: &List<FieldDef>, news: &List<FieldDef>) -> bool
-    ensures { result ≡ list_all (λ old. is_some (declared news.now old.key.0)) olds.now }
+    ensures { result ≡ list_all (λ old. is_some (declared_field news.now old.key.0)) olds.now }
 {
     olds.as_slice()
         .iter()
-        .all(|old| declared(news, &old.key).is_some())
+        .all(|old| declared_field(news, &old.key).is_some())
 }
 
 // Whether the fields of an object type are wider.
@@ -78,7 +78,7 @@ fn form_widens(old: &Form, new: &Form) -> bool
 // The count of old types, where each new type at their places is the same and wider.
 fn types_widen(old: &IndexMap<Text, Form>, new: &IndexMap<Text, Form>) -> Result<u32, NotWider>
     requires { length old.now.entries ≤ 256 }
-    ensures { result ≡ widened 0 (types_widen old.now.entries new.now.entries) }
+    ensures { result ≡ count_wider 0 (types_widen old.now.entries new.now.entries) }
 {
     let mut at = 0;
     let mut news = new.iter();

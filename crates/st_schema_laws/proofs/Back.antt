@@ -4,7 +4,7 @@ use Rattle.std.specs.Option.{option_map_or}
 use Rattle.st_ids.specs.declared.names.FieldId.{FieldId}
 use Rattle.st_ids.specs.declared.names.NodeId.{NodeId}
 use Rattle.st_ids.specs.declared.names.Rev.{Rev}
-use Rattle.st_schema.specs.Schema.{SchemaView, is_single_kind}
+use Rattle.st_schema.specs.Schema.{SchemaView}
 use Rattle.st_marks.specs.declared.intents.Intent.{Intent}
 use Rattle.st_marks.specs.declared.intents.To.{To}
 use Rattle.st_marks.specs.declared.places.Spot.{Spot}
@@ -16,7 +16,7 @@ use Rattle.st_marks.specs.Back.{IsBack, is_in, place_back, to_of}
 use Rattle.st_marks.proofs.Climb.{same_spot, unknown_nowhere}
 use Rattle.st_marks.proofs.Lookups.{put-has, has-put_in}
 use Rattle.st_marks.proofs.Retreat.{retreat_sound}
-use Rattle.st_edits.specs.Resolve.{is_row}
+use Rattle.st_schema.specs.Kind.{is_row, is_single_kind}
 use Rattle.st_schema_laws.specs.Conforming.{MayStand, IsConforming, IsFree, row_key, is_required_field}
 use Rattle.st_schema_laws.specs.Agreeing.{KeepsSchema, MayGo, MayBeLeft}
 use Rattle.st_schema_laws.proofs.Kept.{required_later, known_later, free_later, admits_later, stands_later, named_later, required_rule}

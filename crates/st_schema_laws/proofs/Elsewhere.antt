@@ -5,14 +5,15 @@ use Rattle.st_ids.specs.declared.names.CellId.{CellId}
 use Rattle.st_ids.specs.declared.names.FieldId.{FieldId}
 use Rattle.st_ids.specs.declared.names.Key.{Key}
 use Rattle.st_ids.specs.declared.names.NodeId.{NodeId}
-use Rattle.st_schema.specs.Schema.{SchemaView, field_of, is_single_kind}
+use Rattle.st_schema.specs.Schema.{SchemaView, field_of}
 use Rattle.st_schema.specs.declared.names.FieldRule.{FieldRule}
 use Rattle.st_marks.specs.declared.intents.Intent.{Intent}
 use Rattle.st_marks.specs.declared.intents.To.{To}
 use Rattle.st_marks.specs.Document.{Document, NodeType}
 use Rattle.st_marks.specs.Intent.{new_type, is_new, new_row_of}
 use Rattle.st_marks.specs.CarryOut.{with_names}
-use Rattle.st_edits.specs.Resolve.{is_row, rule_at}
+use Rattle.st_edits.specs.Resolve.{rule_at}
+use Rattle.st_schema.specs.Kind.{is_row, is_single_kind}
 use Rattle.st_schema_laws.specs.Conforming.{row_key}
 use Rattle.st_schema_laws.specs.Agreeing.{KeepsSchema, MayGo, MayBeLeft}
 use Rattle.st_schema_laws.proofs.Kept.{HasNodes, admits_later, required_later, known_later}

@@ -3,7 +3,7 @@ use Rattle.std.proofs.Common.{◌≡◌, Bool, true, false, Option, None, IsSome
 use Rattle.st_ids.specs.declared.names.FieldId.{FieldId}
 use Rattle.st_ids.specs.declared.names.Key.{Key}
 use Rattle.st_ids.specs.declared.names.NodeId.{NodeId}
-use Rattle.st_schema.specs.Schema.{SchemaView, is_single_kind}
+use Rattle.st_schema.specs.Schema.{SchemaView}
 use Rattle.st_schema.specs.declared.names.KindName.{KindName}
 use Rattle.st_marks.specs.declared.intents.Intent.{Intent}
 use Rattle.st_marks.specs.declared.intents.To.{To}
@@ -11,7 +11,7 @@ use Rattle.st_marks.specs.declared.places.Spot.{Spot}
 use Rattle.st_marks.specs.Document.{Document, IsSoundInForm, owned}
 use Rattle.st_marks.specs.Intent.{is_new, put_of}
 use Rattle.st_marks.specs.CarryOut.{with_names}
-use Rattle.st_edits.specs.Resolve.{is_row}
+use Rattle.st_schema.specs.Kind.{is_row, is_single_kind}
 use Rattle.st_schema_laws.specs.Conforming.{Admits, MayStand, IsConforming, row_key}
 use Rattle.st_schema_laws.specs.Agreeing.{KeepsSchema, MayGo, TellsHomes, with_homes}
 use Rattle.st_lemmas.proofs.Bools.{true-false}

@@ -5,8 +5,7 @@ use Rattle.st_ids.specs.declared.names.CellId.{CellId}
 use Rattle.st_ids.specs.declared.names.FieldId.{FieldId}
 use Rattle.st_ids.specs.declared.names.Key.{Key}
 use Rattle.st_ids.specs.declared.names.NodeId.{NodeId}
-use Rattle.st_schema.specs.Schema.{SchemaView, field_of, is_single_kind}
-use Rattle.st_schema.specs.Conforms.{is_required}
+use Rattle.st_schema.specs.Schema.{SchemaView, field_of}
 use Rattle.st_schema.specs.declared.names.FieldRule.{FieldRule}
 use Rattle.st_marks.specs.declared.changes.NewNode.{NewNode}
 use Rattle.st_marks.specs.declared.intents.Intent.{Intent}
@@ -20,7 +19,8 @@ use Rattle.st_marks.proofs.Joined.{joined_in_turn}
 use Rattle.st_marks.proofs.Lookups.{put-has, has-put, put_in-has, has-put_in}
 use Rattle.st_marks.proofs.NewRows.{known_after}
 use Rattle.st_edits.specs.Paths.{field_at}
-use Rattle.st_edits.specs.Resolve.{is_row, rule_at}
+use Rattle.st_edits.specs.Resolve.{rule_at}
+use Rattle.st_schema.specs.Kind.{is_required, is_row, is_single_kind}
 use Rattle.st_schema_laws.specs.Conforming.{Admits, IsConforming, row_key, type_fits, is_required_field}
 use Rattle.st_schema_laws.specs.Agreeing.{KeepsSchema, MayGo, MayBeLeft}
 use Rattle.st_schema_laws.proofs.Kept.{HasNodes, required_later, known_later, admits_later, named_later, required_by}

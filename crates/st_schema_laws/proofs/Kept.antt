@@ -4,8 +4,7 @@ use Rattle.std.specs.Option.{option_or, option_map_or}
 use Rattle.st_ids.specs.declared.names.FieldId.{FieldId}
 use Rattle.st_ids.specs.declared.names.Key.{Key}
 use Rattle.st_ids.specs.declared.names.NodeId.{NodeId}
-use Rattle.st_schema.specs.Schema.{SchemaView, field_of, is_among, is_single_kind}
-use Rattle.st_schema.specs.Conforms.{is_required}
+use Rattle.st_schema.specs.Schema.{SchemaView, field_of, is_among}
 use Rattle.st_schema.specs.declared.names.FieldRule.{FieldRule}
 use Rattle.st_schema.specs.declared.names.KindName.{KindName}
 use Rattle.st_marks.specs.declared.intents.Intent.{Intent}
@@ -18,7 +17,8 @@ use Rattle.st_marks.specs.Intent.{Fits, new_type, is_new, put_of, put_in, clears
 use Rattle.st_marks.specs.CarryOut.{with_names, full, void, void_data, spot_of, place_after, unless_cleared, unless_put, is_put_in_new, only_new}
 use Rattle.st_marks.specs.Verdict.{carried}
 use Rattle.st_edits.specs.Paths.{field_at}
-use Rattle.st_edits.specs.Resolve.{is_row, rule_at, has_type}
+use Rattle.st_edits.specs.Resolve.{rule_at, has_type}
+use Rattle.st_schema.specs.Kind.{is_required, is_row, is_single_kind}
 use Rattle.st_schema_laws.specs.Conforming.{Admits, MayStand, IsConforming, IsFree, row_key, type_fits, is_required_field}
 use Rattle.st_schema_laws.specs.Agreeing.{KeepsSchema, MayGo}
 use Rattle.st_lemmas.proofs.Bools.{true-false}

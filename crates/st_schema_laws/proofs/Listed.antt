@@ -14,9 +14,9 @@ use Rattle.st_tree.specs.declared.flat.FlatNode.{FlatNode}
 use Rattle.st_tree.specs.Node.{Node, node, Fields, no_fields, field, Nodes, no_nodes, first}
 use Rattle.st_tree.specs.Size.{node_count, item_count}
 use Rattle.st_tree.specs.Form.{is_row_alone, keys_rise}
-use Rattle.st_tree.specs.Preorder.{node_named, cell_named, cells_taken, cell_count, item_cells, is_array, at_of, listed, fields_listed, items_listed, tops_listed}
-use Rattle.st_schema.specs.Schema.{SchemaView, same, is_among, is_key, form_of, declared, field_in, field_of, is_single_kind, is_sound}
-use Rattle.st_schema.specs.Conforms.{leaf_type, is_required, has_key, have_rules, fields_fit, is_as_typed, node_fits, types_under, verdicts, fields_verdicts, items_verdicts}
+use Rattle.st_tree.specs.Preorder.{node_named, cell_named, cells_taken, cell_count, item_cells, is_array, at_of, tree_listed, fields_listed, items_listed, tops_listed}
+use Rattle.st_schema.specs.Schema.{SchemaView, same, is_among, is_key, form_of, declared_field, field_in, field_of, is_sound}
+use Rattle.st_schema.specs.Conforms.{leaf_type, has_key, have_rules, fields_fit, is_as_typed, node_fits, types_under, verdicts, fields_verdicts, items_verdicts}
 use Rattle.st_schema.specs.declared.names.FieldDef.{FieldDef}
 use Rattle.st_schema.specs.declared.names.FieldRule.{FieldRule}
 use Rattle.st_schema.specs.declared.names.Form.{Form}
@@ -25,7 +25,7 @@ use Rattle.st_schema.specs.declared.names.KindName.{KindName}
 use Rattle.st_schema.specs.declared.names.KindName.TheVariants.{Optional, Sequence}
 use Rattle.st_marks.proofs.Members.{first-has, has-append, append_left, append_right}
 use Rattle.st_edits.specs.Paths.{field_at}
-use Rattle.st_edits.specs.Resolve.{is_row}
+use Rattle.st_schema.specs.Kind.{is_required, is_row, is_single_kind}
 use Rattle.st_schema_laws.specs.Conforming.{type_fits, row_key}
 use Rattle.st_schema_laws.proofs.Rules.{declared_single, leaf_undefined}
 use Rattle.st_lemmas.proofs.Lists.{length-zero}
@@ -121,12 +121,12 @@ module _ (s : SchemaView) (sound : is_sound s ≡ true) (zs : List FlatNode) (ty
       go : (b : Bool) → cond b (Some (record { kind = Optional; types = ts })) None ≡ Some rule → (y : FlatNode) × Has (fields_listed rev owner n c fs) y × (y.at ≡ FlatAt.Register (field_at (node_named rev owner) key))
       go true f = let r : record { kind = Optional; types = ts } ≡ rule = cc in absurd (true-false required (ap (λ (r : FieldRule). is_required r.kind) (sym r)))
       go false f = absurd (cc)
-  required_filled (Object defs) owner n c fs key rule fit e required = go (declared defs key.0) refl e
+  required_filled (Object defs) owner n c fs key rule fit e required = go (declared_field defs key.0) refl e
     where
       present : (d : FieldDef) → Has defs d → is_required d.kind ≡ true → (not (is_required d.kind) || has_key fs d.key.0) ≡ true → has_key fs d.key.0 ≡ true
       present d h r f = rw r at f
 
-      go : (o : Option FieldDef) → declared defs key.0 ≡ o → option_map (λ (f : FieldDef). record { kind = f.kind; types = f.types }) o ≡ Some rule
+      go : (o : Option FieldDef) → declared_field defs key.0 ≡ o → option_map (λ (f : FieldDef). record { kind = f.kind; types = f.types }) o ≡ Some rule
           → (y : FlatNode) × Has (fields_listed rev owner n c fs) y × (y.at ≡ FlatAt.Register (field_at (node_named rev owner) key))
       go None f g = absurd (cc)
       go (Some d) f g =
@@ -159,11 +159,11 @@ module _ (s : SchemaView) (sound : is_sound s ≡ true) (zs : List FlatNode) (ty
   field_takes x owner c (Object defs) fs key row ty listed named form fit h e =
       let b = and-true (keys_rise [] fs) _ fit in
       let r = have_rule (Object defs) key row fs (and-true (have_rules (Object defs) fs) _ b.1).0 h in
-      let single : is_single_kind r.0.kind ≡ true = go (declared defs key) refl r.0 r.1 in
+      let single : is_single_kind r.0.kind ≡ true = go (declared_field defs key) refl r.0 r.1 in
       subst (λ w. IsPlaced s zs types ty (at_of rev owner key w c)) (sym (rises_single [] key row fs b.0 h))
       (record { owner = x; listed = listed; named = named; rule = r.0; ruled = ap (option_and_then (λ (form : Form). field_in form key)) form ∙ r.1; kind = single; typed = rw r.1 at e })
     where
-      go : (o : Option FieldDef) → declared defs key ≡ o → (rule : FieldRule) → option_map (λ (f : FieldDef). record { kind = f.kind; types = f.types }) o ≡ Some rule → is_single_kind rule.kind ≡ true
+      go : (o : Option FieldDef) → declared_field defs key ≡ o → (rule : FieldRule) → option_map (λ (f : FieldDef). record { kind = f.kind; types = f.types }) o ≡ Some rule → is_single_kind rule.kind ≡ true
       go None f rule g = absurd (cc)
       go (Some d) f rule g =
           let r : record { kind = d.kind; types = d.types } ≡ rule = cc in
@@ -177,7 +177,7 @@ module _ (s : SchemaView) (sound : is_sound s ≡ true) (zs : List FlatNode) (ty
 
   mutual
     tree_allowed : (at : FlatAt) (n c : ℕ) (own : List (List ℕ)) (t : Node) → list_all (λ ok. ok) (verdicts s own t) ≡ true → ((ty : List ℕ) → is_among ty own ≡ true → IsPlaced s zs types ty at)
-        → AreInside (listed rev at n c t) → AreAllowed (listed rev at n c t)
+        → AreInside (tree_listed rev at n c t) → AreAllowed (tree_listed rev at n c t)
     tree_allowed at n c own (node ty (Some v) fs) e here inside x (inl q) =
         let fits = and-true (is_among ty own) _ (and-true _ _ e).0 in
         subst (IsAllowedItem s zs types) q (record {
@@ -238,7 +238,7 @@ module _ (s : SchemaView) (sound : is_sound s ≡ true) (zs : List FlatNode) (ty
     items_allowed owner key row n c own no_nodes e takes inside x h = absurd h
     items_allowed owner key row n c own (first t ts) e takes inside x h =
         let both = all-parts (verdicts s own t) (items_verdicts s own ts) e in
-        let here = listed rev (at_of rev owner key row c) n (c + cells_taken row) t in
+        let here = tree_listed rev (at_of rev owner key row c) n (c + cells_taken row) t in
         let later = items_listed rev owner key row (n + node_count t) (c + (cells_taken row + cell_count t)) ts in
         elim (has-append here later x h) [
           | inl k ↦ tree_allowed (at_of rev owner key row c) n (c + cells_taken row) own t both.0 (takes c) (λ z l. inside z (append_left here later z l)) x k
@@ -249,12 +249,12 @@ module _ (s : SchemaView) (sound : is_sound s ≡ true) (zs : List FlatNode) (ty
   tops_allowed n c no_nodes e inside x h = absurd h
   tops_allowed n c (first t ts) e inside x h =
       let both = all-parts (verdicts s types t) (items_verdicts s types ts) e in
-      let here = listed rev (FlatAt.Top (cell_named rev c)) n (c + 1) t in
+      let here = tree_listed rev (FlatAt.Top (cell_named rev c)) n (c + 1) t in
       let later = tops_listed rev (n + node_count t) (c + (1 + cell_count t)) ts in
       elim (has-append here later x h) [
         | inl k ↦ tree_allowed (FlatAt.Top (cell_named rev c)) n (c + 1) types t both.0 (λ ty among. among) (λ z l. inside z (append_left here later z l)) x k
         | inr k ↦ tops_allowed (n + node_count t) (c + (1 + cell_count t)) ts both.1 (λ z l. inside z (append_right here later z l)) x k
       ]
 
-  pub root_allowed : (t : Node) → list_all (λ ok. ok) (verdicts s types t) ≡ true → AreInside (listed rev FlatAt.Root 0 0 t) → AreAllowed (listed rev FlatAt.Root 0 0 t)
+  pub root_allowed : (t : Node) → list_all (λ ok. ok) (verdicts s types t) ≡ true → AreInside (tree_listed rev FlatAt.Root 0 0 t) → AreAllowed (tree_listed rev FlatAt.Root 0 0 t)
   root_allowed t e inside x h = tree_allowed FlatAt.Root 0 0 types t e (λ ty among. among) inside x h

@@ -14,8 +14,8 @@ use Rattle.st_tree.specs.declared.flat.FlatAt.{FlatAt}
 use Rattle.st_tree.specs.declared.flat.FlatNode.{FlatNode}
 use Rattle.st_tree.specs.Node.{Node, node, Nodes, no_nodes, first}
 use Rattle.st_tree.specs.declared.edit.EditFault.TheVariants.{Range}
-use Rattle.st_schema.specs.Schema.{SchemaView, field_of, is_among, is_single_kind, is_sound}
-use Rattle.st_schema.specs.Conforms.{is_required, items_verdicts}
+use Rattle.st_schema.specs.Schema.{SchemaView, field_of, is_among, is_sound}
+use Rattle.st_schema.specs.Conforms.{items_verdicts}
 use Rattle.st_schema.specs.declared.names.FieldRule.{FieldRule}
 use Rattle.st_schema.specs.declared.names.KindName.{KindName}
 use Rattle.st_marks.specs.declared.changes.NewNode.{NewNode}
@@ -32,7 +32,8 @@ use Rattle.st_marks.proofs.Members.{first-has, first-distinct, has-map, map-has,
 use Rattle.st_edits.specs.New.{new_nodes, puts, to_at, top_to, top_cell, row_cell, owned_by, top_cells, cells_under, group_of, group_under, groups_under, names_taken}
 use Rattle.st_opening.specs.Start.{registers, register_at}
 use Rattle.st_edits.specs.Paths.{and_then, field_at, left_of, row_length}
-use Rattle.st_edits.specs.Resolve.{require, walk, rule_for, rule_at, is_row, has_type, trees_allowed, names_left, named, allowed_nodes, inserted, intent_to_place, insert, put}
+use Rattle.st_edits.specs.Resolve.{require, walk, rule_for, rule_at, has_type, trees_allowed, names_left, named_nodes, allowed_nodes, intent_to_insert, intent_to_place, insert, put}
+use Rattle.st_schema.specs.Kind.{is_required, is_row, is_single_kind}
 use Rattle.st_edits.specs.declared.names.NameCounters.{NameCounters}
 use Rattle.st_edits.specs.declared.names.Takes.TheVariants as field
 use Rattle.st_edits.proofs.Fits.{passed, ruled}
@@ -215,48 +216,48 @@ register_from into xs g h = let x = filter-from (λ (x : FlatNode). register_at 
 
 -- ## What is allowed
 
-is_allowed : (s : SchemaView) (G : NameCounters) (rule : FieldRule) (trees : Nodes) (xs : List FlatNode) → allowed_nodes s G rule trees ≡ Ok xs → (list_all (λ ok. ok) (items_verdicts s rule.types trees) ≡ true) × (named G trees ≡ xs)
+is_allowed : (s : SchemaView) (G : NameCounters) (rule : FieldRule) (trees : Nodes) (xs : List FlatNode) → allowed_nodes s G rule trees ≡ Ok xs → (list_all (λ ok. ok) (items_verdicts s rule.types trees) ≡ true) × (named_nodes G trees ≡ xs)
 is_allowed s G rule trees xs e =
-    let u = passed (trees_allowed s rule trees) (λ _. and_then (names_left G (names_taken (named G trees))) (λ _. Ok (named G trees))) xs e in
-    let v = passed (names_left G (names_taken (named G trees))) (λ _. Ok (named G trees)) xs u.2 in
-    let is : named G trees ≡ xs = cc in
+    let u = passed (trees_allowed s rule trees) (λ _. and_then (names_left G (names_taken (named_nodes G trees))) (λ _. Ok (named_nodes G trees))) xs e in
+    let v = passed (names_left G (names_taken (named_nodes G trees))) (λ _. Ok (named_nodes G trees)) xs u.2 in
+    let is : named_nodes G trees ≡ xs = cc in
     (position_from-None 0 (items_verdicts s rule.types trees) (none_is (position_from (λ ok. not ok) 0 (items_verdicts s rule.types trees)) u.0 u.1), is)
 
-named_allowed : (s : SchemaView) (G : NameCounters) (types : List (List ℕ)) (trees : Nodes) → is_sound s ≡ true → list_all (λ ok. ok) (items_verdicts s types trees) ≡ true → (x : FlatNode) → Has (named G trees) x → IsAllowedItem s (named G trees) types x
-named_allowed s G types trees schema ok = tops_allowed s schema (named G trees) types G.rev G.nodes G.cells trees ok (λ x h. h)
+named_allowed : (s : SchemaView) (G : NameCounters) (types : List (List ℕ)) (trees : Nodes) → is_sound s ≡ true → list_all (λ ok. ok) (items_verdicts s types trees) ≡ true → (x : FlatNode) → Has (named_nodes G trees) x → IsAllowedItem s (named_nodes G trees) types x
+named_allowed s G types trees schema ok = tops_allowed s schema (named_nodes G trees) types G.rev G.nodes G.cells trees ok (λ x h. h)
 
-named_under : (s : SchemaView) (G : NameCounters) (types : List (List ℕ)) (trees : Nodes) → list_all (λ ok. ok) (items_verdicts s types trees) ≡ true → (x : FlatNode) → Has (named G trees) x → IsUnderArray (named G trees) x.at
-named_under s G types trees ok = tops_rows (named G trees) G.rev G.nodes G.cells trees (items_form s types trees ok) (λ x h. h)
+named_under : (s : SchemaView) (G : NameCounters) (types : List (List ℕ)) (trees : Nodes) → list_all (λ ok. ok) (items_verdicts s types trees) ≡ true → (x : FlatNode) → Has (named_nodes G trees) x → IsUnderArray (named_nodes G trees) x.at
+named_under s G types trees ok = tops_rows (named_nodes G trees) G.rev G.nodes G.cells trees (items_form s types trees ok) (λ x h. h)
 
 -- ## New items of a row
 
 inserted_agrees : (s : SchemaView) (home : NodeId → Option FieldId) (D : Document) (G : NameCounters) (n : NodeId) (index : ℕ) (rule : FieldRule) (trees : Nodes) → is_sound s ≡ true
     → rule_at D s n row_key ≡ Some rule → is_row rule.kind ≡ true → list_all (λ ok. ok) (items_verdicts s rule.types trees) ≡ true
-    → Fits D (inserted D G n index (named G trees)) → TellsHomes home (inserted D G n index (named G trees)) → KeepsSchema s home D (inserted D G n index (named G trees))
-inserted_agrees s home D G n index rule trees schema ruled row ok fits own = listed_agrees s home D (inserted D G n index (named G trees)) rule.types None (named G trees) listing
+    → Fits D (intent_to_insert D G n index (named_nodes G trees)) → TellsHomes home (intent_to_insert D G n index (named_nodes G trees)) → KeepsSchema s home D (intent_to_insert D G n index (named_nodes G trees))
+inserted_agrees s home D G n index rule trees schema ruled row ok fits own = listed_agrees s home D (intent_to_insert D G n index (named_nodes G trees)) rule.types None (named_nodes G trees) listing
   where
-    later : rule_at (with_names D (inserted D G n index (named G trees))) s n row_key ≡ Some rule
-    later = rule_later s D (with_names D (inserted D G n index (named G trees))) (named_later D (inserted D G n index (named G trees))) n row_key rule ruled
+    later : rule_at (with_names D (intent_to_insert D G n index (named_nodes G trees))) s n row_key ≡ Some rule
+    later = rule_later s D (with_names D (intent_to_insert D G n index (named_nodes G trees))) (named_later D (intent_to_insert D G n index (named_nodes G trees))) n row_key rule ruled
 
-    row_made : (x : FlatNode) (r : NodeId) (c : CellId) → Has (named G trees) x → x.at ≡ FlatAt.Row r c → new_row_of (inserted D G n index (named G trees)) c ≡ Some r
+    row_made : (x : FlatNode) (r : NodeId) (c : CellId) → Has (named_nodes G trees) x → x.at ≡ FlatAt.Row r c → new_row_of (intent_to_insert D G n index (named_nodes G trees)) c ≡ Some r
     row_made x r c h e =
-        let g = under_group (named G trees) x r c h e (subst (IsUnderArray (named G trees)) e (named_under s G rule.types trees ok x h)) in
-        new_row_of-group (inserted D G n index (named G trees)) fits.itself g.0 (owned c x.node) (with_others (group_of n (left_of D n index) (top_cells (named G trees))) (groups_under (named G trees)) g.0 g.1) g.3 ∙ ap (λ n. Some n) g.2
+        let g = under_group (named_nodes G trees) x r c h e (subst (IsUnderArray (named_nodes G trees)) e (named_under s G rule.types trees ok x h)) in
+        new_row_of-group (intent_to_insert D G n index (named_nodes G trees)) fits.itself g.0 (owned c x.node) (with_others (group_of n (left_of D n index) (top_cells (named_nodes G trees))) (groups_under (named_nodes G trees)) g.0 g.1) g.3 ∙ ap (λ n. Some n) g.2
 
-    top_made : (x : FlatNode) (c : CellId) → Has (named G trees) x → x.at ≡ FlatAt.Top c → new_row_of (inserted D G n index (named G trees)) c ≡ Some n
+    top_made : (x : FlatNode) (c : CellId) → Has (named_nodes G trees) x → x.at ≡ FlatAt.Top c → new_row_of (intent_to_insert D G n index (named_nodes G trees)) c ≡ Some n
     top_made x c h e =
-        let g = top_group (named G trees) n (left_of D n index) x c h e in
-        new_row_of-group (inserted D G n index (named G trees)) fits.itself g.0 (owned c x.node) (with_first (group_of n (left_of D n index) (top_cells (named G trees))) (groups_under (named G trees)) g.0 g.1) g.3 ∙ ap (λ n. Some n) g.2
+        let g = top_group (named_nodes G trees) n (left_of D n index) x c h e in
+        new_row_of-group (intent_to_insert D G n index (named_nodes G trees)) fits.itself g.0 (owned c x.node) (with_first (group_of n (left_of D n index) (top_cells (named_nodes G trees))) (groups_under (named_nodes G trees)) g.0 g.1) g.3 ∙ ap (λ n. Some n) g.2
 
-    top_goes : (x : FlatNode) (c : CellId) → Has (named G trees) x → x.at ≡ FlatAt.Top c → has_type (with_names D (inserted D G n index (named G trees))) rule.types x.node ≡ true → home x.node ≡ None
-        → MayGo s home D (inserted D G n index (named G trees)) x.node (To.Cell c)
+    top_goes : (x : FlatNode) (c : CellId) → Has (named_nodes G trees) x → x.at ≡ FlatAt.Top c → has_type (with_names D (intent_to_insert D G n index (named_nodes G trees))) rule.types x.node ≡ true → home x.node ≡ None
+        → MayGo s home D (intent_to_insert D G n index (named_nodes G trees)) x.node (To.Cell c)
     top_goes x c h e typed free = (
       n,
       rw (fits.fresh_cells c (ap is_some (top_made x c h e))) (top_made x c h e),
       record { rule = rule; ruled = later; kind = row; typed = typed; at_home = λ required. absurd (true-false required (required_not_row rule.kind row)); away = λ f q. absurd (no_home home x.node f free q) },
     )
 
-    listing : MakesListed s home D (inserted D G n index (named G trees)) rule.types None (named G trees)
+    listing : MakesListed s home D (intent_to_insert D G n index (named_nodes G trees)) rule.types None (named_nodes G trees)
     listing = record {
       fits = fits;
       new = refl;
@@ -264,7 +265,7 @@ inserted_agrees s home D G n index rule trees schema ruled row ok fits own = lis
       items = named_allowed s G rule.types trees schema ok;
       rows = row_made;
       tops = top_goes;
-      cleared = λ f e. register_from None (named G trees) f (clears-has (registers (named G trees)) f e);
+      cleared = λ f e. register_from None (named_nodes G trees) f (clears-has (registers (named_nodes G trees)) f e);
       own = own;
     }
 
@@ -273,14 +274,14 @@ pub insert_agrees : (s : SchemaView) (home : NodeId → Option FieldId) (D : Doc
 insert_agrees s home D G at key index trees N sound schema nodes cells own e =
     let n = passed (walk D at) _ N e in
     let rule = passed (rule_for field.Row D s n.0 key) _ N n.2 in
-    let at_end = passed (require (nat_le index (row_length D n.0)) Range) (λ _. and_then (allowed_nodes s G rule.0 trees) (λ xs. Ok (inserted D G n.0 index xs))) N rule.2 in
-    let xs = passed (allowed_nodes s G rule.0 trees) (λ xs. Ok (inserted D G n.0 index xs)) N at_end.2 in
-    let is : inserted D G n.0 index xs.0 ≡ N = cc in
+    let at_end = passed (require (nat_le index (row_length D n.0)) Range) (λ _. and_then (allowed_nodes s G rule.0 trees) (λ xs. Ok (intent_to_insert D G n.0 index xs))) N rule.2 in
+    let xs = passed (allowed_nodes s G rule.0 trees) (λ xs. Ok (intent_to_insert D G n.0 index xs)) N at_end.2 in
+    let is : intent_to_insert D G n.0 index xs.0 ≡ N = cc in
     let here = rule_found is_row D s n.0 key rule.0 rule.1 in
     let t = ruled D s n.0 key rule.0 here.0 in
     let empty = (row_of_array s schema t.1.0.ty key.0 rule.0 t.1.1 here.1).0 in
     let ok = is_allowed s G rule.0 trees xs.0 xs.1 in
-    let same : inserted D G n.0 index (named G trees) ≡ N = ap (inserted D G n.0 index) ok.1 ∙ is in
+    let same : intent_to_insert D G n.0 index (named_nodes G trees) ≡ N = ap (intent_to_insert D G n.0 index) ok.1 ∙ is in
     subst (KeepsSchema s home D) same
     (inserted_agrees s home D G n.0 index rule.0 trees schema (subst (λ k. rule_at D s n.0 k ≡ Some rule.0) (key_is key empty) here.0) here.1 ok.0
     (subst (Fits D) (sym same) (insert_fits D s G at key index trees N sound nodes cells e)) (subst (TellsHomes home) (sym same) own))
@@ -288,27 +289,27 @@ insert_agrees s home D G at key index trees N sound schema nodes cells own e =
 -- ## A new item in a field
 
 -- the top item of one tree
-top_there : (G : NameCounters) (t : Node) → (x : FlatNode) × Has (named G (first t no_nodes)) x × ((c : CellId) × (x.at ≡ FlatAt.Top c))
+top_there : (G : NameCounters) (t : Node) → (x : FlatNode) × Has (named_nodes G (first t no_nodes)) x × ((c : CellId) × (x.at ≡ FlatAt.Top c))
 top_there G (node ty leaf fs) = (_, inl refl, (_, refl))
 
 placed_agrees : (s : SchemaView) (home : NodeId → Option FieldId) (D : Document) (G : NameCounters) (f : FieldId) (rule : FieldRule) (t : Node) → is_sound s ≡ true
     → rule_at D s f.node f.key ≡ Some rule → is_single_kind rule.kind ≡ true → list_all (λ ok. ok) (items_verdicts s rule.types (first t no_nodes)) ≡ true
-    → Fits D (intent_to_place D G f (named G (first t no_nodes))) → TellsHomes home (intent_to_place D G f (named G (first t no_nodes))) → KeepsSchema s home D (intent_to_place D G f (named G (first t no_nodes)))
-placed_agrees s home D G f rule t schema ruled single ok fits own = listed_agrees s home D (intent_to_place D G f (named G (first t no_nodes))) rule.types (Some f) (named G (first t no_nodes)) listing
+    → Fits D (intent_to_place D G f (named_nodes G (first t no_nodes))) → TellsHomes home (intent_to_place D G f (named_nodes G (first t no_nodes))) → KeepsSchema s home D (intent_to_place D G f (named_nodes G (first t no_nodes)))
+placed_agrees s home D G f rule t schema ruled single ok fits own = listed_agrees s home D (intent_to_place D G f (named_nodes G (first t no_nodes))) rule.types (Some f) (named_nodes G (first t no_nodes)) listing
   where
-    later : rule_at (with_names D (intent_to_place D G f (named G (first t no_nodes)))) s f.node f.key ≡ Some rule
-    later = rule_later s D (with_names D (intent_to_place D G f (named G (first t no_nodes)))) (named_later D (intent_to_place D G f (named G (first t no_nodes)))) f.node f.key rule ruled
+    later : rule_at (with_names D (intent_to_place D G f (named_nodes G (first t no_nodes)))) s f.node f.key ≡ Some rule
+    later = rule_later s D (with_names D (intent_to_place D G f (named_nodes G (first t no_nodes)))) (named_later D (intent_to_place D G f (named_nodes G (first t no_nodes)))) f.node f.key rule ruled
 
-    row_made : (x : FlatNode) (r : NodeId) (c : CellId) → Has (named G (first t no_nodes)) x → x.at ≡ FlatAt.Row r c → new_row_of (intent_to_place D G f (named G (first t no_nodes))) c ≡ Some r
+    row_made : (x : FlatNode) (r : NodeId) (c : CellId) → Has (named_nodes G (first t no_nodes)) x → x.at ≡ FlatAt.Row r c → new_row_of (intent_to_place D G f (named_nodes G (first t no_nodes))) c ≡ Some r
     row_made x r c h e =
-        let g = under_group (named G (first t no_nodes)) x r c h e (subst (IsUnderArray (named G (first t no_nodes))) e (named_under s G rule.types (first t no_nodes) ok x h)) in
-        new_row_of-group (intent_to_place D G f (named G (first t no_nodes))) fits.itself g.0 (owned c x.node) g.1 g.3 ∙ ap (λ n. Some n) g.2
+        let g = under_group (named_nodes G (first t no_nodes)) x r c h e (subst (IsUnderArray (named_nodes G (first t no_nodes))) e (named_under s G rule.types (first t no_nodes) ok x h)) in
+        new_row_of-group (intent_to_place D G f (named_nodes G (first t no_nodes))) fits.itself g.0 (owned c x.node) g.1 g.3 ∙ ap (λ n. Some n) g.2
 
-    cleared_from : (g : FieldId) → Has (f ∷ registers (named G (first t no_nodes))) g → (x : FlatNode) × Has (named G (first t no_nodes)) x × (to_at (Some f) x.at ≡ To.Register g)
+    cleared_from : (g : FieldId) → Has (f ∷ registers (named_nodes G (first t no_nodes))) g → (x : FlatNode) × Has (named_nodes G (first t no_nodes)) x × (to_at (Some f) x.at ≡ To.Register g)
     cleared_from g (inl q) = let x = top_there G t in (x.0, x.1, ap (to_at (Some f)) x.2.1 ∙ ap (λ g. To.Register g) q)
-    cleared_from g (inr h) = register_from (Some f) (named G (first t no_nodes)) g h
+    cleared_from g (inr h) = register_from (Some f) (named_nodes G (first t no_nodes)) g h
 
-    listing : MakesListed s home D (intent_to_place D G f (named G (first t no_nodes))) rule.types (Some f) (named G (first t no_nodes))
+    listing : MakesListed s home D (intent_to_place D G f (named_nodes G (first t no_nodes))) rule.types (Some f) (named_nodes G (first t no_nodes))
     listing = record {
       fits = fits;
       new = refl;
@@ -316,7 +317,7 @@ placed_agrees s home D G f rule t schema ruled single ok fits own = listed_agree
       items = named_allowed s G rule.types (first t no_nodes) schema ok;
       rows = row_made;
       tops = λ x c h e typed lives. record { rule = rule; ruled = later; kind = single; typed = typed; at_home = λ required. lives; away = λ g q. inl (one_home home x.node f g lives q) };
-      cleared = λ g e. cleared_from g (clears-has (f ∷ registers (named G (first t no_nodes))) g e);
+      cleared = λ g e. cleared_from g (clears-has (f ∷ registers (named_nodes G (first t no_nodes))) g e);
       own = own;
     }
 
@@ -329,7 +330,7 @@ put_agrees s home D G at key t N sound schema nodes cells own e =
     let is : intent_to_place D G (field_at n.0 key) xs.0 ≡ N = cc in
     let here = rule_found is_single_kind D s n.0 key taken.0 taken.1 in
     let ok = is_allowed s G taken.0 (first t no_nodes) xs.0 xs.1 in
-    let same : intent_to_place D G (field_at n.0 key) (named G (first t no_nodes)) ≡ N = ap (intent_to_place D G (field_at n.0 key)) ok.1 ∙ is in
+    let same : intent_to_place D G (field_at n.0 key) (named_nodes G (first t no_nodes)) ≡ N = ap (intent_to_place D G (field_at n.0 key)) ok.1 ∙ is in
     subst (KeepsSchema s home D) same
     (placed_agrees s home D G (field_at n.0 key) taken.0 t schema here.0 here.1 ok.0
     (subst (Fits D) (sym same) (put_fits D s G at key t N sound schema nodes cells e)) (subst (TellsHomes home) (sym same) own))

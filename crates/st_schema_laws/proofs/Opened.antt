@@ -13,9 +13,9 @@ use Rattle.st_tree.specs.declared.flat.FlatAt.{FlatAt}
 use Rattle.st_tree.specs.declared.flat.FlatNode.{FlatNode}
 use Rattle.st_tree.specs.Node.{Node, node, Fields, no_fields, field, Nodes, no_nodes, first}
 use Rattle.st_tree.specs.Size.{node_count, field_count, item_count}
-use Rattle.st_tree.specs.Preorder.{node_named, cells_taken, cell_count, item_cells, at_of, listed, fields_listed, items_listed, opening_listed}
-use Rattle.st_schema.specs.Schema.{SchemaView, field_of, is_among, is_single_kind, is_sound}
-use Rattle.st_schema.specs.Conforms.{is_required, verdicts, refusal, allows_of}
+use Rattle.st_tree.specs.Preorder.{node_named, cells_taken, cell_count, item_cells, at_of, tree_listed, fields_listed, items_listed, opening_listed}
+use Rattle.st_schema.specs.Schema.{SchemaView, field_of, is_among, is_sound}
+use Rattle.st_schema.specs.Conforms.{verdicts, refusal, allows_of}
 use Rattle.st_schema.specs.declared.names.FieldRule.{FieldRule}
 use Rattle.st_schema.specs.declared.names.KindName.{KindName}
 use Rattle.st_marks.specs.declared.places.Spot.{Spot}
@@ -23,7 +23,8 @@ use Rattle.st_marks.specs.Document.{Document, NodeType}
 use Rattle.st_ids.specs.Root.{root, opening}
 use Rattle.st_opening.specs.Start.{first_said, type_at, spot_at, place_at, held_at, start_of}
 use Rattle.st_edits.specs.Paths.{field_at}
-use Rattle.st_edits.specs.Resolve.{is_row, rule_at, has_type}
+use Rattle.st_edits.specs.Resolve.{rule_at, has_type}
+use Rattle.st_schema.specs.Kind.{is_required, is_row, is_single_kind}
 use Rattle.st_schema_laws.specs.Conforming.{MayStand, IsConforming, row_key, type_fits, register_in}
 use Rattle.st_schema_laws.proofs.Rules.{required_not_row}
 use Rattle.st_schema_laws.proofs.NewTrees.{no_home, one_home}
@@ -88,7 +89,7 @@ one_named rev (z ∷ xs) n x y h (inr p) (inl q) e = absurd (not_later rev xs n 
 one_named rev (z ∷ xs) n x y h (inr p) (inr q) e = one_named rev xs (n + 1) x y h.1 p q e
 
 mutual
-  listed_length : (rev : Rev) (at : FlatAt) (n c : ℕ) (t : Node) → length (listed rev at n c t) ≡ node_count t
+  listed_length : (rev : Rev) (at : FlatAt) (n c : ℕ) (t : Node) → length (tree_listed rev at n c t) ≡ node_count t
   listed_length rev at n c (node ty leaf fields) = let h = fields_length rev n (n + 1) c fields in omega (arith, h)
 
   fields_length : (rev : Rev) (owner n c : ℕ) (fs : Fields) → length (fields_listed rev owner n c fs) ≡ field_count fs
@@ -103,10 +104,10 @@ mutual
   items_length rev owner key row n c (first t ts) =
       let a = listed_length rev (at_of rev owner key row c) n (c + cells_taken row) t in
       let b = items_length rev owner key row (n + node_count t) (c + (cells_taken row + cell_count t)) ts in
-      length-append (listed rev (at_of rev owner key row c) n (c + cells_taken row) t) _ ∙ (λ i. a i + b i)
+      length-append (tree_listed rev (at_of rev owner key row c) n (c + cells_taken row) t) _ ∙ (λ i. a i + b i)
 
 mutual
-  tree_numbered : (rev : Rev) (at : FlatAt) (n c : ℕ) (t : Node) → Numbered rev (listed rev at n c t) n
+  tree_numbered : (rev : Rev) (at : FlatAt) (n c : ℕ) (t : Node) → Numbered rev (tree_listed rev at n c t) n
   tree_numbered rev at n c (node ty leaf fields) = (refl, fields_numbered rev n (n + 1) c fields)
 
   fields_numbered : (rev : Rev) (owner n c : ℕ) (fs : Fields) → Numbered rev (fields_listed rev owner n c fs) n
@@ -119,7 +120,7 @@ mutual
   items_numbered : (rev : Rev) (owner : ℕ) (key : List ℕ) (row : Bool) (n c : ℕ) (ts : Nodes) → Numbered rev (items_listed rev owner key row n c ts) n
   items_numbered rev owner key row n c no_nodes = tt
   items_numbered rev owner key row n c (first t ts) =
-      let one = listed rev (at_of rev owner key row c) n (c + cells_taken row) t in
+      let one = tree_listed rev (at_of rev owner key row c) n (c + cells_taken row) t in
       let later = items_listed rev owner key row (n + node_count t) (c + (cells_taken row + cell_count t)) ts in
       numbered_append rev one later n (tree_numbered rev (at_of rev owner key row c) n (c + cells_taken row) t)
       (numbered_at rev later (n + node_count t) _ (ap (λ k. n + k) (sym (listed_length rev (at_of rev owner key row c) n (c + cells_taken row) t)))

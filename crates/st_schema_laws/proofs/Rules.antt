@@ -8,8 +8,8 @@ use Rattle.std.specs.declared.cmp.Ordering.TheVariants.{Less, Equal}
 use Rattle.std.proofs.lemmas.Cmp.{tied_itself}
 use Rattle.st_ids.specs.Listing.{AreDistinct, Has}
 use Rattle.st_ids.specs.declared.names.Leaf.{Leaf}
-use Rattle.st_schema.specs.Schema.{SchemaView, same, is_among, is_key, form_of, declared, field_in, field_of, field_is_sound, form_is_sound, defs_rise, type_names, forms_are_sound, names_are_sound, is_type_name, leaf_types, is_single_kind, is_distinct, is_sound}
-use Rattle.st_schema.specs.Conforms.{leaf_type, is_required}
+use Rattle.st_schema.specs.Schema.{SchemaView, same, is_among, is_key, form_of, declared_field, field_in, field_of, field_is_sound, form_is_sound, defs_rise, type_names, forms_are_sound, names_are_sound, is_type_name, leaf_types, is_distinct, is_sound}
+use Rattle.st_schema.specs.Conforms.{leaf_type}
 use Rattle.st_schema.specs.declared.names.FieldDef.{FieldDef}
 use Rattle.st_schema.specs.declared.names.FieldRule.{FieldRule}
 use Rattle.st_schema.specs.declared.names.Form.{Form}
@@ -17,7 +17,7 @@ use Rattle.st_schema.specs.declared.names.Form.TheVariants.{Array, Map, Object}
 use Rattle.st_schema.specs.declared.names.KindName.{KindName}
 use Rattle.st_schema.specs.declared.names.KindName.TheVariants.{Required, Optional, Sequence}
 use Rattle.st_marks.proofs.Members.{has-all, first-has, first-distinct, map-has}
-use Rattle.st_edits.specs.Resolve.{is_row, is_optional}
+use Rattle.st_schema.specs.Kind.{is_optional, is_required, is_row, is_single_kind}
 use Rattle.st_lemmas.proofs.Orders.{is_lt-Less}
 use Rattle.st_edits.proofs.Fits.{all_pass}
 use Rattle.st_schema.proofs.Forms.{text_same}
@@ -73,7 +73,7 @@ module _ (s : SchemaView) (sound : is_sound s ≡ true) where
       ap (form_is_sound (type_names s.types)) (sym w.3) ∙ all_pass (form_is_sound (type_names s.types)) (map (λ d. d.1) s.types) w.0.1 forms (map-has (λ (d : List ℕ × Form). d.1) s.types w.0 w.1)
 
   -- a declared field is of a single kind
-  pub declared_single : (ty key : List ℕ) (defs : List FieldDef) (d : FieldDef) → form_of s.types ty ≡ Some (Object defs) → declared defs key ≡ Some d → (is_key d.key.0 ≡ true) × (is_single_kind d.kind ≡ true)
+  pub declared_single : (ty key : List ℕ) (defs : List FieldDef) (d : FieldDef) → form_of s.types ty ≡ Some (Object defs) → declared_field defs key ≡ Some d → (is_key d.key.0 ≡ true) × (is_single_kind d.kind ≡ true)
   declared_single ty key defs d e f =
       let w = first-has (λ (f : FieldDef). same f.key.0 key) defs d f in
       let all = (and-true (nat_le (length defs) 64) _ (form_sound ty (Object defs) e)).1 in
@@ -92,9 +92,9 @@ module _ (s : SchemaView) (sound : is_sound s ≡ true) where
           map_is : (b : Bool) → cond b (Some (record { kind = Optional; types = types })) None ≡ Some rule → (k ≡ []) × (form_of s.types ty ≡ Some (Array rule.types))
           map_is true g = let r : record { kind = Optional; types = types } ≡ rule = cc in absurd (true-false row (ap (λ (r : FieldRule). is_row r.kind) (sym r)))
           map_is false g = cc
-      found (Object defs) q k f = object_is (declared defs k) refl f
+      found (Object defs) q k f = object_is (declared_field defs k) refl f
         where
-          object_is : (o : Option FieldDef) → declared defs k ≡ o → option_map (λ (f : FieldDef). record { kind = f.kind; types = f.types }) o ≡ Some rule → (k ≡ []) × (form_of s.types ty ≡ Some (Array rule.types))
+          object_is : (o : Option FieldDef) → declared_field defs k ≡ o → option_map (λ (f : FieldDef). record { kind = f.kind; types = f.types }) o ≡ Some rule → (k ≡ []) × (form_of s.types ty ≡ Some (Array rule.types))
           object_is None h g = cc
           object_is (Some d) h g =
               let r : record { kind = d.kind; types = d.types } ≡ rule = cc in
@@ -126,7 +126,7 @@ module _ (s : SchemaView) (sound : is_sound s ≡ true) where
           absurd (true-false apart (ap not in_leaves))
 
   -- keys of declared fields rise, so each is found by its key
-  pub rising_defs : (ty : List ℕ) (defs : List FieldDef) (d : FieldDef) → form_of s.types ty ≡ Some (Object defs) → Has defs d → declared defs d.key.0 ≡ Some d
+  pub rising_defs : (ty : List ℕ) (defs : List FieldDef) (d : FieldDef) → form_of s.types ty ≡ Some (Object defs) → Has defs d → declared_field defs d.key.0 ≡ Some d
   rising_defs ty defs d e h =
       let all = (and-true (nat_le (length defs) 64) _ (form_sound ty (Object defs) e)).1 in
       let rise = (and-true (list_all (field_is_sound (type_names s.types)) defs) _ all).1 in

@@ -15,8 +15,8 @@ use Rattle.st_ids.specs.declared.names.FieldId.{FieldId}
 use Rattle.st_ids.specs.declared.names.NodeId.{NodeId}
 use Rattle.st_tree.specs.Node.{Node, node, Fields, no_fields, field, Nodes, no_nodes, first}
 use Rattle.st_tree.specs.Form.{is_single, keys_rise}
-use Rattle.st_schema.specs.Schema.{SchemaView, same, is_among, form_of, declared, field_in, field_of, is_single_kind, is_sound}
-use Rattle.st_schema.specs.Conforms.{leaf_type, is_required, has_key, have_rules, fields_fit, is_as_typed, types_in, types_under, verdicts, fields_verdicts, items_verdicts, conforms}
+use Rattle.st_schema.specs.Schema.{SchemaView, same, is_among, form_of, declared_field, field_in, field_of, is_sound}
+use Rattle.st_schema.specs.Conforms.{leaf_type, has_key, have_rules, fields_fit, is_as_typed, types_in, types_under, verdicts, fields_verdicts, items_verdicts, conforms}
 use Rattle.st_schema.specs.TreeText as text
 use Rattle.st_schema.specs.TreeText.{tree_data, body_data, members_data, trees_data}
 use Rattle.st_schema.specs.declared.names.FieldDef.{FieldDef}
@@ -31,7 +31,8 @@ use Rattle.st_marks.specs.Document.{Document, NodeType, IsSoundInForm, slot, con
 use Rattle.st_ids.specs.Root.{root}
 use Rattle.st_marks.specs.LiveTree.{Shows, shows_leaf, shows_row, shows_registers, ShowsItems, no_more_items, next_item, ShowsMembers, no_more_members, next_member, leaf_data, one_member, owners_shown, key_at, register}
 use Rattle.st_marks.proofs.Members.{has-map}
-use Rattle.st_edits.specs.Resolve.{is_row, rule_at, has_type}
+use Rattle.st_edits.specs.Resolve.{rule_at, has_type}
+use Rattle.st_schema.specs.Kind.{is_required, is_row, is_single_kind}
 use Rattle.st_ids.proofs.Orders.{same_cell-true}
 use Rattle.st_schema_laws.specs.Conforming.{Admits, MayStand, IsConforming, row_key}
 use Rattle.st_edits.specs.ArrayTypes.{is_array_form, is_array_type}
@@ -215,7 +216,7 @@ module _ (s : SchemaView) (schema : is_sound s ≡ true) (home : NodeId → Opti
               need : (b : Bool) → is_required d.kind ≡ b → (not b || has_key fs d.key.0) ≡ true
               need false r = refl
               need true r =
-                  let own : declared defs d.key.0 ≡ Some d = rising_defs s schema t.ty defs d f i in
+                  let own : declared_field defs d.key.0 ≡ Some d = rising_defs s schema t.ty defs d f i in
                   let rule : field_in (Object defs) d.key.0 ≡ Some (record { kind = d.kind; types = d.types }) = ap (option_map (λ (f : FieldDef). record { kind = f.kind; types = f.types })) own in
                   key_had ks fs d.key.0 h (held_listed n ks d.key.0 l (here.filled n d.key (record { kind = d.kind; types = d.types }) (rule_from n t (Object defs) d.key _ q f rule) r))
 

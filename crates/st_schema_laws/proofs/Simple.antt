@@ -10,8 +10,7 @@ use Rattle.st_ids.specs.declared.names.NodeId.{NodeId}
 use Rattle.st_ids.specs.declared.names.Place.{Place}
 use Rattle.st_ids.specs.declared.names.Rev.{Rev}
 use Rattle.st_tree.specs.declared.edit.EditFault.TheVariants.{Kind, Range, Inside}
-use Rattle.st_schema.specs.Schema.{SchemaView, is_single_kind, is_sound}
-use Rattle.st_schema.specs.Conforms.{is_required}
+use Rattle.st_schema.specs.Schema.{SchemaView, is_sound}
 use Rattle.st_schema.specs.declared.names.FieldRule.{FieldRule}
 use Rattle.st_schema.specs.declared.names.KindName.{KindName}
 use Rattle.st_schema.specs.declared.names.KindName.TheVariants.{Required, Optional, Sequence}
@@ -30,7 +29,8 @@ use Rattle.st_marks.proofs.Members.{has-map}
 use Rattle.st_marks.specs.LiveTree.{live_slots}
 use Rattle.st_edits.specs.Paths.{and_then, or_refuse, field_at, items_from, left_of, row_length}
 use Rattle.st_edits.specs.New.{group_of}
-use Rattle.st_edits.specs.Resolve.{need, remove, intent_to_remove, clear, move, intent_to_move, moved_to_field, in_cells, cells_for, empty_intent, walk, rule_for, rule_at, within_row, of_kind, is_optional, is_open, is_row, nodes_taken, is_inside, is_there, may_move, nodes_allowed, names_left, cells_taken, has_type, with_group, require}
+use Rattle.st_edits.specs.Resolve.{need, remove, intent_to_remove, clear, move, intent_to_move, moved_to_field, in_cells, cells_for, empty_intent, walk, rule_for, rule_at, within_row, of_kind, nodes_taken, is_inside, is_there, may_move, nodes_allowed, names_left, cells_taken, has_type, with_group, require}
+use Rattle.st_schema.specs.Kind.{is_open, is_optional, is_required, is_row, is_single_kind}
 use Rattle.st_edits.specs.declared.names.NameCounters.{NameCounters}
 use Rattle.st_edits.specs.declared.names.Takes.TheVariants as field
 use Rattle.st_edits.proofs.Fits.{passed, found, shown, ruled, optional_single}

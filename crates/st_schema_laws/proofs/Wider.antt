@@ -7,9 +7,8 @@ use Rattle.st_ids.specs.declared.names.FieldId.{FieldId}
 use Rattle.st_ids.specs.declared.names.Key.{Key}
 use Rattle.st_ids.specs.declared.names.Leaf.{Leaf}
 use Rattle.st_ids.specs.declared.names.NodeId.{NodeId}
-use Rattle.st_schema.specs.Schema.{SchemaView, same, is_among, is_key, form_of, declared, field_in, field_of, is_single_kind, is_sound}
-use Rattle.st_schema.specs.Conforms.{is_required}
-use Rattle.st_schema.specs.Wider.{contains_all, is_optional, kind_widens, widens_found, def_widens, defs_widen, form_widens, types_widen, wider_of}
+use Rattle.st_schema.specs.Schema.{SchemaView, same, is_among, is_key, form_of, declared_field, field_in, field_of, is_sound}
+use Rattle.st_schema.specs.Wider.{contains_all, kind_widens, widens_found, def_widens, defs_widen, form_widens, types_widen, wider_of}
 use Rattle.st_schema.specs.declared.names.FieldDef.{FieldDef}
 use Rattle.st_schema.specs.declared.names.FieldRule.{FieldRule}
 use Rattle.st_schema.specs.declared.names.Form.{Form}
@@ -24,7 +23,8 @@ use Rattle.st_ids.specs.Root.{root}
 use Rattle.st_marks.specs.Intent.{new_type}
 use Rattle.st_marks.specs.CarryOut.{with_names}
 use Rattle.st_marks.proofs.Members.{first-has}
-use Rattle.st_edits.specs.Resolve.{is_row, rule_at, has_type}
+use Rattle.st_edits.specs.Resolve.{rule_at, has_type}
+use Rattle.st_schema.specs.Kind.{is_optional, is_required, is_row, is_single_kind}
 use Rattle.st_schema_laws.specs.Conforming.{Admits, MayStand, IsConforming, IsFree, row_key, type_fits, is_required_field}
 use Rattle.st_schema_laws.specs.Agreeing.{KeepsSchema, MayGo, MayBeLeft}
 use Rattle.st_schema_laws.proofs.Kept.{one_rule, required_by, required_rule}
@@ -70,15 +70,15 @@ some_there None h = absurd (cc)
 some_there (Some x) h = (x, refl)
 
 -- a field that the old object declares is declared by the new one, and is wider there
-declared_wider : (olds news : List FieldDef) (key : List ℕ) (o : FieldDef) → defs_widen olds news ≡ true → declared olds key ≡ Some o
-    → (n : FieldDef) × (declared news key ≡ Some n) × (kind_widens o.kind n.kind ≡ true) × (contains_all n.types o.types ≡ true)
+declared_wider : (olds news : List FieldDef) (key : List ℕ) (o : FieldDef) → defs_widen olds news ≡ true → declared_field olds key ≡ Some o
+    → (n : FieldDef) × (declared_field news key ≡ Some n) × (kind_widens o.kind n.kind ≡ true) × (contains_all n.types o.types ≡ true)
 declared_wider olds news key o wide e =
-    let parts = and-true (list_all (λ (old : FieldDef). is_some (declared news old.key.0)) olds) (list_all (def_widens olds) news) wide in
+    let parts = and-true (list_all (λ (old : FieldDef). is_some (declared_field news old.key.0)) olds) (list_all (def_widens olds) news) wide in
     let there = first-has (λ (f : FieldDef). same f.key.0 key) olds o e in
-    let new = some_there (declared news key) (ap (λ k. is_some (declared news k)) (sym (text_same o.key.0 key there.1)) ∙ all_pass (λ (old : FieldDef). is_some (declared news old.key.0)) olds o parts.0 there.0) in
+    let new = some_there (declared_field news key) (ap (λ k. is_some (declared_field news k)) (sym (text_same o.key.0 key there.1)) ∙ all_pass (λ (old : FieldDef). is_some (declared_field news old.key.0)) olds o parts.0 there.0) in
     let found = first-has (λ (f : FieldDef). same f.key.0 key) news new.0 new.1 in
-    let widens : widens_found (declared olds new.0.key.0) new.0 ≡ true = all_pass (def_widens olds) news new.0 parts.1 found.0 in
-    let at : declared olds new.0.key.0 ≡ Some o = ap (declared olds) (text_same new.0.key.0 key found.1) ∙ e in
+    let widens : widens_found (declared_field olds new.0.key.0) new.0 ≡ true = all_pass (def_widens olds) news new.0 parts.1 found.0 in
+    let at : declared_field olds new.0.key.0 ≡ Some o = ap (declared_field olds) (text_same new.0.key.0 key found.1) ∙ e in
     let b = and-true (kind_widens o.kind new.0.kind) (contains_all new.0.types o.types) (ap (λ (p : Option FieldDef). widens_found p new.0) (sym at) ∙ widens) in
     (new.0, new.1, b.0, b.1)
 
@@ -100,9 +100,9 @@ rule_wider (Map old) (Map new) key rule wide e = go (is_key key) e
 rule_wider (Map old) (Object new) key rule wide e = absurd (cc)
 rule_wider (Object olds) (Array new) key rule wide e = absurd (cc)
 rule_wider (Object olds) (Map new) key rule wide e = absurd (cc)
-rule_wider (Object olds) (Object news) key rule wide e = go (declared olds key) refl e
+rule_wider (Object olds) (Object news) key rule wide e = go (declared_field olds key) refl e
   where
-    go : (o : Option FieldDef) → declared olds key ≡ o → option_map (λ (f : FieldDef). record { kind = f.kind; types = f.types }) o ≡ Some rule → (r : FieldRule) × (field_in (Object news) key ≡ Some r) × Widens rule r
+    go : (o : Option FieldDef) → declared_field olds key ≡ o → option_map (λ (f : FieldDef). record { kind = f.kind; types = f.types }) o ≡ Some rule → (r : FieldRule) × (field_in (Object news) key ≡ Some r) × Widens rule r
     go None q f = absurd (cc)
     go (Some o) q f =
         let is : record { kind = o.kind; types = o.types } ≡ rule = cc in
@@ -124,9 +124,9 @@ required_before f (Map new) key r wide e required = go (is_key key) e
     go false q = absurd (cc)
 required_before (Array old) (Object news) key r wide e required = absurd (cc)
 required_before (Map old) (Object news) key r wide e required = absurd (cc)
-required_before (Object olds) (Object news) key r wide e required = go (declared news key) refl e
+required_before (Object olds) (Object news) key r wide e required = go (declared_field news key) refl e
   where
-    was : (n : FieldDef) → is_required n.kind ≡ true → (o : Option FieldDef) → declared olds key ≡ o → widens_found o n ≡ true → (rule : FieldRule) × (field_in (Object olds) key ≡ Some rule) × (is_required rule.kind ≡ true)
+    was : (n : FieldDef) → is_required n.kind ≡ true → (o : Option FieldDef) → declared_field olds key ≡ o → widens_found o n ≡ true → (rule : FieldRule) × (field_in (Object olds) key ≡ Some rule) × (is_required rule.kind ≡ true)
     was n need None q w = absurd (not_optional n.kind w need)
     was n need (Some o) q w = (
       record { kind = o.kind; types = o.types },
@@ -134,13 +134,13 @@ required_before (Object olds) (Object news) key r wide e required = go (declared
       only_required o.kind n.kind (and-true (kind_widens o.kind n.kind) _ w).0 need,
     )
 
-    go : (p : Option FieldDef) → declared news key ≡ p → option_map (λ (f : FieldDef). record { kind = f.kind; types = f.types }) p ≡ Some r → (rule : FieldRule) × (field_in (Object olds) key ≡ Some rule) × (is_required rule.kind ≡ true)
+    go : (p : Option FieldDef) → declared_field news key ≡ p → option_map (λ (f : FieldDef). record { kind = f.kind; types = f.types }) p ≡ Some r → (rule : FieldRule) × (field_in (Object olds) key ≡ Some rule) × (is_required rule.kind ≡ true)
     go None q h = absurd (cc)
     go (Some n) q h =
         let is : record { kind = n.kind; types = n.types } ≡ r = cc in
         let found = first-has (λ (f : FieldDef). same f.key.0 key) news n q in
-        let widens : widens_found (declared olds n.key.0) n ≡ true = all_pass (def_widens olds) news n (and-true (list_all (λ (old : FieldDef). is_some (declared news old.key.0)) olds) (list_all (def_widens olds) news) wide).1 found.0 in
-        was n (ap (λ (r : FieldRule). is_required r.kind) is ∙ required) (declared olds key) refl (ap (λ k. widens_found (declared olds k) n) (sym (text_same n.key.0 key found.1)) ∙ widens)
+        let widens : widens_found (declared_field olds n.key.0) n ≡ true = all_pass (def_widens olds) news n (and-true (list_all (λ (old : FieldDef). is_some (declared_field news old.key.0)) olds) (list_all (def_widens olds) news) wide).1 found.0 in
+        was n (ap (λ (r : FieldRule). is_required r.kind) is ∙ required) (declared_field olds key) refl (ap (λ k. widens_found (declared_field olds k) n) (sym (text_same n.key.0 key found.1)) ∙ widens)
 
 -- ## The form of a type
 

@@ -5,15 +5,16 @@ use Rattle.st_ids.specs.declared.names.FieldId.{FieldId}
 use Rattle.st_ids.specs.declared.names.Key.{Key}
 use Rattle.st_ids.specs.declared.names.Leaf.{Leaf}
 use Rattle.st_ids.specs.declared.names.NodeId.{NodeId}
-use Rattle.st_schema.specs.Schema.{SchemaView, same, form_of, is_single_kind}
-use Rattle.st_schema.specs.Conforms.{leaf_type, is_required}
+use Rattle.st_schema.specs.Schema.{SchemaView, same, form_of}
+use Rattle.st_schema.specs.Conforms.{leaf_type}
 use Rattle.st_schema.specs.declared.names.FieldRule.{FieldRule}
 use Rattle.st_schema.specs.declared.names.KindName.{KindName}
 use Rattle.st_marks.specs.declared.places.Spot.{Spot}
 use Rattle.st_marks.specs.Document.{Document, NodeType}
 use Rattle.st_ids.specs.Root.{root}
 use Rattle.st_edits.specs.Paths.{field_at}
-use Rattle.st_edits.specs.Resolve.{is_row, rule_at, has_type}
+use Rattle.st_edits.specs.Resolve.{rule_at, has_type}
+use Rattle.st_schema.specs.Kind.{is_required, is_row, is_single_kind}
 
 -- a leaf has the type of its value, and any other node a type that the schema defines
 abbrev pub type_fits : SchemaView → List ℕ → Option Leaf → Bool

@@ -14,9 +14,9 @@ use Rattle.st_tree.specs.Node.{Node, nodes_of}
 use Rattle.st_tree.specs.Size.{check_of, check_items}
 use Rattle.st_tree.specs.declared.limits.TreeFault.{TreeFault}
 use Rattle.st_schema.specs.TreeText.{tree_of, tree_in, tree_data, within_limits}
-use Rattle.st_script.specs.Line.{line_of, judged}
+use Rattle.st_script.specs.Line.{line_of, step_of_value}
 use Rattle.st_script.specs.Members.{client_named, client_in, small, as_small, number_in, number_or, at_least_one, one_or_more, count_of, key_within, key_of, key_or_empty, place_of, places_in, short_path, path_in, trees_in, few, items_in, item_in}
-use Rattle.st_script.specs.Steps.{StepView, join, insert, remove, move, set, clear, sequence, deliver, show, IsOfForm, same, actor_of, target_of, site_of, span_of, goal_of, read_insert, read_remove, read_move, read_set, read_clear, read_show, lone_client, read_of, word_of, step_of}
+use Rattle.st_script.specs.Steps.{StepView, join, insert, remove, move, set, clear, sequence, deliver, show, IsWithinLimits, same, actor_of, target_of, site_of, span_of, goal_of, read_insert, read_remove, read_move, read_set, read_clear, read_show, lone_client, read_of, word_of, step_of}
 use Rattle.st_script.specs.StepText.{IsName, IsActor, ArePlaces, IsTarget, IsSpan, IsShown, AreShown, AreItems, FitsLine}
 use Rattle.st_script.specs.declared.read.Actor.{Actor}
 use Rattle.st_script.specs.declared.read.Goal.{Goal}
@@ -263,7 +263,7 @@ line_fits bytes s e = go (line_value bytes) (line_sound bytes) e
     step None h f = absurd cc
     step (Some x) h f = let same_step : x ≡ s = cc in subst FitsLine same_step h
 
-    go : (o : Option Data) → Holds Sound o → judged o ≡ Ok s → FitsLine s
+    go : (o : Option Data) → Holds Sound o → step_of_value o ≡ Ok s → FitsLine s
     go None h e = absurd cc
     go (Some d) h e = step (step_of d) (value_step_fits d h) e
 
@@ -276,7 +276,7 @@ shown_within : (t : Node) → IsShown t → check_of t ≡ Ok tt
 shown_within t e = subst (Holds (λ u. check_of u ≡ Ok tt)) e (limited (tree_in (tree_data t) 48))
 
 -- a step that a line can hold keeps the limits
-pub fits_form : (s : StepView) → FitsLine s → IsOfForm s
+pub fits_form : (s : StepView) → FitsLine s → IsWithinLimits s
 fits_form (join client) h = tt
 fits_form (insert client branch at key index items) h = (h.3.1, h.1.0)
 fits_form (remove client branch at key index count) h = h.1.0

@@ -7,9 +7,9 @@ use Rattle.st_json.specs.Line.{line_value}
 use Rattle.st_json.specs.declared.fault.BadCause.{BadCause}
 use Rattle.st_schema.specs.Schema.{SchemaView, is_sound}
 use Rattle.st_schema.specs.Reading.{schema_of}
-use Rattle.st_script.specs.Header.{HeaderView, header_line, header_or_cause, header_of, opened, may_open, parts_of, sound_schema, schema_in, tree_in, history_or_64, is_begun}
+use Rattle.st_script.specs.Header.{HeaderView, header_line, header_or_cause, header_of, header_that_opens, may_open, parts_of, sound_schema, schema_in, tree_in, history_or_64, is_begun}
 use Rattle.st_script.specs.Line.{line_of}
-use Rattle.st_script.specs.Steps.{StepView, IsOfForm}
+use Rattle.st_script.specs.Steps.{StepView, IsWithinLimits}
 use Rattle.st_script.proofs.Fits.{line_fits, fits_form}
 use Rattle.st_lemmas.proofs.Options.{option_map-Some, option_and_then-Some}
 
@@ -22,15 +22,15 @@ guarded false o y e = absurd cc
 -- ## Steps
 
 -- the step of a line keeps the limits
-pub line_formed : (bytes : List ℕ) (s : StepView) → line_of bytes ≡ Ok s → IsOfForm s
+pub line_formed : (bytes : List ℕ) (s : StepView) → line_of bytes ≡ Ok s → IsWithinLimits s
 line_formed bytes s e = fits_form s (line_fits bytes s e)
 
 -- ## Headers
 
 header_kept : (d : Data) (word : List ℕ) (h : HeaderView) → header_of word d ≡ Some h → (is_sound h.schema ≡ true) × (may_open h.schema h.tree ≡ true)
 header_kept d word h e =
-    let g = guarded (is_begun word d) (option_and_then opened (parts_of d)) h e in
-    let p = option_and_then-Some opened (parts_of d) h g.1 in
+    let g = guarded (is_begun word d) (option_and_then header_that_opens (parts_of d)) h e in
+    let p = option_and_then-Some header_that_opens (parts_of d) h g.1 in
     let o = guarded (may_open p.0.schema p.0.tree) (Some p.0) h p.2 in
     let same_header : p.0 ≡ h = cc in
     let n = option_and_then-Some (λ history. option_and_then (λ schema. option_map (λ tree. record { history = history; schema = schema; tree = tree }) (tree_in d)) (schema_in d)) (history_or_64 (get (codes "history") d)) p.0 p.1 in

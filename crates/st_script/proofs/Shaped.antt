@@ -18,7 +18,7 @@ use Rattle.st_schema.specs.Shape.{has_shape, all_have_shape}
 use Rattle.st_schema.specs.TreeText.{tree_of}
 use Rattle.st_schema.proofs.Holds.{Holds-cond}
 use Rattle.st_schema.proofs.Shaped.{IsShaped, shown_shaped}
-use Rattle.st_script.specs.Line.{line_of, judged}
+use Rattle.st_script.specs.Line.{line_of, step_of_value}
 use Rattle.st_script.specs.Members.{number_in, trees_in, few, items_in, item_in}
 use Rattle.st_script.specs.Steps.{StepView, join, insert, remove, move, set, clear, sequence, deliver, show, same, actor_of, site_of, span_of, goal_of, read_insert, read_remove, read_move, read_set, read_clear, read_show, lone_client, read_of, word_of, step_of}
 use Rattle.st_script.specs.StepText.{trees_have_shape}
@@ -182,6 +182,6 @@ line_shaped bytes s e = go (line_value bytes) (line_rises bytes) e
     step None h f = absurd cc
     step (Some x) h f = let same_step : x ≡ s = cc in subst IsStep same_step h
 
-    go : (o : Option Data) → Holds NamesRise o → judged o ≡ Ok s → trees_have_shape s ≡ true
+    go : (o : Option Data) → Holds NamesRise o → step_of_value o ≡ Ok s → trees_have_shape s ≡ true
     go None h e = absurd cc
     go (Some d) h e = step (step_of d) (value_step_shaped d h) e

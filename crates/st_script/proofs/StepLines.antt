@@ -13,7 +13,7 @@ use Rattle.st_json.specs.declared.fault.BadCause.{BadCause}
 use Rattle.st_tree.specs.Node.{Node, nodes_of}
 use Rattle.st_schema.specs.TreeText.{trees_data}
 use Rattle.st_schema.proofs.PlainTrees.{tree_plain, tree_low, items_low}
-use Rattle.st_script.specs.Line.{line_of, judged}
+use Rattle.st_script.specs.Line.{line_of, step_of_value}
 use Rattle.st_script.specs.Steps.{StepView, join, insert, remove, move, set, clear, sequence, deliver, show}
 use Rattle.st_script.specs.StepText.{places_data, step_data, step_text, limits_of, trees_have_shape, IsReadBack, FitsLine}
 use Rattle.st_script.proofs.Again.{read_again}
@@ -70,7 +70,7 @@ text_read s d text back =
 pub line_again : (s : StepView) (d : Data) → d ≡ step_data s → line_value (compact_text d) ≡ Some d → FitsLine s → line_of (step_text s) ≡ Ok s
 line_again s d is back fits =
     let told : line_value (step_text s) ≡ Some (step_data s) = subst (λ (e : Data). line_value (compact_text e) ≡ Some e) is back in
-    ap judged told ∙ ap (λ (o : Option StepView). ok_or o BadCause.Shape) (read_again s fits)
+    ap step_of_value told ∙ ap (λ (o : Option StepView). ok_or o BadCause.Shape) (read_again s fits)
 
 -- the line of a step's value
 pub told_text : {E : Type 0} (r : Result (List ℕ) E) (s : StepView) (d : Data) → (trees_have_shape s ≡ true → d ≡ step_data s) → IfOk r (λ t. has_float d ≡ false → t ≡ compact_text d ++ 10 ∷ [])

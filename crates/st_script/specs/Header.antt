@@ -25,13 +25,13 @@ abbrev pub header_view : Header → HeaderView
 header_view h = record { history = h.history; schema = h.schema; tree = view h.tree }
 
 -- 0 to 1,024 entries
-abbrev pub kept : ℕ → Option ℕ
-kept n = if nat_le n 1024 then Some n else None
+abbrev pub kept_history : ℕ → Option ℕ
+kept_history n = if nat_le n 1024 then Some n else None
 
 -- how many entries of the log below the minimum can still be undone, which is 64 where nothing is said
 abbrev pub history_or_64 : Option Data → Option ℕ
 history_or_64 None = Some 64
-history_or_64 (Some d) = option_and_then kept (as_small d)
+history_or_64 (Some d) = option_and_then kept_history (as_small d)
 
 -- the form of a schema that keeps the rules
 abbrev pub sound_schema : Data → Option SchemaView
@@ -56,8 +56,8 @@ is_begun word d = has_only (codes "history schema tree " ++ word) d && is_one (n
 abbrev pub may_open : SchemaView → Node → Bool
 may_open s t = is_ok (check_of t) && is_ok (allows_of s s.root t)
 
-abbrev pub opened : HeaderView → Option HeaderView
-opened h = if may_open h.schema h.tree then Some h else None
+abbrev pub header_that_opens : HeaderView → Option HeaderView
+header_that_opens h = if may_open h.schema h.tree then Some h else None
 
 abbrev pub parts_of : Data → Option HeaderView
 parts_of d = option_and_then (λ history. option_and_then (λ schema. option_map (λ tree. record { history = history; schema = schema; tree = tree }) (tree_in d)) (schema_in d))
@@ -65,7 +65,7 @@ parts_of d = option_and_then (λ history. option_and_then (λ schema. option_map
 
 -- the header that a value is
 abbrev pub header_of : List ℕ → Data → Option HeaderView
-header_of word d = if is_begun word d then option_and_then opened (parts_of d) else None
+header_of word d = if is_begun word d then option_and_then header_that_opens (parts_of d) else None
 
 -- the header of a line's value, or the first test that the line fails
 abbrev pub header_or_cause : List ℕ → Option Data → Result HeaderView BadCause

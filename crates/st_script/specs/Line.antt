@@ -14,9 +14,9 @@ line_view (line.Step s) = Ok (step_view s)
 line_view (line.Bad cause) = Err cause
 
 -- the step of a line's value, or the first test that the line fails
-abbrev pub judged : Option Data → Result StepView BadCause
-judged None = Err BadCause.Json
-judged (Some d) = ok_or (step_of d) BadCause.Shape
+abbrev pub step_of_value : Option Data → Result StepView BadCause
+step_of_value None = Err BadCause.Json
+step_of_value (Some d) = ok_or (step_of d) BadCause.Shape
 
 abbrev pub line_of : List ℕ → Result StepView BadCause
-line_of bytes = judged (line_value bytes)
+line_of bytes = step_of_value (line_value bytes)

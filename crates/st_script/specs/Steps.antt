@@ -65,16 +65,16 @@ name_of (deliver name) = name
 name_of (show name branch) = name
 
 -- its trees are within the limits of trees, and its paths short
-abbrev pub IsOfForm : StepView → Type 0
-IsOfForm (join client) = Unit {0}
-IsOfForm (insert client branch at key index items) = (check_items (nodes_of items) ≡ Ok tt) × (length at < 2 ^ 32)
-IsOfForm (remove client branch at key index count) = length at < 2 ^ 32
-IsOfForm (move client branch at key index count to to_key to_index) = (length at < 2 ^ 32) × (length to < 2 ^ 32)
-IsOfForm (set client branch at key item) = (check_of item ≡ Ok tt) × (length at < 2 ^ 32)
-IsOfForm (clear client branch at key) = length at < 2 ^ 32
-IsOfForm (sequence client) = Unit {0}
-IsOfForm (deliver client) = Unit {0}
-IsOfForm (show client branch) = Unit {0}
+abbrev pub IsWithinLimits : StepView → Type 0
+IsWithinLimits (join client) = Unit {0}
+IsWithinLimits (insert client branch at key index items) = (check_items (nodes_of items) ≡ Ok tt) × (length at < 2 ^ 32)
+IsWithinLimits (remove client branch at key index count) = length at < 2 ^ 32
+IsWithinLimits (move client branch at key index count to to_key to_index) = (length at < 2 ^ 32) × (length to < 2 ^ 32)
+IsWithinLimits (set client branch at key item) = (check_of item ≡ Ok tt) × (length at < 2 ^ 32)
+IsWithinLimits (clear client branch at key) = length at < 2 ^ 32
+IsWithinLimits (sequence client) = Unit {0}
+IsWithinLimits (deliver client) = Unit {0}
+IsWithinLimits (show client branch) = Unit {0}
 
 -- who does a step, and on which branch, which is 0 where nothing is said
 abbrev pub actor_of : Data → Option Actor

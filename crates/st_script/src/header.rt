@@ -6,7 +6,7 @@ ghost use Rattle.serde_json.specs.Find.{get};
 ghost use Rattle.st_ids.specs.Or.{IfRefused};
 ghost use Rattle.st_tree.specs.Node.{view};
 ghost use Rattle.st_script.specs.Members.{as_small};
-ghost use Rattle.st_script.specs.Header.{kept, history_or_64, sound_schema, schema_in, tree_in, is_begun, may_open, opened, header_view, parts_of, header_of, header_line};
+ghost use Rattle.st_script.specs.Header.{kept_history, history_or_64, sound_schema, schema_in, tree_in, is_begun, may_open, header_that_opens, header_view, parts_of, header_of, header_line};
 
 use crate::member::{has_only, number_member, small_number, tree};
 use serde_json::Value;
@@ -16,8 +16,8 @@ use st_schema::{Header, Schema};
 use st_tree::{Tree, check};
 use std::alloc::{AllocError, Global};
 
-fn kept(value: &Value) -> Option<u32>
-    ensures { result ≡ option_and_then kept (as_small (value_view value.now)) }
+fn kept_history(value: &Value) -> Option<u32>
+    ensures { result ≡ option_and_then kept_history (as_small (value_view value.now)) }
 {
     let history = small_number(value)?;
     if history <= 1024 { Some(history) } else { None }
@@ -30,7 +30,7 @@ fn history(value: &Value) -> Option<u32>
 {
     match value.get("history") {
         None => Some(64),
-        Some(history) => kept(history),
+        Some(history) => kept_history(history),
     }
 }
 
@@ -83,8 +83,8 @@ fn may_open(schema: &Schema, tree: &Tree) -> bool
     }
 }
 
-fn opened(header: Header) -> Option<Header>
-    ensures { option_map header_view result ≡ opened (header_view header) }
+fn header_that_opens(header: Header) -> Option<Header>
+    ensures { option_map header_view result ≡ header_that_opens (header_view header) }
 {
     if may_open(&header.schema, &header.tree) {
         Some(header)
@@ -121,7 +121,7 @@ fn header_of(alloc: Global, value: &Value, word: &str) -> Result<Option<Header>,
     }
     match parts(alloc, value)? {
         None => Ok(None),
-        Some(header) => Ok(opened(header)),
+        Some(header) => Ok(header_that_opens(header)),
     }
 }
 

@@ -3,12 +3,12 @@ ghost use Rattle.std.specs.Prelude.{◌≡◌, ℕ, List, true, Some, Ok};
 ghost use Rattle.st_schema.specs.Schema.{is_sound};
 ghost use Rattle.st_script.specs.Header.{HeaderView, header_line, may_open};
 ghost use Rattle.st_script.specs.Line.{line_of};
-ghost use Rattle.st_script.specs.Steps.{StepView, IsOfForm, step_of};
+ghost use Rattle.st_script.specs.Steps.{StepView, IsWithinLimits, step_of};
 ghost use Rattle.st_script.specs.StepText.{FitsLine, step_data, trees_have_shape};
 
 /// The trees of a step that a line is are within the limits of trees, and its paths are short.
 pub fn read_steps_are_of_form()
-    ensures { (bytes : List ℕ) (s : StepView) → line_of bytes ≡ Ok s → IsOfForm s }
+    ensures { (bytes : List ℕ) (s : StepView) → line_of bytes ≡ Ok s → IsWithinLimits s }
 {}
 
 /// A step that a line is has each member as a line can hold it, and each of its trees is read of

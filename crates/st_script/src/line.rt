@@ -20,7 +20,7 @@ pub enum Line {
 }
 
 // The step of a value, or the refusal of its form.
-fn judged(alloc: Global, value: &Value) -> Result<Line, AllocError>
+fn step_of_value(alloc: Global, value: &Value) -> Result<Line, AllocError>
     ensures { IfOk result (λ l. line_view l ≡ ok_or (step_of (view value.now)) BadCause.Shape) }
 {
     match read_step(alloc, value)? {
@@ -35,7 +35,7 @@ pub fn read_step_line(alloc: Global, bytes: &[u8]) -> Result<Line, AllocError>
     ensures { IfOk result (λ l. line_view l ≡ line_of bytes.now) }
 {
     match read_line(alloc, bytes) {
-        Ok(value) => judged(alloc, &value),
+        Ok(value) => step_of_value(alloc, &value),
         Err(Or::NoMemory) => Err(AllocError),
         Err(Or::Fault(_)) => Ok(Line::Bad(BadCause::Json)),
     }

@@ -14,7 +14,7 @@ use Rattle.st_marks.specs.Row.{CellMark, Counted, Gap, Touch, Make, Fill, RowPar
 use Rattle.st_marks.specs.How.{is_here}
 use Rattle.st_seq.specs.Views.{view_after}
 use Rattle.st_seq.specs.inside.Views.{view_before}
-use Rattle.st_seq.specs.inside.Cells.{turned, stepped, full_first, full_then, bridged, bridged_piece, bridge_row, made_full, gained_full}
+use Rattle.st_seq.specs.inside.Cells.{turned_mark, stepped_mark, full_first, full_then, bridged_mark, bridged_piece, bridge_row, made_full, gained_full}
 use Rattle.st_seq.specs.Changes.{StandsIn, AreOld, NamesNoGained, NoGroupAtGained, full_after, made_cells, carried_cells, carried_row, placed_by, row_after, void_part}
 use Rattle.st_seq.specs.Rows.{NamesMoved}
 use Rattle.st_seq.proofs.Voided.{void-made}
@@ -60,7 +60,7 @@ away_full (Some to) c a e f = elim (same_to to (To.Cell c)) as (λ b. is_here (c
 
 -- ## One cell that both find
 
-turned_is : (k : Nodes) (c : CellId) (n : NodeId) (e f : Bool) → (e ≡ true → f ≡ true → k n ≡ true) → turned c n e f ≡ step_cell k c n e f
+turned_is : (k : Nodes) (c : CellId) (n : NodeId) (e f : Bool) → (e ≡ true → f ≡ true → k n ≡ true) → turned_mark c n e f ≡ step_cell k c n e f
 turned_is k c n true true h = rw (h refl refl) refl
 turned_is k c n true false h = refl
 turned_is k c n false true h = refl
@@ -86,19 +86,19 @@ module _ (p : RowPart) (m k : Nodes) (c : CellId) (n : NodeId) (w : Owner p m k 
       go None h = refl
       go (Some to) h = let q : ◌≡◌ {A = Bool} false true = sym e ∙ h (λ z. cc) in cc
 
-  empty_is : (b e f : Bool) → e ≡ false → (b ≡ false → f ≡ false) → stepped (Gap c) (step_cell m c n false b) e f ≡ step_cell k c n e f
+  empty_is : (b e f : Bool) → e ≡ false → (b ≡ false → f ≡ false) → stepped_mark (Gap c) (step_cell m c n false b) e f ≡ step_cell k c n e f
   empty_is true e f h j = turned_is k c n e f (λ q. let z : ◌≡◌ {A = Bool} false true = sym h ∙ q in cc)
   empty_is false e f h j = λ i. sym (ap (λ x. step_cell k c n x f) h ∙ ap (λ x. step_cell k c n false x) (j refl)) i
 
   stepped_is : (a b e f : Bool)
       → (p.target_of n ≡ None → e ≡ a) → (p.target_of n ≡ None → f ≡ b)
       → (is_here (how (p.target_of n) (To.Cell c)) ≡ false → a ≡ false → e ≡ false) → (is_here (how (p.target_of n) (To.Cell c)) ≡ false → b ≡ false → f ≡ false)
-      → stepped (embed_cell p c n a) (step_cell m c n a b) e f ≡ step_cell k c n e f
-  stepped_is true b e f e_none f_none e_away f_away = elim (p.mentioned n) as (λ x. p.mentioned n ≡ x → stepped (cond x (Touch c n (how (p.target_of n) (To.Cell c))) Counted) (step_cell m c n true b) e f ≡ step_cell k c n e f) [
+      → stepped_mark (embed_cell p c n a) (step_cell m c n a b) e f ≡ step_cell k c n e f
+  stepped_is true b e f e_none f_none e_away f_away = elim (p.mentioned n) as (λ x. p.mentioned n ≡ x → stepped_mark (cond x (Touch c n (how (p.target_of n) (To.Cell c))) Counted) (step_cell m c n true b) e f ≡ step_cell k c n e f) [
     | true ↦ (λ h. turned_is k c n e f (λ _ _. w.named h))
     | false ↦ (λ h. unlisted m k c n true b (w.unnamed h) ∙ (λ i. step_cell k c n (sym (e_none (not_put h)) i) (sym (f_none (not_put h)) i)))
   ] refl
-  stepped_is false b e f e_none f_none e_away f_away = elim (is_here (how (p.target_of n) (To.Cell c))) as (λ x. is_here (how (p.target_of n) (To.Cell c)) ≡ x → stepped (cond x (Fill c n) (Gap c)) (step_cell m c n false b) e f ≡ step_cell k c n e f) [
+  stepped_is false b e f e_none f_none e_away f_away = elim (is_here (how (p.target_of n) (To.Cell c))) as (λ x. is_here (how (p.target_of n) (To.Cell c)) ≡ x → stepped_mark (cond x (Fill c n) (Gap c)) (step_cell m c n false b) e f ≡ step_cell k c n e f) [
     | true ↦ (λ h. turned_is k c n e f (λ _ _. w.named (w.put (put_here (p.target_of n) h))))
     | false ↦ (λ h. empty_is b e f (e_away h refl) (f_away h))
   ] refl
@@ -107,7 +107,7 @@ module _ (p : RowPart) (m k : Nodes) (c : CellId) (n : NodeId) (w : Owner p m k 
       put_here None h = λ z. cc
       put_here (Some to) h = λ z. cc
 
-pub counted_stays : (was is : Bool) (t : NodeId → Option How) → bridged was is t Counted Counted ≡ Counted
+pub counted_stays : (was is : Bool) (t : NodeId → Option How) → bridged_mark was is t Counted Counted ≡ Counted
 counted_stays true true t = refl
 counted_stays true false t = refl
 counted_stays false true t = refl
@@ -172,10 +172,10 @@ module _ (t : NodeId → Option How) (p : RowPart) (m placed makes : Nodes) (was
 
   -- a cell that both find
   found_is : (c : CellId) (n : NodeId) (a b : Bool) → makes n ≡ false → (is ≡ false → b ≡ true → Tells p n (t n))
-      → bridged was is t (embed_cell p c n a) (step_cell m c n a b) ≡ step_cell named c n (full_after (target_of was n) c a) (full_after (target_of is n) c b)
-  found_is c n a b h k = elim (was && is) as (λ z. (was && is) ≡ z → cond z (step_cell m c n a b) (stepped (embed_cell p c n a) (step_cell m c n a b) (full_first was (embed_cell p c n a)) (full_then is t (embed_cell p c n a) (step_cell m c n a b))) ≡ step_cell named c n (full_after (target_of was n) c a) (full_after (target_of is n) c b)) [
+      → bridged_mark was is t (embed_cell p c n a) (step_cell m c n a b) ≡ step_cell named c n (full_after (target_of was n) c a) (full_after (target_of is n) c b)
+  found_is c n a b h k = elim (was && is) as (λ z. (was && is) ≡ z → cond z (step_cell m c n a b) (stepped_mark (embed_cell p c n a) (step_cell m c n a b) (full_first was (embed_cell p c n a)) (full_then is t (embed_cell p c n a) (step_cell m c n a b))) ≡ step_cell named c n (full_after (target_of was n) c a) (full_after (target_of is n) c b)) [
     | true ↦ (λ e. unlisted m named c n a b (both_named n h e) ∙ (λ i. step_cell named c n (full_after (sym (void_goes n was (and-first was is e) h) i) c a) (full_after (sym (void_goes n is (and-second was is e) h) i) c b)))
-    | false ↦ (λ e. (λ i. stepped (embed_cell p c n a) (step_cell m c n a b) (first_is was c n a h i) (then_is is c n a b h k i))
+    | false ↦ (λ e. (λ i. stepped_mark (embed_cell p c n a) (step_cell m c n a b) (first_is was c n a h i) (then_is is c n a b h k i))
         ∙ stepped_is p m named c n (owner n h e) a b (full_after (target_of was n) c a) (full_after (target_of is n) c b)
         (λ q. ap (λ g. full_after g c a) (none_goes n was q)) (λ q. ap (λ g. full_after g c b) (none_goes n is q)) (away_is was c n a) (away_is is c n b))
   ] refl
@@ -235,7 +235,7 @@ module _ (t : NodeId → Option How) (p : RowPart) (m placed makes : Nodes) (was
   beside_made [] xs ys l = l
   beside_made (o ∷ os) xs ys l =
       let put = is_here (how (p.target_of o.node) (To.Cell o.cell)) in
-      led-kept named o.cell o.node (is_here (how (target_of was o.node) (To.Cell o.cell))) (is_here (how (target_of is o.node) (To.Cell o.cell))) (turned o.cell o.node (made_full placed o.node put was) (made_full placed o.node put is))
+      led-kept named o.cell o.node (is_here (how (target_of was o.node) (To.Cell o.cell))) (is_here (how (target_of is o.node) (To.Cell o.cell))) (turned_mark o.cell o.node (made_full placed o.node put was) (made_full placed o.node put is))
       (turned_is named o.cell o.node (made_full placed o.node put was) (made_full placed o.node put is) (λ e f. full_named was (and-first was is) o.node o.cell e) ∙ (λ i. step_cell named o.cell o.node (made_is was o i) (made_is is o i)))
       (one_full (made_full placed o.node put was) (made_full placed o.node put is) (is_here (how (target_of was o.node) (To.Cell o.cell))) (is_here (how (target_of is o.node) (To.Cell o.cell))) (made_is was o) (made_is is o) (full_named was (and-first was is) o.node o.cell) (full_named is (and-second was is) o.node o.cell))
       (beside_made os xs ys l)
@@ -258,7 +258,7 @@ module _ (t : NodeId → Option How) (p : RowPart) (m placed makes : Nodes) (was
   beside_cells (item_kept {x = s} {y = u} {xs = c} {ys = d} a g) z o q w h k =
       let same : ◌≡◌ {A = Slot} (record { cell = s.cell; node = s.node; full = u.full }) u = λ i. record { cell = a.0 i; node = a.1 i; full = u.full } in
       let rest = beside_made (p.new_cells (Some s.cell)) (embed_cells p c) (step_row m g) (beside_cells g z o.1 q.1 w.1 h (λ e n x. k e n (inr x))) in
-      let one = led-kept named s.cell s.node (full_after (target_of was s.node) s.cell s.full) (full_after (target_of is s.node) s.cell u.full) (bridged was is t (embed_cell p s.cell s.node s.full) (step_cell m s.cell s.node s.full u.full))
+      let one = led-kept named s.cell s.node (full_after (target_of was s.node) s.cell s.full) (full_after (target_of is s.node) s.cell u.full) (bridged_mark was is t (embed_cell p s.cell s.node s.full) (step_cell m s.cell s.node s.full u.full))
       (found_is s.cell s.node s.full u.full o.0 (λ e r. subst (λ n. Tells p n (t n)) (sym a.1) (k e u.node (inl (refl, r))))) (found_moved s.cell s.node s.full u.full o.0 w.0) rest in
       subst (λ (v : Slot). Led named (carried_cells (void_part (placing was placed) p) (s ∷ c)) (carried_cells (void_part (placing is placed) p) (v ∷ d)) (bridge_row was is placed t (embed_cells p (s ∷ c)) (step_cell m s.cell s.node s.full u.full ∷ step_row m g))) same
       (subst (Led named (carried_cells (void_part (placing was placed) p) (s ∷ c)) (carried_cells (void_part (placing is placed) p) (record { cell = s.cell; node = s.node; full = u.full } ∷ d)))

@@ -6,7 +6,7 @@ use Rattle.st_marks.specs.declared.marks.How.TheVariants.{Stay, Leave}
 use Rattle.st_marks.specs.declared.places.Slot.{Slot}
 use Rattle.st_marks.specs.Extends.{GainsItems, no_more, item_gained, item_kept}
 use Rattle.st_marks.specs.Row.{CellMark, Counted, Touch, Make, Fill, SameCell, step_cell, step_row}
-use Rattle.st_seq.specs.inside.Cells.{composed, compose_row}
+use Rattle.st_seq.specs.inside.Cells.{composed_mark, compose_row}
 use Rattle.st_kind.specs.Named.{either}
 use Rattle.st_seq.specs.Rows.{NamesLeavers}
 use Rattle.st_lemmas.proofs.Bools.{or-right, or-left}
@@ -17,34 +17,34 @@ grows_on g (item_gained h) = item_gained (grows_on g h)
 grows_on (item_gained g) (item_kept a h) = item_gained (grows_on g h)
 grows_on (item_kept a g) (item_kept b h) = item_kept (a.0 ∙ b.0, a.1 ∙ b.1) (grows_on g h)
 
-compose-step_cell : (x : CellMark) (xs ys : List CellMark) (m : NodeId → Bool) (c : CellId) (n : NodeId) (a b : Bool) → compose_row (x ∷ xs) (step_cell m c n a b ∷ ys) ≡ composed x (step_cell m c n a b) ∷ compose_row xs ys
+compose-step_cell : (x : CellMark) (xs ys : List CellMark) (m : NodeId → Bool) (c : CellId) (n : NodeId) (a b : Bool) → compose_row (x ∷ xs) (step_cell m c n a b ∷ ys) ≡ composed_mark x (step_cell m c n a b) ∷ compose_row xs ys
 compose-step_cell x xs ys m c n true true =
-    elim (m n) as (λ b. compose_row (x ∷ xs) (cond b (Touch c n Stay) Counted ∷ ys) ≡ composed x (cond b (Touch c n Stay) Counted) ∷ compose_row xs ys) [ true ↦ refl | false ↦ refl ]
+    elim (m n) as (λ b. compose_row (x ∷ xs) (cond b (Touch c n Stay) Counted ∷ ys) ≡ composed_mark x (cond b (Touch c n Stay) Counted) ∷ compose_row xs ys) [ true ↦ refl | false ↦ refl ]
 compose-step_cell x xs ys m c n true false = refl
 compose-step_cell x xs ys m c n false true = refl
 compose-step_cell x xs ys m c n false false = refl
 
-composed-made : (m : NodeId → Bool) (c : CellId) (n : NodeId) (a b : Bool) → composed (Make c n a) (step_cell m c n a b) ≡ Make c n b
-composed-made m c n true true = elim (m n) as (λ b. composed (Make c n true) (cond b (Touch c n Stay) Counted) ≡ Make c n true) [ true ↦ refl | false ↦ refl ]
+composed-made : (m : NodeId → Bool) (c : CellId) (n : NodeId) (a b : Bool) → composed_mark (Make c n a) (step_cell m c n a b) ≡ Make c n b
+composed-made m c n true true = elim (m n) as (λ b. composed_mark (Make c n true) (cond b (Touch c n Stay) Counted) ≡ Make c n true) [ true ↦ refl | false ↦ refl ]
 composed-made m c n true false = refl
 composed-made m c n false true = refl
 composed-made m c n false false = refl
 
-touches : (x y : Bool) (c : CellId) (n : NodeId) → composed (cond x (Touch c n Stay) Counted) (cond y (Touch c n Stay) Counted) ≡ cond (x || y) (Touch c n Stay) Counted
+touches : (x y : Bool) (c : CellId) (n : NodeId) → composed_mark (cond x (Touch c n Stay) Counted) (cond y (Touch c n Stay) Counted) ≡ cond (x || y) (Touch c n Stay) Counted
 touches true true c n = refl
 touches true false c n = refl
 touches false true c n = refl
 touches false false c n = refl
 
-leaves : (x : Bool) (c : CellId) (n : NodeId) → composed (cond x (Touch c n Stay) Counted) (Touch c n Leave) ≡ Touch c n Leave
+leaves : (x : Bool) (c : CellId) (n : NodeId) → composed_mark (cond x (Touch c n Stay) Counted) (Touch c n Leave) ≡ Touch c n Leave
 leaves true c n = refl
 leaves false c n = refl
 
-fills : (x : Bool) (c : CellId) (n : NodeId) → composed (Fill c n) (cond x (Touch c n Stay) Counted) ≡ Fill c n
+fills : (x : Bool) (c : CellId) (n : NodeId) → composed_mark (Fill c n) (cond x (Touch c n Stay) Counted) ≡ Fill c n
 fills true c n = refl
 fills false c n = refl
 
-composed-step_cell : (m k : NodeId → Bool) (c : CellId) (n : NodeId) (a b e : Bool) → (a ≡ true → b ≡ false → m n ≡ true) → composed (step_cell m c n a b) (step_cell k c n b e) ≡ step_cell (either m k) c n a e
+composed-step_cell : (m k : NodeId → Bool) (c : CellId) (n : NodeId) (a b e : Bool) → (a ≡ true → b ≡ false → m n ≡ true) → composed_mark (step_cell m c n a b) (step_cell k c n b e) ≡ step_cell (either m k) c n a e
 composed-step_cell m k c n true true true h = touches (m n) (k n) c n
 composed-step_cell m k c n true true false h = leaves (m n) c n
 composed-step_cell m k c n true false true h = rw (h refl refl) refl
@@ -62,7 +62,7 @@ compose_row-step_row m k (item_kept {y = t} a h) (item_gained {y = s} g) l =
     ∙ (λ i. (composed-made k s.cell s.node s.full t.full ∙ (λ j. Make (a.0 j) (a.1 j) t.full)) i ∷ compose_row-step_row m k h g l i)
 compose_row-step_row m k (item_kept {y = t} b h) (item_kept {x = r} {y = s} a g) l =
     compose-step_cell (step_cell m r.cell r.node r.full s.full) (step_row m g) (step_row k h) k s.cell s.node s.full t.full
-    ∙ (λ i. (ap (λ (x : CellMark). composed (step_cell m r.cell r.node r.full s.full) x) (λ j. step_cell k (sym a.0 j) (sym a.1 j) s.full t.full) ∙ composed-step_cell m k r.cell r.node r.full s.full t.full l.0) i ∷ compose_row-step_row m k h g l.1 i)
+    ∙ (λ i. (ap (λ (x : CellMark). composed_mark (step_cell m r.cell r.node r.full s.full) x) (λ j. step_cell k (sym a.0 j) (sym a.1 j) s.full t.full) ∙ composed-step_cell m k r.cell r.node r.full s.full t.full l.0) i ∷ compose_row-step_row m k h g l.1 i)
 
 pub leavers_named : (m k : NodeId → Bool) {d e : List Slot} (h : GainsItems SameCell d e) {c : List Slot} (g : GainsItems SameCell c d) → NamesLeavers m g → NamesLeavers k h → NamesLeavers (either m k) (grows_on g h)
 leavers_named m k no_more no_more l r = tt

@@ -6,7 +6,7 @@ use Rattle.st_marks.specs.declared.marks.How.TheVariants.{Stay}
 use Rattle.st_marks.specs.declared.places.Slot.{Slot}
 use Rattle.st_marks.specs.Extends.{GainsItems, no_more, item_gained, item_kept}
 use Rattle.st_marks.specs.Row.{Counted, Touch, Make, SameCell, step_cell, step_row}
-use Rattle.st_seq.specs.inside.Cells.{inverted, invert_row}
+use Rattle.st_seq.specs.inside.Cells.{inverted_mark, invert_row}
 use Rattle.st_seq.specs.Rows.{retreat_row}
 
 abbrev pub backward : {c d : List Slot} (g : GainsItems SameCell c d) → GainsItems SameCell d (retreat_row g)
@@ -14,12 +14,12 @@ backward no_more = no_more
 backward (item_gained g) = item_kept (refl, refl) (backward g)
 backward (item_kept a g) = item_kept (refl, refl) (backward g)
 
-inverted-made : (m : NodeId → Bool) (c : CellId) (n : NodeId) (b : Bool) → inverted (Make c n b) ≡ step_cell m c n b false
+inverted-made : (m : NodeId → Bool) (c : CellId) (n : NodeId) (b : Bool) → inverted_mark (Make c n b) ≡ step_cell m c n b false
 inverted-made m c n true = refl
 inverted-made m c n false = refl
 
-inverted-step_cell : (m : NodeId → Bool) (c : CellId) (n : NodeId) (a b : Bool) → inverted (step_cell m c n a b) ≡ step_cell m c n b a
-inverted-step_cell m c n true true = elim (m n) as (λ b. inverted (cond b (Touch c n Stay) Counted) ≡ cond b (Touch c n Stay) Counted) [ true ↦ refl | false ↦ refl ]
+inverted-step_cell : (m : NodeId → Bool) (c : CellId) (n : NodeId) (a b : Bool) → inverted_mark (step_cell m c n a b) ≡ step_cell m c n b a
+inverted-step_cell m c n true true = elim (m n) as (λ b. inverted_mark (cond b (Touch c n Stay) Counted) ≡ cond b (Touch c n Stay) Counted) [ true ↦ refl | false ↦ refl ]
 inverted-step_cell m c n true false = refl
 inverted-step_cell m c n false true = refl
 inverted-step_cell m c n false false = refl

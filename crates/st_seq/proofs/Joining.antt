@@ -12,7 +12,7 @@ use Rattle.st_marks.specs.declared.marks.How.TheVariants.{Stay, Here, Leave}
 use Rattle.st_marks.specs.declared.places.Slot.{Slot}
 use Rattle.st_marks.specs.Row.{CellMark, Counted, Gap, Touch, Make, Fill, RowPart, same_to, how, embed_cell, embed_made, embed_cells, embed_row}
 use Rattle.st_marks.specs.How.{is_here}
-use Rattle.st_seq.specs.inside.Cells.{joined, join_row}
+use Rattle.st_seq.specs.inside.Cells.{joined_mark, join_row}
 use Rattle.st_seq.proofs.Rebased.{same_put}
 use Rattle.st_seq.specs.Changes.{StandsIn, full_after, made_cells, carried_cells, carried_row, interleaved_cells, goes_in_turn, AreJoined}
 
@@ -22,9 +22,9 @@ join-made_then : (q : RowPart) (os : List Owned) (xs ys : List CellMark) → joi
 join-made_then q [] xs ys = refl
 join-made_then q (o ∷ os) xs ys = ap (λ l. Make o.cell o.node (is_here (how (q.target_of o.node) (To.Cell o.cell))) ∷ l) (join-made_then q os xs ys)
 
-join-found : (q : RowPart) (x : CellMark) (c : CellId) (n : NodeId) (b : Bool) (xs ys : List CellMark) → join_row (x ∷ xs) (embed_cell q c n b ∷ ys) ≡ joined x (embed_cell q c n b) ∷ join_row xs ys
-join-found q x c n true xs ys = elim (q.mentioned n) as (λ b. join_row (x ∷ xs) (cond b (Touch c n (how (q.target_of n) (To.Cell c))) Counted ∷ ys) ≡ joined x (cond b (Touch c n (how (q.target_of n) (To.Cell c))) Counted) ∷ join_row xs ys) [ true ↦ refl | false ↦ refl ]
-join-found q x c n false xs ys = elim (is_here (how (q.target_of n) (To.Cell c))) as (λ b. join_row (x ∷ xs) (cond b (Fill c n) (Gap c) ∷ ys) ≡ joined x (cond b (Fill c n) (Gap c)) ∷ join_row xs ys) [ true ↦ refl | false ↦ refl ]
+join-found : (q : RowPart) (x : CellMark) (c : CellId) (n : NodeId) (b : Bool) (xs ys : List CellMark) → join_row (x ∷ xs) (embed_cell q c n b ∷ ys) ≡ joined_mark x (embed_cell q c n b) ∷ join_row xs ys
+join-found q x c n true xs ys = elim (q.mentioned n) as (λ b. join_row (x ∷ xs) (cond b (Touch c n (how (q.target_of n) (To.Cell c))) Counted ∷ ys) ≡ joined_mark x (cond b (Touch c n (how (q.target_of n) (To.Cell c))) Counted) ∷ join_row xs ys) [ true ↦ refl | false ↦ refl ]
+join-found q x c n false xs ys = elim (is_here (how (q.target_of n) (To.Cell c))) as (λ b. join_row (x ∷ xs) (cond b (Fill c n) (Gap c) ∷ ys) ≡ joined_mark x (cond b (Fill c n) (Gap c)) ∷ join_row xs ys) [ true ↦ refl | false ↦ refl ]
 
 embed_made-append : (j : RowPart) (xs ys : List Owned) → embed_made j (xs ++ ys) ≡ embed_made j xs ++ embed_made j ys
 embed_made-append j [] ys = refl
@@ -67,7 +67,7 @@ module _ (c : CellId) (n : NodeId) where
   told_cell m y true = cond m (Touch c n (told_how y)) Counted
   told_cell m y false = cond (is_here (told_how y)) (Fill c n) (Gap c)
 
-  full-joined : (x y : Option Bool) (mp mq : Bool) → (x ≢ None → mp ≡ true) → (told_full x true ≡ true → y ≢ None → mq ≡ true) → joined (cond mp (Touch c n (told_how x)) Counted) (told_cell mq y (told_full x true)) ≡ cond (mp || mq) (Touch c n (told_how (option_or y x))) Counted
+  full-joined : (x y : Option Bool) (mp mq : Bool) → (x ≢ None → mp ≡ true) → (told_full x true ≡ true → y ≢ None → mq ≡ true) → joined_mark (cond mp (Touch c n (told_how x)) Counted) (told_cell mq y (told_full x true)) ≡ cond (mp || mq) (Touch c n (told_how (option_or y x))) Counted
   full-joined None None true true hp hq = refl
   full-joined None None true false hp hq = refl
   full-joined None None false true hp hq = refl
@@ -105,7 +105,7 @@ module _ (c : CellId) (n : NodeId) where
   full-joined (Some false) (Some false) false true hp hq = let e : ◌≡◌ {A = Bool} false true = hp (λ z. cc) in cc
   full-joined (Some false) (Some false) false false hp hq = let e : ◌≡◌ {A = Bool} false true = hp (λ z. cc) in cc
 
-  empty-joined : (x y : Option Bool) (mq : Bool) → (told_full x false ≡ true → y ≢ None → mq ≡ true) → joined (cond (is_here (told_how x)) (Fill c n) (Gap c)) (told_cell mq y (told_full x false)) ≡ cond (is_here (told_how (option_or y x))) (Fill c n) (Gap c)
+  empty-joined : (x y : Option Bool) (mq : Bool) → (told_full x false ≡ true → y ≢ None → mq ≡ true) → joined_mark (cond (is_here (told_how x)) (Fill c n) (Gap c)) (told_cell mq y (told_full x false)) ≡ cond (is_here (told_how (option_or y x))) (Fill c n) (Gap c)
   empty-joined None None true hq = refl
   empty-joined None None false hq = refl
   empty-joined None (Some true) true hq = refl
@@ -125,7 +125,7 @@ module _ (c : CellId) (n : NodeId) where
   empty-joined (Some false) (Some false) true hq = refl
   empty-joined (Some false) (Some false) false hq = refl
 
-  made-joined : (x y : Option Bool) (mq : Bool) → (is_here (told_how x) ≡ true → y ≢ None → mq ≡ true) → joined (Make c n (is_here (told_how x))) (told_cell mq y (is_here (told_how x))) ≡ Make c n (is_here (told_how (option_or y x)))
+  made-joined : (x y : Option Bool) (mq : Bool) → (is_here (told_how x) ≡ true → y ≢ None → mq ≡ true) → joined_mark (Make c n (is_here (told_how x))) (told_cell mq y (is_here (told_how x))) ≡ Make c n (is_here (told_how (option_or y x)))
   made-joined None None true hq = refl
   made-joined None None false hq = refl
   made-joined None (Some true) true hq = refl
@@ -168,20 +168,20 @@ module _ (p q j : RowPart) where
   then-found c n b = cell-told q c n (full_after (p.target_of n) c b) ∙ ap (told_cell c n (q.mentioned n) (seen_from c (q.target_of n))) (full-told c (p.target_of n) b)
 
   joined-cell : (c : CellId) (n : NodeId) (b : Bool) → (b ≡ true → j.mentioned n ≡ (p.mentioned n || q.mentioned n)) → (b ≡ true → how (j.target_of n) (To.Cell c) ≡ how (goes_in_turn p q n) (To.Cell c)) → is_here (how (j.target_of n) (To.Cell c)) ≡ is_here (how (goes_in_turn p q n) (To.Cell c))
-      → (b ≡ true → p.target_of n ≢ None → p.mentioned n ≡ true) → (full_after (p.target_of n) c b ≡ true → q.target_of n ≢ None → q.mentioned n ≡ true) → joined (embed_cell p c n b) (embed_cell q c n (full_after (p.target_of n) c b)) ≡ embed_cell j c n b
+      → (b ≡ true → p.target_of n ≢ None → p.mentioned n ≡ true) → (full_after (p.target_of n) c b ≡ true → q.target_of n ≢ None → q.mentioned n ≡ true) → joined_mark (embed_cell p c n b) (embed_cell q c n (full_after (p.target_of n) c b)) ≡ embed_cell j c n b
   joined-cell c n true mj gj cj pm qm =
-      (λ i. joined (cond (p.mentioned n) (Touch c n (how-told c (p.target_of n) i)) Counted) (then-found c n true i))
+      (λ i. joined_mark (cond (p.mentioned n) (Touch c n (how-told c (p.target_of n) i)) Counted) (then-found c n true i))
       ∙ full-joined c n (seen_from c (p.target_of n)) (seen_from c (q.target_of n)) (p.mentioned n) (q.mentioned n) (λ z. pm refl (put-told c (p.target_of n) z)) (λ f z. qm (full-told c (p.target_of n) true ∙ f) (put-told c (q.target_of n) z))
       ∙ (λ i. cond (sym (mj refl) i) (Touch c n (sym (gj refl ∙ both-how c n) i)) Counted)
   joined-cell c n false mj gj cj pm qm =
-      (λ i. joined (cond (is_here (how-told c (p.target_of n) i)) (Fill c n) (Gap c)) (then-found c n false i))
+      (λ i. joined_mark (cond (is_here (how-told c (p.target_of n) i)) (Fill c n) (Gap c)) (then-found c n false i))
       ∙ empty-joined c n (seen_from c (p.target_of n)) (seen_from c (q.target_of n)) (q.mentioned n) (λ f z. qm (full-told c (p.target_of n) false ∙ f) (put-told c (q.target_of n) z))
       ∙ (λ i. cond (sym (cj ∙ ap is_here (both-how c n)) i) (Fill c n) (Gap c))
 
   joined-made : (c : CellId) (n : NodeId) → is_here (how (j.target_of n) (To.Cell c)) ≡ is_here (how (goes_in_turn p q n) (To.Cell c)) → (is_here (how (p.target_of n) (To.Cell c)) ≡ true → q.target_of n ≢ None → q.mentioned n ≡ true)
-      → joined (Make c n (is_here (how (p.target_of n) (To.Cell c)))) (embed_cell q c n (is_here (how (p.target_of n) (To.Cell c)))) ≡ Make c n (is_here (how (j.target_of n) (To.Cell c)))
+      → joined_mark (Make c n (is_here (how (p.target_of n) (To.Cell c)))) (embed_cell q c n (is_here (how (p.target_of n) (To.Cell c)))) ≡ Make c n (is_here (how (j.target_of n) (To.Cell c)))
   joined-made c n cj qm =
-      (λ i. joined (Make c n (is_here (how-told c (p.target_of n) i))) ((cell-told q c n (is_here (how (p.target_of n) (To.Cell c))) ∙ ap (λ h. told_cell c n (q.mentioned n) (seen_from c (q.target_of n)) (is_here h)) (how-told c (p.target_of n))) i))
+      (λ i. joined_mark (Make c n (is_here (how-told c (p.target_of n) i))) ((cell-told q c n (is_here (how (p.target_of n) (To.Cell c))) ∙ ap (λ h. told_cell c n (q.mentioned n) (seen_from c (q.target_of n)) (is_here h)) (how-told c (p.target_of n))) i))
       ∙ made-joined c n (seen_from c (p.target_of n)) (seen_from c (q.target_of n)) (q.mentioned n) (λ f z. qm (ap is_here (how-told c (p.target_of n)) ∙ f) (put-told c (q.target_of n) z))
       ∙ (λ i. Make c n (sym (cj ∙ ap is_here (both-how c n)) i))
 

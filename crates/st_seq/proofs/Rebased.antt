@@ -13,7 +13,7 @@ use Rattle.st_marks.specs.declared.places.Slot.{Slot}
 use Rattle.st_marks.specs.Extends.{GainsItems, no_more, item_gained, item_kept}
 use Rattle.st_marks.specs.Row.{CellMark, Counted, Gap, Touch, Make, Fill, RowPart, SameCell, same_to, how, step_cell, step_row, embed_cell, embed_made, embed_cells, embed_row}
 use Rattle.st_marks.specs.How.{is_here}
-use Rattle.st_seq.specs.inside.Cells.{touch_of, still, emptied, how_there, filled, rebased, gained_cell, rebased_piece, over_row}
+use Rattle.st_seq.specs.inside.Cells.{touch_of, still, emptied_mark, how_there, filled_mark, rebased_mark, gained_cell, rebased_piece, over_row}
 use Rattle.st_seq.specs.Changes.{StandsIn, NamesNoGained}
 use Rattle.st_seq.proofs.Laying.{beside-kept, beside-gained}
 
@@ -55,7 +55,7 @@ Tells p n (Some h) = (p.mentioned n ≡ true) × (still h ≡ moved (p.target_of
 
 module _ (t : NodeId → Option How) (p : RowPart) where
   -- a cell that is filled
-  filled-found : (c : CellId) (n : NodeId) (o : Option How) → Tells p n o → filled c n (embed_cell p c n false) o ≡ embed_cell p c n true
+  filled-found : (c : CellId) (n : NodeId) (o : Option How) → Tells p n o → filled_mark c n (embed_cell p c n false) o ≡ embed_cell p c n true
   filled-found c n None e = rw e refl
   filled-found c n (Some h) e = rw e.0 (ap (λ (k : How). Touch c n k) (elim (is_here (how (p.target_of n) (To.Cell c))) as (λ b. is_here (how (p.target_of n) (To.Cell c)) ≡ b → how_there (cond b (Fill c n) (Gap c)) h ≡ how (p.target_of n) (To.Cell c)) [
     | true ↦ (λ k. sym (is-here (how (p.target_of n) (To.Cell c)) k))
@@ -63,13 +63,13 @@ module _ (t : NodeId → Option How) (p : RowPart) where
   ] refl))
 
   -- a cell that is emptied
-  emptied-found : (c : CellId) (n : NodeId) → (p.target_of n ≢ None → p.mentioned n ≡ true) → emptied c n (embed_cell p c n true) ≡ embed_cell p c n false
-  emptied-found c n h = elim (p.mentioned n) as (λ b. p.mentioned n ≡ b → emptied c n (cond b (Touch c n (how (p.target_of n) (To.Cell c))) Counted) ≡ embed_cell p c n false) [
+  emptied-found : (c : CellId) (n : NodeId) → (p.target_of n ≢ None → p.mentioned n ≡ true) → emptied_mark c n (embed_cell p c n true) ≡ embed_cell p c n false
+  emptied-found c n h = elim (p.mentioned n) as (λ b. p.mentioned n ≡ b → emptied_mark c n (cond b (Touch c n (how (p.target_of n) (To.Cell c))) Counted) ≡ embed_cell p c n false) [
     | true ↦ (λ e. touched (how (p.target_of n) (To.Cell c)))
     | false ↦ (λ e. unput (p.target_of n) h e)
   ] refl
     where
-      touched : (k : How) → emptied c n (Touch c n k) ≡ cond (is_here k) (Fill c n) (Gap c)
+      touched : (k : How) → emptied_mark c n (Touch c n k) ≡ cond (is_here k) (Fill c n) (Gap c)
       touched Stay = refl
       touched Here = refl
       touched Leave = refl
@@ -78,8 +78,8 @@ module _ (t : NodeId → Option How) (p : RowPart) where
       unput None h e = refl
       unput (Some to) h e = let q : ◌≡◌ {A = Bool} false true = sym e ∙ h (λ z. cc) in cc
 
-  pub rebased-found : (m : NodeId → Bool) (c : CellId) (n : NodeId) (a b : Bool) → (a ≡ true → p.target_of n ≢ None → p.mentioned n ≡ true) → (b ≡ true → Tells p n (t n)) → rebased t (embed_cell p c n a) (step_cell m c n a b) ≡ embed_cell p c n b
-  rebased-found m c n true true h e = elim (m n) as (λ b. rebased t (embed_cell p c n true) (cond b (Touch c n Stay) Counted) ≡ embed_cell p c n true) [ true ↦ refl | false ↦ refl ]
+  pub rebased-found : (m : NodeId → Bool) (c : CellId) (n : NodeId) (a b : Bool) → (a ≡ true → p.target_of n ≢ None → p.mentioned n ≡ true) → (b ≡ true → Tells p n (t n)) → rebased_mark t (embed_cell p c n a) (step_cell m c n a b) ≡ embed_cell p c n b
+  rebased-found m c n true true h e = elim (m n) as (λ b. rebased_mark t (embed_cell p c n true) (cond b (Touch c n Stay) Counted) ≡ embed_cell p c n true) [ true ↦ refl | false ↦ refl ]
   rebased-found m c n true false h e = emptied-found c n (h refl)
   rebased-found m c n false true h e = filled-found c n (t n) (e refl)
   rebased-found m c n false false h e = refl
@@ -99,7 +99,7 @@ module _ (t : NodeId → Option How) (p : RowPart) where
           ] refl
 
       go : (b : Bool) → (b ≡ true → Tells p n (t n)) → gained_cell t c n b ≡ embed_cell p c n b
-      go true e = ap (λ x. filled c n x (t n)) (sym (ap (λ b. cond b (Fill c n) (Gap c)) away)) ∙ filled-found c n (t n) (e refl)
+      go true e = ap (λ x. filled_mark c n x (t n)) (sym (ap (λ b. cond b (Fill c n) (Gap c)) away)) ∙ filled-found c n (t n) (e refl)
       go false e = sym (ap (λ b. cond b (Fill c n) (Gap c)) away)
 
   over-cells : (m : NodeId → Bool) {c d : List Slot} (g : GainsItems SameCell c d) → NamesNoGained p g → ((n : NodeId) → StandsIn n c → p.target_of n ≢ None → p.mentioned n ≡ true) → ((n : NodeId) → StandsIn n d → Tells p n (t n)) → over_row t (embed_cells p c) (step_row m g) ≡ embed_cells p d

@@ -8,7 +8,7 @@ use Rattle.st_marks.specs.declared.intents.To.{To}
 use Rattle.st_marks.specs.declared.places.Slot.{Slot}
 use Rattle.st_marks.specs.Row.{CellMark, Counted, Gap, Touch, Make, Fill, RowPart, how, step_row, embed_cell, embed_made, embed_cells, embed_row}
 use Rattle.st_marks.specs.How.{is_here}
-use Rattle.st_seq.specs.inside.Cells.{effected, effect_row, voided, void_row}
+use Rattle.st_seq.specs.inside.Cells.{effected_mark, effect_row, voided_mark, void_row}
 use Rattle.st_seq.specs.Changes.{StandsIn, AreOld, void_part}
 use Rattle.st_seq.proofs.Effected.{effect_row-embed_row, grown_row}
 
@@ -31,9 +31,9 @@ module _ (placed : Nodes) (p : RowPart) where
   void-group [] xs ys e = e
   void-group (o ∷ os) xs ys e = λ i. Make o.cell o.node (void-made o i) ∷ void-group os xs ys e i
 
-  void-cell : (c : CellId) (n : NodeId) (b : Bool) → placed n ≡ false → voided placed (embed_cell p c n b) ≡ effected (embed_cell (void_part placed p) c n b)
-  void-cell c n true e = rw e (elim (p.mentioned n) as (λ b. voided placed (cond b (Touch c n (how (p.target_of n) (To.Cell c))) Counted) ≡ effected (cond b (Touch c n (how None (To.Cell c))) Counted)) [ true ↦ refl | false ↦ refl ])
-  void-cell c n false e = rw e (elim (is_here (how (p.target_of n) (To.Cell c))) as (λ b. voided placed (cond b (Fill c n) (Gap c)) ≡ Gap c) [ true ↦ refl | false ↦ refl ])
+  void-cell : (c : CellId) (n : NodeId) (b : Bool) → placed n ≡ false → voided_mark placed (embed_cell p c n b) ≡ effected_mark (embed_cell (void_part placed p) c n b)
+  void-cell c n true e = rw e (elim (p.mentioned n) as (λ b. voided_mark placed (cond b (Touch c n (how (p.target_of n) (To.Cell c))) Counted) ≡ effected_mark (cond b (Touch c n (how None (To.Cell c))) Counted)) [ true ↦ refl | false ↦ refl ])
+  void-cell c n false e = rw e (elim (is_here (how (p.target_of n) (To.Cell c))) as (λ b. voided_mark placed (cond b (Fill c n) (Gap c)) ≡ Gap c) [ true ↦ refl | false ↦ refl ])
 
   void-cells : (c : List Slot) → AreOld placed c → void_row placed (embed_cells p c) ≡ effect_row (embed_cells (void_part placed p) c)
   void-cells [] h = refl

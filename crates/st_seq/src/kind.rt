@@ -4,7 +4,7 @@ ghost use Rattle.st_marks.specs.Row.{spread};
 
 use crate::form::is_of_form;
 use crate::name_clashes::{agree_beside, agree_in_turn, agree_over};
-use crate::new_nodes::{merged, rising};
+use crate::new_nodes::{merged_names, rising};
 use crate::owners::agree_as_changes;
 use crate::values::{RowChange, RowHeld, RowStep};
 use crate::{row_bridge, row_compose, row_effect, row_invert, row_rebase, rows};
@@ -110,7 +110,7 @@ impl FieldKind for Sequence {
             first.marks.as_slice(),
             then.marks.as_slice(),
         )?;
-        let new = merged(alloc, &first.new, &then.new)?;
+        let new = merged_names(alloc, &first.new, &then.new)?;
         Ok(RowChange {
             rev: first.rev,
             in_new: first.in_new | then.in_new,

@@ -70,7 +70,7 @@ fn add(nodes: &mut List<NodeId>, node: NodeId) -> Result<(), AllocError>
 }
 
 /// The nodes of two lists that rise by name, in one that does.
-pub fn merged(
+pub fn merged_names(
     alloc: Global,
     first: &List<NodeId>,
     then: &List<NodeId>,

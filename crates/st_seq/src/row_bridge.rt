@@ -10,7 +10,7 @@ ghost use Rattle.st_marks.specs.Embedding.{is_among as among};
 ghost use Rattle.st_marks.specs.Row.{RowPart, spread};
 ghost use Rattle.st_marks.specs.Listings.{cells_before};
 ghost use Rattle.st_seq.specs.Views.{DifferAt};
-ghost use Rattle.st_seq.specs.inside.Cells.{turned as turned_cell, stepped as stepped_cell, bridged as bridged_cell, bridged_piece, full_first as full_by_change, full_then as full_by_both, made_full as full_if_made, gained_full as full_if_gained};
+ghost use Rattle.st_seq.specs.inside.Cells.{turned_mark as turned_cell, stepped_mark as stepped_cell, bridged_mark as bridged_cell, bridged_piece, full_first as full_by_change, full_then as full_by_both, made_full as full_if_made, gained_full as full_if_gained};
 ghost use Rattle.st_seq.specs.Changes.{IsRowChange, Keeps, StandsOver, may_list, placed_by, row_after};
 ghost use Rattle.st_seq.specs.Reading.{cell_of};
 ghost use Rattle.st_seq.specs.inside.Reading.{IsSingle};
@@ -21,7 +21,7 @@ use crate::cell_view::{after, before};
 use crate::merge_walk::{Table, lay_beside};
 use crate::node_set::is_among;
 use crate::pieces::Piece;
-use crate::row_rebase::{both, gained};
+use crate::row_rebase::{both, gained_cell};
 use crate::touches::touches;
 use st_ids::{CellId, List, NodeId, Or};
 use st_kind::Apart;
@@ -30,7 +30,7 @@ use std::alloc::Global;
 use std::collections::BTreeMap;
 
 /// What a step says of a cell whose owner it names, by whether it is full before and whether it is full after.
-fn turned(cell: CellId, node: NodeId, full_before: bool, full_after: bool) -> Mark
+fn turned_mark(cell: CellId, node: NodeId, full_before: bool, full_after: bool) -> Mark
     ensures { spread (result ∷ []) ≡ turned_cell cell node full_before full_after ∷ [] }
 {
     if full_before {
@@ -47,15 +47,15 @@ fn turned(cell: CellId, node: NodeId, full_before: bool, full_after: bool) -> Ma
 }
 
 /// What the step says of a cell that both find, by whether it is full before and whether it is full after.
-fn stepped(x: Mark, y: Mark, full_before: bool, full_after: bool) -> Mark
+fn stepped_mark(x: Mark, y: Mark, full_before: bool, full_after: bool) -> Mark
     requires { IsSingle y }
     ensures { spread (result ∷ []) ≡ stepped_cell (cell_of x) (cell_of y) full_before full_after ∷ [] }
 {
     match x {
-        Mark::Touch { cell, node, .. } => turned(cell, node, full_before, full_after),
-        Mark::Fill { cell, node } => turned(cell, node, full_before, full_after),
+        Mark::Touch { cell, node, .. } => turned_mark(cell, node, full_before, full_after),
+        Mark::Fill { cell, node } => turned_mark(cell, node, full_before, full_after),
         Mark::Gap(_) => match y {
-            Mark::Fill { cell, node } => turned(cell, node, full_before, full_after),
+            Mark::Fill { cell, node } => turned_mark(cell, node, full_before, full_after),
             _ => y,
         },
         _ => y,
@@ -107,7 +107,7 @@ impl<'a> Across<'a> {
         if self.was_void && self.is_void {
             y
         } else {
-            stepped(x, y, self.full_first(x), self.full_then(x, y))
+            stepped_mark(x, y, self.full_first(x), self.full_then(x, y))
         }
     }
 
@@ -129,7 +129,7 @@ impl<'a> Across<'a> {
         if self.is_void {
             full
         } else {
-            after(gained(self.seen, cell, node, full)).full
+            after(gained_cell(self.seen, cell, node, full)).full
         }
     }
 
@@ -139,7 +139,7 @@ impl<'a> Across<'a> {
         ensures { spread (result ∷ []) ≡ bridged_piece self.now.was_void self.now.is_void (placed_by self.now.in_new self.now.new.now) (get node_cmp self.now.seen.now) (First (cell_of x)) ∷ [] }
     {
         match x {
-            Mark::Make { cell, node, full } => turned(
+            Mark::Make { cell, node, full } => turned_mark(
                 cell,
                 node,
                 self.made_full(node, full, self.was_void),

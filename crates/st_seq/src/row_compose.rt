@@ -6,7 +6,7 @@ ghost use Rattle.st_marks.specs.declared.places.Slot.{Slot};
 ghost use Rattle.st_marks.specs.Row.{Fill, Make, RowPart, spread, merge, embed_row};
 ghost use Rattle.st_marks.specs.Listings.{cells_after, cells_before};
 ghost use Rattle.st_seq.specs.Views.{DifferAt};
-ghost use Rattle.st_seq.specs.inside.Cells.{composed as composed_cell, joined as joined_cell};
+ghost use Rattle.st_seq.specs.inside.Cells.{composed_mark as composed_cell, joined_mark as joined_cell};
 ghost use Rattle.st_seq.specs.Changes.{AreJoined, IsRowChange, carried_row};
 ghost use Rattle.st_seq.specs.Reading.{cell_of};
 ghost use Rattle.st_seq.specs.inside.Reading.{IsSingle};
@@ -20,7 +20,7 @@ use st_marks::{How, Mark};
 use std::alloc::Global;
 
 /// What is said together of a cell that the first listing fills.
-fn filled(cell: CellId, node: NodeId, then: Mark) -> Mark
+fn filled_mark(cell: CellId, node: NodeId, then: Mark) -> Mark
     ensures composed { spread (result ∷ []) ≡ composed_cell (Fill cell node) (cell_of then) ∷ [] }
     ensures joined { spread (result ∷ []) ≡ joined_cell (Fill cell node) (cell_of then) ∷ [] }
 {
@@ -54,7 +54,7 @@ fn made(cell: CellId, node: NodeId, full: bool, then: Mark) -> Mark
 }
 
 /// What the marks of two steps say together of one cell.
-fn composed(first: Mark, then: Mark) -> Mark
+fn composed_mark(first: Mark, then: Mark) -> Mark
     requires first { IsSingle first }
     requires then { IsSingle then }
     ensures { spread (result ∷ []) ≡ composed_cell (cell_of first) (cell_of then) ∷ [] }
@@ -76,7 +76,7 @@ fn composed(first: Mark, then: Mark) -> Mark
             Mark::Touch { how, .. } => Mark::Touch { cell, node, how },
             _ => first,
         },
-        Mark::Fill { cell, node } => filled(cell, node, then),
+        Mark::Fill { cell, node } => filled_mark(cell, node, then),
         Mark::Make { cell, node, full } => made(cell, node, full, then),
         _ => then,
     }
@@ -94,7 +94,7 @@ impl Table for Steps {
     fn mark(&self, piece: Piece) -> Mark {
         match piece {
             Piece::Counted(k) => Mark::Skip(k),
-            Piece::Both(first, then) => composed(first, then),
+            Piece::Both(first, then) => composed_mark(first, then),
             Piece::First(first) => first,
             Piece::Then(then) => then,
         }
@@ -117,7 +117,7 @@ pub fn compose(
 }
 
 /// What the marks of two changes say together of one cell.
-fn joined(first: Mark, then: Mark) -> Mark
+fn joined_mark(first: Mark, then: Mark) -> Mark
     requires first { IsSingle first }
     requires then { IsSingle then }
     ensures { spread (result ∷ []) ≡ joined_cell (cell_of first) (cell_of then) ∷ [] }
@@ -140,7 +140,7 @@ fn joined(first: Mark, then: Mark) -> Mark
             Mark::Touch { how, .. } => Mark::Touch { cell, node, how },
             _ => first,
         },
-        Mark::Fill { cell, node } => filled(cell, node, then),
+        Mark::Fill { cell, node } => filled_mark(cell, node, then),
         Mark::Make { cell, node, full } => made(cell, node, full, then),
         _ => then,
     }
@@ -158,7 +158,7 @@ impl Table for Changes {
     fn mark(&self, piece: Piece) -> Mark {
         match piece {
             Piece::Counted(k) => Mark::Skip(k),
-            Piece::Both(first, then) => joined(first, then),
+            Piece::Both(first, then) => joined_mark(first, then),
             Piece::First(first) => first,
             Piece::Then(then) => then,
         }

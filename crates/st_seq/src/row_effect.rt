@@ -16,7 +16,7 @@ use st_marks::{How, Mark};
 use std::alloc::{AllocError, Global};
 
 /// What the step of a change says of the cells of a mark.
-fn effected(mark: Mark) -> Mark
+fn effected_mark(mark: Mark) -> Mark
     ensures { spread (result ∷ []) ≡ effect_row (spread (mark ∷ [])) }
 {
     match mark {
@@ -43,7 +43,7 @@ fn effected_marks(alloc: Global, change: &[Mark]) -> Result<List<Mark>, AllocErr
 {
     let mut out = List::new(alloc);
     for mark in change {
-        push(&mut out, effected(*mark))?;
+        push(&mut out, effected_mark(*mark))?;
     }
     Ok(out)
 }
@@ -57,7 +57,7 @@ pub fn effect(alloc: Global, change: &List<Mark>) -> Result<List<Mark>, AllocErr
 }
 
 /// What the step of a void change says of the cells of a mark; `in_new` and `new` as in `void_effect`.
-fn voided(mark: Mark, in_new: bool, new: &List<NodeId>) -> Mark
+fn voided_mark(mark: Mark, in_new: bool, new: &List<NodeId>) -> Mark
     requires { IsRising node_cmp (λ n. n) new.now }
     ensures { spread (result ∷ []) ≡ void_row (placed_by in_new new.now) (spread (mark ∷ [])) }
 {
@@ -92,7 +92,7 @@ fn voided_marks(
 {
     let mut out = List::new(alloc);
     for mark in change {
-        push(&mut out, voided(*mark, in_new, new))?;
+        push(&mut out, voided_mark(*mark, in_new, new))?;
     }
     Ok(out)
 }

@@ -13,7 +13,7 @@ use st_marks::{How, Mark};
 use std::alloc::{AllocError, Global};
 
 /// What the way back says of the cells of a mark.
-fn inverted(mark: Mark) -> Mark
+fn inverted_mark(mark: Mark) -> Mark
     ensures { spread (result ∷ []) ≡ invert_row (spread (mark ∷ [])) }
 {
     match mark {
@@ -52,7 +52,7 @@ fn inverted_marks(alloc: Global, step: &[Mark]) -> Result<List<Mark>, AllocError
 {
     let mut out = List::new(alloc);
     for mark in step {
-        push(&mut out, inverted(*mark))?;
+        push(&mut out, inverted_mark(*mark))?;
     }
     Ok(out)
 }

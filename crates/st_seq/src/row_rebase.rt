@@ -8,7 +8,7 @@ ghost use Rattle.st_marks.specs.declared.places.Slot.{Slot};
 ghost use Rattle.st_marks.specs.Row.{RowPart, spread, merge, embed_row};
 ghost use Rattle.st_marks.specs.Listings.{cells_before};
 ghost use Rattle.st_seq.specs.Views.{DifferAt};
-ghost use Rattle.st_seq.specs.inside.Cells.{rebased as rebased_cell, rebased_piece, gained_cell, emptied as emptied_cell, filled as filled_cell, how_there as there};
+ghost use Rattle.st_seq.specs.inside.Cells.{rebased_mark as rebased_cell, rebased_piece, gained_cell, emptied_mark as emptied_cell, filled_mark as filled_cell, how_there as there};
 ghost use Rattle.st_seq.specs.Changes.{IsRowChange, Keeps, may_list};
 ghost use Rattle.st_seq.specs.Reading.{cell_of};
 ghost use Rattle.st_seq.specs.inside.Reading.{IsSingle};
@@ -38,7 +38,7 @@ fn how_there(x: Mark, how: How) -> How
 }
 
 /// What the change says of a cell that the step fills.
-fn filled(seen: &BTreeMap<NodeId, How>, cell: CellId, node: NodeId, x: Mark) -> Mark
+fn filled_mark(seen: &BTreeMap<NodeId, How>, cell: CellId, node: NodeId, x: Mark) -> Mark
     ensures { spread (result ∷ []) ≡ filled_cell cell node (cell_of x) (get node_cmp seen.now node) ∷ [] }
 {
     match seen.get(&node).copied() {
@@ -52,7 +52,7 @@ fn filled(seen: &BTreeMap<NodeId, How>, cell: CellId, node: NodeId, x: Mark) -> 
 }
 
 /// What the change says of a cell that the step empties.
-fn emptied(cell: CellId, node: NodeId, x: Mark) -> Mark
+fn emptied_mark(cell: CellId, node: NodeId, x: Mark) -> Mark
     ensures { spread (result ∷ []) ≡ emptied_cell cell node (cell_of x) ∷ [] }
 {
     match x {
@@ -62,11 +62,11 @@ fn emptied(cell: CellId, node: NodeId, x: Mark) -> Mark
 }
 
 /// What the change says of a cell that the step makes.
-pub fn gained(seen: &BTreeMap<NodeId, How>, cell: CellId, node: NodeId, full: bool) -> Mark
+pub fn gained_cell(seen: &BTreeMap<NodeId, How>, cell: CellId, node: NodeId, full: bool) -> Mark
     ensures { spread (result ∷ []) ≡ gained_cell (get node_cmp seen.now) cell node full ∷ [] }
 {
     if full {
-        filled(seen, cell, node, Mark::Gap(cell))
+        filled_mark(seen, cell, node, Mark::Gap(cell))
     } else {
         Mark::Gap(cell)
     }
@@ -82,8 +82,8 @@ pub fn both(seen: &BTreeMap<NodeId, How>, x: Mark, y: Mark) -> Mark
             cell,
             node,
             how: How::Leave,
-        } => emptied(cell, node, x),
-        Mark::Fill { cell, node } => filled(seen, cell, node, x),
+        } => emptied_mark(cell, node, x),
+        Mark::Fill { cell, node } => filled_mark(seen, cell, node, x),
         _ => x,
     }
 }
@@ -94,7 +94,7 @@ fn beside_none(seen: &BTreeMap<NodeId, How>, y: Mark) -> Mark
     ensures { spread (result ∷ []) ≡ rebased_piece (get node_cmp seen.now) (Then (cell_of y)) ∷ [] }
 {
     match y {
-        Mark::Make { cell, node, full } => gained(seen, cell, node, full),
+        Mark::Make { cell, node, full } => gained_cell(seen, cell, node, full),
         _ => y,
     }
 }

@@ -20,7 +20,7 @@ use Rattle.st_tree.specs.declared.limits.TreeFault.TheVariants.{TooDeep, TooMany
 use Rattle.st_tree.specs.Node.{Node, node, Fields, no_fields, field, Nodes, no_nodes, first}
 use Rattle.st_tree.specs.Form.{has_form}
 use Rattle.st_tree.specs.Size.{node_count, field_count, item_count, height, check_of}
-use Rattle.st_tree.specs.Preorder.{cells_taken, cell_count, item_cells, at_of, listed, fields_listed, items_listed, opening_listed}
+use Rattle.st_tree.specs.Preorder.{cells_taken, cell_count, item_cells, at_of, tree_listed, fields_listed, items_listed, opening_listed}
 use Rattle.st_schema.specs.Schema.{SchemaView}
 use Rattle.st_schema.specs.Conforms.{verdicts, allows_of}
 use Rattle.st_schema.specs.Written.{schema_data}
@@ -55,7 +55,7 @@ cell_of rev owner key true c = refl
 cell_of rev owner key false c = tt
 
 mutual
-  tree_of : (rev : Rev) (at : FlatAt) (n c : ℕ) (t : Node) → IsCellOf rev at → AllByRecursion (IsOf rev) (listed rev at n c t)
+  tree_of : (rev : Rev) (at : FlatAt) (n c : ℕ) (t : Node) → IsCellOf rev at → AllByRecursion (IsOf rev) (tree_listed rev at n c t)
   tree_of rev at n c (node ty leaf fields) h = ((refl, h), fields_of rev n (n + 1) c fields)
 
   fields_of : (rev : Rev) (owner n c : ℕ) (fs : Fields) → AllByRecursion (IsOf rev) (fields_listed rev owner n c fs)
@@ -67,12 +67,12 @@ mutual
   items_of : (rev : Rev) (owner : ℕ) (key : List ℕ) (row : Bool) (n c : ℕ) (ts : Nodes) → AllByRecursion (IsOf rev) (items_listed rev owner key row n c ts)
   items_of rev owner key row n c no_nodes = tt
   items_of rev owner key row n c (first t ts) =
-      AllByRecursion-append (IsOf rev) (listed rev (at_of rev owner key row c) n (c + cells_taken row) t) (items_listed rev owner key row (n + node_count t) (c + (cells_taken row + cell_count t)) ts)
+      AllByRecursion-append (IsOf rev) (tree_listed rev (at_of rev owner key row c) n (c + cells_taken row) t) (items_listed rev owner key row (n + node_count t) (c + (cells_taken row + cell_count t)) ts)
       (tree_of rev (at_of rev owner key row c) n (c + cells_taken row) t (cell_of rev owner key row c))
       (items_of rev owner key row (n + node_count t) (c + (cells_taken row + cell_count t)) ts)
 
 mutual
-  listed_length : (rev : Rev) (at : FlatAt) (n c : ℕ) (t : Node) → length (listed rev at n c t) ≡ node_count t
+  listed_length : (rev : Rev) (at : FlatAt) (n c : ℕ) (t : Node) → length (tree_listed rev at n c t) ≡ node_count t
   listed_length rev at n c (node ty leaf fields) = let h = fields_length rev n (n + 1) c fields in omega (arith, h)
 
   fields_length : (rev : Rev) (owner n c : ℕ) (fs : Fields) → length (fields_listed rev owner n c fs) ≡ field_count fs
@@ -87,7 +87,7 @@ mutual
   items_length rev owner key row n c (first t ts) =
       let a = listed_length rev (at_of rev owner key row c) n (c + cells_taken row) t in
       let b = items_length rev owner key row (n + node_count t) (c + (cells_taken row + cell_count t)) ts in
-      length-append (listed rev (at_of rev owner key row c) n (c + cells_taken row) t) _ ∙ (λ i. a i + b i)
+      length-append (tree_listed rev (at_of rev owner key row c) n (c + cells_taken row) t) _ ∙ (λ i. a i + b i)
 
 -- ## The document of such a list
 

@@ -3,14 +3,14 @@ use Rattle.std.proofs.Common.{◌≡◌, ℕ, List, Option, Some, None, refl, sy
 use Rattle.st_edits.specs.Resolve.{IsWithin, resolve}
 use Rattle.st_script.specs.Header.{HeaderView}
 use Rattle.st_script.specs.Line.{line_of, line_view}
-use Rattle.st_script.specs.Steps.{IsOfForm, step_view, join}
+use Rattle.st_script.specs.Steps.{IsWithinLimits, step_view, join}
 use Rattle.st_script.specs.declared.line.Line.{Line}
 use Rattle.st_script.proofs.OfForm.{line_formed as formed}
 use Rattle.st_script.specs.declared.answer.Answer.{Answer}
 use Rattle.st_script.specs.declared.step.TraceStep.{TraceStep}
 use Rattle.st_script.specs.declared.step.TraceStep.TheVariants as step
 use Rattle.st_trace.specs.inside.Edits.{word_of, edit_of}
-use Rattle.st_trace.specs.World.{IsEdited, IsNextOf, IsShown, next_names}
+use Rattle.st_trace.specs.World.{IsEdited, IsStepOf, IsShown, next_names}
 use Rattle.st_trace.specs.declared.client.EditWord.{EditWord}
 use Rattle.st_trace.specs.declared.client.EditWord.TheVariants as word
 use Rattle.st_trace.specs.declared.state.Client.{Client}
@@ -24,7 +24,7 @@ one_word x y e = cc
 
 -- an edit of the tree
 pub next_edit : (h : HeaderView) (w : WorldState) (i : ℕ) (c : Client) (v : WorldState) (a : Answer) (s : TraceStep) (x : EditWord) → word_of s ≡ Some x
-    → IsEdited h w i c x (λ D. resolve D h.schema (next_names c) (edit_of s)) v a → IsNextOf h w (step_view s) i c v a
+    → IsEdited h w i c x (λ D. resolve D h.schema (next_names c) (edit_of s)) v a → IsStepOf h w (step_view s) i c v a
 next_edit h w i c v a (step.Join client) x e m = cc
 next_edit h w i c v a (step.Insert client branch at key index items) x e m = subst (IsMeant h w i c v a (step.Insert client branch at key index items)) (one_word x word.Insert e) m
 next_edit h w i c v a (step.Remove client branch at key index count) x e m = subst (IsMeant h w i c v a (step.Remove client branch at key index count)) (one_word x word.Remove e) m
@@ -36,7 +36,7 @@ next_edit h w i c v a (step.Deliver client) x e m = cc
 next_edit h w i c v a (step.Show client branch) x e m = cc
 
 -- what a caller of an edit sees to
-pub within_edit : (s : TraceStep) (x : EditWord) → word_of s ≡ Some x → IsOfForm (step_view s) → IsWithin (edit_of s)
+pub within_edit : (s : TraceStep) (x : EditWord) → word_of s ≡ Some x → IsWithinLimits (step_view s) → IsWithin (edit_of s)
 within_edit (step.Join client) x e f = cc
 within_edit (step.Insert client branch at key index items) x e f = f
 within_edit (step.Remove client branch at key index count) x e f = f
@@ -49,7 +49,7 @@ within_edit (step.Show client branch) x e f = cc
 
 -- the rest is what is shown
 pub next_show : (h : HeaderView) (w : WorldState) (i : ℕ) (c : Client) (a : Answer) (s : TraceStep) → word_of s ≡ None → ((client : List ℕ) → s ≡ step.Join client → ⊥) → ((client : List ℕ) → s ≡ step.Sequence client → ⊥)
-    → ((client : List ℕ) → s ≡ step.Deliver client → ⊥) → IsShown h w c a → IsNextOf h w (step_view s) i c w a
+    → ((client : List ℕ) → s ≡ step.Deliver client → ⊥) → IsShown h w c a → IsStepOf h w (step_view s) i c w a
 next_show h w i c a (step.Join client) none no_join no_sequence no_deliver shown = absurd (no_join client refl)
 next_show h w i c a (step.Insert client branch at key index items) none no_join no_sequence no_deliver shown = cc
 next_show h w i c a (step.Remove client branch at key index count) none no_join no_sequence no_deliver shown = cc
@@ -73,5 +73,5 @@ no_join (step.Deliver client) other name e = cc
 no_join (step.Show client branch) other name e = cc
 
 -- the step that a line is
-pub line_formed : (bytes : List ℕ) (l : Line) (s : TraceStep) → line_view l ≡ line_of bytes → l ≡ Line.Step s → IsOfForm (step_view s)
+pub line_formed : (bytes : List ℕ) (l : Line) (s : TraceStep) → line_view l ≡ line_of bytes → l ≡ Line.Step s → IsWithinLimits (step_view s)
 line_formed bytes l s is same = formed bytes (step_view s) (sym is ∙ ap line_view same)

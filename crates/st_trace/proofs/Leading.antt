@@ -49,7 +49,7 @@ use Rattle.st_script.specs.declared.answer.Answer.TheVariants.{Deliver, Join as 
 use Rattle.st_script.specs.declared.refusal.Refusal.TheVariants.{NoBranch, NoClient, NothingNew, NothingToSend, Taken}
 use Rattle.st_trace.specs.Replicas.{IsClient, IsSound}
 use Rattle.st_trace.specs.Log.{commit_of, log_with}
-use Rattle.st_trace.specs.World.{AtClient, HasReceived, HasShown, IsDelivered, IsDeliveredTo, IsEdited, IsNext, IsNextOf, IsShown, IsVerdictOf, OnBranch, after_edit, entering, client_named, next_names, join, new_client, log_limit_passed, names_made, next_rev, opening_document, limit_refusal, place_of, received_by, sequence, with_received, with_client}
+use Rattle.st_trace.specs.World.{AtClient, HasReceived, HasShown, IsDelivered, IsDeliveredTo, IsEdited, IsNext, IsStepOf, IsShown, IsVerdictOf, OnBranch, after_edit, entering, client_named, next_names, join, new_client, log_limit_passed, names_made, next_rev, opening_document, limit_refusal, place_of, received_by, sequence, with_received, with_client}
 use Rattle.st_trace.specs.declared.client.EditWord.{EditWord}
 use Rattle.st_trace.specs.declared.state.Body.TheVariants.{Join}
 use Rattle.st_trace.specs.declared.state.Client.{Client}
@@ -255,7 +255,7 @@ module _ (h : HeaderView) (w : WorldState) (s : AreSound h w) where
       go false false true = (w, limit_refusal (record { of = Log; kept = length w.log }), refl, s)
       go false false false = (longer.0, longer.1, refl, joined_sound h w name s)
 
-  has_next_of : (x : StepView) (i : ℕ) (c : Client) → slice_get w.clients i ≡ Some c → Leads (IsNextOf h w x i c)
+  has_next_of : (x : StepView) (i : ℕ) (c : Client) → slice_get w.clients i ≡ Some c → Leads (IsStepOf h w x i c)
   has_next_of (step.join name) i c at = has_joined name
   has_next_of (step.insert name branch path key index items) i c at =
       has_edited i c at EditWord.Insert (λ D. insert D h.schema (next_names c) path key index (nodes_of items)) (λ D sound nodes cells. insert_means h c s.header.schema D sound nodes cells path key index (nodes_of items))
@@ -278,7 +278,7 @@ module _ (h : HeaderView) (w : WorldState) (s : AreSound h w) where
   has_next_at : (x : StepView) → Leads (AtClient h w x (client_named (name_of x) w.clients))
   has_next_at x = place (place_of (name_of x) w.clients)
     where
-      on : (branch i : ℕ) (c : Client) → Leads (IsNextOf h w x i c) → Leads (λ v a. OnBranch branch w v a (IsNextOf h w x i c v a))
+      on : (branch i : ℕ) (c : Client) → Leads (IsStepOf h w x i c) → Leads (λ v a. OnBranch branch w v a (IsStepOf h w x i c v a))
       on zero i c onward = onward
       on (suc k) i c onward = stays (No NoBranch)
 

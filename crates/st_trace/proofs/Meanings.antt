@@ -16,7 +16,7 @@ use Rattle.st_marks.specs.Document.{Document}
 use Rattle.st_edits.specs.declared.names.NameCounters.{NameCounters}
 use Rattle.st_edits.specs.declared.names.Takes.TheVariants as field
 use Rattle.st_edits.specs.Paths.{and_then, field_at, row_length}
-use Rattle.st_edits.specs.Resolve.{allowed_nodes, require, clear, insert, inserted, may_move, move, intent_to_move, need, empty_intent, intent_to_place, put, remove, intent_to_remove, resolve, rule_for, nodes_taken, walk, within_row}
+use Rattle.st_edits.specs.Resolve.{allowed_nodes, require, clear, insert, intent_to_insert, may_move, move, intent_to_move, need, empty_intent, intent_to_place, put, remove, intent_to_remove, resolve, rule_for, nodes_taken, walk, within_row}
 use Rattle.st_edits.proofs.Fits.{passed}
 
 abbrev pub IsOf : NameCounters → Intent → Type 0
@@ -34,9 +34,9 @@ pub insert_of : (D : Document) (s : SchemaView) (G : NameCounters) (at : List Pl
 insert_of D s G at key index trees N e =
     let n = passed (walk D at) _ N e in
     let rule = passed (rule_for field.Row D s n.0 key) _ N n.2 in
-    let at_end = passed (require (nat_le index (row_length D n.0)) Range) (λ _. and_then (allowed_nodes s G rule.0 trees) (λ xs. Ok (inserted D G n.0 index xs))) N rule.2 in
-    let xs = passed (allowed_nodes s G rule.0 trees) (λ xs. Ok (inserted D G n.0 index xs)) N at_end.2 in
-    ended G (inserted D G n.0 index xs.0) N (refl, refl) xs.2
+    let at_end = passed (require (nat_le index (row_length D n.0)) Range) (λ _. and_then (allowed_nodes s G rule.0 trees) (λ xs. Ok (intent_to_insert D G n.0 index xs))) N rule.2 in
+    let xs = passed (allowed_nodes s G rule.0 trees) (λ xs. Ok (intent_to_insert D G n.0 index xs)) N at_end.2 in
+    ended G (intent_to_insert D G n.0 index xs.0) N (refl, refl) xs.2
 
 pub remove_of : (D : Document) (s : SchemaView) (G : NameCounters) (at : List Place) (key : Key) (index count : ℕ) (N : Intent) → remove D s G at key index count ≡ Ok N → IsOf G N
 remove_of D s G at key index count N e =

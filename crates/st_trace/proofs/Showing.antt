@@ -18,7 +18,7 @@ use Rattle.st_script.specs.Steps.{StepView, branch_of, name_of}
 use Rattle.st_script.specs.Steps as step
 use Rattle.st_script.specs.declared.answer.Answer.{Answer}
 use Rattle.st_trace.specs.Replicas.{IsSound}
-use Rattle.st_trace.specs.World.{AtClient, HasShown, IsAllowedText, IsDeliveredTo, IsEdited, IsNext, IsNextOf, OnBranch, ShowsAllowed, answer_of, after_edit, entering, client_named, join, limit_passed, log_limit_passed, names_made, next_rev, opening_document, with_pending, place_of, received_by, sequence}
+use Rattle.st_trace.specs.World.{AtClient, HasShown, IsAllowedText, IsDeliveredTo, IsEdited, IsNext, IsStepOf, OnBranch, ShowsAllowed, answer_of, after_edit, entering, client_named, join, limit_passed, log_limit_passed, names_made, next_rev, opening_document, with_pending, place_of, received_by, sequence}
 use Rattle.st_trace.specs.declared.client.EditWord.{EditWord}
 use Rattle.st_trace.specs.declared.state.Client.{Client}
 use Rattle.st_trace.specs.declared.state.Entry.{Entry}
@@ -88,7 +88,7 @@ module _ (s : SchemaView) where
   edit_fine h w i c word meant v a is = subst (ShowsAllowed s) (ap (λ (q : WorldState × Answer). q.1) is.2) (edited_fine c word (meant is.0))
 
 -- what the client at a place does
-of_fine : (w : World) (s : StepView) (i : ℕ) (c : Client) (v : WorldState) (a : Answer) → IsSound w → slice_get w.lists.clients i ≡ Some c → IsNextOf (header_view w.header) w.lists s i c v a → ShowsAllowed w.header.schema a
+of_fine : (w : World) (s : StepView) (i : ℕ) (c : Client) (v : WorldState) (a : Answer) → IsSound w → slice_get w.lists.clients i ≡ Some c → IsStepOf (header_view w.header) w.lists s i c v a → ShowsAllowed w.header.schema a
 of_fine w (step.join name) i c v a sound at is = one_fine w.header.schema (join w.lists name) v a is (join_fine w.header.schema w.lists name)
 of_fine w (step.insert name branch path key index items) i c v a sound at is = edit_fine w.header.schema (header_view w.header) w.lists i c EditWord.Insert _ v a is
 of_fine w (step.remove name branch path key index count) i c v a sound at is = edit_fine w.header.schema (header_view w.header) w.lists i c EditWord.Remove _ v a is
@@ -110,7 +110,7 @@ at_fine w s v a sound is = place (place_of (name_of s) w.lists.clients) is
 
     client : (i : ℕ) (o : Option Client) → slice_get w.lists.clients i ≡ o → AtClient (header_view w.header) w.lists s (option_map (λ c. (i, c)) o) v a → ShowsAllowed w.header.schema a
     client i None at is = subst (ShowsAllowed w.header.schema) (sym is.1) tt
-    client i (Some c) at is = on (branch_of s) (IsNextOf (header_view w.header) w.lists s i c v a) (of_fine w s i c v a sound at) is
+    client i (Some c) at is = on (branch_of s) (IsStepOf (header_view w.header) w.lists s i c v a) (of_fine w s i c v a sound at) is
 
     place : (o : Option ℕ) → AtClient (header_view w.header) w.lists s (option_and_then (λ i. option_map (λ c. (i, c)) (slice_get w.lists.clients i)) o) v a → ShowsAllowed w.header.schema a
     place None is = subst (ShowsAllowed w.header.schema) (sym is.1) tt

@@ -34,7 +34,7 @@ use Rattle.st_script.specs.Steps as step
 use Rattle.st_trace.specs.Replicas.{AreReplicas, IsClient, IsEntryOf, IsReplicaOf, IsSound, IsSoundAfter, KeepToSchema, intents_of, log_and_queue}
 use Rattle.st_trace.specs.Known.{AreKnown}
 use Rattle.st_trace.specs.Log.{commit_of, commits_in, log_with}
-use Rattle.st_trace.specs.World.{AtClient, IsNext, IsNextOf, OnBranch, client_named, new_client, log_limit_passed, names_in, names_made, opening_document, place_of, sequence}
+use Rattle.st_trace.specs.World.{AtClient, IsNext, IsStepOf, OnBranch, client_named, new_client, log_limit_passed, names_in, names_made, opening_document, place_of, sequence}
 use Rattle.st_trace.specs.declared.replica.Replica.{Replica}
 use Rattle.st_trace.specs.declared.state.Body.TheVariants.{Join, Commit}
 use Rattle.st_trace.specs.declared.state.Client.{Client}
@@ -66,7 +66,7 @@ sound_later steps w s = record {
   log_fit = s.log_fit;
   log_new = s.log_new;
   schema = s.schema;
-  head = s.head;
+  log_document = s.log_document;
   entries = s.entries;
   names = s.names;
   few_names = s.few_names;
@@ -88,7 +88,7 @@ sound_client w i c c' k' s at one session ids keeps = record {
   log_fit = s.log_fit;
   log_new = s.log_new;
   schema = keeps;
-  head = s.head;
+  log_document = s.log_document;
   entries = s.entries;
   names = s.names;
   few_names = s.few_names;
@@ -119,13 +119,13 @@ is_last h log c q rest k is =
     }
 
 -- it fits the document after the whole log, which is sound in form
-pub head_sound : (w : World) → IsSound w → IsSoundInForm (document_of w.head)
-head_sound w s = (turn_extends (start_of w w.steps s).sound s.log_fit s.head).after
+pub head_sound : (w : World) → IsSound w → IsSoundInForm (document_of w.log_document)
+head_sound w s = (turn_extends (start_of w w.steps s).sound s.log_fit s.log_document).after
 
-pub head_fits : (w : World) (i : ℕ) (c : Client) (q : Queued) (rest : List Queued) → IsSound w → slice_get w.lists.clients i ≡ Some c → c.queue ≡ q ∷ rest → Fits (document_of w.head) q.intent
+pub head_fits : (w : World) (i : ℕ) (c : Client) (q : Queued) (rest : List Queued) → IsSound w → slice_get w.lists.clients i ≡ Some c → c.queue ≡ q ∷ rest → Fits (document_of w.log_document) q.intent
 head_fits w i c q rest s at is =
     let last = is_last (header_view w.header) w.lists.log c q rest (kept_some (header_view w.header) w.lists.log w.lists.clients w.kept i c s.kept at) is in
-    (rest_fit (q.intent ∷ []) s.head last.fit).1
+    (rest_fit (q.intent ∷ []) s.log_document last.fit).1
 
 -- a text that passes no limit
 pub within_log : (log : List Entry) (made : ℕ) → log_limit_passed log made ≡ None → (length log < 65535) × (names_in (commits_in log) + made ≤ 131072)
@@ -151,16 +151,16 @@ limit_stopped log made = ap (λ b. cond (nat_le 65535 (length log)) (Some (recor
     same : (n : ℕ) → nat_lt 131072 (n + min made (2 ^ 64 - 1)) ≡ nat_lt 131072 (n + made)
     same n = grind (arith, nat_tests)
 
-pub sound_sent : (w : World) (i : ℕ) (c c' : Client) (q : Queued) (head : Doc) (known : BTreeMap ℕ ℕ) (v : Verdict) → IsSound w → slice_get w.lists.clients i ≡ Some c → c.queue ≡ q ∷ c'.queue → c' ≡ record c { queue = c'.queue }
-    → length w.lists.log < 65535 → names_in (commits_in w.lists.log) + names_made q.intent ≤ 131072 → IsVerdict (document_of w.head) q.intent v → document_of head ≡ carried v (document_of w.head) q.intent
+pub sound_sent : (w : World) (i : ℕ) (c c' : Client) (q : Queued) (log_document : Doc) (known : BTreeMap ℕ ℕ) (v : Verdict) → IsSound w → slice_get w.lists.clients i ≡ Some c → c.queue ≡ q ∷ c'.queue → c' ≡ record c { queue = c'.queue }
+    → length w.lists.log < 65535 → names_in (commits_in w.lists.log) + names_made q.intent ≤ 131072 → IsVerdict (document_of w.log_document) q.intent v → document_of log_document ≡ carried v (document_of w.log_document) q.intent
     → AreKnown (log_with w.lists.log c.session (Commit q.reference q.intent)) known
     → IsSoundAfter (w.steps + 1) (record w {
       lists = record w.lists { log = log_with w.lists.log c.session (Commit q.reference q.intent); clients = slice_set w.lists.clients i c' };
-      head = head;
+      log_document = log_document;
       known = known;
       names = w.names + names_made q.intent;
     })
-sound_sent w i c c' q head known v s at is is_c few few_names verdict after knows =
+sound_sent w i c c' q log_document known v s at is is_c few few_names verdict after knows =
     let h = header_view w.header in
     let st = start_of w w.steps s in
     let log = w.lists.log in
@@ -188,7 +188,7 @@ sound_sent w i c c' q head known v s at is is_c few few_names verdict after know
       log_fit = subst (FitInTurn (opening_document h)) commits last.fit;
       log_new = subst (HaveNewRevisions (opening ∷ [])) commits last.new;
       schema = sent_keeps h st log w.lists.clients i c c' q (clients_of h log w.lists.clients w.kept s.kept) at is is_c last.fit s.schema;
-      head = subst (λ l. Run (opening_document h) l (document_of head)) commits (run_more N (document_of head) v s.head verdict after);
+      log_document = subst (λ l. Run (opening_document h) l (document_of log_document)) commits (run_more N (document_of log_document) v s.log_document verdict after);
       entries = omega (arith, few, length-append log (last_entry log c.session body ∷ []));
       names = omega (arith, s.names, names);
       few_names = omega (arith, few_names, names);
@@ -209,7 +209,7 @@ of_sessions sessions (e ∷ es) N all i = go (commit_of e) all.0.1 i (λ j. of_s
     go (Some M) own (inr i) rest = rest i
 
 pub sound_joined : (w : World) (name : List ℕ) (n session : ℕ) (c : Client) (k : Replica) (known : BTreeMap ℕ ℕ) → IsSound w → length w.lists.clients < 64 → length w.lists.log < 65535 → session ≡ length w.lists.clients + 1
-    → n ≡ length w.lists.log + 1 → AreKnown (log_with w.lists.log session Join) known → c ≡ new_client n session name → document_of k.received ≡ document_of w.head → document_of k.shown ≡ document_of w.head → k.names ≡ 0
+    → n ≡ length w.lists.log + 1 → AreKnown (log_with w.lists.log session Join) known → c ≡ new_client n session name → document_of k.received ≡ document_of w.log_document → document_of k.shown ≡ document_of w.log_document → k.names ≡ 0
     → IsSoundAfter (w.steps + 1) (record w {
       lists = record w.lists { log = log_with w.lists.log session Join; clients = w.lists.clients ++ c ∷ [] };
       kept = w.kept ++ k ∷ [];
@@ -224,7 +224,7 @@ sound_joined w name n session c k known s few few_entries is_s is_n knows is_c r
     let size : length (log_with log session Join) ≡ length log + 1 = omega (arith, length-append log (last_entry log session Join ∷ [])) in
     let more : length (w.lists.clients ++ c ∷ []) ≡ length w.lists.clients + 1 = omega (arith, length-append w.lists.clients (c ∷ [])) in
     let client = client_joined h st log session name s.log_fit s.log_new (λ N i e. omega (arith, of_sessions (length w.lists.clients) log N s.log i, e, is_s)) in
-    let kept = kept_joined h st (log_with log session Join) (length log + 1) session name k (document_of w.head) (sym size) (subst (λ l. Run (opening_document h) l (document_of w.head)) commits s.head) received shown no_names in
+    let kept = kept_joined h st (log_with log session Join) (length log + 1) session name k (document_of w.log_document) (sym size) (subst (λ l. Run (opening_document h) l (document_of w.log_document)) commits s.log_document) received shown no_names in
     let is : new_client (length log + 1) session name ≡ c = ap (λ m. new_client m session name) (sym is_n) ∙ sym is_c in
     record {
       header = s.header;
@@ -240,7 +240,7 @@ sound_joined w name n session c k known s few few_entries is_s is_n knows is_c r
       log_fit = subst (FitInTurn (opening_document h)) commits s.log_fit;
       log_new = subst (HaveNewRevisions (opening ∷ [])) commits s.log_new;
       schema = joined_keeps h st log w.lists.clients session name c (clients_of h log w.lists.clients w.kept s.kept) (sym is) s.schema;
-      head = subst (λ l. Run (opening_document h) l (document_of w.head)) commits s.head;
+      log_document = subst (λ l. Run (opening_document h) l (document_of w.log_document)) commits s.log_document;
       entries = omega (arith, few_entries, size);
       names = s.names ∙ ap names_in commits;
       few_names = omega (arith, s.few_names, ap names_in commits);
@@ -267,7 +267,7 @@ next_absent h w s none = rw none (refl, refl)
 
 -- what the client at the place does
 pub next_present : (h : HeaderView) (w : WorldState) (s : StepView) (i : ℕ) (v : WorldState) (a : Answer) → place_of (name_of s) w.clients ≡ Some i
-    → ((c : Client) → slice_get w.clients i ≡ Some c → OnBranch (branch_of s) w v a (IsNextOf h w s i c v a)) → AtClient h w s (client_named (name_of s) w.clients) v a
+    → ((c : Client) → slice_get w.clients i ≡ Some c → OnBranch (branch_of s) w v a (IsStepOf h w s i c v a)) → AtClient h w s (client_named (name_of s) w.clients) v a
 next_present h w s i v a is does = rw is (at (slice_get w.clients i) refl)
   where
     within : i < length w.clients

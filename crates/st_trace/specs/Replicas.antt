@@ -107,7 +107,7 @@ pub record IsSoundAfter (steps : ℕ) (w : World) : Type 0 where
   pub log_fit : FitInTurn (opening_document (header_view w.header)) (commits_in w.lists.log)
   pub log_new : HaveNewRevisions (opening ∷ []) (commits_in w.lists.log)
   pub schema : KeepToSchema (header_view w.header) w.lists.log w.lists.clients
-  pub head : Run (opening_document (header_view w.header)) (commits_in w.lists.log) (document_of w.head)
+  pub log_document : Run (opening_document (header_view w.header)) (commits_in w.lists.log) (document_of w.log_document)
   pub entries : length w.lists.log ≤ 65535
   pub names : w.names ≡ names_in (commits_in w.lists.log)
   pub few_names : names_in (commits_in w.lists.log) ≤ 131072

@@ -204,8 +204,8 @@ sequence w i c (q ∷ rest) = entering w i c q rest (log_limit_passed w.log (nam
 -- ## Steps
 
 -- a step that changes nothing, and its answer
-abbrev pub Stays : WorldState → WorldState → Answer → Answer → Type 0
-Stays w v a b = (v ≡ w) × (a ≡ b)
+abbrev pub IsUnchanged : WorldState → WorldState → Answer → Answer → Type 0
+IsUnchanged w v a b = (v ≡ w) × (a ≡ b)
 
 -- an edit is resolved in the document that the client shows
 abbrev pub IsEdited : HeaderView → WorldState → ℕ → Client → EditWord → (Document → Result Intent EditFault) → WorldState → Answer → Type 0
@@ -221,25 +221,25 @@ abbrev pub IsShown : HeaderView → WorldState → Client → Answer → Type 0
 IsShown h w c a = (D : Document) × (tree : List ℕ) × HasShown h w.log c D × IsTreeText (is_array_type h.schema) D tree × (a ≡ answer.Show tree)
 
 -- what a step makes of the world, for its client and that one's place
-abbrev pub IsNextOf : HeaderView → WorldState → StepView → ℕ → Client → WorldState → Answer → Type 0
-IsNextOf h w (step.join name) i c v a = join w name ≡ (v, a)
-IsNextOf h w (step.insert name branch at key index items) i c v a = IsEdited h w i c word.Insert (λ D. insert D h.schema (next_names c) at key index (nodes_of items)) v a
-IsNextOf h w (step.remove name branch at key index count) i c v a = IsEdited h w i c word.Remove (λ D. remove D h.schema (next_names c) at key index count) v a
-IsNextOf h w (step.move name branch at key index count to to_key to_index) i c v a = IsEdited h w i c word.Move (λ D. move D h.schema (next_names c) at key index count to to_key to_index) v a
-IsNextOf h w (step.set name branch at key item) i c v a = IsEdited h w i c word.Set (λ D. put D h.schema (next_names c) at key (first item no_nodes)) v a
-IsNextOf h w (step.clear name branch at key) i c v a = IsEdited h w i c word.Clear (λ D. clear D h.schema (next_names c) at key) v a
-IsNextOf h w (step.sequence name) i c v a = sequence w i c c.queue ≡ (v, a)
-IsNextOf h w (step.deliver name) i c v a = IsDelivered h w i c v a
-IsNextOf h w (step.show name branch) i c v a = (v ≡ w) × IsShown h w c a
+abbrev pub IsStepOf : HeaderView → WorldState → StepView → ℕ → Client → WorldState → Answer → Type 0
+IsStepOf h w (step.join name) i c v a = join w name ≡ (v, a)
+IsStepOf h w (step.insert name branch at key index items) i c v a = IsEdited h w i c word.Insert (λ D. insert D h.schema (next_names c) at key index (nodes_of items)) v a
+IsStepOf h w (step.remove name branch at key index count) i c v a = IsEdited h w i c word.Remove (λ D. remove D h.schema (next_names c) at key index count) v a
+IsStepOf h w (step.move name branch at key index count to to_key to_index) i c v a = IsEdited h w i c word.Move (λ D. move D h.schema (next_names c) at key index count to to_key to_index) v a
+IsStepOf h w (step.set name branch at key item) i c v a = IsEdited h w i c word.Set (λ D. put D h.schema (next_names c) at key (first item no_nodes)) v a
+IsStepOf h w (step.clear name branch at key) i c v a = IsEdited h w i c word.Clear (λ D. clear D h.schema (next_names c) at key) v a
+IsStepOf h w (step.sequence name) i c v a = sequence w i c c.queue ≡ (v, a)
+IsStepOf h w (step.deliver name) i c v a = IsDelivered h w i c v a
+IsStepOf h w (step.show name branch) i c v a = (v ≡ w) × IsShown h w c a
 
 -- there is the main branch, 0, and no other
 abbrev pub OnBranch : ℕ → WorldState → WorldState → Answer → Type 0 → Type 0
 OnBranch zero w v a next = next
-OnBranch (suc k) w v a next = Stays w v a (answer.No no.NoBranch)
+OnBranch (suc k) w v a next = IsUnchanged w v a (answer.No no.NoBranch)
 
 abbrev pub AtClient : HeaderView → WorldState → StepView → Option (ℕ × Client) → WorldState → Answer → Type 0
-AtClient h w s None v a = Stays w v a (answer.No no.NoClient)
-AtClient h w s (Some p) v a = OnBranch (branch_of s) w v a (IsNextOf h w s p.0 p.1 v a)
+AtClient h w s None v a = IsUnchanged w v a (answer.No no.NoClient)
+AtClient h w s (Some p) v a = OnBranch (branch_of s) w v a (IsStepOf h w s p.0 p.1 v a)
 
 -- the world after a step, and the answer; all but a join want the client to be there
 abbrev pub IsNext : HeaderView → WorldState → StepView → WorldState → Answer → Type 0

@@ -462,7 +462,7 @@ fn new_replica(alloc: Global, head: &Doc) -> Result<Replica, AllocError>
 }
 
 /// Puts behind the others what is kept of a client that has received the whole log and has nothing pending.
-pub fn add_kept(alloc: Global, all: &mut List<Replica>, head: &Doc) -> Result<(), AllocError>
+pub fn add_replica(alloc: Global, all: &mut List<Replica>, head: &Doc) -> Result<(), AllocError>
     ensures { OnOk result ((k : KeptOf) × (all.new ≡ all.old ++ k ∷ [])
         × (document_of k.received ≡ document_of head.now) × (document_of k.shown ≡ document_of head.now) × (k.names ≡ 0)) }
 {

@@ -6,11 +6,11 @@ ghost use Rattle.st_marks.specs.Intent.{Fits};
 ghost use Rattle.st_marks.specs.Verdict.{IsVerdict, carried};
 ghost use Rattle.st_doc.specs.Doc.{document_of};
 ghost use Rattle.st_script.specs.Header.{header_view, may_open};
-ghost use Rattle.st_script.specs.Steps.{step_view, IsOfForm};
+ghost use Rattle.st_script.specs.Steps.{step_view, IsWithinLimits};
 ghost use Rattle.st_doc.specs.LiveText.{is_among};
 ghost use Rattle.st_edits.specs.Resolve.{IsWithin, resolve};
 ghost use Rattle.st_edits.specs.ArrayTypes.{is_array_type};
-ghost use Rattle.st_trace.specs.World.{empty_state, opening_document, names_made, place_of, limit_refusal, log_limit_passed, join, sequence, next_names, IsEdited, IsDelivered, IsShown, IsNextOf, IsNext, AtRefusal, ShowsAllowed};
+ghost use Rattle.st_trace.specs.World.{empty_state, opening_document, names_made, place_of, limit_refusal, log_limit_passed, join, sequence, next_names, IsEdited, IsDelivered, IsShown, IsStepOf, IsNext, AtRefusal, ShowsAllowed};
 ghost use Rattle.st_trace.specs.Replicas.{IsHeader, IsSound};
 ghost use Rattle.st_trace.specs.inside.Replicas.{IsSoundNext};
 ghost use Rattle.st_trace.specs.Known.{AreKnown};
@@ -49,7 +49,7 @@ const MOST_NAMES: u64 = 131_072;
 pub struct World {
     pub header: Header,
     pub arrays: List<Text>,
-    pub head: Doc,
+    pub log_document: Doc,
     pub lists: WorldState,
     pub kept: List<Replica>,
     pub known: BTreeMap<u32, u32>,
@@ -115,11 +115,11 @@ fn opening(alloc: Global, header: &Header) -> Result<Doc, AllocError>
 fn read_off(alloc: Global, header: &Header) -> Result<(List<Text>, Doc), AllocError>
     requires { IsHeader (header_view header.now) }
     ensures arrays { IfOk result (λ r. is_among r.0 ≡ is_array_type (header_view header.now).schema) }
-    ensures head { IfOk result (λ r. document_of r.1 ≡ opening_document (header_view header.now)) }
+    ensures log_document { IfOk result (λ r. document_of r.1 ≡ opening_document (header_view header.now)) }
 {
     let arrays = array_types(alloc, &header.schema)?;
-    let head = opening(alloc, header)?;
-    Ok((arrays, head))
+    let log_document = opening(alloc, header)?;
+    Ok((arrays, log_document))
 }
 
 impl World {
@@ -131,15 +131,15 @@ impl World {
         ensures sound { IfOk result IsSound }
         ensures fresh { IfOk result (λ w. (w.spent ≡ false) × (w.steps ≡ 0)) }
     {
-        let (arrays, head) = read_off(alloc, &header)?;
-        Ok(World::begin(alloc, header, arrays, head))
+        let (arrays, log_document) = read_off(alloc, &header)?;
+        Ok(World::begin(alloc, header, arrays, log_document))
     }
 
     // The world of a header, of which the types with a row and the opening document are known.
-    fn begin(alloc: Global, header: Header, arrays: List<Text>, head: Doc) -> World
+    fn begin(alloc: Global, header: Header, arrays: List<Text>, log_document: Doc) -> World
         requires header { IsHeader (header_view header) }
         requires arrays { is_among arrays ≡ is_array_type (header_view header).schema }
-        requires head { document_of head ≡ opening_document (header_view header) }
+        requires log_document { document_of log_document ≡ opening_document (header_view header) }
         ensures lists { result.lists ≡ empty_state }
         ensures header { result.header ≡ header }
         ensures sound { IsSound result }
@@ -148,7 +148,7 @@ impl World {
         World {
             header,
             arrays,
-            head,
+            log_document,
             lists: WorldState {
                 log: List::new(alloc),
                 clients: List::new(alloc),
@@ -241,24 +241,24 @@ impl World {
         reference: u32,
         intent: Intent,
     ) -> Result<Answer, AllocError>
-        requires sound { IsSoundInForm (document_of self.old.head) }
-        requires fits { Fits (document_of self.old.head) intent }
+        requires sound { IsSoundInForm (document_of self.old.log_document) }
+        requires fits { Fits (document_of self.old.log_document) intent }
         requires entries { length self.old.lists.log < 65535 }
         requires names { self.old.names + names_made intent ≤ 131072 }
         requires known { AreKnown self.old.lists.log self.old.known }
         ensures answer { IfOk result (λ a. a ≡ Answer.Sequence (minimum self.new.lists.log self.new.lists.clients) (length self.new.lists.log)) }
         ensures known { OnOk result (AreKnown self.new.lists.log self.new.known) }
-        ensures head { OnOk result ((v : Outcome) × IsVerdict (document_of self.old.head) intent v × (document_of self.new.head ≡ carried v (document_of self.old.head) intent)) }
+        ensures log_document { OnOk result ((v : Outcome) × IsVerdict (document_of self.old.log_document) intent v × (document_of self.new.log_document ≡ carried v (document_of self.old.log_document) intent)) }
         ensures world { OnOk result (self.new ≡ record self.old {
           lists = record self.old.lists { log = log_with self.old.lists.log session (Commit reference intent) };
-          head = self.new.head;
+          log_document = self.new.log_document;
           known = self.new.known;
           names = self.old.names + names_made intent;
         }) }
         ensures spent { self.new.spent ≡ self.old.spent }
     {
         self.names += names_made(&intent);
-        self.head.carry(alloc, &intent)?;
+        self.log_document.carry(alloc, &intent)?;
         let body = Body::Commit { reference, intent };
         append_entry(&mut self.lists.log, &mut self.known, session, body)?;
         let n = self.lists.log.len() as u32;
@@ -325,7 +325,7 @@ impl World {
         let s = count as u32 + 1;
         append_entry(&mut self.lists.log, &mut self.known, s, Body::Join)?;
         let n = self.lists.log.len() as u32;
-        client::add_kept(alloc, &mut self.kept, &self.head)?;
+        client::add_replica(alloc, &mut self.kept, &self.log_document)?;
         client::add_client(alloc, &mut self.lists.clients, n, s, name)?;
         Ok(Answer::Join { n, s })
     }
@@ -362,7 +362,7 @@ impl World {
         requires few { self.old.steps + 1 < 2 ^ 32 }
         requires plain { word_of step.now ≡ None }
         ensures next { IfOk result (λ a. (c : Present) → slice_get self.old.lists.clients i ≡ Some c
-            → IsNextOf (header_view self.old.header) self.old.lists (step_view step.now) i c self.new.lists a) }
+            → IsStepOf (header_view self.old.header) self.old.lists (step_view step.now) i c self.new.lists a) }
         ensures sound { OnOk result (IsSoundNext self.new) }
         ensures steps { OnOk result (self.new.steps ≡ self.old.steps) }
         ensures header { OnOk result (self.new.header ≡ self.old.header) }
@@ -384,9 +384,9 @@ impl World {
     fn answer_at(&mut self, alloc: Global, i: usize, step: &TraceStep) -> Result<Answer, AllocError>
         requires sound { IsSound self.old }
         requires few { self.old.steps + 1 < 2 ^ 32 }
-        requires form { IsOfForm (step_view step.now) }
+        requires form { IsWithinLimits (step_view step.now) }
         ensures next { IfOk result (λ a. (c : Present) → slice_get self.old.lists.clients i ≡ Some c
-            → IsNextOf (header_view self.old.header) self.old.lists (step_view step.now) i c self.new.lists a) }
+            → IsStepOf (header_view self.old.header) self.old.lists (step_view step.now) i c self.new.lists a) }
         ensures sound { OnOk result (IsSoundNext self.new) }
         ensures steps { OnOk result (self.new.steps ≡ self.old.steps) }
         ensures header { OnOk result (self.new.header ≡ self.old.header) }
@@ -403,7 +403,7 @@ impl World {
     fn answer(&mut self, alloc: Global, step: &TraceStep) -> Result<Answer, AllocError>
         requires sound { IsSound self.old }
         requires few { self.old.steps + 1 < 2 ^ 32 }
-        requires form { IsOfForm (step_view step.now) }
+        requires form { IsWithinLimits (step_view step.now) }
         ensures next { IfOk result (λ a. IsNext (header_view self.old.header) self.old.lists (step_view step.now) self.new.lists a) }
         ensures sound { OnOk result (IsSoundNext self.new) }
         ensures steps { OnOk result (self.new.steps ≡ self.old.steps) }
@@ -429,7 +429,7 @@ impl World {
     pub fn step(&mut self, alloc: Global, step: &TraceStep) -> Result<Answer, Or<Spent>>
         requires sound { self.old.spent ≡ false → IsSound self.old }
         requires few { self.old.steps + 1 < 2 ^ 32 }
-        requires form { IsOfForm (step_view step.now) }
+        requires form { IsWithinLimits (step_view step.now) }
         ensures next { IfOk result (λ a. IsNext (header_view self.old.header) self.old.lists (step_view step.now) self.new.lists a) }
         ensures sound { OnOk result (IsSound self.new) }
         ensures fresh { OnOk result (self.new.spent ≡ false) }

@@ -11,9 +11,9 @@ use Rattle.st_ids.specs.Order.{node_cmp, same_node}
 use Rattle.st_ids.proofs.Orders.{same_node-true, same_node-itself}
 use Rattle.st_tree.specs.Node.{Node, node, Fields, no_fields, field, Nodes, no_nodes, first, nodes_of, fields_of, trees_view, view}
 use Rattle.st_tree.specs.Size.{node_count, item_count}
-use Rattle.st_tree.specs.Form.{is_row_alone, keys_rise, fields_fit, has_form, fields_have_form, all_have_form}
-use Rattle.st_tree.specs.Preorder.{node_named, cell_named, cells_taken, cell_count, item_cells, is_array, at_of, listed, fields_listed, items_listed, tops_listed, opening_listed}
-use Rattle.st_tree.specs.inside.Rebuilt.{Waiting, is_below, first_is_below, fields_of_node, fields_of_others, keyed, fields_above, attached, rebuilt}
+use Rattle.st_tree.specs.Form.{is_row_alone, keys_rise, fields_fit_leaf, has_form, fields_have_form, all_have_form}
+use Rattle.st_tree.specs.Preorder.{node_named, cell_named, cells_taken, cell_count, item_cells, is_array, at_of, tree_listed, fields_listed, items_listed, tops_listed, opening_listed}
+use Rattle.st_tree.specs.inside.Rebuilt.{Waiting, is_below, first_is_below, fields_of_node, fields_of_others, named_field, fields_above, with_parent, rebuilt}
 use Rattle.st_tree.specs.declared.flat.FlatAt.{FlatAt}
 use Rattle.st_tree.specs.declared.flat.FlatAt.TheVariants.{Root, Top}
 use Rattle.st_tree.specs.declared.flat.FlatNode.{FlatNode}
@@ -112,7 +112,7 @@ items_placed : (rev : Rev) (owner : ℕ) (key : List ℕ) (row : Bool) (c : ℕ)
 items_placed rev owner key row c no_nodes = refl
 items_placed rev owner key row c (first t ts) = ap (first t) (items_placed rev owner key row (c + (cells_taken row + cell_count t)) ts)
 
-keyed_back : (rev : Rev) (owner c : ℕ) (before : List ℕ) (fs : Fields) → keys_rise before fs ≡ true → fields_of (map keyed (placed_fields rev owner c fs)) ≡ fs
+keyed_back : (rev : Rev) (owner c : ℕ) (before : List ℕ) (fs : Fields) → keys_rise before fs ≡ true → fields_of (map named_field (placed_fields rev owner c fs)) ≡ fs
 keyed_back rev owner c before no_fields h = refl
 keyed_back rev owner c before (field key true items rest) h = absurd (cc)
 keyed_back rev owner c before (field key false no_nodes rest) h = absurd (cc)
@@ -131,7 +131,7 @@ pub not_alone : (key : List ℕ) (items : Nodes) (rest : Fields) → is_row_alon
 not_alone key items no_fields = refl
 not_alone key items (field key' row' items' rest) = refl
 
-fields_back : (rev : Rev) (owner c : ℕ) (leaf : Option Leaf) (fs : Fields) → fields_fit leaf fs ≡ true → fields_above (is_array fs) (placed_fields rev owner c fs) ≡ fs
+fields_back : (rev : Rev) (owner c : ℕ) (leaf : Option Leaf) (fs : Fields) → fields_fit_leaf leaf fs ≡ true → fields_above (is_array fs) (placed_fields rev owner c fs) ≡ fs
 fields_back rev owner c (Some v) no_fields h = refl
 fields_back rev owner c (Some v) (field key row items rest) h = absurd (cc)
 fields_back rev owner c None no_fields h = refl
@@ -143,14 +143,14 @@ fields_back rev owner c None (field key false items rest) h = keyed_back rev own
 
 mutual
   tree_rebuilt : (rev : Rev) (at : FlatAt) (n c : ℕ) (t : Node) (rest : List FlatNode) → has_form t ≡ true → NoneFrom rev n (rebuilt rest)
-      → rebuilt (listed rev at n c t ++ rest) ≡ (at, t) ∷ rebuilt rest
+      → rebuilt (tree_listed rev at n c t ++ rest) ≡ (at, t) ∷ rebuilt rest
   tree_rebuilt rev at n c (node ty leaf fields) rest form none =
-      let parts = and-true (fields_fit leaf fields) (fields_have_form fields) form in
+      let parts = and-true (fields_fit_leaf leaf fields) (fields_have_form fields) form in
       let below = fields_rebuilt rev n (n + 1) c fields rest parts.1 (omega arith) (NoneFrom-later rev n (n + 1) (rebuilt rest) (omega arith) none) in
       let own = fields_below rev n c fields in
       let after = none n (omega arith) in
       let x : FlatNode = record { node = node_named rev n; ty = ty; leaf = leaf; row = is_array fields; at = at } in
-      ap (attached x) below
+      ap (with_parent x) below
       ∙ (λ i. (at, node ty leaf (fields_above (is_array fields) (mine_all (node_named rev n) (placed_fields rev n c fields) (rebuilt rest) own after i))) ∷ others_all (node_named rev n) (placed_fields rev n c fields) (rebuilt rest) own after i)
       ∙ ap (λ fs. (at, node ty leaf fs) ∷ rebuilt rest) (fields_back rev n c leaf fields parts.0)
 
@@ -177,7 +177,7 @@ mutual
       let d = c + (cells_taken row + cell_count t) in
       let later = items_rebuilt rev owner key row k d ts rest parts.1 (omega arith) (NoneFrom-later rev n k (rebuilt rest) (omega arith) none) in
       let still = subst (NoneFrom rev n) (sym later) (NoneFrom-items rev owner n key row d ts (rebuilt rest) h none) in
-      ap rebuilt (append_assoc (listed rev (at_of rev owner key row c) n (c + cells_taken row) t) (items_listed rev owner key row k d ts) rest)
+      ap rebuilt (append_assoc (tree_listed rev (at_of rev owner key row c) n (c + cells_taken row) t) (items_listed rev owner key row k d ts) rest)
       ∙ tree_rebuilt rev (at_of rev owner key row c) n (c + cells_taken row) t (items_listed rev owner key row k d ts ++ rest) parts.0 still
       ∙ ap (λ ws. (at_of rev owner key row c, t) ∷ ws) later
 
@@ -199,7 +199,7 @@ pub tops_back : (ts us : List Tree) (rev : Rev) (n c : ℕ) → all_have_form (t
 tops_back ts us rev n c form e = same_trees ts us (ap nodes_of (e ∙ ap (λ ws. map (λ (w : Waiting). w.1) ws) (tops_rebuilt rev n c (trees_view us) form)) ∙ tops_placed rev c (trees_view us))
 
 opening_rebuilt : (t : Node) → has_form t ≡ true → rebuilt (opening_listed t) ≡ (Root, t) ∷ []
-opening_rebuilt t form = let rev : Rev = record { session = 0; num = 0 } in ap rebuilt (sym (append-nil (listed rev Root 0 0 t))) ∙ tree_rebuilt rev Root 0 0 t [] form (λ m later. refl)
+opening_rebuilt t form = let rev : Rev = record { session = 0; num = 0 } in ap rebuilt (sym (append-nil (tree_listed rev Root 0 0 t))) ∙ tree_rebuilt rev Root 0 0 t [] form (λ m later. refl)
 
 pub opening_back : (ts : List Tree) (u : Tree) → has_form (view u) ≡ true → map view ts ≡ map (λ w. w.1) (rebuilt (opening_listed (view u))) → ts ≡ u ∷ []
 opening_back ts u form e = same_trees ts (u ∷ []) (ap nodes_of (e ∙ ap (λ ws. map (λ (w : Waiting). w.1) ws) (opening_rebuilt (view u) form)))

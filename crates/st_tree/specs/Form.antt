@@ -23,15 +23,15 @@ keys_rise before no_fields = true
 keys_rise before (field key row items rest) = not row && (is_single items && (is_lt (slice_cmp nat_cmp before key) && keys_rise key rest))
 
 -- the fields fit a node with this leaf's value, or none
-abbrev pub fields_fit : Option Leaf → Fields → Bool
-fields_fit (Some v) no_fields = true
-fields_fit (Some v) (field key row items rest) = false
-fields_fit None fields = is_row_alone fields || keys_rise [] fields
+abbrev pub fields_fit_leaf : Option Leaf → Fields → Bool
+fields_fit_leaf (Some v) no_fields = true
+fields_fit_leaf (Some v) (field key row items rest) = false
+fields_fit_leaf None fields = is_row_alone fields || keys_rise [] fields
 
 -- a tree is of the form, with all below it
 abbrev mutual
   pub has_form : Node → Bool
-  has_form (node ty leaf fields) = fields_fit leaf fields && fields_have_form fields
+  has_form (node ty leaf fields) = fields_fit_leaf leaf fields && fields_have_form fields
 
   pub fields_have_form : Fields → Bool
   fields_have_form no_fields = true

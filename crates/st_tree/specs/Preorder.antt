@@ -44,8 +44,8 @@ at_of rev owner key false c = Register (record { node = node_named rev owner; ke
 
 -- a tree's nodes: its own node has the number n and stands at that place, the next cell has the number c
 abbrev mutual
-  pub listed : Rev → FlatAt → ℕ → ℕ → Node → List FlatNode
-  listed rev at n c (node ty leaf fields) = record { node = node_named rev n; ty = ty; leaf = leaf; row = is_array fields; at = at } ∷ fields_listed rev n (n + 1) c fields
+  pub tree_listed : Rev → FlatAt → ℕ → ℕ → Node → List FlatNode
+  tree_listed rev at n c (node ty leaf fields) = record { node = node_named rev n; ty = ty; leaf = leaf; row = is_array fields; at = at } ∷ fields_listed rev n (n + 1) c fields
 
   pub fields_listed : Rev → ℕ → ℕ → ℕ → Fields → List FlatNode
   fields_listed rev owner n c no_fields = []
@@ -53,14 +53,14 @@ abbrev mutual
 
   pub items_listed : Rev → ℕ → List ℕ → Bool → ℕ → ℕ → Nodes → List FlatNode
   items_listed rev owner key row n c no_nodes = []
-  items_listed rev owner key row n c (first t ts) = listed rev (at_of rev owner key row c) n (c + cells_taken row) t
+  items_listed rev owner key row n c (first t ts) = tree_listed rev (at_of rev owner key row c) n (c + cells_taken row) t
       ++ items_listed rev owner key row (n + node_count t) (c + (cells_taken row + cell_count t)) ts
 
 -- the nodes of trees that are top items, each of which takes a cell
 abbrev pub tops_listed : Rev → ℕ → ℕ → Nodes → List FlatNode
 tops_listed rev n c no_nodes = []
-tops_listed rev n c (first t ts) = listed rev (Top (cell_named rev c)) n (c + 1) t ++ tops_listed rev (n + node_count t) (c + (1 + cell_count t)) ts
+tops_listed rev n c (first t ts) = tree_listed rev (Top (cell_named rev c)) n (c + 1) t ++ tops_listed rev (n + node_count t) (c + (1 + cell_count t)) ts
 
 -- the nodes of the opening tree, whose root takes no cell
 abbrev pub opening_listed : Node → List FlatNode
-opening_listed t = listed (record { session = 0; num = 0 }) Root 0 0 t
+opening_listed t = tree_listed (record { session = 0; num = 0 }) Root 0 0 t

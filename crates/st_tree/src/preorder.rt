@@ -5,7 +5,7 @@ ghost use Rattle.st_tree.specs.Node.{view, trees_view};
 ghost use Rattle.st_tree.specs.inside.Node.{field_view, fields_view};
 ghost use Rattle.st_tree.specs.Size.{node_count, item_count, check_of, check_items};
 ghost use Rattle.st_tree.specs.declared.tree.Tree.{out-Tree};
-ghost use Rattle.st_tree.specs.Preorder.{cell_count, item_cells, cells_taken, is_array, at_of, listed, items_listed, tops_listed, opening_listed};
+ghost use Rattle.st_tree.specs.Preorder.{cell_count, item_cells, cells_taken, is_array, at_of, tree_listed, items_listed, tops_listed, opening_listed};
 
 use crate::flat::{Flat, FlatAt, FlatNode};
 use crate::limits::{TreeFault, check, check_trees};
@@ -105,7 +105,7 @@ fn flatten_tree(
 ) -> Result<(), AllocError>
     requires nodes_fit { naming.old.node + node_count (view tree.now) < 2 ^ 32 }
     requires cells_fit { naming.old.cell + cell_count (view tree.now) + 1 < 2 ^ 32 }
-    ensures nodes { OnOk result (nodes.new ≡ nodes.old ++ listed naming.old.rev at naming.old.node naming.old.cell (view tree.now)) }
+    ensures nodes { OnOk result (nodes.new ≡ nodes.old ++ tree_listed naming.old.rev at naming.old.node naming.old.cell (view tree.now)) }
     ensures after { OnOk result (naming.new ≡ record { rev = naming.old.rev; node = naming.old.node + node_count (view tree.now); cell = naming.old.cell + cell_count (view tree.now) }) }
 {
     let node = naming.next_node();

@@ -6,7 +6,7 @@ ghost use Rattle.st_tree.specs.Form.{has_form, all_have_form};
 ghost use Rattle.st_tree.specs.Preorder.{tops_listed, opening_listed};
 ghost use Rattle.st_tree.specs.Node.{node as node_of, field, no_fields, view, trees_view, nodes_of, fields_of};
 ghost use Rattle.st_tree.specs.inside.Node.{field_view, fields_view};
-ghost use Rattle.st_tree.specs.inside.Rebuilt.{is_below, first_is_below, fields_of_node, fields_of_others, keyed, fields_above, attached, rebuilt, waiting_view};
+ghost use Rattle.st_tree.specs.inside.Rebuilt.{is_below, first_is_below, fields_of_node, fields_of_others, named_field, fields_above, with_parent, rebuilt, waiting_view};
 
 use crate::flat::{Flat, FlatAt, FlatNode};
 use crate::tree::{Field, Tree};
@@ -75,7 +75,7 @@ fn row_below(
 
 // The field of a tree under its key.
 fn keyed_field(alloc: Global, placed: Placed) -> Result<Field, AllocError>
-    ensures { IfOk result (λ f. field_view f ≡ keyed (placed.at, view placed.tree)) }
+    ensures { IfOk result (λ f. field_view f ≡ named_field (placed.at, view placed.tree)) }
 {
     let Placed { at, tree } = placed;
     let mut items = List::new(alloc);
@@ -98,7 +98,7 @@ fn fields_below(
     waiting: &mut List<Placed>,
     node: NodeId,
 ) -> Result<List<Field>, AllocError>
-    ensures fields { IfOk result (λ fs. map field_view fs ≡ map keyed (fields_of_node node (waiting_view waiting.old))) }
+    ensures fields { IfOk result (λ fs. map field_view fs ≡ map named_field (fields_of_node node (waiting_view waiting.old))) }
     ensures rest { OnOk result (waiting_view waiting.new ≡ fields_of_others node (waiting_view waiting.old)) }
 {
     let mut fields = List::new(alloc);
@@ -151,7 +151,7 @@ fn tree_of(alloc: Global, node: &FlatNode, fields: List<Field>) -> Result<Tree, 
 // Puts a node above the trees that wait for it.
 #[tactic(auto, using(crate::proofs::Waits::waiting_last))]
 fn hang(alloc: Global, node: &FlatNode, waiting: &mut List<Placed>) -> Result<(), AllocError>
-    ensures { OnOk result (waiting_view waiting.new ≡ attached node.now (waiting_view waiting.old)) }
+    ensures { OnOk result (waiting_view waiting.new ≡ with_parent node.now (waiting_view waiting.old)) }
 {
     let fields = all_below(alloc, node.row, waiting, node.node)?;
     let tree = tree_of(alloc, node, fields)?;

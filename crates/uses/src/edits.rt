@@ -10,7 +10,7 @@ ghost use Rattle.st_marks.specs.Document.{IsSoundInForm};
 ghost use Rattle.st_marks.specs.LiveTree.{Shows};
 ghost use Rattle.st_doc.specs.Doc.{document_of};
 ghost use Rattle.st_edits.specs.Resolve.{insert};
-ghost use Rattle.st_edit_laws.specs.Edited.{TellsRows, at_path, listed, with_items};
+ghost use Rattle.st_edit_laws.specs.Edited.{TellsRows, at_path, data_items, with_items};
 ghost use Rattle.uses.specs.Fresh.{AreFresh};
 
 use st_doc::Doc;
@@ -43,7 +43,7 @@ pub fn insert_items(
     ensures shown { OnOk result ((is_array : Seq ℕ → Bool) (d : Data)
         → TellsRows is_array schema.now → Shows is_array (document_of doc.old) root d
         → Shows is_array (document_of doc.new) root
-        (at_path at.now (with_items index (listed (trees_data (trees_view items.now)))) d)) }
+        (at_path at.now (with_items index (data_items (trees_data (trees_view items.now)))) d)) }
     ensures refused { IfRefused result (λ e. insert (document_of doc.old) schema.now given at.now
         key.now index (trees_view items.now) ≡ Err e) }
     ensures unchanged { IfRefused result (λ _. document_of doc.new ≡ document_of doc.old) }

@@ -23,7 +23,7 @@ is_held None n = false
 is_held (Some m) n = same_node m n
 
 -- nowhere, for who stands in one of the cleared registers
-abbrev pub evicted : List FieldId → Spot → Option Spot
-evicted clear Spot.Nowhere = None
-evicted clear (Spot.Row n c) = None
-evicted clear (Spot.Register f) = if list_any (λ g. same_field g f) clear then Some Spot.Nowhere else None
+abbrev pub spot_if_cleared : List FieldId → Spot → Option Spot
+spot_if_cleared clear Spot.Nowhere = None
+spot_if_cleared clear (Spot.Row n c) = None
+spot_if_cleared clear (Spot.Register f) = if list_any (λ g. same_field g f) clear then Some Spot.Nowhere else None

@@ -13,10 +13,10 @@ fault_after fault n true = fault
 fault_after fault n false = first_fault fault n
 
 -- one node further
-abbrev pub looked : Walk → Bool → Walk
-looked w ok = record { next = w.next + 1; fault = fault_after w.fault w.next ok }
+abbrev pub walk_on : Walk → Bool → Walk
+walk_on w ok = record { next = w.next + 1; fault = fault_after w.fault w.next ok }
 
 -- further by nodes with these verdicts
-abbrev pub walked : Walk → List Bool → Walk
-walked w [] = w
-walked w (ok ∷ vs) = walked (looked w ok) vs
+abbrev pub walk_over : Walk → List Bool → Walk
+walk_over w [] = w
+walk_over w (ok ∷ vs) = walk_over (walk_on w ok) vs

@@ -43,21 +43,21 @@ key_at (Row m c) = []
 key_at (Register f) = f.key.0
 
 -- a tree under the key at which it stands
-abbrev pub keyed : Waiting → FieldNode
-keyed w = record { key = key_at w.0; row = false; items = first w.1 no_nodes }
+abbrev pub named_field : Waiting → FieldNode
+named_field w = record { key = key_at w.0; row = false; items = first w.1 no_nodes }
 
 -- the fields of a node above these trees, which are its row if it is an array node
 abbrev pub fields_above : Bool → List Waiting → Fields
 fields_above true ws = field [] true (nodes_of (map (λ w. w.1) ws)) no_fields
-fields_above false ws = fields_of (map keyed ws)
+fields_above false ws = fields_of (map named_field ws)
 
 -- the node takes the trees that wait for it, and waits itself
-abbrev pub attached : FlatNode → List Waiting → List Waiting
-attached x ws = (x.at, node x.ty x.leaf (fields_above x.row (fields_of_node x.node ws))) ∷ fields_of_others x.node ws
+abbrev pub with_parent : FlatNode → List Waiting → List Waiting
+with_parent x ws = (x.at, node x.ty x.leaf (fields_above x.row (fields_of_node x.node ws))) ∷ fields_of_others x.node ws
 
 abbrev pub rebuilt : List FlatNode → List Waiting
 rebuilt [] = []
-rebuilt (x ∷ xs) = attached x (rebuilt xs)
+rebuilt (x ∷ xs) = with_parent x (rebuilt xs)
 
 -- what waits in the program, where the first stands last
 abbrev pub waiting_view : List Placed → List Waiting

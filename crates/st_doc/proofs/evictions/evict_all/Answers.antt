@@ -3,7 +3,7 @@ use Rattle.std.specs.BTreeMap.{get}
 use Rattle.std.specs.Option.{option_or}
 use Rattle.st_ids.specs.Order.{field_cmp, node_cmp}
 use Rattle.st_marks.specs.declared.places.Spot.{Spot}
-use Rattle.st_doc.specs.inside.Evictions.{is_held, evicted}
+use Rattle.st_doc.specs.inside.Evictions.{is_held, spot_if_cleared}
 use Rattle.st_doc.proofs.Evicting.{evicted_one}
 use Rattle.st_doc.proofs.evictions.evict_all.Goals as goal
 
@@ -16,4 +16,4 @@ loop-field-preserved c = λ place one n.
 
 pub returns : goal.returns
 returns c = λ place one n.
-    c.loop-field.invariant place one n ∙ ap (λ fs. option_or (get node_cmp c.args.targets.now n) (evicted fs (place n))) (take_all _ _ (omega arith) ∙ c.as_slice-field-items.ensures)
+    c.loop-field.invariant place one n ∙ ap (λ fs. option_or (get node_cmp c.args.targets.now n) (spot_if_cleared fs (place n))) (take_all _ _ (omega arith) ∙ c.as_slice-field-items.ensures)

@@ -6,7 +6,7 @@ use Rattle.st_marks.specs.Document.{Document}
 use Rattle.st_marks.specs.LiveTree.{Shows}
 use Rattle.st_marks.specs.declared.verdicts.Verdict.{Verdict}
 use Rattle.st_doc.specs.Doc.{document_of}
-use Rattle.st_edit_laws.specs.Edited.{at_path, listed, with_items}
+use Rattle.st_edit_laws.specs.Edited.{at_path, data_items, with_items}
 use Rattle.uses.proofs.edits.insert_items.Goals as goal
 
 pub carry-requires-clause-fits : goal.carry-requires-clause-fits
@@ -35,4 +35,4 @@ returns-clause-shown c is_array d tells shows =
     let whole = c.in_ok-verdict.ensures.after ∙ c.one_verdict.ensures.carried D N c.in_ok-verdict.verdict Verdict.Sound c.in_ok-verdict.ensures.verdict sound in
     let seen = c.insertion_is_seen.ensures.tree is_array D a.schema.now a.given a.at.now a.key.now a.index (trees_view a.items.now) N d
     r.sound c.is_kept.ensures tells r.fresh.nodes r.fresh.cells c.in_ok-intent.ensures.ok shows in
-    subst (λ (E : Document). Shows is_array E root (at_path a.at.now (with_items a.index (listed (trees_data (trees_view a.items.now)))) d)) (sym whole) seen
+    subst (λ (E : Document). Shows is_array E root (at_path a.at.now (with_items a.index (data_items (trees_data (trees_view a.items.now)))) d)) (sym whole) seen

@@ -8,5 +8,5 @@ use Rattle.st_seq.proofs.row_bridge.Across.gained_full.Goals as goal
 
 pub returns-else-self : goal.returns-else-self
 returns-else-self c =
-    let one = cell_is c.gained.result (gained_cell (get node_cmp c.args.self.now.seen.now) c.args.cell c.args.node c.args.full) c.gained.ensures in
+    let one = cell_is c.gained_cell.result (gained_cell (get node_cmp c.args.self.now.seen.now) c.args.cell c.args.node c.args.full) c.gained_cell.ensures in
     rw c.if-self.false (ap (λ s. s.full) c.after.ensures ∙ ap (λ x. (view_after x).full) one)

@@ -3,7 +3,7 @@ use Rattle.st_script.specs.Header.{header_view}
 use Rattle.st_script.specs.Steps.{branch_of, step_view}
 use Rattle.st_script.specs.declared.answer.Answer.TheVariants.{No}
 use Rattle.st_script.specs.declared.refusal.Refusal.TheVariants.{NoBranch}
-use Rattle.st_trace.specs.World.{IsNextOf}
+use Rattle.st_trace.specs.World.{IsStepOf}
 use Rattle.st_trace.proofs.Choosing.{no_join}
 use Rattle.st_trace.proofs.Stepping.{next_other, next_present, on_main, on_none, sound_later}
 use Rattle.st_trace.proofs.world.World.answer.Goals as goal
@@ -16,7 +16,7 @@ returns-then-branch-ne0 c =
     let there = rw c.client.ensures at c.in-Some.ensures in
     record {
       next = next_other h w s w (No NoBranch) (no_join c.args.step.now c.in_default.not-Join)
-          (next_present h w s c.in-Some.i w (No NoBranch) (sym there) (λ q at. on_none (branch_of s) w (IsNextOf h w s c.in-Some.i q w (No NoBranch)) (λ e. c.if-branch-ne0.true (c.branch-step.ensures ∙ e))));
+          (next_present h w s c.in-Some.i w (No NoBranch) (sym there) (λ q at. on_none (branch_of s) w (IsStepOf h w s c.in-Some.i q w (No NoBranch)) (λ e. c.if-branch-ne0.true (c.branch-step.ensures ∙ e))));
       sound = sound_later c.args.self.now.steps c.args.self.now c.requires.sound;
       steps = refl;
       header = refl;
@@ -34,7 +34,7 @@ returns c =
     let there = rw c.client.ensures at c.in-Some.ensures in
     record {
       next = next_other h w s v a (no_join c.args.step.now c.in_default.not-Join)
-          (next_present h w s c.in-Some.i v a (sym there) (λ q at. on_main (branch_of s) w v a (IsNextOf h w s c.in-Some.i q v a) (sym c.branch-step.ensures ∙ c.if-branch-ne0.false) (c.in_ok-answer.ensures.next q at)));
+          (next_present h w s c.in-Some.i v a (sym there) (λ q at. on_main (branch_of s) w v a (IsStepOf h w s c.in-Some.i q v a) (sym c.branch-step.ensures ∙ c.if-branch-ne0.false) (c.in_ok-answer.ensures.next q at)));
       sound = c.in_ok-answer.ensures.sound;
       steps = c.in_ok-answer.ensures.steps;
       header = c.in_ok-answer.ensures.header;

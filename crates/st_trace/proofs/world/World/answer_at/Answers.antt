@@ -4,7 +4,7 @@ use Rattle.st_edits.specs.Resolve.{resolve}
 use Rattle.st_script.specs.Header.{header_view}
 use Rattle.st_script.specs.Steps.{step_view}
 use Rattle.st_trace.specs.inside.Edits.{word_of, edit_of}
-use Rattle.st_trace.specs.World.{IsEdited, IsNextOf, next_names}
+use Rattle.st_trace.specs.World.{IsEdited, IsStepOf, next_names}
 use Rattle.st_trace.specs.declared.state.Client.{Client}
 use Rattle.st_trace.proofs.Choosing.{next_edit}
 use Rattle.st_trace.proofs.world.World.answer_at.Goals as goal
@@ -20,5 +20,5 @@ returns-in-Some-clause-next c =
     let v = c.edit.new.self.lists in
     let is : word_of s ≡ Some x = sym c.word_of.ensures ∙ c.in-Some.is in
     IfOk-along c.edit.result (λ a. (q : Client) → slice_get w.lists.clients i ≡ Some q → IsEdited h w.lists i q x (λ D. resolve D w.header.schema (next_names q) (edit_of s)) v a)
-    (λ a. (q : Client) → slice_get w.lists.clients i ≡ Some q → IsNextOf h w.lists (step_view s) i q v a)
+    (λ a. (q : Client) → slice_get w.lists.clients i ≡ Some q → IsStepOf h w.lists (step_view s) i q v a)
     (λ a f q at. next_edit h w.lists i q v a s x is (f q at)) c.edit.ensures.next

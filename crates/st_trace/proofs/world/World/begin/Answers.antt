@@ -19,7 +19,7 @@ returns-clause-sound c =
       log_fit = tt;
       log_new = record { once = tt; new = λ N i j. i };
       schema = begun_keeps (header_view c.args.header) c.requires.header;
-      head = subst (λ (D : Document). Run (opening_document (header_view c.args.header)) [] D) (sym c.requires.head) done;
+      log_document = subst (λ (D : Document). Run (opening_document (header_view c.args.header)) [] D) (sym c.requires.log_document) done;
       entries = omega arith;
       names = refl;
       few_names = omega arith;

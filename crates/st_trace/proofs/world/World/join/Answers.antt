@@ -14,7 +14,7 @@ returns-clause-sound c =
     let logged = c.in_ok-append_entry.ensures.log in
     let n : c.len-n.result ≡ length w.lists.log + 1 = omega (arith, c.len-n.ensures, ap length logged, length-append w.lists.log (last_entry w.lists.log session Join ∷ [])) in
     let knows = rw logged at c.in_ok-append_entry.ensures.known in
-    let opened = c.in_ok-add_kept.ensures in
+    let opened = c.in_ok-add_replica.ensures in
     rw (c.in_ok-add_client.ensures, opened.1, logged)
     (sound_joined w c.args.name.now c.len-n.result session (new_client c.len-n.result session c.args.name.now) opened.0 c.append_entry.new.known c.requires.sound few few_entries (omega (arith, c.len-count.ensures)) n knows refl
     opened.2 opened.3 opened.4)

@@ -20,9 +20,9 @@ returns-in_ok-answer-in-Some-take_text-clause-sound c =
     let q = c.in-Some-take_text.field-0 in
     let rest = c.take_text.new.client.queue in
     let world = c.in_ok-answer-in-Some-take_text.ensures.world in
-    let head = c.in_ok-answer-in-Some-take_text.ensures.head in
+    let log_document = c.in_ok-answer-in-Some-take_text.ensures.log_document in
     let knows = subst (λ l. AreKnown l c.sequence_commit.new.self.known) (ap (λ (x : World). x.lists.log) world) c.in_ok-answer-in-Some-take_text.ensures.known in
     let few = text_within w c.args.i c.in-Some.client.now client q rest c.in-Some-names_waiting.made c.names_waiting.result c.limit_passed.result (sym c.in-Some.ensures) at c.in-Some-take_text.ensures.0
     c.names_waiting.ensures c.in-Some-names_waiting.is c.limit_passed.ensures c.in_default-limit_passed.is in
     subst (λ (x : World). IsSoundAfter (x.steps + 1) x) (sym world)
-    (sound_sent w c.args.i client c.take_text.new.client q c.sequence_commit.new.self.head c.sequence_commit.new.self.known head.0 c.requires.sound at c.in-Some-take_text.ensures.0 c.in-Some-take_text.ensures.1 few.0 few.1 head.1 head.2 knows)
+    (sound_sent w c.args.i client c.take_text.new.client q c.sequence_commit.new.self.log_document c.sequence_commit.new.self.known log_document.0 c.requires.sound at c.in-Some-take_text.ensures.0 c.in-Some-take_text.ensures.1 few.0 few.1 log_document.1 log_document.2 knows)

@@ -3,7 +3,7 @@ use Rattle.st_ids.specs.Listing.{IsRising}
 use Rattle.st_ids.specs.Order.{node_cmp}
 use Rattle.st_ids.specs.declared.names.NodeId.{NodeId}
 use Rattle.st_marks.specs.Embedding.{is_among}
-use Rattle.st_seq.proofs.new_nodes.merged.Given as goal
+use Rattle.st_seq.proofs.new_nodes.merged_names.Given as goal
 
 abbrev pub invariant-nodes : goal.invariant-nodes
 invariant-nodes l =
