@@ -1,5 +1,6 @@
 pub mod Conforms
 pub mod Reading
+pub mod Kind
 pub mod Schema
 pub mod Shape
 pub mod TreeText
