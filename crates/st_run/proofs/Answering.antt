@@ -8,8 +8,8 @@ use Rattle.st_json.specs.declared.fault.BadCause.TheVariants.{Header}
 use Rattle.st_script.specs.Header.{HeaderView, header_line}
 use Rattle.st_script.specs.Line.{line_of}
 use Rattle.st_script.specs.Steps.{StepView}
-use Rattle.st_trace.specs.World.{empty_state}
-use Rattle.st_trace.specs.declared.state.WorldState.{WorldState}
+use Rattle.st_lists.specs.Clients.{empty_state}
+use Rattle.st_lists.specs.declared.lists.WorldState.{WorldState}
 use Rattle.st_run.specs.Lines.{cut}
 use Rattle.st_run.specs.Answers.{Output, cut_short, WritesPrefix, OrCutShort, AnswersLine, AnswersOpening, AnswersTrace, IsOutput, IsTraced, IsAnswered, IsAnsweredAs, Answers, AnswersBy, AnswersFrom, max_input, long_output, long_line, is_trace, bad_line}
 use Rattle.st_run.proofs.Outputs.{output_also, appends_nothing}

@@ -8,8 +8,8 @@ use Rattle.st_script.specs.Line.{line_of}
 use Rattle.st_script.specs.Steps.{StepView}
 use Rattle.st_script.specs.declared.answer.Answer.TheVariants as answer
 use Rattle.st_script.proofs.OfForm.{header_line_kept}
-use Rattle.st_trace.specs.World.{empty_state}
-use Rattle.st_trace.specs.declared.state.WorldState.{WorldState}
+use Rattle.st_lists.specs.Clients.{empty_state}
+use Rattle.st_lists.specs.declared.lists.WorldState.{WorldState}
 use Rattle.st_trace.proofs.Going.{AreSound, begun_sound}
 use Rattle.st_trace.proofs.Leading.{leads_on}
 use Rattle.st_run.specs.Answers.{Answers, AnswersBy, AnswersFrom, AnswersLine, AnswersOpening, AnswersTrace, IsAnswered, IsAnsweredAs, NothingFailed, OrCutShort, Output, bad_line, before, is_trace, long_line, long_output, max_input, usage_output}

@@ -11,8 +11,9 @@ use Rattle.st_script.specs.Header.{HeaderView, header_line}
 use Rattle.st_script.specs.Line.{line_of}
 use Rattle.st_script.specs.Steps.{StepView}
 use Rattle.st_script.specs.declared.answer.Answer.{Answer}
-use Rattle.st_trace.specs.World.{empty_state, IsNext}
-use Rattle.st_trace.specs.declared.state.WorldState.{WorldState}
+use Rattle.st_lists.specs.Clients.{empty_state}
+use Rattle.st_trace.specs.World.{IsNext}
+use Rattle.st_lists.specs.declared.lists.WorldState.{WorldState}
 use Rattle.st_run.specs.Lines.{cut}
 use Rattle.st_run.specs.Parts.{AppendsPrefix}
 use Rattle.st_run.specs.Answers.{Output, before, cut_short, OrCutShort, AnswersLine, AnswersHeader, AnswersOpening, AnswersTrace, IsOutput, WritesAll, WritesPrefix, AnswersFrom, bad_line}

@@ -9,7 +9,7 @@ ghost use Rattle.st_script.specs.Header.{header_view, header_line};
 ghost use Rattle.st_script.specs.Line.{line_of, line_view};
 ghost use Rattle.st_script.specs.Steps.{step_view};
 ghost use Rattle.st_trace.specs.Replicas.{IsSound};
-ghost use Rattle.st_trace.specs.World.{empty_state};
+ghost use Rattle.st_lists.specs.Clients.{empty_state};
 ghost use Rattle.st_run.specs.Lines.{cut};
 ghost use Rattle.st_run.specs.Answers.{OrCutShort, AnswersHeader, cause_name, bad_data, bad_line, AnswersFrom, AnswersTrace, IsOutput};
 ghost use Rattle.st_run.specs.inside.Answers.{IsCutShort, IsLineAnswered, EndsAtLine};

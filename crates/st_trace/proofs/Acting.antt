@@ -21,12 +21,14 @@ use Rattle.st_script.specs.declared.answer.Answer.{Answer}
 use Rattle.st_script.specs.declared.answer.Answer.TheVariants.{Show}
 use Rattle.st_trace.specs.Replicas.{IsSound, IsSoundAfter}
 use Rattle.st_trace.specs.inside.Replicas.{CanReceive, HasMoved, IsEditedReplica, IsPending}
-use Rattle.st_trace.specs.World.{AtRefusal, HasReceived, HasShown, IsDelivered, IsDeliveredTo, IsEdited, IsShown, answer_of, after_edit, next_names, limit_passed, next_rev, with_pending, with_received, with_client}
+use Rattle.st_trace.specs.World.{AtRefusal, IsDelivered, IsDeliveredTo, IsEdited, IsShown, answer_of, after_edit, next_names, with_pending, with_client}
+use Rattle.st_lists.specs.Clients.{HasReceived, HasShown, next_rev, with_received}
+use Rattle.st_lists.specs.Limits.{limit_passed}
 use Rattle.st_trace.specs.declared.client.EditWord.{EditWord}
 use Rattle.st_trace.specs.declared.replica.Replica.{Replica}
-use Rattle.st_trace.specs.declared.state.Client.{Client}
-use Rattle.st_trace.specs.declared.state.Entry.{Entry}
-use Rattle.st_trace.specs.declared.state.WorldState.{WorldState}
+use Rattle.st_lists.specs.declared.lists.Client.{Client}
+use Rattle.st_lists.specs.declared.lists.Entry.{Entry}
+use Rattle.st_lists.specs.declared.lists.WorldState.{WorldState}
 use Rattle.st_trace.specs.declared.world.World.{World}
 use Rattle.st_trace.proofs.Agreed.{delivered_keeps, edited_keeps}
 use Rattle.st_trace.proofs.Clients.{fresh_cells, fresh_nodes, shown_sound}
@@ -130,7 +132,7 @@ edited_refused w i c c' k k' word r a at_c at_k is kept = refusal_as a _ _ (same
 
 -- what a client does with the document that is kept, it does with one that it shows
 pub next_edited : (h : HeaderView) (w : WorldState) (i : ℕ) (c q c' : Client) (word : EditWord) (f : Client → Document → Result Intent EditFault) (D : Document) (a : Answer) → slice_get w.clients i ≡ Some c → slice_get w.clients i ≡ Some q
-    → HasShown h w.log c D → after_edit c word (f c D) ≡ (c', a) → IsEdited h w i q word (f q) (record w { clients = slice_set w.clients i c' }) a
+    → HasShown (opening_document h) w.log c D → after_edit c word (f c D) ≡ (c', a) → IsEdited h w i q word (f q) (record w { clients = slice_set w.clients i c' }) a
 next_edited h w i c q c' word f D a at_c at_q shown done =
     let same : c ≡ q = cc in
     subst (λ (x : Client). IsEdited h w i x word (f x) (record w { clients = slice_set w.clients i c' }) a) same (D, shown, ap (with_client w i) done)
@@ -167,7 +169,7 @@ pub delivered_refused : (w : World) (i : ℕ) (c c' : Client) (k k' : Replica) (
     → IsDeliveredTo D c o c' a → HasMoved c k o k' → AtRefusal a (record w { lists = record w.lists { clients = slice_set w.lists.clients i c' }; kept = slice_set w.kept i k' } ≡ w)
 delivered_refused w i c c' k k' D o a at_c at_k done moved = refusal_as a _ _ (same_world w i c c' k k' at_c at_k) (delivery_refused D c c' k k' o a done moved)
 
-pub next_delivered : (h : HeaderView) (w : WorldState) (i : ℕ) (c q c' : Client) (D : Document) (a : Answer) → slice_get w.clients i ≡ Some c → slice_get w.clients i ≡ Some q → HasReceived h w.log c D
+pub next_delivered : (h : HeaderView) (w : WorldState) (i : ℕ) (c q c' : Client) (D : Document) (a : Answer) → slice_get w.clients i ≡ Some c → slice_get w.clients i ≡ Some q → HasReceived (opening_document h) w.log c D
     → IsDeliveredTo D c (slice_get w.log c.received) c' a → IsDelivered h w i q (record w { clients = slice_set w.clients i c' }) a
 next_delivered h w i c q c' D a at_c at_q received done =
     let same : c ≡ q = cc in

@@ -29,19 +29,23 @@ use Rattle.st_schema_laws.proofs.InTurn.{agree_front, agree_longer, agree_then_o
 use Rattle.st_schema_laws.proofs.Opened.{allowed_conforms}
 use Rattle.st_script.specs.Header.{HeaderView}
 use Rattle.st_script.specs.declared.answer.Answer.{Answer}
-use Rattle.st_trace.specs.Replicas.{HaveSessionsFrom, IsClient, IsHeader, KeepToSchema, commits_by, intents_of, log_and_queue}
-use Rattle.st_trace.specs.Log.{commit_of, commits_in, log_with}
-use Rattle.st_trace.specs.World.{HasShown, IsDeliveredTo, with_commit, after_edit, new_client, limit_passed, names_in, next_rev, opening_document, pending_after, with_pending, received_by, with_received}
+use Rattle.st_trace.specs.Replicas.{HaveSessionsFrom, IsClient, IsHeader, KeepToSchema}
+use Rattle.st_lists.specs.Log.{commits_by, intents_of, log_and_queue}
+use Rattle.st_lists.specs.Log.{commit_of, commits_in, log_with}
+use Rattle.st_lists.specs.Clients.{HasShown, with_commit, new_client, next_rev, pending_after, received_by, with_received}
+use Rattle.st_trace.specs.World.{IsDeliveredTo, after_edit, opening_document, with_pending}
+use Rattle.st_lists.specs.Limits.{limit_passed}
+use Rattle.st_lists.specs.Names.{names_in}
 use Rattle.st_trace.specs.declared.client.EditWord.{EditWord}
-use Rattle.st_trace.specs.declared.state.Body.{Body}
-use Rattle.st_trace.specs.declared.state.Body.TheVariants.{Join, Commit}
-use Rattle.st_trace.specs.declared.state.Client.{Client}
-use Rattle.st_trace.specs.declared.state.Entry.{Entry}
-use Rattle.st_trace.specs.declared.state.Queued.{Queued}
+use Rattle.st_lists.specs.declared.lists.Body.{Body}
+use Rattle.st_lists.specs.declared.lists.Body.TheVariants.{Join, Commit}
+use Rattle.st_lists.specs.declared.lists.Client.{Client}
+use Rattle.st_lists.specs.declared.lists.Entry.{Entry}
+use Rattle.st_lists.specs.declared.lists.Queued.{Queued}
 use Rattle.st_trace.proofs.Begun.{IsStart, opens_allowed}
 use Rattle.st_trace.proofs.Clients.{next_new, other_fit, own_first, received_more, shown_among, shown_new}
 use Rattle.st_trace.proofs.Everyone.{all_get, all_set, session_at, set_same}
-use Rattle.st_trace.proofs.Logs.{by_sublist, commits_split, entered_commits, entered_front, last_entry, no_commit, one_commit}
+use Rattle.st_lists.proofs.Logs.{by_sublist, commits_split, entered_commits, entered_front, last_entry, no_commit, one_commit}
 use Rattle.st_lemmas.proofs.Lists.{AllByRecursion-append}
 
 -- before any client joins
@@ -179,7 +183,7 @@ module _ (h : HeaderView) (st : IsStart (opening_document h)) where
 
   -- ## A commit is pending
 
-  module _ (log : List Entry) (c : Client) (D : Document) (N : Intent) (k : IsClient h log c) (is_shown : HasShown h log c D) (itself : IsIntent N) (rev : N.rev ≡ next_rev c) (home : NodeId → Option FieldId) where
+  module _ (log : List Entry) (c : Client) (D : Document) (N : Intent) (k : IsClient h log c) (is_shown : HasShown (opening_document h) log c D) (itself : IsIntent N) (rev : N.rev ≡ next_rev c) (home : NodeId → Option FieldId) where
     -- no commit of the log and no client has its revision, nor has the opening
     not_opening : Has (opening ∷ []) N.rev → ⊥
     not_opening i = next_new h st log c N.rev k rev (append_right (revisions (log_and_queue log c)) (opening ∷ []) N.rev i)
@@ -255,7 +259,7 @@ module _ (h : HeaderView) (st : IsStart (opening_document h)) where
         (other_told d are.0 (apart_before d n s.0 (omega (arith, far))) shown.0, all_told (n + 1) cs i s.1 at are.1 shown.1 own)
 
   pub edited_keeps : (log : List Entry) (cs : List Client) (i : ℕ) (c c' : Client) (D : Document) (word : EditWord) (r : Result Intent EditFault) (a : Answer) → HaveSessionsFrom 1 cs → AllByRecursion (IsClient h log) cs
-      → slice_get cs i ≡ Some c → HasShown h log c D → ((N : Intent) → r ≡ Ok N → MeansWell h c D N) → after_edit c word r ≡ (c', a) → KeepToSchema h log cs → KeepToSchema h log (slice_set cs i c')
+      → slice_get cs i ≡ Some c → HasShown (opening_document h) log c D → ((N : Intent) → r ≡ Ok N → MeansWell h c D N) → after_edit c word r ≡ (c', a) → KeepToSchema h log cs → KeepToSchema h log (slice_set cs i c')
   edited_keeps log cs i c c' D word (Err f) a sessions are at is_shown means is w = same_keeps log cs i c c' at (ap (λ (p : Client × Answer). p.0) is) w
   edited_keeps log cs i c c' D word (Ok N) a sessions are at is_shown means is w = go (limit_passed c N) is
     where

@@ -12,7 +12,7 @@ use Rattle.st_schema.specs.Schema.{SchemaView}
 use Rattle.st_schema.specs.declared.names.Form.{Form}
 use Rattle.st_doc.specs.LiveText.{is_among}
 use Rattle.st_edits.specs.ArrayTypes.{is_array_form, is_array_type}
-use Rattle.st_trace.proofs.Logs.{take-get}
+use Rattle.st_lists.proofs.Logs.{take-get}
 use Rattle.st_lemmas.proofs.Lists.{map-append}
 use Rattle.st_lemmas.proofs.Bools.{and-true}
 

@@ -13,8 +13,8 @@ use Rattle.st_trace.specs.inside.Edits.{word_of, edit_of}
 use Rattle.st_trace.specs.World.{IsEdited, IsStepOf, IsShown, next_names}
 use Rattle.st_trace.specs.declared.client.EditWord.{EditWord}
 use Rattle.st_trace.specs.declared.client.EditWord.TheVariants as word
-use Rattle.st_trace.specs.declared.state.Client.{Client}
-use Rattle.st_trace.specs.declared.state.WorldState.{WorldState}
+use Rattle.st_lists.specs.declared.lists.Client.{Client}
+use Rattle.st_lists.specs.declared.lists.WorldState.{WorldState}
 
 abbrev IsMeant : HeaderView → WorldState → ℕ → Client → WorldState → Answer → TraceStep → EditWord → Type 0
 IsMeant h w i c v a s x = IsEdited h w i c x (λ D. resolve D h.schema (next_names c) (edit_of s)) v a

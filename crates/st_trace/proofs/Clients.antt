@@ -21,16 +21,20 @@ use Rattle.st_log_laws.proofs.Room.{room_in_run}
 use Rattle.st_log_laws.proofs.Shorter.{sublist_itself, sublist_joined, new_shorter, has_longer}
 use Rattle.st_log_laws.proofs.Beside.{another_later, later_fits, one_fits}
 use Rattle.st_script.specs.Header.{HeaderView}
-use Rattle.st_trace.specs.Replicas.{IsClient, commits_by, intents_of, log_and_queue}
-use Rattle.st_trace.specs.Log.{commit_of, commits_in, log_with}
-use Rattle.st_trace.specs.World.{HasReceived, HasShown, with_commit, new_client, names_in, names_made, next_rev, opening_document, received_by}
-use Rattle.st_trace.specs.declared.state.Body.TheVariants.{Join, Commit}
-use Rattle.st_trace.specs.declared.state.Client.{Client}
-use Rattle.st_trace.specs.declared.state.Entry.{Entry}
-use Rattle.st_trace.specs.declared.state.Queued.{Queued}
+use Rattle.st_trace.specs.Replicas.{IsClient}
+use Rattle.st_lists.specs.Log.{commits_by, intents_of, log_and_queue}
+use Rattle.st_lists.specs.Log.{commit_of, commits_in, log_with}
+use Rattle.st_lists.specs.Clients.{HasReceived, HasShown, with_commit, new_client, next_rev, received_by}
+use Rattle.st_lists.specs.Names.{names_in, names_made}
+use Rattle.st_trace.specs.World.{opening_document}
+use Rattle.st_lists.specs.declared.lists.Body.TheVariants.{Join, Commit}
+use Rattle.st_lists.specs.declared.lists.Client.{Client}
+use Rattle.st_lists.specs.declared.lists.Entry.{Entry}
+use Rattle.st_lists.specs.declared.lists.Queued.{Queued}
 use Rattle.st_trace.proofs.Begun.{IsStart}
-use Rattle.st_trace.proofs.Counting.{names_append, fewer_names, room_left}
-use Rattle.st_trace.proofs.Logs.{take-get, commits_append, commits_split, by_sublist, by_own, by_other, by_none, one_commit, no_commit, last_entry, entered_commits, entered_front, entered_rest}
+use Rattle.st_lists.proofs.Names.{names_append, fewer_names}
+use Rattle.st_trace.proofs.Counting.{room_left}
+use Rattle.st_lists.proofs.Logs.{take-get, commits_append, commits_split, by_sublist, by_own, by_other, by_none, one_commit, no_commit, last_entry, entered_commits, entered_front, entered_rest}
 use Rattle.st_lemmas.proofs.Lists.{AllByRecursion-append, drop-slice_get}
 
 -- ## Lists
@@ -131,24 +135,24 @@ module _ (h : HeaderView) (st : IsStart (opening_document h)) where
           next_new log c r k is (append_left (revisions (log_and_queue log c)) (opening ∷ []) r (subst (Has (revisions (log_and_queue log c))) m.2 (map-has (λ (N : Intent). N.rev) (log_and_queue log c) m.0 (has_longer (shown_among log c k) m.0 m.1))))
       go (inr j) = next_new log c r k is (append_right (revisions (log_and_queue log c)) (opening ∷ []) r j)
 
-  pub shown_sound : (log : List Entry) (c : Client) (D : Document) → IsClient h log c → HasShown h log c D → IsSoundInForm D
+  pub shown_sound : (log : List Entry) (c : Client) (D : Document) → IsClient h log c → HasShown (opening_document h) log c D → IsSoundInForm D
   shown_sound log c D k r = (turn_extends st.sound k.shown_fit r).after
 
   pub received_fit : (log : List Entry) (c : Client) → IsClient h log c → FitInTurn (opening_document h) (received_by log c)
   received_fit log c k = front (received_by log c) c.pending (opening_document h) k.shown_fit
 
-  pub received_sound : (log : List Entry) (c : Client) (D : Document) → IsClient h log c → HasReceived h log c D → IsSoundInForm D
+  pub received_sound : (log : List Entry) (c : Client) (D : Document) → IsClient h log c → HasReceived (opening_document h) log c D → IsSoundInForm D
   received_sound log c D k r = (turn_extends st.sound (received_fit log c k) r).after
 
   -- no node and no cell of what it shows has that revision
-  pub fresh_nodes : (log : List Entry) (c : Client) (D : Document) → IsClient h log c → HasShown h log c D → (j : ℕ) → D.nodes (node_named (next_rev c) j) ≡ None
+  pub fresh_nodes : (log : List Entry) (c : Client) (D : Document) → IsClient h log c → HasShown (opening_document h) log c D → (j : ℕ) → D.nodes (node_named (next_rev c) j) ≡ None
   fresh_nodes log c D k r j = go (D.nodes (node_named (next_rev c) j)) refl
     where
       go : (o : Option NodeType) → D.nodes (node_named (next_rev c) j) ≡ o → D.nodes (node_named (next_rev c) j) ≡ None
       go None e = e
       go (Some t) e = absurd (shown_new log c (next_rev c) k refl ((made_in_run (opening ∷ []) k.shown_fit r st.made).nodes (node_named (next_rev c) j) (ap is_some e)))
 
-  pub fresh_cells : (log : List Entry) (c : Client) (D : Document) → IsClient h log c → HasShown h log c D → (j : ℕ) → D.row_of (cell_named (next_rev c) j) ≡ None
+  pub fresh_cells : (log : List Entry) (c : Client) (D : Document) → IsClient h log c → HasShown (opening_document h) log c D → (j : ℕ) → D.row_of (cell_named (next_rev c) j) ≡ None
   fresh_cells log c D k r j = go (D.row_of (cell_named (next_rev c) j)) refl
     where
       go : (o : Option NodeId) → D.row_of (cell_named (next_rev c) j) ≡ o → D.row_of (cell_named (next_rev c) j) ≡ None
@@ -159,7 +163,7 @@ module _ (h : HeaderView) (st : IsStart (opening_document h)) where
 
   -- ## A commit of its own is pending
 
-  pub client_committed : (log : List Entry) (c : Client) (D : Document) (N : Intent) → IsClient h log c → HasShown h log c D → Fits D N → N.rev ≡ next_rev c → N.schema ≡ None
+  pub client_committed : (log : List Entry) (c : Client) (D : Document) (N : Intent) → IsClient h log c → HasShown (opening_document h) log c D → Fits D N → N.rev ≡ next_rev c → N.schema ≡ None
       → length c.pending < 256 → names_in c.pending + names_made N ≤ 16384 → names_in (commits_in log) ≤ 131072 → IsClient h log (with_commit c N)
   client_committed log c D N k shown fits rev none few few_names all =
       let O = opening_document h in

@@ -1,25 +1,11 @@
--- How many names and cells lists of commits make.
-use Rattle.std.proofs.Common.{◌≡◌, ◌≤◌, ◌+◌, List, [], ◌∷◌, ◌++◌, ap, arith}
+-- Commits with few names leave room.
+use Rattle.std.proofs.Common.{◌≤◌, List, arith}
 use Rattle.st_marks.specs.declared.intents.Intent.{Intent}
 use Rattle.st_marks.specs.Document.{Document}
-use Rattle.st_marks.specs.Extends.{no_more, item_gained, item_kept}
-use Rattle.st_log_laws.specs.Turns.{IsSublist, HasRoom, cells_made}
-use Rattle.st_trace.specs.World.{names_made, names_in}
+use Rattle.st_log_laws.specs.Turns.{HasRoom}
+use Rattle.st_lists.specs.Names.{names_in}
+use Rattle.st_lists.proofs.Names.{cells_few}
 use Rattle.st_trace.proofs.Begun.{IsStart}
 
-pub names_append : (As Bs : List Intent) → names_in (As ++ Bs) ≡ names_in As + names_in Bs
-names_append [] Bs = omega arith
-names_append (N ∷ As) Bs = omega (arith, names_append As Bs)
-
-pub cells_few : (Ns : List Intent) → cells_made Ns ≤ names_in Ns
-cells_few [] = omega arith
-cells_few (N ∷ Ns) = omega (arith, cells_few Ns)
-
-pub fewer_names : {As Bs : List Intent} → IsSublist As Bs → names_in As ≤ names_in Bs
-fewer_names no_more = omega arith
-fewer_names (item_gained g) = omega (arith, fewer_names g)
-fewer_names (item_kept {x} {y} e g) = omega (arith, fewer_names g, ap names_made e)
-
--- commits with few names leave room
 pub room_left : (D : Document) (Ns : List Intent) → IsStart D → names_in Ns ≤ 200000 → HasRoom D Ns
 room_left D Ns s few n = omega (arith, s.short n, cells_few Ns, few)

@@ -4,13 +4,14 @@ use Rattle.std.specs.List.{slice_get, slice_set, AllByRecursion}
 use Rattle.std.proofs.lemmas.Bool.Decides.{nat_tests}
 use Rattle.st_script.specs.Header.{HeaderView}
 use Rattle.st_trace.specs.Replicas.{IsClient, IsReplicaOf, AreReplicas, HaveSessionsFrom}
-use Rattle.st_trace.specs.Log.{log_with, commits_in}
-use Rattle.st_trace.specs.World.{names_in, names_made, opening_document}
+use Rattle.st_lists.specs.Log.{log_with, commits_in}
+use Rattle.st_lists.specs.Names.{names_in, names_made}
+use Rattle.st_trace.specs.World.{opening_document}
 use Rattle.st_trace.specs.declared.replica.Replica.{Replica}
-use Rattle.st_trace.specs.declared.state.Body.TheVariants.{Join, Commit}
-use Rattle.st_trace.specs.declared.state.Client.{Client}
-use Rattle.st_trace.specs.declared.state.Entry.{Entry}
-use Rattle.st_trace.specs.declared.state.Queued.{Queued}
+use Rattle.st_lists.specs.declared.lists.Body.TheVariants.{Join, Commit}
+use Rattle.st_lists.specs.declared.lists.Client.{Client}
+use Rattle.st_lists.specs.declared.lists.Entry.{Entry}
+use Rattle.st_lists.specs.declared.lists.Queued.{Queued}
 use Rattle.st_trace.proofs.Begun.{IsStart}
 use Rattle.st_trace.proofs.Clients.{client_after_join, client_beside, client_sent}
 use Rattle.st_trace.proofs.Keeping.{AreOne, kept_entered, kept_rest}

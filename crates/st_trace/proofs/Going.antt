@@ -15,22 +15,25 @@ use Rattle.st_log_laws.specs.Turns.{FitInTurn}
 use Rattle.st_script.specs.Header.{HeaderView, header_view}
 use Rattle.st_script.specs.declared.answer.Answer.{Answer}
 use Rattle.st_trace.specs.Replicas.{HaveSessionsFrom, IsClient, IsEntryOf, IsHeader, IsSound, KeepToSchema}
-use Rattle.st_trace.specs.Log.{commit_of, commits_in, log_with}
-use Rattle.st_trace.specs.World.{HasShown, IsDeliveredTo, empty_state, after_edit, new_client, limit_passed, names_in, names_made, next_rev, opening_document, pending_after, with_pending, with_received}
+use Rattle.st_lists.specs.Log.{commit_of, commits_in, log_with}
+use Rattle.st_lists.specs.Clients.{HasShown, empty_state, new_client, next_rev, pending_after, with_received}
+use Rattle.st_trace.specs.World.{IsDeliveredTo, after_edit, opening_document, with_pending}
+use Rattle.st_lists.specs.Limits.{limit_passed}
+use Rattle.st_lists.specs.Names.{names_in, names_made}
 use Rattle.st_trace.specs.declared.client.EditWord.{EditWord}
-use Rattle.st_trace.specs.declared.state.Body.TheVariants.{Join, Commit}
-use Rattle.st_trace.specs.declared.state.Client.{Client}
-use Rattle.st_trace.specs.declared.state.Entry.{Entry}
-use Rattle.st_trace.specs.declared.state.WorldState.{WorldState}
-use Rattle.st_trace.specs.declared.state.Queued.{Queued}
+use Rattle.st_lists.specs.declared.lists.Body.TheVariants.{Join, Commit}
+use Rattle.st_lists.specs.declared.lists.Client.{Client}
+use Rattle.st_lists.specs.declared.lists.Entry.{Entry}
+use Rattle.st_lists.specs.declared.lists.WorldState.{WorldState}
+use Rattle.st_lists.specs.declared.lists.Queued.{Queued}
 use Rattle.st_trace.specs.declared.world.World.{World}
 use Rattle.st_trace.proofs.Agreed.{begun_keeps, joined_keeps, sent_keeps}
 use Rattle.st_trace.proofs.Begun.{IsStart, opened_start}
 use Rattle.st_trace.proofs.Clients.{client_after_join, client_beside, client_committed, client_joined, client_none, client_other, client_own, client_sent}
-use Rattle.st_trace.proofs.Counting.{names_append}
+use Rattle.st_lists.proofs.Names.{names_append}
 use Rattle.st_trace.proofs.Everyone.{all_as, all_get, all_set, clients_of, session_at, session_bound, sessions_push, sessions_set}
 use Rattle.st_trace.proofs.Keeping.{within_limits}
-use Rattle.st_trace.proofs.Logs.{entered_commits, last_entry}
+use Rattle.st_lists.proofs.Logs.{entered_commits, last_entry}
 use Rattle.st_trace.proofs.Stepping.{is_last, of_sessions}
 use Rattle.st_lemmas.proofs.Lists.{AllByRecursion-append}
 
@@ -87,7 +90,7 @@ set_sound h w i c c' s at client session keeps = record {
 }
 
 module _ (h : HeaderView) (st : IsStart (opening_document h)) where
-  pub client_edited : (log : List Entry) (c c' : Client) (D : Document) (word : EditWord) (r : Result Intent EditFault) (a : Answer) → IsClient h log c → names_in (commits_in log) ≤ 131072 → HasShown h log c D
+  pub client_edited : (log : List Entry) (c c' : Client) (D : Document) (word : EditWord) (r : Result Intent EditFault) (a : Answer) → IsClient h log c → names_in (commits_in log) ≤ 131072 → HasShown (opening_document h) log c D
       → ((N : Intent) → r ≡ Ok N → Fits D N × (N.rev ≡ next_rev c) × (N.schema ≡ None)) → after_edit c word r ≡ (c', a) → IsClient h log c'
   client_edited log c c' D word (Err f) a k all shown meant is = subst (IsClient h log) (ap (λ (p : Client × Answer). p.0) is) k
   client_edited log c c' D word (Ok N) a k all shown meant is = go (limit_passed c N) refl is

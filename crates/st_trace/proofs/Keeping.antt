@@ -21,18 +21,21 @@ use Rattle.st_script.specs.Header.{HeaderView}
 use Rattle.st_script.specs.declared.answer.Answer.{Answer}
 use Rattle.st_trace.specs.Replicas.{IsClient, IsReplicaOf}
 use Rattle.st_trace.specs.inside.Replicas.{IsCommitted, IsPending, IsEditedReplica, CanReceive, CanCarry, HasMoved, HasReceivedNext, HasReceivedOf, HasReceivedOne}
-use Rattle.st_trace.specs.Log.{commit_of, commits_in, log_with}
-use Rattle.st_trace.specs.World.{IsDeliveredTo, with_commit, after_edit, new_client, limit_passed, names_in, names_made, next_rev, opening_document, pending_after, with_pending, received_by, with_received}
+use Rattle.st_lists.specs.Log.{commit_of, commits_in, log_with}
+use Rattle.st_trace.specs.World.{IsDeliveredTo, after_edit, opening_document, with_pending}
+use Rattle.st_lists.specs.Clients.{with_commit, new_client, next_rev, pending_after, received_by, with_received}
+use Rattle.st_lists.specs.Limits.{limit_passed}
+use Rattle.st_lists.specs.Names.{names_in, names_made}
 use Rattle.st_trace.specs.declared.client.EditWord.{EditWord}
 use Rattle.st_trace.specs.declared.replica.Replica.{Replica}
-use Rattle.st_trace.specs.declared.state.Body.{Body}
-use Rattle.st_trace.specs.declared.state.Client.{Client}
-use Rattle.st_trace.specs.declared.state.Entry.{Entry}
-use Rattle.st_trace.specs.declared.state.Queued.{Queued}
+use Rattle.st_lists.specs.declared.lists.Body.{Body}
+use Rattle.st_lists.specs.declared.lists.Client.{Client}
+use Rattle.st_lists.specs.declared.lists.Entry.{Entry}
+use Rattle.st_lists.specs.declared.lists.Queued.{Queued}
 use Rattle.st_trace.proofs.Begun.{IsStart}
-use Rattle.st_trace.proofs.Counting.{names_append}
+use Rattle.st_lists.proofs.Names.{names_append}
 use Rattle.st_trace.proofs.Clients.{client_committed, client_own, client_other, client_none, other_fit, own_first, received_more}
-use Rattle.st_trace.proofs.Logs.{one_commit, no_commit, entered_front}
+use Rattle.st_lists.proofs.Logs.{one_commit, no_commit, entered_front}
 
 -- one more commit is carried out
 pub run_more : {O D : Document} {Ns : List Intent} (N : Intent) (E : Document) (v : Verdict) → Run O Ns D → IsVerdict D N v → E ≡ carried v D N → Run O (Ns ++ N ∷ []) E

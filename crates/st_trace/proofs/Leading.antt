@@ -48,14 +48,17 @@ use Rattle.st_script.specs.declared.answer.Answer.{Answer}
 use Rattle.st_script.specs.declared.answer.Answer.TheVariants.{Deliver, Join as Joins, No, Show}
 use Rattle.st_script.specs.declared.refusal.Refusal.TheVariants.{NoBranch, NoClient, NothingNew, NothingToSend, Taken}
 use Rattle.st_trace.specs.Replicas.{IsClient, IsSound}
-use Rattle.st_trace.specs.Log.{commit_of, log_with}
-use Rattle.st_trace.specs.World.{AtClient, HasReceived, HasShown, IsDelivered, IsDeliveredTo, IsEdited, IsNext, IsStepOf, IsShown, IsVerdictOf, OnBranch, after_edit, entering, client_named, next_names, join, new_client, log_limit_passed, names_made, next_rev, opening_document, limit_refusal, place_of, received_by, sequence, with_received, with_client}
+use Rattle.st_lists.specs.Log.{commit_of, log_with}
+use Rattle.st_trace.specs.World.{AtClient, IsDelivered, IsDeliveredTo, IsEdited, IsNext, IsStepOf, IsShown, IsVerdictOf, OnBranch, after_edit, entering, next_names, join, opening_document, limit_refusal, sequence, with_client}
+use Rattle.st_lists.specs.Clients.{HasReceived, HasShown, client_named, new_client, next_rev, place_of, received_by, with_received}
+use Rattle.st_lists.specs.Limits.{log_limit_passed}
+use Rattle.st_lists.specs.Names.{names_made}
 use Rattle.st_trace.specs.declared.client.EditWord.{EditWord}
-use Rattle.st_trace.specs.declared.state.Body.TheVariants.{Join}
-use Rattle.st_trace.specs.declared.state.Client.{Client}
-use Rattle.st_trace.specs.declared.state.Entry.{Entry}
-use Rattle.st_trace.specs.declared.state.WorldState.{WorldState}
-use Rattle.st_trace.specs.declared.state.Queued.{Queued}
+use Rattle.st_lists.specs.declared.lists.Body.TheVariants.{Join}
+use Rattle.st_lists.specs.declared.lists.Client.{Client}
+use Rattle.st_lists.specs.declared.lists.Entry.{Entry}
+use Rattle.st_lists.specs.declared.lists.WorldState.{WorldState}
+use Rattle.st_lists.specs.declared.lists.Queued.{Queued}
 use Rattle.st_trace.specs.declared.world.World.{World}
 use Rattle.st_trace.proofs.Acting.{delivered_on, edited_on}
 use Rattle.st_trace.proofs.Agreed.{delivered_keeps, edited_keeps}
@@ -186,10 +189,10 @@ module _ (h : HeaderView) (w : WorldState) (s : AreSound h w) where
     client : IsClient h w.log c
     client = all_get (IsClient h w.log) w.clients i c s.clients at
 
-    shown : (D : Document) × HasShown h w.log c D
+    shown : (D : Document) × HasShown (opening_document h) w.log c D
     shown = has_run (received_by w.log c ++ c.pending) (opening_document h) (opened_start h s.header).sound client.shown_fit
 
-    received : (D : Document) × HasReceived h w.log c D
+    received : (D : Document) × HasReceived (opening_document h) w.log c D
     received = has_run (received_by w.log c) (opening_document h) (opened_start h s.header).sound (received_fit h (opened_start h s.header) w.log c client)
 
     has_edited : (word : EditWord) (meant : Document → Result Intent EditFault) → MeansAlways h c meant → Leads (IsEdited h w i c word meant)

@@ -6,11 +6,11 @@ use Rattle.st_marks.specs.Document.{Document}
 use Rattle.st_marks.specs.Run.{Run, done}
 use Rattle.st_doc.specs.Doc.{document_of}
 use Rattle.st_trace.specs.inside.Replicas.{CanCarry, CanReceive, HasCarried, HasReceivedNext, HasReceivedOf, HasReceivedOne}
-use Rattle.st_trace.specs.Log.{commit_of}
+use Rattle.st_lists.specs.Log.{commit_of}
 use Rattle.st_trace.specs.declared.replica.Replica.{Replica}
-use Rattle.st_trace.specs.declared.state.Body.TheVariants.{Commit}
-use Rattle.st_trace.specs.declared.state.Client.{Client}
-use Rattle.st_trace.specs.declared.state.Entry.{Entry}
+use Rattle.st_lists.specs.declared.lists.Body.TheVariants.{Commit}
+use Rattle.st_lists.specs.declared.lists.Client.{Client}
+use Rattle.st_lists.specs.declared.lists.Entry.{Entry}
 
 none_run : (Ns : List Intent) (D E : Document) → length Ns ≡ 0 → E ≡ D → Run D Ns E
 none_run [] D E h same = subst (λ F. Run D [] F) (sym same) done

@@ -18,19 +18,22 @@ use Rattle.st_script.specs.Steps.{StepView, branch_of, name_of}
 use Rattle.st_script.specs.Steps as step
 use Rattle.st_script.specs.declared.answer.Answer.{Answer}
 use Rattle.st_trace.specs.Replicas.{IsSound}
-use Rattle.st_trace.specs.World.{AtClient, HasShown, IsAllowedText, IsDeliveredTo, IsEdited, IsNext, IsStepOf, OnBranch, ShowsAllowed, answer_of, after_edit, entering, client_named, join, limit_passed, log_limit_passed, names_made, next_rev, opening_document, with_pending, place_of, received_by, sequence}
+use Rattle.st_trace.specs.World.{AtClient, IsAllowedText, IsDeliveredTo, IsEdited, IsNext, IsStepOf, OnBranch, ShowsAllowed, answer_of, after_edit, entering, join, opening_document, with_pending, sequence}
+use Rattle.st_lists.specs.Clients.{HasShown, client_named, next_rev, place_of, received_by}
+use Rattle.st_lists.specs.Limits.{limit_passed, log_limit_passed}
+use Rattle.st_lists.specs.Names.{names_made}
 use Rattle.st_trace.specs.declared.client.EditWord.{EditWord}
-use Rattle.st_trace.specs.declared.state.Client.{Client}
-use Rattle.st_trace.specs.declared.state.Entry.{Entry}
-use Rattle.st_trace.specs.declared.state.WorldState.{WorldState}
-use Rattle.st_trace.specs.declared.state.Queued.{Queued}
+use Rattle.st_lists.specs.declared.lists.Client.{Client}
+use Rattle.st_lists.specs.declared.lists.Entry.{Entry}
+use Rattle.st_lists.specs.declared.lists.WorldState.{WorldState}
+use Rattle.st_lists.specs.declared.lists.Queued.{Queued}
 use Rattle.st_trace.specs.declared.world.World.{World}
 use Rattle.st_schema_laws.specs.Agreeing.{KeepSchemaInTurn}
 use Rattle.st_trace.proofs.Everyone.{all_get, kept_some}
 use Rattle.st_trace.proofs.Stepping.{start_of}
 
 -- the text of what a client shows
-text_allowed : (w : World) (i : ℕ) (c : Client) (D : Document) (text : List ℕ) → IsSound w → slice_get w.lists.clients i ≡ Some c → HasShown (header_view w.header) w.lists.log c D → IsTreeText (is_array_type w.header.schema) D text
+text_allowed : (w : World) (i : ℕ) (c : Client) (D : Document) (text : List ℕ) → IsSound w → slice_get w.lists.clients i ≡ Some c → HasShown (opening_document (header_view w.header)) w.lists.log c D → IsTreeText (is_array_type w.header.schema) D text
     → IsAllowedText w.header.schema text
 text_allowed w i c D text s at shown is =
     let h = header_view w.header in

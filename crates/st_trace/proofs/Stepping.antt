@@ -31,24 +31,28 @@ use Rattle.st_script.specs.declared.answer.Answer.TheVariants.{No}
 use Rattle.st_script.specs.declared.refusal.Refusal.TheVariants.{NothingToSend, NoClient, NoBranch}
 use Rattle.st_script.specs.Steps.{StepView, name_of, branch_of}
 use Rattle.st_script.specs.Steps as step
-use Rattle.st_trace.specs.Replicas.{AreReplicas, IsClient, IsEntryOf, IsReplicaOf, IsSound, IsSoundAfter, KeepToSchema, intents_of, log_and_queue}
-use Rattle.st_trace.specs.Known.{AreKnown}
-use Rattle.st_trace.specs.Log.{commit_of, commits_in, log_with}
-use Rattle.st_trace.specs.World.{AtClient, IsNext, IsStepOf, OnBranch, client_named, new_client, log_limit_passed, names_in, names_made, opening_document, place_of, sequence}
+use Rattle.st_trace.specs.Replicas.{AreReplicas, IsClient, IsEntryOf, IsReplicaOf, IsSound, IsSoundAfter, KeepToSchema}
+use Rattle.st_lists.specs.Log.{intents_of, log_and_queue}
+use Rattle.st_lists.specs.Known.{AreKnown}
+use Rattle.st_lists.specs.Log.{commit_of, commits_in, log_with}
+use Rattle.st_trace.specs.World.{AtClient, IsNext, IsStepOf, OnBranch, opening_document, sequence}
+use Rattle.st_lists.specs.Clients.{client_named, new_client, place_of}
+use Rattle.st_lists.specs.Limits.{log_limit_passed}
+use Rattle.st_lists.specs.Names.{names_in, names_made}
 use Rattle.st_trace.specs.declared.replica.Replica.{Replica}
-use Rattle.st_trace.specs.declared.state.Body.TheVariants.{Join, Commit}
-use Rattle.st_trace.specs.declared.state.Client.{Client}
-use Rattle.st_trace.specs.declared.state.Entry.{Entry}
-use Rattle.st_trace.specs.declared.state.WorldState.{WorldState}
-use Rattle.st_trace.specs.declared.state.Queued.{Queued}
+use Rattle.st_lists.specs.declared.lists.Body.TheVariants.{Join, Commit}
+use Rattle.st_lists.specs.declared.lists.Client.{Client}
+use Rattle.st_lists.specs.declared.lists.Entry.{Entry}
+use Rattle.st_lists.specs.declared.lists.WorldState.{WorldState}
+use Rattle.st_lists.specs.declared.lists.Queued.{Queued}
 use Rattle.st_trace.specs.declared.world.World.{World}
 use Rattle.st_trace.proofs.Agreed.{joined_keeps, sent_keeps}
 use Rattle.st_trace.proofs.Begun.{IsStart, opened_start}
 use Rattle.st_trace.proofs.Clients.{client_joined}
-use Rattle.st_trace.proofs.Counting.{names_append}
+use Rattle.st_lists.proofs.Names.{names_append}
 use Rattle.st_trace.proofs.Everyone.{all_after_join, all_as, all_get, all_sent, all_set, clients_of, kept_push, kept_set, kept_some, past, session_bound, sessions_push, sessions_set}
 use Rattle.st_trace.proofs.Keeping.{AreOne, kept_joined, run_more}
-use Rattle.st_trace.proofs.Logs.{entered_commits, last_entry}
+use Rattle.st_lists.proofs.Logs.{entered_commits, last_entry}
 use Rattle.st_lemmas.proofs.Lists.{AllByRecursion-append}
 
 abbrev pub start_of : (w : World) (steps : ℕ) → IsSoundAfter steps w → IsStart (opening_document (header_view w.header))

@@ -10,7 +10,7 @@ use Rattle.st_marks.specs.Verdict.{IsVerdict, carried}
 use Rattle.st_marks.proofs.OneVerdict.{carried_extends}
 use Rattle.st_log_laws.specs.Turns.{FitInTurn}
 use Rattle.st_trace.proofs.Keeping.{run_more}
-use Rattle.st_trace.proofs.Logs.{take-get}
+use Rattle.st_lists.proofs.Logs.{take-get}
 use Rattle.st_lemmas.proofs.Lists.{drop-slice_get}
 
 there : {X : Type 0} (xs : List X) (i : ℕ) (x : X) → i < length xs → x ≡ get_or xs i x → slice_get xs i ≡ Some x

@@ -17,28 +17,18 @@ use Rattle.st_doc.specs.LiveText.{is_among}
 use Rattle.st_schema.specs.Schema.{is_sound}
 use Rattle.st_edits.specs.ArrayTypes.{is_array_type}
 use Rattle.st_script.specs.Header.{HeaderView, header_view, may_open}
-use Rattle.st_trace.specs.Known.{AreKnown}
-use Rattle.st_trace.specs.Log.{commit_of, commits_in}
-use Rattle.st_trace.specs.World.{HasReceived, HasShown, opening_document, received_by, names_in}
+use Rattle.st_lists.specs.Known.{AreKnown}
+use Rattle.st_lists.specs.Log.{commit_of, commits_by, commits_in, intents_of, log_and_queue}
+use Rattle.st_lists.specs.Clients.{HasReceived, HasShown, received_by}
+use Rattle.st_trace.specs.World.{opening_document}
+use Rattle.st_lists.specs.Names.{names_in}
 use Rattle.st_trace.specs.declared.replica.Replica.{Replica}
-use Rattle.st_trace.specs.declared.state.Client.{Client}
-use Rattle.st_trace.specs.declared.state.Entry.{Entry}
-use Rattle.st_trace.specs.declared.state.Queued.{Queued}
+use Rattle.st_lists.specs.declared.lists.Client.{Client}
+use Rattle.st_lists.specs.declared.lists.Entry.{Entry}
+use Rattle.st_lists.specs.declared.lists.Queued.{Queued}
 use Rattle.st_trace.specs.declared.world.World.{World}
 
 -- ## One client
-
--- the commits of the texts that wait
-abbrev pub intents_of : List Queued → List Intent
-intents_of qs = map (λ (q : Queued). q.intent) qs
-
--- the commits of a session among some entries
-abbrev pub commits_by : ℕ → List Entry → List Intent
-commits_by s entries = commits_in (filter (λ (e : Entry). e.session == s) entries)
-
--- all commits that are in the log, and those of a client that are on their way there
-abbrev pub log_and_queue : List Entry → Client → List Intent
-log_and_queue log c = commits_in log ++ intents_of c.queue
 
 -- what a client's lists are, beside the log
 pub record IsClient (h : HeaderView) (log : List Entry) (c : Client) : Type 0 where
@@ -58,8 +48,8 @@ pub record IsClient (h : HeaderView) (log : List Entry) (c : Client) : Type 0 wh
 
 -- the kept documents are those to which the client's lists lead
 pub record IsReplicaOf (h : HeaderView) (log : List Entry) (c : Client) (k : Replica) : Type 0 where
-  pub received : HasReceived h log c (document_of k.received)
-  pub shown : HasShown h log c (document_of k.shown)
+  pub received : HasReceived (opening_document h) log c (document_of k.received)
+  pub shown : HasShown (opening_document h) log c (document_of k.shown)
   pub names : k.names ≡ names_in c.pending
 
 -- ## The world

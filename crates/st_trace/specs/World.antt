@@ -32,14 +32,17 @@ use Rattle.st_script.specs.declared.answer.Answer.{Answer}
 use Rattle.st_script.specs.declared.answer.Answer.TheVariants as answer
 use Rattle.st_script.specs.declared.refusal.Refusal.{Refusal}
 use Rattle.st_script.specs.declared.refusal.Refusal.TheVariants as no
-use Rattle.st_trace.specs.Log.{commit_of, commits_in, log_with, minimum}
+use Rattle.st_lists.specs.Clients.{HasReceived, HasShown, client_named, new_client, next_rev, place_of, with_commit, with_received}
+use Rattle.st_lists.specs.Limits.{limit_passed, log_limit_passed}
+use Rattle.st_lists.specs.Log.{commit_of, log_with, minimum}
+use Rattle.st_lists.specs.Names.{names_made}
 use Rattle.st_trace.specs.declared.client.EditWord.{EditWord}
 use Rattle.st_trace.specs.declared.client.EditWord.TheVariants as word
-use Rattle.st_trace.specs.declared.state.Body.TheVariants.{Join as Joined, Commit}
-use Rattle.st_trace.specs.declared.state.Client.{Client}
-use Rattle.st_trace.specs.declared.state.Entry.{Entry}
-use Rattle.st_trace.specs.declared.state.WorldState.{WorldState}
-use Rattle.st_trace.specs.declared.state.Queued.{Queued}
+use Rattle.st_lists.specs.declared.lists.Body.TheVariants.{Join as Joined, Commit}
+use Rattle.st_lists.specs.declared.lists.Client.{Client}
+use Rattle.st_lists.specs.declared.lists.Entry.{Entry}
+use Rattle.st_lists.specs.declared.lists.WorldState.{WorldState}
+use Rattle.st_lists.specs.declared.lists.Queued.{Queued}
 
 -- ## Documents
 
@@ -47,42 +50,9 @@ use Rattle.st_trace.specs.declared.state.Queued.{Queued}
 abbrev pub opening_document : HeaderView → Document
 opening_document h = start_of (opening_listed h.tree) (compact_text (schema_data h.schema))
 
--- the commits that a client received, in their order
-abbrev pub received_by : List Entry → Client → List Intent
-received_by log c = commits_in (take c.received log)
-
--- the commits that a client received, carried out from the opening, lead to this document
-abbrev pub HasReceived : HeaderView → List Entry → Client → Document → Type 0
-HasReceived h log c D = Run (opening_document h) (received_by log c) D
-
--- the commits that a client received, followed by its own pending ones, lead to this document
-abbrev pub HasShown : HeaderView → List Entry → Client → Document → Type 0
-HasShown h log c D = Run (opening_document h) (received_by log c ++ c.pending) D
-
 -- ## Names
 
--- how many names an intent makes: its nodes and its cells
-abbrev pub names_made : Intent → ℕ
-names_made N = length N.new + length (group_cells N)
-
--- how many names some intents make together
-abbrev pub names_in : List Intent → ℕ
-names_in [] = 0
-names_in (N ∷ Ns) = names_made N + names_in Ns
-
 -- ## Edits of one client
-
--- the revision of its next commit
-abbrev pub next_rev : Client → Rev
-next_rev c = record { session = c.session; num = c.ids + 1 }
-
--- a commit is pending, and its text waits in the queue
-abbrev pub with_commit : Client → Intent → Client
-with_commit c intent = record c {
-  ids = c.ids + 1;
-  pending = c.pending ++ intent ∷ [];
-  queue = c.queue ++ record { reference = c.received; intent = intent } ∷ [];
-}
 
 -- what is refused of an edit
 abbrev pub refusal_of : EditFault → Refusal
@@ -101,12 +71,6 @@ answer_of word.Move rev = answer.Move rev
 answer_of word.Set rev = answer.Set rev
 answer_of word.Clear rev = answer.Clear rev
 
--- the limit that one more pending commit would pass: at most 256 commits, and 16,384 names in them
-abbrev pub limit_passed : Client → Intent → Option Limit
-limit_passed c N =
-    if nat_le 256 (length c.pending) then Some (record { of = Pending; kept = length c.pending }) else
-    if nat_lt 16384 (names_in c.pending + names_made N) then Some (record { of = Unsequenced; kept = names_in c.pending }) else None
-
 -- a commit is pending from now on, if it passes no limit
 abbrev pub with_pending : Client → EditWord → Intent → Option Limit → Client × Answer
 with_pending c word N None = (with_commit c N, answer_of word (next_rev c))
@@ -123,17 +87,6 @@ next_names c = record { rev = next_rev c; nodes = 0; cells = 0 }
 
 -- ## Receiving
 
--- whether an entry is a commit of its own
-abbrev pub is_own : Entry → Client → Bool
-is_own e c = is_some (commit_of e) && (e.session == c.session)
-
--- what stays pending after an entry: a commit of its own was the first of them
-abbrev pub pending_after : Entry → Client → List Intent
-pending_after e c = if is_own e c then drop 1 c.pending else c.pending
-
-abbrev pub with_received : Entry → Client → Client
-with_received e c = record c { received = c.received + 1; pending = pending_after e c }
-
 -- the verdict of an entry where it comes; one without a commit is sound
 abbrev pub IsVerdictOf : Document → Option Intent → Verdict → Type 0
 IsVerdictOf D None v = v ≡ Verdict.Sound
@@ -146,28 +99,13 @@ IsDeliveredTo D c (Some e) d a = (void : Verdict) × IsVerdictOf D (commit_of e)
 
 -- ## The world
 
--- the world before any client joins
-abbrev pub empty_state : WorldState
-empty_state = record { log = []; clients = [] }
-
 -- the client at a place is now so
 abbrev pub with_client : WorldState → ℕ → Client × Answer → WorldState × Answer
 with_client w i p = (record w { clients = slice_set w.clients i p.0 }, p.1)
 
--- the client of a name, and its place
-abbrev pub place_of : List ℕ → List Client → Option ℕ
-place_of name clients = position (λ (c : Client). pointwise nat_eq c.name name) clients
-
-abbrev pub client_named : List ℕ → List Client → Option (ℕ × Client)
-client_named name clients = option_and_then (λ i. option_map (λ c. (i, c)) (slice_get clients i)) (place_of name clients)
-
 -- a refusal by a limit, with the count that stands
 abbrev pub limit_refusal : Limit → Answer
 limit_refusal l = answer.No (no.Limit l)
-
--- a new client has received all of the log, with its own join
-abbrev pub new_client : ℕ → ℕ → List ℕ → Client
-new_client n session name = record { name = name; session = session; received = n; ids = 0; pending = []; queue = [] }
 
 -- at most 64 clients at a time, and 65,535 entries
 abbrev pub join : WorldState → List ℕ → WorldState × Answer
@@ -181,12 +119,6 @@ join w name =
       },
       answer.Join (length w.log + 1) (length w.clients + 1),
     )
-
--- the limit that an entry with so many names would pass: at most 65,535 entries, which make at most 131,072 names
-abbrev pub log_limit_passed : List Entry → ℕ → Option Limit
-log_limit_passed log made =
-    if nat_le 65535 (length log) then Some (record { of = Log; kept = length log }) else
-    if nat_lt 131072 (names_in (commits_in log) + made) then Some (record { of = Names; kept = names_in (commits_in log) }) else None
 
 -- a text enters the log, if it passes no limit
 abbrev pub entering : WorldState → ℕ → Client → Queued → List Queued → Option Limit → WorldState × Answer
@@ -209,16 +141,16 @@ IsUnchanged w v a b = (v ≡ w) × (a ≡ b)
 
 -- an edit is resolved in the document that the client shows
 abbrev pub IsEdited : HeaderView → WorldState → ℕ → Client → EditWord → (Document → Result Intent EditFault) → WorldState → Answer → Type 0
-IsEdited h w i c word meant v a = (D : Document) × HasShown h w.log c D × (with_client w i (after_edit c word (meant D)) ≡ (v, a))
+IsEdited h w i c word meant v a = (D : Document) × HasShown (opening_document h) w.log c D × (with_client w i (after_edit c word (meant D)) ≡ (v, a))
 
 -- the client receives the next entry
 abbrev pub IsDelivered : HeaderView → WorldState → ℕ → Client → WorldState → Answer → Type 0
-IsDelivered h w i c v a = (D : Document) × (d : Client) × HasReceived h w.log c D × IsDeliveredTo D c (slice_get w.log c.received) d a
+IsDelivered h w i c v a = (D : Document) × (d : Client) × HasReceived (opening_document h) w.log c D × IsDeliveredTo D c (slice_get w.log c.received) d a
     × (v ≡ record w { clients = slice_set w.clients i d })
 
 -- the text of the tree that a client shows
 abbrev pub IsShown : HeaderView → WorldState → Client → Answer → Type 0
-IsShown h w c a = (D : Document) × (tree : List ℕ) × HasShown h w.log c D × IsTreeText (is_array_type h.schema) D tree × (a ≡ answer.Show tree)
+IsShown h w c a = (D : Document) × (tree : List ℕ) × HasShown (opening_document h) w.log c D × IsTreeText (is_array_type h.schema) D tree × (a ≡ answer.Show tree)
 
 -- what a step makes of the world, for its client and that one's place
 abbrev pub IsStepOf : HeaderView → WorldState → StepView → ℕ → Client → WorldState → Answer → Type 0

@@ -9,7 +9,10 @@ ghost use Rattle.st_edits.specs.Resolve.{IsWithin, resolve};
 ghost use Rattle.st_log_laws.specs.Turns.{FitInTurn};
 ghost use Rattle.st_trace.specs.inside.Edits.{word_of, edit_of};
 ghost use Rattle.st_trace.specs.inside.Replicas.{IsCommitted, IsPending, IsEditedReplica, HasCarried, HasReceivedOne, CanReceive, HasReceivedNext, HasMoved};
-ghost use Rattle.st_trace.specs.World.{names_made, names_in, next_rev, with_commit, next_names, refusal_of, limit_passed, with_pending, after_edit, answer_of, is_own, with_received, IsDeliveredTo, new_client};
+ghost use Rattle.st_lists.specs.Names.{names_made, names_in};
+ghost use Rattle.st_lists.specs.Clients.{next_rev, with_commit, is_own, with_received, new_client};
+ghost use Rattle.st_trace.specs.World.{next_names, refusal_of, with_pending, after_edit, answer_of, IsDeliveredTo};
+ghost use Rattle.st_lists.specs.Limits.{limit_passed};
 ghost use Rattle.st_trace.specs.declared.replica.Replica.{Replica as KeptOf};
 
 use crate::edits::resolve_step;

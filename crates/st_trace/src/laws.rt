@@ -4,7 +4,7 @@ ghost use Rattle.st_script.specs.Steps.{StepView};
 ghost use Rattle.st_script.specs.declared.answer.Answer.{Answer};
 ghost use Rattle.st_trace.specs.Replicas.{IsSound};
 ghost use Rattle.st_trace.specs.World.{IsNext};
-ghost use Rattle.st_trace.specs.declared.state.WorldState.{WorldState};
+ghost use Rattle.st_lists.specs.declared.lists.WorldState.{WorldState};
 ghost use Rattle.st_trace.specs.declared.world.World.{World};
 
 /// From each sound world each step leads to a next world, and has an answer.

@@ -9,11 +9,12 @@ use Rattle.st_ids.specs.declared.names.Limit.{Limit}
 use Rattle.st_tree.specs.declared.edit.EditFault.{EditFault}
 use Rattle.st_log_laws.specs.Turns.{FitInTurn}
 use Rattle.st_doc.specs.Doc.{document_of}
-use Rattle.st_trace.specs.Log.{commit_of}
-use Rattle.st_trace.specs.World.{names_made, limit_passed}
+use Rattle.st_lists.specs.Log.{commit_of}
+use Rattle.st_lists.specs.Names.{names_made}
+use Rattle.st_lists.specs.Limits.{limit_passed}
 use Rattle.st_trace.specs.declared.replica.Replica.{Replica}
-use Rattle.st_trace.specs.declared.state.Client.{Client}
-use Rattle.st_trace.specs.declared.state.Entry.{Entry}
+use Rattle.st_lists.specs.declared.lists.Client.{Client}
+use Rattle.st_lists.specs.declared.lists.Entry.{Entry}
 use Rattle.st_trace.specs.declared.world.World.{World}
 use Rattle.st_trace.specs.Replicas.{IsSoundAfter}
 

@@ -1,7 +1,7 @@
 use Rattle.std.proofs.Common.{◌≡◌, Err, ◌<◌, length, arith, codes}
 use Rattle.std.proofs.lemmas.Bool.Decides.{nat_tests}
 use Rattle.st_script.specs.Header.{header_view, header_line}
-use Rattle.st_trace.specs.World.{empty_state}
+use Rattle.st_lists.specs.Clients.{empty_state}
 use Rattle.st_run.specs.Lines.{cut}
 use Rattle.st_run.specs.Answers.{Output, OrCutShort, AnswersOpening, AnswersHeader, AnswersFrom, bad_line}
 use Rattle.st_run.specs.declared.outcome.Outcome.TheVariants.{NoMemory}

@@ -2,8 +2,8 @@ use Rattle.std.proofs.Common.{◌≡◌, inr, refl, subst}
 use Rattle.st_script.specs.AnswerText.{answer_line}
 use Rattle.st_script.specs.Header.{header_view}
 use Rattle.st_script.specs.declared.answer.Answer.TheVariants as answer
-use Rattle.st_trace.specs.World.{empty_state}
-use Rattle.st_trace.specs.declared.state.WorldState.{WorldState}
+use Rattle.st_lists.specs.Clients.{empty_state}
+use Rattle.st_lists.specs.declared.lists.WorldState.{WorldState}
 use Rattle.st_run.specs.Lines.{cut}
 use Rattle.st_run.specs.Answers.{OrCutShort, AnswersHeader, IsOutput, AnswersFrom}
 use Rattle.st_run.specs.inside.Answers.{IsCutShort}

@@ -5,7 +5,7 @@ use Rattle.st_script.specs.Header.{header_view}
 use Rattle.st_script.specs.Steps.{step_view}
 use Rattle.st_trace.specs.inside.Edits.{word_of, edit_of}
 use Rattle.st_trace.specs.World.{IsEdited, IsStepOf, next_names}
-use Rattle.st_trace.specs.declared.state.Client.{Client}
+use Rattle.st_lists.specs.declared.lists.Client.{Client}
 use Rattle.st_trace.proofs.Choosing.{next_edit}
 use Rattle.st_trace.proofs.world.World.answer_at.Goals as goal
 use Rattle.st_lemmas.proofs.Options.{IfOk-along}

@@ -1,7 +1,7 @@
 use Rattle.std.proofs.Common.{◌≡◌, ◌<◌, ◌+◌, [], ◌∷◌, length, length-append, refl, ap, arith}
-use Rattle.st_trace.specs.declared.state.Body.TheVariants.{Join}
-use Rattle.st_trace.specs.World.{new_client}
-use Rattle.st_trace.proofs.Logs.{last_entry}
+use Rattle.st_lists.specs.declared.lists.Body.TheVariants.{Join}
+use Rattle.st_lists.specs.Clients.{new_client}
+use Rattle.st_lists.proofs.Logs.{last_entry}
 use Rattle.st_trace.proofs.Stepping.{sound_joined}
 use Rattle.st_trace.proofs.world.World.join.Goals as goal
 

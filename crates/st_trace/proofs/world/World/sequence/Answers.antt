@@ -1,6 +1,6 @@
 use Rattle.std.proofs.Common.{◌+◌, sym, ap, subst}
 use Rattle.st_trace.specs.Replicas.{IsSoundAfter}
-use Rattle.st_trace.specs.Known.{AreKnown}
+use Rattle.st_lists.specs.Known.{AreKnown}
 use Rattle.st_trace.specs.declared.world.World.{World}
 use Rattle.st_trace.proofs.Stepping.{head_fits, head_sound, sound_sent, text_within}
 use Rattle.st_trace.proofs.world.World.sequence.Goals as goal

@@ -1,7 +1,7 @@
 //! How many names commits make.
 ghost use Rattle.std.specs.Prelude.{◌≡◌, ◌-◌, ◌^◌, min, length};
 ghost use Rattle.std.specs.List.{flat_map};
-ghost use Rattle.st_trace.specs.World.{names_made};
+ghost use Rattle.st_lists.specs.Names.{names_made};
 
 use st_marks::{Group, Intent};
 

@@ -1,9 +1,9 @@
 -- the least so far, and then that of the clients that are left
 use Rattle.std.proofs.Common.{◌≡◌, ℕ, drop, min}
 use Rattle.std.specs.List.{fold}
-use Rattle.st_trace.specs.Known.{known_so_far}
-use Rattle.st_trace.specs.declared.state.Client.{Client}
-use Rattle.st_trace.proofs.log.least_known.Given as goal
+use Rattle.st_lists.specs.Known.{known_so_far}
+use Rattle.st_lists.specs.declared.lists.Client.{Client}
+use Rattle.st_lists.proofs.log.least_known.Given as goal
 
 abbrev pub invariant-loop-client : goal.invariant-loop-client
 invariant-loop-client l =

@@ -2,8 +2,8 @@
 use Rattle.std.specs.Prelude.{◌≡◌, ℕ, List, unwrap_or}
 use Rattle.std.specs.BTreeMap.{BTreeMap, get}
 use Rattle.std.specs.Ordering.{nat_cmp}
-use Rattle.st_trace.specs.Log.{known_reference}
-use Rattle.st_trace.specs.declared.state.Entry.{Entry}
+use Rattle.st_lists.specs.Log.{known_reference}
+use Rattle.st_lists.specs.declared.lists.Entry.{Entry}
 
 abbrev pub known_so_far : BTreeMap ℕ ℕ → ℕ → ℕ
 known_so_far known session = unwrap_or (get nat_cmp known session) 0

@@ -1,9 +1,9 @@
 //! The log, and how much of it each session is known to have received.
 ghost use Rattle.std.specs.Prelude.{◌≡◌, ℕ, ◌+◌, ◌^◌, ◌<◌, length, fold, min, OnOk};
-ghost use Rattle.st_trace.specs.Log.{log_with, reference_of, with_reference};
-ghost use Rattle.st_trace.specs.Known.{known_so_far, AreKnown};
+ghost use Rattle.st_lists.specs.Log.{log_with, reference_of, with_reference};
+ghost use Rattle.st_lists.specs.Known.{known_so_far, AreKnown};
 
-use crate::state::{Body, Client, Entry};
+use crate::lists::{Body, Client, Entry};
 use st_ids::List;
 use std::alloc::AllocError;
 use std::collections::BTreeMap;

@@ -1,11 +1,12 @@
 -- The log: its commits, and what its entries say of how much each session had received.
-use Rattle.std.specs.Prelude.{ℕ, ◌+◌, ◌==◌, min, max, List, [], ◌∷◌, ◌++◌, length, fold, Option, Some, None, if◌then◌else◌}
+use Rattle.std.specs.Prelude.{ℕ, ◌+◌, ◌==◌, min, max, List, [], ◌∷◌, ◌++◌, length, map, filter, fold, Option, Some, None, if◌then◌else◌}
 use Rattle.std.specs.List.{filter_map}
 use Rattle.st_marks.specs.declared.intents.Intent.{Intent}
-use Rattle.st_trace.specs.declared.state.Body.{Body}
-use Rattle.st_trace.specs.declared.state.Body.TheVariants.{Join, Commit}
-use Rattle.st_trace.specs.declared.state.Client.{Client}
-use Rattle.st_trace.specs.declared.state.Entry.{Entry}
+use Rattle.st_lists.specs.declared.lists.Body.{Body}
+use Rattle.st_lists.specs.declared.lists.Body.TheVariants.{Join, Commit}
+use Rattle.st_lists.specs.declared.lists.Client.{Client}
+use Rattle.st_lists.specs.declared.lists.Entry.{Entry}
+use Rattle.st_lists.specs.declared.lists.Queued.{Queued}
 
 -- the commit of an entry, if it is one
 abbrev pub commit_in : Body → Option Intent
@@ -41,3 +42,17 @@ known_reference session log = fold (with_reference session) 0 log
 -- the least known reference of the clients; with no client, the number of the last entry
 abbrev pub minimum : List Entry → List Client → ℕ
 minimum log clients = fold (λ least (c : Client). min least (known_reference c.session log)) (length log) clients
+
+-- ## The commits of one session
+
+-- the commits of the texts that wait
+abbrev pub intents_of : List Queued → List Intent
+intents_of qs = map (λ (q : Queued). q.intent) qs
+
+-- the commits of a session among some entries
+abbrev pub commits_by : ℕ → List Entry → List Intent
+commits_by s entries = commits_in (filter (λ (e : Entry). e.session == s) entries)
+
+-- all commits that are in the log, and those of a client that are on their way there
+abbrev pub log_and_queue : List Entry → Client → List Intent
+log_and_queue log c = commits_in log ++ intents_of c.queue

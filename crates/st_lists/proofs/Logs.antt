@@ -6,10 +6,10 @@ use Rattle.std.proofs.lemmas.List.Elements.{filter_map-append, filter-append}
 use Rattle.st_marks.specs.declared.intents.Intent.{Intent}
 use Rattle.st_marks.specs.Extends.{no_more, item_gained, item_kept}
 use Rattle.st_log_laws.specs.Turns.{IsSublist}
-use Rattle.st_trace.specs.Replicas.{commits_by}
-use Rattle.st_trace.specs.Log.{commit_of, commits_in, log_with}
-use Rattle.st_trace.specs.declared.state.Body.{Body}
-use Rattle.st_trace.specs.declared.state.Entry.{Entry}
+use Rattle.st_lists.specs.Log.{commits_by}
+use Rattle.st_lists.specs.Log.{commit_of, commits_in, log_with}
+use Rattle.st_lists.specs.declared.lists.Body.{Body}
+use Rattle.st_lists.specs.declared.lists.Entry.{Entry}
 
 -- ## Lists
 

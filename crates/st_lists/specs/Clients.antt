@@ -1,0 +1,68 @@
+-- The clients of a world: who is there, and what a client's own steps make of its lists.
+use Rattle.std.specs.Prelude.{◌≡◌, ℕ, ◌+◌, ◌==◌, ◌&&◌, Bool, List, [], ◌∷◌, ◌++◌, drop, take, position, slice_get, nat_eq, Option, is_some, option_map, option_and_then, if◌then◌else◌}
+use Rattle.std.specs.Cmp.Lexicographic.{pointwise}
+use Rattle.st_ids.specs.declared.names.Rev.{Rev}
+use Rattle.st_marks.specs.declared.intents.Intent.{Intent}
+use Rattle.st_marks.specs.Document.{Document}
+use Rattle.st_marks.specs.Run.{Run}
+use Rattle.st_lists.specs.Log.{commit_of, commits_in}
+use Rattle.st_lists.specs.declared.lists.Client.{Client}
+use Rattle.st_lists.specs.declared.lists.Entry.{Entry}
+use Rattle.st_lists.specs.declared.lists.Queued.{Queued}
+use Rattle.st_lists.specs.declared.lists.WorldState.{WorldState}
+
+-- ## Who is there
+
+-- the world before any client joins
+abbrev pub empty_state : WorldState
+empty_state = record { log = []; clients = [] }
+
+-- the client of a name, and its place
+abbrev pub place_of : List ℕ → List Client → Option ℕ
+place_of name clients = position (λ (c : Client). pointwise nat_eq c.name name) clients
+
+abbrev pub client_named : List ℕ → List Client → Option (ℕ × Client)
+client_named name clients = option_and_then (λ i. option_map (λ c. (i, c)) (slice_get clients i)) (place_of name clients)
+
+-- a new client has received all of the log, with its own join
+abbrev pub new_client : ℕ → ℕ → List ℕ → Client
+new_client n session name = record { name = name; session = session; received = n; ids = 0; pending = []; queue = [] }
+
+-- ## The commits of a client
+
+-- the commits that a client received, in their order
+abbrev pub received_by : List Entry → Client → List Intent
+received_by log c = commits_in (take c.received log)
+
+-- the commits that a client received, carried out from the document opened, lead to this document
+abbrev pub HasReceived : Document → List Entry → Client → Document → Type 0
+HasReceived O log c D = Run O (received_by log c) D
+
+-- the commits that a client received, followed by its own pending ones, lead to this document
+abbrev pub HasShown : Document → List Entry → Client → Document → Type 0
+HasShown O log c D = Run O (received_by log c ++ c.pending) D
+
+-- the revision of its next commit
+abbrev pub next_rev : Client → Rev
+next_rev c = record { session = c.session; num = c.ids + 1 }
+
+-- a commit is pending, and its text waits in the queue
+abbrev pub with_commit : Client → Intent → Client
+with_commit c intent = record c {
+  ids = c.ids + 1;
+  pending = c.pending ++ intent ∷ [];
+  queue = c.queue ++ record { reference = c.received; intent = intent } ∷ [];
+}
+
+-- ## Receiving
+
+-- whether an entry is a commit of its own
+abbrev pub is_own : Entry → Client → Bool
+is_own e c = is_some (commit_of e) && (e.session == c.session)
+
+-- what stays pending after an entry: a commit of its own was the first of them
+abbrev pub pending_after : Entry → Client → List Intent
+pending_after e c = if is_own e c then drop 1 c.pending else c.pending
+
+abbrev pub with_received : Entry → Client → Client
+with_received e c = record c { received = c.received + 1; pending = pending_after e c }

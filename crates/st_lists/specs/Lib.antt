@@ -1,0 +1,5 @@
+pub mod Log
+pub mod Known
+pub mod Names
+pub mod Clients
+pub mod Limits

@@ -1,0 +1,13 @@
+-- How many names commits make: their nodes and their cells.
+use Rattle.std.specs.Prelude.{ℕ, ◌+◌, List, [], ◌∷◌, length}
+use Rattle.st_marks.specs.declared.intents.Intent.{Intent}
+use Rattle.st_marks.specs.Intent.{group_cells}
+
+-- how many names an intent makes: its nodes and its cells
+abbrev pub names_made : Intent → ℕ
+names_made N = length N.new + length (group_cells N)
+
+-- how many names some intents make together
+abbrev pub names_in : List Intent → ℕ
+names_in [] = 0
+names_in (N ∷ Ns) = names_made N + names_in Ns

@@ -1,0 +1,10 @@
+//! The world of a trace as lists alone: the log, and the clients with their pending commits and waiting texts.
+#![tactic(auto)]
+
+mod counts;
+mod lists;
+mod log;
+
+pub use counts::names_made;
+pub use lists::{Body, Client, Entry, Queued, WorldState};
+pub use log::{append_entry, least_known};
