@@ -1,5 +1,5 @@
 -- The clients of a world: who is there, and what a client's own steps make of its lists.
-use Rattle.std.specs.Prelude.{◌≡◌, ℕ, ◌+◌, ◌==◌, ◌&&◌, Bool, List, [], ◌∷◌, ◌++◌, drop, take, position, slice_get, nat_eq, Option, is_some, option_map, option_and_then, if◌then◌else◌}
+use Rattle.std.specs.Prelude.{ℕ, ◌+◌, ◌==◌, ◌&&◌, Bool, List, [], ◌∷◌, ◌++◌, drop, take, position, slice_get, nat_eq, Option, is_some, option_map, option_and_then, if◌then◌else◌}
 use Rattle.std.specs.Cmp.Lexicographic.{pointwise}
 use Rattle.st_ids.specs.declared.names.Rev.{Rev}
 use Rattle.st_marks.specs.declared.intents.Intent.{Intent}
@@ -8,7 +8,6 @@ use Rattle.st_marks.specs.Run.{Run}
 use Rattle.st_lists.specs.Log.{commit_of, commits_in}
 use Rattle.st_lists.specs.declared.lists.Client.{Client}
 use Rattle.st_lists.specs.declared.lists.Entry.{Entry}
-use Rattle.st_lists.specs.declared.lists.Queued.{Queued}
 use Rattle.st_lists.specs.declared.lists.WorldState.{WorldState}
 
 -- ## Who is there

@@ -1,6 +1,6 @@
 -- Names stay, and an intent that fits a document fits each other that has its names.
-use Rattle.std.proofs.Common.{◌≡◌, ℕ, List, ◌∷◌, Option, Some, None, refl, sym, ap, ◌∙◌, subst, inl, inr, ◌⊎◌, is_some, IsSome, IsTrue, IfSome, option_map}
-use Rattle.std.specs.List.{find}
+use Rattle.std.proofs.Common.{◌≡◌, ◌≢◌, ℕ, List, [], ◌∷◌, Option, Some, None, refl, sym, ap, ◌∙◌, subst, inl, inr, ◌⊎◌, is_some, IsSome, IsTrue, IfSome, option_map}
+use Rattle.std.specs.List.{AllByRecursion, find, flat_map}
 use Rattle.std.specs.Option.{option_or, option_map_or}
 use Rattle.st_ids.specs.Listing.{Has}
 use Rattle.st_ids.specs.Order.{same_node}
@@ -14,11 +14,12 @@ use Rattle.st_marks.specs.declared.intents.Group.{Group}
 use Rattle.st_marks.specs.declared.intents.Intent.{Intent}
 use Rattle.st_marks.specs.declared.intents.Owned.{Owned}
 use Rattle.st_marks.specs.declared.intents.Put.{Put}
+use Rattle.st_marks.specs.declared.schemas.SchemaEntry.{SchemaEntry}
 use Rattle.st_marks.specs.declared.verdicts.Verdict.{Verdict}
 use Rattle.st_marks.specs.Document.{Document, NodeType, IsSoundInForm, owned}
 use Rattle.st_marks.specs.Extends.{IsExtendedBy}
 use Rattle.st_marks.specs.Intent.{Fits, IsIntent, IsKnown, Owns, new_type, is_new, new_row_of, group_at, group_cells, cell_of, register_of}
-use Rattle.st_marks.specs.CarryOut.{full, void_data, with_names, with_groups}
+use Rattle.st_marks.specs.CarryOut.{full, void_data, with_names, with_groups, with_schema}
 use Rattle.st_marks.specs.Verdict.{carried}
 use Rattle.st_marks.specs.Run.{Run, done, next}
 use Rattle.st_marks.proofs.Members.{all-has, has-all, append_left, append_right, has-append, flat_map-has, first-has}
@@ -98,14 +99,6 @@ made_beside D E N h f = record { nodes = nodes; cells = cells }
       ])
     ]
 
-pub names_beside : (D E : Document) (N : Intent) (v w : Verdict) → HasNames D E → Fits E N → N.schema ≡ None → HasNames (carried v D N) (carried w E N)
-names_beside D E N v w h f none =
-    let m = made_beside D E N h f in
-    if_named (λ C. HasNames C (carried w E N)) D N none
-    (if_named (HasNames (full D N)) E N none (record { nodes = m.nodes; cells = m.cells }) (record { nodes = m.nodes; cells = m.cells }) w)
-    (if_named (HasNames (void_data D N)) E N none (record { nodes = m.nodes; cells = m.cells }) (record { nodes = m.nodes; cells = m.cells }) w)
-    v
-
 -- ## The revisions of new names
 
 abbrev new_type_of : NewNode → NodeType
@@ -134,6 +127,51 @@ old_or_made D N n o h = elim (has-append (group_at N n None) (with_groups N n (D
   | inr i ↦ elim (with_groups-has N n (D.rows n) o i) [ inl j ↦ inl j | inr j ↦ inr (made_listed N n (Some j.0.cell) o j.2) ]
 ]
 
+-- ## Names after an intent in two documents
+
+-- an intent that changes the schema makes no names
+makes_nothing : (N : Intent) → IsIntent N → (t : List ℕ) → N.schema ≡ Some t → (N.new ≡ []) × (N.groups ≡ [])
+makes_nothing N w t e =
+    let k = subst (λ o. IfSome o (λ _. (N.new ≡ []) × (N.groups ≡ []) × (N.clear ≡ []) × (N.put ≡ []) × (N.need ≡ []))) e w.schema_alone in
+    (k.0, k.1)
+
+nothing_more : (D : Document) (N : Intent) → N.new ≡ [] → N.groups ≡ [] → HasNames (with_names D N) D
+nothing_more D N new groups = record { nodes = nodes; cells = cells }
+  where
+    nodes : (n : NodeId) (t : NodeType) → (with_names D N).nodes n ≡ Some t → D.nodes n ≡ Some t
+    nodes n t e = go (D.nodes n) refl e
+      where
+        go : (o : Option NodeType) → D.nodes n ≡ o → option_or o (new_type N n) ≡ Some t → D.nodes n ≡ Some t
+        go (Some u) q e = q ∙ e
+        go None q e =
+            let none : new_type N n ≡ None = rw new refl in
+            let bad : None ≡ Some t = sym none ∙ e in cc
+
+    cells : (n : NodeId) (o : Owned) → Has ((with_names D N).rows n) o → Has (D.rows n) o
+    cells n o i = elim (old_or_made D N n o i) [
+      | inl j ↦ j
+      | inr j ↦ absurd (subst (λ (gs : List Group). Has (flat_map (λ (g : Group). g.cells) gs) o) groups j)
+    ]
+
+pub names_beside : (D E : Document) (N : Intent) (v w : Verdict) → HasNames D E → Fits E N → HasNames (carried v D N) (carried w E N)
+names_beside D E N v w h f = go N.schema refl
+  where
+    go : (o : Option (List ℕ)) → N.schema ≡ o → HasNames (carried v D N) (carried w E N)
+    go None none =
+        let m = made_beside D E N h f in
+        if_named (λ C. HasNames C (carried w E N)) D N none
+        (if_named (HasNames (full D N)) E N none (record { nodes = m.nodes; cells = m.cells }) (record { nodes = m.nodes; cells = m.cells }) w)
+        (if_named (HasNames (void_data D N)) E N none (record { nodes = m.nodes; cells = m.cells }) (record { nodes = m.nodes; cells = m.cells }) w)
+        v
+    go (Some t) e =
+        let k = makes_nothing N f.itself t e in
+        let b = nothing_more D N k.0 k.1 in
+        let later = names_on D E (carried w E N) h (names_stay E N w) in
+        if_carried (λ C. HasNames C (carried w E N)) D N later
+        (names_on (full D N) D (carried w E N) (record { nodes = b.nodes; cells = b.cells }) later)
+        (names_on (void_data D N) D (carried w E N) (record { nodes = b.nodes; cells = b.cells }) later)
+        v
+
 -- the row of a new cell tells its revision
 new_row_rev : (N : Intent) → IsIntent N → (c : CellId) → IsSome (new_row_of N c) → c.0.rev ≡ N.rev
 new_row_rev N w c h = go (new_row_of N c) refl h
@@ -147,12 +185,13 @@ new_row_rev N w c h = go (new_row_of N c) refl h
 -- ## The revisions of a document's names
 
 pub made_more : (rs ss : List Rev) (D : Document) → ((r : Rev) → Has rs r → Has ss r) → IsMadeUnder rs D → IsMadeUnder ss D
-made_more rs ss D h m = record { nodes = λ n k. h n.0.rev (m.nodes n k); cells = λ n o k. h o.cell.0.rev (m.cells n o k) }
+made_more rs ss D h m = record { nodes = λ n k. h n.0.rev (m.nodes n k); cells = λ n o k. h o.cell.0.rev (m.cells n o k); schemas = λ e k. h e.rev (m.schemas e k) }
 
 made_names : (rs : List Rev) (D : Document) (N : Intent) → IsIntent N → IsMadeUnder rs D → IsMadeUnder (N.rev ∷ rs) (with_names D N)
 made_names rs D N w m = record {
   nodes = λ n h. go n (D.nodes n) refl h;
   cells = λ n o h. elim (old_or_made D N n o h) [ inl i ↦ inr (m.cells n o i) | inr i ↦ inl (sym (new_cell_rev N w o i)) ];
+  schemas = λ e i. inr (m.schemas e i);
 }
   where
     go : (n : NodeId) (o : Option NodeType) → D.nodes n ≡ o → IsSome (option_or o (new_type N n)) → Has (N.rev ∷ rs) n.0.rev
@@ -162,7 +201,17 @@ made_names rs D N w m = record {
 pub made_after : (rs : List Rev) (D : Document) (N : Intent) (v : Verdict) → Fits D N → IsMadeUnder rs D → IsMadeUnder (N.rev ∷ rs) (carried v D N)
 made_after rs D N v f m =
     let k = made_names rs D N f.itself m in
-    if_carried (IsMadeUnder (N.rev ∷ rs)) D N (made_more rs (N.rev ∷ rs) D (λ r h. inr h) m) (record { nodes = k.nodes; cells = k.cells }) (record { nodes = k.nodes; cells = k.cells }) v
+    if_carried (IsMadeUnder (N.rev ∷ rs)) D N (made_more rs (N.rev ∷ rs) D (λ r h. inr h) m)
+    (record { nodes = k.nodes; cells = k.cells; schemas = λ e i. entry N.schema e i }) (record { nodes = k.nodes; cells = k.cells; schemas = k.schemas }) v
+  where
+    entry : (o : Option (List ℕ)) (e : SchemaEntry) → Has (with_schema N o D.schemas) e → Has (N.rev ∷ rs) e.rev
+    entry None e i = inr (m.schemas e i)
+    entry (Some t) e i = last (has-append D.schemas (record { rev = N.rev; text = t } ∷ []) e i)
+      where
+        last : Has D.schemas e ⊎ Has (record { rev = N.rev; text = t } ∷ []) e → Has (N.rev ∷ rs) e.rev
+        last (inl j) = inr (m.schemas e j)
+        last (inr (inl q)) = inl (ap (λ (e : SchemaEntry). e.rev) q)
+        last (inr (inr j)) = absurd j
 
 -- ## What fits a document fits another that has its names
 
@@ -204,12 +253,12 @@ module _ (D E : Document) (N : Intent) (h : HasNames D E) (s : IsSoundInForm D) 
   if_some P Q k None p = tt
   if_some P Q k (Some a) p = k a p
 
-  pub fits_there : ((n : NodeId) → IsTrue (is_new N n) → E.nodes n ≡ None) → ((c : CellId) → IsSome (new_row_of N c) → E.row_of c ≡ None) → N.schema ≡ None → Fits E N
-  fits_there nodes cells none = record {
+  pub fits_there : ((n : NodeId) → IsTrue (is_new N n) → E.nodes n ≡ None) → ((c : CellId) → IsSome (new_row_of N c) → E.row_of c ≡ None) → IfSome N.schema (λ _. AllByRecursion (λ (e : SchemaEntry). e.rev ≢ N.rev) E.schemas) → Fits E N
+  fits_there nodes cells entries = record {
     itself = f.itself;
     fresh_nodes = nodes;
     fresh_cells = cells;
-    fresh_schema = rw none tt;
+    fresh_schema = entries;
     groups_known = has-all (λ (g : Group). IsKnown E N g.node × IfSome g.after (λ c. E.row_of c ≡ Some g.node)) N.groups (λ g i.
         let k = all-has (λ (g : Group). IsKnown D N g.node × IfSome g.after (λ c. D.row_of c ≡ Some g.node)) N.groups g f.groups_known i in
         (known_there g.node k.0, if_some (λ c. D.row_of c ≡ Some g.node) (λ c. E.row_of c ≡ Some g.node) (λ c e. row_there c g.node e) g.after k.1));
@@ -224,5 +273,9 @@ module _ (D E : Document) (N : Intent) (h : HasNames D E) (s : IsSoundInForm D) 
     needs_known = has-all (λ n. IsSome (E.nodes n)) N.need (λ n i. node_there n (all-has (λ n. IsSome (D.nodes n)) N.need n f.needs_known i));
   }
 
-  pub fits_beside : N.schema ≡ None → (rs : List Rev) → IsMadeUnder rs E → (Has rs N.rev → ⊥) → Fits E N
-  fits_beside none rs m new = fits_there (no_node rs E N m f.itself new) (no_cell rs E N m f.itself new t) none
+  pub fits_beside : (rs : List Rev) → IsMadeUnder rs E → (Has rs N.rev → ⊥) → Fits E N
+  fits_beside rs m new = fits_there (no_node rs E N m f.itself new) (no_cell rs E N m f.itself new t) (entries N.schema)
+    where
+      entries : (o : Option (List ℕ)) → IfSome o (λ _. AllByRecursion (λ (e : SchemaEntry). e.rev ≢ N.rev) E.schemas)
+      entries None = tt
+      entries (Some t) = has-all (λ (e : SchemaEntry). e.rev ≢ N.rev) E.schemas (λ e i q. new (subst (Has rs) q (m.schemas e i)))

@@ -67,4 +67,4 @@ module _ (D : Document) (N : Intent) (s : IsSoundInForm D) (f : Fits D N) where
 pub room_in_run : {Ns : List Intent} (Ms : List Intent) {D E : Document} → IsSoundInForm D → FitInTurn D Ns → Run D Ns E → HasRoom D (Ns ++ Ms) → HasRoom E Ms
 room_in_run Ms s f done room = room
 room_in_run Ms s f (next {D} {N = N} {Ns} v a r) room =
-    room_in_run Ms (carried_extends D N v s f.1 f.2 a).after (f.3 v a) r (room_after D N s f.1 (Ns ++ Ms) v room)
+    room_in_run Ms (carried_extends D N v s f.0 f.1 a).after (f.2 v a) r (room_after D N s f.0 (Ns ++ Ms) v room)

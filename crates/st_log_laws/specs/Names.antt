@@ -5,6 +5,7 @@ use Rattle.st_ids.specs.declared.names.NodeId.{NodeId}
 use Rattle.st_ids.specs.declared.names.Rev.{Rev}
 use Rattle.st_marks.specs.declared.intents.Intent.{Intent}
 use Rattle.st_marks.specs.declared.intents.Owned.{Owned}
+use Rattle.st_marks.specs.declared.schemas.SchemaEntry.{SchemaEntry}
 use Rattle.st_marks.specs.Document.{Document, NodeType}
 
 -- E has all of D's nodes, with their types and values, and in each row all of D's cells, with their owners. The order of
@@ -13,10 +14,11 @@ pub record HasNames (D E : Document) : Type 0 where
   pub nodes : (n : NodeId) (t : NodeType) → D.nodes n ≡ Some t → E.nodes n ≡ Some t
   pub cells : (n : NodeId) (o : Owned) → Has (D.rows n) o → Has (E.rows n) o
 
--- each node and each cell of a document was made under one of these revisions
+-- each node, each cell and each schema entry of a document was made under one of these revisions
 pub record IsMadeUnder (rs : List Rev) (D : Document) : Type 0 where
   pub nodes : (n : NodeId) → IsSome (D.nodes n) → Has rs n.0.rev
   pub cells : (n : NodeId) (o : Owned) → Has (D.rows n) o → Has rs o.cell.0.rev
+  pub schemas : (e : SchemaEntry) → Has D.schemas e → Has rs e.rev
 
 -- the revisions of intents
 abbrev pub revisions : List Intent → List Rev

@@ -1,5 +1,5 @@
 -- Lists of intents that are carried out one after the other.
-use Rattle.std.specs.Prelude.{◌≡◌, ◌<◌, ◌^◌, ℕ, ◌+◌, List, [], ◌∷◌, length, None}
+use Rattle.std.specs.Prelude.{◌≡◌, ◌<◌, ◌^◌, ℕ, ◌+◌, List, [], ◌∷◌, length}
 use Rattle.st_ids.specs.declared.names.NodeId.{NodeId}
 use Rattle.st_marks.specs.declared.intents.Intent.{Intent}
 use Rattle.st_marks.specs.declared.verdicts.Verdict.{Verdict}
@@ -9,10 +9,10 @@ use Rattle.st_marks.specs.Intent.{Fits, group_cells}
 use Rattle.st_marks.specs.CarryOut.{full}
 use Rattle.st_marks.specs.Verdict.{IsVerdict, carried}
 
--- none changes the schema, each fits where it comes, and rows stay short enough
+-- each fits where it comes, and rows stay short enough
 abbrev pub FitInTurn : Document → List Intent → Type 0
 FitInTurn D [] = Unit {0}
-FitInTurn D (N ∷ Ns) = (N.schema ≡ None) × Fits D N × HasShortRows (full D N) × ((v : Verdict) → IsVerdict D N v → FitInTurn (carried v D N) Ns)
+FitInTurn D (N ∷ Ns) = Fits D N × HasShortRows (full D N) × ((v : Verdict) → IsVerdict D N v → FitInTurn (carried v D N) Ns)
 
 -- Bs has each of As, in the same order, and more may stand between
 abbrev pub IsSublist : List Intent → List Intent → Type 0

@@ -1,10 +1,12 @@
 //! Laws about lists of commits: each is the contract of a function that does nothing.
-ghost use Rattle.std.specs.Prelude.{◌≡◌, ◌≤◌, ℕ, ◌+◌, Bool, List, [], ◌∷◌, ◌++◌, length, filter, None, IsSome, IsTrue};
+ghost use Rattle.std.specs.Prelude.{◌≡◌, ◌≢◌, IfSome, ◌≤◌, ℕ, ◌+◌, Bool, List, [], ◌∷◌, ◌++◌, length, filter, None, IsSome, IsTrue};
+ghost use Rattle.std.specs.List.{AllByRecursion};
 ghost use Rattle.st_ids.specs.Listing.{Has};
 ghost use Rattle.st_ids.specs.declared.names.CellId.{CellId};
 ghost use Rattle.st_ids.specs.declared.names.NodeId.{NodeId};
 ghost use Rattle.st_ids.specs.declared.names.Rev.{Rev};
 ghost use Rattle.st_marks.specs.declared.intents.Intent.{Intent};
+ghost use Rattle.st_marks.specs.declared.schemas.SchemaEntry.{SchemaEntry};
 ghost use Rattle.st_marks.specs.declared.verdicts.Verdict.{Verdict};
 ghost use Rattle.st_marks.specs.Document.{Document, IsSoundInForm, HasShortRows};
 ghost use Rattle.st_marks.specs.Extends.{IsExtendedBy};
@@ -29,7 +31,7 @@ pub fn fit_in_turn()
     ensures then { (D : Document) (Ns Ms : List Intent) → FitInTurn D Ns → ((E : Document) → Run D Ns E → FitInTurn E Ms) → FitInTurn D (Ns ++ Ms) }
     ensures then_one { (D E : Document) (Ns Ms : List Intent) → FitInTurn D Ns → Run D Ns E → FitInTurn E Ms → FitInTurn D (Ns ++ Ms) }
     ensures run { (D E : Document) (Ns : List Intent) (r : Run D Ns E) → FitInTurn D Ns → FitsInTurn r }
-    ensures one { (D : Document) (N : Intent) → IsSoundInForm D → Fits D N → N.schema ≡ None → HasRoom D (N ∷ []) → FitInTurn D (N ∷ []) }
+    ensures one { (D : Document) (N : Intent) → IsSoundInForm D → Fits D N → HasRoom D (N ∷ []) → FitInTurn D (N ∷ []) }
     ensures extends { (D E : Document) (Ns : List Intent) → IsSoundInForm D → FitInTurn D Ns → Run D Ns E → IsExtendedBy D E }
 {}
 
@@ -73,11 +75,12 @@ pub fn sublists()
 /// An intent, and a list of intents, that fit a document fit each other one that has its names, and none that they make.
 /// After the intent there, all names are there that are after it here.
 pub fn fit_beside()
-    ensures fresh { (D E : Document) (N : Intent) → HasNames D E → IsSoundInForm D → IsSoundInForm E → Fits D N → N.schema ≡ None
-        → ((n : NodeId) → IsTrue (is_new N n) → E.nodes n ≡ None) → ((c : CellId) → IsSome (new_row_of N c) → E.row_of c ≡ None) → Fits E N }
-    ensures one { (rs : List Rev) (D E : Document) (N : Intent) → HasNames D E → IsSoundInForm D → IsSoundInForm E → Fits D N → N.schema ≡ None
+    ensures fresh { (D E : Document) (N : Intent) → HasNames D E → IsSoundInForm D → IsSoundInForm E → Fits D N
+        → ((n : NodeId) → IsTrue (is_new N n) → E.nodes n ≡ None) → ((c : CellId) → IsSome (new_row_of N c) → E.row_of c ≡ None)
+        → IfSome N.schema (λ _. AllByRecursion (λ (e : SchemaEntry). e.rev ≢ N.rev) E.schemas) → Fits E N }
+    ensures one { (rs : List Rev) (D E : Document) (N : Intent) → HasNames D E → IsSoundInForm D → IsSoundInForm E → Fits D N
         → IsMadeUnder rs E → (Has rs N.rev → ⊥) → Fits E N }
-    ensures names { (D E : Document) (N : Intent) (v w : Verdict) → HasNames D E → Fits E N → N.schema ≡ None → HasNames (carried v D N) (carried w E N) }
+    ensures names { (D E : Document) (N : Intent) (v w : Verdict) → HasNames D E → Fits E N → HasNames (carried v D N) (carried w E N) }
     ensures list { (rs : List Rev) (D E : Document) (Ns : List Intent) → HasNames D E → IsSoundInForm D → IsSoundInForm E → FitInTurn D Ns
         → IsMadeUnder rs E → HaveNewRevisions rs Ns → HasRoom E Ns → FitInTurn E Ns }
 {}
@@ -95,6 +98,8 @@ pub fn another_first()
 pub fn fit_later()
     ensures names { (D E F : Document) (As Bs : List Intent) → IsSublist As Bs → FitInTurn D Bs → Run D As E → Run D Bs F → HasNames E F }
     ensures fits { (rs : List Rev) (D E : Document) (As Bs : List Intent) (N : Intent) → IsSoundInForm D → IsMadeUnder rs D → IsSublist As Bs
-        → FitInTurn D As → FitInTurn D Bs → Run D As E → Fits E N → N.schema ≡ None → (Has (revisions Bs ++ rs) N.rev → ⊥)
+        → FitInTurn D As → FitInTurn D Bs → Run D As E → Fits E N → (Has (revisions Bs ++ rs) N.rev → ⊥)
         → HasRoom D (Bs ++ N ∷ []) → FitInTurn D (Bs ++ N ∷ []) }
+    ensures list { (rs : List Rev) (D : Document) (As Bs Ns : List Intent) → IsSoundInForm D → IsMadeUnder rs D → IsSublist As Bs
+        → FitInTurn D (As ++ Ns) → FitInTurn D Bs → HaveNewRevisions rs (Bs ++ Ns) → HasRoom D (Bs ++ Ns) → FitInTurn D (Bs ++ Ns) }
 {}

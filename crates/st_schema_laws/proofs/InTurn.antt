@@ -58,8 +58,8 @@ module _ (s : SchemaView) (home : NodeId → Option FieldId) where
   run_beside : {D F : Document} {Ns : List Intent} → Run D Ns F → (E : Document) → HasNames D E → IsSoundInForm D → IsSoundInForm E → FitInTurn D Ns → FitInTurn E Ns → KeepSchemaInTurn s home D Ns → KeepSchemaInTurn s home E Ns
   run_beside done E h p q f g a = tt
   run_beside (next {D} {N = N} v is r) E h p q f g a = (
-    agrees_there s home D E N a.0 h.nodes (row_there D E h p q) g.1.fresh_nodes g.1.fresh_cells,
-    λ w b. run_beside r (carried w E N) (names_beside D E N v w h g.1 g.0) (carried_extends D N v p f.1 f.2 is).after (carried_extends E N w q g.1 g.2 b).after (f.3 v is) (g.3 w b) (a.1 v is),
+    agrees_there s home D E N a.0 h.nodes (row_there D E h p q) g.0.fresh_nodes g.0.fresh_cells,
+    λ w b. run_beside r (carried w E N) (names_beside D E N v w h g.0) (carried_extends D N v p f.0 f.1 is).after (carried_extends E N w q g.0 g.1 b).after (f.2 v is) (g.2 w b) (a.1 v is),
   )
 
   pub agree_beside : (D E : Document) (Ns : List Intent) → HasNames D E → IsSoundInForm D → IsSoundInForm E → FitInTurn D Ns → FitInTurn E Ns → KeepSchemaInTurn s home D Ns → KeepSchemaInTurn s home E Ns
@@ -103,9 +103,9 @@ module _ (s : SchemaView) (home : NodeId → Option FieldId) where
     pub list_keeps : (Ns : List Intent) (rs : List Rev) (D : Document) → IsMadeUnder rs D → FitInTurn D Ns → (Has (revisions Ns ++ rs) N.rev → ⊥) → KeepSchemaInTurn s home D Ns → KeepSchemaInTurn s (with_homes home N) D Ns
     list_keeps [] rs D made f new a = tt
     list_keeps (M ∷ Ns) rs D made f new a = (
-      intent_keeps s home D N M (λ n put. not_new n (λ e. new (among (subst (Has (M.rev ∷ rs)) e (known_rev rs D M f.1 made n (put_known D M f.1 n put))))))
-          (λ n is. not_new n (λ e. new (inl (sym (new_node_rev M f.1.itself n is) ∙ e)))) a.0,
-      λ v is. list_keeps Ns (M.rev ∷ rs) (carried v D M) (made_after rs D M v f.1 made) (f.3 v is) (λ h. new (moved h)) (a.1 v is),
+      intent_keeps s home D N M (λ n put. not_new n (λ e. new (among (subst (Has (M.rev ∷ rs)) e (known_rev rs D M f.0 made n (put_known D M f.0 n put))))))
+          (λ n is. not_new n (λ e. new (inl (sym (new_node_rev M f.0.itself n is) ∙ e)))) a.0,
+      λ v is. list_keeps Ns (M.rev ∷ rs) (carried v D M) (made_after rs D M v f.0 made) (f.2 v is) (λ h. new (moved h)) (a.1 v is),
     )
       where
         among : Has (M.rev ∷ rs) N.rev → Has (revisions (M ∷ Ns) ++ rs) N.rev

@@ -10,6 +10,7 @@ use Rattle.st_ids.specs.declared.names.NodeId.{NodeId}
 use Rattle.st_ids.specs.declared.names.Rev.{Rev}
 use Rattle.st_ids.proofs.Orders.{same_node-true}
 use Rattle.st_marks.specs.declared.intents.Owned.{Owned}
+use Rattle.st_marks.specs.declared.schemas.SchemaEntry.{SchemaEntry}
 use Rattle.st_marks.specs.Document.{Document, NodeType, IsSoundInForm}
 use Rattle.st_ids.specs.Root.{opening}
 use Rattle.st_marks.proofs.Members.{all-has}
@@ -127,6 +128,7 @@ list_made xs schema h = record {
       let x = filter-from (λ (x : FlatNode). cell_at n x.node x.at) xs o i in
       let w = all-has (IsOf opening) xs x.0 h x.1 in
       inl (sym (cell_there opening n x.0.node x.0.at o w.1 x.2));
+  schemas = λ e i. elim i [ inl q ↦ inl (ap (λ (e : SchemaEntry). e.rev) q) | inr j ↦ absurd j ];
 }
 
 -- ## The opening of a trace

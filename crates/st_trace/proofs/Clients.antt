@@ -178,14 +178,14 @@ module _ (h : HeaderView) (st : IsStart (opening_document h)) where
       let room_all : HasRoom O (log_and_queue log c ++ N ∷ []) = room_left O (log_and_queue log c ++ N ∷ []) st (omega (arith, names_append (log_and_queue log c) (N ∷ []), sent_few log c k, one_name, few_names, all)) in
       let room_shown : HasRoom O ((A ++ c.pending) ++ N ∷ []) =
       room_left O ((A ++ c.pending) ++ N ∷ []) st (omega (arith, names_append (A ++ c.pending) (N ∷ []), fewer_names (shown_among log c k), sent_few log c k, one_name, few_names, all)) in
-      let last = one_fits D N sound fits none (room_in_run (N ∷ []) st.sound k.shown_fit shown room_shown) in
+      let last = one_fits D N sound fits (room_in_run (N ∷ []) st.sound k.shown_fit shown room_shown) in
       record {
         within = k.within;
         few = omega (arith, length-append c.pending (N ∷ []), few);
         few_names = omega (arith, names_append c.pending (N ∷ []), one_name, few_names);
         under_way = ap (λ l. l ++ N ∷ []) k.under_way ∙ append_assoc B Q (N ∷ []) ∙ ap (λ l. B ++ l) (sym (intents_more c.queue q));
         shown_fit = subst (FitInTurn O) (append_assoc A c.pending (N ∷ [])) (then_one (A ++ c.pending) (N ∷ []) k.shown_fit shown last);
-        sent_fit = subst (FitInTurn O) more (later_fits (opening ∷ []) O D (A ++ c.pending) (log_and_queue log c) N st.sound st.made (shown_among log c k) k.shown_fit k.sent_fit shown fits none fresh room_all);
+        sent_fit = subst (FitInTurn O) more (later_fits (opening ∷ []) O D (A ++ c.pending) (log_and_queue log c) N st.sound st.made (shown_among log c k) k.shown_fit k.sent_fit shown fits fresh room_all);
         new = subst (HaveNewRevisions (opening ∷ [])) more (new_more (opening ∷ []) (log_and_queue log c) N k.new fresh);
         own = subst (AllByRecursion (λ (M : Intent). M.rev.session ≡ c.session)) (sym (intents_more c.queue q)) (AllByRecursion-append (λ (M : Intent). M.rev.session ≡ c.session) Q (N ∷ []) k.own (ap (λ (r : Rev). r.session) rev, tt));
         ids = λ M i s. ids M (has-append (log_and_queue log c) (N ∷ []) M (subst (λ l. Has l M) (sym more) i)) s;

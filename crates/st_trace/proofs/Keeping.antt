@@ -117,7 +117,7 @@ module _ (h : HeaderView) (st : IsStart (opening_document h)) where
           let first = own_first h st log c e N w.client at is b in
           let names : names_in c.pending ≡ names_made N + _ = ap names_in first in
           record {
-            fits = (subst (FitInTurn (document_of k.received)) first (rest_fit c.pending w.kept.received w.client.shown_fit)).1;
+            fits = (subst (FitInTurn (document_of k.received)) first (rest_fit c.pending w.kept.received w.client.shown_fit)).0;
             later = λ bad. cc;
             names = λ u. omega (arith, names, w.kept.names);
           }
@@ -125,7 +125,7 @@ module _ (h : HeaderView) (st : IsStart (opening_document h)) where
       other : (N : Intent) → commit_of e ≡ Some N → (e.session == c.session) ≡ false → CanCarry c k false N
       other N is b =
           let fit = rest_fit (N ∷ c.pending) w.kept.received (other_fit h st log c e N w.client at is b all) in
-          record { fits = fit.1; later = λ u. fit; names = λ bad. cc }
+          record { fits = fit.0; later = λ u. fit; names = λ bad. cc }
 
       by : (N : Intent) → commit_of e ≡ Some N → (b : Bool) → (e.session == c.session) ≡ b → CanCarry c k b N
       by N is true b = own N is b

@@ -129,7 +129,7 @@ head_sound w s = (turn_extends (start_of w w.steps s).sound s.log_fit s.log_docu
 pub head_fits : (w : World) (i : ℕ) (c : Client) (q : Queued) (rest : List Queued) → IsSound w → slice_get w.lists.clients i ≡ Some c → c.queue ≡ q ∷ rest → Fits (document_of w.log_document) q.intent
 head_fits w i c q rest s at is =
     let last = is_last (header_view w.header) w.lists.log c q rest (kept_some (header_view w.header) w.lists.log w.lists.clients w.kept i c s.kept at) is in
-    (rest_fit (q.intent ∷ []) s.log_document last.fit).1
+    (rest_fit (q.intent ∷ []) s.log_document last.fit).0
 
 -- a text that passes no limit
 pub within_log : (log : List Entry) (made : ℕ) → log_limit_passed log made ≡ None → (length log < 65535) × (names_in (commits_in log) + made ≤ 131072)

@@ -31,8 +31,8 @@ pub one_more : (O D E : Document) (Ns : List Intent) (i : ℕ) (N : Intent) (v :
 one_more O D E Ns i N v less is sound fit run verdict after =
     let f = left_fit D Ns i N less is fit in
     record {
-      sound = subst IsSoundInForm (sym after) (carried_extends D N v sound f.1 f.2 verdict).after;
-      fit = subst (λ (F : Document). FitInTurn F (drop (i + 1) Ns)) (sym after) (f.3 v verdict);
+      sound = subst IsSoundInForm (sym after) (carried_extends D N v sound f.0 f.1 verdict).after;
+      fit = subst (λ (F : Document). FitInTurn F (drop (i + 1) Ns)) (sym after) (f.2 v verdict);
       run = subst (λ l. Run O l E) (sym (take-get Ns i N (there Ns i N less is))) (run_more N E v run verdict after);
     }
 

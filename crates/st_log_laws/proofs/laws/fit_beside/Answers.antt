@@ -4,8 +4,8 @@ use Rattle.st_log_laws.proofs.laws.fit_beside.Goals as goal
 
 pub returns : goal.returns
 returns c = record {
-  fresh = λ D E N h s t f none nodes cells. fits_there D E N h s t f nodes cells none;
-  one = λ rs D E N h s t f none m new. fits_beside D E N h s t f none rs m new;
+  fresh = fits_there;
+  one = λ rs D E N h s t f m new. fits_beside D E N h s t f rs m new;
   names = names_beside;
   list = all_fit_beside;
 }

@@ -10,7 +10,7 @@ pub carry-requires : goal.carry-requires
 carry-requires c =
     let l = c.loop-intent in record {
       sound = l.invariant.sound;
-      fits = (left_fit (document_of l.doc) c.args.intents.now l.intent-index c.intent-item.result c.loop-intent-test.true c.intent-item.is l.invariant.fit).1;
+      fits = (left_fit (document_of l.doc) c.args.intents.now l.intent-index c.intent-item.result c.loop-intent-test.true c.intent-item.is l.invariant.fit).0;
     }
 
 pub loop-intent-preserved : goal.loop-intent-preserved
