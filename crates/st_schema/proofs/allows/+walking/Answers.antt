@@ -18,7 +18,7 @@ walk_field-loop-item-preserved t c =
     let ts = c.as_slice-item-items.result.now in
     let next = items_next ts c.loop-item.item-index c.item-item.result c.loop-item-test.true c.item-item.is in record {
       number = items_number s types _ _ (view c.item-item.result) next c.loop-item.now.next c.walk_tree-now.result.next (c.args.walk.next + item_count (trees_view ts)) c.walk_tree-now.ensures.counted c.loop-item.invariant.number;
-      walk_over = items_walked s types _ _ (view c.item-item.result) next c.loop-item.now c.walk_tree-now.result (walk_over c.args.walk (items_verdicts s types (trees_view ts))) c.walk_tree-now.ensures.walked c.loop-item.invariant.walked;
+      walked = items_walked s types _ _ (view c.item-item.result) next c.loop-item.now c.walk_tree-now.result (walk_over c.args.walk (items_verdicts s types (trees_view ts))) c.walk_tree-now.ensures.walked c.loop-item.invariant.walked;
     }
 
 pub walk_field-returns-clause-walked : goal.walk_field-returns-clause-walked
@@ -44,7 +44,7 @@ walk_tree-loop-field-init t c =
     let fs = c.as_slice-field-items.result.now in
     let counted : c.walk_on-now.result.next ≡ c.args.walk.next + 1 = ap (λ (w : Walk). w.next) c.walk_on-now.ensures in record {
       number = omega arith;
-      walk_over = ap (λ w. walk_over w (fields_verdicts s form (fields_view fs))) c.walk_on-now.ensures
+      walked = ap (λ w. walk_over w (fields_verdicts s form (fields_view fs))) c.walk_on-now.ensures
           ∙ tree_walked s c.args.types.now c.args.tree.now fs form c.node_fits.result c.args.walk c.as_slice-field-items.ensures c.form-form.ensures c.node_fits.ensures;
     }
 
@@ -57,7 +57,7 @@ walk_tree-loop-field-preserved t c =
     let next = fields_next fs c.loop-field.field-index c.field-item.result c.loop-field-test.true c.field-item.is in
     let allowed = c.types_under.ensures ∙ ap (types_under form) (sym (field_key c.field-item.result)) in record {
       number = fields_number s form _ _ f.key f.row f.items next c.loop-field.now.next c.walk_field-now.result.next (c.args.walk.next + 1 + field_count (fields_view fs)) c.walk_field-now.ensures.counted c.loop-field.invariant.number;
-      walk_over = fields_walked s form _ _ f.key f.row f.items next c.types_under.result.now c.loop-field.now c.walk_field-now.result (walk_over c.args.walk (verdicts s c.args.types.now (view c.args.tree.now))) allowed c.walk_field-now.ensures.walked c.loop-field.invariant.walked;
+      walked = fields_walked s form _ _ f.key f.row f.items next c.types_under.result.now c.loop-field.now c.walk_field-now.result (walk_over c.args.walk (verdicts s c.args.types.now (view c.args.tree.now))) allowed c.walk_field-now.ensures.walked c.loop-field.invariant.walked;
     }
 
 pub walk_tree-returns-clause-walked : goal.walk_tree-returns-clause-walked

@@ -13,7 +13,7 @@ loop-tree-preserved c =
     let ts = c.args.trees.now in
     let next = items_next ts c.loop-tree.tree-index c.tree-item.result c.loop-tree-test.true c.tree-item.is in record {
       number = items_number s types _ _ (view c.tree-item.result) next c.loop-tree.now.next c.walk_tree-now.result.next (item_count (trees_view ts)) c.walk_tree-now.ensures.counted c.loop-tree.invariant.number;
-      walk_over = items_walked s types _ _ (view c.tree-item.result) next c.loop-tree.now c.walk_tree-now.result (walk_over (record { next = 0; fault = None }) (items_verdicts s types (trees_view ts))) c.walk_tree-now.ensures.walked c.loop-tree.invariant.walked;
+      walked = items_walked s types _ _ (view c.tree-item.result) next c.loop-tree.now c.walk_tree-now.result (walk_over (record { next = 0; fault = None }) (items_verdicts s types (trees_view ts))) c.walk_tree-now.ensures.walked c.loop-tree.invariant.walked;
     }
 
 pub returns : goal.returns

@@ -9,5 +9,5 @@ invariant-loop-name l = record {
   can : (goal.iterator-loop-name).can_next l.name-iterator;
   finite : (goal.iterator-loop-name).is_finite l.name-iterator;
   number : l.at + length l.name-iterator ≡ length l.old.entries;
-  count_wider : count_wider l.at (types_widen l.name-iterator l.news) ≡ count_wider 0 (types_widen l.old.entries l.new.entries);
+  widened : count_wider l.at (types_widen l.name-iterator l.news) ≡ count_wider 0 (types_widen l.old.entries l.new.entries);
 }
