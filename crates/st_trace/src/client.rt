@@ -16,12 +16,11 @@ ghost use Rattle.st_lists.specs.Limits.{limit_passed};
 ghost use Rattle.st_trace.specs.declared.replica.Replica.{Replica as KeptOf};
 
 use crate::edits::resolve_step;
-use crate::names::names_made;
 use crate::replica::Replica;
-use crate::state::{Body, Client, Entry, Queued};
 use st_doc::Doc;
 use st_edits::NameCounters;
 use st_ids::{Copied, Limit, LimitOf, List, Or, Rev, Text};
+use st_lists::{Body, Client, Entry, Queued, names_made};
 use st_marks::{Intent, Verdict};
 use st_schema::Schema;
 use st_script::{Answer, Refusal, TraceStep};

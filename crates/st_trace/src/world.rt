@@ -24,12 +24,10 @@ ghost use Rattle.st_lists.specs.declared.lists.Client.{Client as Present};
 
 use crate::client::{self, EditWord};
 use crate::edits::word_of;
-use crate::log::{append_entry, least_known};
-use crate::names::names_made;
 use crate::replica::Replica;
-use crate::state::{Body, Client, Queued, WorldState};
 use st_doc::Doc;
 use st_ids::{Copied, Limit, LimitOf, List, Or, Text};
+use st_lists::{Body, Client, Queued, WorldState, append_entry, least_known, names_made};
 use st_marks::Intent;
 use st_schema::{Form, Header, Schema};
 use st_script::{Answer, Refusal, TraceStep};
