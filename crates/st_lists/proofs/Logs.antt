@@ -1,13 +1,14 @@
 -- The commits of a log, and those of one session.
 use Rattle.std.proofs.Common.{◌≡◌, ◌≤◌, ◌+◌, ◌==◌, ℕ, zero, suc, Bool, true, false, cond, List, [], ◌∷◌, ◌++◌, length, take, drop, filter, Option, Some, None, refl, sym, ap, ◌∙◌, arith}
 use Rattle.std.specs.List.{slice_get, filter_map, cons_option}
+use Rattle.std.proofs.lemmas.Bool.Decides.{nat_tests}
 use Rattle.std.proofs.lemmas.List.{take-append-le, drop-append-le, take-append-drop}
 use Rattle.std.proofs.lemmas.List.Elements.{filter_map-append, filter-append}
 use Rattle.st_marks.specs.declared.intents.Intent.{Intent}
 use Rattle.st_marks.specs.Extends.{no_more, item_gained, item_kept}
 use Rattle.st_log_laws.specs.Turns.{IsSublist}
-use Rattle.st_lists.specs.Log.{commits_by}
-use Rattle.st_lists.specs.Log.{commit_of, commits_in, log_with}
+use Rattle.st_lists.specs.Log.{commit_in, commits_of_text, intents_of, commits_by}
+use Rattle.st_lists.specs.Log.{commit_in, commits_of_text, intents_of, commit_of, commits_in, log_with}
 use Rattle.st_lists.specs.declared.lists.Body.{Body}
 use Rattle.st_lists.specs.declared.lists.Entry.{Entry}
 
@@ -74,7 +75,7 @@ no_commit e is = rw is refl
 abbrev pub last_entry : List Entry → ℕ → Body → Entry
 last_entry log session body = record { n = length log + 1; session = session; body = body }
 
-pub entered_commits : (log : List Entry) (session : ℕ) (body : Body) → commits_in (log_with log session body) ≡ commits_in log ++ commits_in (last_entry log session body ∷ [])
+pub entered_commits : (log : List Entry) (session : ℕ) (body : Body) → commits_in (log_with log session body) ≡ commits_in log ++ commits_of_text body
 entered_commits log session body = commits_append log (last_entry log session body ∷ [])
 
 pub entered_front : (log : List Entry) (session : ℕ) (body : Body) (i : ℕ) → i ≤ length log → take i (log_with log session body) ≡ take i log
@@ -83,3 +84,22 @@ entered_front log session body i within = take-append-le i log (last_entry log s
 pub entered_rest : (log : List Entry) (session : ℕ) (body : Body) (s i : ℕ) → i ≤ length log → commits_by s (drop i (log_with log session body)) ≡ commits_by s (drop i log) ++ commits_by s (last_entry log session body ∷ [])
 entered_rest log session body s i within =
     ap (commits_by s) (drop-append-le i log (last_entry log session body ∷ []) within) ∙ by_append s (drop i log) (last_entry log session body ∷ [])
+
+-- ## Texts
+
+pub text_first : (text : Body) (rest : List Body) → intents_of (text ∷ rest) ≡ commits_of_text text ++ intents_of rest
+text_first text rest = go (commit_in text)
+  where
+    go : (o : Option Intent) → cons_option o (intents_of rest) ≡ cons_option o [] ++ intents_of rest
+    go None = refl
+    go (Some N) = refl
+
+pub texts_append : (xs ys : List Body) → intents_of (xs ++ ys) ≡ intents_of xs ++ intents_of ys
+texts_append xs ys = filter_map-append commit_in xs ys
+
+-- a text of the session is its own last one
+pub by_own_text : (log : List Entry) (s : ℕ) (text : Body) → commits_by s (last_entry log s text ∷ []) ≡ commits_of_text text
+by_own_text log s text = rw (itself s) refl
+  where
+    itself : (n : ℕ) → (n == n) ≡ true
+    itself n = grind (arith, nat_tests)

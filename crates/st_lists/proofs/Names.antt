@@ -1,9 +1,13 @@
 -- How many names and cells lists of commits make.
-use Rattle.std.proofs.Common.{◌≡◌, ◌≤◌, ◌+◌, List, [], ◌∷◌, ◌++◌, ap, arith}
+use Rattle.std.proofs.Common.{◌≡◌, ◌≤◌, ◌+◌, List, [], ◌∷◌, ◌++◌, Option, Some, None, refl, ap, arith}
+use Rattle.std.specs.List.{cons_option}
+use Rattle.std.specs.Option.{option_map_or}
 use Rattle.st_marks.specs.declared.intents.Intent.{Intent}
 use Rattle.st_marks.specs.Extends.{no_more, item_gained, item_kept}
 use Rattle.st_log_laws.specs.Turns.{IsSublist, cells_made}
-use Rattle.st_lists.specs.Names.{names_made, names_in}
+use Rattle.st_lists.specs.Log.{commit_in, commits_of_text}
+use Rattle.st_lists.specs.Names.{names_in_text, names_made, names_in}
+use Rattle.st_lists.specs.declared.lists.Body.{Body}
 
 pub names_append : (As Bs : List Intent) → names_in (As ++ Bs) ≡ names_in As + names_in Bs
 names_append [] Bs = omega arith
@@ -17,3 +21,10 @@ pub fewer_names : {As Bs : List Intent} → IsSublist As Bs → names_in As ≤ 
 fewer_names no_more = omega arith
 fewer_names (item_gained g) = omega (arith, fewer_names g)
 fewer_names (item_kept {x} {y} e g) = omega (arith, fewer_names g, ap names_made e)
+
+pub names_of_text : (text : Body) → names_in (commits_of_text text) ≡ names_in_text text
+names_of_text text = go (commit_in text)
+  where
+    go : (o : Option Intent) → names_in (cons_option o []) ≡ option_map_or names_made o 0
+    go None = refl
+    go (Some N) = omega arith

@@ -6,6 +6,7 @@ use Rattle.st_marks.specs.declared.intents.Intent.{Intent}
 use Rattle.st_marks.specs.Document.{Document}
 use Rattle.st_marks.specs.Run.{Run}
 use Rattle.st_lists.specs.Log.{commit_of, commits_in}
+use Rattle.st_lists.specs.declared.lists.Body.TheVariants.{Commit}
 use Rattle.st_lists.specs.declared.lists.Client.{Client}
 use Rattle.st_lists.specs.declared.lists.Entry.{Entry}
 use Rattle.st_lists.specs.declared.lists.WorldState.{WorldState}
@@ -50,7 +51,7 @@ abbrev pub with_commit : Client → Intent → Client
 with_commit c intent = record c {
   ids = c.ids + 1;
   pending = c.pending ++ intent ∷ [];
-  queue = c.queue ++ record { reference = c.received; intent = intent } ∷ [];
+  queue = c.queue ++ Commit c.received intent ∷ [];
 }
 
 -- ## Receiving

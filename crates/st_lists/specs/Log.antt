@@ -1,16 +1,17 @@
 -- The log: its commits, and what its entries say of how much each session had received.
-use Rattle.std.specs.Prelude.{ℕ, ◌+◌, ◌==◌, min, max, List, [], ◌∷◌, ◌++◌, length, map, filter, fold, Option, Some, None, if◌then◌else◌}
-use Rattle.std.specs.List.{filter_map}
+use Rattle.std.specs.Prelude.{ℕ, ◌+◌, ◌==◌, min, max, List, [], ◌∷◌, ◌++◌, length, filter, fold, Option, Some, None, if◌then◌else◌}
+use Rattle.std.specs.List.{filter_map, cons_option}
 use Rattle.st_marks.specs.declared.intents.Intent.{Intent}
 use Rattle.st_lists.specs.declared.lists.Body.{Body}
-use Rattle.st_lists.specs.declared.lists.Body.TheVariants.{Join, Commit}
+use Rattle.st_lists.specs.declared.lists.Body.TheVariants.{Join, Leave, Ack, Commit}
 use Rattle.st_lists.specs.declared.lists.Client.{Client}
 use Rattle.st_lists.specs.declared.lists.Entry.{Entry}
-use Rattle.st_lists.specs.declared.lists.Queued.{Queued}
 
 -- the commit of an entry, if it is one
 abbrev pub commit_in : Body → Option Intent
 commit_in Join = None
+commit_in Leave = None
+commit_in (Ack reference) = None
 commit_in (Commit reference intent) = Some intent
 
 abbrev pub commit_of : Entry → Option Intent
@@ -24,9 +25,12 @@ commits_in entries = filter_map commit_of entries
 abbrev pub log_with : List Entry → ℕ → Body → List Entry
 log_with log session body = log ++ record { n = length log + 1; session = session; body = body } ∷ []
 
--- up to which entry its session had received the log: a join says so of itself, a commit by its reference
+-- up to which entry its session had received the log: a join says so of itself, a text by its reference, and one who leaves
+-- says nothing of it
 abbrev pub reference_in : ℕ → Body → ℕ
 reference_in n Join = n
+reference_in n Leave = 0
+reference_in n (Ack reference) = reference
 reference_in n (Commit reference intent) = reference
 
 abbrev pub reference_of : Entry → ℕ
@@ -45,9 +49,13 @@ minimum log clients = fold (λ least (c : Client). min least (known_reference c.
 
 -- ## The commits of one session
 
+-- the commits of a text: one, or none
+abbrev pub commits_of_text : Body → List Intent
+commits_of_text text = cons_option (commit_in text) []
+
 -- the commits of the texts that wait
-abbrev pub intents_of : List Queued → List Intent
-intents_of qs = map (λ (q : Queued). q.intent) qs
+abbrev pub intents_of : List Body → List Intent
+intents_of texts = filter_map commit_in texts
 
 -- the commits of a session among some entries
 abbrev pub commits_by : ℕ → List Entry → List Intent

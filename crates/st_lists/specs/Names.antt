@@ -1,7 +1,10 @@
 -- How many names commits make: their nodes and their cells.
 use Rattle.std.specs.Prelude.{ℕ, ◌+◌, List, [], ◌∷◌, length}
+use Rattle.std.specs.Option.{option_map_or}
 use Rattle.st_marks.specs.declared.intents.Intent.{Intent}
 use Rattle.st_marks.specs.Intent.{group_cells}
+use Rattle.st_lists.specs.Log.{commit_in}
+use Rattle.st_lists.specs.declared.lists.Body.{Body}
 
 -- how many names an intent makes: its nodes and its cells
 abbrev pub names_made : Intent → ℕ
@@ -11,3 +14,7 @@ names_made N = length N.new + length (group_cells N)
 abbrev pub names_in : List Intent → ℕ
 names_in [] = 0
 names_in (N ∷ Ns) = names_made N + names_in Ns
+
+-- how many names the commit of a text makes; none where it has none
+abbrev pub names_in_text : Body → ℕ
+names_in_text text = option_map_or names_made (commit_in text) 0

@@ -1,8 +1,9 @@
 //! How many names commits make.
 ghost use Rattle.std.specs.Prelude.{◌≡◌, ◌-◌, ◌^◌, min, length};
 ghost use Rattle.std.specs.List.{flat_map};
-ghost use Rattle.st_lists.specs.Names.{names_made};
+ghost use Rattle.st_lists.specs.Names.{names_in_text, names_made};
 
+use crate::lists::Body;
 use st_marks::{Group, Intent};
 
 // How many cells there are in groups, or the greatest number if there are more.
@@ -22,4 +23,14 @@ pub fn names_made(intent: &Intent) -> u64
 {
     let cells = cells_in(intent.groups.as_slice());
     (intent.new.len() as u64).saturating_add(cells)
+}
+
+/// How many nodes and cells the commit of a text makes, or the greatest number if there are more; none where it has none.
+pub fn names_in_text(text: &Body) -> u64
+    ensures { result ≡ min (names_in_text text.now) (2 ^ 64 - 1) }
+{
+    match text {
+        Body::Commit { intent, .. } => names_made(intent),
+        Body::Join | Body::Leave | Body::Ack { .. } => 0,
+    }
 }

@@ -18,15 +18,18 @@ pub struct Entry {
     pub body: Body,
 }
 
-/// What an entry says. A commit's reference is the number of entries that its author had received.
+/// What an entry says, or a text that waits to become one. A reference is the number of entries that its author had
+/// received.
 #[derive(Drop)]
 pub enum Body {
     Join,
+    Leave,
+    Ack { reference: u32 },
     Commit { reference: u32, intent: Intent },
 }
 
 /// A client: how many entries it received, how many ids it generated, its commits that it has not received back, and
-/// the texts of commits that are not in the log yet.
+/// the texts that are not in the log yet.
 #[derive(Drop)]
 pub struct Client {
     pub name: Text,
@@ -34,12 +37,5 @@ pub struct Client {
     pub received: u32,
     pub ids: u32,
     pub pending: List<Intent>,
-    pub queue: List<Queued>,
-}
-
-/// A text that waits: a commit, and the number of entries that were received when it was written.
-#[derive(Drop)]
-pub struct Queued {
-    pub reference: u32,
-    pub intent: Intent,
+    pub queue: List<Body>,
 }

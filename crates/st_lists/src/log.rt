@@ -14,6 +14,8 @@ fn reference_of(entry: &Entry) -> u32
 {
     match &entry.body {
         Body::Join => entry.n,
+        Body::Leave => 0,
+        Body::Ack { reference } => *reference,
         Body::Commit { reference, .. } => *reference,
     }
 }
