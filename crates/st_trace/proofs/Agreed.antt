@@ -30,7 +30,7 @@ use Rattle.st_schema_laws.proofs.Opened.{allowed_conforms}
 use Rattle.st_script.specs.Header.{HeaderView}
 use Rattle.st_script.specs.declared.answer.Answer.{Answer}
 use Rattle.st_trace.specs.Replicas.{HaveSessionsFrom, IsClient, IsHeader, KeepToSchema}
-use Rattle.st_lists.specs.Log.{commits_by, intents_of, log_and_queue}
+use Rattle.st_lists.specs.Log.{commits_by, commits_of_text, intents_of, log_and_queue}
 use Rattle.st_lists.specs.Log.{commit_of, commits_in, log_with}
 use Rattle.st_lists.specs.Clients.{HasShown, with_commit, new_client, next_rev, pending_after, received_by, with_received}
 use Rattle.st_trace.specs.World.{IsDeliveredTo, after_edit, opening_document, with_pending}
@@ -41,11 +41,10 @@ use Rattle.st_lists.specs.declared.lists.Body.{Body}
 use Rattle.st_lists.specs.declared.lists.Body.TheVariants.{Join, Commit}
 use Rattle.st_lists.specs.declared.lists.Client.{Client}
 use Rattle.st_lists.specs.declared.lists.Entry.{Entry}
-use Rattle.st_lists.specs.declared.lists.Queued.{Queued}
 use Rattle.st_trace.proofs.Begun.{IsStart, opens_allowed}
 use Rattle.st_trace.proofs.Clients.{next_new, other_fit, own_first, received_more, shown_among, shown_new}
 use Rattle.st_trace.proofs.Everyone.{all_get, all_set, session_at, set_same}
-use Rattle.st_lists.proofs.Logs.{by_sublist, commits_split, entered_commits, entered_front, last_entry, no_commit, one_commit}
+use Rattle.st_lists.proofs.Logs.{by_sublist, commits_split, entered_commits, entered_front, last_entry, no_commit, one_commit, text_first}
 use Rattle.st_lemmas.proofs.Lists.{AllByRecursion-append}
 
 -- before any client joins
@@ -136,32 +135,31 @@ module _ (h : HeaderView) (st : IsStart (opening_document h)) where
   all_entered home log session body (c ∷ cs) are shown = (entered_shows home log session body c are.0.within shown.0, all_entered home log session body cs are.1 shown.1)
 
   -- the oldest text of a client comes after the commits of the log
-  last_agrees : (home : NodeId → Option FieldId) (log : List Entry) (c : Client) (q : Queued) (rest : List Queued) → IsClient h log c → c.queue ≡ q ∷ rest → FitInTurn (opening_document h) (commits_in log ++ q.intent ∷ [])
-      → Agree home (commits_in log) → Shown home log c → Agree home (commits_in log ++ q.intent ∷ [])
-  last_agrees home log c q rest k is last_fit logged shown =
+  last_agrees : (home : NodeId → Option FieldId) (log : List Entry) (c : Client) (text : Body) (rest : List Body) → IsClient h log c → c.queue ≡ text ∷ rest → FitInTurn (opening_document h) (commits_in log ++ commits_of_text text)
+      → Agree home (commits_in log) → Shown home log c → Agree home (commits_in log ++ commits_of_text text)
+  last_agrees home log c text rest k is last_fit logged shown =
       let A = received_by log c in
       let B = commits_by c.session (drop c.received log) in
-      let N = q.intent in
+      let X = commits_of_text text in
       let R = intents_of rest in
-      let waiting : intents_of c.queue ≡ N ∷ R = ap intents_of is in
-      let all : A ++ c.pending ≡ ((A ++ B) ++ N ∷ []) ++ R =
-      ap (λ l. A ++ l) (k.under_way ∙ ap (λ l. B ++ l) waiting) ∙ sym (append_assoc A B (N ∷ R)) ∙ sym (append_assoc (A ++ B) (N ∷ []) R) in
+      let waiting : intents_of c.queue ≡ X ++ R = ap intents_of is ∙ text_first text rest in
+      let all : A ++ c.pending ≡ ((A ++ B) ++ X) ++ R =
+      ap (λ l. A ++ l) (k.under_way ∙ ap (λ l. B ++ l) waiting) ∙ sym (append_assoc A B (X ++ R)) ∙ sym (append_assoc (A ++ B) X R) in
       let among : IsSublist (A ++ B) (commits_in log) = subst (IsSublist (A ++ B)) (sym (commits_split c.received log)) (sublist_joined (sublist_itself A) (by_sublist c.session (drop c.received log))) in
-      agree_longer h.schema home (opening_document h) (A ++ B) (commits_in log) (N ∷ []) st.sound among (front ((A ++ B) ++ N ∷ []) R (opening_document h) (subst (FitInTurn (opening_document h)) all k.shown_fit)) last_fit logged
-      (agree_front h.schema home ((A ++ B) ++ N ∷ []) R (opening_document h) (subst (Agree home) all shown))
+      agree_longer h.schema home (opening_document h) (A ++ B) (commits_in log) X st.sound among (front ((A ++ B) ++ X) R (opening_document h) (subst (FitInTurn (opening_document h)) all k.shown_fit)) last_fit logged
+      (agree_front h.schema home ((A ++ B) ++ X) R (opening_document h) (subst (Agree home) all shown))
 
-  pub sent_keeps : (log : List Entry) (cs : List Client) (i : ℕ) (c c' : Client) (q : Queued) → AllByRecursion (IsClient h log) cs → slice_get cs i ≡ Some c → c.queue ≡ q ∷ c'.queue → c' ≡ record c { queue = c'.queue }
-      → FitInTurn (opening_document h) (commits_in log ++ q.intent ∷ []) → KeepToSchema h log cs → KeepToSchema h (log_with log c.session (Commit q.reference q.intent)) (slice_set cs i c')
-  sent_keeps log cs i c c' q are at is is_c last_fit w =
-      let body = Commit q.reference q.intent in
+  pub sent_keeps : (log : List Entry) (cs : List Client) (i : ℕ) (c c' : Client) (text : Body) → AllByRecursion (IsClient h log) cs → slice_get cs i ≡ Some c → c.queue ≡ text ∷ c'.queue → c' ≡ record c { queue = c'.queue }
+      → FitInTurn (opening_document h) (commits_in log ++ commits_of_text text) → KeepToSchema h log cs → KeepToSchema h (log_with log c.session text) (slice_set cs i c')
+  sent_keeps log cs i c c' text are at is is_c last_fit w =
       let k = all_get (IsClient h log) cs i c are at in
       let mine = all_get (Shown w.0 log) cs i c w.1.shown at in (
         w.0,
         record {
           start = w.1.start;
-          logged = subst (Agree w.0) (sym (entered_commits log c.session body)) (last_agrees w.0 log c q c'.queue k is last_fit w.1.logged mine);
-          shown = all_set (Shown w.0 (log_with log c.session body)) cs i c' (all_entered w.0 log c.session body cs are w.1.shown)
-              (subst (Shown w.0 (log_with log c.session body)) (sym is_c) (entered_shows w.0 log c.session body (record c { queue = c'.queue }) k.within mine));
+          logged = subst (Agree w.0) (sym (entered_commits log c.session text)) (last_agrees w.0 log c text c'.queue k is last_fit w.1.logged mine);
+          shown = all_set (Shown w.0 (log_with log c.session text)) cs i c' (all_entered w.0 log c.session text cs are w.1.shown)
+              (subst (Shown w.0 (log_with log c.session text)) (sym is_c) (entered_shows w.0 log c.session text (record c { queue = c'.queue }) k.within mine));
         },
       )
 

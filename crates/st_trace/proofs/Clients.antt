@@ -1,6 +1,7 @@
 -- What holds of a client's lists after each of its steps, and after those of others.
 use Rattle.std.proofs.Common.{◌≡◌, ◌≢◌, ◌≤◌, ◌<◌, ◌+◌, ◌==◌, ℕ, zero, suc, true, false, List, [], ◌∷◌, ◌++◌, length, take, drop, Option, Some, None, is_some, refl, sym, ap, ◌∙◌, subst, arith, append_assoc, length-append, ◌⊎◌, inl, inr}
-use Rattle.std.specs.List.{slice_get, AllByRecursion}
+use Rattle.std.specs.List.{slice_get, cons_option, AllByRecursion}
+use Rattle.std.specs.Option.{option_map_or}
 use Rattle.std.proofs.lemmas.Bool.Decides.{nat_tests}
 use Rattle.std.proofs.lemmas.List.{append-nil, take_all}
 use Rattle.std.proofs.lemmas.Option.{slice_get_within}
@@ -22,19 +23,19 @@ use Rattle.st_log_laws.proofs.Shorter.{sublist_itself, sublist_joined, new_short
 use Rattle.st_log_laws.proofs.Beside.{another_later, later_fits, one_fits}
 use Rattle.st_script.specs.Header.{HeaderView}
 use Rattle.st_trace.specs.Replicas.{IsClient}
-use Rattle.st_lists.specs.Log.{commits_by, intents_of, log_and_queue}
+use Rattle.st_lists.specs.Log.{commit_in, commits_by, commits_of_text, intents_of, log_and_queue}
 use Rattle.st_lists.specs.Log.{commit_of, commits_in, log_with}
 use Rattle.st_lists.specs.Clients.{HasReceived, HasShown, with_commit, new_client, next_rev, received_by}
-use Rattle.st_lists.specs.Names.{names_in, names_made}
+use Rattle.st_lists.specs.Names.{names_in, names_in_text, names_made}
 use Rattle.st_trace.specs.World.{opening_document}
+use Rattle.st_lists.specs.declared.lists.Body.{Body}
 use Rattle.st_lists.specs.declared.lists.Body.TheVariants.{Join, Commit}
 use Rattle.st_lists.specs.declared.lists.Client.{Client}
 use Rattle.st_lists.specs.declared.lists.Entry.{Entry}
-use Rattle.st_lists.specs.declared.lists.Queued.{Queued}
 use Rattle.st_trace.proofs.Begun.{IsStart}
 use Rattle.st_lists.proofs.Names.{names_append, fewer_names}
 use Rattle.st_trace.proofs.Counting.{room_left}
-use Rattle.st_lists.proofs.Logs.{take-get, commits_append, commits_split, by_sublist, by_own, by_other, by_none, one_commit, no_commit, last_entry, entered_commits, entered_front, entered_rest}
+use Rattle.st_lists.proofs.Logs.{take-get, commits_append, commits_split, by_sublist, by_own, by_other, by_none, one_commit, no_commit, last_entry, entered_commits, entered_front, entered_rest, by_own_text, text_first, texts_append}
 use Rattle.st_lemmas.proofs.Lists.{AllByRecursion-append, drop-slice_get}
 
 -- ## Lists
@@ -42,10 +43,10 @@ use Rattle.st_lemmas.proofs.Lists.{AllByRecursion-append, drop-slice_get}
 sublist_of : {As Bs Cs Ds : List Intent} → As ≡ Cs → Bs ≡ Ds → IsSublist As Bs → IsSublist Cs Ds
 sublist_of {As} {Bs} {Cs} {Ds} p q g = subst (λ l. IsSublist Cs l) q (subst (λ l. IsSublist l Bs) p g)
 
--- the commits of texts, the last being one more
-intents_more : (qs : List Queued) (q : Queued) → intents_of (qs ++ q ∷ []) ≡ intents_of qs ++ q.intent ∷ []
-intents_more [] q = refl
-intents_more (p ∷ qs) q = ap (λ l. p.intent ∷ l) (intents_more qs q)
+-- what holds of all holds of those behind
+all_behind : {X : Type 0} (P : X → Type 0) (xs ys : List X) → AllByRecursion P (xs ++ ys) → AllByRecursion P ys
+all_behind P [] ys h = h
+all_behind P (x ∷ xs) ys h = all_behind P xs ys h.1
 
 -- an intent of a new revision comes last
 new_more : (rs : List Rev) (Ns : List Intent) (N : Intent) → HaveNewRevisions rs Ns → (Has (revisions Ns ++ rs) N.rev → ⊥) → HaveNewRevisions rs (Ns ++ N ∷ [])
@@ -170,8 +171,7 @@ module _ (h : HeaderView) (st : IsStart (opening_document h)) where
       let A = received_by log c in
       let B = commits_by c.session (drop c.received log) in
       let Q = intents_of c.queue in
-      let q : Queued = record { reference = c.received; intent = N } in
-      let more : log_and_queue log c ++ N ∷ [] ≡ log_and_queue log (with_commit c N) = append_assoc (commits_in log) Q (N ∷ []) ∙ ap (λ l. commits_in log ++ l) (sym (intents_more c.queue q)) in
+      let more : log_and_queue log c ++ N ∷ [] ≡ log_and_queue log (with_commit c N) = append_assoc (commits_in log) Q (N ∷ []) ∙ ap (λ l. commits_in log ++ l) (sym (texts_append c.queue (Commit c.received N ∷ []))) in
       let fresh = next_new log c N.rev k rev in
       let sound = shown_sound log c D k shown in
       let one_name : names_in (N ∷ []) ≡ names_made N = omega arith in
@@ -183,11 +183,11 @@ module _ (h : HeaderView) (st : IsStart (opening_document h)) where
         within = k.within;
         few = omega (arith, length-append c.pending (N ∷ []), few);
         few_names = omega (arith, names_append c.pending (N ∷ []), one_name, few_names);
-        under_way = ap (λ l. l ++ N ∷ []) k.under_way ∙ append_assoc B Q (N ∷ []) ∙ ap (λ l. B ++ l) (sym (intents_more c.queue q));
+        under_way = ap (λ l. l ++ N ∷ []) k.under_way ∙ append_assoc B Q (N ∷ []) ∙ ap (λ l. B ++ l) (sym (texts_append c.queue (Commit c.received N ∷ [])));
         shown_fit = subst (FitInTurn O) (append_assoc A c.pending (N ∷ [])) (then_one (A ++ c.pending) (N ∷ []) k.shown_fit shown last);
         sent_fit = subst (FitInTurn O) more (later_fits (opening ∷ []) O D (A ++ c.pending) (log_and_queue log c) N st.sound st.made (shown_among log c k) k.shown_fit k.sent_fit shown fits fresh room_all);
         new = subst (HaveNewRevisions (opening ∷ [])) more (new_more (opening ∷ []) (log_and_queue log c) N k.new fresh);
-        own = subst (AllByRecursion (λ (M : Intent). M.rev.session ≡ c.session)) (sym (intents_more c.queue q)) (AllByRecursion-append (λ (M : Intent). M.rev.session ≡ c.session) Q (N ∷ []) k.own (ap (λ (r : Rev). r.session) rev, tt));
+        own = subst (AllByRecursion (λ (M : Intent). M.rev.session ≡ c.session)) (sym (texts_append c.queue (Commit c.received N ∷ []))) (AllByRecursion-append (λ (M : Intent). M.rev.session ≡ c.session) Q (N ∷ []) k.own (ap (λ (r : Rev). r.session) rev, tt));
         ids = λ M i s. ids M (has-append (log_and_queue log c) (N ∷ []) M (subst (λ l. Has l M) (sym more) i)) s;
       }
     where
@@ -294,20 +294,20 @@ module _ (h : HeaderView) (st : IsStart (opening_document h)) where
   -- ## The log grows
 
   -- of one with the same queue and pending commits, after an entry without a commit
-  pub client_after_join : (log : List Entry) (session : ℕ) (c : Client) → IsClient h log c → IsClient h (log_with log session Join) c
-  client_after_join log session c k =
-      let e = last_entry log session Join in
+  pub client_after_text : (log : List Entry) (session : ℕ) (text : Body) (c : Client) → commit_in text ≡ None → IsClient h log c → IsClient h (log_with log session text) c
+  client_after_text log session text c none k =
+      let e = last_entry log session text in
       let Q = intents_of c.queue in
-      let commits : commits_in (log_with log session Join) ≡ commits_in log = entered_commits log session Join ∙ append-nil (commits_in log) in
-      let all : log_and_queue log c ≡ log_and_queue (log_with log session Join) c = ap (λ l. l ++ Q) (sym commits) in
-      let by : commits_by c.session (drop c.received (log_with log session Join)) ≡ commits_by c.session (drop c.received log) =
-      entered_rest log session Join c.session c.received k.within ∙ ap (λ l. commits_by c.session (drop c.received log) ++ l) (by_none c.session e [] refl) ∙ append-nil (commits_by c.session (drop c.received log)) in
+      let commits : commits_in (log_with log session text) ≡ commits_in log = entered_commits log session text ∙ ap (λ o. commits_in log ++ cons_option o []) none ∙ append-nil (commits_in log) in
+      let all : log_and_queue log c ≡ log_and_queue (log_with log session text) c = ap (λ l. l ++ Q) (sym commits) in
+      let by : commits_by c.session (drop c.received (log_with log session text)) ≡ commits_by c.session (drop c.received log) =
+      entered_rest log session text c.session c.received k.within ∙ ap (λ l. commits_by c.session (drop c.received log) ++ l) (by_none c.session e [] none) ∙ append-nil (commits_by c.session (drop c.received log)) in
       record {
         within = omega (arith, k.within, length-append log (e ∷ []));
         few = k.few;
         few_names = k.few_names;
         under_way = k.under_way ∙ ap (λ l. l ++ Q) (sym by);
-        shown_fit = subst (FitInTurn (opening_document h)) (ap (λ l. commits_in l ++ c.pending) (sym (entered_front log session Join c.received k.within))) k.shown_fit;
+        shown_fit = subst (FitInTurn (opening_document h)) (ap (λ l. commits_in l ++ c.pending) (sym (entered_front log session text c.received k.within))) k.shown_fit;
         sent_fit = subst (FitInTurn (opening_document h)) all k.sent_fit;
         new = subst (HaveNewRevisions (opening ∷ [])) all k.new;
         own = k.own;
@@ -343,51 +343,44 @@ module _ (h : HeaderView) (st : IsStart (opening_document h)) where
       drop_whole (suc n) (x ∷ xs) e = drop_whole n xs (omega (arith, e))
 
   -- of the sender
-  pub client_sent : (log : List Entry) (c : Client) (q : Queued) (rest : List Queued) → IsClient h log c → c.queue ≡ q ∷ rest → IsClient h (log_with log c.session (Commit q.reference q.intent)) (record c { queue = rest })
-  client_sent log c q rest k is =
-      let body = Commit q.reference q.intent in
-      let e = last_entry log c.session body in
-      let N = q.intent in
+  pub client_sent : (log : List Entry) (c : Client) (text : Body) (rest : List Body) → IsClient h log c → c.queue ≡ text ∷ rest → IsClient h (log_with log c.session text) (record c { queue = rest })
+  client_sent log c text rest k is =
+      let e = last_entry log c.session text in
+      let X = commits_of_text text in
       let B = commits_by c.session (drop c.received log) in
       let R = intents_of rest in
-      let commits : commits_in (log_with log c.session body) ≡ commits_in log ++ N ∷ [] = entered_commits log c.session body in
-      let waiting : intents_of c.queue ≡ N ∷ R = ap intents_of is in
-      let all : log_and_queue log c ≡ commits_in (log_with log c.session body) ++ R = ap (λ l. commits_in log ++ l) waiting ∙ sym (append_assoc (commits_in log) (N ∷ []) R) ∙ ap (λ l. l ++ R) (sym commits) in
-      let by : commits_by c.session (drop c.received (log_with log c.session body)) ≡ B ++ N ∷ [] =
-      entered_rest log c.session body c.session c.received k.within ∙ ap (λ l. B ++ l) (by_own c.session e [] N (itself c.session) refl) in
+      let commits : commits_in (log_with log c.session text) ≡ commits_in log ++ X = entered_commits log c.session text in
+      let waiting : intents_of c.queue ≡ X ++ R = ap intents_of is ∙ text_first text rest in
+      let all : log_and_queue log c ≡ commits_in (log_with log c.session text) ++ R = ap (λ l. commits_in log ++ l) waiting ∙ sym (append_assoc (commits_in log) X R) ∙ ap (λ l. l ++ R) (sym commits) in
+      let by : commits_by c.session (drop c.received (log_with log c.session text)) ≡ B ++ X = entered_rest log c.session text c.session c.received k.within ∙ ap (λ l. B ++ l) (by_own_text log c.session text) in
       record {
         within = omega (arith, k.within, length-append log (e ∷ []));
         few = k.few;
         few_names = k.few_names;
-        under_way = k.under_way ∙ ap (λ l. B ++ l) waiting ∙ sym (append_assoc B (N ∷ []) R) ∙ ap (λ l. l ++ R) (sym by);
-        shown_fit = subst (FitInTurn (opening_document h)) (ap (λ l. commits_in l ++ c.pending) (sym (entered_front log c.session body c.received k.within))) k.shown_fit;
+        under_way = k.under_way ∙ ap (λ l. B ++ l) waiting ∙ sym (append_assoc B X R) ∙ ap (λ l. l ++ R) (sym by);
+        shown_fit = subst (FitInTurn (opening_document h)) (ap (λ l. commits_in l ++ c.pending) (sym (entered_front log c.session text c.received k.within))) k.shown_fit;
         sent_fit = subst (FitInTurn (opening_document h)) all k.sent_fit;
         new = subst (HaveNewRevisions (opening ∷ [])) all k.new;
-        own = (subst (AllByRecursion (λ (M : Intent). M.rev.session ≡ c.session)) waiting k.own).1;
+        own = all_behind (λ (M : Intent). M.rev.session ≡ c.session) X R (subst (AllByRecursion (λ (M : Intent). M.rev.session ≡ c.session)) waiting k.own);
         ids = λ M i s. k.ids M (subst (λ l. Has l M) (sym all) i) s;
       }
-    where
-      itself : (n : ℕ) → (n == n) ≡ true
-      itself n = grind (arith, nat_tests)
 
-  -- of each other client
-  pub client_beside : (log : List Entry) (c d : Client) (q : Queued) (rest : List Queued) → IsClient h log c → IsClient h log d → c.queue ≡ q ∷ rest → (c.session == d.session) ≡ false
-      → names_in (commits_in log) + names_made q.intent ≤ 131072 → IsClient h (log_with log c.session (Commit q.reference q.intent)) d
-  client_beside log c d q rest k l is apart few =
+  -- of each other client, after a commit
+  commit_beside : (log : List Entry) (c d : Client) (text : Body) (N : Intent) (rest : List Body) → commit_in text ≡ Some N → IsClient h log c → IsClient h log d → c.queue ≡ text ∷ rest → (c.session == d.session) ≡ false
+      → names_in (commits_in log) + names_made N ≤ 131072 → IsClient h (log_with log c.session text) d
+  commit_beside log c d text N rest one k l is apart few =
       let O = opening_document h in
-      let body = Commit q.reference q.intent in
-      let e = last_entry log c.session body in
-      let N = q.intent in
+      let e = last_entry log c.session text in
       let L = commits_in log in
       let R = intents_of rest in
       let Q = intents_of d.queue in
       let B = commits_by d.session (drop d.received log) in
-      let commits : commits_in (log_with log c.session body) ≡ L ++ N ∷ [] = entered_commits log c.session body in
-      let waiting : intents_of c.queue ≡ N ∷ R = ap intents_of is in
+      let commits : commits_in (log_with log c.session text) ≡ L ++ N ∷ [] = entered_commits log c.session text ∙ ap (λ o. L ++ cons_option o []) one in
+      let waiting : intents_of c.queue ≡ N ∷ R = ap intents_of is ∙ ap (λ o. cons_option o R) one in
       let from : log_and_queue log c ≡ (L ++ N ∷ []) ++ R = ap (λ l. L ++ l) waiting ∙ sym (append_assoc L (N ∷ []) R) in
-      let all : L ++ N ∷ Q ≡ log_and_queue (log_with log c.session body) d = sym (append_assoc L (N ∷ []) Q) ∙ ap (λ l. l ++ Q) (sym commits) in
-      let by : commits_by d.session (drop d.received (log_with log c.session body)) ≡ B =
-      entered_rest log c.session body d.session d.received l.within ∙ ap (λ l. B ++ l) (by_other d.session e [] apart) ∙ append-nil B in
+      let all : L ++ N ∷ Q ≡ log_and_queue (log_with log c.session text) d = sym (append_assoc L (N ∷ []) Q) ∙ ap (λ l. l ++ Q) (sym commits) in
+      let by : commits_by d.session (drop d.received (log_with log c.session text)) ≡ B =
+      entered_rest log c.session text d.session d.received l.within ∙ ap (λ l. B ++ l) (by_other d.session e [] apart) ∙ append-nil B in
       let mine : N.rev.session ≡ c.session = (subst (AllByRecursion (λ (M : Intent). M.rev.session ≡ c.session)) waiting k.own).0 in
       let front_fit : FitInTurn O (L ++ N ∷ []) = front (L ++ N ∷ []) R O (subst (FitInTurn O) from k.sent_fit) in
       let sender : HaveNewRevisions (opening ∷ []) (L ++ N ∷ R) = subst (HaveNewRevisions (opening ∷ [])) (ap (λ l. L ++ l) waiting) k.new in
@@ -399,7 +392,7 @@ module _ (h : HeaderView) (st : IsStart (opening_document h)) where
         few = l.few;
         few_names = l.few_names;
         under_way = l.under_way ∙ ap (λ x. x ++ Q) (sym by);
-        shown_fit = subst (FitInTurn O) (ap (λ x. commits_in x ++ d.pending) (sym (entered_front log c.session body d.received l.within))) l.shown_fit;
+        shown_fit = subst (FitInTurn O) (ap (λ x. commits_in x ++ d.pending) (sym (entered_front log c.session text d.received l.within))) l.shown_fit;
         sent_fit = subst (FitInTurn O) all (another_later (opening ∷ []) O L N Q st.sound st.made front_fit l.sent_fit new room);
         new = subst (HaveNewRevisions (opening ∷ [])) all new;
         own = l.own;
@@ -426,3 +419,11 @@ module _ (h : HeaderView) (st : IsStart (opening_document h)) where
       ids N mine M (inl i) s = l.ids M (append_left (commits_in log) (intents_of d.queue) M i) s
       ids N mine M (inr (inl e)) s = absurd (differ (sym mine ∙ ap (λ (X : Intent). X.rev.session) e ∙ s))
       ids N mine M (inr (inr i)) s = l.ids M (append_right (commits_in log) (intents_of d.queue) M i) s
+
+  pub client_beside : (log : List Entry) (c d : Client) (text : Body) (rest : List Body) → IsClient h log c → IsClient h log d → c.queue ≡ text ∷ rest → (c.session == d.session) ≡ false
+      → names_in (commits_in log) + names_in_text text ≤ 131072 → IsClient h (log_with log c.session text) d
+  client_beside log c d text rest k l is apart few = go (commit_in text) refl
+    where
+      go : (o : Option Intent) → commit_in text ≡ o → IsClient h (log_with log c.session text) d
+      go None none = client_after_text log c.session text d none l
+      go (Some N) one = commit_beside log c d text N rest one k l is apart (omega (arith, few, ap (λ (o : Option Intent). option_map_or names_made o 0) one))

@@ -5,16 +5,16 @@ use Rattle.std.proofs.lemmas.Bool.Decides.{nat_tests}
 use Rattle.st_script.specs.Header.{HeaderView}
 use Rattle.st_trace.specs.Replicas.{IsClient, IsReplicaOf, AreReplicas, HaveSessionsFrom}
 use Rattle.st_lists.specs.Log.{log_with, commits_in}
-use Rattle.st_lists.specs.Names.{names_in, names_made}
+use Rattle.st_lists.specs.Names.{names_in, names_in_text, names_made}
 use Rattle.st_trace.specs.World.{opening_document}
 use Rattle.st_trace.specs.declared.replica.Replica.{Replica}
 use Rattle.st_lists.specs.declared.lists.Body.TheVariants.{Join, Commit}
 use Rattle.st_lists.specs.declared.lists.Client.{Client}
 use Rattle.st_lists.specs.declared.lists.Entry.{Entry}
-use Rattle.st_lists.specs.declared.lists.Queued.{Queued}
 use Rattle.st_trace.proofs.Begun.{IsStart}
-use Rattle.st_trace.proofs.Clients.{client_after_join, client_beside, client_sent}
+use Rattle.st_trace.proofs.Clients.{client_after_text, client_beside, client_sent}
 use Rattle.st_trace.proofs.Keeping.{AreOne, kept_entered, kept_rest}
+use Rattle.st_lists.specs.declared.lists.Body.{Body}
 
 -- ## Lists
 
@@ -122,15 +122,15 @@ module _ (h : HeaderView) (st : IsStart (opening_document h)) (log : List Entry)
   all_after_join session [] (k ∷ ks) w = absurd w
   all_after_join session (c ∷ cs) [] w = absurd w
   all_after_join session (c ∷ cs) (k ∷ ks) w =
-      (client_after_join h st log session c w.0, kept_entered h st log session Join c k w.0.within w.1, all_after_join session cs ks w.2)
+      (client_after_text h st log session Join c refl w.0, kept_entered h st log session Join c k w.0.within w.1, all_after_join session cs ks w.2)
 
   -- the oldest text of one client is in the log
-  module _ (c : Client) (q : Queued) (rest : List Queued) (own : IsClient h log c) (is : c.queue ≡ q ∷ rest) (few : names_in (commits_in log) + names_made q.intent ≤ 131072) where
+  module _ (c : Client) (text : Body) (rest : List Body) (own : IsClient h log c) (is : c.queue ≡ text ∷ rest) (few : names_in (commits_in log) + names_in_text text ≤ 131072) where
     abbrev longer : List Entry
-    longer = log_with log c.session (Commit q.reference q.intent)
+    longer = log_with log c.session text
 
     beside : (d : Client) (k : Replica) → (c.session == d.session) ≡ false → IsClient h log d → IsReplicaOf h log d k → AreOne h longer d k
-    beside d k apart w v = record { client = client_beside h st log c d q rest own w is apart few; kept = kept_entered h st log c.session (Commit q.reference q.intent) d k w.within v }
+    beside d k apart w v = record { client = client_beside h st log c d text rest own w is apart few; kept = kept_entered h st log c.session text d k w.within v }
 
     apart_later : (d : Client) (n : ℕ) → d.session ≡ n → c.session < n → (c.session == d.session) ≡ false
     apart_later d n e less = grind (arith, nat_tests)
@@ -153,8 +153,8 @@ module _ (h : HeaderView) (st : IsStart (opening_document h)) (log : List Entry)
         let same : d ≡ c = cc in
         let kept : IsReplicaOf h log c k = rw (← same) w.1 in
         let here : c.session ≡ n = ap (λ (x : Client). x.session) (sym same) ∙ s.0 in (
-          client_sent h st log c q rest own is,
-          kept_rest h st longer c rest k (kept_entered h st log c.session (Commit q.reference q.intent) c k own.within kept),
+          client_sent h st log c text rest own is,
+          kept_rest h st longer c rest k (kept_entered h st log c.session text c k own.within kept),
           all_later (n + 1) cs ks s.1 (omega (arith, here)) w.2,
         )
     all_sent n (d ∷ cs) (k ∷ ks) (suc i) s at w =

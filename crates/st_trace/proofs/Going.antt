@@ -15,27 +15,27 @@ use Rattle.st_log_laws.specs.Turns.{FitInTurn}
 use Rattle.st_script.specs.Header.{HeaderView, header_view}
 use Rattle.st_script.specs.declared.answer.Answer.{Answer}
 use Rattle.st_trace.specs.Replicas.{HaveSessionsFrom, IsClient, IsEntryOf, IsHeader, IsSound, KeepToSchema}
-use Rattle.st_lists.specs.Log.{commit_of, commits_in, log_with}
+use Rattle.st_lists.specs.Log.{commit_of, commits_in, commits_of_text, log_with}
 use Rattle.st_lists.specs.Clients.{HasShown, empty_state, new_client, next_rev, pending_after, with_received}
 use Rattle.st_trace.specs.World.{IsDeliveredTo, after_edit, opening_document, with_pending}
 use Rattle.st_lists.specs.Limits.{limit_passed}
-use Rattle.st_lists.specs.Names.{names_in, names_made}
+use Rattle.st_lists.specs.Names.{names_in, names_in_text, names_made}
 use Rattle.st_trace.specs.declared.client.EditWord.{EditWord}
 use Rattle.st_lists.specs.declared.lists.Body.TheVariants.{Join, Commit}
 use Rattle.st_lists.specs.declared.lists.Client.{Client}
 use Rattle.st_lists.specs.declared.lists.Entry.{Entry}
 use Rattle.st_lists.specs.declared.lists.WorldState.{WorldState}
-use Rattle.st_lists.specs.declared.lists.Queued.{Queued}
 use Rattle.st_trace.specs.declared.world.World.{World}
 use Rattle.st_trace.proofs.Agreed.{begun_keeps, joined_keeps, sent_keeps}
 use Rattle.st_trace.proofs.Begun.{IsStart, opened_start}
-use Rattle.st_trace.proofs.Clients.{client_after_join, client_beside, client_committed, client_joined, client_none, client_other, client_own, client_sent}
-use Rattle.st_lists.proofs.Names.{names_append}
+use Rattle.st_trace.proofs.Clients.{client_after_text, client_beside, client_committed, client_joined, client_none, client_other, client_own, client_sent}
+use Rattle.st_lists.proofs.Names.{names_append, names_of_text}
 use Rattle.st_trace.proofs.Everyone.{all_as, all_get, all_set, clients_of, session_at, session_bound, sessions_push, sessions_set}
 use Rattle.st_trace.proofs.Keeping.{within_limits}
 use Rattle.st_lists.proofs.Logs.{entered_commits, last_entry}
 use Rattle.st_trace.proofs.Stepping.{is_last, of_sessions}
 use Rattle.st_lemmas.proofs.Lists.{AllByRecursion-append}
+use Rattle.st_lists.specs.declared.lists.Body.{Body}
 
 -- what holds of the lists of each world that steps lead to
 pub record AreSound (h : HeaderView) (w : WorldState) : Type 0 where
@@ -128,9 +128,9 @@ module _ (h : HeaderView) (st : IsStart (opening_document h)) where
 
   -- ## The oldest text of a client is in the log
 
-  module _ (log : List Entry) (c : Client) (q : Queued) (rest : List Queued) (own : IsClient h log c) (is : c.queue ≡ q ∷ rest) (few : names_in (commits_in log) + names_made q.intent ≤ 131072) where
+  module _ (log : List Entry) (c : Client) (text : Body) (rest : List Body) (own : IsClient h log c) (is : c.queue ≡ text ∷ rest) (few : names_in (commits_in log) + names_in_text text ≤ 131072) where
     abbrev longer : List Entry
-    longer = log_with log c.session (Commit q.reference q.intent)
+    longer = log_with log c.session text
 
     apart_later : (d : Client) (n : ℕ) → d.session ≡ n → c.session < n → (c.session == d.session) ≡ false
     apart_later d n e less = grind (arith, nat_tests)
@@ -140,41 +140,39 @@ module _ (h : HeaderView) (st : IsStart (opening_document h)) where
 
     all_beside : (n : ℕ) (cs : List Client) → HaveSessionsFrom n cs → c.session < n → AllByRecursion (IsClient h log) cs → AllByRecursion (IsClient h longer) cs
     all_beside n [] s less w = tt
-    all_beside n (d ∷ cs) s less w = (client_beside h st log c d q rest own w.0 is (apart_later d n s.0 less) few, all_beside (n + 1) cs s.1 (omega (arith, less)) w.1)
+    all_beside n (d ∷ cs) s less w = (client_beside h st log c d text rest own w.0 is (apart_later d n s.0 less) few, all_beside (n + 1) cs s.1 (omega (arith, less)) w.1)
 
     pub clients_sent : (n : ℕ) (cs : List Client) (i : ℕ) → HaveSessionsFrom n cs → slice_get cs i ≡ Some c → AllByRecursion (IsClient h log) cs → AllByRecursion (IsClient h longer) (slice_set cs i (record c { queue = rest }))
     clients_sent n [] i s at w = tt
     clients_sent n (d ∷ cs) zero s at w =
         let same : d ≡ c = cc in
         let here : c.session ≡ n = ap (λ (x : Client). x.session) (sym same) ∙ s.0 in
-        (client_sent h st log c q rest own is, all_beside (n + 1) cs s.1 (omega (arith, here)) w.1)
+        (client_sent h st log c text rest own is, all_beside (n + 1) cs s.1 (omega (arith, here)) w.1)
     clients_sent n (d ∷ cs) (suc i) s at w =
         let far = session_at (n + 1) cs i c s.1 at in
-        (client_beside h st log c d q rest own w.0 is (apart_before d n s.0 (omega (arith, far))) few, clients_sent (n + 1) cs i s.1 at w.1)
+        (client_beside h st log c d text rest own w.0 is (apart_before d n s.0 (omega (arith, far))) few, clients_sent (n + 1) cs i s.1 at w.1)
 
-pub sent_sound : (h : HeaderView) (w : WorldState) (i : ℕ) (c : Client) (q : Queued) (rest : List Queued) → AreSound h w → slice_get w.clients i ≡ Some c → c.queue ≡ q ∷ rest → names_in (commits_in w.log) + names_made q.intent ≤ 131072
-    → AreSound h (record w { log = log_with w.log c.session (Commit q.reference q.intent); clients = slice_set w.clients i (record c { queue = rest }) })
-sent_sound h w i c q rest s at is few =
+pub sent_sound : (h : HeaderView) (w : WorldState) (i : ℕ) (c : Client) (text : Body) (rest : List Body) → AreSound h w → slice_get w.clients i ≡ Some c → c.queue ≡ text ∷ rest → names_in (commits_in w.log) + names_in_text text ≤ 131072
+    → AreSound h (record w { log = log_with w.log c.session text; clients = slice_set w.clients i (record c { queue = rest }) })
+sent_sound h w i c text rest s at is few =
     let st = opened_start h s.header in
     let L = commits_in w.log in
-    let N = q.intent in
-    let body = Commit q.reference q.intent in
+    let X = commits_of_text text in
     let c' : Client = record c { queue = rest } in
     let k = all_get (IsClient h w.log) w.clients i c s.clients at in
-    let last = is_last h w.log c q rest k is in
-    let commits : L ++ N ∷ [] ≡ commits_in (log_with w.log c.session body) = sym (entered_commits w.log c.session body) in
-    let one_name : names_in (N ∷ []) ≡ names_made N = omega arith in
-    let names : names_in (commits_in (log_with w.log c.session body)) ≡ names_in L + names_made N = ap names_in (sym commits) ∙ names_append L (N ∷ []) ∙ ap (λ n. names_in L + n) one_name in
+    let last = is_last h w.log c text rest k is in
+    let commits : L ++ X ≡ commits_in (log_with w.log c.session text) = sym (entered_commits w.log c.session text) in
+    let names : names_in (commits_in (log_with w.log c.session text)) ≡ names_in L + names_in_text text = ap names_in (sym commits) ∙ names_append L X ∙ ap (λ n. names_in L + n) (names_of_text text) in
     let bound = session_bound 1 w.clients i c s.sessions at in
     record {
       header = s.header;
-      clients = clients_sent h st w.log c q rest k is few 1 w.clients i s.sessions at s.clients;
+      clients = clients_sent h st w.log c text rest k is few 1 w.clients i s.sessions at s.clients;
       sessions = sessions_set 1 w.clients i c c' s.sessions at refl;
-      log = subst (λ n. AllByRecursion (IsEntryOf n) (log_with w.log c.session body)) (sym (length-set w.clients i c'))
-          (AllByRecursion-append (IsEntryOf (length w.clients)) w.log (last_entry w.log c.session body ∷ []) s.log ((omega (arith, bound), last.session), tt));
+      log = subst (λ n. AllByRecursion (IsEntryOf n) (log_with w.log c.session text)) (sym (length-set w.clients i c'))
+          (AllByRecursion-append (IsEntryOf (length w.clients)) w.log (last_entry w.log c.session text ∷ []) s.log ((omega (arith, bound), last.session), tt));
       log_fit = subst (FitInTurn (opening_document h)) commits last.fit;
       log_new = subst (HaveNewRevisions (opening ∷ [])) commits last.new;
-      schema = sent_keeps h st w.log w.clients i c c' q s.clients at is refl last.fit s.schema;
+      schema = sent_keeps h st w.log w.clients i c c' text s.clients at is refl last.fit s.schema;
       few_names = omega (arith, few, names);
     }
 
@@ -193,7 +191,7 @@ joined_sound h w name s =
     let client = client_joined h st w.log session name s.log_fit s.log_new (λ N i e. omega (arith, of_sessions (length w.clients) w.log N s.log i, e)) in
     record {
       header = s.header;
-      clients = AllByRecursion-append (IsClient h longer) w.clients (c ∷ []) (all_as (IsClient h w.log) (IsClient h longer) w.clients (λ d k. client_after_join h st w.log session d k) s.clients) (client, tt);
+      clients = AllByRecursion-append (IsClient h longer) w.clients (c ∷ []) (all_as (IsClient h w.log) (IsClient h longer) w.clients (λ d k. client_after_text h st w.log session Join d refl k) s.clients) (client, tt);
       sessions = sessions_push 1 w.clients c s.sessions (omega arith);
       log = subst (λ m. AllByRecursion (IsEntryOf m) longer) (sym more)
           (AllByRecursion-append (IsEntryOf (length w.clients + 1)) w.log (last_entry w.log session Join ∷ [])

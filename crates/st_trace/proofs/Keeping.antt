@@ -31,7 +31,6 @@ use Rattle.st_trace.specs.declared.replica.Replica.{Replica}
 use Rattle.st_lists.specs.declared.lists.Body.{Body}
 use Rattle.st_lists.specs.declared.lists.Client.{Client}
 use Rattle.st_lists.specs.declared.lists.Entry.{Entry}
-use Rattle.st_lists.specs.declared.lists.Queued.{Queued}
 use Rattle.st_trace.proofs.Begun.{IsStart}
 use Rattle.st_lists.proofs.Names.{names_append}
 use Rattle.st_trace.proofs.Clients.{client_committed, client_own, client_other, client_none, other_fit, own_first, received_more}
@@ -210,7 +209,7 @@ module _ (h : HeaderView) (st : IsStart (opening_document h)) where
         names = w.names;
       }
 
-  pub kept_rest : (log : List Entry) (c : Client) (rest : List Queued) (k : Replica) → IsReplicaOf h log c k → IsReplicaOf h log (record c { queue = rest }) k
+  pub kept_rest : (log : List Entry) (c : Client) (rest : List Body) (k : Replica) → IsReplicaOf h log c k → IsReplicaOf h log (record c { queue = rest }) k
   kept_rest log c rest k w = record { received = w.received; shown = w.shown; names = w.names }
 
   -- of a client that joins

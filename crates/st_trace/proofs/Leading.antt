@@ -52,13 +52,12 @@ use Rattle.st_lists.specs.Log.{commit_of, log_with}
 use Rattle.st_trace.specs.World.{AtClient, IsDelivered, IsDeliveredTo, IsEdited, IsNext, IsStepOf, IsShown, IsVerdictOf, OnBranch, after_edit, entering, next_names, join, opening_document, limit_refusal, sequence, with_client}
 use Rattle.st_lists.specs.Clients.{HasReceived, HasShown, client_named, new_client, next_rev, place_of, received_by, with_received}
 use Rattle.st_lists.specs.Limits.{log_limit_passed}
-use Rattle.st_lists.specs.Names.{names_made}
+use Rattle.st_lists.specs.Names.{names_in_text, names_made}
 use Rattle.st_trace.specs.declared.client.EditWord.{EditWord}
 use Rattle.st_lists.specs.declared.lists.Body.TheVariants.{Join}
 use Rattle.st_lists.specs.declared.lists.Client.{Client}
 use Rattle.st_lists.specs.declared.lists.Entry.{Entry}
 use Rattle.st_lists.specs.declared.lists.WorldState.{WorldState}
-use Rattle.st_lists.specs.declared.lists.Queued.{Queued}
 use Rattle.st_trace.specs.declared.world.World.{World}
 use Rattle.st_trace.proofs.Acting.{delivered_on, edited_on}
 use Rattle.st_trace.proofs.Agreed.{delivered_keeps, edited_keeps}
@@ -68,6 +67,7 @@ use Rattle.st_trace.proofs.Everyone.{all_get}
 use Rattle.st_trace.proofs.Going.{AreSound, client_delivered, client_edited, joined_sound, lists_sound, sent_sound, set_sound}
 use Rattle.st_trace.proofs.Meanings.{clear_of, insert_of, move_of, put_of, remove_of}
 use Rattle.st_trace.proofs.Stepping.{within_log}
+use Rattle.st_lists.specs.declared.lists.Body.{Body}
 
 -- ## The nodes of a document can be listed
 
@@ -229,13 +229,13 @@ module _ (h : HeaderView) (w : WorldState) (s : AreSound h w) where
               (delivered_keeps h st w.log w.clients i c r.0 D r.1 s.clients s.few_names at r.2 s.schema),
         )
 
-    has_sent : (qs : List Queued) → c.queue ≡ qs → Leads (λ v a. sequence w i c qs ≡ (v, a))
+    has_sent : (texts : List Body) → c.queue ≡ texts → Leads (λ v a. sequence w i c texts ≡ (v, a))
     has_sent [] is = (w, No NothingToSend, refl, s)
-    has_sent (q ∷ rest) is = go (log_limit_passed w.log (names_made q.intent)) refl
+    has_sent (text ∷ rest) is = go (log_limit_passed w.log (names_in_text text)) refl
       where
-        go : (o : Option Limit) → log_limit_passed w.log (names_made q.intent) ≡ o → Leads (λ v a. entering w i c q rest o ≡ (v, a))
+        go : (o : Option Limit) → log_limit_passed w.log (names_in_text text) ≡ o → Leads (λ v a. entering w i c text rest o ≡ (v, a))
         go (Some l) e = (w, limit_refusal l, refl, s)
-        go None e = let p = entering w i c q rest None in (p.0, p.1, refl, sent_sound h w i c q rest s at is (within_log w.log (names_made q.intent) e).1)
+        go None e = let p = entering w i c text rest None in (p.0, p.1, refl, sent_sound h w i c text rest s at is (within_log w.log (names_in_text text) e).1)
 
     has_shown : (a : Answer) × IsShown h w c a
     has_shown =

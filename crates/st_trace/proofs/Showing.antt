@@ -21,16 +21,16 @@ use Rattle.st_trace.specs.Replicas.{IsSound}
 use Rattle.st_trace.specs.World.{AtClient, IsAllowedText, IsDeliveredTo, IsEdited, IsNext, IsStepOf, OnBranch, ShowsAllowed, answer_of, after_edit, entering, join, opening_document, with_pending, sequence}
 use Rattle.st_lists.specs.Clients.{HasShown, client_named, next_rev, place_of, received_by}
 use Rattle.st_lists.specs.Limits.{limit_passed, log_limit_passed}
-use Rattle.st_lists.specs.Names.{names_made}
+use Rattle.st_lists.specs.Names.{names_in_text, names_made}
 use Rattle.st_trace.specs.declared.client.EditWord.{EditWord}
 use Rattle.st_lists.specs.declared.lists.Client.{Client}
 use Rattle.st_lists.specs.declared.lists.Entry.{Entry}
 use Rattle.st_lists.specs.declared.lists.WorldState.{WorldState}
-use Rattle.st_lists.specs.declared.lists.Queued.{Queued}
 use Rattle.st_trace.specs.declared.world.World.{World}
 use Rattle.st_schema_laws.specs.Agreeing.{KeepSchemaInTurn}
 use Rattle.st_trace.proofs.Everyone.{all_get, kept_some}
 use Rattle.st_trace.proofs.Stepping.{start_of}
+use Rattle.st_lists.specs.declared.lists.Body.{Body}
 
 -- the text of what a client shows
 text_allowed : (w : World) (i : ℕ) (c : Client) (D : Document) (text : List ℕ) → IsSound w → slice_get w.lists.clients i ≡ Some c → HasShown (opening_document (header_view w.header)) w.lists.log c D → IsTreeText (is_array_type w.header.schema) D text
@@ -72,11 +72,11 @@ module _ (s : SchemaView) where
       go None = answered_fine word (next_rev c)
       go (Some l) = tt
 
-  sequence_fine : (w : WorldState) (i : ℕ) (c : Client) (qs : List Queued) → Fine (sequence w i c qs)
+  sequence_fine : (w : WorldState) (i : ℕ) (c : Client) (texts : List Body) → Fine (sequence w i c texts)
   sequence_fine w i c [] = tt
-  sequence_fine w i c (q ∷ rest) = go (log_limit_passed w.log (names_made q.intent))
+  sequence_fine w i c (text ∷ rest) = go (log_limit_passed w.log (names_in_text text))
     where
-      go : (o : Option Limit) → Fine (entering w i c q rest o)
+      go : (o : Option Limit) → Fine (entering w i c text rest o)
       go None = tt
       go (Some l) = tt
 

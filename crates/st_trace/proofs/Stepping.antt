@@ -1,6 +1,6 @@
 -- The world after a step of one client.
 use Rattle.std.proofs.Common.{◌≡◌, ◌≤◌, ◌<◌, ◌+◌, ◌^◌, ◌-◌, ℕ, zero, suc, Bool, true, false, cond, min, nat_le, nat_lt, List, [], ◌∷◌, ◌++◌, length, length-append, Option, Some, None, IfSome, refl, sym, ap, ◌∙◌, subst, arith, append_assoc, inl, inr}
-use Rattle.std.specs.List.{cons_option, slice_get, slice_set, AllByRecursion}
+use Rattle.std.specs.List.{AllByRecursion, cons_option, slice_get, slice_set}
 use Rattle.std.specs.BTreeMap.{BTreeMap}
 use Rattle.std.specs.Option.{option_map}
 use Rattle.std.specs.Cmp.Lexicographic.{pointwise}
@@ -32,28 +32,29 @@ use Rattle.st_script.specs.declared.refusal.Refusal.TheVariants.{NothingToSend, 
 use Rattle.st_script.specs.Steps.{StepView, name_of, branch_of}
 use Rattle.st_script.specs.Steps as step
 use Rattle.st_trace.specs.Replicas.{AreReplicas, IsClient, IsEntryOf, IsReplicaOf, IsSound, IsSoundAfter, KeepToSchema}
-use Rattle.st_lists.specs.Log.{intents_of, log_and_queue}
+use Rattle.st_lists.specs.Log.{commit_in, commits_of_text, intents_of, log_and_queue}
 use Rattle.st_lists.specs.Known.{AreKnown}
 use Rattle.st_lists.specs.Log.{commit_of, commits_in, log_with}
 use Rattle.st_trace.specs.World.{AtClient, IsNext, IsStepOf, OnBranch, opening_document, sequence}
 use Rattle.st_lists.specs.Clients.{client_named, new_client, place_of}
 use Rattle.st_lists.specs.Limits.{log_limit_passed}
-use Rattle.st_lists.specs.Names.{names_in, names_made}
+use Rattle.st_lists.specs.Names.{names_in, names_in_text, names_made}
 use Rattle.st_trace.specs.declared.replica.Replica.{Replica}
 use Rattle.st_lists.specs.declared.lists.Body.TheVariants.{Join, Commit}
 use Rattle.st_lists.specs.declared.lists.Client.{Client}
 use Rattle.st_lists.specs.declared.lists.Entry.{Entry}
 use Rattle.st_lists.specs.declared.lists.WorldState.{WorldState}
-use Rattle.st_lists.specs.declared.lists.Queued.{Queued}
 use Rattle.st_trace.specs.declared.world.World.{World}
 use Rattle.st_trace.proofs.Agreed.{joined_keeps, sent_keeps}
 use Rattle.st_trace.proofs.Begun.{IsStart, opened_start}
 use Rattle.st_trace.proofs.Clients.{client_joined}
-use Rattle.st_lists.proofs.Names.{names_append}
+use Rattle.st_lists.proofs.Names.{names_append, names_of_text}
 use Rattle.st_trace.proofs.Everyone.{all_after_join, all_as, all_get, all_sent, all_set, clients_of, kept_push, kept_set, kept_some, past, session_bound, sessions_push, sessions_set}
 use Rattle.st_trace.proofs.Keeping.{AreOne, kept_joined, run_more}
-use Rattle.st_lists.proofs.Logs.{entered_commits, last_entry}
+use Rattle.st_lists.proofs.Logs.{entered_commits, last_entry, text_first}
 use Rattle.st_lemmas.proofs.Lists.{AllByRecursion-append}
+use Rattle.st_lists.specs.declared.lists.Body.{Body}
+use Rattle.st_trace.specs.inside.Replicas.{HasEntered}
 
 abbrev pub start_of : (w : World) (steps : ℕ) → IsSoundAfter steps w → IsStart (opening_document (header_view w.header))
 start_of w steps s = opened_start (header_view w.header) s.header
@@ -103,33 +104,46 @@ sound_client w i c c' k' s at one session ids keeps = record {
 -- ## A text enters the log
 
 -- the oldest text of a client, after the commits of the log
-pub record IsLast (h : HeaderView) (log : List Entry) (c : Client) (N : Intent) : Type 0 where
-  pub fit : FitInTurn (opening_document h) (commits_in log ++ N ∷ [])
-  pub new : HaveNewRevisions (opening ∷ []) (commits_in log ++ N ∷ [])
-  pub session : N.rev.session ≡ c.session
+pub record IsLast (h : HeaderView) (log : List Entry) (c : Client) (text : Body) : Type 0 where
+  pub fit : FitInTurn (opening_document h) (commits_in log ++ commits_of_text text)
+  pub new : HaveNewRevisions (opening ∷ []) (commits_in log ++ commits_of_text text)
+  pub session : IfSome (commit_in text) (λ N. N.rev.session ≡ c.session)
 
-pub is_last : (h : HeaderView) (log : List Entry) (c : Client) (q : Queued) (rest : List Queued) → IsClient h log c → c.queue ≡ q ∷ rest → IsLast h log c q.intent
-is_last h log c q rest k is =
+pub is_last : (h : HeaderView) (log : List Entry) (c : Client) (text : Body) (rest : List Body) → IsClient h log c → c.queue ≡ text ∷ rest → IsLast h log c text
+is_last h log c text rest k is =
     let L = commits_in log in
-    let N = q.intent in
+    let X = commits_of_text text in
     let R = intents_of rest in
-    let waiting : intents_of c.queue ≡ N ∷ R = ap intents_of is in
-    let all : log_and_queue log c ≡ (L ++ N ∷ []) ++ R = ap (λ l. L ++ l) waiting ∙ sym (append_assoc L (N ∷ []) R) in
+    let waiting : intents_of c.queue ≡ X ++ R = ap intents_of is ∙ text_first text rest in
+    let all : log_and_queue log c ≡ (L ++ X) ++ R = ap (λ l. L ++ l) waiting ∙ sym (append_assoc L X R) in
     let whole = subst (HaveNewRevisions (opening ∷ [])) all k.new in
     record {
-      fit = front (L ++ N ∷ []) R (opening_document h) (subst (FitInTurn (opening_document h)) all k.sent_fit);
-      new = subst (HaveNewRevisions (opening ∷ [])) (append-nil (L ++ N ∷ [])) (new_shorter (opening ∷ []) ((L ++ N ∷ []) ++ []) ((L ++ N ∷ []) ++ R) (sublist_joined (sublist_itself (L ++ N ∷ [])) (sublist_none R)) whole);
-      session = (subst (AllByRecursion (λ (M : Intent). M.rev.session ≡ c.session)) waiting k.own).0;
+      fit = front (L ++ X) R (opening_document h) (subst (FitInTurn (opening_document h)) all k.sent_fit);
+      new = subst (HaveNewRevisions (opening ∷ [])) (append-nil (L ++ X)) (new_shorter (opening ∷ []) ((L ++ X) ++ []) ((L ++ X) ++ R) (sublist_joined (sublist_itself (L ++ X)) (sublist_none R)) whole);
+      session = mine (commit_in text) R (subst (AllByRecursion (λ (M : Intent). M.rev.session ≡ c.session)) waiting k.own);
     }
+  where
+    mine : (o : Option Intent) (R : List Intent) → AllByRecursion (λ (M : Intent). M.rev.session ≡ c.session) (cons_option o [] ++ R) → IfSome o (λ N. N.rev.session ≡ c.session)
+    mine None R p = tt
+    mine (Some N) R p = p.0
 
 -- it fits the document after the whole log, which is sound in form
 pub head_sound : (w : World) → IsSound w → IsSoundInForm (document_of w.log_document)
 head_sound w s = (turn_extends (start_of w w.steps s).sound s.log_fit s.log_document).after
 
-pub head_fits : (w : World) (i : ℕ) (c : Client) (q : Queued) (rest : List Queued) → IsSound w → slice_get w.lists.clients i ≡ Some c → c.queue ≡ q ∷ rest → Fits (document_of w.log_document) q.intent
-head_fits w i c q rest s at is =
-    let last = is_last (header_view w.header) w.lists.log c q rest (kept_some (header_view w.header) w.lists.log w.lists.clients w.kept i c s.kept at) is in
-    (rest_fit (q.intent ∷ []) s.log_document last.fit).0
+pub head_fits : (w : World) (i : ℕ) (c : Client) (text : Body) (rest : List Body) → IsSound w → slice_get w.lists.clients i ≡ Some c → c.queue ≡ text ∷ rest → IfSome (commit_in text) (Fits (document_of w.log_document))
+head_fits w i c text rest s at is =
+    let last = is_last (header_view w.header) w.lists.log c text rest (kept_some (header_view w.header) w.lists.log w.lists.clients w.kept i c s.kept at) is in
+    first (commit_in text) (rest_fit (commits_of_text text) s.log_document last.fit)
+  where
+    first : (o : Option Intent) → FitInTurn (document_of w.log_document) (cons_option o []) → IfSome o (Fits (document_of w.log_document))
+    first None f = tt
+    first (Some N) f = f.0
+
+-- the document after a text
+run_entered : (O D E : Document) (L : List Intent) (o : Option Intent) → Run O L D → HasEntered D o E → Run O (L ++ cons_option o []) E
+run_entered O D E L None r e = subst (λ (F : Document). Run O (L ++ []) F) (sym e) (subst (λ l. Run O l D) (sym (append-nil L)) r)
+run_entered O D E L (Some N) r e = run_more N E e.0 r e.1 e.2
 
 -- a text that passes no limit
 pub within_log : (log : List Entry) (made : ℕ) → log_limit_passed log made ≡ None → (length log < 65535) × (names_in (commits_in log) + made ≤ 131072)
@@ -155,45 +169,43 @@ limit_stopped log made = ap (λ b. cond (nat_le 65535 (length log)) (Some (recor
     same : (n : ℕ) → nat_lt 131072 (n + min made (2 ^ 64 - 1)) ≡ nat_lt 131072 (n + made)
     same n = grind (arith, nat_tests)
 
-pub sound_sent : (w : World) (i : ℕ) (c c' : Client) (q : Queued) (log_document : Doc) (known : BTreeMap ℕ ℕ) (v : Verdict) → IsSound w → slice_get w.lists.clients i ≡ Some c → c.queue ≡ q ∷ c'.queue → c' ≡ record c { queue = c'.queue }
-    → length w.lists.log < 65535 → names_in (commits_in w.lists.log) + names_made q.intent ≤ 131072 → IsVerdict (document_of w.log_document) q.intent v → document_of log_document ≡ carried v (document_of w.log_document) q.intent
-    → AreKnown (log_with w.lists.log c.session (Commit q.reference q.intent)) known
+pub sound_sent : (w : World) (i : ℕ) (c c' : Client) (text : Body) (log_document : Doc) (known : BTreeMap ℕ ℕ) → IsSound w → slice_get w.lists.clients i ≡ Some c → c.queue ≡ text ∷ c'.queue → c' ≡ record c { queue = c'.queue }
+    → length w.lists.log < 65535 → names_in (commits_in w.lists.log) + names_in_text text ≤ 131072 → HasEntered (document_of w.log_document) (commit_in text) (document_of log_document)
+    → AreKnown (log_with w.lists.log c.session text) known
     → IsSoundAfter (w.steps + 1) (record w {
-      lists = record w.lists { log = log_with w.lists.log c.session (Commit q.reference q.intent); clients = slice_set w.lists.clients i c' };
+      lists = record w.lists { log = log_with w.lists.log c.session text; clients = slice_set w.lists.clients i c' };
       log_document = log_document;
       known = known;
-      names = w.names + names_made q.intent;
+      names = w.names + names_in_text text;
     })
-sound_sent w i c c' q log_document known v s at is is_c few few_names verdict after knows =
+sound_sent w i c c' text log_document known s at is is_c few few_names entered knows =
     let h = header_view w.header in
     let st = start_of w w.steps s in
     let log = w.lists.log in
-    let N = q.intent in
+    let X = commits_of_text text in
     let L = commits_in log in
-    let body = Commit q.reference q.intent in
     let k = kept_some h log w.lists.clients w.kept i c s.kept at in
-    let last = is_last h log c q c'.queue k is in
-    let commits : L ++ N ∷ [] ≡ commits_in (log_with log c.session body) = sym (entered_commits log c.session body) in
-    let one_name : names_in (N ∷ []) ≡ names_made N = omega arith in
-    let names : names_in (commits_in (log_with log c.session body)) ≡ names_in L + names_made N = ap names_in (sym commits) ∙ names_append L (N ∷ []) ∙ ap (λ n. names_in L + n) one_name in
+    let last = is_last h log c text c'.queue k is in
+    let commits : L ++ X ≡ commits_in (log_with log c.session text) = sym (entered_commits log c.session text) in
+    let names : names_in (commits_in (log_with log c.session text)) ≡ names_in L + names_in_text text = ap names_in (sym commits) ∙ names_append L X ∙ ap (λ n. names_in L + n) (names_of_text text) in
     let set : slice_set w.lists.clients i (record c { queue = c'.queue }) ≡ slice_set w.lists.clients i c' = ap (slice_set w.lists.clients i) (sym is_c) in
     let size = length-set w.lists.clients i c' in
     let bound = session_bound 1 w.lists.clients i c s.sessions at in
     let low = all_get (λ (x : Client). x.ids ≤ w.steps) w.lists.clients i c s.ids at in
     record {
       header = s.header;
-      kept = subst (λ (cs : List Client). AreReplicas h (log_with log c.session body) cs w.kept) set (all_sent h st log c q c'.queue k is few_names 1 w.lists.clients w.kept i s.sessions at s.kept);
+      kept = subst (λ (cs : List Client). AreReplicas h (log_with log c.session text) cs w.kept) set (all_sent h st log c text c'.queue k is few_names 1 w.lists.clients w.kept i s.sessions at s.kept);
       sessions = sessions_set 1 w.lists.clients i c c' s.sessions at (ap (λ (x : Client). x.session) is_c);
       clients = omega (arith, s.clients, size);
       ids = all_set (λ (x : Client). x.ids ≤ w.steps + 1) w.lists.clients i c' (all_as (λ (x : Client). x.ids ≤ w.steps) (λ (x : Client). x.ids ≤ w.steps + 1) w.lists.clients (λ x p. omega (arith, p)) s.ids)
           (omega (arith, low, ap (λ (x : Client). x.ids) is_c));
-      log = subst (λ n. AllByRecursion (IsEntryOf n) (log_with log c.session body)) (sym size)
-          (AllByRecursion-append (IsEntryOf (length w.lists.clients)) log (last_entry log c.session body ∷ []) s.log ((omega (arith, bound), last.session), tt));
+      log = subst (λ n. AllByRecursion (IsEntryOf n) (log_with log c.session text)) (sym size)
+          (AllByRecursion-append (IsEntryOf (length w.lists.clients)) log (last_entry log c.session text ∷ []) s.log ((omega (arith, bound), last.session), tt));
       log_fit = subst (FitInTurn (opening_document h)) commits last.fit;
       log_new = subst (HaveNewRevisions (opening ∷ [])) commits last.new;
-      schema = sent_keeps h st log w.lists.clients i c c' q (clients_of h log w.lists.clients w.kept s.kept) at is is_c last.fit s.schema;
-      log_document = subst (λ l. Run (opening_document h) l (document_of log_document)) commits (run_more N (document_of log_document) v s.log_document verdict after);
-      entries = omega (arith, few, length-append log (last_entry log c.session body ∷ []));
+      schema = sent_keeps h st log w.lists.clients i c c' text (clients_of h log w.lists.clients w.kept s.kept) at is is_c last.fit s.schema;
+      log_document = subst (λ l. Run (opening_document h) l (document_of log_document)) commits (run_entered (opening_document h) (document_of w.log_document) (document_of log_document) L (commit_in text) s.log_document entered);
+      entries = omega (arith, few, length-append log (last_entry log c.session text ∷ []));
       names = omega (arith, s.names, names);
       few_names = omega (arith, few_names, names);
       known = knows;
@@ -297,13 +309,13 @@ next_unsent w i c q at_c at_q none =
     rw empty refl
 
 -- a text that is sent passes no limit
-pub text_within : (w : World) (i : ℕ) (c d : Client) (q : Queued) (rest : List Queued) (made : ℕ) (o : Option ℕ) (l : Option Limit) → slice_get w.lists.clients i ≡ Some c → slice_get w.lists.clients i ≡ Some d → d.queue ≡ q ∷ rest
-    → o ≡ option_map (λ (q : Queued). min (names_made q.intent) (2 ^ 64 - 1)) (slice_get c.queue 0) → o ≡ Some made → l ≡ log_limit_passed w.lists.log made → l ≡ None
-    → (length w.lists.log < 65535) × (names_in (commits_in w.lists.log) + names_made q.intent ≤ 131072)
-text_within w i c d q rest made o l at_c at_d is waits some limit none =
+pub text_within : (w : World) (i : ℕ) (c d : Client) (text : Body) (rest : List Body) (made : ℕ) (o : Option ℕ) (l : Option Limit) → slice_get w.lists.clients i ≡ Some c → slice_get w.lists.clients i ≡ Some d → d.queue ≡ text ∷ rest
+    → o ≡ option_map (λ (text : Body). min (names_in_text text) (2 ^ 64 - 1)) (slice_get c.queue 0) → o ≡ Some made → l ≡ log_limit_passed w.lists.log made → l ≡ None
+    → (length w.lists.log < 65535) × (names_in (commits_in w.lists.log) + names_in_text text ≤ 131072)
+text_within w i c d text rest made o l at_c at_d is waits some limit none =
     let same : c ≡ d = cc in
-    let queue : c.queue ≡ q ∷ rest = ap (λ (x : Client). x.queue) same ∙ is in
-    let first : option_map (λ (q : Queued). min (names_made q.intent) (2 ^ 64 - 1)) (slice_get c.queue 0) ≡ Some (min (names_made q.intent) (2 ^ 64 - 1)) = rw queue refl in
-    let both : Some made ≡ Some (min (names_made q.intent) (2 ^ 64 - 1)) = sym some ∙ waits ∙ first in
-    let is_made : made ≡ min (names_made q.intent) (2 ^ 64 - 1) = cc in
-    within_log w.lists.log (names_made q.intent) (sym (limit_stopped w.lists.log (names_made q.intent)) ∙ ap (log_limit_passed w.lists.log) (sym is_made) ∙ sym limit ∙ none)
+    let queue : c.queue ≡ text ∷ rest = ap (λ (x : Client). x.queue) same ∙ is in
+    let first : option_map (λ (text : Body). min (names_in_text text) (2 ^ 64 - 1)) (slice_get c.queue 0) ≡ Some (min (names_in_text text) (2 ^ 64 - 1)) = rw queue refl in
+    let both : Some made ≡ Some (min (names_in_text text) (2 ^ 64 - 1)) = sym some ∙ waits ∙ first in
+    let is_made : made ≡ min (names_in_text text) (2 ^ 64 - 1) = cc in
+    within_log w.lists.log (names_in_text text) (sym (limit_stopped w.lists.log (names_in_text text)) ∙ ap (log_limit_passed w.lists.log) (sym is_made) ∙ sym limit ∙ none)

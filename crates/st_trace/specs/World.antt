@@ -35,14 +35,14 @@ use Rattle.st_script.specs.declared.refusal.Refusal.TheVariants as no
 use Rattle.st_lists.specs.Clients.{HasReceived, HasShown, client_named, new_client, next_rev, place_of, with_commit, with_received}
 use Rattle.st_lists.specs.Limits.{limit_passed, log_limit_passed}
 use Rattle.st_lists.specs.Log.{commit_of, log_with, minimum}
-use Rattle.st_lists.specs.Names.{names_made}
+use Rattle.st_lists.specs.Names.{names_in_text}
 use Rattle.st_trace.specs.declared.client.EditWord.{EditWord}
 use Rattle.st_trace.specs.declared.client.EditWord.TheVariants as word
-use Rattle.st_lists.specs.declared.lists.Body.TheVariants.{Join as Joined, Commit}
+use Rattle.st_lists.specs.declared.lists.Body.TheVariants.{Join as Joined}
 use Rattle.st_lists.specs.declared.lists.Client.{Client}
 use Rattle.st_lists.specs.declared.lists.Entry.{Entry}
 use Rattle.st_lists.specs.declared.lists.WorldState.{WorldState}
-use Rattle.st_lists.specs.declared.lists.Queued.{Queued}
+use Rattle.st_lists.specs.declared.lists.Body.{Body}
 
 -- ## Documents
 
@@ -121,17 +121,17 @@ join w name =
     )
 
 -- a text enters the log, if it passes no limit
-abbrev pub entering : WorldState → ℕ → Client → Queued → List Queued → Option Limit → WorldState × Answer
-entering w i c q rest None =
-    let log = log_with w.log c.session (Commit q.reference q.intent) in
+abbrev pub entering : WorldState → ℕ → Client → Body → List Body → Option Limit → WorldState × Answer
+entering w i c text rest None =
+    let log = log_with w.log c.session text in
     let clients = slice_set w.clients i (record c { queue = rest }) in
     (record w { log = log; clients = clients }, answer.Sequence (minimum log clients) (length log))
-entering w i c q rest (Some l) = (w, limit_refusal l)
+entering w i c text rest (Some l) = (w, limit_refusal l)
 
 -- the oldest text of a client's queue enters the log
-abbrev pub sequence : WorldState → ℕ → Client → List Queued → WorldState × Answer
+abbrev pub sequence : WorldState → ℕ → Client → List Body → WorldState × Answer
 sequence w i c [] = (w, answer.No no.NothingToSend)
-sequence w i c (q ∷ rest) = entering w i c q rest (log_limit_passed w.log (names_made q.intent))
+sequence w i c (text ∷ rest) = entering w i c text rest (log_limit_passed w.log (names_in_text text))
 
 -- ## Steps
 

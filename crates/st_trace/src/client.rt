@@ -9,10 +9,11 @@ ghost use Rattle.st_edits.specs.Resolve.{IsWithin, resolve};
 ghost use Rattle.st_log_laws.specs.Turns.{FitInTurn};
 ghost use Rattle.st_trace.specs.inside.Edits.{word_of, edit_of};
 ghost use Rattle.st_trace.specs.inside.Replicas.{IsCommitted, IsPending, IsEditedReplica, HasCarried, HasReceivedOne, CanReceive, HasReceivedNext, HasMoved};
-ghost use Rattle.st_lists.specs.Names.{names_made, names_in};
+ghost use Rattle.st_lists.specs.Names.{names_in, names_in_text, names_made};
 ghost use Rattle.st_lists.specs.Clients.{next_rev, with_commit, is_own, with_received, new_client};
 ghost use Rattle.st_trace.specs.World.{next_names, refusal_of, with_pending, after_edit, answer_of, IsDeliveredTo};
 ghost use Rattle.st_lists.specs.Limits.{limit_passed};
+ghost use Rattle.st_lists.specs.declared.lists.Body.TheVariants.{Commit};
 ghost use Rattle.st_trace.specs.declared.replica.Replica.{Replica as KeptOf};
 
 use crate::edits::resolve_step;
@@ -20,7 +21,7 @@ use crate::replica::Replica;
 use st_doc::Doc;
 use st_edits::NameCounters;
 use st_ids::{Copied, Limit, LimitOf, List, Or, Rev, Text};
-use st_lists::{Body, Client, Entry, Queued, names_made};
+use st_lists::{Body, Client, Entry, names_in_text, names_made};
 use st_marks::{Intent, Verdict};
 use st_schema::Schema;
 use st_script::{Answer, Refusal, TraceStep};
@@ -118,11 +119,11 @@ fn push_pending(
     Ok(())
 }
 
-// Puts a commit behind those that wait.
-fn push_waiting(queue: &mut List<Queued>, reference: u32, intent: Intent) -> Result<(), AllocError>
-    ensures { OnOk result (queue.new ≡ queue.old ++ record { reference = reference; intent = intent } ∷ []) }
+// Puts a commit behind the texts that wait.
+fn push_waiting(queue: &mut List<Body>, reference: u32, intent: Intent) -> Result<(), AllocError>
+    ensures { OnOk result (queue.new ≡ queue.old ++ Commit reference intent ∷ []) }
 {
-    queue.push(Queued { reference, intent })?;
+    queue.push(Body::Commit { reference, intent })?;
     Ok(())
 }
 
@@ -336,7 +337,7 @@ fn receive_entry(
     ensures { IfOk result (λ v. HasReceivedNext client.now kept.old entry.now v kept.new) }
 {
     match &entry.body {
-        Body::Join => Ok(Verdict::Sound),
+        Body::Join | Body::Leave | Body::Ack { .. } => Ok(Verdict::Sound),
         Body::Commit { intent, .. } => {
             let is_own = is_from(entry, client);
             let verdict = receive(alloc, client, kept, is_own, intent)?;
@@ -361,7 +362,7 @@ fn is_own(entry: &Entry, client: &Client) -> bool
     ensures { result ≡ is_own entry.now client.now }
 {
     match &entry.body {
-        Body::Join => false,
+        Body::Join | Body::Leave | Body::Ack { .. } => false,
         Body::Commit { .. } => entry.session == client.session,
     }
 }
@@ -400,14 +401,14 @@ pub fn deliver(
 /// How many names the oldest text of a client's queue makes, or the greatest number if there are more; nothing where no
 /// text waits.
 pub fn names_waiting(client: &Client) -> Option<u64>
-    ensures { result ≡ option_map (λ q. min (names_made q.intent) (2 ^ 64 - 1)) (slice_get client.now.queue 0) }
+    ensures { result ≡ option_map (λ q. min (names_in_text q) (2 ^ 64 - 1)) (slice_get client.now.queue 0) }
 {
     let text = client.queue.get(0)?;
-    Some(names_made(&text.intent))
+    Some(names_in_text(text))
 }
 
 /// Takes the oldest text out of a client's queue.
-pub fn take_text(client: &mut Client) -> Option<Queued>
+pub fn take_text(client: &mut Client) -> Option<Body>
     ensures { MatchOption result ((client.old.queue ≡ []) × (client.new ≡ client.old))
         (λ q. (client.old.queue ≡ q ∷ client.new.queue) × (client.new ≡ record client.old { queue = client.new.queue })) }
 {

@@ -1,9 +1,7 @@
 //! The world: its lists, and the documents and numbers that its answers are read off.
-ghost use Rattle.std.specs.Prelude.{◌≡◌, ◌↔◌, ◌+◌, ◌-◌, ◌^◌, ◌<◌, ◌≤◌, true, false, is_some, length, [], None, Some, slice_get, IfOk, OnOk, IsErrOf};
-ghost use Rattle.st_marks.specs.declared.verdicts.Verdict.{Verdict as Outcome};
+ghost use Rattle.std.specs.Prelude.{◌≡◌, ◌↔◌, ◌+◌, ◌-◌, ◌^◌, ◌<◌, ◌≤◌, true, false, is_some, length, [], None, Some, slice_get, IfOk, IfSome, OnOk, IsErrOf};
 ghost use Rattle.st_marks.specs.Document.{IsSoundInForm};
 ghost use Rattle.st_marks.specs.Intent.{Fits};
-ghost use Rattle.st_marks.specs.Verdict.{IsVerdict, carried};
 ghost use Rattle.st_doc.specs.Doc.{document_of};
 ghost use Rattle.st_script.specs.Header.{header_view, may_open};
 ghost use Rattle.st_script.specs.Steps.{step_view, IsWithinLimits};
@@ -12,13 +10,12 @@ ghost use Rattle.st_edits.specs.Resolve.{IsWithin, resolve};
 ghost use Rattle.st_edits.specs.ArrayTypes.{is_array_type};
 ghost use Rattle.st_lists.specs.Clients.{empty_state, place_of};
 ghost use Rattle.st_trace.specs.World.{opening_document, limit_refusal, join, sequence, next_names, IsEdited, IsDelivered, IsShown, IsStepOf, IsNext, AtRefusal, ShowsAllowed};
-ghost use Rattle.st_lists.specs.Names.{names_made};
+ghost use Rattle.st_lists.specs.Names.{names_in_text};
 ghost use Rattle.st_lists.specs.Limits.{log_limit_passed};
 ghost use Rattle.st_trace.specs.Replicas.{IsHeader, IsSound};
-ghost use Rattle.st_trace.specs.inside.Replicas.{IsSoundNext};
+ghost use Rattle.st_trace.specs.inside.Replicas.{HasEntered, IsSoundNext};
 ghost use Rattle.st_lists.specs.Known.{AreKnown};
-ghost use Rattle.st_lists.specs.Log.{log_with, minimum};
-ghost use Rattle.st_lists.specs.declared.lists.Body.TheVariants.{Commit};
+ghost use Rattle.st_lists.specs.Log.{commit_in, log_with, minimum};
 ghost use Rattle.st_trace.specs.inside.Edits.{word_of, edit_of};
 ghost use Rattle.st_lists.specs.declared.lists.Client.{Client as Present};
 
@@ -27,8 +24,7 @@ use crate::edits::word_of;
 use crate::replica::Replica;
 use st_doc::Doc;
 use st_ids::{Copied, Limit, LimitOf, List, Or, Text};
-use st_lists::{Body, Client, Queued, WorldState, append_entry, least_known, names_made};
-use st_marks::Intent;
+use st_lists::{Body, Client, WorldState, append_entry, least_known, names_in_text};
 use st_schema::{Form, Header, Schema};
 use st_script::{Answer, Refusal, TraceStep};
 use std::alloc::{AllocError, Global};
@@ -234,34 +230,46 @@ impl World {
         None
     }
 
-    // Puts a commit into the log.
-    fn sequence_commit(
+    // Carries out in the document of the whole log what a text says, if it is a commit.
+    fn carry_text(&mut self, alloc: Global, text: &Body) -> Result<(), AllocError>
+        requires sound { IsSoundInForm (document_of self.old.log_document) }
+        requires fits { IfSome (commit_in text.now) (Fits (document_of self.old.log_document)) }
+        ensures log_document { OnOk result (HasEntered (document_of self.old.log_document) (commit_in text.now) (document_of self.new.log_document)) }
+        ensures world { OnOk result (self.new ≡ record self.old { log_document = self.new.log_document }) }
+        ensures spent { self.new.spent ≡ self.old.spent }
+    {
+        if let Body::Commit { intent, .. } = text {
+            self.log_document.carry(alloc, intent)?;
+        }
+        Ok(())
+    }
+
+    // Puts a text into the log.
+    fn sequence_text(
         &mut self,
         alloc: Global,
         session: u32,
-        reference: u32,
-        intent: Intent,
+        text: Body,
     ) -> Result<Answer, AllocError>
         requires sound { IsSoundInForm (document_of self.old.log_document) }
-        requires fits { Fits (document_of self.old.log_document) intent }
+        requires fits { IfSome (commit_in text) (Fits (document_of self.old.log_document)) }
         requires entries { length self.old.lists.log < 65535 }
-        requires names { self.old.names + names_made intent ≤ 131072 }
+        requires names { self.old.names + names_in_text text ≤ 131072 }
         requires known { AreKnown self.old.lists.log self.old.known }
         ensures answer { IfOk result (λ a. a ≡ Answer.Sequence (minimum self.new.lists.log self.new.lists.clients) (length self.new.lists.log)) }
         ensures known { OnOk result (AreKnown self.new.lists.log self.new.known) }
-        ensures log_document { OnOk result ((v : Outcome) × IsVerdict (document_of self.old.log_document) intent v × (document_of self.new.log_document ≡ carried v (document_of self.old.log_document) intent)) }
+        ensures log_document { OnOk result (HasEntered (document_of self.old.log_document) (commit_in text) (document_of self.new.log_document)) }
         ensures world { OnOk result (self.new ≡ record self.old {
-          lists = record self.old.lists { log = log_with self.old.lists.log session (Commit reference intent) };
+          lists = record self.old.lists { log = log_with self.old.lists.log session text };
           log_document = self.new.log_document;
           known = self.new.known;
-          names = self.old.names + names_made intent;
+          names = self.old.names + names_in_text text;
         }) }
         ensures spent { self.new.spent ≡ self.old.spent }
     {
-        self.names += names_made(&intent);
-        self.log_document.carry(alloc, &intent)?;
-        let body = Body::Commit { reference, intent };
-        append_entry(&mut self.lists.log, &mut self.known, session, body)?;
+        self.names += names_in_text(&text);
+        self.carry_text(alloc, &text)?;
+        append_entry(&mut self.lists.log, &mut self.known, session, text)?;
         let n = self.lists.log.len() as u32;
         let min = least_known(self.lists.clients.as_slice(), &self.known, n);
         Ok(Answer::Sequence { min, n })
@@ -294,8 +302,8 @@ impl World {
         let session = client.session;
         match client::take_text(client) {
             None => Ok(Answer::No(Refusal::NothingToSend)),
-            Some(Queued { reference, intent }) => {
-                let answer = self.sequence_commit(alloc, session, reference, intent)?;
+            Some(text) => {
+                let answer = self.sequence_text(alloc, session, text)?;
                 Ok(answer)
             }
         }

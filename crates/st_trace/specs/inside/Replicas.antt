@@ -2,6 +2,7 @@
 use Rattle.std.specs.Prelude.{◌-◌, false, Result, Ok, Err, ◌≡◌, ◌==◌, ◌+◌, ◌≤◌, Bool, true, ◌∷◌, Option, Some, None, IfSome}
 use Rattle.st_marks.specs.declared.intents.Intent.{Intent}
 use Rattle.st_marks.specs.declared.verdicts.Verdict.{Verdict}
+use Rattle.st_marks.specs.Document.{Document}
 use Rattle.st_marks.specs.Intent.{Fits}
 use Rattle.st_marks.specs.Run.{Run}
 use Rattle.st_marks.specs.Verdict.{IsVerdict, carried}
@@ -75,3 +76,10 @@ HasReceivedNext c old e v new = HasReceivedOf c old (e.session == c.session) (co
 abbrev pub HasMoved : Client → Replica → Option Entry → Replica → Type 0
 HasMoved c old None new = new ≡ old
 HasMoved c old (Some e) new = (v : Verdict) × HasReceivedNext c old e v new
+
+-- ## The log
+
+-- what a text says was carried out, if it is a commit, in the document of the whole log
+abbrev pub HasEntered : Document → Option Intent → Document → Type 0
+HasEntered D None E = E ≡ D
+HasEntered D (Some N) E = (v : Verdict) × IsVerdict D N v × (E ≡ carried v D N)

@@ -5,11 +5,11 @@ use Rattle.st_trace.specs.declared.world.World.{World}
 use Rattle.st_trace.proofs.Stepping.{head_fits, head_sound, sound_sent, text_within}
 use Rattle.st_trace.proofs.world.World.sequence.Goals as goal
 
-pub sequence_commit-requires-clause-sound : goal.sequence_commit-requires-clause-sound
-sequence_commit-requires-clause-sound c = head_sound c.args.self.now c.requires.sound
+pub sequence_text-requires-clause-sound : goal.sequence_text-requires-clause-sound
+sequence_text-requires-clause-sound c = head_sound c.args.self.now c.requires.sound
 
-pub sequence_commit-requires-clause-fits : goal.sequence_commit-requires-clause-fits
-sequence_commit-requires-clause-fits c =
+pub sequence_text-requires-clause-fits : goal.sequence_text-requires-clause-fits
+sequence_text-requires-clause-fits c =
     head_fits c.args.self.now c.args.i c.in-Some-get_mut.client.now c.in-Some-take_text.field-0 c.take_text.new.client.queue c.requires.sound (sym c.in-Some-get_mut.ensures.value) c.in-Some-take_text.ensures.0
 
 pub returns-in_ok-answer-in-Some-take_text-clause-sound : goal.returns-in_ok-answer-in-Some-take_text-clause-sound
@@ -17,12 +17,12 @@ returns-in_ok-answer-in-Some-take_text-clause-sound c =
     let w = c.args.self.now in
     let client = c.in-Some-get_mut.client.now in
     let at = sym c.in-Some-get_mut.ensures.value in
-    let q = c.in-Some-take_text.field-0 in
+    let text = c.in-Some-take_text.field-0 in
     let rest = c.take_text.new.client.queue in
     let world = c.in_ok-answer-in-Some-take_text.ensures.world in
     let log_document = c.in_ok-answer-in-Some-take_text.ensures.log_document in
-    let knows = subst (λ l. AreKnown l c.sequence_commit.new.self.known) (ap (λ (x : World). x.lists.log) world) c.in_ok-answer-in-Some-take_text.ensures.known in
-    let few = text_within w c.args.i c.in-Some.client.now client q rest c.in-Some-names_waiting.made c.names_waiting.result c.limit_passed.result (sym c.in-Some.ensures) at c.in-Some-take_text.ensures.0
+    let knows = subst (λ l. AreKnown l c.sequence_text.new.self.known) (ap (λ (x : World). x.lists.log) world) c.in_ok-answer-in-Some-take_text.ensures.known in
+    let few = text_within w c.args.i c.in-Some.client.now client text rest c.in-Some-names_waiting.made c.names_waiting.result c.limit_passed.result (sym c.in-Some.ensures) at c.in-Some-take_text.ensures.0
     c.names_waiting.ensures c.in-Some-names_waiting.is c.limit_passed.ensures c.in_default-limit_passed.is in
     subst (λ (x : World). IsSoundAfter (x.steps + 1) x) (sym world)
-    (sound_sent w c.args.i client c.take_text.new.client q c.sequence_commit.new.self.log_document c.sequence_commit.new.self.known log_document.0 c.requires.sound at c.in-Some-take_text.ensures.0 c.in-Some-take_text.ensures.1 few.0 few.1 log_document.1 log_document.2 knows)
+    (sound_sent w c.args.i client c.take_text.new.client text c.sequence_text.new.self.log_document c.sequence_text.new.self.known c.requires.sound at c.in-Some-take_text.ensures.0 c.in-Some-take_text.ensures.1 few.0 few.1 log_document knows)
