@@ -10,7 +10,9 @@ ghost use Rattle.st_edits.specs.Paths.{field_at, row_length, and_then};
 ghost use Rattle.st_edits.specs.declared.names.Takes.{Takes as Taking};
 ghost use Rattle.st_edits.specs.Resolve.{named_nodes, require, allowed_nodes, intent_to_insert, intent_to_place, rule_for, nodes_taken, insert, remove, move_to, move as move_of, put, clear, need, may_move, resolve, IsWithin};
 
-use crate::intents::{intent_to_clear, empty_intent, intent_to_insert, intent_to_place, intent_to_remove};
+use crate::intents::{
+    empty_intent, intent_to_clear, intent_to_insert, intent_to_place, intent_to_remove,
+};
 use crate::moves::{cells_taken, intent_to_move, is_inside, is_there, items_from, nodes_taken};
 use crate::new_trees::names_taken;
 use crate::paths::{field_at, walk};
