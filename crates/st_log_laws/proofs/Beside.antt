@@ -92,4 +92,4 @@ all_fit_later rs D As Bs Ns s m g f h new room = then Bs Ns D h last
     last F q =
         let e = has_run As D s fit in
         all_fit_beside (revisions Bs ++ rs) e.0 F Ns (names_later D g h e.1 q) (turn_extends s fit e.1).after (turn_extends s h q).after
-            (rest Ns e.1 f) (made_in_run rs h q m) (new_after rs Bs Ns new) (room_in_run Ns s h q room)
+        (rest Ns e.1 f) (made_in_run rs h q m) (new_after rs Bs Ns new) (room_in_run Ns s h q room)
