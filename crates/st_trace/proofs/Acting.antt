@@ -21,7 +21,7 @@ use Rattle.st_script.specs.declared.answer.Answer.{Answer}
 use Rattle.st_script.specs.declared.answer.Answer.TheVariants.{Show}
 use Rattle.st_trace.specs.Replicas.{IsSound, IsSoundAfter}
 use Rattle.st_trace.specs.inside.Replicas.{CanReceive, HasMoved, IsEditedReplica, IsPending}
-use Rattle.st_trace.specs.World.{AtRefusal, IsDelivered, IsDeliveredTo, IsEdited, IsShown, answer_of, after_edit, next_names, with_pending, with_client}
+use Rattle.st_trace.specs.World.{AtRefusal, IsDelivered, IsDeliveredTo, IsEdited, IsShown, after_edit, answer_of, next_names, opening_document, with_client, with_pending}
 use Rattle.st_lists.specs.Clients.{HasReceived, HasShown, next_rev, with_received}
 use Rattle.st_lists.specs.Limits.{limit_passed}
 use Rattle.st_trace.specs.declared.client.EditWord.{EditWord}

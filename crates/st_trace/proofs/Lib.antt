@@ -1,6 +1,5 @@
 pub mod Begun
 pub mod Counting
-pub mod Logs
 pub mod Clients
 pub mod Keeping
 pub mod Meanings

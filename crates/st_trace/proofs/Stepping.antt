@@ -14,7 +14,7 @@ use Rattle.st_ids.specs.declared.names.Limit.{Limit}
 use Rattle.st_ids.specs.declared.names.LimitOf.TheVariants.{Log, Names}
 use Rattle.st_marks.specs.declared.intents.Intent.{Intent}
 use Rattle.st_marks.specs.declared.verdicts.Verdict.{Verdict}
-use Rattle.st_marks.specs.Document.{IsSoundInForm}
+use Rattle.st_marks.specs.Document.{Document, IsSoundInForm}
 use Rattle.st_ids.specs.Root.{opening}
 use Rattle.st_marks.specs.Intent.{Fits}
 use Rattle.st_marks.specs.Run.{Run}

@@ -1,5 +1,3 @@
 pub mod Replicas
-pub mod Known
-pub mod Log
 pub mod World
 pub mod inside

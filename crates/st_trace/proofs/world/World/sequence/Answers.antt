@@ -10,14 +10,14 @@ sequence_text-requires-clause-sound c = head_sound c.args.self.now c.requires.so
 
 pub sequence_text-requires-clause-fits : goal.sequence_text-requires-clause-fits
 sequence_text-requires-clause-fits c =
-    head_fits c.args.self.now c.args.i c.in-Some-get_mut.client.now c.in-Some-take_text.field-0 c.take_text.new.client.queue c.requires.sound (sym c.in-Some-get_mut.ensures.value) c.in-Some-take_text.ensures.0
+    head_fits c.args.self.now c.args.i c.in-Some-get_mut.client.now c.in-Some-take_text.text c.take_text.new.client.queue c.requires.sound (sym c.in-Some-get_mut.ensures.value) c.in-Some-take_text.ensures.0
 
 pub returns-in_ok-answer-in-Some-take_text-clause-sound : goal.returns-in_ok-answer-in-Some-take_text-clause-sound
 returns-in_ok-answer-in-Some-take_text-clause-sound c =
     let w = c.args.self.now in
     let client = c.in-Some-get_mut.client.now in
     let at = sym c.in-Some-get_mut.ensures.value in
-    let text = c.in-Some-take_text.field-0 in
+    let text = c.in-Some-take_text.text in
     let rest = c.take_text.new.client.queue in
     let world = c.in_ok-answer-in-Some-take_text.ensures.world in
     let log_document = c.in_ok-answer-in-Some-take_text.ensures.log_document in
