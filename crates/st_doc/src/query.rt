@@ -2,13 +2,14 @@
 ghost use Rattle.std.specs.Prelude.{◌≡◌, option_map, slice_get, unwrap_or};
 ghost use Rattle.std.specs.BTreeMap.{get};
 ghost use Rattle.std.specs.Option.{option_copied};
+ghost use Rattle.st_marks.specs.declared.places.Spot.{Spot as Standing};
 ghost use Rattle.st_marks.specs.Document.{last_of, revs};
 
 use crate::doc::Doc;
 use crate::live::is_full;
 use crate::rows::cells_of;
 use st_ids::{FieldId, NodeId, Rev, Text};
-use st_marks::{SchemaEntry, Slot};
+use st_marks::{SchemaEntry, Slot, Spot};
 
 // The revision of the last entry.
 #[tactic(auto, using(crate::proofs::Queries::last_entry))]
@@ -27,6 +28,13 @@ impl Doc {
         ensures { option_copied result ≡ option_map (λ t. t.ty) ((document_of self.now).nodes node) }
     {
         Some(&self.nodes.get(&node)?.ty)
+    }
+
+    /// Where a node stands; `None` says nowhere too.
+    pub fn place(&self, node: NodeId) -> Option<&Spot>
+        ensures { unwrap_or (option_copied result) Standing.Nowhere ≡ (document_of self.now).place node }
+    {
+        self.place.get(&node)
     }
 
     /// The node that stands in a register, if there is one.
