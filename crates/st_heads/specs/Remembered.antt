@@ -25,10 +25,16 @@ is_void (Verdict.Schema u) = true
 abbrev pub IsWayBack : Document → Intent → Way → Type 0
 IsWayBack D N w = (rev under : Rev) → IsBack D (full D N) rev under (undoing w rev under)
 
--- how a commit with that verdict came out; of one that is void, and of a change of schema, no way is promised
+-- the way that changes nothing
+abbrev pub no_way : Way
+no_way = record { clear = []; put = [] }
+
+-- how a commit with that verdict came out: the way back over it where it is sound and no change of schema, and none where
+-- it is void
 pub record IsCarried (D : Document) (N : Intent) (v : Verdict) (k : Carried) : Type 0 where
   pub void : k.void ≡ is_void v
   pub back : v ≡ Verdict.Sound → N.schema ≡ None → IsWayBack D N k.back
+  pub none : k.void ≡ true → k.back ≡ no_way
 
 -- the remembered run: a document becomes another by commits one after the other, each carried out by its verdict where it
 -- comes, and of each it is remembered how it came out
