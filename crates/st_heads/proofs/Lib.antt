@@ -1,2 +1,3 @@
 mod Leading
 mod Runs
+mod Fitting

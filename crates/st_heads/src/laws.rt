@@ -8,10 +8,11 @@ ghost use Rattle.st_ids.specs.declared.names.Rev.{Rev};
 ghost use Rattle.st_marks.specs.declared.intents.Intent.{Intent};
 ghost use Rattle.st_marks.specs.declared.intents.Put.{Put};
 ghost use Rattle.st_marks.specs.Back.{IsBack, place_back, to_of};
-ghost use Rattle.st_marks.specs.Document.{Document, last_of, revs};
+ghost use Rattle.st_marks.specs.Document.{Document, IsSoundInForm, last_of, revs};
 ghost use Rattle.st_marks.specs.Extends.{IsExtendedBy};
-ghost use Rattle.st_marks.specs.Intent.{clears, put_of};
+ghost use Rattle.st_marks.specs.Intent.{Fits, clears, put_of};
 ghost use Rattle.st_marks.specs.Run.{Run};
+ghost use Rattle.st_log_laws.specs.Turns.{FitInTurn};
 ghost use Rattle.st_heads.specs.declared.ways.Carried.{Carried};
 ghost use Rattle.st_heads.specs.declared.ways.Way.{Way};
 ghost use Rattle.st_heads.specs.Remembered.{AreCarried, undoing};
@@ -42,4 +43,10 @@ pub fn remembered_ways_undo()
     ensures { (O E : Document) (front rest : List Intent) (ks ls : List Carried) (N : Intent) (k : Carried) (fresh : Rev)
         → AreCarried O (front ++ N ∷ rest) (ks ++ k ∷ ls) E → length ks ≡ length front → k.void ≡ false → N.schema ≡ None
         → IsUndoing O (front ++ N ∷ rest) N.rev fresh (undoing k.back fresh (unwrap_or (last_of (revs E.schemas)) opening)) }
+{}
+
+/// What undoes a commit of a list that fits in turn fits after the whole list.
+pub fn undoings_fit()
+    ensures { (O E : Document) (Ns : List Intent) (rev fresh : Rev) (B : Intent) → IsSoundInForm O → FitInTurn O Ns → Run O Ns E
+        → IsUndoing O Ns rev fresh B → Fits E B }
 {}

@@ -4,5 +4,5 @@
 mod laws;
 mod ways;
 
-pub use laws::{remembered_runs, remembered_ways_undo, ways_lead_back};
+pub use laws::{remembered_runs, remembered_ways_undo, undoings_fit, ways_lead_back};
 pub use ways::{Carried, Way};
