@@ -1,3 +1,5 @@
 mod Leading
 mod Runs
 mod Fitting
+mod GoingBack
+mod Listed
