@@ -3,3 +3,4 @@ mod Runs
 mod Fitting
 mod GoingBack
 mod Listed
+mod Extending

@@ -1,5 +1,5 @@
 -- Remembered runs.
-use Rattle.std.proofs.Common.{◌≡◌, false, List, [], ◌∷◌, ◌++◌, length, None, suc, arith, refl, sym, ap, ◌∙◌, subst, unwrap_or}
+use Rattle.std.proofs.Common.{◌≡◌, false, List, [], ◌∷◌, ◌++◌, length, None, suc, arith, refl, sym, ap, ◌∙◌, subst, unwrap_or, cond}
 use Rattle.st_ids.specs.Root.{opening}
 use Rattle.st_ids.specs.declared.names.Rev.{Rev}
 use Rattle.st_marks.specs.declared.intents.Intent.{Intent}
@@ -8,7 +8,8 @@ use Rattle.st_marks.specs.Document.{Document, last_of, revs}
 use Rattle.st_marks.specs.Run.{Run, done, next}
 use Rattle.st_marks.specs.Verdict.{IsVerdict, carried}
 use Rattle.st_heads.specs.declared.ways.Carried.{Carried}
-use Rattle.st_heads.specs.Remembered.{AreCarried, none, more, IsCarried, is_void, undoing}
+use Rattle.st_heads.specs.declared.ways.Way.{Way}
+use Rattle.st_heads.specs.Remembered.{AreCarried, none, more, IsCarried, IsWayBack, is_void, no_way, undoing}
 use Rattle.st_heads.specs.Undoing.{IsUndoing}
 
 pub run_of : {D E : Document} {Ns : List Intent} {ks : List Carried} → AreCarried D Ns ks E → Run D Ns E
@@ -56,3 +57,14 @@ way_undoes O E front rest ks ls N k fresh r e out plain =
       now = run_of r;
       back = o.2.back sound plain fresh (unwrap_or (last_of (revs E.schemas)) opening);
     }
+
+-- a commit that came out by its verdict is a remembered run of one
+pub one_carried : (D E : Document) (N : Intent) (v : Verdict) (w : Way) (k : Carried) → IsVerdict D N v → E ≡ carried v D N → IsWayBack D N w → k.void ≡ is_void v → k.back ≡ cond k.void no_way w → AreCarried D (N ∷ []) (k ∷ []) E
+one_carried D E N v w k a after back void kept =
+    more v a (
+    record {
+      void = void;
+      back = λ sound _. subst (IsWayBack D N) (sym (kept ∙ ap (λ b. cond b no_way w) (void ∙ ap is_void sound))) back;
+      none = λ t. kept ∙ ap (λ b. cond b no_way w) t;
+    }
+    ) (subst (λ F. AreCarried (carried v D N) [] [] F) (sym after) none)

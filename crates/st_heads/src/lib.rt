@@ -3,9 +3,11 @@
 #![tactic(auto)]
 
 mod back;
+mod heads;
 mod laws;
 mod ways;
 
 pub use back::way_back;
+pub use heads::Head;
 pub use laws::{remembered_runs, remembered_ways_undo, undoings_fit, ways_lead_back};
 pub use ways::{Carried, Way};
