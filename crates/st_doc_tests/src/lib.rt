@@ -11,3 +11,5 @@ mod edits;
 mod given;
 #[cfg(test)]
 mod intents;
+#[cfg(test)]
+mod undoing;

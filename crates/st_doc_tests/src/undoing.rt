@@ -1,0 +1,189 @@
+//! What a commit did is undone by the way back that is remembered of it, also after another commit.
+ghost use Rattle.std.specs.Prelude.{IfOk, OnOk};
+ghost use Rattle.st_marks.specs.Document.{IsSoundInForm};
+ghost use Rattle.st_doc.specs.Doc.{document_of};
+
+use crate::given::{Case, commit, opened, schema, shows};
+use st_doc::Doc;
+use st_heads::{Head, Way};
+use st_ids::{Copied, List, OPENING, Rev};
+use st_marks::Intent;
+use st_schema::Schema;
+use std::alloc::{AllocError, Global};
+use std::test::Fail;
+
+// What one author does to a tree and then another, and the tree after both, and after the first commit is undone.
+#[derive(Clone, Copy)]
+struct Row {
+    tree: &'static str,
+    first: Case,
+    second: Case,
+    both: &'static str,
+    undone: &'static str,
+}
+
+// The intent that goes a way.
+fn going(alloc: Global, way: &Way) -> Result<Intent, AllocError> {
+    let clear = way.clear.copy(alloc)?;
+    let put = way.put.copy(alloc)?;
+    Ok(Intent {
+        rev: Rev { session: 9, num: 1 },
+        under: OPENING,
+        new: List::new(alloc),
+        groups: List::new(alloc),
+        clear,
+        put,
+        need: List::new(alloc),
+        schema: None,
+    })
+}
+
+// The intent that goes the first way that is remembered.
+fn first_way(alloc: Global, head: &Head) -> Result<Intent, Fail> {
+    match head.own.get(0) {
+        Some(carried) if !carried.void => Ok(going(alloc, &carried.back)?),
+        _ => Err(Fail::from("no way")),
+    }
+}
+
+// The head of one commit over a document.
+fn head_of(alloc: Global, doc: &Doc, intent: Intent) -> Result<Head, Fail>
+    requires { IsSoundInForm (document_of doc.now) }
+    ensures { IfOk result (λ h. IsSoundInForm (document_of h.doc)) }
+{
+    if intent.schema.is_some() || !doc.fits(&intent) || !doc.has_room(&intent) {
+        return Err(Fail::from("does not fit"));
+    }
+    let intents = [intent];
+    Ok(Head::over(alloc, doc, &intents)?)
+}
+
+// Carries a commit out that fits.
+fn carry_at(alloc: Global, head: &mut Head, intent: &Intent) -> Result<(), Fail>
+    requires { IsSoundInForm (document_of head.old.doc) }
+    ensures { OnOk result (IsSoundInForm (document_of head.new.doc)) }
+{
+    if !head.doc.fits(intent) || !head.doc.has_room(intent) {
+        return Err(Fail::from("does not fit"));
+    }
+    head.carry(alloc, intent)?;
+    Ok(())
+}
+
+// Whether the first commit is undone.
+fn undoes(alloc: Global, head: &mut Head, tree: &str) -> Result<bool, Fail>
+    requires { IsSoundInForm (document_of head.old.doc) }
+{
+    let intent = first_way(alloc, head)?;
+    carry_at(alloc, head, &intent)?;
+    Ok(shows(alloc, &head.doc, tree)?)
+}
+
+// Whether the second commit leads on, and the first is then undone.
+fn leads(alloc: Global, head: &mut Head, second: &Intent, row: &Row) -> Result<bool, Fail>
+    requires { IsSoundInForm (document_of head.old.doc) }
+{
+    carry_at(alloc, head, second)?;
+    let both = shows(alloc, &head.doc, row.both)?;
+    let undone = undoes(alloc, head, row.undone)?;
+    Ok(both && undone)
+}
+
+fn pair_leads(
+    alloc: Global,
+    doc: &Doc,
+    first: Intent,
+    second: &Intent,
+    row: &Row,
+) -> Result<bool, Fail>
+    requires { IsSoundInForm (document_of doc.now) }
+{
+    let mut head = head_of(alloc, doc, first)?;
+    leads(alloc, &mut head, second, row)
+}
+
+fn row_leads(alloc: Global, schema: &Schema, doc: &Doc, row: &Row) -> Result<bool, Fail>
+    requires { IsSoundInForm (document_of doc.now) }
+{
+    let first = commit(alloc, schema, doc, 1, row.first)?;
+    let second = commit(alloc, schema, doc, 2, row.second)?;
+    pair_leads(alloc, doc, first, &second, row)
+}
+
+fn is_so(alloc: Global, schema: &Schema, row: &Row) -> Result<bool, Fail> {
+    let doc = opened(alloc, schema, row.tree)?;
+    row_leads(alloc, schema, &doc, row)
+}
+
+const ROWS: [Row; 6] = [
+    // What was inserted goes, and what another inserted stays.
+    Row {
+        tree: r#"{"list":["x"]}"#,
+        first: Case::Insert(&[], 1, &[r#"{"list":["a"]}"#, r#""b""#]),
+        second: Case::Insert(&[], 0, &[r#""c""#]),
+        both: r#"{"list":["c","x",{"list":["a"]},"b"]}"#,
+        undone: r#"{"list":["c","x"]}"#,
+    },
+    // What was removed comes back to its place.
+    Row {
+        tree: r#"{"list":["w","x","y"]}"#,
+        first: Case::Remove(&[], 0, 2),
+        second: Case::Insert(&[], 1, &[r#""b""#]),
+        both: r#"{"list":["b","y"]}"#,
+        undone: r#"{"list":["w","b","x","y"]}"#,
+    },
+    // What was moved goes back.
+    Row {
+        tree: r#"{"list":[{"list":["n"]},{"list":["m"]}]}"#,
+        first: Case::Move(&[("", 0)], 0, 1, &[("", 1)], "", 1),
+        second: Case::Insert(&[("", 1)], 0, &[r#""b""#]),
+        both: r#"{"list":[{"list":[]},{"list":["b","m","n"]}]}"#,
+        undone: r#"{"list":[{"list":["n"]},{"list":["b","m"]}]}"#,
+    },
+    // The occupant that another took the place of comes back.
+    Row {
+        tree: r#"{"list":[{"card":{"note":"n","title":"p"}}]}"#,
+        first: Case::Put(&[("", 0)], "title", r#""a""#),
+        second: Case::Clear(&[("", 0)], "note"),
+        both: r#"{"list":[{"card":{"title":"a"}}]}"#,
+        undone: r#"{"list":[{"card":{"title":"p"}}]}"#,
+    },
+    // A cleared field has its occupant again, with what another put into it.
+    Row {
+        tree: r#"{"list":[{"card":{"note":{"list":[]},"title":"p"}}]}"#,
+        first: Case::Clear(&[("", 0)], "note"),
+        second: Case::Insert(&[("", 0), ("note", 0)], 0, &[r#""b""#]),
+        both: r#"{"list":[{"card":{"title":"p"}}]}"#,
+        undone: r#"{"list":[{"card":{"note":{"list":["b"]},"title":"p"}}]}"#,
+    },
+    // An item that was moved into a field goes back into its row, and who was in the field comes back.
+    Row {
+        tree: r#"{"list":[{"card":{"note":"n","title":"p"}},"x"]}"#,
+        first: Case::Move(&[], 1, 1, &[("", 0)], "note", 0),
+        second: Case::Insert(&[], 2, &[r#""b""#]),
+        both: r#"{"list":[{"card":{"note":"x","title":"p"}},"b"]}"#,
+        undone: r#"{"list":[{"card":{"note":"n","title":"p"}},"x","b"]}"#,
+    },
+];
+
+// The first row that isn't so.
+fn first_wrong(alloc: Global, schema: &Schema, rows: &[Row]) -> Result<Option<&'static str>, Fail> {
+    for row in rows {
+        if !is_so(alloc, schema, row)? {
+            return Ok(Some(row.both));
+        }
+    }
+    Ok(None)
+}
+
+fn wrong_row(alloc: Global) -> Result<Option<&'static str>, Fail> {
+    let schema = schema(alloc)?;
+    first_wrong(alloc, &schema, &ROWS)
+}
+
+#[test]
+fn undone(rt: HostRuntime) -> Result<(), Fail> {
+    let wrong = wrong_row(rt.alloc())?;
+    assert!(rt; wrong.is_none(), "{wrong:?}");
+    Ok(())
+}

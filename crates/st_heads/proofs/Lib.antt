@@ -1,0 +1,6 @@
+mod Leading
+mod Runs
+mod Fitting
+mod GoingBack
+mod Listed
+mod Extending

@@ -1,0 +1,16 @@
+use Rattle.std.proofs.Common.{sym, false, ◌&&◌}
+use Rattle.std.specs.BTreeSet.{contains}
+use Rattle.std.specs.List.{list_any}
+use Rattle.st_ids.specs.Order.{cell_cmp, same_cell}
+use Rattle.st_marks.specs.declared.intents.Group.{Group}
+use Rattle.st_marks.specs.declared.intents.Owned.{Owned}
+use Rattle.st_marks.specs.Back.{is_in}
+use Rattle.st_doc.specs.Doc.{document_of}
+use Rattle.st_heads.proofs.Listed.{found_more}
+use Rattle.st_heads.proofs.back.cells_in_old_rows.Goals as goal
+
+pub loop-group-preserved : goal.loop-group-preserved
+loop-group-preserved c = λ d.
+    let g = c.group-item.result in
+    found_more (λ (g : Group). is_in (document_of c.args.doc.now) g.node && list_any (λ (o : Owned). same_cell o.cell d) g.cells) false (contains cell_cmp c.loop-group.names d) (contains cell_cmp c.add_group.new.names d)
+    c.as_slice-group-items.result.now c.loop-group.group-index g g c.loop-group-test.true (sym c.group-item.is) (c.loop-group.invariant d) (c.in_ok-add_group.ensures d)

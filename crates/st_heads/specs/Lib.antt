@@ -1,0 +1,4 @@
+pub mod Heads
+pub mod Remembered
+pub mod Undoing
+pub mod inside

@@ -1,0 +1,13 @@
+//! What is remembered of commits that were carried out, and the way back over one of them: made of the commit and the
+//! document before it, so that an undo needs no document of long ago.
+#![tactic(auto)]
+
+mod back;
+mod heads;
+mod laws;
+mod ways;
+
+pub use back::way_back;
+pub use heads::Head;
+pub use laws::{remembered_runs, remembered_ways_undo, undoings_fit, ways_lead_back};
+pub use ways::{Carried, Way};
