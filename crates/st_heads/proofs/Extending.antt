@@ -28,7 +28,7 @@ carried_on a b c Ns Ms h k = record {
 module _ (Ns : List Intent) (i : ℕ) (N : Intent) (inside : i < length Ns) (at : get_or Ns i N ≡ N) where
   -- what is left begins with the next
   pub next_fits : (h : Head) → FitInTurn (document_of h.doc) (drop i Ns) → Fits (document_of h.doc) N × HasShortRows (full (document_of h.doc) N)
-  next_fits h f = let g = subst (FitInTurn (document_of h.doc)) (drop_one Ns i N N inside at) f in (g.1, g.2)
+  next_fits h f = let g = subst (FitInTurn (document_of h.doc)) (drop_one Ns i N N inside at) f in (g.0, g.1)
 
   pub rest_fits : (h k : Head) → FitInTurn (document_of h.doc) (drop i Ns) → HasCarried h (N ∷ []) k → FitInTurn (document_of k.doc) (drop (i + 1) Ns)
   rest_fits h k f c = rest (drop (i + 1) Ns) (run_of c.run) (subst (FitInTurn (document_of h.doc)) (drop_one Ns i N N inside at) f)
