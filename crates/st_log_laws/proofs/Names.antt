@@ -253,24 +253,38 @@ module _ (D E : Document) (N : Intent) (h : HasNames D E) (s : IsSoundInForm D) 
   if_some P Q k None p = tt
   if_some P Q k (Some a) p = k a p
 
+  -- what an intent asks of one name
+  abbrev AsksGroup : Document → Group → Type 0
+  AsksGroup F g = IsKnown F N g.node × IfSome g.after (λ c. F.row_of c ≡ Some g.node)
+
+  abbrev AsksPut : Document → Put → Type 0
+  AsksPut F p = IsKnown F N p.node × IfSome (cell_of p.to) (Owns F N p.node) × IfSome (register_of p.to) (λ f. IsKnown F N f.node)
+
+  group_there : (g : Group) → AsksGroup D g → AsksGroup E g
+  group_there g k = (known_there g.node k.0, if_some (λ c. D.row_of c ≡ Some g.node) (λ c. E.row_of c ≡ Some g.node) (λ c e. row_there c g.node e) g.after k.1)
+
+  put_there : (p : Put) → AsksPut D p → AsksPut E p
+  put_there p k = (
+    known_there p.node k.0,
+    if_some (Owns D N p.node) (Owns E N p.node) (λ c e. owns_there p.node c e) (cell_of p.to) k.1,
+    if_some (λ (f : FieldId). IsKnown D N f.node) (λ (f : FieldId). IsKnown E N f.node) (λ f e. known_there f.node e) (register_of p.to) k.2,
+  )
+
+  -- what holds of each, and so in the other document
+  each_there : {A : Type 0} (P Q : A → Type 0) (xs : List A) → ((x : A) → P x → Q x) → AllByRecursion P xs → AllByRecursion Q xs
+  each_there P Q xs k h = has-all Q xs (λ x i. k x (all-has P xs x h i))
+
   pub fits_there : ((n : NodeId) → IsTrue (is_new N n) → E.nodes n ≡ None) → ((c : CellId) → IsSome (new_row_of N c) → E.row_of c ≡ None) → IfSome N.schema (λ _. AllByRecursion (λ (e : SchemaEntry). e.rev ≢ N.rev) E.schemas) → Fits E N
   fits_there nodes cells entries = record {
     itself = f.itself;
     fresh_nodes = nodes;
     fresh_cells = cells;
     fresh_schema = entries;
-    groups_known = has-all (λ (g : Group). IsKnown E N g.node × IfSome g.after (λ c. E.row_of c ≡ Some g.node)) N.groups (λ g i.
-        let k = all-has (λ (g : Group). IsKnown D N g.node × IfSome g.after (λ c. D.row_of c ≡ Some g.node)) N.groups g f.groups_known i in
-        (known_there g.node k.0, if_some (λ c. D.row_of c ≡ Some g.node) (λ c. E.row_of c ≡ Some g.node) (λ c e. row_there c g.node e) g.after k.1));
-    owners_known = has-all (λ (o : Owned). IsKnown E N o.node) (group_cells N) (λ o i. known_there o.node (all-has (λ (o : Owned). IsKnown D N o.node) (group_cells N) o f.owners_known i));
-    puts_known = has-all (λ (p : Put). IsKnown E N p.node × IfSome (cell_of p.to) (Owns E N p.node) × IfSome (register_of p.to) (λ f. IsKnown E N f.node)) N.put (λ p i.
-        let k = all-has (λ (p : Put). IsKnown D N p.node × IfSome (cell_of p.to) (Owns D N p.node) × IfSome (register_of p.to) (λ f. IsKnown D N f.node)) N.put p f.puts_known i in (
-          known_there p.node k.0,
-          if_some (Owns D N p.node) (Owns E N p.node) (λ c e. owns_there p.node c e) (cell_of p.to) k.1,
-          if_some (λ (f : FieldId). IsKnown D N f.node) (λ (f : FieldId). IsKnown E N f.node) (λ f e. known_there f.node e) (register_of p.to) k.2,
-        ));
-    clears_known = has-all (λ (f : FieldId). IsKnown E N f.node) N.clear (λ r i. known_there r.node (all-has (λ (f : FieldId). IsKnown D N f.node) N.clear r f.clears_known i));
-    needs_known = has-all (λ n. IsSome (E.nodes n)) N.need (λ n i. node_there n (all-has (λ n. IsSome (D.nodes n)) N.need n f.needs_known i));
+    groups_known = each_there (AsksGroup D) (AsksGroup E) N.groups group_there f.groups_known;
+    owners_known = each_there (λ (o : Owned). IsKnown D N o.node) (λ (o : Owned). IsKnown E N o.node) (group_cells N) (λ o k. known_there o.node k) f.owners_known;
+    puts_known = each_there (AsksPut D) (AsksPut E) N.put put_there f.puts_known;
+    clears_known = each_there (λ (g : FieldId). IsKnown D N g.node) (λ (g : FieldId). IsKnown E N g.node) N.clear (λ g k. known_there g.node k) f.clears_known;
+    needs_known = each_there (λ n. IsSome (D.nodes n)) (λ n. IsSome (E.nodes n)) N.need node_there f.needs_known;
   }
 
   pub fits_beside : (rs : List Rev) → IsMadeUnder rs E → (Has rs N.rev → ⊥) → Fits E N
