@@ -1,0 +1,4 @@
+mod Picked
+mod Rows
+mod JoinFits
+mod JoinIntents

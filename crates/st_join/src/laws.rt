@@ -1,0 +1,18 @@
+//! Laws about joins: each is the contract of a function that does nothing.
+ghost use Rattle.st_marks.specs.declared.intents.Intent.{Intent};
+ghost use Rattle.st_marks.specs.Document.{Document, IsSoundInForm};
+ghost use Rattle.st_marks.specs.CarryOut.{full};
+ghost use Rattle.st_marks.specs.Intent.{Fits, IsIntent};
+ghost use Rattle.st_marks.specs.Join.{AreParts, IsJoin};
+ghost use Rattle.st_join.specs.Listed.{IsListedJoin};
+
+/// Two parts joined fit where the first does.
+pub fn joins_fit()
+    ensures { (D : Document) (N M J : Intent) → IsSoundInForm D → AreParts D N M → IsJoin N M J → Fits D J }
+{}
+
+/// Two parts whose join has the lists and look-ups of a join are an intent, which obeys its own rules.
+pub fn listed_joins_are_intents()
+    ensures { (D : Document) (N M J : Intent) → IsSoundInForm D → IsSoundInForm (full D N) → AreParts D N M
+        → IsListedJoin N M J → IsIntent J }
+{}
