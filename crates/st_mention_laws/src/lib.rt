@@ -1,0 +1,8 @@
+//! What an intent mentions in a document and in one that extends it: laws about the definitions of st_marks.
+#![tactic(auto)]
+
+mod laws;
+
+pub use laws::{
+    mentions_are_closed, mentions_are_covered, names_of_steps_are_closed, names_stay_the_same,
+};
