@@ -28,7 +28,8 @@ use Rattle.st_lemmas.proofs.Options.{IsSome-Some, None-IsSome}
 use Rattle.st_heads.specs.declared.ways.Way.{Way}
 use Rattle.st_heads.specs.Remembered.{IsWayBack, undoing}
 use Rattle.st_heads.specs.inside.GoingBack.{back_by, back_of_put, entered_field, if_evicted, in_old_row, leads_into_old, same_to}
-use Rattle.st_heads.proofs.Leading.{has-picked, way_leads_back}
+use Rattle.st_join.proofs.Picked.{has-picked}
+use Rattle.st_heads.proofs.Leading.{way_leads_back}
 
 -- ## Targets
 

@@ -1,4 +1,4 @@
-mod Picked
+pub mod Picked
 mod Rows
 mod JoinFits
 mod JoinIntents

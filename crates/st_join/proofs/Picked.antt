@@ -6,7 +6,7 @@ use Rattle.st_marks.proofs.Members.{all-has, has-all}
 
 -- keys that tell their items apart are distinct
 module _ {A K : Type 0} (g : A → Option K) where
-  has-picked : (xs : List A) (k : K) → Has (filter_map g xs) k → (x : A) × Has xs x × (g x ≡ Some k)
+  pub has-picked : (xs : List A) (k : K) → Has (filter_map g xs) k → (x : A) × Has xs x × (g x ≡ Some k)
   has-picked [] k h = absurd h
   has-picked (x ∷ xs) k h = go (g x) refl (has-picked xs k) h
     where
