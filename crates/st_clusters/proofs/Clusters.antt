@@ -110,15 +110,15 @@ place_first s i c cs own =
     (omega arith, omega arith, rw e own)
 
 -- the places where a session's cluster stands first
-with_first : (s i : ℕ) (c : Cluster) (cs : List Cluster) (k : ℕ) → c.session ≡ s → ((j : ℕ) → j < length (places_from s (i + 1) cs) → IsPlace s (i + 1) cs (get_or (places_from s (i + 1) cs) j 0))
+IsPlace-places_from : (s i : ℕ) (c : Cluster) (cs : List Cluster) (k : ℕ) → c.session ≡ s → ((j : ℕ) → j < length (places_from s (i + 1) cs) → IsPlace s (i + 1) cs (get_or (places_from s (i + 1) cs) j 0))
     → k < length (i ∷ places_from s (i + 1) cs) → IsPlace s i (c ∷ cs) (get_or (i ∷ places_from s (i + 1) cs) k 0)
-with_first s i c cs zero own others h = place_first s i c cs own
-with_first s i c cs (suc k) own others h = place_step s i c cs (get_or (places_from s (i + 1) cs) k 0) (others k (omega (arith, h)))
+IsPlace-places_from s i c cs zero own others h = place_first s i c cs own
+IsPlace-places_from s i c cs (suc k) own others h = place_step s i c cs (get_or (places_from s (i + 1) cs) k 0) (others k (omega (arith, h)))
 
 pub places_are : (s i : ℕ) (cs : List Cluster) (k : ℕ) → k < length (places_from s i cs) → IsPlace s i cs (get_or (places_from s i cs) k 0)
 places_are s i [] k h = absurd (omega (arith, h))
 places_are s i (c ∷ cs) k h = elim (cases_Bool (c.session == s)) [
-  | inl e ↦ rw e (with_first s i c cs k (grind (arith, nat_tests, e)) (places_are s (i + 1) cs) (rw e at h))
+  | inl e ↦ rw e (IsPlace-places_from s i c cs k (grind (arith, nat_tests, e)) (places_are s (i + 1) cs) (rw e at h))
   | inr e ↦ rw e (place_step s i c cs (get_or (places_from s (i + 1) cs) k 0) (places_are s (i + 1) cs k (rw e at h)))
 ]
 

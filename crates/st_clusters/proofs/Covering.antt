@@ -6,7 +6,7 @@ use Rattle.st_ids.specs.declared.names.Rev.{Rev}
 use Rattle.st_clusters.specs.Table.{at, no_cluster, room, new_cluster, with_more, with_growth, with_range, table_of}
 use Rattle.st_clusters.specs.Names.{IsInTable, IsWithin, IsFinal}
 use Rattle.st_ids.specs.Root.{opening}
-use Rattle.st_clusters.specs.Log.{carried, GoOn, AreInTurn}
+use Rattle.st_clusters.specs.Log.{carried_count, GoOn, AreInTurn}
 use Rattle.st_clusters.specs.inside.Kept.{AreApart}
 use Rattle.st_clusters.specs.declared.ids.Cluster.{Cluster}
 use Rattle.st_clusters.specs.declared.ids.IdRange.{IdRange}
@@ -66,17 +66,17 @@ range_covers q cs r ends apart own from before = range_cases (λ ds. HasNumber d
 
 -- every id that some ranges carry has a number
 abbrev pub AreCovered : List IdRange → List Cluster → Type 0
-AreCovered before cs = (r : Rev) → 1 ≤ r.num → r.num ≤ carried r.session before → HasNumber cs r
+AreCovered before cs = (r : Rev) → 1 ≤ r.num → r.num ≤ carried_count r.session before → HasNumber cs r
 
-covered_more : (before : List IdRange) (q : IdRange) (cs : List Cluster) → AreMadeBy before cs → q.first ≡ carried q.session before + 1 → AreCovered before cs → AreCovered (before ++ q ∷ []) (with_range q cs)
-covered_more before q cs made next covered r some few = elim (cases_lt (carried r.session before) r.num) [
+covered_more : (before : List IdRange) (q : IdRange) (cs : List Cluster) → AreMadeBy before cs → q.first ≡ carried_count q.session before + 1 → AreCovered before cs → AreCovered (before ++ q ∷ []) (with_range q cs)
+covered_more before q cs made next covered r some few = elim (cases_lt (carried_count r.session before) r.num) [
   | inr old ↦ let h : HasNumber cs r = covered r some old in (h.0, stays q cs r h.0 h.1)
   | inl new ↦ elim (cases_eq q.session r.session) [
     | inl own ↦
-        let more : carried r.session (before ++ q ∷ []) ≡ carried r.session before + q.count = carried_own r.session before q own in
-        let of_q : carried q.session before ≡ carried r.session before = ap (λ (t : ℕ). carried t before) own in
+        let more : carried_count r.session (before ++ q ∷ []) ≡ carried_count r.session before + q.count = carried_own r.session before q own in
+        let of_q : carried_count q.session before ≡ carried_count r.session before = ap (λ (t : ℕ). carried_count t before) own in
         range_covers q cs r (ends_at before q cs made next) made.apart own (omega (arith, next, of_q, new)) (omega (arith, next, of_q, few, more))
-    | inr other ↦ let same : carried r.session (before ++ q ∷ []) ≡ carried r.session before = carried_other r.session before q other in absurd (omega (arith, same, few, new))
+    | inr other ↦ let same : carried_count r.session (before ++ q ∷ []) ≡ carried_count r.session before = carried_other r.session before q other in absurd (omega (arith, same, few, new))
   ]
 ]
 
@@ -87,13 +87,13 @@ covered_by_all before (q ∷ qs) cs made on covered =
     covered_by_all (before ++ q ∷ []) qs (with_range q cs) (made_more before q cs made on.0 on.1) on.2 (covered_more before q cs made on.1 covered) in
     rw append_assoc at all
 
-pub law_covered : (rs : List IdRange) → AreInTurn rs → (r : Rev) → 1 ≤ r.num → r.num ≤ carried r.session rs → (n : ℕ) × IsFinal (table_of rs) r n
+pub law_covered : (rs : List IdRange) → AreInTurn rs → (r : Rev) → 1 ≤ r.num → r.num ≤ carried_count r.session rs → (n : ℕ) × IsFinal (table_of rs) r n
 law_covered rs turn r some few =
     let none : AreCovered [] [] = λ s one low. absurd (omega (arith, one, low)) in
     let h : HasNumber (table_of rs) r = covered_by_all [] rs [] none_made turn none r some few in
     (h.0, inr h.1)
 
-pub law_only : (rs : List IdRange) → AreInTurn rs → (r : Rev) (n : ℕ) → IsFinal (table_of rs) r n → (r ≡ opening) ⊎ ((1 ≤ r.num) × (r.num ≤ carried r.session rs))
+pub law_only : (rs : List IdRange) → AreInTurn rs → (r : Rev) (n : ℕ) → IsFinal (table_of rs) r n → (r ≡ opening) ⊎ ((1 ≤ r.num) × (r.num ≤ carried_count r.session rs))
 law_only rs turn r n (inl h) = inl h.0
 law_only rs turn r n (inr h) =
     let made : AreMadeBy rs (table_of rs) = log_made rs turn in

@@ -9,7 +9,7 @@ use Rattle.std.specs.List.{fold}
 use Rattle.st_ids.specs.declared.names.Rev.{Rev}
 use Rattle.st_clusters.specs.Table.{at, no_cluster, room, new_cluster, with_more, with_growth, with_range, table_of}
 use Rattle.st_clusters.specs.Names.{IsInTable, IsFinal, IsFinalBefore, is_of, is_later}
-use Rattle.st_clusters.specs.Log.{carried, GoOn, AreInTurn}
+use Rattle.st_clusters.specs.Log.{carried_count, GoOn, AreInTurn}
 use Rattle.st_clusters.specs.inside.Kept.{AreApart, IsLastOf}
 use Rattle.st_clusters.specs.declared.ids.Cluster.{Cluster}
 use Rattle.st_clusters.specs.declared.ids.IdRange.{IdRange}
@@ -23,22 +23,22 @@ use Rattle.st_clusters.proofs.Staying.{EndsAt, stays, new_is_of}
 pub record AreMadeBy (before : List IdRange) (cs : List Cluster) : Type 0 where
   pub apart : AreApart cs
   pub owned : (i : ℕ) → i < length cs → 1 ≤ (at cs i).session
-  pub ends : (i : ℕ) → i < length cs → (at cs i).first + (at cs i).used ≤ carried (at cs i).session before + 1
-  pub last : (s i : ℕ) → IsLastOf s cs i → (at cs i).first + (at cs i).used ≡ carried s before + 1
+  pub ends : (i : ℕ) → i < length cs → (at cs i).first + (at cs i).used ≤ carried_count (at cs i).session before + 1
+  pub last : (s i : ℕ) → IsLastOf s cs i → (at cs i).first + (at cs i).used ≡ carried_count s before + 1
 
-carried_more : (s : ℕ) (before : List IdRange) (q : IdRange) → carried s (before ++ q ∷ []) ≡ carried s before + cond (q.session == s) q.count 0
+carried_more : (s : ℕ) (before : List IdRange) (q : IdRange) → carried_count s (before ++ q ∷ []) ≡ carried_count s before + cond (q.session == s) q.count 0
 carried_more s before q = sum_by_push (λ (r : IdRange). cond (r.session == s) r.count 0) before q
 
-pub carried_own : (s : ℕ) (before : List IdRange) (q : IdRange) → q.session ≡ s → carried s (before ++ q ∷ []) ≡ carried s before + q.count
+pub carried_own : (s : ℕ) (before : List IdRange) (q : IdRange) → q.session ≡ s → carried_count s (before ++ q ∷ []) ≡ carried_count s before + q.count
 carried_own s before q own = let test : (q.session == s) ≡ true = grind (arith, nat_tests, own) in carried_more s before q ∙ rw test refl
 
-pub carried_other : (s : ℕ) (before : List IdRange) (q : IdRange) → q.session ≢ s → carried s (before ++ q ∷ []) ≡ carried s before
+pub carried_other : (s : ℕ) (before : List IdRange) (q : IdRange) → q.session ≢ s → carried_count s (before ++ q ∷ []) ≡ carried_count s before
 carried_other s before q other =
     let test : (q.session == s) ≡ false = grind (arith, nat_tests, other) in
-    let zero_more : carried s before + 0 ≡ carried s before = omega arith in
+    let zero_more : carried_count s before + 0 ≡ carried_count s before = omega arith in
     carried_more s before q ∙ rw test zero_more
 
-carried_rises : (s : ℕ) (before : List IdRange) (q : IdRange) → carried s before ≤ carried s (before ++ q ∷ [])
+carried_rises : (s : ℕ) (before : List IdRange) (q : IdRange) → carried_count s before ≤ carried_count s (before ++ q ∷ [])
 carried_rises s before q = omega (arith, carried_more s before q)
 
 -- the last cluster of a session, after another is set in the place of one
@@ -75,7 +75,7 @@ one_last s cs i k h g = elim (cases_eq i k) [
 
 -- where the last cluster of each session ends
 abbrev Ends : List IdRange → List Cluster → Type 0
-Ends before cs = (s i : ℕ) → IsLastOf s cs i → (at cs i).first + (at cs i).used ≡ carried s before + 1
+Ends before cs = (s i : ℕ) → IsLastOf s cs i → (at cs i).first + (at cs i).used ≡ carried_count s before + 1
 
 -- a cluster with more ids is set, the last of the range's session
 ends_set : (before : List IdRange) (q : IdRange) (cs : List Cluster) (k : ℕ) (c : Cluster) → Ends before cs → IsLastOf q.session cs k → c.session ≡ (at cs k).session → c.first ≡ (at cs k).first → c.used ≡ (at cs k).used + q.count → Ends (before ++ q ∷ []) (set cs k c)
@@ -84,42 +84,42 @@ ends_set before q cs k c ends mine session first used s i h =
     elim (cases_eq i k) [
       | inl e ↦
           let own : q.session ≡ s = sym mine.own ∙ ap (λ (j : ℕ). (at cs j).session) (sym e) ∙ old.own in
-          let end : (at cs i).first + (at cs i).used ≡ carried s before + 1 = ends s i old in
-          let end_k : (at cs k).first + (at cs k).used ≡ carried s before + 1 = rw e at end in
-          let more : carried s (before ++ q ∷ []) ≡ carried s before + q.count = carried_own s before q own in
+          let end : (at cs i).first + (at cs i).used ≡ carried_count s before + 1 = ends s i old in
+          let end_k : (at cs k).first + (at cs k).used ≡ carried_count s before + 1 = rw e at end in
+          let more : carried_count s (before ++ q ∷ []) ≡ carried_count s before + q.count = carried_own s before q own in
           let here : at (set cs k c) i ≡ c = ap (λ (j : ℕ). at (set cs k c) j) e ∙ get_or-set_same cs k c no_cluster mine.there in
           rw here (omega (arith, end_k, more, first, used))
       | inr ne ↦
           let other : q.session ≢ s = λ own. ne (one_last s cs i k old (subst (λ (t : ℕ). IsLastOf t cs k) own mine)) in
-          let same : carried s (before ++ q ∷ []) ≡ carried s before = carried_other s before q other in
-          let end : (at cs i).first + (at cs i).used ≡ carried s before + 1 = ends s i old in
+          let same : carried_count s (before ++ q ∷ []) ≡ carried_count s before = carried_other s before q other in
+          let end : (at cs i).first + (at cs i).used ≡ carried_count s before + 1 = ends s i old in
           rw (get_or-set_other cs k i c no_cluster ne) (omega (arith, end, same))
     ]
 
 -- a cluster is put behind the others that ends where the range does; those before it hold what the log before the range says of the other sessions
-ends_push : (before : List IdRange) (q : IdRange) (cs : List Cluster) (c : Cluster) → ((s i : ℕ) → q.session ≢ s → IsLastOf s cs i → (at cs i).first + (at cs i).used ≡ carried s before + 1) → c.session ≡ q.session → c.first + c.used ≡ carried q.session before + 1 + q.count → Ends (before ++ q ∷ []) (cs ++ c ∷ [])
+ends_push : (before : List IdRange) (q : IdRange) (cs : List Cluster) (c : Cluster) → ((s i : ℕ) → q.session ≢ s → IsLastOf s cs i → (at cs i).first + (at cs i).used ≡ carried_count s before + 1) → c.session ≡ q.session → c.first + c.used ≡ carried_count q.session before + 1 + q.count → Ends (before ++ q ∷ []) (cs ++ c ∷ [])
 ends_push before q cs c ends session end s i h = elim (cases_lt i (length cs)) [
   | inl l ↦
       let front = last_front s cs c i l h in
       let other : q.session ≢ s = λ own. front.1 (session ∙ own) in
-      let same : carried s (before ++ q ∷ []) ≡ carried s before = carried_other s before q other in
-      let old : (at cs i).first + (at cs i).used ≡ carried s before + 1 = ends s i other front.0 in
+      let same : carried_count s (before ++ q ∷ []) ≡ carried_count s before = carried_other s before q other in
+      let old : (at cs i).first + (at cs i).used ≡ carried_count s before + 1 = ends s i other front.0 in
       rw (at_front cs c i l) (omega (arith, old, same))
   | inr g ↦
       let long : length (cs ++ c ∷ []) ≡ length cs + 1 = length_push cs c in
       let e : i ≡ length cs = omega (arith, g, long, h.there) in
       let here : at (cs ++ c ∷ []) i ≡ c = ap (λ (j : ℕ). at (cs ++ c ∷ []) j) e ∙ get_or_push cs c no_cluster (length cs) refl in
       let own : q.session ≡ s = sym session ∙ ap (λ (x : Cluster). x.session) (sym here) ∙ h.own in
-      let more : carried s (before ++ q ∷ []) ≡ carried s before + q.count = carried_own s before q own in
-      let of_q : carried q.session before ≡ carried s before = ap (λ (t : ℕ). carried t before) own in
+      let more : carried_count s (before ++ q ∷ []) ≡ carried_count s before + q.count = carried_own s before q own in
+      let of_q : carried_count q.session before ≡ carried_count s before = ap (λ (t : ℕ). carried_count t before) own in
       rw here (omega (arith, end, more, of_q))
 ]
 
-ends_more : (before : List IdRange) (q : IdRange) (cs : List Cluster) → Ends before cs → q.first ≡ carried q.session before + 1 → Ends (before ++ q ∷ []) (with_range q cs)
+ends_more : (before : List IdRange) (q : IdRange) (cs : List Cluster) → Ends before cs → q.first ≡ carried_count q.session before + 1 → Ends (before ++ q ∷ []) (with_range q cs)
 ends_more before q cs ends next = range_cases (Ends (before ++ q ∷ [])) q cs
-    (λ none s i h. let more : carried s (before ++ q ∷ []) ≡ carried s before + cond (q.session == s) q.count 0 = carried_more s before q in
+    (λ none s i h. let more : carried_count s (before ++ q ∷ []) ≡ carried_count s before + cond (q.session == s) q.count 0 = carried_more s before q in
     let zero_more : cond (q.session == s) q.count 0 ≡ 0 = elim (q.session == s) as (λ b. cond b q.count 0 ≡ 0) [ true ↦ none | false ↦ refl ] in
-    let old : (at cs i).first + (at cs i).used ≡ carried s before + 1 = ends s i h in
+    let old : (at cs i).first + (at cs i).used ≡ carried_count s before + 1 = ends s i h in
     omega (arith, old, more, zero_more))
     (λ some none. ends_push before q cs (new_cluster cs q.session q.first q.count) (λ s i other h. ends s i h) refl (omega (arith, next)))
     (λ i some last fits. ends_set before q cs i (with_more (at cs i) q.count) ends last refl refl refl)
@@ -131,22 +131,22 @@ ends_more before q cs ends next = range_cases (Ends (before ++ q ∷ [])) q cs
     rw (get_or-set_other cs i j (with_more (at cs i) (room (at cs i))) no_cluster ne) (ends s j old))
     refl (omega (arith, next, past)))
 
-pub made_more : (before : List IdRange) (q : IdRange) (cs : List Cluster) → AreMadeBy before cs → 1 ≤ q.session → q.first ≡ carried q.session before + 1 → AreMadeBy (before ++ q ∷ []) (with_range q cs)
+pub made_more : (before : List IdRange) (q : IdRange) (cs : List Cluster) → AreMadeBy before cs → 1 ≤ q.session → q.first ≡ carried_count q.session before + 1 → AreMadeBy (before ++ q ∷ []) (with_range q cs)
 made_more before q cs made session next =
     let end_before : EndBefore q cs = λ i h own.
-    let e : (at cs i).first + (at cs i).used ≤ carried (at cs i).session before + 1 = made.ends i h in
-    let of_q : carried (at cs i).session before ≡ carried q.session before = ap (λ (t : ℕ). carried t before) own in
+    let e : (at cs i).first + (at cs i).used ≤ carried_count (at cs i).session before + 1 = made.ends i h in
+    let of_q : carried_count (at cs i).session before ≡ carried_count q.session before = ap (λ (t : ℕ). carried_count t before) own in
     omega (arith, e, of_q, next) in
-    let own_more : carried q.session (before ++ q ∷ []) ≡ carried q.session before + q.count = carried_own q.session before q refl in
+    let own_more : carried_count q.session (before ++ q ∷ []) ≡ carried_count q.session before + q.count = carried_own q.session before q refl in
     record {
       apart = range_apart q cs made.apart (omega (arith, next)) end_before;
       owned = range_ends (λ s e. 1 ≤ s) q cs end_before made.owned (λ e h. session);
-      ends = range_ends (λ s e. e ≤ carried s (before ++ q ∷ []) + 1) q cs end_before
+      ends = range_ends (λ s e. e ≤ carried_count s (before ++ q ∷ []) + 1) q cs end_before
           (λ i h. omega (arith, made.ends i h, carried_rises (at cs i).session before q)) (λ e h. omega (arith, h, next, own_more));
       last = ends_more before q cs made.last next;
     }
 
-pub ends_at : (before : List IdRange) (q : IdRange) (cs : List Cluster) → AreMadeBy before cs → q.first ≡ carried q.session before + 1 → EndsAt q cs
+pub ends_at : (before : List IdRange) (q : IdRange) (cs : List Cluster) → AreMadeBy before cs → q.first ≡ carried_count q.session before + 1 → EndsAt q cs
 ends_at before q cs made next i h = made.last q.session i h ∙ sym next
 
 -- ## Whole logs
@@ -166,21 +166,21 @@ stays_after [] cs r n h = h
 stays_after (q ∷ qs) cs r n h = stays_after qs (with_range q cs) r n (stays q cs r n h)
 
 -- an id that ranges before carried is of none that comes later
-none_of_later : (before later : List IdRange) (r : Rev) → GoOn before later → r.num ≤ carried r.session before → is_later later r ≡ false
+none_of_later : (before later : List IdRange) (r : Rev) → GoOn before later → r.num ≤ carried_count r.session before → is_later later r ≡ false
 none_of_later before [] r on low = refl
 none_of_later before (q ∷ qs) r on low =
     let rest : is_later qs r ≡ false = none_of_later (before ++ q ∷ []) qs r on.2 (omega (arith, low, carried_rises r.session before q)) in
     let first : is_of r q ≡ false = elim (cases_eq q.session r.session) [
-      | inl own ↦ let of_q : carried q.session before ≡ carried r.session before = ap (λ (t : ℕ). carried t before) own in
+      | inl own ↦ let of_q : carried_count q.session before ≡ carried_count r.session before = ap (λ (t : ℕ). carried_count t before) own in
           let past : r.num < q.first = omega (arith, on.1, low, of_q) in grind (arith, nat_tests, past)
       | inr other ↦ grind (arith, nat_tests, other)
     ] in
     rw (first, rest) refl
 
-pub in_carried : (before : List IdRange) (cs : List Cluster) (r : Rev) (n : ℕ) → AreMadeBy before cs → IsInTable cs r n → r.num ≤ carried r.session before
+pub in_carried : (before : List IdRange) (cs : List Cluster) (r : Rev) (n : ℕ) → AreMadeBy before cs → IsInTable cs r n → r.num ≤ carried_count r.session before
 in_carried before cs r n made h =
-    let e : (at cs h.place).first + (at cs h.place).used ≤ carried (at cs h.place).session before + 1 = made.ends h.place h.there in
-    let of_r : carried (at cs h.place).session before ≡ carried r.session before = ap (λ (t : ℕ). carried t before) h.within.own in
+    let e : (at cs h.place).first + (at cs h.place).used ≤ carried_count (at cs h.place).session before + 1 = made.ends h.place h.there in
+    let of_r : carried_count (at cs h.place).session before ≡ carried_count r.session before = ap (λ (t : ℕ). carried_count t before) h.within.own in
     omega (arith, e, of_r, h.within.before)
 
 pub was_before : (before later : List IdRange) (cs : List Cluster) (r : Rev) (n : ℕ) → AreMadeBy before cs → GoOn before later → IsFinal cs r n → IsFinalBefore (after cs later) later r n

@@ -68,8 +68,8 @@ none_last (q ∷ qs) e =
 abbrev pub IsNoneOf : ℕ → List Cluster → Type 0
 IsNoneOf s cs = (j : ℕ) → j < length cs → (at cs j).session ≡ s → ⊥
 
-none_is : (s : ℕ) (cs : List Cluster) → last_of (places_of s cs) ≡ None → IsNoneOf s cs
-none_is s cs e j h own =
+last_of-None : (s : ℕ) (cs : List Cluster) → last_of (places_of s cs) ≡ None → IsNoneOf s cs
+last_of-None s cs e j h own =
     let none : length (places_of s cs) ≡ 0 = none_last (places_of s cs) e in
     let has : (l : ℕ) × (l < length (places_of s cs)) × (get_or (places_of s cs) l 0 ≡ 0 + j) = places_all s 0 cs j h own in
     omega (arith, none, has.1)
@@ -103,7 +103,7 @@ range_cases P r cs nothing begins fills grows goes_on = elim (cases_Bool (r.coun
   | inl e ↦ rw e (nothing (grind (arith, nat_tests, e)))
   | inr e ↦ let some : 0 < r.count = grind (arith, nat_tests, e) in
       rw e (elim (cases_option (last_of (places_of r.session cs))) [
-        | inl n ↦ rw n (begins some (none_is r.session cs n))
+        | inl n ↦ rw n (begins some (last_of-None r.session cs n))
         | inr h ↦ rw h.1 (in_last P r cs h.0 some (last_is r.session cs h.0 h.1) fills grows goes_on)
       ])
 ]

@@ -7,7 +7,7 @@ use Rattle.std.proofs.lemmas.Option.{slice_get-get_or}
 use Rattle.std.specs.Prelude.{Result, Ok, Err, ◌==◌}
 use Rattle.std.specs.List.{fold}
 use Rattle.st_clusters.specs.Table.{Ids, no_session, session_of, is_next, raise_to, with_range, table_of, after_finalising}
-use Rattle.st_clusters.specs.Log.{carried, GoOn, AreInTurn, after_log, IsFresh}
+use Rattle.st_clusters.specs.Log.{carried_count, GoOn, AreInTurn, after_log, IsFresh}
 use Rattle.st_clusters.specs.inside.Kept.{session_at}
 use Rattle.st_clusters.specs.declared.ids.Cluster.{Cluster}
 use Rattle.st_clusters.specs.declared.ids.IdFault.{IdFault}
@@ -46,7 +46,7 @@ was_taken r t u e = elim (cases_session (session_of t.sessions r.session)) [
 
 -- the sessions have finalised what some ranges carry
 abbrev HaveCarried : List IdRange → List SessionIds → Type 0
-HaveCarried before ss = (s : ℕ) (x : SessionIds) → session_of ss s ≡ Some x → x.finalised ≡ carried s before
+HaveCarried before ss = (s : ℕ) (x : SessionIds) → session_of ss s ≡ Some x → x.finalised ≡ carried_count s before
 
 known_session : (ss : List SessionIds) (s k : ℕ) → s ≡ k + 1 → k < length ss → session_of ss s ≡ Some (session_at ss k)
 known_session ss s k number within =
@@ -68,15 +68,15 @@ carried_on before r t u have took s x e =
           sym (get_or-set_same t.sessions (r.session - 1) (raise_to took.ids (took.ids.finalised + r.count)) no_session of_r.1)
           ∙ ap (λ (k : ℕ). session_at (set t.sessions (r.session - 1) (raise_to took.ids (took.ids.finalised + r.count))) k) (sym same) ∙ known.2 in
           let count : took.ids.finalised + r.count ≡ x.finalised = ap (λ (z : SessionIds). z.finalised) here in
-          let old : took.ids.finalised ≡ carried r.session before = have r.session took.ids took.known in
-          let of_s : carried r.session before ≡ carried s before = ap (λ (i : ℕ). carried i before) own in
-          let more : carried s (before ++ r ∷ []) ≡ carried s before + r.count = carried_own s before r own in
+          let old : took.ids.finalised ≡ carried_count r.session before = have r.session took.ids took.known in
+          let of_s : carried_count r.session before ≡ carried_count s before = ap (λ (i : ℕ). carried_count i before) own in
+          let more : carried_count s (before ++ r ∷ []) ≡ carried_count s before + r.count = carried_own s before r own in
           omega (arith, count, old, of_s, more)
       | inr other ↦
           let apart : r.session ≢ s = λ own. other (ap (λ (i : ℕ). i - 1) (sym own)) in
           let within : s - 1 < length t.sessions = omega (arith, known.1, long) in
           let here : session_at t.sessions (s - 1) ≡ x = sym (get_or-set_other t.sessions (r.session - 1) (s - 1) (raise_to took.ids (took.ids.finalised + r.count)) no_session other) ∙ known.2 in
-          let old : (session_at t.sessions (s - 1)).finalised ≡ carried s before = have s (session_at t.sessions (s - 1)) (known_session t.sessions s (s - 1) known.0 within) in
+          let old : (session_at t.sessions (s - 1)).finalised ≡ carried_count s before = have s (session_at t.sessions (s - 1)) (known_session t.sessions s (s - 1) known.0 within) in
           let count : (session_at t.sessions (s - 1)).finalised ≡ x.finalised = ap (λ (z : SessionIds). z.finalised) here in
           sym count ∙ old ∙ sym (carried_other s before r apart)
     ]
@@ -94,7 +94,7 @@ runs (r ∷ rs) before t u have e = elim (cases_result (after_finalising r t)) [
       let rest : after_log rs v.0 ≡ Ok u = rw v.1 at e in
       let later : GoOn (before ++ r ∷ []) rs × (u.clusters ≡ fold (λ cs q. with_range q cs) v.0.clusters rs) = runs rs (before ++ r ∷ []) v.0 u (carried_on before r t v.0 have took) rest in
       let of_r = session_known t.sessions r.session took.ids took.known in
-      let next : r.first ≡ carried r.session before + 1 = took.next ∙ ap (λ (n : ℕ). n + 1) (have r.session took.ids took.known) in
+      let next : r.first ≡ carried_count r.session before + 1 = took.next ∙ ap (λ (n : ℕ). n + 1) (have r.session took.ids took.known) in
       ((omega (arith, of_r.0), next, later.0), later.1 ∙ ap (λ (cs : List Cluster). fold (λ ds q. with_range q ds) cs rs) took.clusters)
 ]
 

@@ -11,13 +11,13 @@ and_then (Ok a) f = f a
 and_then (Err e) f = Err e
 
 -- how many ids of a session some ranges carry
-abbrev pub carried : ℕ → List IdRange → ℕ
-carried s rs = sum_by (λ (r : IdRange). cond (r.session == s) r.count 0) rs
+abbrev pub carried_count : ℕ → List IdRange → ℕ
+carried_count s rs = sum_by (λ (r : IdRange). cond (r.session == s) r.count 0) rs
 
 -- ranges that go on after some others
 abbrev pub GoOn : List IdRange → List IdRange → Type 0
 GoOn before [] = Unit {0}
-GoOn before (r ∷ rs) = (1 ≤ r.session) × (r.first ≡ carried r.session before + 1) × GoOn (before ++ r ∷ []) rs
+GoOn before (r ∷ rs) = (1 ≤ r.session) × (r.first ≡ carried_count r.session before + 1) × GoOn (before ++ r ∷ []) rs
 
 -- ranges that go on from the beginning
 abbrev pub AreInTurn : List IdRange → Type 0

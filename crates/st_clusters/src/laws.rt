@@ -1,6 +1,6 @@
 //! Laws of the table, over its definition.
 ghost use Rattle.std.specs.Prelude.{◌≡◌, ◌↔◌, ◌⊎◌, ◌≤◌, ℕ, ℤ, Ok, Some, List as Seq, [], ◌∷◌, ◌++◌};
-ghost use Rattle.st_clusters.specs.Log.{AreInTurn, IsFresh, after_log, carried};
+ghost use Rattle.st_clusters.specs.Log.{AreInTurn, IsFresh, after_log, carried_count};
 ghost use Rattle.st_clusters.specs.Names.{IsFinal, IsFinalBefore, IsOp, stable_of};
 ghost use Rattle.st_ids.specs.Root.{opening};
 ghost use Rattle.st_clusters.specs.Table.{Ids, table_of, with_range};
@@ -29,10 +29,10 @@ pub fn final_numbers_are_distinct()
 /// opening.
 pub fn carried_ids_have_numbers()
     ensures each { (rs : Seq Range) → AreInTurn rs → (r : RevNames) → 1 ≤ r.num
-        → r.num ≤ carried r.session rs → (n : ℕ) × IsFinal (table_of rs) r n }
+        → r.num ≤ carried_count r.session rs → (n : ℕ) × IsFinal (table_of rs) r n }
     ensures only { (rs : Seq Range) → AreInTurn rs → (r : RevNames) (n : ℕ)
         → IsFinal (table_of rs) r n → (r ≡ opening) ⊎ ((1 ≤ r.num)
-        × (r.num ≤ carried r.session rs)) }
+        × (r.num ≤ carried_count r.session rs)) }
 {}
 
 /// The law that a further range leaves each final number as it is.

@@ -35,9 +35,9 @@ stands-true f Spot.Nowhere e = cc
 stands-true f (Spot.Row n c) e = cc
 stands-true f (Spot.Register g) e = ap (λ h. Spot.Register h) (same_field-true g f e)
 
-held-true : (o : Option NodeId) (n : NodeId) → is_held o n ≡ true → o ≡ Some n
-held-true None n e = cc
-held-true (Some m) n e = ap (λ k. Some k) (same_node-true m n e)
+is_held-true : (o : Option NodeId) (n : NodeId) → is_held o n ≡ true → o ≡ Some n
+is_held-true None n e = cc
+is_held-true (Some m) n e = ap (λ k. Some k) (same_node-true m n e)
 
 or_true : (b : Bool) → (b || true) ≡ true
 or_true true = refl
@@ -65,12 +65,12 @@ module _ (fs : List FieldId) (i : ℕ) (f : FieldId) (inside : i < length fs) (a
       go : (t : Spot) → s ≡ t → (b : Bool) → is_held held n ≡ b → (a : Option Spot)
           → option_or (option_or a (spot_if_cleared (take i fs) t)) (cond b (Some Spot.Nowhere) None) ≡ option_or a (spot_if_cleared (take (i + 1) fs) t)
       go t p b e (Some x) = refl
-      go Spot.Nowhere p true e None = let bad : Spot.Nowhere ≡ Spot.Register f = sym p ∙ one.0 (held-true held n e) in cc
+      go Spot.Nowhere p true e None = let bad : Spot.Nowhere ≡ Spot.Register f = sym p ∙ one.0 (is_held-true held n e) in cc
       go Spot.Nowhere p false e None = refl
-      go (Spot.Row m c) p true e None = let bad : Spot.Row m c ≡ Spot.Register f = sym p ∙ one.0 (held-true held n e) in cc
+      go (Spot.Row m c) p true e None = let bad : Spot.Row m c ≡ Spot.Register f = sym p ∙ one.0 (is_held-true held n e) in cc
       go (Spot.Row m c) p false e None = refl
       go (Spot.Register g) p true e None =
-          let is : Spot.Register g ≡ Spot.Register f = sym p ∙ one.0 (held-true held n e) in
+          let is : Spot.Register g ≡ Spot.Register f = sym p ∙ one.0 (is_held-true held n e) in
           let is_f : g ≡ f = cc in
           or_nowhere (list_any (λ h. same_field h g) (take i fs))
           ∙ sym (ap (λ b. cond b (Some Spot.Nowhere) None) (any_with g ∙ ap (λ b. list_any (λ h. same_field h g) (take i fs) || b) (ap (same_field f) is_f ∙ same_field-itself f) ∙ or_true _))

@@ -14,7 +14,7 @@ use Rattle.st_marks.specs.declared.intents.Owned.{Owned}
 use Rattle.st_marks.specs.declared.intents.Put.{Put}
 use Rattle.st_marks.specs.declared.intents.To.{To}
 use Rattle.st_marks.specs.declared.schemas.SchemaEntry.{SchemaEntry}
-use Rattle.st_marks.specs.Document.{Document, IsSoundInForm, owned}
+use Rattle.st_marks.specs.Document.{Document, IsSoundInForm, owned_cell}
 use Rattle.st_marks.specs.Intent.{IsIntent, Fits, IsKnown, Owns, is_new, new_row_of, group_cells, cell_of, register_of}
 use Rattle.st_marks.proofs.Lookups.{made_there}
 use Rattle.st_marks.proofs.Members.{any-has, has-any, all-has, has-all, has-flat_map, flat_map-has}
@@ -76,10 +76,10 @@ anchor_tells : (D : Document) (n : NodeId) (a : Option CellId) → Tells (anchor
 anchor_tells D n None = (λ e. tt, λ h. refl)
 anchor_tells D n (Some c) = that_tells (D.row_of c) n
 
-owned_tells : (c : CellId) (n : NodeId) (os : List Owned) → Tells (has_owned c n os) (Has os (owned c n))
+owned_tells : (c : CellId) (n : NodeId) (os : List Owned) → Tells (has_owned c n os) (Has os (owned_cell c n))
 owned_tells c n os = (to, from)
   where
-    to : has_owned c n os ≡ true → Has os (owned c n)
+    to : has_owned c n os ≡ true → Has os (owned_cell c n)
     to e =
         let o = any-has (λ (o : Owned). same_cell o.cell c && same_node o.node n) os e in
         let b = and-true _ _ o.2 in
@@ -88,34 +88,34 @@ owned_tells c n os = (to, from)
     itself : (same_cell c c && same_node n n) ≡ true
     itself = rw (same_cell-itself c, same_node-itself n) refl
 
-    from : Has os (owned c n) → has_owned c n os ≡ true
-    from h = has-any (λ (o : Owned). same_cell o.cell c && same_node o.node n) os (owned c n) h itself
+    from : Has os (owned_cell c n) → has_owned c n os ≡ true
+    from h = has-any (λ (o : Owned). same_cell o.cell c && same_node o.node n) os (owned_cell c n) h itself
 
-old_tells : (D : Document) (n : NodeId) (c : CellId) → IsSoundInForm D → Tells (owns_old D n c (D.row_of c)) ((r : NodeId) × Has (D.rows r) (owned c n))
+old_tells : (D : Document) (n : NodeId) (c : CellId) → IsSoundInForm D → Tells (owns_old D n c (D.row_of c)) ((r : NodeId) × Has (D.rows r) (owned_cell c n))
 old_tells D n c sound = (to (D.row_of c), from)
   where
-    to : (o : Option NodeId) → owns_old D n c o ≡ true → (r : NodeId) × Has (D.rows r) (owned c n)
+    to : (o : Option NodeId) → owns_old D n c o ≡ true → (r : NodeId) × Has (D.rows r) (owned_cell c n)
     to None e = cc
     to (Some r) e = (r, (owned_tells c n (D.rows r)).0 e)
 
-    from : (r : NodeId) × Has (D.rows r) (owned c n) → owns_old D n c (D.row_of c) ≡ true
+    from : (r : NodeId) × Has (D.rows r) (owned_cell c n) → owns_old D n c (D.row_of c) ≡ true
     from h = subst (λ o. owns_old D n c o ≡ true) (sym ((sound.one_row c h.0).1 (n, h.1))) ((owned_tells c n (D.rows h.0)).1 h.1)
 
-new_tells : (N : Intent) (n : NodeId) (c : CellId) → Tells (owns_new N n c) (Has (group_cells N) (owned c n))
+new_tells : (N : Intent) (n : NodeId) (c : CellId) → Tells (owns_new N n c) (Has (group_cells N) (owned_cell c n))
 new_tells N n c = (to, from)
   where
-    to : owns_new N n c ≡ true → Has (group_cells N) (owned c n)
+    to : owns_new N n c ≡ true → Has (group_cells N) (owned_cell c n)
     to e =
         let g = any-has (λ (g : Group). has_owned c n g.cells) N.groups e in
-        flat_map-has (λ (g : Group). g.cells) N.groups g.0 (owned c n) g.1 ((owned_tells c n g.0.cells).0 g.2)
+        flat_map-has (λ (g : Group). g.cells) N.groups g.0 (owned_cell c n) g.1 ((owned_tells c n g.0.cells).0 g.2)
 
-    from : Has (group_cells N) (owned c n) → owns_new N n c ≡ true
+    from : Has (group_cells N) (owned_cell c n) → owns_new N n c ≡ true
     from h =
-        let g = has-flat_map (λ (g : Group). g.cells) N.groups (owned c n) h in
+        let g = has-flat_map (λ (g : Group). g.cells) N.groups (owned_cell c n) h in
         has-any (λ (g : Group). has_owned c n g.cells) N.groups g.0 g.1 ((owned_tells c n g.0.cells).1 g.2)
 
 owns_tells : (D : Document) (N : Intent) (n : NodeId) (c : CellId) → IsSoundInForm D → Tells (owns D N n c) (Owns D N n c)
-owns_tells D N n c sound = tells_either (owns_old D n c (D.row_of c)) (owns_new N n c) ((r : NodeId) × Has (D.rows r) (owned c n)) (Has (group_cells N) (owned c n)) (old_tells D n c sound) (new_tells N n c)
+owns_tells D N n c sound = tells_either (owns_old D n c (D.row_of c)) (owns_new N n c) ((r : NodeId) × Has (D.rows r) (owned_cell c n)) (Has (group_cells N) (owned_cell c n)) (old_tells D n c sound) (new_tells N n c)
 
 abbrev IsTargetKnown : Document → Intent → NodeId → To → Type 0
 IsTargetKnown D N n to = IfSome (cell_of to) (Owns D N n) × IfSome (register_of to) (λ f. IsKnown D N f.node)

@@ -11,7 +11,7 @@ use Rattle.std.specs.FinMap.Entries.{is_sorted, below_all}
 use Rattle.std.proofs.lemmas.Cmp.{tied_itself}
 use Rattle.std.proofs.lemmas.Map.Keys.{sorted_head, sorted_tail}
 use Rattle.std.proofs.lemmas.Map.Lookups.{exact_bytes}
-use Rattle.st_ids.specs.Listing.{Has, IsRising, item_of, keyed}
+use Rattle.st_ids.specs.Listing.{Has, IsRising, item_of, key_pairs}
 use Rattle.st_ids.specs.Order.{node_cmp, field_cmp, same_node}
 use Rattle.st_ids.specs.declared.names.FieldId.{FieldId}
 use Rattle.st_ids.specs.declared.names.NodeId.{NodeId}
@@ -65,13 +65,13 @@ keys_rise n (e ∷ es) h = go (seat_at n e) refl (keys_rise n es (sorted_tail fi
     )
 
 -- the same as a listing of the keys
-below_is : (k : List ℕ) (ss : List Seat) → AllByRecursion (λ (t : Seat). bytes_cmp k t.key ≡ Less) ss → below_all bytes_cmp k (keyed (λ (k : List ℕ). k) (keys_of ss)) ≡ true
+below_is : (k : List ℕ) (ss : List Seat) → AllByRecursion (λ (t : Seat). bytes_cmp k t.key ≡ Less) ss → below_all bytes_cmp k (key_pairs (λ (k : List ℕ). k) (keys_of ss)) ≡ true
 below_is k [] h = refl
-below_is k (s ∷ ss) h = ap (λ o. is_lt o && below_all bytes_cmp k (keyed (λ (k : List ℕ). k) (keys_of ss))) h.0 ∙ below_is k ss h.1
+below_is k (s ∷ ss) h = ap (λ o. is_lt o && below_all bytes_cmp k (key_pairs (λ (k : List ℕ). k) (keys_of ss))) h.0 ∙ below_is k ss h.1
 
 pub keys_rising : (ss : List Seat) → KeysRise ss → IsRising bytes_cmp (λ (k : List ℕ). k) (keys_of ss)
 keys_rising [] h = refl
-keys_rising (s ∷ ss) h = ap (λ b. b && is_sorted bytes_cmp (keyed (λ (k : List ℕ). k) (keys_of ss))) (below_is s.key ss h.0) ∙ keys_rising ss h.1
+keys_rising (s ∷ ss) h = ap (λ b. b && is_sorted bytes_cmp (key_pairs (λ (k : List ℕ). k) (keys_of ss))) (below_is s.key ss h.0) ∙ keys_rising ss h.1
 
 pub keys_found : (n : NodeId) (es : List (FieldId × NodeId)) (k : List ℕ)
     → item_of bytes_cmp (λ (k : List ℕ). k) (keys_of (seats_of n es)) k ≡ cond (is_some (lookup (λ q. is_eq (field_cmp (register n k) q)) es)) (Some k) None

@@ -15,7 +15,7 @@ use Rattle.std.specs.List.{find, list_any}
 use Rattle.std.proofs.lemmas.List.Folds.{find-append}
 use Rattle.std.proofs.lemmas.List.{append-nil, take_more}
 use Rattle.st_marks.specs.declared.intents.Owned.{Owned}
-use Rattle.st_marks.specs.Document.{owned}
+use Rattle.st_marks.specs.Document.{owned_cell}
 use Rattle.st_ids.specs.Root.{root}
 use Rattle.st_lemmas.proofs.Options.{option_or-assoc}
 
@@ -97,7 +97,7 @@ all_put {R = R} t m n values ordered h q = h.0 q ∙ update_all_distinct (eq_by_
 
 -- some cell with an owner, for look-ups past a list's end
 abbrev pub no_cell : Owned
-no_cell = owned (record { 0 = root.0 }) root
+no_cell = owned_cell (record { 0 = root.0 }) root
 
 -- an entry more is copied
 pub copied_more : {K X : Type 0} (before now items left whole : List (K × X)) (k key : K) (v value : X) → items ≡ (k, v) ∷ left → now ≡ before ++ (key, value) ∷ [] → key ≡ k → value ≡ v

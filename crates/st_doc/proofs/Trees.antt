@@ -8,7 +8,7 @@ use Rattle.std.specs.declared.cmp.Ordering.TheVariants.{Less, Equal, Greater}
 use Rattle.std.proofs.lemmas.Cmp.{tied_itself}
 use Rattle.std.proofs.lemmas.Map.Lookups.{exact_bytes}
 use Rattle.serde_json.specs.Data.{Data, Items, no_items, item, Members, no_members, member}
-use Rattle.st_ids.specs.Listing.{AreDistinct, Has, IsListing, keyed}
+use Rattle.st_ids.specs.Listing.{AreDistinct, Has, IsListing, key_pairs}
 use Rattle.st_ids.specs.Order.{same_node}
 use Rattle.st_ids.specs.declared.names.FieldId.{FieldId}
 use Rattle.st_ids.specs.declared.names.Leaf.{Leaf}
@@ -54,7 +54,7 @@ same_bytes k l e = exact_bytes k l (equal (bytes_cmp k l) e)
 bytes_itself : (k : List ℕ) → eq_by_cmp bytes_cmp k k ≡ true
 bytes_itself k = ap is_eq (tied_itself nat_list_cmp_total k)
 
-put_keyed : (k : List ℕ) (es : Keys) → es ≡ keyed key_of (keys_in es) → put bytes_cmp k k es ≡ keyed key_of (keys_in (put bytes_cmp k k es))
+put_keyed : (k : List ℕ) (es : Keys) → es ≡ key_pairs key_of (keys_in es) → put bytes_cmp k k es ≡ key_pairs key_of (keys_in (put bytes_cmp k k es))
 put_keyed k [] e = refl
 put_keyed k (x ∷ es) e = go (bytes_cmp k x.0) refl (put_keyed k es (ap tail e))
   where
@@ -66,8 +66,8 @@ put_keyed k (x ∷ es) e = go (bytes_cmp k x.0) refl (put_keyed k es (ap tail e)
     head [] = x
     head (y ∷ ys) = y
 
-    go : (o : Ordering) → bytes_cmp k x.0 ≡ o → put bytes_cmp k k es ≡ keyed key_of (keys_in (put bytes_cmp k k es))
-        → by_order o ((k, k) ∷ x ∷ es) ((x.0, k) ∷ es) (x ∷ put bytes_cmp k k es) ≡ keyed key_of (keys_in (by_order o ((k, k) ∷ x ∷ es) ((x.0, k) ∷ es) (x ∷ put bytes_cmp k k es)))
+    go : (o : Ordering) → bytes_cmp k x.0 ≡ o → put bytes_cmp k k es ≡ key_pairs key_of (keys_in (put bytes_cmp k k es))
+        → by_order o ((k, k) ∷ x ∷ es) ((x.0, k) ∷ es) (x ∷ put bytes_cmp k k es) ≡ key_pairs key_of (keys_in (by_order o ((k, k) ∷ x ∷ es) ((x.0, k) ∷ es) (x ∷ put bytes_cmp k k es)))
     go Less p rest = ap (λ l. (k, k) ∷ l) e
     go Equal p rest = (λ i. (x.0, exact_bytes k x.0 p i) ∷ tail (e i))
     go Greater p rest = (λ i. head (e i) ∷ rest i)
@@ -90,16 +90,16 @@ module _ (D : Document) (n : NodeId) where
       go (Spot.Row r c) h = h
       go (Spot.Register f) h = one f (same_node f.node n) h
 
-  list_keyed : (ms : List NodeId) → key_list ms ≡ keyed key_of (keys_in (key_list ms))
+  list_keyed : (ms : List NodeId) → key_list ms ≡ key_pairs key_of (keys_in (key_list ms))
   list_keyed [] = refl
   list_keyed (m ∷ ms) = go (D.place m) (list_keyed ms)
     where
-      one : (f : FieldId) (b : Bool) → key_list ms ≡ keyed key_of (keys_in (key_list ms))
-          → cond b (put bytes_cmp f.key.0 f.key.0 (key_list ms)) (key_list ms) ≡ keyed key_of (keys_in (cond b (put bytes_cmp f.key.0 f.key.0 (key_list ms)) (key_list ms)))
+      one : (f : FieldId) (b : Bool) → key_list ms ≡ key_pairs key_of (keys_in (key_list ms))
+          → cond b (put bytes_cmp f.key.0 f.key.0 (key_list ms)) (key_list ms) ≡ key_pairs key_of (keys_in (cond b (put bytes_cmp f.key.0 f.key.0 (key_list ms)) (key_list ms)))
       one f true h = put_keyed f.key.0 (key_list ms) h
       one f false h = h
 
-      go : (s : Spot) → key_list ms ≡ keyed key_of (keys_in (key_list ms)) → with_key n s (key_list ms) ≡ keyed key_of (keys_in (with_key n s (key_list ms)))
+      go : (s : Spot) → key_list ms ≡ key_pairs key_of (keys_in (key_list ms)) → with_key n s (key_list ms) ≡ key_pairs key_of (keys_in (with_key n s (key_list ms)))
       go Spot.Nowhere h = h
       go (Spot.Row r c) h = h
       go (Spot.Register f) h = one f (same_node f.node n) h

@@ -7,7 +7,7 @@ ghost use Rattle.st_ids.specs.Order.{node_cmp};
 ghost use Rattle.st_marks.specs.Document.{HasShortRows, IsSoundInForm};
 ghost use Rattle.st_marks.specs.Intent.{Fits, is_new};
 ghost use Rattle.st_marks.specs.CarryOut.{full, void, with_names, with_schema};
-ghost use Rattle.st_marks.specs.Verdict.{IsVerdict, carried};
+ghost use Rattle.st_marks.specs.Verdict.{IsVerdict, carried_document};
 ghost use Rattle.st_doc.specs.inside.Ahead.{AreTargets, inside_new, with_moves};
 ghost use Rattle.st_doc.specs.inside.Evictions.{IsOneHeld};
 
@@ -129,7 +129,7 @@ impl Doc {
         requires sound { IsSoundInForm (document_of self.old) }
         requires fits { Fits (document_of self.old) intent.now }
         ensures verdict { IfOk result (IsVerdict (document_of self.old) intent.now) }
-        ensures after { IfOk result (λ v. document_of self.new ≡ carried v (document_of self.old) intent.now) }
+        ensures after { IfOk result (λ v. document_of self.new ≡ carried_document v (document_of self.old) intent.now) }
     {
         let targets = targets(alloc, &self.row_of, intent)?;
         let verdict = self.fails_at(alloc, intent, &targets)?;
@@ -147,7 +147,7 @@ impl Doc {
         requires sound { IsSoundInForm (document_of self.old) }
         requires fits { Fits (document_of self.old) intent.now }
         ensures verdict { IfOk result (IsVerdict (document_of self.old) intent.now) }
-        ensures after { IfOk result (λ v. document_of self.new ≡ carried v (document_of self.old) intent.now) }
+        ensures after { IfOk result (λ v. document_of self.new ≡ carried_document v (document_of self.old) intent.now) }
         ensures still_sound { OnOk result (HasShortRows (full (document_of self.old) intent.now) → IsSoundInForm (document_of self.new)) }
     {
         let verdict = self.carry_by_verdict(alloc, intent)?;

@@ -18,7 +18,7 @@ use Rattle.st_marks.specs.Document.{Document, IsSoundInForm, above, content}
 use Rattle.st_marks.specs.LiveTree.{Shows, shows_leaf, shows_row, shows_registers, ShowsItems, no_more_items, next_item, ShowsMembers, no_more_members, next_member, owners_shown, register, key_at, leaf_data, one_member, live_slots}
 use Rattle.st_marks.proofs.Members.{all-has}
 use Rattle.st_edits.specs.Paths.{child, field_at, or_refuse, walk_from}
-use Rattle.st_edits.proofs.Fits.{passed, found, items_once}
+use Rattle.st_edits.proofs.Fits.{passed, or_refuse-Ok, items_once}
 use Rattle.st_edit_laws.specs.Alike.{IsFrom, AreAlikeAt}
 use Rattle.st_edit_laws.specs.Edited.{in_node, in_row, in_fields, data_items, at_index, at_key, at_place, at_path, same_key}
 use Rattle.st_edit_laws.proofs.Beneath.{in_row as stands_in_row, row_above, held_above, from_child, not_beneath, one_child}
@@ -170,7 +170,7 @@ pub live_at : (D : Document) (sound : IsSoundInForm D) (path : List Place) (k : 
 live_at D sound [] k n m e = let same : n ≡ m = cc in (0, ap (λ x. Some x) (sym same))
 live_at D sound (p ∷ ps) k n m e =
     let x = passed (or_refuse (child D n p) (NoNode k)) (λ x. walk_from D (k + 1) x ps) m e in
-    from_child D sound n x.0 m (child_up D sound n x.0 p (found (child D n p) (NoNode k) x.0 x.1)) (live_at D sound ps (k + 1) x.0 m x.2)
+    from_child D sound n x.0 m (child_up D sound n x.0 p (or_refuse-Ok (child D n p) (NoNode k) x.0 x.1)) (live_at D sound ps (k + 1) x.0 m x.2)
 
 module _ (is_array : List ℕ → Bool) (D E : Document) (sound : IsSoundInForm D) (m : NodeId) (alike : (x : NodeId) → IsSome (D.nodes x) → x ≢ m → AreAlikeAt D E x) where
   -- a node that the changed one isn't beneath shows the same
@@ -280,4 +280,4 @@ module _ (is_array : List ℕ → Bool) (D E : Document) (sound : IsSoundInForm 
   along f here (p ∷ ps) k n e =
       let x = passed (or_refuse (child D n p) (NoNode k)) (λ x. walk_from D (k + 1) x ps) m e in
       let rest = along f here ps (k + 1) x.0 x.2 in
-      through n x.0 p (at_path ps f) (found (child D n p) (NoNode k) x.0 x.1) rest.0 rest.1
+      through n x.0 p (at_path ps f) (or_refuse-Ok (child D n p) (NoNode k) x.0 x.1) rest.0 rest.1

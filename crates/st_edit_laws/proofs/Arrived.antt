@@ -36,7 +36,7 @@ use Rattle.st_edit_laws.proofs.Parted.{parted, parted_row, unless_among}
 use Rattle.st_edit_laws.proofs.Rows.{among, among-has, has-among, not-among, owners_filtered}
 use Rattle.st_edit_laws.proofs.Sound.{last_in_effect}
 use Rattle.st_lemmas.proofs.Bools.{true-false}
-use Rattle.st_edits.proofs.NewFits.{with_first, with_has}
+use Rattle.st_edits.proofs.NewFits.{with_group-Some, with_has}
 use Rattle.st_lemmas.proofs.Options.{option_or-None}
 use Rattle.st_ids.proofs.Shared.{no_members}
 
@@ -82,7 +82,7 @@ module _ (D : Document) (G : NameCounters) (m : NodeId) (i : ℕ) (ns : List Nod
   put_in_cell o = record { node = o.node; to = To.Cell o.cell }
 
   has_group : (o : Owned) (os : List Owned) → cells ≡ o ∷ os → Has N.groups (record { node = m; after = left; cells = o ∷ os })
-  has_group o os e = with_first (group_of m left cells) [] (record { node = m; after = left; cells = o ∷ os }) (ap (group_of m left) e)
+  has_group o os e = with_group-Some (group_of m left cells) [] (record { node = m; after = left; cells = o ∷ os }) (ap (group_of m left) e)
 
   its_group : (g : Group) → Has N.groups g → (g.node ≡ m) × (g.after ≡ left) × (g.cells ≡ cells)
   its_group g h = elim (with_has (group_of m left cells) [] g h) [ inl e ↦ group_is m left cells g e | inr k ↦ absurd k ]

@@ -6,10 +6,10 @@ use Rattle.st_ids.specs.declared.names.NodeId.{NodeId}
 use Rattle.st_marks.specs.Document.{Document, NodeType, IsSoundInForm, content}
 use Rattle.st_marks.specs.LiveTree.{Shows, shows_leaf, shows_row, shows_registers, owners_shown, register, key_at}
 use Rattle.st_edit_laws.specs.Alike.{AreAlikeAt}
-use Rattle.st_edit_laws.specs.Edited.{in_node, in_row, in_fields, data_items, same_key, with_items, with_key, without, without_items, without_key}
+use Rattle.st_edit_laws.specs.Edited.{in_node, in_row, in_fields, data_items, same_key, with_items, with_key, other_members, without_items, without_key}
 use Rattle.st_edit_laws.proofs.Along.{AreShown, Shape, as_leaf, as_row, as_registers, shape, as_list, as_items, kept_items, kept_child, leaf_kept, same_key-true}
 use Rattle.st_edit_laws.proofs.Beneath.{row_above, held_above}
-use Rattle.st_edit_laws.proofs.Keys.{one_less, one_more, other_keys, with_one}
+use Rattle.st_edit_laws.proofs.Keys.{one_less, IsListing-with_one, other_keys, with_one}
 use Rattle.st_edit_laws.proofs.Members.{members_with, members_without}
 use Rattle.st_edit_laws.proofs.Rows.{shown_drop, shown_joined, shown_take}
 use Rattle.st_lemmas.proofs.Bools.{true-false}
@@ -68,11 +68,11 @@ module _ (is_array : List ℕ → Bool) (D F : Document) (sound : IsSoundInForm 
           go false = refl
 
       by : (d : Data) → Shape is_array D m d → Shows is_array F m (without_key key d)
-      by d (as_leaf ty v p q) = subst (λ d. Shows is_array F m (without_key key d)) (sym q) (subst (Shows is_array F m) (sym (leaf_kept (in_fields (without key)) v)) (shows_leaf m ty v (kept _ p)))
+      by d (as_leaf ty v p q) = subst (λ d. Shows is_array F m (without_key key d)) (sym q) (subst (Shows is_array F m) (sym (leaf_kept (in_fields (other_members key)) v)) (shows_leaf m ty v (kept _ p)))
       by d (as_row ty items p a r q) = absurd (true-false a (same_type _ p ∙ unrowed))
       by d (as_registers ty ks ms p a l r q) =
           subst (λ d. Shows is_array F m (without_key key d)) (sym q)
-          (shows_registers m ty (other_keys key ks) (without key ms) (kept _ p) a (one_less key ks (key_at D m) (key_at F m) keys l) (members_without is_array D F key r held children_kept))
+          (shows_registers m ty (other_keys key ks) (other_members key ms) (kept _ p) a (one_less key ks (key_at D m) (key_at F m) keys l) (members_without is_array D F key r held children_kept))
 
   -- a node comes under a key
   pub member_comes : (key : List ℕ) (top : NodeId) (new : Data) → is_array type.ty ≡ false → Shows is_array F top new → ((k : List ℕ) → F.held (register m k) ≡ cond (same_key k key) (Some top) (D.held (register m k)))
@@ -91,4 +91,4 @@ module _ (is_array : List ℕ → Bool) (D F : Document) (sound : IsSoundInForm 
       by d (as_row ty items p a r q) = absurd (true-false a (same_type _ p ∙ unrowed))
       by d (as_registers ty ks ms p a l r q) =
           subst (λ d. Shows is_array F m (with_key key new d)) (sym q)
-          (shows_registers m ty (with_one key ks) (put key new ms) (kept _ p) a (one_more key ks (key_at D m) (key_at F m) keys l) (members_with is_array D F key top new shown r l.rising held children_kept))
+          (shows_registers m ty (with_one key ks) (put key new ms) (kept _ p) a (IsListing-with_one key ks (key_at D m) (key_at F m) keys l) (members_with is_array D F key top new shown r l.rising held children_kept))

@@ -24,7 +24,7 @@ use Rattle.st_marks.specs.declared.intents.Owned.{Owned}
 use Rattle.st_marks.specs.declared.intents.To.{To}
 use Rattle.st_marks.specs.declared.places.Spot.{Spot}
 use Rattle.st_marks.specs.declared.verdicts.Verdict.{Verdict}
-use Rattle.st_marks.specs.Document.{Document, NodeType, IsSoundInForm, content, is_cell, owned}
+use Rattle.st_marks.specs.Document.{Document, NodeType, IsSoundInForm, content, is_cell, owned_cell}
 use Rattle.st_ids.specs.Root.{root}
 use Rattle.st_marks.specs.Intent.{Fits, put_of}
 use Rattle.st_marks.specs.CarryOut.{full, with_names, place_after}
@@ -40,7 +40,7 @@ use Rattle.st_edits.specs.declared.names.NameCounters.{NameCounters}
 use Rattle.st_edits.specs.declared.names.Takes.TheVariants as field
 use Rattle.st_edits.proofs.Fits.{passed}
 use Rattle.st_edits.proofs.MoveFits.{CellsFresh}
-use Rattle.st_edits.proofs.NewFits.{insert_fits, NodesFresh, top_from, top_has, items_form, with_first, with_has}
+use Rattle.st_edits.proofs.NewFits.{insert_fits, NodesFresh, top_from, top_has, items_form, with_group-Some, with_has}
 use Rattle.st_edits.proofs.Numbered.{tops_counted, tops_rows}
 use Rattle.st_edit_laws.specs.Edited.{TellsRows, at_path, data_items, with_items}
 use Rattle.st_edit_laws.proofs.Along.{AreShown, as_list, along}
@@ -83,7 +83,7 @@ module _ (D : Document) (G : NameCounters) (m : NodeId) (index : ℕ) (trees : N
       go : (os : List Owned) → top_cells xs ≡ os → Has ((with_names D N).rows m) o
       go [] e = absurd (subst (λ os. Has os o) e h)
       go (p ∷ os) e =
-          made_cell D N sound fits (record { node = m; after = left; cells = p ∷ os }) o (with_first (group_of m left (top_cells xs)) (groups_under xs) (record { node = m; after = left; cells = p ∷ os }) (ap (group_of m left) e))
+          made_cell D N sound fits (record { node = m; after = left; cells = p ∷ os }) o (with_group-Some (group_of m left (top_cells xs)) (groups_under xs) (record { node = m; after = left; cells = p ∷ os }) (ap (group_of m left) e))
           (subst (λ os. Has os o) e h)
 
   top_row : (o : Owned) → Has (top_cells xs) o → (with_names D N).row_of o.cell ≡ Some m
@@ -104,7 +104,7 @@ module _ (D : Document) (G : NameCounters) (m : NodeId) (index : ℕ) (trees : N
     ];
     own_group = λ x g h e. with_others (group_of m left (top_cells xs)) (groups_under xs) g (has-filter_map (group_under xs) xs x g h e);
     clears_old = λ f h. inr (registers_new D G xs counted nodes f h);
-    tops = λ v d h e _. top_row (owned d v.node) (top_has xs v d h e);
+    tops = λ v d h e _. top_row (owned_cell d v.node) (top_has xs v d h e);
   }
 
   group_m : (g : Group) → Has gs g → g.node ≡ m → (g.after ≡ left) × (g.cells ≡ top_cells xs)
@@ -136,7 +136,7 @@ module _ (D : Document) (G : NameCounters) (m : NodeId) (index : ℕ) (trees : N
   pub row_after : index ≤ row_length D m → owners_shown (content E m) ≡ take index (owners_shown (content D m)) ++ (map (λ (o : Owned). o.node) (top_cells xs) ++ drop index (owners_shown (content D m)))
   row_after le =
       row_with N fits.itself m left (top_cells xs)
-      (λ o os e. with_first (group_of m left (top_cells xs)) (groups_under xs) (record { node = m; after = left; cells = o ∷ os }) (ap (group_of m left) e)) group_m D E (λ x. true) top_full index refl le (sound.once m) old_same
+      (λ o os e. with_group-Some (group_of m left (top_cells xs)) (groups_under xs) (record { node = m; after = left; cells = o ∷ os }) (ap (group_of m left) e)) group_m D E (λ x. true) top_full index refl le (sound.once m) old_same
       ∙ (λ t. all (take index (owners_shown (content D m))) t ++ (map (λ (o : Owned). o.node) (top_cells xs) ++ all (drop index (owners_shown (content D m))) t))
     where
       all : (ns : List NodeId) → filter (λ x. true) ns ≡ ns

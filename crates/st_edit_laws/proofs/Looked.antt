@@ -9,16 +9,16 @@ use Rattle.std.proofs.lemmas.Cmp.{tied_itself}
 use Rattle.std.proofs.lemmas.Map.Lookups.{exact_bytes}
 use Rattle.serde_json.specs.Data.{Data, Members}
 use Rattle.serde_json.specs.Find.{get, get_member}
-use Rattle.st_ids.specs.Listing.{Has, IsListing, keyed}
+use Rattle.st_ids.specs.Listing.{Has, IsListing, key_pairs}
 use Rattle.st_ids.specs.declared.names.Leaf.{Leaf}
 use Rattle.st_ids.specs.declared.names.NodeId.{NodeId}
 use Rattle.st_ids.specs.declared.names.Place.{Place}
 use Rattle.st_tree.specs.declared.edit.EditFault.TheVariants.{NoNode}
 use Rattle.st_marks.specs.declared.places.Slot.{Slot}
-use Rattle.st_marks.specs.Document.{Document, NodeType, IsSoundInForm, content, owned}
+use Rattle.st_marks.specs.Document.{Document, NodeType, IsSoundInForm, content, owned_cell}
 use Rattle.st_marks.specs.LiveTree.{Shows, ShowsMembers, no_more_members, next_member, owners_shown, register, key_at, leaf_data, live_slots}
 use Rattle.st_edits.specs.Paths.{child, field_at, or_refuse, walk_from}
-use Rattle.st_edits.proofs.Fits.{passed, found}
+use Rattle.st_edits.proofs.Fits.{passed, or_refuse-Ok}
 use Rattle.st_edit_laws.specs.Moved.{child_in, inside, node_in, row_items}
 use Rattle.st_edit_laws.specs.Typed.{IsAsTyped, IsFieldType, IsRowType}
 use Rattle.st_edit_laws.proofs.Beneath.{in_row as stands_in_row}
@@ -34,7 +34,7 @@ pub record StandsAsTyped (is_array : List ℕ → Bool) (D : Document) : Type 0 
 
 pub stands_typed : (is_array : List ℕ → Bool) (D : Document) → IsSoundInForm D → IsAsTyped is_array D → StandsAsTyped is_array D
 stands_typed is_array D sound typed = record {
-  in_row = λ n x t e h. (let b = stands_in_row D sound n x h in typed.cells n (owned b.0 x) t e (sound.own_cell x n b.0 b.1));
+  in_row = λ n x t e h. (let b = stands_in_row D sound n x h in typed.cells n (owned_cell b.0 x) t e (sound.own_cell x n b.0 b.1));
   in_register = λ n x k t e h. typed.registers (register n k) x t e h;
 }
 
@@ -71,11 +71,11 @@ module _ (is_array : List ℕ → Bool) (D : Document) where
 abbrev itself : List ℕ → List ℕ
 itself k = k
 
-found_has : (ks : List (List ℕ)) (k l : List ℕ) → find (slice_cmp nat_cmp) k (keyed itself ks) ≡ Some l → Has ks l
+found_has : (ks : List (List ℕ)) (k l : List ℕ) → find (slice_cmp nat_cmp) k (key_pairs itself ks) ≡ Some l → Has ks l
 found_has [] k l e = cc
 found_has (j ∷ ks) k l e = go (is_eq (slice_cmp nat_cmp k j)) e (λ f. found_has ks k l f)
   where
-    go : (b : Bool) → cond b (Some j) (find (slice_cmp nat_cmp) k (keyed itself ks)) ≡ Some l → (find (slice_cmp nat_cmp) k (keyed itself ks) ≡ Some l → Has ks l) → Has (j ∷ ks) l
+    go : (b : Bool) → cond b (Some j) (find (slice_cmp nat_cmp) k (key_pairs itself ks)) ≡ Some l → (find (slice_cmp nat_cmp) k (key_pairs itself ks) ≡ Some l → Has ks l) → Has (j ∷ ks) l
     go true f rest = let same : j ≡ l = cc in inl same
     go false f rest = inr (rest f)
 
@@ -140,6 +140,6 @@ module _ (is_array : List ℕ → Bool) (D : Document) (typed : StandsAsTyped is
   node_seen [] k n m d e s = let same : n ≡ m = cc in (d, refl, subst (λ x. Shows is_array D x d) same s)
   node_seen (p ∷ ps) k n m d e s =
       let x = passed (or_refuse (child D n p) (NoNode k)) (λ x. walk_from D (k + 1) x ps) m e in
-      let c = child_seen n x.0 p d (found (child D n p) (NoNode k) x.0 x.1) s in
+      let c = child_seen n x.0 p d (or_refuse-Ok (child D n p) (NoNode k) x.0 x.1) s in
       let rest = node_seen ps (k + 1) x.0 m c.0 x.2 c.2 in
       (rest.0, ap (option_and_then (node_in ps)) c.1 ∙ rest.1, rest.2)

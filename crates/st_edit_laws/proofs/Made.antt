@@ -18,7 +18,7 @@ use Rattle.st_marks.specs.declared.intents.Put.{Put}
 use Rattle.st_marks.specs.declared.intents.To.{To}
 use Rattle.st_marks.specs.declared.places.Spot.{Spot}
 use Rattle.st_marks.specs.declared.verdicts.Verdict.{Verdict}
-use Rattle.st_marks.specs.Document.{Document, NodeType, IsSoundInForm, above, climb, node_of, is_cell, slot, owned}
+use Rattle.st_marks.specs.Document.{Document, NodeType, IsSoundInForm, above, climb, node_of, is_cell, slot, owned_cell}
 use Rattle.st_marks.specs.Intent.{Fits, new_type, put_of, put_in, clears, group_at}
 use Rattle.st_marks.specs.CarryOut.{full, with_groups, with_names, spot_of, place_after, unless_cleared, unless_put}
 use Rattle.st_marks.specs.Verdict.{IsVerdict}
@@ -323,7 +323,7 @@ module _ (D : Document) (G : NameCounters) (into : Option FieldId) (m : NodeId) 
       go (Some g) i (FlatAt.Top d) a is f = inl (is_m g.node (into_is g i) (let c : Some g.node ≡ Some p = f in cc))
       go o i (FlatAt.Row r d) a is f =
           let z = subst (IsUnderArray xs) a (w.rows v h) in
-          let row = row_of_new z.0 (owned d v.node) z.1 (cells_under_has xs z.0.node v d h (a ∙ ap (λ q. FlatAt.Row q d) (sym z.2))) in
+          let row = row_of_new z.0 (owned_cell d v.node) z.1 (cells_under_has xs z.0.node v d h (a ∙ ap (λ q. FlatAt.Row q d) (sym z.2))) in
           let same = in_cell d z.0.node p row f in
           inr (less_than j is.1.0 p z.0 z.1 same (sym same ∙ z.2 ∙ is.1.3) is.1.2)
       go o i (FlatAt.Register g) a is f =

@@ -8,11 +8,11 @@ use Rattle.std.specs.FinMap.Entries.{below_all, is_sorted}
 use Rattle.std.proofs.lemmas.Cmp.{tied_itself}
 use Rattle.std.proofs.lemmas.Map.Lookups.{exact_bytes}
 use Rattle.serde_json.specs.Data.{Data, Members, no_members, member, put as put_member}
-use Rattle.st_ids.specs.Listing.{Has, keyed}
+use Rattle.st_ids.specs.Listing.{Has, key_pairs}
 use Rattle.st_ids.specs.declared.names.NodeId.{NodeId}
 use Rattle.st_marks.specs.Document.{Document}
 use Rattle.st_marks.specs.LiveTree.{Shows, ShowsMembers, no_more_members, next_member, register}
-use Rattle.st_edit_laws.specs.Edited.{same_key, without}
+use Rattle.st_edit_laws.specs.Edited.{same_key, other_members}
 use Rattle.st_edit_laws.proofs.Along.{same_key-true, same_key-itself}
 use Rattle.st_edit_laws.proofs.Keys.{other_keys, with_one}
 use Rattle.st_lemmas.proofs.Orders.{is_lt-Less}
@@ -22,14 +22,14 @@ use Rattle.st_lemmas.proofs.Bools.{and-true}
 
 module _ (is_array : List ℕ → Bool) (D E : Document) (key : List ℕ) where
   pub members_without : {n : NodeId} {ks : List (List ℕ)} {ms : Members} → ShowsMembers is_array D n ks ms → ((k : List ℕ) → E.held (register n k) ≡ cond (same_key key k) None (D.held (register n k)))
-      → ((k : List ℕ) (x : NodeId) → D.held (register n k) ≡ Some x → (d : Data) → Shows is_array D x d → Shows is_array E x d) → ShowsMembers is_array E n (other_keys key ks) (without key ms)
+      → ((k : List ℕ) (x : NodeId) → D.held (register n k) ≡ Some x → (d : Data) → Shows is_array D x d → Shows is_array E x d) → ShowsMembers is_array E n (other_keys key ks) (other_members key ms)
   members_without (no_more_members n) held kept = no_more_members n
   members_without (next_member n m k d ks ms p a s) held kept = go (same_key key k) refl (members_without s held kept)
     where
-      go : (b : Bool) → same_key key k ≡ b → ShowsMembers is_array E n (other_keys key ks) (without key ms)
-          → ShowsMembers is_array E n (cond (not b) (k ∷ other_keys key ks) (other_keys key ks)) (cond b (without key ms) (member k d (without key ms)))
+      go : (b : Bool) → same_key key k ≡ b → ShowsMembers is_array E n (other_keys key ks) (other_members key ms)
+          → ShowsMembers is_array E n (cond (not b) (k ∷ other_keys key ks) (other_keys key ks)) (cond b (other_members key ms) (member k d (other_members key ms)))
       go true e rest = rest
-      go false e rest = next_member n m k d (other_keys key ks) (without key ms) (held k ∙ ap (λ b. cond b None (D.held (register n k))) e ∙ p) (kept k m p d a) rest
+      go false e rest = next_member n m k d (other_keys key ks) (other_members key ms) (held k ∙ ap (λ b. cond b None (D.held (register n k))) e ∙ p) (kept k m p d a) rest
 
 -- ## Members with one more
 
@@ -58,7 +58,7 @@ apart_greater key k more = go (same_key k key) refl
 abbrev AllAbove : List ℕ → List (List ℕ) → Type 0
 AllAbove key ks = (k : List ℕ) → Has ks k → bytes_cmp key k ≡ Less
 
-above_all : (key : List ℕ) (ks : List (List ℕ)) → below_all bytes_cmp key (keyed itself ks) ≡ true → AllAbove key ks
+above_all : (key : List ℕ) (ks : List (List ℕ)) → below_all bytes_cmp key (key_pairs itself ks) ≡ true → AllAbove key ks
 above_all key [] e k h = absurd h
 above_all key (l ∷ ks) e k (inl q) = subst (λ k. bytes_cmp key k ≡ Less) q (is_lt-Less (bytes_cmp key l) (and-true _ _ e).0)
 above_all key (l ∷ ks) e k (inr h) = above_all key ks (and-true (is_lt (bytes_cmp key l)) _ e).1 k h
@@ -76,13 +76,13 @@ module _ (is_array : List ℕ → Bool) (D E : Document) (key : List ℕ) (top :
   members_behind (next_member n m k d ks ms p a s) held kept above =
       next_member n m k d ks ms (held k ∙ ap (λ b. cond b (Some top) (D.held (register n k))) (apart_less key k (above k (inl refl))) ∙ p) (kept k m p d a) (members_behind s held kept (λ l h. above l (inr h)))
 
-  pub members_with : {n : NodeId} {ks : List (List ℕ)} {ms : Members} → ShowsMembers is_array D n ks ms → is_sorted bytes_cmp (keyed itself ks) ≡ true → Held n → KeptAll n
+  pub members_with : {n : NodeId} {ks : List (List ℕ)} {ms : Members} → ShowsMembers is_array D n ks ms → is_sorted bytes_cmp (key_pairs itself ks) ≡ true → Held n → KeptAll n
       → ShowsMembers is_array E n (with_one key ks) (put_member key new ms)
   members_with (no_more_members n) rising held kept = next_member n top key new [] no_members (held key ∙ ap (λ b. cond b (Some top) (D.held (register n key))) (same_key-itself key)) shown (no_more_members n)
   members_with (next_member n m k d ks ms p a s) rising held kept = go (bytes_cmp key k) refl (members_with s parts.1 held kept)
     where
-      parts : (below_all bytes_cmp k (keyed itself ks) ≡ true) × (is_sorted bytes_cmp (keyed itself ks) ≡ true)
-      parts = and-true (below_all bytes_cmp k (keyed itself ks)) _ rising
+      parts : (below_all bytes_cmp k (key_pairs itself ks) ≡ true) × (is_sorted bytes_cmp (key_pairs itself ks) ≡ true)
+      parts = and-true (below_all bytes_cmp k (key_pairs itself ks)) _ rising
 
       top_held : E.held (register n key) ≡ Some top
       top_held = held key ∙ ap (λ b. cond b (Some top) (D.held (register n key))) (same_key-itself key)

@@ -33,7 +33,7 @@ use Rattle.st_edits.specs.Resolve.{require, is_inside, is_there, may_move, move,
 use Rattle.st_schema.specs.Kind.{is_row}
 use Rattle.st_edits.specs.declared.names.NameCounters.{NameCounters}
 use Rattle.st_edits.specs.declared.names.Takes.TheVariants as field
-use Rattle.st_edits.proofs.Fits.{passed, found, has_take, has_drop}
+use Rattle.st_edits.proofs.Fits.{passed, or_refuse-Ok, has_take, has_drop}
 use Rattle.st_edits.proofs.MoveFits.{CellsFresh, move_fits, asked}
 use Rattle.st_edit_laws.specs.Alike.{IsFrom, AreAlikeAt}
 use Rattle.st_edit_laws.specs.Edited.{TellsRows, at_path, same_key, with_items, without_items, without_key, is_row_key}
@@ -62,7 +62,7 @@ on_path D sound [] k n m z zero e f = let same : n ≡ m = cc in let at : m ≡ 
 on_path D sound [] k n m z (suc j) e f = let same : n ≡ m = cc in inr (j, ap (climb (above D) (suc j)) same ∙ f)
 on_path D sound (p ∷ ps) k n m z j e f =
     let x = passed (or_refuse (child D n p) (NoNode k)) (λ x. walk_from D (k + 1) x ps) m e in
-    let c = found (child D n p) (NoNode k) x.0 x.1 in
+    let c = or_refuse-Ok (child D n p) (NoNode k) x.0 x.1 in
     go x.0 c (child_up D sound n x.0 p c) (on_path D sound ps (k + 1) x.0 m z j x.2 f)
   where
     go : (x : NodeId) → child D n p ≡ Some x → above D x ≡ Some n → Has (nodes_on_path D x ps) z ⊎ ((i : ℕ) × (climb (above D) (suc i) x ≡ Some z)) → Has (nodes_on_path D n (p ∷ ps)) z ⊎ ((i : ℕ) × (climb (above D) (suc i) n ≡ Some z))
@@ -444,7 +444,7 @@ module _ (D : Document) (s : SchemaView) (G : NameCounters) (at : List Place) (k
             let one : count ≡ 1 = grind (arith, nat_tests) in
             subst Goes is
             (field_departs is_array D sound typed w.node w.target x.0 at key index count to d t.0 t.1 (t.2 is_array schema tells ∙ ap is_row q) (ruled_key field.Open D s w.node key w.source_rule schema w.source_ruled ∙ ap is_row q) w.way w.target_way
-            one (found (D.held (field_at w.node key)) Range x.0 x.1) shows (λ z v i. clear z v (subst (λ l. Has l z) is i)))
+            one (or_refuse-Ok (D.held (field_at w.node key)) Range x.0 x.1) shows (λ z v i. clear z v (subst (λ l. Has l z) is i)))
     departs Sequence q f = go (nat_le (index + count) (row_length D w.node)) refl f
       where
         t : (t : NodeType) × (D.nodes w.node ≡ Some t) × ((is_array : List ℕ → Bool) → is_sound s ≡ true → TellsRows is_array s → is_array t.ty ≡ is_row w.source_rule.kind) × (takes_kind field.Open w.source_rule.kind ≡ true)

@@ -16,14 +16,14 @@ use Rattle.st_schema.specs.Schema.{SchemaView}
 use Rattle.st_schema.specs.declared.names.FieldRule.{FieldRule}
 use Rattle.st_marks.specs.declared.intents.Group.{Group}
 use Rattle.st_marks.specs.declared.intents.Owned.{Owned}
-use Rattle.st_marks.specs.Document.{Document, owned}
+use Rattle.st_marks.specs.Document.{Document, owned_cell}
 use Rattle.st_edits.specs.New.{owned_by, top_cell, top_cells, group_of, names_taken}
 use Rattle.st_opening.specs.Start.{register_at, registers}
 use Rattle.st_edits.specs.Paths.{and_then}
 use Rattle.st_edits.specs.Resolve.{allowed_nodes, named_nodes, names_left, trees_allowed}
 use Rattle.st_edits.specs.declared.names.NameCounters.{NameCounters}
 use Rattle.st_edits.proofs.Fits.{passed}
-use Rattle.st_edits.proofs.NewFits.{NodesFresh, none_is}
+use Rattle.st_edits.proofs.NewFits.{NodesFresh, none_refused-Ok}
 use Rattle.st_edits.proofs.Numbered.{Counted, IsAt, numbered, IsInner, fields_inner}
 use Rattle.st_edit_laws.proofs.NewTrees.{Own, inner, item_nodes}
 use Rattle.st_lemmas.proofs.Lists.{position_from-None}
@@ -37,7 +37,7 @@ are_allowed s G rule trees xs e =
     let u = passed (trees_allowed s rule trees) (λ _. and_then (names_left G (names_taken (named_nodes G trees))) (λ _. Ok (named_nodes G trees))) xs e in
     let v = passed (names_left G (names_taken (named_nodes G trees))) (λ _. Ok (named_nodes G trees)) xs u.2 in
     let is : named_nodes G trees ≡ xs = cc in
-    (position_from-None 0 (items_verdicts s rule.types trees) (none_is (position_from (λ ok. not ok) 0 (items_verdicts s rule.types trees)) u.0 u.1), is)
+    (position_from-None 0 (items_verdicts s rule.types trees) (none_refused-Ok (position_from (λ ok. not ok) 0 (items_verdicts s rule.types trees)) u.0 u.1), is)
 
 -- the whole list has all
 pub own_all : (rev : Rev) (xs : List FlatNode) (low high : ℕ) → Own rev xs xs low high
@@ -63,8 +63,8 @@ none_top : (xs : List FlatNode) → ((y : FlatNode) → Has xs y → IsInner y.a
 none_top [] inside = refl
 none_top (x ∷ xs) inside = ap (λ o. cons_option o (top_cells xs)) (no_top x.node x.at (inside x (inl refl))) ∙ none_top xs (λ y h. inside y (inr h))
 
-tree_top : (rev : Rev) (c d n : ℕ) (t : Node) → top_cells (tree_listed rev (FlatAt.Top (cell_named rev c)) n d t) ≡ owned (cell_named rev c) (node_named rev n) ∷ []
-tree_top rev c d n (node ty leaf fields) = ap (λ os. owned (cell_named rev c) (node_named rev n) ∷ os) (none_top (fields_listed rev n (n + 1) d fields) (fields_inner rev n (n + 1) d fields))
+tree_top : (rev : Rev) (c d n : ℕ) (t : Node) → top_cells (tree_listed rev (FlatAt.Top (cell_named rev c)) n d t) ≡ owned_cell (cell_named rev c) (node_named rev n) ∷ []
+tree_top rev c d n (node ty leaf fields) = ap (λ os. owned_cell (cell_named rev c) (node_named rev n) ∷ os) (none_top (fields_listed rev n (n + 1) d fields) (fields_inner rev n (n + 1) d fields))
 
 pub top_nodes : (rev : Rev) (n c : ℕ) (ts : Nodes) → map (λ (o : Owned). o.node) (top_cells (tops_listed rev n c ts)) ≡ item_nodes rev n ts
 top_nodes rev n c no_nodes = refl

@@ -7,7 +7,7 @@ use Rattle.std.specs.declared.cmp.Ordering.TheVariants.{Less}
 use Rattle.std.specs.Cmp.Lexicographic.{slice_cmp, nat_list_cmp_total}
 use Rattle.std.specs.FinMap.Entries.{find, below_all, is_sorted}
 use Rattle.serde_json.specs.Data.{object}
-use Rattle.st_ids.specs.Listing.{Has, item_of, keyed}
+use Rattle.st_ids.specs.Listing.{Has, item_of, key_pairs}
 use Rattle.st_ids.specs.Order.{same_node}
 use Rattle.st_ids.specs.declared.names.FieldId.{FieldId}
 use Rattle.st_ids.specs.declared.names.Leaf.{Leaf}
@@ -189,33 +189,33 @@ rise_parts before key row items rest e =
     off true h = cc
     off false h = refl
 
-below_keys : (b before : List ℕ) (fs : Fields) → keys_rise before fs ≡ true → ((k : List ℕ) → bytes_cmp before k ≡ Less → bytes_cmp b k ≡ Less) → below_all bytes_cmp b (keyed itself (keys_of fs)) ≡ true
+below_keys : (b before : List ℕ) (fs : Fields) → keys_rise before fs ≡ true → ((k : List ℕ) → bytes_cmp before k ≡ Less → bytes_cmp b k ≡ Less) → below_all bytes_cmp b (key_pairs itself (keys_of fs)) ≡ true
 below_keys b before no_fields e less = refl
 below_keys b before (field key row items rest) e less =
     let r = rise_parts before key row items rest e in
     let here = less key r.2 in
     and-both (is_lt (bytes_cmp b key)) _ (ap is_lt here) (below_keys b key rest r.3 (λ k l. nat_list_cmp_total.trans b key k here l))
 
-rising_keys : (before : List ℕ) (fs : Fields) → keys_rise before fs ≡ true → is_sorted bytes_cmp (keyed itself (keys_of fs)) ≡ true
+rising_keys : (before : List ℕ) (fs : Fields) → keys_rise before fs ≡ true → is_sorted bytes_cmp (key_pairs itself (keys_of fs)) ≡ true
 rising_keys before no_fields e = refl
 rising_keys before (field key row items rest) e =
     let r = rise_parts before key row items rest e in
-    and-both (below_all bytes_cmp key (keyed itself (keys_of rest))) _ (below_keys key key rest r.3 (λ k l. l)) (rising_keys key rest r.3)
+    and-both (below_all bytes_cmp key (key_pairs itself (keys_of rest))) _ (below_keys key key rest r.3 (λ k l. l)) (rising_keys key rest r.3)
 
-key_found : (k : List ℕ) (ks : List (List ℕ)) → Has ks k → find bytes_cmp k (keyed itself ks) ≡ Some k
+key_found : (k : List ℕ) (ks : List (List ℕ)) → Has ks k → find bytes_cmp k (key_pairs itself ks) ≡ Some k
 key_found k [] h = absurd h
 key_found k (l ∷ ks) h = go (same_key k l) refl h (λ i. key_found k ks i)
   where
-    go : (b : Bool) → same_key k l ≡ b → (l ≡ k) ⊎ Has ks k → (Has ks k → find bytes_cmp k (keyed itself ks) ≡ Some k) → cond b (Some l) (find bytes_cmp k (keyed itself ks)) ≡ Some k
+    go : (b : Bool) → same_key k l ≡ b → (l ≡ k) ⊎ Has ks k → (Has ks k → find bytes_cmp k (key_pairs itself ks) ≡ Some k) → cond b (Some l) (find bytes_cmp k (key_pairs itself ks)) ≡ Some k
     go true e i rest = ap (λ x. Some x) (sym (same_key-true k l e))
     go false e (inl q) rest = absurd (true-false (same_key-itself k) (ap (same_key k) (sym q) ∙ e))
     go false e (inr i) rest = rest i
 
-key_missed : (k : List ℕ) (ks : List (List ℕ)) → (Has ks k → ⊥) → find bytes_cmp k (keyed itself ks) ≡ None
+key_missed : (k : List ℕ) (ks : List (List ℕ)) → (Has ks k → ⊥) → find bytes_cmp k (key_pairs itself ks) ≡ None
 key_missed k [] out = refl
 key_missed k (l ∷ ks) out = go (same_key k l) refl (key_missed k ks (λ h. out (inr h)))
   where
-    go : (b : Bool) → same_key k l ≡ b → find bytes_cmp k (keyed itself ks) ≡ None → cond b (Some l) (find bytes_cmp k (keyed itself ks)) ≡ None
+    go : (b : Bool) → same_key k l ≡ b → find bytes_cmp k (key_pairs itself ks) ≡ None → cond b (Some l) (find bytes_cmp k (key_pairs itself ks)) ≡ None
     go true e rest = absurd (out (inl (sym (same_key-true k l e))))
     go false e rest = rest
 

@@ -19,7 +19,7 @@ use Rattle.st_schema.specs.TreeText.{tree_data}
 use Rattle.st_schema.proofs.AllowedForm.{conforming_formed}
 use Rattle.st_marks.specs.declared.intents.Owned.{Owned}
 use Rattle.st_marks.specs.declared.places.Spot.{Spot}
-use Rattle.st_marks.specs.Document.{Document, NodeType, IsSoundInForm, is_cell, owned, slot}
+use Rattle.st_marks.specs.Document.{Document, NodeType, IsSoundInForm, is_cell, owned_cell, slot}
 use Rattle.st_ids.specs.Root.{opening, root}
 use Rattle.st_marks.specs.LiveTree.{Shows, owners_shown}
 use Rattle.st_marks.proofs.Members.{distinct-has, has-all}
@@ -116,13 +116,13 @@ cell_same : (n m : NodeId) (at : FlatAt) → cell_at n m at ≡ owned_by m (row_
 cell_same n m FlatAt.Root = refl
 cell_same n m (FlatAt.Top c) = refl
 cell_same n m (FlatAt.Register f) = refl
-cell_same n m (FlatAt.Row r c) = elim (same_node r n) as (λ b. cond b (Some (owned c m)) None ≡ owned_by m (cond b (Some c) None)) [ true ↦ refl | false ↦ refl ]
+cell_same n m (FlatAt.Row r c) = elim (same_node r n) as (λ b. cond b (Some (owned_cell c m)) None ≡ owned_by m (cond b (Some c) None)) [ true ↦ refl | false ↦ refl ]
 
 cell_place : (n m : NodeId) (o : Owned) (at : FlatAt) → cell_at n m at ≡ Some o → above_at true at ≡ Some n
 cell_place n m o FlatAt.Root e = absurd (cc)
 cell_place n m o (FlatAt.Top c) e = absurd (cc)
 cell_place n m o (FlatAt.Register f) e = absurd (cc)
-cell_place n m o (FlatAt.Row r c) e = ap (λ x. Some x) (same_node-true r n (if_some (same_node r n) (owned c m) o e).0)
+cell_place n m o (FlatAt.Row r c) e = ap (λ x. Some x) (same_node-true r n (if_some (same_node r n) (owned_cell c m) o e).0)
 
 held_place : (f : FieldId) (n m : NodeId) (at : FlatAt) → held_at f n at ≡ Some m → above_at false at ≡ Some f.node
 held_place f n m FlatAt.Root e = absurd (cc)

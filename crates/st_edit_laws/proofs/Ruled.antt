@@ -19,7 +19,7 @@ use Rattle.st_edits.specs.Resolve.{rule_at, rule_for, of_kind, takes_kind}
 use Rattle.st_schema.specs.Kind.{is_row, is_single_kind}
 use Rattle.st_edits.specs.declared.names.Takes.{Takes}
 use Rattle.st_edits.specs.declared.names.Takes.TheVariants as field
-use Rattle.st_edits.proofs.Fits.{passed, found, key_some, kind_taken, looked_up, all_pass}
+use Rattle.st_edits.proofs.Fits.{passed, or_refuse-Ok, key_some, kind_taken, looked_up, all_pass}
 use Rattle.st_edits.specs.ArrayTypes.{is_array_form}
 use Rattle.st_edit_laws.specs.Edited.{TellsRows}
 use Rattle.st_lemmas.proofs.Bools.{and-true}
@@ -68,7 +68,7 @@ pub ruled_kind : (takes : Takes) (D : Document) (s : SchemaView) (n : NodeId) (k
     → (t : NodeType) × (D.nodes n ≡ Some t) × ((is_array : List ℕ → Bool) → is_sound s ≡ true → TellsRows is_array s → is_array t.ty ≡ is_row rule.kind) × (takes_kind takes rule.kind ≡ true)
 ruled_kind takes D s n key rule e =
     let r = passed (or_refuse (rule_at D s n key) Kind) (of_kind (takes_kind takes)) rule e in
-    go (D.nodes n) refl r.0 (found (rule_at D s n key) Kind r.0 r.1) r.2
+    go (D.nodes n) refl r.0 (or_refuse-Ok (rule_at D s n key) Kind r.0 r.1) r.2
   where
     kind_same : (got : FieldRule) → of_kind (takes_kind takes) got ≡ Ok rule → got ≡ rule
     kind_same got h = same (takes_kind takes got.kind) h
@@ -122,7 +122,7 @@ type_key s ty key rule sound e = by_kind rule.kind refl
 pub ruled_key : (takes : Takes) (D : Document) (s : SchemaView) (n : NodeId) (key : Key) (rule : FieldRule) → is_sound s ≡ true → rule_for takes D s n key ≡ Ok rule → (length key.0 == 0) ≡ is_row rule.kind
 ruled_key takes D s n key rule sound e =
     let r = passed (or_refuse (rule_at D s n key) Kind) (of_kind (takes_kind takes)) rule e in
-    go (D.nodes n) (found (rule_at D s n key) Kind r.0 r.1) ∙ ap (λ (r : FieldRule). is_row r.kind) (same (takes_kind takes r.0.kind) r.0 r.2)
+    go (D.nodes n) (or_refuse-Ok (rule_at D s n key) Kind r.0 r.1) ∙ ap (λ (r : FieldRule). is_row r.kind) (same (takes_kind takes r.0.kind) r.0 r.2)
   where
     same : (b : Bool) (got : FieldRule) → cond b (Ok got) (Err Kind) ≡ Ok rule → got ≡ rule
     same true got f = cc

@@ -39,7 +39,7 @@ use Rattle.st_schema.specs.Kind.{is_row}
 use Rattle.st_edits.specs.declared.names.NameCounters.{NameCounters}
 use Rattle.st_edits.specs.declared.names.Takes.{Takes}
 use Rattle.st_edits.specs.declared.names.Takes.TheVariants as field
-use Rattle.st_edits.proofs.Fits.{passed, found, all_pass}
+use Rattle.st_edits.proofs.Fits.{passed, or_refuse-Ok, all_pass}
 use Rattle.st_edits.proofs.MoveFits.{CellsFresh}
 use Rattle.st_edits.proofs.NewFits.{made, insert_fits, put_fits, NodesFresh, items_form, with_has}
 use Rattle.st_edit_laws.specs.Edited.{TellsRows}
@@ -85,7 +85,7 @@ no_leaf_form s v form sound e =
 unleafed : (takes : Takes) (D : Document) (s : SchemaView) (n : NodeId) (key : Key) (rule : FieldRule) → is_sound s ≡ true → rule_for takes D s n key ≡ Ok rule → (t : NodeType) → D.nodes n ≡ Some t → IsLeafTyped t → t.leaf ≡ None
 unleafed takes D s n key rule sound e t known typed =
     let r = passed (or_refuse (rule_at D s n key) Kind) (of_kind (takes_kind takes)) rule e in
-    go t.leaf refl (ap (option_and_then (λ (t : NodeType). field_of s t.ty key.0)) (sym known) ∙ found (rule_at D s n key) Kind r.0 r.1)
+    go t.leaf refl (ap (option_and_then (λ (t : NodeType). field_of s t.ty key.0)) (sym known) ∙ or_refuse-Ok (rule_at D s n key) Kind r.0 r.1)
   where
     no_form : (v : Leaf) (o : Option Form) (got : FieldRule) → form_of s.types (leaf_type v) ≡ o → option_and_then (λ (form : Form). field_in form key.0) o ≡ Some got → ⊥
     no_form v None got f g = cc

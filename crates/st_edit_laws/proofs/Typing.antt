@@ -14,7 +14,7 @@ use Rattle.st_marks.specs.declared.verdicts.Verdict.{Verdict}
 use Rattle.st_marks.specs.Document.{Document, NodeType, IsSoundInForm}
 use Rattle.st_marks.specs.Intent.{Fits, IsKnown, Owns, cell_of, clears, group_at, is_new, new_type, put_in, register_of}
 use Rattle.st_marks.specs.CarryOut.{full, only_new, unless_put, void, void_data, with_groups, with_names}
-use Rattle.st_marks.specs.Verdict.{carried}
+use Rattle.st_marks.specs.Verdict.{carried_document}
 use Rattle.st_marks.proofs.Lookups.{group_at-group, put_in-has}
 use Rattle.st_marks.proofs.Members.{all-has, has-append}
 use Rattle.st_marks.proofs.NewRows.{with_groups-has}
@@ -89,7 +89,7 @@ module _ (is_array : List ℕ → Bool) (D : Document) (N : Intent) (sound : IsS
       go None = data_typed
       go (Some text) = typed
 
-  pub carried_typed : (v : Verdict) → IsAsTyped is_array (carried v D N)
+  pub carried_typed : (v : Verdict) → IsAsTyped is_array (carried_document v D N)
   carried_typed Verdict.Sound = full_typed
   carried_typed (Verdict.Need n) = void_typed
   carried_typed (Verdict.Cycle n) = void_typed

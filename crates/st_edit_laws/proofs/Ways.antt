@@ -12,7 +12,7 @@ use Rattle.st_marks.specs.Document.{Document, IsSoundInForm, above, content}
 use Rattle.st_marks.specs.LiveTree.{owners_shown, register}
 use Rattle.st_marks.proofs.Members.{all-has}
 use Rattle.st_edits.specs.Paths.{and_then, child, or_refuse, walk_from}
-use Rattle.st_edits.proofs.Fits.{passed, found}
+use Rattle.st_edits.proofs.Fits.{passed, or_refuse-Ok}
 use Rattle.st_edit_laws.specs.Alike.{IsFrom}
 use Rattle.st_edit_laws.specs.Edited.{same_key, is_row_key}
 use Rattle.st_edit_laws.specs.Moved.{index_after, path_after, place_after, same_path, same_place}
@@ -89,7 +89,7 @@ place_same p q e =
 
 module _ (D : Document) (sound : IsSoundInForm D) where
   step : (k : ℕ) (n m : NodeId) (p : Place) (ps : List Place) → walk_from D k n (p ∷ ps) ≡ Ok m → (x : NodeId) × (child D n p ≡ Some x) × (walk_from D (k + 1) x ps ≡ Ok m)
-  step k n m p ps e = let x = passed (or_refuse (child D n p) (NoNode k)) (λ x. walk_from D (k + 1) x ps) m e in (x.0, found (child D n p) (NoNode k) x.0 x.1, x.2)
+  step k n m p ps e = let x = passed (or_refuse (child D n p) (NoNode k)) (λ x. walk_from D (k + 1) x ps) m e in (x.0, or_refuse-Ok (child D n p) (NoNode k) x.0 x.1, x.2)
 
   -- a way of some steps leads further down
   not_back : (k : ℕ) (n : NodeId) (p : Place) (ps : List Place) → walk_from D k n (p ∷ ps) ≡ Ok n → ⊥

@@ -94,13 +94,13 @@ abbrev pub with_items : ℕ → List Data → Data → Data
 with_items index new d = in_node (in_row (λ ds. take index ds ++ (new ++ drop index ds))) d
 
 -- members without those of a key
-abbrev pub without : List ℕ → Members → Members
-without k no_members = no_members
-without k (member l d ms) = if same_key k l then without k ms else member l d (without k ms)
+abbrev pub other_members : List ℕ → Members → Members
+other_members k no_members = no_members
+other_members k (member l d ms) = if same_key k l then other_members k ms else member l d (other_members k ms)
 
 -- what stands under a key is taken away
 abbrev pub without_key : List ℕ → Data → Data
-without_key k d = in_node (in_fields (without k)) d
+without_key k d = in_node (in_fields (other_members k)) d
 
 -- a tree comes under a key, in the place of what is there, the keys being in the order of their bytes
 abbrev pub with_key : List ℕ → Data → Data → Data

@@ -17,7 +17,7 @@ ghost use Rattle.st_marks.specs.Document.{NodeType, Document, IsSoundInForm};
 ghost use Rattle.st_ids.specs.Root.{root};
 ghost use Rattle.st_marks.specs.Intent.{Fits, is_new};
 ghost use Rattle.st_marks.specs.CarryOut.{full};
-ghost use Rattle.st_marks.specs.Verdict.{IsVerdict, carried};
+ghost use Rattle.st_marks.specs.Verdict.{IsVerdict, carried_document};
 ghost use Rattle.st_marks.specs.LiveTree.{Shows};
 ghost use Rattle.st_opening.specs.Start.{start_of};
 ghost use Rattle.st_edits.specs.declared.names.NameCounters.{NameCounters};
@@ -110,7 +110,7 @@ pub fn resolved_edits_are_typed()
 /// that has the nodes of the first and none that it makes.
 pub fn typed_intents_keep_types()
     ensures whole { (is_array : List ℕ → Bool) (D : Document) (N : Intent) → IsSoundInForm D → IsAsTyped is_array D → IsTypedIntent is_array D N → IsAsTyped is_array (full D N) }
-    ensures carried { (is_array : List ℕ → Bool) (D : Document) (N : Intent) (v : Verdict) → IsSoundInForm D → IsAsTyped is_array D → IsTypedIntent is_array D N → IsAsTyped is_array (carried v D N) }
+    ensures carried { (is_array : List ℕ → Bool) (D : Document) (N : Intent) (v : Verdict) → IsSoundInForm D → IsAsTyped is_array D → IsTypedIntent is_array D N → IsAsTyped is_array (carried_document v D N) }
     ensures later { (is_array : List ℕ → Bool) (D E : Document) (N : Intent) → ((n : NodeId) (t : NodeType) → D.nodes n ≡ Some t → E.nodes n ≡ Some t) → Fits D N
         → ((n : NodeId) → IsTrue (is_new N n) → E.nodes n ≡ None) → IsTypedIntent is_array D N → IsTypedIntent is_array E N }
 {}

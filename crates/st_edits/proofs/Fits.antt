@@ -24,7 +24,7 @@ use Rattle.st_marks.specs.declared.intents.Owned.{Owned}
 use Rattle.st_marks.specs.declared.intents.Put.{Put}
 use Rattle.st_marks.specs.declared.intents.To.{To}
 use Rattle.st_marks.specs.declared.places.Slot.{Slot}
-use Rattle.st_marks.specs.Document.{Document, NodeType, IsSoundInForm, is_cell, slot, owned}
+use Rattle.st_marks.specs.Document.{Document, NodeType, IsSoundInForm, is_cell, slot, owned_cell}
 use Rattle.st_ids.specs.Root.{root}
 use Rattle.st_marks.specs.Intent.{Fits, IsKnown, Owns, cell_of, clears, is_new, register_of}
 use Rattle.st_marks.proofs.Members.{all-has, has-all, has-map, first-has}
@@ -44,15 +44,15 @@ pub passed : {A B : Type 0} (r : Result A EditFault) (next : A → Result B Edit
 passed (Err e) next y h = cc
 passed (Ok x) next y h = (x, refl, h)
 
-pub found : {A : Type 0} (o : Option A) (e : EditFault) (x : A) → or_refuse o e ≡ Ok x → o ≡ Some x
-found None e x h = cc
-found (Some y) e x h = let q : y ≡ x = cc in ap (λ z. Some z) q
+pub or_refuse-Ok : {A : Type 0} (o : Option A) (e : EditFault) (x : A) → or_refuse o e ≡ Ok x → o ≡ Some x
+or_refuse-Ok None e x h = cc
+or_refuse-Ok (Some y) e x h = let q : y ≡ x = cc in ap (λ z. Some z) q
 
 -- ## What a row shows
 
 -- a node that a row shows stands in its cell there
 pub record IsShown (D : Document) (n : NodeId) (s : Slot) : Type 0 where
-  pub in_row : Has (D.rows n) (owned s.cell s.node)
+  pub in_row : Has (D.rows n) (owned_cell s.cell s.node)
   pub full : is_cell s.cell (D.place s.node) ≡ true
 
 pub shown : (D : Document) (n : NodeId) (s : Slot) → Has (live_slots D n) s → IsShown D n s
@@ -80,7 +80,7 @@ child_there D n m p sound e = go (length p.key.0 == 0) e
     item (Some s) f e =
         let q : s.node ≡ m = cc in
         let w = shown D n s (at_has (live_slots D n) p.index s f) in
-        subst (λ k. IsSome (D.nodes k)) q (sound.cells_known n (owned s.cell s.node) w.in_row).1
+        subst (λ k. IsSome (D.nodes k)) q (sound.cells_known n (owned_cell s.cell s.node) w.in_row).1
 
     register : (b : Bool) → cond b (D.held (field_at n p.key)) None ≡ Some m → IsSome (D.nodes m)
     register true e = (sound.held_known m (field_at n p.key) e).0
@@ -94,7 +94,7 @@ pub walk_there : (D : Document) (k : ℕ) (n m : NodeId) (path : List Place) →
 walk_there D k n m [] sound known e = let q : n ≡ m = cc in subst (λ x. IsSome (D.nodes x)) q known
 walk_there D k n m (p ∷ ps) sound known e =
     let x = passed (or_refuse (child D n p) _) (λ x. walk_from D (k + 1) x ps) m e in
-    walk_there D (k + 1) x.0 m ps sound (child_there D n x.0 p sound (found (child D n p) _ x.0 x.1)) x.2
+    walk_there D (k + 1) x.0 m ps sound (child_there D n x.0 p sound (or_refuse-Ok (child D n p) _ x.0 x.1)) x.2
 
 -- ## A need
 
@@ -204,7 +204,7 @@ pub item_there : (D : Document) (n : NodeId) (index count : ℕ) → IsSoundInFo
 item_there D n index count sound m h =
     let s = has-map (λ (s : Slot). s.node) (slots_from D n index count) m h in
     let w = slot_shown D n index count s.0 s.1 in (
-      subst (λ k. IsSome (D.nodes k)) s.2 (sound.cells_known n (owned s.0.cell s.0.node) w.in_row).1,
+      subst (λ k. IsSome (D.nodes k)) s.2 (sound.cells_known n (owned_cell s.0.cell s.0.node) w.in_row).1,
       λ e. placed_not_root D s.0 sound w.full (s.2 ∙ e),
     )
 
@@ -376,6 +376,6 @@ clear_fits D s G at key N sound schema e =
     let r = passed (rule_for field.Optional D s n.0 key) (λ _. Ok (record (empty_intent D G) { clear = field_at n.0 key ∷ [] })) N n.2 in
     let is : record (empty_intent D G) { clear = field_at n.0 key ∷ [] } ≡ N = cc in
     let rule = passed (or_refuse (rule_at D s n.0 key) Kind) (of_kind is_optional) r.0 r.1 in
-    let w = ruled D s n.0 key rule.0 (found (rule_at D s n.0 key) Kind rule.0 rule.1) in
+    let w = ruled D s n.0 key rule.0 (or_refuse-Ok (rule_at D s n.0 key) Kind rule.0 rule.1) in
     let single = optional_single rule.0.kind (kind_taken is_optional rule.0 r.0 rule.2) in
     subst (Fits D) is (emptied_fits D G (field_at n.0 key) w.0 (key_some s w.1.0.ty key.0 rule.0 schema w.1.1 single))

@@ -26,7 +26,7 @@ use Rattle.st_marks.specs.declared.intents.Put.{Put}
 use Rattle.st_marks.specs.declared.intents.To.{To}
 use Rattle.st_marks.specs.declared.places.Slot.{Slot}
 use Rattle.st_marks.specs.declared.places.Spot.{Spot}
-use Rattle.st_marks.specs.Document.{Document, NodeType, IsSoundInForm, owned}
+use Rattle.st_marks.specs.Document.{Document, NodeType, IsSoundInForm, owned_cell}
 use Rattle.st_ids.specs.Root.{root}
 use Rattle.st_marks.specs.Intent.{Fits, IsKnown, Owns, cell_of, clears, group_cells, is_new, new_row_of, put_of, register_of}
 use Rattle.st_marks.proofs.Members.{all-has, has-all, any-has, first-has, none-has, has-map, map-has}
@@ -36,7 +36,7 @@ use Rattle.st_edits.specs.Resolve.{require, cells_for, moved_to_row, moved_to_fi
 use Rattle.st_schema.specs.Kind.{is_open, is_single_kind}
 use Rattle.st_edits.specs.declared.names.NameCounters.{NameCounters}
 use Rattle.st_edits.specs.declared.names.Takes.TheVariants as field
-use Rattle.st_edits.proofs.Fits.{all_map, distinct_map, none_kept, passed, found, shown, item_there, items_once, nowhere_fits, emptied_fits, key_some, ruled}
+use Rattle.st_edits.proofs.Fits.{all_map, distinct_map, none_kept, passed, or_refuse-Ok, shown, item_there, items_once, nowhere_fits, emptied_fits, key_some, ruled}
 use Rattle.st_lemmas.proofs.Bools.{and-true, true-false}
 use Rattle.st_ids.proofs.Shared.{at_has}
 
@@ -197,7 +197,7 @@ row_fits : (D : Document) (G : NameCounters) (m : NodeId) (index : ℕ) (ns : Li
     → IsSome (D.nodes m) → Fits D (moved_to_row D G m index ns)
 row_fits D G m index [] sound fresh once or_refuse known = nowhere_fits D G [] tt (λ n h. absurd h)
 row_fits D G m index (n ∷ ns) sound fresh once or_refuse known =
-    row_move_fits D G m (left_of D m index) (owned (cell_named G.rev G.cells) n) (cells_for G.rev (G.cells + 1) ns)
+    row_move_fits D G m (left_of D m index) (owned_cell (cell_named G.rev G.cells) n) (cells_for G.rev (G.cells + 1) ns)
     (λ p h. (let w = new_cell G.rev G.cells (n ∷ ns) p h in
     (ap (λ (c : CellId). c.0.rev) w.named, ap D.row_of w.named ∙ fresh w.number w.low, (or_refuse p.node w.owner).0, (or_refuse p.node w.owner).1)))
     (cells_once G.rev G.cells (n ∷ ns)) (nodes_once G.rev G.cells (n ∷ ns) once) known (left_in_row D m index sound)
@@ -270,7 +270,7 @@ are_taken D f Optional index count ns sound e = go (index == 0 && count == 1) re
         let n = passed (or_refuse (D.held f) Range) (λ (n : NodeId). Ok (n ∷ [])) ns g in
         let is : n.0 ∷ [] ≡ ns = cc in
         let one : (count == 1) ≡ true = (and-true (index == 0) (count == 1) h).1 in
-        let w = held_taken D f n.0 sound (found (D.held f) Range n.0 n.1) in
+        let w = held_taken D f n.0 sound (or_refuse-Ok (D.held f) Range n.0 n.1) in
         let few : 1 ≤ count = grind (arith, nat_tests) in
         subst (AreTaken D count) is (record { once = (tt, tt); each = λ m i. elim i [ inl q ↦ subst (λ x. IsSome (D.nodes x) × (x ≢ root)) q w | inr j ↦ absurd j ]; few = few })
 are_taken D f Sequence index count ns sound e = go (nat_le (index + count) (row_length D f.node)) e
@@ -309,7 +309,7 @@ move_fits D s G at key index count to to_key to_index N sound schema fresh e =
     let in_range = passed (require (is_there D m.0 target.0.kind to_index count) Range) _ may.0 may.1 in
     let inside = asked (is_there D m.0 target.0.kind to_index count) Range in_range.0 in_range.1 in
     let rule = passed (or_refuse (rule_at D s m.0 to_key) Kind) (of_kind is_open) target.0 target.1 in
-    let known = ruled D s m.0 to_key rule.0 (found (rule_at D s m.0 to_key) Kind rule.0 rule.1) in
+    let known = ruled D s m.0 to_key rule.0 (or_refuse-Ok (rule_at D s m.0 to_key) Kind rule.0 rule.1) in
     let same = kind_same is_open rule.0 target.0 rule.2 in
     let is : intent_to_move D G (field_at m.0 to_key) target.0.kind to_index ns.0 ≡ N = cc in
     go m.0 target.0 ns.0 (are_taken D (field_at n.0 key) source.0.kind index count ns.0 sound ns.1) known.0 known.1.0 (known.1.1 ∙ ap (λ (r : FieldRule). Some r) same) target.0.kind refl is inside

@@ -29,7 +29,7 @@ use Rattle.st_marks.specs.declared.intents.Intent.{Intent}
 use Rattle.st_marks.specs.declared.intents.Owned.{Owned}
 use Rattle.st_marks.specs.declared.intents.Put.{Put}
 use Rattle.st_marks.specs.declared.intents.To.{To}
-use Rattle.st_marks.specs.Document.{Document, NodeType, IsSoundInForm, owned}
+use Rattle.st_marks.specs.Document.{Document, NodeType, IsSoundInForm, owned_cell}
 use Rattle.st_ids.specs.Root.{root}
 use Rattle.st_marks.specs.Intent.{Fits, IsKnown, Owns, above_new, cell_of, clears, group_cells, is_new, new_row_of, put_of, put_under, register_of}
 use Rattle.st_marks.proofs.Members.{all-has, has-all, any-has, has-any, append_right, has-append, first-has, none-has, first-distinct, has-map, map-has, has-flat_map, flat_map-has, has-filter_map}
@@ -39,7 +39,7 @@ use Rattle.st_edits.specs.Paths.{and_then, or_refuse, field_at, left_of, row_len
 use Rattle.st_edits.specs.Resolve.{require, empty_intent, walk, rule_for, rule_at, of_kind, trees_allowed, none_refused, names_left, named_nodes, allowed_nodes, with_group, intent_to_insert, intent_to_place, insert, put}
 use Rattle.st_edits.specs.declared.names.NameCounters.{NameCounters}
 use Rattle.st_edits.specs.declared.names.Takes.TheVariants as field
-use Rattle.st_edits.proofs.Fits.{all_map, distinct_map, passed, found, key_some, ruled, walk_there, kind_taken}
+use Rattle.st_edits.proofs.Fits.{all_map, distinct_map, passed, or_refuse-Ok, key_some, ruled, walk_there, kind_taken}
 use Rattle.st_edits.proofs.MoveFits.{CellsFresh, left_in_row, put_none}
 use Rattle.st_edits.proofs.Numbered.{distinct_filter, distinct_flat, IsAt, Counted, IsNumbered, numbered, there_is, nodes_distinct, own_cell, cell_is, one_in_cell, IsArray, IsUnderArray, tops_rows, tops_counted, IsInner, fields_inner, tops_regs}
 use Rattle.st_lemmas.proofs.Lists.{position_from-None}
@@ -162,7 +162,7 @@ pub record IsMade (D : Document) (G : NameCounters) (into : Option FieldId) (m :
   pub groups_from : (g : Group) → Has gs g → IsGroup D into m xs g
   pub groups_once : AreDistinct (λ (g : Group). g.node) gs
   pub anchors_once : AreDistinct (λ (c : CellId). c) (filter_map (λ (g : Group). g.after) gs)
-  pub each_cell : (x : FlatNode) (c : CellId) → Has xs x → cell_of (to_at into x.at) ≡ Some c → Has (flat_map (λ (g : Group). g.cells) gs) (owned c x.node)
+  pub each_cell : (x : FlatNode) (c : CellId) → Has xs x → cell_of (to_at into x.at) ≡ Some c → Has (flat_map (λ (g : Group). g.cells) gs) (owned_cell c x.node)
   pub registers_once : AreDistinct (λ (f : FieldId). f) (filter_map (λ (x : FlatNode). register_of (to_at into x.at)) xs)
   pub cleared : (x : FlatNode) (f : FieldId) → Has xs x → register_of (to_at into x.at) ≡ Some f → Has fs f
   pub keys : (f : FieldId) → Has fs f → f.key.0 ≢ []
@@ -391,12 +391,12 @@ row_owned r n o (FlatAt.Register f) e = absurd (cc)
 row_owned r n o (FlatAt.Row q d) e = go (same_node q r) refl e
   where
     go : (b : Bool) → same_node q r ≡ b → owned_by n (cond b (Some d) None) ≡ Some o → (FlatAt.Row q d ≡ FlatAt.Row r o.cell) × (n ≡ o.node)
-    go true p e = let s : owned d n ≡ o = cc in ((λ i. FlatAt.Row (same_node-true q r p i) (s i).cell), ap (λ (o : Owned). o.node) s)
+    go true p e = let s : owned_cell d n ≡ o = cc in ((λ i. FlatAt.Row (same_node-true q r p i) (s i).cell), ap (λ (o : Owned). o.node) s)
     go false p e = absurd (cc)
 
 pub top_owned : (n : NodeId) (o : Owned) (at : FlatAt) → owned_by n (top_cell at) ≡ Some o → (at ≡ FlatAt.Top o.cell) × (n ≡ o.node)
 top_owned n o FlatAt.Root e = absurd (cc)
-top_owned n o (FlatAt.Top d) e = let s : owned d n ≡ o = cc in (ap (λ (o : Owned). FlatAt.Top o.cell) s, ap (λ (o : Owned). o.node) s)
+top_owned n o (FlatAt.Top d) e = let s : owned_cell d n ≡ o = cc in (ap (λ (o : Owned). FlatAt.Top o.cell) s, ap (λ (o : Owned). o.node) s)
 top_owned n o (FlatAt.Row q d) e = absurd (cc)
 top_owned n o (FlatAt.Register f) e = absurd (cc)
 
@@ -416,8 +416,8 @@ cells_under_from xs r o h =
     let c = row_owned r y.0.node o y.0.at y.2 in
     (y.0, y.1, c.0, c.1)
 
-pub cells_under_has : (xs : List FlatNode) (r : NodeId) (x : FlatNode) (c : CellId) → Has xs x → x.at ≡ FlatAt.Row r c → Has (cells_under xs r) (owned c x.node)
-cells_under_has xs r x c h e = has-filter_map (λ (x : FlatNode). owned_by x.node (row_cell r x.at)) xs x (owned c x.node) h
+pub cells_under_has : (xs : List FlatNode) (r : NodeId) (x : FlatNode) (c : CellId) → Has xs x → x.at ≡ FlatAt.Row r c → Has (cells_under xs r) (owned_cell c x.node)
+cells_under_has xs r x c h e = has-filter_map (λ (x : FlatNode). owned_by x.node (row_cell r x.at)) xs x (owned_cell c x.node) h
     (ap (λ at. owned_by x.node (row_cell r at)) e ∙ ap (λ b. owned_by x.node (cond b (Some c) None)) (same_node-itself r))
 
 pub top_from : (xs : List FlatNode) (o : Owned) → Has (top_cells xs) o → (y : FlatNode) × Has xs y × (y.at ≡ FlatAt.Top o.cell) × (y.node ≡ o.node)
@@ -426,17 +426,17 @@ top_from xs o h =
     let c = top_owned y.0.node o y.0.at y.2 in
     (y.0, y.1, c.0, c.1)
 
-pub top_has : (xs : List FlatNode) (x : FlatNode) (c : CellId) → Has xs x → x.at ≡ FlatAt.Top c → Has (top_cells xs) (owned c x.node)
-top_has xs x c h e = has-filter_map (λ (x : FlatNode). owned_by x.node (top_cell x.at)) xs x (owned c x.node) h (ap (λ at. owned_by x.node (top_cell at)) e)
+pub top_has : (xs : List FlatNode) (x : FlatNode) (c : CellId) → Has xs x → x.at ≡ FlatAt.Top c → Has (top_cells xs) (owned_cell c x.node)
+top_has xs x c h e = has-filter_map (λ (x : FlatNode). owned_by x.node (top_cell x.at)) xs x (owned_cell c x.node) h (ap (λ at. owned_by x.node (top_cell at)) e)
 
 -- the cells in the row of an array node are in its group
-under_has : (xs : List FlatNode) (x : FlatNode) (r : NodeId) (c : CellId) → Has xs x → x.at ≡ FlatAt.Row r c → IsArray xs r → Has (flat_map (λ (g : Group). g.cells) (groups_under xs)) (owned c x.node)
+under_has : (xs : List FlatNode) (x : FlatNode) (r : NodeId) (c : CellId) → Has xs x → x.at ≡ FlatAt.Row r c → IsArray xs r → Has (flat_map (λ (g : Group). g.cells) (groups_under xs)) (owned_cell c x.node)
 under_has xs x r c h e y =
     let own = cells_under_has xs y.0.node x c h (e ∙ ap (λ q. FlatAt.Row q c) (sym y.2)) in
-    let g = group_there y.0.node None (cells_under xs y.0.node) (owned c x.node) own in
-    flat_map-has (λ (g : Group). g.cells) (groups_under xs) g.0 (owned c x.node)
+    let g = group_there y.0.node None (cells_under xs y.0.node) (owned_cell c x.node) own in
+    flat_map-has (λ (g : Group). g.cells) (groups_under xs) g.0 (owned_cell c x.node)
     (has-filter_map (group_under xs) xs y.0 g.0 y.1 (ap (λ b. cond b (group_of y.0.node None (cells_under xs y.0.node)) None) y.3 ∙ g.1))
-    (subst (λ os. Has os (owned c x.node)) (sym g.2) own)
+    (subst (λ os. Has os (owned_cell c x.node)) (sym g.2) own)
 
 module _ (rev : Rev) (l : ℕ) (xs : List FlatNode) (n c : ℕ) (counted : Counted rev l xs n c) where
   cells_under_once : (r : NodeId) → AreDistinct (λ (o : Owned). o.cell) (cells_under xs r)
@@ -477,8 +477,8 @@ with_has None gs g h = inr h
 with_has (Some a) gs g (inl e) = inl (ap (λ b. Some b) e)
 with_has (Some a) gs g (inr h) = inr h
 
-pub with_first : (o : Option Group) (gs : List Group) (g : Group) → o ≡ Some g → Has (with_group o gs) g
-with_first o gs g e = subst (λ q. Has (with_group q gs) g) (sym e) (inl refl)
+pub with_group-Some : (o : Option Group) (gs : List Group) (g : Group) → o ≡ Some g → Has (with_group o gs) g
+with_group-Some o gs g e = subst (λ q. Has (with_group q gs) g) (sym e) (inl refl)
 
 with_flat : (o : Option Group) (gs : List Group) (p : Owned) → Has (flat_map (λ (g : Group). g.cells) gs) p → Has (flat_map (λ (g : Group). g.cells) (with_group o gs)) p
 with_flat None gs p h = h
@@ -538,18 +538,18 @@ module _ (D : Document) (G : NameCounters) (m : NodeId) (left : Option CellId) (
   with_anchor (Some a) = subst (λ cs. AreDistinct (λ (c : CellId). c) (cons_option a.after cs)) (sym (no_anchors xs)) (one_anchor a.after)
 
   row_each : (x : FlatNode) (c : CellId) → Has xs x → (at : FlatAt) → x.at ≡ at → cell_of (to_at None at) ≡ Some c
-      → Has (flat_map (λ (g : Group). g.cells) (with_group (group_of m left (top_cells xs)) (groups_under xs))) (owned c x.node)
+      → Has (flat_map (λ (g : Group). g.cells) (with_group (group_of m left (top_cells xs)) (groups_under xs))) (owned_cell c x.node)
   row_each x c h FlatAt.Root q e = absurd (cc)
   row_each x c h (FlatAt.Register f) q e = absurd (cc)
   row_each x c h (FlatAt.Row r d) q e =
       let s : d ≡ c = cc in
-      with_flat (group_of m left (top_cells xs)) (groups_under xs) (owned c x.node) (under_has xs x r c h (q ∙ ap (λ b. FlatAt.Row r b) s) (subst (IsUnderArray xs) q (w.rows x h)))
+      with_flat (group_of m left (top_cells xs)) (groups_under xs) (owned_cell c x.node) (under_has xs x r c h (q ∙ ap (λ b. FlatAt.Row r b) s) (subst (IsUnderArray xs) q (w.rows x h)))
   row_each x c h (FlatAt.Top d) q e =
       let s : d ≡ c = cc in
       let own = top_has xs x c h (q ∙ ap (λ b. FlatAt.Top b) s) in
-      let g = group_there m left (top_cells xs) (owned c x.node) own in
-      flat_map-has (λ (g : Group). g.cells) (with_group (group_of m left (top_cells xs)) (groups_under xs)) g.0 (owned c x.node) (with_first (group_of m left (top_cells xs)) (groups_under xs) g.0 g.1)
-      (subst (λ os. Has os (owned c x.node)) (sym g.2) own)
+      let g = group_there m left (top_cells xs) (owned_cell c x.node) own in
+      flat_map-has (λ (g : Group). g.cells) (with_group (group_of m left (top_cells xs)) (groups_under xs)) g.0 (owned_cell c x.node) (with_group-Some (group_of m left (top_cells xs)) (groups_under xs) g.0 g.1)
+      (subst (λ os. Has os (owned_cell c x.node)) (sym g.2) own)
 
   row_made : IsMade D G None m xs (with_group (group_of m left (top_cells xs)) (groups_under xs)) (registers xs)
   row_made = record {
@@ -613,7 +613,7 @@ module _ (D : Document) (G : NameCounters) (f : FieldId) (x : FlatNode) (ys : Li
   registers_are = ap (λ at. cons_option (register_of (to_at (Some f) at)) (filter_map (λ (y : FlatNode). register_of (to_at (Some f) y.at)) ys)) top
       ∙ ap (λ fs. f ∷ fs) (filter_same (λ (y : FlatNode). register_of (to_at (Some f) y.at)) (λ (y : FlatNode). register_at y.at) ys (λ y h. inner_register f y.at (inner y h)))
 
-  field_each : (y : FlatNode) (d : CellId) → Has (x ∷ ys) y → (at : FlatAt) → y.at ≡ at → cell_of (to_at (Some f) at) ≡ Some d → Has (flat_map (λ (g : Group). g.cells) (groups_under (x ∷ ys))) (owned d y.node)
+  field_each : (y : FlatNode) (d : CellId) → Has (x ∷ ys) y → (at : FlatAt) → y.at ≡ at → cell_of (to_at (Some f) at) ≡ Some d → Has (flat_map (λ (g : Group). g.cells) (groups_under (x ∷ ys))) (owned_cell d y.node)
   field_each y d h FlatAt.Root q e = absurd (cc)
   field_each y d h (FlatAt.Top b) q e = absurd (cc)
   field_each y d h (FlatAt.Register g) q e = absurd (cc)
@@ -651,9 +651,9 @@ module _ (D : Document) (G : NameCounters) (f : FieldId) (x : FlatNode) (ys : Li
 abbrev pub NodesFresh : Document → NameCounters → Type 0
 NodesFresh D G = (k : ℕ) → G.nodes ≤ k → D.nodes (node_named G.rev k) ≡ None
 
-pub none_is : (o : Option ℕ) (u : Unit {0}) → none_refused o ≡ Ok u → o ≡ None
-none_is None u e = refl
-none_is (Some i) u e = absurd (cc)
+pub none_refused-Ok : (o : Option ℕ) (u : Unit {0}) → none_refused o ≡ Ok u → o ≡ None
+none_refused-Ok None u e = refl
+none_refused-Ok (Some i) u e = absurd (cc)
 
 pub items_form : (s : SchemaView) (types : List (List ℕ)) (ts : Nodes) → list_all (λ ok. ok) (items_verdicts s types ts) ≡ true → all_have_form ts ≡ true
 items_form s types no_nodes e = refl
@@ -672,7 +672,7 @@ is_allowed s G rule trees xs e =
     let u = passed (trees_allowed s rule trees) (λ _. and_then (names_left G (names_taken (named_nodes G trees))) (λ _. Ok (named_nodes G trees))) xs e in
     let v = passed (names_left G (names_taken (named_nodes G trees))) (λ _. Ok (named_nodes G trees)) xs u.2 in
     let is : named_nodes G trees ≡ xs = cc in
-    record { form = items_form s rule.types trees (position_from-None 0 (items_verdicts s rule.types trees) (none_is (position_from (λ ok. not ok) 0 (items_verdicts s rule.types trees)) u.0 u.1)); list = is }
+    record { form = items_form s rule.types trees (position_from-None 0 (items_verdicts s rule.types trees) (none_refused-Ok (position_from (λ ok. not ok) 0 (items_verdicts s rule.types trees)) u.0 u.1)); list = is }
 
 new_named : (D : Document) (G : NameCounters) (m : NodeId) (trees : Nodes) → IsSoundInForm D → NodesFresh D G → CellsFresh D G → IsSome (D.nodes m) → all_have_form trees ≡ true → IsNew D G m (named_nodes G trees)
 new_named D G m trees sound nodes cells known form =
@@ -722,7 +722,7 @@ put_fits D s G at key t N sound schema nodes cells e =
     let xs = passed (allowed_nodes s G taken.0 (first t no_nodes)) (λ xs. Ok (intent_to_place D G (field_at n.0 key) xs)) N taken.2 in
     let is : intent_to_place D G (field_at n.0 key) xs.0 ≡ N = cc in
     let rule = passed (or_refuse (rule_at D s n.0 key) Kind) (of_kind is_single_kind) taken.0 taken.1 in
-    let w = ruled D s n.0 key rule.0 (found (rule_at D s n.0 key) Kind rule.0 rule.1) in
+    let w = ruled D s n.0 key rule.0 (or_refuse-Ok (rule_at D s n.0 key) Kind rule.0 rule.1) in
     go n.0 xs.0 w.0 (key_some s w.1.0.ty key.0 rule.0 schema w.1.1 (kind_taken is_single_kind rule.0 taken.0 rule.2)) (is_allowed s G taken.0 (first t no_nodes) xs.0 xs.1) is
   where
     go : (m : NodeId) (xs : List FlatNode) → IsSome (D.nodes m) → key.0 ≢ [] → IsAllowed s G (first t no_nodes) xs → intent_to_place D G (field_at m key) xs ≡ N → Fits D N

@@ -13,7 +13,7 @@ use Rattle.st_marks.specs.declared.intents.Group.{Group}
 use Rattle.st_marks.specs.declared.intents.Owned.{Owned}
 use Rattle.st_marks.specs.declared.intents.Put.{Put}
 use Rattle.st_marks.specs.declared.intents.To.{To}
-use Rattle.st_marks.specs.Document.{owned}
+use Rattle.st_marks.specs.Document.{owned_cell}
 
 -- the nodes with their types and values
 abbrev pub new_nodes : List FlatNode → List NewNode
@@ -52,7 +52,7 @@ row_cell n (Register f) = None
 -- a cell with the node that owns it
 abbrev pub owned_by : NodeId → Option CellId → Option Owned
 owned_by n None = None
-owned_by n (Some c) = Some (owned c n)
+owned_by n (Some c) = Some (owned_cell c n)
 
 -- the cells of the top items
 abbrev pub top_cells : List FlatNode → List Owned

@@ -26,7 +26,7 @@ use Rattle.st_marks.specs.declared.intents.Group.{Group}
 use Rattle.st_marks.specs.declared.intents.Intent.{Intent}
 use Rattle.st_marks.specs.declared.intents.Owned.{Owned}
 use Rattle.st_marks.specs.declared.intents.To.{To}
-use Rattle.st_marks.specs.Document.{Document, NodeType, last_of, revs, owned}
+use Rattle.st_marks.specs.Document.{Document, NodeType, last_of, revs, owned_cell}
 use Rattle.st_ids.specs.Root.{opening, root}
 use Rattle.st_edits.specs.declared.names.NameCounters.{NameCounters}
 use Rattle.st_edits.specs.declared.names.Takes.{Takes}
@@ -136,7 +136,7 @@ intent_to_remove D G ns = record (empty_intent D G) { put = map (λ n. record { 
 -- a new cell for each node, under the next names
 abbrev pub cells_for : Rev → ℕ → List NodeId → List Owned
 cells_for rev c [] = []
-cells_for rev c (n ∷ ns) = owned (cell_named rev c) n ∷ cells_for rev (c + 1) ns
+cells_for rev c (n ∷ ns) = owned_cell (cell_named rev c) n ∷ cells_for rev (c + 1) ns
 
 -- each node is put into its new cell, directly after the cell of the item left of the index
 abbrev pub in_cells : Document → NameCounters → NodeId → ℕ → List Owned → Intent

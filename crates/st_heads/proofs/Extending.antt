@@ -33,5 +33,5 @@ module _ (Ns : List Intent) (i : ℕ) (N : Intent) (inside : i < length Ns) (at 
   pub rest_fits : (h k : Head) → FitInTurn (document_of h.doc) (drop i Ns) → HasCarried h (N ∷ []) k → FitInTurn (document_of k.doc) (drop (i + 1) Ns)
   rest_fits h k f c = rest (drop (i + 1) Ns) (run_of c.run) (subst (FitInTurn (document_of h.doc)) (drop_one Ns i N N inside at) f)
 
-  pub one_more : (a b c : Head) → HasCarried a (take i Ns) b → HasCarried b (N ∷ []) c → HasCarried a (take (i + 1) Ns) c
-  one_more a b c h k = subst (λ Ms. HasCarried a Ms c) (sym (take_one Ns i N N inside at)) (carried_on a b c (take i Ns) (N ∷ []) h k)
+  pub HasCarried-take_next : (a b c : Head) → HasCarried a (take i Ns) b → HasCarried b (N ∷ []) c → HasCarried a (take (i + 1) Ns) c
+  HasCarried-take_next a b c h k = subst (λ Ms. HasCarried a Ms c) (sym (take_one Ns i N N inside at)) (carried_on a b c (take i Ns) (N ∷ []) h k)

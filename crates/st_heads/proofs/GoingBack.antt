@@ -17,7 +17,7 @@ use Rattle.st_marks.specs.declared.intents.To.{To}
 use Rattle.st_marks.specs.declared.places.Spot.{Spot}
 use Rattle.st_marks.specs.Back.{is_in, place_back, to_of}
 use Rattle.st_marks.specs.CarryOut.{full, with_names, place_after, spot_of, unless_cleared}
-use Rattle.st_marks.specs.Document.{Document, IsSoundInForm, node_of, owned}
+use Rattle.st_marks.specs.Document.{Document, IsSoundInForm, node_of, owned_cell}
 use Rattle.st_marks.specs.Intent.{Fits, Owns, clears, new_row_of, put_of, register_of}
 use Rattle.st_marks.proofs.Climb.{unknown_nowhere}
 use Rattle.st_marks.proofs.Full.{HoldsWhatIsPlaced, full_one_held, known_put, known_put_in, put_to_cell, put_to_register}
@@ -78,7 +78,7 @@ module _ (D : Document) (N : Intent) (s : IsSoundInForm D) (f : Fits D N) where
   after_held = full_one_held D N s.one_held f.itself
 
   -- the row of an old cell stays
-  old_row : (n r : NodeId) (c : CellId) → Has (D.rows r) (owned c n) → row_after c ≡ Some r
+  old_row : (n r : NodeId) (c : CellId) → Has (D.rows r) (owned_cell c n) → row_after c ≡ Some r
   old_row n r c h = let e : D.row_of c ≡ Some r = (s.one_row c r).1 (n, h) in rw e refl
 
   -- where an old node stands, seen as a put, leads there
@@ -90,7 +90,7 @@ module _ (D : Document) (N : Intent) (s : IsSoundInForm D) (f : Fits D N) where
   -- the cell of a put has a row
   cell_has_row : (n : NodeId) (c : CellId) → Owns D N n c → IsSome (row_after c)
   cell_has_row n c (inl h) = rw (old_row n h.0 c h.1) refl
-  cell_has_row n c (inr h) = go (D.row_of c) (made_there N (owned c n) h)
+  cell_has_row n c (inr h) = go (D.row_of c) (made_there N (owned_cell c n) h)
     where
       go : (o : Option NodeId) → IsSome (new_row_of N c) → IsSome (option_or o (new_row_of N c))
       go None i = i
@@ -111,9 +111,9 @@ module _ (D : Document) (N : Intent) (s : IsSoundInForm D) (f : Fits D N) where
   -- a new node's cell is made, in the row to which its put leads
   made_row : (n : NodeId) (c : CellId) → is_in D n ≡ false → put_of N n ≡ Some (To.Cell c) → (r : NodeId) × (new_row_of N c ≡ Some r) × (row_after c ≡ Some r)
   made_row n c new p = elim (known_put D N f n (To.Cell c) p).1 [
-    | inl h ↦ absurd (true-false (s.cells_known h.0 (owned c n) h.1).1 new)
-    | inr h ↦ (let i = IsSome-Some (new_row_of N c) (made_there N (owned c n) h) in
-        let none : D.row_of c ≡ None = f.fresh_cells c (made_there N (owned c n) h) in
+    | inl h ↦ absurd (true-false (s.cells_known h.0 (owned_cell c n) h.1).1 new)
+    | inr h ↦ (let i = IsSome-Some (new_row_of N c) (made_there N (owned_cell c n) h) in
+        let none : D.row_of c ≡ None = f.fresh_cells c (made_there N (owned_cell c n) h) in
         (i.0, i.1, rw none i.1))
   ]
 

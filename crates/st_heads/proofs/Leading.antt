@@ -14,7 +14,7 @@ use Rattle.st_marks.specs.declared.intents.Owned.{Owned}
 use Rattle.st_marks.specs.declared.intents.Put.{Put}
 use Rattle.st_marks.specs.declared.intents.To.{To}
 use Rattle.st_marks.specs.declared.places.Spot.{Spot}
-use Rattle.st_marks.specs.Document.{Document, IsSoundInForm, node_of, owned}
+use Rattle.st_marks.specs.Document.{Document, IsSoundInForm, node_of, owned_cell}
 use Rattle.st_ids.specs.Root.{root}
 use Rattle.st_marks.proofs.Full.{HoldsWhatIsPlaced}
 use Rattle.st_marks.specs.Back.{IsBack, is_in, place_back, to_of}
@@ -88,7 +88,7 @@ module _ (D E : Document) (s : IsSoundInForm D) (after_held : HoldsWhatIsPlaced 
       let ra : D.row_of c ≡ Some a.0 = (s.one_row c a.0).1 (q.node, at) in
       let rb : D.row_of c ≡ Some b.0 = (s.one_row c b.0).1 (r.node, bt) in
       let same : b.0 ≡ a.0 = (let t : Some b.0 ≡ Some a.0 = sym rb ∙ ra in cc) in
-      ap (λ (o : Owned). o.node) (distinct-has (λ (o : Owned). o.cell) (D.rows a.0) (owned c q.node) (owned c r.node) (s.once a.0) at (subst (λ n. Has (D.rows n) (owned c r.node)) same bt) refl)
+      ap (λ (o : Owned). o.node) (distinct-has (λ (o : Owned). o.cell) (D.rows a.0) (owned_cell c q.node) (owned_cell c r.node) (s.once a.0) at (subst (λ n. Has (D.rows n) (owned_cell c r.node)) same bt) refl)
 
   one_register : (q r : Put) (f : FieldId) → Has w.put q → Has w.put r → register_of q.to ≡ Some f → register_of r.to ≡ Some f → q.node ≡ r.node
   one_register q r f h i e k =

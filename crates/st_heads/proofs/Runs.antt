@@ -6,7 +6,7 @@ use Rattle.st_marks.specs.declared.intents.Intent.{Intent}
 use Rattle.st_marks.specs.declared.verdicts.Verdict.{Verdict}
 use Rattle.st_marks.specs.Document.{Document, last_of, revs}
 use Rattle.st_marks.specs.Run.{Run, done, next}
-use Rattle.st_marks.specs.Verdict.{IsVerdict, carried}
+use Rattle.st_marks.specs.Verdict.{IsVerdict, carried_document}
 use Rattle.st_heads.specs.declared.ways.Carried.{Carried}
 use Rattle.st_heads.specs.declared.ways.Way.{Way}
 use Rattle.st_heads.specs.Remembered.{AreCarried, none, more, IsCarried, IsWayBack, is_void, no_way, undoing}
@@ -25,7 +25,7 @@ runs_joined none q = q
 runs_joined (more v a k r) q = more v a k (runs_joined r q)
 
 -- the first of a remembered run, and the rest
-opened : {D F : Document} {N : Intent} {Ns : List Intent} {k : Carried} {ks : List Carried} → AreCarried D (N ∷ Ns) (k ∷ ks) F → (v : Verdict) × IsVerdict D N v × IsCarried D N v k × AreCarried (carried v D N) Ns ks F
+opened : {D F : Document} {N : Intent} {Ns : List Intent} {k : Carried} {ks : List Carried} → AreCarried D (N ∷ Ns) (k ∷ ks) F → (v : Verdict) × IsVerdict D N v × IsCarried D N v k × AreCarried (carried_document v D N) Ns ks F
 opened (more v a k r) = (v, a, k, r)
 
 pub run_parted : (Ns Ms : List Intent) (ks ls : List Carried) {D F : Document} → AreCarried D (Ns ++ Ms) (ks ++ ls) F → length ks ≡ length Ns → (E : Document) × AreCarried D Ns ks E × AreCarried E Ms ls F
@@ -59,7 +59,7 @@ way_undoes O E front rest ks ls N k fresh r e out plain =
     }
 
 -- a commit that came out by its verdict is a remembered run of one
-pub one_carried : (D E : Document) (N : Intent) (v : Verdict) (w : Way) (k : Carried) → IsVerdict D N v → E ≡ carried v D N → IsWayBack D N w → k.void ≡ is_void v → k.back ≡ cond k.void no_way w → AreCarried D (N ∷ []) (k ∷ []) E
+pub one_carried : (D E : Document) (N : Intent) (v : Verdict) (w : Way) (k : Carried) → IsVerdict D N v → E ≡ carried_document v D N → IsWayBack D N w → k.void ≡ is_void v → k.back ≡ cond k.void no_way w → AreCarried D (N ∷ []) (k ∷ []) E
 one_carried D E N v w k a after back void kept =
     more v a (
     record {
@@ -67,4 +67,4 @@ one_carried D E N v w k a after back void kept =
       back = λ sound _. subst (IsWayBack D N) (sym (kept ∙ ap (λ b. cond b no_way w) (void ∙ ap is_void sound))) back;
       none = λ t. kept ∙ ap (λ b. cond b no_way w) t;
     }
-    ) (subst (λ F. AreCarried (carried v D N) [] [] F) (sym after) none)
+    ) (subst (λ F. AreCarried (carried_document v D N) [] [] F) (sym after) none)

@@ -6,7 +6,7 @@ use Rattle.st_marks.specs.declared.verdicts.Verdict.{Verdict}
 use Rattle.st_marks.specs.Back.{IsBack}
 use Rattle.st_marks.specs.CarryOut.{full}
 use Rattle.st_marks.specs.Document.{Document}
-use Rattle.st_marks.specs.Verdict.{IsVerdict, carried}
+use Rattle.st_marks.specs.Verdict.{IsVerdict, carried_document}
 use Rattle.st_heads.specs.declared.ways.Carried.{Carried}
 use Rattle.st_heads.specs.declared.ways.Way.{Way}
 
@@ -41,4 +41,4 @@ pub record IsCarried (D : Document) (N : Intent) (v : Verdict) (k : Carried) : T
 pub data AreCarried : Document → List Intent → List Carried → Document → Type 0 where
   none : {D : Document} → AreCarried D [] [] D
   more : {D E : Document} {N : Intent} {Ns : List Intent} {k : Carried} {ks : List Carried} (v : Verdict) → IsVerdict D N v → IsCarried D N v k
-      → AreCarried (carried v D N) Ns ks E → AreCarried D (N ∷ Ns) (k ∷ ks) E
+      → AreCarried (carried_document v D N) Ns ks E → AreCarried D (N ∷ Ns) (k ∷ ks) E

@@ -7,7 +7,7 @@ use Rattle.st_marks.specs.declared.verdicts.Verdict.{Verdict}
 use Rattle.st_marks.specs.Back.{IsBack}
 use Rattle.st_marks.specs.Document.{Document, last_of, revs}
 use Rattle.st_marks.specs.Run.{Run}
-use Rattle.st_marks.specs.Verdict.{IsVerdict, carried}
+use Rattle.st_marks.specs.Verdict.{IsVerdict, carried_document}
 
 -- a commit of a list, of the revision that is asked for, with the document before it and its verdict there
 pub record IsAt (O : Document) (Ns : List Intent) (rev : Rev) (N : Intent) (D : Document) (v : Verdict) : Type 0 where
@@ -26,4 +26,4 @@ pub record IsUndoing (O : Document) (Ns : List Intent) (rev fresh : Rev) (B : In
   pub after : Document
   pub is_at : IsAt O Ns rev commit before Verdict.Sound
   pub now : Run O Ns after
-  pub back : IsBack before (carried Verdict.Sound before commit) fresh (unwrap_or (last_of (revs after.schemas)) opening) B
+  pub back : IsBack before (carried_document Verdict.Sound before commit) fresh (unwrap_or (last_of (revs after.schemas)) opening) B

@@ -125,14 +125,14 @@ steps_then (finalises r ∷ xs) ys a = elim (after_finalising r a) as (λ o. and
 abbrev LedTo : Ids → Type 0
 LedTo t = (steps : List Step) × (after_steps steps no_ids ≡ Ok t)
 
-one_more : (s : Step) (t v : Ids) → LedTo t → after_steps (s ∷ []) t ≡ Ok v → LedTo v
-one_more s t v led e = (led.0 ++ s ∷ [], steps_then led.0 (s ∷ []) no_ids ∙ ap (λ (o : Result Ids IdFault). and_then o (λ w. after_steps (s ∷ []) w)) led.1 ∙ e)
+LedTo-after_steps : (s : Step) (t v : Ids) → LedTo t → after_steps (s ∷ []) t ≡ Ok v → LedTo v
+LedTo-after_steps s t v led e = (led.0 ++ s ∷ [], steps_then led.0 (s ∷ []) no_ids ∙ ap (λ (o : Result Ids IdFault). and_then o (λ w. after_steps (s ∷ []) w)) led.1 ∙ e)
 
 join_more : (u n : ℕ) (t v : Ids) → LedTo t → after_joining u t ≡ Ok (n, v) → LedTo v
-join_more u n t v led e = one_more (joins u) t v led (rw e refl)
+join_more u n t v led e = LedTo-after_steps (joins u) t v led (rw e refl)
 
 range_more : (r : IdRange) (t v : Ids) → LedTo t → after_finalising r t ≡ Ok v → LedTo v
-range_more r t v led e = one_more (finalises r) t v led (rw e refl)
+range_more r t v led e = LedTo-after_steps (finalises r) t v led (rw e refl)
 
 same_led : (t v : Ids) → v ≡ t → LedTo t → LedTo v
 same_led t v e led = subst LedTo (sym e) led

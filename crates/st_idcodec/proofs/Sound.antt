@@ -94,15 +94,15 @@ cluster_is d x e =
     let h = from_some (as_array d) cluster_in x e in
     is_array d h.0 h.1 ∙ ap array (items_are h.0 x h.2)
 
-one_more : (d : Data) (ds : Items) (c : Cluster) (xs cs : List Cluster) → d ≡ cluster_data c → ds ≡ items_of (map cluster_data xs) → c ∷ xs ≡ cs → item d ds ≡ items_of (map cluster_data cs)
-one_more d ds c xs cs e f g = rw (sym g, e, f) refl
+item-cluster_data : (d : Data) (ds : Items) (c : Cluster) (xs cs : List Cluster) → d ≡ cluster_data c → ds ≡ items_of (map cluster_data xs) → c ∷ xs ≡ cs → item d ds ≡ items_of (map cluster_data cs)
+item-cluster_data d ds c xs cs e f g = rw (sym g, e, f) refl
 
 pub clusters_are : (ds : Items) (cs : List Cluster) → clusters_of ds ≡ Some cs → ds ≡ items_of (map cluster_data cs)
 clusters_are no_items cs e = let none : [] ≡ cs = cc e in rw (sym none) refl
 clusters_are (item d ds) cs e =
     let h = from_some (cluster_of d) (λ c. option_map (λ cs. c ∷ cs) (clusters_of ds)) cs e in
     let r = from_map (clusters_of ds) (λ (xs : List Cluster). h.0 ∷ xs) cs h.2 in
-    one_more d ds h.0 r.0 cs (cluster_is d h.0 h.1) (clusters_are ds r.0 r.1) r.2
+    item-cluster_data d ds h.0 r.0 cs (cluster_is d h.0 h.1) (clusters_are ds r.0 r.1) r.2
 
 -- ## UUIDs
 

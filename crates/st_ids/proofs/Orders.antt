@@ -15,7 +15,7 @@ use Rattle.st_ids.specs.declared.names.NodeId.{NodeId}
 use Rattle.st_ids.specs.declared.names.CellId.{CellId}
 use Rattle.st_ids.specs.declared.names.FieldId.{FieldId}
 use Rattle.st_ids.specs.Order.{same_rev, rev_cmp, atom_cmp, node_cmp, cell_cmp, field_cmp, same_node, same_cell, same_field}
-use Rattle.st_ids.specs.Listing.{keyed, IsRising, item_of}
+use Rattle.st_ids.specs.Listing.{key_pairs, IsRising, item_of}
 
 -- two orders one after the other tie only where both do
 then_equal : (a b : Ordering) → ordering_then a b ≡ Equal → (a ≡ Equal) × (b ≡ Equal)
@@ -114,11 +114,11 @@ pub same_field-itself : (a : FieldId) → same_field a a ≡ true
 unfolding same_field
 same_field-itself a = itself _ (tied field_cmp_total a)
 
-unkeyed : {K A : Type 0} (key : A → K) (xs : List A) → map (λ (e : K × A). e.1) (keyed key xs) ≡ xs
+unkeyed : {K A : Type 0} (key : A → K) (xs : List A) → map (λ (e : K × A). e.1) (key_pairs key xs) ≡ xs
 unkeyed key [] = refl
 unkeyed key (x ∷ xs) = ap (λ l. x ∷ l) (unkeyed key xs)
 
 -- two rising listings that have the same item at each name are one
 pub same_listing : {K A : Type 0} {R : K → K → Ordering} → IsTotalOrder R → CmpEqualImpliesEq R → (key : A → K) (xs ys : List A) → IsRising R key xs → IsRising R key ys → ((k : K) → item_of R key xs k ≡ item_of R key ys k) → xs ≡ ys
 same_listing {R = R} t same key xs ys p q e =
-    sym (unkeyed key xs) ∙ ap (map (λ e. e.1)) (same_entries R t same (keyed key xs) (keyed key ys) (subst T (sym p) tt) (subst T (sym q) tt) e) ∙ unkeyed key ys
+    sym (unkeyed key xs) ∙ ap (map (λ e. e.1)) (same_entries R t same (key_pairs key xs) (key_pairs key ys) (subst T (sym p) tt) (subst T (sym q) tt) e) ∙ unkeyed key ys

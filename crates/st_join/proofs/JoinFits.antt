@@ -12,7 +12,7 @@ use Rattle.st_marks.specs.declared.intents.Intent.{Intent}
 use Rattle.st_marks.specs.declared.intents.Owned.{Owned}
 use Rattle.st_marks.specs.declared.intents.Put.{Put}
 use Rattle.st_marks.specs.declared.intents.To.{To}
-use Rattle.st_marks.specs.Document.{Document, NodeType, IsSoundInForm, owned}
+use Rattle.st_marks.specs.Document.{Document, NodeType, IsSoundInForm, owned_cell}
 use Rattle.st_marks.specs.Intent.{Fits, IsKnown, Owns, cell_of, register_of, clears, group_at, group_cells, is_new, new_row_of, new_type, put_of}
 use Rattle.st_marks.specs.CarryOut.{full, with_groups, with_names}
 use Rattle.st_marks.specs.Join.{AreParts, IsJoin, IsOldAnchor, put_unless_new, unless_cleared_by}
@@ -202,11 +202,11 @@ module _ (D : Document) (N M J : Intent) (s : IsSoundInForm D) (p : AreParts D N
 
   owns_first : (m : NodeId) (c : CellId) → Owns D N m c → Owns D J m c
   owns_first m c (inl h) = inl h
-  owns_first m c (inr h) = inr (cell_first (owned c m) h)
+  owns_first m c (inr h) = inr (cell_first (owned_cell c m) h)
 
   owns_second : (m : NodeId) (c : CellId) → Owns (full D N) M m c → Owns D J m c
-  owns_second m c (inr h) = inr (cell_second (owned c m) h)
-  owns_second m c (inl h) = elim (old_or_made D N h.0 (owned c m) h.1) [ inl i ↦ inl (h.0, i) | inr i ↦ inr (cell_first (owned c m) i) ]
+  owns_second m c (inr h) = inr (cell_second (owned_cell c m) h)
+  owns_second m c (inl h) = elim (old_or_made D N h.0 (owned_cell c m) h.1) [ inl i ↦ inl (h.0, i) | inr i ↦ inr (cell_first (owned_cell c m) i) ]
 
   abbrev KnownPut : NodeId → To → Type 0
   KnownPut m to = IsKnown D J m × IfSome (cell_of to) (Owns D J m) × IfSome (register_of to) (λ (r : FieldId). IsKnown D J r.node)

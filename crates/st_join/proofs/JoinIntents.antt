@@ -17,7 +17,7 @@ use Rattle.st_marks.specs.declared.intents.Owned.{Owned}
 use Rattle.st_marks.specs.declared.intents.Put.{Put}
 use Rattle.st_marks.specs.declared.intents.To.{To}
 use Rattle.st_marks.specs.declared.places.Spot.{Spot}
-use Rattle.st_marks.specs.Document.{Document, NodeType, IsSoundInForm, ClimbsToAnEnd, above, node_of, owned}
+use Rattle.st_marks.specs.Document.{Document, NodeType, IsSoundInForm, ClimbsToAnEnd, above, node_of, owned_cell}
 use Rattle.st_ids.specs.Root.{root}
 use Rattle.st_marks.specs.Intent.{IsIntent, IsKnown, Owns, above_new, cell_of, clears, group_cells, is_new, new_row_of, new_type, put_of, put_under, register_of}
 use Rattle.st_marks.specs.CarryOut.{full, place_after, spot_of, unless_cleared, with_names}
@@ -186,37 +186,37 @@ module _ (D : Document) (N M J : Intent) (s : IsSoundInForm D) (t : IsSoundInFor
   put_to q h = ap (λ o. option_map (λ (q : Put). q.to) o) (first-distinct (λ (q : Put). q.node) J.put (λ (r : Put). same_node r.node q.node) q j.put_once h (same_node-itself q.node) (λ r e. same_node-true r.node q.node e))
 
   -- the cell's row in the document after the first part, where the first fills it
-  first_row : (n : NodeId) (c : CellId) → put_of N n ≡ Some (To.Cell c) → (r : NodeId) × Has ((full D N).rows r) (owned c n)
+  first_row : (n : NodeId) (c : CellId) → put_of N n ≡ Some (To.Cell c) → (r : NodeId) × Has ((full D N).rows r) (owned_cell c n)
   first_row n c e = go ((full D N).row_of c) refl (known_put D N p.first_fits n (To.Cell c) e).1
     where
       there : Owns D N n c → IsSome ((full D N).row_of c)
       there (inl h) = let row : D.row_of c ≡ Some h.0 = (s.one_row c h.0).1 (n, h.1) in rw row refl
-      there (inr h) = made (D.row_of c) (made_there N (owned c n) h)
+      there (inr h) = made (D.row_of c) (made_there N (owned_cell c n) h)
         where
           made : (o : Option NodeId) → IsSome (new_row_of N c) → IsSome (option_or o (new_row_of N c))
           made None h = h
           made (Some r) h = refl
 
-      go : (o : Option NodeId) → (full D N).row_of c ≡ o → Owns D N n c → (r : NodeId) × Has ((full D N).rows r) (owned c n)
+      go : (o : Option NodeId) → (full D N).row_of c ≡ o → Owns D N n c → (r : NodeId) × Has ((full D N).rows r) (owned_cell c n)
       go (Some r) q own = (r, owns_in_row D N s p.first_fits n r c own q)
       go None q own = absurd (true-false (there own) (ap is_some q))
 
-  one_owner : (n m a b : NodeId) (c : CellId) → Has ((full D N).rows a) (owned c n) → Has ((full D N).rows b) (owned c m) → n ≡ m
+  one_owner : (n m a b : NodeId) (c : CellId) → Has ((full D N).rows a) (owned_cell c n) → Has ((full D N).rows b) (owned_cell c m) → n ≡ m
   one_owner n m a b c h i =
       let x : (full D N).row_of c ≡ Some a = (t.one_row c a).1 (n, h) in
       let y : (full D N).row_of c ≡ Some b = (t.one_row c b).1 (m, i) in
       let same : b ≡ a = (let q : Some b ≡ Some a = sym y ∙ x in cc) in
-      ap (λ (o : Owned). o.node) (distinct-has (λ (o : Owned). o.cell) ((full D N).rows a) (owned c n) (owned c m) (t.once a) h (subst (λ r. Has ((full D N).rows r) (owned c m)) same i) refl)
+      ap (λ (o : Owned). o.node) (distinct-has (λ (o : Owned). o.cell) ((full D N).rows a) (owned_cell c n) (owned_cell c m) (t.once a) h (subst (λ r. Has ((full D N).rows r) (owned_cell c m)) same i) refl)
 
   mixed_cell : (n m : NodeId) (c : CellId) → put_of N n ≡ Some (To.Cell c) → put_of M m ≡ Some (To.Cell c) → n ≡ m
   mixed_cell n m c e k =
       let a = first_row n c e in
       go a (known_put (full D N) M p.then_fits m (To.Cell c) k).1
     where
-      go : (r : NodeId) × Has ((full D N).rows r) (owned c n) → Owns (full D N) M m c → n ≡ m
+      go : (r : NodeId) × Has ((full D N).rows r) (owned_cell c n) → Owns (full D N) M m c → n ≡ m
       go a (inl h) = one_owner n m a.0 h.0 c a.1 h.1
       go a (inr h) =
-          let gone : (full D N).row_of c ≡ None = p.then_fits.fresh_cells c (made_there M (owned c m) h) in
+          let gone : (full D N).row_of c ≡ None = p.then_fits.fresh_cells c (made_there M (owned_cell c m) h) in
           let there : (full D N).row_of c ≡ Some a.0 = (t.one_row c a.0).1 (n, a.1) in
           let bad : None ≡ Some a.0 = sym gone ∙ there in cc
 
@@ -281,24 +281,24 @@ module _ (D : Document) (N M J : Intent) (s : IsSoundInForm D) (t : IsSoundInFor
       go true h e = p.first_fits.fresh_nodes n h
       go false h e = (second_new n e).0
 
-  owner_there : (n r : NodeId) (c : CellId) → D.nodes n ≡ None → Has (D.rows r) (owned c n) → ⊥
-  owner_there n r c none h = true-false (s.cells_known r (owned c n) h).1 (ap is_some none)
+  owner_there : (n r : NodeId) (c : CellId) → D.nodes n ≡ None → Has (D.rows r) (owned_cell c n) → ⊥
+  owner_there n r c none h = true-false (s.cells_known r (owned_cell c n) h).1 (ap is_some none)
 
   -- a cell that a new node owns isn't one of D
   first_cell_new : (n : NodeId) (c : CellId) → D.nodes n ≡ None → Owns D N n c → D.row_of c ≡ None
   first_cell_new n c none (inl h) = absurd (owner_there n h.0 c none h.1)
-  first_cell_new n c none (inr h) = p.first_fits.fresh_cells c (made_there N (owned c n) h)
+  first_cell_new n c none (inr h) = p.first_fits.fresh_cells c (made_there N (owned_cell c n) h)
 
   cell_new : (n : NodeId) (c : CellId) → D.nodes n ≡ None → Owns (full D N) M n c → D.row_of c ≡ None
-  cell_new n c none (inr h) = (second_cell_new c (made_there M (owned c n) h)).0
+  cell_new n c none (inr h) = (second_cell_new c (made_there M (owned_cell c n) h)).0
   cell_new n c none (inl h) = go (D.row_of c) refl
     where
       go : (o : Option NodeId) → D.row_of c ≡ o → D.row_of c ≡ None
       go None e = e
       go (Some r) e =
           let o = (s.one_row c r).0 e in
-          let same : n ≡ o.0 = one_owner n o.0 h.0 r c h.1 (old_cell D N s p.first_fits r (owned c o.0) o.1) in
-          absurd (owner_there n r c none (subst (λ m. Has (D.rows r) (owned c m)) (sym same) o.1))
+          let same : n ≡ o.0 = one_owner n o.0 h.0 r c h.1 (old_cell D N s p.first_fits r (owned_cell c o.0) o.1) in
+          absurd (owner_there n r c none (subst (λ m. Has (D.rows r) (owned_cell c m)) (sym same) o.1))
 
   row_under : (c : CellId) (o : Option NodeId) → node_of (option_map_or (λ r. Spot.Row r c) o Spot.Nowhere) ≡ o
   row_under c None = refl
@@ -335,7 +335,7 @@ module _ (D : Document) (N M J : Intent) (s : IsSoundInForm D) (t : IsSoundInFor
     where
       made : Owns D N n c → IsSome (new_row_of N c)
       made (inl h) = absurd (owner_there n h.0 c none h.1)
-      made (inr h) = made_there N (owned c n) h
+      made (inr h) = made_there N (owned_cell c n) h
 
       only : (o : Option NodeId) → IsSome o → option_or o (new_row_of M c) ≡ o
       only None h = let bad : false ≡ true = h in cc

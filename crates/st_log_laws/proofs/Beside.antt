@@ -6,7 +6,7 @@ use Rattle.st_marks.specs.declared.intents.Intent.{Intent}
 use Rattle.st_marks.specs.Document.{Document, IsSoundInForm}
 use Rattle.st_marks.specs.Extends.{no_more as none_more, item_gained, item_kept}
 use Rattle.st_marks.specs.Intent.{Fits}
-use Rattle.st_marks.specs.Verdict.{carried}
+use Rattle.st_marks.specs.Verdict.{carried_document}
 use Rattle.st_marks.specs.Run.{Run, done, next}
 use Rattle.st_marks.proofs.Members.{all-has}
 use Rattle.st_marks.proofs.OneVerdict.{carried_extends}
@@ -31,7 +31,7 @@ beside_run (next {D} {N = N} {Ns} v a r) E rs h s t f m new room =
     let short = short_after E N t fits Ns room in (
       fits,
       short,
-      λ w b. beside_run r (carried w E N) (N.rev ∷ rs) (names_beside D E N v w h fits)
+      λ w b. beside_run r (carried_document w E N) (N.rev ∷ rs) (names_beside D E N v w h fits)
           (carried_extends D N v s f.0 f.1 a).after (carried_extends E N w t fits short b).after
           (f.2 v a) (made_after rs E N w fits m) (new_rest rs N Ns new) (room_after E N t fits Ns w room),
     )
@@ -43,7 +43,7 @@ pub another_first : (rs : List Rev) (D : Document) (N : Intent) (Ns : List Inten
 another_first rs D N Ns s m f g new room = (
   f.0,
   f.1,
-  λ v a. all_fit_beside (N.rev ∷ rs) D (carried v D N) Ns (names_stay D N v) s (carried_extends D N v s f.0 f.1 a).after g
+  λ v a. all_fit_beside (N.rev ∷ rs) D (carried_document v D N) Ns (names_stay D N v) s (carried_extends D N v s f.0 f.1 a).after g
       (made_after rs D N v f.0 m) (new_rest rs N Ns new) (room_after D N s f.0 Ns v room),
 )
 
@@ -61,10 +61,10 @@ one_fits D N s f room = (f, short_after D N s f [] room, λ v a. tt)
 
 names_in_longer : {As Bs : List Intent} → IsSublist As Bs → (D C : Document) {E F : Document} → Run D As E → Run C Bs F → HasNames D C → FitInTurn C Bs → HasNames E F
 names_in_longer none_more D C done done h f = h
-names_in_longer (item_gained {y} g) D C r (next w b q) h f = names_in_longer g D (carried w C y) r q (names_on D C (carried w C y) h (names_stay C y w)) (f.2 w b)
+names_in_longer (item_gained {y} g) D C r (next w b q) h f = names_in_longer g D (carried_document w C y) r q (names_on D C (carried_document w C y) h (names_stay C y w)) (f.2 w b)
 names_in_longer (item_kept {x} {y} e g) D C (next v a r) (next w b q) h f =
-    names_in_longer g (carried v D x) (carried w C y) r q
-    (subst (λ z. HasNames (carried v D z) (carried w C y)) (sym e) (names_beside D C y v w h f.0)) (f.2 w b)
+    names_in_longer g (carried_document v D x) (carried_document w C y) r q
+    (subst (λ z. HasNames (carried_document v D z) (carried_document w C y)) (sym e) (names_beside D C y v w h f.0)) (f.2 w b)
 
 pub names_later : {As Bs : List Intent} (D : Document) {E F : Document} → IsSublist As Bs → FitInTurn D Bs → Run D As E → Run D Bs F → HasNames E F
 names_later D g f r q = names_in_longer g D D r q (names_itself D) f

@@ -16,11 +16,11 @@ use Rattle.st_marks.specs.declared.intents.Owned.{Owned}
 use Rattle.st_marks.specs.declared.intents.Put.{Put}
 use Rattle.st_marks.specs.declared.schemas.SchemaEntry.{SchemaEntry}
 use Rattle.st_marks.specs.declared.verdicts.Verdict.{Verdict}
-use Rattle.st_marks.specs.Document.{Document, NodeType, IsSoundInForm, owned}
+use Rattle.st_marks.specs.Document.{Document, NodeType, IsSoundInForm, owned_cell}
 use Rattle.st_marks.specs.Extends.{IsExtendedBy}
 use Rattle.st_marks.specs.Intent.{Fits, IsIntent, IsKnown, Owns, new_type, is_new, new_row_of, group_at, group_cells, cell_of, register_of}
 use Rattle.st_marks.specs.CarryOut.{full, void_data, with_names, with_groups, with_schema}
-use Rattle.st_marks.specs.Verdict.{carried}
+use Rattle.st_marks.specs.Verdict.{carried_document}
 use Rattle.st_marks.specs.Run.{Run, done, next}
 use Rattle.st_marks.proofs.Members.{all-has, has-all, append_left, append_right, has-append, flat_map-has, first-has}
 use Rattle.st_marks.proofs.Lookups.{group_at-group, group-new_row_of}
@@ -51,20 +51,20 @@ module _ (P : Document → Type 0) (D : Document) (N : Intent) (here : P D) (who
   if_void None = data_of
   if_void (Some t) = here
 
-  pub if_carried : (v : Verdict) → P (carried v D N)
+  pub if_carried : (v : Verdict) → P (carried_document v D N)
   if_carried Verdict.Sound = whole
   if_carried (Verdict.Need n) = if_void N.schema
   if_carried (Verdict.Cycle n) = if_void N.schema
   if_carried (Verdict.Schema u) = if_void N.schema
 
-pub names_stay : (D : Document) (N : Intent) (v : Verdict) → HasNames D (carried v D N)
+pub names_stay : (D : Document) (N : Intent) (v : Verdict) → HasNames D (carried_document v D N)
 names_stay D N v =
     let m = names_made D N in
     if_carried (HasNames D) D N (names_itself D) (record { nodes = m.nodes; cells = m.cells }) (record { nodes = m.nodes; cells = m.cells }) v
 
 pub names_in_run : {D E : Document} {Ns : List Intent} → Run D Ns E → HasNames D E
 names_in_run (done {D}) = names_itself D
-names_in_run {E = E} (next {D} {N = N} v a r) = names_on D (carried v D N) E (names_stay D N v) (names_in_run r)
+names_in_run {E = E} (next {D} {N = N} v a r) = names_on D (carried_document v D N) E (names_stay D N v) (names_in_run r)
 
 -- ## Names of two documents
 
@@ -74,7 +74,7 @@ module _ (P : Document → Type 0) (D : Document) (N : Intent) (none : N.schema 
   if_void_data None e = data_of
   if_void_data (Some t) e = cc
 
-  pub if_named : (v : Verdict) → P (carried v D N)
+  pub if_named : (v : Verdict) → P (carried_document v D N)
   if_named Verdict.Sound = whole
   if_named (Verdict.Need n) = if_void_data N.schema none
   if_named (Verdict.Cycle n) = if_void_data N.schema none
@@ -153,23 +153,23 @@ nothing_more D N new groups = record { nodes = nodes; cells = cells }
       | inr j ↦ absurd (subst (λ (gs : List Group). Has (flat_map (λ (g : Group). g.cells) gs) o) groups j)
     ]
 
-pub names_beside : (D E : Document) (N : Intent) (v w : Verdict) → HasNames D E → Fits E N → HasNames (carried v D N) (carried w E N)
+pub names_beside : (D E : Document) (N : Intent) (v w : Verdict) → HasNames D E → Fits E N → HasNames (carried_document v D N) (carried_document w E N)
 names_beside D E N v w h f = go N.schema refl
   where
-    go : (o : Option (List ℕ)) → N.schema ≡ o → HasNames (carried v D N) (carried w E N)
+    go : (o : Option (List ℕ)) → N.schema ≡ o → HasNames (carried_document v D N) (carried_document w E N)
     go None none =
         let m = made_beside D E N h f in
-        if_named (λ C. HasNames C (carried w E N)) D N none
+        if_named (λ C. HasNames C (carried_document w E N)) D N none
         (if_named (HasNames (full D N)) E N none (record { nodes = m.nodes; cells = m.cells }) (record { nodes = m.nodes; cells = m.cells }) w)
         (if_named (HasNames (void_data D N)) E N none (record { nodes = m.nodes; cells = m.cells }) (record { nodes = m.nodes; cells = m.cells }) w)
         v
     go (Some t) e =
         let k = makes_nothing N f.itself t e in
         let b = nothing_more D N k.0 k.1 in
-        let later = names_on D E (carried w E N) h (names_stay E N w) in
-        if_carried (λ C. HasNames C (carried w E N)) D N later
-        (names_on (full D N) D (carried w E N) (record { nodes = b.nodes; cells = b.cells }) later)
-        (names_on (void_data D N) D (carried w E N) (record { nodes = b.nodes; cells = b.cells }) later)
+        let later = names_on D E (carried_document w E N) h (names_stay E N w) in
+        if_carried (λ C. HasNames C (carried_document w E N)) D N later
+        (names_on (full D N) D (carried_document w E N) (record { nodes = b.nodes; cells = b.cells }) later)
+        (names_on (void_data D N) D (carried_document w E N) (record { nodes = b.nodes; cells = b.cells }) later)
         v
 
 -- the row of a new cell tells its revision
@@ -198,7 +198,7 @@ made_names rs D N w m = record {
     go n None e h = inl (sym (new_node_rev N w n h))
     go n (Some t) e h = inr (m.nodes n (ap is_some e))
 
-pub made_after : (rs : List Rev) (D : Document) (N : Intent) (v : Verdict) → Fits D N → IsMadeUnder rs D → IsMadeUnder (N.rev ∷ rs) (carried v D N)
+pub made_after : (rs : List Rev) (D : Document) (N : Intent) (v : Verdict) → Fits D N → IsMadeUnder rs D → IsMadeUnder (N.rev ∷ rs) (carried_document v D N)
 made_after rs D N v f m =
     let k = made_names rs D N f.itself m in
     if_carried (IsMadeUnder (N.rev ∷ rs)) D N (made_more rs (N.rev ∷ rs) D (λ r h. inr h) m)
@@ -228,7 +228,7 @@ module _ (rs : List Rev) (E : Document) (N : Intent) (m : IsMadeUnder rs E) (w :
     where
       go : (o : Option NodeId) → E.row_of c ≡ o → E.row_of c ≡ None
       go None e = e
-      go (Some n) e = let p = (s.one_row c n).0 e in absurd (new (subst (Has rs) (new_row_rev N w c h) (m.cells n (owned c p.0) p.1)))
+      go (Some n) e = let p = (s.one_row c n).0 e in absurd (new (subst (Has rs) (new_row_rev N w c h) (m.cells n (owned_cell c p.0) p.1)))
 
 module _ (D E : Document) (N : Intent) (h : HasNames D E) (s : IsSoundInForm D) (t : IsSoundInForm E) (f : Fits D N) where
   node_there : (n : NodeId) → IsSome (D.nodes n) → IsSome (E.nodes n)
@@ -243,10 +243,10 @@ module _ (D E : Document) (N : Intent) (h : HasNames D E) (s : IsSoundInForm D) 
   known_there n (inr i) = inr (node_there n i)
 
   row_there : (c : CellId) (n : NodeId) → D.row_of c ≡ Some n → E.row_of c ≡ Some n
-  row_there c n e = let o = (s.one_row c n).0 e in (t.one_row c n).1 (o.0, h.cells n (owned c o.0) o.1)
+  row_there c n e = let o = (s.one_row c n).0 e in (t.one_row c n).1 (o.0, h.cells n (owned_cell c o.0) o.1)
 
   owns_there : (n : NodeId) (c : CellId) → Owns D N n c → Owns E N n c
-  owns_there n c (inl i) = inl (i.0, h.cells i.0 (owned c n) i.1)
+  owns_there n c (inl i) = inl (i.0, h.cells i.0 (owned_cell c n) i.1)
   owns_there n c (inr i) = inr i
 
   if_some : {A : Type 0} (P Q : A → Type 0) → ((a : A) → P a → Q a) → (o : Option A) → IfSome o P → IfSome o Q

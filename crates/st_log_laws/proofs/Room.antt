@@ -8,7 +8,7 @@ use Rattle.st_marks.specs.declared.verdicts.Verdict.{Verdict}
 use Rattle.st_marks.specs.Document.{Document, IsSoundInForm, HasShortRows}
 use Rattle.st_marks.specs.Intent.{Fits, group_cells}
 use Rattle.st_marks.specs.CarryOut.{full, with_names}
-use Rattle.st_marks.specs.Verdict.{carried}
+use Rattle.st_marks.specs.Verdict.{carried_document}
 use Rattle.st_marks.specs.Run.{Run, done, next}
 use Rattle.st_marks.proofs.Members.{all-has, append_left, append_right}
 use Rattle.st_marks.proofs.NewRows.{rows_once}
@@ -52,16 +52,16 @@ module _ (D : Document) (N : Intent) (s : IsSoundInForm D) (f : Fits D N) where
       (λ o h. elim (old_or_made D N n o h) [ inl i ↦ append_left (D.rows n) (group_cells N) o i | inr i ↦ append_right (D.rows n) (group_cells N) o i ]) in
       omega (arith, l, length-append (D.rows n) (group_cells N))
 
-  carried_bound : (n : NodeId) (v : Verdict) → length ((carried v D N).rows n) ≤ length (D.rows n) + length (group_cells N)
+  carried_bound : (n : NodeId) (v : Verdict) → length ((carried_document v D N).rows n) ≤ length (D.rows n) + length (group_cells N)
   carried_bound n v = if_carried (λ (C : Document). length (C.rows n) ≤ length (D.rows n) + length (group_cells N)) D N (omega arith) (named_bound n) (named_bound n) v
 
-  pub row_bound : (n : NodeId) (v : Verdict) → length ((carried v D N).rows n) ≤ length (D.rows n) + cells_made (N ∷ [])
+  pub row_bound : (n : NodeId) (v : Verdict) → length ((carried_document v D N).rows n) ≤ length (D.rows n) + cells_made (N ∷ [])
   row_bound n v = omega (arith, carried_bound n v)
 
   pub short_after : (Ns : List Intent) → HasRoom D (N ∷ Ns) → HasShortRows (full D N)
   short_after Ns room n = omega (arith, named_bound n, room n)
 
-  pub room_after : (Ns : List Intent) (v : Verdict) → HasRoom D (N ∷ Ns) → HasRoom (carried v D N) Ns
+  pub room_after : (Ns : List Intent) (v : Verdict) → HasRoom D (N ∷ Ns) → HasRoom (carried_document v D N) Ns
   room_after Ns v room n = omega (arith, carried_bound n v, room n)
 
 pub room_in_run : {Ns : List Intent} (Ms : List Intent) {D E : Document} → IsSoundInForm D → FitInTurn D Ns → Run D Ns E → HasRoom D (Ns ++ Ms) → HasRoom E Ms

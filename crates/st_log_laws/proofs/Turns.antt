@@ -5,7 +5,7 @@ use Rattle.st_ids.specs.declared.names.Rev.{Rev}
 use Rattle.st_marks.specs.declared.intents.Intent.{Intent}
 use Rattle.st_marks.specs.Document.{Document, IsSoundInForm}
 use Rattle.st_marks.specs.Extends.{IsExtendedBy}
-use Rattle.st_marks.specs.Verdict.{carried}
+use Rattle.st_marks.specs.Verdict.{carried_document}
 use Rattle.st_marks.specs.Run.{Run, done, next, FitsInTurn}
 use Rattle.st_marks.proofs.OneVerdict.{one_run, carried_extends, run_extends}
 use Rattle.st_log_laws.specs.Names.{IsMadeUnder, revisions}
@@ -15,7 +15,7 @@ use Rattle.st_log_laws.proofs.Verdicts.{has_verdict}
 
 pub front : (Ns Ms : List Intent) (D : Document) → FitInTurn D (Ns ++ Ms) → FitInTurn D Ns
 front [] Ms D f = tt
-front (N ∷ Ns) Ms D f = (f.0, f.1, λ v a. front Ns Ms (carried v D N) (f.2 v a))
+front (N ∷ Ns) Ms D f = (f.0, f.1, λ v a. front Ns Ms (carried_document v D N) (f.2 v a))
 
 pub rest : {Ns : List Intent} (Ms : List Intent) {D E : Document} → Run D Ns E → FitInTurn D (Ns ++ Ms) → FitInTurn E Ms
 rest Ms done f = f
@@ -23,7 +23,7 @@ rest Ms (next v a r) f = rest Ms r (f.2 v a)
 
 pub then : (Ns Ms : List Intent) (D : Document) → FitInTurn D Ns → ((E : Document) → Run D Ns E → FitInTurn E Ms) → FitInTurn D (Ns ++ Ms)
 then [] Ms D f g = g D done
-then (N ∷ Ns) Ms D f g = (f.0, f.1, λ v a. then Ns Ms (carried v D N) (f.2 v a) (λ E r. g E (next v a r)))
+then (N ∷ Ns) Ms D f g = (f.0, f.1, λ v a. then Ns Ms (carried_document v D N) (f.2 v a) (λ E r. g E (next v a r)))
 
 pub then_one : (Ns Ms : List Intent) {D E : Document} → FitInTurn D Ns → Run D Ns E → FitInTurn E Ms → FitInTurn D (Ns ++ Ms)
 then_one Ns Ms {D} f r g = then Ns Ms D f (λ F q. subst (λ F. FitInTurn F Ms) (one_run r q) g)
@@ -40,7 +40,7 @@ has_run [] D s f = (D, done)
 has_run (N ∷ Ns) D s f =
     let v = has_verdict D N s in
     let x = carried_extends D N v.0 s f.0 f.1 v.1 in
-    let r = has_run Ns (carried v.0 D N) x.after (f.2 v.0 v.1) in
+    let r = has_run Ns (carried_document v.0 D N) x.after (f.2 v.0 v.1) in
     (r.0, next v.0 v.1 r.1)
 
 has_moved : (rs ss : List Rev) (q r : Rev) → Has (ss ++ q ∷ rs) r → Has (q ∷ (ss ++ rs)) r

@@ -194,8 +194,8 @@ module _ (up : NodeId → Option NodeId) (q : NodeId) where
   reaches_up : (n p : NodeId) → Reaches stopped n p → Reaches up n p
   reaches_up n p r = (r.0, goes_on r.0 n p r.1)
 
-  one_more : ((n p : NodeId) → Decided (Reaches stopped n p)) → (n p : NodeId) → Decided (Reaches up n p)
-  one_more all n p = go (all n p)
+  Decided-stopped : ((n p : NodeId) → Decided (Reaches stopped n p)) → (n p : NodeId) → Decided (Reaches up n p)
+  Decided-stopped all n p = go (all n p)
     where
       none_through : (Reaches stopped n p → ⊥) → (Through n p → ⊥) → Reaches up n p → ⊥
       none_through stops never r = elim (stops_or_through r.0 n p r.1) [ inl x ↦ stops x | inr t ↦ never t ]
@@ -220,7 +220,7 @@ stopped_at up (q ∷ qs) n = cond (same_node q n) None (stopped_at up qs n)
 
 all_decided : (up : NodeId → Option NodeId) (qs : List NodeId) → ((n p : NodeId) → Decided (Reaches (λ m. stopped_at up qs m) n p)) → (n p : NodeId) → Decided (Reaches up n p)
 all_decided up [] h = h
-all_decided up (q ∷ qs) h = all_decided up qs (one_more (λ m. stopped_at up qs m) q h)
+all_decided up (q ∷ qs) h = all_decided up qs (Decided-stopped (λ m. stopped_at up qs m) q h)
 
 stops_there : (up : NodeId → Option NodeId) (qs : List NodeId) (n : NodeId) → Has qs n → stopped_at up qs n ≡ None
 stops_there up [] n h = absurd h

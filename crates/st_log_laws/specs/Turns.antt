@@ -7,12 +7,12 @@ use Rattle.st_marks.specs.Document.{Document, HasShortRows}
 use Rattle.st_marks.specs.Extends.{GainsItems}
 use Rattle.st_marks.specs.Intent.{Fits, group_cells}
 use Rattle.st_marks.specs.CarryOut.{full}
-use Rattle.st_marks.specs.Verdict.{IsVerdict, carried}
+use Rattle.st_marks.specs.Verdict.{IsVerdict, carried_document}
 
 -- each fits where it comes, and rows stay short enough
 abbrev pub FitInTurn : Document → List Intent → Type 0
 FitInTurn D [] = Unit {0}
-FitInTurn D (N ∷ Ns) = Fits D N × HasShortRows (full D N) × ((v : Verdict) → IsVerdict D N v → FitInTurn (carried v D N) Ns)
+FitInTurn D (N ∷ Ns) = Fits D N × HasShortRows (full D N) × ((v : Verdict) → IsVerdict D N v → FitInTurn (carried_document v D N) Ns)
 
 -- Bs has each of As, in the same order, and more may stand between
 abbrev pub IsSublist : List Intent → List Intent → Type 0

@@ -12,7 +12,7 @@ ghost use Rattle.st_marks.specs.Document.{Document, IsSoundInForm, HasShortRows}
 ghost use Rattle.st_marks.specs.Extends.{IsExtendedBy};
 ghost use Rattle.st_marks.specs.Intent.{Fits, is_new, new_row_of};
 ghost use Rattle.st_marks.specs.CarryOut.{full};
-ghost use Rattle.st_marks.specs.Verdict.{IsVerdict, carried};
+ghost use Rattle.st_marks.specs.Verdict.{IsVerdict, carried_document};
 ghost use Rattle.st_marks.specs.Run.{Run, FitsInTurn};
 ghost use Rattle.st_log_laws.specs.Names.{HasNames, IsMadeUnder, HaveNewRevisions, revisions};
 ghost use Rattle.st_log_laws.specs.Turns.{FitInTurn, IsSublist, HasRoom, cells_made};
@@ -40,23 +40,23 @@ pub fn names_stay()
     ensures itself { (D : Document) → HasNames D D }
     ensures on { (D E F : Document) → HasNames D E → HasNames E F → HasNames D F }
     ensures extended { (D E : Document) → IsExtendedBy D E → HasNames D E }
-    ensures carried { (D : Document) (N : Intent) (v : Verdict) → HasNames D (carried v D N) }
+    ensures carried { (D : Document) (N : Intent) (v : Verdict) → HasNames D (carried_document v D N) }
     ensures run { (D E : Document) (Ns : List Intent) → Run D Ns E → HasNames D E }
 {}
 
 /// Names that are new are made under the revision of their intent.
 pub fn made_under()
     ensures more { (rs ss : List Rev) (D : Document) → ((r : Rev) → Has rs r → Has ss r) → IsMadeUnder rs D → IsMadeUnder ss D }
-    ensures carried { (rs : List Rev) (D : Document) (N : Intent) (v : Verdict) → Fits D N → IsMadeUnder rs D → IsMadeUnder (N.rev ∷ rs) (carried v D N) }
+    ensures carried { (rs : List Rev) (D : Document) (N : Intent) (v : Verdict) → Fits D N → IsMadeUnder rs D → IsMadeUnder (N.rev ∷ rs) (carried_document v D N) }
     ensures run { (rs : List Rev) (D E : Document) (Ns : List Intent) → FitInTurn D Ns → Run D Ns E → IsMadeUnder rs D → IsMadeUnder (revisions Ns ++ rs) E }
 {}
 
 /// An intent makes so many cells at most in a row, and so rows have room left for those of the intents after it.
 pub fn rows_have_room()
     ensures row { (D : Document) (N : Intent) (v : Verdict) (n : NodeId) → IsSoundInForm D → Fits D N
-        → length ((carried v D N).rows n) ≤ length (D.rows n) + cells_made (N ∷ []) }
+        → length ((carried_document v D N).rows n) ≤ length (D.rows n) + cells_made (N ∷ []) }
     ensures short { (D : Document) (N : Intent) (Ns : List Intent) → IsSoundInForm D → Fits D N → HasRoom D (N ∷ Ns) → HasShortRows (full D N) }
-    ensures carried { (D : Document) (N : Intent) (Ns : List Intent) (v : Verdict) → IsSoundInForm D → Fits D N → HasRoom D (N ∷ Ns) → HasRoom (carried v D N) Ns }
+    ensures carried { (D : Document) (N : Intent) (Ns : List Intent) (v : Verdict) → IsSoundInForm D → Fits D N → HasRoom D (N ∷ Ns) → HasRoom (carried_document v D N) Ns }
     ensures run { (D E : Document) (Ns Ms : List Intent) → IsSoundInForm D → FitInTurn D Ns → Run D Ns E → HasRoom D (Ns ++ Ms) → HasRoom E Ms }
 {}
 
@@ -80,7 +80,7 @@ pub fn fit_beside()
         → IfSome N.schema (λ _. AllByRecursion (λ (e : SchemaEntry). e.rev ≢ N.rev) E.schemas) → Fits E N }
     ensures one { (rs : List Rev) (D E : Document) (N : Intent) → HasNames D E → IsSoundInForm D → IsSoundInForm E → Fits D N
         → IsMadeUnder rs E → (Has rs N.rev → ⊥) → Fits E N }
-    ensures names { (D E : Document) (N : Intent) (v w : Verdict) → HasNames D E → Fits E N → HasNames (carried v D N) (carried w E N) }
+    ensures names { (D E : Document) (N : Intent) (v w : Verdict) → HasNames D E → Fits E N → HasNames (carried_document v D N) (carried_document w E N) }
     ensures list { (rs : List Rev) (D E : Document) (Ns : List Intent) → HasNames D E → IsSoundInForm D → IsSoundInForm E → FitInTurn D Ns
         → IsMadeUnder rs E → HaveNewRevisions rs Ns → HasRoom E Ns → FitInTurn E Ns }
 {}

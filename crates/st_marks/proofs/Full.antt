@@ -11,7 +11,7 @@ use Rattle.st_marks.specs.declared.intents.Put.{Put}
 use Rattle.st_marks.specs.declared.intents.To.{To}
 use Rattle.st_marks.specs.declared.places.Spot.{Spot}
 use Rattle.st_marks.specs.declared.schemas.SchemaEntry.{SchemaEntry}
-use Rattle.st_marks.specs.Document.{Document, node_of, above, IsAncestor, ClimbsToAnEnd, CanBeInEffect, IsSoundInForm, owned, first_of, revs}
+use Rattle.st_marks.specs.Document.{Document, node_of, above, IsAncestor, ClimbsToAnEnd, CanBeInEffect, IsSoundInForm, owned_cell, first_of, revs}
 use Rattle.st_ids.specs.Root.{root, opening}
 use Rattle.st_marks.specs.Extends.{IsExtendedBy}
 use Rattle.st_marks.specs.Intent.{put_of, put_in, clears, cell_of, register_of, IsIntent, Fits, IsKnown, Owns}
@@ -150,10 +150,10 @@ held_register D N f s m r e = go (put_in N r) refl e
 
 -- ## Places in rows, and rings
 
-place_in_row : (D : Document) (N : Intent) → IsSoundInForm D → Fits D N → (m n : NodeId) (c : CellId) → (full D N).place m ≡ Spot.Row n c → Has ((with_names D N).rows n) (owned c m)
+place_in_row : (D : Document) (N : Intent) → IsSoundInForm D → Fits D N → (m n : NodeId) (c : CellId) → (full D N).place m ≡ Spot.Row n c → Has ((with_names D N).rows n) (owned_cell c m)
 place_in_row D N s f m n c e = go (put_of N m) refl e
   where
-    go : (o : Option To) → put_of N m ≡ o → place_after (with_names D N).row_of N o (D.place m) ≡ Spot.Row n c → Has ((with_names D N).rows n) (owned c m)
+    go : (o : Option To) → put_of N m ≡ o → place_after (with_names D N).row_of N o (D.place m) ≡ Spot.Row n c → Has ((with_names D N).rows n) (owned_cell c m)
     go None h e = old_cell D N s f n _ (s.own_cell m n c (unless_cleared-row N (D.place m) n c e))
     go (Some to) h e =
         let t = put_to_cell (with_names D N).row_of to n c e in

@@ -10,7 +10,7 @@ use Rattle.st_marks.specs.declared.intents.Intent.{Intent}
 use Rattle.st_marks.specs.declared.intents.Owned.{Owned}
 use Rattle.st_marks.specs.declared.intents.Put.{Put}
 use Rattle.st_marks.specs.declared.schemas.SchemaEntry.{SchemaEntry}
-use Rattle.st_marks.specs.Document.{Document, NodeType, owned}
+use Rattle.st_marks.specs.Document.{Document, NodeType, owned_cell}
 use Rattle.st_marks.specs.Extends.{IsExtendedBy, no_more, item_gained, item_kept}
 use Rattle.st_marks.specs.Intent.{Fits, IsKnown, Owns, is_new, new_row_of, group_cells, cell_of, register_of}
 use Rattle.st_marks.proofs.Members.{all-has, has-all}
@@ -35,10 +35,10 @@ module _ (D E : Document) (N : Intent) (x : IsExtendedBy D E) (f : Fits D N) whe
   known_later n (inr h) = inr (node_later D E x n h)
 
   pub row_later : (c : CellId) (n : NodeId) → D.row_of c ≡ Some n → E.row_of c ≡ Some n
-  row_later c n e = let o = (x.before.one_row c n).0 e in (x.after.one_row c n).1 (o.0, has_later (x.rows n) (owned c o.0) o.1)
+  row_later c n e = let o = (x.before.one_row c n).0 e in (x.after.one_row c n).1 (o.0, has_later (x.rows n) (owned_cell c o.0) o.1)
 
   owns_later : (n : NodeId) (c : CellId) → Owns D N n c → Owns E N n c
-  owns_later n c (inl h) = inl (h.0, has_later (x.rows h.0) (owned c n) h.1)
+  owns_later n c (inl h) = inl (h.0, has_later (x.rows h.0) (owned_cell c n) h.1)
   owns_later n c (inr h) = inr h
 
   if_some : {A : Type 0} (P Q : A → Type 0) → ((a : A) → P a → Q a) → (o : Option A) → IfSome o P → IfSome o Q

@@ -2,17 +2,17 @@
 use Rattle.std.proofs.Common.{◌≡◌, ◌+◌, ◌<◌, min, ℕ, zero, suc, true, false, not, List, [], ◌∷◌, ◌++◌, length, take, get_or, refl, ap, ◌∙◌, arith, length-append}
 use Rattle.std.proofs.lemmas.List.{take_more, get_or_default}
 use Rattle.st_marks.specs.declared.marks.Mark.{Mark}
-use Rattle.st_marks.specs.Row.{CellMark, Counted, Gap, Touch, Make, Fill, counted, spread}
+use Rattle.st_marks.specs.Row.{CellMark, Counted, Gap, Touch, Make, Fill, counted_cells, spread}
 use Rattle.st_marks.specs.Listings.{cell_view, counted_view, empty_view, cells_before, cells_after}
 use Rattle.st_marks.specs.How.{is_leave}
 
-counted-append : (k : ℕ) (xs ys : List CellMark) → counted k (xs ++ ys) ≡ counted k xs ++ ys
+counted-append : (k : ℕ) (xs ys : List CellMark) → counted_cells k (xs ++ ys) ≡ counted_cells k xs ++ ys
 counted-append zero xs ys = refl
 counted-append (suc k) xs ys = ap (λ l. Counted ∷ l) (counted-append k xs ys)
 
 pub spread-append : (xs ys : List Mark) → spread (xs ++ ys) ≡ spread xs ++ spread ys
 spread-append [] ys = refl
-spread-append (Mark.Skip k ∷ xs) ys = ap (counted k) (spread-append xs ys) ∙ counted-append k (spread xs) (spread ys)
+spread-append (Mark.Skip k ∷ xs) ys = ap (counted_cells k) (spread-append xs ys) ∙ counted-append k (spread xs) (spread ys)
 spread-append (Mark.Gap c ∷ xs) ys = ap (λ l. Gap c ∷ l) (spread-append xs ys)
 spread-append (Mark.Touch c n h ∷ xs) ys = ap (λ l. Touch c n h ∷ l) (spread-append xs ys)
 spread-append (Mark.Make c n b ∷ xs) ys = ap (λ l. Make c n b ∷ l) (spread-append xs ys)
@@ -34,11 +34,11 @@ after-append (Touch c n h ∷ xs) ys = ap (λ l. cell_view c n (not (is_leave h)
 after-append (Make c n b ∷ xs) ys = ap (λ l. cell_view c n b ∷ l) (after-append xs ys)
 after-append (Fill c n ∷ xs) ys = ap (λ l. cell_view c n true ∷ l) (after-append xs ys)
 
-pub counted_before : (k : ℕ) → k ≡ length (cells_before (counted k []))
+pub counted_before : (k : ℕ) → k ≡ length (cells_before (counted_cells k []))
 counted_before zero = refl
 counted_before (suc k) = ap suc (counted_before k)
 
-pub counted_after : (k : ℕ) → k ≡ length (cells_after (counted k []))
+pub counted_after : (k : ℕ) → k ≡ length (cells_after (counted_cells k []))
 counted_after zero = refl
 counted_after (suc k) = ap suc (counted_after k)
 

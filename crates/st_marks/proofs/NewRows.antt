@@ -9,7 +9,7 @@ use Rattle.st_ids.specs.declared.names.NodeId.{NodeId}
 use Rattle.st_marks.specs.declared.intents.Group.{Group}
 use Rattle.st_marks.specs.declared.intents.Intent.{Intent}
 use Rattle.st_marks.specs.declared.intents.Owned.{Owned}
-use Rattle.st_marks.specs.Document.{Document, NodeType, IsSoundInForm, owned}
+use Rattle.st_marks.specs.Document.{Document, NodeType, IsSoundInForm, owned_cell}
 use Rattle.st_marks.specs.Extends.{GainsItems, no_more, item_gained, item_kept}
 use Rattle.st_marks.specs.Intent.{Fits, IsKnown, Owns, new_type, group_at, new_row_of, same_option, group_cells}
 use Rattle.st_marks.specs.CarryOut.{with_names, with_groups}
@@ -128,7 +128,7 @@ module _ (D : Document) (N : Intent) (s : IsSoundInForm D) (f : Fits D N) where
       go (Some c) e h k =
           let p = (s.one_row c g.node).0 (rw e at k) in
           append_right (group_at N g.node None) (with_groups N g.node (D.rows g.node)) o
-          (made_kept N g.node (D.rows g.node) (owned c p.0) o p.1 (rw e at h))
+          (made_kept N g.node (D.rows g.node) (owned_cell c p.0) o p.1 (rw e at h))
 
   pub known_after : (n : NodeId) → IsKnown D N n → IsSome ((with_names D N).nodes n)
   known_after n h = go (D.nodes n) refl h
@@ -162,26 +162,26 @@ module _ (D : Document) (N : Intent) (s : IsSoundInForm D) (f : Fits D N) where
             known_after o.node (all-has (λ (o : Owned). IsKnown D N o.node) (group_cells N) o f.owners_known (flat_map-has (λ (g : Group). g.cells) N.groups g.group o g.listed g.cell)),
           )
 
-  cell_in_row : (c : CellId) (n : NodeId) → (with_names D N).row_of c ≡ Some n → (m : NodeId) × Has ((with_names D N).rows n) (owned c m)
+  cell_in_row : (c : CellId) (n : NodeId) → (with_names D N).row_of c ≡ Some n → (m : NodeId) × Has ((with_names D N).rows n) (owned_cell c m)
   cell_in_row c n e = go (D.row_of c) refl e
     where
-      go : (o : Option NodeId) → D.row_of c ≡ o → option_or o (new_row_of N c) ≡ Some n → (m : NodeId) × Has ((with_names D N).rows n) (owned c m)
+      go : (o : Option NodeId) → D.row_of c ≡ o → option_or o (new_row_of N c) ≡ Some n → (m : NodeId) × Has ((with_names D N).rows n) (owned_cell c m)
       go None q e =
           let g = group-new_row_of N c n e in
-          (g.3.0.node, subst (λ n. Has ((with_names D N).rows n) (owned c g.3.0.node)) g.2 (made_cell g.0 (owned c g.3.0.node) g.1 (subst (λ d. Has g.0.cells (owned d g.3.0.node)) g.3.2 g.3.1)))
-      go (Some m) q e = let r = (s.one_row c n).0 (q ∙ e) in (r.0, old_cell n (owned c r.0) r.1)
+          (g.3.0.node, subst (λ n. Has ((with_names D N).rows n) (owned_cell c g.3.0.node)) g.2 (made_cell g.0 (owned_cell c g.3.0.node) g.1 (subst (λ d. Has g.0.cells (owned_cell d g.3.0.node)) g.3.2 g.3.1)))
+      go (Some m) q e = let r = (s.one_row c n).0 (q ∙ e) in (r.0, old_cell n (owned_cell c r.0) r.1)
 
-  pub one_row_each : (c : CellId) (n : NodeId) → ((with_names D N).row_of c ≡ Some n) ↔ ((m : NodeId) × Has ((with_names D N).rows n) (owned c m))
-  one_row_each c n = (cell_in_row c n, λ h. (row_cells n (owned c h.0) h.1).0)
+  pub one_row_each : (c : CellId) (n : NodeId) → ((with_names D N).row_of c ≡ Some n) ↔ ((m : NodeId) × Has ((with_names D N).rows n) (owned_cell c m))
+  one_row_each c n = (cell_in_row c n, λ h. (row_cells n (owned_cell c h.0) h.1).0)
 
   -- the owner of a cell has it in the cell's row
-  pub owns_in_row : (m n : NodeId) (c : CellId) → Owns D N m c → (with_names D N).row_of c ≡ Some n → Has ((with_names D N).rows n) (owned c m)
+  pub owns_in_row : (m n : NodeId) (c : CellId) → Owns D N m c → (with_names D N).row_of c ≡ Some n → Has ((with_names D N).rows n) (owned_cell c m)
   owns_in_row m n c (inl h) r =
       let k = (row_cells h.0 _ (old_cell h.0 _ h.1)).0 in
       let q : h.0 ≡ n = let p : Some h.0 ≡ Some n = sym k ∙ r in cc in
-      subst (λ n. Has ((with_names D N).rows n) (owned c m)) q (old_cell h.0 _ h.1)
+      subst (λ n. Has ((with_names D N).rows n) (owned_cell c m)) q (old_cell h.0 _ h.1)
   owns_in_row m n c (inr h) r =
       let g = has-flat_map (λ (g : Group). g.cells) N.groups _ h in
       let k = (row_cells g.0.node _ (made_cell g.0 _ g.1 g.2)).0 in
       let q : g.0.node ≡ n = let p : Some g.0.node ≡ Some n = sym k ∙ r in cc in
-      subst (λ n. Has ((with_names D N).rows n) (owned c m)) q (made_cell g.0 _ g.1 g.2)
+      subst (λ n. Has ((with_names D N).rows n) (owned_cell c m)) q (made_cell g.0 _ g.1 g.2)

@@ -12,7 +12,7 @@ use Rattle.st_marks.specs.Document.{Document, IsSoundInForm, HasShortRows}
 use Rattle.st_marks.specs.Extends.{IsExtendedBy}
 use Rattle.st_marks.specs.Intent.{Fits}
 use Rattle.st_marks.specs.CarryOut.{full}
-use Rattle.st_marks.specs.Verdict.{IsLeast, IsVerdict, IsUnmetNeed, IsAboveItself, carried}
+use Rattle.st_marks.specs.Verdict.{IsLeast, IsVerdict, IsUnmetNeed, IsAboveItself, carried_document}
 use Rattle.st_marks.specs.Run.{Run, done, next, FitsInTurn}
 use Rattle.st_marks.proofs.Full.{full_extends}
 use Rattle.st_marks.proofs.Void.{void_extends}
@@ -44,14 +44,14 @@ one_verdict D N Verdict.Sound (Verdict.Need n) a b = absurd (a.1 n b.1.0)
 one_verdict D N Verdict.Sound (Verdict.Cycle n) a b = absurd (a.2 n b.2.0)
 one_verdict D N Verdict.Sound Verdict.Sound a b = refl
 
-pub one_carried : (D : Document) (N : Intent) (v w : Verdict) → IsVerdict D N v → IsVerdict D N w → carried v D N ≡ carried w D N
-one_carried D N v w a b = ap (λ v. carried v D N) (one_verdict D N v w a b)
+pub one_carried : (D : Document) (N : Intent) (v w : Verdict) → IsVerdict D N v → IsVerdict D N w → carried_document v D N ≡ carried_document w D N
+one_carried D N v w a b = ap (λ v. carried_document v D N) (one_verdict D N v w a b)
 
 pub one_run : {Ns : List Intent} {D E F : Document} → Run D Ns E → Run D Ns F → E ≡ F
 one_run done done = refl
-one_run {F = F} (next {D} {N = N} {Ns} v a r) (next w b q) = one_run r (subst (λ v. Run (carried v D N) Ns F) (one_verdict D N w v b a) q)
+one_run {F = F} (next {D} {N = N} {Ns} v a r) (next w b q) = one_run r (subst (λ v. Run (carried_document v D N) Ns F) (one_verdict D N w v b a) q)
 
-pub carried_extends : (D : Document) (N : Intent) (v : Verdict) → IsSoundInForm D → Fits D N → HasShortRows (full D N) → IsVerdict D N v → IsExtendedBy D (carried v D N)
+pub carried_extends : (D : Document) (N : Intent) (v : Verdict) → IsSoundInForm D → Fits D N → HasShortRows (full D N) → IsVerdict D N v → IsExtendedBy D (carried_document v D N)
 carried_extends D N Verdict.Sound s f short a = full_extends D N s f short (λ p put ring. a.2 p (put, ring))
 carried_extends D N (Verdict.Need n) s f short a = void_extends D N s f short
 carried_extends D N (Verdict.Cycle n) s f short a = void_extends D N s f short
@@ -61,7 +61,7 @@ pub run_extends : {D E : Document} {Ns : List Intent} (r : Run D Ns E) → IsSou
 run_extends (done {D}) s f = extends_itself D s
 run_extends {E = E} (next {D} {N = N} v a r) s f =
     let x = carried_extends D N v s f.0 f.1 a in
-    extends_on D (carried v D N) E x (run_extends r x.after f.2)
+    extends_on D (carried_document v D N) E x (run_extends r x.after f.2)
 
 -- the document after a front of a run, and the run from there
 record RunOn (D F : Document) (Ns Ms : List Intent) : Type 0 where

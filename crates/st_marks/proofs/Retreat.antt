@@ -6,7 +6,7 @@ use Rattle.st_ids.specs.declared.names.CellId.{CellId}
 use Rattle.st_ids.specs.declared.names.FieldId.{FieldId}
 use Rattle.st_ids.specs.declared.names.NodeId.{NodeId}
 use Rattle.st_marks.specs.declared.places.Spot.{Spot}
-use Rattle.st_marks.specs.Document.{Document, node_of, above, climb, ClimbsToAnEnd, IsSoundInForm, owned}
+use Rattle.st_marks.specs.Document.{Document, node_of, above, climb, ClimbsToAnEnd, IsSoundInForm, owned_cell}
 use Rattle.st_marks.specs.Extends.{IsExtendedBy}
 use Rattle.st_marks.specs.Back.{is_in, place_back, unless_in, retreat}
 use Rattle.st_marks.proofs.Climb.{climb_end, ends_above, above_known}
@@ -36,11 +36,11 @@ module _ (D E : Document) (x : IsExtendedBy D E) where
       go true g = absurd (some (sym f ∙ back_out n e g))
       go false g = (sym (back_stays n e g) ∙ f, g)
 
-  place_in_row : (m n : NodeId) (c : CellId) → place_back D E m ≡ Spot.Row n c → Has (E.rows n) (owned c m)
+  place_in_row : (m n : NodeId) (c : CellId) → place_back D E m ≡ Spot.Row n c → Has (E.rows n) (owned_cell c m)
   place_in_row m n c e = go (is_in D m) refl
     where
-      go : (b : Bool) → is_in D m ≡ b → Has (E.rows n) (owned c m)
-      go true f = has_later (x.rows n) (owned c m) (x.before.own_cell m n c (sym (back_old m f) ∙ e))
+      go : (b : Bool) → is_in D m ≡ b → Has (E.rows n) (owned_cell c m)
+      go true f = has_later (x.rows n) (owned_cell c m) (x.before.own_cell m n c (sym (back_old m f) ∙ e))
       go false f = x.after.own_cell m n c (back_new m (Spot.Row n c) (λ h. cc) f e).0
 
   -- ## Registers

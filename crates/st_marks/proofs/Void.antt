@@ -8,7 +8,7 @@ use Rattle.st_ids.specs.declared.names.NodeId.{NodeId}
 use Rattle.st_marks.specs.declared.intents.Intent.{Intent}
 use Rattle.st_marks.specs.declared.intents.To.{To}
 use Rattle.st_marks.specs.declared.places.Spot.{Spot}
-use Rattle.st_marks.specs.Document.{Document, node_of, above, climb, ClimbsToAnEnd, IsSoundInForm, owned}
+use Rattle.st_marks.specs.Document.{Document, node_of, above, climb, ClimbsToAnEnd, IsSoundInForm, owned_cell}
 use Rattle.st_ids.specs.Root.{root}
 use Rattle.st_marks.specs.Extends.{IsExtendedBy}
 use Rattle.st_marks.specs.Intent.{put_of, put_in, put_under, above_new, is_new, new_row_of, Fits}
@@ -101,10 +101,10 @@ module _ (D : Document) (N : Intent) (s : IsSoundInForm D) (f : Fits D N) where
 
   -- ## Rows
 
-  place_in_row : (m n : NodeId) (c : CellId) → (void_data D N).place m ≡ Spot.Row n c → Has ((with_names D N).rows n) (owned c m)
+  place_in_row : (m n : NodeId) (c : CellId) → (void_data D N).place m ≡ Spot.Row n c → Has ((with_names D N).rows n) (owned_cell c m)
   place_in_row m n c e = go (moves m) refl
     where
-      go : (b : Bool) → moves m ≡ b → Has ((with_names D N).rows n) (owned c m)
+      go : (b : Bool) → moves m ≡ b → Has ((with_names D N).rows n) (owned_cell c m)
       go true t =
           let p = moved_put m t in
           let q = put_to_cell (with_names D N).row_of p.0 n c (sym p.2 ∙ e) in

@@ -13,7 +13,7 @@ use Rattle.st_marks.specs.declared.intents.To.{To}
 use Rattle.st_marks.specs.declared.places.Slot.{Slot}
 use Rattle.st_marks.specs.declared.places.Spot.{Spot}
 use Rattle.st_marks.specs.declared.schemas.SchemaEntry.{SchemaEntry}
-use Rattle.st_marks.specs.Document.{Document, NodeType, owned}
+use Rattle.st_marks.specs.Document.{Document, NodeType, owned_cell}
 use Rattle.st_ids.specs.Root.{root, opening}
 use Rattle.st_marks.specs.Embedding.{is_among}
 
@@ -58,7 +58,7 @@ opening_entry = record { rev = opening; text = [] }
 abbrev pub two : Document
 two = record {
   nodes = λ n. cond (is_among (root ∷ old 1 ∷ old 2 ∷ []) n) (Some some_type) None;
-  rows = λ n. cond (same_node n root) (owned (old_cell 0) (old 1) ∷ owned (old_cell 1) (old 2) ∷ []) [];
+  rows = λ n. cond (same_node n root) (owned_cell (old_cell 0) (old 1) ∷ owned_cell (old_cell 1) (old 2) ∷ []) [];
   row_of = λ c. cond (same_cell c (old_cell 0) || same_cell c (old_cell 1)) (Some root) None;
   place = λ n. cond (same_node n (old 1)) (Spot.Row root (old_cell 0)) (cond (same_node n (old 2)) (Spot.Row root (old_cell 1)) Spot.Nowhere);
   held = λ f. None;
@@ -69,7 +69,7 @@ two = record {
 abbrev pub one_held : Document
 one_held = record {
   nodes = λ n. cond (is_among (root ∷ old 1 ∷ old 2 ∷ []) n) (Some some_type) None;
-  rows = λ n. cond (same_node n root) (owned (old_cell 0) (old 1) ∷ []) [];
+  rows = λ n. cond (same_node n root) (owned_cell (old_cell 0) (old 1) ∷ []) [];
   row_of = λ c. cond (same_cell c (old_cell 0)) (Some root) None;
   place = λ n. cond (same_node n (old 1)) (Spot.Row root (old_cell 0)) (cond (same_node n (old 2)) (Spot.Register (field (old 1))) Spot.Nowhere);
   held = λ f. cond (same_field f (field (old 1))) (Some (old 2)) None;
@@ -85,7 +85,7 @@ abbrev pub new : NodeId → NewNode
 new n = record { node = n; ty = []; leaf = None }
 
 abbrev pub group : NodeId → Option CellId → CellId → NodeId → Group
-group n after c o = record { node = n; after = after; cells = owned c o ∷ [] }
+group n after c o = record { node = n; after = after; cells = owned_cell c o ∷ [] }
 
 abbrev pub puts : NodeId → To → Put
 puts n to = record { node = n; to = to }

@@ -9,7 +9,7 @@ use Rattle.st_marks.specs.declared.intents.Group.{Group}
 use Rattle.st_marks.specs.declared.intents.Intent.{Intent}
 use Rattle.st_marks.specs.declared.intents.Put.{Put}
 use Rattle.st_marks.specs.declared.intents.To.{To}
-use Rattle.st_marks.specs.Document.{climb, content, owned}
+use Rattle.st_marks.specs.Document.{climb, content, owned_cell}
 use Rattle.st_ids.specs.Root.{root}
 use Rattle.st_marks.specs.Intent.{IsIntent, new_node, put_of, put_under, is_new, above_new, cells_of, group_at}
 use Rattle.st_marks.specs.CarryOut.{full, with_groups}
@@ -25,7 +25,7 @@ second = intent (rev 1 1) (new (node 1 1 1) ∷ []) (group root (Some (cell 1 1 
 
 -- both together make one group
 abbrev both_cells : Group
-both_cells = record { node = root; after = Some (old_cell 0); cells = owned (cell 1 1 0) (node 1 1 0) ∷ owned (cell 1 1 1) (node 1 1 1) ∷ [] }
+both_cells = record { node = root; after = Some (old_cell 0); cells = owned_cell (cell 1 1 0) (node 1 1 0) ∷ owned_cell (cell 1 1 1) (node 1 1 1) ∷ [] }
 
 abbrev both : Intent
 both = intent (rev 1 1) (new (node 1 1 0) ∷ new (node 1 1 1) ∷ []) (both_cells ∷ []) [] (puts (node 1 1 1) (To.Cell (cell 1 1 1)) ∷ puts (node 1 1 0) (To.Cell (cell 1 1 0)) ∷ [])

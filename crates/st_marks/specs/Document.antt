@@ -104,8 +104,8 @@ pub record CanBeInEffect (entries : List SchemaEntry) : Type 0 where
   pub once : AreDistinct (λ (e : SchemaEntry). e.rev) entries
 
 -- a cell with its owner
-abbrev pub owned : CellId → NodeId → Owned
-owned c m = record { cell = c; node = m }
+abbrev pub owned_cell : CellId → NodeId → Owned
+owned_cell c m = record { cell = c; node = m }
 
 -- each row has fewer than 2^32 cells
 abbrev pub HasShortRows : Document → Type 0
@@ -117,11 +117,11 @@ pub record IsSoundInForm (D : Document) : Type 0 where
   pub root_known : IsSome (D.nodes root)
   pub root_nowhere : D.place root ≡ Spot.Nowhere
   -- each cell is in one row, and there once
-  pub one_row : (c : CellId) (n : NodeId) → (D.row_of c ≡ Some n) ↔ ((m : NodeId) × Has (D.rows n) (owned c m))
+  pub one_row : (c : CellId) (n : NodeId) → (D.row_of c ≡ Some n) ↔ ((m : NodeId) × Has (D.rows n) (owned_cell c m))
   pub once : (n : NodeId) → AreDistinct (λ (o : Owned). o.cell) (D.rows n)
   pub short : HasShortRows D
   -- a node in a row owns its cell
-  pub own_cell : (m n : NodeId) (c : CellId) → D.place m ≡ Spot.Row n c → Has (D.rows n) (owned c m)
+  pub own_cell : (m n : NodeId) (c : CellId) → D.place m ≡ Spot.Row n c → Has (D.rows n) (owned_cell c m)
   -- a register holds the one node whose place it is
   pub one_held : (m : NodeId) (f : FieldId) → (D.held f ≡ Some m) ↔ (D.place m ≡ Spot.Register f)
   -- what has cells, owns one, has a register that is a place, or stands in one, is there

@@ -13,7 +13,7 @@ use Rattle.st_marks.specs.declared.intents.Owned.{Owned}
 use Rattle.st_marks.specs.declared.intents.Put.{Put}
 use Rattle.st_marks.specs.declared.intents.To.{To}
 use Rattle.st_marks.specs.declared.schemas.SchemaEntry.{SchemaEntry}
-use Rattle.st_marks.specs.Document.{Document, NodeType, owned, ClimbsToAnEnd}
+use Rattle.st_marks.specs.Document.{Document, NodeType, owned_cell, ClimbsToAnEnd}
 use Rattle.st_ids.specs.Root.{root}
 
 -- ## What its lists say
@@ -138,7 +138,7 @@ IsKnown D N n = IsTrue (is_new N n) ⊎ IsSome (D.nodes n)
 
 -- a node owns a cell, by the document or by the intent
 abbrev pub Owns : Document → Intent → NodeId → CellId → Type 0
-Owns D N n c = ((r : NodeId) × Has (D.rows r) (owned c n)) ⊎ Has (group_cells N) (owned c n)
+Owns D N n c = ((r : NodeId) × Has (D.rows r) (owned_cell c n)) ⊎ Has (group_cells N) (owned_cell c n)
 
 -- an intent that can be carried out in a document
 pub record Fits (D : Document) (N : Intent) : Type 0 where

@@ -23,14 +23,14 @@ pub data CellMark : Type 0 where
   Fill : CellId → NodeId → CellMark
 
 -- so many counted cells before others
-abbrev pub counted : ℕ → List CellMark → List CellMark
-counted zero ms = ms
-counted (suc k) ms = Counted ∷ counted k ms
+abbrev pub counted_cells : ℕ → List CellMark → List CellMark
+counted_cells zero ms = ms
+counted_cells (suc k) ms = Counted ∷ counted_cells k ms
 
 -- the marks of a row, cell by cell
 abbrev pub spread : List Mark → List CellMark
 spread [] = []
-spread (Mark.Skip k ∷ ms) = counted k (spread ms)
+spread (Mark.Skip k ∷ ms) = counted_cells k (spread ms)
 spread (Mark.Gap c ∷ ms) = Gap c ∷ spread ms
 spread (Mark.Touch c n h ∷ ms) = Touch c n h ∷ spread ms
 spread (Mark.Make c n b ∷ ms) = Make c n b ∷ spread ms

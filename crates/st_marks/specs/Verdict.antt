@@ -41,8 +41,8 @@ IsVerdict D N (Verdict.Cycle n) = IsBaseInEffect D N × ((m : NodeId) → IsUnme
 IsVerdict D N Verdict.Sound = IsBaseInEffect D N × ((m : NodeId) → IsUnmetNeed D N m → ⊥) × ((m : NodeId) → IsAboveItself D N m → ⊥)
 
 -- the document after an intent that has the verdict
-abbrev pub carried : Verdict → Document → Intent → Document
-carried Verdict.Sound D N = full D N
-carried (Verdict.Need n) D N = void D N
-carried (Verdict.Cycle n) D N = void D N
-carried (Verdict.Schema u) D N = void D N
+abbrev pub carried_document : Verdict → Document → Intent → Document
+carried_document Verdict.Sound D N = full D N
+carried_document (Verdict.Need n) D N = void D N
+carried_document (Verdict.Cycle n) D N = void D N
+carried_document (Verdict.Schema u) D N = void D N

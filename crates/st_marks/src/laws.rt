@@ -14,7 +14,7 @@ ghost use Rattle.st_marks.specs.Document.{Document, IsSoundInForm, HasShortRows}
 ghost use Rattle.st_marks.specs.Extends.{GainsItems, IsExtendedBy};
 ghost use Rattle.st_marks.specs.Intent.{Fits, is_new, new_row_of};
 ghost use Rattle.st_marks.specs.CarryOut.{full, void};
-ghost use Rattle.st_marks.specs.Verdict.{IsVerdict, IsAboveItself, carried};
+ghost use Rattle.st_marks.specs.Verdict.{IsVerdict, IsAboveItself, carried_document};
 ghost use Rattle.st_marks.specs.Back.{IsBack, retreat};
 ghost use Rattle.st_marks.specs.Join.{AreParts, IsJoin};
 ghost use Rattle.st_marks.specs.LiveTree.{Shows, IsTreeText};
@@ -27,7 +27,7 @@ pub fn carrying_out_extends()
         → ((n : NodeId) → IsAboveItself D N n → ⊥) → IsExtendedBy D (full D N) }
     ensures void { (D : Document) (N : Intent) → IsSoundInForm D → Fits D N → HasShortRows (full D N) → IsExtendedBy D (void D N) }
     ensures carried { (D : Document) (N : Intent) (v : Verdict) → IsSoundInForm D → Fits D N → HasShortRows (full D N)
-        → IsVerdict D N v → IsExtendedBy D (carried v D N) }
+        → IsVerdict D N v → IsExtendedBy D (carried_document v D N) }
 {}
 
 /// New cells come between the old ones of a row, which keep their order.
@@ -44,7 +44,7 @@ pub fn extends_in_turn()
 /// An intent has one verdict in a document, and so there is one document after it.
 pub fn one_verdict()
     ensures verdict { (D : Document) (N : Intent) (v w : Verdict) → IsVerdict D N v → IsVerdict D N w → v ≡ w }
-    ensures carried { (D : Document) (N : Intent) (v w : Verdict) → IsVerdict D N v → IsVerdict D N w → carried v D N ≡ carried w D N }
+    ensures carried { (D : Document) (N : Intent) (v w : Verdict) → IsVerdict D N v → IsVerdict D N w → carried_document v D N ≡ carried_document w D N }
 {}
 
 /// A list of intents leads to one document, which extends the one before. The document of each front of the list is

@@ -9,7 +9,7 @@ use Rattle.st_marks.specs.declared.intents.Group.{Group}
 use Rattle.st_marks.specs.declared.intents.Intent.{Intent}
 use Rattle.st_marks.specs.declared.intents.Put.{Put}
 use Rattle.st_marks.specs.declared.places.Spot.{Spot}
-use Rattle.st_marks.specs.Document.{Document, NodeType, node_of, above, climb, content, owned, IsSoundInForm}
+use Rattle.st_marks.specs.Document.{Document, NodeType, node_of, above, climb, content, owned_cell, IsSoundInForm}
 use Rattle.st_marks.specs.Embedding.{IsMentionedByIntent, named_by_intent}
 use Rattle.st_marks.specs.Extends.{IsExtendedBy}
 use Rattle.st_marks.specs.Intent.{Fits, IsKnown, Owns, cell_of, register_of}
@@ -90,7 +90,7 @@ row_named D o = option_and_then D.row_of o
 -- a cell where N puts a node is in the same row in both
 same_row : (D E : Document) (N : Intent) → IsExtendedBy D E → Fits D N → Fits E N → (n : NodeId) (o : Option CellId) → IfSome o (Owns D N n) → row_named E o ≡ row_named D o
 same_row D E N x f e n None h = refl
-same_row D E N x f e n (Some c) (inl h) = (x.after.one_row c h.0).1 (n, has_later (x.rows h.0) (owned c n) h.1) ∙ sym ((x.before.one_row c h.0).1 (n, h.1))
+same_row D E N x f e n (Some c) (inl h) = (x.after.one_row c h.0).1 (n, has_later (x.rows h.0) (owned_cell c n) h.1) ∙ sym ((x.before.one_row c h.0).1 (n, h.1))
 same_row D E N x f e n (Some c) (inr h) = e.fresh_cells c (made_there N _ h) ∙ sym (f.fresh_cells c (made_there N _ h))
 
 same_rows : (D E : Document) (N : Intent) → IsExtendedBy D E → Fits D N → Fits E N → (ps : List Put)

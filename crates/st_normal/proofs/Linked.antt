@@ -7,7 +7,8 @@ use Rattle.std.specs.Ordering.{is_eq, is_lt, ordering_reverse}
 use Rattle.std.specs.declared.cmp.Ordering.{Ordering}
 use Rattle.std.specs.declared.cmp.Ordering.TheVariants.{Less, Equal, Greater}
 use Rattle.std.proofs.lemmas.Map.Lookups.{CmpEqualImpliesEq}
-use Rattle.st_ids.specs.Listing.{AreDistinct, Has, IsRising, item_of, keyed}
+use Rattle.st_lemmas.proofs.Bools.{and-true}
+use Rattle.st_ids.specs.Listing.{AreDistinct, Has, IsRising, item_of, key_pairs}
 use Rattle.st_ids.specs.declared.names.CellId.{CellId}
 use Rattle.st_ids.specs.declared.names.FieldId.{FieldId}
 use Rattle.st_ids.specs.declared.names.NodeId.{NodeId}
@@ -54,10 +55,6 @@ one_above At links d h n p = (λ e. (h n p).0 (up_by-has links n p e), λ s. has
 -- ## Rising lists
 
 module _ {K A : Type 0} (R : K → K → Ordering) (t : IsTotalOrder R) (exact : CmpEqualImpliesEq R) (key : A → K) where
-  both : (a b : Bool) → (a && b) ≡ true → (a ≡ true) × (b ≡ true)
-  both true b e = (refl, e)
-  both false b e = cc
-
   equal : (o : Ordering) → is_eq o ≡ true → o ≡ Equal
   equal Less e = cc
   equal Equal e = refl
@@ -73,16 +70,16 @@ module _ {K A : Type 0} (R : K → K → Ordering) (t : IsTotalOrder R) (exact :
   apart Equal q e f = cc
   apart Greater q e f = cc
 
-  below-has : (k : K) (xs : List A) (x : A) → below_all R k (keyed key xs) ≡ true → Has xs x → is_lt (R k (key x)) ≡ true
+  below-has : (k : K) (xs : List A) (x : A) → below_all R k (key_pairs key xs) ≡ true → Has xs x → is_lt (R k (key x)) ≡ true
   below-has k [] x b h = absurd h
-  below-has k (y ∷ ys) x b (inl e) = subst (λ z. is_lt (R k (key z)) ≡ true) e (both _ _ b).0
-  below-has k (y ∷ ys) x b (inr h) = below-has k ys x (both _ _ b).1 h
+  below-has k (y ∷ ys) x b (inl e) = subst (λ z. is_lt (R k (key z)) ≡ true) e (and-true _ _ b).0
+  below-has k (y ∷ ys) x b (inr h) = below-has k ys x (and-true _ _ b).1 h
 
   pub has-item_of : (xs : List A) (x : A) → IsRising R key xs → Has xs x → item_of R key xs (key x) ≡ Some x
   has-item_of [] x r h = absurd h
   has-item_of (y ∷ ys) x r (inl e) = subst (λ z. cond (is_eq (R (key z) (key y))) (Some y) (item_of R key ys (key z)) ≡ Some z) e
       (ap (λ b. cond b (Some y) (item_of R key ys (key y))) (tied (R (key y) (key y)) (t.antisymm (key y) (key y))))
-  has-item_of (y ∷ ys) x r (inr h) = let p = both _ _ r in
+  has-item_of (y ∷ ys) x r (inr h) = let p = and-true _ _ r in
       ap (λ b. cond b (Some y) (item_of R key ys (key x))) (apart (R (key y) (key x)) (R (key x) (key y)) (below-has (key y) ys x p.0 h) (t.antisymm (key x) (key y)))
       ∙ has-item_of ys x p.1 h
 

@@ -1,7 +1,7 @@
 -- Marks in normal form, one by one.
 use Rattle.std.proofs.Common.{◌≡◌, ◌≢◌, ℕ, zero, suc, Bool, true, false, not, ◌&&◌, List, [], ◌∷◌, refl, sym, ap, ◌∙◌, subst, IsTrue, ◌↔◌}
 use Rattle.st_marks.specs.declared.marks.Mark.{Mark}
-use Rattle.st_marks.specs.Row.{CellMark, Counted, Gap, Touch, Make, Fill, counted, spread, skip_one, merge}
+use Rattle.st_marks.specs.Row.{CellMark, Counted, Gap, Touch, Make, Fill, counted_cells, spread, skip_one, merge}
 
 -- no Skip of 0, and none behind another; whether one stands right before
 abbrev pub is_merged : Bool → List Mark → Bool
@@ -14,18 +14,18 @@ is_merged b (Mark.Make c n f ∷ ms) = is_merged false ms
 is_merged b (Mark.Fill c n ∷ ms) = is_merged false ms
 
 -- one counted cell before marks that may stand behind a Skip
-one_more : (ms : List Mark) → is_merged true ms ≡ true → skip_one ms ≡ Mark.Skip 1 ∷ ms
-one_more [] e = refl
-one_more (Mark.Skip zero ∷ ms) e = cc
-one_more (Mark.Skip (suc k) ∷ ms) e = cc
-one_more (Mark.Gap c ∷ ms) e = refl
-one_more (Mark.Touch c n h ∷ ms) e = refl
-one_more (Mark.Make c n f ∷ ms) e = refl
-one_more (Mark.Fill c n ∷ ms) e = refl
+skip_one-is_merged : (ms : List Mark) → is_merged true ms ≡ true → skip_one ms ≡ Mark.Skip 1 ∷ ms
+skip_one-is_merged [] e = refl
+skip_one-is_merged (Mark.Skip zero ∷ ms) e = cc
+skip_one-is_merged (Mark.Skip (suc k) ∷ ms) e = cc
+skip_one-is_merged (Mark.Gap c ∷ ms) e = refl
+skip_one-is_merged (Mark.Touch c n h ∷ ms) e = refl
+skip_one-is_merged (Mark.Make c n f ∷ ms) e = refl
+skip_one-is_merged (Mark.Fill c n ∷ ms) e = refl
 
 -- a Skip of what is counted
-skipped : (k : ℕ) (xs : List CellMark) (ms : List Mark) → merge xs ≡ ms → is_merged true ms ≡ true → merge (counted (suc k) xs) ≡ Mark.Skip (suc k) ∷ ms
-skipped zero xs ms e m = ap skip_one e ∙ one_more ms m
+skipped : (k : ℕ) (xs : List CellMark) (ms : List Mark) → merge xs ≡ ms → is_merged true ms ≡ true → merge (counted_cells (suc k) xs) ≡ Mark.Skip (suc k) ∷ ms
+skipped zero xs ms e m = ap skip_one e ∙ skip_one-is_merged ms m
 skipped (suc k) xs ms e m = ap skip_one (skipped k xs ms e m)
 
 weaker : (ms : List Mark) → is_merged true ms ≡ true → is_merged false ms ≡ true

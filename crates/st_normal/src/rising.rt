@@ -4,7 +4,7 @@ ghost use Rattle.std.specs.Cmp.{IsTotalOrder};
 ghost use Rattle.std.specs.FinMap.Entries.{is_sorted};
 ghost use Rattle.std.specs.Ordering.{is_lt};
 ghost use Rattle.std.specs.declared.cmp.Ordering.{Ordering};
-ghost use Rattle.st_ids.specs.Listing.{IsRising, keyed};
+ghost use Rattle.st_ids.specs.Listing.{IsRising, key_pairs};
 ghost use Rattle.st_ids.specs.Order.{field_cmp, node_cmp};
 ghost use Rattle.st_ids.specs.declared.names.NodeId.{NodeId as Node};
 ghost use Rattle.st_marks.specs.declared.changes.NewNode.{NewNode as New};
@@ -33,7 +33,7 @@ pub trait Ordered<T> {
 
 // Whether a thing is before all behind it, if these rise.
 fn leads<T, O: Ordered<T>>(first: &T, rest: &[T], order: &O) -> bool
-    ensures { is_sorted O.cmp (keyed O.key (first.now ∷ rest.now)) ≡ (result && is_sorted O.cmp (keyed O.key rest.now)) }
+    ensures { is_sorted O.cmp (key_pairs O.key (first.now ∷ rest.now)) ≡ (result && is_sorted O.cmp (key_pairs O.key rest.now)) }
 {
     match rest {
         [] => true,

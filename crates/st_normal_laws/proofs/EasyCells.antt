@@ -13,7 +13,7 @@ use Rattle.st_marks.specs.declared.intents.Owned.{Owned}
 use Rattle.st_marks.specs.declared.intents.To.{To}
 use Rattle.st_marks.specs.declared.marks.RowMarks.{RowMarks}
 use Rattle.st_marks.specs.declared.places.Slot.{Slot}
-use Rattle.st_marks.specs.Document.{Document, IsSoundInForm, content, owned, slot}
+use Rattle.st_marks.specs.Document.{Document, IsSoundInForm, content, owned_cell, slot}
 use Rattle.st_marks.specs.Embedding.{IsEmbedding, row_part}
 use Rattle.st_marks.specs.Intent.{Fits, cells_of, group_at, new_row_of, same_option}
 use Rattle.st_marks.specs.Row.{CellMark, Counted, Gap, Touch, Fill, RowPart, embed_cell, embed_cells, embed_made, embed_row, how, spread}
@@ -143,7 +143,7 @@ module _ (D : Document) (N : Intent) (C : Change) (x : IsSoundInForm D) (f : Fit
 
   -- the row of a cell that is there, and of one that is made
   old-row : (n : NodeId) (s : Slot) → Has (content D n) s → D.row_of s.cell ≡ Some n
-  old-row n s h = let q = has-map (slot D) (D.rows n) s h in (x.one_row s.cell n).1 (q.0.node, subst (λ c. Has (D.rows n) (owned c q.0.node)) (ap (λ (s : Slot). s.cell) q.2) q.1)
+  old-row n s h = let q = has-map (slot D) (D.rows n) s h in (x.one_row s.cell n).1 (q.0.node, subst (λ c. Has (D.rows n) (owned_cell c q.0.node)) (ap (λ (s : Slot). s.cell) q.2) q.1)
 
   new-row : (n : NodeId) (a : Option CellId) (o : Owned) → Has (group_at N n a) o → (D.row_of o.cell ≡ None) × (new_row_of N o.cell ≡ Some n)
   new-row n a o h = let g = group_at-group N n a o h in (

@@ -20,7 +20,7 @@ use Rattle.st_marks.specs.declared.marks.RegMark.{RegMark}
 use Rattle.st_marks.specs.declared.marks.RowMarks.{RowMarks}
 use Rattle.st_marks.specs.declared.places.Slot.{Slot}
 use Rattle.st_marks.specs.declared.places.Spot.{Spot}
-use Rattle.st_marks.specs.Document.{Document, IsSoundInForm, above, climb, content, node_of, owned, slot}
+use Rattle.st_marks.specs.Document.{Document, IsSoundInForm, above, climb, content, node_of, owned_cell, slot}
 use Rattle.st_ids.specs.Root.{root}
 use Rattle.st_marks.specs.Embedding.{IsEmbedding, row_part, register_part, tells, named_by_intent}
 use Rattle.st_marks.specs.Intent.{Fits, is_new, new_node, IsKnown, cell_of, clears, put_of}
@@ -161,7 +161,7 @@ module _ (D : Document) (N : Intent) (C : Change) (x : IsSoundInForm D) (f : Fit
   by-known n h (inr k) = by-mention n (named n h k)
 
   row-known : (n : NodeId) (s : Slot) → Has (content D n) s → (D.row_of s.cell ≡ Some n) × IsSome (D.nodes n)
-  row-known n s h = let q = has-map (slot D) (D.rows n) s h in ((x.one_row s.cell n).1 (q.0.node, subst (λ c. Has (D.rows n) (owned c q.0.node)) (ap (λ (s : Slot). s.cell) q.2) q.1), (x.cells_known n q.0 q.1).0)
+  row-known n s h = let q = has-map (slot D) (D.rows n) s h in ((x.one_row s.cell n).1 (q.0.node, subst (λ c. Has (D.rows n) (owned_cell c q.0.node)) (ap (λ (s : Slot). s.cell) q.2) q.1), (x.cells_known n q.0 q.1).0)
 
   row-field : (n : NodeId) → WhyTold (row_part m N n) (content D n) → IsField n
   row-field n (by_touch s h e g) = by-mention n (mentioned-up s.node n g (ap node_of (stands D x s.node n s.cell (subst (λ b. Has (content D n) (record { cell = s.cell; node = s.node; full = b })) e h))))

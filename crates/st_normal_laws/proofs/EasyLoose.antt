@@ -19,7 +19,7 @@ use Rattle.st_marks.specs.declared.marks.RegMark.{RegMark}
 use Rattle.st_marks.specs.declared.marks.RowMarks.{RowMarks}
 use Rattle.st_marks.specs.declared.places.Slot.{Slot}
 use Rattle.st_marks.specs.declared.places.Spot.{Spot}
-use Rattle.st_marks.specs.Document.{Document, IsSoundInForm, content, is_cell, owned, slot}
+use Rattle.st_marks.specs.Document.{Document, IsSoundInForm, content, is_cell, owned_cell, slot}
 use Rattle.st_marks.specs.Embedding.{IsEmbedding, register_part, row_part, tells}
 use Rattle.st_marks.specs.Intent.{Fits, IsKnown, Owns, cell_of, clears, group_at, put_in, put_of, register_of}
 use Rattle.st_marks.specs.Register.{comes_in, how_held, holds_mentioned}
@@ -89,17 +89,17 @@ module _ (D : Document) (N : Intent) (C : Change) (x : IsSoundInForm D) (f : Fit
 
   by-cell : (n : NodeId) (c : CellId) → D.place n ≡ Spot.Nowhere → put_of N n ≡ Some (To.Cell c) → Owns D N n c → Has L.put n
   by-cell n c p e (inl r) = by-row r.0 n (skip-made (part r.0) (group_at N r.0 None) (embed_cells (part r.0) (content D r.0)) n (fill-comes (part r.0) (content D r.0) c n
-      (subst (λ b. Has (content D r.0) (record { cell = c; node = n; full = b })) (ap (is_cell c) p) (map-has (slot D) (D.rows r.0) (owned c n) r.1)) e))
-  by-cell n c p e (inr h) = let g = has-flat_map (λ (g : Group). g.cells) N.groups (owned c n) h in
-      by-row g.0.node n (at g.0 g.1 g.0.after refl (subst (λ l. Has l (owned c n)) (sym (group_found N f.itself g.0 g.1)) g.2))
+      (subst (λ b. Has (content D r.0) (record { cell = c; node = n; full = b })) (ap (is_cell c) p) (map-has (slot D) (D.rows r.0) (owned_cell c n) r.1)) e))
+  by-cell n c p e (inr h) = let g = has-flat_map (λ (g : Group). g.cells) N.groups (owned_cell c n) h in
+      by-row g.0.node n (at g.0 g.1 g.0.after refl (subst (λ l. Has l (owned_cell c n)) (sym (group_found N f.itself g.0 g.1)) g.2))
     where
-      at : (g : Group) → Has N.groups g → (a : Option CellId) → g.after ≡ a → Has (group_at N g.node g.after) (owned c n) → Has (incoming (embed_row (part g.node) (content D g.node))) n
-      at g i None q j = made-comes (part g.node) (group_at N g.node None) (embed_cells (part g.node) (content D g.node)) (owned c n) (subst (λ a. Has (group_at N g.node a) (owned c n)) q j) e
+      at : (g : Group) → Has N.groups g → (a : Option CellId) → g.after ≡ a → Has (group_at N g.node g.after) (owned_cell c n) → Has (incoming (embed_row (part g.node) (content D g.node))) n
+      at g i None q j = made-comes (part g.node) (group_at N g.node None) (embed_cells (part g.node) (content D g.node)) (owned_cell c n) (subst (λ a. Has (group_at N g.node a) (owned_cell c n)) q j) e
       at g i (Some a) q j =
           let known = (all-has (λ (k : Group). IsKnown D N k.node × IfSome k.after (λ c. D.row_of c ≡ Some k.node)) N.groups g f.groups_known i).1 in
           let row = (x.one_row a g.node).0 (subst (λ a. IfSome a (λ c. D.row_of c ≡ Some g.node)) q known) in
           skip-made (part g.node) (group_at N g.node None) (embed_cells (part g.node) (content D g.node)) n
-          (behind-comes (part g.node) (content D g.node) (slot D (owned a row.0)) (owned c n) (map-has (slot D) (D.rows g.node) (owned a row.0) row.1) (subst (λ a. Has (group_at N g.node a) (owned c n)) q j) e)
+          (behind-comes (part g.node) (content D g.node) (slot D (owned_cell a row.0)) (owned_cell c n) (map-has (slot D) (D.rows g.node) (owned_cell a row.0) row.1) (subst (λ a. Has (group_at N g.node a) (owned_cell c n)) q j) e)
 
   by-register : (n : NodeId) (k : FieldId) → D.place n ≡ Spot.Nowhere → Has N.put (record { node = n; to = To.Register k }) → Has L.put n
   by-register n k p h =

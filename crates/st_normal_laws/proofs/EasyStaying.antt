@@ -19,7 +19,7 @@ use Rattle.st_marks.specs.declared.marks.RegMark.{RegMark}
 use Rattle.st_marks.specs.declared.marks.RowMarks.{RowMarks}
 use Rattle.st_marks.specs.declared.places.Slot.{Slot}
 use Rattle.st_marks.specs.declared.places.Spot.{Spot}
-use Rattle.st_marks.specs.Document.{Document, IsSoundInForm, above, climb, content, node_of, owned, slot}
+use Rattle.st_marks.specs.Document.{Document, IsSoundInForm, above, climb, content, node_of, owned_cell, slot}
 use Rattle.st_ids.specs.Root.{root}
 use Rattle.st_marks.specs.Embedding.{IsEmbedding, embed_loose, is_nowhere, row_part, register_part, tells, named_by_intent}
 use Rattle.st_marks.specs.Intent.{Fits, group_at, IsKnown, cell_of, clears, put_of, Owns}
@@ -176,19 +176,19 @@ module _ (D : Document) (N : Intent) (C : Change) (x : IsSoundInForm D) (f : Fit
       go (Some c) e (o ∷ os) q =
           let made : Has (group_at N g.node (Some c)) o = subst (λ a. Has (group_at N g.node a) o) e (subst (λ l. Has l o) (sym at) (subst (λ l. Has l o) (sym q) (inl refl))) in
           let row = (x.one_row c g.node).0 (subst (λ a. IfSome a (λ c. D.row_of c ≡ Some g.node)) e known) in
-          told-why g.node (after-told (part g.node) (content D g.node) (slot D (owned c row.0)) o (map-has (slot D) (D.rows g.node) (owned c row.0) row.1) made)
+          told-why g.node (after-told (part g.node) (content D g.node) (slot D (owned_cell c row.0)) o (map-has (slot D) (D.rows g.node) (owned_cell c row.0) row.1) made)
 
   target-why : (p : Put) (c : CellId) (n : NodeId) → Has N.put p → p.to ≡ To.Cell c → D.row_of c ≡ Some n → Why n
   target-why p c n h e q = elim (subst (λ t. IfSome (cell_of t) (Owns D N p.node)) e (all-has (λ (p : Put). IsKnown D N p.node × IfSome (cell_of p.to) (Owns D N p.node) × IfSome (Rattle.st_marks.specs.Intent.register_of p.to) (λ k. IsKnown D N k.node)) N.put p f.puts_known h).1) [
-    | inr g ↦ (let bad : None ≡ Some n = sym (f.fresh_cells c (made_there N (owned c p.node) g)) ∙ q in cc)
-    | inl r ↦ (let same = some-node (sym ((x.one_row c r.0).1 (p.node, r.1)) ∙ q) in at (slot D (owned c p.node)).full refl (subst (λ k. Has (content D k) (slot D (owned c p.node))) same (map-has (slot D) (D.rows r.0) (owned c p.node) r.1)))
+    | inr g ↦ (let bad : None ≡ Some n = sym (f.fresh_cells c (made_there N (owned_cell c p.node) g)) ∙ q in cc)
+    | inl r ↦ (let same = some-node (sym ((x.one_row c r.0).1 (p.node, r.1)) ∙ q) in at (slot D (owned_cell c p.node)).full refl (subst (λ k. Has (content D k) (slot D (owned_cell c p.node))) same (map-has (slot D) (D.rows r.0) (owned_cell c p.node) r.1)))
   ]
     where
       target_of : put_of N p.node ≡ Some (To.Cell c)
       target_of = has-put N f.itself p h ∙ ap (λ t. Some t) e
 
-      at : (b : Bool) → (slot D (owned c p.node)).full ≡ b → Has (content D n) (slot D (owned c p.node)) → Why n
-      at false g i = told-why n (fill-told (part n) (content D n) (slot D (owned c p.node)) i g (put-is_here (put_of N p.node) (To.Cell c) target_of))
+      at : (b : Bool) → (slot D (owned_cell c p.node)).full ≡ b → Has (content D n) (slot D (owned_cell c p.node)) → Why n
+      at false g i = told-why n (fill-told (part n) (content D n) (slot D (owned_cell c p.node)) i g (put-is_here (put_of N p.node) (To.Cell c) target_of))
       at true g i =
           let j = subst (λ b. Has (content D n) (record { cell = c; node = p.node; full = b })) g i in
           let place = stands D x p.node n c j in

@@ -18,7 +18,7 @@ use Rattle.st_marks.specs.declared.marks.Loose.{Loose}
 use Rattle.st_marks.specs.declared.marks.RegMark.{RegMark}
 use Rattle.st_marks.specs.declared.marks.RowMarks.{RowMarks}
 use Rattle.st_marks.specs.declared.places.Slot.{Slot}
-use Rattle.st_marks.specs.Document.{Document, IsSoundInForm, above, climb, content, node_of, owned, slot}
+use Rattle.st_marks.specs.Document.{Document, IsSoundInForm, above, climb, content, node_of, owned_cell, slot}
 use Rattle.st_ids.specs.Root.{root}
 use Rattle.st_marks.specs.Embedding.{IsMentionedByIntent, is_among, named_by_intent, tells}
 use Rattle.st_marks.specs.Intent.{cell_of}
@@ -30,7 +30,7 @@ use Rattle.st_marks.proofs.Climb.{above_known, climb_more}
 use Rattle.st_normal.proofs.NoRings.{among_has, has-filter}
 use Rattle.st_marks.proofs.Members.{all-has, append_left, append_right, has-append, map-has, has-map, flat_map-has, has-flat_map, any-has, has-filter_map}
 use Rattle.st_normal_laws.specs.Mentions.{mentions, moving}
-use Rattle.st_normal_laws.specs.Meant.{IsOver, cleared_at, gone, group_of, groups_along, groups_of, leaving, loose_puts, made_first, meant, put_to, reg_puts, row_puts, along, Along}
+use Rattle.st_normal_laws.specs.Meant.{IsOver, cleared_at, nodes_gone, group_of, groups_along, groups_of, leaving, loose_puts, made_first, meant, put_to, reg_puts, row_puts, along, Along}
 use Rattle.st_normal_laws.proofs.FoundPlaces.{PlacedAs, as_row, as_held, as_loose, touched, filled, has-found_in, is-found_held, found_placed, found_there, found_above, touch_place, held_place}
 use Rattle.st_normal_laws.proofs.Mentioned.{moving-has, has-moving, has-staying, has-leaving, leaving-has, row_put-has, here-put, fill-put, incoming-put, make-incoming, fill-incoming, row_made}
 use Rattle.st_normal_laws.proofs.Basics.{is-one, not-false, not-true, one-is}
@@ -87,18 +87,18 @@ module _ (D : Document) (C : Change) (x : IsSoundInForm D) (w : ObeysDataRules C
   pub put-loose : (l : Loose) (p : Put) → Has C.loose l → Has (loose_puts l) p → Has N.put p
   put-loose l p i j = append_right (flat_map (λ (r : RowMarks). row_puts (spread r.marks)) C.rows) _ p (append_right (flat_map reg_puts C.regs) _ p (append_left (flat_map loose_puts C.loose) _ p (flat_map-has loose_puts C.loose l p i j)))
 
-  pub put-gone : (n : NodeId) → Has (gone C) n → Has N.put (put_to n To.Nowhere)
-  put-gone n i = append_right (flat_map (λ (r : RowMarks). row_puts (spread r.marks)) C.rows) _ (put_to n To.Nowhere) (append_right (flat_map reg_puts C.regs) _ (put_to n To.Nowhere) (append_right (flat_map loose_puts C.loose) _ (put_to n To.Nowhere) (map-has (λ n. put_to n To.Nowhere) (gone C) n i)))
+  pub put-gone : (n : NodeId) → Has (nodes_gone C) n → Has N.put (put_to n To.Nowhere)
+  put-gone n i = append_right (flat_map (λ (r : RowMarks). row_puts (spread r.marks)) C.rows) _ (put_to n To.Nowhere) (append_right (flat_map reg_puts C.regs) _ (put_to n To.Nowhere) (append_right (flat_map loose_puts C.loose) _ (put_to n To.Nowhere) (map-has (λ n. put_to n To.Nowhere) (nodes_gone C) n i)))
 
   pub put-cases : (p : Put) → Has N.put p
-      → ((r : RowMarks) × Has C.rows r × Has (row_puts (spread r.marks)) p) ⊎ ((r : RegMark) × Has C.regs r × Has (reg_puts r) p) ⊎ ((l : Loose) × Has C.loose l × Has (loose_puts l) p) ⊎ ((n : NodeId) × Has (gone C) n × (p ≡ put_to n To.Nowhere))
-  put-cases p h = elim (has-append (flat_map (λ (r : RowMarks). row_puts (spread r.marks)) C.rows) (flat_map reg_puts C.regs ++ (flat_map loose_puts C.loose ++ map (λ n. put_to n To.Nowhere) (gone C))) p h) [
+      → ((r : RowMarks) × Has C.rows r × Has (row_puts (spread r.marks)) p) ⊎ ((r : RegMark) × Has C.regs r × Has (reg_puts r) p) ⊎ ((l : Loose) × Has C.loose l × Has (loose_puts l) p) ⊎ ((n : NodeId) × Has (nodes_gone C) n × (p ≡ put_to n To.Nowhere))
+  put-cases p h = elim (has-append (flat_map (λ (r : RowMarks). row_puts (spread r.marks)) C.rows) (flat_map reg_puts C.regs ++ (flat_map loose_puts C.loose ++ map (λ n. put_to n To.Nowhere) (nodes_gone C))) p h) [
     | inl i ↦ inl (has-flat_map (λ (r : RowMarks). row_puts (spread r.marks)) C.rows p i)
-    | inr i ↦ elim (has-append (flat_map reg_puts C.regs) (flat_map loose_puts C.loose ++ map (λ n. put_to n To.Nowhere) (gone C)) p i) [
+    | inr i ↦ elim (has-append (flat_map reg_puts C.regs) (flat_map loose_puts C.loose ++ map (λ n. put_to n To.Nowhere) (nodes_gone C)) p i) [
       | inl j ↦ inr (inl (has-flat_map reg_puts C.regs p j))
-      | inr j ↦ elim (has-append (flat_map loose_puts C.loose) (map (λ n. put_to n To.Nowhere) (gone C)) p j) [
+      | inr j ↦ elim (has-append (flat_map loose_puts C.loose) (map (λ n. put_to n To.Nowhere) (nodes_gone C)) p j) [
         | inl k ↦ inr (inr (inl (has-flat_map loose_puts C.loose p k)))
-        | inr k ↦ (let r = has-map (λ n. put_to n To.Nowhere) (gone C) p k in inr (inr (inr (r.0, r.1, sym r.2))))
+        | inr k ↦ (let r = has-map (λ n. put_to n To.Nowhere) (nodes_gone C) p k in inr (inr (inr (r.0, r.1, sym r.2))))
       ]
     ]
   ]
@@ -232,7 +232,7 @@ module _ (D : Document) (C : Change) (x : IsSoundInForm D) (w : ObeysDataRules C
   row-cell : (r : RowMarks) (c : CellId) (n : NodeId) (b : Bool) → Has (content D r.node) (record { cell = c; node = n; full = b }) → D.row_of c ≡ Some r.node
   row-cell r c n b h =
       let q = has-map (slot D) (D.rows r.node) (record { cell = c; node = n; full = b }) h in
-      (x.one_row c r.node).1 (q.0.node, subst (λ d. Has (D.rows r.node) (owned d q.0.node)) (ap (λ (s : Slot). s.cell) q.2) q.1)
+      (x.one_row c r.node).1 (q.0.node, subst (λ d. Has (D.rows r.node) (owned_cell d q.0.node)) (ap (λ (s : Slot). s.cell) q.2) q.1)
 
   -- how a listed row mentions its node, where a node that stays in it does
   row-mentions : (r : RowMarks) → Has C.rows r → IsSome (D.nodes r.node)

@@ -11,13 +11,13 @@ use Rattle.st_ids.specs.declared.names.NodeId.{NodeId}
 use Rattle.st_marks.specs.declared.intents.Owned.{Owned}
 use Rattle.st_marks.specs.declared.places.Slot.{Slot}
 use Rattle.st_marks.specs.declared.places.Spot.{Spot}
-use Rattle.st_marks.specs.Document.{IsSoundInForm, ClimbsToAnEnd, above, climb, content, is_cell, node_of, owned, slot}
+use Rattle.st_marks.specs.Document.{IsSoundInForm, ClimbsToAnEnd, above, climb, content, is_cell, node_of, owned_cell, slot}
 use Rattle.st_ids.specs.Root.{root}
 use Rattle.st_normal.specs.inside.Ring.{AreListed}
 use Rattle.st_normal.proofs.AboveItself.{no_ring-leads_up, too_long}
 use Rattle.st_marks.proofs.Climb.{is_cell-true}
 use Rattle.st_marks.proofs.Members.{all-has, has-all, append_left, append_right, has-append, map-has, has-map, flat_map-has, has-flat_map, first-has, none-has, any-has, has-any, distinct-has, first-distinct, one_list, list_distinct}
-use Rattle.st_normal_laws.specs.Laid.{LaidRow, LaidHeld, Stand, Layout, cells_at, stands_in, standing, owned_at, laid, StandsAt, IsLayout}
+use Rattle.st_normal_laws.specs.Laid.{LaidRow, LaidHeld, Stand, Layout, cells_at, stands_in, standing, owned_at, laid_document, StandsAt, IsLayout}
 use Rattle.st_lemmas.proofs.Bools.{true-false}
 
 -- ## Rows
@@ -67,10 +67,10 @@ module _ (L : Layout) (w : IsLayout L) where
 
   -- ## Places
 
-  pub standing_place : (n : NodeId) (s : Spot) → StandsAt stands n s → (laid L).place n ≡ s
+  pub standing_place : (n : NodeId) (s : Spot) → StandsAt stands n s → (laid_document L).place n ≡ s
   standing_place n s h = ap (λ o. option_map_or (λ (s : Stand). s.spot) o Spot.Nowhere) (first-distinct (λ (s : Stand). s.node) stands (λ (x : Stand). same_node x.node n) (record { node = n; spot = s }) w.stands_once h (same_node-itself n) (λ x t. same_node-true x.node n t))
 
-  pub place_standing : (n : NodeId) (s : Spot) → (laid L).place n ≡ s → s ≢ Spot.Nowhere → StandsAt stands n s
+  pub place_standing : (n : NodeId) (s : Spot) → (laid_document L).place n ≡ s → s ≢ Spot.Nowhere → StandsAt stands n s
   place_standing n s e d = go (find (λ (x : Stand). same_node x.node n) stands) refl e
     where
       go : (o : Option Stand) → find (λ (x : Stand). same_node x.node n) stands ≡ o → option_map_or (λ (s : Stand). s.spot) o Spot.Nowhere ≡ s → StandsAt stands n s
@@ -120,10 +120,10 @@ module _ (L : Layout) (w : IsLayout L) where
   -- ## What a row shows
 
   -- a cell is full in the document as it is laid out
-  full_is : (r : LaidRow) (s : Slot) → Has L.rows r → Has r.cells s → is_cell s.cell ((laid L).place s.node) ≡ s.full
+  full_is : (r : LaidRow) (s : Slot) → Has L.rows r → Has r.cells s → is_cell s.cell ((laid_document L).place s.node) ≡ s.full
   full_is r s h i = go s.full refl
     where
-      spot_not : (t : Spot) → (laid L).place s.node ≡ t → s.full ≡ false → is_cell s.cell t ≡ false
+      spot_not : (t : Spot) → (laid_document L).place s.node ≡ t → s.full ≡ false → is_cell s.cell t ≡ false
       spot_not t e f = decide (is_cell s.cell t) refl
         where
           decide : (b : Bool) → is_cell s.cell t ≡ b → b ≡ false
@@ -138,44 +138,44 @@ module _ (L : Layout) (w : IsLayout L) where
               row_not : (n : NodeId) (c : CellId) → Spot.Row n c ≡ Spot.Nowhere → ⊥
               row_not n c e = cc
 
-      go : (b : Bool) → s.full ≡ b → is_cell s.cell ((laid L).place s.node) ≡ b
+      go : (b : Bool) → s.full ≡ b → is_cell s.cell ((laid_document L).place s.node) ≡ b
       go true e = ap (is_cell s.cell) (standing_place s.node (Spot.Row r.node s.cell) (row_stands r s.cell s.node h (subst (Has r.cells) (λ i. record { cell = s.cell; node = s.node; full = e i }) i))) ∙ same_cell-itself s.cell
-      go false e = spot_not ((laid L).place s.node) refl e
+      go false e = spot_not ((laid_document L).place s.node) refl e
 
-  shown : (r : LaidRow) → Has L.rows r → (ss : List Slot) → ((s : Slot) → Has ss s → Has r.cells s) → map (slot (laid L)) (map owned_at ss) ≡ ss
+  shown : (r : LaidRow) → Has L.rows r → (ss : List Slot) → ((s : Slot) → Has ss s → Has r.cells s) → map (slot (laid_document L)) (map owned_at ss) ≡ ss
   shown r h [] sub = refl
   shown r h (s ∷ ss) sub = λ i. record { cell = s.cell; node = s.node; full = full_is r s h (sub s (inl refl)) i } ∷ shown r h ss (λ t j. sub t (inr j)) i
 
-  pub laid_content : (n : NodeId) → content (laid L) n ≡ cells_at L.rows n
+  pub laid_content : (n : NodeId) → content (laid_document L) n ≡ cells_at L.rows n
   laid_content n = go (find (λ (r : LaidRow). same_node r.node n) L.rows) refl
     where
-      go : (o : Option LaidRow) → find (λ (r : LaidRow). same_node r.node n) L.rows ≡ o → map (slot (laid L)) (map owned_at (option_map_or (λ (r : LaidRow). r.cells) o [])) ≡ option_map_or (λ (r : LaidRow). r.cells) o []
+      go : (o : Option LaidRow) → find (λ (r : LaidRow). same_node r.node n) L.rows ≡ o → map (slot (laid_document L)) (map owned_at (option_map_or (λ (r : LaidRow). r.cells) o [])) ≡ option_map_or (λ (r : LaidRow). r.cells) o []
       go None e = refl
       go (Some r) e = let f = first-has (λ (r : LaidRow). same_node r.node n) L.rows r e in shown r f.0 r.cells (λ s i. i)
 
   -- ## Sound
 
-  known_is : (n : NodeId) → Has (root ∷ L.known) n → IsSome ((laid L).nodes n)
+  known_is : (n : NodeId) → Has (root ∷ L.known) n → IsSome ((laid_document L).nodes n)
   known_is n h = rw (has-any (λ m. same_node m n) (root ∷ L.known) n h (same_node-itself n)) refl
 
-  one_row : (c : CellId) (n : NodeId) → ((laid L).row_of c ≡ Some n) ↔ ((m : NodeId) × Has ((laid L).rows n) (owned c m))
+  one_row : (c : CellId) (n : NodeId) → ((laid_document L).row_of c ≡ Some n) ↔ ((m : NodeId) × Has ((laid_document L).rows n) (owned_cell c m))
   one_row c n = (go (find (λ (r : LaidRow). list_any (λ (s : Slot). same_cell s.cell c) r.cells) L.rows) refl, back)
     where
-      go : (o : Option LaidRow) → find (λ (r : LaidRow). list_any (λ (s : Slot). same_cell s.cell c) r.cells) L.rows ≡ o → option_map (λ (r : LaidRow). r.node) o ≡ Some n → (m : NodeId) × Has ((laid L).rows n) (owned c m)
+      go : (o : Option LaidRow) → find (λ (r : LaidRow). list_any (λ (s : Slot). same_cell s.cell c) r.cells) L.rows ≡ o → option_map (λ (r : LaidRow). r.node) o ≡ Some n → (m : NodeId) × Has ((laid_document L).rows n) (owned_cell c m)
       go None e f = cc
       go (Some r) e f =
           let g = first-has (λ (r : LaidRow). list_any (λ (s : Slot). same_cell s.cell c) r.cells) L.rows r e in
           let s = any-has (λ (s : Slot). same_cell s.cell c) r.cells g.1 in
           let same : r.node ≡ n = cc in (
             s.0.node,
-            subst (λ k. Has (map owned_at (cells_at L.rows k)) (owned c s.0.node)) same
-                (subst (λ cs. Has (map owned_at cs) (owned c s.0.node)) (sym (row_found r g.0))
-                (subst (λ d. Has (map owned_at r.cells) (owned d s.0.node)) (same_cell-true s.0.cell c s.2) (map-has owned_at r.cells s.0 s.1))),
+            subst (λ k. Has (map owned_at (cells_at L.rows k)) (owned_cell c s.0.node)) same
+                (subst (λ cs. Has (map owned_at cs) (owned_cell c s.0.node)) (sym (row_found r g.0))
+                (subst (λ d. Has (map owned_at r.cells) (owned_cell d s.0.node)) (same_cell-true s.0.cell c s.2) (map-has owned_at r.cells s.0 s.1))),
           )
 
-      back : ((m : NodeId) × Has ((laid L).rows n) (owned c m)) → (laid L).row_of c ≡ Some n
+      back : ((m : NodeId) × Has ((laid_document L).rows n) (owned_cell c m)) → (laid_document L).row_of c ≡ Some n
       back (m, h) =
-          let s = has-map owned_at (cells_at L.rows n) (owned c m) h in
+          let s = has-map owned_at (cells_at L.rows n) (owned_cell c m) h in
           let r = cell_found n s.0 s.1 in
           let cell : s.0.cell ≡ c = ap (λ (o : Owned). o.cell) s.2 in
           finds r.0 r.1 s.0 r.2 cell r.3 (find (λ (r : LaidRow). list_any (λ (s : Slot). same_cell s.cell c) r.cells) L.rows) refl
@@ -206,51 +206,51 @@ module _ (L : Layout) (w : IsLayout L) where
       go (Some r) e = some r (first-has (λ (r : LaidRow). same_node r.node n) L.rows r e).0
 
   -- climbing
-  above_stands : (n p : NodeId) → (above (laid L) n ≡ Some p) ↔ ((s : Spot) × StandsAt stands n s × (node_of s ≡ Some p))
+  above_stands : (n p : NodeId) → (above (laid_document L) n ≡ Some p) ↔ ((s : Spot) × StandsAt stands n s × (node_of s ≡ Some p))
   above_stands n p = (
-    λ e. ((laid L).place n, place_standing n ((laid L).place n) refl (λ q. nowhere ((laid L).place n) q e), e),
+    λ e. ((laid_document L).place n, place_standing n ((laid_document L).place n) refl (λ q. nowhere ((laid_document L).place n) q e), e),
     λ (s, h, e). ap node_of (standing_place n s h) ∙ e,
   )
     where
       nowhere : (s : Spot) → s ≡ Spot.Nowhere → node_of s ≡ Some p → ⊥
       nowhere s q e = let bad : None ≡ Some p = sym (ap node_of q) ∙ e in cc
 
-  listed : AreListed (above (laid L)) (map (λ (s : Stand). s.node) stands)
+  listed : AreListed (above (laid_document L)) (map (λ (s : Stand). s.node) stands)
   listed n p e = let s = (above_stands n p).0 e in map-has (λ (s : Stand). s.node) stands (record { node = n; spot = s.0 }) s.1
 
-  ends : (n : NodeId) → ClimbsToAnEnd (above (laid L)) n
-  ends n = go (climb (above (laid L)) (suc (length (map (λ (s : Stand). s.node) stands))) n) refl
+  ends : (n : NodeId) → ClimbsToAnEnd (above (laid_document L)) n
+  ends n = go (climb (above (laid_document L)) (suc (length (map (λ (s : Stand). s.node) stands))) n) refl
     where
-      go : (o : Option NodeId) → climb (above (laid L)) (suc (length (map (λ (s : Stand). s.node) stands))) n ≡ o → ClimbsToAnEnd (above (laid L)) n
+      go : (o : Option NodeId) → climb (above (laid_document L)) (suc (length (map (λ (s : Stand). s.node) stands))) n ≡ o → ClimbsToAnEnd (above (laid_document L)) n
       go None e = (suc (length (map (λ (s : Stand). s.node) stands)), e)
-      go (Some m) e = absurd ((no_ring-leads_up (StandsAt stands) (above (laid L)) above_stands).1 w.no_ring (too_long (above (laid L)) (map (λ (s : Stand). s.node) stands) listed n m e))
+      go (Some m) e = absurd ((no_ring-leads_up (StandsAt stands) (above (laid_document L)) above_stands).1 w.no_ring (too_long (above (laid_document L)) (map (λ (s : Stand). s.node) stands) listed n m e))
 
-  root_nowhere : (laid L).place root ≡ Spot.Nowhere
+  root_nowhere : (laid_document L).place root ≡ Spot.Nowhere
   root_nowhere = go (find (λ (x : Stand). same_node x.node root) stands) refl
     where
       go : (o : Option Stand) → find (λ (x : Stand). same_node x.node root) stands ≡ o → option_map_or (λ (s : Stand). s.spot) o Spot.Nowhere ≡ Spot.Nowhere
       go None f = refl
       go (Some x) f = let r = first-has (λ (x : Stand). same_node x.node root) stands x f in absurd (w.root_stands x.spot (subst (Has stands) (λ i. record { node = same_node-true x.node root r.1 i; spot = x.spot }) r.0))
 
-  held-has : (m : NodeId) (f : FieldId) → (laid L).held f ≡ Some m → Has L.held (record { field = f; node = m })
+  held-has : (m : NodeId) (f : FieldId) → (laid_document L).held f ≡ Some m → Has L.held (record { field = f; node = m })
   held-has m f e = go (find (λ (h : LaidHeld). same_field h.field f) L.held) refl e
     where
       go : (o : Option LaidHeld) → find (λ (h : LaidHeld). same_field h.field f) L.held ≡ o → option_map (λ (h : LaidHeld). h.node) o ≡ Some m → Has L.held (record { field = f; node = m })
       go None g q = cc
       go (Some h) g q = let r = first-has (λ (h : LaidHeld). same_field h.field f) L.held h g in let node : h.node ≡ m = cc in subst (Has L.held) (λ i. record { field = same_field-true h.field f r.1 i; node = node i }) r.0
 
-  pub has-held : (h : LaidHeld) → Has L.held h → (laid L).held h.field ≡ Some h.node
+  pub has-held : (h : LaidHeld) → Has L.held h → (laid_document L).held h.field ≡ Some h.node
   has-held h i = ap (option_map (λ (h : LaidHeld). h.node)) (first-distinct (λ (h : LaidHeld). h.field) L.held (λ (k : LaidHeld). same_field k.field h.field) h w.fields_once i (same_field-itself h.field) (λ k t. same_field-true k.field h.field t))
 
-  own_cell : (m n : NodeId) (c : CellId) → (laid L).place m ≡ Spot.Row n c → Has ((laid L).rows n) (owned c m)
+  own_cell : (m n : NodeId) (c : CellId) → (laid_document L).place m ≡ Spot.Row n c → Has ((laid_document L).rows n) (owned_cell c m)
   own_cell m n c e =
       let s = stands_row m n c (place_standing m (Spot.Row n c) e (λ bad. not_nowhere bad)) in
-      subst (λ k. Has (map owned_at (cells_at L.rows k)) (owned c m)) s.2 (subst (λ cs. Has (map owned_at cs) (owned c m)) (sym (row_found s.0 s.1)) (map-has owned_at s.0.cells (record { cell = c; node = m; full = true }) s.3))
+      subst (λ k. Has (map owned_at (cells_at L.rows k)) (owned_cell c m)) s.2 (subst (λ cs. Has (map owned_at cs) (owned_cell c m)) (sym (row_found s.0 s.1)) (map-has owned_at s.0.cells (record { cell = c; node = m; full = true }) s.3))
     where
       not_nowhere : Spot.Row n c ≡ Spot.Nowhere → ⊥
       not_nowhere e = cc
 
-  one_held : (m : NodeId) (f : FieldId) → ((laid L).held f ≡ Some m) ↔ ((laid L).place m ≡ Spot.Register f)
+  one_held : (m : NodeId) (f : FieldId) → ((laid_document L).held f ≡ Some m) ↔ ((laid_document L).place m ≡ Spot.Register f)
   one_held m f = (
     λ e. standing_place m (Spot.Register f) (register_stands (record { field = f; node = m }) (held-has m f e)),
     λ e. has-held (record { field = f; node = m }) (stands_register m f (place_standing m (Spot.Register f) e not_nowhere)),
@@ -259,7 +259,7 @@ module _ (L : Layout) (w : IsLayout L) where
       not_nowhere : Spot.Register f ≡ Spot.Nowhere → ⊥
       not_nowhere e = cc
 
-  pub laid_sound : IsSoundInForm (laid L)
+  pub laid_sound : IsSoundInForm (laid_document L)
   laid_sound = record {
     root_known = known_is root (inl refl);
     root_nowhere = root_nowhere;
@@ -269,7 +269,7 @@ module _ (L : Layout) (w : IsLayout L) where
     own_cell = own_cell;
     one_held = one_held;
     cells_known = λ n o h. let s = has-map owned_at (cells_at L.rows n) o h in let r = cell_found n s.0 s.1 in let k = w.cells_known r.0 s.0 r.1 r.2 in
-        (subst (λ n. IsSome ((laid L).nodes n)) r.3 (known_is r.0.node k.0), subst (λ (o : Owned). IsSome ((laid L).nodes o.node)) s.2 (known_is s.0.node k.1));
+        (subst (λ n. IsSome ((laid_document L).nodes n)) r.3 (known_is r.0.node k.0), subst (λ (o : Owned). IsSome ((laid_document L).nodes o.node)) s.2 (known_is s.0.node k.1));
     held_known = λ m f e. let k = w.held_known (record { field = f; node = m }) (held-has m f e) in (known_is m k.0, known_is f.node k.1);
     register_key = λ m f e. w.keys (record { field = f; node = m }) (held-has m f e);
     no_ring = ends;

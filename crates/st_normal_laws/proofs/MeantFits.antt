@@ -6,7 +6,7 @@ use Rattle.std.specs.List.{filter_map, find, flat_map}
 use Rattle.std.specs.Ordering.{is_lt, ordering_reverse}
 use Rattle.std.specs.declared.cmp.Ordering.{Ordering}
 use Rattle.std.specs.declared.cmp.Ordering.TheVariants.{Less, Equal, Greater}
-use Rattle.st_ids.specs.Listing.{AreDistinct, Has, IsRising, keyed}
+use Rattle.st_ids.specs.Listing.{AreDistinct, Has, IsRising, key_pairs}
 use Rattle.st_ids.specs.Order.{node_cmp, field_cmp, same_node}
 use Rattle.st_ids.proofs.Orders.{node_cmp_total, field_cmp_total, same_node-true, same_node-itself}
 use Rattle.st_ids.specs.declared.names.CellId.{CellId}
@@ -23,7 +23,7 @@ use Rattle.st_marks.specs.declared.marks.How.TheVariants.{Here, Leave}
 use Rattle.st_marks.specs.declared.marks.RegMark.{RegMark}
 use Rattle.st_marks.specs.declared.marks.RowMarks.{RowMarks}
 use Rattle.st_marks.specs.declared.places.Slot.{Slot}
-use Rattle.st_marks.specs.Document.{Document, IsSoundInForm, content, owned, slot}
+use Rattle.st_marks.specs.Document.{Document, IsSoundInForm, content, owned_cell, slot}
 use Rattle.st_ids.specs.Root.{root}
 use Rattle.st_marks.specs.Intent.{group_cells, is_new, new_row_of, put_of}
 use Rattle.st_marks.specs.Row.{CellMark, Counted, Gap, Touch, Make, Fill, spread}
@@ -50,7 +50,7 @@ not-below Equal e = refl
 not-below Greater e = cc
 
 module _ {K A : Type 0} (R : K → K → Ordering) (t : IsTotalOrder R) (key : A → K) where
-  below-has : (k : K) (xs : List A) (y : A) → below_all R k (keyed key xs) ≡ true → Has xs y → is_lt (R k (key y)) ≡ true
+  below-has : (k : K) (xs : List A) (y : A) → below_all R k (key_pairs key xs) ≡ true → Has xs y → is_lt (R k (key y)) ≡ true
   below-has k [] y e h = absurd h
   below-has k (z ∷ xs) y e (inl q) = subst (λ z. is_lt (R k (key z)) ≡ true) q (and-true _ _ e).0
   below-has k (z ∷ xs) y e (inr h) = below-has k xs y (and-true _ _ e).1 h
@@ -79,7 +79,7 @@ made_all [] = []
 made_all (Counted ∷ ms) = made_all ms
 made_all (Gap c ∷ ms) = made_all ms
 made_all (Touch c n h ∷ ms) = made_all ms
-made_all (Make c n b ∷ ms) = owned c n ∷ made_all ms
+made_all (Make c n b ∷ ms) = owned_cell c n ∷ made_all ms
 made_all (Fill c n ∷ ms) = made_all ms
 
 pub all-made : (ms : List CellMark) (p : Owned) → Has (made_all ms) p → (b : Bool) × Has ms (Make p.cell p.node b)
@@ -91,7 +91,7 @@ all-made (Make c n b ∷ ms) p (inl q) = (b, inl (λ i. Make (q i).cell (q i).no
 all-made (Make c n b ∷ ms) p (inr i) = let r = all-made ms p i in (r.0, inr r.1)
 all-made (Fill c n ∷ ms) p i = let r = all-made ms p i in (r.0, inr r.1)
 
-pub made-all : (ms : List CellMark) (c : CellId) (n : NodeId) (b : Bool) → Has ms (Make c n b) → Has (made_all ms) (owned c n)
+pub made-all : (ms : List CellMark) (c : CellId) (n : NodeId) (b : Bool) → Has ms (Make c n b) → Has (made_all ms) (owned_cell c n)
 made-all [] c n b i = absurd i
 made-all (Counted ∷ ms) c n b (inl q) = cc
 made-all (Counted ∷ ms) c n b (inr i) = made-all ms c n b i
@@ -99,7 +99,7 @@ made-all (Gap d ∷ ms) c n b (inl q) = cc
 made-all (Gap d ∷ ms) c n b (inr i) = made-all ms c n b i
 made-all (Touch d m h ∷ ms) c n b (inl q) = cc
 made-all (Touch d m h ∷ ms) c n b (inr i) = made-all ms c n b i
-made-all (Make d m f ∷ ms) c n b (inl q) = let y : d ≡ c = cc in let z : m ≡ n = cc in inl (λ i. owned (y i) (z i))
+made-all (Make d m f ∷ ms) c n b (inl q) = let y : d ≡ c = cc in let z : m ≡ n = cc in inl (λ i. owned_cell (y i) (z i))
 made-all (Make d m f ∷ ms) c n b (inr i) = inr (made-all ms c n b i)
 made-all (Fill d m ∷ ms) c n b (inl q) = cc
 made-all (Fill d m ∷ ms) c n b (inr i) = made-all ms c n b i
@@ -143,7 +143,7 @@ append-assoc (x ∷ xs) ys zs = ap (λ l. x ∷ l) (append-assoc xs ys zs)
 groups-made : (n : NodeId) (c : List Slot) (ms : List CellMark) → AreAsSeen c (cells_before ms) → made_first ms ++ flat_map cells_of_group (groups_along n (along c ms)) ≡ made_all ms
 groups-made n [] [] p = refl
 groups-made n (s ∷ c) [] p = absurd p
-groups-made n c (Make d m b ∷ ms) p = ap (λ l. owned d m ∷ l) (groups-made n c ms p)
+groups-made n c (Make d m b ∷ ms) p = ap (λ l. owned_cell d m ∷ l) (groups-made n c ms p)
 groups-made n [] (Counted ∷ ms) p = absurd p
 groups-made n (s ∷ c) (Counted ∷ ms) p = flat-append cells_of_group (group_of n (Some s.cell) (made_first ms)) (groups_along n (along c ms)) ∙ ap (λ l. l ++ flat_map cells_of_group (groups_along n (along c ms))) (group-flat n (Some s.cell) (made_first ms)) ∙ groups-made n c ms p.1
 groups-made n [] (Gap d ∷ ms) p = absurd p
@@ -310,7 +310,7 @@ module _ (D : Document) (C : Change) (x : IsSoundInForm D) (w : ObeysDataRules C
     | inr k ↦ (let s = (along-has (content D r.0.node) (spread r.0.marks) (o.rows r.0 r.1) k.0 k.1).0 in
         let p = has-map (slot D) (D.rows r.0.node) k.0.slot s in
         let cell : p.0.cell ≡ c = ap (λ (s : Slot). s.cell) p.2 ∙ some-cell (sym (ap (λ (g : Group). g.after) k.2) ∙ e) in
-        (x.one_row c r.0.node).1 (p.0.node, subst (λ d. Has (D.rows r.0.node) (owned d p.0.node)) cell p.1) ∙ ap (λ n. Some n) (sym (ap (λ (g : Group). g.node) k.2)))
+        (x.one_row c r.0.node).1 (p.0.node, subst (λ d. Has (D.rows r.0.node) (owned_cell d p.0.node)) cell p.1) ∙ ap (λ n. Some n) (sym (ap (λ (g : Group). g.node) k.2)))
   ]
     where
       some-cell : {a b : CellId} → ◌≡◌ {A = Option CellId} (Some a) (Some b) → a ≡ b

@@ -23,7 +23,7 @@ use Rattle.st_marks.specs.declared.places.Slot.{Slot}
 use Rattle.st_marks.specs.declared.places.Spot.{Spot}
 use Rattle.st_marks.specs.Agree.{LeadsUp}
 use Rattle.st_marks.specs.Agree.LeadsUp.{one_up, further_up}
-use Rattle.st_marks.specs.Document.{Document, IsSoundInForm, ClimbsToAnEnd, climb, content, node_of, owned, slot}
+use Rattle.st_marks.specs.Document.{Document, IsSoundInForm, ClimbsToAnEnd, climb, content, node_of, owned_cell, slot}
 use Rattle.st_ids.specs.Root.{root}
 use Rattle.st_marks.specs.Intent.{Fits, IsIntent, IsKnown, Owns, above_new, cell_of, clears, group_cells, is_new, new_row_of, put_of, put_under, register_of}
 use Rattle.st_normal.specs.inside.Ring.{AreListed}
@@ -379,15 +379,15 @@ module _ (D : Document) (C : Change) (x : IsSoundInForm D) (w : ObeysDataRules C
       go None f s = cc
       go (Some t) f s = put-known (put_to n t) (put-has N n t f)
 
-  slot-owned : (n : NodeId) (c : CellId) (m : NodeId) (b : Bool) → Has (content D n) (record { cell = c; node = m; full = b }) → Has (D.rows n) (owned c m)
+  slot-owned : (n : NodeId) (c : CellId) (m : NodeId) (b : Bool) → Has (content D n) (record { cell = c; node = m; full = b }) → Has (D.rows n) (owned_cell c m)
   slot-owned n c m b h = let q = has-map (slot D) (D.rows n) (record { cell = c; node = m; full = b }) h in
-      subst (Has (D.rows n)) (λ i. owned (ap (λ (s : Slot). s.cell) q.2 i) (ap (λ (s : Slot). s.node) q.2 i)) q.1
+      subst (Has (D.rows n)) (λ i. owned_cell (ap (λ (s : Slot). s.cell) q.2 i) (ap (λ (s : Slot). s.node) q.2 i)) q.1
 
   owns : (n : NodeId) (c : CellId) → Has N.put (put_to n (To.Cell c)) → Owns D N n c
   owns n c h = let r = cell-put D C x w o n c (put-is D C x w o n (To.Cell c) h) in elim r.2 [
     | inl a ↦ inl (r.0.node, slot-owned r.0.node c n true (touched (content D r.0.node) (spread r.0.marks) c n Here (o.rows r.0 r.1) a))
     | inr b ↦ elim b [
-      | inl a ↦ inr (subst (λ l. Has l (owned c n)) (sym (group-cells D C x w o plain)) (flat_map-has (λ (r : RowMarks). made_all (spread r.marks)) C.rows r.0 (owned c n) r.1 (made-all (spread r.0.marks) c n true a)))
+      | inl a ↦ inr (subst (λ l. Has l (owned_cell c n)) (sym (group-cells D C x w o plain)) (flat_map-has (λ (r : RowMarks). made_all (spread r.marks)) C.rows r.0 (owned_cell c n) r.1 (made-all (spread r.0.marks) c n true a)))
       | inr a ↦ inl (r.0.node, slot-owned r.0.node c n false (filled (content D r.0.node) (spread r.0.marks) c n (o.rows r.0 r.1) a))
     ]
   ]

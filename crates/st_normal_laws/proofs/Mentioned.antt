@@ -11,7 +11,7 @@ use Rattle.st_normal.specs.declared.entries.Found.{Found}
 use Rattle.st_marks.specs.declared.marks.How.{How}
 use Rattle.st_marks.specs.declared.marks.How.TheVariants.{Stay, Here, Leave}
 use Rattle.st_marks.specs.declared.places.Slot.{Slot}
-use Rattle.st_marks.specs.Document.{owned}
+use Rattle.st_marks.specs.Document.{owned_cell}
 use Rattle.st_marks.specs.Row.{CellMark, Counted, Gap, Touch, Make, Fill}
 use Rattle.st_marks.specs.How.{is_here, is_stay, is_leave}
 use Rattle.st_normal.specs.Rules.{incoming, staying}
@@ -154,19 +154,19 @@ fill-incoming (Fill d m ∷ ms) c n (inl q) = let a : m ≡ n = cc in inl a
 fill-incoming (Fill d m ∷ ms) c n (inr i) = inr (fill-incoming ms c n i)
 
 -- a row that makes a cell has a group
-next_made : (n : NodeId) (s : Slot) (c : List Slot) (ms : List CellMark) (d : CellId) (m : NodeId) → (Has (made_first ms) (owned d m) ⊎ ((g : Group) × Has (groups_along n (along c ms)) g × (g.node ≡ n) × Has g.cells (owned d m)))
-    → (g : Group) × Has (group_of n (Some s.cell) (made_first ms) ++ groups_along n (along c ms)) g × (g.node ≡ n) × Has g.cells (owned d m)
+next_made : (n : NodeId) (s : Slot) (c : List Slot) (ms : List CellMark) (d : CellId) (m : NodeId) → (Has (made_first ms) (owned_cell d m) ⊎ ((g : Group) × Has (groups_along n (along c ms)) g × (g.node ≡ n) × Has g.cells (owned_cell d m)))
+    → (g : Group) × Has (group_of n (Some s.cell) (made_first ms) ++ groups_along n (along c ms)) g × (g.node ≡ n) × Has g.cells (owned_cell d m)
 next_made n s c ms d m (inr g) = (g.0, append_right (group_of n (Some s.cell) (made_first ms)) (groups_along n (along c ms)) g.0 g.1, g.2, g.3)
 next_made n s c ms d m (inl h) = go (made_first ms) h
   where
-    go : (os : List Owned) → Has os (owned d m) → (g : Group) × Has (group_of n (Some s.cell) os ++ groups_along n (along c ms)) g × (g.node ≡ n) × Has g.cells (owned d m)
+    go : (os : List Owned) → Has os (owned_cell d m) → (g : Group) × Has (group_of n (Some s.cell) os ++ groups_along n (along c ms)) g × (g.node ≡ n) × Has g.cells (owned_cell d m)
     go [] h = absurd h
     go (o ∷ os) h = (record { node = n; after = Some s.cell; cells = o ∷ os }, inl refl, refl, h)
 
 pub along_made : (n : NodeId) (c : List Slot) (ms : List CellMark) (d : CellId) (m : NodeId) (b : Bool) → AreAsSeen c (cells_before ms) → Has ms (Make d m b)
-    → Has (made_first ms) (owned d m) ⊎ ((g : Group) × Has (groups_along n (along c ms)) g × (g.node ≡ n) × Has g.cells (owned d m))
+    → Has (made_first ms) (owned_cell d m) ⊎ ((g : Group) × Has (groups_along n (along c ms)) g × (g.node ≡ n) × Has g.cells (owned_cell d m))
 along_made n c [] d m b p i = absurd i
-along_made n c (Make e k f ∷ ms) d m b p (inl q) = let x : e ≡ d = cc in let y : k ≡ m = cc in inl (inl (λ i. owned (x i) (y i)))
+along_made n c (Make e k f ∷ ms) d m b p (inl q) = let x : e ≡ d = cc in let y : k ≡ m = cc in inl (inl (λ i. owned_cell (x i) (y i)))
 along_made n c (Make e k f ∷ ms) d m b p (inr i) = elim (along_made n c ms d m b p i) [ inl h ↦ inl (inr h) | inr g ↦ inr g ]
 along_made n [] (Counted ∷ ms) d m b p i = absurd p
 along_made n (s ∷ c) (Counted ∷ ms) d m b p (inl q) = cc
@@ -182,12 +182,12 @@ along_made n (s ∷ c) (Fill e k ∷ ms) d m b p (inl q) = cc
 along_made n (s ∷ c) (Fill e k ∷ ms) d m b p (inr i) = inr (next_made n s c ms d m (along_made n c ms d m b p.1 i))
 
 pub row_made : (n : NodeId) (c : List Slot) (ms : List CellMark) (d : CellId) (m : NodeId) (b : Bool) → AreAsSeen c (cells_before ms) → Has ms (Make d m b)
-    → (g : Group) × Has (group_of n None (made_first ms) ++ groups_along n (along c ms)) g × (g.node ≡ n) × Has g.cells (owned d m)
+    → (g : Group) × Has (group_of n None (made_first ms) ++ groups_along n (along c ms)) g × (g.node ≡ n) × Has g.cells (owned_cell d m)
 row_made n c ms d m b p i = elim (along_made n c ms d m b p i) [
   | inl h ↦ go (made_first ms) h
   | inr g ↦ (g.0, append_right (group_of n None (made_first ms)) (groups_along n (along c ms)) g.0 g.1, g.2, g.3)
 ]
   where
-    go : (os : List Owned) → Has os (owned d m) → (g : Group) × Has (group_of n None os ++ groups_along n (along c ms)) g × (g.node ≡ n) × Has g.cells (owned d m)
+    go : (os : List Owned) → Has os (owned_cell d m) → (g : Group) × Has (group_of n None os ++ groups_along n (along c ms)) g × (g.node ≡ n) × Has g.cells (owned_cell d m)
     go [] h = absurd h
     go (o ∷ os) h = (record { node = n; after = None; cells = o ∷ os }, inl refl, refl, h)

@@ -18,7 +18,7 @@ use Rattle.st_marks.specs.declared.places.Slot.{Slot}
 use Rattle.st_marks.specs.declared.places.Spot.{Spot}
 use Rattle.st_marks.specs.Agree.{LeadsUp}
 use Rattle.st_marks.specs.Agree.LeadsUp.{one_up, further_up}
-use Rattle.st_marks.specs.Document.{Document, IsSoundInForm, node_of, owned, CanBeInEffect, revs}
+use Rattle.st_marks.specs.Document.{Document, IsSoundInForm, node_of, owned_cell, CanBeInEffect, revs}
 use Rattle.st_ids.specs.Root.{root, opening}
 use Rattle.st_marks.specs.Intent.{Fits}
 use Rattle.st_marks.specs.Row.{CellMark, Counted, Gap, Touch, Make, Fill, spread}
@@ -36,7 +36,7 @@ use Rattle.st_marks.specs.Normal.{IsNormalChange}
 use Rattle.st_marks.specs.Verdict.{HasBase}
 use Rattle.st_normal.proofs.ShownPlaces.{stands-before}
 use Rattle.st_normal.specs.inside.Links.{stands_before}
-use Rattle.st_normal_laws.specs.Laid.{laid, LaidRow, owned_at, cells_at}
+use Rattle.st_normal_laws.specs.Laid.{laid_document, LaidRow, owned_at, cells_at}
 use Rattle.st_normal_laws.specs.inside.One.{over_all, node_atoms, found_row, found_reg, entry, entries_for, nodes_of_found, finds_of, names_in}
 use Rattle.st_normal_laws.specs.Seed.{CanBeFound, Finds, FoundHeld, FoundRow, IsBelow, IsFoundAt, cells_named, fresh_node, lay, nodes_found, owners_laid, seed}
 use Rattle.st_normal_laws.proofs.LaidSound.{cell_found}
@@ -281,7 +281,7 @@ module _ (C : Change) (w : ObeysDataRules C) (plain : C.schema ≡ None) where
       none-not n e = cc
 
   abbrev pub D : Document
-  D = laid (seed F W)
+  D = laid_document (seed F W)
 
   pub seed_is_sound : IsSoundInForm D
   seed_is_sound = seed_sound F W can_be_found
@@ -326,7 +326,7 @@ module _ (C : Change) (w : ObeysDataRules C) (plain : C.schema ≡ None) where
       go None e = refl
       go (Some n) e =
           let o = (seed_is_sound.one_row c n).0 e in
-          let s = has-map owned_at (cells_at (seed F W).rows n) (owned c o.0) o.1 in
+          let s = has-map owned_at (cells_at (seed F W).rows n) (owned_cell c o.0) o.1 in
           let r = cell_found (seed F W) (seed_layout F W can_be_found) n s.0 s.1 in
           let f = has-map (Rattle.st_normal_laws.specs.Seed.lay_row F) W.rows r.0 r.1 in
           let q = row-from f.0 f.1 in

@@ -27,7 +27,7 @@ use Rattle.st_normal.specs.Rules.{IsFound, IsFoundAs, Entries, ObeysDataRules, f
 use Rattle.st_marks.specs.Listings.{cells_in, one_or_none}
 use Rattle.st_normal.proofs.Counts.{times, times-append, times-all, times-has, times-none, has-times, once-times, times-once}
 use Rattle.st_marks.proofs.Members.{all-has, has-append, has-map, first-distinct, distinct-filter_map, one_list, list_distinct}
-use Rattle.st_normal_laws.specs.Meant.{IsOver, gone, leaving, loose_puts, meant, put_to, reg_puts, row_puts}
+use Rattle.st_normal_laws.specs.Meant.{IsOver, nodes_gone, leaving, loose_puts, meant, put_to, reg_puts, row_puts}
 use Rattle.st_normal_laws.proofs.Mentioned.{has-leaving, row_put-has}
 use Rattle.st_normal_laws.proofs.Exact.{put-cases}
 use Rattle.st_ids.proofs.Shared.{filtered}
@@ -173,16 +173,16 @@ module _ (D : Document) (C : Change) (x : IsSoundInForm D) (w : ObeysDataRules C
   abbrev N : Intent
   N = meant D C
 
-  put_sum : (n : NodeId) → times n (map put_node N.put) ≤ times n L.put + times n (heres L.found) + times n (gone C)
+  put_sum : (n : NodeId) → times n (map put_node N.put) ≤ times n L.put + times n (heres L.found) + times n (nodes_gone C)
   put_sum n =
       let rows = flat_map (λ (r : RowMarks). row_puts (spread r.marks)) C.rows in
       let regs = flat_map reg_puts C.regs in
       let loose = flat_map loose_puts C.loose in
-      let out = map (λ n. put_to n To.Nowhere) (gone C) in
+      let out = map (λ n. put_to n To.Nowhere) (nodes_gone C) in
       let a = ap (times n) (map-append put_node rows (regs ++ (loose ++ out))) ∙ times-append n (map put_node rows) (map put_node (regs ++ (loose ++ out))) in
       let b = ap (times n) (map-append put_node regs (loose ++ out)) ∙ times-append n (map put_node regs) (map put_node (loose ++ out)) in
       let c = ap (times n) (map-append put_node loose out) ∙ times-append n (map put_node loose) (map put_node out) in
-      let d = ap (times n) (map-same (gone C)) in
+      let d = ap (times n) (map-same (nodes_gone C)) in
       let e = ap (times n) (map-all put_node (λ (r : RowMarks). row_puts (spread r.marks)) C.rows) in
       let f = times-all n (λ (r : RowMarks). map put_node (row_puts (spread r.marks))) (λ (r : RowMarks). incoming (spread r.marks)) (λ (r : RowMarks). heres (found_in (spread r.marks))) (λ r. row-times n (spread r.marks)) C.rows in
       let g = ap (times n) (map-all put_node reg_puts C.regs) in
@@ -208,7 +208,7 @@ module _ (D : Document) (C : Change) (x : IsSoundInForm D) (w : ObeysDataRules C
   pub put_once : AreDistinct (λ (p : Put). p.node) N.put
   put_once = times-once put_node N.put (λ n. few n (put_sum n) (times n L.put) refl)
     where
-      few : (n : NodeId) → times n (map put_node N.put) ≤ times n L.put + times n (heres L.found) + times n (gone C) → (k : ℕ) → times n L.put ≡ k → times n (map put_node N.put) ≤ 1
+      few : (n : NodeId) → times n (map put_node N.put) ≤ times n L.put + times n (heres L.found) + times n (nodes_gone C) → (k : ℕ) → times n L.put ≡ k → times n (map put_node N.put) ≤ 1
       few n s zero e =
           let a = both-times n L.found in
           let b = found_few n in
@@ -216,7 +216,7 @@ module _ (D : Document) (C : Change) (x : IsSoundInForm D) (w : ObeysDataRules C
           omega (arith, s, e, a, b, c)
       few n s (suc k) e =
           let h = has-times n L.put (omega (arith, e)) in
-          let z = times-none n (gone C) (λ i. let q = filtered (λ n. not (is_among L.put n)) (leaving L.found) n i in not-among h q.1) in
+          let z = times-none n (nodes_gone C) (λ i. let q = filtered (λ n. not (is_among L.put n)) (leaving L.found) n i in not-among h q.1) in
           let y = none-here h in
           let p = put_few n in
           omega (arith, s, z, y, p)

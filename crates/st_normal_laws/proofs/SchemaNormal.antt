@@ -24,7 +24,7 @@ use Rattle.st_marks.specs.Register.{embed_register}
 use Rattle.st_marks.specs.Row.{embed_row}
 use Rattle.st_normal.specs.Rules.{ObeysChangeRules, ObeysDataRules, ObeysSchemaRules}
 use Rattle.st_marks.specs.Verdict.{HasBase}
-use Rattle.st_normal_laws.specs.Laid.{IsLayout, Layout, laid, StandsAt}
+use Rattle.st_normal_laws.specs.Laid.{IsLayout, Layout, laid_document, StandsAt}
 use Rattle.st_normal_laws.specs.inside.One.{entry}
 use Rattle.st_normal_laws.proofs.LaidSound.{laid_sound}
 use Rattle.st_normal_laws.proofs.OneSeed.{data_normal}
@@ -103,7 +103,7 @@ module _ (C : Change) (w : ObeysSchemaRules C) (text : List â„•) (e : C.schema â
       none n m (further_up s h f l) = h
 
   abbrev D : Document
-  D = laid L
+  D = laid_document L
 
   abbrev N : Intent
   N = record { rev = C.rev; under = C.under; new = []; groups = []; clear = []; put = []; need = []; schema = Some text }

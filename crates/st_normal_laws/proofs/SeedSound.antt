@@ -18,7 +18,7 @@ use Rattle.st_ids.specs.Root.{root}
 use Rattle.st_marks.specs.Listings.{CellView, one_or_none, nodes_standing}
 use Rattle.st_marks.proofs.Members.{all-has, has-all, append_left, append_right, has-append, map-has, has-map, flat_map-has, has-flat_map, first-has, distinct-has, distinct-append, distinct-between, distinct-left, distinct-right, one_list}
 use Rattle.st_normal_laws.specs.Told.{AreAsSeen, IfTold}
-use Rattle.st_normal_laws.specs.Laid.{LaidRow, LaidHeld, Stand, Layout, stands_in, standing, laid, StandsAt, IsLayout}
+use Rattle.st_normal_laws.specs.Laid.{LaidRow, LaidHeld, Stand, Layout, stands_in, standing, laid_document, StandsAt, IsLayout}
 use Rattle.st_normal_laws.specs.Seed.{lift, fresh, fresh_cell, fresh_node, FoundRow, FoundHeld, Finds, lay_cell, lay, lay_row, lay_held, owners_laid, seed, cells_named, nodes_found, IsFoundAt, IsBelow, CanBeFound}
 use Rattle.st_normal_laws.proofs.LaidSound.{has-stands, laid_content, laid_sound, has-held}
 use Rattle.st_normal_laws.proofs.Basics.{is-one, one-is}
@@ -326,18 +326,18 @@ module _ (F : ℕ) (W : Finds) (w : CanBeFound F W) where
       root_below : (r : FoundRow) → Has W.rows r → IsBelow F root.0
       root_below r h = let b = w.below_rows r h in omega (arith, b)
 
-  pub seed_sound : IsSoundInForm (laid L)
+  pub seed_sound : IsSoundInForm (laid_document L)
   seed_sound = laid_sound L seed_layout
 
   -- ## The seed is as it is found
 
-  pub seed_row : (r : FoundRow) → Has W.rows r → AreAsSeen (content (laid L) r.node) r.cells
+  pub seed_row : (r : FoundRow) → Has W.rows r → AreAsSeen (content (laid_document L) r.node) r.cells
   seed_row r h = subst (λ c. AreAsSeen c r.cells) (sym (laid_content L seed_layout r.node ∙ Rattle.st_normal_laws.proofs.LaidSound.row_found L seed_layout (lay_row F r) (map-has (lay_row F) W.rows r h))) (lay_describes F r.node r.cells)
 
-  pub seed_held : (h : FoundHeld) → Has W.held h → (laid L).held h.field ≡ h.node
+  pub seed_held : (h : FoundHeld) → Has W.held h → (laid_document L).held h.field ≡ h.node
   seed_held h i = go h.node refl
     where
-      go : (o : Option NodeId) → h.node ≡ o → (laid L).held h.field ≡ o
+      go : (o : Option NodeId) → h.node ≡ o → (laid_document L).held h.field ≡ o
       go (Some n) e = has-held L seed_layout (record { field = h.field; node = n }) (held_to W.held h n i e)
       go None e = none (find (λ (l : LaidHeld). same_field l.field h.field) L.held) refl
         where
@@ -350,7 +350,7 @@ module _ (F : ℕ) (W : Finds) (w : CanBeFound F W) where
               let bad : None ≡ Some l.node = sym e ∙ ap (λ (h : FoundHeld). h.node) (sym same) ∙ q.2 in cc
 
   -- who isn't found, and isn't fresh, is nowhere
-  pub seed_nowhere : (n : NodeId) → IsBelow F n.0 → (Has (nodes_found W) n → ⊥) → (laid L).place n ≡ Spot.Nowhere
+  pub seed_nowhere : (n : NodeId) → IsBelow F n.0 → (Has (nodes_found W) n → ⊥) → (laid_document L).place n ≡ Spot.Nowhere
   seed_nowhere n b not = go (find (λ (x : Stand). same_node x.node n) (standing L)) refl
     where
       go : (o : Option Stand) → find (λ (x : Stand). same_node x.node n) (standing L) ≡ o → option_map_or (λ (s : Stand). s.spot) o Spot.Nowhere ≡ Spot.Nowhere

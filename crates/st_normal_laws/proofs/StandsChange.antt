@@ -21,7 +21,7 @@ use Rattle.st_marks.specs.declared.marks.RegMark.{RegMark}
 use Rattle.st_marks.specs.declared.marks.RowMarks.{RowMarks}
 use Rattle.st_marks.specs.declared.places.Slot.{Slot}
 use Rattle.st_marks.specs.declared.places.Spot.{Spot}
-use Rattle.st_marks.specs.Document.{Document, IsSoundInForm, content, owned, slot, HasShortRows}
+use Rattle.st_marks.specs.Document.{Document, IsSoundInForm, content, owned_cell, slot, HasShortRows}
 use Rattle.st_ids.specs.Root.{root}
 use Rattle.st_marks.specs.Intent.{clears, new_node, put_of, put_in, same_option}
 use Rattle.st_marks.specs.Row.{CellMark, Counted, Gap, Touch, Make, Fill, spread, RowPart, embed_cell, embed_cells, embed_made, embed_row, how, merge, same_to}
@@ -226,7 +226,7 @@ module _ (D : Document) (C : Change) (x : IsSoundInForm D) (w : ObeysDataRules C
   -- ## A row that isn't listed
 
   cells-row : (n : NodeId) (s : Slot) → Has (content D n) s → D.row_of s.cell ≡ Some n
-  cells-row n s h = let q = has-map (slot D) (D.rows n) s h in (x.one_row s.cell n).1 (q.0.node, subst (λ c. Has (D.rows n) (owned c q.0.node)) (ap (λ (s : Slot). s.cell) q.2) q.1)
+  cells-row n s h = let q = has-map (slot D) (D.rows n) s h in (x.one_row s.cell n).1 (q.0.node, subst (λ c. Has (D.rows n) (owned_cell c q.0.node)) (ap (λ (s : Slot). s.cell) q.2) q.1)
 
   some-node : {a b : NodeId} → ◌≡◌ {A = Option NodeId} (Some a) (Some b) → a ≡ b
   some-node q = cc

@@ -13,7 +13,7 @@ use Rattle.st_marks.specs.Document.{node_of}
 use Rattle.st_marks.specs.Listings.{CellView, one_or_none}
 use Rattle.st_marks.proofs.Members.{all-has, has-all, append_left, append_right, has-append, has-map, first-has, has-any, distinct-append, distinct-right, distinct-between, list_distinct, one_list}
 use Rattle.st_normal_laws.specs.Seed.{FoundRow}
-use Rattle.st_normal_laws.specs.Two.{IsNamedAt, RowsAgree, cell_key, cells_of_row, join, joined, joined_row, lists_row, node_key, rows_of_both}
+use Rattle.st_normal_laws.specs.Two.{IsNamedAt, RowsAgree, cell_key, cells_of_row, join, cells_of_both, joined_row, lists_row, node_key, rows_of_both}
 use Rattle.st_normal_laws.specs.inside.Two.{AreInPlace, keys}
 use Rattle.st_normal_laws.proofs.Groups.{distinct-flat}
 use Rattle.st_normal_laws.proofs.Basics.{not-true, one-is}
@@ -109,10 +109,10 @@ or-is (Some d) p c e = inl e
 
 module _ {K : Type 0} (key : CellView → Option K) (on : IsJoined key) where
   -- what is named in the joined row is named by one of both
-  joined-has : (xs ys : List CellView) → AllZip IsSameView xs ys → (c : K) → Has (keys key (joined xs ys)) c → Has (keys key xs) c ⊎ Has (keys key ys) c
+  joined-has : (xs ys : List CellView) → AllZip IsSameView xs ys → (c : K) → Has (keys key (cells_of_both xs ys)) c → Has (keys key xs) c ⊎ Has (keys key ys) c
   joined-has [] ys z c h = absurd h
   joined-has (x ∷ xs) [] z c h = inl h
-  joined-has (x ∷ xs) (y ∷ ys) z c h = elim (has-append (one_or_none (key (join x y))) (keys key (joined xs ys)) c h) [
+  joined-has (x ∷ xs) (y ∷ ys) z c h = elim (has-append (one_or_none (key (join x y))) (keys key (cells_of_both xs ys)) c h) [
     | inl i ↦ elim (or-is (key x) (key y) c (sym (on x y z.0) ∙ one-is (key (join x y)) c i)) [
       | inl e ↦ inl (append_left (one_or_none (key x)) (keys key xs) c (subst (λ o. Has (one_or_none o) c) (sym e) (inl refl)))
       | inr e ↦ inr (append_left (one_or_none (key y)) (keys key ys) c (subst (λ o. Has (one_or_none o) c) (sym e.1) (inl refl)))
@@ -123,11 +123,11 @@ module _ {K : Type 0} (key : CellView → Option K) (on : IsJoined key) where
   next : (k l : ℕ) → suc k ≡ suc l → k ≡ l
   next k l e = omega (arith, e)
 
-  joined-once : (xs ys : List CellView) → AllZip IsSameView xs ys → AreDistinct (λ (c : K). c) (keys key xs) → AreDistinct (λ (c : K). c) (keys key ys) → AreInPlace key xs ys → AreDistinct (λ (c : K). c) (keys key (joined xs ys))
+  joined-once : (xs ys : List CellView) → AllZip IsSameView xs ys → AreDistinct (λ (c : K). c) (keys key xs) → AreDistinct (λ (c : K). c) (keys key ys) → AreInPlace key xs ys → AreDistinct (λ (c : K). c) (keys key (cells_of_both xs ys))
   joined-once [] ys z d e f = tt
   joined-once (x ∷ xs) [] z d e f = d
   joined-once (x ∷ xs) (y ∷ ys) z d e f =
-      distinct-append (λ (c : K). c) (one_or_none (key (join x y))) (keys key (joined xs ys)) (alone (key (join x y)))
+      distinct-append (λ (c : K). c) (one_or_none (key (join x y))) (keys key (cells_of_both xs ys)) (alone (key (join x y)))
       (joined-once xs ys z.1 (distinct-right (λ (c : K). c) (one_or_none (key x)) (keys key xs) d) (distinct-right (λ (c : K). c) (one_or_none (key y)) (keys key ys) e) (λ k l c h i. next k l (f (suc k) (suc l) c h i)))
       (λ c b h i q. apart c b (or-is (key x) (key y) c (sym (on x y z.0) ∙ one-is (key (join x y)) c h)) (joined-has xs ys z.1 b i) q)
     where
@@ -168,7 +168,7 @@ module _ {K : Type 0} (key : CellView → Option K) (on : IsJoined key) (ps qs :
       go None e = inr (ap (λ o. option_map_or (λ (r : FoundRow). r.cells) o []) e)
       go (Some q) e = let r = first-has (λ (r : FoundRow). same_node r.node n) qs q e in inl (q, r.0, same_node-true q.node n r.1, ap (λ o. option_map_or (λ (r : FoundRow). r.cells) o []) e)
 
-  joined-none : (xs : List CellView) → joined xs [] ≡ xs
+  joined-none : (xs : List CellView) → cells_of_both xs [] ≡ xs
   joined-none [] = refl
   joined-none (x ∷ xs) = refl
 
@@ -182,10 +182,10 @@ module _ {K : Type 0} (key : CellView → Option K) (on : IsJoined key) (ps qs :
     | inl j ↦ (let p = has-map (joined_row qs) ps r j in subst (λ (r : FoundRow). Named r.node c) p.2 (of p.0 p.1 (subst (λ (r : FoundRow). Has (keys key r.cells) c) (sym p.2) i)))
   ]
     where
-      of : (p : FoundRow) → Has ps p → Has (keys key (joined p.cells (cells_of_row qs p.node))) c → Named p.node c
+      of : (p : FoundRow) → Has ps p → Has (keys key (cells_of_both p.cells (cells_of_row qs p.node))) c → Named p.node c
       of p k l = elim (other-row p.node) [
-        | inr e ↦ inl (p, k, refl, subst (λ ys. Has (keys key ys) c) (ap (joined p.cells) e ∙ joined-none p.cells) l)
-        | inl q ↦ elim (joined-has key on p.cells q.0.cells (zipped p q.0 k q.1 (sym q.2)) c (subst (λ ys. Has (keys key (joined p.cells ys)) c) q.3 l)) [
+        | inr e ↦ inl (p, k, refl, subst (λ ys. Has (keys key ys) c) (ap (cells_of_both p.cells) e ∙ joined-none p.cells) l)
+        | inl q ↦ elim (joined-has key on p.cells q.0.cells (zipped p q.0 k q.1 (sym q.2)) c (subst (λ ys. Has (keys key (cells_of_both p.cells ys)) c) q.3 l)) [
           | inl a ↦ inl (p, k, refl, a)
           | inr a ↦ inr (q.0, q.1, q.2, a)
         ]
@@ -197,10 +197,10 @@ module _ {K : Type 0} (key : CellView → Option K) (on : IsJoined key) (ps qs :
     | inl j ↦ (let p = has-map (joined_row qs) ps r j in subst (λ (r : FoundRow). AreDistinct (λ (c : K). c) (keys key r.cells)) p.2 (of p.0 p.1))
   ]
     where
-      of : (p : FoundRow) → Has ps p → AreDistinct (λ (c : K). c) (keys key (joined p.cells (cells_of_row qs p.node)))
+      of : (p : FoundRow) → Has ps p → AreDistinct (λ (c : K). c) (keys key (cells_of_both p.cells (cells_of_row qs p.node)))
       of p k = elim (other-row p.node) [
-        | inr e ↦ subst (λ ys. AreDistinct (λ (c : K). c) (keys key ys)) (sym (ap (joined p.cells) e ∙ joined-none p.cells)) (list_distinct (λ (r : FoundRow). keys key r.cells) (λ (c : K). c) ps p p_keys k)
-        | inl q ↦ subst (λ ys. AreDistinct (λ (c : K). c) (keys key (joined p.cells ys))) (sym q.3)
+        | inr e ↦ subst (λ ys. AreDistinct (λ (c : K). c) (keys key ys)) (sym (ap (cells_of_both p.cells) e ∙ joined-none p.cells)) (list_distinct (λ (r : FoundRow). keys key r.cells) (λ (c : K). c) ps p p_keys k)
+        | inl q ↦ subst (λ ys. AreDistinct (λ (c : K). c) (keys key (cells_of_both p.cells ys))) (sym q.3)
             (joined-once key on p.cells q.0.cells (zipped p q.0 k q.1 (sym q.2)) (list_distinct (λ (r : FoundRow). keys key r.cells) (λ (c : K). c) ps p p_keys k) (list_distinct (λ (r : FoundRow). keys key r.cells) (λ (c : K). c) qs q.0 q_keys q.1)
             (λ a b c u v. (agree p q.0 a b c k q.1 u v).1))
       ]

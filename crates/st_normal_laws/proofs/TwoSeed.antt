@@ -16,9 +16,9 @@ use Rattle.st_ids.specs.Root.{root}
 use Rattle.st_marks.specs.Listings.{CellView, one_or_none, nodes_standing}
 use Rattle.st_marks.proofs.Members.{all-has, has-all, append_left, append_right, has-append, map-has, has-map, flat_map-has, has-flat_map, any-has, has-any, distinct-append, distinct-left, distinct-right, distinct-between, one_list}
 use Rattle.st_normal_laws.specs.Told.{AreAsSeen, IfTold}
-use Rattle.st_normal_laws.specs.Laid.{laid}
+use Rattle.st_normal_laws.specs.Laid.{laid_document}
 use Rattle.st_normal_laws.specs.Seed.{CanBeFound, Finds, FoundHeld, FoundRow, IsBelow, IsFoundAt, cells_named, nodes_found, seed}
-use Rattle.st_normal_laws.specs.Two.{AgreeBeside, IsNamedAt, IsUnder, both, cell_key, cells_of_row, joined, joined_row, lists_row, node_key}
+use Rattle.st_normal_laws.specs.Two.{AgreeBeside, IsNamedAt, IsUnder, joined_finds, cell_key, cells_of_row, cells_of_both, joined_row, lists_row, node_key}
 use Rattle.st_normal_laws.specs.inside.Two.{keys}
 use Rattle.st_normal_laws.proofs.SeedSound.{seed_row, seed_held}
 use Rattle.st_normal_laws.proofs.TwoFound.{Either, both-named, cells_joined, keys_once_together, nodes_joined, no_ring_together, rows_once_together}
@@ -39,7 +39,7 @@ rows-nodes rs = flat_map-same (λ (r : FoundRow). nodes_standing r.cells) (λ (r
 
 -- ## What is true of the joined row is true of both
 
-joined-length : (xs ys : List CellView) → length (joined xs ys) ≡ length xs
+joined-length : (xs ys : List CellView) → length (cells_of_both xs ys) ≡ length xs
 joined-length [] ys = refl
 joined-length (x ∷ xs) [] = refl
 joined-length (x ∷ xs) (y ∷ ys) = ap suc (joined-length xs ys)
@@ -53,14 +53,14 @@ second-told None p a s h = h
 second-told (Some b) None a s h = tt
 second-told (Some b) (Some c) a s h = sym s ∙ h
 
-pub first-described : (c : List Slot) (xs ys : List CellView) → AreAsSeen c (joined xs ys) → AreAsSeen c xs
+pub first-described : (c : List Slot) (xs ys : List CellView) → AreAsSeen c (cells_of_both xs ys) → AreAsSeen c xs
 first-described [] [] ys h = tt
 first-described (s ∷ c) [] ys h = h
 first-described c (x ∷ xs) [] h = h
 first-described [] (x ∷ xs) (y ∷ ys) h = absurd h
 first-described (s ∷ c) (x ∷ xs) (y ∷ ys) h = ((h.0.0, first-told x.cell y.cell s.cell h.0.1, first-told x.node y.node s.node h.0.2), first-described c xs ys h.1)
 
-pub second-described : (c : List Slot) (xs ys : List CellView) → AllZip IsSameView xs ys → AreAsSeen c (joined xs ys) → AreAsSeen c ys
+pub second-described : (c : List Slot) (xs ys : List CellView) → AllZip IsSameView xs ys → AreAsSeen c (cells_of_both xs ys) → AreAsSeen c ys
 second-described [] [] [] z h = tt
 second-described [] [] (y ∷ ys) z h = absurd z
 second-described (s ∷ c) [] ys z h = absurd h
@@ -70,7 +70,7 @@ second-described (s ∷ c) (x ∷ xs) (y ∷ ys) z h = ((sym z.0.full ∙ h.0.0,
 
 module _ (F : ℕ) (A B : Finds) (a : CanBeFound F A) (b : CanBeFound F B) (g : AgreeBeside A B) where
   abbrev W : Finds
-  W = both A B
+  W = joined_finds A B
 
   abbrev a_rows : List NodeId
   a_rows = flat_map (λ (r : FoundRow). nodes_standing r.cells) A.rows
@@ -265,32 +265,32 @@ module _ (F : ℕ) (A B : Finds) (a : CanBeFound F A) (b : CanBeFound F B) (g : 
 
   -- ## The seed is as both find it
 
-  pub first_row : (p : FoundRow) → Has A.rows p → AreAsSeen (content (laid (seed F W)) p.node) p.cells
-  first_row p h = first-described (content (laid (seed F W)) p.node) p.cells (cells_of_row B.rows p.node)
+  pub first_row : (p : FoundRow) → Has A.rows p → AreAsSeen (content (laid_document (seed F W)) p.node) p.cells
+  first_row p h = first-described (content (laid_document (seed F W)) p.node) p.cells (cells_of_row B.rows p.node)
       (seed_row F W both_can_be_found (joined_row B.rows p) (append_left (map (joined_row B.rows) A.rows) (filter (λ (r : FoundRow). not (lists_row A.rows r.node)) B.rows) (joined_row B.rows p) (map-has (joined_row B.rows) A.rows p h)))
 
-  pub second_row : (q : FoundRow) → Has B.rows q → AreAsSeen (content (laid (seed F W)) q.node) q.cells
+  pub second_row : (q : FoundRow) → Has B.rows q → AreAsSeen (content (laid_document (seed F W)) q.node) q.cells
   second_row q h = go (lists_row A.rows q.node) refl
     where
       cells-are : (n : NodeId) → n ≡ q.node → cells_of_row B.rows n ≡ q.cells
       cells-are n e = ap (λ o. option_map_or (λ (r : FoundRow). r.cells) o []) (Rattle.st_marks.proofs.Members.first-distinct (λ (r : FoundRow). r.node) B.rows (λ (r : FoundRow). same_node r.node n) q b.rows_once h (ap (λ k. same_node k n) (sym e) ∙ same_node-itself n) (λ r t. same_node-true r.node n t ∙ e))
 
-      go : (z : Bool) → lists_row A.rows q.node ≡ z → AreAsSeen (content (laid (seed F W)) q.node) q.cells
+      go : (z : Bool) → lists_row A.rows q.node ≡ z → AreAsSeen (content (laid_document (seed F W)) q.node) q.cells
       go false e = seed_row F W both_can_be_found q (append_right (map (joined_row B.rows) A.rows) (filter (λ (r : FoundRow). not (lists_row A.rows r.node)) B.rows) q (has-filter (λ (r : FoundRow). not (lists_row A.rows r.node)) B.rows q h (ap not e)))
       go true e =
           let p = any-has (λ (r : FoundRow). same_node r.node q.node) A.rows e in
           let same = same_node-true p.0.node q.node p.2 in
           let d = seed_row F W both_can_be_found (joined_row B.rows p.0) (append_left (map (joined_row B.rows) A.rows) (filter (λ (r : FoundRow). not (lists_row A.rows r.node)) B.rows) (joined_row B.rows p.0) (map-has (joined_row B.rows) A.rows p.0 p.1)) in
-          subst (λ n. AreAsSeen (content (laid (seed F W)) n) q.cells) same
-          (second-described (content (laid (seed F W)) p.0.node) p.0.cells q.cells (g.rows p.0 q p.1 h same) (subst (λ ys. AreAsSeen (content (laid (seed F W)) p.0.node) (joined p.0.cells ys)) (cells-are p.0.node same) d))
+          subst (λ n. AreAsSeen (content (laid_document (seed F W)) n) q.cells) same
+          (second-described (content (laid_document (seed F W)) p.0.node) p.0.cells q.cells (g.rows p.0 q p.1 h same) (subst (λ ys. AreAsSeen (content (laid_document (seed F W)) p.0.node) (cells_of_both p.0.cells ys)) (cells-are p.0.node same) d))
 
-  pub first_held : (h : FoundHeld) → Has A.held h → (laid (seed F W)).held h.field ≡ h.node
+  pub first_held : (h : FoundHeld) → Has A.held h → (laid_document (seed F W)).held h.field ≡ h.node
   first_held h i = seed_held F W both_can_be_found h (append_left A.held new_held h i)
 
-  pub second_held : (k : FoundHeld) → Has B.held k → (laid (seed F W)).held k.field ≡ k.node
+  pub second_held : (k : FoundHeld) → Has B.held k → (laid_document (seed F W)).held k.field ≡ k.node
   second_held k i = go (list_any (λ (l : FoundHeld). same_field l.field k.field) A.held) refl
     where
-      go : (z : Bool) → list_any (λ (l : FoundHeld). same_field l.field k.field) A.held ≡ z → (laid (seed F W)).held k.field ≡ k.node
+      go : (z : Bool) → list_any (λ (l : FoundHeld). same_field l.field k.field) A.held ≡ z → (laid_document (seed F W)).held k.field ≡ k.node
       go false e = seed_held F W both_can_be_found k (append_right A.held new_held k (has-filter (λ (h : FoundHeld). not (list_any (λ (k : FoundHeld). same_field k.field h.field) A.held)) B.held k i (ap not e)))
       go true e = let h = any-has (λ (l : FoundHeld). same_field l.field k.field) A.held e in let f = same_field-true h.0.field k.field h.2 in
-          subst (λ f. (laid (seed F W)).held f ≡ k.node) f (first_held h.0 h.1 ∙ g.held h.0 k h.1 i f)
+          subst (λ f. (laid_document (seed F W)).held f ≡ k.node) f (first_held h.0 h.1 ∙ g.held h.0 k h.1 i f)

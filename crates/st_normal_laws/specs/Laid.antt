@@ -65,8 +65,8 @@ abbrev pub owned_at : Slot → Owned
 owned_at s = record { cell = s.cell; node = s.node }
 
 -- the document
-abbrev pub laid : Layout → Document
-laid L = record {
+abbrev pub laid_document : Layout → Document
+laid_document L = record {
   nodes = λ n. if is_among (root ∷ L.known) n then Some blank else None;
   rows = λ n. map owned_at (cells_at L.rows n);
   row_of = λ c. option_map (λ (r : LaidRow). r.node)

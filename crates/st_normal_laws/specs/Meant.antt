@@ -18,7 +18,7 @@ use Rattle.st_marks.specs.declared.marks.RowMarks.{RowMarks}
 use Rattle.st_marks.specs.declared.places.Slot.{Slot}
 use Rattle.st_marks.specs.declared.places.Spot.{Spot}
 use Rattle.st_marks.specs.declared.schemas.SchemaEntry.{SchemaEntry}
-use Rattle.st_marks.specs.Document.{Document, content, owned}
+use Rattle.st_marks.specs.Document.{Document, content, owned_cell}
 use Rattle.st_marks.specs.Embedding.{is_among}
 use Rattle.st_marks.specs.Row.{CellMark, Counted, Gap, Touch, Make, Fill, spread}
 use Rattle.st_marks.specs.How.{is_here, is_leave}
@@ -35,7 +35,7 @@ made_first [] = []
 made_first (Counted ∷ ms) = []
 made_first (Gap c ∷ ms) = []
 made_first (Touch c n h ∷ ms) = []
-made_first (Make c n b ∷ ms) = owned c n ∷ made_first ms
+made_first (Make c n b ∷ ms) = owned_cell c n ∷ made_first ms
 made_first (Fill c n ∷ ms) = []
 
 -- a cell of a row with its mark, and the cells made after it
@@ -107,8 +107,8 @@ leaving [] = []
 leaving (f ∷ fs) = if is_leave f.how then f.node ∷ leaving fs else leaving fs
 
 -- those that leave and are put nowhere
-abbrev pub gone : Change → List NodeId
-gone C =
+abbrev pub nodes_gone : Change → List NodeId
+nodes_gone C =
     filter (λ n. not (is_among (entries_of_change C).put n)) (leaving (entries_of_change C).found)
 
 -- the register, if it is cleared
@@ -119,7 +119,7 @@ cleared_at r = if r.clear then r.field ∷ [] else []
 abbrev pub puts_meant : Change → List Put
 puts_meant C = flat_map (λ (r : RowMarks). row_puts (spread r.marks)) C.rows
     ++ (flat_map reg_puts C.regs
-    ++ (flat_map loose_puts C.loose ++ map (λ n. put_to n To.Nowhere) (gone C)))
+    ++ (flat_map loose_puts C.loose ++ map (λ n. put_to n To.Nowhere) (nodes_gone C)))
 
 -- what the change means in a document: an intent
 abbrev pub meant : Document → Change → Intent

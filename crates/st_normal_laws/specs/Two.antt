@@ -17,10 +17,10 @@ abbrev pub join : CellView → CellView → CellView
 join x y = record { cell = option_or x.cell y.cell; node = option_or x.node y.node; full = x.full }
 
 -- a row as both show it
-abbrev pub joined : List CellView → List CellView → List CellView
-joined [] ys = []
-joined (x ∷ xs) [] = x ∷ xs
-joined (x ∷ xs) (y ∷ ys) = join x y ∷ joined xs ys
+abbrev pub cells_of_both : List CellView → List CellView → List CellView
+cells_of_both [] ys = []
+cells_of_both (x ∷ xs) [] = x ∷ xs
+cells_of_both (x ∷ xs) (y ∷ ys) = join x y ∷ cells_of_both xs ys
 
 -- the cells that the other lists in the row
 abbrev pub cells_of_row : List FoundRow → NodeId → List CellView
@@ -29,7 +29,7 @@ cells_of_row rows n = option_map_or (λ (r : FoundRow). r.cells)
 
 -- the row as it is shown together with the other
 abbrev pub joined_row : List FoundRow → FoundRow → FoundRow
-joined_row rows r = record { node = r.node; cells = joined r.cells (cells_of_row rows r.node) }
+joined_row rows r = record { node = r.node; cells = cells_of_both r.cells (cells_of_row rows r.node) }
 
 -- whether a node's row is listed
 abbrev pub lists_row : List FoundRow → NodeId → Bool
@@ -47,8 +47,8 @@ held_of_both ps qs = ps
     (λ (h : FoundHeld). not (list_any (λ (k : FoundHeld). same_field k.field h.field) ps)) qs
 
 -- what both find
-abbrev pub both : Finds → Finds → Finds
-both A B = record {
+abbrev pub joined_finds : Finds → Finds → Finds
+joined_finds A B = record {
   rows = rows_of_both A.rows B.rows;
   held = held_of_both A.held B.held;
   known = A.known ++ B.known;

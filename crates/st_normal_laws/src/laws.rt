@@ -11,22 +11,22 @@ ghost use Rattle.st_marks.specs.Embedding.{IsEmbedding, IsMentionedByIntent};
 ghost use Rattle.st_marks.specs.Intent.{Fits};
 ghost use Rattle.st_marks.specs.Normal.{IsNormalChange, IsNormalStep};
 ghost use Rattle.st_normal.specs.Rules.{ObeysChangeRules, ObeysDataRules, ObeysStepRules};
-ghost use Rattle.st_normal_laws.specs.Laid.{IsLayout, Layout, laid};
+ghost use Rattle.st_normal_laws.specs.Laid.{IsLayout, Layout, laid_document};
 ghost use Rattle.st_normal_laws.specs.Meant.{IsOver, meant};
 ghost use Rattle.st_normal_laws.specs.Mentions.{mentions};
 ghost use Rattle.st_normal_laws.specs.Seed.{CanBeFound, Finds, FoundHeld, FoundRow, seed};
 ghost use Rattle.st_normal_laws.specs.Told.{AreAsSeen};
-ghost use Rattle.st_normal_laws.specs.Two.{AgreeBeside, both};
+ghost use Rattle.st_normal_laws.specs.Two.{AgreeBeside, joined_finds};
 
 /// A document that is laid out from lists is sound in form.
 pub fn laid_is_sound()
-    ensures { (L : Layout) → IsLayout L → IsSoundInForm (laid L) }
+    ensures { (L : Layout) → IsLayout L → IsSoundInForm (laid_document L) }
 {}
 
 /// What can be found together has a seed: a sound document that has it, with fresh names for what is found without one.
 /// No session that is found reaches F. Names of definitions are whole numbers, so those of a seed may pass 2^32.
 pub fn seed_is_sound()
-    ensures { (F : ℕ) (W : Finds) → CanBeFound F W → IsSoundInForm (laid (seed F W)) }
+    ensures { (F : ℕ) (W : Finds) → CanBeFound F W → IsSoundInForm (laid_document (seed F W)) }
 {}
 
 /// What the intent of a change mentions, in each sound document in which the change finds what is so, is exactly what the
@@ -61,19 +61,19 @@ pub fn changes_that_obey_are_normal()
 pub fn two_have_one_seed()
     ensures together { (F : ℕ) (A B : Finds)
         → CanBeFound F A → CanBeFound F B → AgreeBeside A B
-        → CanBeFound F (both A B) }
+        → CanBeFound F (joined_finds A B) }
     ensures first_rows { (F : ℕ) (A B : Finds) (r : FoundRow)
         → CanBeFound F A → CanBeFound F B → AgreeBeside A B → Has A.rows r
-        → AreAsSeen (content (laid (seed F (both A B))) r.node) r.cells }
+        → AreAsSeen (content (laid_document (seed F (joined_finds A B))) r.node) r.cells }
     ensures second_rows { (F : ℕ) (A B : Finds) (r : FoundRow)
         → CanBeFound F A → CanBeFound F B → AgreeBeside A B → Has B.rows r
-        → AreAsSeen (content (laid (seed F (both A B))) r.node) r.cells }
+        → AreAsSeen (content (laid_document (seed F (joined_finds A B))) r.node) r.cells }
     ensures first_held { (F : ℕ) (A B : Finds) (h : FoundHeld)
         → CanBeFound F A → CanBeFound F B → AgreeBeside A B → Has A.held h
-        → (laid (seed F (both A B))).held h.field ≡ h.node }
+        → (laid_document (seed F (joined_finds A B))).held h.field ≡ h.node }
     ensures second_held { (F : ℕ) (A B : Finds) (h : FoundHeld)
         → CanBeFound F A → CanBeFound F B → AgreeBeside A B → Has B.held h
-        → (laid (seed F (both A B))).held h.field ≡ h.node }
+        → (laid_document (seed F (joined_finds A B))).held h.field ≡ h.node }
 {}
 
 /// The change of an intent that fits a sound document finds there what is so; and where the intent leaves rows short, its change

@@ -13,7 +13,7 @@ use Rattle.st_ids.specs.declared.names.Rev.{Rev}
 use Rattle.st_ids.proofs.Orders.{same_node-true, same_node-itself, same_cell-true, same_cell-itself, same_field-true, same_field-itself}
 use Rattle.st_marks.specs.declared.intents.Owned.{Owned}
 use Rattle.st_marks.specs.declared.places.Spot.{Spot}
-use Rattle.st_marks.specs.Document.{IsSoundInForm, ClimbsToAnEnd, above, climb, node_of, owned}
+use Rattle.st_marks.specs.Document.{IsSoundInForm, ClimbsToAnEnd, above, climb, node_of, owned_cell}
 use Rattle.st_ids.specs.Root.{root, opening}
 use Rattle.st_marks.proofs.Members.{has-all, has-filter_map, distinct-filter_map}
 use Rattle.st_tree.specs.declared.flat.FlatAt.{FlatAt}
@@ -34,7 +34,7 @@ use Rattle.st_lemmas.proofs.Bools.{and-true}
 
 module _ {A B : Type 0} (say : A → Option B) where
   -- what is said, an item says
-  said-has : (xs : List A) (b : B) → first_said say xs ≡ Some b → (x : A) × Has xs x × (say x ≡ Some b)
+  pub said-has : (xs : List A) (b : B) → first_said say xs ≡ Some b → (x : A) × Has xs x × (say x ≡ Some b)
   said-has [] b e = cc
   said-has (x ∷ xs) b e = go (say x) refl (λ f. said-has xs b f) e
     where
@@ -43,7 +43,7 @@ module _ {A B : Type 0} (say : A → Option B) where
       go (Some w) q rest f = (x, inl refl, q ∙ f)
 
   -- where an item says something, something is said
-  said_some : (xs : List A) (x : A) (b : B) → Has xs x → say x ≡ Some b → IsSome (first_said say xs)
+  pub said_some : (xs : List A) (x : A) (b : B) → Has xs x → say x ≡ Some b → IsSome (first_said say xs)
   said_some [] x b h e = absurd h
   said_some (y ∷ xs) x b h e = go (say y) refl (λ k. said_some xs x b k e) h
     where
@@ -233,12 +233,12 @@ cell_of_at n m o (FlatAt.Top d) e = cc
 cell_of_at n m o (FlatAt.Register f) e = cc
 cell_of_at n m o (FlatAt.Row r d) e = go (same_node r n) refl e
   where
-    go : (b : Bool) → same_node r n ≡ b → cond b (Some (owned d m)) None ≡ Some o → (FlatAt.Row r d ≡ FlatAt.Row n o.cell) × (o.node ≡ m)
-    go true p e = let q : owned d m ≡ o = cc in ((λ i. FlatAt.Row (same_node-true r n p i) (q i).cell), ap (λ (o : Owned). o.node) (sym q))
+    go : (b : Bool) → same_node r n ≡ b → cond b (Some (owned_cell d m)) None ≡ Some o → (FlatAt.Row r d ≡ FlatAt.Row n o.cell) × (o.node ≡ m)
+    go true p e = let q : owned_cell d m ≡ o = cc in ((λ i. FlatAt.Row (same_node-true r n p i) (q i).cell), ap (λ (o : Owned). o.node) (sym q))
     go false p e = cc
 
-cell_at_itself : (n m : NodeId) (c : CellId) → cell_at n m (FlatAt.Row n c) ≡ Some (owned c m)
-cell_at_itself n m c = ap (λ b. cond b (Some (owned c m)) None) (same_node-itself n)
+cell_at_itself : (n m : NodeId) (c : CellId) → cell_at n m (FlatAt.Row n c) ≡ Some (owned_cell c m)
+cell_at_itself n m c = ap (λ b. cond b (Some (owned_cell c m)) None) (same_node-itself n)
 
 held_of_at : (f : FieldId) (n m : NodeId) (at : FlatAt) → held_at f m at ≡ Some n → (at ≡ FlatAt.Register f) × (m ≡ n)
 held_of_at f n m FlatAt.Root e = cc
@@ -373,17 +373,17 @@ module _ (xs : List FlatNode) (schema : List ℕ) (w : IsOpening xs) where
       let c = cell_of_at n x.0.node o x.0.at x.2 in
       (x.0, x.1, c.0, c.1)
 
-  item_row : (x : FlatNode) (n : NodeId) (c : CellId) → Has xs x → x.at ≡ FlatAt.Row n c → Has ((start_of xs schema).rows n) (owned c x.node)
-  item_row x n c h e = has-filter_map (λ (x : FlatNode). cell_at n x.node x.at) xs x (owned c x.node) h (ap (cell_at n x.node) e ∙ cell_at_itself n x.node c)
+  item_row : (x : FlatNode) (n : NodeId) (c : CellId) → Has xs x → x.at ≡ FlatAt.Row n c → Has ((start_of xs schema).rows n) (owned_cell c x.node)
+  item_row x n c h e = has-filter_map (λ (x : FlatNode). cell_at n x.node x.at) xs x (owned_cell c x.node) h (ap (cell_at n x.node) e ∙ cell_at_itself n x.node c)
 
-  row_of_has : (c : CellId) (n : NodeId) → (start_of xs schema).row_of c ≡ Some n → (m : NodeId) × Has ((start_of xs schema).rows n) (owned c m)
+  row_of_has : (c : CellId) (n : NodeId) → (start_of xs schema).row_of c ≡ Some n → (m : NodeId) × Has ((start_of xs schema).rows n) (owned_cell c m)
   row_of_has c n e =
       let x = said-has (λ (x : FlatNode). row_at c x.at) xs n e in
       (x.0.node, item_row x.0 n c x.1 (row_of_at c n x.0.at x.2))
 
-  has_row_of : (c : CellId) (n m : NodeId) → Has ((start_of xs schema).rows n) (owned c m) → (start_of xs schema).row_of c ≡ Some n
+  has_row_of : (c : CellId) (n m : NodeId) → Has ((start_of xs schema).rows n) (owned_cell c m) → (start_of xs schema).row_of c ≡ Some n
   has_row_of c n m h =
-      let x = row_item n (owned c m) h in
+      let x = row_item n (owned_cell c m) h in
       has-said (λ (x : FlatNode). row_at c x.at) xs x.0 n x.1 (ap (row_at c) x.2 ∙ row_at_itself c n)
       (λ y d k e.
       let at_y = row_of_at c d y.at e in
@@ -391,10 +391,10 @@ module _ (xs : List FlatNode) (schema : List ℕ) (w : IsOpening xs) where
       let rows : FlatAt.Row d c ≡ FlatAt.Row n c = sym at_y ∙ ap (λ (z : FlatNode). z.at) same ∙ x.2 in
       cc)
 
-  in_own_cell : (m n : NodeId) (c : CellId) → (start_of xs schema).place m ≡ Spot.Row n c → Has ((start_of xs schema).rows n) (owned c m)
+  in_own_cell : (m n : NodeId) (c : CellId) → (start_of xs schema).place m ≡ Spot.Row n c → Has ((start_of xs schema).rows n) (owned_cell c m)
   in_own_cell m n c e = elim (place_is m (Spot.Row n c) e) [
     | inl bad ↦ absurd (let no : Spot.Row n c ≡ Spot.Nowhere = bad in cc)
-    | inr x ↦ subst (λ k. Has ((start_of xs schema).rows n) (owned c k)) x.2 (item_row x.0 n c x.1 (at_row x.0.at n c x.3))
+    | inr x ↦ subst (λ k. Has ((start_of xs schema).rows n) (owned_cell c k)) x.2 (item_row x.0 n c x.1 (at_row x.0.at n c x.3))
   ]
 
   held_item : (m : NodeId) (f : FieldId) → (start_of xs schema).held f ≡ Some m → (x : FlatNode) × Has xs x × (x.at ≡ FlatAt.Register f) × (x.node ≡ m)

@@ -8,7 +8,7 @@ use Rattle.st_ids.specs.declared.names.FieldId.{FieldId}
 use Rattle.st_ids.specs.declared.names.NodeId.{NodeId}
 use Rattle.st_marks.specs.declared.intents.Owned.{Owned}
 use Rattle.st_marks.specs.declared.places.Spot.{Spot}
-use Rattle.st_marks.specs.Document.{Document, NodeType, owned}
+use Rattle.st_marks.specs.Document.{Document, NodeType, owned_cell}
 use Rattle.st_ids.specs.Root.{opening}
 use Rattle.st_tree.specs.declared.flat.FlatAt.{FlatAt}
 use Rattle.st_tree.specs.declared.flat.FlatNode.{FlatNode}
@@ -44,7 +44,7 @@ row_at c (FlatAt.Register f) = None
 abbrev pub cell_at : NodeId → NodeId → FlatAt → Option Owned
 cell_at n m FlatAt.Root = None
 cell_at n m (FlatAt.Top c) = None
-cell_at n m (FlatAt.Row r c) = if same_node r n then Some (owned c m) else None
+cell_at n m (FlatAt.Row r c) = if same_node r n then Some (owned_cell c m) else None
 cell_at n m (FlatAt.Register f) = None
 
 -- the node m, if it stands in the register

@@ -8,7 +8,7 @@ use Rattle.st_tree.specs.declared.flat.FlatAt.{FlatAt}
 use Rattle.st_tree.specs.declared.flat.FlatNode.{FlatNode}
 use Rattle.st_marks.specs.declared.intents.Group.{Group}
 use Rattle.st_marks.specs.declared.intents.Owned.{Owned}
-use Rattle.st_marks.specs.Document.{owned}
+use Rattle.st_marks.specs.Document.{owned_cell}
 use Rattle.st_opening.specs.Start.{cell_at}
 use Rattle.st_doc.proofs.Look.{drop_one}
 use Rattle.st_edits.specs.New.{cells_under, group_of, group_under, owned_by, row_cell}
@@ -21,7 +21,7 @@ same_cells xs n = λ i. filter_map (λ (x : FlatNode). one x.node x.at i) xs
     one m (FlatAt.Top c) = refl
     one m (FlatAt.Row r c) = go (same_node r n)
       where
-        go : (b : Bool) → cond b (Some (owned c m)) None ≡ owned_by m (cond b (Some c) None)
+        go : (b : Bool) → cond b (Some (owned_cell c m)) None ≡ owned_by m (cond b (Some c) None)
         go true = refl
         go false = refl
     one m (FlatAt.Register f) = refl

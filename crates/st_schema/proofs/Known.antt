@@ -36,16 +36,16 @@ among-append : (t : List ℕ) (us vs : List (List ℕ)) → is_among t (us ++ vs
 among-append t [] vs = refl
 among-append t (u ∷ us) vs = ap (λ b. same u t || b) (among-append t us vs) ∙ or_more (same u t) (is_among t us) (is_among t vs)
 
-one_more : (a s r d e : Bool) → not a && d ≡ true → s || r ≡ false → (d ≡ true → r ≡ false → e ≡ true) → not (a || (s || false)) && e ≡ true
-one_more true s r d e p q later = absurd (cc)
-one_more false true r d e p q later = absurd (cc)
-one_more false false r d e p q later = later p q
+and-none_of_both : (a s r d e : Bool) → not a && d ≡ true → s || r ≡ false → (d ≡ true → r ≡ false → e ≡ true) → not (a || (s || false)) && e ≡ true
+and-none_of_both true s r d e p q later = absurd (cc)
+and-none_of_both false true r d e p q later = absurd (cc)
+and-none_of_both false false r d e p q later = later p q
 
 pub distinct_more : (us : List (List ℕ)) (t : List ℕ) → is_distinct us ≡ true → is_among t us ≡ false → is_distinct (us ++ t ∷ []) ≡ true
 distinct_more [] t p q = refl
 distinct_more (u ∷ us) t p q =
     ap (λ b. not b && is_distinct (us ++ t ∷ [])) (among-append u us (t ∷ []) ∙ ap (λ b. is_among u us || (b || false)) (nat_list_eq_equiv.symm t u))
-    ∙ one_more (is_among u us) (same u t) (is_among t us) (is_distinct us) (is_distinct (us ++ t ∷ [])) p q (distinct_more us t)
+    ∙ and-none_of_both (is_among u us) (same u t) (is_among t us) (is_distinct us) (is_distinct (us ++ t ∷ [])) p q (distinct_more us t)
 
 one_twice : (a s w r e : Bool) → s || r ≡ true → (r ≡ true → e ≡ false) → not (a || (s || w)) && e ≡ false
 one_twice true s w r e q later = refl

@@ -50,9 +50,9 @@ found_at : (b : Bool) (f g : FieldDef) (fs : List FieldDef) (key : List ℕ) (p 
 found_at true f g fs key p is here later h = let e : f ≡ g = cc in subst (λ (x : FieldDef). (same x.key.0 key ≡ true) × (p x ≡ true)) e (is, here)
 found_at false f g fs key p is here later h = later h
 
-found : (fs : List FieldDef) (key : List ℕ) (g : FieldDef) (p : FieldDef → Bool) → list_all p fs ≡ true → declared_field fs key ≡ Some g → (same g.key.0 key ≡ true) × (p g ≡ true)
-found [] key g p all h = absurd (cc)
-found (f ∷ fs) key g p all h = let parts = and-true (p f) (list_all p fs) all in found_at (same f.key.0 key) f g fs key p refl parts.0 (found fs key g p parts.1) h
+declared_field-list_all : (fs : List FieldDef) (key : List ℕ) (g : FieldDef) (p : FieldDef → Bool) → list_all p fs ≡ true → declared_field fs key ≡ Some g → (same g.key.0 key ≡ true) × (p g ≡ true)
+declared_field-list_all [] key g p all h = absurd (cc)
+declared_field-list_all (f ∷ fs) key g p all h = let parts = and-true (p f) (list_all p fs) all in found_at (same f.key.0 key) f g fs key p refl parts.0 (declared_field-list_all fs key g p parts.1) h
 
 is_some_found : (o : Option FieldDef) → is_some o ≡ true → (g : FieldDef) × (o ≡ Some g)
 is_some_found None h = absurd (cc)
@@ -63,10 +63,10 @@ declared_wider : (olds news : List FieldDef) (key : List ℕ) (o : FieldDef) →
     → (n : FieldDef) × (declared_field news key ≡ Some n) × (kind_widens o.kind n.kind && contains_all n.types o.types ≡ true)
 declared_wider olds news key o wide h =
     let parts = and-true (list_all (λ (old : FieldDef). is_some (declared_field news old.key.0)) olds) (list_all (def_widens olds) news) wide in
-    let there = found olds key o (λ old. is_some (declared_field news old.key.0)) parts.0 h in
+    let there = declared_field-list_all olds key o (λ old. is_some (declared_field news old.key.0)) parts.0 h in
     let new = is_some_found (declared_field news key) (ap (λ k. is_some (declared_field news k)) (sym (text_same o.key.0 key there.0)) ∙ there.1) in
     let n = new.0 in
-    let widens = found news key n (def_widens olds) parts.1 new.1 in
+    let widens = declared_field-list_all news key n (def_widens olds) parts.1 new.1 in
     (n, new.1, ap (λ (x : Option FieldDef). widens_found x n) (sym (ap (declared_field olds) (text_same n.key.0 key widens.0) ∙ h)) ∙ widens.1)
 
 -- ---- the fields of a node
@@ -100,7 +100,7 @@ required_one olds fs n Required None is h wide there = let no = sym (ap is_optio
 required_one olds fs n Required (Some old) is h wide there =
     let kinds = (and-true (kind_widens old.kind n.kind) _ wide).0 in
     let was = only_required old.kind (ap (kind_widens old.kind) (sym is) ∙ kinds) in
-    let held = found olds n.key.0 old (λ d. not (is_required d.kind) || has_key fs d.key.0) there h in
+    let held = declared_field-list_all olds n.key.0 old (λ d. not (is_required d.kind) || has_key fs d.key.0) there h in
     ap (λ k. not (is_required k) || has_key fs n.key.0) is
     ∙ ap (has_key fs) (sym (text_same old.key.0 n.key.0 held.0))
     ∙ ap (λ k. not (is_required k) || has_key fs old.key.0) (sym was)

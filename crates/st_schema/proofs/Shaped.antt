@@ -14,17 +14,10 @@ use Rattle.st_tree.specs.Size.{check_of}
 use Rattle.st_schema.specs.Shape.{members_rise, fields_shaped, has_shape, fields_have_shape, all_have_shape}
 use Rattle.st_schema.specs.TreeText.{tree_data, leaf_of, leaf_node, leaf_in, tree_in, node_in, body_in, trees_in, fields_in, within_limits, tree_of}
 use Rattle.st_schema.proofs.Holds.{Holds-cond}
-use Rattle.st_schema.proofs.Sound.{Sound, text_sound, IsTree, tree_back}
+use Rattle.st_schema.proofs.Sound.{Sound, text_sound, IsTree, tree_back, with_single}
+use Rattle.st_lemmas.proofs.Bools.{and-both, and-true}
 
 -- ---- tests
-
-both : (a b : Bool) → a && b ≡ true → (a ≡ true) × (b ≡ true)
-both true b h = (refl, h)
-both false b h = absurd (cc)
-
-join : (a b : Bool) → a ≡ true → b ≡ true → a && b ≡ true
-join true b h k = k
-join false b h k = absurd (cc)
 
 or_kept : (a b c : Bool) → (b ≡ true → c ≡ true) → a || b ≡ true → a || c ≡ true
 or_kept true b c f h = refl
@@ -40,8 +33,8 @@ rising : (fs : Fields) → keys_rise [] fs ≡ true → members_rise fs ≡ true
 rising no_fields h = refl
 rising (field key true items rest) h = absurd (cc)
 rising (field key false items rest) h =
-    let parts = both (is_single items) (is_lt (slice_cmp nat_cmp [] key) && keys_rise key rest) h in
-    join (is_single items) (keys_rise key rest) parts.0 (both (is_lt (slice_cmp nat_cmp [] key)) (keys_rise key rest) parts.1).1
+    let parts = and-true (is_single items) (is_lt (slice_cmp nat_cmp [] key) && keys_rise key rest) h in
+    and-both (is_single items) (keys_rise key rest) parts.0 (and-true (is_lt (slice_cmp nat_cmp [] key)) (keys_rise key rest) parts.1).1
 
 fitting : (leaf : Option Leaf) (fs : Fields) → fields_fit_leaf leaf fs ≡ true → fields_shaped leaf fs ≡ true
 fitting (Some v) no_fields h = refl
@@ -51,20 +44,20 @@ fitting None fs h = or_kept (is_row_alone fs) (keys_rise [] fs) (members_rise fs
 mutual
   pub form_shaped : (t : Node) → has_form t ≡ true → has_shape t ≡ true
   form_shaped (node ty leaf fs) h =
-      let parts = both (fields_fit_leaf leaf fs) (fields_have_form fs) h in
-      join (fields_shaped leaf fs) (fields_have_shape fs) (fitting leaf fs parts.0) (fields_form_shaped fs parts.1)
+      let parts = and-true (fields_fit_leaf leaf fs) (fields_have_form fs) h in
+      and-both (fields_shaped leaf fs) (fields_have_shape fs) (fitting leaf fs parts.0) (fields_form_shaped fs parts.1)
 
   fields_form_shaped : (fs : Fields) → fields_have_form fs ≡ true → fields_have_shape fs ≡ true
   fields_form_shaped no_fields h = refl
   fields_form_shaped (field key row items rest) h =
-      let parts = both (all_have_form items) (fields_have_form rest) h in
-      join (all_have_shape items) (fields_have_shape rest) (all_form_shaped items parts.0) (fields_form_shaped rest parts.1)
+      let parts = and-true (all_have_form items) (fields_have_form rest) h in
+      and-both (all_have_shape items) (fields_have_shape rest) (all_form_shaped items parts.0) (fields_form_shaped rest parts.1)
 
   pub all_form_shaped : (ts : Nodes) → all_have_form ts ≡ true → all_have_shape ts ≡ true
   all_form_shaped no_nodes h = refl
   all_form_shaped (first t ts) h =
-      let parts = both (has_form t) (all_have_form ts) h in
-      join (has_shape t) (all_have_shape ts) (form_shaped t parts.0) (all_form_shaped ts parts.1)
+      let parts = and-true (has_form t) (all_have_form ts) h in
+      and-both (has_shape t) (all_have_shape ts) (form_shaped t parts.0) (all_form_shaped ts parts.1)
 
 -- ---- trees that values show
 
@@ -96,20 +89,16 @@ leaf_shaped d n = Holds-cond IsShaped (nat_le 1 n) (option_map leaf_node (leaf_o
     any (Some v) = tt
 
 row_shaped : (ts : List Node) → AreShaped ts → IsBody (field [] true (nodes_of ts) no_fields)
-row_shaped ts h = record { fits = refl; below = join (all_have_shape (nodes_of ts)) true h refl }
+row_shaped ts h = record { fits = refl; below = and-both (all_have_shape (nodes_of ts)) true h refl }
 
 members_shaped : (ms : Members) (gs : List FieldNode) → OfMembers ms gs → IsBody (fields_of gs)
 members_shaped ms gs h = record { fits = or_last (is_row_alone (fields_of gs)) (members_rise (fields_of gs)) h.rise; below = h.below }
 
--- one field more
-abbrev one_more : List ℕ → Node → List FieldNode → List FieldNode
-one_more key t gs = record { key = key; row = false; items = first t no_nodes } ∷ gs
-
-more_shaped : (key : List ℕ) (d : Data) (ms : Members) (t : Node) (gs : List FieldNode) → IsTrue (is_before key ms) → IsShaped t → OfMembers ms gs → OfMembers (member key d ms) (one_more key t gs)
+more_shaped : (key : List ℕ) (d : Data) (ms : Members) (t : Node) (gs : List FieldNode) → IsTrue (is_before key ms) → IsShaped t → OfMembers ms gs → OfMembers (member key d ms) (with_single key t gs)
 more_shaped key d ms t gs before shaped h = record {
-  above = λ k lower. join (is_lt (slice_cmp nat_cmp k key)) (keys_rise key (fields_of gs)) lower (h.above key before);
+  above = λ k lower. and-both (is_lt (slice_cmp nat_cmp k key)) (keys_rise key (fields_of gs)) lower (h.above key before);
   rise = h.above key before;
-  below = join (has_shape t && true) (fields_have_shape (fields_of gs)) (join (has_shape t) true shaped refl) h.below;
+  below = and-both (has_shape t && true) (fields_have_shape (fields_of gs)) (and-both (has_shape t) true shaped refl) h.below;
 }
 
 mutual
@@ -124,7 +113,7 @@ mutual
   node_shaped : (ms : Members) (n : ℕ) → MembersRise ms → Holds IsShaped (node_in ms n)
   node_shaped no_members n p = tt
   node_shaped (member ty d no_members) n p =
-      Holds-map IsBody IsShaped (node ty None) (λ fs h. join (fields_shaped None fs) (fields_have_shape fs) h.fits h.below) (body_in d n) (body_shaped d n p.1)
+      Holds-map IsBody IsShaped (node ty None) (λ fs h. and-both (fields_shaped None fs) (fields_have_shape fs) h.fits h.below) (body_in d n) (body_shaped d n p.1)
   node_shaped (member ty d (member k f ms)) n p = tt
 
   body_shaped : (d : Data) (n : ℕ) → NamesRise d → Holds IsBody (body_in d n)
@@ -139,14 +128,14 @@ mutual
   items_shaped no_items n p = refl
   items_shaped (item d ds) n p =
       Holds-and_then IsShaped AreShaped (λ (t : Node). option_map (λ (ts : List Node). t ∷ ts) (trees_in ds n))
-      (λ t h. Holds-map AreShaped AreShaped (λ (ts : List Node). t ∷ ts) (λ ts hs. join (has_shape t) (all_have_shape (nodes_of ts)) h hs) (trees_in ds n) (items_shaped ds n p.1)) (tree_in d n) (tree_shaped d n p.0)
+      (λ t h. Holds-map AreShaped AreShaped (λ (ts : List Node). t ∷ ts) (λ ts hs. and-both (has_shape t) (all_have_shape (nodes_of ts)) h hs) (trees_in ds n) (items_shaped ds n p.1)) (tree_in d n) (tree_shaped d n p.0)
 
   fields_in_shaped : (ms : Members) (n : ℕ) → MembersRise ms → Holds (OfMembers ms) (fields_in ms n)
   fields_in_shaped no_members n p = record { above = λ k lower. refl; rise = refl; below = refl }
   fields_in_shaped (member key d ms) n p =
-      Holds-cond (OfMembers (member key d ms)) (nat_le (length key) 64) (option_and_then (λ t. option_map (one_more key t) (fields_in ms n)) (tree_in d n)) None
-      (λ _. Holds-and_then IsShaped (OfMembers (member key d ms)) (λ t. option_map (one_more key t) (fields_in ms n))
-      (λ t h. Holds-map (OfMembers ms) (OfMembers (member key d ms)) (one_more key t) (λ gs hs. more_shaped key d ms t gs p.0 h hs) (fields_in ms n) (fields_in_shaped ms n p.2))
+      Holds-cond (OfMembers (member key d ms)) (nat_le (length key) 64) (option_and_then (λ t. option_map (with_single key t) (fields_in ms n)) (tree_in d n)) None
+      (λ _. Holds-and_then IsShaped (OfMembers (member key d ms)) (λ t. option_map (with_single key t) (fields_in ms n))
+      (λ t h. Holds-map (OfMembers ms) (OfMembers (member key d ms)) (with_single key t) (λ gs hs. more_shaped key d ms t gs p.0 h hs) (fields_in ms n) (fields_in_shaped ms n p.2))
       (tree_in d n) (tree_shaped d n p.1)) tt
 
 pub shaped_at : (d : Data) (t : Node) → NamesRise d → tree_in d 48 ≡ Some t → has_shape t ≡ true

@@ -173,9 +173,9 @@ leaf_back (object ms) p = tt
 leaf_node_back : (d : Data) (n : ℕ) → Sound d → Holds (IsTree d) (leaf_in d n)
 leaf_node_back d n p = Holds-cond (IsTree d) (nat_le 1 n) (option_map leaf_node (leaf_of d)) None (λ _. Holds-map (IsLeaf d) (IsTree d) leaf_node (λ v e. e) (leaf_of d) (leaf_back d p)) tt
 
--- one field more
-abbrev one_more : List ℕ → Node → List FieldNode → List FieldNode
-one_more key t gs = record { key = key; row = false; items = first t no_nodes } ∷ gs
+-- the fields with one more, which holds a single node
+abbrev pub with_single : List ℕ → Node → List FieldNode → List FieldNode
+with_single key t gs = record { key = key; row = false; items = first t no_nodes } ∷ gs
 
 mutual
   pub tree_back : (d : Data) (n : ℕ) → Sound d → Holds (IsTree d) (tree_in d n)
@@ -209,7 +209,7 @@ mutual
   fields_back : (ms : Members) (n : ℕ) → SoundMembers ms → Holds (AreFields ms) (fields_in ms n)
   fields_back no_members n p = (refl, refl)
   fields_back (member key d ms) n p =
-      Holds-cond (AreFields (member key d ms)) (nat_le (length key) 64) (option_and_then (λ t. option_map (one_more key t) (fields_in ms n)) (tree_in d n)) None
-      (λ _. Holds-and_then (IsTree d) (AreFields (member key d ms)) (λ t. option_map (one_more key t) (fields_in ms n))
-      (λ t e. Holds-map (AreFields ms) (AreFields (member key d ms)) (one_more key t) (λ gs f. ((λ i. object (member key (e i) (f.1 i))), (λ i. member key (e i) (f.1 i)))) (fields_in ms n) (fields_back ms n p.1))
+      Holds-cond (AreFields (member key d ms)) (nat_le (length key) 64) (option_and_then (λ t. option_map (with_single key t) (fields_in ms n)) (tree_in d n)) None
+      (λ _. Holds-and_then (IsTree d) (AreFields (member key d ms)) (λ t. option_map (with_single key t) (fields_in ms n))
+      (λ t e. Holds-map (AreFields ms) (AreFields (member key d ms)) (with_single key t) (λ gs f. ((λ i. object (member key (e i) (f.1 i))), (λ i. member key (e i) (f.1 i)))) (fields_in ms n) (fields_back ms n p.1))
       (tree_in d n) (tree_back d n p.0)) tt

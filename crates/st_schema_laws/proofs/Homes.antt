@@ -8,7 +8,7 @@ use Rattle.st_schema.specs.declared.names.KindName.{KindName}
 use Rattle.st_marks.specs.declared.intents.Intent.{Intent}
 use Rattle.st_marks.specs.declared.intents.To.{To}
 use Rattle.st_marks.specs.declared.places.Spot.{Spot}
-use Rattle.st_marks.specs.Document.{Document, IsSoundInForm, owned}
+use Rattle.st_marks.specs.Document.{Document, IsSoundInForm, owned_cell}
 use Rattle.st_marks.specs.Intent.{is_new, put_of}
 use Rattle.st_marks.specs.CarryOut.{with_names}
 use Rattle.st_schema.specs.Kind.{is_row, is_single_kind}
@@ -30,7 +30,7 @@ module _ (s : SchemaView) (home other : NodeId → Option FieldId) where
   module _ (D : Document) (sound : IsSoundInForm D) (same : (m : NodeId) → IsSome (D.nodes m) → home m ≡ other m) (here : IsConforming s home D) where
     stands_as : (m : NodeId) (spot : Spot) → D.place m ≡ spot → MayStand s home D m spot → MayStand s other D m spot
     stands_as m Spot.Nowhere e h = tt
-    stands_as m (Spot.Row n c) e h = admits_as D is_row n row_key m (same m (sound.cells_known n (owned c m) (sound.own_cell m n c e)).1) h
+    stands_as m (Spot.Row n c) e h = admits_as D is_row n row_key m (same m (sound.cells_known n (owned_cell c m) (sound.own_cell m n c e)).1) h
     stands_as m (Spot.Register f) e h = admits_as D is_single_kind f.node f.key m (same m (sound.held_known m f ((sound.one_held m f).1 e)).0) h
 
     conforms_as : IsConforming s other D

@@ -9,10 +9,10 @@ use Rattle.st_schema.specs.Schema.{SchemaView}
 use Rattle.st_marks.specs.declared.intents.Intent.{Intent}
 use Rattle.st_marks.specs.declared.intents.Put.{Put}
 use Rattle.st_marks.specs.declared.intents.To.{To}
-use Rattle.st_marks.specs.Document.{Document, IsSoundInForm, owned}
+use Rattle.st_marks.specs.Document.{Document, IsSoundInForm, owned_cell}
 use Rattle.st_marks.specs.Intent.{Fits, IsIntent, IsKnown, Owns, cell_of, is_new, put_of, register_of}
 use Rattle.st_marks.specs.Run.{Run, done, next}
-use Rattle.st_marks.specs.Verdict.{carried}
+use Rattle.st_marks.specs.Verdict.{carried_document}
 use Rattle.st_marks.proofs.Lookups.{put-has}
 use Rattle.st_marks.proofs.Members.{all-has, append_left, append_right, has-append}
 use Rattle.st_marks.proofs.OneVerdict.{carried_extends, one_run}
@@ -30,7 +30,7 @@ use Rattle.st_schema_laws.proofs.Runs.{run_conforms}
 module _ (s : SchemaView) (home : NodeId → Option FieldId) where
   pub agree_front : (Ns Ms : List Intent) (D : Document) → KeepSchemaInTurn s home D (Ns ++ Ms) → KeepSchemaInTurn s home D Ns
   agree_front [] Ms D a = tt
-  agree_front (N ∷ Ns) Ms D a = (a.0, λ v is. agree_front Ns Ms (carried v D N) (a.1 v is))
+  agree_front (N ∷ Ns) Ms D a = (a.0, λ v is. agree_front Ns Ms (carried_document v D N) (a.1 v is))
 
   pub agree_rest : {Ns : List Intent} (Ms : List Intent) {D E : Document} → Run D Ns E → KeepSchemaInTurn s home D (Ns ++ Ms) → KeepSchemaInTurn s home E Ms
   agree_rest Ms done a = a
@@ -38,7 +38,7 @@ module _ (s : SchemaView) (home : NodeId → Option FieldId) where
 
   pub agree_then : (Ns Ms : List Intent) (D : Document) → KeepSchemaInTurn s home D Ns → ((E : Document) → Run D Ns E → KeepSchemaInTurn s home E Ms) → KeepSchemaInTurn s home D (Ns ++ Ms)
   agree_then [] Ms D a g = g D done
-  agree_then (N ∷ Ns) Ms D a g = (a.0, λ v is. agree_then Ns Ms (carried v D N) (a.1 v is) (λ E r. g E (next v is r)))
+  agree_then (N ∷ Ns) Ms D a g = (a.0, λ v is. agree_then Ns Ms (carried_document v D N) (a.1 v is) (λ E r. g E (next v is r)))
 
   pub agree_then_one : (Ns Ms : List Intent) {D E : Document} → KeepSchemaInTurn s home D Ns → Run D Ns E → KeepSchemaInTurn s home E Ms → KeepSchemaInTurn s home D (Ns ++ Ms)
   agree_then_one Ns Ms {D} a r b = agree_then Ns Ms D a (λ F q. subst (λ F. KeepSchemaInTurn s home F Ms) (one_run r q) b)
@@ -53,13 +53,13 @@ module _ (s : SchemaView) (home : NodeId → Option FieldId) where
   -- ## After a longer list
 
   row_there : (D E : Document) → HasNames D E → IsSoundInForm D → IsSoundInForm E → (c : CellId) (n : NodeId) → D.row_of c ≡ Some n → E.row_of c ≡ Some n
-  row_there D E h p q c n e = let o = (p.one_row c n).0 e in (q.one_row c n).1 (o.0, h.cells n (owned c o.0) o.1)
+  row_there D E h p q c n e = let o = (p.one_row c n).0 e in (q.one_row c n).1 (o.0, h.cells n (owned_cell c o.0) o.1)
 
   run_beside : {D F : Document} {Ns : List Intent} → Run D Ns F → (E : Document) → HasNames D E → IsSoundInForm D → IsSoundInForm E → FitInTurn D Ns → FitInTurn E Ns → KeepSchemaInTurn s home D Ns → KeepSchemaInTurn s home E Ns
   run_beside done E h p q f g a = tt
   run_beside (next {D} {N = N} v is r) E h p q f g a = (
     agrees_there s home D E N a.0 h.nodes (row_there D E h p q) g.0.fresh_nodes g.0.fresh_cells,
-    λ w b. run_beside r (carried w E N) (names_beside D E N v w h g.0) (carried_extends D N v p f.0 f.1 is).after (carried_extends E N w q g.0 g.1 b).after (f.2 v is) (g.2 w b) (a.1 v is),
+    λ w b. run_beside r (carried_document w E N) (names_beside D E N v w h g.0) (carried_extends D N v p f.0 f.1 is).after (carried_extends E N w q g.0 g.1 b).after (f.2 v is) (g.2 w b) (a.1 v is),
   )
 
   pub agree_beside : (D E : Document) (Ns : List Intent) → HasNames D E → IsSoundInForm D → IsSoundInForm E → FitInTurn D Ns → FitInTurn E Ns → KeepSchemaInTurn s home D Ns → KeepSchemaInTurn s home E Ns
@@ -105,7 +105,7 @@ module _ (s : SchemaView) (home : NodeId → Option FieldId) where
     list_keeps (M ∷ Ns) rs D made f new a = (
       intent_keeps s home D N M (λ n put. not_new n (λ e. new (among (subst (Has (M.rev ∷ rs)) e (known_rev rs D M f.0 made n (put_known D M f.0 n put))))))
           (λ n is. not_new n (λ e. new (inl (sym (new_node_rev M f.0.itself n is) ∙ e)))) a.0,
-      λ v is. list_keeps Ns (M.rev ∷ rs) (carried v D M) (made_after rs D M v f.0 made) (f.2 v is) (λ h. new (moved h)) (a.1 v is),
+      λ v is. list_keeps Ns (M.rev ∷ rs) (carried_document v D M) (made_after rs D M v f.0 made) (f.2 v is) (λ h. new (moved h)) (a.1 v is),
     )
       where
         among : Has (M.rev ∷ rs) N.rev → Has (revisions (M ∷ Ns) ++ rs) N.rev

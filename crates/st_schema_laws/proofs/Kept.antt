@@ -15,7 +15,7 @@ use Rattle.st_marks.specs.Document.{Document, NodeType, IsSoundInForm}
 use Rattle.st_ids.specs.Root.{root}
 use Rattle.st_marks.specs.Intent.{Fits, new_type, is_new, put_of, put_in, clears}
 use Rattle.st_marks.specs.CarryOut.{with_names, full, void, void_data, spot_of, place_after, unless_cleared, unless_put, is_put_in_new, only_new}
-use Rattle.st_marks.specs.Verdict.{carried}
+use Rattle.st_marks.specs.Verdict.{carried_document}
 use Rattle.st_edits.specs.Paths.{field_at}
 use Rattle.st_edits.specs.Resolve.{rule_at, has_type}
 use Rattle.st_schema.specs.Kind.{is_required, is_row, is_single_kind}
@@ -235,7 +235,7 @@ module _ (s : SchemaView) (home : NodeId → Option FieldId) (D : Document) (N :
   pub void_conforms : IsConforming s home (void D N)
   void_conforms = elim N.schema as (λ o. IsConforming s home (option_map_or (λ _. D) o (void_data D N))) [ None ↦ void_data_conforms | Some t ↦ here ]
 
-  pub carried_conforms : (v : Verdict) → IsConforming s home (carried v D N)
+  pub carried_conforms : (v : Verdict) → IsConforming s home (carried_document v D N)
   carried_conforms Verdict.Sound = full_conforms
   carried_conforms (Verdict.Need n) = void_conforms
   carried_conforms (Verdict.Cycle n) = void_conforms

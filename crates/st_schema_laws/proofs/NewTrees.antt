@@ -24,7 +24,7 @@ use Rattle.st_marks.specs.declared.intents.Intent.{Intent}
 use Rattle.st_marks.specs.declared.intents.Owned.{Owned}
 use Rattle.st_marks.specs.declared.intents.Put.{Put}
 use Rattle.st_marks.specs.declared.intents.To.{To}
-use Rattle.st_marks.specs.Document.{Document, NodeType, IsSoundInForm, owned}
+use Rattle.st_marks.specs.Document.{Document, NodeType, IsSoundInForm, owned_cell}
 use Rattle.st_marks.specs.Intent.{Fits, register_of, new_node, new_type, is_new, new_row_of, put_of, put_in, clears}
 use Rattle.st_marks.specs.CarryOut.{with_names}
 use Rattle.st_marks.proofs.Lookups.{put-has, has-put, has-put_in, clears-has, new_row_of-group}
@@ -38,7 +38,7 @@ use Rattle.st_edits.specs.declared.names.NameCounters.{NameCounters}
 use Rattle.st_edits.specs.declared.names.Takes.TheVariants as field
 use Rattle.st_edits.proofs.Fits.{passed, ruled}
 use Rattle.st_edits.proofs.MoveFits.{CellsFresh}
-use Rattle.st_edits.proofs.NewFits.{NodesFresh, insert_fits, put_fits, items_form, with_first, none_is}
+use Rattle.st_edits.proofs.NewFits.{NodesFresh, insert_fits, put_fits, items_form, with_group-Some, none_refused-Ok}
 use Rattle.st_edits.proofs.Numbered.{IsArray, IsUnderArray, tops_rows}
 use Rattle.st_schema_laws.specs.Conforming.{row_key, type_fits}
 use Rattle.st_schema_laws.specs.Agreeing.{KeepsSchema, MayGo, MayBeLeft, TellsHomes}
@@ -193,16 +193,16 @@ group_made n after [] o h = absurd h
 group_made n after (p ∷ ps) o h = (record { node = n; after = after; cells = p ∷ ps }, refl, refl, h)
 
 -- the cell of a node that stands in a row is in the group of that row
-under_group : (xs : List FlatNode) (x : FlatNode) (r : NodeId) (c : CellId) → Has xs x → x.at ≡ FlatAt.Row r c → IsArray xs r → (g : Group) × Has (groups_under xs) g × (g.node ≡ r) × Has g.cells (owned c x.node)
+under_group : (xs : List FlatNode) (x : FlatNode) (r : NodeId) (c : CellId) → Has xs x → x.at ≡ FlatAt.Row r c → IsArray xs r → (g : Group) × Has (groups_under xs) g × (g.node ≡ r) × Has g.cells (owned_cell c x.node)
 under_group xs x r c h e y =
-    let own : Has (cells_under xs y.0.node) (owned c x.node) = has-filter_map (λ (x : FlatNode). owned_by x.node (row_cell y.0.node x.at)) xs x (owned c x.node) h
+    let own : Has (cells_under xs y.0.node) (owned_cell c x.node) = has-filter_map (λ (x : FlatNode). owned_by x.node (row_cell y.0.node x.at)) xs x (owned_cell c x.node) h
     (ap (λ at. owned_by x.node (row_cell y.0.node at)) (e ∙ ap (λ q. FlatAt.Row q c) (sym y.2)) ∙ ap (λ b. owned_by x.node (cond b (Some c) None)) (same_node-itself y.0.node)) in
-    let g = group_made y.0.node None (cells_under xs y.0.node) (owned c x.node) own in
+    let g = group_made y.0.node None (cells_under xs y.0.node) (owned_cell c x.node) own in
     (g.0, has-filter_map (group_under xs) xs y.0 g.0 y.1 (ap (λ b. cond b (group_of y.0.node None (cells_under xs y.0.node)) None) y.3 ∙ g.1), g.2 ∙ y.2, g.3)
 
-top_group : (xs : List FlatNode) (n : NodeId) (left : Option CellId) (x : FlatNode) (c : CellId) → Has xs x → x.at ≡ FlatAt.Top c → (g : Group) × (group_of n left (top_cells xs) ≡ Some g) × (g.node ≡ n) × Has g.cells (owned c x.node)
-top_group xs n left x c h e = group_made n left (top_cells xs) (owned c x.node)
-    (has-filter_map (λ (x : FlatNode). owned_by x.node (top_cell x.at)) xs x (owned c x.node) h (ap (λ at. owned_by x.node (top_cell at)) e))
+top_group : (xs : List FlatNode) (n : NodeId) (left : Option CellId) (x : FlatNode) (c : CellId) → Has xs x → x.at ≡ FlatAt.Top c → (g : Group) × (group_of n left (top_cells xs) ≡ Some g) × (g.node ≡ n) × Has g.cells (owned_cell c x.node)
+top_group xs n left x c h e = group_made n left (top_cells xs) (owned_cell c x.node)
+    (has-filter_map (λ (x : FlatNode). owned_by x.node (top_cell x.at)) xs x (owned_cell c x.node) h (ap (λ at. owned_by x.node (top_cell at)) e))
 
 -- a register in which a node stands is one that it goes to
 goes_there : (into : Option FieldId) (g : FieldId) (at : FlatAt) → register_at at ≡ Some g → to_at into at ≡ To.Register g
@@ -221,7 +221,7 @@ is_allowed s G rule trees xs e =
     let u = passed (trees_allowed s rule trees) (λ _. and_then (names_left G (names_taken (named_nodes G trees))) (λ _. Ok (named_nodes G trees))) xs e in
     let v = passed (names_left G (names_taken (named_nodes G trees))) (λ _. Ok (named_nodes G trees)) xs u.2 in
     let is : named_nodes G trees ≡ xs = cc in
-    (position_from-None 0 (items_verdicts s rule.types trees) (none_is (position_from (λ ok. not ok) 0 (items_verdicts s rule.types trees)) u.0 u.1), is)
+    (position_from-None 0 (items_verdicts s rule.types trees) (none_refused-Ok (position_from (λ ok. not ok) 0 (items_verdicts s rule.types trees)) u.0 u.1), is)
 
 named_allowed : (s : SchemaView) (G : NameCounters) (types : List (List ℕ)) (trees : Nodes) → is_sound s ≡ true → list_all (λ ok. ok) (items_verdicts s types trees) ≡ true → (x : FlatNode) → Has (named_nodes G trees) x → IsAllowedItem s (named_nodes G trees) types x
 named_allowed s G types trees schema ok = tops_allowed s schema (named_nodes G trees) types G.rev G.nodes G.cells trees ok (λ x h. h)
@@ -242,12 +242,12 @@ inserted_agrees s home D G n index rule trees schema ruled row ok fits own = lis
     row_made : (x : FlatNode) (r : NodeId) (c : CellId) → Has (named_nodes G trees) x → x.at ≡ FlatAt.Row r c → new_row_of (intent_to_insert D G n index (named_nodes G trees)) c ≡ Some r
     row_made x r c h e =
         let g = under_group (named_nodes G trees) x r c h e (subst (IsUnderArray (named_nodes G trees)) e (named_under s G rule.types trees ok x h)) in
-        new_row_of-group (intent_to_insert D G n index (named_nodes G trees)) fits.itself g.0 (owned c x.node) (with_others (group_of n (left_of D n index) (top_cells (named_nodes G trees))) (groups_under (named_nodes G trees)) g.0 g.1) g.3 ∙ ap (λ n. Some n) g.2
+        new_row_of-group (intent_to_insert D G n index (named_nodes G trees)) fits.itself g.0 (owned_cell c x.node) (with_others (group_of n (left_of D n index) (top_cells (named_nodes G trees))) (groups_under (named_nodes G trees)) g.0 g.1) g.3 ∙ ap (λ n. Some n) g.2
 
     top_made : (x : FlatNode) (c : CellId) → Has (named_nodes G trees) x → x.at ≡ FlatAt.Top c → new_row_of (intent_to_insert D G n index (named_nodes G trees)) c ≡ Some n
     top_made x c h e =
         let g = top_group (named_nodes G trees) n (left_of D n index) x c h e in
-        new_row_of-group (intent_to_insert D G n index (named_nodes G trees)) fits.itself g.0 (owned c x.node) (with_first (group_of n (left_of D n index) (top_cells (named_nodes G trees))) (groups_under (named_nodes G trees)) g.0 g.1) g.3 ∙ ap (λ n. Some n) g.2
+        new_row_of-group (intent_to_insert D G n index (named_nodes G trees)) fits.itself g.0 (owned_cell c x.node) (with_group-Some (group_of n (left_of D n index) (top_cells (named_nodes G trees))) (groups_under (named_nodes G trees)) g.0 g.1) g.3 ∙ ap (λ n. Some n) g.2
 
     top_goes : (x : FlatNode) (c : CellId) → Has (named_nodes G trees) x → x.at ≡ FlatAt.Top c → has_type (with_names D (intent_to_insert D G n index (named_nodes G trees))) rule.types x.node ≡ true → home x.node ≡ None
         → MayGo s home D (intent_to_insert D G n index (named_nodes G trees)) x.node (To.Cell c)
@@ -303,7 +303,7 @@ placed_agrees s home D G f rule t schema ruled single ok fits own = listed_agree
     row_made : (x : FlatNode) (r : NodeId) (c : CellId) → Has (named_nodes G (first t no_nodes)) x → x.at ≡ FlatAt.Row r c → new_row_of (intent_to_place D G f (named_nodes G (first t no_nodes))) c ≡ Some r
     row_made x r c h e =
         let g = under_group (named_nodes G (first t no_nodes)) x r c h e (subst (IsUnderArray (named_nodes G (first t no_nodes))) e (named_under s G rule.types (first t no_nodes) ok x h)) in
-        new_row_of-group (intent_to_place D G f (named_nodes G (first t no_nodes))) fits.itself g.0 (owned c x.node) g.1 g.3 ∙ ap (λ n. Some n) g.2
+        new_row_of-group (intent_to_place D G f (named_nodes G (first t no_nodes))) fits.itself g.0 (owned_cell c x.node) g.1 g.3 ∙ ap (λ n. Some n) g.2
 
     cleared_from : (g : FieldId) → Has (f ∷ registers (named_nodes G (first t no_nodes))) g → (x : FlatNode) × Has (named_nodes G (first t no_nodes)) x × (to_at (Some f) x.at ≡ To.Register g)
     cleared_from g (inl q) = let x = top_there G t in (x.0, x.1, ap (to_at (Some f)) x.2.1 ∙ ap (λ g. To.Register g) q)

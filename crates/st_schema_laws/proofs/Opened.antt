@@ -30,31 +30,10 @@ use Rattle.st_schema_laws.proofs.Rules.{required_not_row}
 use Rattle.st_schema_laws.proofs.NewTrees.{no_home, one_home}
 use Rattle.st_schema_laws.proofs.Simple.{rule_there}
 use Rattle.st_schema_laws.proofs.Listed.{HasField, IsPlaced, IsAllowedItem, root_allowed}
-use Rattle.st_opening.proofs.StartSound.{place_of}
+use Rattle.st_opening.proofs.PreorderNames.{items_length, listed_length}
+use Rattle.st_opening.proofs.StartSound.{place_of, said-has, said_some}
 use Rattle.st_lemmas.proofs.Bools.{true-false}
 use Rattle.st_lemmas.proofs.Lists.{position_from-None}
-
--- ## What is said of a list
-
-module _ {A B : Type 0} (say : A → Option B) where
-  -- what is said, an item says
-  said-has : (xs : List A) (b : B) → first_said say xs ≡ Some b → (x : A) × Has xs x × (say x ≡ Some b)
-  said-has [] b e = cc
-  said-has (x ∷ xs) b e = go (say x) refl (λ f. said-has xs b f) e
-    where
-      go : (o : Option B) → say x ≡ o → (first_said say xs ≡ Some b → (z : A) × Has xs z × (say z ≡ Some b)) → option_or o (first_said say xs) ≡ Some b → (z : A) × Has (x ∷ xs) z × (say z ≡ Some b)
-      go None q rest f = let z = rest f in (z.0, inr z.1, z.2)
-      go (Some w) q rest f = (x, inl refl, q ∙ f)
-
-  -- where an item says something, something is said
-  said_some : (xs : List A) (x : A) (b : B) → Has xs x → say x ≡ Some b → IsSome (first_said say xs)
-  said_some [] x b h e = absurd h
-  said_some (y ∷ xs) x b h e = go (say y) refl (λ k. said_some xs x b k e) h
-    where
-      go : (o : Option B) → say y ≡ o → (Has xs x → IsSome (first_said say xs)) → (y ≡ x) ⊎ Has xs x → IsSome (option_or o (first_said say xs))
-      go (Some w) q rest k = refl
-      go None q rest (inl s) = let bad : None ≡ Some b = sym q ∙ ap say s ∙ e in cc
-      go None q rest (inr k) = rest k
 
 -- ## Nodes that are numbered in turn
 
@@ -87,24 +66,6 @@ one_named rev (z ∷ xs) n x y h (inl p) (inl q) e = sym p ∙ q
 one_named rev (z ∷ xs) n x y h (inl p) (inr q) e = absurd (not_later rev xs n y h.1 q (sym e ∙ ap (λ (w : FlatNode). w.node) (sym p) ∙ h.0))
 one_named rev (z ∷ xs) n x y h (inr p) (inl q) e = absurd (not_later rev xs n x h.1 p (e ∙ ap (λ (w : FlatNode). w.node) (sym q) ∙ h.0))
 one_named rev (z ∷ xs) n x y h (inr p) (inr q) e = one_named rev xs (n + 1) x y h.1 p q e
-
-mutual
-  listed_length : (rev : Rev) (at : FlatAt) (n c : ℕ) (t : Node) → length (tree_listed rev at n c t) ≡ node_count t
-  listed_length rev at n c (node ty leaf fields) = let h = fields_length rev n (n + 1) c fields in omega (arith, h)
-
-  fields_length : (rev : Rev) (owner n c : ℕ) (fs : Fields) → length (fields_listed rev owner n c fs) ≡ field_count fs
-  fields_length rev owner n c no_fields = refl
-  fields_length rev owner n c (field key row items rest) =
-      let a = items_length rev owner key row n c items in
-      let b = fields_length rev owner (n + item_count items) (c + item_cells row items) rest in
-      length-append (items_listed rev owner key row n c items) _ ∙ (λ i. a i + b i)
-
-  items_length : (rev : Rev) (owner : ℕ) (key : List ℕ) (row : Bool) (n c : ℕ) (ts : Nodes) → length (items_listed rev owner key row n c ts) ≡ item_count ts
-  items_length rev owner key row n c no_nodes = refl
-  items_length rev owner key row n c (first t ts) =
-      let a = listed_length rev (at_of rev owner key row c) n (c + cells_taken row) t in
-      let b = items_length rev owner key row (n + node_count t) (c + (cells_taken row + cell_count t)) ts in
-      length-append (tree_listed rev (at_of rev owner key row c) n (c + cells_taken row) t) _ ∙ (λ i. a i + b i)
 
 mutual
   tree_numbered : (rev : Rev) (at : FlatAt) (n c : ℕ) (t : Node) → Numbered rev (tree_listed rev at n c t) n

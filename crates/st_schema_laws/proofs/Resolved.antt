@@ -10,7 +10,7 @@ use Rattle.st_marks.specs.declared.intents.Intent.{Intent}
 use Rattle.st_marks.specs.declared.verdicts.Verdict.{Verdict}
 use Rattle.st_marks.specs.Document.{Document, IsSoundInForm}
 use Rattle.st_marks.specs.Intent.{Fits}
-use Rattle.st_marks.specs.Verdict.{carried}
+use Rattle.st_marks.specs.Verdict.{carried_document}
 use Rattle.st_edits.specs.Resolve.{resolve}
 use Rattle.st_edits.specs.declared.names.NameCounters.{NameCounters}
 use Rattle.st_edits.proofs.MoveFits.{CellsFresh}
@@ -33,6 +33,6 @@ module _ (s : SchemaView) (home : NodeId → Option FieldId) (D : Document) (G :
 
   -- carried out in another document that has the same old names
   pub kept_elsewhere : (edit : Edit) (E : Document) (v : Verdict) → resolve D s G edit ≡ Ok N → IsSoundInForm E → Fits E N → IsConforming s home E → HasNodes D E
-      → ((c : CellId) (n : NodeId) → D.row_of c ≡ Some n → E.row_of c ≡ Some n) → IsConforming s home (carried v E N)
+      → ((c : CellId) (n : NodeId) → D.row_of c ≡ Some n → E.row_of c ≡ Some n) → IsConforming s home (carried_document v E N)
   kept_elsewhere edit E v e there fits conforming same_nodes same_cells =
       carried_conforms s home E N there fits conforming (agrees_there s home D E N (resolved_agrees edit e) same_nodes same_cells fits.fresh_nodes fits.fresh_cells) v

@@ -7,7 +7,7 @@ use Rattle.std.specs.Cmp.Lexicographic.{slice_cmp, bytes_decides}
 use Rattle.std.specs.declared.cmp.Ordering.{Ordering}
 use Rattle.std.specs.FinMap.Entries.{is_sorted, below_all}
 use Rattle.serde_json.specs.Data.{Data, array, object, Items, item, Members, member}
-use Rattle.st_ids.specs.Listing.{Has, IsListing, item_of, keyed}
+use Rattle.st_ids.specs.Listing.{Has, IsListing, item_of, key_pairs}
 use Rattle.st_ids.specs.declared.names.CellId.{CellId}
 use Rattle.st_ids.specs.declared.names.Key.{Key}
 use Rattle.st_ids.specs.declared.names.Leaf.{Leaf}
@@ -77,7 +77,7 @@ members_body (k ∷ ks) no_fields h = absurd h
 members_body (k ∷ ks) (field key true items rest) h = absurd h
 members_body (k ∷ ks) (field key false items rest) h = refl
 
-fields_rise : (before : List ℕ) (ks : List (List ℕ)) (fs : Fields) → HasKeys ks fs → below_all bytes_cmp before (keyed itself ks) ≡ true → is_sorted bytes_cmp (keyed itself ks) ≡ true → keys_rise before fs ≡ true
+fields_rise : (before : List ℕ) (ks : List (List ℕ)) (fs : Fields) → HasKeys ks fs → below_all bytes_cmp before (key_pairs itself ks) ≡ true → is_sorted bytes_cmp (key_pairs itself ks) ≡ true → keys_rise before fs ≡ true
 fields_rise before [] no_fields h below sorted = refl
 fields_rise before [] (field key row items rest) h below sorted = absurd h
 fields_rise before (k ∷ ks) no_fields h below sorted = absurd h
@@ -86,10 +86,10 @@ fields_rise before (k ∷ ks) (field key false items rest) h below sorted =
     let b = and-true _ _ below in
     let s = and-true _ _ sorted in
     and-both (is_single items) _ h.1 (and-both (is_lt (bytes_cmp before key)) _ (ap (λ k. is_lt (bytes_cmp before k)) h.0 ∙ b.0)
-    (fields_rise key ks rest h.2 (subst (λ l. below_all bytes_cmp l (keyed itself ks) ≡ true) (sym h.0) s.0) s.1))
+    (fields_rise key ks rest h.2 (subst (λ l. below_all bytes_cmp l (key_pairs itself ks) ≡ true) (sym h.0) s.0) s.1))
 
 -- keys that aren't empty are above the empty key
-above_empty : (ks : List (List ℕ)) → ((k : List ℕ) → Has ks k → k ≢ []) → below_all bytes_cmp [] (keyed itself ks) ≡ true
+above_empty : (ks : List (List ℕ)) → ((k : List ℕ) → Has ks k → k ≢ []) → below_all bytes_cmp [] (key_pairs itself ks) ≡ true
 above_empty [] some = refl
 above_empty ([] ∷ ks) some = absurd (some [] (inl refl) refl)
 above_empty ((b ∷ k) ∷ ks) some = above_empty ks (λ l h. some l (inr h))

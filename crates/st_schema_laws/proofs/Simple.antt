@@ -33,13 +33,13 @@ use Rattle.st_edits.specs.Resolve.{need, remove, intent_to_remove, clear, move, 
 use Rattle.st_schema.specs.Kind.{is_open, is_optional, is_required, is_row, is_single_kind}
 use Rattle.st_edits.specs.declared.names.NameCounters.{NameCounters}
 use Rattle.st_edits.specs.declared.names.Takes.TheVariants as field
-use Rattle.st_edits.proofs.Fits.{passed, found, shown, ruled, optional_single}
+use Rattle.st_edits.proofs.Fits.{passed, or_refuse-Ok, shown, ruled, optional_single}
 use Rattle.st_edits.proofs.MoveFits.{CellsFresh, move_fits}
 use Rattle.st_schema_laws.specs.Conforming.{Admits, MayStand, IsConforming, IsFree, row_key}
 use Rattle.st_schema_laws.specs.Agreeing.{KeepsSchema, MayGo, MayBeLeft}
 use Rattle.st_schema_laws.proofs.Kept.{rule_later, type_later, free_later, named_later, one_rule}
 use Rattle.st_schema_laws.proofs.Rules.{required_not_row, required_not_optional, row_of_array}
-use Rattle.st_edits.proofs.NewFits.{none_is}
+use Rattle.st_edits.proofs.NewFits.{none_refused-Ok}
 use Rattle.st_lemmas.proofs.Options.{IsSome-Some}
 use Rattle.st_lemmas.proofs.Bools.{true-false}
 
@@ -110,7 +110,7 @@ module _ (s : SchemaView) (home : NodeId → Option FieldId) (D : Document) (sou
           test true g =
               let n = passed (or_refuse (D.held f) Range) (λ (n : NodeId). Ok (n ∷ [])) ns g in
               let is : n.0 ∷ [] ≡ ns = cc in
-              let held = found (D.held f) Range n.0 n.1 in
+              let held = or_refuse-Ok (D.held f) Range n.0 n.1 in
               elim (subst (λ l. Has l m) (sym is) h) [
                 | inl p ↦ subst (IsMovable s home D) p (in_field_movable f.node n.0 f.key rule held ruled (ap is_required q))
                 | inr bad ↦ absurd bad
@@ -195,7 +195,7 @@ pub rule_found : (takes : KindName → Bool) (D : Document) (s : SchemaView) (n 
 rule_found takes D s n key rule e =
     let r = passed (or_refuse (rule_at D s n key) Kind) (of_kind takes) rule e in
     let w = kind r.0 (takes r.0.kind) refl r.2 in
-    (found (rule_at D s n key) Kind r.0 r.1 ∙ ap (λ (r : FieldRule). Some r) w.0, ap (λ (r : FieldRule). takes r.kind) (sym w.0) ∙ w.1)
+    (or_refuse-Ok (rule_at D s n key) Kind r.0 r.1 ∙ ap (λ (r : FieldRule). Some r) w.0, ap (λ (r : FieldRule). takes r.kind) (sym w.0) ∙ w.1)
   where
     kind : (r : FieldRule) (b : Bool) → takes r.kind ≡ b → cond b (Ok r) (Err Kind) ≡ Ok rule → (r ≡ rule) × (takes r.kind ≡ true)
     kind r true q f = (cc, q)
@@ -299,7 +299,7 @@ move_agrees s home D G at key index count to to_key to_index N sound schema here
     let into = rule_found is_open D s m.0 to_key target.0 target.1 in
     let is : intent_to_move D G (field_at m.0 to_key) target.0.kind to_index ns.0 ≡ N = cc in
     let free = taken_movable s home D sound here (field_at n.0 key) source.0 index count ns.0 from.0 ns.1 in
-    let typed = each_passes (has_type D target.0.types) 0 ns.0 (none_is (position_from (λ n. not (has_type D target.0.types n)) 0 ns.0) allowed.0 allowed.1) in
+    let typed = each_passes (has_type D target.0.types) 0 ns.0 (none_refused-Ok (position_from (λ n. not (has_type D target.0.types n)) 0 ns.0) allowed.0 allowed.1) in
     subst (KeepsSchema s home D) is (go m.0 target.0 ns.0 into.0 into.1 (λ k h. (free k h, typed k h)) target.0.kind refl
     (subst (Fits D) (sym is) (move_fits D s G at key index count to to_key to_index N sound schema fresh e)))
   where

@@ -12,7 +12,7 @@ use Rattle.st_marks.specs.Document.{Document, NodeType}
 use Rattle.st_marks.specs.Intent.{new_type, is_new, put_of, put_in, clears, register_of}
 use Rattle.st_marks.specs.CarryOut.{with_names}
 use Rattle.st_marks.specs.Run.{Run, done, next}
-use Rattle.st_marks.specs.Verdict.{IsVerdict, carried}
+use Rattle.st_marks.specs.Verdict.{IsVerdict, carried_document}
 use Rattle.st_edits.specs.Paths.{field_at}
 use Rattle.st_edits.specs.Resolve.{rule_at}
 use Rattle.st_schema.specs.Kind.{is_required, is_row, is_single_kind}
@@ -65,4 +65,4 @@ KeepsSchemaInTurn s home (next {D} {N = N} v is rest) = KeepsSchema s home D N �
 -- each of some intents agrees with the schema where it comes
 abbrev pub KeepSchemaInTurn : SchemaView → (NodeId → Option FieldId) → Document → List Intent → Type 0
 KeepSchemaInTurn s home D [] = Unit {0}
-KeepSchemaInTurn s home D (N ∷ Ns) = KeepsSchema s home D N × ((v : Verdict) → IsVerdict D N v → KeepSchemaInTurn s home (carried v D N) Ns)
+KeepSchemaInTurn s home D (N ∷ Ns) = KeepsSchema s home D N × ((v : Verdict) → IsVerdict D N v → KeepSchemaInTurn s home (carried_document v D N) Ns)

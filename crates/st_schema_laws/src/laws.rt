@@ -26,7 +26,7 @@ ghost use Rattle.st_marks.specs.Join.{AreParts, IsJoin};
 ghost use Rattle.st_marks.specs.Intent.{Fits, IsIntent, is_new, new_row_of, put_of};
 ghost use Rattle.st_marks.specs.LiveTree.{Shows};
 ghost use Rattle.st_marks.specs.Run.{Run, FitsInTurn};
-ghost use Rattle.st_marks.specs.Verdict.{carried};
+ghost use Rattle.st_marks.specs.Verdict.{carried_document};
 ghost use Rattle.st_log_laws.specs.Names.{HasNames, IsMadeUnder, revisions};
 ghost use Rattle.st_log_laws.specs.Turns.{FitInTurn, IsSublist};
 ghost use Rattle.st_opening.specs.Start.{start_of};
@@ -40,7 +40,7 @@ ghost use Rattle.st_edits.specs.ArrayTypes.{is_array_type};
 /// verdict is: carried out whole, or void.
 pub fn carrying_out_conforms()
     ensures { (s : SchemaView) (home : NodeId → Option FieldId) (D : Document) (N : Intent) (v : Verdict) → IsSoundInForm D → Fits D N
-        → IsConforming s home D → KeepsSchema s home D N → IsConforming s home (carried v D N) }
+        → IsConforming s home D → KeepsSchema s home D N → IsConforming s home (carried_document v D N) }
 {}
 
 /// An intent that agrees with the schema in a document agrees with it in each one that has the nodes and cells of that
@@ -104,7 +104,7 @@ pub fn resolved_edits_keep_conformity()
         → IsSoundInForm E → Fits E N → IsConforming s home E
         → ((n : NodeId) (t : NodeType) → D.nodes n ≡ Some t → E.nodes n ≡ Some t)
         → ((c : CellId) (n : NodeId) → D.row_of c ≡ Some n → E.row_of c ≡ Some n)
-        → IsConforming s home (carried v E N) }
+        → IsConforming s home (carried_document v E N) }
 {}
 
 /// A run of intents, each of which fits and agrees with the schema where it comes, leads from a conforming document to a

@@ -20,8 +20,8 @@ use Rattle.st_script.specs.declared.read.Target.{Target}
 
 -- ---- options
 
-found : {A B : Type 0} (f : A → Option B) (o : Option A) (x : A) (y : Option B) → o ≡ Some x → f x ≡ y → option_and_then f o ≡ y
-found f o x y e g = ap (option_and_then f) e ∙ g
+option_and_then-of_some : {A B : Type 0} (f : A → Option B) (o : Option A) (x : A) (y : Option B) → o ≡ Some x → f x ≡ y → option_and_then f o ≡ y
+option_and_then-of_some f o x y e g = ap (option_and_then f) e ∙ g
 
 passed : {A : Type 0} (b : Bool) (o : Option A) (y : Option A) → b ≡ true → o ≡ y → cond b o None ≡ y
 passed b o y e g = ap (λ (c : Bool). cond c o None) e ∙ g
@@ -60,12 +60,12 @@ key_or_kept o k there h = ap key_or_empty there ∙ key_kept k h
 place_kept : (p : Place) → length p.key.0 ≤ 64 → p.index < 2 ^ 32 → place_of (string p.key.0) (number (unsigned p.index)) ≡ Some p
 place_kept p short low =
     let f : ℕ → Key → Place = λ index key. record { key = key; index = index } in
-    found (λ index. option_map (f index) (key_within p.key.0)) (small p.index) p.index (Some p) (small_kept p.index low) (ap (option_map (f p.index)) (key_kept p.key short))
+    option_and_then-of_some (λ index. option_map (f index) (key_within p.key.0)) (small p.index) p.index (Some p) (small_kept p.index low) (ap (option_map (f p.index)) (key_kept p.key short))
 
 places_kept : (ps : List Place) → ArePlaces ps → places_in (items_of (places_data ps)) ≡ Some ps
 places_kept [] h = refl
 places_kept (p ∷ ps) h =
-    found (λ (q : Place). option_map (λ (qs : List Place). q ∷ qs) (places_in (items_of (places_data ps)))) (place_of (string p.key.0) (number (unsigned p.index))) p (Some (p ∷ ps))
+    option_and_then-of_some (λ (q : Place). option_map (λ (qs : List Place). q ∷ qs) (places_in (items_of (places_data ps)))) (place_of (string p.key.0) (number (unsigned p.index))) p (Some (p ∷ ps))
     (place_kept p h.0 h.1) (ap (option_map (λ (qs : List Place). p ∷ qs)) (places_kept ps h.2))
 
 path_kept : (name : List ℕ) (d : Data) (ps : List Place) → get name d ≡ Some (path_data ps) → length ps < 2 ^ 32 → ArePlaces ps → path_in name d ≡ Some ps
@@ -78,38 +78,38 @@ path_kept name d ps there few h =
 target_kept : (path key : List ℕ) (d : Data) (at : List Place) (k : Key) → get path d ≡ Some (path_data at) → get key d ≡ Some (string k.0) → IsTarget at k → target_of path key d ≡ Some (record { at = at; key = k })
 target_kept path key d at k path_there key_there h =
     let f : List Place → Key → Target = λ at k. record { at = at; key = k } in
-    found (λ at. option_map (f at) (key_or_empty (get key d))) (path_in path d) at (Some (f at k)) (path_kept path d at path_there h.0 h.1) (ap (option_map (f at)) (key_or_kept (get key d) k key_there h.2))
+    option_and_then-of_some (λ at. option_map (f at) (key_or_empty (get key d))) (path_in path d) at (Some (f at k)) (path_kept path d at path_there h.0 h.1) (ap (option_map (f at)) (key_or_kept (get key d) k key_there h.2))
 
 actor_kept : (d : Data) (client : List ℕ) (branch : ℕ) → get (codes "client") d ≡ Some (string client) → get (codes "branch") d ≡ Some (number (unsigned branch)) → IsActor client branch
     → actor_of d ≡ Some (record { client = client; branch = branch })
 actor_kept d client branch client_there branch_there h =
     let f : ℕ → List ℕ → Actor = λ branch client. record { client = client; branch = branch } in
-    found (λ branch. option_map (f branch) (client_in d)) (number_or 0 (get (codes "branch") d)) branch (Some (f branch client))
+    option_and_then-of_some (λ branch. option_map (f branch) (client_in d)) (number_or 0 (get (codes "branch") d)) branch (Some (f branch client))
     (number_or_kept 0 (get (codes "branch") d) branch branch_there h.1) (ap (option_map (f branch)) (client_kept d client client_there h.0))
 
 site_kept : (d : Data) (a : Actor) (t : Target) → actor_of d ≡ Some a → target_of (codes "at") (codes "key") d ≡ Some t → site_of d ≡ Some (a, t)
 site_kept d a t actor target =
     let f : Actor → Target → Actor × Target = λ actor target. (actor, target) in
-    found (λ actor. option_map (f actor) (target_of (codes "at") (codes "key") d)) (actor_of d) a (Some (a, t)) actor (ap (option_map (f a)) target)
+    option_and_then-of_some (λ actor. option_map (f actor) (target_of (codes "at") (codes "key") d)) (actor_of d) a (Some (a, t)) actor (ap (option_map (f a)) target)
 
 span_kept : (d : Data) (index count : ℕ) → get (codes "index") d ≡ Some (number (unsigned index)) → get (codes "count") d ≡ Some (number (unsigned count)) → IsSpan index count
     → span_of d ≡ Some (record { index = index; count = count })
 span_kept d index count index_there count_there h =
     let f : ℕ → ℕ → Span = λ index count. record { index = index; count = count } in
-    found (λ index. option_map (f index) (count_of d)) (number_in (codes "index") d) index (Some (f index count))
+    option_and_then-of_some (λ index. option_map (f index) (count_of d)) (number_in (codes "index") d) index (Some (f index count))
     (number_kept (codes "index") d index index_there h.0) (ap (option_map (f index)) (count_kept d count count_there h.1 h.2))
 
 goal_kept : (d : Data) (t : Target) (index : ℕ) → get (codes "to_index") d ≡ Some (number (unsigned index)) → target_of (codes "to") (codes "to_key") d ≡ Some t → index < 2 ^ 32
     → goal_of d ≡ Some (record { to = t.at; to_key = t.key; to_index = index })
 goal_kept d t index there target h =
     let f : ℕ → Target → Goal = λ index target. record { to = target.at; to_key = target.key; to_index = index } in
-    found (λ index. option_map (f index) (target_of (codes "to") (codes "to_key") d)) (number_or 0 (get (codes "to_index") d)) index (Some (f index t))
+    option_and_then-of_some (λ index. option_map (f index) (target_of (codes "to") (codes "to_key") d)) (number_or 0 (get (codes "to_index") d)) index (Some (f index t))
     (number_or_kept 0 (get (codes "to_index") d) index there h) (ap (option_map (f index)) target)
 
 shown_kept : (ts : List Node) → AreShown ts → trees_in (trees_data (nodes_of ts)) ≡ Some ts
 shown_kept [] h = refl
 shown_kept (t ∷ ts) h =
-    found (λ (u : Node). option_map (λ (us : List Node). u ∷ us) (trees_in (trees_data (nodes_of ts)))) (tree_of (tree_data t)) t (Some (t ∷ ts)) h.0 (ap (option_map (λ (us : List Node). t ∷ us)) (shown_kept ts h.1))
+    option_and_then-of_some (λ (u : Node). option_map (λ (us : List Node). u ∷ us) (trees_in (trees_data (nodes_of ts)))) (tree_of (tree_data t)) t (Some (t ∷ ts)) h.0 (ap (option_map (λ (us : List Node). t ∷ us)) (shown_kept ts h.1))
 
 few_kept : (ts : List Node) → 1 ≤ length ts → check_items (nodes_of ts) ≡ Ok tt → few ts ≡ Some ts
 few_kept ts some within =
@@ -132,8 +132,8 @@ insert_read : (d : Data) (a : Actor) (t : Target) (index : ℕ) (items : List No
 insert_read d a t index items only site index_there items_there =
     let f : Actor × Target → ℕ → List Node → StepView = λ s index items. insert s.0.client s.0.branch s.1.at s.1.key index items in
     passed (has_only (codes "at branch client do index items key") d) (option_and_then (λ s. option_and_then (λ index. option_map (f s index) (items_in d)) (number_in (codes "index") d)) (site_of d)) (Some (f (a, t) index items)) only
-    (found (λ s. option_and_then (λ index. option_map (f s index) (items_in d)) (number_in (codes "index") d)) (site_of d) (a, t) (Some (f (a, t) index items)) site
-    (found (λ index. option_map (f (a, t) index) (items_in d)) (number_in (codes "index") d) index (Some (f (a, t) index items)) index_there
+    (option_and_then-of_some (λ s. option_and_then (λ index. option_map (f s index) (items_in d)) (number_in (codes "index") d)) (site_of d) (a, t) (Some (f (a, t) index items)) site
+    (option_and_then-of_some (λ index. option_map (f (a, t) index) (items_in d)) (number_in (codes "index") d) index (Some (f (a, t) index items)) index_there
     (ap (option_map (f (a, t) index)) items_there)))
 
 remove_read : (d : Data) (a : Actor) (t : Target) (span : Span) → has_only (codes "at branch client count do index key") d ≡ true → site_of d ≡ Some (a, t) → span_of d ≡ Some span
@@ -141,15 +141,15 @@ remove_read : (d : Data) (a : Actor) (t : Target) (span : Span) → has_only (co
 remove_read d a t span only site span_there =
     let f : Actor × Target → Span → StepView = λ s span. remove s.0.client s.0.branch s.1.at s.1.key span.index span.count in
     passed (has_only (codes "at branch client count do index key") d) (option_and_then (λ s. option_map (f s) (span_of d)) (site_of d)) (Some (f (a, t) span)) only
-    (found (λ s. option_map (f s) (span_of d)) (site_of d) (a, t) (Some (f (a, t) span)) site (ap (option_map (f (a, t))) span_there))
+    (option_and_then-of_some (λ s. option_map (f s) (span_of d)) (site_of d) (a, t) (Some (f (a, t) span)) site (ap (option_map (f (a, t))) span_there))
 
 move_read : (d : Data) (a : Actor) (t : Target) (span : Span) (goal : Goal) → has_only (codes "at branch client count do index key to to_index to_key") d ≡ true → site_of d ≡ Some (a, t)
     → span_of d ≡ Some span → goal_of d ≡ Some goal → read_move d ≡ Some (move a.client a.branch t.at t.key span.index span.count goal.to goal.to_key goal.to_index)
 move_read d a t span goal only site span_there goal_there =
     let f : Actor × Target → Span → Goal → StepView = λ s span goal. move s.0.client s.0.branch s.1.at s.1.key span.index span.count goal.to goal.to_key goal.to_index in
     passed (has_only (codes "at branch client count do index key to to_index to_key") d) (option_and_then (λ s. option_and_then (λ span. option_map (f s span) (goal_of d)) (span_of d)) (site_of d)) (Some (f (a, t) span goal)) only
-    (found (λ s. option_and_then (λ span. option_map (f s span) (goal_of d)) (span_of d)) (site_of d) (a, t) (Some (f (a, t) span goal)) site
-    (found (λ span. option_map (f (a, t) span) (goal_of d)) (span_of d) span (Some (f (a, t) span goal)) span_there
+    (option_and_then-of_some (λ s. option_and_then (λ span. option_map (f s span) (goal_of d)) (span_of d)) (site_of d) (a, t) (Some (f (a, t) span goal)) site
+    (option_and_then-of_some (λ span. option_map (f (a, t) span) (goal_of d)) (span_of d) span (Some (f (a, t) span goal)) span_there
     (ap (option_map (f (a, t) span)) goal_there)))
 
 set_read : (d : Data) (a : Actor) (t : Target) (item : Node) → has_only (codes "at branch client do item key") d ≡ true → site_of d ≡ Some (a, t) → item_in d ≡ Some item
@@ -157,7 +157,7 @@ set_read : (d : Data) (a : Actor) (t : Target) (item : Node) → has_only (codes
 set_read d a t item only site item_there =
     let f : Actor × Target → Node → StepView = λ s item. set s.0.client s.0.branch s.1.at s.1.key item in
     passed (has_only (codes "at branch client do item key") d) (option_and_then (λ s. option_map (f s) (item_in d)) (site_of d)) (Some (f (a, t) item)) only
-    (found (λ s. option_map (f s) (item_in d)) (site_of d) (a, t) (Some (f (a, t) item)) site (ap (option_map (f (a, t))) item_there))
+    (option_and_then-of_some (λ s. option_map (f s) (item_in d)) (site_of d) (a, t) (Some (f (a, t) item)) site (ap (option_map (f (a, t))) item_there))
 
 clear_read : (d : Data) (a : Actor) (t : Target) → has_only (codes "at branch client do key") d ≡ true → site_of d ≡ Some (a, t) → read_clear d ≡ Some (clear a.client a.branch t.at t.key)
 clear_read d a t only site =

@@ -26,6 +26,7 @@ use Rattle.st_script.specs.declared.read.Actor.{Actor}
 use Rattle.st_script.specs.declared.read.Goal.{Goal}
 use Rattle.st_script.specs.declared.read.Span.{Span}
 use Rattle.st_script.specs.declared.read.Target.{Target}
+use Rattle.st_lemmas.proofs.Bools.{and-both}
 
 -- ---- members and items of a value whose names rise
 
@@ -66,15 +67,11 @@ line_rises bytes = Holds-cond NamesRise (utf8_valid_len bytes == length bytes) (
 abbrev AreShaped : List Node → Type 0
 AreShaped ts = all_have_shape (nodes_of ts) ≡ true
 
-both : (a b : Bool) → a ≡ true → b ≡ true → a && b ≡ true
-both true b h k = k
-both false b h k = absurd (cc)
-
 trees_shaped : (ds : Items) → ItemsRise ds → Holds AreShaped (trees_in ds)
 trees_shaped no_items p = refl
 trees_shaped (item d ds) p =
     Holds-and_then IsShaped AreShaped (λ (t : Node). option_map (λ (ts : List Node). t ∷ ts) (trees_in ds))
-    (λ t h. Holds-map AreShaped AreShaped (λ (ts : List Node). t ∷ ts) (λ ts hs. both (has_shape t) (all_have_shape (nodes_of ts)) h hs) (trees_in ds) (trees_shaped ds p.1)) (tree_of d) (shown_shaped d p.0)
+    (λ t h. Holds-map AreShaped AreShaped (λ (ts : List Node). t ∷ ts) (λ ts hs. and-both (has_shape t) (all_have_shape (nodes_of ts)) h hs) (trees_in ds) (trees_shaped ds p.1)) (tree_of d) (shown_shaped d p.0)
 
 few_shaped : (ts : List Node) → AreShaped ts → Holds AreShaped (few ts)
 few_shaped ts h = Holds-cond AreShaped (nat_le 1 (length ts) && is_ok (check_items (nodes_of ts))) (Some ts) None (λ _. h) tt

@@ -15,7 +15,7 @@ use Rattle.st_marks.specs.declared.intents.Put.{Put}
 use Rattle.st_marks.specs.declared.intents.To.{To}
 use Rattle.st_marks.specs.declared.places.Slot.{Slot}
 use Rattle.st_marks.specs.declared.places.Spot.{Spot}
-use Rattle.st_marks.specs.Document.{Document, IsSoundInForm, content, is_cell, owned, slot}
+use Rattle.st_marks.specs.Document.{Document, IsSoundInForm, content, is_cell, owned_cell, slot}
 use Rattle.st_ids.specs.Root.{root}
 use Rattle.st_marks.specs.Embedding.{IsMentionedByIntent, is_among}
 use Rattle.st_marks.specs.Intent.{Fits, Owns, group_at, group_cells, is_new, put_of}
@@ -76,7 +76,7 @@ pub in_document : (D : Document) → IsSoundInForm D → (n : NodeId) (a : CellI
 in_document D x n a w =
     let r = has-map (λ (s : Slot). s.cell) (content D n) a w in
     let q = is_slot D n r.0 r.1 in
-    (x.one_row a n).1 (q.0.node, subst (λ b. Has (D.rows n) (owned b q.0.node)) (ap (λ (s : Slot). s.cell) q.2 ∙ r.2) q.1)
+    (x.one_row a n).1 (q.0.node, subst (λ b. Has (D.rows n) (owned_cell b q.0.node)) (ap (λ (s : Slot). s.cell) q.2 ∙ r.2) q.1)
 
 cell_there : (D : Document) (n : NodeId) (o : Owned) → Has (D.rows n) o → Has (cells_of (content D n)) o.cell
 cell_there D n o w = map-has (λ (s : Slot). s.cell) (content D n) (slot D o) (map-has (slot D) (D.rows n) o w)
@@ -162,7 +162,7 @@ module _ (D : Document) (N : Intent) (m : Nodes) (new : List NodeId) (n : NodeId
       go (o ∷ os) e q =
           let g = group_at-group N n (Some a) o (subst (λ l. Has l o) (sym e) (inl refl)) in
           let r = (x.one_row a n).0 (known g.group g.listed g.node g.after) in
-          cell_there D n (owned a r.0) r.1
+          cell_there D n (owned_cell a r.0) r.1
 
   owns : (k : NodeId) (a : CellId) → put_of N k ≡ Some (To.Cell a) → Owns D N k a
   owns k a e = (known_put D N w k (To.Cell a) e).1
@@ -176,7 +176,7 @@ module _ (D : Document) (N : Intent) (m : Nodes) (new : List NodeId) (n : NodeId
           let there : D.row_of s.cell ≡ Some n = in_document D x n s.cell (map-has (λ (t : Slot). t.cell) c s v) in
           let same : D.row_of s.cell ≡ Some r = (x.one_row s.cell r).1 (k, h) in
           let row : r ≡ n = node_in (sym same ∙ there) in
-          let cells : q.0 ≡ owned s.cell k = distinct-has (λ (o : Owned). o.cell) (D.rows n) q.0 (owned s.cell k) (x.once n) q.1 (subst (λ y. Has (D.rows y) (owned s.cell k)) row h) (ap (λ (t : Slot). t.cell) q.2) in
+          let cells : q.0 ≡ owned_cell s.cell k = distinct-has (λ (o : Owned). o.cell) (D.rows n) q.0 (owned_cell s.cell k) (x.once n) q.1 (subst (λ y. Has (D.rows y) (owned_cell s.cell k)) row h) (ap (λ (t : Slot). t.cell) q.2) in
           ap (λ (t : Slot). t.node) (sym q.2) ∙ ap (λ (o : Owned). o.node) cells
         where
           node_in : {y z : NodeId} → ◌≡◌ {A = Option NodeId} (Some y) (Some z) → y ≡ z
@@ -185,14 +185,14 @@ module _ (D : Document) (N : Intent) (m : Nodes) (new : List NodeId) (n : NodeId
               at : Option NodeId → NodeId
               at None = y
               at (Some d) = d
-      go (inr h) = absurd (not_new s.cell n (in_document D x n s.cell (map-has (λ (t : Slot). t.cell) c s v)) (new_cell (owned s.cell k) h))
+      go (inr h) = absurd (not_new s.cell n (in_document D x n s.cell (map-has (λ (t : Slot). t.cell) c s v)) (new_cell (owned_cell s.cell k) h))
 
   own_made : (o : Owned) → Has (group_cells N) o → (k : NodeId) → put_of N k ≡ Some (To.Cell o.cell) → o.node ≡ k
   own_made o v k e = go (owns k o.cell e)
     where
       go : Owns D N k o.cell → o.node ≡ k
       go (inl (r, h)) = absurd (not_new o.cell r ((x.one_row o.cell r).1 (k, h)) (new_cell o v))
-      go (inr h) = ap (λ (q : Owned). q.node) (distinct-has (λ (q : Owned). q.cell) (group_cells N) o (owned o.cell k) w.itself.cell_once v h refl)
+      go (inr h) = ap (λ (q : Owned). q.node) (distinct-has (λ (q : Owned). q.cell) (group_cells N) o (owned_cell o.cell k) w.itself.cell_once v h refl)
 
   put_somewhere : (k : NodeId) → put_of N k ≢ None → (to : To) × (put_of N k ≡ Some to)
   put_somewhere k h = go (put_of N k) refl h

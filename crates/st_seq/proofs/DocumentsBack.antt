@@ -10,7 +10,7 @@ use Rattle.st_marks.specs.declared.intents.Owned.{Owned}
 use Rattle.st_marks.specs.declared.places.Slot.{Slot}
 use Rattle.st_marks.specs.declared.places.Spot.{Spot}
 use Rattle.st_marks.specs.Back.{is_in, place_back, retreat}
-use Rattle.st_marks.specs.Document.{Document, content, is_cell, node_of, owned, slot}
+use Rattle.st_marks.specs.Document.{Document, content, is_cell, node_of, owned_cell, slot}
 use Rattle.st_marks.specs.Extends.{IsExtendedBy}
 use Rattle.st_marks.proofs.Climb.{is_cell-true, shown}
 use Rattle.st_marks.proofs.Later.{has_later}
@@ -34,7 +34,7 @@ back_new D E k r a e f = go (option_map_or (is_in D) (node_of (E.place k)) false
 
 module _ (D E : Document) (n : NodeId) (x : IsExtendedBy D E) (known : IsSome (D.nodes n)) where
   -- a cell is in one row
-  one_row : (a : CellId) (k r j : NodeId) → Has (E.rows r) (owned a k) → Has (E.rows n) (owned a j) → r ≡ n
+  one_row : (a : CellId) (k r j : NodeId) → Has (E.rows r) (owned_cell a k) → Has (E.rows n) (owned_cell a j) → r ≡ n
   one_row a k r j v u = ap at (sym ((x.after.one_row a r).1 (k, v)) ∙ (x.after.one_row a n).1 (j, u))
     where
       at : Option NodeId → NodeId
@@ -46,7 +46,7 @@ module _ (D E : Document) (n : NodeId) (x : IsExtendedBy D E) (known : IsSome (D
     where
       stands : (r : NodeId) → D.place o.node ≡ Spot.Row r o.cell → is_full_in (content D n) o.cell ≡ true
       stands r f =
-          let there = has_later (x.rows r) (owned o.cell o.node) (x.before.own_cell o.node r o.cell f) in
+          let there = has_later (x.rows r) (owned_cell o.cell o.node) (x.before.own_cell o.node r o.cell f) in
           let row = one_row o.cell o.node r o.node there v in
           any_has (λ (s : Slot). s.full && same_cell s.cell o.cell) (content D n) (record { cell = o.cell; node = o.node; full = true }) (shown D x.before o.node n o.cell (f ∙ ap (λ q. Spot.Row q o.cell) row)) (same_cell-itself o.cell)
 

@@ -12,7 +12,7 @@ use Rattle.st_marks.specs.declared.intents.Owned.{Owned}
 use Rattle.st_marks.specs.declared.intents.To.{To}
 use Rattle.st_marks.specs.declared.places.Slot.{Slot}
 use Rattle.st_marks.specs.CarryOut.{with_groups}
-use Rattle.st_marks.specs.Document.{Document, IsSoundInForm, NodeType, content, owned}
+use Rattle.st_marks.specs.Document.{Document, IsSoundInForm, NodeType, content, owned_cell}
 use Rattle.st_marks.specs.Embedding.{row_part}
 use Rattle.st_marks.specs.Intent.{clears, group_at, group_cells, is_new, new_node, new_row_of, put_of}
 use Rattle.st_marks.specs.Join.{AreParts, IsJoin, IsOldAnchor, put_unless_new, unless_cleared_by}
@@ -111,7 +111,7 @@ module _ (D : Document) (N M J : Intent) (m k l : Nodes) (a b c : List NodeId) (
   older : (o : Owned) → Has (group_cells M) o → put_of N o.node ≢ Some (To.Cell o.cell)
   older o h e = elim (known_put D N parts.first_fits o.node (To.Cell o.cell) e).1 [
     | inl w ↦ never (D.row_of o.cell) (new_row_of N o.cell) (inl (ap is_some ((x.one_row o.cell w.0).1 (o.node, w.1)))) free
-    | inr w ↦ never (D.row_of o.cell) (new_row_of N o.cell) (inr (made_there N (owned o.cell o.node) w)) free
+    | inr w ↦ never (D.row_of o.cell) (new_row_of N o.cell) (inr (made_there N (owned_cell o.cell o.node) w)) free
   ]
     where
       free : option_or (D.row_of o.cell) (new_row_of N o.cell) ≡ None

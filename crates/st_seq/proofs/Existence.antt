@@ -3,7 +3,7 @@ use Rattle.std.proofs.Common.{◌≡◌, ◌<◌, ◌^◌, ◌&&◌, ◌||◌, t
 use Rattle.std.proofs.lemmas.List.{length-map}
 use Rattle.std.specs.FinMap.Entries.{below_all, is_sorted}
 use Rattle.std.specs.Ordering.{is_lt}
-use Rattle.st_ids.specs.Listing.{item_of, keyed}
+use Rattle.st_ids.specs.Listing.{item_of, key_pairs}
 use Rattle.st_ids.specs.Order.{node_cmp, same_node}
 use Rattle.st_ids.specs.declared.names.NodeId.{NodeId}
 use Rattle.st_kind.specs.Named.{Nodes}
@@ -59,11 +59,11 @@ has_step m c d g w v n = record {
 
 -- ## The new nodes of a change
 
-below_same : (a : NodeId) (xs : List NewNode) → below_all node_cmp a (keyed (λ (k : NewNode). k.node) xs) ≡ below_all node_cmp a (keyed (λ (n : NodeId). n) (nodes_new xs))
+below_same : (a : NodeId) (xs : List NewNode) → below_all node_cmp a (key_pairs (λ (k : NewNode). k.node) xs) ≡ below_all node_cmp a (key_pairs (λ (n : NodeId). n) (nodes_new xs))
 below_same a [] = refl
 below_same a (x ∷ xs) = ap (λ b. is_lt (node_cmp a x.node) && b) (below_same a xs)
 
-sorted_same : (xs : List NewNode) → is_sorted node_cmp (keyed (λ (k : NewNode). k.node) xs) ≡ is_sorted node_cmp (keyed (λ (n : NodeId). n) (nodes_new xs))
+sorted_same : (xs : List NewNode) → is_sorted node_cmp (key_pairs (λ (k : NewNode). k.node) xs) ≡ is_sorted node_cmp (key_pairs (λ (n : NodeId). n) (nodes_new xs))
 sorted_same [] = refl
 sorted_same (x ∷ xs) = λ i. below_same x.node xs i && sorted_same xs i
 

@@ -3,11 +3,11 @@ use Rattle.std.proofs.Common.{◌≡◌, ◌+◌, ◌<◌, ◌≤◌, ℕ, zero,
 use Rattle.std.proofs.lemmas.List.{take_more, get_or_default, take-append-drop, length-map, map-append}
 use Rattle.st_marks.proofs.MarkLengths.{spread-append}
 use Rattle.st_marks.specs.declared.marks.Mark.{Mark}
-use Rattle.st_marks.specs.Row.{CellMark, Counted, spread, counted}
+use Rattle.st_marks.specs.Row.{CellMark, Counted, spread, counted_cells}
 use Rattle.st_seq.specs.Reading.{cell_of}
 
 -- so many counted cells, each of which stays one
-pub map-counted : (f : CellMark → CellMark) (k : ℕ) → f Counted ≡ Counted → counted k [] ≡ map f (counted k [])
+pub map-counted : (f : CellMark → CellMark) (k : ℕ) → f Counted ≡ Counted → counted_cells k [] ≡ map f (counted_cells k [])
 map-counted f zero e = refl
 map-counted f (suc k) e = λ i. sym e i ∷ map-counted f k e i
 
@@ -41,7 +41,7 @@ map_fits f ms out r d i most l e g h =
 pub cell_is : (m : Mark) (x : CellMark) → spread (m ∷ []) ≡ x ∷ [] → cell_of m ≡ x
 cell_is (Mark.Skip k) x e = skipped k e
   where
-    skipped : (k : ℕ) → counted k [] ≡ x ∷ [] → Counted ≡ x
+    skipped : (k : ℕ) → counted_cells k [] ≡ x ∷ [] → Counted ≡ x
     skipped zero e = cc
     skipped (suc k) e = first e
       where

@@ -3,7 +3,7 @@ use Rattle.std.proofs.Common.{subst, ◌≡◌, ◌<◌, ℕ, zero, suc, ◌+◌
 use Rattle.std.specs.Option.{option_to_list}
 use Rattle.st_marks.proofs.MarkLengths.{spread-append}
 use Rattle.st_marks.specs.declared.marks.Mark.{Mark}
-use Rattle.st_marks.specs.Row.{CellMark, Counted, Gap, Touch, Make, Fill, spread, counted, merge, skip_one}
+use Rattle.st_marks.specs.Row.{CellMark, Counted, Gap, Touch, Make, Fill, spread, counted_cells, merge, skip_one}
 use Rattle.st_seq.specs.inside.NormalForm.{begins_with_skip}
 use Rattle.st_seq.specs.inside.Merged.{IsMerged, is_skip, count_in}
 
@@ -47,7 +47,7 @@ skip_first (Mark.Touch c n x ∷ ms) h = refl
 skip_first (Mark.Make c n b ∷ ms) h = refl
 skip_first (Mark.Fill c n ∷ ms) h = refl
 
-merge-counted : (k : ℕ) (cells : List CellMark) (ms : List Mark) → merge cells ≡ ms → begins_with_skip ms ≡ false → merge (counted (suc k) cells) ≡ Mark.Skip (suc k) ∷ ms
+merge-counted : (k : ℕ) (cells : List CellMark) (ms : List Mark) → merge cells ≡ ms → begins_with_skip ms ≡ false → merge (counted_cells (suc k) cells) ≡ Mark.Skip (suc k) ∷ ms
 merge-counted zero cells ms e h = ap skip_one e ∙ skip_first ms h
 merge-counted (suc k) cells ms e h = ap skip_one (merge-counted k cells ms e h)
 
@@ -65,26 +65,26 @@ merged-stands ms h = subst AllStand h (merge-stands (spread ms))
 
 -- ## Counts
 
-pub counted-plus : (j k : ℕ) (xs : List CellMark) → counted (j + k) xs ≡ counted j (counted k xs)
+pub counted-plus : (j k : ℕ) (xs : List CellMark) → counted_cells (j + k) xs ≡ counted_cells j (counted_cells k xs)
 counted-plus zero k xs = let e : zero + k ≡ k = omega arith in rw e refl
 counted-plus (suc j) k xs = let e : suc j + k ≡ suc (j + k) = omega arith in rw e (ap (λ l. Counted ∷ l) (counted-plus j k xs))
 
-pub length-counted : (k : ℕ) (xs : List CellMark) → length (counted k xs) ≡ k + length xs
+pub length-counted : (k : ℕ) (xs : List CellMark) → length (counted_cells k xs) ≡ k + length xs
 length-counted zero xs = omega arith
 length-counted (suc k) xs = omega (arith, length-counted k xs)
 
 -- one count in place of one that was taken off and one more
-pub count_more : (front old : List Mark) (j k : ℕ) → spread old ≡ spread front ++ counted j [] → spread (front ++ Mark.Skip (j + k) ∷ []) ≡ spread old ++ counted k []
+pub count_more : (front old : List Mark) (j k : ℕ) → spread old ≡ spread front ++ counted_cells j [] → spread (front ++ Mark.Skip (j + k) ∷ []) ≡ spread old ++ counted_cells k []
 count_more front old j k e =
     spread-append front (Mark.Skip (j + k) ∷ [])
     ∙ ap (λ l. spread front ++ l) (counted-plus j k [] ∙ spread-append (Mark.Skip j ∷ []) (Mark.Skip k ∷ []))
-    ∙ sym (append_assoc (spread front) (counted j []) (counted k []))
-    ∙ ap (λ l. l ++ counted k []) (sym e)
+    ∙ sym (append_assoc (spread front) (counted_cells j []) (counted_cells k []))
+    ∙ ap (λ l. l ++ counted_cells k []) (sym e)
 
 -- and it fits where there is room for its cells
-pub count_room : (front old : List Mark) (j k n : ℕ) → spread old ≡ spread front ++ counted j [] → length (spread old) + k < n → j + k < n
+pub count_room : (front old : List Mark) (j k n : ℕ) → spread old ≡ spread front ++ counted_cells j [] → length (spread old) + k < n → j + k < n
 count_room front old j k n e h =
-    let a : length (spread old) ≡ length (spread front) + (j + 0) = ap length e ∙ length-append (spread front) (counted j []) ∙ ap (λ l. length (spread front) + l) (length-counted j []) in
+    let a : length (spread old) ≡ length (spread front) + (j + 0) = ap length e ∙ length-append (spread front) (counted_cells j []) ∙ ap (λ l. length (spread front) + l) (length-counted j []) in
     omega arith
 
 -- ## One mark more at the end
@@ -200,7 +200,7 @@ counts (Mark.Fill c n) k e = cc
 
 -- a count was taken off
 pub counted_taken : (old new : List Mark) (m : Mark) (k : ℕ) → IsMerged old → slice_get old (length old - 1) ≡ Some m → count_in m ≡ Some k → new ≡ take (length old - 1) old
-    → (spread old ≡ spread new ++ counted k []) × ((i : ℕ) → 0 < i → IsMerged (new ++ Mark.Skip i ∷ []))
+    → (spread old ≡ spread new ++ counted_cells k []) × ((i : ℕ) → 0 < i → IsMerged (new ++ Mark.Skip i ∷ []))
 counted_taken old new m k h e c f =
     let is : old ≡ new ++ Mark.Skip k ∷ [] = last_item old m e ∙ (λ i. sym f i ++ counts m k c i ∷ []) in (
       ap spread is ∙ spread-append new (Mark.Skip k ∷ []),

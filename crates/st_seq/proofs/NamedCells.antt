@@ -11,7 +11,7 @@ use Rattle.st_ids.specs.declared.names.CellId.{CellId}
 use Rattle.st_marks.proofs.MarkLengths.{spread-append, before_more, after_more, after-append as cells_after-append, before-append as cells_before-append}
 use Rattle.st_marks.specs.declared.marks.Mark.{Mark}
 use Rattle.st_marks.specs.declared.places.Slot.{Slot}
-use Rattle.st_marks.specs.Row.{CellMark, Counted, Gap, Touch, Make, Fill, counted, spread}
+use Rattle.st_marks.specs.Row.{CellMark, Counted, Gap, Touch, Make, Fill, counted_cells, spread}
 use Rattle.st_marks.specs.Listings.{CellView, cells_after, cells_before, cell_view}
 use Rattle.st_seq.specs.Views.{row_views}
 use Rattle.st_seq.specs.NamedApart.{stands_at, standing_at, found_at, made_at, named_before, named_after, named_in_row, first_named, same_atom, CantBoth, NamedApart, named_apart}
@@ -48,11 +48,11 @@ named_in_row-append k [] d = ap (λ j. named_in_row j d) (omega arith)
 named_in_row-append k (s ∷ c) d = ap (λ l. found_at s.cell.0 k ∷ l) (named_in_row-append (suc k) c d ∙ ap (λ j. named_in_row (suc k) c ++ named_in_row j d) (moved_on k (length c)))
 
 -- counted cells have no names
-pub counted-before : (j k : ℕ) → named_before k (counted j []) ≡ []
+pub counted-before : (j k : ℕ) → named_before k (counted_cells j []) ≡ []
 counted-before zero k = refl
 counted-before (suc j) k = counted-before j (suc k)
 
-pub counted-after : (j k : ℕ) → named_after k (counted j []) ≡ []
+pub counted-after : (j k : ℕ) → named_after k (counted_cells j []) ≡ []
 counted-after zero k = refl
 counted-after (suc j) k = counted-after j (suc k)
 
@@ -138,11 +138,11 @@ standing_at-append k (s ∷ X) Y =
     ∙ sym (both_lists (stands_at s.full s.node k) (standing_at (suc k) X) (standing_at (k + suc (length X)) Y))
 
 -- counted cells name no node
-pub counted-standing_before : (j k : ℕ) → standing_at k (cells_before (counted j [])) ≡ []
+pub counted-standing_before : (j k : ℕ) → standing_at k (cells_before (counted_cells j [])) ≡ []
 counted-standing_before zero k = refl
 counted-standing_before (suc j) k = counted-standing_before j (suc k)
 
-pub counted-standing_after : (j k : ℕ) → standing_at k (cells_after (counted j [])) ≡ []
+pub counted-standing_after : (j k : ℕ) → standing_at k (cells_after (counted_cells j [])) ≡ []
 counted-standing_after zero k = refl
 counted-standing_after (suc j) k = counted-standing_after j (suc k)
 

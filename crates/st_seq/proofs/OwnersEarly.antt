@@ -13,7 +13,7 @@ use Rattle.st_marks.specs.declared.intents.To.{To}
 use Rattle.st_marks.specs.declared.marks.Mark.{Mark}
 use Rattle.st_marks.specs.declared.places.Slot.{Slot}
 use Rattle.st_marks.specs.Embedding.{is_among}
-use Rattle.st_marks.specs.Row.{CellMark, Counted, Gap, Touch, Make, Fill, RowPart, counted, how, spread, embed_cell, embed_made, embed_cells, embed_row}
+use Rattle.st_marks.specs.Row.{CellMark, Counted, Gap, Touch, Make, Fill, RowPart, counted_cells, how, spread, embed_cell, embed_made, embed_cells, embed_row}
 use Rattle.st_marks.specs.How.{is_here}
 use Rattle.st_marks.specs.Listings.{CellView, cell_view, cells_before, cells_made}
 use Rattle.st_marks.proofs.Members.{all-has, has-any, has-append}
@@ -49,7 +49,7 @@ early_on N M ms i left d old one new l o a e n =
     ∙ sym (first_early-append N M 0 (cells_before (spread (take i ms))) (cells_before (spread (get_or ms i d ∷ []))))
     ∙ ap (first_early N M 0) (sym (before-append (spread (take i ms)) (spread (get_or ms i d ∷ []))) ∙ ap cells_before (sym (more_cells ms i (get_or ms i d) l (get_or_default ms i (get_or ms i d) d l))))
 
-pub counted-early : (N M : List NamedAt) (j k : ℕ) → first_early N M k (cells_before (counted j [])) ≡ None
+pub counted-early : (N M : List NamedAt) (j k : ℕ) → first_early N M k (cells_before (counted_cells j [])) ≡ None
 counted-early N M zero k = refl
 counted-early N M (suc j) k = counted-early N M j (suc k)
 
@@ -74,7 +74,7 @@ made_on ms i d out new one l o e n =
     n ∙ (λ j. o j ++ sym e j) ∙ sym (map-append cell_name (cells_made (spread (take i ms))) (cells_made (spread (get_or ms i d ∷ []))))
     ∙ ap (map cell_name) (sym (cells_made-append (spread (take i ms)) (spread (get_or ms i d ∷ []))) ∙ ap cells_made (sym (more_cells ms i (get_or ms i d) l (get_or_default ms i (get_or ms i d) d l))))
 
-pub counted-made : (j : ℕ) → map cell_name (cells_made (counted j [])) ≡ []
+pub counted-made : (j : ℕ) → map cell_name (cells_made (counted_cells j [])) ≡ []
 counted-made zero = refl
 counted-made (suc j) = counted-made j
 

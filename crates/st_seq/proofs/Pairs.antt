@@ -1,7 +1,7 @@
 -- One turn of a walk over two listings.
 use Rattle.std.proofs.Common.{sym, ◌≡◌, ℕ, zero, suc, ◌+◌, ◌-◌, ◌<◌, ◌≤◌, Bool, true, false, List, ◌∷◌, ◌++◌, Option, Some, None, option_map, length, refl, ap, ◌∙◌, arith}
 use Rattle.st_marks.specs.declared.marks.Mark.{Mark}
-use Rattle.st_marks.specs.Row.{CellMark, Counted, Gap, Touch, Make, Fill, spread, counted}
+use Rattle.st_marks.specs.Row.{CellMark, Counted, Gap, Touch, Make, Fill, spread, counted_cells}
 use Rattle.st_marks.specs.declared.places.Slot.{Slot}
 use Rattle.st_marks.specs.Listings.{CellView, cell_view, cells_before, cells_after}
 use Rattle.st_seq.specs.inside.Cells.{after_row}
@@ -61,13 +61,13 @@ beside-both (Touch c n h) b xs ys e f = meeting-both (Touch c n h) b (beside xs)
 beside-both (Make c n x) b xs ys e f = cc
 beside-both (Fill c n) b xs ys e f = meeting-both (Fill c n) b (beside xs) ys f
 
-one_more : (o : Option ℕ) → option_map (λ k. k + 1) o ≡ option_map (λ k. 1 + k) o
-one_more None = refl
-one_more (Some k) = let e : k + 1 ≡ 1 + k = omega arith in ap (λ j. Some j) e
+option_map-next : (o : Option ℕ) → option_map (λ k. k + 1) o ≡ option_map (λ k. 1 + k) o
+option_map-next None = refl
+option_map-next (Some k) = let e : k + 1 ≡ 1 + k = omega arith in ap (λ j. Some j) e
 
 -- one cell of each
 pub next_agrees : (s t : CellView) (ss ts : List CellView) → agree s t ≡ true → first_difference (s ∷ ss) (t ∷ ts) ≡ option_map (λ k. 1 + k) (first_difference ss ts)
-next_agrees s t ss ts e = rw e (one_more (first_difference ss ts))
+next_agrees s t ss ts e = rw e (option_map-next (first_difference ss ts))
 
 pub next_differs : (s t : CellView) (ss ts : List CellView) → agree s t ≡ false → first_difference (s ∷ ss) (t ∷ ts) ≡ Some 0
 next_differs s t ss ts e = rw e refl
@@ -106,53 +106,53 @@ none-added : (o : Option ℕ) → o ≡ option_map (λ j. zero + j) o
 none-added None = refl
 none-added (Some j) = let e : j ≡ zero + j = omega arith in ap (λ i. Some i) e
 
-after-counted : (k : ℕ) (xs ys : List CellMark) → first_difference (cells_after (counted k xs)) (cells_before (counted k ys)) ≡ option_map (λ j. k + j) (first_difference (cells_after xs) (cells_before ys))
+after-counted : (k : ℕ) (xs ys : List CellMark) → first_difference (cells_after (counted_cells k xs)) (cells_before (counted_cells k ys)) ≡ option_map (λ j. k + j) (first_difference (cells_after xs) (cells_before ys))
 after-counted zero xs ys = none-added (first_difference (cells_after xs) (cells_before ys))
 after-counted (suc k) xs ys = ap (option_map (λ j. j + 1)) (after-counted k xs ys) ∙ more-added k (first_difference (cells_after xs) (cells_before ys))
 
-before-counted : (k : ℕ) (xs ys : List CellMark) → first_difference (cells_before (counted k xs)) (cells_before (counted k ys)) ≡ option_map (λ j. k + j) (first_difference (cells_before xs) (cells_before ys))
+before-counted : (k : ℕ) (xs ys : List CellMark) → first_difference (cells_before (counted_cells k xs)) (cells_before (counted_cells k ys)) ≡ option_map (λ j. k + j) (first_difference (cells_before xs) (cells_before ys))
 before-counted zero xs ys = none-added (first_difference (cells_before xs) (cells_before ys))
 before-counted (suc k) xs ys = ap (option_map (λ j. j + 1)) (before-counted k xs ys) ∙ more-added k (first_difference (cells_before xs) (cells_before ys))
 
-in_turn-counted : (k : ℕ) (xs ys : List CellMark) → in_turn (counted k xs) (counted k ys) ≡ both_counted k ++ in_turn xs ys
+in_turn-counted : (k : ℕ) (xs ys : List CellMark) → in_turn (counted_cells k xs) (counted_cells k ys) ≡ both_counted k ++ in_turn xs ys
 in_turn-counted zero xs ys = refl
 in_turn-counted (suc k) xs ys = ap (λ l. Both Counted Counted ∷ l) (in_turn-counted k xs ys)
 
-beside-counted : (k : ℕ) (xs ys : List CellMark) → beside (counted k xs) (counted k ys) ≡ both_counted k ++ beside xs ys
+beside-counted : (k : ℕ) (xs ys : List CellMark) → beside (counted_cells k xs) (counted_cells k ys) ≡ both_counted k ++ beside xs ys
 beside-counted zero xs ys = refl
 beside-counted (suc k) xs ys = ap (λ l. Both Counted Counted ∷ l) (beside-counted k xs ys)
 
-split : (p k : ℕ) (xs : List CellMark) → k ≤ p → counted p xs ≡ counted k (counted (p - k) xs)
-split p k xs h = let e : p ≡ k + (p - k) = omega arith in ap (λ n. counted n xs) e ∙ counted-plus k (p - k) xs
+split : (p k : ℕ) (xs : List CellMark) → k ≤ p → counted_cells p xs ≡ counted_cells k (counted_cells (p - k) xs)
+split p k xs h = let e : p ≡ k + (p - k) = omega arith in ap (λ n. counted_cells n xs) e ∙ counted-plus k (p - k) xs
 
-shorter : (p q k : ℕ) (X Y xs ys : List CellMark) → 0 < k → k ≤ p → k ≤ q → X ≡ counted p xs → Y ≡ counted q ys → length (counted (p - k) xs) + length (counted (q - k) ys) < length X + length Y
+shorter : (p q k : ℕ) (X Y xs ys : List CellMark) → 0 < k → k ≤ p → k ≤ q → X ≡ counted_cells p xs → Y ≡ counted_cells q ys → length (counted_cells (p - k) xs) + length (counted_cells (q - k) ys) < length X + length Y
 shorter p q k X Y xs ys pos a b e f =
     let lx : length X ≡ p + length xs = ap length e ∙ length-counted p xs in
     let ly : length Y ≡ q + length ys = ap length f ∙ length-counted q ys in
-    let rx : length (counted (p - k) xs) ≡ (p - k) + length xs = length-counted (p - k) xs in
-    let ry : length (counted (q - k) ys) ≡ (q - k) + length ys = length-counted (q - k) ys in
+    let rx : length (counted_cells (p - k) xs) ≡ (p - k) + length xs = length-counted (p - k) xs in
+    let ry : length (counted_cells (q - k) ys) ≡ (q - k) + length ys = length-counted (q - k) ys in
     omega (arith, lx, ly, rx, ry)
 
-found-counted : (k : ℕ) (xs : List CellMark) → length (cells_before (counted k xs)) ≡ k + length (cells_before xs)
+found-counted : (k : ℕ) (xs : List CellMark) → length (cells_before (counted_cells k xs)) ≡ k + length (cells_before xs)
 found-counted zero xs = omega arith
 found-counted (suc k) xs = omega (arith, found-counted k xs)
 
-pub counted_in_turn : (p q k : ℕ) (X Y xs ys : List CellMark) → 0 < k → k ≤ p → k ≤ q → X ≡ counted p xs → Y ≡ counted q ys
-    → (in_turn X Y ≡ both_counted k ++ in_turn (counted (p - k) xs) (counted (q - k) ys)) × (first_difference (cells_after X) (cells_before Y) ≡ option_map (λ j. k + j) (first_difference (cells_after (counted (p - k) xs)) (cells_before (counted (q - k) ys)))) × (length (counted (p - k) xs) + length (counted (q - k) ys) < length X + length Y) × (length (cells_before Y) ≡ k + length (cells_before (counted (q - k) ys)))
+pub counted_in_turn : (p q k : ℕ) (X Y xs ys : List CellMark) → 0 < k → k ≤ p → k ≤ q → X ≡ counted_cells p xs → Y ≡ counted_cells q ys
+    → (in_turn X Y ≡ both_counted k ++ in_turn (counted_cells (p - k) xs) (counted_cells (q - k) ys)) × (first_difference (cells_after X) (cells_before Y) ≡ option_map (λ j. k + j) (first_difference (cells_after (counted_cells (p - k) xs)) (cells_before (counted_cells (q - k) ys)))) × (length (counted_cells (p - k) xs) + length (counted_cells (q - k) ys) < length X + length Y) × (length (cells_before Y) ≡ k + length (cells_before (counted_cells (q - k) ys)))
 counted_in_turn p q k X Y xs ys pos a b e f = (
-  (λ i. in_turn ((e ∙ split p k xs a) i) ((f ∙ split q k ys b) i)) ∙ in_turn-counted k (counted (p - k) xs) (counted (q - k) ys),
-  (λ i. first_difference (cells_after ((e ∙ split p k xs a) i)) (cells_before ((f ∙ split q k ys b) i))) ∙ after-counted k (counted (p - k) xs) (counted (q - k) ys),
+  (λ i. in_turn ((e ∙ split p k xs a) i) ((f ∙ split q k ys b) i)) ∙ in_turn-counted k (counted_cells (p - k) xs) (counted_cells (q - k) ys),
+  (λ i. first_difference (cells_after ((e ∙ split p k xs a) i)) (cells_before ((f ∙ split q k ys b) i))) ∙ after-counted k (counted_cells (p - k) xs) (counted_cells (q - k) ys),
   shorter p q k X Y xs ys pos a b e f,
-  ap (λ l. length (cells_before l)) (f ∙ split q k ys b) ∙ found-counted k (counted (q - k) ys),
+  ap (λ l. length (cells_before l)) (f ∙ split q k ys b) ∙ found-counted k (counted_cells (q - k) ys),
 )
 
-pub counted_beside : (p q k : ℕ) (X Y xs ys : List CellMark) → 0 < k → k ≤ p → k ≤ q → X ≡ counted p xs → Y ≡ counted q ys
-    → (beside X Y ≡ both_counted k ++ beside (counted (p - k) xs) (counted (q - k) ys)) × (first_difference (cells_before X) (cells_before Y) ≡ option_map (λ j. k + j) (first_difference (cells_before (counted (p - k) xs)) (cells_before (counted (q - k) ys)))) × (length (counted (p - k) xs) + length (counted (q - k) ys) < length X + length Y) × (length (cells_before Y) ≡ k + length (cells_before (counted (q - k) ys)))
+pub counted_beside : (p q k : ℕ) (X Y xs ys : List CellMark) → 0 < k → k ≤ p → k ≤ q → X ≡ counted_cells p xs → Y ≡ counted_cells q ys
+    → (beside X Y ≡ both_counted k ++ beside (counted_cells (p - k) xs) (counted_cells (q - k) ys)) × (first_difference (cells_before X) (cells_before Y) ≡ option_map (λ j. k + j) (first_difference (cells_before (counted_cells (p - k) xs)) (cells_before (counted_cells (q - k) ys)))) × (length (counted_cells (p - k) xs) + length (counted_cells (q - k) ys) < length X + length Y) × (length (cells_before Y) ≡ k + length (cells_before (counted_cells (q - k) ys)))
 counted_beside p q k X Y xs ys pos a b e f = (
-  (λ i. beside ((e ∙ split p k xs a) i) ((f ∙ split q k ys b) i)) ∙ beside-counted k (counted (p - k) xs) (counted (q - k) ys),
-  (λ i. first_difference (cells_before ((e ∙ split p k xs a) i)) (cells_before ((f ∙ split q k ys b) i))) ∙ before-counted k (counted (p - k) xs) (counted (q - k) ys),
+  (λ i. beside ((e ∙ split p k xs a) i) ((f ∙ split q k ys b) i)) ∙ beside-counted k (counted_cells (p - k) xs) (counted_cells (q - k) ys),
+  (λ i. first_difference (cells_before ((e ∙ split p k xs a) i)) (cells_before ((f ∙ split q k ys b) i))) ∙ before-counted k (counted_cells (p - k) xs) (counted_cells (q - k) ys),
   shorter p q k X Y xs ys pos a b e f,
-  ap (λ l. length (cells_before l)) (f ∙ split q k ys b) ∙ found-counted k (counted (q - k) ys),
+  ap (λ l. length (cells_before l)) (f ∙ split q k ys b) ∙ found-counted k (counted_cells (q - k) ys),
 )
 
 -- ## A cell that the second listing makes, before one that both find

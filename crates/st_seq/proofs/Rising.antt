@@ -9,7 +9,7 @@ use Rattle.std.specs.List.Sorted.{IsBinarySearchResult}
 use Rattle.std.specs.Prelude.{Err}
 use Rattle.std.proofs.lemmas.List.{take-append-drop}
 use Rattle.st_seq.proofs.Searching.{rises}
-use Rattle.st_ids.specs.Listing.{IsRising, item_of, keyed}
+use Rattle.st_ids.specs.Listing.{IsRising, item_of, key_pairs}
 use Rattle.st_ids.specs.Order.{node_cmp, same_node}
 use Rattle.st_ids.proofs.Orders.{node_cmp_total, node_cmp_exact, same_node-true, same_listing}
 use Rattle.st_ids.specs.declared.names.NodeId.{NodeId}
@@ -28,36 +28,36 @@ one_way a b = ap is_eq (node_cmp_total.antisymm a b) ∙ turned (node_cmp b a)
     turned Equal = refl
     turned Greater = refl
 
-found : (xs : List NodeId) (n : NodeId) → item_of node_cmp (λ (x : NodeId). x) xs n ≡ cond (is_among xs n) (Some n) None
-found [] n = refl
-found (x ∷ xs) n = (λ i. cond (one_way n x i) (Some x) (found xs n i)) ∙ elim (same_node x n) as (λ b. same_node x n ≡ b → cond b (Some x) (cond (is_among xs n) (Some n) None) ≡ cond (b || is_among xs n) (Some n) None) [
+item_of-is_among : (xs : List NodeId) (n : NodeId) → item_of node_cmp (λ (x : NodeId). x) xs n ≡ cond (is_among xs n) (Some n) None
+item_of-is_among [] n = refl
+item_of-is_among (x ∷ xs) n = (λ i. cond (one_way n x i) (Some x) (item_of-is_among xs n i)) ∙ elim (same_node x n) as (λ b. same_node x n ≡ b → cond b (Some x) (cond (is_among xs n) (Some n) None) ≡ cond (b || is_among xs n) (Some n) None) [
   | true ↦ (λ e. ap (λ (y : NodeId). Some y) (same_node-true x n e))
   | false ↦ (λ e. refl)
 ] refl
 
 -- two rising lists that have the same nodes are one
 pub one_rising : (xs ys : List NodeId) → IsRising node_cmp (λ (x : NodeId). x) xs → IsRising node_cmp (λ (x : NodeId). x) ys → ((n : NodeId) → is_among xs n ≡ is_among ys n) → xs ≡ ys
-one_rising xs ys r q h = same_listing node_cmp_total node_cmp_exact (λ (x : NodeId). x) xs ys r q (λ n. found xs n ∙ ap (λ b. cond b (Some n) None) (h n) ∙ sym (found ys n))
+one_rising xs ys r q h = same_listing node_cmp_total node_cmp_exact (λ (x : NodeId). x) xs ys r q (λ n. item_of-is_among xs n ∙ ap (λ b. cond b (Some n) None) (h n) ∙ sym (item_of-is_among ys n))
 
 -- ## Node by node
 
 abbrev Below : NodeId → List NodeId → Type 0
-Below a xs = below_all node_cmp a (keyed (λ (x : NodeId). x) xs) ≡ true
+Below a xs = below_all node_cmp a (key_pairs (λ (x : NodeId). x) xs) ≡ true
 
 below_more : (a b : NodeId) (xs : List NodeId) → is_lt (node_cmp a b) ≡ true → Below b xs → Below a xs
 below_more a b [] e h = refl
 below_more a b (x ∷ xs) e h =
-    let r = and-true (is_lt (node_cmp b x)) (below_all node_cmp b (keyed (λ (x : NodeId). x) xs)) h in
-    and-both (is_lt (node_cmp a x)) (below_all node_cmp a (keyed (λ (x : NodeId). x) xs)) (ap is_lt (node_cmp_total.trans a b x (is_lt-Less (node_cmp a b) e) (is_lt-Less (node_cmp b x) r.0))) (below_more a b xs e r.1)
+    let r = and-true (is_lt (node_cmp b x)) (below_all node_cmp b (key_pairs (λ (x : NodeId). x) xs)) h in
+    and-both (is_lt (node_cmp a x)) (below_all node_cmp a (key_pairs (λ (x : NodeId). x) xs)) (ap is_lt (node_cmp_total.trans a b x (is_lt-Less (node_cmp a b) e) (is_lt-Less (node_cmp b x) r.0))) (below_more a b xs e r.1)
 
 -- whether nodes rise
 abbrev pub rising : List NodeId → Bool
-rising xs = is_sorted node_cmp (keyed (λ (x : NodeId). x) xs)
+rising xs = is_sorted node_cmp (key_pairs (λ (x : NodeId). x) xs)
 
 rising_on : (a b : NodeId) (xs : List NodeId) → is_lt (node_cmp a b) ≡ true → rising (a ∷ (b ∷ xs)) ≡ rising (b ∷ xs)
-rising_on a b xs e = elim (rising (b ∷ xs)) as (λ z. rising (b ∷ xs) ≡ z → (below_all node_cmp a (keyed (λ (x : NodeId). x) (b ∷ xs)) && z) ≡ z) [
+rising_on a b xs e = elim (rising (b ∷ xs)) as (λ z. rising (b ∷ xs) ≡ z → (below_all node_cmp a (key_pairs (λ (x : NodeId). x) (b ∷ xs)) && z) ≡ z) [
   | true ↦ (λ h. and-both _ true (and-both _ _ e (below_more a b xs e (and-true _ _ h).0)) refl)
-  | false ↦ (λ h. none (below_all node_cmp a (keyed (λ (x : NodeId). x) (b ∷ xs))))
+  | false ↦ (λ h. none (below_all node_cmp a (key_pairs (λ (x : NodeId). x) (b ∷ xs))))
 ] refl
   where
     none : (x : Bool) → (x && false) ≡ false
@@ -65,7 +65,7 @@ rising_on a b xs e = elim (rising (b ∷ xs)) as (λ z. rising (b ∷ xs) ≡ z 
     none false = refl
 
 rising_not : (a b : NodeId) (xs : List NodeId) → is_lt (node_cmp a b) ≡ false → rising (a ∷ (b ∷ xs)) ≡ false
-rising_not a b xs e = ap (λ z. (z && below_all node_cmp a (keyed (λ (x : NodeId). x) xs)) && rising (b ∷ xs)) e
+rising_not a b xs e = ap (λ z. (z && below_all node_cmp a (key_pairs (λ (x : NodeId). x) xs)) && rising (b ∷ xs)) e
 
 pub rising_behind : (a : NodeId) (xs : List NodeId) → below_first a xs ≡ true → rising (a ∷ xs) ≡ rising xs
 rising_behind a [] e = refl

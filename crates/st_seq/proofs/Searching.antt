@@ -5,7 +5,7 @@ use Rattle.std.specs.declared.cmp.Ordering.TheVariants.{Less, Equal, Greater}
 use Rattle.std.specs.List.Sorted.{IsBinarySearchResult, IsNonDecreasingBy}
 use Rattle.std.specs.Prelude.{Result, Ok, Err, is_ok, MatchResult, IsTrue}
 use Rattle.std.proofs.lemmas.List.Sorted.{searchable_from_sorted}
-use Rattle.st_ids.specs.Listing.{IsRising, keyed}
+use Rattle.st_ids.specs.Listing.{IsRising, key_pairs}
 use Rattle.std.specs.FinMap.Entries.{below_all}
 use Rattle.std.specs.Ordering.{is_lt, ordering_reverse, ordering_index, is_eq}
 use Rattle.st_ids.proofs.Orders.{node_cmp_total}
@@ -26,7 +26,7 @@ some_there (y ∷ ys) x (suc k) h l = elim (same_node y x) as (λ b. (b || is_am
 -- ## A rising list
 
 abbrev below : NodeId → List NodeId → Type 0
-below x ys = IsTrue (below_all node_cmp x (keyed (λ (n : NodeId). n) ys))
+below x ys = IsTrue (below_all node_cmp x (key_pairs (λ (n : NodeId). n) ys))
 
 not_after : (a b : NodeId) → is_lt (node_cmp a b) ≡ true → is_lt (node_cmp b a) ≡ false
 not_after a b h = ap is_lt (node_cmp_total.antisymm b a) ∙ turned (node_cmp a b) h

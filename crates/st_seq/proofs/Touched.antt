@@ -7,7 +7,7 @@ use Rattle.st_ids.specs.declared.names.NodeId.{NodeId}
 use Rattle.st_marks.specs.declared.marks.How.{How}
 use Rattle.st_marks.proofs.MarkLengths.{spread-append}
 use Rattle.st_marks.specs.declared.marks.Mark.{Mark}
-use Rattle.st_marks.specs.Row.{CellMark, Counted, Gap, Touch, Make, Fill, spread, counted}
+use Rattle.st_marks.specs.Row.{CellMark, Counted, Gap, Touch, Make, Fill, spread, counted_cells}
 use Rattle.st_seq.specs.inside.Cells.{touch_of}
 use Rattle.st_lemmas.proofs.Options.{option_or-assoc}
 
@@ -23,7 +23,7 @@ touch-append (Touch c m h ∷ xs) ys n = ap (λ o. option_or o (cond (same_node 
 touch-append (Make c m b ∷ xs) ys n = touch-append xs ys n
 touch-append (Fill c m ∷ xs) ys n = touch-append xs ys n
 
-pub counted-untouched : (k : ℕ) (n : NodeId) → touch_of (counted k []) n ≡ None
+pub counted-untouched : (k : ℕ) (n : NodeId) → touch_of (counted_cells k []) n ≡ None
 counted-untouched zero n = refl
 counted-untouched (suc k) n = counted-untouched k n
 

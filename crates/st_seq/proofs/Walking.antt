@@ -1,13 +1,13 @@
 -- What a walk over two listings has written so far.
 use Rattle.std.proofs.Common.{◌≡◌, ℕ, zero, suc, ◌+◌, ◌≤◌, List, [], ◌∷◌, ◌++◌, Option, Some, None, option_map, map, length, refl, sym, ap, ◌∙◌, arith, append_assoc, length-append}
 use Rattle.std.proofs.lemmas.List.{map-append}
-use Rattle.st_marks.specs.Row.{CellMark, Counted, Gap, Touch, Make, Fill, counted}
+use Rattle.st_marks.specs.Row.{CellMark, Counted, Gap, Touch, Make, Fill, counted_cells}
 use Rattle.st_marks.specs.Listings.{cells_before, cells_made}
 use Rattle.st_seq.specs.Changes.{may_list}
 use Rattle.st_seq.specs.inside.Turns.{both_counted}
 use Rattle.st_seq.specs.inside.Walks.{CellPiece, Both, in_turn, meeting, beside}
 
-pub map-both_counted : (f : CellPiece → CellMark) (k : ℕ) → f (Both Counted Counted) ≡ Counted → counted k [] ≡ map f (both_counted k)
+pub map-both_counted : (f : CellPiece → CellMark) (k : ℕ) → f (Both Counted Counted) ≡ Counted → counted_cells k [] ≡ map f (both_counted k)
 map-both_counted f zero e = refl
 map-both_counted f (suc k) e = λ i. sym e i ∷ map-both_counted f k e i
 

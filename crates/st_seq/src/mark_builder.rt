@@ -1,6 +1,6 @@
 //! Marks that are written one after another, in their normal form.
 ghost use Rattle.std.specs.Prelude.{◌≡◌, ◌+◌, ◌^◌, ◌<◌, ◌∷◌, [], ◌++◌, length, OnOk, ℕ, false};
-ghost use Rattle.st_marks.specs.Row.{spread, counted};
+ghost use Rattle.st_marks.specs.Row.{spread, counted_cells};
 ghost use Rattle.st_marks.specs.declared.marks.Mark.{Mark as AnyMark};
 ghost use Rattle.st_seq.specs.inside.Merged.{IsMerged, is_skip, count_in};
 
@@ -21,7 +21,7 @@ fn count_of(mark: Mark) -> Option<u32>
 /// Takes the count off that stands at the end, if one does.
 fn take_count(out: &mut List<Mark>) -> u32
     requires { IsMerged out.old }
-    ensures cells { spread out.old ≡ spread out.new ++ counted result [] }
+    ensures cells { spread out.old ≡ spread out.new ++ counted_cells result [] }
     ensures more { (k : ℕ) → 0 < k → IsMerged (out.new ++ AnyMark.Skip k ∷ []) }
 {
     match out.as_slice().last().copied() {
@@ -42,7 +42,7 @@ fn push_count(out: &mut List<Mark>, k: u32) -> Result<(), AllocError>
     requires some { 0 < k }
     requires room { length (spread out.old) + k < 2 ^ 32 }
     ensures merged { OnOk result (IsMerged out.new) }
-    ensures cells { OnOk result (spread out.new ≡ spread out.old ++ counted k []) }
+    ensures cells { OnOk result (spread out.new ≡ spread out.old ++ counted_cells k []) }
 {
     let j = take_count(out);
     out.push(Mark::Skip(j + k))?;

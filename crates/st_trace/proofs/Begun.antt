@@ -26,6 +26,7 @@ use Rattle.st_schema.specs.Schema.{SchemaView}
 use Rattle.st_schema.specs.Conforms.{verdicts, allows_of}
 use Rattle.st_schema.specs.Written.{schema_data}
 use Rattle.st_schema.proofs.AllowedForm.{conforming_formed}
+use Rattle.st_opening.proofs.PreorderNames.{listed_length}
 use Rattle.st_opening.specs.Start.{first_said, type_at, cell_at, start_of}
 use Rattle.st_opening.proofs.StartSound.{start_sound}
 use Rattle.st_log_laws.specs.Names.{IsMadeUnder}
@@ -71,24 +72,6 @@ mutual
       AllByRecursion-append (IsOf rev) (tree_listed rev (at_of rev owner key row c) n (c + cells_taken row) t) (items_listed rev owner key row (n + node_count t) (c + (cells_taken row + cell_count t)) ts)
       (tree_of rev (at_of rev owner key row c) n (c + cells_taken row) t (cell_of rev owner key row c))
       (items_of rev owner key row (n + node_count t) (c + (cells_taken row + cell_count t)) ts)
-
-mutual
-  listed_length : (rev : Rev) (at : FlatAt) (n c : ℕ) (t : Node) → length (tree_listed rev at n c t) ≡ node_count t
-  listed_length rev at n c (node ty leaf fields) = let h = fields_length rev n (n + 1) c fields in omega (arith, h)
-
-  fields_length : (rev : Rev) (owner n c : ℕ) (fs : Fields) → length (fields_listed rev owner n c fs) ≡ field_count fs
-  fields_length rev owner n c no_fields = refl
-  fields_length rev owner n c (field key row items rest) =
-      let a = items_length rev owner key row n c items in
-      let b = fields_length rev owner (n + item_count items) (c + item_cells row items) rest in
-      length-append (items_listed rev owner key row n c items) _ ∙ (λ i. a i + b i)
-
-  items_length : (rev : Rev) (owner : ℕ) (key : List ℕ) (row : Bool) (n c : ℕ) (ts : Nodes) → length (items_listed rev owner key row n c ts) ≡ item_count ts
-  items_length rev owner key row n c no_nodes = refl
-  items_length rev owner key row n c (first t ts) =
-      let a = listed_length rev (at_of rev owner key row c) n (c + cells_taken row) t in
-      let b = items_length rev owner key row (n + node_count t) (c + (cells_taken row + cell_count t)) ts in
-      length-append (tree_listed rev (at_of rev owner key row c) n (c + cells_taken row) t) _ ∙ (λ i. a i + b i)
 
 -- ## The document of such a list
 

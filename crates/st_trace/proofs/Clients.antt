@@ -10,7 +10,7 @@ use Rattle.st_ids.specs.declared.names.NodeId.{NodeId}
 use Rattle.st_ids.specs.declared.names.Rev.{Rev}
 use Rattle.st_tree.specs.Preorder.{cell_named, node_named}
 use Rattle.st_marks.specs.declared.intents.Intent.{Intent}
-use Rattle.st_marks.specs.Document.{Document, NodeType, IsSoundInForm, owned}
+use Rattle.st_marks.specs.Document.{Document, NodeType, IsSoundInForm, owned_cell}
 use Rattle.st_ids.specs.Root.{opening}
 use Rattle.st_marks.specs.Extends.{item_kept}
 use Rattle.st_marks.specs.Intent.{Fits}
@@ -160,7 +160,7 @@ module _ (h : HeaderView) (st : IsStart (opening_document h)) where
       go None e = e
       go (Some n) e =
           let p = ((shown_sound log c D k r).one_row (cell_named (next_rev c) j) n).0 e in
-          absurd (shown_new log c (next_rev c) k refl ((made_in_run (opening ∷ []) k.shown_fit r st.made).cells n (owned (cell_named (next_rev c) j) p.0) p.1))
+          absurd (shown_new log c (next_rev c) k refl ((made_in_run (opening ∷ []) k.shown_fit r st.made).cells n (owned_cell (cell_named (next_rev c) j) p.0) p.1))
 
   -- ## A commit of its own is pending
 

@@ -11,7 +11,7 @@ use Rattle.st_marks.specs.declared.verdicts.Verdict.{Verdict}
 use Rattle.st_marks.specs.Document.{Document}
 use Rattle.st_marks.specs.Intent.{Fits}
 use Rattle.st_marks.specs.Run.{Run, done as nothing, next}
-use Rattle.st_marks.specs.Verdict.{IsVerdict, carried}
+use Rattle.st_marks.specs.Verdict.{IsVerdict, carried_document}
 use Rattle.st_marks.proofs.OneVerdict.{run_then, run_front, one_run, one_carried}
 use Rattle.st_log_laws.specs.Turns.{FitInTurn}
 use Rattle.st_log_laws.proofs.Turns.{in_turn, rest as rest_fit}
@@ -37,12 +37,12 @@ use Rattle.st_trace.proofs.Clients.{client_committed, client_own, client_other, 
 use Rattle.st_lists.proofs.Logs.{one_commit, no_commit, entered_front}
 
 -- one more commit is carried out
-pub run_more : {O D : Document} {Ns : List Intent} (N : Intent) (E : Document) (v : Verdict) → Run O Ns D → IsVerdict D N v → E ≡ carried v D N → Run O (Ns ++ N ∷ []) E
+pub run_more : {O D : Document} {Ns : List Intent} (N : Intent) (E : Document) (v : Verdict) → Run O Ns D → IsVerdict D N v → E ≡ carried_document v D N → Run O (Ns ++ N ∷ []) E
 run_more {O} {D} {Ns} N E v r a e = subst (λ F. Run O (Ns ++ N ∷ []) F) (sym e) (run_then r (next v a nothing))
 
 -- an intent is carried out in two documents that are one
-pub both_carried : (D E X Y : Document) (N : Intent) (v w : Verdict) → D ≡ E → IsVerdict D N v → IsVerdict E N w → X ≡ carried v D N → Y ≡ carried w E N → X ≡ Y
-both_carried D E X Y N v w same a b x y = x ∙ ap (λ F. carried v F N) same ∙ one_carried E N v w (subst (λ F. IsVerdict F N v) same a) b ∙ sym y
+pub both_carried : (D E X Y : Document) (N : Intent) (v w : Verdict) → D ≡ E → IsVerdict D N v → IsVerdict E N w → X ≡ carried_document v D N → Y ≡ carried_document w E N → X ≡ Y
+both_carried D E X Y N v w same a b x y = x ∙ ap (λ F. carried_document v F N) same ∙ one_carried E N v w (subst (λ F. IsVerdict F N v) same a) b ∙ sym y
 
 -- what a client and what is kept of it are together
 pub record AreOne (h : HeaderView) (log : List Entry) (c : Client) (k : Replica) : Type 0 where

@@ -26,7 +26,7 @@ use Rattle.st_marks.specs.CarryOut.{void, void_data}
 use Rattle.st_marks.specs.Intent.{Fits, new_node, new_type}
 use Rattle.st_marks.specs.LiveTree.{IsTreeText}
 use Rattle.st_marks.specs.Run.{Run, done, next}
-use Rattle.st_marks.specs.Verdict.{carried}
+use Rattle.st_marks.specs.Verdict.{carried_document}
 use Rattle.st_marks.proofs.Members.{append_left, append_right}
 use Rattle.st_opening.specs.Start.{first_said, type_at}
 use Rattle.st_log_laws.proofs.Turns.{has_run}
@@ -111,7 +111,7 @@ void_nodes D N n h = go N.schema h
     go None h = one_of (D.nodes n) (new_type N n) h
     go (Some t) h = inl h
 
-carried_nodes : (v : Verdict) (D : Document) (N : Intent) (n : NodeId) → IsSome ((carried v D N).nodes n) → IsSome (D.nodes n) ⊎ IsSome (new_type N n)
+carried_nodes : (v : Verdict) (D : Document) (N : Intent) (n : NodeId) → IsSome ((carried_document v D N).nodes n) → IsSome (D.nodes n) ⊎ IsSome (new_type N n)
 carried_nodes Verdict.Sound D N n h = one_of (D.nodes n) (new_type N n) h
 carried_nodes (Verdict.Need m) D N n h = void_nodes D N n h
 carried_nodes (Verdict.Cycle m) D N n h = void_nodes D N n h

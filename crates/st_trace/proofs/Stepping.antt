@@ -18,7 +18,7 @@ use Rattle.st_marks.specs.Document.{Document, IsSoundInForm}
 use Rattle.st_ids.specs.Root.{opening}
 use Rattle.st_marks.specs.Intent.{Fits}
 use Rattle.st_marks.specs.Run.{Run}
-use Rattle.st_marks.specs.Verdict.{IsVerdict, carried}
+use Rattle.st_marks.specs.Verdict.{IsVerdict, carried_document}
 use Rattle.st_log_laws.specs.Names.{HaveNewRevisions}
 use Rattle.st_log_laws.specs.Turns.{FitInTurn}
 use Rattle.st_log_laws.proofs.Shorter.{sublist_itself, sublist_joined, sublist_none, new_shorter}

@@ -6,7 +6,7 @@ use Rattle.st_marks.specs.declared.intents.Intent.{Intent}
 use Rattle.st_marks.specs.declared.verdicts.Verdict.{Verdict}
 use Rattle.st_marks.specs.Document.{Document, IsSoundInForm}
 use Rattle.st_marks.specs.Run.{Run}
-use Rattle.st_marks.specs.Verdict.{IsVerdict, carried}
+use Rattle.st_marks.specs.Verdict.{IsVerdict, carried_document}
 use Rattle.st_marks.proofs.OneVerdict.{carried_extends}
 use Rattle.st_log_laws.specs.Turns.{FitInTurn}
 use Rattle.st_trace.proofs.Keeping.{run_more}
@@ -26,9 +26,9 @@ pub record AreTurned (O D : Document) (Ns : List Intent) (i : ℕ) : Type 0 wher
   pub fit : FitInTurn D (drop i Ns)
   pub run : Run O (take i Ns) D
 
-pub one_more : (O D E : Document) (Ns : List Intent) (i : ℕ) (N : Intent) (v : Verdict) → i < length Ns → N ≡ get_or Ns i N → IsSoundInForm D → FitInTurn D (drop i Ns) → Run O (take i Ns) D
-    → IsVerdict D N v → E ≡ carried v D N → AreTurned O E Ns (i + 1)
-one_more O D E Ns i N v less is sound fit run verdict after =
+pub Run-take_next : (O D E : Document) (Ns : List Intent) (i : ℕ) (N : Intent) (v : Verdict) → i < length Ns → N ≡ get_or Ns i N → IsSoundInForm D → FitInTurn D (drop i Ns) → Run O (take i Ns) D
+    → IsVerdict D N v → E ≡ carried_document v D N → AreTurned O E Ns (i + 1)
+Run-take_next O D E Ns i N v less is sound fit run verdict after =
     let f = left_fit D Ns i N less is fit in
     record {
       sound = subst IsSoundInForm (sym after) (carried_extends D N v sound f.0 f.1 verdict).after;

@@ -7,7 +7,7 @@ use Rattle.st_ids.specs.declared.names.NodeId.{NodeId}
 use Rattle.st_marks.specs.declared.intents.Intent.{Intent}
 use Rattle.st_ids.specs.Root.{opening}
 use Rattle.st_marks.specs.Run.{Run}
-use Rattle.st_marks.specs.Verdict.{carried}
+use Rattle.st_marks.specs.Verdict.{carried_document}
 use Rattle.st_log_laws.specs.Names.{HaveNewRevisions}
 use Rattle.st_log_laws.specs.Turns.{FitInTurn}
 use Rattle.st_schema_laws.specs.Agreeing.{KeepSchemaInTurn}

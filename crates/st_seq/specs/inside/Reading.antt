@@ -1,14 +1,14 @@
 -- Words of the private functions behind `Reading`.
 use Rattle.std.specs.Prelude.{◌≡◌, ℕ, ◌<◌, Bool, true, false, Option, Some, None, List, [], ◌∷◌}
 use Rattle.st_marks.specs.declared.marks.Mark.{Mark}
-use Rattle.st_marks.specs.Row.{CellMark, Counted, Gap, Touch, Make, Fill, spread, counted}
+use Rattle.st_marks.specs.Row.{CellMark, Counted, Gap, Touch, Make, Fill, spread, counted_cells}
 use Rattle.st_seq.specs.inside.Merged.{is_skip}
 use Rattle.st_seq.specs.declared.front_mark.Head.{Head}
 use Rattle.st_seq.specs.Reading.{cell_of}
 
 -- so many counted cells, and then what the marks say
 abbrev pub left : ℕ → List Mark → List CellMark
-left k ms = counted k (spread ms)
+left k ms = counted_cells k (spread ms)
 
 -- whether a cell is made
 abbrev pub is_made : CellMark → Bool

@@ -5,7 +5,7 @@ use Rattle.st_marks.specs.declared.verdicts.Verdict.{Verdict}
 use Rattle.st_marks.specs.Document.{Document}
 use Rattle.st_marks.specs.Intent.{Fits}
 use Rattle.st_marks.specs.Run.{Run}
-use Rattle.st_marks.specs.Verdict.{IsVerdict, carried}
+use Rattle.st_marks.specs.Verdict.{IsVerdict, carried_document}
 use Rattle.st_ids.specs.declared.names.Limit.{Limit}
 use Rattle.st_tree.specs.declared.edit.EditFault.{EditFault}
 use Rattle.st_log_laws.specs.Turns.{FitInTurn}
@@ -29,7 +29,7 @@ IsSoundNext w = IsSoundAfter (w.steps + 1) w
 
 -- a commit is carried out in the document that a client shows
 pub record IsCommitted (old : Replica) (N : Intent) (new : Replica) : Type 0 where
-  pub shown : (v : Verdict) × IsVerdict (document_of old.shown) N v × (document_of new.shown ≡ carried v (document_of old.shown) N)
+  pub shown : (v : Verdict) × IsVerdict (document_of old.shown) N v × (document_of new.shown ≡ carried_document v (document_of old.shown) N)
   pub received : new.received ≡ old.received
   pub names : new.names ≡ old.names + names_made N
 
@@ -45,7 +45,7 @@ IsEditedReplica c old (Ok N) new = IsPending old N (limit_passed c N) new
 -- a commit with this verdict is carried out in the document of what was received
 pub record HasCarried (old : Replica) (N : Intent) (v : Verdict) (new : Replica) : Type 0 where
   pub verdict : IsVerdict (document_of old.received) N v
-  pub after : document_of new.received ≡ carried v (document_of old.received) N
+  pub after : document_of new.received ≡ carried_document v (document_of old.received) N
 
 -- a commit of its own leaves what a client shows, and another comes before what is pending
 abbrev pub HasShownAfter : Client → Replica → Bool → Intent → Replica → Type 0
@@ -82,4 +82,4 @@ HasMoved c old (Some e) new = (v : Verdict) × HasReceivedNext c old e v new
 -- what a text says was carried out, if it is a commit, in the document of the whole log
 abbrev pub HasEntered : Document → Option Intent → Document → Type 0
 HasEntered D None E = E ≡ D
-HasEntered D (Some N) E = (v : Verdict) × IsVerdict D N v × (E ≡ carried v D N)
+HasEntered D (Some N) E = (v : Verdict) × IsVerdict D N v × (E ≡ carried_document v D N)

@@ -1,5 +1,5 @@
 use Rattle.std.proofs.Common.{sym}
-use Rattle.st_heads.proofs.Extending.{none_carried, next_fits, one_more, rest_fits}
+use Rattle.st_heads.proofs.Extending.{none_carried, next_fits, HasCarried-take_next, rest_fits}
 use Rattle.st_heads.proofs.heads.Head.extend.Goals as goal
 
 pub loop-intent-init : goal.loop-intent-init
@@ -16,7 +16,7 @@ loop-intent-preserved c =
     let at = sym c.intent-item.is in
     let v = c.loop-intent.invariant in
     record {
-      carried = one_more Ns i N inside at c.args.self.now h k v.carried c.in_ok-carry.ensures.carried;
+      carried = HasCarried-take_next Ns i N inside at c.args.self.now h k v.carried c.in_ok-carry.ensures.carried;
       sound = c.in_ok-carry.ensures.still_sound (next_fits Ns i N inside at h v.fit).1;
       fit = rest_fits Ns i N inside at h k v.fit c.in_ok-carry.ensures.carried;
     }
