@@ -1,5 +1,5 @@
 -- The value of a step that a line can hold is read as that step.
-use Rattle.std.proofs.Common.{arith, ◌≡◌, ℕ, ◌<◌, ◌≤◌, ◌^◌, nat_lt, nat_le, Bool, true, cond, ◌&&◌, List, [], ◌∷◌, length, Option, Some, None, option_and_then, option_map, is_ok, Ok, codes, refl, ap, ◌∙◌}
+use Rattle.std.proofs.Common.{arith, ◌≡◌, ℕ, ◌<◌, ◌≤◌, ◌^◌, nat_lt, nat_le, Bool, true, cond, ◌&&◌, List, [], ◌∷◌, length, Option, Some, None, option_and_then, option_map, is_ok, Ok, codes, refl, sym, ap, ◌∙◌}
 use Rattle.std.proofs.lemmas.Bool.Decides.{nat_tests}
 use Rattle.serde_json.specs.Data.{Data, number, unsigned, string}
 use Rattle.serde_json.specs.Find.{get, as_str, as_array}
@@ -11,9 +11,8 @@ use Rattle.st_tree.specs.Node.{Node, nodes_of}
 use Rattle.st_tree.specs.Size.{check_items}
 use Rattle.st_schema.specs.TreeText.{tree_of, tree_data, trees_data}
 use Rattle.st_script.specs.Members.{client_named, client_in, small, as_small, number_in, number_or, at_least_one, one_or_more, count_of, key_within, key_or_empty, place_of, places_in, short_path, path_in, trees_in, few, items_in, item_in}
-use Rattle.st_script.specs.Steps.{StepView, join, insert, remove, move, set, clear, sequence, deliver, show, actor_of, target_of, site_of, span_of, goal_of, read_insert, read_remove, read_move, read_set, read_clear, read_show, lone_client, step_of}
-use Rattle.st_script.specs.StepText.{places_data, path_data, items_data, step_data, IsName, IsActor, ArePlaces, IsTarget, IsSpan, AreShown, AreItems, FitsLine}
-use Rattle.st_script.specs.declared.read.Actor.{Actor}
+use Rattle.st_script.specs.Steps.{EditView, insert, remove, move, set, clear, ActView, join, edit, sequence, deliver, show, StepView, target_of, site_of, span_of, goal_of, read_insert, read_remove, read_move, read_set, read_clear, act_of, step_of}
+use Rattle.st_script.specs.StepText.{places_data, path_data, items_data, plain_data, edit_data, act_data, step_data, IsName, IsActor, ArePlaces, IsTarget, IsSpan, AreShown, AreItems, FitsEdit, FitsAct, FitsLine}
 use Rattle.st_script.specs.declared.read.Goal.{Goal}
 use Rattle.st_script.specs.declared.read.Span.{Span}
 use Rattle.st_script.specs.declared.read.Target.{Target}
@@ -80,18 +79,6 @@ target_kept path key d at k path_there key_there h =
     let f : List Place → Key → Target = λ at k. record { at = at; key = k } in
     option_and_then-of_some (λ at. option_map (f at) (key_or_empty (get key d))) (path_in path d) at (Some (f at k)) (path_kept path d at path_there h.0 h.1) (ap (option_map (f at)) (key_or_kept (get key d) k key_there h.2))
 
-actor_kept : (d : Data) (client : List ℕ) (branch : ℕ) → get (codes "client") d ≡ Some (string client) → get (codes "branch") d ≡ Some (number (unsigned branch)) → IsActor client branch
-    → actor_of d ≡ Some (record { client = client; branch = branch })
-actor_kept d client branch client_there branch_there h =
-    let f : ℕ → List ℕ → Actor = λ branch client. record { client = client; branch = branch } in
-    option_and_then-of_some (λ branch. option_map (f branch) (client_in d)) (number_or 0 (get (codes "branch") d)) branch (Some (f branch client))
-    (number_or_kept 0 (get (codes "branch") d) branch branch_there h.1) (ap (option_map (f branch)) (client_kept d client client_there h.0))
-
-site_kept : (d : Data) (a : Actor) (t : Target) → actor_of d ≡ Some a → target_of (codes "at") (codes "key") d ≡ Some t → site_of d ≡ Some (a, t)
-site_kept d a t actor target =
-    let f : Actor → Target → Actor × Target = λ actor target. (actor, target) in
-    option_and_then-of_some (λ actor. option_map (f actor) (target_of (codes "at") (codes "key") d)) (actor_of d) a (Some (a, t)) actor (ap (option_map (f a)) target)
-
 span_kept : (d : Data) (index count : ℕ) → get (codes "index") d ≡ Some (number (unsigned index)) → get (codes "count") d ≡ Some (number (unsigned count)) → IsSpan index count
     → span_of d ≡ Some (record { index = index; count = count })
 span_kept d index count index_there count_there h =
@@ -122,79 +109,108 @@ items_kept d ts there h =
     ∙ ap (option_and_then few) (shown_kept ts h.2)
     ∙ few_kept ts h.0 h.1
 
--- ---- steps of a value whose members are read so
+-- ---- acts of a value whose members are read so
 
-lone_read : (f : List ℕ → StepView) (d : Data) (client : List ℕ) → has_only (codes "client do") d ≡ true → client_in d ≡ Some client → option_map f (lone_client d) ≡ Some (f client)
-lone_read f d client only there = ap (option_map f) (passed (has_only (codes "client do") d) (client_in d) (Some client) only there)
+insert_read : (d : Data) (t : Target) (index : ℕ) (items : List Node) → has_only (codes "at branch client do index items key") d ≡ true → site_of d ≡ Some t
+    → number_in (codes "index") d ≡ Some index → items_in d ≡ Some items → read_insert d ≡ Some (edit (insert t.at t.key index items))
+insert_read d t index items only site index_there items_there =
+    let f : Target → ℕ → List Node → ActView = λ t index items. edit (insert t.at t.key index items) in
+    passed (has_only (codes "at branch client do index items key") d) (option_and_then (λ t. option_and_then (λ index. option_map (f t index) (items_in d)) (number_in (codes "index") d)) (site_of d)) (Some (f t index items)) only
+    (option_and_then-of_some (λ t. option_and_then (λ index. option_map (f t index) (items_in d)) (number_in (codes "index") d)) (site_of d) t (Some (f t index items)) site
+    (option_and_then-of_some (λ index. option_map (f t index) (items_in d)) (number_in (codes "index") d) index (Some (f t index items)) index_there
+    (ap (option_map (f t index)) items_there)))
 
-insert_read : (d : Data) (a : Actor) (t : Target) (index : ℕ) (items : List Node) → has_only (codes "at branch client do index items key") d ≡ true → site_of d ≡ Some (a, t)
-    → number_in (codes "index") d ≡ Some index → items_in d ≡ Some items → read_insert d ≡ Some (insert a.client a.branch t.at t.key index items)
-insert_read d a t index items only site index_there items_there =
-    let f : Actor × Target → ℕ → List Node → StepView = λ s index items. insert s.0.client s.0.branch s.1.at s.1.key index items in
-    passed (has_only (codes "at branch client do index items key") d) (option_and_then (λ s. option_and_then (λ index. option_map (f s index) (items_in d)) (number_in (codes "index") d)) (site_of d)) (Some (f (a, t) index items)) only
-    (option_and_then-of_some (λ s. option_and_then (λ index. option_map (f s index) (items_in d)) (number_in (codes "index") d)) (site_of d) (a, t) (Some (f (a, t) index items)) site
-    (option_and_then-of_some (λ index. option_map (f (a, t) index) (items_in d)) (number_in (codes "index") d) index (Some (f (a, t) index items)) index_there
-    (ap (option_map (f (a, t) index)) items_there)))
+remove_read : (d : Data) (t : Target) (span : Span) → has_only (codes "at branch client count do index key") d ≡ true → site_of d ≡ Some t → span_of d ≡ Some span
+    → read_remove d ≡ Some (edit (remove t.at t.key span.index span.count))
+remove_read d t span only site span_there =
+    let f : Target → Span → ActView = λ t span. edit (remove t.at t.key span.index span.count) in
+    passed (has_only (codes "at branch client count do index key") d) (option_and_then (λ t. option_map (f t) (span_of d)) (site_of d)) (Some (f t span)) only
+    (option_and_then-of_some (λ t. option_map (f t) (span_of d)) (site_of d) t (Some (f t span)) site (ap (option_map (f t)) span_there))
 
-remove_read : (d : Data) (a : Actor) (t : Target) (span : Span) → has_only (codes "at branch client count do index key") d ≡ true → site_of d ≡ Some (a, t) → span_of d ≡ Some span
-    → read_remove d ≡ Some (remove a.client a.branch t.at t.key span.index span.count)
-remove_read d a t span only site span_there =
-    let f : Actor × Target → Span → StepView = λ s span. remove s.0.client s.0.branch s.1.at s.1.key span.index span.count in
-    passed (has_only (codes "at branch client count do index key") d) (option_and_then (λ s. option_map (f s) (span_of d)) (site_of d)) (Some (f (a, t) span)) only
-    (option_and_then-of_some (λ s. option_map (f s) (span_of d)) (site_of d) (a, t) (Some (f (a, t) span)) site (ap (option_map (f (a, t))) span_there))
+move_read : (d : Data) (t : Target) (span : Span) (goal : Goal) → has_only (codes "at branch client count do index key to to_index to_key") d ≡ true → site_of d ≡ Some t
+    → span_of d ≡ Some span → goal_of d ≡ Some goal → read_move d ≡ Some (edit (move t.at t.key span.index span.count goal.to goal.to_key goal.to_index))
+move_read d t span goal only site span_there goal_there =
+    let f : Target → Span → Goal → ActView = λ t span goal. edit (move t.at t.key span.index span.count goal.to goal.to_key goal.to_index) in
+    passed (has_only (codes "at branch client count do index key to to_index to_key") d) (option_and_then (λ t. option_and_then (λ span. option_map (f t span) (goal_of d)) (span_of d)) (site_of d)) (Some (f t span goal)) only
+    (option_and_then-of_some (λ t. option_and_then (λ span. option_map (f t span) (goal_of d)) (span_of d)) (site_of d) t (Some (f t span goal)) site
+    (option_and_then-of_some (λ span. option_map (f t span) (goal_of d)) (span_of d) span (Some (f t span goal)) span_there
+    (ap (option_map (f t span)) goal_there)))
 
-move_read : (d : Data) (a : Actor) (t : Target) (span : Span) (goal : Goal) → has_only (codes "at branch client count do index key to to_index to_key") d ≡ true → site_of d ≡ Some (a, t)
-    → span_of d ≡ Some span → goal_of d ≡ Some goal → read_move d ≡ Some (move a.client a.branch t.at t.key span.index span.count goal.to goal.to_key goal.to_index)
-move_read d a t span goal only site span_there goal_there =
-    let f : Actor × Target → Span → Goal → StepView = λ s span goal. move s.0.client s.0.branch s.1.at s.1.key span.index span.count goal.to goal.to_key goal.to_index in
-    passed (has_only (codes "at branch client count do index key to to_index to_key") d) (option_and_then (λ s. option_and_then (λ span. option_map (f s span) (goal_of d)) (span_of d)) (site_of d)) (Some (f (a, t) span goal)) only
-    (option_and_then-of_some (λ s. option_and_then (λ span. option_map (f s span) (goal_of d)) (span_of d)) (site_of d) (a, t) (Some (f (a, t) span goal)) site
-    (option_and_then-of_some (λ span. option_map (f (a, t) span) (goal_of d)) (span_of d) span (Some (f (a, t) span goal)) span_there
-    (ap (option_map (f (a, t) span)) goal_there)))
+set_read : (d : Data) (t : Target) (item : Node) → has_only (codes "at branch client do item key") d ≡ true → site_of d ≡ Some t → item_in d ≡ Some item
+    → read_set d ≡ Some (edit (set t.at t.key item))
+set_read d t item only site item_there =
+    let f : Target → Node → ActView = λ t item. edit (set t.at t.key item) in
+    passed (has_only (codes "at branch client do item key") d) (option_and_then (λ t. option_map (f t) (item_in d)) (site_of d)) (Some (f t item)) only
+    (option_and_then-of_some (λ t. option_map (f t) (item_in d)) (site_of d) t (Some (f t item)) site (ap (option_map (f t)) item_there))
 
-set_read : (d : Data) (a : Actor) (t : Target) (item : Node) → has_only (codes "at branch client do item key") d ≡ true → site_of d ≡ Some (a, t) → item_in d ≡ Some item
-    → read_set d ≡ Some (set a.client a.branch t.at t.key item)
-set_read d a t item only site item_there =
-    let f : Actor × Target → Node → StepView = λ s item. set s.0.client s.0.branch s.1.at s.1.key item in
-    passed (has_only (codes "at branch client do item key") d) (option_and_then (λ s. option_map (f s) (item_in d)) (site_of d)) (Some (f (a, t) item)) only
-    (option_and_then-of_some (λ s. option_map (f s) (item_in d)) (site_of d) (a, t) (Some (f (a, t) item)) site (ap (option_map (f (a, t))) item_there))
-
-clear_read : (d : Data) (a : Actor) (t : Target) → has_only (codes "at branch client do key") d ≡ true → site_of d ≡ Some (a, t) → read_clear d ≡ Some (clear a.client a.branch t.at t.key)
-clear_read d a t only site =
-    let f : Actor × Target → StepView = λ s. clear s.0.client s.0.branch s.1.at s.1.key in
-    passed (has_only (codes "at branch client do key") d) (option_map f (site_of d)) (Some (f (a, t))) only (ap (option_map f) site)
-
-show_read : (d : Data) (a : Actor) → has_only (codes "branch client do") d ≡ true → actor_of d ≡ Some a → read_show d ≡ Some (show a.client a.branch)
-show_read d a only actor =
-    let f : Actor → StepView = λ a. show a.client a.branch in
-    passed (has_only (codes "branch client do") d) (option_map f (actor_of d)) (Some (f a)) only (ap (option_map f) actor)
+clear_read : (d : Data) (t : Target) → has_only (codes "at branch client do key") d ≡ true → site_of d ≡ Some t → read_clear d ≡ Some (edit (clear t.at t.key))
+clear_read d t only site =
+    let f : Target → ActView = λ t. edit (clear t.at t.key) in
+    passed (has_only (codes "at branch client do key") d) (option_map f (site_of d)) (Some (f t)) only (ap (option_map f) site)
 
 -- ---- each step
 
+step_kept : (d : Data) (client : List ℕ) (branch : ℕ) (a : ActView) → number_or 0 (get (codes "branch") d) ≡ Some branch
+    → client_in d ≡ Some client → act_of d ≡ Some a → step_of d ≡ Some (record { client = client; branch = branch; act = a })
+step_kept d client branch a branch_there client_there act_there =
+    let f : ℕ → List ℕ → ActView → StepView = λ b c act. record { client = c; branch = b; act = act } in
+    let of_client = λ (b : ℕ) (c : List ℕ). option_map (f b c) (act_of d) in
+    option_and_then-of_some (λ b. option_and_then (of_client b) (client_in d)) (number_or 0 (get (codes "branch") d)) branch (Some (f branch client a)) branch_there
+    (option_and_then-of_some (of_client branch) (client_in d) client (Some (f branch client a)) client_there (ap (option_map (f branch client)) act_there))
+
+-- a value with a member for the branch
+branch_kept : (d : Data) (client : List ℕ) (branch : ℕ) (a : ActView) → get (codes "client") d ≡ Some (string client)
+    → get (codes "branch") d ≡ Some (number (unsigned branch)) → IsActor client branch → act_of d ≡ Some a
+    → step_of d ≡ Some (record { client = client; branch = branch; act = a })
+branch_kept d client branch a client_there branch_there h act_there =
+    step_kept d client branch a (number_or_kept 0 (get (codes "branch") d) branch branch_there h.1) (client_kept d client client_there h.0) act_there
+
+-- a value without one
+main_kept : (d : Data) (client : List ℕ) (branch : ℕ) (a : ActView) → get (codes "client") d ≡ Some (string client)
+    → get (codes "branch") d ≡ None → IsName client → branch ≡ 0 → act_of d ≡ Some a
+    → step_of d ≡ Some (record { client = client; branch = branch; act = a })
+main_kept d client branch a client_there none h zero act_there =
+    step_kept d client branch a (ap (number_or 0) none ∙ ap Some (sym zero)) (client_kept d client client_there h) act_there
+
+edit_again : (client : List ℕ) (branch : ℕ) (e : EditView) → IsActor client branch → FitsEdit e
+    → step_of (edit_data client branch e) ≡ Some (record { client = client; branch = branch; act = edit e })
+edit_again client branch (insert at key index items) by h =
+    let d = edit_data client branch (insert at key index items) in
+    branch_kept d client branch (edit (insert at key index items)) refl refl by
+    (insert_read d (record { at = at; key = key }) index items refl (target_kept (codes "at") (codes "key") d at key refl refl h.0)
+    (number_kept (codes "index") d index refl h.1) (items_kept d items refl h.2))
+edit_again client branch (remove at key index count) by h =
+    let d = edit_data client branch (remove at key index count) in
+    branch_kept d client branch (edit (remove at key index count)) refl refl by
+    (remove_read d (record { at = at; key = key }) (record { index = index; count = count }) refl
+    (target_kept (codes "at") (codes "key") d at key refl refl h.0) (span_kept d index count refl refl h.1))
+edit_again client branch (move at key index count to to_key to_index) by h =
+    let d = edit_data client branch (move at key index count to to_key to_index) in
+    let aim = goal_kept d (record { at = to; key = to_key }) to_index refl (target_kept (codes "to") (codes "to_key") d to to_key refl refl h.2) h.3 in
+    branch_kept d client branch (edit (move at key index count to to_key to_index)) refl refl by
+    (move_read d (record { at = at; key = key }) (record { index = index; count = count }) (record { to = to; to_key = to_key; to_index = to_index }) refl
+    (target_kept (codes "at") (codes "key") d at key refl refl h.0) (span_kept d index count refl refl h.1) aim)
+edit_again client branch (set at key item) by h =
+    let d = edit_data client branch (set at key item) in
+    branch_kept d client branch (edit (set at key item)) refl refl by
+    (set_read d (record { at = at; key = key }) item refl (target_kept (codes "at") (codes "key") d at key refl refl h.0) h.1)
+edit_again client branch (clear at key) by h =
+    let d = edit_data client branch (clear at key) in
+    branch_kept d client branch (edit (clear at key)) refl refl by
+    (clear_read d (record { at = at; key = key }) refl (target_kept (codes "at") (codes "key") d at key refl refl h))
+
+-- an act that names no branch
+plain_again : (word client : List ℕ) (branch : ℕ) (a : ActView) → IsName client → branch ≡ 0 → act_of (plain_data word client) ≡ Some a
+    → step_of (plain_data word client) ≡ Some (record { client = client; branch = branch; act = a })
+plain_again word client branch a name zero is = main_kept (plain_data word client) client branch a refl refl name zero is
+
+act_again : (client : List ℕ) (branch : ℕ) (a : ActView) → IsActor client branch → FitsAct branch a
+    → step_of (act_data client branch a) ≡ Some (record { client = client; branch = branch; act = a })
+act_again client branch join by h = plain_again (codes "join") client branch join by.0 h refl
+act_again client branch (edit e) by h = edit_again client branch e by h
+act_again client branch sequence by h = plain_again (codes "sequence") client branch sequence by.0 h refl
+act_again client branch deliver by h = plain_again (codes "deliver") client branch deliver by.0 h refl
+act_again client branch show by h = branch_kept (act_data client branch show) client branch show refl refl by refl
+
 pub read_again : (s : StepView) → FitsLine s → step_of (step_data s) ≡ Some s
-read_again (join client) h = let d = step_data (join client) in lone_read join d client refl (client_kept d client refl h)
-read_again (insert client branch at key index items) h =
-    let d = step_data (insert client branch at key index items) in
-    let site = site_kept d (record { client = client; branch = branch }) (record { at = at; key = key }) (actor_kept d client branch refl refl h.0) (target_kept (codes "at") (codes "key") d at key refl refl h.1) in
-    insert_read d (record { client = client; branch = branch }) (record { at = at; key = key }) index items refl site (number_kept (codes "index") d index refl h.2) (items_kept d items refl h.3)
-read_again (remove client branch at key index count) h =
-    let d = step_data (remove client branch at key index count) in
-    let site = site_kept d (record { client = client; branch = branch }) (record { at = at; key = key }) (actor_kept d client branch refl refl h.0) (target_kept (codes "at") (codes "key") d at key refl refl h.1) in
-    remove_read d (record { client = client; branch = branch }) (record { at = at; key = key }) (record { index = index; count = count }) refl site (span_kept d index count refl refl h.2)
-read_again (move client branch at key index count to to_key to_index) h =
-    let d = step_data (move client branch at key index count to to_key to_index) in
-    let site = site_kept d (record { client = client; branch = branch }) (record { at = at; key = key }) (actor_kept d client branch refl refl h.0) (target_kept (codes "at") (codes "key") d at key refl refl h.1) in
-    let aim = goal_kept d (record { at = to; key = to_key }) to_index refl (target_kept (codes "to") (codes "to_key") d to to_key refl refl h.3) h.4 in
-    move_read d (record { client = client; branch = branch }) (record { at = at; key = key }) (record { index = index; count = count }) (record { to = to; to_key = to_key; to_index = to_index }) refl site
-    (span_kept d index count refl refl h.2) aim
-read_again (set client branch at key item) h =
-    let d = step_data (set client branch at key item) in
-    let site = site_kept d (record { client = client; branch = branch }) (record { at = at; key = key }) (actor_kept d client branch refl refl h.0) (target_kept (codes "at") (codes "key") d at key refl refl h.1) in
-    set_read d (record { client = client; branch = branch }) (record { at = at; key = key }) item refl site h.2
-read_again (clear client branch at key) h =
-    let d = step_data (clear client branch at key) in
-    let site = site_kept d (record { client = client; branch = branch }) (record { at = at; key = key }) (actor_kept d client branch refl refl h.0) (target_kept (codes "at") (codes "key") d at key refl refl h.1) in
-    clear_read d (record { client = client; branch = branch }) (record { at = at; key = key }) refl site
-read_again (sequence client) h = let d = step_data (sequence client) in lone_read sequence d client refl (client_kept d client refl h)
-read_again (deliver client) h = let d = step_data (deliver client) in lone_read deliver d client refl (client_kept d client refl h)
-read_again (show client branch) h = let d = step_data (show client branch) in show_read d (record { client = client; branch = branch }) refl (actor_kept d client branch refl refl h)
+read_again s h = act_again s.client s.branch s.act h.0 h.1

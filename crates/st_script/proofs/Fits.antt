@@ -1,5 +1,5 @@
 -- The steps that lines are read as are steps that a line can hold.
-use Rattle.std.proofs.Common.{arith, ◌≡◌, ℕ, ◌<◌, ◌≤◌, ◌^◌, nat_lt, nat_le, Bool, true, false, cond, ◌&&◌, List, ◌∷◌, length, Option, Some, None, option_and_then, option_map, is_ok, Result, Ok, Err, codes, refl, subst}
+use Rattle.std.proofs.Common.{arith, ◌≡◌, ℕ, ◌<◌, ◌≤◌, ◌^◌, nat_lt, nat_le, Bool, true, false, cond, ◌&&◌, List, ◌∷◌, length, Option, Some, None, option_and_then, option_map, is_ok, Result, Ok, Err, codes, refl, sym, ap, ◌∙◌, subst}
 use Rattle.std.proofs.lemmas.Bool.Decides.{nat_tests}
 use Rattle.std.specs.Prelude.{⊤}
 use Rattle.std.specs.Option.{ok_or}
@@ -16,9 +16,8 @@ use Rattle.st_tree.specs.declared.limits.TreeFault.{TreeFault}
 use Rattle.st_schema.specs.TreeText.{tree_of, tree_in, tree_data, within_limits}
 use Rattle.st_script.specs.Line.{line_of, step_of_value}
 use Rattle.st_script.specs.Members.{client_named, client_in, small, as_small, number_in, number_or, at_least_one, one_or_more, count_of, key_within, key_of, key_or_empty, place_of, places_in, short_path, path_in, trees_in, few, items_in, item_in}
-use Rattle.st_script.specs.Steps.{StepView, join, insert, remove, move, set, clear, sequence, deliver, show, IsWithinLimits, same, actor_of, target_of, site_of, span_of, goal_of, read_insert, read_remove, read_move, read_set, read_clear, read_show, lone_client, read_of, word_of, step_of}
-use Rattle.st_script.specs.StepText.{IsName, IsActor, ArePlaces, IsTarget, IsSpan, IsShown, AreShown, AreItems, FitsLine}
-use Rattle.st_script.specs.declared.read.Actor.{Actor}
+use Rattle.st_script.specs.Steps.{EditView, insert, remove, move, set, clear, ActView, join, edit, sequence, deliver, show, StepView, IsEditWithin, IsActWithin, IsWithinLimits, same, target_of, site_of, span_of, goal_of, plain_act, read_insert, read_remove, read_move, read_set, read_clear, read_of, word_of, act_of, step_of}
+use Rattle.st_script.specs.StepText.{IsName, ArePlaces, IsTarget, IsSpan, IsShown, AreShown, AreItems, FitsEdit, FitsAct, FitsLine}
 use Rattle.st_script.specs.declared.read.Goal.{Goal}
 use Rattle.st_script.specs.declared.read.Span.{Span}
 use Rattle.st_script.specs.declared.read.Target.{Target}
@@ -26,6 +25,7 @@ use Rattle.st_schema.proofs.Holds.{Holds-cond}
 use Rattle.st_json.proofs.Rising.{Holds, Holds-map, Holds-and_then}
 use Rattle.st_schema.proofs.Sound.{Sound, SoundItems, line_sound, get_sound, array_sound}
 use Rattle.st_script.proofs.Sound.{tree_shown, trees_shown}
+use Rattle.st_script.proofs.Listed.{get-unlisted}
 use Rattle.st_lemmas.proofs.Bools.{and-true}
 
 -- ---- tests
@@ -129,21 +129,8 @@ target_fits path key d =
     Holds-and_then IsPath AtTarget (λ at. option_map (λ k. record { at = at; key = k }) (key_or_empty (get key d)))
     (λ at p. Holds-map IsKey AtTarget (λ k. record { at = at; key = k }) (λ k short. (p.0, p.1, short)) (key_or_empty (get key d)) (key_or_fits (get key d))) (path_in path d) (path_fits path d)
 
-abbrev ByActor : Actor → Type 0
-ByActor a = IsActor a.client a.branch
-
-actor_fits : (d : Data) → Holds ByActor (actor_of d)
-actor_fits d =
-    Holds-and_then IsSmall ByActor (λ branch. option_map (λ client. record { client = client; branch = branch }) (client_in d))
-    (λ b low. Holds-map IsName ByActor (λ client. record { client = client; branch = b }) (λ c name. (name, low)) (client_in d) (client_fits d)) (number_or 0 (get (codes "branch") d)) (number_or_fits (get (codes "branch") d))
-
-abbrev AtSite : Actor × Target → Type 0
-AtSite s = IsActor s.0.client s.0.branch × IsTarget s.1.at s.1.key
-
-site_fits : (d : Data) → Holds AtSite (site_of d)
-site_fits d =
-    Holds-and_then ByActor AtSite (λ (actor : Actor). option_map (λ (target : Target). (actor, target)) (target_of (codes "at") (codes "key") d))
-    (λ a by. Holds-map AtTarget AtSite (λ (target : Target). (a, target)) (λ t here. (by, here)) (target_of (codes "at") (codes "key") d) (target_fits (codes "at") (codes "key") d)) (actor_of d) (actor_fits d)
+site_fits : (d : Data) → Holds AtTarget (site_of d)
+site_fits d = target_fits (codes "at") (codes "key") d
 
 abbrev OfSpan : Span → Type 0
 OfSpan s = IsSpan s.index s.count
@@ -175,91 +162,107 @@ items_fit d sound =
 item_fits : (d : Data) → Sound d → Holds IsShown (item_in d)
 item_fits d sound = Holds-and_then Sound IsShown tree_of tree_shown (get (codes "item") d) (get_sound (codes "item") d sound)
 
+-- ---- acts
+
+-- what a value does on a branch
+module _ (d : Data) (b : ℕ) (is_branch : number_or 0 (get (codes "branch") d) ≡ Some b) where
+  abbrev Fits : Option ActView → Type 0
+  Fits o = Holds (FitsAct b) o
+
+  -- where the value has only these members
+  only : (names : List ℕ) (o : Option ActView) → Fits o → Fits (cond (has_only names d) o None)
+  only names o h = Holds-cond (FitsAct b) (has_only names d) o None (λ _. h) tt
+
+  -- it is done on the main branch where there is no member for another
+  on_main : has_only (codes "client do") d ≡ true → b ≡ 0
+  on_main h = let none : Some 0 ≡ Some b = sym (ap (number_or 0) (get-unlisted (codes "client do") (codes "branch") d refl h)) ∙ is_branch in cc
+
+  main_fits : (a : ActView) → (b ≡ 0 → FitsAct b a) → Fits (plain_act (codes "client do") a d)
+  main_fits a h = Holds-cond (FitsAct b) (has_only (codes "client do") d) (Some a) None (λ o. h (on_main o)) tt
+
+  abbrev inserted : Target → ℕ → List Node → ActView
+  inserted t index items = edit (insert t.at t.key index items)
+
+  insert_fits : Sound d → Fits (read_insert d)
+  insert_fits sound =
+      only (codes "at branch client do index items key") (option_and_then (λ t. option_and_then (λ index. option_map (inserted t index) (items_in d)) (number_in (codes "index") d)) (site_of d))
+      (Holds-and_then AtTarget (FitsAct b) (λ t. option_and_then (λ index. option_map (inserted t index) (items_in d)) (number_in (codes "index") d))
+      (λ t here. Holds-and_then IsSmall (FitsAct b) (λ index. option_map (inserted t index) (items_in d))
+      (λ n low. Holds-map AreItems (FitsAct b) (inserted t n) (λ ts h. (here, low, h)) (items_in d) (items_fit d sound)) (number_in (codes "index") d) (number_fits (codes "index") d)) (site_of d) (site_fits d))
+
+  abbrev removed : Target → Span → ActView
+  removed t span = edit (remove t.at t.key span.index span.count)
+
+  remove_fits : Fits (read_remove d)
+  remove_fits =
+      only (codes "at branch client count do index key") (option_and_then (λ t. option_map (removed t) (span_of d)) (site_of d))
+      (Holds-and_then AtTarget (FitsAct b) (λ t. option_map (removed t) (span_of d)) (λ t here. Holds-map OfSpan (FitsAct b) (removed t) (λ s h. (here, h)) (span_of d) (span_fits d)) (site_of d) (site_fits d))
+
+  abbrev moved : Target → Span → Goal → ActView
+  moved t span goal = edit (move t.at t.key span.index span.count goal.to goal.to_key goal.to_index)
+
+  move_fits : Fits (read_move d)
+  move_fits =
+      only (codes "at branch client count do index key to to_index to_key") (option_and_then (λ t. option_and_then (λ span. option_map (moved t span) (goal_of d)) (span_of d)) (site_of d))
+      (Holds-and_then AtTarget (FitsAct b) (λ t. option_and_then (λ span. option_map (moved t span) (goal_of d)) (span_of d))
+      (λ t here. Holds-and_then OfSpan (FitsAct b) (λ span. option_map (moved t span) (goal_of d))
+      (λ s h. Holds-map ToGoal (FitsAct b) (moved t s) (λ g aim. (here, h, aim.0, aim.1)) (goal_of d) (goal_fits d)) (span_of d) (span_fits d)) (site_of d) (site_fits d))
+
+  abbrev put_there : Target → Node → ActView
+  put_there t tree = edit (set t.at t.key tree)
+
+  set_fits : Sound d → Fits (read_set d)
+  set_fits sound =
+      only (codes "at branch client do item key") (option_and_then (λ t. option_map (put_there t) (item_in d)) (site_of d))
+      (Holds-and_then AtTarget (FitsAct b) (λ t. option_map (put_there t) (item_in d)) (λ t here. Holds-map IsShown (FitsAct b) (put_there t) (λ u h. (here, h)) (item_in d) (item_fits d sound)) (site_of d) (site_fits d))
+
+  abbrev cleared : Target → ActView
+  cleared t = edit (clear t.at t.key)
+
+  clear_fits : Fits (read_clear d)
+  clear_fits = only (codes "at branch client do key") (option_map cleared (site_of d)) (Holds-map AtTarget (FitsAct b) cleared (λ t here. here) (site_of d) (site_fits d))
+
+  -- one of two, each of which fits
+  either : (c : Bool) (o p : Option ActView) → Fits o → Fits p → Fits (cond c o p)
+  either true o p l r = l
+  either false o p l r = r
+
+  word_fits : (word : List ℕ) → Sound d → Fits (read_of word d)
+  word_fits word sound =
+      either (same word (codes "join")) _ _ (main_fits join (λ zero. zero))
+      (either (same word (codes "insert")) _ _ (insert_fits sound)
+      (either (same word (codes "remove")) _ _ remove_fits
+      (either (same word (codes "move")) _ _ move_fits
+      (either (same word (codes "set")) _ _ (set_fits sound)
+      (either (same word (codes "clear")) _ _ clear_fits
+      (either (same word (codes "sequence")) _ _ (main_fits sequence (λ zero. zero))
+      (either (same word (codes "deliver")) _ _ (main_fits deliver (λ zero. zero))
+      (either (same word (codes "show")) _ _ (only (codes "branch client do") (Some show) tt) tt))))))))
+
+  act_fits : Sound d → Fits (act_of d)
+  act_fits sound = Holds-and_then Any (FitsAct b) (λ word. read_of word d) (λ word _. word_fits word sound) (word_of d) (any _)
+
 -- ---- steps
 
-abbrev Fits : Option StepView → Type 0
-Fits o = Holds FitsLine o
+-- a value is the one that there is
+Holds-itself : {A : Type 0} (P : A → Type 0) (o : Option A) → Holds P o → Holds (λ a. (o ≡ Some a) × P a) o
+Holds-itself P None h = tt
+Holds-itself P (Some a) h = (refl, h)
 
--- where a value has only these members
-only : (names : List ℕ) (d : Data) (o : Option StepView) → Fits o → Fits (cond (has_only names d) o None)
-only names d o h = Holds-cond FitsLine (has_only names d) o None (λ _. h) tt
-
-lone_fits : (f : List ℕ → StepView) → ((c : List ℕ) → IsName c → FitsLine (f c)) → (d : Data) → Fits (option_map f (lone_client d))
-lone_fits f fits d = Holds-map IsName FitsLine f fits (lone_client d) (Holds-cond IsName (has_only (codes "client do") d) (client_in d) None (λ _. client_fits d) tt)
-
-abbrev inserted : Actor × Target → ℕ → List Node → StepView
-inserted p index items = insert p.0.client p.0.branch p.1.at p.1.key index items
-
-insert_fits : (d : Data) → Sound d → Fits (read_insert d)
-insert_fits d sound =
-    only (codes "at branch client do index items key") d (option_and_then (λ p. option_and_then (λ index. option_map (inserted p index) (items_in d)) (number_in (codes "index") d)) (site_of d))
-    (Holds-and_then AtSite FitsLine (λ p. option_and_then (λ index. option_map (inserted p index) (items_in d)) (number_in (codes "index") d))
-    (λ p site. Holds-and_then IsSmall FitsLine (λ index. option_map (inserted p index) (items_in d))
-    (λ n low. Holds-map AreItems FitsLine (inserted p n) (λ ts h. (site.0, site.1, low, h)) (items_in d) (items_fit d sound)) (number_in (codes "index") d) (number_fits (codes "index") d)) (site_of d) (site_fits d))
-
-abbrev removed : Actor × Target → Span → StepView
-removed p span = remove p.0.client p.0.branch p.1.at p.1.key span.index span.count
-
-remove_fits : (d : Data) → Fits (read_remove d)
-remove_fits d =
-    only (codes "at branch client count do index key") d (option_and_then (λ p. option_map (removed p) (span_of d)) (site_of d))
-    (Holds-and_then AtSite FitsLine (λ p. option_map (removed p) (span_of d)) (λ p site. Holds-map OfSpan FitsLine (removed p) (λ s h. (site.0, site.1, h)) (span_of d) (span_fits d)) (site_of d) (site_fits d))
-
-abbrev moved : Actor × Target → Span → Goal → StepView
-moved p span goal = move p.0.client p.0.branch p.1.at p.1.key span.index span.count goal.to goal.to_key goal.to_index
-
-move_fits : (d : Data) → Fits (read_move d)
-move_fits d =
-    only (codes "at branch client count do index key to to_index to_key") d (option_and_then (λ p. option_and_then (λ span. option_map (moved p span) (goal_of d)) (span_of d)) (site_of d))
-    (Holds-and_then AtSite FitsLine (λ p. option_and_then (λ span. option_map (moved p span) (goal_of d)) (span_of d))
-    (λ p site. Holds-and_then OfSpan FitsLine (λ span. option_map (moved p span) (goal_of d))
-    (λ s h. Holds-map ToGoal FitsLine (moved p s) (λ g aim. (site.0, site.1, h, aim.0, aim.1)) (goal_of d) (goal_fits d)) (span_of d) (span_fits d)) (site_of d) (site_fits d))
-
-abbrev put_there : Actor × Target → Node → StepView
-put_there p tree = set p.0.client p.0.branch p.1.at p.1.key tree
-
-set_fits : (d : Data) → Sound d → Fits (read_set d)
-set_fits d sound =
-    only (codes "at branch client do item key") d (option_and_then (λ p. option_map (put_there p) (item_in d)) (site_of d))
-    (Holds-and_then AtSite FitsLine (λ p. option_map (put_there p) (item_in d)) (λ p site. Holds-map IsShown FitsLine (put_there p) (λ t h. (site.0, site.1, h)) (item_in d) (item_fits d sound)) (site_of d) (site_fits d))
-
-abbrev cleared : Actor × Target → StepView
-cleared p = clear p.0.client p.0.branch p.1.at p.1.key
-
-clear_fits : (d : Data) → Fits (read_clear d)
-clear_fits d = only (codes "at branch client do key") d (option_map cleared (site_of d)) (Holds-map AtSite FitsLine cleared (λ p site. site) (site_of d) (site_fits d))
-
-abbrev shown : Actor → StepView
-shown a = show a.client a.branch
-
-show_fits : (d : Data) → Fits (read_show d)
-show_fits d = only (codes "branch client do") d (option_map shown (actor_of d)) (Holds-map ByActor FitsLine shown (λ a by. by) (actor_of d) (actor_fits d))
-
--- one of two, each of which fits
-either : (b : Bool) (o p : Option StepView) → Fits o → Fits p → Fits (cond b o p)
-either true o p l r = l
-either false o p l r = r
-
-word_fits : (word : List ℕ) (d : Data) → Sound d → Fits (read_of word d)
-word_fits word d sound =
-    either (same word (codes "join")) _ _ (lone_fits join (λ c h. h) d)
-    (either (same word (codes "insert")) _ _ (insert_fits d sound)
-    (either (same word (codes "remove")) _ _ (remove_fits d)
-    (either (same word (codes "move")) _ _ (move_fits d)
-    (either (same word (codes "set")) _ _ (set_fits d sound)
-    (either (same word (codes "clear")) _ _ (clear_fits d)
-    (either (same word (codes "sequence")) _ _ (lone_fits sequence (λ c h. h) d)
-    (either (same word (codes "deliver")) _ _ (lone_fits deliver (λ c h. h) d)
-    (either (same word (codes "show")) _ _ (show_fits d) tt))))))))
-
-value_step_fits : (d : Data) → Sound d → Fits (step_of d)
-value_step_fits d sound = Holds-and_then Any FitsLine (λ word. read_of word d) (λ word _. word_fits word d sound) (word_of d) (any _)
+value_step_fits : (d : Data) → Sound d → Holds FitsLine (step_of d)
+value_step_fits d sound =
+    let branch = number_or 0 (get (codes "branch") d) in
+    let step : ℕ → List ℕ → ActView → StepView = λ b c a. record { client = c; branch = b; act = a } in
+    Holds-and_then (λ b. (branch ≡ Some b) × IsSmall b) FitsLine (λ b. option_and_then (λ c. option_map (step b c) (act_of d)) (client_in d))
+    (λ b is. Holds-and_then IsName FitsLine (λ c. option_map (step b c) (act_of d))
+    (λ c name. Holds-map (FitsAct b) FitsLine (step b c) (λ a h. ((name, is.1), h)) (act_of d) (act_fits d b is.0 sound)) (client_in d) (client_fits d))
+    branch (Holds-itself IsSmall branch (number_or_fits (get (codes "branch") d)))
 
 -- the step of a line is one that a line can hold
 pub line_fits : (bytes : List ℕ) (s : StepView) → line_of bytes ≡ Ok s → FitsLine s
 line_fits bytes s e = go (line_value bytes) (line_sound bytes) e
   where
-    step : (o : Option StepView) → Fits o → ok_or o BadCause.Shape ≡ Ok s → FitsLine s
+    step : (o : Option StepView) → Holds FitsLine o → ok_or o BadCause.Shape ≡ Ok s → FitsLine s
     step None h f = absurd cc
     step (Some x) h f = let same_step : x ≡ s = cc in subst FitsLine same_step h
 
@@ -275,14 +278,20 @@ limited (Some t) = Holds-cond (λ (u : Node). check_of u ≡ Ok tt) (is_ok (chec
 shown_within : (t : Node) → IsShown t → check_of t ≡ Ok tt
 shown_within t e = subst (Holds (λ u. check_of u ≡ Ok tt)) e (limited (tree_in (tree_data t) 48))
 
+edit_form : (e : EditView) → FitsEdit e → IsEditWithin e
+edit_form (insert at key index items) h = (h.2.1, h.0.0)
+edit_form (remove at key index count) h = h.0.0
+edit_form (move at key index count to to_key to_index) h = (h.0.0, h.2.0)
+edit_form (set at key tree) h = (shown_within tree h.1, h.0.0)
+edit_form (clear at key) h = h.0
+
+act_form : (b : ℕ) (a : ActView) → FitsAct b a → IsActWithin a
+act_form b join h = tt
+act_form b (edit e) h = edit_form e h
+act_form b sequence h = tt
+act_form b deliver h = tt
+act_form b show h = tt
+
 -- a step that a line can hold keeps the limits
 pub fits_form : (s : StepView) → FitsLine s → IsWithinLimits s
-fits_form (join client) h = tt
-fits_form (insert client branch at key index items) h = (h.3.1, h.1.0)
-fits_form (remove client branch at key index count) h = h.1.0
-fits_form (move client branch at key index count to to_key to_index) h = (h.1.0, h.3.0)
-fits_form (set client branch at key tree) h = (shown_within tree h.2, h.1.0)
-fits_form (clear client branch at key) h = h.1.0
-fits_form (sequence client) h = tt
-fits_form (deliver client) h = tt
-fits_form (show client branch) h = tt
+fits_form s h = act_form s.branch s.act h.1

@@ -1,5 +1,6 @@
 pub mod Again
 pub mod Fits
+pub mod Listed
 pub mod OfForm
 pub mod Places
 pub mod Schemas

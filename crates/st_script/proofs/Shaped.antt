@@ -19,10 +19,9 @@ use Rattle.st_schema.specs.TreeText.{tree_of}
 use Rattle.st_schema.proofs.Holds.{Holds-cond}
 use Rattle.st_schema.proofs.Shaped.{IsShaped, shown_shaped}
 use Rattle.st_script.specs.Line.{line_of, step_of_value}
-use Rattle.st_script.specs.Members.{number_in, trees_in, few, items_in, item_in}
-use Rattle.st_script.specs.Steps.{StepView, join, insert, remove, move, set, clear, sequence, deliver, show, same, actor_of, site_of, span_of, goal_of, read_insert, read_remove, read_move, read_set, read_clear, read_show, lone_client, read_of, word_of, step_of}
-use Rattle.st_script.specs.StepText.{trees_have_shape}
-use Rattle.st_script.specs.declared.read.Actor.{Actor}
+use Rattle.st_script.specs.Members.{client_in, number_in, number_or, trees_in, few, items_in, item_in}
+use Rattle.st_script.specs.Steps.{insert, remove, move, set, clear, ActView, join, edit, sequence, deliver, show, StepView, same, site_of, span_of, goal_of, read_insert, read_remove, read_move, read_set, read_clear, read_of, word_of, act_of, step_of}
+use Rattle.st_script.specs.StepText.{act_has_shape, trees_have_shape}
 use Rattle.st_script.specs.declared.read.Goal.{Goal}
 use Rattle.st_script.specs.declared.read.Span.{Span}
 use Rattle.st_script.specs.declared.read.Target.{Target}
@@ -84,98 +83,103 @@ items_shaped d p =
 item_shaped : (d : Data) → NamesRise d → Holds IsShaped (item_in d)
 item_shaped d p = Holds-and_then NamesRise IsShaped tree_of shown_shaped (get (codes "item") d) (get_rises (codes "item") d p)
 
--- ---- steps
+-- ---- acts
 
-abbrev IsStep : StepView → Type 0
-IsStep s = trees_have_shape s ≡ true
+abbrev IsAct : ActView → Type 0
+IsAct a = act_has_shape a ≡ true
 
-abbrev Shaped : Option StepView → Type 0
-Shaped o = Holds IsStep o
+abbrev Shaped : Option ActView → Type 0
+Shaped o = Holds IsAct o
 
 -- where a value has only these members
-only : (names : List ℕ) (d : Data) (o : Option StepView) → Shaped o → Shaped (cond (has_only names d) o None)
-only names d o h = Holds-cond IsStep (has_only names d) o None (λ _. h) tt
+only : (names : List ℕ) (d : Data) (o : Option ActView) → Shaped o → Shaped (cond (has_only names d) o None)
+only names d o h = Holds-cond IsAct (has_only names d) o None (λ _. h) tt
 
--- whatever the values are that a step is made of
-made : {A : Type 0} (f : A → StepView) → ((a : A) → IsStep (f a)) → (o : Option A) → Shaped (option_map f o)
-made f each None = tt
-made f each (Some a) = each a
+-- whatever the values are that something is made of
+made : {A B : Type 0} (P : B → Type 0) (f : A → B) → ((a : A) → P (f a)) → (o : Option A) → Holds P (option_map f o)
+made P f each None = tt
+made P f each (Some a) = each a
 
-bound : {A : Type 0} (f : A → Option StepView) → ((a : A) → Shaped (f a)) → (o : Option A) → Shaped (option_and_then f o)
-bound f each None = tt
-bound f each (Some a) = each a
+bound : {A B : Type 0} (P : B → Type 0) (f : A → Option B) → ((a : A) → Holds P (f a)) → (o : Option A) → Holds P (option_and_then f o)
+bound P f each None = tt
+bound P f each (Some a) = each a
 
-abbrev inserted : Actor × Target → ℕ → List Node → StepView
-inserted p index items = insert p.0.client p.0.branch p.1.at p.1.key index items
+abbrev inserted : Target → ℕ → List Node → ActView
+inserted t index items = edit (insert t.at t.key index items)
 
 insert_shaped : (d : Data) → NamesRise d → Shaped (read_insert d)
 insert_shaped d rise =
-    only (codes "at branch client do index items key") d (option_and_then (λ p. option_and_then (λ index. option_map (inserted p index) (items_in d)) (number_in (codes "index") d)) (site_of d))
-    (bound (λ p. option_and_then (λ index. option_map (inserted p index) (items_in d)) (number_in (codes "index") d))
-    (λ p. bound (λ index. option_map (inserted p index) (items_in d)) (λ n. Holds-map AreShaped IsStep (inserted p n) (λ ts h. h) (items_in d) (items_shaped d rise)) (number_in (codes "index") d)) (site_of d))
+    only (codes "at branch client do index items key") d (option_and_then (λ t. option_and_then (λ index. option_map (inserted t index) (items_in d)) (number_in (codes "index") d)) (site_of d))
+    (bound IsAct (λ t. option_and_then (λ index. option_map (inserted t index) (items_in d)) (number_in (codes "index") d))
+    (λ t. bound IsAct (λ index. option_map (inserted t index) (items_in d)) (λ n. Holds-map AreShaped IsAct (inserted t n) (λ ts h. h) (items_in d) (items_shaped d rise)) (number_in (codes "index") d)) (site_of d))
 
-abbrev removed : Actor × Target → Span → StepView
-removed p span = remove p.0.client p.0.branch p.1.at p.1.key span.index span.count
+abbrev removed : Target → Span → ActView
+removed t span = edit (remove t.at t.key span.index span.count)
 
 remove_shaped : (d : Data) → Shaped (read_remove d)
 remove_shaped d =
-    only (codes "at branch client count do index key") d (option_and_then (λ p. option_map (removed p) (span_of d)) (site_of d))
-    (bound (λ p. option_map (removed p) (span_of d)) (λ p. made (removed p) (λ span. refl) (span_of d)) (site_of d))
+    only (codes "at branch client count do index key") d (option_and_then (λ t. option_map (removed t) (span_of d)) (site_of d))
+    (bound IsAct (λ t. option_map (removed t) (span_of d)) (λ t. made IsAct (removed t) (λ span. refl) (span_of d)) (site_of d))
 
-abbrev moved : Actor × Target → Span → Goal → StepView
-moved p span goal = move p.0.client p.0.branch p.1.at p.1.key span.index span.count goal.to goal.to_key goal.to_index
+abbrev moved : Target → Span → Goal → ActView
+moved t span goal = edit (move t.at t.key span.index span.count goal.to goal.to_key goal.to_index)
 
 move_shaped : (d : Data) → Shaped (read_move d)
 move_shaped d =
-    only (codes "at branch client count do index key to to_index to_key") d (option_and_then (λ p. option_and_then (λ span. option_map (moved p span) (goal_of d)) (span_of d)) (site_of d))
-    (bound (λ p. option_and_then (λ span. option_map (moved p span) (goal_of d)) (span_of d))
-    (λ p. bound (λ span. option_map (moved p span) (goal_of d)) (λ span. made (moved p span) (λ goal. refl) (goal_of d)) (span_of d)) (site_of d))
+    only (codes "at branch client count do index key to to_index to_key") d (option_and_then (λ t. option_and_then (λ span. option_map (moved t span) (goal_of d)) (span_of d)) (site_of d))
+    (bound IsAct (λ t. option_and_then (λ span. option_map (moved t span) (goal_of d)) (span_of d))
+    (λ t. bound IsAct (λ span. option_map (moved t span) (goal_of d)) (λ span. made IsAct (moved t span) (λ goal. refl) (goal_of d)) (span_of d)) (site_of d))
 
-abbrev put_there : Actor × Target → Node → StepView
-put_there p tree = set p.0.client p.0.branch p.1.at p.1.key tree
+abbrev put_there : Target → Node → ActView
+put_there t tree = edit (set t.at t.key tree)
 
 set_shaped : (d : Data) → NamesRise d → Shaped (read_set d)
 set_shaped d rise =
-    only (codes "at branch client do item key") d (option_and_then (λ p. option_map (put_there p) (item_in d)) (site_of d))
-    (bound (λ p. option_map (put_there p) (item_in d)) (λ p. Holds-map IsShaped IsStep (put_there p) (λ t h. h) (item_in d) (item_shaped d rise)) (site_of d))
+    only (codes "at branch client do item key") d (option_and_then (λ t. option_map (put_there t) (item_in d)) (site_of d))
+    (bound IsAct (λ t. option_map (put_there t) (item_in d)) (λ t. Holds-map IsShaped IsAct (put_there t) (λ u h. h) (item_in d) (item_shaped d rise)) (site_of d))
 
-abbrev cleared : Actor × Target → StepView
-cleared p = clear p.0.client p.0.branch p.1.at p.1.key
+abbrev cleared : Target → ActView
+cleared t = edit (clear t.at t.key)
 
 clear_shaped : (d : Data) → Shaped (read_clear d)
-clear_shaped d = only (codes "at branch client do key") d (option_map cleared (site_of d)) (made cleared (λ p. refl) (site_of d))
-
-abbrev shown : Actor → StepView
-shown a = show a.client a.branch
-
-show_shaped : (d : Data) → Shaped (read_show d)
-show_shaped d = only (codes "branch client do") d (option_map shown (actor_of d)) (made shown (λ a. refl) (actor_of d))
+clear_shaped d = only (codes "at branch client do key") d (option_map cleared (site_of d)) (made IsAct cleared (λ t. refl) (site_of d))
 
 -- one of two, each of which has the shape
-either : (b : Bool) (o p : Option StepView) → Shaped o → Shaped p → Shaped (cond b o p)
+either : (b : Bool) (o p : Option ActView) → Shaped o → Shaped p → Shaped (cond b o p)
 either true o p l r = l
 either false o p l r = r
 
 word_shaped : (word : List ℕ) (d : Data) → NamesRise d → Shaped (read_of word d)
 word_shaped word d rise =
-    either (same word (codes "join")) _ _ (made join (λ c. refl) (lone_client d))
+    either (same word (codes "join")) _ _ (only (codes "client do") d (Some join) refl)
     (either (same word (codes "insert")) _ _ (insert_shaped d rise)
     (either (same word (codes "remove")) _ _ (remove_shaped d)
     (either (same word (codes "move")) _ _ (move_shaped d)
     (either (same word (codes "set")) _ _ (set_shaped d rise)
     (either (same word (codes "clear")) _ _ (clear_shaped d)
-    (either (same word (codes "sequence")) _ _ (made sequence (λ c. refl) (lone_client d))
-    (either (same word (codes "deliver")) _ _ (made deliver (λ c. refl) (lone_client d))
-    (either (same word (codes "show")) _ _ (show_shaped d) tt))))))))
+    (either (same word (codes "sequence")) _ _ (only (codes "client do") d (Some sequence) refl)
+    (either (same word (codes "deliver")) _ _ (only (codes "client do") d (Some deliver) refl)
+    (either (same word (codes "show")) _ _ (only (codes "branch client do") d (Some show) refl) tt))))))))
 
-value_step_shaped : (d : Data) → NamesRise d → Shaped (step_of d)
-value_step_shaped d rise = bound (λ word. read_of word d) (λ word. word_shaped word d rise) (word_of d)
+act_shaped : (d : Data) → NamesRise d → Shaped (act_of d)
+act_shaped d rise = bound IsAct (λ word. read_of word d) (λ word. word_shaped word d rise) (word_of d)
+
+-- ---- steps
+
+abbrev IsStep : StepView → Type 0
+IsStep s = trees_have_shape s ≡ true
+
+value_step_shaped : (d : Data) → NamesRise d → Holds IsStep (step_of d)
+value_step_shaped d rise =
+    let step : ℕ → List ℕ → ActView → StepView = λ b c a. record { client = c; branch = b; act = a } in
+    bound IsStep (λ b. option_and_then (λ c. option_map (step b c) (act_of d)) (client_in d))
+    (λ b. bound IsStep (λ c. option_map (step b c) (act_of d)) (λ c. Holds-map IsAct IsStep (step b c) (λ a h. h) (act_of d) (act_shaped d rise)) (client_in d)) (number_or 0 (get (codes "branch") d))
 
 -- the step of a line
 pub line_shaped : (bytes : List ℕ) (s : StepView) → line_of bytes ≡ Ok s → trees_have_shape s ≡ true
 line_shaped bytes s e = go (line_value bytes) (line_rises bytes) e
   where
-    step : (o : Option StepView) → Shaped o → ok_or o BadCause.Shape ≡ Ok s → trees_have_shape s ≡ true
+    step : (o : Option StepView) → Holds IsStep o → ok_or o BadCause.Shape ≡ Ok s → trees_have_shape s ≡ true
     step None h f = absurd cc
     step (Some x) h f = let same_step : x ≡ s = cc in subst IsStep same_step h
 

@@ -14,8 +14,8 @@ use Rattle.st_tree.specs.Node.{Node, nodes_of}
 use Rattle.st_schema.specs.TreeText.{trees_data}
 use Rattle.st_schema.proofs.PlainTrees.{tree_plain, tree_low, items_low}
 use Rattle.st_script.specs.Line.{line_of, step_of_value}
-use Rattle.st_script.specs.Steps.{StepView, join, insert, remove, move, set, clear, sequence, deliver, show}
-use Rattle.st_script.specs.StepText.{places_data, step_data, step_text, limits_of, trees_have_shape, IsReadBack, FitsLine}
+use Rattle.st_script.specs.Steps.{EditView, insert, remove, move, set, clear, ActView, join, edit, sequence, deliver, show, StepView}
+use Rattle.st_script.specs.StepText.{places_data, edit_data, act_data, step_data, step_text, edit_limits, act_limits, limits_of, trees_have_shape, IsReadBack, FitsLine}
 use Rattle.st_script.proofs.Again.{read_again}
 use Rattle.st_script.proofs.Fits.{line_fits}
 use Rattle.st_script.proofs.Shaped.{line_shaped}
@@ -31,16 +31,22 @@ trees_plain : (ts : List Node) → items_have_float (trees_data (nodes_of ts)) �
 trees_plain [] = refl
 trees_plain (t ∷ ts) = rw (tree_plain t) (trees_plain ts)
 
+edit_plain : (client : List ℕ) (branch : ℕ) (e : EditView) → has_float (edit_data client branch e) ≡ false
+edit_plain client branch (insert at key index items) = rw (path_plain at, trees_plain items) refl
+edit_plain client branch (remove at key index count) = rw (path_plain at) refl
+edit_plain client branch (move at key index count to to_key to_index) = rw (path_plain at, path_plain to) refl
+edit_plain client branch (set at key item) = rw (path_plain at, tree_plain item) refl
+edit_plain client branch (clear at key) = rw (path_plain at) refl
+
+act_plain : (client : List ℕ) (branch : ℕ) (a : ActView) → has_float (act_data client branch a) ≡ false
+act_plain client branch join = refl
+act_plain client branch (edit e) = edit_plain client branch e
+act_plain client branch sequence = refl
+act_plain client branch deliver = refl
+act_plain client branch show = refl
+
 pub step_plain : (s : StepView) → has_float (step_data s) ≡ false
-step_plain (join client) = refl
-step_plain (insert client branch at key index items) = rw (path_plain at, trees_plain items) refl
-step_plain (remove client branch at key index count) = rw (path_plain at) refl
-step_plain (move client branch at key index count to to_key to_index) = rw (path_plain at, path_plain to) refl
-step_plain (set client branch at key item) = rw (path_plain at, tree_plain item) refl
-step_plain (clear client branch at key) = rw (path_plain at) refl
-step_plain (sequence client) = refl
-step_plain (deliver client) = refl
-step_plain (show client branch) = refl
+step_plain s = act_plain s.client s.branch s.act
 
 -- ---- how deep it nests
 
@@ -48,16 +54,22 @@ path_low : (ps : List Place) → items_depth (items_of (places_data ps)) ≤ 0
 path_low [] = omega arith
 path_low (p ∷ ps) = omega (arith, path_low ps)
 
+edit_low : (client : List ℕ) (branch : ℕ) (e : EditView) → edit_limits e ≡ Ok tt → depth (edit_data client branch e) ≤ max_depth
+edit_low client branch (insert at key index items) h = omega (arith, path_low at, items_low (nodes_of items), (all_small (nodes_of items) h).1)
+edit_low client branch (remove at key index count) h = omega (arith, path_low at)
+edit_low client branch (move at key index count to to_key to_index) h = omega (arith, path_low at, path_low to)
+edit_low client branch (set at key item) h = omega (arith, path_low at, tree_low item, (one_small item h).1)
+edit_low client branch (clear at key) h = omega (arith, path_low at)
+
+act_low : (client : List ℕ) (branch : ℕ) (a : ActView) → act_limits a ≡ Ok tt → depth (act_data client branch a) ≤ max_depth
+act_low client branch join h = omega arith
+act_low client branch (edit e) h = edit_low client branch e h
+act_low client branch sequence h = omega arith
+act_low client branch deliver h = omega arith
+act_low client branch show h = omega arith
+
 pub step_low : (s : StepView) → limits_of s ≡ Ok tt → depth (step_data s) ≤ max_depth
-step_low (join client) h = omega arith
-step_low (insert client branch at key index items) h = omega (arith, path_low at, items_low (nodes_of items), (all_small (nodes_of items) h).1)
-step_low (remove client branch at key index count) h = omega (arith, path_low at)
-step_low (move client branch at key index count to to_key to_index) h = omega (arith, path_low at, path_low to)
-step_low (set client branch at key item) h = omega (arith, path_low at, tree_low item, (one_small item h).1)
-step_low (clear client branch at key) h = omega (arith, path_low at)
-step_low (sequence client) h = omega arith
-step_low (deliver client) h = omega arith
-step_low (show client branch) h = omega arith
+step_low s h = act_low s.client s.branch s.act h
 
 -- ---- the line
 

@@ -4,4 +4,3 @@ pub mod Line
 pub mod Members
 pub mod StepText
 pub mod Steps
-pub mod inside

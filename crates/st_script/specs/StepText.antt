@@ -11,7 +11,7 @@ use Rattle.st_tree.specs.declared.limits.TreeFault.{TreeFault}
 use Rattle.st_schema.specs.Shape.{has_shape, all_have_shape}
 use Rattle.st_schema.specs.TreeText.{tree_data, trees_data, tree_of}
 use Rattle.st_script.specs.Line.{line_of}
-use Rattle.st_script.specs.Steps.{StepView, join, insert, remove, move, set, clear, sequence, deliver, show}
+use Rattle.st_script.specs.Steps.{EditView, insert, remove, move, set, clear, ActView, join, edit, sequence, deliver, show, StepView}
 
 -- keys and indexes in turn
 abbrev pub places_data : List Place → List Data
@@ -38,52 +38,66 @@ site_members word client branch at key = member (codes "at") (path_data at) (mem
     (member (codes "key") (string key.0) no_members))))
 
 -- every member of a step, also one that holds what is meant where nothing is said, in byte order of the names
-abbrev pub step_data : StepView → Data
-step_data (join client) = plain_data (codes "join") client
-step_data (insert client branch at key index items) =
+abbrev pub edit_data : List ℕ → ℕ → EditView → Data
+edit_data client branch (insert at key index items) =
     object (member (codes "at") (path_data at) (member (codes "branch") (number (unsigned branch)) (member (codes "client") (string client) (member (codes "do") (string (codes "insert"))
     (member (codes "index") (number (unsigned index)) (member (codes "items") (items_data items) (member (codes "key") (string key.0) no_members)))))))
-step_data (remove client branch at key index count) =
+edit_data client branch (remove at key index count) =
     object (member (codes "at") (path_data at) (member (codes "branch") (number (unsigned branch)) (member (codes "client") (string client) (member (codes "count") (number (unsigned count))
     (member (codes "do") (string (codes "remove")) (member (codes "index") (number (unsigned index)) (member (codes "key") (string key.0) no_members)))))))
-step_data (move client branch at key index count to to_key to_index) =
+edit_data client branch (move at key index count to to_key to_index) =
     object (member (codes "at") (path_data at) (member (codes "branch") (number (unsigned branch)) (member (codes "client") (string client) (member (codes "count") (number (unsigned count))
     (member (codes "do") (string (codes "move")) (member (codes "index") (number (unsigned index)) (member (codes "key") (string key.0)
     (member (codes "to") (path_data to) (member (codes "to_index") (number (unsigned to_index)) (member (codes "to_key") (string to_key.0) no_members))))))))))
-step_data (set client branch at key item) =
+edit_data client branch (set at key item) =
     object (member (codes "at") (path_data at) (member (codes "branch") (number (unsigned branch)) (member (codes "client") (string client) (member (codes "do") (string (codes "set"))
     (member (codes "item") (tree_data item) (member (codes "key") (string key.0) no_members))))))
-step_data (clear client branch at key) = object (site_members (codes "clear") client branch at key)
-step_data (sequence client) = plain_data (codes "sequence") client
-step_data (deliver client) = plain_data (codes "deliver") client
-step_data (show client branch) = object (actor_members (codes "show") client branch)
+edit_data client branch (clear at key) = object (site_members (codes "clear") client branch at key)
+
+abbrev pub act_data : List ℕ → ℕ → ActView → Data
+act_data client branch join = plain_data (codes "join") client
+act_data client branch (edit e) = edit_data client branch e
+act_data client branch sequence = plain_data (codes "sequence") client
+act_data client branch deliver = plain_data (codes "deliver") client
+act_data client branch show = object (actor_members (codes "show") client branch)
+
+abbrev pub step_data : StepView → Data
+step_data s = act_data s.client s.branch s.act
 
 abbrev pub step_text : StepView → List ℕ
 step_text s = compact_text (step_data s)
 
--- the limits of a step's trees, which an insert's keep together
+-- the limits of an edit's trees, which an insert's keep together
+abbrev pub edit_limits : EditView → Result (Unit {0}) TreeFault
+edit_limits (insert at key index items) = check_items (nodes_of items)
+edit_limits (remove at key index count) = Ok tt
+edit_limits (move at key index count to to_key to_index) = Ok tt
+edit_limits (set at key item) = check_of item
+edit_limits (clear at key) = Ok tt
+
+abbrev pub act_limits : ActView → Result (Unit {0}) TreeFault
+act_limits (edit e) = edit_limits e
+act_limits a = Ok tt
+
+-- the limits of a step's trees
 abbrev pub limits_of : StepView → Result (Unit {0}) TreeFault
-limits_of (join client) = Ok tt
-limits_of (insert client branch at key index items) = check_items (nodes_of items)
-limits_of (remove client branch at key index count) = Ok tt
-limits_of (move client branch at key index count to to_key to_index) = Ok tt
-limits_of (set client branch at key item) = check_of item
-limits_of (clear client branch at key) = Ok tt
-limits_of (sequence client) = Ok tt
-limits_of (deliver client) = Ok tt
-limits_of (show client branch) = Ok tt
+limits_of s = act_limits s.act
+
+-- an edit's trees have the shape of trees that values show
+abbrev pub edit_has_shape : EditView → Bool
+edit_has_shape (insert at key index items) = all_have_shape (nodes_of items)
+edit_has_shape (remove at key index count) = true
+edit_has_shape (move at key index count to to_key to_index) = true
+edit_has_shape (set at key item) = has_shape item
+edit_has_shape (clear at key) = true
+
+abbrev pub act_has_shape : ActView → Bool
+act_has_shape (edit e) = edit_has_shape e
+act_has_shape a = true
 
 -- a step's trees have the shape of trees that values show
 abbrev pub trees_have_shape : StepView → Bool
-trees_have_shape (join client) = true
-trees_have_shape (insert client branch at key index items) = all_have_shape (nodes_of items)
-trees_have_shape (remove client branch at key index count) = true
-trees_have_shape (move client branch at key index count to to_key to_index) = true
-trees_have_shape (set client branch at key item) = has_shape item
-trees_have_shape (clear client branch at key) = true
-trees_have_shape (sequence client) = true
-trees_have_shape (deliver client) = true
-trees_have_shape (show client branch) = true
+trees_have_shape s = act_has_shape s.act
 
 -- ---- the steps that a line can hold
 
@@ -119,17 +133,25 @@ AreShown (t ∷ ts) = IsShown t × AreShown ts
 abbrev pub AreItems : List Node → Type 0
 AreItems ts = (1 ≤ length ts) × (check_items (nodes_of ts) ≡ Ok tt) × AreShown ts
 
+abbrev pub FitsEdit : EditView → Type 0
+FitsEdit (insert at key index items) = IsTarget at key × (index < 2 ^ 32) × AreItems items
+FitsEdit (remove at key index count) = IsTarget at key × IsSpan index count
+FitsEdit (move at key index count to to_key to_index) =
+    IsTarget at key × IsSpan index count × IsTarget to to_key × (to_index < 2 ^ 32)
+FitsEdit (set at key item) = IsTarget at key × IsShown item
+FitsEdit (clear at key) = IsTarget at key
+
+-- an act on a branch, which is the main one, 0, where the line has no member for it
+abbrev pub FitsAct : ℕ → ActView → Type 0
+FitsAct branch join = branch ≡ 0
+FitsAct branch (edit e) = FitsEdit e
+FitsAct branch sequence = branch ≡ 0
+FitsAct branch deliver = branch ≡ 0
+FitsAct branch show = Unit {0}
+
 -- a step as a line can hold it
 abbrev pub FitsLine : StepView → Type 0
-FitsLine (join client) = IsName client
-FitsLine (insert client branch at key index items) = IsActor client branch × IsTarget at key × (index < 2 ^ 32) × AreItems items
-FitsLine (remove client branch at key index count) = IsActor client branch × IsTarget at key × IsSpan index count
-FitsLine (move client branch at key index count to to_key to_index) = IsActor client branch × IsTarget at key × IsSpan index count × IsTarget to to_key × (to_index < 2 ^ 32)
-FitsLine (set client branch at key item) = IsActor client branch × IsTarget at key × IsShown item
-FitsLine (clear client branch at key) = IsActor client branch × IsTarget at key
-FitsLine (sequence client) = IsName client
-FitsLine (deliver client) = IsName client
-FitsLine (show client branch) = IsActor client branch
+FitsLine s = IsActor s.client s.branch × FitsAct s.branch s.act
 
 -- ---- lines that are written
 

@@ -19,5 +19,5 @@ pub use laws::{
 };
 pub use line::{Line, read_step_line};
 pub use refusal::Refusal;
-pub use step::TraceStep;
+pub use step::{Act, EditAct, TraceStep};
 pub use write::step_line;

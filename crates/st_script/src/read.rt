@@ -1,23 +1,15 @@
 //! Steps read from the value of a line.
 ghost use Rattle.std.specs.Prelude.{◌≡◌, codes, IfOk, option_map};
 ghost use Rattle.serde_json.specs.View.{view};
-ghost use Rattle.st_script.specs.Steps.{actor_of, target_of, site_of, span_of, goal_of, step_view, lone_client, word_of, read_insert, read_remove, read_move, read_set, read_clear, read_show, read_of, step_of};
-ghost use Rattle.st_script.specs.inside.Steps.{plain_step};
+ghost use Rattle.st_script.specs.Steps.{target_of, span_of, goal_of, act_view, step_view, word_of, plain_act, read_insert, read_remove, read_move, read_set, read_clear, read_of, act_of, step_of};
 
 use crate::member::{
     client, count, has_only, item, items, key_member, number_member, number_or_zero, path_member,
 };
-use crate::step::TraceStep;
+use crate::step::{Act, EditAct, TraceStep};
 use serde_json::Value;
-use st_ids::{Key, Path, Text};
+use st_ids::{Key, Path};
 use std::alloc::{AllocError, Global};
-
-// Who does a step, and on which branch.
-#[derive(Drop)]
-struct Actor {
-    client: Text,
-    branch: u32,
-}
 
 // A field of a node.
 #[derive(Drop)]
@@ -41,18 +33,6 @@ struct Goal {
     to_index: u32,
 }
 
-fn read_actor(alloc: Global, value: &Value) -> Result<Option<Actor>, AllocError>
-    ensures { IfOk result (λ a. a ≡ actor_of (view value.now)) }
-{
-    let Some(branch) = number_or_zero(value, "branch") else {
-        return Ok(None);
-    };
-    match client(alloc, value)? {
-        None => Ok(None),
-        Some(client) => Ok(Some(Actor { client, branch })),
-    }
-}
-
 fn read_target(
     alloc: Global,
     value: &Value,
@@ -67,19 +47,6 @@ fn read_target(
     match key_member(alloc, value, key)? {
         None => Ok(None),
         Some(key) => Ok(Some(Target { at, key })),
-    }
-}
-
-// Who edits which field.
-fn read_site(alloc: Global, value: &Value) -> Result<Option<(Actor, Target)>, AllocError>
-    ensures { IfOk result (λ s. s ≡ site_of (view value.now)) }
-{
-    let Some(actor) = read_actor(alloc, value)? else {
-        return Ok(None);
-    };
-    match read_target(alloc, value, "at", "key")? {
-        None => Ok(None),
-        Some(target) => Ok(Some((actor, target))),
     }
 }
 
@@ -108,13 +75,13 @@ fn read_goal(alloc: Global, value: &Value) -> Result<Option<Goal>, AllocError>
     }))
 }
 
-fn read_insert(alloc: Global, value: &Value) -> Result<Option<TraceStep>, AllocError>
-    ensures { IfOk result (λ s. option_map step_view s ≡ read_insert (view value.now)) }
+fn read_insert(alloc: Global, value: &Value) -> Result<Option<Act>, AllocError>
+    ensures { IfOk result (λ a. option_map act_view a ≡ read_insert (view value.now)) }
 {
     if !has_only(value, "at branch client do index items key") {
         return Ok(None);
     }
-    let Some((Actor { client, branch }, Target { at, key })) = read_site(alloc, value)? else {
+    let Some(Target { at, key }) = read_target(alloc, value, "at", "key")? else {
         return Ok(None);
     };
     let Some(index) = number_member(value, "index") else {
@@ -123,40 +90,36 @@ fn read_insert(alloc: Global, value: &Value) -> Result<Option<TraceStep>, AllocE
     let Some(items) = items(alloc, value)? else {
         return Ok(None);
     };
-    Ok(Some(TraceStep::Insert {
-        client,
-        branch,
+    Ok(Some(Act::Edit(EditAct::Insert {
         at,
         key,
         index,
         items,
-    }))
+    })))
 }
 
-fn read_remove(alloc: Global, value: &Value) -> Result<Option<TraceStep>, AllocError>
-    ensures { IfOk result (λ s. option_map step_view s ≡ read_remove (view value.now)) }
+fn read_remove(alloc: Global, value: &Value) -> Result<Option<Act>, AllocError>
+    ensures { IfOk result (λ a. option_map act_view a ≡ read_remove (view value.now)) }
 {
     if !has_only(value, "at branch client count do index key") {
         return Ok(None);
     }
-    let Some((Actor { client, branch }, Target { at, key })) = read_site(alloc, value)? else {
+    let Some(Target { at, key }) = read_target(alloc, value, "at", "key")? else {
         return Ok(None);
     };
     let Some(Span { index, count }) = read_span(value) else {
         return Ok(None);
     };
-    Ok(Some(TraceStep::Remove {
-        client,
-        branch,
+    Ok(Some(Act::Edit(EditAct::Remove {
         at,
         key,
         index,
         count,
-    }))
+    })))
 }
 
-fn read_move(alloc: Global, value: &Value) -> Result<Option<TraceStep>, AllocError>
-    ensures { IfOk result (λ s. option_map step_view s ≡ read_move (view value.now)) }
+fn read_move(alloc: Global, value: &Value) -> Result<Option<Act>, AllocError>
+    ensures { IfOk result (λ a. option_map act_view a ≡ read_move (view value.now)) }
 {
     if !has_only(
         value,
@@ -164,7 +127,7 @@ fn read_move(alloc: Global, value: &Value) -> Result<Option<TraceStep>, AllocErr
     ) {
         return Ok(None);
     }
-    let Some((Actor { client, branch }, Target { at, key })) = read_site(alloc, value)? else {
+    let Some(Target { at, key }) = read_target(alloc, value, "at", "key")? else {
         return Ok(None);
     };
     let Some(Span { index, count }) = read_span(value) else {
@@ -178,9 +141,7 @@ fn read_move(alloc: Global, value: &Value) -> Result<Option<TraceStep>, AllocErr
         to_key,
         to_index,
     } = goal;
-    Ok(Some(TraceStep::Move {
-        client,
-        branch,
+    Ok(Some(Act::Edit(EditAct::Move {
         at,
         key,
         index,
@@ -188,106 +149,61 @@ fn read_move(alloc: Global, value: &Value) -> Result<Option<TraceStep>, AllocErr
         to,
         to_key,
         to_index,
-    }))
+    })))
 }
 
-fn read_set(alloc: Global, value: &Value) -> Result<Option<TraceStep>, AllocError>
-    ensures { IfOk result (λ s. option_map step_view s ≡ read_set (view value.now)) }
+fn read_set(alloc: Global, value: &Value) -> Result<Option<Act>, AllocError>
+    ensures { IfOk result (λ a. option_map act_view a ≡ read_set (view value.now)) }
 {
     if !has_only(value, "at branch client do item key") {
         return Ok(None);
     }
-    let Some((Actor { client, branch }, Target { at, key })) = read_site(alloc, value)? else {
+    let Some(Target { at, key }) = read_target(alloc, value, "at", "key")? else {
         return Ok(None);
     };
-    let Some(item) = item(alloc, value)? else {
-        return Ok(None);
-    };
-    Ok(Some(TraceStep::Set {
-        client,
-        branch,
-        at,
-        key,
-        item,
-    }))
+    match item(alloc, value)? {
+        None => Ok(None),
+        Some(item) => Ok(Some(Act::Edit(EditAct::Set { at, key, item }))),
+    }
 }
 
-fn read_clear(alloc: Global, value: &Value) -> Result<Option<TraceStep>, AllocError>
-    ensures { IfOk result (λ s. option_map step_view s ≡ read_clear (view value.now)) }
+fn read_clear(alloc: Global, value: &Value) -> Result<Option<Act>, AllocError>
+    ensures { IfOk result (λ a. option_map act_view a ≡ read_clear (view value.now)) }
 {
     if !has_only(value, "at branch client do key") {
         return Ok(None);
     }
-    let Some((Actor { client, branch }, Target { at, key })) = read_site(alloc, value)? else {
-        return Ok(None);
-    };
-    Ok(Some(TraceStep::Clear {
-        client,
-        branch,
-        at,
-        key,
-    }))
-}
-
-fn read_show(alloc: Global, value: &Value) -> Result<Option<TraceStep>, AllocError>
-    ensures { IfOk result (λ s. option_map step_view s ≡ read_show (view value.now)) }
-{
-    if !has_only(value, "branch client do") {
-        return Ok(None);
-    }
-    match read_actor(alloc, value)? {
+    match read_target(alloc, value, "at", "key")? {
         None => Ok(None),
-        Some(Actor { client, branch }) => Ok(Some(TraceStep::Show { client, branch })),
+        Some(Target { at, key }) => Ok(Some(Act::Edit(EditAct::Clear { at, key }))),
     }
 }
 
-// The words of the steps that name a client alone.
-#[derive(Clone, Copy)]
-enum Plain {
-    Join,
-    Sequence,
-    Deliver,
-}
-
-// The client of a step that has no other member.
-fn lone_client(alloc: Global, value: &Value) -> Result<Option<Text>, AllocError>
-    ensures { IfOk result (λ t. t ≡ lone_client (view value.now)) }
+// An act without members of its own, where a value has no members but those of the names.
+fn plain(value: &Value, names: &str, act: Act) -> Option<Act>
+    ensures { option_map act_view result ≡ plain_act names.now (act_view act) (view value.now) }
 {
-    if has_only(value, "client do") {
-        client(alloc, value)
+    if has_only(value, names) {
+        Some(act)
     } else {
-        Ok(None)
+        None
     }
 }
 
-// The step of such a word.
-fn read_plain(alloc: Global, word: Plain, value: &Value) -> Result<Option<TraceStep>, AllocError>
-    ensures { IfOk result (λ s. option_map step_view s ≡ option_map (plain_step word) (lone_client (view value.now))) }
-{
-    let Some(client) = lone_client(alloc, value)? else {
-        return Ok(None);
-    };
-    Ok(Some(match word {
-        Plain::Join => TraceStep::Join { client },
-        Plain::Sequence => TraceStep::Sequence { client },
-        Plain::Deliver => TraceStep::Deliver { client },
-    }))
-}
-
-// The step of a word.
-fn read_of(alloc: Global, word: &str, value: &Value) -> Result<Option<TraceStep>, AllocError>
-    ensures { IfOk result (λ s. option_map step_view s ≡ read_of word.now (view value.now)) }
+// The act of a word.
+fn read_of(alloc: Global, word: &str, value: &Value) -> Result<Option<Act>, AllocError>
+    ensures { IfOk result (λ a. option_map act_view a ≡ read_of word.now (view value.now)) }
 {
     match word {
-        "join" => read_plain(alloc, Plain::Join, value),
+        "join" => Ok(plain(value, "client do", Act::Join)),
         "insert" => read_insert(alloc, value),
         "remove" => read_remove(alloc, value),
         "move" => read_move(alloc, value),
         "set" => read_set(alloc, value),
         "clear" => read_clear(alloc, value),
-        "sequence" => read_plain(alloc, Plain::Sequence, value),
-        "deliver" => read_plain(alloc, Plain::Deliver, value),
-        "show" => read_show(alloc, value),
+        "sequence" => Ok(plain(value, "client do", Act::Sequence)),
+        "deliver" => Ok(plain(value, "client do", Act::Deliver)),
+        "show" => Ok(plain(value, "branch client do", Act::Show)),
         _ => Ok(None),
     }
 }
@@ -299,12 +215,32 @@ fn word(value: &Value) -> Option<&str>
     value.get("do")?.as_str()
 }
 
-/// The step of a value, by the word that it does.
-pub(crate) fn read_step(alloc: Global, value: &Value) -> Result<Option<TraceStep>, AllocError>
-    ensures { IfOk result (λ s. option_map step_view s ≡ step_of (view value.now)) }
+// What a value does.
+fn read_act(alloc: Global, value: &Value) -> Result<Option<Act>, AllocError>
+    ensures { IfOk result (λ a. option_map act_view a ≡ act_of (view value.now)) }
 {
     match word(value) {
         None => Ok(None),
         Some(word) => read_of(alloc, word, value),
+    }
+}
+
+/// The step of a value: its client, its branch, and what it does.
+pub(crate) fn read_step(alloc: Global, value: &Value) -> Result<Option<TraceStep>, AllocError>
+    ensures { IfOk result (λ s. option_map step_view s ≡ step_of (view value.now)) }
+{
+    let Some(branch) = number_or_zero(value, "branch") else {
+        return Ok(None);
+    };
+    let Some(client) = client(alloc, value)? else {
+        return Ok(None);
+    };
+    match read_act(alloc, value)? {
+        None => Ok(None),
+        Some(act) => Ok(Some(TraceStep {
+            client,
+            branch,
+            act,
+        })),
     }
 }

@@ -11,10 +11,10 @@ ghost use Rattle.st_schema.specs.TreeText.{tree_data, trees_data};
 ghost use Rattle.st_tree.specs.Node.{view, trees_view};
 ghost use Rattle.st_tree.specs.Size.{check_of, check_items};
 ghost use Rattle.st_script.specs.Line.{line_of};
-ghost use Rattle.st_script.specs.Steps.{step_view, name_of, branch_of};
-ghost use Rattle.st_script.specs.StepText.{places_data, path_data, items_data, plain_data, actor_members, site_members, step_data, step_text, limits_of, trees_have_shape, IsReadBack, FitsLine};
+ghost use Rattle.st_script.specs.Steps.{edit_view, step_view};
+ghost use Rattle.st_script.specs.StepText.{places_data, path_data, items_data, plain_data, actor_members, site_members, edit_data, step_data, step_text, edit_limits, limits_of, edit_has_shape, trees_have_shape, IsReadBack, FitsLine};
 
-use crate::step::TraceStep;
+use crate::step::{Act, EditAct, TraceStep};
 use serde_json::{Map, Value};
 use st_ids::{Key, List, Or, Path, Place, Text};
 use st_schema::write_tree;
@@ -148,9 +148,9 @@ fn site_members(
     at: &Path,
     key: &Key,
 ) -> Result<Map<String, Value>, AllocError>
-    ensures { IfOk result (λ m. members_view m.entries ≡ site_members word.now (name_of (step_view step.now)) (branch_of (step_view step.now)) at.now key.now) }
+    ensures { IfOk result (λ m. members_view m.entries ≡ site_members word.now step.now.client step.now.branch at.now key.now) }
 {
-    let mut members = actor_members(alloc, word, step.client(), step.branch())?;
+    let mut members = actor_members(alloc, word, &step.client, step.branch)?;
     put_path(alloc, &mut members, "at", at)?;
     put_text(alloc, &mut members, "key", key.0.as_str())?;
     Ok(members)
@@ -214,34 +214,32 @@ fn set_value(alloc: Global, others: Map<String, Value>, item: &Tree) -> Result<V
     Ok(Value::Object(members))
 }
 
-// The value of a step whose trees are within the limits.
-fn step_value(alloc: Global, step: &TraceStep) -> Result<Value, AllocError>
-    requires { limits_of (step_view step.now) ≡ Ok tt }
-    ensures { IfOk result (λ v. trees_have_shape (step_view step.now) ≡ true → value_view v ≡ step_data (step_view step.now)) }
+// The value of a step that is an edit whose trees are within the limits.
+fn edit_value(alloc: Global, step: &TraceStep, edit: &EditAct) -> Result<Value, AllocError>
+    requires { edit_limits (edit_view edit.now) ≡ Ok tt }
+    ensures { IfOk result (λ v. edit_has_shape (edit_view edit.now) ≡ true
+        → value_view v ≡ edit_data step.now.client step.now.branch (edit_view edit.now)) }
 {
-    match step {
-        TraceStep::Join { client } => plain_value(alloc, "join", client),
-        TraceStep::Insert {
+    match edit {
+        EditAct::Insert {
             at,
             key,
             index,
             items,
-            ..
         } => {
             let others = site_members(alloc, "insert", step, at, key)?;
             insert_value(alloc, others, *index, items)
         }
-        TraceStep::Remove {
+        EditAct::Remove {
             at,
             key,
             index,
             count,
-            ..
         } => {
             let others = site_members(alloc, "remove", step, at, key)?;
             span_value(alloc, others, *index, *count)
         }
-        TraceStep::Move {
+        EditAct::Move {
             at,
             key,
             index,
@@ -249,24 +247,34 @@ fn step_value(alloc: Global, step: &TraceStep) -> Result<Value, AllocError>
             to,
             to_key,
             to_index,
-            ..
         } => {
             let mut others = site_members(alloc, "move", step, at, key)?;
             put_goal(alloc, &mut others, to, to_key, *to_index)?;
             span_value(alloc, others, *index, *count)
         }
-        TraceStep::Set { at, key, item, .. } => {
+        EditAct::Set { at, key, item } => {
             let others = site_members(alloc, "set", step, at, key)?;
             set_value(alloc, others, item)
         }
-        TraceStep::Clear { at, key, .. } => {
+        EditAct::Clear { at, key } => {
             let members = site_members(alloc, "clear", step, at, key)?;
             Ok(Value::Object(members))
         }
-        TraceStep::Sequence { client } => plain_value(alloc, "sequence", client),
-        TraceStep::Deliver { client } => plain_value(alloc, "deliver", client),
-        TraceStep::Show { client, branch } => {
-            let members = actor_members(alloc, "show", client, *branch)?;
+    }
+}
+
+// The value of a step whose trees are within the limits.
+fn step_value(alloc: Global, step: &TraceStep) -> Result<Value, AllocError>
+    requires { limits_of (step_view step.now) ≡ Ok tt }
+    ensures { IfOk result (λ v. trees_have_shape (step_view step.now) ≡ true → value_view v ≡ step_data (step_view step.now)) }
+{
+    match &step.act {
+        Act::Join => plain_value(alloc, "join", &step.client),
+        Act::Edit(edit) => edit_value(alloc, step, edit),
+        Act::Sequence => plain_value(alloc, "sequence", &step.client),
+        Act::Deliver => plain_value(alloc, "deliver", &step.client),
+        Act::Show => {
+            let members = actor_members(alloc, "show", &step.client, step.branch)?;
             Ok(Value::Object(members))
         }
     }
@@ -282,20 +290,29 @@ fn value_line(alloc: Global, value: &Value) -> Result<Text, AllocError>
     Ok(Text::from_string(line))
 }
 
+// Nothing, where the trees of an edit keep the limits.
+fn edit_limits(edit: &EditAct) -> Result<(), TreeFault>
+    ensures { result ≡ edit_limits (edit_view edit.now) }
+{
+    match edit {
+        EditAct::Insert { items, .. } => check_trees(items),
+        EditAct::Set { item, .. } => check(item),
+        EditAct::Remove { .. } => Ok(()),
+        EditAct::Move { .. } => Ok(()),
+        EditAct::Clear { .. } => Ok(()),
+    }
+}
+
 // Nothing, where the trees of a step keep the limits.
 fn limits(step: &TraceStep) -> Result<(), TreeFault>
     ensures { result ≡ limits_of (step_view step.now) }
 {
-    match step {
-        TraceStep::Insert { items, .. } => check_trees(items),
-        TraceStep::Set { item, .. } => check(item),
-        TraceStep::Join { .. } => Ok(()),
-        TraceStep::Remove { .. } => Ok(()),
-        TraceStep::Move { .. } => Ok(()),
-        TraceStep::Clear { .. } => Ok(()),
-        TraceStep::Sequence { .. } => Ok(()),
-        TraceStep::Deliver { .. } => Ok(()),
-        TraceStep::Show { .. } => Ok(()),
+    match &step.act {
+        Act::Edit(edit) => edit_limits(edit),
+        Act::Join => Ok(()),
+        Act::Sequence => Ok(()),
+        Act::Deliver => Ok(()),
+        Act::Show => Ok(()),
     }
 }
 
