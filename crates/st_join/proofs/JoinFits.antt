@@ -22,7 +22,7 @@ use Rattle.st_marks.proofs.NewRows.{made_kept, old_kept, with_groups-has}
 use Rattle.st_marks.proofs.Full.{known_put}
 use Rattle.st_join.proofs.Rows.{first_group, new_row_joined, type_joined}
 
-made_listed : (N : Intent) (n : NodeId) (a : Option CellId) (o : Owned) → Has (group_at N n a) o → Has (group_cells N) o
+pub made_listed : (N : Intent) (n : NodeId) (a : Option CellId) (o : Owned) → Has (group_at N n a) o → Has (group_cells N) o
 made_listed N n a o h = let g = group_at-group N n a o h in flat_map-has (λ (g : Group). g.cells) N.groups g.group o g.listed g.cell
 
 old_or_made : (D : Document) (N : Intent) (n : NodeId) (o : Owned) → Has ((with_names D N).rows n) o → Has (D.rows n) o ⊎ Has (group_cells N) o
@@ -134,7 +134,7 @@ module _ (D : Document) (N M J : Intent) (s : IsSoundInForm D) (p : AreParts D N
   ]
 
   -- an anchor of the join is no cell that the first makes
-  anchor_first : (g : Group) → Has J.groups g → IsOldAnchor N g.after
+  pub anchor_first : (g : Group) → Has J.groups g → IsOldAnchor N g.after
   anchor_first g h = go g.after (all-has (λ (g : Group). IfSome g.after (λ c. new_row_of J c ≡ None)) J.groups g j.itself.anchor_old h)
     where
       none_first : (a b : Option NodeId) → option_or a b ≡ None → a ≡ None
@@ -170,14 +170,14 @@ module _ (D : Document) (N M J : Intent) (s : IsSoundInForm D) (p : AreParts D N
       go None k = tt
       go (Some c) k = k
 
-  cell_first : (o : Owned) → Has (group_cells N) o → Has (group_cells J) o
+  pub cell_first : (o : Owned) → Has (group_cells N) o → Has (group_cells J) o
   cell_first o h =
       let g = has-flat_map (λ (g : Group). g.cells) N.groups o h in
       let here = subst (λ l. Has l o) (sym (group_found N p.first_fits.itself g.0 g.1)) g.2 in
       listed g.0.node g.0.after o (subst (λ l. Has l o) (sym (j.groups g.0.node g.0.after (old_anchor g.0 g.1)))
       (append_right (group_at M g.0.node g.0.after) (with_groups M g.0.node (group_at N g.0.node g.0.after)) o (old_kept M g.0.node (group_at N g.0.node g.0.after) o here)))
 
-  cell_second : (o : Owned) → Has (group_cells M) o → Has (group_cells J) o
+  pub cell_second : (o : Owned) → Has (group_cells M) o → Has (group_cells J) o
   cell_second o h =
       let g = has-flat_map (λ (g : Group). g.cells) M.groups o h in
       let k = all-has (λ (g : Group). IsKnown (full D N) M g.node × IfSome g.after (λ c. (full D N).row_of c ≡ Some g.node)) M.groups g.0 p.then_fits.groups_known g.1 in

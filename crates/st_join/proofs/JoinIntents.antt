@@ -25,7 +25,7 @@ use Rattle.st_marks.specs.Join.{AreParts, above_made, put_unless_new, unless_cle
 use Rattle.st_lemmas.proofs.Bools.{true-false}
 use Rattle.st_marks.proofs.Members.{all-has, has-all, has-append, distinct-append, distinct-filter_map, distinct-has, first-distinct, has-any, has-flat_map, flat_map-has, none-has}
 use Rattle.st_marks.proofs.Lookups.{clears-has, group-new_row_of, made_there, put-has}
-use Rattle.st_marks.proofs.NewRows.{old_cell, owns_in_row}
+use Rattle.st_marks.proofs.NewRows.{old_cell, one_row_each, owns_in_row, rows_once}
 use Rattle.st_marks.proofs.Climb.{unknown_nowhere}
 use Rattle.st_marks.proofs.Full.{known_put}
 use Rattle.st_join.specs.Listed.{IsListedJoin}
@@ -39,7 +39,7 @@ find_append {A} f (x ∷ xs) ys = go (f x) (find_append f xs ys)
     go true e = refl
     go false e = e
 
-module _ (D : Document) (N M J : Intent) (s : IsSoundInForm D) (t : IsSoundInForm (full D N)) (p : AreParts D N M) (j : IsListedJoin N M J) where
+module _ (D : Document) (N M J : Intent) (s : IsSoundInForm D) (p : AreParts D N M) (j : IsListedJoin N M J) where
   -- ## What is new
 
   type_joined : (n : NodeId) → new_type J n ≡ option_or (new_type N n) (new_type M n)
@@ -203,10 +203,10 @@ module _ (D : Document) (N M J : Intent) (s : IsSoundInForm D) (t : IsSoundInFor
 
   one_owner : (n m a b : NodeId) (c : CellId) → Has ((full D N).rows a) (owned_cell c n) → Has ((full D N).rows b) (owned_cell c m) → n ≡ m
   one_owner n m a b c h i =
-      let x : (full D N).row_of c ≡ Some a = (t.one_row c a).1 (n, h) in
-      let y : (full D N).row_of c ≡ Some b = (t.one_row c b).1 (m, i) in
+      let x : (full D N).row_of c ≡ Some a = (one_row_each D N s p.first_fits c a).1 (n, h) in
+      let y : (full D N).row_of c ≡ Some b = (one_row_each D N s p.first_fits c b).1 (m, i) in
       let same : b ≡ a = (let q : Some b ≡ Some a = sym y ∙ x in cc) in
-      ap (λ (o : Owned). o.node) (distinct-has (λ (o : Owned). o.cell) ((full D N).rows a) (owned_cell c n) (owned_cell c m) (t.once a) h (subst (λ r. Has ((full D N).rows r) (owned_cell c m)) same i) refl)
+      ap (λ (o : Owned). o.node) (distinct-has (λ (o : Owned). o.cell) ((full D N).rows a) (owned_cell c n) (owned_cell c m) (rows_once D N s p.first_fits a) h (subst (λ r. Has ((full D N).rows r) (owned_cell c m)) same i) refl)
 
   mixed_cell : (n m : NodeId) (c : CellId) → put_of N n ≡ Some (To.Cell c) → put_of M m ≡ Some (To.Cell c) → n ≡ m
   mixed_cell n m c e k =
@@ -217,7 +217,7 @@ module _ (D : Document) (N M J : Intent) (s : IsSoundInForm D) (t : IsSoundInFor
       go a (inl h) = one_owner n m a.0 h.0 c a.1 h.1
       go a (inr h) =
           let gone : (full D N).row_of c ≡ None = p.then_fits.fresh_cells c (made_there M (owned_cell c m) h) in
-          let there : (full D N).row_of c ≡ Some a.0 = (t.one_row c a.0).1 (n, a.1) in
+          let there : (full D N).row_of c ≡ Some a.0 = (one_row_each D N s p.first_fits c a.0).1 (n, a.1) in
           let bad : None ≡ Some a.0 = sym gone ∙ there in cc
 
   same_cell_put : (L : Intent) → IsIntent L → (n m : NodeId) (c : CellId) → put_of L n ≡ Some (To.Cell c) → put_of L m ≡ Some (To.Cell c) → n ≡ m

@@ -18,7 +18,7 @@ use Rattle.st_marks.proofs.Lookups.{group_at-group, group_found, new_row_of-grou
 use Rattle.st_marks.proofs.NewRows.{with_groups-has}
 
 -- what stands in a group is made in the group's row
-made_in : (K : Intent) → IsIntent K → (n : NodeId) (a : Option CellId) (o : Owned) → Has (group_at K n a) o → new_row_of K o.cell ≡ Some n
+pub made_in : (K : Intent) → IsIntent K → (n : NodeId) (a : Option CellId) (o : Owned) → Has (group_at K n a) o → new_row_of K o.cell ≡ Some n
 made_in K w n a o h = let g = group_at-group K n a o h in new_row_of-group K w g.group o g.listed g.cell ∙ ap (λ n. Some n) g.node
 
 module _ (D : Document) (N M J : Intent) (s : IsSoundInForm D) (p : AreParts D N M) (j : IsJoin N M J) where

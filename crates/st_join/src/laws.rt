@@ -1,8 +1,9 @@
 //! Laws about joins: each is the contract of a function that does nothing.
+ghost use Rattle.std.specs.Prelude.{◌≡◌, ◌+◌, length};
 ghost use Rattle.st_marks.specs.declared.intents.Intent.{Intent};
 ghost use Rattle.st_marks.specs.Document.{Document, IsSoundInForm};
 ghost use Rattle.st_marks.specs.CarryOut.{full};
-ghost use Rattle.st_marks.specs.Intent.{Fits, IsIntent};
+ghost use Rattle.st_marks.specs.Intent.{Fits, IsIntent, group_cells};
 ghost use Rattle.st_marks.specs.Join.{AreParts, IsJoin};
 ghost use Rattle.st_join.specs.Listed.{IsListedJoin};
 
@@ -13,6 +14,14 @@ pub fn joins_fit()
 
 /// Two parts whose join has the lists and look-ups of a join are an intent, which obeys its own rules.
 pub fn listed_joins_are_intents()
-    ensures { (D : Document) (N M J : Intent) → IsSoundInForm D → IsSoundInForm (full D N) → AreParts D N M
-        → IsListedJoin N M J → IsIntent J }
+    ensures { (D : Document) (N M J : Intent) → IsSoundInForm D → AreParts D N M → IsListedJoin N M J → IsIntent J }
+{}
+
+/// Two parts joined make the nodes and the cells of both, and no others: a limit on names that are made counts the join
+/// as the two.
+pub fn joins_make_the_names_of_both()
+    ensures nodes { (D : Document) (N M J : Intent) → IsSoundInForm D → AreParts D N M → IsJoin N M J
+        → length J.new ≡ length N.new + length M.new }
+    ensures cells { (D : Document) (N M J : Intent) → IsSoundInForm D → AreParts D N M → IsJoin N M J
+        → length (group_cells J) ≡ length (group_cells N) + length (group_cells M) }
 {}
