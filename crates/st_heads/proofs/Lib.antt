@@ -4,3 +4,4 @@ mod Fitting
 mod GoingBack
 mod Listed
 mod Extending
+mod Editing

@@ -5,6 +5,7 @@
 mod back;
 mod heads;
 mod laws;
+mod transactions;
 mod ways;
 
 pub use back::way_back;

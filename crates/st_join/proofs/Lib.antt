@@ -3,7 +3,7 @@ mod Assembled
 mod Picks
 pub mod Picked
 mod Rows
-mod JoinFits
+pub mod JoinFits
 mod JoinIntents
 mod JoinOf
 mod JoinNames

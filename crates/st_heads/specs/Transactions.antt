@@ -1,0 +1,32 @@
+-- A transaction that is open over the document of a line.
+use Rattle.std.specs.Prelude.{◌≡◌, Option, Some, None}
+use Rattle.st_ids.specs.declared.names.Rev.{Rev}
+use Rattle.st_marks.specs.declared.intents.Intent.{Intent}
+use Rattle.st_marks.specs.CarryOut.{full}
+use Rattle.st_marks.specs.Document.{Document}
+use Rattle.st_marks.specs.Intent.{Fits}
+use Rattle.st_marks.specs.Join.{IsJoin}
+use Rattle.st_doc.specs.declared.doc.Doc.{Doc}
+use Rattle.st_doc.specs.Doc.{document_of}
+use Rattle.st_heads.specs.declared.heads.Head.{Head}
+
+-- the document that is shown while a transaction is open: the line's, with what was edited so far carried out whole
+abbrev pub with_open : Document → Option Intent → Document
+with_open D None = D
+with_open D (Some J) = full D J
+
+-- what was edited so far is nothing, or an intent that fits the line's document, of the transaction's revision and made
+-- under its schema
+abbrev pub FitsSoFar : Document → Rev → Rev → Option Intent → Type 0
+FitsSoFar D rev under None = Unit {0}
+FitsSoFar D rev under (Some J) = Fits D J × (J.rev ≡ rev) × (J.under ≡ under) × (J.schema ≡ None)
+
+-- what was edited, with one part more: the part alone, or both as one
+abbrev pub IsWithPart : Option Intent → Intent → Intent → Type 0
+IsWithPart None M K = K ≡ M
+IsWithPart (Some J) M K = IsJoin J M K
+
+-- a head keeps a document of its own exactly where something was edited: the one that is shown
+abbrev pub HasOpen : Head → Option Intent → Type 0
+HasOpen h None = h.edited ≡ None
+HasOpen h (Some J) = (T : Doc) × (h.edited ≡ Some T) × (document_of T ≡ full (document_of h.doc) J)
