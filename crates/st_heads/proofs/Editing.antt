@@ -15,7 +15,7 @@ use Rattle.st_doc.specs.declared.doc.Doc.{Doc}
 use Rattle.st_doc.specs.Doc.{document_of}
 use Rattle.st_heads.specs.declared.heads.Head.{Head}
 use Rattle.st_join.proofs.JoinFits as fit
-use Rattle.st_heads.specs.Transactions.{with_open, FitsSoFar, HasOpen, IsWithPart}
+use Rattle.st_heads.specs.Transactions.{with_open, FitsSoFar, HasOpen, IsOpen, IsSoundPart, IsWithPart}
 use Rattle.st_heads.specs.inside.Parts.{CanFollow}
 
 -- a way up that leaves out some of the steps ends where the whole one does
@@ -79,9 +79,7 @@ opened h None has = ap (λ o. document_of (unwrap_or o h.doc)) has
 opened h (Some J) has = ap (λ o. document_of (unwrap_or o h.doc)) has.1 ∙ has.2
 
 module _ (h : Head) (joined : Option Intent) (M K : Intent) (T U : Doc) (v : Verdict)
-    (has : HasOpen h joined) (line : IsSoundInForm (document_of h.doc)) (so : FitsSoFar (document_of h.doc) M.rev M.under joined)
-    (fits : Fits (with_open (document_of h.doc) joined) M) (none : M.schema ≡ None)
-    (verdict : IsVerdict (with_open (document_of h.doc) joined) M Verdict.Sound) (short : HasShortRows (full (with_open (document_of h.doc) joined) M))
+    (line : IsSoundInForm (document_of h.doc)) (o : IsOpen h joined M.rev M.under) (p : IsSoundPart (with_open (document_of h.doc) joined) M)
     (copied : document_of T ≡ document_of (unwrap_or h.edited h.doc)) (is : IsVerdict (document_of T) M v)
     (after : document_of U ≡ carried_document v (document_of T) M) (still : HasShortRows (full (document_of T) M) → IsSoundInForm (document_of U))
     (joins : (D : Document) → IsSoundInForm D → CanFollow D joined M → IsWithPart joined M K) where
@@ -92,29 +90,29 @@ module _ (h : Head) (joined : Option Intent) (M K : Intent) (T U : Doc) (v : Ver
   E = with_open D joined
 
   there : document_of T ≡ E
-  there = copied ∙ opened h joined has
+  there = copied ∙ opened h joined o.has
 
   pub whole : document_of U ≡ full E M
-  whole = let same : v ≡ Verdict.Sound = one_verdict E M v Verdict.Sound (subst (λ F. IsVerdict F M v) there is) verdict in
+  whole = let same : v ≡ Verdict.Sound = one_verdict E M v Verdict.Sound (subst (λ F. IsVerdict F M v) there is) p.verdict in
       after ∙ ap (λ F. carried_document v F M) there ∙ ap (λ w. carried_document w E M) same
 
   after_sound : IsSoundInForm (full E M)
-  after_sound = subst IsSoundInForm whole (still (subst (λ F. HasShortRows (full F M)) (sym there) short))
+  after_sound = subst IsSoundInForm whole (still (subst (λ F. HasShortRows (full F M)) (sym there) p.short))
 
   follow : CanFollow D joined M
-  follow = can_follow D M line none joined so fits after_sound
+  follow = can_follow D M line p.no_schema joined o.so_far p.fits after_sound
 
   pub with_part_is : IsWithPart joined M K
   with_part_is = joins D line follow
 
   pub shows : full D K ≡ full E M
-  shows = open_shows D M line none joined K follow with_part_is
+  shows = open_shows D M line p.no_schema joined K follow with_part_is
 
   pub is_open : document_of U ≡ full D K
   is_open = whole ∙ sym shows
 
   pub so_far : FitsSoFar D M.rev M.under (Some K)
-  so_far = fits_so_far D M line none joined K so fits follow with_part_is
+  so_far = fits_so_far D M line p.no_schema joined K o.so_far p.fits follow with_part_is
 
   pub still_sound : IsSoundInForm (full D K)
   still_sound = subst IsSoundInForm (sym shows) after_sound

@@ -3,9 +3,11 @@ use Rattle.std.specs.Prelude.{◌≡◌, Option, Some, None}
 use Rattle.st_ids.specs.declared.names.Rev.{Rev}
 use Rattle.st_marks.specs.declared.intents.Intent.{Intent}
 use Rattle.st_marks.specs.CarryOut.{full}
-use Rattle.st_marks.specs.Document.{Document}
+use Rattle.st_marks.specs.declared.verdicts.Verdict.{Verdict}
+use Rattle.st_marks.specs.Document.{Document, HasShortRows, IsSoundInForm}
 use Rattle.st_marks.specs.Intent.{Fits}
 use Rattle.st_marks.specs.Join.{IsJoin}
+use Rattle.st_marks.specs.Verdict.{IsVerdict}
 use Rattle.st_doc.specs.declared.doc.Doc.{Doc}
 use Rattle.st_doc.specs.Doc.{document_of}
 use Rattle.st_heads.specs.declared.heads.Head.{Head}
@@ -30,3 +32,16 @@ IsWithPart (Some J) M K = IsJoin J M K
 abbrev pub HasOpen : Head → Option Intent → Type 0
 HasOpen h None = h.edited ≡ None
 HasOpen h (Some J) = (T : Doc) × (h.edited ≡ Some T) × (document_of T ≡ full (document_of h.doc) J)
+
+-- a transaction of a revision, made under a schema's, is open on a head
+pub record IsOpen (h : Head) (joined : Option Intent) (rev under : Rev) : Type 0 where
+  pub has : HasOpen h joined
+  pub so_far : FitsSoFar (document_of h.doc) rev under joined
+  pub sound : IsSoundInForm (with_open (document_of h.doc) joined)
+
+-- an intent fits a document, is sound there and changes no schema, and rows stay short after it
+pub record IsSoundPart (D : Document) (M : Intent) : Type 0 where
+  pub fits : Fits D M
+  pub no_schema : M.schema ≡ None
+  pub verdict : IsVerdict D M Verdict.Sound
+  pub short : HasShortRows (full D M)

@@ -1,14 +1,11 @@
 //! A transaction that is open on a line: what is edited in it is carried out in a copy of the line's document.
 ghost use Rattle.std.specs.Prelude.{◌≡◌, Option, Some, None, unwrap_or, [], ◌∷◌, IfOk, OnOk};
 ghost use Rattle.st_marks.specs.declared.intents.Intent.{Intent};
-ghost use Rattle.st_marks.specs.declared.verdicts.Verdict.{Verdict};
 ghost use Rattle.st_marks.specs.CarryOut.{full};
 ghost use Rattle.st_marks.specs.Document.{Document, HasShortRows, IsSoundInForm};
 ghost use Rattle.st_marks.specs.Intent.{Fits};
-ghost use Rattle.st_marks.specs.Join.{AreParts};
-ghost use Rattle.st_marks.specs.Verdict.{IsVerdict};
 ghost use Rattle.st_doc.specs.Doc.{document_of};
-ghost use Rattle.st_heads.specs.Transactions.{with_open, FitsSoFar, HasOpen, IsWithPart};
+ghost use Rattle.st_heads.specs.Transactions.{with_open, HasOpen, IsOpen, IsSoundPart, IsWithPart};
 ghost use Rattle.st_heads.specs.inside.Parts.{CanFollow};
 
 use crate::heads::Head;
@@ -59,20 +56,13 @@ impl Head {
         joined: &mut Option<Intent>,
         part: Intent,
     ) -> Result<(), AllocError>
-        requires open { HasOpen self.old joined.old }
-        requires line_sound { IsSoundInForm (document_of self.old.doc) }
-        requires sound { IsSoundInForm (with_open (document_of self.old.doc) joined.old) }
-        requires so_far { FitsSoFar (document_of self.old.doc) part.rev part.under joined.old }
-        requires fits { Fits (with_open (document_of self.old.doc) joined.old) part }
-        requires no_schema { part.schema ≡ None }
-        requires verdict { IsVerdict (with_open (document_of self.old.doc) joined.old) part Verdict.Sound }
-        requires short { HasShortRows (full (with_open (document_of self.old.doc) joined.old) part) }
+        requires line { IsSoundInForm (document_of self.old.doc) }
+        requires going { IsOpen self.old joined.old part.rev part.under }
+        requires part { IsSoundPart (with_open (document_of self.old.doc) joined.old) part }
         ensures line { OnOk result ((self.new.doc ≡ self.old.doc) × (self.new.own ≡ self.old.own)) }
         ensures part { OnOk result ((K : Intent) × (joined.new ≡ Some K) × IsWithPart joined.old part K) }
-        ensures open { OnOk result (HasOpen self.new joined.new) }
         ensures shown { OnOk result (with_open (document_of self.old.doc) joined.new ≡ full (with_open (document_of self.old.doc) joined.old) part) }
-        ensures so_far { OnOk result (FitsSoFar (document_of self.old.doc) part.rev part.under joined.new) }
-        ensures sound { OnOk result (IsSoundInForm (with_open (document_of self.old.doc) joined.new)) }
+        ensures going { OnOk result (IsOpen self.new joined.new part.rev part.under) }
     {
         let mut doc = open_doc(alloc, self.edited.take(), &self.doc)?;
         doc.carry(alloc, &part)?;

@@ -8,35 +8,28 @@ returns-clause-part c = (
   c.in_ok-with_part.field-0,
   refl,
   with_part_is
-      c.args.self.now c.args.joined.now c.args.part c.in_ok-with_part.field-0 c.in_ok-doc.doc c.carry.new.self c.in_ok-carry.field-0
-      c.requires.open c.requires.line_sound c.requires.so_far c.requires.fits c.requires.no_schema c.requires.verdict c.requires.short
-      (c.in_ok-doc.ensures ∙ ap (λ o. document_of (unwrap_or o c.args.self.now.doc)) c.take.ensures.value) c.in_ok-carry.ensures.verdict c.in_ok-carry.ensures.after c.in_ok-carry.ensures.still_sound c.in_ok-with_part.ensures,
-)
-
-pub returns-clause-open : goal.returns-clause-open
-returns-clause-open c = (
-  c.carry.new.self,
-  refl,
-  is_open
-      c.args.self.now c.args.joined.now c.args.part c.in_ok-with_part.field-0 c.in_ok-doc.doc c.carry.new.self c.in_ok-carry.field-0
-      c.requires.open c.requires.line_sound c.requires.so_far c.requires.fits c.requires.no_schema c.requires.verdict c.requires.short
+      c.args.self.now c.args.joined.now c.args.part c.in_ok-with_part.field-0 c.in_ok-doc.doc c.carry.new.self c.in_ok-carry.field-0 c.requires.line c.requires.going c.requires.part
       (c.in_ok-doc.ensures ∙ ap (λ o. document_of (unwrap_or o c.args.self.now.doc)) c.take.ensures.value) c.in_ok-carry.ensures.verdict c.in_ok-carry.ensures.after c.in_ok-carry.ensures.still_sound c.in_ok-with_part.ensures,
 )
 
 pub returns-clause-shown : goal.returns-clause-shown
 returns-clause-shown c = shows
-    c.args.self.now c.args.joined.now c.args.part c.in_ok-with_part.field-0 c.in_ok-doc.doc c.carry.new.self c.in_ok-carry.field-0
-    c.requires.open c.requires.line_sound c.requires.so_far c.requires.fits c.requires.no_schema c.requires.verdict c.requires.short
+    c.args.self.now c.args.joined.now c.args.part c.in_ok-with_part.field-0 c.in_ok-doc.doc c.carry.new.self c.in_ok-carry.field-0 c.requires.line c.requires.going c.requires.part
     (c.in_ok-doc.ensures ∙ ap (λ o. document_of (unwrap_or o c.args.self.now.doc)) c.take.ensures.value) c.in_ok-carry.ensures.verdict c.in_ok-carry.ensures.after c.in_ok-carry.ensures.still_sound c.in_ok-with_part.ensures
 
-pub returns-clause-so_far : goal.returns-clause-so_far
-returns-clause-so_far c = so_far
-    c.args.self.now c.args.joined.now c.args.part c.in_ok-with_part.field-0 c.in_ok-doc.doc c.carry.new.self c.in_ok-carry.field-0
-    c.requires.open c.requires.line_sound c.requires.so_far c.requires.fits c.requires.no_schema c.requires.verdict c.requires.short
-    (c.in_ok-doc.ensures ∙ ap (λ o. document_of (unwrap_or o c.args.self.now.doc)) c.take.ensures.value) c.in_ok-carry.ensures.verdict c.in_ok-carry.ensures.after c.in_ok-carry.ensures.still_sound c.in_ok-with_part.ensures
-
-pub returns-clause-sound : goal.returns-clause-sound
-returns-clause-sound c = still_sound
-    c.args.self.now c.args.joined.now c.args.part c.in_ok-with_part.field-0 c.in_ok-doc.doc c.carry.new.self c.in_ok-carry.field-0
-    c.requires.open c.requires.line_sound c.requires.so_far c.requires.fits c.requires.no_schema c.requires.verdict c.requires.short
-    (c.in_ok-doc.ensures ∙ ap (λ o. document_of (unwrap_or o c.args.self.now.doc)) c.take.ensures.value) c.in_ok-carry.ensures.verdict c.in_ok-carry.ensures.after c.in_ok-carry.ensures.still_sound c.in_ok-with_part.ensures
+pub returns-clause-going : goal.returns-clause-going
+returns-clause-going c = record {
+  has = (
+    c.carry.new.self,
+    refl,
+    is_open
+        c.args.self.now c.args.joined.now c.args.part c.in_ok-with_part.field-0 c.in_ok-doc.doc c.carry.new.self c.in_ok-carry.field-0 c.requires.line c.requires.going c.requires.part
+        (c.in_ok-doc.ensures ∙ ap (λ o. document_of (unwrap_or o c.args.self.now.doc)) c.take.ensures.value) c.in_ok-carry.ensures.verdict c.in_ok-carry.ensures.after c.in_ok-carry.ensures.still_sound c.in_ok-with_part.ensures,
+  );
+  so_far = so_far
+      c.args.self.now c.args.joined.now c.args.part c.in_ok-with_part.field-0 c.in_ok-doc.doc c.carry.new.self c.in_ok-carry.field-0 c.requires.line c.requires.going c.requires.part
+      (c.in_ok-doc.ensures ∙ ap (λ o. document_of (unwrap_or o c.args.self.now.doc)) c.take.ensures.value) c.in_ok-carry.ensures.verdict c.in_ok-carry.ensures.after c.in_ok-carry.ensures.still_sound c.in_ok-with_part.ensures;
+  sound = still_sound
+      c.args.self.now c.args.joined.now c.args.part c.in_ok-with_part.field-0 c.in_ok-doc.doc c.carry.new.self c.in_ok-carry.field-0 c.requires.line c.requires.going c.requires.part
+      (c.in_ok-doc.ensures ∙ ap (λ o. document_of (unwrap_or o c.args.self.now.doc)) c.take.ensures.value) c.in_ok-carry.ensures.verdict c.in_ok-carry.ensures.after c.in_ok-carry.ensures.still_sound c.in_ok-with_part.ensures;
+}
