@@ -1,5 +1,5 @@
 -- From lists of which holds what steps keep, each step leads on: there are next lists, of which the same holds, and an answer.
-use Rattle.std.proofs.Common.{◌≡◌, ℕ, zero, suc, ◌+◌, Bool, true, false, cond, nat_le, List, [], ◌∷◌, ◌++◌, length, map, Option, Some, None, IsSome, is_some, option_map, option_and_then, Result, Ok, refl, ◌⊎◌, inl, inr}
+use Rattle.std.proofs.Common.{◌≡◌, ℕ, zero, suc, ◌+◌, Bool, true, false, cond, nat_le, List, [], ◌∷◌, ◌++◌, length, map, Option, Some, None, IsSome, option_map, option_and_then, Result, Ok, refl, ◌⊎◌, inl, inr}
 use Rattle.std.specs.List.{find, slice_get, slice_set}
 use Rattle.std.specs.Option.{option_map_or, option_or}
 use Rattle.serde_json.specs.Written.{compact_text}
@@ -42,17 +42,17 @@ use Rattle.st_edits.proofs.Fits.{clear_fits, remove_fits}
 use Rattle.st_edits.proofs.MoveFits.{CellsFresh, move_fits}
 use Rattle.st_edits.proofs.NewFits.{NodesFresh, insert_fits, put_fits}
 use Rattle.st_script.specs.Header.{HeaderView, header_view}
-use Rattle.st_script.specs.Steps.{StepView, branch_of, name_of}
+use Rattle.st_script.specs.Steps.{ActView, EditView, StepView}
 use Rattle.st_script.specs.Steps as step
 use Rattle.st_script.specs.declared.answer.Answer.{Answer}
 use Rattle.st_script.specs.declared.answer.Answer.TheVariants.{Deliver, Join as Joins, No, Show}
 use Rattle.st_script.specs.declared.refusal.Refusal.TheVariants.{NoBranch, NoClient, NothingNew, NothingToSend, Taken}
 use Rattle.st_trace.specs.Replicas.{IsClient, IsSound}
 use Rattle.st_lists.specs.Log.{commit_of, log_with}
-use Rattle.st_trace.specs.World.{AtClient, IsDelivered, IsDeliveredTo, IsEdited, IsNext, IsStepOf, IsShown, IsVerdictOf, OnBranch, after_edit, entering, next_names, join, opening_document, limit_refusal, sequence, with_client}
-use Rattle.st_lists.specs.Clients.{HasReceived, HasShown, client_named, new_client, next_rev, place_of, received_by, with_received}
+use Rattle.st_trace.specs.World.{IsActOf, IsDelivered, IsDeliveredTo, IsEdited, IsNext, AtClient, IsShown, IsVerdictOf, OnBranch, act_of_none, after_edit, entering, intent_of, next_names, join, opening_document, limit_refusal, sequence, with_client, word_of}
+use Rattle.st_lists.specs.Clients.{HasReceived, HasShown, new_client, next_rev, place_of, received_by, with_received}
 use Rattle.st_lists.specs.Limits.{log_limit_passed}
-use Rattle.st_lists.specs.Names.{names_in_text, names_made}
+use Rattle.st_lists.specs.Names.{names_in_text}
 use Rattle.st_trace.specs.declared.client.EditWord.{EditWord}
 use Rattle.st_lists.specs.declared.lists.Body.TheVariants.{Join}
 use Rattle.st_lists.specs.declared.lists.Client.{Client}
@@ -171,6 +171,13 @@ module _ (h : HeaderView) (c : Client) (schema : is_sound h.schema ≡ true) (D 
       let m = clear_of D h.schema (next_names c) at key N e in
       (clear_fits D h.schema (next_names c) at key N sound schema e, m.0, m.1, λ home here tells. clear_agrees h.schema home D (next_names c) at key N e)
 
+  edit_means : (e : EditView) → MeansWell h c D (intent_of D h.schema (next_names c) e)
+  edit_means (step.insert at key index items) = insert_means at key index (nodes_of items)
+  edit_means (step.remove at key index count) = remove_means at key index count
+  edit_means (step.move at key index count to to_key to_index) = move_means at key index count to to_key to_index
+  edit_means (step.set at key item) = put_means at key item
+  edit_means (step.clear at key) = clear_means at key
+
 -- whatever it is resolved in
 abbrev MeansAlways : HeaderView → Client → (Document → Result Intent EditFault) → Type 0
 MeansAlways h c meant = (D : Document) → IsSoundInForm D → NodesFresh D (next_names c) → CellsFresh D (next_names c) → MeansWell h c D (meant D)
@@ -244,7 +251,7 @@ module _ (h : HeaderView) (w : WorldState) (s : AreSound h w) where
         (Show t.0, (D, t.0, shown.1, t.1, refl))
 
   has_joined : (name : List ℕ) → Leads (λ v a. join w name ≡ (v, a))
-  has_joined name = go (is_some (place_of name w.clients)) (nat_le 64 (length w.clients)) (nat_le 65535 (length w.log))
+  has_joined name = go (nat_le 64 (length w.clients)) (nat_le 65535 (length w.log))
     where
       longer : WorldState × Answer
       longer = (
@@ -252,57 +259,44 @@ module _ (h : HeaderView) (w : WorldState) (s : AreSound h w) where
         Joins (length w.log + 1) (length w.clients + 1),
       )
 
-      go : (a b c : Bool) → Leads (λ v x. cond a (w, No Taken) (cond b (w, limit_refusal (record { of = Clients; kept = length w.clients })) (cond c (w, limit_refusal (record { of = Log; kept = length w.log })) longer)) ≡ (v, x))
-      go true b c = (w, No Taken, refl, s)
-      go false true c = (w, limit_refusal (record { of = Clients; kept = length w.clients }), refl, s)
-      go false false true = (w, limit_refusal (record { of = Log; kept = length w.log }), refl, s)
-      go false false false = (longer.0, longer.1, refl, joined_sound h w name s)
+      go : (b c : Bool) → Leads (λ v x. cond b (w, limit_refusal (record { of = Clients; kept = length w.clients })) (cond c (w, limit_refusal (record { of = Log; kept = length w.log })) longer) ≡ (v, x))
+      go true c = (w, limit_refusal (record { of = Clients; kept = length w.clients }), refl, s)
+      go false true = (w, limit_refusal (record { of = Log; kept = length w.log }), refl, s)
+      go false false = (longer.0, longer.1, refl, joined_sound h w name s)
 
-  has_next_of : (x : StepView) (i : ℕ) (c : Client) → slice_get w.clients i ≡ Some c → Leads (IsStepOf h w x i c)
-  has_next_of (step.join name) i c at = has_joined name
-  has_next_of (step.insert name branch path key index items) i c at =
-      has_edited i c at EditWord.Insert (λ D. insert D h.schema (next_names c) path key index (nodes_of items)) (λ D sound nodes cells. insert_means h c s.header.schema D sound nodes cells path key index (nodes_of items))
-  has_next_of (step.remove name branch path key index count) i c at =
-      has_edited i c at EditWord.Remove (λ D. remove D h.schema (next_names c) path key index count) (λ D sound nodes cells. remove_means h c s.header.schema D sound nodes cells path key index count)
-  has_next_of (step.move name branch path key index count to to_key to_index) i c at =
-      has_edited i c at EditWord.Move (λ D. move D h.schema (next_names c) path key index count to to_key to_index)
-      (λ D sound nodes cells. move_means h c s.header.schema D sound nodes cells path key index count to to_key to_index)
-  has_next_of (step.set name branch path key item) i c at =
-      has_edited i c at EditWord.Set (λ D. put D h.schema (next_names c) path key (first item no_nodes)) (λ D sound nodes cells. put_means h c s.header.schema D sound nodes cells path key item)
-  has_next_of (step.clear name branch path key) i c at =
-      has_edited i c at EditWord.Clear (λ D. clear D h.schema (next_names c) path key) (λ D sound nodes cells. clear_means h c s.header.schema D sound nodes cells path key)
-  has_next_of (step.sequence name) i c at = has_sent i c at c.queue refl
-  has_next_of (step.deliver name) i c at = has_delivered i c at
-  has_next_of (step.show name branch) i c at = let r = has_shown i c at in (w, r.0, (refl, r.1), s)
+  -- ## Acts
+
+  has_act_of : (x : ActView) (i : ℕ) (c : Client) → slice_get w.clients i ≡ Some c → Leads (IsActOf h w x i c)
+  has_act_of step.join i c at = stays (No Taken)
+  has_act_of (step.edit e) i c at =
+      has_edited i c at (word_of e) (λ D. intent_of D h.schema (next_names c) e) (λ D sound nodes cells. edit_means h c s.header.schema D sound nodes cells e)
+  has_act_of step.sequence i c at = has_sent i c at c.queue refl
+  has_act_of step.deliver i c at = has_delivered i c at
+  has_act_of step.show i c at = let r = has_shown i c at in (w, r.0, (refl, r.1), s)
+
+  has_act_of_none : (name : List ℕ) (x : ActView) → Leads (λ v a. act_of_none w name x ≡ (v, a))
+  has_act_of_none name step.join = has_joined name
+  has_act_of_none name (step.edit e) = (w, No NoClient, refl, s)
+  has_act_of_none name step.sequence = (w, No NoClient, refl, s)
+  has_act_of_none name step.deliver = (w, No NoClient, refl, s)
+  has_act_of_none name step.show = (w, No NoClient, refl, s)
 
   -- ## Steps
 
-  -- of the client at a place, if one is there
-  has_next_at : (x : StepView) → Leads (AtClient h w x (client_named (name_of x) w.clients))
-  has_next_at x = place (place_of (name_of x) w.clients)
+  pub leads_on : (x : StepView) → Leads (IsNext h w x)
+  leads_on x = place (place_of x.client w.clients)
     where
-      on : (branch i : ℕ) (c : Client) → Leads (IsStepOf h w x i c) → Leads (λ v a. OnBranch branch w v a (IsStepOf h w x i c v a))
+      on : (branch i : ℕ) (c : Client) → Leads (IsActOf h w x.act i c) → Leads (λ v a. OnBranch branch w v a (IsActOf h w x.act i c v a))
       on zero i c onward = onward
       on (suc k) i c onward = stays (No NoBranch)
 
       client_at : (i : ℕ) (o : Option Client) → slice_get w.clients i ≡ o → Leads (AtClient h w x (option_map (λ c. (i, c)) o))
-      client_at i None at = stays (No NoClient)
-      client_at i (Some c) at = on (branch_of x) i c (has_next_of x i c at)
+      client_at i None at = has_act_of_none x.client x.act
+      client_at i (Some c) at = on x.branch i c (has_act_of x.act i c at)
 
       place : (o : Option ℕ) → Leads (AtClient h w x (option_and_then (λ i. option_map (λ c. (i, c)) (slice_get w.clients i)) o))
-      place None = stays (No NoClient)
+      place None = has_act_of_none x.client x.act
       place (Some i) = client_at i (slice_get w.clients i) refl
-
-  pub leads_on : (x : StepView) → Leads (IsNext h w x)
-  leads_on (step.join name) = has_joined name
-  leads_on (step.insert name branch path key index items) = has_next_at (step.insert name branch path key index items)
-  leads_on (step.remove name branch path key index count) = has_next_at (step.remove name branch path key index count)
-  leads_on (step.move name branch path key index count to to_key to_index) = has_next_at (step.move name branch path key index count to to_key to_index)
-  leads_on (step.set name branch path key item) = has_next_at (step.set name branch path key item)
-  leads_on (step.clear name branch path key) = has_next_at (step.clear name branch path key)
-  leads_on (step.sequence name) = has_next_at (step.sequence name)
-  leads_on (step.deliver name) = has_next_at (step.deliver name)
-  leads_on (step.show name branch) = has_next_at (step.show name branch)
 
 pub has_next : (w : World) (s : StepView) → IsSound w → (v : WorldState) × (a : Answer) × IsNext (header_view w.header) w.lists s v a
 has_next w s sound = let r = leads_on (header_view w.header) w.lists (lists_sound w sound) s in (r.0, r.1, r.2)

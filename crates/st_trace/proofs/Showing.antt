@@ -1,5 +1,5 @@
 -- A tree that a step shows is one that the schema allows.
-use Rattle.std.proofs.Common.{◌≡◌, ℕ, zero, suc, Bool, true, false, cond, nat_le, List, [], ◌∷◌, ◌++◌, length, Option, Some, None, option_map, option_and_then, is_some, Result, Ok, Err, refl, sym, ap, ◌∙◌, subst}
+use Rattle.std.proofs.Common.{◌≡◌, ℕ, zero, suc, Bool, true, false, cond, nat_le, List, [], ◌∷◌, ◌++◌, length, Option, Some, None, option_map, option_and_then, Result, Ok, Err, refl, sym, ap, ◌∙◌, subst}
 use Rattle.std.specs.List.{slice_get}
 use Rattle.serde_json.specs.Written.{compact_text}
 use Rattle.st_ids.specs.declared.names.Limit.{Limit}
@@ -14,14 +14,14 @@ use Rattle.st_schema_laws.proofs.InTurn.{list_conforms}
 use Rattle.st_schema_laws.proofs.ShownTree.{shown_conforms}
 use Rattle.st_edits.specs.ArrayTypes.{is_array_type}
 use Rattle.st_script.specs.Header.{HeaderView, header_view}
-use Rattle.st_script.specs.Steps.{StepView, branch_of, name_of}
+use Rattle.st_script.specs.Steps.{ActView, StepView}
 use Rattle.st_script.specs.Steps as step
 use Rattle.st_script.specs.declared.answer.Answer.{Answer}
 use Rattle.st_trace.specs.Replicas.{IsSound}
-use Rattle.st_trace.specs.World.{AtClient, IsAllowedText, IsDeliveredTo, IsEdited, IsNext, IsStepOf, OnBranch, ShowsAllowed, answer_of, after_edit, entering, join, opening_document, with_pending, sequence}
-use Rattle.st_lists.specs.Clients.{HasShown, client_named, next_rev, place_of, received_by}
+use Rattle.st_trace.specs.World.{IsActOf, IsAllowedText, IsDeliveredTo, IsEdited, IsNext, AtClient, OnBranch, ShowsAllowed, act_of_none, answer_of, after_edit, entering, join, opening_document, with_pending, sequence, word_of}
+use Rattle.st_lists.specs.Clients.{HasShown, next_rev, place_of, received_by}
 use Rattle.st_lists.specs.Limits.{limit_passed, log_limit_passed}
-use Rattle.st_lists.specs.Names.{names_in_text, names_made}
+use Rattle.st_lists.specs.Names.{names_in_text}
 use Rattle.st_trace.specs.declared.client.EditWord.{EditWord}
 use Rattle.st_lists.specs.declared.lists.Client.{Client}
 use Rattle.st_lists.specs.declared.lists.Entry.{Entry}
@@ -62,7 +62,14 @@ module _ (s : SchemaView) where
   answered_fine EditWord.Clear rev = tt
 
   join_fine : (w : WorldState) (name : List ℕ) → Fine (join w name)
-  join_fine w name = either Fine (is_some (place_of name w.clients)) _ _ tt (either Fine (nat_le 64 (length w.clients)) _ _ tt (either Fine (nat_le 65535 (length w.log)) _ _ tt tt))
+  join_fine w name = either Fine (nat_le 64 (length w.clients)) _ _ tt (either Fine (nat_le 65535 (length w.log)) _ _ tt tt)
+
+  none_fine : (w : WorldState) (name : List ℕ) (x : ActView) → Fine (act_of_none w name x)
+  none_fine w name step.join = join_fine w name
+  none_fine w name (step.edit e) = tt
+  none_fine w name step.sequence = tt
+  none_fine w name step.deliver = tt
+  none_fine w name step.show = tt
 
   edited_fine : (c : Client) (word : EditWord) (r : Result Intent EditFault) → ShowsAllowed s (after_edit c word r).1
   edited_fine c word (Err f) = tt
@@ -90,42 +97,30 @@ module _ (s : SchemaView) where
   edit_fine : (h : HeaderView) (w : WorldState) (i : ℕ) (c : Client) (word : EditWord) (meant : Document → Result Intent EditFault) (v : WorldState) (a : Answer) → IsEdited h w i c word meant v a → ShowsAllowed s a
   edit_fine h w i c word meant v a is = subst (ShowsAllowed s) (ap (λ (q : WorldState × Answer). q.1) is.2) (edited_fine c word (meant is.0))
 
--- what the client at a place does
-of_fine : (w : World) (s : StepView) (i : ℕ) (c : Client) (v : WorldState) (a : Answer) → IsSound w → slice_get w.lists.clients i ≡ Some c → IsStepOf (header_view w.header) w.lists s i c v a → ShowsAllowed w.header.schema a
-of_fine w (step.join name) i c v a sound at is = one_fine w.header.schema (join w.lists name) v a is (join_fine w.header.schema w.lists name)
-of_fine w (step.insert name branch path key index items) i c v a sound at is = edit_fine w.header.schema (header_view w.header) w.lists i c EditWord.Insert _ v a is
-of_fine w (step.remove name branch path key index count) i c v a sound at is = edit_fine w.header.schema (header_view w.header) w.lists i c EditWord.Remove _ v a is
-of_fine w (step.move name branch path key index count to to_key to_index) i c v a sound at is = edit_fine w.header.schema (header_view w.header) w.lists i c EditWord.Move _ v a is
-of_fine w (step.set name branch path key item) i c v a sound at is = edit_fine w.header.schema (header_view w.header) w.lists i c EditWord.Set _ v a is
-of_fine w (step.clear name branch path key) i c v a sound at is = edit_fine w.header.schema (header_view w.header) w.lists i c EditWord.Clear _ v a is
-of_fine w (step.sequence name) i c v a sound at is = one_fine w.header.schema (sequence w.lists i c c.queue) v a is (sequence_fine w.header.schema w.lists i c c.queue)
-of_fine w (step.deliver name) i c v a sound at is = delivery_fine w.header.schema is.0 c is.1 (slice_get w.lists.log c.received) a is.3
-of_fine w (step.show name branch) i c v a sound at is =
+-- what the client at the place does
+of_fine : (w : World) (x : ActView) (i : ℕ) (c : Client) (v : WorldState) (a : Answer) → IsSound w → slice_get w.lists.clients i ≡ Some c → IsActOf (header_view w.header) w.lists x i c v a → ShowsAllowed w.header.schema a
+of_fine w step.join i c v a sound at is = subst (ShowsAllowed w.header.schema) (sym is.1) tt
+of_fine w (step.edit e) i c v a sound at is = edit_fine w.header.schema (header_view w.header) w.lists i c (word_of e) _ v a is
+of_fine w step.sequence i c v a sound at is = one_fine w.header.schema (sequence w.lists i c c.queue) v a is (sequence_fine w.header.schema w.lists i c c.queue)
+of_fine w step.deliver i c v a sound at is = delivery_fine w.header.schema is.0 c is.1 (slice_get w.lists.log c.received) a is.3
+of_fine w step.show i c v a sound at is =
     let shown = is.1 in
     subst (ShowsAllowed w.header.schema) (sym shown.4) (text_allowed w i c shown.0 shown.1 sound at shown.2 shown.3)
 
-at_fine : (w : World) (s : StepView) (v : WorldState) (a : Answer) → IsSound w → AtClient (header_view w.header) w.lists s (client_named (name_of s) w.lists.clients) v a → ShowsAllowed w.header.schema a
-at_fine w s v a sound is = place (place_of (name_of s) w.lists.clients) is
+pub next_allowed : (w : World) (s : StepView) (v : WorldState) (a : Answer) → IsSound w → IsNext (header_view w.header) w.lists s v a → ShowsAllowed w.header.schema a
+next_allowed w s v a sound is = place (place_of s.client w.lists.clients) is
   where
+    none : act_of_none w.lists s.client s.act ≡ (v, a) → ShowsAllowed w.header.schema a
+    none is = one_fine w.header.schema (act_of_none w.lists s.client s.act) v a is (none_fine w.header.schema w.lists s.client s.act)
+
     on : (branch : ℕ) (next : Type 0) → (next → ShowsAllowed w.header.schema a) → OnBranch branch w.lists v a next → ShowsAllowed w.header.schema a
     on zero next f is = f is
     on (suc k) next f is = subst (ShowsAllowed w.header.schema) (sym is.1) tt
 
     client : (i : ℕ) (o : Option Client) → slice_get w.lists.clients i ≡ o → AtClient (header_view w.header) w.lists s (option_map (λ c. (i, c)) o) v a → ShowsAllowed w.header.schema a
-    client i None at is = subst (ShowsAllowed w.header.schema) (sym is.1) tt
-    client i (Some c) at is = on (branch_of s) (IsStepOf (header_view w.header) w.lists s i c v a) (of_fine w s i c v a sound at) is
+    client i None at is = none is
+    client i (Some c) at is = on s.branch (IsActOf (header_view w.header) w.lists s.act i c v a) (of_fine w s.act i c v a sound at) is
 
     place : (o : Option ℕ) → AtClient (header_view w.header) w.lists s (option_and_then (λ i. option_map (λ c. (i, c)) (slice_get w.lists.clients i)) o) v a → ShowsAllowed w.header.schema a
-    place None is = subst (ShowsAllowed w.header.schema) (sym is.1) tt
+    place None is = none is
     place (Some i) is = client i (slice_get w.lists.clients i) refl is
-
-pub next_allowed : (w : World) (s : StepView) (v : WorldState) (a : Answer) → IsSound w → IsNext (header_view w.header) w.lists s v a → ShowsAllowed w.header.schema a
-next_allowed w (step.join name) v a sound is = one_fine w.header.schema (join w.lists name) v a is (join_fine w.header.schema w.lists name)
-next_allowed w (step.insert name branch path key index items) v a sound is = at_fine w (step.insert name branch path key index items) v a sound is
-next_allowed w (step.remove name branch path key index count) v a sound is = at_fine w (step.remove name branch path key index count) v a sound is
-next_allowed w (step.move name branch path key index count to to_key to_index) v a sound is = at_fine w (step.move name branch path key index count to to_key to_index) v a sound is
-next_allowed w (step.set name branch path key item) v a sound is = at_fine w (step.set name branch path key item) v a sound is
-next_allowed w (step.clear name branch path key) v a sound is = at_fine w (step.clear name branch path key) v a sound is
-next_allowed w (step.sequence name) v a sound is = at_fine w (step.sequence name) v a sound is
-next_allowed w (step.deliver name) v a sound is = at_fine w (step.deliver name) v a sound is
-next_allowed w (step.show name branch) v a sound is = at_fine w (step.show name branch) v a sound is

@@ -13,12 +13,10 @@ use Rattle.st_ids.specs.Listing.{Has}
 use Rattle.st_ids.specs.declared.names.Limit.{Limit}
 use Rattle.st_ids.specs.declared.names.LimitOf.TheVariants.{Log, Names}
 use Rattle.st_marks.specs.declared.intents.Intent.{Intent}
-use Rattle.st_marks.specs.declared.verdicts.Verdict.{Verdict}
 use Rattle.st_marks.specs.Document.{Document, IsSoundInForm}
 use Rattle.st_ids.specs.Root.{opening}
 use Rattle.st_marks.specs.Intent.{Fits}
 use Rattle.st_marks.specs.Run.{Run}
-use Rattle.st_marks.specs.Verdict.{IsVerdict, carried_document}
 use Rattle.st_log_laws.specs.Names.{HaveNewRevisions}
 use Rattle.st_log_laws.specs.Turns.{FitInTurn}
 use Rattle.st_log_laws.proofs.Shorter.{sublist_itself, sublist_joined, sublist_none, new_shorter}
@@ -28,19 +26,18 @@ use Rattle.st_doc.specs.declared.doc.Doc.{Doc}
 use Rattle.st_script.specs.Header.{HeaderView, header_view}
 use Rattle.st_script.specs.declared.answer.Answer.{Answer}
 use Rattle.st_script.specs.declared.answer.Answer.TheVariants.{No}
-use Rattle.st_script.specs.declared.refusal.Refusal.TheVariants.{NothingToSend, NoClient, NoBranch}
-use Rattle.st_script.specs.Steps.{StepView, name_of, branch_of}
-use Rattle.st_script.specs.Steps as step
+use Rattle.st_script.specs.declared.refusal.Refusal.TheVariants.{NothingToSend, NoBranch}
+use Rattle.st_script.specs.Steps.{StepView}
 use Rattle.st_trace.specs.Replicas.{AreReplicas, IsClient, IsEntryOf, IsReplicaOf, IsSound, IsSoundAfter, KeepToSchema}
 use Rattle.st_lists.specs.Log.{commit_in, commits_of_text, intents_of, log_and_queue}
 use Rattle.st_lists.specs.Known.{AreKnown}
 use Rattle.st_lists.specs.Log.{commit_of, commits_in, log_with}
-use Rattle.st_trace.specs.World.{AtClient, IsNext, IsStepOf, OnBranch, opening_document, sequence}
-use Rattle.st_lists.specs.Clients.{client_named, new_client, place_of}
+use Rattle.st_trace.specs.World.{IsActOf, IsNext, AtClient, OnBranch, act_of_none, opening_document, sequence}
+use Rattle.st_lists.specs.Clients.{new_client, place_of}
 use Rattle.st_lists.specs.Limits.{log_limit_passed}
-use Rattle.st_lists.specs.Names.{names_in, names_in_text, names_made}
+use Rattle.st_lists.specs.Names.{names_in, names_in_text}
 use Rattle.st_trace.specs.declared.replica.Replica.{Replica}
-use Rattle.st_lists.specs.declared.lists.Body.TheVariants.{Join, Commit}
+use Rattle.st_lists.specs.declared.lists.Body.TheVariants.{Join}
 use Rattle.st_lists.specs.declared.lists.Client.{Client}
 use Rattle.st_lists.specs.declared.lists.Entry.{Entry}
 use Rattle.st_lists.specs.declared.lists.WorldState.{WorldState}
@@ -266,28 +263,17 @@ sound_joined w name n session c k known s few few_entries is_s is_n knows is_c r
 
 -- ## Answers
 
--- all steps but a join are those of the client that they name
-pub next_other : (h : HeaderView) (w : WorldState) (s : StepView) (v : WorldState) (a : Answer) → ((name : List ℕ) → s ≡ step.join name → ⊥) → AtClient h w s (client_named (name_of s) w.clients) v a → IsNext h w s v a
-next_other h w (step.join name) v a other is = absurd (other name refl)
-next_other h w (step.insert name branch at key index items) v a other is = is
-next_other h w (step.remove name branch at key index count) v a other is = is
-next_other h w (step.move name branch at key index count to to_key to_index) v a other is = is
-next_other h w (step.set name branch at key item) v a other is = is
-next_other h w (step.clear name branch at key) v a other is = is
-next_other h w (step.sequence name) v a other is = is
-next_other h w (step.deliver name) v a other is = is
-next_other h w (step.show name branch) v a other is = is
-
-pub next_absent : (h : HeaderView) (w : WorldState) (s : StepView) → place_of (name_of s) w.clients ≡ None → AtClient h w s (client_named (name_of s) w.clients) w (No NoClient)
-next_absent h w s none = rw none (refl, refl)
+pub next_none : (h : HeaderView) (w : WorldState) (s : StepView) (v : WorldState) (a : Answer) → place_of s.client w.clients ≡ None
+    → act_of_none w s.client s.act ≡ (v, a) → IsNext h w s v a
+next_none h w s v a none is = rw none is
 
 -- what the client at the place does
-pub next_present : (h : HeaderView) (w : WorldState) (s : StepView) (i : ℕ) (v : WorldState) (a : Answer) → place_of (name_of s) w.clients ≡ Some i
-    → ((c : Client) → slice_get w.clients i ≡ Some c → OnBranch (branch_of s) w v a (IsStepOf h w s i c v a)) → AtClient h w s (client_named (name_of s) w.clients) v a
+pub next_present : (h : HeaderView) (w : WorldState) (s : StepView) (i : ℕ) (v : WorldState) (a : Answer) → place_of s.client w.clients ≡ Some i
+    → ((c : Client) → slice_get w.clients i ≡ Some c → OnBranch s.branch w v a (IsActOf h w s.act i c v a)) → IsNext h w s v a
 next_present h w s i v a is does = rw is (at (slice_get w.clients i) refl)
   where
     within : i < length w.clients
-    within = (position-Some (λ (c : Client). pointwise nat_eq c.name (name_of s)) w.clients i (new_client 0 0 []) is).0
+    within = (position-Some (λ (c : Client). pointwise nat_eq c.name s.client) w.clients i (new_client 0 0 []) is).0
 
     at : (o : Option Client) → slice_get w.clients i ≡ o → AtClient h w s (option_map (λ c. (i, c)) (slice_get w.clients i)) v a
     at None none = absurd (past w.clients i within none)

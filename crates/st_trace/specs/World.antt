@@ -1,10 +1,9 @@
 -- The world, as lists alone: the log, and of each client what it received and what it has pending. What a client shows is
 -- read off the document to which its list of commits leads from the opening.
-use Rattle.std.specs.Prelude.{◌≡◌, ℕ, zero, suc, ◌+◌, ◌==◌, ◌&&◌, Bool, true, nat_lt, nat_le, nat_eq, List, [], ◌∷◌, ◌++◌, length, take, drop, position, slice_get, slice_set, Option, Some, None, is_some, option_map, option_and_then, Result, Ok, Err, if◌then◌else◌}
-use Rattle.std.specs.Cmp.Lexicographic.{pointwise}
+use Rattle.std.specs.Prelude.{◌≡◌, ℕ, zero, suc, ◌+◌, true, nat_le, List, [], ◌∷◌, ◌++◌, length, slice_get, slice_set, Option, Some, None, Result, Ok, Err, if◌then◌else◌}
 use Rattle.serde_json.specs.Written.{compact_text}
 use Rattle.st_ids.specs.declared.names.Limit.{Limit}
-use Rattle.st_ids.specs.declared.names.LimitOf.TheVariants.{Clients, Log, Names, Pending, Unsequenced}
+use Rattle.st_ids.specs.declared.names.LimitOf.TheVariants.{Clients, Log}
 use Rattle.st_ids.specs.declared.names.Rev.{Rev}
 use Rattle.st_tree.specs.Node.{Node, nodes_of, first, no_nodes}
 use Rattle.st_tree.specs.Preorder.{opening_listed}
@@ -18,21 +17,19 @@ use Rattle.st_schema.specs.Written.{schema_data}
 use Rattle.st_marks.specs.declared.intents.Intent.{Intent}
 use Rattle.st_marks.specs.declared.verdicts.Verdict.{Verdict}
 use Rattle.st_marks.specs.Document.{Document}
-use Rattle.st_marks.specs.Intent.{group_cells}
 use Rattle.st_marks.specs.LiveTree.{IsTreeText}
-use Rattle.st_marks.specs.Run.{Run}
 use Rattle.st_marks.specs.Verdict.{IsVerdict}
 use Rattle.st_opening.specs.Start.{start_of}
 use Rattle.st_edits.specs.declared.names.NameCounters.{NameCounters}
 use Rattle.st_edits.specs.Resolve.{insert, remove, move, put, clear}
 use Rattle.st_script.specs.Header.{HeaderView}
-use Rattle.st_script.specs.Steps.{StepView, branch_of, name_of}
+use Rattle.st_script.specs.Steps.{ActView, EditView, StepView}
 use Rattle.st_script.specs.Steps as step
 use Rattle.st_script.specs.declared.answer.Answer.{Answer}
 use Rattle.st_script.specs.declared.answer.Answer.TheVariants as answer
 use Rattle.st_script.specs.declared.refusal.Refusal.{Refusal}
 use Rattle.st_script.specs.declared.refusal.Refusal.TheVariants as no
-use Rattle.st_lists.specs.Clients.{HasReceived, HasShown, client_named, new_client, next_rev, place_of, with_commit, with_received}
+use Rattle.st_lists.specs.Clients.{HasReceived, HasShown, client_named, new_client, next_rev, with_commit, with_received}
 use Rattle.st_lists.specs.Limits.{limit_passed, log_limit_passed}
 use Rattle.st_lists.specs.Log.{commit_of, log_with, minimum}
 use Rattle.st_lists.specs.Names.{names_in_text}
@@ -54,6 +51,14 @@ opening_document h = start_of (opening_listed h.tree) (compact_text (schema_data
 
 -- ## Edits of one client
 
+-- the intent that an edit means in a document, with the names that it may give, or the first refusal
+abbrev pub intent_of : Document → SchemaView → NameCounters → EditView → Result Intent EditFault
+intent_of D s G (step.insert at key index items) = insert D s G at key index (nodes_of items)
+intent_of D s G (step.remove at key index count) = remove D s G at key index count
+intent_of D s G (step.move at key index count to to_key to_index) = move D s G at key index count to to_key to_index
+intent_of D s G (step.set at key item) = put D s G at key (first item no_nodes)
+intent_of D s G (step.clear at key) = clear D s G at key
+
 -- what is refused of an edit
 abbrev pub refusal_of : EditFault → Refusal
 refusal_of (fault.NoNode depth) = no.NoNode depth
@@ -62,6 +67,14 @@ refusal_of fault.Range = no.Range
 refusal_of fault.Inside = no.Inside
 refusal_of (fault.NotAllowed at) = no.NotAllowed at
 refusal_of (fault.Limit l) = no.Limit l
+
+-- which answer an edit gets whose commit is pending
+abbrev pub word_of : EditView → EditWord
+word_of (step.insert at key index items) = word.Insert
+word_of (step.remove at key index count) = word.Remove
+word_of (step.move at key index count to to_key to_index) = word.Move
+word_of (step.set at key item) = word.Set
+word_of (step.clear at key) = word.Clear
 
 -- the answer to an edit whose commit is pending
 abbrev pub answer_of : EditWord → Rev → Answer
@@ -107,10 +120,9 @@ with_client w i p = (record w { clients = slice_set w.clients i p.0 }, p.1)
 abbrev pub limit_refusal : Limit → Answer
 limit_refusal l = answer.No (no.Limit l)
 
--- at most 64 clients at a time, and 65,535 entries
+-- a client of a name that no other has: at most 64 clients at a time, and 65,535 entries
 abbrev pub join : WorldState → List ℕ → WorldState × Answer
 join w name =
-    if is_some (place_of name w.clients) then (w, answer.No no.Taken) else
     if nat_le 64 (length w.clients) then (w, limit_refusal (record { of = Clients; kept = length w.clients })) else
     if nat_le 65535 (length w.log) then (w, limit_refusal (record { of = Log; kept = length w.log })) else (
       record w {
@@ -152,31 +164,32 @@ IsDelivered h w i c v a = (D : Document) × (d : Client) × HasReceived (opening
 abbrev pub IsShown : HeaderView → WorldState → Client → Answer → Type 0
 IsShown h w c a = (D : Document) × (tree : List ℕ) × HasShown (opening_document h) w.log c D × IsTreeText (is_array_type h.schema) D tree × (a ≡ answer.Show tree)
 
--- what a step makes of the world, for its client and that one's place
-abbrev pub IsStepOf : HeaderView → WorldState → StepView → ℕ → Client → WorldState → Answer → Type 0
-IsStepOf h w (step.join name) i c v a = join w name ≡ (v, a)
-IsStepOf h w (step.insert name branch at key index items) i c v a = IsEdited h w i c word.Insert (λ D. insert D h.schema (next_names c) at key index (nodes_of items)) v a
-IsStepOf h w (step.remove name branch at key index count) i c v a = IsEdited h w i c word.Remove (λ D. remove D h.schema (next_names c) at key index count) v a
-IsStepOf h w (step.move name branch at key index count to to_key to_index) i c v a = IsEdited h w i c word.Move (λ D. move D h.schema (next_names c) at key index count to to_key to_index) v a
-IsStepOf h w (step.set name branch at key item) i c v a = IsEdited h w i c word.Set (λ D. put D h.schema (next_names c) at key (first item no_nodes)) v a
-IsStepOf h w (step.clear name branch at key) i c v a = IsEdited h w i c word.Clear (λ D. clear D h.schema (next_names c) at key) v a
-IsStepOf h w (step.sequence name) i c v a = sequence w i c c.queue ≡ (v, a)
-IsStepOf h w (step.deliver name) i c v a = IsDelivered h w i c v a
-IsStepOf h w (step.show name branch) i c v a = (v ≡ w) × IsShown h w c a
+-- what an act makes of the world, for its client and that one's place
+abbrev pub IsActOf : HeaderView → WorldState → ActView → ℕ → Client → WorldState → Answer → Type 0
+IsActOf h w step.join i c v a = IsUnchanged w v a (answer.No no.Taken)
+IsActOf h w (step.edit e) i c v a = IsEdited h w i c (word_of e) (λ D. intent_of D h.schema (next_names c) e) v a
+IsActOf h w step.sequence i c v a = sequence w i c c.queue ≡ (v, a)
+IsActOf h w step.deliver i c v a = IsDelivered h w i c v a
+IsActOf h w step.show i c v a = (v ≡ w) × IsShown h w c a
+
+-- where no client has the name: one joins, and nothing else is done
+abbrev pub act_of_none : WorldState → List ℕ → ActView → WorldState × Answer
+act_of_none w name step.join = join w name
+act_of_none w name act = (w, answer.No no.NoClient)
 
 -- there is the main branch, 0, and no other
 abbrev pub OnBranch : ℕ → WorldState → WorldState → Answer → Type 0 → Type 0
 OnBranch zero w v a next = next
 OnBranch (suc k) w v a next = IsUnchanged w v a (answer.No no.NoBranch)
 
+-- a step of the client at its place, if there is one
 abbrev pub AtClient : HeaderView → WorldState → StepView → Option (ℕ × Client) → WorldState → Answer → Type 0
-AtClient h w s None v a = IsUnchanged w v a (answer.No no.NoClient)
-AtClient h w s (Some p) v a = OnBranch (branch_of s) w v a (IsStepOf h w s p.0 p.1 v a)
+AtClient h w s None v a = act_of_none w s.client s.act ≡ (v, a)
+AtClient h w s (Some p) v a = OnBranch s.branch w v a (IsActOf h w s.act p.0 p.1 v a)
 
--- the world after a step, and the answer; all but a join want the client to be there
+-- the world after a step, and the answer
 abbrev pub IsNext : HeaderView → WorldState → StepView → WorldState → Answer → Type 0
-IsNext h w (step.join name) v a = join w name ≡ (v, a)
-IsNext h w s v a = AtClient h w s (client_named (name_of s) w.clients) v a
+IsNext h w s v a = AtClient h w s (client_named s.client w.clients) v a
 
 -- ## Answers
 

@@ -7,16 +7,17 @@ ghost use Rattle.st_marks.specs.Run.{Run};
 ghost use Rattle.st_doc.specs.Doc.{document_of};
 ghost use Rattle.st_edits.specs.Resolve.{IsWithin, resolve};
 ghost use Rattle.st_log_laws.specs.Turns.{FitInTurn};
-ghost use Rattle.st_trace.specs.inside.Edits.{word_of, edit_of};
+ghost use Rattle.st_script.specs.Steps.{edit_view};
+ghost use Rattle.st_trace.specs.inside.Edits.{edit_of};
 ghost use Rattle.st_trace.specs.inside.Replicas.{IsCommitted, IsPending, IsEditedReplica, HasCarried, HasReceivedOne, CanReceive, HasReceivedNext, HasMoved};
 ghost use Rattle.st_lists.specs.Names.{names_in, names_in_text, names_made};
 ghost use Rattle.st_lists.specs.Clients.{next_rev, with_commit, is_own, with_received, new_client};
-ghost use Rattle.st_trace.specs.World.{next_names, refusal_of, with_pending, after_edit, answer_of, IsDeliveredTo};
+ghost use Rattle.st_trace.specs.World.{word_of, next_names, refusal_of, with_pending, after_edit, answer_of, IsDeliveredTo};
 ghost use Rattle.st_lists.specs.Limits.{limit_passed};
 ghost use Rattle.st_lists.specs.declared.lists.Body.TheVariants.{Commit};
 ghost use Rattle.st_trace.specs.declared.replica.Replica.{Replica as KeptOf};
 
-use crate::edits::resolve_step;
+use crate::edits::{resolve_edit, word_of};
 use crate::replica::Replica;
 use st_doc::Doc;
 use st_edits::NameCounters;
@@ -24,7 +25,7 @@ use st_ids::{Copied, Limit, LimitOf, List, Or, Rev, Text};
 use st_lists::{Body, Client, Entry, names_in_text, names_made};
 use st_marks::{Intent, Verdict};
 use st_schema::Schema;
-use st_script::{Answer, Refusal, TraceStep};
+use st_script::{Answer, EditAct, Refusal};
 use st_tree::EditFault;
 use std::alloc::{AllocError, Global};
 
@@ -189,25 +190,25 @@ pub fn edit(
     schema: &Schema,
     client: &mut Client,
     kept: &mut Replica,
-    done: EditWord,
-    step: &TraceStep,
+    edit: &EditAct,
 ) -> Result<Answer, AllocError>
     requires few { client.old.ids + 1 < 2 ^ 32 }
-    requires edit { is_some (word_of step.now) ≡ true }
-    requires within { IsWithin (edit_of step.now) }
+    requires within { IsWithin (edit_of edit.now) }
     requires pending { length client.old.pending ≤ 256 }
     requires names { kept.old.names ≡ names_in client.old.pending }
     requires few_names { names_in client.old.pending ≤ 16384 }
     requires sound { IsSoundInForm (document_of kept.old.shown) }
     requires fresh_nodes { (k : ℕ) → (document_of kept.old.shown).nodes (node_named (next_rev client.old) k) ≡ None }
     requires fresh_cells { (k : ℕ) → (document_of kept.old.shown).row_of (cell_named (next_rev client.old) k) ≡ None }
-    ensures answer { IfOk result (λ a. after_edit client.old done (resolve (document_of kept.old.shown) schema.now (next_names client.old) (edit_of step.now)) ≡ (client.new, a)) }
-    ensures kept { OnOk result (IsEditedReplica client.old kept.old (resolve (document_of kept.old.shown) schema.now (next_names client.old) (edit_of step.now)) kept.new) }
+    ensures answer { IfOk result (λ a. after_edit client.old (word_of (edit_view edit.now))
+        (resolve (document_of kept.old.shown) schema.now (next_names client.old) (edit_of edit.now)) ≡ (client.new, a)) }
+    ensures kept { OnOk result (IsEditedReplica client.old kept.old
+        (resolve (document_of kept.old.shown) schema.now (next_names client.old) (edit_of edit.now)) kept.new) }
 {
     schema.is_kept();
-    match resolve_step(alloc, &kept.shown, schema, next_names(client), step) {
+    match resolve_edit(alloc, &kept.shown, schema, next_names(client), edit) {
         Ok(intent) => {
-            let answer = add_pending(alloc, client, kept, done, intent)?;
+            let answer = add_pending(alloc, client, kept, word_of(edit), intent)?;
             Ok(answer)
         }
         Err(Or::Fault(fault)) => Ok(Answer::No(refusal_of(fault))),

@@ -4,29 +4,26 @@ ghost use Rattle.st_marks.specs.Document.{IsSoundInForm};
 ghost use Rattle.st_marks.specs.Intent.{Fits};
 ghost use Rattle.st_doc.specs.Doc.{document_of};
 ghost use Rattle.st_script.specs.Header.{header_view, may_open};
-ghost use Rattle.st_script.specs.Steps.{step_view, IsWithinLimits};
+ghost use Rattle.st_script.specs.Steps.{act_view, edit as edit_act, edit_view, step_view, IsActWithin, IsEditWithin, IsWithinLimits};
 ghost use Rattle.st_doc.specs.LiveText.{is_among};
-ghost use Rattle.st_edits.specs.Resolve.{IsWithin, resolve};
 ghost use Rattle.st_edits.specs.ArrayTypes.{is_array_type};
 ghost use Rattle.st_lists.specs.Clients.{empty_state, place_of};
-ghost use Rattle.st_trace.specs.World.{opening_document, limit_refusal, join, sequence, next_names, IsEdited, IsDelivered, IsShown, IsStepOf, IsNext, AtRefusal, ShowsAllowed};
+ghost use Rattle.st_trace.specs.World.{opening_document, limit_refusal, join, sequence, act_of_none, IsDelivered, IsShown, IsActOf, IsNext, AtRefusal, ShowsAllowed};
 ghost use Rattle.st_lists.specs.Names.{names_in_text};
 ghost use Rattle.st_lists.specs.Limits.{log_limit_passed};
 ghost use Rattle.st_trace.specs.Replicas.{IsHeader, IsSound};
 ghost use Rattle.st_trace.specs.inside.Replicas.{HasEntered, IsSoundNext};
 ghost use Rattle.st_lists.specs.Known.{AreKnown};
 ghost use Rattle.st_lists.specs.Log.{commit_in, log_with, minimum};
-ghost use Rattle.st_trace.specs.inside.Edits.{word_of, edit_of};
 ghost use Rattle.st_lists.specs.declared.lists.Client.{Client as Present};
 
-use crate::client::{self, EditWord};
-use crate::edits::word_of;
+use crate::client;
 use crate::replica::Replica;
 use st_doc::Doc;
 use st_ids::{Copied, Limit, LimitOf, List, Or, Text};
 use st_lists::{Body, Client, WorldState, append_entry, least_known, names_in_text};
 use st_schema::{Form, Header, Schema};
-use st_script::{Answer, Refusal, TraceStep};
+use st_script::{Act, Answer, EditAct, Refusal, TraceStep};
 use std::alloc::{AllocError, Global};
 use std::collections::BTreeMap;
 
@@ -159,19 +156,12 @@ impl World {
     }
 
     // Makes an edit of the tree that the client at a place shows.
-    fn edit(
-        &mut self,
-        alloc: Global,
-        i: usize,
-        done: EditWord,
-        step: &TraceStep,
-    ) -> Result<Answer, AllocError>
+    fn edit(&mut self, alloc: Global, i: usize, edit: &EditAct) -> Result<Answer, AllocError>
         requires sound { IsSound self.old }
         requires few { self.old.steps + 1 < 2 ^ 32 }
-        requires edit { is_some (word_of step.now) ≡ true }
-        requires within { IsWithin (edit_of step.now) }
+        requires within { IsEditWithin (edit_view edit.now) }
         ensures next { IfOk result (λ a. (c : Present) → slice_get self.old.lists.clients i ≡ Some c
-            → IsEdited (header_view self.old.header) self.old.lists i c done (λ D. resolve D (header_view self.old.header).schema (next_names c) (edit_of step.now)) self.new.lists a) }
+            → IsActOf (header_view self.old.header) self.old.lists (edit_act (edit_view edit.now)) i c self.new.lists a) }
         ensures sound { OnOk result (IsSoundNext self.new) }
         ensures steps { OnOk result (self.new.steps ≡ self.old.steps) }
         ensures header { OnOk result (self.new.header ≡ self.old.header) }
@@ -184,7 +174,7 @@ impl World {
         let Some(client) = self.lists.clients.get_mut(i) else {
             return Ok(Answer::No(Refusal::NoClient));
         };
-        let answer = client::edit(alloc, &self.header.schema, client, kept, done, step)?;
+        let answer = client::edit(alloc, &self.header.schema, client, kept, edit)?;
         Ok(answer)
     }
 
@@ -309,7 +299,7 @@ impl World {
         }
     }
 
-    // A client of that name joins, unless one is there or there are too many, or too many entries.
+    // A client of that name joins, unless there are too many, or too many entries.
     fn join(&mut self, alloc: Global, name: &Text) -> Result<Answer, AllocError>
         requires sound { IsSound self.old }
         requires few { self.old.steps + 1 < 2 ^ 32 }
@@ -320,9 +310,6 @@ impl World {
         ensures spent { self.new.spent ≡ self.old.spent }
         ensures refused { IfOk result (λ a. AtRefusal a (self.new ≡ self.old)) }
     {
-        if place_of(self.lists.clients.as_slice(), name.as_str()).is_some() {
-            return Ok(Answer::No(Refusal::Taken));
-        }
         let count = self.lists.clients.len();
         if count >= MOST_CLIENTS {
             return Ok(limit_refusal(LimitOf::Clients, count as u32));
@@ -360,55 +347,51 @@ impl World {
         place_of(self.lists.clients.as_slice(), name.as_str())
     }
 
-    // Makes a step that is no edit.
-    fn answer_plain(
-        &mut self,
-        alloc: Global,
-        i: usize,
-        step: &TraceStep,
-    ) -> Result<Answer, AllocError>
+    // Acts where no client has the name: one joins, and nothing else is done.
+    fn answer_none(&mut self, alloc: Global, step: &TraceStep) -> Result<Answer, AllocError>
         requires sound { IsSound self.old }
         requires few { self.old.steps + 1 < 2 ^ 32 }
-        requires plain { word_of step.now ≡ None }
-        ensures next { IfOk result (λ a. (c : Present) → slice_get self.old.lists.clients i ≡ Some c
-            → IsStepOf (header_view self.old.header) self.old.lists (step_view step.now) i c self.new.lists a) }
+        ensures next { IfOk result (λ a. act_of_none self.old.lists step.now.client (act_view step.now.act) ≡ (self.new.lists, a)) }
         ensures sound { OnOk result (IsSoundNext self.new) }
         ensures steps { OnOk result (self.new.steps ≡ self.old.steps) }
         ensures header { OnOk result (self.new.header ≡ self.old.header) }
         ensures spent { self.new.spent ≡ self.old.spent }
         ensures refused { IfOk result (λ a. AtRefusal a (self.new ≡ self.old)) }
     {
-        match step {
-            TraceStep::Join { client } => self.join(alloc, client),
-            TraceStep::Sequence { .. } => self.sequence(alloc, i),
-            TraceStep::Deliver { .. } => self.deliver(alloc, i),
-            _ => {
+        match &step.act {
+            Act::Join => self.join(alloc, &step.client),
+            Act::Edit(_) | Act::Sequence | Act::Deliver | Act::Show => {
+                Ok(Answer::No(Refusal::NoClient))
+            }
+        }
+    }
+
+    // Acts for the client at a place.
+    fn answer_at(&mut self, alloc: Global, i: usize, act: &Act) -> Result<Answer, AllocError>
+        requires sound { IsSound self.old }
+        requires few { self.old.steps + 1 < 2 ^ 32 }
+        requires form { IsActWithin (act_view act.now) }
+        ensures next { IfOk result (λ a. (c : Present) → slice_get self.old.lists.clients i ≡ Some c
+            → IsActOf (header_view self.old.header) self.old.lists (act_view act.now) i c self.new.lists a) }
+        ensures sound { OnOk result (IsSoundNext self.new) }
+        ensures steps { OnOk result (self.new.steps ≡ self.old.steps) }
+        ensures header { OnOk result (self.new.header ≡ self.old.header) }
+        ensures spent { self.new.spent ≡ self.old.spent }
+        ensures refused { IfOk result (λ a. AtRefusal a (self.new ≡ self.old)) }
+    {
+        match act {
+            Act::Join => Ok(Answer::No(Refusal::Taken)),
+            Act::Edit(edit) => self.edit(alloc, i, edit),
+            Act::Sequence => self.sequence(alloc, i),
+            Act::Deliver => self.deliver(alloc, i),
+            Act::Show => {
                 let answer = self.show(alloc, i)?;
                 Ok(answer)
             }
         }
     }
 
-    // Makes a step of the client at a place, on the main branch.
-    fn answer_at(&mut self, alloc: Global, i: usize, step: &TraceStep) -> Result<Answer, AllocError>
-        requires sound { IsSound self.old }
-        requires few { self.old.steps + 1 < 2 ^ 32 }
-        requires form { IsWithinLimits (step_view step.now) }
-        ensures next { IfOk result (λ a. (c : Present) → slice_get self.old.lists.clients i ≡ Some c
-            → IsStepOf (header_view self.old.header) self.old.lists (step_view step.now) i c self.new.lists a) }
-        ensures sound { OnOk result (IsSoundNext self.new) }
-        ensures steps { OnOk result (self.new.steps ≡ self.old.steps) }
-        ensures header { OnOk result (self.new.header ≡ self.old.header) }
-        ensures spent { self.new.spent ≡ self.old.spent }
-        ensures refused { IfOk result (λ a. AtRefusal a (self.new ≡ self.old)) }
-    {
-        match word_of(step) {
-            Some(word) => self.edit(alloc, i, word, step),
-            None => self.answer_plain(alloc, i, step),
-        }
-    }
-
-    // Makes a step, if its client and its branch are there. A join wants neither.
+    // Makes a step: its client is there or joins, and there is the main branch alone.
     fn answer(&mut self, alloc: Global, step: &TraceStep) -> Result<Answer, AllocError>
         requires sound { IsSound self.old }
         requires few { self.old.steps + 1 < 2 ^ 32 }
@@ -420,16 +403,14 @@ impl World {
         ensures spent { self.new.spent ≡ self.old.spent }
         ensures refused { IfOk result (λ a. AtRefusal a (self.new ≡ self.old)) }
     {
-        if let TraceStep::Join { client } = step {
-            return self.join(alloc, client);
-        }
-        let Some(i) = self.find(step.client()) else {
-            return Ok(Answer::No(Refusal::NoClient));
+        let Some(i) = self.find(&step.client) else {
+            let answer = self.answer_none(alloc, step)?;
+            return Ok(answer);
         };
-        if step.branch() != 0 {
+        if step.branch != 0 {
             return Ok(Answer::No(Refusal::NoBranch));
         }
-        let answer = self.answer_at(alloc, i, step)?;
+        let answer = self.answer_at(alloc, i, &step.act)?;
         Ok(answer)
     }
 
