@@ -3,9 +3,9 @@ use st_ids::{Atom, Key, Leaf, List, NodeId, Or, Path, Rev, Text};
 use st_json::BadCause;
 use st_marks::Verdict;
 use st_script::{
-    Answer, Line, Refusal, TraceStep, answer_line, read_header, read_headers_may_open,
-    read_step_line, read_steps_are_of_form, read_steps_are_read_again, read_steps_fit_lines,
-    read_steps_have_shape, step_line, step_lines_are_read,
+    Act, Answer, EditAct, Line, Refusal, TraceStep, answer_line, read_header,
+    read_headers_may_open, read_step_line, read_steps_are_of_form, read_steps_are_read_again,
+    read_steps_fit_lines, read_steps_have_shape, step_line, step_lines_are_read,
 };
 use st_tree::{Field, Tree, TreeFault};
 use std::alloc::{AllocError, Global};
@@ -116,12 +116,13 @@ fn tall_tree(alloc: Global, levels: u32) -> Result<Tree, AllocError> {
 fn tall_line(alloc: Global, levels: u32) -> Result<Text, Or<TreeFault>> {
     let client = Text::from_str(alloc, "A")?;
     let item = tall_tree(alloc, levels)?;
-    let step = TraceStep::Set {
+    let at = Path::new(alloc);
+    let key = Key(Text::new(alloc));
+    let act = Act::Edit(EditAct::Set { at, key, item });
+    let step = TraceStep {
         client,
         branch: 0,
-        at: Path::new(alloc),
-        key: Key(Text::new(alloc)),
-        item,
+        act,
     };
     step_line(alloc, &step)
 }
