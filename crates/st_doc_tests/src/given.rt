@@ -226,22 +226,36 @@ pub fn edit(alloc: Global, case: Case) -> Result<Edit, Fail>
     }
 }
 
-// The commit of an edit in a document, by a session.
+// What an edit means in a document, with the names that are free.
 fn resolved(
     alloc: Global,
     schema: &Schema,
     doc: &Doc,
-    session: u32,
+    given: NameCounters,
     edit: &Edit,
 ) -> Result<Intent, Fail>
-    requires { IsWithin edit.now }
+    requires within { IsWithin edit.now }
+    requires nodes { given.nodes < 2 ^ 31 }
+    requires cells { given.cells < 2 ^ 31 }
 {
-    let given = NameCounters {
-        rev: Rev { session, num: 1 },
-        nodes: 0,
-        cells: 0,
-    };
     Ok(resolve(alloc, doc, schema, given, edit)?)
+}
+
+/// What a case means in a document, as a part of a commit that has made names.
+pub fn part(
+    alloc: Global,
+    schema: &Schema,
+    doc: &Doc,
+    given: NameCounters,
+    case: Case,
+) -> Result<Intent, Fail> {
+    if given.nodes > 9 || given.cells > 9 {
+        return Err(Fail::from("too many names"));
+    }
+    match edit(alloc, case) {
+        Ok(edit) => resolved(alloc, schema, doc, given, &edit),
+        Err(fail) => Err(fail),
+    }
 }
 
 /// The commit of a case in a document, by a session.
@@ -252,8 +266,10 @@ pub fn commit(
     session: u32,
     case: Case,
 ) -> Result<Intent, Fail> {
-    match edit(alloc, case) {
-        Ok(edit) => resolved(alloc, schema, doc, session, &edit),
-        Err(fail) => Err(fail),
-    }
+    let given = NameCounters {
+        rev: Rev { session, num: 1 },
+        nodes: 0,
+        cells: 0,
+    };
+    part(alloc, schema, doc, given, case)
 }

@@ -1,4 +1,5 @@
-//! Documents, intents and edits together: scenarios over the calls of `st_intent`, `st_doc` and `st_resolve`.
+//! Documents, intents and edits together: scenarios over the calls of `st_intent`, `st_join`, `st_doc`, `st_resolve` and
+//! `st_heads`.
 #![tactic(auto)]
 
 #[cfg(test)]
@@ -11,5 +12,9 @@ mod edits;
 mod given;
 #[cfg(test)]
 mod intents;
+#[cfg(test)]
+mod joining;
+#[cfg(test)]
+mod transactions;
 #[cfg(test)]
 mod undoing;

@@ -1,0 +1,213 @@
+//! A transaction shows what its edits show one after the other, and so does the line once it is committed.
+ghost use Rattle.std.specs.Prelude.{◌≡◌, Option, None, true, IfOk, OnOk};
+ghost use Rattle.st_marks.specs.Document.{IsSoundInForm};
+ghost use Rattle.st_doc.specs.Doc.{document_of};
+ghost use Rattle.st_heads.specs.Transactions.{with_open, HasOpen, IsOpen, IsSoundPart};
+
+use crate::given::{Case, opened, part, schema, shows};
+use crate::joining::{ROWS, Row};
+use st_doc::Doc;
+use st_edits::NameCounters;
+use st_heads::Head;
+use st_ids::Rev;
+use st_marks::{Intent, Verdict};
+use st_schema::Schema;
+use std::alloc::{AllocError, Global};
+use std::test::Fail;
+
+const REV: Rev = Rev { session: 1, num: 1 };
+
+// Whether an intent is a part of a transaction in the document that is shown.
+fn is_sound_part(alloc: Global, doc: &Doc, part: &Intent) -> Result<bool, Fail>
+    requires { IsSoundInForm (document_of doc.now) }
+    ensures { IfOk result (λ b. b ≡ true → IsSoundPart (document_of doc.now) part.now) }
+{
+    if part.schema.is_some() || !doc.fits(part) || !doc.has_room(part) {
+        return Ok(false);
+    }
+    match doc.fails(alloc, part)? {
+        Verdict::Sound => Ok(true),
+        _ => Ok(false),
+    }
+}
+
+// Whether a head with an open transaction shows a tree.
+fn head_shows(
+    alloc: Global,
+    head: &Head,
+    joined: &Option<Intent>,
+    tree: &str,
+) -> Result<bool, AllocError>
+    requires has { HasOpen head.now joined.now }
+    requires sound { IsSoundInForm (with_open (document_of head.now.doc) joined.now) }
+{
+    shows(alloc, head.shown(), tree)
+}
+
+// Whether an intent is a part of the transaction that is open on a head.
+fn is_next_part(
+    alloc: Global,
+    head: &Head,
+    joined: &Option<Intent>,
+    part: &Intent,
+) -> Result<bool, Fail>
+    requires has { HasOpen head.now joined.now }
+    requires sound { IsSoundInForm (with_open (document_of head.now.doc) joined.now) }
+    ensures { IfOk result (λ b. b ≡ true → IsSoundPart (with_open (document_of head.now.doc) joined.now) part.now) }
+{
+    is_sound_part(alloc, head.shown(), part)
+}
+
+// Edits in the transaction that is open on a head.
+fn edit_at(
+    alloc: Global,
+    head: &mut Head,
+    joined: &mut Option<Intent>,
+    under: Rev,
+    part: Intent,
+) -> Result<(), Fail>
+    requires line { IsSoundInForm (document_of head.old.doc) }
+    requires going { IsOpen head.old joined.old REV under }
+    ensures line { OnOk result (head.new.doc ≡ head.old.doc) }
+    ensures going { OnOk result (IsOpen head.new joined.new REV under) }
+{
+    if part.rev != REV || part.under != under || !is_next_part(alloc, head, joined, &part)? {
+        return Err(Fail::from("not sound"));
+    }
+    head.edit(alloc, joined, part)?;
+    Ok(())
+}
+
+// The head of a document that has no commit of its own yet.
+fn line_over(alloc: Global, doc: &Doc) -> Result<Head, Fail>
+    requires { IsSoundInForm (document_of doc.now) }
+    ensures sound { IfOk result (λ h. IsSoundInForm (document_of h.doc)) }
+    ensures none { IfOk result (λ h. h.edited ≡ None) }
+{
+    Ok(Head::over(alloc, doc, &[])?)
+}
+
+// What a case means in the document that is shown, with the names that are free.
+fn part_at(
+    alloc: Global,
+    schema: &Schema,
+    head: &Head,
+    made: (u32, u32),
+    case: Case,
+) -> Result<Intent, Fail> {
+    let given = NameCounters {
+        rev: REV,
+        nodes: made.0,
+        cells: made.1,
+    };
+    part(alloc, schema, head.shown(), given, case)
+}
+
+// Whether the line shows a tree once a transaction is committed.
+fn commits(alloc: Global, head: &mut Head, whole: &Intent, tree: &str) -> Result<bool, Fail>
+    requires line { IsSoundInForm (document_of head.old.doc) }
+{
+    if !head.doc.fits(whole) || !head.doc.has_room(whole) {
+        return Err(Fail::from("does not fit"));
+    }
+    head.commit(alloc, whole)?;
+    Ok(shows(alloc, &head.doc, tree)?)
+}
+
+// Whether a transaction shows a tree, and the line shows it too once the transaction is committed.
+fn leads(alloc: Global, head: &mut Head, joined: &Option<Intent>, tree: &str) -> Result<bool, Fail>
+    requires line { IsSoundInForm (document_of head.old.doc) }
+    requires has { HasOpen head.old joined.now }
+    requires sound { IsSoundInForm (with_open (document_of head.old.doc) joined.now) }
+{
+    let open = head_shows(alloc, head, joined, tree)?;
+    let Some(whole) = joined else {
+        return Ok(false);
+    };
+    Ok(open && commits(alloc, head, whole, tree)?)
+}
+
+// Whether a second edit leads to a row's tree, after the first.
+fn second_leads(
+    alloc: Global,
+    schema: &Schema,
+    head: &mut Head,
+    joined: &mut Option<Intent>,
+    under: Rev,
+    row: &Row,
+) -> Result<bool, Fail>
+    requires line { IsSoundInForm (document_of head.old.doc) }
+    requires going { IsOpen head.old joined.old REV under }
+{
+    let part = part_at(alloc, schema, head, row.made, row.second)?;
+    edit_at(alloc, head, joined, under, part)?;
+    leads(alloc, head, joined, row.both)
+}
+
+// Whether two edits of one transaction over a document lead to a row's tree.
+fn both_lead(alloc: Global, schema: &Schema, head: &mut Head, row: &Row) -> Result<bool, Fail>
+    requires line { IsSoundInForm (document_of head.old.doc) }
+    requires none { head.old.edited ≡ None }
+{
+    let part = part_at(alloc, schema, head, (0, 0), row.first)?;
+    let under = part.under;
+    let mut joined = None;
+    edit_at(alloc, head, &mut joined, under, part)?;
+    second_leads(alloc, schema, head, &mut joined, under, row)
+}
+
+// Whether a transaction that is let go of leaves the line as it was.
+fn lets_go(alloc: Global, head: &mut Head, tree: &str) -> Result<bool, Fail>
+    requires line { IsSoundInForm (document_of head.old.doc) }
+{
+    head.abort();
+    Ok(head_shows(alloc, head, &None, tree)?)
+}
+
+// Whether the first edit of a row shows in a transaction, and not after it is let go of.
+fn first_goes(alloc: Global, schema: &Schema, head: &mut Head, row: &Row) -> Result<bool, Fail>
+    requires line { IsSoundInForm (document_of head.old.doc) }
+    requires none { head.old.edited ≡ None }
+{
+    let part = part_at(alloc, schema, head, (0, 0), row.first)?;
+    let under = part.under;
+    let mut joined = None;
+    edit_at(alloc, head, &mut joined, under, part)?;
+    let before = head_shows(alloc, head, &joined, row.tree)?;
+    Ok(!before && lets_go(alloc, head, row.tree)?)
+}
+
+fn line_leads(alloc: Global, schema: &Schema, doc: &Doc, row: &Row) -> Result<bool, Fail>
+    requires { IsSoundInForm (document_of doc.now) }
+{
+    let mut line = line_over(alloc, doc)?;
+    let mut other = line_over(alloc, doc)?;
+    Ok(both_lead(alloc, schema, &mut line, row)? && first_goes(alloc, schema, &mut other, row)?)
+}
+
+fn is_so(alloc: Global, schema: &Schema, row: &Row) -> Result<bool, Fail> {
+    let doc = opened(alloc, schema, row.tree)?;
+    line_leads(alloc, schema, &doc, row)
+}
+
+// The first row that isn't so.
+fn first_wrong(alloc: Global, schema: &Schema, rows: &[Row]) -> Result<Option<&'static str>, Fail> {
+    for row in rows {
+        if !is_so(alloc, schema, row)? {
+            return Ok(Some(row.both));
+        }
+    }
+    Ok(None)
+}
+
+fn wrong_row(alloc: Global) -> Result<Option<&'static str>, Fail> {
+    let schema = schema(alloc)?;
+    first_wrong(alloc, &schema, &ROWS)
+}
+
+#[test]
+fn transactions(rt: HostRuntime) -> Result<(), Fail> {
+    let wrong = wrong_row(rt.alloc())?;
+    assert!(rt; wrong.is_none(), "{wrong:?}");
+    Ok(())
+}
