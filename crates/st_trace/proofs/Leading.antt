@@ -49,7 +49,7 @@ use Rattle.st_script.specs.declared.answer.Answer.TheVariants.{Deliver, Join as 
 use Rattle.st_script.specs.declared.refusal.Refusal.TheVariants.{NoBranch, NoClient, NothingNew, NothingToSend, Taken}
 use Rattle.st_trace.specs.Replicas.{IsClient, IsSound}
 use Rattle.st_lists.specs.Log.{commit_of, log_with}
-use Rattle.st_trace.specs.World.{IsActOf, IsDelivered, IsDeliveredTo, IsEdited, IsNext, AtClient, IsShown, IsVerdictOf, OnBranch, act_of_none, after_edit, entering, intent_of, next_names, join, opening_document, limit_refusal, sequence, with_client, word_of}
+use Rattle.st_trace.specs.World.{IsActOf, IsDelivered, IsDeliveredTo, IsEdited, IsNext, AtClient, IsShown, IsVerdictOf, OnBranch, act_of_none, after_edit, branch_at, entering, intent_of, next_names, join, opening_document, limit_refusal, sequence, with_client, word_of}
 use Rattle.st_lists.specs.Clients.{HasReceived, HasShown, new_client, next_rev, place_of, received_by, with_received}
 use Rattle.st_lists.specs.Limits.{log_limit_passed}
 use Rattle.st_lists.specs.Names.{names_in_text}
@@ -292,7 +292,7 @@ module _ (h : HeaderView) (w : WorldState) (s : AreSound h w) where
 
       client_at : (i : ℕ) (o : Option Client) → slice_get w.clients i ≡ o → Leads (AtClient h w x (option_map (λ c. (i, c)) o))
       client_at i None at = has_act_of_none x.client x.act
-      client_at i (Some c) at = on x.branch i c (has_act_of x.act i c at)
+      client_at i (Some c) at = on (branch_at x.branch x.act) i c (has_act_of x.act i c at)
 
       place : (o : Option ℕ) → Leads (AtClient h w x (option_and_then (λ i. option_map (λ c. (i, c)) (slice_get w.clients i)) o))
       place None = has_act_of_none x.client x.act

@@ -18,7 +18,7 @@ use Rattle.st_script.specs.Steps.{ActView, StepView}
 use Rattle.st_script.specs.Steps as step
 use Rattle.st_script.specs.declared.answer.Answer.{Answer}
 use Rattle.st_trace.specs.Replicas.{IsSound}
-use Rattle.st_trace.specs.World.{IsActOf, IsAllowedText, IsDeliveredTo, IsEdited, IsNext, AtClient, OnBranch, ShowsAllowed, act_of_none, answer_of, after_edit, entering, join, opening_document, with_pending, sequence, word_of}
+use Rattle.st_trace.specs.World.{IsActOf, IsAllowedText, IsDeliveredTo, IsEdited, IsNext, AtClient, OnBranch, ShowsAllowed, act_of_none, answer_of, after_edit, branch_at, entering, join, opening_document, with_pending, sequence, word_of}
 use Rattle.st_lists.specs.Clients.{HasShown, next_rev, place_of, received_by}
 use Rattle.st_lists.specs.Limits.{limit_passed, log_limit_passed}
 use Rattle.st_lists.specs.Names.{names_in_text}
@@ -119,7 +119,7 @@ next_allowed w s v a sound is = place (place_of s.client w.lists.clients) is
 
     client : (i : ℕ) (o : Option Client) → slice_get w.lists.clients i ≡ o → AtClient (header_view w.header) w.lists s (option_map (λ c. (i, c)) o) v a → ShowsAllowed w.header.schema a
     client i None at is = none is
-    client i (Some c) at is = on s.branch (IsActOf (header_view w.header) w.lists s.act i c v a) (of_fine w s.act i c v a sound at) is
+    client i (Some c) at is = on (branch_at s.branch s.act) (IsActOf (header_view w.header) w.lists s.act i c v a) (of_fine w s.act i c v a sound at) is
 
     place : (o : Option ℕ) → AtClient (header_view w.header) w.lists s (option_and_then (λ i. option_map (λ c. (i, c)) (slice_get w.lists.clients i)) o) v a → ShowsAllowed w.header.schema a
     place None is = none is

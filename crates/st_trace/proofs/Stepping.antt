@@ -32,7 +32,7 @@ use Rattle.st_trace.specs.Replicas.{AreReplicas, IsClient, IsEntryOf, IsReplicaO
 use Rattle.st_lists.specs.Log.{commit_in, commits_of_text, intents_of, log_and_queue}
 use Rattle.st_lists.specs.Known.{AreKnown}
 use Rattle.st_lists.specs.Log.{commit_of, commits_in, log_with}
-use Rattle.st_trace.specs.World.{IsActOf, IsNext, AtClient, OnBranch, act_of_none, opening_document, sequence}
+use Rattle.st_trace.specs.World.{IsActOf, IsNext, AtClient, OnBranch, act_of_none, branch_at, opening_document, sequence}
 use Rattle.st_lists.specs.Clients.{new_client, place_of}
 use Rattle.st_lists.specs.Limits.{log_limit_passed}
 use Rattle.st_lists.specs.Names.{names_in, names_in_text}
@@ -269,7 +269,7 @@ next_none h w s v a none is = rw none is
 
 -- what the client at the place does
 pub next_present : (h : HeaderView) (w : WorldState) (s : StepView) (i : ℕ) (v : WorldState) (a : Answer) → place_of s.client w.clients ≡ Some i
-    → ((c : Client) → slice_get w.clients i ≡ Some c → OnBranch s.branch w v a (IsActOf h w s.act i c v a)) → IsNext h w s v a
+    → ((c : Client) → slice_get w.clients i ≡ Some c → OnBranch (branch_at s.branch s.act) w v a (IsActOf h w s.act i c v a)) → IsNext h w s v a
 next_present h w s i v a is does = rw is (at (slice_get w.clients i) refl)
   where
     within : i < length w.clients

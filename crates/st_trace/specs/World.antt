@@ -175,9 +175,20 @@ IsActOf h w step.show i c v a = (v ≡ w) × IsShown h w c a
 -- where no client has the name: one joins, and nothing else is done
 abbrev pub act_of_none : WorldState → List ℕ → ActView → WorldState × Answer
 act_of_none w name step.join = join w name
-act_of_none w name act = (w, answer.No no.NoClient)
+act_of_none w name (step.edit e) = (w, answer.No no.NoClient)
+act_of_none w name step.sequence = (w, answer.No no.NoClient)
+act_of_none w name step.deliver = (w, answer.No no.NoClient)
+act_of_none w name step.show = (w, answer.No no.NoClient)
 
--- there is the main branch, 0, and no other
+-- the branch that an act is on: what a client does as a whole is on the main one, 0, whatever branch stands beside it
+abbrev pub branch_at : ℕ → ActView → ℕ
+branch_at branch step.join = 0
+branch_at branch (step.edit e) = branch
+branch_at branch step.sequence = 0
+branch_at branch step.deliver = 0
+branch_at branch step.show = branch
+
+-- there is the main branch, and no other
 abbrev pub OnBranch : ℕ → WorldState → WorldState → Answer → Type 0 → Type 0
 OnBranch zero w v a next = next
 OnBranch (suc k) w v a next = IsUnchanged w v a (answer.No no.NoBranch)
@@ -185,7 +196,7 @@ OnBranch (suc k) w v a next = IsUnchanged w v a (answer.No no.NoBranch)
 -- a step of the client at its place, if there is one
 abbrev pub AtClient : HeaderView → WorldState → StepView → Option (ℕ × Client) → WorldState → Answer → Type 0
 AtClient h w s None v a = act_of_none w s.client s.act ≡ (v, a)
-AtClient h w s (Some p) v a = OnBranch s.branch w v a (IsActOf h w s.act p.0 p.1 v a)
+AtClient h w s (Some p) v a = OnBranch (branch_at s.branch s.act) w v a (IsActOf h w s.act p.0 p.1 v a)
 
 -- the world after a step, and the answer
 abbrev pub IsNext : HeaderView → WorldState → StepView → WorldState → Answer → Type 0

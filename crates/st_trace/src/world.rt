@@ -8,7 +8,7 @@ ghost use Rattle.st_script.specs.Steps.{act_view, edit as edit_act, edit_view, s
 ghost use Rattle.st_doc.specs.LiveText.{is_among};
 ghost use Rattle.st_edits.specs.ArrayTypes.{is_array_type};
 ghost use Rattle.st_lists.specs.Clients.{empty_state, place_of};
-ghost use Rattle.st_trace.specs.World.{opening_document, limit_refusal, join, sequence, act_of_none, IsDelivered, IsShown, IsActOf, IsNext, AtRefusal, ShowsAllowed};
+ghost use Rattle.st_trace.specs.World.{opening_document, limit_refusal, join, sequence, act_of_none, branch_at, IsDelivered, IsShown, IsActOf, IsNext, AtRefusal, ShowsAllowed};
 ghost use Rattle.st_lists.specs.Names.{names_in_text};
 ghost use Rattle.st_lists.specs.Limits.{log_limit_passed};
 ghost use Rattle.st_trace.specs.Replicas.{IsHeader, IsSound};
@@ -114,6 +114,16 @@ fn read_off(alloc: Global, header: &Header) -> Result<(List<Text>, Doc), AllocEr
     let arrays = array_types(alloc, &header.schema)?;
     let log_document = opening(alloc, header)?;
     Ok((arrays, log_document))
+}
+
+// The branch that a step's act is on: 0 where the act names none.
+fn branch_of(step: &TraceStep) -> u32
+    ensures { result ≡ branch_at step.now.branch (act_view step.now.act) }
+{
+    match &step.act {
+        Act::Edit(_) | Act::Show => step.branch,
+        Act::Join | Act::Sequence | Act::Deliver => 0,
+    }
 }
 
 impl World {
@@ -407,7 +417,7 @@ impl World {
             let answer = self.answer_none(alloc, step)?;
             return Ok(answer);
         };
-        if step.branch != 0 {
+        if branch_of(step) != 0 {
             return Ok(Answer::No(Refusal::NoBranch));
         }
         let answer = self.answer_at(alloc, i, &step.act)?;
