@@ -41,7 +41,7 @@ fn head_shows(
     requires has { HasOpen head.now joined.now }
     requires sound { IsSoundInForm (with_open (document_of head.now.doc) joined.now) }
 {
-    shows(alloc, head.shown(), tree)
+    shows(alloc, head.shown_doc(), tree)
 }
 
 // Whether an intent is a part of the transaction that is open on a head.
@@ -55,7 +55,7 @@ fn is_next_part(
     requires sound { IsSoundInForm (with_open (document_of head.now.doc) joined.now) }
     ensures { IfOk result (λ b. b ≡ true → IsSoundPart (with_open (document_of head.now.doc) joined.now) part.now) }
 {
-    is_sound_part(alloc, head.shown(), part)
+    is_sound_part(alloc, head.shown_doc(), part)
 }
 
 // Edits in the transaction that is open on a head.
@@ -100,7 +100,7 @@ fn part_at(
         nodes: made.0,
         cells: made.1,
     };
-    part(alloc, schema, head.shown(), given, case)
+    part(alloc, schema, head.shown_doc(), given, case)
 }
 
 // Whether the line shows a tree once a transaction is committed.

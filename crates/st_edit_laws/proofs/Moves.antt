@@ -37,7 +37,7 @@ use Rattle.st_edits.proofs.Fits.{passed, or_refuse-Ok, has_take, has_drop}
 use Rattle.st_edits.proofs.MoveFits.{CellsFresh, move_fits, asked}
 use Rattle.st_edit_laws.specs.Alike.{IsFrom, AreAlikeAt}
 use Rattle.st_edit_laws.specs.Edited.{TellsRows, at_path, same_key, with_items, without_items, without_key, is_row_key}
-use Rattle.st_edit_laws.specs.Moved.{index_after, inside, moved_in, path_after, row_items, same_path, taken_from, taken_here, target_index, target_path, with_first, with_taken, without_taken}
+use Rattle.st_edit_laws.specs.Moved.{index_after, inside, moved_in, path_after, row_items, same_path, taken_from, taken_here, target_index, target_path, with_first_under, with_taken, without_taken}
 use Rattle.st_edit_laws.specs.Typed.{IsAsTyped}
 use Rattle.st_edit_laws.proofs.Along.{AreShown, along, child_up, kept_child, kept_items, kept_other, owners_live, owners_once}
 use Rattle.st_edit_laws.proofs.Arrived.{field_verdict, held_after, held_there, node_there, nodes_there, row_elsewhere, row_here, row_verdict, rows_there}
@@ -294,16 +294,16 @@ module _ (is_array : List ℕ → Bool) (D : Document) (sound : IsSoundInForm D)
         → owners_shown (content E m) ≡ filter (λ x. not (among ns x)) (take to_index (owners_shown (content D m))) ++ (ns ++ filter (λ x. not (among ns x)) (drop to_index (owners_shown (content D m))))
         → Shows is_array E root (moved_in at key index count to to_key to_index d)
     into_row rowed row_key row =
-        come (λ e s. subst (λ b. Shows is_array E m (cond b (with_items (target_index at key index count to to_index) trees e) (with_first to_key.0 trees e))) (sym row_key)
+        come (λ e s. subst (λ b. Shows is_array E m (cond b (with_items (target_index at key index count to to_index) trees e) (with_first_under to_key.0 trees e))) (sym row_key)
         (items_come is_array A E safe m alike_after (λ t q. nodes m ∙ q) type known (target_index at key index count to to_index) ns trees rowed (row ∙ (λ t. (w.cut to_index).0 t ++ (ns ++ (w.cut to_index).1 t))) trees_come e s))
 
     pub into_field : (x : NodeId) → ns ≡ x ∷ [] → is_array type.ty ≡ false → is_row_key to_key ≡ false → ((k : List ℕ) → E.held (register m k) ≡ cond (same_key k to_key.0) (Some x) (A.held (register m k)))
         → Shows is_array E root (moved_in at key index count to to_key to_index d)
     into_field x is unrowed field_key held_here =
-        come (λ e s. subst (λ b. Shows is_array E m (cond b (with_items (target_index at key index count to to_index) trees e) (with_first to_key.0 trees e))) (sym field_key)
+        come (λ e s. subst (λ b. Shows is_array E m (cond b (with_items (target_index at key index count to to_index) trees e) (with_first_under to_key.0 trees e))) (sym field_key)
         (first_comes trees (subst (λ l. AreShown is_array E l trees) is trees_come) e s))
       where
-        first_comes : (ts : List Data) → AreShown is_array E (x ∷ []) ts → (e : Data) → Shows is_array A m e → Shows is_array E m (with_first to_key.0 ts e)
+        first_comes : (ts : List Data) → AreShown is_array E (x ∷ []) ts → (e : Data) → Shows is_array A m e → Shows is_array E m (with_first_under to_key.0 ts e)
         first_comes [] h e s = absurd h
         first_comes (t ∷ ts) h e s = member_comes is_array A E safe m alike_after (λ t q. nodes m ∙ q) type known to_key.0 x t unrowed h.0 held_here e s
 

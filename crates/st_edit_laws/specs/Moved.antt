@@ -92,13 +92,13 @@ abbrev pub target_index : List Place → Key → ℕ → ℕ → List Place → 
 target_index at key index count to to_index = if is_row_key key && same_path at to then index_after index count to_index else to_index
 
 -- the first of some trees comes under a key
-abbrev pub with_first : List ℕ → List Data → Data → Data
-with_first k [] d = d
-with_first k (new ∷ rest) d = with_key k new d
+abbrev pub with_first_under : List ℕ → List Data → Data → Data
+with_first_under k [] d = d
+with_first_under k (new ∷ rest) d = with_key k new d
 
 -- they come into a row, before the item of the index, or the one of them under a key, in the place of what is there
 abbrev pub with_taken : Key → ℕ → List Data → Data → Data
-with_taken key index new d = if is_row_key key then with_items index new d else with_first key.0 new d
+with_taken key index new d = if is_row_key key then with_items index new d else with_first_under key.0 new d
 
 -- the tree after a move
 abbrev pub moved_in : List Place → Key → ℕ → ℕ → List Place → Key → ℕ → Data → Data

@@ -26,8 +26,9 @@ use Rattle.st_marks.proofs.Members.{any-has, append_left, append_right, first-di
 use Rattle.st_lemmas.proofs.Bools.{and-both, and-true, both-ways-same, not-true, true-false}
 use Rattle.st_lemmas.proofs.Options.{IsSome-Some, None-IsSome}
 use Rattle.st_heads.specs.declared.ways.Way.{Way}
-use Rattle.st_heads.specs.Remembered.{IsWayBack, undoing}
-use Rattle.st_heads.specs.inside.GoingBack.{back_by, back_of_put, entered_field, if_evicted, in_old_row, leads_into_old, same_to}
+use Rattle.st_heads.specs.Remembered.{IsWayBack, intent_of_way}
+use Rattle.st_heads.specs.inside.GoingBack.{back_by, back_of_put, entered_field, if_evicted, in_old_row, leads_into_old}
+use Rattle.st_marks.specs.Row.{same_to}
 use Rattle.st_join.proofs.Picked.{has-picked}
 use Rattle.st_heads.proofs.Leading.{way_leads_back}
 
@@ -268,7 +269,7 @@ module _ (D : Document) (N : Intent) (s : IsSoundInForm D) (f : Fits D N) where
     led n = subst (Leads n) (sym (look n)) (leads n)
 
     listed : (n : NodeId) (to : To) → put_back_of n ≡ Some to → Has w.put (record { node = n; to = to })
-    listed n to e = put-has (undoing w N.rev N.rev) n to e
+    listed n to e = put-has (intent_of_way w N.rev N.rev) n to e
 
     -- a node that goes back into a register stood there, and doesn't any more
     goes_into : (q : Put) (g : FieldId) → Has w.put q → register_of q.to ≡ Some g → (D.place q.node ≡ Spot.Register g) × (E.place q.node ≢ Spot.Register g)
@@ -316,46 +317,46 @@ module _ (D : Document) (N : Intent) (s : IsSoundInForm D) (f : Fits D N) where
               true-false (ap (λ t. same_to (To.Register g) (to_of t)) stood ∙ same_field-itself g) i.2),
         )
 
-    clears_differ : (g : FieldId) → clears (undoing w N.rev N.rev) g ≡ true → Differs g
+    clears_differ : (g : FieldId) → clears (intent_of_way w N.rev N.rev) g ≡ true → Differs g
     clears_differ g e = elim (has-append _ _ g (subst (λ gs. Has gs g) cleared (clears-has w.clear g e))) [
       | inl h ↦ (let p = has-picked (λ (q : Put). register_of q.to) w.put g h in from_back p.0 g p.1 p.2)
       | inr h ↦ (let p = has-picked (λ (q : Put). entered_field D q.node q.to) N.put g h in from_entered p.0 g p.1 p.2)
     ]
 
-    clears-listed : (g : FieldId) → Has (filter_map (λ (q : Put). register_of q.to) w.put ++ filter_map (λ (q : Put). entered_field D q.node q.to) N.put) g → clears (undoing w N.rev N.rev) g ≡ true
+    clears-listed : (g : FieldId) → Has (filter_map (λ (q : Put). register_of q.to) w.put ++ filter_map (λ (q : Put). entered_field D q.node q.to) N.put) g → clears (intent_of_way w N.rev N.rev) g ≡ true
     clears-listed g h = has-any (λ k. same_field k g) w.clear g (subst (λ gs. Has gs g) (sym cleared) h) (same_field-itself g)
 
     -- who stood in a register, and doesn't any more, goes back there
-    left : (m : NodeId) (g : FieldId) → D.held g ≡ Some m → E.held g ≢ Some m → clears (undoing w N.rev N.rev) g ≡ true
+    left : (m : NodeId) (g : FieldId) → D.held g ≡ Some m → E.held g ≢ Some m → clears (intent_of_way w N.rev N.rev) g ≡ true
     left m g h apart =
         let stood : D.place m ≡ Spot.Register g = (s.one_held m g).0 h in
         let known : is_in D m ≡ true = (s.held_known m g h).0 in
         let back : place_back D E m ≡ Spot.Register g = (let b : place_back D E m ≡ D.place m = rw known refl in b ∙ stood) in
         go (put_back_of m) refl (led m) back (λ same. apart ((after_held m g).1 (sym same ∙ back)))
       where
-        go : (o : Option To) → put_back_of m ≡ o → Leads m o → place_back D E m ≡ Spot.Register g → place_back D E m ≢ E.place m → clears (undoing w N.rev N.rev) g ≡ true
+        go : (o : Option To) → put_back_of m ≡ o → Leads m o → place_back D E m ≡ Spot.Register g → place_back D E m ≢ E.place m → clears (intent_of_way w N.rev N.rev) g ≡ true
         go None e l back differs = absurd (differs l)
         go (Some to) e l back differs =
             clears-listed g (append_left _ _ g (has-filter_map (λ (q : Put). register_of q.to) w.put (record { node = m; to = to }) g (listed m to e) (ap register_of (l.1 ∙ ap to_of back))))
 
     -- who came into a register was put there
-    came : (m : NodeId) (g : FieldId) → is_in D g.node ≡ true → E.held g ≡ Some m → D.held g ≢ Some m → clears (undoing w N.rev N.rev) g ≡ true
+    came : (m : NodeId) (g : FieldId) → is_in D g.node ≡ true → E.held g ≡ Some m → D.held g ≢ Some m → clears (intent_of_way w N.rev N.rev) g ≡ true
     came m g old h apart = go (put_of N m) refl ((after_held m g).0 h)
       where
         elsewhere : D.place m ≢ Spot.Register g
         elsewhere e = apart ((s.one_held m g).1 e)
 
-        go : (o : Option To) → put_of N m ≡ o → place_after row_after N o (D.place m) ≡ Spot.Register g → clears (undoing w N.rev N.rev) g ≡ true
+        go : (o : Option To) → put_of N m ≡ o → place_after row_after N o (D.place m) ≡ Spot.Register g → clears (intent_of_way w N.rev N.rev) g ≡ true
         go None p e = absurd (elsewhere (stayed N (D.place m) g e))
         go (Some to) p e =
             let t = put_to_register row_after to g e in
             let there : Has N.put (record { node = m; to = To.Register g }) = put-has N m (To.Register g) (p ∙ ap (λ t. Some t) t) in
             clears-listed g (append_right _ _ g (has-filter_map (λ (q : Put). entered_field D q.node q.to) N.put (record { node = m; to = To.Register g }) g there (is-entered m g old elsewhere)))
 
-    differ_clears : (g : FieldId) → Differs g → clears (undoing w N.rev N.rev) g ≡ true
+    differ_clears : (g : FieldId) → Differs g → clears (intent_of_way w N.rev N.rev) g ≡ true
     differ_clears g d = go (D.held g) refl (E.held g) refl
       where
-        go : (a : Option NodeId) → D.held g ≡ a → (b : Option NodeId) → E.held g ≡ b → clears (undoing w N.rev N.rev) g ≡ true
+        go : (a : Option NodeId) → D.held g ≡ a → (b : Option NodeId) → E.held g ≡ b → clears (intent_of_way w N.rev N.rev) g ≡ true
         go None h None k = absurd (d.1 (h ∙ sym k))
         go (Some m) h b k = left m g h (λ same. d.1 (h ∙ sym same))
         go None h (Some m) k = came m g d.0 k (λ same. d.1 (same ∙ sym k))

@@ -22,15 +22,15 @@ use Rattle.st_marks.specs.Intent.{IsIntent, cell_of, register_of, clears, is_new
 use Rattle.st_marks.proofs.Members.{has-all, distinct-has, first-distinct, has-any}
 use Rattle.st_join.proofs.Picked.{picked_distinct}
 use Rattle.st_heads.specs.declared.ways.Way.{Way}
-use Rattle.st_heads.specs.Remembered.{undoing}
+use Rattle.st_heads.specs.Remembered.{intent_of_way}
 
 module _ (D E : Document) (s : IsSoundInForm D) (after_held : HoldsWhatIsPlaced E) (keys : (m : NodeId) (f : FieldId) → E.held f ≡ Some m → f.key.0 ≢ []) (root_out : E.place root ≡ Spot.Nowhere)
     (w : Way) (rev under : Rev)
     (once : AreDistinct (λ (q : Put). q.node) w.put)
-    (puts : (n : NodeId) → MatchOption (put_of (undoing w rev under) n) (place_back D E n ≡ E.place n) (λ to. (place_back D E n ≢ E.place n) × (to ≡ to_of (place_back D E n))))
-    (cleared : (f : FieldId) → (clears (undoing w rev under) f ≡ true) ↔ (IsSome (D.nodes f.node) × (D.held f ≢ E.held f))) where
+    (puts : (n : NodeId) → MatchOption (put_of (intent_of_way w rev under) n) (place_back D E n ≡ E.place n) (λ to. (place_back D E n ≢ E.place n) × (to ≡ to_of (place_back D E n))))
+    (cleared : (f : FieldId) → (clears (intent_of_way w rev under) f ≡ true) ↔ (IsSome (D.nodes f.node) × (D.held f ≢ E.held f))) where
   abbrev B : Intent
-  B = undoing w rev under
+  B = intent_of_way w rev under
 
   -- a listed put leads back
   put_is : (q : Put) → Has w.put q → put_of B q.node ≡ Some q.to

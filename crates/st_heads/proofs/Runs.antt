@@ -9,7 +9,7 @@ use Rattle.st_marks.specs.Run.{Run, done, next}
 use Rattle.st_marks.specs.Verdict.{IsVerdict, carried_document}
 use Rattle.st_heads.specs.declared.ways.Carried.{Carried}
 use Rattle.st_heads.specs.declared.ways.Way.{Way}
-use Rattle.st_heads.specs.Remembered.{AreCarried, none, more, IsCarried, IsWayBack, is_void, no_way, undoing}
+use Rattle.st_heads.specs.Remembered.{AreCarried, none, more, IsCarried, IsWayBack, is_void, no_way, intent_of_way}
 use Rattle.st_heads.specs.Undoing.{IsUndoing}
 
 pub run_of : {D E : Document} {Ns : List Intent} {ks : List Carried} → AreCarried D Ns ks E → Run D Ns E
@@ -44,7 +44,7 @@ sound_verdict (Verdict.Cycle n) e = cc
 sound_verdict (Verdict.Schema u) e = cc
 
 pub way_undoes : (O E : Document) (front rest : List Intent) (ks ls : List Carried) (N : Intent) (k : Carried) (fresh : Rev) → AreCarried O (front ++ N ∷ rest) (ks ++ k ∷ ls) E → length ks ≡ length front → k.void ≡ false → N.schema ≡ None
-    → IsUndoing O (front ++ N ∷ rest) N.rev fresh (undoing k.back fresh (unwrap_or (last_of (revs E.schemas)) opening))
+    → IsUndoing O (front ++ N ∷ rest) N.rev fresh (intent_of_way k.back fresh (unwrap_or (last_of (revs E.schemas)) opening))
 way_undoes O E front rest ks ls N k fresh r e out plain =
     let p = run_parted front (N ∷ rest) ks (k ∷ ls) r e in
     let o = opened p.2 in

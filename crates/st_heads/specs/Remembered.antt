@@ -11,8 +11,8 @@ use Rattle.st_heads.specs.declared.ways.Carried.{Carried}
 use Rattle.st_heads.specs.declared.ways.Way.{Way}
 
 -- the intent that goes a way back, under a revision and a schema's revision
-abbrev pub undoing : Way → Rev → Rev → Intent
-undoing w rev under = record { rev = rev; under = under; new = []; groups = []; clear = w.clear; put = w.put; need = []; schema = None }
+abbrev pub intent_of_way : Way → Rev → Rev → Intent
+intent_of_way w rev under = record { rev = rev; under = under; new = []; groups = []; clear = w.clear; put = w.put; need = []; schema = None }
 
 -- whether a verdict says that the commit is void
 abbrev pub is_void : Verdict → Bool
@@ -23,7 +23,7 @@ is_void (Verdict.Schema u) = true
 
 -- a way leads back from what a document becomes by an intent that is carried out whole, under whatever revisions
 abbrev pub IsWayBack : Document → Intent → Way → Type 0
-IsWayBack D N w = (rev under : Rev) → IsBack D (full D N) rev under (undoing w rev under)
+IsWayBack D N w = (rev under : Rev) → IsBack D (full D N) rev under (intent_of_way w rev under)
 
 -- the way that changes nothing
 abbrev pub no_way : Way

@@ -18,7 +18,7 @@ with_open D None = D
 with_open D (Some J) = full D J
 
 -- what was edited so far is nothing, or an intent that fits the line's document, of the transaction's revision and made
--- under its schema
+-- under its schema, which changes no schema
 abbrev pub FitsSoFar : Document → Rev → Rev → Option Intent → Type 0
 FitsSoFar D rev under None = Unit {0}
 FitsSoFar D rev under (Some J) = Fits D J × (J.rev ≡ rev) × (J.under ≡ under) × (J.schema ≡ None)
@@ -33,7 +33,8 @@ abbrev pub HasOpen : Head → Option Intent → Type 0
 HasOpen h None = h.edited ≡ None
 HasOpen h (Some J) = (T : Doc) × (h.edited ≡ Some T) × (document_of T ≡ full (document_of h.doc) J)
 
--- a transaction of a revision, made under a schema's, is open on a head
+-- what a head keeps of a transaction that is open, by what was edited in it; that one is open, and of which revision, the
+-- caller knows
 pub record IsOpen (h : Head) (joined : Option Intent) (rev under : Rev) : Type 0 where
   pub has : HasOpen h joined
   pub so_far : FitsSoFar (document_of h.doc) rev under joined

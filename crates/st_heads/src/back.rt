@@ -15,7 +15,8 @@ ghost use Rattle.st_marks.specs.Document.{IsSoundInForm};
 ghost use Rattle.st_marks.specs.Intent.{Fits, put_of, register_of as register, same_option};
 ghost use Rattle.st_doc.specs.Doc.{document_of};
 ghost use Rattle.st_heads.specs.Remembered.{IsWayBack};
-ghost use Rattle.st_heads.specs.inside.GoingBack.{back_by, back_of_put, entered_field as entered_by, if_evicted, in_old_row, leads_into_old as leads_into, same_to};
+ghost use Rattle.st_heads.specs.inside.GoingBack.{back_by, back_of_put, entered_field as entered_by, if_evicted, in_old_row, leads_into_old as leads_into};
+ghost use Rattle.st_marks.specs.Row.{same_to};
 
 use crate::ways::Way;
 use st_doc::Doc;

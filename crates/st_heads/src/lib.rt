@@ -10,5 +10,7 @@ mod ways;
 
 pub use back::way_back;
 pub use heads::Head;
-pub use laws::{remembered_runs, remembered_ways_undo, undoings_fit, ways_lead_back};
+pub use laws::{
+    edits_are_parts, remembered_runs, remembered_ways_undo, undoings_fit, ways_lead_back,
+};
 pub use ways::{Carried, Way};

@@ -38,7 +38,7 @@ impl Head {
     ghost use Rattle.st_heads.specs.Heads.{HasCarried};
 
     /// The document that is shown: the line's, with what the open transaction has edited.
-    pub fn shown(&self) -> &Doc
+    pub fn shown_doc(&self) -> &Doc
         ensures { (joined : Option Intent) → HasOpen self.now joined → document_of result.now ≡ with_open (document_of self.now.doc) joined }
     {
         match &self.edited {
@@ -78,8 +78,9 @@ impl Head {
         self.edited = None;
     }
 
-    /// Commits what the transaction has edited: it is carried out in the line's document, in place, as `carry` does it, and
-    /// nothing is open after it. After an `Err` nothing is promised of the head.
+    /// Commits an intent, which the caller takes from what the transaction has edited: it is carried out by its verdict in
+    /// the line's document, in place, as `carry` does it, and what was edited is let go of. After an `Err` nothing is
+    /// promised of the head.
     pub fn commit(&mut self, alloc: Global, joined: &Intent) -> Result<(), AllocError>
         requires sound { IsSoundInForm (document_of self.old.doc) }
         requires fits { Fits (document_of self.old.doc) joined.now }

@@ -50,9 +50,9 @@ fn join_lists(alloc: Global, first: &Intent, second: &Intent) -> Result<Intent, 
     Ok(joined)
 }
 
-/// Two parts of a commit as one intent: carried out, it does what the first and then the second do. It has the
-/// revision and the schema that the first is made under. It takes O(k log k) steps, k being the length of both
-/// together. An error says that memory ran out.
+/// Two parts of a commit over a sound document as one intent: carried out whole, it does what the first and then the
+/// second do. It has the revision and the schema that the first is made under. Of intents that are no parts of one commit
+/// nothing is said. It takes O(k log k) steps, k being the length of both together. An error says that memory ran out.
 pub fn join(alloc: Global, first: &Intent, second: &Intent) -> Result<Intent, AllocError>
     ensures { (D : Document) → IsSoundInForm D → AreParts D first.now second.now → IfOk result (IsJoin first.now second.now) }
 {

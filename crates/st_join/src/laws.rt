@@ -12,13 +12,14 @@ pub fn joins_fit()
     ensures { (D : Document) (N M J : Intent) → IsSoundInForm D → AreParts D N M → IsJoin N M J → Fits D J }
 {}
 
-/// Two parts whose join has the lists and look-ups of a join are an intent, which obeys its own rules.
+/// Lists put together of those of two parts, so that look-ups are those of a join, are an intent, which obeys its own
+/// rules.
 pub fn listed_joins_are_intents()
     ensures { (D : Document) (N M J : Intent) → IsSoundInForm D → AreParts D N M → IsListedJoin N M J → IsIntent J }
 {}
 
-/// Two parts joined make the nodes and the cells of both, and no others: a limit on names that are made counts the join
-/// as the two.
+/// Two parts joined make as many nodes and as many cells as both together, so that a limit on names that are made counts
+/// the join as the two.
 pub fn joins_make_the_names_of_both()
     ensures nodes { (D : Document) (N M J : Intent) → IsSoundInForm D → AreParts D N M → IsJoin N M J
         → length J.new ≡ length N.new + length M.new }

@@ -1,8 +1,12 @@
 -- The edit of a tree that an act is means the act's intent.
-use Rattle.std.proofs.Common.{ℕ}
+use Rattle.std.proofs.Common.{◌≡◌, ◌∙◌, ℕ, List, sym, ap}
 use Rattle.st_edits.specs.Resolve.{IsWithin, resolve}
 use Rattle.st_script.specs.Header.{HeaderView}
-use Rattle.st_script.specs.Steps.{IsEditWithin, edit, edit_view}
+use Rattle.st_script.specs.Line.{line_of, line_view}
+use Rattle.st_script.specs.Steps.{IsEditWithin, IsWithinLimits, edit, edit_view, step_view}
+use Rattle.st_script.specs.declared.line.Line.{Line}
+use Rattle.st_script.specs.declared.step.TraceStep.{TraceStep}
+use Rattle.st_script.proofs.OfForm.{line_formed as formed}
 use Rattle.st_script.specs.declared.answer.Answer.{Answer}
 use Rattle.st_script.specs.declared.step.EditAct.{EditAct}
 use Rattle.st_script.specs.declared.step.EditAct.TheVariants as edits
@@ -26,3 +30,7 @@ within_edit (edits.Remove at key index count) f = f
 within_edit (edits.Move at key index count to to_key to_index) f = f
 within_edit (edits.Set at key item) f = f
 within_edit (edits.Clear at key) f = f
+
+-- the step that a line is
+pub line_formed : (bytes : List ℕ) (l : Line) (s : TraceStep) → line_view l ≡ line_of bytes → l ≡ Line.Step s → IsWithinLimits (step_view s)
+line_formed bytes l s is same = formed bytes (step_view s) (sym is ∙ ap line_view same)

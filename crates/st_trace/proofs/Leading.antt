@@ -49,7 +49,7 @@ use Rattle.st_script.specs.declared.answer.Answer.TheVariants.{Deliver, Join as 
 use Rattle.st_script.specs.declared.refusal.Refusal.TheVariants.{NoBranch, NoClient, NothingNew, NothingToSend, Taken}
 use Rattle.st_trace.specs.Replicas.{IsClient, IsSound}
 use Rattle.st_lists.specs.Log.{commit_of, log_with}
-use Rattle.st_trace.specs.World.{IsActOf, IsDelivered, IsDeliveredTo, IsEdited, IsNext, AtClient, IsShown, IsVerdictOf, OnBranch, act_of_none, after_edit, branch_at, entering, intent_of, next_names, join, opening_document, limit_refusal, sequence, with_client, word_of}
+use Rattle.st_trace.specs.World.{IsActOf, IsDelivered, IsDeliveredTo, IsEdited, IsNext, AtClient, IsShown, IsVerdictOf, OnBranch, act_of_none, after_edit, branch_at, after_entry, intent_of, next_names, join, opening_document, limit_refusal, sequence, with_client, word_of}
 use Rattle.st_lists.specs.Clients.{HasReceived, HasShown, new_client, next_rev, place_of, received_by, with_received}
 use Rattle.st_lists.specs.Limits.{log_limit_passed}
 use Rattle.st_lists.specs.Names.{names_in_text}
@@ -240,9 +240,9 @@ module _ (h : HeaderView) (w : WorldState) (s : AreSound h w) where
     has_sent [] is = (w, No NothingToSend, refl, s)
     has_sent (text ∷ rest) is = go (log_limit_passed w.log (names_in_text text)) refl
       where
-        go : (o : Option Limit) → log_limit_passed w.log (names_in_text text) ≡ o → Leads (λ v a. entering w i c text rest o ≡ (v, a))
+        go : (o : Option Limit) → log_limit_passed w.log (names_in_text text) ≡ o → Leads (λ v a. after_entry w i c text rest o ≡ (v, a))
         go (Some l) e = (w, limit_refusal l, refl, s)
-        go None e = let p = entering w i c text rest None in (p.0, p.1, refl, sent_sound h w i c text rest s at is (within_log w.log (names_in_text text) e).1)
+        go None e = let p = after_entry w i c text rest None in (p.0, p.1, refl, sent_sound h w i c text rest s at is (within_log w.log (names_in_text text) e).1)
 
     has_shown : (a : Answer) × IsShown h w c a
     has_shown =

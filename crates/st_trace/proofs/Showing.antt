@@ -18,7 +18,7 @@ use Rattle.st_script.specs.Steps.{ActView, StepView}
 use Rattle.st_script.specs.Steps as step
 use Rattle.st_script.specs.declared.answer.Answer.{Answer}
 use Rattle.st_trace.specs.Replicas.{IsSound}
-use Rattle.st_trace.specs.World.{IsActOf, IsAllowedText, IsDeliveredTo, IsEdited, IsNext, AtClient, OnBranch, ShowsAllowed, act_of_none, answer_of, after_edit, branch_at, entering, join, opening_document, with_pending, sequence, word_of}
+use Rattle.st_trace.specs.World.{IsActOf, IsAllowedText, IsDeliveredTo, IsEdited, IsNext, AtClient, OnBranch, ShowsAllowed, act_of_none, answer_of, after_edit, branch_at, after_entry, join, opening_document, with_pending, sequence, word_of}
 use Rattle.st_lists.specs.Clients.{HasShown, next_rev, place_of, received_by}
 use Rattle.st_lists.specs.Limits.{limit_passed, log_limit_passed}
 use Rattle.st_lists.specs.Names.{names_in_text}
@@ -83,7 +83,7 @@ module _ (s : SchemaView) where
   sequence_fine w i c [] = tt
   sequence_fine w i c (text ∷ rest) = go (log_limit_passed w.log (names_in_text text))
     where
-      go : (o : Option Limit) → Fine (entering w i c text rest o)
+      go : (o : Option Limit) → Fine (after_entry w i c text rest o)
       go None = tt
       go (Some l) = tt
 

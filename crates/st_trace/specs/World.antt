@@ -133,17 +133,17 @@ join w name =
     )
 
 -- a text enters the log, if it passes no limit
-abbrev pub entering : WorldState → ℕ → Client → Body → List Body → Option Limit → WorldState × Answer
-entering w i c text rest None =
+abbrev pub after_entry : WorldState → ℕ → Client → Body → List Body → Option Limit → WorldState × Answer
+after_entry w i c text rest None =
     let log = log_with w.log c.session text in
     let clients = slice_set w.clients i (record c { queue = rest }) in
     (record w { log = log; clients = clients }, answer.Sequence (minimum log clients) (length log))
-entering w i c text rest (Some l) = (w, limit_refusal l)
+after_entry w i c text rest (Some l) = (w, limit_refusal l)
 
 -- the oldest text of a client's queue enters the log
 abbrev pub sequence : WorldState → ℕ → Client → List Body → WorldState × Answer
 sequence w i c [] = (w, answer.No no.NothingToSend)
-sequence w i c (text ∷ rest) = entering w i c text rest (log_limit_passed w.log (names_in_text text))
+sequence w i c (text ∷ rest) = after_entry w i c text rest (log_limit_passed w.log (names_in_text text))
 
 -- ## Steps
 

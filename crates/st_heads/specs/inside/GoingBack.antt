@@ -11,18 +11,7 @@ use Rattle.st_marks.specs.declared.intents.To.{To}
 use Rattle.st_marks.specs.declared.places.Spot.{Spot}
 use Rattle.st_marks.specs.Back.{is_in, to_of}
 use Rattle.st_marks.specs.Document.{Document}
-
--- whether two puts lead to one place
-abbrev pub same_to : To → To → Bool
-same_to To.Nowhere To.Nowhere = true
-same_to To.Nowhere (To.Cell d) = false
-same_to To.Nowhere (To.Register g) = false
-same_to (To.Cell c) To.Nowhere = false
-same_to (To.Cell c) (To.Cell d) = same_cell c d
-same_to (To.Cell c) (To.Register g) = false
-same_to (To.Register f) To.Nowhere = false
-same_to (To.Register f) (To.Cell d) = false
-same_to (To.Register f) (To.Register g) = same_field f g
+use Rattle.st_marks.specs.Row.{same_to}
 
 -- back into its register, for who stands in one of the cleared ones
 abbrev pub if_evicted : List FieldId → Spot → Option To
