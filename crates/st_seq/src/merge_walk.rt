@@ -53,9 +53,7 @@ pub fn lay_in_turn<T: Table>(
                 y_count,
                 ys,
             } => {
-                if push(&mut out, table.mark(piece)).is_err() {
-                    return Err(Or::NoMemory);
-                }
+                push(&mut out, table.mark(piece))?;
                 place += met(piece);
                 x_left = x_count;
                 x_rest = xs;
@@ -95,9 +93,7 @@ pub fn lay_beside<T: Table>(
                 y_count,
                 ys,
             } => {
-                if push(&mut out, table.mark(piece)).is_err() {
-                    return Err(Or::NoMemory);
-                }
+                push(&mut out, table.mark(piece))?;
                 place += met(piece);
                 x_left = x_count;
                 x_rest = xs;

@@ -140,9 +140,7 @@ fn slots_after(alloc: Global, row: &[Slot], step: &[Mark]) -> Result<List<Slot>,
                 count,
                 marks,
             } => {
-                if out.push(slot).is_err() {
-                    return Err(Or::NoMemory);
-                }
+                out.push(slot)?;
                 place += found;
                 slots_left = slots;
                 count_left = count;
