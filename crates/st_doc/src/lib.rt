@@ -3,6 +3,7 @@
 
 mod carry;
 mod climb;
+mod contents;
 mod copy;
 mod doc;
 mod evictions;
