@@ -2,7 +2,7 @@ pub mod Look
 pub mod KeyOrder
 pub mod LiveTexts
 pub mod Children
-pub mod Contents
+pub mod Keys
 pub mod Ordered
 pub mod Carrying
 pub mod Climbing

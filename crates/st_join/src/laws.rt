@@ -26,3 +26,8 @@ pub fn joins_make_the_names_of_both()
     ensures cells { (D : Document) (N M J : Intent) → IsSoundInForm D → AreParts D N M → IsJoin N M J
         → length (group_cells J) ≡ length (group_cells N) + length (group_cells M) }
 {}
+
+/// Two parts of a commit over a sound document have a join.
+pub fn parts_have_a_join()
+    ensures { (D : Document) (N M : Intent) → IsSoundInForm D → AreParts D N M → (J : Intent) × IsJoin N M J }
+{}
