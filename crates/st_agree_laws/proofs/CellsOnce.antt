@@ -29,7 +29,7 @@ use Rattle.st_marks.specs.Listings.{cells_in, cells_made, is_among_cells, marks_
 use Rattle.st_marks.specs.Step.{IsStep}
 use Rattle.st_marks.specs.Verdict.{HasBase}
 use Rattle.st_marks.proofs.Later.{has_later, row_later}
-use Rattle.st_normal.proofs.Linked.{has-item_of}
+use Rattle.st_ids.proofs.Listings.{has-item_of}
 use Rattle.st_marks.proofs.Lookups.{group_at-group, made_there}
 use Rattle.st_marks.proofs.Members.{any-has, flat_map-has, has-append, has-flat_map, has-map, map-has}
 use Rattle.st_seq.specs.Laws.{spread-merge}

@@ -29,7 +29,7 @@ use Rattle.st_marks.specs.Row.{CellMark, Counted, Gap, Touch, Make, Fill, SameCe
 use Rattle.st_marks.specs.Listings.{names_of_change, names_of_step, nodes_in, nodes_loose, nodes_new, nodes_of_rows, one_or_none, listing_before_change, listing_before_step}
 use Rattle.st_marks.specs.Step.{IsStep, gained_node}
 use Rattle.st_marks.proofs.Later.{node_later}
-use Rattle.st_normal.proofs.Linked.{has-item_of}
+use Rattle.st_ids.proofs.Listings.{has-item_of}
 use Rattle.st_marks.proofs.Members.{has-append, has-flat_map, has-map}
 use Rattle.st_lemmas.proofs.Options.{None-IsSome}
 use Rattle.st_agree_laws.proofs.Named.{among-has, change_makes_new, change_names_known, climb_known, row_listed}

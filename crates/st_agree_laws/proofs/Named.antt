@@ -26,7 +26,7 @@ use Rattle.st_marks.specs.Row.{CellMark, Counted, Gap, Touch, Fill, RowPart, emb
 use Rattle.st_marks.specs.How.{is_here}
 use Rattle.st_marks.specs.Listings.{names_of_change, nodes_in, nodes_loose, nodes_new, nodes_of_rows, one_or_none}
 use Rattle.st_marks.proofs.Climb.{above_known}
-use Rattle.st_normal.proofs.Linked.{has-item_of}
+use Rattle.st_ids.proofs.Listings.{has-item_of}
 use Rattle.st_marks.proofs.Lookups.{group_at-group, put_in-has}
 use Rattle.st_marks.proofs.Members.{all-has, any-has, flat_map-has, has-append, has-flat_map, has-map}
 use Rattle.st_seq.specs.Laws.{spread-merge}

@@ -12,7 +12,8 @@ use Rattle.std.specs.List.Sorted.{IsPartitionedBy, IsPartitionPoint}
 use Rattle.st_clusters.specs.Free.{free_number, ahead, free_after, spans_meet}
 use Rattle.st_clusters.specs.Table.{no_session, last_of, meeting, new_session}
 use Rattle.st_clusters.specs.inside.Kept.{session_at, start, turn, AreInOrder, IsSound}
-use Rattle.st_clusters.specs.inside.Spans.{spanning, least, starts_by, StartBy, IsNearest}
+use Rattle.st_clusters.specs.inside.Spans.{spanning, starts_by, StartBy, IsNearest}
+use Rattle.st_ids.specs.Order.{lesser}
 use Rattle.st_clusters.specs.declared.ids.Cluster.{Cluster}
 use Rattle.st_clusters.specs.declared.ids.SessionIds.{SessionIds}
 use Rattle.st_clusters.proofs.Counts.{field_set, read_at}
@@ -269,7 +270,7 @@ meets_first ss uuid first last wide fits is ends = first_of_two (λ (x : Session
 abbrev below : ℕ → ℕ → Option ℕ
 below n i = cond (nat_lt i n) (Some i) None
 
-least_below : (n a b : ℕ) → below n (min a b) ≡ least (below n a) (below n b)
+least_below : (n a b : ℕ) → below n (min a b) ≡ lesser (below n a) (below n b)
 least_below n a b = elim (cases_lt a n) [
   | inl l ↦ elim (cases_lt b n) [
     | inl m ↦
@@ -299,5 +300,5 @@ least_below n a b = elim (cases_lt a n) [
 ]
 
 pub meeting_least : (ss : List SessionIds) (uuid first last : ℕ) → ((k : ℕ) → k < length ss → (session_at ss k).uuid < 2 ^ 128) → uuid < 2 ^ 128 → first ≡ free_number uuid → last ≡ free_after first (2 ^ 32 - 1)
-    → meeting uuid ss ≡ least (spanning first ss) (spanning last ss)
+    → meeting uuid ss ≡ lesser (spanning first ss) (spanning last ss)
 meeting_least ss uuid first last wide fits is ends = ap (λ (i : ℕ). below (length ss) i) (meets_first ss uuid first last wide fits is ends) ∙ least_below (length ss) (first_span first ss) (first_span last ss)

@@ -54,7 +54,7 @@ free_set_last cs i c e =
 
 -- ## The five ways
 
-cases_option : (o : Option ℕ) → (o ≡ None) ⊎ ((i : ℕ) × (o ≡ Some i))
+pub cases_option : (o : Option ℕ) → (o ≡ None) ⊎ ((i : ℕ) × (o ≡ Some i))
 cases_option None = inl refl
 cases_option (Some i) = inr (i, refl)
 

@@ -1,14 +1,11 @@
 -- The ranges of the log, each of which goes on where the last one of its session ended.
-use Rattle.std.specs.Prelude.{ℕ, ◌≡◌, ◌+◌, ◌≤◌, ◌==◌, List, [], ◌∷◌, ◌++◌, cond, Some, Result, Ok, Err}
+use Rattle.std.specs.Prelude.{ℕ, ◌≡◌, ◌+◌, ◌≤◌, ◌==◌, List, [], ◌∷◌, ◌++◌, cond, Some, Result, Ok}
 use Rattle.std.specs.List.{sum_by}
 use Rattle.st_clusters.specs.Table.{Ids, session_of, after_finalising}
 use Rattle.st_clusters.specs.declared.ids.IdFault.{IdFault}
 use Rattle.st_clusters.specs.declared.ids.IdRange.{IdRange}
 use Rattle.st_clusters.specs.declared.ids.SessionIds.{SessionIds}
-
-abbrev pub and_then : {A E B : Type 0} → Result A E → (A → Result B E) → Result B E
-and_then (Ok a) f = f a
-and_then (Err e) f = Err e
+use Rattle.st_ids.specs.Or.{and_then}
 
 -- how many ids of a session some ranges carry
 abbrev pub carried_count : ℕ → List IdRange → ℕ

@@ -1,7 +1,8 @@
 //! Which session's span has a free number, by halving the order in which the spans begin.
 ghost use Rattle.std.specs.Prelude.{◌≡◌, ◌<◌, ◌^◌, [], MatchOption};
 ghost use Rattle.st_clusters.specs.Table.{meeting};
-ghost use Rattle.st_clusters.specs.inside.Spans.{spanning, starts_by, least, StartBy, IsNearest};
+ghost use Rattle.st_clusters.specs.inside.Spans.{spanning, starts_by, StartBy, IsNearest};
+ghost use Rattle.st_ids.specs.Order.{lesser};
 
 use crate::compressor::Compressor;
 use crate::free::{SPAN, ahead, free_after, free_number};
@@ -19,7 +20,7 @@ fn starts_by(sessions: &[SessionIds], free: u128, place: usize) -> bool
 
 // The least of the places that there are.
 fn least(a: Option<usize>, b: Option<usize>) -> Option<usize>
-    ensures { result ≡ least a b }
+    ensures { result ≡ lesser a b }
 {
     match (a, b) {
         (Some(a), Some(b)) => Some(a.min(b)),

@@ -16,7 +16,7 @@ use Rattle.st_marks.specs.Intent.{Fits, is_new, put_of, clears}
 use Rattle.st_marks.specs.CarryOut.{spot_of, place_after, with_names, is_put_in_new}
 use Rattle.st_doc.specs.inside.Ahead.{place_ahead, in_new, inside_new}
 use Rattle.st_doc.specs.inside.Evictions.{spot_if_cleared}
-use Rattle.st_doc.proofs.Look.{any_more}
+use Rattle.st_lemmas.proofs.FirstItems.{any_more}
 
 -- where a node stands after evictions and puts, by where its put leads
 pub placed_ahead : (N : Intent) (target o : Option Spot)

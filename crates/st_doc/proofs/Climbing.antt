@@ -8,9 +8,9 @@ use Rattle.st_ids.specs.declared.names.NodeId.{NodeId}
 use Rattle.st_ids.proofs.Orders.{same_node-true, same_node-itself}
 use Rattle.st_marks.specs.declared.intents.Intent.{Intent}
 use Rattle.st_marks.specs.declared.places.Spot.{Spot}
-use Rattle.st_marks.specs.Document.{climb, node_of}
+use Rattle.st_marks.specs.Document.{climb, node_of, Reaches}
 use Rattle.st_marks.proofs.Climb.{climb_more}
-use Rattle.st_doc.specs.inside.Ahead.{Reaches, above_ahead, place_ahead}
+use Rattle.st_doc.specs.inside.Ahead.{above_ahead, place_ahead}
 
 -- how many of the keys are not in a set
 abbrev pub missing : List NodeId → (NodeId → Bool) → ℕ

@@ -17,7 +17,8 @@ use Rattle.st_marks.specs.Intent.{is_new, is_register}
 use Rattle.st_marks.specs.CarryOut.{only_new, unless_put}
 use Rattle.st_doc.specs.inside.Evictions.{stands_in, is_held, spot_if_cleared}
 use Rattle.st_intent.proofs.Scans.{is_some-find}
-use Rattle.st_doc.proofs.Look.{any_more, drop_one}
+use Rattle.st_doc.proofs.Look.{drop_one}
+use Rattle.st_lemmas.proofs.FirstItems.{any_more}
 use Rattle.st_lemmas.proofs.Bools.{or-false, true-false}
 use Rattle.st_lemmas.proofs.Options.{is_some-option_map}
 

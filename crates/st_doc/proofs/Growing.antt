@@ -16,7 +16,8 @@ use Rattle.st_marks.specs.Intent.{IsIntent, group_at, new_row_of, same_anchor, c
 use Rattle.st_marks.specs.CarryOut.{with_groups}
 use Rattle.st_marks.proofs.Members.{all-has, first-has, none-has, distinct-between, distinct-left}
 use Rattle.st_doc.specs.inside.Growing.{behind, at_anchor, with_group, IsPlaceOf}
-use Rattle.st_doc.proofs.Look.{take_one, drop_one}
+use Rattle.st_doc.proofs.Look.{drop_one}
+use Rattle.st_lemmas.proofs.FirstItems.{take_one}
 use Rattle.st_lemmas.proofs.Bools.{and-true}
 
 -- ## A place in a row

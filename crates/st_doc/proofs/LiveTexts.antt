@@ -1,5 +1,4 @@
 -- The values of nodes, made from the bottom up, are what the nodes show.
-use Rattle.std.specs.Prelude.{ℤ, pos, negsuc}
 use Rattle.std.proofs.Common.{◌≡◌, ◌≢◌, ℕ, zero, suc, ◌+◌, ◌<◌, ◌⊎◌, inl, inr, IsSome, take-append-drop, Bool, true, false, cond, ◌||◌, List, [], ◌∷◌, ◌++◌, length, map, take, drop, get_or, Option, Some, None, refl, sym, ap, ◌∙◌, subst, append_assoc, Result, Ok, Err, OnOk}
 use Rattle.std.specs.BTreeMap.{BTreeMap, get}
 use Rattle.std.specs.List.{AllByRecursion, cons_option}
@@ -9,8 +8,7 @@ use Rattle.std.specs.Ordering.{nat_cmp, is_eq}
 use Rattle.std.specs.Cmp.Lexicographic.{slice_cmp}
 use Rattle.std.specs.declared.cmp.Ordering.TheVariants.{Less}
 use Rattle.std.proofs.lemmas.List.{append-nil, map-append}
-use Rattle.serde_json.specs.Data.{Data, number, array, object, Items, Members, member, put}
-use Rattle.serde_json.specs.Find.{of_integer}
+use Rattle.serde_json.specs.Data.{Data, array, object, Items, Members, member, put}
 use Rattle.serde_json.specs.View.{view, items_of}
 use Rattle.serde_json.specs.Written.{has_float, items_have_float, members_have_float}
 use Rattle.serde_json.specs.declared.value.Value.{Value}
@@ -22,13 +20,16 @@ use Rattle.st_ids.specs.declared.names.NodeId.{NodeId}
 use Rattle.st_ids.proofs.Orders.{same_node-true}
 use Rattle.st_marks.specs.declared.intents.Owned.{Owned}
 use Rattle.st_marks.specs.Document.{Document, content, slot}
-use Rattle.st_marks.specs.LiveTree.{leaf_data, owners_shown, register, one_member, Shows, shows_leaf, shows_row, shows_registers, ShowsItems, no_more_items, next_item, ShowsMembers, no_more_members, next_member, key_at}
+use Rattle.st_marks.specs.LiveTree.{owners_shown, register, one_member, Shows, shows_leaf, shows_row, shows_registers, ShowsItems, no_more_items, next_item, ShowsMembers, no_more_members, next_member, key_at}
+use Rattle.st_ids.specs.LeafText.{leaf_data}
 use Rattle.st_marks.proofs.Members.{all-has, append_left, append_right, distinct-between, distinct-left, has-map, map-has}
 use Rattle.st_doc.specs.inside.LiveText.{seat_at, seats_of, KeysRise, AllShown, IsPart, AreMade, AreValues, AreMembers, KeepsOthers}
 use Rattle.st_doc.specs.declared.seats.Seat.{Seat}
-use Rattle.st_doc.proofs.Look.{take_one, drop_one}
+use Rattle.st_doc.proofs.Look.{drop_one}
+use Rattle.st_lemmas.proofs.FirstItems.{take_one}
 use Rattle.st_doc.proofs.Ordered.{drop_has}
 use Rattle.st_marks.proofs.Shared.{owners_append}
+use Rattle.st_ids.proofs.LeafTexts.{leaf_no_float}
 
 -- ## Registers, entry by entry
 
@@ -225,17 +226,6 @@ module _ (is_array : List ℕ → Bool) (D : Document) (done : BTreeMap NodeId V
   members_shown n (s ∷ ss) ms held h =
       subst (ShowsMembers is_array D n (s.key ∷ map (λ (s : Seat). s.key) ss)) (sym h.4)
       (next_member n s.node s.key (view h.0) (map (λ (s : Seat). s.key) ss) h.1 held.0 (all s.node h.0 h.2) (members_shown n ss h.1 held.1 h.3))
-
--- no number of a tree has a fraction
-int_no_float : (i : ℤ) → has_float (number (of_integer i)) ≡ false
-int_no_float (pos n) = refl
-int_no_float (negsuc n) = refl
-
-leaf_no_float : (v : Leaf) → has_float (leaf_data v) ≡ false
-leaf_no_float Leaf.Null = refl
-leaf_no_float (Leaf.Bool b) = refl
-leaf_no_float (Leaf.Int i) = int_no_float i
-leaf_no_float (Leaf.Words t) = refl
 
 neither : (a b : Bool) → a ≡ false → b ≡ false → (a || b) ≡ false
 neither a b p q = ap (λ x. x || b) p ∙ q

@@ -13,15 +13,12 @@ use Rattle.std.proofs.lemmas.Map.Made.{update_all_distinct}
 use Rattle.std.specs.Option.{option_or}
 use Rattle.std.specs.List.{find, list_any}
 use Rattle.std.proofs.lemmas.List.Folds.{find-append}
-use Rattle.std.proofs.lemmas.List.{append-nil, take_more}
+use Rattle.std.proofs.lemmas.List.{append-nil}
 use Rattle.st_marks.specs.declared.intents.Owned.{Owned}
 use Rattle.st_marks.specs.Document.{owned_cell}
 use Rattle.st_ids.specs.Root.{root}
 use Rattle.st_lemmas.proofs.Options.{option_or-assoc}
-
--- the first items with one more
-pub take_one : {A : Type 0} (xs : List A) (i : ℕ) (d x : A) → i < length xs → get_or xs i d ≡ x → take (i + 1) xs ≡ take i xs ++ x ∷ []
-take_one xs i d x l e = take_more xs i d l ∙ ap (λ y. take i xs ++ y ∷ []) e
+use Rattle.st_lemmas.proofs.FirstItems.{take_one, any_more}
 
 -- one more looked for behind the first ones
 find_more : {A : Type 0} (p : A → Bool) (o : Option A) (xs : List A) (i : ℕ) (d x : A) → i < length xs → get_or xs i d ≡ x
@@ -35,13 +32,6 @@ pub added_more : {A : Type 0} (p : A → Bool) (old before now : Option A) (xs :
     → before ≡ option_or old (find p (take i xs)) → now ≡ option_or before (cond (p x) (Some y) None) → now ≡ option_or old (find p (take (i + 1) xs))
 added_more p old before now xs i d x y l e same b h =
     h ∙ ap (λ o. option_or o (cond (p x) (Some y) None)) b ∙ ap (λ z. option_or (option_or old (find p (take i xs))) (cond (p x) (Some z) None)) same ∙ find_more p old xs i d x l e
-
-list_any-push : {A : Type 0} (p : A → Bool) (xs : List A) (x : A) → list_any p (xs ++ x ∷ []) ≡ (list_any p xs || p x)
-list_any-push p [] x = elim (p x) as (λ b. (b || false) ≡ b) [ true ↦ refl | false ↦ refl ]
-list_any-push p (y ∷ xs) x = elim (p y) as (λ b. (b || list_any p (xs ++ x ∷ [])) ≡ ((b || list_any p xs) || p x)) [ true ↦ refl | false ↦ list_any-push p xs x ]
-
-pub any_more : {A : Type 0} (p : A → Bool) (xs : List A) (i : ℕ) (d x : A) → i < length xs → get_or xs i d ≡ x → list_any p (take (i + 1) xs) ≡ (list_any p (take i xs) || p x)
-any_more p xs i d x l e = ap (list_any p) (take_one xs i d x l e) ∙ list_any-push p (take i xs) x
 
 -- the same where all are added with one value
 pub told_more : {A B : Type 0} (p : A → Bool) (v : B) (old before now : Option B) (xs : List A) (i : ℕ) (d x : A) → i < length xs → get_or xs i d ≡ x

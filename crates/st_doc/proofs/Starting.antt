@@ -9,7 +9,7 @@ use Rattle.st_marks.specs.declared.changes.NewNode.{NewNode}
 use Rattle.st_tree.specs.declared.flat.FlatNode.{FlatNode}
 use Rattle.st_doc.specs.Nodes.{type_of}
 use Rattle.st_opening.specs.Start.{first_said, type_at}
-use Rattle.st_doc.proofs.Look.{take_one}
+use Rattle.st_lemmas.proofs.FirstItems.{take_one}
 use Rattle.st_lemmas.proofs.Lists.{filter_map-append}
 use Rattle.st_lemmas.proofs.Options.{option_or-assoc, option_or-None}
 

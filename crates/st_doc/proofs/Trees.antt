@@ -16,7 +16,8 @@ use Rattle.st_ids.specs.declared.names.NodeId.{NodeId}
 use Rattle.st_ids.proofs.Orders.{same_node-true, same_node-itself}
 use Rattle.st_marks.specs.declared.places.Spot.{Spot}
 use Rattle.st_marks.specs.Document.{Document, IsSoundInForm, NodeType, above, climb, content, node_of}
-use Rattle.st_marks.specs.LiveTree.{Shows, shows_leaf, shows_row, shows_registers, ShowsItems, no_more_items, next_item, ShowsMembers, no_more_members, next_member, leaf_data, owners_shown, register, key_at}
+use Rattle.st_marks.specs.LiveTree.{Shows, shows_leaf, shows_row, shows_registers, ShowsItems, no_more_items, next_item, ShowsMembers, no_more_members, next_member, owners_shown, register, key_at}
+use Rattle.st_ids.specs.LeafText.{leaf_data}
 use Rattle.st_marks.proofs.Climb.{placed_known}
 use Rattle.st_marks.proofs.Members.{has-all, all-has}
 use Rattle.st_marks.proofs.NoRing.{without, shorter, others}

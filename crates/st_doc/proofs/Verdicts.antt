@@ -15,14 +15,14 @@ use Rattle.st_marks.specs.declared.intents.Put.{Put}
 use Rattle.st_marks.specs.declared.intents.To.{To}
 use Rattle.st_marks.specs.declared.places.Spot.{Spot}
 use Rattle.st_marks.specs.declared.schemas.SchemaEntry.{SchemaEntry}
-use Rattle.st_marks.specs.Document.{Document, last_of, revs, above, climb, node_of, IsLive}
+use Rattle.st_marks.specs.Document.{Document, last_of, revs, above, climb, node_of, IsLive, Reaches}
 use Rattle.st_ids.specs.Root.{root}
 use Rattle.st_marks.specs.Intent.{put_of}
 use Rattle.st_marks.specs.CarryOut.{full, with_names, spot_of, unless_cleared, place_after}
 use Rattle.st_marks.specs.Verdict.{IsLeast}
 use Rattle.st_marks.proofs.Members.{any-has, has-any, map-has, has-map, has-append, append_left, append_right}
 use Rattle.st_marks.proofs.Lookups.{put-has}
-use Rattle.st_doc.specs.inside.Ahead.{IsLeastOf, least_with, Reaches, above_ahead, place_ahead}
+use Rattle.st_doc.specs.inside.Ahead.{IsLeastOf, least_with, above_ahead, place_ahead}
 use Rattle.st_intent.proofs.Scans.{is_some-find}
 use Rattle.st_lemmas.proofs.Orders.{is_lt-Less}
 use Rattle.st_lemmas.proofs.Options.{is_some-option_map}

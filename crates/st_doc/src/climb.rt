@@ -4,9 +4,9 @@ ghost use Rattle.std.specs.BTreeMap.{get};
 ghost use Rattle.std.specs.BTreeSet.{contains};
 ghost use Rattle.st_ids.specs.declared.names.NodeId.{NodeId as Node};
 ghost use Rattle.st_ids.specs.Order.{node_cmp};
-ghost use Rattle.st_marks.specs.Document.{node_of};
+ghost use Rattle.st_marks.specs.Document.{node_of, Reaches};
 ghost use Rattle.st_marks.specs.CarryOut.{unless_cleared};
-ghost use Rattle.st_doc.specs.inside.Ahead.{above_ahead, Reaches};
+ghost use Rattle.st_doc.specs.inside.Ahead.{above_ahead};
 
 use st_ids::NodeId;
 use st_intent::is_cleared;

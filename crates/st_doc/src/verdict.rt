@@ -5,7 +5,8 @@ ghost use Rattle.std.specs.Option.{option_map_or};
 ghost use Rattle.st_ids.specs.Listing.{Has};
 ghost use Rattle.st_ids.specs.Order.{same_rev};
 ghost use Rattle.st_marks.specs.declared.intents.Put.{Put as PutOf};
-ghost use Rattle.st_doc.specs.inside.Ahead.{AreTargets, above_ahead, Reaches, IsLeastOf, least_with};
+ghost use Rattle.st_doc.specs.inside.Ahead.{AreTargets, above_ahead, IsLeastOf, least_with};
+ghost use Rattle.st_marks.specs.Document.{Reaches};
 
 use crate::climb::ancestors_ahead;
 use crate::doc::Doc;

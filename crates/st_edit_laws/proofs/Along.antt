@@ -15,7 +15,8 @@ use Rattle.st_tree.specs.declared.edit.EditFault.TheVariants.{NoNode}
 use Rattle.st_marks.specs.declared.places.Slot.{Slot}
 use Rattle.st_marks.specs.declared.places.Spot.{Spot}
 use Rattle.st_marks.specs.Document.{Document, IsSoundInForm, above, content}
-use Rattle.st_marks.specs.LiveTree.{Shows, shows_leaf, shows_row, shows_registers, ShowsItems, no_more_items, next_item, ShowsMembers, no_more_members, next_member, owners_shown, register, key_at, leaf_data, one_member, live_slots}
+use Rattle.st_marks.specs.LiveTree.{Shows, shows_leaf, shows_row, shows_registers, ShowsItems, no_more_items, next_item, ShowsMembers, no_more_members, next_member, owners_shown, register, key_at, one_member, live_slots}
+use Rattle.st_ids.specs.LeafText.{leaf_data}
 use Rattle.st_marks.proofs.Members.{all-has}
 use Rattle.st_edits.specs.Paths.{child, field_at, or_refuse, walk_from}
 use Rattle.st_edits.proofs.Fits.{passed, or_refuse-Ok, items_once}

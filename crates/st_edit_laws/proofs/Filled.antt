@@ -39,14 +39,14 @@ use Rattle.st_edits.specs.declared.names.NameCounters.{NameCounters}
 use Rattle.st_edits.specs.declared.names.Takes.TheVariants as field
 use Rattle.st_edits.proofs.Fits.{passed}
 use Rattle.st_edits.proofs.MoveFits.{CellsFresh}
-use Rattle.st_edits.proofs.NewFits.{put_fits, NodesFresh, items_form}
+use Rattle.st_edits.proofs.NewFits.{put_fits, NodesFresh, items_form, are_allowed}
 use Rattle.st_edits.proofs.Numbered.{Counted, tops_counted, tops_rows}
 use Rattle.st_edit_laws.specs.Alike.{AreAlikeAt}
 use Rattle.st_edit_laws.specs.Edited.{TellsRows, at_path, same_key, with_key}
 use Rattle.st_edit_laws.proofs.Along.{as_list, along, same_key-true, same_key-itself}
 use Rattle.st_edit_laws.proofs.AtNode.{member_comes}
 use Rattle.st_edit_laws.proofs.Made.{IsFilled, alike, filled, filled_from, keeps, made_verdict, new_field, old_node, old_unput, put_there}
-use Rattle.st_edit_laws.proofs.Named.{are_allowed, own_all, registers_new}
+use Rattle.st_edit_laws.proofs.Named.{own_all, registers_new}
 use Rattle.st_edit_laws.proofs.NewTrees.{tops_shown, first_top, top_of, top_at, top_node}
 use Rattle.st_edit_laws.proofs.Ruled.{ruled_kind}
 use Rattle.st_lemmas.proofs.Bools.{true-false}

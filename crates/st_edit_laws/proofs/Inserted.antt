@@ -40,14 +40,14 @@ use Rattle.st_edits.specs.declared.names.NameCounters.{NameCounters}
 use Rattle.st_edits.specs.declared.names.Takes.TheVariants as field
 use Rattle.st_edits.proofs.Fits.{passed}
 use Rattle.st_edits.proofs.MoveFits.{CellsFresh}
-use Rattle.st_edits.proofs.NewFits.{insert_fits, NodesFresh, top_from, top_has, items_form, with_group-Some, with_has}
+use Rattle.st_edits.proofs.NewFits.{insert_fits, NodesFresh, top_from, top_has, items_form, with_group-Some, with_has, are_allowed}
 use Rattle.st_edits.proofs.Numbered.{tops_counted, tops_rows}
 use Rattle.st_edit_laws.specs.Edited.{TellsRows, at_path, data_items, with_items}
 use Rattle.st_edit_laws.proofs.Along.{AreShown, as_list, along}
 use Rattle.st_edit_laws.proofs.Anchored.{row_with}
 use Rattle.st_edit_laws.proofs.AtNode.{items_come}
 use Rattle.st_edit_laws.proofs.Made.{IsFilled, alike, fresh, keeps, made_verdict, old_full, old_node, put_is}
-use Rattle.st_edit_laws.proofs.Named.{are_allowed, group_is, own_all, registers_new, top_nodes}
+use Rattle.st_edit_laws.proofs.Named.{group_is, own_all, registers_new, top_nodes}
 use Rattle.st_edit_laws.proofs.NewTrees.{tops_shown}
 use Rattle.st_edit_laws.proofs.Rows.{filter_all}
 use Rattle.st_edit_laws.proofs.Ruled.{row_ruled}

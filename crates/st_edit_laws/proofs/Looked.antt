@@ -16,7 +16,8 @@ use Rattle.st_ids.specs.declared.names.Place.{Place}
 use Rattle.st_tree.specs.declared.edit.EditFault.TheVariants.{NoNode}
 use Rattle.st_marks.specs.declared.places.Slot.{Slot}
 use Rattle.st_marks.specs.Document.{Document, NodeType, IsSoundInForm, content, owned_cell}
-use Rattle.st_marks.specs.LiveTree.{Shows, ShowsMembers, no_more_members, next_member, owners_shown, register, key_at, leaf_data, live_slots}
+use Rattle.st_marks.specs.LiveTree.{Shows, ShowsMembers, no_more_members, next_member, owners_shown, register, key_at, live_slots}
+use Rattle.st_ids.specs.LeafText.{leaf_data}
 use Rattle.st_edits.specs.Paths.{child, field_at, or_refuse, walk_from}
 use Rattle.st_edits.proofs.Fits.{passed, or_refuse-Ok}
 use Rattle.st_edit_laws.specs.Moved.{child_in, inside, node_in, row_items}

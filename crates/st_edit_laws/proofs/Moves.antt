@@ -28,7 +28,8 @@ use Rattle.st_marks.specs.CarryOut.{full}
 use Rattle.st_marks.specs.Verdict.{IsVerdict}
 use Rattle.st_marks.specs.LiveTree.{Shows, owners_shown, register, live_slots}
 use Rattle.st_marks.proofs.Members.{has-any}
-use Rattle.st_edits.specs.Paths.{nodes_below_path, child, field_at, items_from, nodes_on_path, row_length, or_refuse, walk_from, and_then}
+use Rattle.st_edits.specs.Paths.{nodes_below_path, child, field_at, items_from, nodes_on_path, row_length, or_refuse, walk_from}
+use Rattle.st_ids.specs.Or.{and_then}
 use Rattle.st_edits.specs.Resolve.{require, is_inside, is_there, may_move, move, intent_to_move, moved_to_field, moved_to_row, rule_for, nodes_taken, takes_kind, walk}
 use Rattle.st_schema.specs.Kind.{is_row}
 use Rattle.st_edits.specs.declared.names.NameCounters.{NameCounters}

@@ -1,6 +1,6 @@
 -- The list of the nodes of new trees, where the schema allows the trees.
-use Rattle.std.proofs.Common.{◌≡◌, ℕ, ◌+◌, true, not, List, [], ◌∷◌, ◌++◌, map, Option, Some, None, Ok, refl, sym, ap, ◌∙◌, subst, inl, inr}
-use Rattle.std.specs.List.{cons_option, list_all, position_from}
+use Rattle.std.proofs.Common.{◌≡◌, ℕ, ◌+◌, List, [], ◌∷◌, ◌++◌, map, Option, Some, None, refl, sym, ap, ◌∙◌, subst, inl, inr}
+use Rattle.std.specs.List.{cons_option}
 use Rattle.st_ids.specs.Listing.{Has}
 use Rattle.st_ids.specs.declared.names.CellId.{CellId}
 use Rattle.st_ids.specs.declared.names.FieldId.{FieldId}
@@ -11,33 +11,16 @@ use Rattle.st_tree.specs.Preorder.{node_named, cell_named, cell_count, tree_list
 use Rattle.st_tree.specs.Size.{node_count}
 use Rattle.st_tree.specs.declared.flat.FlatAt.{FlatAt}
 use Rattle.st_tree.specs.declared.flat.FlatNode.{FlatNode}
-use Rattle.st_schema.specs.Conforms.{items_verdicts}
-use Rattle.st_schema.specs.Schema.{SchemaView}
-use Rattle.st_schema.specs.declared.names.FieldRule.{FieldRule}
 use Rattle.st_marks.specs.declared.intents.Group.{Group}
 use Rattle.st_marks.specs.declared.intents.Owned.{Owned}
 use Rattle.st_marks.specs.Document.{Document, owned_cell}
-use Rattle.st_edits.specs.New.{owned_by, top_cell, top_cells, group_of, names_taken}
+use Rattle.st_edits.specs.New.{owned_by, top_cell, top_cells, group_of}
 use Rattle.st_opening.specs.Start.{register_at, registers}
-use Rattle.st_edits.specs.Paths.{and_then}
-use Rattle.st_edits.specs.Resolve.{allowed_nodes, named_nodes, names_left, trees_allowed}
 use Rattle.st_edits.specs.declared.names.NameCounters.{NameCounters}
-use Rattle.st_edits.proofs.Fits.{passed}
-use Rattle.st_edits.proofs.NewFits.{NodesFresh, none_refused-Ok}
+use Rattle.st_edits.proofs.NewFits.{NodesFresh}
 use Rattle.st_edits.proofs.Numbered.{Counted, IsAt, numbered, IsInner, fields_inner}
 use Rattle.st_edit_laws.proofs.NewTrees.{Own, inner, item_nodes}
-use Rattle.st_lemmas.proofs.Lists.{position_from-None}
 use Rattle.st_ids.proofs.Shared.{filter-from}
-
--- ## Allowed trees
-
--- the schema allows each node, and the list is theirs
-pub are_allowed : (s : SchemaView) (G : NameCounters) (rule : FieldRule) (trees : Nodes) (xs : List FlatNode) → allowed_nodes s G rule trees ≡ Ok xs → (list_all (λ ok. ok) (items_verdicts s rule.types trees) ≡ true) × (named_nodes G trees ≡ xs)
-are_allowed s G rule trees xs e =
-    let u = passed (trees_allowed s rule trees) (λ _. and_then (names_left G (names_taken (named_nodes G trees))) (λ _. Ok (named_nodes G trees))) xs e in
-    let v = passed (names_left G (names_taken (named_nodes G trees))) (λ _. Ok (named_nodes G trees)) xs u.2 in
-    let is : named_nodes G trees ≡ xs = cc in
-    (position_from-None 0 (items_verdicts s rule.types trees) (none_refused-Ok (position_from (λ ok. not ok) 0 (items_verdicts s rule.types trees)) u.0 u.1), is)
 
 -- the whole list has all
 pub own_all : (rev : Rev) (xs : List FlatNode) (low high : ℕ) → Own rev xs xs low high

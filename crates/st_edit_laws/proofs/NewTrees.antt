@@ -10,7 +10,6 @@ use Rattle.serde_json.specs.Data.{object}
 use Rattle.st_ids.specs.Listing.{Has, item_of, key_pairs}
 use Rattle.st_ids.specs.Order.{same_node}
 use Rattle.st_ids.specs.declared.names.FieldId.{FieldId}
-use Rattle.st_ids.specs.declared.names.Leaf.{Leaf}
 use Rattle.st_ids.specs.declared.names.NodeId.{NodeId}
 use Rattle.st_ids.specs.declared.names.Rev.{Rev}
 use Rattle.st_ids.proofs.Orders.{same_node-true, same_node-itself}
@@ -22,12 +21,12 @@ use Rattle.st_tree.specs.declared.flat.FlatAt.{FlatAt}
 use Rattle.st_tree.specs.declared.flat.FlatNode.{FlatNode}
 use Rattle.st_schema.specs.Schema.{SchemaView, form_of}
 use Rattle.st_schema.specs.Conforms.{verdicts, fields_verdicts, items_verdicts, node_fits, is_as_typed, types_under}
-use Rattle.st_schema.specs.TreeText.{tree_data, body_data, members_data, trees_data, leaf_data as schema_leaf_data}
+use Rattle.st_schema.specs.TreeText.{tree_data, body_data, members_data, trees_data}
 use Rattle.st_schema.specs.declared.names.Form.{Form}
 use Rattle.st_schema.specs.declared.names.Form.TheVariants.{Array, Map, Object}
 use Rattle.st_marks.specs.declared.intents.Owned.{Owned}
 use Rattle.st_marks.specs.Document.{Document, content}
-use Rattle.st_marks.specs.LiveTree.{Shows, shows_leaf, shows_row, shows_registers, ShowsItems, no_more_items, next_item, ShowsMembers, no_more_members, next_member, owners_shown, register, key_at, leaf_data, one_member}
+use Rattle.st_marks.specs.LiveTree.{Shows, shows_leaf, shows_row, shows_registers, ShowsItems, no_more_items, next_item, ShowsMembers, no_more_members, next_member, owners_shown, register, key_at, one_member}
 use Rattle.st_marks.proofs.Members.{has-append, append_left, append_right}
 use Rattle.st_edits.specs.New.{owned_by, row_cell, cells_under}
 use Rattle.st_opening.proofs.PreorderNames.{same_number}
@@ -287,12 +286,6 @@ row_cells rev owner key n c (first (node ty leaf fs) ts) less =
     let same = one_under rev owner w.0 y.at e w.3 in omega (arith, same, less, w.1))))
     ∙ ap (λ ns. node_named rev n ∷ ns) (row_cells rev owner key (n + node_count (node ty leaf fs)) (c + (1 + cell_count (node ty leaf fs))) ts (omega arith))
 
-leaf_same : (v : Leaf) → leaf_data v ≡ schema_leaf_data v
-leaf_same Leaf.Null = refl
-leaf_same (Leaf.Bool b) = refl
-leaf_same (Leaf.Int i) = refl
-leaf_same (Leaf.Words text) = refl
-
 body_is : (before : List ℕ) (fs : Fields) → keys_rise before fs ≡ true → object (members_data fs) ≡ body_data fs
 body_is before no_fields e = refl
 body_is before (field key true items rest) e = cc
@@ -442,7 +435,7 @@ module _ (s : SchemaView) (is_array : List ℕ → Bool) (tells : TellsRows is_a
   mutual
     pub tree_shown : (types : List (List ℕ)) (at : FlatAt) (n c : ℕ) (t : Node) → Conforming (verdicts s types t) → Has xs (top_of rev at n t) → Own rev xs (inner rev n c t) n (n + node_count t)
         → Shows is_array E (node_named rev n) (tree_data t)
-    tree_shown types at n c (node ty (Some v) fs) ok h own = subst (Shows is_array E (node_named rev n)) (leaf_same v) (shows_leaf (node_named rev n) ty v (w.node_is (top_of rev at n (node ty (Some v) fs)) h))
+    tree_shown types at n c (node ty (Some v) fs) ok h own = shows_leaf (node_named rev n) ty v (w.node_is (top_of rev at n (node ty (Some v) fs)) h)
     tree_shown types at n c (node ty None fs) ok h own =
         let parts = and-true (node_fits s types ty None fs) _ ok in
         by_form n c ty fs at (form_of s.types ty) refl (and-true _ (is_as_typed (form_of s.types ty) ty None fs) parts.0).1 h own

@@ -11,7 +11,8 @@ use Rattle.st_marks.specs.declared.places.Spot.{Spot}
 use Rattle.st_marks.specs.Document.{Document, IsSoundInForm, above, content}
 use Rattle.st_marks.specs.LiveTree.{owners_shown, register}
 use Rattle.st_marks.proofs.Members.{all-has}
-use Rattle.st_edits.specs.Paths.{and_then, child, or_refuse, walk_from}
+use Rattle.st_edits.specs.Paths.{child, or_refuse, walk_from}
+use Rattle.st_ids.specs.Or.{and_then}
 use Rattle.st_edits.proofs.Fits.{passed, or_refuse-Ok}
 use Rattle.st_edit_laws.specs.Alike.{IsFrom}
 use Rattle.st_edit_laws.specs.Edited.{same_key, is_row_key}

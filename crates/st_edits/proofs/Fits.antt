@@ -29,7 +29,8 @@ use Rattle.st_ids.specs.Root.{root}
 use Rattle.st_marks.specs.Intent.{Fits, IsKnown, Owns, cell_of, clears, is_new, register_of}
 use Rattle.st_marks.proofs.Members.{all-has, has-all, has-map, first-has}
 use Rattle.st_marks.specs.LiveTree.{live_slots}
-use Rattle.st_edits.specs.Paths.{and_then, or_refuse, child, field_at, items_from, row_length, walk_from}
+use Rattle.st_edits.specs.Paths.{or_refuse, child, field_at, items_from, row_length, walk_from}
+use Rattle.st_ids.specs.Or.{and_then}
 use Rattle.st_edits.specs.Resolve.{need, remove, intent_to_remove, empty_intent, walk, rule_for, within_row, rule_at, of_kind, clear}
 use Rattle.st_schema.specs.Kind.{is_optional, is_single_kind}
 use Rattle.st_edits.specs.declared.names.NameCounters.{NameCounters}

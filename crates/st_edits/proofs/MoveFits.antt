@@ -31,7 +31,8 @@ use Rattle.st_ids.specs.Root.{root}
 use Rattle.st_marks.specs.Intent.{Fits, IsKnown, Owns, cell_of, clears, group_cells, is_new, new_row_of, put_of, register_of}
 use Rattle.st_marks.proofs.Members.{all-has, has-all, any-has, first-has, none-has, has-map, map-has}
 use Rattle.st_marks.specs.LiveTree.{live_slots}
-use Rattle.st_edits.specs.Paths.{and_then, or_refuse, field_at, items_from, left_of, row_length}
+use Rattle.st_edits.specs.Paths.{or_refuse, field_at, items_from, left_of, row_length}
+use Rattle.st_ids.specs.Or.{and_then}
 use Rattle.st_edits.specs.Resolve.{require, cells_for, moved_to_row, moved_to_field, empty_intent, walk, rule_for, rule_at, of_kind, nodes_taken, is_there, may_move, intent_to_move, move}
 use Rattle.st_schema.specs.Kind.{is_open, is_single_kind}
 use Rattle.st_edits.specs.declared.names.NameCounters.{NameCounters}

@@ -35,7 +35,8 @@ use Rattle.st_marks.specs.Intent.{Fits, IsKnown, Owns, above_new, cell_of, clear
 use Rattle.st_marks.proofs.Members.{all-has, has-all, any-has, has-any, append_right, has-append, first-has, none-has, first-distinct, has-map, map-has, has-flat_map, flat_map-has, has-filter_map}
 use Rattle.st_edits.specs.New.{new_nodes, puts, to_at, top_cell, row_cell, owned_by, top_cells, cells_under, group_of, group_under, groups_under, names_taken}
 use Rattle.st_opening.specs.Start.{registers, register_at}
-use Rattle.st_edits.specs.Paths.{and_then, or_refuse, field_at, left_of, row_length}
+use Rattle.st_edits.specs.Paths.{or_refuse, field_at, left_of, row_length}
+use Rattle.st_ids.specs.Or.{and_then}
 use Rattle.st_edits.specs.Resolve.{require, empty_intent, walk, rule_for, rule_at, of_kind, trees_allowed, none_refused, names_left, named_nodes, allowed_nodes, with_group, intent_to_insert, intent_to_place, insert, put}
 use Rattle.st_edits.specs.declared.names.NameCounters.{NameCounters}
 use Rattle.st_edits.specs.declared.names.Takes.TheVariants as field
@@ -727,3 +728,11 @@ put_fits D s G at key t N sound schema nodes cells e =
   where
     go : (m : NodeId) (xs : List FlatNode) → IsSome (D.nodes m) → key.0 ≢ [] → IsAllowed s G (first t no_nodes) xs → intent_to_place D G (field_at m key) xs ≡ N → Fits D N
     go m xs known some a is = subst (Fits D) (ap (intent_to_place D G (field_at m key)) a.list ∙ is) (tree_fits D G (field_at m key) t sound nodes cells known some a.form)
+
+-- the schema allows each of the new trees, and the list is theirs
+pub are_allowed : (s : SchemaView) (G : NameCounters) (rule : FieldRule) (trees : Nodes) (xs : List FlatNode) → allowed_nodes s G rule trees ≡ Ok xs → (list_all (λ ok. ok) (items_verdicts s rule.types trees) ≡ true) × (named_nodes G trees ≡ xs)
+are_allowed s G rule trees xs e =
+    let u = passed (trees_allowed s rule trees) (λ _. and_then (names_left G (names_taken (named_nodes G trees))) (λ _. Ok (named_nodes G trees))) xs e in
+    let v = passed (names_left G (names_taken (named_nodes G trees))) (λ _. Ok (named_nodes G trees)) xs u.2 in
+    let is : named_nodes G trees ≡ xs = cc in
+    (position_from-None 0 (items_verdicts s rule.types trees) (none_refused-Ok (position_from (λ ok. not ok) 0 (items_verdicts s rule.types trees)) u.0 u.1), is)

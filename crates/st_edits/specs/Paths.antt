@@ -5,6 +5,7 @@ use Rattle.st_ids.specs.declared.names.FieldId.{FieldId}
 use Rattle.st_ids.specs.declared.names.Key.{Key}
 use Rattle.st_ids.specs.declared.names.NodeId.{NodeId}
 use Rattle.st_ids.specs.declared.names.Place.{Place}
+pub use Rattle.st_ids.specs.Or.{and_then}
 use Rattle.st_tree.specs.declared.edit.EditFault.{EditFault}
 use Rattle.st_tree.specs.declared.edit.EditFault.TheVariants.{NoNode}
 use Rattle.st_marks.specs.declared.places.Slot.{Slot}
@@ -38,11 +39,6 @@ abbrev pub child : Document → NodeId → Place → Option NodeId
 child D n p =
     if length p.key.0 == 0 then option_map (λ (s : Slot). s.node) (slice_get (live_slots D n) p.index)
     else (if p.index == 0 then D.held (field_at n p.key) else None)
-
--- a step that may be refused, and what follows it
-abbrev pub and_then : {A B : Type 0} → Result A EditFault → (A → Result B EditFault) → Result B EditFault
-and_then (Err e) next = Err e
-and_then (Ok x) next = next x
 
 -- what is there, or a refusal
 abbrev pub or_refuse : {A : Type 0} → Option A → EditFault → Result A EditFault

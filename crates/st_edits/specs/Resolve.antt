@@ -31,7 +31,8 @@ use Rattle.st_ids.specs.Root.{opening, root}
 use Rattle.st_edits.specs.declared.names.NameCounters.{NameCounters}
 use Rattle.st_edits.specs.declared.names.Takes.{Takes}
 use Rattle.st_edits.specs.declared.names.Takes.TheVariants as field
-use Rattle.st_edits.specs.Paths.{field_at, row_length, items_from, left_of, and_then, or_refuse, walk_from, nodes_on_path}
+use Rattle.st_edits.specs.Paths.{field_at, row_length, items_from, left_of, or_refuse, walk_from, nodes_on_path}
+use Rattle.st_ids.specs.Or.{and_then}
 use Rattle.st_edits.specs.New.{new_nodes, puts, top_cells, group_of, groups_under, names_taken}
 use Rattle.st_opening.specs.Start.{registers}
 

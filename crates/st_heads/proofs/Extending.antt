@@ -8,7 +8,8 @@ use Rattle.st_marks.specs.Intent.{Fits}
 use Rattle.st_log_laws.specs.Turns.{FitInTurn}
 use Rattle.st_log_laws.proofs.Turns.{rest}
 use Rattle.st_doc.specs.Doc.{document_of}
-use Rattle.st_doc.proofs.Look.{drop_one, take_one}
+use Rattle.st_doc.proofs.Look.{drop_one}
+use Rattle.st_lemmas.proofs.FirstItems.{take_one}
 use Rattle.st_heads.specs.declared.heads.Head.{Head}
 use Rattle.st_heads.specs.Heads.{HasCarried}
 use Rattle.st_heads.specs.Remembered.{none}

@@ -8,7 +8,7 @@ use Rattle.st_ids.specs.Root.{root}
 use Rattle.st_ids.specs.declared.names.CellId.{CellId}
 use Rattle.st_ids.specs.declared.names.FieldId.{FieldId}
 use Rattle.st_ids.specs.declared.names.NodeId.{NodeId}
-use Rattle.st_ids.proofs.Orders.{same_cell-true, same_cell-itself, same_field-true, same_field-itself, same_node-true, same_node-itself}
+use Rattle.st_ids.proofs.Orders.{same_cell-true, same_cell-itself, same_field-itself, same_node-true, same_node-itself}
 use Rattle.st_marks.specs.declared.intents.Group.{Group}
 use Rattle.st_marks.specs.declared.intents.Intent.{Intent}
 use Rattle.st_marks.specs.declared.intents.Owned.{Owned}
@@ -24,40 +24,22 @@ use Rattle.st_marks.proofs.Full.{HoldsWhatIsPlaced, full_one_held, known_put, kn
 use Rattle.st_marks.proofs.Lookups.{clears-has, group-new_row_of, has-put, has-put_in, made_there, new_row_of-group, put-has}
 use Rattle.st_marks.proofs.Members.{any-has, append_left, append_right, first-distinct, has-any, has-append, has-filter_map}
 use Rattle.st_lemmas.proofs.Bools.{and-both, and-true, both-ways-same, not-true, true-false}
-use Rattle.st_lemmas.proofs.Options.{IsSome-Some, None-IsSome}
+use Rattle.st_lemmas.proofs.Options.{IsSome-Some, None-IsSome, one_some}
 use Rattle.st_heads.specs.declared.ways.Way.{Way}
 use Rattle.st_heads.specs.Remembered.{IsWayBack, intent_of_way}
 use Rattle.st_heads.specs.inside.GoingBack.{back_by, back_of_put, entered_field, if_evicted, in_old_row, leads_into_old}
 use Rattle.st_marks.specs.Row.{same_to}
 use Rattle.st_join.proofs.Picked.{has-picked}
 use Rattle.st_heads.proofs.Leading.{way_leads_back}
+use Rattle.st_marks.proofs.Shared.{same_to-true, same_to-itself}
 
 -- ## Targets
-
-pub same_to-true : (a b : To) → same_to a b ≡ true → a ≡ b
-same_to-true To.Nowhere To.Nowhere e = refl
-same_to-true To.Nowhere (To.Cell d) e = cc
-same_to-true To.Nowhere (To.Register g) e = cc
-same_to-true (To.Cell c) To.Nowhere e = cc
-same_to-true (To.Cell c) (To.Cell d) e = ap (λ c. To.Cell c) (same_cell-true c d e)
-same_to-true (To.Cell c) (To.Register g) e = cc
-same_to-true (To.Register f) To.Nowhere e = cc
-same_to-true (To.Register f) (To.Cell d) e = cc
-same_to-true (To.Register f) (To.Register g) e = ap (λ f. To.Register f) (same_field-true f g e)
-
-pub same_to-itself : (a : To) → same_to a a ≡ true
-same_to-itself To.Nowhere = refl
-same_to-itself (To.Cell c) = same_cell-itself c
-same_to-itself (To.Register f) = same_field-itself f
 
 -- the place that is put to a register is that register
 to_register : (t : Spot) (f : FieldId) → to_of t ≡ To.Register f → t ≡ Spot.Register f
 to_register Spot.Nowhere f e = cc
 to_register (Spot.Row r d) f e = cc
 to_register (Spot.Register g) f e = let q : g ≡ f = cc in ap (λ f. Spot.Register f) q
-
-one_node : (m n : NodeId) → Some m ≡ Some n → m ≡ n
-one_node m n e = cc
 
 -- who is still in a register after the clears was there before
 stayed : (N : Intent) (t : Spot) (g : FieldId) → unless_cleared N t ≡ Spot.Register g → t ≡ Spot.Register g
@@ -127,7 +109,7 @@ module _ (D : Document) (N : Intent) (s : IsSoundInForm D) (f : Fits D N) where
           let b = and-true _ _ g.2 in
           let o = any-has (λ (o : Owned). same_cell o.cell c) g.0.cells b.1 in
           let at : new_row_of N c ≡ Some g.0.node = ap (new_row_of N) (sym (same_cell-true o.0.cell c o.2)) ∙ new_row_of-group N f.itself g.0 o.0 g.1 o.1 in
-          ap (is_in D) (sym (one_node g.0.node r (sym at ∙ e))) ∙ b.0
+          ap (is_in D) (sym (one_some g.0.node r (sym at ∙ e))) ∙ b.0
 
       back : is_in D r ≡ true → in_old_row D N.groups c ≡ true
       back h =

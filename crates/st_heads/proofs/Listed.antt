@@ -19,21 +19,12 @@ use Rattle.st_marks.specs.Document.{Document}
 use Rattle.st_marks.specs.Intent.{same_option}
 use Rattle.st_lemmas.proofs.Bools.{both-ways-same, or-false, true-false}
 use Rattle.st_lemmas.proofs.Lists.{filter_map-append}
-use Rattle.st_doc.proofs.Look.{any_more, drop_one, take_one}
+use Rattle.st_doc.proofs.Look.{drop_one}
+use Rattle.st_lemmas.proofs.FirstItems.{any_more, take_one}
 use Rattle.st_doc.proofs.Placing.{put_by}
 use Rattle.st_heads.specs.inside.GoingBack.{back_by, back_of_put, if_evicted}
 
 -- ## Found in what is gone through
-
--- one more item that a test finds
-pub found_more : {A : Type 0} (p : A → Bool) (old before now : Bool) (xs : List A) (i : ℕ) (d x : A) → i < length xs → get_or xs i d ≡ x
-    → before ≡ (old || list_any p (take i xs)) → now ≡ (before || p x) → now ≡ (old || list_any p (take (i + 1) xs))
-found_more p old before now xs i d x inside at so_far h =
-    h ∙ ap (λ b. b || p x) so_far ∙ or-assoc old (list_any p (take i xs)) (p x) ∙ ap (λ b. old || b) (sym (any_more p xs i d x inside at))
-  where
-    or-assoc : (a b c : Bool) → ((a || b) || c) ≡ (a || (b || c))
-    or-assoc true b c = refl
-    or-assoc false b c = refl
 
 -- what a set has with one more key
 pub set_more : (b a : Bool) → cond b true a ≡ (a || b)

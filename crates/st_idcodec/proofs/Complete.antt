@@ -5,7 +5,6 @@ use Rattle.std.proofs.lemmas.Bool.Decides.{nat_tests}
 use Rattle.std.proofs.lemmas.List.{length-map, append_assoc, append-nil, length_push, get_or_push, get_or_append_left, map-append}
 use Rattle.std.proofs.lemmas.List.Elements.{All-from_recursion}
 use Rattle.std.proofs.lemmas.List.Sums.{sum_by-append}
-use Rattle.std.proofs.lemmas.Slice.Eq.{bytes_eq-Decides}
 use Rattle.std.specs.Int.{w128, to_be_bytes, from_be_bytes, byte_at, bytes_high_first}
 use Rattle.std.specs.List.{AllByRecursion, position_or_len}
 use Rattle.std.specs.Option.{option_map}
@@ -35,6 +34,7 @@ use Rattle.st_idcodec.proofs.Running.{led_after, HasAll, IsLed, AllGiven, all_gi
 use Rattle.st_idcodec.proofs.Sessions.{after_joins, uuids_in, with_joined, joined_is, uuids_kept}
 use Rattle.st_idcodec.proofs.Tables.{text_data, texts_are}
 use Rattle.st_clusters.proofs.Running.{cases_result}
+use Rattle.st_ids.proofs.Orders.{bytes-itself}
 
 -- ## UUIDs
 
@@ -49,13 +49,10 @@ bytes_low : (k n : ℕ) → AllByRecursion (λ (b : ℕ). b < 256) (bytes_high_f
 bytes_low zero n = tt
 bytes_low (suc k) n = (byte_low k n, bytes_low k n)
 
-is_itself : (s : List ℕ) → same s s ≡ true
-is_itself s = (bytes_eq-Decides s s).1 refl
-
 text_back : (s : List ℕ) (u : ℕ) → u < 2 ^ 128 → uuid_text u ≡ s → with_text s u ≡ Some u
 text_back s u wide e =
     let low : nat_lt u (2 ^ 128) ≡ true = grind (arith, nat_tests, wide) in
-    let equal : same (uuid_text u) s ≡ true = subst (λ (x : List ℕ). same (uuid_text u) x ≡ true) e (is_itself (uuid_text u)) in
+    let equal : same (uuid_text u) s ≡ true = subst (λ (x : List ℕ). same (uuid_text u) x ≡ true) e (bytes-itself (uuid_text u)) in
     rw (low, equal) refl
 
 parsed_back : (u : ℕ) → Some (to_be_bytes w128 u) ≡ parsed (uuid_text u)

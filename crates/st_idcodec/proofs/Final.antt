@@ -10,7 +10,7 @@ use Rattle.serde_json.specs.Data.{Data, object, member, no_members, array}
 use Rattle.serde_json.specs.View.{items_of}
 use Rattle.st_clusters.specs.Free.{is_v4}
 use Rattle.st_clusters.specs.Table.{Ids, no_session, most_ids, session_of, is_next, raise_to, new_session, with_session, join_unless, clash, with_range, after_joining, after_generating, after_taking, after_rewinding, after_finalising}
-use Rattle.st_clusters.specs.Log.{and_then}
+use Rattle.st_ids.specs.Or.{and_then}
 use Rattle.st_clusters.specs.declared.ids.IdFault.{IdFault}
 use Rattle.st_clusters.specs.declared.ids.IdFault.TheVariants.{Session, Full, NotV4}
 use Rattle.st_clusters.specs.declared.ids.IdRange.{IdRange}

@@ -1,5 +1,5 @@
 -- The clusters of a table go behind each other, also after a further range.
-use Rattle.std.proofs.Common.{◌≡◌, ◌≢◌, ◌⊎◌, inl, inr, ◌<◌, ◌≤◌, ◌+◌, ◌-◌, ℕ, zero, suc, true, false, refl, sym, subst, ap, ◌∙◌, arith, List, [], ◌∷◌, ◌++◌, length, set, length-set, Option, Some, None}
+use Rattle.std.proofs.Common.{◌≡◌, ◌≢◌, ◌⊎◌, inl, inr, ◌<◌, ◌≤◌, ◌+◌, ◌-◌, ℕ, zero, suc, true, false, refl, sym, subst, ap, ◌∙◌, arith, List, [], ◌∷◌, ◌++◌, length, set, length-set, Some}
 use Rattle.std.proofs.lemmas.Bool.{cases_Bool, cases_eq, cases_lt}
 use Rattle.std.proofs.lemmas.Bool.Decides.{nat_tests}
 use Rattle.std.proofs.lemmas.List.{length_push, append_assoc, append-nil, get_or-set_same, get_or-set_other, get_or_push, set-append_left}
@@ -9,7 +9,7 @@ use Rattle.st_clusters.specs.inside.Kept.{IsLastOf}
 use Rattle.st_clusters.specs.declared.ids.Cluster.{Cluster}
 use Rattle.st_clusters.specs.declared.ids.IdRange.{IdRange}
 use Rattle.st_clusters.proofs.Clusters.{at_front, places_set, last_is}
-use Rattle.st_clusters.proofs.Ranges.{free_set}
+use Rattle.st_clusters.proofs.Ranges.{free_set, cases_option}
 use Rattle.st_idcodec.proofs.Going.{used_of, used_grow, used_same, set_end, Begins, IsSize, Goes, AllGo}
 
 -- ## One is put behind the others
@@ -188,10 +188,6 @@ put_go n r cs i place all low high next =
                 (rest_behind n r cs i place size past ne low high next))
           ])
     ]
-
-cases_option : (o : Option ℕ) → (o ≡ None) ⊎ ((i : ℕ) × (o ≡ Some i))
-cases_option None = inl refl
-cases_option (Some i) = inr (i, refl)
 
 pub range_go : (n : ℕ) (r : IdRange) (cs : List Cluster) → AllGo n [] cs → 1 ≤ r.session → r.session ≤ n → r.first ≡ used_of r.session cs + 1 → AllGo n [] (with_range r cs)
 range_go n r cs all low high next = elim (cases_Bool (r.count == 0)) [

@@ -6,7 +6,7 @@ use Rattle.std.specs.Prelude.{Result, Ok, Err}
 use Rattle.std.specs.Result.{result_ok}
 use Rattle.st_clusters.specs.Free.{is_v4}
 use Rattle.st_clusters.specs.Table.{Ids, no_session, most_ids, session_of, is_next, raise_to, new_session, clash, join_unless, with_range, after_joining, after_finalising}
-use Rattle.st_clusters.specs.Log.{and_then}
+use Rattle.st_ids.specs.Or.{and_then}
 use Rattle.st_clusters.specs.inside.Kept.{session_at}
 use Rattle.st_clusters.specs.declared.ids.IdFault.{IdFault}
 use Rattle.st_clusters.specs.declared.ids.IdFault.TheVariants.{Session, RangeOrder, NotV4}

@@ -11,7 +11,8 @@ use Rattle.serde_json.specs.Find.{as_number, as_u64, as_array, as_object, as_str
 use Rattle.serde_json.specs.View.{items_of}
 use Rattle.uuid.specs.Text.{parsed}
 use Rattle.st_clusters.specs.declared.ids.Cluster.{Cluster}
-use Rattle.st_idcodec.specs.OpText.{small, place_number}
+use Rattle.st_idcodec.specs.OpText.{place_number}
+use Rattle.st_ids.specs.Numeral.{small}
 use Rattle.st_idcodec.specs.TableText.{plain_number, cluster_data, uuid_text}
 use Rattle.st_idcodec.specs.inside.Reading.{same, wide_number, cluster_of_numbers, cluster_in, cluster_of, clusters_of, with_text, uuid_of_text, uuid_of, both_items, items_in, table_items}
 use Rattle.st_json.proofs.Shared.{is_string, is_object, is_array}

@@ -11,7 +11,8 @@ use Rattle.serde_json.specs.View.{items_of}
 use Rattle.st_clusters.specs.Table.{Ids, new_session, after_joining, after_finalising}
 use Rattle.st_clusters.specs.Ids.{ids_of}
 use Rattle.st_clusters.specs.declared.compressor.Compressor.{Compressor}
-use Rattle.st_clusters.specs.Log.{and_then, after_log}
+use Rattle.st_clusters.specs.Log.{after_log}
+use Rattle.st_ids.specs.Or.{and_then}
 use Rattle.st_clusters.specs.declared.ids.Cluster.{Cluster}
 use Rattle.st_clusters.specs.declared.ids.IdRange.{IdRange}
 use Rattle.st_clusters.specs.declared.ids.SessionIds.{SessionIds}

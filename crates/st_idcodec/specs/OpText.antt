@@ -1,8 +1,9 @@
 -- The JSON forms of op-space names.
-use Rattle.std.specs.Prelude.{ℕ, ◌<◌, ◌^◌, ℤ, pos, negsuc, Option, Some, None, option_and_then, nat_lt, if◌then◌else◌}
+use Rattle.std.specs.Prelude.{ℕ, ◌<◌, ◌^◌, ℤ, pos, negsuc, Option, Some, None, option_and_then}
 use Rattle.std.specs.Option.{option_map}
 use Rattle.serde_json.specs.Data.{Data, number, unsigned, array, Items, no_items, item}
 use Rattle.serde_json.specs.Find.{as_number, as_u64, as_i64, as_array, of_integer}
+use Rattle.st_ids.specs.Numeral.{small}
 
 -- a revision is its number
 abbrev pub rev_data : ℤ → Data
@@ -15,9 +16,6 @@ atom_data z n = array (item (rev_data z) (item (number (unsigned n)) no_items))
 -- the number that a value is, from -2^63 to 2^63 - 1
 abbrev pub rev_number : Data → Option ℤ
 rev_number d = option_and_then as_i64 (as_number d)
-
-abbrev pub small : ℕ → Option ℕ
-small n = if nat_lt n (2 ^ 32) then Some n else None
 
 -- the place that a value is, below 2^32
 abbrev pub place_number : Data → Option ℕ

@@ -1,7 +1,7 @@
 -- The tables that sessions and ranges lead to.
 use Rattle.std.specs.Prelude.{ℕ, ◌≡◌, map, ◌<◌, ◌≤◌, ◌^◌, List, [], ◌∷◌, length, Some, Result, Ok}
 use Rattle.st_clusters.specs.Table.{Ids, session_of, after_joining, after_generating, after_taking, after_rewinding, after_finalising}
-use Rattle.st_clusters.specs.Log.{and_then}
+use Rattle.st_ids.specs.Or.{and_then}
 use Rattle.st_clusters.specs.declared.ids.IdFault.{IdFault}
 use Rattle.st_clusters.specs.declared.ids.IdRange.{IdRange}
 use Rattle.st_clusters.specs.declared.ids.SessionIds.{SessionIds}

@@ -1,3 +1,5 @@
+pub mod LeafTexts
+pub mod Listings
 pub mod Numerals
 pub mod Orders
 pub mod Points

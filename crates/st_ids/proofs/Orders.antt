@@ -1,11 +1,11 @@
 -- The orders of names are total, and names that tie are one. A rising listing is what it has at each name.
-use Rattle.std.proofs.Common.{◌≡◌, true, List, [], ◌∷◌, map, refl, sym, ap, ◌∙◌, subst}
+use Rattle.std.proofs.Common.{◌≡◌, true, List, [], ◌∷◌, map, refl, sym, ap, ◌∙◌, subst, ℕ}
 use lib.Dec.{T}
 use Rattle.std.specs.declared.cmp.Ordering.{Ordering}
 use Rattle.std.specs.declared.cmp.Ordering.TheVariants.{Less, Equal, Greater}
-use Rattle.std.specs.Ordering.{nat_cmp, ordering_then, is_eq}
+use Rattle.std.specs.Ordering.{nat_cmp, ordering_then, is_eq, ordering_reverse}
 use Rattle.std.specs.Cmp.{IsTotalOrder, nat_cmp_total}
-use Rattle.std.specs.Cmp.Lexicographic.{nat_list_cmp_total}
+use Rattle.std.specs.Cmp.Lexicographic.{nat_list_cmp_total, pointwise, bytes_decides}
 use Rattle.std.specs.FinMap.Entries.{same_entries}
 use Rattle.std.proofs.lemmas.Cmp.{on_total, then_total}
 use Rattle.std.proofs.lemmas.Map.Lookups.{CmpEqualImpliesEq, exact_unsigned, exact_bytes}
@@ -16,6 +16,7 @@ use Rattle.st_ids.specs.declared.names.CellId.{CellId}
 use Rattle.st_ids.specs.declared.names.FieldId.{FieldId}
 use Rattle.st_ids.specs.Order.{same_rev, rev_cmp, atom_cmp, node_cmp, cell_cmp, field_cmp, same_node, same_cell, same_field}
 use Rattle.st_ids.specs.Listing.{key_pairs, IsRising, item_of}
+use Rattle.std.specs.Prelude.{nat_eq}
 
 -- two orders one after the other tie only where both do
 then_equal : (a b : Ordering) → ordering_then a b ≡ Equal → (a ≡ Equal) × (b ≡ Equal)
@@ -70,6 +71,11 @@ is_eq_equal Less e = cc
 is_eq_equal Equal e = refl
 is_eq_equal Greater e = cc
 
+pub self_reverse : (o : Ordering) → o ≡ ordering_reverse o → is_eq o ≡ true
+self_reverse Less e = cc
+self_reverse Equal e = refl
+self_reverse Greater e = cc
+
 itself : (o : Ordering) → o ≡ Equal → is_eq o ≡ true
 itself o e = ap is_eq e
 
@@ -113,6 +119,10 @@ same_field-true a b e = field_cmp_exact a b (is_eq_equal _ e)
 pub same_field-itself : (a : FieldId) → same_field a a ≡ true
 unfolding same_field
 same_field-itself a = itself _ (tied field_cmp_total a)
+
+-- two texts of the same bytes
+pub bytes-itself : (s : List ℕ) → pointwise nat_eq s s ≡ true
+bytes-itself s = (bytes_decides s s).1 refl
 
 unkeyed : {K A : Type 0} (key : A → K) (xs : List A) → map (λ (e : K × A). e.1) (key_pairs key xs) ≡ xs
 unkeyed key [] = refl

@@ -29,3 +29,13 @@ filter-from {A} {B} f (x ∷ xs) y h = go (f x) refl (λ k. filter-from f xs y k
     go None e rest k = let z = rest k in (z.0, inr z.1, z.2)
     go (Some w) e rest (inl q) = (x, inl refl, e ∙ ap (λ a. Some a) q)
     go (Some w) e rest (inr k) = let z = rest k in (z.0, inr z.1, z.2)
+
+pub filter-has : {A : Type 0} (p : A → Bool) (xs : List A) (x : A) → Has xs x → p x ≡ true → Has (filter p xs) x
+filter-has p [] x h e = absurd h
+filter-has p (y ∷ ys) x h e = go (p y) refl (λ i. filter-has p ys x i e) h
+  where
+    go : (b : Bool) → p y ≡ b → (Has ys x → Has (filter p ys) x) → Has (y ∷ ys) x → Has (cond b (y ∷ filter p ys) (filter p ys)) x
+    go true f rest (inl q) = inl q
+    go true f rest (inr i) = inr (rest i)
+    go false f rest (inl q) = absurd (let bad : ◌≡◌ {A = Bool} false true = sym f ∙ ap p q ∙ e in cc)
+    go false f rest (inr i) = rest i

@@ -1,4 +1,5 @@
 pub mod formers
+pub mod LeafText
 pub mod Lending
 pub mod Listing
 pub mod Names

@@ -1,5 +1,5 @@
 -- The orders of names, and the tests whether two names are one.
-use Rattle.std.specs.Prelude.{◌≡◌, Bool}
+use Rattle.std.specs.Prelude.{◌≡◌, Bool, ℕ, Option, Some, None, min}
 use Rattle.std.specs.Cmp.Lexicographic.{slice_cmp}
 use Rattle.std.specs.declared.cmp.Ordering.{Ordering}
 use Rattle.std.specs.declared.cmp.Ordering.TheVariants.{Equal}
@@ -43,3 +43,9 @@ same_cell a b = is_eq (cell_cmp a b)
 
 unfoldable pub same_field : FieldId → FieldId → Bool
 same_field a b = is_eq (field_cmp a b)
+
+-- the lesser of two places, if there is any
+abbrev pub lesser : Option ℕ → Option ℕ → Option ℕ
+lesser None o = o
+lesser (Some a) None = Some a
+lesser (Some a) (Some b) = Some (min a b)

@@ -1,5 +1,5 @@
 -- Two parts joined fit where the first does.
-use Rattle.std.proofs.Common.{◌≡◌, ◌≢◌, ◌⊎◌, ◌||◌, Bool, true, false, List, [], ◌∷◌, Option, Some, None, IsSome, IsTrue, IfSome, is_some, cond, option_map, option_and_then, refl, sym, ap, ◌∙◌, subst, inl, inr}
+use Rattle.std.proofs.Common.{◌≡◌, ◌≢◌, ◌||◌, Bool, true, false, List, [], ◌∷◌, Option, Some, None, IsSome, IsTrue, IfSome, is_some, cond, option_map, option_and_then, refl, sym, ap, ◌∙◌, subst, inl, inr}
 use Rattle.std.specs.Option.{option_or}
 use Rattle.st_ids.specs.Listing.{Has}
 use Rattle.st_ids.specs.Order.{same_field}
@@ -14,22 +14,13 @@ use Rattle.st_marks.specs.declared.intents.Put.{Put}
 use Rattle.st_marks.specs.declared.intents.To.{To}
 use Rattle.st_marks.specs.Document.{Document, NodeType, IsSoundInForm, owned_cell}
 use Rattle.st_marks.specs.Intent.{Fits, IsKnown, Owns, cell_of, register_of, clears, group_at, group_cells, is_new, new_row_of, new_type, put_of}
-use Rattle.st_marks.specs.CarryOut.{full, with_groups, with_names}
+use Rattle.st_marks.specs.CarryOut.{full, with_groups}
 use Rattle.st_marks.specs.Join.{AreParts, IsJoin, IsOldAnchor, put_unless_new, unless_cleared_by}
 use Rattle.st_marks.proofs.Members.{all-has, has-all, append_left, append_right, has-append, flat_map-has, has-flat_map, has-any}
 use Rattle.st_marks.proofs.Lookups.{clears-has, group_at-group, group_found, has-put}
-use Rattle.st_marks.proofs.NewRows.{made_kept, old_kept, with_groups-has}
+use Rattle.st_marks.proofs.NewRows.{made_kept, old_kept, with_groups-has, old_or_made}
 use Rattle.st_marks.proofs.Full.{known_put}
 use Rattle.st_join.proofs.Rows.{first_group, new_row_joined, type_joined}
-
-pub made_listed : (N : Intent) (n : NodeId) (a : Option CellId) (o : Owned) → Has (group_at N n a) o → Has (group_cells N) o
-made_listed N n a o h = let g = group_at-group N n a o h in flat_map-has (λ (g : Group). g.cells) N.groups g.group o g.listed g.cell
-
-old_or_made : (D : Document) (N : Intent) (n : NodeId) (o : Owned) → Has ((with_names D N).rows n) o → Has (D.rows n) o ⊎ Has (group_cells N) o
-old_or_made D N n o h = elim (has-append (group_at N n None) (with_groups N n (D.rows n)) o h) [
-  | inl i ↦ inr (made_listed N n None o i)
-  | inr i ↦ elim (with_groups-has N n (D.rows n) o i) [ inl k ↦ inl k | inr k ↦ inr (made_listed N n (Some k.0.cell) o k.2) ]
-]
 
 module _ (D : Document) (N M J : Intent) (s : IsSoundInForm D) (p : AreParts D N M) (j : IsJoin N M J) where
   -- ## What is known

@@ -1,5 +1,5 @@
 -- How many nodes and cells two parts joined make.
-use Rattle.std.proofs.Common.{◌≡◌, ◌≢◌, ◌≤◌, ◌+◌, suc, length, List, [], ◌∷◌, ◌++◌, Option, Some, None, is_some, option_map, true, refl, sym, ap, ◌∙◌, subst, inl, inr, arith}
+use Rattle.std.proofs.Common.{◌≡◌, ◌≢◌, ◌+◌, length, List, ◌++◌, Option, Some, None, is_some, option_map, true, refl, sym, ap, ◌∙◌, subst, inl, inr, arith}
 use Rattle.std.specs.Option.{option_or}
 use Rattle.st_ids.specs.Listing.{AreDistinct, Has}
 use Rattle.st_ids.specs.Order.{same_node}
@@ -16,36 +16,11 @@ use Rattle.st_marks.specs.CarryOut.{with_groups}
 use Rattle.st_marks.specs.Join.{AreParts, IsJoin}
 use Rattle.st_lemmas.proofs.Bools.{true-false}
 use Rattle.st_lemmas.proofs.Lists.{length-append}
-use Rattle.st_marks.proofs.Members.{all-has, append_left, append_right, distinct-append, first-distinct, first-has, has-append, has-flat_map}
+use Rattle.st_marks.proofs.Members.{append_left, append_right, distinct-append, first-distinct, first-has, has-append, has-flat_map}
 use Rattle.st_marks.proofs.Lookups.{group_found, made_there}
-use Rattle.st_marks.proofs.NewRows.{with_groups-has}
-use Rattle.st_join.proofs.JoinFits.{anchor_first, cell_first, cell_second, made_listed}
-
--- ## Distinct items that another list has are no more than its items
-
-abbrev others : {A : Type 0} (ys : List A) (x : A) → Has ys x → List A
-others [] x h = []
-others (y ∷ ys) x (inl e) = ys
-others (y ∷ ys) x (inr h) = y ∷ others ys x h
-
-others_length : {A : Type 0} (ys : List A) (x : A) (h : Has ys x) → length ys ≡ suc (length (others ys x h))
-others_length [] x h = absurd h
-others_length (y ∷ ys) x (inl e) = refl
-others_length (y ∷ ys) x (inr h) = ap suc (others_length ys x h)
-
-others_stay : {A : Type 0} (ys : List A) (x z : A) (h : Has ys x) → Has ys z → z ≢ x → Has (others ys x h) z
-others_stay [] x z h i apart = absurd h
-others_stay (y ∷ ys) x z (inl e) (inl f) apart = absurd (apart (sym f ∙ e))
-others_stay (y ∷ ys) x z (inl e) (inr i) apart = i
-others_stay (y ∷ ys) x z (inr h) (inl f) apart = inl f
-others_stay (y ∷ ys) x z (inr h) (inr i) apart = inr (others_stay ys x z h i apart)
-
-no_longer : {A K : Type 0} (key : A → K) (xs ys : List A) → AreDistinct key xs → ((x : A) → Has xs x → Has ys x) → length xs ≤ length ys
-no_longer key [] ys d h = omega arith
-no_longer key (x ∷ xs) ys d h =
-    let i = h x (inl refl) in
-    let rest = no_longer key xs (others ys x i) d.1 (λ z j. others_stay ys x z i (h z (inr j)) (λ e. all-has (λ y. key y ≢ key x) xs z d.0 j (ap key e))) in
-    omega (arith, rest, others_length ys x i)
+use Rattle.st_marks.proofs.NewRows.{with_groups-has, made_listed}
+use Rattle.st_join.proofs.JoinFits.{anchor_first, cell_first, cell_second}
+use Rattle.st_marks.proofs.Contained.{no_longer}
 
 -- lists of the same items, which are distinct in both
 same_length : {A K : Type 0} (key : A → K) (xs ys zs : List A) → AreDistinct key xs → AreDistinct key (ys ++ zs) → ((x : A) → Has xs x → Has (ys ++ zs) x) → ((x : A) → Has (ys ++ zs) x → Has xs x) → length xs ≡ length ys + length zs

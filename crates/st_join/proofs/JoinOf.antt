@@ -22,14 +22,15 @@ use Rattle.st_marks.specs.CarryOut.{full, with_groups}
 use Rattle.st_marks.specs.Join.{AreParts, IsJoin, IsOldAnchor, joined_put, put_unless_new, unless_cleared_by}
 use Rattle.st_lemmas.proofs.Bools.{and-both, and-true, not-true, or-cases, or-left, or-right, refuted-false, true-false}
 use Rattle.st_lemmas.proofs.Options.{option_map-Some, option_or-None}
-use Rattle.st_marks.proofs.Members.{all-has, any-has, append_left, append_right, distinct-append, first-has, flat_map-has, has-all, has-any, has-append, has-flat_map, has-map, list_distinct, map-has, none-has, one_list}
+use Rattle.st_marks.proofs.Members.{all-has, any-has, append_left, append_right, distinct-append, first-has, flat_map-has, has-all, has-any, has-append, has-flat_map, has-map, list_distinct, map-has, none-has, one_list, distinct-filter}
 use Rattle.st_marks.proofs.Lookups.{anchor_is, anchor_itself, group-new_row_of, group_at-group, group_found, has-put}
 use Rattle.st_marks.proofs.NewRows.{made_kept, old_kept, with_groups-has}
 use Rattle.st_join.specs.Listed.{IsListedJoin, IsMadeIn}
 use Rattle.st_join.specs.inside.Lists.{has_place, is_needed, join_of, joined_groups, kept_put, left_put, takes_place, to_if_open, with_cells_after, with_cells_in}
 use Rattle.st_join.proofs.JoinIntents.{joined_intent}
 use Rattle.st_join.proofs.Picked.{has-picked, picked_distinct}
-use Rattle.st_join.proofs.Picks.{any-append, any-filter, filter-distinct, filter-has, find-picked, flat_map-distinct, has-filter, map-distinct, picked-distinct}
+use Rattle.st_join.proofs.Picks.{any-append, any-filter, find-picked, flat_map-distinct, map-distinct, picked-distinct}
+use Rattle.st_ids.proofs.Shared.{filter-has, filtered}
 use Rattle.st_join.proofs.Rows.{made_in}
 
 -- ## Places of one intent
@@ -272,7 +273,7 @@ module _ (D : Document) (N M : Intent) (s : IsSoundInForm D) (p : AreParts D N M
   group_is : (g : Group) → Has groups g → IsGroup g
   group_is g h = elim (has-append inner others g h) [
     | inl i ↦ (let r = has-map (with_cells_in (group_at M)) N.groups g i in subst IsGroup r.2 (first_is r.0 r.1))
-    | inr i ↦ (let r = has-filter is_free M.groups g i in other_is g r.0 (not-true _ r.1))
+    | inr i ↦ (let r = filtered is_free M.groups g i in other_is g r.0 (not-true _ r.1))
   ]
 
   first_listed : (g : Group) → Has N.groups g → Has groups (inside g)
@@ -284,10 +285,10 @@ module _ (D : Document) (N M : Intent) (s : IsSoundInForm D) (p : AreParts D N M
   starts_once : AreDistinct {K = NodeId × Option CellId} (λ (g : Group). (g.node, g.after)) groups
   starts_once = distinct-append {K = NodeId × Option CellId} (λ (g : Group). (g.node, g.after)) inner others
       (map-distinct {K = NodeId × Option CellId} (with_cells_in (group_at M)) (λ (g : Group). (g.node, g.after)) N.groups w.start_once)
-      (filter-distinct {K = NodeId × Option CellId} (λ (g : Group). (g.node, g.after)) is_free M.groups v.start_once)
+      (distinct-filter {K = NodeId × Option CellId} (λ (g : Group). (g.node, g.after)) is_free M.groups v.start_once)
       (λ x y h i e.
       let r = has-map (with_cells_in (group_at M)) N.groups x h in
-      let free = not-true _ (has-filter is_free M.groups y i).1 in
+      let free = not-true _ (filtered is_free M.groups y i).1 in
       let place : ◌≡◌ {A = NodeId × Option CellId} (r.0.node, r.0.after) (y.node, y.after) = ap (λ (g : Group). (g.node, g.after)) r.2 ∙ sym e in
       true-false (subst {A = NodeId × Option CellId} (λ q. has_place N q.0 q.1 ≡ true) place (taken_at N w r.0 r.1)) free)
 
@@ -485,7 +486,7 @@ module _ (D : Document) (N M : Intent) (s : IsSoundInForm D) (p : AreParts D N M
   needs_joined n = (there, back)
     where
       there : Has (join_of N M).need n → Has N.need n ⊎ (Has M.need n × (is_new N n ≡ false))
-      there h = elim (has-append N.need (filter still_needed M.need) n h) [ inl i ↦ inl i | inr i ↦ (let r = has-filter still_needed M.need n i in inr (r.0, neither (is_new N n) (is_needed N n) r.1)) ]
+      there h = elim (has-append N.need (filter still_needed M.need) n h) [ inl i ↦ inl i | inr i ↦ (let r = filtered still_needed M.need n i in inr (r.0, neither (is_new N n) (is_needed N n) r.1)) ]
 
       back : Has N.need n ⊎ (Has M.need n × (is_new N n ≡ false)) → Has (join_of N M).need n
       back (inl i) = append_left N.need (filter still_needed M.need) n i

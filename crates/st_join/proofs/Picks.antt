@@ -8,33 +8,6 @@ use Rattle.st_marks.proofs.Members.{all-has, has-all, distinct-append, first-has
 
 -- ## Sifted
 
-pub has-filter : {A : Type 0} (k : A → Bool) (xs : List A) (x : A) → Has (filter k xs) x → Has xs x × (k x ≡ true)
-has-filter k [] x h = absurd h
-has-filter {A} k (y ∷ xs) x h = go (k y) refl (has-filter k xs x) h
-  where
-    go : (b : Bool) → k y ≡ b → (Has (filter k xs) x → Has xs x × (k x ≡ true)) → Has (cond b (y ∷ filter k xs) (filter k xs)) x → Has (y ∷ xs) x × (k x ≡ true)
-    go true e rest (inl q) = (inl q, ap k (sym q) ∙ e)
-    go true e rest (inr i) = let r = rest i in (inr r.0, r.1)
-    go false e rest i = let r = rest i in (inr r.0, r.1)
-
-pub filter-has : {A : Type 0} (k : A → Bool) (xs : List A) (x : A) → Has xs x → k x ≡ true → Has (filter k xs) x
-filter-has k [] x h t = absurd h
-filter-has {A} k (y ∷ xs) x h t = go (k y) refl (λ i. filter-has k xs x i t) h
-  where
-    go : (b : Bool) → k y ≡ b → (Has xs x → Has (filter k xs) x) → Has (y ∷ xs) x → Has (cond b (y ∷ filter k xs) (filter k xs)) x
-    go true e rest (inl q) = inl q
-    go true e rest (inr i) = inr (rest i)
-    go false e rest (inl q) = absurd (true-false t (ap k (sym q) ∙ e))
-    go false e rest (inr i) = rest i
-
-pub filter-distinct : {A K : Type 0} (key : A → K) (k : A → Bool) (xs : List A) → AreDistinct key xs → AreDistinct key (filter k xs)
-filter-distinct key k [] a = tt
-filter-distinct {A} key k (x ∷ xs) a = go (k x) (filter-distinct key k xs a.1)
-  where
-    go : (b : Bool) → AreDistinct key (filter k xs) → AreDistinct key (cond b (x ∷ filter k xs) (filter k xs))
-    go true rest = (has-all (λ y. key y ≢ key x) (filter k xs) (λ y h. all-has (λ y. key y ≢ key x) xs y a.0 (has-filter k xs y h).0), rest)
-    go false rest = rest
-
 -- what a test finds isn't sifted out
 pub any-filter : {A : Type 0} (k q : A → Bool) (xs : List A) → ((x : A) → q x ≡ true → k x ≡ true) → list_any q (filter k xs) ≡ list_any q xs
 any-filter k q [] stays = refl

@@ -4,16 +4,13 @@ use Rattle.std.specs.List.{find, list_any}
 use Rattle.std.specs.Option.{option_or, option_cmp}
 use Rattle.std.specs.Ordering.{is_eq, ordering_then}
 use Rattle.std.specs.declared.cmp.Ordering.{Ordering}
-use Rattle.std.proofs.lemmas.List.{take_more}
 use Rattle.std.proofs.lemmas.List.Folds.{find-append}
 use Rattle.st_ids.specs.Order.{cell_cmp, node_cmp, same_cell, same_node}
 use Rattle.st_ids.specs.declared.names.CellId.{CellId}
 use Rattle.st_ids.specs.declared.names.NodeId.{NodeId}
 use Rattle.st_marks.specs.Intent.{same_anchor}
 use Rattle.st_join.specs.inside.Places.{place_cmp}
-
-take_one : {A : Type 0} (xs : List A) (i : ℕ) (d x : A) → i < length xs → get_or xs i d ≡ x → take (i + 1) xs ≡ take i xs ++ x ∷ []
-take_one xs i d x l e = take_more xs i d l ∙ ap (λ y. take i xs ++ y ∷ []) e
+use Rattle.st_lemmas.proofs.FirstItems.{take_one, any_more}
 
 -- what a list became by the first items, with what one more adds
 pub list_more : {A B : Type 0} (F : List A → List B) → ((xs ys : List A) → F (xs ++ ys) ≡ F xs ++ F ys)
@@ -25,13 +22,6 @@ list_more F joins old before now xs i d x l e b h =
 
 -- ## Sets
 
-list_any-push : {A : Type 0} (p : A → Bool) (xs : List A) (x : A) → list_any p (xs ++ x ∷ []) ≡ (list_any p xs || p x)
-list_any-push p [] x = elim (p x) as (λ b. (b || false) ≡ b) [ true ↦ refl | false ↦ refl ]
-list_any-push p (y ∷ xs) x = elim (p y) as (λ b. (b || list_any p (xs ++ x ∷ [])) ≡ ((b || list_any p xs) || p x)) [ true ↦ refl | false ↦ list_any-push p xs x ]
-
-any_more : {A : Type 0} (p : A → Bool) (xs : List A) (i : ℕ) (d x : A) → i < length xs → get_or xs i d ≡ x → list_any p (take (i + 1) xs) ≡ (list_any p (take i xs) || p x)
-any_more p xs i d x l e = ap (list_any p) (take_one xs i d x l e) ∙ list_any-push p (take i xs) x
-
 pub or_last : (a b : Bool) → cond b true a ≡ (a || b)
 or_last true true = refl
 or_last true false = refl
@@ -42,16 +32,6 @@ or_last false false = refl
 pub set_more : {A : Type 0} (p : A → Bool) (before now : Bool) (xs : List A) (i : ℕ) (d x : A) → i < length xs → get_or xs i d ≡ x
     → before ≡ list_any p (take i xs) → now ≡ (before || p x) → now ≡ list_any p (take (i + 1) xs)
 set_more p before now xs i d x l e b h = h ∙ ap (λ c. c || p x) b ∙ sym (any_more p xs i d x l e)
-
--- the same beside what was in the set
-pub set_beside : {A : Type 0} (p : A → Bool) (old before now : Bool) (xs : List A) (i : ℕ) (d x : A) → i < length xs → get_or xs i d ≡ x
-    → before ≡ (old || list_any p (take i xs)) → now ≡ (before || p x) → now ≡ (old || list_any p (take (i + 1) xs))
-set_beside p old before now xs i d x l e b h =
-    h ∙ ap (λ c. c || p x) b ∙ both old (list_any p (take i xs)) (p x) ∙ ap (λ c. old || c) (sym (any_more p xs i d x l e))
-  where
-    both : (a b c : Bool) → ((a || b) || c) ≡ (a || (b || c))
-    both true b c = refl
-    both false b c = refl
 
 -- one of the items has the name, or one is found
 pub any_found : {A : Type 0} (p : A → Bool) (xs : List A) → list_any p xs ≡ is_some (find p xs)

@@ -2,3 +2,4 @@ pub mod Bools
 pub mod Options
 pub mod Lists
 pub mod Orders
+pub mod FirstItems

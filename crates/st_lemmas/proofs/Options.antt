@@ -1,5 +1,5 @@
 -- On options and results.
-use Rattle.std.proofs.Common.{Result, Ok, Err, IfOk, ◌≡◌, Option, Some, None, refl, IsSome, is_some, option_map, option_and_then}
+use Rattle.std.proofs.Common.{Result, Ok, Err, IfOk, ◌≡◌, Option, Some, None, refl, IsSome, is_some, option_map, option_and_then, ◌||◌, ap, unwrap_or}
 use Rattle.std.specs.Option.{option_or}
 
 pub IfOk-along : {T E : Type 0} (r : Result T E) (P Q : T → Type 0) → ((x : T) → P x → Q x) → IfOk r P → IfOk r Q
@@ -33,3 +33,10 @@ option_and_then-Some f (Some a) b h = (a, refl, h)
 pub option_map-Some : {A B : Type 0} (f : A → B) (o : Option A) (b : B) → option_map f o ≡ Some b → (a : A) × (o ≡ Some a) × (f a ≡ b)
 option_map-Some f None b h = absurd (cc)
 option_map-Some f (Some a) b h = (a, refl, cc)
+
+pub is_some-option_map_or : {A B : Type 0} (f : A → B) (a b : Option A) → is_some (option_map f (option_or a b)) ≡ (is_some (option_map f a) || is_some (option_map f b))
+is_some-option_map_or f None b = refl
+is_some-option_map_or f (Some x) b = refl
+
+pub one_some : {A : Type 0} (x y : A) → Some x ≡ Some y → x ≡ y
+one_some {A} x y e = ap (λ (o : Option A). unwrap_or o x) e

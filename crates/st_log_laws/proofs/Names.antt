@@ -23,8 +23,8 @@ use Rattle.st_marks.specs.CarryOut.{full, void_data, with_names, with_groups, wi
 use Rattle.st_marks.specs.Verdict.{carried_document}
 use Rattle.st_marks.specs.Run.{Run, done, next}
 use Rattle.st_marks.proofs.Members.{all-has, has-all, append_left, append_right, has-append, flat_map-has, first-has}
-use Rattle.st_marks.proofs.Lookups.{group_at-group, group-new_row_of}
-use Rattle.st_marks.proofs.NewRows.{with_groups-has, old_kept, made_kept}
+use Rattle.st_marks.proofs.Lookups.{group-new_row_of}
+use Rattle.st_marks.proofs.NewRows.{with_groups-has, old_kept, made_kept, old_or_made}
 use Rattle.st_marks.proofs.Later.{has_later}
 use Rattle.st_log_laws.specs.Names.{HasNames, IsMadeUnder}
 
@@ -115,17 +115,6 @@ new_node_rev N w n h = go (find (λ (m : NewNode). same_node m.node n) N.new) re
 
 pub new_cell_rev : (N : Intent) → IsIntent N → (o : Owned) → Has (group_cells N) o → o.cell.0.rev ≡ N.rev
 new_cell_rev N w o h = all-has (λ (o : Owned). o.cell.0.rev ≡ N.rev) (group_cells N) o w.cell_rev h
-
--- what is made at an anchor is among the cells that the intent makes
-pub made_listed : (N : Intent) (n : NodeId) (a : Option CellId) (o : Owned) → Has (group_at N n a) o → Has (group_cells N) o
-made_listed N n a o h = let g = group_at-group N n a o h in flat_map-has (λ (g : Group). g.cells) N.groups g.group o g.listed g.cell
-
--- a cell of a row with the intent's names is an old one, or one that the intent makes
-pub old_or_made : (D : Document) (N : Intent) (n : NodeId) (o : Owned) → Has ((with_names D N).rows n) o → Has (D.rows n) o ⊎ Has (group_cells N) o
-old_or_made D N n o h = elim (has-append (group_at N n None) (with_groups N n (D.rows n)) o h) [
-  | inl i ↦ inr (made_listed N n None o i)
-  | inr i ↦ elim (with_groups-has N n (D.rows n) o i) [ inl j ↦ inl j | inr j ↦ inr (made_listed N n (Some j.0.cell) o j.2) ]
-]
 
 -- ## Names after an intent in two documents
 

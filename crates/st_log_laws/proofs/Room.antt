@@ -1,6 +1,5 @@
 -- How long rows become.
-use Rattle.std.proofs.Common.{◌≡◌, ◌≤◌, ◌+◌, suc, List, [], ◌∷◌, ◌++◌, length, refl, sym, ap, ◌∙◌, inl, inr, arith}
-use Rattle.st_ids.specs.Listing.{AreDistinct, Has}
+use Rattle.std.proofs.Common.{◌≤◌, ◌+◌, List, [], ◌∷◌, ◌++◌, length, inl, inr, arith}
 use Rattle.st_ids.specs.declared.names.NodeId.{NodeId}
 use Rattle.st_marks.specs.declared.intents.Intent.{Intent}
 use Rattle.st_marks.specs.declared.intents.Owned.{Owned}
@@ -10,38 +9,13 @@ use Rattle.st_marks.specs.Intent.{Fits, group_cells}
 use Rattle.st_marks.specs.CarryOut.{full, with_names}
 use Rattle.st_marks.specs.Verdict.{carried_document}
 use Rattle.st_marks.specs.Run.{Run, done, next}
-use Rattle.st_marks.proofs.Members.{all-has, append_left, append_right}
-use Rattle.st_marks.proofs.NewRows.{rows_once}
+use Rattle.st_marks.proofs.Members.{append_left, append_right}
+use Rattle.st_marks.proofs.NewRows.{rows_once, old_or_made}
 use Rattle.st_marks.proofs.OneVerdict.{carried_extends}
 use Rattle.st_log_laws.specs.Turns.{FitInTurn, HasRoom, cells_made}
-use Rattle.st_log_laws.proofs.Names.{if_carried, old_or_made}
+use Rattle.st_log_laws.proofs.Names.{if_carried}
 use Rattle.st_lemmas.proofs.Lists.{length-append}
-
--- ## A list of distinct items, all of which another has, is no longer
-
-abbrev removed : {A : Type 0} (ys : List A) (x : A) → Has ys x → List A
-removed [] x h = []
-removed (y ∷ ys) x (inl e) = ys
-removed (y ∷ ys) x (inr h) = y ∷ removed ys x h
-
-removed_length : {A : Type 0} (ys : List A) (x : A) (h : Has ys x) → length ys ≡ suc (length (removed ys x h))
-removed_length [] x h = absurd h
-removed_length (y ∷ ys) x (inl e) = refl
-removed_length (y ∷ ys) x (inr h) = ap suc (removed_length ys x h)
-
-others_stay : {A : Type 0} (ys : List A) (x z : A) (h : Has ys x) → Has ys z → (z ≡ x → ⊥) → Has (removed ys x h) z
-others_stay [] x z h i apart = absurd h
-others_stay (y ∷ ys) x z (inl e) (inl f) apart = absurd (apart (sym f ∙ e))
-others_stay (y ∷ ys) x z (inl e) (inr i) apart = i
-others_stay (y ∷ ys) x z (inr h) (inl f) apart = inl f
-others_stay (y ∷ ys) x z (inr h) (inr i) apart = inr (others_stay ys x z h i apart)
-
-no_longer : {A K : Type 0} (key : A → K) (xs ys : List A) → AreDistinct key xs → ((x : A) → Has xs x → Has ys x) → length xs ≤ length ys
-no_longer key [] ys d h = omega arith
-no_longer key (x ∷ xs) ys d h =
-    let i = h x (inl refl) in
-    let rest = no_longer key xs (removed ys x i) d.1 (λ z j. others_stay ys x z i (h z (inr j)) (λ e. all-has (λ y. key y ≡ key x → ⊥) xs z d.0 j (ap key e))) in
-    omega (arith, rest, removed_length ys x i)
+use Rattle.st_marks.proofs.Contained.{no_longer}
 
 -- ## Rows
 

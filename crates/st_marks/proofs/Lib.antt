@@ -1,4 +1,5 @@
 pub mod Members
+pub mod Contained
 pub mod Lookups
 pub mod Climb
 pub mod NoRing

@@ -1,8 +1,9 @@
 -- The items of lists: joined, mapped, found by a test, and distinct by a key.
 use Rattle.std.proofs.Common.{◌≡◌, ◌≢◌, Bool, true, false, List, [], ◌∷◌, ◌++◌, map, Option, Some, None, cond, ◌||◌, refl, sym, ap, ◌∙◌, subst, inl, inr, ◌⊎◌}
-use Rattle.std.specs.List.{AllByRecursion, filter_map, flat_map, find, list_any}
+use Rattle.std.specs.List.{AllByRecursion, filter_map, flat_map, find, list_any, filter}
 use Rattle.st_ids.specs.Listing.{AreDistinct, Has}
 use Rattle.st_lemmas.proofs.Bools.{true-false}
+use Rattle.st_ids.proofs.Shared.{filtered}
 
 pub all-has : {A : Type 0} (P : A → Type 0) (xs : List A) (x : A) → AllByRecursion P xs → Has xs x → P x
 all-has P [] x a h = absurd h
@@ -156,3 +157,13 @@ pub list_distinct : {A B K : Type 0} (f : A → List B) (key : B → K) (xs : Li
 list_distinct f key [] g a h = absurd h
 list_distinct f key (z ∷ xs) g a (inl e) = subst (λ z. AreDistinct key (f z)) e (distinct-left key (f z) (flat_map f xs) a)
 list_distinct f key (z ∷ xs) g a (inr h) = list_distinct f key xs g (distinct-right key (f z) (flat_map f xs) a) h
+
+-- ## Sifted
+
+pub distinct-filter : {A K : Type 0} (key : A → K) (k : A → Bool) (xs : List A) → AreDistinct key xs → AreDistinct key (filter k xs)
+distinct-filter key k [] a = tt
+distinct-filter {A} key k (x ∷ xs) a = go (k x) (distinct-filter key k xs a.1)
+  where
+    go : (b : Bool) → AreDistinct key (filter k xs) → AreDistinct key (cond b (x ∷ filter k xs) (filter k xs))
+    go true rest = (has-all (λ y. key y ≢ key x) (filter k xs) (λ y h. all-has (λ y. key y ≢ key x) xs y a.0 (filtered k xs y h).0), rest)
+    go false rest = rest

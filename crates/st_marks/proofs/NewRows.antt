@@ -35,6 +35,17 @@ made_kept N n [] p o h i = absurd h
 made_kept N n (q ∷ os) p o (inl e) i = inr (append_left (group_at N n (Some q.cell)) (with_groups N n os) o (subst (λ (q : Owned). Has (group_at N n (Some q.cell)) o) (sym e) i))
 made_kept N n (q ∷ os) p o (inr h) i = inr (append_right (group_at N n (Some q.cell)) (with_groups N n os) o (made_kept N n os p o h i))
 
+-- what is made at an anchor is among the cells that the intent makes
+pub made_listed : (N : Intent) (n : NodeId) (a : Option CellId) (o : Owned) → Has (group_at N n a) o → Has (group_cells N) o
+made_listed N n a o h = let g = group_at-group N n a o h in flat_map-has (λ (g : Group). g.cells) N.groups g.group o g.listed g.cell
+
+-- a cell of a row with the intent's names is an old one, or one that the intent makes
+pub old_or_made : (D : Document) (N : Intent) (n : NodeId) (o : Owned) → Has ((with_names D N).rows n) o → Has (D.rows n) o ⊎ Has (group_cells N) o
+old_or_made D N n o h = elim (has-append (group_at N n None) (with_groups N n (D.rows n)) o h) [
+  | inl i ↦ inr (made_listed N n None o i)
+  | inr i ↦ elim (with_groups-has N n (D.rows n) o i) [ inl j ↦ inl j | inr j ↦ inr (made_listed N n (Some j.0.cell) o j.2) ]
+]
+
 -- ## The old cells keep their order
 
 abbrev pub KeepsOrder : List Owned → List Owned → Type 0

@@ -7,7 +7,8 @@ use Rattle.serde_json.specs.Written.{compact_text}
 use Rattle.st_ids.specs.declared.names.NodeId.{NodeId}
 use Rattle.st_marks.specs.Document.{Document, NodeType}
 use Rattle.st_ids.specs.Root.{root}
-use Rattle.st_marks.specs.LiveTree.{Shows, shows_leaf, shows_row, shows_registers, ShowsItems, no_more_items, next_item, ShowsMembers, no_more_members, next_member, leaf_data, one_member, key_at, IsTreeText}
+use Rattle.st_marks.specs.LiveTree.{Shows, shows_leaf, shows_row, shows_registers, ShowsItems, no_more_items, next_item, ShowsMembers, no_more_members, next_member, one_member, key_at, IsTreeText}
+use Rattle.st_ids.specs.LeafText.{leaf_data}
 use Rattle.st_marks.proofs.Unique.{one_list}
 use Rattle.st_lemmas.proofs.Bools.{true-false}
 

@@ -1,21 +1,23 @@
 -- Lemmas that several crates above need.
-use Rattle.std.proofs.Common.{◌≡◌, Bool, true, false, cond, List, [], ◌∷◌, ◌++◌, refl, inl, inr, sym, ap, ◌∙◌, append_assoc, Option, Some, None}
+use Rattle.std.proofs.Common.{◌≡◌, Bool, true, false, cond, List, [], ◌∷◌, ◌++◌, refl, inl, inr, sym, ap, ◌∙◌, append_assoc, Option, Some, None, subst, IsSome, is_some}
 use Rattle.st_ids.specs.Listing.{Has}
 use Rattle.st_ids.specs.declared.names.NodeId.{NodeId}
 use Rattle.st_marks.specs.declared.places.Slot.{Slot}
 use Rattle.st_marks.specs.LiveTree.{owners_shown}
 use Rattle.st_ids.specs.declared.names.CellId.{CellId}
-use Rattle.st_ids.proofs.Orders.{same_cell-true, same_node-true}
+use Rattle.st_ids.proofs.Orders.{same_cell-true, same_node-true, same_cell-itself, same_field-true, same_field-itself, same_node-itself}
 use Rattle.st_marks.specs.declared.places.Spot.{Spot}
-use Rattle.st_marks.specs.Document.{is_cell}
+use Rattle.st_marks.specs.Document.{is_cell, Document}
 use Rattle.st_ids.specs.Order.{same_node}
-use Rattle.st_marks.specs.Intent.{same_option, IsIntent, new_node, is_new}
+use Rattle.st_marks.specs.Intent.{same_option, IsIntent, new_node, is_new, Fits}
 use Rattle.st_marks.specs.declared.changes.NewNode.{NewNode}
 use Rattle.st_marks.specs.declared.intents.Intent.{Intent}
 use Rattle.st_marks.proofs.Members.{all-has, first-has}
 use Rattle.std.specs.Option.{option_and_then}
 use Rattle.st_marks.specs.declared.intents.To.{To}
 use Rattle.st_marks.specs.Join.{put_unless_new}
+use Rattle.st_marks.specs.Row.{same_to}
+use Rattle.st_lemmas.proofs.Bools.{refuted-false, true-false}
 
 pub owner_full : (cells : List Slot) (x : NodeId) → Has (owners_shown cells) x → (s : Slot) × Has cells s × (s.full ≡ true) × (s.node ≡ x)
 owner_full [] x h = absurd h
@@ -42,6 +44,10 @@ same-held None (Some y) e = cc
 same-held (Some x) None e = cc
 same-held (Some x) (Some y) e = ap (λ z. Some z) (same_node-true x y e)
 
+pub held-same : (a b : Option NodeId) → a ≡ b → same_option same_node a b ≡ true
+held-same None b e = subst (λ (q : Option NodeId). same_option same_node None q ≡ true) e refl
+held-same (Some x) b e = subst (λ (q : Option NodeId). same_option same_node (Some x) q ≡ true) e (same_node-itself x)
+
 pub made : (N : Intent) → IsIntent N → (n : NodeId) → is_new N n ≡ true → n.0.rev ≡ N.rev
 made N w n e = go (new_node N n) refl e
   where
@@ -56,3 +62,23 @@ old_put None = refl
 old_put (Some To.Nowhere) = refl
 old_put (Some (To.Cell c)) = refl
 old_put (Some (To.Register f)) = refl
+
+pub same_to-true : (a b : To) → same_to a b ≡ true → a ≡ b
+same_to-true To.Nowhere To.Nowhere e = refl
+same_to-true To.Nowhere (To.Cell d) e = cc
+same_to-true To.Nowhere (To.Register g) e = cc
+same_to-true (To.Cell c) To.Nowhere e = cc
+same_to-true (To.Cell c) (To.Cell d) e = ap (λ c. To.Cell c) (same_cell-true c d e)
+same_to-true (To.Cell c) (To.Register g) e = cc
+same_to-true (To.Register f) To.Nowhere e = cc
+same_to-true (To.Register f) (To.Cell d) e = cc
+same_to-true (To.Register f) (To.Register g) e = ap (λ f. To.Register f) (same_field-true f g e)
+
+pub same_to-itself : (a : To) → same_to a a ≡ true
+same_to-itself To.Nowhere = refl
+same_to-itself (To.Cell c) = same_cell-itself c
+same_to-itself (To.Register f) = same_field-itself f
+
+-- a node that is there isn't made
+pub not_made : (D : Document) (N : Intent) → Fits D N → (n : NodeId) → IsSome (D.nodes n) → is_new N n ≡ false
+not_made D N w n h = refuted-false (is_new N n) (λ e. true-false h (ap is_some (w.fresh_nodes n e)))

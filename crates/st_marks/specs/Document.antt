@@ -64,6 +64,10 @@ abbrev pub climb : (NodeId → Option NodeId) → ℕ → NodeId → Option Node
 climb up zero n = Some n
 climb up (suc k) n = option_and_then (climb up k) (up n)
 
+-- some steps up, at least one, lead from one node to another, where `up` is one step
+abbrev pub Reaches : (NodeId → Option NodeId) → NodeId → NodeId → Type 0
+Reaches up n m = (k : ℕ) × (climb up (suc k) n ≡ Some m)
+
 -- a stands above n, directly or further up
 abbrev pub IsAncestor : Document → NodeId → NodeId → Type 0
 IsAncestor D a n = (k : ℕ) × (climb (above D) (suc k) n ≡ Some a)

@@ -2,8 +2,7 @@
 use Rattle.std.specs.Prelude.{◌≡◌, ℕ, Bool, true, false, List, [], ◌∷◌, ◌++◌, Option, Some, None, is_some, filter, if◌then◌else◌}
 use Rattle.std.specs.Ordering.{nat_cmp}
 use Rattle.std.specs.Cmp.Lexicographic.{slice_cmp}
-use Rattle.serde_json.specs.Data.{Data, null, boolean, number, string, array, object, Items, no_items, item, Members, no_members, member}
-use Rattle.serde_json.specs.Find.{of_integer}
+use Rattle.serde_json.specs.Data.{Data, array, object, Items, no_items, item, Members, no_members, member}
 use Rattle.serde_json.specs.Written.{compact_text}
 use Rattle.st_ids.specs.Listing.{IsListing}
 use Rattle.st_ids.specs.declared.names.FieldId.{FieldId}
@@ -12,17 +11,11 @@ use Rattle.st_ids.specs.declared.names.NodeId.{NodeId}
 use Rattle.st_marks.specs.declared.places.Slot.{Slot}
 use Rattle.st_marks.specs.Document.{Document, content}
 use Rattle.st_ids.specs.Root.{root}
+use Rattle.st_ids.specs.LeafText.{leaf_data}
 
 -- the full cells of a node's row, in order: what the row shows
 abbrev pub live_slots : Document → NodeId → List Slot
 live_slots D n = filter (λ (s : Slot). s.full) (content D n)
-
--- a leaf is shown as its value
-abbrev pub leaf_data : Leaf → Data
-leaf_data Leaf.Null = null
-leaf_data (Leaf.Bool b) = boolean b
-leaf_data (Leaf.Int i) = number (of_integer i)
-leaf_data (Leaf.Words text) = string text
 
 -- the owners of full cells, in order
 abbrev pub owners_shown : List Slot → List NodeId

@@ -7,8 +7,8 @@ use Rattle.st_ids.proofs.Orders.{same_node-true, same_node-itself}
 use Rattle.st_marks.specs.declared.places.Spot.{Spot}
 use Rattle.st_marks.specs.Agree.{LeadsUp}
 use Rattle.st_marks.specs.Agree.LeadsUp.{one_up, further_up}
-use Rattle.st_marks.specs.Document.{node_of, climb, ClimbsToAnEnd}
-use Rattle.st_normal.specs.inside.Ring.{Reaches, HasRing, AreListed}
+use Rattle.st_marks.specs.Document.{node_of, climb, ClimbsToAnEnd, Reaches}
+use Rattle.st_normal.specs.inside.Ring.{HasRing, AreListed}
 use Rattle.st_marks.proofs.Climb.{climb_more, climb_end, ends_above}
 use Rattle.st_marks.proofs.NoRing.{without, shorter, others}
 

@@ -1,14 +1,7 @@
 -- Links between nodes, and where nodes are shown.
-use Rattle.std.proofs.Common.{◌≡◌, ◌↔◌, ℕ, Bool, true, false, ◌&&◌, List, [], ◌∷◌, ◌++◌, map, slice_get, Option, Some, None, option_map, cond, refl, sym, ap, ◌∙◌, subst, inl, inr}
-use Rattle.std.specs.Cmp.{IsTotalOrder}
-use Rattle.std.specs.FinMap.Entries.{below_all}
+use Rattle.std.proofs.Common.{◌≡◌, ◌↔◌, ℕ, true, List, ◌++◌, map, slice_get, Option, Some, None, option_map, refl, sym, ap, ◌∙◌, subst, inl, inr}
 use Rattle.std.specs.List.{find}
-use Rattle.std.specs.Ordering.{is_eq, is_lt, ordering_reverse}
-use Rattle.std.specs.declared.cmp.Ordering.{Ordering}
-use Rattle.std.specs.declared.cmp.Ordering.TheVariants.{Less, Equal, Greater}
-use Rattle.std.proofs.lemmas.Map.Lookups.{CmpEqualImpliesEq}
-use Rattle.st_lemmas.proofs.Bools.{and-true}
-use Rattle.st_ids.specs.Listing.{AreDistinct, Has, IsRising, item_of, key_pairs}
+use Rattle.st_ids.specs.Listing.{AreDistinct, Has}
 use Rattle.st_ids.specs.declared.names.CellId.{CellId}
 use Rattle.st_ids.specs.declared.names.FieldId.{FieldId}
 use Rattle.st_ids.specs.declared.names.NodeId.{NodeId}
@@ -51,45 +44,6 @@ has-up_by links d n p h = ap (option_map (λ (l : Link). l.up)) (first-distinct 
 pub one_above : (At : NodeId → Spot → Type 0) (links : List Link) → AreDistinct link_node links → ((n p : NodeId) → Has links (link p n) ↔ ((s : Spot) × At n s × (node_of s ≡ Some p)))
     → (n p : NodeId) → (up_by links n ≡ Some p) ↔ ((s : Spot) × At n s × (node_of s ≡ Some p))
 one_above At links d h n p = (λ e. (h n p).0 (up_by-has links n p e), λ s. has-up_by links d n p ((h n p).1 s))
-
--- ## Rising lists
-
-module _ {K A : Type 0} (R : K → K → Ordering) (t : IsTotalOrder R) (exact : CmpEqualImpliesEq R) (key : A → K) where
-  equal : (o : Ordering) → is_eq o ≡ true → o ≡ Equal
-  equal Less e = cc
-  equal Equal e = refl
-  equal Greater e = cc
-
-  tied : (o : Ordering) → o ≡ ordering_reverse o → is_eq o ≡ true
-  tied Less e = cc
-  tied Equal e = refl
-  tied Greater e = cc
-
-  apart : (o q : Ordering) → is_lt o ≡ true → q ≡ ordering_reverse o → is_eq q ≡ false
-  apart Less q e f = ap is_eq f
-  apart Equal q e f = cc
-  apart Greater q e f = cc
-
-  below-has : (k : K) (xs : List A) (x : A) → below_all R k (key_pairs key xs) ≡ true → Has xs x → is_lt (R k (key x)) ≡ true
-  below-has k [] x b h = absurd h
-  below-has k (y ∷ ys) x b (inl e) = subst (λ z. is_lt (R k (key z)) ≡ true) e (and-true _ _ b).0
-  below-has k (y ∷ ys) x b (inr h) = below-has k ys x (and-true _ _ b).1 h
-
-  pub has-item_of : (xs : List A) (x : A) → IsRising R key xs → Has xs x → item_of R key xs (key x) ≡ Some x
-  has-item_of [] x r h = absurd h
-  has-item_of (y ∷ ys) x r (inl e) = subst (λ z. cond (is_eq (R (key z) (key y))) (Some y) (item_of R key ys (key z)) ≡ Some z) e
-      (ap (λ b. cond b (Some y) (item_of R key ys (key y))) (tied (R (key y) (key y)) (t.antisymm (key y) (key y))))
-  has-item_of (y ∷ ys) x r (inr h) = let p = and-true _ _ r in
-      ap (λ b. cond b (Some y) (item_of R key ys (key x))) (apart (R (key y) (key x)) (R (key x) (key y)) (below-has (key y) ys x p.0 h) (t.antisymm (key x) (key y)))
-      ∙ has-item_of ys x p.1 h
-
-  pub item_of-has : (xs : List A) (k : K) (x : A) → item_of R key xs k ≡ Some x → Has xs x × (key x ≡ k)
-  item_of-has [] k x e = cc
-  item_of-has (y ∷ ys) k x e = go (is_eq (R k (key y))) refl (λ f. item_of-has ys k x f) e
-    where
-      go : (b : Bool) → is_eq (R k (key y)) ≡ b → (item_of R key ys k ≡ Some x → Has ys x × (key x ≡ k)) → cond b (Some y) (item_of R key ys k) ≡ Some x → Has (y ∷ ys) x × (key x ≡ k)
-      go true f rest g = let q : y ≡ x = cc in (inl q, ap key (sym q) ∙ sym (exact k (key y) (equal _ f)))
-      go false f rest g = let r = rest g in (inr r.0, r.1)
 
 -- ## What is shown
 

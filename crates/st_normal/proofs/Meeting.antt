@@ -4,8 +4,8 @@ use Rattle.st_ids.specs.declared.names.NodeId.{NodeId}
 use Rattle.st_ids.specs.Listing.{Has}
 use Rattle.st_ids.specs.Order.{same_node}
 use Rattle.st_ids.proofs.Orders.{same_node-true, same_node-itself}
-use Rattle.st_marks.specs.Document.{ClimbsToAnEnd}
-use Rattle.st_normal.specs.inside.Ring.{Reaches, HasRing, HaveEnded}
+use Rattle.st_marks.specs.Document.{ClimbsToAnEnd, Reaches}
+use Rattle.st_normal.specs.inside.Ring.{HasRing, HaveEnded}
 use Rattle.st_marks.proofs.Climb.{ends_above}
 use Rattle.st_normal.proofs.AboveItself.{one_step, step_more, ends_below}
 

@@ -2,13 +2,11 @@
 use Rattle.std.proofs.Common.{◌≡◌, ◌≢◌, Bool, true, false, ◌&&◌, List, [], ◌∷◌, map, Option, Some, None, option_map, is_some, is_none, cond, refl, sym, ap, ◌∙◌, subst, IsTrue, ◌↔◌}
 use Rattle.std.specs.List.{AllByRecursion, find}
 use Rattle.std.specs.Option.{option_or}
-use Rattle.std.specs.Ordering.{is_eq, ordering_reverse}
+use Rattle.std.specs.Ordering.{is_eq}
 use Rattle.st_ids.specs.Listing.{AreDistinct, Has}
 use Rattle.st_ids.specs.Order.{atom_cmp}
 use Rattle.st_ids.specs.declared.names.Atom.{Atom}
-use Rattle.st_ids.proofs.Orders.{atom_cmp_exact, atom_cmp_total, is_eq_equal}
-use Rattle.std.specs.declared.cmp.Ordering.{Ordering}
-use Rattle.std.specs.declared.cmp.Ordering.TheVariants.{Less, Equal, Greater}
+use Rattle.st_ids.proofs.Orders.{atom_cmp_exact, atom_cmp_total, is_eq_equal, self_reverse}
 use Rattle.st_ids.specs.declared.names.NodeId.{NodeId}
 use Rattle.st_ids.specs.declared.names.CellId.{CellId}
 use Rattle.st_ids.specs.declared.names.Rev.{Rev}
@@ -20,11 +18,6 @@ use Rattle.st_normal.specs.inside.Rules.{how_found}
 use Rattle.st_normal.specs.inside.Naming.{is_named}
 use Rattle.st_marks.proofs.Members.{all-has, has-all, none-has, first-has, first-distinct, map-has, has-map}
 use Rattle.st_lemmas.proofs.Bools.{true-false}
-
-self_reverse : (o : Ordering) → o ≡ ordering_reverse o → is_eq o ≡ true
-self_reverse Less e = cc
-self_reverse Equal e = refl
-self_reverse Greater e = cc
 
 pub named-name : {I : Type 0} (name : I → Atom) (a : Atom) (x : I) → is_named name a x ≡ true → name x ≡ a
 named-name name a x e = atom_cmp_exact (name x) a (is_eq_equal _ e)

@@ -1,8 +1,8 @@
 -- The rules on rings, by the links of nodes.
-use Rattle.std.proofs.Common.{◌≡◌, ◌↔◌, ◌+◌, ◌≤◌, Bool, true, false, not, ◌&&◌, List, [], ◌∷◌, ◌++◌, map, Option, Some, None, refl, sym, ap, ◌∙◌, subst, arith, inl, inr, ◌⊎◌, if◌then◌else◌, IsTrue, IfSome}
+use Rattle.std.proofs.Common.{◌≡◌, ◌↔◌, ◌+◌, ◌≤◌, Bool, true, false, not, ◌&&◌, List, [], ◌++◌, map, Option, Some, None, refl, sym, subst, arith, if◌then◌else◌, IsTrue, IfSome}
 use Rattle.std.specs.List.{filter}
 use Rattle.std.specs.Option.{option_or}
-use Rattle.st_ids.specs.Listing.{AreDistinct, Has}
+use Rattle.st_ids.specs.Listing.{Has}
 use Rattle.st_ids.specs.Order.{same_node}
 use Rattle.st_ids.specs.declared.names.FieldId.{FieldId}
 use Rattle.st_ids.specs.declared.names.NodeId.{NodeId}
@@ -27,10 +27,10 @@ use Rattle.st_marks.specs.Listings.{Places, cells_after, cells_before, held_afte
 use Rattle.st_normal.proofs.AboveItself.{no_ring-leads_up}
 use Rattle.st_normal.proofs.Counts.{times}
 use Rattle.st_normal.proofs.Linked.{link_node, one_above, says_linked}
-use Rattle.st_marks.proofs.Members.{all-has, has-all, any-has, has-any}
+use Rattle.st_marks.proofs.Members.{any-has, has-any, distinct-filter}
 use Rattle.st_normal.proofs.OnePlace.{found_node, lasting, once_before, once_after}
 use Rattle.st_normal.proofs.ShownPlaces.{before_shows, after_shows}
-use Rattle.st_ids.proofs.Shared.{filtered}
+use Rattle.st_ids.proofs.Shared.{filtered, filter-has}
 use Rattle.st_lemmas.proofs.Bools.{and-both, and-true}
 use Rattle.st_marks.proofs.Shared.{same-held}
 
@@ -102,29 +102,11 @@ after_step S r d u p q =
 pub among_has : (xs : List NodeId) (n : NodeId) → IsTrue (is_among xs n) ↔ Has xs n
 among_has xs n = (λ t. let r = any-has (λ (m : NodeId). same_node m n) xs t in subst (Has xs) (same_node-true r.0 n r.2) r.1, λ h. has-any (λ (m : NodeId). same_node m n) xs n h (same_node-itself n))
 
-pub has-filter : {A : Type 0} (p : A → Bool) (xs : List A) (x : A) → Has xs x → p x ≡ true → Has (filter p xs) x
-has-filter p [] x h e = absurd h
-has-filter p (y ∷ ys) x h e = go (p y) refl (λ i. has-filter p ys x i e) h
-  where
-    go : (b : Bool) → p y ≡ b → (Has ys x → Has (filter p ys) x) → (y ≡ x) ⊎ Has ys x → Has (if b then y ∷ filter p ys else filter p ys) x
-    go true f rest (inl q) = inl q
-    go true f rest (inr i) = inr (rest i)
-    go false f rest (inl q) = absurd (let bad : ◌≡◌ {A = Bool} false true = sym f ∙ ap p q ∙ e in cc)
-    go false f rest (inr i) = rest i
-
-filter-once : {A K : Type 0} (key : A → K) (p : A → Bool) (xs : List A) → AreDistinct key xs → AreDistinct key (filter p xs)
-filter-once key p [] d = tt
-filter-once {A} {K} key p (y ∷ ys) d = go (p y) (filter-once key p ys d.1)
-  where
-    go : (b : Bool) → AreDistinct key (filter p ys) → AreDistinct key (if b then y ∷ filter p ys else filter p ys)
-    go true r = (has-all (λ z. key z ≡ key y → ⊥) (filter p ys) (λ z i. all-has (λ z. key z ≡ key y → ⊥) ys z d.0 (filtered p ys z i).0), r)
-    go false r = r
-
 pub new_in_new : (C : Change) → ChangeIsRising C → NodesAreFoundOnce (entries_of_change C) → NodesArePutOnce (entries_of_change C) → PutNodesLeave (entries_of_change C) → NewNodesAreNotFound (entries_of_change C)
     → (HasRing (up_by (filter (are_new (nodes_new C.new)) (links_in stands_after C.rows ++ links_at (λ (r : RegMark). r.field) held_after C.regs))) → ⊥) ↔ NoRingOfNewNodes C
 new_in_new C r d u p q =
     no_ring-leads_up (IsNewInNew C) (up_by (filter (are_new new) links))
-    (one_above (IsNewInNew C) (filter (are_new new) links) (filter-once link_node (are_new new) links (once_after found_at put_at field held_after (λ r n. mark-times n r.fill r.held r.how r.clear) C.new C.rows C.regs C.loose d u p q)) same)
+    (one_above (IsNewInNew C) (filter (are_new new) links) (distinct-filter link_node (are_new new) links (once_after found_at put_at field held_after (λ r n. mark-times n r.fill r.held r.how r.clear) C.new C.rows C.regs C.loose d u p q)) same)
   where
     field : RegMark → FieldId
     field r = r.field
@@ -144,7 +126,7 @@ new_in_new C r d u p q =
           let b = and-true (is_among new n) (is_among new m) f.1 in
           let s = (shown n m).0 f.0 in
           (s.0, ((among_has new n).0 b.0, subst (λ o. IfSome o (Has new)) (sym s.2) ((among_has new m).0 b.1), s.1), s.2)),
-      λ (s, w, e). has-filter (are_new new) links (link m n) ((shown n m).1 (s, w.2, e))
+      λ (s, w, e). filter-has (are_new new) links (link m n) ((shown n m).1 (s, w.2, e))
           (and-both (is_among new n) (is_among new m) ((among_has new n).1 w.0) ((among_has new m).1 (subst (λ o. IfSome o (Has new)) e w.1))),
     )
 

@@ -14,7 +14,8 @@ use Rattle.st_normal.specs.inside.Links.{stands_after, stands_before}
 use Rattle.st_marks.specs.Row.{CellMark, Counted, Gap, Touch, Make, Fill, spread}
 use Rattle.st_marks.specs.Listings.{Listing, CellView, cell_view, cells_before, cells_after, rows_before, rows_after, registers_after, nodes_new}
 use Rattle.st_marks.specs.How.{is_leave}
-use Rattle.st_normal.proofs.Linked.{ShowsListed, has-item_of, item_of-has}
+use Rattle.st_normal.proofs.Linked.{ShowsListed}
+use Rattle.st_ids.proofs.Listings.{has-item_of, item_of-has}
 
 -- ## In one row
 

@@ -4,10 +4,8 @@ use Rattle.std.specs.List.{AllByRecursion}
 use Rattle.st_ids.specs.Order.{same_node, rev_cmp}
 use Rattle.st_ids.specs.declared.names.NodeId.{NodeId}
 use Rattle.st_ids.specs.declared.names.Rev.{Rev}
-use Rattle.std.specs.Ordering.{is_eq, ordering_reverse}
-use Rattle.std.specs.declared.cmp.Ordering.{Ordering}
-use Rattle.std.specs.declared.cmp.Ordering.TheVariants.{Less, Equal, Greater}
-use Rattle.st_ids.proofs.Orders.{same_node-true, same_node-itself, rev_cmp_exact, rev_cmp_total, is_eq_equal}
+use Rattle.std.specs.Ordering.{is_eq}
+use Rattle.st_ids.proofs.Orders.{same_node-true, same_node-itself, rev_cmp_exact, rev_cmp_total, is_eq_equal, self_reverse}
 use Rattle.st_normal.specs.declared.entries.Found.{Found}
 use Rattle.st_normal.specs.Rules.{staying}
 use Rattle.st_marks.specs.How.{is_stay}
@@ -34,13 +32,8 @@ pub no_cells : (xs : List CellView) → length xs ≡ 0 → xs ≡ []
 no_cells [] e = refl
 no_cells (x ∷ xs) e = cc
 
-tied : (o : Ordering) → o ≡ ordering_reverse o → is_eq o ≡ true
-tied Less e = cc
-tied Equal e = refl
-tied Greater e = cc
-
 pub rev_same : (a b : Rev) → IsTrue (is_eq (rev_cmp a b)) ↔ (a ≡ b)
-rev_same a b = (λ e. rev_cmp_exact a b (is_eq_equal _ e), λ e. subst (λ c. is_eq (rev_cmp a c) ≡ true) e (tied (rev_cmp a a) (rev_cmp_total.antisymm a a)))
+rev_same a b = (λ e. rev_cmp_exact a b (is_eq_equal _ e), λ e. subst (λ c. is_eq (rev_cmp a c) ≡ true) e (self_reverse (rev_cmp a a) (rev_cmp_total.antisymm a a)))
 
 -- of those that stay
 pub all_staying : (P : NodeId → Type 0) (fs : List Found) → AllByRecursion (λ f. IsTrue (is_stay f.how) → P f.node) fs ↔ AllByRecursion P (staying fs)

@@ -29,7 +29,7 @@ use Rattle.st_marks.specs.How.{is_here}
 use Rattle.st_normal.specs.Rules.{IsFound, Entries, found_at, found_in, found_loose, in_rows, entries_of_change}
 use Rattle.st_marks.specs.Listings.{cells_before, cells_made, nodes_new}
 use Rattle.st_marks.proofs.Climb.{above_known, shown}
-use Rattle.st_normal.proofs.Linked.{has-item_of, item_of-has}
+use Rattle.st_ids.proofs.Listings.{has-item_of, item_of-has}
 use Rattle.st_marks.proofs.Lookups.{group_at-group, made_there}
 use Rattle.st_marks.proofs.Members.{append_left, append_right, map-has, has-map, flat_map-has, has-flat_map, has-any}
 use Rattle.st_seq.specs.Laws.{spread-merge}

@@ -30,7 +30,7 @@ use Rattle.st_marks.specs.How.{is_here}
 use Rattle.st_normal.specs.Rules.{IsFound, Entries, found_at, found_held, found_in, found_loose, in_rows, entries_of_change, FieldsAreFound, NodesAreFoundOnce, fields_of}
 use Rattle.st_marks.specs.Listings.{cells_before}
 use Rattle.st_marks.proofs.Climb.{climb_more, stands}
-use Rattle.st_normal.proofs.Linked.{item_of-has}
+use Rattle.st_ids.proofs.Listings.{item_of-has}
 use Rattle.st_marks.proofs.Lookups.{group_at-group, put-has, clears-has}
 use Rattle.st_marks.proofs.Members.{all-has, append_left, append_right, has-append, map-has, has-map, has-flat_map, distinct-append, has-all, has-filter_map}
 use Rattle.st_normal_laws.specs.Told.{AreAsSeen}

@@ -28,7 +28,7 @@ use Rattle.st_marks.specs.How.{is_here}
 use Rattle.st_marks.proofs.Lookups.{group_found, has-put_in, put-has, put_clears}
 use Rattle.st_marks.proofs.Members.{all-has, append_left, append_right, flat_map-has, has-all, has-flat_map, map-has}
 use Rattle.st_normal.specs.Rules.{Entries, LooseNodesArePut, incoming, in_rows, entries_of_change, put_at}
-use Rattle.st_normal.proofs.Linked.{item_of-has}
+use Rattle.st_ids.proofs.Listings.{item_of-has}
 use Rattle.st_normal_laws.proofs.Basics.{is-one, register-not-nowhere}
 use Rattle.st_normal_laws.proofs.Easy.{embedding_over, loose-look, row-listed}
 use Rattle.st_normal_laws.proofs.EasyStaying.{loose-how}

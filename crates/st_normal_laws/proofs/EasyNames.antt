@@ -31,7 +31,7 @@ use Rattle.st_marks.proofs.Lookups.{group_at-group}
 use Rattle.st_marks.proofs.Members.{all-has, append_left, first-has, flat_map-has, has-all, has-flat_map, has-map, map-has}
 use Rattle.st_normal.specs.declared.entries.Found.{Found}
 use Rattle.st_normal.specs.Rules.{FilledCellsAreOld, HolesHaveMovers, IsFoundAs, Entries, NewNamesHaveItsRevision, RowsAreShort, fill_owners, hole_owners, in_rows, entries_of_change}
-use Rattle.st_normal.proofs.Linked.{has-item_of}
+use Rattle.st_ids.proofs.Listings.{has-item_of}
 use Rattle.st_normal_laws.specs.Meant.{IsOver}
 use Rattle.st_normal_laws.specs.Told.{IsAsSeen}
 use Rattle.st_normal_laws.proofs.Easy.{embedding_over, loose-look, mentioned-found, row-look, row-makes}

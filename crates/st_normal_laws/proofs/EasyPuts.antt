@@ -31,7 +31,8 @@ use Rattle.st_normal_laws.specs.Meant.{IsOver}
 use Rattle.st_marks.specs.declared.intents.Put.{Put}
 use Rattle.st_normal_laws.proofs.FoundPlaces.{PlacedAs, as_row, as_held, as_loose, found_placed}
 use Rattle.st_normal_laws.proofs.Easy.{embedding_over, mentioned-found, row-look, loose-is, loose-look, parts}
-use Rattle.st_normal_laws.proofs.Puts.{is_here-put, same_to-true}
+use Rattle.st_normal_laws.proofs.Puts.{is_here-put}
+use Rattle.st_marks.proofs.Shared.{same_to-true}
 use Rattle.st_marks.specs.declared.marks.How.TheVariants.{Here, Leave}
 use Rattle.st_normal_laws.proofs.EasyFound.{has-new}
 use Rattle.st_normal_laws.proofs.EasyRegisters.{fill-put, how_is}

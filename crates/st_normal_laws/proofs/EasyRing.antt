@@ -18,7 +18,7 @@ use Rattle.st_marks.specs.declared.places.Slot.{Slot}
 use Rattle.st_marks.specs.declared.places.Spot.{Spot}
 use Rattle.st_marks.specs.Agree.{LeadsUp}
 use Rattle.st_marks.specs.Agree.LeadsUp.{one_up, further_up}
-use Rattle.st_marks.specs.Document.{Document, IsSoundInForm, content, node_of, slot}
+use Rattle.st_marks.specs.Document.{Document, IsSoundInForm, content, node_of, slot, Reaches}
 use Rattle.st_marks.specs.Embedding.{IsEmbedding, is_among, row_part}
 use Rattle.st_marks.specs.Intent.{Fits, above_new, group_at, is_new, new_row_of, put_of, put_under}
 use Rattle.st_marks.specs.Row.{CellMark, Counted, Gap, Touch, Make, Fill, spread}
@@ -27,10 +27,9 @@ use Rattle.st_marks.specs.How.{is_leave}
 use Rattle.st_marks.proofs.Lookups.{group_at-group, has-put, new_row_of-group, put_in-has}
 use Rattle.st_marks.proofs.Members.{has-map}
 use Rattle.st_normal.specs.inside.Links.{stands_after}
-use Rattle.st_normal.specs.inside.Ring.{Reaches}
 use Rattle.st_normal.specs.Rules.{IsNewInNew, NoRingOfNewNodes, incoming}
 use Rattle.st_normal.proofs.AboveItself.{never_ends, one_step, step_before}
-use Rattle.st_normal.proofs.Linked.{item_of-has}
+use Rattle.st_ids.proofs.Listings.{item_of-has}
 use Rattle.st_normal.proofs.ShownPlaces.{after_stands}
 use Rattle.st_normal_laws.specs.Meant.{IsOver}
 use Rattle.st_normal_laws.proofs.Easy.{embedding_over, new-is, row-look}

@@ -14,14 +14,14 @@ use Rattle.st_marks.specs.declared.marks.How.{How}
 use Rattle.st_marks.specs.declared.marks.RegMark.{RegMark}
 use Rattle.st_marks.specs.declared.marks.RowMarks.{RowMarks}
 use Rattle.st_marks.specs.declared.places.Spot.{Spot}
-use Rattle.st_marks.specs.Document.{Document, IsSoundInForm, above, content, node_of, first_of, revs}
+use Rattle.st_marks.specs.Document.{Document, IsSoundInForm, above, content, node_of, first_of, revs, Reaches}
 use Rattle.st_ids.specs.Root.{root, opening}
 use Rattle.st_marks.specs.Embedding.{IsEmbedding, row_marks, row_part, tells, is_among}
 use Rattle.st_marks.specs.Intent.{Fits, cell_of}
 use Rattle.st_marks.specs.Row.{CellMark, Counted, Gap, Touch, Make, Fill, embed_row, merge, spread}
 use Rattle.st_normal.specs.Rules.{IsFound, Entries, entries_of_change, ChangeIsRising, MarksAreMerged, NeededNodesAreFound, NewNodesAreNotFound, NewRegistersAreEmpty, NoRingBeforeChange, OpeningIsBase, RowsTell}
 use Rattle.st_marks.specs.Listings.{cells_before, nodes_new, Places, placed_in_row, placed_in_register, placed_nowhere, CellView, cell_view, listing_before_change}
-use Rattle.st_normal.proofs.Linked.{has-item_of, item_of-has}
+use Rattle.st_ids.proofs.Listings.{has-item_of, item_of-has}
 use Rattle.st_marks.proofs.Members.{all-has, append_left, append_right, has-all}
 use Rattle.st_normal_laws.specs.Meant.{IsOver}
 use Rattle.st_marks.specs.declared.intents.Put.{Put}
@@ -29,7 +29,6 @@ use Rattle.st_normal_laws.proofs.FoundPlaces.{held_place, touch_place, found_the
 use Rattle.st_normal_laws.proofs.Easy.{embedding_over, mentioned-found, row-look, row-told}
 use Rattle.st_marks.specs.Agree.{LeadsUp}
 use Rattle.st_marks.specs.Agree.LeadsUp.{one_up, further_up}
-use Rattle.st_normal.specs.inside.Ring.{Reaches}
 use Rattle.st_marks.specs.Verdict.{HasBase}
 use Rattle.st_normal.proofs.AboveItself.{never_ends, one_step, step_before}
 use Rattle.st_normal.proofs.NoRings.{among_has}

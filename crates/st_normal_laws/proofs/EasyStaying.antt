@@ -28,7 +28,7 @@ use Rattle.st_marks.specs.Row.{CellMark, Counted, Gap, Touch, Fill, RowPart, emb
 use Rattle.st_marks.specs.How.{is_here, is_stay}
 use Rattle.st_normal.specs.Rules.{Entries, found_held, found_in, found_loose, in_rows, entries_of_change, HasListedField, StayingNodesAreMentioned, kept_at, staying}
 use Rattle.st_marks.proofs.Climb.{stands}
-use Rattle.st_normal.proofs.Linked.{item_of-has}
+use Rattle.st_ids.proofs.Listings.{item_of-has}
 use Rattle.st_marks.proofs.Lookups.{made_there, group_found, has-put}
 use Rattle.st_marks.proofs.Members.{all-has, append_left, append_right, has-append, map-has, has-map, has-flat_map, has-any, has-all}
 use Rattle.st_marks.specs.declared.intents.Put.{Put}

@@ -27,14 +27,15 @@ use Rattle.st_marks.specs.How.{is_here, is_stay, is_leave}
 use Rattle.st_normal.specs.Rules.{IsFound, IsFoundAs, HasListedField, Entries, ObeysDataRules, fields_of, found_at, found_held, found_in, found_loose, in_rows, incoming, kept_at, entries_of_change, put_at, staying}
 use Rattle.st_marks.specs.Listings.{nodes_new, one_or_none}
 use Rattle.st_marks.proofs.Climb.{above_known, climb_more}
-use Rattle.st_normal.proofs.NoRings.{among_has, has-filter}
+use Rattle.st_normal.proofs.NoRings.{among_has}
+use Rattle.st_ids.proofs.Shared.{filter-has, filter-from, filtered}
 use Rattle.st_marks.proofs.Members.{all-has, append_left, append_right, has-append, map-has, has-map, flat_map-has, has-flat_map, any-has, has-filter_map}
 use Rattle.st_normal_laws.specs.Mentions.{mentions, moving}
 use Rattle.st_normal_laws.specs.Meant.{IsOver, cleared_at, nodes_gone, group_of, groups_along, groups_of, leaving, loose_puts, made_first, meant, put_to, reg_puts, row_puts, along, Along}
 use Rattle.st_normal_laws.proofs.FoundPlaces.{PlacedAs, as_row, as_held, as_loose, touched, filled, has-found_in, is-found_held, found_placed, found_there, found_above, touch_place, held_place}
-use Rattle.st_normal_laws.proofs.Mentioned.{moving-has, has-moving, has-staying, has-leaving, leaving-has, row_put-has, here-put, fill-put, incoming-put, make-incoming, fill-incoming, row_made}
+use Rattle.st_normal_laws.proofs.Mentioned.{moving-has, has-moving, has-staying, has-leaving, leaving-has, row_put-has, here-put, fill-put, incoming-put, row_made}
+use Rattle.st_normal_laws.proofs.StepRows.{make-incoming, fill-incoming}
 use Rattle.st_normal_laws.proofs.Basics.{is-one, not-false, not-true, one-is}
-use Rattle.st_ids.proofs.Shared.{filter-from, filtered}
 use Rattle.st_lemmas.proofs.Bools.{true-false, and-both, and-true, or-cases, or-left, or-right}
 
 -- a climb that ends is longer than one that doesn't
@@ -138,7 +139,7 @@ module _ (D : Document) (C : Change) (x : IsSoundInForm D) (w : ObeysDataRules C
         where
           decide : (b : Bool) → is_among L.put f.node ≡ b → (t : To) × Has N.put (put_to f.node t)
           decide true q = put-list f.node ((among_has L.put f.node).0 q)
-          decide false q = (To.Nowhere, put-gone f.node (has-filter (λ n. not (is_among L.put n)) (leaving L.found) f.node (has-leaving L.found f i (ap is_leave leave)) (ap not q)))
+          decide false q = (To.Nowhere, put-gone f.node (filter-has (λ n. not (is_among L.put n)) (leaving L.found) f.node (has-leaving L.found f i (ap is_leave leave)) (ap not q)))
 
   leaves-or-new : (n : NodeId) → Has L.put n → Has (nodes_new C.new) n ⊎ Has (moving L.found) n
   leaves-or-new n h = elim (all-has (λ (n : NodeId). Has L.new n ⊎ IsFoundAs L n Leave) L.put n w.common.put_leave h) [

@@ -32,7 +32,7 @@ use Rattle.st_marks.specs.How.{is_here, is_leave}
 use Rattle.st_normal.specs.Rules.{IsFound, IsNewInNew, Entries, ObeysDataRules, fields_of, found_at, found_in, found_loose, in_rows, entries_of_change}
 use Rattle.st_marks.specs.Listings.{Places, placed_in_row, placed_in_register, cells_after, cells_made, held_after, nodes_new, one_or_none, listing_after_change, registers_after}
 use Rattle.st_normal.proofs.AboveItself.{no_ring-leads_up, too_long}
-use Rattle.st_normal.proofs.Linked.{has-item_of}
+use Rattle.st_ids.proofs.Listings.{has-item_of}
 use Rattle.st_marks.proofs.Lookups.{put-has, group-new_row_of}
 use Rattle.st_marks.proofs.Members.{all-has, has-all, append_left, append_right, has-append, map-has, has-map, flat_map-has, has-flat_map, any-has, has-any, distinct-has}
 use Rattle.st_normal.proofs.ShownPlaces.{stands-after}

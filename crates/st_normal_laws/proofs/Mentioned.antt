@@ -127,32 +127,6 @@ incoming-put (Make d m false ∷ ms) n i = incoming-put ms n i
 incoming-put (Fill d m ∷ ms) n (inl q) = (d, inl (ap (λ m. put_to m (To.Cell d)) q))
 incoming-put (Fill d m ∷ ms) n (inr i) = let r = incoming-put ms n i in (r.0, inr r.1)
 
-pub make-incoming : (ms : List CellMark) (c : CellId) (n : NodeId) → Has ms (Make c n true) → Has (incoming ms) n
-make-incoming [] c n i = absurd i
-make-incoming (Counted ∷ ms) c n (inl q) = cc
-make-incoming (Counted ∷ ms) c n (inr i) = make-incoming ms c n i
-make-incoming (Gap d ∷ ms) c n (inl q) = cc
-make-incoming (Gap d ∷ ms) c n (inr i) = make-incoming ms c n i
-make-incoming (Touch d m h ∷ ms) c n (inl q) = cc
-make-incoming (Touch d m h ∷ ms) c n (inr i) = make-incoming ms c n i
-make-incoming (Make d m b ∷ ms) c n (inl q) = let a : m ≡ n = cc in let e : b ≡ true = cc in subst (λ b. Has (cond b (m ∷ []) [] ++ incoming ms) n) (sym e) (inl a)
-make-incoming (Make d m b ∷ ms) c n (inr i) = elim b as (λ b. Has (cond b (m ∷ []) [] ++ incoming ms) n) [ true ↦ inr (make-incoming ms c n i) | false ↦ make-incoming ms c n i ]
-make-incoming (Fill d m ∷ ms) c n (inl q) = cc
-make-incoming (Fill d m ∷ ms) c n (inr i) = inr (make-incoming ms c n i)
-
-pub fill-incoming : (ms : List CellMark) (c : CellId) (n : NodeId) → Has ms (Fill c n) → Has (incoming ms) n
-fill-incoming [] c n i = absurd i
-fill-incoming (Counted ∷ ms) c n (inl q) = cc
-fill-incoming (Counted ∷ ms) c n (inr i) = fill-incoming ms c n i
-fill-incoming (Gap d ∷ ms) c n (inl q) = cc
-fill-incoming (Gap d ∷ ms) c n (inr i) = fill-incoming ms c n i
-fill-incoming (Touch d m h ∷ ms) c n (inl q) = cc
-fill-incoming (Touch d m h ∷ ms) c n (inr i) = fill-incoming ms c n i
-fill-incoming (Make d m b ∷ ms) c n (inl q) = cc
-fill-incoming (Make d m b ∷ ms) c n (inr i) = elim b as (λ b. Has (cond b (m ∷ []) [] ++ incoming ms) n) [ true ↦ inr (fill-incoming ms c n i) | false ↦ fill-incoming ms c n i ]
-fill-incoming (Fill d m ∷ ms) c n (inl q) = let a : m ≡ n = cc in inl a
-fill-incoming (Fill d m ∷ ms) c n (inr i) = inr (fill-incoming ms c n i)
-
 -- a row that makes a cell has a group
 next_made : (n : NodeId) (s : Slot) (c : List Slot) (ms : List CellMark) (d : CellId) (m : NodeId) → (Has (made_first ms) (owned_cell d m) ⊎ ((g : Group) × Has (groups_along n (along c ms)) g × (g.node ≡ n) × Has g.cells (owned_cell d m)))
     → (g : Group) × Has (group_of n (Some s.cell) (made_first ms) ++ groups_along n (along c ms)) g × (g.node ≡ n) × Has g.cells (owned_cell d m)

@@ -24,7 +24,7 @@ use Rattle.st_marks.specs.Intent.{Fits}
 use Rattle.st_marks.specs.Row.{CellMark, Counted, Gap, Touch, Make, Fill, spread}
 use Rattle.st_normal.specs.Rules.{IsFound, Entries, ObeysDataRules, fields_of, found_at, found_held, found_in, found_loose, in_rows, entries_of_change, fill_owners}
 use Rattle.st_marks.specs.Listings.{CellView, Places, placed_in_row, placed_in_register, cells_after, cells_before, cells_in, cells_made, nodes_new, one_or_none, nodes_standing, listing_before_change}
-use Rattle.st_normal.proofs.Linked.{has-item_of}
+use Rattle.st_ids.proofs.Listings.{has-item_of}
 use Rattle.st_marks.proofs.Members.{all-has, has-all, append_left, append_right, has-append, map-has, has-map, flat_map-has, has-flat_map, distinct-left, distinct-between, list_distinct, one_list}
 use Rattle.st_normal_laws.specs.Meant.{IsOver, meant}
 use Rattle.st_normal_laws.proofs.Groups.{distinct-flat}

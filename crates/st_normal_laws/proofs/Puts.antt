@@ -3,7 +3,7 @@ use Rattle.std.proofs.Common.{◌≡◌, ◌≢◌, ◌≤◌, ◌+◌, ◌++◌
 use Rattle.std.specs.List.{filter, filter_map, flat_map}
 use Rattle.st_ids.specs.Listing.{AreDistinct, Has}
 use Rattle.st_ids.specs.Order.{same_node}
-use Rattle.st_ids.proofs.Orders.{same_cell-true, same_cell-itself, same_field-true, same_field-itself, same_node-true, same_node-itself}
+use Rattle.st_ids.proofs.Orders.{same_node-true, same_node-itself}
 use Rattle.st_ids.specs.declared.names.CellId.{CellId}
 use Rattle.st_ids.specs.declared.names.FieldId.{FieldId}
 use Rattle.st_ids.specs.declared.names.NodeId.{NodeId}
@@ -33,6 +33,7 @@ use Rattle.st_normal_laws.proofs.Exact.{put-cases}
 use Rattle.st_ids.proofs.Shared.{filtered}
 use Rattle.st_normal.proofs.OnePlace.{map-all}
 use Rattle.st_lemmas.proofs.Lists.{map-append}
+use Rattle.st_marks.proofs.Shared.{same_to-true, same_to-itself}
 
 abbrev put_node : Put → NodeId
 put_node p = p.node
@@ -123,22 +124,6 @@ here-only (Some u) t e = (u, refl, go (same_to u t) e)
     go : (b : Bool) → is_here (cond b Here Leave) ≡ true → b ≡ true
     go true e = refl
     go false e = cc
-
-pub same_to-true : (t u : To) → same_to t u ≡ true → t ≡ u
-same_to-true To.Nowhere To.Nowhere e = refl
-same_to-true To.Nowhere (To.Cell d) e = cc
-same_to-true To.Nowhere (To.Register g) e = cc
-same_to-true (To.Cell c) To.Nowhere e = cc
-same_to-true (To.Cell c) (To.Cell d) e = ap (λ c. To.Cell c) (same_cell-true c d e)
-same_to-true (To.Cell c) (To.Register g) e = cc
-same_to-true (To.Register f) To.Nowhere e = cc
-same_to-true (To.Register f) (To.Cell d) e = cc
-same_to-true (To.Register f) (To.Register g) e = ap (λ f. To.Register f) (same_field-true f g e)
-
-pub same_to-itself : (t : To) → same_to t t ≡ true
-same_to-itself To.Nowhere = refl
-same_to-itself (To.Cell c) = same_cell-itself c
-same_to-itself (To.Register f) = same_field-itself f
 
 -- who is set there is put there
 pub is_here-put : (o : Option To) (t : To) → is_here (how o t) ≡ true → o ≡ Some t

@@ -29,6 +29,7 @@ use Rattle.st_normal_laws.specs.inside.One.{entry}
 use Rattle.st_normal_laws.proofs.LaidSound.{laid_sound}
 use Rattle.st_normal_laws.proofs.OneSeed.{data_normal}
 use Rattle.st_lemmas.proofs.Bools.{true-false}
+use Rattle.st_lemmas.proofs.Options.{one_some}
 
 -- a revision that is neither the opening's nor this one
 abbrev other : Rev → Rev
@@ -45,9 +46,6 @@ entries true true rev under = entry opening ∷ []
 entries true false rev under = entry opening ∷ entry under ∷ []
 entries false true rev under = entry opening ∷ entry (other rev) ∷ []
 entries false false rev under = entry opening ∷ []
-
-some-rev : {a b : Rev} → ◌≡◌ {A = Option Rev} (Some a) (Some b) → a ≡ b
-some-rev q = cc
 
 module _ (C : Change) (w : ObeysSchemaRules C) (text : List ℕ) (e : C.schema ≡ Some text) where
   abbrev here : List SchemaEntry
@@ -80,8 +78,8 @@ module _ (C : Change) (w : ObeysSchemaRules C) (text : List ℕ) (e : C.schema �
       go : (b c : Bool) → same_rev C.under opening ≡ c → IsTrue b ↔ HasBase (entries b c C.rev C.under) (Some text) C.under
       go true true f = (λ t. ap (λ r. Some r) (sym (same_rev-true C.under opening f)), λ h. refl)
       go true false f = (λ t. refl, λ h. refl)
-      go false true f = (λ t. cc, λ h. absurd (other-opening C.rev (some-rev h ∙ same_rev-true C.under opening f)))
-      go false false f = (λ t. cc, λ h. absurd (true-false (ap (λ r. same_rev r opening) (sym (some-rev h)) ∙ same_rev-itself opening) f))
+      go false true f = (λ t. cc, λ h. absurd (other-opening C.rev (one_some _ _ h ∙ same_rev-true C.under opening f)))
+      go false false f = (λ t. cc, λ h. absurd (true-false (ap (λ r. same_rev r opening) (sym (one_some _ _ h)) ∙ same_rev-itself opening) f))
 
   layout : IsLayout L
   layout = record {

@@ -30,8 +30,9 @@ use Rattle.st_marks.specs.How.{is_here}
 use Rattle.st_marks.specs.Verdict.{HasBase}
 use Rattle.st_marks.proofs.Members.{all-has}
 use Rattle.st_normal.specs.Rules.{ObeysChangeRules, ObeysDataRules, ObeysSchemaRules}
-use Rattle.st_normal.proofs.Linked.{has-item_of}
+use Rattle.st_ids.proofs.Listings.{has-item_of}
 use Rattle.st_normal_laws.proofs.DataRules.{embedding_obeys}
+use Rattle.st_lemmas.proofs.Options.{one_some}
 
 -- ## Nothing is listed
 
@@ -62,17 +63,14 @@ module _ (p : RowPart) (made : (a : Option CellId) → p.new_cells a ≡ []) (ta
 
 -- ## Entries
 
-some-rev : {a b : Rev} → ◌≡◌ {A = Option Rev} (Some a) (Some b) → a ≡ b
-some-rev q = cc
-
 -- the last entry, or else what stands in for it
 pub last-entry : (d : Option Rev) (es : List SchemaEntry) (r : Rev) → last_or d (revs es) ≡ Some r → ((e : SchemaEntry) × Has es e × (e.rev ≡ r)) ⊎ (d ≡ Some r)
 last-entry d [] r q = inr q
-last-entry d (x ∷ es) r q = elim (last-entry (Some x.rev) es r q) [ inl w ↦ inl (w.0, inr w.1, w.2) | inr e ↦ inl (x, inl refl, some-rev e) ]
+last-entry d (x ∷ es) r q = elim (last-entry (Some x.rev) es r q) [ inl w ↦ inl (w.0, inr w.1, w.2) | inr e ↦ inl (x, inl refl, one_some _ _ e) ]
 
 first-entry : (es : List SchemaEntry) (r : Rev) → first_of (revs es) ≡ Some r → (e : SchemaEntry) × Has es e × (e.rev ≡ r)
 first-entry [] r q = absurd (none-some q)
-first-entry (x ∷ es) r q = (x, inl refl, some-rev q)
+first-entry (x ∷ es) r q = (x, inl refl, one_some _ _ q)
 
 module _ (D : Document) (N : Intent) (C : Change) (x : IsSoundInForm D) (f : Fits D N) (emb : IsEmbedding D N C) (text : List ℕ) (s : N.schema ≡ Some text) where
   abbrev m : NodeId → Bool

@@ -28,7 +28,7 @@ use Rattle.st_marks.specs.Row.{CellMark, Counted, Gap, Touch, Make, Fill, spread
 use Rattle.st_marks.specs.How.{is_here, is_stay}
 use Rattle.st_normal.specs.Rules.{IsFound, Entries, ObeysDataRules, found_held, found_in, found_loose, in_rows, entries_of_change, HasListedField, kept_at, staying}
 use Rattle.st_marks.specs.Listings.{cells_after, cells_before, one_or_none}
-use Rattle.st_normal.proofs.Linked.{has-item_of, item_of-has}
+use Rattle.st_ids.proofs.Listings.{has-item_of, item_of-has}
 use Rattle.st_marks.proofs.Lookups.{put-has, has-put_in, put_in-has}
 use Rattle.st_marks.proofs.Members.{all-has, append_left, append_right, has-append, map-has, has-map, flat_map-has, first-has, distinct-has, first-distinct}
 use Rattle.st_normal_laws.specs.Meant.{Along, IsOver, along, leaving, meant, put_to}
@@ -36,7 +36,8 @@ use Rattle.st_normal_laws.proofs.FoundPlaces.{touched, filled, found_there, Plac
 use Rattle.st_normal_laws.specs.Mentions.{moving, mentions}
 use Rattle.st_normal_laws.proofs.Mentioned.{moving-has, row_put-has, here-put, fill-put, has-moving, has-staying}
 use Rattle.st_normal_laws.proofs.Exact.{put-cases, put-moved, moved-put, mentions-exact, mentions-found, listed-field, listed-moved, stay-leave, found-row, found-reg, found-loose, is-found, put-reg, put-loose}
-use Rattle.st_normal_laws.proofs.Puts.{put-is, cell-put, one_mark, is_here-put, put-is_here, same_to-true}
+use Rattle.st_normal_laws.proofs.Puts.{put-is, cell-put, one_mark, is_here-put, put-is_here}
+use Rattle.st_marks.proofs.Shared.{same_to-true}
 use Rattle.st_normal_laws.proofs.Groups.{along-has, IsMarkOf, AreMade, row_along, has-along, ts_once, at-start, at-cell, no-row, same_row}
 use Rattle.st_normal_laws.proofs.MeantFits.{rows_once, regs_once, new_once, found-old, make-put, put-row, made-new}
 use Rattle.st_marks.specs.CarryOut.{full, with_groups}

@@ -29,7 +29,7 @@ use Rattle.st_marks.proofs.Climb.{climb_more, placed_known, same_spot, shown, st
 use Rattle.st_marks.proofs.Members.{append_left, append_right, flat_map-has, has-any, has-append, has-flat_map, has-map, map-has}
 use Rattle.st_normal.specs.declared.entries.Found.{Found}
 use Rattle.st_normal.specs.Rules.{IsFound, IsFoundAs, Entries, found_held, found_in, found_loose, found_over, how_over, in_rows, incoming, entries_of_step, put_over}
-use Rattle.st_normal.proofs.Linked.{has-item_of, item_of-has}
+use Rattle.st_ids.proofs.Listings.{has-item_of, item_of-has}
 use Rattle.st_normal_laws.proofs.Basics.{is-one, one-is, register-not-nowhere, row-not-nowhere}
 use Rattle.st_normal_laws.proofs.Easy.{climb-known, row-told}
 use Rattle.st_normal_laws.proofs.FoundPlaces.{found_held-is, found_in-has, has-found_in, is-found_held}
@@ -37,25 +37,16 @@ use Rattle.st_normal_laws.proofs.StepRows.{IsKept, StandsOnce, after-mark, cell_
 use Rattle.st_seq.specs.Laws.{spread-merge}
 use Rattle.st_seq.proofs.Documents.{can_hold, is_slot}
 use Rattle.st_lemmas.proofs.Bools.{and-true, or-left, or-right}
+use Rattle.st_marks.proofs.Shared.{same-held, held-same}
 
 -- ## Registers
-
-same-both : (a b : Option NodeId) → same_option same_node a b ≡ true → a ≡ b
-same-both None None e = refl
-same-both None (Some y) e = cc
-same-both (Some x) None e = cc
-same-both (Some x) (Some y) e = ap (λ n. Some n) (same_node-true x y e)
-
-both-same : (a b : Option NodeId) → a ≡ b → same_option same_node a b ≡ true
-both-same None b e = subst (λ o. same_option same_node None o ≡ true) e refl
-both-same (Some x) b e = subst (λ o. same_option same_node (Some x) o ≡ true) e (same_node-itself x)
 
 pub one-or-other : (a b : Option NodeId) → ((a ≡ b) × (same_option same_node a b ≡ true)) ⊎ ((a ≢ b) × (same_option same_node a b ≡ false))
 one-or-other a b = go (same_option same_node a b) refl
   where
     go : (z : Bool) → same_option same_node a b ≡ z → ((a ≡ b) × (same_option same_node a b ≡ true)) ⊎ ((a ≢ b) × (same_option same_node a b ≡ false))
-    go true e = inl (same-both a b e, e)
-    go false e = inr (λ q. (let bad : ◌≡◌ {A = Bool} true false = sym (both-same a b q) ∙ e in cc), e)
+    go true e = inl (same-held a b e, e)
+    go false e = inr (λ q. (let bad : ◌≡◌ {A = Bool} true false = sym (held-same a b q) ∙ e in cc), e)
 
 pub same-row : {n k : NodeId} {d e : CellId} → Spot.Row n d ≡ Spot.Row k e → (n ≡ k) × (d ≡ e)
 same-row {n} {k} {d} {e} s = let q : n ≡ k = cc in let r : d ≡ e = cc in (q, r)

@@ -24,7 +24,7 @@ use Rattle.st_marks.specs.declared.schemas.SchemaStep.{SchemaStep}
 use Rattle.st_marks.specs.declared.steps.Step.{Step}
 use Rattle.st_marks.specs.Agree.{LeadsUp}
 use Rattle.st_marks.specs.Agree.LeadsUp.{one_up, further_up}
-use Rattle.st_marks.specs.Document.{Document, IsSoundInForm, NodeType, above, climb, content, first_of, last_of, node_of, revs, slot}
+use Rattle.st_marks.specs.Document.{Document, IsSoundInForm, NodeType, above, climb, content, first_of, last_of, node_of, revs, slot, Reaches}
 use Rattle.st_ids.specs.Root.{opening, root}
 use Rattle.st_marks.specs.Embedding.{is_among, tells}
 use Rattle.st_marks.specs.Extends.{GainsItems, IsExtendedBy, no_more, item_gained, item_kept}
@@ -36,12 +36,11 @@ use Rattle.st_marks.specs.Step.{IsChanged, IsSchemaStep, IsStep, gained_node}
 use Rattle.st_marks.proofs.Members.{append_left, append_right, distinct-append, distinct-between, distinct-right, has-all, has-any, has-append, has-flat_map, has-map, map-has}
 use Rattle.st_marks.proofs.Climb.{placed_known, stands}
 use Rattle.st_marks.proofs.Later.{node_later}
-use Rattle.st_normal.specs.inside.Ring.{Reaches}
 use Rattle.st_normal.specs.declared.entries.Found.{Found}
 use Rattle.st_normal.specs.Rules.{AreEntriesBehind, CellsAreOnce, FieldsAreFound, FilledCellsAreOld, HasListedField, IsFound, IsFoundAs, KeysAreThere, Entries, LooseNodesArePut, MarksAreMerged, NewNodesAreNotFound, NewRegistersAreEmptyBefore, NewRowsAreMade, NoRingOverStep, NodesAreFoundOnce, NodesArePutOnce, NothingIsSetHere, ObeysStepRules, PutNodesLeave, RegistersTellOver, RootStays, RowsAreShort, RowsTell, SchemaStepFits, StayingNodesLeadOn, StepIsRising, fields_of, fill_owners, found_in, found_loose, found_over, in_rows, incoming, entries_of_step, put_over, staying}
 use Rattle.st_marks.specs.How.{is_stay}
 use Rattle.st_normal.proofs.AboveItself.{never_ends, one_step, step_before}
-use Rattle.st_normal.proofs.Linked.{has-item_of, item_of-has}
+use Rattle.st_ids.proofs.Listings.{has-item_of, item_of-has}
 use Rattle.st_normal_laws.specs.Told.{AreAsSeen, IsAsSeen}
 use Rattle.st_normal_laws.proofs.Basics.{register-not-nowhere, row-not-nowhere}
 use Rattle.st_normal_laws.proofs.EasyFound.{held-alone, loose-once, touched-once}

@@ -23,8 +23,7 @@ use Rattle.st_normal_laws.specs.inside.Two.{keys}
 use Rattle.st_normal_laws.proofs.SeedSound.{seed_row, seed_held}
 use Rattle.st_normal_laws.proofs.TwoFound.{Either, both-named, cells_joined, keys_once_together, nodes_joined, no_ring_together, rows_once_together}
 use Rattle.st_normal_laws.proofs.Basics.{is-one, not-true, one-is}
-use Rattle.st_ids.proofs.Shared.{filtered}
-use Rattle.st_normal.proofs.NoRings.{has-filter}
+use Rattle.st_ids.proofs.Shared.{filtered, filter-has}
 use Rattle.st_lemmas.proofs.Lists.{flat_map-same}
 
 nodes-keys : (xs : List CellView) → nodes_standing xs ≡ keys node_key xs
@@ -276,7 +275,7 @@ module _ (F : ℕ) (A B : Finds) (a : CanBeFound F A) (b : CanBeFound F B) (g : 
       cells-are n e = ap (λ o. option_map_or (λ (r : FoundRow). r.cells) o []) (Rattle.st_marks.proofs.Members.first-distinct (λ (r : FoundRow). r.node) B.rows (λ (r : FoundRow). same_node r.node n) q b.rows_once h (ap (λ k. same_node k n) (sym e) ∙ same_node-itself n) (λ r t. same_node-true r.node n t ∙ e))
 
       go : (z : Bool) → lists_row A.rows q.node ≡ z → AreAsSeen (content (laid_document (seed F W)) q.node) q.cells
-      go false e = seed_row F W both_can_be_found q (append_right (map (joined_row B.rows) A.rows) (filter (λ (r : FoundRow). not (lists_row A.rows r.node)) B.rows) q (has-filter (λ (r : FoundRow). not (lists_row A.rows r.node)) B.rows q h (ap not e)))
+      go false e = seed_row F W both_can_be_found q (append_right (map (joined_row B.rows) A.rows) (filter (λ (r : FoundRow). not (lists_row A.rows r.node)) B.rows) q (filter-has (λ (r : FoundRow). not (lists_row A.rows r.node)) B.rows q h (ap not e)))
       go true e =
           let p = any-has (λ (r : FoundRow). same_node r.node q.node) A.rows e in
           let same = same_node-true p.0.node q.node p.2 in
@@ -291,6 +290,6 @@ module _ (F : ℕ) (A B : Finds) (a : CanBeFound F A) (b : CanBeFound F B) (g : 
   second_held k i = go (list_any (λ (l : FoundHeld). same_field l.field k.field) A.held) refl
     where
       go : (z : Bool) → list_any (λ (l : FoundHeld). same_field l.field k.field) A.held ≡ z → (laid_document (seed F W)).held k.field ≡ k.node
-      go false e = seed_held F W both_can_be_found k (append_right A.held new_held k (has-filter (λ (h : FoundHeld). not (list_any (λ (k : FoundHeld). same_field k.field h.field) A.held)) B.held k i (ap not e)))
+      go false e = seed_held F W both_can_be_found k (append_right A.held new_held k (filter-has (λ (h : FoundHeld). not (list_any (λ (k : FoundHeld). same_field k.field h.field) A.held)) B.held k i (ap not e)))
       go true e = let h = any-has (λ (l : FoundHeld). same_field l.field k.field) A.held e in let f = same_field-true h.0.field k.field h.2 in
           subst (λ f. (laid_document (seed F W)).held f ≡ k.node) f (first_held h.0 h.1 ∙ g.held h.0 k h.1 i f)

@@ -22,7 +22,7 @@ use Rattle.st_register.specs.declared.values.RegSwap.{RegSwap}
 use Rattle.st_register.specs.Register.{RegPart, RegCanHold, RegFits, RegLeadsOver, reg_carried, reg_change_of, reg_part_of, unless_put, only_made}
 use Rattle.st_register.specs.Readings.{as_mark, as_step}
 use Rattle.st_register.proofs.Occupants.{not_true}
-use Rattle.st_marks.proofs.Shared.{made}
+use Rattle.st_marks.proofs.Shared.{made, not_made}
 
 -- ## What is listed
 
@@ -45,13 +45,6 @@ document_is D E f x = record { before = can_hold D f x.before; after = can_hold 
 pub if_some : (o : Option NodeId) (P : NodeId → Type 0) → ((n : NodeId) → o ≡ Some n → P n) → IfSome o P
 if_some None P h = tt
 if_some (Some n) P h = h n refl
-
-pub not_made : (D : Document) (N : Intent) → Fits D N → (n : NodeId) → IsSome (D.nodes n) → is_new N n ≡ false
-not_made D N w n h =
-    elim (is_new N n) as (λ b. is_new N n ≡ b → b ≡ false) [
-      | true ↦ λ e. absurd (not_true (ap is_some (w.fresh_nodes n e)) h)
-      | false ↦ λ e. refl
-    ] refl
 
 pub part_fits : (D : Document) (N : Intent) (m : NodeId → Bool) (f : FieldId) → IsSoundInForm D → Fits D N → RegFits (reg_part_of m N f) (record { node = D.held f })
 part_fits D N m f x w = record {

@@ -18,10 +18,10 @@ use Rattle.st_register.specs.inside.NormalForm.{IsNormalRegChange}
 use Rattle.st_register.specs.Register.{RegPart, RegFits, RegCanHold, reg_change_of}
 use Rattle.st_register.specs.inside.Readings.{put_by, makes_by}
 use Rattle.st_register.proofs.Parts.{field_told, goes_told, told, other_number}
-use Rattle.st_register.proofs.Occupants.{not_true, same_occupant, other_occupant, comes_in-other, comes_in-same, to-here}
+use Rattle.st_register.proofs.Occupants.{not_true, other_occupant, comes_in-other, comes_in-same, to-here}
+use Rattle.st_marks.proofs.Shared.{held-same, same-held}
 use Rattle.st_register.proofs.Registers.{holding, here-fill, comes-fill}
 use Rattle.st_register.proofs.Documents.{if_some}
-use Rattle.st_marks.proofs.Shared.{same-held}
 
 pub some_is : (o : Option NodeId) (P : NodeId → Type 0) (n : NodeId) → IfSome o P → o ≡ Some n → P n
 some_is None P n h e = cc
@@ -92,7 +92,7 @@ module _ (x : RegChange) (w : IsNormalRegChange x) (h : x.held ≢ Some root) wh
           ] refl e
 
       from : put_by x ≡ Some n → goes_told x n ≡ Some (To.Register (field_told x))
-      from e = rw (same_occupant (put_by x) (Some n) e) refl
+      from e = rw (held-same (put_by x) (Some n) e) refl
 
   put_not_root : put_by x ≢ Some root
   put_not_root e =
@@ -178,7 +178,7 @@ module _ (x : RegChange) (w : IsNormalRegChange x) (h : x.held ≢ Some root) wh
 
   goes_leave : (n : NodeId) → x.held ≡ Some n → x.how ≡ Leave → goes_told x n ≡ Some To.Nowhere
   goes_leave n e k =
-      rw (other_occupant (put_by x) (Some n) (not_put n e (ap is_here k)), same_occupant x.held (Some n) e) (ap (λ (h : How). cond (is_leave h && true) (Some To.Nowhere) None) k)
+      rw (other_occupant (put_by x) (Some n) (not_put n e (ap is_here k)), held-same x.held (Some n) e) (ap (λ (h : How). cond (is_leave h && true) (Some To.Nowhere) None) k)
 
   goes_here : (n : NodeId) → x.held ≡ Some n → x.how ≡ Here → goes_told x n ≡ Some (To.Register (field_told x))
   goes_here n e k = (put_here n).1 (ap (λ (h : How). cond (is_here h) x.held x.fill) k ∙ e)
@@ -221,8 +221,8 @@ module _ (x : RegChange) (w : IsNormalRegChange x) (h : x.held ≢ Some root) wh
   makes_told : (n : NodeId) → x.fill ≡ Some n → x.fill_new ≡ (told x).makes n
   makes_told n e =
       elim x.in_new as (λ b. x.fill_new ≡ ((b && same_node (cond b new_node root) n) || (x.fill_new && same_option same_node x.fill (Some n)))) [
-        | true ↦ rw (another n e, same_occupant x.fill (Some n) e) (sym (is x.fill_new))
-        | false ↦ rw (same_occupant x.fill (Some n) e) (sym (is x.fill_new))
+        | true ↦ rw (another n e, held-same x.fill (Some n) e) (sym (is x.fill_new))
+        | false ↦ rw (held-same x.fill (Some n) e) (sym (is x.fill_new))
       ]
     where
       is : (b : Bool) → (b && true) ≡ b

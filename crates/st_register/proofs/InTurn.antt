@@ -16,10 +16,10 @@ use Rattle.st_register.specs.declared.values.RegHeld.{RegHeld}
 use Rattle.st_register.specs.Joined.{AreJoinedIn, fills}
 use Rattle.st_register.specs.Register.{RegPart, RegFits, reg_carried, reg_change_of, held_whole, unless_put}
 use Rattle.st_register.specs.inside.Readings.{makes_by, put_in_turn, how_in_turn, held_in_turn, stays_in_turn}
-use Rattle.st_register.proofs.Occupants.{not_true, same_occupant, other_occupant, to-here, stay-to}
+use Rattle.st_register.proofs.Occupants.{not_true, other_occupant, to-here, stay-to}
+use Rattle.st_marks.proofs.Shared.{held-same, same-held}
 use Rattle.st_register.proofs.Registers.{holding, here-fill, put_is, makes_is, comes-fill, all_new}
 use Rattle.st_register.proofs.Forms.{some_is}
-use Rattle.st_marks.proofs.Shared.{same-held}
 
 -- who is put there at last
 abbrev at_last : Option NodeId → Bool → (NodeId → Option To) → Option NodeId → Option NodeId
@@ -56,7 +56,7 @@ module _ (o : NodeId) (f : FieldId) (pg : Option To) (g : NodeId → Option To) 
   -- the second puts it there
   filled : (x : Bool) → qf ≡ Some o → cond (same_option same_node (at_last qf qc g pf) (Some o)) Here (stays_in_turn pc yh (how pg (To.Register f))) ≡ how (cond (x && not true) None rest) (To.Register f)
   filled x e =
-      rw (same_occupant (at_last qf qc g pf) (Some o) (ap (λ (q : Option NodeId). at_last q qc g pf) e))
+      rw (held-same (at_last qf qc g pf) (Some o) (ap (λ (q : Option NodeId). at_last q qc g pf) e))
       (elim x as (λ b. Here ≡ how (cond (b && false) None rest) (To.Register f)) [ true ↦ here | false ↦ here ])
     where
       here : Here ≡ how rest (To.Register f)
@@ -93,12 +93,12 @@ module _ (o : NodeId) (f : FieldId) (pg : Option To) (g : NodeId → Option To) 
 
       kept : how pg (To.Register f) ≡ Here → g o ≡ None → (b : Bool) → qc ≡ b → cond (same_option same_node (at_last qf qc g pf) (Some o)) Here Leave ≡ how rest (To.Register f)
       kept h y true c =
-          let evicted : Leave ≡ how rest (To.Register f) = rw (y, c, same_occupant pf (Some o) (p1 h)) refl in
+          let evicted : Leave ≡ how rest (To.Register f) = rw (y, c, held-same pf (Some o) (p1 h)) refl in
           elsewhere a (λ d k. absurd (not_true d c)) Leave ∙ evicted
       kept h y false c =
           let last : at_last qf qc g pf ≡ Some o = rw (qcl c, c, p1 h, y) refl in
-          let here : Here ≡ how rest (To.Register f) = rw (y, c, same_occupant pf (Some o) (p1 h)) (sym h) in
-          let is : cond (same_option same_node (at_last qf qc g pf) (Some o)) Here Leave ≡ Here = rw (same_occupant (at_last qf qc g pf) (Some o) last) refl in
+          let here : Here ≡ how rest (To.Register f) = rw (y, c, held-same pf (Some o) (p1 h)) (sym h) in
+          let is : cond (same_option same_node (at_last qf qc g pf) (Some o)) Here Leave ≡ Here = rw (held-same (at_last qf qc g pf) (Some o) last) refl in
           is ∙ here
 
       put_here : how pg (To.Register f) ≡ Here → (y : Option To) → g o ≡ y → cond (same_option same_node (at_last qf qc g pf) (Some o)) Here Leave ≡ how rest (To.Register f)
@@ -127,7 +127,7 @@ module _ (o : NodeId) (f : FieldId) (pg : Option To) (g : NodeId → Option To) 
   how_turns =
       elim (same_option same_node qf (Some o)) as (λ b. same_option same_node qf (Some o) ≡ b → cond (same_option same_node (at_last qf qc g pf) (Some o)) Here (stays_in_turn pc yh (how pg (To.Register f))) ≡ how (cond ((pc && not (is_some pg)) && not b) None rest) (To.Register f)) [
         | true ↦ λ e. filled (pc && not (is_some pg)) (same-held qf (Some o) e)
-        | false ↦ λ e. not_filled (λ h. not_true e (same_occupant qf (Some o) h)) pg refl
+        | false ↦ λ e. not_filled (λ h. not_true e (held-same qf (Some o) h)) pg refl
       ] refl
 
 -- ## The change of the joint part
@@ -140,7 +140,7 @@ fills_makes : (p : RegPart) (o : Option NodeId) (n : NodeId) → RegFits p (hold
 fills_makes p o n w =
     elim (fills p n) as (λ b. fills p n ≡ b → makes_by (reg_change_of p (holding o)) n ≡ (b && p.makes n)) [
       | true ↦ λ e. makes_is p o n w (same-held p.part.fill (Some n) e)
-      | false ↦ λ e. rw (other_occupant (comes_in o p.part.fill) (Some n) (λ h. not_true e (same_occupant p.part.fill (Some n) (comes-fill o p.part.fill n h))))
+      | false ↦ λ e. rw (other_occupant (comes_in o p.part.fill) (Some n) (λ h. not_true e (held-same p.part.fill (Some n) (comes-fill o p.part.fill n h))))
           (elim (option_map_or p.makes (comes_in o p.part.fill) false) as (λ b. (b && false) ≡ false) [ true ↦ refl | false ↦ refl ])
     ] refl
 

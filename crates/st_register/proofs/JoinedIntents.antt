@@ -1,6 +1,6 @@
 -- The register's part of the join of two intents.
 use Rattle.std.proofs.Common.{◌≡◌, ◌≢◌, ◌⊎◌, inl, inr, Bool, true, false, ◌&&◌, ◌||◌, not, Option, Some, None, cond, refl, sym, ap, ◌∙◌, IfSome, IsSome, IsTrue, is_some, option_map}
-use Rattle.std.specs.Option.{option_or, option_map_or, option_and_then}
+use Rattle.std.specs.Option.{option_or, option_and_then}
 use Rattle.st_ids.specs.Order.{same_node, same_field}
 use Rattle.st_ids.specs.declared.names.FieldId.{FieldId}
 use Rattle.st_ids.specs.declared.names.NodeId.{NodeId}
@@ -18,10 +18,11 @@ use Rattle.st_marks.proofs.Lookups.{put-has, has-put, put_in-has, has-put_in, pu
 use Rattle.st_marks.proofs.Members.{all-has}
 use Rattle.st_register.specs.Joined.{AreJoinedIn, evicts}
 use Rattle.st_register.specs.Register.{reg_part_of, unless_put}
-use Rattle.st_register.proofs.Documents.{if_some, not_made}
-use Rattle.st_register.proofs.Occupants.{not_true, same_occupant, other_occupant}
-use Rattle.st_marks.proofs.Shared.{old_put}
+use Rattle.st_register.proofs.Documents.{if_some}
+use Rattle.st_marks.proofs.Shared.{not_made, old_put, held-same}
+use Rattle.st_register.proofs.Occupants.{not_true, other_occupant}
 use Rattle.st_register.proofs.Forms.{some_is}
+use Rattle.st_lemmas.proofs.Options.{is_some-option_map_or, one_some}
 
 -- ## Puts of an intent, from both sides
 
@@ -76,13 +77,6 @@ still M (To.Register g) f e =
 abbrev type_of : NewNode → NodeType
 type_of m = record { ty = m.ty; leaf = m.leaf }
 
-either_new : (a b : Option NewNode) → is_some (option_map type_of (option_or a b)) ≡ (is_some (option_map type_of a) || is_some (option_map type_of b))
-either_new None b = refl
-either_new (Some m) b = refl
-
-same_some : (q n : NodeId) → ◌≡◌ {A = Option NodeId} (Some q) (Some n) → q ≡ n
-same_some q n e = ap (λ (o : Option NodeId). option_map_or (λ (k : NodeId). k) o q) e
-
 module _ (D : Document) (N M J : Intent) (f : FieldId) (x : IsSoundInForm D) (p : AreParts D N M) (j : IsJoin N M J) where
   -- whom both parts put there, by the second and what it leaves of the first
   abbrev at_last : Option NodeId
@@ -121,7 +115,7 @@ module _ (D : Document) (N M J : Intent) (f : FieldId) (x : IsSoundInForm D) (p 
         where
           go : (a : Option To) → put_of M q ≡ a → cond (is_some a) None (Some q) ≡ Some n → joined_put N M n ≡ Some (To.Register f)
           go None a k =
-              let same : q ≡ n = same_some q n k in
+              let same : q ≡ n = one_some q n k in
               let unput : put_of M n ≡ None = ap (put_of M) (sym same) ∙ a in
               let put : put_of N n ≡ Some (To.Register f) = in-target_of N first n f (g ∙ k) in
               rw (unput, put, c) refl
@@ -155,7 +149,7 @@ module _ (D : Document) (N M J : Intent) (f : FieldId) (x : IsSoundInForm D) (p 
     where
       none : same_option same_node (put_in M f) (Some n) ≡ false → (put_of M n ≡ None) ⊎ (put_in M f ≡ Some n) → ⊥
       none s (inl k) = let q : ◌≡◌ {A = Option To} (Some t) None = sym e ∙ k in cc
-      none s (inr k) = not_true s (same_occupant (put_in M f) (Some n) k)
+      none s (inr k) = not_true s (held-same (put_in M f) (Some n) k)
 
       go : (a : Bool) → (clears N f && not (is_some (put_of N n))) ≡ a → (b : Bool) → same_option same_node (put_in M f) (Some n) ≡ b → ◌≡◌ {A = Option To} (Some t) (cond (a && not b) None (Some t))
       go true a true b = refl
@@ -172,7 +166,7 @@ module _ (D : Document) (N M J : Intent) (f : FieldId) (x : IsSoundInForm D) (p 
       go true s =
           let same : g ≡ f = same_field-true g f s in
           let there : put_in N f ≡ Some n = goes-in N first n f (e ∙ ap (λ (h : FieldId). Some (To.Register h)) same) in
-          rw (same_occupant (put_in N f) (Some n) there, ap (clears M) same)
+          rw (held-same (put_in N f) (Some n) there, ap (clears M) same)
           (elim (clears M f) as (λ b. how (Some (cond b To.Nowhere (To.Register g))) (To.Register f) ≡ how (cond (true && b) (Some To.Nowhere) (Some (To.Register g))) (To.Register f)) [ true ↦ refl | false ↦ refl ])
       go false s =
           let away : same_option same_node (put_in N f) (Some n) ≡ false = not_filled N first n (Some (To.Register g)) e (λ k. not_true s (ap (λ (h : FieldId). same_field h f) (register_is g f k) ∙ same_field-itself f)) in
@@ -203,7 +197,7 @@ module _ (D : Document) (N M J : Intent) (f : FieldId) (x : IsSoundInForm D) (p 
   -- ## Which nodes are new
 
   new_is : (n : NodeId) → is_new J n ≡ (is_new N n || is_new M n)
-  new_is n = ap (λ (o : Option NewNode). is_some (option_map type_of o)) (j.new_nodes n) ∙ either_new (new_node N n) (new_node M n)
+  new_is n = ap (λ (o : Option NewNode). is_some (option_map type_of o)) (j.new_nodes n) ∙ is_some-option_map_or type_of (new_node N n) (new_node M n)
 
   -- a node that the second makes, and the first doesn't, is put there by the second
   made_put : (n : NodeId) → put_in J f ≡ Some n → is_new N n ≡ false → is_new M n ≡ true → put_in M f ≡ Some n
@@ -243,9 +237,9 @@ module _ (D : Document) (N M J : Intent) (f : FieldId) (x : IsSoundInForm D) (p 
       none false false = refl
 
       go : (a : Bool) → is_new N n ≡ a → (b : Bool) → is_new M n ≡ b → (is_new N n || is_new M n) ≡ ((same_option same_node (put_in N f) (Some n) && is_new N n) || (same_option same_node (put_in M f) (Some n) && is_new M n))
-      go true a b c = rw (a, same_occupant (put_in N f) (Some n) (h a)) refl
+      go true a b c = rw (a, held-same (put_in N f) (Some n) (h a)) refl
       go false a true c =
-          rw (a, c, same_occupant (put_in M f) (Some n) (made_put n e a c)) (elim (same_option same_node (put_in N f) (Some n)) as (λ d. true ≡ ((d && false) || true)) [ true ↦ refl | false ↦ refl ])
+          rw (a, c, held-same (put_in M f) (Some n) (made_put n e a c)) (elim (same_option same_node (put_in N f) (Some n)) as (λ d. true ≡ ((d && false) || true)) [ true ↦ refl | false ↦ refl ])
       go false a false c = rw (a, c) (sym (none (same_option same_node (put_in N f) (Some n)) (same_option same_node (put_in M f) (Some n))))
 
 pub parts_join : (D : Document) (N M J : Intent) (m k l : NodeId → Bool) (f : FieldId) → IsSoundInForm D → AreParts D N M → IsJoin N M J

@@ -3,22 +3,18 @@ use Rattle.std.proofs.Common.{◌≡◌, ◌≢◌, Bool, true, false, Option, S
 use Rattle.st_ids.specs.Order.{same_node}
 use Rattle.st_ids.specs.declared.names.FieldId.{FieldId}
 use Rattle.st_ids.specs.declared.names.NodeId.{NodeId}
-use Rattle.st_ids.proofs.Orders.{same_node-itself, same_field-true, same_field-itself}
+use Rattle.st_ids.proofs.Orders.{same_field-true, same_field-itself}
 use Rattle.st_marks.specs.declared.intents.To.{To}
 use Rattle.st_marks.specs.declared.marks.How.TheVariants.{Stay, Here, Leave}
 use Rattle.st_marks.specs.Intent.{same_option}
 use Rattle.st_marks.specs.Register.{comes_in}
 use Rattle.st_marks.specs.Row.{how, same_to}
-use Rattle.st_marks.proofs.Shared.{same-held}
+use Rattle.st_marks.proofs.Shared.{same-held, held-same}
 
 -- ## One occupant
 
 pub not_true : {b : Bool} → b ≡ false → b ≡ true → ⊥
 not_true e f = let g : ◌≡◌ {A = Bool} false true = sym e ∙ f in cc
-
-pub same_occupant : (a b : Option NodeId) → a ≡ b → same_option same_node a b ≡ true
-same_occupant None b e = subst (λ (q : Option NodeId). same_option same_node None q ≡ true) e refl
-same_occupant (Some x) b e = subst (λ (q : Option NodeId). same_option same_node (Some x) q ≡ true) e (same_node-itself x)
 
 pub other_occupant : (a b : Option NodeId) → a ≢ b → same_option same_node a b ≡ false
 other_occupant a b h =
@@ -26,7 +22,7 @@ other_occupant a b h =
 
 -- the test of names, from the two directions
 pub decided : (r : Bool) (a b : Option NodeId) → (IsTrue r → a ≡ b) → (a ≡ b → IsTrue r) → r ≡ same_option same_node a b
-decided true a b f g = sym (same_occupant a b (f refl))
+decided true a b f g = sym (held-same a b (f refl))
 decided false a b f g = sym (other_occupant a b (λ e. let h : ◌≡◌ {A = Bool} false true = g e in cc))
 
 -- ## Who comes in
@@ -39,7 +35,7 @@ pub comes_in-other : (held fill : Option NodeId) → held ≢ fill → comes_in 
 comes_in-other held fill h = rw (other_occupant held fill h) refl
 
 pub comes_in-same : (held fill : Option NodeId) → held ≡ fill → comes_in held fill ≡ None
-comes_in-same held fill e = rw (same_occupant held fill e) refl
+comes_in-same held fill e = rw (held-same held fill e) refl
 
 -- ## What becomes of an occupant
 

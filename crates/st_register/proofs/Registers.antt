@@ -15,8 +15,8 @@ use Rattle.st_register.specs.declared.values.RegHeld.{RegHeld}
 use Rattle.st_register.specs.Register.{RegPart, RegFits, RegKeeps, reg_change_of, held_whole, held_void, only_made}
 use Rattle.st_register.specs.Readings.{left_by}
 use Rattle.st_register.specs.inside.Readings.{put_by, left_void_by, how_by, makes_by}
-use Rattle.st_register.proofs.Occupants.{not_true, same_occupant, comes_in-nobody, comes_in-other, here-to, to-here, stay-to, leave-to}
-use Rattle.st_marks.proofs.Shared.{same-held}
+use Rattle.st_register.proofs.Occupants.{not_true, comes_in-nobody, comes_in-other, here-to, to-here, stay-to, leave-to}
+use Rattle.st_marks.proofs.Shared.{held-same, same-held}
 
 -- a register that holds this
 abbrev pub holding : Option NodeId → RegHeld
@@ -93,7 +93,7 @@ how_some p o n w k =
       | true ↦ λ e. sym (fill-here p (holding o) w n (same-held p.part.fill (Some n) e))
       | false ↦ λ e. elim (same_option same_node o (Some n)) as (λ b. same_option same_node o (Some n) ≡ b → cond b (how_held p.field p.part o) Stay ≡ how (p.part.target_of n) (To.Register p.field)) [
         | true ↦ λ f. ap (how_held p.field p.part) (same-held o (Some n) f)
-        | false ↦ λ f. otherwise_stays (how (p.part.target_of n) (To.Register p.field)) (λ h. not_true e (same_occupant p.part.fill (Some n) (here-fill p (holding o) w n h))) (k (λ h. not_true f (same_occupant o (Some n) h)))
+        | false ↦ λ f. otherwise_stays (how (p.part.target_of n) (To.Register p.field)) (λ h. not_true e (held-same p.part.fill (Some n) (here-fill p (holding o) w n h))) (k (λ h. not_true f (held-same o (Some n) h)))
       ] refl
     ] refl
 

@@ -1,12 +1,12 @@
 //! Edits, resolved to what they mean.
 ghost use Rattle.std.specs.Prelude.{◌≡◌, ◌<◌, ◌^◌, ◌+◌, ◌∷◌, [], length, nat_le, Ok, Err, IfOk};
-ghost use Rattle.st_ids.specs.Or.{IfRefused};
+ghost use Rattle.st_ids.specs.Or.{IfRefused, and_then};
 ghost use Rattle.st_tree.specs.Node.{trees_view, view, first, no_nodes};
 ghost use Rattle.st_tree.specs.Size.{check_of, check_items};
 ghost use Rattle.st_tree.specs.declared.edit.EditFault.{EditFault as Faults};
 ghost use Rattle.st_schema.specs.declared.names.FieldRule.{FieldRule as Rule};
 ghost use Rattle.st_doc.specs.Doc.{document_of};
-ghost use Rattle.st_edits.specs.Paths.{field_at, row_length, and_then};
+ghost use Rattle.st_edits.specs.Paths.{field_at, row_length};
 ghost use Rattle.st_edits.specs.declared.names.Takes.{Takes as Taking};
 ghost use Rattle.st_edits.specs.Resolve.{named_nodes, require, allowed_nodes, intent_to_insert, intent_to_place, rule_for, nodes_taken, insert, remove, move_to, move as move_of, put, clear, need, may_move, resolve, IsWithin};
 

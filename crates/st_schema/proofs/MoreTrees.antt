@@ -59,7 +59,7 @@ is_some_found None h = absurd (cc)
 is_some_found (Some g) h = (g, refl)
 
 -- a field that the old object declares is declared by the new one, and is wider there
-declared_wider : (olds news : List FieldDef) (key : List ℕ) (o : FieldDef) → defs_widen olds news ≡ true → declared_field olds key ≡ Some o
+pub declared_wider : (olds news : List FieldDef) (key : List ℕ) (o : FieldDef) → defs_widen olds news ≡ true → declared_field olds key ≡ Some o
     → (n : FieldDef) × (declared_field news key ≡ Some n) × (kind_widens o.kind n.kind && contains_all n.types o.types ≡ true)
 declared_wider olds news key o wide h =
     let parts = and-true (list_all (λ (old : FieldDef). is_some (declared_field news old.key.0)) olds) (list_all (def_widens olds) news) wide in

@@ -1,29 +1,20 @@
 -- The form of a tree has no floating-point number, and nests at most two levels for each of the tree's.
-use Rattle.std.proofs.Common.{◌≡◌, ℕ, ◌+◌, ◌*◌, ◌≤◌, ℤ, pos, negsuc, max, true, false, List, None, Some, Ok, refl, arith}
+use Rattle.std.proofs.Common.{◌≡◌, ℕ, ◌+◌, ◌*◌, ◌≤◌, max, true, false, List, None, Some, Ok, refl, arith}
 use Rattle.st_ids.specs.declared.names.Leaf.{Leaf}
 use Rattle.st_ids.specs.declared.names.Leaf.TheVariants as leaf
 use Rattle.serde_json.specs.Data.{Members, depth, items_depth, members_depth}
-use Rattle.serde_json.specs.Find.{of_integer, is_float}
 use Rattle.serde_json.specs.Read.{max_depth}
 use Rattle.serde_json.specs.Written.{has_float, items_have_float, members_have_float}
 use Rattle.st_tree.specs.Node.{Node, node, Fields, no_fields, field, Nodes, no_nodes, first}
 use Rattle.st_tree.specs.Size.{height, fields_height, items_height, check_of}
-use Rattle.st_schema.specs.TreeText.{leaf_data, tree_data, body_data, keyed_data, members_data, trees_data}
+use Rattle.st_schema.specs.TreeText.{tree_data, body_data, keyed_data, members_data, trees_data}
+use Rattle.st_ids.specs.LeafText.{leaf_data}
 use Rattle.st_schema.proofs.Shown.{low_within}
-
-int_plain : (z : ℤ) → is_float (of_integer z) ≡ false
-int_plain (pos n) = refl
-int_plain (negsuc n) = refl
-
-leaf_plain : (v : Leaf) → has_float (leaf_data v) ≡ false
-leaf_plain leaf.Null = refl
-leaf_plain (leaf.Bool b) = refl
-leaf_plain (leaf.Int z) = int_plain z
-leaf_plain (leaf.Words w) = refl
+use Rattle.st_ids.proofs.LeafTexts.{leaf_no_float}
 
 mutual
   pub tree_plain : (t : Node) → has_float (tree_data t) ≡ false
-  tree_plain (node ty (Some v) fs) = leaf_plain v
+  tree_plain (node ty (Some v) fs) = leaf_no_float v
   tree_plain (node ty None fs) = rw (body_plain fs) refl
 
   body_plain : (fs : Fields) → has_float (body_data fs) ≡ false

@@ -16,7 +16,8 @@ use Rattle.st_tree.specs.declared.limits.TreeFault.TheVariants.{TooDeep, TooMany
 use Rattle.st_schema.specs.Schema.{same}
 use Rattle.st_schema.specs.Conforms.{leaf_type}
 use Rattle.st_schema.specs.Shape.{fields_shaped, has_shape, fields_have_shape, all_have_shape}
-use Rattle.st_schema.specs.TreeText.{leaf_data, tree_data, body_data, keyed_data, members_data, trees_data, leaf_of, leaf_node, tree_in, body_in, trees_in, fields_in, within_limits, tree_of, leaf_fits, is_typed, fields_typed, all_typed}
+use Rattle.st_schema.specs.TreeText.{tree_data, body_data, keyed_data, members_data, trees_data, leaf_of, leaf_node, tree_in, body_in, trees_in, fields_in, within_limits, tree_of, leaf_fits, is_typed, fields_typed, all_typed}
+use Rattle.st_ids.specs.LeafText.{leaf_data}
 use Rattle.st_tree.proofs.Inverse.{not_alone}
 use Rattle.st_lemmas.proofs.Orders.{nat_lt-false}
 use Rattle.st_schema.proofs.Forms.{text_same}

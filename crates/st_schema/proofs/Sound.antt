@@ -16,7 +16,8 @@ use Rattle.st_ids.specs.declared.names.Leaf.{Leaf}
 use Rattle.st_ids.specs.declared.names.Leaf.TheVariants as leaf
 use Rattle.st_json.specs.Line.{line_value}
 use Rattle.st_tree.specs.Node.{Node, node, Fields, no_fields, field, no_nodes, first, FieldNode, nodes_of, fields_of}
-use Rattle.st_schema.specs.TreeText.{leaf_data, tree_data, body_data, members_data, trees_data, leaf_of, leaf_node, leaf_in, tree_in, node_in, body_in, trees_in, fields_in}
+use Rattle.st_schema.specs.TreeText.{tree_data, body_data, members_data, trees_data, leaf_of, leaf_node, leaf_in, tree_in, node_in, body_in, trees_in, fields_in}
+use Rattle.st_ids.specs.LeafText.{leaf_data}
 use Rattle.st_schema.proofs.Holds.{Holds-cond}
 use Rattle.st_json.proofs.Rising.{Holds, Holds-map, Holds-and_then}
 

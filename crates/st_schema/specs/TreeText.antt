@@ -9,12 +9,7 @@ use Rattle.st_tree.specs.Node.{Node, node, Fields, no_fields, field, Nodes, no_n
 use Rattle.st_tree.specs.Size.{check_of}
 use Rattle.st_schema.specs.Schema.{same}
 use Rattle.st_schema.specs.Conforms.{leaf_type}
-
-abbrev pub leaf_data : Leaf → Data
-leaf_data leaf.Null = null
-leaf_data (leaf.Bool b) = boolean b
-leaf_data (leaf.Int n) = number (of_integer n)
-leaf_data (leaf.Words w) = string w
+use Rattle.st_ids.specs.LeafText.{leaf_data}
 
 abbrev mutual
   pub tree_data : Node → Data

@@ -10,7 +10,8 @@ ghost use Rattle.st_tree.specs.inside.Node.{field_view, fields_view};
 ghost use Rattle.st_tree.specs.Form.{keys_rise, fields_fit_leaf, has_form, fields_have_form, all_have_form};
 ghost use Rattle.st_tree.specs.Size.{check_of};
 ghost use Rattle.st_schema.specs.Shape.{members_rise, fields_shaped, has_shape, fields_have_shape, all_have_shape};
-ghost use Rattle.st_schema.specs.TreeText.{leaf_data, tree_data, body_data, members_data, trees_data, tree_of, is_typed};
+ghost use Rattle.st_schema.specs.TreeText.{tree_data, body_data, members_data, trees_data, tree_of, is_typed};
+ghost use Rattle.st_ids.specs.LeafText.{leaf_data};
 
 use serde_json::{Map, Value};
 use st_ids::{Leaf, List, Or};

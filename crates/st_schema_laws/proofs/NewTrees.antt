@@ -1,6 +1,6 @@
 -- What new trees mean agrees with the schema, where it allows them.
-use Rattle.std.proofs.Common.{◌≡◌, ℕ, nat_le, Bool, true, false, not, cond, List, [], ◌∷◌, Option, Some, None, IsSome, is_some, option_map, option_and_then, Ok, refl, sym, ap, ◌∙◌, subst, inl, inr}
-use Rattle.std.specs.List.{find, list_all, position_from}
+use Rattle.std.proofs.Common.{◌≡◌, ℕ, nat_le, Bool, true, false, cond, List, [], ◌∷◌, Option, Some, None, IsSome, is_some, option_map, option_and_then, Ok, refl, sym, ap, ◌∙◌, subst, inl, inr}
+use Rattle.std.specs.List.{find, list_all}
 use Rattle.std.specs.Option.{option_map_or}
 use Rattle.st_ids.specs.Listing.{Has}
 use Rattle.st_ids.specs.Order.{same_node}
@@ -29,16 +29,17 @@ use Rattle.st_marks.specs.Intent.{Fits, register_of, new_node, new_type, is_new,
 use Rattle.st_marks.specs.CarryOut.{with_names}
 use Rattle.st_marks.proofs.Lookups.{put-has, has-put, has-put_in, clears-has, new_row_of-group}
 use Rattle.st_marks.proofs.Members.{first-has, first-distinct, has-map, map-has, has-filter_map}
-use Rattle.st_edits.specs.New.{new_nodes, puts, to_at, top_to, top_cell, row_cell, owned_by, top_cells, cells_under, group_of, group_under, groups_under, names_taken}
+use Rattle.st_edits.specs.New.{new_nodes, puts, to_at, top_to, top_cell, row_cell, owned_by, top_cells, cells_under, group_of, group_under, groups_under}
 use Rattle.st_opening.specs.Start.{registers, register_at}
-use Rattle.st_edits.specs.Paths.{and_then, field_at, left_of, row_length}
-use Rattle.st_edits.specs.Resolve.{require, walk, rule_for, rule_at, has_type, trees_allowed, names_left, named_nodes, allowed_nodes, intent_to_insert, intent_to_place, insert, put}
+use Rattle.st_edits.specs.Paths.{field_at, left_of, row_length}
+use Rattle.st_ids.specs.Or.{and_then}
+use Rattle.st_edits.specs.Resolve.{require, walk, rule_for, rule_at, has_type, named_nodes, allowed_nodes, intent_to_insert, intent_to_place, insert, put}
 use Rattle.st_schema.specs.Kind.{is_required, is_row, is_single_kind}
 use Rattle.st_edits.specs.declared.names.NameCounters.{NameCounters}
 use Rattle.st_edits.specs.declared.names.Takes.TheVariants as field
 use Rattle.st_edits.proofs.Fits.{passed, ruled}
 use Rattle.st_edits.proofs.MoveFits.{CellsFresh}
-use Rattle.st_edits.proofs.NewFits.{NodesFresh, insert_fits, put_fits, items_form, with_group-Some, none_refused-Ok}
+use Rattle.st_edits.proofs.NewFits.{NodesFresh, insert_fits, put_fits, items_form, with_group-Some, are_allowed}
 use Rattle.st_edits.proofs.Numbered.{IsArray, IsUnderArray, tops_rows}
 use Rattle.st_schema_laws.specs.Conforming.{row_key, type_fits}
 use Rattle.st_schema_laws.specs.Agreeing.{KeepsSchema, MayGo, MayBeLeft, TellsHomes}
@@ -46,7 +47,6 @@ use Rattle.st_schema_laws.proofs.Kept.{rule_later, named_later}
 use Rattle.st_schema_laws.proofs.Rules.{required_not_row, row_of_array}
 use Rattle.st_schema_laws.proofs.Listed.{HasField, IsPlaced, IsAllowedItem, tops_allowed}
 use Rattle.st_schema_laws.proofs.Simple.{rule_there, rule_found, key_is}
-use Rattle.st_lemmas.proofs.Lists.{position_from-None}
 use Rattle.st_edits.proofs.Shared.{with_others}
 use Rattle.st_lemmas.proofs.Bools.{true-false}
 use Rattle.st_ids.proofs.Shared.{filter-from}
@@ -216,13 +216,6 @@ register_from into xs g h = let x = filter-from (λ (x : FlatNode). register_at 
 
 -- ## What is allowed
 
-is_allowed : (s : SchemaView) (G : NameCounters) (rule : FieldRule) (trees : Nodes) (xs : List FlatNode) → allowed_nodes s G rule trees ≡ Ok xs → (list_all (λ ok. ok) (items_verdicts s rule.types trees) ≡ true) × (named_nodes G trees ≡ xs)
-is_allowed s G rule trees xs e =
-    let u = passed (trees_allowed s rule trees) (λ _. and_then (names_left G (names_taken (named_nodes G trees))) (λ _. Ok (named_nodes G trees))) xs e in
-    let v = passed (names_left G (names_taken (named_nodes G trees))) (λ _. Ok (named_nodes G trees)) xs u.2 in
-    let is : named_nodes G trees ≡ xs = cc in
-    (position_from-None 0 (items_verdicts s rule.types trees) (none_refused-Ok (position_from (λ ok. not ok) 0 (items_verdicts s rule.types trees)) u.0 u.1), is)
-
 named_allowed : (s : SchemaView) (G : NameCounters) (types : List (List ℕ)) (trees : Nodes) → is_sound s ≡ true → list_all (λ ok. ok) (items_verdicts s types trees) ≡ true → (x : FlatNode) → Has (named_nodes G trees) x → IsAllowedItem s (named_nodes G trees) types x
 named_allowed s G types trees schema ok = tops_allowed s schema (named_nodes G trees) types G.rev G.nodes G.cells trees ok (λ x h. h)
 
@@ -280,7 +273,7 @@ insert_agrees s home D G at key index trees N sound schema nodes cells own e =
     let here = rule_found is_row D s n.0 key rule.0 rule.1 in
     let t = ruled D s n.0 key rule.0 here.0 in
     let empty = (row_of_array s schema t.1.0.ty key.0 rule.0 t.1.1 here.1).0 in
-    let ok = is_allowed s G rule.0 trees xs.0 xs.1 in
+    let ok = are_allowed s G rule.0 trees xs.0 xs.1 in
     let same : intent_to_insert D G n.0 index (named_nodes G trees) ≡ N = ap (intent_to_insert D G n.0 index) ok.1 ∙ is in
     subst (KeepsSchema s home D) same
     (inserted_agrees s home D G n.0 index rule.0 trees schema (subst (λ k. rule_at D s n.0 k ≡ Some rule.0) (key_is key empty) here.0) here.1 ok.0
@@ -329,7 +322,7 @@ put_agrees s home D G at key t N sound schema nodes cells own e =
     let xs = passed (allowed_nodes s G taken.0 (first t no_nodes)) (λ xs. Ok (intent_to_place D G (field_at n.0 key) xs)) N taken.2 in
     let is : intent_to_place D G (field_at n.0 key) xs.0 ≡ N = cc in
     let here = rule_found is_single_kind D s n.0 key taken.0 taken.1 in
-    let ok = is_allowed s G taken.0 (first t no_nodes) xs.0 xs.1 in
+    let ok = are_allowed s G taken.0 (first t no_nodes) xs.0 xs.1 in
     let same : intent_to_place D G (field_at n.0 key) (named_nodes G (first t no_nodes)) ≡ N = ap (intent_to_place D G (field_at n.0 key)) ok.1 ∙ is in
     subst (KeepsSchema s home D) same
     (placed_agrees s home D G (field_at n.0 key) taken.0 t schema here.0 here.1 ok.0

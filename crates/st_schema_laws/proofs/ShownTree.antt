@@ -3,21 +3,19 @@ use Rattle.std.proofs.Common.{◌≡◌, ◌≢◌, ℕ, Bool, true, false, not,
 use Rattle.std.specs.List.{list_all}
 use Rattle.std.specs.Option.{option_map_or}
 use Rattle.std.specs.Ordering.{nat_cmp, is_lt, eq_by_cmp}
-use Rattle.std.specs.Cmp.Lexicographic.{slice_cmp, bytes_decides}
+use Rattle.std.specs.Cmp.Lexicographic.{slice_cmp}
 use Rattle.std.specs.declared.cmp.Ordering.{Ordering}
 use Rattle.std.specs.FinMap.Entries.{is_sorted, below_all}
 use Rattle.serde_json.specs.Data.{Data, array, object, Items, item, Members, member}
 use Rattle.st_ids.specs.Listing.{Has, IsListing, item_of, key_pairs}
 use Rattle.st_ids.specs.declared.names.CellId.{CellId}
 use Rattle.st_ids.specs.declared.names.Key.{Key}
-use Rattle.st_ids.specs.declared.names.Leaf.{Leaf}
 use Rattle.st_ids.specs.declared.names.FieldId.{FieldId}
 use Rattle.st_ids.specs.declared.names.NodeId.{NodeId}
 use Rattle.st_tree.specs.Node.{Node, node, Fields, no_fields, field, Nodes, no_nodes, first}
 use Rattle.st_tree.specs.Form.{is_single, keys_rise}
 use Rattle.st_schema.specs.Schema.{SchemaView, same, is_among, form_of, declared_field, field_in, field_of, is_sound}
 use Rattle.st_schema.specs.Conforms.{leaf_type, has_key, have_rules, fields_fit, is_as_typed, types_in, types_under, verdicts, fields_verdicts, items_verdicts, conforms}
-use Rattle.st_schema.specs.TreeText as text
 use Rattle.st_schema.specs.TreeText.{tree_data, body_data, members_data, trees_data}
 use Rattle.st_schema.specs.declared.names.FieldDef.{FieldDef}
 use Rattle.st_schema.specs.declared.names.FieldRule.{FieldRule}
@@ -29,11 +27,11 @@ use Rattle.st_marks.specs.declared.places.Slot.{Slot}
 use Rattle.st_marks.specs.declared.places.Spot.{Spot}
 use Rattle.st_marks.specs.Document.{Document, NodeType, IsSoundInForm, slot, content, is_cell}
 use Rattle.st_ids.specs.Root.{root}
-use Rattle.st_marks.specs.LiveTree.{Shows, shows_leaf, shows_row, shows_registers, ShowsItems, no_more_items, next_item, ShowsMembers, no_more_members, next_member, leaf_data, one_member, owners_shown, key_at, register}
+use Rattle.st_marks.specs.LiveTree.{Shows, shows_leaf, shows_row, shows_registers, ShowsItems, no_more_items, next_item, ShowsMembers, no_more_members, next_member, one_member, owners_shown, key_at, register}
 use Rattle.st_marks.proofs.Members.{has-map}
 use Rattle.st_edits.specs.Resolve.{rule_at, has_type}
 use Rattle.st_schema.specs.Kind.{is_required, is_row, is_single_kind}
-use Rattle.st_ids.proofs.Orders.{same_cell-true}
+use Rattle.st_ids.proofs.Orders.{same_cell-true, bytes-itself}
 use Rattle.st_schema_laws.specs.Conforming.{Admits, MayStand, IsConforming, row_key}
 use Rattle.st_edits.specs.ArrayTypes.{is_array_form, is_array_type}
 use Rattle.st_schema_laws.proofs.Rules.{rising_defs}
@@ -46,9 +44,6 @@ bytes_cmp = slice_cmp nat_cmp
 
 abbrev itself : List ℕ → List ℕ
 itself k = k
-
-same_itself : (k : List ℕ) → same k k ≡ true
-same_itself k = (bytes_decides k k).1 refl
 
 -- ## Keys of a listing
 
@@ -107,7 +102,7 @@ key_had [] no_fields k h i = absurd i
 key_had [] (field key row items rest) k h i = absurd h
 key_had (l ∷ ks) no_fields k h i = absurd h
 key_had (l ∷ ks) (field key true items rest) k h i = absurd h
-key_had (l ∷ ks) (field key false items rest) k h (inl e) = ap (λ b. b || has_key rest k) (ap (λ l. same l k) (h.0 ∙ e) ∙ same_itself k)
+key_had (l ∷ ks) (field key false items rest) k h (inl e) = ap (λ b. b || has_key rest k) (ap (λ l. same l k) (h.0 ∙ e) ∙ bytes-itself k)
 key_had (l ∷ ks) (field key false items rest) k h (inr i) = elim (same key k) as (λ b. (b || has_key rest k) ≡ true) [ true ↦ refl | false ↦ key_had ks rest k h.2 i ]
 
 all_from : {A : Type 0} (p : A → Bool) (xs : List A) → ((x : A) → Has xs x → p x ≡ true) → list_all p xs ≡ true
@@ -130,12 +125,6 @@ pub record FieldsBuilt (s : SchemaView) (form : Form) (ks : List (List ℕ)) (ms
   pub data_is : members_data fields ≡ ms
   pub allowed : list_all (λ ok. ok) (fields_verdicts s (Some form) fields) ≡ true
   pub keys : HasKeys ks fields
-
-leaf_shown : (v : Leaf) → text.leaf_data v ≡ leaf_data v
-leaf_shown Leaf.Null = refl
-leaf_shown (Leaf.Bool b) = refl
-leaf_shown (Leaf.Int n) = refl
-leaf_shown (Leaf.Words w) = refl
 
 module _ (s : SchemaView) (schema : is_sound s ≡ true) (home : NodeId → Option FieldId) (D : Document) (sound : IsSoundInForm D) (here : IsConforming s home D) (is_array : List ℕ → Bool) (tells : (ty : List ℕ) → is_array ty ≡ is_array_type s ty) where
   -- a node with its fields is allowed
@@ -225,7 +214,7 @@ module _ (s : SchemaView) (schema : is_sound s ≡ true) (home : NodeId → Opti
     tree_shown (shows_leaf n ty v q) types e =
         let among : is_among ty types ≡ true = type_among n (record { ty = ty; leaf = Some v }) types q e in
         let typed : same ty (leaf_type v) ≡ true = here.types n (record { ty = ty; leaf = Some v }) q in
-        (node ty (Some v) no_fields, leaf_shown v, and-both (is_among ty types && (same ty (leaf_type v) && true)) true (and-both (is_among ty types) _ among (and-both (same ty (leaf_type v)) true typed refl)) refl)
+        (node ty (Some v) no_fields, refl, and-both (is_among ty types && (same ty (leaf_type v) && true)) true (and-both (is_among ty types) _ among (and-both (same ty (leaf_type v)) true typed refl)) refl)
     tree_shown (shows_row n ty items q a r) types e = go (form_of s.types ty) refl (sym (tells ty) ∙ a) (λ ts f. items_shown r ts (item_typed n (record { ty = ty; leaf = None }) ts q f))
       where
         go : (o : Option Form) → form_of s.types ty ≡ o → is_array_form o ≡ true → ((ts : List (List ℕ)) → form_of s.types ty ≡ Some (Array ts) → AreBuilt s ts items) → IsBuilt s types (one_member ty (array items))

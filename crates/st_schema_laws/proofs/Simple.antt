@@ -27,7 +27,8 @@ use Rattle.st_marks.specs.CarryOut.{with_names}
 use Rattle.st_marks.proofs.Lookups.{put-has, clears-has, new_row_of-group}
 use Rattle.st_marks.proofs.Members.{has-map}
 use Rattle.st_marks.specs.LiveTree.{live_slots}
-use Rattle.st_edits.specs.Paths.{and_then, or_refuse, field_at, items_from, left_of, row_length}
+use Rattle.st_edits.specs.Paths.{or_refuse, field_at, items_from, left_of, row_length}
+use Rattle.st_ids.specs.Or.{and_then}
 use Rattle.st_edits.specs.New.{group_of}
 use Rattle.st_edits.specs.Resolve.{need, remove, intent_to_remove, clear, move, intent_to_move, moved_to_field, in_cells, cells_for, empty_intent, walk, rule_for, rule_at, within_row, of_kind, nodes_taken, is_inside, is_there, may_move, nodes_allowed, names_left, cells_taken, has_type, with_group, require}
 use Rattle.st_schema.specs.Kind.{is_open, is_optional, is_required, is_row, is_single_kind}

@@ -8,7 +8,7 @@ use Rattle.st_ids.specs.declared.names.Key.{Key}
 use Rattle.st_ids.specs.declared.names.Leaf.{Leaf}
 use Rattle.st_ids.specs.declared.names.NodeId.{NodeId}
 use Rattle.st_schema.specs.Schema.{SchemaView, same, is_among, is_key, form_of, declared_field, field_in, field_of, is_sound}
-use Rattle.st_schema.specs.Wider.{contains_all, kind_widens, widens_found, def_widens, defs_widen, form_widens, types_widen, wider_of}
+use Rattle.st_schema.specs.Wider.{contains_all, kind_widens, widens_found, def_widens, form_widens, types_widen, wider_of}
 use Rattle.st_schema.specs.declared.names.FieldDef.{FieldDef}
 use Rattle.st_schema.specs.declared.names.FieldRule.{FieldRule}
 use Rattle.st_schema.specs.declared.names.Form.{Form}
@@ -29,7 +29,7 @@ use Rattle.st_schema_laws.specs.Conforming.{Admits, MayStand, IsConforming, IsFr
 use Rattle.st_schema_laws.specs.Agreeing.{KeepsSchema, MayGo, MayBeLeft}
 use Rattle.st_schema_laws.proofs.Kept.{one_rule, required_by, required_rule}
 use Rattle.st_schema_laws.proofs.Rules.{leaf_undefined}
-use Rattle.st_schema.proofs.MoreTrees.{form_found, among_all, no_narrowing}
+use Rattle.st_schema.proofs.MoreTrees.{form_found, among_all, no_narrowing, declared_wider}
 use Rattle.st_lemmas.proofs.Bools.{and-true, true-false}
 use Rattle.st_schema.proofs.Forms.{text_same}
 use Rattle.st_edits.proofs.Fits.{all_pass}
@@ -69,19 +69,6 @@ some_there : {A : Type 0} (o : Option A) → is_some o ≡ true → (x : A) × (
 some_there None h = absurd (cc)
 some_there (Some x) h = (x, refl)
 
--- a field that the old object declares is declared by the new one, and is wider there
-declared_wider : (olds news : List FieldDef) (key : List ℕ) (o : FieldDef) → defs_widen olds news ≡ true → declared_field olds key ≡ Some o
-    → (n : FieldDef) × (declared_field news key ≡ Some n) × (kind_widens o.kind n.kind ≡ true) × (contains_all n.types o.types ≡ true)
-declared_wider olds news key o wide e =
-    let parts = and-true (list_all (λ (old : FieldDef). is_some (declared_field news old.key.0)) olds) (list_all (def_widens olds) news) wide in
-    let there = first-has (λ (f : FieldDef). same f.key.0 key) olds o e in
-    let new = some_there (declared_field news key) (ap (λ k. is_some (declared_field news k)) (sym (text_same o.key.0 key there.1)) ∙ all_pass (λ (old : FieldDef). is_some (declared_field news old.key.0)) olds o parts.0 there.0) in
-    let found = first-has (λ (f : FieldDef). same f.key.0 key) news new.0 new.1 in
-    let widens : widens_found (declared_field olds new.0.key.0) new.0 ≡ true = all_pass (def_widens olds) news new.0 parts.1 found.0 in
-    let at : declared_field olds new.0.key.0 ≡ Some o = ap (declared_field olds) (text_same new.0.key.0 key found.1) ∙ e in
-    let b = and-true (kind_widens o.kind new.0.kind) (contains_all new.0.types o.types) (ap (λ (p : Option FieldDef). widens_found p new.0) (sym at) ∙ widens) in
-    (new.0, new.1, b.0, b.1)
-
 rule_wider : (f g : Form) (key : List ℕ) (rule : FieldRule) → form_widens f g ≡ true → field_in f key ≡ Some rule → (r : FieldRule) × (field_in g key ≡ Some r) × Widens rule r
 rule_wider (Array old) (Array new) [] rule wide e =
     let is : record { kind = Sequence; types = old } ≡ rule = cc in
@@ -107,10 +94,11 @@ rule_wider (Object olds) (Object news) key rule wide e = go (declared_field olds
     go (Some o) q f =
         let is : record { kind = o.kind; types = o.types } ≡ rule = cc in
         let n = declared_wider olds news key o wide q in
-        let kinds = kind_single o.kind n.0.kind n.2 in (
+        let w = and-true (kind_widens o.kind n.0.kind) (contains_all n.0.types o.types) n.2 in
+        let kinds = kind_single o.kind n.0.kind w.0 in (
           record { kind = n.0.kind; types = n.0.types },
           ap (option_map (λ (f : FieldDef). record { kind = f.kind; types = f.types })) n.1,
-          subst (λ r. Widens r (record { kind = n.0.kind; types = n.0.types })) is (record { types = n.3; rows = kinds.0; singles = kinds.1 }),
+          subst (λ r. Widens r (record { kind = n.0.kind; types = n.0.types })) is (record { types = w.1; rows = kinds.0; singles = kinds.1 }),
         )
 
 -- what the new form requires, the old one did

@@ -10,7 +10,8 @@ use Rattle.st_json.specs.Look.{has_only}
 use Rattle.st_tree.specs.Node.{Node, nodes_of}
 use Rattle.st_tree.specs.Size.{check_items}
 use Rattle.st_schema.specs.TreeText.{tree_of, tree_data, trees_data}
-use Rattle.st_script.specs.Members.{client_named, client_in, small, as_small, number_in, number_or, at_least_one, one_or_more, count_of, key_within, key_or_empty, place_of, places_in, short_path, path_in, trees_in, few, items_in, item_in}
+use Rattle.st_script.specs.Members.{client_named, client_in, as_small, number_in, number_or, at_least_one, one_or_more, count_of, key_within, key_or_empty, place_of, places_in, short_path, path_in, trees_in, few, items_in, item_in}
+use Rattle.st_ids.specs.Numeral.{small}
 use Rattle.st_script.specs.Steps.{EditView, insert, remove, move, set, clear, ActView, join, edit, sequence, deliver, show, StepView, target_of, site_of, span_of, goal_of, read_insert, read_remove, read_move, read_set, read_clear, act_of, step_of}
 use Rattle.st_script.specs.StepText.{places_data, path_data, items_data, plain_data, edit_data, act_data, step_data, IsName, IsActor, ArePlaces, IsTarget, IsSpan, AreShown, AreItems, FitsEdit, FitsAct, FitsLine}
 use Rattle.st_script.specs.declared.read.Goal.{Goal}

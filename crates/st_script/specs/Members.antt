@@ -7,6 +7,7 @@ use Rattle.st_ids.specs.declared.names.Place.{Place}
 use Rattle.st_tree.specs.Node.{Node, nodes_of}
 use Rattle.st_tree.specs.Size.{check_items}
 use Rattle.st_schema.specs.TreeText.{tree_of}
+use Rattle.st_ids.specs.Numeral.{small}
 
 -- a client's name has 1 to 64 bytes
 abbrev pub client_named : List ℕ → Option (List ℕ)
@@ -14,10 +15,6 @@ client_named t = if nat_le 1 (length t) && nat_le (length t) 64 then Some t else
 
 abbrev pub client_in : Data → Option (List ℕ)
 client_in d = option_and_then client_named (option_and_then as_str (get (codes "client") d))
-
--- a number below 2^32
-abbrev pub small : ℕ → Option ℕ
-small n = if nat_lt n (2 ^ 32) then Some n else None
 
 abbrev pub as_small : Data → Option ℕ
 as_small d = option_and_then small (option_and_then as_u64 (as_number d))

@@ -5,7 +5,7 @@ use Rattle.st_ids.specs.declared.fault.Or.{Or}
 use Rattle.st_ids.specs.declared.fault.Or.TheVariants.{Fault, NoMemory}
 use Rattle.st_kind.specs.Refused.{IfMemory}
 use Rattle.st_kind.specs.declared.apart.Apart.{Apart}
-use Rattle.st_seq.specs.inside.Views.{IsApart}
+use Rattle.st_seq.specs.Differences.{IsApart}
 
 pub both_ok : {A E : Type 0} {P Q R : A → Type 0} (r : Result A E) → IfOk r P → IfOk r Q → ((a : A) → P a → Q a → R a) → IfOk r R
 both_ok (Ok a) p q f = f a p q

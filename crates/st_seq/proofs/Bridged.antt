@@ -13,7 +13,7 @@ use Rattle.st_marks.specs.Extends.{GainsItems, no_more, item_gained, item_kept}
 use Rattle.st_marks.specs.Row.{CellMark, Counted, Gap, Touch, Make, Fill, RowPart, SameCell, same_to, how, step_cell, step_row, embed_cell, embed_made, embed_cells, embed_row}
 use Rattle.st_marks.specs.How.{is_here}
 use Rattle.st_seq.specs.Views.{view_after}
-use Rattle.st_seq.specs.inside.Views.{view_before}
+use Rattle.st_seq.specs.Differences.{view_before}
 use Rattle.st_seq.specs.inside.Cells.{turned_mark, stepped_mark, full_first, full_then, bridged_mark, bridged_piece, bridge_row, made_full, gained_full}
 use Rattle.st_seq.specs.Changes.{StandsIn, AreOld, NamesNoGained, NoGroupAtGained, full_after, made_cells, carried_cells, carried_row, placed_by, row_after, void_part}
 use Rattle.st_seq.specs.Rows.{NamesMoved}

@@ -7,16 +7,15 @@ use Rattle.st_ids.specs.declared.names.NodeId.{NodeId}
 use Rattle.st_kind.specs.Named.{Nodes}
 use Rattle.st_marks.specs.declared.intents.Owned.{Owned}
 use Rattle.st_marks.specs.declared.intents.To.{To}
-use Rattle.st_marks.specs.declared.marks.How.TheVariants.{Here, Leave}
 use Rattle.st_marks.specs.declared.places.Slot.{Slot}
 use Rattle.st_ids.specs.Root.{root}
-use Rattle.st_marks.specs.Row.{RowPart, how, same_to}
+use Rattle.st_marks.specs.Row.{RowPart, how}
 use Rattle.st_marks.specs.How.{is_here}
 use Rattle.st_marks.proofs.Members.{all-has, append_left, append_right, distinct-between, distinct-left, distinct-right, has-all}
 use Rattle.st_seq.specs.Changes.{StandsIn, carried_cells, carried_row, full_after, made_cells, placed_by, void_part}
 use Rattle.st_seq.specs.Sequence.{RowCanHold, RowFits, SeqPart, row_carried, cells_of, made_in, standing}
-use Rattle.st_seq.proofs.Laid.{in_cells}
-use Rattle.st_seq.proofs.Rebased.{same_put}
+use Rattle.st_seq.proofs.Laid.{in_cells, in_row}
+use Rattle.st_seq.proofs.Rebased.{same_put, is_put}
 
 -- ## Where the cells after come from
 
@@ -166,13 +165,6 @@ stays_or_comes : (g : Option To) (a : CellId) (b : Bool) → full_after g a b �
 stays_or_comes None a b e = inl (refl, e)
 stays_or_comes (Some to) a b e = inr (ap (λ (q : To). Some q) (same_put to a e))
 
-is_put : (g : Option To) (a : CellId) → is_here (how g (To.Cell a)) ≡ true → g ≡ Some (To.Cell a)
-is_put None a e = cc
-is_put (Some to) a e = elim (same_to to (To.Cell a)) as (λ b. same_to to (To.Cell a) ≡ b → is_here (cond b Here Leave) ≡ true → Some to ≡ Some (To.Cell a)) [
-  | true ↦ (λ f h. ap (λ (q : To). Some q) (same_put to a f))
-  | false ↦ (λ f h. cc)
-] refl e
-
 stands_after : (q : RowPart) (c : List Slot) (t : Slot) → Has (carried_row q c) t → t.full ≡ true → StoodOrPut q c t
 stands_after q c t h e = elim (from_row q c t h) [
   | inl r ↦ elim (stays_or_comes (q.target_of r.0.node) r.0.cell r.0.full (ap (λ (s : Slot). s.full) r.2 ∙ e)) [
@@ -204,11 +196,6 @@ stands_in [] n h = absurd h
 stands_in (s ∷ d) n (inl w) = (s, inl refl, w.1, w.0)
 stands_in (s ∷ d) n (inr h) = let r = stands_in d n h in (r.0, inr r.1, r.2, r.3)
 
-in_stands : (d : List Slot) (t : Slot) → Has d t → t.full ≡ true → StandsIn t.node d
-in_stands [] t h e = absurd h
-in_stands (s ∷ d) t (inl q) e = inl (slot_node q, ap (λ (s : Slot). s.full) q ∙ e)
-in_stands (s ∷ d) t (inr h) e = inr (in_stands d t h e)
-
 -- ## Together
 
 leads_to_row : (q : RowPart) (c : List Slot) → RowCanHold c → AreDistinct (λ (o : Owned). o.cell) (made_in q c) → AreFresh (made_in q c) c → q.target_of root ≡ None → length (carried_row q c) < 2 ^ 32 → RowCanHold (carried_row q c)
@@ -226,7 +213,7 @@ leads_to_row q c w m new r short = record {
         (apart_from q c (q.new_cells None) m (λ o h i. new o (append_left (q.new_cells None) (made_behind q c) o h) i))
 
     root_after : (t : Slot) → t.node ≡ root → StoodOrPut q c t → ⊥
-    root_after t e (inl a) = w.no_root (subst (λ n. StandsIn n c) (a.1.3 ∙ e) (in_stands c a.1.0 a.1.1 a.1.2))
+    root_after t e (inl a) = w.no_root (subst (λ n. StandsIn n c) (a.1.3 ∙ e) (in_row c a.1.0 a.1.1 a.1.2))
     root_after t e (inr a) = unput q.target_of (To.Cell t.cell) (sym e) r a
 
 -- what a part that fits leads to, whole or void, is what a row can hold, if it is short enough

@@ -14,7 +14,7 @@ use Rattle.st_marks.specs.Listings.{CellView, cell_view, counted_view, empty_vie
 use Rattle.st_seq.specs.inside.Cells.{effect_row}
 use Rattle.st_seq.specs.Changes.{StandsIn, carried_row}
 use Rattle.st_seq.proofs.Effected.{effect_row-embed_row, grown_row}
-use Rattle.st_seq.specs.inside.Views.{agree, agree_if_named, same_bool, first_difference}
+use Rattle.st_seq.specs.Differences.{agree, agree_if_named, same_bool, first_difference}
 
 -- a name that is told is this one
 abbrev pub IfTold : {A : Type 0} → Option A → A → Type 0

@@ -10,7 +10,7 @@ use Rattle.st_kind.specs.declared.apart.Apart.{Apart}
 use Rattle.st_marks.specs.Agree.{SameIfBoth, IsSameView}
 use Rattle.st_marks.specs.Listings.{CellView}
 use Rattle.st_seq.specs.Views.{DifferAt}
-use Rattle.st_seq.specs.inside.Views.{agree, agree_if_named, same_bool, first_difference, IsApart}
+use Rattle.st_seq.specs.Differences.{agree, agree_if_named, same_bool, first_difference, IsApart}
 use Rattle.st_lemmas.proofs.Bools.{and-second, and-first}
 
 -- ## One cell

@@ -26,14 +26,9 @@ use Rattle.st_seq.specs.Changes.{StandsIn}
 use Rattle.st_seq.specs.Sequence.{RowCanHold, RowFits, ListsNew, SeqPart, cells_of, made_in, row_part_of, standing}
 use Rattle.st_seq.proofs.Telling.{any_has}
 use Rattle.st_lemmas.proofs.Lists.{flat_map-map}
-use Rattle.st_marks.proofs.Shared.{one_cell, made}
+use Rattle.st_marks.proofs.Shared.{one_cell, made, not_made}
 use Rattle.st_marks.proofs.Unique.{distinct_content}
-use Rattle.st_lemmas.proofs.Bools.{refuted-false, true-false}
-
--- ## New nodes
-
-pub not_made : (D : Document) (N : Intent) → Fits D N → (n : NodeId) → IsSome (D.nodes n) → is_new N n ≡ false
-not_made D N w n h = refuted-false (is_new N n) (λ e. true-false h (ap is_some (w.fresh_nodes n e)))
+use Rattle.st_lemmas.proofs.Bools.{true-false}
 
 -- ## What the row holds
 

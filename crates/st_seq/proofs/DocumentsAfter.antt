@@ -19,7 +19,7 @@ use Rattle.st_marks.specs.Document.{Document, IsSoundInForm, content, is_cell, n
 use Rattle.st_marks.specs.Intent.{Fits, cells_of as group_cells_of, clears, group_at, group_cells, is_new, new_row_of, put_of, same_anchor}
 use Rattle.st_marks.specs.Embedding.{row_part}
 use Rattle.std.specs.List.{find}
-use Rattle.st_seq.proofs.Documents.{not_made}
+use Rattle.st_marks.proofs.Shared.{not_made}
 use Rattle.st_seq.proofs.Rebased.{same_put}
 use Rattle.st_marks.specs.Row.{RowPart, how, same_to}
 use Rattle.st_marks.specs.How.{is_here}

@@ -23,20 +23,17 @@ use Rattle.st_marks.proofs.Lookups.{group_at-group, made_there}
 use Rattle.st_marks.proofs.Members.{flat_map-has, has-all}
 use Rattle.st_seq.specs.Changes.{StandsIn, goes_in_turn, interleaved_cells}
 use Rattle.st_seq.specs.Sequence.{RowPartsAreJoined, ListsNew, cells_of, row_part_of}
-use Rattle.st_seq.proofs.Documents.{in_document, is_slot, not_made}
-use Rattle.st_marks.proofs.Shared.{old_put}
+use Rattle.st_seq.proofs.Documents.{in_document, is_slot}
+use Rattle.st_marks.proofs.Shared.{not_made, old_put}
+use Rattle.st_lemmas.proofs.Options.{is_some-option_map_or}
 
 -- ## Names
 
 abbrev type_of : NewNode → NodeType
 type_of m = record { ty = m.ty; leaf = m.leaf }
 
-either_new : (a b : Option NewNode) → is_some (option_map type_of (option_or a b)) ≡ (is_some (option_map type_of a) || is_some (option_map type_of b))
-either_new None b = refl
-either_new (Some x) b = refl
-
 new_in_either : (N M J : Intent) → IsJoin N M J → (n : NodeId) → is_new J n ≡ (is_new N n || is_new M n)
-new_in_either N M J j n = ap (λ (o : Option NewNode). is_some (option_map type_of o)) (j.new_nodes n) ∙ either_new (new_node N n) (new_node M n)
+new_in_either N M J j n = ap (λ (o : Option NewNode). is_some (option_map type_of o)) (j.new_nodes n) ∙ is_some-option_map_or type_of (new_node N n) (new_node M n)
 
 -- ## Groups
 

@@ -23,7 +23,7 @@ use Rattle.st_marks.specs.Listings.{cells_before, cells_in}
 use Rattle.st_marks.proofs.Members.{all-has, has-all, append_left, append_right, has-append, map-has, has-map, distinct-append, distinct-between, distinct-left, distinct-right}
 use Rattle.st_seq.proofs.Truth.{and_true, on}
 use Rattle.st_seq.specs.Views.{row_views}
-use Rattle.st_seq.specs.inside.Views.{first_difference}
+use Rattle.st_seq.specs.Differences.{first_difference}
 use Rattle.st_seq.specs.Changes.{AreOld}
 use Rattle.st_seq.specs.inside.NormalForm.{IsNormalRowChange, is_normal, stands_before, begins_with_skip, places, makes_cell, puts_found, has_cell, stands_in, may_put, are_allowed}
 use Rattle.st_seq.specs.Laws.{spread-merge, not_again}
@@ -33,7 +33,7 @@ use Rattle.st_seq.proofs.Described.{no_difference, change_finds}
 use Rattle.st_seq.proofs.Laid.{none_lays, in_cells}
 use Rattle.st_seq.proofs.Leading.{row_itself}
 use Rattle.st_seq.proofs.Merging.{AllStand, Stands, merge-stands, stands-merge}
-use Rattle.st_seq.proofs.Rebased.{same_put}
+use Rattle.st_seq.proofs.Rebased.{is_put}
 use Rattle.st_seq.proofs.Telling.{any_has, has_any, none_any, told, told_fits, told_row}
 use Rattle.st_lemmas.proofs.Bools.{and-true, refuted-false, not-true}
 
@@ -174,13 +174,6 @@ cells_once p (s ∷ c) o m f =
 
 -- ## Each mark is allowed
 
-here_goes : (g : Option To) (a : CellId) → is_here (how g (To.Cell a)) ≡ true → g ≡ Some (To.Cell a)
-here_goes None a e = cc
-here_goes (Some to) a e = elim (same_to to (To.Cell a)) as (λ z. same_to to (To.Cell a) ≡ z → is_here (cond z Here Leave) ≡ true → ◌≡◌ {A = Option To} (Some to) (Some (To.Cell a))) [
-  | true ↦ (λ q r. ap (λ (x : To). Some x) (same_put to a q))
-  | false ↦ (λ q r. cc)
-] refl e
-
 module _ (p : RowPart) (rev : Rev) (c : List Slot) (all : List CellMark) where
   -- what is known of each mark
   abbrev Good : CellMark → Type 0
@@ -273,7 +266,7 @@ module _ (p : SeqPart) (c : List Slot) (w : RowFits p c) where
   ] refl)
 
   good_one : (o : Owned) → Has (made_in p.part c) o → Sound (Make o.cell o.node (is_here (how (p.part.target_of o.node) (To.Cell o.cell))))
-  good_one o v = (same_rev-itself o.cell.0.rev p.rev (all-has (λ (x : Owned). x.cell.0.rev ≡ p.rev) (made_in p.part c) o w.cell_rev v), cell_absent c o.cell (all-has (λ (x : Owned). Has (cells_of c) x.cell → ⊥) (made_in p.part c) o w.fresh v), may, here_goes (p.part.target_of o.node) o.cell)
+  good_one o v = (same_rev-itself o.cell.0.rev p.rev (all-has (λ (x : Owned). x.cell.0.rev ≡ p.rev) (made_in p.part c) o w.cell_rev v), cell_absent c o.cell (all-has (λ (x : Owned). Has (cells_of c) x.cell → ⊥) (made_in p.part c) o w.fresh v), may, is_put (p.part.target_of o.node) o.cell)
     where
       may : may_put c all o.node ≡ true
       may = elim (all-has (λ (x : Owned). (is_among p.new x.node ≡ true) ⊎ (p.part.target_of x.node ≢ None)) (made_in p.part c) o w.owners v) [
@@ -286,10 +279,10 @@ module _ (p : SeqPart) (c : List Slot) (w : RowFits p c) where
   good_group (o ∷ os) xs h g = (good_one o (h o (inl refl)), good_group os xs (λ x v. h x (inr v)) g)
 
   good_cell : (a : CellId) (n : NodeId) (b : Bool) → Sound (embed_cell p.part a n b)
-  good_cell a n true = elim (p.part.mentioned n) as (λ z. Sound (cond z (Touch a n (how (p.part.target_of n) (To.Cell a))) Counted)) [ true ↦ (λ e. here_goes (p.part.target_of n) a (ap is_here e)) | false ↦ tt ]
+  good_cell a n true = elim (p.part.mentioned n) as (λ z. Sound (cond z (Touch a n (how (p.part.target_of n) (To.Cell a))) Counted)) [ true ↦ (λ e. is_put (p.part.target_of n) a (ap is_here e)) | false ↦ tt ]
   good_cell a n false = elim (is_here (how (p.part.target_of n) (To.Cell a))) as (λ z. is_here (how (p.part.target_of n) (To.Cell a)) ≡ z → Sound (cond z (Fill a n) (Gap a))) [
     | true ↦ (λ e.
-        let put = here_goes (p.part.target_of n) a e in
+        let put = is_put (p.part.target_of n) a e in
         let some : p.part.target_of n ≢ None = λ q. let z : ◌≡◌ {A = Option To} None (Some (To.Cell a)) = sym q ∙ put in cc in
         (may_be n (λ r. some (ap p.part.target_of r ∙ w.root_stays)) (λ s u q. some), put))
     | false ↦ (λ e. tt)

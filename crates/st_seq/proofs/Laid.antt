@@ -13,7 +13,7 @@ use Rattle.st_marks.specs.Row.{CellMark, Counted, Gap, Touch, Make, Fill, RowPar
 use Rattle.st_marks.specs.How.{is_here}
 use Rattle.st_marks.specs.Listings.{cell_view, cells_before}
 use Rattle.st_seq.specs.Views.{row_views}
-use Rattle.st_seq.specs.inside.Views.{agree, first_difference, view_before}
+use Rattle.st_seq.specs.Differences.{agree, first_difference, view_before}
 use Rattle.st_seq.specs.Changes.{StandsIn}
 use Rattle.st_seq.specs.Laws.{not_again}
 use Rattle.st_seq.specs.inside.Reading.{is_made}

@@ -7,7 +7,7 @@ use Rattle.st_marks.specs.declared.marks.How.TheVariants.{Stay}
 use Rattle.st_marks.specs.declared.places.Slot.{Slot}
 use Rattle.st_marks.specs.Row.{CellMark, Counted, Gap, Touch, Make, Fill, RowPart, how, step_cell, embed_cell, embed_made, embed_cells}
 use Rattle.st_marks.specs.How.{is_here}
-use Rattle.st_seq.specs.inside.Walks.{CellPiece, Both, Then, beside, meeting}
+use Rattle.st_seq.specs.Walks.{CellPiece, Both, Then, beside, meeting}
 
 -- what is found is never a made cell
 pub beside-found : (f : CellPiece → CellMark) (p : RowPart) (c : CellId) (n : NodeId) (b : Bool) (xs ys : List CellMark) → map f (beside (embed_cell p c n b ∷ xs) ys) ≡ map f (meeting (embed_cell p c n b) (beside xs) ys)

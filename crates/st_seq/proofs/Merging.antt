@@ -5,7 +5,7 @@ use Rattle.st_marks.proofs.MarkLengths.{spread-append}
 use Rattle.st_marks.specs.declared.marks.Mark.{Mark}
 use Rattle.st_marks.specs.Row.{CellMark, Counted, Gap, Touch, Make, Fill, spread, counted_cells, merge, skip_one}
 use Rattle.st_seq.specs.inside.NormalForm.{begins_with_skip}
-use Rattle.st_seq.specs.inside.Merged.{IsMerged, is_skip, count_in}
+use Rattle.st_seq.specs.Merged.{IsMerged, is_skip, count_in}
 
 -- ## Told mark by mark
 

@@ -4,7 +4,7 @@ use Rattle.std.specs.Option.{option_or, option_map_or}
 use Rattle.std.proofs.lemmas.Bool.Decides.{nat_tests}
 use Rattle.std.proofs.lemmas.List.{take_more, get_or_default, take-append-drop}
 use Rattle.st_ids.specs.Listing.{Has}
-use Rattle.st_ids.specs.Order.{same_cell}
+use Rattle.st_ids.specs.Order.{same_cell, lesser}
 use Rattle.st_ids.proofs.Orders.{same_cell-itself, same_cell-true}
 use Rattle.st_ids.specs.declared.names.Atom.{Atom}
 use Rattle.st_ids.specs.declared.names.CellId.{CellId}
@@ -15,7 +15,7 @@ use Rattle.st_marks.specs.Row.{CellMark, Counted, Gap, Touch, Make, Fill, counte
 use Rattle.st_marks.specs.Listings.{CellView, cells_after, cells_before, cell_view}
 use Rattle.st_seq.specs.Views.{row_views}
 use Rattle.st_seq.specs.NamedApart.{stands_at, standing_at, found_at, made_at, named_before, named_after, named_in_row, first_named, same_atom, CantBoth, NamedApart, named_apart}
-use Rattle.st_seq.specs.inside.NamedApart.{lesser, clash_with, first_clash, IsPlace}
+use Rattle.st_seq.specs.inside.NamedApart.{clash_with, first_clash, IsPlace}
 use Rattle.st_seq.specs.declared.name_clashes.NamedAt.{NamedAt}
 use Rattle.st_seq.proofs.MarkByMark.{more_cells}
 

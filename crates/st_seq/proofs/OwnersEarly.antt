@@ -1,9 +1,8 @@
 -- Cells of new nodes that are found before they are made: the search, and that changes of one row have none.
 use Rattle.std.proofs.Common.{◌≡◌, ◌⊎◌, inl, inr, ◌+◌, ◌<◌, ◌≤◌, ◌&&◌, not, ℕ, zero, suc, Bool, true, false, List, [], ◌∷◌, ◌++◌, map, Option, Some, None, is_some, cond, length, take, get_or, slice_get, refl, sym, ap, ◌∙◌, arith, subst, min}
-use Rattle.std.specs.Option.{option_map_or}
 use Rattle.std.proofs.lemmas.List.{take_more, get_or_default}
 use Rattle.st_ids.specs.Listing.{Has}
-use Rattle.st_ids.specs.Order.{same_node}
+use Rattle.st_ids.specs.Order.{same_node, lesser}
 use Rattle.st_ids.proofs.Orders.{same_node-itself}
 use Rattle.st_ids.specs.declared.names.Atom.{Atom}
 use Rattle.st_ids.specs.declared.names.CellId.{CellId}
@@ -24,7 +23,7 @@ use Rattle.st_seq.specs.declared.values.RowChange.{RowChange}
 use Rattle.st_seq.proofs.Described.{DescribeAll, IfTold}
 use Rattle.st_seq.proofs.NodesOnce.{change_before}
 use Rattle.st_seq.specs.NamedApart.{found_at, first_named, same_atom}
-use Rattle.st_seq.specs.inside.NamedApart.{IsPlace, lesser}
+use Rattle.st_seq.specs.inside.NamedApart.{IsPlace}
 use Rattle.st_seq.specs.OwnedEarly.{OwnedEarly, owned_early}
 use Rattle.st_seq.specs.inside.OwnedEarly.{has_name, early_place, first_early}
 use Rattle.st_seq.specs.declared.name_clashes.NamedAt.{NamedAt}
@@ -33,6 +32,7 @@ use Rattle.st_lemmas.proofs.Lists.{map-append}
 use Rattle.st_lemmas.proofs.Bools.{refuted-false, true-false}
 use Rattle.st_marks.proofs.MarkLengths.{before-append}
 use Rattle.st_seq.proofs.MarkByMark.{more_cells}
+use Rattle.st_lemmas.proofs.Options.{one_some}
 
 -- ## One mark more
 
@@ -93,15 +93,6 @@ abbrev OneTold : List NamedAt → List NamedAt → ℕ → CellView → Option �
 OneTold N M k s None = (c : CellId) (n : NodeId) (b : Bool) → s ≡ cell_view c n b → has_name N n.0 ≡ true → has_name M c.0 ≡ false → ⊥
 OneTold N M k s (Some j) = (j ≡ k) × ((c : CellId) × (n : NodeId) × (b : Bool) × (s ≡ cell_view c n b) × (has_name N n.0 ≡ true) × (has_name M c.0 ≡ false))
 
-one_cell : (c d : CellId) → Some c ≡ Some d → c ≡ d
-one_cell c d e = ap (λ (o : Option CellId). option_map_or (λ (x : CellId). x) o c) e
-
-one_node : (n m : NodeId) → Some n ≡ Some m → n ≡ m
-one_node n m e = ap (λ (o : Option NodeId). option_map_or (λ (x : NodeId). x) o n) e
-
-one_seen : (s t : CellView) → Some s ≡ Some t → s ≡ t
-one_seen s t e = ap (λ (o : Option CellView). option_map_or (λ (x : CellView). x) o s) e
-
 tell_one : (N M : List NamedAt) (k : ℕ) (s : CellView) → OneTold N M k s (early_place N M k s.cell s.node)
 tell_one N M k s = go s.cell s.node refl refl
   where
@@ -111,9 +102,9 @@ tell_one N M k s = go s.cell s.node refl refl
     go (Some a) (Some m) e f = by (has_name N m.0) refl (has_name M a.0) refl
       where
         by : (u : Bool) → has_name N m.0 ≡ u → (v : Bool) → has_name M a.0 ≡ v → OneTold N M k s (cond (u && not v) (Some k) None)
-        by true g true i = λ c n b h x y. true-false i (ap (λ (z : CellId). has_name M z.0) (one_cell a c (sym e ∙ ap (λ (v : CellView). v.cell) h)) ∙ y)
+        by true g true i = λ c n b h x y. true-false i (ap (λ (z : CellId). has_name M z.0) (one_some a c (sym e ∙ ap (λ (v : CellView). v.cell) h)) ∙ y)
         by true g false i = (refl, (a, m, s.full, (λ j. record { cell = e j; node = f j; full = s.full }), g, i))
-        by false g v i = λ c n b h x y. true-false (ap (λ (z : NodeId). has_name N z.0) (one_node m n (sym f ∙ ap (λ (v : CellView). v.node) h)) ∙ x) g
+        by false g v i = λ c n b h x y. true-false (ap (λ (z : NodeId). has_name N z.0) (one_some m n (sym f ∙ ap (λ (v : CellView). v.node) h)) ∙ x) g
 
 abbrev ListTold : List NamedAt → List NamedAt → ℕ → List CellView → Option ℕ → Type 0
 ListTold N M k X None = (i : ℕ) → IsEarly N M X i → ⊥
@@ -123,12 +114,12 @@ tell_more : (N M : List NamedAt) (k : ℕ) (s : CellView) (X : List CellView) (p
 tell_more N M k s X None None t a = none
   where
     none : (i : ℕ) → IsEarly N M (s ∷ X) i → ⊥
-    none zero (c, n, b, e, x, y) = t c n b (one_seen s (cell_view c n b) e) x y
+    none zero (c, n, b, e, x, y) = t c n b (one_some s (cell_view c n b) e) x y
     none (suc i) h = a i h
 tell_more N M k s X None (Some j) t a = ((suc a.0.0, (let e = a.0.1 in omega (arith, e)), a.0.2), most)
   where
     most : (i : ℕ) → IsEarly N M (s ∷ X) i → j ≤ k + i
-    most zero (c, n, b, e, x, y) = absurd (t c n b (one_seen s (cell_view c n b) e) x y)
+    most zero (c, n, b, e, x, y) = absurd (t c n b (one_some s (cell_view c n b) e) x y)
     most (suc i) h = let l = a.1 i h in omega (arith, l)
 tell_more N M k s X (Some j) None t a = ((0, (let e = t.0 in omega (arith, e)), here t.1), most)
   where
@@ -211,7 +202,7 @@ described_at [] [] k c n b h e = cc
 described_at [] (x ∷ Y) k c n b h e = absurd h
 described_at (s ∷ d) [] k c n b h e = absurd h
 described_at (s ∷ d) (x ∷ Y) zero c n b h e =
-    let told = subst (λ (y : CellView). IfTold y.cell s.cell × IfTold y.node s.node) (one_seen x (cell_view c n b) e) (h.0.1, h.0.2) in
+    let told = subst (λ (y : CellView). IfTold y.cell s.cell × IfTold y.node s.node) (one_some x (cell_view c n b) e) (h.0.1, h.0.2) in
     (s, inl refl, told.0, told.1)
 described_at (s ∷ d) (x ∷ Y) (suc k) c n b h e = let r = described_at d Y k c n b h.1 e in (r.0, inr r.1, r.2, r.3)
 

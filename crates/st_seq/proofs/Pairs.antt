@@ -6,16 +6,16 @@ use Rattle.st_marks.specs.declared.places.Slot.{Slot}
 use Rattle.st_marks.specs.Listings.{CellView, cell_view, cells_before, cells_after}
 use Rattle.st_seq.specs.inside.Cells.{after_row}
 use Rattle.st_seq.specs.Views.{row_views, view_after}
-use Rattle.st_seq.specs.inside.Views.{agree, first_difference, view_before}
-use Rattle.st_seq.specs.inside.Merged.{is_skip}
+use Rattle.st_seq.specs.Differences.{agree, first_difference, view_before}
+use Rattle.st_seq.specs.Merged.{is_skip}
 use Rattle.st_seq.specs.Reading.{cell_of}
-use Rattle.st_seq.specs.inside.Reading.{left, is_made, is_make, IsFirst, IsSingle}
+use Rattle.st_seq.specs.inside.Reading.{left, is_made, is_make, IsFirst}
+use Rattle.st_seq.specs.Pieces.{IsSingle, both_counted}
 use Rattle.st_seq.specs.declared.front_mark.Head.{Head}
 use Rattle.st_ids.specs.declared.names.CellId.{CellId}
 use Rattle.st_ids.specs.declared.names.NodeId.{NodeId}
-use Rattle.st_seq.specs.inside.Turns.{both_counted}
 use Rattle.st_seq.proofs.Merging.{counted-plus, length-counted}
-use Rattle.st_seq.specs.inside.Walks.{CellPiece, Both, Then, in_turn, meeting, beside}
+use Rattle.st_seq.specs.Walks.{CellPiece, Both, Then, in_turn, meeting, beside}
 
 pub single : (m : Mark) → is_skip m ≡ false → IsSingle m
 single (Mark.Skip k) s = cc

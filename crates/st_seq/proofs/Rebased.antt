@@ -22,6 +22,14 @@ same_put To.Nowhere c e = cc
 same_put (To.Cell d) c e = ap (λ (x : CellId). To.Cell x) (same_cell-true d c e)
 same_put (To.Register f) c e = cc
 
+-- who is set there is put there
+pub is_put : (g : Option To) (a : CellId) → is_here (how g (To.Cell a)) ≡ true → g ≡ Some (To.Cell a)
+is_put None a e = cc
+is_put (Some to) a e = elim (same_to to (To.Cell a)) as (λ b. same_to to (To.Cell a) ≡ b → is_here (cond b Here Leave) ≡ true → Some to ≡ Some (To.Cell a)) [
+  | true ↦ (λ f h. ap (λ (q : To). Some q) (same_put to a f))
+  | false ↦ (λ f h. cc)
+] refl e
+
 -- ## How the walk goes
 
 over-made : (t : NodeId → Option How) (p : RowPart) (os : List Owned) (xs ys : List CellMark) → over_row t (embed_made p os ++ xs) ys ≡ embed_made p os ++ over_row t xs ys

@@ -4,8 +4,8 @@ use Rattle.std.proofs.lemmas.List.{map-append}
 use Rattle.st_marks.specs.Row.{CellMark, Counted, Gap, Touch, Make, Fill, counted_cells}
 use Rattle.st_marks.specs.Listings.{cells_before, cells_made}
 use Rattle.st_seq.specs.Changes.{may_list}
-use Rattle.st_seq.specs.inside.Turns.{both_counted}
-use Rattle.st_seq.specs.inside.Walks.{CellPiece, Both, in_turn, meeting, beside}
+use Rattle.st_seq.specs.Pieces.{both_counted}
+use Rattle.st_seq.specs.Walks.{CellPiece, Both, in_turn, meeting, beside}
 
 pub map-both_counted : (f : CellPiece → CellMark) (k : ℕ) → f (Both Counted Counted) ≡ Counted → counted_cells k [] ≡ map f (both_counted k)
 map-both_counted f zero e = refl

@@ -1,4 +1,8 @@
 pub mod Views
+pub mod Differences
+pub mod Merged
+pub mod Pieces
+pub mod Walks
 pub mod Rows
 pub mod Changes
 pub mod Reading

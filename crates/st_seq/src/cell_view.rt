@@ -1,7 +1,7 @@
 //! What two listings say of one cell.
 ghost use Rattle.std.specs.Prelude.{◌≡◌};
 ghost use Rattle.st_seq.specs.Views.{view_of, view_after};
-ghost use Rattle.st_seq.specs.inside.Views.{agree, agree_if_named, same_bool, view_before};
+ghost use Rattle.st_seq.specs.Differences.{agree, agree_if_named, same_bool, view_before};
 ghost use Rattle.st_ids.specs.Order.{same_cell, same_node};
 ghost use Rattle.st_seq.specs.Reading.{cell_of};
 

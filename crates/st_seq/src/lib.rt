@@ -27,6 +27,8 @@ pub use laws::{
     rows_are_joined, rows_are_listed, rows_are_of_documents, rows_have_changes, rows_have_steps,
     rows_hold,
 };
+pub use merge_walk::{Table, lay_beside, lay_in_turn};
+pub use pieces::Piece;
 pub use row_bridge::bridge;
 pub use row_compose::{compose, join};
 pub use row_effect::{effect, void_effect};

@@ -2,7 +2,7 @@
 ghost use Rattle.std.specs.Prelude.{◌≡◌, ◌+◌, ◌^◌, ◌<◌, ◌∷◌, [], ◌++◌, length, OnOk, ℕ, false};
 ghost use Rattle.st_marks.specs.Row.{spread, counted_cells};
 ghost use Rattle.st_marks.specs.declared.marks.Mark.{Mark as AnyMark};
-ghost use Rattle.st_seq.specs.inside.Merged.{IsMerged, is_skip, count_in};
+ghost use Rattle.st_seq.specs.Merged.{IsMerged, is_skip, count_in};
 
 use st_ids::List;
 use st_marks::Mark;

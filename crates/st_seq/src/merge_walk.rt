@@ -2,11 +2,11 @@
 ghost use Rattle.std.specs.Prelude.{◌≡◌, ◌^◌, ◌<◌, ◌∷◌, [], map, length, IfOk};
 ghost use Rattle.st_marks.specs.Row.{CellMark, spread};
 ghost use Rattle.st_marks.specs.Listings.{cells_after, cells_before};
-ghost use Rattle.st_seq.specs.inside.Views.{first_difference, IsApart};
+ghost use Rattle.st_seq.specs.Differences.{first_difference, IsApart};
 ghost use Rattle.st_seq.specs.Changes.{may_list};
-ghost use Rattle.st_seq.specs.inside.Merged.{IsMerged};
-ghost use Rattle.st_seq.specs.inside.Turns.{cells_of_piece, IsOfCells};
-ghost use Rattle.st_seq.specs.inside.Walks.{CellPiece, in_turn, beside};
+ghost use Rattle.st_seq.specs.Merged.{IsMerged};
+ghost use Rattle.st_seq.specs.Pieces.{cells_of_piece, IsOfCells};
+ghost use Rattle.st_seq.specs.Walks.{CellPiece, in_turn, beside};
 
 use crate::mark_builder::push;
 use crate::pieces::{Piece, Turn, met, turn_beside, turn_in_turn};
@@ -15,7 +15,8 @@ use st_kind::Apart;
 use st_marks::Mark;
 use std::alloc::Global;
 
-/// What each piece of two listings comes to.
+/// What each piece of two listings comes to: the mark of a counted run or of one cell, by a table that `cell` states cell by
+/// cell. A call is asked only for pieces whose marks are of one cell each.
 pub trait Table {
     ghost cell: { Self → CellPiece → CellMark };
 
@@ -24,7 +25,9 @@ pub trait Table {
         ensures { spread (result ∷ []) ≡ map (cell self.now) (cells_of_piece piece) };
 }
 
-/// Lays a listing over one that finds what it leaves.
+/// Lays a listing over one that finds what it leaves: `first` are the marks of a row up to a state, `then` those from that
+/// state on. Answers the marks that the table makes of each piece, or the first cell, counted from 0 among those between the
+/// two, at which the listings differ. `then` is of fewer than 2^32 cells.
 pub fn lay_in_turn<T: Table>(
     alloc: Global,
     table: &T,
@@ -64,7 +67,9 @@ pub fn lay_in_turn<T: Table>(
     }
 }
 
-/// Lays a listing over one that finds the same.
+/// Lays a listing over one that finds the same: both are marks of a row from one state on. What `first` makes at a place
+/// stands left of what `then` makes there. Answers the marks that the table makes of each piece, or the first cell, counted
+/// from 0 among those that both find, at which the listings differ. Both together are of fewer than 2^32 cells.
 pub fn lay_beside<T: Table>(
     alloc: Global,
     table: &T,

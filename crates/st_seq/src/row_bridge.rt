@@ -13,9 +13,9 @@ ghost use Rattle.st_seq.specs.Views.{DifferAt};
 ghost use Rattle.st_seq.specs.inside.Cells.{turned_mark as turned_cell, stepped_mark as stepped_cell, bridged_mark as bridged_cell, bridged_piece, full_first as full_by_change, full_then as full_by_both, made_full as full_if_made, gained_full as full_if_gained};
 ghost use Rattle.st_seq.specs.Changes.{IsRowChange, Keeps, StandsOver, may_list, placed_by, row_after};
 ghost use Rattle.st_seq.specs.Reading.{cell_of};
-ghost use Rattle.st_seq.specs.inside.Reading.{IsSingle};
+ghost use Rattle.st_seq.specs.Pieces.{IsSingle};
 ghost use Rattle.st_seq.specs.Rows.{IsRowStep, NamesMoved};
-ghost use Rattle.st_seq.specs.inside.Walks.{First, Then};
+ghost use Rattle.st_seq.specs.Walks.{First, Then};
 
 use crate::cell_view::{after, before};
 use crate::merge_walk::{Table, lay_beside};

@@ -9,7 +9,7 @@ ghost use Rattle.st_seq.specs.Views.{DifferAt};
 ghost use Rattle.st_seq.specs.inside.Cells.{composed_mark as composed_cell, joined_mark as joined_cell};
 ghost use Rattle.st_seq.specs.Changes.{AreJoined, IsRowChange, carried_row};
 ghost use Rattle.st_seq.specs.Reading.{cell_of};
-ghost use Rattle.st_seq.specs.inside.Reading.{IsSingle};
+ghost use Rattle.st_seq.specs.Pieces.{IsSingle};
 ghost use Rattle.st_seq.specs.Rows.{IsRowStep, NamesLeavers};
 
 use crate::merge_walk::{Table, lay_in_turn};

@@ -6,7 +6,7 @@ ghost use Rattle.st_marks.specs.declared.places.Slot.{Slot};
 ghost use Rattle.st_marks.specs.Row.{RowPart, spread};
 ghost use Rattle.st_seq.specs.inside.Cells.{effect_row, void_row};
 ghost use Rattle.st_seq.specs.Changes.{AreOld, IsRowChange, carried_row, placed_by, void_part};
-ghost use Rattle.st_seq.specs.inside.Merged.{IsMerged};
+ghost use Rattle.st_seq.specs.Merged.{IsMerged};
 ghost use Rattle.st_seq.specs.Rows.{IsRowStep};
 
 use crate::mark_builder::push;

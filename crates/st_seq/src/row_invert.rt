@@ -4,7 +4,7 @@ ghost use Rattle.st_kind.specs.Named.{Nodes};
 ghost use Rattle.st_marks.specs.declared.places.Slot.{Slot};
 ghost use Rattle.st_marks.specs.Row.{spread};
 ghost use Rattle.st_seq.specs.inside.Cells.{invert_row};
-ghost use Rattle.st_seq.specs.inside.Merged.{IsMerged};
+ghost use Rattle.st_seq.specs.Merged.{IsMerged};
 ghost use Rattle.st_seq.specs.Rows.{IsRowStep, retreat_row};
 
 use crate::mark_builder::push;

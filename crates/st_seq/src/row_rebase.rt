@@ -11,9 +11,9 @@ ghost use Rattle.st_seq.specs.Views.{DifferAt};
 ghost use Rattle.st_seq.specs.inside.Cells.{rebased_mark as rebased_cell, rebased_piece, gained_cell, emptied_mark as emptied_cell, filled_mark as filled_cell, how_there as there};
 ghost use Rattle.st_seq.specs.Changes.{IsRowChange, Keeps, may_list};
 ghost use Rattle.st_seq.specs.Reading.{cell_of};
-ghost use Rattle.st_seq.specs.inside.Reading.{IsSingle};
+ghost use Rattle.st_seq.specs.Pieces.{IsSingle};
 ghost use Rattle.st_seq.specs.Rows.{IsRowStep};
-ghost use Rattle.st_seq.specs.inside.Walks.{Then};
+ghost use Rattle.st_seq.specs.Walks.{Then};
 
 use crate::merge_walk::{Table, lay_beside};
 use crate::pieces::Piece;

@@ -6,7 +6,7 @@ ghost use Rattle.st_marks.specs.declared.places.Slot.{Slot as Cell};
 ghost use Rattle.st_marks.specs.Row.{CellMark, spread};
 ghost use Rattle.st_marks.specs.Listings.{cells_before, cell_view};
 ghost use Rattle.st_seq.specs.Views.{DifferAt, row_views, view_of};
-ghost use Rattle.st_seq.specs.inside.Views.{first_difference, IsApart};
+ghost use Rattle.st_seq.specs.Differences.{first_difference, IsApart};
 ghost use Rattle.st_seq.specs.inside.Cells.{after_row};
 ghost use Rattle.st_seq.specs.inside.Reading.{left, is_make, IsFirst};
 ghost use Rattle.st_seq.specs.Rows.{IsRowStep};

@@ -1,4 +1,3 @@
 pub mod Allowed
 pub mod Clusters
 pub mod Refusals
-pub mod Limits

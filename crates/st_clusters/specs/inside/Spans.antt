@@ -1,5 +1,5 @@
 -- Which session a free number belongs to.
-use Rattle.std.specs.Prelude.{ℕ, ◌+◌, ◌^◌, ◌<◌, ◌≤◌, Bool, ◌&&◌, nat_lt, nat_le, List, length, slice_index_or, min, Option, Some, None, Result, Ok, Err, if◌then◌else◌}
+use Rattle.std.specs.Prelude.{ℕ, ◌+◌, ◌^◌, ◌<◌, ◌≤◌, Bool, ◌&&◌, nat_lt, nat_le, List, length, slice_index_or, Option, Result, Ok, Err, if◌then◌else◌}
 use Rattle.std.specs.List.{position}
 use Rattle.st_ids.specs.declared.names.Rev.{Rev}
 use Rattle.st_clusters.specs.Free.{free_number, ahead}
@@ -19,12 +19,6 @@ id_at place x free = if nat_lt (ahead (free_number x.uuid) free) x.generated
 -- whether a place has a session, and one whose span begins with a free number or before
 abbrev pub starts_by : List SessionIds → ℕ → ℕ → Bool
 starts_by ss free k = nat_lt k (length ss) && nat_le (start ss k) free
-
--- the least of the places that there are
-abbrev pub least : Option ℕ → Option ℕ → Option ℕ
-least None b = b
-least (Some a) None = Some a
-least (Some a) (Some b) = Some (min a b)
 
 -- the first n sessions of an order, and no others, have spans that begin with a free number or before
 pub record StartBy (ss : List SessionIds) (os : List ℕ) (free n : ℕ) : Type 0 where

@@ -1,5 +1,5 @@
 -- Places as an intent will leave them, read off the places before and where its puts lead.
-use Rattle.std.specs.Prelude.{◌≡◌, ℕ, suc, Option, Some, None, Bool, true, false, MatchOption, option_map, unwrap_or, if◌then◌else◌}
+use Rattle.std.specs.Prelude.{◌≡◌, Option, Some, None, Bool, true, false, MatchOption, option_map, unwrap_or, if◌then◌else◌}
 use Rattle.std.specs.BTreeMap.{BTreeMap, get}
 use Rattle.std.specs.Option.{option_map_or, option_or}
 use Rattle.std.specs.Ordering.{is_lt}
@@ -8,7 +8,7 @@ use Rattle.st_ids.specs.declared.names.CellId.{CellId}
 use Rattle.st_ids.specs.declared.names.NodeId.{NodeId}
 use Rattle.st_marks.specs.declared.intents.Intent.{Intent}
 use Rattle.st_marks.specs.declared.places.Spot.{Spot}
-use Rattle.st_marks.specs.Document.{Document, node_of, climb}
+use Rattle.st_marks.specs.Document.{Document, node_of}
 use Rattle.st_marks.specs.Intent.{is_new, new_row_of, put_of, put_in, clears}
 use Rattle.st_marks.specs.CarryOut.{spot_of, unless_cleared, unless_put}
 use Rattle.st_marks.specs.Verdict.{IsLeast}
@@ -28,10 +28,6 @@ with_moves N targets D = record D {
   place = λ n. place_ahead N (get node_cmp targets n) (D.place n);
   held = λ f. option_or (put_in N f) (if clears N f then None else unless_put N (D.held f));
 }
-
--- m is reached from n by steps up, at least one
-abbrev pub Reaches : (NodeId → Option NodeId) → NodeId → NodeId → Type 0
-Reaches up n m = (k : ℕ) × (climb up (suc k) n ≡ Some m)
 
 -- the least node that has P, or none where no node has it
 abbrev pub IsLeastOf : (NodeId → Type 0) → Option NodeId → Type 0

@@ -1,12 +1,8 @@
 -- Rings: from a node, steps up lead back to it.
-use Rattle.std.specs.Prelude.{◌≡◌, ℕ, suc, List, Option, Some, IsSome}
+use Rattle.std.specs.Prelude.{◌≡◌, List, Option, Some, IsSome}
 use Rattle.st_ids.specs.Listing.{Has}
 use Rattle.st_ids.specs.declared.names.NodeId.{NodeId}
-use Rattle.st_marks.specs.Document.{climb, ClimbsToAnEnd}
-
--- some steps up, at least one, lead from one node to another, where `up` is one step
-abbrev pub Reaches : (NodeId → Option NodeId) → NodeId → NodeId → Type 0
-Reaches up n m = (k : ℕ) × (climb up (suc k) n ≡ Some m)
+use Rattle.st_marks.specs.Document.{climb, ClimbsToAnEnd, Reaches}
 
 -- some node is above itself
 abbrev pub HasRing : (NodeId → Option NodeId) → Type 0

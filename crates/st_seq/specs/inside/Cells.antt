@@ -9,8 +9,8 @@ use Rattle.st_marks.specs.declared.marks.How.TheVariants.{Stay, Here, Leave}
 use Rattle.st_kind.specs.Named.{Nodes}
 use Rattle.st_marks.specs.declared.places.Slot.{Slot}
 use Rattle.st_seq.specs.Views.{view_after}
-use Rattle.st_seq.specs.inside.Views.{view_before}
-use Rattle.st_seq.specs.inside.Walks.{CellPiece, Both, First, Then, in_turn, beside}
+use Rattle.st_seq.specs.Differences.{view_before}
+use Rattle.st_seq.specs.Walks.{CellPiece, Both, First, Then, in_turn, beside}
 use Rattle.st_marks.specs.Row.{CellMark, Counted, Gap, Touch, Make, Fill, step_cell}
 
 -- ## Steps in turn

@@ -7,6 +7,7 @@ use Rattle.st_marks.specs.Listings.{cells_before}
 use Rattle.st_seq.specs.Views.{row_views}
 use Rattle.st_seq.specs.declared.name_clashes.NamedAt.{NamedAt}
 use Rattle.st_seq.specs.NamedApart.{SaidApart, first_named, named_before, named_in_row}
+use Rattle.st_ids.specs.Order.{lesser}
 
 -- ## Two listings
 
@@ -23,12 +24,6 @@ SaidBeside xs ys = SaidApart (cells_before xs) (cells_before ys) (named_before 0
 abbrev pub IsPlace : (ℕ → Type 0) → Option ℕ → Type 0
 IsPlace D None = (k : ℕ) → D k → ⊥
 IsPlace D (Some k) = IsFirstPlace D k
-
--- the lesser of two places
-abbrev pub lesser : Option ℕ → Option ℕ → Option ℕ
-lesser None o = o
-lesser (Some a) None = Some a
-lesser (Some a) (Some b) = Some (min a b)
 
 -- the first place at which something is named apart
 abbrev pub clash_with : NamedAt → Option NamedAt → Option ℕ

@@ -14,8 +14,8 @@ use Rattle.st_marks.specs.Embedding.{is_among}
 use Rattle.st_marks.specs.Row.{CellMark, Counted, Gap, Touch, Make, Fill, spread}
 use Rattle.st_marks.specs.Listings.{cells_before}
 use Rattle.st_seq.specs.Views.{row_views}
-use Rattle.st_seq.specs.inside.Views.{first_difference}
-use Rattle.st_seq.specs.inside.Merged.{is_skip}
+use Rattle.st_seq.specs.Differences.{first_difference}
+use Rattle.st_seq.specs.Merged.{is_skip}
 use Rattle.st_seq.specs.declared.values.RowChange.{RowChange}
 
 -- ## Marks

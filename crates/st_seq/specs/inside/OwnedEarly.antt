@@ -5,7 +5,7 @@ use Rattle.st_ids.specs.declared.names.CellId.{CellId}
 use Rattle.st_ids.specs.declared.names.NodeId.{NodeId}
 use Rattle.st_marks.specs.Listings.{CellView}
 use Rattle.st_seq.specs.NamedApart.{first_named}
-use Rattle.st_seq.specs.inside.NamedApart.{lesser}
+use Rattle.st_ids.specs.Order.{lesser}
 use Rattle.st_seq.specs.declared.name_clashes.NamedAt.{NamedAt}
 
 -- ## The same as a search

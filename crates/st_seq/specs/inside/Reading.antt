@@ -2,9 +2,10 @@
 use Rattle.std.specs.Prelude.{◌≡◌, ℕ, ◌<◌, Bool, true, false, Option, Some, None, List, [], ◌∷◌}
 use Rattle.st_marks.specs.declared.marks.Mark.{Mark}
 use Rattle.st_marks.specs.Row.{CellMark, Counted, Gap, Touch, Make, Fill, spread, counted_cells}
-use Rattle.st_seq.specs.inside.Merged.{is_skip}
+use Rattle.st_seq.specs.Merged.{is_skip}
 use Rattle.st_seq.specs.declared.front_mark.Head.{Head}
 use Rattle.st_seq.specs.Reading.{cell_of}
+use Rattle.st_seq.specs.Pieces.{IsSingle}
 
 -- so many counted cells, and then what the marks say
 abbrev pub left : ℕ → List Mark → List CellMark
@@ -31,10 +32,6 @@ is_make Head.End = false
 is_make (Head.Many k) = false
 is_make (Head.Make c n b) = true
 is_make (Head.Cell m) = false
-
--- a mark of one cell
-abbrev pub IsSingle : Mark → Type 0
-IsSingle m = spread (m ∷ []) ≡ cell_of m ∷ []
 
 -- the first cell of what comes first, and how many counted cells stand behind it
 abbrev pub IsOne : Head → Option (Mark × ℕ) → Type 0

@@ -1,36 +1,17 @@
 -- Two listings of one row that are laid over each other in turns.
-use Rattle.std.specs.Prelude.{◌≡◌, ℕ, zero, suc, ◌+◌, ◌<◌, Some, None, option_map, List, [], ◌∷◌, ◌++◌, length}
+use Rattle.std.specs.Prelude.{◌≡◌, ℕ, ◌+◌, ◌<◌, Some, None, option_map, List, [], ◌∷◌, ◌++◌, length}
 use Rattle.st_marks.specs.Row.{CellMark, Counted}
 use Rattle.st_marks.specs.Listings.{CellView, cells_before, cells_after}
 use Rattle.st_marks.specs.declared.places.Slot.{Slot}
 use Rattle.st_seq.specs.Views.{row_views}
-use Rattle.st_seq.specs.inside.Views.{first_difference}
+use Rattle.st_seq.specs.Differences.{first_difference}
 use Rattle.st_seq.specs.inside.Cells.{after_row}
 use Rattle.st_seq.specs.declared.rows.SlotTurn.{SlotTurn}
-use Rattle.st_seq.specs.Reading.{cell_of}
-use Rattle.st_seq.specs.inside.Reading.{left, IsSingle}
-use Rattle.st_seq.specs.inside.Walks.{CellPiece, Both, First, Then, in_turn, beside}
+use Rattle.st_seq.specs.inside.Reading.{left}
+use Rattle.st_seq.specs.Pieces.{cells_of_piece, IsOfCells}
+use Rattle.st_seq.specs.Walks.{CellPiece, Both, First, Then, in_turn, beside}
 use Rattle.st_seq.specs.declared.pieces.Piece.{Piece}
 use Rattle.st_seq.specs.declared.pieces.Turn.{Turn}
-
--- so many cells that both count
-abbrev pub both_counted : ℕ → List CellPiece
-both_counted zero = []
-both_counted (suc k) = Both Counted Counted ∷ both_counted k
-
--- a piece, cell by cell
-abbrev pub cells_of_piece : Piece → List CellPiece
-cells_of_piece (Piece.Counted k) = both_counted k
-cells_of_piece (Piece.Both a b) = Both (cell_of a) (cell_of b) ∷ []
-cells_of_piece (Piece.First a) = First (cell_of a) ∷ []
-cells_of_piece (Piece.Then b) = Then (cell_of b) ∷ []
-
--- the marks of a piece are of one cell each
-abbrev pub IsOfCells : Piece → Type 0
-IsOfCells (Piece.Counted k) = Unit {0}
-IsOfCells (Piece.Both a b) = IsSingle a × IsSingle b
-IsOfCells (Piece.First a) = IsSingle a
-IsOfCells (Piece.Then b) = IsSingle b
 
 -- how many cells both find
 abbrev pub found_count : Piece → ℕ

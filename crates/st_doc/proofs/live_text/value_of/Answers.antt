@@ -2,7 +2,8 @@ use Rattle.st_doc.proofs.LiveTexts.{on_any, leaf_shown, row_shown, registers_sho
 use Rattle.st_ids.specs.Listing.{AreDistinct, Has}
 use Rattle.st_ids.specs.declared.names.NodeId.{NodeId}
 use Rattle.st_marks.specs.Document.{Document, IsSoundInForm, above}
-use Rattle.st_marks.specs.LiveTree.{register, leaf_data, one_member, Shows}
+use Rattle.st_marks.specs.LiveTree.{register, one_member, Shows}
+use Rattle.st_ids.specs.LeafText.{leaf_data}
 use Rattle.st_marks.proofs.Members.{all-has, has-map}
 use Rattle.std.specs.List.{AllByRecursion}
 use Rattle.st_doc.specs.declared.seats.Seat.{Seat}

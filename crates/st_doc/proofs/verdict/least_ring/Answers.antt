@@ -2,8 +2,9 @@ use Rattle.std.proofs.Common.{sym, ap, ◌∙◌, subst, List, map, take, take_a
 use Rattle.std.proofs.lemmas.List.{map-append}
 use Rattle.st_ids.specs.Listing.{Has}
 use Rattle.st_marks.specs.declared.intents.Put.{Put}
-use Rattle.st_doc.specs.inside.Ahead.{above_ahead, Reaches, IsLeastOf}
-use Rattle.st_doc.proofs.Look.{take_one}
+use Rattle.st_doc.specs.inside.Ahead.{above_ahead, IsLeastOf}
+use Rattle.st_marks.specs.Document.{Reaches}
+use Rattle.st_lemmas.proofs.FirstItems.{take_one}
 use Rattle.st_doc.proofs.Verdicts.{least_more}
 use Rattle.st_doc.proofs.verdict.least_ring.Goals as goal
 

@@ -3,7 +3,8 @@ use Rattle.std.specs.BTreeSet.{contains}
 use Rattle.st_ids.specs.Order.{cell_cmp, same_cell}
 use Rattle.st_marks.specs.declared.intents.Owned.{Owned}
 use Rattle.st_doc.proofs.Look.{no_cell}
-use Rattle.st_heads.proofs.Listed.{found_more, set_more}
+use Rattle.st_heads.proofs.Listed.{set_more}
+use Rattle.st_lemmas.proofs.FirstItems.{found_more}
 use Rattle.st_heads.proofs.back.add_cells.Goals as goal
 
 pub loop-owned-preserved : goal.loop-owned-preserved

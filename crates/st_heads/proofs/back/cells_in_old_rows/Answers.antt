@@ -6,7 +6,7 @@ use Rattle.st_marks.specs.declared.intents.Group.{Group}
 use Rattle.st_marks.specs.declared.intents.Owned.{Owned}
 use Rattle.st_marks.specs.Back.{is_in}
 use Rattle.st_doc.specs.Doc.{document_of}
-use Rattle.st_heads.proofs.Listed.{found_more}
+use Rattle.st_lemmas.proofs.FirstItems.{found_more}
 use Rattle.st_heads.proofs.back.cells_in_old_rows.Goals as goal
 
 pub loop-group-preserved : goal.loop-group-preserved

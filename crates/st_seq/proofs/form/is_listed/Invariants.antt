@@ -3,7 +3,7 @@ use Rattle.std.specs.Prelude.{is_none}
 use Rattle.st_marks.specs.Row.{spread}
 use Rattle.st_marks.specs.Listings.{cells_before}
 use Rattle.st_seq.specs.Views.{row_views}
-use Rattle.st_seq.specs.inside.Views.{first_difference}
+use Rattle.st_seq.specs.Differences.{first_difference}
 use Rattle.st_seq.specs.inside.Reading.{left}
 use Rattle.st_seq.proofs.form.is_listed.Given as goal
 

@@ -1,6 +1,6 @@
 use Rattle.std.proofs.Common.{ap, sym, ◌∙◌, ◌∷◌, [], subst}
 use Rattle.st_marks.specs.Row.{spread}
-use Rattle.st_seq.specs.inside.Merged.{IsMerged}
+use Rattle.st_seq.specs.Merged.{IsMerged}
 use Rattle.st_marks.proofs.MarkLengths.{spread-append}
 use Rattle.st_seq.proofs.Merging.{behind_merged}
 use Rattle.st_seq.proofs.mark_builder.push_cell.Goals as goal

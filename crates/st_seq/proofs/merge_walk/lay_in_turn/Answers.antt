@@ -2,8 +2,8 @@ use Rattle.std.proofs.Common.{◌≡◌, ◌+◌, ◌<◌, ◌^◌, ◌∷◌, [
 use Rattle.std.proofs.lemmas.List.{length-map}
 use Rattle.st_marks.specs.Row.{spread}
 use Rattle.st_seq.specs.inside.Reading.{left}
-use Rattle.st_seq.specs.inside.Turns.{cells_of_piece}
-use Rattle.st_seq.specs.inside.Walks.{in_turn}
+use Rattle.st_seq.specs.Pieces.{cells_of_piece}
+use Rattle.st_seq.specs.Walks.{in_turn}
 use Rattle.st_seq.proofs.Walking.{has_room, in_turn_length, found_length}
 use Rattle.st_seq.proofs.merge_walk.lay_in_turn.Goals as goal
 

@@ -1,10 +1,10 @@
 use Rattle.std.proofs.Common.{◌≡◌, ◌+◌, ◌++◌, option_map, length, map}
 use Rattle.st_marks.specs.Row.{spread}
 use Rattle.st_marks.specs.Listings.{cells_after, cells_before}
-use Rattle.st_seq.specs.inside.Views.{first_difference}
-use Rattle.st_seq.specs.inside.Merged.{IsMerged}
+use Rattle.st_seq.specs.Differences.{first_difference}
+use Rattle.st_seq.specs.Merged.{IsMerged}
 use Rattle.st_seq.specs.inside.Reading.{left}
-use Rattle.st_seq.specs.inside.Walks.{in_turn}
+use Rattle.st_seq.specs.Walks.{in_turn}
 use Rattle.st_seq.proofs.merge_walk.lay_in_turn.Given as goal
 
 abbrev pub invariant-cells : goal.invariant-cells

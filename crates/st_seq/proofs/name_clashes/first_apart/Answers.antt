@@ -1,5 +1,5 @@
 use Rattle.std.proofs.Common.{ap, ◌∙◌}
-use Rattle.st_seq.specs.inside.NamedApart.{lesser}
+use Rattle.st_ids.specs.Order.{lesser}
 use Rattle.st_seq.proofs.NamedCells.{clash_on}
 use Rattle.st_seq.proofs.name_clashes.first_apart.Goals as goal
 

@@ -1,6 +1,7 @@
 use Rattle.std.proofs.Common.{◌⊎◌, sym, ◌∙◌, subst}
 use Rattle.st_seq.specs.NamedApart.{NamedApart}
-use Rattle.st_seq.specs.inside.NamedApart.{IsPlace, first_clash, lesser}
+use Rattle.st_seq.specs.inside.NamedApart.{IsPlace, first_clash}
+use Rattle.st_ids.specs.Order.{lesser}
 use Rattle.st_seq.proofs.NamedCells.{clash_place, lesser_place}
 use Rattle.st_seq.proofs.name_clashes.place_said.Goals as goal
 

@@ -1,5 +1,5 @@
 use Rattle.std.proofs.Common.{◌≡◌, sym, ◌∙◌, true, false}
-use Rattle.st_seq.specs.inside.Views.{agree, view_before}
+use Rattle.st_seq.specs.Differences.{agree, view_before}
 use Rattle.st_seq.specs.Reading.{cell_of}
 use Rattle.st_seq.specs.inside.Reading.{left}
 use Rattle.st_seq.proofs.Pairs.{found_by_both, found_otherwise}

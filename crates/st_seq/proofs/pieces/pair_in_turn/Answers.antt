@@ -1,6 +1,6 @@
 use Rattle.std.proofs.Common.{◌≡◌, sym, ◌∙◌, true}
 use Rattle.st_seq.specs.Views.{view_after}
-use Rattle.st_seq.specs.inside.Views.{agree, view_before}
+use Rattle.st_seq.specs.Differences.{agree, view_before}
 use Rattle.st_seq.specs.Reading.{cell_of}
 use Rattle.st_seq.specs.inside.Reading.{left}
 use Rattle.st_seq.proofs.Pairs.{left_and_found}

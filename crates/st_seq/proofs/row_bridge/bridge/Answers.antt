@@ -6,7 +6,7 @@ use Rattle.st_marks.specs.Embedding.{is_among}
 use Rattle.st_marks.specs.Row.{spread, step_row, embed_row}
 use Rattle.st_marks.specs.Listings.{cells_before}
 use Rattle.st_seq.specs.Views.{DifferAt}
-use Rattle.st_seq.specs.inside.Views.{first_difference}
+use Rattle.st_seq.specs.Differences.{first_difference}
 use Rattle.st_seq.specs.inside.Cells.{bridge_row, touch_of}
 use Rattle.st_seq.specs.Changes.{placed_by}
 use Rattle.st_seq.proofs.Answered.{none_apart}

@@ -3,7 +3,7 @@ use Rattle.st_kind.specs.Named.{either}
 use Rattle.st_marks.specs.Row.{spread, step_row}
 use Rattle.st_marks.specs.Listings.{cells_before, cells_after}
 use Rattle.st_seq.specs.Views.{DifferAt}
-use Rattle.st_seq.specs.inside.Views.{first_difference}
+use Rattle.st_seq.specs.Differences.{first_difference}
 use Rattle.st_seq.specs.inside.Cells.{compose_row}
 use Rattle.st_seq.proofs.Answered.{none_apart}
 use Rattle.st_seq.proofs.Composed.{compose_row-step_row, grows_on}

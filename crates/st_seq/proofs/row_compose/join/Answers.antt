@@ -2,7 +2,7 @@ use Rattle.std.proofs.Common.{ap, ◌∙◌, subst}
 use Rattle.st_marks.specs.Row.{spread, embed_row}
 use Rattle.st_marks.specs.Listings.{cells_before, cells_after}
 use Rattle.st_seq.specs.Views.{DifferAt}
-use Rattle.st_seq.specs.inside.Views.{first_difference}
+use Rattle.st_seq.specs.Differences.{first_difference}
 use Rattle.st_seq.specs.inside.Cells.{join_row}
 use Rattle.st_seq.specs.Changes.{carried_row}
 use Rattle.st_seq.proofs.Answered.{none_apart}

@@ -2,7 +2,7 @@ use Rattle.std.proofs.Common.{◌≡◌, take}
 use Rattle.st_marks.specs.Row.{spread}
 use Rattle.st_seq.specs.inside.Cells.{void_row}
 use Rattle.st_seq.specs.Changes.{placed_by}
-use Rattle.st_seq.specs.inside.Merged.{IsMerged}
+use Rattle.st_seq.specs.Merged.{IsMerged}
 use Rattle.st_seq.proofs.row_effect.voided_marks.Given as goal
 
 abbrev pub invariant-loop-mark : goal.invariant-loop-mark

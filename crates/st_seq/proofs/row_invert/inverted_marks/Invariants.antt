@@ -1,7 +1,7 @@
 use Rattle.std.proofs.Common.{◌≡◌, take}
 use Rattle.st_marks.specs.Row.{spread}
 use Rattle.st_seq.specs.inside.Cells.{invert_row}
-use Rattle.st_seq.specs.inside.Merged.{IsMerged}
+use Rattle.st_seq.specs.Merged.{IsMerged}
 use Rattle.st_seq.proofs.row_invert.inverted_marks.Given as goal
 
 abbrev pub invariant-loop-mark : goal.invariant-loop-mark

@@ -2,7 +2,7 @@ use Rattle.std.proofs.Common.{ap, ◌∙◌, subst}
 use Rattle.st_marks.specs.Row.{spread, step_row}
 use Rattle.st_marks.specs.Listings.{cells_before}
 use Rattle.st_seq.specs.Views.{row_views, DifferAt}
-use Rattle.st_seq.specs.inside.Views.{first_difference}
+use Rattle.st_seq.specs.Differences.{first_difference}
 use Rattle.st_seq.specs.inside.Cells.{after_row}
 use Rattle.st_seq.proofs.Leading.{after_row-step_row, row_itself}
 use Rattle.st_seq.proofs.Answered.{none_apart}

@@ -1,6 +1,6 @@
 use Rattle.std.proofs.Common.{◌≡◌, ap, sym, ◌∙◌, true}
 use Rattle.st_marks.specs.Listings.{CellView, cell_view}
-use Rattle.st_seq.specs.inside.Views.{agree, view_before}
+use Rattle.st_seq.specs.Differences.{agree, view_before}
 use Rattle.st_seq.specs.Reading.{cell_of}
 use Rattle.st_seq.specs.inside.Reading.{left}
 use Rattle.st_seq.proofs.Pairs.{slot_met}

@@ -2,7 +2,7 @@ use Rattle.std.proofs.Common.{◌≡◌, ◌+◌, ◌++◌, option_map, length}
 use Rattle.st_marks.specs.Row.{spread}
 use Rattle.st_marks.specs.Listings.{cells_before}
 use Rattle.st_seq.specs.Views.{row_views}
-use Rattle.st_seq.specs.inside.Views.{first_difference}
+use Rattle.st_seq.specs.Differences.{first_difference}
 use Rattle.st_seq.specs.inside.Cells.{after_row}
 use Rattle.st_seq.specs.inside.Reading.{left}
 use Rattle.st_seq.proofs.rows.slots_after.Given as goal

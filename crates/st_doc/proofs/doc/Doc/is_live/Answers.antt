@@ -3,9 +3,9 @@ use Rattle.std.specs.Map.{lookup}
 use Rattle.std.specs.Ordering.{is_eq}
 use Rattle.st_ids.specs.Order.{node_cmp, same_node}
 use Rattle.st_ids.proofs.Orders.{same_node-true, same_node-itself}
-use Rattle.st_marks.specs.Document.{above}
+use Rattle.st_marks.specs.Document.{above, Reaches}
 use Rattle.st_ids.specs.Root.{root}
-use Rattle.st_doc.specs.inside.Ahead.{Reaches, above_ahead}
+use Rattle.st_doc.specs.inside.Ahead.{above_ahead}
 use Rattle.st_doc.specs.Doc.{document_of}
 use Rattle.st_doc.proofs.Verdicts.{above_now, live_reaches}
 use Rattle.st_doc.proofs.doc.Doc.is_live.Goals as goal

@@ -1,10 +1,10 @@
 use Rattle.std.proofs.Common.{◌≡◌, refl, sym, subst, map}
 use Rattle.st_ids.specs.Listing.{Has}
 use Rattle.st_marks.specs.declared.intents.Put.{Put}
-use Rattle.st_marks.specs.Document.{above}
+use Rattle.st_marks.specs.Document.{above, Reaches}
 use Rattle.st_marks.specs.CarryOut.{full}
 use Rattle.st_marks.specs.Verdict.{IsAboveItself}
-use Rattle.st_doc.specs.inside.Ahead.{above_ahead, Reaches}
+use Rattle.st_doc.specs.inside.Ahead.{above_ahead}
 use Rattle.st_doc.specs.Doc.{document_of}
 use Rattle.st_doc.proofs.Verdicts.{above_is, least_from, put_among}
 use Rattle.st_doc.proofs.doc.Doc.ring.Goals as goal

@@ -5,7 +5,7 @@ use Rattle.st_marks.specs.Document.{IsLive}
 use Rattle.st_ids.specs.Root.{root}
 use Rattle.st_doc.specs.inside.Ahead.{IsLeastOf}
 use Rattle.st_doc.specs.Doc.{document_of}
-use Rattle.st_doc.proofs.Look.{take_one}
+use Rattle.st_lemmas.proofs.FirstItems.{take_one}
 use Rattle.st_doc.proofs.Verdicts.{least_more, not_tells}
 use Rattle.st_doc.proofs.doc.Doc.unmet_need.Goals as goal
 

@@ -1,6 +1,6 @@
 use Rattle.std.proofs.Common.{refl, ◌∙◌, sym, ap, map}
 use Rattle.st_seq.specs.inside.Cells.{composed_piece}
-use Rattle.st_seq.specs.inside.Turns.{cells_of_piece}
+use Rattle.st_seq.specs.Pieces.{cells_of_piece}
 use Rattle.st_seq.proofs.Walking.{map-both_counted}
 use Rattle.st_seq.proofs.row_compose.StepsTable.mark.Goals as goal
 

@@ -2,7 +2,7 @@ use Rattle.std.proofs.Common.{refl, ◌∙◌, sym, ap, map}
 use Rattle.std.specs.BTreeMap.{get}
 use Rattle.st_ids.specs.Order.{node_cmp}
 use Rattle.st_seq.specs.inside.Cells.{rebased_piece}
-use Rattle.st_seq.specs.inside.Turns.{cells_of_piece}
+use Rattle.st_seq.specs.Pieces.{cells_of_piece}
 use Rattle.st_seq.proofs.Walking.{map-both_counted}
 use Rattle.st_seq.proofs.row_rebase.BesideTable.mark.Goals as goal
 

@@ -1,4 +1,4 @@
--- Words of the private functions behind `Views`.
+-- The first place at which two listings of one row differ.
 use Rattle.std.specs.Prelude.{◌≡◌, ℕ, ◌+◌, Bool, true, false, ◌&&◌, not, List, [], ◌∷◌, Option, Some, None, option_map, Result, Ok, Err, if◌then◌else◌}
 use Rattle.st_ids.specs.declared.fault.Or.{Or}
 use Rattle.st_ids.specs.declared.fault.Or.TheVariants.{Fault, NoMemory}
@@ -6,8 +6,6 @@ use Rattle.st_ids.specs.Order.{same_cell, same_node}
 use Rattle.st_marks.specs.Row.{CellMark, Counted, Gap, Touch, Make, Fill}
 use Rattle.st_marks.specs.Listings.{CellView, cell_view, counted_view, empty_view}
 use Rattle.st_kind.specs.declared.apart.Apart.{Apart}
-
--- ## The same as a search
 
 -- what a mark says of its cell before it, if the cell is there
 abbrev pub view_before : CellMark → CellView
