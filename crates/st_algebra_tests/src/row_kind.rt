@@ -125,7 +125,7 @@ fn change(alloc: Global, new: NodeId, marks: &[Mark]) -> Result<RowChange, Alloc
 }
 
 // The row that holds the other node.
-fn held(alloc: Global) -> Result<RowHeld, AllocError> {
+fn held_rows(alloc: Global) -> Result<RowHeld, AllocError> {
     let cells = one(alloc, SLOT_X)?;
     Ok(RowHeld { cells })
 }
@@ -155,7 +155,7 @@ fn composed(alloc: Global, first: &[Mark], then: &[Mark]) -> Result<RowStep, Or<
 }
 
 // Two changes of one commit, of which the second has another new node.
-fn joined(alloc: Global, first: &[Mark], then: &[Mark]) -> Result<RowChange, Or<Apart>> {
+fn join_rows(alloc: Global, first: &[Mark], then: &[Mark]) -> Result<RowChange, Or<Apart>> {
     let first = change(alloc, Q, first)?;
     let then = change(alloc, NEXT, then)?;
     if is_short(&first.marks) && is_short(&then.marks) {
@@ -227,7 +227,7 @@ fn over_both(alloc: Global) -> Result<Sides<RowChange>, Or<Apart>> {
 // Whether a change of the row that holds the other node keeps the rules.
 fn is_over(alloc: Global, new: NodeId, marks: &[Mark]) -> Result<bool, AllocError> {
     let change = change(alloc, new, marks)?;
-    let held = held(alloc)?;
+    let held = held_rows(alloc)?;
     Ok(Sequence::over(&change, &held))
 }
 
@@ -260,7 +260,7 @@ fn bridged_is_known(alloc: Global) -> bool {
 
 // The new nodes of both changes are those of the join.
 fn joined_is_known(alloc: Global) -> bool {
-    joined(alloc, &[MAKE_Q], &[TAKE_Q]).is_ok_and(|both| both.marks.as_slice()
+    join_rows(alloc, &[MAKE_Q], &[TAKE_Q]).is_ok_and(|both| both.marks.as_slice()
         == [HOLE_Q].as_slice()
         && both.new.as_slice() == [Q, NEXT].as_slice())
 }
@@ -272,7 +272,7 @@ fn sides_are_known(alloc: Global) -> bool {
 }
 
 fn held_is_copied(alloc: Global) -> Result<bool, AllocError> {
-    let held = held(alloc)?;
+    let held = held_rows(alloc)?;
     Ok(held.copy(alloc)? == held)
 }
 
@@ -372,7 +372,7 @@ fn owners_come_with_their_cells(rt: HostRuntime) {
         cell: CELL_X,
         node: Q,
     };
-    let early = is_apart(joined(alloc, &first, &[fill, Mark::Skip(1)]), 0);
-    let known = joined(alloc, &first, &[Mark::Gap(CELL_X), Mark::Skip(1)]).is_ok();
+    let early = is_apart(join_rows(alloc, &first, &[fill, Mark::Skip(1)]), 0);
+    let known = join_rows(alloc, &first, &[Mark::Gap(CELL_X), Mark::Skip(1)]).is_ok();
     assert!(rt; early && known, "{early} {known}");
 }

@@ -21,7 +21,7 @@ const fn name(session: u32) -> Atom {
     }
 }
 
-fn made(session: u32, full: bool) -> Mark {
+fn make_mark(session: u32, full: bool) -> Mark {
     Mark::Make {
         cell: CellId(name(session)),
         node: NodeId(name(session)),
@@ -111,7 +111,7 @@ fn composed(alloc: Global, first: &[Mark], then: &[Mark]) -> Result<List<Mark>, 
 }
 
 // Two changes in turn.
-fn joined(alloc: Global, first: &[Mark], then: &[Mark]) -> Result<List<Mark>, Or<Apart>> {
+fn join_rows(alloc: Global, first: &[Mark], then: &[Mark]) -> Result<List<Mark>, Or<Apart>> {
     let first = row(alloc, first)?;
     let then = row(alloc, then)?;
     if is_short(&first) && is_short(&then) {
@@ -166,13 +166,13 @@ fn differ_at(answer: Result<List<Mark>, Or<Apart>>, place: u32) -> bool {
 }
 
 fn back_is_known(alloc: Global) -> Result<bool, AllocError> {
-    let back = inverted(alloc, &[Mark::Skip(1), made(1, true)])?;
+    let back = inverted(alloc, &[Mark::Skip(1), make_mark(1, true)])?;
     Ok(back.as_slice() == [Mark::Skip(1), touch(1, How::Leave)].as_slice())
 }
 
 fn effect_is_known(alloc: Global) -> Result<bool, AllocError> {
-    let step = effected(alloc, &[Mark::Skip(1), made(2, true)])?;
-    Ok(step.as_slice() == [Mark::Skip(1), made(2, true)].as_slice())
+    let step = effected(alloc, &[Mark::Skip(1), make_mark(2, true)])?;
+    Ok(step.as_slice() == [Mark::Skip(1), make_mark(2, true)].as_slice())
 }
 
 // The row of one cell after a step that makes another.
@@ -182,7 +182,7 @@ fn step_is_known(alloc: Global) -> bool {
         node: NodeId(name(session)),
         full: true,
     };
-    stepped(alloc, &[slot(2)], &[Mark::Skip(1), made(1, true)]).is_ok_and(|row| row.as_slice()
+    stepped(alloc, &[slot(2)], &[Mark::Skip(1), make_mark(1, true)]).is_ok_and(|row| row.as_slice()
         == [slot(2), slot(1)].as_slice())
 }
 
@@ -199,11 +199,11 @@ fn one_argument(rt: HostRuntime) -> Result<(), Fail> {
 #[test]
 fn later_insert_stands_left(rt: HostRuntime) {
     let alloc = rt.alloc();
-    let step = [Mark::Skip(1), made(1, true)];
-    let change = [Mark::Skip(1), made(2, true)];
-    let over = [Mark::Skip(1), made(2, true), Mark::Skip(1)];
+    let step = [Mark::Skip(1), make_mark(1, true)];
+    let change = [Mark::Skip(1), make_mark(2, true)];
+    let over = [Mark::Skip(1), make_mark(2, true), Mark::Skip(1)];
     let back = [Mark::Skip(1), touch(1, How::Leave)];
-    let taken = [Mark::Skip(1), made(2, true), gap(1)];
+    let taken = [Mark::Skip(1), make_mark(2, true), gap(1)];
     let one = is_row(rebased(alloc, &change, &step), &over);
     let two = is_row(rebased(alloc, &over, &back), &taken);
     assert!(rt; one && two, "{one} {two}");
@@ -213,7 +213,7 @@ fn later_insert_stands_left(rt: HostRuntime) {
 #[test]
 fn first_difference_is_named(rt: HostRuntime) {
     let alloc = rt.alloc();
-    let change = [Mark::Skip(2), made(2, true)];
+    let change = [Mark::Skip(2), make_mark(2, true)];
     let first = differ_at(rebased(alloc, &change, &[gap(3), Mark::Skip(1)]), 0);
     let longer = differ_at(rebased(alloc, &change, &[Mark::Skip(4), gap(3)]), 2);
     let left = [Mark::Skip(3), touch(1, How::Leave)];
@@ -248,24 +248,24 @@ fn touch_follows_its_node(rt: HostRuntime) {
 #[test]
 fn emptied_cell_is_kept(rt: HostRuntime) {
     let alloc = rt.alloc();
-    let made_first = [made(1, true), Mark::Skip(2)];
+    let made_first = [make_mark(1, true), Mark::Skip(2)];
     let taken = [touch(1, How::Leave), Mark::Skip(2)];
-    let hole = [made(1, false), Mark::Skip(2)];
-    let changes = is_row(joined(alloc, &made_first, &taken), &hole);
+    let hole = [make_mark(1, false), Mark::Skip(2)];
+    let changes = is_row(join_rows(alloc, &made_first, &taken), &hole);
     let steps = is_row(composed(alloc, &made_first, &taken), &hole);
     assert!(rt; changes && steps, "{changes} {steps}");
 }
 
 // Whether a void change that makes two nodes, of which the second is new, has this effect.
 fn has_void_effect(alloc: Global, in_new: bool, marks: &[Mark]) -> bool {
-    voided(alloc, &[made(1, true), made(2, true)], in_new).is_ok_and(|row| row.as_slice() == marks)
+    voided(alloc, &[make_mark(1, true), make_mark(2, true)], in_new).is_ok_and(|row| row.as_slice() == marks)
 }
 
 // A void change makes its cells, and puts new nodes inside new nodes alone.
 #[test]
 fn void_change_keeps_new_nodes_in_new_rows(rt: HostRuntime) {
-    let inside = has_void_effect(rt.alloc(), true, &[made(1, false), made(2, true)]);
-    let outside = has_void_effect(rt.alloc(), false, &[made(1, false), made(2, false)]);
+    let inside = has_void_effect(rt.alloc(), true, &[make_mark(1, false), make_mark(2, true)]);
+    let outside = has_void_effect(rt.alloc(), false, &[make_mark(1, false), make_mark(2, false)]);
     assert!(rt; inside && outside, "{inside} {outside}");
 }
 
@@ -273,8 +273,8 @@ fn void_change_keeps_new_nodes_in_new_rows(rt: HostRuntime) {
 #[test]
 fn void_change_gives_up_its_nodes(rt: HostRuntime) {
     let alloc = rt.alloc();
-    let step = [Mark::Skip(1), made(1, true)];
-    let change = [made(2, true), Mark::Skip(1)];
-    let over = [touch(2, How::Leave), Mark::Skip(1), made(1, true)];
+    let step = [Mark::Skip(1), make_mark(1, true)];
+    let change = [make_mark(2, true), Mark::Skip(1)];
+    let over = [touch(2, How::Leave), Mark::Skip(1), make_mark(1, true)];
     assert!(rt; is_row(bridged(alloc, &step, &change), &over));
 }

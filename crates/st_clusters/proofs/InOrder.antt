@@ -10,9 +10,9 @@ use Rattle.std.specs.Prelude.{nat_lt, ◌||◌, ◌==◌, min}
 use Rattle.std.specs.List.{insert, position_or_len}
 use Rattle.std.specs.List.Sorted.{IsPartitionedBy, IsPartitionPoint}
 use Rattle.st_clusters.specs.Free.{free_number, ahead, free_after, spans_meet}
-use Rattle.st_clusters.specs.Table.{no_session, last_of, meeting, new_session}
+use Rattle.st_clusters.specs.Table.{no_session, last_of, session_meeting, new_session}
 use Rattle.st_clusters.specs.inside.Kept.{session_at, start, turn, AreInOrder, IsSound}
-use Rattle.st_clusters.specs.inside.Spans.{spanning, starts_by, StartBy, IsNearest}
+use Rattle.st_clusters.specs.inside.Spans.{session_spanning, starts_by, StartBy, IsNearest}
 use Rattle.st_ids.specs.Order.{lesser}
 use Rattle.st_clusters.specs.declared.ids.Cluster.{Cluster}
 use Rattle.st_clusters.specs.declared.ids.SessionIds.{SessionIds}
@@ -122,8 +122,8 @@ starts_in_turn ss os free order i j d le h holds = elim (cases_eq i j) [
       rw at_i (grind (arith, nat_tests, inside, before))
 ]
 
-pub counted : (ss : List SessionIds) (os : List ℕ) (free n : ℕ) → AreInOrder ss os → IsPartitionPoint (λ y. starts_by ss free y ≡ true) (λ y. starts_by ss free y ≡ false) os n → n ≤ length os → StartBy ss os free n
-counted ss os free n order point within = record {
+pub start_by-count : (ss : List SessionIds) (os : List ℕ) (free n : ℕ) → AreInOrder ss os → IsPartitionPoint (λ y. starts_by ss free y ≡ true) (λ y. starts_by ss free y ≡ false) os n → n ≤ length os → StartBy ss os free n
+start_by-count ss os free n order point within = record {
   within = within;
   before = λ i h. let passes : starts_by ss free (get_or os i 0) ≡ true = point.0 i 0 (omega arith) h in grind (arith, nat_tests, passes);
   after = λ i le h.
@@ -194,7 +194,7 @@ nearest_last ss (p ∷ ps) slice free n o order wide low count none is last =
 
 -- ## The span
 
-pub spans_at : (ss : List SessionIds) (cs : List Cluster) (ps : List (List ℕ)) (free i : ℕ) (x : SessionIds) → IsSound ss cs ps → free < 2 ^ 122 → IsNearest ss free i → x ≡ get_or ss i x → ahead (free_number x.uuid) free < 2 ^ 32 → spanning free ss ≡ Some i
+pub spans_at : (ss : List SessionIds) (cs : List Cluster) (ps : List (List ℕ)) (free i : ℕ) (x : SessionIds) → IsSound ss cs ps → free < 2 ^ 122 → IsNearest ss free i → x ≡ get_or ss i x → ahead (free_number x.uuid) free < 2 ^ 32 → session_spanning free ss ≡ Some i
 spans_at ss cs ps free i x sound low near read less =
     let here : session_at ss i ≡ x = read_at ss i x near.there read in
     let within : ahead (start ss i) free < 2 ^ 32 = rw (sym here) at less in
@@ -211,7 +211,7 @@ spans_at ss cs ps free i x sound low near read less =
     let test : nat_lt i (length ss) ≡ true = grind (arith, nat_tests, near.there) in
     rw (first, test) refl
 
-pub spans_nowhere : (ss : List SessionIds) (free : ℕ) → ((k : ℕ) → k < length ss → 2 ^ 32 ≤ ahead (start ss k) free) → spanning free ss ≡ None
+pub spans_nowhere : (ss : List SessionIds) (free : ℕ) → ((k : ℕ) → k < length ss → 2 ^ 32 ≤ ahead (start ss k) free) → session_spanning free ss ≡ None
 spans_nowhere ss free far =
     let first : position_or_len (λ (y : SessionIds). nat_lt (ahead (free_number y.uuid) free) (2 ^ 32)) ss ≡ length ss =
     position_or_len_is (λ (y : SessionIds). nat_lt (ahead (free_number y.uuid) free) (2 ^ 32)) ss (length ss) no_session (omega arith)
@@ -220,7 +220,7 @@ spans_nowhere ss free far =
     let test : nat_lt (length ss) (length ss) ≡ false = grind (arith, nat_tests) in
     rw (first, test) refl
 
-pub spans_far : (ss : List SessionIds) (free i : ℕ) (x : SessionIds) → IsNearest ss free i → x ≡ get_or ss i x → 2 ^ 32 ≤ ahead (free_number x.uuid) free → spanning free ss ≡ None
+pub spans_far : (ss : List SessionIds) (free i : ℕ) (x : SessionIds) → IsNearest ss free i → x ≡ get_or ss i x → 2 ^ 32 ≤ ahead (free_number x.uuid) free → session_spanning free ss ≡ None
 spans_far ss free i x near read more =
     let here : session_at ss i ≡ x = read_at ss i x near.there read in
     let past : 2 ^ 32 ≤ ahead (start ss i) free = rw (sym here) at more in
@@ -300,5 +300,5 @@ least_below n a b = elim (cases_lt a n) [
 ]
 
 pub meeting_least : (ss : List SessionIds) (uuid first last : ℕ) → ((k : ℕ) → k < length ss → (session_at ss k).uuid < 2 ^ 128) → uuid < 2 ^ 128 → first ≡ free_number uuid → last ≡ free_after first (2 ^ 32 - 1)
-    → meeting uuid ss ≡ lesser (spanning first ss) (spanning last ss)
+    → session_meeting uuid ss ≡ lesser (session_spanning first ss) (session_spanning last ss)
 meeting_least ss uuid first last wide fits is ends = ap (λ (i : ℕ). below (length ss) i) (meets_first ss uuid first last wide fits is ends) ∙ least_below (length ss) (first_span first ss) (first_span last ss)

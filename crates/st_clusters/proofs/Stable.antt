@@ -12,7 +12,7 @@ use Rattle.st_clusters.specs.Free.{is_v4, free_number, uuid_of, ahead, free_afte
 use Rattle.st_clusters.specs.Table.{no_session, session_of}
 use Rattle.st_clusters.specs.Names.{nth_uuid, stable_in, stable_of}
 use Rattle.st_clusters.specs.inside.Kept.{session_at, IsSound, AreCounts}
-use Rattle.st_clusters.specs.inside.Spans.{spanning, id_at}
+use Rattle.st_clusters.specs.inside.Spans.{session_spanning, id_at}
 use Rattle.st_clusters.specs.declared.ids.Cluster.{Cluster}
 use Rattle.st_clusters.specs.declared.ids.SessionIds.{SessionIds}
 use Rattle.st_clusters.proofs.Rounds.{after_ahead, ahead_after, after_low, both_meet, free_low, uuid_of_free, free_of_uuid, uuid_is_v4}
@@ -114,12 +114,12 @@ one_stable ss cs ps r s u sound hr hs =
 -- ## What is found
 
 -- the session at a place has the number in its span
-spans_it : (free : ℕ) (ss : List SessionIds) (place : ℕ) → spanning free ss ≡ Some place → (place < length ss) × (ahead (free_at ss place) free < 2 ^ 32)
+spans_it : (free : ℕ) (ss : List SessionIds) (place : ℕ) → session_spanning free ss ≡ Some place → (place < length ss) × (ahead (free_at ss place) free < 2 ^ 32)
 spans_it free ss place e =
     let found = position-Some (λ (x : SessionIds). nat_lt (ahead (free_number x.uuid) free) (2 ^ 32)) ss place no_session e in
     (found.0, grind (arith, nat_tests, found.1))
 
-pub found_ok : (ss : List SessionIds) (cs : List Cluster) (ps : List (List ℕ)) (u free place : ℕ) (x : SessionIds) → IsSound ss cs ps → u < 2 ^ 128 → is_v4 u ≡ true → free ≡ free_number u → spanning free ss ≡ Some place → x ≡ get_or ss place x
+pub found_ok : (ss : List SessionIds) (cs : List Cluster) (ps : List (List ℕ)) (u free place : ℕ) (x : SessionIds) → IsSound ss cs ps → u < 2 ^ 128 → is_v4 u ≡ true → free ≡ free_number u → session_spanning free ss ≡ Some place → x ≡ get_or ss place x
     → IfOk (id_at place x free) (λ r. stable_of ss r ≡ Some u)
 found_ok ss cs ps u free place x sound wide v4 is spans read =
     let span = spans_it free ss place spans in
@@ -137,7 +137,7 @@ found_ok ss cs ps u free place x sound wide v4 is spans read =
       | inr t ↦ rw t tt
     ])
 
-pub found_back : (ss : List SessionIds) (cs : List Cluster) (ps : List (List ℕ)) (u free place : ℕ) (x : SessionIds) → IsSound ss cs ps → free ≡ free_number u → spanning free ss ≡ Some place → x ≡ get_or ss place x
+pub found_back : (ss : List SessionIds) (cs : List Cluster) (ps : List (List ℕ)) (u free place : ℕ) (x : SessionIds) → IsSound ss cs ps → free ≡ free_number u → session_spanning free ss ≡ Some place → x ≡ get_or ss place x
     → (r : Rev) → stable_of ss r ≡ Some u → id_at place x free ≡ Ok r
 found_back ss cs ps u free place x sound is spans read r stable =
     let span = spans_it free ss place spans in
@@ -157,7 +157,7 @@ none_spans : (b : Bool) (i : ℕ) → cond b (Some i) None ≡ None → b ≡ fa
 none_spans true i e = cc
 none_spans false i e = refl
 
-pub found_none : (ss : List SessionIds) (cs : List Cluster) (ps : List (List ℕ)) (u free : ℕ) → IsSound ss cs ps → free ≡ free_number u → spanning free ss ≡ None → (r : Rev) → stable_of ss r ≡ Some u → ⊥
+pub found_none : (ss : List SessionIds) (cs : List Cluster) (ps : List (List ℕ)) (u free : ℕ) → IsSound ss cs ps → free ≡ free_number u → session_spanning free ss ≡ None → (r : Rev) → stable_of ss r ≡ Some u → ⊥
 found_none ss cs ps u free sound is none r stable =
     let h : IsStable ss r u = stable_parts ss r u stable in
     let n = number_of ss cs ps r u sound h in

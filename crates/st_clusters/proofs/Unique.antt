@@ -90,13 +90,13 @@ pub not_before : (cs : List Cluster) (later : List IdRange) (r : Rev) → (r ≡
 not_before cs later r other test n (inl h) = other h.0
 not_before cs later r other test n (inr h) = cc (test, h.1)
 
-without : (cs : List Cluster) (later : List IdRange) (r : Rev) → (r ≡ opening → ⊥) → ((n : ℕ) → ¬ IsInTable cs r n) → (n : ℕ) → IsFinalBefore cs later r n → ⊥
-without cs later r other none n (inl h) = other h.0
-without cs later r other none n (inr h) = none n h.0
+not_final_before : (cs : List Cluster) (later : List IdRange) (r : Rev) → (r ≡ opening → ⊥) → ((n : ℕ) → ¬ IsInTable cs r n) → (n : ℕ) → IsFinalBefore cs later r n → ⊥
+not_final_before cs later r other none n (inl h) = other h.0
+not_final_before cs later r other none n (inr h) = none n h.0
 
 pub final_before : (cs : List Cluster) (later : List IdRange) (r : Rev) (o : Option ℕ) → (r ≡ opening → ⊥) → is_later later r ≡ false → MatchOption o ((n : ℕ) → ¬ IsInTable cs r n) (λ n. IsInTable cs r n)
     → MatchOption o ((n : ℕ) → ¬ IsFinalBefore cs later r n) (λ n. IsFinalBefore cs later r n)
-final_before cs later r None other test h = λ n k. without cs later r other h n k
+final_before cs later r None other test h = λ n k. not_final_before cs later r other h n k
 final_before cs later r (Some n) other test h = inr (h, test)
 
 -- the other way round

@@ -131,12 +131,12 @@ after_finalising r t = on_session (session_of t.sessions r.session) (λ x. if is
     else Err (RangeOrder (x.finalised + 1)))
 
 -- the place, counted from 0, of the first session whose span meets that of a UUID
-abbrev pub meeting : ℕ → List SessionIds → Option ℕ
-meeting uuid ss = position (λ (x : SessionIds). spans_meet (free_number x.uuid) (free_number uuid)) ss
+abbrev pub session_meeting : ℕ → List SessionIds → Option ℕ
+session_meeting uuid ss = position (λ (x : SessionIds). spans_meet (free_number x.uuid) (free_number uuid)) ss
 
 -- the number of that session
 abbrev pub clash : ℕ → List SessionIds → Option ℕ
-clash uuid ss = option_map (λ i. i + 1) (meeting uuid ss)
+clash uuid ss = option_map (λ i. i + 1) (session_meeting uuid ss)
 
 abbrev pub new_session : ℕ → SessionIds
 new_session uuid = record { uuid = uuid; generated = 0; taken = 0; finalised = 0 }

@@ -48,7 +48,7 @@ impl Compressor {
     pub fn clash(&self, uuid: u128) -> Option<u32>
         ensures { result ≡ clash uuid (ids_of self.now).sessions }
     {
-        let place = self.meeting(uuid)?;
+        let place = self.session_meeting(uuid)?;
         Some(place as u32 + 1)
     }
 

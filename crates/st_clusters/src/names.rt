@@ -193,7 +193,7 @@ impl Compressor {
             return Err(Unknown);
         }
         let free = free_number(uuid);
-        match self.spanning(free) {
+        match self.session_spanning(free) {
             Some(place) => id_at(place, &self.sessions[place], free),
             None => Err(Unknown),
         }
@@ -209,7 +209,7 @@ impl Compressor {
     }
 
     /// How many ids of a session are finalised.
-    pub fn finalised(&self, session: u32) -> Option<u32>
+    pub fn finalised_count(&self, session: u32) -> Option<u32>
         ensures { result ≡ option_map
             (λ x. x.finalised) (session_of (ids_of self.now).sessions session) }
     {

@@ -1,7 +1,7 @@
 //! Which session's span has a free number, by halving the order in which the spans begin.
 ghost use Rattle.std.specs.Prelude.{◌≡◌, ◌<◌, ◌^◌, [], MatchOption};
-ghost use Rattle.st_clusters.specs.Table.{meeting};
-ghost use Rattle.st_clusters.specs.inside.Spans.{spanning, starts_by, StartBy, IsNearest};
+ghost use Rattle.st_clusters.specs.Table.{session_meeting};
+ghost use Rattle.st_clusters.specs.inside.Spans.{session_spanning, starts_by, StartBy, IsNearest};
 ghost use Rattle.st_ids.specs.Order.{lesser};
 
 use crate::compressor::Compressor;
@@ -55,9 +55,9 @@ impl Compressor {
     }
 
     // The place of the first session that has a free number in its span. There is one at most.
-    pub(crate) fn spanning(&self, free: u128) -> Option<usize>
+    pub(crate) fn session_spanning(&self, free: u128) -> Option<usize>
         requires { free < 2 ^ 122 }
-        ensures { result ≡ spanning free self.now.sessions.items }
+        ensures { result ≡ session_spanning free self.now.sessions.items }
     {
         let place = self.nearest(free)?;
         if ahead(free_number(self.sessions[place].uuid), free) < SPAN {
@@ -69,11 +69,11 @@ impl Compressor {
 
     // The place of the first session whose span meets that of a UUID: a span that has the first
     // number of that one, or the last.
-    pub(crate) fn meeting(&self, uuid: u128) -> Option<usize>
-        ensures { result ≡ meeting uuid self.now.sessions.items }
+    pub(crate) fn session_meeting(&self, uuid: u128) -> Option<usize>
+        ensures { result ≡ session_meeting uuid self.now.sessions.items }
     {
         let first = free_number(uuid);
         let last = free_after(first, u32::MAX);
-        least(self.spanning(first), self.spanning(last))
+        least(self.session_spanning(first), self.session_spanning(last))
     }
 }

@@ -16,7 +16,7 @@ use Rattle.st_marks.specs.declared.changes.NewNode.{NewNode}
 -- by a test that tells keys apart, a key is there exactly where something is found under it
 pub keys-found : {K V : Type 0} (same : K → K → Bool) → ((a b : K) → same a b ≡ true → a ≡ b) → ((a : K) → same a a ≡ true)
     → (es : List (K × V)) (k : K) → Has (keys_of es) k ↔ IsSome (lookup (λ j. same k j) es)
-keys-found same told itself [] k = (λ h. absurd h, λ s. let bad : ⊥ = s in absurd bad)
+keys-found same told itself [] k = (λ h. absurd h, λ s. absurd (let bad : false ≡ true = s in cc))
 keys-found {V = V} same told itself (e ∷ es) k = go (same k e.0) refl (keys-found same told itself es k)
   where
     apart : same k e.0 ≡ false → e.0 ≡ k → ⊥

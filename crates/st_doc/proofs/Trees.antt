@@ -20,7 +20,7 @@ use Rattle.st_marks.specs.LiveTree.{Shows, shows_leaf, shows_row, shows_register
 use Rattle.st_ids.specs.LeafText.{leaf_data}
 use Rattle.st_marks.proofs.Climb.{placed_known}
 use Rattle.st_marks.proofs.Members.{has-all, all-has}
-use Rattle.st_marks.proofs.NoRing.{without, shorter, others}
+use Rattle.st_marks.proofs.NoRing.{without_node, shorter, others}
 use Rattle.st_intent.proofs.Ends.{met_again}
 use Rattle.st_doc.proofs.Children.{row_child, seat_child}
 use Rattle.st_lemmas.proofs.Bools.{T-true}
@@ -197,7 +197,7 @@ module _ (D : Document) (n : NodeId) where
 fewer : (ps qs : List NodeId) → AreDistinct (λ (n : NodeId). n) ps → ((p : NodeId) → Has ps p → Has qs p) → length ps ≤ length qs
 fewer [] qs once there = omega arith
 fewer (p ∷ ps) qs once there =
-    let rest = fewer ps (without p qs) once.1 (λ q h. others p q qs (there q (inr h)) (all-has (λ y. y ≢ p) ps q once.0 h)) in
+    let rest = fewer ps (without_node p qs) once.1 (λ q h. others p q qs (there q (inr h)) (all-has (λ y. y ≢ p) ps q once.0 h)) in
     omega (arith, rest, shorter p qs (there p (inl refl)))
 
 module _ (is_array : List ℕ → Bool) (D : Document) (sound : IsSoundInForm D) (ns : List NodeId) (known : (n : NodeId) → IsSome (D.nodes n) → Has ns n) where

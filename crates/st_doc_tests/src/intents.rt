@@ -24,7 +24,7 @@ fn field(alloc: Global, node: NodeId, key: &str) -> Result<FieldId, AllocError> 
     Ok(FieldId { node, key })
 }
 
-fn made(alloc: Global, node: NodeId) -> Result<NewNode, AllocError> {
+fn new_node(alloc: Global, node: NodeId) -> Result<NewNode, AllocError> {
     let ty = Text::from_str(alloc, "list")?;
     Ok(NewNode {
         node,
@@ -62,7 +62,7 @@ fn register_put(alloc: Global, node: NodeId, above: NodeId) -> Result<Put, Alloc
 }
 
 fn add_new(alloc: Global, list: &mut List<NewNode>, node: NodeId) -> Result<(), AllocError> {
-    let node = made(alloc, node)?;
+    let node = new_node(alloc, node)?;
     list.push(node)?;
     Ok(())
 }

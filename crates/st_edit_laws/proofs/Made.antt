@@ -30,7 +30,7 @@ use Rattle.st_marks.proofs.Full.{unput_above}
 use Rattle.st_marks.proofs.Climb.{above_known}
 use Rattle.st_edits.specs.New.{new_nodes, to_at, cells_under, group_of, group_under}
 use Rattle.st_edits.specs.declared.names.NameCounters.{NameCounters}
-use Rattle.st_edits.proofs.NewFits.{made, NodesFresh, cells_under_has, cells_under_from}
+use Rattle.st_edits.proofs.NewFits.{made_intent, NodesFresh, cells_under_has, cells_under_from}
 use Rattle.st_edits.proofs.Numbered.{Counted, IsAt, IsNumbered, numbered, one_named, there_is, IsUnderArray}
 use Rattle.st_opening.proofs.PreorderNames.{same_number}
 use Rattle.st_edit_laws.specs.Alike.{AreAlikeAt}
@@ -46,7 +46,7 @@ use Rattle.st_lemmas.proofs.Options.{None-IsSome}
 
 pub record IsFilled (D : Document) (G : NameCounters) (into : Option FieldId) (m : NodeId) (xs : List FlatNode) (gs : List Group) (fs : List FieldId) : Type 0 where
   pub sound : IsSoundInForm D
-  pub fits : Fits D (made D G into xs gs fs)
+  pub fits : Fits D (made_intent D G into xs gs fs)
   pub counted : Counted G.rev G.nodes xs G.nodes G.cells
   pub rows : (x : FlatNode) → Has xs x → IsUnderArray xs x.at
   pub nodes_fresh : NodesFresh D G
@@ -55,11 +55,11 @@ pub record IsFilled (D : Document) (G : NameCounters) (into : Option FieldId) (m
   pub groups : (g : Group) → Has gs g → (g.node ≡ m) ⊎ ((x : FlatNode) × Has xs x × (group_under xs x ≡ Some g))
   pub own_group : (x : FlatNode) (g : Group) → Has xs x → group_under xs x ≡ Some g → Has gs g
   pub clears_old : (f : FieldId) → Has fs f → (f.node ≡ m) ⊎ (D.nodes f.node ≡ None)
-  pub tops : (v : FlatNode) (d : CellId) → Has xs v → v.at ≡ FlatAt.Top d → into ≡ None → (with_names D (made D G into xs gs fs)).row_of d ≡ Some m
+  pub tops : (v : FlatNode) (d : CellId) → Has xs v → v.at ≡ FlatAt.Top d → into ≡ None → (with_names D (made_intent D G into xs gs fs)).row_of d ≡ Some m
 
 module _ (D : Document) (G : NameCounters) (into : Option FieldId) (m : NodeId) (xs : List FlatNode) (gs : List Group) (fs : List FieldId) (w : IsFilled D G into m xs gs fs) where
   abbrev N : Intent
-  N = made D G into xs gs fs
+  N = made_intent D G into xs gs fs
 
   abbrev E : Document
   E = full D N

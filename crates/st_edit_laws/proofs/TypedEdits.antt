@@ -41,7 +41,7 @@ use Rattle.st_edits.specs.declared.names.Takes.{Takes}
 use Rattle.st_edits.specs.declared.names.Takes.TheVariants as field
 use Rattle.st_edits.proofs.Fits.{passed, or_refuse-Ok, all_pass}
 use Rattle.st_edits.proofs.MoveFits.{CellsFresh}
-use Rattle.st_edits.proofs.NewFits.{made, insert_fits, put_fits, NodesFresh, items_form, with_has}
+use Rattle.st_edits.proofs.NewFits.{made_intent, insert_fits, put_fits, NodesFresh, items_form, with_has}
 use Rattle.st_edit_laws.specs.Edited.{TellsRows}
 use Rattle.st_edit_laws.specs.Typed.{IsAsTyped, IsFieldType, IsLeafTyped, IsRowType, IsTypedIntent}
 use Rattle.st_edit_laws.proofs.Cleared.{is_clearing, is_need}
@@ -122,7 +122,7 @@ module _ (is_array : List ℕ → Bool) (D : Document) (G : NameCounters) (into 
     (owner : (y : FlatNode) (r : NodeId) → Has xs y → above_at false y.at ≡ Some r → HasOwner is_array false xs r) (group_m : (g : Group) → Has gs g → g.node ≡ m → (t : NodeType) → D.nodes m ≡ Some t → IsRowType is_array t)
     (field_m : (f : FieldId) → into ≡ Some f → (t : NodeType) → D.nodes m ≡ Some t → IsFieldType is_array t) where
   abbrev N : Intent
-  N = made D G into xs gs fs
+  N = made_intent D G into xs gs fs
 
   abbrev new_of : FlatNode → NewNode
   new_of x = record { node = x.node; ty = x.ty; leaf = x.leaf }

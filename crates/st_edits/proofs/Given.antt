@@ -35,7 +35,8 @@ use Rattle.st_edits.specs.declared.names.NameCounters.{NameCounters}
 use Rattle.st_edits.specs.declared.names.Takes.TheVariants as field
 use Rattle.st_edits.specs.Given.{IsCountedFrom, cells_unused}
 use Rattle.st_edits.specs.New.{new_nodes, top_cell, row_cell, owned_by, top_cells, cells_under, group_of, group_under, groups_under, takes_cell, names_taken}
-use Rattle.st_edits.specs.Paths.{and_then, field_at, left_of, row_length}
+use Rattle.st_ids.specs.Or.{and_then}
+use Rattle.st_edits.specs.Paths.{field_at, left_of, row_length}
 use Rattle.st_edits.specs.Resolve.{allowed_nodes, cells_for, cells_taken, clear, empty_intent, insert, intent_to_insert, intent_to_move, intent_to_place, intent_to_remove, is_inside, is_there, may_move, move, moved_to_row, named_nodes, names_left, need, nodes_allowed, nodes_taken, put, remove, require, resolve, rule_for, trees_allowed, walk, with_group, within_row}
 use Rattle.st_ids.specs.declared.names.LimitOf.TheVariants.{Commit}
 use Rattle.st_tree.specs.declared.edit.EditFault.{EditFault}

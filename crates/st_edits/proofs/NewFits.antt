@@ -135,8 +135,8 @@ abbrev put_at : Option FieldId → FlatNode → Put
 put_at into x = record { node = x.node; to = to_at into x.at }
 
 -- new nodes, their cells in groups, and the registers that are cleared for them
-abbrev pub made : Document → NameCounters → Option FieldId → List FlatNode → List Group → List FieldId → Intent
-made D G into xs gs fs = record (empty_intent D G) { new = new_nodes xs; groups = gs; clear = fs; put = puts into xs }
+abbrev pub made_intent : Document → NameCounters → Option FieldId → List FlatNode → List Group → List FieldId → Intent
+made_intent D G into xs gs fs = record (empty_intent D G) { new = new_nodes xs; groups = gs; clear = fs; put = puts into xs }
 
 -- a cell in the row of r is some listed node's
 pub record IsCell (into : Option FieldId) (m : NodeId) (xs : List FlatNode) (r : NodeId) (o : Owned) : Type 0 where
@@ -177,11 +177,11 @@ start_distinct (g ∷ gs) d = (
 )
 
 module _ (D : Document) (G : NameCounters) (into : Option FieldId) (m : NodeId) (xs : List FlatNode) (gs : List Group) (fs : List FieldId) (w : IsMade D G into m xs gs fs) where
-  node_new : (x : FlatNode) → Has xs x → is_new (made D G into xs gs fs) x.node ≡ true
+  node_new : (x : FlatNode) → Has xs x → is_new (made_intent D G into xs gs fs) x.node ≡ true
   node_new x h = is_some-option_map type_of (find (λ (n : NewNode). same_node n.node x.node) (new_nodes xs))
       ∙ any_found (λ (n : NewNode). same_node n.node x.node) (new_nodes xs) (new_of x) (map-has new_of xs x h) (same_node-itself x.node)
 
-  new_from : (n : NodeId) → is_new (made D G into xs gs fs) n ≡ true → (x : FlatNode) × Has xs x × (x.node ≡ n)
+  new_from : (n : NodeId) → is_new (made_intent D G into xs gs fs) n ≡ true → (x : FlatNode) × Has xs x × (x.node ≡ n)
   new_from n e =
       let y = found_any (λ (k : NewNode). same_node k.node n) (new_nodes xs) (sym (is_some-option_map type_of (find (λ (k : NewNode). same_node k.node n) (new_nodes xs))) ∙ e) in
       let x = has-map new_of xs y.0 y.1 in
@@ -196,25 +196,25 @@ module _ (D : Document) (G : NameCounters) (into : Option FieldId) (m : NodeId) 
   not_old : (x : FlatNode) (n : NodeId) → Has xs x → IsSome (D.nodes n) → x.node ≢ n
   not_old x n h known e = None-IsSome (D.nodes n) (ap D.nodes (sym e) ∙ fresh_node x h) known
 
-  target_old : is_new (made D G into xs gs fs) m ≡ false
-  target_old = go (is_new (made D G into xs gs fs) m) refl
+  target_old : is_new (made_intent D G into xs gs fs) m ≡ false
+  target_old = go (is_new (made_intent D G into xs gs fs) m) refl
     where
-      go : (b : Bool) → is_new (made D G into xs gs fs) m ≡ b → is_new (made D G into xs gs fs) m ≡ false
+      go : (b : Bool) → is_new (made_intent D G into xs gs fs) m ≡ b → is_new (made_intent D G into xs gs fs) m ≡ false
       go false e = e
       go true e = let x = new_from m e in absurd (not_old x.0 m x.1 w.target_known x.2)
 
-  lower_new : (x : FlatNode) (h : Has xs x) (p : NodeId) → IsLower G.rev G.nodes (number x h).number p → is_new (made D G into xs gs fs) p ≡ true
+  lower_new : (x : FlatNode) (h : Has xs x) (p : NodeId) → IsLower G.rev G.nodes (number x h).number p → is_new (made_intent D G into xs gs fs) p ≡ true
   lower_new x h p j =
       let high : (number x h).number < G.nodes + length xs = (number x h).high in
       let less : j.0 < (number x h).number = j.2 in
       let y = there_is G.rev G.nodes xs G.nodes G.cells j.0 w.counted j.1 (omega arith) in
-      ap (λ q. is_new (made D G into xs gs fs) q) (j.3 ∙ sym y.2) ∙ node_new y.0 y.1
+      ap (λ q. is_new (made_intent D G into xs gs fs) q) (j.3 ∙ sym y.2) ∙ node_new y.0 y.1
 
-  node_known : (p : NodeId) → (p ≡ m) ⊎ ((x : FlatNode) × Has xs x × (x.node ≡ p)) → IsKnown D (made D G into xs gs fs) p
+  node_known : (p : NodeId) → (p ≡ m) ⊎ ((x : FlatNode) × Has xs x × (x.node ≡ p)) → IsKnown D (made_intent D G into xs gs fs) p
   node_known p (inl e) = inr (subst (λ q. IsSome (D.nodes q)) (sym e) w.target_known)
-  node_known p (inr x) = inl (ap (λ q. is_new (made D G into xs gs fs) q) (sym x.2) ∙ node_new x.0 x.1)
+  node_known p (inr x) = inl (ap (λ q. is_new (made_intent D G into xs gs fs) q) (sym x.2) ∙ node_new x.0 x.1)
 
-  field_known : (x : FlatNode) (h : Has xs x) (f : FieldId) → register_of (to_at into x.at) ≡ Some f → IsKnown D (made D G into xs gs fs) f.node
+  field_known : (x : FlatNode) (h : Has xs x) (f : FieldId) → register_of (to_at into x.at) ≡ Some f → IsKnown D (made_intent D G into xs gs fs) f.node
   field_known x h f e = elim (field_lower G.rev G.nodes (number x h).number (number x h).cell into m f x.at w.into_target (number x h).at e) [
     | inl q ↦ node_known f.node (inl q)
     | inr j ↦ inl (lower_new x h f.node j)
@@ -226,7 +226,7 @@ module _ (D : Document) (G : NameCounters) (into : Option FieldId) (m : NodeId) 
   put_once : AreDistinct (λ (p : Put). p.node) (puts into xs)
   put_once = distinct_map (put_at into) (λ (p : Put). p.node) xs nodes_once
 
-  put_is : (x : FlatNode) → Has xs x → put_of (made D G into xs gs fs) x.node ≡ Some (to_at into x.at)
+  put_is : (x : FlatNode) → Has xs x → put_of (made_intent D G into xs gs fs) x.node ≡ Some (to_at into x.at)
   put_is x h = ap (option_map (λ (p : Put). p.to)) (first-distinct (λ (p : Put). p.node) (puts into xs) (λ (q : Put). same_node q.node x.node) (put_at into x) put_once (map-has (put_at into) xs x h) (same_node-itself x.node)
       (λ q t. same_node-true q.node x.node t))
 
@@ -253,7 +253,7 @@ module _ (D : Document) (G : NameCounters) (into : Option FieldId) (m : NodeId) 
       let is = (cell_is G.rev G.nodes r.number r.cell c x.at r.at (cell_own into c x.at e)).0 in
       (ap (λ (c : CellId). c.0.rev) is, ap D.row_of is ∙ w.cells_fresh r.cell r.cell_low)
 
-  row_from : (c : CellId) (p : NodeId) → new_row_of (made D G into xs gs fs) c ≡ Some p → (o : Owned) × IsCell into m xs p o × (o.cell ≡ c)
+  row_from : (c : CellId) (p : NodeId) → new_row_of (made_intent D G into xs gs fs) c ≡ Some p → (o : Owned) × IsCell into m xs p o × (o.cell ≡ c)
   row_from c p e = go (find (λ (g : Group). list_any (λ (o : Owned). same_cell o.cell c) g.cells) gs) refl e
     where
       go : (q : Option Group) → find (λ (g : Group). list_any (λ (o : Owned). same_cell o.cell c) g.cells) gs ≡ q → option_map (λ (g : Group). g.node) q ≡ Some p → (o : Owned) × IsCell into m xs p o × (o.cell ≡ c)
@@ -264,21 +264,21 @@ module _ (D : Document) (G : NameCounters) (into : Option FieldId) (m : NodeId) 
           let q : g.node ≡ p = cc in
           (o.0, subst (λ n. IsCell into m xs n o.0) q (in_group g o.0 r.0 o.1), same_cell-true o.0.cell c o.2)
 
-  new_row_fresh : (c : CellId) → IsSome (new_row_of (made D G into xs gs fs) c) → D.row_of c ≡ None
+  new_row_fresh : (c : CellId) → IsSome (new_row_of (made_intent D G into xs gs fs) c) → D.row_of c ≡ None
   new_row_fresh c h =
-      let p = IsSome-Some (new_row_of (made D G into xs gs fs) c) h in
+      let p = IsSome-Some (new_row_of (made_intent D G into xs gs fs) c) h in
       let o = row_from c p.0 p.1 in
       ap D.row_of (sym o.2) ∙ (cell_fresh o.1.item o.0.cell o.1.listed o.1.cell).1
 
-  old_anchor : (r : NodeId) (a : Option CellId) → IfSome a (λ c. D.row_of c ≡ Some r) → IfSome a (λ c. new_row_of (made D G into xs gs fs) c ≡ None)
+  old_anchor : (r : NodeId) (a : Option CellId) → IfSome a (λ c. D.row_of c ≡ Some r) → IfSome a (λ c. new_row_of (made_intent D G into xs gs fs) c ≡ None)
   old_anchor r None h = tt
-  old_anchor r (Some c) h = go (new_row_of (made D G into xs gs fs) c) refl
+  old_anchor r (Some c) h = go (new_row_of (made_intent D G into xs gs fs) c) refl
     where
-      go : (o : Option NodeId) → new_row_of (made D G into xs gs fs) c ≡ o → new_row_of (made D G into xs gs fs) c ≡ None
+      go : (o : Option NodeId) → new_row_of (made_intent D G into xs gs fs) c ≡ o → new_row_of (made_intent D G into xs gs fs) c ≡ None
       go None e = e
       go (Some p) e = absurd (None-IsSome (D.row_of c) (new_row_fresh c (ap is_some e)) (ap is_some h))
 
-  under_lower : (x : FlatNode) (h : Has xs x) (p : NodeId) (t : To) → to_at into x.at ≡ t → put_under (made D G into xs gs fs) (Some t) ≡ Some p → (p ≡ m) ⊎ IsLower G.rev G.nodes (number x h).number p
+  under_lower : (x : FlatNode) (h : Has xs x) (p : NodeId) (t : To) → to_at into x.at ≡ t → put_under (made_intent D G into xs gs fs) (Some t) ≡ Some p → (p ≡ m) ⊎ IsLower G.rev G.nodes (number x h).number p
   under_lower x h p To.Nowhere e f = absurd (cc)
   under_lower x h p (To.Cell c) e f =
       let o = row_from c p f in
@@ -290,48 +290,48 @@ module _ (D : Document) (G : NameCounters) (into : Option FieldId) (m : NodeId) 
       subst (λ s. (s ≡ m) ⊎ IsLower G.rev G.nodes (number x h).number s) q (field_lower G.rev G.nodes (number x h).number (number x h).cell into m g x.at w.into_target (number x h).at (ap register_of e))
 
   abbrev pick : NodeId → Option NodeId
-  pick p = cond (is_new (made D G into xs gs fs) p) (Some p) None
+  pick p = cond (is_new (made_intent D G into xs gs fs) p) (Some p) None
 
-  step_up : (x : FlatNode) (h : Has xs x) (n : NodeId) → x.node ≡ n → above_new (made D G into xs gs fs) n ≡ option_and_then pick (put_under (made D G into xs gs fs) (Some (to_at into x.at))) → HasLower G.rev (above_new (made D G into xs gs fs)) n
-  step_up x h n q up = go (put_under (made D G into xs gs fs) (Some (to_at into x.at))) refl
+  step_up : (x : FlatNode) (h : Has xs x) (n : NodeId) → x.node ≡ n → above_new (made_intent D G into xs gs fs) n ≡ option_and_then pick (put_under (made_intent D G into xs gs fs) (Some (to_at into x.at))) → HasLower G.rev (above_new (made_intent D G into xs gs fs)) n
+  step_up x h n q up = go (put_under (made_intent D G into xs gs fs) (Some (to_at into x.at))) refl
     where
-      over : (p : NodeId) → put_under (made D G into xs gs fs) (Some (to_at into x.at)) ≡ Some p → (p ≡ m) ⊎ IsLower G.rev G.nodes (number x h).number p → HasLower G.rev (above_new (made D G into xs gs fs)) n
-      over p f (inl r) = inl (up ∙ ap (option_and_then pick) f ∙ ap (λ b. cond b (Some p) None) (ap (λ k. is_new (made D G into xs gs fs) k) r ∙ target_old))
+      over : (p : NodeId) → put_under (made_intent D G into xs gs fs) (Some (to_at into x.at)) ≡ Some p → (p ≡ m) ⊎ IsLower G.rev G.nodes (number x h).number p → HasLower G.rev (above_new (made_intent D G into xs gs fs)) n
+      over p f (inl r) = inl (up ∙ ap (option_and_then pick) f ∙ ap (λ b. cond b (Some p) None) (ap (λ k. is_new (made_intent D G into xs gs fs) k) r ∙ target_old))
       over p f (inr j) = inr (j.0, (number x h).number, j.2, sym q ∙ (number x h).named, up ∙ ap (option_and_then pick) f ∙ ap (λ b. cond b (Some p) None) (lower_new x h p j) ∙ ap (λ k. Some k) j.3)
 
-      go : (o : Option NodeId) → put_under (made D G into xs gs fs) (Some (to_at into x.at)) ≡ o → HasLower G.rev (above_new (made D G into xs gs fs)) n
+      go : (o : Option NodeId) → put_under (made_intent D G into xs gs fs) (Some (to_at into x.at)) ≡ o → HasLower G.rev (above_new (made_intent D G into xs gs fs)) n
       go None f = inl (up ∙ ap (option_and_then pick) f)
       go (Some p) f = over p f (under_lower x h p (to_at into x.at) refl f)
 
-  has_lower : (n : NodeId) → HasLower G.rev (above_new (made D G into xs gs fs)) n
-  has_lower n = go (is_new (made D G into xs gs fs) n) refl
+  has_lower : (n : NodeId) → HasLower G.rev (above_new (made_intent D G into xs gs fs)) n
+  has_lower n = go (is_new (made_intent D G into xs gs fs) n) refl
     where
-      go : (b : Bool) → is_new (made D G into xs gs fs) n ≡ b → HasLower G.rev (above_new (made D G into xs gs fs)) n
-      go false e = inl (ap (λ b. cond b (option_and_then pick (put_under (made D G into xs gs fs) (put_of (made D G into xs gs fs) n))) None) e)
+      go : (b : Bool) → is_new (made_intent D G into xs gs fs) n ≡ b → HasLower G.rev (above_new (made_intent D G into xs gs fs)) n
+      go false e = inl (ap (λ b. cond b (option_and_then pick (put_under (made_intent D G into xs gs fs) (put_of (made_intent D G into xs gs fs) n))) None) e)
       go true e =
           let x = new_from n e in
-          step_up x.0 x.1 n x.2 (ap (λ b. cond b (option_and_then pick (put_under (made D G into xs gs fs) (put_of (made D G into xs gs fs) n))) None) e
-          ∙ ap (λ o. option_and_then pick (put_under (made D G into xs gs fs) o)) (ap (λ k. put_of (made D G into xs gs fs) k) (sym x.2) ∙ put_is x.0 x.1))
+          step_up x.0 x.1 n x.2 (ap (λ b. cond b (option_and_then pick (put_under (made_intent D G into xs gs fs) (put_of (made_intent D G into xs gs fs) n))) None) e
+          ∙ ap (λ o. option_and_then pick (put_under (made_intent D G into xs gs fs) o)) (ap (λ k. put_of (made_intent D G into xs gs fs) k) (sym x.2) ∙ put_is x.0 x.1))
 
-  all_cells : (P : Owned → Type 0) → ((o : Owned) (r : NodeId) → IsCell into m xs r o → P o) → AllByRecursion P (group_cells (made D G into xs gs fs))
+  all_cells : (P : Owned → Type 0) → ((o : Owned) (r : NodeId) → IsCell into m xs r o → P o) → AllByRecursion P (group_cells (made_intent D G into xs gs fs))
   all_cells P h = has-all P (flat_map (λ (g : Group). g.cells) gs) (λ o k. (let c = cell_of_group o k in h o c.0 c.1))
 
-  owner_new : (o : Owned) (r : NodeId) → IsCell into m xs r o → is_new (made D G into xs gs fs) o.node ≡ true
-  owner_new o r c = ap (λ k. is_new (made D G into xs gs fs) k) (sym c.owner) ∙ node_new c.item c.listed
+  owner_new : (o : Owned) (r : NodeId) → IsCell into m xs r o → is_new (made_intent D G into xs gs fs) o.node ≡ true
+  owner_new o r c = ap (λ k. is_new (made_intent D G into xs gs fs) k) (sym c.owner) ∙ node_new c.item c.listed
 
-  is_cleared : (x : FlatNode) → Has xs x → (o : Option FieldId) → register_of (to_at into x.at) ≡ o → IfSome o (λ f. IsTrue (clears (made D G into xs gs fs) f))
+  is_cleared : (x : FlatNode) → Has xs x → (o : Option FieldId) → register_of (to_at into x.at) ≡ o → IfSome o (λ f. IsTrue (clears (made_intent D G into xs gs fs) f))
   is_cleared x h None e = tt
   is_cleared x h (Some f) e = has-any (λ g. same_field g f) fs f (w.cleared x f h e) (same_field-itself f)
 
-  owns_cell : (x : FlatNode) → Has xs x → (o : Option CellId) → cell_of (to_at into x.at) ≡ o → IfSome o (Owns D (made D G into xs gs fs) x.node)
+  owns_cell : (x : FlatNode) → Has xs x → (o : Option CellId) → cell_of (to_at into x.at) ≡ o → IfSome o (Owns D (made_intent D G into xs gs fs) x.node)
   owns_cell x h None e = tt
   owns_cell x h (Some c) e = inr (w.each_cell x c h e)
 
-  knows_field : (x : FlatNode) → Has xs x → (o : Option FieldId) → register_of (to_at into x.at) ≡ o → IfSome o (λ f. IsKnown D (made D G into xs gs fs) f.node)
+  knows_field : (x : FlatNode) → Has xs x → (o : Option FieldId) → register_of (to_at into x.at) ≡ o → IfSome o (λ f. IsKnown D (made_intent D G into xs gs fs) f.node)
   knows_field x h None e = tt
   knows_field x h (Some f) e = field_known x h f e
 
-  pub made_fits : Fits D (made D G into xs gs fs)
+  pub made_fits : Fits D (made_intent D G into xs gs fs)
   made_fits = record {
     itself = record {
       new_rev = all_map (λ (n : NewNode). n.node.0.rev ≡ G.rev) new_of xs (λ x h. ap (λ (n : NodeId). n.0.rev) (number x h).named);
@@ -341,29 +341,29 @@ module _ (D : Document) (G : NameCounters) (into : Option FieldId) (m : NodeId) 
       group_some = has-all (λ (g : Group). g.cells ≢ []) gs (λ g h. (w.groups_from g h).some);
       start_once = start_distinct gs w.groups_once;
       anchor_once = w.anchors_once;
-      anchor_old = has-all (λ (g : Group). IfSome g.after (λ c. new_row_of (made D G into xs gs fs) c ≡ None)) gs (λ g h. old_anchor g.node g.after (w.groups_from g h).anchor);
-      owners = all_cells (λ (o : Owned). IsTrue (is_new (made D G into xs gs fs) o.node) ⊎ IsSome (put_of (made D G into xs gs fs) o.node)) (λ o r c. inl (owner_new o r c));
+      anchor_old = has-all (λ (g : Group). IfSome g.after (λ c. new_row_of (made_intent D G into xs gs fs) c ≡ None)) gs (λ g h. old_anchor g.node g.after (w.groups_from g h).anchor);
+      owners = all_cells (λ (o : Owned). IsTrue (is_new (made_intent D G into xs gs fs) o.node) ⊎ IsSome (put_of (made_intent D G into xs gs fs) o.node)) (λ o r c. inl (owner_new o r c));
       root_stays = put_none (put_at into) xs root (λ x h. not_old x root h w.root_known);
       put_once = put_once;
       no_cell_twice = subst (AreDistinct (λ (c : CellId). c)) (sym (filter_mapped (put_at into) (λ (p : Put). cell_of p.to) xs))
           (distinct_filter (λ (x : FlatNode). x.node) (λ (x : FlatNode). cell_of (to_at into x.at)) (λ (c : CellId). c) xs nodes_once
           (λ x y a b h k e f same. ap (λ (z : FlatNode). z.node) (sym (same_item x y a h k e (f ∙ ap (λ c. Some c) same)))));
       no_register_twice = subst (AreDistinct (λ (f : FieldId). f)) (sym (filter_mapped (put_at into) (λ (p : Put). register_of p.to) xs)) w.registers_once;
-      new_somewhere = all_map (λ (p : Put). IsTrue (is_new (made D G into xs gs fs) p.node) → p.to ≢ To.Nowhere) (put_at into) xs (λ x h _. somewhere G.rev G.nodes (number x h).number (number x h).cell into x.at (number x h).at);
-      cleared = all_map (λ (p : Put). IfSome (register_of p.to) (λ f. IsTrue (clears (made D G into xs gs fs) f))) (put_at into) xs (λ x h. is_cleared x h (register_of (to_at into x.at)) refl);
+      new_somewhere = all_map (λ (p : Put). IsTrue (is_new (made_intent D G into xs gs fs) p.node) → p.to ≢ To.Nowhere) (put_at into) xs (λ x h _. somewhere G.rev G.nodes (number x h).number (number x h).cell into x.at (number x h).at);
+      cleared = all_map (λ (p : Put). IfSome (register_of p.to) (λ f. IsTrue (clears (made_intent D G into xs gs fs) f))) (put_at into) xs (λ x h. is_cleared x h (register_of (to_at into x.at)) refl);
       register_keys = has-all (λ (f : FieldId). f.key.0 ≢ []) fs w.keys;
       need_old = tt;
-      no_ring = all_end G.rev (above_new (made D G into xs gs fs)) has_lower;
+      no_ring = all_end G.rev (above_new (made_intent D G into xs gs fs)) has_lower;
       schema_alone = tt;
     };
     fresh_nodes = λ n h. (let x = new_from n h in ap D.nodes (sym x.2) ∙ fresh_node x.0 x.1);
     fresh_cells = new_row_fresh;
     fresh_schema = tt;
-    groups_known = has-all (λ (g : Group). IsKnown D (made D G into xs gs fs) g.node × IfSome g.after (λ c. D.row_of c ≡ Some g.node)) gs (λ g h. (node_known g.node (w.groups_from g h).node, (w.groups_from g h).anchor));
-    owners_known = all_cells (λ (o : Owned). IsKnown D (made D G into xs gs fs) o.node) (λ o r c. inl (owner_new o r c));
-    puts_known = all_map (λ (p : Put). IsKnown D (made D G into xs gs fs) p.node × IfSome (cell_of p.to) (Owns D (made D G into xs gs fs) p.node) × IfSome (register_of p.to) (λ f. IsKnown D (made D G into xs gs fs) f.node)) (put_at into) xs
+    groups_known = has-all (λ (g : Group). IsKnown D (made_intent D G into xs gs fs) g.node × IfSome g.after (λ c. D.row_of c ≡ Some g.node)) gs (λ g h. (node_known g.node (w.groups_from g h).node, (w.groups_from g h).anchor));
+    owners_known = all_cells (λ (o : Owned). IsKnown D (made_intent D G into xs gs fs) o.node) (λ o r c. inl (owner_new o r c));
+    puts_known = all_map (λ (p : Put). IsKnown D (made_intent D G into xs gs fs) p.node × IfSome (cell_of p.to) (Owns D (made_intent D G into xs gs fs) p.node) × IfSome (register_of p.to) (λ f. IsKnown D (made_intent D G into xs gs fs) f.node)) (put_at into) xs
         (λ x h. (inl (node_new x h), owns_cell x h (cell_of (to_at into x.at)) refl, knows_field x h (register_of (to_at into x.at)) refl));
-    clears_known = has-all (λ (f : FieldId). IsKnown D (made D G into xs gs fs) f.node) fs (λ f h. elim (w.fields_from f h) [ inl e ↦ node_known f.node (inl e) | inr x ↦ field_known x.0 x.1 f x.2 ]);
+    clears_known = has-all (λ (f : FieldId). IsKnown D (made_intent D G into xs gs fs) f.node) fs (λ f h. elim (w.fields_from f h) [ inl e ↦ node_known f.node (inl e) | inr x ↦ field_known x.0 x.1 f x.2 ]);
     needs_known = tt;
   }
 
@@ -573,7 +573,7 @@ module _ (D : Document) (G : NameCounters) (m : NodeId) (left : Option CellId) (
     fields_from = λ f h. (let x = filter-from (λ (x : FlatNode). register_at x.at) xs f h in inr (x.0, x.1, same_register x.0.at ∙ x.2));
   }
 
-  pub row_fits : Fits D (made D G None xs (with_group (group_of m left (top_cells xs)) (groups_under xs)) (registers xs))
+  pub row_fits : Fits D (made_intent D G None xs (with_group (group_of m left (top_cells xs)) (groups_under xs)) (registers xs))
   row_fits = made_fits D G None m xs (with_group (group_of m left (top_cells xs)) (groups_under xs)) (registers xs) row_made
 
 -- ## Into a field
@@ -644,7 +644,7 @@ module _ (D : Document) (G : NameCounters) (f : FieldId) (x : FlatNode) (ys : Li
     ];
   }
 
-  pub field_fits : Fits D (made D G (Some f) (x ∷ ys) (groups_under (x ∷ ys)) (f ∷ registers (x ∷ ys)))
+  pub field_fits : Fits D (made_intent D G (Some f) (x ∷ ys) (groups_under (x ∷ ys)) (f ∷ registers (x ∷ ys)))
   field_fits = made_fits D G (Some f) f.node (x ∷ ys) (groups_under (x ∷ ys)) (f ∷ registers (x ∷ ys)) field_made
 
 -- ## Allowed trees

@@ -94,7 +94,7 @@ fn refuses_ranges(alloc: Global) -> Option<bool> {
     };
     let order = ids.finalize(range) == Err(Or::Fault(IdFault::RangeOrder { next: 514 }));
     let none = ids.rewind(3) == Err(IdFault::Session) && ids.generate(0) == Err(IdFault::Session);
-    Some(order && none && ids.finalised(1) == Some(513))
+    Some(order && none && ids.finalised_count(1) == Some(513))
 }
 
 fn is_full(alloc: Global) -> Option<bool> {

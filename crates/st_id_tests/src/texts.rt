@@ -99,7 +99,7 @@ fn reads(alloc: Global, text: &str) -> Result<bool, AllocError> {
 
 fn reads_ids(alloc: Global) -> Option<bool> {
     let mut ids = read(alloc, TABLE)?;
-    let finalised = ids.finalised(1) == Some(513) && ids.finalised(2) == Some(1);
+    let finalised = ids.finalised_count(1) == Some(513) && ids.finalised_count(2) == Some(1);
     Some(finalised && ids.generate(1) == Ok(514) && ids.generate(2) == Ok(2))
 }
 

@@ -290,7 +290,7 @@ fn are_same(first: &[Cluster], second: &[Cluster]) -> bool
 }
 
 // The table of sessions, where it has these clusters.
-fn rebuilt(alloc: Global, uuids: &[Value], clusters: &[Cluster]) -> Result<Compressor, Or<Shape>>
+fn rebuild_table(alloc: Global, uuids: &[Value], clusters: &[Cluster]) -> Result<Compressor, Or<Shape>>
     ensures ok { IfOk result (λ c. (led_to (items_view uuids.now) clusters.now ≡ Some (ids_of c))
         × ((ids_of c).clusters ≡ clusters.now)) }
     ensures refused { IfRefused result (λ _. (t : Ids) → led_to (items_view uuids.now) clusters.now
@@ -314,7 +314,7 @@ fn read(alloc: Global, value: &Value) -> Result<Compressor, Or<Shape>>
         return Err(Or::Fault(Shape));
     };
     let clusters = clusters_of(alloc, clusters)?;
-    rebuilt(alloc, uuids, clusters.as_slice())
+    rebuild_table(alloc, uuids, clusters.as_slice())
 }
 
 /// The table that a value is: all its ids that are finalised are generated, and no others. `Shape`

@@ -5,7 +5,7 @@ use Rattle.st_ids.specs.Listing.{Has}
 use Rattle.st_ids.specs.declared.names.NodeId.{NodeId}
 use Rattle.st_marks.specs.Document.{climb, ClimbsToAnEnd}
 use Rattle.st_intent.specs.inside.Rules.{ends_within}
-use Rattle.st_marks.proofs.NoRing.{others, shorter, without}
+use Rattle.st_marks.proofs.NoRing.{others, shorter, without_node}
 
 module _ (up : NodeId → Option NodeId) where
   -- an end that is reached is an end
@@ -83,8 +83,8 @@ module _ (up : NodeId → Option NodeId) where
       go None u k e rest = refl
       go (Some p) u zero e rest = cc
       go (Some p) u (suc i) e rest =
-          let less : length (without n ns) < length ns = shorter n ns (closed 0 n p refl u) in
-          let fewer : length (without n ns) ≤ most = omega (arith, less) in
-          rest p (without n ns) i fewer (sym (ap (option_and_then (climb up i)) u) ∙ e) (λ j x m c v.
+          let less : length (without_node n ns) < length ns = shorter n ns (closed 0 n p refl u) in
+          let fewer : length (without_node n ns) ≤ most = omega (arith, less) in
+          rest p (without_node n ns) i fewer (sym (ap (option_and_then (climb up i)) u) ∙ e) (λ j x m c v.
           let from_n : climb up (suc j) n ≡ Some x = ap (option_and_then (climb up j)) u ∙ c in
           others n x ns (closed (suc j) x m from_n v) (λ q. met_again up (suc i) (suc i) j n (omega arith) (from_n ∙ ap (λ y. Some y) q) e))

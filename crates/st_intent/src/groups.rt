@@ -88,7 +88,7 @@ fn none_made(groups: &[Group], cells: &[Owned]) -> bool
 }
 
 // Whether each cell is there once in all groups together.
-fn all_cells_apart(groups: &[Group]) -> bool
+fn all_cells_distinct(groups: &[Group]) -> bool
     ensures { result ≡ cells_are_distinct groups.now }
 {
     for (i, group) in groups.iter().enumerate() {
@@ -109,7 +109,7 @@ pub fn groups_hold(intent: &Intent) -> bool
 {
     let groups = intent.groups.as_slice();
     each_group_holds(intent)
-        && all_cells_apart(groups)
+        && all_cells_distinct(groups)
         && places_are_distinct(groups)
         && anchors_are_distinct(groups)
 }

@@ -7,29 +7,29 @@ use Rattle.st_ids.proofs.Orders.{same_node-true, same_node-itself}
 use Rattle.st_marks.specs.Document.{climb, ClimbsToAnEnd}
 use Rattle.st_marks.proofs.Climb.{climb_end, ends_above}
 
-abbrev pub without : NodeId → List NodeId → List NodeId
-without p [] = []
-without p (q ∷ qs) = cond (same_node q p) (without p qs) (q ∷ without p qs)
+abbrev pub without_node : NodeId → List NodeId → List NodeId
+without_node p [] = []
+without_node p (q ∷ qs) = cond (same_node q p) (without_node p qs) (q ∷ without_node p qs)
 
-pub no_longer : (p : NodeId) (qs : List NodeId) → length (without p qs) ≤ length qs
+pub no_longer : (p : NodeId) (qs : List NodeId) → length (without_node p qs) ≤ length qs
 no_longer p [] = omega arith
-no_longer p (q ∷ qs) = elim (same_node q p) as (λ b. length (cond b (without p qs) (q ∷ without p qs)) ≤ suc (length qs)) [ true ↦ omega (arith, no_longer p qs) | false ↦ omega (arith, no_longer p qs) ]
+no_longer p (q ∷ qs) = elim (same_node q p) as (λ b. length (cond b (without_node p qs) (q ∷ without_node p qs)) ≤ suc (length qs)) [ true ↦ omega (arith, no_longer p qs) | false ↦ omega (arith, no_longer p qs) ]
 
-pub shorter : (p : NodeId) (qs : List NodeId) → Has qs p → length (without p qs) < length qs
+pub shorter : (p : NodeId) (qs : List NodeId) → Has qs p → length (without_node p qs) < length qs
 shorter p [] h = absurd h
 shorter p (q ∷ qs) (inl e) = rw (ap (λ x. same_node x p) e ∙ same_node-itself p) (omega (arith, no_longer p qs))
-shorter p (q ∷ qs) (inr h) = elim (same_node q p) as (λ b. length (cond b (without p qs) (q ∷ without p qs)) < suc (length qs)) [ true ↦ omega (arith, no_longer p qs) | false ↦ omega (arith, shorter p qs h) ]
+shorter p (q ∷ qs) (inr h) = elim (same_node q p) as (λ b. length (cond b (without_node p qs) (q ∷ without_node p qs)) < suc (length qs)) [ true ↦ omega (arith, no_longer p qs) | false ↦ omega (arith, shorter p qs h) ]
 
-pub others : (p q : NodeId) (qs : List NodeId) → Has qs q → q ≢ p → Has (without p qs) q
+pub others : (p q : NodeId) (qs : List NodeId) → Has qs q → q ≢ p → Has (without_node p qs) q
 others p q [] h apart = absurd h
 others p q (r ∷ qs) (inl e) apart =
-    elim (same_node r p) as (λ b. same_node r p ≡ b → Has (cond b (without p qs) (r ∷ without p qs)) q) [
+    elim (same_node r p) as (λ b. same_node r p ≡ b → Has (cond b (without_node p qs) (r ∷ without_node p qs)) q) [
       | true ↦ λ t. absurd (apart (sym e ∙ same_node-true r p t))
       | false ↦ λ t. inl e
     ] refl
 others p q (r ∷ qs) (inr h) apart =
     let rest = others p q qs h apart in
-    elim (same_node r p) as (λ b. Has (cond b (without p qs) (r ∷ without p qs)) q) [ true ↦ rest | false ↦ inr rest ]
+    elim (same_node r p) as (λ b. Has (cond b (without_node p qs) (r ∷ without_node p qs)) q) [ true ↦ rest | false ↦ inr rest ]
 
 abbrev Reaches : (NodeId → Option NodeId) → NodeId → NodeId → Type 0
 Reaches up n q = (k : ℕ) × (climb up k n ≡ Some q)
@@ -48,7 +48,7 @@ module _ (up base : NodeId → Option NodeId) (put : NodeId → Bool) (follows :
       go : (o : Option NodeId) → up p ≡ o → ClimbsToAnEnd up p
       go None e = climb_end up p e
       go (Some m) e = ends_above up p m e
-          (claim (without p R) (shorter p R (h p is (0, refl))) m
+          (claim (without_node p R) (shorter p R (h p is (0, refl))) m
           (λ q put_q r. others p q R (h q put_q (reaches_above up p m q e r))
           (λ same. no_ring p is r.0 (rw e (r.1 ∙ ap (λ x. Some x) same)))))
 

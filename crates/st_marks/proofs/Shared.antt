@@ -48,8 +48,8 @@ pub held-same : (a b : Option NodeId) → a ≡ b → same_option same_node a b 
 held-same None b e = subst (λ (q : Option NodeId). same_option same_node None q ≡ true) e refl
 held-same (Some x) b e = subst (λ (q : Option NodeId). same_option same_node (Some x) q ≡ true) e (same_node-itself x)
 
-pub made : (N : Intent) → IsIntent N → (n : NodeId) → is_new N n ≡ true → n.0.rev ≡ N.rev
-made N w n e = go (new_node N n) refl e
+pub new_node-rev : (N : Intent) → IsIntent N → (n : NodeId) → is_new N n ≡ true → n.0.rev ≡ N.rev
+new_node-rev N w n e = go (new_node N n) refl e
   where
     go : (o : Option NewNode) → new_node N n ≡ o → is_new N n ≡ true → n.0.rev ≡ N.rev
     go None f e = let q : ◌≡◌ {A = Bool} false true = sym (rw f refl) ∙ e in cc

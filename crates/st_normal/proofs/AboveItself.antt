@@ -10,7 +10,7 @@ use Rattle.st_marks.specs.Agree.LeadsUp.{one_up, further_up}
 use Rattle.st_marks.specs.Document.{node_of, climb, ClimbsToAnEnd, Reaches}
 use Rattle.st_normal.specs.inside.Ring.{HasRing, AreListed}
 use Rattle.st_marks.proofs.Climb.{climb_more, climb_end, ends_above}
-use Rattle.st_marks.proofs.NoRing.{without, shorter, others}
+use Rattle.st_marks.proofs.NoRing.{without_node, shorter, others}
 
 module _ (up : NodeId → Option NodeId) where
   pub one_step : (n p : NodeId) → up n ≡ Some p → Reaches up n p
@@ -65,18 +65,18 @@ module _ (up : NodeId → Option NodeId) where
       go None e rest = inl (ap (option_and_then (climb up (length R))) e)
       go (Some m) e rest = here (all n m e)
         where
-          split : (q : NodeId) → Has R q → Has (without n R) q ⊎ Reaches up q m
-          split q h = elim (same_node q n) as (λ b. same_node q n ≡ b → Has (without n R) q ⊎ Reaches up q m) [
+          split : (q : NodeId) → Has R q → Has (without_node n R) q ⊎ Reaches up q m
+          split q h = elim (same_node q n) as (λ b. same_node q n ≡ b → Has (without_node n R) q ⊎ Reaches up q m) [
             | true ↦ λ t. inr (one_step q m (ap up (same_node-true q n t) ∙ e))
             | false ↦ λ t. inl (others n q R h (λ s. let bad : ◌≡◌ {A = Bool} false true = sym t ∙ ap (λ x. same_node x n) s ∙ same_node-itself n in cc))
           ] refl
 
-          left : (q p : NodeId) → up q ≡ Some p → Has (without n R) q ⊎ Reaches up q m
+          left : (q p : NodeId) → up q ≡ Some p → Has (without_node n R) q ⊎ Reaches up q m
           left q p f = elim (all q p f) [ inl h ↦ split q h | inr r ↦ inr (step_more q n m r e) ]
 
           here : Has R n ⊎ Reaches up n n → (climb up (suc (length R)) n ≡ None) ⊎ HasRing up
-          here (inl h) = let s = shorter n R h in elim (rest (without n R) s m left) [
-            | inl f ↦ inl (ap (option_and_then (climb up (length R))) e ∙ stays_ended (suc (length (without n R))) (length R) m f (omega (arith, s)))
+          here (inl h) = let s = shorter n R h in elim (rest (without_node n R) s m left) [
+            | inl f ↦ inl (ap (option_and_then (climb up (length R))) e ∙ stays_ended (suc (length (without_node n R))) (length R) m f (omega (arith, s)))
             | inr r ↦ inr r
           ]
           here (inr r) = inr (n, r)

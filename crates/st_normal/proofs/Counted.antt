@@ -4,14 +4,14 @@ use Rattle.std.specs.List.{list_any}
 use Rattle.st_marks.specs.Embedding.{tells}
 use Rattle.st_normal.specs.inside.Links.{stands_before, stands_after}
 use Rattle.st_marks.specs.Row.{CellMark, counted_cells}
-use Rattle.st_normal.specs.Rules.{found_in, incoming, hole_owners, fill_owners}
+use Rattle.st_normal.specs.Rules.{found_in, incoming_nodes, hole_owners, fill_owners}
 use Rattle.st_marks.specs.Listings.{cells_in, cells_made}
 
 pub found_counted : (k : ℕ) (ms : List CellMark) → found_in (counted_cells k ms) ≡ found_in ms
 found_counted zero ms = refl
 found_counted (suc k) ms = found_counted k ms
 
-pub incoming_counted : (k : ℕ) (ms : List CellMark) → incoming (counted_cells k ms) ≡ incoming ms
+pub incoming_counted : (k : ℕ) (ms : List CellMark) → incoming_nodes (counted_cells k ms) ≡ incoming_nodes ms
 incoming_counted zero ms = refl
 incoming_counted (suc k) ms = incoming_counted k ms
 

@@ -12,7 +12,7 @@ use Rattle.st_marks.specs.declared.marks.RowMarks.{RowMarks}
 use Rattle.st_ids.specs.Root.{root}
 use Rattle.st_normal.specs.inside.Links.{link, links_in, links_at, stands_after, stands_before}
 use Rattle.st_marks.specs.Row.{CellMark, Counted, Gap, Touch, Make, Fill, spread}
-use Rattle.st_normal.specs.Rules.{Entries, entries_by, found_in, found_loose, incoming, in_rows, NodesAreFoundOnce, NodesArePutOnce, PutNodesLeave, NewNodesAreNotFound, IsFound, IsFoundAs}
+use Rattle.st_normal.specs.Rules.{Entries, entries_by, found_in, found_loose, incoming_nodes, in_rows, NodesAreFoundOnce, NodesArePutOnce, PutNodesLeave, NewNodesAreNotFound, IsFound, IsFoundAs}
 use Rattle.st_marks.specs.Listings.{one_or_none}
 use Rattle.st_marks.specs.How.{is_leave}
 use Rattle.st_normal.proofs.Counts.{times, times-append, times-all, times-none, has-times, once-times, times-once}
@@ -105,15 +105,15 @@ module _ {R : Type 0} (found : R → List Found) (put : R → List NodeId) (fiel
 
   -- ## After
 
-  after-times : (n : NodeId) (ms : List CellMark) → times n (stands_after ms) ≤ times n (lasting (found_in ms)) + times n (incoming ms)
+  after-times : (n : NodeId) (ms : List CellMark) → times n (stands_after ms) ≤ times n (lasting (found_in ms)) + times n (incoming_nodes ms)
   after-times n [] = omega arith
   after-times n (Counted ∷ ms) = after-times n ms
   after-times n (Gap c ∷ ms) = after-times n ms
-  after-times n (Touch c m h ∷ ms) = elim (is_leave h) as (λ b. times n ((if b then [] else m ∷ []) ++ stands_after ms) ≤ times n (if b then lasting (found_in ms) else m ∷ lasting (found_in ms)) + times n (incoming ms)) [
+  after-times n (Touch c m h ∷ ms) = elim (is_leave h) as (λ b. times n ((if b then [] else m ∷ []) ++ stands_after ms) ≤ times n (if b then lasting (found_in ms) else m ∷ lasting (found_in ms)) + times n (incoming_nodes ms)) [
     | true ↦ after-times n ms
     | false ↦ omega (arith, after-times n ms)
   ]
-  after-times n (Make c m b ∷ ms) = elim b as (λ b. times n ((if b then m ∷ [] else []) ++ stands_after ms) ≤ times n (lasting (found_in ms)) + times n ((if b then m ∷ [] else []) ++ incoming ms)) [
+  after-times n (Make c m b ∷ ms) = elim b as (λ b. times n ((if b then m ∷ [] else []) ++ stands_after ms) ≤ times n (lasting (found_in ms)) + times n ((if b then m ∷ [] else []) ++ incoming_nodes ms)) [
     | true ↦ omega (arith, after-times n ms)
     | false ↦ after-times n ms
   ]
@@ -139,12 +139,12 @@ module _ {R : Type 0} (found : R → List Found) (put : R → List NodeId) (fiel
       sum : (n : NodeId) → times n (map link_node (links_in stands_after rows ++ links_at field held regs)) ≤ times n (lasting fs) + times n L.put
       sum n =
           let e = ap (times n) (linked_nodes stands_after held rows regs) ∙ times-append n (in_rows stands_after rows) (flat_map (λ r. one_or_none (held r)) regs) in
-          let a = times-all n (λ (r : RowMarks). stands_after (spread r.marks)) (λ (r : RowMarks). lasting (found_in (spread r.marks))) (λ (r : RowMarks). incoming (spread r.marks)) (λ r. after-times n (spread r.marks)) rows in
+          let a = times-all n (λ (r : RowMarks). stands_after (spread r.marks)) (λ (r : RowMarks). lasting (found_in (spread r.marks))) (λ (r : RowMarks). incoming_nodes (spread r.marks)) (λ r. after-times n (spread r.marks)) rows in
           let b = times-all n (λ (r : R). one_or_none (held r)) (λ (r : R). lasting (found r)) put (λ r. l r n) regs in
           let f = ap (times n) (lasting-append (in_rows found_in rows) (flat_map found regs)) ∙ times-append n (lasting (in_rows found_in rows)) (lasting (flat_map found regs)) in
           let g = ap (times n) (lasting-all (λ (r : RowMarks). found_in (spread r.marks)) rows) in
           let h = ap (times n) (lasting-all found regs) in
-          let i = times-append n (in_rows incoming rows) (flat_map put regs) in
+          let i = times-append n (in_rows incoming_nodes rows) (flat_map put regs) in
           omega (arith, e, a, b, f, g, h, i)
 
       within : (f : Found) → Has fs f → Has L.found f

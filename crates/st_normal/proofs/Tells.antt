@@ -7,7 +7,7 @@ use Rattle.st_ids.specs.declared.names.Rev.{Rev}
 use Rattle.std.specs.Ordering.{is_eq}
 use Rattle.st_ids.proofs.Orders.{same_node-true, same_node-itself, rev_cmp_exact, rev_cmp_total, is_eq_equal, self_reverse}
 use Rattle.st_normal.specs.declared.entries.Found.{Found}
-use Rattle.st_normal.specs.Rules.{staying}
+use Rattle.st_normal.specs.Rules.{staying_nodes}
 use Rattle.st_marks.specs.How.{is_stay}
 use Rattle.st_marks.specs.Listings.{CellView}
 
@@ -36,12 +36,12 @@ pub rev_same : (a b : Rev) → IsTrue (is_eq (rev_cmp a b)) ↔ (a ≡ b)
 rev_same a b = (λ e. rev_cmp_exact a b (is_eq_equal _ e), λ e. subst (λ c. is_eq (rev_cmp a c) ≡ true) e (self_reverse (rev_cmp a a) (rev_cmp_total.antisymm a a)))
 
 -- of those that stay
-pub all_staying : (P : NodeId → Type 0) (fs : List Found) → AllByRecursion (λ f. IsTrue (is_stay f.how) → P f.node) fs ↔ AllByRecursion P (staying fs)
+pub all_staying : (P : NodeId → Type 0) (fs : List Found) → AllByRecursion (λ f. IsTrue (is_stay f.how) → P f.node) fs ↔ AllByRecursion P (staying_nodes fs)
 all_staying P [] = (λ h. tt, λ h. tt)
 all_staying P (f ∷ fs) = go (is_stay f.how) (all_staying P fs)
   where
-    go : (b : Bool) → (AllByRecursion (λ f. IsTrue (is_stay f.how) → P f.node) fs ↔ AllByRecursion P (staying fs))
-        → ((IsTrue b → P f.node) × AllByRecursion (λ f. IsTrue (is_stay f.how) → P f.node) fs) ↔ AllByRecursion P (if b then f.node ∷ staying fs else staying fs)
+    go : (b : Bool) → (AllByRecursion (λ f. IsTrue (is_stay f.how) → P f.node) fs ↔ AllByRecursion P (staying_nodes fs))
+        → ((IsTrue b → P f.node) × AllByRecursion (λ f. IsTrue (is_stay f.how) → P f.node) fs) ↔ AllByRecursion P (if b then f.node ∷ staying_nodes fs else staying_nodes fs)
     go true r = (λ h. (h.0 refl, r.0 h.1), λ h. (λ _. h.0, r.1 h.1))
     go false r = (λ h. r.0 h.1, λ h. (λ t. absurd (let e : ◌≡◌ {A = Bool} false true = t in cc), r.1 h))
 

@@ -52,8 +52,8 @@ incoming_by (Make c n b) = if b then n ∷ [] else []
 incoming_by (Fill c n) = n ∷ []
 
 -- the nodes that come into a row's cells
-abbrev pub incoming : List CellMark → List NodeId
-incoming = flat_map incoming_by
+abbrev pub incoming_nodes : List CellMark → List NodeId
+incoming_nodes = flat_map incoming_by
 
 -- the owner of the empty cell that a mark makes
 abbrev pub hole_owner : CellMark → List NodeId
@@ -114,7 +114,7 @@ entries_by found put field new rows regs loose = record {
   new = nodes_new new;
   rows = rows;
   found = in_rows found_in rows ++ (flat_map found regs ++ found_loose loose);
-  put = in_rows incoming rows ++ flat_map put regs;
+  put = in_rows incoming_nodes rows ++ flat_map put regs;
   registers = map field regs;
 }
 
@@ -159,9 +159,9 @@ abbrev pub HasListedField : Entries → NodeId → Type 0
 HasListedField L n = Has (fields_of L) n
 
 -- the nodes that stay where they are found
-abbrev pub staying : List Found → List NodeId
-staying [] = []
-staying (f ∷ fs) = if is_stay f.how then f.node ∷ staying fs else staying fs
+abbrev pub staying_nodes : List Found → List NodeId
+staying_nodes [] = []
+staying_nodes (f ∷ fs) = if is_stay f.how then f.node ∷ staying_nodes fs else staying_nodes fs
 
 -- ## The rules on rows
 
@@ -285,7 +285,7 @@ kept_at r = if r.clear then [] else found_held r.held r.how
 -- cleared is found in any case
 abbrev pub StayingNodesAreMentioned : Change → Type 0
 StayingNodesAreMentioned C = AllByRecursion (λ (n : NodeId). Has C.need n ⊎ HasListedField (entries_of_change C) n)
-    (staying (in_rows found_in C.rows ++ (flat_map kept_at C.regs ++ found_loose C.loose)))
+    (staying_nodes (in_rows found_in C.rows ++ (flat_map kept_at C.regs ++ found_loose C.loose)))
 
 -- the places before lead up without a ring
 abbrev pub NoRingBeforeChange : Change → Type 0
@@ -353,7 +353,7 @@ NewRegistersAreEmptyBefore S = AllByRecursion (λ (r : RegStep). Has (nodes_new 
 
 -- a node that stays is found because a field of it is listed
 abbrev pub StayingNodesLeadOn : Step → Type 0
-StayingNodesLeadOn S = AllByRecursion (HasListedField (entries_of_step S)) (staying (entries_of_step S).found)
+StayingNodesLeadOn S = AllByRecursion (HasListedField (entries_of_step S)) (staying_nodes (entries_of_step S).found)
 
 -- the places before and after lead up without a ring
 pub record NoRingOverStep (S : Step) : Type 0 where

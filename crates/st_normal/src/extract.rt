@@ -3,7 +3,7 @@ ghost use Rattle.std.specs.Prelude.{map, refl};
 ghost use Rattle.std.specs.List.{flat_map};
 ghost use Rattle.st_ids.specs.declared.names.FieldId.{FieldId as Field};
 ghost use Rattle.st_marks.specs.Row.{spread};
-ghost use Rattle.st_normal.specs.Rules.{found_in, found_loose, incoming, kept_at, hole_owners, fill_owners};
+ghost use Rattle.st_normal.specs.Rules.{found_in, found_loose, incoming_nodes, kept_at, hole_owners, fill_owners};
 ghost use Rattle.st_marks.specs.Listings.{cells_in, cells_made, nodes_new};
 ghost use Rattle.st_marks.specs.declared.marks.RowMarks.{RowMarks as Row};
 ghost use Rattle.st_marks.specs.declared.schemas.SchemaEntry.{SchemaEntry as Entry};
@@ -42,7 +42,7 @@ pub struct Incoming;
 impl InRow for Incoming {
     type Item = NodeId;
 
-    ghost of = { λ row ms. incoming (spread ms) };
+    ghost of = { λ row ms. incoming_nodes (spread ms) };
 
     ghost none = { λ row. refl };
 
@@ -150,7 +150,7 @@ impl<G: Register> Part<G> for HeldAt {
     ghost none = { refl };
 
     fn pick(&self, from: &G) -> Option<Found> {
-        from.found()
+        from.found_node()
     }
 }
 
@@ -249,7 +249,7 @@ impl Part<RegMark> for KeptAt {
     ghost none = { refl };
 
     fn pick(&self, from: &RegMark) -> Option<Found> {
-        if from.clear { None } else { from.found() }
+        if from.clear { None } else { from.found_node() }
     }
 }
 

@@ -2,7 +2,7 @@
 ghost use Rattle.std.specs.Prelude.{◌≡◌, ◌≢◌, ◌↔◌, ◌++◌, [], IsTrue, map};
 ghost use Rattle.std.specs.List.{AllByRecursion, flat_map};
 ghost use Rattle.st_ids.specs.declared.names.FieldId.{FieldId as Field};
-ghost use Rattle.st_normal.specs.Rules.{KeysAreThere, Entries, fields_of, found_in, found_loose, in_rows, incoming, entries_of_change, entries_of_step};
+ghost use Rattle.st_normal.specs.Rules.{KeysAreThere, Entries, fields_of, found_in, found_loose, in_rows, incoming_nodes, entries_of_change, entries_of_step};
 ghost use Rattle.st_marks.specs.declared.marks.RowMarks.{RowMarks as Row};
 
 use crate::entries::Found;
@@ -109,7 +109,7 @@ pub type Puts<'a, G> = Then<InRows<'a, Incoming>, Along<'a, G, PutAt>>;
 
 // The nodes that these put.
 fn puts_in<'a, G: Register + 'static>(rows: &'a [RowMarks], regs: &'a [G]) -> Puts<'a, G>
-    ensures { ⟦<Puts<'static, G> as Walk>⟧.left result ≡ in_rows incoming rows.now ++ flat_map G.put regs.now }
+    ensures { ⟦<Puts<'static, G> as Walk>⟧.left result ≡ in_rows incoming_nodes rows.now ++ flat_map G.put regs.now }
 {
     let put = Along {
         items: regs,

@@ -25,7 +25,7 @@ pub trait Register {
     ghost after: { Self → Option Node };
 
     /// Whom it finds there.
-    fn found(&self) -> Option<Found>
+    fn found_node(&self) -> Option<Found>
         ensures { option_to_list result ≡ found self.now };
 
     /// Whom it puts there.
@@ -76,7 +76,7 @@ impl Register for RegMark {
         }
     }
 
-    fn found(&self) -> Option<Found> {
+    fn found_node(&self) -> Option<Found> {
         let node = self.held?;
         Some(Found {
             node,
@@ -112,7 +112,7 @@ impl Register for RegStep {
         self.after
     }
 
-    fn found(&self) -> Option<Found> {
+    fn found_node(&self) -> Option<Found> {
         let node = self.before?;
         let how = if is_kept(self) { How::Stay } else { How::Leave };
         Some(Found { node, how })

@@ -27,7 +27,7 @@ use Rattle.st_marks.specs.Row.{CellMark, Counted, Gap, Touch, Make, Fill, RowPar
 use Rattle.st_marks.specs.How.{is_here}
 use Rattle.st_marks.proofs.Lookups.{group_found, has-put_in, put-has, put_clears}
 use Rattle.st_marks.proofs.Members.{all-has, append_left, append_right, flat_map-has, has-all, has-flat_map, map-has}
-use Rattle.st_normal.specs.Rules.{Entries, LooseNodesArePut, incoming, in_rows, entries_of_change, put_at}
+use Rattle.st_normal.specs.Rules.{Entries, LooseNodesArePut, incoming_nodes, in_rows, entries_of_change, put_at}
 use Rattle.st_ids.proofs.Listings.{item_of-has}
 use Rattle.st_normal_laws.proofs.Basics.{is-one, register-not-nowhere}
 use Rattle.st_normal_laws.proofs.Easy.{embedding_over, loose-look, row-listed}
@@ -35,7 +35,7 @@ use Rattle.st_normal_laws.proofs.EasyStaying.{loose-how}
 use Rattle.st_normal_laws.proofs.Puts.{put-is_here}
 
 -- marks by which a node comes in tell something
-incoming-tells : (ms : List CellMark) (n : NodeId) → Has (incoming ms) n → list_any tells ms ≡ true
+incoming-tells : (ms : List CellMark) (n : NodeId) → Has (incoming_nodes ms) n → list_any tells ms ≡ true
 incoming-tells [] n h = absurd h
 incoming-tells (Counted ∷ ms) n h = incoming-tells ms n h
 incoming-tells (Gap c ∷ ms) n h = incoming-tells ms n h
@@ -43,7 +43,7 @@ incoming-tells (Touch c k g ∷ ms) n h = refl
 incoming-tells (Make c k b ∷ ms) n h = refl
 incoming-tells (Fill c k ∷ ms) n h = refl
 
-skip-mark : (y : CellMark) (ms : List CellMark) (n : NodeId) → Has (incoming ms) n → Has (incoming (y ∷ ms)) n
+skip-mark : (y : CellMark) (ms : List CellMark) (n : NodeId) → Has (incoming_nodes ms) n → Has (incoming_nodes (y ∷ ms)) n
 skip-mark Counted ms n h = h
 skip-mark (Gap c) ms n h = h
 skip-mark (Touch c k g) ms n h = h
@@ -51,27 +51,27 @@ skip-mark (Make c k true) ms n h = inr h
 skip-mark (Make c k false) ms n h = h
 skip-mark (Fill c k) ms n h = inr h
 
-skip-made : (p : RowPart) (os : List Owned) (ms : List CellMark) (n : NodeId) → Has (incoming ms) n → Has (incoming (embed_made p os ++ ms)) n
+skip-made : (p : RowPart) (os : List Owned) (ms : List CellMark) (n : NodeId) → Has (incoming_nodes ms) n → Has (incoming_nodes (embed_made p os ++ ms)) n
 skip-made p [] ms n h = h
 skip-made p (o ∷ os) ms n h = skip-mark (Make o.cell o.node (is_here (how (p.target_of o.node) (To.Cell o.cell)))) (embed_made p os ++ ms) n (skip-made p os ms n h)
 
 -- the owner of a cell that is made comes in if it is put there
-made-comes : (p : RowPart) (os : List Owned) (ms : List CellMark) (o : Owned) → Has os o → p.target_of o.node ≡ Some (To.Cell o.cell) → Has (incoming (embed_made p os ++ ms)) o.node
+made-comes : (p : RowPart) (os : List Owned) (ms : List CellMark) (o : Owned) → Has os o → p.target_of o.node ≡ Some (To.Cell o.cell) → Has (incoming_nodes (embed_made p os ++ ms)) o.node
 made-comes p [] ms o h e = absurd h
 made-comes p (q ∷ os) ms o (inr h) e = skip-mark (Make q.cell q.node (is_here (how (p.target_of q.node) (To.Cell q.cell)))) (embed_made p os ++ ms) o.node (made-comes p os ms o h e)
-made-comes p (q ∷ os) ms o (inl s) e = subst (λ (b : Bool). Has (cond b (q.node ∷ []) [] ++ incoming (embed_made p os ++ ms)) o.node)
+made-comes p (q ∷ os) ms o (inl s) e = subst (λ (b : Bool). Has (cond b (q.node ∷ []) [] ++ incoming_nodes (embed_made p os ++ ms)) o.node)
     (sym ((λ i. is_here (how (p.target_of (s i).node) (To.Cell (s i).cell))) ∙ ap is_here (put-is_here (p.target_of o.node) (To.Cell o.cell) e))) (inl (ap (λ (o : Owned). o.node) s))
 
-behind-comes : (p : RowPart) (c : List Slot) (s : Slot) (o : Owned) → Has c s → Has (p.new_cells (Some s.cell)) o → p.target_of o.node ≡ Some (To.Cell o.cell) → Has (incoming (embed_cells p c)) o.node
+behind-comes : (p : RowPart) (c : List Slot) (s : Slot) (o : Owned) → Has c s → Has (p.new_cells (Some s.cell)) o → p.target_of o.node ≡ Some (To.Cell o.cell) → Has (incoming_nodes (embed_cells p c)) o.node
 behind-comes p [] s o h i e = absurd h
 behind-comes p (t ∷ c) s o (inl q) i e = skip-mark (embed_cell p t.cell t.node t.full) (embed_made p (p.new_cells (Some t.cell)) ++ embed_cells p c) o.node
     (made-comes p (p.new_cells (Some t.cell)) (embed_cells p c) o (subst (λ (t : Slot). Has (p.new_cells (Some t.cell)) o) (sym q) i) e)
 behind-comes p (t ∷ c) s o (inr h) i e = skip-mark (embed_cell p t.cell t.node t.full) (embed_made p (p.new_cells (Some t.cell)) ++ embed_cells p c) o.node
     (skip-made p (p.new_cells (Some t.cell)) (embed_cells p c) o.node (behind-comes p c s o h i e))
 
-fill-comes : (p : RowPart) (c : List Slot) (d : CellId) (n : NodeId) → Has c (record { cell = d; node = n; full = false }) → p.target_of n ≡ Some (To.Cell d) → Has (incoming (embed_cells p c)) n
+fill-comes : (p : RowPart) (c : List Slot) (d : CellId) (n : NodeId) → Has c (record { cell = d; node = n; full = false }) → p.target_of n ≡ Some (To.Cell d) → Has (incoming_nodes (embed_cells p c)) n
 fill-comes p [] d n h e = absurd h
-fill-comes p (t ∷ c) d n (inl q) e = subst (λ y. Has (incoming (y ∷ (embed_made p (p.new_cells (Some t.cell)) ++ embed_cells p c))) n)
+fill-comes p (t ∷ c) d n (inl q) e = subst (λ y. Has (incoming_nodes (y ∷ (embed_made p (p.new_cells (Some t.cell)) ++ embed_cells p c))) n)
     (sym ((λ i. embed_cell p (q i).cell (q i).node (q i).full) ∙ ap (λ h. cond (is_here h) (Fill d n) (Gap d)) (put-is_here (p.target_of n) (To.Cell d) e))) (inl refl)
 fill-comes p (t ∷ c) d n (inr h) e = skip-mark (embed_cell p t.cell t.node t.full) (embed_made p (p.new_cells (Some t.cell)) ++ embed_cells p c) n
     (skip-made p (p.new_cells (Some t.cell)) (embed_cells p c) n (fill-comes p c d n h e))
@@ -83,9 +83,9 @@ module _ (D : Document) (N : Intent) (C : Change) (x : IsSoundInForm D) (f : Fit
   abbrev part : NodeId → RowPart
   part n = row_part emb.mentioned N n
 
-  by-row : (r n : NodeId) → Has (incoming (embed_row (part r) (content D r))) n → Has L.put n
+  by-row : (r n : NodeId) → Has (incoming_nodes (embed_row (part r) (content D r))) n → Has L.put n
   by-row r n h = let q = row-listed D N C x f emb r (incoming-tells (embed_row (part r) (content D r)) n h) in
-      append_left (in_rows incoming C.rows) (flat_map put_at C.regs) n (flat_map-has (λ (r : RowMarks). incoming (spread r.marks)) C.rows q.0 n q.1 (subst (λ ms. Has (incoming ms) n) (sym q.3) h))
+      append_left (in_rows incoming_nodes C.rows) (flat_map put_at C.regs) n (flat_map-has (λ (r : RowMarks). incoming_nodes (spread r.marks)) C.rows q.0 n q.1 (subst (λ ms. Has (incoming_nodes ms) n) (sym q.3) h))
 
   by-cell : (n : NodeId) (c : CellId) → D.place n ≡ Spot.Nowhere → put_of N n ≡ Some (To.Cell c) → Owns D N n c → Has L.put n
   by-cell n c p e (inl r) = by-row r.0 n (skip-made (part r.0) (group_at N r.0 None) (embed_cells (part r.0) (content D r.0)) n (fill-comes (part r.0) (content D r.0) c n
@@ -93,7 +93,7 @@ module _ (D : Document) (N : Intent) (C : Change) (x : IsSoundInForm D) (f : Fit
   by-cell n c p e (inr h) = let g = has-flat_map (λ (g : Group). g.cells) N.groups (owned_cell c n) h in
       by-row g.0.node n (at g.0 g.1 g.0.after refl (subst (λ l. Has l (owned_cell c n)) (sym (group_found N f.itself g.0 g.1)) g.2))
     where
-      at : (g : Group) → Has N.groups g → (a : Option CellId) → g.after ≡ a → Has (group_at N g.node g.after) (owned_cell c n) → Has (incoming (embed_row (part g.node) (content D g.node))) n
+      at : (g : Group) → Has N.groups g → (a : Option CellId) → g.after ≡ a → Has (group_at N g.node g.after) (owned_cell c n) → Has (incoming_nodes (embed_row (part g.node) (content D g.node))) n
       at g i None q j = made-comes (part g.node) (group_at N g.node None) (embed_cells (part g.node) (content D g.node)) (owned_cell c n) (subst (λ a. Has (group_at N g.node a) (owned_cell c n)) q j) e
       at g i (Some a) q j =
           let known = (all-has (λ (k : Group). IsKnown D N k.node × IfSome k.after (λ c. D.row_of c ≡ Some k.node)) N.groups g f.groups_known i).1 in
@@ -105,7 +105,7 @@ module _ (D : Document) (N : Intent) (C : Change) (x : IsSoundInForm D) (f : Fit
   by-register n k p h =
       let mark : RegMark = record { field = k; held = D.held k; how = how_held k (register_part emb.mentioned N k) (D.held k); clear = clears N k; fill = comes_in (D.held k) (put_in N k) } in
       let i = item_of-has field_cmp field_cmp_total field_cmp_exact (λ (r : RegMark). r.field) C.regs k mark (emb.regs.at_each k ∙ ap (λ b. cond (b || holds_mentioned emb.mentioned (D.held k)) (Some mark) None) (put_clears N f.itself n k h)) in
-      append_right (in_rows incoming C.rows) (flat_map put_at C.regs) n (flat_map-has put_at C.regs mark n i.0 (is-one mark.fill n (ap (comes_in (D.held k)) (has-put_in N f.itself n k h) ∙ in_it (D.held k) refl)))
+      append_right (in_rows incoming_nodes C.rows) (flat_map put_at C.regs) n (flat_map-has put_at C.regs mark n i.0 (is-one mark.fill n (ap (comes_in (D.held k)) (has-put_in N f.itself n k h) ∙ in_it (D.held k) refl)))
     where
       in_it : (q : Option NodeId) → D.held k ≡ q → comes_in q (Some n) ≡ Some n
       in_it None e = refl

@@ -22,7 +22,7 @@ use Rattle.st_marks.specs.How.{is_here}
 use Rattle.st_marks.specs.Listings.{cells_in, one_or_none}
 use Rattle.st_marks.proofs.Lookups.{has-put, put_in-has}
 use Rattle.st_marks.proofs.Members.{all-has, distinct-append, has-all, has-flat_map, list_distinct}
-use Rattle.st_normal.specs.Rules.{NodesArePutOnce, incoming, in_rows, entries_of_change, put_at}
+use Rattle.st_normal.specs.Rules.{NodesArePutOnce, incoming_nodes, in_rows, entries_of_change, put_at}
 use Rattle.st_normal_laws.proofs.Basics.{one-is}
 use Rattle.st_normal_laws.proofs.Easy.{row-look}
 use Rattle.st_normal_laws.proofs.EasyCells.{IsInRow, cells_are_once, in-row, one-row}
@@ -41,7 +41,7 @@ Comes ms d n = (y : CellMark) × Has ms y × IsComing y d n
 more : (y : CellMark) (ms : List CellMark) (d : CellId) (n : NodeId) → Comes ms d n → Comes (y ∷ ms) d n
 more y ms d n r = (r.0, inr r.1, r.2)
 
-incoming-mark : (ms : List CellMark) (n : NodeId) → Has (incoming ms) n → (d : CellId) × Comes ms d n × Has (cells_in ms) d
+incoming-mark : (ms : List CellMark) (n : NodeId) → Has (incoming_nodes ms) n → (d : CellId) × Comes ms d n × Has (cells_in ms) d
 incoming-mark [] n h = absurd h
 incoming-mark (Counted ∷ ms) n h = let r = incoming-mark ms n h in (r.0, more Counted ms r.0 n r.1, r.2)
 incoming-mark (Gap c ∷ ms) n h = let r = incoming-mark ms n h in (r.0, more (Gap c) ms r.0 n r.1, inr r.2)
@@ -59,19 +59,19 @@ ArePut target_of ms = (d : CellId) (n : NodeId) → Comes ms d n → target_of n
 one-cell : (c d : CellId) → Some (To.Cell c) ≡ Some (To.Cell d) → c ≡ d
 one-cell c d e = cc
 
-incoming-once : (target_of : NodeId → Option To) (ms : List CellMark) → AreDistinct (λ (c : CellId). c) (cells_in ms) → ArePut target_of ms → AreDistinct (λ (n : NodeId). n) (incoming ms)
+incoming-once : (target_of : NodeId → Option To) (ms : List CellMark) → AreDistinct (λ (c : CellId). c) (cells_in ms) → ArePut target_of ms → AreDistinct (λ (n : NodeId). n) (incoming_nodes ms)
 incoming-once target_of [] d p = tt
 incoming-once target_of (Counted ∷ ms) d p = incoming-once target_of ms d (λ c n r. p c n (more Counted ms c n r))
 incoming-once target_of (Gap e ∷ ms) d p = incoming-once target_of ms d.1 (λ c n r. p c n (more (Gap e) ms c n r))
 incoming-once target_of (Touch e k g ∷ ms) d p = incoming-once target_of ms d.1 (λ c n r. p c n (more (Touch e k g) ms c n r))
 incoming-once target_of (Make e k false ∷ ms) d p = incoming-once target_of ms d.1 (λ c n r. p c n (more (Make e k false) ms c n r))
 incoming-once target_of (Make e k true ∷ ms) d p = (
-  has-all (λ n. n ≢ k) (incoming ms) (λ n h q. let r = incoming-mark ms n h in
+  has-all (λ n. n ≢ k) (incoming_nodes ms) (λ n h q. let r = incoming-mark ms n h in
       all-has (λ c. c ≢ e) (cells_in ms) r.0 d.0 r.2 (one-cell r.0 e (sym (p r.0 n (more (Make e k true) ms r.0 n r.1)) ∙ ap target_of q ∙ p e k (Make e k true, inl refl, inl refl)))),
   incoming-once target_of ms d.1 (λ c n r. p c n (more (Make e k true) ms c n r)),
 )
 incoming-once target_of (Fill e k ∷ ms) d p = (
-  has-all (λ n. n ≢ k) (incoming ms) (λ n h q. let r = incoming-mark ms n h in
+  has-all (λ n. n ≢ k) (incoming_nodes ms) (λ n h q. let r = incoming-mark ms n h in
       all-has (λ c. c ≢ e) (cells_in ms) r.0 d.0 r.2 (one-cell r.0 e (sym (p r.0 n (more (Fill e k) ms r.0 n r.1)) ∙ ap target_of q ∙ p e k (Fill e k, inl refl, inr refl)))),
   incoming-once target_of ms d.1 (λ c n r. p c n (more (Fill e k) ms c n r)),
 )
@@ -114,7 +114,7 @@ module _ (D : Document) (N : Intent) (C : Change) (x : IsSoundInForm D) (f : Fit
   are-put r i = subst (ArePut (put_of N)) (sym (row-look D N C x f emb r i).0) (row-put (row_part emb.mentioned N r.node) (content D r.node))
 
   -- a node that comes into a row is put into a cell of it
-  in-cell : (r : RowMarks) (n : NodeId) → Has C.rows r → Has (incoming (spread r.marks)) n → (d : CellId) × (put_of N n ≡ Some (To.Cell d)) × Has (cells_in (spread r.marks)) d
+  in-cell : (r : RowMarks) (n : NodeId) → Has C.rows r → Has (incoming_nodes (spread r.marks)) n → (d : CellId) × (put_of N n ≡ Some (To.Cell d)) × Has (cells_in (spread r.marks)) d
   in-cell r n i h = let w = incoming-mark (spread r.marks) n h in (w.0, are-put r i w.0 n w.1, w.2)
 
   in-register : (r : RegMark) (n : NodeId) → Has C.regs r → Has (put_at r) n → put_of N n ≡ Some (To.Register r.field)
@@ -131,13 +131,13 @@ module _ (D : Document) (N : Intent) (C : Change) (x : IsSoundInForm D) (f : Fit
   cell-register c k e = cc
 
   pub nodes_are_put_once : NodesArePutOnce (entries_of_change C)
-  nodes_are_put_once = distinct-append (λ (n : NodeId). n) (in_rows incoming C.rows) (flat_map put_at C.regs)
-      (distinct-flat (λ (n : NodeId). n) (λ (r : RowMarks). incoming (spread r.marks)) (λ (r : RowMarks). r.node) C.rows (rising_distinct node_cmp node_cmp_total (λ (r : RowMarks). r.node) C.rows emb.rows.rising)
+  nodes_are_put_once = distinct-append (λ (n : NodeId). n) (in_rows incoming_nodes C.rows) (flat_map put_at C.regs)
+      (distinct-flat (λ (n : NodeId). n) (λ (r : RowMarks). incoming_nodes (spread r.marks)) (λ (r : RowMarks). r.node) C.rows (rising_distinct node_cmp node_cmp_total (λ (r : RowMarks). r.node) C.rows emb.rows.rising)
       (λ r i. incoming-once (put_of N) (spread r.marks) (list_distinct (λ (r : RowMarks). cells_in (spread r.marks)) (λ (c : CellId). c) C.rows r (cells_are_once D N C x f emb) i) (are-put r i))
       (λ r q a b i j h k e. let u = in-cell r a i h in let v = in-cell q b j k in
       one-row D N C x f emb q.node r.node u.0 (subst (IsInRow D N C x f emb q.node) (one-cell v.0 u.0 (sym v.1 ∙ ap (put_of N) e ∙ u.1)) (in-row D N C x f emb q v.0 j v.2)) (in-row D N C x f emb r u.0 i u.2)))
       (distinct-flat (λ (n : NodeId). n) put_at (λ (r : RegMark). r.field) C.regs (rising_distinct field_cmp field_cmp_total (λ (r : RegMark). r.field) C.regs emb.regs.rising)
       (λ r i. alone r.fill)
       (λ r q a b i j h k e. one-register q.field r.field (sym (in-register q b j k) ∙ ap (put_of N) e ∙ in-register r a i h)))
-      (λ a b h i e. let r = has-flat_map (λ (r : RowMarks). incoming (spread r.marks)) C.rows a h in let q = has-flat_map put_at C.regs b i in let u = in-cell r.0 a r.1 r.2 in
+      (λ a b h i e. let r = has-flat_map (λ (r : RowMarks). incoming_nodes (spread r.marks)) C.rows a h in let q = has-flat_map put_at C.regs b i in let u = in-cell r.0 a r.1 r.2 in
       cell-register u.0 q.0.field (sym u.1 ∙ ap (put_of N) (sym e) ∙ in-register q.0 b q.1 q.2))

@@ -24,7 +24,7 @@ use Rattle.st_marks.specs.Intent.{Fits, group_at, IsKnown, cell_of, put_of}
 use Rattle.st_marks.specs.Register.{how_held}
 use Rattle.st_marks.specs.Row.{CellMark, Counted, Gap, Touch, Fill, RowPart, embed_cell, embed_cells, embed_made, embed_row, how, spread, same_to}
 use Rattle.st_marks.specs.How.{is_here}
-use Rattle.st_normal.specs.Rules.{Entries, in_rows, entries_of_change, IsFoundAs, PutNodesLeave, RootStays, incoming, put_at}
+use Rattle.st_normal.specs.Rules.{Entries, in_rows, entries_of_change, IsFoundAs, PutNodesLeave, RootStays, incoming_nodes, put_at}
 use Rattle.st_marks.proofs.Lookups.{group_at-group, made_there, put-has, has-put, put_in-has}
 use Rattle.st_marks.proofs.Members.{all-has, append_left, has-append, map-has, has-map, flat_map-has, has-flat_map, has-all}
 use Rattle.st_normal_laws.specs.Meant.{IsOver}
@@ -47,36 +47,36 @@ ComesTo p c n d = (p.target_of n ≡ Some (To.Cell d)) × (((a : Option CellId) 
 further : (p : RowPart) (s : Slot) (c : List Slot) (n : NodeId) → ((d : CellId) × ComesTo p c n d) → (d : CellId) × ComesTo p (s ∷ c) n d
 further p s c n r = (r.0, (r.1.0, elim r.1.1 [ inl a ↦ inl a | inr h ↦ inr (inr h) ]))
 
-made-incoming : (p : RowPart) (c : List Slot) (a : Option CellId) (os : List Owned) (ms : List CellMark) (n : NodeId) → ((o : Owned) → Has os o → Has (p.new_cells a) o) → Has (incoming (embed_made p os ++ ms)) n → (Has (incoming ms) n → (d : CellId) × ComesTo p c n d) → (d : CellId) × ComesTo p c n d
+made-incoming : (p : RowPart) (c : List Slot) (a : Option CellId) (os : List Owned) (ms : List CellMark) (n : NodeId) → ((o : Owned) → Has os o → Has (p.new_cells a) o) → Has (incoming_nodes (embed_made p os ++ ms)) n → (Has (incoming_nodes ms) n → (d : CellId) × ComesTo p c n d) → (d : CellId) × ComesTo p c n d
 made-incoming p c a [] ms n sub h rest = rest h
 made-incoming p c a (o ∷ os) ms n sub h rest = go (is_here (how (p.target_of o.node) (To.Cell o.cell))) refl h (λ i. made-incoming p c a os ms n (λ q j. sub q (inr j)) i rest)
   where
-    go : (b : Bool) → is_here (how (p.target_of o.node) (To.Cell o.cell)) ≡ b → Has (cond b (o.node ∷ []) [] ++ incoming (embed_made p os ++ ms)) n → (Has (incoming (embed_made p os ++ ms)) n → (d : CellId) × ComesTo p c n d) → (d : CellId) × ComesTo p c n d
+    go : (b : Bool) → is_here (how (p.target_of o.node) (To.Cell o.cell)) ≡ b → Has (cond b (o.node ∷ []) [] ++ incoming_nodes (embed_made p os ++ ms)) n → (Has (incoming_nodes (embed_made p os ++ ms)) n → (d : CellId) × ComesTo p c n d) → (d : CellId) × ComesTo p c n d
     go false e i more = more i
     go true e (inl q) more = (o.cell, (ap p.target_of (sym q) ∙ is_here-put (p.target_of o.node) (To.Cell o.cell) e, inl (a, subst (λ n. Has (p.new_cells a) (record { cell = o.cell; node = n })) q (sub o (inl refl)))))
     go true e (inr i) more = more i
 
-cells-incoming : (p : RowPart) (c : List Slot) (n : NodeId) → Has (incoming (embed_cells p c)) n → (d : CellId) × ComesTo p c n d
+cells-incoming : (p : RowPart) (c : List Slot) (n : NodeId) → Has (incoming_nodes (embed_cells p c)) n → (d : CellId) × ComesTo p c n d
 cells-incoming p [] n h = absurd h
 cells-incoming p (s ∷ c) n h = go s.full refl h (λ i. further p s c n (cells-incoming p c n i))
   where
-    rest : Has (incoming (embed_made p (p.new_cells (Some s.cell)) ++ embed_cells p c)) n → (Has (incoming (embed_cells p c)) n → (d : CellId) × ComesTo p (s ∷ c) n d) → (d : CellId) × ComesTo p (s ∷ c) n d
+    rest : Has (incoming_nodes (embed_made p (p.new_cells (Some s.cell)) ++ embed_cells p c)) n → (Has (incoming_nodes (embed_cells p c)) n → (d : CellId) × ComesTo p (s ∷ c) n d) → (d : CellId) × ComesTo p (s ∷ c) n d
     rest i more = made-incoming p (s ∷ c) (Some s.cell) (p.new_cells (Some s.cell)) (embed_cells p c) n (λ o j. j) i more
 
-    go : (b : Bool) → s.full ≡ b → Has (incoming (embed_cell p s.cell s.node b ∷ (embed_made p (p.new_cells (Some s.cell)) ++ embed_cells p c))) n → (Has (incoming (embed_cells p c)) n → (d : CellId) × ComesTo p (s ∷ c) n d) → (d : CellId) × ComesTo p (s ∷ c) n d
+    go : (b : Bool) → s.full ≡ b → Has (incoming_nodes (embed_cell p s.cell s.node b ∷ (embed_made p (p.new_cells (Some s.cell)) ++ embed_cells p c))) n → (Has (incoming_nodes (embed_cells p c)) n → (d : CellId) × ComesTo p (s ∷ c) n d) → (d : CellId) × ComesTo p (s ∷ c) n d
     go true e i more = full (p.mentioned s.node) i
       where
-        full : (z : Bool) → Has (incoming (cond z (Touch s.cell s.node (how (p.target_of s.node) (To.Cell s.cell))) Counted ∷ (embed_made p (p.new_cells (Some s.cell)) ++ embed_cells p c))) n → (d : CellId) × ComesTo p (s ∷ c) n d
+        full : (z : Bool) → Has (incoming_nodes (cond z (Touch s.cell s.node (how (p.target_of s.node) (To.Cell s.cell))) Counted ∷ (embed_made p (p.new_cells (Some s.cell)) ++ embed_cells p c))) n → (d : CellId) × ComesTo p (s ∷ c) n d
         full true i = rest i more
         full false i = rest i more
     go false e i more = empty (is_here (how (p.target_of s.node) (To.Cell s.cell))) refl i
       where
-        empty : (z : Bool) → is_here (how (p.target_of s.node) (To.Cell s.cell)) ≡ z → Has (incoming (cond z (Fill s.cell s.node) (Gap s.cell) ∷ (embed_made p (p.new_cells (Some s.cell)) ++ embed_cells p c))) n → (d : CellId) × ComesTo p (s ∷ c) n d
+        empty : (z : Bool) → is_here (how (p.target_of s.node) (To.Cell s.cell)) ≡ z → Has (incoming_nodes (cond z (Fill s.cell s.node) (Gap s.cell) ∷ (embed_made p (p.new_cells (Some s.cell)) ++ embed_cells p c))) n → (d : CellId) × ComesTo p (s ∷ c) n d
         empty true g (inl q) = (s.cell, (ap p.target_of (sym q) ∙ is_here-put (p.target_of s.node) (To.Cell s.cell) g, inr (inl (λ i. record { cell = s.cell; node = q i; full = e i }))))
         empty true g (inr i) = rest i more
         empty false g i = rest i more
 
-pub row-incoming : (p : RowPart) (c : List Slot) (n : NodeId) → Has (incoming (embed_row p c)) n → (d : CellId) × ComesTo p c n d
+pub row-incoming : (p : RowPart) (c : List Slot) (n : NodeId) → Has (incoming_nodes (embed_row p c)) n → (d : CellId) × ComesTo p c n d
 row-incoming p c n h = made-incoming p c None (p.new_cells None) (embed_cells p c) n (λ o j. j) h (λ i. cells-incoming p c n i)
 
 leave-is : (o : Option To) (t u : To) → o ≡ Some t → (t ≢ u) → how o u ≡ Leave
@@ -101,9 +101,9 @@ module _ (D : Document) (N : Intent) (C : Change) (x : IsSoundInForm D) (f : Fit
   ComesElsewhere n = (t : To) × (put_of N n ≡ Some t) × ((c : CellId) (r : NodeId) → D.place n ≡ Spot.Row r c → t ≢ To.Cell c) × ((k : FieldId) → D.held k ≡ Some n → t ≢ To.Register k) × (t ≢ To.Nowhere)
 
   comes : (n : NodeId) → Has L.put n → ComesElsewhere n
-  comes n h = elim (has-append (in_rows incoming C.rows) (flat_map put_at C.regs) n h) [
-    | inl i ↦ (let r = has-flat_map (λ (r : RowMarks). incoming (spread r.marks)) C.rows n i in
-        let w = row-incoming (row_part m N r.0.node) (content D r.0.node) n (subst (λ ms. Has (incoming ms) n) (row-look D N C x f emb r.0 r.1).0 r.2) in
+  comes n h = elim (has-append (in_rows incoming_nodes C.rows) (flat_map put_at C.regs) n h) [
+    | inl i ↦ (let r = has-flat_map (λ (r : RowMarks). incoming_nodes (spread r.marks)) C.rows n i in
+        let w = row-incoming (row_part m N r.0.node) (content D r.0.node) n (subst (λ ms. Has (incoming_nodes ms) n) (row-look D N C x f emb r.0 r.1).0 r.2) in
         (To.Cell w.0, w.1.0, λ c k p e. in_cell r.0.node w.0 w.1.1 c k p (same-cell w.0 c e), λ k p e. cell-register w.0 k e, λ e. cell-nowhere w.0 e))
     | inr i ↦ (let r = has-flat_map put_at C.regs n i in let e = one-is r.0.fill n r.2 in let w = fill-put D N C x f emb r.0 n r.1 e in (
       To.Register r.0.field,

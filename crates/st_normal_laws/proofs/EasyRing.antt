@@ -27,7 +27,7 @@ use Rattle.st_marks.specs.How.{is_leave}
 use Rattle.st_marks.proofs.Lookups.{group_at-group, has-put, new_row_of-group, put_in-has}
 use Rattle.st_marks.proofs.Members.{has-map}
 use Rattle.st_normal.specs.inside.Links.{stands_after}
-use Rattle.st_normal.specs.Rules.{IsNewInNew, NoRingOfNewNodes, incoming}
+use Rattle.st_normal.specs.Rules.{IsNewInNew, NoRingOfNewNodes, incoming_nodes}
 use Rattle.st_normal.proofs.AboveItself.{never_ends, one_step, step_before}
 use Rattle.st_ids.proofs.Listings.{item_of-has}
 use Rattle.st_normal.proofs.ShownPlaces.{after_stands}
@@ -38,17 +38,17 @@ use Rattle.st_normal_laws.proofs.EasyRegisters.{fill-put}
 use Rattle.st_normal_laws.proofs.FoundPlaces.{touched}
 
 -- who stands in a row after stood there before, or comes in
-after-comes : (ms : List CellMark) (n : NodeId) → Has (stands_after ms) n → ((d : CellId) × (h : How) × Has ms (Touch d n h)) ⊎ Has (incoming ms) n
+after-comes : (ms : List CellMark) (n : NodeId) → Has (stands_after ms) n → ((d : CellId) × (h : How) × Has ms (Touch d n h)) ⊎ Has (incoming_nodes ms) n
 after-comes [] n i = absurd i
 after-comes (Counted ∷ ms) n i = elim (after-comes ms n i) [ inl r ↦ inl (r.0, r.1, inr r.2) | inr j ↦ inr j ]
 after-comes (Gap e ∷ ms) n i = elim (after-comes ms n i) [ inl r ↦ inl (r.0, r.1, inr r.2) | inr j ↦ inr j ]
 after-comes (Touch e k g ∷ ms) n i = go (is_leave g) i (λ j. after-comes ms n j)
   where
-    rest : ((d : CellId) × (h : How) × Has ms (Touch d n h)) ⊎ Has (incoming ms) n → ((d : CellId) × (h : How) × Has (Touch e k g ∷ ms) (Touch d n h)) ⊎ Has (incoming ms) n
+    rest : ((d : CellId) × (h : How) × Has ms (Touch d n h)) ⊎ Has (incoming_nodes ms) n → ((d : CellId) × (h : How) × Has (Touch e k g ∷ ms) (Touch d n h)) ⊎ Has (incoming_nodes ms) n
     rest (inl r) = inl (r.0, r.1, inr r.2)
     rest (inr j) = inr j
 
-    go : (b : Bool) → Has (cond b [] (k ∷ []) ++ stands_after ms) n → (Has (stands_after ms) n → ((d : CellId) × (h : How) × Has ms (Touch d n h)) ⊎ Has (incoming ms) n) → ((d : CellId) × (h : How) × Has (Touch e k g ∷ ms) (Touch d n h)) ⊎ Has (incoming ms) n
+    go : (b : Bool) → Has (cond b [] (k ∷ []) ++ stands_after ms) n → (Has (stands_after ms) n → ((d : CellId) × (h : How) × Has ms (Touch d n h)) ⊎ Has (incoming_nodes ms) n) → ((d : CellId) × (h : How) × Has (Touch e k g ∷ ms) (Touch d n h)) ⊎ Has (incoming_nodes ms) n
     go true j more = rest (more j)
     go false (inl q) more = inl (e, g, inl (ap (λ k. Touch e k g) q))
     go false (inr j) more = rest (more j)
@@ -93,7 +93,7 @@ module _ (D : Document) (N : Intent) (C : Change) (x : IsSoundInForm D) (f : Fit
   in-row : (r : RowMarks) (n : NodeId) → Has C.rows r → New n → Has (stands_after (spread r.marks)) n → put_under N (put_of N n) ≡ Some r.node
   in-row r n i h s = elim (after-comes (spread r.marks) n s) [
     | inl t ↦ absurd (old n h (owner-known r.node n t.0 true (touched (content D r.node) (spread r.marks) t.0 n t.1 (o.rows r i) t.2)))
-    | inr j ↦ (let w = row-incoming (row_part m N r.node) (content D r.node) n (subst (λ ms. Has (incoming ms) n) (row-look D N C x f emb r i).0 j) in
+    | inr j ↦ (let w = row-incoming (row_part m N r.node) (content D r.node) n (subst (λ ms. Has (incoming_nodes ms) n) (row-look D N C x f emb r i).0 j) in
         ap (put_under N) w.1.0 ∙ of_cell w.0 w.1.1)
   ]
     where

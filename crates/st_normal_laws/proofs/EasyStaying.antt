@@ -26,7 +26,7 @@ use Rattle.st_marks.specs.Intent.{Fits, group_at, IsKnown, cell_of, clears, put_
 use Rattle.st_marks.specs.Register.{RegisterPart, comes_in, embed_register, holds_mentioned, how_held}
 use Rattle.st_marks.specs.Row.{CellMark, Counted, Gap, Touch, Fill, RowPart, embed_cell, embed_cells, embed_made, embed_row, how, spread}
 use Rattle.st_marks.specs.How.{is_here, is_stay}
-use Rattle.st_normal.specs.Rules.{Entries, found_held, found_in, found_loose, in_rows, entries_of_change, HasListedField, StayingNodesAreMentioned, kept_at, staying}
+use Rattle.st_normal.specs.Rules.{Entries, found_held, found_in, found_loose, in_rows, entries_of_change, HasListedField, StayingNodesAreMentioned, kept_at, staying_nodes}
 use Rattle.st_marks.proofs.Climb.{stands}
 use Rattle.st_ids.proofs.Listings.{item_of-has}
 use Rattle.st_marks.proofs.Lookups.{made_there, group_found, has-put}
@@ -38,11 +38,11 @@ use Rattle.st_normal.proofs.NoRings.{among_has}
 use Rattle.st_normal_laws.proofs.Puts.{put-is_here}
 use Rattle.st_lemmas.proofs.Bools.{or-right}
 
-staying-has : (fs : List Found) (n : NodeId) → Has (staying fs) n → (g : Found) × Has fs g × (g.node ≡ n) × (is_stay g.how ≡ true)
+staying-has : (fs : List Found) (n : NodeId) → Has (staying_nodes fs) n → (g : Found) × Has fs g × (g.node ≡ n) × (is_stay g.how ≡ true)
 staying-has [] n h = absurd h
 staying-has (g ∷ fs) n h = go (is_stay g.how) refl (λ i. staying-has fs n i) h
   where
-    go : (b : Bool) → is_stay g.how ≡ b → (Has (staying fs) n → (k : Found) × Has fs k × (k.node ≡ n) × (is_stay k.how ≡ true)) → Has (cond b (g.node ∷ staying fs) (staying fs)) n → (k : Found) × Has (g ∷ fs) k × (k.node ≡ n) × (is_stay k.how ≡ true)
+    go : (b : Bool) → is_stay g.how ≡ b → (Has (staying_nodes fs) n → (k : Found) × Has fs k × (k.node ≡ n) × (is_stay k.how ≡ true)) → Has (cond b (g.node ∷ staying_nodes fs) (staying_nodes fs)) n → (k : Found) × Has (g ∷ fs) k × (k.node ≡ n) × (is_stay k.how ≡ true)
     go false e rest i = let r = rest i in (r.0, inr r.1, r.2, r.3)
     go true e rest (inl q) = (g, inl refl, q, e)
     go true e rest (inr i) = let r = rest i in (r.0, inr r.1, r.2, r.3)
@@ -266,7 +266,7 @@ module _ (D : Document) (N : Intent) (C : Change) (x : IsSoundInForm D) (f : Fit
       at (Some z) = z.how
 
   pub staying_are_mentioned : StayingNodesAreMentioned C
-  staying_are_mentioned = has-all (λ n. Has C.need n ⊎ HasListedField L n) (staying (in_rows found_in C.rows ++ (flat_map kept_at C.regs ++ found_loose C.loose))) (λ n h.
+  staying_are_mentioned = has-all (λ n. Has C.need n ⊎ HasListedField L n) (staying_nodes (in_rows found_in C.rows ++ (flat_map kept_at C.regs ++ found_loose C.loose))) (λ n h.
       let g = staying-has (in_rows found_in C.rows ++ (flat_map kept_at C.regs ++ found_loose C.loose)) n h in subst Why g.2 (by g.0 g.1 g.3))
     where
       kept : (r : RegMark) (g : Found) → Has C.regs r → is_stay g.how ≡ true → (b : Bool) → r.clear ≡ b → Has (cond b [] (found_held r.held r.how)) g → Why g.node

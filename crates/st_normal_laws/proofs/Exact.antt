@@ -24,14 +24,14 @@ use Rattle.st_marks.specs.Embedding.{IsMentionedByIntent, is_among, named_by_int
 use Rattle.st_marks.specs.Intent.{cell_of}
 use Rattle.st_marks.specs.Row.{CellMark, Counted, Gap, Touch, Make, Fill, spread}
 use Rattle.st_marks.specs.How.{is_here, is_stay, is_leave}
-use Rattle.st_normal.specs.Rules.{IsFound, IsFoundAs, HasListedField, Entries, ObeysDataRules, fields_of, found_at, found_held, found_in, found_loose, in_rows, incoming, kept_at, entries_of_change, put_at, staying}
+use Rattle.st_normal.specs.Rules.{IsFound, IsFoundAs, HasListedField, Entries, ObeysDataRules, fields_of, found_at, found_held, found_in, found_loose, in_rows, incoming_nodes, kept_at, entries_of_change, put_at, staying_nodes}
 use Rattle.st_marks.specs.Listings.{nodes_new, one_or_none}
 use Rattle.st_marks.proofs.Climb.{above_known, climb_more}
 use Rattle.st_normal.proofs.NoRings.{among_has}
 use Rattle.st_ids.proofs.Shared.{filter-has, filter-from, filtered}
 use Rattle.st_marks.proofs.Members.{all-has, append_left, append_right, has-append, map-has, has-map, flat_map-has, has-flat_map, any-has, has-filter_map}
-use Rattle.st_normal_laws.specs.Mentions.{mentions, moving}
-use Rattle.st_normal_laws.specs.Meant.{IsOver, cleared_at, nodes_gone, group_of, groups_along, groups_of, leaving, loose_puts, made_first, meant, put_to, reg_puts, row_puts, along, Along}
+use Rattle.st_normal_laws.specs.Mentions.{mentions, moving_nodes}
+use Rattle.st_normal_laws.specs.Meant.{IsOver, cleared_at, nodes_gone, group_of, groups_along, groups_of, leaving_nodes, loose_puts, made_first, meant_intent, put_to, reg_puts, row_puts, along, Along}
 use Rattle.st_normal_laws.proofs.FoundPlaces.{PlacedAs, as_row, as_held, as_loose, touched, filled, has-found_in, is-found_held, found_placed, found_there, found_above, touch_place, held_place}
 use Rattle.st_normal_laws.proofs.Mentioned.{moving-has, has-moving, has-staying, has-leaving, leaving-has, row_put-has, here-put, fill-put, incoming-put, row_made}
 use Rattle.st_normal_laws.proofs.StepRows.{make-incoming, fill-incoming}
@@ -58,7 +58,7 @@ module _ (D : Document) (C : Change) (x : IsSoundInForm D) (w : ObeysDataRules C
   L = entries_of_change C
 
   abbrev N : Intent
-  N = meant D C
+  N = meant_intent D C
 
   abbrev M : NodeId → Type 0
   M n = IsMentionedByIntent D N n
@@ -106,8 +106,8 @@ module _ (D : Document) (C : Change) (x : IsSoundInForm D) (w : ObeysDataRules C
 
   -- whom the change puts the intent puts
   pub put-list : (n : NodeId) → Has L.put n → (t : To) × Has N.put (put_to n t)
-  put-list n h = elim (has-append (in_rows incoming C.rows) (flat_map put_at C.regs) n h) [
-    | inl i ↦ (let r = has-flat_map (λ (r : RowMarks). incoming (spread r.marks)) C.rows n i in let c = incoming-put (spread r.0.marks) n r.2 in
+  put-list n h = elim (has-append (in_rows incoming_nodes C.rows) (flat_map put_at C.regs) n h) [
+    | inl i ↦ (let r = has-flat_map (λ (r : RowMarks). incoming_nodes (spread r.marks)) C.rows n i in let c = incoming-put (spread r.0.marks) n r.2 in
         (To.Cell c.0, put-row r.0 (put_to n (To.Cell c.0)) r.1 c.1))
     | inr i ↦ (let r = has-flat_map put_at C.regs n i in
         (To.Register r.0.field, put-reg r.0 (put_to n (To.Register r.0.field)) r.1 (append_left (map (λ n. put_to n (To.Register r.0.field)) (one_or_none r.0.fill)) _ (put_to n (To.Register r.0.field)) (map-has (λ n. put_to n (To.Register r.0.field)) (one_or_none r.0.fill) n r.2))))
@@ -139,32 +139,32 @@ module _ (D : Document) (C : Change) (x : IsSoundInForm D) (w : ObeysDataRules C
         where
           decide : (b : Bool) → is_among L.put f.node ≡ b → (t : To) × Has N.put (put_to f.node t)
           decide true q = put-list f.node ((among_has L.put f.node).0 q)
-          decide false q = (To.Nowhere, put-gone f.node (filter-has (λ n. not (is_among L.put n)) (leaving L.found) f.node (has-leaving L.found f i (ap is_leave leave)) (ap not q)))
+          decide false q = (To.Nowhere, put-gone f.node (filter-has (λ n. not (is_among L.put n)) (leaving_nodes L.found) f.node (has-leaving L.found f i (ap is_leave leave)) (ap not q)))
 
-  leaves-or-new : (n : NodeId) → Has L.put n → Has (nodes_new C.new) n ⊎ Has (moving L.found) n
+  leaves-or-new : (n : NodeId) → Has L.put n → Has (nodes_new C.new) n ⊎ Has (moving_nodes L.found) n
   leaves-or-new n h = elim (all-has (λ (n : NodeId). Has L.new n ⊎ IsFoundAs L n Leave) L.put n w.common.put_leave h) [
     | inl i ↦ inl i
     | inr i ↦ inr (has-moving L.found (record { node = n; how = Leave }) i refl)
   ]
 
   -- who is put is new, or doesn't stay
-  pub put-moved : (p : Put) → Has N.put p → Has (nodes_new C.new) p.node ⊎ Has (moving L.found) p.node
+  pub put-moved : (p : Put) → Has N.put p → Has (nodes_new C.new) p.node ⊎ Has (moving_nodes L.found) p.node
   put-moved p h = elim (put-cases p h) [
     | inl (r, i, j) ↦ (let c = row_put-has (spread r.marks) p j in elim c.2 [
       | inl a ↦ inr (has-moving L.found (record { node = p.node; how = Here }) (found-row r c.0 p.node Here i a) refl)
-      | inr b ↦ leaves-or-new p.node (append_left (in_rows incoming C.rows) (flat_map put_at C.regs) p.node (flat_map-has (λ (r : RowMarks). incoming (spread r.marks)) C.rows r p.node i
+      | inr b ↦ leaves-or-new p.node (append_left (in_rows incoming_nodes C.rows) (flat_map put_at C.regs) p.node (flat_map-has (λ (r : RowMarks). incoming_nodes (spread r.marks)) C.rows r p.node i
           (elim b [ inl m ↦ make-incoming (spread r.marks) c.0 p.node m | inr m ↦ fill-incoming (spread r.marks) c.0 p.node m ])))
     ])
     | inr a ↦ elim a [
       | inl (r, i, j) ↦ elim (has-append (map (λ n. put_to n (To.Register r.field)) (one_or_none r.fill)) (cond (is_here r.how) (map (λ n. put_to n (To.Register r.field)) (one_or_none r.held)) []) p j) [
         | inl k ↦ (let n = has-map (λ n. put_to n (To.Register r.field)) (one_or_none r.fill) p k in
-            leaves-or-new p.node (append_right (in_rows incoming C.rows) (flat_map put_at C.regs) p.node (flat_map-has put_at C.regs r p.node i (subst (λ m. Has (one_or_none r.fill) m) (ap (λ (p : Put). p.node) n.2) n.1))))
+            leaves-or-new p.node (append_right (in_rows incoming_nodes C.rows) (flat_map put_at C.regs) p.node (flat_map-has put_at C.regs r p.node i (subst (λ m. Has (one_or_none r.fill) m) (ap (λ (p : Put). p.node) n.2) n.1))))
         | inr k ↦ inr (set r i (is_here r.how) refl k)
       ]
       | inr b ↦ elim b [
         | inl (l, i, j) ↦ inr (nowhere l i (is_here l.how) refl j)
-        | inr (n, i, e) ↦ (let f = leaving-has L.found n (filtered (λ n. not (is_among L.put n)) (leaving L.found) n i).0 in
-            inr (subst (Has (moving L.found)) (f.2 ∙ ap (λ (p : Put). p.node) (sym e)) (has-moving L.found f.0 f.1 (leave-not f.0.how f.3))))
+        | inr (n, i, e) ↦ (let f = leaving-has L.found n (filtered (λ n. not (is_among L.put n)) (leaving_nodes L.found) n i).0 in
+            inr (subst (Has (moving_nodes L.found)) (f.2 ∙ ap (λ (p : Put). p.node) (sym e)) (has-moving L.found f.0 f.1 (leave-not f.0.how f.3))))
       ]
     ]
   ]
@@ -179,16 +179,16 @@ module _ (D : Document) (C : Change) (x : IsSoundInForm D) (w : ObeysDataRules C
       here-not Here e = refl
       here-not Leave e = refl
 
-      set : (r : RegMark) → Has C.regs r → (b : Bool) → is_here r.how ≡ b → Has (cond b (map (λ n. put_to n (To.Register r.field)) (one_or_none r.held)) []) p → Has (moving L.found) p.node
+      set : (r : RegMark) → Has C.regs r → (b : Bool) → is_here r.how ≡ b → Has (cond b (map (λ n. put_to n (To.Register r.field)) (one_or_none r.held)) []) p → Has (moving_nodes L.found) p.node
       set r i false e k = absurd k
       set r i true e k =
           let n = has-map (λ n. put_to n (To.Register r.field)) (one_or_none r.held) p k in
           let held = one-is r.held n.0 n.1 in
-          subst (Has (moving L.found)) (ap (λ (p : Put). p.node) n.2) (has-moving L.found (record { node = n.0; how = r.how }) (found-reg r n.0 i held) (here-not r.how e))
+          subst (Has (moving_nodes L.found)) (ap (λ (p : Put). p.node) n.2) (has-moving L.found (record { node = n.0; how = r.how }) (found-reg r n.0 i held) (here-not r.how e))
 
-      nowhere : (l : Loose) → Has C.loose l → (b : Bool) → is_here l.how ≡ b → Has (cond b (put_to l.node To.Nowhere ∷ []) []) p → Has (moving L.found) p.node
+      nowhere : (l : Loose) → Has C.loose l → (b : Bool) → is_here l.how ≡ b → Has (cond b (put_to l.node To.Nowhere ∷ []) []) p → Has (moving_nodes L.found) p.node
       nowhere l i false e k = absurd k
-      nowhere l i true e (inl q) = subst (Has (moving L.found)) (ap (λ (p : Put). p.node) q) (has-moving L.found (record { node = l.node; how = l.how }) (found-loose l i) (here-not l.how e))
+      nowhere l i true e (inl q) = subst (Has (moving_nodes L.found)) (ap (λ (p : Put). p.node) q) (has-moving L.found (record { node = l.node; how = l.how }) (found-loose l i) (here-not l.how e))
       nowhere l i true e (inr k) = absurd k
 
   -- ## What the change lists as mentioned the intent mentions
@@ -237,7 +237,7 @@ module _ (D : Document) (C : Change) (x : IsSoundInForm D) (w : ObeysDataRules C
 
   -- how a listed row mentions its node, where a node that stays in it does
   row-mentions : (r : RowMarks) → Has C.rows r → IsSome (D.nodes r.node)
-      → ((n : NodeId) → IsFound L n → above D n ≡ Some r.node → Has (staying (in_rows found_in C.rows ++ (flat_map kept_at C.regs ++ found_loose C.loose))) n → M n) → M r.node
+      → ((n : NodeId) → IsFound L n → above D n ≡ Some r.node → Has (staying_nodes (in_rows found_in C.rows ++ (flat_map kept_at C.regs ++ found_loose C.loose))) n → M n) → M r.node
   row-mentions r i known stay = let t = any-has tells (spread r.marks) (all-has (λ (r : RowMarks). IsTrue (list_any tells (spread r.marks))) C.rows r w.common.tells i) in by t.0 t.1 t.2
     where
       by : (y : CellMark) → Has (spread r.marks) y → tells y ≡ true → M r.node
@@ -257,7 +257,7 @@ module _ (D : Document) (C : Change) (x : IsSoundInForm D) (w : ObeysDataRules C
       by (Fill c n) j e = m-target n r.node c (put-row r (put_to n (To.Cell c)) i (fill-put (spread r.marks) c n j)) (row-cell r c n false (filled (content D r.node) (spread r.marks) c n (o.rows r i) j)) known
 
   reg-mentions : (r : RegMark) → Has C.regs r → IsSome (D.nodes r.field.node)
-      → ((n : NodeId) → IsFound L n → above D n ≡ Some r.field.node → Has (staying (in_rows found_in C.rows ++ (flat_map kept_at C.regs ++ found_loose C.loose))) n → M n) → M r.field.node
+      → ((n : NodeId) → IsFound L n → above D n ≡ Some r.field.node → Has (staying_nodes (in_rows found_in C.rows ++ (flat_map kept_at C.regs ++ found_loose C.loose))) n → M n) → M r.field.node
   reg-mentions r i known stay = by r.clear refl (all-has (λ (r : RegMark). IsTrue r.clear ⊎ IsSome r.held) C.regs r w.registers_tell i)
     where
       by : (b : Bool) → r.clear ≡ b → IsTrue r.clear ⊎ IsSome r.held → M r.field.node
@@ -278,7 +278,7 @@ module _ (D : Document) (C : Change) (x : IsSoundInForm D) (w : ObeysDataRules C
               up : above D n ≡ Some r.field.node
               up = ap node_of (held_place D C x o r n i f)
 
-  by-field : (n : NodeId) → Has (fields_of L) n → IsSome (D.nodes n) → ((m : NodeId) → IsFound L m → above D m ≡ Some n → Has (staying (in_rows found_in C.rows ++ (flat_map kept_at C.regs ++ found_loose C.loose))) m → M m) → M n
+  by-field : (n : NodeId) → Has (fields_of L) n → IsSome (D.nodes n) → ((m : NodeId) → IsFound L m → above D m ≡ Some n → Has (staying_nodes (in_rows found_in C.rows ++ (flat_map kept_at C.regs ++ found_loose C.loose))) m → M m) → M n
   by-field n h known stay = elim (has-append (map (λ (r : RowMarks). r.node) C.rows) (map (λ (f : FieldId). f.node) L.registers) n h) [
     | inl i ↦ (let r = has-map (λ (r : RowMarks). r.node) C.rows n i in subst M r.2 (row-mentions r.0 r.1 (subst (λ m. IsSome (D.nodes m)) (sym r.2) known) (λ m f e s. stay m f (e ∙ ap (λ m. Some m) r.2) s)))
     | inr i ↦ (let f = has-map (λ (f : FieldId). f.node) L.registers n i in let r = has-map (λ (r : RegMark). r.field) C.regs f.0 f.1 in
@@ -289,7 +289,7 @@ module _ (D : Document) (C : Change) (x : IsSoundInForm D) (w : ObeysDataRules C
   -- a node with a listed field, where climbs to it from found nodes have fewer than k steps
   field-mentions : (k : ℕ) (n : NodeId) → ((m : NodeId) (i : ℕ) → IsFound L m → climb (above D) i m ≡ Some n → i < k) → Has (fields_of L) n → IsSome (D.nodes n) → M n
   field-mentions zero n short h known = by-field n h known (λ m f e s. absurd (let l = short m 1 f (ap (option_and_then (climb (above D) 0)) e) in omega (arith, l)))
-  field-mentions (suc k) n short h known = by-field n h known (λ m f e s. elim (all-has (λ (n : NodeId). Has C.need n ⊎ HasListedField L n) (staying (in_rows found_in C.rows ++ (flat_map kept_at C.regs ++ found_loose C.loose))) m w.mentioned s) [
+  field-mentions (suc k) n short h known = by-field n h known (λ m f e s. elim (all-has (λ (n : NodeId). Has C.need n ⊎ HasListedField L n) (staying_nodes (in_rows found_in C.rows ++ (flat_map kept_at C.regs ++ found_loose C.loose))) m w.mentioned s) [
     | inl a ↦ m-need m a (found_there D C x o m f)
     | inr a ↦ field-mentions k m (λ q i g c. let l = short q (suc i) g (climb_more (above D) i q m n c e) in omega (arith, l)) a (found_there D C x o m f)
   ])
@@ -321,8 +321,8 @@ module _ (D : Document) (C : Change) (x : IsSoundInForm D) (w : ObeysDataRules C
   ]
 
   pub mentions-meant : (n : NodeId) → mentions C n ≡ true → M n
-  mentions-meant n e = elim (or-cases (is_among (moving L.found) n) _ e) [
-    | inl a ↦ (let f = moving-has L.found n ((among_has (moving L.found) n).0 a) in subst M f.2 (m-moved f.0 f.1 f.3))
+  mentions-meant n e = elim (or-cases (is_among (moving_nodes L.found) n) _ e) [
+    | inl a ↦ (let f = moving-has L.found n ((among_has (moving_nodes L.found) n).0 a) in subst M f.2 (m-moved f.0 f.1 f.3))
     | inr b ↦ elim (or-cases (is_among C.need n) _ b) [
       | inl a ↦ (let h = (among_has C.need n).0 a in m-need n h (known-need n h))
       | inr c ↦ (let d = and-true (is_among (fields_of L) n) _ c in
@@ -337,15 +337,15 @@ module _ (D : Document) (C : Change) (x : IsSoundInForm D) (w : ObeysDataRules C
   old-known n k h = let e = o.new_nodes n h in let bad : ◌≡◌ {A = Bool} false true = rw e at k in cc
 
   pub listed-field : (n : NodeId) → Has (fields_of L) n → IsSome (D.nodes n) → mentions C n ≡ true
-  listed-field n h k = or-right (is_among (moving L.found) n) _ (or-right (is_among C.need n) _ (and-both (is_among (fields_of L) n) _ ((among_has (fields_of L) n).1 h) (not-false (is_among (nodes_new C.new) n) (λ e. old-known n k ((among_has (nodes_new C.new) n).0 e)))))
+  listed-field n h k = or-right (is_among (moving_nodes L.found) n) _ (or-right (is_among C.need n) _ (and-both (is_among (fields_of L) n) _ ((among_has (fields_of L) n).1 h) (not-false (is_among (nodes_new C.new) n) (λ e. old-known n k ((among_has (nodes_new C.new) n).0 e)))))
 
-  pub listed-moved : (n : NodeId) → Has (moving L.found) n → mentions C n ≡ true
-  listed-moved n h = or-left (is_among (moving L.found) n) _ ((among_has (moving L.found) n).1 h)
+  pub listed-moved : (n : NodeId) → Has (moving_nodes L.found) n → mentions C n ≡ true
+  listed-moved n h = or-left (is_among (moving_nodes L.found) n) _ ((among_has (moving_nodes L.found) n).1 h)
 
   -- who is mentioned is the root, or found
   pub mentions-found : (n : NodeId) → mentions C n ≡ true → (n ≡ root) ⊎ IsFound L n
-  mentions-found n e = elim (or-cases (is_among (moving L.found) n) _ e) [
-    | inl a ↦ (let f = moving-has L.found n ((among_has (moving L.found) n).0 a) in inr (subst (IsFound L) f.2 (map-has (λ (f : Found). f.node) L.found f.0 f.1)))
+  mentions-found n e = elim (or-cases (is_among (moving_nodes L.found) n) _ e) [
+    | inl a ↦ (let f = moving-has L.found n ((among_has (moving_nodes L.found) n).0 a) in inr (subst (IsFound L) f.2 (map-has (λ (f : Found). f.node) L.found f.0 f.1)))
     | inr b ↦ elim (or-cases (is_among C.need n) _ b) [
       | inl a ↦ all-has (λ (n : NodeId). (n ≡ root) ⊎ IsFound L n) C.need n w.needed ((among_has C.need n).0 a)
       | inr c ↦ (let d = and-true (is_among (fields_of L) n) _ c in elim (all-has (λ (n : NodeId). (n ≡ root) ⊎ Has L.new n ⊎ IsFound L n) (fields_of L) n w.common.fields_found ((among_has (fields_of L) n).0 d.0)) [
@@ -462,10 +462,10 @@ module _ (D : Document) (C : Change) (x : IsSoundInForm D) (w : ObeysDataRules C
         | inr i ↦ (let g = has-map (λ (g : Group). g.node) N.groups s i in let r = group-row g.0 g.1 in
             listed-field s (subst (Has (fields_of L)) (sym r.2 ∙ g.2) (Rattle.st_normal_laws.proofs.FoundPlaces.row_field-has D C x o r.0 r.1)) k)
         | inl c ↦ elim (has-append put_nodes N.need s c) [
-          | inr i ↦ or-right (is_among (moving L.found) s) _ (or-left (is_among C.need s) _ ((among_has C.need s).1 i))
+          | inr i ↦ or-right (is_among (moving_nodes L.found) s) _ (or-left (is_among C.need s) _ ((among_has C.need s).1 i))
           | inl i ↦ (let p = has-map (λ (p : Put). p.node) N.put s i in elim (put-moved p.0 p.1) [
             | inl j ↦ absurd (old-known s k (subst (Has (nodes_new C.new)) p.2 j))
-            | inr j ↦ listed-moved s (subst (Has (moving L.found)) p.2 j)
+            | inr j ↦ listed-moved s (subst (Has (moving_nodes L.found)) p.2 j)
           ])
         ]
       ]

@@ -23,7 +23,7 @@ use Rattle.st_marks.specs.Listings.{cells_before}
 use Rattle.st_marks.proofs.Lookups.{group_at-group, anchor_itself, anchor_is}
 use Rattle.st_marks.proofs.Members.{all-has, has-all, append_left, append_right, has-append, map-has, has-map, flat_map-has, has-flat_map, distinct-has, distinct-append, first-distinct}
 use Rattle.st_normal_laws.specs.Told.{AreAsSeen}
-use Rattle.st_normal_laws.specs.Meant.{Along, IsOver, along, group_of, groups_along, groups_of, made_first, meant}
+use Rattle.st_normal_laws.specs.Meant.{Along, IsOver, along, group_of, groups_along, groups_of, made_first, meant_intent}
 use Rattle.st_ids.proofs.Shared.{no_members}
 use Rattle.st_lemmas.proofs.Bools.{and-both, and-true}
 
@@ -145,7 +145,7 @@ anchor_key g = (g.node, g.after)
 
 module _ (D : Document) (C : Change) (x : IsSoundInForm D) (w : ObeysDataRules C) (o : IsOver D C) (rows_once : AreDistinct (λ (r : RowMarks). r.node) C.rows) where
   abbrev N : Intent
-  N = meant D C
+  N = meant_intent D C
 
   abbrev ts : RowMarks → List Along
   ts r = along (content D r.node) (spread r.marks)

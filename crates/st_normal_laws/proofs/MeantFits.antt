@@ -33,8 +33,8 @@ use Rattle.st_marks.specs.Listings.{cells_before, cells_in, cells_made, nodes_ne
 use Rattle.st_marks.proofs.Lookups.{group-new_row_of}
 use Rattle.st_marks.proofs.Members.{all-has, has-all, append_left, has-append, map-has, has-map, flat_map-has, has-flat_map, first-has, none-has}
 use Rattle.st_normal_laws.specs.Told.{AreAsSeen}
-use Rattle.st_normal_laws.specs.Meant.{Along, IsOver, along, group_of, groups_along, groups_of, made_first, meant, put_to, row_puts}
-use Rattle.st_normal_laws.specs.Mentions.{moving}
+use Rattle.st_normal_laws.specs.Meant.{Along, IsOver, along, group_of, groups_along, groups_of, made_first, meant_intent, put_to, row_puts}
+use Rattle.st_normal_laws.specs.Mentions.{moving_nodes}
 use Rattle.st_normal_laws.proofs.Mentioned.{moving-has}
 use Rattle.st_normal_laws.proofs.Exact.{moved-put}
 use Rattle.st_normal_laws.proofs.Puts.{put-is, one_mark, mark-cell}
@@ -231,7 +231,7 @@ module _ (D : Document) (C : Change) (x : IsSoundInForm D) (w : ObeysDataRules C
   L = entries_of_change C
 
   abbrev N : Intent
-  N = meant D C
+  N = meant_intent D C
 
   pub rows_once : AreDistinct (λ (r : RowMarks). r.node) C.rows
   rows_once = rising_distinct node_cmp node_cmp_total (λ (r : RowMarks). r.node) C.rows w.rising.rows
@@ -261,7 +261,7 @@ module _ (D : Document) (C : Change) (x : IsSoundInForm D) (w : ObeysDataRules C
   pub found-old : (n : NodeId) → IsFound L n → Has (nodes_new C.new) n → ⊥
   found-old n f i = (all-has (λ (n : NodeId). (n ≢ root) × (IsFound L n → ⊥)) L.new n w.common.new_not_found i).1 f
 
-  pub moving-found : (n : NodeId) → Has (moving L.found) n → IsFound L n
+  pub moving-found : (n : NodeId) → Has (moving_nodes L.found) n → IsFound L n
   moving-found n i = let f = moving-has L.found n i in subst (IsFound L) f.2 (map-has (λ (f : Found). f.node) L.found f.0 f.1)
 
   -- ## Groups

@@ -36,7 +36,7 @@ use Rattle.st_ids.proofs.Listings.{has-item_of}
 use Rattle.st_marks.proofs.Lookups.{put-has, group-new_row_of}
 use Rattle.st_marks.proofs.Members.{all-has, has-all, append_left, append_right, has-append, map-has, has-map, flat_map-has, has-flat_map, any-has, has-any, distinct-has}
 use Rattle.st_normal.proofs.ShownPlaces.{stands-after}
-use Rattle.st_normal_laws.specs.Meant.{IsOver, cleared_at, leaving, meant, put_to, reg_puts}
+use Rattle.st_normal_laws.specs.Meant.{IsOver, cleared_at, leaving_nodes, meant_intent, put_to, reg_puts}
 use Rattle.st_normal_laws.proofs.FoundPlaces.{touched, filled, found_there, row_field-has, reg_field-has}
 use Rattle.st_normal_laws.proofs.Mentioned.{leaving-has, row_put-has}
 use Rattle.st_normal_laws.proofs.Exact.{put-cases, put-moved, known-need}
@@ -66,7 +66,7 @@ module _ (D : Document) (C : Change) (x : IsSoundInForm D) (w : ObeysDataRules C
   L = entries_of_change C
 
   abbrev N : Intent
-  N = meant D C
+  N = meant_intent D C
 
   -- ## Registers
 
@@ -202,7 +202,7 @@ module _ (D : Document) (C : Change) (x : IsSoundInForm D) (w : ObeysDataRules C
       ]
       | inr b ↦ elim b [
         | inl (l, i, j) ↦ loose l i (is_here l.how) j
-        | inr (m, i, q) ↦ old (leaving-found m (filtered (λ n. not (Rattle.st_marks.specs.Embedding.is_among L.put n)) (leaving L.found) m i).0 (ap (λ (p : Put). p.node) (sym q)))
+        | inr (m, i, q) ↦ old (leaving-found m (filtered (λ n. not (Rattle.st_marks.specs.Embedding.is_among L.put n)) (leaving_nodes L.found) m i).0 (ap (λ (p : Put). p.node) (sym q)))
       ]
     ]
   ]
@@ -216,7 +216,7 @@ module _ (D : Document) (C : Change) (x : IsSoundInForm D) (w : ObeysDataRules C
       old : IsFound L p.node → ⊥
       old f = found-old D C x w o plain p.node f (is-new D C x w o plain p.node n)
 
-      leaving-found : (m : NodeId) → Has (leaving L.found) m → m ≡ p.node → IsFound L p.node
+      leaving-found : (m : NodeId) → Has (leaving_nodes L.found) m → m ≡ p.node → IsFound L p.node
       leaving-found m i s = let f = leaving-has L.found m i in subst (IsFound L) (f.2 ∙ s) (map-has (λ (f : Found). f.node) L.found f.0 f.1)
 
       set : (r : RegMark) (b : Bool) → Has (cond b (map (λ n. put_to n (To.Register r.field)) (one_or_none r.held)) []) p → ⊥
@@ -332,7 +332,7 @@ module _ (D : Document) (C : Change) (x : IsSoundInForm D) (w : ObeysDataRules C
       go None e = (suc (length (nodes_new C.new)), e)
       go (Some m) e = absurd ((no_ring-leads_up IsUnder (above_new N) under-iff).1 (λ k l. w.no_new_ring k (leads-new k k l)) (too_long (above_new N) (nodes_new C.new) listed n m e))
 
-  pub meant_intent : IsIntent N
+  pub meant : IsIntent N
   meant_intent = record {
     new_rev = w.revision.0;
     new_once = new_once D C x w o plain;

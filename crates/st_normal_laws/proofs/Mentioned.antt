@@ -14,44 +14,44 @@ use Rattle.st_marks.specs.declared.places.Slot.{Slot}
 use Rattle.st_marks.specs.Document.{owned_cell}
 use Rattle.st_marks.specs.Row.{CellMark, Counted, Gap, Touch, Make, Fill}
 use Rattle.st_marks.specs.How.{is_here, is_stay, is_leave}
-use Rattle.st_normal.specs.Rules.{incoming, staying}
+use Rattle.st_normal.specs.Rules.{incoming_nodes, staying_nodes}
 use Rattle.st_marks.specs.Listings.{cells_before}
 use Rattle.st_marks.proofs.Members.{append_right}
 use Rattle.st_normal_laws.specs.Told.{AreAsSeen}
-use Rattle.st_normal_laws.specs.Mentions.{moving}
-use Rattle.st_normal_laws.specs.Meant.{along, group_of, groups_along, leaving, made_first, put_to, row_puts}
+use Rattle.st_normal_laws.specs.Mentions.{moving_nodes}
+use Rattle.st_normal_laws.specs.Meant.{along, group_of, groups_along, leaving_nodes, made_first, put_to, row_puts}
 
 -- ## Lists
 
-pub moving-has : (fs : List Found) (n : NodeId) → Has (moving fs) n → (f : Found) × Has fs f × (f.node ≡ n) × (is_stay f.how ≡ false)
+pub moving-has : (fs : List Found) (n : NodeId) → Has (moving_nodes fs) n → (f : Found) × Has fs f × (f.node ≡ n) × (is_stay f.how ≡ false)
 moving-has [] n h = absurd h
 moving-has (f ∷ fs) n h = go (is_stay f.how) refl (λ i. moving-has fs n i) h
   where
-    go : (b : Bool) → is_stay f.how ≡ b → (Has (moving fs) n → (g : Found) × Has fs g × (g.node ≡ n) × (is_stay g.how ≡ false)) → Has (cond b (moving fs) (f.node ∷ moving fs)) n → (g : Found) × Has (f ∷ fs) g × (g.node ≡ n) × (is_stay g.how ≡ false)
+    go : (b : Bool) → is_stay f.how ≡ b → (Has (moving_nodes fs) n → (g : Found) × Has fs g × (g.node ≡ n) × (is_stay g.how ≡ false)) → Has (cond b (moving_nodes fs) (f.node ∷ moving_nodes fs)) n → (g : Found) × Has (f ∷ fs) g × (g.node ≡ n) × (is_stay g.how ≡ false)
     go true e rest i = let r = rest i in (r.0, inr r.1, r.2, r.3)
     go false e rest (inl q) = (f, inl refl, q, e)
     go false e rest (inr i) = let r = rest i in (r.0, inr r.1, r.2, r.3)
 
-pub has-moving : (fs : List Found) (f : Found) → Has fs f → is_stay f.how ≡ false → Has (moving fs) f.node
+pub has-moving : (fs : List Found) (f : Found) → Has fs f → is_stay f.how ≡ false → Has (moving_nodes fs) f.node
 has-moving [] f h e = absurd h
-has-moving (g ∷ fs) f (inl q) e = subst (λ b. Has (cond b (moving fs) (g.node ∷ moving fs)) f.node) (sym (ap (λ (f : Found). is_stay f.how) q ∙ e)) (inl (ap (λ (f : Found). f.node) q))
-has-moving (g ∷ fs) f (inr h) e = elim (is_stay g.how) as (λ b. Has (cond b (moving fs) (g.node ∷ moving fs)) f.node) [ true ↦ has-moving fs f h e | false ↦ inr (has-moving fs f h e) ]
+has-moving (g ∷ fs) f (inl q) e = subst (λ b. Has (cond b (moving_nodes fs) (g.node ∷ moving_nodes fs)) f.node) (sym (ap (λ (f : Found). is_stay f.how) q ∙ e)) (inl (ap (λ (f : Found). f.node) q))
+has-moving (g ∷ fs) f (inr h) e = elim (is_stay g.how) as (λ b. Has (cond b (moving_nodes fs) (g.node ∷ moving_nodes fs)) f.node) [ true ↦ has-moving fs f h e | false ↦ inr (has-moving fs f h e) ]
 
-pub has-staying : (fs : List Found) (f : Found) → Has fs f → is_stay f.how ≡ true → Has (staying fs) f.node
+pub has-staying : (fs : List Found) (f : Found) → Has fs f → is_stay f.how ≡ true → Has (staying_nodes fs) f.node
 has-staying [] f h e = absurd h
-has-staying (g ∷ fs) f (inl q) e = subst (λ b. Has (cond b (g.node ∷ staying fs) (staying fs)) f.node) (sym (ap (λ (f : Found). is_stay f.how) q ∙ e)) (inl (ap (λ (f : Found). f.node) q))
-has-staying (g ∷ fs) f (inr h) e = elim (is_stay g.how) as (λ b. Has (cond b (g.node ∷ staying fs) (staying fs)) f.node) [ true ↦ inr (has-staying fs f h e) | false ↦ has-staying fs f h e ]
+has-staying (g ∷ fs) f (inl q) e = subst (λ b. Has (cond b (g.node ∷ staying_nodes fs) (staying_nodes fs)) f.node) (sym (ap (λ (f : Found). is_stay f.how) q ∙ e)) (inl (ap (λ (f : Found). f.node) q))
+has-staying (g ∷ fs) f (inr h) e = elim (is_stay g.how) as (λ b. Has (cond b (g.node ∷ staying_nodes fs) (staying_nodes fs)) f.node) [ true ↦ inr (has-staying fs f h e) | false ↦ has-staying fs f h e ]
 
-pub has-leaving : (fs : List Found) (f : Found) → Has fs f → is_leave f.how ≡ true → Has (leaving fs) f.node
+pub has-leaving : (fs : List Found) (f : Found) → Has fs f → is_leave f.how ≡ true → Has (leaving_nodes fs) f.node
 has-leaving [] f h e = absurd h
-has-leaving (g ∷ fs) f (inl q) e = subst (λ b. Has (cond b (g.node ∷ leaving fs) (leaving fs)) f.node) (sym (ap (λ (f : Found). is_leave f.how) q ∙ e)) (inl (ap (λ (f : Found). f.node) q))
-has-leaving (g ∷ fs) f (inr h) e = elim (is_leave g.how) as (λ b. Has (cond b (g.node ∷ leaving fs) (leaving fs)) f.node) [ true ↦ inr (has-leaving fs f h e) | false ↦ has-leaving fs f h e ]
+has-leaving (g ∷ fs) f (inl q) e = subst (λ b. Has (cond b (g.node ∷ leaving_nodes fs) (leaving_nodes fs)) f.node) (sym (ap (λ (f : Found). is_leave f.how) q ∙ e)) (inl (ap (λ (f : Found). f.node) q))
+has-leaving (g ∷ fs) f (inr h) e = elim (is_leave g.how) as (λ b. Has (cond b (g.node ∷ leaving_nodes fs) (leaving_nodes fs)) f.node) [ true ↦ inr (has-leaving fs f h e) | false ↦ has-leaving fs f h e ]
 
-pub leaving-has : (fs : List Found) (n : NodeId) → Has (leaving fs) n → (f : Found) × Has fs f × (f.node ≡ n) × (is_leave f.how ≡ true)
+pub leaving-has : (fs : List Found) (n : NodeId) → Has (leaving_nodes fs) n → (f : Found) × Has fs f × (f.node ≡ n) × (is_leave f.how ≡ true)
 leaving-has [] n h = absurd h
 leaving-has (f ∷ fs) n h = go (is_leave f.how) refl (λ i. leaving-has fs n i) h
   where
-    go : (b : Bool) → is_leave f.how ≡ b → (Has (leaving fs) n → (g : Found) × Has fs g × (g.node ≡ n) × (is_leave g.how ≡ true)) → Has (cond b (f.node ∷ leaving fs) (leaving fs)) n → (g : Found) × Has (f ∷ fs) g × (g.node ≡ n) × (is_leave g.how ≡ true)
+    go : (b : Bool) → is_leave f.how ≡ b → (Has (leaving_nodes fs) n → (g : Found) × Has fs g × (g.node ≡ n) × (is_leave g.how ≡ true)) → Has (cond b (f.node ∷ leaving_nodes fs) (leaving_nodes fs)) n → (g : Found) × Has (f ∷ fs) g × (g.node ≡ n) × (is_leave g.how ≡ true)
     go false e rest i = let r = rest i in (r.0, inr r.1, r.2, r.3)
     go true e rest (inl q) = (f, inl refl, q, e)
     go true e rest (inr i) = let r = rest i in (r.0, inr r.1, r.2, r.3)
@@ -116,7 +116,7 @@ fill-put (Make d m b ∷ ms) c n (inr i) = elim b as (λ b. Has (cond b (put_to 
 fill-put (Fill d m ∷ ms) c n (inl q) = let a : d ≡ c = cc in let b : m ≡ n = cc in inl (λ i. put_to (b i) (To.Cell (a i)))
 fill-put (Fill d m ∷ ms) c n (inr i) = inr (fill-put ms c n i)
 
-pub incoming-put : (ms : List CellMark) (n : NodeId) → Has (incoming ms) n → (c : CellId) × Has (row_puts ms) (put_to n (To.Cell c))
+pub incoming-put : (ms : List CellMark) (n : NodeId) → Has (incoming_nodes ms) n → (c : CellId) × Has (row_puts ms) (put_to n (To.Cell c))
 incoming-put [] n i = absurd i
 incoming-put (Counted ∷ ms) n i = incoming-put ms n i
 incoming-put (Gap d ∷ ms) n i = incoming-put ms n i

@@ -26,7 +26,7 @@ use Rattle.st_normal.specs.Rules.{IsFound, Entries, ObeysDataRules, fields_of, f
 use Rattle.st_marks.specs.Listings.{CellView, Places, placed_in_row, placed_in_register, cells_after, cells_before, cells_in, cells_made, nodes_new, one_or_none, nodes_standing, listing_before_change}
 use Rattle.st_ids.proofs.Listings.{has-item_of}
 use Rattle.st_marks.proofs.Members.{all-has, has-all, append_left, append_right, has-append, map-has, has-map, flat_map-has, has-flat_map, distinct-left, distinct-between, list_distinct, one_list}
-use Rattle.st_normal_laws.specs.Meant.{IsOver, meant}
+use Rattle.st_normal_laws.specs.Meant.{IsOver, meant_intent}
 use Rattle.st_normal_laws.proofs.Groups.{distinct-flat}
 use Rattle.st_normal_laws.proofs.MeantFits.{rising_distinct, append-assoc}
 use Rattle.st_ids.specs.declared.names.Atom.{Atom}
@@ -369,7 +369,7 @@ module _ (C : Change) (w : ObeysDataRules C) (plain : C.schema ≡ None) where
 
   -- a change of data that obeys the rules is normal
   pub data_normal : IsNormalChange C
-  data_normal = (D, meant D C, seed_is_sound, meant_in_seed, short_after D C seed_is_sound w over_seed plain, stands_over D C seed_is_sound w over_seed plain)
+  data_normal = (D, meant_intent D C, seed_is_sound, meant_in_seed, short_after D C seed_is_sound w over_seed plain, stands_over D C seed_is_sound w over_seed plain)
     where
-      meant_in_seed : Fits D (meant D C)
+      meant_in_seed : Fits D (meant_intent D C)
       meant_in_seed = Rattle.st_normal_laws.proofs.MeantIntent.meant_fits D C seed_is_sound w over_seed plain

@@ -23,11 +23,11 @@ use Rattle.st_marks.specs.Embedding.{is_among}
 use Rattle.st_marks.specs.Intent.{put_of}
 use Rattle.st_marks.specs.Row.{CellMark, Counted, Gap, Touch, Make, Fill, spread, how, same_to}
 use Rattle.st_marks.specs.How.{is_here, is_leave}
-use Rattle.st_normal.specs.Rules.{IsFound, IsFoundAs, Entries, ObeysDataRules, found_at, found_held, found_in, found_loose, in_rows, incoming, entries_of_change, put_at}
+use Rattle.st_normal.specs.Rules.{IsFound, IsFoundAs, Entries, ObeysDataRules, found_at, found_held, found_in, found_loose, in_rows, incoming_nodes, entries_of_change, put_at}
 use Rattle.st_marks.specs.Listings.{cells_in, one_or_none}
 use Rattle.st_normal.proofs.Counts.{times, times-append, times-all, times-has, times-none, has-times, once-times, times-once}
 use Rattle.st_marks.proofs.Members.{all-has, has-append, has-map, first-distinct, distinct-filter_map, one_list, list_distinct}
-use Rattle.st_normal_laws.specs.Meant.{IsOver, nodes_gone, leaving, loose_puts, meant, put_to, reg_puts, row_puts}
+use Rattle.st_normal_laws.specs.Meant.{IsOver, nodes_gone, leaving_nodes, loose_puts, meant_intent, put_to, reg_puts, row_puts}
 use Rattle.st_normal_laws.proofs.Mentioned.{has-leaving, row_put-has}
 use Rattle.st_normal_laws.proofs.Exact.{put-cases}
 use Rattle.st_ids.proofs.Shared.{filtered}
@@ -59,25 +59,25 @@ heres-all : {A : Type 0} (f : A → List Found) (xs : List A) → heres (flat_ma
 heres-all f [] = refl
 heres-all f (x ∷ xs) = heres-append (f x) (flat_map f xs) ∙ ap (λ l. heres (f x) ++ l) (heres-all f xs)
 
-both-times : (n : NodeId) (fs : List Found) → times n (heres fs) + times n (leaving fs) ≤ times n (map found_node fs)
+both-times : (n : NodeId) (fs : List Found) → times n (heres fs) + times n (leaving_nodes fs) ≤ times n (map found_node fs)
 both-times n [] = omega arith
 both-times n (f ∷ fs) = go f.how (both-times n fs)
   where
-    go : (h : How) → times n (heres fs) + times n (leaving fs) ≤ times n (map found_node fs)
-        → times n (cond (is_here h) (f.node ∷ heres fs) (heres fs)) + times n (cond (is_leave h) (f.node ∷ leaving fs) (leaving fs)) ≤ times n (f.node ∷ map found_node fs)
+    go : (h : How) → times n (heres fs) + times n (leaving_nodes fs) ≤ times n (map found_node fs)
+        → times n (cond (is_here h) (f.node ∷ heres fs) (heres fs)) + times n (cond (is_leave h) (f.node ∷ leaving_nodes fs) (leaving_nodes fs)) ≤ times n (f.node ∷ map found_node fs)
     go Stay l = omega (arith, l)
     go Here l = omega (arith, l)
     go Leave l = omega (arith, l)
 
-row-times : (n : NodeId) (ms : List CellMark) → times n (map put_node (row_puts ms)) ≤ times n (incoming ms) + times n (heres (found_in ms))
+row-times : (n : NodeId) (ms : List CellMark) → times n (map put_node (row_puts ms)) ≤ times n (incoming_nodes ms) + times n (heres (found_in ms))
 row-times n [] = omega arith
 row-times n (Counted ∷ ms) = row-times n ms
 row-times n (Gap c ∷ ms) = row-times n ms
-row-times n (Touch c m h ∷ ms) = elim (is_here h) as (λ b. times n (map put_node (cond b (put_to m (To.Cell c) ∷ row_puts ms) (row_puts ms))) ≤ times n (incoming ms) + times n (cond b (m ∷ heres (found_in ms)) (heres (found_in ms)))) [
+row-times n (Touch c m h ∷ ms) = elim (is_here h) as (λ b. times n (map put_node (cond b (put_to m (To.Cell c) ∷ row_puts ms) (row_puts ms))) ≤ times n (incoming_nodes ms) + times n (cond b (m ∷ heres (found_in ms)) (heres (found_in ms)))) [
   | true ↦ omega (arith, row-times n ms)
   | false ↦ row-times n ms
 ]
-row-times n (Make c m b ∷ ms) = elim b as (λ b. times n (map put_node (cond b (put_to m (To.Cell c) ∷ row_puts ms) (row_puts ms))) ≤ times n (cond b (m ∷ []) [] ++ incoming ms) + times n (heres (found_in ms))) [
+row-times n (Make c m b ∷ ms) = elim b as (λ b. times n (map put_node (cond b (put_to m (To.Cell c) ∷ row_puts ms) (row_puts ms))) ≤ times n (cond b (m ∷ []) [] ++ incoming_nodes ms) + times n (heres (found_in ms))) [
   | true ↦ omega (arith, row-times n ms)
   | false ↦ row-times n ms
 ]
@@ -156,7 +156,7 @@ module _ (D : Document) (C : Change) (x : IsSoundInForm D) (w : ObeysDataRules C
   L = entries_of_change C
 
   abbrev N : Intent
-  N = meant D C
+  N = meant_intent D C
 
   put_sum : (n : NodeId) → times n (map put_node N.put) ≤ times n L.put + times n (heres L.found) + times n (nodes_gone C)
   put_sum n =
@@ -169,11 +169,11 @@ module _ (D : Document) (C : Change) (x : IsSoundInForm D) (w : ObeysDataRules C
       let c = ap (times n) (map-append put_node loose out) ∙ times-append n (map put_node loose) (map put_node out) in
       let d = ap (times n) (map-same (nodes_gone C)) in
       let e = ap (times n) (map-all put_node (λ (r : RowMarks). row_puts (spread r.marks)) C.rows) in
-      let f = times-all n (λ (r : RowMarks). map put_node (row_puts (spread r.marks))) (λ (r : RowMarks). incoming (spread r.marks)) (λ (r : RowMarks). heres (found_in (spread r.marks))) (λ r. row-times n (spread r.marks)) C.rows in
+      let f = times-all n (λ (r : RowMarks). map put_node (row_puts (spread r.marks))) (λ (r : RowMarks). incoming_nodes (spread r.marks)) (λ (r : RowMarks). heres (found_in (spread r.marks))) (λ r. row-times n (spread r.marks)) C.rows in
       let g = ap (times n) (map-all put_node reg_puts C.regs) in
       let h = times-all n (λ (r : RegMark). map put_node (reg_puts r)) put_at (λ (r : RegMark). heres (found_at r)) (λ r. reg-times n r) C.regs in
       let i = loose-times n C.loose in
-      let j = times-append n (in_rows incoming C.rows) (flat_map put_at C.regs) in
+      let j = times-append n (in_rows incoming_nodes C.rows) (flat_map put_at C.regs) in
       let k = ap (times n) (heres-append (in_rows found_in C.rows) (flat_map found_at C.regs ++ found_loose C.loose)) ∙ times-append n (heres (in_rows found_in C.rows)) (heres (flat_map found_at C.regs ++ found_loose C.loose)) in
       let l = ap (times n) (heres-append (flat_map found_at C.regs) (found_loose C.loose)) ∙ times-append n (heres (flat_map found_at C.regs)) (heres (found_loose C.loose)) in
       let p = ap (times n) (heres-all (λ (r : RowMarks). found_in (spread r.marks)) C.rows) in
@@ -197,11 +197,11 @@ module _ (D : Document) (C : Change) (x : IsSoundInForm D) (w : ObeysDataRules C
       few n s zero e =
           let a = both-times n L.found in
           let b = found_few n in
-          let c = filter-times n (λ n. not (is_among L.put n)) (leaving L.found) in
+          let c = filter-times n (λ n. not (is_among L.put n)) (leaving_nodes L.found) in
           omega (arith, s, e, a, b, c)
       few n s (suc k) e =
           let h = has-times n L.put (omega (arith, e)) in
-          let z = times-none n (nodes_gone C) (λ i. let q = filtered (λ n. not (is_among L.put n)) (leaving L.found) n i in not-among h q.1) in
+          let z = times-none n (nodes_gone C) (λ i. let q = filtered (λ n. not (is_among L.put n)) (leaving_nodes L.found) n i in not-among h q.1) in
           let y = none-here h in
           let p = put_few n in
           omega (arith, s, z, y, p)
@@ -217,7 +217,7 @@ module _ (D : Document) (C : Change) (x : IsSoundInForm D) (w : ObeysDataRules C
           none-here h = elim (all-has (λ (n : NodeId). Has L.new n ⊎ IsFoundAs L n Leave) L.put n w.common.put_leave h) [
             | inl i ↦ (let z = times-none n (map found_node L.found) (all-has (λ (n : NodeId). (n ≢ root) × (IsFound L n → ⊥)) L.new n w.common.new_not_found i).1 in
                 let a = both-times n L.found in omega (arith, z, a))
-            | inr i ↦ (let l = times-has n (leaving L.found) (has-leaving L.found (record { node = n; how = Leave }) i refl) in
+            | inr i ↦ (let l = times-has n (leaving_nodes L.found) (has-leaving L.found (record { node = n; how = Leave }) i refl) in
                 let a = both-times n L.found in let b = found_few n in omega (arith, l, a, b))
           ]
 

@@ -18,7 +18,7 @@ use Rattle.st_ids.specs.Root.{root}
 use Rattle.st_marks.specs.Listings.{CellView, one_or_none, nodes_standing}
 use Rattle.st_marks.proofs.Members.{all-has, has-all, append_left, append_right, has-append, map-has, has-map, flat_map-has, has-flat_map, first-has, distinct-has, distinct-append, distinct-between, distinct-left, distinct-right, one_list}
 use Rattle.st_normal_laws.specs.Told.{AreAsSeen, IfTold}
-use Rattle.st_normal_laws.specs.Laid.{LaidRow, LaidHeld, Stand, Layout, stands_in, standing, laid_document, StandsAt, IsLayout}
+use Rattle.st_normal_laws.specs.Laid.{LaidRow, LaidHeld, Stand, Layout, stands_in, stands_of, laid_document, StandsAt, IsLayout}
 use Rattle.st_normal_laws.specs.Seed.{lift, fresh, fresh_cell, fresh_node, FoundRow, FoundHeld, Finds, lay_cell, lay, lay_row, lay_held, owners_laid, seed, cells_named, nodes_found, IsFoundAt, IsBelow, CanBeFound}
 use Rattle.st_normal_laws.proofs.LaidSound.{has-stands, laid_content, laid_sound, has-held}
 use Rattle.st_normal_laws.proofs.Basics.{is-one, one-is}
@@ -157,12 +157,12 @@ module _ (F : ℕ) (W : Finds) (w : CanBeFound F W) where
   rows_apart [] d = tt
   rows_apart (r ∷ rs) d = (has-all (λ (l : LaidRow). l.node ≢ r.node) (map (lay_row F) rs) (λ l h. let q = row_from rs l h in λ e. all-has (λ (q : FoundRow). q.node ≢ r.node) rs q.0 d.0 q.1 (ap (λ (l : LaidRow). l.node) q.2 ∙ e)), rows_apart rs d.1)
 
-  all_cells_apart : (rs : List FoundRow) → ((r : FoundRow) → Has rs r → Has W.rows r) → AreDistinct (λ (r : FoundRow). r.node) rs → AreDistinct (λ c. c) (flat_map (λ (r : FoundRow). cells_named r.cells) rs) → AreDistinct (λ (s : Slot). s.cell) (flat_map (λ (l : LaidRow). l.cells) (map (lay_row F) rs))
-  all_cells_apart [] sub d e = tt
-  all_cells_apart (r ∷ rs) sub d e =
+  all_cells_distinct : (rs : List FoundRow) → ((r : FoundRow) → Has rs r → Has W.rows r) → AreDistinct (λ (r : FoundRow). r.node) rs → AreDistinct (λ c. c) (flat_map (λ (r : FoundRow). cells_named r.cells) rs) → AreDistinct (λ (s : Slot). s.cell) (flat_map (λ (l : LaidRow). l.cells) (map (lay_row F) rs))
+  all_cells_distinct [] sub d e = tt
+  all_cells_distinct (r ∷ rs) sub d e =
       distinct-append (λ (s : Slot). s.cell) (lay F r.node r.cells) (flat_map (λ (l : LaidRow). l.cells) (map (lay_row F) rs))
       (cells_apart F r.node (w.below_rows r (sub r (inl refl))) r.cells (distinct-left (λ c. c) (cells_named r.cells) (flat_map (λ (r : FoundRow). cells_named r.cells) rs) e) (λ c h. w.below_cells r c (sub r (inl refl)) h))
-      (all_cells_apart rs (λ q h. sub q (inr h)) d.1 (distinct-right (λ c. c) (cells_named r.cells) (flat_map (λ (r : FoundRow). cells_named r.cells) rs) e))
+      (all_cells_distinct rs (λ q h. sub q (inr h)) d.1 (distinct-right (λ c. c) (cells_named r.cells) (flat_map (λ (r : FoundRow). cells_named r.cells) rs) e))
       (λ s t h i. let l = has-flat_map (λ (l : LaidRow). l.cells) (map (lay_row F) rs) t i in let q = row_from rs l.0 l.1 in
       apart s t q.0 q.1 (cell_is F r.node r.cells s h) (cell_is F q.0.node q.0.cells t (subst (λ (l : LaidRow). Has l.cells t) (sym q.2) l.2)))
     where
@@ -242,7 +242,7 @@ module _ (F : ℕ) (W : Finds) (w : CanBeFound F W) where
   found_held h n i e = append_right (found_in_rows W.rows) (flat_map (λ (h : FoundHeld). one_or_none h.node) W.held) n (flat_map-has (λ (h : FoundHeld). one_or_none h.node) W.held h n i (is-one h.node n e))
 
   -- who stands in the seed is found, or has a fresh name
-  pub stand_is : (x : Stand) → Has (standing L) x → IsFoundAt W x.node x.spot ⊎ ((r : FoundRow) × (k : ℕ) × (c : CellId) × Has W.rows r × (x.node ≡ fresh_node F r.node k) × (x.spot ≡ Spot.Row r.node c))
+  pub stand_is : (x : Stand) → Has (stands_of L) x → IsFoundAt W x.node x.spot ⊎ ((r : FoundRow) × (k : ℕ) × (c : CellId) × Has W.rows r × (x.node ≡ fresh_node F r.node k) × (x.spot ≡ Spot.Row r.node c))
   stand_is x h = elim (has-append (stands_of W.rows) (map stand_of (flat_map lay_held W.held)) x h) [
     | inl i ↦ (let r = stand_row W.rows x i in elim r.4 [ inl j ↦ inl (inl (r.0, r.1, r.2, j, r.3)) | inr k ↦ inr (r.0, k.0, r.1, r.2, k.2, r.3) ])
     | inr i ↦ (let l = has-map stand_of (flat_map lay_held W.held) x i in let q = held_from W.held l.0 l.1 in
@@ -255,7 +255,7 @@ module _ (F : ℕ) (W : Finds) (w : CanBeFound F W) where
 
   -- ## No ring
 
-  up_below : (n p : NodeId) (s : Spot) → StandsAt (standing L) n s → node_of s ≡ Some p → IsBelow F p.0
+  up_below : (n p : NodeId) (s : Spot) → StandsAt (stands_of L) n s → node_of s ≡ Some p → IsBelow F p.0
   up_below n p s h e = elim (stand_is (record { node = n; spot = s }) h) [
     | inl f ↦ at f
     | inr r ↦ (let q : r.0.node ≡ p = in_row (sym (ap node_of r.5) ∙ e) in subst (λ (m : NodeId). IsBelow F m.0) q (w.below_rows r.0 r.3))
@@ -268,17 +268,17 @@ module _ (F : ℕ) (W : Finds) (w : CanBeFound F W) where
       at (inl x) = subst (λ (m : NodeId). IsBelow F m.0) (in_row (sym (ap node_of x.4) ∙ e)) (w.below_rows x.0 x.2)
       at (inr x) = subst (λ (m : NodeId). IsBelow F m.0) (in_row (sym (ap node_of x.3) ∙ e)) (w.below_fields x.0 x.1)
 
-  stand_found : (n : NodeId) (s : Spot) → IsBelow F n.0 → StandsAt (standing L) n s → IsFoundAt W n s
+  stand_found : (n : NodeId) (s : Spot) → IsBelow F n.0 → StandsAt (stands_of L) n s → IsFoundAt W n s
   stand_found n s b h = elim (stand_is (record { node = n; spot = s }) h) [
     | inl f ↦ f
     | inr r ↦ absurd (fresh-not F r.0.node r.1 n.0 b (ap (λ (n : NodeId). n.0) r.4))
   ]
 
-  leads_found : (n m : NodeId) → LeadsUp (StandsAt (standing L)) n m → IsBelow F n.0 → LeadsUp (IsFoundAt W) n m
+  leads_found : (n m : NodeId) → LeadsUp (StandsAt (stands_of L)) n m → IsBelow F n.0 → LeadsUp (IsFoundAt W) n m
   leads_found n m (one_up s h e) b = one_up s (stand_found n s b h) e
   leads_found n m (further_up {p = p} s h e r) b = further_up s (stand_found n s b h) e (leads_found p m r (up_below n p s h e))
 
-  leads_below : (n m : NodeId) → LeadsUp (StandsAt (standing L)) n m → IsBelow F m.0
+  leads_below : (n m : NodeId) → LeadsUp (StandsAt (stands_of L)) n m → IsBelow F m.0
   leads_below n m (one_up s h e) = up_below n m s h e
   leads_below n m (further_up {p = p} s h e r) = leads_below p m r
 
@@ -297,7 +297,7 @@ module _ (F : ℕ) (W : Finds) (w : CanBeFound F W) where
   pub seed_layout : IsLayout L
   seed_layout = record {
     rows_once = rows_apart W.rows w.rows_once;
-    cells_once = all_cells_apart W.rows (λ r h. h) w.rows_once w.cells_once;
+    cells_once = all_cells_distinct W.rows (λ r h. h) w.rows_once w.cells_once;
     fields_once = held_apart (λ (l : LaidHeld). l.field) W.held (λ h k l m i p q j r s e. distinct-has (λ (h : FoundHeld). h.field) W.held h k w.fields_once i j (q ∙ sym e ∙ sym s)) w.fields_once;
     stands_once = distinct-append (λ (s : Stand). s.node) (stands_of W.rows) (map stand_of (flat_map lay_held W.held))
         (stands_apart W.rows (λ r h. h) w.rows_once (distinct-left (λ n. n) (found_in_rows W.rows) (flat_map (λ (h : FoundHeld). one_or_none h.node) W.held) w.nodes_once))
@@ -351,10 +351,10 @@ module _ (F : ℕ) (W : Finds) (w : CanBeFound F W) where
 
   -- who isn't found, and isn't fresh, is nowhere
   pub seed_nowhere : (n : NodeId) → IsBelow F n.0 → (Has (nodes_found W) n → ⊥) → (laid_document L).place n ≡ Spot.Nowhere
-  seed_nowhere n b not = go (find (λ (x : Stand). same_node x.node n) (standing L)) refl
+  seed_nowhere n b not = go (find (λ (x : Stand). same_node x.node n) (stands_of L)) refl
     where
-      go : (o : Option Stand) → find (λ (x : Stand). same_node x.node n) (standing L) ≡ o → option_map_or (λ (s : Stand). s.spot) o Spot.Nowhere ≡ Spot.Nowhere
+      go : (o : Option Stand) → find (λ (x : Stand). same_node x.node n) (stands_of L) ≡ o → option_map_or (λ (s : Stand). s.spot) o Spot.Nowhere ≡ Spot.Nowhere
       go None f = refl
       go (Some x) f =
-          let r = first-has (λ (x : Stand). same_node x.node n) (standing L) x f in
-          absurd (not (found-has n x.spot (stand_found n x.spot b (subst (Has (standing L)) (λ i. record { node = same_node-true x.node n r.1 i; spot = x.spot }) r.0))))
+          let r = first-has (λ (x : Stand). same_node x.node n) (stands_of L) x f in
+          absurd (not (found-has n x.spot (stand_found n x.spot b (subst (Has (stands_of L)) (λ i. record { node = same_node-true x.node n r.1 i; spot = x.spot }) r.0))))

@@ -26,14 +26,14 @@ use Rattle.st_ids.specs.Root.{root}
 use Rattle.st_marks.specs.Intent.{clears, new_node, put_of, put_in, same_option}
 use Rattle.st_marks.specs.Row.{CellMark, Counted, Gap, Touch, Make, Fill, spread, RowPart, embed_cell, embed_cells, embed_made, embed_row, how, merge, same_to}
 use Rattle.st_marks.specs.How.{is_here, is_stay}
-use Rattle.st_normal.specs.Rules.{IsFound, Entries, ObeysDataRules, found_held, found_in, found_loose, in_rows, entries_of_change, HasListedField, kept_at, staying}
+use Rattle.st_normal.specs.Rules.{IsFound, Entries, ObeysDataRules, found_held, found_in, found_loose, in_rows, entries_of_change, HasListedField, kept_at, staying_nodes}
 use Rattle.st_marks.specs.Listings.{cells_after, cells_before, one_or_none}
 use Rattle.st_ids.proofs.Listings.{has-item_of, item_of-has}
 use Rattle.st_marks.proofs.Lookups.{put-has, has-put_in, put_in-has}
 use Rattle.st_marks.proofs.Members.{all-has, append_left, append_right, has-append, map-has, has-map, flat_map-has, first-has, distinct-has, first-distinct}
-use Rattle.st_normal_laws.specs.Meant.{Along, IsOver, along, leaving, meant, put_to}
+use Rattle.st_normal_laws.specs.Meant.{Along, IsOver, along, leaving_nodes, meant_intent, put_to}
 use Rattle.st_normal_laws.proofs.FoundPlaces.{touched, filled, found_there, PlacedAs, as_row, as_held, as_loose, found_placed, is-found_held, has-found_in}
-use Rattle.st_normal_laws.specs.Mentions.{moving, mentions}
+use Rattle.st_normal_laws.specs.Mentions.{moving_nodes, mentions}
 use Rattle.st_normal_laws.proofs.Mentioned.{moving-has, row_put-has, here-put, fill-put, has-moving, has-staying}
 use Rattle.st_normal_laws.proofs.Exact.{put-cases, put-moved, moved-put, mentions-exact, mentions-found, listed-field, listed-moved, stay-leave, found-row, found-reg, found-loose, is-found, put-reg, put-loose}
 use Rattle.st_normal_laws.proofs.Puts.{put-is, cell-put, one_mark, is_here-put, put-is_here}
@@ -68,7 +68,7 @@ module _ (D : Document) (C : Change) (x : IsSoundInForm D) (w : ObeysDataRules C
   L = entries_of_change C
 
   abbrev N : Intent
-  N = meant D C
+  N = meant_intent D C
 
   abbrev m : NodeId → Bool
   m = mentions C
@@ -80,8 +80,8 @@ module _ (D : Document) (C : Change) (x : IsSoundInForm D) (w : ObeysDataRules C
 
   by-staying : (f : Found) → Has L.found f → Has (in_rows found_in C.rows ++ (flat_map kept_at C.regs ++ found_loose C.loose)) f → m f.node ≡ true
   by-staying f i j = elim (stay-leave f.how) [
-    | inl s ↦ elim (all-has (λ (n : NodeId). Has C.need n ⊎ HasListedField L n) (staying (in_rows found_in C.rows ++ (flat_map kept_at C.regs ++ found_loose C.loose))) f.node w.mentioned (has-staying (in_rows found_in C.rows ++ (flat_map kept_at C.regs ++ found_loose C.loose)) f j s)) [
-      | inl a ↦ or-right (is_among (moving L.found) f.node) _ (or-left (is_among C.need f.node) _ ((among_has C.need f.node).1 a))
+    | inl s ↦ elim (all-has (λ (n : NodeId). Has C.need n ⊎ HasListedField L n) (staying_nodes (in_rows found_in C.rows ++ (flat_map kept_at C.regs ++ found_loose C.loose))) f.node w.mentioned (has-staying (in_rows found_in C.rows ++ (flat_map kept_at C.regs ++ found_loose C.loose)) f j s)) [
+      | inl a ↦ or-right (is_among (moving_nodes L.found) f.node) _ (or-left (is_among C.need f.node) _ ((among_has C.need f.node).1 a))
       | inr a ↦ listed-field D C x w o f.node a (found_there D C x o f.node (map-has (λ (f : Found). f.node) L.found f i))
     ]
     | inr b ↦ listed-moved D C x w o f.node (has-moving L.found f i (elim b [ inl q ↦ ap is_stay q | inr q ↦ ap is_stay q ]))
@@ -457,7 +457,7 @@ module _ (D : Document) (C : Change) (x : IsSoundInForm D) (w : ObeysDataRules C
           ]
           | inr b ↦ elim b [
             | inl (k, j, g) ↦ loose-at k j (is_here k.how) refl g
-            | inr (n, j, q) ↦ (let f = filtered (λ n. not (is_among L.put n)) (leaving L.found) n j in not-true (is_among L.put n) f.1 ((among_has L.put n).1 (subst (Has L.put) (ap (λ (p : Put). p.node) q) put)))
+            | inr (n, j, q) ↦ (let f = filtered (λ n. not (is_among L.put n)) (leaving_nodes L.found) n j in not-true (is_among L.put n) f.1 ((among_has L.put n).1 (subst (Has L.put) (ap (λ (p : Put). p.node) q) put)))
           ]
         ]
       ]

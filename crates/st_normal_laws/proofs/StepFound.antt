@@ -28,7 +28,7 @@ use Rattle.st_marks.specs.Step.{IsStep, step_loose}
 use Rattle.st_marks.proofs.Climb.{climb_more, placed_known, same_spot, shown, stands}
 use Rattle.st_marks.proofs.Members.{append_left, append_right, flat_map-has, has-any, has-append, has-flat_map, has-map, map-has}
 use Rattle.st_normal.specs.declared.entries.Found.{Found}
-use Rattle.st_normal.specs.Rules.{IsFound, IsFoundAs, Entries, found_held, found_in, found_loose, found_over, how_over, in_rows, incoming, entries_of_step, put_over}
+use Rattle.st_normal.specs.Rules.{IsFound, IsFoundAs, Entries, found_held, found_in, found_loose, found_over, how_over, in_rows, incoming_nodes, entries_of_step, put_over}
 use Rattle.st_ids.proofs.Listings.{has-item_of, item_of-has}
 use Rattle.st_normal_laws.proofs.Basics.{is-one, one-is, register-not-nowhere, row-not-nowhere}
 use Rattle.st_normal_laws.proofs.Easy.{climb-known, row-told}
@@ -374,16 +374,16 @@ module _ (D E : Document) (S : Step) (x : IsExtendedBy D E) (s : IsStep D E S) w
   -- ## Who is put
 
   -- one who is put comes there, and stood elsewhere
-  pub put-at : (n : NodeId) → Has L.put n → (p : Spot) × (ComesTo n p) × (((r : RowMarks) × Has S.rows r × (a : CellId) × Has (incoming (spread r.marks)) n × (p ≡ Spot.Row r.node a)) ⊎ ((r : RegStep) × Has S.regs r × (p ≡ Spot.Register r.field)))
-  put-at n h = elim (has-append (in_rows incoming S.rows) (flat_map put_over S.regs) n h) [
-    | inl i ↦ (let r = has-flat_map (λ (r : RowMarks). incoming (spread r.marks)) S.rows n i in
+  pub put-at : (n : NodeId) → Has L.put n → (p : Spot) × (ComesTo n p) × (((r : RowMarks) × Has S.rows r × (a : CellId) × Has (incoming_nodes (spread r.marks)) n × (p ≡ Spot.Row r.node a)) ⊎ ((r : RegStep) × Has S.regs r × (p ≡ Spot.Register r.field)))
+  put-at n h = elim (has-append (in_rows incoming_nodes S.rows) (flat_map put_over S.regs) n h) [
+    | inl i ↦ (let r = has-flat_map (λ (r : RowMarks). incoming_nodes (spread r.marks)) S.rows n i in
         let w = incoming-mark (spread r.0.marks) n r.2 in
         (Spot.Row r.0.node w.0, elim w.1 [ inl j ↦ make-place r.0 w.0 n r.1 j | inr j ↦ fill-place r.0 w.0 n r.1 j ], inl (r.0, r.1, w.0, r.2, refl)))
     | inr i ↦ (let r = has-flat_map put_over S.regs n i in (Spot.Register r.0.field, put-place r.0 n r.1 r.2, inr (r.0, r.1, refl)))
   ]
 
-  put-in-row : (r : NodeId) (y : CellMark) (n : NodeId) → Has (step_row m (s.grows r)) y → tells y ≡ true → ((ms : List CellMark) → Has ms y → Has (incoming ms) n) → Has L.put n
-  put-in-row r y n h e comes = let q = told-listed r y h e in append_left (in_rows incoming S.rows) (flat_map put_over S.regs) n (flat_map-has (λ (r : RowMarks). incoming (spread r.marks)) S.rows q.0 n q.1 (comes (spread q.0.marks) q.3))
+  put-in-row : (r : NodeId) (y : CellMark) (n : NodeId) → Has (step_row m (s.grows r)) y → tells y ≡ true → ((ms : List CellMark) → Has ms y → Has (incoming_nodes ms) n) → Has L.put n
+  put-in-row r y n h e comes = let q = told-listed r y h e in append_left (in_rows incoming_nodes S.rows) (flat_map put_over S.regs) n (flat_map-has (λ (r : RowMarks). incoming_nodes (spread r.marks)) S.rows q.0 n q.1 (comes (spread q.0.marks) q.3))
 
   -- whoever comes to a place is put
   pub comes-put : (n : NodeId) (p : Spot) → ComesTo n p → p ≢ Spot.Nowhere → Has L.put n
@@ -401,7 +401,7 @@ module _ (D E : Document) (S : Step) (x : IsExtendedBy D E) (s : IsStep D E S) w
       let after = (x.after.one_held n f).1 w.0 in
       elim (one-or-other (D.held f) (E.held f)) [
         | inl q ↦ absurd (w.1 ((x.before.one_held n f).0 (q.0 ∙ after)))
-        | inr q ↦ append_right (in_rows incoming S.rows) (flat_map put_over S.regs) n (flat_map-has put_over S.regs (reg_of f) n
+        | inr q ↦ append_right (in_rows incoming_nodes S.rows) (flat_map put_over S.regs) n (flat_map-has put_over S.regs (reg_of f) n
             (has-reg f (or-left (not (same_option same_node (D.held f) (E.held f))) (holds_mentioned m (D.held f)) (ap not q.1)))
             (subst (λ b. Has (cond b [] (one_or_none (E.held f))) n) (sym q.1) (is-one (E.held f) n after)))
       ]

@@ -10,7 +10,7 @@ use Rattle.st_marks.specs.Extends.{GainsItems, no_more, item_gained, item_kept}
 use Rattle.st_marks.specs.Row.{CellMark, Counted, Gap, Touch, Make, Fill, SameCell, step_cell, step_row}
 use Rattle.st_marks.specs.Listings.{cells_in}
 use Rattle.st_marks.proofs.Members.{all-has, has-all}
-use Rattle.st_normal.specs.Rules.{incoming}
+use Rattle.st_normal.specs.Rules.{incoming_nodes}
 use Rattle.st_seq.specs.Laws.{has_grown, not_again}
 use Rattle.st_seq.specs.Sequence.{cells_of}
 
@@ -201,7 +201,7 @@ step-cells-once m (item_kept {x = s} {y = t} {ys = d} same g) o = elim (named-or
 -- ## Who comes in
 
 -- a node comes in by a cell that is made full or filled
-pub incoming-mark : (ms : List CellMark) (n : NodeId) → Has (incoming ms) n → (a : CellId) × (Has ms (Make a n true) ⊎ Has ms (Fill a n))
+pub incoming-mark : (ms : List CellMark) (n : NodeId) → Has (incoming_nodes ms) n → (a : CellId) × (Has ms (Make a n true) ⊎ Has ms (Fill a n))
 incoming-mark [] n h = absurd h
 incoming-mark (Counted ∷ ms) n h = let r = incoming-mark ms n h in (r.0, elim r.1 [ inl i ↦ inl (inr i) | inr i ↦ inr (inr i) ])
 incoming-mark (Gap c ∷ ms) n h = let r = incoming-mark ms n h in (r.0, elim r.1 [ inl i ↦ inl (inr i) | inr i ↦ inr (inr i) ])
@@ -212,7 +212,7 @@ incoming-mark (Make c k false ∷ ms) n h = let r = incoming-mark ms n h in (r.0
 incoming-mark (Fill c k ∷ ms) n (inl q) = (c, inr (inl (ap (λ k. Fill c k) q)))
 incoming-mark (Fill c k ∷ ms) n (inr h) = let r = incoming-mark ms n h in (r.0, elim r.1 [ inl i ↦ inl (inr i) | inr i ↦ inr (inr i) ])
 
-pub make-incoming : (ms : List CellMark) (a : CellId) (n : NodeId) → Has ms (Make a n true) → Has (incoming ms) n
+pub make-incoming : (ms : List CellMark) (a : CellId) (n : NodeId) → Has ms (Make a n true) → Has (incoming_nodes ms) n
 make-incoming [] a n h = absurd h
 make-incoming (Counted ∷ ms) a n (inl q) = cc
 make-incoming (Counted ∷ ms) a n (inr h) = make-incoming ms a n h
@@ -227,7 +227,7 @@ make-incoming (Make c k false ∷ ms) a n (inr h) = make-incoming ms a n h
 make-incoming (Fill c k ∷ ms) a n (inl q) = cc
 make-incoming (Fill c k ∷ ms) a n (inr h) = inr (make-incoming ms a n h)
 
-pub fill-incoming : (ms : List CellMark) (a : CellId) (n : NodeId) → Has ms (Fill a n) → Has (incoming ms) n
+pub fill-incoming : (ms : List CellMark) (a : CellId) (n : NodeId) → Has ms (Fill a n) → Has (incoming_nodes ms) n
 fill-incoming [] a n h = absurd h
 fill-incoming (Counted ∷ ms) a n (inl q) = cc
 fill-incoming (Counted ∷ ms) a n (inr h) = fill-incoming ms a n h
@@ -243,14 +243,14 @@ fill-incoming (Fill c k ∷ ms) a n (inl q) = let e : k ≡ n = cc in inl e
 fill-incoming (Fill c k ∷ ms) a n (inr h) = inr (fill-incoming ms a n h)
 
 -- the cell in which one who comes in stands after
-in-after : (m : NodeId → Bool) {c d : List Slot} (g : GainsItems SameCell c d) → AreDistinct (λ (s : Slot). s.cell) d → (n : NodeId) → Has (incoming (step_row m g)) n → (a : CellId) × Has d (cell_with a n true)
+in-after : (m : NodeId → Bool) {c d : List Slot} (g : GainsItems SameCell c d) → AreDistinct (λ (s : Slot). s.cell) d → (n : NodeId) → Has (incoming_nodes (step_row m g)) n → (a : CellId) × Has d (cell_with a n true)
 in-after m g o n h = let r = incoming-mark (step_row m g) n h in (r.0, elim r.1 [ inl i ↦ (make-step m g o r.0 n true i).0 | inr i ↦ (fill-step m g o r.0 n i).1 ])
 
 -- whoever comes by a cell comes by it alone
-incoming-or-not : (m : NodeId → Bool) (a : CellId) (k : NodeId) (b e : Bool) (ms : List CellMark) → (incoming (step_cell m a k b e ∷ ms) ≡ incoming ms) ⊎ ((incoming (step_cell m a k b e ∷ ms) ≡ k ∷ incoming ms) × (e ≡ true))
+incoming-or-not : (m : NodeId → Bool) (a : CellId) (k : NodeId) (b e : Bool) (ms : List CellMark) → (incoming_nodes (step_cell m a k b e ∷ ms) ≡ incoming_nodes ms) ⊎ ((incoming_nodes (step_cell m a k b e ∷ ms) ≡ k ∷ incoming_nodes ms) × (e ≡ true))
 incoming-or-not m a k true true ms = go (m k)
   where
-    go : (z : Bool) → (incoming (cond z (Touch a k Stay) Counted ∷ ms) ≡ incoming ms) ⊎ ((incoming (cond z (Touch a k Stay) Counted ∷ ms) ≡ k ∷ incoming ms) × (true ≡ true))
+    go : (z : Bool) → (incoming_nodes (cond z (Touch a k Stay) Counted ∷ ms) ≡ incoming_nodes ms) ⊎ ((incoming_nodes (cond z (Touch a k Stay) Counted ∷ ms) ≡ k ∷ incoming_nodes ms) × (true ≡ true))
     go true = inl refl
     go false = inl refl
 incoming-or-not m a k true false ms = inl refl
@@ -262,22 +262,22 @@ abbrev pub StandsOnce : List Slot → Type 0
 StandsOnce d = (a b : CellId) (n : NodeId) → Has d (cell_with a n true) → Has d (cell_with b n true) → a ≡ b
 
 -- whoever is in the first cell doesn't come in behind it
-not-behind : (m : NodeId → Bool) {c d : List Slot} (g : GainsItems SameCell c d) (t : Slot) → AreDistinct (λ (s : Slot). s.cell) (t ∷ d) → StandsOnce (t ∷ d) → t.full ≡ true → (n : NodeId) → Has (incoming (step_row m g)) n → n ≢ t.node
+not-behind : (m : NodeId → Bool) {c d : List Slot} (g : GainsItems SameCell c d) (t : Slot) → AreDistinct (λ (s : Slot). s.cell) (t ∷ d) → StandsOnce (t ∷ d) → t.full ≡ true → (n : NodeId) → Has (incoming_nodes (step_row m g)) n → n ≢ t.node
 not-behind m {d = d} g t o one f n h e =
     let r = in-after m g o.1 n h in
     let same = one r.0 t.cell n (inr r.1) (has-cell (t ∷ d) t t.cell n true (inl refl) refl (sym e) f) in
     all-has (λ (s : Slot). s.cell ≢ t.cell) d (cell_with r.0 n true) o.0 r.1 same
 
-pub incoming-once : (m : NodeId → Bool) {c d : List Slot} (g : GainsItems SameCell c d) → AreDistinct (λ (s : Slot). s.cell) d → StandsOnce d → AreDistinct (λ (n : NodeId). n) (incoming (step_row m g))
+pub incoming-once : (m : NodeId → Bool) {c d : List Slot} (g : GainsItems SameCell c d) → AreDistinct (λ (s : Slot). s.cell) d → StandsOnce d → AreDistinct (λ (n : NodeId). n) (incoming_nodes (step_row m g))
 incoming-once m no_more o one = tt
-incoming-once m (item_gained {y = t} {ys = d} g) o one = elim t.full as (λ b. t.full ≡ b → AreDistinct (λ (n : NodeId). n) (cond b (t.node ∷ []) [] ++ incoming (step_row m g))) [
-  | true ↦ (λ f. (has-all (λ n. n ≢ t.node) (incoming (step_row m g)) (not-behind m g t o one f), incoming-once m g o.1 (λ a b n h i. one a b n (inr h) (inr i))))
+incoming-once m (item_gained {y = t} {ys = d} g) o one = elim t.full as (λ b. t.full ≡ b → AreDistinct (λ (n : NodeId). n) (cond b (t.node ∷ []) [] ++ incoming_nodes (step_row m g))) [
+  | true ↦ (λ f. (has-all (λ n. n ≢ t.node) (incoming_nodes (step_row m g)) (not-behind m g t o one f), incoming-once m g o.1 (λ a b n h i. one a b n (inr h) (inr i))))
   | false ↦ (λ f. incoming-once m g o.1 (λ a b n h i. one a b n (inr h) (inr i)))
 ] refl
 incoming-once m (item_kept {x = s} {y = t} a g) o one = elim (incoming-or-not m s.cell s.node s.full t.full (step_row m g)) [
   | inl e ↦ subst (AreDistinct (λ (n : NodeId). n)) (sym e) (incoming-once m g o.1 (λ a b n h i. one a b n (inr h) (inr i)))
   | inr e ↦ subst (AreDistinct (λ (n : NodeId). n)) (sym e.0) (
-    has-all (λ n. n ≢ s.node) (incoming (step_row m g)) (λ n h q. not-behind m g t o one e.1 n h (q ∙ a.1)),
+    has-all (λ n. n ≢ s.node) (incoming_nodes (step_row m g)) (λ n h q. not-behind m g t o one e.1 n h (q ∙ a.1)),
     incoming-once m g o.1 (λ a b n h i. one a b n (inr h) (inr i)),
   )
 ]

@@ -37,7 +37,7 @@ use Rattle.st_marks.proofs.Members.{append_left, append_right, distinct-append, 
 use Rattle.st_marks.proofs.Climb.{placed_known, stands}
 use Rattle.st_marks.proofs.Later.{node_later}
 use Rattle.st_normal.specs.declared.entries.Found.{Found}
-use Rattle.st_normal.specs.Rules.{AreEntriesBehind, CellsAreOnce, FieldsAreFound, FilledCellsAreOld, HasListedField, IsFound, IsFoundAs, KeysAreThere, Entries, LooseNodesArePut, MarksAreMerged, NewNodesAreNotFound, NewRegistersAreEmptyBefore, NewRowsAreMade, NoRingOverStep, NodesAreFoundOnce, NodesArePutOnce, NothingIsSetHere, ObeysStepRules, PutNodesLeave, RegistersTellOver, RootStays, RowsAreShort, RowsTell, SchemaStepFits, StayingNodesLeadOn, StepIsRising, fields_of, fill_owners, found_in, found_loose, found_over, in_rows, incoming, entries_of_step, put_over, staying}
+use Rattle.st_normal.specs.Rules.{AreEntriesBehind, CellsAreOnce, FieldsAreFound, FilledCellsAreOld, HasListedField, IsFound, IsFoundAs, KeysAreThere, Entries, LooseNodesArePut, MarksAreMerged, NewNodesAreNotFound, NewRegistersAreEmptyBefore, NewRowsAreMade, NoRingOverStep, NodesAreFoundOnce, NodesArePutOnce, NothingIsSetHere, ObeysStepRules, PutNodesLeave, RegistersTellOver, RootStays, RowsAreShort, RowsTell, SchemaStepFits, StayingNodesLeadOn, StepIsRising, fields_of, fill_owners, found_in, found_loose, found_over, in_rows, incoming_nodes, entries_of_step, put_over, staying_nodes}
 use Rattle.st_marks.specs.How.{is_stay}
 use Rattle.st_normal.proofs.AboveItself.{never_ends, one_step, step_before}
 use Rattle.st_ids.proofs.Listings.{has-item_of, item_of-has}
@@ -239,7 +239,7 @@ module _ (D E : Document) (S : Step) (x : IsExtendedBy D E) (s : IsStep D E S) w
 
   -- ## Nodes that are put
 
-  put-row : (r : RowMarks) (n : NodeId) → Has S.rows r → Has (incoming (spread r.marks)) n → (a : CellId) × (E.place n ≡ Spot.Row r.node a)
+  put-row : (r : RowMarks) (n : NodeId) → Has S.rows r → Has (incoming_nodes (spread r.marks)) n → (a : CellId) × (E.place n ≡ Spot.Row r.node a)
   put-row r n i h =
       let w = incoming-mark (spread r.marks) n h in (
         w.0,
@@ -259,15 +259,15 @@ module _ (D E : Document) (S : Step) (x : IsExtendedBy D E) (s : IsStep D E S) w
 
   put_once : NodesArePutOnce L
   put_once =
-      distinct-append (λ (n : NodeId). n) (in_rows incoming S.rows) (flat_map put_over S.regs)
-      (distinct-flat (λ (n : NodeId). n) (λ (r : RowMarks). incoming (spread r.marks)) (λ (r : RowMarks). r.node) S.rows rows-once
-      (λ r i. subst (λ ms. AreDistinct (λ (n : NodeId). n) (incoming ms)) (sym (row-look D E S x s r i).0) (incoming-once m (s.grows r.node) (cells-once D E S x s r.node) (λ a b k h j. stands-once E x.after r.node a b k h j)))
+      distinct-append (λ (n : NodeId). n) (in_rows incoming_nodes S.rows) (flat_map put_over S.regs)
+      (distinct-flat (λ (n : NodeId). n) (λ (r : RowMarks). incoming_nodes (spread r.marks)) (λ (r : RowMarks). r.node) S.rows rows-once
+      (λ r i. subst (λ ms. AreDistinct (λ (n : NodeId). n) (incoming_nodes ms)) (sym (row-look D E S x s r i).0) (incoming-once m (s.grows r.node) (cells-once D E S x s r.node) (λ a b k h j. stands-once E x.after r.node a b k h j)))
       (λ r q a b i j h k e. let u = put-row r a i h in let v = put-row q b j k in (same-row (sym v.1 ∙ ap E.place e ∙ u.1)).0))
       (distinct-flat (λ (n : NodeId). n) put_over (λ (r : RegStep). r.field) S.regs regs-once
       (λ r i. put-alone r)
       (λ r q a b i j h k e. same-register (sym (put-place D E S x s q b j k).0 ∙ ap E.place e ∙ (put-place D E S x s r a i h).0)))
       (λ a b h i e.
-      let r = has-flat_map (λ (r : RowMarks). incoming (spread r.marks)) S.rows a h in
+      let r = has-flat_map (λ (r : RowMarks). incoming_nodes (spread r.marks)) S.rows a h in
       let u = put-row r.0 a r.1 r.2 in
       let q = has-flat_map put_over S.regs b i in
       row-register (sym u.1 ∙ ap E.place (sym e) ∙ (put-place D E S x s q.0 b q.1 q.2).0))
@@ -471,18 +471,18 @@ module _ (D E : Document) (S : Step) (x : IsExtendedBy D E) (s : IsStep D E S) w
       go k c zero f = here k (some-node f) c.1
       go k c (suc j) f = let w = last-step j k n f in above-leads w.0 n ((s.which w.0).1 (k, c, j, w.1)) w.2
 
-  staying-found : (fs : List Found) (n : NodeId) → Has (staying fs) n → Has fs (record { node = n; how = Stay })
+  staying-found : (fs : List Found) (n : NodeId) → Has (staying_nodes fs) n → Has fs (record { node = n; how = Stay })
   staying-found [] n h = absurd h
   staying-found (f ∷ fs) n h = go f.how refl h (λ i. staying-found fs n i)
     where
-      go : (g : How) → f.how ≡ g → Has (cond (is_stay g) (f.node ∷ staying fs) (staying fs)) n → (Has (staying fs) n → Has fs (record { node = n; how = Stay })) → Has (f ∷ fs) (record { node = n; how = Stay })
+      go : (g : How) → f.how ≡ g → Has (cond (is_stay g) (f.node ∷ staying_nodes fs) (staying_nodes fs)) n → (Has (staying_nodes fs) n → Has fs (record { node = n; how = Stay })) → Has (f ∷ fs) (record { node = n; how = Stay })
       go Stay e (inl q) more = inl (λ i. record { node = q i; how = e i })
       go Stay e (inr i) more = inr (more i)
       go Here e i more = inr (more i)
       go Leave e i more = inr (more i)
 
   staying_lead_on : StayingNodesLeadOn S
-  staying_lead_on = has-all (HasListedField L) (staying L.found) (λ n h.
+  staying_lead_on = has-all (HasListedField L) (staying_nodes L.found) (λ n h.
       let i = staying-found L.found n h in
       elim (found-at D E S x s (record { node = n; how = Stay }) i).1 [
         | inl w ↦ stays-leads n w.2 w.1

@@ -102,14 +102,14 @@ abbrev pub loose_puts : Loose → List Put
 loose_puts l = if is_here l.how then put_to l.node To.Nowhere ∷ [] else []
 
 -- the nodes that leave
-abbrev pub leaving : List Found → List NodeId
-leaving [] = []
-leaving (f ∷ fs) = if is_leave f.how then f.node ∷ leaving fs else leaving fs
+abbrev pub leaving_nodes : List Found → List NodeId
+leaving_nodes [] = []
+leaving_nodes (f ∷ fs) = if is_leave f.how then f.node ∷ leaving_nodes fs else leaving_nodes fs
 
 -- those that leave and are put nowhere
 abbrev pub nodes_gone : Change → List NodeId
 nodes_gone C =
-    filter (λ n. not (is_among (entries_of_change C).put n)) (leaving (entries_of_change C).found)
+    filter (λ n. not (is_among (entries_of_change C).put n)) (leaving_nodes (entries_of_change C).found)
 
 -- the register, if it is cleared
 abbrev pub cleared_at : RegMark → List FieldId
@@ -122,8 +122,8 @@ puts_meant C = flat_map (λ (r : RowMarks). row_puts (spread r.marks)) C.rows
     ++ (flat_map loose_puts C.loose ++ map (λ n. put_to n To.Nowhere) (nodes_gone C)))
 
 -- what the change means in a document: an intent
-abbrev pub meant : Document → Change → Intent
-meant D C = record {
+abbrev pub meant_intent : Document → Change → Intent
+meant_intent D C = record {
   rev = C.rev;
   under = C.under;
   new = C.new;

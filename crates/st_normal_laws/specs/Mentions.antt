@@ -9,12 +9,12 @@ use Rattle.st_marks.specs.How.{is_stay}
 use Rattle.st_marks.specs.Listings.{nodes_new}
 
 -- the nodes that are set where they are, or leave
-abbrev pub moving : List Found → List NodeId
-moving [] = []
-moving (f ∷ fs) = if is_stay f.how then moving fs else f.node ∷ moving fs
+abbrev pub moving_nodes : List Found → List NodeId
+moving_nodes [] = []
+moving_nodes (f ∷ fs) = if is_stay f.how then moving_nodes fs else f.node ∷ moving_nodes fs
 
 -- whether a change lists a node as mentioned: it moves, is needed, or is old and has a listed field
 abbrev pub mentions : Change → NodeId → Bool
-mentions C n = is_among (moving (entries_of_change C).found) n
+mentions C n = is_among (moving_nodes (entries_of_change C).found) n
     || (is_among C.need n
     || (is_among (fields_of (entries_of_change C)) n && not (is_among (nodes_new C.new) n)))

@@ -12,7 +12,7 @@ ghost use Rattle.st_marks.specs.Intent.{Fits};
 ghost use Rattle.st_marks.specs.Normal.{IsNormalChange, IsNormalStep};
 ghost use Rattle.st_normal.specs.Rules.{ObeysChangeRules, ObeysDataRules, ObeysStepRules};
 ghost use Rattle.st_normal_laws.specs.Laid.{IsLayout, Layout, laid_document};
-ghost use Rattle.st_normal_laws.specs.Meant.{IsOver, meant};
+ghost use Rattle.st_normal_laws.specs.Meant.{IsOver, meant_intent};
 ghost use Rattle.st_normal_laws.specs.Mentions.{mentions};
 ghost use Rattle.st_normal_laws.specs.Seed.{CanBeFound, Finds, FoundHeld, FoundRow, seed};
 ghost use Rattle.st_normal_laws.specs.Told.{AreAsSeen};
@@ -34,7 +34,7 @@ pub fn seed_is_sound()
 pub fn mentions_are_exact()
     ensures { (D : Document) (C : Change) (n : NodeId)
         → IsSoundInForm D → ObeysDataRules C → IsOver D C
-        → (mentions C n ≡ true) ↔ IsMentionedByIntent D (meant D C) n }
+        → (mentions C n ≡ true) ↔ IsMentionedByIntent D (meant_intent D C) n }
 {}
 
 /// A change of data that obeys the rules stands over each sound document in which it finds what is so: the intent that it
@@ -42,13 +42,13 @@ pub fn mentions_are_exact()
 pub fn changes_stand_over()
     ensures fits { (D : Document) (C : Change)
         → IsSoundInForm D → ObeysDataRules C → C.schema ≡ None → IsOver D C
-        → Fits D (meant D C) }
+        → Fits D (meant_intent D C) }
     ensures short { (D : Document) (C : Change)
         → IsSoundInForm D → ObeysDataRules C → C.schema ≡ None → IsOver D C
-        → HasShortRows (full D (meant D C)) }
+        → HasShortRows (full D (meant_intent D C)) }
     ensures embedding { (D : Document) (C : Change)
         → IsSoundInForm D → ObeysDataRules C → C.schema ≡ None → IsOver D C
-        → IsEmbedding D (meant D C) C }
+        → IsEmbedding D (meant_intent D C) C }
 {}
 
 /// A change that obeys the rules of normal form is normal: it stands over some document. So `Change::check` lets through

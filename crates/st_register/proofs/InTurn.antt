@@ -13,7 +13,7 @@ use Rattle.st_marks.specs.Row.{how, same_to}
 use Rattle.st_marks.specs.How.{is_leave}
 use Rattle.st_register.specs.declared.values.RegChange.{RegChange}
 use Rattle.st_register.specs.declared.values.RegHeld.{RegHeld}
-use Rattle.st_register.specs.Joined.{AreJoinedIn, fills}
+use Rattle.st_register.specs.Joined.{AreRegPartsJoined, fills}
 use Rattle.st_register.specs.Register.{RegPart, RegFits, reg_carried, reg_change_of, held_whole, unless_put}
 use Rattle.st_register.specs.inside.Readings.{makes_by, put_in_turn, how_in_turn, held_in_turn, stays_in_turn}
 use Rattle.st_register.proofs.Occupants.{not_true, other_occupant, to-here, stay-to}
@@ -144,7 +144,7 @@ fills_makes p o n w =
           (elim (option_map_or p.makes (comes_in o p.part.fill) false) as (λ b. (b && false) ≡ false) [ true ↦ refl | false ↦ refl ])
     ] refl
 
-module _ (p q j : RegPart) (o : Option NodeId) (t : AreJoinedIn p q (holding o) j) (w : RegFits p (holding o)) (v : RegFits q (reg_carried p false (holding o))) where
+module _ (p q j : RegPart) (o : Option NodeId) (t : AreRegPartsJoined p q (holding o) j) (w : RegFits p (holding o)) (v : RegFits q (reg_carried p false (holding o))) where
   abbrev first : RegChange
   first = reg_change_of p (holding o)
 
@@ -212,7 +212,7 @@ module _ (p q j : RegPart) (o : Option NodeId) (t : AreJoinedIn p q (holding o) 
   new_is = all_new (λ n. makes_by first n || makes_by next n) j.makes (comes_in o j.part.fill)
       (λ n e. (λ i. fills_makes p o n w i || fills_makes q between n v i) ∙ sym (some_is j.part.fill _ n t.made (comes-fill o j.part.fill n e)))
 
-pub joined_is : (p q j : RegPart) (c : RegHeld) (x y : RegChange) (in_new clear fill_new : Bool) (k : How) (put fill : Option NodeId) → AreJoinedIn p q c j → RegFits p c → RegFits q (reg_carried p false c) → x ≡ reg_change_of p c → y ≡ reg_change_of q (reg_carried p false c)
+pub joined_is : (p q j : RegPart) (c : RegHeld) (x y : RegChange) (in_new clear fill_new : Bool) (k : How) (put fill : Option NodeId) → AreRegPartsJoined p q c j → RegFits p c → RegFits q (reg_carried p false c) → x ≡ reg_change_of p c → y ≡ reg_change_of q (reg_carried p false c)
     → put ≡ put_in_turn x y → fill ≡ comes_in x.held put → in_new ≡ (x.in_new || y.in_new) → k ≡ how_in_turn x y → clear ≡ (x.clear || y.clear) → fill_new ≡ option_map_or (λ n. makes_by x n || makes_by y n) fill false
     → ◌≡◌ {A = RegChange} (record { rev = x.rev; in_new = in_new; held = x.held; how = k; clear = clear; fill = fill; fill_new = fill_new }) (reg_change_of j c)
 joined_is p q j c x y in_new clear fill_new k put fill t w v e f a b d g h m = λ i. record {

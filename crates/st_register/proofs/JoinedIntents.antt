@@ -16,7 +16,7 @@ use Rattle.st_marks.specs.Join.{AreParts, IsJoin, joined_put, put_unless_new, un
 use Rattle.st_marks.specs.Row.{how}
 use Rattle.st_marks.proofs.Lookups.{put-has, has-put, put_in-has, has-put_in, put_clears}
 use Rattle.st_marks.proofs.Members.{all-has}
-use Rattle.st_register.specs.Joined.{AreJoinedIn, evicts}
+use Rattle.st_register.specs.Joined.{AreRegPartsJoined, evicts}
 use Rattle.st_register.specs.Register.{reg_part_of, unless_put}
 use Rattle.st_register.proofs.Documents.{if_some}
 use Rattle.st_marks.proofs.Shared.{not_made, old_put, held-same}
@@ -245,7 +245,7 @@ module _ (D : Document) (N M J : Intent) (f : FieldId) (x : IsSoundInForm D) (p 
 pub parts_join : (D : Document) (N M J : Intent) (m k l : NodeId → Bool) (f : FieldId) → IsSoundInForm D → AreParts D N M → IsJoin N M J
     → IfSome (D.held f) (λ n. IsTrue (evicts (reg_part_of m N f) n) → (put_of M n ≡ None) ⊎ (put_in M f ≡ Some n))
     → IfSome (put_in J f) (λ n. IsTrue (is_new N n) → put_in N f ≡ Some n)
-    → AreJoinedIn (reg_part_of m N f) (reg_part_of k M f) (record { node = D.held f }) (reg_part_of l J f)
+    → AreRegPartsJoined (reg_part_of m N f) (reg_part_of k M f) (record { node = D.held f }) (reg_part_of l J f)
 parts_join D N M J m k l f x p j h g = record {
   field = (refl, refl);
   rev = sym j.rev;

@@ -28,7 +28,7 @@ abbrev pub told_in_turn : RegPart → RegPart → NodeId → Option To
 told_in_turn p q n = if evicts p n && not (fills q n) then None else goes_in_turn p q n
 
 -- j is the part of both in turn, where the first finds this, as far as the two changes tell
-pub record AreJoinedIn (p q : RegPart) (c : RegHeld) (j : RegPart) : Type 0 where
+pub record AreRegPartsJoined (p q : RegPart) (c : RegHeld) (j : RegPart) : Type 0 where
   pub field : (p.field ≡ j.field) × (q.field ≡ j.field)
   pub rev : p.rev ≡ j.rev
   pub clear : j.part.clear ≡ (p.part.clear || q.part.clear)

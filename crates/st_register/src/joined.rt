@@ -1,7 +1,7 @@
 //! Two changes of one register in turn.
 ghost use Rattle.std.specs.Prelude.{◌≡◌, ◌||◌, false};
 ghost use Rattle.std.specs.Option.{option_map_or};
-ghost use Rattle.st_register.specs.Joined.{AreJoinedIn};
+ghost use Rattle.st_register.specs.Joined.{AreRegPartsJoined};
 ghost use Rattle.st_register.specs.Register.{RegPart, RegFits, reg_carried, reg_change_of};
 ghost use Rattle.st_register.specs.inside.Readings.{put_in_turn, stays_in_turn, how_in_turn, makes_by};
 
@@ -61,8 +61,8 @@ fn either(first: bool, then: bool) -> bool
 }
 
 // The two as one.
-pub(crate) fn joined(first: &RegChange, then: &RegChange) -> RegChange
-    ensures { (p q j : RegPart) (c : RegHeld) → AreJoinedIn p q c j → RegFits p c → RegFits q (reg_carried p false c)
+pub(crate) fn join_changes(first: &RegChange, then: &RegChange) -> RegChange
+    ensures { (p q j : RegPart) (c : RegHeld) → AreRegPartsJoined p q c j → RegFits p c → RegFits q (reg_carried p false c)
         → first.now ≡ reg_change_of p c → then.now ≡ reg_change_of q (reg_carried p false c) → result ≡ reg_change_of j c }
 {
     let fill = coming(first.held, put(first, then));

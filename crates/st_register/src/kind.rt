@@ -1,8 +1,8 @@
 //! The kind of registers.
 
 use crate::form::is_of_form;
-use crate::joined::joined;
-use crate::told::{agree, is_same, left, left_whole, moved};
+use crate::joined::join_changes;
+use crate::told::{agree, is_same, occupant_left, left_whole, over_occupant};
 use crate::values::{RegChange, RegHeld, RegSwap};
 use st_ids::Or;
 use st_kind::{Apart, FieldKind};
@@ -17,7 +17,7 @@ impl FieldKind for Register {
     ghost use Rattle.st_marks.specs.Intent.{same_option};
     ghost use Rattle.st_register.specs.Register.{RegPart, RegCanHold, RegFits, reg_carried, reg_change_of, RegLeadsOver, RegKeeps, DifferAt};
     ghost use Rattle.st_register.specs.Readings.{left_by};
-    ghost use Rattle.st_register.specs.Joined.{AreJoinedIn};
+    ghost use Rattle.st_register.specs.Joined.{AreRegPartsJoined};
     ghost use Rattle.st_register.specs.Laws.{has_change, kept_in_turn, one_change, one_swap, swap_between};
 
     type Ctx = RegHeld;
@@ -50,7 +50,7 @@ impl FieldKind for Register {
 
     ghost Keeps = { RegKeeps };
 
-    ghost AreJoined = { AreJoinedIn };
+    ghost AreJoined = { AreRegPartsJoined };
 
     ghost IsShortStep = { λ s. Unit {0} };
 
@@ -78,7 +78,7 @@ impl FieldKind for Register {
     fn effect(_alloc: Global, change: &RegChange, void: bool) -> Result<RegSwap, AllocError> {
         Ok(RegSwap {
             before: change.held,
-            after: left(change, void),
+            after: occupant_left(change, void),
         })
     }
 
@@ -92,7 +92,7 @@ impl FieldKind for Register {
 
     fn join(_alloc: Global, first: &RegChange, then: &RegChange) -> Result<RegChange, Or<Apart>> {
         agree(left_whole(first), then.held)?;
-        Ok(joined(first, then))
+        Ok(join_changes(first, then))
     }
 
     fn invert(_alloc: Global, step: &RegSwap) -> Result<RegSwap, AllocError> {
@@ -104,7 +104,7 @@ impl FieldKind for Register {
 
     fn rebase(_alloc: Global, change: &RegChange, step: &RegSwap) -> Result<RegChange, Or<Apart>> {
         agree(change.held, step.before)?;
-        Ok(moved(change, step.after))
+        Ok(over_occupant(change, step.after))
     }
 
     fn bridge(
@@ -115,10 +115,10 @@ impl FieldKind for Register {
         is_void: bool,
     ) -> Result<RegSwap, Or<Apart>> {
         agree(change.held, step.before)?;
-        let after = moved(change, step.after);
+        let after = over_occupant(change, step.after);
         Ok(RegSwap {
-            before: left(change, was_void),
-            after: left(&after, is_void),
+            before: occupant_left(change, was_void),
+            after: occupant_left(&after, is_void),
         })
     }
 

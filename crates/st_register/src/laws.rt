@@ -21,7 +21,7 @@ ghost use Rattle.st_marks.specs.Register.{embed_register, holds_mentioned, step_
 ghost use Rattle.st_marks.specs.Listings.{held_after};
 ghost use Rattle.st_marks.specs.Step.{IsStep};
 ghost use Rattle.st_register.specs.Existence.{HasChange, HasStep};
-ghost use Rattle.st_register.specs.Joined.{AreJoinedIn, evicts};
+ghost use Rattle.st_register.specs.Joined.{AreRegPartsJoined, evicts};
 ghost use Rattle.st_register.specs.Register.{RegPart, RegCanHold, RegFits, RegLeadsOver, reg_carried, reg_change_of, reg_part_of};
 ghost use Rattle.st_register.specs.Readings.{as_mark, as_step, left_by};
 ghost use Rattle.st_register.specs.declared.values.RegChange.{RegChange};
@@ -63,7 +63,7 @@ pub fn registers_are_joined()
     ensures { (D : Document) (N M J : Intent) (m k l : NodeId → Bool) (f : FieldId) → IsSoundInForm D → AreParts D N M → IsJoin N M J
         → IfSome (D.held f) (λ n. IsTrue (evicts (reg_part_of m N f) n) → (put_of M n ≡ None) ⊎ (put_in M f ≡ Some n))
         → IfSome (put_in J f) (λ n. IsTrue (is_new N n) → put_in N f ≡ Some n)
-        → AreJoinedIn (reg_part_of m N f) (reg_part_of k M f) (record { node = D.held f }) (reg_part_of l J f) }
+        → AreRegPartsJoined (reg_part_of m N f) (reg_part_of k M f) (record { node = D.held f }) (reg_part_of l J f) }
 {}
 
 /// A part that fits a register has a change there, and what it leads to, whole or void, is what a register can hold. So the part

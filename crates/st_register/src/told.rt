@@ -64,7 +64,7 @@ pub(crate) fn left_whole(change: &RegChange) -> Option<NodeId>
 }
 
 // Who is there after the change, void or whole.
-pub(crate) fn left(change: &RegChange, void: bool) -> Option<NodeId>
+pub(crate) fn occupant_left(change: &RegChange, void: bool) -> Option<NodeId>
     ensures { result ≡ (if void then left_void_by change.now else left_by change.now) }
 {
     if !void {
@@ -113,7 +113,7 @@ fn makes_any(change: &RegChange, fill: Option<NodeId>) -> bool
 }
 
 // The change where someone else is there.
-pub(crate) fn moved(change: &RegChange, held: Option<NodeId>) -> RegChange
+pub(crate) fn over_occupant(change: &RegChange, held: Option<NodeId>) -> RegChange
     ensures kept { (p : RegPart) (c d : RegHeld) → RegFits p c → RegFits p d → RegKeeps p c d → d.node ≡ held
         → change.now ≡ reg_change_of p c → result ≡ reg_change_of p d }
     ensures void { (p : RegPart) (c d : RegHeld) → RegFits p c → RegFits p d → d.node ≡ held → change.now ≡ reg_change_of p c

@@ -6,7 +6,7 @@ use Rattle.st_tree.specs.Node.{Node, node, Fields, no_fields, field, Nodes, no_n
 use Rattle.st_tree.specs.Form.{keys_rise}
 use Rattle.st_schema.specs.Schema.{SchemaView, same, is_among, is_key, declared_field, field_in, form_of}
 use Rattle.st_schema.specs.Conforms.{leaf_type, has_key, have_rules, required_there, fields_fit, is_as_typed, node_fits, types_in, types_under, verdicts, fields_verdicts, items_verdicts, conforms}
-use Rattle.st_schema.specs.Wider.{contains_all, kind_widens, widens_found, def_widens, defs_widen, form_widens, definition_widens, types_widen, narrowing, wider_of}
+use Rattle.st_schema.specs.Wider.{contains_all, kind_widens, widens_found, def_widens, defs_widen, form_widens, definition_widens, types_widen, none_narrowed, wider_of}
 use Rattle.st_schema.specs.Kind.{is_optional, is_required}
 use Rattle.st_schema.specs.declared.names.KindName.{KindName}
 use Rattle.st_schema.specs.declared.names.KindName.TheVariants.{Required, Optional, Sequence}
@@ -25,7 +25,7 @@ pub all-append : (us vs : List Bool) → list_all (λ ok. ok) us ≡ true → li
 all-append [] vs p q = q
 all-append (u ∷ us) vs p q = let parts = and-true u (list_all (λ ok. ok) us) p in and-both u _ parts.0 (all-append us vs parts.1 q)
 
-pub no_narrowing : (n : ℕ) (vs : List Bool) → narrowing (position_from (λ ok. not ok) n vs) ≡ Ok tt → list_all (λ ok. ok) vs ≡ true
+pub no_narrowing : (n : ℕ) (vs : List Bool) → none_narrowed (position_from (λ ok. not ok) n vs) ≡ Ok tt → list_all (λ ok. ok) vs ≡ true
 no_narrowing n [] h = refl
 no_narrowing n (true ∷ vs) h = no_narrowing (n + 1) vs h
 no_narrowing n (false ∷ vs) h = absurd (cc)

@@ -5,7 +5,7 @@ use borrow.Author.Tests.{leb-true}
 use Rattle.st_schema.specs.declared.names.Form.{Form}
 use Rattle.std.specs.List.{position_from}
 use Rattle.st_schema.specs.Schema.{SchemaView, is_sound, type_names, names_are_sound}
-use Rattle.st_schema.specs.Wider.{contains_all, types_widen, narrowing, wider_of}
+use Rattle.st_schema.specs.Wider.{contains_all, types_widen, none_narrowed, wider_of}
 use Rattle.st_schema.specs.inside.Wider.{count_wider}
 use Rattle.st_schema.specs.declared.names.NotWider.{NotWider}
 use Rattle.st_lemmas.proofs.Bools.{and-true}
@@ -16,7 +16,7 @@ settled (Err e) ok = Err e
 settled (Ok n) true = Ok tt
 settled (Ok n) false = Err (record { at = n })
 
-widened_first : (n : ℕ) (vs : List Bool) (ok : Bool) → settled (count_wider n vs) ok ≡ narrowing (position_from (λ ok. not ok) n (vs ++ ok ∷ []))
+widened_first : (n : ℕ) (vs : List Bool) (ok : Bool) → settled (count_wider n vs) ok ≡ none_narrowed (position_from (λ ok. not ok) n (vs ++ ok ∷ []))
 widened_first n [] true = refl
 widened_first n [] false = refl
 widened_first n (true ∷ vs) ok = widened_first (n + 1) vs ok

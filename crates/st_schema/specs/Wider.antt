@@ -59,12 +59,12 @@ types_widen (old ∷ olds) [] = false ∷ types_widen olds []
 types_widen (old ∷ olds) (new ∷ news) = definition_widens old new ∷ types_widen olds news
 
 -- nothing, or the number of the first failure
-abbrev pub narrowing : Option ℕ → Result (Unit {0}) NotWider
-narrowing None = Ok tt
-narrowing (Some i) = Err (record { at = i })
+abbrev pub none_narrowed : Option ℕ → Result (Unit {0}) NotWider
+none_narrowed None = Ok tt
+none_narrowed (Some i) = Err (record { at = i })
 
 -- the first old type that fails, or the count of old types where only the root's list does
 abbrev pub wider_of : SchemaView → SchemaView → Result (Unit {0}) NotWider
-wider_of old new = narrowing (position_from (λ ok. not ok) 0 (types_widen old.types new.types ++ contains_all new.root old.root ∷ []))
+wider_of old new = none_narrowed (position_from (λ ok. not ok) 0 (types_widen old.types new.types ++ contains_all new.root old.root ∷ []))
 
 -- ---- counted on

@@ -13,7 +13,7 @@ use Rattle.st_marks.specs.Row.{RowPart, how}
 use Rattle.st_marks.specs.How.{is_here}
 use Rattle.st_marks.proofs.Members.{all-has, append_left, append_right, distinct-between, distinct-left, distinct-right, has-all}
 use Rattle.st_seq.specs.Changes.{StandsIn, carried_cells, carried_row, full_after, made_cells, placed_by, void_part}
-use Rattle.st_seq.specs.Sequence.{RowCanHold, RowFits, SeqPart, row_carried, cells_of, made_in, standing}
+use Rattle.st_seq.specs.Sequence.{RowCanHold, RowFits, SeqPart, row_carried, cells_of, made_in, standing_nodes}
 use Rattle.st_seq.proofs.Laid.{in_cells, in_row}
 use Rattle.st_seq.proofs.Rebased.{same_put, is_put}
 
@@ -110,52 +110,52 @@ cells_once q (s ∷ c) d m new = (
 
 -- ## Each node stands once
 
-stands_from : (d : List Slot) (n : NodeId) → Has (standing d) n → (t : Slot) × Has d t × (t.full ≡ true) × (t.node ≡ n)
+stands_from : (d : List Slot) (n : NodeId) → Has (standing_nodes d) n → (t : Slot) × Has d t × (t.full ≡ true) × (t.node ≡ n)
 stands_from [] n h = absurd h
 stands_from (s ∷ d) n h = go s.full refl h (λ i. stands_from d n i)
   where
     later : ((t : Slot) × Has d t × (t.full ≡ true) × (t.node ≡ n)) → (t : Slot) × Has (s ∷ d) t × (t.full ≡ true) × (t.node ≡ n)
     later r = (r.0, inr r.1, r.2, r.3)
 
-    go : (b : Bool) → s.full ≡ b → Has (cond b (s.node ∷ standing d) (standing d)) n → (Has (standing d) n → (t : Slot) × Has d t × (t.full ≡ true) × (t.node ≡ n)) → (t : Slot) × Has (s ∷ d) t × (t.full ≡ true) × (t.node ≡ n)
+    go : (b : Bool) → s.full ≡ b → Has (cond b (s.node ∷ standing_nodes d) (standing_nodes d)) n → (Has (standing_nodes d) n → (t : Slot) × Has d t × (t.full ≡ true) × (t.node ≡ n)) → (t : Slot) × Has (s ∷ d) t × (t.full ≡ true) × (t.node ≡ n)
     go true e (inl q) more = (s, inl refl, e, q)
     go true e (inr i) more = later (more i)
     go false e i more = later (more i)
 
-to_standing : (d : List Slot) (t : Slot) → Has d t → t.full ≡ true → Has (standing d) t.node
+to_standing : (d : List Slot) (t : Slot) → Has d t → t.full ≡ true → Has (standing_nodes d) t.node
 to_standing [] t h e = absurd h
-to_standing (s ∷ d) t (inl q) e = subst (λ b. Has (cond b (s.node ∷ standing d) (standing d)) t.node) (sym (ap (λ (s : Slot). s.full) q ∙ e)) (inl (slot_node q))
-to_standing (s ∷ d) t (inr h) e = elim s.full as (λ b. Has (cond b (s.node ∷ standing d) (standing d)) t.node) [ true ↦ inr (to_standing d t h e) | false ↦ to_standing d t h e ]
+to_standing (s ∷ d) t (inl q) e = subst (λ b. Has (cond b (s.node ∷ standing_nodes d) (standing_nodes d)) t.node) (sym (ap (λ (s : Slot). s.full) q ∙ e)) (inl (slot_node q))
+to_standing (s ∷ d) t (inr h) e = elim s.full as (λ b. Has (cond b (s.node ∷ standing_nodes d) (standing_nodes d)) t.node) [ true ↦ inr (to_standing d t h e) | false ↦ to_standing d t h e ]
 
 -- a node that stands in two cells of a row stands in one
 abbrev StandOnce : List Slot → Type 0
 StandOnce d = (s t : Slot) → Has d s → Has d t → s.full ≡ true → t.full ≡ true → s.node ≡ t.node → s.cell ≡ t.cell
 
-standing_once : (d : List Slot) → AreDistinct (λ (s : Slot). s.cell) d → StandOnce d → AreDistinct (λ (n : NodeId). n) (standing d)
+standing_once : (d : List Slot) → AreDistinct (λ (s : Slot). s.cell) d → StandOnce d → AreDistinct (λ (n : NodeId). n) (standing_nodes d)
 standing_once [] o one = tt
-standing_once (s ∷ d) o one = elim s.full as (λ b. s.full ≡ b → AreDistinct (λ (n : NodeId). n) (cond b (s.node ∷ standing d) (standing d))) [
+standing_once (s ∷ d) o one = elim s.full as (λ b. s.full ≡ b → AreDistinct (λ (n : NodeId). n) (cond b (s.node ∷ standing_nodes d) (standing_nodes d))) [
   | true ↦ (λ e. (
-    has-all (λ (k : NodeId). k ≢ s.node) (standing d) (λ k h q. let r = stands_from d k h in all-has (λ (t : Slot). t.cell ≢ s.cell) d r.0 o.0 r.1 (one r.0 s (inr r.1) (inl refl) r.2 e (r.3 ∙ q))),
+    has-all (λ (k : NodeId). k ≢ s.node) (standing_nodes d) (λ k h q. let r = stands_from d k h in all-has (λ (t : Slot). t.cell ≢ s.cell) d r.0 o.0 r.1 (one r.0 s (inr r.1) (inl refl) r.2 e (r.3 ∙ q))),
     standing_once d o.1 (λ a b h i. one a b (inr h) (inr i)),
   ))
   | false ↦ (λ e. standing_once d o.1 (λ a b h i. one a b (inr h) (inr i)))
 ] refl
 
-first_stands : (s : Slot) (d : List Slot) (t : Slot) → AreDistinct (λ (n : NodeId). n) (standing (s ∷ d)) → s.full ≡ true → Has d t → t.full ≡ true → t.node ≢ s.node
+first_stands : (s : Slot) (d : List Slot) (t : Slot) → AreDistinct (λ (n : NodeId). n) (standing_nodes (s ∷ d)) → s.full ≡ true → Has d t → t.full ≡ true → t.node ≢ s.node
 first_stands s d t o e h f q =
-    let all : AreDistinct (λ (n : NodeId). n) (s.node ∷ standing d) = subst (λ b. AreDistinct (λ (n : NodeId). n) (cond b (s.node ∷ standing d) (standing d))) e o in
-    all-has (λ (k : NodeId). k ≢ s.node) (standing d) t.node all.0 (to_standing d t h f) q
+    let all : AreDistinct (λ (n : NodeId). n) (s.node ∷ standing_nodes d) = subst (λ b. AreDistinct (λ (n : NodeId). n) (cond b (s.node ∷ standing_nodes d) (standing_nodes d))) e o in
+    all-has (λ (k : NodeId). k ≢ s.node) (standing_nodes d) t.node all.0 (to_standing d t h f) q
 
 others_stand : (b : Bool) (n : NodeId) (ns : List NodeId) → AreDistinct (λ (n : NodeId). n) (cond b (n ∷ ns) ns) → AreDistinct (λ (n : NodeId). n) ns
 others_stand true n ns o = o.1
 others_stand false n ns o = o
 
-once_standing : (c : List Slot) → AreDistinct (λ (n : NodeId). n) (standing c) → StandOnce c
+once_standing : (c : List Slot) → AreDistinct (λ (n : NodeId). n) (standing_nodes c) → StandOnce c
 once_standing [] o s t h i e f g = absurd h
 once_standing (x ∷ c) o s t (inl p) (inl q) e f g = slot_cell (sym p ∙ q)
 once_standing (x ∷ c) o s t (inl p) (inr i) e f g = absurd (first_stands x c t o (ap (λ (s : Slot). s.full) p ∙ e) i f (sym g ∙ slot_node (sym p)))
 once_standing (x ∷ c) o s t (inr h) (inl q) e f g = absurd (first_stands x c s o (ap (λ (s : Slot). s.full) q ∙ f) h e (g ∙ slot_node (sym q)))
-once_standing (x ∷ c) o s t (inr h) (inr i) e f g = once_standing c (others_stand x.full x.node (standing c) o) s t h i e f g
+once_standing (x ∷ c) o s t (inr h) (inr i) e f g = once_standing c (others_stand x.full x.node (standing_nodes c) o) s t h i e f g
 
 -- who stands in a cell after stood there and isn't put, or is put into it
 abbrev StoodOrPut : RowPart → List Slot → Slot → Type 0
@@ -180,7 +180,7 @@ unput target_of to e f g = let q : ◌≡◌ {A = Option To} None (Some to) = sy
 one_cell : {a b : CellId} → ◌≡◌ {A = Option To} (Some (To.Cell a)) (Some (To.Cell b)) → a ≡ b
 one_cell e = cc
 
-stand_once_after : (q : RowPart) (c : List Slot) → AreDistinct (λ (n : NodeId). n) (standing c) → StandOnce (carried_row q c)
+stand_once_after : (q : RowPart) (c : List Slot) → AreDistinct (λ (n : NodeId). n) (standing_nodes c) → StandOnce (carried_row q c)
 stand_once_after q c o s t h i e f g = go (stands_after q c s h e) (stands_after q c t i f)
   where
     go : StoodOrPut q c s → StoodOrPut q c t → s.cell ≡ t.cell

@@ -23,10 +23,10 @@ use Rattle.st_marks.proofs.Full.{known_put}
 use Rattle.st_marks.proofs.Lookups.{group_at-group, group_found, made_there, put-has}
 use Rattle.st_marks.proofs.Members.{all-has, append_left, distinct-append, distinct-has, flat_map-has, has-all, has-flat_map, has-map, list_distinct, map-has, one_list}
 use Rattle.st_seq.specs.Changes.{StandsIn}
-use Rattle.st_seq.specs.Sequence.{RowCanHold, RowFits, ListsNew, SeqPart, cells_of, made_in, row_part_of, standing}
+use Rattle.st_seq.specs.Sequence.{RowCanHold, RowFits, ListsNew, SeqPart, cells_of, made_in, row_part_of, standing_nodes}
 use Rattle.st_seq.proofs.Telling.{any_has}
 use Rattle.st_lemmas.proofs.Lists.{flat_map-map}
-use Rattle.st_marks.proofs.Shared.{one_cell, made, not_made}
+use Rattle.st_marks.proofs.Shared.{one_cell, new_node-rev, not_made}
 use Rattle.st_marks.proofs.Unique.{distinct_content}
 use Rattle.st_lemmas.proofs.Bools.{true-false}
 
@@ -35,18 +35,18 @@ use Rattle.st_lemmas.proofs.Bools.{true-false}
 pub is_slot : (D : Document) (n : NodeId) (s : Slot) → Has (content D n) s → (o : Owned) × Has (D.rows n) o × (slot D o ≡ s)
 is_slot D n s w = has-map (slot D) (D.rows n) s w
 
-has_standing : (D : Document) (os : List Owned) (n : NodeId) → Has (standing (map (slot D) os)) n → (o : Owned) × Has os o × (o.node ≡ n) × (is_cell o.cell (D.place o.node) ≡ true)
+has_standing : (D : Document) (os : List Owned) (n : NodeId) → Has (standing_nodes (map (slot D) os)) n → (o : Owned) × Has os o × (o.node ≡ n) × (is_cell o.cell (D.place o.node) ≡ true)
 has_standing D [] n w = absurd w
-has_standing D (o ∷ os) n w = elim (is_cell o.cell (D.place o.node)) as (λ b. is_cell o.cell (D.place o.node) ≡ b → Has (cond b (o.node ∷ standing (map (slot D) os)) (standing (map (slot D) os))) n → (p : Owned) × Has (o ∷ os) p × (p.node ≡ n) × (is_cell p.cell (D.place p.node) ≡ true)) [
+has_standing D (o ∷ os) n w = elim (is_cell o.cell (D.place o.node)) as (λ b. is_cell o.cell (D.place o.node) ≡ b → Has (cond b (o.node ∷ standing_nodes (map (slot D) os)) (standing_nodes (map (slot D) os))) n → (p : Owned) × Has (o ∷ os) p × (p.node ≡ n) × (is_cell p.cell (D.place p.node) ≡ true)) [
   | true ↦ (λ e v. elim v [ inl q ↦ (o, inl refl, q, e) | inr u ↦ (let r = has_standing D os n u in (r.0, inr r.1, r.2, r.3)) ])
   | false ↦ (λ e v. let r = has_standing D os n v in (r.0, inr r.1, r.2, r.3))
 ] refl w
 
-stands_once : (D : Document) (os : List Owned) → AreDistinct (λ (o : Owned). o.cell) os → AreDistinct (λ (n : NodeId). n) (standing (map (slot D) os))
+stands_once : (D : Document) (os : List Owned) → AreDistinct (λ (o : Owned). o.cell) os → AreDistinct (λ (n : NodeId). n) (standing_nodes (map (slot D) os))
 stands_once D [] h = tt
-stands_once D (o ∷ os) h = elim (is_cell o.cell (D.place o.node)) as (λ b. is_cell o.cell (D.place o.node) ≡ b → AreDistinct (λ (n : NodeId). n) (cond b (o.node ∷ standing (map (slot D) os)) (standing (map (slot D) os)))) [
+stands_once D (o ∷ os) h = elim (is_cell o.cell (D.place o.node)) as (λ b. is_cell o.cell (D.place o.node) ≡ b → AreDistinct (λ (n : NodeId). n) (cond b (o.node ∷ standing_nodes (map (slot D) os)) (standing_nodes (map (slot D) os)))) [
   | true ↦ (λ e. (
-    has-all (λ (k : NodeId). k ≢ o.node) (standing (map (slot D) os)) (λ k w q.
+    has-all (λ (k : NodeId). k ≢ o.node) (standing_nodes (map (slot D) os)) (λ k w q.
         let r = has_standing D os k w in
         all-has (λ (p : Owned). p.cell ≢ o.cell) os r.0 h.0 r.1 (one_cell r.0.cell o.cell (D.place o.node) (subst (λ x. is_cell r.0.cell (D.place x) ≡ true) (r.2 ∙ q) r.3) e)),
     stands_once D os h.1,
@@ -223,7 +223,7 @@ module _ (D : Document) (N : Intent) (m : Nodes) (new : List NodeId) (n : NodeId
     empty = rows_empty;
     old = has-all (λ (s : Slot). is_among new s.node ≡ false) c slot_old;
     rising = listed.rising;
-    new_rev = has-all (λ (k : NodeId). k.0.rev ≡ N.rev) new (λ k v. made N w.itself k (sym (listed.each k) ∙ any_has (λ j. same_node j k) new k v (same_node-itself k)));
+    new_rev = has-all (λ (k : NodeId). k.0.rev ≡ N.rev) new (λ k v. new_node-rev N w.itself k (sym (listed.each k) ∙ any_has (λ j. same_node j k) new k v (same_node-itself k)));
     root_old = old_node root x.root_known;
     cell_rev = over_made (λ (o : Owned). o.cell.0.rev ≡ N.rev) (λ o v. all-has (λ (q : Owned). q.cell.0.rev ≡ N.rev) (group_cells N) o w.itself.cell_rev v);
     fresh = over_made (λ (o : Owned). Has (cells_of c) o.cell → ⊥) (λ o v h. not_new o.cell n (in_document D x n o.cell h) (new_cell o v));

@@ -17,7 +17,7 @@ use Rattle.st_seq.specs.Differences.{agree, first_difference, view_before}
 use Rattle.st_seq.specs.Changes.{StandsIn}
 use Rattle.st_seq.specs.Laws.{not_again}
 use Rattle.st_seq.specs.inside.Reading.{is_made}
-use Rattle.st_seq.specs.Sequence.{cells_of, standing}
+use Rattle.st_seq.specs.Sequence.{cells_of, standing_nodes}
 use Rattle.st_seq.proofs.Retreating.{stands_not, stand_others}
 use Rattle.st_seq.proofs.Differences.{bools-same}
 use Rattle.st_lemmas.proofs.Bools.{and-true}
@@ -123,7 +123,7 @@ in_row (s ∷ c) t (inl q) e = inl (ap (λ (x : Slot). x.node) q, ap (λ (x : Sl
 in_row (s ∷ c) t (inr w) e = inr (in_row c t w e)
 
 -- one node that stands in the row has one mark
-pub one_stands : {c : List Slot} {xs : List CellMark} (l : Lays c xs) → AreDistinct (λ (n : NodeId). n) (standing c) → (t u : Slot) (y z : CellMark) → FoundAt l t y → FoundAt l u z → t.full ≡ true → u.full ≡ true → t.node ≡ u.node → y ≡ z
+pub one_stands : {c : List Slot} {xs : List CellMark} (l : Lays c xs) → AreDistinct (λ (n : NodeId). n) (standing_nodes c) → (t u : Slot) (y z : CellMark) → FoundAt l t y → FoundAt l u z → t.full ≡ true → u.full ≡ true → t.node ≡ u.node → y ≡ z
 one_stands end o t u y z v w p q e = absurd v
 one_stands (made l) o t u y z v w p q e = one_stands l o t u y z v w p q e
 one_stands (found h l) o t u y z (inl v) (inl w) p q e = sym v.1 ∙ w.1

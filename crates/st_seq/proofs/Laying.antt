@@ -7,18 +7,18 @@ use Rattle.st_marks.specs.declared.marks.How.TheVariants.{Stay}
 use Rattle.st_marks.specs.declared.places.Slot.{Slot}
 use Rattle.st_marks.specs.Row.{CellMark, Counted, Gap, Touch, Make, Fill, RowPart, how, step_cell, embed_cell, embed_made, embed_cells}
 use Rattle.st_marks.specs.How.{is_here}
-use Rattle.st_seq.specs.Walks.{CellPiece, Both, Then, beside, meeting}
+use Rattle.st_seq.specs.Walks.{CellPiece, Both, Then, beside, meeting_piece}
 
 -- what is found is never a made cell
-pub beside-found : (f : CellPiece → CellMark) (p : RowPart) (c : CellId) (n : NodeId) (b : Bool) (xs ys : List CellMark) → map f (beside (embed_cell p c n b ∷ xs) ys) ≡ map f (meeting (embed_cell p c n b) (beside xs) ys)
+pub beside-found : (f : CellPiece → CellMark) (p : RowPart) (c : CellId) (n : NodeId) (b : Bool) (xs ys : List CellMark) → map f (beside (embed_cell p c n b ∷ xs) ys) ≡ map f (meeting_piece (embed_cell p c n b) (beside xs) ys)
 beside-found f p c n true xs ys =
-    elim (p.mentioned n) as (λ b. map f (beside (cond b (Touch c n (how (p.target_of n) (To.Cell c))) Counted ∷ xs) ys) ≡ map f (meeting (cond b (Touch c n (how (p.target_of n) (To.Cell c))) Counted) (beside xs) ys)) [ true ↦ refl | false ↦ refl ]
+    elim (p.mentioned n) as (λ b. map f (beside (cond b (Touch c n (how (p.target_of n) (To.Cell c))) Counted ∷ xs) ys) ≡ map f (meeting_piece (cond b (Touch c n (how (p.target_of n) (To.Cell c))) Counted) (beside xs) ys)) [ true ↦ refl | false ↦ refl ]
 beside-found f p c n false xs ys =
-    elim (is_here (how (p.target_of n) (To.Cell c))) as (λ b. map f (beside (cond b (Fill c n) (Gap c) ∷ xs) ys) ≡ map f (meeting (cond b (Fill c n) (Gap c)) (beside xs) ys)) [ true ↦ refl | false ↦ refl ]
+    elim (is_here (how (p.target_of n) (To.Cell c))) as (λ b. map f (beside (cond b (Fill c n) (Gap c) ∷ xs) ys) ≡ map f (meeting_piece (cond b (Fill c n) (Gap c)) (beside xs) ys)) [ true ↦ refl | false ↦ refl ]
 
-pub meeting-found : (f : CellPiece → CellMark) (x : CellMark) (rest : List CellMark → List CellPiece) (m : NodeId → Bool) (c : CellId) (n : NodeId) (a b : Bool) (ys : List CellMark) → map f (meeting x rest (step_cell m c n a b ∷ ys)) ≡ f (Both x (step_cell m c n a b)) ∷ map f (rest ys)
+pub meeting-found : (f : CellPiece → CellMark) (x : CellMark) (rest : List CellMark → List CellPiece) (m : NodeId → Bool) (c : CellId) (n : NodeId) (a b : Bool) (ys : List CellMark) → map f (meeting_piece x rest (step_cell m c n a b ∷ ys)) ≡ f (Both x (step_cell m c n a b)) ∷ map f (rest ys)
 meeting-found f x rest m c n true true ys =
-    elim (m n) as (λ b. map f (meeting x rest (cond b (Touch c n Stay) Counted ∷ ys)) ≡ f (Both x (cond b (Touch c n Stay) Counted)) ∷ map f (rest ys)) [ true ↦ refl | false ↦ refl ]
+    elim (m n) as (λ b. map f (meeting_piece x rest (cond b (Touch c n Stay) Counted ∷ ys)) ≡ f (Both x (cond b (Touch c n Stay) Counted)) ∷ map f (rest ys)) [ true ↦ refl | false ↦ refl ]
 meeting-found f x rest m c n true false ys = refl
 meeting-found f x rest m c n false true ys = refl
 meeting-found f x rest m c n false false ys = refl

@@ -12,7 +12,7 @@ use Rattle.st_marks.proofs.Members.{all-has, first-has, has-append}
 use Rattle.st_seq.specs.Views.{row_views}
 use Rattle.st_seq.specs.Laws.{spread_of}
 use Rattle.st_seq.specs.NamedApart.{NamedApart, named_apart, same_atom, stands_at, standing_at}
-use Rattle.st_seq.specs.Sequence.{RowFits, RowLeadsOver, SeqPart, row_carried, row_change_of, standing}
+use Rattle.st_seq.specs.Sequence.{RowFits, RowLeadsOver, SeqPart, row_carried, row_change_of, standing_nodes}
 use Rattle.st_seq.specs.declared.name_clashes.NamedAt.{NamedAt}
 use Rattle.st_seq.specs.declared.values.RowChange.{RowChange}
 use Rattle.st_seq.proofs.Described.{DescribeAll, IfTold, change_finds, change_leaves, step_finds, step_leaves}
@@ -38,32 +38,32 @@ IsTrueOf c k e = (e.made ≡ false) × StandsAt c k (node_of_name e.name) e.left
 abbrev AreTrueOf : List Slot → ℕ → List NamedAt → Type 0
 AreTrueOf c k names = (e : NamedAt) → Has names e → IsTrueOf c k e
 
-stands_has : (c : List Slot) (k : ℕ) (n : NodeId) (i : ℕ) → StandsAt c k n i → Has (standing c) n
+stands_has : (c : List Slot) (k : ℕ) (n : NodeId) (i : ℕ) → StandsAt c k n i → Has (standing_nodes c) n
 stands_has [] k n i h = h
-stands_has (s ∷ c) k n i (inl e) = subst (λ b. Has (cond b (s.node ∷ standing c) (standing c)) n) (sym e.1) (inl e.0)
+stands_has (s ∷ c) k n i (inl e) = subst (λ b. Has (cond b (s.node ∷ standing_nodes c) (standing_nodes c)) n) (sym e.1) (inl e.0)
 stands_has (s ∷ c) k n i (inr h) =
     let r = stands_has c (suc k) n i h in
-    elim s.full as (λ b. Has (cond b (s.node ∷ standing c) (standing c)) n) [ true ↦ inr r | false ↦ r ]
+    elim s.full as (λ b. Has (cond b (s.node ∷ standing_nodes c) (standing_nodes c)) n) [ true ↦ inr r | false ↦ r ]
 
 behind : (b : Bool) (n : NodeId) (ns : List NodeId) → AreDistinct (λ (x : NodeId). x) (cond b (n ∷ ns) ns) → AreDistinct (λ (x : NodeId). x) ns
 behind true n ns o = o.1
 behind false n ns o = o
 
-not_behind : (s : Slot) (c : List Slot) (k : ℕ) (n : NodeId) (i : ℕ) → AreDistinct (λ (x : NodeId). x) (standing (s ∷ c)) → s.full ≡ true → s.node ≡ n → StandsAt c k n i → ⊥
+not_behind : (s : Slot) (c : List Slot) (k : ℕ) (n : NodeId) (i : ℕ) → AreDistinct (λ (x : NodeId). x) (standing_nodes (s ∷ c)) → s.full ≡ true → s.node ≡ n → StandsAt c k n i → ⊥
 not_behind s c k n i o f e h =
-    let all = subst (λ b. AreDistinct (λ (x : NodeId). x) (cond b (s.node ∷ standing c) (standing c))) f o in
-    all-has (λ (x : NodeId). x ≢ s.node) (standing c) n all.0 (stands_has c k n i h) (sym e)
+    let all = subst (λ b. AreDistinct (λ (x : NodeId). x) (cond b (s.node ∷ standing_nodes c) (standing_nodes c))) f o in
+    all-has (λ (x : NodeId). x ≢ s.node) (standing_nodes c) n all.0 (stands_has c k n i h) (sym e)
 
 -- a node that stands once stands at one place
-stands_once : (c : List Slot) (k : ℕ) (n : NodeId) (i j : ℕ) → AreDistinct (λ (x : NodeId). x) (standing c) → StandsAt c k n i → StandsAt c k n j → i ≡ j
+stands_once : (c : List Slot) (k : ℕ) (n : NodeId) (i j : ℕ) → AreDistinct (λ (x : NodeId). x) (standing_nodes c) → StandsAt c k n i → StandsAt c k n j → i ≡ j
 stands_once [] k n i j o h w = absurd h
 stands_once (s ∷ c) k n i j o (inl e) (inl f) = sym e.2 ∙ f.2
 stands_once (s ∷ c) k n i j o (inl e) (inr w) = absurd (not_behind s c (suc k) n j o e.1 e.0 w)
 stands_once (s ∷ c) k n i j o (inr h) (inl f) = absurd (not_behind s c (suc k) n i o f.1 f.0 h)
-stands_once (s ∷ c) k n i j o (inr h) (inr w) = stands_once c (suc k) n i j (behind s.full s.node (standing c) o) h w
+stands_once (s ∷ c) k n i j o (inr h) (inr w) = stands_once c (suc k) n i j (behind s.full s.node (standing_nodes c) o) h w
 
 -- two listings that are true of one row don't name a node apart
-true_together : (c : List Slot) → AreDistinct (λ (x : NodeId). x) (standing c) → (A B : List NamedAt) → AreTrueOf c 0 A → AreTrueOf c 0 B → (j : ℕ) → NamedApart A B j → ⊥
+true_together : (c : List Slot) → AreDistinct (λ (x : NodeId). x) (standing_nodes c) → (A B : List NamedAt) → AreTrueOf c 0 A → AreTrueOf c 0 B → (j : ℕ) → NamedApart A B j → ⊥
 true_together c o A B h w j (named_apart e f first has not _ _) =
     let r = first-has (λ (g : NamedAt). same_atom g.name f.name) A e first in
     let one = ap node_of_name (same_atom-true e.name f.name r.1) in
@@ -90,7 +90,7 @@ names_true (s ∷ c) (x ∷ X) k d e h = elim (has-append (stands_at x.full x.no
 ]
 
 -- two listings that describe one row don't name a node apart
-described_together : (c : List Slot) (X Y : List CellView) → AreDistinct (λ (x : NodeId). x) (standing c) → DescribeAll c X → DescribeAll c Y → (j : ℕ) → NamedApart (standing_at 0 X) (standing_at 0 Y) j → ⊥
+described_together : (c : List Slot) (X Y : List CellView) → AreDistinct (λ (x : NodeId). x) (standing_nodes c) → DescribeAll c X → DescribeAll c Y → (j : ℕ) → NamedApart (standing_at 0 X) (standing_at 0 Y) j → ⊥
 described_together c X Y o x y = true_together c o (standing_at 0 X) (standing_at 0 Y) (names_true c X 0 x) (names_true c Y 0 y)
 
 -- ## Listings of one field

@@ -9,13 +9,13 @@ use Rattle.st_seq.specs.Views.{row_views, view_after}
 use Rattle.st_seq.specs.Differences.{agree, first_difference, view_before}
 use Rattle.st_seq.specs.Merged.{is_skip}
 use Rattle.st_seq.specs.Reading.{cell_of}
-use Rattle.st_seq.specs.inside.Reading.{left, is_made, is_make, IsFirst}
+use Rattle.st_seq.specs.inside.Reading.{marks_left, is_made, is_make, IsFirst}
 use Rattle.st_seq.specs.Pieces.{IsSingle, both_counted}
 use Rattle.st_seq.specs.declared.front_mark.Head.{Head}
 use Rattle.st_ids.specs.declared.names.CellId.{CellId}
 use Rattle.st_ids.specs.declared.names.NodeId.{NodeId}
 use Rattle.st_seq.proofs.Merging.{counted-plus, length-counted}
-use Rattle.st_seq.specs.Walks.{CellPiece, Both, Then, in_turn, meeting, beside}
+use Rattle.st_seq.specs.Walks.{CellPiece, Both, Then, in_turn, meeting_piece, beside}
 
 pub single : (m : Mark) → is_skip m ≡ false → IsSingle m
 single (Mark.Skip k) s = cc
@@ -47,7 +47,7 @@ in_turn-both a (Touch c n h) xs ys e = refl
 in_turn-both a (Make c n b) xs ys e = cc
 in_turn-both a (Fill c n) xs ys e = refl
 
-meeting-both : (a b : CellMark) (rest : List CellMark → List CellPiece) (ys : List CellMark) → is_made b ≡ false → meeting a rest (b ∷ ys) ≡ Both a b ∷ rest ys
+meeting-both : (a b : CellMark) (rest : List CellMark → List CellPiece) (ys : List CellMark) → is_made b ≡ false → meeting_piece a rest (b ∷ ys) ≡ Both a b ∷ rest ys
 meeting-both a Counted rest ys e = refl
 meeting-both a (Gap c) rest ys e = refl
 meeting-both a (Touch c n h) rest ys e = refl
@@ -167,7 +167,7 @@ beside-made c n b (Fill d m) xs ys e = refl
 made_then : (X : List CellMark) (x : Head) (rest : List Mark) → IsFirst X x rest → is_make x ≡ false → (c : CellId) (n : NodeId) (b : Bool) (ys : List CellMark) → beside X (Make c n b ∷ ys) ≡ Then (Make c n b) ∷ beside X ys
 made_then X Head.End rest h e c n b ys = rw h.0 refl
 made_then X (Head.Many zero) rest h e c n b ys = absurd (omega (arith, h.0))
-made_then X (Head.Many (suc k)) rest h e c n b ys = rw h.1 (beside-made c n b Counted (left k rest) ys refl)
+made_then X (Head.Many (suc k)) rest h e c n b ys = rw h.1 (beside-made c n b Counted (marks_left k rest) ys refl)
 made_then X (Head.Make d m x) rest h e c n b ys = cc
 made_then X (Head.Cell m) rest h e c n b ys = rw h.1 (beside-made c n b (cell_of m) (spread rest) ys h.2)
 

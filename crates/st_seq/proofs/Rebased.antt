@@ -39,15 +39,15 @@ over-made t p (o ∷ os) xs ys = ap (λ l. Make o.cell o.node (is_here (how (p.t
 -- ## What the marks tell of a node
 
 -- what becomes of a node elsewhere, by where it is put
-abbrev pub moved : Option To → How
-moved None = Stay
-moved (Some to) = Leave
+abbrev pub moved_how : Option To → How
+moved_how None = Stay
+moved_how (Some to) = Leave
 
-still-how : (g : Option To) (here : To) → still (how g here) ≡ moved g
+still-how : (g : Option To) (here : To) → still (how g here) ≡ moved_how g
 still-how None here = refl
 still-how (Some to) here = elim (same_to to here) as (λ b. still (cond b Here Leave) ≡ Leave) [ true ↦ refl | false ↦ refl ]
 
-pub not-here : (g : Option To) (here : To) → is_here (how g here) ≡ false → how g here ≡ moved g
+pub not-here : (g : Option To) (here : To) → is_here (how g here) ≡ false → how g here ≡ moved_how g
 not-here None here e = refl
 not-here (Some to) here e = elim (same_to to here) as (λ b. is_here (cond b Here Leave) ≡ false → cond b Here Leave ≡ Leave) [ true ↦ (λ e. cc) | false ↦ (λ e. refl) ] e
 
@@ -59,7 +59,7 @@ is-here Leave e = cc
 -- what the look-up has to tell of a node that stands in the row after the step: whether it is mentioned, and whether it is put
 abbrev pub Tells : RowPart → NodeId → Option How → Type 0
 Tells p n None = p.mentioned n ≡ false
-Tells p n (Some h) = (p.mentioned n ≡ true) × (still h ≡ moved (p.target_of n))
+Tells p n (Some h) = (p.mentioned n ≡ true) × (still h ≡ moved_how (p.target_of n))
 
 module _ (t : NodeId → Option How) (p : RowPart) where
   -- a cell that is filled
@@ -151,7 +151,7 @@ untouched p n e (s ∷ c) = untouched-cell p n e _ (touch-made p n (p.new_cells 
 -- a mentioned node is touched where it stands, as it goes
 abbrev Right : RowPart → NodeId → Option How → Type 0
 Right p n None = Unit {0}
-Right p n (Some h) = still h ≡ moved (p.target_of n)
+Right p n (Some h) = still h ≡ moved_how (p.target_of n)
 
 abbrev Told : RowPart → NodeId → List Slot → Option How → Type 0
 Told p n c o = Right p n o × (StandsIn n c → o ≢ None)
@@ -161,7 +161,7 @@ behind : (p : RowPart) (n : NodeId) (s : Slot) (c : List Slot) (o : Option How) 
 behind p n s c o r k = (r.0, λ w. elim w [ inl q ↦ absurd (k q.0 q.1) | inr q ↦ r.1 q ])
 
 -- behind its own
-own : (p : RowPart) (n : NodeId) (s : Slot) (c : List Slot) (o : Option How) (h : How) → Told p n c o → still h ≡ moved (p.target_of n) → Told p n (s ∷ c) (option_or o (Some h))
+own : (p : RowPart) (n : NodeId) (s : Slot) (c : List Slot) (o : Option How) (h : How) → Told p n c o → still h ≡ moved_how (p.target_of n) → Told p n (s ∷ c) (option_or o (Some h))
 own p n s c None h r q = (q, λ w z. cc)
 own p n s c (Some k) h r q = (r.0, λ w z. cc)
 
@@ -172,7 +172,7 @@ other p n s c (Some h) r k = behind p n s c (Some h) r k
 told-cell : (p : RowPart) (n : NodeId) → p.mentioned n ≡ true → (s : Slot) (c : List Slot) (xs : List CellMark) → Told p n c (touch_of xs n) → (a : CellId) (m : NodeId) (b : Bool) → s.node ≡ m → s.full ≡ b → Told p n (s ∷ c) (touch_of (embed_cell p a m b ∷ xs) n)
 told-cell p n e s c xs rest a m true f g = elim (p.mentioned m) as (λ b. p.mentioned m ≡ b → Told p n (s ∷ c) (touch_of (cond b (Touch a m (how (p.target_of m) (To.Cell a))) Counted ∷ xs) n)) [
   | true ↦ (λ h. elim (same_node m n) as (λ b. same_node m n ≡ b → Told p n (s ∷ c) (option_or (touch_of xs n) (cond b (Some (how (p.target_of m) (To.Cell a))) None))) [
-    | true ↦ (λ q. own p n s c (touch_of xs n) (how (p.target_of m) (To.Cell a)) rest (still-how (p.target_of m) (To.Cell a) ∙ ap (λ x. moved (p.target_of x)) (same_node-true m n q)))
+    | true ↦ (λ q. own p n s c (touch_of xs n) (how (p.target_of m) (To.Cell a)) rest (still-how (p.target_of m) (To.Cell a) ∙ ap (λ x. moved_how (p.target_of x)) (same_node-true m n q)))
     | false ↦ (λ q. other p n s c (touch_of xs n) rest (λ z w. let y : ◌≡◌ {A = Bool} true false = sym (same_node-itself n) ∙ ap (λ x. same_node x n) (sym z ∙ f) ∙ q in cc))
   ] refl)
   | false ↦ (λ h. behind p n s c (touch_of xs n) rest (λ z w. let y : ◌≡◌ {A = Bool} true false = sym e ∙ ap p.mentioned (sym z ∙ f) ∙ h in cc))

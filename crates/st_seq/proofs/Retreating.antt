@@ -16,7 +16,7 @@ use Rattle.st_marks.specs.Row.{CellMark, Counted, Touch, SameCell, merge, spread
 use Rattle.st_seq.specs.Changes.{StandsIn}
 use Rattle.st_seq.specs.Laws.{has_grown, not_again, same_grown, spread_of}
 use Rattle.st_seq.specs.Rows.{IsRowStep, NamesMoved, retreat_row}
-use Rattle.st_seq.specs.Sequence.{RowCanHold, RowLeadsOver, brought, cells_of, is_full_in, retreat_to, standing}
+use Rattle.st_seq.specs.Sequence.{RowCanHold, RowLeadsOver, nodes_brought, cells_of, is_full_in, retreat_to, standing_nodes}
 use Rattle.st_seq.proofs.Inverted.{backward}
 use Rattle.st_lemmas.proofs.Bools.{and-true, refuted-false, or-cases, or-left, or-right}
 
@@ -65,7 +65,7 @@ retreat_is b (item_kept {x = s} {y = t} {xs = c} {ys = d} e g) o h =
 
 -- ## What the row holds then
 
-same_standing : {c d : List Slot} (g : GainsItems SameCell c d) → standing (retreat_row g) ≡ standing c
+same_standing : {c d : List Slot} (g : GainsItems SameCell c d) → standing_nodes (retreat_row g) ≡ standing_nodes c
 same_standing no_more = refl
 same_standing (item_gained g) = same_standing g
 same_standing (item_kept {x = s} {y = t} {xs = c} e g) = λ i. cond s.full (sym e.1 i ∷ same_standing g i) (same_standing g i)
@@ -102,15 +102,15 @@ holds_back {c} {d} g h k = record {
 
 -- ## Nodes that come in with new cells
 
-none_brought : (m : Nodes) (c : CellId) (n : NodeId) (a b : Bool) (x : NodeId) (xs : List CellMark) → brought (step_cell m c n a b ∷ xs) x ≡ brought xs x
-none_brought m c n true true x xs = elim (m n) as (λ z. brought (cond z (Touch c n Stay) Counted ∷ xs) x ≡ brought xs x) [ true ↦ refl | false ↦ refl ]
+none_brought : (m : Nodes) (c : CellId) (n : NodeId) (a b : Bool) (x : NodeId) (xs : List CellMark) → nodes_brought (step_cell m c n a b ∷ xs) x ≡ nodes_brought xs x
+none_brought m c n true true x xs = elim (m n) as (λ z. nodes_brought (cond z (Touch c n Stay) Counted ∷ xs) x ≡ nodes_brought xs x) [ true ↦ refl | false ↦ refl ]
 none_brought m c n true false x xs = refl
 none_brought m c n false true x xs = refl
 none_brought m c n false false x xs = refl
 
-brought_in : (m : Nodes) {c d : List Slot} (g : GainsItems SameCell c d) (n : NodeId) → brought (step_row m g) n ≡ true → StandsIn n d
+brought_in : (m : Nodes) {c d : List Slot} (g : GainsItems SameCell c d) (n : NodeId) → nodes_brought (step_row m g) n ≡ true → StandsIn n d
 brought_in m no_more n e = cc
-brought_in m (item_gained {y = t} g) n e = elim (or-cases (t.full && same_node t.node n) (brought (step_row m g) n) e) [
+brought_in m (item_gained {y = t} g) n e = elim (or-cases (t.full && same_node t.node n) (nodes_brought (step_row m g) n) e) [
   | inl f ↦ (let r = and-true t.full (same_node t.node n) f in inl (same_node-true t.node n r.1, r.0))
   | inr f ↦ inr (brought_in m g n f)
 ]
@@ -128,26 +128,26 @@ kept_in (item_gained g) n w = inr (kept_in g n w)
 kept_in (item_kept a g) n (inl w) = inl w
 kept_in (item_kept a g) n (inr w) = inr (kept_in g n w)
 
-stands_first : (s : Slot) (d : List Slot) (n : NodeId) (b : Bool) → s.full ≡ b → (AllByRecursion (λ (k : NodeId). k ≢ n) (standing d) → StandsIn n d → ⊥) → AllByRecursion (λ (k : NodeId). k ≢ n) (cond b (s.node ∷ standing d) (standing d)) → StandsIn n (s ∷ d) → ⊥
+stands_first : (s : Slot) (d : List Slot) (n : NodeId) (b : Bool) → s.full ≡ b → (AllByRecursion (λ (k : NodeId). k ≢ n) (standing_nodes d) → StandsIn n d → ⊥) → AllByRecursion (λ (k : NodeId). k ≢ n) (cond b (s.node ∷ standing_nodes d) (standing_nodes d)) → StandsIn n (s ∷ d) → ⊥
 stands_first s d n true e rest h (inl w) = h.0 w.0
 stands_first s d n true e rest h (inr w) = rest h.1 w
 stands_first s d n false e rest h (inl w) = let q : ◌≡◌ {A = Bool} false true = sym e ∙ w.1 in cc
 stands_first s d n false e rest h (inr w) = rest h w
 
-pub stands_not : (d : List Slot) (n : NodeId) → AllByRecursion (λ (k : NodeId). k ≢ n) (standing d) → StandsIn n d → ⊥
+pub stands_not : (d : List Slot) (n : NodeId) → AllByRecursion (λ (k : NodeId). k ≢ n) (standing_nodes d) → StandsIn n d → ⊥
 stands_not [] n h w = w
 stands_not (s ∷ d) n h w = stands_first s d n s.full refl (stands_not d n) h w
 
-pub stand_others : (s : Slot) (d : List Slot) → AreDistinct (λ (n : NodeId). n) (standing (s ∷ d)) → (s.full ≡ true → AllByRecursion (λ (k : NodeId). k ≢ s.node) (standing d)) × AreDistinct (λ (n : NodeId). n) (standing d)
+pub stand_others : (s : Slot) (d : List Slot) → AreDistinct (λ (n : NodeId). n) (standing_nodes (s ∷ d)) → (s.full ≡ true → AllByRecursion (λ (k : NodeId). k ≢ s.node) (standing_nodes d)) × AreDistinct (λ (n : NodeId). n) (standing_nodes d)
 stand_others s d = go s.full
   where
-    go : (b : Bool) → AreDistinct (λ (n : NodeId). n) (cond b (s.node ∷ standing d) (standing d)) → (b ≡ true → AllByRecursion (λ (k : NodeId). k ≢ s.node) (standing d)) × AreDistinct (λ (n : NodeId). n) (standing d)
+    go : (b : Bool) → AreDistinct (λ (n : NodeId). n) (cond b (s.node ∷ standing_nodes d) (standing_nodes d)) → (b ≡ true → AllByRecursion (λ (k : NodeId). k ≢ s.node) (standing_nodes d)) × AreDistinct (λ (n : NodeId). n) (standing_nodes d)
     go true h = ((λ e. h.0), h.1)
     go false h = ((λ e. cc), h)
 
-none_both : (m : Nodes) {c d : List Slot} (g : GainsItems SameCell c d) → AreDistinct (λ (n : NodeId). n) (standing d) → (n : NodeId) → brought (step_row m g) n ≡ true → StandsKept n g → ⊥
+none_both : (m : Nodes) {c d : List Slot} (g : GainsItems SameCell c d) → AreDistinct (λ (n : NodeId). n) (standing_nodes d) → (n : NodeId) → nodes_brought (step_row m g) n ≡ true → StandsKept n g → ⊥
 none_both m no_more o n e k = k
-none_both m (item_gained {y = t} {ys = d} g) o n e k = elim (or-cases (t.full && same_node t.node n) (brought (step_row m g) n) e) [
+none_both m (item_gained {y = t} {ys = d} g) o n e k = elim (or-cases (t.full && same_node t.node n) (nodes_brought (step_row m g) n) e) [
   | inl f ↦ (let r = and-true t.full (same_node t.node n) f in stands_not d t.node ((stand_others t d o).0 r.0) (subst (λ x. StandsIn x d) (sym (same_node-true t.node n r.1)) (kept_in g n k)))
   | inr f ↦ none_both m g (stand_others t d o).1 n f k
 ]
@@ -172,20 +172,20 @@ back_named m b no_more h = refl
 back_named m b (item_gained {y = t} g) h = λ i. left_as m (either m b) t.cell t.node t.full false (λ e f. cc) i ∷ back_named m b g h i
 back_named m b (item_kept {x = s} {y = t} a g) h = λ i. left_as m (either m b) t.cell t.node t.full s.full (λ e f. or_none (m t.node) (b t.node) (h t.node (inl (refl, e)))) i ∷ back_named m b g (λ n w. h n (inr w)) i
 
-back_moved : (m b : Nodes) {c d : List Slot} (g : GainsItems SameCell c d) → NamesMoved m g → ((n : NodeId) → brought (step_row m g) n ≡ true → b n ≡ true) → NamesMoved (either m b) (backward g)
+back_moved : (m b : Nodes) {c d : List Slot} (g : GainsItems SameCell c d) → NamesMoved m g → ((n : NodeId) → nodes_brought (step_row m g) n ≡ true → b n ≡ true) → NamesMoved (either m b) (backward g)
 back_moved m b no_more w h = tt
-back_moved m b (item_gained {y = t} g) w h = (λ q. or-right (m t.node) (b t.node) (h t.node (ap (λ x. x || brought (step_row m g) t.node) (λ i. full t.full q i && same_node-itself t.node i))), back_moved m b g w (λ n e. h n (or-right (t.full && same_node t.node n) (brought (step_row m g) n) e)))
+back_moved m b (item_gained {y = t} g) w h = (λ q. or-right (m t.node) (b t.node) (h t.node (ap (λ x. x || nodes_brought (step_row m g) t.node) (λ i. full t.full q i && same_node-itself t.node i))), back_moved m b g w (λ n e. h n (or-right (t.full && same_node t.node n) (nodes_brought (step_row m g) n) e)))
   where
     full : (x : Bool) → x ≢ false → x ≡ true
     full true q = refl
     full false q = absurd (q refl)
 back_moved m b (item_kept {x = s} {y = t} a g) w h = (λ q. or-left (m t.node) (b t.node) (ap m (sym a.1) ∙ w.0 (λ e. q (sym e))), back_moved m b g w.1 (λ n e. h n (none_brought m s.cell s.node s.full t.full n (step_row m g) ∙ e)))
 
-pub back_leads : (m : Nodes) (c d : List Slot) (marks back : List Mark) (l : RowLeadsOver m c d marks) → IsRowStep m d (retreat_row l.step.grows) back → RowLeadsOver (either m (brought (spread marks))) d (retreat_to c d) back
+pub back_leads : (m : Nodes) (c d : List Slot) (marks back : List Mark) (l : RowLeadsOver m c d marks) → IsRowStep m d (retreat_row l.step.grows) back → RowLeadsOver (either m (nodes_brought (spread marks))) d (retreat_to c d) back
 back_leads m c d marks back l r =
     let g = l.step.grows in
-    let b = brought (spread marks) in
-    let listed : (n : NodeId) → b n ≡ brought (step_row m g) n = λ n. ap (λ x. brought x n) (spread_of marks (step_row m g) l.step.says) in
+    let b = nodes_brought (spread marks) in
+    let listed : (n : NodeId) → b n ≡ nodes_brought (step_row m g) n = λ n. ap (λ x. nodes_brought x n) (spread_of marks (step_row m g) l.step.says) in
     let holds = holds_back g l.before l.after in
     let none : (n : NodeId) → StandsKept n g → b n ≡ false = λ n w. refuted-false (b n) (λ e. none_both m g l.after.stand_once n (sym (listed n) ∙ e) w) in
     let step : IsRowStep (either m b) d (retreat_row g) back = record { grows = backward g; says = r.says ∙ ap merge ((same_grown m r.grows (backward g) holds.once).0 ∙ back_named m b g none) } in

@@ -20,7 +20,7 @@ use Rattle.st_marks.specs.Row.{CellMark, Counted, Gap, Touch, Make, Fill, RowPar
 use Rattle.st_marks.specs.How.{is_here}
 use Rattle.st_seq.specs.inside.NormalForm.{places, makes_cell, puts_found, has_cell, stands_in, may_put, may_make, is_allowed, are_allowed}
 use Rattle.st_seq.specs.Sequence.{RowCanHold, RowFits, cells_of, made_in}
-use Rattle.st_seq.proofs.Rebased.{is-here, not-here, moved}
+use Rattle.st_seq.proofs.Rebased.{is-here, not-here, moved_how}
 use Rattle.st_seq.proofs.Laid.{Groups, groups_of, embeds, makes, makes_them, has_makes, behind_cell, Lays, FoundAt, Says, behind, lead, found_says, found_slot, found_mark, has_slot, has_mark, one_cell, one_stands, in_row, in_cells}
 use Rattle.st_lemmas.proofs.Bools.{and-true, not-true, true-false, or-right}
 
@@ -328,7 +328,7 @@ module _ (rev : Rev) (new : List NodeId) {c : List Slot} {xs : List CellMark} (l
           no_touch (Make a m b) v q = cc
           no_touch (Fill a m) v q = cc
 
-      left_for : (o : Option CellId) (b : Bool) → b ≡ true → moved (go_to o b) ≡ Leave
+      left_for : (o : Option CellId) (b : Bool) → b ≡ true → moved_how (go_to o b) ≡ Leave
       left_for None true e = refl
       left_for None false e = cc
       left_for (Some a) b e = refl

@@ -5,7 +5,7 @@ use Rattle.st_marks.specs.Row.{CellMark, Counted, Gap, Touch, Make, Fill, counte
 use Rattle.st_marks.specs.Listings.{cells_before, cells_made}
 use Rattle.st_seq.specs.Changes.{may_list}
 use Rattle.st_seq.specs.Pieces.{both_counted}
-use Rattle.st_seq.specs.Walks.{CellPiece, Both, in_turn, meeting, beside}
+use Rattle.st_seq.specs.Walks.{CellPiece, Both, in_turn, meeting_piece, beside}
 
 pub map-both_counted : (f : CellPiece → CellMark) (k : ℕ) → f (Both Counted Counted) ≡ Counted → counted_cells k [] ≡ map f (both_counted k)
 map-both_counted f zero e = refl
@@ -60,7 +60,7 @@ found_length (Touch c n h ∷ ys) = omega (arith, found_length ys)
 found_length (Make c n b ∷ ys) = omega (arith, found_length ys)
 found_length (Fill c n ∷ ys) = omega (arith, found_length ys)
 
-meeting_length : (a : CellMark) (rest : List CellMark → List CellPiece) (m : ℕ) → ((ys : List CellMark) → length (rest ys) ≤ m + length (cells_made ys) + length (cells_before ys)) → (ys : List CellMark) → length (meeting a rest ys) ≤ m + length (cells_made ys) + length (cells_before ys)
+meeting_length : (a : CellMark) (rest : List CellMark → List CellPiece) (m : ℕ) → ((ys : List CellMark) → length (rest ys) ≤ m + length (cells_made ys) + length (cells_before ys)) → (ys : List CellMark) → length (meeting_piece a rest ys) ≤ m + length (cells_made ys) + length (cells_before ys)
 meeting_length a rest m h [] = omega arith
 meeting_length a rest m h (Counted ∷ ys) = omega (arith, h ys)
 meeting_length a rest m h (Gap c ∷ ys) = omega (arith, h ys)

@@ -28,14 +28,14 @@ abbrev pub cells_of : List Slot → List CellId
 cells_of c = map (λ (s : Slot). s.cell) c
 
 -- the nodes that stand in a row
-abbrev pub standing : List Slot → List NodeId
-standing [] = []
-standing (s ∷ c) = if s.full then s.node ∷ standing c else standing c
+abbrev pub standing_nodes : List Slot → List NodeId
+standing_nodes [] = []
+standing_nodes (s ∷ c) = if s.full then s.node ∷ standing_nodes c else standing_nodes c
 
 -- a row of a document can hold this: each cell is there once, each node stands in one of them, and the root in none
 pub record RowCanHold (c : List Slot) : Type 0 where
   pub once : AreDistinct (λ (s : Slot). s.cell) c
-  pub stand_once : AreDistinct (λ (n : NodeId). n) (standing c)
+  pub stand_once : AreDistinct (λ (n : NodeId). n) (standing_nodes c)
   pub no_root : StandsIn root c → ⊥
   pub short : length c < 2 ^ 32
 
@@ -124,8 +124,8 @@ brings_in n (Make c x b) = b && same_node x n
 brings_in n (Fill c x) = false
 
 -- the nodes that come in with the cells that the marks make
-abbrev pub brought : List CellMark → Nodes
-brought xs n = list_any (brings_in n) xs
+abbrev pub nodes_brought : List CellMark → Nodes
+nodes_brought xs n = list_any (brings_in n) xs
 
 -- each mentioned node that is in the later row was in the earlier one, and so was each of its cells into which the part
 -- puts a node

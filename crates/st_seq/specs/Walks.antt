@@ -19,10 +19,10 @@ in_turn (x ∷ xs) (y ∷ ys) = Both x y ∷ in_turn xs ys
 -- ## Side by side: both find the same
 
 -- a cell that the first finds, behind those that the second makes before it
-abbrev pub meeting : CellMark → (List CellMark → List CellPiece) → List CellMark → List CellPiece
-meeting x rest [] = []
-meeting x rest (Make c n b ∷ ys) = Then (Make c n b) ∷ meeting x rest ys
-meeting x rest (y ∷ ys) = Both x y ∷ rest ys
+abbrev pub meeting_piece : CellMark → (List CellMark → List CellPiece) → List CellMark → List CellPiece
+meeting_piece x rest [] = []
+meeting_piece x rest (Make c n b ∷ ys) = Then (Make c n b) ∷ meeting_piece x rest ys
+meeting_piece x rest (y ∷ ys) = Both x y ∷ rest ys
 
 -- what the first makes at a place stands left of what the second makes there
 abbrev pub beside : List CellMark → List CellMark → List CellPiece
@@ -30,4 +30,4 @@ beside [] [] = []
 beside [] (Make c n b ∷ ys) = Then (Make c n b) ∷ beside [] ys
 beside [] (y ∷ ys) = []
 beside (Make c n b ∷ xs) ys = First (Make c n b) ∷ beside xs ys
-beside (x ∷ xs) ys = meeting x (beside xs) ys
+beside (x ∷ xs) ys = meeting_piece x (beside xs) ys

@@ -1,6 +1,6 @@
 //! Marks that are read from the front.
 ghost use Rattle.std.specs.Prelude.{◌≡◌};
-ghost use Rattle.st_seq.specs.inside.Reading.{left, IsFirst};
+ghost use Rattle.st_seq.specs.inside.Reading.{marks_left, IsFirst};
 
 use st_ids::{CellId, NodeId};
 use st_marks::Mark;
@@ -20,7 +20,7 @@ pub enum Head {
 
 /// Takes what comes first, where so many counted cells stand before the marks.
 pub fn next<'a>(count: u32, marks: &'a [Mark]) -> (Head, &'a [Mark])
-    ensures { IsFirst (left count marks.now) result.0 result.1.now }
+    ensures { IsFirst (marks_left count marks.now) result.0 result.1.now }
 {
     if count > 0 {
         return (Head::Many(count), marks);

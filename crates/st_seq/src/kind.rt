@@ -28,7 +28,7 @@ impl FieldKind for Sequence {
     ghost use Rattle.st_seq.specs.NamedApart.{ApartAt, named_after, named_before, named_in_row};
     ghost use Rattle.st_seq.specs.OwnedEarly.{TurnsApartAt};
     ghost use Rattle.st_seq.specs.Rows.{NamesMoved};
-    ghost use Rattle.st_seq.specs.Sequence.{SeqPart, RowPartsAreJoined, RowCanHold, RowFits, RowKeeps, RowLeadsOver, brought, row_carried, row_change_of, retreat_to};
+    ghost use Rattle.st_seq.specs.Sequence.{SeqPart, RowPartsAreJoined, RowCanHold, RowFits, RowKeeps, RowLeadsOver, nodes_brought, row_carried, row_change_of, retreat_to};
 
     type Ctx = RowHeld;
 
@@ -54,7 +54,7 @@ impl FieldKind for Sequence {
 
     ghost IsStep = { λ m c d s. RowLeadsOver m c.cells d.cells s.marks };
 
-    ghost brings = { λ s. brought (spread s.marks) };
+    ghost brings = { λ s. nodes_brought (spread s.marks) };
 
     ghost HasGrown = { λ m c d. (g : GainsItems SameCell c.cells d.cells) × NamesMoved m g };
 

@@ -9,7 +9,7 @@ ghost use Rattle.st_seq.specs.Pieces.{cells_of_piece, IsOfCells};
 ghost use Rattle.st_seq.specs.Walks.{CellPiece, in_turn, beside};
 
 use crate::mark_builder::push;
-use crate::pieces::{Piece, Turn, met, turn_beside, turn_in_turn};
+use crate::pieces::{Piece, Turn, cells_met, turn_beside, turn_in_turn};
 use st_ids::{List, Or};
 use st_kind::Apart;
 use st_marks::Mark;
@@ -57,7 +57,7 @@ pub fn lay_in_turn<T: Table>(
                 ys,
             } => {
                 push(&mut out, table.mark(piece))?;
-                place += met(piece);
+                place += cells_met(piece);
                 x_left = x_count;
                 x_rest = xs;
                 y_left = y_count;
@@ -99,7 +99,7 @@ pub fn lay_beside<T: Table>(
                 ys,
             } => {
                 push(&mut out, table.mark(piece))?;
-                place += met(piece);
+                place += cells_met(piece);
                 x_left = x_count;
                 x_rest = xs;
                 y_left = y_count;

@@ -113,7 +113,7 @@ fn standing_after(mark: Mark, left: u32) -> Option<NamedAt>
 }
 
 /// How many cells a mark finds.
-pub fn found(mark: Mark) -> u32
+pub fn cells_found(mark: Mark) -> u32
     ensures { result ≡ length (cells_before (spread (mark ∷ []))) }
 {
     match mark {
@@ -189,7 +189,7 @@ fn named_before(alloc: Global, marks: &[Mark]) -> Result<Names, AllocError>
             name_before(*mark, left),
             standing_before(*mark, left),
         )?;
-        left += found(*mark);
+        left += cells_found(*mark);
     }
     Ok(out)
 }
@@ -230,7 +230,7 @@ fn named_in_row(alloc: Global, row: &[Slot]) -> Result<Names, AllocError>
 }
 
 /// What is kept of a name.
-pub fn named(names: &BTreeMap<Atom, NamedAt>, name: Atom) -> Option<NamedAt>
+pub fn name_entry(names: &BTreeMap<Atom, NamedAt>, name: Atom) -> Option<NamedAt>
     ensures { result ≡ get atom_cmp names.now name }
 {
     names.get(&name).copied()
@@ -241,7 +241,7 @@ fn keep(names: &mut BTreeMap<Atom, NamedAt>, name: NamedAt) -> Result<(), AllocE
     ensures { OnOk result ((a : Name) → get atom_cmp names.new a
         ≡ option_or (get atom_cmp names.old a) (first_named (name ∷ []) a)) }
 {
-    match named(names, name.name) {
+    match name_entry(names, name.name) {
         None => {
             names.insert(name.name, name)?;
             Ok(())
@@ -295,7 +295,7 @@ fn first_apart(first: &BTreeMap<Atom, NamedAt>, then: &[NamedAt]) -> Option<u32>
 {
     let mut place = None;
     for name in then {
-        place = lesser(place, clash(*name, named(first, name.name)));
+        place = lesser(place, clash(*name, name_entry(first, name.name)));
     }
     place
 }

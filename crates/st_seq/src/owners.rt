@@ -36,7 +36,7 @@ fn early_place(made: &Made, cell: CellId, node: NodeId, left: u32) -> Option<u32
         → ((a : Name) → get atom_cmp made.now.cells a ≡ first_named M a)
         → result ≡ early_at N M left (Some cell) (Some node) }
 {
-    if named(&made.nodes, node.0).is_some() && named(&made.cells, cell.0).is_none() {
+    if name_entry(&made.nodes, node.0).is_some() && name_entry(&made.cells, cell.0).is_none() {
         Some(left)
     } else {
         None
@@ -69,7 +69,7 @@ fn first_early(made: &Made, marks: &[Mark]) -> Option<u32>
     let mut left = 0;
     for mark in marks {
         place = lesser(place, early_mark(made, *mark, left));
-        left += found(*mark);
+        left += cells_found(*mark);
     }
     place
 }

@@ -2,7 +2,7 @@
 ghost use Rattle.std.specs.Prelude.{◌≡◌, ◌<◌, false, List as Seq};
 ghost use Rattle.st_marks.specs.Row.{CellMark, spread};
 ghost use Rattle.st_seq.specs.Reading.{cell_of};
-ghost use Rattle.st_seq.specs.inside.Reading.{left, is_made, is_make, IsFirst, IsOne};
+ghost use Rattle.st_seq.specs.inside.Reading.{marks_left, is_made, is_make, IsFirst, IsOne};
 ghost use Rattle.st_seq.specs.inside.Turns.{IsTurnInTurn, IsTurnBeside, found_count as met_by};
 
 use crate::cell_view::{after, before, is_same};
@@ -20,7 +20,7 @@ pub enum Piece {
 }
 
 /// How many cells of a piece both find.
-pub fn met(piece: Piece) -> u32
+pub fn cells_met(piece: Piece) -> u32
     ensures { result ≡ met_by piece }
 {
     match piece {
@@ -122,7 +122,7 @@ fn pair_beside<'a>(x: Head, xs: &'a [Mark], y: Head, ys: &'a [Mark]) -> Turn<'a>
 
 /// One turn, where the second listing finds what the first leaves; so many counted cells stand before the marks.
 pub fn turn_in_turn<'a>(x_count: u32, xs: &'a [Mark], y_count: u32, ys: &'a [Mark]) -> Turn<'a>
-    ensures { IsTurnInTurn (left x_count xs.now) (left y_count ys.now) result }
+    ensures { IsTurnInTurn (marks_left x_count xs.now) (marks_left y_count ys.now) result }
 {
     let (x, x_rest) = next(x_count, xs);
     let (y, y_rest) = next(y_count, ys);
@@ -164,8 +164,8 @@ fn turn_found<'a>(
     ys: &'a [Mark],
 ) -> Turn<'a>
     requires found { is_make x ≡ false }
-    requires first { IsFirst (left x_count xs.now) x x_rest.now }
-    ensures { IsTurnBeside (left x_count xs.now) (left y_count ys.now) result }
+    requires first { IsFirst (marks_left x_count xs.now) x x_rest.now }
+    ensures { IsTurnBeside (marks_left x_count xs.now) (marks_left y_count ys.now) result }
 {
     let (y, y_rest) = next(y_count, ys);
     match y {
@@ -198,7 +198,7 @@ fn turn_found<'a>(
 
 /// One turn, where both listings find the same; so many counted cells stand before the marks.
 pub fn turn_beside<'a>(x_count: u32, xs: &'a [Mark], y_count: u32, ys: &'a [Mark]) -> Turn<'a>
-    ensures { IsTurnBeside (left x_count xs.now) (left y_count ys.now) result }
+    ensures { IsTurnBeside (marks_left x_count xs.now) (marks_left y_count ys.now) result }
 {
     let (x, x_rest) = next(x_count, xs);
     match x {

@@ -99,7 +99,7 @@ impl<'a> Across<'a> {
     }
 
     /// What the step says of a cell that both find.
-    fn found(&self, x: Mark, y: Mark) -> Mark
+    fn found_mark(&self, x: Mark, y: Mark) -> Mark
         requires first { IsSingle x }
         requires then { IsSingle y }
         ensures { spread (result ∷ []) ≡ bridged_cell self.now.was_void self.now.is_void (get node_cmp self.now.seen.now) (cell_of x) (cell_of y) ∷ [] }
@@ -176,7 +176,7 @@ impl<'a> Table for Across<'a> {
     fn mark(&self, piece: Piece) -> Mark {
         match piece {
             Piece::Counted(k) => Mark::Skip(k),
-            Piece::Both(x, y) => self.found(x, y),
+            Piece::Both(x, y) => self.found_mark(x, y),
             Piece::First(x) => self.first(x),
             Piece::Then(y) => self.then(y),
         }

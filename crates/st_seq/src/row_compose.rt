@@ -34,7 +34,7 @@ fn filled_mark(cell: CellId, node: NodeId, then: Mark) -> Mark
 }
 
 /// What is said together of a cell that the first listing makes.
-fn made(cell: CellId, node: NodeId, full: bool, then: Mark) -> Mark
+fn made_mark(cell: CellId, node: NodeId, full: bool, then: Mark) -> Mark
     ensures composed { spread (result ∷ []) ≡ composed_cell (Make cell node full) (cell_of then) ∷ [] }
     ensures joined { spread (result ∷ []) ≡ joined_cell (Make cell node full) (cell_of then) ∷ [] }
 {
@@ -77,7 +77,7 @@ fn composed_mark(first: Mark, then: Mark) -> Mark
             _ => first,
         },
         Mark::Fill { cell, node } => filled_mark(cell, node, then),
-        Mark::Make { cell, node, full } => made(cell, node, full, then),
+        Mark::Make { cell, node, full } => made_mark(cell, node, full, then),
         _ => then,
     }
 }
@@ -141,7 +141,7 @@ fn joined_mark(first: Mark, then: Mark) -> Mark
             _ => first,
         },
         Mark::Fill { cell, node } => filled_mark(cell, node, then),
-        Mark::Make { cell, node, full } => made(cell, node, full, then),
+        Mark::Make { cell, node, full } => made_mark(cell, node, full, then),
         _ => then,
     }
 }

@@ -8,7 +8,7 @@ ghost use Rattle.st_marks.specs.Listings.{cells_before, cell_view};
 ghost use Rattle.st_seq.specs.Views.{DifferAt, row_views, view_of};
 ghost use Rattle.st_seq.specs.Differences.{first_difference, IsApart};
 ghost use Rattle.st_seq.specs.inside.Cells.{after_row};
-ghost use Rattle.st_seq.specs.inside.Reading.{left, is_make, IsFirst};
+ghost use Rattle.st_seq.specs.inside.Reading.{marks_left, is_make, IsFirst};
 ghost use Rattle.st_seq.specs.Rows.{IsRowStep};
 ghost use Rattle.st_seq.specs.inside.Turns.{IsSlotTurn};
 
@@ -90,7 +90,7 @@ fn found_turn<'a>(slots: &'a [Slot], head: Head, marks: &'a [Mark]) -> SlotTurn<
 
 /// One turn; so many counted cells stand before the marks.
 pub fn slot_turn<'a>(slots: &'a [Slot], count: u32, marks: &'a [Mark]) -> SlotTurn<'a>
-    ensures { IsSlotTurn slots.now (left count marks.now) result }
+    ensures { IsSlotTurn slots.now (marks_left count marks.now) result }
 {
     let (head, rest) = next(count, marks);
     match head {

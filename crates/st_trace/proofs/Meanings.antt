@@ -15,7 +15,8 @@ use Rattle.st_marks.specs.declared.intents.Intent.{Intent}
 use Rattle.st_marks.specs.Document.{Document}
 use Rattle.st_edits.specs.declared.names.NameCounters.{NameCounters}
 use Rattle.st_edits.specs.declared.names.Takes.TheVariants as field
-use Rattle.st_edits.specs.Paths.{and_then, field_at, row_length}
+use Rattle.st_ids.specs.Or.{and_then}
+use Rattle.st_edits.specs.Paths.{field_at, row_length}
 use Rattle.st_edits.specs.Resolve.{allowed_nodes, require, clear, insert, intent_to_insert, may_move, move, intent_to_move, need, empty_intent, intent_to_place, put, remove, intent_to_remove, resolve, rule_for, nodes_taken, walk, within_row}
 use Rattle.st_edits.proofs.Fits.{passed}
 

@@ -13,7 +13,7 @@ use Rattle.st_tree.specs.Node.{Node, node, Fields, no_fields, field, Nodes, no_n
 use Rattle.st_tree.specs.Size.{node_count, item_count}
 use Rattle.st_tree.specs.Form.{is_row_alone, keys_rise, fields_fit_leaf, has_form, fields_have_form, all_have_form}
 use Rattle.st_tree.specs.Preorder.{node_named, cell_named, cells_taken, cell_count, item_cells, is_array, at_of, tree_listed, fields_listed, items_listed, tops_listed, opening_listed}
-use Rattle.st_tree.specs.inside.Rebuilt.{Waiting, is_below, first_is_below, fields_of_node, fields_of_others, named_field, fields_above, with_parent, rebuilt}
+use Rattle.st_tree.specs.inside.Rebuilt.{Waiting, is_below, first_is_below, fields_of_node, fields_of_others, named_field, fields_above, with_parent, trees_rebuilt}
 use Rattle.st_tree.specs.declared.flat.FlatAt.{FlatAt}
 use Rattle.st_tree.specs.declared.flat.FlatAt.TheVariants.{Root, Top}
 use Rattle.st_tree.specs.declared.flat.FlatNode.{FlatNode}
@@ -142,46 +142,46 @@ fields_back rev owner c None (field key false items rest) h = keyed_back rev own
 -- ---- a list of nodes builds its trees back
 
 mutual
-  tree_rebuilt : (rev : Rev) (at : FlatAt) (n c : ℕ) (t : Node) (rest : List FlatNode) → has_form t ≡ true → NoneFrom rev n (rebuilt rest)
-      → rebuilt (tree_listed rev at n c t ++ rest) ≡ (at, t) ∷ rebuilt rest
+  tree_rebuilt : (rev : Rev) (at : FlatAt) (n c : ℕ) (t : Node) (rest : List FlatNode) → has_form t ≡ true → NoneFrom rev n (trees_rebuilt rest)
+      → trees_rebuilt (tree_listed rev at n c t ++ rest) ≡ (at, t) ∷ trees_rebuilt rest
   tree_rebuilt rev at n c (node ty leaf fields) rest form none =
       let parts = and-true (fields_fit_leaf leaf fields) (fields_have_form fields) form in
-      let below = fields_rebuilt rev n (n + 1) c fields rest parts.1 (omega arith) (NoneFrom-later rev n (n + 1) (rebuilt rest) (omega arith) none) in
+      let below = fields_rebuilt rev n (n + 1) c fields rest parts.1 (omega arith) (NoneFrom-later rev n (n + 1) (trees_rebuilt rest) (omega arith) none) in
       let own = fields_below rev n c fields in
       let after = none n (omega arith) in
       let x : FlatNode = record { node = node_named rev n; ty = ty; leaf = leaf; row = is_array fields; at = at } in
       ap (with_parent x) below
-      ∙ (λ i. (at, node ty leaf (fields_above (is_array fields) (mine_all (node_named rev n) (placed_fields rev n c fields) (rebuilt rest) own after i))) ∷ others_all (node_named rev n) (placed_fields rev n c fields) (rebuilt rest) own after i)
-      ∙ ap (λ fs. (at, node ty leaf fs) ∷ rebuilt rest) (fields_back rev n c leaf fields parts.0)
+      ∙ (λ i. (at, node ty leaf (fields_above (is_array fields) (mine_all (node_named rev n) (placed_fields rev n c fields) (trees_rebuilt rest) own after i))) ∷ others_all (node_named rev n) (placed_fields rev n c fields) (trees_rebuilt rest) own after i)
+      ∙ ap (λ fs. (at, node ty leaf fs) ∷ trees_rebuilt rest) (fields_back rev n c leaf fields parts.0)
 
-  fields_rebuilt : (rev : Rev) (owner n c : ℕ) (fs : Fields) (rest : List FlatNode) → fields_have_form fs ≡ true → owner < n → NoneFrom rev n (rebuilt rest)
-      → rebuilt (fields_listed rev owner n c fs ++ rest) ≡ placed_fields rev owner c fs ++ rebuilt rest
+  fields_rebuilt : (rev : Rev) (owner n c : ℕ) (fs : Fields) (rest : List FlatNode) → fields_have_form fs ≡ true → owner < n → NoneFrom rev n (trees_rebuilt rest)
+      → trees_rebuilt (fields_listed rev owner n c fs ++ rest) ≡ placed_fields rev owner c fs ++ trees_rebuilt rest
   fields_rebuilt rev owner n c no_fields rest form h none = refl
   fields_rebuilt rev owner n c (field key row items more) rest form h none =
       let parts = and-true (all_have_form items) (fields_have_form more) form in
       let k = n + item_count items in
       let d = c + item_cells row items in
-      let later = fields_rebuilt rev owner k d more rest parts.1 (omega arith) (NoneFrom-later rev n k (rebuilt rest) (omega arith) none) in
-      let still = subst (NoneFrom rev n) (sym later) (NoneFrom-fields rev owner n d more (rebuilt rest) h none) in
-      ap rebuilt (append_assoc (items_listed rev owner key row n c items) (fields_listed rev owner k d more) rest)
+      let later = fields_rebuilt rev owner k d more rest parts.1 (omega arith) (NoneFrom-later rev n k (trees_rebuilt rest) (omega arith) none) in
+      let still = subst (NoneFrom rev n) (sym later) (NoneFrom-fields rev owner n d more (trees_rebuilt rest) h none) in
+      ap trees_rebuilt (append_assoc (items_listed rev owner key row n c items) (fields_listed rev owner k d more) rest)
       ∙ items_rebuilt rev owner key row n c items (fields_listed rev owner k d more ++ rest) parts.0 h still
       ∙ ap (λ ws. placed_items rev owner key row c items ++ ws) later
-      ∙ sym (append_assoc (placed_items rev owner key row c items) (placed_fields rev owner d more) (rebuilt rest))
+      ∙ sym (append_assoc (placed_items rev owner key row c items) (placed_fields rev owner d more) (trees_rebuilt rest))
 
-  items_rebuilt : (rev : Rev) (owner : ℕ) (key : List ℕ) (row : Bool) (n c : ℕ) (ts : Nodes) (rest : List FlatNode) → all_have_form ts ≡ true → owner < n → NoneFrom rev n (rebuilt rest)
-      → rebuilt (items_listed rev owner key row n c ts ++ rest) ≡ placed_items rev owner key row c ts ++ rebuilt rest
+  items_rebuilt : (rev : Rev) (owner : ℕ) (key : List ℕ) (row : Bool) (n c : ℕ) (ts : Nodes) (rest : List FlatNode) → all_have_form ts ≡ true → owner < n → NoneFrom rev n (trees_rebuilt rest)
+      → trees_rebuilt (items_listed rev owner key row n c ts ++ rest) ≡ placed_items rev owner key row c ts ++ trees_rebuilt rest
   items_rebuilt rev owner key row n c no_nodes rest form h none = refl
   items_rebuilt rev owner key row n c (first t ts) rest form h none =
       let parts = and-true (has_form t) (all_have_form ts) form in
       let k = n + node_count t in
       let d = c + (cells_taken row + cell_count t) in
-      let later = items_rebuilt rev owner key row k d ts rest parts.1 (omega arith) (NoneFrom-later rev n k (rebuilt rest) (omega arith) none) in
-      let still = subst (NoneFrom rev n) (sym later) (NoneFrom-items rev owner n key row d ts (rebuilt rest) h none) in
-      ap rebuilt (append_assoc (tree_listed rev (at_of rev owner key row c) n (c + cells_taken row) t) (items_listed rev owner key row k d ts) rest)
+      let later = items_rebuilt rev owner key row k d ts rest parts.1 (omega arith) (NoneFrom-later rev n k (trees_rebuilt rest) (omega arith) none) in
+      let still = subst (NoneFrom rev n) (sym later) (NoneFrom-items rev owner n key row d ts (trees_rebuilt rest) h none) in
+      ap trees_rebuilt (append_assoc (tree_listed rev (at_of rev owner key row c) n (c + cells_taken row) t) (items_listed rev owner key row k d ts) rest)
       ∙ tree_rebuilt rev (at_of rev owner key row c) n (c + cells_taken row) t (items_listed rev owner key row k d ts ++ rest) parts.0 still
       ∙ ap (λ ws. (at_of rev owner key row c, t) ∷ ws) later
 
-tops_rebuilt : (rev : Rev) (n c : ℕ) (ts : Nodes) → all_have_form ts ≡ true → rebuilt (tops_listed rev n c ts) ≡ placed_tops rev c ts
+tops_rebuilt : (rev : Rev) (n c : ℕ) (ts : Nodes) → all_have_form ts ≡ true → trees_rebuilt (tops_listed rev n c ts) ≡ placed_tops rev c ts
 tops_rebuilt rev n c no_nodes form = refl
 tops_rebuilt rev n c (first t ts) form =
     let parts = and-true _ _ form in
@@ -195,11 +195,11 @@ tops_placed : (rev : Rev) (c : ℕ) (ts : Nodes) → nodes_of (map (λ w. w.1) (
 tops_placed rev c no_nodes = refl
 tops_placed rev c (first t ts) = ap (first t) (tops_placed rev (c + (1 + cell_count t)) ts)
 
-pub tops_back : (ts us : List Tree) (rev : Rev) (n c : ℕ) → all_have_form (trees_view us) ≡ true → map view ts ≡ map (λ w. w.1) (rebuilt (tops_listed rev n c (trees_view us))) → ts ≡ us
+pub tops_back : (ts us : List Tree) (rev : Rev) (n c : ℕ) → all_have_form (trees_view us) ≡ true → map view ts ≡ map (λ w. w.1) (trees_rebuilt (tops_listed rev n c (trees_view us))) → ts ≡ us
 tops_back ts us rev n c form e = same_trees ts us (ap nodes_of (e ∙ ap (λ ws. map (λ (w : Waiting). w.1) ws) (tops_rebuilt rev n c (trees_view us) form)) ∙ tops_placed rev c (trees_view us))
 
-opening_rebuilt : (t : Node) → has_form t ≡ true → rebuilt (opening_listed t) ≡ (Root, t) ∷ []
-opening_rebuilt t form = let rev : Rev = record { session = 0; num = 0 } in ap rebuilt (sym (append-nil (tree_listed rev Root 0 0 t))) ∙ tree_rebuilt rev Root 0 0 t [] form (λ m later. refl)
+opening_rebuilt : (t : Node) → has_form t ≡ true → trees_rebuilt (opening_listed t) ≡ (Root, t) ∷ []
+opening_rebuilt t form = let rev : Rev = record { session = 0; num = 0 } in ap trees_rebuilt (sym (append-nil (tree_listed rev Root 0 0 t))) ∙ tree_rebuilt rev Root 0 0 t [] form (λ m later. refl)
 
-pub opening_back : (ts : List Tree) (u : Tree) → has_form (view u) ≡ true → map view ts ≡ map (λ w. w.1) (rebuilt (opening_listed (view u))) → ts ≡ u ∷ []
+pub opening_back : (ts : List Tree) (u : Tree) → has_form (view u) ≡ true → map view ts ≡ map (λ w. w.1) (trees_rebuilt (opening_listed (view u))) → ts ≡ u ∷ []
 opening_back ts u form e = same_trees ts (u ∷ []) (ap nodes_of (e ∙ ap (λ ws. map (λ (w : Waiting). w.1) ws) (opening_rebuilt (view u) form)))

@@ -6,7 +6,7 @@ ghost use Rattle.st_tree.specs.Form.{has_form, all_have_form};
 ghost use Rattle.st_tree.specs.Preorder.{tops_listed, opening_listed};
 ghost use Rattle.st_tree.specs.Node.{node as node_of, field, no_fields, view, trees_view, nodes_of, fields_of};
 ghost use Rattle.st_tree.specs.inside.Node.{field_view, fields_view};
-ghost use Rattle.st_tree.specs.inside.Rebuilt.{is_below, first_is_below, fields_of_node, fields_of_others, named_field, fields_above, with_parent, rebuilt, waiting_view};
+ghost use Rattle.st_tree.specs.inside.Rebuilt.{is_below, first_is_below, fields_of_node, fields_of_others, named_field, fields_above, with_parent, trees_rebuilt, waiting_view};
 
 use crate::flat::{Flat, FlatAt, FlatNode};
 use crate::tree::{Field, Tree};
@@ -162,7 +162,7 @@ fn hang(alloc: Global, node: &FlatNode, waiting: &mut List<Placed>) -> Result<()
 
 // Builds up all nodes of a list, the last first.
 fn build_up(alloc: Global, nodes: &List<FlatNode>) -> Result<List<Placed>, AllocError>
-    ensures { IfOk result (λ ps. waiting_view ps ≡ rebuilt nodes.now) }
+    ensures { IfOk result (λ ps. waiting_view ps ≡ trees_rebuilt nodes.now) }
 {
     let mut waiting = List::new(alloc);
     let mut left = nodes.len();

@@ -8,8 +8,8 @@ use Rattle.st_clusters.specs.declared.ids.SessionIds.{SessionIds}
 use Rattle.st_clusters.specs.declared.ids.Unknown.{Unknown}
 
 -- the place of the first session that has a free number in its span
-abbrev pub spanning : ℕ → List SessionIds → Option ℕ
-spanning free ss = position (λ (x : SessionIds). nat_lt (ahead (free_number x.uuid) free) (2 ^ 32)) ss
+abbrev pub session_spanning : ℕ → List SessionIds → Option ℕ
+session_spanning free ss = position (λ (x : SessionIds). nat_lt (ahead (free_number x.uuid) free) (2 ^ 32)) ss
 
 -- the id of that number, if the session at a place generated it
 abbrev pub id_at : ℕ → SessionIds → ℕ → Result Rev Unknown

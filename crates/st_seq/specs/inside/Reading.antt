@@ -8,8 +8,8 @@ use Rattle.st_seq.specs.Reading.{cell_of}
 use Rattle.st_seq.specs.Pieces.{IsSingle}
 
 -- so many counted cells, and then what the marks say
-abbrev pub left : ℕ → List Mark → List CellMark
-left k ms = counted_cells k (spread ms)
+abbrev pub marks_left : ℕ → List Mark → List CellMark
+marks_left k ms = counted_cells k (spread ms)
 
 -- whether a cell is made
 abbrev pub is_made : CellMark → Bool
@@ -22,7 +22,7 @@ is_made (Fill c n) = false
 -- what comes first, and the marks behind it
 abbrev pub IsFirst : List CellMark → Head → List Mark → Type 0
 IsFirst cells Head.End ms = (cells ≡ []) × (ms ≡ [])
-IsFirst cells (Head.Many k) ms = (0 < k) × (cells ≡ left k ms)
+IsFirst cells (Head.Many k) ms = (0 < k) × (cells ≡ marks_left k ms)
 IsFirst cells (Head.Make c n b) ms = cells ≡ Make c n b ∷ spread ms
 IsFirst cells (Head.Cell m) ms = (is_skip m ≡ false) × (cells ≡ cell_of m ∷ spread ms) × (is_made (cell_of m) ≡ false)
 
@@ -37,4 +37,4 @@ is_make (Head.Cell m) = false
 abbrev pub IsOne : Head → Option (Mark × ℕ) → Type 0
 IsOne head None = (cells : List CellMark) (ms : List Mark) → IsFirst cells head ms → cells ≡ []
 IsOne head (Some p) = (cells : List CellMark) (ms : List Mark) → IsFirst cells head ms
-    → IsSingle p.0 × (cells ≡ cell_of p.0 ∷ left p.1 ms) × (is_make head ≡ false → is_made (cell_of p.0) ≡ false)
+    → IsSingle p.0 × (cells ≡ cell_of p.0 ∷ marks_left p.1 ms) × (is_make head ≡ false → is_made (cell_of p.0) ≡ false)

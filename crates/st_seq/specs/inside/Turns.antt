@@ -7,7 +7,7 @@ use Rattle.st_seq.specs.Views.{row_views}
 use Rattle.st_seq.specs.Differences.{first_difference}
 use Rattle.st_seq.specs.inside.Cells.{after_row}
 use Rattle.st_seq.specs.declared.rows.SlotTurn.{SlotTurn}
-use Rattle.st_seq.specs.inside.Reading.{left}
+use Rattle.st_seq.specs.inside.Reading.{marks_left}
 use Rattle.st_seq.specs.Pieces.{cells_of_piece, IsOfCells}
 use Rattle.st_seq.specs.Walks.{CellPiece, Both, First, Then, in_turn, beside}
 use Rattle.st_seq.specs.declared.pieces.Piece.{Piece}
@@ -26,10 +26,10 @@ abbrev pub GoesOn : (List CellMark → List CellMark → List CellPiece) → (Li
 GoesOn walk shows xs ys Turn.Done = (walk xs ys ≡ []) × (first_difference (shows xs) (cells_before ys) ≡ None)
 GoesOn walk shows xs ys Turn.Apart = first_difference (shows xs) (cells_before ys) ≡ Some 0
 GoesOn walk shows xs ys (Turn.Go piece p more q rest) =
-    IsOfCells piece × (walk xs ys ≡ cells_of_piece piece ++ walk (left p more.now) (left q rest.now))
-    × (first_difference (shows xs) (cells_before ys) ≡ option_map (λ k. found_count piece + k) (first_difference (shows (left p more.now)) (cells_before (left q rest.now))))
-    × (length (left p more.now) + length (left q rest.now) < length xs + length ys)
-    × (length (cells_before ys) ≡ found_count piece + length (cells_before (left q rest.now)))
+    IsOfCells piece × (walk xs ys ≡ cells_of_piece piece ++ walk (marks_left p more.now) (marks_left q rest.now))
+    × (first_difference (shows xs) (cells_before ys) ≡ option_map (λ k. found_count piece + k) (first_difference (shows (marks_left p more.now)) (cells_before (marks_left q rest.now))))
+    × (length (marks_left p more.now) + length (marks_left q rest.now) < length xs + length ys)
+    × (length (cells_before ys) ≡ found_count piece + length (cells_before (marks_left q rest.now)))
 
 -- one turn, where the second listing finds what the first leaves
 abbrev pub IsTurnInTurn : List CellMark → List CellMark → Turn → Type 0
@@ -46,7 +46,7 @@ abbrev pub IsSlotTurn : List Slot → List CellMark → SlotTurn → Type 0
 IsSlotTurn c xs SlotTurn.Done = (after_row c xs ≡ []) × (first_difference (row_views c) (cells_before xs) ≡ None)
 IsSlotTurn c xs SlotTurn.Apart = first_difference (row_views c) (cells_before xs) ≡ Some 0
 IsSlotTurn c xs (SlotTurn.Go slot found d k rest) =
-    (after_row c xs ≡ slot ∷ after_row d.now (left k rest.now))
-    × (first_difference (row_views c) (cells_before xs) ≡ option_map (λ j. found + j) (first_difference (row_views d.now) (cells_before (left k rest.now))))
-    × (length d.now + length (left k rest.now) < length c + length xs)
-    × (length (cells_before xs) ≡ found + length (cells_before (left k rest.now)))
+    (after_row c xs ≡ slot ∷ after_row d.now (marks_left k rest.now))
+    × (first_difference (row_views c) (cells_before xs) ≡ option_map (λ j. found + j) (first_difference (row_views d.now) (cells_before (marks_left k rest.now))))
+    × (length d.now + length (marks_left k rest.now) < length c + length xs)
+    × (length (cells_before xs) ≡ found + length (cells_before (marks_left k rest.now)))

@@ -55,9 +55,9 @@ fields_above false ws = fields_of (map named_field ws)
 abbrev pub with_parent : FlatNode → List Waiting → List Waiting
 with_parent x ws = (x.at, node x.ty x.leaf (fields_above x.row (fields_of_node x.node ws))) ∷ fields_of_others x.node ws
 
-abbrev pub rebuilt : List FlatNode → List Waiting
-rebuilt [] = []
-rebuilt (x ∷ xs) = with_parent x (rebuilt xs)
+abbrev pub trees_rebuilt : List FlatNode → List Waiting
+trees_rebuilt [] = []
+trees_rebuilt (x ∷ xs) = with_parent x (trees_rebuilt xs)
 
 -- what waits in the program, where the first stands last
 abbrev pub waiting_view : List Placed → List Waiting

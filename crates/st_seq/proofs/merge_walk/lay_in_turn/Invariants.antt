@@ -3,17 +3,17 @@ use Rattle.st_marks.specs.Row.{spread}
 use Rattle.st_marks.specs.Listings.{cells_after, cells_before}
 use Rattle.st_seq.specs.Differences.{first_difference}
 use Rattle.st_seq.specs.Merged.{IsMerged}
-use Rattle.st_seq.specs.inside.Reading.{left}
+use Rattle.st_seq.specs.inside.Reading.{marks_left}
 use Rattle.st_seq.specs.Walks.{in_turn}
 use Rattle.st_seq.proofs.merge_walk.lay_in_turn.Given as goal
 
 abbrev pub invariant-cells : goal.invariant-cells
 invariant-cells g l = record {
   merged : IsMerged l.out;
-  whole : spread l.out ++ map (g.T.Table.cell l.table) (in_turn (left l.x_left l.x_rest) (left l.y_left l.y_rest)) ≡ map (g.T.Table.cell l.table) (in_turn (spread l.first) (spread l.then));
-  place : l.place + length (cells_before (left l.y_left l.y_rest)) ≡ length (cells_before (spread l.then));
-  apart : first_difference (cells_after (spread l.first)) (cells_before (spread l.then)) ≡ option_map (λ k. l.place + k) (first_difference (cells_after (left l.x_left l.x_rest)) (cells_before (left l.y_left l.y_rest)));
+  whole : spread l.out ++ map (g.T.Table.cell l.table) (in_turn (marks_left l.x_left l.x_rest) (marks_left l.y_left l.y_rest)) ≡ map (g.T.Table.cell l.table) (in_turn (spread l.first) (spread l.then));
+  place : l.place + length (cells_before (marks_left l.y_left l.y_rest)) ≡ length (cells_before (spread l.then));
+  apart : first_difference (cells_after (spread l.first)) (cells_before (spread l.then)) ≡ option_map (λ k. l.place + k) (first_difference (cells_after (marks_left l.x_left l.x_rest)) (cells_before (marks_left l.y_left l.y_rest)));
 }
 
 abbrev pub decreases-cells : goal.decreases-cells
-decreases-cells g l = length (left l.x_left l.x_rest) + length (left l.y_left l.y_rest)
+decreases-cells g l = length (marks_left l.x_left l.x_rest) + length (marks_left l.y_left l.y_rest)

@@ -7,7 +7,7 @@ use Rattle.st_doc.proofs.doc.Doc.nodes.Goals as goal
 
 pub loop-node-preserved : goal.loop-node-preserved
 loop-node-preserved c =
-    key_more c.loop-node.nodes c.push.new.self c.loop-node.node-iterator c.next.new.self (keys_of c.args.self.now.nodes.entries) c.in-Some.node.now c.in-Some.field-0-1.now c.in-Some.ensures.steps c.in_ok-push.ensures c.loop-node.invariant
+    key_more c.loop-node.nodes c.push.new.self c.loop-node.node-iterator c.next.new.self (keys_of c.args.self.now.nodes.entries) c.in-Some.node.now c.in-Some.field-0-1.now c.in-Some.ensures.steps c.in_ok-push.ensures.ok c.loop-node.invariant
 
 pub returns-clause-all : goal.returns-clause-all
 returns-clause-all c = λ n. (

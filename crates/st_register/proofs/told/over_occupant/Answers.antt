@@ -1,5 +1,5 @@
 use Rattle.st_register.proofs.Carried.{moved_is, moved_void}
-use Rattle.st_register.proofs.told.moved.Goals as goal
+use Rattle.st_register.proofs.told.over_occupant.Goals as goal
 
 pub returns-clause-kept : goal.returns-clause-kept
 returns-clause-kept c p a d w v k h e =

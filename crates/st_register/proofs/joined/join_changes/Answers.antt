@@ -1,5 +1,5 @@
 use Rattle.st_register.proofs.InTurn.{joined_is}
-use Rattle.st_register.proofs.joined.joined.Goals as goal
+use Rattle.st_register.proofs.joined.join_changes.Goals as goal
 
 pub returns : goal.returns
 returns c p q j d t w v e f =

@@ -1,6 +1,6 @@
 use Rattle.std.proofs.Common.{sym}
 use Rattle.st_clusters.proofs.InOrder.{spans_at, spans_far}
-use Rattle.st_clusters.proofs.compressor.Compressor.spanning.Goals as goal
+use Rattle.st_clusters.proofs.compressor.Compressor.session_spanning.Goals as goal
 
 pub returns-then-ahead-lt-SPAN : goal.returns-then-ahead-lt-SPAN
 returns-then-ahead-lt-SPAN c =
