@@ -1,5 +1,5 @@
 -- No cell is made again, and so a change and a step that stand over one document agree.
-use Rattle.std.proofs.Common.{◌≡◌, ◌≢◌, Bool, true, false, ◌&&◌, ◌||◌, List, [], ◌∷◌, ◌++◌, map, Option, Some, None, cond, refl, sym, ap, ◌∙◌, subst, inl, inr, ◌⊎◌, ◌↔◌, IsSome, IsTrue, IfSome, is_some}
+use Rattle.std.proofs.Common.{◌≡◌, ◌≢◌, Bool, true, false, List, [], ◌∷◌, ◌++◌, Option, Some, None, cond, refl, sym, ap, ◌∙◌, subst, inl, inr, ◌⊎◌, ◌↔◌, IsSome, IsTrue, IfSome}
 use Rattle.std.specs.List.{AllByRecursion, flat_map, list_any}
 use Rattle.std.specs.Option.{option_map_or}
 use Rattle.st_ids.specs.Listing.{Has, item_of}
@@ -18,20 +18,20 @@ use Rattle.st_marks.specs.declared.marks.RowMarks.{RowMarks}
 use Rattle.st_marks.specs.declared.places.Slot.{Slot}
 use Rattle.st_marks.specs.declared.schemas.SchemaEntry.{SchemaEntry}
 use Rattle.st_marks.specs.declared.steps.Step.{Step}
-use Rattle.st_marks.specs.Agree.{Agrees, MadeAgain, RebaseClash, RootRule, broken, node_again, cell_again}
+use Rattle.st_marks.specs.Agree.{Agrees, MadeAgain, RebaseClash, broken, node_again, cell_again}
 use Rattle.st_marks.specs.Document.{Document, content, owned_cell, slot}
 use Rattle.st_marks.specs.Embedding.{IsEmbedding, row_marks, row_part, tells}
 use Rattle.st_marks.specs.Extends.{IsExtendedBy, GainsItems, no_more, item_gained, item_kept}
-use Rattle.st_marks.specs.Intent.{Fits, group_at, group_cells, new_row_of}
-use Rattle.st_marks.specs.Row.{CellMark, Counted, Gap, Touch, Make, Fill, RowPart, SameCell, embed_cell, embed_cells, embed_made, embed_row, how, merge, spread, step_cell, step_row}
+use Rattle.st_marks.specs.Intent.{Fits, new_row_of}
+use Rattle.st_marks.specs.Row.{CellMark, Counted, Gap, Touch, Fill, RowPart, SameCell, embed_cell, embed_cells, embed_made, embed_row, how, merge, spread, step_cell, step_row}
 use Rattle.st_marks.specs.How.{is_here}
 use Rattle.st_marks.specs.Listings.{cells_in, cells_made, is_among_cells, marks_of, names_of_change, names_of_step, listing_before_change, listing_before_step}
 use Rattle.st_marks.specs.Step.{IsStep}
 use Rattle.st_marks.specs.Verdict.{HasBase}
-use Rattle.st_marks.proofs.Later.{has_later, row_later}
+use Rattle.st_marks.proofs.Later.{row_later}
 use Rattle.st_ids.proofs.Listings.{has-item_of}
 use Rattle.st_marks.proofs.Lookups.{group_at-group, made_there}
-use Rattle.st_marks.proofs.Members.{any-has, flat_map-has, has-append, has-flat_map, has-map, map-has}
+use Rattle.st_marks.proofs.Members.{any-has, flat_map-has, has-flat_map, map-has}
 use Rattle.st_seq.specs.Laws.{spread-merge}
 use Rattle.st_seq.specs.Sequence.{cells_of}
 use Rattle.st_seq.proofs.Documents.{in_document}

@@ -1,32 +1,28 @@
 -- A change and a step over one document agree: neither names what the other makes.
-use Rattle.std.proofs.Common.{◌≡◌, ◌≢◌, ℕ, zero, suc, Bool, true, false, ◌&&◌, ◌||◌, not, List, [], ◌∷◌, ◌++◌, map, Option, Some, None, cond, refl, sym, ap, ◌∙◌, subst, inl, inr, ◌⊎◌, IsSome, IsTrue, is_some}
+use Rattle.std.proofs.Common.{◌≡◌, Bool, true, false, ◌&&◌, ◌||◌, not, List, ◌∷◌, ◌++◌, Option, Some, None, cond, refl, sym, ap, ◌∙◌, subst, inl, inr, ◌⊎◌, IsSome, IsTrue}
 use Rattle.std.specs.List.{flat_map, list_any}
-use Rattle.std.specs.Option.{option_map_or}
-use Rattle.st_ids.specs.Listing.{Has, item_of}
-use Rattle.st_ids.specs.Order.{field_cmp, node_cmp, same_cell, same_node}
-use Rattle.st_ids.proofs.Orders.{field_cmp_exact, field_cmp_total, node_cmp_exact, node_cmp_total, same_cell-true}
+use Rattle.st_ids.specs.Listing.{Has}
+use Rattle.st_ids.specs.Order.{field_cmp, node_cmp, same_node}
+use Rattle.st_ids.proofs.Orders.{field_cmp_exact, field_cmp_total, node_cmp_exact, node_cmp_total}
 use Rattle.st_ids.specs.declared.names.CellId.{CellId}
 use Rattle.st_ids.specs.declared.names.FieldId.{FieldId}
 use Rattle.st_ids.specs.declared.names.NodeId.{NodeId}
 use Rattle.st_marks.specs.declared.changes.Change.{Change}
 use Rattle.st_marks.specs.declared.changes.NewNode.{NewNode}
 use Rattle.st_marks.specs.declared.intents.Intent.{Intent}
-use Rattle.st_marks.specs.declared.intents.Owned.{Owned}
-use Rattle.st_marks.specs.declared.intents.To.{To}
 use Rattle.st_marks.specs.declared.marks.How.TheVariants.{Stay}
 use Rattle.st_marks.specs.declared.marks.Loose.{Loose}
 use Rattle.st_marks.specs.declared.marks.RegStep.{RegStep}
 use Rattle.st_marks.specs.declared.marks.RowMarks.{RowMarks}
 use Rattle.st_marks.specs.declared.places.Slot.{Slot}
 use Rattle.st_marks.specs.declared.steps.Step.{Step}
-use Rattle.st_marks.specs.Agree.{MadeAgain, node_again}
 use Rattle.st_marks.specs.Document.{Document, NodeType, content, slot}
 use Rattle.st_marks.specs.Embedding.{IsEmbedding, tells}
 use Rattle.st_marks.specs.Extends.{IsExtendedBy, GainsItems, no_more, item_gained, item_kept}
-use Rattle.st_marks.specs.Intent.{Fits, is_new, same_option}
-use Rattle.st_marks.specs.Register.{holds_mentioned, step_register}
-use Rattle.st_marks.specs.Row.{CellMark, Counted, Gap, Touch, Make, Fill, SameCell, spread, step_cell, step_row}
-use Rattle.st_marks.specs.Listings.{names_of_change, names_of_step, nodes_in, nodes_loose, nodes_new, nodes_of_rows, one_or_none, listing_before_change, listing_before_step}
+use Rattle.st_marks.specs.Intent.{Fits, same_option}
+use Rattle.st_marks.specs.Register.{holds_mentioned}
+use Rattle.st_marks.specs.Row.{CellMark, Counted, Touch, SameCell, spread, step_cell, step_row}
+use Rattle.st_marks.specs.Listings.{names_of_step, nodes_in, nodes_loose, nodes_new, nodes_of_rows, one_or_none, listing_before_change, listing_before_step}
 use Rattle.st_marks.specs.Step.{IsStep, gained_node}
 use Rattle.st_marks.proofs.Later.{node_later}
 use Rattle.st_ids.proofs.Listings.{has-item_of}
