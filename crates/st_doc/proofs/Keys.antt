@@ -1,5 +1,5 @@
 -- The keys of a map as a list.
-use Rattle.std.proofs.Common.{◌≡◌, ◌≢◌, ◌↔◌, ◌⊎◌, Bool, true, false, cond, List, [], ◌∷◌, ◌++◌, map, Option, Some, None, IsSome, refl, sym, ap, ◌∙◌, append_assoc, inl, inr}
+use Rattle.std.proofs.Common.{◌≡◌, ◌≢◌, ◌↔◌, ◌⊎◌, Bool, true, false, cond, List, [], ◌∷◌, ◌++◌, Option, Some, None, IsSome, refl, sym, ap, ◌∙◌, append_assoc, inl, inr}
 use Rattle.std.specs.declared.cmp.Ordering.TheVariants.{Less}
 use Rattle.std.specs.List.{AllByRecursion}
 use Rattle.std.specs.List.Sorted.{IsStrictlySortedBy}
@@ -24,7 +24,7 @@ keys-found {V = V} same told itself (e ∷ es) k = go (same k e.0) refl (keys-fo
 
     go : (b : Bool) → same k e.0 ≡ b → (Has (keys_of es) k ↔ IsSome (lookup (λ j. same k j) es)) → ((e.0 ≡ k) ⊎ Has (keys_of es) k) ↔ IsSome (cond (same k e.0) (Some e.1) (lookup (λ j. same k j) es))
     go true t rest = rw t (λ h. refl, λ s. inl (sym (told k e.0 t)))
-    go false f rest = rw f (λ h. elim h [ | inl q ↦ absurd (apart f q) | inr r ↦ rest.0 r ], λ s. inr (rest.1 s))
+    go false f rest = rw f (λ h. elim h [ inl q ↦ absurd (apart f q) | inr r ↦ rest.0 r ], λ s. inr (rest.1 s))
 
 pub nodes-found : {V : Type 0} (es : List (NodeId × V)) (n : NodeId) → Has (keys_of es) n ↔ IsSome (lookup (λ k. is_eq (node_cmp n k)) es)
 unfolding same_node

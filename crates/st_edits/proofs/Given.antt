@@ -1,5 +1,5 @@
 -- The names that an edit gives are the next ones, and as many as its intent has, with one cell more for an item that is set.
-use Rattle.std.proofs.Common.{◌≡◌, ◌≢◌, ℕ, suc, ◌+◌, ◌<◌, ◌≤◌, nat_le, Bool, true, false, cond, List, [], ◌∷◌, ◌++◌, map, length, Option, Some, None, is_some, option_map, not, Result, Ok, refl, sym, ap, ◌∙◌, subst, arith, inl, inr}
+use Rattle.std.proofs.Common.{◌≡◌, ◌≢◌, ℕ, suc, ◌+◌, ◌<◌, ◌≤◌, nat_le, Bool, true, false, cond, List, [], ◌∷◌, ◌++◌, length, Option, Some, None, is_some, option_map, not, Result, Ok, refl, sym, ap, ◌∙◌, subst, arith, inl, inr}
 use Rattle.std.specs.List.{filter_map, flat_map, cons_option, find}
 use Rattle.std.proofs.lemmas.Bool.Decides.{nat_tests}
 use Rattle.std.proofs.lemmas.List.{append-nil, length-append}
@@ -16,9 +16,8 @@ use Rattle.st_lemmas.proofs.Options.{is_some-option_map}
 use Rattle.st_tree.specs.declared.edit.Edit.{Edit}
 use Rattle.st_tree.specs.declared.flat.FlatAt.{FlatAt}
 use Rattle.st_tree.specs.declared.flat.FlatNode.{FlatNode}
-use Rattle.st_tree.specs.Form.{all_have_form}
 use Rattle.st_tree.specs.Node.{Node, node, Nodes, no_nodes, first, trees_view, view}
-use Rattle.st_tree.specs.Preorder.{cell_named, fields_listed, node_named}
+use Rattle.st_tree.specs.Preorder.{cell_named, fields_listed}
 use Rattle.st_schema.specs.Schema.{SchemaView}
 use Rattle.st_schema.specs.declared.names.FieldRule.{FieldRule}
 use Rattle.st_schema.specs.declared.names.KindName.{KindName}
@@ -28,7 +27,7 @@ use Rattle.st_marks.specs.declared.intents.Group.{Group}
 use Rattle.st_marks.specs.declared.intents.Intent.{Intent}
 use Rattle.st_marks.specs.declared.intents.Owned.{Owned}
 use Rattle.st_marks.specs.Document.{Document, NodeType}
-use Rattle.st_marks.specs.Intent.{group_cells, is_new}
+use Rattle.st_marks.specs.Intent.{group_cells}
 use Rattle.st_marks.proofs.Members.{all-has, has-append, has-flat_map, has-map}
 use Rattle.st_opening.proofs.PreorderNames.{cells_used, taken}
 use Rattle.st_edits.specs.declared.names.NameCounters.{NameCounters}
@@ -44,7 +43,7 @@ use Rattle.st_tree.specs.declared.edit.EditFault.TheVariants.{Inside, Limit as O
 use Rattle.st_edits.proofs.Fits.{passed}
 use Rattle.st_edits.proofs.MoveFits.{asked}
 use Rattle.st_edits.proofs.NewFits.{IsAllowed, cells_under_from, found_any, group_is, is_allowed, top_from, under_at, with_has}
-use Rattle.st_edits.proofs.Numbered.{Counted, IsInner, IsArray, IsUnderArray, cell_is, fields_inner, nodes_distinct, numbered, own_cell, tops_counted, tops_rows}
+use Rattle.st_edits.proofs.Numbered.{Counted, IsInner, IsUnderArray, cell_is, fields_inner, nodes_distinct, numbered, own_cell, tops_counted, tops_rows}
 
 -- ## Sums over lists
 
@@ -188,10 +187,10 @@ all_cells : (xs : List FlatNode) → AreDistinct (λ (x : FlatNode). x.node) xs 
     → length (top_cells xs) + length (cells_of (groups_under xs)) ≡ cells_used xs
 all_cells xs once rows =
     let groups : length (cells_of (groups_under xs)) ≡ total (λ (y : FlatNode). row_one y.at) xs =
-      groups-length (group_under xs) xs
-      ∙ total-same (λ x. cells_in (group_under xs x)) (λ x. total (under x) xs) xs (λ x h. group_under-length xs x)
-      ∙ total-swap under xs xs
-      ∙ total-same (λ (y : FlatNode). total (λ x. under x y) xs) (λ (y : FlatNode). row_one y.at) xs (λ y h. rows_of_one xs y.at once (rows y h)) in
+    groups-length (group_under xs) xs
+    ∙ total-same (λ x. cells_in (group_under xs x)) (λ x. total (under x) xs) xs (λ x h. group_under-length xs x)
+    ∙ total-swap under xs xs
+    ∙ total-same (λ (y : FlatNode). total (λ x. under x y) xs) (λ (y : FlatNode). row_one y.at) xs (λ y h. rows_of_one xs y.at once (rows y h)) in
     (λ i. top_cells-length xs i + groups i)
     ∙ sym (total-plus (λ (y : FlatNode). top_one y.at) (λ (y : FlatNode). row_one y.at) xs)
     ∙ total-same (λ (y : FlatNode). top_one y.at + row_one y.at) (λ (y : FlatNode). taken y.at) xs (λ y h. each_taken y.at)
@@ -312,9 +311,9 @@ insert_counted D s G at key index trees N e =
         let once = nodes_distinct G.rev G.nodes xs G.nodes G.cells counted in
         let M = intent_to_insert D G m index xs in
         let cells : length (group_cells M) ≡ cells_used xs =
-          with_group-length (group_of m (left_of D m index) (top_cells xs)) (groups_under xs)
-          ∙ ap (λ k. k + length (cells_of (groups_under xs))) (group_of-length m (left_of D m index) (top_cells xs))
-          ∙ all_cells xs once rows in
+        with_group-length (group_of m (left_of D m index) (top_cells xs)) (groups_under xs)
+        ∙ ap (λ k. k + length (cells_of (groups_under xs))) (group_of-length m (left_of D m index) (top_cells xs))
+        ∙ all_cells xs once rows in
         subst (λ M. IsCountedFrom G (length M.new) (length (group_cells M)) M) is
         (listed_counted G xs M (length M.new) (length (group_cells M)) counted refl (tops_listed_too xs m (left_of D m index)) (new-length xs) cells room)
 

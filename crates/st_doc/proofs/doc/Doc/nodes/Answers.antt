@@ -1,4 +1,4 @@
-use Rattle.std.proofs.Common.{sym, ap, subst, ◌∙◌}
+use Rattle.std.proofs.Common.{sym, ap, subst}
 use Rattle.std.specs.Map.{keys_of}
 use Rattle.st_ids.specs.Listing.{AreDistinct, Has}
 use Rattle.st_doc.proofs.Keys.{key_more, nodes-typed, rising_nodes-once}

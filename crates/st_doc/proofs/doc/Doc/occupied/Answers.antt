@@ -1,6 +1,6 @@
-use Rattle.std.proofs.Common.{sym, ap, subst, ◌∙◌}
+use Rattle.std.proofs.Common.{sym, ap, subst}
 use Rattle.std.specs.Map.{keys_of}
-use Rattle.st_ids.specs.Listing.{AreDistinct, Has}
+use Rattle.st_ids.specs.Listing.{Has}
 use Rattle.st_doc.proofs.Keys.{fields-found, key_more}
 use Rattle.st_doc.proofs.Look.{copied_all}
 use Rattle.st_doc.proofs.doc.Doc.occupied.Goals as goal
