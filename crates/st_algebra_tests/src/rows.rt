@@ -258,14 +258,19 @@ fn emptied_cell_is_kept(rt: HostRuntime) {
 
 // Whether a void change that makes two nodes, of which the second is new, has this effect.
 fn has_void_effect(alloc: Global, in_new: bool, marks: &[Mark]) -> bool {
-    voided(alloc, &[make_mark(1, true), make_mark(2, true)], in_new).is_ok_and(|row| row.as_slice() == marks)
+    voided(alloc, &[make_mark(1, true), make_mark(2, true)], in_new).is_ok_and(|row| row.as_slice()
+        == marks)
 }
 
 // A void change makes its cells, and puts new nodes inside new nodes alone.
 #[test]
 fn void_change_keeps_new_nodes_in_new_rows(rt: HostRuntime) {
     let inside = has_void_effect(rt.alloc(), true, &[make_mark(1, false), make_mark(2, true)]);
-    let outside = has_void_effect(rt.alloc(), false, &[make_mark(1, false), make_mark(2, false)]);
+    let outside = has_void_effect(
+        rt.alloc(),
+        false,
+        &[make_mark(1, false), make_mark(2, false)],
+    );
     assert!(rt; inside && outside, "{inside} {outside}");
 }
 

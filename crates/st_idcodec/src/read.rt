@@ -290,7 +290,11 @@ fn are_same(first: &[Cluster], second: &[Cluster]) -> bool
 }
 
 // The table of sessions, where it has these clusters.
-fn rebuild_table(alloc: Global, uuids: &[Value], clusters: &[Cluster]) -> Result<Compressor, Or<Shape>>
+fn rebuild_table(
+    alloc: Global,
+    uuids: &[Value],
+    clusters: &[Cluster],
+) -> Result<Compressor, Or<Shape>>
     ensures ok { IfOk result (λ c. (led_to (items_view uuids.now) clusters.now ≡ Some (ids_of c))
         × ((ids_of c).clusters ≡ clusters.now)) }
     ensures refused { IfRefused result (λ _. (t : Ids) → led_to (items_view uuids.now) clusters.now

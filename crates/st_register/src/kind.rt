@@ -2,7 +2,7 @@
 
 use crate::form::is_of_form;
 use crate::joined::join_changes;
-use crate::told::{agree, is_same, occupant_left, left_whole, over_occupant};
+use crate::told::{agree, is_same, left_whole, occupant_left, over_occupant};
 use crate::values::{RegChange, RegHeld, RegSwap};
 use st_ids::Or;
 use st_kind::{Apart, FieldKind};

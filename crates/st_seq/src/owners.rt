@@ -15,7 +15,7 @@ ghost use Rattle.st_seq.specs.inside.OwnedEarly.{early_place as early_at, first_
 ghost use Rattle.st_seq.specs.declared.name_clashes.NamedAt.{NamedAt as Named};
 
 use crate::name_clashes::{
-    NamedAt, by_name, found, found_at, lesser, named, push_name, said_in_turn,
+    NamedAt, by_name, cells_found, found_at, lesser, name_entry, push_name, said_in_turn,
 };
 use st_ids::{Atom, CellId, List, NodeId, Or};
 use st_kind::Apart;
