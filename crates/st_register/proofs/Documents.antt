@@ -52,7 +52,7 @@ part_fits D N m f x w = record {
   cleared = if_some (put_in N f) (λ _. clears N f ≡ true) (λ n e. put_clears N w.itself n f (put_in-has N f n e));
   put_here = λ n. (λ e. has-put_in N w.itself n f (put-has N n (To.Register f) e), λ e. has-put N w.itself (record { node = n; to = To.Register f }) (put_in-has N f n e));
   root_stays = w.itself.root_stays;
-  new_node-rev = new_node-rev N w.itself;
+  made = new_node-rev N w.itself;
   old = if_some (D.held f) (λ n. (is_new N n ≡ false) × (is_new N f.node ≡ false)) (λ n e. (not_made D N w n (x.held_known n f e).0, not_made D N w f.node (x.held_known n f e).1));
 }
 
