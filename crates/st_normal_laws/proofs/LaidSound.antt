@@ -17,7 +17,7 @@ use Rattle.st_normal.specs.inside.Ring.{AreListed}
 use Rattle.st_normal.proofs.AboveItself.{no_ring-leads_up, too_long}
 use Rattle.st_marks.proofs.Climb.{is_cell-true}
 use Rattle.st_marks.proofs.Members.{all-has, has-all, append_left, append_right, has-append, map-has, has-map, flat_map-has, has-flat_map, first-has, none-has, any-has, has-any, distinct-has, first-distinct, one_list, list_distinct}
-use Rattle.st_normal_laws.specs.Laid.{LaidRow, LaidHeld, Stand, Layout, cells_at, stands_in, stands_of, owned_at, laid_document, StandsAt, IsLayout}
+use Rattle.st_normal_laws.specs.Laid.{LaidRow, LaidHeld, Stand, Layout, cells_at, stands_in, all_stands, owned_at, laid_document, StandsAt, IsLayout}
 use Rattle.st_lemmas.proofs.Bools.{true-false}
 
 -- ## Rows
@@ -42,7 +42,7 @@ has-stands n (t ∷ ss) x h = go t.full refl (λ i. has-stands n ss x i) h
 
 module _ (L : Layout) (w : IsLayout L) where
   abbrev stands : List Stand
-  stands = stands_of L
+  stands = all_stands L
 
   -- a row is found
   pub row_found : (r : LaidRow) → Has L.rows r → cells_at L.rows r.node ≡ r.cells

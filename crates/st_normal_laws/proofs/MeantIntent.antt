@@ -332,8 +332,8 @@ module _ (D : Document) (C : Change) (x : IsSoundInForm D) (w : ObeysDataRules C
       go None e = (suc (length (nodes_new C.new)), e)
       go (Some m) e = absurd ((no_ring-leads_up IsUnder (above_new N) under-iff).1 (λ k l. w.no_new_ring k (leads-new k k l)) (too_long (above_new N) (nodes_new C.new) listed n m e))
 
-  pub meant : IsIntent N
-  meant_intent = record {
+  pub meant_is_intent : IsIntent N
+  meant_is_intent = record {
     new_rev = w.revision.0;
     new_once = new_once D C x w o plain;
     cell_rev = has-all (λ (p : Owned). p.cell.0.rev ≡ C.rev) (group_cells N) (λ p h. let r = cell-made D C x w o plain p h in
@@ -394,7 +394,7 @@ module _ (D : Document) (C : Change) (x : IsSoundInForm D) (w : ObeysDataRules C
 
   pub meant_fits : Fits D N
   meant_fits = record {
-    itself = meant_intent;
+    itself = meant_is_intent;
     fresh_nodes = λ n e. o.new_nodes n (is-new D C x w o plain n e);
     fresh_cells = λ c e. fresh c (new_row_of N c) refl e;
     fresh_schema = subst (λ (s : Option (List ℕ)). IfSome s (λ _. AllByRecursion (λ (e : Rattle.st_marks.specs.declared.schemas.SchemaEntry.SchemaEntry). e.rev ≢ C.rev) D.schemas)) (sym plain) tt;

@@ -18,7 +18,7 @@ use Rattle.st_ids.specs.Root.{root}
 use Rattle.st_marks.specs.Listings.{CellView, one_or_none, nodes_standing}
 use Rattle.st_marks.proofs.Members.{all-has, has-all, append_left, append_right, has-append, map-has, has-map, flat_map-has, has-flat_map, first-has, distinct-has, distinct-append, distinct-between, distinct-left, distinct-right, one_list}
 use Rattle.st_normal_laws.specs.Told.{AreAsSeen, IfTold}
-use Rattle.st_normal_laws.specs.Laid.{LaidRow, LaidHeld, Stand, Layout, stands_in, stands_of, laid_document, StandsAt, IsLayout}
+use Rattle.st_normal_laws.specs.Laid.{LaidRow, LaidHeld, Stand, Layout, stands_in, all_stands, laid_document, StandsAt, IsLayout}
 use Rattle.st_normal_laws.specs.Seed.{lift, fresh, fresh_cell, fresh_node, FoundRow, FoundHeld, Finds, lay_cell, lay, lay_row, lay_held, owners_laid, seed, cells_named, nodes_found, IsFoundAt, IsBelow, CanBeFound}
 use Rattle.st_normal_laws.proofs.LaidSound.{has-stands, laid_content, laid_sound, has-held}
 use Rattle.st_normal_laws.proofs.Basics.{is-one, one-is}
@@ -242,7 +242,7 @@ module _ (F : ℕ) (W : Finds) (w : CanBeFound F W) where
   found_held h n i e = append_right (found_in_rows W.rows) (flat_map (λ (h : FoundHeld). one_or_none h.node) W.held) n (flat_map-has (λ (h : FoundHeld). one_or_none h.node) W.held h n i (is-one h.node n e))
 
   -- who stands in the seed is found, or has a fresh name
-  pub stand_is : (x : Stand) → Has (stands_of L) x → IsFoundAt W x.node x.spot ⊎ ((r : FoundRow) × (k : ℕ) × (c : CellId) × Has W.rows r × (x.node ≡ fresh_node F r.node k) × (x.spot ≡ Spot.Row r.node c))
+  pub stand_is : (x : Stand) → Has (all_stands L) x → IsFoundAt W x.node x.spot ⊎ ((r : FoundRow) × (k : ℕ) × (c : CellId) × Has W.rows r × (x.node ≡ fresh_node F r.node k) × (x.spot ≡ Spot.Row r.node c))
   stand_is x h = elim (has-append (stands_of W.rows) (map stand_of (flat_map lay_held W.held)) x h) [
     | inl i ↦ (let r = stand_row W.rows x i in elim r.4 [ inl j ↦ inl (inl (r.0, r.1, r.2, j, r.3)) | inr k ↦ inr (r.0, k.0, r.1, r.2, k.2, r.3) ])
     | inr i ↦ (let l = has-map stand_of (flat_map lay_held W.held) x i in let q = held_from W.held l.0 l.1 in
@@ -255,7 +255,7 @@ module _ (F : ℕ) (W : Finds) (w : CanBeFound F W) where
 
   -- ## No ring
 
-  up_below : (n p : NodeId) (s : Spot) → StandsAt (stands_of L) n s → node_of s ≡ Some p → IsBelow F p.0
+  up_below : (n p : NodeId) (s : Spot) → StandsAt (all_stands L) n s → node_of s ≡ Some p → IsBelow F p.0
   up_below n p s h e = elim (stand_is (record { node = n; spot = s }) h) [
     | inl f ↦ at f
     | inr r ↦ (let q : r.0.node ≡ p = in_row (sym (ap node_of r.5) ∙ e) in subst (λ (m : NodeId). IsBelow F m.0) q (w.below_rows r.0 r.3))
@@ -268,17 +268,17 @@ module _ (F : ℕ) (W : Finds) (w : CanBeFound F W) where
       at (inl x) = subst (λ (m : NodeId). IsBelow F m.0) (in_row (sym (ap node_of x.4) ∙ e)) (w.below_rows x.0 x.2)
       at (inr x) = subst (λ (m : NodeId). IsBelow F m.0) (in_row (sym (ap node_of x.3) ∙ e)) (w.below_fields x.0 x.1)
 
-  stand_found : (n : NodeId) (s : Spot) → IsBelow F n.0 → StandsAt (stands_of L) n s → IsFoundAt W n s
+  stand_found : (n : NodeId) (s : Spot) → IsBelow F n.0 → StandsAt (all_stands L) n s → IsFoundAt W n s
   stand_found n s b h = elim (stand_is (record { node = n; spot = s }) h) [
     | inl f ↦ f
     | inr r ↦ absurd (fresh-not F r.0.node r.1 n.0 b (ap (λ (n : NodeId). n.0) r.4))
   ]
 
-  leads_found : (n m : NodeId) → LeadsUp (StandsAt (stands_of L)) n m → IsBelow F n.0 → LeadsUp (IsFoundAt W) n m
+  leads_found : (n m : NodeId) → LeadsUp (StandsAt (all_stands L)) n m → IsBelow F n.0 → LeadsUp (IsFoundAt W) n m
   leads_found n m (one_up s h e) b = one_up s (stand_found n s b h) e
   leads_found n m (further_up {p = p} s h e r) b = further_up s (stand_found n s b h) e (leads_found p m r (up_below n p s h e))
 
-  leads_below : (n m : NodeId) → LeadsUp (StandsAt (stands_of L)) n m → IsBelow F m.0
+  leads_below : (n m : NodeId) → LeadsUp (StandsAt (all_stands L)) n m → IsBelow F m.0
   leads_below n m (one_up s h e) = up_below n m s h e
   leads_below n m (further_up {p = p} s h e r) = leads_below p m r
 
@@ -351,10 +351,10 @@ module _ (F : ℕ) (W : Finds) (w : CanBeFound F W) where
 
   -- who isn't found, and isn't fresh, is nowhere
   pub seed_nowhere : (n : NodeId) → IsBelow F n.0 → (Has (nodes_found W) n → ⊥) → (laid_document L).place n ≡ Spot.Nowhere
-  seed_nowhere n b not = go (find (λ (x : Stand). same_node x.node n) (stands_of L)) refl
+  seed_nowhere n b not = go (find (λ (x : Stand). same_node x.node n) (all_stands L)) refl
     where
-      go : (o : Option Stand) → find (λ (x : Stand). same_node x.node n) (stands_of L) ≡ o → option_map_or (λ (s : Stand). s.spot) o Spot.Nowhere ≡ Spot.Nowhere
+      go : (o : Option Stand) → find (λ (x : Stand). same_node x.node n) (all_stands L) ≡ o → option_map_or (λ (s : Stand). s.spot) o Spot.Nowhere ≡ Spot.Nowhere
       go None f = refl
       go (Some x) f =
-          let r = first-has (λ (x : Stand). same_node x.node n) (stands_of L) x f in
-          absurd (not (found-has n x.spot (stand_found n x.spot b (subst (Has (stands_of L)) (λ i. record { node = same_node-true x.node n r.1 i; spot = x.spot }) r.0))))
+          let r = first-has (λ (x : Stand). same_node x.node n) (all_stands L) x f in
+          absurd (not (found-has n x.spot (stand_found n x.spot b (subst (Has (all_stands L)) (λ i. record { node = same_node-true x.node n r.1 i; spot = x.spot }) r.0))))

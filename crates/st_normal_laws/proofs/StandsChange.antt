@@ -45,7 +45,7 @@ use Rattle.st_marks.specs.Embedding.{IsEmbedding, embed_loose, is_among, is_loos
 use Rattle.st_marks.specs.Register.{comes_in, embed_register, holds_mentioned, how_held}
 use Rattle.st_normal.proofs.NoRings.{among_has}
 use Rattle.st_marks.proofs.Climb.{stands}
-use Rattle.st_normal_laws.proofs.MeantIntent.{reg-put, clear-is, is-clear, meant_intent}
+use Rattle.st_normal_laws.proofs.MeantIntent.{reg-put, clear-is, is-clear, meant_is_intent}
 use Rattle.st_normal_laws.proofs.Basics.{is-one, not-false, not-true, register-not-nowhere, row-not-nowhere}
 use Rattle.st_normal_laws.proofs.Lengths.{row-length}
 use Rattle.st_seq.proofs.Short.{all_after}
@@ -357,7 +357,7 @@ module _ (D : Document) (C : Change) (x : IsSoundInForm D) (w : ObeysDataRules C
 
       filled-none : r.fill ≡ None ⊎ ((k : NodeId) × (r.fill ≡ Some k)) → put_in N r.field ≡ None → comes_in r.held None ≡ r.fill
       filled-none (inl e) f = comes-none r.held ∙ sym e
-      filled-none (inr (k, e)) f = absurd (let h = has-put_in N (meant_intent D C x w o plain) k r.field (put-reg D C x w o r (put_to k (To.Register r.field)) i
+      filled-none (inr (k, e)) f = absurd (let h = has-put_in N (meant_is_intent D C x w o plain) k r.field (put-reg D C x w o r (put_to k (To.Register r.field)) i
           (append_left (map (λ n. put_to n (To.Register r.field)) (one_or_none r.fill)) _ (put_to k (To.Register r.field)) (map-has (λ n. put_to n (To.Register r.field)) (one_or_none r.fill) k (is-one r.fill k e)))) in
           let bad : None ≡ Some k = sym f ∙ h in cc)
 

@@ -51,8 +51,8 @@ stands_in n (s ∷ ss) = if s.full
     else stands_in n ss
 
 -- all nodes that stand somewhere
-abbrev pub stands_of : Layout → List Stand
-stands_of L = flat_map (λ (r : LaidRow). stands_in r.node r.cells) L.rows
+abbrev pub all_stands : Layout → List Stand
+all_stands L = flat_map (λ (r : LaidRow). stands_in r.node r.cells) L.rows
     ++ map (λ (h : LaidHeld).
     let s : Stand = record { node = h.node; spot = Spot.Register h.field } in s) L.held
 
@@ -72,7 +72,7 @@ laid_document L = record {
   row_of = λ c. option_map (λ (r : LaidRow). r.node)
       (find (λ (r : LaidRow). list_any (λ (s : Slot). same_cell s.cell c) r.cells) L.rows);
   place = λ n. option_map_or (λ (s : Stand). s.spot)
-      (find (λ (s : Stand). same_node s.node n) (stands_of L)) Spot.Nowhere;
+      (find (λ (s : Stand). same_node s.node n) (all_stands L)) Spot.Nowhere;
   held = λ f. option_map (λ (h : LaidHeld). h.node)
       (find (λ (h : LaidHeld). same_field h.field f) L.held);
   schemas = L.schemas;
@@ -87,13 +87,13 @@ pub record IsLayout (L : Layout) : Type 0 where
   pub rows_once : AreDistinct (λ (r : LaidRow). r.node) L.rows
   pub cells_once : AreDistinct (λ (s : Slot). s.cell) (flat_map (λ (r : LaidRow). r.cells) L.rows)
   pub fields_once : AreDistinct (λ (h : LaidHeld). h.field) L.held
-  pub stands_once : AreDistinct (λ (s : Stand). s.node) (stands_of L)
-  pub root_stands : (s : Spot) → StandsAt (stands_of L) root s → ⊥
+  pub stands_once : AreDistinct (λ (s : Stand). s.node) (all_stands L)
+  pub root_stands : (s : Spot) → StandsAt (all_stands L) root s → ⊥
   pub cells_known : (r : LaidRow) (s : Slot) → Has L.rows r → Has r.cells s
       → Has (root ∷ L.known) r.node × Has (root ∷ L.known) s.node
   pub held_known : (h : LaidHeld) → Has L.held h
       → Has (root ∷ L.known) h.node × Has (root ∷ L.known) h.field.node
   pub keys : (h : LaidHeld) → Has L.held h → h.field.key.0 ≢ []
   pub short : (r : LaidRow) → Has L.rows r → length r.cells < 2 ^ 32
-  pub no_ring : (n : NodeId) → LeadsUp (StandsAt (stands_of L)) n n → ⊥
+  pub no_ring : (n : NodeId) → LeadsUp (StandsAt (all_stands L)) n n → ⊥
   pub in_effect : CanBeInEffect L.schemas
