@@ -5,7 +5,7 @@ use Rattle.st_marks.specs.declared.intents.Intent.{Intent}
 use Rattle.st_marks.specs.CarryOut.{full}
 use Rattle.st_marks.specs.Document.{Document, IsSoundInForm, above, climb, ClimbsToAnEnd}
 use Rattle.st_marks.specs.Intent.{Fits, is_new}
-use Rattle.st_marks.specs.Join.{AreParts, IsJoin, above_made}
+use Rattle.st_marks.specs.Join.{above_made}
 use Rattle.st_marks.specs.declared.verdicts.Verdict.{Verdict}
 use Rattle.st_marks.specs.Document.{HasShortRows}
 use Rattle.st_marks.specs.Verdict.{IsVerdict, carried_document}

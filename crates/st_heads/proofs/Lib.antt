@@ -5,3 +5,4 @@ mod GoingBack
 mod Listed
 mod Extending
 mod Editing
+pub mod Differing

@@ -26,7 +26,7 @@ use std::alloc::{AllocError, Global};
 use std::collections::{BTreeMap, BTreeSet};
 
 // Whether a node is there.
-fn is_in(doc: &Doc, node: NodeId) -> bool
+pub(crate) fn is_in(doc: &Doc, node: NodeId) -> bool
     ensures { result ≡ has_node (document_of doc.now) node }
 {
     doc.type_of(node).is_some()
@@ -131,7 +131,7 @@ fn to_of(alloc: Global, spot: &Spot) -> Result<To, AllocError>
 }
 
 // The put that leads to where a node stands.
-fn to_place_of(alloc: Global, doc: &Doc, node: NodeId) -> Result<To, AllocError>
+pub(crate) fn to_place_of(alloc: Global, doc: &Doc, node: NodeId) -> Result<To, AllocError>
     ensures { IfOk result (λ to. to ≡ to_place ((document_of doc.now).place node)) }
 {
     match doc.place(node) {
@@ -162,14 +162,21 @@ fn leads_to(to: &To, spot: &Spot) -> bool
     }
 }
 
+// Whether a put leads to where a node stands.
+pub(crate) fn leads_to_place(doc: &Doc, node: NodeId, to: &To) -> bool
+    ensures { result ≡ same_to to.now (to_place ((document_of doc.now).place node)) }
+{
+    match doc.place(node) {
+        None => is_nowhere(to),
+        Some(spot) => leads_to(to, spot),
+    }
+}
+
 // Whether a put leads to where its node stands.
 fn stays(doc: &Doc, put: &Put) -> bool
     ensures { result ≡ same_to put.now.to (to_place ((document_of doc.now).place put.now.node)) }
 {
-    match doc.place(put.node) {
-        None => is_nowhere(&put.to),
-        Some(spot) => leads_to(&put.to, spot),
-    }
+    leads_to_place(doc, put.node, &put.to)
 }
 
 // Whether a put of a new node leads into a field of an old node. `names` has the cells made in rows of old nodes.
@@ -303,7 +310,7 @@ fn entered_field<'a>(doc: &Doc, put: &'a Put) -> Option<&'a FieldId>
 }
 
 // Puts a register behind others, if there is one.
-fn push_field(
+pub(crate) fn push_field(
     alloc: Global,
     fields: &mut List<FieldId>,
     field: Option<&FieldId>,

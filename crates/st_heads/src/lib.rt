@@ -3,12 +3,14 @@
 #![tactic(auto)]
 
 mod back;
+mod between;
 mod heads;
 mod laws;
 mod transactions;
 mod ways;
 
 pub use back::way_back;
+pub use between::way_between;
 pub use heads::Head;
 pub use laws::{
     edits_are_parts, remembered_runs, remembered_ways_undo, undoings_fit, ways_lead_back,

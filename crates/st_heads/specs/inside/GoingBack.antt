@@ -1,5 +1,5 @@
 -- Where nodes go back, by a commit and by the document before it.
-use Rattle.std.specs.Prelude.{Bool, true, false, not, ◌&&◌, List, Option, Some, None, if◌then◌else◌}
+use Rattle.std.specs.Prelude.{Bool, false, not, ◌&&◌, List, Option, Some, None, if◌then◌else◌}
 use Rattle.std.specs.List.{list_any}
 use Rattle.st_ids.specs.Order.{same_cell, same_field}
 use Rattle.st_ids.specs.declared.names.CellId.{CellId}
