@@ -26,7 +26,7 @@ use Rattle.st_join.proofs.Picked.{has-picked}
 use Rattle.st_heads.specs.declared.ways.Way.{Way}
 use Rattle.st_heads.specs.Remembered.{intent_of_way}
 use Rattle.st_heads.specs.inside.Between.{changed_field, differs, put_between, target_between}
-use Rattle.st_heads.proofs.GoingBack.{same_to-itself, same_to-true}
+use Rattle.st_marks.proofs.Shared.{same_to-itself, same_to-true}
 use Rattle.st_heads.proofs.Leading.{way_leads_back}
 
 -- ## Occupants
