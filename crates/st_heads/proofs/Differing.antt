@@ -21,12 +21,11 @@ use Rattle.st_marks.specs.Row.{same_to}
 use Rattle.st_marks.proofs.Climb.{unknown_nowhere}
 use Rattle.st_marks.proofs.Later.{has_later}
 use Rattle.st_marks.proofs.Members.{all-has, any-has, append_left, append_right, first-distinct, first-has, has-all, has-any, has-append, has-filter_map}
-use Rattle.st_marks.proofs.Shared.{same-held}
+use Rattle.st_marks.proofs.Shared.{same-held, same_to-itself, same_to-true}
 use Rattle.st_join.proofs.Picked.{has-picked}
 use Rattle.st_heads.specs.declared.ways.Way.{Way}
 use Rattle.st_heads.specs.Remembered.{intent_of_way}
 use Rattle.st_heads.specs.inside.Between.{changed_field, differs, put_between, target_between}
-use Rattle.st_marks.proofs.Shared.{same_to-itself, same_to-true}
 use Rattle.st_heads.proofs.Leading.{way_leads_back}
 
 -- ## Occupants
