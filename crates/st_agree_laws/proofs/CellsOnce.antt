@@ -38,7 +38,8 @@ use Rattle.st_seq.proofs.Documents.{in_document}
 use Rattle.st_agree_laws.proofs.Gained.{AllGained, gained_new}
 use Rattle.st_marks.proofs.Unique.{distinct_content}
 use Rattle.st_agree_laws.proofs.MadeOnce.{nodes_of_change_old, nodes_of_step_old}
-use Rattle.st_agree_laws.proofs.Named.{row_listed}
+use Rattle.st_normal_laws.proofs.Easy.{row-told}
+use Rattle.st_normal_laws.proofs.StepRows.{in-row-after}
 use Rattle.st_agree_laws.proofs.Truth.{beside_agree}
 
 cell-has : (cs : List CellId) (c : CellId) → is_among_cells cs c ≡ true → Has cs c
@@ -125,12 +126,6 @@ step-made m c n true false xs a h = h
 step-made m c n false true xs a h = h
 step-made m c n false false xs a h = h
 
-in-step : (m : NodeId → Bool) {c d : List Slot} (g : GainsItems SameCell c d) (a : CellId) → Has (cells_in (step_row m g)) a → Has (cells_of d) a
-in-step m no_more a h = absurd h
-in-step m (item_gained g) a (inl e) = inl e
-in-step m (item_gained g) a (inr h) = inr (in-step m g a h)
-in-step m (item_kept {x = s} {y = t} w g) a h = elim (step-cell m s.cell s.node s.full t.full (step_row m g) a h) [ inl e ↦ inl (sym w.0 ∙ e) | inr i ↦ inr (in-step m g a i) ]
-
 made-step : (m : NodeId → Bool) (P : Slot → Type 0) {c d : List Slot} (g : GainsItems SameCell c d) (a : CellId) → AllGained P g → Has (cells_made (step_row m g)) a → (t : Slot) × P t × (t.cell ≡ a)
 made-step m P no_more a k h = absurd h
 made-step m P (item_gained {y = t} g) a k (inl e) = (t, k.0, e)
@@ -169,17 +164,17 @@ module _ (D E : Document) (N : Intent) (C : Change) (S : Step) (x : IsExtendedBy
   change_made : (a : CellId) → IsTrue ((names_of_change C).makes_cell a) → IsSome (new_row_of N a)
   change_made a e =
       let r = has-flat_map (λ (r : RowMarks). cells_made (spread r.marks)) C.rows a (cell-has (flat_map (λ (r : RowMarks). cells_made (spread r.marks)) C.rows) a e) in
-      let w = row_listed r.0 r.0.node (embed_row (row_part emb.mentioned N r.0.node) (content D r.0.node)) (sym (emb.rows.at_each r.0.node) ∙ has-item_of node_cmp node_cmp_total node_cmp_exact (λ (r : RowMarks). r.node) C.rows r.0 emb.rows.rising r.1) in
+      let w = row-told r.0 r.0.node (embed_row (row_part emb.mentioned N r.0.node) (content D r.0.node)) (sym (emb.rows.at_each r.0.node) ∙ has-item_of node_cmp node_cmp_total node_cmp_exact (λ (r : RowMarks). r.node) C.rows r.0 emb.rows.rising r.1) in
       made_new r.0.node emb.mentioned a (made-row (row_part emb.mentioned N r.0.node) a (content D r.0.node) (subst (λ l. Has (cells_made l) a) w.0 r.2))
 
   -- the cells that the step names, and makes
   step_cell_there : (q : NodeId) (a : CellId) → IsTrue ((names_of_step S).names_cell q a) → E.row_of a ≡ Some q
-  step_cell_there q a e = in_document E x.after q a (in-step step.mentioned (step.grows q) a (marks_told S.rows q (step_row step.mentioned (step.grows q)) a (step.rows.at_each q) (cell-has (cells_in (marks_of S.rows q)) a e)))
+  step_cell_there q a e = in_document E x.after q a (in-row-after step.mentioned (step.grows q) a (marks_told S.rows q (step_row step.mentioned (step.grows q)) a (step.rows.at_each q) (cell-has (cells_in (marks_of S.rows q)) a e)))
 
   step_made : (a : CellId) → IsTrue ((names_of_step S).makes_cell a) → (r : NodeId) × (Has (cells_of (content D r)) a → ⊥) × (E.row_of a ≡ Some r)
   step_made a e =
       let r = has-flat_map (λ (r : RowMarks). cells_made (spread r.marks)) S.rows a (cell-has (flat_map (λ (r : RowMarks). cells_made (spread r.marks)) S.rows) a e) in
-      let w = row_listed r.0 r.0.node (step_row step.mentioned (step.grows r.0.node)) (sym (step.rows.at_each r.0.node) ∙ has-item_of node_cmp node_cmp_total node_cmp_exact (λ (r : RowMarks). r.node) S.rows r.0 step.rows.rising r.1) in
+      let w = row-told r.0 r.0.node (step_row step.mentioned (step.grows r.0.node)) (sym (step.rows.at_each r.0.node) ∙ has-item_of node_cmp node_cmp_total node_cmp_exact (λ (r : RowMarks). r.node) S.rows r.0 step.rows.rising r.1) in
       let t = made-step step.mentioned (λ t. (Has (cells_of (content D r.0.node)) t.cell → ⊥) × Has (content E r.0.node) t) (step.grows r.0.node) a
       (gained_new (step.grows r.0.node) (distinct_content E (E.rows r.0.node) (x.after.once r.0.node))) (subst (λ l. Has (cells_made l) a) w.0 r.2) in
       (r.0.node, (λ h. t.1.0 (subst (Has (cells_of (content D r.0.node))) (sym t.2) h)), in_document E x.after r.0.node a (subst (Has (cells_of (content E r.0.node))) t.2 (map-has (λ (s : Slot). s.cell) (content E r.0.node) t.0 t.1.1)))

@@ -28,7 +28,8 @@ use Rattle.st_marks.proofs.Later.{node_later}
 use Rattle.st_ids.proofs.Listings.{has-item_of}
 use Rattle.st_marks.proofs.Members.{has-append, has-flat_map, has-map}
 use Rattle.st_lemmas.proofs.Options.{None-IsSome}
-use Rattle.st_agree_laws.proofs.Named.{among-has, change_makes_new, change_names_known, climb_known, row_listed}
+use Rattle.st_agree_laws.proofs.Named.{among-has, change_makes_new, change_names_known}
+use Rattle.st_normal_laws.proofs.Easy.{climb-known, row-told}
 
 -- ## What the marks of a step name
 
@@ -61,7 +62,7 @@ module _ (D E : Document) (S : Step) (x : IsExtendedBy D E) (step : IsStep D E S
   slot_known r t h = let o = has-map (slot E) (E.rows r) t h in let k = x.after.cells_known r o.0 o.1 in (k.0, subst (λ (u : Slot). IsSome (E.nodes u.node)) o.2 k.1)
 
   row_of_step : (r : RowMarks) → Has S.rows r → (spread r.marks ≡ step_row step.mentioned (step.grows r.node)) × (list_any tells (step_row step.mentioned (step.grows r.node)) ≡ true)
-  row_of_step r h = row_listed r r.node (step_row step.mentioned (step.grows r.node)) (sym (step.rows.at_each r.node) ∙ has-item_of node_cmp node_cmp_total node_cmp_exact (λ (r : RowMarks). r.node) S.rows r step.rows.rising h)
+  row_of_step r h = row-told r r.node (step_row step.mentioned (step.grows r.node)) (sym (step.rows.at_each r.node) ∙ has-item_of node_cmp node_cmp_total node_cmp_exact (λ (r : RowMarks). r.node) S.rows r step.rows.rising h)
 
   rows_known : (n : NodeId) → Has (nodes_of_rows S.rows) n → IsSome (E.nodes n)
   rows_known n h = let r = has-flat_map (λ (r : RowMarks). r.node ∷ nodes_in (spread r.marks)) S.rows n h in let w = row_of_step r.0 r.1 in elim r.2 [
@@ -107,7 +108,7 @@ module _ (D E : Document) (S : Step) (x : IsExtendedBy D E) (step : IsStep D E S
       let o = has-map (λ (l : Loose). l.node) S.loose n h in
       let found = sym (step.loose.at_each o.0.node) ∙ has-item_of node_cmp node_cmp_total node_cmp_exact (λ (l : Loose). l.node) S.loose o.0 step.loose.rising o.1 in
       let k = (step.which o.0.node).0 (said (step.mentioned o.0.node) _ _ _ _ found) in
-      node_later D E x n (subst (λ y. IsSome (D.nodes y)) o.2 (climb_known D x.before k.2 k.0 o.0.node k.1.0 k.3))
+      node_later D E x n (subst (λ y. IsSome (D.nodes y)) o.2 (climb-known D x.before k.2 k.0 o.0.node k.1.0 k.3))
     where
       said : (a b c : Bool) (l r : Loose) → cond (a && b && c) (Some l) None ≡ Some r → a ≡ true
       said true b c l r e = refl

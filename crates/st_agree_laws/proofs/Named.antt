@@ -29,19 +29,10 @@ use Rattle.st_marks.proofs.Climb.{above_known}
 use Rattle.st_ids.proofs.Listings.{has-item_of}
 use Rattle.st_marks.proofs.Lookups.{group_at-group, put_in-has}
 use Rattle.st_marks.proofs.Members.{all-has, any-has, flat_map-has, has-append, has-flat_map, has-map}
-use Rattle.st_seq.specs.Laws.{spread-merge}
+use Rattle.st_normal_laws.proofs.Easy.{climb-known, row-told}
 
 pub among-has : (ns : List NodeId) (n : NodeId) → is_among ns n ≡ true → Has ns n
 among-has ns n e = let r = any-has (λ k. same_node k n) ns e in subst (Has ns) (same_node-true r.0 n r.2) r.1
-
--- who is above a known node is known
-pub climb_known : (D : Document) → IsSoundInForm D → (k : ℕ) (s n : NodeId) → IsSome (D.nodes s) → climb (above D) k s ≡ Some n → IsSome (D.nodes n)
-climb_known D x zero s n h e = let q : s ≡ n = cc in subst (λ y. IsSome (D.nodes y)) q h
-climb_known D x (suc k) s n h e = go (above D s) refl e (λ p f q. climb_known D x k p n f q)
-  where
-    go : (o : Option NodeId) → above D s ≡ o → option_and_then (climb (above D) k) o ≡ Some n → ((p : NodeId) → IsSome (D.nodes p) → climb (above D) k p ≡ Some n → IsSome (D.nodes n)) → IsSome (D.nodes n)
-    go None f q rest = cc
-    go (Some p) f q rest = rest p (above_known D x s p f) q
 
 -- ## What the marks of a row name
 
@@ -87,20 +78,6 @@ tells_some p [] e = go (p.new_cells None) refl e
     go [] f q = cc
     go (o ∷ os) f q = inr (None, o, subst (λ l. Has l o) (sym f) (inl refl), tt)
 
-pub row_listed : (r : RowMarks) (n : NodeId) (cells : List CellMark) → row_marks n cells ≡ Some r → (spread r.marks ≡ cells) × (list_any tells cells ≡ true)
-row_listed r n cells q = go (list_any tells cells) refl
-  where
-    go : (b : Bool) → list_any tells cells ≡ b → (spread r.marks ≡ cells) × (list_any tells cells ≡ true)
-    go true e = (sym (ap (λ (t : RowMarks). spread t.marks) (some (ap (λ b. cond b (Some (record { node = n; marks = merge cells })) None) (sym e) ∙ q))) ∙ spread-merge cells, e)
-      where
-        some : {a b : RowMarks} → ◌≡◌ {A = Option RowMarks} (Some a) (Some b) → a ≡ b
-        some {a = a} z = ap at z
-          where
-            at : Option RowMarks → RowMarks
-            at None = a
-            at (Some y) = y
-    go false e = let z : None ≡ Some r = ap (λ b. cond b (Some (record { node = n; marks = merge cells })) None) (sym e) ∙ q in cc
-
 -- ## The nodes that a change names are known
 
 module _ (D : Document) (N : Intent) (C : Change) (x : IsSoundInForm D) (f : Fits D N) (emb : IsEmbedding D N C) where
@@ -127,7 +104,7 @@ module _ (D : Document) (N : Intent) (C : Change) (x : IsSoundInForm D) (f : Fit
 
   -- a listed row
   row_of_change : (r : RowMarks) → Has C.rows r → (spread r.marks ≡ embed_row (row_part emb.mentioned N r.node) (content D r.node)) × (list_any tells (embed_row (row_part emb.mentioned N r.node) (content D r.node)) ≡ true)
-  row_of_change r h = row_listed r r.node (embed_row (row_part emb.mentioned N r.node) (content D r.node)) (sym (emb.rows.at_each r.node) ∙ has-item_of node_cmp node_cmp_total node_cmp_exact (λ (r : RowMarks). r.node) C.rows r emb.rows.rising h)
+  row_of_change r h = row-told r r.node (embed_row (row_part emb.mentioned N r.node) (content D r.node)) (sym (emb.rows.at_each r.node) ∙ has-item_of node_cmp node_cmp_total node_cmp_exact (λ (r : RowMarks). r.node) C.rows r emb.rows.rising h)
 
   rows_known : (n : NodeId) → Has (nodes_of_rows C.rows) n → IsKnown D N n
   rows_known n h = let r = has-flat_map (λ (r : RowMarks). r.node ∷ nodes_in (spread r.marks)) C.rows n h in let w = row_of_change r.0 r.1 in elim r.2 [
@@ -197,7 +174,7 @@ module _ (D : Document) (N : Intent) (C : Change) (x : IsSoundInForm D) (f : Fit
       let o = has-map (λ (l : Loose). l.node) C.loose n h in
       let found = sym (emb.loose.at_each o.0.node) ∙ has-item_of node_cmp node_cmp_total node_cmp_exact (λ (l : Loose). l.node) C.loose o.0 emb.loose.rising o.1 in
       let k = (emb.which o.0.node).0 (said (emb.mentioned o.0.node) _ _ _ _ found) in
-      inr (subst (λ y. IsSome (D.nodes y)) o.2 (climb_known D x k.3 k.0 o.0.node k.2 k.4))
+      inr (subst (λ y. IsSome (D.nodes y)) o.2 (climb-known D x k.3 k.0 o.0.node k.2 k.4))
     where
       said : (a b c : Bool) (l r : Loose) → cond (a && b && c) (Some l) None ≡ Some r → a ≡ true
       said true b c l r e = refl
