@@ -12,6 +12,7 @@ use Rattle.st_marks.specs.LiveTree.{IsTreeText}
 use Rattle.st_schema_laws.proofs.Resolved.{resolved_agrees}
 use Rattle.st_doc.specs.Doc.{document_of}
 use Rattle.st_doc.specs.LiveText.{is_among}
+use Rattle.st_heads.specs.Transactions.{HasOpen, with_open}
 use Rattle.st_edits.specs.Resolve.{resolve}
 use Rattle.st_edits.proofs.MoveFits.{CellsFresh}
 use Rattle.st_edits.proofs.NewFits.{NodesFresh}
@@ -33,7 +34,7 @@ use Rattle.st_trace.specs.declared.world.World.{World}
 use Rattle.st_trace.proofs.Agreed.{delivered_keeps, edited_keeps}
 use Rattle.st_trace.proofs.Clients.{fresh_cells, fresh_nodes, shown_sound}
 use Rattle.st_trace.proofs.Everyone.{all_get, clients_of, kept_at, kept_of, set_same}
-use Rattle.st_trace.proofs.Keeping.{AreOne, can_receive, one_delivered, one_edited}
+use Rattle.st_trace.proofs.Keeping.{AreOne, can_receive, kept_shown, one_delivered, one_edited}
 use Rattle.st_trace.proofs.Meanings.{meant_of}
 use Rattle.st_trace.proofs.Stepping.{sound_client, start_of}
 
@@ -66,24 +67,24 @@ edited_on c c' word (Ok N) a is = go (limit_passed c N) is
     go None is = goes_as c _ c' (record { session = refl; ids = omega arith }) (ap (λ (p : Client × Answer). p.0) is)
 
 pub sound_edited : (w : World) (i : ℕ) (c c' : Client) (k k' : Replica) (word : EditWord) (edit : Edit) (a : Answer) → IsSound w → slice_get w.lists.clients i ≡ Some c → slice_get w.kept i ≡ Some k
-    → after_edit c word (resolve (document_of k.shown) w.header.schema (next_names c) edit) ≡ (c', a) → IsEditedReplica c k (resolve (document_of k.shown) w.header.schema (next_names c) edit) k'
+    → after_edit c word (resolve (document_of k.main.doc) w.header.schema (next_names c) edit) ≡ (c', a) → IsEditedReplica c k (resolve (document_of k.main.doc) w.header.schema (next_names c) edit) k'
     → IsSoundAfter (w.steps + 1) (record w { lists = record w.lists { clients = slice_set w.lists.clients i c' }; kept = slice_set w.kept i k' })
 sound_edited w i c c' k k' word edit a s at_c at_k done kept =
     let h = header_view w.header in
     let st = start_of w w.steps s in
     let log = w.lists.log in
-    let D = document_of k.shown in
+    let D = document_of k.main.doc in
     let r = resolve D w.header.schema (next_names c) edit in
     let one = one_at w i c k s at_c at_k in
     let on = edited_on c c' word r a done in
-    let sound = shown_sound h st log c D one.client one.kept.shown in
-    let nodes : NodesFresh D (next_names c) = λ j low. fresh_nodes h st log c D one.client one.kept.shown j in
-    let cells : CellsFresh D (next_names c) = λ j low. fresh_cells h st log c D one.client one.kept.shown j in
+    let sound = shown_sound h st log c D one.client (kept_shown h log c k one.kept) in
+    let nodes : NodesFresh D (next_names c) = λ j low. fresh_nodes h st log c D one.client (kept_shown h log c k one.kept) j in
+    let cells : CellsFresh D (next_names c) = λ j low. fresh_cells h st log c D one.client (kept_shown h log c k one.kept) j in
     let fits : (N : Intent) → r ≡ Ok N → Fits D N = λ N e. resolved_fits D w.header.schema (next_names c) edit N sound s.header.schema nodes cells e in
     sound_client w i c c' k' s at_c
     (one_edited h st log c c' k k' word r a one s.few_names (λ N e. let m = meant_of D w.header.schema (next_names c) edit N e in (fits N e, m.0, m.1)) done kept)
     on.session on.ids
-    (edited_keeps h st log w.lists.clients i c c' D word r a s.sessions (clients_of h log w.lists.clients w.kept s.kept) at_c one.kept.shown (λ N e. record {
+    (edited_keeps h st log w.lists.clients i c c' D word r a s.sessions (clients_of h log w.lists.clients w.kept s.kept) at_c (kept_shown h log c k one.kept) (λ N e. record {
       itself = (fits N e).itself;
       rev = (meant_of D w.header.schema (next_names c) edit N e).0;
       agrees = λ home conforms tells. resolved_agrees w.header.schema home D (next_names c) N sound s.header.schema conforms nodes cells tells edit e;
@@ -177,15 +178,21 @@ next_delivered h w i c q c' D a at_c at_q received done =
 
 -- ## What is shown
 
+-- the document that a head shows
+abbrev IsShownOf : Replica → Document → Type 0
+IsShownOf k E = (joined : Option Intent) → HasOpen k.main joined → E ≡ with_open (document_of k.main.doc) joined
+
 -- what a client shows is sound in form
-pub shown_in_form : (w : World) (i : ℕ) (k : Replica) → IsSound w → slice_get w.kept i ≡ Some k → IsSoundInForm (document_of k.shown)
-shown_in_form w i k s at_k =
+pub shown_in_form : (w : World) (i : ℕ) (k : Replica) (E : Document) → IsSound w → slice_get w.kept i ≡ Some k → IsShownOf k E → IsSoundInForm E
+shown_in_form w i k E s at_k shows =
     let h = header_view w.header in
     let c = kept_of h w.lists.log w.lists.clients w.kept i k s.kept at_k in
     let one = one_at w i c.0 k s c.1 at_k in
-    shown_sound h (start_of w w.steps s) w.lists.log c.0 (document_of k.shown) one.client one.kept.shown
+    subst IsSoundInForm (sym (shows None one.kept.edited)) (shown_sound h (start_of w w.steps s) w.lists.log c.0 (document_of k.main.doc) one.client (kept_shown h w.lists.log c.0 k one.kept))
 
-pub next_shown : (w : World) (i : ℕ) (q : Client) (k : Replica) (tree : List ℕ) → IsSound w → slice_get w.lists.clients i ≡ Some q → slice_get w.kept i ≡ Some k → IsTreeText (is_among w.arrays) (document_of k.shown) tree
+pub next_shown : (w : World) (i : ℕ) (q : Client) (k : Replica) (E : Document) (tree : List ℕ) → IsSound w → slice_get w.lists.clients i ≡ Some q → slice_get w.kept i ≡ Some k → IsShownOf k E → IsTreeText (is_among w.arrays) E tree
     → IsShown (header_view w.header) w.lists q (Show tree)
-next_shown w i q k tree s at_q at_k text =
-    (document_of k.shown, tree, (one_at w i q k s at_q at_k).kept.shown, subst (λ f. IsTreeText f (document_of k.shown) tree) s.arrays text, refl)
+next_shown w i q k E tree s at_q at_k shows text =
+    let h = header_view w.header in
+    let one = one_at w i q k s at_q at_k in
+    (E, tree, subst (HasShown (opening_document h) w.lists.log q) (sym (shows None one.kept.edited)) (kept_shown h w.lists.log q k one.kept), subst (λ f. IsTreeText f E tree) s.arrays text, refl)

@@ -12,18 +12,21 @@ use Rattle.st_marks.specs.Document.{Document}
 use Rattle.st_marks.specs.Intent.{Fits}
 use Rattle.st_marks.specs.Run.{Run, done as nothing, next}
 use Rattle.st_marks.specs.Verdict.{IsVerdict, carried_document}
-use Rattle.st_marks.proofs.OneVerdict.{run_then, run_front, one_run, one_carried}
+use Rattle.st_marks.proofs.OneVerdict.{run_then}
 use Rattle.st_log_laws.specs.Turns.{FitInTurn}
-use Rattle.st_log_laws.proofs.Turns.{in_turn, rest as rest_fit}
+use Rattle.st_log_laws.proofs.Turns.{rest as rest_fit}
 use Rattle.st_doc.specs.Doc.{document_of}
 use Rattle.st_doc.specs.declared.doc.Doc.{Doc}
+use Rattle.st_heads.specs.declared.heads.Head.{Head}
+use Rattle.st_heads.specs.Remembered.{AreCarried, none}
+use Rattle.st_heads.proofs.Runs.{as_many, run_of, runs_joined}
 use Rattle.st_script.specs.Header.{HeaderView}
 use Rattle.st_script.specs.declared.answer.Answer.{Answer}
 use Rattle.st_trace.specs.Replicas.{IsClient, IsReplicaOf}
-use Rattle.st_trace.specs.inside.Replicas.{IsCommitted, IsPending, IsEditedReplica, CanReceive, CanCarry, HasMoved, HasReceivedNext, HasReceivedOf, HasReceivedOne}
+use Rattle.st_trace.specs.inside.Replicas.{IsCommitted, IsPending, IsEditedReplica, IsNewReplica, CanReceive, CanCarry, HasMoved, HasReceivedNext, HasReceivedOf, HasReceivedOne}
 use Rattle.st_lists.specs.Log.{commit_of, commits_in, log_with}
 use Rattle.st_trace.specs.World.{IsDeliveredTo, after_edit, opening_document, with_pending}
-use Rattle.st_lists.specs.Clients.{with_commit, new_client, next_rev, pending_after, received_by, with_received}
+use Rattle.st_lists.specs.Clients.{HasShown, with_commit, new_client, next_rev, pending_after, received_by, with_received}
 use Rattle.st_lists.specs.Limits.{limit_passed}
 use Rattle.st_lists.specs.Names.{names_in, names_made}
 use Rattle.st_trace.specs.declared.client.EditWord.{EditWord}
@@ -35,14 +38,15 @@ use Rattle.st_trace.proofs.Begun.{IsStart}
 use Rattle.st_lists.proofs.Names.{names_append}
 use Rattle.st_trace.proofs.Clients.{client_committed, client_own, client_other, client_none, other_fit, own_first, received_more}
 use Rattle.st_lists.proofs.Logs.{one_commit, no_commit, entered_front}
+use Rattle.st_trace.proofs.Receiving.{rest_carried}
 
 -- one more commit is carried out
 pub run_more : {O D : Document} {Ns : List Intent} (N : Intent) (E : Document) (v : Verdict) → Run O Ns D → IsVerdict D N v → E ≡ carried_document v D N → Run O (Ns ++ N ∷ []) E
 run_more {O} {D} {Ns} N E v r a e = subst (λ F. Run O (Ns ++ N ∷ []) F) (sym e) (run_then r (next v a nothing))
 
--- an intent is carried out in two documents that are one
-pub both_carried : (D E X Y : Document) (N : Intent) (v w : Verdict) → D ≡ E → IsVerdict D N v → IsVerdict E N w → X ≡ carried_document v D N → Y ≡ carried_document w E N → X ≡ Y
-both_carried D E X Y N v w same a b x y = x ∙ ap (λ F. carried_document v F N) same ∙ one_carried E N v w (subst (λ F. IsVerdict F N v) same a) b ∙ sym y
+-- what is kept shows what the client does
+pub kept_shown : (h : HeaderView) (log : List Entry) (c : Client) (k : Replica) → IsReplicaOf h log c k → HasShown (opening_document h) log c (document_of k.main.doc)
+kept_shown h log c k w = run_then w.received (run_of w.own)
 
 -- what a client and what is kept of it are together
 pub record AreOne (h : HeaderView) (log : List Entry) (c : Client) (k : Replica) : Type 0 where
@@ -58,7 +62,9 @@ module _ (h : HeaderView) (st : IsStart (opening_document h)) where
       let one_name : names_in (N ∷ []) ≡ names_made N = omega arith in
       record {
         received = subst (λ (d : Doc). Run (opening_document h) A (document_of d)) (sym done.received) w.received;
-        shown = subst (λ l. Run (opening_document h) l (document_of k'.shown)) (append_assoc A c.pending (N ∷ [])) (run_more N (document_of k'.shown) done.shown.0 w.shown done.shown.1 done.shown.2);
+        own = subst (λ (d : Doc). AreCarried (document_of d) (c.pending ++ N ∷ []) k'.main.own (document_of k'.main.doc)) (sym done.received)
+            (subst (λ ks. AreCarried (document_of k.received) (c.pending ++ N ∷ []) ks (document_of k'.main.doc)) (sym done.main.own) (runs_joined w.own done.main.run));
+        edited = done.main.edited ∙ w.edited;
         names = omega (arith, done.names, w.names, names_append c.pending (N ∷ []), one_name);
       }
 
@@ -80,7 +86,7 @@ module _ (h : HeaderView) (st : IsStart (opening_document h)) where
           few_names q = grind (arith, nat_tests)
 
   pub one_edited : (log : List Entry) (c c' : Client) (k k' : Replica) (word : EditWord) (r : Result Intent EditFault) (a : Answer) → AreOne h log c k → names_in (commits_in log) ≤ 131072
-      → ((N : Intent) → r ≡ Ok N → Fits (document_of k.shown) N × (N.rev ≡ next_rev c) × (N.schema ≡ None)) → after_edit c word r ≡ (c', a) → IsEditedReplica c k r k' → AreOne h log c' k'
+      → ((N : Intent) → r ≡ Ok N → Fits (document_of k.main.doc) N × (N.rev ≡ next_rev c) × (N.schema ≡ None)) → after_edit c word r ≡ (c', a) → IsEditedReplica c k r k' → AreOne h log c' k'
   one_edited log c c' k k' word (Err f) a w all meant is kept =
       let same : c ≡ c' = ap (λ (p : Client × Answer). p.0) is in
       subst (λ x. AreOne h log x k') same (subst (λ x. AreOne h log c x) (sym kept) w)
@@ -95,17 +101,11 @@ module _ (h : HeaderView) (st : IsStart (opening_document h)) where
           let m = meant N refl in
           let few = within_limits c N e in
           subst (λ x. AreOne h log x k') same (record {
-            client = client_committed h st log c (document_of k.shown) N w.client w.kept.shown m.0 m.1 m.2 few.0 few.1 all;
+            client = client_committed h st log c (document_of k.main.doc) N w.client (kept_shown h log c k w.kept) m.0 m.1 m.2 few.0 few.1 all;
             kept = kept_committed log c k k' N w.kept kept;
           })
 
   -- ## Receiving
-
-  -- what is pending leads from what was received to what is shown
-  pub pending_run : (log : List Entry) (c : Client) (k : Replica) → AreOne h log c k → Run (document_of k.received) c.pending (document_of k.shown)
-  pending_run log c k w =
-      let f = run_front (received_by log c) w.kept.shown st.sound (in_turn w.kept.shown w.client.shown_fit) in
-      subst (λ (D : Document). Run D c.pending (document_of k.shown)) (one_run f.1 w.kept.received) f.2
 
   -- the next entry can be received
   pub can_receive : (log : List Entry) (c : Client) (k : Replica) (e : Entry) → AreOne h log c k → names_in (commits_in log) ≤ 131072 → slice_get log c.received ≡ Some e → CanReceive c k e
@@ -118,13 +118,14 @@ module _ (h : HeaderView) (st : IsStart (opening_document h)) where
           record {
             fits = (subst (FitInTurn (document_of k.received)) first (rest_fit c.pending w.kept.received w.client.shown_fit)).0;
             later = λ bad. cc;
+            first = λ u. omega (arith, ap length first, as_many w.kept.own);
             names = λ u. omega (arith, names, w.kept.names);
           }
 
       other : (N : Intent) → commit_of e ≡ Some N → (e.session == c.session) ≡ false → CanCarry c k false N
       other N is b =
           let fit = rest_fit (N ∷ c.pending) w.kept.received (other_fit h st log c e N w.client at is b all) in
-          record { fits = fit.0; later = λ u. fit; names = λ bad. cc }
+          record { fits = fit.0; later = λ u. fit; first = λ bad. cc; names = λ bad. cc }
 
       by : (N : Intent) → commit_of e ≡ Some N → (b : Bool) → (e.session == c.session) ≡ b → CanCarry c k b N
       by N is true b = own N is b
@@ -142,11 +143,13 @@ module _ (h : HeaderView) (st : IsStart (opening_document h)) where
       let tail : drop 1 c.pending ≡ _ = ap (λ l. drop 1 l) first in
       let head : c.pending ≡ N ∷ drop 1 c.pending = first ∙ ap (λ l. N ∷ l) (sym tail) in
       let now : commits_in (take (c.received + 1) log) ≡ A ++ N ∷ [] = received_more h st log c e at ∙ ap (λ l. A ++ l) (one_commit e N is) in
-      let all : A ++ c.pending ≡ commits_in (take (c.received + 1) log) ++ drop 1 c.pending = ap (λ l. A ++ l) head ∙ sym (append_assoc A (N ∷ []) (drop 1 c.pending)) ∙ ap (λ l. l ++ drop 1 c.pending) (sym now) in
       let names : names_in c.pending ≡ names_made N + names_in (drop 1 c.pending) = ap names_in head in
       record {
         received = subst (λ l. Run (opening_document h) l (document_of k'.received)) (sym now) (run_more N (document_of k'.received) v w.kept.received got.0.verdict got.0.after);
-        shown = subst (λ l. Run (opening_document h) l (document_of k'.shown)) all (subst (λ (D : Document). Run (opening_document h) (A ++ c.pending) D) (sym got.1.0) w.kept.shown);
+        own = subst (λ (m : Head). AreCarried (document_of k'.received) (drop 1 c.pending) m.own (document_of m.doc)) (sym got.1.0)
+            (rest_carried (document_of k.received) (document_of k'.received) (document_of k.main.doc) N (drop 1 c.pending) k.main.own v
+            (subst (λ l. AreCarried (document_of k.received) l k.main.own (document_of k.main.doc)) head w.kept.own) (omega (arith, ap length head, as_many w.kept.own)) got.0.verdict got.0.after);
+        edited = ap (λ (m : Head). m.edited) got.1.0 ∙ w.kept.edited;
         names = omega (arith, got.1.1, names, w.kept.names);
       }
 
@@ -157,7 +160,7 @@ module _ (h : HeaderView) (st : IsStart (opening_document h)) where
       let now : commits_in (take (c.received + 1) log) ≡ A ++ N ∷ [] = received_more h st log c e at ∙ ap (λ l. A ++ l) (one_commit e N is) in
       let r : Run (opening_document h) (commits_in (take (c.received + 1) log)) (document_of k'.received) =
       subst (λ l. Run (opening_document h) l (document_of k'.received)) (sym now) (run_more N (document_of k'.received) v w.kept.received got.0.verdict got.0.after) in
-      record { received = r; shown = run_then r got.1.0; names = got.1.1 ∙ w.kept.names }
+      record { received = r; own = got.1.0; edited = got.1.1; names = got.1.2 ∙ w.kept.names }
 
   kept_none : (log : List Entry) (c : Client) (k : Replica) (e : Entry) → AreOne h log c k → slice_get log c.received ≡ Some e → commit_of e ≡ None → IsReplicaOf h log (record c { received = c.received + 1 }) k
   kept_none log c k e w at is =
@@ -165,7 +168,8 @@ module _ (h : HeaderView) (st : IsStart (opening_document h)) where
       let now : A ≡ commits_in (take (c.received + 1) log) = sym (received_more h st log c e at ∙ ap (λ l. A ++ l) (no_commit e is) ∙ append-nil A) in
       record {
         received = subst (λ l. Run (opening_document h) l (document_of k.received)) now w.kept.received;
-        shown = subst (λ l. Run (opening_document h) (l ++ c.pending) (document_of k.shown)) now w.kept.shown;
+        own = w.kept.own;
+        edited = w.kept.edited;
         names = w.kept.names;
       }
 
@@ -205,20 +209,22 @@ module _ (h : HeaderView) (st : IsStart (opening_document h)) where
       let front = sym (entered_front log session body c.received within) in
       record {
         received = subst (λ (es : List Entry). Run (opening_document h) (commits_in es) (document_of k.received)) front w.received;
-        shown = subst (λ (es : List Entry). Run (opening_document h) (commits_in es ++ c.pending) (document_of k.shown)) front w.shown;
+        own = w.own;
+        edited = w.edited;
         names = w.names;
       }
 
   pub kept_rest : (log : List Entry) (c : Client) (rest : List Body) (k : Replica) → IsReplicaOf h log c k → IsReplicaOf h log (record c { queue = rest }) k
-  kept_rest log c rest k w = record { received = w.received; shown = w.shown; names = w.names }
+  kept_rest log c rest k w = record { received = w.received; own = w.own; edited = w.edited; names = w.names }
 
   -- of a client that joins
-  pub kept_joined : (log : List Entry) (n session : ℕ) (name : List ℕ) (k : Replica) (D : Document) → n ≡ length log → Run (opening_document h) (commits_in log) D → document_of k.received ≡ D → document_of k.shown ≡ D → k.names ≡ 0
+  pub kept_joined : (log : List Entry) (n session : ℕ) (name : List ℕ) (k : Replica) (D : Document) → n ≡ length log → Run (opening_document h) (commits_in log) D → IsNewReplica D k
       → IsReplicaOf h log (new_client n session name) k
-  kept_joined log n session name k D is_n run received shown names =
+  kept_joined log n session name k D is_n run new =
       let whole : log ≡ take n log = sym (take_all n log (omega (arith, is_n))) in
       record {
-        received = subst (λ (es : List Entry). Run (opening_document h) (commits_in es) (document_of k.received)) whole (subst (λ (E : Document). Run (opening_document h) (commits_in log) E) (sym received) run);
-        shown = subst (λ l. Run (opening_document h) l (document_of k.shown)) (ap commits_in whole ∙ sym (append-nil (commits_in (take n log)))) (subst (λ (E : Document). Run (opening_document h) (commits_in log) E) (sym shown) run);
-        names = names;
+        received = subst (λ (es : List Entry). Run (opening_document h) (commits_in es) (document_of k.received)) whole (subst (λ (E : Document). Run (opening_document h) (commits_in log) E) (sym new.received) run);
+        own = subst (λ (E : Document). AreCarried (document_of k.received) [] k.main.own E) (new.received ∙ sym new.shown) (subst (λ ks. AreCarried (document_of k.received) [] ks (document_of k.received)) (sym new.own) none);
+        edited = new.edited;
+        names = new.names;
       }

@@ -6,7 +6,6 @@ pub mod Meanings
 pub mod Everyone
 pub mod Agreed
 pub mod Stepping
-pub mod Turning
 pub mod Receiving
 pub mod Acting
 pub mod Showing

@@ -1,5 +1,5 @@
 -- What the kept documents and numbers stand for, and what holds of the lists of each world that steps lead to.
-use Rattle.std.specs.Prelude.{◌-◌, ◌≡◌, ◌==◌, ℕ, ◌+◌, ◌≤◌, true, List, [], ◌∷◌, ◌++◌, length, map, drop, filter, Option, IfSome}
+use Rattle.std.specs.Prelude.{◌-◌, ◌≡◌, ◌==◌, ℕ, ◌+◌, ◌≤◌, true, List, [], ◌∷◌, ◌++◌, length, map, drop, filter, Option, None, IfSome}
 use Rattle.std.specs.List.{AllByRecursion}
 use Rattle.st_ids.specs.Listing.{Has}
 use Rattle.st_ids.specs.declared.names.FieldId.{FieldId}
@@ -16,10 +16,11 @@ use Rattle.st_doc.specs.Doc.{document_of}
 use Rattle.st_doc.specs.LiveText.{is_among}
 use Rattle.st_schema.specs.Schema.{is_sound}
 use Rattle.st_edits.specs.ArrayTypes.{is_array_type}
+use Rattle.st_heads.specs.Remembered.{AreCarried}
 use Rattle.st_script.specs.Header.{HeaderView, header_view, may_open}
 use Rattle.st_lists.specs.Known.{AreKnown}
 use Rattle.st_lists.specs.Log.{commit_of, commits_by, commits_in, intents_of, log_and_queue}
-use Rattle.st_lists.specs.Clients.{HasReceived, HasShown, received_by}
+use Rattle.st_lists.specs.Clients.{HasReceived, received_by}
 use Rattle.st_trace.specs.World.{opening_document}
 use Rattle.st_lists.specs.Names.{names_in}
 use Rattle.st_trace.specs.declared.replica.Replica.{Replica}
@@ -45,10 +46,12 @@ pub record IsClient (h : HeaderView) (log : List Entry) (c : Client) : Type 0 wh
   pub own : AllByRecursion (λ (N : Intent). N.rev.session ≡ c.session) (intents_of c.queue)
   pub ids : (N : Intent) → Has (log_and_queue log c) N → N.rev.session ≡ c.session → N.rev.num ≤ c.ids
 
--- the kept documents are those to which the client's lists lead
+-- what is kept is that to which the client's lists lead
 pub record IsReplicaOf (h : HeaderView) (log : List Entry) (c : Client) (k : Replica) : Type 0 where
   pub received : HasReceived (opening_document h) log c (document_of k.received)
-  pub shown : HasShown (opening_document h) log c (document_of k.shown)
+  -- the head of its main line stands on that document: its own commits are the pending ones, and nothing is edited beside them
+  pub own : AreCarried (document_of k.received) c.pending k.main.own (document_of k.main.doc)
+  pub edited : k.main.edited ≡ None
   pub names : k.names ≡ names_in c.pending
 
 -- ## The world

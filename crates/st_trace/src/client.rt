@@ -1,15 +1,15 @@
 //! What one client does: its edits, and what it receives. Its documents are kept beside it.
-ghost use Rattle.std.specs.Prelude.{◌≡◌, ◌==◌, ◌+◌, ◌-◌, ◌^◌, ◌<◌, ◌≤◌, ℕ, true, false, is_some, [], ◌∷◌, ◌++◌, length, slice_get, option_copied, option_map, min, MatchOption, IfOk, IfSome, OnOk, None};
+ghost use Rattle.std.specs.Prelude.{◌≡◌, ◌==◌, ◌+◌, ◌-◌, ◌^◌, ◌<◌, ◌≤◌, ℕ, true, false, is_some, [], ◌∷◌, ◌++◌, length, slice_get, option_copied, option_map, min, drop, MatchOption, IfOk, IfSome, OnOk, None};
 ghost use Rattle.st_tree.specs.Preorder.{cell_named, node_named};
 ghost use Rattle.st_marks.specs.Document.{IsSoundInForm};
 ghost use Rattle.st_marks.specs.Intent.{Fits};
-ghost use Rattle.st_marks.specs.Run.{Run};
 ghost use Rattle.st_doc.specs.Doc.{document_of};
 ghost use Rattle.st_edits.specs.Resolve.{IsWithin, resolve};
 ghost use Rattle.st_log_laws.specs.Turns.{FitInTurn};
+ghost use Rattle.st_heads.specs.Remembered.{AreCarried};
 ghost use Rattle.st_script.specs.Steps.{edit_view};
 ghost use Rattle.st_trace.specs.inside.Edits.{edit_of};
-ghost use Rattle.st_trace.specs.inside.Replicas.{IsCommitted, IsPending, IsEditedReplica, HasCarried, HasReceivedOne, CanReceive, HasReceivedNext, HasMoved};
+ghost use Rattle.st_trace.specs.inside.Replicas.{IsCommitted, IsPending, IsEditedReplica, HasCarried, HasReceivedOne, CanReceive, HasReceivedNext, HasMoved, IsNewReplica};
 ghost use Rattle.st_lists.specs.Names.{names_in, names_in_text, names_made};
 ghost use Rattle.st_lists.specs.Clients.{next_rev, with_commit, is_own, with_received, new_client};
 ghost use Rattle.st_trace.specs.World.{word_of, next_names, refusal_of, with_pending, after_edit, answer_of, IsDeliveredTo};
@@ -21,6 +21,7 @@ use crate::edits::{resolve_edit, word_of};
 use crate::replica::Replica;
 use st_doc::Doc;
 use st_edits::NameCounters;
+use st_heads::Head;
 use st_ids::{Copied, Limit, LimitOf, List, Or, Rev, Text};
 use st_lists::{Body, Client, Entry, names_in_text, names_made};
 use st_marks::{Intent, Verdict};
@@ -148,13 +149,13 @@ fn commit(
 ) -> Result<(), AllocError>
     requires few { client.old.ids + 1 < 2 ^ 32 }
     requires names { kept.old.names + names_made intent ≤ 16384 }
-    requires sound { IsSoundInForm (document_of kept.old.shown) }
-    requires fits { Fits (document_of kept.old.shown) intent }
+    requires sound { IsSoundInForm (document_of kept.old.main.doc) }
+    requires fits { Fits (document_of kept.old.main.doc) intent }
     ensures client { OnOk result (client.new ≡ with_commit client.old intent) }
     ensures kept { OnOk result (IsCommitted kept.old intent kept.new) }
 {
     kept.names += names_made(&intent);
-    kept.shown.carry(alloc, &intent)?;
+    kept.main.carry(alloc, &intent)?;
     enqueue(alloc, client, intent)?;
     Ok(())
 }
@@ -171,8 +172,8 @@ fn add_pending(
     requires pending { length client.old.pending ≤ 256 }
     requires names { kept.old.names ≡ names_in client.old.pending }
     requires few_names { names_in client.old.pending ≤ 16384 }
-    requires sound { IsSoundInForm (document_of kept.old.shown) }
-    requires fits { Fits (document_of kept.old.shown) intent }
+    requires sound { IsSoundInForm (document_of kept.old.main.doc) }
+    requires fits { Fits (document_of kept.old.main.doc) intent }
     ensures answer { IfOk result (λ a. with_pending client.old done intent (limit_passed client.old intent) ≡ (client.new, a)) }
     ensures kept { OnOk result (IsPending kept.old intent (limit_passed client.old intent) kept.new) }
 {
@@ -197,16 +198,16 @@ pub fn edit(
     requires pending { length client.old.pending ≤ 256 }
     requires names { kept.old.names ≡ names_in client.old.pending }
     requires few_names { names_in client.old.pending ≤ 16384 }
-    requires sound { IsSoundInForm (document_of kept.old.shown) }
-    requires fresh_nodes { (k : ℕ) → (document_of kept.old.shown).nodes (node_named (next_rev client.old) k) ≡ None }
-    requires fresh_cells { (k : ℕ) → (document_of kept.old.shown).row_of (cell_named (next_rev client.old) k) ≡ None }
+    requires sound { IsSoundInForm (document_of kept.old.main.doc) }
+    requires fresh_nodes { (k : ℕ) → (document_of kept.old.main.doc).nodes (node_named (next_rev client.old) k) ≡ None }
+    requires fresh_cells { (k : ℕ) → (document_of kept.old.main.doc).row_of (cell_named (next_rev client.old) k) ≡ None }
     ensures answer { IfOk result (λ a. after_edit client.old (word_of (edit_view edit.now))
-        (resolve (document_of kept.old.shown) schema.now (next_names client.old) (edit_of edit.now)) ≡ (client.new, a)) }
+        (resolve (document_of kept.old.main.doc) schema.now (next_names client.old) (edit_of edit.now)) ≡ (client.new, a)) }
     ensures kept { OnOk result (IsEditedReplica client.old kept.old
-        (resolve (document_of kept.old.shown) schema.now (next_names client.old) (edit_of edit.now)) kept.new) }
+        (resolve (document_of kept.old.main.doc) schema.now (next_names client.old) (edit_of edit.now)) kept.new) }
 {
     schema.is_kept();
-    match resolve_edit(alloc, &kept.shown, schema, next_names(client), edit) {
+    match resolve_edit(alloc, &kept.main.doc, schema, next_names(client), edit) {
         Ok(intent) => {
             let answer = add_pending(alloc, client, kept, word_of(edit), intent)?;
             Ok(answer)
@@ -216,29 +217,16 @@ pub fn edit(
     }
 }
 
-// Carries out commits in turn.
-fn carry_all(alloc: Global, doc: &mut Doc, intents: &[Intent]) -> Result<(), AllocError>
-    requires sound { IsSoundInForm (document_of doc.old) }
-    requires fit { FitInTurn (document_of doc.old) intents.now }
-    ensures { OnOk result (Run (document_of doc.old) intents.now (document_of doc.new)) }
-{
-    for intent in intents {
-        doc.carry(alloc, intent)?;
-    }
-    Ok(())
-}
-
-// Makes the document that a client shows, from what it received and what it has pending.
-fn replay_pending(alloc: Global, kept: &mut Replica, pending: &[Intent]) -> Result<(), AllocError>
+// Makes the head of the main line anew, from what was received and what is pending.
+fn renew_main(alloc: Global, kept: &mut Replica, pending: &[Intent]) -> Result<(), AllocError>
     requires sound { IsSoundInForm (document_of kept.old.received) }
     requires fit { FitInTurn (document_of kept.old.received) pending.now }
-    ensures shown { OnOk result (Run (document_of kept.old.received) pending.now (document_of kept.new.shown)) }
+    ensures own { OnOk result (AreCarried (document_of kept.old.received) pending.now kept.new.main.own (document_of kept.new.main.doc)) }
+    ensures edited { OnOk result (kept.new.main.edited ≡ None) }
     ensures received { OnOk result (kept.new.received ≡ kept.old.received) }
     ensures names { OnOk result (kept.new.names ≡ kept.old.names) }
 {
-    let mut doc = kept.received.copy(alloc)?;
-    carry_all(alloc, &mut doc, pending)?;
-    kept.shown = doc;
+    kept.main = Head::over(alloc, &kept.received, pending)?;
     Ok(())
 }
 
@@ -246,13 +234,15 @@ fn replay_pending(alloc: Global, kept: &mut Replica, pending: &[Intent]) -> Resu
 fn receive_own(alloc: Global, kept: &mut Replica, intent: &Intent) -> Result<Verdict, AllocError>
     requires sound { IsSoundInForm (document_of kept.old.received) }
     requires fits { Fits (document_of kept.old.received) intent.now }
+    requires own { 0 < length kept.old.main.own }
     requires names { names_made intent.now ≤ kept.old.names }
     requires few { kept.old.names ≤ 16384 }
     ensures received { IfOk result (λ v. HasCarried kept.old intent.now v kept.new) }
-    ensures shown { OnOk result (kept.new.shown ≡ kept.old.shown) }
+    ensures main { OnOk result (kept.new.main ≡ record kept.old.main { own = drop 1 kept.old.main.own }) }
     ensures names { OnOk result (kept.new.names ≡ kept.old.names - names_made intent.now) }
 {
     kept.names -= names_made(intent);
+    let _ = kept.main.own.remove(0);
     let verdict = kept.received.carry(alloc, intent)?;
     Ok(verdict)
 }
@@ -260,13 +250,14 @@ fn receive_own(alloc: Global, kept: &mut Replica, intent: &Intent) -> Result<Ver
 // A commit comes where nothing is pending.
 fn receive_last(alloc: Global, kept: &mut Replica, intent: &Intent) -> Result<Verdict, AllocError>
     requires sound { IsSoundInForm (document_of kept.old.received) }
-    requires same { document_of kept.old.shown ≡ document_of kept.old.received }
+    requires same { document_of kept.old.main.doc ≡ document_of kept.old.received }
     requires fits { Fits (document_of kept.old.received) intent.now }
     ensures received { IfOk result (λ v. HasCarried kept.old intent.now v kept.new) }
-    ensures shown { OnOk result (document_of kept.new.shown ≡ document_of kept.new.received) }
+    ensures same { OnOk result (document_of kept.new.main.doc ≡ document_of kept.new.received) }
+    ensures main { OnOk result (kept.new.main ≡ record kept.old.main { doc = kept.new.main.doc }) }
     ensures names { OnOk result (kept.new.names ≡ kept.old.names) }
 {
-    kept.shown.carry(alloc, intent)?;
+    kept.main.doc.carry(alloc, intent)?;
     let verdict = kept.received.carry(alloc, intent)?;
     Ok(verdict)
 }
@@ -281,11 +272,12 @@ fn receive_before(
     requires sound { IsSoundInForm (document_of kept.old.received) }
     requires fits { FitInTurn (document_of kept.old.received) (intent.now ∷ pending.now) }
     ensures received { IfOk result (λ v. HasCarried kept.old intent.now v kept.new) }
-    ensures shown { OnOk result (Run (document_of kept.new.received) pending.now (document_of kept.new.shown)) }
+    ensures own { OnOk result (AreCarried (document_of kept.new.received) pending.now kept.new.main.own (document_of kept.new.main.doc)) }
+    ensures edited { OnOk result (kept.new.main.edited ≡ None) }
     ensures names { OnOk result (kept.new.names ≡ kept.old.names) }
 {
     let verdict = kept.received.carry(alloc, intent)?;
-    replay_pending(alloc, kept, pending)?;
+    renew_main(alloc, kept, pending)?;
     Ok(verdict)
 }
 
@@ -298,9 +290,11 @@ fn receive(
     intent: &Intent,
 ) -> Result<Verdict, AllocError>
     requires sound { IsSoundInForm (document_of kept.old.received) }
-    requires shown { Run (document_of kept.old.received) client.now.pending (document_of kept.old.shown) }
+    requires own { AreCarried (document_of kept.old.received) client.now.pending kept.old.main.own (document_of kept.old.main.doc) }
+    requires edited { kept.old.main.edited ≡ None }
     requires fits { Fits (document_of kept.old.received) intent.now }
     requires later { is_own ≡ false → FitInTurn (document_of kept.old.received) (intent.now ∷ client.now.pending) }
+    requires first { is_own ≡ true → 0 < length kept.old.main.own }
     requires names { is_own ≡ true → names_made intent.now ≤ kept.old.names }
     requires few { kept.old.names ≤ 16384 }
     ensures { IfOk result (λ v. HasReceivedOne client.now kept.old is_own intent.now v kept.new) }
@@ -332,7 +326,8 @@ fn receive_entry(
     entry: &Entry,
 ) -> Result<Verdict, AllocError>
     requires sound { IsSoundInForm (document_of kept.old.received) }
-    requires shown { Run (document_of kept.old.received) client.now.pending (document_of kept.old.shown) }
+    requires own { AreCarried (document_of kept.old.received) client.now.pending kept.old.main.own (document_of kept.old.main.doc) }
+    requires edited { kept.old.main.edited ≡ None }
     requires next { CanReceive client.now kept.old entry.now }
     requires few { kept.old.names ≤ 16384 }
     ensures { IfOk result (λ v. HasReceivedNext client.now kept.old entry.now v kept.new) }
@@ -384,7 +379,8 @@ pub fn deliver(
 ) -> Result<Answer, AllocError>
     requires entries { length log.now < 2 ^ 32 - 1 }
     requires sound { IsSoundInForm (document_of kept.old.received) }
-    requires shown { Run (document_of kept.old.received) client.old.pending (document_of kept.old.shown) }
+    requires own { AreCarried (document_of kept.old.received) client.old.pending kept.old.main.own (document_of kept.old.main.doc) }
+    requires edited { kept.old.main.edited ≡ None }
     requires next { IfSome (slice_get log.now client.old.received) (CanReceive client.old kept.old) }
     requires few { kept.old.names ≤ 16384 }
     ensures answer { IfOk result (IsDeliveredTo (document_of kept.old.received) client.old (slice_get log.now client.old.received) client.new) }
@@ -449,28 +445,38 @@ pub fn add_client(
     Ok(())
 }
 
-// What is kept of a client that has received the whole log, to whose commits `head` is the document, and has nothing
-// pending.
-fn new_replica(alloc: Global, head: &Doc) -> Result<Replica, AllocError>
-    ensures received { IfOk result (λ k. document_of k.received ≡ document_of head.now) }
-    ensures shown { IfOk result (λ k. document_of k.shown ≡ document_of head.now) }
-    ensures names { IfOk result (λ k. k.names ≡ 0) }
+// The head of a line over a document, with no commit of its own.
+fn first_head(alloc: Global, doc: &Doc) -> Result<Head, AllocError>
+    ensures doc { IfOk result (λ h. document_of h.doc ≡ document_of doc.now) }
+    ensures own { IfOk result (λ h. h.own ≡ []) }
+    ensures edited { IfOk result (λ h. h.edited ≡ None) }
 {
-    let received = head.copy(alloc)?;
-    let shown = head.copy(alloc)?;
+    Ok(Head {
+        doc: doc.copy(alloc)?,
+        own: List::new(alloc),
+        edited: None,
+    })
+}
+
+// What is kept of a client that has received the whole log, to whose commits `doc` is the document, and has nothing
+// pending.
+fn new_replica(alloc: Global, doc: &Doc) -> Result<Replica, AllocError>
+    ensures { IfOk result (IsNewReplica (document_of doc.now)) }
+{
+    let received = doc.copy(alloc)?;
+    let main = first_head(alloc, doc)?;
     Ok(Replica {
         received,
-        shown,
+        main,
         names: 0,
     })
 }
 
 /// Puts behind the others what is kept of a client that has received the whole log and has nothing pending.
-pub fn add_replica(alloc: Global, all: &mut List<Replica>, head: &Doc) -> Result<(), AllocError>
-    ensures { OnOk result ((k : KeptOf) × (all.new ≡ all.old ++ k ∷ [])
-        × (document_of k.received ≡ document_of head.now) × (document_of k.shown ≡ document_of head.now) × (k.names ≡ 0)) }
+pub fn add_replica(alloc: Global, all: &mut List<Replica>, doc: &Doc) -> Result<(), AllocError>
+    ensures { OnOk result ((k : KeptOf) × (all.new ≡ all.old ++ k ∷ []) × IsNewReplica (document_of doc.now) k) }
 {
-    let kept = new_replica(alloc, head)?;
+    let kept = new_replica(alloc, doc)?;
     all.push(kept)?;
     Ok(())
 }

@@ -344,7 +344,7 @@ impl World {
         match self.kept.get(i) {
             None => Ok(Answer::No(Refusal::NoClient)),
             Some(kept) => {
-                let tree = kept.shown.whole(alloc, self.arrays.as_slice())?;
+                let tree = kept.main.shown_doc().whole(alloc, self.arrays.as_slice())?;
                 Ok(Answer::Show { tree })
             }
         }

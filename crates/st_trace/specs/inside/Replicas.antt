@@ -1,15 +1,16 @@
 -- Words of the private functions behind `Replicas`.
-use Rattle.std.specs.Prelude.{◌-◌, false, Result, Ok, Err, ◌≡◌, ◌==◌, ◌+◌, ◌≤◌, Bool, true, ◌∷◌, Option, Some, None, IfSome}
+use Rattle.std.specs.Prelude.{◌-◌, false, Result, Ok, Err, ◌≡◌, ◌==◌, ◌+◌, ◌<◌, ◌≤◌, Bool, true, [], ◌∷◌, drop, length, Option, Some, None, IfSome}
 use Rattle.st_marks.specs.declared.intents.Intent.{Intent}
 use Rattle.st_marks.specs.declared.verdicts.Verdict.{Verdict}
 use Rattle.st_marks.specs.Document.{Document}
 use Rattle.st_marks.specs.Intent.{Fits}
-use Rattle.st_marks.specs.Run.{Run}
 use Rattle.st_marks.specs.Verdict.{IsVerdict, carried_document}
 use Rattle.st_ids.specs.declared.names.Limit.{Limit}
 use Rattle.st_tree.specs.declared.edit.EditFault.{EditFault}
 use Rattle.st_log_laws.specs.Turns.{FitInTurn}
 use Rattle.st_doc.specs.Doc.{document_of}
+use Rattle.st_heads.specs.Heads as head
+use Rattle.st_heads.specs.Remembered.{AreCarried}
 use Rattle.st_lists.specs.Log.{commit_of}
 use Rattle.st_lists.specs.Names.{names_made}
 use Rattle.st_lists.specs.Limits.{limit_passed}
@@ -27,9 +28,9 @@ IsSoundNext w = IsSoundAfter (w.steps + 1) w
 
 -- ## Steps of a client
 
--- a commit is carried out in the document that a client shows
+-- a commit is carried out at the head of a client's main line
 pub record IsCommitted (old : Replica) (N : Intent) (new : Replica) : Type 0 where
-  pub shown : (v : Verdict) × IsVerdict (document_of old.shown) N v × (document_of new.shown ≡ carried_document v (document_of old.shown) N)
+  pub main : head.HasCarried old.main (N ∷ []) new.main
   pub received : new.received ≡ old.received
   pub names : new.names ≡ old.names + names_made N
 
@@ -47,18 +48,20 @@ pub record HasCarried (old : Replica) (N : Intent) (v : Verdict) (new : Replica)
   pub verdict : IsVerdict (document_of old.received) N v
   pub after : document_of new.received ≡ carried_document v (document_of old.received) N
 
--- a commit of its own leaves what a client shows, and another comes before what is pending
-abbrev pub HasShownAfter : Client → Replica → Bool → Intent → Replica → Type 0
-HasShownAfter c old true N new = (document_of new.shown ≡ document_of old.shown) × (new.names ≡ old.names - names_made N)
-HasShownAfter c old false N new = Run (document_of new.received) c.pending (document_of new.shown) × (new.names ≡ old.names)
+-- a commit of its own was the first that the main line has, and goes; another comes before what is pending
+abbrev pub HasMainAfter : Client → Replica → Bool → Intent → Replica → Type 0
+HasMainAfter c old true N new = (new.main ≡ record old.main { own = drop 1 old.main.own }) × (new.names ≡ old.names - names_made N)
+HasMainAfter c old false N new = AreCarried (document_of new.received) c.pending new.main.own (document_of new.main.doc)
+    × (new.main.edited ≡ None) × (new.names ≡ old.names)
 
 abbrev pub HasReceivedOne : Client → Replica → Bool → Intent → Verdict → Replica → Type 0
-HasReceivedOne c old own N v new = HasCarried old N v new × HasShownAfter c old own N new
+HasReceivedOne c old own N v new = HasCarried old N v new × HasMainAfter c old own N new
 
 -- a commit can be received: it fits what was received, and what is pending then still fits
 pub record CanCarry (c : Client) (k : Replica) (own : Bool) (N : Intent) : Type 0 where
   pub fits : Fits (document_of k.received) N
   pub later : own ≡ false → FitInTurn (document_of k.received) (N ∷ c.pending)
+  pub first : own ≡ true → 0 < length k.main.own
   pub names : own ≡ true → names_made N ≤ k.names
 
 abbrev pub CanReceive : Client → Replica → Entry → Type 0
@@ -76,6 +79,14 @@ HasReceivedNext c old e v new = HasReceivedOf c old (e.session == c.session) (co
 abbrev pub HasMoved : Client → Replica → Option Entry → Replica → Type 0
 HasMoved c old None new = new ≡ old
 HasMoved c old (Some e) new = (v : Verdict) × HasReceivedNext c old e v new
+
+-- what is kept of a client that has received all commits, which lead to that document, and has nothing pending
+pub record IsNewReplica (D : Document) (k : Replica) : Type 0 where
+  pub received : document_of k.received ≡ D
+  pub shown : document_of k.main.doc ≡ D
+  pub own : k.main.own ≡ []
+  pub edited : k.main.edited ≡ None
+  pub names : k.names ≡ 0
 
 -- ## The log
 

@@ -7,4 +7,4 @@ use Rattle.st_trace.proofs.client.edit.Goals as goal
 pub add_pending-requires-clause-fits : goal.add_pending-requires-clause-fits
 add_pending-requires-clause-fits c =
     let meant = rw c.next_names.ensures at c.in-Ok.ensures.ok in
-    resolved_fits (document_of c.args.kept.now.shown) c.args.schema.now (next_names c.args.client.now) (edit_of c.args.edit.now) c.in-Ok.intent c.requires.sound c.is_kept.ensures (λ k low. c.requires.fresh_nodes k) (λ k low. c.requires.fresh_cells k) meant
+    resolved_fits (document_of c.args.kept.now.main.doc) c.args.schema.now (next_names c.args.client.now) (edit_of c.args.edit.now) c.in-Ok.intent c.requires.sound c.is_kept.ensures (λ k low. c.requires.fresh_nodes k) (λ k low. c.requires.fresh_cells k) meant

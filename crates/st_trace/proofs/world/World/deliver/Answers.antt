@@ -5,7 +5,6 @@ use Rattle.st_script.specs.Header.{header_view}
 use Rattle.st_trace.proofs.Acting.{can_deliver, delivered_refused, next_delivered, one_at, sound_delivered}
 use Rattle.st_trace.proofs.Clients.{received_sound}
 use Rattle.st_trace.proofs.Everyone.{kept_none, set_same}
-use Rattle.st_trace.proofs.Keeping.{pending_run}
 use Rattle.st_trace.proofs.Stepping.{sound_later, start_of}
 use Rattle.st_trace.proofs.world.World.deliver.Goals as goal
 
@@ -27,11 +26,13 @@ deliver-requires-clause-sound c =
     let one = one_at w c.args.i c.in-Some-get_mut.client.now c.in-Some.kept.now c.requires.sound (sym c.in-Some-get_mut.ensures.value) (sym c.in-Some.ensures.value) in
     received_sound (header_view w.header) (start_of w w.steps c.requires.sound) w.lists.log c.in-Some-get_mut.client.now (document_of c.in-Some.kept.now.received) one.client one.kept.received
 
-pub deliver-requires-clause-shown : goal.deliver-requires-clause-shown
-deliver-requires-clause-shown c =
-    let w = c.args.self.now in
-    let one = one_at w c.args.i c.in-Some-get_mut.client.now c.in-Some.kept.now c.requires.sound (sym c.in-Some-get_mut.ensures.value) (sym c.in-Some.ensures.value) in
-    pending_run (header_view w.header) (start_of w w.steps c.requires.sound) w.lists.log c.in-Some-get_mut.client.now c.in-Some.kept.now one
+pub deliver-requires-clause-own : goal.deliver-requires-clause-own
+deliver-requires-clause-own c =
+    (one_at c.args.self.now c.args.i c.in-Some-get_mut.client.now c.in-Some.kept.now c.requires.sound (sym c.in-Some-get_mut.ensures.value) (sym c.in-Some.ensures.value)).kept.own
+
+pub deliver-requires-clause-edited : goal.deliver-requires-clause-edited
+deliver-requires-clause-edited c =
+    (one_at c.args.self.now c.args.i c.in-Some-get_mut.client.now c.in-Some.kept.now c.requires.sound (sym c.in-Some-get_mut.ensures.value) (sym c.in-Some.ensures.value)).kept.edited
 
 pub deliver-requires-clause-next : goal.deliver-requires-clause-next
 deliver-requires-clause-next c =

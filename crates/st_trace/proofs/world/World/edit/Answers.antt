@@ -10,6 +10,7 @@ use Rattle.st_trace.proofs.Choosing.{next_edit, within_edit}
 use Rattle.st_trace.proofs.Acting.{edited_refused, few_ids, next_edited, one_at, sound_edited}
 use Rattle.st_trace.proofs.Clients.{fresh_cells, fresh_nodes, shown_sound}
 use Rattle.st_trace.proofs.Everyone.{kept_none, set_same}
+use Rattle.st_trace.proofs.Keeping.{kept_shown}
 use Rattle.st_trace.proofs.Stepping.{sound_later, start_of}
 use Rattle.st_trace.proofs.world.World.edit.Goals as goal
 
@@ -44,19 +45,19 @@ pub edit-requires-clause-sound : goal.edit-requires-clause-sound
 edit-requires-clause-sound c =
     let w = c.args.self.now in
     let one = one_at w c.args.i c.in-Some-get_mut.client.now c.in-Some.kept.now c.requires.sound (sym c.in-Some-get_mut.ensures.value) (sym c.in-Some.ensures.value) in
-    shown_sound (header_view w.header) (start_of w w.steps c.requires.sound) w.lists.log c.in-Some-get_mut.client.now (document_of c.in-Some.kept.now.shown) one.client one.kept.shown
+    shown_sound (header_view w.header) (start_of w w.steps c.requires.sound) w.lists.log c.in-Some-get_mut.client.now (document_of c.in-Some.kept.now.main.doc) one.client (kept_shown (header_view w.header) w.lists.log c.in-Some-get_mut.client.now c.in-Some.kept.now one.kept)
 
 pub edit-requires-clause-fresh_nodes : goal.edit-requires-clause-fresh_nodes
 edit-requires-clause-fresh_nodes c = λ k.
     let w = c.args.self.now in
     let one = one_at w c.args.i c.in-Some-get_mut.client.now c.in-Some.kept.now c.requires.sound (sym c.in-Some-get_mut.ensures.value) (sym c.in-Some.ensures.value) in
-    fresh_nodes (header_view w.header) (start_of w w.steps c.requires.sound) w.lists.log c.in-Some-get_mut.client.now (document_of c.in-Some.kept.now.shown) one.client one.kept.shown k
+    fresh_nodes (header_view w.header) (start_of w w.steps c.requires.sound) w.lists.log c.in-Some-get_mut.client.now (document_of c.in-Some.kept.now.main.doc) one.client (kept_shown (header_view w.header) w.lists.log c.in-Some-get_mut.client.now c.in-Some.kept.now one.kept) k
 
 pub edit-requires-clause-fresh_cells : goal.edit-requires-clause-fresh_cells
 edit-requires-clause-fresh_cells c = λ k.
     let w = c.args.self.now in
     let one = one_at w c.args.i c.in-Some-get_mut.client.now c.in-Some.kept.now c.requires.sound (sym c.in-Some-get_mut.ensures.value) (sym c.in-Some.ensures.value) in
-    fresh_cells (header_view w.header) (start_of w w.steps c.requires.sound) w.lists.log c.in-Some-get_mut.client.now (document_of c.in-Some.kept.now.shown) one.client one.kept.shown k
+    fresh_cells (header_view w.header) (start_of w w.steps c.requires.sound) w.lists.log c.in-Some-get_mut.client.now (document_of c.in-Some.kept.now.main.doc) one.client (kept_shown (header_view w.header) w.lists.log c.in-Some-get_mut.client.now c.in-Some.kept.now one.kept) k
 
 pub returns-clause-next : goal.returns-clause-next
 returns-clause-next c = λ q at.
@@ -67,8 +68,8 @@ returns-clause-next c = λ q at.
     let v = record w.lists { clients = slice_set w.lists.clients c.args.i c.edit.new.client } in
     let a = c.in_ok-answer.answer in
     next_edit (header_view w.header) w.lists c.args.i q v a e
-    (next_edited (header_view w.header) w.lists c.args.i client q c.edit.new.client (word_of (edit_view e)) (λ x D. resolve D w.header.schema (next_names x) (edit_of e)) (document_of c.in-Some.kept.now.shown) a
-    (sym c.in-Some-get_mut.ensures.value) at one.kept.shown c.in_ok-answer.ensures.answer)
+    (next_edited (header_view w.header) w.lists c.args.i client q c.edit.new.client (word_of (edit_view e)) (λ x D. resolve D w.header.schema (next_names x) (edit_of e)) (document_of c.in-Some.kept.now.main.doc) a
+    (sym c.in-Some-get_mut.ensures.value) at (kept_shown (header_view w.header) w.lists.log client c.in-Some.kept.now one.kept) c.in_ok-answer.ensures.answer)
 
 pub returns-clause-sound : goal.returns-clause-sound
 returns-clause-sound c =
@@ -81,5 +82,5 @@ returns-in_default-get_mut-clause-refused c = rw (set_same c.args.self.now.kept 
 pub returns-clause-refused : goal.returns-clause-refused
 returns-clause-refused c =
     let client = c.in-Some-get_mut.client.now in
-    edited_refused c.args.self.now c.args.i client c.edit.new.client c.in-Some.kept.now c.edit.new.kept (word_of (edit_view c.args.edit.now)) (resolve (document_of c.in-Some.kept.now.shown) c.args.self.now.header.schema (next_names client) (edit_of c.args.edit.now)) c.in_ok-answer.answer
+    edited_refused c.args.self.now c.args.i client c.edit.new.client c.in-Some.kept.now c.edit.new.kept (word_of (edit_view c.args.edit.now)) (resolve (document_of c.in-Some.kept.now.main.doc) c.args.self.now.header.schema (next_names client) (edit_of c.args.edit.now)) c.in_ok-answer.answer
     (sym c.in-Some-get_mut.ensures.value) (sym c.in-Some.ensures.value) c.in_ok-answer.ensures.answer c.in_ok-answer.ensures.kept
