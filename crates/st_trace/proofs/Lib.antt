@@ -13,3 +13,6 @@ pub mod Choosing
 pub mod Arrays
 pub mod Going
 pub mod Leading
+pub mod Meant
+pub mod Parts
+pub mod Taking

@@ -1,7 +1,7 @@
 use Rattle.std.proofs.Common.{◌≡◌, length, ap, arith}
 use Rattle.std.proofs.lemmas.Bool.Decides.{nat_tests}
 use Rattle.st_trace.proofs.Receiving.{received_last, same_main}
-use Rattle.st_trace.proofs.client.receive.Goals as goal
+use Rattle.st_trace.proofs.log_steps.receive.Goals as goal
 
 pub returns-then-is_empty : goal.returns-then-is_empty
 returns-then-is_empty c =

@@ -2,7 +2,7 @@ use Rattle.st_doc.specs.Doc.{document_of}
 use Rattle.st_edits.proofs.Resolved.{resolved_fits}
 use Rattle.st_trace.specs.inside.Edits.{edit_of}
 use Rattle.st_trace.specs.World.{next_names}
-use Rattle.st_trace.proofs.client.edit.Goals as goal
+use Rattle.st_trace.proofs.edits.edit.Goals as goal
 
 pub add_pending-requires-clause-fits : goal.add_pending-requires-clause-fits
 add_pending-requires-clause-fits c =

@@ -12,7 +12,7 @@ use Rattle.st_trace.proofs.Clients.{fresh_cells, fresh_nodes, shown_sound}
 use Rattle.st_trace.proofs.Everyone.{kept_none, set_same}
 use Rattle.st_trace.proofs.Keeping.{kept_shown}
 use Rattle.st_trace.proofs.Stepping.{sound_later, start_of}
-use Rattle.st_trace.proofs.world.World.edit.Goals as goal
+use Rattle.st_trace.proofs.edit_steps.World.edit.Goals as goal
 
 pub returns-in_default-clause-next : goal.returns-in_default-clause-next
 returns-in_default-clause-next c = λ q at. absurd (kept_none _ _ _ _ _ q c.requires.sound.kept at (sym c.in_default.ensures.value))

@@ -1,6 +1,6 @@
 use Rattle.st_doc.specs.Doc.{document_of}
 use Rattle.st_trace.proofs.Receiving.{both_carried}
-use Rattle.st_trace.proofs.client.receive_last.Goals as goal
+use Rattle.st_trace.proofs.log_steps.receive_last.Goals as goal
 
 pub returns-clause-same : goal.returns-clause-same
 returns-clause-same c =
