@@ -4,3 +4,4 @@ pub mod Numbered
 pub mod NewFits
 pub mod Resolved
 pub mod Shared
+pub mod Given

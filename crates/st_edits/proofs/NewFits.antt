@@ -69,7 +69,7 @@ any_found {A} p xs x h e = go (find p xs) refl
     go (Some y) f = refl
     go None f = let bad : true ≡ false = sym e ∙ none-has p xs x f h in cc
 
-found_any : {A : Type 0} (p : A → Bool) (xs : List A) → is_some (find p xs) ≡ true → (x : A) × Has xs x × (p x ≡ true)
+pub found_any : {A : Type 0} (p : A → Bool) (xs : List A) → is_some (find p xs) ≡ true → (x : A) × Has xs x × (p x ≡ true)
 found_any {A} p xs e = go (find p xs) refl e
   where
     go : (o : Option A) → find p xs ≡ o → is_some o ≡ true → (x : A) × Has xs x × (p x ≡ true)
@@ -374,7 +374,7 @@ pub record IsGroupOf (n : NodeId) (anchor : Option CellId) (os : List Owned) (g 
   pub cells : g.cells ≡ os
   pub some : g.cells ≢ []
 
-group_is : (n : NodeId) (after : Option CellId) (os : List Owned) (g : Group) → group_of n after os ≡ Some g → IsGroupOf n after os g
+pub group_is : (n : NodeId) (after : Option CellId) (os : List Owned) (g : Group) → group_of n after os ≡ Some g → IsGroupOf n after os g
 group_is n after [] g e = absurd (cc)
 group_is n after (o ∷ os) g e =
     let q : record { node = n; after = after; cells = o ∷ os } ≡ g = cc in
@@ -400,7 +400,7 @@ top_owned n o (FlatAt.Top d) e = let s : owned_cell d n ≡ o = cc in (ap (λ (o
 top_owned n o (FlatAt.Row q d) e = absurd (cc)
 top_owned n o (FlatAt.Register f) e = absurd (cc)
 
-under_at : (xs : List FlatNode) (x : FlatNode) (g : Group) → group_under xs x ≡ Some g → IsGroupOf x.node None (cells_under xs x.node) g
+pub under_at : (xs : List FlatNode) (x : FlatNode) (g : Group) → group_under xs x ≡ Some g → IsGroupOf x.node None (cells_under xs x.node) g
 under_at xs x g e = go x.row e
   where
     go : (b : Bool) → cond b (group_of x.node None (cells_under xs x.node)) None ≡ Some g → IsGroupOf x.node None (cells_under xs x.node) g
@@ -667,7 +667,7 @@ pub record IsAllowed (s : SchemaView) (G : NameCounters) (trees : Nodes) (xs : L
   pub form : all_have_form trees ≡ true
   pub list : named_nodes G trees ≡ xs
 
-is_allowed : (s : SchemaView) (G : NameCounters) (rule : FieldRule) (trees : Nodes) (xs : List FlatNode) → allowed_nodes s G rule trees ≡ Ok xs → IsAllowed s G trees xs
+pub is_allowed : (s : SchemaView) (G : NameCounters) (rule : FieldRule) (trees : Nodes) (xs : List FlatNode) → allowed_nodes s G rule trees ≡ Ok xs → IsAllowed s G trees xs
 is_allowed s G rule trees xs e =
     let u = passed (trees_allowed s rule trees) (λ _. and_then (names_left G (names_taken (named_nodes G trees))) (λ _. Ok (named_nodes G trees))) xs e in
     let v = passed (names_left G (names_taken (named_nodes G trees))) (λ _. Ok (named_nodes G trees)) xs u.2 in

@@ -2,3 +2,4 @@ pub mod ArrayTypes
 pub mod Paths
 pub mod New
 pub mod Resolve
+pub mod Given

@@ -1,5 +1,5 @@
 //! Laws about edits: each is the contract of a function that does nothing.
-ghost use Rattle.std.specs.Prelude.{◌≡◌, ◌≤◌, ℕ, true, List, None, Ok};
+ghost use Rattle.std.specs.Prelude.{◌≡◌, ◌≤◌, ℕ, ◌+◌, true, List, None, Ok, length};
 ghost use Rattle.st_ids.specs.declared.names.Key.{Key};
 ghost use Rattle.st_ids.specs.declared.names.Place.{Place};
 ghost use Rattle.st_tree.specs.Node.{Node, Nodes, first, no_nodes};
@@ -8,8 +8,9 @@ ghost use Rattle.st_tree.specs.declared.edit.Edit.{Edit};
 ghost use Rattle.st_schema.specs.Schema.{SchemaView, is_sound};
 ghost use Rattle.st_marks.specs.declared.intents.Intent.{Intent};
 ghost use Rattle.st_marks.specs.Document.{Document, IsSoundInForm};
-ghost use Rattle.st_marks.specs.Intent.{Fits};
+ghost use Rattle.st_marks.specs.Intent.{Fits, group_cells};
 ghost use Rattle.st_edits.specs.declared.names.NameCounters.{NameCounters};
+ghost use Rattle.st_edits.specs.Given.{IsCountedFrom, cells_unused};
 ghost use Rattle.st_edits.specs.Resolve.{clear, insert, move as move_of, need, put, remove, resolve};
 
 /// What a removal, a move, an emptied field and a need mean fits the document where the edit was resolved. A move takes
@@ -42,4 +43,11 @@ pub fn resolved_edits_fit()
     ensures { (D : Document) (s : SchemaView) (G : NameCounters) (edit : Edit) (N : Intent) → IsSoundInForm D → is_sound s ≡ true
         → ((k : ℕ) → G.nodes ≤ k → D.nodes (node_named G.rev k) ≡ None) → ((k : ℕ) → G.cells ≤ k → D.row_of (cell_named G.rev k) ≡ None)
         → resolve D s G edit ≡ Ok N → Fits D N }
+{}
+
+/// What an edit means makes the next names that the commit may give, and as many as it has nodes and cells, with one cell
+/// more where an item is set, which needs none; a commit that had room before has room for them.
+pub fn resolved_edits_count_on()
+    ensures { (D : Document) (s : SchemaView) (G : NameCounters) (edit : Edit) (N : Intent)
+        → resolve D s G edit ≡ Ok N → IsCountedFrom G (length N.new) (length (group_cells N) + cells_unused edit) N }
 {}

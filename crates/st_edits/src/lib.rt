@@ -5,5 +5,5 @@
 mod laws;
 mod names;
 
-pub use laws::{new_trees_fit, resolved_edits_fit, simple_edits_fit};
+pub use laws::{new_trees_fit, resolved_edits_count_on, resolved_edits_fit, simple_edits_fit};
 pub use names::{NameCounters, Takes};

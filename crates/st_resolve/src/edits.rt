@@ -213,8 +213,8 @@ pub fn clear(
     Ok(intent_to_clear(alloc, doc, given, field)?)
 }
 
-// A node has to be live.
-fn need(alloc: Global, doc: &Doc, given: NameCounters, at: &Path) -> Result<Intent, Or<EditFault>>
+/// The node that a path leads to has to be live where the commit comes, as `resolve` says it of that edit.
+pub fn need(alloc: Global, doc: &Doc, given: NameCounters, at: &Path) -> Result<Intent, Or<EditFault>>
     requires short { length at.now < 2 ^ 32 }
     ensures ok { IfOk result (λ i. need (document_of doc.now) given at.now ≡ Ok i) }
     ensures bad { IfRefused result (λ e. need (document_of doc.now) given at.now ≡ Err e) }

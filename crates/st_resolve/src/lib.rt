@@ -8,4 +8,4 @@ mod new_trees;
 mod paths;
 mod rules;
 
-pub use edits::{clear, insert, move_items, remove, resolve, set};
+pub use edits::{clear, insert, move_items, need, remove, resolve, set};
