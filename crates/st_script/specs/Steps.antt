@@ -32,6 +32,10 @@ pub data EditView : Type 0 where
 pub data ActView : Type 0 where
   join : ActView
   edit : EditView → ActView
+  need : List Place → ActView
+  begin : ActView
+  commit : ActView
+  abort : ActView
   sequence : ActView
   deliver : ActView
   show : ActView
@@ -52,6 +56,10 @@ edit_view (edits.Clear at key) = clear at key
 abbrev pub act_view : Act → ActView
 act_view acts.Join = join
 act_view (acts.Edit e) = edit (edit_view e)
+act_view (acts.Need at) = need at
+act_view acts.Begin = begin
+act_view acts.Commit = commit
+act_view acts.Abort = abort
 act_view acts.Sequence = sequence
 act_view acts.Deliver = deliver
 act_view acts.Show = show
@@ -69,10 +77,17 @@ IsEditWithin (move at key index count to to_key to_index) = (length at < 2 ^ 32)
 IsEditWithin (set at key item) = (check_of item ≡ Ok tt) × (length at < 2 ^ 32)
 IsEditWithin (clear at key) = length at < 2 ^ 32
 
--- an act that is no edit has neither trees nor paths
+-- its trees are within the limits of trees, and its paths short
 abbrev pub IsActWithin : ActView → Type 0
+IsActWithin join = Unit {0}
 IsActWithin (edit e) = IsEditWithin e
-IsActWithin a = Unit {0}
+IsActWithin (need at) = length at < 2 ^ 32
+IsActWithin begin = Unit {0}
+IsActWithin commit = Unit {0}
+IsActWithin abort = Unit {0}
+IsActWithin sequence = Unit {0}
+IsActWithin deliver = Unit {0}
+IsActWithin show = Unit {0}
 
 -- its trees are within the limits of trees, and its paths short
 abbrev pub IsWithinLimits : StepView → Type 0

@@ -11,7 +11,8 @@ use st_json::write_line;
 use st_marks::Verdict;
 use std::alloc::{AllocError, Global};
 
-/// The answer to a header or a step. The tree of `Show` is a JSON text.
+/// The answer to a header or a step. The tree of `Show` is a JSON text. The revision of `Need` and
+/// `Begin` is that of the transaction, and that of `Commit` is none where it made no commit.
 #[derive(Drop)]
 pub enum Answer {
     Header,
@@ -21,6 +22,10 @@ pub enum Answer {
     Move { rev: Rev },
     Set { rev: Rev },
     Clear { rev: Rev },
+    Need { rev: Rev },
+    Begin { rev: Rev },
+    Commit { rev: Option<Rev> },
+    Abort,
     Sequence { min: u32, n: u32 },
     Deliver { n: u32, void: Verdict },
     Show { tree: Text },

@@ -26,6 +26,10 @@ pub enum Refusal {
     Inside,
     /// The schema does not allow the new or moved node of that number, from 0.
     NotAllowed { at: u32 },
+    /// A transaction is open on the branch.
+    Unfinished,
+    /// No transaction is open on the branch.
+    NotBegun,
     /// The client's queue is empty.
     NothingToSend,
     /// The client received the whole log.
