@@ -154,6 +154,12 @@ read_clear d =
     option_map (λ t. edit (clear t.at t.key)) (site_of d)
     else None
 
+abbrev pub read_need : Data → Option ActView
+read_need d =
+    if has_only (codes "at branch client do") d then
+    option_map (λ at. need at) (path_in (codes "at") d)
+    else None
+
 -- an act without members of its own, where a value has no members but those of the names
 abbrev pub plain_act : List ℕ → ActView → Data → Option ActView
 plain_act names a d = if has_only names d then Some a else None
@@ -162,18 +168,26 @@ plain_act names a d = if has_only names d then Some a else None
 abbrev pub same : List ℕ → List ℕ → Bool
 same = pointwise nat_eq
 
--- the act of a word
-abbrev pub read_of : List ℕ → Data → Option ActView
-read_of word d =
-    if same word (codes "join") then plain_act (codes "client do") join d else
+-- the edit of a word
+abbrev pub edit_of : List ℕ → Data → Option ActView
+edit_of word d =
     if same word (codes "insert") then read_insert d else
     if same word (codes "remove") then read_remove d else
     if same word (codes "move") then read_move d else
     if same word (codes "set") then read_set d else
-    if same word (codes "clear") then read_clear d else
+    if same word (codes "clear") then read_clear d else None
+
+-- the act of a word, which is an edit's where it is no other act's
+abbrev pub read_of : List ℕ → Data → Option ActView
+read_of word d =
+    if same word (codes "join") then plain_act (codes "client do") join d else
+    if same word (codes "need") then read_need d else
+    if same word (codes "begin") then plain_act (codes "branch client do") begin d else
+    if same word (codes "commit") then plain_act (codes "branch client do") commit d else
+    if same word (codes "abort") then plain_act (codes "branch client do") abort d else
     if same word (codes "sequence") then plain_act (codes "client do") sequence d else
     if same word (codes "deliver") then plain_act (codes "client do") deliver d else
-    if same word (codes "show") then plain_act (codes "branch client do") show d else None
+    if same word (codes "show") then plain_act (codes "branch client do") show d else edit_of word d
 
 -- the word of a step
 abbrev pub word_of : Data → Option (List ℕ)

@@ -93,6 +93,8 @@ pub(crate) fn refusal_value(alloc: Global, refusal: Refusal) -> Result<Value, Al
         Refusal::Range => no_value(alloc, "Range"),
         Refusal::Inside => no_value(alloc, "Inside"),
         Refusal::NotAllowed { at } => not_allowed_value(alloc, at),
+        Refusal::Unfinished => no_value(alloc, "Unfinished"),
+        Refusal::NotBegun => no_value(alloc, "NotBegun"),
         Refusal::NothingToSend => no_value(alloc, "NothingToSend"),
         Refusal::NothingNew => no_value(alloc, "NothingNew"),
         Refusal::Limit(limit) => limit_value(alloc, limit),

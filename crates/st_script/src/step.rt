@@ -18,9 +18,7 @@ pub enum Act {
     Join,
     Edit(EditAct),
     /// The open transaction needs the node that the path leads to.
-    Need {
-        at: Path,
-    },
+    Need { at: Path },
     /// Opens a transaction.
     Begin,
     /// Makes the edits and needs of the open transaction one commit.
