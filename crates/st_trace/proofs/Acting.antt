@@ -1,6 +1,6 @@
 -- The world after a step of one client.
 use Rattle.std.proofs.Common.{◌≡◌, ◌≤◌, ◌+◌, ◌-◌, ◌^◌, ◌<◌, ℕ, length, List, Option, Some, None, IfSome, Result, Ok, Err, refl, sym, ap, ◌∙◌, subst, arith}
-use Rattle.std.specs.List.{slice_get, slice_set}
+use Rattle.std.specs.List.{slice_get, slice_set, AllByRecursion}
 use Rattle.std.specs.Option.{option_and_then}
 use Rattle.st_ids.specs.declared.names.Limit.{Limit}
 use Rattle.st_ids.specs.declared.names.Rev.{Rev}
@@ -20,10 +20,10 @@ use Rattle.st_script.specs.declared.answer.Answer.{Answer}
 use Rattle.st_script.specs.declared.answer.Answer.TheVariants.{Show}
 use Rattle.st_script.specs.declared.step.EditAct.{EditAct}
 use Rattle.st_ids.specs.declared.names.Place.{Place}
-use Rattle.st_trace.specs.Replicas.{IsReplicaOf, IsSound, IsSoundAfter, IsTransaction}
+use Rattle.st_trace.specs.Replicas.{IsClient, IsReplicaOf, IsSound, IsSoundAfter, IsTransaction}
 use Rattle.st_trace.specs.inside.Edits.{edit_of}
 use Rattle.st_trace.specs.inside.Replicas.{CanReceive, CanReceiveIn, CanTake, HasAborted, HasCommitted, HasJoined, HasMoved, HasMovedIn, HasNumbersLeft, HasTaken, HasTakenNeed, IsPending}
-use Rattle.st_trace.specs.World.{AtRefusal, HasShown, IsAfterEdit, IsAfterNeed, IsDelivered, IsDeliveredIn, IsDeliveredTo, IsDoneIn, IsEditedIn, IsJoined, IsShown, abort, after_edit, answer_of, begin, commit, committed, last_in_effect, next_names, opening_document, with_beginning, with_pending, word_of}
+use Rattle.st_trace.specs.World.{AtRefusal, HasShown, IsAfterEdit, IsAfterNeed, IsDelivered, IsDeliveredIn, IsDeliveredTo, IsDoneIn, IsEditedIn, IsJoined, IsShown, abort, after_edit, answer_of, begin, commit, committed, last_in_effect, next_names, opening_document, with_client, with_beginning, with_pending, word_of}
 use Rattle.st_lists.specs.Clients.{HasReceived, joined_of}
 use Rattle.st_lists.specs.Limits.{limit_passed, names_limit_passed, pending_limit_passed}
 use Rattle.st_lists.specs.Lines.{main_line}
@@ -111,10 +111,22 @@ module _ (w : World) (i : ℕ) (c : Client) (k : Replica) (s : IsSound w) (at_c 
             counted = numbers_left h st log c t word N one.client is s.few_names x n;
           }
 
+  -- what was edited fits the line's document
+  pub commit_fits : IfSome (joined_of c) (Fits (document_of k.main.doc))
+  commit_fits = go c.transaction one.client.transaction
+    where
+      by : (t : Transaction) (D : Document) (o : Option Intent) → FitsSoFar D t.rev t.under o → IfSome o (Fits D)
+      by t D None so = tt
+      by t D (Some J) so = so.0
+
+      go : (o : Option Transaction) → IfSome o (IsTransaction h log c) → IfSome (option_and_then (λ (t : Transaction). t.joined) o) (Fits (document_of k.main.doc))
+      go None x = tt
+      go (Some t) x = by t (document_of k.main.doc) t.joined (subst (λ F. FitsSoFar F t.rev t.under t.joined) (one_run x.main (kept_main h log c k one.kept)) x.so_far)
+
   -- ## What is kept stands for the lists
 
   module _ (c' : Client) (k' : Replica) where
-    pub sound_goes : GoesOn h (start_of w w.steps s) log w.lists.clients i c c' → IsReplicaOf h log c' k'
+    sound_goes : GoesOn h (start_of w w.steps s) log w.lists.clients i c c' → IsReplicaOf h log c' k'
         → IsSoundAfter (w.steps + 1) (record w { lists = record w.lists { clients = slice_set w.lists.clients i c' }; kept = slice_set w.kept i k' })
     sound_goes g kept = sound_client w i c c' k' s at_c (record { client = g.client; kept = kept }) g.session g.ids g.keeps
 
@@ -135,7 +147,7 @@ module _ (w : World) (i : ℕ) (c : Client) (k : Replica) (s : IsSound w) (at_c 
             let whole = whole_names h st log c t word M one.client is s.few_names x m done.0 done.1 in
             subst (λ d. IsReplicaOf h log d k') (sym done.2) (kept_parted h st log c t k k' word M done.0 is one.kept whole (subst (λ d. HasJoined k M None (joined_of d) k') done.2 kept))
 
-    pub edit_kept : (word : EditWord) (r : Result Intent EditFault) (a : Answer) → IsMeaning h.schema (shown_of c k) (next_names c c.transaction) word r → IsAfterEdit c c.transaction word r c' a → HasTaken c c.transaction k r c' k' → IsReplicaOf h log c' k'
+    edit_kept : (word : EditWord) (r : Result Intent EditFault) (a : Answer) → IsMeaning h.schema (shown_of c k) (next_names c c.transaction) word r → IsAfterEdit c c.transaction word r c' a → HasTaken c c.transaction k r c' k' → IsReplicaOf h log c' k'
     edit_kept word r a means done kept = go c.transaction refl one.client.transaction means done kept
       where
         go : (o : Option Transaction) → c.transaction ≡ o → IfSome o (IsTransaction h log c) → IsMeaning h.schema (with_open (document_of k.main.doc) (option_and_then (λ (t : Transaction). t.joined) o)) (next_names c o) word r → IsAfterEdit c o word r c' a
@@ -143,7 +155,7 @@ module _ (w : World) (i : ℕ) (c : Client) (k : Replica) (s : IsSound w) (at_c 
         go None none x means done kept = kept_taken h (start_of w w.steps s) log c c' k k' word r a none one.kept done kept
         go (Some t) is x means done kept = taken_in t word r a is x means done kept
 
-    pub need_kept : (r : Result Intent EditFault) (a : Answer) → IsMeaning h.schema (shown_of c k) (next_names c c.transaction) word.Need r → IsAfterNeed c c.transaction r c' a → HasTakenNeed c c.transaction k r c' k' → IsReplicaOf h log c' k'
+    need_kept : (r : Result Intent EditFault) (a : Answer) → IsMeaning h.schema (shown_of c k) (next_names c c.transaction) word.Need r → IsAfterNeed c c.transaction r c' a → HasTakenNeed c c.transaction k r c' k' → IsReplicaOf h log c' k'
     need_kept r a means done kept = go c.transaction refl one.client.transaction means done kept
       where
         go : (o : Option Transaction) → c.transaction ≡ o → IfSome o (IsTransaction h log c) → IsMeaning h.schema (with_open (document_of k.main.doc) (option_and_then (λ (t : Transaction). t.joined) o)) (next_names c o) word.Need r → IsAfterNeed c o r c' a
@@ -151,7 +163,7 @@ module _ (w : World) (i : ℕ) (c : Client) (k : Replica) (s : IsSound w) (at_c 
         go None none x means done kept = stays_kept done.0 kept
         go (Some t) is x means done kept = taken_in t word.Need r a is x means done kept
 
-    pub begin_kept : (under : Rev) (a : Answer) → begin c c.transaction under ≡ (c', a) → k' ≡ k → IsReplicaOf h log c' k'
+    begin_kept : (under : Rev) (a : Answer) → begin c c.transaction under ≡ (c', a) → k' ≡ k → IsReplicaOf h log c' k'
     begin_kept under a done same = go c.transaction refl done
       where
         begun : c.transaction ≡ None → (o : Option Limit) → with_beginning c under o ≡ (c', a) → IsReplicaOf h log c' k'
@@ -163,26 +175,75 @@ module _ (w : World) (i : ℕ) (c : Client) (k : Replica) (s : IsSound w) (at_c 
         go (Some t) is done = stays_kept (ap (λ (p : Client × Answer). p.0) (sym done)) same
         go None none done = begun none (pending_limit_passed c) done
 
-    pub commit_kept : (a : Answer) → commit c c.transaction ≡ (c', a) → HasCommitted c.transaction k k' → IsReplicaOf h log c' k'
+    commit_kept : (a : Answer) → commit c c.transaction ≡ (c', a) → HasCommitted c.transaction k k' → IsReplicaOf h log c' k'
     commit_kept a done kept = go c.transaction refl done kept
       where
         go : (o : Option Transaction) → c.transaction ≡ o → commit c o ≡ (c', a) → HasCommitted o k k' → IsReplicaOf h log c' k'
         go None none done kept = stays_kept (ap (λ (p : Client × Answer). p.0) (sym done)) kept
         go (Some t) is done kept = subst (λ d. IsReplicaOf h log d k') (ap (λ (p : Client × Answer). p.0) done) (kept_commits h (start_of w w.steps s) log c t k k' is one.kept kept)
 
-    pub abort_kept : (a : Answer) → abort c c.transaction ≡ (c', a) → HasAborted c.transaction k k' → IsReplicaOf h log c' k'
+    abort_kept : (a : Answer) → abort c c.transaction ≡ (c', a) → HasAborted c.transaction k k' → IsReplicaOf h log c' k'
     abort_kept a done kept = go c.transaction refl done kept
       where
         go : (o : Option Transaction) → c.transaction ≡ o → abort c o ≡ (c', a) → HasAborted o k k' → IsReplicaOf h log c' k'
         go None none done kept = stays_kept (ap (λ (p : Client × Answer). p.0) (sym done)) kept
         go (Some t) is done kept = subst (λ d. IsReplicaOf h log d k') (ap (λ (p : Client × Answer). p.0) done) (subst (λ x. IsReplicaOf h log _ x) (sym kept) (kept_ended h (start_of w w.steps s) log c t k is one.kept))
 
-    pub delivery_kept : (D : Document) (a : Answer) → IsDeliveredIn D c c.transaction (slice_get log c.received) c' a → HasMovedIn c k c.transaction (slice_get log c.received) k' → IsReplicaOf h log c' k'
+    delivery_kept : (D : Document) (a : Answer) → IsDeliveredIn D c c.transaction (slice_get log c.received) c' a → HasMovedIn c k c.transaction (slice_get log c.received) k' → IsReplicaOf h log c' k'
     delivery_kept D a done kept = go c.transaction refl done kept
       where
         go : (o : Option Transaction) → c.transaction ≡ o → IsDeliveredIn D c o (slice_get log c.received) c' a → HasMovedIn c k o (slice_get log c.received) k' → IsReplicaOf h log c' k'
         go None none done kept = kept_delivered h (start_of w w.steps s) log c c' k k' D a one s.few_names none done kept
         go (Some t) is done kept = stays_kept done.0 kept
+
+    -- ## The world goes on
+
+    abbrev Next : Type 0
+    Next = IsSoundAfter (w.steps + 1) (record w { lists = record w.lists { clients = slice_set w.lists.clients i c' }; kept = slice_set w.kept i k' })
+
+    abbrev Goes : Type 0
+    Goes = GoesOn h (start_of w w.steps s) log w.lists.clients i c c'
+
+    are : AllByRecursion (IsClient h log) w.lists.clients
+    are = clients_of h log w.lists.clients w.kept s.kept
+
+    pub sound_edit : (e : EditAct) (a : Answer) → IsAfterEdit c c.transaction (word_of (edit_view e)) (resolve (shown_of c k) w.header.schema (next_names c c.transaction) (edit_of e)) c' a
+        → HasTaken c c.transaction k (resolve (shown_of c k) w.header.schema (next_names c c.transaction) (edit_of e)) c' k' → Next
+    sound_edit e a done kept =
+        let r = resolve (shown_of c k) w.header.schema (next_names c c.transaction) (edit_of e) in
+        sound_goes (edit_goes h (start_of w w.steps s) log w.lists.clients s.sessions are s.few_names s.schema i c at_c c' (shown_of c k) (word_of (edit_view e)) r a shown (edit_meant e) done)
+        (edit_kept (word_of (edit_view e)) r a (edit_meant e) done kept)
+
+    pub sound_need : (path : List Place) (a : Answer) → IsAfterNeed c c.transaction (need (shown_of c k) (next_names c c.transaction) path) c' a → HasTakenNeed c c.transaction k (need (shown_of c k) (next_names c c.transaction) path) c' k' → Next
+    sound_need path a done kept =
+        let r = need (shown_of c k) (next_names c c.transaction) path in
+        sound_goes (need_goes h (start_of w w.steps s) log w.lists.clients s.sessions are s.few_names s.schema i c at_c c' (shown_of c k) r a shown (need_meant path) done) (need_kept r a (need_meant path) done kept)
+
+    pub sound_commit : (a : Answer) → commit c c.transaction ≡ (c', a) → HasCommitted c.transaction k k' → Next
+    sound_commit a done kept = sound_goes (commit_goes h (start_of w w.steps s) log w.lists.clients s.sessions are s.few_names s.schema i c at_c c' a done) (commit_kept a done kept)
+
+    pub sound_abort : (a : Answer) → abort c c.transaction ≡ (c', a) → HasAborted c.transaction k k' → Next
+    sound_abort a done kept = sound_goes (abort_goes h (start_of w w.steps s) log w.lists.clients s.sessions are s.few_names s.schema i c at_c c' a done) (abort_kept a done kept)
+
+    pub sound_delivery : (D : Document) (a : Answer) → IsDeliveredIn D c c.transaction (slice_get log c.received) c' a → HasMovedIn c k c.transaction (slice_get log c.received) k' → Next
+    sound_delivery D a done kept = sound_goes (delivery_goes h (start_of w w.steps s) log w.lists.clients s.sessions are s.few_names s.schema i c at_c c' D a done) (delivery_kept D a done kept)
+
+  -- a transaction begins under the schema that is last in effect in the line's document, which is the one that is shown then
+  pub begun_as : (c' : Client) (under : Rev) (a : Answer) → under ≡ last_in_effect (document_of k.main.doc) → begin c c.transaction under ≡ (c', a) → begin c c.transaction (last_in_effect (shown_of c k)) ≡ (c', a)
+  begun_as c' under a is done = sym (go c.transaction) ∙ ap (begin c c.transaction) (sym is) ∙ done
+    where
+      D : Document
+      D = document_of k.main.doc
+
+      go : (o : Option Transaction) → begin c o (last_in_effect D) ≡ begin c o (last_in_effect (with_open D (option_and_then (λ (t : Transaction). t.joined) o)))
+      go None = refl
+      go (Some t) = refl
+
+  pub sound_begin : (c' : Client) (a : Answer) → begin c c.transaction (last_in_effect (shown_of c k)) ≡ (c', a) → IsSoundAfter (w.steps + 1) (record w { lists = record w.lists { clients = slice_set w.lists.clients i c' } })
+  sound_begin c' a done =
+      let are = clients_of h log w.lists.clients w.kept s.kept in
+      let now = sound_goes c' k (begin_goes h (start_of w w.steps s) log w.lists.clients s.sessions are s.few_names s.schema i c at_c c' (shown_of c k) a shown done) (begin_kept c' k (last_in_effect (shown_of c k)) a done refl) in
+      subst (λ (ks : List Replica). IsSoundAfter (w.steps + 1) (record w { lists = record w.lists { clients = slice_set w.lists.clients i c' }; kept = ks })) (set_same w.kept i k at_k) now
 
   -- the next entry, if there is one, can be received where no transaction is open
   pub can_deliver : CanReceiveIn c k c.transaction (slice_get log c.received)
@@ -294,6 +355,12 @@ module _ (c c' : Client) (k k' : Replica) where
   delivery_refused None D next a is kept = delivered_refused D next a is kept
   delivery_refused (Some t) D next a is kept = at_answer a _ is.1 (is.0, kept)
 
+pub begun_refused : (w : World) (i : ℕ) (c c' : Client) (k : Replica) (under : Rev) (a : Answer) → slice_get w.lists.clients i ≡ Some c → begin c c.transaction under ≡ (c', a)
+    → AtRefusal a (◌≡◌ {A = World} (record w { lists = record w.lists { clients = slice_set w.lists.clients i c' } }) w)
+begun_refused w i c c' k under a at_c done = refusal_as a _ _ (λ same.
+    let clients : slice_set w.lists.clients i c' ≡ w.lists.clients = ap (slice_set w.lists.clients i) same.0 ∙ set_same w.lists.clients i c at_c in
+    λ j. record w { lists = record w.lists { clients = clients j } }) (begin_refused c c' k k c.transaction under a done refl)
+
 pub world_refused : (w : World) (i : ℕ) (c c' : Client) (k k' : Replica) (a : Answer) → slice_get w.lists.clients i ≡ Some c → slice_get w.kept i ≡ Some k → AtRefusal a ((c' ≡ c) × (k' ≡ k))
     → AtRefusal a (◌≡◌ {A = World} (record w { lists = record w.lists { clients = slice_set w.lists.clients i c' }; kept = slice_set w.kept i k' }) w)
 world_refused w i c c' k k' a at_c at_k p = refusal_as a _ _ (same_world w i c c' k k' at_c at_k) p
@@ -312,6 +379,13 @@ pub next_delivered : (h : HeaderView) (w : WorldState) (i : ℕ) (c q c' : Clien
 next_delivered h w i c q c' D a at_c at_q received done =
     let same : c ≡ q = cc in
     subst (λ (x : Client). IsDelivered h w i x (record w { clients = slice_set w.clients i c' }) a) same (D, c', received, done, refl)
+
+-- what changes a client alone
+pub next_with : (w : WorldState) (i : ℕ) (c q c' : Client) (f : Client → Client × Answer) (a : Answer) → slice_get w.clients i ≡ Some c → slice_get w.clients i ≡ Some q → f c ≡ (c', a)
+    → with_client w i (f q) ≡ (record w { clients = slice_set w.clients i c' }, a)
+next_with w i c q c' f a at_c at_q done =
+    let same : c ≡ q = cc in
+    subst (λ (x : Client). with_client w i (f x) ≡ (record w { clients = slice_set w.clients i c' }, a)) same (ap (with_client w i) done)
 
 -- ## What is shown
 

@@ -109,8 +109,11 @@ module _ (h : HeaderView) (st : IsStart (opening_document h)) where
       sublist_of (ap (λ l. A ++ l) (sym k.under_way)) (sym (append_assoc A (commits_in rest) Q) ∙ ap (λ l. l ++ Q) (sym (commits_split c.received log)))
       (sublist_joined (sublist_itself A) (sublist_joined (by_sublist c.session rest) (sublist_itself Q)))
 
+  pub pending_few : (log : List Entry) (c : Client) → IsClient h log c → names_in c.pending ≤ 16384
+  pending_few log c k = let all : option_map_or names_made (joined_of c) 0 + names_in c.pending ≤ 16384 = k.few_names in omega (arith, all)
+
   pub waiting_few : (log : List Entry) (c : Client) → IsClient h log c → names_in (intents_of c.queue) ≤ 16384
-  waiting_few log c k = omega (arith, names_append (commits_by c.session (drop c.received log)) (intents_of c.queue), ap names_in k.under_way, k.few_names)
+  waiting_few log c k = omega (arith, names_append (commits_by c.session (drop c.received log)) (intents_of c.queue), ap names_in k.under_way, pending_few log c k)
 
   pub sent_few : (log : List Entry) (c : Client) → IsClient h log c → names_in (log_and_queue log c) ≤ names_in (commits_in log) + 16384
   sent_few log c k = omega (arith, names_append (commits_in log) (intents_of c.queue), waiting_few log c k)
@@ -183,10 +186,11 @@ module _ (h : HeaderView) (st : IsStart (opening_document h)) where
       let room_shown : HasRoom O ((A ++ c.pending) ++ N ∷ []) =
       room_left O ((A ++ c.pending) ++ N ∷ []) st (omega (arith, names_append (A ++ c.pending) (N ∷ []), fewer_names (shown_among log c k), sent_few log c k, one_name, few_names, all)) in
       let last = one_fits D N sound fits (room_in_run (N ∷ []) st.sound k.shown_fit shown room_shown) in
+      let few_now : names_in (c.pending ++ N ∷ []) ≤ 16384 = omega (arith, names_append c.pending (N ∷ []), one_name, few_names) in
       record {
         within = k.within;
         few = omega (arith, length-append c.pending (N ∷ []), few);
-        few_names = omega (arith, names_append c.pending (N ∷ []), one_name, few_names);
+        few_names = few_now;
         under_way = ap (λ l. l ++ N ∷ []) k.under_way ∙ append_assoc B Q (N ∷ []) ∙ ap (λ l. B ++ l) (sym (texts_append c.queue (Commit c.received N ∷ [])));
         shown_fit = subst (FitInTurn O) (append_assoc A c.pending (N ∷ [])) (then_one (A ++ c.pending) (N ∷ []) k.shown_fit shown last);
         sent_fit = subst (FitInTurn O) more (later_fits (opening ∷ []) O D (A ++ c.pending) (log_and_queue log c) N st.sound st.made (shown_among log c k) k.shown_fit k.sent_fit shown fits fresh room_all);
@@ -252,10 +256,12 @@ module _ (h : HeaderView) (st : IsStart (opening_document h)) where
       let all : A ++ c.pending ≡ commits_in (take (c.received + 1) log) ++ rest = ap (λ l. A ++ l) head ∙ sym (append_assoc A (N ∷ []) rest) ∙ ap (λ l. l ++ rest) (sym now) in
       let size : length c.pending ≡ suc (length rest) = ap length head in
       let names : names_in c.pending ≡ names_made N + names_in rest = ap names_in head in
+      let waiting : option_map_or names_made (joined_of c) 0 + names_in c.pending ≤ 16384 = k.few_names in
+      let fewer : option_map_or names_made (joined_of c) 0 + names_in rest ≤ 16384 = omega (arith, names, waiting) in
       record {
         within = omega (arith, slice_get_within log c.received e at);
         few = omega (arith, size, k.few);
-        few_names = omega (arith, names, k.few_names);
+        few_names = fewer;
         under_way = same;
         shown_fit = subst (FitInTurn (opening_document h)) all k.shown_fit;
         sent_fit = k.sent_fit;

@@ -15,11 +15,11 @@ use Rattle.st_script.specs.Header.{HeaderView, header_view}
 use Rattle.st_script.specs.declared.answer.Answer.{Answer}
 use Rattle.st_trace.specs.Replicas.{HasMain, HaveSessionsFrom, IsClient, IsEntryOf, IsHeader, IsSound, IsTransaction, KeepToSchema}
 use Rattle.st_lists.specs.Log.{commit_of, commits_in, commits_of_text, log_with}
-use Rattle.st_lists.specs.Clients.{empty_state, new_client, pending_after, with_begun, with_commit, with_new_commit, with_received, without_transaction}
+use Rattle.st_lists.specs.Clients.{empty_state, joined_of, new_client, pending_after, with_begun, with_commit, with_new_commit, with_received, without_transaction}
 use Rattle.st_lists.specs.Lines.{main_line}
 use Rattle.st_heads.specs.Transactions.{with_open}
 use Rattle.st_marks.proofs.OneVerdict.{one_run}
-use Rattle.std.specs.Option.{option_and_then}
+use Rattle.std.specs.Option.{option_and_then, option_map_or}
 use Rattle.st_ids.specs.declared.names.Rev.{Rev}
 use Rattle.st_trace.specs.World.{HasShown, IsAfterEdit, IsAfterNeed, IsDeliveredIn, IsDeliveredTo, IsEditedIn, IsJoined, abort, after_edit, begin, commit, committed, last_in_effect, next_names, opening_document, with_beginning, with_pending}
 use Rattle.st_lists.specs.Limits.{limit_passed, names_limit_passed, pending_limit_passed}
@@ -110,7 +110,9 @@ module _ (h : HeaderView) (st : IsStart (opening_document h)) where
           let few = within_limits h st c N e in
           let session : N.rev.session ≡ c.session = ap (λ (r : Rev). r.session) m.rev in
           let num : N.rev.num ≡ c.ids + 1 = ap (λ (r : Rev). r.num) m.rev in
-          let now = client_committed h st log c (c.ids + 1) D N k main m.fits session (omega (arith, num)) (omega arith) (next_new h st log c N.rev k m.rev) few.0 (omega (arith, few.1)) all in
+          let waiting : (option_map_or names_made (joined_of c) 0 + names_in c.pending) + names_made N ≤ 16384 = few.1 in
+          let names : names_in c.pending + names_made N ≤ 16384 = omega (arith, waiting) in
+          let now = client_committed h st log c (c.ids + 1) D N k main m.fits session (omega (arith, num)) (omega arith) (next_new h st log c N.rev k m.rev) few.0 names all in
           subst (IsClient h log) (ap (λ (p : Client × Answer). p.0) is) (subst (λ (o : Option Transaction). IsClient h log (record (with_commit c N) { ids = c.ids + 1; transaction = o })) (sym none) now)
 
   client_taken : (log : List Entry) (c : Client) (e : Entry) → IsClient h log c → names_in (commits_in log) ≤ 131072 → slice_get log c.received ≡ Some e → c.transaction ≡ None → IsClient h log (with_received e c)

@@ -102,12 +102,14 @@ module _ (h : HeaderView) (st : IsStart (opening_document h)) where
   kept_committed : (log : List Entry) (c : Client) (k k' : Replica) (N : Intent) → c.transaction ≡ None → IsReplicaOf h log c k → IsCommitted k N k' → IsReplicaOf h log (with_new_commit c N) k'
   kept_committed log c k k' N none w done =
       let one_name : names_in (N ∷ []) ≡ names_made N = omega arith in
+      let before : k.names ≡ names_edited (joined_of c) + names_in c.pending = w.names in
+      let now : k'.names ≡ names_edited (joined_of c) + names_in (c.pending ++ N ∷ []) = omega (arith, done.names, before, names_append c.pending (N ∷ []), one_name) in
       record {
         received = subst (λ (d : Doc). Run (opening_document h) (received_by log c) (document_of d)) (sym done.received) w.received;
         own = subst (λ (d : Doc). AreCarried (document_of d) (c.pending ++ N ∷ []) k'.main.own (document_of k'.main.doc)) (sym done.received)
             (subst (λ ks. AreCarried (document_of k.received) (c.pending ++ N ∷ []) ks (document_of k'.main.doc)) (sym done.main.own) (runs_joined w.own done.main.run));
         edited = still_none k' c.transaction none (done.main.edited ∙ none_edited c k none w);
-        names = omega (arith, done.names, w.names, names_append c.pending (N ∷ []), one_name);
+        names = now;
       }
 
   -- after what an edit means was taken in
@@ -133,9 +135,12 @@ module _ (h : HeaderView) (st : IsStart (opening_document h)) where
     own = subst (λ (d : Doc). AreCarried (document_of d) c.pending k'.main.own (document_of k'.main.doc)) (sym part.received)
         (subst (λ ks. AreCarried (document_of k.received) c.pending ks (document_of k'.main.doc)) (sym part.own) (subst (λ (d : Doc). AreCarried (document_of k.received) c.pending k.main.own (document_of d)) (sym part.doc) w.own));
     edited = part.edited;
-    names = omega (arith, part.names, w.names, whole, waiting);
+    names = now;
   }
     where
+      now : k'.names ≡ names_made K + names_in c.pending
+      now = omega (arith, part.names, w.names, whole, waiting)
+
       waiting : unsequenced c ≡ names_edited t.joined + names_in c.pending
       waiting = ap (λ (o : Option Transaction). names_edited (option_and_then (λ (x : Transaction). x.joined) o) + names_in c.pending) is
 
@@ -151,8 +156,11 @@ module _ (h : HeaderView) (st : IsStart (opening_document h)) where
 
   pub kept_ended : (log : List Entry) (c : Client) (t : Transaction) (k : Replica) → c.transaction ≡ Some t → IsReplicaOf h log c k
       → IsReplicaOf h log (without_transaction c) (record k { main = record k.main { edited = None }; names = k.names - names_edited t.joined })
-  kept_ended log c t k is w = record { received = w.received; own = w.own; edited = refl; names = omega (arith, w.names, waiting) }
+  kept_ended log c t k is w = record { received = w.received; own = w.own; edited = refl; names = now }
     where
+      now : k.names - names_edited t.joined ≡ names_in c.pending
+      now = omega (arith, w.names, waiting)
+
       waiting : unsequenced c ≡ names_edited t.joined + names_in c.pending
       waiting = ap (λ (o : Option Transaction). names_edited (option_and_then (λ (x : Transaction). x.joined) o) + names_in c.pending) is
 
@@ -166,12 +174,14 @@ module _ (h : HeaderView) (st : IsStart (opening_document h)) where
       go None names edited done = subst (IsReplicaOf h log (without_transaction c)) (sym done) (record { received = w.received; own = w.own; edited = edited; names = names })
       go (Some J) names edited done =
           let one_name : names_in (J ∷ []) ≡ names_made J = omega arith in
+          let before : k.names ≡ names_made J + names_in c.pending = names in
+          let now : k'.names ≡ names_in (c.pending ++ J ∷ []) = omega (arith, done.names, before, names_append c.pending (J ∷ []), one_name) in
           record {
             received = subst (λ (d : Doc). Run (opening_document h) (received_by log c) (document_of d)) (sym done.received) w.received;
             own = subst (λ (d : Doc). AreCarried (document_of d) (c.pending ++ J ∷ []) k'.main.own (document_of k'.main.doc)) (sym done.received)
                 (subst (λ ks. AreCarried (document_of k.received) (c.pending ++ J ∷ []) ks (document_of k'.main.doc)) (sym done.main.own) (runs_joined w.own done.main.run));
             edited = done.main.edited;
-            names = omega (arith, done.names, names, names_append c.pending (J ∷ []), one_name);
+            names = now;
           }
 
   -- ## Receiving
@@ -184,11 +194,12 @@ module _ (h : HeaderView) (st : IsStart (opening_document h)) where
       own N is b =
           let first = own_first h st log c e N w.client at is b in
           let names : names_in c.pending ≡ names_made N + _ = ap names_in first in
+          let before : k.names ≡ names_edited (joined_of c) + names_in c.pending = w.kept.names in
           record {
             fits = (subst (FitInTurn (document_of k.received)) first (rest_fit c.pending w.kept.received w.client.shown_fit)).0;
             later = λ bad. cc;
             first = λ u. omega (arith, ap length first, as_many w.kept.own);
-            names = λ u. omega (arith, names, w.kept.names);
+            names = λ u. omega (arith, names, before);
           }
 
       other : (N : Intent) → commit_of e ≡ Some N → (e.session == c.session) ≡ false → CanCarry c k false N
@@ -213,13 +224,15 @@ module _ (h : HeaderView) (st : IsStart (opening_document h)) where
       let head : c.pending ≡ N ∷ drop 1 c.pending = first ∙ ap (λ l. N ∷ l) (sym tail) in
       let now : commits_in (take (c.received + 1) log) ≡ A ++ N ∷ [] = received_more h st log c e at ∙ ap (λ l. A ++ l) (one_commit e N is) in
       let names : names_in c.pending ≡ names_made N + names_in (drop 1 c.pending) = ap names_in head in
+      let before : k.names ≡ names_edited (joined_of c) + names_in c.pending = w.kept.names in
+      let now : k'.names ≡ names_edited (joined_of c) + names_in (drop 1 c.pending) = omega (arith, got.1.1, names, before) in
       record {
         received = subst (λ l. Run (opening_document h) l (document_of k'.received)) (sym now) (run_more N (document_of k'.received) v w.kept.received got.0.verdict got.0.after);
         own = subst (λ (m : Head). AreCarried (document_of k'.received) (drop 1 c.pending) m.own (document_of m.doc)) (sym got.1.0)
             (rest_carried (document_of k.received) (document_of k'.received) (document_of k.main.doc) N (drop 1 c.pending) k.main.own v
             (subst (λ l. AreCarried (document_of k.received) l k.main.own (document_of k.main.doc)) head w.kept.own) (omega (arith, ap length head, as_many w.kept.own)) got.0.verdict got.0.after);
         edited = still_none k' c.transaction none (ap (λ (m : Head). m.edited) got.1.0 ∙ none_edited c k none w.kept);
-        names = omega (arith, got.1.1, names, w.kept.names);
+        names = now;
       }
 
   kept_other : (log : List Entry) (c : Client) (k k' : Replica) (e : Entry) (N : Intent) (v : Verdict) → AreOne h log c k → slice_get log c.received ≡ Some e → commit_of e ≡ Some N → c.transaction ≡ None

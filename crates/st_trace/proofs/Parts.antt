@@ -45,7 +45,7 @@ use Rattle.st_trace.specs.Replicas.{HasMain, IsClient, IsTransaction}
 use Rattle.st_trace.specs.World.{HasShown, cells_given, last_in_effect, next_names, opening_document}
 use Rattle.st_trace.proofs.Begun.{IsStart}
 use Rattle.st_log_laws.specs.Names.{revisions}
-use Rattle.st_trace.proofs.Clients.{client_committed, fresh_cells, fresh_nodes, next_new, sent_few, shown_among, shown_sound}
+use Rattle.st_trace.proofs.Clients.{client_committed, fresh_cells, fresh_nodes, next_new, pending_few, sent_few, shown_among, shown_sound}
 use Rattle.st_trace.proofs.Counting.{room_left}
 use Rattle.st_trace.proofs.Meant.{IsEditable, IsMeant}
 
@@ -102,15 +102,21 @@ open_schemas D rev under (Some J) so = ap (λ (o : Option (List ℕ)). unwrap_or
 open_short : (O D : Document) (st : IsStart O) (Ns : List Intent) (rev under : Rev) (joined : Option Intent) (M : Intent) → FitInTurn O Ns → Run O Ns D → IsSoundInForm D → FitsSoFar D rev under joined → IsSoundInForm (with_open D joined)
     → Fits (with_open D joined) M → names_in Ns + (names_edited joined + names_made M) ≤ 200000 → HasShortRows (full (with_open D joined) M)
 open_short O D st Ns rev under None M fit run line so sound fits few =
-    short_after D M line fits [] (room_in_run (M ∷ []) st.sound fit run (room_left O (Ns ++ M ∷ []) st (omega (arith, names_append Ns (M ∷ []), few))))
+    let one : names_in (M ∷ []) ≡ names_made M = omega arith in
+    let all : names_in Ns + names_made M ≤ 200000 = few in
+    short_after D M line fits [] (room_in_run (M ∷ []) st.sound fit run (room_left O (Ns ++ M ∷ []) st (omega (arith, names_append Ns (M ∷ []), one, all))))
 open_short O D st Ns rev under (Some J) M fit run line so sound fits few =
-    let room = room_in_run (J ∷ M ∷ []) st.sound fit run (room_left O (Ns ++ J ∷ M ∷ []) st (omega (arith, names_append Ns (J ∷ M ∷ []), few))) in
+    let two : names_in (J ∷ M ∷ []) ≡ names_made J + names_made M = omega arith in
+    let all : names_in Ns + (names_made J + names_made M) ≤ 200000 = few in
+    let room = room_in_run (J ∷ M ∷ []) st.sound fit run (room_left O (Ns ++ J ∷ M ∷ []) st (omega (arith, names_append Ns (J ∷ M ∷ []), two, all))) in
     short_after (full D J) M sound fits [] (room_after D J line so.0 (M ∷ []) Verdict.Sound room)
 
 -- two parts are joined, and their names are those of both
 names_joined : (D : Document) (joined : Option Intent) (M K : Intent) → IsSoundInForm D → CanFollow D joined M → IsWithPart joined M K → names_made K ≡ names_edited joined + names_made M
 names_joined D None M K sound follow w = ap names_made w
-names_joined D (Some J) M K sound follow w = omega (arith, nodes_of_both D J M K sound follow w, cells_of_both D J M K sound follow w)
+names_joined D (Some J) M K sound follow w =
+    let both : length K.new + length (group_cells K) ≡ (length J.new + length (group_cells J)) + (length M.new + length (group_cells M)) = omega (arith, nodes_of_both D J M K sound follow w, cells_of_both D J M K sound follow w) in
+    both
 
 has_part : (D : Document) (joined : Option Intent) (M : Intent) → IsSoundInForm D → CanFollow D joined M → (K : Intent) × IsWithPart joined M K
 has_part D None M sound follow = (M, refl)
@@ -141,8 +147,10 @@ module _ (h : HeaderView) (st : IsStart (opening_document h)) where
       let so = subst (FitsSoFar D t.rev t.under) joined i.so_far in
       let waiting : unsequenced c ≡ names_made J + names_in c.pending = ap (λ (o : Option Transaction). names_edited (option_and_then (λ (x : Transaction). x.joined) o) + names_in c.pending) is ∙ ap (λ o. names_edited o + names_in c.pending) joined in
       let Ns = received_by log c ++ c.pending in
+      let one : names_in (J ∷ []) ≡ names_made J = omega arith in
+      let all_waiting : unsequenced c ≤ 16384 = k.few_names in
       one_fits D J (shown_sound h st log c D k i.main) so.0 (room_in_run (J ∷ []) st.sound k.shown_fit i.main
-      (room_left (opening_document h) (Ns ++ J ∷ []) st (omega (arith, names_append Ns (J ∷ []), waiting, k.few_names, fewer_names (shown_among h st log c k), sent_few h st log c k, all))))
+      (room_left (opening_document h) (Ns ++ J ∷ []) st (omega (arith, names_append Ns (J ∷ []), one, waiting, all_waiting, fewer_names (shown_among h st log c k), sent_few h st log c k, all))))
 
   -- ## One part more
 
@@ -165,7 +173,10 @@ module _ (h : HeaderView) (st : IsStart (opening_document h)) where
 
     short : HasShortRows (full T M)
     short = open_short (opening_document h) D st (received_by log c ++ c.pending) t.rev t.under t.joined M k.shown_fit i.main line i.so_far i.sound m.fits
-        (omega (arith, waiting, k.few_names, fewer_names (shown_among h st log c k), sent_few h st log c k, all, counted, cells_low word M))
+        (omega (arith, waiting, k.few_names, fewer_names (shown_among h st log c k), sent_few h st log c k, all, made))
+      where
+        made : names_made M ≤ 2048
+        made = let both : length M.new + length (group_cells M) ≤ 2048 = omega (arith, counted, cells_low word M) in both
 
     pub is_part : IsSoundPart T M
     is_part = record { fits = m.fits; no_schema = m.no_schema; verdict = m.verdict; short = short }
@@ -215,10 +226,10 @@ module _ (h : HeaderView) (st : IsStart (opening_document h)) where
       }
 
       pub client_parted : unsequenced c + names_made M ≤ 16384 → IsClient h log (with_transaction c u)
-      client_parted few = record {
+      client_parted few = let now : names_made K + names_in c.pending ≤ 16384 = omega (arith, few, waiting, whole_names) in record {
         within = k.within;
         few = k.few;
-        few_names = omega (arith, few, waiting, whole_names);
+        few_names = now;
         under_way = k.under_way;
         shown_fit = k.shown_fit;
         sent_fit = k.sent_fit;
@@ -234,7 +245,7 @@ module _ (h : HeaderView) (st : IsStart (opening_document h)) where
   client_begun log c D k main room = record {
     within = k.within;
     few = k.few;
-    few_names = omega (arith, k.few_names);
+    few_names = pending_few h st log c k;
     under_way = k.under_way;
     shown_fit = k.shown_fit;
     sent_fit = k.sent_fit;
@@ -261,7 +272,7 @@ module _ (h : HeaderView) (st : IsStart (opening_document h)) where
   client_ended log c k = record {
     within = k.within;
     few = k.few;
-    few_names = omega (arith, k.few_names);
+    few_names = pending_few h st log c k;
     under_way = k.under_way;
     shown_fit = k.shown_fit;
     sent_fit = k.sent_fit;
