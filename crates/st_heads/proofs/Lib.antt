@@ -1,7 +1,7 @@
 mod Leading
-mod Runs
+pub mod Runs
 mod Fitting
 mod GoingBack
 mod Listed
 mod Extending
-mod Editing
+pub mod Editing

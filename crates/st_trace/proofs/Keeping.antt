@@ -18,7 +18,7 @@ use Rattle.st_log_laws.proofs.Turns.{rest as rest_fit}
 use Rattle.st_doc.specs.Doc.{document_of}
 use Rattle.st_doc.specs.declared.doc.Doc.{Doc}
 use Rattle.st_heads.specs.declared.heads.Head.{Head}
-use Rattle.st_heads.specs.Remembered.{AreCarried, none}
+use Rattle.st_heads.specs.Remembered.{AreCarried, none as nothing_done}
 use Rattle.st_heads.proofs.Runs.{as_many, run_of, runs_joined}
 use Rattle.st_script.specs.Header.{HeaderView}
 use Rattle.st_script.specs.declared.answer.Answer.{Answer}
@@ -304,7 +304,7 @@ module _ (h : HeaderView) (st : IsStart (opening_document h)) where
       let whole : log ≡ take n log = sym (take_all n log (omega (arith, is_n))) in
       record {
         received = subst (λ (es : List Entry). Run (opening_document h) (commits_in es) (document_of k.received)) whole (subst (λ (E : Document). Run (opening_document h) (commits_in log) E) (sym new.received) run);
-        own = subst (λ (E : Document). AreCarried (document_of k.received) [] k.main.own E) (new.received ∙ sym new.shown) (subst (λ ks. AreCarried (document_of k.received) [] ks (document_of k.received)) (sym new.own) none);
+        own = subst (λ (E : Document). AreCarried (document_of k.received) [] k.main.own E) (new.received ∙ sym new.shown) (subst (λ ks. AreCarried (document_of k.received) [] ks (document_of k.received)) (sym new.own) nothing_done);
         edited = new.edited;
         names = new.names;
       }
