@@ -28,7 +28,6 @@ use Rattle.st_lists.specs.Clients.{HasReceived, joined_of}
 use Rattle.st_lists.specs.Limits.{limit_passed, names_limit_passed, pending_limit_passed}
 use Rattle.st_lists.specs.Lines.{main_line}
 use Rattle.st_trace.specs.declared.client.EditWord.{EditWord}
-use Rattle.st_trace.specs.declared.client.EditWord.TheVariants as word
 use Rattle.st_trace.specs.declared.replica.Replica.{Replica}
 use Rattle.st_lists.specs.declared.lists.Client.{Client}
 use Rattle.st_lists.specs.declared.lists.Entry.{Entry}
@@ -83,7 +82,7 @@ module _ (w : World) (i : ℕ) (c : Client) (k : Replica) (s : IsSound w) (at_c 
   pub edit_meant : (e : EditAct) → IsMeaning h.schema (shown_of c k) (next_names c c.transaction) (word_of (edit_view e)) (resolve (shown_of c k) w.header.schema (next_names c c.transaction) (edit_of e))
   edit_meant e = resolved_means h.schema s.header.schema (shown_of c k) (next_names c c.transaction) (editable h (start_of w w.steps s) log c (shown_of c k) one.client shown) e
 
-  pub need_meant : (path : List Place) → IsMeaning h.schema (shown_of c k) (next_names c c.transaction) word.Need (need (shown_of c k) (next_names c c.transaction) path)
+  pub need_meant : (path : List Place) → IsMeaning h.schema (shown_of c k) (next_names c c.transaction) EditWord.Need (need (shown_of c k) (next_names c c.transaction) path)
   need_meant path = need_means h.schema s.header.schema (shown_of c k) (next_names c c.transaction) (editable h (start_of w w.steps s) log c (shown_of c k) one.client shown) path
 
   -- what an edit means can be taken in
@@ -155,13 +154,13 @@ module _ (w : World) (i : ℕ) (c : Client) (k : Replica) (s : IsSound w) (at_c 
         go None none x means done kept = kept_taken h (start_of w w.steps s) log c c' k k' word r a none one.kept done kept
         go (Some t) is x means done kept = taken_in t word r a is x means done kept
 
-    need_kept : (r : Result Intent EditFault) (a : Answer) → IsMeaning h.schema (shown_of c k) (next_names c c.transaction) word.Need r → IsAfterNeed c c.transaction r c' a → HasTakenNeed c c.transaction k r c' k' → IsReplicaOf h log c' k'
+    need_kept : (r : Result Intent EditFault) (a : Answer) → IsMeaning h.schema (shown_of c k) (next_names c c.transaction) EditWord.Need r → IsAfterNeed c c.transaction r c' a → HasTakenNeed c c.transaction k r c' k' → IsReplicaOf h log c' k'
     need_kept r a means done kept = go c.transaction refl one.client.transaction means done kept
       where
-        go : (o : Option Transaction) → c.transaction ≡ o → IfSome o (IsTransaction h log c) → IsMeaning h.schema (with_open (document_of k.main.doc) (option_and_then (λ (t : Transaction). t.joined) o)) (next_names c o) word.Need r → IsAfterNeed c o r c' a
+        go : (o : Option Transaction) → c.transaction ≡ o → IfSome o (IsTransaction h log c) → IsMeaning h.schema (with_open (document_of k.main.doc) (option_and_then (λ (t : Transaction). t.joined) o)) (next_names c o) EditWord.Need r → IsAfterNeed c o r c' a
             → HasTakenNeed c o k r c' k' → IsReplicaOf h log c' k'
         go None none x means done kept = stays_kept done.0 kept
-        go (Some t) is x means done kept = taken_in t word.Need r a is x means done kept
+        go (Some t) is x means done kept = taken_in t EditWord.Need r a is x means done kept
 
     begin_kept : (under : Rev) (a : Answer) → begin c c.transaction under ≡ (c', a) → k' ≡ k → IsReplicaOf h log c' k'
     begin_kept under a done same = go c.transaction refl done
@@ -325,7 +324,7 @@ module _ (c c' : Client) (k k' : Replica) where
 
   pub need_refused : (o : Option Transaction) (r : Result Intent EditFault) (a : Answer) → IsAfterNeed c o r c' a → HasTakenNeed c o k r c' k' → Same a
   need_refused None r a is kept = at_answer a _ is.1 (is.0, kept)
-  need_refused (Some t) r a is kept = joined_refused t word.Need r a is kept
+  need_refused (Some t) r a is kept = joined_refused t EditWord.Need r a is kept
 
   pub begin_refused : (o : Option Transaction) (under : Rev) (a : Answer) → begin c o under ≡ (c', a) → k' ≡ k → Same a
   begin_refused (Some t) under a is same = same_pair c a _ is (ap (λ (p : Client × Answer). p.0) (sym is), same)

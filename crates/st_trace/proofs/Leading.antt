@@ -169,14 +169,14 @@ module _ (h : HeaderView) (w : WorldState) (s : AreSound h w) where
 
     -- an edit in the transaction that is open
     edited_in : (t : Transaction) (word : EditWord) (r : Result Intent EditFault) → c.transaction ≡ Some t → IsTransaction h w.log c t → IsMeaning h.schema (with_open main.0 t.joined) (next_names c (Some t)) word r → (d : Client) × (a : Answer) × IsEditedIn c t word r d a
-    edited_in t word (Err f) is x means = (c, No (refusal_of f), refl, refl)
+    edited_in t word (Err f) is x means = (c, No (refusal_of f), (refl, refl))
     edited_in t word (Ok M) is x means = go (names_limit_passed c M)
       where
         m = meant_in h st w.log w.clients s.sessions s.clients s.few_names s.schema i c at (with_open main.0 t.joined) t word M x main.0 main.1 refl (means M refl)
 
         go : (o : Option Limit) → (d : Client) × (a : Answer) × IsJoined c t word M o d a
-        go (Some l) = (c, No (OverLimit l), refl, refl)
-        go None = let J = next_joined h st w.log c t word M client is s.few_names x m in (with_transaction c (with_edited t J.0 (length M.new) (cells_given word M)), answer_of word t.rev, J.0, J.1, refl, refl)
+        go (Some l) = (c, No (OverLimit l), (refl, refl))
+        go None = let J = next_joined h st w.log c t word M client is s.few_names x m in (with_transaction c (with_edited t J.0 (length M.new) (cells_given word M)), answer_of word t.rev, (J.0, J.1, refl, refl))
 
     meaning_at : (word : EditWord) (r : Result Intent EditFault) (o : Option Transaction) → c.transaction ≡ o → IsMeaning h.schema E (next_names c c.transaction) word r → IsMeaning h.schema (with_open main.0 (option_and_then (λ (t : Transaction). t.joined) o)) (next_names c o) word r
     meaning_at word r o is means = subst (λ (o : Option Transaction). IsMeaning h.schema (with_open main.0 (option_and_then (λ (t : Transaction). t.joined) o)) (next_names c o) word r) is means
@@ -192,7 +192,7 @@ module _ (h : HeaderView) (w : WorldState) (s : AreSound h w) where
     after_need r means = go c.transaction refl client.transaction
       where
         go : (o : Option Transaction) → c.transaction ≡ o → IfSome o (IsTransaction h w.log c) → (d : Client) × (a : Answer) × IsAfterNeed c o r d a
-        go None is x = (c, No NotBegun, refl, refl)
+        go None is x = (c, No NotBegun, (refl, refl))
         go (Some t) is x = edited_in t EditWord.Need r is x (meaning_at EditWord.Need r (Some t) is means)
 
     has_edited : (e : EditView) → Leads (IsEdited h w i c e)
@@ -237,7 +237,7 @@ module _ (h : HeaderView) (w : WorldState) (s : AreSound h w) where
 
     has_delivery_in : (D : Document) (o : Option Transaction) → IsSoundInForm D → (d : Client) × (a : Answer) × IsDeliveredIn D c o (slice_get w.log c.received) d a
     has_delivery_in D None sound = has_delivery D (slice_get w.log c.received) sound
-    has_delivery_in D (Some t) sound = (c, No Unfinished, refl, refl)
+    has_delivery_in D (Some t) sound = (c, No Unfinished, (refl, refl))
 
     has_delivered : Leads (IsDelivered h w i c)
     has_delivered =

@@ -33,7 +33,6 @@ use Rattle.st_script.specs.Steps as step
 use Rattle.st_script.specs.declared.step.EditAct.{EditAct}
 use Rattle.st_script.specs.declared.step.EditAct.TheVariants as edits
 use Rattle.st_trace.specs.declared.client.EditWord.{EditWord}
-use Rattle.st_trace.specs.declared.client.EditWord.TheVariants as word
 use Rattle.st_trace.specs.inside.Edits.{edit_of}
 use Rattle.st_trace.specs.World.{cells_given, intent_of, last_in_effect, word_of}
 use Rattle.st_trace.proofs.Meanings.{clear_of, insert_of, move_of, need_of, put_of, remove_of}
@@ -59,7 +58,7 @@ pub record IsEditable (D : Document) (G : NameCounters) : Type 0 where
   pub cells : CellsFresh D G
 
 module _ (s : SchemaView) (schema : is_sound s ≡ true) (D : Document) (G : NameCounters) (at : IsEditable D G) where
-  insert_means : (path : List Place) (key : Key) (index : ℕ) (trees : Nodes) → IsMeaning s D G word.Insert (insert D s G path key index trees)
+  insert_means : (path : List Place) (key : Key) (index : ℕ) (trees : Nodes) → IsMeaning s D G EditWord.Insert (insert D s G path key index trees)
   insert_means path key index trees N e =
       let m = insert_of D s G path key index trees N e in
       record {
@@ -72,7 +71,7 @@ module _ (s : SchemaView) (schema : is_sound s ≡ true) (D : Document) (G : Nam
         agrees = λ home here tells. insert_agrees s home D G path key index trees N at.sound schema at.nodes at.cells tells e;
       }
 
-  remove_means : (path : List Place) (key : Key) (index count : ℕ) → IsMeaning s D G word.Remove (remove D s G path key index count)
+  remove_means : (path : List Place) (key : Key) (index count : ℕ) → IsMeaning s D G EditWord.Remove (remove D s G path key index count)
   remove_means path key index count N e =
       let m = remove_of D s G path key index count N e in
       record {
@@ -85,7 +84,7 @@ module _ (s : SchemaView) (schema : is_sound s ≡ true) (D : Document) (G : Nam
         agrees = λ home here tells. remove_agrees s home D G path key index count N at.sound here e;
       }
 
-  move_means : (path : List Place) (key : Key) (index count : ℕ) (to : List Place) (to_key : Key) (to_index : ℕ) → IsMeaning s D G word.Move (move D s G path key index count to to_key to_index)
+  move_means : (path : List Place) (key : Key) (index count : ℕ) (to : List Place) (to_key : Key) (to_index : ℕ) → IsMeaning s D G EditWord.Move (move D s G path key index count to to_key to_index)
   move_means path key index count to to_key to_index N e =
       let m = move_of D s G path key index count to to_key to_index N e in
       record {
@@ -98,7 +97,7 @@ module _ (s : SchemaView) (schema : is_sound s ≡ true) (D : Document) (G : Nam
         agrees = λ home here tells. move_agrees s home D G path key index count to to_key to_index N at.sound schema here at.cells e;
       }
 
-  put_means : (path : List Place) (key : Key) (t : Node) → IsMeaning s D G word.Set (put D s G path key (first t no_nodes))
+  put_means : (path : List Place) (key : Key) (t : Node) → IsMeaning s D G EditWord.Set (put D s G path key (first t no_nodes))
   put_means path key t N e =
       let m = put_of D s G path key (first t no_nodes) N e in
       record {
@@ -111,7 +110,7 @@ module _ (s : SchemaView) (schema : is_sound s ≡ true) (D : Document) (G : Nam
         agrees = λ home here tells. put_agrees s home D G path key t N at.sound schema at.nodes at.cells tells e;
       }
 
-  clear_means : (path : List Place) (key : Key) → IsMeaning s D G word.Clear (clear D s G path key)
+  clear_means : (path : List Place) (key : Key) → IsMeaning s D G EditWord.Clear (clear D s G path key)
   clear_means path key N e =
       let m = clear_of D s G path key N e in
       record {
@@ -124,7 +123,7 @@ module _ (s : SchemaView) (schema : is_sound s ≡ true) (D : Document) (G : Nam
         agrees = λ home here tells. clear_agrees s home D G path key N e;
       }
 
-  pub need_means : (path : List Place) → IsMeaning s D G word.Need (need D G path)
+  pub need_means : (path : List Place) → IsMeaning s D G EditWord.Need (need D G path)
   need_means path N e =
       let m = need_of D G path N e in
       record {

@@ -28,6 +28,7 @@ use Rattle.st_edits.proofs.MoveFits.{CellsFresh}
 use Rattle.st_edits.proofs.NewFits.{NodesFresh}
 use Rattle.st_join.proofs.JoinNames.{cells_of_both, nodes_of_both}
 use Rattle.st_join.proofs.JoinOf.{joined_is_join}
+use Rattle.st_join.specs.inside.Lists.{join_of}
 use Rattle.st_heads.specs.Transactions.{FitsSoFar, IsSoundPart, IsWithPart, with_open}
 use Rattle.st_heads.specs.inside.Parts.{CanFollow}
 use Rattle.st_heads.proofs.Editing.{can_follow, fits_so_far, open_shows}
@@ -120,7 +121,7 @@ names_joined D (Some J) M K sound follow w =
 
 has_part : (D : Document) (joined : Option Intent) (M : Intent) → IsSoundInForm D → CanFollow D joined M → (K : Intent) × IsWithPart joined M K
 has_part D None M sound follow = (M, refl)
-has_part D (Some J) M sound follow = (_, joined_is_join D J M sound follow)
+has_part D (Some J) M sound follow = (join_of J M, joined_is_join D J M sound follow)
 
 module _ (h : HeaderView) (st : IsStart (opening_document h)) where
   -- what a client shows can be edited
