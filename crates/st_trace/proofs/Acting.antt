@@ -17,14 +17,15 @@ use Rattle.st_heads.specs.Transactions.{FitsSoFar, HasOpen, IsSoundPart, with_op
 use Rattle.st_script.specs.Header.{HeaderView, header_view}
 use Rattle.st_script.specs.Steps.{edit_view}
 use Rattle.st_script.specs.declared.answer.Answer.{Answer}
-use Rattle.st_script.specs.declared.answer.Answer.TheVariants.{Show}
+use Rattle.st_script.specs.declared.answer.Answer.TheVariants.{Abort, Begin, Commit, Deliver, No, Show}
+use Rattle.st_script.specs.declared.refusal.Refusal.TheVariants.{Limit as OverLimit, NotBegun, NothingNew, Unfinished}
 use Rattle.st_script.specs.declared.step.EditAct.{EditAct}
 use Rattle.st_ids.specs.declared.names.Place.{Place}
 use Rattle.st_trace.specs.Replicas.{IsClient, IsReplicaOf, IsSound, IsSoundAfter, IsTransaction}
 use Rattle.st_trace.specs.inside.Edits.{edit_of}
 use Rattle.st_trace.specs.inside.Replicas.{CanReceive, CanReceiveIn, CanTake, HasAborted, HasCommitted, HasJoined, HasMoved, HasMovedIn, HasNumbersLeft, HasTaken, HasTakenNeed, IsPending}
-use Rattle.st_trace.specs.World.{AtRefusal, HasShown, IsAfterEdit, IsAfterNeed, IsDelivered, IsDeliveredIn, IsDeliveredTo, IsDoneIn, IsEditedIn, IsJoined, IsShown, abort, after_edit, answer_of, begin, commit, committed, last_in_effect, next_names, opening_document, with_client, with_beginning, with_pending, word_of}
-use Rattle.st_lists.specs.Clients.{HasReceived, joined_of}
+use Rattle.st_trace.specs.World.{AtRefusal, HasShown, IsAfterEdit, IsAfterNeed, IsDelivered, IsDeliveredIn, IsDeliveredTo, IsDoneIn, IsEditedIn, IsJoined, IsShown, abort, after_edit, answer_of, begin, commit, committed, last_in_effect, next_names, opening_document, refusal_of, with_client, with_beginning, with_pending, word_of}
+use Rattle.st_lists.specs.Clients.{HasReceived, joined_of, next_rev, with_begun, with_commit, with_new_commit, without_transaction}
 use Rattle.st_lists.specs.Limits.{limit_passed, names_limit_passed, pending_limit_passed}
 use Rattle.st_lists.specs.Lines.{main_line}
 use Rattle.st_trace.specs.declared.client.EditWord.{EditWord}
@@ -168,7 +169,7 @@ module _ (w : World) (i : ℕ) (c : Client) (k : Replica) (s : IsSound w) (at_c 
         begun : c.transaction ≡ None → (o : Option Limit) → with_beginning c under o ≡ (c', a) → IsReplicaOf h log c' k'
         begun none (Some l) done = stays_kept (ap (λ (p : Client × Answer). p.0) (sym done)) same
         begun none None done =
-            subst (λ d. IsReplicaOf h log d k') (ap (λ (p : Client × Answer). p.0) done) (subst (λ x. IsReplicaOf h log _ x) (sym same) (kept_begun h (start_of w w.steps s) log c k under none one.kept))
+            subst (λ d. IsReplicaOf h log d k') (ap (λ (p : Client × Answer). p.0) done) (subst (λ x. IsReplicaOf h log (with_begun c under) x) (sym same) (kept_begun h (start_of w w.steps s) log c k under none one.kept))
 
         go : (o : Option Transaction) → c.transaction ≡ o → begin c o under ≡ (c', a) → IsReplicaOf h log c' k'
         go (Some t) is done = stays_kept (ap (λ (p : Client × Answer). p.0) (sym done)) same
@@ -186,7 +187,7 @@ module _ (w : World) (i : ℕ) (c : Client) (k : Replica) (s : IsSound w) (at_c 
       where
         go : (o : Option Transaction) → c.transaction ≡ o → abort c o ≡ (c', a) → HasAborted o k k' → IsReplicaOf h log c' k'
         go None none done kept = stays_kept (ap (λ (p : Client × Answer). p.0) (sym done)) kept
-        go (Some t) is done kept = subst (λ d. IsReplicaOf h log d k') (ap (λ (p : Client × Answer). p.0) done) (subst (λ x. IsReplicaOf h log _ x) (sym kept) (kept_ended h (start_of w w.steps s) log c t k is one.kept))
+        go (Some t) is done kept = subst (λ d. IsReplicaOf h log d k') (ap (λ (p : Client × Answer). p.0) done) (subst (λ x. IsReplicaOf h log (without_transaction c) x) (sym kept) (kept_ended h (start_of w w.steps s) log c t k is one.kept))
 
     delivery_kept : (D : Document) (a : Answer) → IsDeliveredIn D c c.transaction (slice_get log c.received) c' a → HasMovedIn c k c.transaction (slice_get log c.received) k' → IsReplicaOf h log c' k'
     delivery_kept D a done kept = go c.transaction refl done kept
@@ -303,56 +304,56 @@ module _ (c c' : Client) (k k' : Replica) where
   same_pair d a b e p = at_answer a b (ap (λ (q : Client × Answer). q.1) (sym e)) p
 
   taken_refused : (word : EditWord) (r : Result Intent EditFault) (a : Answer) → after_edit c word r ≡ (c', a) → HasTaken c None k r c' k' → Same a
-  taken_refused word (Err f) a is kept = same_pair c a _ is (ap (λ (p : Client × Answer). p.0) (sym is), kept)
+  taken_refused word (Err f) a is kept = same_pair c a (No (refusal_of f)) is (ap (λ (p : Client × Answer). p.0) (sym is), kept)
   taken_refused word (Ok N) a is kept = go (limit_passed c N) is kept
     where
       go : (o : Option Limit) → with_pending c word N o ≡ (c', a) → IsPending k N o k' → Same a
-      go (Some l) is kept = same_pair c a _ is (ap (λ (p : Client × Answer). p.0) (sym is), kept)
-      go None is kept = same_pair _ a _ is (no_refusal word _ ((c' ≡ c) × (k' ≡ k)))
+      go (Some l) is kept = same_pair c a (No (OverLimit l)) is (ap (λ (p : Client × Answer). p.0) (sym is), kept)
+      go None is kept = same_pair (with_new_commit c N) a (answer_of word (next_rev c)) is (no_refusal word (next_rev c) ((c' ≡ c) × (k' ≡ k)))
 
   joined_refused : (t : Transaction) (word : EditWord) (r : Result Intent EditFault) (a : Answer) → IsEditedIn c t word r c' a → HasTaken c (Some t) k r c' k' → Same a
-  joined_refused t word (Err f) a is kept = at_answer a _ is.1 (is.0, kept)
+  joined_refused t word (Err f) a is kept = at_answer a (No (refusal_of f)) is.1 (is.0, kept)
   joined_refused t word (Ok M) a is kept = go (names_limit_passed c M) is kept
     where
       go : (o : Option Limit) → IsJoined c t word M o c' a → HasJoined k M o (joined_of c') k' → Same a
-      go (Some l) is kept = at_answer a _ is.1 (is.0, kept)
-      go None is kept = at_answer a _ is.3 (no_refusal word t.rev ((c' ≡ c) × (k' ≡ k)))
+      go (Some l) is kept = at_answer a (No (OverLimit l)) is.1 (is.0, kept)
+      go None is kept = at_answer a (answer_of word t.rev) is.3 (no_refusal word t.rev ((c' ≡ c) × (k' ≡ k)))
 
   pub edit_refused : (o : Option Transaction) (word : EditWord) (r : Result Intent EditFault) (a : Answer) → IsAfterEdit c o word r c' a → HasTaken c o k r c' k' → Same a
   edit_refused None word r a is kept = taken_refused word r a is kept
   edit_refused (Some t) word r a is kept = joined_refused t word r a is kept
 
   pub need_refused : (o : Option Transaction) (r : Result Intent EditFault) (a : Answer) → IsAfterNeed c o r c' a → HasTakenNeed c o k r c' k' → Same a
-  need_refused None r a is kept = at_answer a _ is.1 (is.0, kept)
+  need_refused None r a is kept = at_answer a (No NotBegun) is.1 (is.0, kept)
   need_refused (Some t) r a is kept = joined_refused t EditWord.Need r a is kept
 
   pub begin_refused : (o : Option Transaction) (under : Rev) (a : Answer) → begin c o under ≡ (c', a) → k' ≡ k → Same a
-  begin_refused (Some t) under a is same = same_pair c a _ is (ap (λ (p : Client × Answer). p.0) (sym is), same)
+  begin_refused (Some t) under a is same = same_pair c a (No Unfinished) is (ap (λ (p : Client × Answer). p.0) (sym is), same)
   begin_refused None under a is same = go (pending_limit_passed c) is
     where
       go : (o : Option Limit) → with_beginning c under o ≡ (c', a) → Same a
-      go (Some l) is = same_pair c a _ is (ap (λ (p : Client × Answer). p.0) (sym is), same)
-      go None is = same_pair _ a _ is tt
+      go (Some l) is = same_pair c a (No (OverLimit l)) is (ap (λ (p : Client × Answer). p.0) (sym is), same)
+      go None is = same_pair (with_begun c under) a (Begin (next_rev c)) is tt
 
   pub commit_refused : (o : Option Transaction) (a : Answer) → commit c o ≡ (c', a) → HasCommitted o k k' → Same a
-  commit_refused None a is kept = same_pair c a _ is (ap (λ (p : Client × Answer). p.0) (sym is), kept)
+  commit_refused None a is kept = same_pair c a (No NotBegun) is (ap (λ (p : Client × Answer). p.0) (sym is), kept)
   commit_refused (Some t) a is kept = go t.joined is
     where
-      go : (o : Option Intent) → committed _ t.rev o ≡ (c', a) → Same a
-      go None is = same_pair _ a _ is tt
-      go (Some J) is = same_pair _ a _ is tt
+      go : (o : Option Intent) → committed (without_transaction c) t.rev o ≡ (c', a) → Same a
+      go None is = same_pair (without_transaction c) a (Commit None) is tt
+      go (Some J) is = same_pair (with_commit (without_transaction c) J) a (Commit (Some t.rev)) is tt
 
   pub abort_refused : (o : Option Transaction) (a : Answer) → abort c o ≡ (c', a) → HasAborted o k k' → Same a
-  abort_refused None a is kept = same_pair c a _ is (ap (λ (p : Client × Answer). p.0) (sym is), kept)
-  abort_refused (Some t) a is kept = same_pair _ a _ is tt
+  abort_refused None a is kept = same_pair c a (No NotBegun) is (ap (λ (p : Client × Answer). p.0) (sym is), kept)
+  abort_refused (Some t) a is kept = same_pair (without_transaction c) a Abort is tt
 
   delivered_refused : (D : Document) (o : Option Entry) (a : Answer) → IsDeliveredTo D c o c' a → HasMoved c k o k' → Same a
-  delivered_refused D None a is kept = at_answer a _ is.1 (is.0, kept)
-  delivered_refused D (Some e) a is kept = at_answer a _ is.3 tt
+  delivered_refused D None a is kept = at_answer a (No NothingNew) is.1 (is.0, kept)
+  delivered_refused D (Some e) a is kept = at_answer a (Deliver (c.received + 1) is.0) is.3 tt
 
   pub delivery_refused : (o : Option Transaction) (D : Document) (next : Option Entry) (a : Answer) → IsDeliveredIn D c o next c' a → HasMovedIn c k o next k' → Same a
   delivery_refused None D next a is kept = delivered_refused D next a is kept
-  delivery_refused (Some t) D next a is kept = at_answer a _ is.1 (is.0, kept)
+  delivery_refused (Some t) D next a is kept = at_answer a (No Unfinished) is.1 (is.0, kept)
 
 pub begun_refused : (w : World) (i : ℕ) (c c' : Client) (k : Replica) (under : Rev) (a : Answer) → slice_get w.lists.clients i ≡ Some c → begin c c.transaction under ≡ (c', a)
     → AtRefusal a (◌≡◌ {A = World} (record w { lists = record w.lists { clients = slice_set w.lists.clients i c' } }) w)

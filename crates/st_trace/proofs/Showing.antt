@@ -41,34 +41,34 @@ use Rattle.st_trace.proofs.Stepping.{start_of}
 use Rattle.st_lists.specs.declared.lists.Body.{Body}
 
 -- what a client shows conforms to the schema
-shown_conforming : (w : World) (i : ℕ) (c : Client) (E : Document) (s : IsSound w) → slice_get w.lists.clients i ≡ Some c → HasShown (opening_document (header_view w.header)) w.lists.log (main_line c) E → IsConforming w.header.schema s.schema.0 E
-shown_conforming w i c E s at shown =
-    subst (IsConforming h.schema home) (sym shown.2) (go c.transaction k.transaction (all_get (EditsKeepSchema h home log) w.lists.clients i c s.schema.1.edited at shown.0 shown.1))
-  where
-    abbrev h : HeaderView
-    h = header_view w.header
+module _ (w : World) (i : ℕ) (c : Client) (E : Document) (s : IsSound w) (at : slice_get w.lists.clients i ≡ Some c) (shown : HasShown (opening_document (header_view w.header)) w.lists.log (main_line c) E) where
+  abbrev h : HeaderView
+  h = header_view w.header
 
-    abbrev log : List Entry
-    log = w.lists.log
+  abbrev log : List Entry
+  log = w.lists.log
 
-    abbrev home : NodeId → Option FieldId
-    home = s.schema.0
+  abbrev home : NodeId → Option FieldId
+  home = s.schema.0
 
-    st : IsStart (opening_document h)
-    st = start_of w w.steps s
+  st : IsStart (opening_document h)
+  st = start_of w w.steps s
 
-    k : IsClient h log c
-    k = kept_some h log w.lists.clients w.kept i c s.kept at
+  k : IsClient h log c
+  k = kept_some h log w.lists.clients w.kept i c s.kept at
 
-    here : IsConforming h.schema home shown.0
-    here = list_conforms h.schema home st.sound k.shown_fit s.schema.1.start (all_get (λ (c : Client). KeepSchemaInTurn h.schema home (opening_document h) (received_by log c ++ c.pending)) w.lists.clients i c s.schema.1.shown at) shown.1
+  here : IsConforming h.schema home shown.0
+  here = list_conforms h.schema home st.sound k.shown_fit s.schema.1.start (all_get (λ (c : Client). KeepSchemaInTurn h.schema home (opening_document h) (received_by log c ++ c.pending)) w.lists.clients i c s.schema.1.shown at) shown.1
 
-    go : (o : Option Transaction) → IfSome o (IsTransaction h log c) → IfSome (option_and_then (λ (t : Transaction). t.joined) o) (KeepsSchema h.schema home shown.0)
-        → IsConforming h.schema home (with_open shown.0 (option_and_then (λ (t : Transaction). t.joined) o))
-    go None x a = here
-    go (Some t) x a =
-        let so = subst (λ F. FitsSoFar F t.rev t.under t.joined) (one_run x.main shown.1) x.so_far in
-        open_conforms h st home shown.0 t.rev t.under t.joined (shown_sound h st log c shown.0 k shown.1) so here a
+  with_edits : (o : Option Transaction) → IfSome o (IsTransaction h log c) → IfSome (option_and_then (λ (t : Transaction). t.joined) o) (KeepsSchema h.schema home shown.0)
+      → IsConforming h.schema home (with_open shown.0 (option_and_then (λ (t : Transaction). t.joined) o))
+  with_edits None x a = here
+  with_edits (Some t) x a =
+      let so = subst (λ F. FitsSoFar F t.rev t.under t.joined) (one_run x.main shown.1) x.so_far in
+      open_conforms h st home shown.0 t.rev t.under t.joined (shown_sound h st log c shown.0 k shown.1) so here a
+
+  shown_conforming : IsConforming h.schema home E
+  shown_conforming = subst (IsConforming h.schema home) (sym shown.2) (with_edits c.transaction k.transaction (all_get (EditsKeepSchema h home log) w.lists.clients i c s.schema.1.edited at shown.0 shown.1))
 
 -- the text of what a client shows
 text_allowed : (w : World) (i : ℕ) (c : Client) (E : Document) (text : List ℕ) → IsSound w → slice_get w.lists.clients i ≡ Some c → HasShown (opening_document (header_view w.header)) w.lists.log (main_line c) E → IsTreeText (is_array_type w.header.schema) E text
