@@ -1,14 +1,18 @@
 -- What an edit means, or its refusal, is taken in.
-use Rattle.std.proofs.Common.{◌≡◌, Option, Some, None, Result, Ok, Err, refl, sym, subst}
+use Rattle.std.proofs.Common.{◌≡◌, ◌∙◌, true, false, Option, Some, None, is_some, Result, Ok, Err, refl, sym, ap, subst}
+use Rattle.st_ids.specs.declared.names.Limit.{Limit}
+use Rattle.st_ids.specs.declared.names.Rev.{Rev}
 use Rattle.st_tree.specs.declared.edit.EditFault.{EditFault}
 use Rattle.st_marks.specs.declared.intents.Intent.{Intent}
 use Rattle.st_script.specs.declared.answer.Answer.{Answer}
-use Rattle.st_script.specs.declared.answer.Answer.TheVariants.{No}
-use Rattle.st_script.specs.declared.refusal.Refusal.TheVariants.{NotBegun}
+use Rattle.st_script.specs.declared.answer.Answer.TheVariants.{Abort, Begin, No}
+use Rattle.st_script.specs.declared.refusal.Refusal.TheVariants.{Limit as OverLimit, NotBegun, Unfinished}
 use Rattle.st_trace.specs.declared.client.EditWord.{EditWord}
 use Rattle.st_trace.specs.declared.replica.Replica.{Replica}
 use Rattle.st_trace.specs.inside.Replicas.{HasTaken, HasTakenIn, HasTakenNeed, IsTakenIn}
-use Rattle.st_trace.specs.World.{IsAfterEdit, IsAfterNeed, IsEditedIn, after_edit, refusal_of}
+use Rattle.st_trace.specs.World.{IsAfterEdit, IsAfterNeed, abort, begin, commit, committed, refusal_of, with_beginning}
+use Rattle.st_lists.specs.Clients.{next_rev, with_begun, without_transaction}
+use Rattle.st_lists.specs.Limits.{pending_limit_passed}
 use Rattle.st_lists.specs.declared.lists.Client.{Client}
 use Rattle.st_lists.specs.declared.lists.Transaction.{Transaction}
 
@@ -39,3 +43,41 @@ need_taken c d o t r a is done = subst (λ x. IsAfterNeed c x r d a) (sym is) (s
 
 pub need_kept : (c d : Client) (o : Option Transaction) (t : Transaction) (k k' : Replica) (r : Result Intent EditFault) → o ≡ Some t → HasTaken c o k r d k' → HasTakenNeed c o k r d k'
 need_kept c d o t k k' r is done = subst (λ x. HasTakenNeed c x k r d k') (sym is) (subst (λ x. HasTaken c x k r d k') is done)
+
+-- ## Whether a transaction is open
+
+pub none_of : (o : Option Transaction) → is_some o ≡ false → o ≡ None
+none_of None e = refl
+none_of (Some t) e = cc
+
+pub some_of : (o : Option Transaction) → is_some o ≡ true → (t : Transaction) × (o ≡ Some t)
+some_of None e = cc
+some_of (Some t) e = (t, refl)
+
+pub begin_open : (c : Client) (o : Option Transaction) (under : Rev) → is_some o ≡ true → begin c o under ≡ (c, No Unfinished)
+begin_open c None under e = cc
+begin_open c (Some t) under e = refl
+
+pub begin_over : (c : Client) (o : Option Transaction) (under : Rev) (l : Limit) → is_some o ≡ false → pending_limit_passed c ≡ Some l → begin c o under ≡ (c, No (OverLimit l))
+begin_over c None under l e over = ap (with_beginning c under) over
+begin_over c (Some t) under l e over = cc
+
+pub begin_made : (c : Client) (o : Option Transaction) (under : Rev) → is_some o ≡ false → pending_limit_passed c ≡ None → begin c o under ≡ (with_begun c under, Begin (next_rev c))
+begin_made c None under e few = ap (with_beginning c under) few
+begin_made c (Some t) under e few = cc
+
+pub commit_none : (c : Client) → c.transaction ≡ None → commit c c.transaction ≡ (without_transaction c, No NotBegun)
+commit_none c none = ap (commit c) none ∙ ap (λ (o : Option Transaction). (record c { transaction = o }, No NotBegun)) none
+
+pub commit_some : (c d : Client) (t : Transaction) (a : Answer) → c.transaction ≡ Some t → committed (without_transaction c) t.rev t.joined ≡ (d, a) → commit c c.transaction ≡ (d, a)
+commit_some c d t a is done = ap (commit c) is ∙ done
+
+pub abort_none : (c : Client) → c.transaction ≡ None → abort c c.transaction ≡ (without_transaction c, No NotBegun)
+abort_none c none = ap (abort c) none ∙ ap (λ (o : Option Transaction). (record c { transaction = o }, No NotBegun)) none
+
+pub abort_some : (c : Client) (t : Transaction) → c.transaction ≡ Some t → abort c c.transaction ≡ (without_transaction c, Abort)
+abort_some c t is = ap (abort c) is
+
+pub need_none : (c : Client) (o : Option Transaction) (r : Result Intent EditFault) → is_some o ≡ false → IsAfterNeed c o r c (No NotBegun)
+need_none c None r e = (refl, refl)
+need_none c (Some t) r e = cc
