@@ -19,9 +19,9 @@ use Rattle.st_lists.specs.Log.{commit_of, commits_in, commits_of_text, log_with}
 use Rattle.st_lists.specs.Clients.{HasShown, empty_state, new_client, next_rev, pending_after, with_received}
 use Rattle.st_trace.specs.World.{IsDeliveredTo, after_edit, opening_document, with_pending}
 use Rattle.st_lists.specs.Limits.{limit_passed}
-use Rattle.st_lists.specs.Names.{names_in, names_in_text, names_made}
+use Rattle.st_lists.specs.Names.{names_in, names_in_text}
 use Rattle.st_trace.specs.declared.client.EditWord.{EditWord}
-use Rattle.st_lists.specs.declared.lists.Body.TheVariants.{Join, Commit}
+use Rattle.st_lists.specs.declared.lists.Body.TheVariants.{Join}
 use Rattle.st_lists.specs.declared.lists.Client.{Client}
 use Rattle.st_lists.specs.declared.lists.Entry.{Entry}
 use Rattle.st_lists.specs.declared.lists.WorldState.{WorldState}

@@ -1,5 +1,5 @@
 -- What the kept documents and numbers stand for, and what holds of the lists of each world that steps lead to.
-use Rattle.std.specs.Prelude.{◌-◌, ◌≡◌, ◌==◌, ℕ, ◌+◌, ◌≤◌, true, List, [], ◌∷◌, ◌++◌, length, map, drop, filter, Option, None, IfSome}
+use Rattle.std.specs.Prelude.{◌≡◌, ℕ, ◌+◌, ◌≤◌, true, List, [], ◌∷◌, ◌++◌, length, drop, Option, None, IfSome}
 use Rattle.std.specs.List.{AllByRecursion}
 use Rattle.st_ids.specs.Listing.{Has}
 use Rattle.st_ids.specs.declared.names.FieldId.{FieldId}
@@ -7,7 +7,6 @@ use Rattle.st_ids.specs.declared.names.NodeId.{NodeId}
 use Rattle.st_marks.specs.declared.intents.Intent.{Intent}
 use Rattle.st_ids.specs.Root.{opening}
 use Rattle.st_marks.specs.Run.{Run}
-use Rattle.st_marks.specs.Verdict.{carried_document}
 use Rattle.st_log_laws.specs.Names.{HaveNewRevisions}
 use Rattle.st_log_laws.specs.Turns.{FitInTurn}
 use Rattle.st_schema_laws.specs.Agreeing.{KeepSchemaInTurn}
