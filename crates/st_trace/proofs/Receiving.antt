@@ -51,11 +51,13 @@ pub received_last : (c : Client) (old new : Replica) (own : Bool) (N : Intent) (
     → HasCarried old N v new → document_of new.main.doc ≡ document_of new.received → new.main ≡ record old.main { doc = new.main.doc } → new.names ≡ old.names → HasReceivedOne c old own N v new
 received_last c old new true N v other empty run edited got same main names = absurd (cc)
 received_last c old new false N v other empty run edited got same main names = (
-  got, (
-  still_nothing c.pending old.main.own new.main.own (document_of old.received) (document_of old.main.doc) (document_of new.received) (document_of new.main.doc) empty run (ap (λ (m : Head). m.own) main) same,
-  ap (λ (m : Head). m.edited) main ∙ edited,
-  names,
-))
+  got,
+  (
+    still_nothing c.pending old.main.own new.main.own (document_of old.received) (document_of old.main.doc) (document_of new.received) (document_of new.main.doc) empty run (ap (λ (m : Head). m.own) main) same,
+    ap (λ (m : Head). m.edited) main ∙ edited,
+    names,
+  ),
+)
 
 pub received_before : (c : Client) (old new : Replica) (own : Bool) (N : Intent) (v : Verdict) (pending : List Intent) → own ≡ false → pending ≡ c.pending → HasCarried old N v new
     → AreCarried (document_of new.received) pending new.main.own (document_of new.main.doc) → new.main.edited ≡ None → new.names ≡ old.names → HasReceivedOne c old own N v new
