@@ -1,8 +1,8 @@
 mod Leading
-mod Runs
+pub mod Runs
 mod Fitting
 mod GoingBack
 mod Listed
 mod Extending
-mod Editing
+pub mod Editing
 pub mod Differing

@@ -5,5 +5,5 @@ pub mod Picked
 mod Rows
 pub mod JoinFits
 mod JoinIntents
-mod JoinOf
-mod JoinNames
+pub mod JoinOf
+pub mod JoinNames

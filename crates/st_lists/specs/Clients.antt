@@ -1,5 +1,5 @@
 -- The clients of a world: who is there, and what a client's own steps make of its lists.
-use Rattle.std.specs.Prelude.{ℕ, ◌+◌, ◌==◌, ◌&&◌, Bool, List, [], ◌∷◌, ◌++◌, drop, take, position, slice_get, nat_eq, Option, is_some, option_map, option_and_then, if◌then◌else◌}
+use Rattle.std.specs.Prelude.{ℕ, ◌+◌, ◌==◌, ◌&&◌, Bool, List, [], ◌∷◌, ◌++◌, drop, take, position, slice_get, nat_eq, Option, Some, None, is_some, option_map, option_and_then, if◌then◌else◌}
 use Rattle.std.specs.Cmp.Lexicographic.{pointwise}
 use Rattle.st_ids.specs.declared.names.Rev.{Rev}
 use Rattle.st_marks.specs.declared.intents.Intent.{Intent}
@@ -9,6 +9,7 @@ use Rattle.st_lists.specs.Log.{commit_of, commits_in}
 use Rattle.st_lists.specs.declared.lists.Body.TheVariants.{Commit}
 use Rattle.st_lists.specs.declared.lists.Client.{Client}
 use Rattle.st_lists.specs.declared.lists.Entry.{Entry}
+use Rattle.st_lists.specs.declared.lists.Transaction.{Transaction}
 use Rattle.st_lists.specs.declared.lists.WorldState.{WorldState}
 
 -- ## Who is there
@@ -26,7 +27,7 @@ client_named name clients = option_and_then (λ i. option_map (λ c. (i, c)) (sl
 
 -- a new client has received all of the log, with its own join
 abbrev pub new_client : ℕ → ℕ → List ℕ → Client
-new_client n session name = record { name = name; session = session; received = n; ids = 0; pending = []; queue = [] }
+new_client n session name = record { name = name; session = session; received = n; ids = 0; pending = []; transaction = None; queue = [] }
 
 -- ## The commits of a client
 
@@ -38,10 +39,6 @@ received_by log c = commits_in (take c.received log)
 abbrev pub HasReceived : Document → List Entry → Client → Document → Type 0
 HasReceived O log c D = Run O (received_by log c) D
 
--- the commits that a client received, followed by its own pending ones, lead to this document
-abbrev pub HasShown : Document → List Entry → Client → Document → Type 0
-HasShown O log c D = Run O (received_by log c ++ c.pending) D
-
 -- the revision of its next commit
 abbrev pub next_rev : Client → Rev
 next_rev c = record { session = c.session; num = c.ids + 1 }
@@ -49,10 +46,38 @@ next_rev c = record { session = c.session; num = c.ids + 1 }
 -- a commit is pending, and its text waits in the queue
 abbrev pub with_commit : Client → Intent → Client
 with_commit c intent = record c {
-  ids = c.ids + 1;
   pending = c.pending ++ intent ∷ [];
   queue = c.queue ++ Commit c.received intent ∷ [];
 }
+
+-- the same, with an id generated for it
+abbrev pub with_new_commit : Client → Intent → Client
+with_new_commit c intent = record (with_commit c intent) { ids = c.ids + 1 }
+
+-- ## Transactions
+
+-- a transaction that begins: it has the next revision, and nothing is edited in it
+abbrev pub new_transaction : Rev → Rev → Transaction
+new_transaction rev under = record { rev = rev; under = under; joined = None; nodes = 0; cells = 0 }
+
+abbrev pub with_begun : Client → Rev → Client
+with_begun c under = record c { ids = c.ids + 1; transaction = Some (new_transaction (next_rev c) under) }
+
+-- a transaction after an edit: what was edited is now so, and so many numbers more were given
+abbrev pub with_edited : Transaction → Intent → ℕ → ℕ → Transaction
+with_edited t joined nodes cells = record t { joined = Some joined; nodes = t.nodes + nodes; cells = t.cells + cells }
+
+-- the client after an edit in its transaction
+abbrev pub with_transaction : Client → Transaction → Client
+with_transaction c t = record c { transaction = Some t }
+
+-- no transaction is open any more
+abbrev pub without_transaction : Client → Client
+without_transaction c = record c { transaction = None }
+
+-- what was edited in the transaction that is open, if one is
+abbrev pub joined_of : Client → Option Intent
+joined_of c = option_and_then (λ (t : Transaction). t.joined) c.transaction
 
 -- ## Receiving
 

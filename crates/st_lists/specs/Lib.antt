@@ -2,4 +2,5 @@ pub mod Log
 pub mod Known
 pub mod Names
 pub mod Clients
+pub mod Lines
 pub mod Limits

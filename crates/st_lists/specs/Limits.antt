@@ -1,18 +1,25 @@
 -- The limits on what waits and on the log.
 use Rattle.std.specs.Prelude.{ℕ, ◌+◌, nat_le, nat_lt, List, length, Option, Some, None, if◌then◌else◌}
+use Rattle.std.specs.Option.{option_or}
 use Rattle.st_ids.specs.declared.names.Limit.{Limit}
 use Rattle.st_ids.specs.declared.names.LimitOf.TheVariants.{Log, Names, Pending, Unsequenced}
 use Rattle.st_marks.specs.declared.intents.Intent.{Intent}
 use Rattle.st_lists.specs.Log.{commits_in}
-use Rattle.st_lists.specs.Names.{names_in, names_made}
+use Rattle.st_lists.specs.Names.{names_in, names_made, unsequenced}
 use Rattle.st_lists.specs.declared.lists.Client.{Client}
 use Rattle.st_lists.specs.declared.lists.Entry.{Entry}
 
--- the limit that one more pending commit would pass: at most 256 commits, and 16,384 names in them
+-- the limit that one more pending commit would pass: at most 256 commits
+abbrev pub pending_limit_passed : Client → Option Limit
+pending_limit_passed c = if nat_le 256 (length c.pending) then Some (record { of = Pending; kept = length c.pending }) else None
+
+-- the limit that what one more edit makes would pass: at most 16,384 names that wait
+abbrev pub names_limit_passed : Client → Intent → Option Limit
+names_limit_passed c N = if nat_lt 16384 (unsequenced c + names_made N) then Some (record { of = Unsequenced; kept = unsequenced c }) else None
+
+-- the limit that an edit would pass where no transaction is open
 abbrev pub limit_passed : Client → Intent → Option Limit
-limit_passed c N =
-    if nat_le 256 (length c.pending) then Some (record { of = Pending; kept = length c.pending }) else
-    if nat_lt 16384 (names_in c.pending + names_made N) then Some (record { of = Unsequenced; kept = names_in c.pending }) else None
+limit_passed c N = option_or (pending_limit_passed c) (names_limit_passed c N)
 
 -- the limit that an entry with so many names would pass: at most 65,535 entries, which make at most 131,072 names
 abbrev pub log_limit_passed : List Entry → ℕ → Option Limit

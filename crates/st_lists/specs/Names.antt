@@ -3,8 +3,10 @@ use Rattle.std.specs.Prelude.{ℕ, ◌+◌, List, [], ◌∷◌, length}
 use Rattle.std.specs.Option.{option_map_or}
 use Rattle.st_marks.specs.declared.intents.Intent.{Intent}
 use Rattle.st_marks.specs.Intent.{group_cells}
+use Rattle.st_lists.specs.Clients.{joined_of}
 use Rattle.st_lists.specs.Log.{commit_in}
 use Rattle.st_lists.specs.declared.lists.Body.{Body}
+use Rattle.st_lists.specs.declared.lists.Client.{Client}
 
 -- how many names an intent makes: its nodes and its cells
 abbrev pub names_made : Intent → ℕ
@@ -18,3 +20,7 @@ names_in (N ∷ Ns) = names_made N + names_in Ns
 -- how many names the commit of a text makes; none where it has none
 abbrev pub names_in_text : Body → ℕ
 names_in_text text = option_map_or names_made (commit_in text) 0
+
+-- how many names wait at a client: those of its pending commits, and those of what is edited in its open transaction
+abbrev pub unsequenced : Client → ℕ
+unsequenced c = option_map_or names_made (joined_of c) 0 + names_in c.pending

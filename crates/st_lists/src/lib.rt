@@ -6,5 +6,5 @@ mod lists;
 mod log;
 
 pub use counts::{names_in_text, names_made};
-pub use lists::{Body, Client, Entry, WorldState};
+pub use lists::{Body, Client, Entry, Transaction, WorldState};
 pub use log::{append_entry, least_known};

@@ -1,6 +1,6 @@
 //! The world as lists: what the answers are defined by.
 
-use st_ids::{List, Text};
+use st_ids::{List, Rev, Text};
 use st_marks::Intent;
 
 /// The log, and the clients in the order of their joins.
@@ -28,8 +28,19 @@ pub enum Body {
     Commit { reference: u32, intent: Intent },
 }
 
-/// A client: how many entries it received, how many ids it generated, its commits that it has not received back, and
-/// the texts that are not in the log yet.
+/// A transaction that is open: the revision of its commit, the schema's revision that it is made under, what was edited in
+/// it so far, as one intent, and how many numbers of nodes and of cells its edits have given.
+#[derive(Drop)]
+pub struct Transaction {
+    pub rev: Rev,
+    pub under: Rev,
+    pub joined: Option<Intent>,
+    pub nodes: u32,
+    pub cells: u32,
+}
+
+/// A client: how many entries it received, how many ids it generated, its commits that it has not received back, the
+/// transaction that is open on its main branch, and the texts that are not in the log yet.
 #[derive(Drop)]
 pub struct Client {
     pub name: Text,
@@ -37,5 +48,6 @@ pub struct Client {
     pub received: u32,
     pub ids: u32,
     pub pending: List<Intent>,
+    pub transaction: Option<Transaction>,
     pub queue: List<Body>,
 }

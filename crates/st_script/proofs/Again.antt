@@ -12,8 +12,8 @@ use Rattle.st_tree.specs.Size.{check_items}
 use Rattle.st_schema.specs.TreeText.{tree_of, tree_data, trees_data}
 use Rattle.st_script.specs.Members.{client_named, client_in, as_small, number_in, number_or, at_least_one, one_or_more, count_of, key_within, key_or_empty, place_of, places_in, short_path, path_in, trees_in, few, items_in, item_in}
 use Rattle.st_ids.specs.Numeral.{small}
-use Rattle.st_script.specs.Steps.{EditView, insert, remove, move, set, clear, ActView, join, edit, sequence, deliver, show, StepView, target_of, site_of, span_of, goal_of, read_insert, read_remove, read_move, read_set, read_clear, act_of, step_of}
-use Rattle.st_script.specs.StepText.{places_data, path_data, items_data, plain_data, edit_data, act_data, step_data, IsName, IsActor, ArePlaces, IsTarget, IsSpan, AreShown, AreItems, FitsEdit, FitsAct, FitsLine}
+use Rattle.st_script.specs.Steps.{EditView, insert, remove, move, set, clear, ActView, join, edit, need, begin, commit, abort, sequence, deliver, show, StepView, target_of, site_of, span_of, goal_of, read_insert, read_remove, read_move, read_set, read_clear, read_need, act_of, step_of}
+use Rattle.st_script.specs.StepText.{places_data, path_data, items_data, plain_data, edit_data, act_data, step_data, IsName, IsActor, ArePlaces, IsPath, IsTarget, IsSpan, AreShown, AreItems, FitsEdit, FitsAct, FitsLine}
 use Rattle.st_script.specs.declared.read.Goal.{Goal}
 use Rattle.st_script.specs.declared.read.Span.{Span}
 use Rattle.st_script.specs.declared.read.Target.{Target}
@@ -68,17 +68,17 @@ places_kept (p ∷ ps) h =
     option_and_then-of_some (λ (q : Place). option_map (λ (qs : List Place). q ∷ qs) (places_in (items_of (places_data ps)))) (place_of (string p.key.0) (number (unsigned p.index))) p (Some (p ∷ ps))
     (place_kept p h.0 h.1) (ap (option_map (λ (qs : List Place). p ∷ qs)) (places_kept ps h.2))
 
-path_kept : (name : List ℕ) (d : Data) (ps : List Place) → get name d ≡ Some (path_data ps) → length ps < 2 ^ 32 → ArePlaces ps → path_in name d ≡ Some ps
-path_kept name d ps there few h =
-    let short : nat_lt (length ps) (2 ^ 32) ≡ true = grind (arith, nat_tests) in
+path_kept : (name : List ℕ) (d : Data) (ps : List Place) → get name d ≡ Some (path_data ps) → IsPath ps → path_in name d ≡ Some ps
+path_kept name d ps there h =
+    let short : nat_lt (length ps) (2 ^ 32) ≡ true = grind (arith, nat_tests, h.0) in
     ap (λ (o : Option Data). option_and_then short_path (option_and_then places_in (option_and_then as_array o))) there
-    ∙ ap (option_and_then short_path) (places_kept ps h)
+    ∙ ap (option_and_then short_path) (places_kept ps h.1)
     ∙ ap (λ (b : Bool). cond b (Some ps) None) short
 
 target_kept : (path key : List ℕ) (d : Data) (at : List Place) (k : Key) → get path d ≡ Some (path_data at) → get key d ≡ Some (string k.0) → IsTarget at k → target_of path key d ≡ Some (record { at = at; key = k })
 target_kept path key d at k path_there key_there h =
     let f : List Place → Key → Target = λ at k. record { at = at; key = k } in
-    option_and_then-of_some (λ at. option_map (f at) (key_or_empty (get key d))) (path_in path d) at (Some (f at k)) (path_kept path d at path_there h.0 h.1) (ap (option_map (f at)) (key_or_kept (get key d) k key_there h.2))
+    option_and_then-of_some (λ at. option_map (f at) (key_or_empty (get key d))) (path_in path d) at (Some (f at k)) (path_kept path d at path_there h.0) (ap (option_map (f at)) (key_or_kept (get key d) k key_there h.1))
 
 span_kept : (d : Data) (index count : ℕ) → get (codes "index") d ≡ Some (number (unsigned index)) → get (codes "count") d ≡ Some (number (unsigned count)) → IsSpan index count
     → span_of d ≡ Some (record { index = index; count = count })
@@ -149,6 +149,11 @@ clear_read d t only site =
     let f : Target → ActView = λ t. edit (clear t.at t.key) in
     passed (has_only (codes "at branch client do key") d) (option_map f (site_of d)) (Some (f t)) only (ap (option_map f) site)
 
+need_read : (d : Data) (at : List Place) → has_only (codes "at branch client do") d ≡ true → path_in (codes "at") d ≡ Some at → read_need d ≡ Some (need at)
+need_read d at only there =
+    let f : List Place → ActView = λ at. need at in
+    passed (has_only (codes "at branch client do") d) (option_map f (path_in (codes "at") d)) (Some (f at)) only (ap (option_map f) there)
+
 -- ---- each step
 
 step_kept : (d : Data) (client : List ℕ) (branch : ℕ) (a : ActView) → number_or 0 (get (codes "branch") d) ≡ Some branch
@@ -209,6 +214,12 @@ act_again : (client : List ℕ) (branch : ℕ) (a : ActView) → IsActor client 
     → step_of (act_data client branch a) ≡ Some (record { client = client; branch = branch; act = a })
 act_again client branch join by h = plain_again (codes "join") client branch join by.0 h refl
 act_again client branch (edit e) by h = edit_again client branch e by h
+act_again client branch (need at) by h =
+    let d = act_data client branch (need at) in
+    branch_kept d client branch (need at) refl refl by (need_read d at refl (path_kept (codes "at") d at refl h))
+act_again client branch begin by h = branch_kept (act_data client branch begin) client branch begin refl refl by refl
+act_again client branch commit by h = branch_kept (act_data client branch commit) client branch commit refl refl by refl
+act_again client branch abort by h = branch_kept (act_data client branch abort) client branch abort refl refl by refl
 act_again client branch sequence by h = plain_again (codes "sequence") client branch sequence by.0 h refl
 act_again client branch deliver by h = plain_again (codes "deliver") client branch deliver by.0 h refl
 act_again client branch show by h = branch_kept (act_data client branch show) client branch show refl refl by refl

@@ -17,8 +17,8 @@ use Rattle.st_schema.specs.TreeText.{tree_of, tree_in, tree_data, within_limits}
 use Rattle.st_script.specs.Line.{line_of, step_of_value}
 use Rattle.st_script.specs.Members.{client_named, client_in, as_small, number_in, number_or, at_least_one, one_or_more, count_of, key_within, key_of, key_or_empty, place_of, places_in, short_path, path_in, trees_in, few, items_in, item_in}
 use Rattle.st_ids.specs.Numeral.{small}
-use Rattle.st_script.specs.Steps.{EditView, insert, remove, move, set, clear, ActView, join, edit, sequence, deliver, show, StepView, IsEditWithin, IsActWithin, IsWithinLimits, same, target_of, site_of, span_of, goal_of, plain_act, read_insert, read_remove, read_move, read_set, read_clear, read_of, word_of, act_of, step_of}
-use Rattle.st_script.specs.StepText.{IsName, ArePlaces, IsTarget, IsSpan, IsShown, AreShown, AreItems, FitsEdit, FitsAct, FitsLine}
+use Rattle.st_script.specs.Steps.{EditView, insert, remove, move, set, clear, ActView, join, edit, need, begin, commit, abort, sequence, deliver, show, StepView, IsEditWithin, IsActWithin, IsWithinLimits, same, target_of, site_of, span_of, goal_of, plain_act, read_insert, read_remove, read_move, read_set, read_clear, read_need, edit_of, read_of, word_of, act_of, step_of}
+use Rattle.st_script.specs.StepText.{IsName, ArePlaces, IsPath, IsTarget, IsSpan, IsShown, AreShown, AreItems, FitsEdit, FitsAct, FitsLine}
 use Rattle.st_script.specs.declared.read.Goal.{Goal}
 use Rattle.st_script.specs.declared.read.Span.{Span}
 use Rattle.st_script.specs.declared.read.Target.{Target}
@@ -62,9 +62,6 @@ IsKey k = length k.0 ≤ 64
 
 abbrev IsPlace : Place → Type 0
 IsPlace p = (length p.key.0 ≤ 64) × (p.index < 2 ^ 32)
-
-abbrev IsPath : List Place → Type 0
-IsPath ps = (length ps < 2 ^ 32) × ArePlaces ps
 
 name_fits : (t : List ℕ) → Holds IsName (client_named t)
 name_fits t = Holds-cond IsName (nat_le 1 (length t) && nat_le (length t) 64) (Some t) None (λ h. let b = and-true (nat_le 1 (length t)) (nat_le (length t) 64) h in (at_most 1 (length t) b.0, at_most (length t) 64 b.1)) tt
@@ -128,7 +125,7 @@ AtTarget t = IsTarget t.at t.key
 target_fits : (path key : List ℕ) (d : Data) → Holds AtTarget (target_of path key d)
 target_fits path key d =
     Holds-and_then IsPath AtTarget (λ at. option_map (λ k. record { at = at; key = k }) (key_or_empty (get key d)))
-    (λ at p. Holds-map IsKey AtTarget (λ k. record { at = at; key = k }) (λ k short. (p.0, p.1, short)) (key_or_empty (get key d)) (key_or_fits (get key d))) (path_in path d) (path_fits path d)
+    (λ at p. Holds-map IsKey AtTarget (λ k. record { at = at; key = k }) (λ k short. (p, short)) (key_or_empty (get key d)) (key_or_fits (get key d))) (path_in path d) (path_fits path d)
 
 site_fits : (d : Data) → Holds AtTarget (site_of d)
 site_fits d = target_fits (codes "at") (codes "key") d
@@ -223,22 +220,39 @@ module _ (d : Data) (b : ℕ) (is_branch : number_or 0 (get (codes "branch") d) 
   clear_fits : Fits (read_clear d)
   clear_fits = only (codes "at branch client do key") (option_map cleared (site_of d)) (Holds-map AtTarget (FitsAct b) cleared (λ t here. here) (site_of d) (site_fits d))
 
+  abbrev needed : List Place → ActView
+  needed at = need at
+
+  need_fits : Fits (read_need d)
+  need_fits = only (codes "at branch client do") (option_map needed (path_in (codes "at") d)) (Holds-map IsPath (FitsAct b) needed (λ at h. h) (path_in (codes "at") d) (path_fits (codes "at") d))
+
+  -- on whatever branch
+  actor_fits : (a : ActView) → FitsAct b a → Fits (plain_act (codes "branch client do") a d)
+  actor_fits a h = only (codes "branch client do") (Some a) h
+
   -- one of two, each of which fits
   either : (c : Bool) (o p : Option ActView) → Fits o → Fits p → Fits (cond c o p)
   either true o p l r = l
   either false o p l r = r
 
-  word_fits : (word : List ℕ) → Sound d → Fits (read_of word d)
-  word_fits word sound =
-      either (same word (codes "join")) _ _ (main_fits join (λ zero. zero))
-      (either (same word (codes "insert")) _ _ (insert_fits sound)
+  edit_word_fits : (word : List ℕ) → Sound d → Fits (edit_of word d)
+  edit_word_fits word sound =
+      either (same word (codes "insert")) _ _ (insert_fits sound)
       (either (same word (codes "remove")) _ _ remove_fits
       (either (same word (codes "move")) _ _ move_fits
       (either (same word (codes "set")) _ _ (set_fits sound)
-      (either (same word (codes "clear")) _ _ clear_fits
+      (either (same word (codes "clear")) _ _ clear_fits tt))))
+
+  word_fits : (word : List ℕ) → Sound d → Fits (read_of word d)
+  word_fits word sound =
+      either (same word (codes "join")) _ _ (main_fits join (λ zero. zero))
+      (either (same word (codes "need")) _ _ need_fits
+      (either (same word (codes "begin")) _ _ (actor_fits begin tt)
+      (either (same word (codes "commit")) _ _ (actor_fits commit tt)
+      (either (same word (codes "abort")) _ _ (actor_fits abort tt)
       (either (same word (codes "sequence")) _ _ (main_fits sequence (λ zero. zero))
       (either (same word (codes "deliver")) _ _ (main_fits deliver (λ zero. zero))
-      (either (same word (codes "show")) _ _ (only (codes "branch client do") (Some show) tt) tt))))))))
+      (either (same word (codes "show")) _ _ (actor_fits show tt) (edit_word_fits word sound))))))))
 
   act_fits : Sound d → Fits (act_of d)
   act_fits sound = Holds-and_then Any (FitsAct b) (λ word. read_of word d) (λ word _. word_fits word sound) (word_of d) (any _)
@@ -280,15 +294,19 @@ shown_within : (t : Node) → IsShown t → check_of t ≡ Ok tt
 shown_within t e = subst (Holds (λ u. check_of u ≡ Ok tt)) e (limited (tree_in (tree_data t) 48))
 
 edit_form : (e : EditView) → FitsEdit e → IsEditWithin e
-edit_form (insert at key index items) h = (h.2.1, h.0.0)
-edit_form (remove at key index count) h = h.0.0
-edit_form (move at key index count to to_key to_index) h = (h.0.0, h.2.0)
-edit_form (set at key tree) h = (shown_within tree h.1, h.0.0)
-edit_form (clear at key) h = h.0
+edit_form (insert at key index items) h = (h.2.1, h.0.0.0)
+edit_form (remove at key index count) h = h.0.0.0
+edit_form (move at key index count to to_key to_index) h = (h.0.0.0, h.2.0.0)
+edit_form (set at key tree) h = (shown_within tree h.1, h.0.0.0)
+edit_form (clear at key) h = h.0.0
 
 act_form : (b : ℕ) (a : ActView) → FitsAct b a → IsActWithin a
 act_form b join h = tt
 act_form b (edit e) h = edit_form e h
+act_form b (need at) h = h.0
+act_form b begin h = tt
+act_form b commit h = tt
+act_form b abort h = tt
 act_form b sequence h = tt
 act_form b deliver h = tt
 act_form b show h = tt

@@ -7,6 +7,7 @@ use Rattle.std.specs.Cmp.Lexicographic.{slice_cmp}
 use Rattle.serde_json.specs.Data.{Data, null, boolean, number, string, array, object, Items, no_items, item, Members, no_members, member}
 use Rattle.serde_json.specs.Find.{get, get_member, as_array}
 use Rattle.serde_json.specs.Read.{read}
+use Rattle.st_ids.specs.declared.names.Place.{Place}
 use Rattle.st_json.specs.Line.{line_value}
 use Rattle.st_json.specs.Look.{has_only}
 use Rattle.st_json.specs.Order.{NamesRise, ItemsRise, MembersRise}
@@ -19,8 +20,8 @@ use Rattle.st_schema.specs.TreeText.{tree_of}
 use Rattle.st_schema.proofs.Holds.{Holds-cond}
 use Rattle.st_schema.proofs.Shaped.{IsShaped, shown_shaped}
 use Rattle.st_script.specs.Line.{line_of, step_of_value}
-use Rattle.st_script.specs.Members.{client_in, number_in, number_or, trees_in, few, items_in, item_in}
-use Rattle.st_script.specs.Steps.{insert, remove, move, set, clear, ActView, join, edit, sequence, deliver, show, StepView, same, site_of, span_of, goal_of, read_insert, read_remove, read_move, read_set, read_clear, read_of, word_of, act_of, step_of}
+use Rattle.st_script.specs.Members.{client_in, number_in, number_or, path_in, trees_in, few, items_in, item_in}
+use Rattle.st_script.specs.Steps.{insert, remove, move, set, clear, ActView, join, edit, need, begin, commit, abort, sequence, deliver, show, StepView, same, site_of, span_of, goal_of, read_insert, read_remove, read_move, read_set, read_clear, read_need, edit_of, read_of, word_of, act_of, step_of}
 use Rattle.st_script.specs.StepText.{act_has_shape, trees_have_shape}
 use Rattle.st_script.specs.declared.read.Goal.{Goal}
 use Rattle.st_script.specs.declared.read.Span.{Span}
@@ -144,22 +145,35 @@ cleared t = edit (clear t.at t.key)
 clear_shaped : (d : Data) → Shaped (read_clear d)
 clear_shaped d = only (codes "at branch client do key") d (option_map cleared (site_of d)) (made IsAct cleared (λ t. refl) (site_of d))
 
+abbrev needed : List Place → ActView
+needed at = need at
+
+need_shaped : (d : Data) → Shaped (read_need d)
+need_shaped d = only (codes "at branch client do") d (option_map needed (path_in (codes "at") d)) (made IsAct needed (λ at. refl) (path_in (codes "at") d))
+
 -- one of two, each of which has the shape
 either : (b : Bool) (o p : Option ActView) → Shaped o → Shaped p → Shaped (cond b o p)
 either true o p l r = l
 either false o p l r = r
 
-word_shaped : (word : List ℕ) (d : Data) → NamesRise d → Shaped (read_of word d)
-word_shaped word d rise =
-    either (same word (codes "join")) _ _ (only (codes "client do") d (Some join) refl)
-    (either (same word (codes "insert")) _ _ (insert_shaped d rise)
+edit_word_shaped : (word : List ℕ) (d : Data) → NamesRise d → Shaped (edit_of word d)
+edit_word_shaped word d rise =
+    either (same word (codes "insert")) _ _ (insert_shaped d rise)
     (either (same word (codes "remove")) _ _ (remove_shaped d)
     (either (same word (codes "move")) _ _ (move_shaped d)
     (either (same word (codes "set")) _ _ (set_shaped d rise)
-    (either (same word (codes "clear")) _ _ (clear_shaped d)
+    (either (same word (codes "clear")) _ _ (clear_shaped d) tt))))
+
+word_shaped : (word : List ℕ) (d : Data) → NamesRise d → Shaped (read_of word d)
+word_shaped word d rise =
+    either (same word (codes "join")) _ _ (only (codes "client do") d (Some join) refl)
+    (either (same word (codes "need")) _ _ (need_shaped d)
+    (either (same word (codes "begin")) _ _ (only (codes "branch client do") d (Some begin) refl)
+    (either (same word (codes "commit")) _ _ (only (codes "branch client do") d (Some commit) refl)
+    (either (same word (codes "abort")) _ _ (only (codes "branch client do") d (Some abort) refl)
     (either (same word (codes "sequence")) _ _ (only (codes "client do") d (Some sequence) refl)
     (either (same word (codes "deliver")) _ _ (only (codes "client do") d (Some deliver) refl)
-    (either (same word (codes "show")) _ _ (only (codes "branch client do") d (Some show) refl) tt))))))))
+    (either (same word (codes "show")) _ _ (only (codes "branch client do") d (Some show) refl) (edit_word_shaped word d rise))))))))
 
 act_shaped : (d : Data) → NamesRise d → Shaped (act_of d)
 act_shaped d rise = bound IsAct (λ word. read_of word d) (λ word. word_shaped word d rise) (word_of d)

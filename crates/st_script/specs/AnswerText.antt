@@ -1,5 +1,5 @@
 -- The lines of answers.
-use Rattle.std.specs.Prelude.{ℕ, List, [], ◌∷◌, ◌++◌, codes}
+use Rattle.std.specs.Prelude.{ℕ, List, [], ◌∷◌, ◌++◌, Option, None, Some, codes}
 use Rattle.serde_json.specs.Data.{Data, null, number, unsigned, string, object, no_members, member}
 use Rattle.serde_json.specs.Written.{compact_text}
 use Rattle.st_ids.specs.Names.{rev_text, atom_text}
@@ -46,6 +46,8 @@ refusal_data no.Kind = no_data (codes "Kind")
 refusal_data no.Range = no_data (codes "Range")
 refusal_data no.Inside = no_data (codes "Inside")
 refusal_data (no.NotAllowed at) = not_allowed_data at
+refusal_data no.Unfinished = no_data (codes "Unfinished")
+refusal_data no.NotBegun = no_data (codes "NotBegun")
 refusal_data no.NothingToSend = no_data (codes "NothingToSend")
 refusal_data no.NothingNew = no_data (codes "NothingNew")
 refusal_data (no.Limit l) = limit_data l
@@ -57,6 +59,11 @@ ok_data word = object (member (codes "ok") (string word) no_members)
 -- `{"ok":word,"rev":"s.n"}`
 abbrev pub rev_data : List ℕ → Rev → Data
 rev_data word rev = object (member (codes "ok") (string word) (member (codes "rev") (string (rev_text rev)) no_members))
+
+-- null in place of the revision where no commit was made
+abbrev pub commit_data : Option Rev → Data
+commit_data None = object (member (codes "ok") (string (codes "commit")) (member (codes "rev") null no_members))
+commit_data (Some rev) = rev_data (codes "commit") rev
 
 abbrev pub join_data : ℕ → ℕ → Data
 join_data n s = object (member (codes "n") (number (unsigned n)) (member (codes "ok") (string (codes "join")) (member (codes "s") (number (unsigned s)) no_members)))
@@ -90,6 +97,10 @@ answer_text (answer.Remove rev) = compact_text (rev_data (codes "remove") rev)
 answer_text (answer.Move rev) = compact_text (rev_data (codes "move") rev)
 answer_text (answer.Set rev) = compact_text (rev_data (codes "set") rev)
 answer_text (answer.Clear rev) = compact_text (rev_data (codes "clear") rev)
+answer_text (answer.Need rev) = compact_text (rev_data (codes "need") rev)
+answer_text (answer.Begin rev) = compact_text (rev_data (codes "begin") rev)
+answer_text (answer.Commit rev) = compact_text (commit_data rev)
+answer_text answer.Abort = compact_text (ok_data (codes "abort"))
 answer_text (answer.Sequence least n) = compact_text (sequence_data least n)
 answer_text (answer.Deliver n verdict) = compact_text (deliver_data n verdict)
 answer_text (answer.Show tree) = show_text tree

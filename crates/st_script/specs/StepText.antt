@@ -11,7 +11,7 @@ use Rattle.st_tree.specs.declared.limits.TreeFault.{TreeFault}
 use Rattle.st_schema.specs.Shape.{has_shape, all_have_shape}
 use Rattle.st_schema.specs.TreeText.{tree_data, trees_data, tree_of}
 use Rattle.st_script.specs.Line.{line_of}
-use Rattle.st_script.specs.Steps.{EditView, insert, remove, move, set, clear, ActView, join, edit, sequence, deliver, show, StepView}
+use Rattle.st_script.specs.Steps.{EditView, insert, remove, move, set, clear, ActView, join, edit, need, begin, commit, abort, sequence, deliver, show, StepView}
 
 -- keys and indexes in turn
 abbrev pub places_data : List Place → List Data
@@ -31,6 +31,10 @@ plain_data word client = object (member (codes "client") (string client) (member
 -- who does a step, and on which branch, with the step's word
 abbrev pub actor_members : List ℕ → List ℕ → ℕ → Members
 actor_members word client branch = member (codes "branch") (number (unsigned branch)) (member (codes "client") (string client) (member (codes "do") (string word) no_members))
+
+-- a need of the node that a path leads to
+abbrev pub need_data : List ℕ → ℕ → List Place → Data
+need_data client branch at = object (member (codes "at") (path_data at) (actor_members (codes "need") client branch))
 
 -- who edits which field, with the step's word
 abbrev pub site_members : List ℕ → List ℕ → ℕ → List Place → Key → Members
@@ -57,6 +61,10 @@ edit_data client branch (clear at key) = object (site_members (codes "clear") cl
 abbrev pub act_data : List ℕ → ℕ → ActView → Data
 act_data client branch join = plain_data (codes "join") client
 act_data client branch (edit e) = edit_data client branch e
+act_data client branch (need at) = need_data client branch at
+act_data client branch begin = object (actor_members (codes "begin") client branch)
+act_data client branch commit = object (actor_members (codes "commit") client branch)
+act_data client branch abort = object (actor_members (codes "abort") client branch)
 act_data client branch sequence = plain_data (codes "sequence") client
 act_data client branch deliver = plain_data (codes "deliver") client
 act_data client branch show = object (actor_members (codes "show") client branch)
@@ -76,8 +84,15 @@ edit_limits (set at key item) = check_of item
 edit_limits (clear at key) = Ok tt
 
 abbrev pub act_limits : ActView → Result (Unit {0}) TreeFault
+act_limits join = Ok tt
 act_limits (edit e) = edit_limits e
-act_limits a = Ok tt
+act_limits (need at) = Ok tt
+act_limits begin = Ok tt
+act_limits commit = Ok tt
+act_limits abort = Ok tt
+act_limits sequence = Ok tt
+act_limits deliver = Ok tt
+act_limits show = Ok tt
 
 -- the limits of a step's trees
 abbrev pub limits_of : StepView → Result (Unit {0}) TreeFault
@@ -92,8 +107,15 @@ edit_has_shape (set at key item) = has_shape item
 edit_has_shape (clear at key) = true
 
 abbrev pub act_has_shape : ActView → Bool
+act_has_shape join = true
 act_has_shape (edit e) = edit_has_shape e
-act_has_shape a = true
+act_has_shape (need at) = true
+act_has_shape begin = true
+act_has_shape commit = true
+act_has_shape abort = true
+act_has_shape sequence = true
+act_has_shape deliver = true
+act_has_shape show = true
 
 -- a step's trees have the shape of trees that values show
 abbrev pub trees_have_shape : StepView → Bool
@@ -113,8 +135,12 @@ abbrev pub ArePlaces : List Place → Type 0
 ArePlaces [] = Unit {0}
 ArePlaces (p ∷ ps) = (length p.key.0 ≤ 64) × (p.index < 2 ^ 32) × ArePlaces ps
 
+-- fewer than 2^32 places
+abbrev pub IsPath : List Place → Type 0
+IsPath at = (length at < 2 ^ 32) × ArePlaces at
+
 abbrev pub IsTarget : List Place → Key → Type 0
-IsTarget at key = (length at < 2 ^ 32) × ArePlaces at × (length key.0 ≤ 64)
+IsTarget at key = IsPath at × (length key.0 ≤ 64)
 
 -- a row's place, and how many items, at the least one
 abbrev pub IsSpan : ℕ → ℕ → Type 0
@@ -145,6 +171,10 @@ FitsEdit (clear at key) = IsTarget at key
 abbrev pub FitsAct : ℕ → ActView → Type 0
 FitsAct branch join = branch ≡ 0
 FitsAct branch (edit e) = FitsEdit e
+FitsAct branch (need at) = IsPath at
+FitsAct branch begin = Unit {0}
+FitsAct branch commit = Unit {0}
+FitsAct branch abort = Unit {0}
 FitsAct branch sequence = branch ≡ 0
 FitsAct branch deliver = branch ≡ 0
 FitsAct branch show = Unit {0}

@@ -32,6 +32,10 @@ pub data EditView : Type 0 where
 pub data ActView : Type 0 where
   join : ActView
   edit : EditView → ActView
+  need : List Place → ActView
+  begin : ActView
+  commit : ActView
+  abort : ActView
   sequence : ActView
   deliver : ActView
   show : ActView
@@ -52,6 +56,10 @@ edit_view (edits.Clear at key) = clear at key
 abbrev pub act_view : Act → ActView
 act_view acts.Join = join
 act_view (acts.Edit e) = edit (edit_view e)
+act_view (acts.Need at) = need at
+act_view acts.Begin = begin
+act_view acts.Commit = commit
+act_view acts.Abort = abort
 act_view acts.Sequence = sequence
 act_view acts.Deliver = deliver
 act_view acts.Show = show
@@ -69,10 +77,17 @@ IsEditWithin (move at key index count to to_key to_index) = (length at < 2 ^ 32)
 IsEditWithin (set at key item) = (check_of item ≡ Ok tt) × (length at < 2 ^ 32)
 IsEditWithin (clear at key) = length at < 2 ^ 32
 
--- an act that is no edit has neither trees nor paths
+-- its trees are within the limits of trees, and its paths short
 abbrev pub IsActWithin : ActView → Type 0
+IsActWithin join = Unit {0}
 IsActWithin (edit e) = IsEditWithin e
-IsActWithin a = Unit {0}
+IsActWithin (need at) = length at < 2 ^ 32
+IsActWithin begin = Unit {0}
+IsActWithin commit = Unit {0}
+IsActWithin abort = Unit {0}
+IsActWithin sequence = Unit {0}
+IsActWithin deliver = Unit {0}
+IsActWithin show = Unit {0}
 
 -- its trees are within the limits of trees, and its paths short
 abbrev pub IsWithinLimits : StepView → Type 0
@@ -139,6 +154,12 @@ read_clear d =
     option_map (λ t. edit (clear t.at t.key)) (site_of d)
     else None
 
+abbrev pub read_need : Data → Option ActView
+read_need d =
+    if has_only (codes "at branch client do") d then
+    option_map (λ at. need at) (path_in (codes "at") d)
+    else None
+
 -- an act without members of its own, where a value has no members but those of the names
 abbrev pub plain_act : List ℕ → ActView → Data → Option ActView
 plain_act names a d = if has_only names d then Some a else None
@@ -147,18 +168,26 @@ plain_act names a d = if has_only names d then Some a else None
 abbrev pub same : List ℕ → List ℕ → Bool
 same = pointwise nat_eq
 
--- the act of a word
-abbrev pub read_of : List ℕ → Data → Option ActView
-read_of word d =
-    if same word (codes "join") then plain_act (codes "client do") join d else
+-- the edit of a word
+abbrev pub edit_of : List ℕ → Data → Option ActView
+edit_of word d =
     if same word (codes "insert") then read_insert d else
     if same word (codes "remove") then read_remove d else
     if same word (codes "move") then read_move d else
     if same word (codes "set") then read_set d else
-    if same word (codes "clear") then read_clear d else
+    if same word (codes "clear") then read_clear d else None
+
+-- the act of a word, which is an edit's where it is no other act's
+abbrev pub read_of : List ℕ → Data → Option ActView
+read_of word d =
+    if same word (codes "join") then plain_act (codes "client do") join d else
+    if same word (codes "need") then read_need d else
+    if same word (codes "begin") then plain_act (codes "branch client do") begin d else
+    if same word (codes "commit") then plain_act (codes "branch client do") commit d else
+    if same word (codes "abort") then plain_act (codes "branch client do") abort d else
     if same word (codes "sequence") then plain_act (codes "client do") sequence d else
     if same word (codes "deliver") then plain_act (codes "client do") deliver d else
-    if same word (codes "show") then plain_act (codes "branch client do") show d else None
+    if same word (codes "show") then plain_act (codes "branch client do") show d else edit_of word d
 
 -- the word of a step
 abbrev pub word_of : Data → Option (List ℕ)

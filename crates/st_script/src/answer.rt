@@ -2,7 +2,8 @@
 ghost use Rattle.std.specs.Prelude.{◌≡◌, [], ◌∷◌, ◌++◌, codes, IfOk, OnOk};
 ghost use Rattle.serde_json.specs.Data.{object, member, no_members, number, unsigned, string, put};
 ghost use Rattle.serde_json.specs.View.{view, members_view};
-ghost use Rattle.st_script.specs.AnswerText.{ok_data, join_data, rev_data, sequence_data, void_data, deliver_data, show_text, answer_line};
+ghost use Rattle.serde_json.specs.Written.{compact_text};
+ghost use Rattle.st_script.specs.AnswerText.{ok_data, join_data, rev_data, sequence_data, void_data, deliver_data, commit_data, refusal_data, show_text, answer_line};
 
 use crate::refusal::{Refusal, refusal_value};
 use serde_json::{Map, Value, json};
@@ -11,7 +12,8 @@ use st_json::write_line;
 use st_marks::Verdict;
 use std::alloc::{AllocError, Global};
 
-/// The answer to a header or a step. The tree of `Show` is a JSON text.
+/// The answer to a header or a step. The tree of `Show` is a JSON text. The revision of `Need` and
+/// `Begin` is that of the transaction, and that of `Commit` is none where it made no commit.
 #[derive(Drop)]
 pub enum Answer {
     Header,
@@ -21,16 +23,20 @@ pub enum Answer {
     Move { rev: Rev },
     Set { rev: Rev },
     Clear { rev: Rev },
+    Need { rev: Rev },
+    Begin { rev: Rev },
+    Commit { rev: Option<Rev> },
+    Abort,
     Sequence { min: u32, n: u32 },
     Deliver { n: u32, void: Verdict },
     Show { tree: Text },
     No(Refusal),
 }
 
-fn header_value(alloc: Global) -> Result<Value, AllocError>
-    ensures { IfOk result (λ v. view v ≡ ok_data (codes "header")) }
+fn ok_value(alloc: Global, word: &str) -> Result<Value, AllocError>
+    ensures { IfOk result (λ v. view v ≡ ok_data word.now) }
 {
-    json!(in alloc; {"ok": "header"})
+    json!(in alloc; {"ok": word})
 }
 
 fn join_value(alloc: Global, n: u32, s: u32) -> Result<Value, AllocError>
@@ -39,13 +45,29 @@ fn join_value(alloc: Global, n: u32, s: u32) -> Result<Value, AllocError>
     json!(in alloc; {"n": n, "ok": "join", "s": s})
 }
 
-// The answer to an edit, with the revision of its commit.
+// The answer to an edit, or to a word of a transaction, with the revision of its commit.
 fn rev_value(alloc: Global, word: &str, rev: Rev) -> Result<Value, AllocError>
     ensures { IfOk result (λ v. view v ≡ rev_data word.now rev) }
 {
     let text = rev.text(alloc)?;
     let rev = text.as_str();
     json!(in alloc; {"ok": word, "rev": rev})
+}
+
+fn no_commit_value(alloc: Global) -> Result<Value, AllocError>
+    ensures { IfOk result (λ v. view v ≡ commit_data None) }
+{
+    json!(in alloc; {"ok": "commit", "rev": null})
+}
+
+// The answer to the end of a transaction, with the revision of its commit, if it made one.
+fn commit_value(alloc: Global, rev: Option<Rev>) -> Result<Value, AllocError>
+    ensures { IfOk result (λ v. view v ≡ commit_data rev) }
+{
+    match rev {
+        None => no_commit_value(alloc),
+        Some(rev) => rev_value(alloc, "commit", rev),
+    }
 }
 
 fn sequence_value(alloc: Global, min: u32, n: u32) -> Result<Value, AllocError>
@@ -134,22 +156,74 @@ fn show_line(alloc: Global, tree: &str) -> Result<Text, AllocError>
     Ok(line)
 }
 
+fn ok_line(alloc: Global, word: &str) -> Result<Text, AllocError>
+    ensures { IfOk result (λ t. t ≡ compact_text (ok_data word.now) ++ 10 ∷ []) }
+{
+    let value = ok_value(alloc, word)?;
+    write_line(alloc, &value)
+}
+
+fn join_line(alloc: Global, n: u32, s: u32) -> Result<Text, AllocError>
+    ensures { IfOk result (λ t. t ≡ compact_text (join_data n s) ++ 10 ∷ []) }
+{
+    let value = join_value(alloc, n, s)?;
+    write_line(alloc, &value)
+}
+
+fn rev_line(alloc: Global, word: &str, rev: Rev) -> Result<Text, AllocError>
+    ensures { IfOk result (λ t. t ≡ compact_text (rev_data word.now rev) ++ 10 ∷ []) }
+{
+    let value = rev_value(alloc, word, rev)?;
+    write_line(alloc, &value)
+}
+
+fn commit_line(alloc: Global, rev: Option<Rev>) -> Result<Text, AllocError>
+    ensures { IfOk result (λ t. t ≡ compact_text (commit_data rev) ++ 10 ∷ []) }
+{
+    let value = commit_value(alloc, rev)?;
+    write_line(alloc, &value)
+}
+
+fn sequence_line(alloc: Global, min: u32, n: u32) -> Result<Text, AllocError>
+    ensures { IfOk result (λ t. t ≡ compact_text (sequence_data min n) ++ 10 ∷ []) }
+{
+    let value = sequence_value(alloc, min, n)?;
+    write_line(alloc, &value)
+}
+
+fn deliver_line(alloc: Global, n: u32, void: Verdict) -> Result<Text, AllocError>
+    ensures { IfOk result (λ t. t ≡ compact_text (deliver_data n void) ++ 10 ∷ []) }
+{
+    let value = deliver_value(alloc, n, void)?;
+    write_line(alloc, &value)
+}
+
+fn no_line(alloc: Global, refusal: Refusal) -> Result<Text, AllocError>
+    ensures { IfOk result (λ t. t ≡ compact_text (refusal_data refusal) ++ 10 ∷ []) }
+{
+    let value = refusal_value(alloc, refusal)?;
+    write_line(alloc, &value)
+}
+
 /// The line of an answer, with its line feed.
 pub fn answer_line(alloc: Global, answer: &Answer) -> Result<Text, AllocError>
     ensures { IfOk result (λ t. t ≡ answer_line answer.now) }
 {
-    let value = match answer {
-        Answer::Header => header_value(alloc)?,
-        Answer::Join { n, s } => join_value(alloc, *n, *s)?,
-        Answer::Insert { rev } => rev_value(alloc, "insert", *rev)?,
-        Answer::Remove { rev } => rev_value(alloc, "remove", *rev)?,
-        Answer::Move { rev } => rev_value(alloc, "move", *rev)?,
-        Answer::Set { rev } => rev_value(alloc, "set", *rev)?,
-        Answer::Clear { rev } => rev_value(alloc, "clear", *rev)?,
-        Answer::Sequence { min, n } => sequence_value(alloc, *min, *n)?,
-        Answer::Deliver { n, void } => deliver_value(alloc, *n, *void)?,
-        Answer::Show { tree } => return show_line(alloc, tree.as_str()),
-        Answer::No(refusal) => refusal_value(alloc, *refusal)?,
-    };
-    write_line(alloc, &value)
+    match answer {
+        Answer::Header => ok_line(alloc, "header"),
+        Answer::Join { n, s } => join_line(alloc, *n, *s),
+        Answer::Insert { rev } => rev_line(alloc, "insert", *rev),
+        Answer::Remove { rev } => rev_line(alloc, "remove", *rev),
+        Answer::Move { rev } => rev_line(alloc, "move", *rev),
+        Answer::Set { rev } => rev_line(alloc, "set", *rev),
+        Answer::Clear { rev } => rev_line(alloc, "clear", *rev),
+        Answer::Need { rev } => rev_line(alloc, "need", *rev),
+        Answer::Begin { rev } => rev_line(alloc, "begin", *rev),
+        Answer::Commit { rev } => commit_line(alloc, *rev),
+        Answer::Abort => ok_line(alloc, "abort"),
+        Answer::Sequence { min, n } => sequence_line(alloc, *min, *n),
+        Answer::Deliver { n, void } => deliver_line(alloc, *n, *void),
+        Answer::Show { tree } => show_line(alloc, tree.as_str()),
+        Answer::No(refusal) => no_line(alloc, *refusal),
+    }
 }

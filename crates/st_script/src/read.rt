@@ -1,7 +1,7 @@
 //! Steps read from the value of a line.
 ghost use Rattle.std.specs.Prelude.{◌≡◌, codes, IfOk, option_map};
 ghost use Rattle.serde_json.specs.View.{view};
-ghost use Rattle.st_script.specs.Steps.{target_of, span_of, goal_of, act_view, step_view, word_of, plain_act, read_insert, read_remove, read_move, read_set, read_clear, read_of, act_of, step_of};
+ghost use Rattle.st_script.specs.Steps.{target_of, span_of, goal_of, act_view, step_view, word_of, plain_act, read_insert, read_remove, read_move, read_set, read_clear, read_need, edit_of, read_of, act_of, step_of};
 
 use crate::member::{
     client, count, has_only, item, items, key_member, number_member, number_or_zero, path_member,
@@ -179,6 +179,18 @@ fn read_clear(alloc: Global, value: &Value) -> Result<Option<Act>, AllocError>
     }
 }
 
+fn read_need(alloc: Global, value: &Value) -> Result<Option<Act>, AllocError>
+    ensures { IfOk result (λ a. option_map act_view a ≡ read_need (view value.now)) }
+{
+    if !has_only(value, "at branch client do") {
+        return Ok(None);
+    }
+    match path_member(alloc, value, "at")? {
+        None => Ok(None),
+        Some(at) => Ok(Some(Act::Need { at })),
+    }
+}
+
 // An act without members of its own, where a value has no members but those of the names.
 fn plain(value: &Value, names: &str, act: Act) -> Option<Act>
     ensures { option_map act_view result ≡ plain_act names.now (act_view act) (view value.now) }
@@ -190,21 +202,34 @@ fn plain(value: &Value, names: &str, act: Act) -> Option<Act>
     }
 }
 
-// The act of a word.
-fn read_of(alloc: Global, word: &str, value: &Value) -> Result<Option<Act>, AllocError>
-    ensures { IfOk result (λ a. option_map act_view a ≡ read_of word.now (view value.now)) }
+// The edit of a word.
+fn read_edit(alloc: Global, word: &str, value: &Value) -> Result<Option<Act>, AllocError>
+    ensures { IfOk result (λ a. option_map act_view a ≡ edit_of word.now (view value.now)) }
 {
     match word {
-        "join" => Ok(plain(value, "client do", Act::Join)),
         "insert" => read_insert(alloc, value),
         "remove" => read_remove(alloc, value),
         "move" => read_move(alloc, value),
         "set" => read_set(alloc, value),
         "clear" => read_clear(alloc, value),
+        _ => Ok(None),
+    }
+}
+
+// The act of a word, which is an edit's where it is no other act's.
+fn read_of(alloc: Global, word: &str, value: &Value) -> Result<Option<Act>, AllocError>
+    ensures { IfOk result (λ a. option_map act_view a ≡ read_of word.now (view value.now)) }
+{
+    match word {
+        "join" => Ok(plain(value, "client do", Act::Join)),
+        "need" => read_need(alloc, value),
+        "begin" => Ok(plain(value, "branch client do", Act::Begin)),
+        "commit" => Ok(plain(value, "branch client do", Act::Commit)),
+        "abort" => Ok(plain(value, "branch client do", Act::Abort)),
         "sequence" => Ok(plain(value, "client do", Act::Sequence)),
         "deliver" => Ok(plain(value, "client do", Act::Deliver)),
         "show" => Ok(plain(value, "branch client do", Act::Show)),
-        _ => Ok(None),
+        _ => read_edit(alloc, word, value),
     }
 }
 

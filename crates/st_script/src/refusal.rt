@@ -26,6 +26,10 @@ pub enum Refusal {
     Inside,
     /// The schema does not allow the new or moved node of that number, from 0.
     NotAllowed { at: u32 },
+    /// A transaction is open on the branch.
+    Unfinished,
+    /// No transaction is open on the branch.
+    NotBegun,
     /// The client's queue is empty.
     NothingToSend,
     /// The client received the whole log.
@@ -89,6 +93,8 @@ pub(crate) fn refusal_value(alloc: Global, refusal: Refusal) -> Result<Value, Al
         Refusal::Range => no_value(alloc, "Range"),
         Refusal::Inside => no_value(alloc, "Inside"),
         Refusal::NotAllowed { at } => not_allowed_value(alloc, at),
+        Refusal::Unfinished => no_value(alloc, "Unfinished"),
+        Refusal::NotBegun => no_value(alloc, "NotBegun"),
         Refusal::NothingToSend => no_value(alloc, "NothingToSend"),
         Refusal::NothingNew => no_value(alloc, "NothingNew"),
         Refusal::Limit(limit) => limit_value(alloc, limit),

@@ -17,6 +17,14 @@ pub struct TraceStep {
 pub enum Act {
     Join,
     Edit(EditAct),
+    /// The open transaction needs the node that the path leads to.
+    Need { at: Path },
+    /// Opens a transaction.
+    Begin,
+    /// Makes the edits and needs of the open transaction one commit.
+    Commit,
+    /// Gives the open transaction up.
+    Abort,
     Sequence,
     Deliver,
     Show,

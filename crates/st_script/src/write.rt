@@ -12,7 +12,7 @@ ghost use Rattle.st_tree.specs.Node.{view, trees_view};
 ghost use Rattle.st_tree.specs.Size.{check_of, check_items};
 ghost use Rattle.st_script.specs.Line.{line_of};
 ghost use Rattle.st_script.specs.Steps.{edit_view, step_view};
-ghost use Rattle.st_script.specs.StepText.{places_data, path_data, items_data, plain_data, actor_members, site_members, edit_data, step_data, step_text, edit_limits, limits_of, edit_has_shape, trees_have_shape, IsReadBack, FitsLine};
+ghost use Rattle.st_script.specs.StepText.{places_data, path_data, items_data, plain_data, actor_members, need_data, site_members, edit_data, step_data, step_text, edit_limits, limits_of, edit_has_shape, trees_have_shape, IsReadBack, FitsLine};
 
 use crate::step::{Act, EditAct, TraceStep};
 use serde_json::{Map, Value};
@@ -138,6 +138,23 @@ fn actor_members(
     put_text(alloc, &mut members, "client", client.as_str())?;
     put_text(alloc, &mut members, "do", word)?;
     Ok(members)
+}
+
+// A step that names a client and a branch alone.
+fn actor_value(alloc: Global, word: &str, step: &TraceStep) -> Result<Value, AllocError>
+    ensures { IfOk result (λ v. value_view v ≡ object (actor_members word.now step.now.client step.now.branch)) }
+{
+    let members = actor_members(alloc, word, &step.client, step.branch)?;
+    Ok(Value::Object(members))
+}
+
+// A need of the node that a path leads to.
+fn need_value(alloc: Global, step: &TraceStep, at: &Path) -> Result<Value, AllocError>
+    ensures { IfOk result (λ v. value_view v ≡ need_data step.now.client step.now.branch at.now) }
+{
+    let mut members = actor_members(alloc, "need", &step.client, step.branch)?;
+    put_path(alloc, &mut members, "at", at)?;
+    Ok(Value::Object(members))
 }
 
 // Who edits which field, with the step's word.
@@ -271,12 +288,13 @@ fn step_value(alloc: Global, step: &TraceStep) -> Result<Value, AllocError>
     match &step.act {
         Act::Join => plain_value(alloc, "join", &step.client),
         Act::Edit(edit) => edit_value(alloc, step, edit),
+        Act::Need { at } => need_value(alloc, step, at),
+        Act::Begin => actor_value(alloc, "begin", step),
+        Act::Commit => actor_value(alloc, "commit", step),
+        Act::Abort => actor_value(alloc, "abort", step),
         Act::Sequence => plain_value(alloc, "sequence", &step.client),
         Act::Deliver => plain_value(alloc, "deliver", &step.client),
-        Act::Show => {
-            let members = actor_members(alloc, "show", &step.client, step.branch)?;
-            Ok(Value::Object(members))
-        }
+        Act::Show => actor_value(alloc, "show", step),
     }
 }
 
@@ -308,8 +326,12 @@ fn limits(step: &TraceStep) -> Result<(), TreeFault>
     ensures { result ≡ limits_of (step_view step.now) }
 {
     match &step.act {
-        Act::Edit(edit) => edit_limits(edit),
         Act::Join => Ok(()),
+        Act::Edit(edit) => edit_limits(edit),
+        Act::Need { .. } => Ok(()),
+        Act::Begin => Ok(()),
+        Act::Commit => Ok(()),
+        Act::Abort => Ok(()),
         Act::Sequence => Ok(()),
         Act::Deliver => Ok(()),
         Act::Show => Ok(()),
@@ -328,9 +350,10 @@ fn line_within(alloc: Global, step: &TraceStep) -> Result<Text, AllocError>
 }
 
 /// The line of a step, with its line feed: every member that the step has, also one that may be
-/// left out, in byte order of the names. A step whose trees pass the limits is refused, an insert's
-/// together. The line is told where the trees have the shape of trees that values show, and is read
-/// as the step. So it is of each step that was read of a line.
+/// left out, in byte order of the names. A join, a sequence and a deliver have no member for the
+/// branch, which is 0 there. A step whose trees pass the limits is refused, an insert's together.
+/// The line is told where the trees have the shape of trees that values show, and is read as the
+/// step. So it is of each step that was read of a line.
 pub fn step_line(alloc: Global, step: &TraceStep) -> Result<Text, Or<TreeFault>>
     ensures text { IfOk result (λ t. trees_have_shape (step_view step.now) ≡ true → t ≡ step_text (step_view step.now) ++ 10 ∷ []) }
     ensures within { OnOk result (limits_of (step_view step.now) ≡ Ok tt) }

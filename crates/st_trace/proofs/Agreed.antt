@@ -1,5 +1,5 @@
 -- The commits of the log, and those that each client shows, agree with the schema, whoever makes a step.
-use Rattle.std.proofs.Common.{◌≡◌, ◌≤◌, ◌<◌, ◌+◌, ◌==◌, ℕ, zero, suc, Bool, true, false, List, [], ◌∷◌, ◌++◌, length, take, drop, Option, Some, None, is_some, Result, Ok, Err, refl, sym, ap, ◌∙◌, subst, arith, append_assoc, length-append, ◌⊎◌, inl, inr}
+use Rattle.std.proofs.Common.{◌≡◌, ◌≤◌, ◌<◌, ◌+◌, ◌==◌, ℕ, zero, suc, Bool, true, false, List, [], ◌∷◌, ◌++◌, length, take, drop, Option, Some, None, IfSome, IsSome, is_some, Result, Ok, Err, refl, sym, ap, ◌∙◌, subst, arith, append_assoc, length-append, ◌⊎◌, inl, inr}
 use Rattle.std.specs.List.{slice_get, slice_set, AllByRecursion}
 use Rattle.std.proofs.lemmas.Bool.Decides.{nat_tests}
 use Rattle.std.proofs.lemmas.List.{append-nil, take_all}
@@ -12,37 +12,53 @@ use Rattle.st_tree.specs.declared.edit.EditFault.{EditFault}
 use Rattle.st_schema.specs.Written.{schema_data}
 use Rattle.serde_json.specs.Written.{compact_text}
 use Rattle.st_marks.specs.declared.intents.Intent.{Intent}
-use Rattle.st_marks.specs.Document.{Document, NodeType}
+use Rattle.st_marks.specs.Document.{Document, IsSoundInForm, NodeType}
 use Rattle.st_ids.specs.Root.{opening}
 use Rattle.st_marks.specs.Extends.{item_kept}
-use Rattle.st_marks.specs.Intent.{IsIntent, is_new}
+use Rattle.st_marks.specs.Intent.{Fits, IsIntent, IsKnown, Owns, cell_of, is_new, new_type, put_of, register_of}
+use Rattle.st_marks.specs.declared.intents.Put.{Put}
+use Rattle.st_marks.specs.declared.intents.To.{To}
+use Rattle.st_marks.specs.declared.verdicts.Verdict.{Verdict}
+use Rattle.st_marks.specs.CarryOut.{full}
+use Rattle.st_marks.specs.Run.{Run}
+use Rattle.st_marks.proofs.Lookups.{put-has}
+use Rattle.st_marks.proofs.OneVerdict.{one_run}
+use Rattle.st_heads.specs.Transactions.{FitsSoFar, IsWithPart, with_open}
+use Rattle.st_heads.specs.inside.Parts.{CanFollow}
+use Rattle.st_lemmas.proofs.Bools.{true-false}
+use Rattle.std.specs.Option.{option_and_then, option_or}
 use Rattle.st_marks.proofs.Members.{all-has, append_left, append_right, has-append, has-map, map-has}
 use Rattle.st_log_laws.specs.Names.{revisions}
 use Rattle.st_log_laws.specs.Turns.{FitInTurn, IsSublist}
 use Rattle.st_log_laws.proofs.Names.{new_node_rev}
 use Rattle.st_log_laws.proofs.Shorter.{sublist_itself, sublist_joined, sublist_none, has_longer}
-use Rattle.st_log_laws.proofs.Turns.{front}
+use Rattle.st_log_laws.proofs.Turns.{front, made_in_run}
 use Rattle.st_schema_laws.specs.Agreeing.{KeepSchemaInTurn, KeepsSchema, TellsHomes, with_homes}
 use Rattle.st_schema_laws.specs.Conforming.{IsConforming, register_in}
-use Rattle.st_schema_laws.proofs.Homes.{document_keeps, tells_own}
+use Rattle.st_schema_laws.proofs.Homes.{document_keeps, intent_keeps, tells_own}
+use Rattle.st_schema_laws.proofs.Joins.{joined_agrees}
+use Rattle.st_schema_laws.proofs.Kept.{carried_conforms}
 use Rattle.st_schema_laws.proofs.InTurn.{agree_front, agree_longer, agree_then_one, list_conforms, list_keeps}
 use Rattle.st_schema_laws.proofs.Opened.{allowed_conforms}
 use Rattle.st_script.specs.Header.{HeaderView}
 use Rattle.st_script.specs.declared.answer.Answer.{Answer}
-use Rattle.st_trace.specs.Replicas.{HaveSessionsFrom, IsClient, IsHeader, KeepToSchema}
+use Rattle.st_trace.specs.Replicas.{EditsKeepSchema, HasMain, HaveSessionsFrom, IsClient, IsHeader, IsTransaction, KeepSchemaWith, KeepToSchema}
 use Rattle.st_lists.specs.Log.{commits_by, commits_of_text, intents_of, log_and_queue}
 use Rattle.st_lists.specs.Log.{commit_of, commits_in, log_with}
-use Rattle.st_lists.specs.Clients.{HasShown, with_commit, new_client, next_rev, pending_after, received_by, with_received}
-use Rattle.st_trace.specs.World.{IsDeliveredTo, after_edit, opening_document, with_pending}
+use Rattle.st_lists.specs.Clients.{joined_of, with_commit, with_edited, with_new_commit, with_transaction, without_transaction, new_client, next_rev, pending_after, received_by, with_received}
+use Rattle.st_trace.specs.World.{IsDeliveredTo, after_edit, cells_given, next_names, opening_document, with_pending}
 use Rattle.st_lists.specs.Limits.{limit_passed}
 use Rattle.st_lists.specs.Names.{names_in}
 use Rattle.st_trace.specs.declared.client.EditWord.{EditWord}
 use Rattle.st_lists.specs.declared.lists.Body.{Body}
-use Rattle.st_lists.specs.declared.lists.Body.TheVariants.{Join, Commit}
+use Rattle.st_lists.specs.declared.lists.Body.TheVariants.{Join}
 use Rattle.st_lists.specs.declared.lists.Client.{Client}
 use Rattle.st_lists.specs.declared.lists.Entry.{Entry}
+use Rattle.st_lists.specs.declared.lists.Transaction.{Transaction}
 use Rattle.st_trace.proofs.Begun.{IsStart, opens_allowed}
-use Rattle.st_trace.proofs.Clients.{next_new, other_fit, own_first, received_more, shown_among, shown_new}
+use Rattle.st_trace.proofs.Clients.{next_new, other_fit, own_first, received_more, shown_among, shown_new, shown_sound}
+use Rattle.st_trace.proofs.Meant.{IsMeaning, IsMeant}
+use Rattle.st_trace.proofs.Parts.{edited_fits, follow}
 use Rattle.st_trace.proofs.Everyone.{all_get, all_set, session_at, set_same}
 use Rattle.st_lists.proofs.Logs.{by_sublist, commits_split, entered_commits, entered_front, last_entry, no_commit, one_commit, text_first}
 use Rattle.st_lemmas.proofs.Lists.{AllByRecursion-append}
@@ -51,17 +67,33 @@ use Rattle.st_lemmas.proofs.Lists.{AllByRecursion-append}
 pub begun_keeps : (h : HeaderView) → IsHeader h → KeepToSchema h [] []
 begun_keeps h k =
     let home : NodeId → Option FieldId = λ m. register_in ((opening_document h).place m) in
-    (home, record { start = allowed_conforms h.schema home h.tree (compact_text (schema_data h.schema)) k.schema (opens_allowed h.schema h.tree k.tree) (λ m i. refl); logged = tt; shown = tt })
+    (home, record { start = allowed_conforms h.schema home h.tree (compact_text (schema_data h.schema)) k.schema (opens_allowed h.schema h.tree k.tree) (λ m i. refl); logged = tt; shown = tt; edited = tt })
 
 front_sublist : (As Bs : List Intent) → IsSublist As (As ++ Bs)
 front_sublist [] Bs = sublist_none Bs
 front_sublist (N ∷ As) Bs = item_kept refl (front_sublist As Bs)
 
--- what an edit means, and how it agrees wherever the homes of its new nodes are told
-pub record MeansWell (h : HeaderView) (c : Client) (D : Document) (N : Intent) : Type 0 where
-  pub itself : IsIntent N
-  pub rev : N.rev ≡ next_rev c
-  pub agrees : (home : NodeId → Option FieldId) → IsConforming h.schema home D → TellsHomes home N → KeepsSchema h.schema home D N
+-- a node that an intent puts, or makes, is there after it
+put_there : (D : Document) (J : Intent) → Fits D J → (m : NodeId) → IsSome (put_of J m) → IsSome ((full D J).nodes m)
+put_there D J f m h = go (put_of J m) refl h
+  where
+    there : (o p : Option NodeType) → IsSome p ⊎ IsSome o → IsSome (option_or o p)
+    there (Some t) p h = tt
+    there None p (inl h) = h
+    there None p (inr h) = absurd h
+
+    go : (o : Option To) → put_of J m ≡ o → IsSome o → IsSome ((full D J).nodes m)
+    go None e h = absurd (cc)
+    go (Some to) e h =
+        there (D.nodes m) (new_type J m) (all-has (λ (p : Put). IsKnown D J p.node × IfSome (cell_of p.to) (Owns D J p.node) × IfSome (register_of p.to) (λ f. IsKnown D J f.node)) J.put (record { node = m; to = to }) f.puts_known (put-has J m to e)).0
+
+made_there : (D : Document) (J : Intent) (m : NodeId) → is_new J m ≡ true → IsSome ((full D J).nodes m)
+made_there D J m h = go (D.nodes m) (new_type J m) h
+  where
+    go : (o p : Option NodeType) → is_some p ≡ true → IsSome (option_or o p)
+    go (Some t) p h = tt
+    go None (Some t) h = tt
+    go None None h = cc
 
 module _ (h : HeaderView) (st : IsStart (opening_document h)) where
   -- these commits agree with the schema in turn
@@ -72,8 +104,15 @@ module _ (h : HeaderView) (st : IsStart (opening_document h)) where
   abbrev Shown : (NodeId → Option FieldId) → List Entry → Client → Type 0
   Shown home log c = Agree home (received_by log c ++ c.pending)
 
+  -- what is edited does
+  abbrev Edited : (NodeId → Option FieldId) → List Entry → Client → Type 0
+  Edited home log c = EditsKeepSchema h home log c
+
+  nothing_edited : (home : NodeId → Option FieldId) (log : List Entry) (c : Client) → joined_of c ≡ None → Edited home log c
+  nothing_edited home log c none D main = subst (λ o. IfSome o (KeepsSchema h.schema home D)) (sym none) tt
+
   -- a client that stays as it is
-  same_keeps : (log : List Entry) (cs : List Client) (i : ℕ) (c c' : Client) → slice_get cs i ≡ Some c → c ≡ c' → KeepToSchema h log cs → KeepToSchema h log (slice_set cs i c')
+  pub same_keeps : (log : List Entry) (cs : List Client) (i : ℕ) (c c' : Client) → slice_get cs i ≡ Some c → c ≡ c' → KeepToSchema h log cs → KeepToSchema h log (slice_set cs i c')
   same_keeps log cs i c c' at same w = subst (KeepToSchema h log) (sym (set_same cs i c at) ∙ ap (slice_set cs i) same) w
 
   -- ## An entry is received
@@ -115,20 +154,39 @@ module _ (h : HeaderView) (st : IsStart (opening_document h)) where
           let same : c.pending ≡ pending_after e c = sym (rw is refl) in
           subst (Agree home) (ap (λ l. l ++ c.pending) (sym now) ∙ ap (λ l. commits_in (take (c.received + 1) log) ++ l) same) shown
 
-  pub delivered_keeps : (log : List Entry) (cs : List Client) (i : ℕ) (c c' : Client) (D : Document) (a : Answer) → AllByRecursion (IsClient h log) cs → names_in (commits_in log) ≤ 131072 → slice_get cs i ≡ Some c
+  pub delivered_keeps : (log : List Entry) (cs : List Client) (i : ℕ) (c c' : Client) (D : Document) (a : Answer) → AllByRecursion (IsClient h log) cs → names_in (commits_in log) ≤ 131072 → slice_get cs i ≡ Some c → c.transaction ≡ None
       → IsDeliveredTo D c (slice_get log c.received) c' a → KeepToSchema h log cs → KeepToSchema h log (slice_set cs i c')
-  delivered_keeps log cs i c c' D a are few at is w = go (slice_get log c.received) refl is
+  delivered_keeps log cs i c c' D a are few at none is w = go (slice_get log c.received) refl is
     where
       go : (o : Option Entry) → slice_get log c.received ≡ o → IsDeliveredTo D c o c' a → KeepToSchema h log (slice_set cs i c')
       go None e d = same_keeps log cs i c c' at (sym d.0) w
       go (Some x) e d =
           let now = taken_shows w.0 log c x (all_get (IsClient h log) cs i c are at) few e w.1.logged (all_get (Shown w.0 log) cs i c w.1.shown at) in
-          (w.0, record { start = w.1.start; logged = w.1.logged; shown = all_set (Shown w.0 log) cs i c' w.1.shown (subst (Shown w.0 log) (sym d.2) now) })
+          (
+            w.0,
+            record {
+              start = w.1.start;
+              logged = w.1.logged;
+              shown = all_set (Shown w.0 log) cs i c' w.1.shown (subst (Shown w.0 log) (sym d.2) now);
+              edited = all_set (Edited w.0 log) cs i c' w.1.edited (nothing_edited w.0 log c' (ap joined_of d.2 ∙ ap (option_and_then (λ (t : Transaction). t.joined)) none));
+            },
+          )
 
   -- ## The log grows
 
   entered_shows : (home : NodeId → Option FieldId) (log : List Entry) (session : ℕ) (body : Body) (c : Client) → c.received ≤ length log → Shown home log c → Shown home (log_with log session body) c
   entered_shows home log session body c within shown = subst (λ (es : List Entry). Agree home (commits_in es ++ c.pending)) (sym (entered_front log session body c.received within)) shown
+
+  -- what is edited stands on the same document
+  entered_edits : (home : NodeId → Option FieldId) (log : List Entry) (session : ℕ) (body : Body) (c c' : Client) → c.received ≤ length log → c'.pending ≡ c.pending → c'.received ≡ c.received → joined_of c' ≡ joined_of c
+      → Edited home log c → Edited home (log_with log session body) c'
+  entered_edits home log session body c c' within pending received joined edited D main =
+      subst (λ o. IfSome o (KeepsSchema h.schema home D)) (sym joined)
+      (edited D (subst (λ l. Run (opening_document h) l D) (ap (λ n. commits_in (take n (log_with log session body)) ++ c'.pending) received ∙ ap (λ es. commits_in es ++ c'.pending) (entered_front log session body c.received within) ∙ ap (λ l. received_by log c ++ l) pending) main))
+
+  all_edits_entered : (home : NodeId → Option FieldId) (log : List Entry) (session : ℕ) (body : Body) (cs : List Client) → AllByRecursion (IsClient h log) cs → AllByRecursion (Edited home log) cs → AllByRecursion (Edited home (log_with log session body)) cs
+  all_edits_entered home log session body [] are edited = tt
+  all_edits_entered home log session body (c ∷ cs) are edited = (entered_edits home log session body c c are.0.within refl refl refl edited.0, all_edits_entered home log session body cs are.1 edited.1)
 
   all_entered : (home : NodeId → Option FieldId) (log : List Entry) (session : ℕ) (body : Body) (cs : List Client) → AllByRecursion (IsClient h log) cs → AllByRecursion (Shown home log) cs → AllByRecursion (Shown home (log_with log session body)) cs
   all_entered home log session body [] are shown = tt
@@ -160,6 +218,8 @@ module _ (h : HeaderView) (st : IsStart (opening_document h)) where
           logged = subst (Agree w.0) (sym (entered_commits log c.session text)) (last_agrees w.0 log c text c'.queue k is last_fit w.1.logged mine);
           shown = all_set (Shown w.0 (log_with log c.session text)) cs i c' (all_entered w.0 log c.session text cs are w.1.shown)
               (subst (Shown w.0 (log_with log c.session text)) (sym is_c) (entered_shows w.0 log c.session text (record c { queue = c'.queue }) k.within mine));
+          edited = all_set (Edited w.0 (log_with log c.session text)) cs i c' (all_edits_entered w.0 log c.session text cs are w.1.edited)
+              (entered_edits w.0 log c.session text c c' k.within (ap (λ (x : Client). x.pending) is_c) (ap (λ (x : Client). x.received) is_c) (ap joined_of is_c) (all_get (Edited w.0 log) cs i c w.1.edited at));
         },
       )
 
@@ -176,18 +236,20 @@ module _ (h : HeaderView) (st : IsStart (opening_document h)) where
           start = w.1.start;
           logged = subst (Agree w.0) commits w.1.logged;
           shown = AllByRecursion-append (Shown w.0 longer) cs (c ∷ []) (all_entered w.0 log session Join cs are w.1.shown) (subst (Shown w.0 longer) (sym is_c) (subst (Agree w.0) all w.1.logged), tt);
+          edited = AllByRecursion-append (Edited w.0 longer) cs (c ∷ []) (all_edits_entered w.0 log session Join cs are w.1.edited) (nothing_edited w.0 longer c (ap joined_of is_c), tt);
         },
       )
 
-  -- ## A commit is pending
+  -- ## The homes of new nodes are told
 
-  module _ (log : List Entry) (c : Client) (D : Document) (N : Intent) (k : IsClient h log c) (is_shown : HasShown (opening_document h) log c D) (itself : IsIntent N) (rev : N.rev ≡ next_rev c) (home : NodeId → Option FieldId) where
+  module _ (log : List Entry) (c : Client) (N : Intent) (k : IsClient h log c) (few : names_in (commits_in log) ≤ 131072) (itself : IsIntent N) (session : N.rev.session ≡ c.session)
+      (fresh : Has (revisions (log_and_queue log c) ++ opening ∷ []) N.rev → ⊥) (home : NodeId → Option FieldId) where
     -- no commit of the log and no client has its revision, nor has the opening
     not_opening : Has (opening ∷ []) N.rev → ⊥
-    not_opening i = next_new h st log c N.rev k rev (append_right (revisions (log_and_queue log c)) (opening ∷ []) N.rev i)
+    not_opening i = fresh (append_right (revisions (log_and_queue log c)) (opening ∷ []) N.rev i)
 
     not_sent : (M : Intent) → Has (log_and_queue log c) M → M.rev ≡ N.rev → ⊥
-    not_sent M i e = next_new h st log c N.rev k rev (append_left (revisions (log_and_queue log c)) (opening ∷ []) N.rev (subst (Has (revisions (log_and_queue log c))) e (map-has (λ (X : Intent). X.rev) (log_and_queue log c) M i)))
+    not_sent M i e = fresh (append_left (revisions (log_and_queue log c)) (opening ∷ []) N.rev (subst (Has (revisions (log_and_queue log c))) e (map-has (λ (X : Intent). X.rev) (log_and_queue log c) M i)))
 
     not_among : (Ns : List Intent) → ((M : Intent) → Has Ns M → M.rev ≡ N.rev → ⊥) → Has (revisions Ns ++ opening ∷ []) N.rev → ⊥
     not_among Ns none i = elim (has-append (revisions Ns) (opening ∷ []) N.rev i) [
@@ -206,7 +268,7 @@ module _ (h : HeaderView) (st : IsStart (opening_document h)) where
 
         go : (M : Intent) → M.rev ≡ N.rev → Has (commits_in log) M ⊎ Has (intents_of d.queue) M → ⊥
         go M e (inl i) = not_sent M (append_left (commits_in log) (intents_of c.queue) M i) e
-        go M e (inr i) = differ (ap (λ (r : Rev). r.session) (sym rev ∙ sym e) ∙ all-has (λ (X : Intent). X.rev.session ≡ d.session) (intents_of d.queue) M l.own i)
+        go M e (inr i) = differ (sym session ∙ ap (λ (r : Rev). r.session) (sym e) ∙ all-has (λ (X : Intent). X.rev.session ≡ d.session) (intents_of d.queue) M l.own i)
 
     -- the homes of its new nodes are told beside the others
     abbrev told : NodeId → Option FieldId
@@ -225,15 +287,38 @@ module _ (h : HeaderView) (st : IsStart (opening_document h)) where
             go None e = e
             go (Some t) e = absurd (not_opening (subst (Has (opening ∷ [])) (new_node_rev N itself n new) (st.made.nodes n (ap is_some e))))
 
-    mine_told : IsConforming h.schema home (opening_document h) → Shown home log c → ((other : NodeId → Option FieldId) → IsConforming h.schema other D → TellsHomes other N → KeepsSchema h.schema other D N) → Shown told log (with_commit c N)
-    mine_told start shown means =
-        let Ns = received_by log c ++ c.pending in
-        let before = keeps Ns k.shown_fit (λ i. shown_new h st log c N.rev k rev i) shown in
-        let here = list_conforms h.schema told st.sound k.shown_fit (start_told start) before is_shown in
-        subst (Agree told) (append_assoc (received_by log c) c.pending (N ∷ [])) (agree_then_one h.schema told Ns (N ∷ []) before is_shown (means told here (tells_own home N), λ v is. tt))
+    -- those of the log, and those that clients show, agree as before
+    pub logged_told : Agree home (commits_in log) → Agree told (commits_in log)
+    logged_told a = keeps (commits_in log) (front (commits_in log) (intents_of c.queue) (opening_document h) k.sent_fit) not_logged a
+
+    pub line_told : Shown home log c → Shown told log c
+    line_told shown = keeps (received_by log c ++ c.pending) k.shown_fit (shown_new h st log c N.rev k fresh) shown
 
     other_told : (d : Client) → IsClient h log d → (c.session == d.session) ≡ false → Shown home log d → Shown told log d
     other_told d l apart shown = keeps (received_by log d ++ d.pending) l.shown_fit (not_shown d l apart) shown
+
+    -- and so does what another edits
+    other_edits_told : (d : Client) → IsClient h log d → (c.session == d.session) ≡ false → Edited home log d → Edited told log d
+    other_edits_told d l apart edited D main = go d.transaction refl l.transaction (edited D main)
+      where
+        differ : c.session ≡ d.session → ⊥
+        differ s = grind (arith, nat_tests)
+
+        J_told : (t : Transaction) (J : Intent) → d.transaction ≡ Some t → t.joined ≡ Some J → IsTransaction h log d t → KeepsSchema h.schema home D J → KeepsSchema h.schema told D J
+        J_told t J is joined i a =
+            let fits = edited_fits h st log d t J l is few i joined in
+            let same : i.before ≡ D = one_run i.main main in
+            let rev : J.rev ≡ t.rev = (subst (FitsSoFar i.before t.rev t.under) joined i.so_far).1 in
+            (list_keeps h.schema home N itself (J ∷ []) (revisions (received_by log d ++ d.pending) ++ opening ∷ []) D (made_in_run (opening ∷ []) l.shown_fit main st.made) (subst (λ F. FitInTurn F (J ∷ [])) same fits)
+            (λ h. elim h [ inl e ↦ differ (sym session ∙ ap (λ (r : Rev). r.session) (sym e ∙ rev) ∙ i.session) | inr q ↦ not_shown d l apart q ]) (a, λ v is. tt)).0
+
+        by : (t : Transaction) (o : Option Intent) → d.transaction ≡ Some t → t.joined ≡ o → IsTransaction h log d t → IfSome o (KeepsSchema h.schema home D) → IfSome o (KeepsSchema h.schema told D)
+        by t None is joined i a = tt
+        by t (Some J) is joined i a = J_told t J is joined i a
+
+        go : (o : Option Transaction) → d.transaction ≡ o → IfSome o (IsTransaction h log d) → IfSome (option_and_then (λ (t : Transaction). t.joined) o) (KeepsSchema h.schema home D) → IfSome (option_and_then (λ (t : Transaction). t.joined) o) (KeepsSchema h.schema told D)
+        go None is i a = tt
+        go (Some t) is i a = by t t.joined is refl i a
 
     apart_later : (d : Client) (n : ℕ) → d.session ≡ n → c.session < n → (c.session == d.session) ≡ false
     apart_later d n e less = grind (arith, nat_tests)
@@ -241,25 +326,41 @@ module _ (h : HeaderView) (st : IsStart (opening_document h)) where
     apart_before : (d : Client) (n : ℕ) → d.session ≡ n → n < c.session → (c.session == d.session) ≡ false
     apart_before d n e less = grind (arith, nat_tests)
 
-    later_told : (n : ℕ) (cs : List Client) → HaveSessionsFrom n cs → c.session < n → AllByRecursion (IsClient h log) cs → AllByRecursion (Shown home log) cs → AllByRecursion (Shown told log) cs
-    later_told n [] s less are shown = tt
-    later_told n (d ∷ cs) s less are shown = (other_told d are.0 (apart_later d n s.0 less) shown.0, later_told (n + 1) cs s.1 (omega (arith, less)) are.1 shown.1)
+    -- what holds of all clients by the homes of before holds of all by those that are told, and of the one that goes on
+    module _ (P Q : Client → Type 0) (other : (d : Client) → IsClient h log d → (c.session == d.session) ≡ false → P d → Q d) where
+      later : (n : ℕ) (cs : List Client) → HaveSessionsFrom n cs → c.session < n → AllByRecursion (IsClient h log) cs → AllByRecursion P cs → AllByRecursion Q cs
+      later n [] s less are all = tt
+      later n (d ∷ cs) s less are all = (other d are.0 (apart_later d n s.0 less) all.0, later (n + 1) cs s.1 (omega (arith, less)) are.1 all.1)
 
-    all_told : (n : ℕ) (cs : List Client) (i : ℕ) → HaveSessionsFrom n cs → slice_get cs i ≡ Some c → AllByRecursion (IsClient h log) cs → AllByRecursion (Shown home log) cs → (Shown home log c → Shown told log (with_commit c N))
-        → AllByRecursion (Shown told log) (slice_set cs i (with_commit c N))
-    all_told n [] i s at are shown own = tt
-    all_told n (d ∷ cs) zero s at are shown own =
-        let same : d ≡ c = cc in
-        let here : c.session ≡ n = ap (λ (y : Client). y.session) (sym same) ∙ s.0 in
-        (own (subst (Shown home log) same shown.0), later_told (n + 1) cs s.1 (omega (arith, here)) are.1 shown.1)
-    all_told n (d ∷ cs) (suc i) s at are shown own =
-        let far = session_at (n + 1) cs i c s.1 at in
-        (other_told d are.0 (apart_before d n s.0 (omega (arith, far))) shown.0, all_told (n + 1) cs i s.1 at are.1 shown.1 own)
+      all_told : (c' : Client) (n : ℕ) (cs : List Client) (i : ℕ) → HaveSessionsFrom n cs → slice_get cs i ≡ Some c → AllByRecursion (IsClient h log) cs → AllByRecursion P cs → Q c' → AllByRecursion Q (slice_set cs i c')
+      all_told c' n [] i s at are all own = tt
+      all_told c' n (d ∷ cs) zero s at are all own =
+          let same : d ≡ c = cc in
+          let here : c.session ≡ n = ap (λ (y : Client). y.session) (sym same) ∙ s.0 in
+          (own, later (n + 1) cs s.1 (omega (arith, here)) are.1 all.1)
+      all_told c' n (d ∷ cs) (suc i) s at are all own =
+          let far = session_at (n + 1) cs i c s.1 at in
+          (other d are.0 (apart_before d n s.0 (omega (arith, far))) all.0, all_told c' (n + 1) cs i s.1 at are.1 all.1 own)
 
-  pub edited_keeps : (log : List Entry) (cs : List Client) (i : ℕ) (c c' : Client) (D : Document) (word : EditWord) (r : Result Intent EditFault) (a : Answer) → HaveSessionsFrom 1 cs → AllByRecursion (IsClient h log) cs
-      → slice_get cs i ≡ Some c → HasShown (opening_document h) log c D → ((N : Intent) → r ≡ Ok N → MeansWell h c D N) → after_edit c word r ≡ (c', a) → KeepToSchema h log cs → KeepToSchema h log (slice_set cs i c')
-  edited_keeps log cs i c c' D word (Err f) a sessions are at is_shown means is w = same_keeps log cs i c c' at (ap (λ (p : Client × Answer). p.0) is) w
-  edited_keeps log cs i c c' D word (Ok N) a sessions are at is_shown means is w = go (limit_passed c N) is
+    -- the client is now so
+    pub told_keeps : (cs : List Client) (i : ℕ) (c' : Client) → HaveSessionsFrom 1 cs → AllByRecursion (IsClient h log) cs → slice_get cs i ≡ Some c → KeepSchemaWith h log cs home → Shown told log c' → Edited told log c' → KeepToSchema h log (slice_set cs i c')
+    told_keeps cs i c' sessions are at w shown edited = (
+      told,
+      record {
+        start = start_told w.start;
+        logged = logged_told w.logged;
+        shown = all_told (Shown home log) (Shown told log) other_told c' 1 cs i sessions at are w.shown shown;
+        edited = all_told (Edited home log) (Edited told log) other_edits_told c' 1 cs i sessions at are w.edited edited;
+      },
+    )
+
+  -- ## A commit is pending
+
+  -- where no transaction is open
+  pub edited_keeps : (log : List Entry) (cs : List Client) (i : ℕ) (c c' : Client) (D : Document) (word : EditWord) (r : Result Intent EditFault) (a : Answer) → HaveSessionsFrom 1 cs → AllByRecursion (IsClient h log) cs → names_in (commits_in log) ≤ 131072
+      → slice_get cs i ≡ Some c → c.transaction ≡ None → HasMain h log c D → IsMeaning h.schema D (next_names c None) word r → after_edit c word r ≡ (c', a) → KeepToSchema h log cs → KeepToSchema h log (slice_set cs i c')
+  edited_keeps log cs i c c' D word (Err f) a sessions are few at none main means is w = same_keeps log cs i c c' at (ap (λ (p : Client × Answer). p.0) is) w
+  edited_keeps log cs i c c' D word (Ok N) a sessions are few at none main means is w = go (limit_passed c N) is
     where
       go : (o : Option Limit) → with_pending c word N o ≡ (c', a) → KeepToSchema h log (slice_set cs i c')
       go (Some l) is = same_keeps log cs i c c' at (ap (λ (p : Client × Answer). p.0) is) w
@@ -267,16 +368,85 @@ module _ (h : HeaderView) (st : IsStart (opening_document h)) where
           let k = all_get (IsClient h log) cs i c are at in
           let m = means N refl in
           let home = w.0 in
-          let shown = all_told log c D N k is_shown m.itself m.rev home 1 cs i sessions at are w.1.shown (λ mine. mine_told log c D N k is_shown m.itself m.rev home w.1.start mine m.agrees) in
-          let same : with_commit c N ≡ c' = ap (λ (p : Client × Answer). p.0) is in
-          subst (λ x. KeepToSchema h log (slice_set cs i x)) same (
-            with_homes home N,
-            record {
-              start = start_told log c D N k is_shown m.itself m.rev home w.1.start;
-              logged = keeps log c D N k is_shown m.itself m.rev home (commits_in log) (log_fit k) (not_logged log c D N k is_shown m.itself m.rev home) w.1.logged;
-              shown = shown;
-            },
-          )
+          let fresh = next_new h st log c N.rev k m.rev in
+          let session : N.rev.session ≡ c.session = ap (λ (r : Rev). r.session) m.rev in
+          let line = line_told log c N k few m.fits.itself session fresh home (all_get (Shown home log) cs i c w.1.shown at) in
+          let here = list_conforms h.schema (with_homes home N) st.sound k.shown_fit (start_told log c N k few m.fits.itself session fresh home w.1.start) line main in
+          let shown : Shown (with_homes home N) log (with_new_commit c N) =
+          subst (Agree (with_homes home N)) (append_assoc (received_by log c) c.pending (N ∷ [])) (agree_then_one h.schema (with_homes home N) (received_by log c ++ c.pending) (N ∷ []) line main (m.agrees (with_homes home N) here (tells_own home N), λ v is. tt)) in
+          let same : with_new_commit c N ≡ c' = ap (λ (p : Client × Answer). p.0) is in
+          subst (λ x. KeepToSchema h log (slice_set cs i x)) same
+          (told_keeps log c N k few m.fits.itself session fresh home cs i (with_new_commit c N) sessions are at w.1 shown (nothing_edited (with_homes home N) log (with_new_commit c N) (ap (option_and_then (λ (t : Transaction). t.joined)) none)))
+
+  -- ## A part more of what is edited
+
+  -- the homes of its new nodes are told beside those of what was edited before
+  so_far_told : (home : NodeId → Option FieldId) (D : Document) (rev under : Rev) (joined : Option Intent) (M : Intent) → FitsSoFar D rev under joined → Fits (with_open D joined) M
+      → IfSome joined (KeepsSchema h.schema home D) → IfSome joined (KeepsSchema h.schema (with_homes home M) D)
+  so_far_told home D rev under None M so fits a = tt
+  so_far_told home D rev under (Some J) M so fits a =
+      intent_keeps h.schema home D M J (λ m put. old m (put_there D J so.0 m put)) (λ m new. old m (made_there D J m new)) a
+    where
+      old : (m : NodeId) → IsSome ((full D J).nodes m) → is_new M m ≡ false
+      old m known = go (is_new M m) refl
         where
-          log_fit : IsClient h log c → FitInTurn (opening_document h) (commits_in log)
-          log_fit k = front (commits_in log) (intents_of c.queue) (opening_document h) k.sent_fit
+          go : (b : Bool) → is_new M m ≡ b → is_new M m ≡ false
+          go false e = e
+          go true e = let none : is_some ((full D J).nodes m) ≡ false = ap is_some (fits.fresh_nodes m e) in absurd (true-false known none)
+
+  pub open_conforms : (home : NodeId → Option FieldId) (D : Document) (rev under : Rev) (joined : Option Intent) → IsSoundInForm D → FitsSoFar D rev under joined → IsConforming h.schema home D → IfSome joined (KeepsSchema h.schema home D) → IsConforming h.schema home (with_open D joined)
+  open_conforms home D rev under None sound so here a = here
+  open_conforms home D rev under (Some J) sound so here a = carried_conforms h.schema home D J sound so.0 here a Verdict.Sound
+
+  whole_agrees : (home : NodeId → Option FieldId) (D : Document) (joined : Option Intent) (M K : Intent) → IsSoundInForm D → CanFollow D joined M → IsWithPart joined M K → IsConforming h.schema home D → IfSome joined (KeepsSchema h.schema home D)
+      → KeepsSchema h.schema home (with_open D joined) M → KeepsSchema h.schema home D K
+  whole_agrees home D None M K sound follow w here a b = subst (KeepsSchema h.schema home D) (sym w) b
+  whole_agrees home D (Some J) M K sound follow w here a b = joined_agrees h.schema home D J M K sound follow w here a b
+
+  pub parted_keeps : (log : List Entry) (cs : List Client) (i : ℕ) (c : Client) (t : Transaction) (word : EditWord) (M K : Intent) → HaveSessionsFrom 1 cs → AllByRecursion (IsClient h log) cs → names_in (commits_in log) ≤ 131072
+      → slice_get cs i ≡ Some c → c.transaction ≡ Some t → (x : IsTransaction h log c t) → IsMeant h.schema (with_open x.before t.joined) (next_names c (Some t)) word M → IsWithPart t.joined M K
+      → KeepToSchema h log cs → KeepToSchema h log (slice_set cs i (with_transaction c (with_edited t K (length M.new) (cells_given word M))))
+  parted_keeps log cs i c t word M K sessions are few at is x m w keeps =
+      let k = all_get (IsClient h log) cs i c are at in
+      let home = keeps.0 in
+      let D = x.before in
+      let told = with_homes home M in
+      let session : M.rev.session ≡ c.session = ap (λ (r : Rev). r.session) m.rev ∙ x.session in
+      let fresh : Has (revisions (log_and_queue log c) ++ opening ∷ []) M.rev → ⊥ = λ q. x.new (subst (Has (revisions (log_and_queue log c) ++ opening ∷ [])) m.rev q) in
+      let line = line_told log c M k few m.fits.itself session fresh home (all_get (Shown home log) cs i c keeps.1.shown at) in
+      let sound = shown_sound h st log c D k x.main in
+      let here : IsConforming h.schema told D = list_conforms h.schema told st.sound k.shown_fit (start_told log c M k few m.fits.itself session fresh home keeps.1.start) line x.main in
+      let before : IfSome t.joined (KeepsSchema h.schema home D) = subst (λ o. IfSome (option_and_then (λ (t : Transaction). t.joined) o) (KeepsSchema h.schema home D)) is (all_get (Edited home log) cs i c keeps.1.edited at D x.main) in
+      let so_far = so_far_told home D t.rev t.under t.joined M x.so_far m.fits before in
+      let part = m.agrees told (open_conforms told D t.rev t.under t.joined sound x.so_far here so_far) (tells_own home M) in
+      let whole = whole_agrees told D t.joined M K sound (follow h st log c t word M k is few x m) w here so_far part in
+      told_keeps log c M k few m.fits.itself session fresh home cs i (with_transaction c (with_edited t K (length M.new) (cells_given word M))) sessions are at keeps.1 line
+      (λ E main. subst (λ F. KeepsSchema h.schema told F K) (one_run x.main main) whole)
+
+  -- ## Transactions that begin and end
+
+  -- one begins, or what was edited is dropped
+  pub ended_keeps : (log : List Entry) (cs : List Client) (i : ℕ) (c c' : Client) → slice_get cs i ≡ Some c → c'.received ≡ c.received → c'.pending ≡ c.pending → joined_of c' ≡ None → KeepToSchema h log cs → KeepToSchema h log (slice_set cs i c')
+  ended_keeps log cs i c c' at received pending none w = (
+    w.0,
+    record {
+      start = w.1.start;
+      logged = w.1.logged;
+      shown = all_set (Shown w.0 log) cs i c' w.1.shown (subst (Agree w.0) (ap (λ n. commits_in (take n log) ++ c.pending) (sym received) ∙ ap (λ l. received_by log c' ++ l) (sym pending)) (all_get (Shown w.0 log) cs i c w.1.shown at));
+      edited = all_set (Edited w.0 log) cs i c' w.1.edited (nothing_edited w.0 log c' none);
+    },
+  )
+
+  -- what was edited is a commit
+  pub committed_keeps : (log : List Entry) (cs : List Client) (i : ℕ) (c : Client) (D : Document) (J : Intent) → slice_get cs i ≡ Some c → HasMain h log c D → joined_of c ≡ Some J → KeepToSchema h log cs → KeepToSchema h log (slice_set cs i (with_commit (without_transaction c) J))
+  committed_keeps log cs i c D J at main is w =
+      let mine : KeepsSchema h.schema w.0 D J = subst (λ o. IfSome o (KeepsSchema h.schema w.0 D)) is (all_get (Edited w.0 log) cs i c w.1.edited at D main) in (
+        w.0,
+        record {
+          start = w.1.start;
+          logged = w.1.logged;
+          shown = all_set (Shown w.0 log) cs i _ w.1.shown
+              (subst (Agree w.0) (append_assoc (received_by log c) c.pending (J ∷ [])) (agree_then_one h.schema w.0 (received_by log c ++ c.pending) (J ∷ []) (all_get (Shown w.0 log) cs i c w.1.shown at) main (mine, λ v is. tt)));
+          edited = all_set (Edited w.0 log) cs i _ w.1.edited (nothing_edited w.0 log (with_commit (without_transaction c) J) refl);
+        },
+      )

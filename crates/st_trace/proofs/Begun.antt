@@ -1,5 +1,5 @@
 -- The opening document: it is sound in form, its names are the opening's, and its rows are short.
-use Rattle.std.proofs.Common.{◌≡◌, ℕ, ◌+◌, ◌≤◌, Bool, true, false, cond, List, [], ◌∷◌, length, length-append, Option, Some, None, IsSome, refl, sym, ap, ◌∙◌, arith, inl, inr, nat_lt, Result, Ok, Err, is_ok}
+use Rattle.std.proofs.Common.{◌≡◌, ℕ, ◌+◌, ◌≤◌, Bool, true, false, cond, List, [], ◌∷◌, length, Option, Some, None, IsSome, refl, sym, ap, ◌∙◌, arith, inl, inr, nat_lt, Result, Ok, Err, is_ok}
 use Rattle.std.specs.List.{AllByRecursion}
 use Rattle.std.specs.Option.{option_or}
 use Rattle.std.proofs.lemmas.Bool.Decides.{nat_tests}
@@ -20,7 +20,7 @@ use Rattle.st_tree.specs.declared.limits.TreeFault.{TreeFault}
 use Rattle.st_tree.specs.declared.limits.TreeFault.TheVariants.{TooDeep, TooMany}
 use Rattle.st_tree.specs.Node.{Node, node, Fields, no_fields, field, Nodes, no_nodes, first}
 use Rattle.st_tree.specs.Form.{has_form}
-use Rattle.st_tree.specs.Size.{node_count, field_count, item_count, height, check_of}
+use Rattle.st_tree.specs.Size.{node_count, item_count, height, check_of}
 use Rattle.st_tree.specs.Preorder.{cells_taken, cell_count, item_cells, at_of, tree_listed, fields_listed, items_listed, opening_listed}
 use Rattle.st_schema.specs.Schema.{SchemaView}
 use Rattle.st_schema.specs.Conforms.{verdicts, allows_of}

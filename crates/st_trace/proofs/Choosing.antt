@@ -11,12 +11,12 @@ use Rattle.st_script.specs.declared.answer.Answer.{Answer}
 use Rattle.st_script.specs.declared.step.EditAct.{EditAct}
 use Rattle.st_script.specs.declared.step.EditAct.TheVariants as edits
 use Rattle.st_trace.specs.inside.Edits.{edit_of}
-use Rattle.st_trace.specs.World.{IsActOf, IsEdited, next_names, word_of}
+use Rattle.st_trace.specs.World.{IsActOf, IsAfterEdit, IsDoneIn, next_names, word_of}
 use Rattle.st_lists.specs.declared.lists.Client.{Client}
 use Rattle.st_lists.specs.declared.lists.WorldState.{WorldState}
 
 pub next_edit : (h : HeaderView) (w : WorldState) (i : ℕ) (c : Client) (v : WorldState) (a : Answer) (e : EditAct)
-    → IsEdited h w i c (word_of (edit_view e)) (λ D. resolve D h.schema (next_names c) (edit_of e)) v a → IsActOf h w (edit (edit_view e)) i c v a
+    → IsDoneIn h w i c (λ D. IsAfterEdit c c.transaction (word_of (edit_view e)) (resolve D h.schema (next_names c c.transaction) (edit_of e))) v a → IsActOf h w (edit (edit_view e)) i c v a
 next_edit h w i c v a (edits.Insert at key index items) is = is
 next_edit h w i c v a (edits.Remove at key index count) is = is
 next_edit h w i c v a (edits.Move at key index count to to_key to_index) is = is

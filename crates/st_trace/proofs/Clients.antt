@@ -1,5 +1,5 @@
 -- What holds of a client's lists after each of its steps, and after those of others.
-use Rattle.std.proofs.Common.{◌≡◌, ◌≢◌, ◌≤◌, ◌<◌, ◌+◌, ◌==◌, ℕ, zero, suc, true, false, List, [], ◌∷◌, ◌++◌, length, take, drop, Option, Some, None, is_some, refl, sym, ap, ◌∙◌, subst, arith, append_assoc, length-append, ◌⊎◌, inl, inr}
+use Rattle.std.proofs.Common.{◌≡◌, ◌≢◌, ◌≤◌, ◌<◌, ◌+◌, ◌==◌, ℕ, zero, suc, true, false, List, [], ◌∷◌, ◌++◌, length, take, drop, Option, Some, None, IfSome, is_some, refl, sym, ap, ◌∙◌, subst, arith, append_assoc, length-append, ◌⊎◌, inl, inr}
 use Rattle.std.specs.List.{slice_get, cons_option, AllByRecursion}
 use Rattle.std.specs.Option.{option_map_or}
 use Rattle.std.proofs.lemmas.Bool.Decides.{nat_tests}
@@ -14,6 +14,7 @@ use Rattle.st_marks.specs.Document.{Document, NodeType, IsSoundInForm, owned_cel
 use Rattle.st_ids.specs.Root.{opening}
 use Rattle.st_marks.specs.Extends.{item_kept}
 use Rattle.st_marks.specs.Intent.{Fits}
+use Rattle.st_marks.specs.Run.{Run}
 use Rattle.st_marks.proofs.Members.{all-has, has-all, append_left, append_right, has-append, has-map, map-has, distinct-append, distinct-between}
 use Rattle.st_log_laws.specs.Names.{HaveNewRevisions, revisions}
 use Rattle.st_log_laws.specs.Turns.{FitInTurn, HasRoom, IsSublist}
@@ -22,16 +23,17 @@ use Rattle.st_log_laws.proofs.Room.{room_in_run}
 use Rattle.st_log_laws.proofs.Shorter.{sublist_itself, sublist_joined, new_shorter, has_longer}
 use Rattle.st_log_laws.proofs.Beside.{another_later, later_fits, one_fits}
 use Rattle.st_script.specs.Header.{HeaderView}
-use Rattle.st_trace.specs.Replicas.{IsClient}
+use Rattle.st_trace.specs.Replicas.{HasMain, IsClient, IsTransaction}
 use Rattle.st_lists.specs.Log.{commit_in, commits_by, commits_of_text, intents_of, log_and_queue}
 use Rattle.st_lists.specs.Log.{commit_of, commits_in, log_with}
-use Rattle.st_lists.specs.Clients.{HasReceived, HasShown, with_commit, new_client, next_rev, received_by}
-use Rattle.st_lists.specs.Names.{names_in, names_in_text, names_made}
+use Rattle.st_lists.specs.Clients.{HasReceived, joined_of, with_commit, new_client, next_rev, received_by}
+use Rattle.st_lists.specs.Names.{names_in, names_in_text, names_made, unsequenced}
 use Rattle.st_trace.specs.World.{opening_document}
 use Rattle.st_lists.specs.declared.lists.Body.{Body}
 use Rattle.st_lists.specs.declared.lists.Body.TheVariants.{Join, Commit}
 use Rattle.st_lists.specs.declared.lists.Client.{Client}
 use Rattle.st_lists.specs.declared.lists.Entry.{Entry}
+use Rattle.st_lists.specs.declared.lists.Transaction.{Transaction}
 use Rattle.st_trace.proofs.Begun.{IsStart}
 use Rattle.st_lists.proofs.Names.{names_append, fewer_names}
 use Rattle.st_trace.proofs.Counting.{room_left}
@@ -107,8 +109,11 @@ module _ (h : HeaderView) (st : IsStart (opening_document h)) where
       sublist_of (ap (λ l. A ++ l) (sym k.under_way)) (sym (append_assoc A (commits_in rest) Q) ∙ ap (λ l. l ++ Q) (sym (commits_split c.received log)))
       (sublist_joined (sublist_itself A) (sublist_joined (by_sublist c.session rest) (sublist_itself Q)))
 
+  pub pending_few : (log : List Entry) (c : Client) → IsClient h log c → names_in c.pending ≤ 16384
+  pending_few log c k = let all : option_map_or names_made (joined_of c) 0 + names_in c.pending ≤ 16384 = k.few_names in omega (arith, all)
+
   pub waiting_few : (log : List Entry) (c : Client) → IsClient h log c → names_in (intents_of c.queue) ≤ 16384
-  waiting_few log c k = omega (arith, names_append (commits_by c.session (drop c.received log)) (intents_of c.queue), ap names_in k.under_way, k.few_names)
+  waiting_few log c k = omega (arith, names_append (commits_by c.session (drop c.received log)) (intents_of c.queue), ap names_in k.under_way, pending_few log c k)
 
   pub sent_few : (log : List Entry) (c : Client) → IsClient h log c → names_in (log_and_queue log c) ≤ names_in (commits_in log) + 16384
   sent_few log c k = omega (arith, names_append (commits_in log) (intents_of c.queue), waiting_few log c k)
@@ -127,16 +132,17 @@ module _ (h : HeaderView) (st : IsStart (opening_document h)) where
       go (inr (inl e)) = let num : 0 ≡ c.ids + 1 = ap (λ (q : Rev). q.num) (e ∙ is) in omega (arith, num)
       go (inr (inr j)) = j
 
-  pub shown_new : (log : List Entry) (c : Client) (r : Rev) → IsClient h log c → r ≡ next_rev c → Has (revisions (received_by log c ++ c.pending) ++ opening ∷ []) r → ⊥
-  shown_new log c r k is i = go (has-append (revisions (received_by log c ++ c.pending)) (opening ∷ []) r i)
+  -- a revision that is new to the log and the queue is new to what a client shows
+  pub shown_new : (log : List Entry) (c : Client) (r : Rev) → IsClient h log c → (Has (revisions (log_and_queue log c) ++ opening ∷ []) r → ⊥) → Has (revisions (received_by log c ++ c.pending) ++ opening ∷ []) r → ⊥
+  shown_new log c r k fresh i = go (has-append (revisions (received_by log c ++ c.pending)) (opening ∷ []) r i)
     where
       go : Has (revisions (received_by log c ++ c.pending)) r ⊎ Has (opening ∷ []) r → ⊥
       go (inl j) =
           let m = has-map (λ (N : Intent). N.rev) (received_by log c ++ c.pending) r j in
-          next_new log c r k is (append_left (revisions (log_and_queue log c)) (opening ∷ []) r (subst (Has (revisions (log_and_queue log c))) m.2 (map-has (λ (N : Intent). N.rev) (log_and_queue log c) m.0 (has_longer (shown_among log c k) m.0 m.1))))
-      go (inr j) = next_new log c r k is (append_right (revisions (log_and_queue log c)) (opening ∷ []) r j)
+          fresh (append_left (revisions (log_and_queue log c)) (opening ∷ []) r (subst (Has (revisions (log_and_queue log c))) m.2 (map-has (λ (N : Intent). N.rev) (log_and_queue log c) m.0 (has_longer (shown_among log c k) m.0 m.1))))
+      go (inr j) = fresh (append_right (revisions (log_and_queue log c)) (opening ∷ []) r j)
 
-  pub shown_sound : (log : List Entry) (c : Client) (D : Document) → IsClient h log c → HasShown (opening_document h) log c D → IsSoundInForm D
+  pub shown_sound : (log : List Entry) (c : Client) (D : Document) → IsClient h log c → HasMain h log c D → IsSoundInForm D
   shown_sound log c D k r = (turn_extends st.sound k.shown_fit r).after
 
   pub received_fit : (log : List Entry) (c : Client) → IsClient h log c → FitInTurn (opening_document h) (received_by log c)
@@ -146,55 +152,86 @@ module _ (h : HeaderView) (st : IsStart (opening_document h)) where
   received_sound log c D k r = (turn_extends st.sound (received_fit log c k) r).after
 
   -- no node and no cell of what it shows has that revision
-  pub fresh_nodes : (log : List Entry) (c : Client) (D : Document) → IsClient h log c → HasShown (opening_document h) log c D → (j : ℕ) → D.nodes (node_named (next_rev c) j) ≡ None
+  pub fresh_nodes : (log : List Entry) (c : Client) (D : Document) → IsClient h log c → HasMain h log c D → (j : ℕ) → D.nodes (node_named (next_rev c) j) ≡ None
   fresh_nodes log c D k r j = go (D.nodes (node_named (next_rev c) j)) refl
     where
       go : (o : Option NodeType) → D.nodes (node_named (next_rev c) j) ≡ o → D.nodes (node_named (next_rev c) j) ≡ None
       go None e = e
-      go (Some t) e = absurd (shown_new log c (next_rev c) k refl ((made_in_run (opening ∷ []) k.shown_fit r st.made).nodes (node_named (next_rev c) j) (ap is_some e)))
+      go (Some t) e = absurd (shown_new log c (next_rev c) k (next_new log c (next_rev c) k refl) ((made_in_run (opening ∷ []) k.shown_fit r st.made).nodes (node_named (next_rev c) j) (ap is_some e)))
 
-  pub fresh_cells : (log : List Entry) (c : Client) (D : Document) → IsClient h log c → HasShown (opening_document h) log c D → (j : ℕ) → D.row_of (cell_named (next_rev c) j) ≡ None
+  pub fresh_cells : (log : List Entry) (c : Client) (D : Document) → IsClient h log c → HasMain h log c D → (j : ℕ) → D.row_of (cell_named (next_rev c) j) ≡ None
   fresh_cells log c D k r j = go (D.row_of (cell_named (next_rev c) j)) refl
     where
       go : (o : Option NodeId) → D.row_of (cell_named (next_rev c) j) ≡ o → D.row_of (cell_named (next_rev c) j) ≡ None
       go None e = e
       go (Some n) e =
           let p = ((shown_sound log c D k r).one_row (cell_named (next_rev c) j) n).0 e in
-          absurd (shown_new log c (next_rev c) k refl ((made_in_run (opening ∷ []) k.shown_fit r st.made).cells n (owned_cell (cell_named (next_rev c) j) p.0) p.1))
+          absurd (shown_new log c (next_rev c) k (next_new log c (next_rev c) k refl) ((made_in_run (opening ∷ []) k.shown_fit r st.made).cells n (owned_cell (cell_named (next_rev c) j) p.0) p.1))
 
   -- ## A commit of its own is pending
 
-  pub client_committed : (log : List Entry) (c : Client) (D : Document) (N : Intent) → IsClient h log c → HasShown (opening_document h) log c D → Fits D N → N.rev ≡ next_rev c → N.schema ≡ None
-      → length c.pending < 256 → names_in c.pending + names_made N ≤ 16384 → names_in (commits_in log) ≤ 131072 → IsClient h log (with_commit c N)
-  client_committed log c D N k shown fits rev none few few_names all =
+  -- with no transaction open any more, and with these ids generated
+  pub client_committed : (log : List Entry) (c : Client) (ids : ℕ) (D : Document) (N : Intent) → IsClient h log c → HasMain h log c D → Fits D N → N.rev.session ≡ c.session → N.rev.num ≤ ids → c.ids ≤ ids
+      → (Has (revisions (log_and_queue log c) ++ opening ∷ []) N.rev → ⊥) → length c.pending < 256 → names_in c.pending + names_made N ≤ 16384 → names_in (commits_in log) ≤ 131072
+      → IsClient h log (record (with_commit c N) { ids = ids; transaction = None })
+  client_committed log c ids D N k shown fits session num more_ids fresh few few_names all =
       let O = opening_document h in
       let A = received_by log c in
       let B = commits_by c.session (drop c.received log) in
       let Q = intents_of c.queue in
       let more : log_and_queue log c ++ N ∷ [] ≡ log_and_queue log (with_commit c N) = append_assoc (commits_in log) Q (N ∷ []) ∙ ap (λ l. commits_in log ++ l) (sym (texts_append c.queue (Commit c.received N ∷ []))) in
-      let fresh = next_new log c N.rev k rev in
       let sound = shown_sound log c D k shown in
       let one_name : names_in (N ∷ []) ≡ names_made N = omega arith in
       let room_all : HasRoom O (log_and_queue log c ++ N ∷ []) = room_left O (log_and_queue log c ++ N ∷ []) st (omega (arith, names_append (log_and_queue log c) (N ∷ []), sent_few log c k, one_name, few_names, all)) in
       let room_shown : HasRoom O ((A ++ c.pending) ++ N ∷ []) =
       room_left O ((A ++ c.pending) ++ N ∷ []) st (omega (arith, names_append (A ++ c.pending) (N ∷ []), fewer_names (shown_among log c k), sent_few log c k, one_name, few_names, all)) in
       let last = one_fits D N sound fits (room_in_run (N ∷ []) st.sound k.shown_fit shown room_shown) in
+      let few_now : names_in (c.pending ++ N ∷ []) ≤ 16384 = omega (arith, names_append c.pending (N ∷ []), one_name, few_names) in
       record {
         within = k.within;
         few = omega (arith, length-append c.pending (N ∷ []), few);
-        few_names = omega (arith, names_append c.pending (N ∷ []), one_name, few_names);
+        few_names = few_now;
         under_way = ap (λ l. l ++ N ∷ []) k.under_way ∙ append_assoc B Q (N ∷ []) ∙ ap (λ l. B ++ l) (sym (texts_append c.queue (Commit c.received N ∷ [])));
         shown_fit = subst (FitInTurn O) (append_assoc A c.pending (N ∷ [])) (then_one (A ++ c.pending) (N ∷ []) k.shown_fit shown last);
         sent_fit = subst (FitInTurn O) more (later_fits (opening ∷ []) O D (A ++ c.pending) (log_and_queue log c) N st.sound st.made (shown_among log c k) k.shown_fit k.sent_fit shown fits fresh room_all);
         new = subst (HaveNewRevisions (opening ∷ [])) more (new_more (opening ∷ []) (log_and_queue log c) N k.new fresh);
-        own = subst (AllByRecursion (λ (M : Intent). M.rev.session ≡ c.session)) (sym (texts_append c.queue (Commit c.received N ∷ []))) (AllByRecursion-append (λ (M : Intent). M.rev.session ≡ c.session) Q (N ∷ []) k.own (ap (λ (r : Rev). r.session) rev, tt));
-        ids = λ M i s. ids M (has-append (log_and_queue log c) (N ∷ []) M (subst (λ l. Has l M) (sym more) i)) s;
+        own = subst (AllByRecursion (λ (M : Intent). M.rev.session ≡ c.session)) (sym (texts_append c.queue (Commit c.received N ∷ []))) (AllByRecursion-append (λ (M : Intent). M.rev.session ≡ c.session) Q (N ∷ []) k.own (session, tt));
+        ids = λ M i s. lower M (has-append (log_and_queue log c) (N ∷ []) M (subst (λ l. Has l M) (sym more) i)) s;
+        transaction = tt;
       }
     where
-      ids : (M : Intent) → Has (log_and_queue log c) M ⊎ Has (N ∷ []) M → M.rev.session ≡ c.session → M.rev.num ≤ c.ids + 1
-      ids M (inl i) s = omega (arith, k.ids M i s)
-      ids M (inr (inl e)) s = let num : M.rev.num ≡ c.ids + 1 = ap (λ (X : Intent). X.rev.num) (sym e) ∙ ap (λ (r : Rev). r.num) rev in omega (arith, num)
-      ids M (inr (inr i)) s = absurd i
+      lower : (M : Intent) → Has (log_and_queue log c) M ⊎ Has (N ∷ []) M → M.rev.session ≡ c.session → M.rev.num ≤ ids
+      lower M (inl i) s = omega (arith, k.ids M i s, more_ids)
+      lower M (inr (inl e)) s = omega (arith, num, ap (λ (X : Intent). X.rev.num) e)
+      lower M (inr (inr i)) s = absurd i
+
+  -- ## A transaction goes on beside
+
+  -- it stays a transaction where the line, the session and the ids stay, and its revision is still new
+  transaction_beside : (log log' : List Entry) (c c' : Client) (t : Transaction) → IsTransaction h log c t → c'.session ≡ c.session → c'.ids ≡ c.ids → c'.pending ≡ c.pending → received_by log' c' ≡ received_by log c
+      → (Has (revisions (log_and_queue log' c') ++ opening ∷ []) t.rev → ⊥) → IsTransaction h log' c' t
+  transaction_beside log log' c c' t k session ids pending received new = record {
+    session = k.session ∙ sym session;
+    num = omega (arith, k.num, ids);
+    new = new;
+    room = omega (arith, k.room, ap length pending);
+    counted = k.counted;
+    before = k.before;
+    main = subst (λ l. Run (opening_document h) l k.before) (ap (λ l. l ++ c.pending) (sym received) ∙ ap (λ l. received_by log' c' ++ l) (sym pending)) k.main;
+    under = k.under;
+    so_far = k.so_far;
+    sound = k.sound;
+    nodes = k.nodes;
+    cells = k.cells;
+  }
+
+  transactions_beside : (log log' : List Entry) (c c' : Client) (o : Option Transaction) → IfSome o (IsTransaction h log c) → c'.session ≡ c.session → c'.ids ≡ c.ids → c'.pending ≡ c.pending → received_by log' c' ≡ received_by log c
+      → ((t : Transaction) → IsTransaction h log c t → Has (revisions (log_and_queue log' c') ++ opening ∷ []) t.rev → ⊥) → IfSome o (IsTransaction h log' c')
+  transactions_beside log log' c c' None k session ids pending received new = tt
+  transactions_beside log log' c c' (Some t) k session ids pending received new = transaction_beside log log' c c' t k session ids pending received (new t k)
+
+  none_open : (o : Option Transaction) (P : Transaction → Type 0) → o ≡ None → IfSome o P
+  none_open o P none = subst (λ x. IfSome x P) (sym none) tt
 
   -- ## An entry is received
 
@@ -209,8 +246,8 @@ module _ (h : HeaderView) (st : IsStart (opening_document h)) where
       k.under_way ∙ ap (λ l. commits_by c.session l ++ intents_of c.queue) (drop-slice_get log c.received e at) ∙ ap (λ l. l ++ intents_of c.queue) (by_own c.session e (drop (c.received + 1) log) N own is)
 
   pub client_own : (log : List Entry) (c : Client) (e : Entry) (N : Intent) (rest : List Intent) → IsClient h log c → slice_get log c.received ≡ Some e → commit_of e ≡ Some N → (e.session == c.session) ≡ true
-      → rest ≡ drop 1 c.pending → IsClient h log (record c { received = c.received + 1; pending = rest })
-  client_own log c e N rest k at is own rest_is =
+      → rest ≡ drop 1 c.pending → c.transaction ≡ None → IsClient h log (record c { received = c.received + 1; pending = rest })
+  client_own log c e N rest k at is own rest_is none =
       let first = own_first log c e N k at is own in
       let same : rest ≡ commits_by c.session (drop (c.received + 1) log) ++ intents_of c.queue = rest_is ∙ ap (λ l. drop 1 l) first in
       let head : c.pending ≡ N ∷ rest = first ∙ ap (λ l. N ∷ l) (sym same) in
@@ -219,16 +256,19 @@ module _ (h : HeaderView) (st : IsStart (opening_document h)) where
       let all : A ++ c.pending ≡ commits_in (take (c.received + 1) log) ++ rest = ap (λ l. A ++ l) head ∙ sym (append_assoc A (N ∷ []) rest) ∙ ap (λ l. l ++ rest) (sym now) in
       let size : length c.pending ≡ suc (length rest) = ap length head in
       let names : names_in c.pending ≡ names_made N + names_in rest = ap names_in head in
+      let waiting : option_map_or names_made (joined_of c) 0 + names_in c.pending ≤ 16384 = k.few_names in
+      let fewer : option_map_or names_made (joined_of c) 0 + names_in rest ≤ 16384 = omega (arith, names, waiting) in
       record {
         within = omega (arith, slice_get_within log c.received e at);
         few = omega (arith, size, k.few);
-        few_names = omega (arith, names, k.few_names);
+        few_names = fewer;
         under_way = same;
         shown_fit = subst (FitInTurn (opening_document h)) all k.shown_fit;
         sent_fit = k.sent_fit;
         new = k.new;
         own = k.own;
         ids = k.ids;
+        transaction = none_open c.transaction _ none;
       }
 
   -- what the log has and what waits, told around an entry
@@ -259,8 +299,8 @@ module _ (h : HeaderView) (st : IsStart (opening_document h)) where
       (room_left O (A ++ N ∷ c.pending) st (omega (arith, fewer_names among, sent_few log c k, all)))
 
   pub client_other : (log : List Entry) (c : Client) (e : Entry) (N : Intent) → IsClient h log c → slice_get log c.received ≡ Some e → commit_of e ≡ Some N → (e.session == c.session) ≡ false
-      → names_in (commits_in log) ≤ 131072 → IsClient h log (record c { received = c.received + 1 })
-  client_other log c e N k at is other all =
+      → names_in (commits_in log) ≤ 131072 → c.transaction ≡ None → IsClient h log (record c { received = c.received + 1 })
+  client_other log c e N k at is other all none =
       let A = received_by log c in
       let now : commits_in (take (c.received + 1) log) ≡ A ++ N ∷ [] = received_more log c e at ∙ ap (λ l. A ++ l) (one_commit e N is) in
       record {
@@ -273,10 +313,11 @@ module _ (h : HeaderView) (st : IsStart (opening_document h)) where
         new = k.new;
         own = k.own;
         ids = k.ids;
+        transaction = none_open c.transaction _ none;
       }
 
-  pub client_none : (log : List Entry) (c : Client) (e : Entry) → IsClient h log c → slice_get log c.received ≡ Some e → commit_of e ≡ None → IsClient h log (record c { received = c.received + 1 })
-  client_none log c e k at is =
+  pub client_none : (log : List Entry) (c : Client) (e : Entry) → IsClient h log c → slice_get log c.received ≡ Some e → commit_of e ≡ None → c.transaction ≡ None → IsClient h log (record c { received = c.received + 1 })
+  client_none log c e k at is none =
       let A = received_by log c in
       let now : commits_in (take (c.received + 1) log) ≡ A = received_more log c e at ∙ ap (λ l. A ++ l) (no_commit e is) ∙ append-nil A in
       record {
@@ -289,6 +330,7 @@ module _ (h : HeaderView) (st : IsStart (opening_document h)) where
         new = k.new;
         own = k.own;
         ids = k.ids;
+        transaction = none_open c.transaction _ none;
       }
 
   -- ## The log grows
@@ -312,6 +354,8 @@ module _ (h : HeaderView) (st : IsStart (opening_document h)) where
         new = subst (HaveNewRevisions (opening ∷ [])) all k.new;
         own = k.own;
         ids = λ N i s. k.ids N (subst (λ l. Has l N) (sym all) i) s;
+        transaction = transactions_beside log (log_with log session text) c c c.transaction k.transaction refl refl refl (ap commits_in (entered_front log session text c.received k.within))
+            (λ t i j. i.new (subst (λ l. Has (revisions l ++ opening ∷ []) t.rev) (sym all) j));
       }
 
   -- of a client that joins
@@ -334,6 +378,7 @@ module _ (h : HeaderView) (st : IsStart (opening_document h)) where
         new = subst (HaveNewRevisions (opening ∷ [])) all new;
         own = tt;
         ids = λ N i s. absurd (none N (subst (λ l. Has l N) (sym all) i) s);
+        transaction = tt;
       }
     where
       drop_whole : (n : ℕ) (xs : List Entry) → length xs ≡ n → drop n xs ≡ []
@@ -363,6 +408,8 @@ module _ (h : HeaderView) (st : IsStart (opening_document h)) where
         new = subst (HaveNewRevisions (opening ∷ [])) all k.new;
         own = all_behind (λ (M : Intent). M.rev.session ≡ c.session) X R (subst (AllByRecursion (λ (M : Intent). M.rev.session ≡ c.session)) waiting k.own);
         ids = λ M i s. k.ids M (subst (λ l. Has l M) (sym all) i) s;
+        transaction = transactions_beside log (log_with log c.session text) c (record c { queue = rest }) c.transaction k.transaction refl refl refl (ap commits_in (entered_front log c.session text c.received k.within))
+            (λ t i j. i.new (subst (λ l. Has (revisions l ++ opening ∷ []) t.rev) (sym all) j));
       }
 
   -- of each other client, after a commit
@@ -397,10 +444,27 @@ module _ (h : HeaderView) (st : IsStart (opening_document h)) where
         new = subst (HaveNewRevisions (opening ∷ [])) all new;
         own = l.own;
         ids = λ M i s. ids N mine M (has-append L (N ∷ Q) M (subst (λ x. Has x M) (sym all) i)) s;
+        transaction = transactions_beside log (log_with log c.session text) d d d.transaction l.transaction refl refl refl (ap commits_in (entered_front log c.session text d.received l.within))
+            (λ t i j. apart_from t N mine i (has-append (revisions (L ++ N ∷ Q)) (opening ∷ []) t.rev (subst (λ x. Has (revisions x ++ opening ∷ []) t.rev) (sym all) j)));
       }
     where
       differ : c.session ≡ d.session → ⊥
       differ s = grind (arith, nat_tests)
+
+      -- the revision of its transaction is not that of the commit, nor of another
+      apart_from : (t : Transaction) (N : Intent) → N.rev.session ≡ c.session → IsTransaction h log d t → Has (revisions (commits_in log ++ N ∷ intents_of d.queue)) t.rev ⊎ Has (opening ∷ []) t.rev → ⊥
+      apart_from t N mine i (inr j) = i.new (append_right (revisions (log_and_queue log d)) (opening ∷ []) t.rev j)
+      apart_from t N mine i (inl j) =
+          let m = has-map (λ (X : Intent). X.rev) (commits_in log ++ N ∷ intents_of d.queue) t.rev j in
+          place m.0 m.2 (has-append (commits_in log) (N ∷ intents_of d.queue) m.0 m.1)
+        where
+          known : (M : Intent) → M.rev ≡ t.rev → Has (log_and_queue log d) M → ⊥
+          known M e q = i.new (append_left (revisions (log_and_queue log d)) (opening ∷ []) t.rev (subst (Has (revisions (log_and_queue log d))) e (map-has (λ (X : Intent). X.rev) (log_and_queue log d) M q)))
+
+          place : (M : Intent) → M.rev ≡ t.rev → Has (commits_in log) M ⊎ Has (N ∷ intents_of d.queue) M → ⊥
+          place M e (inl q) = known M e (append_left (commits_in log) (intents_of d.queue) M q)
+          place M e (inr (inl same)) = differ (sym mine ∙ ap (λ (X : Intent). X.rev.session) same ∙ ap (λ (r : Rev). r.session) e ∙ i.session)
+          place M e (inr (inr q)) = known M e (append_right (commits_in log) (intents_of d.queue) M q)
 
       fresh : (N : Intent) (R : List Intent) → N.rev.session ≡ c.session → HaveNewRevisions (opening ∷ []) (commits_in log ++ N ∷ R)
           → Has (revisions (commits_in log ++ intents_of d.queue)) N.rev ⊎ Has (opening ∷ []) N.rev → ⊥

@@ -5,10 +5,10 @@ use Rattle.std.proofs.lemmas.Bool.Decides.{nat_tests}
 use Rattle.st_script.specs.Header.{HeaderView}
 use Rattle.st_trace.specs.Replicas.{IsClient, IsReplicaOf, AreReplicas, HaveSessionsFrom}
 use Rattle.st_lists.specs.Log.{log_with, commits_in}
-use Rattle.st_lists.specs.Names.{names_in, names_in_text, names_made}
+use Rattle.st_lists.specs.Names.{names_in, names_in_text}
 use Rattle.st_trace.specs.World.{opening_document}
 use Rattle.st_trace.specs.declared.replica.Replica.{Replica}
-use Rattle.st_lists.specs.declared.lists.Body.TheVariants.{Join, Commit}
+use Rattle.st_lists.specs.declared.lists.Body.TheVariants.{Join}
 use Rattle.st_lists.specs.declared.lists.Client.{Client}
 use Rattle.st_lists.specs.declared.lists.Entry.{Entry}
 use Rattle.st_trace.proofs.Begun.{IsStart}

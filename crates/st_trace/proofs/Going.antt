@@ -1,5 +1,5 @@
 -- The lists of a world by themselves: what holds of them holds after each step.
-use Rattle.std.proofs.Common.{◌≡◌, ◌≤◌, ◌<◌, ◌+◌, ◌==◌, ℕ, zero, suc, Bool, true, false, List, [], ◌∷◌, ◌++◌, length, length-append, drop, Option, Some, None, Result, Ok, Err, refl, sym, ap, ◌∙◌, subst, arith}
+use Rattle.std.proofs.Common.{◌≡◌, ◌≤◌, ◌<◌, ◌+◌, ◌==◌, ℕ, zero, suc, Bool, true, false, List, [], ◌∷◌, ◌++◌, length, length-append, drop, Option, Some, None, IfSome, Result, Ok, Err, refl, sym, ap, ◌∙◌, subst, arith}
 use Rattle.std.specs.List.{slice_get, slice_set, AllByRecursion}
 use Rattle.std.proofs.Math.ListN.{length-set}
 use Rattle.std.proofs.lemmas.Bool.Decides.{nat_tests}
@@ -9,29 +9,36 @@ use Rattle.st_tree.specs.declared.edit.EditFault.{EditFault}
 use Rattle.st_marks.specs.declared.intents.Intent.{Intent}
 use Rattle.st_marks.specs.Document.{Document}
 use Rattle.st_ids.specs.Root.{opening}
-use Rattle.st_marks.specs.Intent.{Fits}
 use Rattle.st_log_laws.specs.Names.{HaveNewRevisions}
 use Rattle.st_log_laws.specs.Turns.{FitInTurn}
 use Rattle.st_script.specs.Header.{HeaderView, header_view}
 use Rattle.st_script.specs.declared.answer.Answer.{Answer}
-use Rattle.st_trace.specs.Replicas.{HaveSessionsFrom, IsClient, IsEntryOf, IsHeader, IsSound, KeepToSchema}
+use Rattle.st_trace.specs.Replicas.{HasMain, HaveSessionsFrom, IsClient, IsEntryOf, IsHeader, IsSound, IsTransaction, KeepToSchema}
 use Rattle.st_lists.specs.Log.{commit_of, commits_in, commits_of_text, log_with}
-use Rattle.st_lists.specs.Clients.{HasShown, empty_state, new_client, next_rev, pending_after, with_received}
-use Rattle.st_trace.specs.World.{IsDeliveredTo, after_edit, opening_document, with_pending}
-use Rattle.st_lists.specs.Limits.{limit_passed}
+use Rattle.st_lists.specs.Clients.{empty_state, joined_of, new_client, pending_after, with_begun, with_commit, with_new_commit, with_received, without_transaction}
+use Rattle.st_lists.specs.Lines.{main_line}
+use Rattle.st_heads.specs.Transactions.{with_open}
+use Rattle.st_marks.proofs.OneVerdict.{one_run}
+use Rattle.std.specs.Option.{option_and_then, option_map_or}
+use Rattle.st_ids.specs.declared.names.Rev.{Rev}
+use Rattle.st_trace.specs.World.{HasShown, IsAfterEdit, IsAfterNeed, IsDeliveredIn, IsDeliveredTo, IsEditedIn, IsJoined, abort, after_edit, begin, commit, committed, last_in_effect, next_names, opening_document, with_beginning, with_pending}
+use Rattle.st_lists.specs.Limits.{limit_passed, names_limit_passed, pending_limit_passed}
 use Rattle.st_lists.specs.Names.{names_in, names_in_text, names_made}
 use Rattle.st_trace.specs.declared.client.EditWord.{EditWord}
 use Rattle.st_lists.specs.declared.lists.Body.TheVariants.{Join, Commit}
 use Rattle.st_lists.specs.declared.lists.Client.{Client}
 use Rattle.st_lists.specs.declared.lists.Entry.{Entry}
+use Rattle.st_lists.specs.declared.lists.Transaction.{Transaction}
 use Rattle.st_lists.specs.declared.lists.WorldState.{WorldState}
 use Rattle.st_trace.specs.declared.world.World.{World}
-use Rattle.st_trace.proofs.Agreed.{begun_keeps, joined_keeps, sent_keeps}
+use Rattle.st_trace.proofs.Agreed.{begun_keeps, committed_keeps, delivered_keeps, edited_keeps, ended_keeps, joined_keeps, parted_keeps, same_keeps, sent_keeps}
 use Rattle.st_trace.proofs.Begun.{IsStart, opened_start}
-use Rattle.st_trace.proofs.Clients.{client_after_text, client_beside, client_committed, client_joined, client_none, client_other, client_own, client_sent}
+use Rattle.st_trace.proofs.Clients.{client_after_text, client_beside, client_committed, client_joined, client_none, client_other, client_own, client_sent, next_new}
+use Rattle.st_trace.proofs.Meant.{IsMeaning, IsMeant}
+use Rattle.st_trace.proofs.Parts.{client_begun, client_commits, client_ended, client_parted}
 use Rattle.st_lists.proofs.Names.{names_append, names_of_text}
 use Rattle.st_trace.proofs.Everyone.{all_as, all_get, all_set, clients_of, session_at, session_bound, sessions_push, sessions_set}
-use Rattle.st_trace.proofs.Keeping.{within_limits}
+use Rattle.st_trace.proofs.Keeping.{within_limits, within_names, within_pending}
 use Rattle.st_lists.proofs.Logs.{entered_commits, last_entry}
 use Rattle.st_trace.proofs.Stepping.{is_last, of_sessions}
 use Rattle.st_lemmas.proofs.Lists.{AllByRecursion-append}
@@ -90,41 +97,192 @@ set_sound h w i c c' s at client session keeps = record {
 }
 
 module _ (h : HeaderView) (st : IsStart (opening_document h)) where
-  pub client_edited : (log : List Entry) (c c' : Client) (D : Document) (word : EditWord) (r : Result Intent EditFault) (a : Answer) → IsClient h log c → names_in (commits_in log) ≤ 131072 → HasShown (opening_document h) log c D
-      → ((N : Intent) → r ≡ Ok N → Fits D N × (N.rev ≡ next_rev c) × (N.schema ≡ None)) → after_edit c word r ≡ (c', a) → IsClient h log c'
-  client_edited log c c' D word (Err f) a k all shown meant is = subst (IsClient h log) (ap (λ (p : Client × Answer). p.0) is) k
-  client_edited log c c' D word (Ok N) a k all shown meant is = go (limit_passed c N) refl is
+  -- where no transaction is open
+  client_edited : (log : List Entry) (c c' : Client) (D : Document) (word : EditWord) (r : Result Intent EditFault) (a : Answer) → IsClient h log c → names_in (commits_in log) ≤ 131072 → c.transaction ≡ None → HasMain h log c D
+      → IsMeaning h.schema D (next_names c None) word r → after_edit c word r ≡ (c', a) → IsClient h log c'
+  client_edited log c c' D word (Err f) a k all none main means is = subst (IsClient h log) (ap (λ (p : Client × Answer). p.0) is) k
+  client_edited log c c' D word (Ok N) a k all none main means is = go (limit_passed c N) refl is
     where
       go : (o : Option Limit) → limit_passed c N ≡ o → with_pending c word N o ≡ (c', a) → IsClient h log c'
       go (Some l) e is = subst (IsClient h log) (ap (λ (p : Client × Answer). p.0) is) k
       go None e is =
-          let m = meant N refl in
+          let m = means N refl in
           let few = within_limits h st c N e in
-          subst (IsClient h log) (ap (λ (p : Client × Answer). p.0) is) (client_committed h st log c D N k shown m.0 m.1 m.2 few.0 few.1 all)
+          let session : N.rev.session ≡ c.session = ap (λ (r : Rev). r.session) m.rev in
+          let num : N.rev.num ≡ c.ids + 1 = ap (λ (r : Rev). r.num) m.rev in
+          let waiting : (option_map_or names_made (joined_of c) 0 + names_in c.pending) + names_made N ≤ 16384 = few.1 in
+          let names : names_in c.pending + names_made N ≤ 16384 = omega (arith, waiting) in
+          let now = client_committed h st log c (c.ids + 1) D N k main m.fits session (omega (arith, num)) (omega arith) (next_new h st log c N.rev k m.rev) few.0 names all in
+          subst (IsClient h log) (ap (λ (p : Client × Answer). p.0) is) (subst (λ (o : Option Transaction). IsClient h log (record (with_commit c N) { ids = c.ids + 1; transaction = o })) (sym none) now)
 
-  client_taken : (log : List Entry) (c : Client) (e : Entry) → IsClient h log c → names_in (commits_in log) ≤ 131072 → slice_get log c.received ≡ Some e → IsClient h log (with_received e c)
-  client_taken log c e k all at = go (commit_of e) refl
+  client_taken : (log : List Entry) (c : Client) (e : Entry) → IsClient h log c → names_in (commits_in log) ≤ 131072 → slice_get log c.received ≡ Some e → c.transaction ≡ None → IsClient h log (with_received e c)
+  client_taken log c e k all at none = go (commit_of e) refl
     where
       by : (N : Intent) → commit_of e ≡ Some N → (b : Bool) → (e.session == c.session) ≡ b → IsClient h log (with_received e c)
       by N is true own =
           let same : drop 1 c.pending ≡ pending_after e c = sym (rw (is, own) refl) in
-          subst (λ (l : List Intent). IsClient h log (record c { received = c.received + 1; pending = l })) same (client_own h st log c e N (drop 1 c.pending) k at is own refl)
+          subst (λ (l : List Intent). IsClient h log (record c { received = c.received + 1; pending = l })) same (client_own h st log c e N (drop 1 c.pending) k at is own refl none)
       by N is false other =
           let same : c.pending ≡ pending_after e c = sym (rw (is, other) refl) in
-          subst (λ (l : List Intent). IsClient h log (record c { received = c.received + 1; pending = l })) same (client_other h st log c e N k at is other all)
+          subst (λ (l : List Intent). IsClient h log (record c { received = c.received + 1; pending = l })) same (client_other h st log c e N k at is other all none)
 
       go : (o : Option Intent) → commit_of e ≡ o → IsClient h log (with_received e c)
       go (Some N) is = by N is (e.session == c.session) refl
       go None is =
           let same : c.pending ≡ pending_after e c = sym (rw is refl) in
-          subst (λ (l : List Intent). IsClient h log (record c { received = c.received + 1; pending = l })) same (client_none h st log c e k at is)
+          subst (λ (l : List Intent). IsClient h log (record c { received = c.received + 1; pending = l })) same (client_none h st log c e k at is none)
 
-  pub client_delivered : (log : List Entry) (c c' : Client) (D : Document) (a : Answer) → IsClient h log c → names_in (commits_in log) ≤ 131072 → IsDeliveredTo D c (slice_get log c.received) c' a → IsClient h log c'
-  client_delivered log c c' D a k all done = go (slice_get log c.received) refl done
+  client_delivered : (log : List Entry) (c c' : Client) (D : Document) (a : Answer) → IsClient h log c → names_in (commits_in log) ≤ 131072 → c.transaction ≡ None → IsDeliveredTo D c (slice_get log c.received) c' a → IsClient h log c'
+  client_delivered log c c' D a k all none done = go (slice_get log c.received) refl done
     where
       go : (o : Option Entry) → slice_get log c.received ≡ o → IsDeliveredTo D c o c' a → IsClient h log c'
       go None at done = subst (IsClient h log) (sym done.0) k
-      go (Some e) at done = subst (IsClient h log) (sym done.2) (client_taken log c e k all at)
+      go (Some e) at done = subst (IsClient h log) (sym done.2) (client_taken log c e k all at none)
+
+  -- ## One client's steps
+
+  -- a client after a step: it is one still, its session stays, it has at most one more id, and all agrees with the schema
+  pub record GoesOn (log : List Entry) (cs : List Client) (i : ℕ) (c c' : Client) : Type 0 where
+    pub client : IsClient h log c'
+    pub session : c'.session ≡ c.session
+    pub ids : c'.ids ≤ c.ids + 1
+    pub keeps : KeepToSchema h log (slice_set cs i c')
+
+  module _ (log : List Entry) (cs : List Client) (sessions : HaveSessionsFrom 1 cs) (are : AllByRecursion (IsClient h log) cs) (few : names_in (commits_in log) ≤ 131072) (keeps : KeepToSchema h log cs)
+      (i : ℕ) (c : Client) (at : slice_get cs i ≡ Some c) where
+    k : IsClient h log c
+    k = all_get (IsClient h log) cs i c are at
+
+    stays : (c' : Client) → c' ≡ c → GoesOn log cs i c c'
+    stays c' same = record {
+      client = subst (IsClient h log) (sym same) k;
+      session = ap (λ (x : Client). x.session) same;
+      ids = omega (arith, ap (λ (x : Client). x.ids) same);
+      keeps = same_keeps h st log cs i c c' at (sym same) keeps;
+    }
+
+    goes_as : (d c' : Client) → c' ≡ d → GoesOn log cs i c d → GoesOn log cs i c c'
+    goes_as d c' same g = subst (GoesOn log cs i c) (sym same) g
+
+    edited_on : (c' : Client) (word : EditWord) (r : Result Intent EditFault) (a : Answer) → after_edit c word r ≡ (c', a) → (c'.session ≡ c.session) × (c'.ids ≤ c.ids + 1)
+    edited_on c' word (Err f) a is = let same : c ≡ c' = ap (λ (p : Client × Answer). p.0) is in (ap (λ (x : Client). x.session) (sym same), omega (arith, ap (λ (x : Client). x.ids) same))
+    edited_on c' word (Ok N) a is = go (limit_passed c N) is
+      where
+        go : (o : Option Limit) → with_pending c word N o ≡ (c', a) → (c'.session ≡ c.session) × (c'.ids ≤ c.ids + 1)
+        go (Some l) is = let same : c ≡ c' = ap (λ (p : Client × Answer). p.0) is in (ap (λ (x : Client). x.session) (sym same), omega (arith, ap (λ (x : Client). x.ids) same))
+        go None is = let same : with_new_commit c N ≡ c' = ap (λ (p : Client × Answer). p.0) is in (ap (λ (x : Client). x.session) (sym same), omega (arith, ap (λ (x : Client). x.ids) same))
+
+    -- what an edit means in the document of an open transaction
+    pub meant_in : (E : Document) (t : Transaction) (word : EditWord) (M : Intent) (x : IsTransaction h log c t) (D : Document) → HasMain h log c D → E ≡ with_open D t.joined → IsMeant h.schema E (next_names c (Some t)) word M
+        → IsMeant h.schema (with_open x.before t.joined) (next_names c (Some t)) word M
+    meant_in E t word M x D main same m =
+        let here : E ≡ with_open x.before t.joined = same ∙ ap (λ F. with_open F t.joined) (one_run main x.main) in
+        subst (λ F. IsMeant h.schema F (next_names c (Some t)) word M) here m
+
+    goes_in : (c' : Client) (D E : Document) (t : Transaction) (word : EditWord) (r : Result Intent EditFault) (a : Answer) → c.transaction ≡ Some t → IsTransaction h log c t → HasMain h log c D → E ≡ with_open D t.joined
+        → IsMeaning h.schema E (next_names c (Some t)) word r → IsEditedIn c t word r c' a → GoesOn log cs i c c'
+    goes_in c' D E t word (Err f) a is x main same means done = stays c' done.0
+    goes_in c' D E t word (Ok M) a is x main same means done = go (names_limit_passed c M) refl done
+      where
+        go : (o : Option Limit) → names_limit_passed c M ≡ o → IsJoined c t word M o c' a → GoesOn log cs i c c'
+        go (Some l) e done = stays c' done.0
+        go None e done =
+            let m = meant_in E t word M x D main same (means M refl) in
+            goes_as _ c' done.2 (record {
+              client = client_parted h st log c t word M k is few x m done.0 done.1 (within_names h st c M e);
+              session = refl;
+              ids = omega arith;
+              keeps = parted_keeps h st log cs i c t word M done.0 sessions are few at is x m done.1 keeps;
+            })
+
+    pub edit_goes : (c' : Client) (E : Document) (word : EditWord) (r : Result Intent EditFault) (a : Answer) → HasShown (opening_document h) log (main_line c) E → IsMeaning h.schema E (next_names c c.transaction) word r
+        → IsAfterEdit c c.transaction word r c' a → GoesOn log cs i c c'
+    edit_goes c' E word r a shown means done = go c.transaction refl k.transaction shown.2 means done
+      where
+        D : Document
+        D = shown.0
+
+        go : (o : Option Transaction) → c.transaction ≡ o → IfSome o (IsTransaction h log c) → E ≡ with_open D (option_and_then (λ (t : Transaction). t.joined) o) → IsMeaning h.schema E (next_names c o) word r → IsAfterEdit c o word r c' a → GoesOn log cs i c c'
+        go None none x same means done =
+            let here = subst (λ F. IsMeaning h.schema F (next_names c None) word r) same means in
+            let on = edited_on c' word r a done in
+            record {
+              client = client_edited log c c' D word r a k few none shown.1 here done;
+              session = on.0;
+              ids = on.1;
+              keeps = edited_keeps h st log cs i c c' D word r a sessions are few at none shown.1 here done keeps;
+            }
+        go (Some t) is x same means done = goes_in c' D E t word r a is x shown.1 same means done
+
+    pub need_goes : (c' : Client) (E : Document) (r : Result Intent EditFault) (a : Answer) → HasShown (opening_document h) log (main_line c) E → IsMeaning h.schema E (next_names c c.transaction) EditWord.Need r
+        → IsAfterNeed c c.transaction r c' a → GoesOn log cs i c c'
+    need_goes c' E r a shown means done = go c.transaction refl k.transaction shown.2 means done
+      where
+        go : (o : Option Transaction) → c.transaction ≡ o → IfSome o (IsTransaction h log c) → E ≡ with_open shown.0 (option_and_then (λ (t : Transaction). t.joined) o) → IsMeaning h.schema E (next_names c o) EditWord.Need r → IsAfterNeed c o r c' a → GoesOn log cs i c c'
+        go None none x same means done = stays c' done.0
+        go (Some t) is x same means done = goes_in c' shown.0 E t EditWord.Need r a is x shown.1 same means done
+
+    pub begin_goes : (c' : Client) (E : Document) (a : Answer) → HasShown (opening_document h) log (main_line c) E → begin c c.transaction (last_in_effect E) ≡ (c', a) → GoesOn log cs i c c'
+    begin_goes c' E a shown done = go c.transaction refl shown.2 done
+      where
+        begun : E ≡ shown.0 → c.transaction ≡ None → (o : Option Limit) → pending_limit_passed c ≡ o → with_beginning c (last_in_effect E) o ≡ (c', a) → GoesOn log cs i c c'
+        begun same none (Some l) e done = stays c' (ap (λ (p : Client × Answer). p.0) (sym done))
+        begun same none None e done =
+            goes_as (with_begun c (last_in_effect E)) c' (ap (λ (p : Client × Answer). p.0) (sym done)) (record {
+              client = client_begun h st log c E k (subst (HasMain h log c) (sym same) shown.1) (within_pending h st c e);
+              session = refl;
+              ids = omega arith;
+              keeps = ended_keeps h st log cs i c (with_begun c (last_in_effect E)) at refl refl refl keeps;
+            })
+
+        go : (o : Option Transaction) → c.transaction ≡ o → E ≡ with_open shown.0 (option_and_then (λ (t : Transaction). t.joined) o) → begin c o (last_in_effect E) ≡ (c', a) → GoesOn log cs i c c'
+        go (Some t) is same done = stays c' (ap (λ (p : Client × Answer). p.0) (sym done))
+        go None is same done = begun same is (pending_limit_passed c) refl done
+
+    ended : GoesOn log cs i c (without_transaction c)
+    ended = record { client = client_ended h st log c k; session = refl; ids = omega arith; keeps = ended_keeps h st log cs i c (without_transaction c) at refl refl refl keeps }
+
+    pub commit_goes : (c' : Client) (a : Answer) → commit c c.transaction ≡ (c', a) → GoesOn log cs i c c'
+    commit_goes c' a done = go c.transaction refl k.transaction done
+      where
+        by : (t : Transaction) (o : Option Intent) → c.transaction ≡ Some t → t.joined ≡ o → IsTransaction h log c t → committed (without_transaction c) t.rev o ≡ (c', a) → GoesOn log cs i c c'
+        by t None is joined x done = goes_as (without_transaction c) c' (ap (λ (p : Client × Answer). p.0) (sym done)) ended
+        by t (Some J) is joined x done =
+            goes_as (with_commit (without_transaction c) J) c' (ap (λ (p : Client × Answer). p.0) (sym done)) (record {
+              client = client_commits h st log c t J k is joined x few;
+              session = refl;
+              ids = omega arith;
+              keeps = committed_keeps h st log cs i c x.before J at x.main (ap (λ (o : Option Transaction). option_and_then (λ (y : Transaction). y.joined) o) is ∙ joined) keeps;
+            })
+
+        go : (o : Option Transaction) → c.transaction ≡ o → IfSome o (IsTransaction h log c) → commit c o ≡ (c', a) → GoesOn log cs i c c'
+        go None is x done = stays c' (ap (λ (p : Client × Answer). p.0) (sym done))
+        go (Some t) is x done = by t t.joined is refl x done
+
+    pub abort_goes : (c' : Client) (a : Answer) → abort c c.transaction ≡ (c', a) → GoesOn log cs i c c'
+    abort_goes c' a done = go c.transaction done
+      where
+        go : (o : Option Transaction) → abort c o ≡ (c', a) → GoesOn log cs i c c'
+        go None done = stays c' (ap (λ (p : Client × Answer). p.0) (sym done))
+        go (Some t) done = goes_as (without_transaction c) c' (ap (λ (p : Client × Answer). p.0) (sym done)) ended
+
+    delivered_on : (c' : Client) (D : Document) (o : Option Entry) (a : Answer) → IsDeliveredTo D c o c' a → (c'.session ≡ c.session) × (c'.ids ≤ c.ids + 1)
+    delivered_on c' D None a done = (ap (λ (x : Client). x.session) done.0, omega (arith, ap (λ (x : Client). x.ids) done.0))
+    delivered_on c' D (Some e) a done = (ap (λ (x : Client). x.session) done.2, omega (arith, ap (λ (x : Client). x.ids) done.2))
+
+    pub delivery_goes : (c' : Client) (D : Document) (a : Answer) → IsDeliveredIn D c c.transaction (slice_get log c.received) c' a → GoesOn log cs i c c'
+    delivery_goes c' D a done = go c.transaction refl done
+      where
+        go : (o : Option Transaction) → c.transaction ≡ o → IsDeliveredIn D c o (slice_get log c.received) c' a → GoesOn log cs i c c'
+        go (Some t) is done = stays c' done.0
+        go None none done =
+            let on = delivered_on c' D (slice_get log c.received) a done in
+            record {
+              client = client_delivered log c c' D a k few none done;
+              session = on.0;
+              ids = on.1;
+              keeps = delivered_keeps h st log cs i c c' D a are few at none done keeps;
+            }
 
   -- ## The oldest text of a client is in the log
 

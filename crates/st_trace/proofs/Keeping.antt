@@ -1,5 +1,5 @@
 -- What is kept of a client stands for its lists after each of its steps.
-use Rattle.std.proofs.Common.{◌≡◌, ◌≤◌, ◌<◌, ◌+◌, ◌==◌, ℕ, Bool, true, false, cond, List, [], ◌∷◌, ◌++◌, length, take, drop, Option, Some, None, IfSome, nat_le, nat_lt, Result, Ok, Err, refl, sym, ap, ◌∙◌, subst, arith, append_assoc}
+use Rattle.std.proofs.Common.{◌≡◌, ◌≤◌, ◌<◌, ◌+◌, ◌-◌, ◌==◌, ℕ, Bool, true, false, cond, List, [], ◌∷◌, ◌++◌, length, take, drop, Option, Some, None, IfSome, nat_le, nat_lt, Result, Ok, Err, refl, sym, ap, ◌∙◌, subst, arith, append_assoc}
 use Rattle.std.specs.List.{slice_get}
 use Rattle.std.proofs.lemmas.Bool.Decides.{nat_tests}
 use Rattle.std.proofs.lemmas.List.{append-nil, take_all}
@@ -12,20 +12,28 @@ use Rattle.st_marks.specs.Document.{Document}
 use Rattle.st_marks.specs.Intent.{Fits}
 use Rattle.st_marks.specs.Run.{Run, done as nothing, next}
 use Rattle.st_marks.specs.Verdict.{IsVerdict, carried_document}
-use Rattle.st_marks.proofs.OneVerdict.{run_then, run_front, one_run, one_carried}
+use Rattle.st_marks.proofs.OneVerdict.{run_then}
 use Rattle.st_log_laws.specs.Turns.{FitInTurn}
-use Rattle.st_log_laws.proofs.Turns.{in_turn, rest as rest_fit}
+use Rattle.st_log_laws.proofs.Turns.{rest as rest_fit}
 use Rattle.st_doc.specs.Doc.{document_of}
 use Rattle.st_doc.specs.declared.doc.Doc.{Doc}
+use Rattle.st_heads.specs.declared.heads.Head.{Head}
+use Rattle.st_heads.specs.Remembered.{AreCarried, none as nothing_done}
+use Rattle.st_heads.proofs.Runs.{as_many, run_of, runs_joined}
 use Rattle.st_script.specs.Header.{HeaderView}
 use Rattle.st_script.specs.declared.answer.Answer.{Answer}
-use Rattle.st_trace.specs.Replicas.{IsClient, IsReplicaOf}
-use Rattle.st_trace.specs.inside.Replicas.{IsCommitted, IsPending, IsEditedReplica, CanReceive, CanCarry, HasMoved, HasReceivedNext, HasReceivedOf, HasReceivedOne}
+use Rattle.st_trace.specs.Replicas.{HasMain, IsClient, IsReplicaOf}
+use Rattle.st_trace.specs.inside.Replicas.{IsCommitted, IsPending, HasTaken, HasPart, HasCommittedOf, IsNewReplica, CanReceive, CanCarry, HasMoved, HasReceivedNext, HasReceivedOf, HasReceivedOne}
 use Rattle.st_lists.specs.Log.{commit_of, commits_in, log_with}
-use Rattle.st_trace.specs.World.{IsDeliveredTo, after_edit, opening_document, with_pending}
-use Rattle.st_lists.specs.Clients.{with_commit, new_client, next_rev, pending_after, received_by, with_received}
-use Rattle.st_lists.specs.Limits.{limit_passed}
-use Rattle.st_lists.specs.Names.{names_in, names_made}
+use Rattle.st_trace.specs.World.{HasShown, IsDeliveredTo, after_edit, cells_given, committed, opening_document, with_pending}
+use Rattle.st_lists.specs.Clients.{joined_of, with_begun, with_edited, with_new_commit, with_transaction, without_transaction, new_client, pending_after, received_by, with_received}
+use Rattle.st_lists.specs.Lines.{main_line}
+use Rattle.st_lists.specs.declared.lists.Transaction.{Transaction}
+use Rattle.st_heads.specs.Transactions.{HasOpen, with_open}
+use Rattle.st_ids.specs.declared.names.Rev.{Rev}
+use Rattle.std.specs.Option.{option_and_then, option_or}
+use Rattle.st_lists.specs.Limits.{limit_passed, names_limit_passed, pending_limit_passed}
+use Rattle.st_lists.specs.Names.{names_in, names_made, unsequenced}
 use Rattle.st_trace.specs.declared.client.EditWord.{EditWord}
 use Rattle.st_trace.specs.declared.replica.Replica.{Replica}
 use Rattle.st_lists.specs.declared.lists.Body.{Body}
@@ -33,79 +41,150 @@ use Rattle.st_lists.specs.declared.lists.Client.{Client}
 use Rattle.st_lists.specs.declared.lists.Entry.{Entry}
 use Rattle.st_trace.proofs.Begun.{IsStart}
 use Rattle.st_lists.proofs.Names.{names_append}
-use Rattle.st_trace.proofs.Clients.{client_committed, client_own, client_other, client_none, other_fit, own_first, received_more}
+use Rattle.st_trace.proofs.Clients.{other_fit, own_first, received_more}
+use Rattle.st_trace.proofs.Parts.{names_edited}
 use Rattle.st_lists.proofs.Logs.{one_commit, no_commit, entered_front}
+use Rattle.st_trace.proofs.Receiving.{rest_carried}
 
 -- one more commit is carried out
 pub run_more : {O D : Document} {Ns : List Intent} (N : Intent) (E : Document) (v : Verdict) → Run O Ns D → IsVerdict D N v → E ≡ carried_document v D N → Run O (Ns ++ N ∷ []) E
 run_more {O} {D} {Ns} N E v r a e = subst (λ F. Run O (Ns ++ N ∷ []) F) (sym e) (run_then r (next v a nothing))
 
--- an intent is carried out in two documents that are one
-pub both_carried : (D E X Y : Document) (N : Intent) (v w : Verdict) → D ≡ E → IsVerdict D N v → IsVerdict E N w → X ≡ carried_document v D N → Y ≡ carried_document w E N → X ≡ Y
-both_carried D E X Y N v w same a b x y = x ∙ ap (λ F. carried_document v F N) same ∙ one_carried E N v w (subst (λ F. IsVerdict F N v) same a) b ∙ sym y
+-- what is kept shows what the client does
+pub kept_main : (h : HeaderView) (log : List Entry) (c : Client) (k : Replica) → IsReplicaOf h log c k → HasMain h log c (document_of k.main.doc)
+kept_main h log c k w = run_then w.received (run_of w.own)
+
+pub kept_shown : (h : HeaderView) (log : List Entry) (c : Client) (k : Replica) → IsReplicaOf h log c k → HasShown (opening_document h) log (main_line c) (with_open (document_of k.main.doc) (joined_of c))
+kept_shown h log c k w = (document_of k.main.doc, kept_main h log c k w, refl)
 
 -- what a client and what is kept of it are together
 pub record AreOne (h : HeaderView) (log : List Entry) (c : Client) (k : Replica) : Type 0 where
   pub client : IsClient h log c
   pub kept : IsReplicaOf h log c k
 
-module _ (h : HeaderView) (st : IsStart (opening_document h)) where
-  -- ## Edits
+-- nothing is edited where no transaction is open
+pub none_edited : {h : HeaderView} {log : List Entry} (c : Client) (k : Replica) → c.transaction ≡ None → IsReplicaOf h log c k → k.main.edited ≡ None
+none_edited c k none w = subst (λ (o : Option Transaction). HasOpen k.main (option_and_then (λ (x : Transaction). x.joined) o)) none w.edited
 
-  kept_committed : (log : List Entry) (c : Client) (k k' : Replica) (N : Intent) → IsReplicaOf h log c k → IsCommitted k N k' → IsReplicaOf h log (with_commit c N) k'
-  kept_committed log c k k' N w done =
-      let A = received_by log c in
-      let one_name : names_in (N ∷ []) ≡ names_made N = omega arith in
-      record {
-        received = subst (λ (d : Doc). Run (opening_document h) A (document_of d)) (sym done.received) w.received;
-        shown = subst (λ l. Run (opening_document h) l (document_of k'.shown)) (append_assoc A c.pending (N ∷ [])) (run_more N (document_of k'.shown) done.shown.0 w.shown done.shown.1 done.shown.2);
-        names = omega (arith, done.names, w.names, names_append c.pending (N ∷ []), one_name);
-      }
+pub still_none : (k : Replica) (o : Option Transaction) → o ≡ None → k.main.edited ≡ None → HasOpen k.main (option_and_then (λ (x : Transaction). x.joined) o)
+still_none k o none edited = subst (λ (o : Option Transaction). HasOpen k.main (option_and_then (λ (x : Transaction). x.joined) o)) (sym none) edited
+
+module _ (h : HeaderView) (st : IsStart (opening_document h)) where
+  -- ## Limits
+
+  pub within_pending : (c : Client) → pending_limit_passed c ≡ None → length c.pending < 256
+  within_pending c e = go (nat_le 256 (length c.pending)) refl e
+    where
+      go : (b : Bool) → nat_le 256 (length c.pending) ≡ b → ◌≡◌ {A = Option Limit} (cond b (Some (record { of = Pending; kept = length c.pending })) None) None → length c.pending < 256
+      go true p e = absurd (cc)
+      go false p e = grind (arith, nat_tests)
+
+  pub within_names : (c : Client) (N : Intent) → names_limit_passed c N ≡ None → unsequenced c + names_made N ≤ 16384
+  within_names c N e = few (unsequenced c + names_made N) (go (nat_lt 16384 (unsequenced c + names_made N)) refl e)
+    where
+      go : (b : Bool) → nat_lt 16384 (unsequenced c + names_made N) ≡ b → ◌≡◌ {A = Option Limit} (cond b (Some (record { of = Unsequenced; kept = unsequenced c })) None) None → nat_lt 16384 (unsequenced c + names_made N) ≡ false
+      go true p e = absurd (cc)
+      go false p e = p
+
+      few : (n : ℕ) → nat_lt 16384 n ≡ false → n ≤ 16384
+      few n e = grind (arith, nat_tests)
 
   -- a commit that passes no limit
-  pub within_limits : (c : Client) (N : Intent) → limit_passed c N ≡ None → (length c.pending < 256) × (names_in c.pending + names_made N ≤ 16384)
-  within_limits c N e = go (nat_le 256 (length c.pending)) refl (nat_lt 16384 (names_in c.pending + names_made N)) refl e
+  pub within_limits : (c : Client) (N : Intent) → limit_passed c N ≡ None → (length c.pending < 256) × (unsequenced c + names_made N ≤ 16384)
+  within_limits c N e = let b = both (pending_limit_passed c) (names_limit_passed c N) e in (within_pending c b.0, within_names c N b.1)
     where
-      go : (a : Bool) → nat_le 256 (length c.pending) ≡ a → (b : Bool) → nat_lt 16384 (names_in c.pending + names_made N) ≡ b
-          → ◌≡◌ {A = Option Limit} (cond a (Some (record { of = Pending; kept = length c.pending })) (cond b (Some (record { of = Unsequenced; kept = names_in c.pending })) None)) None
-          → (length c.pending < 256) × (names_in c.pending + names_made N ≤ 16384)
-      go true p b q e = absurd (cc)
-      go false p true q e = absurd (cc)
-      go false p false q e = (few p, few_names q)
-        where
-          few : nat_le 256 (length c.pending) ≡ false → length c.pending < 256
-          few p = grind (arith, nat_tests)
+      both : (o p : Option Limit) → option_or o p ≡ None → (o ≡ None) × (p ≡ None)
+      both None p e = (refl, e)
+      both (Some l) p e = cc
 
-          few_names : nat_lt 16384 (names_in c.pending + names_made N) ≡ false → names_in c.pending + names_made N ≤ 16384
-          few_names q = grind (arith, nat_tests)
+  -- ## Edits
 
-  pub one_edited : (log : List Entry) (c c' : Client) (k k' : Replica) (word : EditWord) (r : Result Intent EditFault) (a : Answer) → AreOne h log c k → names_in (commits_in log) ≤ 131072
-      → ((N : Intent) → r ≡ Ok N → Fits (document_of k.shown) N × (N.rev ≡ next_rev c) × (N.schema ≡ None)) → after_edit c word r ≡ (c', a) → IsEditedReplica c k r k' → AreOne h log c' k'
-  one_edited log c c' k k' word (Err f) a w all meant is kept =
+  kept_committed : (log : List Entry) (c : Client) (k k' : Replica) (N : Intent) → c.transaction ≡ None → IsReplicaOf h log c k → IsCommitted k N k' → IsReplicaOf h log (with_new_commit c N) k'
+  kept_committed log c k k' N none w done =
+      let one_name : names_in (N ∷ []) ≡ names_made N = omega arith in
+      let before : k.names ≡ names_edited (joined_of c) + names_in c.pending = w.names in
+      let now : k'.names ≡ names_edited (joined_of c) + names_in (c.pending ++ N ∷ []) = omega (arith, done.names, before, names_append c.pending (N ∷ []), one_name) in
+      record {
+        received = subst (λ (d : Doc). Run (opening_document h) (received_by log c) (document_of d)) (sym done.received) w.received;
+        own = subst (λ (d : Doc). AreCarried (document_of d) (c.pending ++ N ∷ []) k'.main.own (document_of k'.main.doc)) (sym done.received)
+            (subst (λ ks. AreCarried (document_of k.received) (c.pending ++ N ∷ []) ks (document_of k'.main.doc)) (sym done.main.own) (runs_joined w.own done.main.run));
+        edited = still_none k' c.transaction none (done.main.edited ∙ none_edited c k none w);
+        names = now;
+      }
+
+  -- after what an edit means was taken in
+  pub kept_taken : (log : List Entry) (c c' : Client) (k k' : Replica) (word : EditWord) (r : Result Intent EditFault) (a : Answer) → c.transaction ≡ None → IsReplicaOf h log c k
+      → after_edit c word r ≡ (c', a) → HasTaken c None k r c' k' → IsReplicaOf h log c' k'
+  kept_taken log c c' k k' word (Err f) a none w is kept =
       let same : c ≡ c' = ap (λ (p : Client × Answer). p.0) is in
-      subst (λ x. AreOne h log x k') same (subst (λ x. AreOne h log c x) (sym kept) w)
-  one_edited log c c' k k' word (Ok N) a w all meant is kept = go (limit_passed c N) refl is kept
+      subst (λ x. IsReplicaOf h log x k') same (subst (λ x. IsReplicaOf h log c x) (sym kept) w)
+  kept_taken log c c' k k' word (Ok N) a none w is kept = go (limit_passed c N) is kept
     where
-      go : (o : Option Limit) → limit_passed c N ≡ o → with_pending c word N o ≡ (c', a) → IsPending k N o k' → AreOne h log c' k'
-      go (Some l) e is kept =
+      go : (o : Option Limit) → with_pending c word N o ≡ (c', a) → IsPending k N o k' → IsReplicaOf h log c' k'
+      go (Some l) is kept =
           let same : c ≡ c' = ap (λ (p : Client × Answer). p.0) is in
-          subst (λ x. AreOne h log x k') same (subst (λ x. AreOne h log c x) (sym kept) w)
-      go None e is kept =
-          let same : with_commit c N ≡ c' = ap (λ (p : Client × Answer). p.0) is in
-          let m = meant N refl in
-          let few = within_limits c N e in
-          subst (λ x. AreOne h log x k') same (record {
-            client = client_committed h st log c (document_of k.shown) N w.client w.kept.shown m.0 m.1 m.2 few.0 few.1 all;
-            kept = kept_committed log c k k' N w.kept kept;
-          })
+          subst (λ x. IsReplicaOf h log x k') same (subst (λ x. IsReplicaOf h log c x) (sym kept) w)
+      go None is kept =
+          let same : with_new_commit c N ≡ c' = ap (λ (p : Client × Answer). p.0) is in
+          subst (λ x. IsReplicaOf h log x k') same (kept_committed log c k k' N none w kept)
+
+  pub kept_parted : (log : List Entry) (c : Client) (t : Transaction) (k k' : Replica) (word : EditWord) (M K : Intent) → c.transaction ≡ Some t → IsReplicaOf h log c k → names_made K ≡ names_edited t.joined + names_made M
+      → HasPart k M (Some K) k' → IsReplicaOf h log (with_transaction c (with_edited t K (length M.new) (cells_given word M))) k'
+  kept_parted log c t k k' word M K is w whole part = record {
+    received = subst (λ (d : Doc). Run (opening_document h) (received_by log c) (document_of d)) (sym part.received) w.received;
+    own = subst (λ (d : Doc). AreCarried (document_of d) c.pending k'.main.own (document_of k'.main.doc)) (sym part.received)
+        (subst (λ ks. AreCarried (document_of k.received) c.pending ks (document_of k'.main.doc)) (sym part.own) (subst (λ (d : Doc). AreCarried (document_of k.received) c.pending k.main.own (document_of d)) (sym part.doc) w.own));
+    edited = part.edited;
+    names = now;
+  }
+    where
+      now : k'.names ≡ names_made K + names_in c.pending
+      now = omega (arith, part.names, w.names, whole, waiting)
+
+      waiting : unsequenced c ≡ names_edited t.joined + names_in c.pending
+      waiting = ap (λ (o : Option Transaction). names_edited (option_and_then (λ (x : Transaction). x.joined) o) + names_in c.pending) is
+
+  -- ## Transactions that begin and end
+
+  pub kept_begun : (log : List Entry) (c : Client) (k : Replica) (under : Rev) → c.transaction ≡ None → IsReplicaOf h log c k → IsReplicaOf h log (with_begun c under) k
+  kept_begun log c k under none w = record {
+    received = w.received;
+    own = w.own;
+    edited = none_edited c k none w;
+    names = w.names ∙ ap (λ (o : Option Transaction). names_edited (option_and_then (λ (x : Transaction). x.joined) o) + names_in c.pending) none;
+  }
+
+  pub kept_ended : (log : List Entry) (c : Client) (t : Transaction) (k : Replica) → c.transaction ≡ Some t → IsReplicaOf h log c k
+      → IsReplicaOf h log (without_transaction c) (record k { main = record k.main { edited = None }; names = k.names - names_edited t.joined })
+  kept_ended log c t k is w = record { received = w.received; own = w.own; edited = refl; names = now }
+    where
+      now : k.names - names_edited t.joined ≡ names_in c.pending
+      now = omega (arith, w.names, waiting)
+
+      waiting : unsequenced c ≡ names_edited t.joined + names_in c.pending
+      waiting = ap (λ (o : Option Transaction). names_edited (option_and_then (λ (x : Transaction). x.joined) o) + names_in c.pending) is
+
+  pub kept_commits : (log : List Entry) (c : Client) (t : Transaction) (k k' : Replica) → c.transaction ≡ Some t → IsReplicaOf h log c k → HasCommittedOf k t.joined k' → IsReplicaOf h log (committed (without_transaction c) t.rev t.joined).0 k'
+  kept_commits log c t k k' is w done = go t.joined waiting (subst (λ (o : Option Transaction). HasOpen k.main (option_and_then (λ (x : Transaction). x.joined) o)) is w.edited) done
+    where
+      waiting : k.names ≡ names_edited t.joined + names_in c.pending
+      waiting = w.names ∙ ap (λ (o : Option Transaction). names_edited (option_and_then (λ (x : Transaction). x.joined) o) + names_in c.pending) is
+
+      go : (o : Option Intent) → k.names ≡ names_edited o + names_in c.pending → HasOpen k.main o → HasCommittedOf k o k' → IsReplicaOf h log (committed (without_transaction c) t.rev o).0 k'
+      go None names edited done = subst (IsReplicaOf h log (without_transaction c)) (sym done) (record { received = w.received; own = w.own; edited = edited; names = names })
+      go (Some J) names edited done =
+          let one_name : names_in (J ∷ []) ≡ names_made J = omega arith in
+          let before : k.names ≡ names_made J + names_in c.pending = names in
+          let now : k'.names ≡ names_in (c.pending ++ J ∷ []) = omega (arith, done.names, before, names_append c.pending (J ∷ []), one_name) in
+          record {
+            received = subst (λ (d : Doc). Run (opening_document h) (received_by log c) (document_of d)) (sym done.received) w.received;
+            own = subst (λ (d : Doc). AreCarried (document_of d) (c.pending ++ J ∷ []) k'.main.own (document_of k'.main.doc)) (sym done.received)
+                (subst (λ ks. AreCarried (document_of k.received) (c.pending ++ J ∷ []) ks (document_of k'.main.doc)) (sym done.main.own) (runs_joined w.own done.main.run));
+            edited = done.main.edited;
+            names = now;
+          }
 
   -- ## Receiving
-
-  -- what is pending leads from what was received to what is shown
-  pub pending_run : (log : List Entry) (c : Client) (k : Replica) → AreOne h log c k → Run (document_of k.received) c.pending (document_of k.shown)
-  pending_run log c k w =
-      let f = run_front (received_by log c) w.kept.shown st.sound (in_turn w.kept.shown w.client.shown_fit) in
-      subst (λ (D : Document). Run D c.pending (document_of k.shown)) (one_run f.1 w.kept.received) f.2
 
   -- the next entry can be received
   pub can_receive : (log : List Entry) (c : Client) (k : Replica) (e : Entry) → AreOne h log c k → names_in (commits_in log) ≤ 131072 → slice_get log c.received ≡ Some e → CanReceive c k e
@@ -115,16 +194,18 @@ module _ (h : HeaderView) (st : IsStart (opening_document h)) where
       own N is b =
           let first = own_first h st log c e N w.client at is b in
           let names : names_in c.pending ≡ names_made N + _ = ap names_in first in
+          let before : k.names ≡ names_edited (joined_of c) + names_in c.pending = w.kept.names in
           record {
             fits = (subst (FitInTurn (document_of k.received)) first (rest_fit c.pending w.kept.received w.client.shown_fit)).0;
             later = λ bad. cc;
-            names = λ u. omega (arith, names, w.kept.names);
+            first = λ u. omega (arith, ap length first, as_many w.kept.own);
+            names = λ u. omega (arith, names, before);
           }
 
       other : (N : Intent) → commit_of e ≡ Some N → (e.session == c.session) ≡ false → CanCarry c k false N
       other N is b =
           let fit = rest_fit (N ∷ c.pending) w.kept.received (other_fit h st log c e N w.client at is b all) in
-          record { fits = fit.0; later = λ u. fit; names = λ bad. cc }
+          record { fits = fit.0; later = λ u. fit; first = λ bad. cc; names = λ bad. cc }
 
       by : (N : Intent) → commit_of e ≡ Some N → (b : Bool) → (e.session == c.session) ≡ b → CanCarry c k b N
       by N is true b = own N is b
@@ -134,30 +215,34 @@ module _ (h : HeaderView) (st : IsStart (opening_document h)) where
       go None is = tt
       go (Some N) is = by N is (e.session == c.session) refl
 
-  kept_own : (log : List Entry) (c : Client) (k k' : Replica) (e : Entry) (N : Intent) (v : Verdict) → AreOne h log c k → slice_get log c.received ≡ Some e → commit_of e ≡ Some N → (e.session == c.session) ≡ true
+  kept_own : (log : List Entry) (c : Client) (k k' : Replica) (e : Entry) (N : Intent) (v : Verdict) → AreOne h log c k → slice_get log c.received ≡ Some e → commit_of e ≡ Some N → (e.session == c.session) ≡ true → c.transaction ≡ None
       → HasReceivedOne c k true N v k' → IsReplicaOf h log (record c { received = c.received + 1; pending = drop 1 c.pending }) k'
-  kept_own log c k k' e N v w at is own got =
+  kept_own log c k k' e N v w at is own none got =
       let A = received_by log c in
       let first = own_first h st log c e N w.client at is own in
       let tail : drop 1 c.pending ≡ _ = ap (λ l. drop 1 l) first in
       let head : c.pending ≡ N ∷ drop 1 c.pending = first ∙ ap (λ l. N ∷ l) (sym tail) in
       let now : commits_in (take (c.received + 1) log) ≡ A ++ N ∷ [] = received_more h st log c e at ∙ ap (λ l. A ++ l) (one_commit e N is) in
-      let all : A ++ c.pending ≡ commits_in (take (c.received + 1) log) ++ drop 1 c.pending = ap (λ l. A ++ l) head ∙ sym (append_assoc A (N ∷ []) (drop 1 c.pending)) ∙ ap (λ l. l ++ drop 1 c.pending) (sym now) in
       let names : names_in c.pending ≡ names_made N + names_in (drop 1 c.pending) = ap names_in head in
+      let before : k.names ≡ names_edited (joined_of c) + names_in c.pending = w.kept.names in
+      let now : k'.names ≡ names_edited (joined_of c) + names_in (drop 1 c.pending) = omega (arith, got.1.1, names, before) in
       record {
         received = subst (λ l. Run (opening_document h) l (document_of k'.received)) (sym now) (run_more N (document_of k'.received) v w.kept.received got.0.verdict got.0.after);
-        shown = subst (λ l. Run (opening_document h) l (document_of k'.shown)) all (subst (λ (D : Document). Run (opening_document h) (A ++ c.pending) D) (sym got.1.0) w.kept.shown);
-        names = omega (arith, got.1.1, names, w.kept.names);
+        own = subst (λ (m : Head). AreCarried (document_of k'.received) (drop 1 c.pending) m.own (document_of m.doc)) (sym got.1.0)
+            (rest_carried (document_of k.received) (document_of k'.received) (document_of k.main.doc) N (drop 1 c.pending) k.main.own v
+            (subst (λ l. AreCarried (document_of k.received) l k.main.own (document_of k.main.doc)) head w.kept.own) (omega (arith, ap length head, as_many w.kept.own)) got.0.verdict got.0.after);
+        edited = still_none k' c.transaction none (ap (λ (m : Head). m.edited) got.1.0 ∙ none_edited c k none w.kept);
+        names = now;
       }
 
-  kept_other : (log : List Entry) (c : Client) (k k' : Replica) (e : Entry) (N : Intent) (v : Verdict) → AreOne h log c k → slice_get log c.received ≡ Some e → commit_of e ≡ Some N
+  kept_other : (log : List Entry) (c : Client) (k k' : Replica) (e : Entry) (N : Intent) (v : Verdict) → AreOne h log c k → slice_get log c.received ≡ Some e → commit_of e ≡ Some N → c.transaction ≡ None
       → HasReceivedOne c k false N v k' → IsReplicaOf h log (record c { received = c.received + 1 }) k'
-  kept_other log c k k' e N v w at is got =
+  kept_other log c k k' e N v w at is none got =
       let A = received_by log c in
       let now : commits_in (take (c.received + 1) log) ≡ A ++ N ∷ [] = received_more h st log c e at ∙ ap (λ l. A ++ l) (one_commit e N is) in
       let r : Run (opening_document h) (commits_in (take (c.received + 1) log)) (document_of k'.received) =
       subst (λ l. Run (opening_document h) l (document_of k'.received)) (sym now) (run_more N (document_of k'.received) v w.kept.received got.0.verdict got.0.after) in
-      record { received = r; shown = run_then r got.1.0; names = got.1.1 ∙ w.kept.names }
+      record { received = r; own = got.1.0; edited = still_none k' c.transaction none got.1.1; names = got.1.2 ∙ w.kept.names }
 
   kept_none : (log : List Entry) (c : Client) (k : Replica) (e : Entry) → AreOne h log c k → slice_get log c.received ≡ Some e → commit_of e ≡ None → IsReplicaOf h log (record c { received = c.received + 1 }) k
   kept_none log c k e w at is =
@@ -165,38 +250,37 @@ module _ (h : HeaderView) (st : IsStart (opening_document h)) where
       let now : A ≡ commits_in (take (c.received + 1) log) = sym (received_more h st log c e at ∙ ap (λ l. A ++ l) (no_commit e is) ∙ append-nil A) in
       record {
         received = subst (λ l. Run (opening_document h) l (document_of k.received)) now w.kept.received;
-        shown = subst (λ l. Run (opening_document h) (l ++ c.pending) (document_of k.shown)) now w.kept.shown;
+        own = w.kept.own;
+        edited = w.kept.edited;
         names = w.kept.names;
       }
 
-  one_taken : (log : List Entry) (c : Client) (k k' : Replica) (e : Entry) (v : Verdict) → AreOne h log c k → names_in (commits_in log) ≤ 131072 → slice_get log c.received ≡ Some e
-      → HasReceivedNext c k e v k' → AreOne h log (with_received e c) k'
-  one_taken log c k k' e v w all at got = go (commit_of e) refl got
+  one_taken : (log : List Entry) (c : Client) (k k' : Replica) (e : Entry) (v : Verdict) → AreOne h log c k → names_in (commits_in log) ≤ 131072 → slice_get log c.received ≡ Some e → c.transaction ≡ None
+      → HasReceivedNext c k e v k' → IsReplicaOf h log (with_received e c) k'
+  one_taken log c k k' e v w all at none got = go (commit_of e) refl got
     where
-      by : (N : Intent) → commit_of e ≡ Some N → (b : Bool) → (e.session == c.session) ≡ b → HasReceivedOne c k b N v k' → AreOne h log (with_received e c) k'
+      by : (N : Intent) → commit_of e ≡ Some N → (b : Bool) → (e.session == c.session) ≡ b → HasReceivedOne c k b N v k' → IsReplicaOf h log (with_received e c) k'
       by N is true own got =
           let same : drop 1 c.pending ≡ pending_after e c = sym (rw (is, own) refl) in
-          subst (λ (l : List Intent). AreOne h log (record c { received = c.received + 1; pending = l }) k') same
-          (record { client = client_own h st log c e N (drop 1 c.pending) w.client at is own refl; kept = kept_own log c k k' e N v w at is own got })
+          subst (λ (l : List Intent). IsReplicaOf h log (record c { received = c.received + 1; pending = l }) k') same (kept_own log c k k' e N v w at is own none got)
       by N is false other got =
           let same : c.pending ≡ pending_after e c = sym (rw (is, other) refl) in
-          subst (λ (l : List Intent). AreOne h log (record c { received = c.received + 1; pending = l }) k') same
-          (record { client = client_other h st log c e N w.client at is other all; kept = kept_other log c k k' e N v w at is got })
+          subst (λ (l : List Intent). IsReplicaOf h log (record c { received = c.received + 1; pending = l }) k') same (kept_other log c k k' e N v w at is none got)
 
-      go : (o : Option Intent) → commit_of e ≡ o → HasReceivedOf c k (e.session == c.session) o v k' → AreOne h log (with_received e c) k'
+      go : (o : Option Intent) → commit_of e ≡ o → HasReceivedOf c k (e.session == c.session) o v k' → IsReplicaOf h log (with_received e c) k'
       go (Some N) is got = by N is (e.session == c.session) refl got
       go None is got =
           let same : c.pending ≡ pending_after e c = sym (rw is refl) in
-          subst (λ (l : List Intent). AreOne h log (record c { received = c.received + 1; pending = l }) k') same
-          (subst (λ x. AreOne h log (record c { received = c.received + 1 }) x) (sym got.1) (record { client = client_none h st log c e w.client at is; kept = kept_none log c k e w at is }))
+          subst (λ (l : List Intent). IsReplicaOf h log (record c { received = c.received + 1; pending = l }) k') same
+          (subst (λ x. IsReplicaOf h log (record c { received = c.received + 1 }) x) (sym got.1) (kept_none log c k e w at is))
 
-  pub one_delivered : (log : List Entry) (c c' : Client) (k k' : Replica) (D : Document) (a : Answer) → AreOne h log c k → names_in (commits_in log) ≤ 131072
-      → IsDeliveredTo D c (slice_get log c.received) c' a → HasMoved c k (slice_get log c.received) k' → AreOne h log c' k'
-  one_delivered log c c' k k' D a w all done moved = go (slice_get log c.received) refl done moved
+  pub kept_delivered : (log : List Entry) (c c' : Client) (k k' : Replica) (D : Document) (a : Answer) → AreOne h log c k → names_in (commits_in log) ≤ 131072 → c.transaction ≡ None
+      → IsDeliveredTo D c (slice_get log c.received) c' a → HasMoved c k (slice_get log c.received) k' → IsReplicaOf h log c' k'
+  kept_delivered log c c' k k' D a w all none done moved = go (slice_get log c.received) refl done moved
     where
-      go : (o : Option Entry) → slice_get log c.received ≡ o → IsDeliveredTo D c o c' a → HasMoved c k o k' → AreOne h log c' k'
-      go None at done moved = subst (λ x. AreOne h log x k') (sym done.0) (subst (λ x. AreOne h log c x) (sym moved) w)
-      go (Some e) at done moved = subst (λ x. AreOne h log x k') (sym done.2) (one_taken log c k k' e moved.0 w all at moved.1)
+      go : (o : Option Entry) → slice_get log c.received ≡ o → IsDeliveredTo D c o c' a → HasMoved c k o k' → IsReplicaOf h log c' k'
+      go None at done moved = subst (λ x. IsReplicaOf h log x k') (sym done.0) (subst (λ x. IsReplicaOf h log c x) (sym moved) w.kept)
+      go (Some e) at done moved = subst (λ x. IsReplicaOf h log x k') (sym done.2) (one_taken log c k k' e moved.0 w all at none moved.1)
 
   -- ## The log grows
 
@@ -205,20 +289,22 @@ module _ (h : HeaderView) (st : IsStart (opening_document h)) where
       let front = sym (entered_front log session body c.received within) in
       record {
         received = subst (λ (es : List Entry). Run (opening_document h) (commits_in es) (document_of k.received)) front w.received;
-        shown = subst (λ (es : List Entry). Run (opening_document h) (commits_in es ++ c.pending) (document_of k.shown)) front w.shown;
+        own = w.own;
+        edited = w.edited;
         names = w.names;
       }
 
   pub kept_rest : (log : List Entry) (c : Client) (rest : List Body) (k : Replica) → IsReplicaOf h log c k → IsReplicaOf h log (record c { queue = rest }) k
-  kept_rest log c rest k w = record { received = w.received; shown = w.shown; names = w.names }
+  kept_rest log c rest k w = record { received = w.received; own = w.own; edited = w.edited; names = w.names }
 
   -- of a client that joins
-  pub kept_joined : (log : List Entry) (n session : ℕ) (name : List ℕ) (k : Replica) (D : Document) → n ≡ length log → Run (opening_document h) (commits_in log) D → document_of k.received ≡ D → document_of k.shown ≡ D → k.names ≡ 0
+  pub kept_joined : (log : List Entry) (n session : ℕ) (name : List ℕ) (k : Replica) (D : Document) → n ≡ length log → Run (opening_document h) (commits_in log) D → IsNewReplica D k
       → IsReplicaOf h log (new_client n session name) k
-  kept_joined log n session name k D is_n run received shown names =
+  kept_joined log n session name k D is_n run new =
       let whole : log ≡ take n log = sym (take_all n log (omega (arith, is_n))) in
       record {
-        received = subst (λ (es : List Entry). Run (opening_document h) (commits_in es) (document_of k.received)) whole (subst (λ (E : Document). Run (opening_document h) (commits_in log) E) (sym received) run);
-        shown = subst (λ l. Run (opening_document h) l (document_of k.shown)) (ap commits_in whole ∙ sym (append-nil (commits_in (take n log)))) (subst (λ (E : Document). Run (opening_document h) (commits_in log) E) (sym shown) run);
-        names = names;
+        received = subst (λ (es : List Entry). Run (opening_document h) (commits_in es) (document_of k.received)) whole (subst (λ (E : Document). Run (opening_document h) (commits_in log) E) (sym new.received) run);
+        own = subst (λ (E : Document). AreCarried (document_of k.received) [] k.main.own E) (new.received ∙ sym new.shown) (subst (λ ks. AreCarried (document_of k.received) [] ks (document_of k.received)) (sym new.own) nothing_done);
+        edited = new.edited;
+        names = new.names;
       }

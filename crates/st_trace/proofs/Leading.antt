@@ -1,5 +1,5 @@
 -- From lists of which holds what steps keep, each step leads on: there are next lists, of which the same holds, and an answer.
-use Rattle.std.proofs.Common.{◌≡◌, ℕ, zero, suc, ◌+◌, Bool, true, false, cond, nat_le, List, [], ◌∷◌, ◌++◌, length, map, Option, Some, None, IsSome, option_map, option_and_then, Result, Ok, refl, ◌⊎◌, inl, inr}
+use Rattle.std.proofs.Common.{◌≡◌, ℕ, zero, suc, ◌+◌, Bool, true, false, cond, nat_le, List, [], ◌∷◌, ◌++◌, length, map, Option, Some, None, IfSome, IsSome, option_map, option_and_then, Result, Ok, Err, refl, subst, ◌⊎◌, inl, inr}
 use Rattle.std.specs.List.{find, slice_get, slice_set}
 use Rattle.std.specs.Option.{option_map_or, option_or}
 use Rattle.serde_json.specs.Written.{compact_text}
@@ -31,27 +31,23 @@ use Rattle.st_marks.proofs.Members.{append_left, append_right}
 use Rattle.st_opening.specs.Start.{first_said, type_at}
 use Rattle.st_log_laws.proofs.Turns.{has_run}
 use Rattle.st_log_laws.proofs.Verdicts.{has_verdict}
-use Rattle.st_schema_laws.specs.Agreeing.{KeepsSchema, TellsHomes}
-use Rattle.st_schema_laws.specs.Conforming.{IsConforming}
-use Rattle.st_schema_laws.proofs.NewTrees.{insert_agrees, put_agrees}
-use Rattle.st_schema_laws.proofs.Simple.{clear_agrees, move_agrees, remove_agrees}
 use Rattle.st_doc.proofs.Trees.{node_shows}
 use Rattle.st_edits.specs.ArrayTypes.{is_array_type}
-use Rattle.st_edits.specs.Resolve.{insert, remove, move, put, clear}
-use Rattle.st_edits.proofs.Fits.{clear_fits, remove_fits}
-use Rattle.st_edits.proofs.MoveFits.{CellsFresh, move_fits}
-use Rattle.st_edits.proofs.NewFits.{NodesFresh, insert_fits, put_fits}
+use Rattle.st_edits.specs.Resolve.{need}
 use Rattle.st_script.specs.Header.{HeaderView, header_view}
 use Rattle.st_script.specs.Steps.{ActView, EditView, StepView}
 use Rattle.st_script.specs.Steps as step
 use Rattle.st_script.specs.declared.answer.Answer.{Answer}
 use Rattle.st_script.specs.declared.answer.Answer.TheVariants.{Deliver, Join as Joins, No, Show}
-use Rattle.st_script.specs.declared.refusal.Refusal.TheVariants.{NoBranch, NoClient, NothingNew, NothingToSend, Taken}
-use Rattle.st_trace.specs.Replicas.{IsClient, IsSound}
+use Rattle.st_script.specs.declared.refusal.Refusal.TheVariants.{Limit as OverLimit, NoBranch, NoClient, NotBegun, NothingNew, NothingToSend, Taken, Unfinished}
+use Rattle.st_trace.specs.Replicas.{HasMain, IsClient, IsSound, IsTransaction}
+use Rattle.st_heads.specs.Transactions.{with_open}
+use Rattle.st_lists.specs.Lines.{main_line}
+use Rattle.st_lists.specs.declared.lists.Transaction.{Transaction}
 use Rattle.st_lists.specs.Log.{commit_of, log_with}
-use Rattle.st_trace.specs.World.{IsActOf, IsDelivered, IsDeliveredTo, IsEdited, IsNext, AtClient, IsShown, IsVerdictOf, OnBranch, act_of_none, after_edit, branch_at, after_entry, intent_of, next_names, join, opening_document, limit_refusal, sequence, with_client, word_of}
-use Rattle.st_lists.specs.Clients.{HasReceived, HasShown, new_client, next_rev, place_of, received_by, with_received}
-use Rattle.st_lists.specs.Limits.{log_limit_passed}
+use Rattle.st_trace.specs.World.{HasShown, IsActOf, IsAfterEdit, IsAfterNeed, IsBegun, IsDelivered, IsDeliveredIn, IsDeliveredTo, IsDoneIn, IsEdited, IsEditedIn, IsJoined, IsNeeded, IsNext, AtClient, IsShown, IsVerdictOf, OnBranch, abort, act_of_none, after_edit, answer_of, begin, branch_at, after_entry, cells_given, commit, intent_of, last_in_effect, next_names, join, opening_document, limit_refusal, refusal_of, sequence, with_client, word_of}
+use Rattle.st_lists.specs.Clients.{HasReceived, joined_of, new_client, place_of, received_by, with_edited, with_received, with_transaction}
+use Rattle.st_lists.specs.Limits.{log_limit_passed, names_limit_passed}
 use Rattle.st_lists.specs.Names.{names_in_text}
 use Rattle.st_trace.specs.declared.client.EditWord.{EditWord}
 use Rattle.st_lists.specs.declared.lists.Body.TheVariants.{Join}
@@ -59,13 +55,12 @@ use Rattle.st_lists.specs.declared.lists.Client.{Client}
 use Rattle.st_lists.specs.declared.lists.Entry.{Entry}
 use Rattle.st_lists.specs.declared.lists.WorldState.{WorldState}
 use Rattle.st_trace.specs.declared.world.World.{World}
-use Rattle.st_trace.proofs.Acting.{delivered_on, edited_on}
-use Rattle.st_trace.proofs.Agreed.{delivered_keeps, edited_keeps}
-use Rattle.st_trace.proofs.Begun.{opened_start, typed_name}
-use Rattle.st_trace.proofs.Clients.{fresh_cells, fresh_nodes, received_fit, received_sound, shown_sound}
+use Rattle.st_trace.proofs.Begun.{IsStart, opened_start, typed_name}
+use Rattle.st_trace.proofs.Clients.{received_fit, received_sound}
 use Rattle.st_trace.proofs.Everyone.{all_get}
-use Rattle.st_trace.proofs.Going.{AreSound, client_delivered, client_edited, joined_sound, lists_sound, sent_sound, set_sound}
-use Rattle.st_trace.proofs.Meanings.{clear_of, insert_of, move_of, put_of, remove_of}
+use Rattle.st_trace.proofs.Going.{AreSound, GoesOn, abort_goes, begin_goes, commit_goes, delivery_goes, edit_goes, joined_sound, lists_sound, meant_in, need_goes, sent_sound, set_sound}
+use Rattle.st_trace.proofs.Meant.{IsMeaning, IsMeant, edit_means, need_means}
+use Rattle.st_trace.proofs.Parts.{editable, next_joined}
 use Rattle.st_trace.proofs.Stepping.{within_log}
 use Rattle.st_lists.specs.declared.lists.Body.{Body}
 
@@ -127,60 +122,17 @@ run_listed (next {D} {N = N} v is rest) ns all =
     either n (inl h) = append_left ns (map (λ (m : NewNode). m.node) N.new) n (all n h)
     either n (inr h) = append_right ns (map (λ (m : NewNode). m.node) N.new) n (new_listed N n h)
 
-has_text : (is_array : List ℕ → Bool) (h : HeaderView) (Ns : List Intent) (D : Document) → Run (opening_document h) Ns D → IsSoundInForm D → (text : List ℕ) × IsTreeText is_array D text
-has_text is_array h Ns D run sound =
-    let xs = opening_listed h.tree in
-    let known = run_listed run (map (λ (x : FlatNode). x.node) xs) (λ n there. said_node xs n there) in
-    let t = node_shows is_array D sound known.0 known.1 root sound.root_known in
-    (compact_text t.0, (t.0, t.1, refl))
+start_listed : (h : HeaderView) (Ns : List Intent) (D : Document) → Run (opening_document h) Ns D → (ns : List NodeId) × Lists-all D ns
+start_listed h Ns D run = let xs = opening_listed h.tree in run_listed run (map (λ (x : FlatNode). x.node) xs) (λ n there. said_node xs n there)
 
--- ## Edits
-
--- what an edit means fits the document and agrees with the schema
-abbrev MeansWell : HeaderView → Client → Document → Result Intent EditFault → Type 0
-MeansWell h c D r = (N : Intent) → r ≡ Ok N
-    → Fits D N × (N.rev ≡ next_rev c) × (N.schema ≡ None) × ((home : NodeId → Option FieldId) → IsConforming h.schema home D → TellsHomes home N → KeepsSchema h.schema home D N)
-
-module _ (h : HeaderView) (c : Client) (schema : is_sound h.schema ≡ true) (D : Document) (sound : IsSoundInForm D) (nodes : NodesFresh D (next_names c)) (cells : CellsFresh D (next_names c)) where
-  insert_means : (at : List Place) (key : Key) (index : ℕ) (trees : Nodes) → MeansWell h c D (insert D h.schema (next_names c) at key index trees)
-  insert_means at key index trees N e =
-      let m = insert_of D h.schema (next_names c) at key index trees N e in
-      (insert_fits D h.schema (next_names c) at key index trees N sound nodes cells e, m.0, m.1, λ home here tells. insert_agrees h.schema home D (next_names c) at key index trees N sound schema nodes cells tells e)
-
-  remove_means : (at : List Place) (key : Key) (index count : ℕ) → MeansWell h c D (remove D h.schema (next_names c) at key index count)
-  remove_means at key index count N e =
-      let m = remove_of D h.schema (next_names c) at key index count N e in
-      (remove_fits D h.schema (next_names c) at key index count N sound e, m.0, m.1, λ home here tells. remove_agrees h.schema home D (next_names c) at key index count N sound here e)
-
-  move_means : (at : List Place) (key : Key) (index count : ℕ) (to : List Place) (to_key : Key) (to_index : ℕ) → MeansWell h c D (move D h.schema (next_names c) at key index count to to_key to_index)
-  move_means at key index count to to_key to_index N e =
-      let m = move_of D h.schema (next_names c) at key index count to to_key to_index N e in (
-        move_fits D h.schema (next_names c) at key index count to to_key to_index N sound schema cells e,
-        m.0,
-        m.1,
-        λ home here tells. move_agrees h.schema home D (next_names c) at key index count to to_key to_index N sound schema here cells e,
-      )
-
-  put_means : (at : List Place) (key : Key) (t : Node) → MeansWell h c D (put D h.schema (next_names c) at key (first t no_nodes))
-  put_means at key t N e =
-      let m = put_of D h.schema (next_names c) at key (first t no_nodes) N e in
-      (put_fits D h.schema (next_names c) at key t N sound schema nodes cells e, m.0, m.1, λ home here tells. put_agrees h.schema home D (next_names c) at key t N sound schema nodes cells tells e)
-
-  clear_means : (at : List Place) (key : Key) → MeansWell h c D (clear D h.schema (next_names c) at key)
-  clear_means at key N e =
-      let m = clear_of D h.schema (next_names c) at key N e in
-      (clear_fits D h.schema (next_names c) at key N sound schema e, m.0, m.1, λ home here tells. clear_agrees h.schema home D (next_names c) at key N e)
-
-  edit_means : (e : EditView) → MeansWell h c D (intent_of D h.schema (next_names c) e)
-  edit_means (step.insert at key index items) = insert_means at key index (nodes_of items)
-  edit_means (step.remove at key index count) = remove_means at key index count
-  edit_means (step.move at key index count to to_key to_index) = move_means at key index count to to_key to_index
-  edit_means (step.set at key item) = put_means at key item
-  edit_means (step.clear at key) = clear_means at key
-
--- whatever it is resolved in
-abbrev MeansAlways : HeaderView → Client → (Document → Result Intent EditFault) → Type 0
-MeansAlways h c meant = (D : Document) → IsSoundInForm D → NodesFresh D (next_names c) → CellsFresh D (next_names c) → MeansWell h c D (meant D)
+-- and after what is edited
+open_listed : (D : Document) (joined : Option Intent) (ns : List NodeId) → Lists-all D ns → (ms : List NodeId) × Lists-all (with_open D joined) ms
+open_listed D None ns all = (ns, all)
+open_listed D (Some J) ns all = (ns ++ map (λ (m : NewNode). m.node) J.new, λ n h. either n (one_of (D.nodes n) (new_type J n) h))
+  where
+    either : (n : NodeId) → IsSome (D.nodes n) ⊎ IsSome (new_type J n) → Has (ns ++ map (λ (m : NewNode). m.node) J.new) n
+    either n (inl h) = append_left ns (map (λ (m : NewNode). m.node) J.new) n (all n h)
+    either n (inr h) = append_right ns (map (λ (m : NewNode). m.node) J.new) n (new_listed J n h)
 
 -- ## The steps of a client that is there
 
@@ -196,25 +148,84 @@ module _ (h : HeaderView) (w : WorldState) (s : AreSound h w) where
     client : IsClient h w.log c
     client = all_get (IsClient h w.log) w.clients i c s.clients at
 
-    shown : (D : Document) × HasShown (opening_document h) w.log c D
-    shown = has_run (received_by w.log c ++ c.pending) (opening_document h) (opened_start h s.header).sound client.shown_fit
+    st : IsStart (opening_document h)
+    st = opened_start h s.header
+
+    main : (D : Document) × HasMain h w.log c D
+    main = has_run (received_by w.log c ++ c.pending) (opening_document h) st.sound client.shown_fit
+
+    -- what it shows
+    E : Document
+    E = with_open main.0 (joined_of c)
+
+    shown : HasShown (opening_document h) w.log (main_line c) E
+    shown = (main.0, main.1, refl)
 
     received : (D : Document) × HasReceived (opening_document h) w.log c D
     received = has_run (received_by w.log c) (opening_document h) (opened_start h s.header).sound (received_fit h (opened_start h s.header) w.log c client)
 
-    has_edited : (word : EditWord) (meant : Document → Result Intent EditFault) → MeansAlways h c meant → Leads (IsEdited h w i c word meant)
-    has_edited word meant means =
-        let st = opened_start h s.header in
-        let D = shown.0 in
-        let m : MeansWell h c D (meant D) = means D (shown_sound h st w.log c D client shown.1) (λ j low. fresh_nodes h st w.log c D client shown.1 j) (λ j low. fresh_cells h st w.log c D client shown.1 j) in
-        let p = after_edit c word (meant D) in
-        let q = with_client w i p in (
-          q.0,
-          q.1,
-          (D, shown.1, refl),
-          set_sound h w i c p.0 s at (client_edited h st w.log c p.0 D word (meant D) p.1 client s.few_names shown.1 (λ N e. let f = m N e in (f.0, f.1, f.2)) refl) (edited_on c p.0 word (meant D) p.1 refl).session
-              (edited_keeps h st w.log w.clients i c p.0 D word (meant D) p.1 s.sessions s.clients at shown.1 (λ N e. let f = m N e in record { itself = f.0.itself; rev = f.1; agrees = f.3 }) refl s.schema),
-        )
+    goes : (does : Document → Client → Answer → Type 0) (d : Client) (a : Answer) → does E d a → GoesOn h st w.log w.clients i c d → Leads (IsDoneIn h w i c does)
+    goes does d a done g = (record w { clients = slice_set w.clients i d }, a, (E, d, shown, done, refl), set_sound h w i c d s at g.client g.session g.keeps)
+
+    -- an edit in the transaction that is open
+    edited_in : (t : Transaction) (word : EditWord) (r : Result Intent EditFault) → c.transaction ≡ Some t → IsTransaction h w.log c t → IsMeaning h.schema (with_open main.0 t.joined) (next_names c (Some t)) word r → (d : Client) × (a : Answer) × IsEditedIn c t word r d a
+    edited_in t word (Err f) is x means = (c, No (refusal_of f), (refl, refl))
+    edited_in t word (Ok M) is x means = go (names_limit_passed c M)
+      where
+        m = meant_in h st w.log w.clients s.sessions s.clients s.few_names s.schema i c at (with_open main.0 t.joined) t word M x main.0 main.1 refl (means M refl)
+
+        go : (o : Option Limit) → (d : Client) × (a : Answer) × IsJoined c t word M o d a
+        go (Some l) = (c, No (OverLimit l), (refl, refl))
+        go None = let J = next_joined h st w.log c t word M client is s.few_names x m in (with_transaction c (with_edited t J.0 (length M.new) (cells_given word M)), answer_of word t.rev, (J.0, J.1, refl, refl))
+
+    meaning_at : (word : EditWord) (r : Result Intent EditFault) (o : Option Transaction) → c.transaction ≡ o → IsMeaning h.schema E (next_names c c.transaction) word r → IsMeaning h.schema (with_open main.0 (option_and_then (λ (t : Transaction). t.joined) o)) (next_names c o) word r
+    meaning_at word r o is means = subst (λ (o : Option Transaction). IsMeaning h.schema (with_open main.0 (option_and_then (λ (t : Transaction). t.joined) o)) (next_names c o) word r) is means
+
+    after : (word : EditWord) (r : Result Intent EditFault) → IsMeaning h.schema E (next_names c c.transaction) word r → (d : Client) × (a : Answer) × IsAfterEdit c c.transaction word r d a
+    after word r means = go c.transaction refl client.transaction
+      where
+        go : (o : Option Transaction) → c.transaction ≡ o → IfSome o (IsTransaction h w.log c) → (d : Client) × (a : Answer) × IsAfterEdit c o word r d a
+        go None is x = let p = after_edit c word r in (p.0, p.1, refl)
+        go (Some t) is x = edited_in t word r is x (meaning_at word r (Some t) is means)
+
+    after_need : (r : Result Intent EditFault) → IsMeaning h.schema E (next_names c c.transaction) EditWord.Need r → (d : Client) × (a : Answer) × IsAfterNeed c c.transaction r d a
+    after_need r means = go c.transaction refl client.transaction
+      where
+        go : (o : Option Transaction) → c.transaction ≡ o → IfSome o (IsTransaction h w.log c) → (d : Client) × (a : Answer) × IsAfterNeed c o r d a
+        go None is x = (c, No NotBegun, (refl, refl))
+        go (Some t) is x = edited_in t EditWord.Need r is x (meaning_at EditWord.Need r (Some t) is means)
+
+    has_edited : (e : EditView) → Leads (IsEdited h w i c e)
+    has_edited e =
+        let r = intent_of E h.schema (next_names c c.transaction) e in
+        let means = edit_means h.schema s.header.schema E (next_names c c.transaction) (editable h st w.log c E client shown) e in
+        let d = after (word_of e) r means in
+        goes (λ D. IsAfterEdit c c.transaction (word_of e) (intent_of D h.schema (next_names c c.transaction) e)) d.0 d.1 d.2
+        (edit_goes h st w.log w.clients s.sessions s.clients s.few_names s.schema i c at d.0 E (word_of e) r d.1 shown means d.2)
+
+    has_needed : (path : List Place) → Leads (IsNeeded h w i c path)
+    has_needed path =
+        let r = need E (next_names c c.transaction) path in
+        let means = need_means h.schema s.header.schema E (next_names c c.transaction) (editable h st w.log c E client shown) path in
+        let d = after_need r means in
+        goes (λ D. IsAfterNeed c c.transaction (need D (next_names c c.transaction) path)) d.0 d.1 d.2 (need_goes h st w.log w.clients s.sessions s.clients s.few_names s.schema i c at d.0 E r d.1 shown means d.2)
+
+    has_begun : Leads (IsBegun h w i c)
+    has_begun =
+        let p = begin c c.transaction (last_in_effect E) in
+        goes (λ D d b. begin c c.transaction (last_in_effect D) ≡ (d, b)) p.0 p.1 refl (begin_goes h st w.log w.clients s.sessions s.clients s.few_names s.schema i c at p.0 E p.1 shown refl)
+
+    has_committed : Leads (λ v a. with_client w i (commit c c.transaction) ≡ (v, a))
+    has_committed =
+        let p = commit c c.transaction in
+        let g = commit_goes h st w.log w.clients s.sessions s.clients s.few_names s.schema i c at p.0 p.1 refl in
+        (record w { clients = slice_set w.clients i p.0 }, p.1, refl, set_sound h w i c p.0 s at g.client g.session g.keeps)
+
+    has_aborted : Leads (λ v a. with_client w i (abort c c.transaction) ≡ (v, a))
+    has_aborted =
+        let p = abort c c.transaction in
+        let g = abort_goes h st w.log w.clients s.sessions s.clients s.few_names s.schema i c at p.0 p.1 refl in
+        (record w { clients = slice_set w.clients i p.0 }, p.1, refl, set_sound h w i c p.0 s at g.client g.session g.keeps)
 
     verdict_of : (D : Document) (o : Option Intent) → IsSoundInForm D → (v : Verdict) × IsVerdictOf D o v
     verdict_of D None sound = (Verdict.Sound, refl)
@@ -224,17 +235,16 @@ module _ (h : HeaderView) (w : WorldState) (s : AreSound h w) where
     has_delivery D None sound = (c, No NothingNew, (refl, refl))
     has_delivery D (Some e) sound = let v = verdict_of D (commit_of e) sound in (with_received e c, Deliver (c.received + 1) v.0, (v.0, v.1, refl, refl))
 
+    has_delivery_in : (D : Document) (o : Option Transaction) → IsSoundInForm D → (d : Client) × (a : Answer) × IsDeliveredIn D c o (slice_get w.log c.received) d a
+    has_delivery_in D None sound = has_delivery D (slice_get w.log c.received) sound
+    has_delivery_in D (Some t) sound = (c, No Unfinished, (refl, refl))
+
     has_delivered : Leads (IsDelivered h w i c)
     has_delivered =
-        let st = opened_start h s.header in
         let D = received.0 in
-        let r = has_delivery D (slice_get w.log c.received) (received_sound h st w.log c D client received.1) in (
-          record w { clients = slice_set w.clients i r.0 },
-          r.1,
-          (D, r.0, received.1, r.2, refl),
-          set_sound h w i c r.0 s at (client_delivered h st w.log c r.0 D r.1 client s.few_names r.2) (delivered_on D c r.0 (slice_get w.log c.received) r.1 r.2).session
-              (delivered_keeps h st w.log w.clients i c r.0 D r.1 s.clients s.few_names at r.2 s.schema),
-        )
+        let r = has_delivery_in D c.transaction (received_sound h st w.log c D client received.1) in
+        let g = delivery_goes h st w.log w.clients s.sessions s.clients s.few_names s.schema i c at r.0 D r.1 r.2 in
+        (record w { clients = slice_set w.clients i r.0 }, r.1, (D, r.0, received.1, r.2, refl), set_sound h w i c r.0 s at g.client g.session g.keeps)
 
     has_sent : (texts : List Body) → c.queue ≡ texts → Leads (λ v a. sequence w i c texts ≡ (v, a))
     has_sent [] is = (w, No NothingToSend, refl, s)
@@ -246,9 +256,10 @@ module _ (h : HeaderView) (w : WorldState) (s : AreSound h w) where
 
     has_shown : (a : Answer) × IsShown h w c a
     has_shown =
-        let D = shown.0 in
-        let t = has_text (is_array_type h.schema) h (received_by w.log c ++ c.pending) D shown.1 (shown_sound h (opened_start h s.header) w.log c D client shown.1) in
-        (Show t.0, (D, t.0, shown.1, t.1, refl))
+        let known = start_listed h (received_by w.log c ++ c.pending) main.0 main.1 in
+        let listed = open_listed main.0 (joined_of c) known.0 known.1 in
+        let t = node_shows (is_array_type h.schema) E (editable h st w.log c E client shown).sound listed.0 listed.1 root (editable h st w.log c E client shown).sound.root_known in
+        (Show (compact_text t.0), (E, compact_text t.0, shown, (t.0, t.1, refl), refl))
 
   has_joined : (name : List ℕ) → Leads (λ v a. join w name ≡ (v, a))
   has_joined name = go (nat_le 64 (length w.clients)) (nat_le 65535 (length w.log))
@@ -268,8 +279,11 @@ module _ (h : HeaderView) (w : WorldState) (s : AreSound h w) where
 
   has_act_of : (x : ActView) (i : ℕ) (c : Client) → slice_get w.clients i ≡ Some c → Leads (IsActOf h w x i c)
   has_act_of step.join i c at = stays (No Taken)
-  has_act_of (step.edit e) i c at =
-      has_edited i c at (word_of e) (λ D. intent_of D h.schema (next_names c) e) (λ D sound nodes cells. edit_means h c s.header.schema D sound nodes cells e)
+  has_act_of (step.edit e) i c at = has_edited i c at e
+  has_act_of (step.need path) i c at = has_needed i c at path
+  has_act_of step.begin i c at = has_begun i c at
+  has_act_of step.commit i c at = has_committed i c at
+  has_act_of step.abort i c at = has_aborted i c at
   has_act_of step.sequence i c at = has_sent i c at c.queue refl
   has_act_of step.deliver i c at = has_delivered i c at
   has_act_of step.show i c at = let r = has_shown i c at in (w, r.0, (refl, r.1), s)
@@ -277,6 +291,10 @@ module _ (h : HeaderView) (w : WorldState) (s : AreSound h w) where
   has_act_of_none : (name : List ℕ) (x : ActView) → Leads (λ v a. act_of_none w name x ≡ (v, a))
   has_act_of_none name step.join = has_joined name
   has_act_of_none name (step.edit e) = (w, No NoClient, refl, s)
+  has_act_of_none name (step.need path) = (w, No NoClient, refl, s)
+  has_act_of_none name step.begin = (w, No NoClient, refl, s)
+  has_act_of_none name step.commit = (w, No NoClient, refl, s)
+  has_act_of_none name step.abort = (w, No NoClient, refl, s)
   has_act_of_none name step.sequence = (w, No NoClient, refl, s)
   has_act_of_none name step.deliver = (w, No NoClient, refl, s)
   has_act_of_none name step.show = (w, No NoClient, refl, s)

@@ -6,7 +6,6 @@ pub mod Meanings
 pub mod Everyone
 pub mod Agreed
 pub mod Stepping
-pub mod Turning
 pub mod Receiving
 pub mod Acting
 pub mod Showing
@@ -14,3 +13,6 @@ pub mod Choosing
 pub mod Arrays
 pub mod Going
 pub mod Leading
+pub mod Meant
+pub mod Parts
+pub mod Taking

@@ -9,7 +9,6 @@ use Rattle.st_schema.specs.Schema.{SchemaView}
 use Rattle.st_marks.specs.declared.intents.Intent.{Intent}
 use Rattle.st_marks.specs.Document.{Document}
 use Rattle.st_marks.specs.LiveTree.{IsTreeText}
-use Rattle.st_log_laws.proofs.Turns.{turn_extends}
 use Rattle.st_schema_laws.proofs.InTurn.{list_conforms}
 use Rattle.st_schema_laws.proofs.ShownTree.{shown_conforms}
 use Rattle.st_edits.specs.ArrayTypes.{is_array_type}
@@ -17,33 +16,68 @@ use Rattle.st_script.specs.Header.{HeaderView, header_view}
 use Rattle.st_script.specs.Steps.{ActView, StepView}
 use Rattle.st_script.specs.Steps as step
 use Rattle.st_script.specs.declared.answer.Answer.{Answer}
-use Rattle.st_trace.specs.Replicas.{IsSound}
-use Rattle.st_trace.specs.World.{IsActOf, IsAllowedText, IsDeliveredTo, IsEdited, IsNext, AtClient, OnBranch, ShowsAllowed, act_of_none, answer_of, after_edit, branch_at, after_entry, join, opening_document, with_pending, sequence, word_of}
-use Rattle.st_lists.specs.Clients.{HasShown, next_rev, place_of, received_by}
-use Rattle.st_lists.specs.Limits.{limit_passed, log_limit_passed}
+use Rattle.st_trace.specs.Replicas.{EditsKeepSchema, IsClient, IsSound, IsTransaction}
+use Rattle.st_heads.specs.Transactions.{FitsSoFar, with_open}
+use Rattle.st_lists.specs.Lines.{main_line}
+use Rattle.st_lists.specs.declared.lists.Transaction.{Transaction}
+use Rattle.st_marks.proofs.OneVerdict.{one_run}
+use Rattle.st_schema_laws.specs.Conforming.{IsConforming}
+use Rattle.st_trace.proofs.Agreed.{open_conforms}
+use Rattle.st_trace.proofs.Begun.{IsStart}
+use Rattle.st_trace.proofs.Clients.{shown_sound}
+use Rattle.st_trace.proofs.Parts.{editable}
+use Rattle.st_trace.specs.World.{HasShown, IsActOf, IsAfterEdit, IsAfterNeed, IsAllowedText, IsDeliveredIn, IsDeliveredTo, IsEditedIn, IsJoined, IsNext, AtClient, OnBranch, ShowsAllowed, abort, act_of_none, answer_of, after_edit, begin, branch_at, after_entry, commit, committed, join, last_in_effect, opening_document, with_beginning, with_client, with_pending, sequence, word_of}
+use Rattle.st_lists.specs.Clients.{next_rev, place_of, received_by, without_transaction}
+use Rattle.st_lists.specs.Limits.{limit_passed, log_limit_passed, names_limit_passed, pending_limit_passed}
 use Rattle.st_lists.specs.Names.{names_in_text}
 use Rattle.st_trace.specs.declared.client.EditWord.{EditWord}
 use Rattle.st_lists.specs.declared.lists.Client.{Client}
 use Rattle.st_lists.specs.declared.lists.Entry.{Entry}
 use Rattle.st_lists.specs.declared.lists.WorldState.{WorldState}
 use Rattle.st_trace.specs.declared.world.World.{World}
-use Rattle.st_schema_laws.specs.Agreeing.{KeepSchemaInTurn}
+use Rattle.st_schema_laws.specs.Agreeing.{KeepSchemaInTurn, KeepsSchema}
 use Rattle.st_trace.proofs.Everyone.{all_get, kept_some}
 use Rattle.st_trace.proofs.Stepping.{start_of}
 use Rattle.st_lists.specs.declared.lists.Body.{Body}
 
+-- what a client shows conforms to the schema
+module _ (w : World) (i : ℕ) (c : Client) (E : Document) (s : IsSound w) (at : slice_get w.lists.clients i ≡ Some c) (shown : HasShown (opening_document (header_view w.header)) w.lists.log (main_line c) E) where
+  abbrev h : HeaderView
+  h = header_view w.header
+
+  abbrev log : List Entry
+  log = w.lists.log
+
+  abbrev home : NodeId → Option FieldId
+  home = s.schema.0
+
+  st : IsStart (opening_document h)
+  st = start_of w w.steps s
+
+  k : IsClient h log c
+  k = kept_some h log w.lists.clients w.kept i c s.kept at
+
+  here : IsConforming h.schema home shown.0
+  here = list_conforms h.schema home st.sound k.shown_fit s.schema.1.start (all_get (λ (c : Client). KeepSchemaInTurn h.schema home (opening_document h) (received_by log c ++ c.pending)) w.lists.clients i c s.schema.1.shown at) shown.1
+
+  with_edits : (o : Option Transaction) → IfSome o (IsTransaction h log c) → IfSome (option_and_then (λ (t : Transaction). t.joined) o) (KeepsSchema h.schema home shown.0)
+      → IsConforming h.schema home (with_open shown.0 (option_and_then (λ (t : Transaction). t.joined) o))
+  with_edits None x a = here
+  with_edits (Some t) x a =
+      let so = subst (λ F. FitsSoFar F t.rev t.under t.joined) (one_run x.main shown.1) x.so_far in
+      open_conforms h st home shown.0 t.rev t.under t.joined (shown_sound h st log c shown.0 k shown.1) so here a
+
+  shown_conforming : IsConforming h.schema home E
+  shown_conforming = subst (IsConforming h.schema home) (sym shown.2) (with_edits c.transaction k.transaction (all_get (EditsKeepSchema h home log) w.lists.clients i c s.schema.1.edited at shown.0 shown.1))
+
 -- the text of what a client shows
-text_allowed : (w : World) (i : ℕ) (c : Client) (D : Document) (text : List ℕ) → IsSound w → slice_get w.lists.clients i ≡ Some c → HasShown (opening_document (header_view w.header)) w.lists.log c D → IsTreeText (is_array_type w.header.schema) D text
+text_allowed : (w : World) (i : ℕ) (c : Client) (E : Document) (text : List ℕ) → IsSound w → slice_get w.lists.clients i ≡ Some c → HasShown (opening_document (header_view w.header)) w.lists.log (main_line c) E → IsTreeText (is_array_type w.header.schema) E text
     → IsAllowedText w.header.schema text
-text_allowed w i c D text s at shown is =
+text_allowed w i c E text s at shown is =
     let h = header_view w.header in
-    let st = start_of w w.steps s in
-    let log = w.lists.log in
-    let home = s.schema.0 in
-    let k = kept_some h log w.lists.clients w.kept i c s.kept at in
-    let agree = all_get (λ (c : Client). KeepSchemaInTurn h.schema home (opening_document h) (received_by log c ++ c.pending)) w.lists.clients i c s.schema.1.shown at in
-    let here = list_conforms h.schema home st.sound k.shown_fit s.schema.1.start agree shown in
-    let tree = shown_conforms h.schema s.header.schema home D (turn_extends st.sound k.shown_fit shown).after here (is_array_type h.schema) (λ ty. refl) is.0 is.1 in
+    let k = kept_some h w.lists.log w.lists.clients w.kept i c s.kept at in
+    let sound = (editable h (start_of w w.steps s) w.lists.log c E k shown).sound in
+    let tree = shown_conforms h.schema s.header.schema s.schema.0 E sound (shown_conforming w i c E s at shown) (is_array_type h.schema) (λ ty. refl) is.0 is.1 in
     (tree.0, tree.2, is.2 ∙ ap compact_text (sym tree.1))
 
 either : {A : Type 0} (P : A → Type 0) (b : Bool) (x y : A) → P x → P y → P (cond b x y)
@@ -60,6 +94,7 @@ module _ (s : SchemaView) where
   answered_fine EditWord.Move rev = tt
   answered_fine EditWord.Set rev = tt
   answered_fine EditWord.Clear rev = tt
+  answered_fine EditWord.Need rev = tt
 
   join_fine : (w : WorldState) (name : List ℕ) → Fine (join w name)
   join_fine w name = either Fine (nat_le 64 (length w.clients)) _ _ tt (either Fine (nat_le 65535 (length w.log)) _ _ tt tt)
@@ -67,6 +102,10 @@ module _ (s : SchemaView) where
   none_fine : (w : WorldState) (name : List ℕ) (x : ActView) → Fine (act_of_none w name x)
   none_fine w name step.join = join_fine w name
   none_fine w name (step.edit e) = tt
+  none_fine w name (step.need path) = tt
+  none_fine w name step.begin = tt
+  none_fine w name step.commit = tt
+  none_fine w name step.abort = tt
   none_fine w name step.sequence = tt
   none_fine w name step.deliver = tt
   none_fine w name step.show = tt
@@ -94,15 +133,56 @@ module _ (s : SchemaView) where
   one_fine : (p : WorldState × Answer) (v : WorldState) (a : Answer) → p ≡ (v, a) → Fine p → ShowsAllowed s a
   one_fine p v a is fine = subst (ShowsAllowed s) (ap (λ (q : WorldState × Answer). q.1) is) fine
 
-  edit_fine : (h : HeaderView) (w : WorldState) (i : ℕ) (c : Client) (word : EditWord) (meant : Document → Result Intent EditFault) (v : WorldState) (a : Answer) → IsEdited h w i c word meant v a → ShowsAllowed s a
-  edit_fine h w i c word meant v a is = subst (ShowsAllowed s) (ap (λ (q : WorldState × Answer). q.1) is.2) (edited_fine c word (meant is.0))
+  edited_in_fine : (c d : Client) (t : Transaction) (word : EditWord) (r : Result Intent EditFault) (a : Answer) → IsEditedIn c t word r d a → ShowsAllowed s a
+  edited_in_fine c d t word (Err f) a is = subst (ShowsAllowed s) (sym is.1) tt
+  edited_in_fine c d t word (Ok M) a is = go (names_limit_passed c M) is
+    where
+      go : (o : Option Limit) → IsJoined c t word M o d a → ShowsAllowed s a
+      go None is = subst (ShowsAllowed s) (sym is.3) (answered_fine word t.rev)
+      go (Some l) is = subst (ShowsAllowed s) (sym is.1) tt
+
+  edit_fine : (c d : Client) (o : Option Transaction) (word : EditWord) (r : Result Intent EditFault) (a : Answer) → IsAfterEdit c o word r d a → ShowsAllowed s a
+  edit_fine c d None word r a is = subst (ShowsAllowed s) (ap (λ (q : Client × Answer). q.1) is) (edited_fine c word r)
+  edit_fine c d (Some t) word r a is = edited_in_fine c d t word r a is
+
+  need_fine : (c d : Client) (o : Option Transaction) (r : Result Intent EditFault) (a : Answer) → IsAfterNeed c o r d a → ShowsAllowed s a
+  need_fine c d None r a is = subst (ShowsAllowed s) (sym is.1) tt
+  need_fine c d (Some t) r a is = edited_in_fine c d t EditWord.Need r a is
+
+  begin_fine : (c : Client) (o : Option Transaction) (under : Rev) → ShowsAllowed s (begin c o under).1
+  begin_fine c (Some t) under = tt
+  begin_fine c None under = go (pending_limit_passed c)
+    where
+      go : (o : Option Limit) → ShowsAllowed s (with_beginning c under o).1
+      go None = tt
+      go (Some l) = tt
+
+  commit_fine : (c : Client) (o : Option Transaction) → ShowsAllowed s (commit c o).1
+  commit_fine c None = tt
+  commit_fine c (Some t) = go t.joined
+    where
+      go : (o : Option Intent) → ShowsAllowed s (committed (without_transaction c) t.rev o).1
+      go None = tt
+      go (Some J) = tt
+
+  abort_fine : (c : Client) (o : Option Transaction) → ShowsAllowed s (abort c o).1
+  abort_fine c None = tt
+  abort_fine c (Some t) = tt
+
+  delivered_fine : (D : Document) (c d : Client) (o : Option Transaction) (next : Option Entry) (a : Answer) → IsDeliveredIn D c o next d a → ShowsAllowed s a
+  delivered_fine D c d None next a is = delivery_fine D c d next a is
+  delivered_fine D c d (Some t) next a is = subst (ShowsAllowed s) (sym is.1) tt
 
 -- what the client at the place does
 of_fine : (w : World) (x : ActView) (i : ℕ) (c : Client) (v : WorldState) (a : Answer) → IsSound w → slice_get w.lists.clients i ≡ Some c → IsActOf (header_view w.header) w.lists x i c v a → ShowsAllowed w.header.schema a
 of_fine w step.join i c v a sound at is = subst (ShowsAllowed w.header.schema) (sym is.1) tt
-of_fine w (step.edit e) i c v a sound at is = edit_fine w.header.schema (header_view w.header) w.lists i c (word_of e) _ v a is
+of_fine w (step.edit e) i c v a sound at is = edit_fine w.header.schema c is.1 c.transaction (word_of e) _ a is.3
+of_fine w (step.need path) i c v a sound at is = need_fine w.header.schema c is.1 c.transaction _ a is.3
+of_fine w step.begin i c v a sound at is = subst (ShowsAllowed w.header.schema) (ap (λ (q : Client × Answer). q.1) is.3) (begin_fine w.header.schema c c.transaction (last_in_effect is.0))
+of_fine w step.commit i c v a sound at is = one_fine w.header.schema (with_client w.lists i (commit c c.transaction)) v a is (commit_fine w.header.schema c c.transaction)
+of_fine w step.abort i c v a sound at is = one_fine w.header.schema (with_client w.lists i (abort c c.transaction)) v a is (abort_fine w.header.schema c c.transaction)
 of_fine w step.sequence i c v a sound at is = one_fine w.header.schema (sequence w.lists i c c.queue) v a is (sequence_fine w.header.schema w.lists i c c.queue)
-of_fine w step.deliver i c v a sound at is = delivery_fine w.header.schema is.0 c is.1 (slice_get w.lists.log c.received) a is.3
+of_fine w step.deliver i c v a sound at is = delivered_fine w.header.schema is.0 c is.1 c.transaction (slice_get w.lists.log c.received) a is.3
 of_fine w step.show i c v a sound at is =
     let shown = is.1 in
     subst (ShowsAllowed w.header.schema) (sym shown.4) (text_allowed w i c shown.0 shown.1 sound at shown.2 shown.3)

@@ -51,7 +51,7 @@ use Rattle.st_trace.proofs.Keeping.{AreOne, kept_joined, run_more}
 use Rattle.st_lists.proofs.Logs.{entered_commits, last_entry, text_first}
 use Rattle.st_lemmas.proofs.Lists.{AllByRecursion-append}
 use Rattle.st_lists.specs.declared.lists.Body.{Body}
-use Rattle.st_trace.specs.inside.Replicas.{HasEntered}
+use Rattle.st_trace.specs.inside.Replicas.{HasEntered, IsNewReplica}
 
 abbrev pub start_of : (w : World) (steps : ℕ) → IsSoundAfter steps w → IsStart (opening_document (header_view w.header))
 start_of w steps s = opened_start (header_view w.header) s.header
@@ -222,13 +222,13 @@ of_sessions sessions (e ∷ es) N all i = go (commit_of e) all.0.1 i (λ j. of_s
     go (Some M) own (inr i) rest = rest i
 
 pub sound_joined : (w : World) (name : List ℕ) (n session : ℕ) (c : Client) (k : Replica) (known : BTreeMap ℕ ℕ) → IsSound w → length w.lists.clients < 64 → length w.lists.log < 65535 → session ≡ length w.lists.clients + 1
-    → n ≡ length w.lists.log + 1 → AreKnown (log_with w.lists.log session Join) known → c ≡ new_client n session name → document_of k.received ≡ document_of w.log_document → document_of k.shown ≡ document_of w.log_document → k.names ≡ 0
+    → n ≡ length w.lists.log + 1 → AreKnown (log_with w.lists.log session Join) known → c ≡ new_client n session name → IsNewReplica (document_of w.log_document) k
     → IsSoundAfter (w.steps + 1) (record w {
       lists = record w.lists { log = log_with w.lists.log session Join; clients = w.lists.clients ++ c ∷ [] };
       kept = w.kept ++ k ∷ [];
       known = known;
     })
-sound_joined w name n session c k known s few few_entries is_s is_n knows is_c received shown no_names =
+sound_joined w name n session c k known s few few_entries is_s is_n knows is_c new =
     let h = header_view w.header in
     let st = start_of w w.steps s in
     let log = w.lists.log in
@@ -237,7 +237,7 @@ sound_joined w name n session c k known s few few_entries is_s is_n knows is_c r
     let size : length (log_with log session Join) ≡ length log + 1 = omega (arith, length-append log (last_entry log session Join ∷ [])) in
     let more : length (w.lists.clients ++ c ∷ []) ≡ length w.lists.clients + 1 = omega (arith, length-append w.lists.clients (c ∷ [])) in
     let client = client_joined h st log session name s.log_fit s.log_new (λ N i e. omega (arith, of_sessions (length w.lists.clients) log N s.log i, e, is_s)) in
-    let kept = kept_joined h st (log_with log session Join) (length log + 1) session name k (document_of w.log_document) (sym size) (subst (λ l. Run (opening_document h) l (document_of w.log_document)) commits s.log_document) received shown no_names in
+    let kept = kept_joined h st (log_with log session Join) (length log + 1) session name k (document_of w.log_document) (sym size) (subst (λ l. Run (opening_document h) l (document_of w.log_document)) commits s.log_document) new in
     let is : new_client (length log + 1) session name ≡ c = ap (λ m. new_client m session name) (sym is_n) ∙ sym is_c in
     record {
       header = s.header;

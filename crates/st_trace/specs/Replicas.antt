@@ -1,5 +1,5 @@
 -- What the kept documents and numbers stand for, and what holds of the lists of each world that steps lead to.
-use Rattle.std.specs.Prelude.{◌-◌, ◌≡◌, ◌==◌, ℕ, ◌+◌, ◌≤◌, true, List, [], ◌∷◌, ◌++◌, length, map, drop, filter, Option, IfSome}
+use Rattle.std.specs.Prelude.{◌-◌, ◌≡◌, ◌==◌, ℕ, ◌+◌, ◌<◌, ◌≤◌, true, List, [], ◌∷◌, ◌++◌, length, map, drop, filter, Option, None, IfSome}
 use Rattle.std.specs.List.{AllByRecursion}
 use Rattle.st_ids.specs.Listing.{Has}
 use Rattle.st_ids.specs.declared.names.FieldId.{FieldId}
@@ -7,34 +7,62 @@ use Rattle.st_ids.specs.declared.names.NodeId.{NodeId}
 use Rattle.st_marks.specs.declared.intents.Intent.{Intent}
 use Rattle.st_ids.specs.Root.{opening}
 use Rattle.st_marks.specs.Run.{Run}
-use Rattle.st_marks.specs.Verdict.{carried_document}
-use Rattle.st_log_laws.specs.Names.{HaveNewRevisions}
+use Rattle.st_marks.specs.Document.{Document, IsSoundInForm}
+use Rattle.st_tree.specs.Preorder.{cell_named, node_named}
+use Rattle.st_log_laws.specs.Names.{HaveNewRevisions, revisions}
 use Rattle.st_log_laws.specs.Turns.{FitInTurn}
-use Rattle.st_schema_laws.specs.Agreeing.{KeepSchemaInTurn}
+use Rattle.st_schema_laws.specs.Agreeing.{KeepSchemaInTurn, KeepsSchema}
 use Rattle.st_schema_laws.specs.Conforming.{IsConforming}
 use Rattle.st_doc.specs.Doc.{document_of}
 use Rattle.st_doc.specs.LiveText.{is_among}
 use Rattle.st_schema.specs.Schema.{is_sound}
 use Rattle.st_edits.specs.ArrayTypes.{is_array_type}
+use Rattle.st_heads.specs.Remembered.{AreCarried}
+use Rattle.st_heads.specs.Transactions.{FitsSoFar, HasOpen, with_open}
 use Rattle.st_script.specs.Header.{HeaderView, header_view, may_open}
 use Rattle.st_lists.specs.Known.{AreKnown}
 use Rattle.st_lists.specs.Log.{commit_of, commits_by, commits_in, intents_of, log_and_queue}
-use Rattle.st_lists.specs.Clients.{HasReceived, HasShown, received_by}
-use Rattle.st_trace.specs.World.{opening_document}
-use Rattle.st_lists.specs.Names.{names_in}
+use Rattle.st_lists.specs.Clients.{HasReceived, joined_of, received_by}
+use Rattle.st_lists.specs.Lines.{HasHead, main_line}
+use Rattle.st_trace.specs.World.{last_in_effect, opening_document}
+use Rattle.st_lists.specs.Names.{names_in, unsequenced}
 use Rattle.st_trace.specs.declared.replica.Replica.{Replica}
 use Rattle.st_lists.specs.declared.lists.Client.{Client}
 use Rattle.st_lists.specs.declared.lists.Entry.{Entry}
+use Rattle.st_lists.specs.declared.lists.Transaction.{Transaction}
 use Rattle.st_trace.specs.declared.world.World.{World}
 
 -- ## One client
 
+-- the commits of a client's main line lead to this document
+abbrev pub HasMain : HeaderView → List Entry → Client → Document → Type 0
+HasMain h log c D = HasHead (opening_document h) log (main_line c) D
+
+-- what a transaction is that is open on the main line, beside the client's lists
+pub record IsTransaction (h : HeaderView) (log : List Entry) (c : Client) (t : Transaction) : Type 0 where
+  -- its revision is one of the client's ids, and that of no commit
+  pub session : t.rev.session ≡ c.session
+  pub num : t.rev.num ≤ c.ids
+  pub new : Has (revisions (log_and_queue log c) ++ opening ∷ []) t.rev → ⊥
+  -- its commit can still be pending, and it has given at most as many names as a commit may
+  pub room : length c.pending < 256
+  pub counted : t.nodes + t.cells ≤ 2048
+  -- in the line's document: it is made under the last schema in effect, what was edited fits, and the numbers that it
+  -- may give are of no name that is there
+  pub before : Document
+  pub main : HasMain h log c before
+  pub under : t.under ≡ last_in_effect before
+  pub so_far : FitsSoFar before t.rev t.under t.joined
+  pub sound : IsSoundInForm (with_open before t.joined)
+  pub nodes : (k : ℕ) → t.nodes ≤ k → (with_open before t.joined).nodes (node_named t.rev k) ≡ None
+  pub cells : (k : ℕ) → t.cells ≤ k → (with_open before t.joined).row_of (cell_named t.rev k) ≡ None
+
 -- what a client's lists are, beside the log
 pub record IsClient (h : HeaderView) (log : List Entry) (c : Client) : Type 0 where
   pub within : c.received ≤ length log
-  -- it has at most 256 commits pending, with 16,384 names
+  -- it has at most 256 commits pending, with 16,384 names, those of its open transaction among them
   pub few : length c.pending ≤ 256
-  pub few_names : names_in c.pending ≤ 16384
+  pub few_names : unsequenced c ≤ 16384
   -- pending are its commits in the log that it has not received, and then those that wait
   pub under_way : c.pending ≡ commits_by c.session (drop c.received log) ++ intents_of c.queue
   -- what it shows, and what the log comes to when its queue is sent, can be carried out in turn
@@ -44,12 +72,17 @@ pub record IsClient (h : HeaderView) (log : List Entry) (c : Client) : Type 0 wh
   pub new : HaveNewRevisions (opening ∷ []) (log_and_queue log c)
   pub own : AllByRecursion (λ (N : Intent). N.rev.session ≡ c.session) (intents_of c.queue)
   pub ids : (N : Intent) → Has (log_and_queue log c) N → N.rev.session ≡ c.session → N.rev.num ≤ c.ids
+  -- it may have a transaction open
+  pub transaction : IfSome c.transaction (IsTransaction h log c)
 
--- the kept documents are those to which the client's lists lead
+-- what is kept is that to which the client's lists lead
 pub record IsReplicaOf (h : HeaderView) (log : List Entry) (c : Client) (k : Replica) : Type 0 where
   pub received : HasReceived (opening_document h) log c (document_of k.received)
-  pub shown : HasShown (opening_document h) log c (document_of k.shown)
-  pub names : k.names ≡ names_in c.pending
+  -- the head of its main line stands on that document: its own commits are the pending ones, and what is edited beside
+  -- them is that of the open transaction
+  pub own : AreCarried (document_of k.received) c.pending k.main.own (document_of k.main.doc)
+  pub edited : HasOpen k.main (joined_of c)
+  pub names : k.names ≡ unsequenced c
 
 -- ## The world
 
@@ -70,12 +103,18 @@ AreReplicas h log (c ∷ cs) [] = ⊥
 AreReplicas h log [] (k ∷ ks) = ⊥
 AreReplicas h log (c ∷ cs) (k ∷ ks) = IsClient h log c × IsReplicaOf h log c k × AreReplicas h log cs ks
 
+-- what a client has edited in its open transaction agrees with the schema in the line's document
+abbrev pub EditsKeepSchema : HeaderView → (NodeId → Option FieldId) → List Entry → Client → Type 0
+EditsKeepSchema h home log c = (D : Document) → HasMain h log c D → IfSome (joined_of c) (KeepsSchema h.schema home D)
+
 -- the homes of nodes are such that the document opened conforms to the schema, and each commit agrees with it where it comes
 pub record KeepSchemaWith (h : HeaderView) (log : List Entry) (cs : List Client) (home : NodeId → Option FieldId) : Type 0 where
   pub start : IsConforming h.schema home (opening_document h)
   -- the commits of the log, one after the other, and those that each client shows
   pub logged : KeepSchemaInTurn h.schema home (opening_document h) (commits_in log)
   pub shown : AllByRecursion (λ (c : Client). KeepSchemaInTurn h.schema home (opening_document h) (received_by log c ++ c.pending)) cs
+  -- and what is edited in transactions that are open
+  pub edited : AllByRecursion (EditsKeepSchema h home log) cs
 
 -- there are such homes
 abbrev pub KeepToSchema : HeaderView → List Entry → List Client → Type 0

@@ -1,9 +1,11 @@
 -- The world, as lists alone: the log, and of each client what it received and what it has pending. What a client shows is
 -- read off the document to which its list of commits leads from the opening.
-use Rattle.std.specs.Prelude.{◌≡◌, ℕ, zero, suc, ◌+◌, true, nat_le, List, [], ◌∷◌, ◌++◌, length, slice_get, slice_set, Option, Some, None, Result, Ok, Err, if◌then◌else◌}
+use Rattle.std.specs.Prelude.{◌≡◌, ℕ, zero, suc, ◌+◌, true, nat_le, List, [], ◌∷◌, ◌++◌, length, slice_get, slice_set, Option, Some, None, option_and_then, unwrap_or, Result, Ok, Err, if◌then◌else◌}
 use Rattle.serde_json.specs.Written.{compact_text}
+use Rattle.st_ids.specs.Root.{opening}
 use Rattle.st_ids.specs.declared.names.Limit.{Limit}
 use Rattle.st_ids.specs.declared.names.LimitOf.TheVariants.{Clients, Log}
+use Rattle.st_ids.specs.declared.names.Place.{Place}
 use Rattle.st_ids.specs.declared.names.Rev.{Rev}
 use Rattle.st_tree.specs.Node.{Node, nodes_of, first, no_nodes}
 use Rattle.st_tree.specs.Preorder.{opening_listed}
@@ -16,12 +18,14 @@ use Rattle.st_schema.specs.TreeText.{tree_data}
 use Rattle.st_schema.specs.Written.{schema_data}
 use Rattle.st_marks.specs.declared.intents.Intent.{Intent}
 use Rattle.st_marks.specs.declared.verdicts.Verdict.{Verdict}
-use Rattle.st_marks.specs.Document.{Document}
+use Rattle.st_marks.specs.Document.{Document, last_of, revs}
+use Rattle.st_marks.specs.Intent.{group_cells}
 use Rattle.st_marks.specs.LiveTree.{IsTreeText}
 use Rattle.st_marks.specs.Verdict.{IsVerdict}
 use Rattle.st_opening.specs.Start.{start_of}
 use Rattle.st_edits.specs.declared.names.NameCounters.{NameCounters}
-use Rattle.st_edits.specs.Resolve.{insert, remove, move, put, clear}
+use Rattle.st_edits.specs.Resolve.{insert, remove, move, put, clear, need}
+use Rattle.st_heads.specs.Transactions.{IsWithPart, with_open}
 use Rattle.st_script.specs.Header.{HeaderView}
 use Rattle.st_script.specs.Steps.{ActView, EditView, StepView}
 use Rattle.st_script.specs.Steps as step
@@ -29,8 +33,9 @@ use Rattle.st_script.specs.declared.answer.Answer.{Answer}
 use Rattle.st_script.specs.declared.answer.Answer.TheVariants as answer
 use Rattle.st_script.specs.declared.refusal.Refusal.{Refusal}
 use Rattle.st_script.specs.declared.refusal.Refusal.TheVariants as no
-use Rattle.st_lists.specs.Clients.{HasReceived, HasShown, client_named, new_client, next_rev, with_commit, with_received}
-use Rattle.st_lists.specs.Limits.{limit_passed, log_limit_passed}
+use Rattle.st_lists.specs.Clients.{HasReceived, client_named, new_client, next_rev, with_begun, with_commit, with_edited, with_new_commit, with_received, with_transaction, without_transaction}
+use Rattle.st_lists.specs.Limits.{limit_passed, log_limit_passed, names_limit_passed, pending_limit_passed}
+use Rattle.st_lists.specs.Lines.{HasHead, Line, main_line}
 use Rattle.st_lists.specs.Log.{commit_of, log_with, minimum}
 use Rattle.st_lists.specs.Names.{names_in_text}
 use Rattle.st_trace.specs.declared.client.EditWord.{EditWord}
@@ -38,6 +43,7 @@ use Rattle.st_trace.specs.declared.client.EditWord.TheVariants as word
 use Rattle.st_lists.specs.declared.lists.Body.TheVariants.{Join as Joined}
 use Rattle.st_lists.specs.declared.lists.Client.{Client}
 use Rattle.st_lists.specs.declared.lists.Entry.{Entry}
+use Rattle.st_lists.specs.declared.lists.Transaction.{Transaction}
 use Rattle.st_lists.specs.declared.lists.WorldState.{WorldState}
 use Rattle.st_lists.specs.declared.lists.Body.{Body}
 
@@ -47,7 +53,9 @@ use Rattle.st_lists.specs.declared.lists.Body.{Body}
 abbrev pub opening_document : HeaderView → Document
 opening_document h = start_of (opening_listed h.tree) (compact_text (schema_data h.schema))
 
--- ## Names
+-- the schema entry that is last in effect
+abbrev pub last_in_effect : Document → Rev
+last_in_effect D = unwrap_or (last_of (revs D.schemas)) opening
 
 -- ## Edits of one client
 
@@ -68,7 +76,7 @@ refusal_of fault.Inside = no.Inside
 refusal_of (fault.NotAllowed at) = no.NotAllowed at
 refusal_of (fault.Limit l) = no.Limit l
 
--- which answer an edit gets whose commit is pending
+-- which answer an edit gets that is accepted
 abbrev pub word_of : EditView → EditWord
 word_of (step.insert at key index items) = word.Insert
 word_of (step.remove at key index count) = word.Remove
@@ -76,17 +84,32 @@ word_of (step.move at key index count to to_key to_index) = word.Move
 word_of (step.set at key item) = word.Set
 word_of (step.clear at key) = word.Clear
 
--- the answer to an edit whose commit is pending
+-- the answer to an edit that is accepted, with the revision of its commit
 abbrev pub answer_of : EditWord → Rev → Answer
 answer_of word.Insert rev = answer.Insert rev
 answer_of word.Remove rev = answer.Remove rev
 answer_of word.Move rev = answer.Move rev
 answer_of word.Set rev = answer.Set rev
 answer_of word.Clear rev = answer.Clear rev
+answer_of word.Need rev = answer.Need rev
+
+-- the names that an edit may give: those of the next commit, or the next ones of the transaction that is open
+abbrev pub next_names : Client → Option Transaction → NameCounters
+next_names c None = record { rev = next_rev c; nodes = 0; cells = 0 }
+next_names c (Some t) = record { rev = t.rev; nodes = t.nodes; cells = t.cells }
+
+-- how many numbers of cells an edit gives: one for each cell that it makes, and one for a node that is set, which needs none
+abbrev pub cells_given : EditWord → Intent → ℕ
+cells_given word.Insert M = length (group_cells M)
+cells_given word.Remove M = length (group_cells M)
+cells_given word.Move M = length (group_cells M)
+cells_given word.Set M = length (group_cells M) + 1
+cells_given word.Clear M = length (group_cells M)
+cells_given word.Need M = length (group_cells M)
 
 -- a commit is pending from now on, if it passes no limit
 abbrev pub with_pending : Client → EditWord → Intent → Option Limit → Client × Answer
-with_pending c word N None = (with_commit c N, answer_of word (next_rev c))
+with_pending c word N None = (with_new_commit c N, answer_of word (next_rev c))
 with_pending c word N (Some l) = (c, answer.No (no.Limit l))
 
 -- an edit that is refused, or whose commit is pending from now on
@@ -94,9 +117,56 @@ abbrev pub after_edit : Client → EditWord → Result Intent EditFault → Clie
 after_edit c word (Err f) = (c, answer.No (refusal_of f))
 after_edit c word (Ok N) = with_pending c word N (limit_passed c N)
 
--- the names that its next commit may give
-abbrev pub next_names : Client → NameCounters
-next_names c = record { rev = next_rev c; nodes = 0; cells = 0 }
+-- ## Transactions
+
+-- a step that changes nothing of a client, and its answer
+abbrev pub IsKept : Client → Client → Answer → Answer → Type 0
+IsKept c d a b = (d ≡ c) × (a ≡ b)
+
+-- an edit in a transaction is joined to what was edited in it before, if it passes no limit
+abbrev pub IsJoined : Client → Transaction → EditWord → Intent → Option Limit → Client → Answer → Type 0
+IsJoined c t word M None d a = (J : Intent) × IsWithPart t.joined M J
+    × (d ≡ with_transaction c (with_edited t J (length M.new) (cells_given word M))) × (a ≡ answer_of word t.rev)
+IsJoined c t word M (Some l) d a = IsKept c d a (answer.No (no.Limit l))
+
+-- an edit in a transaction, which is refused or joined to the others
+abbrev pub IsEditedIn : Client → Transaction → EditWord → Result Intent EditFault → Client → Answer → Type 0
+IsEditedIn c t word (Err f) d a = IsKept c d a (answer.No (refusal_of f))
+IsEditedIn c t word (Ok M) d a = IsJoined c t word M (names_limit_passed c M) d a
+
+-- an edit is a commit of its own where no transaction is open
+abbrev pub IsAfterEdit : Client → Option Transaction → EditWord → Result Intent EditFault → Client → Answer → Type 0
+IsAfterEdit c None word meant d a = after_edit c word meant ≡ (d, a)
+IsAfterEdit c (Some t) word meant d a = IsEditedIn c t word meant d a
+
+-- a need is an edit that only a transaction has
+abbrev pub IsAfterNeed : Client → Option Transaction → Result Intent EditFault → Client → Answer → Type 0
+IsAfterNeed c None meant d a = IsKept c d a (answer.No no.NotBegun)
+IsAfterNeed c (Some t) meant d a = IsEditedIn c t word.Need meant d a
+
+-- a transaction begins, if it passes no limit
+abbrev pub with_beginning : Client → Rev → Option Limit → Client × Answer
+with_beginning c under None = (with_begun c under, answer.Begin (next_rev c))
+with_beginning c under (Some l) = (c, answer.No (no.Limit l))
+
+-- a transaction begins where none is open, made under the schema that is last in effect
+abbrev pub begin : Client → Option Transaction → Rev → Client × Answer
+begin c None under = with_beginning c under (pending_limit_passed c)
+begin c (Some t) under = (c, answer.No no.Unfinished)
+
+-- what was edited, if anything was, is a commit now, of the revision that the transaction has
+abbrev pub committed : Client → Rev → Option Intent → Client × Answer
+committed c rev None = (c, answer.Commit None)
+committed c rev (Some J) = (with_commit c J, answer.Commit (Some rev))
+
+abbrev pub commit : Client → Option Transaction → Client × Answer
+commit c None = (c, answer.No no.NotBegun)
+commit c (Some t) = committed (without_transaction c) t.rev t.joined
+
+-- what was edited is dropped; the revision stays used
+abbrev pub abort : Client → Option Transaction → Client × Answer
+abort c None = (c, answer.No no.NotBegun)
+abort c (Some t) = (without_transaction c, answer.Abort)
 
 -- ## Receiving
 
@@ -107,8 +177,19 @@ IsVerdictOf D (Some N) v = IsVerdict D N v
 
 -- the next entry, if there is one, is received; its verdict is that in the document of the entries before it
 abbrev pub IsDeliveredTo : Document → Client → Option Entry → Client → Answer → Type 0
-IsDeliveredTo D c None d a = (d ≡ c) × (a ≡ answer.No no.NothingNew)
+IsDeliveredTo D c None d a = IsKept c d a (answer.No no.NothingNew)
 IsDeliveredTo D c (Some e) d a = (void : Verdict) × IsVerdictOf D (commit_of e) void × (d ≡ with_received e c) × (a ≡ answer.Deliver (c.received + 1) void)
+
+-- nothing is received while a transaction is open
+abbrev pub IsDeliveredIn : Document → Client → Option Transaction → Option Entry → Client → Answer → Type 0
+IsDeliveredIn D c None next d a = IsDeliveredTo D c next d a
+IsDeliveredIn D c (Some t) next d a = IsKept c d a (answer.No no.Unfinished)
+
+-- ## What a client shows
+
+-- a line shows the document of its commits, and while a transaction is open that one with what was edited carried out whole
+abbrev pub HasShown : Document → List Entry → Line → Document → Type 0
+HasShown O log l E = (D : Document) × HasHead O log l D × (E ≡ with_open D (option_and_then (λ (t : Transaction). t.joined) l.transaction))
 
 -- ## The world
 
@@ -151,23 +232,40 @@ sequence w i c (text ∷ rest) = after_entry w i c text rest (log_limit_passed w
 abbrev pub IsUnchanged : WorldState → WorldState → Answer → Answer → Type 0
 IsUnchanged w v a b = (v ≡ w) × (a ≡ b)
 
+-- the client at a place, and none else, takes a step that goes by the document that it shows
+abbrev pub IsDoneIn : HeaderView → WorldState → ℕ → Client → (Document → Client → Answer → Type 0) → WorldState → Answer → Type 0
+IsDoneIn h w i c does v a = (D : Document) × (d : Client) × HasShown (opening_document h) w.log (main_line c) D × does D d a
+    × (v ≡ record w { clients = slice_set w.clients i d })
+
 -- an edit is resolved in the document that the client shows
-abbrev pub IsEdited : HeaderView → WorldState → ℕ → Client → EditWord → (Document → Result Intent EditFault) → WorldState → Answer → Type 0
-IsEdited h w i c word meant v a = (D : Document) × HasShown (opening_document h) w.log c D × (with_client w i (after_edit c word (meant D)) ≡ (v, a))
+abbrev pub IsEdited : HeaderView → WorldState → ℕ → Client → EditView → WorldState → Answer → Type 0
+IsEdited h w i c e v a = IsDoneIn h w i c (λ D. IsAfterEdit c c.transaction (word_of e) (intent_of D h.schema (next_names c c.transaction) e)) v a
+
+-- the node that a path leads to in the document shown is needed
+abbrev pub IsNeeded : HeaderView → WorldState → ℕ → Client → List Place → WorldState → Answer → Type 0
+IsNeeded h w i c at v a = IsDoneIn h w i c (λ D. IsAfterNeed c c.transaction (need D (next_names c c.transaction) at)) v a
+
+-- a transaction begins under the schema that is last in effect in the document shown
+abbrev pub IsBegun : HeaderView → WorldState → ℕ → Client → WorldState → Answer → Type 0
+IsBegun h w i c v a = IsDoneIn h w i c (λ D d b. begin c c.transaction (last_in_effect D) ≡ (d, b)) v a
 
 -- the client receives the next entry
 abbrev pub IsDelivered : HeaderView → WorldState → ℕ → Client → WorldState → Answer → Type 0
-IsDelivered h w i c v a = (D : Document) × (d : Client) × HasReceived (opening_document h) w.log c D × IsDeliveredTo D c (slice_get w.log c.received) d a
-    × (v ≡ record w { clients = slice_set w.clients i d })
+IsDelivered h w i c v a = (D : Document) × (d : Client) × HasReceived (opening_document h) w.log c D
+    × IsDeliveredIn D c c.transaction (slice_get w.log c.received) d a × (v ≡ record w { clients = slice_set w.clients i d })
 
 -- the text of the tree that a client shows
 abbrev pub IsShown : HeaderView → WorldState → Client → Answer → Type 0
-IsShown h w c a = (D : Document) × (tree : List ℕ) × HasShown (opening_document h) w.log c D × IsTreeText (is_array_type h.schema) D tree × (a ≡ answer.Show tree)
+IsShown h w c a = (D : Document) × (tree : List ℕ) × HasShown (opening_document h) w.log (main_line c) D × IsTreeText (is_array_type h.schema) D tree × (a ≡ answer.Show tree)
 
 -- what an act makes of the world, for its client and that one's place
 abbrev pub IsActOf : HeaderView → WorldState → ActView → ℕ → Client → WorldState → Answer → Type 0
 IsActOf h w step.join i c v a = IsUnchanged w v a (answer.No no.Taken)
-IsActOf h w (step.edit e) i c v a = IsEdited h w i c (word_of e) (λ D. intent_of D h.schema (next_names c) e) v a
+IsActOf h w (step.edit e) i c v a = IsEdited h w i c e v a
+IsActOf h w (step.need at) i c v a = IsNeeded h w i c at v a
+IsActOf h w step.begin i c v a = IsBegun h w i c v a
+IsActOf h w step.commit i c v a = with_client w i (commit c c.transaction) ≡ (v, a)
+IsActOf h w step.abort i c v a = with_client w i (abort c c.transaction) ≡ (v, a)
 IsActOf h w step.sequence i c v a = sequence w i c c.queue ≡ (v, a)
 IsActOf h w step.deliver i c v a = IsDelivered h w i c v a
 IsActOf h w step.show i c v a = (v ≡ w) × IsShown h w c a
@@ -176,6 +274,10 @@ IsActOf h w step.show i c v a = (v ≡ w) × IsShown h w c a
 abbrev pub act_of_none : WorldState → List ℕ → ActView → WorldState × Answer
 act_of_none w name step.join = join w name
 act_of_none w name (step.edit e) = (w, answer.No no.NoClient)
+act_of_none w name (step.need at) = (w, answer.No no.NoClient)
+act_of_none w name step.begin = (w, answer.No no.NoClient)
+act_of_none w name step.commit = (w, answer.No no.NoClient)
+act_of_none w name step.abort = (w, answer.No no.NoClient)
 act_of_none w name step.sequence = (w, answer.No no.NoClient)
 act_of_none w name step.deliver = (w, answer.No no.NoClient)
 act_of_none w name step.show = (w, answer.No no.NoClient)
@@ -184,6 +286,10 @@ act_of_none w name step.show = (w, answer.No no.NoClient)
 abbrev pub branch_at : ℕ → ActView → ℕ
 branch_at branch step.join = 0
 branch_at branch (step.edit e) = branch
+branch_at branch (step.need at) = branch
+branch_at branch step.begin = branch
+branch_at branch step.commit = branch
+branch_at branch step.abort = branch
 branch_at branch step.sequence = 0
 branch_at branch step.deliver = 0
 branch_at branch step.show = branch

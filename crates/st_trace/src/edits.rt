@@ -1,24 +1,42 @@
-//! The intent that an edit means.
-ghost use Rattle.std.specs.Prelude.{◌≡◌, ◌<◌, ◌^◌, Ok, Err, IfOk};
+//! Edits of the tree that a client shows: what they mean, and what becomes of it where no transaction is open.
+ghost use Rattle.std.specs.Prelude.{◌≡◌, ◌+◌, ◌^◌, ◌<◌, ◌≤◌, [], ◌∷◌, ◌++◌, length, IfOk, OnOk, Ok, Err};
 ghost use Rattle.st_ids.specs.Or.{IfRefused};
+ghost use Rattle.st_marks.specs.declared.intents.Intent.{Intent as Meant};
+ghost use Rattle.st_marks.specs.Document.{IsSoundInForm};
+ghost use Rattle.st_marks.specs.Intent.{Fits};
 ghost use Rattle.st_doc.specs.Doc.{document_of};
 ghost use Rattle.st_edits.specs.Resolve.{IsWithin, resolve};
+ghost use Rattle.st_heads.specs.Transactions.{HasOpen, with_open};
 ghost use Rattle.st_script.specs.Steps.{edit_view};
-ghost use Rattle.st_trace.specs.World.{word_of};
-ghost use Rattle.st_trace.specs.inside.Edits.{edit_of};
+ghost use Rattle.st_lists.specs.Clients.{joined_of, with_commit, with_new_commit};
+ghost use Rattle.st_lists.specs.Limits.{limit_passed, pending_limit_passed};
+ghost use Rattle.st_lists.specs.Names.{names_made, unsequenced};
+ghost use Rattle.st_lists.specs.declared.lists.Body.TheVariants.{Commit};
+ghost use Rattle.st_trace.specs.World.{IsAfterEdit, answer_of, next_names, refusal_of, with_pending, word_of};
+ghost use Rattle.st_trace.specs.inside.Edits.{edit_of, names_limit};
+ghost use Rattle.st_trace.specs.inside.Replicas.{CanTake, HasTaken, HasNumbersLeft, HasTakenIn, IsCommitted, IsPending, IsTakenIn};
 
 use crate::client::EditWord;
+use crate::replica::Replica;
+use crate::transactions::join_part;
 use st_doc::Doc;
 use st_edits::NameCounters;
-use st_ids::Or;
+use st_ids::{Copied, Limit, LimitOf, List, Or, Rev};
+use st_lists::{Body, Client, names_made};
 use st_marks::Intent;
 use st_resolve::{clear, insert, move_items, remove, set};
 use st_schema::Schema;
-use st_script::EditAct;
+use st_script::{Answer, EditAct, Refusal};
 use st_tree::EditFault;
-use std::alloc::Global;
+use std::alloc::{AllocError, Global};
 
-/// Which answer an edit gets whose commit is pending.
+/// How many commits a client may have pending.
+const MOST_PENDING: usize = 256;
+
+/// How many names may wait at a client.
+const MOST_NAMES: u64 = 16_384;
+
+/// Which answer an edit gets that is accepted.
 pub fn word_of(edit: &EditAct) -> EditWord
     ensures { result ≡ word_of (edit_view edit.now) }
 {
@@ -71,5 +89,231 @@ pub fn resolve_edit(
         ),
         EditAct::Set { at, key, item } => set(alloc, doc, schema, given, at, key, item),
         EditAct::Clear { at, key } => clear(alloc, doc, schema, given, at, key),
+    }
+}
+
+/// The answer to an edit that is accepted, with the revision of its commit.
+pub fn answer_of(done: EditWord, rev: Rev) -> Answer
+    ensures { result ≡ answer_of done rev }
+{
+    match done {
+        EditWord::Insert => Answer::Insert { rev },
+        EditWord::Remove => Answer::Remove { rev },
+        EditWord::Move => Answer::Move { rev },
+        EditWord::Set => Answer::Set { rev },
+        EditWord::Clear => Answer::Clear { rev },
+        EditWord::Need => Answer::Need { rev },
+    }
+}
+
+/// What is refused of an edit.
+pub fn refusal_of(fault: EditFault) -> Refusal
+    ensures { result ≡ refusal_of fault }
+{
+    match fault {
+        EditFault::NoNode { depth } => Refusal::NoNode { depth },
+        EditFault::Kind => Refusal::Kind,
+        EditFault::Range => Refusal::Range,
+        EditFault::Inside => Refusal::Inside,
+        EditFault::NotAllowed { at } => Refusal::NotAllowed { at },
+        EditFault::Limit(limit) => Refusal::Limit(limit),
+    }
+}
+
+/// The names that an edit may give: those of the next commit, or the next ones of the transaction that is open.
+pub fn next_names(client: &Client) -> NameCounters
+    requires { client.now.ids + 1 < 2 ^ 32 }
+    ensures { result ≡ next_names client.now client.now.transaction }
+{
+    match &client.transaction {
+        None => {
+            let session = client.session;
+            let num = client.ids + 1;
+            NameCounters {
+                rev: Rev { session, num },
+                nodes: 0,
+                cells: 0,
+            }
+        }
+        Some(transaction) => NameCounters {
+            rev: transaction.rev,
+            nodes: transaction.nodes,
+            cells: transaction.cells,
+        },
+    }
+}
+
+/// The limit that one more pending commit would pass, if it passes one.
+pub fn pending_limit_passed(client: &Client) -> Option<Limit>
+    requires { length client.now.pending ≤ 256 }
+    ensures { result ≡ pending_limit_passed client.now }
+{
+    let pending = client.pending.len();
+    if pending >= MOST_PENDING {
+        let of = LimitOf::Pending;
+        let kept = pending as u32;
+        return Some(Limit { of, kept });
+    }
+    None
+}
+
+/// The limit that the names of an intent would pass beside so many that wait, if they pass it.
+pub fn names_limit_passed(names: u64, intent: &Intent) -> Option<Limit>
+    requires { names ≤ 16384 }
+    ensures { result ≡ names_limit names intent.now }
+{
+    if names.saturating_add(names_made(intent)) > MOST_NAMES {
+        let of = LimitOf::Unsequenced;
+        let kept = names as u32;
+        return Some(Limit { of, kept });
+    }
+    None
+}
+
+// The limit that one more pending commit would pass, if there is one.
+fn limit_passed(client: &Client, names: u64, intent: &Intent) -> Option<Limit>
+    requires names { names ≡ unsequenced client.now }
+    requires few { unsequenced client.now ≤ 16384 }
+    requires pending { length client.now.pending ≤ 256 }
+    ensures { result ≡ limit_passed client.now intent.now }
+{
+    match pending_limit_passed(client) {
+        Some(limit) => Some(limit),
+        None => names_limit_passed(names, intent),
+    }
+}
+
+// Puts a copy of a commit behind those that are pending.
+fn push_pending(
+    alloc: Global,
+    pending: &mut List<Intent>,
+    intent: &Intent,
+) -> Result<(), AllocError>
+    ensures { OnOk result (pending.new ≡ pending.old ++ intent.now ∷ []) }
+{
+    let intent = intent.copy(alloc)?;
+    pending.push(intent)?;
+    Ok(())
+}
+
+// Puts a commit behind the texts that wait.
+fn push_waiting(queue: &mut List<Body>, reference: u32, intent: Intent) -> Result<(), AllocError>
+    ensures { OnOk result (queue.new ≡ queue.old ++ Commit reference intent ∷ []) }
+{
+    queue.push(Body::Commit { reference, intent })?;
+    Ok(())
+}
+
+/// Keeps a commit as pending and in the queue.
+pub fn enqueue(alloc: Global, client: &mut Client, intent: Intent) -> Result<(), AllocError>
+    ensures { OnOk result (client.new ≡ with_commit client.old intent) }
+{
+    push_pending(alloc, &mut client.pending, &intent)?;
+    push_waiting(&mut client.queue, client.received, intent)?;
+    Ok(())
+}
+
+// Carries a commit out under a new id, and keeps it as pending and in the queue.
+fn commit_new(
+    alloc: Global,
+    client: &mut Client,
+    kept: &mut Replica,
+    intent: Intent,
+) -> Result<(), AllocError>
+    requires few { client.old.ids + 1 < 2 ^ 32 }
+    requires names { kept.old.names + names_made intent ≤ 16384 }
+    requires sound { IsSoundInForm (document_of kept.old.main.doc) }
+    requires fits { Fits (document_of kept.old.main.doc) intent }
+    ensures client { OnOk result (client.new ≡ with_new_commit client.old intent) }
+    ensures kept { OnOk result (IsCommitted kept.old intent kept.new) }
+{
+    kept.names += names_made(&intent);
+    kept.main.carry(alloc, &intent)?;
+    enqueue(alloc, client, intent)?;
+    client.ids += 1;
+    Ok(())
+}
+
+// Keeps a commit as pending, if it passes no limit.
+fn add_pending(
+    alloc: Global,
+    client: &mut Client,
+    kept: &mut Replica,
+    done: EditWord,
+    intent: Intent,
+) -> Result<Answer, AllocError>
+    requires few { client.old.ids + 1 < 2 ^ 32 }
+    requires pending { length client.old.pending ≤ 256 }
+    requires names { kept.old.names ≡ unsequenced client.old }
+    requires few_names { unsequenced client.old ≤ 16384 }
+    requires sound { IsSoundInForm (document_of kept.old.main.doc) }
+    requires fits { Fits (document_of kept.old.main.doc) intent }
+    ensures answer { IfOk result (λ a. with_pending client.old done intent (limit_passed client.old intent) ≡ (client.new, a)) }
+    ensures kept { OnOk result (IsPending kept.old intent (limit_passed client.old intent) kept.new) }
+{
+    if let Some(limit) = limit_passed(client, kept.names, &intent) {
+        return Ok(Answer::No(Refusal::Limit(limit)));
+    }
+    commit_new(alloc, client, kept, intent)?;
+    let session = client.session;
+    let num = client.ids;
+    Ok(answer_of(done, Rev { session, num }))
+}
+
+/// Takes in what an edit means: as a part of the transaction that is open, or as a commit of its own.
+pub fn take_in(
+    alloc: Global,
+    client: &mut Client,
+    kept: &mut Replica,
+    done: EditWord,
+    intent: Intent,
+) -> Result<Answer, AllocError>
+    requires few { client.old.ids + 1 < 2 ^ 32 }
+    requires pending { length client.old.pending ≤ 256 }
+    requires names { kept.old.names ≡ unsequenced client.old }
+    requires few_names { unsequenced client.old ≤ 16384 }
+    requires sound { IsSoundInForm (document_of kept.old.main.doc) }
+    requires can { CanTake kept.old client.old.transaction done intent }
+    ensures answer { IfOk result (IsTakenIn client.old client.old.transaction done intent client.new) }
+    ensures kept { OnOk result (HasTakenIn client.old client.old.transaction kept.old intent client.new kept.new) }
+{
+    let Some(transaction) = client.transaction.as_mut() else {
+        let answer = add_pending(alloc, client, kept, done, intent)?;
+        return Ok(answer);
+    };
+    let answer = join_part(alloc, transaction, kept, done, intent)?;
+    Ok(answer)
+}
+
+/// Makes an edit of the tree that a client shows, or refuses it.
+pub fn edit(
+    alloc: Global,
+    schema: &Schema,
+    client: &mut Client,
+    kept: &mut Replica,
+    edit: &EditAct,
+) -> Result<Answer, AllocError>
+    requires few { client.old.ids + 1 < 2 ^ 32 }
+    requires within { IsWithin (edit_of edit.now) }
+    requires pending { length client.old.pending ≤ 256 }
+    requires names { kept.old.names ≡ unsequenced client.old }
+    requires few_names { unsequenced client.old ≤ 16384 }
+    requires sound { IsSoundInForm (document_of kept.old.main.doc) }
+    requires open { HasOpen kept.old.main (joined_of client.old) }
+    requires given { HasNumbersLeft client.old.transaction }
+    requires can { (N : Meant) → resolve (with_open (document_of kept.old.main.doc) (joined_of client.old)) schema.now (next_names client.old client.old.transaction) (edit_of edit.now) ≡ Ok N
+        → CanTake kept.old client.old.transaction (word_of (edit_view edit.now)) N }
+    ensures answer { IfOk result (IsAfterEdit client.old client.old.transaction (word_of (edit_view edit.now))
+        (resolve (with_open (document_of kept.old.main.doc) (joined_of client.old)) schema.now (next_names client.old client.old.transaction) (edit_of edit.now)) client.new) }
+    ensures kept { OnOk result (HasTaken client.old client.old.transaction kept.old
+        (resolve (with_open (document_of kept.old.main.doc) (joined_of client.old)) schema.now (next_names client.old client.old.transaction) (edit_of edit.now)) client.new kept.new) }
+{
+    match resolve_edit(alloc, kept.main.shown_doc(), schema, next_names(client), edit) {
+        Ok(intent) => {
+            let answer = take_in(alloc, client, kept, word_of(edit), intent)?;
+            Ok(answer)
+        }
+        Err(Or::Fault(fault)) => Ok(Answer::No(refusal_of(fault))),
+        Err(Or::NoMemory) => Err(AllocError),
     }
 }

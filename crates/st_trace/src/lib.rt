@@ -2,9 +2,12 @@
 #![tactic(auto)]
 
 mod client;
+mod edit_steps;
 mod edits;
 mod laws;
+mod log_steps;
 mod replica;
+mod transactions;
 mod world;
 
 pub use client::EditWord;

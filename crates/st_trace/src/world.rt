@@ -4,7 +4,7 @@ ghost use Rattle.st_marks.specs.Document.{IsSoundInForm};
 ghost use Rattle.st_marks.specs.Intent.{Fits};
 ghost use Rattle.st_doc.specs.Doc.{document_of};
 ghost use Rattle.st_script.specs.Header.{header_view, may_open};
-ghost use Rattle.st_script.specs.Steps.{act_view, edit as edit_act, edit_view, step_view, IsActWithin, IsEditWithin, IsWithinLimits};
+ghost use Rattle.st_script.specs.Steps.{act_view, step_view, IsActWithin, IsWithinLimits};
 ghost use Rattle.st_doc.specs.LiveText.{is_among};
 ghost use Rattle.st_edits.specs.ArrayTypes.{is_array_type};
 ghost use Rattle.st_lists.specs.Clients.{empty_state, place_of};
@@ -18,12 +18,13 @@ ghost use Rattle.st_lists.specs.Log.{commit_in, log_with, minimum};
 ghost use Rattle.st_lists.specs.declared.lists.Client.{Client as Present};
 
 use crate::client;
+use crate::log_steps;
 use crate::replica::Replica;
 use st_doc::Doc;
 use st_ids::{Copied, Limit, LimitOf, List, Or, Text};
 use st_lists::{Body, Client, WorldState, append_entry, least_known, names_in_text};
 use st_schema::{Form, Header, Schema};
-use st_script::{Act, Answer, EditAct, Refusal, TraceStep};
+use st_script::{Act, Answer, Refusal, TraceStep};
 use std::alloc::{AllocError, Global};
 use std::collections::BTreeMap;
 
@@ -121,7 +122,9 @@ fn branch_of(step: &TraceStep) -> u32
     ensures { result ≡ branch_at step.now.branch (act_view step.now.act) }
 {
     match &step.act {
-        Act::Edit(_) | Act::Show => step.branch,
+        Act::Edit(_) | Act::Need { .. } | Act::Begin | Act::Commit | Act::Abort | Act::Show => {
+            step.branch
+        }
         Act::Join | Act::Sequence | Act::Deliver => 0,
     }
 }
@@ -165,29 +168,6 @@ impl World {
         }
     }
 
-    // Makes an edit of the tree that the client at a place shows.
-    fn edit(&mut self, alloc: Global, i: usize, edit: &EditAct) -> Result<Answer, AllocError>
-        requires sound { IsSound self.old }
-        requires few { self.old.steps + 1 < 2 ^ 32 }
-        requires within { IsEditWithin (edit_view edit.now) }
-        ensures next { IfOk result (λ a. (c : Present) → slice_get self.old.lists.clients i ≡ Some c
-            → IsActOf (header_view self.old.header) self.old.lists (edit_act (edit_view edit.now)) i c self.new.lists a) }
-        ensures sound { OnOk result (IsSoundNext self.new) }
-        ensures steps { OnOk result (self.new.steps ≡ self.old.steps) }
-        ensures header { OnOk result (self.new.header ≡ self.old.header) }
-        ensures spent { self.new.spent ≡ self.old.spent }
-        ensures refused { IfOk result (λ a. AtRefusal a (self.new ≡ self.old)) }
-    {
-        let Some(kept) = self.kept.get_mut(i) else {
-            return Ok(Answer::No(Refusal::NoClient));
-        };
-        let Some(client) = self.lists.clients.get_mut(i) else {
-            return Ok(Answer::No(Refusal::NoClient));
-        };
-        let answer = client::edit(alloc, &self.header.schema, client, kept, edit)?;
-        Ok(answer)
-    }
-
     // The client at a place receives the next entry.
     fn deliver(&mut self, alloc: Global, i: usize) -> Result<Answer, AllocError>
         requires sound { IsSound self.old }
@@ -207,7 +187,7 @@ impl World {
             return Ok(Answer::No(Refusal::NoClient));
         };
         let log = self.lists.log.as_slice();
-        let answer = client::deliver(alloc, log, client, kept)?;
+        let answer = log_steps::deliver(alloc, log, client, kept)?;
         Ok(answer)
     }
 
@@ -290,7 +270,7 @@ impl World {
         let Some(client) = self.lists.clients.get(i) else {
             return Ok(Answer::No(Refusal::NoClient));
         };
-        let Some(made) = client::names_waiting(client) else {
+        let Some(made) = log_steps::names_waiting(client) else {
             return Ok(Answer::No(Refusal::NothingToSend));
         };
         if let Some(limit) = self.limit_passed(made) {
@@ -300,7 +280,7 @@ impl World {
             return Ok(Answer::No(Refusal::NoClient));
         };
         let session = client.session;
-        match client::take_text(client) {
+        match log_steps::take_text(client) {
             None => Ok(Answer::No(Refusal::NothingToSend)),
             Some(text) => {
                 let answer = self.sequence_text(alloc, session, text)?;
@@ -344,7 +324,7 @@ impl World {
         match self.kept.get(i) {
             None => Ok(Answer::No(Refusal::NoClient)),
             Some(kept) => {
-                let tree = kept.shown.whole(alloc, self.arrays.as_slice())?;
+                let tree = kept.main.shown_doc().whole(alloc, self.arrays.as_slice())?;
                 Ok(Answer::Show { tree })
             }
         }
@@ -370,9 +350,14 @@ impl World {
     {
         match &step.act {
             Act::Join => self.join(alloc, &step.client),
-            Act::Edit(_) | Act::Sequence | Act::Deliver | Act::Show => {
-                Ok(Answer::No(Refusal::NoClient))
-            }
+            Act::Edit(_)
+            | Act::Need { .. }
+            | Act::Begin
+            | Act::Commit
+            | Act::Abort
+            | Act::Sequence
+            | Act::Deliver
+            | Act::Show => Ok(Answer::No(Refusal::NoClient)),
         }
     }
 
@@ -392,6 +377,10 @@ impl World {
         match act {
             Act::Join => Ok(Answer::No(Refusal::Taken)),
             Act::Edit(edit) => self.edit(alloc, i, edit),
+            Act::Need { at } => self.need(alloc, i, at),
+            Act::Begin => Ok(self.begin_transaction(i)),
+            Act::Commit => self.commit_transaction(alloc, i),
+            Act::Abort => Ok(self.abort_transaction(i)),
             Act::Sequence => self.sequence(alloc, i),
             Act::Deliver => self.deliver(alloc, i),
             Act::Show => {

@@ -1,4 +1,9 @@
--- The edit of a tree that an act is.
+-- The edit of a tree that an act is, and the limit of its names.
+use Rattle.std.specs.Prelude.{ℕ, ◌+◌, nat_lt, Option, Some, None, if◌then◌else◌}
+use Rattle.st_ids.specs.declared.names.Limit.{Limit}
+use Rattle.st_ids.specs.declared.names.LimitOf.TheVariants.{Unsequenced}
+use Rattle.st_lists.specs.Names.{names_made}
+use Rattle.st_marks.specs.declared.intents.Intent.{Intent}
 use Rattle.st_tree.specs.declared.edit.Edit.{Edit}
 use Rattle.st_script.specs.declared.step.EditAct.{EditAct}
 use Rattle.st_script.specs.declared.step.EditAct.TheVariants as edits
@@ -9,3 +14,7 @@ edit_of (edits.Remove at key index count) = Edit.Remove at key index count
 edit_of (edits.Move at key index count to to_key to_index) = Edit.Move at key index count to to_key to_index
 edit_of (edits.Set at key item) = Edit.Put at key item
 edit_of (edits.Clear at key) = Edit.Clear at key
+
+-- the limit that the names of an intent pass beside so many that wait
+abbrev pub names_limit : ℕ → Intent → Option Limit
+names_limit n N = if nat_lt 16384 (n + names_made N) then Some (record { of = Unsequenced; kept = n }) else None

@@ -1,18 +1,28 @@
 -- Words of the private functions behind `Replicas`.
-use Rattle.std.specs.Prelude.{◌-◌, false, Result, Ok, Err, ◌≡◌, ◌==◌, ◌+◌, ◌≤◌, Bool, true, ◌∷◌, Option, Some, None, IfSome}
+use Rattle.std.specs.Option.{option_map_or}
+use Rattle.std.specs.Prelude.{◌-◌, ◌^◌, false, Result, Ok, Err, ◌≡◌, ◌==◌, ◌+◌, ◌<◌, ◌≤◌, Bool, true, [], ◌∷◌, drop, length, Option, Some, None, IfSome}
 use Rattle.st_marks.specs.declared.intents.Intent.{Intent}
 use Rattle.st_marks.specs.declared.verdicts.Verdict.{Verdict}
 use Rattle.st_marks.specs.Document.{Document}
 use Rattle.st_marks.specs.Intent.{Fits}
-use Rattle.st_marks.specs.Run.{Run}
 use Rattle.st_marks.specs.Verdict.{IsVerdict, carried_document}
 use Rattle.st_ids.specs.declared.names.Limit.{Limit}
 use Rattle.st_tree.specs.declared.edit.EditFault.{EditFault}
 use Rattle.st_log_laws.specs.Turns.{FitInTurn}
 use Rattle.st_doc.specs.Doc.{document_of}
+use Rattle.st_heads.specs.Heads as head
+use Rattle.st_heads.specs.Remembered.{AreCarried}
 use Rattle.st_lists.specs.Log.{commit_of}
 use Rattle.st_lists.specs.Names.{names_made}
-use Rattle.st_lists.specs.Limits.{limit_passed}
+use Rattle.st_lists.specs.Clients.{joined_of, with_edited}
+use Rattle.st_lists.specs.Limits.{limit_passed, names_limit_passed}
+use Rattle.st_lists.specs.declared.lists.Transaction.{Transaction}
+use Rattle.st_heads.specs.Transactions.{HasOpen, IsOpen, IsSoundPart, IsWithPart, with_open}
+use Rattle.st_script.specs.declared.answer.Answer.{Answer}
+use Rattle.st_script.specs.declared.answer.Answer.TheVariants as answer
+use Rattle.st_script.specs.declared.refusal.Refusal.TheVariants as no
+use Rattle.st_trace.specs.declared.client.EditWord.{EditWord}
+use Rattle.st_trace.specs.World.{IsJoined, answer_of, cells_given, with_pending}
 use Rattle.st_trace.specs.declared.replica.Replica.{Replica}
 use Rattle.st_lists.specs.declared.lists.Client.{Client}
 use Rattle.st_lists.specs.declared.lists.Entry.{Entry}
@@ -27,9 +37,9 @@ IsSoundNext w = IsSoundAfter (w.steps + 1) w
 
 -- ## Steps of a client
 
--- a commit is carried out in the document that a client shows
+-- a commit is carried out at the head of a client's main line
 pub record IsCommitted (old : Replica) (N : Intent) (new : Replica) : Type 0 where
-  pub shown : (v : Verdict) × IsVerdict (document_of old.shown) N v × (document_of new.shown ≡ carried_document v (document_of old.shown) N)
+  pub main : head.HasCarried old.main (N ∷ []) new.main
   pub received : new.received ≡ old.received
   pub names : new.names ≡ old.names + names_made N
 
@@ -38,27 +48,99 @@ abbrev pub IsPending : Replica → Intent → Option Limit → Replica → Type 
 IsPending old N None new = IsCommitted old N new
 IsPending old N (Some l) new = new ≡ old
 
-abbrev pub IsEditedReplica : Client → Replica → Result Intent EditFault → Replica → Type 0
-IsEditedReplica c old (Err f) new = new ≡ old
-IsEditedReplica c old (Ok N) new = IsPending old N (limit_passed c N) new
+-- ## Transactions
+
+-- the numbers that a transaction has given are small
+abbrev pub HasNumbersLeft : Option Transaction → Type 0
+HasNumbersLeft None = Unit {0}
+HasNumbersLeft (Some t) = (t.nodes < 2 ^ 31) × (t.cells < 2 ^ 31)
+
+-- an intent can be joined to what was edited in a transaction: it is a sound part of the same commit, and gives few numbers
+pub record CanJoin (k : Replica) (t : Transaction) (word : EditWord) (M : Intent) : Type 0 where
+  pub going : IsOpen k.main t.joined M.rev M.under
+  pub part : IsSoundPart (with_open (document_of k.main.doc) t.joined) M
+  pub counted : (t.nodes + length M.new) + (t.cells + cells_given word M) ≤ 2048
+
+-- what an edit means can be taken in: as a commit, or as a part of the transaction that is open
+abbrev pub CanTake : Replica → Option Transaction → EditWord → Intent → Type 0
+CanTake k None word N = Fits (document_of k.main.doc) N
+CanTake k (Some t) word N = CanJoin k t word N
+
+-- a transaction with one part more, if that passes no limit, and the answer
+abbrev pub IsJoinedIn : Transaction → EditWord → Intent → Option Limit → Transaction → Answer → Type 0
+IsJoinedIn t word M None u a = (J : Intent) × IsWithPart t.joined M J × (u ≡ with_edited t J (length M.new) (cells_given word M)) × (a ≡ answer_of word t.rev)
+IsJoinedIn t word M (Some l) u a = (u ≡ t) × (a ≡ answer.No (no.Limit l))
+
+-- what is kept after a part more of what is edited, which is now so
+pub record HasPart (old : Replica) (M : Intent) (joined : Option Intent) (new : Replica) : Type 0 where
+  pub received : new.received ≡ old.received
+  pub doc : new.main.doc ≡ old.main.doc
+  pub own : new.main.own ≡ old.main.own
+  pub edited : HasOpen new.main joined
+  pub names : new.names ≡ old.names + names_made M
+
+abbrev pub HasJoined : Replica → Intent → Option Limit → Option Intent → Replica → Type 0
+HasJoined old M None joined new = HasPart old M joined new
+HasJoined old M (Some l) joined new = new ≡ old
+
+-- the client and what is kept of it, after what an edit means was taken in
+abbrev pub IsTakenIn : Client → Option Transaction → EditWord → Intent → Client → Answer → Type 0
+IsTakenIn c None word N d a = with_pending c word N (limit_passed c N) ≡ (d, a)
+IsTakenIn c (Some t) word N d a = IsJoined c t word N (names_limit_passed c N) d a
+
+abbrev pub HasTakenIn : Client → Option Transaction → Replica → Intent → Client → Replica → Type 0
+HasTakenIn c None old N d new = IsPending old N (limit_passed c N) new
+HasTakenIn c (Some t) old N d new = HasJoined old N (names_limit_passed c N) (joined_of d) new
+
+abbrev pub HasTaken : Client → Option Transaction → Replica → Result Intent EditFault → Client → Replica → Type 0
+HasTaken c t old (Err f) d new = new ≡ old
+HasTaken c t old (Ok N) d new = HasTakenIn c t old N d new
+
+-- a need is taken in where a transaction is open
+abbrev pub HasTakenNeed : Client → Option Transaction → Replica → Result Intent EditFault → Client → Replica → Type 0
+HasTakenNeed c None old meant d new = new ≡ old
+HasTakenNeed c (Some t) old meant d new = HasTaken c (Some t) old meant d new
+
+-- what was edited is a commit at the head of the main line
+pub record IsCommittedWhole (old : Replica) (J : Intent) (new : Replica) : Type 0 where
+  pub main : head.HasCarried (record old.main { edited = None }) (J ∷ []) new.main
+  pub received : new.received ≡ old.received
+  pub names : new.names ≡ old.names
+
+abbrev pub HasCommittedOf : Replica → Option Intent → Replica → Type 0
+HasCommittedOf old None new = new ≡ old
+HasCommittedOf old (Some J) new = IsCommittedWhole old J new
+
+abbrev pub HasCommitted : Option Transaction → Replica → Replica → Type 0
+HasCommitted None old new = new ≡ old
+HasCommitted (Some t) old new = HasCommittedOf old t.joined new
+
+-- what was edited is dropped
+abbrev pub HasAborted : Option Transaction → Replica → Replica → Type 0
+HasAborted None old new = new ≡ old
+HasAborted (Some t) old new = new ≡ record old { main = record old.main { edited = None }; names = old.names - option_map_or names_made t.joined 0 }
+
+-- ## Receiving
 
 -- a commit with this verdict is carried out in the document of what was received
 pub record HasCarried (old : Replica) (N : Intent) (v : Verdict) (new : Replica) : Type 0 where
   pub verdict : IsVerdict (document_of old.received) N v
   pub after : document_of new.received ≡ carried_document v (document_of old.received) N
 
--- a commit of its own leaves what a client shows, and another comes before what is pending
-abbrev pub HasShownAfter : Client → Replica → Bool → Intent → Replica → Type 0
-HasShownAfter c old true N new = (document_of new.shown ≡ document_of old.shown) × (new.names ≡ old.names - names_made N)
-HasShownAfter c old false N new = Run (document_of new.received) c.pending (document_of new.shown) × (new.names ≡ old.names)
+-- a commit of its own was the first that the main line has, and goes; another comes before what is pending
+abbrev pub HasMainAfter : Client → Replica → Bool → Intent → Replica → Type 0
+HasMainAfter c old true N new = (new.main ≡ record old.main { own = drop 1 old.main.own }) × (new.names ≡ old.names - names_made N)
+HasMainAfter c old false N new = AreCarried (document_of new.received) c.pending new.main.own (document_of new.main.doc)
+    × (new.main.edited ≡ None) × (new.names ≡ old.names)
 
 abbrev pub HasReceivedOne : Client → Replica → Bool → Intent → Verdict → Replica → Type 0
-HasReceivedOne c old own N v new = HasCarried old N v new × HasShownAfter c old own N new
+HasReceivedOne c old own N v new = HasCarried old N v new × HasMainAfter c old own N new
 
 -- a commit can be received: it fits what was received, and what is pending then still fits
 pub record CanCarry (c : Client) (k : Replica) (own : Bool) (N : Intent) : Type 0 where
   pub fits : Fits (document_of k.received) N
   pub later : own ≡ false → FitInTurn (document_of k.received) (N ∷ c.pending)
+  pub first : own ≡ true → 0 < length k.main.own
   pub names : own ≡ true → names_made N ≤ k.names
 
 abbrev pub CanReceive : Client → Replica → Entry → Type 0
@@ -76,6 +158,30 @@ HasReceivedNext c old e v new = HasReceivedOf c old (e.session == c.session) (co
 abbrev pub HasMoved : Client → Replica → Option Entry → Replica → Type 0
 HasMoved c old None new = new ≡ old
 HasMoved c old (Some e) new = (v : Verdict) × HasReceivedNext c old e v new
+
+-- what is received where no transaction is open can be, and nothing else is
+pub record CanReceiveOf (c : Client) (k : Replica) (next : Option Entry) : Type 0 where
+  pub own : AreCarried (document_of k.received) c.pending k.main.own (document_of k.main.doc)
+  pub edited : k.main.edited ≡ None
+  pub next : IfSome next (CanReceive c k)
+
+abbrev pub CanReceiveIn : Client → Replica → Option Transaction → Option Entry → Type 0
+CanReceiveIn c k None next = CanReceiveOf c k next
+CanReceiveIn c k (Some t) next = Unit {0}
+
+abbrev pub HasMovedIn : Client → Replica → Option Transaction → Option Entry → Replica → Type 0
+HasMovedIn c old None next new = HasMoved c old next new
+HasMovedIn c old (Some t) next new = new ≡ old
+
+-- ## Joining
+
+-- what is kept of a client that has received all commits, which lead to that document, and has nothing pending
+pub record IsNewReplica (D : Document) (k : Replica) : Type 0 where
+  pub received : document_of k.received ≡ D
+  pub shown : document_of k.main.doc ≡ D
+  pub own : k.main.own ≡ []
+  pub edited : k.main.edited ≡ None
+  pub names : k.names ≡ 0
 
 -- ## The log
 

@@ -2,10 +2,9 @@ use Rattle.std.proofs.Common.{refl, sym, arith}
 use Rattle.std.specs.List.{slice_get}
 use Rattle.st_doc.specs.Doc.{document_of}
 use Rattle.st_script.specs.Header.{header_view}
-use Rattle.st_trace.proofs.Acting.{can_deliver, delivered_refused, next_delivered, one_at, sound_delivered}
+use Rattle.st_trace.proofs.Acting.{can_deliver, delivery_refused, next_delivered, one_at, sound_delivery, world_refused}
 use Rattle.st_trace.proofs.Clients.{received_sound}
 use Rattle.st_trace.proofs.Everyone.{kept_none, set_same}
-use Rattle.st_trace.proofs.Keeping.{pending_run}
 use Rattle.st_trace.proofs.Stepping.{sound_later, start_of}
 use Rattle.st_trace.proofs.world.World.deliver.Goals as goal
 
@@ -26,12 +25,6 @@ deliver-requires-clause-sound c =
     let w = c.args.self.now in
     let one = one_at w c.args.i c.in-Some-get_mut.client.now c.in-Some.kept.now c.requires.sound (sym c.in-Some-get_mut.ensures.value) (sym c.in-Some.ensures.value) in
     received_sound (header_view w.header) (start_of w w.steps c.requires.sound) w.lists.log c.in-Some-get_mut.client.now (document_of c.in-Some.kept.now.received) one.client one.kept.received
-
-pub deliver-requires-clause-shown : goal.deliver-requires-clause-shown
-deliver-requires-clause-shown c =
-    let w = c.args.self.now in
-    let one = one_at w c.args.i c.in-Some-get_mut.client.now c.in-Some.kept.now c.requires.sound (sym c.in-Some-get_mut.ensures.value) (sym c.in-Some.ensures.value) in
-    pending_run (header_view w.header) (start_of w w.steps c.requires.sound) w.lists.log c.in-Some-get_mut.client.now c.in-Some.kept.now one
 
 pub deliver-requires-clause-next : goal.deliver-requires-clause-next
 deliver-requires-clause-next c =
@@ -54,8 +47,8 @@ pub returns-clause-sound : goal.returns-clause-sound
 returns-clause-sound c =
     let done = rw c.as_slice-log.ensures at c.in_ok-answer.ensures.answer in
     let moved = rw c.as_slice-log.ensures at c.in_ok-answer.ensures.kept in
-    sound_delivered c.args.self.now c.args.i c.in-Some-get_mut.client.now c.deliver.new.client c.in-Some.kept.now c.deliver.new.kept (document_of c.in-Some.kept.now.received) c.in_ok-answer.answer c.requires.sound
-    (sym c.in-Some-get_mut.ensures.value) (sym c.in-Some.ensures.value) done moved
+    sound_delivery c.args.self.now c.args.i c.in-Some-get_mut.client.now c.in-Some.kept.now c.requires.sound (sym c.in-Some-get_mut.ensures.value) (sym c.in-Some.ensures.value) c.deliver.new.client c.deliver.new.kept
+    (document_of c.in-Some.kept.now.received) c.in_ok-answer.answer done moved
 
 pub returns-in_default-get_mut-clause-refused : goal.returns-in_default-get_mut-clause-refused
 returns-in_default-get_mut-clause-refused c = rw (set_same c.args.self.now.kept c.args.i c.in-Some.kept.now (sym c.in-Some.ensures.value)) refl
@@ -66,5 +59,5 @@ returns-clause-refused c =
     let client = c.in-Some-get_mut.client.now in
     let done = rw c.as_slice-log.ensures at c.in_ok-answer.ensures.answer in
     let moved = rw c.as_slice-log.ensures at c.in_ok-answer.ensures.kept in
-    delivered_refused w c.args.i client c.deliver.new.client c.in-Some.kept.now c.deliver.new.kept (document_of c.in-Some.kept.now.received) (slice_get w.lists.log client.received) c.in_ok-answer.answer
-    (sym c.in-Some-get_mut.ensures.value) (sym c.in-Some.ensures.value) done moved
+    world_refused w c.args.i client c.deliver.new.client c.in-Some.kept.now c.deliver.new.kept c.in_ok-answer.answer (sym c.in-Some-get_mut.ensures.value) (sym c.in-Some.ensures.value)
+    (delivery_refused client c.deliver.new.client c.in-Some.kept.now c.deliver.new.kept client.transaction (document_of c.in-Some.kept.now.received) (slice_get w.lists.log client.received) c.in_ok-answer.answer done moved)

@@ -17,4 +17,4 @@ returns-clause-sound c =
     let opened = c.in_ok-add_replica.ensures in
     rw (c.in_ok-add_client.ensures, opened.1, logged)
     (sound_joined w c.args.name.now c.len-n.result session (new_client c.len-n.result session c.args.name.now) opened.0 c.append_entry.new.known c.requires.sound few few_entries (omega (arith, c.len-count.ensures)) n knows refl
-    opened.2 opened.3 opened.4)
+    opened.2)

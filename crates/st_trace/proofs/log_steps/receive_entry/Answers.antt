@@ -1,5 +1,5 @@
 use Rattle.st_trace.proofs.Receiving.{can_carry, received_commit}
-use Rattle.st_trace.proofs.client.receive_entry.Goals as goal
+use Rattle.st_trace.proofs.log_steps.receive_entry.Goals as goal
 
 pub receive-requires-clause-later : goal.receive-requires-clause-later
 receive-requires-clause-later c =

@@ -1,0 +1,151 @@
+//! What one client does with the tree that it shows: edits, and transactions.
+ghost use Rattle.std.specs.Prelude.{◌≡◌, ◌+◌, ◌^◌, ◌<◌, length, Some, slice_get, IfOk, OnOk};
+ghost use Rattle.st_script.specs.Header.{header_view};
+ghost use Rattle.st_script.specs.Steps as act;
+ghost use Rattle.st_script.specs.Steps.{edit_view, IsEditWithin};
+ghost use Rattle.st_doc.specs.Doc.{document_of};
+ghost use Rattle.st_trace.specs.World.{IsActOf, AtRefusal, last_in_effect};
+ghost use Rattle.st_trace.specs.Replicas.{IsSound};
+ghost use Rattle.st_trace.specs.inside.Replicas.{IsSoundNext};
+ghost use Rattle.st_lists.specs.declared.lists.Client.{Client as Present};
+
+use crate::edits;
+use crate::transactions;
+use crate::world::World;
+use st_doc::Doc;
+use st_ids::{Path, Rev};
+use st_script::{Answer, EditAct, Refusal};
+use std::alloc::{AllocError, Global};
+
+// The schema entry that is last in effect in a document.
+fn last_in_effect(doc: &Doc) -> Rev
+    ensures { result ≡ last_in_effect (document_of doc.now) }
+{
+    match doc.under() {
+        Some(rev) => rev,
+        None => Rev { session: 0, num: 0 },
+    }
+}
+
+impl World {
+    // Makes an edit of the tree that the client at a place shows.
+    pub(crate) fn edit(
+        &mut self,
+        alloc: Global,
+        i: usize,
+        edit: &EditAct,
+    ) -> Result<Answer, AllocError>
+        requires sound { IsSound self.old }
+        requires few { self.old.steps + 1 < 2 ^ 32 }
+        requires within { IsEditWithin (edit_view edit.now) }
+        ensures next { IfOk result (λ a. (c : Present) → slice_get self.old.lists.clients i ≡ Some c
+            → IsActOf (header_view self.old.header) self.old.lists (act.edit (edit_view edit.now)) i c self.new.lists a) }
+        ensures sound { OnOk result (IsSoundNext self.new) }
+        ensures steps { OnOk result (self.new.steps ≡ self.old.steps) }
+        ensures header { OnOk result (self.new.header ≡ self.old.header) }
+        ensures spent { self.new.spent ≡ self.old.spent }
+        ensures refused { IfOk result (λ a. AtRefusal a (self.new ≡ self.old)) }
+    {
+        let Some(kept) = self.kept.get_mut(i) else {
+            return Ok(Answer::No(Refusal::NoClient));
+        };
+        let Some(client) = self.lists.clients.get_mut(i) else {
+            return Ok(Answer::No(Refusal::NoClient));
+        };
+        let answer = edits::edit(alloc, &self.header.schema, client, kept, edit)?;
+        Ok(answer)
+    }
+
+    // The open transaction of the client at a place needs the node that a path leads to.
+    pub(crate) fn need(
+        &mut self,
+        alloc: Global,
+        i: usize,
+        at: &Path,
+    ) -> Result<Answer, AllocError>
+        requires sound { IsSound self.old }
+        requires few { self.old.steps + 1 < 2 ^ 32 }
+        requires short { length at.now < 2 ^ 32 }
+        ensures next { IfOk result (λ a. (c : Present) → slice_get self.old.lists.clients i ≡ Some c
+            → IsActOf (header_view self.old.header) self.old.lists (act.need at.now) i c self.new.lists a) }
+        ensures sound { OnOk result (IsSoundNext self.new) }
+        ensures steps { OnOk result (self.new.steps ≡ self.old.steps) }
+        ensures header { OnOk result (self.new.header ≡ self.old.header) }
+        ensures spent { self.new.spent ≡ self.old.spent }
+        ensures refused { IfOk result (λ a. AtRefusal a (self.new ≡ self.old)) }
+    {
+        let Some(kept) = self.kept.get_mut(i) else {
+            return Ok(Answer::No(Refusal::NoClient));
+        };
+        let Some(client) = self.lists.clients.get_mut(i) else {
+            return Ok(Answer::No(Refusal::NoClient));
+        };
+        let answer = transactions::need(alloc, client, kept, at)?;
+        Ok(answer)
+    }
+
+    // The client at a place begins a transaction.
+    pub(crate) fn begin_transaction(&mut self, i: usize) -> Answer
+        requires sound { IsSound self.old }
+        requires few { self.old.steps + 1 < 2 ^ 32 }
+        ensures next { (c : Present) → slice_get self.old.lists.clients i ≡ Some c
+            → IsActOf (header_view self.old.header) self.old.lists act.begin i c self.new.lists result }
+        ensures sound { IsSoundNext self.new }
+        ensures steps { self.new.steps ≡ self.old.steps }
+        ensures header { self.new.header ≡ self.old.header }
+        ensures spent { self.new.spent ≡ self.old.spent }
+        ensures refused { AtRefusal result (self.new ≡ self.old) }
+    {
+        let Some(kept) = self.kept.get(i) else {
+            return Answer::No(Refusal::NoClient);
+        };
+        let under = last_in_effect(&kept.main.doc);
+        let Some(client) = self.lists.clients.get_mut(i) else {
+            return Answer::No(Refusal::NoClient);
+        };
+        transactions::begin(client, under)
+    }
+
+    // The client at a place commits its open transaction.
+    pub(crate) fn commit_transaction(&mut self, alloc: Global, i: usize) -> Result<Answer, AllocError>
+        requires sound { IsSound self.old }
+        requires few { self.old.steps + 1 < 2 ^ 32 }
+        ensures next { IfOk result (λ a. (c : Present) → slice_get self.old.lists.clients i ≡ Some c
+            → IsActOf (header_view self.old.header) self.old.lists act.commit i c self.new.lists a) }
+        ensures sound { OnOk result (IsSoundNext self.new) }
+        ensures steps { OnOk result (self.new.steps ≡ self.old.steps) }
+        ensures header { OnOk result (self.new.header ≡ self.old.header) }
+        ensures spent { self.new.spent ≡ self.old.spent }
+        ensures refused { IfOk result (λ a. AtRefusal a (self.new ≡ self.old)) }
+    {
+        let Some(kept) = self.kept.get_mut(i) else {
+            return Ok(Answer::No(Refusal::NoClient));
+        };
+        let Some(client) = self.lists.clients.get_mut(i) else {
+            return Ok(Answer::No(Refusal::NoClient));
+        };
+        let answer = transactions::commit(alloc, client, kept)?;
+        Ok(answer)
+    }
+
+    // The client at a place aborts its open transaction.
+    pub(crate) fn abort_transaction(&mut self, i: usize) -> Answer
+        requires sound { IsSound self.old }
+        requires few { self.old.steps + 1 < 2 ^ 32 }
+        ensures next { (c : Present) → slice_get self.old.lists.clients i ≡ Some c
+            → IsActOf (header_view self.old.header) self.old.lists act.abort i c self.new.lists result }
+        ensures sound { IsSoundNext self.new }
+        ensures steps { self.new.steps ≡ self.old.steps }
+        ensures header { self.new.header ≡ self.old.header }
+        ensures spent { self.new.spent ≡ self.old.spent }
+        ensures refused { AtRefusal result (self.new ≡ self.old) }
+    {
+        let Some(kept) = self.kept.get_mut(i) else {
+            return Answer::No(Refusal::NoClient);
+        };
+        let Some(client) = self.lists.clients.get_mut(i) else {
+            return Answer::No(Refusal::NoClient);
+        };
+        transactions::abort(client, kept)
+    }
+}
