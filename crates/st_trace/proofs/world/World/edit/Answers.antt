@@ -10,7 +10,7 @@ use Rattle.st_trace.proofs.Choosing.{next_edit, within_edit}
 use Rattle.st_trace.proofs.Acting.{can_take, edit_meant, edit_refused, few_ids, line_sound, next_done, numbers, one_at, shown, shown_of, sound_edit, world_refused}
 use Rattle.st_trace.proofs.Everyone.{kept_none, set_same}
 use Rattle.st_trace.proofs.Stepping.{sound_later}
-use Rattle.st_trace.proofs.edit_steps.World.edit.Goals as goal
+use Rattle.st_trace.proofs.world.World.edit.Goals as goal
 
 pub returns-in_default-clause-next : goal.returns-in_default-clause-next
 returns-in_default-clause-next c = λ q at. absurd (kept_none _ _ _ _ _ q c.requires.sound.kept at (sym c.in_default.ensures.value))

@@ -9,7 +9,7 @@ use Rattle.st_trace.specs.World.{IsAfterEdit, IsAfterNeed, abort, begin, commit,
 use Rattle.st_trace.proofs.Acting.{begun_as, begun_refused, few_ids, next_done, one_at, shown, shown_of, sound_begin}
 use Rattle.st_trace.proofs.Everyone.{kept_none}
 use Rattle.st_trace.proofs.Stepping.{sound_later}
-use Rattle.st_trace.proofs.edit_steps.World.begin_transaction.Goals as goal
+use Rattle.st_trace.proofs.world.World.begin_transaction.Goals as goal
 
 pub returns-in_default-clause-next : goal.returns-in_default-clause-next
 returns-in_default-clause-next c = λ q at. absurd (kept_none _ _ _ _ _ q c.requires.sound.kept at (sym c.in_default.ensures))

@@ -10,7 +10,7 @@ use Rattle.st_trace.specs.declared.client.EditWord.TheVariants as word
 use Rattle.st_trace.proofs.Acting.{can_take, few_ids, line_sound, need_meant, need_refused, next_done, one_at, shown, shown_of, sound_need, world_refused}
 use Rattle.st_trace.proofs.Everyone.{kept_none, set_same}
 use Rattle.st_trace.proofs.Stepping.{sound_later}
-use Rattle.st_trace.proofs.edit_steps.World.need.Goals as goal
+use Rattle.st_trace.proofs.world.World.need.Goals as goal
 
 pub returns-in_default-clause-next : goal.returns-in_default-clause-next
 returns-in_default-clause-next c = λ q at. absurd (kept_none _ _ _ _ _ q c.requires.sound.kept at (sym c.in_default.ensures.value))

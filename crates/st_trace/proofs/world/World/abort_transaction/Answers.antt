@@ -6,10 +6,10 @@ use Rattle.st_script.specs.Steps.{edit_view}
 use Rattle.st_lists.specs.declared.lists.Client.{Client}
 use Rattle.st_trace.specs.inside.Edits.{edit_of}
 use Rattle.st_trace.specs.World.{IsAfterEdit, IsAfterNeed, abort, begin, commit, last_in_effect, next_names, word_of}
-use Rattle.st_trace.proofs.Acting.{commit_fits, commit_refused, line_sound, next_with, sound_commit, world_refused}
+use Rattle.st_trace.proofs.Acting.{abort_refused, next_with, one_at, sound_abort, world_refused}
 use Rattle.st_trace.proofs.Everyone.{kept_none, set_same}
 use Rattle.st_trace.proofs.Stepping.{sound_later}
-use Rattle.st_trace.proofs.edit_steps.World.commit_transaction.Goals as goal
+use Rattle.st_trace.proofs.world.World.abort_transaction.Goals as goal
 
 pub returns-in_default-clause-next : goal.returns-in_default-clause-next
 returns-in_default-clause-next c = λ q at. absurd (kept_none _ _ _ _ _ q c.requires.sound.kept at (sym c.in_default.ensures.value))
@@ -23,8 +23,8 @@ returns-in_default-get_mut-clause-sound c = rw (set_same c.args.self.now.kept c.
 pub returns-in_default-get_mut-clause-refused : goal.returns-in_default-get_mut-clause-refused
 returns-in_default-get_mut-clause-refused c = rw (set_same c.args.self.now.kept c.args.i c.in-Some.kept.now (sym c.in-Some.ensures.value)) refl
 
-pub commit-requires-clause-sound : goal.commit-requires-clause-sound
-commit-requires-clause-sound c =
+pub abort-requires-clause-names : goal.abort-requires-clause-names
+abort-requires-clause-names c =
     let w = c.args.self.now in
     let i = c.args.i in
     let client = c.in-Some-get_mut.client.now in
@@ -32,10 +32,10 @@ commit-requires-clause-sound c =
     let s = c.requires.sound in
     let at_c = sym c.in-Some-get_mut.ensures.value in
     let at_k = sym c.in-Some.ensures.value in
-    line_sound w i client kept s at_c at_k
+    (one_at w i client kept s at_c at_k).kept.names
 
-pub commit-requires-clause-fits : goal.commit-requires-clause-fits
-commit-requires-clause-fits c =
+pub abort-requires-clause-few_names : goal.abort-requires-clause-few_names
+abort-requires-clause-few_names c =
     let w = c.args.self.now in
     let i = c.args.i in
     let client = c.in-Some-get_mut.client.now in
@@ -43,7 +43,7 @@ commit-requires-clause-fits c =
     let s = c.requires.sound in
     let at_c = sym c.in-Some-get_mut.ensures.value in
     let at_k = sym c.in-Some.ensures.value in
-    commit_fits w i client kept s at_c at_k
+    (one_at w i client kept s at_c at_k).client.few_names
 
 pub returns-clause-next : goal.returns-clause-next
 returns-clause-next c = λ q at.
@@ -54,7 +54,7 @@ returns-clause-next c = λ q at.
     let s = c.requires.sound in
     let at_c = sym c.in-Some-get_mut.ensures.value in
     let at_k = sym c.in-Some.ensures.value in
-    next_with w.lists i client q c.commit.new.client (λ x. commit x x.transaction) c.in_ok-answer.answer at_c at c.in_ok-answer.ensures.answer
+    next_with w.lists i client q c.abort.new.client (λ x. abort x x.transaction) c.abort.result at_c at c.abort.ensures.answer
 
 pub returns-clause-sound : goal.returns-clause-sound
 returns-clause-sound c =
@@ -65,7 +65,7 @@ returns-clause-sound c =
     let s = c.requires.sound in
     let at_c = sym c.in-Some-get_mut.ensures.value in
     let at_k = sym c.in-Some.ensures.value in
-    sound_commit w i client kept s at_c at_k c.commit.new.client c.commit.new.kept c.in_ok-answer.answer c.in_ok-answer.ensures.answer c.in_ok-answer.ensures.kept
+    sound_abort w i client kept s at_c at_k c.abort.new.client c.abort.new.kept c.abort.result c.abort.ensures.answer c.abort.ensures.kept
 
 pub returns-clause-refused : goal.returns-clause-refused
 returns-clause-refused c =
@@ -76,5 +76,5 @@ returns-clause-refused c =
     let s = c.requires.sound in
     let at_c = sym c.in-Some-get_mut.ensures.value in
     let at_k = sym c.in-Some.ensures.value in
-    let a = c.in_ok-answer.answer in
-    world_refused w i client c.commit.new.client kept c.commit.new.kept a at_c at_k (commit_refused client c.commit.new.client kept c.commit.new.kept client.transaction a c.in_ok-answer.ensures.answer c.in_ok-answer.ensures.kept)
+    let a = c.abort.result in
+    world_refused w i client c.abort.new.client kept c.abort.new.kept a at_c at_k (abort_refused client c.abort.new.client kept c.abort.new.kept client.transaction a c.abort.ensures.answer c.abort.ensures.kept)
