@@ -78,9 +78,9 @@ put_there : (D : Document) (J : Intent) → Fits D J → (m : NodeId) → IsSome
 put_there D J f m h = go (put_of J m) refl h
   where
     there : (o p : Option NodeType) → IsSome p ⊎ IsSome o → IsSome (option_or o p)
-    there (Some t) p h = tt
+    there (Some t) p h = refl
     there None p (inl h) = h
-    there None p (inr h) = absurd h
+    there None p (inr h) = absurd (cc)
 
     go : (o : Option To) → put_of J m ≡ o → IsSome o → IsSome ((full D J).nodes m)
     go None e h = absurd (cc)
@@ -91,8 +91,8 @@ made_there : (D : Document) (J : Intent) (m : NodeId) → is_new J m ≡ true �
 made_there D J m h = go (D.nodes m) (new_type J m) h
   where
     go : (o p : Option NodeType) → is_some p ≡ true → IsSome (option_or o p)
-    go (Some t) p h = tt
-    go None (Some t) h = tt
+    go (Some t) p h = refl
+    go None (Some t) h = refl
     go None None h = cc
 
 module _ (h : HeaderView) (st : IsStart (opening_document h)) where
@@ -278,10 +278,10 @@ module _ (h : HeaderView) (st : IsStart (opening_document h)) where
     keeps Ns fit new a = list_keeps h.schema home N itself Ns (opening ∷ []) (opening_document h) st.made fit new a
 
     start_told : IsConforming h.schema home (opening_document h) → IsConforming h.schema told (opening_document h)
-    start_told start = document_keeps h.schema home (opening_document h) N st.sound fresh start
+    start_told start = document_keeps h.schema home (opening_document h) N st.sound no_such_node start
       where
-        fresh : (n : NodeId) → is_new N n ≡ true → (opening_document h).nodes n ≡ None
-        fresh n new = go ((opening_document h).nodes n) refl
+        no_such_node : (n : NodeId) → is_new N n ≡ true → (opening_document h).nodes n ≡ None
+        no_such_node n new = go ((opening_document h).nodes n) refl
           where
             go : (o : Option NodeType) → (opening_document h).nodes n ≡ o → (opening_document h).nodes n ≡ None
             go None e = e

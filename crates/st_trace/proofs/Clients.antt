@@ -186,7 +186,7 @@ module _ (h : HeaderView) (st : IsStart (opening_document h)) where
       let room_shown : HasRoom O ((A ++ c.pending) ++ N ∷ []) =
       room_left O ((A ++ c.pending) ++ N ∷ []) st (omega (arith, names_append (A ++ c.pending) (N ∷ []), fewer_names (shown_among log c k), sent_few log c k, one_name, few_names, all)) in
       let last = one_fits D N sound fits (room_in_run (N ∷ []) st.sound k.shown_fit shown room_shown) in
-      let few_now : names_in (c.pending ++ N ∷ []) ≤ 16384 = omega (arith, names_append c.pending (N ∷ []), one_name, few_names) in
+      let few_now : 0 + names_in (c.pending ++ N ∷ []) ≤ 16384 = omega (arith, names_append c.pending (N ∷ []), one_name, few_names) in
       record {
         within = k.within;
         few = omega (arith, length-append c.pending (N ∷ []), few);

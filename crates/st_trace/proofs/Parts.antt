@@ -104,7 +104,7 @@ open_short : (O D : Document) (st : IsStart O) (Ns : List Intent) (rev under : R
     → Fits (with_open D joined) M → names_in Ns + (names_edited joined + names_made M) ≤ 200000 → HasShortRows (full (with_open D joined) M)
 open_short O D st Ns rev under None M fit run line so sound fits few =
     let one : names_in (M ∷ []) ≡ names_made M = omega arith in
-    let all : names_in Ns + names_made M ≤ 200000 = few in
+    let all : names_in Ns + (0 + names_made M) ≤ 200000 = few in
     short_after D M line fits [] (room_in_run (M ∷ []) st.sound fit run (room_left O (Ns ++ M ∷ []) st (omega (arith, names_append Ns (M ∷ []), one, all))))
 open_short O D st Ns rev under (Some J) M fit run line so sound fits few =
     let two : names_in (J ∷ M ∷ []) ≡ names_made J + names_made M = omega arith in
@@ -114,7 +114,10 @@ open_short O D st Ns rev under (Some J) M fit run line so sound fits few =
 
 -- two parts are joined, and their names are those of both
 names_joined : (D : Document) (joined : Option Intent) (M K : Intent) → IsSoundInForm D → CanFollow D joined M → IsWithPart joined M K → names_made K ≡ names_edited joined + names_made M
-names_joined D None M K sound follow w = ap names_made w
+names_joined D None M K sound follow w =
+    let same : names_made K ≡ names_made M = ap names_made w in
+    let as_said : names_made K ≡ 0 + names_made M = omega (arith, same) in
+    as_said
 names_joined D (Some J) M K sound follow w =
     let both : length K.new + length (group_cells K) ≡ (length J.new + length (group_cells J)) + (length M.new + length (group_cells M)) = omega (arith, nodes_of_both D J M K sound follow w, cells_of_both D J M K sound follow w) in
     both
@@ -243,10 +246,10 @@ module _ (h : HeaderView) (st : IsStart (opening_document h)) where
   -- ## Transactions that begin and end
 
   pub client_begun : (log : List Entry) (c : Client) (D : Document) → IsClient h log c → HasMain h log c D → length c.pending < 256 → IsClient h log (with_begun c (last_in_effect D))
-  client_begun log c D k main room = record {
+  client_begun log c D k main room = let few : 0 + names_in c.pending ≤ 16384 = omega (arith, pending_few h st log c k) in record {
     within = k.within;
     few = k.few;
-    few_names = pending_few h st log c k;
+    few_names = few;
     under_way = k.under_way;
     shown_fit = k.shown_fit;
     sent_fit = k.sent_fit;
@@ -270,10 +273,10 @@ module _ (h : HeaderView) (st : IsStart (opening_document h)) where
   }
 
   pub client_ended : (log : List Entry) (c : Client) → IsClient h log c → IsClient h log (without_transaction c)
-  client_ended log c k = record {
+  client_ended log c k = let few : 0 + names_in c.pending ≤ 16384 = omega (arith, pending_few h st log c k) in record {
     within = k.within;
     few = k.few;
-    few_names = pending_few h st log c k;
+    few_names = few;
     under_way = k.under_way;
     shown_fit = k.shown_fit;
     sent_fit = k.sent_fit;
