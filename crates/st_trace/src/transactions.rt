@@ -13,7 +13,7 @@ ghost use Rattle.st_trace.specs.declared.client.EditWord.{EditWord as Word};
 ghost use Rattle.st_trace.specs.declared.client.EditWord.TheVariants as word;
 ghost use Rattle.st_trace.specs.World.{IsAfterNeed, abort, begin, cells_given, commit, committed, next_names};
 ghost use Rattle.st_trace.specs.inside.Edits.{names_limit};
-ghost use Rattle.st_trace.specs.inside.Replicas.{CanCommit, CanJoin, CanTake, HasAborted, HasCommitted, HasCommittedOf, HasJoined, HasNumbersLeft, HasPart, HasTakenNeed, IsJoinedIn};
+ghost use Rattle.st_trace.specs.inside.Replicas.{CanJoin, CanTake, HasAborted, HasCommitted, HasCommittedOf, HasJoined, HasNumbersLeft, HasPart, HasTakenNeed, IsJoinedIn};
 
 use crate::client::EditWord;
 use crate::edits::{
