@@ -95,15 +95,15 @@ module _ (w : World) (i : ℕ) (c : Client) (k : Replica) (s : IsSound w) (at_c 
 
       go : (o : Option Transaction) → c.transaction ≡ o → IfSome o (IsTransaction h log c) → HasOpen k.main (option_and_then (λ (t : Transaction). t.joined) o) → IsMeant h.schema (with_open D (option_and_then (λ (t : Transaction). t.joined) o)) (next_names c o) word N
           → CanTake k o word N
-      go None is x open m = m.fits
-      go (Some t) is x open m =
+      go None is x edits m = m.fits
+      go (Some t) is x edits m =
           let st = start_of w w.steps s in
           let main = kept_main h log c k one.kept in
           let before : x.before ≡ D = one_run x.main main in
           let n = subst (λ F. IsMeant h.schema (with_open F t.joined) (next_names c (Some t)) word N) (sym before) m in
           record {
             going = record {
-              has = open;
+              has = edits;
               so_far = subst (λ F. FitsSoFar F N.rev N.under t.joined) before (so_far h st log c t word N one.client is s.few_names x n);
               sound = subst (λ F. IsSoundInForm (with_open F t.joined)) before x.sound;
             };
