@@ -32,7 +32,7 @@ returns-in-Err-Fault-clause-answer c =
     let client = c.args.client.now in
     let bad = rw c.in-Err-Fault.field-0-is at c.in-Err-Fault.ensures.bad in
     let meant = rw (c.shown_doc.ensures (joined_of client) c.requires.open, c.next_names.ensures) at bad in
-    edit_stopped client client.transaction (word_of (edit_view c.args.edit.now)) (resolve (with_open (document_of c.args.kept.now.main.doc) (joined_of client)) c.args.schema.now (next_names client client.transaction) (edit_of c.args.edit.now)) c.in-Err-Fault.fault meant
+    rw c.refusal_of.ensures (edit_stopped client client.transaction (word_of (edit_view c.args.edit.now)) (resolve (with_open (document_of c.args.kept.now.main.doc) (joined_of client)) c.args.schema.now (next_names client client.transaction) (edit_of c.args.edit.now)) c.in-Err-Fault.fault meant)
 
 pub returns-in-Err-Fault-clause-kept : goal.returns-in-Err-Fault-clause-kept
 returns-in-Err-Fault-clause-kept c =
