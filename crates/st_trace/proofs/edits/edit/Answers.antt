@@ -4,7 +4,9 @@ use Rattle.st_heads.specs.Transactions.{with_open}
 use Rattle.st_lists.specs.Clients.{joined_of}
 use Rattle.st_script.specs.Steps.{edit_view}
 use Rattle.st_trace.specs.inside.Edits.{edit_of}
-use Rattle.st_trace.specs.World.{next_names, word_of}
+use Rattle.st_trace.specs.World.{IsAfterEdit, next_names, refusal_of, word_of}
+use Rattle.std.proofs.Common.{◌≡◌, sym, subst}
+use Rattle.st_script.specs.declared.answer.Answer.TheVariants.{No}
 use Rattle.st_trace.proofs.Taking.{edit_stopped, edit_taken, kept_of_stopped, kept_of_taken}
 use Rattle.st_trace.proofs.edits.edit.Goals as goal
 
@@ -30,9 +32,11 @@ returns-in_ok-answer-in-Ok-clause-kept c =
 pub returns-in-Err-Fault-clause-answer : goal.returns-in-Err-Fault-clause-answer
 returns-in-Err-Fault-clause-answer c =
     let client = c.args.client.now in
+    let r = resolve (with_open (document_of c.args.kept.now.main.doc) (joined_of client)) c.args.schema.now (next_names client client.transaction) (edit_of c.args.edit.now) in
     let bad = rw c.in-Err-Fault.field-0-is at c.in-Err-Fault.ensures.bad in
     let meant = rw (c.shown_doc.ensures (joined_of client) c.requires.open, c.next_names.ensures) at bad in
-    rw c.refusal_of.ensures (edit_stopped client client.transaction (word_of (edit_view c.args.edit.now)) (resolve (with_open (document_of c.args.kept.now.main.doc) (joined_of client)) c.args.schema.now (next_names client client.transaction) (edit_of c.args.edit.now)) c.in-Err-Fault.fault meant)
+    let is : c.refusal_of.result ≡ refusal_of c.in-Err-Fault.fault = c.refusal_of.ensures in
+    subst (λ x. IsAfterEdit client client.transaction (word_of (edit_view c.args.edit.now)) r client (No x)) (sym is) (edit_stopped client client.transaction (word_of (edit_view c.args.edit.now)) r c.in-Err-Fault.fault meant)
 
 pub returns-in-Err-Fault-clause-kept : goal.returns-in-Err-Fault-clause-kept
 returns-in-Err-Fault-clause-kept c =
