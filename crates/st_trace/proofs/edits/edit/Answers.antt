@@ -35,7 +35,7 @@ returns-in-Err-Fault-clause-answer c =
     let r = resolve (with_open (document_of c.args.kept.now.main.doc) (joined_of client)) c.args.schema.now (next_names client client.transaction) (edit_of c.args.edit.now) in
     let bad = rw c.in-Err-Fault.field-0-is at c.in-Err-Fault.ensures.bad in
     let meant = rw (c.shown_doc.ensures (joined_of client) c.requires.open, c.next_names.ensures) at bad in
-    let is : c.refusal_of.result ≡ refusal_of c.in-Err-Fault.fault = c.refusal_of.ensures in
+    let is : c.refusal_of.result ≡ refusal_of c.in-Err-Fault.fault = rw c.in-Err-Fault.field-0-is at c.refusal_of.ensures in
     subst (λ x. IsAfterEdit client client.transaction (word_of (edit_view c.args.edit.now)) r client (No x)) (sym is) (edit_stopped client client.transaction (word_of (edit_view c.args.edit.now)) r c.in-Err-Fault.fault meant)
 
 pub returns-in-Err-Fault-clause-kept : goal.returns-in-Err-Fault-clause-kept
