@@ -1,5 +1,5 @@
 -- The world after a step of one client.
-use Rattle.std.proofs.Common.{◌≡◌, ◌≤◌, ◌+◌, ◌-◌, ◌^◌, ◌<◌, ℕ, length, List, Option, Some, None, IfSome, Result, Ok, Err, refl, sym, ap, ◌∙◌, subst, arith}
+use Rattle.std.proofs.Common.{◌≡◌, ◌≤◌, ◌+◌, ℕ, List, Option, Some, None, IfSome, Result, Ok, Err, refl, sym, ap, ◌∙◌, subst, arith}
 use Rattle.std.specs.List.{slice_get, slice_set, AllByRecursion}
 use Rattle.std.specs.Option.{option_and_then}
 use Rattle.st_ids.specs.declared.names.Limit.{Limit}
@@ -37,10 +37,10 @@ use Rattle.st_lists.specs.declared.lists.WorldState.{WorldState}
 use Rattle.st_trace.specs.declared.world.World.{World}
 use Rattle.st_trace.proofs.Clients.{shown_sound}
 use Rattle.st_trace.proofs.Everyone.{all_get, clients_of, kept_at, kept_of, set_same}
-use Rattle.st_trace.proofs.Going.{GoesOn, abort_goes, begin_goes, commit_goes, delivery_goes, edit_goes, meant_in, need_goes}
+use Rattle.st_trace.proofs.Going.{GoesOn, abort_goes, begin_goes, commit_goes, delivery_goes, edit_goes, need_goes}
 use Rattle.st_trace.proofs.Keeping.{AreOne, can_receive, kept_begun, kept_commits, kept_delivered, kept_ended, kept_main, kept_parted, kept_shown, kept_taken, none_edited}
 use Rattle.st_trace.proofs.Meant.{IsMeaning, IsMeant, need_means, resolved_means}
-use Rattle.st_trace.proofs.Parts.{counted as numbers_left, editable, is_part, names_edited, so_far, whole_names}
+use Rattle.st_trace.proofs.Parts.{counted as numbers_left, editable, is_part, so_far, whole_names}
 use Rattle.st_trace.proofs.Stepping.{sound_client, start_of}
 
 -- a client and what is kept of it
