@@ -33,7 +33,7 @@ use Rattle.st_log_laws.specs.Turns.{FitInTurn, IsSublist}
 use Rattle.st_log_laws.proofs.Names.{new_node_rev}
 use Rattle.st_log_laws.proofs.Shorter.{sublist_itself, sublist_joined, sublist_none, has_longer}
 use Rattle.st_log_laws.proofs.Turns.{front, made_in_run}
-use Rattle.st_schema_laws.specs.Agreeing.{KeepSchemaInTurn, KeepsSchema, TellsHomes, with_homes}
+use Rattle.st_schema_laws.specs.Agreeing.{KeepSchemaInTurn, KeepsSchema, with_homes}
 use Rattle.st_schema_laws.specs.Conforming.{IsConforming, register_in}
 use Rattle.st_schema_laws.proofs.Homes.{document_keeps, intent_keeps, tells_own}
 use Rattle.st_schema_laws.proofs.Joins.{joined_agrees}
@@ -45,7 +45,7 @@ use Rattle.st_script.specs.declared.answer.Answer.{Answer}
 use Rattle.st_trace.specs.Replicas.{EditsKeepSchema, HasMain, HaveSessionsFrom, IsClient, IsHeader, IsTransaction, KeepSchemaWith, KeepToSchema}
 use Rattle.st_lists.specs.Log.{commits_by, commits_of_text, intents_of, log_and_queue}
 use Rattle.st_lists.specs.Log.{commit_of, commits_in, log_with}
-use Rattle.st_lists.specs.Clients.{joined_of, with_commit, with_edited, with_new_commit, with_transaction, without_transaction, new_client, next_rev, pending_after, received_by, with_received}
+use Rattle.st_lists.specs.Clients.{joined_of, with_commit, with_edited, with_new_commit, with_transaction, without_transaction, new_client, pending_after, received_by, with_received}
 use Rattle.st_trace.specs.World.{IsDeliveredTo, after_edit, cells_given, next_names, opening_document, with_pending}
 use Rattle.st_lists.specs.Limits.{limit_passed}
 use Rattle.st_lists.specs.Names.{names_in}
@@ -78,9 +78,9 @@ put_there : (D : Document) (J : Intent) → Fits D J → (m : NodeId) → IsSome
 put_there D J f m h = go (put_of J m) refl h
   where
     there : (o p : Option NodeType) → IsSome p ⊎ IsSome o → IsSome (option_or o p)
-    there (Some t) p h = tt
+    there (Some t) p h = refl
     there None p (inl h) = h
-    there None p (inr h) = absurd h
+    there None p (inr h) = absurd (cc)
 
     go : (o : Option To) → put_of J m ≡ o → IsSome o → IsSome ((full D J).nodes m)
     go None e h = absurd (cc)
@@ -91,8 +91,8 @@ made_there : (D : Document) (J : Intent) (m : NodeId) → is_new J m ≡ true �
 made_there D J m h = go (D.nodes m) (new_type J m) h
   where
     go : (o p : Option NodeType) → is_some p ≡ true → IsSome (option_or o p)
-    go (Some t) p h = tt
-    go None (Some t) h = tt
+    go (Some t) p h = refl
+    go None (Some t) h = refl
     go None None h = cc
 
 module _ (h : HeaderView) (st : IsStart (opening_document h)) where
@@ -161,8 +161,7 @@ module _ (h : HeaderView) (st : IsStart (opening_document h)) where
       go : (o : Option Entry) → slice_get log c.received ≡ o → IsDeliveredTo D c o c' a → KeepToSchema h log (slice_set cs i c')
       go None e d = same_keeps log cs i c c' at (sym d.0) w
       go (Some x) e d =
-          let now = taken_shows w.0 log c x (all_get (IsClient h log) cs i c are at) few e w.1.logged (all_get (Shown w.0 log) cs i c w.1.shown at) in
-          (
+          let now = taken_shows w.0 log c x (all_get (IsClient h log) cs i c are at) few e w.1.logged (all_get (Shown w.0 log) cs i c w.1.shown at) in (
             w.0,
             record {
               start = w.1.start;
@@ -278,10 +277,10 @@ module _ (h : HeaderView) (st : IsStart (opening_document h)) where
     keeps Ns fit new a = list_keeps h.schema home N itself Ns (opening ∷ []) (opening_document h) st.made fit new a
 
     start_told : IsConforming h.schema home (opening_document h) → IsConforming h.schema told (opening_document h)
-    start_told start = document_keeps h.schema home (opening_document h) N st.sound fresh start
+    start_told start = document_keeps h.schema home (opening_document h) N st.sound no_such_node start
       where
-        fresh : (n : NodeId) → is_new N n ≡ true → (opening_document h).nodes n ≡ None
-        fresh n new = go ((opening_document h).nodes n) refl
+        no_such_node : (n : NodeId) → is_new N n ≡ true → (opening_document h).nodes n ≡ None
+        no_such_node n new = go ((opening_document h).nodes n) refl
           where
             go : (o : Option NodeType) → (opening_document h).nodes n ≡ o → (opening_document h).nodes n ≡ None
             go None e = e

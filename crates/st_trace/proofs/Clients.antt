@@ -27,7 +27,7 @@ use Rattle.st_trace.specs.Replicas.{HasMain, IsClient, IsTransaction}
 use Rattle.st_lists.specs.Log.{commit_in, commits_by, commits_of_text, intents_of, log_and_queue}
 use Rattle.st_lists.specs.Log.{commit_of, commits_in, log_with}
 use Rattle.st_lists.specs.Clients.{HasReceived, joined_of, with_commit, new_client, next_rev, received_by}
-use Rattle.st_lists.specs.Names.{names_in, names_in_text, names_made, unsequenced}
+use Rattle.st_lists.specs.Names.{names_in, names_in_text, names_made}
 use Rattle.st_trace.specs.World.{opening_document}
 use Rattle.st_lists.specs.declared.lists.Body.{Body}
 use Rattle.st_lists.specs.declared.lists.Body.TheVariants.{Join, Commit}
@@ -186,7 +186,7 @@ module _ (h : HeaderView) (st : IsStart (opening_document h)) where
       let room_shown : HasRoom O ((A ++ c.pending) ++ N ∷ []) =
       room_left O ((A ++ c.pending) ++ N ∷ []) st (omega (arith, names_append (A ++ c.pending) (N ∷ []), fewer_names (shown_among log c k), sent_few log c k, one_name, few_names, all)) in
       let last = one_fits D N sound fits (room_in_run (N ∷ []) st.sound k.shown_fit shown room_shown) in
-      let few_now : names_in (c.pending ++ N ∷ []) ≤ 16384 = omega (arith, names_append c.pending (N ∷ []), one_name, few_names) in
+      let few_now : 0 + names_in (c.pending ++ N ∷ []) ≤ 16384 = omega (arith, names_append c.pending (N ∷ []), one_name, few_names) in
       record {
         within = k.within;
         few = omega (arith, length-append c.pending (N ∷ []), few);

@@ -1,5 +1,5 @@
 -- What is kept of a client stands for its lists after each of its steps.
-use Rattle.std.proofs.Common.{◌≡◌, ◌≤◌, ◌<◌, ◌+◌, ◌-◌, ◌==◌, ℕ, Bool, true, false, cond, List, [], ◌∷◌, ◌++◌, length, take, drop, Option, Some, None, IfSome, nat_le, nat_lt, Result, Ok, Err, refl, sym, ap, ◌∙◌, subst, arith, append_assoc}
+use Rattle.std.proofs.Common.{◌≡◌, ◌≤◌, ◌<◌, ◌+◌, ◌-◌, ◌==◌, ℕ, Bool, true, false, cond, List, [], ◌∷◌, ◌++◌, length, take, drop, Option, Some, None, IfSome, nat_le, nat_lt, Result, Ok, Err, refl, sym, ap, ◌∙◌, subst, arith}
 use Rattle.std.specs.List.{slice_get}
 use Rattle.std.proofs.lemmas.Bool.Decides.{nat_tests}
 use Rattle.std.proofs.lemmas.List.{append-nil, take_all}
@@ -9,7 +9,6 @@ use Rattle.st_tree.specs.declared.edit.EditFault.{EditFault}
 use Rattle.st_marks.specs.declared.intents.Intent.{Intent}
 use Rattle.st_marks.specs.declared.verdicts.Verdict.{Verdict}
 use Rattle.st_marks.specs.Document.{Document}
-use Rattle.st_marks.specs.Intent.{Fits}
 use Rattle.st_marks.specs.Run.{Run, done as nothing, next}
 use Rattle.st_marks.specs.Verdict.{IsVerdict, carried_document}
 use Rattle.st_marks.proofs.OneVerdict.{run_then}
@@ -138,11 +137,11 @@ module _ (h : HeaderView) (st : IsStart (opening_document h)) where
     names = now;
   }
     where
-      now : k'.names ≡ names_made K + names_in c.pending
-      now = omega (arith, part.names, w.names, whole, waiting)
-
       waiting : unsequenced c ≡ names_edited t.joined + names_in c.pending
       waiting = ap (λ (o : Option Transaction). names_edited (option_and_then (λ (x : Transaction). x.joined) o) + names_in c.pending) is
+
+      now : k'.names ≡ names_made K + names_in c.pending
+      now = omega (arith, part.names, w.names, whole, waiting)
 
   -- ## Transactions that begin and end
 
@@ -158,11 +157,11 @@ module _ (h : HeaderView) (st : IsStart (opening_document h)) where
       → IsReplicaOf h log (without_transaction c) (record k { main = record k.main { edited = None }; names = k.names - names_edited t.joined })
   kept_ended log c t k is w = record { received = w.received; own = w.own; edited = refl; names = now }
     where
-      now : k.names - names_edited t.joined ≡ names_in c.pending
-      now = omega (arith, w.names, waiting)
-
       waiting : unsequenced c ≡ names_edited t.joined + names_in c.pending
       waiting = ap (λ (o : Option Transaction). names_edited (option_and_then (λ (x : Transaction). x.joined) o) + names_in c.pending) is
+
+      now : k.names - names_edited t.joined ≡ 0 + names_in c.pending
+      now = omega (arith, w.names, waiting)
 
   pub kept_commits : (log : List Entry) (c : Client) (t : Transaction) (k k' : Replica) → c.transaction ≡ Some t → IsReplicaOf h log c k → HasCommittedOf k t.joined k' → IsReplicaOf h log (committed (without_transaction c) t.rev t.joined).0 k'
   kept_commits log c t k k' is w done = go t.joined waiting (subst (λ (o : Option Transaction). HasOpen k.main (option_and_then (λ (x : Transaction). x.joined) o)) is w.edited) done
@@ -175,7 +174,7 @@ module _ (h : HeaderView) (st : IsStart (opening_document h)) where
       go (Some J) names edited done =
           let one_name : names_in (J ∷ []) ≡ names_made J = omega arith in
           let before : k.names ≡ names_made J + names_in c.pending = names in
-          let now : k'.names ≡ names_in (c.pending ++ J ∷ []) = omega (arith, done.names, before, names_append c.pending (J ∷ []), one_name) in
+          let now : k'.names ≡ 0 + names_in (c.pending ++ J ∷ []) = omega (arith, done.names, before, names_append c.pending (J ∷ []), one_name) in
           record {
             received = subst (λ (d : Doc). Run (opening_document h) (received_by log c) (document_of d)) (sym done.received) w.received;
             own = subst (λ (d : Doc). AreCarried (document_of d) (c.pending ++ J ∷ []) k'.main.own (document_of k'.main.doc)) (sym done.received)
@@ -225,14 +224,14 @@ module _ (h : HeaderView) (st : IsStart (opening_document h)) where
       let now : commits_in (take (c.received + 1) log) ≡ A ++ N ∷ [] = received_more h st log c e at ∙ ap (λ l. A ++ l) (one_commit e N is) in
       let names : names_in c.pending ≡ names_made N + names_in (drop 1 c.pending) = ap names_in head in
       let before : k.names ≡ names_edited (joined_of c) + names_in c.pending = w.kept.names in
-      let now : k'.names ≡ names_edited (joined_of c) + names_in (drop 1 c.pending) = omega (arith, got.1.1, names, before) in
+      let left : k'.names ≡ names_edited (joined_of c) + names_in (drop 1 c.pending) = omega (arith, got.1.1, names, before) in
       record {
         received = subst (λ l. Run (opening_document h) l (document_of k'.received)) (sym now) (run_more N (document_of k'.received) v w.kept.received got.0.verdict got.0.after);
         own = subst (λ (m : Head). AreCarried (document_of k'.received) (drop 1 c.pending) m.own (document_of m.doc)) (sym got.1.0)
             (rest_carried (document_of k.received) (document_of k'.received) (document_of k.main.doc) N (drop 1 c.pending) k.main.own v
             (subst (λ l. AreCarried (document_of k.received) l k.main.own (document_of k.main.doc)) head w.kept.own) (omega (arith, ap length head, as_many w.kept.own)) got.0.verdict got.0.after);
         edited = still_none k' c.transaction none (ap (λ (m : Head). m.edited) got.1.0 ∙ none_edited c k none w.kept);
-        names = now;
+        names = left;
       }
 
   kept_other : (log : List Entry) (c : Client) (k k' : Replica) (e : Entry) (N : Intent) (v : Verdict) → AreOne h log c k → slice_get log c.received ≡ Some e → commit_of e ≡ Some N → c.transaction ≡ None

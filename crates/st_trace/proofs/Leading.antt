@@ -5,26 +5,21 @@ use Rattle.std.specs.Option.{option_map_or, option_or}
 use Rattle.serde_json.specs.Written.{compact_text}
 use Rattle.st_ids.specs.Listing.{Has}
 use Rattle.st_ids.specs.Order.{same_node}
-use Rattle.st_ids.specs.declared.names.FieldId.{FieldId}
-use Rattle.st_ids.specs.declared.names.Key.{Key}
 use Rattle.st_ids.specs.declared.names.Limit.{Limit}
 use Rattle.st_ids.specs.declared.names.LimitOf.TheVariants.{Clients, Log}
 use Rattle.st_ids.specs.declared.names.NodeId.{NodeId}
 use Rattle.st_ids.specs.declared.names.Place.{Place}
 use Rattle.st_ids.proofs.Orders.{same_node-true}
-use Rattle.st_tree.specs.Node.{Node, Nodes, nodes_of, first, no_nodes}
 use Rattle.st_tree.specs.Preorder.{opening_listed}
 use Rattle.st_tree.specs.declared.edit.EditFault.{EditFault}
 use Rattle.st_tree.specs.declared.flat.FlatNode.{FlatNode}
-use Rattle.st_schema.specs.Schema.{is_sound}
 use Rattle.st_marks.specs.declared.changes.NewNode.{NewNode}
 use Rattle.st_marks.specs.declared.intents.Intent.{Intent}
 use Rattle.st_marks.specs.declared.verdicts.Verdict.{Verdict}
 use Rattle.st_marks.specs.Document.{Document, IsSoundInForm, NodeType}
 use Rattle.st_ids.specs.Root.{root}
 use Rattle.st_marks.specs.CarryOut.{void, void_data}
-use Rattle.st_marks.specs.Intent.{Fits, new_node, new_type}
-use Rattle.st_marks.specs.LiveTree.{IsTreeText}
+use Rattle.st_marks.specs.Intent.{new_node, new_type}
 use Rattle.st_marks.specs.Run.{Run, done, next}
 use Rattle.st_marks.specs.Verdict.{carried_document}
 use Rattle.st_marks.proofs.Members.{append_left, append_right}
@@ -155,7 +150,7 @@ module _ (h : HeaderView) (w : WorldState) (s : AreSound h w) where
     main = has_run (received_by w.log c ++ c.pending) (opening_document h) st.sound client.shown_fit
 
     -- what it shows
-    E : Document
+    abbrev E : Document
     E = with_open main.0 (joined_of c)
 
     shown : HasShown (opening_document h) w.log (main_line c) E
@@ -165,13 +160,14 @@ module _ (h : HeaderView) (w : WorldState) (s : AreSound h w) where
     received = has_run (received_by w.log c) (opening_document h) (opened_start h s.header).sound (received_fit h (opened_start h s.header) w.log c client)
 
     goes : (does : Document → Client → Answer → Type 0) (d : Client) (a : Answer) → does E d a → GoesOn h st w.log w.clients i c d → Leads (IsDoneIn h w i c does)
-    goes does d a done g = (record w { clients = slice_set w.clients i d }, a, (E, d, shown, done, refl), set_sound h w i c d s at g.client g.session g.keeps)
+    goes does d a so g = (record w { clients = slice_set w.clients i d }, a, (E, d, shown, so, refl), set_sound h w i c d s at g.client g.session g.keeps)
 
     -- an edit in the transaction that is open
     edited_in : (t : Transaction) (word : EditWord) (r : Result Intent EditFault) → c.transaction ≡ Some t → IsTransaction h w.log c t → IsMeaning h.schema (with_open main.0 t.joined) (next_names c (Some t)) word r → (d : Client) × (a : Answer) × IsEditedIn c t word r d a
     edited_in t word (Err f) is x means = (c, No (refusal_of f), (refl, refl))
     edited_in t word (Ok M) is x means = go (names_limit_passed c M)
       where
+        m : IsMeant h.schema (with_open x.before t.joined) (next_names c (Some t)) word M
         m = meant_in h st w.log w.clients s.sessions s.clients s.few_names s.schema i c at (with_open main.0 t.joined) t word M x main.0 main.1 refl (means M refl)
 
         go : (o : Option Limit) → (d : Client) × (a : Answer) × IsJoined c t word M o d a

@@ -1,5 +1,5 @@
 -- A client's open transaction: where it edits, and one part more.
-use Rattle.std.proofs.Common.{◌≡◌, ◌≤◌, ◌<◌, ◌+◌, ℕ, true, List, [], ◌∷◌, ◌++◌, length, Option, Some, None, IfSome, is_some, refl, sym, ap, ◌∙◌, subst, arith, unwrap_or}
+use Rattle.std.proofs.Common.{◌≡◌, ◌≤◌, ◌<◌, ◌+◌, ℕ, List, [], ◌∷◌, ◌++◌, length, Option, Some, None, IfSome, is_some, refl, sym, ap, ◌∙◌, subst, arith, unwrap_or}
 use Rattle.std.specs.Option.{option_and_then, option_or, option_map_or}
 use Rattle.st_ids.specs.Listing.{Has}
 use Rattle.st_ids.specs.Root.{opening}
@@ -8,24 +8,19 @@ use Rattle.st_ids.specs.declared.names.NodeId.{NodeId}
 use Rattle.st_ids.specs.declared.names.Rev.{Rev}
 use Rattle.st_tree.specs.Preorder.{cell_named, node_named}
 use Rattle.st_marks.specs.declared.intents.Intent.{Intent}
-use Rattle.st_marks.specs.declared.intents.Owned.{Owned}
 use Rattle.st_marks.specs.declared.verdicts.Verdict.{Verdict}
 use Rattle.st_marks.specs.CarryOut.{full, with_schema}
 use Rattle.st_marks.specs.Document.{Document, NodeType, HasShortRows, IsSoundInForm, last_of, revs}
-use Rattle.st_marks.specs.declared.schemas.SchemaEntry.{SchemaEntry}
-use Rattle.st_marks.specs.Intent.{Fits, group_cells, is_new, new_row_of, new_type}
+use Rattle.st_marks.specs.Intent.{Fits, group_cells, new_row_of, new_type}
 use Rattle.st_marks.specs.Run.{Run}
 use Rattle.st_marks.proofs.Lookups.{group-new_row_of}
 use Rattle.st_marks.proofs.Members.{flat_map-has}
 use Rattle.st_marks.proofs.OneVerdict.{carried_extends, one_run}
-use Rattle.st_log_laws.specs.Turns.{FitInTurn, HasRoom}
+use Rattle.st_log_laws.specs.Turns.{FitInTurn}
 use Rattle.st_log_laws.proofs.Beside.{one_fits}
 use Rattle.st_log_laws.proofs.Room.{room_after, room_in_run, short_after}
-use Rattle.st_log_laws.proofs.Turns.{then_one}
 use Rattle.st_edits.specs.declared.names.NameCounters.{NameCounters}
 use Rattle.st_edits.specs.Given.{IsCountedFrom}
-use Rattle.st_edits.proofs.MoveFits.{CellsFresh}
-use Rattle.st_edits.proofs.NewFits.{NodesFresh}
 use Rattle.st_join.proofs.JoinNames.{cells_of_both, nodes_of_both}
 use Rattle.st_join.proofs.JoinOf.{joined_is_join}
 use Rattle.st_join.specs.inside.Lists.{join_of}
@@ -33,7 +28,7 @@ use Rattle.st_heads.specs.Transactions.{FitsSoFar, IsSoundPart, IsWithPart, with
 use Rattle.st_heads.specs.inside.Parts.{CanFollow}
 use Rattle.st_heads.proofs.Editing.{can_follow, fits_so_far, open_shows}
 use Rattle.st_script.specs.Header.{HeaderView}
-use Rattle.st_lists.specs.Clients.{joined_of, next_rev, received_by, with_begun, with_commit, with_edited, with_transaction, without_transaction}
+use Rattle.st_lists.specs.Clients.{next_rev, received_by, with_begun, with_commit, with_edited, with_transaction, without_transaction}
 use Rattle.st_lists.specs.Lines.{main_line}
 use Rattle.st_lists.specs.Log.{commits_in, log_and_queue}
 use Rattle.st_lists.specs.Names.{names_in, names_made, unsequenced}
@@ -104,7 +99,7 @@ open_short : (O D : Document) (st : IsStart O) (Ns : List Intent) (rev under : R
     → Fits (with_open D joined) M → names_in Ns + (names_edited joined + names_made M) ≤ 200000 → HasShortRows (full (with_open D joined) M)
 open_short O D st Ns rev under None M fit run line so sound fits few =
     let one : names_in (M ∷ []) ≡ names_made M = omega arith in
-    let all : names_in Ns + names_made M ≤ 200000 = few in
+    let all : names_in Ns + (0 + names_made M) ≤ 200000 = few in
     short_after D M line fits [] (room_in_run (M ∷ []) st.sound fit run (room_left O (Ns ++ M ∷ []) st (omega (arith, names_append Ns (M ∷ []), one, all))))
 open_short O D st Ns rev under (Some J) M fit run line so sound fits few =
     let two : names_in (J ∷ M ∷ []) ≡ names_made J + names_made M = omega arith in
@@ -114,7 +109,10 @@ open_short O D st Ns rev under (Some J) M fit run line so sound fits few =
 
 -- two parts are joined, and their names are those of both
 names_joined : (D : Document) (joined : Option Intent) (M K : Intent) → IsSoundInForm D → CanFollow D joined M → IsWithPart joined M K → names_made K ≡ names_edited joined + names_made M
-names_joined D None M K sound follow w = ap names_made w
+names_joined D None M K sound follow w =
+    let same : names_made K ≡ names_made M = ap names_made w in
+    let as_said : names_made K ≡ 0 + names_made M = omega (arith, same) in
+    as_said
 names_joined D (Some J) M K sound follow w =
     let both : length K.new + length (group_cells K) ≡ (length J.new + length (group_cells J)) + (length M.new + length (group_cells M)) = omega (arith, nodes_of_both D J M K sound follow w, cells_of_both D J M K sound follow w) in
     both
@@ -243,10 +241,10 @@ module _ (h : HeaderView) (st : IsStart (opening_document h)) where
   -- ## Transactions that begin and end
 
   pub client_begun : (log : List Entry) (c : Client) (D : Document) → IsClient h log c → HasMain h log c D → length c.pending < 256 → IsClient h log (with_begun c (last_in_effect D))
-  client_begun log c D k main room = record {
+  client_begun log c D k main room = let few : 0 + names_in c.pending ≤ 16384 = omega (arith, pending_few h st log c k) in record {
     within = k.within;
     few = k.few;
-    few_names = pending_few h st log c k;
+    few_names = few;
     under_way = k.under_way;
     shown_fit = k.shown_fit;
     sent_fit = k.sent_fit;
@@ -270,10 +268,10 @@ module _ (h : HeaderView) (st : IsStart (opening_document h)) where
   }
 
   pub client_ended : (log : List Entry) (c : Client) → IsClient h log c → IsClient h log (without_transaction c)
-  client_ended log c k = record {
+  client_ended log c k = let few : 0 + names_in c.pending ≤ 16384 = omega (arith, pending_few h st log c k) in record {
     within = k.within;
     few = k.few;
-    few_names = pending_few h st log c k;
+    few_names = few;
     under_way = k.under_way;
     shown_fit = k.shown_fit;
     sent_fit = k.sent_fit;

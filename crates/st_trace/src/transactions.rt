@@ -13,7 +13,7 @@ ghost use Rattle.st_trace.specs.declared.client.EditWord.{EditWord as Word};
 ghost use Rattle.st_trace.specs.declared.client.EditWord.TheVariants as word;
 ghost use Rattle.st_trace.specs.World.{IsAfterNeed, abort, begin, cells_given, commit, committed, next_names};
 ghost use Rattle.st_trace.specs.inside.Edits.{names_limit};
-ghost use Rattle.st_trace.specs.inside.Replicas.{CanCommit, CanJoin, CanTake, HasAborted, HasCommitted, HasCommittedOf, HasJoined, HasNumbersLeft, HasPart, HasTakenNeed, IsJoinedIn};
+ghost use Rattle.st_trace.specs.inside.Replicas.{CanJoin, CanTake, HasAborted, HasCommitted, HasCommittedOf, HasJoined, HasNumbersLeft, HasPart, HasTakenNeed, IsJoinedIn};
 
 use crate::client::EditWord;
 use crate::edits::{
@@ -65,7 +65,7 @@ fn add_part(
     requires names { kept.old.names + names_made part ≤ 16384 }
     ensures transaction { OnOk result ((J : Meant) × IsWithPart transaction.old.joined part J
         × (transaction.new ≡ with_edited transaction.old J (length part.new) (cells_given done part))) }
-    ensures kept { OnOk result (HasPart kept.old part transaction.new kept.new) }
+    ensures kept { OnOk result (HasPart kept.old part transaction.new.joined kept.new) }
 {
     kept.names += names_made(&part);
     count_numbers(transaction, done, &part);
@@ -85,7 +85,7 @@ pub fn join_part(
     requires few { kept.old.names ≤ 16384 }
     requires can { CanJoin kept.old transaction.old done part }
     ensures answer { IfOk result (IsJoinedIn transaction.old done part (names_limit kept.old.names part) transaction.new) }
-    ensures kept { OnOk result (HasJoined kept.old part (names_limit kept.old.names part) transaction.new kept.new) }
+    ensures kept { OnOk result (HasJoined kept.old part (names_limit kept.old.names part) transaction.new.joined kept.new) }
 {
     if let Some(limit) = names_limit_passed(kept.names, &part) {
         return Ok(Answer::No(Refusal::Limit(limit)));

@@ -160,10 +160,10 @@ HasMoved c old None new = new ≡ old
 HasMoved c old (Some e) new = (v : Verdict) × HasReceivedNext c old e v new
 
 -- what is received where no transaction is open can be, and nothing else is
-pub record CanReceiveOf (c : Client) (k : Replica) (next : Option Entry) : Type 0 where
+pub record CanReceiveOf (c : Client) (k : Replica) (entry : Option Entry) : Type 0 where
   pub own : AreCarried (document_of k.received) c.pending k.main.own (document_of k.main.doc)
   pub edited : k.main.edited ≡ None
-  pub next : IfSome next (CanReceive c k)
+  pub next : IfSome entry (CanReceive c k)
 
 abbrev pub CanReceiveIn : Client → Replica → Option Transaction → Option Entry → Type 0
 CanReceiveIn c k None next = CanReceiveOf c k next
