@@ -18,57 +18,18 @@ pub returns-in_default-get_mut-clause-refused : goal.returns-in_default-get_mut-
 returns-in_default-get_mut-clause-refused c = rw (set_same c.args.self.now.kept c.args.i c.in-Some.kept.now (sym c.in-Some.ensures.value)) refl
 
 pub abort-requires-clause-names : goal.abort-requires-clause-names
-abort-requires-clause-names c =
-    let w = c.args.self.now in
-    let i = c.args.i in
-    let client = c.in-Some-get_mut.client.now in
-    let kept = c.in-Some.kept.now in
-    let s = c.requires.sound in
-    let at_c = sym c.in-Some-get_mut.ensures.value in
-    let at_k = sym c.in-Some.ensures.value in
-    (one_at w i client kept s at_c at_k).kept.names
+abort-requires-clause-names c = (one_at c.args.self.now c.args.i c.in-Some-get_mut.client.now c.in-Some.kept.now c.requires.sound (sym c.in-Some-get_mut.ensures.value) (sym c.in-Some.ensures.value)).kept.names
 
 pub abort-requires-clause-few_names : goal.abort-requires-clause-few_names
-abort-requires-clause-few_names c =
-    let w = c.args.self.now in
-    let i = c.args.i in
-    let client = c.in-Some-get_mut.client.now in
-    let kept = c.in-Some.kept.now in
-    let s = c.requires.sound in
-    let at_c = sym c.in-Some-get_mut.ensures.value in
-    let at_k = sym c.in-Some.ensures.value in
-    (one_at w i client kept s at_c at_k).client.few_names
+abort-requires-clause-few_names c = (one_at c.args.self.now c.args.i c.in-Some-get_mut.client.now c.in-Some.kept.now c.requires.sound (sym c.in-Some-get_mut.ensures.value) (sym c.in-Some.ensures.value)).client.few_names
 
 pub returns-clause-next : goal.returns-clause-next
 returns-clause-next c = λ q at.
-    let w = c.args.self.now in
-    let i = c.args.i in
-    let client = c.in-Some-get_mut.client.now in
-    let kept = c.in-Some.kept.now in
-    let s = c.requires.sound in
-    let at_c = sym c.in-Some-get_mut.ensures.value in
-    let at_k = sym c.in-Some.ensures.value in
-    next_with w.lists i client q c.abort.new.client (λ x. abort x x.transaction) c.abort.result at_c at c.abort.ensures.answer
+    next_with c.args.self.now.lists c.args.i c.in-Some-get_mut.client.now q c.abort.new.client (λ x. abort x x.transaction) c.abort.result (sym c.in-Some-get_mut.ensures.value) at c.abort.ensures.answer
 
 pub returns-clause-sound : goal.returns-clause-sound
-returns-clause-sound c =
-    let w = c.args.self.now in
-    let i = c.args.i in
-    let client = c.in-Some-get_mut.client.now in
-    let kept = c.in-Some.kept.now in
-    let s = c.requires.sound in
-    let at_c = sym c.in-Some-get_mut.ensures.value in
-    let at_k = sym c.in-Some.ensures.value in
-    sound_abort w i client kept s at_c at_k c.abort.new.client c.abort.new.kept c.abort.result c.abort.ensures.answer c.abort.ensures.kept
+returns-clause-sound c = sound_abort c.args.self.now c.args.i c.in-Some-get_mut.client.now c.in-Some.kept.now c.requires.sound (sym c.in-Some-get_mut.ensures.value) (sym c.in-Some.ensures.value) c.abort.new.client c.abort.new.kept c.abort.result c.abort.ensures.answer c.abort.ensures.kept
 
 pub returns-clause-refused : goal.returns-clause-refused
 returns-clause-refused c =
-    let w = c.args.self.now in
-    let i = c.args.i in
-    let client = c.in-Some-get_mut.client.now in
-    let kept = c.in-Some.kept.now in
-    let s = c.requires.sound in
-    let at_c = sym c.in-Some-get_mut.ensures.value in
-    let at_k = sym c.in-Some.ensures.value in
-    let a = c.abort.result in
-    world_refused w i client c.abort.new.client kept c.abort.new.kept a at_c at_k (abort_refused client c.abort.new.client kept c.abort.new.kept client.transaction a c.abort.ensures.answer c.abort.ensures.kept)
+    world_refused c.args.self.now c.args.i c.in-Some-get_mut.client.now c.abort.new.client c.in-Some.kept.now c.abort.new.kept c.abort.result (sym c.in-Some-get_mut.ensures.value) (sym c.in-Some.ensures.value) (abort_refused c.in-Some-get_mut.client.now c.abort.new.client c.in-Some.kept.now c.abort.new.kept c.in-Some-get_mut.client.now.transaction c.abort.result c.abort.ensures.answer c.abort.ensures.kept)

@@ -13,57 +13,19 @@ pub returns-in_default-clause-sound : goal.returns-in_default-clause-sound
 returns-in_default-clause-sound c = sound_later c.args.self.now.steps c.args.self.now c.requires.sound
 
 pub begin-requires-clause-few : goal.begin-requires-clause-few
-begin-requires-clause-few c =
-    let w = c.args.self.now in
-    let i = c.args.i in
-    let client = c.in-Some-get_mut.client.now in
-    let kept = c.in-Some.kept.now in
-    let s = c.requires.sound in
-    let at_c = sym c.in-Some-get_mut.ensures.value in
-    let at_k = sym c.in-Some.ensures in
-    omega (arith, few_ids w i client s at_c)
+begin-requires-clause-few c = omega (arith, few_ids c.args.self.now c.args.i c.in-Some-get_mut.client.now c.requires.sound (sym c.in-Some-get_mut.ensures.value))
 
 pub begin-requires-clause-pending : goal.begin-requires-clause-pending
-begin-requires-clause-pending c =
-    let w = c.args.self.now in
-    let i = c.args.i in
-    let client = c.in-Some-get_mut.client.now in
-    let kept = c.in-Some.kept.now in
-    let s = c.requires.sound in
-    let at_c = sym c.in-Some-get_mut.ensures.value in
-    let at_k = sym c.in-Some.ensures in
-    (one_at w i client kept s at_c at_k).client.few
+begin-requires-clause-pending c = (one_at c.args.self.now c.args.i c.in-Some-get_mut.client.now c.in-Some.kept.now c.requires.sound (sym c.in-Some-get_mut.ensures.value) (sym c.in-Some.ensures)).client.few
 
 pub returns-clause-next : goal.returns-clause-next
 returns-clause-next c = λ q at.
-    let w = c.args.self.now in
-    let i = c.args.i in
-    let client = c.in-Some-get_mut.client.now in
-    let kept = c.in-Some.kept.now in
-    let s = c.requires.sound in
-    let at_c = sym c.in-Some-get_mut.ensures.value in
-    let at_k = sym c.in-Some.ensures in
-    next_done (header_view w.header) w.lists i client q c.begin.new.client (λ x D d b. begin x x.transaction (last_in_effect D) ≡ (d, b)) (shown_of client kept) c.begin.result at_c at (shown w i client kept s at_c at_k)
-    (begun_as w i client kept s at_c at_k c.begin.new.client c.last_in_effect-under.result c.begin.result c.last_in_effect-under.ensures c.begin.ensures)
+    next_done (header_view c.args.self.now.header) c.args.self.now.lists c.args.i c.in-Some-get_mut.client.now q c.begin.new.client (λ x D d b. begin x x.transaction (last_in_effect D) ≡ (d, b)) (shown_of c.in-Some-get_mut.client.now c.in-Some.kept.now) c.begin.result (sym c.in-Some-get_mut.ensures.value) at (shown c.args.self.now c.args.i c.in-Some-get_mut.client.now c.in-Some.kept.now c.requires.sound (sym c.in-Some-get_mut.ensures.value) (sym c.in-Some.ensures))
+    (begun_as c.args.self.now c.args.i c.in-Some-get_mut.client.now c.in-Some.kept.now c.requires.sound (sym c.in-Some-get_mut.ensures.value) (sym c.in-Some.ensures) c.begin.new.client c.last_in_effect-under.result c.begin.result c.last_in_effect-under.ensures c.begin.ensures)
 
 pub returns-clause-sound : goal.returns-clause-sound
-returns-clause-sound c =
-    let w = c.args.self.now in
-    let i = c.args.i in
-    let client = c.in-Some-get_mut.client.now in
-    let kept = c.in-Some.kept.now in
-    let s = c.requires.sound in
-    let at_c = sym c.in-Some-get_mut.ensures.value in
-    let at_k = sym c.in-Some.ensures in
-    sound_begin w i client kept s at_c at_k c.begin.new.client c.begin.result (begun_as w i client kept s at_c at_k c.begin.new.client c.last_in_effect-under.result c.begin.result c.last_in_effect-under.ensures c.begin.ensures)
+returns-clause-sound c = sound_begin c.args.self.now c.args.i c.in-Some-get_mut.client.now c.in-Some.kept.now c.requires.sound (sym c.in-Some-get_mut.ensures.value) (sym c.in-Some.ensures) c.begin.new.client c.begin.result (begun_as c.args.self.now c.args.i c.in-Some-get_mut.client.now c.in-Some.kept.now c.requires.sound (sym c.in-Some-get_mut.ensures.value) (sym c.in-Some.ensures) c.begin.new.client c.last_in_effect-under.result c.begin.result c.last_in_effect-under.ensures c.begin.ensures)
 
 pub returns-clause-refused : goal.returns-clause-refused
 returns-clause-refused c =
-    let w = c.args.self.now in
-    let i = c.args.i in
-    let client = c.in-Some-get_mut.client.now in
-    let kept = c.in-Some.kept.now in
-    let s = c.requires.sound in
-    let at_c = sym c.in-Some-get_mut.ensures.value in
-    let at_k = sym c.in-Some.ensures in
-    begun_refused w i client c.begin.new.client kept c.last_in_effect-under.result c.begin.result at_c c.begin.ensures
+    begun_refused c.args.self.now c.args.i c.in-Some-get_mut.client.now c.begin.new.client c.in-Some.kept.now c.last_in_effect-under.result c.begin.result (sym c.in-Some-get_mut.ensures.value) c.begin.ensures

@@ -18,57 +18,18 @@ pub returns-in_default-get_mut-clause-refused : goal.returns-in_default-get_mut-
 returns-in_default-get_mut-clause-refused c = rw (set_same c.args.self.now.kept c.args.i c.in-Some.kept.now (sym c.in-Some.ensures.value)) refl
 
 pub commit-requires-clause-sound : goal.commit-requires-clause-sound
-commit-requires-clause-sound c =
-    let w = c.args.self.now in
-    let i = c.args.i in
-    let client = c.in-Some-get_mut.client.now in
-    let kept = c.in-Some.kept.now in
-    let s = c.requires.sound in
-    let at_c = sym c.in-Some-get_mut.ensures.value in
-    let at_k = sym c.in-Some.ensures.value in
-    line_sound w i client kept s at_c at_k
+commit-requires-clause-sound c = line_sound c.args.self.now c.args.i c.in-Some-get_mut.client.now c.in-Some.kept.now c.requires.sound (sym c.in-Some-get_mut.ensures.value) (sym c.in-Some.ensures.value)
 
 pub commit-requires-clause-fits : goal.commit-requires-clause-fits
-commit-requires-clause-fits c =
-    let w = c.args.self.now in
-    let i = c.args.i in
-    let client = c.in-Some-get_mut.client.now in
-    let kept = c.in-Some.kept.now in
-    let s = c.requires.sound in
-    let at_c = sym c.in-Some-get_mut.ensures.value in
-    let at_k = sym c.in-Some.ensures.value in
-    commit_fits w i client kept s at_c at_k
+commit-requires-clause-fits c = commit_fits c.args.self.now c.args.i c.in-Some-get_mut.client.now c.in-Some.kept.now c.requires.sound (sym c.in-Some-get_mut.ensures.value) (sym c.in-Some.ensures.value)
 
 pub returns-clause-next : goal.returns-clause-next
 returns-clause-next c = λ q at.
-    let w = c.args.self.now in
-    let i = c.args.i in
-    let client = c.in-Some-get_mut.client.now in
-    let kept = c.in-Some.kept.now in
-    let s = c.requires.sound in
-    let at_c = sym c.in-Some-get_mut.ensures.value in
-    let at_k = sym c.in-Some.ensures.value in
-    next_with w.lists i client q c.commit.new.client (λ x. commit x x.transaction) c.in_ok-answer.answer at_c at c.in_ok-answer.ensures.answer
+    next_with c.args.self.now.lists c.args.i c.in-Some-get_mut.client.now q c.commit.new.client (λ x. commit x x.transaction) c.in_ok-answer.answer (sym c.in-Some-get_mut.ensures.value) at c.in_ok-answer.ensures.answer
 
 pub returns-clause-sound : goal.returns-clause-sound
-returns-clause-sound c =
-    let w = c.args.self.now in
-    let i = c.args.i in
-    let client = c.in-Some-get_mut.client.now in
-    let kept = c.in-Some.kept.now in
-    let s = c.requires.sound in
-    let at_c = sym c.in-Some-get_mut.ensures.value in
-    let at_k = sym c.in-Some.ensures.value in
-    sound_commit w i client kept s at_c at_k c.commit.new.client c.commit.new.kept c.in_ok-answer.answer c.in_ok-answer.ensures.answer c.in_ok-answer.ensures.kept
+returns-clause-sound c = sound_commit c.args.self.now c.args.i c.in-Some-get_mut.client.now c.in-Some.kept.now c.requires.sound (sym c.in-Some-get_mut.ensures.value) (sym c.in-Some.ensures.value) c.commit.new.client c.commit.new.kept c.in_ok-answer.answer c.in_ok-answer.ensures.answer c.in_ok-answer.ensures.kept
 
 pub returns-clause-refused : goal.returns-clause-refused
 returns-clause-refused c =
-    let w = c.args.self.now in
-    let i = c.args.i in
-    let client = c.in-Some-get_mut.client.now in
-    let kept = c.in-Some.kept.now in
-    let s = c.requires.sound in
-    let at_c = sym c.in-Some-get_mut.ensures.value in
-    let at_k = sym c.in-Some.ensures.value in
-    let a = c.in_ok-answer.answer in
-    world_refused w i client c.commit.new.client kept c.commit.new.kept a at_c at_k (commit_refused client c.commit.new.client kept c.commit.new.kept client.transaction a c.in_ok-answer.ensures.answer c.in_ok-answer.ensures.kept)
+    world_refused c.args.self.now c.args.i c.in-Some-get_mut.client.now c.commit.new.client c.in-Some.kept.now c.commit.new.kept c.in_ok-answer.answer (sym c.in-Some-get_mut.ensures.value) (sym c.in-Some.ensures.value) (commit_refused c.in-Some-get_mut.client.now c.commit.new.client c.in-Some.kept.now c.commit.new.kept c.in-Some-get_mut.client.now.transaction c.in_ok-answer.answer c.in_ok-answer.ensures.answer c.in_ok-answer.ensures.kept)

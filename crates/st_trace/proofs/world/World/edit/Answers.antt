@@ -27,129 +27,39 @@ pub edit-requires-clause-within : goal.edit-requires-clause-within
 edit-requires-clause-within c = within_edit c.args.edit.now c.requires.within
 
 pub edit-requires-clause-few : goal.edit-requires-clause-few
-edit-requires-clause-few c =
-    let w = c.args.self.now in
-    let i = c.args.i in
-    let client = c.in-Some-get_mut.client.now in
-    let kept = c.in-Some.kept.now in
-    let s = c.requires.sound in
-    let at_c = sym c.in-Some-get_mut.ensures.value in
-    let at_k = sym c.in-Some.ensures.value in
-    omega (arith, few_ids w i client s at_c)
+edit-requires-clause-few c = omega (arith, few_ids c.args.self.now c.args.i c.in-Some-get_mut.client.now c.requires.sound (sym c.in-Some-get_mut.ensures.value))
 
 pub edit-requires-clause-pending : goal.edit-requires-clause-pending
-edit-requires-clause-pending c =
-    let w = c.args.self.now in
-    let i = c.args.i in
-    let client = c.in-Some-get_mut.client.now in
-    let kept = c.in-Some.kept.now in
-    let s = c.requires.sound in
-    let at_c = sym c.in-Some-get_mut.ensures.value in
-    let at_k = sym c.in-Some.ensures.value in
-    (one_at w i client kept s at_c at_k).client.few
+edit-requires-clause-pending c = (one_at c.args.self.now c.args.i c.in-Some-get_mut.client.now c.in-Some.kept.now c.requires.sound (sym c.in-Some-get_mut.ensures.value) (sym c.in-Some.ensures.value)).client.few
 
 pub edit-requires-clause-names : goal.edit-requires-clause-names
-edit-requires-clause-names c =
-    let w = c.args.self.now in
-    let i = c.args.i in
-    let client = c.in-Some-get_mut.client.now in
-    let kept = c.in-Some.kept.now in
-    let s = c.requires.sound in
-    let at_c = sym c.in-Some-get_mut.ensures.value in
-    let at_k = sym c.in-Some.ensures.value in
-    (one_at w i client kept s at_c at_k).kept.names
+edit-requires-clause-names c = (one_at c.args.self.now c.args.i c.in-Some-get_mut.client.now c.in-Some.kept.now c.requires.sound (sym c.in-Some-get_mut.ensures.value) (sym c.in-Some.ensures.value)).kept.names
 
 pub edit-requires-clause-few_names : goal.edit-requires-clause-few_names
-edit-requires-clause-few_names c =
-    let w = c.args.self.now in
-    let i = c.args.i in
-    let client = c.in-Some-get_mut.client.now in
-    let kept = c.in-Some.kept.now in
-    let s = c.requires.sound in
-    let at_c = sym c.in-Some-get_mut.ensures.value in
-    let at_k = sym c.in-Some.ensures.value in
-    (one_at w i client kept s at_c at_k).client.few_names
+edit-requires-clause-few_names c = (one_at c.args.self.now c.args.i c.in-Some-get_mut.client.now c.in-Some.kept.now c.requires.sound (sym c.in-Some-get_mut.ensures.value) (sym c.in-Some.ensures.value)).client.few_names
 
 pub edit-requires-clause-sound : goal.edit-requires-clause-sound
-edit-requires-clause-sound c =
-    let w = c.args.self.now in
-    let i = c.args.i in
-    let client = c.in-Some-get_mut.client.now in
-    let kept = c.in-Some.kept.now in
-    let s = c.requires.sound in
-    let at_c = sym c.in-Some-get_mut.ensures.value in
-    let at_k = sym c.in-Some.ensures.value in
-    line_sound w i client kept s at_c at_k
+edit-requires-clause-sound c = line_sound c.args.self.now c.args.i c.in-Some-get_mut.client.now c.in-Some.kept.now c.requires.sound (sym c.in-Some-get_mut.ensures.value) (sym c.in-Some.ensures.value)
 
 pub edit-requires-clause-open : goal.edit-requires-clause-open
-edit-requires-clause-open c =
-    let w = c.args.self.now in
-    let i = c.args.i in
-    let client = c.in-Some-get_mut.client.now in
-    let kept = c.in-Some.kept.now in
-    let s = c.requires.sound in
-    let at_c = sym c.in-Some-get_mut.ensures.value in
-    let at_k = sym c.in-Some.ensures.value in
-    (one_at w i client kept s at_c at_k).kept.edited
+edit-requires-clause-open c = (one_at c.args.self.now c.args.i c.in-Some-get_mut.client.now c.in-Some.kept.now c.requires.sound (sym c.in-Some-get_mut.ensures.value) (sym c.in-Some.ensures.value)).kept.edited
 
 pub edit-requires-clause-given : goal.edit-requires-clause-given
-edit-requires-clause-given c =
-    let w = c.args.self.now in
-    let i = c.args.i in
-    let client = c.in-Some-get_mut.client.now in
-    let kept = c.in-Some.kept.now in
-    let s = c.requires.sound in
-    let at_c = sym c.in-Some-get_mut.ensures.value in
-    let at_k = sym c.in-Some.ensures.value in
-    numbers w i client kept s at_c at_k
+edit-requires-clause-given c = numbers c.args.self.now c.args.i c.in-Some-get_mut.client.now c.in-Some.kept.now c.requires.sound (sym c.in-Some-get_mut.ensures.value) (sym c.in-Some.ensures.value)
 
 pub edit-requires-clause-can : goal.edit-requires-clause-can
-edit-requires-clause-can c =
-    let w = c.args.self.now in
-    let i = c.args.i in
-    let client = c.in-Some-get_mut.client.now in
-    let kept = c.in-Some.kept.now in
-    let s = c.requires.sound in
-    let at_c = sym c.in-Some-get_mut.ensures.value in
-    let at_k = sym c.in-Some.ensures.value in
-    λ N e. can_take w i client kept s at_c at_k (word_of (edit_view c.args.edit.now)) (resolve (shown_of client kept) w.header.schema (next_names client client.transaction) (edit_of c.args.edit.now)) (edit_meant w i client kept s at_c at_k c.args.edit.now) N e
+edit-requires-clause-can c = λ N e. can_take c.args.self.now c.args.i c.in-Some-get_mut.client.now c.in-Some.kept.now c.requires.sound (sym c.in-Some-get_mut.ensures.value) (sym c.in-Some.ensures.value) (word_of (edit_view c.args.edit.now)) (resolve (shown_of c.in-Some-get_mut.client.now c.in-Some.kept.now) c.args.self.now.header.schema (next_names c.in-Some-get_mut.client.now c.in-Some-get_mut.client.now.transaction) (edit_of c.args.edit.now)) (edit_meant c.args.self.now c.args.i c.in-Some-get_mut.client.now c.in-Some.kept.now c.requires.sound (sym c.in-Some-get_mut.ensures.value) (sym c.in-Some.ensures.value) c.args.edit.now) N e
 
 pub returns-clause-next : goal.returns-clause-next
 returns-clause-next c = λ q at.
-    let w = c.args.self.now in
-    let i = c.args.i in
-    let client = c.in-Some-get_mut.client.now in
-    let kept = c.in-Some.kept.now in
-    let s = c.requires.sound in
-    let at_c = sym c.in-Some-get_mut.ensures.value in
-    let at_k = sym c.in-Some.ensures.value in
-    let e = c.args.edit.now in
-    let a = c.in_ok-answer.answer in
-    next_edit (header_view w.header) w.lists i q (record w.lists { clients = slice_set w.lists.clients i c.edit.new.client }) a e
-    (next_done (header_view w.header) w.lists i client q c.edit.new.client (λ x D. IsAfterEdit x x.transaction (word_of (edit_view e)) (resolve D w.header.schema (next_names x x.transaction) (edit_of e))) (shown_of client kept) a at_c at
-    (shown w i client kept s at_c at_k) c.in_ok-answer.ensures.answer)
+    next_edit (header_view c.args.self.now.header) c.args.self.now.lists c.args.i q (record c.args.self.now.lists { clients = slice_set c.args.self.now.lists.clients c.args.i c.edit.new.client }) c.in_ok-answer.answer c.args.edit.now
+    (next_done (header_view c.args.self.now.header) c.args.self.now.lists c.args.i c.in-Some-get_mut.client.now q c.edit.new.client (λ x D. IsAfterEdit x x.transaction (word_of (edit_view c.args.edit.now)) (resolve D c.args.self.now.header.schema (next_names x x.transaction) (edit_of c.args.edit.now))) (shown_of c.in-Some-get_mut.client.now c.in-Some.kept.now) c.in_ok-answer.answer (sym c.in-Some-get_mut.ensures.value) at
+    (shown c.args.self.now c.args.i c.in-Some-get_mut.client.now c.in-Some.kept.now c.requires.sound (sym c.in-Some-get_mut.ensures.value) (sym c.in-Some.ensures.value)) c.in_ok-answer.ensures.answer)
 
 pub returns-clause-sound : goal.returns-clause-sound
-returns-clause-sound c =
-    let w = c.args.self.now in
-    let i = c.args.i in
-    let client = c.in-Some-get_mut.client.now in
-    let kept = c.in-Some.kept.now in
-    let s = c.requires.sound in
-    let at_c = sym c.in-Some-get_mut.ensures.value in
-    let at_k = sym c.in-Some.ensures.value in
-    sound_edit w i client kept s at_c at_k c.edit.new.client c.edit.new.kept c.args.edit.now c.in_ok-answer.answer c.in_ok-answer.ensures.answer c.in_ok-answer.ensures.kept
+returns-clause-sound c = sound_edit c.args.self.now c.args.i c.in-Some-get_mut.client.now c.in-Some.kept.now c.requires.sound (sym c.in-Some-get_mut.ensures.value) (sym c.in-Some.ensures.value) c.edit.new.client c.edit.new.kept c.args.edit.now c.in_ok-answer.answer c.in_ok-answer.ensures.answer c.in_ok-answer.ensures.kept
 
 pub returns-clause-refused : goal.returns-clause-refused
 returns-clause-refused c =
-    let w = c.args.self.now in
-    let i = c.args.i in
-    let client = c.in-Some-get_mut.client.now in
-    let kept = c.in-Some.kept.now in
-    let s = c.requires.sound in
-    let at_c = sym c.in-Some-get_mut.ensures.value in
-    let at_k = sym c.in-Some.ensures.value in
-    let e = c.args.edit.now in
-    let a = c.in_ok-answer.answer in
-    world_refused w i client c.edit.new.client kept c.edit.new.kept a at_c at_k
-    (edit_refused client c.edit.new.client kept c.edit.new.kept client.transaction (word_of (edit_view e)) (resolve (shown_of client kept) w.header.schema (next_names client client.transaction) (edit_of e)) a c.in_ok-answer.ensures.answer c.in_ok-answer.ensures.kept)
+    world_refused c.args.self.now c.args.i c.in-Some-get_mut.client.now c.edit.new.client c.in-Some.kept.now c.edit.new.kept c.in_ok-answer.answer (sym c.in-Some-get_mut.ensures.value) (sym c.in-Some.ensures.value)
+    (edit_refused c.in-Some-get_mut.client.now c.edit.new.client c.in-Some.kept.now c.edit.new.kept c.in-Some-get_mut.client.now.transaction (word_of (edit_view c.args.edit.now)) (resolve (shown_of c.in-Some-get_mut.client.now c.in-Some.kept.now) c.args.self.now.header.schema (next_names c.in-Some-get_mut.client.now c.in-Some-get_mut.client.now.transaction) (edit_of c.args.edit.now)) c.in_ok-answer.answer c.in_ok-answer.ensures.answer c.in_ok-answer.ensures.kept)

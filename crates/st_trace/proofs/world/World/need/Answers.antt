@@ -21,114 +21,34 @@ pub returns-in_default-get_mut-clause-refused : goal.returns-in_default-get_mut-
 returns-in_default-get_mut-clause-refused c = rw (set_same c.args.self.now.kept c.args.i c.in-Some.kept.now (sym c.in-Some.ensures.value)) refl
 
 pub need-requires-clause-few : goal.need-requires-clause-few
-need-requires-clause-few c =
-    let w = c.args.self.now in
-    let i = c.args.i in
-    let client = c.in-Some-get_mut.client.now in
-    let kept = c.in-Some.kept.now in
-    let s = c.requires.sound in
-    let at_c = sym c.in-Some-get_mut.ensures.value in
-    let at_k = sym c.in-Some.ensures.value in
-    omega (arith, few_ids w i client s at_c)
+need-requires-clause-few c = omega (arith, few_ids c.args.self.now c.args.i c.in-Some-get_mut.client.now c.requires.sound (sym c.in-Some-get_mut.ensures.value))
 
 pub need-requires-clause-pending : goal.need-requires-clause-pending
-need-requires-clause-pending c =
-    let w = c.args.self.now in
-    let i = c.args.i in
-    let client = c.in-Some-get_mut.client.now in
-    let kept = c.in-Some.kept.now in
-    let s = c.requires.sound in
-    let at_c = sym c.in-Some-get_mut.ensures.value in
-    let at_k = sym c.in-Some.ensures.value in
-    (one_at w i client kept s at_c at_k).client.few
+need-requires-clause-pending c = (one_at c.args.self.now c.args.i c.in-Some-get_mut.client.now c.in-Some.kept.now c.requires.sound (sym c.in-Some-get_mut.ensures.value) (sym c.in-Some.ensures.value)).client.few
 
 pub need-requires-clause-names : goal.need-requires-clause-names
-need-requires-clause-names c =
-    let w = c.args.self.now in
-    let i = c.args.i in
-    let client = c.in-Some-get_mut.client.now in
-    let kept = c.in-Some.kept.now in
-    let s = c.requires.sound in
-    let at_c = sym c.in-Some-get_mut.ensures.value in
-    let at_k = sym c.in-Some.ensures.value in
-    (one_at w i client kept s at_c at_k).kept.names
+need-requires-clause-names c = (one_at c.args.self.now c.args.i c.in-Some-get_mut.client.now c.in-Some.kept.now c.requires.sound (sym c.in-Some-get_mut.ensures.value) (sym c.in-Some.ensures.value)).kept.names
 
 pub need-requires-clause-few_names : goal.need-requires-clause-few_names
-need-requires-clause-few_names c =
-    let w = c.args.self.now in
-    let i = c.args.i in
-    let client = c.in-Some-get_mut.client.now in
-    let kept = c.in-Some.kept.now in
-    let s = c.requires.sound in
-    let at_c = sym c.in-Some-get_mut.ensures.value in
-    let at_k = sym c.in-Some.ensures.value in
-    (one_at w i client kept s at_c at_k).client.few_names
+need-requires-clause-few_names c = (one_at c.args.self.now c.args.i c.in-Some-get_mut.client.now c.in-Some.kept.now c.requires.sound (sym c.in-Some-get_mut.ensures.value) (sym c.in-Some.ensures.value)).client.few_names
 
 pub need-requires-clause-sound : goal.need-requires-clause-sound
-need-requires-clause-sound c =
-    let w = c.args.self.now in
-    let i = c.args.i in
-    let client = c.in-Some-get_mut.client.now in
-    let kept = c.in-Some.kept.now in
-    let s = c.requires.sound in
-    let at_c = sym c.in-Some-get_mut.ensures.value in
-    let at_k = sym c.in-Some.ensures.value in
-    line_sound w i client kept s at_c at_k
+need-requires-clause-sound c = line_sound c.args.self.now c.args.i c.in-Some-get_mut.client.now c.in-Some.kept.now c.requires.sound (sym c.in-Some-get_mut.ensures.value) (sym c.in-Some.ensures.value)
 
 pub need-requires-clause-open : goal.need-requires-clause-open
-need-requires-clause-open c =
-    let w = c.args.self.now in
-    let i = c.args.i in
-    let client = c.in-Some-get_mut.client.now in
-    let kept = c.in-Some.kept.now in
-    let s = c.requires.sound in
-    let at_c = sym c.in-Some-get_mut.ensures.value in
-    let at_k = sym c.in-Some.ensures.value in
-    (one_at w i client kept s at_c at_k).kept.edited
+need-requires-clause-open c = (one_at c.args.self.now c.args.i c.in-Some-get_mut.client.now c.in-Some.kept.now c.requires.sound (sym c.in-Some-get_mut.ensures.value) (sym c.in-Some.ensures.value)).kept.edited
 
 pub need-requires-clause-can : goal.need-requires-clause-can
-need-requires-clause-can c =
-    let w = c.args.self.now in
-    let i = c.args.i in
-    let client = c.in-Some-get_mut.client.now in
-    let kept = c.in-Some.kept.now in
-    let s = c.requires.sound in
-    let at_c = sym c.in-Some-get_mut.ensures.value in
-    let at_k = sym c.in-Some.ensures.value in
-    λ N e. can_take w i client kept s at_c at_k word.Need (need (shown_of client kept) (next_names client client.transaction) c.args.at.now) (need_meant w i client kept s at_c at_k c.args.at.now) N e
+need-requires-clause-can c = λ N e. can_take c.args.self.now c.args.i c.in-Some-get_mut.client.now c.in-Some.kept.now c.requires.sound (sym c.in-Some-get_mut.ensures.value) (sym c.in-Some.ensures.value) word.Need (need (shown_of c.in-Some-get_mut.client.now c.in-Some.kept.now) (next_names c.in-Some-get_mut.client.now c.in-Some-get_mut.client.now.transaction) c.args.at.now) (need_meant c.args.self.now c.args.i c.in-Some-get_mut.client.now c.in-Some.kept.now c.requires.sound (sym c.in-Some-get_mut.ensures.value) (sym c.in-Some.ensures.value) c.args.at.now) N e
 
 pub returns-clause-next : goal.returns-clause-next
 returns-clause-next c = λ q at.
-    let w = c.args.self.now in
-    let i = c.args.i in
-    let client = c.in-Some-get_mut.client.now in
-    let kept = c.in-Some.kept.now in
-    let s = c.requires.sound in
-    let at_c = sym c.in-Some-get_mut.ensures.value in
-    let at_k = sym c.in-Some.ensures.value in
-    let path = c.args.at.now in
-    next_done (header_view w.header) w.lists i client q c.need.new.client (λ x D. IsAfterNeed x x.transaction (need D (next_names x x.transaction) path)) (shown_of client kept) c.in_ok-answer.answer at_c at (shown w i client kept s at_c at_k) c.in_ok-answer.ensures.answer
+    next_done (header_view c.args.self.now.header) c.args.self.now.lists c.args.i c.in-Some-get_mut.client.now q c.need.new.client (λ x D. IsAfterNeed x x.transaction (need D (next_names x x.transaction) c.args.at.now)) (shown_of c.in-Some-get_mut.client.now c.in-Some.kept.now) c.in_ok-answer.answer (sym c.in-Some-get_mut.ensures.value) at (shown c.args.self.now c.args.i c.in-Some-get_mut.client.now c.in-Some.kept.now c.requires.sound (sym c.in-Some-get_mut.ensures.value) (sym c.in-Some.ensures.value)) c.in_ok-answer.ensures.answer
 
 pub returns-clause-sound : goal.returns-clause-sound
-returns-clause-sound c =
-    let w = c.args.self.now in
-    let i = c.args.i in
-    let client = c.in-Some-get_mut.client.now in
-    let kept = c.in-Some.kept.now in
-    let s = c.requires.sound in
-    let at_c = sym c.in-Some-get_mut.ensures.value in
-    let at_k = sym c.in-Some.ensures.value in
-    sound_need w i client kept s at_c at_k c.need.new.client c.need.new.kept c.args.at.now c.in_ok-answer.answer c.in_ok-answer.ensures.answer c.in_ok-answer.ensures.kept
+returns-clause-sound c = sound_need c.args.self.now c.args.i c.in-Some-get_mut.client.now c.in-Some.kept.now c.requires.sound (sym c.in-Some-get_mut.ensures.value) (sym c.in-Some.ensures.value) c.need.new.client c.need.new.kept c.args.at.now c.in_ok-answer.answer c.in_ok-answer.ensures.answer c.in_ok-answer.ensures.kept
 
 pub returns-clause-refused : goal.returns-clause-refused
 returns-clause-refused c =
-    let w = c.args.self.now in
-    let i = c.args.i in
-    let client = c.in-Some-get_mut.client.now in
-    let kept = c.in-Some.kept.now in
-    let s = c.requires.sound in
-    let at_c = sym c.in-Some-get_mut.ensures.value in
-    let at_k = sym c.in-Some.ensures.value in
-    let a = c.in_ok-answer.answer in
-    world_refused w i client c.need.new.client kept c.need.new.kept a at_c at_k
-    (need_refused client c.need.new.client kept c.need.new.kept client.transaction (need (shown_of client kept) (next_names client client.transaction) c.args.at.now) a c.in_ok-answer.ensures.answer c.in_ok-answer.ensures.kept)
+    world_refused c.args.self.now c.args.i c.in-Some-get_mut.client.now c.need.new.client c.in-Some.kept.now c.need.new.kept c.in_ok-answer.answer (sym c.in-Some-get_mut.ensures.value) (sym c.in-Some.ensures.value)
+    (need_refused c.in-Some-get_mut.client.now c.need.new.client c.in-Some.kept.now c.need.new.kept c.in-Some-get_mut.client.now.transaction (need (shown_of c.in-Some-get_mut.client.now c.in-Some.kept.now) (next_names c.in-Some-get_mut.client.now c.in-Some-get_mut.client.now.transaction) c.args.at.now) c.in_ok-answer.answer c.in_ok-answer.ensures.answer c.in_ok-answer.ensures.kept)
