@@ -21,7 +21,7 @@ use Rattle.st_tree.specs.declared.limits.TreeFault.{TreeFault}
 use Rattle.st_schema.specs.TreeText.{tree_of, tree_in, tree_data, within_limits}
 use Rattle.st_script.specs.Line.{line_of, step_of_value}
 use Rattle.st_script.specs.Members.{client_named, client_in, small, as_small, number_in, number_or, at_least_one, one_or_more, count_of, key_within, key_of, key_or_empty, place_of, places_in, short_path, path_in, rev_in, trees_in, few, items_in, item_in}
-use Rattle.st_script.specs.Steps.{EditView, insert, remove, move, set, clear, ActView, join, edit, need, begin, commit, abort, undo, sequence, ack, deliver, show, StepView, IsEditWithin, IsActWithin, IsWithinLimits, same, target_of, site_of, span_of, goal_of, plain_act, read_insert, read_remove, read_move, read_set, read_clear, read_need, read_undo, edit_of, read_of, word_of, act_of, step_of}
+use Rattle.st_script.specs.Steps.{EditView, insert, remove, move, set, clear, ActView, join, edit, need, begin, commit, abort, undo, sequence, ack, deliver, show, StepView, IsEditWithin, IsActWithin, IsWithinLimits, same, target_of, site_of, span_of, goal_of, plain_act, read_insert, read_remove, read_move, read_set, read_clear, read_need, read_undo, read_edit, read_of, word_of, act_of, step_of}
 use Rattle.st_script.specs.StepText.{IsName, IsRev, ArePlaces, IsPath, IsTarget, IsSpan, IsShown, AreShown, AreItems, FitsEdit, FitsAct, FitsLine}
 use Rattle.st_script.specs.declared.read.Goal.{Goal}
 use Rattle.st_script.specs.declared.read.Span.{Span}
@@ -267,7 +267,7 @@ module _ (d : Data) (b : ℕ) (is_branch : number_or 0 (get (codes "branch") d) 
   either true o p l r = l
   either false o p l r = r
 
-  edit_word_fits : (word : List ℕ) → Sound d → Fits (edit_of word d)
+  edit_word_fits : (word : List ℕ) → Sound d → Fits (read_edit word d)
   edit_word_fits word sound =
       either (same word (codes "insert")) _ _ (insert_fits sound)
       (either (same word (codes "remove")) _ _ remove_fits

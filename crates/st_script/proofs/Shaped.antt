@@ -22,7 +22,7 @@ use Rattle.st_schema.proofs.Holds.{Holds-cond}
 use Rattle.st_schema.proofs.Shaped.{IsShaped, shown_shaped}
 use Rattle.st_script.specs.Line.{line_of, step_of_value}
 use Rattle.st_script.specs.Members.{client_in, number_in, number_or, path_in, rev_in, trees_in, few, items_in, item_in}
-use Rattle.st_script.specs.Steps.{insert, remove, move, set, clear, ActView, join, edit, need, begin, commit, abort, undo, sequence, ack, deliver, show, StepView, same, site_of, span_of, goal_of, read_insert, read_remove, read_move, read_set, read_clear, read_need, read_undo, edit_of, read_of, word_of, act_of, step_of}
+use Rattle.st_script.specs.Steps.{insert, remove, move, set, clear, ActView, join, edit, need, begin, commit, abort, undo, sequence, ack, deliver, show, StepView, same, site_of, span_of, goal_of, read_insert, read_remove, read_move, read_set, read_clear, read_need, read_undo, read_edit, read_of, word_of, act_of, step_of}
 use Rattle.st_script.specs.StepText.{act_has_shape, trees_have_shape}
 use Rattle.st_script.specs.declared.read.Goal.{Goal}
 use Rattle.st_script.specs.declared.read.Span.{Span}
@@ -163,7 +163,7 @@ either : (b : Bool) (o p : Option ActView) → Shaped o → Shaped p → Shaped 
 either true o p l r = l
 either false o p l r = r
 
-edit_word_shaped : (word : List ℕ) (d : Data) → NamesRise d → Shaped (edit_of word d)
+edit_word_shaped : (word : List ℕ) (d : Data) → NamesRise d → Shaped (read_edit word d)
 edit_word_shaped word d rise =
     either (same word (codes "insert")) _ _ (insert_shaped d rise)
     (either (same word (codes "remove")) _ _ (remove_shaped d)

@@ -182,8 +182,8 @@ abbrev pub same : List ℕ → List ℕ → Bool
 same = pointwise nat_eq
 
 -- the edit of a word
-abbrev pub edit_of : List ℕ → Data → Option ActView
-edit_of word d =
+abbrev pub read_edit : List ℕ → Data → Option ActView
+read_edit word d =
     if same word (codes "insert") then read_insert d else
     if same word (codes "remove") then read_remove d else
     if same word (codes "move") then read_move d else
@@ -202,7 +202,7 @@ read_of word d =
     if same word (codes "sequence") then plain_act (codes "client do") sequence d else
     if same word (codes "ack") then plain_act (codes "client do") ack d else
     if same word (codes "deliver") then plain_act (codes "client do") deliver d else
-    if same word (codes "show") then plain_act (codes "branch client do") show d else edit_of word d
+    if same word (codes "show") then plain_act (codes "branch client do") show d else read_edit word d
 
 -- the word of a step
 abbrev pub word_of : Data → Option (List ℕ)

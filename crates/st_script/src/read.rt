@@ -1,7 +1,7 @@
 //! Steps read from the value of a line.
 ghost use Rattle.std.specs.Prelude.{◌≡◌, codes, IfOk, option_map};
 ghost use Rattle.serde_json.specs.View.{view};
-ghost use Rattle.st_script.specs.Steps.{target_of, span_of, goal_of, act_view, step_view, word_of, plain_act, read_insert, read_remove, read_move, read_set, read_clear, read_need, read_undo, edit_of, read_of, act_of, step_of};
+ghost use Rattle.st_script.specs.Steps.{target_of, span_of, goal_of, act_view, step_view, word_of, plain_act, read_insert, read_remove, read_move, read_set, read_clear, read_need, read_undo, read_edit, read_of, act_of, step_of};
 
 use crate::member::{
     client, count, has_only, item, items, key_member, number_member, number_or_zero, path_member,
@@ -215,7 +215,7 @@ fn plain(value: &Value, names: &str, act: Act) -> Option<Act>
 
 // The edit of a word.
 fn read_edit(alloc: Global, word: &str, value: &Value) -> Result<Option<Act>, AllocError>
-    ensures { IfOk result (λ a. option_map act_view a ≡ edit_of word.now (view value.now)) }
+    ensures { IfOk result (λ a. option_map act_view a ≡ read_edit word.now (view value.now)) }
 {
     match word {
         "insert" => read_insert(alloc, value),
