@@ -24,7 +24,7 @@ use Rattle.st_ids.specs.declared.names.Place.{Place}
 use Rattle.st_trace.specs.Replicas.{IsClient, IsReplicaOf, IsSound, IsSoundAfter, IsTransaction}
 use Rattle.st_trace.specs.inside.Edits.{edit_of}
 use Rattle.st_trace.specs.inside.Replicas.{CanReceive, CanReceiveIn, CanTake, HasAborted, HasCommitted, HasJoined, HasMoved, HasMovedIn, HasNumbersLeft, HasTaken, HasTakenNeed, IsPending}
-use Rattle.st_trace.specs.World.{AtRefusal, HasShown, IsAfterEdit, IsAfterNeed, IsDelivered, IsDeliveredIn, IsDeliveredTo, IsDoneIn, IsEditedIn, IsJoined, IsShown, abort, after_edit, answer_of, begin, commit, committed, last_in_effect, next_names, opening_document, refusal_of, with_client, with_beginning, with_pending, word_of}
+use Rattle.st_trace.specs.World.{AtRefusal, HasShown, IsAfterEdit, IsAfterNeed, IsDelivered, IsDeliveredIn, IsDeliveredTo, IsDoneIn, IsEditedIn, IsJoined, IsShown, abort, after_edit, answer_of, begin, commit, after_commit, last_in_effect, next_names, opening_document, refusal_of, with_client, with_beginning, with_pending, word_of}
 use Rattle.st_lists.specs.Clients.{HasReceived, joined_of, next_rev, with_begun, with_commit, with_new_commit, without_transaction}
 use Rattle.st_lists.specs.Limits.{limit_passed, names_limit_passed, pending_limit_passed}
 use Rattle.st_lists.specs.Lines.{main_line}
@@ -339,7 +339,7 @@ module _ (c c' : Client) (k k' : Replica) where
   commit_refused None a is kept = same_pair c a (No NotBegun) is (ap (λ (p : Client × Answer). p.0) (sym is), kept)
   commit_refused (Some t) a is kept = go t.joined is
     where
-      go : (o : Option Intent) → committed (without_transaction c) t.rev o ≡ (c', a) → Same a
+      go : (o : Option Intent) → after_commit (without_transaction c) t.rev o ≡ (c', a) → Same a
       go None is = same_pair (without_transaction c) a (Commit None) is tt
       go (Some J) is = same_pair (with_commit (without_transaction c) J) a (Commit (Some t.rev)) is tt
 

@@ -21,7 +21,7 @@ use Rattle.st_heads.specs.Transactions.{with_open}
 use Rattle.st_marks.proofs.OneVerdict.{one_run}
 use Rattle.std.specs.Option.{option_and_then, option_map_or}
 use Rattle.st_ids.specs.declared.names.Rev.{Rev}
-use Rattle.st_trace.specs.World.{HasShown, IsAfterEdit, IsAfterNeed, IsDeliveredIn, IsDeliveredTo, IsEditedIn, IsJoined, abort, after_edit, begin, commit, committed, last_in_effect, next_names, opening_document, with_beginning, with_pending}
+use Rattle.st_trace.specs.World.{HasShown, IsAfterEdit, IsAfterNeed, IsDeliveredIn, IsDeliveredTo, IsEditedIn, IsJoined, abort, after_edit, begin, commit, after_commit, last_in_effect, next_names, opening_document, with_beginning, with_pending}
 use Rattle.st_lists.specs.Limits.{limit_passed, names_limit_passed, pending_limit_passed}
 use Rattle.st_lists.specs.Names.{names_in, names_in_text, names_made}
 use Rattle.st_trace.specs.declared.client.EditWord.{EditWord}
@@ -245,7 +245,7 @@ module _ (h : HeaderView) (st : IsStart (opening_document h)) where
     pub commit_goes : (c' : Client) (a : Answer) → commit c c.transaction ≡ (c', a) → GoesOn log cs i c c'
     commit_goes c' a done = go c.transaction refl k.transaction done
       where
-        by : (t : Transaction) (o : Option Intent) → c.transaction ≡ Some t → t.joined ≡ o → IsTransaction h log c t → committed (without_transaction c) t.rev o ≡ (c', a) → GoesOn log cs i c c'
+        by : (t : Transaction) (o : Option Intent) → c.transaction ≡ Some t → t.joined ≡ o → IsTransaction h log c t → after_commit (without_transaction c) t.rev o ≡ (c', a) → GoesOn log cs i c c'
         by t None is joined x done = goes_as (without_transaction c) c' (ap (λ (p : Client × Answer). p.0) (sym done)) ended
         by t (Some J) is joined x done =
             goes_as (with_commit (without_transaction c) J) c' (ap (λ (p : Client × Answer). p.0) (sym done)) (record {

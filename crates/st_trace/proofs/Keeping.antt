@@ -24,7 +24,7 @@ use Rattle.st_script.specs.declared.answer.Answer.{Answer}
 use Rattle.st_trace.specs.Replicas.{HasMain, IsClient, IsReplicaOf}
 use Rattle.st_trace.specs.inside.Replicas.{IsCommitted, IsPending, HasTaken, HasPart, HasCommittedOf, IsNewReplica, CanReceive, CanCarry, HasMoved, HasReceivedNext, HasReceivedOf, HasReceivedOne}
 use Rattle.st_lists.specs.Log.{commit_of, commits_in, log_with}
-use Rattle.st_trace.specs.World.{HasShown, IsDeliveredTo, after_edit, cells_given, committed, opening_document, with_pending}
+use Rattle.st_trace.specs.World.{HasShown, IsDeliveredTo, after_edit, cells_given, after_commit, opening_document, with_pending}
 use Rattle.st_lists.specs.Clients.{joined_of, with_begun, with_edited, with_new_commit, with_transaction, without_transaction, new_client, pending_after, received_by, with_received}
 use Rattle.st_lists.specs.Lines.{main_line}
 use Rattle.st_lists.specs.declared.lists.Transaction.{Transaction}
@@ -163,13 +163,13 @@ module _ (h : HeaderView) (st : IsStart (opening_document h)) where
       now : k.names - names_edited t.joined ≡ 0 + names_in c.pending
       now = omega (arith, w.names, waiting)
 
-  pub kept_commits : (log : List Entry) (c : Client) (t : Transaction) (k k' : Replica) → c.transaction ≡ Some t → IsReplicaOf h log c k → HasCommittedOf k t.joined k' → IsReplicaOf h log (committed (without_transaction c) t.rev t.joined).0 k'
+  pub kept_commits : (log : List Entry) (c : Client) (t : Transaction) (k k' : Replica) → c.transaction ≡ Some t → IsReplicaOf h log c k → HasCommittedOf k t.joined k' → IsReplicaOf h log (after_commit (without_transaction c) t.rev t.joined).0 k'
   kept_commits log c t k k' is w done = go t.joined waiting (subst (λ (o : Option Transaction). HasOpen k.main (option_and_then (λ (x : Transaction). x.joined) o)) is w.edited) done
     where
       waiting : k.names ≡ names_edited t.joined + names_in c.pending
       waiting = w.names ∙ ap (λ (o : Option Transaction). names_edited (option_and_then (λ (x : Transaction). x.joined) o) + names_in c.pending) is
 
-      go : (o : Option Intent) → k.names ≡ names_edited o + names_in c.pending → HasOpen k.main o → HasCommittedOf k o k' → IsReplicaOf h log (committed (without_transaction c) t.rev o).0 k'
+      go : (o : Option Intent) → k.names ≡ names_edited o + names_in c.pending → HasOpen k.main o → HasCommittedOf k o k' → IsReplicaOf h log (after_commit (without_transaction c) t.rev o).0 k'
       go None names edited done = subst (IsReplicaOf h log (without_transaction c)) (sym done) (record { received = w.received; own = w.own; edited = edited; names = names })
       go (Some J) names edited done =
           let one_name : names_in (J ∷ []) ≡ names_made J = omega arith in

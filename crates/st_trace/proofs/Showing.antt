@@ -28,7 +28,7 @@ use Rattle.st_trace.proofs.Agreed.{open_conforms}
 use Rattle.st_trace.proofs.Begun.{IsStart}
 use Rattle.st_trace.proofs.Clients.{shown_sound}
 use Rattle.st_trace.proofs.Parts.{editable}
-use Rattle.st_trace.specs.World.{HasShown, IsActOf, IsAfterEdit, IsAfterNeed, IsAllowedText, IsDeliveredIn, IsDeliveredTo, IsEditedIn, IsJoined, IsNext, AtClient, OnBranch, ShowsAllowed, abort, act_of_none, answer_of, after_edit, begin, branch_at, after_entry, commit, committed, join, last_in_effect, opening_document, with_beginning, with_client, with_pending, sequence, word_of}
+use Rattle.st_trace.specs.World.{HasShown, IsActOf, IsAfterEdit, IsAfterNeed, IsAllowedText, IsDeliveredIn, IsDeliveredTo, IsEditedIn, IsJoined, IsNext, AtClient, OnBranch, ShowsAllowed, abort, act_of_none, answer_of, after_edit, begin, branch_at, after_entry, commit, after_commit, join, last_in_effect, opening_document, with_beginning, with_client, with_pending, sequence, word_of}
 use Rattle.st_lists.specs.Clients.{next_rev, place_of, received_by, without_transaction}
 use Rattle.st_lists.specs.Limits.{limit_passed, log_limit_passed, names_limit_passed, pending_limit_passed}
 use Rattle.st_lists.specs.Names.{names_in_text}
@@ -163,7 +163,7 @@ module _ (s : SchemaView) where
   commit_fine c None = tt
   commit_fine c (Some t) = go t.joined
     where
-      go : (o : Option Intent) → ShowsAllowed s (committed (without_transaction c) t.rev o).1
+      go : (o : Option Intent) → ShowsAllowed s (after_commit (without_transaction c) t.rev o).1
       go None = tt
       go (Some J) = tt
 

@@ -10,7 +10,7 @@ use Rattle.st_script.specs.declared.refusal.Refusal.TheVariants.{Limit as OverLi
 use Rattle.st_trace.specs.declared.client.EditWord.{EditWord}
 use Rattle.st_trace.specs.declared.replica.Replica.{Replica}
 use Rattle.st_trace.specs.inside.Replicas.{HasTaken, HasTakenIn, HasTakenNeed, IsTakenIn}
-use Rattle.st_trace.specs.World.{IsAfterEdit, IsAfterNeed, abort, begin, commit, committed, refusal_of, with_beginning}
+use Rattle.st_trace.specs.World.{IsAfterEdit, IsAfterNeed, abort, begin, commit, after_commit, refusal_of, with_beginning}
 use Rattle.st_lists.specs.Clients.{next_rev, with_begun, without_transaction}
 use Rattle.st_lists.specs.Limits.{pending_limit_passed}
 use Rattle.st_lists.specs.declared.lists.Client.{Client}
@@ -69,7 +69,7 @@ begin_made c (Some t) under e few = cc
 pub commit_none : (c : Client) → c.transaction ≡ None → commit c c.transaction ≡ (without_transaction c, No NotBegun)
 commit_none c none = ap (commit c) none ∙ ap (λ (o : Option Transaction). (record c { transaction = o }, No NotBegun)) none
 
-pub commit_some : (c d : Client) (t : Transaction) (a : Answer) → c.transaction ≡ Some t → committed (without_transaction c) t.rev t.joined ≡ (d, a) → commit c c.transaction ≡ (d, a)
+pub commit_some : (c d : Client) (t : Transaction) (a : Answer) → c.transaction ≡ Some t → after_commit (without_transaction c) t.rev t.joined ≡ (d, a) → commit c c.transaction ≡ (d, a)
 commit_some c d t a is done = ap (commit c) is ∙ done
 
 pub abort_none : (c : Client) → c.transaction ≡ None → abort c c.transaction ≡ (without_transaction c, No NotBegun)

@@ -155,13 +155,13 @@ begin c None under = with_beginning c under (pending_limit_passed c)
 begin c (Some t) under = (c, answer.No no.Unfinished)
 
 -- what was edited, if anything was, is a commit now, of the revision that the transaction has
-abbrev pub committed : Client → Rev → Option Intent → Client × Answer
-committed c rev None = (c, answer.Commit None)
-committed c rev (Some J) = (with_commit c J, answer.Commit (Some rev))
+abbrev pub after_commit : Client → Rev → Option Intent → Client × Answer
+after_commit c rev None = (c, answer.Commit None)
+after_commit c rev (Some J) = (with_commit c J, answer.Commit (Some rev))
 
 abbrev pub commit : Client → Option Transaction → Client × Answer
 commit c None = (c, answer.No no.NotBegun)
-commit c (Some t) = committed (without_transaction c) t.rev t.joined
+commit c (Some t) = after_commit (without_transaction c) t.rev t.joined
 
 -- what was edited is dropped; the revision stays used
 abbrev pub abort : Client → Option Transaction → Client × Answer

@@ -11,7 +11,7 @@ ghost use Rattle.st_lists.specs.Clients.{joined_of, with_edited};
 ghost use Rattle.st_lists.specs.Names.{names_made, unsequenced};
 ghost use Rattle.st_trace.specs.declared.client.EditWord.{EditWord as Word};
 ghost use Rattle.st_trace.specs.declared.client.EditWord.TheVariants as word;
-ghost use Rattle.st_trace.specs.World.{IsAfterNeed, abort, begin, cells_given, commit, committed, next_names};
+ghost use Rattle.st_trace.specs.World.{IsAfterNeed, abort, begin, cells_given, commit, after_commit, next_names};
 ghost use Rattle.st_trace.specs.inside.Edits.{names_limit};
 ghost use Rattle.st_trace.specs.inside.Replicas.{CanJoin, CanTake, HasAborted, HasCommitted, HasCommittedOf, HasJoined, HasNumbersLeft, HasPart, HasTakenNeed, IsJoinedIn};
 
@@ -164,7 +164,7 @@ fn commit_joined(
 ) -> Result<Answer, AllocError>
     requires sound { IsSoundInForm (document_of kept.old.main.doc) }
     requires fits { IfSome joined (Fits (document_of kept.old.main.doc)) }
-    ensures answer { IfOk result (λ a. committed client.old rev joined ≡ (client.new, a)) }
+    ensures answer { IfOk result (λ a. after_commit client.old rev joined ≡ (client.new, a)) }
     ensures kept { OnOk result (HasCommittedOf kept.old joined kept.new) }
 {
     match joined {
