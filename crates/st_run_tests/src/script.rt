@@ -50,14 +50,20 @@ fn first_use(rt: HostRuntime) {
 }
 
 // A line of each step, with every member. The last holds a tree that no schema allows.
-const WHOLE_LINES: [&str; 10] = [
+const WHOLE_LINES: [&str; 16] = [
     r#"{"client":"A","do":"join"}"#,
     r#"{"at":["",2],"branch":3,"client":"A","do":"insert","index":1,"items":[null,{"m":{"a":true,"b":-7}}],"key":"k"}"#,
     r#"{"at":[],"branch":0,"client":"A","count":2,"do":"remove","index":1,"key":""}"#,
     r#"{"at":["",0,"k",0],"branch":4294967295,"client":"A","count":1,"do":"move","index":5,"key":"","to":["",1],"to_index":6,"to_key":"q"}"#,
     r#"{"at":[],"branch":0,"client":"\"é","do":"set","item":{"list":["x"]},"key":"k"}"#,
     r#"{"at":["",1],"branch":0,"client":"A","do":"clear","key":"k"}"#,
+    r#"{"at":["",2],"branch":3,"client":"A","do":"need"}"#,
+    r#"{"branch":0,"client":"A","do":"begin"}"#,
+    r#"{"branch":4294967295,"client":"A","do":"commit"}"#,
+    r#"{"branch":1,"client":"A","do":"abort"}"#,
+    r#"{"client":"A","do":"undo","rev":"1.4294967295"}"#,
     r#"{"client":"A","do":"sequence"}"#,
+    r#"{"client":"A","do":"ack"}"#,
     r#"{"client":"A","do":"deliver"}"#,
     r#"{"branch":1,"client":"A","do":"show"}"#,
     r#"{"at":[],"branch":0,"client":"A","do":"set","item":{"m":{"":1,"a":2}},"key":""}"#,
@@ -136,11 +142,19 @@ fn tall_trees(rt: HostRuntime) {
 }
 
 // Lines that are no steps, each with the first test that it fails.
-const BAD_LINES: [(&str, BadCause); 12] = [
+const BAD_LINES: [(&str, BadCause); 16] = [
     (r#"{"client":"A","do":"show""#, BadCause::Json),
     (r#"[]"#, BadCause::Shape),
     (r#"{"client":"A"}"#, BadCause::Shape),
-    (r#"{"client":"A","do":"undo","rev":"1.1"}"#, BadCause::Shape),
+    (r#"{"client":"A","do":"fork"}"#, BadCause::Shape),
+    (
+        r#"{"client":"A","do":"undo","rev":"1.01"}"#,
+        BadCause::Shape,
+    ),
+    (
+        r#"{"client":"A","do":"undo","rev":"1.4294967296"}"#,
+        BadCause::Shape,
+    ),
     (r#"{"client":"","do":"show"}"#, BadCause::Shape),
     (r#"{"client":"A","do":"join","branch":0}"#, BadCause::Shape),
     (
@@ -148,6 +162,8 @@ const BAD_LINES: [(&str, BadCause); 12] = [
         BadCause::Shape,
     ),
     (r#"{"client":"A","do":"clear","at":[""]}"#, BadCause::Shape),
+    (r#"{"client":"A","do":"need"}"#, BadCause::Shape),
+    (r#"{"client":"A","do":"begin","at":[]}"#, BadCause::Shape),
     (r#"{"client":"A","do":"set","at":[]}"#, BadCause::Shape),
     (
         r#"{"client":"A","do":"insert","at":[],"index":0,"items":[]}"#,
@@ -189,9 +205,35 @@ fn answers_are_written(alloc: Global) -> Result<bool, AllocError> {
     Ok(void.as_str() == VOID_LINE && refusal.as_str() == NO_NODE_LINE)
 }
 
+const NO_COMMIT_LINE: &str = "{\"ok\":\"commit\",\"rev\":null}\n";
+
+const COMMIT_LINE: &str = "{\"ok\":\"commit\",\"rev\":\"2.3\"}\n";
+
+fn commits_are_written(alloc: Global) -> Result<bool, AllocError> {
+    let none = answer_line(alloc, &Answer::Commit { rev: None })?;
+    let commit = answer_line(alloc, &Answer::Commit { rev: Some(REV) })?;
+    Ok(none.as_str() == NO_COMMIT_LINE && commit.as_str() == COMMIT_LINE)
+}
+
+const ACK_LINE: &str = "{\"ok\":\"ack\",\"ref\":5}\n";
+
+const GONE_LINE: &str = "{\"floor\":7,\"no\":\"Gone\"}\n";
+
+fn numbers_are_written(alloc: Global) -> Result<bool, AllocError> {
+    let ack = answer_line(alloc, &Answer::Ack { reference: 5 })?;
+    let gone = answer_line(alloc, &Answer::No(Refusal::Gone { floor: 7 }))?;
+    Ok(ack.as_str() == ACK_LINE && gone.as_str() == GONE_LINE)
+}
+
 #[test]
 fn answers(rt: HostRuntime) -> Result<(), Fail> {
-    assert!(rt; answers_are_written(rt.alloc())?);
+    let alloc = rt.alloc();
+    let (answers, commits) = (answers_are_written(alloc)?, commits_are_written(alloc)?);
+    let numbers = numbers_are_written(alloc)?;
+    assert!(rt;
+        answers && commits && numbers,
+        "{answers} {commits} {numbers}"
+    );
     Ok(())
 }
 

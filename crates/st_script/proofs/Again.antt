@@ -6,13 +6,16 @@ use Rattle.serde_json.specs.Find.{get, as_str, as_array}
 use Rattle.serde_json.specs.View.{items_of}
 use Rattle.st_ids.specs.declared.names.Key.{Key}
 use Rattle.st_ids.specs.declared.names.Place.{Place}
+use Rattle.st_ids.specs.declared.names.Rev.{Rev}
+use Rattle.st_ids.specs.Names.{read_rev, rev_text}
+use Rattle.st_ids.proofs.Points.{read_rev-rev_text}
 use Rattle.st_json.specs.Look.{has_only}
 use Rattle.st_tree.specs.Node.{Node, nodes_of}
 use Rattle.st_tree.specs.Size.{check_items}
 use Rattle.st_schema.specs.TreeText.{tree_of, tree_data, trees_data}
-use Rattle.st_script.specs.Members.{client_named, client_in, small, as_small, number_in, number_or, at_least_one, one_or_more, count_of, key_within, key_or_empty, place_of, places_in, short_path, path_in, trees_in, few, items_in, item_in}
-use Rattle.st_script.specs.Steps.{EditView, insert, remove, move, set, clear, ActView, join, edit, need, begin, commit, abort, sequence, deliver, show, StepView, target_of, site_of, span_of, goal_of, read_insert, read_remove, read_move, read_set, read_clear, read_need, act_of, step_of}
-use Rattle.st_script.specs.StepText.{places_data, path_data, items_data, plain_data, edit_data, act_data, step_data, IsName, IsActor, ArePlaces, IsPath, IsTarget, IsSpan, AreShown, AreItems, FitsEdit, FitsAct, FitsLine}
+use Rattle.st_script.specs.Members.{client_named, client_in, small, as_small, number_in, number_or, at_least_one, one_or_more, count_of, key_within, key_or_empty, place_of, places_in, short_path, path_in, rev_in, trees_in, few, items_in, item_in}
+use Rattle.st_script.specs.Steps.{EditView, insert, remove, move, set, clear, ActView, join, edit, need, begin, commit, abort, undo, sequence, ack, deliver, show, StepView, target_of, site_of, span_of, goal_of, read_insert, read_remove, read_move, read_set, read_clear, read_need, read_undo, act_of, step_of}
+use Rattle.st_script.specs.StepText.{places_data, path_data, items_data, plain_data, undo_data, edit_data, act_data, step_data, IsName, IsActor, IsRev, ArePlaces, IsPath, IsTarget, IsSpan, AreShown, AreItems, FitsEdit, FitsAct, FitsLine}
 use Rattle.st_script.specs.declared.read.Goal.{Goal}
 use Rattle.st_script.specs.declared.read.Span.{Span}
 use Rattle.st_script.specs.declared.read.Target.{Target}
@@ -73,6 +76,9 @@ path_kept name d ps there h =
     ap (λ (o : Option Data). option_and_then short_path (option_and_then places_in (option_and_then as_array o))) there
     ∙ ap (option_and_then short_path) (places_kept ps h.1)
     ∙ ap (λ (b : Bool). cond b (Some ps) None) short
+
+rev_kept : (name : List ℕ) (d : Data) (rev : Rev) → get name d ≡ Some (string (rev_text rev)) → IsRev rev → rev_in name d ≡ Some rev
+rev_kept name d rev there h = ap (λ (o : Option Data). option_and_then read_rev (option_and_then as_str o)) there ∙ read_rev-rev_text rev h.0 h.1
 
 target_kept : (path key : List ℕ) (d : Data) (at : List Place) (k : Key) → get path d ≡ Some (path_data at) → get key d ≡ Some (string k.0) → IsTarget at k → target_of path key d ≡ Some (record { at = at; key = k })
 target_kept path key d at k path_there key_there h =
@@ -153,6 +159,11 @@ need_read d at only there =
     let f : List Place → ActView = λ at. need at in
     passed (has_only (codes "at branch client do") d) (option_map f (path_in (codes "at") d)) (Some (f at)) only (ap (option_map f) there)
 
+undo_read : (d : Data) (rev : Rev) → has_only (codes "client do rev") d ≡ true → rev_in (codes "rev") d ≡ Some rev → read_undo d ≡ Some (undo rev)
+undo_read d rev only there =
+    let f : Rev → ActView = λ rev. undo rev in
+    passed (has_only (codes "client do rev") d) (option_map f (rev_in (codes "rev") d)) (Some (f rev)) only (ap (option_map f) there)
+
 -- ---- each step
 
 step_kept : (d : Data) (client : List ℕ) (branch : ℕ) (a : ActView) → number_or 0 (get (codes "branch") d) ≡ Some branch
@@ -219,7 +230,11 @@ act_again client branch (need at) by h =
 act_again client branch begin by h = branch_kept (act_data client branch begin) client branch begin refl refl by refl
 act_again client branch commit by h = branch_kept (act_data client branch commit) client branch commit refl refl by refl
 act_again client branch abort by h = branch_kept (act_data client branch abort) client branch abort refl refl by refl
+act_again client branch (undo rev) by h =
+    let d = undo_data client rev in
+    main_kept d client branch (undo rev) refl refl by.0 h.0 (undo_read d rev refl (rev_kept (codes "rev") d rev refl h.1))
 act_again client branch sequence by h = plain_again (codes "sequence") client branch sequence by.0 h refl
+act_again client branch ack by h = plain_again (codes "ack") client branch ack by.0 h refl
 act_again client branch deliver by h = plain_again (codes "deliver") client branch deliver by.0 h refl
 act_again client branch show by h = branch_kept (act_data client branch show) client branch show refl refl by refl
 

@@ -1,23 +1,28 @@
 -- The steps that lines are read as are steps that a line can hold.
-use Rattle.std.proofs.Common.{arith, ◌≡◌, ℕ, ◌<◌, ◌≤◌, ◌^◌, nat_lt, nat_le, Bool, true, false, cond, ◌&&◌, List, ◌∷◌, length, Option, Some, None, option_and_then, option_map, is_ok, Result, Ok, Err, codes, refl, sym, ap, ◌∙◌, subst}
+use Rattle.std.proofs.Common.{arith, ◌≡◌, ℕ, ◌<◌, ◌≤◌, ◌^◌, nat_lt, nat_le, Bool, true, false, cond, ◌&&◌, ◌==◌, List, ◌∷◌, length, Option, Some, None, option_and_then, option_map, is_ok, Result, Ok, Err, codes, refl, sym, ap, ◌∙◌, subst}
 use Rattle.std.proofs.lemmas.Bool.Decides.{nat_tests}
 use Rattle.std.specs.Prelude.{⊤}
+use Rattle.std.specs.List.{before_first, after_first}
 use Rattle.std.specs.Option.{ok_or}
+use Rattle.std.specs.Str.Parse.{digits_value}
 use Rattle.serde_json.specs.Data.{Data, Items, no_items, item}
 use Rattle.serde_json.specs.Find.{get, as_str, as_array, as_number, as_u64}
 use Rattle.st_ids.specs.declared.names.Key.{Key}
 use Rattle.st_ids.specs.declared.names.Place.{Place}
+use Rattle.st_ids.specs.declared.names.Rev.{Rev}
+use Rattle.st_ids.specs.Names.{read_pair, read_rev}
+use Rattle.st_ids.specs.Numeral.{is_plain, number_of}
 use Rattle.st_json.specs.Line.{line_value}
-use Rattle.st_json.specs.Look.{has_only}
+use Rattle.st_json.specs.Look.{is_listed, has_only}
 use Rattle.st_json.specs.declared.fault.BadCause.{BadCause}
 use Rattle.st_tree.specs.Node.{Node, nodes_of}
 use Rattle.st_tree.specs.Size.{check_of, check_items}
 use Rattle.st_tree.specs.declared.limits.TreeFault.{TreeFault}
 use Rattle.st_schema.specs.TreeText.{tree_of, tree_in, tree_data, within_limits}
 use Rattle.st_script.specs.Line.{line_of, step_of_value}
-use Rattle.st_script.specs.Members.{client_named, client_in, small, as_small, number_in, number_or, at_least_one, one_or_more, count_of, key_within, key_of, key_or_empty, place_of, places_in, short_path, path_in, trees_in, few, items_in, item_in}
-use Rattle.st_script.specs.Steps.{EditView, insert, remove, move, set, clear, ActView, join, edit, need, begin, commit, abort, sequence, deliver, show, StepView, IsEditWithin, IsActWithin, IsWithinLimits, same, target_of, site_of, span_of, goal_of, plain_act, read_insert, read_remove, read_move, read_set, read_clear, read_need, edit_of, read_of, word_of, act_of, step_of}
-use Rattle.st_script.specs.StepText.{IsName, ArePlaces, IsPath, IsTarget, IsSpan, IsShown, AreShown, AreItems, FitsEdit, FitsAct, FitsLine}
+use Rattle.st_script.specs.Members.{client_named, client_in, small, as_small, number_in, number_or, at_least_one, one_or_more, count_of, key_within, key_of, key_or_empty, place_of, places_in, short_path, path_in, rev_in, trees_in, few, items_in, item_in}
+use Rattle.st_script.specs.Steps.{EditView, insert, remove, move, set, clear, ActView, join, edit, need, begin, commit, abort, undo, sequence, ack, deliver, show, StepView, IsEditWithin, IsActWithin, IsWithinLimits, same, target_of, site_of, span_of, goal_of, plain_act, read_insert, read_remove, read_move, read_set, read_clear, read_need, read_undo, read_edit, read_of, word_of, act_of, step_of}
+use Rattle.st_script.specs.StepText.{IsName, IsRev, ArePlaces, IsPath, IsTarget, IsSpan, IsShown, AreShown, AreItems, FitsEdit, FitsAct, FitsLine}
 use Rattle.st_script.specs.declared.read.Goal.{Goal}
 use Rattle.st_script.specs.declared.read.Span.{Span}
 use Rattle.st_script.specs.declared.read.Target.{Target}
@@ -118,6 +123,26 @@ path_fits name d =
     Holds-and_then ArePlaces IsPath short_path short_fits (option_and_then places_in (option_and_then as_array (get name d)))
     (Holds-and_then Any ArePlaces places_in (λ ds _. places_fit ds) (option_and_then as_array (get name d)) (any _))
 
+numeral_fits : (ds : List ℕ) → Holds IsSmall (number_of ds)
+numeral_fits ds =
+    Holds-cond IsSmall (is_plain ds && nat_lt (digits_value 10 ds) (2 ^ 32)) (Some (digits_value 10 ds)) None
+    (λ h. below (digits_value 10 ds) (2 ^ 32) (and-true (is_plain ds) (nat_lt (digits_value 10 ds) (2 ^ 32)) h).1) tt
+
+abbrev ArePair : ℕ × ℕ → Type 0
+ArePair p = (p.0 < 2 ^ 32) × (p.1 < 2 ^ 32)
+
+pair_fits : (t : List ℕ) → Holds ArePair (read_pair t)
+pair_fits t =
+    let front = number_of (before_first (λ b. b == 46) t) in
+    let back = number_of (after_first (λ b. b == 46) t) in
+    Holds-and_then IsSmall ArePair (λ (m : ℕ). option_map (λ (n : ℕ). (m, n)) back)
+    (λ m low. Holds-map IsSmall ArePair (λ (n : ℕ). (m, n)) (λ n h. (low, h)) back (numeral_fits (after_first (λ b. b == 46) t))) front (numeral_fits (before_first (λ b. b == 46) t))
+
+rev_fits : (name : List ℕ) (d : Data) → Holds IsRev (rev_in name d)
+rev_fits name d =
+    Holds-and_then Any IsRev read_rev (λ t _. Holds-map ArePair IsRev (λ p. record { session = p.0; num = p.1 }) (λ p h. h) (read_pair t) (pair_fits t))
+    (option_and_then as_str (get name d)) (any _)
+
 abbrev AtTarget : Target → Type 0
 AtTarget t = IsTarget t.at t.key
 
@@ -171,11 +196,11 @@ module _ (d : Data) (b : ℕ) (is_branch : number_or 0 (get (codes "branch") d) 
   only names o h = Holds-cond (FitsAct b) (has_only names d) o None (λ _. h) tt
 
   -- it is done on the main branch where there is no member for another
-  on_main : has_only (codes "client do") d ≡ true → b ≡ 0
-  on_main h = let none : Some 0 ≡ Some b = sym (ap (number_or 0) (get-unlisted (codes "client do") (codes "branch") d refl h)) ∙ is_branch in cc
+  on_main : (names : List ℕ) → is_listed names (codes "branch") ≡ false → has_only names d ≡ true → b ≡ 0
+  on_main names other h = let none : Some 0 ≡ Some b = sym (ap (number_or 0) (get-unlisted names (codes "branch") d other h)) ∙ is_branch in cc
 
   main_fits : (a : ActView) → (b ≡ 0 → FitsAct b a) → Fits (plain_act (codes "client do") a d)
-  main_fits a h = Holds-cond (FitsAct b) (has_only (codes "client do") d) (Some a) None (λ o. h (on_main o)) tt
+  main_fits a h = Holds-cond (FitsAct b) (has_only (codes "client do") d) (Some a) None (λ o. h (on_main (codes "client do") refl o)) tt
 
   abbrev inserted : Target → ℕ → List Node → ActView
   inserted t index items = edit (insert t.at t.key index items)
@@ -225,6 +250,14 @@ module _ (d : Data) (b : ℕ) (is_branch : number_or 0 (get (codes "branch") d) 
   need_fits : Fits (read_need d)
   need_fits = only (codes "at branch client do") (option_map needed (path_in (codes "at") d)) (Holds-map IsPath (FitsAct b) needed (λ at h. h) (path_in (codes "at") d) (path_fits (codes "at") d))
 
+  abbrev undone : Rev → ActView
+  undone rev = undo rev
+
+  undo_fits : Fits (read_undo d)
+  undo_fits =
+      Holds-cond (FitsAct b) (has_only (codes "client do rev") d) (option_map undone (rev_in (codes "rev") d)) None
+      (λ o. Holds-map IsRev (FitsAct b) undone (λ rev h. (on_main (codes "client do rev") refl o, h)) (rev_in (codes "rev") d) (rev_fits (codes "rev") d)) tt
+
   -- on whatever branch
   actor_fits : (a : ActView) → FitsAct b a → Fits (plain_act (codes "branch client do") a d)
   actor_fits a h = only (codes "branch client do") (Some a) h
@@ -234,7 +267,7 @@ module _ (d : Data) (b : ℕ) (is_branch : number_or 0 (get (codes "branch") d) 
   either true o p l r = l
   either false o p l r = r
 
-  edit_word_fits : (word : List ℕ) → Sound d → Fits (edit_of word d)
+  edit_word_fits : (word : List ℕ) → Sound d → Fits (read_edit word d)
   edit_word_fits word sound =
       either (same word (codes "insert")) _ _ (insert_fits sound)
       (either (same word (codes "remove")) _ _ remove_fits
@@ -249,9 +282,11 @@ module _ (d : Data) (b : ℕ) (is_branch : number_or 0 (get (codes "branch") d) 
       (either (same word (codes "begin")) _ _ (actor_fits begin tt)
       (either (same word (codes "commit")) _ _ (actor_fits commit tt)
       (either (same word (codes "abort")) _ _ (actor_fits abort tt)
+      (either (same word (codes "undo")) _ _ undo_fits
       (either (same word (codes "sequence")) _ _ (main_fits sequence (λ zero. zero))
+      (either (same word (codes "ack")) _ _ (main_fits ack (λ zero. zero))
       (either (same word (codes "deliver")) _ _ (main_fits deliver (λ zero. zero))
-      (either (same word (codes "show")) _ _ (actor_fits show tt) (edit_word_fits word sound))))))))
+      (either (same word (codes "show")) _ _ (actor_fits show tt) (edit_word_fits word sound))))))))))
 
   act_fits : Sound d → Fits (act_of d)
   act_fits sound = Holds-and_then Any (FitsAct b) (λ word. read_of word d) (λ word _. word_fits word sound) (word_of d) (any _)
@@ -306,7 +341,9 @@ act_form b (need at) h = h.0
 act_form b begin h = tt
 act_form b commit h = tt
 act_form b abort h = tt
+act_form b (undo rev) h = tt
 act_form b sequence h = tt
+act_form b ack h = tt
 act_form b deliver h = tt
 act_form b show h = tt
 

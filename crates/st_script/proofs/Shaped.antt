@@ -8,6 +8,7 @@ use Rattle.serde_json.specs.Data.{Data, null, boolean, number, string, array, ob
 use Rattle.serde_json.specs.Find.{get, get_member, as_array}
 use Rattle.serde_json.specs.Read.{read}
 use Rattle.st_ids.specs.declared.names.Place.{Place}
+use Rattle.st_ids.specs.declared.names.Rev.{Rev}
 use Rattle.st_json.specs.Line.{line_value}
 use Rattle.st_json.specs.Look.{has_only}
 use Rattle.st_json.specs.Order.{NamesRise, ItemsRise, MembersRise}
@@ -20,8 +21,8 @@ use Rattle.st_schema.specs.TreeText.{tree_of}
 use Rattle.st_schema.proofs.Holds.{Holds-cond}
 use Rattle.st_schema.proofs.Shaped.{IsShaped, shown_shaped}
 use Rattle.st_script.specs.Line.{line_of, step_of_value}
-use Rattle.st_script.specs.Members.{client_in, number_in, number_or, path_in, trees_in, few, items_in, item_in}
-use Rattle.st_script.specs.Steps.{insert, remove, move, set, clear, ActView, join, edit, need, begin, commit, abort, sequence, deliver, show, StepView, same, site_of, span_of, goal_of, read_insert, read_remove, read_move, read_set, read_clear, read_need, edit_of, read_of, word_of, act_of, step_of}
+use Rattle.st_script.specs.Members.{client_in, number_in, number_or, path_in, rev_in, trees_in, few, items_in, item_in}
+use Rattle.st_script.specs.Steps.{insert, remove, move, set, clear, ActView, join, edit, need, begin, commit, abort, undo, sequence, ack, deliver, show, StepView, same, site_of, span_of, goal_of, read_insert, read_remove, read_move, read_set, read_clear, read_need, read_undo, read_edit, read_of, word_of, act_of, step_of}
 use Rattle.st_script.specs.StepText.{act_has_shape, trees_have_shape}
 use Rattle.st_script.specs.declared.read.Goal.{Goal}
 use Rattle.st_script.specs.declared.read.Span.{Span}
@@ -151,12 +152,18 @@ needed at = need at
 need_shaped : (d : Data) → Shaped (read_need d)
 need_shaped d = only (codes "at branch client do") d (option_map needed (path_in (codes "at") d)) (made IsAct needed (λ at. refl) (path_in (codes "at") d))
 
+abbrev undone : Rev → ActView
+undone rev = undo rev
+
+undo_shaped : (d : Data) → Shaped (read_undo d)
+undo_shaped d = only (codes "client do rev") d (option_map undone (rev_in (codes "rev") d)) (made IsAct undone (λ rev. refl) (rev_in (codes "rev") d))
+
 -- one of two, each of which has the shape
 either : (b : Bool) (o p : Option ActView) → Shaped o → Shaped p → Shaped (cond b o p)
 either true o p l r = l
 either false o p l r = r
 
-edit_word_shaped : (word : List ℕ) (d : Data) → NamesRise d → Shaped (edit_of word d)
+edit_word_shaped : (word : List ℕ) (d : Data) → NamesRise d → Shaped (read_edit word d)
 edit_word_shaped word d rise =
     either (same word (codes "insert")) _ _ (insert_shaped d rise)
     (either (same word (codes "remove")) _ _ (remove_shaped d)
@@ -171,9 +178,11 @@ word_shaped word d rise =
     (either (same word (codes "begin")) _ _ (only (codes "branch client do") d (Some begin) refl)
     (either (same word (codes "commit")) _ _ (only (codes "branch client do") d (Some commit) refl)
     (either (same word (codes "abort")) _ _ (only (codes "branch client do") d (Some abort) refl)
+    (either (same word (codes "undo")) _ _ (undo_shaped d)
     (either (same word (codes "sequence")) _ _ (only (codes "client do") d (Some sequence) refl)
+    (either (same word (codes "ack")) _ _ (only (codes "client do") d (Some ack) refl)
     (either (same word (codes "deliver")) _ _ (only (codes "client do") d (Some deliver) refl)
-    (either (same word (codes "show")) _ _ (only (codes "branch client do") d (Some show) refl) (edit_word_shaped word d rise))))))))
+    (either (same word (codes "show")) _ _ (only (codes "branch client do") d (Some show) refl) (edit_word_shaped word d rise))))))))))
 
 act_shaped : (d : Data) → NamesRise d → Shaped (act_of d)
 act_shaped d rise = bound IsAct (λ word. read_of word d) (λ word. word_shaped word d rise) (word_of d)

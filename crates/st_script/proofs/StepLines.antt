@@ -14,7 +14,7 @@ use Rattle.st_tree.specs.Node.{Node, nodes_of}
 use Rattle.st_schema.specs.TreeText.{trees_data}
 use Rattle.st_schema.proofs.PlainTrees.{tree_plain, tree_low, items_low}
 use Rattle.st_script.specs.Line.{line_of, step_of_value}
-use Rattle.st_script.specs.Steps.{EditView, insert, remove, move, set, clear, ActView, join, edit, need, begin, commit, abort, sequence, deliver, show, StepView}
+use Rattle.st_script.specs.Steps.{EditView, insert, remove, move, set, clear, ActView, join, edit, need, begin, commit, abort, undo, sequence, ack, deliver, show, StepView}
 use Rattle.st_script.specs.StepText.{places_data, edit_data, act_data, step_data, step_text, edit_limits, act_limits, limits_of, trees_have_shape, IsReadBack, FitsLine}
 use Rattle.st_script.proofs.Again.{read_again}
 use Rattle.st_script.proofs.Fits.{line_fits}
@@ -45,7 +45,9 @@ act_plain client branch (need at) = rw (path_plain at) refl
 act_plain client branch begin = refl
 act_plain client branch commit = refl
 act_plain client branch abort = refl
+act_plain client branch (undo rev) = refl
 act_plain client branch sequence = refl
+act_plain client branch ack = refl
 act_plain client branch deliver = refl
 act_plain client branch show = refl
 
@@ -72,7 +74,9 @@ act_low client branch (need at) h = omega (arith, path_low at)
 act_low client branch begin h = omega arith
 act_low client branch commit h = omega arith
 act_low client branch abort h = omega arith
+act_low client branch (undo rev) h = omega arith
 act_low client branch sequence h = omega arith
+act_low client branch ack h = omega arith
 act_low client branch deliver h = omega arith
 act_low client branch show h = omega arith
 

@@ -37,6 +37,9 @@ no_node_data depth = object (member (codes "depth") (number (unsigned depth)) (m
 abbrev pub not_allowed_data : ℕ → Data
 not_allowed_data at = object (member (codes "at") (number (unsigned at)) (member (codes "no") (string (codes "NotAllowed")) no_members))
 
+abbrev pub gone_data : ℕ → Data
+gone_data floor = object (member (codes "floor") (number (unsigned floor)) (member (codes "no") (string (codes "Gone")) no_members))
+
 abbrev pub refusal_data : Refusal → Data
 refusal_data no.Taken = no_data (codes "Taken")
 refusal_data no.NoClient = no_data (codes "NoClient")
@@ -48,6 +51,10 @@ refusal_data no.Inside = no_data (codes "Inside")
 refusal_data (no.NotAllowed at) = not_allowed_data at
 refusal_data no.Unfinished = no_data (codes "Unfinished")
 refusal_data no.NotBegun = no_data (codes "NotBegun")
+refusal_data no.NoCommit = no_data (codes "NoCommit")
+refusal_data no.NotOwn = no_data (codes "NotOwn")
+refusal_data (no.Gone floor) = gone_data floor
+refusal_data no.VoidCommit = no_data (codes "VoidCommit")
 refusal_data no.NothingToSend = no_data (codes "NothingToSend")
 refusal_data no.NothingNew = no_data (codes "NothingNew")
 refusal_data (no.Limit l) = limit_data l
@@ -70,6 +77,9 @@ join_data n s = object (member (codes "n") (number (unsigned n)) (member (codes 
 
 abbrev pub sequence_data : ℕ → ℕ → Data
 sequence_data least n = object (member (codes "min") (number (unsigned least)) (member (codes "n") (number (unsigned n)) (member (codes "ok") (string (codes "sequence")) no_members)))
+
+abbrev pub ack_data : ℕ → Data
+ack_data reference = object (member (codes "ok") (string (codes "ack")) (member (codes "ref") (number (unsigned reference)) no_members))
 
 -- `{reason:name}`
 abbrev pub reason_data : List ℕ → List ℕ → Data
@@ -101,7 +111,9 @@ answer_text (answer.Need rev) = compact_text (rev_data (codes "need") rev)
 answer_text (answer.Begin rev) = compact_text (rev_data (codes "begin") rev)
 answer_text (answer.Commit rev) = compact_text (commit_data rev)
 answer_text answer.Abort = compact_text (ok_data (codes "abort"))
+answer_text (answer.Undo rev) = compact_text (rev_data (codes "undo") rev)
 answer_text (answer.Sequence least n) = compact_text (sequence_data least n)
+answer_text (answer.Ack reference) = compact_text (ack_data reference)
 answer_text (answer.Deliver n verdict) = compact_text (deliver_data n verdict)
 answer_text (answer.Show tree) = show_text tree
 answer_text (answer.No refusal) = compact_text (refusal_data refusal)

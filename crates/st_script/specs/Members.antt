@@ -4,6 +4,8 @@ use Rattle.serde_json.specs.Data.{Data, Items, no_items, item}
 use Rattle.serde_json.specs.Find.{get, as_str, as_array, as_number, as_u64}
 use Rattle.st_ids.specs.declared.names.Key.{Key}
 use Rattle.st_ids.specs.declared.names.Place.{Place}
+use Rattle.st_ids.specs.declared.names.Rev.{Rev}
+use Rattle.st_ids.specs.Names.{read_rev}
 use Rattle.st_tree.specs.Node.{Node, nodes_of}
 use Rattle.st_tree.specs.Size.{check_items}
 use Rattle.st_schema.specs.TreeText.{tree_of}
@@ -69,6 +71,10 @@ short_path ps = if nat_lt (length ps) (2 ^ 32) then Some ps else None
 
 abbrev pub path_in : List ℕ → Data → Option (List Place)
 path_in name d = option_and_then short_path (option_and_then places_in (option_and_then as_array (get name d)))
+
+-- the revision that a member names, of the form `s.n`
+abbrev pub rev_in : List ℕ → Data → Option Rev
+rev_in name d = option_and_then read_rev (option_and_then as_str (get name d))
 
 -- values that are all trees
 abbrev pub trees_in : Items → Option (List Node)

@@ -5,13 +5,15 @@ use Rattle.serde_json.specs.View.{items_of}
 use Rattle.serde_json.specs.Written.{compact_text}
 use Rattle.st_ids.specs.declared.names.Key.{Key}
 use Rattle.st_ids.specs.declared.names.Place.{Place}
+use Rattle.st_ids.specs.declared.names.Rev.{Rev}
+use Rattle.st_ids.specs.Names.{rev_text}
 use Rattle.st_tree.specs.Node.{Node, nodes_of}
 use Rattle.st_tree.specs.Size.{check_of, check_items}
 use Rattle.st_tree.specs.declared.limits.TreeFault.{TreeFault}
 use Rattle.st_schema.specs.Shape.{has_shape, all_have_shape}
 use Rattle.st_schema.specs.TreeText.{tree_data, trees_data, tree_of}
 use Rattle.st_script.specs.Line.{line_of}
-use Rattle.st_script.specs.Steps.{EditView, insert, remove, move, set, clear, ActView, join, edit, need, begin, commit, abort, sequence, deliver, show, StepView}
+use Rattle.st_script.specs.Steps.{EditView, insert, remove, move, set, clear, ActView, join, edit, need, begin, commit, abort, undo, sequence, ack, deliver, show, StepView}
 
 -- keys and indexes in turn
 abbrev pub places_data : List Place → List Data
@@ -35,6 +37,10 @@ actor_members word client branch = member (codes "branch") (number (unsigned bra
 -- a need of the node that a path leads to
 abbrev pub need_data : List ℕ → ℕ → List Place → Data
 need_data client branch at = object (member (codes "at") (path_data at) (actor_members (codes "need") client branch))
+
+-- an undo of the commit of a revision
+abbrev pub undo_data : List ℕ → Rev → Data
+undo_data client rev = object (member (codes "client") (string client) (member (codes "do") (string (codes "undo")) (member (codes "rev") (string (rev_text rev)) no_members)))
 
 -- who edits which field, with the step's word
 abbrev pub site_members : List ℕ → List ℕ → ℕ → List Place → Key → Members
@@ -65,7 +71,9 @@ act_data client branch (need at) = need_data client branch at
 act_data client branch begin = object (actor_members (codes "begin") client branch)
 act_data client branch commit = object (actor_members (codes "commit") client branch)
 act_data client branch abort = object (actor_members (codes "abort") client branch)
+act_data client branch (undo rev) = undo_data client rev
 act_data client branch sequence = plain_data (codes "sequence") client
+act_data client branch ack = plain_data (codes "ack") client
 act_data client branch deliver = plain_data (codes "deliver") client
 act_data client branch show = object (actor_members (codes "show") client branch)
 
@@ -90,7 +98,9 @@ act_limits (need at) = Ok tt
 act_limits begin = Ok tt
 act_limits commit = Ok tt
 act_limits abort = Ok tt
+act_limits (undo rev) = Ok tt
 act_limits sequence = Ok tt
+act_limits ack = Ok tt
 act_limits deliver = Ok tt
 act_limits show = Ok tt
 
@@ -113,7 +123,9 @@ act_has_shape (need at) = true
 act_has_shape begin = true
 act_has_shape commit = true
 act_has_shape abort = true
+act_has_shape (undo rev) = true
 act_has_shape sequence = true
+act_has_shape ack = true
 act_has_shape deliver = true
 act_has_shape show = true
 
@@ -134,6 +146,10 @@ IsActor client branch = IsName client × (branch < 2 ^ 32)
 abbrev pub ArePlaces : List Place → Type 0
 ArePlaces [] = Unit {0}
 ArePlaces (p ∷ ps) = (length p.key.0 ≤ 64) × (p.index < 2 ^ 32) × ArePlaces ps
+
+-- both parts of a revision are below 2^32
+abbrev pub IsRev : Rev → Type 0
+IsRev rev = (rev.session < 2 ^ 32) × (rev.num < 2 ^ 32)
 
 -- fewer than 2^32 places
 abbrev pub IsPath : List Place → Type 0
@@ -175,7 +191,9 @@ FitsAct branch (need at) = IsPath at
 FitsAct branch begin = Unit {0}
 FitsAct branch commit = Unit {0}
 FitsAct branch abort = Unit {0}
+FitsAct branch (undo rev) = (branch ≡ 0) × IsRev rev
 FitsAct branch sequence = branch ≡ 0
+FitsAct branch ack = branch ≡ 0
 FitsAct branch deliver = branch ≡ 0
 FitsAct branch show = Unit {0}
 

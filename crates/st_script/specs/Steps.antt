@@ -5,6 +5,7 @@ use Rattle.serde_json.specs.Data.{Data}
 use Rattle.serde_json.specs.Find.{get, as_str}
 use Rattle.st_ids.specs.declared.names.Key.{Key}
 use Rattle.st_ids.specs.declared.names.Place.{Place}
+use Rattle.st_ids.specs.declared.names.Rev.{Rev}
 use Rattle.st_json.specs.Look.{has_only}
 use Rattle.st_tree.specs.Node.{Node, view, nodes_of}
 use Rattle.st_tree.specs.Size.{check_of, check_items}
@@ -16,7 +17,7 @@ use Rattle.st_script.specs.declared.step.EditAct.TheVariants as edits
 use Rattle.st_script.specs.declared.read.Target.{Target}
 use Rattle.st_script.specs.declared.read.Span.{Span}
 use Rattle.st_script.specs.declared.read.Goal.{Goal}
-use Rattle.st_script.specs.Members.{client_in, number_in, number_or, count_of, key_or_empty, path_in, items_in, item_in}
+use Rattle.st_script.specs.Members.{client_in, number_in, number_or, count_of, key_or_empty, path_in, rev_in, items_in, item_in}
 
 -- ## Steps as contracts see them
 
@@ -36,7 +37,9 @@ pub data ActView : Type 0 where
   begin : ActView
   commit : ActView
   abort : ActView
+  undo : Rev → ActView
   sequence : ActView
+  ack : ActView
   deliver : ActView
   show : ActView
 
@@ -60,7 +63,9 @@ act_view (acts.Need at) = need at
 act_view acts.Begin = begin
 act_view acts.Commit = commit
 act_view acts.Abort = abort
+act_view (acts.Undo rev) = undo rev
 act_view acts.Sequence = sequence
+act_view acts.Ack = ack
 act_view acts.Deliver = deliver
 act_view acts.Show = show
 
@@ -85,7 +90,9 @@ IsActWithin (need at) = length at < 2 ^ 32
 IsActWithin begin = Unit {0}
 IsActWithin commit = Unit {0}
 IsActWithin abort = Unit {0}
+IsActWithin (undo rev) = Unit {0}
 IsActWithin sequence = Unit {0}
+IsActWithin ack = Unit {0}
 IsActWithin deliver = Unit {0}
 IsActWithin show = Unit {0}
 
@@ -160,6 +167,12 @@ read_need d =
     option_map (λ at. need at) (path_in (codes "at") d)
     else None
 
+abbrev pub read_undo : Data → Option ActView
+read_undo d =
+    if has_only (codes "client do rev") d then
+    option_map (λ rev. undo rev) (rev_in (codes "rev") d)
+    else None
+
 -- an act without members of its own, where a value has no members but those of the names
 abbrev pub plain_act : List ℕ → ActView → Data → Option ActView
 plain_act names a d = if has_only names d then Some a else None
@@ -169,8 +182,8 @@ abbrev pub same : List ℕ → List ℕ → Bool
 same = pointwise nat_eq
 
 -- the edit of a word
-abbrev pub edit_of : List ℕ → Data → Option ActView
-edit_of word d =
+abbrev pub read_edit : List ℕ → Data → Option ActView
+read_edit word d =
     if same word (codes "insert") then read_insert d else
     if same word (codes "remove") then read_remove d else
     if same word (codes "move") then read_move d else
@@ -185,9 +198,11 @@ read_of word d =
     if same word (codes "begin") then plain_act (codes "branch client do") begin d else
     if same word (codes "commit") then plain_act (codes "branch client do") commit d else
     if same word (codes "abort") then plain_act (codes "branch client do") abort d else
+    if same word (codes "undo") then read_undo d else
     if same word (codes "sequence") then plain_act (codes "client do") sequence d else
+    if same word (codes "ack") then plain_act (codes "client do") ack d else
     if same word (codes "deliver") then plain_act (codes "client do") deliver d else
-    if same word (codes "show") then plain_act (codes "branch client do") show d else edit_of word d
+    if same word (codes "show") then plain_act (codes "branch client do") show d else read_edit word d
 
 -- the word of a step
 abbrev pub word_of : Data → Option (List ℕ)

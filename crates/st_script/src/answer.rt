@@ -3,7 +3,7 @@ ghost use Rattle.std.specs.Prelude.{◌≡◌, [], ◌∷◌, ◌++◌, codes, I
 ghost use Rattle.serde_json.specs.Data.{object, member, no_members, number, unsigned, string, put};
 ghost use Rattle.serde_json.specs.View.{view, members_view};
 ghost use Rattle.serde_json.specs.Written.{compact_text};
-ghost use Rattle.st_script.specs.AnswerText.{ok_data, join_data, rev_data, sequence_data, void_data, deliver_data, commit_data, refusal_data, show_text, answer_line};
+ghost use Rattle.st_script.specs.AnswerText.{ok_data, join_data, rev_data, sequence_data, ack_data, void_data, deliver_data, commit_data, refusal_data, show_text, answer_line};
 
 use crate::refusal::{Refusal, refusal_value};
 use serde_json::{Map, Value, json};
@@ -13,7 +13,9 @@ use st_marks::Verdict;
 use std::alloc::{AllocError, Global};
 
 /// The answer to a header or a step. The tree of `Show` is a JSON text. The revision of `Need` and
-/// `Begin` is that of the transaction, and that of `Commit` is none where it made no commit.
+/// `Begin` is that of the transaction, and that of `Commit` is none where it made no commit; that
+/// of `Undo` is the revision of the new commit. The `reference` of `Ack` is the number of the last
+/// entry of the log that the client received.
 #[derive(Drop)]
 pub enum Answer {
     Header,
@@ -27,7 +29,9 @@ pub enum Answer {
     Begin { rev: Rev },
     Commit { rev: Option<Rev> },
     Abort,
+    Undo { rev: Rev },
     Sequence { min: u32, n: u32 },
+    Ack { reference: u32 },
     Deliver { n: u32, void: Verdict },
     Show { tree: Text },
     No(Refusal),
@@ -74,6 +78,12 @@ fn sequence_value(alloc: Global, min: u32, n: u32) -> Result<Value, AllocError>
     ensures { IfOk result (λ v. view v ≡ sequence_data min n) }
 {
     json!(in alloc; {"min": min, "n": n, "ok": "sequence"})
+}
+
+fn ack_value(alloc: Global, reference: u32) -> Result<Value, AllocError>
+    ensures { IfOk result (λ v. view v ≡ ack_data reference) }
+{
+    json!(in alloc; {"ok": "ack", "ref": reference})
 }
 
 fn schema_value(alloc: Global, under: Rev) -> Result<Value, AllocError>
@@ -191,6 +201,13 @@ fn sequence_line(alloc: Global, min: u32, n: u32) -> Result<Text, AllocError>
     write_line(alloc, &value)
 }
 
+fn ack_line(alloc: Global, reference: u32) -> Result<Text, AllocError>
+    ensures { IfOk result (λ t. t ≡ compact_text (ack_data reference) ++ 10 ∷ []) }
+{
+    let value = ack_value(alloc, reference)?;
+    write_line(alloc, &value)
+}
+
 fn deliver_line(alloc: Global, n: u32, void: Verdict) -> Result<Text, AllocError>
     ensures { IfOk result (λ t. t ≡ compact_text (deliver_data n void) ++ 10 ∷ []) }
 {
@@ -221,7 +238,9 @@ pub fn answer_line(alloc: Global, answer: &Answer) -> Result<Text, AllocError>
         Answer::Begin { rev } => rev_line(alloc, "begin", *rev),
         Answer::Commit { rev } => commit_line(alloc, *rev),
         Answer::Abort => ok_line(alloc, "abort"),
+        Answer::Undo { rev } => rev_line(alloc, "undo", *rev),
         Answer::Sequence { min, n } => sequence_line(alloc, *min, *n),
+        Answer::Ack { reference } => ack_line(alloc, *reference),
         Answer::Deliver { n, void } => deliver_line(alloc, *n, *void),
         Answer::Show { tree } => show_line(alloc, tree.as_str()),
         Answer::No(refusal) => no_line(alloc, *refusal),

@@ -5,10 +5,10 @@ ghost use Rattle.serde_json.specs.Find.{get};
 ghost use Rattle.st_json.specs.Look.{has_only};
 ghost use Rattle.st_schema.specs.TreeText.{tree_of};
 ghost use Rattle.st_tree.specs.Node.{view};
-ghost use Rattle.st_script.specs.Members.{as_small, number_in, number_or, at_least_one, count_of, client_in, key_within, key_of, key_or_empty, place_of, places_in, short_path, path_in, trees_in, few, items_in, item_in};
+ghost use Rattle.st_script.specs.Members.{as_small, number_in, number_or, at_least_one, count_of, client_in, key_within, key_of, key_or_empty, place_of, places_in, short_path, path_in, rev_in, trees_in, few, items_in, item_in};
 
 use serde_json::Value;
-use st_ids::{Key, List, Or, Path, Place, Text};
+use st_ids::{Key, List, Or, Path, Place, Rev, Text};
 use st_json::only;
 use st_schema::read_tree;
 use st_tree::{Tree, check_trees};
@@ -192,6 +192,13 @@ pub(crate) fn path_member(
         None => Ok(None),
         Some(items) => path_of(alloc, items.as_slice()),
     }
+}
+
+/// The revision that a member names.
+pub(crate) fn rev_member(value: &Value, name: &str) -> Option<Rev>
+    ensures { result ≡ rev_in name.now (value_view value.now) }
+{
+    Rev::read(value.get(name)?.as_str()?)
 }
 
 // The tree that a value shows.

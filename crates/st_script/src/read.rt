@@ -1,10 +1,11 @@
 //! Steps read from the value of a line.
 ghost use Rattle.std.specs.Prelude.{◌≡◌, codes, IfOk, option_map};
 ghost use Rattle.serde_json.specs.View.{view};
-ghost use Rattle.st_script.specs.Steps.{target_of, span_of, goal_of, act_view, step_view, word_of, plain_act, read_insert, read_remove, read_move, read_set, read_clear, read_need, edit_of, read_of, act_of, step_of};
+ghost use Rattle.st_script.specs.Steps.{target_of, span_of, goal_of, act_view, step_view, word_of, plain_act, read_insert, read_remove, read_move, read_set, read_clear, read_need, read_undo, read_edit, read_of, act_of, step_of};
 
 use crate::member::{
     client, count, has_only, item, items, key_member, number_member, number_or_zero, path_member,
+    rev_member,
 };
 use crate::step::{Act, EditAct, TraceStep};
 use serde_json::Value;
@@ -191,6 +192,16 @@ fn read_need(alloc: Global, value: &Value) -> Result<Option<Act>, AllocError>
     }
 }
 
+fn read_undo(value: &Value) -> Option<Act>
+    ensures { option_map act_view result ≡ read_undo (view value.now) }
+{
+    if !has_only(value, "client do rev") {
+        return None;
+    }
+    let rev = rev_member(value, "rev")?;
+    Some(Act::Undo { rev })
+}
+
 // An act without members of its own, where a value has no members but those of the names.
 fn plain(value: &Value, names: &str, act: Act) -> Option<Act>
     ensures { option_map act_view result ≡ plain_act names.now (act_view act) (view value.now) }
@@ -204,7 +215,7 @@ fn plain(value: &Value, names: &str, act: Act) -> Option<Act>
 
 // The edit of a word.
 fn read_edit(alloc: Global, word: &str, value: &Value) -> Result<Option<Act>, AllocError>
-    ensures { IfOk result (λ a. option_map act_view a ≡ edit_of word.now (view value.now)) }
+    ensures { IfOk result (λ a. option_map act_view a ≡ read_edit word.now (view value.now)) }
 {
     match word {
         "insert" => read_insert(alloc, value),
@@ -226,7 +237,9 @@ fn read_of(alloc: Global, word: &str, value: &Value) -> Result<Option<Act>, Allo
         "begin" => Ok(plain(value, "branch client do", Act::Begin)),
         "commit" => Ok(plain(value, "branch client do", Act::Commit)),
         "abort" => Ok(plain(value, "branch client do", Act::Abort)),
+        "undo" => Ok(read_undo(value)),
         "sequence" => Ok(plain(value, "client do", Act::Sequence)),
+        "ack" => Ok(plain(value, "client do", Act::Ack)),
         "deliver" => Ok(plain(value, "client do", Act::Deliver)),
         "show" => Ok(plain(value, "branch client do", Act::Show)),
         _ => read_edit(alloc, word, value),

@@ -1,7 +1,7 @@
 //! Why a step is refused, and how a refusal is written.
 ghost use Rattle.std.specs.Prelude.{◌≡◌, IfOk};
 ghost use Rattle.serde_json.specs.View.{view};
-ghost use Rattle.st_script.specs.AnswerText.{limit_word, limit_data, no_data, no_node_data, not_allowed_data, refusal_data};
+ghost use Rattle.st_script.specs.AnswerText.{limit_word, limit_data, no_data, no_node_data, not_allowed_data, gone_data, refusal_data};
 
 use serde_json::{Value, json};
 use st_ids::{Limit, LimitOf};
@@ -30,6 +30,14 @@ pub enum Refusal {
     Unfinished,
     /// No transaction is open on the branch.
     NotBegun,
+    /// The revision is of no commit that the client received or has pending on its main branch.
+    NoCommit,
+    /// The revision is of another session's commit.
+    NotOwn,
+    /// The number of the commit is at or below the floor, down to which the log can't be undone.
+    Gone { floor: u32 },
+    /// The commit is void where the client stands.
+    VoidCommit,
     /// The client's queue is empty.
     NothingToSend,
     /// The client received the whole log.
@@ -74,6 +82,12 @@ fn not_allowed_value(alloc: Global, at: u32) -> Result<Value, AllocError>
     json!(in alloc; {"at": at, "no": "NotAllowed"})
 }
 
+fn gone_value(alloc: Global, floor: u32) -> Result<Value, AllocError>
+    ensures { IfOk result (λ v. view v ≡ gone_data floor) }
+{
+    json!(in alloc; {"floor": floor, "no": "Gone"})
+}
+
 fn no_value(alloc: Global, name: &str) -> Result<Value, AllocError>
     ensures { IfOk result (λ v. view v ≡ no_data name.now) }
 {
@@ -95,6 +109,10 @@ pub(crate) fn refusal_value(alloc: Global, refusal: Refusal) -> Result<Value, Al
         Refusal::NotAllowed { at } => not_allowed_value(alloc, at),
         Refusal::Unfinished => no_value(alloc, "Unfinished"),
         Refusal::NotBegun => no_value(alloc, "NotBegun"),
+        Refusal::NoCommit => no_value(alloc, "NoCommit"),
+        Refusal::NotOwn => no_value(alloc, "NotOwn"),
+        Refusal::Gone { floor } => gone_value(alloc, floor),
+        Refusal::VoidCommit => no_value(alloc, "VoidCommit"),
         Refusal::NothingToSend => no_value(alloc, "NothingToSend"),
         Refusal::NothingNew => no_value(alloc, "NothingNew"),
         Refusal::Limit(limit) => limit_value(alloc, limit),

@@ -1,6 +1,6 @@
 //! The steps of a trace.
 
-use st_ids::{Key, List, Path, Text};
+use st_ids::{Key, List, Path, Rev, Text};
 use st_tree::Tree;
 
 /// One step of one client, on one of its branches. Where the act names no branch, it is 0, the main
@@ -25,7 +25,11 @@ pub enum Act {
     Commit,
     /// Gives the open transaction up.
     Abort,
+    /// Takes back what the client's own commit of the revision did.
+    Undo { rev: Rev },
     Sequence,
+    /// Sends which entries of the log the client has received.
+    Ack,
     Deliver,
     Show,
 }

@@ -12,11 +12,11 @@ ghost use Rattle.st_tree.specs.Node.{view, trees_view};
 ghost use Rattle.st_tree.specs.Size.{check_of, check_items};
 ghost use Rattle.st_script.specs.Line.{line_of};
 ghost use Rattle.st_script.specs.Steps.{edit_view, step_view};
-ghost use Rattle.st_script.specs.StepText.{places_data, path_data, items_data, plain_data, actor_members, need_data, site_members, edit_data, step_data, step_text, edit_limits, limits_of, edit_has_shape, trees_have_shape, IsReadBack, FitsLine};
+ghost use Rattle.st_script.specs.StepText.{places_data, path_data, items_data, plain_data, actor_members, need_data, undo_data, site_members, edit_data, step_data, step_text, edit_limits, limits_of, edit_has_shape, trees_have_shape, IsReadBack, FitsLine};
 
 use crate::step::{Act, EditAct, TraceStep};
 use serde_json::{Map, Value};
-use st_ids::{Key, List, Or, Path, Place, Text};
+use st_ids::{Key, List, Or, Path, Place, Rev, Text};
 use st_schema::write_tree;
 use st_tree::{Tree, TreeFault, check, check_trees};
 use std::alloc::{AllocError, Global};
@@ -121,6 +121,18 @@ fn plain_value(alloc: Global, word: &str, client: &Text) -> Result<Value, AllocE
     let mut members = Map::new(alloc);
     put_text(alloc, &mut members, "client", client.as_str())?;
     put_text(alloc, &mut members, "do", word)?;
+    Ok(Value::Object(members))
+}
+
+// An undo of the commit of a revision.
+fn undo_value(alloc: Global, client: &Text, rev: Rev) -> Result<Value, AllocError>
+    ensures { IfOk result (λ v. value_view v ≡ undo_data client.now rev) }
+{
+    let mut members = Map::new(alloc);
+    put_text(alloc, &mut members, "client", client.as_str())?;
+    put_text(alloc, &mut members, "do", "undo")?;
+    let rev = rev.text(alloc)?;
+    put_text(alloc, &mut members, "rev", rev.as_str())?;
     Ok(Value::Object(members))
 }
 
@@ -292,7 +304,9 @@ fn step_value(alloc: Global, step: &TraceStep) -> Result<Value, AllocError>
         Act::Begin => actor_value(alloc, "begin", step),
         Act::Commit => actor_value(alloc, "commit", step),
         Act::Abort => actor_value(alloc, "abort", step),
+        Act::Undo { rev } => undo_value(alloc, &step.client, *rev),
         Act::Sequence => plain_value(alloc, "sequence", &step.client),
+        Act::Ack => plain_value(alloc, "ack", &step.client),
         Act::Deliver => plain_value(alloc, "deliver", &step.client),
         Act::Show => actor_value(alloc, "show", step),
     }
@@ -332,7 +346,9 @@ fn limits(step: &TraceStep) -> Result<(), TreeFault>
         Act::Begin => Ok(()),
         Act::Commit => Ok(()),
         Act::Abort => Ok(()),
+        Act::Undo { .. } => Ok(()),
         Act::Sequence => Ok(()),
+        Act::Ack => Ok(()),
         Act::Deliver => Ok(()),
         Act::Show => Ok(()),
     }
@@ -350,10 +366,10 @@ fn line_within(alloc: Global, step: &TraceStep) -> Result<Text, AllocError>
 }
 
 /// The line of a step, with its line feed: every member that the step has, also one that may be
-/// left out, in byte order of the names. A join, a sequence and a deliver have no member for the
-/// branch, which is 0 there. A step whose trees pass the limits is refused, an insert's together.
-/// The line is told where the trees have the shape of trees that values show, and is read as the
-/// step. So it is of each step that was read of a line.
+/// left out, in byte order of the names. A join, an undo, a sequence, an ack and a deliver
+/// have no member for the branch, which is 0 there. A step whose trees pass the limits is refused,
+/// an insert's together. The line is told where the trees have the shape of trees that values show,
+/// and is read as the step. So it is of each step that was read of a line.
 pub fn step_line(alloc: Global, step: &TraceStep) -> Result<Text, Or<TreeFault>>
     ensures text { IfOk result (λ t. trees_have_shape (step_view step.now) ≡ true → t ≡ step_text (step_view step.now) ++ 10 ∷ []) }
     ensures within { OnOk result (limits_of (step_view step.now) ≡ Ok tt) }
