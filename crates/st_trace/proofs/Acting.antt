@@ -1,5 +1,5 @@
 -- The world after a step of one client.
-use Rattle.std.proofs.Common.{◌≡◌, ◌≤◌, ◌+◌, ◌-◌, ◌^◌, ◌<◌, ℕ, length, List, Option, Some, None, IfSome, Result, Ok, Err, refl, sym, ap, ◌∙◌, subst, arith}
+use Rattle.std.proofs.Common.{◌≡◌, ◌≤◌, ◌+◌, ℕ, List, Option, Some, None, IfSome, Result, Ok, Err, refl, sym, ap, ◌∙◌, subst, arith}
 use Rattle.std.specs.List.{slice_get, slice_set, AllByRecursion}
 use Rattle.std.specs.Option.{option_and_then}
 use Rattle.st_ids.specs.declared.names.Limit.{Limit}
@@ -37,10 +37,10 @@ use Rattle.st_lists.specs.declared.lists.WorldState.{WorldState}
 use Rattle.st_trace.specs.declared.world.World.{World}
 use Rattle.st_trace.proofs.Clients.{shown_sound}
 use Rattle.st_trace.proofs.Everyone.{all_get, clients_of, kept_at, kept_of, set_same}
-use Rattle.st_trace.proofs.Going.{GoesOn, abort_goes, begin_goes, commit_goes, delivery_goes, edit_goes, meant_in, need_goes}
+use Rattle.st_trace.proofs.Going.{GoesOn, abort_goes, begin_goes, commit_goes, delivery_goes, edit_goes, need_goes}
 use Rattle.st_trace.proofs.Keeping.{AreOne, can_receive, kept_begun, kept_commits, kept_delivered, kept_ended, kept_main, kept_parted, kept_shown, kept_taken, none_edited}
 use Rattle.st_trace.proofs.Meant.{IsMeaning, IsMeant, need_means, resolved_means}
-use Rattle.st_trace.proofs.Parts.{counted as numbers_left, editable, is_part, names_edited, so_far, whole_names}
+use Rattle.st_trace.proofs.Parts.{counted as numbers_left, editable, is_part, so_far, whole_names}
 use Rattle.st_trace.proofs.Stepping.{sound_client, start_of}
 
 -- a client and what is kept of it
@@ -95,15 +95,15 @@ module _ (w : World) (i : ℕ) (c : Client) (k : Replica) (s : IsSound w) (at_c 
 
       go : (o : Option Transaction) → c.transaction ≡ o → IfSome o (IsTransaction h log c) → HasOpen k.main (option_and_then (λ (t : Transaction). t.joined) o) → IsMeant h.schema (with_open D (option_and_then (λ (t : Transaction). t.joined) o)) (next_names c o) word N
           → CanTake k o word N
-      go None is x open m = m.fits
-      go (Some t) is x open m =
+      go None is x edits m = m.fits
+      go (Some t) is x edits m =
           let st = start_of w w.steps s in
           let main = kept_main h log c k one.kept in
           let before : x.before ≡ D = one_run x.main main in
           let n = subst (λ F. IsMeant h.schema (with_open F t.joined) (next_names c (Some t)) word N) (sym before) m in
           record {
             going = record {
-              has = open;
+              has = edits;
               so_far = subst (λ F. FitsSoFar F N.rev N.under t.joined) before (so_far h st log c t word N one.client is s.few_names x n);
               sound = subst (λ F. IsSoundInForm (with_open F t.joined)) before x.sound;
             };

@@ -33,7 +33,7 @@ use Rattle.st_log_laws.specs.Turns.{FitInTurn, IsSublist}
 use Rattle.st_log_laws.proofs.Names.{new_node_rev}
 use Rattle.st_log_laws.proofs.Shorter.{sublist_itself, sublist_joined, sublist_none, has_longer}
 use Rattle.st_log_laws.proofs.Turns.{front, made_in_run}
-use Rattle.st_schema_laws.specs.Agreeing.{KeepSchemaInTurn, KeepsSchema, TellsHomes, with_homes}
+use Rattle.st_schema_laws.specs.Agreeing.{KeepSchemaInTurn, KeepsSchema, with_homes}
 use Rattle.st_schema_laws.specs.Conforming.{IsConforming, register_in}
 use Rattle.st_schema_laws.proofs.Homes.{document_keeps, intent_keeps, tells_own}
 use Rattle.st_schema_laws.proofs.Joins.{joined_agrees}
@@ -45,7 +45,7 @@ use Rattle.st_script.specs.declared.answer.Answer.{Answer}
 use Rattle.st_trace.specs.Replicas.{EditsKeepSchema, HasMain, HaveSessionsFrom, IsClient, IsHeader, IsTransaction, KeepSchemaWith, KeepToSchema}
 use Rattle.st_lists.specs.Log.{commits_by, commits_of_text, intents_of, log_and_queue}
 use Rattle.st_lists.specs.Log.{commit_of, commits_in, log_with}
-use Rattle.st_lists.specs.Clients.{joined_of, with_commit, with_edited, with_new_commit, with_transaction, without_transaction, new_client, next_rev, pending_after, received_by, with_received}
+use Rattle.st_lists.specs.Clients.{joined_of, with_commit, with_edited, with_new_commit, with_transaction, without_transaction, new_client, pending_after, received_by, with_received}
 use Rattle.st_trace.specs.World.{IsDeliveredTo, after_edit, cells_given, next_names, opening_document, with_pending}
 use Rattle.st_lists.specs.Limits.{limit_passed}
 use Rattle.st_lists.specs.Names.{names_in}
@@ -161,8 +161,7 @@ module _ (h : HeaderView) (st : IsStart (opening_document h)) where
       go : (o : Option Entry) → slice_get log c.received ≡ o → IsDeliveredTo D c o c' a → KeepToSchema h log (slice_set cs i c')
       go None e d = same_keeps log cs i c c' at (sym d.0) w
       go (Some x) e d =
-          let now = taken_shows w.0 log c x (all_get (IsClient h log) cs i c are at) few e w.1.logged (all_get (Shown w.0 log) cs i c w.1.shown at) in
-          (
+          let now = taken_shows w.0 log c x (all_get (IsClient h log) cs i c are at) few e w.1.logged (all_get (Shown w.0 log) cs i c w.1.shown at) in (
             w.0,
             record {
               start = w.1.start;

@@ -27,7 +27,7 @@ use Rattle.st_trace.specs.Replicas.{HasMain, IsClient, IsTransaction}
 use Rattle.st_lists.specs.Log.{commit_in, commits_by, commits_of_text, intents_of, log_and_queue}
 use Rattle.st_lists.specs.Log.{commit_of, commits_in, log_with}
 use Rattle.st_lists.specs.Clients.{HasReceived, joined_of, with_commit, new_client, next_rev, received_by}
-use Rattle.st_lists.specs.Names.{names_in, names_in_text, names_made, unsequenced}
+use Rattle.st_lists.specs.Names.{names_in, names_in_text, names_made}
 use Rattle.st_trace.specs.World.{opening_document}
 use Rattle.st_lists.specs.declared.lists.Body.{Body}
 use Rattle.st_lists.specs.declared.lists.Body.TheVariants.{Join, Commit}

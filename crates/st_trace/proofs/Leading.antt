@@ -5,26 +5,21 @@ use Rattle.std.specs.Option.{option_map_or, option_or}
 use Rattle.serde_json.specs.Written.{compact_text}
 use Rattle.st_ids.specs.Listing.{Has}
 use Rattle.st_ids.specs.Order.{same_node}
-use Rattle.st_ids.specs.declared.names.FieldId.{FieldId}
-use Rattle.st_ids.specs.declared.names.Key.{Key}
 use Rattle.st_ids.specs.declared.names.Limit.{Limit}
 use Rattle.st_ids.specs.declared.names.LimitOf.TheVariants.{Clients, Log}
 use Rattle.st_ids.specs.declared.names.NodeId.{NodeId}
 use Rattle.st_ids.specs.declared.names.Place.{Place}
 use Rattle.st_ids.proofs.Orders.{same_node-true}
-use Rattle.st_tree.specs.Node.{Node, Nodes, nodes_of, first, no_nodes}
 use Rattle.st_tree.specs.Preorder.{opening_listed}
 use Rattle.st_tree.specs.declared.edit.EditFault.{EditFault}
 use Rattle.st_tree.specs.declared.flat.FlatNode.{FlatNode}
-use Rattle.st_schema.specs.Schema.{is_sound}
 use Rattle.st_marks.specs.declared.changes.NewNode.{NewNode}
 use Rattle.st_marks.specs.declared.intents.Intent.{Intent}
 use Rattle.st_marks.specs.declared.verdicts.Verdict.{Verdict}
 use Rattle.st_marks.specs.Document.{Document, IsSoundInForm, NodeType}
 use Rattle.st_ids.specs.Root.{root}
 use Rattle.st_marks.specs.CarryOut.{void, void_data}
-use Rattle.st_marks.specs.Intent.{Fits, new_node, new_type}
-use Rattle.st_marks.specs.LiveTree.{IsTreeText}
+use Rattle.st_marks.specs.Intent.{new_node, new_type}
 use Rattle.st_marks.specs.Run.{Run, done, next}
 use Rattle.st_marks.specs.Verdict.{carried_document}
 use Rattle.st_marks.proofs.Members.{append_left, append_right}

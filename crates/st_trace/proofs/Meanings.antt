@@ -4,7 +4,7 @@ use Rattle.st_ids.specs.declared.names.FieldId.{FieldId}
 use Rattle.st_ids.specs.declared.names.Key.{Key}
 use Rattle.st_ids.specs.declared.names.NodeId.{NodeId}
 use Rattle.st_ids.specs.declared.names.Place.{Place}
-use Rattle.st_tree.specs.Node.{Nodes, first, no_nodes}
+use Rattle.st_tree.specs.Node.{Nodes}
 use Rattle.st_tree.specs.declared.edit.EditFault.{EditFault}
 use Rattle.st_tree.specs.declared.edit.EditFault.TheVariants.{Range}
 use Rattle.st_schema.specs.Schema.{SchemaView}

@@ -1,5 +1,5 @@
 -- What an edit means, wherever it is resolved.
-use Rattle.std.proofs.Common.{◌≡◌, true, ℕ, length, ◌+◌, None, Option, Result, Ok, List}
+use Rattle.std.proofs.Common.{◌≡◌, true, ℕ, length, None, Option, Result, Ok, List}
 use Rattle.st_ids.specs.declared.names.FieldId.{FieldId}
 use Rattle.st_ids.specs.declared.names.Key.{Key}
 use Rattle.st_ids.specs.declared.names.NodeId.{NodeId}

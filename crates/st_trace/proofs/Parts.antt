@@ -1,5 +1,5 @@
 -- A client's open transaction: where it edits, and one part more.
-use Rattle.std.proofs.Common.{◌≡◌, ◌≤◌, ◌<◌, ◌+◌, ℕ, true, List, [], ◌∷◌, ◌++◌, length, Option, Some, None, IfSome, is_some, refl, sym, ap, ◌∙◌, subst, arith, unwrap_or}
+use Rattle.std.proofs.Common.{◌≡◌, ◌≤◌, ◌<◌, ◌+◌, ℕ, List, [], ◌∷◌, ◌++◌, length, Option, Some, None, IfSome, is_some, refl, sym, ap, ◌∙◌, subst, arith, unwrap_or}
 use Rattle.std.specs.Option.{option_and_then, option_or, option_map_or}
 use Rattle.st_ids.specs.Listing.{Has}
 use Rattle.st_ids.specs.Root.{opening}
@@ -8,24 +8,19 @@ use Rattle.st_ids.specs.declared.names.NodeId.{NodeId}
 use Rattle.st_ids.specs.declared.names.Rev.{Rev}
 use Rattle.st_tree.specs.Preorder.{cell_named, node_named}
 use Rattle.st_marks.specs.declared.intents.Intent.{Intent}
-use Rattle.st_marks.specs.declared.intents.Owned.{Owned}
 use Rattle.st_marks.specs.declared.verdicts.Verdict.{Verdict}
 use Rattle.st_marks.specs.CarryOut.{full, with_schema}
 use Rattle.st_marks.specs.Document.{Document, NodeType, HasShortRows, IsSoundInForm, last_of, revs}
-use Rattle.st_marks.specs.declared.schemas.SchemaEntry.{SchemaEntry}
-use Rattle.st_marks.specs.Intent.{Fits, group_cells, is_new, new_row_of, new_type}
+use Rattle.st_marks.specs.Intent.{Fits, group_cells, new_row_of, new_type}
 use Rattle.st_marks.specs.Run.{Run}
 use Rattle.st_marks.proofs.Lookups.{group-new_row_of}
 use Rattle.st_marks.proofs.Members.{flat_map-has}
 use Rattle.st_marks.proofs.OneVerdict.{carried_extends, one_run}
-use Rattle.st_log_laws.specs.Turns.{FitInTurn, HasRoom}
+use Rattle.st_log_laws.specs.Turns.{FitInTurn}
 use Rattle.st_log_laws.proofs.Beside.{one_fits}
 use Rattle.st_log_laws.proofs.Room.{room_after, room_in_run, short_after}
-use Rattle.st_log_laws.proofs.Turns.{then_one}
 use Rattle.st_edits.specs.declared.names.NameCounters.{NameCounters}
 use Rattle.st_edits.specs.Given.{IsCountedFrom}
-use Rattle.st_edits.proofs.MoveFits.{CellsFresh}
-use Rattle.st_edits.proofs.NewFits.{NodesFresh}
 use Rattle.st_join.proofs.JoinNames.{cells_of_both, nodes_of_both}
 use Rattle.st_join.proofs.JoinOf.{joined_is_join}
 use Rattle.st_join.specs.inside.Lists.{join_of}
@@ -33,7 +28,7 @@ use Rattle.st_heads.specs.Transactions.{FitsSoFar, IsSoundPart, IsWithPart, with
 use Rattle.st_heads.specs.inside.Parts.{CanFollow}
 use Rattle.st_heads.proofs.Editing.{can_follow, fits_so_far, open_shows}
 use Rattle.st_script.specs.Header.{HeaderView}
-use Rattle.st_lists.specs.Clients.{joined_of, next_rev, received_by, with_begun, with_commit, with_edited, with_transaction, without_transaction}
+use Rattle.st_lists.specs.Clients.{next_rev, received_by, with_begun, with_commit, with_edited, with_transaction, without_transaction}
 use Rattle.st_lists.specs.Lines.{main_line}
 use Rattle.st_lists.specs.Log.{commits_in, log_and_queue}
 use Rattle.st_lists.specs.Names.{names_in, names_made, unsequenced}

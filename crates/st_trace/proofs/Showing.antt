@@ -1,9 +1,11 @@
 -- A tree that a step shows is one that the schema allows.
-use Rattle.std.proofs.Common.{◌≡◌, ℕ, zero, suc, Bool, true, false, cond, nat_le, List, [], ◌∷◌, ◌++◌, length, Option, Some, None, option_map, option_and_then, Result, Ok, Err, refl, sym, ap, ◌∙◌, subst}
+use Rattle.std.proofs.Common.{◌≡◌, ℕ, zero, suc, Bool, true, false, cond, nat_le, List, [], ◌∷◌, ◌++◌, length, Option, Some, None, IfSome, option_map, option_and_then, Result, Ok, Err, refl, sym, ap, ◌∙◌, subst}
 use Rattle.std.specs.List.{slice_get}
 use Rattle.serde_json.specs.Written.{compact_text}
 use Rattle.st_ids.specs.declared.names.Limit.{Limit}
 use Rattle.st_ids.specs.declared.names.Rev.{Rev}
+use Rattle.st_ids.specs.declared.names.FieldId.{FieldId}
+use Rattle.st_ids.specs.declared.names.NodeId.{NodeId}
 use Rattle.st_tree.specs.declared.edit.EditFault.{EditFault}
 use Rattle.st_schema.specs.Schema.{SchemaView}
 use Rattle.st_marks.specs.declared.intents.Intent.{Intent}

@@ -9,9 +9,8 @@ ghost use Rattle.st_trace.specs.Replicas.{IsSound};
 ghost use Rattle.st_trace.specs.inside.Replicas.{IsSoundNext};
 ghost use Rattle.st_lists.specs.declared.lists.Client.{Client as Present};
 
-use crate::edits;
-use crate::transactions;
 use crate::world::World;
+use crate::{edits, transactions};
 use st_doc::Doc;
 use st_ids::{Path, Rev};
 use st_script::{Answer, EditAct, Refusal};
@@ -57,12 +56,7 @@ impl World {
     }
 
     // The open transaction of the client at a place needs the node that a path leads to.
-    pub(crate) fn need(
-        &mut self,
-        alloc: Global,
-        i: usize,
-        at: &Path,
-    ) -> Result<Answer, AllocError>
+    pub(crate) fn need(&mut self, alloc: Global, i: usize, at: &Path) -> Result<Answer, AllocError>
         requires sound { IsSound self.old }
         requires few { self.old.steps + 1 < 2 ^ 32 }
         requires short { length at.now < 2 ^ 32 }
@@ -107,7 +101,11 @@ impl World {
     }
 
     // The client at a place commits its open transaction.
-    pub(crate) fn commit_transaction(&mut self, alloc: Global, i: usize) -> Result<Answer, AllocError>
+    pub(crate) fn commit_transaction(
+        &mut self,
+        alloc: Global,
+        i: usize,
+    ) -> Result<Answer, AllocError>
         requires sound { IsSound self.old }
         requires few { self.old.steps + 1 < 2 ^ 32 }
         ensures next { IfOk result (λ a. (c : Present) → slice_get self.old.lists.clients i ≡ Some c

@@ -308,7 +308,13 @@ pub fn edit(
     ensures kept { OnOk result (HasTaken client.old client.old.transaction kept.old
         (resolve (with_open (document_of kept.old.main.doc) (joined_of client.old)) schema.now (next_names client.old client.old.transaction) (edit_of edit.now)) client.new kept.new) }
 {
-    match resolve_edit(alloc, kept.main.shown_doc(), schema, next_names(client), edit) {
+    match resolve_edit(
+        alloc,
+        kept.main.shown_doc(),
+        schema,
+        next_names(client),
+        edit,
+    ) {
         Ok(intent) => {
             let answer = take_in(alloc, client, kept, word_of(edit), intent)?;
             Ok(answer)

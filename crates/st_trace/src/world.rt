@@ -17,9 +17,8 @@ ghost use Rattle.st_lists.specs.Known.{AreKnown};
 ghost use Rattle.st_lists.specs.Log.{commit_in, log_with, minimum};
 ghost use Rattle.st_lists.specs.declared.lists.Client.{Client as Present};
 
-use crate::client;
-use crate::log_steps;
 use crate::replica::Replica;
+use crate::{client, log_steps};
 use st_doc::Doc;
 use st_ids::{Copied, Limit, LimitOf, List, Or, Text};
 use st_lists::{Body, Client, WorldState, append_entry, least_known, names_in_text};

@@ -4,21 +4,23 @@ use Rattle.st_heads.specs.Transactions.{with_open}
 use Rattle.st_lists.specs.Clients.{joined_of}
 use Rattle.st_script.specs.Steps.{edit_view}
 use Rattle.st_trace.specs.inside.Edits.{edit_of}
-use Rattle.st_trace.specs.World.{next_names, word_of}
+use Rattle.st_trace.specs.World.{IsAfterEdit, next_names, refusal_of, word_of}
+use Rattle.std.proofs.Common.{◌≡◌, sym, subst}
+use Rattle.st_script.specs.declared.answer.Answer.TheVariants.{No}
 use Rattle.st_trace.proofs.Taking.{edit_stopped, edit_taken, kept_of_stopped, kept_of_taken}
 use Rattle.st_trace.proofs.edits.edit.Goals as goal
 
 pub take_in-requires-clause-can : goal.take_in-requires-clause-can
 take_in-requires-clause-can c =
     let meant = rw (c.shown_doc.ensures (joined_of c.args.client.now) c.requires.open, c.next_names.ensures) at c.in-Ok.ensures.ok in
-    c.requires.can c.in-Ok.intent meant
+    rw c.word_of.ensures (c.requires.can c.in-Ok.intent meant)
 
 pub returns-in_ok-answer-in-Ok-clause-answer : goal.returns-in_ok-answer-in-Ok-clause-answer
 returns-in_ok-answer-in-Ok-clause-answer c =
     let client = c.args.client.now in
     let meant = rw (c.shown_doc.ensures (joined_of client) c.requires.open, c.next_names.ensures) at c.in-Ok.ensures.ok in
     edit_taken client client.transaction (word_of (edit_view c.args.edit.now)) (resolve (with_open (document_of c.args.kept.now.main.doc) (joined_of client)) c.args.schema.now (next_names client client.transaction) (edit_of c.args.edit.now))
-    c.take_in.new.client c.in-Ok.intent c.in_ok-answer-in-Ok.answer meant c.in_ok-answer-in-Ok.ensures.answer
+    c.take_in.new.client c.in-Ok.intent c.in_ok-answer-in-Ok.answer meant (rw c.word_of.ensures at c.in_ok-answer-in-Ok.ensures.answer)
 
 pub returns-in_ok-answer-in-Ok-clause-kept : goal.returns-in_ok-answer-in-Ok-clause-kept
 returns-in_ok-answer-in-Ok-clause-kept c =
@@ -30,11 +32,15 @@ returns-in_ok-answer-in-Ok-clause-kept c =
 pub returns-in-Err-Fault-clause-answer : goal.returns-in-Err-Fault-clause-answer
 returns-in-Err-Fault-clause-answer c =
     let client = c.args.client.now in
-    let meant = rw (c.shown_doc.ensures (joined_of client) c.requires.open, c.next_names.ensures) at c.in-Err-Fault.ensures.bad in
-    edit_stopped client client.transaction (word_of (edit_view c.args.edit.now)) (resolve (with_open (document_of c.args.kept.now.main.doc) (joined_of client)) c.args.schema.now (next_names client client.transaction) (edit_of c.args.edit.now)) c.in-Err-Fault.fault meant
+    let r = resolve (with_open (document_of c.args.kept.now.main.doc) (joined_of client)) c.args.schema.now (next_names client client.transaction) (edit_of c.args.edit.now) in
+    let bad = rw c.in-Err-Fault.field-0-is at c.in-Err-Fault.ensures.bad in
+    let meant = rw (c.shown_doc.ensures (joined_of client) c.requires.open, c.next_names.ensures) at bad in
+    let is : c.refusal_of.result ≡ refusal_of c.in-Err-Fault.fault = rw c.in-Err-Fault.field-0-is at c.refusal_of.ensures in
+    subst (λ x. IsAfterEdit client client.transaction (word_of (edit_view c.args.edit.now)) r client (No x)) (sym is) (edit_stopped client client.transaction (word_of (edit_view c.args.edit.now)) r c.in-Err-Fault.fault meant)
 
 pub returns-in-Err-Fault-clause-kept : goal.returns-in-Err-Fault-clause-kept
 returns-in-Err-Fault-clause-kept c =
     let client = c.args.client.now in
-    let meant = rw (c.shown_doc.ensures (joined_of client) c.requires.open, c.next_names.ensures) at c.in-Err-Fault.ensures.bad in
+    let bad = rw c.in-Err-Fault.field-0-is at c.in-Err-Fault.ensures.bad in
+    let meant = rw (c.shown_doc.ensures (joined_of client) c.requires.open, c.next_names.ensures) at bad in
     kept_of_stopped client client.transaction (word_of (edit_view c.args.edit.now)) (resolve (with_open (document_of c.args.kept.now.main.doc) (joined_of client)) c.args.schema.now (next_names client client.transaction) (edit_of c.args.edit.now)) client c.args.kept.now c.in-Err-Fault.fault meant

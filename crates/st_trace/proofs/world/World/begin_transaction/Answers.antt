@@ -1,11 +1,6 @@
-use Rattle.std.proofs.Common.{◌≡◌, refl, sym, arith}
-use Rattle.std.specs.List.{slice_set}
-use Rattle.st_edits.specs.Resolve.{need, resolve}
+use Rattle.std.proofs.Common.{◌≡◌, sym, arith}
 use Rattle.st_script.specs.Header.{header_view}
-use Rattle.st_script.specs.Steps.{edit_view}
-use Rattle.st_lists.specs.declared.lists.Client.{Client}
-use Rattle.st_trace.specs.inside.Edits.{edit_of}
-use Rattle.st_trace.specs.World.{IsAfterEdit, IsAfterNeed, abort, begin, commit, last_in_effect, next_names, word_of}
+use Rattle.st_trace.specs.World.{begin, last_in_effect}
 use Rattle.st_trace.proofs.Acting.{begun_as, begun_refused, few_ids, next_done, one_at, shown, shown_of, sound_begin}
 use Rattle.st_trace.proofs.Everyone.{kept_none}
 use Rattle.st_trace.proofs.Stepping.{sound_later}

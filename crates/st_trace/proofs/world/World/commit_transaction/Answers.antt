@@ -1,11 +1,5 @@
-use Rattle.std.proofs.Common.{refl, sym, arith}
-use Rattle.std.specs.List.{slice_set}
-use Rattle.st_edits.specs.Resolve.{need, resolve}
-use Rattle.st_script.specs.Header.{header_view}
-use Rattle.st_script.specs.Steps.{edit_view}
-use Rattle.st_lists.specs.declared.lists.Client.{Client}
-use Rattle.st_trace.specs.inside.Edits.{edit_of}
-use Rattle.st_trace.specs.World.{IsAfterEdit, IsAfterNeed, abort, begin, commit, last_in_effect, next_names, word_of}
+use Rattle.std.proofs.Common.{refl, sym}
+use Rattle.st_trace.specs.World.{commit}
 use Rattle.st_trace.proofs.Acting.{commit_fits, commit_refused, line_sound, next_with, sound_commit, world_refused}
 use Rattle.st_trace.proofs.Everyone.{kept_none, set_same}
 use Rattle.st_trace.proofs.Stepping.{sound_later}

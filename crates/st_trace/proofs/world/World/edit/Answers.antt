@@ -1,11 +1,10 @@
 use Rattle.std.proofs.Common.{refl, sym, arith}
 use Rattle.std.specs.List.{slice_set}
-use Rattle.st_edits.specs.Resolve.{need, resolve}
+use Rattle.st_edits.specs.Resolve.{resolve}
 use Rattle.st_script.specs.Header.{header_view}
 use Rattle.st_script.specs.Steps.{edit_view}
-use Rattle.st_lists.specs.declared.lists.Client.{Client}
 use Rattle.st_trace.specs.inside.Edits.{edit_of}
-use Rattle.st_trace.specs.World.{IsAfterEdit, IsAfterNeed, abort, begin, commit, last_in_effect, next_names, word_of}
+use Rattle.st_trace.specs.World.{IsAfterEdit, next_names, word_of}
 use Rattle.st_trace.proofs.Choosing.{next_edit, within_edit}
 use Rattle.st_trace.proofs.Acting.{can_take, edit_meant, edit_refused, few_ids, line_sound, next_done, numbers, one_at, shown, shown_of, sound_edit, world_refused}
 use Rattle.st_trace.proofs.Everyone.{kept_none, set_same}

@@ -1,11 +1,7 @@
 use Rattle.std.proofs.Common.{refl, sym, arith}
-use Rattle.std.specs.List.{slice_set}
-use Rattle.st_edits.specs.Resolve.{need, resolve}
+use Rattle.st_edits.specs.Resolve.{need}
 use Rattle.st_script.specs.Header.{header_view}
-use Rattle.st_script.specs.Steps.{edit_view}
-use Rattle.st_lists.specs.declared.lists.Client.{Client}
-use Rattle.st_trace.specs.inside.Edits.{edit_of}
-use Rattle.st_trace.specs.World.{IsAfterEdit, IsAfterNeed, abort, begin, commit, last_in_effect, next_names, word_of}
+use Rattle.st_trace.specs.World.{IsAfterNeed, next_names}
 use Rattle.st_trace.specs.declared.client.EditWord.TheVariants as word
 use Rattle.st_trace.proofs.Acting.{can_take, few_ids, line_sound, need_meant, need_refused, next_done, one_at, shown, shown_of, sound_need, world_refused}
 use Rattle.st_trace.proofs.Everyone.{kept_none, set_same}
