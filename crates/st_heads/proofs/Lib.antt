@@ -1,6 +1,6 @@
 mod Leading
 pub mod Runs
-mod Fitting
+pub mod Fitting
 mod GoingBack
 mod Listed
 mod Extending

@@ -9,7 +9,7 @@ mod transactions;
 mod ways;
 
 pub use back::way_back;
-pub use heads::Head;
+pub use heads::{Head, carry_one};
 pub use laws::{
     edits_are_parts, remembered_runs, remembered_ways_undo, undoings_fit, ways_lead_back,
 };
