@@ -1,7 +1,8 @@
 mod Leading
 pub mod Runs
-mod Fitting
+pub mod Fitting
 mod GoingBack
+pub mod Having
 mod Listed
 mod Extending
 pub mod Editing

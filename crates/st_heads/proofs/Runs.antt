@@ -25,7 +25,7 @@ runs_joined none q = q
 runs_joined (more v a k r) q = more v a k (runs_joined r q)
 
 -- the first of a remembered run, and the rest
-opened : {D F : Document} {N : Intent} {Ns : List Intent} {k : Carried} {ks : List Carried} → AreCarried D (N ∷ Ns) (k ∷ ks) F → (v : Verdict) × IsVerdict D N v × IsCarried D N v k × AreCarried (carried_document v D N) Ns ks F
+pub opened : {D F : Document} {N : Intent} {Ns : List Intent} {k : Carried} {ks : List Carried} → AreCarried D (N ∷ Ns) (k ∷ ks) F → (v : Verdict) × IsVerdict D N v × IsCarried D N v k × AreCarried (carried_document v D N) Ns ks F
 opened (more v a k r) = (v, a, k, r)
 
 pub run_parted : (Ns Ms : List Intent) (ks ls : List Carried) {D F : Document} → AreCarried D (Ns ++ Ms) (ks ++ ls) F → length ks ≡ length Ns → (E : Document) × AreCarried D Ns ks E × AreCarried E Ms ls F
@@ -37,7 +37,7 @@ run_parted (N ∷ Ns) Ms (k ∷ ks) ls r e =
     let p = run_parted Ns Ms ks ls o.3 (omega (arith, e)) in
     (p.0, more o.0 o.1 o.2 p.1, p.2)
 
-sound_verdict : (v : Verdict) → is_void v ≡ false → v ≡ Verdict.Sound
+pub sound_verdict : (v : Verdict) → is_void v ≡ false → v ≡ Verdict.Sound
 sound_verdict Verdict.Sound e = refl
 sound_verdict (Verdict.Need n) e = cc
 sound_verdict (Verdict.Cycle n) e = cc

@@ -58,8 +58,9 @@ fn outcome_of(alloc: Global, verdict: &Verdict, back: Way) -> Carried
     Carried { void, back }
 }
 
-// Carries out an intent in place, and says how it came out. The way back is made before.
-fn carry_one(alloc: Global, doc: &mut Doc, intent: &Intent) -> Result<Carried, AllocError>
+/// Carries out an intent that fits, in place, and says how it came out. The way back is made before. After an `Err`
+/// nothing is promised of the document.
+pub fn carry_one(alloc: Global, doc: &mut Doc, intent: &Intent) -> Result<Carried, AllocError>
     requires sound { IsSoundInForm (document_of doc.old) }
     requires fits { Fits (document_of doc.old) intent.now }
     ensures run { IfOk result (λ k. AreCarried (document_of doc.old) (intent.now ∷ []) (k ∷ []) (document_of doc.new)) }

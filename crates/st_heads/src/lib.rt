@@ -11,7 +11,7 @@ mod ways;
 
 pub use back::way_back;
 pub use between::way_between;
-pub use heads::Head;
+pub use heads::{Head, carry_one};
 pub use laws::{
     edits_are_parts, remembered_runs, remembered_ways_undo, undoings_fit, ways_lead_back,
 };

@@ -6,7 +6,7 @@ use Rattle.st_marks.specs.declared.intents.Intent.{Intent}
 use Rattle.st_marks.specs.Document.{Document}
 use Rattle.st_marks.specs.Run.{Run}
 use Rattle.st_lists.specs.Log.{commit_of, commits_in}
-use Rattle.st_lists.specs.declared.lists.Body.TheVariants.{Commit}
+use Rattle.st_lists.specs.declared.lists.Body.TheVariants.{Ack, Commit}
 use Rattle.st_lists.specs.declared.lists.Client.{Client}
 use Rattle.st_lists.specs.declared.lists.Entry.{Entry}
 use Rattle.st_lists.specs.declared.lists.Transaction.{Transaction}
@@ -53,6 +53,10 @@ with_commit c intent = record c {
 -- the same, with an id generated for it
 abbrev pub with_new_commit : Client → Intent → Client
 with_new_commit c intent = record (with_commit c intent) { ids = c.ids + 1 }
+
+-- it tells how many entries it received, by a text that waits in the queue
+abbrev pub with_ack : Client → Client
+with_ack c = record c { queue = c.queue ++ Ack c.received ∷ [] }
 
 -- ## Transactions
 

@@ -1,5 +1,5 @@
 -- The log: its commits, and what its entries say of how much each session had received.
-use Rattle.std.specs.Prelude.{ℕ, ◌+◌, ◌==◌, min, max, List, [], ◌∷◌, ◌++◌, length, filter, fold, Option, Some, None, if◌then◌else◌}
+use Rattle.std.specs.Prelude.{ℕ, ◌+◌, ◌-◌, ◌==◌, min, max, Bool, true, false, List, [], ◌∷◌, ◌++◌, length, take, filter, fold, Option, Some, None, if◌then◌else◌}
 use Rattle.std.specs.List.{filter_map, cons_option}
 use Rattle.st_marks.specs.declared.intents.Intent.{Intent}
 use Rattle.st_lists.specs.declared.lists.Body.{Body}
@@ -43,15 +43,41 @@ with_reference session known e = if e.session == session then max known (referen
 abbrev pub known_reference : ℕ → List Entry → ℕ
 known_reference session log = fold (with_reference session) 0 log
 
--- the least known reference of the clients; with no client, the number of the last entry
-abbrev pub minimum : List Entry → List Client → ℕ
-minimum log clients = fold (λ least (c : Client). min least (known_reference c.session log)) (length log) clients
+-- whether a session is connected after what an entry of its own says
+abbrev pub connected_after : Bool → Body → Bool
+connected_after before Join = true
+connected_after before Leave = false
+connected_after before (Ack reference) = before
+connected_after before (Commit reference intent) = before
+
+abbrev pub connected_by : ℕ → Bool → Entry → Bool
+connected_by session before e = if e.session == session then connected_after before e.body else before
+
+-- a session is connected where the last of its joins and leaves is a join
+abbrev pub is_connected : ℕ → List Entry → Bool
+is_connected session log = fold (connected_by session) false log
+
+-- the minimum after some entries: the least known reference of the sessions that are connected; with none connected, the
+-- number of the last entry
+abbrev pub minimum : List Entry → ℕ
+minimum log = fold (λ least (e : Entry). if is_connected e.session log then min least (known_reference e.session log) else least) (length log) log
+
+-- the floor of one who received so many entries: the minimum after them, less the history that is kept
+abbrev pub floor : ℕ → List Entry → ℕ → ℕ
+floor history log received = minimum (take received log) - history
 
 -- ## The commits of one session
 
 -- the commits of a text: one, or none
 abbrev pub commits_of_text : Body → List Intent
 commits_of_text text = cons_option (commit_in text) []
+
+-- a text that waits is a commit, or says how much was received
+abbrev pub is_text : Body → Bool
+is_text Join = false
+is_text Leave = false
+is_text (Ack reference) = true
+is_text (Commit reference intent) = true
 
 -- the commits of the texts that wait
 abbrev pub intents_of : List Body → List Intent

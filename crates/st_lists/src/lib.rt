@@ -7,4 +7,4 @@ mod log;
 
 pub use counts::{names_in_text, names_made};
 pub use lists::{Body, Client, Entry, Transaction, WorldState};
-pub use log::{append_entry, least_known};
+pub use log::{append_entry, floor, minimum};

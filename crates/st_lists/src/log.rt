@@ -1,7 +1,9 @@
 //! The log, and how much of it each session is known to have received.
-ghost use Rattle.std.specs.Prelude.{◌≡◌, ℕ, ◌+◌, ◌^◌, ◌<◌, length, fold, min, OnOk};
-ghost use Rattle.st_lists.specs.Log.{log_with, reference_of, with_reference};
-ghost use Rattle.st_lists.specs.Known.{known_so_far, AreKnown};
+ghost use Rattle.std.specs.Prelude.{◌≡◌, ℕ, List as Seq, ◌+◌, ◌-◌, ◌^◌, ◌<◌, ◌≤◌, length, fold, map, min, slice_get, unwrap_or, OnOk};
+ghost use Rattle.st_lists.specs.Log.{floor, log_with, minimum, reference_of, with_reference};
+ghost use Rattle.st_lists.specs.Known.{known_so_far, AreConnected, AreKnown, AreMinima};
+ghost use Rattle.st_lists.specs.declared.lists.Client.{Client as Present};
+ghost use Rattle.st_lists.specs.declared.lists.Entry.{Entry as Logged};
 
 use crate::lists::{Body, Client, Entry};
 use st_ids::List;
@@ -55,8 +57,8 @@ pub fn append_entry(
     Ok(())
 }
 
-/// The least known reference of the clients; with no client, `number`.
-pub fn least_known(clients: &[Client], known: &BTreeMap<u32, u32>, number: u32) -> u32
+// The least known reference of the clients; with no client, `number`.
+fn least_known(clients: &[Client], known: &BTreeMap<u32, u32>, number: u32) -> u32
     ensures { result ≡ fold (λ least c. min least (known_so_far known.now c.session)) number clients.now }
 {
     let mut least = number;
@@ -64,4 +66,33 @@ pub fn least_known(clients: &[Client], known: &BTreeMap<u32, u32>, number: u32) 
         least = least.min(known_so_far(known, client.session));
     }
     least
+}
+
+/// The minimum after the whole log: the least known reference of the clients, who are all connected. It takes the time of
+/// a look-up for each of them.
+pub fn minimum(log: &[Entry], clients: &[Client], known: &BTreeMap<u32, u32>) -> u32
+    requires few { length log.now < 2 ^ 32 }
+    requires known { AreKnown log.now known.now }
+    requires connected { AreConnected log.now (map (λ (c : Present). c.session) clients.now) }
+    ensures { result ≡ minimum log.now }
+{
+    least_known(clients, known, log.len() as u32)
+}
+
+// The minimum after so many entries, of the minima after each; 0 before the first.
+fn minimum_after(minima: &[u32], received: u32) -> u32
+    ensures first { received ≡ 0 → result ≡ 0 }
+    ensures later { 0 < received → result ≡ unwrap_or (slice_get minima.now (received - 1)) 0 }
+{
+    if received == 0 {
+        return 0;
+    }
+    minima.get(received as usize - 1).copied().unwrap_or(0)
+}
+
+/// The floor of one who received so many entries, of the minima after each.
+pub fn floor(history: u32, minima: &[u32], received: u32) -> u32
+    ensures { (log : Seq Logged) → AreMinima log minima.now → received ≤ length log → result ≡ floor history log received }
+{
+    minimum_after(minima, received).saturating_sub(history)
 }

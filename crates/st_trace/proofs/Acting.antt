@@ -126,11 +126,11 @@ module _ (w : World) (i : ℕ) (c : Client) (k : Replica) (s : IsSound w) (at_c 
   -- ## What is kept stands for the lists
 
   module _ (c' : Client) (k' : Replica) where
-    sound_goes : GoesOn h (start_of w w.steps s) log w.lists.clients i c c' → IsReplicaOf h log c' k'
+    pub sound_goes : GoesOn h (start_of w w.steps s) log w.lists.clients i c c' → IsReplicaOf h log c' k'
         → IsSoundAfter (w.steps + 1) (record w { lists = record w.lists { clients = slice_set w.lists.clients i c' }; kept = slice_set w.kept i k' })
     sound_goes g kept = sound_client w i c c' k' s at_c (record { client = g.client; kept = kept }) g.session g.ids g.keeps
 
-    stays_kept : c' ≡ c → k' ≡ k → IsReplicaOf h log c' k'
+    pub stays_kept : c' ≡ c → k' ≡ k → IsReplicaOf h log c' k'
     stays_kept same same_k = subst (λ x. IsReplicaOf h log x k') (sym same) (subst (λ x. IsReplicaOf h log c x) (sym same_k) one.kept)
 
     taken_in : (t : Transaction) (word : EditWord) (r : Result Intent EditFault) (a : Answer) → c.transaction ≡ Some t → IsTransaction h log c t → IsMeaning h.schema (with_open (document_of k.main.doc) t.joined) (next_names c (Some t)) word r
@@ -279,7 +279,9 @@ refusal_as (Answer.Need rev) P Q f p = tt
 refusal_as (Answer.Begin rev) P Q f p = tt
 refusal_as (Answer.Commit rev) P Q f p = tt
 refusal_as Answer.Abort P Q f p = tt
+refusal_as (Answer.Undo rev) P Q f p = tt
 refusal_as (Answer.Sequence min n) P Q f p = tt
+refusal_as (Answer.Ack reference) P Q f p = tt
 refusal_as (Answer.Deliver n void) P Q f p = tt
 refusal_as (Answer.Show tree) P Q f p = tt
 refusal_as (Answer.No why) P Q f p = f p

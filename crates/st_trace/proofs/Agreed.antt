@@ -32,20 +32,25 @@ use Rattle.st_log_laws.specs.Names.{revisions}
 use Rattle.st_log_laws.specs.Turns.{FitInTurn, IsSublist}
 use Rattle.st_log_laws.proofs.Names.{new_node_rev}
 use Rattle.st_log_laws.proofs.Shorter.{sublist_itself, sublist_joined, sublist_none, has_longer}
-use Rattle.st_log_laws.proofs.Turns.{front, made_in_run}
+use Rattle.st_log_laws.proofs.Turns.{front, made_in_run, rest as rest_fit, turn_extends}
 use Rattle.st_schema_laws.specs.Agreeing.{KeepSchemaInTurn, KeepsSchema, with_homes}
 use Rattle.st_schema_laws.specs.Conforming.{IsConforming, register_in}
 use Rattle.st_schema_laws.proofs.Homes.{document_keeps, intent_keeps, tells_own}
 use Rattle.st_schema_laws.proofs.Joins.{joined_agrees}
 use Rattle.st_schema_laws.proofs.Kept.{carried_conforms}
-use Rattle.st_schema_laws.proofs.InTurn.{agree_front, agree_longer, agree_then_one, list_conforms, list_keeps}
+use Rattle.st_schema_laws.proofs.Back.{back_agrees}
+use Rattle.st_schema_laws.proofs.Elsewhere.{agrees_there}
+use Rattle.st_schema_laws.proofs.InTurn.{agree_front, agree_longer, agree_rest, agree_then_one, list_conforms, list_keeps}
+use Rattle.st_heads.specs.Undoing.{IsUndoing}
+use Rattle.st_heads.proofs.Fitting.{undoing_later}
+use Rattle.st_marks.proofs.Later.{row_later}
 use Rattle.st_schema_laws.proofs.Opened.{allowed_conforms}
 use Rattle.st_script.specs.Header.{HeaderView}
 use Rattle.st_script.specs.declared.answer.Answer.{Answer}
 use Rattle.st_trace.specs.Replicas.{EditsKeepSchema, HasMain, HaveSessionsFrom, IsClient, IsHeader, IsTransaction, KeepSchemaWith, KeepToSchema}
 use Rattle.st_lists.specs.Log.{commits_by, commits_of_text, intents_of, log_and_queue}
 use Rattle.st_lists.specs.Log.{commit_of, commits_in, log_with}
-use Rattle.st_lists.specs.Clients.{joined_of, with_commit, with_edited, with_new_commit, with_transaction, without_transaction, new_client, pending_after, received_by, with_received}
+use Rattle.st_lists.specs.Clients.{joined_of, next_rev, with_ack, with_commit, with_edited, with_new_commit, with_transaction, without_transaction, new_client, pending_after, received_by, with_received}
 use Rattle.st_trace.specs.World.{IsDeliveredTo, after_edit, cells_given, next_names, opening_document, with_pending}
 use Rattle.st_lists.specs.Limits.{limit_passed}
 use Rattle.st_lists.specs.Names.{names_in}
@@ -376,6 +381,57 @@ module _ (h : HeaderView) (st : IsStart (opening_document h)) where
           let same : with_new_commit c N ≡ c' = ap (λ (p : Client × Answer). p.0) is in
           subst (λ x. KeepToSchema h log (slice_set cs i x)) same
           (told_keeps log c N k few m.fits.itself session fresh home cs i (with_new_commit c N) sessions are at w.1 shown (nothing_edited (with_homes home N) log (with_new_commit c N) (ap (option_and_then (λ (t : Transaction). t.joined)) none)))
+
+  -- ## A commit is undone
+
+  -- what undoes one of a list agrees with the schema after it
+  undoing_keeps : (home : NodeId → Option FieldId) (list : List Intent) (rev fresh : Rev) (B : Intent) (E : Document) → FitInTurn (opening_document h) list → Agree home list → IsConforming h.schema home (opening_document h)
+      → Run (opening_document h) list E → IsUndoing (opening_document h) list rev fresh B → KeepsSchema h.schema home E B
+  undoing_keeps home list rev fresh B E fit agree start run u =
+      let O = opening_document h in
+      let D = u.before in
+      let N = u.commit in
+      let at = u.is_at in
+      let turn : FitInTurn O (at.front ++ N ∷ at.rest) = subst (FitInTurn O) at.list fit in
+      let all : Agree home (at.front ++ N ∷ at.rest) = subst (Agree home) at.list agree in
+      let first = front at.front (N ∷ at.rest) O turn in
+      let sound : IsSoundInForm D = (turn_extends st.sound first at.before).after in
+      let here : FitInTurn D (N ∷ at.rest) = rest_fit (N ∷ at.rest) at.before turn in
+      let before : IsConforming h.schema home D = list_conforms h.schema home st.sound first start (agree_front h.schema home at.front (N ∷ at.rest) O all) at.before in
+      let mine : KeepSchemaInTurn h.schema home D (N ∷ at.rest) = agree_rest h.schema home (N ∷ at.rest) at.before all in
+      let after = carried_conforms h.schema home D N sound here.0 before mine.0 Verdict.Sound in
+      let on = undoing_later O list rev fresh B E st.sound fit run u in
+      let there : KeepsSchema h.schema home (full D N) B = back_agrees h.schema home D (full D N) on.0 fresh _ B u.back before after in
+      agrees_there h.schema home (full D N) E B there on.2.nodes (row_later (full D N) E B on.2 on.1) (λ n new. absurd (true-false new (rw u.back.nothing_new.0 refl))) (λ c new. absurd (true-false new (rw u.back.nothing_new.1 refl)))
+
+  pub undone_keeps : (log : List Entry) (cs : List Client) (i : ℕ) (c : Client) (rev : Rev) (B : Intent) (E : Document) → AllByRecursion (IsClient h log) cs → slice_get cs i ≡ Some c → c.transaction ≡ None → HasMain h log c E
+      → IsUndoing (opening_document h) (received_by log c ++ c.pending) rev (next_rev c) B → KeepToSchema h log cs → KeepToSchema h log (slice_set cs i (with_new_commit c B))
+  undone_keeps log cs i c rev B E are at none main u w =
+      let home = w.0 in
+      let k = all_get (IsClient h log) cs i c are at in
+      let mine = all_get (Shown home log) cs i c w.1.shown at in
+      let keeps = undoing_keeps home (received_by log c ++ c.pending) rev (next_rev c) B E k.shown_fit mine w.1.start main u in
+      let shown : Shown home log (with_new_commit c B) = subst (Agree home) (append_assoc (received_by log c) c.pending (B ∷ [])) (agree_then_one h.schema home (received_by log c ++ c.pending) (B ∷ []) mine main (keeps, λ v is. tt)) in (
+        home,
+        record {
+          start = w.1.start;
+          logged = w.1.logged;
+          shown = all_set (Shown home log) cs i (with_new_commit c B) w.1.shown shown;
+          edited = all_set (Edited home log) cs i (with_new_commit c B) w.1.edited (nothing_edited home log (with_new_commit c B) (ap (option_and_then (λ (t : Transaction). t.joined)) none));
+        },
+      )
+
+  -- it tells how much it received
+  pub acked_keeps : (log : List Entry) (cs : List Client) (i : ℕ) (c : Client) → slice_get cs i ≡ Some c → KeepToSchema h log cs → KeepToSchema h log (slice_set cs i (with_ack c))
+  acked_keeps log cs i c at w = (
+    w.0,
+    record {
+      start = w.1.start;
+      logged = w.1.logged;
+      shown = all_set (Shown w.0 log) cs i (with_ack c) w.1.shown (all_get (Shown w.0 log) cs i c w.1.shown at);
+      edited = all_set (Edited w.0 log) cs i (with_ack c) w.1.edited (all_get (Edited w.0 log) cs i c w.1.edited at);
+    },
+  )
 
   -- ## A part more of what is edited
 

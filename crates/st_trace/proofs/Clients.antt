@@ -24,13 +24,13 @@ use Rattle.st_log_laws.proofs.Shorter.{sublist_itself, sublist_joined, new_short
 use Rattle.st_log_laws.proofs.Beside.{another_later, later_fits, one_fits}
 use Rattle.st_script.specs.Header.{HeaderView}
 use Rattle.st_trace.specs.Replicas.{HasMain, IsClient, IsTransaction}
-use Rattle.st_lists.specs.Log.{commit_in, commits_by, commits_of_text, intents_of, log_and_queue}
+use Rattle.st_lists.specs.Log.{commit_in, commits_by, commits_of_text, intents_of, is_text, log_and_queue}
 use Rattle.st_lists.specs.Log.{commit_of, commits_in, log_with}
-use Rattle.st_lists.specs.Clients.{HasReceived, joined_of, with_commit, new_client, next_rev, received_by}
+use Rattle.st_lists.specs.Clients.{HasReceived, joined_of, with_ack, with_commit, new_client, next_rev, received_by}
 use Rattle.st_lists.specs.Names.{names_in, names_in_text, names_made}
 use Rattle.st_trace.specs.World.{opening_document}
 use Rattle.st_lists.specs.declared.lists.Body.{Body}
-use Rattle.st_lists.specs.declared.lists.Body.TheVariants.{Join, Commit}
+use Rattle.st_lists.specs.declared.lists.Body.TheVariants.{Ack, Join, Commit}
 use Rattle.st_lists.specs.declared.lists.Client.{Client}
 use Rattle.st_lists.specs.declared.lists.Entry.{Entry}
 use Rattle.st_lists.specs.declared.lists.Transaction.{Transaction}
@@ -196,6 +196,7 @@ module _ (h : HeaderView) (st : IsStart (opening_document h)) where
         sent_fit = subst (FitInTurn O) more (later_fits (opening ∷ []) O D (A ++ c.pending) (log_and_queue log c) N st.sound st.made (shown_among log c k) k.shown_fit k.sent_fit shown fits fresh room_all);
         new = subst (HaveNewRevisions (opening ∷ [])) more (new_more (opening ∷ []) (log_and_queue log c) N k.new fresh);
         own = subst (AllByRecursion (λ (M : Intent). M.rev.session ≡ c.session)) (sym (texts_append c.queue (Commit c.received N ∷ []))) (AllByRecursion-append (λ (M : Intent). M.rev.session ≡ c.session) Q (N ∷ []) k.own (session, tt));
+        texts = AllByRecursion-append (λ (q : Body). is_text q ≡ true) c.queue (Commit c.received N ∷ []) k.texts (refl, tt);
         ids = λ M i s. lower M (has-append (log_and_queue log c) (N ∷ []) M (subst (λ l. Has l M) (sym more) i)) s;
         transaction = tt;
       }
@@ -233,6 +234,26 @@ module _ (h : HeaderView) (st : IsStart (opening_document h)) where
   none_open : (o : Option Transaction) (P : Transaction → Type 0) → o ≡ None → IfSome o P
   none_open o P none = subst (λ x. IfSome x P) (sym none) tt
 
+  -- ## It tells how much it received
+
+  pub client_acked : (log : List Entry) (c : Client) → IsClient h log c → IsClient h log (with_ack c)
+  client_acked log c k =
+      let texts : intents_of (c.queue ++ Ack c.received ∷ []) ≡ intents_of c.queue = texts_append c.queue (Ack c.received ∷ []) ∙ append-nil (intents_of c.queue) in
+      let all : log_and_queue log c ≡ log_and_queue log (with_ack c) = ap (λ l. commits_in log ++ l) (sym texts) in
+      record {
+        within = k.within;
+        few = k.few;
+        few_names = k.few_names;
+        under_way = k.under_way ∙ ap (λ l. commits_by c.session (drop c.received log) ++ l) (sym texts);
+        shown_fit = k.shown_fit;
+        sent_fit = subst (FitInTurn (opening_document h)) all k.sent_fit;
+        new = subst (HaveNewRevisions (opening ∷ [])) all k.new;
+        own = subst (AllByRecursion (λ (M : Intent). M.rev.session ≡ c.session)) (sym texts) k.own;
+        texts = AllByRecursion-append (λ (q : Body). is_text q ≡ true) c.queue (Ack c.received ∷ []) k.texts (refl, tt);
+        ids = λ N i s. k.ids N (subst (λ l. Has l N) (sym all) i) s;
+        transaction = transactions_beside log log c (with_ack c) c.transaction k.transaction refl refl refl refl (λ t i j. i.new (subst (λ l. Has (revisions l ++ opening ∷ []) t.rev) (sym all) j));
+      }
+
   -- ## An entry is received
 
   -- the commits received with one more entry
@@ -267,6 +288,7 @@ module _ (h : HeaderView) (st : IsStart (opening_document h)) where
         sent_fit = k.sent_fit;
         new = k.new;
         own = k.own;
+        texts = k.texts;
         ids = k.ids;
         transaction = none_open c.transaction _ none;
       }
@@ -312,6 +334,7 @@ module _ (h : HeaderView) (st : IsStart (opening_document h)) where
         sent_fit = k.sent_fit;
         new = k.new;
         own = k.own;
+        texts = k.texts;
         ids = k.ids;
         transaction = none_open c.transaction _ none;
       }
@@ -329,6 +352,7 @@ module _ (h : HeaderView) (st : IsStart (opening_document h)) where
         sent_fit = k.sent_fit;
         new = k.new;
         own = k.own;
+        texts = k.texts;
         ids = k.ids;
         transaction = none_open c.transaction _ none;
       }
@@ -353,6 +377,7 @@ module _ (h : HeaderView) (st : IsStart (opening_document h)) where
         sent_fit = subst (FitInTurn (opening_document h)) all k.sent_fit;
         new = subst (HaveNewRevisions (opening ∷ [])) all k.new;
         own = k.own;
+        texts = k.texts;
         ids = λ N i s. k.ids N (subst (λ l. Has l N) (sym all) i) s;
         transaction = transactions_beside log (log_with log session text) c c c.transaction k.transaction refl refl refl (ap commits_in (entered_front log session text c.received k.within))
             (λ t i j. i.new (subst (λ l. Has (revisions l ++ opening ∷ []) t.rev) (sym all) j));
@@ -377,6 +402,7 @@ module _ (h : HeaderView) (st : IsStart (opening_document h)) where
         sent_fit = subst (FitInTurn O) all fit;
         new = subst (HaveNewRevisions (opening ∷ [])) all new;
         own = tt;
+        texts = tt;
         ids = λ N i s. absurd (none N (subst (λ l. Has l N) (sym all) i) s);
         transaction = tt;
       }
@@ -407,6 +433,7 @@ module _ (h : HeaderView) (st : IsStart (opening_document h)) where
         sent_fit = subst (FitInTurn (opening_document h)) all k.sent_fit;
         new = subst (HaveNewRevisions (opening ∷ [])) all k.new;
         own = all_behind (λ (M : Intent). M.rev.session ≡ c.session) X R (subst (AllByRecursion (λ (M : Intent). M.rev.session ≡ c.session)) waiting k.own);
+        texts = (subst (AllByRecursion (λ (q : Body). is_text q ≡ true)) is k.texts).1;
         ids = λ M i s. k.ids M (subst (λ l. Has l M) (sym all) i) s;
         transaction = transactions_beside log (log_with log c.session text) c (record c { queue = rest }) c.transaction k.transaction refl refl refl (ap commits_in (entered_front log c.session text c.received k.within))
             (λ t i j. i.new (subst (λ l. Has (revisions l ++ opening ∷ []) t.rev) (sym all) j));
@@ -443,6 +470,7 @@ module _ (h : HeaderView) (st : IsStart (opening_document h)) where
         sent_fit = subst (FitInTurn O) all (another_later (opening ∷ []) O L N Q st.sound st.made front_fit l.sent_fit new room);
         new = subst (HaveNewRevisions (opening ∷ [])) all new;
         own = l.own;
+        texts = l.texts;
         ids = λ M i s. ids N mine M (has-append L (N ∷ Q) M (subst (λ x. Has x M) (sym all) i)) s;
         transaction = transactions_beside log (log_with log c.session text) d d d.transaction l.transaction refl refl refl (ap commits_in (entered_front log c.session text d.received l.within))
             (λ t i j. apart_from t N mine i (has-append (revisions (L ++ N ∷ Q)) (opening ∷ []) t.rev (subst (λ x. Has (revisions x ++ opening ∷ []) t.rev) (sym all) j)));

@@ -15,8 +15,8 @@ use Rattle.st_script.specs.Header.{HeaderView, header_view}
 use Rattle.st_script.specs.declared.answer.Answer.{Answer}
 use Rattle.st_trace.specs.Replicas.{HasMain, HaveSessionsFrom, IsClient, IsEntryOf, IsHeader, IsSound, IsTransaction, KeepToSchema}
 use Rattle.st_lists.specs.Log.{commit_of, commits_in, commits_of_text, log_with}
-use Rattle.st_lists.specs.Clients.{empty_state, joined_of, new_client, pending_after, with_begun, with_commit, with_new_commit, with_received, without_transaction}
-use Rattle.st_lists.specs.Lines.{main_line}
+use Rattle.st_lists.specs.Clients.{empty_state, joined_of, new_client, next_rev, with_ack, pending_after, with_begun, with_commit, with_new_commit, with_received, without_transaction}
+use Rattle.st_lists.specs.Lines.{commits_of, main_line}
 use Rattle.st_heads.specs.Transactions.{with_open}
 use Rattle.st_marks.proofs.OneVerdict.{one_run}
 use Rattle.std.specs.Option.{option_and_then, option_map_or}
@@ -31,9 +31,16 @@ use Rattle.st_lists.specs.declared.lists.Entry.{Entry}
 use Rattle.st_lists.specs.declared.lists.Transaction.{Transaction}
 use Rattle.st_lists.specs.declared.lists.WorldState.{WorldState}
 use Rattle.st_trace.specs.declared.world.World.{World}
-use Rattle.st_trace.proofs.Agreed.{begun_keeps, committed_keeps, delivered_keeps, edited_keeps, ended_keeps, joined_keeps, parted_keeps, same_keeps, sent_keeps}
+use Rattle.st_marks.specs.declared.verdicts.Verdict.{Verdict}
+use Rattle.st_heads.specs.Undoing.{IsUndoing}
+use Rattle.st_heads.proofs.Fitting.{undoing_fits}
+use Rattle.st_script.specs.declared.refusal.Refusal.{Refusal}
+use Rattle.st_trace.specs.Kept.{Unless}
+use Rattle.st_trace.specs.Undo.{IsAfterUndo, IsUndone, IsUndoneAt, refusal_of_rev, refusal_over}
+use Rattle.st_trace.proofs.Undoing.{no_limit, undoing_makes_none}
+use Rattle.st_trace.proofs.Agreed.{acked_keeps, undone_keeps, begun_keeps, committed_keeps, delivered_keeps, edited_keeps, ended_keeps, joined_keeps, parted_keeps, same_keeps, sent_keeps}
 use Rattle.st_trace.proofs.Begun.{IsStart, opened_start}
-use Rattle.st_trace.proofs.Clients.{client_after_text, client_beside, client_committed, client_joined, client_none, client_other, client_own, client_sent, next_new}
+use Rattle.st_trace.proofs.Clients.{client_acked, pending_few, client_after_text, client_beside, client_committed, client_joined, client_none, client_other, client_own, client_sent, next_new}
 use Rattle.st_trace.proofs.Meant.{IsMeaning, IsMeant}
 use Rattle.st_trace.proofs.Parts.{client_begun, client_commits, client_ended, client_parted}
 use Rattle.st_lists.proofs.Names.{names_append, names_of_text}
@@ -265,6 +272,46 @@ module _ (h : HeaderView) (st : IsStart (opening_document h)) where
         go : (o : Option Transaction) → abort c o ≡ (c', a) → GoesOn log cs i c c'
         go None done = stays c' (ap (λ (p : Client × Answer). p.0) (sym done))
         go (Some t) done = goes_as (without_transaction c) c' (ap (λ (p : Client × Answer). p.0) (sym done)) ended
+
+    -- what undoes a commit is pending
+    undone_goes : (rev : Rev) (B : Intent) → c.transaction ≡ None → pending_limit_passed c ≡ None → IsUndoing (opening_document h) (commits_of log (main_line c)) rev (next_rev c) B → GoesOn log cs i c (with_new_commit c B)
+    undone_goes rev B none few_pending u =
+        let O = opening_document h in
+        let list = commits_of log (main_line c) in
+        let named : B.rev ≡ next_rev c = u.back.rev_and_under.0 in
+        let session : B.rev.session ≡ c.session = ap (λ (r : Rev). r.session) named in
+        let num : B.rev.num ≡ c.ids + 1 = ap (λ (r : Rev). r.num) named in
+        let nothing = undoing_makes_none O list rev (next_rev c) B u in
+        let fits = undoing_fits O list rev (next_rev c) B u.after st.sound k.shown_fit u.now u in
+        let names : names_in c.pending + names_made B ≤ 16384 = omega (arith, pending_few h st log c k, nothing) in
+        let now = client_committed h st log c (c.ids + 1) u.after B k u.now fits session (omega (arith, num)) (omega arith) (next_new h st log c B.rev k named) (within_pending h st c few_pending) names few in
+        record {
+          client = subst (λ (o : Option Transaction). IsClient h log (record (with_commit c B) { ids = c.ids + 1; transaction = o })) (sym none) now;
+          session = refl;
+          ids = omega arith;
+          keeps = undone_keeps h st log cs i c rev B u.after are at none u.now u keeps;
+        }
+
+    pub undo_goes : (c' : Client) (history : ℕ) (rev : Rev) (a : Answer) → IsAfterUndo (opening_document h) history log c c.transaction rev c' a → GoesOn log cs i c c'
+    undo_goes c' history rev a done = go c.transaction refl done
+      where
+        list : List Intent
+        list = commits_of log (main_line c)
+
+        over : c.transaction ≡ None → (N : Intent) (v : Verdict) (o : Option Refusal) → refusal_over v N c ≡ o → Unless o c c' a (IsUndone (opening_document h) list rev c c' a) → GoesOn log cs i c c'
+        over none N v (Some why) e done = stays c' done.0
+        over none N v None e done = goes_as (with_new_commit c done.0) c' done.2 (undone_goes rev done.0 none (no_limit v N c e).2 done.1)
+
+        of_rev : c.transaction ≡ None → (o : Option Refusal) → Unless o c c' a (IsUndoneAt (opening_document h) list rev c c' a) → GoesOn log cs i c c'
+        of_rev none (Some why) done = stays c' done.0
+        of_rev none None done = over none done.0 done.2 (refusal_over done.2 done.0 c) refl done.4
+
+        go : (o : Option Transaction) → c.transaction ≡ o → IsAfterUndo (opening_document h) history log c o rev c' a → GoesOn log cs i c c'
+        go (Some t) is done = stays c' done.0
+        go None none done = of_rev none (refusal_of_rev history log c list rev) done
+
+    pub ack_goes : (c' : Client) → c' ≡ with_ack c → GoesOn log cs i c c'
+    ack_goes c' same = goes_as (with_ack c) c' same (record { client = client_acked h st log c k; session = refl; ids = omega arith; keeps = acked_keeps h st log cs i c at keeps })
 
     delivered_on : (c' : Client) (D : Document) (o : Option Entry) (a : Answer) → IsDeliveredTo D c o c' a → (c'.session ≡ c.session) × (c'.ids ≤ c.ids + 1)
     delivered_on c' D None a done = (ap (λ (x : Client). x.session) done.0, omega (arith, ap (λ (x : Client). x.ids) done.0))

@@ -98,7 +98,7 @@ module _ (h : HeaderView) (st : IsStart (opening_document h)) where
 
   -- ## Edits
 
-  kept_committed : (log : List Entry) (c : Client) (k k' : Replica) (N : Intent) → c.transaction ≡ None → IsReplicaOf h log c k → IsCommitted k N k' → IsReplicaOf h log (with_new_commit c N) k'
+  pub kept_committed : (log : List Entry) (c : Client) (k k' : Replica) (N : Intent) → c.transaction ≡ None → IsReplicaOf h log c k → IsCommitted k N k' → IsReplicaOf h log (with_new_commit c N) k'
   kept_committed log c k k' N none w done =
       let one_name : names_in (N ∷ []) ≡ names_made N = omega arith in
       let before : k.names ≡ names_edited (joined_of c) + names_in c.pending = w.names in

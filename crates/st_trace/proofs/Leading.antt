@@ -33,15 +33,15 @@ use Rattle.st_script.specs.Header.{HeaderView, header_view}
 use Rattle.st_script.specs.Steps.{ActView, EditView, StepView}
 use Rattle.st_script.specs.Steps as step
 use Rattle.st_script.specs.declared.answer.Answer.{Answer}
-use Rattle.st_script.specs.declared.answer.Answer.TheVariants.{Deliver, Join as Joins, No, Show}
+use Rattle.st_script.specs.declared.answer.Answer.TheVariants.{Ack, Deliver, Join as Joins, No, Show}
 use Rattle.st_script.specs.declared.refusal.Refusal.TheVariants.{Limit as OverLimit, NoBranch, NoClient, NotBegun, NothingNew, NothingToSend, Taken, Unfinished}
 use Rattle.st_trace.specs.Replicas.{HasMain, IsClient, IsSound, IsTransaction}
 use Rattle.st_heads.specs.Transactions.{with_open}
 use Rattle.st_lists.specs.Lines.{main_line}
 use Rattle.st_lists.specs.declared.lists.Transaction.{Transaction}
 use Rattle.st_lists.specs.Log.{commit_of, log_with}
-use Rattle.st_trace.specs.World.{HasShown, IsActOf, IsAfterEdit, IsAfterNeed, IsBegun, IsDelivered, IsDeliveredIn, IsDeliveredTo, IsDoneIn, IsEdited, IsEditedIn, IsJoined, IsNeeded, IsNext, AtClient, IsShown, IsVerdictOf, OnBranch, abort, act_of_none, after_edit, answer_of, begin, branch_at, after_entry, cells_given, commit, intent_of, last_in_effect, next_names, join, opening_document, limit_refusal, refusal_of, sequence, with_client, word_of}
-use Rattle.st_lists.specs.Clients.{HasReceived, joined_of, new_client, place_of, received_by, with_edited, with_received, with_transaction}
+use Rattle.st_trace.specs.World.{HasShown, IsActOf, IsAfterEdit, IsAfterNeed, IsBegun, IsDelivered, IsDeliveredIn, IsDeliveredTo, IsDoneIn, IsEdited, IsEditedIn, IsJoined, IsNeeded, IsNext, AtClient, IsShown, IsUndoneBy, IsVerdictOf, OnBranch, abort, act_of_none, after_edit, answer_of, begin, branch_at, after_entry, cells_given, commit, intent_of, last_in_effect, next_names, join, opening_document, limit_refusal, refusal_of, sequence, with_client, word_of}
+use Rattle.st_lists.specs.Clients.{HasReceived, joined_of, new_client, place_of, received_by, with_ack, with_edited, with_received, with_transaction}
 use Rattle.st_lists.specs.Limits.{log_limit_passed, names_limit_passed}
 use Rattle.st_lists.specs.Names.{names_in_text}
 use Rattle.st_trace.specs.declared.client.EditWord.{EditWord}
@@ -53,7 +53,10 @@ use Rattle.st_trace.specs.declared.world.World.{World}
 use Rattle.st_trace.proofs.Begun.{IsStart, opened_start, typed_name}
 use Rattle.st_trace.proofs.Clients.{received_fit, received_sound}
 use Rattle.st_trace.proofs.Everyone.{all_get}
-use Rattle.st_trace.proofs.Going.{AreSound, GoesOn, abort_goes, begin_goes, commit_goes, delivery_goes, edit_goes, joined_sound, lists_sound, meant_in, need_goes, sent_sound, set_sound}
+use Rattle.st_ids.specs.declared.names.Rev.{Rev}
+use Rattle.st_trace.specs.Undo.{IsAfterUndo}
+use Rattle.st_trace.proofs.Undoing.{has_undo}
+use Rattle.st_trace.proofs.Going.{AreSound, GoesOn, abort_goes, ack_goes, undo_goes, begin_goes, commit_goes, delivery_goes, edit_goes, joined_sound, lists_sound, meant_in, need_goes, sent_sound, set_sound}
 use Rattle.st_trace.proofs.Meant.{IsMeaning, IsMeant, edit_means, need_means}
 use Rattle.st_trace.proofs.Parts.{editable, next_joined}
 use Rattle.st_trace.proofs.Stepping.{within_log}
@@ -223,6 +226,21 @@ module _ (h : HeaderView) (w : WorldState) (s : AreSound h w) where
         let g = abort_goes h st w.log w.clients s.sessions s.clients s.few_names s.schema i c at p.0 p.1 refl in
         (record w { clients = slice_set w.clients i p.0 }, p.1, refl, set_sound h w i c p.0 s at g.client g.session g.keeps)
 
+    has_undone : (rev : Rev) → Leads (IsUndoneBy h w i c rev)
+    has_undone rev =
+        let r = after_undo c.transaction in
+        let g = undo_goes h st w.log w.clients s.sessions s.clients s.few_names s.schema i c at r.0 h.history rev r.1 r.2 in
+        (record w { clients = slice_set w.clients i r.0 }, r.1, (r.0, r.2, refl), set_sound h w i c r.0 s at g.client g.session g.keeps)
+      where
+        after_undo : (o : Option Transaction) → (d : Client) × (a : Answer) × IsAfterUndo (opening_document h) h.history w.log c o rev d a
+        after_undo (Some t) = (c, No Unfinished, (refl, refl))
+        after_undo None = has_undo (opening_document h) h.history w.log c rev st.sound client.shown_fit
+
+    has_acked : Leads (λ v a. with_client w i (with_ack c, Ack c.received) ≡ (v, a))
+    has_acked =
+        let g = ack_goes h st w.log w.clients s.sessions s.clients s.few_names s.schema i c at (with_ack c) refl in
+        (record w { clients = slice_set w.clients i (with_ack c) }, Ack c.received, refl, set_sound h w i c (with_ack c) s at g.client g.session g.keeps)
+
     verdict_of : (D : Document) (o : Option Intent) → IsSoundInForm D → (v : Verdict) × IsVerdictOf D o v
     verdict_of D None sound = (Verdict.Sound, refl)
     verdict_of D (Some N) sound = has_verdict D N sound
@@ -280,7 +298,9 @@ module _ (h : HeaderView) (w : WorldState) (s : AreSound h w) where
   has_act_of step.begin i c at = has_begun i c at
   has_act_of step.commit i c at = has_committed i c at
   has_act_of step.abort i c at = has_aborted i c at
+  has_act_of (step.undo rev) i c at = has_undone i c at rev
   has_act_of step.sequence i c at = has_sent i c at c.queue refl
+  has_act_of step.ack i c at = has_acked i c at
   has_act_of step.deliver i c at = has_delivered i c at
   has_act_of step.show i c at = let r = has_shown i c at in (w, r.0, (refl, r.1), s)
 
@@ -291,7 +311,9 @@ module _ (h : HeaderView) (w : WorldState) (s : AreSound h w) where
   has_act_of_none name step.begin = (w, No NoClient, refl, s)
   has_act_of_none name step.commit = (w, No NoClient, refl, s)
   has_act_of_none name step.abort = (w, No NoClient, refl, s)
+  has_act_of_none name (step.undo rev) = (w, No NoClient, refl, s)
   has_act_of_none name step.sequence = (w, No NoClient, refl, s)
+  has_act_of_none name step.ack = (w, No NoClient, refl, s)
   has_act_of_none name step.deliver = (w, No NoClient, refl, s)
   has_act_of_none name step.show = (w, No NoClient, refl, s)
 

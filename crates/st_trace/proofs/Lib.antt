@@ -16,3 +16,6 @@ pub mod Leading
 pub mod Meant
 pub mod Parts
 pub mod Taking
+pub mod Noting
+pub mod Undoing
+pub mod Undone

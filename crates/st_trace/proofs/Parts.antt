@@ -234,6 +234,7 @@ module _ (h : HeaderView) (st : IsStart (opening_document h)) where
         sent_fit = k.sent_fit;
         new = k.new;
         own = k.own;
+        texts = k.texts;
         ids = k.ids;
         transaction = transaction;
       }
@@ -250,6 +251,7 @@ module _ (h : HeaderView) (st : IsStart (opening_document h)) where
     sent_fit = k.sent_fit;
     new = k.new;
     own = k.own;
+    texts = k.texts;
     ids = λ N i s. omega (arith, k.ids N i s);
     transaction = record {
       session = refl;
@@ -277,6 +279,7 @@ module _ (h : HeaderView) (st : IsStart (opening_document h)) where
     sent_fit = k.sent_fit;
     new = k.new;
     own = k.own;
+    texts = k.texts;
     ids = k.ids;
     transaction = tt;
   }

@@ -20,7 +20,11 @@ use Rattle.st_script.specs.Steps as step
 use Rattle.st_script.specs.declared.answer.Answer.{Answer}
 use Rattle.st_trace.specs.Replicas.{EditsKeepSchema, IsClient, IsSound, IsTransaction}
 use Rattle.st_heads.specs.Transactions.{FitsSoFar, with_open}
-use Rattle.st_lists.specs.Lines.{main_line}
+use Rattle.st_lists.specs.Lines.{commits_of, main_line}
+use Rattle.st_script.specs.declared.answer.Answer.TheVariants as answer
+use Rattle.st_script.specs.declared.refusal.Refusal.{Refusal}
+use Rattle.st_trace.specs.Kept.{Unless}
+use Rattle.st_trace.specs.Undo.{IsAfterUndo, IsUndone, IsUndoneAt, refusal_of_rev, refusal_over}
 use Rattle.st_lists.specs.declared.lists.Transaction.{Transaction}
 use Rattle.st_marks.proofs.OneVerdict.{one_run}
 use Rattle.st_schema_laws.specs.Conforming.{IsConforming}
@@ -29,7 +33,7 @@ use Rattle.st_trace.proofs.Begun.{IsStart}
 use Rattle.st_trace.proofs.Clients.{shown_sound}
 use Rattle.st_trace.proofs.Parts.{editable}
 use Rattle.st_trace.specs.World.{HasShown, IsActOf, IsAfterEdit, IsAfterNeed, IsAllowedText, IsDeliveredIn, IsDeliveredTo, IsEditedIn, IsJoined, IsNext, AtClient, OnBranch, ShowsAllowed, abort, act_of_none, answer_of, after_edit, begin, branch_at, after_entry, commit, after_commit, join, last_in_effect, opening_document, with_beginning, with_client, with_pending, sequence, word_of}
-use Rattle.st_lists.specs.Clients.{next_rev, place_of, received_by, without_transaction}
+use Rattle.st_lists.specs.Clients.{with_ack, next_rev, place_of, received_by, without_transaction}
 use Rattle.st_lists.specs.Limits.{limit_passed, log_limit_passed, names_limit_passed, pending_limit_passed}
 use Rattle.st_lists.specs.Names.{names_in_text}
 use Rattle.st_trace.specs.declared.client.EditWord.{EditWord}
@@ -108,7 +112,9 @@ module _ (s : SchemaView) where
   none_fine w name step.begin = tt
   none_fine w name step.commit = tt
   none_fine w name step.abort = tt
+  none_fine w name (step.undo rev) = tt
   none_fine w name step.sequence = tt
+  none_fine w name step.ack = tt
   none_fine w name step.deliver = tt
   none_fine w name step.show = tt
 
@@ -171,6 +177,18 @@ module _ (s : SchemaView) where
   abort_fine c None = tt
   abort_fine c (Some t) = tt
 
+  undo_fine : (O : Document) (history : ℕ) (log : List Entry) (c d : Client) (o : Option Transaction) (rev : Rev) (a : Answer) → IsAfterUndo O history log c o rev d a → ShowsAllowed s a
+  undo_fine O history es c d (Some t) rev a is = subst (ShowsAllowed s) (sym is.1) tt
+  undo_fine O history es c d None rev a is = of_rev (refusal_of_rev history es c (commits_of es (main_line c)) rev) is
+    where
+      over : (o : Option Refusal) → Unless o c d a (IsUndone O (commits_of es (main_line c)) rev c d a) → ShowsAllowed s a
+      over (Some why) is = subst (ShowsAllowed s) (sym is.1) tt
+      over None is = subst (ShowsAllowed s) (sym is.3) tt
+
+      of_rev : (o : Option Refusal) → Unless o c d a (IsUndoneAt O (commits_of es (main_line c)) rev c d a) → ShowsAllowed s a
+      of_rev (Some why) is = subst (ShowsAllowed s) (sym is.1) tt
+      of_rev None is = over (refusal_over is.2 is.0 c) is.4
+
   delivered_fine : (D : Document) (c d : Client) (o : Option Transaction) (next : Option Entry) (a : Answer) → IsDeliveredIn D c o next d a → ShowsAllowed s a
   delivered_fine D c d None next a is = delivery_fine D c d next a is
   delivered_fine D c d (Some t) next a is = subst (ShowsAllowed s) (sym is.1) tt
@@ -183,7 +201,9 @@ of_fine w (step.need path) i c v a sound at is = need_fine w.header.schema c is.
 of_fine w step.begin i c v a sound at is = subst (ShowsAllowed w.header.schema) (ap (λ (q : Client × Answer). q.1) is.3) (begin_fine w.header.schema c c.transaction (last_in_effect is.0))
 of_fine w step.commit i c v a sound at is = one_fine w.header.schema (with_client w.lists i (commit c c.transaction)) v a is (commit_fine w.header.schema c c.transaction)
 of_fine w step.abort i c v a sound at is = one_fine w.header.schema (with_client w.lists i (abort c c.transaction)) v a is (abort_fine w.header.schema c c.transaction)
+of_fine w (step.undo rev) i c v a sound at is = undo_fine w.header.schema (opening_document (header_view w.header)) w.header.history w.lists.log c is.0 c.transaction rev a is.1
 of_fine w step.sequence i c v a sound at is = one_fine w.header.schema (sequence w.lists i c c.queue) v a is (sequence_fine w.header.schema w.lists i c c.queue)
+of_fine w step.ack i c v a sound at is = one_fine w.header.schema (with_client w.lists i (with_ack c, answer.Ack c.received)) v a is tt
 of_fine w step.deliver i c v a sound at is = delivered_fine w.header.schema is.0 c is.1 c.transaction (slice_get w.lists.log c.received) a is.3
 of_fine w step.show i c v a sound at is =
     let shown = is.1 in

@@ -1,5 +1,5 @@
 -- The world after a step of one client.
-use Rattle.std.proofs.Common.{◌≡◌, ◌≤◌, ◌<◌, ◌+◌, ◌^◌, ◌-◌, ℕ, zero, suc, Bool, true, false, cond, min, nat_le, nat_lt, List, [], ◌∷◌, ◌++◌, length, length-append, Option, Some, None, IfSome, refl, sym, ap, ◌∙◌, subst, arith, append_assoc, inl, inr}
+use Rattle.std.proofs.Common.{◌≡◌, ◌≤◌, ◌<◌, ◌+◌, ◌^◌, ◌-◌, ℕ, zero, suc, Bool, true, false, cond, min, nat_le, nat_lt, List, [], ◌∷◌, ◌++◌, length, length-append, map, Option, Some, None, IfSome, refl, sym, ap, ◌∙◌, subst, arith, append_assoc, inl, inr}
 use Rattle.std.specs.List.{AllByRecursion, cons_option, slice_get, slice_set}
 use Rattle.std.specs.BTreeMap.{BTreeMap}
 use Rattle.std.specs.Option.{option_map}
@@ -29,8 +29,9 @@ use Rattle.st_script.specs.declared.answer.Answer.TheVariants.{No}
 use Rattle.st_script.specs.declared.refusal.Refusal.TheVariants.{NothingToSend, NoBranch}
 use Rattle.st_script.specs.Steps.{StepView}
 use Rattle.st_trace.specs.Replicas.{AreReplicas, IsClient, IsEntryOf, IsReplicaOf, IsSound, IsSoundAfter, KeepToSchema}
-use Rattle.st_lists.specs.Log.{commit_in, commits_of_text, intents_of, log_and_queue}
-use Rattle.st_lists.specs.Known.{AreKnown}
+use Rattle.st_lists.specs.Log.{commit_in, commits_of_text, intents_of, is_text, log_and_queue, minimum}
+use Rattle.st_lists.specs.Known.{AreConnected, AreKnown}
+use Rattle.st_lists.proofs.Minima.{client_session, connected_entered, connected_more, minima_more, sessions_stay}
 use Rattle.st_lists.specs.Log.{commit_of, commits_in, log_with}
 use Rattle.st_trace.specs.World.{IsActOf, IsNext, AtClient, OnBranch, act_of_none, branch_at, opening_document, sequence}
 use Rattle.st_lists.specs.Clients.{new_client, place_of}
@@ -49,9 +50,12 @@ use Rattle.st_lists.proofs.Names.{names_append, names_of_text}
 use Rattle.st_trace.proofs.Everyone.{all_after_join, all_as, all_get, all_sent, all_set, clients_of, kept_push, kept_set, kept_some, past, session_bound, sessions_push, sessions_set}
 use Rattle.st_trace.proofs.Keeping.{AreOne, kept_joined, run_more}
 use Rattle.st_lists.proofs.Logs.{entered_commits, last_entry, text_first}
-use Rattle.st_lemmas.proofs.Lists.{AllByRecursion-append}
+use Rattle.st_lemmas.proofs.Lists.{AllByRecursion-append, map-append}
 use Rattle.st_lists.specs.declared.lists.Body.{Body}
-use Rattle.st_trace.specs.inside.Replicas.{HasEntered, IsNewReplica}
+use Rattle.st_ids.specs.declared.names.Rev.{Rev}
+use Rattle.st_trace.specs.declared.logged.Logged.{Logged}
+use Rattle.st_trace.specs.inside.Replicas.{HasEntered, HasLogged, IsNewReplica}
+use Rattle.st_trace.proofs.Noting.{entered_of, logged_entered, logged_none}
 
 abbrev pub start_of : (w : World) (steps : ℕ) → IsSoundAfter steps w → IsStart (opening_document (header_view w.header))
 start_of w steps s = opened_start (header_view w.header) s.header
@@ -73,6 +77,9 @@ sound_later steps w s = record {
   names = s.names;
   few_names = s.few_names;
   known = s.known;
+  connected = s.connected;
+  minima = s.minima;
+  logged = s.logged;
   arrays = s.arrays;
 }
 
@@ -95,6 +102,9 @@ sound_client w i c c' k' s at one session ids keeps = record {
   names = s.names;
   few_names = s.few_names;
   known = s.known;
+  connected = subst (AreConnected w.lists.log) (sym (sessions_stay w.lists.clients i c c' at session)) s.connected;
+  minima = s.minima;
+  logged = s.logged;
   arrays = s.arrays;
 }
 
@@ -166,18 +176,28 @@ limit_stopped log made = ap (λ b. cond (nat_le 65535 (length log)) (Some (recor
     same : (n : ℕ) → nat_lt 131072 (n + min made (2 ^ 64 - 1)) ≡ nat_lt 131072 (n + made)
     same n = grind (arith, nat_tests)
 
-pub sound_sent : (w : World) (i : ℕ) (c c' : Client) (text : Body) (log_document : Doc) (known : BTreeMap ℕ ℕ) → IsSound w → slice_get w.lists.clients i ≡ Some c → c.queue ≡ text ∷ c'.queue → c' ≡ record c { queue = c'.queue }
-    → length w.lists.log < 65535 → names_in (commits_in w.lists.log) + names_in_text text ≤ 131072 → HasEntered (document_of w.log_document) (commit_in text) (document_of log_document)
+-- all are connected still
+pub sent_connected : (w : World) (i : ℕ) (c : Client) (text : Body) (rest : List Body) → IsSound w → slice_get w.lists.clients i ≡ Some c → c.queue ≡ text ∷ rest
+    → AreConnected (log_with w.lists.log c.session text) (map (λ (x : Client). x.session) w.lists.clients)
+sent_connected w i c text rest s at is =
+    let k = kept_some (header_view w.header) w.lists.log w.lists.clients w.kept i c s.kept at in
+    connected_entered w.lists.log (map (λ (x : Client). x.session) w.lists.clients) c.session text (subst (AllByRecursion (λ (q : Body). is_text q ≡ true)) is k.texts).0 (client_session w.lists.clients i c at) s.connected
+
+pub sound_sent : (w : World) (i : ℕ) (c c' : Client) (text : Body) (log_document : Doc) (known : BTreeMap ℕ ℕ) (logged : BTreeMap Rev Logged) → IsSound w → slice_get w.lists.clients i ≡ Some c → c.queue ≡ text ∷ c'.queue → c' ≡ record c { queue = c'.queue }
+    → length w.lists.log < 65535 → names_in (commits_in w.lists.log) + names_in_text text ≤ 131072 → HasLogged (document_of w.log_document) w.logged (length w.lists.log + 1) (commit_in text) (document_of log_document) logged
     → AreKnown (log_with w.lists.log c.session text) known
     → IsSoundAfter (w.steps + 1) (record w {
       lists = record w.lists { log = log_with w.lists.log c.session text; clients = slice_set w.lists.clients i c' };
       log_document = log_document;
       known = known;
+      minima = w.minima ++ minimum (log_with w.lists.log c.session text) ∷ [];
+      logged = logged;
       names = w.names + names_in_text text;
     })
-sound_sent w i c c' text log_document known s at is is_c few few_names entered knows =
+sound_sent w i c c' text log_document known logged s at is is_c few few_names noted knows =
     let h = header_view w.header in
     let st = start_of w w.steps s in
+    let entered = entered_of (document_of w.log_document) (document_of log_document) w.logged logged (length w.lists.log + 1) (commit_in text) noted in
     let log = w.lists.log in
     let X = commits_of_text text in
     let L = commits_in log in
@@ -206,6 +226,9 @@ sound_sent w i c c' text log_document known s at is is_c few few_names entered k
       names = omega (arith, s.names, names);
       few_names = omega (arith, few_names, names);
       known = knows;
+      connected = subst (AreConnected (log_with log c.session text)) (sym (sessions_stay w.lists.clients i c c' at (ap (λ (x : Client). x.session) is_c))) (sent_connected w i c text c'.queue s at is);
+      minima = minima_more log w.minima c.session text (minimum (log_with log c.session text)) refl s.minima;
+      logged = logged_entered (opening_document h) (document_of w.log_document) (document_of log_document) log c.session text w.logged s.logged logged last.new s.log_document noted;
       arrays = s.arrays;
     }
 
@@ -221,12 +244,18 @@ of_sessions sessions (e ∷ es) N all i = go (commit_of e) all.0.1 i (λ j. of_s
     go (Some M) own (inl same) rest = let at : N.rev.session ≡ e.session = ap (λ (X : Intent). X.rev.session) (sym same) ∙ own in omega (arith, at, all.0.0)
     go (Some M) own (inr i) rest = rest i
 
+pub joined_connected : (w : World) (session : ℕ) (c : Client) → IsSound w → c.session ≡ session → AreConnected (log_with w.lists.log session Join) (map (λ (x : Client). x.session) (w.lists.clients ++ c ∷ []))
+joined_connected w session c s same =
+    subst (AreConnected (log_with w.lists.log session Join)) (sym (map-append (λ (x : Client). x.session) w.lists.clients (c ∷ []) ∙ ap (λ n. map (λ (x : Client). x.session) w.lists.clients ++ n ∷ []) same))
+    (connected_more w.lists.log (map (λ (x : Client). x.session) w.lists.clients) session s.connected)
+
 pub sound_joined : (w : World) (name : List ℕ) (n session : ℕ) (c : Client) (k : Replica) (known : BTreeMap ℕ ℕ) → IsSound w → length w.lists.clients < 64 → length w.lists.log < 65535 → session ≡ length w.lists.clients + 1
     → n ≡ length w.lists.log + 1 → AreKnown (log_with w.lists.log session Join) known → c ≡ new_client n session name → IsNewReplica (document_of w.log_document) k
     → IsSoundAfter (w.steps + 1) (record w {
       lists = record w.lists { log = log_with w.lists.log session Join; clients = w.lists.clients ++ c ∷ [] };
       kept = w.kept ++ k ∷ [];
       known = known;
+      minima = w.minima ++ minimum (log_with w.lists.log session Join) ∷ [];
     })
 sound_joined w name n session c k known s few few_entries is_s is_n knows is_c new =
     let h = header_view w.header in
@@ -258,6 +287,9 @@ sound_joined w name n session c k known s few few_entries is_s is_n knows is_c n
       names = s.names ∙ ap names_in commits;
       few_names = omega (arith, s.few_names, ap names_in commits);
       known = knows;
+      connected = joined_connected w session c s (ap (λ (x : Client). x.session) is_c);
+      minima = minima_more log w.minima session Join (minimum (log_with log session Join)) refl s.minima;
+      logged = logged_none (opening_document h) (document_of w.log_document) (document_of w.log_document) log session Join w.logged s.logged refl;
       arrays = s.arrays;
     }
 

@@ -1,3 +1,6 @@
+pub mod Kept
+pub mod Logged
 pub mod Replicas
+pub mod Undo
 pub mod World
 pub mod inside

@@ -1,5 +1,5 @@
 -- What the kept documents and numbers stand for, and what holds of the lists of each world that steps lead to.
-use Rattle.std.specs.Prelude.{◌≡◌, ℕ, ◌+◌, ◌<◌, ◌≤◌, true, List, [], ◌∷◌, ◌++◌, length, drop, Option, None, IfSome}
+use Rattle.std.specs.Prelude.{map, ◌≡◌, ℕ, ◌+◌, ◌<◌, ◌≤◌, true, List, [], ◌∷◌, ◌++◌, length, drop, Option, None, IfSome}
 use Rattle.std.specs.List.{AllByRecursion}
 use Rattle.st_ids.specs.Listing.{Has}
 use Rattle.st_ids.specs.declared.names.FieldId.{FieldId}
@@ -20,13 +20,15 @@ use Rattle.st_edits.specs.ArrayTypes.{is_array_type}
 use Rattle.st_heads.specs.Remembered.{AreCarried}
 use Rattle.st_heads.specs.Transactions.{FitsSoFar, HasOpen, with_open}
 use Rattle.st_script.specs.Header.{HeaderView, header_view, may_open}
-use Rattle.st_lists.specs.Known.{AreKnown}
-use Rattle.st_lists.specs.Log.{commit_of, commits_by, commits_in, intents_of, log_and_queue}
+use Rattle.st_lists.specs.Known.{AreConnected, AreKnown, AreMinima}
+use Rattle.st_lists.specs.Log.{commit_of, commits_by, commits_in, intents_of, is_text, log_and_queue}
 use Rattle.st_lists.specs.Clients.{HasReceived, joined_of, received_by}
 use Rattle.st_lists.specs.Lines.{HasHead, main_line}
+use Rattle.st_trace.specs.Logged.{AreLogged}
 use Rattle.st_trace.specs.World.{last_in_effect, opening_document}
 use Rattle.st_lists.specs.Names.{names_in, unsequenced}
 use Rattle.st_trace.specs.declared.replica.Replica.{Replica}
+use Rattle.st_lists.specs.declared.lists.Body.{Body}
 use Rattle.st_lists.specs.declared.lists.Client.{Client}
 use Rattle.st_lists.specs.declared.lists.Entry.{Entry}
 use Rattle.st_lists.specs.declared.lists.Transaction.{Transaction}
@@ -72,6 +74,8 @@ pub record IsClient (h : HeaderView) (log : List Entry) (c : Client) : Type 0 wh
   pub new : HaveNewRevisions (opening ∷ []) (log_and_queue log c)
   pub own : AllByRecursion (λ (N : Intent). N.rev.session ≡ c.session) (intents_of c.queue)
   pub ids : (N : Intent) → Has (log_and_queue log c) N → N.rev.session ≡ c.session → N.rev.num ≤ c.ids
+  -- those that wait are texts
+  pub texts : AllByRecursion (λ (text : Body). is_text text ≡ true) c.queue
   -- it may have a transaction open
   pub transaction : IfSome c.transaction (IsTransaction h log c)
 
@@ -140,6 +144,10 @@ pub record IsSoundAfter (steps : ℕ) (w : World) : Type 0 where
   pub names : w.names ≡ names_in (commits_in w.lists.log)
   pub few_names : names_in (commits_in w.lists.log) ≤ 131072
   pub known : AreKnown w.lists.log w.known
+  -- all clients are connected, and the minima and the commits of the log are those that it gives
+  pub connected : AreConnected w.lists.log (map (λ (c : Client). c.session) w.lists.clients)
+  pub minima : AreMinima w.lists.log w.minima
+  pub logged : AreLogged (opening_document (header_view w.header)) w.lists.log w.logged
   pub arrays : is_among w.arrays ≡ is_array_type (header_view w.header).schema
 
 abbrev pub IsSound : World → Type 0

@@ -33,11 +33,13 @@ use Rattle.st_script.specs.declared.answer.Answer.{Answer}
 use Rattle.st_script.specs.declared.answer.Answer.TheVariants as answer
 use Rattle.st_script.specs.declared.refusal.Refusal.{Refusal}
 use Rattle.st_script.specs.declared.refusal.Refusal.TheVariants as no
-use Rattle.st_lists.specs.Clients.{HasReceived, client_named, new_client, next_rev, with_begun, with_commit, with_edited, with_new_commit, with_received, with_transaction, without_transaction}
+use Rattle.st_lists.specs.Clients.{HasReceived, client_named, new_client, next_rev, with_ack, with_begun, with_commit, with_edited, with_new_commit, with_received, with_transaction, without_transaction}
 use Rattle.st_lists.specs.Limits.{limit_passed, log_limit_passed, names_limit_passed, pending_limit_passed}
 use Rattle.st_lists.specs.Lines.{HasHead, Line, main_line}
 use Rattle.st_lists.specs.Log.{commit_of, log_with, minimum}
 use Rattle.st_lists.specs.Names.{names_in_text}
+use Rattle.st_trace.specs.Kept.{IsKept}
+use Rattle.st_trace.specs.Undo.{IsAfterUndo}
 use Rattle.st_trace.specs.declared.client.EditWord.{EditWord}
 use Rattle.st_trace.specs.declared.client.EditWord.TheVariants as word
 use Rattle.st_lists.specs.declared.lists.Body.TheVariants.{Join as Joined}
@@ -118,10 +120,6 @@ after_edit c word (Err f) = (c, answer.No (refusal_of f))
 after_edit c word (Ok N) = with_pending c word N (limit_passed c N)
 
 -- ## Transactions
-
--- a step that changes nothing of a client, and its answer
-abbrev pub IsKept : Client → Client → Answer → Answer → Type 0
-IsKept c d a b = (d ≡ c) × (a ≡ b)
 
 -- an edit in a transaction is joined to what was edited in it before, if it passes no limit
 abbrev pub IsJoined : Client → Transaction → EditWord → Intent → Option Limit → Client → Answer → Type 0
@@ -218,7 +216,7 @@ abbrev pub after_entry : WorldState → ℕ → Client → Body → List Body �
 after_entry w i c text rest None =
     let log = log_with w.log c.session text in
     let clients = slice_set w.clients i (record c { queue = rest }) in
-    (record w { log = log; clients = clients }, answer.Sequence (minimum log clients) (length log))
+    (record w { log = log; clients = clients }, answer.Sequence (minimum log) (length log))
 after_entry w i c text rest (Some l) = (w, limit_refusal l)
 
 -- the oldest text of a client's queue enters the log
@@ -254,6 +252,10 @@ abbrev pub IsDelivered : HeaderView → WorldState → ℕ → Client → WorldS
 IsDelivered h w i c v a = (D : Document) × (d : Client) × HasReceived (opening_document h) w.log c D
     × IsDeliveredIn D c c.transaction (slice_get w.log c.received) d a × (v ≡ record w { clients = slice_set w.clients i d })
 
+-- the client undoes a commit, of those that it received and has pending
+abbrev pub IsUndoneBy : HeaderView → WorldState → ℕ → Client → Rev → WorldState → Answer → Type 0
+IsUndoneBy h w i c rev v a = (d : Client) × IsAfterUndo (opening_document h) h.history w.log c c.transaction rev d a × (v ≡ record w { clients = slice_set w.clients i d })
+
 -- the text of the tree that a client shows
 abbrev pub IsShown : HeaderView → WorldState → Client → Answer → Type 0
 IsShown h w c a = (D : Document) × (tree : List ℕ) × HasShown (opening_document h) w.log (main_line c) D × IsTreeText (is_array_type h.schema) D tree × (a ≡ answer.Show tree)
@@ -266,7 +268,9 @@ IsActOf h w (step.need at) i c v a = IsNeeded h w i c at v a
 IsActOf h w step.begin i c v a = IsBegun h w i c v a
 IsActOf h w step.commit i c v a = with_client w i (commit c c.transaction) ≡ (v, a)
 IsActOf h w step.abort i c v a = with_client w i (abort c c.transaction) ≡ (v, a)
+IsActOf h w (step.undo rev) i c v a = IsUndoneBy h w i c rev v a
 IsActOf h w step.sequence i c v a = sequence w i c c.queue ≡ (v, a)
+IsActOf h w step.ack i c v a = with_client w i (with_ack c, answer.Ack c.received) ≡ (v, a)
 IsActOf h w step.deliver i c v a = IsDelivered h w i c v a
 IsActOf h w step.show i c v a = (v ≡ w) × IsShown h w c a
 
@@ -278,7 +282,9 @@ act_of_none w name (step.need at) = (w, answer.No no.NoClient)
 act_of_none w name step.begin = (w, answer.No no.NoClient)
 act_of_none w name step.commit = (w, answer.No no.NoClient)
 act_of_none w name step.abort = (w, answer.No no.NoClient)
+act_of_none w name (step.undo rev) = (w, answer.No no.NoClient)
 act_of_none w name step.sequence = (w, answer.No no.NoClient)
+act_of_none w name step.ack = (w, answer.No no.NoClient)
 act_of_none w name step.deliver = (w, answer.No no.NoClient)
 act_of_none w name step.show = (w, answer.No no.NoClient)
 
@@ -290,7 +296,9 @@ branch_at branch (step.need at) = branch
 branch_at branch step.begin = branch
 branch_at branch step.commit = branch
 branch_at branch step.abort = branch
+branch_at branch (step.undo rev) = 0
 branch_at branch step.sequence = 0
+branch_at branch step.ack = 0
 branch_at branch step.deliver = 0
 branch_at branch step.show = branch
 

@@ -1,3 +1,4 @@
 -- The words of loops and of private functions: no public contract reaches them.
 pub mod Edits
 pub mod Replicas
+pub mod Undo

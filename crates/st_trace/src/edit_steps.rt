@@ -3,28 +3,17 @@ ghost use Rattle.std.specs.Prelude.{◌≡◌, ◌+◌, ◌^◌, ◌<◌, length
 ghost use Rattle.st_script.specs.Header.{header_view};
 ghost use Rattle.st_script.specs.Steps as act;
 ghost use Rattle.st_script.specs.Steps.{edit_view, IsEditWithin};
-ghost use Rattle.st_doc.specs.Doc.{document_of};
-ghost use Rattle.st_trace.specs.World.{IsActOf, AtRefusal, last_in_effect};
+ghost use Rattle.st_trace.specs.World.{IsActOf, AtRefusal};
 ghost use Rattle.st_trace.specs.Replicas.{IsSound};
 ghost use Rattle.st_trace.specs.inside.Replicas.{IsSoundNext};
 ghost use Rattle.st_lists.specs.declared.lists.Client.{Client as Present};
 
+use crate::edits::{self, last_in_effect};
+use crate::transactions;
 use crate::world::World;
-use crate::{edits, transactions};
-use st_doc::Doc;
-use st_ids::{Path, Rev};
+use st_ids::Path;
 use st_script::{Answer, EditAct, Refusal};
 use std::alloc::{AllocError, Global};
-
-// The schema entry that is last in effect in a document.
-fn last_in_effect(doc: &Doc) -> Rev
-    ensures { result ≡ last_in_effect (document_of doc.now) }
-{
-    match doc.under() {
-        Some(rev) => rev,
-        None => Rev { session: 0, num: 0 },
-    }
-}
 
 impl World {
     // Makes an edit of the tree that the client at a place shows.

@@ -12,7 +12,7 @@ ghost use Rattle.st_lists.specs.Clients.{joined_of, with_commit, with_new_commit
 ghost use Rattle.st_lists.specs.Limits.{limit_passed, pending_limit_passed};
 ghost use Rattle.st_lists.specs.Names.{names_made, unsequenced};
 ghost use Rattle.st_lists.specs.declared.lists.Body.TheVariants.{Commit};
-ghost use Rattle.st_trace.specs.World.{IsAfterEdit, answer_of, next_names, refusal_of, with_pending, word_of};
+ghost use Rattle.st_trace.specs.World.{IsAfterEdit, answer_of, last_in_effect, next_names, refusal_of, with_pending, word_of};
 ghost use Rattle.st_trace.specs.inside.Edits.{edit_of, names_limit};
 ghost use Rattle.st_trace.specs.inside.Replicas.{CanTake, HasTaken, HasNumbersLeft, HasTakenIn, IsCommitted, IsPending, IsTakenIn};
 
@@ -120,6 +120,16 @@ pub fn refusal_of(fault: EditFault) -> Refusal
     }
 }
 
+/// The schema entry that is last in effect in a document.
+pub fn last_in_effect(doc: &Doc) -> Rev
+    ensures { result ≡ last_in_effect (document_of doc.now) }
+{
+    match doc.under() {
+        Some(rev) => rev,
+        None => Rev { session: 0, num: 0 },
+    }
+}
+
 /// The names that an edit may give: those of the next commit, or the next ones of the transaction that is open.
 pub fn next_names(client: &Client) -> NameCounters
     requires { client.now.ids + 1 < 2 ^ 32 }
@@ -213,8 +223,8 @@ pub fn enqueue(alloc: Global, client: &mut Client, intent: Intent) -> Result<(),
     Ok(())
 }
 
-// Carries a commit out under a new id, and keeps it as pending and in the queue.
-fn commit_new(
+/// Carries a commit out under a new id, and keeps it as pending and in the queue.
+pub fn commit_new(
     alloc: Global,
     client: &mut Client,
     kept: &mut Replica,

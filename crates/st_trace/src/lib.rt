@@ -6,10 +6,14 @@ mod edit_steps;
 mod edits;
 mod laws;
 mod log_steps;
+mod logged;
 mod replica;
 mod transactions;
+mod undo;
+mod undo_steps;
 mod world;
 
 pub use client::EditWord;
 pub use laws::each_step_has_a_next;
+pub use logged::Logged;
 pub use world::{Spent, World};

@@ -1,5 +1,5 @@
 //! The world: its lists, and the documents and numbers that its answers are read off.
-ghost use Rattle.std.specs.Prelude.{◌≡◌, ◌↔◌, ◌+◌, ◌-◌, ◌^◌, ◌<◌, ◌≤◌, true, false, is_some, length, [], None, Some, slice_get, IfOk, IfSome, OnOk, IsErrOf};
+ghost use Rattle.std.specs.Prelude.{◌≡◌, ◌↔◌, ◌+◌, ◌-◌, ◌^◌, ◌<◌, ◌≤◌, ◌++◌, ◌∷◌, true, false, is_some, length, map, [], None, Some, slice_get, IfOk, IfSome, OnOk, IsErrOf};
 ghost use Rattle.st_marks.specs.Document.{IsSoundInForm};
 ghost use Rattle.st_marks.specs.Intent.{Fits};
 ghost use Rattle.st_doc.specs.Doc.{document_of};
@@ -12,16 +12,18 @@ ghost use Rattle.st_trace.specs.World.{opening_document, limit_refusal, join, se
 ghost use Rattle.st_lists.specs.Names.{names_in_text};
 ghost use Rattle.st_lists.specs.Limits.{log_limit_passed};
 ghost use Rattle.st_trace.specs.Replicas.{IsHeader, IsSound};
-ghost use Rattle.st_trace.specs.inside.Replicas.{HasEntered, IsSoundNext};
-ghost use Rattle.st_lists.specs.Known.{AreKnown};
+ghost use Rattle.st_trace.specs.inside.Replicas.{HasLogged, IsSoundNext};
+ghost use Rattle.st_lists.specs.Known.{AreConnected, AreKnown};
 ghost use Rattle.st_lists.specs.Log.{commit_in, log_with, minimum};
 ghost use Rattle.st_lists.specs.declared.lists.Client.{Client as Present};
 
+use crate::logged::{Logged, log_commit};
 use crate::replica::Replica;
 use crate::{client, log_steps};
 use st_doc::Doc;
-use st_ids::{Copied, Limit, LimitOf, List, Or, Text};
-use st_lists::{Body, Client, WorldState, append_entry, least_known, names_in_text};
+use st_heads::carry_one;
+use st_ids::{Copied, Limit, LimitOf, List, Or, Rev, Text};
+use st_lists::{Body, Client, WorldState, append_entry, minimum, names_in_text};
 use st_schema::{Form, Header, Schema};
 use st_script::{Act, Answer, Refusal, TraceStep};
 use std::alloc::{AllocError, Global};
@@ -37,8 +39,9 @@ const MOST_ENTRIES: usize = 65_535;
 const MOST_NAMES: u64 = 131_072;
 
 /// The lists, and beside them what is read off them: the types whose nodes have a row, the document after the whole log,
-/// what is kept of each client, the greatest reference known of each session, and how many names the log makes. `spent`
-/// is set after want of memory, and `steps` counts the steps.
+/// what is kept of each client, the greatest reference known of each session, the minimum after each entry, of each commit
+/// of the log how it came out, and how many names the log makes. `spent` is set after want of memory, and `steps` counts
+/// the steps.
 #[derive(Drop)]
 pub struct World {
     pub header: Header,
@@ -47,6 +50,8 @@ pub struct World {
     pub lists: WorldState,
     pub kept: List<Replica>,
     pub known: BTreeMap<u32, u32>,
+    pub minima: List<u32>,
+    pub logged: BTreeMap<Rev, Logged>,
     pub names: u64,
     pub steps: u32,
     pub spent: bool,
@@ -124,7 +129,7 @@ fn branch_of(step: &TraceStep) -> u32
         Act::Edit(_) | Act::Need { .. } | Act::Begin | Act::Commit | Act::Abort | Act::Show => {
             step.branch
         }
-        Act::Join | Act::Sequence | Act::Deliver => 0,
+        Act::Join | Act::Undo { .. } | Act::Sequence | Act::Ack | Act::Deliver => 0,
     }
 }
 
@@ -161,6 +166,8 @@ impl World {
             },
             kept: List::new(alloc),
             known: BTreeMap::new(alloc),
+            minima: List::new(alloc),
+            logged: BTreeMap::new(alloc),
             names: 0,
             steps: 0,
             spent: false,
@@ -209,18 +216,40 @@ impl World {
         None
     }
 
-    // Carries out in the document of the whole log what a text says, if it is a commit.
+    // Carries out in the document of the whole log what a text says, if it is a commit, and takes note of how it came out.
     fn carry_text(&mut self, alloc: Global, text: &Body) -> Result<(), AllocError>
         requires sound { IsSoundInForm (document_of self.old.log_document) }
         requires fits { IfSome (commit_in text.now) (Fits (document_of self.old.log_document)) }
-        ensures log_document { OnOk result (HasEntered (document_of self.old.log_document) (commit_in text.now) (document_of self.new.log_document)) }
-        ensures world { OnOk result (self.new ≡ record self.old { log_document = self.new.log_document }) }
+        requires entries { length self.old.lists.log < 65535 }
+        ensures logged { OnOk result (HasLogged (document_of self.old.log_document) self.old.logged (length self.old.lists.log + 1) (commit_in text.now)
+            (document_of self.new.log_document) self.new.logged) }
+        ensures world { OnOk result (self.new ≡ record self.old { log_document = self.new.log_document; logged = self.new.logged }) }
         ensures spent { self.new.spent ≡ self.old.spent }
     {
         if let Body::Commit { intent, .. } = text {
-            self.log_document.carry(alloc, intent)?;
+            let n = self.lists.log.len() as u32 + 1;
+            let carried = carry_one(alloc, &mut self.log_document, intent)?;
+            log_commit(&mut self.logged, n, intent, carried)?;
         }
         Ok(())
+    }
+
+    // Keeps the minimum after a log that has one entry more.
+    fn keep_minimum(&mut self) -> Result<u32, AllocError>
+        requires few { length self.old.lists.log < 2 ^ 32 }
+        requires known { AreKnown self.old.lists.log self.old.known }
+        requires connected { AreConnected self.old.lists.log (map (λ (c : Present). c.session) self.old.lists.clients) }
+        ensures minimum { IfOk result (λ m. m ≡ minimum self.old.lists.log) }
+        ensures world { OnOk result (self.new ≡ record self.old { minima = self.old.minima ++ minimum self.old.lists.log ∷ [] }) }
+        ensures spent { self.new.spent ≡ self.old.spent }
+    {
+        let least = minimum(
+            self.lists.log.as_slice(),
+            self.lists.clients.as_slice(),
+            &self.known,
+        );
+        self.minima.push(least)?;
+        Ok(least)
     }
 
     // Puts a text into the log.
@@ -235,13 +264,17 @@ impl World {
         requires entries { length self.old.lists.log < 65535 }
         requires names { self.old.names + names_in_text text ≤ 131072 }
         requires known { AreKnown self.old.lists.log self.old.known }
-        ensures answer { IfOk result (λ a. a ≡ Answer.Sequence (minimum self.new.lists.log self.new.lists.clients) (length self.new.lists.log)) }
+        requires connected { AreConnected (log_with self.old.lists.log session text) (map (λ (c : Present). c.session) self.old.lists.clients) }
+        ensures answer { IfOk result (λ a. a ≡ Answer.Sequence (minimum self.new.lists.log) (length self.new.lists.log)) }
         ensures known { OnOk result (AreKnown self.new.lists.log self.new.known) }
-        ensures log_document { OnOk result (HasEntered (document_of self.old.log_document) (commit_in text) (document_of self.new.log_document)) }
+        ensures logged { OnOk result (HasLogged (document_of self.old.log_document) self.old.logged (length self.old.lists.log + 1) (commit_in text)
+            (document_of self.new.log_document) self.new.logged) }
         ensures world { OnOk result (self.new ≡ record self.old {
           lists = record self.old.lists { log = log_with self.old.lists.log session text };
           log_document = self.new.log_document;
           known = self.new.known;
+          minima = self.old.minima ++ minimum (log_with self.old.lists.log session text) ∷ [];
+          logged = self.new.logged;
           names = self.old.names + names_in_text text;
         }) }
         ensures spent { self.new.spent ≡ self.old.spent }
@@ -250,7 +283,7 @@ impl World {
         self.carry_text(alloc, &text)?;
         append_entry(&mut self.lists.log, &mut self.known, session, text)?;
         let n = self.lists.log.len() as u32;
-        let min = least_known(self.lists.clients.as_slice(), &self.known, n);
+        let min = self.keep_minimum()?;
         Ok(Answer::Sequence { min, n })
     }
 
@@ -312,6 +345,7 @@ impl World {
         let n = self.lists.log.len() as u32;
         client::add_replica(alloc, &mut self.kept, &self.log_document)?;
         client::add_client(alloc, &mut self.lists.clients, n, s, name)?;
+        self.keep_minimum()?;
         Ok(Answer::Join { n, s })
     }
 
@@ -354,7 +388,9 @@ impl World {
             | Act::Begin
             | Act::Commit
             | Act::Abort
+            | Act::Undo { .. }
             | Act::Sequence
+            | Act::Ack
             | Act::Deliver
             | Act::Show => Ok(Answer::No(Refusal::NoClient)),
         }
@@ -380,7 +416,9 @@ impl World {
             Act::Begin => Ok(self.begin_transaction(i)),
             Act::Commit => self.commit_transaction(alloc, i),
             Act::Abort => Ok(self.abort_transaction(i)),
+            Act::Undo { rev } => self.undo(alloc, i, *rev),
             Act::Sequence => self.sequence(alloc, i),
+            Act::Ack => self.ack(i),
             Act::Deliver => self.deliver(alloc, i),
             Act::Show => {
                 let answer = self.show(alloc, i)?;

@@ -1,6 +1,7 @@
 -- Words of the private functions behind `Replicas`.
 use Rattle.std.specs.Option.{option_map_or}
-use Rattle.std.specs.Prelude.{◌-◌, ◌^◌, false, Result, Ok, Err, ◌≡◌, ◌==◌, ◌+◌, ◌<◌, ◌≤◌, Bool, true, [], ◌∷◌, drop, length, Option, Some, None, IfSome}
+use Rattle.std.specs.BTreeMap.{BTreeMap, get}
+use Rattle.std.specs.Prelude.{◌-◌, ◌^◌, ℕ, is_some, if◌then◌else◌, false, Result, Ok, Err, ◌≡◌, ◌==◌, ◌+◌, ◌<◌, ◌≤◌, Bool, true, [], ◌∷◌, drop, length, Option, Some, None, IfSome}
 use Rattle.st_marks.specs.declared.intents.Intent.{Intent}
 use Rattle.st_marks.specs.declared.verdicts.Verdict.{Verdict}
 use Rattle.st_marks.specs.Document.{Document}
@@ -10,6 +11,10 @@ use Rattle.st_ids.specs.declared.names.Limit.{Limit}
 use Rattle.st_tree.specs.declared.edit.EditFault.{EditFault}
 use Rattle.st_log_laws.specs.Turns.{FitInTurn}
 use Rattle.st_doc.specs.Doc.{document_of}
+use Rattle.st_ids.specs.Order.{rev_cmp, same_rev}
+use Rattle.st_ids.specs.declared.names.Rev.{Rev}
+use Rattle.st_heads.specs.declared.ways.Carried.{Carried}
+use Rattle.st_trace.specs.declared.logged.Logged.{Logged}
 use Rattle.st_heads.specs.Heads as head
 use Rattle.st_heads.specs.Remembered.{AreCarried}
 use Rattle.st_lists.specs.Log.{commit_of}
@@ -189,3 +194,9 @@ pub record IsNewReplica (D : Document) (k : Replica) : Type 0 where
 abbrev pub HasEntered : Document → Option Intent → Document → Type 0
 HasEntered D None E = E ≡ D
 HasEntered D (Some N) E = (v : Verdict) × IsVerdict D N v × (E ≡ carried_document v D N)
+
+-- the same, and it is noted how the commit came out, as that of the entry of a number
+abbrev pub HasLogged : Document → BTreeMap Rev Logged → ℕ → Option Intent → Document → BTreeMap Rev Logged → Type 0
+HasLogged D old n None E new = (E ≡ D) × (new ≡ old)
+HasLogged D old n (Some N) E new = (k : Carried) × AreCarried D (N ∷ []) (k ∷ []) E
+    × ((rev : Rev) → get rev_cmp new rev ≡ (if same_rev N.rev rev then Some (record { n = n; is_schema = is_some N.schema; carried = k }) else get rev_cmp old rev))

@@ -1,4 +1,10 @@
-use Rattle.std.proofs.Common.{[], refl, sym, subst, arith, rules}
+use Rattle.std.proofs.Common.{◌≡◌, ℕ, [], Some, None, IsSome, refl, sym, subst, arith, rules}
+use Rattle.std.specs.BTreeMap.{get}
+use Rattle.std.specs.List.{slice_get}
+use Rattle.st_ids.specs.Order.{rev_cmp}
+use Rattle.st_ids.specs.declared.names.Rev.{Rev}
+use Rattle.st_lists.specs.declared.lists.Entry.{Entry}
+use Rattle.st_trace.specs.declared.logged.Logged.{Logged}
 use Rattle.std.proofs.lemmas.Grind.{common_steps}
 use Rattle.st_marks.specs.Document.{Document}
 use Rattle.st_marks.specs.Run.{Run, done}
@@ -9,7 +15,8 @@ use Rattle.st_trace.proofs.world.World.begin.Goals as goal
 
 pub returns-clause-sound : goal.returns-clause-sound
 returns-clause-sound c =
-    rw (c.new.ensures, c.new-2.ensures, c.new-3.ensures) (record {
+    let nothing : (rev : Rev) → get rev_cmp c.new-6.result rev ≡ None = λ rev. search (rules, common_steps) in
+    rw (c.new.ensures, c.new-2.ensures, c.new-3.ensures, c.new-5.ensures) (record {
       header = c.requires.header;
       kept = tt;
       sessions = tt;
@@ -24,5 +31,14 @@ returns-clause-sound c =
       names = refl;
       few_names = omega arith;
       known = λ session. search (rules, common_steps);
+      connected = record { all = λ s i. absurd i; no_other = λ e i. absurd i };
+      minima = record { size = refl; each = λ i h. absurd (omega (arith, h)) };
+      logged = record { each = λ i e N at is. nothing_at i e at; no_other = λ rev h. nothing_for (subst IsSome (nothing rev) h) };
       arrays = c.requires.arrays;
     })
+  where
+    nothing_at : {R : Type 0} (i : ℕ) (e : Entry) → slice_get [] i ≡ Some e → R
+    nothing_at i e at = absurd (cc)
+
+    nothing_for : {R : Type 0} → IsSome {T = Logged} None → R
+    nothing_for h = absurd (cc)

@@ -2,8 +2,14 @@ use Rattle.std.proofs.Common.{◌≡◌, ◌<◌, ◌+◌, [], ◌∷◌, length
 use Rattle.st_lists.specs.declared.lists.Body.TheVariants.{Join}
 use Rattle.st_lists.specs.Clients.{new_client}
 use Rattle.st_lists.proofs.Logs.{last_entry}
-use Rattle.st_trace.proofs.Stepping.{sound_joined}
+use Rattle.st_trace.proofs.Stepping.{joined_connected, sound_joined}
 use Rattle.st_trace.proofs.world.World.join.Goals as goal
+
+pub keep_minimum-requires-clause-connected : goal.keep_minimum-requires-clause-connected
+keep_minimum-requires-clause-connected c =
+    let w = c.args.self.now in
+    let session = c.len-count.result + 1 in
+    rw (c.in_ok-add_client.ensures, c.in_ok-append_entry.ensures.log) (joined_connected w session (new_client c.len-n.result session c.args.name.now) c.requires.sound refl)
 
 pub returns-clause-sound : goal.returns-clause-sound
 returns-clause-sound c =
@@ -15,6 +21,6 @@ returns-clause-sound c =
     let n : c.len-n.result ≡ length w.lists.log + 1 = omega (arith, c.len-n.ensures, ap length logged, length-append w.lists.log (last_entry w.lists.log session Join ∷ [])) in
     let knows = rw logged at c.in_ok-append_entry.ensures.known in
     let opened = c.in_ok-add_replica.ensures in
-    rw (c.in_ok-add_client.ensures, opened.1, logged)
+    rw (c.in_ok-keep_minimum.ensures.world, c.in_ok-add_client.ensures, opened.1, logged)
     (sound_joined w c.args.name.now c.len-n.result session (new_client c.len-n.result session c.args.name.now) opened.0 c.append_entry.new.known c.requires.sound few few_entries (omega (arith, c.len-count.ensures)) n knows refl
     opened.2)

@@ -1,8 +1,11 @@
-use Rattle.std.proofs.Common.{◌+◌, sym, ap, subst}
+use Rattle.std.proofs.Common.{◌≡◌, ◌+◌, sym, ap, subst}
 use Rattle.st_trace.specs.Replicas.{IsSoundAfter}
-use Rattle.st_lists.specs.Known.{AreKnown}
+use Rattle.st_lists.specs.Known.{AreConnected, AreKnown}
+use Rattle.st_lists.specs.Log.{log_with}
+use Rattle.st_lists.specs.declared.lists.Client.{Client}
+use Rattle.st_lists.proofs.Minima.{sessions_stay}
 use Rattle.st_trace.specs.declared.world.World.{World}
-use Rattle.st_trace.proofs.Stepping.{head_fits, head_sound, sound_sent, text_within}
+use Rattle.st_trace.proofs.Stepping.{head_fits, head_sound, sent_connected, sound_sent, text_within}
 use Rattle.st_trace.proofs.world.World.sequence.Goals as goal
 
 pub sequence_text-requires-clause-sound : goal.sequence_text-requires-clause-sound
@@ -20,9 +23,19 @@ returns-in_ok-answer-in-Some-take_text-clause-sound c =
     let text = c.in-Some-take_text.text in
     let rest = c.take_text.new.client.queue in
     let world = c.in_ok-answer-in-Some-take_text.ensures.world in
-    let log_document = c.in_ok-answer-in-Some-take_text.ensures.log_document in
+    let noted = c.in_ok-answer-in-Some-take_text.ensures.logged in
     let knows = subst (λ l. AreKnown l c.sequence_text.new.self.known) (ap (λ (x : World). x.lists.log) world) c.in_ok-answer-in-Some-take_text.ensures.known in
     let few = text_within w c.args.i c.in-Some.client.now client text rest c.in-Some-names_waiting.made c.names_waiting.result c.limit_passed.result (sym c.in-Some.ensures) at c.in-Some-take_text.ensures.0
     c.names_waiting.ensures c.in-Some-names_waiting.is c.limit_passed.ensures c.in_default-limit_passed.is in
     subst (λ (x : World). IsSoundAfter (x.steps + 1) x) (sym world)
-    (sound_sent w c.args.i client c.take_text.new.client text c.sequence_text.new.self.log_document c.sequence_text.new.self.known c.requires.sound at c.in-Some-take_text.ensures.0 c.in-Some-take_text.ensures.1 few.0 few.1 log_document knows)
+    (sound_sent w c.args.i client c.take_text.new.client text c.sequence_text.new.self.log_document c.sequence_text.new.self.known c.sequence_text.new.self.logged c.requires.sound at c.in-Some-take_text.ensures.0 c.in-Some-take_text.ensures.1 few.0 few.1 noted knows)
+
+pub sequence_text-requires-clause-connected : goal.sequence_text-requires-clause-connected
+sequence_text-requires-clause-connected c =
+    let w = c.args.self.now in
+    let client = c.in-Some-get_mut.client.now in
+    let text = c.in-Some-take_text.text in
+    let at = sym c.in-Some-get_mut.ensures.value in
+    let same : c.take_text.new.client.session ≡ client.session = ap (λ (x : Client). x.session) c.in-Some-take_text.ensures.1 in
+    subst (AreConnected (log_with w.lists.log client.session text)) (sym (sessions_stay w.lists.clients c.args.i client c.take_text.new.client at same))
+    (sent_connected w c.args.i client text c.take_text.new.client.queue c.requires.sound at c.in-Some-take_text.ensures.0)
