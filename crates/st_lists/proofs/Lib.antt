@@ -1,3 +1,4 @@
 pub mod Logs
+pub mod Present
 pub mod Minima
 pub mod Names

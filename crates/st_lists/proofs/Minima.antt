@@ -1,5 +1,5 @@
--- Where all clients are connected and no other session has entries, the minimum is the least known reference of the clients.
-use Rattle.std.proofs.Common.{◌≡◌, ◌≤◌, ◌<◌, ◌+◌, ◌-◌, ◌==◌, ℕ, zero, suc, Bool, true, false, cond, min, nat_le, List, [], ◌∷◌, ◌++◌, length, length-append, map, take, Option, Some, None, unwrap_or, refl, sym, ap, ◌∙◌, subst, arith, ◌⊎◌, inl, inr}
+-- Where the clients that are connected are the sessions that are, the minimum is the least known reference of those clients.
+use Rattle.std.proofs.Common.{◌≡◌, ◌≤◌, ◌<◌, ◌+◌, ◌-◌, ◌==◌, ℕ, zero, suc, Bool, true, false, cond, min, nat_le, List, [], ◌∷◌, ◌++◌, length, length-append, filter, take, Option, Some, None, unwrap_or, refl, sym, ap, ◌∙◌, subst, arith, ◌⊎◌, inl, inr}
 use Rattle.std.specs.List.{fold, slice_get, slice_set}
 use Rattle.std.proofs.lemmas.Bool.Decides.{nat_tests}
 use Rattle.std.proofs.lemmas.List.{take-append-le, take_all}
@@ -47,11 +47,33 @@ least_of_more {X} {Y} g f n xs ys among = go (least_one f n ys)
     go (inl e) = omega (arith, least_start g n xs, e)
     go (inr w) = let x = among w.0 w.1 in omega (arith, least_item g n xs x.0 x.1, x.2, w.2)
 
--- where all items count, none is left out
-all_counted : {X : Type 0} (p : X → Bool) (g : X → ℕ) (n : ℕ) (xs : List X) → ((x : X) → Has xs x → p x ≡ true) → fold (λ m x. cond (p x) (min m (g x)) m) n xs ≡ fold (lower g) n xs
-all_counted p g n [] all = refl
-all_counted p g n (x ∷ xs) all =
-    ap (λ b. fold (λ m y. cond (p y) (min m (g y)) m) (cond b (min n (g x)) n) xs) (all x (inl refl)) ∙ all_counted p g (min n (g x)) xs (λ y i. all y (inr i))
+-- those that count are those that pass the test
+counted : {X : Type 0} (p : X → Bool) (g : X → ℕ) (n : ℕ) (xs : List X) → fold (λ m x. cond (p x) (min m (g x)) m) n xs ≡ fold (lower g) n (filter p xs)
+counted p g n [] = refl
+counted {X} p g n (x ∷ xs) = go (p x) refl (λ m. counted p g m xs)
+  where
+    go : (b : Bool) → p x ≡ b → ((m : ℕ) → fold (λ m y. cond (p y) (min m (g y)) m) m xs ≡ fold (lower g) m (filter p xs)) → fold (λ m y. cond (p y) (min m (g y)) m) (cond b (min n (g x)) n) xs ≡ fold (lower g) n (cond b (x ∷ filter p xs) (filter p xs))
+    go true e rest = rest (min n (g x))
+    go false e rest = rest n
+
+in_filter : {X : Type 0} (p : X → Bool) (xs : List X) (x : X) → Has xs x → p x ≡ true → Has (filter p xs) x
+in_filter p [] x h e = absurd h
+in_filter {X} p (y ∷ ys) x h e = go (p y) refl h (λ k. in_filter p ys x k e)
+  where
+    go : (b : Bool) → p y ≡ b → Has (y ∷ ys) x → (Has ys x → Has (filter p ys) x) → Has (cond b (y ∷ filter p ys) (filter p ys)) x
+    go true q (inl same) rest = inl same
+    go true q (inr h) rest = inr (rest h)
+    go false q (inl same) rest = let bad : true ≡ false = sym e ∙ ap p (sym same) ∙ q in absurd (cc)
+    go false q (inr h) rest = rest h
+
+of_filter : {X : Type 0} (p : X → Bool) (xs : List X) (x : X) → Has (filter p xs) x → Has xs x × (p x ≡ true)
+of_filter p [] x h = absurd h
+of_filter {X} p (y ∷ ys) x h = go (p y) refl h (λ k. of_filter p ys x k)
+  where
+    go : (b : Bool) → p y ≡ b → Has (cond b (y ∷ filter p ys) (filter p ys)) x → (Has (filter p ys) x → Has ys x × (p x ≡ true)) → Has (y ∷ ys) x × (p x ≡ true)
+    go true q (inl same) rest = (inl same, ap p (sym same) ∙ q)
+    go true q (inr h) rest = let w = rest h in (inr w.0, w.1)
+    go false q h rest = let w = rest h in (inr w.0, w.1)
 
 -- ## Sessions that are connected
 
@@ -72,74 +94,19 @@ connected_entry session log h = go (connected_from session false log h)
     go (inl q) = absurd (cc)
     go (inr w) = w
 
-connected_later : (session other : ℕ) (log : List Entry) (body : Body) → connected_after true body ≡ true → is_connected session log ≡ true → is_connected session (log_with log other body) ≡ true
-connected_later session other log body stays h =
-    fold-append (connected_by session) false log (last_entry log other body ∷ []) ∙ ap (λ b. connected_by session b (last_entry log other body)) h ∙ go (other == session)
-  where
-    go : (b : Bool) → cond b (connected_after true body) true ≡ true
-    go true = stays
-    go false = refl
-
-connected_joined : (session : ℕ) (log : List Entry) → is_connected session (log_with log session Join) ≡ true
-connected_joined session log =
-    fold-append (connected_by session) false log (last_entry log session Join ∷ []) ∙ ap (λ b. cond b true (is_connected session log)) (itself session)
-  where
-    itself : (n : ℕ) → (n == n) ≡ true
-    itself n = grind (arith, nat_tests)
-
 pub text_stays : (text : Body) → is_text text ≡ true → connected_after true text ≡ true
 text_stays Join h = refl
 text_stays Leave h = cc
 text_stays (Ack reference) h = refl
 text_stays (Commit reference intent) h = refl
 
--- an entry of one of them
-pub connected_entered : (log : List Entry) (sessions : List ℕ) (session : ℕ) (text : Body) → is_text text ≡ true → Has sessions session → AreConnected log sessions → AreConnected (log_with log session text) sessions
-connected_entered log sessions session text is among w = record {
-  all = λ s i. connected_later s session log text (text_stays text is) (w.all s i);
-  no_other = λ e i. go e (has-append log (last_entry log session text ∷ []) e i);
-}
-  where
-    go : (e : Entry) → Has log e ⊎ Has (last_entry log session text ∷ []) e → Has sessions e.session
-    go e (inl i) = w.no_other e i
-    go e (inr (inl same)) = subst (Has sessions) (ap (λ (x : Entry). x.session) same) among
-    go e (inr (inr i)) = absurd i
-
--- one more
-pub connected_more : (log : List Entry) (sessions : List ℕ) (session : ℕ) → AreConnected log sessions → AreConnected (log_with log session Join) (sessions ++ session ∷ [])
-connected_more log sessions session w = record {
-  all = λ s i. either s (has-append sessions (session ∷ []) s i);
-  no_other = λ e i. go e (has-append log (last_entry log session Join ∷ []) e i);
-}
-  where
-    either : (s : ℕ) → Has sessions s ⊎ Has (session ∷ []) s → is_connected s (log_with log session Join) ≡ true
-    either s (inl i) = connected_later s session log Join refl (w.all s i)
-    either s (inr (inl same)) = subst (λ n. is_connected n (log_with log session Join) ≡ true) same (connected_joined session log)
-    either s (inr (inr i)) = absurd i
-
-    go : (e : Entry) → Has log e ⊎ Has (last_entry log session Join ∷ []) e → Has (sessions ++ session ∷ []) e.session
-    go e (inl i) = append_left sessions (session ∷ []) e.session (w.no_other e i)
-    go e (inr (inl same)) = append_right sessions (session ∷ []) e.session (inl (ap (λ (x : Entry). x.session) same))
-    go e (inr (inr i)) = absurd i
-
--- a client that goes on keeps its session
-pub sessions_stay : (clients : List Client) (i : ℕ) (c d : Client) → slice_get clients i ≡ Some c → d.session ≡ c.session → map (λ (x : Client). x.session) (slice_set clients i d) ≡ map (λ (x : Client). x.session) clients
-sessions_stay [] i c d at same = refl
-sessions_stay (x ∷ xs) zero c d at same = let here : x ≡ c = cc in ap (λ n. n ∷ map (λ (x : Client). x.session) xs) (same ∙ ap (λ (y : Client). y.session) (sym here))
-sessions_stay (x ∷ xs) (suc i) c d at same = ap (λ l. x.session ∷ l) (sessions_stay xs i c d at same)
-
-pub client_session : (clients : List Client) (i : ℕ) (c : Client) → slice_get clients i ≡ Some c → Has (map (λ (x : Client). x.session) clients) c.session
-client_session [] i c at = cc
-client_session (x ∷ xs) zero c at = let here : x ≡ c = cc in inl (ap (λ (y : Client). y.session) here)
-client_session (x ∷ xs) (suc i) c at = inr (client_session xs i c at)
-
 -- ## The minimum
 
-pub minimum_of_clients : (log : List Entry) (clients : List Client) → AreConnected log (map (λ (c : Client). c.session) clients) → fold (λ least (c : Client). min least (known_reference c.session log)) (length log) clients ≡ minimum log
-minimum_of_clients log clients w = both ∙ sym counted
+pub minimum_of_clients : (log : List Entry) (clients : List Client) → AreConnected log clients → fold (λ least (c : Client). cond c.connected (min least (known_reference c.session log)) least) (length log) clients ≡ minimum log
+minimum_of_clients log clients w = counted (λ (c : Client). c.connected) by_client (length log) clients ∙ both ∙ sym (counted is_on by_entry (length log) log)
   where
-    sessions : List ℕ
-    sessions = map (λ (c : Client). c.session) clients
+    is_on : Entry → Bool
+    is_on e = is_connected e.session log
 
     by_client : Client → ℕ
     by_client c = known_reference c.session log
@@ -147,27 +114,40 @@ minimum_of_clients log clients w = both ∙ sym counted
     by_entry : Entry → ℕ
     by_entry e = known_reference e.session log
 
-    counted : minimum log ≡ fold (lower by_entry) (length log) log
-    counted = all_counted (λ (e : Entry). is_connected e.session log) by_entry (length log) log (λ e i. w.all e.session (w.no_other e i))
+    there : List Client
+    there = filter (λ (c : Client). c.connected) clients
 
-    low : fold (lower by_client) (length log) clients ≤ fold (lower by_entry) (length log) log
-    low = least_of_more by_client by_entry (length log) clients log
-        (λ e i. let c = has-map (λ (x : Client). x.session) clients e.session (w.no_other e i) in (c.0, c.1, ap (λ s. known_reference s log) c.2))
+    client_of : (e : Entry) → Has (filter is_on log) e → (c : Client) × Has there c × (by_client c ≡ by_entry e)
+    client_of e i =
+        let on = of_filter is_on log e i in
+        let c = w.no_other e.session on.1 in
+        let mine : c.0.connected ≡ true = sym (w.each c.0 c.1) ∙ ap (λ s. is_connected s log) c.2 ∙ on.1 in
+        (c.0, in_filter (λ (c : Client). c.connected) clients c.0 c.1 mine, ap (λ s. known_reference s log) c.2)
 
-    high : fold (lower by_entry) (length log) log ≤ fold (lower by_client) (length log) clients
-    high = least_of_more by_entry by_client (length log) log clients
-        (λ c i. let e = connected_entry c.session log (w.all c.session (map-has (λ (x : Client). x.session) clients c i)) in (e.0, e.1, ap (λ s. known_reference s log) e.2))
+    entry_of : (c : Client) → Has there c → (e : Entry) × Has (filter is_on log) e × (by_entry e ≡ by_client c)
+    entry_of c i =
+        let on = of_filter (λ (c : Client). c.connected) clients c i in
+        let mine : is_connected c.session log ≡ true = w.each c on.0 ∙ on.1 in
+        let e = connected_entry c.session log mine in
+        (e.0, in_filter is_on log e.0 e.1 (ap (λ s. is_connected s log) e.2 ∙ mine), ap (λ s. known_reference s log) e.2)
 
-    both : fold (lower by_client) (length log) clients ≡ fold (lower by_entry) (length log) log
+    low : fold (lower by_client) (length log) there ≤ fold (lower by_entry) (length log) (filter is_on log)
+    low = least_of_more by_client by_entry (length log) there (filter is_on log) client_of
+
+    high : fold (lower by_entry) (length log) (filter is_on log) ≤ fold (lower by_client) (length log) there
+    high = least_of_more by_entry by_client (length log) (filter is_on log) there entry_of
+
+    both : fold (lower by_client) (length log) there ≡ fold (lower by_entry) (length log) (filter is_on log)
     both = omega (arith, low, high)
 
 -- by the references that are kept
-least_same : (f g : ℕ → ℕ) → ((s : ℕ) → f s ≡ g s) → (n : ℕ) (clients : List Client) → fold (λ least (c : Client). min least (f c.session)) n clients ≡ fold (λ least (c : Client). min least (g c.session)) n clients
+least_same : (f g : ℕ → ℕ) → ((s : ℕ) → f s ≡ g s) → (n : ℕ) (clients : List Client) → fold (λ least (c : Client). cond c.connected (min least (f c.session)) least) n clients ≡ fold (λ least (c : Client). cond c.connected (min least (g c.session)) least) n clients
 least_same f g same n [] = refl
-least_same f g same n (c ∷ cs) = ap (λ m. fold (λ least (x : Client). min least (f x.session)) (min n m) cs) (same c.session) ∙ least_same f g same (min n (g c.session)) cs
+least_same f g same n (c ∷ cs) =
+    ap (λ m. fold (λ least (x : Client). cond x.connected (min least (f x.session)) least) (cond c.connected (min n m) n) cs) (same c.session) ∙ least_same f g same (cond c.connected (min n (g c.session)) n) cs
 
-pub minimum_kept : (log : List Entry) (clients : List Client) (known : _) → AreKnown log known → AreConnected log (map (λ (c : Client). c.session) clients)
-    → fold (λ least (c : Client). min least (known_so_far known c.session)) (length log) clients ≡ minimum log
+pub minimum_kept : (log : List Entry) (clients : List Client) (known : _) → AreKnown log known → AreConnected log clients
+    → fold (λ least (c : Client). cond c.connected (min least (known_so_far known c.session)) least) (length log) clients ≡ minimum log
 minimum_kept log clients known knows w = least_same (known_so_far known) (λ s. known_reference s log) knows (length log) clients ∙ minimum_of_clients log clients w
 
 -- ## The minima after each entry

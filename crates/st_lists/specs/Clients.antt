@@ -1,11 +1,12 @@
 -- The clients of a world: who is there, and what a client's own steps make of its lists.
-use Rattle.std.specs.Prelude.{ℕ, ◌+◌, ◌==◌, ◌&&◌, Bool, List, [], ◌∷◌, ◌++◌, drop, take, position, slice_get, nat_eq, Option, Some, None, is_some, option_map, option_and_then, if◌then◌else◌}
+use Rattle.std.specs.Prelude.{ℕ, ◌+◌, ◌==◌, ◌&&◌, Bool, true, false, List, length, map, [], ◌∷◌, ◌++◌, drop, take, position, slice_get, nat_eq, Option, Some, None, is_some, option_map, option_and_then, if◌then◌else◌}
 use Rattle.std.specs.Cmp.Lexicographic.{pointwise}
 use Rattle.st_ids.specs.declared.names.Rev.{Rev}
 use Rattle.st_marks.specs.declared.intents.Intent.{Intent}
 use Rattle.st_marks.specs.Document.{Document}
 use Rattle.st_marks.specs.Run.{Run}
-use Rattle.st_lists.specs.Log.{commit_of, commits_in}
+use Rattle.st_lists.specs.Log.{commit_of, commits_in, waiting}
+use Rattle.st_lists.specs.declared.lists.Body.{Body}
 use Rattle.st_lists.specs.declared.lists.Body.TheVariants.{Ack, Commit}
 use Rattle.st_lists.specs.declared.lists.Client.{Client}
 use Rattle.st_lists.specs.declared.lists.Entry.{Entry}
@@ -27,7 +28,7 @@ client_named name clients = option_and_then (λ i. option_map (λ c. (i, c)) (sl
 
 -- a new client has received all of the log, with its own join
 abbrev pub new_client : ℕ → ℕ → List ℕ → Client
-new_client n session name = record { name = name; session = session; received = n; ids = 0; pending = []; transaction = None; queue = [] }
+new_client n session name = record { name = name; session = session; connected = true; received = n; ids = 0; pending = []; transaction = None; queue = [] }
 
 -- ## The commits of a client
 
@@ -43,11 +44,15 @@ HasReceived O log c D = Run O (received_by log c) D
 abbrev pub next_rev : Client → Rev
 next_rev c = record { session = c.session; num = c.ids + 1 }
 
--- a commit is pending, and its text waits in the queue
+-- a text waits in the queue of a client that is connected; one that isn't has no queue
+abbrev pub queue_with : Client → Body → List Body
+queue_with c text = if c.connected then c.queue ++ text ∷ [] else c.queue
+
+-- a commit is pending, and its text waits
 abbrev pub with_commit : Client → Intent → Client
 with_commit c intent = record c {
   pending = c.pending ++ intent ∷ [];
-  queue = c.queue ++ Commit c.received intent ∷ [];
+  queue = queue_with c (Commit c.received intent);
 }
 
 -- the same, with an id generated for it
@@ -95,3 +100,19 @@ pending_after e c = if is_own e c then drop 1 c.pending else c.pending
 
 abbrev pub with_received : Entry → Client → Client
 with_received e c = record c { received = c.received + 1; pending = pending_after e c }
+
+-- ## Leaving and coming back
+
+-- a client that is dropped has no queue; what is pending and edited stays
+abbrev pub without_connection : Client → Client
+without_connection c = record c { connected = false; queue = [] }
+
+-- one that comes back has received the whole log, with its new join as the last entry; what was in no log is pending
+-- still, and waits with the join's number as its reference
+abbrev pub with_connection : List Entry → Client → Client
+with_connection log c = record c {
+  connected = true;
+  received = length log + 1;
+  pending = waiting log c;
+  queue = map (Commit (length log + 1)) (waiting log c);
+}

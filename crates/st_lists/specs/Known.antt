@@ -4,6 +4,7 @@ use Rattle.std.specs.BTreeMap.{BTreeMap, get}
 use Rattle.std.specs.Ordering.{nat_cmp}
 use Rattle.st_ids.specs.Listing.{Has}
 use Rattle.st_lists.specs.Log.{is_connected, known_reference, minimum}
+use Rattle.st_lists.specs.declared.lists.Client.{Client}
 use Rattle.st_lists.specs.declared.lists.Entry.{Entry}
 
 abbrev pub known_so_far : BTreeMap ℕ ℕ → ℕ → ℕ
@@ -13,10 +14,10 @@ known_so_far known session = unwrap_or (get nat_cmp known session) 0
 abbrev pub AreKnown : List Entry → BTreeMap ℕ ℕ → Type 0
 AreKnown log known = (session : ℕ) → known_so_far known session ≡ known_reference session log
 
--- these sessions are the ones that are connected, and no other has an entry
-pub record AreConnected (log : List Entry) (sessions : List ℕ) : Type 0 where
-  pub all : (session : ℕ) → Has sessions session → is_connected session log ≡ true
-  pub no_other : (e : Entry) → Has log e → Has sessions e.session
+-- a client is connected exactly where its session is, and the sessions that are connected are clients'
+pub record AreConnected (log : List Entry) (clients : List Client) : Type 0 where
+  pub each : (c : Client) → Has clients c → is_connected c.session log ≡ c.connected
+  pub no_other : (session : ℕ) → is_connected session log ≡ true → (c : Client) × Has clients c × (c.session ≡ session)
 
 -- the minimum after each entry, in order
 pub record AreMinima (log : List Entry) (minima : List ℕ) : Type 0 where

@@ -1,5 +1,5 @@
 -- The log: its commits, and what its entries say of how much each session had received.
-use Rattle.std.specs.Prelude.{ℕ, ◌+◌, ◌-◌, ◌==◌, min, max, Bool, true, false, List, [], ◌∷◌, ◌++◌, length, take, filter, fold, Option, Some, None, if◌then◌else◌}
+use Rattle.std.specs.Prelude.{ℕ, ◌+◌, ◌-◌, ◌==◌, min, max, Bool, true, false, List, [], ◌∷◌, ◌++◌, length, take, drop, filter, fold, Option, Some, None, if◌then◌else◌}
 use Rattle.std.specs.List.{filter_map, cons_option}
 use Rattle.st_marks.specs.declared.intents.Intent.{Intent}
 use Rattle.st_lists.specs.declared.lists.Body.{Body}
@@ -35,6 +35,10 @@ reference_in n (Commit reference intent) = reference
 
 abbrev pub reference_of : Entry → ℕ
 reference_of e = reference_in e.n e.body
+
+-- sessions are counted from 1 by their first joins: so many are there in a log
+abbrev pub sessions_in : List Entry → ℕ
+sessions_in log = fold (λ most (e : Entry). max most e.session) 0 log
 
 -- the known reference of a session: the greatest that its entries say
 abbrev pub with_reference : ℕ → ℕ → Entry → ℕ
@@ -87,6 +91,14 @@ intents_of texts = filter_map commit_in texts
 abbrev pub commits_by : ℕ → List Entry → List Intent
 commits_by s entries = commits_in (filter (λ (e : Entry). e.session == s) entries)
 
--- all commits that are in the log, and those of a client that are on their way there
-abbrev pub log_and_queue : List Entry → Client → List Intent
-log_and_queue log c = commits_in log ++ intents_of c.queue
+-- those of a client in the log that it has not received
+abbrev pub own_in_flight : List Entry → Client → List Intent
+own_in_flight log c = commits_by c.session (drop c.received log)
+
+-- its pending ones that are in no log
+abbrev pub waiting : List Entry → Client → List Intent
+waiting log c = drop (length (own_in_flight log c)) c.pending
+
+-- all commits that are in the log, and those of a client that wait to get there
+abbrev pub log_and_waiting : List Entry → Client → List Intent
+log_and_waiting log c = commits_in log ++ waiting log c

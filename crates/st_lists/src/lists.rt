@@ -39,12 +39,13 @@ pub struct Transaction {
     pub cells: u32,
 }
 
-/// A client: how many entries it received, how many ids it generated, its commits that it has not received back, the
-/// transaction that is open on its main branch, and the texts that are not in the log yet.
+/// A client: whether it is connected, how many entries it received, how many ids it generated, its commits that it has not
+/// received back, the transaction that is open on its main branch, and the texts that are not in the log yet.
 #[derive(Drop)]
 pub struct Client {
     pub name: Text,
     pub session: u32,
+    pub connected: bool,
     pub received: u32,
     pub ids: u32,
     pub pending: List<Intent>,

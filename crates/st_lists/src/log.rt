@@ -1,8 +1,7 @@
 //! The log, and how much of it each session is known to have received.
-ghost use Rattle.std.specs.Prelude.{◌≡◌, ℕ, List as Seq, ◌+◌, ◌-◌, ◌^◌, ◌<◌, ◌≤◌, length, fold, map, min, slice_get, unwrap_or, OnOk};
+ghost use Rattle.std.specs.Prelude.{◌≡◌, ℕ, List as Seq, ◌+◌, ◌-◌, ◌^◌, ◌<◌, ◌≤◌, length, fold, min, slice_get, unwrap_or, OnOk, if◌then◌else◌};
 ghost use Rattle.st_lists.specs.Log.{floor, log_with, minimum, reference_of, with_reference};
 ghost use Rattle.st_lists.specs.Known.{known_so_far, AreConnected, AreKnown, AreMinima};
-ghost use Rattle.st_lists.specs.declared.lists.Client.{Client as Present};
 ghost use Rattle.st_lists.specs.declared.lists.Entry.{Entry as Logged};
 
 use crate::lists::{Body, Client, Entry};
@@ -57,23 +56,25 @@ pub fn append_entry(
     Ok(())
 }
 
-// The least known reference of the clients; with no client, `number`.
+// The least known reference of the clients that are connected; with none, `number`.
 fn least_known(clients: &[Client], known: &BTreeMap<u32, u32>, number: u32) -> u32
-    ensures { result ≡ fold (λ least c. min least (known_so_far known.now c.session)) number clients.now }
+    ensures { result ≡ fold (λ least c. if c.connected then min least (known_so_far known.now c.session) else least) number clients.now }
 {
     let mut least = number;
     for client in clients {
-        least = least.min(known_so_far(known, client.session));
+        if client.connected {
+            least = least.min(known_so_far(known, client.session));
+        }
     }
     least
 }
 
-/// The minimum after the whole log: the least known reference of the clients, who are all connected. It takes the time of
-/// a look-up for each of them.
+/// The minimum after the whole log: the least known reference of the clients that are connected. It takes the time of a
+/// look-up for each of them.
 pub fn minimum(log: &[Entry], clients: &[Client], known: &BTreeMap<u32, u32>) -> u32
     requires few { length log.now < 2 ^ 32 }
     requires known { AreKnown log.now known.now }
-    requires connected { AreConnected log.now (map (λ (c : Present). c.session) clients.now) }
+    requires connected { AreConnected log.now clients.now }
     ensures { result ≡ minimum log.now }
 {
     least_known(clients, known, log.len() as u32)
