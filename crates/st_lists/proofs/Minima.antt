@@ -94,12 +94,6 @@ connected_entry session log h = go (connected_from session false log h)
     go (inl q) = absurd (cc)
     go (inr w) = w
 
-pub text_stays : (text : Body) → is_text text ≡ true → connected_after true text ≡ true
-text_stays Join h = refl
-text_stays Leave h = cc
-text_stays (Ack reference) h = refl
-text_stays (Commit reference intent) h = refl
-
 -- ## The minimum
 
 pub minimum_of_clients : (log : List Entry) (clients : List Client) → AreConnected log clients → fold (λ least (c : Client). cond c.connected (min least (known_reference c.session log)) least) (length log) clients ≡ minimum log

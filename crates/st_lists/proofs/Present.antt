@@ -7,9 +7,9 @@ use Rattle.st_ids.specs.Listing.{AreDistinct, Has}
 use Rattle.st_ids.proofs.Shared.{at_has}
 use Rattle.st_marks.proofs.Members.{all-has, append_left, append_right, distinct-append, has-append}
 use Rattle.st_lists.specs.Known.{AreConnected}
-use Rattle.st_lists.specs.Log.{connected_after, connected_by, is_connected, log_with, sessions_in}
+use Rattle.st_lists.specs.Log.{connected_after, connected_by, is_connected, is_text, log_with, sessions_in}
 use Rattle.st_lists.specs.declared.lists.Body.{Body}
-use Rattle.st_lists.specs.declared.lists.Body.TheVariants.{Join, Leave}
+use Rattle.st_lists.specs.declared.lists.Body.TheVariants.{Join, Leave, Ack, Commit}
 use Rattle.st_lists.specs.declared.lists.Client.{Client}
 use Rattle.st_lists.specs.declared.lists.Entry.{Entry}
 use Rattle.st_lists.proofs.Logs.{last_entry}
@@ -140,6 +140,13 @@ are_apart n m apart = go (n == m) refl
 
 pub not_same : (n m : ℕ) → (n == m) ≡ false → m ≢ n
 not_same n m e same = let back : n ≡ m = sym same in grind (arith, nat_tests)
+
+-- a text leaves it connected or not
+pub text_stays : (b : Bool) (text : Body) → is_text text ≡ true → connected_after b text ≡ b
+text_stays b Join h = cc
+text_stays b Leave h = cc
+text_stays b (Ack reference) h = refl
+text_stays b (Commit reference intent) h = refl
 
 abbrev pub session_of : Client → ℕ
 session_of c = c.session

@@ -21,6 +21,10 @@ names_limit_passed c N = if nat_lt 16384 (unsequenced c + names_made N) then Som
 abbrev pub limit_passed : Client → Intent → Option Limit
 limit_passed c N = option_or (pending_limit_passed c) (names_limit_passed c N)
 
+-- the limit that one more entry would pass: at most 65,535 entries
+abbrev pub entries_limit_passed : List Entry → Option Limit
+entries_limit_passed log = if nat_le 65535 (length log) then Some (record { of = Log; kept = length log }) else None
+
 -- the limit that an entry with so many names would pass: at most 65,535 entries, which make at most 131,072 names
 abbrev pub log_limit_passed : List Entry → ℕ → Option Limit
 log_limit_passed log made =

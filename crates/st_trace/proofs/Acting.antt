@@ -128,7 +128,7 @@ module _ (w : World) (i : ℕ) (c : Client) (k : Replica) (s : IsSound w) (at_c 
   module _ (c' : Client) (k' : Replica) where
     pub sound_goes : GoesOn h (start_of w w.steps s) log w.lists.clients i c c' → IsReplicaOf h log c' k'
         → IsSoundAfter (w.steps + 1) (record w { lists = record w.lists { clients = slice_set w.lists.clients i c' }; kept = slice_set w.kept i k' })
-    sound_goes g kept = sound_client w i c c' k' s at_c (record { client = g.client; kept = kept }) g.session g.ids g.keeps
+    sound_goes g kept = sound_client w i c c' k' s at_c (record { client = g.client; kept = kept }) g.session g.connected g.ids g.keeps
 
     pub stays_kept : c' ≡ c → k' ≡ k → IsReplicaOf h log c' k'
     stays_kept same same_k = subst (λ x. IsReplicaOf h log x k') (sym same) (subst (λ x. IsReplicaOf h log c x) (sym same_k) one.kept)

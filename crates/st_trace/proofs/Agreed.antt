@@ -1,6 +1,6 @@
 -- The commits of the log, and those that each client shows, agree with the schema, whoever makes a step.
-use Rattle.std.proofs.Common.{◌≡◌, ◌≤◌, ◌<◌, ◌+◌, ◌==◌, ℕ, zero, suc, Bool, true, false, List, [], ◌∷◌, ◌++◌, length, take, drop, Option, Some, None, IfSome, IsSome, is_some, Result, Ok, Err, refl, sym, ap, ◌∙◌, subst, arith, append_assoc, length-append, ◌⊎◌, inl, inr}
-use Rattle.std.specs.List.{slice_get, slice_set, AllByRecursion}
+use Rattle.std.proofs.Common.{◌≡◌, ◌≢◌, ◌≤◌, ◌<◌, ◌+◌, ◌==◌, ℕ, zero, suc, Bool, true, false, List, [], ◌∷◌, ◌++◌, length, take, drop, Option, Some, None, IfSome, IsSome, is_some, Result, Ok, Err, refl, sym, ap, ◌∙◌, subst, arith, append_assoc, length-append, ◌⊎◌, inl, inr}
+use Rattle.std.specs.List.{cons_option, remove, slice_get, slice_set, AllByRecursion}
 use Rattle.std.proofs.lemmas.Bool.Decides.{nat_tests}
 use Rattle.std.proofs.lemmas.List.{append-nil, take_all}
 use Rattle.st_ids.specs.Listing.{Has}
@@ -47,24 +47,26 @@ use Rattle.st_marks.proofs.Later.{row_later}
 use Rattle.st_schema_laws.proofs.Opened.{allowed_conforms}
 use Rattle.st_script.specs.Header.{HeaderView}
 use Rattle.st_script.specs.declared.answer.Answer.{Answer}
-use Rattle.st_trace.specs.Replicas.{EditsKeepSchema, HasMain, HaveSessionsFrom, IsClient, IsHeader, IsTransaction, KeepSchemaWith, KeepToSchema}
-use Rattle.st_lists.specs.Log.{commits_by, commits_of_text, intents_of, log_and_queue}
-use Rattle.st_lists.specs.Log.{commit_of, commits_in, log_with}
-use Rattle.st_lists.specs.Clients.{joined_of, next_rev, with_ack, with_commit, with_edited, with_new_commit, with_transaction, without_transaction, new_client, pending_after, received_by, with_received}
+use Rattle.st_trace.specs.Replicas.{EditsKeepSchema, HasMain, HaveOwnSessions, IsClient, IsHeader, IsTransaction, KeepSchemaWith, KeepToSchema}
+use Rattle.st_lists.specs.Log.{commits_by, commits_of_text, intents_of, log_and_waiting, waiting}
+use Rattle.st_lists.specs.Log.{commit_in, commit_of, commits_in, log_with}
+use Rattle.st_lists.specs.Clients.{joined_of, next_rev, with_ack, with_commit, with_connection, without_connection, with_edited, with_new_commit, with_transaction, without_transaction, new_client, pending_after, received_by, with_received}
 use Rattle.st_trace.specs.World.{IsDeliveredTo, after_edit, cells_given, next_names, opening_document, with_pending}
 use Rattle.st_lists.specs.Limits.{limit_passed}
 use Rattle.st_lists.specs.Names.{names_in}
 use Rattle.st_trace.specs.declared.client.EditWord.{EditWord}
 use Rattle.st_lists.specs.declared.lists.Body.{Body}
-use Rattle.st_lists.specs.declared.lists.Body.TheVariants.{Join}
+use Rattle.st_lists.specs.declared.lists.Body.TheVariants.{Join, Leave}
 use Rattle.st_lists.specs.declared.lists.Client.{Client}
 use Rattle.st_lists.specs.declared.lists.Entry.{Entry}
 use Rattle.st_lists.specs.declared.lists.Transaction.{Transaction}
 use Rattle.st_trace.proofs.Begun.{IsStart, opens_allowed}
-use Rattle.st_trace.proofs.Clients.{next_new, other_fit, own_first, received_more, shown_among, shown_new, shown_sound}
+use Rattle.st_trace.proofs.Clients.{next_new, other_fit, own_first, queue_first, received_more, shown_among, shown_new, shown_sound}
 use Rattle.st_trace.proofs.Meant.{IsMeaning, IsMeant}
 use Rattle.st_trace.proofs.Parts.{edited_fits, follow}
-use Rattle.st_trace.proofs.Everyone.{all_get, all_set, session_at, set_same}
+use Rattle.st_trace.proofs.Everyone.{all_get, all_set, others_apart, set_same}
+use Rattle.st_ids.proofs.Shared.{at_has}
+use Rattle.st_lists.proofs.Present.{all_rest, are_apart}
 use Rattle.st_lists.proofs.Logs.{by_sublist, commits_split, entered_commits, entered_front, last_entry, no_commit, one_commit, text_first}
 use Rattle.st_lemmas.proofs.Lists.{AllByRecursion-append}
 
@@ -204,9 +206,9 @@ module _ (h : HeaderView) (st : IsStart (opening_document h)) where
       let B = commits_by c.session (drop c.received log) in
       let X = commits_of_text text in
       let R = intents_of rest in
-      let waiting : intents_of c.queue ≡ X ++ R = ap intents_of is ∙ text_first text rest in
+      let first : waiting log c ≡ X ++ R = (queue_first (waiting log c) c.connected c.queue rest text k.queued is).1 in
       let all : A ++ c.pending ≡ ((A ++ B) ++ X) ++ R =
-      ap (λ l. A ++ l) (k.under_way ∙ ap (λ l. B ++ l) waiting) ∙ sym (append_assoc A B (X ++ R)) ∙ sym (append_assoc (A ++ B) X R) in
+      ap (λ l. A ++ l) (k.under_way ∙ ap (λ l. B ++ l) first) ∙ sym (append_assoc A B (X ++ R)) ∙ sym (append_assoc (A ++ B) X R) in
       let among : IsSublist (A ++ B) (commits_in log) = subst (IsSublist (A ++ B)) (sym (commits_split c.received log)) (sublist_joined (sublist_itself A) (by_sublist c.session (drop c.received log))) in
       agree_longer h.schema home (opening_document h) (A ++ B) (commits_in log) X st.sound among (front ((A ++ B) ++ X) R (opening_document h) (subst (FitInTurn (opening_document h)) all k.shown_fit)) last_fit logged
       (agree_front h.schema home ((A ++ B) ++ X) R (opening_document h) (subst (Agree home) all shown))
@@ -244,16 +246,76 @@ module _ (h : HeaderView) (st : IsStart (opening_document h)) where
         },
       )
 
+  -- ## Sessions come and go
+
+  -- an entry without a commit leaves what agreed
+  entered_logged : (home : NodeId → Option FieldId) (log : List Entry) (session : ℕ) (body : Body) → commit_in body ≡ None → Agree home (commits_in log) → Agree home (commits_in (log_with log session body))
+  entered_logged home log session body none a =
+      subst (Agree home) (sym (entered_commits log session body ∙ ap (λ o. commits_in log ++ cons_option o []) none ∙ append-nil (commits_in log))) a
+
+  pub left_keeps : (log : List Entry) (cs : List Client) (i session : ℕ) → AllByRecursion (IsClient h log) cs → KeepToSchema h log cs → KeepToSchema h (log_with log session Leave) (remove cs i)
+  left_keeps log cs i session are w = (
+    w.0,
+    record {
+      start = w.1.start;
+      logged = entered_logged w.0 log session Leave refl w.1.logged;
+      shown = all_rest (Shown w.0 (log_with log session Leave)) cs i (all_entered w.0 log session Leave cs are w.1.shown);
+      edited = all_rest (Edited w.0 (log_with log session Leave)) cs i (all_edits_entered w.0 log session Leave cs are w.1.edited);
+    },
+  )
+
+  pub dropped_keeps : (log : List Entry) (cs : List Client) (i : ℕ) (c : Client) → AllByRecursion (IsClient h log) cs → slice_get cs i ≡ Some c → KeepToSchema h log cs → KeepToSchema h (log_with log c.session Leave) (slice_set cs i (without_connection c))
+  dropped_keeps log cs i c are at w =
+      let k = all_get (IsClient h log) cs i c are at in
+      let longer = log_with log c.session Leave in (
+        w.0,
+        record {
+          start = w.1.start;
+          logged = entered_logged w.0 log c.session Leave refl w.1.logged;
+          shown = all_set (Shown w.0 longer) cs i (without_connection c) (all_entered w.0 log c.session Leave cs are w.1.shown) (entered_shows w.0 log c.session Leave c k.within (all_get (Shown w.0 log) cs i c w.1.shown at));
+          edited = all_set (Edited w.0 longer) cs i (without_connection c) (all_edits_entered w.0 log c.session Leave cs are w.1.edited)
+              (entered_edits w.0 log c.session Leave c (without_connection c) k.within refl refl refl (all_get (Edited w.0 log) cs i c w.1.edited at));
+        },
+      )
+
+  -- what waits agrees after the whole log
+  waiting_agrees : (home : NodeId → Option FieldId) (log : List Entry) (c : Client) → IsClient h log c → Agree home (commits_in log) → Shown home log c → Agree home (log_and_waiting log c)
+  waiting_agrees home log c k logged shown =
+      let A = received_by log c in
+      let B = commits_by c.session (drop c.received log) in
+      let W = waiting log c in
+      let all : A ++ c.pending ≡ (A ++ B) ++ W = ap (λ l. A ++ l) k.under_way ∙ sym (append_assoc A B W) in
+      let among : IsSublist (A ++ B) (commits_in log) = subst (IsSublist (A ++ B)) (sym (commits_split c.received log)) (sublist_joined (sublist_itself A) (by_sublist c.session (drop c.received log))) in
+      agree_longer h.schema home (opening_document h) (A ++ B) (commits_in log) W st.sound among (subst (FitInTurn (opening_document h)) all k.shown_fit) k.sent_fit logged (subst (Agree home) all shown)
+
+  pub returned_keeps : (log : List Entry) (cs : List Client) (i : ℕ) (c : Client) → AllByRecursion (IsClient h log) cs → slice_get cs i ≡ Some c → c.transaction ≡ None → KeepToSchema h log cs → KeepToSchema h (log_with log c.session Join) (slice_set cs i (with_connection log c))
+  returned_keeps log cs i c are at none w =
+      let k = all_get (IsClient h log) cs i c are at in
+      let longer = log_with log c.session Join in
+      let d : Client = with_connection log c in
+      let size : length longer ≡ length log + 1 = omega (arith, length-append log (last_entry log c.session Join ∷ [])) in
+      let commits : commits_in log ≡ commits_in longer = sym (entered_commits log c.session Join ∙ append-nil (commits_in log)) in
+      let whole : take (length log + 1) longer ≡ longer = take_all (length log + 1) longer (omega (arith, size)) in
+      let all : log_and_waiting log c ≡ commits_in (take (length log + 1) longer) ++ waiting log c = ap (λ l. l ++ waiting log c) (commits ∙ ap commits_in (sym whole)) in (
+        w.0,
+        record {
+          start = w.1.start;
+          logged = entered_logged w.0 log c.session Join refl w.1.logged;
+          shown = all_set (Shown w.0 longer) cs i d (all_entered w.0 log c.session Join cs are w.1.shown) (subst (Agree w.0) all (waiting_agrees w.0 log c k w.1.logged (all_get (Shown w.0 log) cs i c w.1.shown at)));
+          edited = all_set (Edited w.0 longer) cs i d (all_edits_entered w.0 log c.session Join cs are w.1.edited) (nothing_edited w.0 longer d (ap (option_and_then (λ (t : Transaction). t.joined)) none));
+        },
+      )
+
   -- ## The homes of new nodes are told
 
   module _ (log : List Entry) (c : Client) (N : Intent) (k : IsClient h log c) (few : names_in (commits_in log) ≤ 131072) (itself : IsIntent N) (session : N.rev.session ≡ c.session)
-      (fresh : Has (revisions (log_and_queue log c) ++ opening ∷ []) N.rev → ⊥) (home : NodeId → Option FieldId) where
+      (fresh : Has (revisions (log_and_waiting log c) ++ opening ∷ []) N.rev → ⊥) (home : NodeId → Option FieldId) where
     -- no commit of the log and no client has its revision, nor has the opening
     not_opening : Has (opening ∷ []) N.rev → ⊥
-    not_opening i = fresh (append_right (revisions (log_and_queue log c)) (opening ∷ []) N.rev i)
+    not_opening i = fresh (append_right (revisions (log_and_waiting log c)) (opening ∷ []) N.rev i)
 
-    not_sent : (M : Intent) → Has (log_and_queue log c) M → M.rev ≡ N.rev → ⊥
-    not_sent M i e = fresh (append_left (revisions (log_and_queue log c)) (opening ∷ []) N.rev (subst (Has (revisions (log_and_queue log c))) e (map-has (λ (X : Intent). X.rev) (log_and_queue log c) M i)))
+    not_sent : (M : Intent) → Has (log_and_waiting log c) M → M.rev ≡ N.rev → ⊥
+    not_sent M i e = fresh (append_left (revisions (log_and_waiting log c)) (opening ∷ []) N.rev (subst (Has (revisions (log_and_waiting log c))) e (map-has (λ (X : Intent). X.rev) (log_and_waiting log c) M i)))
 
     not_among : (Ns : List Intent) → ((M : Intent) → Has Ns M → M.rev ≡ N.rev → ⊥) → Has (revisions Ns ++ opening ∷ []) N.rev → ⊥
     not_among Ns none i = elim (has-append (revisions Ns) (opening ∷ []) N.rev i) [
@@ -262,17 +324,17 @@ module _ (h : HeaderView) (st : IsStart (opening_document h)) where
     ]
 
     not_logged : Has (revisions (commits_in log) ++ opening ∷ []) N.rev → ⊥
-    not_logged = not_among (commits_in log) (λ M i e. not_sent M (append_left (commits_in log) (intents_of c.queue) M i) e)
+    not_logged = not_among (commits_in log) (λ M i e. not_sent M (append_left (commits_in log) (waiting log c) M i) e)
 
     not_shown : (d : Client) → IsClient h log d → (c.session == d.session) ≡ false → Has (revisions (received_by log d ++ d.pending) ++ opening ∷ []) N.rev → ⊥
-    not_shown d l apart = not_among (received_by log d ++ d.pending) (λ M i e. go M e (has-append (commits_in log) (intents_of d.queue) M (has_longer (shown_among h st log d l) M i)))
+    not_shown d l apart = not_among (received_by log d ++ d.pending) (λ M i e. go M e (has-append (commits_in log) (waiting log d) M (has_longer (shown_among h st log d l) M i)))
       where
         differ : c.session ≡ d.session → ⊥
         differ s = grind (arith, nat_tests)
 
-        go : (M : Intent) → M.rev ≡ N.rev → Has (commits_in log) M ⊎ Has (intents_of d.queue) M → ⊥
-        go M e (inl i) = not_sent M (append_left (commits_in log) (intents_of c.queue) M i) e
-        go M e (inr i) = differ (sym session ∙ ap (λ (r : Rev). r.session) (sym e) ∙ all-has (λ (X : Intent). X.rev.session ≡ d.session) (intents_of d.queue) M l.own i)
+        go : (M : Intent) → M.rev ≡ N.rev → Has (commits_in log) M ⊎ Has (waiting log d) M → ⊥
+        go M e (inl i) = not_sent M (append_left (commits_in log) (waiting log c) M i) e
+        go M e (inr i) = differ (sym session ∙ ap (λ (r : Rev). r.session) (sym e) ∙ all-has (λ (X : Intent). X.rev.session ≡ d.session) (waiting log d) M l.own i)
 
     -- the homes of its new nodes are told beside the others
     abbrev told : NodeId → Option FieldId
@@ -293,7 +355,7 @@ module _ (h : HeaderView) (st : IsStart (opening_document h)) where
 
     -- those of the log, and those that clients show, agree as before
     pub logged_told : Agree home (commits_in log) → Agree told (commits_in log)
-    logged_told a = keeps (commits_in log) (front (commits_in log) (intents_of c.queue) (opening_document h) k.sent_fit) not_logged a
+    logged_told a = keeps (commits_in log) (front (commits_in log) (waiting log c) (opening_document h) k.sent_fit) not_logged a
 
     pub line_told : Shown home log c → Shown told log c
     line_told shown = keeps (received_by log c ++ c.pending) k.shown_fit (shown_new h st log c N.rev k fresh) shown
@@ -324,44 +386,35 @@ module _ (h : HeaderView) (st : IsStart (opening_document h)) where
         go None is i a = tt
         go (Some t) is i a = by t t.joined is refl i a
 
-    apart_later : (d : Client) (n : ℕ) → d.session ≡ n → c.session < n → (c.session == d.session) ≡ false
-    apart_later d n e less = grind (arith, nat_tests)
-
-    apart_before : (d : Client) (n : ℕ) → d.session ≡ n → n < c.session → (c.session == d.session) ≡ false
-    apart_before d n e less = grind (arith, nat_tests)
-
     -- what holds of all clients by the homes of before holds of all by those that are told, and of the one that goes on
     module _ (P Q : Client → Type 0) (other : (d : Client) → IsClient h log d → (c.session == d.session) ≡ false → P d → Q d) where
-      later : (n : ℕ) (cs : List Client) → HaveSessionsFrom n cs → c.session < n → AllByRecursion (IsClient h log) cs → AllByRecursion P cs → AllByRecursion Q cs
-      later n [] s less are all = tt
-      later n (d ∷ cs) s less are all = (other d are.0 (apart_later d n s.0 less) all.0, later (n + 1) cs s.1 (omega (arith, less)) are.1 all.1)
+      later : (cs : List Client) → AllByRecursion (λ (x : Client). x.session ≢ c.session) cs → AllByRecursion (IsClient h log) cs → AllByRecursion P cs → AllByRecursion Q cs
+      later [] apart are all = tt
+      later (d ∷ cs) apart are all = (other d are.0 (are_apart c.session d.session apart.0) all.0, later cs apart.1 are.1 all.1)
 
-      all_told : (c' : Client) (n : ℕ) (cs : List Client) (i : ℕ) → HaveSessionsFrom n cs → slice_get cs i ≡ Some c → AllByRecursion (IsClient h log) cs → AllByRecursion P cs → Q c' → AllByRecursion Q (slice_set cs i c')
-      all_told c' n [] i s at are all own = tt
-      all_told c' n (d ∷ cs) zero s at are all own =
+      all_told : (c' : Client) (cs : List Client) (i : ℕ) → HaveOwnSessions cs → slice_get cs i ≡ Some c → AllByRecursion (IsClient h log) cs → AllByRecursion P cs → Q c' → AllByRecursion Q (slice_set cs i c')
+      all_told c' [] i s at are all own = tt
+      all_told c' (d ∷ cs) zero s at are all own =
           let same : d ≡ c = cc in
-          let here : c.session ≡ n = ap (λ (y : Client). y.session) (sym same) ∙ s.0 in
-          (own, later (n + 1) cs s.1 (omega (arith, here)) are.1 all.1)
-      all_told c' n (d ∷ cs) (suc i) s at are all own =
-          let far = session_at (n + 1) cs i c s.1 at in
-          (other d are.0 (apart_before d n s.0 (omega (arith, far))) all.0, all_told c' (n + 1) cs i s.1 at are.1 all.1 own)
+          (own, later cs (subst (λ (x : Client). AllByRecursion (λ (y : Client). y.session ≢ x.session) cs) same s.0) are.1 all.1)
+      all_told c' (d ∷ cs) (suc i) s at are all own = (other d are.0 (others_apart cs d c s.0 (at_has cs i c at)) all.0, all_told c' cs i s.1 at are.1 all.1 own)
 
     -- the client is now so
-    pub told_keeps : (cs : List Client) (i : ℕ) (c' : Client) → HaveSessionsFrom 1 cs → AllByRecursion (IsClient h log) cs → slice_get cs i ≡ Some c → KeepSchemaWith h log cs home → Shown told log c' → Edited told log c' → KeepToSchema h log (slice_set cs i c')
+    pub told_keeps : (cs : List Client) (i : ℕ) (c' : Client) → HaveOwnSessions cs → AllByRecursion (IsClient h log) cs → slice_get cs i ≡ Some c → KeepSchemaWith h log cs home → Shown told log c' → Edited told log c' → KeepToSchema h log (slice_set cs i c')
     told_keeps cs i c' sessions are at w shown edited = (
       told,
       record {
         start = start_told w.start;
         logged = logged_told w.logged;
-        shown = all_told (Shown home log) (Shown told log) other_told c' 1 cs i sessions at are w.shown shown;
-        edited = all_told (Edited home log) (Edited told log) other_edits_told c' 1 cs i sessions at are w.edited edited;
+        shown = all_told (Shown home log) (Shown told log) other_told c' cs i sessions at are w.shown shown;
+        edited = all_told (Edited home log) (Edited told log) other_edits_told c' cs i sessions at are w.edited edited;
       },
     )
 
   -- ## A commit is pending
 
   -- where no transaction is open
-  pub edited_keeps : (log : List Entry) (cs : List Client) (i : ℕ) (c c' : Client) (D : Document) (word : EditWord) (r : Result Intent EditFault) (a : Answer) → HaveSessionsFrom 1 cs → AllByRecursion (IsClient h log) cs → names_in (commits_in log) ≤ 131072
+  pub edited_keeps : (log : List Entry) (cs : List Client) (i : ℕ) (c c' : Client) (D : Document) (word : EditWord) (r : Result Intent EditFault) (a : Answer) → HaveOwnSessions cs → AllByRecursion (IsClient h log) cs → names_in (commits_in log) ≤ 131072
       → slice_get cs i ≡ Some c → c.transaction ≡ None → HasMain h log c D → IsMeaning h.schema D (next_names c None) word r → after_edit c word r ≡ (c', a) → KeepToSchema h log cs → KeepToSchema h log (slice_set cs i c')
   edited_keeps log cs i c c' D word (Err f) a sessions are few at none main means is w = same_keeps log cs i c c' at (ap (λ (p : Client × Answer). p.0) is) w
   edited_keeps log cs i c c' D word (Ok N) a sessions are few at none main means is w = go (limit_passed c N) is
@@ -458,7 +511,7 @@ module _ (h : HeaderView) (st : IsStart (opening_document h)) where
   whole_agrees home D None M K sound follow w here a b = subst (KeepsSchema h.schema home D) (sym w) b
   whole_agrees home D (Some J) M K sound follow w here a b = joined_agrees h.schema home D J M K sound follow w here a b
 
-  pub parted_keeps : (log : List Entry) (cs : List Client) (i : ℕ) (c : Client) (t : Transaction) (word : EditWord) (M K : Intent) → HaveSessionsFrom 1 cs → AllByRecursion (IsClient h log) cs → names_in (commits_in log) ≤ 131072
+  pub parted_keeps : (log : List Entry) (cs : List Client) (i : ℕ) (c : Client) (t : Transaction) (word : EditWord) (M K : Intent) → HaveOwnSessions cs → AllByRecursion (IsClient h log) cs → names_in (commits_in log) ≤ 131072
       → slice_get cs i ≡ Some c → c.transaction ≡ Some t → (x : IsTransaction h log c t) → IsMeant h.schema (with_open x.before t.joined) (next_names c (Some t)) word M → IsWithPart t.joined M K
       → KeepToSchema h log cs → KeepToSchema h log (slice_set cs i (with_transaction c (with_edited t K (length M.new) (cells_given word M))))
   parted_keeps log cs i c t word M K sessions are few at is x m w keeps =
@@ -467,7 +520,7 @@ module _ (h : HeaderView) (st : IsStart (opening_document h)) where
       let D = x.before in
       let told = with_homes home M in
       let session : M.rev.session ≡ c.session = ap (λ (r : Rev). r.session) m.rev ∙ x.session in
-      let fresh : Has (revisions (log_and_queue log c) ++ opening ∷ []) M.rev → ⊥ = λ q. x.new (subst (Has (revisions (log_and_queue log c) ++ opening ∷ [])) m.rev q) in
+      let fresh : Has (revisions (log_and_waiting log c) ++ opening ∷ []) M.rev → ⊥ = λ q. x.new (subst (Has (revisions (log_and_waiting log c) ++ opening ∷ [])) m.rev q) in
       let line = line_told log c M k few m.fits.itself session fresh home (all_get (Shown home log) cs i c keeps.1.shown at) in
       let sound = shown_sound h st log c D k x.main in
       let here : IsConforming h.schema told D = list_conforms h.schema told st.sound k.shown_fit (start_told log c M k few m.fits.itself session fresh home keeps.1.start) line x.main in

@@ -1,7 +1,7 @@
 -- What holds of a client's lists after each of its steps, and after those of others.
-use Rattle.std.proofs.Common.{◌≡◌, ◌≢◌, ◌≤◌, ◌<◌, ◌+◌, ◌==◌, ℕ, zero, suc, true, false, List, [], ◌∷◌, ◌++◌, length, take, drop, Option, Some, None, IfSome, is_some, refl, sym, ap, ◌∙◌, subst, arith, append_assoc, length-append, ◌⊎◌, inl, inr}
+use Rattle.std.proofs.Common.{◌≡◌, ◌≢◌, ◌≤◌, ◌<◌, ◌+◌, ◌==◌, ℕ, zero, suc, Bool, true, false, cond, List, [], ◌∷◌, ◌++◌, length, map, take, drop, Option, Some, None, IfSome, is_some, refl, sym, ap, ◌∙◌, subst, arith, append_assoc, length-append, ◌⊎◌, inl, inr}
 use Rattle.std.specs.List.{slice_get, cons_option, AllByRecursion}
-use Rattle.std.specs.Option.{option_map_or}
+use Rattle.std.specs.Option.{option_and_then, option_map_or}
 use Rattle.std.proofs.lemmas.Bool.Decides.{nat_tests}
 use Rattle.std.proofs.lemmas.List.{append-nil, take_all}
 use Rattle.std.proofs.lemmas.Option.{slice_get_within}
@@ -23,14 +23,14 @@ use Rattle.st_log_laws.proofs.Room.{room_in_run}
 use Rattle.st_log_laws.proofs.Shorter.{sublist_itself, sublist_joined, new_shorter, has_longer}
 use Rattle.st_log_laws.proofs.Beside.{another_later, later_fits, one_fits}
 use Rattle.st_script.specs.Header.{HeaderView}
-use Rattle.st_trace.specs.Replicas.{HasMain, IsClient, IsTransaction}
-use Rattle.st_lists.specs.Log.{commit_in, commits_by, commits_of_text, intents_of, is_text, log_and_queue}
+use Rattle.st_trace.specs.Replicas.{HasMain, IsClient, IsQueue, IsTransaction}
+use Rattle.st_lists.specs.Log.{commit_in, commits_by, commits_of_text, intents_of, is_text, log_and_waiting, own_in_flight, waiting}
 use Rattle.st_lists.specs.Log.{commit_of, commits_in, log_with}
-use Rattle.st_lists.specs.Clients.{HasReceived, joined_of, with_ack, with_commit, new_client, next_rev, received_by}
+use Rattle.st_lists.specs.Clients.{HasReceived, joined_of, queue_with, with_ack, with_commit, with_connection, without_connection, new_client, next_rev, received_by}
 use Rattle.st_lists.specs.Names.{names_in, names_in_text, names_made}
 use Rattle.st_trace.specs.World.{opening_document}
 use Rattle.st_lists.specs.declared.lists.Body.{Body}
-use Rattle.st_lists.specs.declared.lists.Body.TheVariants.{Ack, Join, Commit}
+use Rattle.st_lists.specs.declared.lists.Body.TheVariants.{Ack, Join, Leave, Commit}
 use Rattle.st_lists.specs.declared.lists.Client.{Client}
 use Rattle.st_lists.specs.declared.lists.Entry.{Entry}
 use Rattle.st_lists.specs.declared.lists.Transaction.{Transaction}
@@ -96,35 +96,81 @@ new_between rs (A ∷ As) Bs N h fresh =
         go (inr (inl e)) = fresh (inr (append_right (revisions (As ++ Bs)) rs N.rev (subst (Has rs) (ap (λ (X : Intent). X.rev) (sym e)) k)))
         go (inr (inr j)) = h.new M (inr (append_right As Bs M j)) k
 
+-- ## What waits
+
+drop_front : {X : Type 0} (xs ys : List X) → drop (length xs) (xs ++ ys) ≡ ys
+drop_front [] ys = refl
+drop_front (x ∷ xs) ys = drop_front xs ys
+
+drop_nothing : {X : Type 0} (n : ℕ) → drop {X} n [] ≡ []
+drop_nothing zero = refl
+drop_nothing (suc n) = refl
+
+drop_whole : (n : ℕ) (xs : List Entry) → length xs ≡ n → drop n xs ≡ []
+drop_whole zero [] e = refl
+drop_whole (suc n) [] e = refl
+drop_whole zero (x ∷ xs) e = absurd (omega (arith, e))
+drop_whole (suc n) (x ∷ xs) e = drop_whole n xs (omega (arith, e))
+
+-- what is pending behind the commits in flight waits
+pub waits : (log : List Entry) (c : Client) (Ws : List Intent) → c.pending ≡ own_in_flight log c ++ Ws → waiting log c ≡ Ws
+waits log c Ws e = ap (drop (length (own_in_flight log c))) e ∙ drop_front (own_in_flight log c) Ws
+
+-- a text more in the queue, of one that is connected
+queue_more : (Ws : List Intent) (texts : List Body) (b : Bool) (text : Body) → IsQueue Ws b texts → IsQueue (Ws ++ commits_of_text text) b (cond b (texts ++ text ∷ []) texts)
+queue_more Ws texts true text h = texts_append texts (text ∷ []) ∙ ap (λ l. l ++ commits_of_text text) h
+queue_more Ws texts false text h = h
+
+texts_more : (texts : List Body) (b : Bool) (text : Body) → is_text text ≡ true → AllByRecursion (λ (q : Body). is_text q ≡ true) texts → AllByRecursion (λ (q : Body). is_text q ≡ true) (cond b (texts ++ text ∷ []) texts)
+texts_more texts true text is h = AllByRecursion-append (λ (q : Body). is_text q ≡ true) texts (text ∷ []) h (is, tt)
+texts_more texts false text is h = h
+
+-- who has a text in the queue is connected, and its commit waits first
+pub queue_first : (Ws : List Intent) (b : Bool) (texts rest : List Body) (text : Body) → IsQueue Ws b texts → texts ≡ text ∷ rest → (b ≡ true) × (Ws ≡ commits_of_text text ++ intents_of rest)
+queue_first Ws true texts rest text h is = (refl, sym h ∙ ap intents_of is ∙ text_first text rest)
+queue_first Ws false texts rest text h is = let bad : [] ≡ text ∷ rest = sym h ∙ is in absurd (cc)
+
+queue_rest : (Ws : List Intent) (b : Bool) (rest : List Body) → b ≡ true → intents_of rest ≡ Ws → IsQueue Ws b rest
+queue_rest Ws b rest on is = subst (λ x. IsQueue Ws x rest) (sym on) is
+
+-- the queue of commits that wait anew
+queue_anew : (n : ℕ) (Ws : List Intent) → intents_of (map (Commit n) Ws) ≡ Ws
+queue_anew n [] = refl
+queue_anew n (N ∷ Ws) = ap (λ l. N ∷ l) (queue_anew n Ws)
+
+texts_anew : (n : ℕ) (Ws : List Intent) → AllByRecursion (λ (q : Body). is_text q ≡ true) (map (Commit n) Ws)
+texts_anew n [] = tt
+texts_anew n (N ∷ Ws) = (refl, texts_anew n Ws)
+
 module _ (h : HeaderView) (st : IsStart (opening_document h)) where
   -- ## What a client has
 
   -- what it shows is among what the log comes to
-  pub shown_among : (log : List Entry) (c : Client) → IsClient h log c → IsSublist (received_by log c ++ c.pending) (log_and_queue log c)
+  pub shown_among : (log : List Entry) (c : Client) → IsClient h log c → IsSublist (received_by log c ++ c.pending) (log_and_waiting log c)
   shown_among log c k =
       let A = received_by log c in
       let rest = drop c.received log in
       let B = commits_by c.session rest in
-      let Q = intents_of c.queue in
+      let Q = waiting log c in
       sublist_of (ap (λ l. A ++ l) (sym k.under_way)) (sym (append_assoc A (commits_in rest) Q) ∙ ap (λ l. l ++ Q) (sym (commits_split c.received log)))
       (sublist_joined (sublist_itself A) (sublist_joined (by_sublist c.session rest) (sublist_itself Q)))
 
   pub pending_few : (log : List Entry) (c : Client) → IsClient h log c → names_in c.pending ≤ 16384
   pending_few log c k = let all : option_map_or names_made (joined_of c) 0 + names_in c.pending ≤ 16384 = k.few_names in omega (arith, all)
 
-  pub waiting_few : (log : List Entry) (c : Client) → IsClient h log c → names_in (intents_of c.queue) ≤ 16384
-  waiting_few log c k = omega (arith, names_append (commits_by c.session (drop c.received log)) (intents_of c.queue), ap names_in k.under_way, pending_few log c k)
+  pub waiting_few : (log : List Entry) (c : Client) → IsClient h log c → names_in (waiting log c) ≤ 16384
+  waiting_few log c k = omega (arith, names_append (own_in_flight log c) (waiting log c), ap names_in k.under_way, pending_few log c k)
 
-  pub sent_few : (log : List Entry) (c : Client) → IsClient h log c → names_in (log_and_queue log c) ≤ names_in (commits_in log) + 16384
-  sent_few log c k = omega (arith, names_append (commits_in log) (intents_of c.queue), waiting_few log c k)
+  pub sent_few : (log : List Entry) (c : Client) → IsClient h log c → names_in (log_and_waiting log c) ≤ names_in (commits_in log) + 16384
+  sent_few log c k = omega (arith, names_append (commits_in log) (waiting log c), waiting_few log c k)
 
   -- its next revision is new
-  pub next_new : (log : List Entry) (c : Client) (r : Rev) → IsClient h log c → r ≡ next_rev c → Has (revisions (log_and_queue log c) ++ opening ∷ []) r → ⊥
-  next_new log c r k is i = go (has-append (revisions (log_and_queue log c)) (opening ∷ []) r i)
+  pub next_new : (log : List Entry) (c : Client) (r : Rev) → IsClient h log c → r ≡ next_rev c → Has (revisions (log_and_waiting log c) ++ opening ∷ []) r → ⊥
+  next_new log c r k is i = go (has-append (revisions (log_and_waiting log c)) (opening ∷ []) r i)
     where
-      go : Has (revisions (log_and_queue log c)) r ⊎ Has (opening ∷ []) r → ⊥
+      go : Has (revisions (log_and_waiting log c)) r ⊎ Has (opening ∷ []) r → ⊥
       go (inl j) =
-          let m = has-map (λ (N : Intent). N.rev) (log_and_queue log c) r j in
+          let m = has-map (λ (N : Intent). N.rev) (log_and_waiting log c) r j in
           let same : m.0.rev ≡ next_rev c = m.2 ∙ is in
           let low = k.ids m.0 m.1 (ap (λ (q : Rev). q.session) same) in
           let num : m.0.rev.num ≡ c.ids + 1 = ap (λ (q : Rev). q.num) same in
@@ -133,14 +179,14 @@ module _ (h : HeaderView) (st : IsStart (opening_document h)) where
       go (inr (inr j)) = j
 
   -- a revision that is new to the log and the queue is new to what a client shows
-  pub shown_new : (log : List Entry) (c : Client) (r : Rev) → IsClient h log c → (Has (revisions (log_and_queue log c) ++ opening ∷ []) r → ⊥) → Has (revisions (received_by log c ++ c.pending) ++ opening ∷ []) r → ⊥
+  pub shown_new : (log : List Entry) (c : Client) (r : Rev) → IsClient h log c → (Has (revisions (log_and_waiting log c) ++ opening ∷ []) r → ⊥) → Has (revisions (received_by log c ++ c.pending) ++ opening ∷ []) r → ⊥
   shown_new log c r k fresh i = go (has-append (revisions (received_by log c ++ c.pending)) (opening ∷ []) r i)
     where
       go : Has (revisions (received_by log c ++ c.pending)) r ⊎ Has (opening ∷ []) r → ⊥
       go (inl j) =
           let m = has-map (λ (N : Intent). N.rev) (received_by log c ++ c.pending) r j in
-          fresh (append_left (revisions (log_and_queue log c)) (opening ∷ []) r (subst (Has (revisions (log_and_queue log c))) m.2 (map-has (λ (N : Intent). N.rev) (log_and_queue log c) m.0 (has_longer (shown_among log c k) m.0 m.1))))
-      go (inr j) = fresh (append_right (revisions (log_and_queue log c)) (opening ∷ []) r j)
+          fresh (append_left (revisions (log_and_waiting log c)) (opening ∷ []) r (subst (Has (revisions (log_and_waiting log c))) m.2 (map-has (λ (N : Intent). N.rev) (log_and_waiting log c) m.0 (has_longer (shown_among log c k) m.0 m.1))))
+      go (inr j) = fresh (append_right (revisions (log_and_waiting log c)) (opening ∷ []) r j)
 
   pub shown_sound : (log : List Entry) (c : Client) (D : Document) → IsClient h log c → HasMain h log c D → IsSoundInForm D
   shown_sound log c D k r = (turn_extends st.sound k.shown_fit r).after
@@ -172,17 +218,18 @@ module _ (h : HeaderView) (st : IsStart (opening_document h)) where
 
   -- with no transaction open any more, and with these ids generated
   pub client_committed : (log : List Entry) (c : Client) (ids : ℕ) (D : Document) (N : Intent) → IsClient h log c → HasMain h log c D → Fits D N → N.rev.session ≡ c.session → N.rev.num ≤ ids → c.ids ≤ ids
-      → (Has (revisions (log_and_queue log c) ++ opening ∷ []) N.rev → ⊥) → length c.pending < 256 → names_in c.pending + names_made N ≤ 16384 → names_in (commits_in log) ≤ 131072
+      → (Has (revisions (log_and_waiting log c) ++ opening ∷ []) N.rev → ⊥) → length c.pending < 256 → names_in c.pending + names_made N ≤ 16384 → names_in (commits_in log) ≤ 131072
       → IsClient h log (record (with_commit c N) { ids = ids; transaction = None })
   client_committed log c ids D N k shown fits session num more_ids fresh few few_names all =
       let O = opening_document h in
       let A = received_by log c in
       let B = commits_by c.session (drop c.received log) in
-      let Q = intents_of c.queue in
-      let more : log_and_queue log c ++ N ∷ [] ≡ log_and_queue log (with_commit c N) = append_assoc (commits_in log) Q (N ∷ []) ∙ ap (λ l. commits_in log ++ l) (sym (texts_append c.queue (Commit c.received N ∷ []))) in
+      let Q = waiting log c in
+      let now : waiting log (with_commit c N) ≡ Q ++ N ∷ [] = waits log (with_commit c N) (Q ++ N ∷ []) (ap (λ l. l ++ N ∷ []) k.under_way ∙ append_assoc B Q (N ∷ [])) in
+      let more : log_and_waiting log c ++ N ∷ [] ≡ log_and_waiting log (with_commit c N) = append_assoc (commits_in log) Q (N ∷ []) ∙ ap (λ l. commits_in log ++ l) (sym now) in
       let sound = shown_sound log c D k shown in
       let one_name : names_in (N ∷ []) ≡ names_made N = omega arith in
-      let room_all : HasRoom O (log_and_queue log c ++ N ∷ []) = room_left O (log_and_queue log c ++ N ∷ []) st (omega (arith, names_append (log_and_queue log c) (N ∷ []), sent_few log c k, one_name, few_names, all)) in
+      let room_all : HasRoom O (log_and_waiting log c ++ N ∷ []) = room_left O (log_and_waiting log c ++ N ∷ []) st (omega (arith, names_append (log_and_waiting log c) (N ∷ []), sent_few log c k, one_name, few_names, all)) in
       let room_shown : HasRoom O ((A ++ c.pending) ++ N ∷ []) =
       room_left O ((A ++ c.pending) ++ N ∷ []) st (omega (arith, names_append (A ++ c.pending) (N ∷ []), fewer_names (shown_among log c k), sent_few log c k, one_name, few_names, all)) in
       let last = one_fits D N sound fits (room_in_run (N ∷ []) st.sound k.shown_fit shown room_shown) in
@@ -191,17 +238,18 @@ module _ (h : HeaderView) (st : IsStart (opening_document h)) where
         within = k.within;
         few = omega (arith, length-append c.pending (N ∷ []), few);
         few_names = few_now;
-        under_way = ap (λ l. l ++ N ∷ []) k.under_way ∙ append_assoc B Q (N ∷ []) ∙ ap (λ l. B ++ l) (sym (texts_append c.queue (Commit c.received N ∷ [])));
+        under_way = ap (λ l. l ++ N ∷ []) k.under_way ∙ append_assoc B Q (N ∷ []) ∙ ap (λ l. B ++ l) (sym now);
+        queued = subst (λ l. IsQueue l c.connected (queue_with c (Commit c.received N))) (sym now) (queue_more Q c.queue c.connected (Commit c.received N) k.queued);
         shown_fit = subst (FitInTurn O) (append_assoc A c.pending (N ∷ [])) (then_one (A ++ c.pending) (N ∷ []) k.shown_fit shown last);
-        sent_fit = subst (FitInTurn O) more (later_fits (opening ∷ []) O D (A ++ c.pending) (log_and_queue log c) N st.sound st.made (shown_among log c k) k.shown_fit k.sent_fit shown fits fresh room_all);
-        new = subst (HaveNewRevisions (opening ∷ [])) more (new_more (opening ∷ []) (log_and_queue log c) N k.new fresh);
-        own = subst (AllByRecursion (λ (M : Intent). M.rev.session ≡ c.session)) (sym (texts_append c.queue (Commit c.received N ∷ []))) (AllByRecursion-append (λ (M : Intent). M.rev.session ≡ c.session) Q (N ∷ []) k.own (session, tt));
-        texts = AllByRecursion-append (λ (q : Body). is_text q ≡ true) c.queue (Commit c.received N ∷ []) k.texts (refl, tt);
-        ids = λ M i s. lower M (has-append (log_and_queue log c) (N ∷ []) M (subst (λ l. Has l M) (sym more) i)) s;
+        sent_fit = subst (FitInTurn O) more (later_fits (opening ∷ []) O D (A ++ c.pending) (log_and_waiting log c) N st.sound st.made (shown_among log c k) k.shown_fit k.sent_fit shown fits fresh room_all);
+        new = subst (HaveNewRevisions (opening ∷ [])) more (new_more (opening ∷ []) (log_and_waiting log c) N k.new fresh);
+        own = subst (AllByRecursion (λ (M : Intent). M.rev.session ≡ c.session)) (sym now) (AllByRecursion-append (λ (M : Intent). M.rev.session ≡ c.session) Q (N ∷ []) k.own (session, tt));
+        texts = texts_more c.queue c.connected (Commit c.received N) refl k.texts;
+        ids = λ M i s. lower M (has-append (log_and_waiting log c) (N ∷ []) M (subst (λ l. Has l M) (sym more) i)) s;
         transaction = tt;
       }
     where
-      lower : (M : Intent) → Has (log_and_queue log c) M ⊎ Has (N ∷ []) M → M.rev.session ≡ c.session → M.rev.num ≤ ids
+      lower : (M : Intent) → Has (log_and_waiting log c) M ⊎ Has (N ∷ []) M → M.rev.session ≡ c.session → M.rev.num ≤ ids
       lower M (inl i) s = omega (arith, k.ids M i s, more_ids)
       lower M (inr (inl e)) s = omega (arith, num, ap (λ (X : Intent). X.rev.num) e)
       lower M (inr (inr i)) s = absurd i
@@ -210,7 +258,7 @@ module _ (h : HeaderView) (st : IsStart (opening_document h)) where
 
   -- it stays a transaction where the line, the session and the ids stay, and its revision is still new
   transaction_beside : (log log' : List Entry) (c c' : Client) (t : Transaction) → IsTransaction h log c t → c'.session ≡ c.session → c'.ids ≡ c.ids → c'.pending ≡ c.pending → received_by log' c' ≡ received_by log c
-      → (Has (revisions (log_and_queue log' c') ++ opening ∷ []) t.rev → ⊥) → IsTransaction h log' c' t
+      → (Has (revisions (log_and_waiting log' c') ++ opening ∷ []) t.rev → ⊥) → IsTransaction h log' c' t
   transaction_beside log log' c c' t k session ids pending received new = record {
     session = k.session ∙ sym session;
     num = omega (arith, k.num, ids);
@@ -227,7 +275,7 @@ module _ (h : HeaderView) (st : IsStart (opening_document h)) where
   }
 
   transactions_beside : (log log' : List Entry) (c c' : Client) (o : Option Transaction) → IfSome o (IsTransaction h log c) → c'.session ≡ c.session → c'.ids ≡ c.ids → c'.pending ≡ c.pending → received_by log' c' ≡ received_by log c
-      → ((t : Transaction) → IsTransaction h log c t → Has (revisions (log_and_queue log' c') ++ opening ∷ []) t.rev → ⊥) → IfSome o (IsTransaction h log' c')
+      → ((t : Transaction) → IsTransaction h log c t → Has (revisions (log_and_waiting log' c') ++ opening ∷ []) t.rev → ⊥) → IfSome o (IsTransaction h log' c')
   transactions_beside log log' c c' None k session ids pending received new = tt
   transactions_beside log log' c c' (Some t) k session ids pending received new = transaction_beside log log' c c' t k session ids pending received (new t k)
 
@@ -236,23 +284,41 @@ module _ (h : HeaderView) (st : IsStart (opening_document h)) where
 
   -- ## It tells how much it received
 
-  pub client_acked : (log : List Entry) (c : Client) → IsClient h log c → IsClient h log (with_ack c)
-  client_acked log c k =
+  pub client_acked : (log : List Entry) (c : Client) → c.connected ≡ true → IsClient h log c → IsClient h log (with_ack c)
+  client_acked log c on k =
       let texts : intents_of (c.queue ++ Ack c.received ∷ []) ≡ intents_of c.queue = texts_append c.queue (Ack c.received ∷ []) ∙ append-nil (intents_of c.queue) in
-      let all : log_and_queue log c ≡ log_and_queue log (with_ack c) = ap (λ l. commits_in log ++ l) (sym texts) in
       record {
         within = k.within;
         few = k.few;
         few_names = k.few_names;
-        under_way = k.under_way ∙ ap (λ l. commits_by c.session (drop c.received log) ++ l) (sym texts);
+        under_way = k.under_way;
+        queued = queue_rest (waiting log c) c.connected (c.queue ++ Ack c.received ∷ []) on (texts ∙ subst (λ b. IsQueue (waiting log c) b c.queue) on k.queued);
         shown_fit = k.shown_fit;
-        sent_fit = subst (FitInTurn (opening_document h)) all k.sent_fit;
-        new = subst (HaveNewRevisions (opening ∷ [])) all k.new;
-        own = subst (AllByRecursion (λ (M : Intent). M.rev.session ≡ c.session)) (sym texts) k.own;
+        sent_fit = k.sent_fit;
+        new = k.new;
+        own = k.own;
         texts = AllByRecursion-append (λ (q : Body). is_text q ≡ true) c.queue (Ack c.received ∷ []) k.texts (refl, tt);
-        ids = λ N i s. k.ids N (subst (λ l. Has l N) (sym all) i) s;
-        transaction = transactions_beside log log c (with_ack c) c.transaction k.transaction refl refl refl refl (λ t i j. i.new (subst (λ l. Has (revisions l ++ opening ∷ []) t.rev) (sym all) j));
+        ids = k.ids;
+        transaction = transactions_beside log log c (with_ack c) c.transaction k.transaction refl refl refl refl (λ t i j. i.new j);
       }
+
+  -- ## It isn't connected any more
+
+  pub client_offline : (log : List Entry) (c : Client) → IsClient h log c → IsClient h log (without_connection c)
+  client_offline log c k = record {
+    within = k.within;
+    few = k.few;
+    few_names = k.few_names;
+    under_way = k.under_way;
+    queued = refl;
+    shown_fit = k.shown_fit;
+    sent_fit = k.sent_fit;
+    new = k.new;
+    own = k.own;
+    texts = tt;
+    ids = k.ids;
+    transaction = transactions_beside log log c (without_connection c) c.transaction k.transaction refl refl refl refl (λ t i j. i.new j);
+  }
 
   -- ## An entry is received
 
@@ -262,44 +328,47 @@ module _ (h : HeaderView) (st : IsStart (opening_document h)) where
 
   -- a commit of its own is the first that is pending
   pub own_first : (log : List Entry) (c : Client) (e : Entry) (N : Intent) → IsClient h log c → slice_get log c.received ≡ Some e → commit_of e ≡ Some N → (e.session == c.session) ≡ true
-      → c.pending ≡ N ∷ (commits_by c.session (drop (c.received + 1) log) ++ intents_of c.queue)
+      → c.pending ≡ N ∷ (commits_by c.session (drop (c.received + 1) log) ++ waiting log c)
   own_first log c e N k at is own =
-      k.under_way ∙ ap (λ l. commits_by c.session l ++ intents_of c.queue) (drop-slice_get log c.received e at) ∙ ap (λ l. l ++ intents_of c.queue) (by_own c.session e (drop (c.received + 1) log) N own is)
+      k.under_way ∙ ap (λ l. commits_by c.session l ++ waiting log c) (drop-slice_get log c.received e at) ∙ ap (λ l. l ++ waiting log c) (by_own c.session e (drop (c.received + 1) log) N own is)
 
   pub client_own : (log : List Entry) (c : Client) (e : Entry) (N : Intent) (rest : List Intent) → IsClient h log c → slice_get log c.received ≡ Some e → commit_of e ≡ Some N → (e.session == c.session) ≡ true
       → rest ≡ drop 1 c.pending → c.transaction ≡ None → IsClient h log (record c { received = c.received + 1; pending = rest })
   client_own log c e N rest k at is own rest_is none =
       let first = own_first log c e N k at is own in
-      let same : rest ≡ commits_by c.session (drop (c.received + 1) log) ++ intents_of c.queue = rest_is ∙ ap (λ l. drop 1 l) first in
+      let same : rest ≡ commits_by c.session (drop (c.received + 1) log) ++ waiting log c = rest_is ∙ ap (λ l. drop 1 l) first in
+      let d : Client = record c { received = c.received + 1; pending = rest } in
+      let still : waiting log c ≡ waiting log d = sym (waits log d (waiting log c) same) in
       let head : c.pending ≡ N ∷ rest = first ∙ ap (λ l. N ∷ l) (sym same) in
       let A = received_by log c in
       let now : commits_in (take (c.received + 1) log) ≡ A ++ N ∷ [] = received_more log c e at ∙ ap (λ l. A ++ l) (one_commit e N is) in
       let all : A ++ c.pending ≡ commits_in (take (c.received + 1) log) ++ rest = ap (λ l. A ++ l) head ∙ sym (append_assoc A (N ∷ []) rest) ∙ ap (λ l. l ++ rest) (sym now) in
       let size : length c.pending ≡ suc (length rest) = ap length head in
       let names : names_in c.pending ≡ names_made N + names_in rest = ap names_in head in
-      let waiting : option_map_or names_made (joined_of c) 0 + names_in c.pending ≤ 16384 = k.few_names in
-      let fewer : option_map_or names_made (joined_of c) 0 + names_in rest ≤ 16384 = omega (arith, names, waiting) in
+      let before : option_map_or names_made (joined_of c) 0 + names_in c.pending ≤ 16384 = k.few_names in
+      let fewer : option_map_or names_made (joined_of c) 0 + names_in rest ≤ 16384 = omega (arith, names, before) in
       record {
         within = omega (arith, slice_get_within log c.received e at);
         few = omega (arith, size, k.few);
         few_names = fewer;
-        under_way = same;
+        under_way = same ∙ ap (λ l. commits_by c.session (drop (c.received + 1) log) ++ l) still;
+        queued = subst (λ l. IsQueue l c.connected c.queue) still k.queued;
         shown_fit = subst (FitInTurn (opening_document h)) all k.shown_fit;
-        sent_fit = k.sent_fit;
-        new = k.new;
-        own = k.own;
+        sent_fit = subst (λ l. FitInTurn (opening_document h) (commits_in log ++ l)) still k.sent_fit;
+        new = subst (λ l. HaveNewRevisions (opening ∷ []) (commits_in log ++ l)) still k.new;
+        own = subst (AllByRecursion (λ (M : Intent). M.rev.session ≡ c.session)) still k.own;
         texts = k.texts;
-        ids = k.ids;
+        ids = λ M i s. k.ids M (subst (λ l. Has (commits_in log ++ l) M) (sym still) i) s;
         transaction = none_open c.transaction _ none;
       }
 
   -- what the log has and what waits, told around an entry
   sent_around : (log : List Entry) (c : Client) (e : Entry) (N : Intent) → slice_get log c.received ≡ Some e → commit_of e ≡ Some N
-      → received_by log c ++ N ∷ (commits_in (drop (c.received + 1) log) ++ intents_of c.queue) ≡ log_and_queue log c
+      → received_by log c ++ N ∷ (commits_in (drop (c.received + 1) log) ++ waiting log c) ≡ log_and_waiting log c
   sent_around log c e N at is =
       let A = received_by log c in
       let C = commits_in (drop (c.received + 1) log) in
-      let Q = intents_of c.queue in
+      let Q = waiting log c in
       let now : commits_in (take (c.received + 1) log) ≡ A ++ N ∷ [] = received_more log c e at ∙ ap (λ l. A ++ l) (one_commit e N is) in
       sym (append_assoc A (N ∷ []) (C ++ Q)) ∙ sym (append_assoc (A ++ N ∷ []) C Q) ∙ ap (λ l. (l ++ C) ++ Q) (sym now) ∙ ap (λ l. l ++ Q) (sym (commits_split (c.received + 1) log))
 
@@ -311,13 +380,13 @@ module _ (h : HeaderView) (st : IsStart (opening_document h)) where
       let A = received_by log c in
       let rest = drop (c.received + 1) log in
       let C = commits_in rest in
-      let Q = intents_of c.queue in
+      let Q = waiting log c in
       let pending : commits_by c.session rest ++ Q ≡ c.pending = sym (k.under_way ∙ ap (λ l. commits_by c.session l ++ Q) (drop-slice_get log c.received e at) ∙ ap (λ l. l ++ Q) (by_other c.session e rest other)) in
       let around = sent_around log c e N at is in
-      let among : IsSublist (A ++ N ∷ c.pending) (log_and_queue log c) =
+      let among : IsSublist (A ++ N ∷ c.pending) (log_and_waiting log c) =
       sublist_of (ap (λ l. A ++ N ∷ l) pending) around (sublist_joined (sublist_itself A) (item_kept refl (sublist_joined (by_sublist c.session rest) (sublist_itself Q)))) in
       let front_fit : FitInTurn O (A ++ N ∷ []) = front (A ++ N ∷ []) (C ++ Q) O (subst (FitInTurn O) (sym around ∙ sym (append_assoc A (N ∷ []) (C ++ Q))) k.sent_fit) in
-      another_later (opening ∷ []) O A N c.pending st.sound st.made front_fit k.shown_fit (new_shorter (opening ∷ []) (A ++ N ∷ c.pending) (log_and_queue log c) among k.new)
+      another_later (opening ∷ []) O A N c.pending st.sound st.made front_fit k.shown_fit (new_shorter (opening ∷ []) (A ++ N ∷ c.pending) (log_and_waiting log c) among k.new)
       (room_left O (A ++ N ∷ c.pending) st (omega (arith, fewer_names among, sent_few log c k, all)))
 
   pub client_other : (log : List Entry) (c : Client) (e : Entry) (N : Intent) → IsClient h log c → slice_get log c.received ≡ Some e → commit_of e ≡ Some N → (e.session == c.session) ≡ false
@@ -325,17 +394,22 @@ module _ (h : HeaderView) (st : IsStart (opening_document h)) where
   client_other log c e N k at is other all none =
       let A = received_by log c in
       let now : commits_in (take (c.received + 1) log) ≡ A ++ N ∷ [] = received_more log c e at ∙ ap (λ l. A ++ l) (one_commit e N is) in
+      let same : c.pending ≡ commits_by c.session (drop (c.received + 1) log) ++ waiting log c =
+      k.under_way ∙ ap (λ l. commits_by c.session l ++ waiting log c) (drop-slice_get log c.received e at) ∙ ap (λ l. l ++ waiting log c) (by_other c.session e (drop (c.received + 1) log) other) in
+      let d : Client = record c { received = c.received + 1 } in
+      let still : waiting log c ≡ waiting log d = sym (waits log d (waiting log c) same) in
       record {
         within = omega (arith, slice_get_within log c.received e at);
         few = k.few;
         few_names = k.few_names;
-        under_way = k.under_way ∙ ap (λ l. commits_by c.session l ++ intents_of c.queue) (drop-slice_get log c.received e at) ∙ ap (λ l. l ++ intents_of c.queue) (by_other c.session e (drop (c.received + 1) log) other);
+        under_way = same ∙ ap (λ l. commits_by c.session (drop (c.received + 1) log) ++ l) still;
+        queued = subst (λ l. IsQueue l c.connected c.queue) still k.queued;
         shown_fit = subst (FitInTurn (opening_document h)) (sym (append_assoc A (N ∷ []) c.pending) ∙ ap (λ l. l ++ c.pending) (sym now)) (other_fit log c e N k at is other all);
-        sent_fit = k.sent_fit;
-        new = k.new;
-        own = k.own;
+        sent_fit = subst (λ l. FitInTurn (opening_document h) (commits_in log ++ l)) still k.sent_fit;
+        new = subst (λ l. HaveNewRevisions (opening ∷ []) (commits_in log ++ l)) still k.new;
+        own = subst (AllByRecursion (λ (M : Intent). M.rev.session ≡ c.session)) still k.own;
         texts = k.texts;
-        ids = k.ids;
+        ids = λ M i s. k.ids M (subst (λ l. Has (commits_in log ++ l) M) (sym still) i) s;
         transaction = none_open c.transaction _ none;
       }
 
@@ -343,17 +417,22 @@ module _ (h : HeaderView) (st : IsStart (opening_document h)) where
   client_none log c e k at is none =
       let A = received_by log c in
       let now : commits_in (take (c.received + 1) log) ≡ A = received_more log c e at ∙ ap (λ l. A ++ l) (no_commit e is) ∙ append-nil A in
+      let same : c.pending ≡ commits_by c.session (drop (c.received + 1) log) ++ waiting log c =
+      k.under_way ∙ ap (λ l. commits_by c.session l ++ waiting log c) (drop-slice_get log c.received e at) ∙ ap (λ l. l ++ waiting log c) (by_none c.session e (drop (c.received + 1) log) is) in
+      let d : Client = record c { received = c.received + 1 } in
+      let still : waiting log c ≡ waiting log d = sym (waits log d (waiting log c) same) in
       record {
         within = omega (arith, slice_get_within log c.received e at);
         few = k.few;
         few_names = k.few_names;
-        under_way = k.under_way ∙ ap (λ l. commits_by c.session l ++ intents_of c.queue) (drop-slice_get log c.received e at) ∙ ap (λ l. l ++ intents_of c.queue) (by_none c.session e (drop (c.received + 1) log) is);
+        under_way = same ∙ ap (λ l. commits_by c.session (drop (c.received + 1) log) ++ l) still;
+        queued = subst (λ l. IsQueue l c.connected c.queue) still k.queued;
         shown_fit = subst (FitInTurn (opening_document h)) (ap (λ l. l ++ c.pending) (sym now)) k.shown_fit;
-        sent_fit = k.sent_fit;
-        new = k.new;
-        own = k.own;
+        sent_fit = subst (λ l. FitInTurn (opening_document h) (commits_in log ++ l)) still k.sent_fit;
+        new = subst (λ l. HaveNewRevisions (opening ∷ []) (commits_in log ++ l)) still k.new;
+        own = subst (AllByRecursion (λ (M : Intent). M.rev.session ≡ c.session)) still k.own;
         texts = k.texts;
-        ids = k.ids;
+        ids = λ M i s. k.ids M (subst (λ l. Has (commits_in log ++ l) M) (sym still) i) s;
         transaction = none_open c.transaction _ none;
       }
 
@@ -363,20 +442,22 @@ module _ (h : HeaderView) (st : IsStart (opening_document h)) where
   pub client_after_text : (log : List Entry) (session : ℕ) (text : Body) (c : Client) → commit_in text ≡ None → IsClient h log c → IsClient h (log_with log session text) c
   client_after_text log session text c none k =
       let e = last_entry log session text in
-      let Q = intents_of c.queue in
+      let Q = waiting log c in
       let commits : commits_in (log_with log session text) ≡ commits_in log = entered_commits log session text ∙ ap (λ o. commits_in log ++ cons_option o []) none ∙ append-nil (commits_in log) in
-      let all : log_and_queue log c ≡ log_and_queue (log_with log session text) c = ap (λ l. l ++ Q) (sym commits) in
       let by : commits_by c.session (drop c.received (log_with log session text)) ≡ commits_by c.session (drop c.received log) =
       entered_rest log session text c.session c.received k.within ∙ ap (λ l. commits_by c.session (drop c.received log) ++ l) (by_none c.session e [] none) ∙ append-nil (commits_by c.session (drop c.received log)) in
+      let still : Q ≡ waiting (log_with log session text) c = ap (λ (l : List Intent). drop (length l) c.pending) (sym by) in
+      let all : log_and_waiting log c ≡ log_and_waiting (log_with log session text) c = ap (λ l. l ++ Q) (sym commits) ∙ ap (λ l. commits_in (log_with log session text) ++ l) still in
       record {
         within = omega (arith, k.within, length-append log (e ∷ []));
         few = k.few;
         few_names = k.few_names;
-        under_way = k.under_way ∙ ap (λ l. l ++ Q) (sym by);
+        under_way = k.under_way ∙ ap (λ l. l ++ Q) (sym by) ∙ ap (λ l. own_in_flight (log_with log session text) c ++ l) still;
+        queued = subst (λ l. IsQueue l c.connected c.queue) still k.queued;
         shown_fit = subst (FitInTurn (opening_document h)) (ap (λ l. commits_in l ++ c.pending) (sym (entered_front log session text c.received k.within))) k.shown_fit;
         sent_fit = subst (FitInTurn (opening_document h)) all k.sent_fit;
         new = subst (HaveNewRevisions (opening ∷ [])) all k.new;
-        own = k.own;
+        own = subst (AllByRecursion (λ (M : Intent). M.rev.session ≡ c.session)) still k.own;
         texts = k.texts;
         ids = λ N i s. k.ids N (subst (λ l. Has l N) (sym all) i) s;
         transaction = transactions_beside log (log_with log session text) c c c.transaction k.transaction refl refl refl (ap commits_in (entered_front log session text c.received k.within))
@@ -391,27 +472,59 @@ module _ (h : HeaderView) (st : IsStart (opening_document h)) where
       let e = last_entry log session Join in
       let size : length (log_with log session Join) ≡ length log + 1 = omega (arith, length-append log (e ∷ [])) in
       let commits : commits_in log ≡ commits_in (log_with log session Join) = sym (entered_commits log session Join ∙ append-nil (commits_in log)) in
-      let all : commits_in log ≡ commits_in (log_with log session Join) ++ [] = commits ∙ sym (append-nil (commits_in (log_with log session Join))) in
       let whole : take (length log + 1) (log_with log session Join) ≡ log_with log session Join = take_all (length log + 1) (log_with log session Join) (omega (arith, size)) in
+      let d : Client = new_client (length log + 1) session name in
+      let flight : own_in_flight (log_with log session Join) d ≡ [] = ap (commits_by session) (drop_whole (length log + 1) (log_with log session Join) size) in
+      let nothing : [] ≡ waiting (log_with log session Join) d = sym (waits (log_with log session Join) d [] (sym (ap (λ l. l ++ []) flight))) in
+      let shown : commits_in log ≡ commits_in (take (length log + 1) (log_with log session Join)) ++ [] =
+      commits ∙ sym (append-nil (commits_in (log_with log session Join))) ∙ ap (λ l. commits_in l ++ []) (sym whole) in
+      let all : commits_in log ≡ log_and_waiting (log_with log session Join) d = commits ∙ sym (append-nil (commits_in (log_with log session Join))) ∙ ap (λ l. commits_in (log_with log session Join) ++ l) nothing in
       record {
         within = omega (arith, size);
         few = omega arith;
         few_names = omega arith;
-        under_way = sym (ap (λ l. commits_by session l ++ []) (drop_whole (length log + 1) (log_with log session Join) size));
-        shown_fit = subst (FitInTurn O) (all ∙ ap (λ l. commits_in l ++ []) (sym whole)) fit;
+        under_way = sym (ap (λ l. l ++ waiting (log_with log session Join) d) flight ∙ sym nothing);
+        queued = nothing;
+        shown_fit = subst (FitInTurn O) shown fit;
         sent_fit = subst (FitInTurn O) all fit;
         new = subst (HaveNewRevisions (opening ∷ [])) all new;
-        own = tt;
+        own = subst (AllByRecursion (λ (M : Intent). M.rev.session ≡ session)) nothing tt;
         texts = tt;
         ids = λ N i s. absurd (none N (subst (λ l. Has l N) (sym all) i) s);
         transaction = tt;
       }
-    where
-      drop_whole : (n : ℕ) (xs : List Entry) → length xs ≡ n → drop n xs ≡ []
-      drop_whole zero [] e = refl
-      drop_whole (suc n) [] e = refl
-      drop_whole zero (x ∷ xs) e = absurd (omega (arith, e))
-      drop_whole (suc n) (x ∷ xs) e = drop_whole n xs (omega (arith, e))
+
+  -- of one that comes back
+  pub client_returned : (log : List Entry) (c : Client) → IsClient h log c → c.transaction ≡ None → IsClient h (log_with log c.session Join) (with_connection log c)
+  client_returned log c k none =
+      let O = opening_document h in
+      let longer = log_with log c.session Join in
+      let e = last_entry log c.session Join in
+      let W = waiting log c in
+      let d : Client = with_connection log c in
+      let size : length longer ≡ length log + 1 = omega (arith, length-append log (e ∷ [])) in
+      let commits : commits_in log ≡ commits_in longer = sym (entered_commits log c.session Join ∙ append-nil (commits_in log)) in
+      let whole : take (length log + 1) longer ≡ longer = take_all (length log + 1) longer (omega (arith, size)) in
+      let flight : own_in_flight longer d ≡ [] = ap (commits_by c.session) (drop_whole (length log + 1) longer size) in
+      let still : W ≡ waiting longer d = sym (waits longer d W (sym (ap (λ l. l ++ W) flight))) in
+      let shown : log_and_waiting log c ≡ commits_in (take (length log + 1) longer) ++ W = ap (λ l. l ++ W) (commits ∙ ap commits_in (sym whole)) in
+      let all : log_and_waiting log c ≡ log_and_waiting longer d = ap (λ l. l ++ W) commits ∙ ap (λ l. commits_in longer ++ l) still in
+      let size_pending : length c.pending ≡ length (own_in_flight log c) + length W = ap length k.under_way ∙ length-append (own_in_flight log c) W in
+      let names : option_map_or names_made (joined_of d) 0 + names_in W ≤ 16384 = subst (λ (o : Option Transaction). option_map_or names_made (option_and_then (λ (t : Transaction). t.joined) o) 0 + names_in W ≤ 16384) (sym none) (omega (arith, waiting_few log c k)) in
+      record {
+        within = omega (arith, size);
+        few = omega (arith, size_pending, k.few);
+        few_names = names;
+        under_way = still ∙ sym (ap (λ l. l ++ waiting longer d) flight);
+        queued = queue_anew (length log + 1) W ∙ still;
+        shown_fit = subst (FitInTurn O) shown k.sent_fit;
+        sent_fit = subst (FitInTurn O) all k.sent_fit;
+        new = subst (HaveNewRevisions (opening ∷ [])) all k.new;
+        own = subst (AllByRecursion (λ (M : Intent). M.rev.session ≡ c.session)) still k.own;
+        texts = texts_anew (length log + 1) W;
+        ids = λ N i s. k.ids N (subst (λ l. Has l N) (sym all) i) s;
+        transaction = none_open c.transaction _ none;
+      }
 
   -- of the sender
   pub client_sent : (log : List Entry) (c : Client) (text : Body) (rest : List Body) → IsClient h log c → c.queue ≡ text ∷ rest → IsClient h (log_with log c.session text) (record c { queue = rest })
@@ -421,18 +534,25 @@ module _ (h : HeaderView) (st : IsStart (opening_document h)) where
       let B = commits_by c.session (drop c.received log) in
       let R = intents_of rest in
       let commits : commits_in (log_with log c.session text) ≡ commits_in log ++ X = entered_commits log c.session text in
-      let waiting : intents_of c.queue ≡ X ++ R = ap intents_of is ∙ text_first text rest in
-      let all : log_and_queue log c ≡ commits_in (log_with log c.session text) ++ R = ap (λ l. commits_in log ++ l) waiting ∙ sym (append_assoc (commits_in log) X R) ∙ ap (λ l. l ++ R) (sym commits) in
+      let on = queue_first (waiting log c) c.connected c.queue rest text k.queued is in
+      let first : waiting log c ≡ X ++ R = on.1 in
+      let all_but : log_and_waiting log c ≡ commits_in (log_with log c.session text) ++ R = ap (λ l. commits_in log ++ l) first ∙ sym (append_assoc (commits_in log) X R) ∙ ap (λ l. l ++ R) (sym commits) in
       let by : commits_by c.session (drop c.received (log_with log c.session text)) ≡ B ++ X = entered_rest log c.session text c.session c.received k.within ∙ ap (λ l. B ++ l) (by_own_text log c.session text) in
+      let longer = log_with log c.session text in
+      let d : Client = record c { queue = rest } in
+      let split : c.pending ≡ (B ++ X) ++ R = k.under_way ∙ ap (λ l. B ++ l) first ∙ sym (append_assoc B X R) in
+      let still : R ≡ waiting longer d = sym (waits longer d R (split ∙ ap (λ l. l ++ R) (sym by))) in
+      let all : log_and_waiting log c ≡ log_and_waiting longer d = all_but ∙ ap (λ l. commits_in longer ++ l) still in
       record {
         within = omega (arith, k.within, length-append log (e ∷ []));
         few = k.few;
         few_names = k.few_names;
-        under_way = k.under_way ∙ ap (λ l. B ++ l) waiting ∙ sym (append_assoc B X R) ∙ ap (λ l. l ++ R) (sym by);
+        under_way = split ∙ ap (λ l. l ++ R) (sym by) ∙ ap (λ l. own_in_flight longer d ++ l) still;
+        queued = queue_rest (waiting longer d) c.connected rest on.0 still;
         shown_fit = subst (FitInTurn (opening_document h)) (ap (λ l. commits_in l ++ c.pending) (sym (entered_front log c.session text c.received k.within))) k.shown_fit;
         sent_fit = subst (FitInTurn (opening_document h)) all k.sent_fit;
         new = subst (HaveNewRevisions (opening ∷ [])) all k.new;
-        own = all_behind (λ (M : Intent). M.rev.session ≡ c.session) X R (subst (AllByRecursion (λ (M : Intent). M.rev.session ≡ c.session)) waiting k.own);
+        own = subst (AllByRecursion (λ (M : Intent). M.rev.session ≡ c.session)) still (all_behind (λ (M : Intent). M.rev.session ≡ c.session) X R (subst (AllByRecursion (λ (M : Intent). M.rev.session ≡ c.session)) first k.own));
         texts = (subst (AllByRecursion (λ (q : Body). is_text q ≡ true)) is k.texts).1;
         ids = λ M i s. k.ids M (subst (λ l. Has l M) (sym all) i) s;
         transaction = transactions_beside log (log_with log c.session text) c (record c { queue = rest }) c.transaction k.transaction refl refl refl (ap commits_in (entered_front log c.session text c.received k.within))
@@ -447,17 +567,18 @@ module _ (h : HeaderView) (st : IsStart (opening_document h)) where
       let e = last_entry log c.session text in
       let L = commits_in log in
       let R = intents_of rest in
-      let Q = intents_of d.queue in
+      let Q = waiting log d in
       let B = commits_by d.session (drop d.received log) in
       let commits : commits_in (log_with log c.session text) ≡ L ++ N ∷ [] = entered_commits log c.session text ∙ ap (λ o. L ++ cons_option o []) one in
-      let waiting : intents_of c.queue ≡ N ∷ R = ap intents_of is ∙ ap (λ o. cons_option o R) one in
-      let from : log_and_queue log c ≡ (L ++ N ∷ []) ++ R = ap (λ l. L ++ l) waiting ∙ sym (append_assoc L (N ∷ []) R) in
-      let all : L ++ N ∷ Q ≡ log_and_queue (log_with log c.session text) d = sym (append_assoc L (N ∷ []) Q) ∙ ap (λ l. l ++ Q) (sym commits) in
+      let first : waiting log c ≡ N ∷ R = (queue_first (waiting log c) c.connected c.queue rest text k.queued is).1 ∙ sym (text_first text rest) ∙ ap (λ o. cons_option o R) one in
+      let from : log_and_waiting log c ≡ (L ++ N ∷ []) ++ R = ap (λ l. L ++ l) first ∙ sym (append_assoc L (N ∷ []) R) in
       let by : commits_by d.session (drop d.received (log_with log c.session text)) ≡ B =
       entered_rest log c.session text d.session d.received l.within ∙ ap (λ l. B ++ l) (by_other d.session e [] apart) ∙ append-nil B in
-      let mine : N.rev.session ≡ c.session = (subst (AllByRecursion (λ (M : Intent). M.rev.session ≡ c.session)) waiting k.own).0 in
+      let still : Q ≡ waiting (log_with log c.session text) d = ap (λ (l : List Intent). drop (length l) d.pending) (sym by) in
+      let all : L ++ N ∷ Q ≡ log_and_waiting (log_with log c.session text) d = sym (append_assoc L (N ∷ []) Q) ∙ ap (λ l. l ++ Q) (sym commits) ∙ ap (λ l. commits_in (log_with log c.session text) ++ l) still in
+      let mine : N.rev.session ≡ c.session = (subst (AllByRecursion (λ (M : Intent). M.rev.session ≡ c.session)) first k.own).0 in
       let front_fit : FitInTurn O (L ++ N ∷ []) = front (L ++ N ∷ []) R O (subst (FitInTurn O) from k.sent_fit) in
-      let sender : HaveNewRevisions (opening ∷ []) (L ++ N ∷ R) = subst (HaveNewRevisions (opening ∷ [])) (ap (λ l. L ++ l) waiting) k.new in
+      let sender : HaveNewRevisions (opening ∷ []) (L ++ N ∷ R) = subst (HaveNewRevisions (opening ∷ [])) (ap (λ l. L ++ l) first) k.new in
       let new : HaveNewRevisions (opening ∷ []) (L ++ N ∷ Q) = new_between (opening ∷ []) L Q N l.new (λ i. fresh N R mine sender (has-append (revisions (L ++ Q)) (opening ∷ []) N.rev i)) in
       let one_name : names_in (N ∷ Q) ≡ names_made N + names_in Q = refl in
       let room : HasRoom O (L ++ N ∷ Q) = room_left O (L ++ N ∷ Q) st (omega (arith, names_append L (N ∷ Q), one_name, few, waiting_few log d l)) in
@@ -465,11 +586,12 @@ module _ (h : HeaderView) (st : IsStart (opening_document h)) where
         within = omega (arith, l.within, length-append log (e ∷ []));
         few = l.few;
         few_names = l.few_names;
-        under_way = l.under_way ∙ ap (λ x. x ++ Q) (sym by);
+        under_way = l.under_way ∙ ap (λ x. x ++ Q) (sym by) ∙ ap (λ x. own_in_flight (log_with log c.session text) d ++ x) still;
+        queued = subst (λ x. IsQueue x d.connected d.queue) still l.queued;
         shown_fit = subst (FitInTurn O) (ap (λ x. commits_in x ++ d.pending) (sym (entered_front log c.session text d.received l.within))) l.shown_fit;
         sent_fit = subst (FitInTurn O) all (another_later (opening ∷ []) O L N Q st.sound st.made front_fit l.sent_fit new room);
         new = subst (HaveNewRevisions (opening ∷ [])) all new;
-        own = l.own;
+        own = subst (AllByRecursion (λ (M : Intent). M.rev.session ≡ d.session)) still l.own;
         texts = l.texts;
         ids = λ M i s. ids N mine M (has-append L (N ∷ Q) M (subst (λ x. Has x M) (sym all) i)) s;
         transaction = transactions_beside log (log_with log c.session text) d d d.transaction l.transaction refl refl refl (ap commits_in (entered_front log c.session text d.received l.within))
@@ -480,37 +602,37 @@ module _ (h : HeaderView) (st : IsStart (opening_document h)) where
       differ s = grind (arith, nat_tests)
 
       -- the revision of its transaction is not that of the commit, nor of another
-      apart_from : (t : Transaction) (N : Intent) → N.rev.session ≡ c.session → IsTransaction h log d t → Has (revisions (commits_in log ++ N ∷ intents_of d.queue)) t.rev ⊎ Has (opening ∷ []) t.rev → ⊥
-      apart_from t N mine i (inr j) = i.new (append_right (revisions (log_and_queue log d)) (opening ∷ []) t.rev j)
+      apart_from : (t : Transaction) (N : Intent) → N.rev.session ≡ c.session → IsTransaction h log d t → Has (revisions (commits_in log ++ N ∷ waiting log d)) t.rev ⊎ Has (opening ∷ []) t.rev → ⊥
+      apart_from t N mine i (inr j) = i.new (append_right (revisions (log_and_waiting log d)) (opening ∷ []) t.rev j)
       apart_from t N mine i (inl j) =
-          let m = has-map (λ (X : Intent). X.rev) (commits_in log ++ N ∷ intents_of d.queue) t.rev j in
-          place m.0 m.2 (has-append (commits_in log) (N ∷ intents_of d.queue) m.0 m.1)
+          let m = has-map (λ (X : Intent). X.rev) (commits_in log ++ N ∷ waiting log d) t.rev j in
+          place m.0 m.2 (has-append (commits_in log) (N ∷ waiting log d) m.0 m.1)
         where
-          known : (M : Intent) → M.rev ≡ t.rev → Has (log_and_queue log d) M → ⊥
-          known M e q = i.new (append_left (revisions (log_and_queue log d)) (opening ∷ []) t.rev (subst (Has (revisions (log_and_queue log d))) e (map-has (λ (X : Intent). X.rev) (log_and_queue log d) M q)))
+          known : (M : Intent) → M.rev ≡ t.rev → Has (log_and_waiting log d) M → ⊥
+          known M e q = i.new (append_left (revisions (log_and_waiting log d)) (opening ∷ []) t.rev (subst (Has (revisions (log_and_waiting log d))) e (map-has (λ (X : Intent). X.rev) (log_and_waiting log d) M q)))
 
-          place : (M : Intent) → M.rev ≡ t.rev → Has (commits_in log) M ⊎ Has (N ∷ intents_of d.queue) M → ⊥
-          place M e (inl q) = known M e (append_left (commits_in log) (intents_of d.queue) M q)
+          place : (M : Intent) → M.rev ≡ t.rev → Has (commits_in log) M ⊎ Has (N ∷ waiting log d) M → ⊥
+          place M e (inl q) = known M e (append_left (commits_in log) (waiting log d) M q)
           place M e (inr (inl same)) = differ (sym mine ∙ ap (λ (X : Intent). X.rev.session) same ∙ ap (λ (r : Rev). r.session) e ∙ i.session)
-          place M e (inr (inr q)) = known M e (append_right (commits_in log) (intents_of d.queue) M q)
+          place M e (inr (inr q)) = known M e (append_right (commits_in log) (waiting log d) M q)
 
       fresh : (N : Intent) (R : List Intent) → N.rev.session ≡ c.session → HaveNewRevisions (opening ∷ []) (commits_in log ++ N ∷ R)
-          → Has (revisions (commits_in log ++ intents_of d.queue)) N.rev ⊎ Has (opening ∷ []) N.rev → ⊥
+          → Has (revisions (commits_in log ++ waiting log d)) N.rev ⊎ Has (opening ∷ []) N.rev → ⊥
       fresh N R mine sender (inr j) = sender.new N (append_right (commits_in log) (N ∷ R) N (inl refl)) j
       fresh N R mine sender (inl j) =
-          let m = has-map (λ (X : Intent). X.rev) (commits_in log ++ intents_of d.queue) N.rev j in
-          place m.0 m.2 (has-append (commits_in log) (intents_of d.queue) m.0 m.1)
+          let m = has-map (λ (X : Intent). X.rev) (commits_in log ++ waiting log d) N.rev j in
+          place m.0 m.2 (has-append (commits_in log) (waiting log d) m.0 m.1)
         where
-          place : (M : Intent) → M.rev ≡ N.rev → Has (commits_in log) M ⊎ Has (intents_of d.queue) M → ⊥
+          place : (M : Intent) → M.rev ≡ N.rev → Has (commits_in log) M ⊎ Has (waiting log d) M → ⊥
           place M e (inl i) = distinct-between (λ (X : Intent). X.rev) (commits_in log) (N ∷ R) M N sender.once i (inl refl) (sym e)
           place M e (inr i) =
-              let theirs : M.rev.session ≡ d.session = all-has (λ (X : Intent). X.rev.session ≡ d.session) (intents_of d.queue) M l.own i in
+              let theirs : M.rev.session ≡ d.session = all-has (λ (X : Intent). X.rev.session ≡ d.session) (waiting log d) M l.own i in
               differ (sym mine ∙ sym (ap (λ (r : Rev). r.session) e) ∙ theirs)
 
-      ids : (N : Intent) → N.rev.session ≡ c.session → (M : Intent) → Has (commits_in log) M ⊎ Has (N ∷ intents_of d.queue) M → M.rev.session ≡ d.session → M.rev.num ≤ d.ids
-      ids N mine M (inl i) s = l.ids M (append_left (commits_in log) (intents_of d.queue) M i) s
+      ids : (N : Intent) → N.rev.session ≡ c.session → (M : Intent) → Has (commits_in log) M ⊎ Has (N ∷ waiting log d) M → M.rev.session ≡ d.session → M.rev.num ≤ d.ids
+      ids N mine M (inl i) s = l.ids M (append_left (commits_in log) (waiting log d) M i) s
       ids N mine M (inr (inl e)) s = absurd (differ (sym mine ∙ ap (λ (X : Intent). X.rev.session) e ∙ s))
-      ids N mine M (inr (inr i)) s = l.ids M (append_right (commits_in log) (intents_of d.queue) M i) s
+      ids N mine M (inr (inr i)) s = l.ids M (append_right (commits_in log) (waiting log d) M i) s
 
   pub client_beside : (log : List Entry) (c d : Client) (text : Body) (rest : List Body) → IsClient h log c → IsClient h log d → c.queue ≡ text ∷ rest → (c.session == d.session) ≡ false
       → names_in (commits_in log) + names_in_text text ≤ 131072 → IsClient h (log_with log c.session text) d

@@ -1,14 +1,16 @@
 -- All clients, and what is kept of them.
-use Rattle.std.proofs.Common.{◌≡◌, ◌≤◌, ◌<◌, ◌+◌, ◌==◌, ℕ, zero, suc, false, List, [], ◌∷◌, ◌++◌, length, Some, None, refl, sym, ap, ◌∙◌, arith}
-use Rattle.std.specs.List.{slice_get, slice_set, AllByRecursion}
-use Rattle.std.proofs.lemmas.Bool.Decides.{nat_tests}
+use Rattle.std.proofs.Common.{◌≡◌, ◌≢◌, ◌≤◌, ◌<◌, ◌+◌, ◌==◌, ℕ, zero, suc, false, List, [], ◌∷◌, ◌++◌, length, Some, None, refl, sym, ap, ◌∙◌, subst, arith}
+use Rattle.std.specs.List.{remove, slice_get, slice_set, AllByRecursion}
 use Rattle.st_script.specs.Header.{HeaderView}
-use Rattle.st_trace.specs.Replicas.{IsClient, IsReplicaOf, AreReplicas, HaveSessionsFrom}
-use Rattle.st_lists.specs.Log.{log_with, commits_in}
+use Rattle.st_trace.specs.Replicas.{IsClient, IsReplicaOf, AreReplicas, HaveOwnSessions}
+use Rattle.st_ids.specs.Listing.{Has}
+use Rattle.st_ids.proofs.Shared.{at_has}
+use Rattle.st_marks.proofs.Members.{all-has}
+use Rattle.st_lists.specs.Log.{commit_in, log_with, commits_in}
+use Rattle.st_lists.proofs.Present.{are_apart}
 use Rattle.st_lists.specs.Names.{names_in, names_in_text}
 use Rattle.st_trace.specs.World.{opening_document}
 use Rattle.st_trace.specs.declared.replica.Replica.{Replica}
-use Rattle.st_lists.specs.declared.lists.Body.TheVariants.{Join}
 use Rattle.st_lists.specs.declared.lists.Client.{Client}
 use Rattle.st_lists.specs.declared.lists.Entry.{Entry}
 use Rattle.st_trace.proofs.Begun.{IsStart}
@@ -44,24 +46,9 @@ all_as P Q (x ∷ xs) f p = (f x p.0, all_as P Q xs f p.1)
 
 -- ## Sessions
 
-pub session_at : (k : ℕ) (cs : List Client) (i : ℕ) (c : Client) → HaveSessionsFrom k cs → slice_get cs i ≡ Some c → c.session ≡ k + i
-session_at k [] i c s e = cc
-session_at k (x ∷ cs) zero c s e = let same : x ≡ c = cc in rw (← same) (s.0 ∙ omega arith)
-session_at k (x ∷ cs) (suc i) c s e = session_at (k + 1) cs i c s.1 e ∙ omega arith
-
-pub session_bound : (k : ℕ) (cs : List Client) (i : ℕ) (c : Client) → HaveSessionsFrom k cs → slice_get cs i ≡ Some c → c.session < k + length cs
-session_bound k [] i c s e = cc
-session_bound k (x ∷ cs) zero c s e = let same : x ≡ c = cc in rw (← same) (omega (arith, s.0))
-session_bound k (x ∷ cs) (suc i) c s e = omega (arith, session_bound (k + 1) cs i c s.1 e)
-
-pub sessions_set : (k : ℕ) (cs : List Client) (i : ℕ) (c d : Client) → HaveSessionsFrom k cs → slice_get cs i ≡ Some c → d.session ≡ c.session → HaveSessionsFrom k (slice_set cs i d)
-sessions_set k [] i c d s e same = tt
-sessions_set k (x ∷ cs) zero c d s e same = let here : x ≡ c = cc in (same ∙ ap (λ (y : Client). y.session) (sym here) ∙ s.0, s.1)
-sessions_set k (x ∷ cs) (suc i) c d s e same = (s.0, sessions_set (k + 1) cs i c d s.1 e same)
-
-pub sessions_push : (k : ℕ) (cs : List Client) (c : Client) → HaveSessionsFrom k cs → c.session ≡ k + length cs → HaveSessionsFrom k (cs ++ c ∷ [])
-sessions_push k [] c s e = (e ∙ omega arith, tt)
-sessions_push k (x ∷ cs) c s e = (s.0, sessions_push (k + 1) cs c s.1 (e ∙ omega arith))
+-- of two clients at different places
+pub others_apart : (cs : List Client) (d c : Client) → AllByRecursion (λ (x : Client). x.session ≢ d.session) cs → Has cs c → (c.session == d.session) ≡ false
+others_apart cs d c apart h = are_apart c.session d.session (λ e. all-has (λ (x : Client). x.session ≢ d.session) cs c apart h (sym e))
 
 -- ## What is kept
 
@@ -115,15 +102,16 @@ module _ (h : HeaderView) (log : List Entry) where
   kept_push (x ∷ cs) [] c k w p q = absurd w
   kept_push (x ∷ cs) (y ∷ ks) c k w p q = (w.0, w.1, kept_push cs ks c k w.2 p q)
 
-module _ (h : HeaderView) (st : IsStart (opening_document h)) (log : List Entry) where
-  -- another joins
-  pub all_after_join : (session : ℕ) (cs : List Client) (ks : List Replica) → AreReplicas h log cs ks → AreReplicas h (log_with log session Join) cs ks
-  all_after_join session [] [] w = tt
-  all_after_join session [] (k ∷ ks) w = absurd w
-  all_after_join session (c ∷ cs) [] w = absurd w
-  all_after_join session (c ∷ cs) (k ∷ ks) w =
-      (client_after_text h st log session Join c refl w.0, kept_entered h st log session Join c k w.0.within w.1, all_after_join session cs ks w.2)
+  -- one client goes
+  pub kept_without : (cs : List Client) (ks : List Replica) (i : ℕ) → AreReplicas h log cs ks → AreReplicas h log (remove cs i) (remove ks i)
+  kept_without [] [] zero w = tt
+  kept_without [] [] (suc i) w = tt
+  kept_without [] (k ∷ ks) i w = absurd w
+  kept_without (c ∷ cs) [] i w = absurd w
+  kept_without (c ∷ cs) (k ∷ ks) zero w = w.2
+  kept_without (c ∷ cs) (k ∷ ks) (suc i) w = (w.0, w.1, kept_without cs ks i w.2)
 
+module _ (h : HeaderView) (st : IsStart (opening_document h)) (log : List Entry) where
   -- the oldest text of one client is in the log
   module _ (c : Client) (text : Body) (rest : List Body) (own : IsClient h log c) (is : c.queue ≡ text ∷ rest) (few : names_in (commits_in log) + names_in_text text ≤ 131072) where
     abbrev longer : List Entry
@@ -132,32 +120,33 @@ module _ (h : HeaderView) (st : IsStart (opening_document h)) (log : List Entry)
     beside : (d : Client) (k : Replica) → (c.session == d.session) ≡ false → IsClient h log d → IsReplicaOf h log d k → AreOne h longer d k
     beside d k apart w v = record { client = client_beside h st log c d text rest own w is apart few; kept = kept_entered h st log c.session text d k w.within v }
 
-    apart_later : (d : Client) (n : ℕ) → d.session ≡ n → c.session < n → (c.session == d.session) ≡ false
-    apart_later d n e less = grind (arith, nat_tests)
+    all_beside : (cs : List Client) (ks : List Replica) → AllByRecursion (λ (x : Client). x.session ≢ c.session) cs → AreReplicas h log cs ks → AreReplicas h longer cs ks
+    all_beside [] [] apart w = tt
+    all_beside [] (k ∷ ks) apart w = absurd w
+    all_beside (d ∷ cs) [] apart w = absurd w
+    all_beside (d ∷ cs) (k ∷ ks) apart w =
+        let one = beside d k (are_apart c.session d.session apart.0) w.0 w.1 in
+        (one.client, one.kept, all_beside cs ks apart.1 w.2)
 
-    apart_before : (d : Client) (n : ℕ) → d.session ≡ n → n < c.session → (c.session == d.session) ≡ false
-    apart_before d n e less = grind (arith, nat_tests)
-
-    all_later : (n : ℕ) (cs : List Client) (ks : List Replica) → HaveSessionsFrom n cs → c.session < n → AreReplicas h log cs ks → AreReplicas h longer cs ks
-    all_later n [] [] s less w = tt
-    all_later n [] (k ∷ ks) s less w = absurd w
-    all_later n (d ∷ cs) [] s less w = absurd w
-    all_later n (d ∷ cs) (k ∷ ks) s less w =
-        let one = beside d k (apart_later d n s.0 less) w.0 w.1 in
-        (one.client, one.kept, all_later (n + 1) cs ks s.1 (omega (arith, less)) w.2)
-
-    pub all_sent : (n : ℕ) (cs : List Client) (ks : List Replica) (i : ℕ) → HaveSessionsFrom n cs → slice_get cs i ≡ Some c → AreReplicas h log cs ks → AreReplicas h longer (slice_set cs i (record c { queue = rest })) ks
-    all_sent n [] ks i s at w = cc
-    all_sent n (d ∷ cs) [] i s at w = absurd w
-    all_sent n (d ∷ cs) (k ∷ ks) zero s at w =
+    pub all_sent : (cs : List Client) (ks : List Replica) (i : ℕ) → HaveOwnSessions cs → slice_get cs i ≡ Some c → AreReplicas h log cs ks → AreReplicas h longer (slice_set cs i (record c { queue = rest })) ks
+    all_sent [] ks i s at w = cc
+    all_sent (d ∷ cs) [] i s at w = absurd w
+    all_sent (d ∷ cs) (k ∷ ks) zero s at w =
         let same : d ≡ c = cc in
         let kept : IsReplicaOf h log c k = rw (← same) w.1 in
-        let here : c.session ≡ n = ap (λ (x : Client). x.session) (sym same) ∙ s.0 in (
+        let apart = subst (λ (x : Client). AllByRecursion (λ (y : Client). y.session ≢ x.session) cs) same s.0 in (
           client_sent h st log c text rest own is,
           kept_rest h st longer c rest k (kept_entered h st log c.session text c k own.within kept),
-          all_later (n + 1) cs ks s.1 (omega (arith, here)) w.2,
+          all_beside cs ks apart w.2,
         )
-    all_sent n (d ∷ cs) (k ∷ ks) (suc i) s at w =
-        let far = session_at (n + 1) cs i c s.1 at in
-        let one = beside d k (apart_before d n s.0 (omega (arith, far))) w.0 w.1 in
-        (one.client, one.kept, all_sent (n + 1) cs ks i s.1 at w.2)
+    all_sent (d ∷ cs) (k ∷ ks) (suc i) s at w =
+        let one = beside d k (others_apart cs d c s.0 (at_has cs i c at)) w.0 w.1 in
+        (one.client, one.kept, all_sent cs ks i s.1 at w.2)
+
+  -- the log has an entry without a commit
+  pub all_after_text : (session : ℕ) (text : Body) → commit_in text ≡ None → (cs : List Client) (ks : List Replica) → AreReplicas h log cs ks → AreReplicas h (log_with log session text) cs ks
+  all_after_text session text none [] [] w = tt
+  all_after_text session text none [] (k ∷ ks) w = absurd w
+  all_after_text session text none (c ∷ cs) [] w = absurd w
+  all_after_text session text none (c ∷ cs) (k ∷ ks) w =
+      (client_after_text h st log session text c none w.0, kept_entered h st log session text c k w.0.within w.1, all_after_text session text none cs ks w.2)

@@ -1,8 +1,6 @@
 -- The lists of a world by themselves: what holds of them holds after each step.
-use Rattle.std.proofs.Common.{◌≡◌, ◌≤◌, ◌<◌, ◌+◌, ◌==◌, ℕ, zero, suc, Bool, true, false, List, [], ◌∷◌, ◌++◌, length, length-append, drop, Option, Some, None, IfSome, Result, Ok, Err, refl, sym, ap, ◌∙◌, subst, arith}
-use Rattle.std.specs.List.{slice_get, slice_set, AllByRecursion}
-use Rattle.std.proofs.Math.ListN.{length-set}
-use Rattle.std.proofs.lemmas.Bool.Decides.{nat_tests}
+use Rattle.std.proofs.Common.{◌≡◌, ◌≢◌, ◌≤◌, ◌<◌, ◌+◌, ◌==◌, ℕ, zero, suc, Bool, true, false, List, [], ◌∷◌, ◌++◌, length, drop, Option, Some, None, IfSome, Result, Ok, Err, refl, sym, ap, ◌∙◌, subst, arith, inl}
+use Rattle.std.specs.List.{cons_option, remove, slice_get, slice_set, AllByRecursion}
 use Rattle.std.proofs.lemmas.List.{append-nil}
 use Rattle.st_ids.specs.declared.names.Limit.{Limit}
 use Rattle.st_tree.specs.declared.edit.EditFault.{EditFault}
@@ -13,9 +11,9 @@ use Rattle.st_log_laws.specs.Names.{HaveNewRevisions}
 use Rattle.st_log_laws.specs.Turns.{FitInTurn}
 use Rattle.st_script.specs.Header.{HeaderView, header_view}
 use Rattle.st_script.specs.declared.answer.Answer.{Answer}
-use Rattle.st_trace.specs.Replicas.{HasMain, HaveSessionsFrom, IsClient, IsEntryOf, IsHeader, IsSound, IsTransaction, KeepToSchema}
-use Rattle.st_lists.specs.Log.{commit_of, commits_in, commits_of_text, log_with}
-use Rattle.st_lists.specs.Clients.{empty_state, joined_of, new_client, next_rev, with_ack, pending_after, with_begun, with_commit, with_new_commit, with_received, without_transaction}
+use Rattle.st_trace.specs.Replicas.{HasMain, HaveOwnSessions, IsClient, IsEntryOf, IsHeader, IsSound, IsTransaction, KeepToSchema}
+use Rattle.st_lists.specs.Log.{commit_in, commit_of, commits_in, commits_of_text, log_with, sessions_in}
+use Rattle.st_lists.specs.Clients.{empty_state, joined_of, new_client, next_rev, with_ack, pending_after, with_begun, with_commit, with_connection, with_new_commit, with_received, without_connection, without_transaction}
 use Rattle.st_lists.specs.Lines.{commits_of, main_line}
 use Rattle.st_heads.specs.Transactions.{with_open}
 use Rattle.st_marks.proofs.OneVerdict.{one_run}
@@ -25,7 +23,7 @@ use Rattle.st_trace.specs.World.{HasShown, IsAfterEdit, IsAfterNeed, IsDelivered
 use Rattle.st_lists.specs.Limits.{limit_passed, names_limit_passed, pending_limit_passed}
 use Rattle.st_lists.specs.Names.{names_in, names_in_text, names_made}
 use Rattle.st_trace.specs.declared.client.EditWord.{EditWord}
-use Rattle.st_lists.specs.declared.lists.Body.TheVariants.{Join}
+use Rattle.st_lists.specs.declared.lists.Body.TheVariants.{Join, Leave}
 use Rattle.st_lists.specs.declared.lists.Client.{Client}
 use Rattle.st_lists.specs.declared.lists.Entry.{Entry}
 use Rattle.st_lists.specs.declared.lists.Transaction.{Transaction}
@@ -38,13 +36,17 @@ use Rattle.st_script.specs.declared.refusal.Refusal.{Refusal}
 use Rattle.st_trace.specs.Kept.{Unless}
 use Rattle.st_trace.specs.Undo.{IsAfterUndo, IsUndone, IsUndoneAt, refusal_of_rev, refusal_over}
 use Rattle.st_trace.proofs.Undoing.{no_limit, undoing_makes_none}
-use Rattle.st_trace.proofs.Agreed.{acked_keeps, undone_keeps, begun_keeps, committed_keeps, delivered_keeps, edited_keeps, ended_keeps, joined_keeps, parted_keeps, same_keeps, sent_keeps}
+use Rattle.st_trace.proofs.Agreed.{acked_keeps, undone_keeps, begun_keeps, committed_keeps, delivered_keeps, dropped_keeps, edited_keeps, ended_keeps, joined_keeps, left_keeps, parted_keeps, returned_keeps, same_keeps, sent_keeps}
 use Rattle.st_trace.proofs.Begun.{IsStart, opened_start}
-use Rattle.st_trace.proofs.Clients.{client_acked, pending_few, client_after_text, client_beside, client_committed, client_joined, client_none, client_other, client_own, client_sent, next_new}
+use Rattle.st_trace.proofs.Clients.{client_acked, pending_few, client_after_text, client_beside, client_committed, client_joined, client_none, client_offline, client_other, client_own, client_returned, client_sent, next_new}
 use Rattle.st_trace.proofs.Meant.{IsMeaning, IsMeant}
 use Rattle.st_trace.proofs.Parts.{client_begun, client_commits, client_ended, client_parted}
 use Rattle.st_lists.proofs.Names.{names_append, names_of_text}
-use Rattle.st_trace.proofs.Everyone.{all_as, all_get, all_set, clients_of, session_at, session_bound, sessions_push, sessions_set}
+use Rattle.st_trace.proofs.Everyone.{all_as, all_get, all_set, clients_of, others_apart}
+use Rattle.st_ids.specs.Listing.{Has}
+use Rattle.st_ids.proofs.Shared.{at_has}
+use Rattle.st_marks.proofs.Members.{all-has, append_right}
+use Rattle.st_lists.proofs.Present.{all_rest, are_apart, distinct_more, distinct_rest, distinct_set, session_given, session_of, sessions_entered}
 use Rattle.st_trace.proofs.Keeping.{within_limits, within_names, within_pending}
 use Rattle.st_lists.proofs.Logs.{entered_commits, last_entry}
 use Rattle.st_trace.proofs.Stepping.{is_last, of_sessions}
@@ -55,8 +57,9 @@ use Rattle.st_lists.specs.declared.lists.Body.{Body}
 pub record AreSound (h : HeaderView) (w : WorldState) : Type 0 where
   pub header : IsHeader h
   pub clients : AllByRecursion (IsClient h w.log) w.clients
-  pub sessions : HaveSessionsFrom 1 w.clients
-  pub log : AllByRecursion (IsEntryOf (length w.clients)) w.log
+  pub sessions : HaveOwnSessions w.clients
+  pub given : AllByRecursion (λ (c : Client). c.session ≤ sessions_in w.log) w.clients
+  pub log : AllByRecursion IsEntryOf w.log
   pub log_fit : FitInTurn (opening_document h) (commits_in w.log)
   pub log_new : HaveNewRevisions (opening ∷ []) (commits_in w.log)
   pub schema : KeepToSchema h w.log w.clients
@@ -68,6 +71,7 @@ lists_sound w s = record {
   header = s.header;
   clients = clients_of (header_view w.header) w.lists.log w.lists.clients w.kept s.kept;
   sessions = s.sessions;
+  given = s.given;
   log = s.log;
   log_fit = s.log_fit;
   log_new = s.log_new;
@@ -81,6 +85,7 @@ begun_sound h k = record {
   header = k;
   clients = tt;
   sessions = tt;
+  given = tt;
   log = tt;
   log_fit = tt;
   log_new = record { once = tt; new = λ N i j. i };
@@ -95,8 +100,9 @@ pub set_sound : (h : HeaderView) (w : WorldState) (i : ℕ) (c c' : Client) → 
 set_sound h w i c c' s at client session keeps = record {
   header = s.header;
   clients = all_set (IsClient h w.log) w.clients i c' s.clients client;
-  sessions = sessions_set 1 w.clients i c c' s.sessions at session;
-  log = subst (λ n. AllByRecursion (IsEntryOf n) w.log) (sym (length-set w.clients i c')) s.log;
+  sessions = distinct_set session_of w.clients i c c' at session s.sessions;
+  given = all_set (λ (x : Client). x.session ≤ sessions_in w.log) w.clients i c' s.given (omega (arith, session, all_get (λ (x : Client). x.session ≤ sessions_in w.log) w.clients i c s.given at));
+  log = s.log;
   log_fit = s.log_fit;
   log_new = s.log_new;
   schema = keeps;
@@ -155,7 +161,7 @@ module _ (h : HeaderView) (st : IsStart (opening_document h)) where
     pub ids : c'.ids ≤ c.ids + 1
     pub keeps : KeepToSchema h log (slice_set cs i c')
 
-  module _ (log : List Entry) (cs : List Client) (sessions : HaveSessionsFrom 1 cs) (are : AllByRecursion (IsClient h log) cs) (few : names_in (commits_in log) ≤ 131072) (keeps : KeepToSchema h log cs)
+  module _ (log : List Entry) (cs : List Client) (sessions : HaveOwnSessions cs) (are : AllByRecursion (IsClient h log) cs) (few : names_in (commits_in log) ≤ 131072) (keeps : KeepToSchema h log cs)
       (i : ℕ) (c : Client) (at : slice_get cs i ≡ Some c) where
     k : IsClient h log c
     k = all_get (IsClient h log) cs i c are at
@@ -310,8 +316,8 @@ module _ (h : HeaderView) (st : IsStart (opening_document h)) where
         go (Some t) is done = stays c' done.0
         go None none done = of_rev none (refusal_of_rev history log c list rev) done
 
-    pub ack_goes : (c' : Client) → c' ≡ with_ack c → GoesOn log cs i c c'
-    ack_goes c' same = goes_as (with_ack c) c' same (record { client = client_acked h st log c k; session = refl; ids = omega arith; keeps = acked_keeps h st log cs i c at keeps })
+    pub ack_goes : (c' : Client) → c.connected ≡ true → c' ≡ with_ack c → GoesOn log cs i c c'
+    ack_goes c' on same = goes_as (with_ack c) c' same (record { client = client_acked h st log c on k; session = refl; ids = omega arith; keeps = acked_keeps h st log cs i c at keeps })
 
     delivered_on : (c' : Client) (D : Document) (o : Option Entry) (a : Answer) → IsDeliveredTo D c o c' a → (c'.session ≡ c.session) × (c'.ids ≤ c.ids + 1)
     delivered_on c' D None a done = (ap (λ (x : Client). x.session) done.0, omega (arith, ap (λ (x : Client). x.ids) done.0))
@@ -337,25 +343,20 @@ module _ (h : HeaderView) (st : IsStart (opening_document h)) where
     abbrev longer : List Entry
     longer = log_with log c.session text
 
-    apart_later : (d : Client) (n : ℕ) → d.session ≡ n → c.session < n → (c.session == d.session) ≡ false
-    apart_later d n e less = grind (arith, nat_tests)
+    all_beside : (cs : List Client) → AllByRecursion (λ (x : Client). x.session ≢ c.session) cs → AllByRecursion (IsClient h log) cs → AllByRecursion (IsClient h longer) cs
+    all_beside [] apart w = tt
+    all_beside (d ∷ cs) apart w = (client_beside h st log c d text rest own w.0 is (are_apart c.session d.session apart.0) few, all_beside cs apart.1 w.1)
 
-    apart_before : (d : Client) (n : ℕ) → d.session ≡ n → n < c.session → (c.session == d.session) ≡ false
-    apart_before d n e less = grind (arith, nat_tests)
-
-    all_beside : (n : ℕ) (cs : List Client) → HaveSessionsFrom n cs → c.session < n → AllByRecursion (IsClient h log) cs → AllByRecursion (IsClient h longer) cs
-    all_beside n [] s less w = tt
-    all_beside n (d ∷ cs) s less w = (client_beside h st log c d text rest own w.0 is (apart_later d n s.0 less) few, all_beside (n + 1) cs s.1 (omega (arith, less)) w.1)
-
-    pub clients_sent : (n : ℕ) (cs : List Client) (i : ℕ) → HaveSessionsFrom n cs → slice_get cs i ≡ Some c → AllByRecursion (IsClient h log) cs → AllByRecursion (IsClient h longer) (slice_set cs i (record c { queue = rest }))
-    clients_sent n [] i s at w = tt
-    clients_sent n (d ∷ cs) zero s at w =
+    pub clients_sent : (cs : List Client) (i : ℕ) → HaveOwnSessions cs → slice_get cs i ≡ Some c → AllByRecursion (IsClient h log) cs → AllByRecursion (IsClient h longer) (slice_set cs i (record c { queue = rest }))
+    clients_sent [] i s at w = tt
+    clients_sent (d ∷ cs) zero s at w =
         let same : d ≡ c = cc in
-        let here : c.session ≡ n = ap (λ (x : Client). x.session) (sym same) ∙ s.0 in
-        (client_sent h st log c text rest own is, all_beside (n + 1) cs s.1 (omega (arith, here)) w.1)
-    clients_sent n (d ∷ cs) (suc i) s at w =
-        let far = session_at (n + 1) cs i c s.1 at in
-        (client_beside h st log c d text rest own w.0 is (apart_before d n s.0 (omega (arith, far))) few, clients_sent (n + 1) cs i s.1 at w.1)
+        (client_sent h st log c text rest own is, all_beside cs (subst (λ (x : Client). AllByRecursion (λ (y : Client). y.session ≢ x.session) cs) same s.0) w.1)
+    clients_sent (d ∷ cs) (suc i) s at w = (client_beside h st log c d text rest own w.0 is (others_apart cs d c s.0 (at_has cs i c at)) few, clients_sent cs i s.1 at w.1)
+
+-- an entry of a session that was given leaves those given as they are, and an entry of the next gives it
+pub given_still : (log : List Entry) (session : ℕ) (body : Body) (cs : List Client) → AllByRecursion (λ (c : Client). c.session ≤ sessions_in log) cs → AllByRecursion (λ (c : Client). c.session ≤ sessions_in (log_with log session body)) cs
+given_still log session body cs all = all_as (λ (c : Client). c.session ≤ sessions_in log) (λ (c : Client). c.session ≤ sessions_in (log_with log session body)) cs (λ c p. omega (arith, p, sessions_entered log session body)) all
 
 pub sent_sound : (h : HeaderView) (w : WorldState) (i : ℕ) (c : Client) (text : Body) (rest : List Body) → AreSound h w → slice_get w.clients i ≡ Some c → c.queue ≡ text ∷ rest → names_in (commits_in w.log) + names_in_text text ≤ 131072
     → AreSound h (record w { log = log_with w.log c.session text; clients = slice_set w.clients i (record c { queue = rest }) })
@@ -368,41 +369,95 @@ sent_sound h w i c text rest s at is few =
     let last = is_last h w.log c text rest k is in
     let commits : L ++ X ≡ commits_in (log_with w.log c.session text) = sym (entered_commits w.log c.session text) in
     let names : names_in (commits_in (log_with w.log c.session text)) ≡ names_in L + names_in_text text = ap names_in (sym commits) ∙ names_append L X ∙ ap (λ n. names_in L + n) (names_of_text text) in
-    let bound = session_bound 1 w.clients i c s.sessions at in
     record {
       header = s.header;
-      clients = clients_sent h st w.log c text rest k is few 1 w.clients i s.sessions at s.clients;
-      sessions = sessions_set 1 w.clients i c c' s.sessions at refl;
-      log = subst (λ n. AllByRecursion (IsEntryOf n) (log_with w.log c.session text)) (sym (length-set w.clients i c'))
-          (AllByRecursion-append (IsEntryOf (length w.clients)) w.log (last_entry w.log c.session text ∷ []) s.log ((omega (arith, bound), last.session), tt));
+      clients = clients_sent h st w.log c text rest k is few w.clients i s.sessions at s.clients;
+      sessions = distinct_set session_of w.clients i c c' at refl s.sessions;
+      given = all_set (λ (x : Client). x.session ≤ sessions_in (log_with w.log c.session text)) w.clients i c' (given_still w.log c.session text w.clients s.given) (session_given (log_with w.log c.session text) (last_entry w.log c.session text) (append_right w.log (last_entry w.log c.session text ∷ []) (last_entry w.log c.session text) (inl refl)));
+      log = AllByRecursion-append IsEntryOf w.log (last_entry w.log c.session text ∷ []) s.log (last.session, tt);
       log_fit = subst (FitInTurn (opening_document h)) commits last.fit;
       log_new = subst (HaveNewRevisions (opening ∷ [])) commits last.new;
       schema = sent_keeps h st w.log w.clients i c c' text s.clients at is refl last.fit s.schema;
       few_names = omega (arith, few, names);
     }
 
--- ## A client joins
+-- ## Sessions come and go
+
+-- a client that joins has a session that no other has, nor an entry of the log
+pub apart_from_new : (log : List Entry) (cs : List Client) → AllByRecursion (λ (c : Client). c.session ≤ sessions_in log) cs → (x : Client) → Has cs x → x.session ≢ sessions_in log + 1
+apart_from_new log cs given x h e = omega (arith, all-has (λ (c : Client). c.session ≤ sessions_in log) cs x given h, e)
 
 pub joined_sound : (h : HeaderView) (w : WorldState) (name : List ℕ) → AreSound h w
-    → AreSound h (record w { log = log_with w.log (length w.clients + 1) Join; clients = w.clients ++ new_client (length w.log + 1) (length w.clients + 1) name ∷ [] })
+    → AreSound h (record w { log = log_with w.log (sessions_in w.log + 1) Join; clients = w.clients ++ new_client (length w.log + 1) (sessions_in w.log + 1) name ∷ [] })
 joined_sound h w name s =
     let st = opened_start h s.header in
-    let session = length w.clients + 1 in
+    let session = sessions_in w.log + 1 in
     let L = commits_in w.log in
     let longer = log_with w.log session Join in
     let c = new_client (length w.log + 1) session name in
     let commits : L ≡ commits_in longer = sym (entered_commits w.log session Join ∙ append-nil L) in
-    let more : length (w.clients ++ c ∷ []) ≡ length w.clients + 1 = omega (arith, length-append w.clients (c ∷ [])) in
-    let client = client_joined h st w.log session name s.log_fit s.log_new (λ N i e. omega (arith, of_sessions (length w.clients) w.log N s.log i, e)) in
+    let client = client_joined h st w.log session name s.log_fit s.log_new (λ N i e. omega (arith, of_sessions w.log N s.log i, e)) in
     record {
       header = s.header;
       clients = AllByRecursion-append (IsClient h longer) w.clients (c ∷ []) (all_as (IsClient h w.log) (IsClient h longer) w.clients (λ d k. client_after_text h st w.log session Join d refl k) s.clients) (client, tt);
-      sessions = sessions_push 1 w.clients c s.sessions (omega arith);
-      log = subst (λ m. AllByRecursion (IsEntryOf m) longer) (sym more)
-          (AllByRecursion-append (IsEntryOf (length w.clients + 1)) w.log (last_entry w.log session Join ∷ [])
-          (all_as (IsEntryOf (length w.clients)) (IsEntryOf (length w.clients + 1)) w.log (λ e p. (omega (arith, p.0), p.1)) s.log) ((omega arith, tt), tt));
+      sessions = distinct_more session_of w.clients c s.sessions (apart_from_new w.log w.clients s.given);
+      given = AllByRecursion-append (λ (x : Client). x.session ≤ sessions_in longer) w.clients (c ∷ []) (given_still w.log session Join w.clients s.given) (omega (arith, sessions_entered w.log session Join), tt);
+      log = AllByRecursion-append IsEntryOf w.log (last_entry w.log session Join ∷ []) s.log (tt, tt);
       log_fit = subst (FitInTurn (opening_document h)) commits s.log_fit;
       log_new = subst (HaveNewRevisions (opening ∷ [])) commits s.log_new;
       schema = joined_keeps h st w.log w.clients session name c s.clients refl s.schema;
       few_names = omega (arith, s.few_names, ap names_in commits);
     }
+
+-- an entry without a commit, of a client that is there: the others stay, and it goes or is now so
+module _ (h : HeaderView) (w : WorldState) (i : ℕ) (c : Client) (body : Body) (s : AreSound h w) (at : slice_get w.clients i ≡ Some c) (none : commit_in body ≡ None) where
+  abbrev longer : List Entry
+  longer = log_with w.log c.session body
+
+  st : IsStart (opening_document h)
+  st = opened_start h s.header
+
+  commits : commits_in w.log ≡ commits_in longer
+  commits = sym (entered_commits w.log c.session body ∙ ap (λ o. commits_in w.log ++ cons_option o []) none ∙ append-nil (commits_in w.log))
+
+  others : AllByRecursion (IsClient h longer) w.clients
+  others = all_as (IsClient h w.log) (IsClient h longer) w.clients (λ d k. client_after_text h st w.log c.session body d none k) s.clients
+
+  pub entered_sound : (cs : List Client) → AllByRecursion (IsClient h longer) cs → HaveOwnSessions cs → AllByRecursion (λ (x : Client). x.session ≤ sessions_in longer) cs → KeepToSchema h longer cs → AreSound h (record w { log = longer; clients = cs })
+  entered_sound cs clients sessions given keeps = record {
+    header = s.header;
+    clients = clients;
+    sessions = sessions;
+    given = given;
+    log = AllByRecursion-append IsEntryOf w.log (last_entry w.log c.session body ∷ []) s.log (subst (λ o. IfSome o (λ (N : Intent). N.rev.session ≡ c.session)) (sym none) tt, tt);
+    log_fit = subst (FitInTurn (opening_document h)) commits s.log_fit;
+    log_new = subst (HaveNewRevisions (opening ∷ [])) commits s.log_new;
+    schema = keeps;
+    few_names = omega (arith, s.few_names, ap names_in commits);
+  }
+
+  pub set_after : (c' : Client) → c'.session ≡ c.session → IsClient h longer c' → KeepToSchema h longer (slice_set w.clients i c') → AreSound h (record w { log = longer; clients = slice_set w.clients i c' })
+  set_after c' session client keeps =
+      let low = all_get (λ (x : Client). x.session ≤ sessions_in w.log) w.clients i c s.given at in
+      entered_sound (slice_set w.clients i c') (all_set (IsClient h longer) w.clients i c' others client) (distinct_set session_of w.clients i c c' at session s.sessions)
+      (all_set (λ (x : Client). x.session ≤ sessions_in longer) w.clients i c' (given_still w.log c.session body w.clients s.given) (omega (arith, low, session, sessions_entered w.log c.session body))) keeps
+
+  pub gone_after : KeepToSchema h longer (remove w.clients i) → AreSound h (record w { log = longer; clients = remove w.clients i })
+  gone_after keeps =
+      entered_sound (remove w.clients i) (all_rest (IsClient h longer) w.clients i others) (distinct_rest session_of w.clients i s.sessions)
+      (all_rest (λ (x : Client). x.session ≤ sessions_in longer) w.clients i (given_still w.log c.session body w.clients s.given)) keeps
+
+pub left_sound : (h : HeaderView) (w : WorldState) (i : ℕ) (c : Client) → AreSound h w → slice_get w.clients i ≡ Some c → AreSound h (record w { log = log_with w.log c.session Leave; clients = remove w.clients i })
+left_sound h w i c s at = gone_after h w i c Leave s at refl (left_keeps h (opened_start h s.header) w.log w.clients i c.session s.clients s.schema)
+
+pub dropped_sound : (h : HeaderView) (w : WorldState) (i : ℕ) (c : Client) → AreSound h w → slice_get w.clients i ≡ Some c → AreSound h (record w { log = log_with w.log c.session Leave; clients = slice_set w.clients i (without_connection c) })
+dropped_sound h w i c s at =
+    let st = opened_start h s.header in
+    let k = all_get (IsClient h w.log) w.clients i c s.clients at in
+    set_after h w i c Leave s at refl (without_connection c) refl (client_offline h st (log_with w.log c.session Leave) c (client_after_text h st w.log c.session Leave c refl k)) (dropped_keeps h st w.log w.clients i c s.clients at s.schema)
+
+pub returned_sound : (h : HeaderView) (w : WorldState) (i : ℕ) (c : Client) → AreSound h w → slice_get w.clients i ≡ Some c → c.transaction ≡ None → AreSound h (record w { log = log_with w.log c.session Join; clients = slice_set w.clients i (with_connection w.log c) })
+returned_sound h w i c s at none =
+    let st = opened_start h s.header in
+    let k = all_get (IsClient h w.log) w.clients i c s.clients at in
+    set_after h w i c Join s at refl (with_connection w.log c) refl (client_returned h st w.log c k none) (returned_keeps h st w.log w.clients i c s.clients at none s.schema)

@@ -1,5 +1,5 @@
 -- What is kept of a client stands for its lists after each of its steps.
-use Rattle.std.proofs.Common.{◌≡◌, ◌≤◌, ◌<◌, ◌+◌, ◌-◌, ◌==◌, ℕ, Bool, true, false, cond, List, [], ◌∷◌, ◌++◌, length, take, drop, Option, Some, None, IfSome, nat_le, nat_lt, Result, Ok, Err, refl, sym, ap, ◌∙◌, subst, arith}
+use Rattle.std.proofs.Common.{◌≡◌, ◌≤◌, ◌<◌, ◌+◌, ◌-◌, ◌==◌, ℕ, Bool, true, false, cond, List, [], ◌∷◌, ◌++◌, length, length-append, take, drop, Option, Some, None, IfSome, nat_le, nat_lt, Result, Ok, Err, refl, sym, ap, ◌∙◌, subst, arith}
 use Rattle.std.specs.List.{slice_get}
 use Rattle.std.proofs.lemmas.Bool.Decides.{nat_tests}
 use Rattle.std.proofs.lemmas.List.{append-nil, take_all}
@@ -22,10 +22,10 @@ use Rattle.st_heads.proofs.Runs.{as_many, run_of, runs_joined}
 use Rattle.st_script.specs.Header.{HeaderView}
 use Rattle.st_script.specs.declared.answer.Answer.{Answer}
 use Rattle.st_trace.specs.Replicas.{HasMain, IsClient, IsReplicaOf}
-use Rattle.st_trace.specs.inside.Replicas.{IsCommitted, IsPending, HasTaken, HasPart, HasCommittedOf, IsNewReplica, CanReceive, CanCarry, HasMoved, HasReceivedNext, HasReceivedOf, HasReceivedOne}
-use Rattle.st_lists.specs.Log.{commit_of, commits_in, log_with}
+use Rattle.st_trace.specs.inside.Replicas.{HasCaughtUp, IsCommitted, IsPending, HasTaken, HasPart, HasCommittedOf, IsNewReplica, CanReceive, CanCarry, HasMoved, HasReceivedNext, HasReceivedOf, HasReceivedOne}
+use Rattle.st_lists.specs.Log.{commit_of, commits_in, log_with, waiting}
 use Rattle.st_trace.specs.World.{HasShown, IsDeliveredTo, after_edit, cells_given, after_commit, opening_document, with_pending}
-use Rattle.st_lists.specs.Clients.{joined_of, with_begun, with_edited, with_new_commit, with_transaction, without_transaction, new_client, pending_after, received_by, with_received}
+use Rattle.st_lists.specs.Clients.{joined_of, with_begun, with_connection, with_edited, with_new_commit, with_transaction, without_connection, without_transaction, new_client, pending_after, received_by, with_received}
 use Rattle.st_lists.specs.Lines.{main_line}
 use Rattle.st_lists.specs.declared.lists.Transaction.{Transaction}
 use Rattle.st_heads.specs.Transactions.{HasOpen, with_open}
@@ -36,13 +36,14 @@ use Rattle.st_lists.specs.Names.{names_in, names_made, unsequenced}
 use Rattle.st_trace.specs.declared.client.EditWord.{EditWord}
 use Rattle.st_trace.specs.declared.replica.Replica.{Replica}
 use Rattle.st_lists.specs.declared.lists.Body.{Body}
+use Rattle.st_lists.specs.declared.lists.Body.TheVariants.{Join}
 use Rattle.st_lists.specs.declared.lists.Client.{Client}
 use Rattle.st_lists.specs.declared.lists.Entry.{Entry}
 use Rattle.st_trace.proofs.Begun.{IsStart}
 use Rattle.st_lists.proofs.Names.{names_append}
 use Rattle.st_trace.proofs.Clients.{other_fit, own_first, received_more}
 use Rattle.st_trace.proofs.Parts.{names_edited}
-use Rattle.st_lists.proofs.Logs.{one_commit, no_commit, entered_front}
+use Rattle.st_lists.proofs.Logs.{commits_split, one_commit, no_commit, entered_commits, entered_front, last_entry}
 use Rattle.st_trace.proofs.Receiving.{rest_carried}
 
 -- one more commit is carried out
@@ -295,6 +296,25 @@ module _ (h : HeaderView) (st : IsStart (opening_document h)) where
 
   pub kept_rest : (log : List Entry) (c : Client) (rest : List Body) (k : Replica) → IsReplicaOf h log c k → IsReplicaOf h log (record c { queue = rest }) k
   kept_rest log c rest k w = record { received = w.received; own = w.own; edited = w.edited; names = w.names }
+
+  -- of one that isn't connected any more
+  pub kept_offline : (log : List Entry) (c : Client) (k : Replica) → IsReplicaOf h log c k → IsReplicaOf h log (without_connection c) k
+  kept_offline log c k w = record { received = w.received; own = w.own; edited = w.edited; names = w.names }
+
+  -- of one that comes back
+  pub kept_returned : (log : List Entry) (c : Client) (k k' : Replica) → c.transaction ≡ None → IsReplicaOf h log c k → HasCaughtUp log c k k' → IsReplicaOf h (log_with log c.session Join) (with_connection log c) k'
+  kept_returned log c k k' none w up =
+      let longer = log_with log c.session Join in
+      let size : length longer ≡ length log + 1 = omega (arith, length-append log (last_entry log c.session Join ∷ [])) in
+      let commits : commits_in log ≡ commits_in longer = sym (entered_commits log c.session Join ∙ append-nil (commits_in log)) in
+      let whole : take (length log + 1) longer ≡ longer = take_all (length log + 1) longer (omega (arith, size)) in
+      let split : received_by log c ++ commits_in (drop c.received log) ≡ commits_in (take (length log + 1) longer) = sym (commits_split c.received log) ∙ commits ∙ ap commits_in (sym whole) in
+      record {
+        received = subst (λ l. Run (opening_document h) l (document_of k'.received)) split (run_then w.received up.received);
+        own = up.own;
+        edited = still_none k' c.transaction none up.edited;
+        names = up.names ∙ sym (ap (λ (o : Option Transaction). names_edited (option_and_then (λ (x : Transaction). x.joined) o) + names_in (waiting log c)) none);
+      }
 
   -- of a client that joins
   pub kept_joined : (log : List Entry) (n session : ℕ) (name : List ℕ) (k : Replica) (D : Document) → n ≡ length log → Run (opening_document h) (commits_in log) D → IsNewReplica D k

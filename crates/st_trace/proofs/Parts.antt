@@ -30,7 +30,7 @@ use Rattle.st_heads.proofs.Editing.{can_follow, fits_so_far, open_shows}
 use Rattle.st_script.specs.Header.{HeaderView}
 use Rattle.st_lists.specs.Clients.{next_rev, received_by, with_begun, with_commit, with_edited, with_transaction, without_transaction}
 use Rattle.st_lists.specs.Lines.{main_line}
-use Rattle.st_lists.specs.Log.{commits_in, log_and_queue}
+use Rattle.st_lists.specs.Log.{commits_in, log_and_waiting}
 use Rattle.st_lists.specs.Names.{names_in, names_made, unsequenced}
 use Rattle.st_lists.proofs.Names.{fewer_names, names_append}
 use Rattle.st_lists.specs.declared.lists.Client.{Client}
@@ -290,4 +290,4 @@ module _ (h : HeaderView) (st : IsStart (opening_document h)) where
       let so = subst (FitsSoFar i.before t.rev t.under) joined i.so_far in
       let waiting : unsequenced c ≡ names_made J + names_in c.pending = ap (λ (o : Option Transaction). names_edited (option_and_then (λ (x : Transaction). x.joined) o) + names_in c.pending) is ∙ ap (λ o. names_edited o + names_in c.pending) joined in
       client_committed h st log c c.ids i.before J k i.main so.0 (ap (λ (r : Rev). r.session) so.1 ∙ i.session) (omega (arith, ap (λ (r : Rev). r.num) so.1, i.num)) (omega arith)
-      (λ q. i.new (subst (Has (revisions (log_and_queue log c) ++ opening ∷ [])) so.1 q)) i.room (omega (arith, waiting, k.few_names)) all
+      (λ q. i.new (subst (Has (revisions (log_and_waiting log c) ++ opening ∷ [])) so.1 q)) i.room (omega (arith, waiting, k.few_names)) all

@@ -1,6 +1,6 @@
 -- The world after a step of one client.
-use Rattle.std.proofs.Common.{◌≡◌, ◌≤◌, ◌<◌, ◌+◌, ◌^◌, ◌-◌, ℕ, zero, suc, Bool, true, false, cond, min, nat_le, nat_lt, List, [], ◌∷◌, ◌++◌, length, length-append, map, Option, Some, None, IfSome, refl, sym, ap, ◌∙◌, subst, arith, append_assoc, inl, inr}
-use Rattle.std.specs.List.{AllByRecursion, cons_option, slice_get, slice_set}
+use Rattle.std.proofs.Common.{◌≡◌, ◌≢◌, ◌≤◌, ◌<◌, ◌+◌, ◌^◌, ◌-◌, ℕ, zero, suc, Bool, true, false, cond, min, not, ◌&&◌, nat_le, nat_lt, List, [], ◌∷◌, ◌++◌, length, length-append, Option, Some, None, IfSome, refl, sym, ap, ◌∙◌, subst, arith, append_assoc, inl, inr}
+use Rattle.std.specs.List.{AllByRecursion, cons_option, remove, slice_get, slice_set}
 use Rattle.std.specs.BTreeMap.{BTreeMap}
 use Rattle.std.specs.Option.{option_map}
 use Rattle.std.specs.Cmp.Lexicographic.{pointwise}
@@ -26,36 +26,39 @@ use Rattle.st_doc.specs.declared.doc.Doc.{Doc}
 use Rattle.st_script.specs.Header.{HeaderView, header_view}
 use Rattle.st_script.specs.declared.answer.Answer.{Answer}
 use Rattle.st_script.specs.declared.answer.Answer.TheVariants.{No}
-use Rattle.st_script.specs.declared.refusal.Refusal.TheVariants.{NothingToSend, NoBranch}
+use Rattle.st_script.specs.declared.refusal.Refusal.TheVariants.{NotConnected, NothingToSend, NoBranch}
 use Rattle.st_script.specs.Steps.{StepView}
-use Rattle.st_trace.specs.Replicas.{AreReplicas, IsClient, IsEntryOf, IsReplicaOf, IsSound, IsSoundAfter, KeepToSchema}
-use Rattle.st_lists.specs.Log.{commit_in, commits_of_text, intents_of, is_text, log_and_queue, minimum}
+use Rattle.st_trace.specs.Replicas.{AreReplicas, HaveOwnSessions, IsClient, IsEntryOf, IsReplicaOf, IsSound, IsSoundAfter, KeepToSchema}
+use Rattle.st_lists.specs.Log.{commit_in, commits_of_text, connected_after, intents_of, is_text, log_and_waiting, minimum, sessions_in, waiting}
 use Rattle.st_lists.specs.Known.{AreConnected, AreKnown}
-use Rattle.st_lists.proofs.Minima.{client_session, connected_entered, connected_more, minima_more, sessions_stay}
+use Rattle.st_lists.proofs.Minima.{minima_more}
+use Rattle.st_lists.proofs.Present.{all_rest, connected_goes, connected_joined, connected_left, connected_stays, distinct_more, distinct_rest, distinct_set, rest_fewer, session_given, session_of, sessions_entered, text_stays}
+use Rattle.st_ids.proofs.Shared.{at_has}
+use Rattle.st_marks.proofs.Members.{all-has}
 use Rattle.st_lists.specs.Log.{commit_of, commits_in, log_with}
-use Rattle.st_trace.specs.World.{IsActOf, IsNext, AtClient, OnBranch, act_of_none, branch_at, opening_document, sequence}
-use Rattle.st_lists.specs.Clients.{new_client, place_of}
+use Rattle.st_trace.specs.World.{IsActOf, IsNext, AtClient, ByConnected, OnBranch, act_of_none, branch_at, needs_connection, opening_document, sequence}
+use Rattle.st_lists.specs.Clients.{new_client, place_of, with_connection, without_connection}
 use Rattle.st_lists.specs.Limits.{log_limit_passed}
 use Rattle.st_lists.specs.Names.{names_in, names_in_text}
 use Rattle.st_trace.specs.declared.replica.Replica.{Replica}
-use Rattle.st_lists.specs.declared.lists.Body.TheVariants.{Join}
+use Rattle.st_lists.specs.declared.lists.Body.TheVariants.{Join, Leave}
 use Rattle.st_lists.specs.declared.lists.Client.{Client}
 use Rattle.st_lists.specs.declared.lists.Entry.{Entry}
 use Rattle.st_lists.specs.declared.lists.WorldState.{WorldState}
 use Rattle.st_trace.specs.declared.world.World.{World}
-use Rattle.st_trace.proofs.Agreed.{joined_keeps, sent_keeps}
+use Rattle.st_trace.proofs.Agreed.{dropped_keeps, joined_keeps, left_keeps, returned_keeps, sent_keeps}
 use Rattle.st_trace.proofs.Begun.{IsStart, opened_start}
-use Rattle.st_trace.proofs.Clients.{client_joined}
+use Rattle.st_trace.proofs.Clients.{client_joined, client_offline, client_returned, queue_first}
 use Rattle.st_lists.proofs.Names.{names_append, names_of_text}
-use Rattle.st_trace.proofs.Everyone.{all_after_join, all_as, all_get, all_sent, all_set, clients_of, kept_push, kept_set, kept_some, past, session_bound, sessions_push, sessions_set}
-use Rattle.st_trace.proofs.Keeping.{AreOne, kept_joined, run_more}
+use Rattle.st_trace.proofs.Everyone.{all_after_text, all_as, all_get, all_sent, all_set, clients_of, kept_at, kept_none, kept_push, kept_set, kept_some, kept_without, past, set_same}
+use Rattle.st_trace.proofs.Keeping.{AreOne, kept_joined, kept_offline, kept_returned, run_more}
 use Rattle.st_lists.proofs.Logs.{entered_commits, last_entry, text_first}
-use Rattle.st_lemmas.proofs.Lists.{AllByRecursion-append, map-append}
+use Rattle.st_lemmas.proofs.Lists.{AllByRecursion-append}
 use Rattle.st_lists.specs.declared.lists.Body.{Body}
 use Rattle.st_ids.specs.declared.names.Rev.{Rev}
 use Rattle.st_trace.specs.declared.logged.Logged.{Logged}
-use Rattle.st_trace.specs.inside.Replicas.{HasEntered, HasLogged, IsNewReplica}
-use Rattle.st_trace.proofs.Noting.{entered_of, logged_entered, logged_none}
+use Rattle.st_trace.specs.inside.Replicas.{HasCaughtUp, HasEntered, HasLogged, IsNewReplica}
+use Rattle.st_trace.proofs.Noting.{entered_of, logged_entered, logged_none, place_among}
 
 abbrev pub start_of : (w : World) (steps : ℕ) → IsSoundAfter steps w → IsStart (opening_document (header_view w.header))
 start_of w steps s = opened_start (header_view w.header) s.header
@@ -66,6 +69,9 @@ sound_later steps w s = record {
   header = s.header;
   kept = s.kept;
   sessions = s.sessions;
+  given = s.given;
+  counted = s.counted;
+  few_sessions = s.few_sessions;
   clients = s.clients;
   ids = all_as (λ (c : Client). c.ids ≤ steps) (λ (c : Client). c.ids ≤ steps + 1) w.lists.clients (λ c p. omega (arith, p)) s.ids;
   log = s.log;
@@ -84,16 +90,19 @@ sound_later steps w s = record {
 }
 
 -- one client goes on
-pub sound_client : (w : World) (i : ℕ) (c c' : Client) (k' : Replica) → IsSound w → slice_get w.lists.clients i ≡ Some c → AreOne (header_view w.header) w.lists.log c' k' → c'.session ≡ c.session → c'.ids ≤ c.ids + 1
+pub sound_client : (w : World) (i : ℕ) (c c' : Client) (k' : Replica) → IsSound w → slice_get w.lists.clients i ≡ Some c → AreOne (header_view w.header) w.lists.log c' k' → c'.session ≡ c.session → c'.connected ≡ c.connected → c'.ids ≤ c.ids + 1
     → KeepToSchema (header_view w.header) w.lists.log (slice_set w.lists.clients i c') → IsSoundAfter (w.steps + 1) (record w { lists = record w.lists { clients = slice_set w.lists.clients i c' }; kept = slice_set w.kept i k' })
-sound_client w i c c' k' s at one session ids keeps = record {
+sound_client w i c c' k' s at one session connected ids keeps = record {
   header = s.header;
   kept = kept_set (header_view w.header) w.lists.log w.lists.clients w.kept i c' k' s.kept one;
-  sessions = sessions_set 1 w.lists.clients i c c' s.sessions at session;
+  sessions = distinct_set session_of w.lists.clients i c c' at session s.sessions;
+  given = all_set (λ (x : Client). x.session ≤ sessions_in w.lists.log) w.lists.clients i c' s.given (omega (arith, session, all_get (λ (x : Client). x.session ≤ sessions_in w.lists.log) w.lists.clients i c s.given at));
+  counted = s.counted;
+  few_sessions = s.few_sessions;
   clients = omega (arith, s.clients, length-set w.lists.clients i c');
   ids = all_set (λ (x : Client). x.ids ≤ w.steps + 1) w.lists.clients i c' (all_as (λ (x : Client). x.ids ≤ w.steps) (λ (x : Client). x.ids ≤ w.steps + 1) w.lists.clients (λ x p. omega (arith, p)) s.ids)
       (omega (arith, ids, all_get (λ (x : Client). x.ids ≤ w.steps) w.lists.clients i c s.ids at));
-  log = subst (λ n. AllByRecursion (IsEntryOf n) w.lists.log) (sym (length-set w.lists.clients i c')) s.log;
+  log = s.log;
   log_fit = s.log_fit;
   log_new = s.log_new;
   schema = keeps;
@@ -102,7 +111,7 @@ sound_client w i c c' k' s at one session ids keeps = record {
   names = s.names;
   few_names = s.few_names;
   known = s.known;
-  connected = subst (AreConnected w.lists.log) (sym (sessions_stay w.lists.clients i c c' at session)) s.connected;
+  connected = connected_stays w.lists.log w.lists.clients i c at s.sessions s.connected c' session connected;
   minima = s.minima;
   logged = s.logged;
   arrays = s.arrays;
@@ -121,13 +130,13 @@ is_last h log c text rest k is =
     let L = commits_in log in
     let X = commits_of_text text in
     let R = intents_of rest in
-    let waiting : intents_of c.queue ≡ X ++ R = ap intents_of is ∙ text_first text rest in
-    let all : log_and_queue log c ≡ (L ++ X) ++ R = ap (λ l. L ++ l) waiting ∙ sym (append_assoc L X R) in
+    let first : waiting log c ≡ X ++ R = (queue_first (waiting log c) c.connected c.queue rest text k.queued is).1 in
+    let all : log_and_waiting log c ≡ (L ++ X) ++ R = ap (λ l. L ++ l) first ∙ sym (append_assoc L X R) in
     let whole = subst (HaveNewRevisions (opening ∷ [])) all k.new in
     record {
       fit = front (L ++ X) R (opening_document h) (subst (FitInTurn (opening_document h)) all k.sent_fit);
       new = subst (HaveNewRevisions (opening ∷ [])) (append-nil (L ++ X)) (new_shorter (opening ∷ []) ((L ++ X) ++ []) ((L ++ X) ++ R) (sublist_joined (sublist_itself (L ++ X)) (sublist_none R)) whole);
-      session = mine (commit_in text) R (subst (AllByRecursion (λ (M : Intent). M.rev.session ≡ c.session)) waiting k.own);
+      session = mine (commit_in text) R (subst (AllByRecursion (λ (M : Intent). M.rev.session ≡ c.session)) first k.own);
     }
   where
     mine : (o : Option Intent) (R : List Intent) → AllByRecursion (λ (M : Intent). M.rev.session ≡ c.session) (cons_option o [] ++ R) → IfSome o (λ N. N.rev.session ≡ c.session)
@@ -176,12 +185,20 @@ limit_stopped log made = ap (λ b. cond (nat_le 65535 (length log)) (Some (recor
     same : (n : ℕ) → nat_lt 131072 (n + min made (2 ^ 64 - 1)) ≡ nat_lt 131072 (n + made)
     same n = grind (arith, nat_tests)
 
--- all are connected still
-pub sent_connected : (w : World) (i : ℕ) (c : Client) (text : Body) (rest : List Body) → IsSound w → slice_get w.lists.clients i ≡ Some c → c.queue ≡ text ∷ rest
-    → AreConnected (log_with w.lists.log c.session text) (map (λ (x : Client). x.session) w.lists.clients)
-sent_connected w i c text rest s at is =
+-- who is connected is so still
+pub sent_connected : (w : World) (i : ℕ) (c c' : Client) (text : Body) → IsSound w → slice_get w.lists.clients i ≡ Some c → c.queue ≡ text ∷ c'.queue → c' ≡ record c { queue = c'.queue }
+    → AreConnected (log_with w.lists.log c.session text) (slice_set w.lists.clients i c')
+sent_connected w i c c' text s at is is_c =
     let k = kept_some (header_view w.header) w.lists.log w.lists.clients w.kept i c s.kept at in
-    connected_entered w.lists.log (map (λ (x : Client). x.session) w.lists.clients) c.session text (subst (AllByRecursion (λ (q : Body). is_text q ≡ true)) is k.texts).0 (client_session w.lists.clients i c at) s.connected
+    let stays : connected_after c.connected text ≡ c'.connected = text_stays c.connected text (subst (AllByRecursion (λ (q : Body). is_text q ≡ true)) is k.texts).0 ∙ sym (ap (λ (x : Client). x.connected) is_c) in
+    connected_goes w.lists.log w.lists.clients i c at s.sessions s.connected c' text (ap (λ (x : Client). x.session) is_c) stays
+
+-- a client's session is one of those that the log has given, with one entry more too
+given_here : (w : World) (i : ℕ) (c : Client) → IsSound w → slice_get w.lists.clients i ≡ Some c → c.session ≤ sessions_in w.lists.log
+given_here w i c s at = all_get (λ (x : Client). x.session ≤ sessions_in w.lists.log) w.lists.clients i c s.given at
+
+given_still : (log : List Entry) (session : ℕ) (body : Body) (cs : List Client) → AllByRecursion (λ (c : Client). c.session ≤ sessions_in log) cs → AllByRecursion (λ (c : Client). c.session ≤ sessions_in (log_with log session body)) cs
+given_still log session body cs all = all_as (λ (c : Client). c.session ≤ sessions_in log) (λ (c : Client). c.session ≤ sessions_in (log_with log session body)) cs (λ c p. omega (arith, p, sessions_entered log session body)) all
 
 pub sound_sent : (w : World) (i : ℕ) (c c' : Client) (text : Body) (log_document : Doc) (known : BTreeMap ℕ ℕ) (logged : BTreeMap Rev Logged) → IsSound w → slice_get w.lists.clients i ≡ Some c → c.queue ≡ text ∷ c'.queue → c' ≡ record c { queue = c'.queue }
     → length w.lists.log < 65535 → names_in (commits_in w.lists.log) + names_in_text text ≤ 131072 → HasLogged (document_of w.log_document) w.logged (length w.lists.log + 1) (commit_in text) (document_of log_document) logged
@@ -207,17 +224,20 @@ sound_sent w i c c' text log_document known logged s at is is_c few few_names no
     let names : names_in (commits_in (log_with log c.session text)) ≡ names_in L + names_in_text text = ap names_in (sym commits) ∙ names_append L X ∙ ap (λ n. names_in L + n) (names_of_text text) in
     let set : slice_set w.lists.clients i (record c { queue = c'.queue }) ≡ slice_set w.lists.clients i c' = ap (slice_set w.lists.clients i) (sym is_c) in
     let size = length-set w.lists.clients i c' in
-    let bound = session_bound 1 w.lists.clients i c s.sessions at in
+    let mine = given_here w i c s at in
+    let given : sessions_in (log_with log c.session text) ≡ sessions_in log = omega (arith, mine, sessions_entered log c.session text) in
     let low = all_get (λ (x : Client). x.ids ≤ w.steps) w.lists.clients i c s.ids at in
     record {
       header = s.header;
-      kept = subst (λ (cs : List Client). AreReplicas h (log_with log c.session text) cs w.kept) set (all_sent h st log c text c'.queue k is few_names 1 w.lists.clients w.kept i s.sessions at s.kept);
-      sessions = sessions_set 1 w.lists.clients i c c' s.sessions at (ap (λ (x : Client). x.session) is_c);
+      kept = subst (λ (cs : List Client). AreReplicas h (log_with log c.session text) cs w.kept) set (all_sent h st log c text c'.queue k is few_names w.lists.clients w.kept i s.sessions at s.kept);
+      sessions = distinct_set session_of w.lists.clients i c c' at (ap (λ (x : Client). x.session) is_c) s.sessions;
+      given = all_set (λ (x : Client). x.session ≤ sessions_in (log_with log c.session text)) w.lists.clients i c' (given_still log c.session text w.lists.clients s.given) (omega (arith, mine, given, ap (λ (x : Client). x.session) is_c));
+      counted = s.counted ∙ sym given;
+      few_sessions = omega (arith, s.few_sessions, given, length-append log (last_entry log c.session text ∷ []));
       clients = omega (arith, s.clients, size);
       ids = all_set (λ (x : Client). x.ids ≤ w.steps + 1) w.lists.clients i c' (all_as (λ (x : Client). x.ids ≤ w.steps) (λ (x : Client). x.ids ≤ w.steps + 1) w.lists.clients (λ x p. omega (arith, p)) s.ids)
           (omega (arith, low, ap (λ (x : Client). x.ids) is_c));
-      log = subst (λ n. AllByRecursion (IsEntryOf n) (log_with log c.session text)) (sym size)
-          (AllByRecursion-append (IsEntryOf (length w.lists.clients)) log (last_entry log c.session text ∷ []) s.log ((omega (arith, bound), last.session), tt));
+      log = AllByRecursion-append IsEntryOf log (last_entry log c.session text ∷ []) s.log (last.session, tt);
       log_fit = subst (FitInTurn (opening_document h)) commits last.fit;
       log_new = subst (HaveNewRevisions (opening ∷ [])) commits last.new;
       schema = sent_keeps h st log w.lists.clients i c c' text (clients_of h log w.lists.clients w.kept s.kept) at is is_c last.fit s.schema;
@@ -226,72 +246,252 @@ sound_sent w i c c' text log_document known logged s at is is_c few few_names no
       names = omega (arith, s.names, names);
       few_names = omega (arith, few_names, names);
       known = knows;
-      connected = subst (AreConnected (log_with log c.session text)) (sym (sessions_stay w.lists.clients i c c' at (ap (λ (x : Client). x.session) is_c))) (sent_connected w i c text c'.queue s at is);
+      connected = sent_connected w i c c' text s at is is_c;
       minima = minima_more log w.minima c.session text (minimum (log_with log c.session text)) refl s.minima;
       logged = logged_entered (opening_document h) (document_of w.log_document) (document_of log_document) log c.session text w.logged s.logged logged last.new s.log_document noted;
       arrays = s.arrays;
     }
 
--- ## A client joins
+-- ## Sessions come and go
 
--- a commit of the log is of one of the sessions
-pub of_sessions : (sessions : ℕ) (es : List Entry) (N : Intent) → AllByRecursion (IsEntryOf sessions) es → Has (commits_in es) N → N.rev.session ≤ sessions
-of_sessions sessions [] N all i = absurd i
-of_sessions sessions (e ∷ es) N all i = go (commit_of e) all.0.1 i (λ j. of_sessions sessions es N all.1 j)
-  where
-    go : (o : Option Intent) → IfSome o (λ (M : Intent). M.rev.session ≡ e.session) → Has (cons_option o (commits_in es)) N → (Has (commits_in es) N → N.rev.session ≤ sessions) → N.rev.session ≤ sessions
-    go None own i rest = rest i
-    go (Some M) own (inl same) rest = let at : N.rev.session ≡ e.session = ap (λ (X : Intent). X.rev.session) (sym same) ∙ own in omega (arith, at, all.0.0)
-    go (Some M) own (inr i) rest = rest i
+-- a commit of the log is of one of the sessions that it has given
+pub of_sessions : (log : List Entry) (N : Intent) → AllByRecursion IsEntryOf log → Has (commits_in log) N → N.rev.session ≤ sessions_in log
+of_sessions log N all i =
+    let p = place_among log N i in
+    let own : N.rev.session ≡ p.1.session = subst (λ o. IfSome o (λ (M : Intent). M.rev.session ≡ p.1.session)) p.3 (all_get IsEntryOf log p.0 p.1 all p.2) in
+    omega (arith, own, session_given log p.1 (at_has log p.0 p.1 p.2))
 
-pub joined_connected : (w : World) (session : ℕ) (c : Client) → IsSound w → c.session ≡ session → AreConnected (log_with w.lists.log session Join) (map (λ (x : Client). x.session) (w.lists.clients ++ c ∷ []))
-joined_connected w session c s same =
-    subst (AreConnected (log_with w.lists.log session Join)) (sym (map-append (λ (x : Client). x.session) w.lists.clients (c ∷ []) ∙ ap (λ n. map (λ (x : Client). x.session) w.lists.clients ++ n ∷ []) same))
-    (connected_more w.lists.log (map (λ (x : Client). x.session) w.lists.clients) session s.connected)
+-- an entry without a commit, after which the clients are so, and what is kept of them
+pub record IsAfterEntry (w : World) (session : ℕ) (body : Body) (cs : List Client) (ks : List Replica) (known : BTreeMap ℕ ℕ) (sessions : ℕ) : Type 0 where
+  pub none : commit_in body ≡ None
+  pub few : length w.lists.log < 65535
+  pub kept : AreReplicas (header_view w.header) (log_with w.lists.log session body) cs ks
+  pub sessions : HaveOwnSessions cs
+  pub given : AllByRecursion (λ (c : Client). c.session ≤ sessions_in (log_with w.lists.log session body)) cs
+  pub counted : sessions ≡ sessions_in (log_with w.lists.log session body)
+  pub few_sessions : sessions ≤ length w.lists.log + 1
+  pub clients : length cs ≤ 64
+  pub ids : AllByRecursion (λ (c : Client). c.ids ≤ w.steps) cs
+  pub schema : KeepToSchema (header_view w.header) (log_with w.lists.log session body) cs
+  pub known : AreKnown (log_with w.lists.log session body) known
+  pub connected : AreConnected (log_with w.lists.log session body) cs
 
-pub sound_joined : (w : World) (name : List ℕ) (n session : ℕ) (c : Client) (k : Replica) (known : BTreeMap ℕ ℕ) → IsSound w → length w.lists.clients < 64 → length w.lists.log < 65535 → session ≡ length w.lists.clients + 1
+pub sound_entered : (w : World) (session : ℕ) (body : Body) (cs : List Client) (ks : List Replica) (known : BTreeMap ℕ ℕ) (sessions : ℕ) → IsSound w → IsAfterEntry w session body cs ks known sessions
+    → IsSoundAfter (w.steps + 1) (record w {
+      lists = record w.lists { log = log_with w.lists.log session body; clients = cs };
+      kept = ks;
+      known = known;
+      minima = w.minima ++ minimum (log_with w.lists.log session body) ∷ [];
+      sessions = sessions;
+    })
+sound_entered w session body cs ks known sessions s x =
+    let h = header_view w.header in
+    let log = w.lists.log in
+    let L = commits_in log in
+    let longer = log_with log session body in
+    let commits : L ≡ commits_in longer = sym (entered_commits log session body ∙ ap (λ o. L ++ cons_option o []) x.none ∙ append-nil L) in
+    let size : length longer ≡ length log + 1 = omega (arith, length-append log (last_entry log session body ∷ [])) in
+    record {
+      header = s.header;
+      kept = x.kept;
+      sessions = x.sessions;
+      given = x.given;
+      counted = x.counted;
+      few_sessions = omega (arith, x.few_sessions, x.counted, size);
+      clients = x.clients;
+      ids = all_as (λ (c : Client). c.ids ≤ w.steps) (λ (c : Client). c.ids ≤ w.steps + 1) cs (λ c p. omega (arith, p)) x.ids;
+      log = AllByRecursion-append IsEntryOf log (last_entry log session body ∷ []) s.log (subst (λ o. IfSome o (λ (N : Intent). N.rev.session ≡ session)) (sym x.none) tt, tt);
+      log_fit = subst (FitInTurn (opening_document h)) commits s.log_fit;
+      log_new = subst (HaveNewRevisions (opening ∷ [])) commits s.log_new;
+      schema = x.schema;
+      log_document = subst (λ l. Run (opening_document h) l (document_of w.log_document)) commits s.log_document;
+      entries = omega (arith, x.few, size);
+      names = s.names ∙ ap names_in commits;
+      few_names = omega (arith, s.few_names, ap names_in commits);
+      known = x.known;
+      connected = x.connected;
+      minima = minima_more log w.minima session body (minimum longer) refl s.minima;
+      logged = logged_none (opening_document h) (document_of w.log_document) (document_of w.log_document) log session body w.logged s.logged x.none;
+      arrays = s.arrays;
+    }
+
+-- a client joins, by the next session
+apart_from_next : (w : World) → IsSound w → (x : Client) → Has w.lists.clients x → x.session ≢ sessions_in w.lists.log + 1
+apart_from_next w s x i e = omega (arith, all-has (λ (c : Client). c.session ≤ sessions_in w.lists.log) w.lists.clients x s.given i, e)
+
+pub joined_connected : (w : World) (session : ℕ) (c : Client) → IsSound w → session ≡ sessions_in w.lists.log + 1 → c.session ≡ session → c.connected ≡ true → AreConnected (log_with w.lists.log session Join) (w.lists.clients ++ c ∷ [])
+joined_connected w session c s next same on =
+    subst (λ n. AreConnected (log_with w.lists.log n Join) (w.lists.clients ++ c ∷ [])) same
+    (connected_joined w.lists.log w.lists.clients c (λ x i e. apart_from_next w s x i (e ∙ same ∙ next)) on s.connected)
+
+pub sound_joined : (w : World) (name : List ℕ) (n session : ℕ) (c : Client) (k : Replica) (known : BTreeMap ℕ ℕ) → IsSound w → length w.lists.clients < 64 → length w.lists.log < 65535 → session ≡ sessions_in w.lists.log + 1
     → n ≡ length w.lists.log + 1 → AreKnown (log_with w.lists.log session Join) known → c ≡ new_client n session name → IsNewReplica (document_of w.log_document) k
     → IsSoundAfter (w.steps + 1) (record w {
       lists = record w.lists { log = log_with w.lists.log session Join; clients = w.lists.clients ++ c ∷ [] };
       kept = w.kept ++ k ∷ [];
       known = known;
       minima = w.minima ++ minimum (log_with w.lists.log session Join) ∷ [];
+      sessions = session;
     })
 sound_joined w name n session c k known s few few_entries is_s is_n knows is_c new =
     let h = header_view w.header in
     let st = start_of w w.steps s in
     let log = w.lists.log in
     let L = commits_in log in
-    let commits : L ≡ commits_in (log_with log session Join) = sym (entered_commits log session Join ∙ append-nil L) in
-    let size : length (log_with log session Join) ≡ length log + 1 = omega (arith, length-append log (last_entry log session Join ∷ [])) in
+    let longer = log_with log session Join in
+    let commits : L ≡ commits_in longer = sym (entered_commits log session Join ∙ append-nil L) in
+    let size : length longer ≡ length log + 1 = omega (arith, length-append log (last_entry log session Join ∷ [])) in
     let more : length (w.lists.clients ++ c ∷ []) ≡ length w.lists.clients + 1 = omega (arith, length-append w.lists.clients (c ∷ [])) in
-    let client = client_joined h st log session name s.log_fit s.log_new (λ N i e. omega (arith, of_sessions (length w.lists.clients) log N s.log i, e, is_s)) in
-    let kept = kept_joined h st (log_with log session Join) (length log + 1) session name k (document_of w.log_document) (sym size) (subst (λ l. Run (opening_document h) l (document_of w.log_document)) commits s.log_document) new in
+    let client = client_joined h st log session name s.log_fit s.log_new (λ N i e. omega (arith, of_sessions log N s.log i, e, is_s)) in
+    let kept = kept_joined h st longer (length log + 1) session name k (document_of w.log_document) (sym size) (subst (λ l. Run (opening_document h) l (document_of w.log_document)) commits s.log_document) new in
     let is : new_client (length log + 1) session name ≡ c = ap (λ m. new_client m session name) (sym is_n) ∙ sym is_c in
-    record {
-      header = s.header;
-      kept = kept_push h (log_with log session Join) w.lists.clients w.kept c k (all_after_join h st log session w.lists.clients w.kept s.kept)
-          (subst (λ x. IsClient h (log_with log session Join) x) is client) (subst (λ x. IsReplicaOf h (log_with log session Join) x k) is kept);
-      sessions = sessions_push 1 w.lists.clients c s.sessions (ap (λ (x : Client). x.session) is_c ∙ is_s ∙ omega arith);
+    let mine : c.session ≡ session = ap (λ (x : Client). x.session) is_c in
+    let given : sessions_in longer ≡ session = omega (arith, is_s, sessions_entered log session Join) in
+    sound_entered w session Join (w.lists.clients ++ c ∷ []) (w.kept ++ k ∷ []) known session s (record {
+      none = refl;
+      few = few_entries;
+      kept = kept_push h longer w.lists.clients w.kept c k (all_after_text h st log session Join refl w.lists.clients w.kept s.kept)
+          (subst (λ x. IsClient h longer x) is client) (subst (λ x. IsReplicaOf h longer x k) is kept);
+      sessions = distinct_more session_of w.lists.clients c s.sessions (λ x i e. apart_from_next w s x i (e ∙ mine ∙ is_s));
+      given = AllByRecursion-append (λ (x : Client). x.session ≤ sessions_in longer) w.lists.clients (c ∷ []) (given_still log session Join w.lists.clients s.given) (omega (arith, mine, given), tt);
+      counted = sym given;
+      few_sessions = omega (arith, is_s, s.few_sessions);
       clients = omega (arith, few, more);
-      ids = AllByRecursion-append (λ (x : Client). x.ids ≤ w.steps + 1) w.lists.clients (c ∷ []) (all_as (λ (x : Client). x.ids ≤ w.steps) (λ (x : Client). x.ids ≤ w.steps + 1) w.lists.clients (λ x p. omega (arith, p)) s.ids)
-          (omega (arith, ap (λ (x : Client). x.ids) is_c), tt);
-      log = subst (λ m. AllByRecursion (IsEntryOf m) (log_with log session Join)) (sym more)
-          (AllByRecursion-append (IsEntryOf (length w.lists.clients + 1)) log (last_entry log session Join ∷ [])
-          (all_as (IsEntryOf (length w.lists.clients)) (IsEntryOf (length w.lists.clients + 1)) log (λ e p. (omega (arith, p.0), p.1)) s.log) ((omega (arith, is_s), tt), tt));
-      log_fit = subst (FitInTurn (opening_document h)) commits s.log_fit;
-      log_new = subst (HaveNewRevisions (opening ∷ [])) commits s.log_new;
+      ids = AllByRecursion-append (λ (x : Client). x.ids ≤ w.steps) w.lists.clients (c ∷ []) s.ids (omega (arith, ap (λ (x : Client). x.ids) is_c), tt);
       schema = joined_keeps h st log w.lists.clients session name c (clients_of h log w.lists.clients w.kept s.kept) (sym is) s.schema;
-      log_document = subst (λ l. Run (opening_document h) l (document_of w.log_document)) commits s.log_document;
-      entries = omega (arith, few_entries, size);
-      names = s.names ∙ ap names_in commits;
-      few_names = omega (arith, s.few_names, ap names_in commits);
       known = knows;
-      connected = joined_connected w session c s (ap (λ (x : Client). x.session) is_c);
-      minima = minima_more log w.minima session Join (minimum (log_with log session Join)) refl s.minima;
-      logged = logged_none (opening_document h) (document_of w.log_document) (document_of w.log_document) log session Join w.logged s.logged refl;
-      arrays = s.arrays;
+      connected = joined_connected w session c s is_s mine (ap (λ (x : Client). x.connected) is_c);
+    })
+
+-- an entry of a client that is there gives no session more
+module _ (w : World) (i : ℕ) (c : Client) (body : Body) (s : IsSound w) (at : slice_get w.lists.clients i ≡ Some c) where
+  given_again : w.sessions ≡ sessions_in (log_with w.lists.log c.session body)
+  given_again = s.counted ∙ omega (arith, given_here w i c s at, sessions_entered w.lists.log c.session body)
+
+  few_again : w.sessions ≤ length w.lists.log + 1
+  few_again = omega (arith, s.counted, s.few_sessions)
+
+-- a client leaves
+pub left_connected : (w : World) (i : ℕ) (c : Client) → IsSound w → slice_get w.lists.clients i ≡ Some c → AreConnected (log_with w.lists.log c.session Leave) (remove w.lists.clients i)
+left_connected w i c s at = connected_left w.lists.log w.lists.clients i c at s.sessions s.connected
+
+pub sound_left : (w : World) (i : ℕ) (c : Client) (known : BTreeMap ℕ ℕ) → IsSound w → slice_get w.lists.clients i ≡ Some c → length w.lists.log < 65535 → AreKnown (log_with w.lists.log c.session Leave) known
+    → IsSoundAfter (w.steps + 1) (record w {
+      lists = record w.lists { log = log_with w.lists.log c.session Leave; clients = remove w.lists.clients i };
+      kept = remove w.kept i;
+      known = known;
+      minima = w.minima ++ minimum (log_with w.lists.log c.session Leave) ∷ [];
+    })
+sound_left w i c known s at few knows =
+    let h = header_view w.header in
+    let st = start_of w w.steps s in
+    let log = w.lists.log in
+    let longer = log_with log c.session Leave in
+    sound_entered w c.session Leave (remove w.lists.clients i) (remove w.kept i) known w.sessions s (record {
+      none = refl;
+      few = few;
+      kept = kept_without h longer w.lists.clients w.kept i (all_after_text h st log c.session Leave refl w.lists.clients w.kept s.kept);
+      sessions = distinct_rest session_of w.lists.clients i s.sessions;
+      given = all_rest (λ (x : Client). x.session ≤ sessions_in longer) w.lists.clients i (given_still log c.session Leave w.lists.clients s.given);
+      counted = given_again w i c Leave s at;
+      few_sessions = few_again w i c Leave s at;
+      clients = omega (arith, s.clients, rest_fewer w.lists.clients i);
+      ids = all_rest (λ (x : Client). x.ids ≤ w.steps) w.lists.clients i s.ids;
+      schema = left_keeps h st log w.lists.clients i c.session (clients_of h log w.lists.clients w.kept s.kept) s.schema;
+      known = knows;
+      connected = left_connected w i c s at;
+    })
+
+-- a client that is there has an entry without a commit, and is now so
+set_entered : (w : World) (i : ℕ) (c c' : Client) (ks : List Replica) (body : Body) (known : BTreeMap ℕ ℕ) → IsSound w → slice_get w.lists.clients i ≡ Some c → commit_in body ≡ None → length w.lists.log < 65535 → c'.session ≡ c.session → c'.ids ≡ c.ids
+    → AreReplicas (header_view w.header) (log_with w.lists.log c.session body) (slice_set w.lists.clients i c') ks → KeepToSchema (header_view w.header) (log_with w.lists.log c.session body) (slice_set w.lists.clients i c')
+    → AreConnected (log_with w.lists.log c.session body) (slice_set w.lists.clients i c') → AreKnown (log_with w.lists.log c.session body) known → IsAfterEntry w c.session body (slice_set w.lists.clients i c') ks known w.sessions
+set_entered w i c c' ks body known s at none few session ids kept keeps connected knows =
+    let log = w.lists.log in
+    let longer = log_with log c.session body in
+    let mine = given_here w i c s at in
+    let low = all_get (λ (x : Client). x.ids ≤ w.steps) w.lists.clients i c s.ids at in
+    record {
+      none = none;
+      few = few;
+      kept = kept;
+      sessions = distinct_set session_of w.lists.clients i c c' at session s.sessions;
+      given = all_set (λ (x : Client). x.session ≤ sessions_in longer) w.lists.clients i c' (given_still log c.session body w.lists.clients s.given) (omega (arith, mine, session, sessions_entered log c.session body));
+      counted = given_again w i c body s at;
+      few_sessions = few_again w i c body s at;
+      clients = omega (arith, s.clients, length-set w.lists.clients i c');
+      ids = all_set (λ (x : Client). x.ids ≤ w.steps) w.lists.clients i c' s.ids (omega (arith, low, ids));
+      schema = keeps;
+      known = knows;
+      connected = connected;
     }
+
+-- a client is dropped
+pub dropped_connected : (w : World) (i : ℕ) (c : Client) → IsSound w → slice_get w.lists.clients i ≡ Some c → AreConnected (log_with w.lists.log c.session Leave) (slice_set w.lists.clients i (without_connection c))
+dropped_connected w i c s at = connected_goes w.lists.log w.lists.clients i c at s.sessions s.connected (without_connection c) Leave refl refl
+
+pub sound_dropped : (w : World) (i : ℕ) (c : Client) (known : BTreeMap ℕ ℕ) → IsSound w → slice_get w.lists.clients i ≡ Some c → length w.lists.log < 65535 → AreKnown (log_with w.lists.log c.session Leave) known
+    → IsSoundAfter (w.steps + 1) (record w {
+      lists = record w.lists { log = log_with w.lists.log c.session Leave; clients = slice_set w.lists.clients i (without_connection c) };
+      known = known;
+      minima = w.minima ++ minimum (log_with w.lists.log c.session Leave) ∷ [];
+    })
+sound_dropped w i c known s at few knows = go (slice_get w.kept i) refl
+  where
+    h : HeaderView
+    h = header_view w.header
+
+    log : List Entry
+    log = w.lists.log
+
+    longer : List Entry
+    longer = log_with log c.session Leave
+
+    abbrev Next : Type 0
+    Next = IsSoundAfter (w.steps + 1) (record w {
+      lists = record w.lists { log = log_with w.lists.log c.session Leave; clients = slice_set w.lists.clients i (without_connection c) };
+      known = known;
+      minima = w.minima ++ minimum (log_with w.lists.log c.session Leave) ∷ [];
+    })
+
+    by : (k : Replica) → slice_get w.kept i ≡ Some k → Next
+    by k at_k =
+        let st = start_of w w.steps s in
+        let all = all_after_text h st log c.session Leave refl w.lists.clients w.kept s.kept in
+        let one = kept_at h longer w.lists.clients w.kept i c k all at at_k in
+        let now : AreOne h longer (without_connection c) k = record { client = client_offline h st longer c one.client; kept = kept_offline h st longer c k one.kept } in
+        let kept = subst (λ (ks : List Replica). AreReplicas h longer (slice_set w.lists.clients i (without_connection c)) ks) (set_same w.kept i k at_k) (kept_set h longer w.lists.clients w.kept i (without_connection c) k all now) in
+        sound_entered w c.session Leave (slice_set w.lists.clients i (without_connection c)) w.kept known w.sessions s
+        (set_entered w i c (without_connection c) w.kept Leave known s at refl few refl refl kept (dropped_keeps h st log w.lists.clients i c (clients_of h log w.lists.clients w.kept s.kept) at s.schema) (dropped_connected w i c s at) knows)
+
+    go : (o : Option Replica) → slice_get w.kept i ≡ o → Next
+    go None none = absurd (kept_none h log w.lists.clients w.kept i c s.kept at none)
+    go (Some k) at_k = by k at_k
+
+-- a client comes back
+pub returned_connected : (w : World) (i : ℕ) (c c' : Client) → IsSound w → slice_get w.lists.clients i ≡ Some c → c' ≡ with_connection w.lists.log c → AreConnected (log_with w.lists.log c.session Join) (slice_set w.lists.clients i c')
+returned_connected w i c c' s at is = connected_goes w.lists.log w.lists.clients i c at s.sessions s.connected c' Join (ap (λ (x : Client). x.session) is) (sym (ap (λ (x : Client). x.connected) is))
+
+pub sound_returned : (w : World) (i : ℕ) (c c' : Client) (k k' : Replica) (known : BTreeMap ℕ ℕ) → IsSound w → slice_get w.lists.clients i ≡ Some c → slice_get w.kept i ≡ Some k → c.transaction ≡ None → length w.lists.log < 65535
+    → AreKnown (log_with w.lists.log c.session Join) known → c' ≡ with_connection w.lists.log c → HasCaughtUp w.lists.log c k k'
+    → IsSoundAfter (w.steps + 1) (record w {
+      lists = record w.lists { log = log_with w.lists.log c.session Join; clients = slice_set w.lists.clients i c' };
+      kept = slice_set w.kept i k';
+      known = known;
+      minima = w.minima ++ minimum (log_with w.lists.log c.session Join) ∷ [];
+    })
+sound_returned w i c c' k k' known s at at_k none few knows is_c up =
+    let h = header_view w.header in
+    let st = start_of w w.steps s in
+    let log = w.lists.log in
+    let longer = log_with log c.session Join in
+    let one = kept_at h log w.lists.clients w.kept i c k s.kept at at_k in
+    let all = all_after_text h st log c.session Join refl w.lists.clients w.kept s.kept in
+    let now : AreOne h longer (with_connection log c) k' = record { client = client_returned h st log c one.client none; kept = kept_returned h st log c k k' none one.kept up } in
+    let is : AreOne h longer c' k' = subst (λ x. AreOne h longer x k') (sym is_c) now in
+    let keeps = subst (λ x. KeepToSchema h longer (slice_set w.lists.clients i x)) (sym is_c) (returned_keeps h st log w.lists.clients i c (clients_of h log w.lists.clients w.kept s.kept) at none s.schema) in
+    sound_entered w c.session Join (slice_set w.lists.clients i c') (slice_set w.kept i k') known w.sessions s
+    (set_entered w i c c' (slice_set w.kept i k') Join known s at refl few (ap (λ (x : Client). x.session) is_c) (ap (λ (x : Client). x.ids) is_c) (kept_set h longer w.lists.clients w.kept i c' k' all is) keeps (returned_connected w i c c' s at is_c) knows)
 
 -- ## Answers
 
@@ -301,7 +501,7 @@ next_none h w s v a none is = rw none is
 
 -- what the client at the place does
 pub next_present : (h : HeaderView) (w : WorldState) (s : StepView) (i : ℕ) (v : WorldState) (a : Answer) → place_of s.client w.clients ≡ Some i
-    → ((c : Client) → slice_get w.clients i ≡ Some c → OnBranch (branch_at s.branch s.act) w v a (IsActOf h w s.act i c v a)) → IsNext h w s v a
+    → ((c : Client) → slice_get w.clients i ≡ Some c → OnBranch (branch_at s.branch s.act) w v a (ByConnected (needs_connection s.act) c.connected w v a (IsActOf h w s.act i c v a))) → IsNext h w s v a
 next_present h w s i v a is does = rw is (at (slice_get w.clients i) refl)
   where
     within : i < length w.clients
@@ -314,6 +514,17 @@ next_present h w s i v a is does = rw is (at (slice_get w.clients i) refl)
 pub on_main : (branch : ℕ) (w v : WorldState) (a : Answer) (next : Type 0) → branch ≡ 0 → next → OnBranch branch w v a next
 on_main zero w v a next e n = n
 on_main (suc k) w v a next e n = absurd (omega (arith, e))
+
+-- whether an act is refused because its client isn't connected
+pub by_connected : (needs connected : Bool) (w v : WorldState) (a : Answer) (next : Type 0) → needs && not connected ≡ false → next → ByConnected needs connected w v a next
+by_connected false connected w v a next e n = n
+by_connected true true w v a next e n = n
+by_connected true false w v a next e n = cc
+
+pub not_connected : (needs connected : Bool) (w : WorldState) (next : Type 0) → needs && not connected ≡ true → ByConnected needs connected w w (No NotConnected) next
+not_connected false connected w next e = cc
+not_connected true true w next e = cc
+not_connected true false w next e = (refl, refl)
 
 pub on_none : (branch : ℕ) (w : WorldState) (next : Type 0) → (branch ≡ 0 → ⊥) → OnBranch branch w w (No NoBranch) next
 on_none zero w next e = absurd (e refl)

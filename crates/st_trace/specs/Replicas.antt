@@ -1,7 +1,7 @@
 -- What the kept documents and numbers stand for, and what holds of the lists of each world that steps lead to.
-use Rattle.std.specs.Prelude.{map, ◌≡◌, ℕ, ◌+◌, ◌<◌, ◌≤◌, true, List, [], ◌∷◌, ◌++◌, length, drop, Option, None, IfSome}
+use Rattle.std.specs.Prelude.{◌≡◌, ℕ, ◌+◌, ◌<◌, ◌≤◌, Bool, true, false, List, [], ◌∷◌, ◌++◌, length, Option, None, IfSome}
 use Rattle.std.specs.List.{AllByRecursion}
-use Rattle.st_ids.specs.Listing.{Has}
+use Rattle.st_ids.specs.Listing.{AreDistinct, Has}
 use Rattle.st_ids.specs.declared.names.FieldId.{FieldId}
 use Rattle.st_ids.specs.declared.names.NodeId.{NodeId}
 use Rattle.st_marks.specs.declared.intents.Intent.{Intent}
@@ -21,7 +21,7 @@ use Rattle.st_heads.specs.Remembered.{AreCarried}
 use Rattle.st_heads.specs.Transactions.{FitsSoFar, HasOpen, with_open}
 use Rattle.st_script.specs.Header.{HeaderView, header_view, may_open}
 use Rattle.st_lists.specs.Known.{AreConnected, AreKnown, AreMinima}
-use Rattle.st_lists.specs.Log.{commit_of, commits_by, commits_in, intents_of, is_text, log_and_queue}
+use Rattle.st_lists.specs.Log.{commit_of, commits_in, intents_of, is_text, log_and_waiting, own_in_flight, sessions_in, waiting}
 use Rattle.st_lists.specs.Clients.{HasReceived, joined_of, received_by}
 use Rattle.st_lists.specs.Lines.{HasHead, main_line}
 use Rattle.st_trace.specs.Logged.{AreLogged}
@@ -45,7 +45,7 @@ pub record IsTransaction (h : HeaderView) (log : List Entry) (c : Client) (t : T
   -- its revision is one of the client's ids, and that of no commit
   pub session : t.rev.session ≡ c.session
   pub num : t.rev.num ≤ c.ids
-  pub new : Has (revisions (log_and_queue log c) ++ opening ∷ []) t.rev → ⊥
+  pub new : Has (revisions (log_and_waiting log c) ++ opening ∷ []) t.rev → ⊥
   -- its commit can still be pending, and it has given at most as many names as a commit may
   pub room : length c.pending < 256
   pub counted : t.nodes + t.cells ≤ 2048
@@ -59,6 +59,11 @@ pub record IsTransaction (h : HeaderView) (log : List Entry) (c : Client) (t : T
   pub nodes : (k : ℕ) → t.nodes ≤ k → (with_open before t.joined).nodes (node_named t.rev k) ≡ None
   pub cells : (k : ℕ) → t.cells ≤ k → (with_open before t.joined).row_of (cell_named t.rev k) ≡ None
 
+-- the queue of a client that is connected has the commits that wait, and that of another is empty
+abbrev pub IsQueue : List Intent → Bool → List Body → Type 0
+IsQueue commits true queue = intents_of queue ≡ commits
+IsQueue commits false queue = queue ≡ []
+
 -- what a client's lists are, beside the log
 pub record IsClient (h : HeaderView) (log : List Entry) (c : Client) : Type 0 where
   pub within : c.received ≤ length log
@@ -66,14 +71,16 @@ pub record IsClient (h : HeaderView) (log : List Entry) (c : Client) : Type 0 wh
   pub few : length c.pending ≤ 256
   pub few_names : unsequenced c ≤ 16384
   -- pending are its commits in the log that it has not received, and then those that wait
-  pub under_way : c.pending ≡ commits_by c.session (drop c.received log) ++ intents_of c.queue
-  -- what it shows, and what the log comes to when its queue is sent, can be carried out in turn
+  pub under_way : c.pending ≡ own_in_flight log c ++ waiting log c
+  -- the queue has the commits that wait, while it is connected
+  pub queued : IsQueue (waiting log c) c.connected c.queue
+  -- what it shows, and what the log comes to when all that waits is sent, can be carried out in turn
   pub shown_fit : FitInTurn (opening_document h) (received_by log c ++ c.pending)
-  pub sent_fit : FitInTurn (opening_document h) (log_and_queue log c)
+  pub sent_fit : FitInTurn (opening_document h) (log_and_waiting log c)
   -- no revision is there twice, those that wait are of its session, and those of its session are among the ids that it generated
-  pub new : HaveNewRevisions (opening ∷ []) (log_and_queue log c)
-  pub own : AllByRecursion (λ (N : Intent). N.rev.session ≡ c.session) (intents_of c.queue)
-  pub ids : (N : Intent) → Has (log_and_queue log c) N → N.rev.session ≡ c.session → N.rev.num ≤ c.ids
+  pub new : HaveNewRevisions (opening ∷ []) (log_and_waiting log c)
+  pub own : AllByRecursion (λ (N : Intent). N.rev.session ≡ c.session) (waiting log c)
+  pub ids : (N : Intent) → Has (log_and_waiting log c) N → N.rev.session ≡ c.session → N.rev.num ≤ c.ids
   -- those that wait are texts
   pub texts : AllByRecursion (λ (text : Body). is_text text ≡ true) c.queue
   -- it may have a transaction open
@@ -90,10 +97,9 @@ pub record IsReplicaOf (h : HeaderView) (log : List Entry) (c : Client) (k : Rep
 
 -- ## The world
 
--- the clients' sessions are counted from k on
-abbrev pub HaveSessionsFrom : ℕ → List Client → Type 0
-HaveSessionsFrom k [] = Unit {0}
-HaveSessionsFrom k (c ∷ cs) = (c.session ≡ k) × HaveSessionsFrom (k + 1) cs
+-- no two clients have one session
+abbrev pub HaveOwnSessions : List Client → Type 0
+HaveOwnSessions cs = AreDistinct (λ (c : Client). c.session) cs
 
 -- the header is one that a trace may open with
 pub record IsHeader (h : HeaderView) : Type 0 where
@@ -124,18 +130,22 @@ pub record KeepSchemaWith (h : HeaderView) (log : List Entry) (cs : List Client)
 abbrev pub KeepToSchema : HeaderView → List Entry → List Client → Type 0
 KeepToSchema h log cs = (home : NodeId → Option FieldId) × KeepSchemaWith h log cs home
 
--- an entry's commit has the revision of its session, which is one of those given
-abbrev pub IsEntryOf : ℕ → Entry → Type 0
-IsEntryOf sessions e = (e.session ≤ sessions) × IfSome (commit_of e) (λ N. N.rev.session ≡ e.session)
+-- an entry's commit has a revision of its session
+abbrev pub IsEntryOf : Entry → Type 0
+IsEntryOf e = IfSome (commit_of e) (λ N. N.rev.session ≡ e.session)
 
 -- what holds of a world after so many steps
 pub record IsSoundAfter (steps : ℕ) (w : World) : Type 0 where
   pub header : IsHeader (header_view w.header)
   pub kept : AreReplicas (header_view w.header) w.lists.log w.lists.clients w.kept
-  pub sessions : HaveSessionsFrom 1 w.lists.clients
+  -- each client has a session of its own, one of those that the log has given
+  pub sessions : HaveOwnSessions w.lists.clients
+  pub given : AllByRecursion (λ (c : Client). c.session ≤ sessions_in w.lists.log) w.lists.clients
+  pub counted : w.sessions ≡ sessions_in w.lists.log
+  pub few_sessions : sessions_in w.lists.log ≤ length w.lists.log
   pub clients : length w.lists.clients ≤ 64
   pub ids : AllByRecursion (λ (c : Client). c.ids ≤ steps) w.lists.clients
-  pub log : AllByRecursion (IsEntryOf (length w.lists.clients)) w.lists.log
+  pub log : AllByRecursion IsEntryOf w.lists.log
   pub log_fit : FitInTurn (opening_document (header_view w.header)) (commits_in w.lists.log)
   pub log_new : HaveNewRevisions (opening ∷ []) (commits_in w.lists.log)
   pub schema : KeepToSchema (header_view w.header) w.lists.log w.lists.clients
@@ -144,8 +154,8 @@ pub record IsSoundAfter (steps : ℕ) (w : World) : Type 0 where
   pub names : w.names ≡ names_in (commits_in w.lists.log)
   pub few_names : names_in (commits_in w.lists.log) ≤ 131072
   pub known : AreKnown w.lists.log w.known
-  -- all clients are connected, and the minima and the commits of the log are those that it gives
-  pub connected : AreConnected w.lists.log (map (λ (c : Client). c.session) w.lists.clients)
+  -- who is connected, the minima and the commits of the log are those that it gives
+  pub connected : AreConnected w.lists.log w.lists.clients
   pub minima : AreMinima w.lists.log w.minima
   pub logged : AreLogged (opening_document (header_view w.header)) w.lists.log w.logged
   pub arrays : is_among w.arrays ≡ is_array_type (header_view w.header).schema

@@ -1,6 +1,7 @@
 -- The world, as lists alone: the log, and of each client what it received and what it has pending. What a client shows is
 -- read off the document to which its list of commits leads from the opening.
-use Rattle.std.specs.Prelude.{◌≡◌, ℕ, zero, suc, ◌+◌, true, nat_le, List, [], ◌∷◌, ◌++◌, length, slice_get, slice_set, Option, Some, None, option_and_then, unwrap_or, Result, Ok, Err, if◌then◌else◌}
+use Rattle.std.specs.Prelude.{◌≡◌, ℕ, zero, suc, ◌+◌, Bool, true, false, nat_le, List, [], ◌∷◌, ◌++◌, length, slice_get, slice_set, Option, Some, None, is_some, option_and_then, option_map, unwrap_or, Result, Ok, Err, if◌then◌else◌}
+use Rattle.std.specs.List.{remove as remove_at}
 use Rattle.serde_json.specs.Written.{compact_text}
 use Rattle.st_ids.specs.Root.{opening}
 use Rattle.st_ids.specs.declared.names.Limit.{Limit}
@@ -33,16 +34,16 @@ use Rattle.st_script.specs.declared.answer.Answer.{Answer}
 use Rattle.st_script.specs.declared.answer.Answer.TheVariants as answer
 use Rattle.st_script.specs.declared.refusal.Refusal.{Refusal}
 use Rattle.st_script.specs.declared.refusal.Refusal.TheVariants as no
-use Rattle.st_lists.specs.Clients.{HasReceived, client_named, new_client, next_rev, with_ack, with_begun, with_commit, with_edited, with_new_commit, with_received, with_transaction, without_transaction}
-use Rattle.st_lists.specs.Limits.{limit_passed, log_limit_passed, names_limit_passed, pending_limit_passed}
+use Rattle.st_lists.specs.Clients.{HasReceived, client_named, new_client, next_rev, with_ack, with_begun, with_commit, with_connection, with_edited, with_new_commit, with_received, with_transaction, without_connection, without_transaction}
+use Rattle.st_lists.specs.Limits.{entries_limit_passed, limit_passed, log_limit_passed, names_limit_passed, pending_limit_passed}
 use Rattle.st_lists.specs.Lines.{HasHead, Line, main_line}
-use Rattle.st_lists.specs.Log.{commit_of, log_with, minimum}
+use Rattle.st_lists.specs.Log.{commit_of, log_with, minimum, sessions_in, waiting}
 use Rattle.st_lists.specs.Names.{names_in_text}
 use Rattle.st_trace.specs.Kept.{IsKept}
 use Rattle.st_trace.specs.Undo.{IsAfterUndo}
 use Rattle.st_trace.specs.declared.client.EditWord.{EditWord}
 use Rattle.st_trace.specs.declared.client.EditWord.TheVariants as word
-use Rattle.st_lists.specs.declared.lists.Body.TheVariants.{Join as Joined}
+use Rattle.st_lists.specs.declared.lists.Body.TheVariants.{Join as Joined, Leave as Left}
 use Rattle.st_lists.specs.declared.lists.Client.{Client}
 use Rattle.st_lists.specs.declared.lists.Entry.{Entry}
 use Rattle.st_lists.specs.declared.lists.Transaction.{Transaction}
@@ -199,17 +200,42 @@ with_client w i p = (record w { clients = slice_set w.clients i p.0 }, p.1)
 abbrev pub limit_refusal : Limit → Answer
 limit_refusal l = answer.No (no.Limit l)
 
--- a client of a name that no other has: at most 64 clients at a time, and 65,535 entries
+-- a client of a name that no other has, by the next session: at most 64 clients at a time, also those that are not
+-- connected, and 65,535 entries
 abbrev pub join : WorldState → List ℕ → WorldState × Answer
 join w name =
     if nat_le 64 (length w.clients) then (w, limit_refusal (record { of = Clients; kept = length w.clients })) else
     if nat_le 65535 (length w.log) then (w, limit_refusal (record { of = Log; kept = length w.log })) else (
       record w {
-        log = log_with w.log (length w.clients + 1) Joined;
-        clients = w.clients ++ new_client (length w.log + 1) (length w.clients + 1) name ∷ [];
+        log = log_with w.log (sessions_in w.log + 1) Joined;
+        clients = w.clients ++ new_client (length w.log + 1) (sessions_in w.log + 1) name ∷ [];
       },
-      answer.Join (length w.log + 1) (length w.clients + 1),
+      answer.Join (length w.log + 1) (sessions_in w.log + 1),
     )
+
+-- a client leaves, if the log has room: it is gone, and its name is free
+abbrev pub leave : WorldState → ℕ → Client → Option Limit → WorldState × Answer
+leave w i c None = (record w { log = log_with w.log c.session Left; clients = remove_at w.clients i }, answer.Leave (length w.log + 1))
+leave w i c (Some l) = (w, limit_refusal l)
+
+-- a client is dropped, if the log has room: it stays, and isn't connected
+abbrev pub drop_client : WorldState → ℕ → Client → Option Limit → WorldState × Answer
+drop_client w i c None = (record w { log = log_with w.log c.session Left; clients = slice_set w.clients i (without_connection c) }, answer.Drop (length w.log + 1))
+drop_client w i c (Some l) = (w, limit_refusal l)
+
+-- why a client can't come back: it is connected, has a transaction open, or the log has no room
+abbrev pub refusal_to_reconnect : List Entry → Client → Option Refusal
+refusal_to_reconnect log c =
+    if c.connected then Some no.Connected else
+    if is_some c.transaction then Some no.Unfinished else option_map (λ l. no.Limit l) (entries_limit_passed log)
+
+-- a client comes back by a new join of its session, and sends anew what is in no log
+abbrev pub reconnect : WorldState → ℕ → Client → Option Refusal → WorldState × Answer
+reconnect w i c None = (
+  record w { log = log_with w.log c.session Joined; clients = slice_set w.clients i (with_connection w.log c) },
+  answer.Reconnect (length w.log + 1) (length (waiting w.log c)),
+)
+reconnect w i c (Some why) = (w, answer.No why)
 
 -- a text enters the log, if it passes no limit
 abbrev pub after_entry : WorldState → ℕ → Client → Body → List Body → Option Limit → WorldState × Answer
@@ -272,6 +298,9 @@ IsActOf h w (step.undo rev) i c v a = IsUndoneBy h w i c rev v a
 IsActOf h w step.sequence i c v a = sequence w i c c.queue ≡ (v, a)
 IsActOf h w step.ack i c v a = with_client w i (with_ack c, answer.Ack c.received) ≡ (v, a)
 IsActOf h w step.deliver i c v a = IsDelivered h w i c v a
+IsActOf h w step.leave i c v a = leave w i c (entries_limit_passed w.log) ≡ (v, a)
+IsActOf h w step.drop_client i c v a = drop_client w i c (entries_limit_passed w.log) ≡ (v, a)
+IsActOf h w step.reconnect i c v a = reconnect w i c (refusal_to_reconnect w.log c) ≡ (v, a)
 IsActOf h w step.show i c v a = (v ≡ w) × IsShown h w c a
 
 -- where no client has the name: one joins, and nothing else is done
@@ -286,6 +315,9 @@ act_of_none w name (step.undo rev) = (w, answer.No no.NoClient)
 act_of_none w name step.sequence = (w, answer.No no.NoClient)
 act_of_none w name step.ack = (w, answer.No no.NoClient)
 act_of_none w name step.deliver = (w, answer.No no.NoClient)
+act_of_none w name step.leave = (w, answer.No no.NoClient)
+act_of_none w name step.drop_client = (w, answer.No no.NoClient)
+act_of_none w name step.reconnect = (w, answer.No no.NoClient)
 act_of_none w name step.show = (w, answer.No no.NoClient)
 
 -- the branch that an act is on: what a client does as a whole is on the main one, 0, whatever branch stands beside it
@@ -300,7 +332,33 @@ branch_at branch (step.undo rev) = 0
 branch_at branch step.sequence = 0
 branch_at branch step.ack = 0
 branch_at branch step.deliver = 0
+branch_at branch step.leave = 0
+branch_at branch step.drop_client = 0
+branch_at branch step.reconnect = 0
 branch_at branch step.show = branch
+
+-- whether only a client that is connected does the act
+abbrev pub needs_connection : ActView → Bool
+needs_connection step.join = false
+needs_connection (step.edit e) = false
+needs_connection (step.need at) = false
+needs_connection step.begin = false
+needs_connection step.commit = false
+needs_connection step.abort = false
+needs_connection (step.undo rev) = false
+needs_connection step.sequence = true
+needs_connection step.ack = true
+needs_connection step.deliver = true
+needs_connection step.leave = true
+needs_connection step.drop_client = true
+needs_connection step.reconnect = false
+needs_connection step.show = false
+
+-- an act that needs a connection is refused of a client that has none
+abbrev pub ByConnected : Bool → Bool → WorldState → WorldState → Answer → Type 0 → Type 0
+ByConnected false connected w v a next = next
+ByConnected true true w v a next = next
+ByConnected true false w v a next = IsUnchanged w v a (answer.No no.NotConnected)
 
 -- there is the main branch, and no other
 abbrev pub OnBranch : ℕ → WorldState → WorldState → Answer → Type 0 → Type 0
@@ -310,7 +368,7 @@ OnBranch (suc k) w v a next = IsUnchanged w v a (answer.No no.NoBranch)
 -- a step of the client at its place, if there is one
 abbrev pub AtClient : HeaderView → WorldState → StepView → Option (ℕ × Client) → WorldState → Answer → Type 0
 AtClient h w s None v a = act_of_none w s.client s.act ≡ (v, a)
-AtClient h w s (Some p) v a = OnBranch (branch_at s.branch s.act) w v a (IsActOf h w s.act p.0 p.1 v a)
+AtClient h w s (Some p) v a = OnBranch (branch_at s.branch s.act) w v a (ByConnected (needs_connection s.act) p.1.connected w v a (IsActOf h w s.act p.0 p.1 v a))
 
 -- the world after a step, and the answer
 abbrev pub IsNext : HeaderView → WorldState → StepView → WorldState → Answer → Type 0

@@ -1,7 +1,7 @@
 -- Words of the private functions behind `Replicas`.
 use Rattle.std.specs.Option.{option_map_or}
 use Rattle.std.specs.BTreeMap.{BTreeMap, get}
-use Rattle.std.specs.Prelude.{◌-◌, ◌^◌, ℕ, is_some, if◌then◌else◌, false, Result, Ok, Err, ◌≡◌, ◌==◌, ◌+◌, ◌<◌, ◌≤◌, Bool, true, [], ◌∷◌, drop, length, Option, Some, None, IfSome}
+use Rattle.std.specs.Prelude.{◌-◌, ◌^◌, ℕ, is_some, if◌then◌else◌, false, Result, Ok, Err, ◌≡◌, ◌==◌, ◌+◌, ◌<◌, ◌≤◌, Bool, true, [], ◌∷◌, drop, length, List, Option, Some, None, IfSome}
 use Rattle.st_marks.specs.declared.intents.Intent.{Intent}
 use Rattle.st_marks.specs.declared.verdicts.Verdict.{Verdict}
 use Rattle.st_marks.specs.Document.{Document}
@@ -17,8 +17,9 @@ use Rattle.st_heads.specs.declared.ways.Carried.{Carried}
 use Rattle.st_trace.specs.declared.logged.Logged.{Logged}
 use Rattle.st_heads.specs.Heads as head
 use Rattle.st_heads.specs.Remembered.{AreCarried}
-use Rattle.st_lists.specs.Log.{commit_of}
-use Rattle.st_lists.specs.Names.{names_made}
+use Rattle.st_lists.specs.Log.{commit_of, commits_in, waiting}
+use Rattle.st_lists.specs.Names.{names_in, names_made}
+use Rattle.st_marks.specs.Run.{Run}
 use Rattle.st_lists.specs.Clients.{joined_of, with_edited}
 use Rattle.st_lists.specs.Limits.{limit_passed, names_limit_passed}
 use Rattle.st_lists.specs.declared.lists.Transaction.{Transaction}
@@ -177,6 +178,13 @@ CanReceiveIn c k (Some t) next = Unit {0}
 abbrev pub HasMovedIn : Client → Replica → Option Transaction → Option Entry → Replica → Type 0
 HasMovedIn c old None next new = HasMoved c old next new
 HasMovedIn c old (Some t) next new = new ≡ old
+
+-- a client that comes back has caught up: the rest of the log was received, and what waits stands on that
+pub record HasCaughtUp (log : List Entry) (c : Client) (old new : Replica) : Type 0 where
+  pub received : Run (document_of old.received) (commits_in (drop c.received log)) (document_of new.received)
+  pub own : AreCarried (document_of new.received) (waiting log c) new.main.own (document_of new.main.doc)
+  pub edited : new.main.edited ≡ None
+  pub names : new.names ≡ names_in (waiting log c)
 
 -- ## Joining
 
