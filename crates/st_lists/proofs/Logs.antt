@@ -1,5 +1,5 @@
 -- The commits of a log, and those of one session.
-use Rattle.std.proofs.Common.{◌≡◌, ◌≤◌, ◌+◌, ◌==◌, ℕ, zero, suc, Bool, true, false, cond, List, [], ◌∷◌, ◌++◌, length, take, drop, filter, Option, Some, None, refl, sym, ap, ◌∙◌, arith}
+use Rattle.std.proofs.Common.{◌≡◌, ◌≤◌, ◌+◌, ◌==◌, ℕ, zero, suc, Bool, true, false, cond, List, [], ◌∷◌, ◌++◌, ◌&&◌, length, length-append, take, drop, filter, Option, Some, None, is_some, refl, sym, ap, ◌∙◌, arith}
 use Rattle.std.specs.List.{slice_get, filter_map, cons_option}
 use Rattle.std.proofs.lemmas.Bool.Decides.{nat_tests}
 use Rattle.std.proofs.lemmas.List.{take-append-le, drop-append-le, take-append-drop}
@@ -103,3 +103,14 @@ by_own_text log s text = rw (itself s) refl
   where
     itself : (n : ℕ) → (n == n) ≡ true
     itself n = grind (arith, nat_tests)
+
+-- one entry more is an own commit, or none
+pub own_counted : (s : ℕ) (es : List Entry) (i : ℕ) (e : Entry) (b : Bool) → slice_get es i ≡ Some e → b ≡ (is_some (commit_of e) && (e.session == s)) → length (commits_by s (take (i + 1) es)) ≡ cond b 1 0 + length (commits_by s (take i es))
+own_counted s es i e b at is =
+    ap (λ l. length (commits_by s l)) (take-get es i e at) ∙ ap length (by_append s (take i es) (e ∷ [])) ∙ length-append (commits_by s (take i es)) (commits_by s (e ∷ [])) ∙ ap (λ n. length (commits_by s (take i es)) + n) (one (e.session == s) (commit_of e) refl) ∙ omega arith ∙ ap (λ x. cond x 1 0 + length (commits_by s (take i es))) (sym is)
+  where
+    one : (x : Bool) (o : Option Intent) → commit_of e ≡ o → length (filter_map commit_of (cond x (e ∷ []) [])) ≡ cond (is_some o && x) 1 0
+    one false None q = refl
+    one false (Some N) q = refl
+    one true None q = ap (λ o. length (cons_option o [])) q
+    one true (Some N) q = ap (λ o. length (cons_option o [])) q

@@ -1,6 +1,6 @@
 -- How many names and cells lists of commits make.
-use Rattle.std.proofs.Common.{◌≡◌, ◌≤◌, ◌+◌, List, [], ◌∷◌, ◌++◌, Option, Some, None, refl, ap, arith}
-use Rattle.std.specs.List.{cons_option}
+use Rattle.std.proofs.Common.{◌≡◌, ◌≤◌, ◌+◌, ℕ, List, [], ◌∷◌, ◌++◌, take, Option, Some, None, refl, ap, ◌∙◌, arith}
+use Rattle.std.specs.List.{cons_option, slice_get}
 use Rattle.std.specs.Option.{option_map_or}
 use Rattle.st_marks.specs.declared.intents.Intent.{Intent}
 use Rattle.st_marks.specs.Extends.{no_more, item_gained, item_kept}
@@ -8,6 +8,7 @@ use Rattle.st_log_laws.specs.Turns.{IsSublist, cells_made}
 use Rattle.st_lists.specs.Log.{commit_in, commits_of_text}
 use Rattle.st_lists.specs.Names.{names_in_text, names_made, names_in}
 use Rattle.st_lists.specs.declared.lists.Body.{Body}
+use Rattle.st_lists.proofs.Logs.{take-get}
 
 pub names_append : (As Bs : List Intent) → names_in (As ++ Bs) ≡ names_in As + names_in Bs
 names_append [] Bs = omega arith
@@ -28,3 +29,7 @@ names_of_text text = go (commit_in text)
     go : (o : Option Intent) → names_in (cons_option o []) ≡ option_map_or names_made o 0
     go None = refl
     go (Some N) = omega arith
+
+-- one more of a list
+pub names_taken : (Ns : List Intent) (i : ℕ) (N : Intent) → slice_get Ns i ≡ Some N → names_in (take (i + 1) Ns) ≡ names_in (take i Ns) + names_made N
+names_taken Ns i N at = ap names_in (take-get Ns i N at) ∙ names_append (take i Ns) (N ∷ []) ∙ omega arith

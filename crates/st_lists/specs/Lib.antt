@@ -4,3 +4,4 @@ pub mod Names
 pub mod Clients
 pub mod Lines
 pub mod Limits
+pub mod inside

@@ -1,9 +1,11 @@
 //! How many names commits make.
 ghost use Rattle.std.specs.Prelude.{◌≡◌, ◌-◌, ◌^◌, min, length};
 ghost use Rattle.std.specs.List.{flat_map};
-ghost use Rattle.st_lists.specs.Names.{names_in_text, names_made};
+ghost use Rattle.st_lists.specs.Log.{commits_by};
+ghost use Rattle.st_lists.specs.Names.{names_in, names_in_text, names_made};
+ghost use Rattle.st_lists.specs.inside.Own.{is_own_of};
 
-use crate::lists::Body;
+use crate::lists::{Body, Entry};
 use st_marks::{Group, Intent};
 
 // How many cells there are in groups, or the greatest number if there are more.
@@ -23,6 +25,41 @@ pub fn names_made(intent: &Intent) -> u64
 {
     let cells = cells_in(intent.groups.as_slice());
     (intent.new.len() as u64).saturating_add(cells)
+}
+
+/// How many nodes and cells commits make together, or the greatest number if there are more.
+pub fn names_in(intents: &[Intent]) -> u64
+    ensures { result ≡ min (names_in intents.now) (2 ^ 64 - 1) }
+{
+    let mut count: u64 = 0;
+    for intent in intents {
+        let made = names_made(intent);
+        count = count.saturating_add(made);
+    }
+    count
+}
+
+// Whether an entry is a commit of a session.
+fn is_own(entry: &Entry, session: u32) -> bool
+    ensures { result ≡ is_own_of entry.now session }
+{
+    match &entry.body {
+        Body::Join | Body::Leave | Body::Ack { .. } => false,
+        Body::Commit { .. } => entry.session == session,
+    }
+}
+
+/// How many commits of a session there are among some entries.
+pub fn count_own(entries: &[Entry], session: u32) -> usize
+    ensures { result ≡ length (commits_by session entries.now) }
+{
+    let mut count: usize = 0;
+    for entry in entries {
+        if is_own(entry, session) {
+            count += 1;
+        }
+    }
+    count
 }
 
 /// How many nodes and cells the commit of a text makes, or the greatest number if there are more; none where it has none.

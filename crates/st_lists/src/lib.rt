@@ -5,6 +5,6 @@ mod counts;
 mod lists;
 mod log;
 
-pub use counts::{names_in_text, names_made};
+pub use counts::{count_own, names_in, names_in_text, names_made};
 pub use lists::{Body, Client, Entry, Transaction, WorldState};
 pub use log::{append_entry, floor, minimum};

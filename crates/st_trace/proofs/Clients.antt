@@ -102,10 +102,6 @@ drop_front : {X : Type 0} (xs ys : List X) → drop (length xs) (xs ++ ys) ≡ y
 drop_front [] ys = refl
 drop_front (x ∷ xs) ys = drop_front xs ys
 
-drop_nothing : {X : Type 0} (n : ℕ) → drop {X} n [] ≡ []
-drop_nothing zero = refl
-drop_nothing (suc n) = refl
-
 drop_whole : (n : ℕ) (xs : List Entry) → length xs ≡ n → drop n xs ≡ []
 drop_whole zero [] e = refl
 drop_whole (suc n) [] e = refl

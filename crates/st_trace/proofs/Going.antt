@@ -158,6 +158,7 @@ module _ (h : HeaderView) (st : IsStart (opening_document h)) where
   pub record GoesOn (log : List Entry) (cs : List Client) (i : ℕ) (c c' : Client) : Type 0 where
     pub client : IsClient h log c'
     pub session : c'.session ≡ c.session
+    pub connected : c'.connected ≡ c.connected
     pub ids : c'.ids ≤ c.ids + 1
     pub keeps : KeepToSchema h log (slice_set cs i c')
 
@@ -170,6 +171,7 @@ module _ (h : HeaderView) (st : IsStart (opening_document h)) where
     stays c' same = record {
       client = subst (IsClient h log) (sym same) k;
       session = ap (λ (x : Client). x.session) same;
+      connected = ap (λ (x : Client). x.connected) same;
       ids = omega (arith, ap (λ (x : Client). x.ids) same);
       keeps = same_keeps h st log cs i c c' at (sym same) keeps;
     }
@@ -177,13 +179,13 @@ module _ (h : HeaderView) (st : IsStart (opening_document h)) where
     goes_as : (d c' : Client) → c' ≡ d → GoesOn log cs i c d → GoesOn log cs i c c'
     goes_as d c' same g = subst (GoesOn log cs i c) (sym same) g
 
-    edited_on : (c' : Client) (word : EditWord) (r : Result Intent EditFault) (a : Answer) → after_edit c word r ≡ (c', a) → (c'.session ≡ c.session) × (c'.ids ≤ c.ids + 1)
-    edited_on c' word (Err f) a is = let same : c ≡ c' = ap (λ (p : Client × Answer). p.0) is in (ap (λ (x : Client). x.session) (sym same), omega (arith, ap (λ (x : Client). x.ids) same))
+    edited_on : (c' : Client) (word : EditWord) (r : Result Intent EditFault) (a : Answer) → after_edit c word r ≡ (c', a) → (c'.session ≡ c.session) × (c'.connected ≡ c.connected) × (c'.ids ≤ c.ids + 1)
+    edited_on c' word (Err f) a is = let same : c ≡ c' = ap (λ (p : Client × Answer). p.0) is in (ap (λ (x : Client). x.session) (sym same), ap (λ (x : Client). x.connected) (sym same), omega (arith, ap (λ (x : Client). x.ids) same))
     edited_on c' word (Ok N) a is = go (limit_passed c N) is
       where
-        go : (o : Option Limit) → with_pending c word N o ≡ (c', a) → (c'.session ≡ c.session) × (c'.ids ≤ c.ids + 1)
-        go (Some l) is = let same : c ≡ c' = ap (λ (p : Client × Answer). p.0) is in (ap (λ (x : Client). x.session) (sym same), omega (arith, ap (λ (x : Client). x.ids) same))
-        go None is = let same : with_new_commit c N ≡ c' = ap (λ (p : Client × Answer). p.0) is in (ap (λ (x : Client). x.session) (sym same), omega (arith, ap (λ (x : Client). x.ids) same))
+        go : (o : Option Limit) → with_pending c word N o ≡ (c', a) → (c'.session ≡ c.session) × (c'.connected ≡ c.connected) × (c'.ids ≤ c.ids + 1)
+        go (Some l) is = let same : c ≡ c' = ap (λ (p : Client × Answer). p.0) is in (ap (λ (x : Client). x.session) (sym same), ap (λ (x : Client). x.connected) (sym same), omega (arith, ap (λ (x : Client). x.ids) same))
+        go None is = let same : with_new_commit c N ≡ c' = ap (λ (p : Client × Answer). p.0) is in (ap (λ (x : Client). x.session) (sym same), ap (λ (x : Client). x.connected) (sym same), omega (arith, ap (λ (x : Client). x.ids) same))
 
     -- what an edit means in the document of an open transaction
     pub meant_in : (E : Document) (t : Transaction) (word : EditWord) (M : Intent) (x : IsTransaction h log c t) (D : Document) → HasMain h log c D → E ≡ with_open D t.joined → IsMeant h.schema E (next_names c (Some t)) word M
@@ -204,6 +206,7 @@ module _ (h : HeaderView) (st : IsStart (opening_document h)) where
             goes_as _ c' done.2 (record {
               client = client_parted h st log c t word M k is few x m done.0 done.1 (within_names h st c M e);
               session = refl;
+              connected = refl;
               ids = omega arith;
               keeps = parted_keeps h st log cs i c t word M done.0 sessions are few at is x m done.1 keeps;
             })
@@ -222,7 +225,8 @@ module _ (h : HeaderView) (st : IsStart (opening_document h)) where
             record {
               client = client_edited log c c' D word r a k few none shown.1 here done;
               session = on.0;
-              ids = on.1;
+              connected = on.1;
+              ids = on.2;
               keeps = edited_keeps h st log cs i c c' D word r a sessions are few at none shown.1 here done keeps;
             }
         go (Some t) is x same means done = goes_in c' D E t word r a is x shown.1 same means done
@@ -244,6 +248,7 @@ module _ (h : HeaderView) (st : IsStart (opening_document h)) where
             goes_as (with_begun c (last_in_effect E)) c' (ap (λ (p : Client × Answer). p.0) (sym done)) (record {
               client = client_begun h st log c E k (subst (HasMain h log c) (sym same) shown.1) (within_pending h st c e);
               session = refl;
+              connected = refl;
               ids = omega arith;
               keeps = ended_keeps h st log cs i c (with_begun c (last_in_effect E)) at refl refl refl keeps;
             })
@@ -253,7 +258,7 @@ module _ (h : HeaderView) (st : IsStart (opening_document h)) where
         go None is same done = begun same is (pending_limit_passed c) refl done
 
     ended : GoesOn log cs i c (without_transaction c)
-    ended = record { client = client_ended h st log c k; session = refl; ids = omega arith; keeps = ended_keeps h st log cs i c (without_transaction c) at refl refl refl keeps }
+    ended = record { client = client_ended h st log c k; session = refl; connected = refl; ids = omega arith; keeps = ended_keeps h st log cs i c (without_transaction c) at refl refl refl keeps }
 
     pub commit_goes : (c' : Client) (a : Answer) → commit c c.transaction ≡ (c', a) → GoesOn log cs i c c'
     commit_goes c' a done = go c.transaction refl k.transaction done
@@ -264,6 +269,7 @@ module _ (h : HeaderView) (st : IsStart (opening_document h)) where
             goes_as (with_commit (without_transaction c) J) c' (ap (λ (p : Client × Answer). p.0) (sym done)) (record {
               client = client_commits h st log c t J k is joined x few;
               session = refl;
+              connected = refl;
               ids = omega arith;
               keeps = committed_keeps h st log cs i c x.before J at x.main (ap (λ (o : Option Transaction). option_and_then (λ (y : Transaction). y.joined) o) is ∙ joined) keeps;
             })
@@ -294,6 +300,7 @@ module _ (h : HeaderView) (st : IsStart (opening_document h)) where
         record {
           client = subst (λ (o : Option Transaction). IsClient h log (record (with_commit c B) { ids = c.ids + 1; transaction = o })) (sym none) now;
           session = refl;
+          connected = refl;
           ids = omega arith;
           keeps = undone_keeps h st log cs i c rev B u.after are at none u.now u keeps;
         }
@@ -317,11 +324,11 @@ module _ (h : HeaderView) (st : IsStart (opening_document h)) where
         go None none done = of_rev none (refusal_of_rev history log c list rev) done
 
     pub ack_goes : (c' : Client) → c.connected ≡ true → c' ≡ with_ack c → GoesOn log cs i c c'
-    ack_goes c' on same = goes_as (with_ack c) c' same (record { client = client_acked h st log c on k; session = refl; ids = omega arith; keeps = acked_keeps h st log cs i c at keeps })
+    ack_goes c' on same = goes_as (with_ack c) c' same (record { client = client_acked h st log c on k; session = refl; connected = refl; ids = omega arith; keeps = acked_keeps h st log cs i c at keeps })
 
-    delivered_on : (c' : Client) (D : Document) (o : Option Entry) (a : Answer) → IsDeliveredTo D c o c' a → (c'.session ≡ c.session) × (c'.ids ≤ c.ids + 1)
-    delivered_on c' D None a done = (ap (λ (x : Client). x.session) done.0, omega (arith, ap (λ (x : Client). x.ids) done.0))
-    delivered_on c' D (Some e) a done = (ap (λ (x : Client). x.session) done.2, omega (arith, ap (λ (x : Client). x.ids) done.2))
+    delivered_on : (c' : Client) (D : Document) (o : Option Entry) (a : Answer) → IsDeliveredTo D c o c' a → (c'.session ≡ c.session) × (c'.connected ≡ c.connected) × (c'.ids ≤ c.ids + 1)
+    delivered_on c' D None a done = (ap (λ (x : Client). x.session) done.0, ap (λ (x : Client). x.connected) done.0, omega (arith, ap (λ (x : Client). x.ids) done.0))
+    delivered_on c' D (Some e) a done = (ap (λ (x : Client). x.session) done.2, ap (λ (x : Client). x.connected) done.2, omega (arith, ap (λ (x : Client). x.ids) done.2))
 
     pub delivery_goes : (c' : Client) (D : Document) (a : Answer) → IsDeliveredIn D c c.transaction (slice_get log c.received) c' a → GoesOn log cs i c c'
     delivery_goes c' D a done = go c.transaction refl done
@@ -333,7 +340,8 @@ module _ (h : HeaderView) (st : IsStart (opening_document h)) where
             record {
               client = client_delivered log c c' D a k few none done;
               session = on.0;
-              ids = on.1;
+              connected = on.1;
+              ids = on.2;
               keeps = delivered_keeps h st log cs i c c' D a are few at none done keeps;
             }
 

@@ -308,12 +308,13 @@ module _ (h : HeaderView) (st : IsStart (opening_document h)) where
       let size : length longer ≡ length log + 1 = omega (arith, length-append log (last_entry log c.session Join ∷ [])) in
       let commits : commits_in log ≡ commits_in longer = sym (entered_commits log c.session Join ∙ append-nil (commits_in log)) in
       let whole : take (length log + 1) longer ≡ longer = take_all (length log + 1) longer (omega (arith, size)) in
+      let few : k'.names ≡ 0 + names_in (waiting log c) = omega (arith, up.names) in
       let split : received_by log c ++ commits_in (drop c.received log) ≡ commits_in (take (length log + 1) longer) = sym (commits_split c.received log) ∙ commits ∙ ap commits_in (sym whole) in
       record {
         received = subst (λ l. Run (opening_document h) l (document_of k'.received)) split (run_then w.received up.received);
         own = up.own;
         edited = still_none k' c.transaction none up.edited;
-        names = up.names ∙ sym (ap (λ (o : Option Transaction). names_edited (option_and_then (λ (x : Transaction). x.joined) o) + names_in (waiting log c)) none);
+        names = few ∙ sym (ap (λ (o : Option Transaction). names_edited (option_and_then (λ (x : Transaction). x.joined) o) + names_in (waiting log c)) none);
       }
 
   -- of a client that joins

@@ -34,15 +34,16 @@ use Rattle.st_script.specs.Steps.{ActView, EditView, StepView}
 use Rattle.st_script.specs.Steps as step
 use Rattle.st_script.specs.declared.answer.Answer.{Answer}
 use Rattle.st_script.specs.declared.answer.Answer.TheVariants.{Ack, Deliver, Join as Joins, No, Show}
-use Rattle.st_script.specs.declared.refusal.Refusal.TheVariants.{Limit as OverLimit, NoBranch, NoClient, NotBegun, NothingNew, NothingToSend, Taken, Unfinished}
+use Rattle.st_script.specs.declared.refusal.Refusal.{Refusal}
+use Rattle.st_script.specs.declared.refusal.Refusal.TheVariants.{Limit as OverLimit, NoBranch, NoClient, NotBegun, NotConnected, NothingNew, NothingToSend, Taken, Unfinished}
 use Rattle.st_trace.specs.Replicas.{HasMain, IsClient, IsSound, IsTransaction}
 use Rattle.st_heads.specs.Transactions.{with_open}
 use Rattle.st_lists.specs.Lines.{main_line}
 use Rattle.st_lists.specs.declared.lists.Transaction.{Transaction}
-use Rattle.st_lists.specs.Log.{commit_of, log_with}
-use Rattle.st_trace.specs.World.{HasShown, IsActOf, IsAfterEdit, IsAfterNeed, IsBegun, IsDelivered, IsDeliveredIn, IsDeliveredTo, IsDoneIn, IsEdited, IsEditedIn, IsJoined, IsNeeded, IsNext, AtClient, IsShown, IsUndoneBy, IsVerdictOf, OnBranch, abort, act_of_none, after_edit, answer_of, begin, branch_at, after_entry, cells_given, commit, intent_of, last_in_effect, next_names, join, opening_document, limit_refusal, refusal_of, sequence, with_client, word_of}
+use Rattle.st_lists.specs.Log.{commit_of, log_with, sessions_in}
+use Rattle.st_trace.specs.World.{HasShown, IsActOf, IsAfterEdit, IsAfterNeed, IsBegun, IsDelivered, IsDeliveredIn, IsDeliveredTo, IsDoneIn, IsEdited, IsEditedIn, IsJoined, IsNeeded, IsNext, AtClient, ByConnected, IsShown, IsUndoneBy, IsVerdictOf, OnBranch, abort, act_of_none, after_edit, answer_of, begin, branch_at, after_entry, cells_given, commit, drop_client, intent_of, last_in_effect, leave, needs_connection, next_names, join, opening_document, limit_refusal, reconnect, refusal_of, refusal_to_reconnect, sequence, with_client, word_of}
 use Rattle.st_lists.specs.Clients.{HasReceived, joined_of, new_client, place_of, received_by, with_ack, with_edited, with_received, with_transaction}
-use Rattle.st_lists.specs.Limits.{log_limit_passed, names_limit_passed}
+use Rattle.st_lists.specs.Limits.{entries_limit_passed, log_limit_passed, names_limit_passed}
 use Rattle.st_lists.specs.Names.{names_in_text}
 use Rattle.st_trace.specs.declared.client.EditWord.{EditWord}
 use Rattle.st_lists.specs.declared.lists.Body.TheVariants.{Join}
@@ -56,10 +57,10 @@ use Rattle.st_trace.proofs.Everyone.{all_get}
 use Rattle.st_ids.specs.declared.names.Rev.{Rev}
 use Rattle.st_trace.specs.Undo.{IsAfterUndo}
 use Rattle.st_trace.proofs.Undoing.{has_undo}
-use Rattle.st_trace.proofs.Going.{AreSound, GoesOn, abort_goes, ack_goes, undo_goes, begin_goes, commit_goes, delivery_goes, edit_goes, joined_sound, lists_sound, meant_in, need_goes, sent_sound, set_sound}
+use Rattle.st_trace.proofs.Going.{AreSound, GoesOn, abort_goes, ack_goes, undo_goes, begin_goes, commit_goes, delivery_goes, edit_goes, dropped_sound, joined_sound, left_sound, lists_sound, returned_sound, meant_in, need_goes, sent_sound, set_sound}
 use Rattle.st_trace.proofs.Meant.{IsMeaning, IsMeant, edit_means, need_means}
 use Rattle.st_trace.proofs.Parts.{editable, next_joined}
-use Rattle.st_trace.proofs.Stepping.{within_log}
+use Rattle.st_trace.proofs.Stepping.{may_reconnect, within_log}
 use Rattle.st_lists.specs.declared.lists.Body.{Body}
 
 -- ## The nodes of a document can be listed
@@ -236,9 +237,9 @@ module _ (h : HeaderView) (w : WorldState) (s : AreSound h w) where
         after_undo (Some t) = (c, No Unfinished, (refl, refl))
         after_undo None = has_undo (opening_document h) h.history w.log c rev st.sound client.shown_fit
 
-    has_acked : Leads (λ v a. with_client w i (with_ack c, Ack c.received) ≡ (v, a))
-    has_acked =
-        let g = ack_goes h st w.log w.clients s.sessions s.clients s.few_names s.schema i c at (with_ack c) refl in
+    has_acked : c.connected ≡ true → Leads (λ v a. with_client w i (with_ack c, Ack c.received) ≡ (v, a))
+    has_acked on =
+        let g = ack_goes h st w.log w.clients s.sessions s.clients s.few_names s.schema i c at (with_ack c) on refl in
         (record w { clients = slice_set w.clients i (with_ack c) }, Ack c.received, refl, set_sound h w i c (with_ack c) s at g.client g.session g.keeps)
 
     verdict_of : (D : Document) (o : Option Intent) → IsSoundInForm D → (v : Verdict) × IsVerdictOf D o v
@@ -275,13 +276,37 @@ module _ (h : HeaderView) (w : WorldState) (s : AreSound h w) where
         let t = node_shows (is_array_type h.schema) E (editable h st w.log c E client shown).sound listed.0 listed.1 root (editable h st w.log c E client shown).sound.root_known in
         (Show (compact_text t.0), (E, compact_text t.0, shown, (t.0, t.1, refl), refl))
 
+  -- ## Sessions come and go
+
+  module _ (i : ℕ) (c : Client) (at : slice_get w.clients i ≡ Some c) where
+    has_left : Leads (λ v a. leave w i c (entries_limit_passed w.log) ≡ (v, a))
+    has_left = go (entries_limit_passed w.log)
+      where
+        go : (o : Option Limit) → Leads (λ v a. leave w i c o ≡ (v, a))
+        go (Some l) = (w, limit_refusal l, refl, s)
+        go None = let p = leave w i c None in (p.0, p.1, refl, left_sound h w i c s at)
+
+    has_dropped : Leads (λ v a. drop_client w i c (entries_limit_passed w.log) ≡ (v, a))
+    has_dropped = go (entries_limit_passed w.log)
+      where
+        go : (o : Option Limit) → Leads (λ v a. drop_client w i c o ≡ (v, a))
+        go (Some l) = (w, limit_refusal l, refl, s)
+        go None = let p = drop_client w i c None in (p.0, p.1, refl, dropped_sound h w i c s at)
+
+    has_returned : Leads (λ v a. reconnect w i c (refusal_to_reconnect w.log c) ≡ (v, a))
+    has_returned = go (refusal_to_reconnect w.log c) refl
+      where
+        go : (o : Option Refusal) → refusal_to_reconnect w.log c ≡ o → Leads (λ v a. reconnect w i c o ≡ (v, a))
+        go (Some why) e = (w, No why, refl, s)
+        go None e = let p = reconnect w i c None in (p.0, p.1, refl, returned_sound h w i c s at (may_reconnect w.log c e).0.1)
+
   has_joined : (name : List ℕ) → Leads (λ v a. join w name ≡ (v, a))
   has_joined name = go (nat_le 64 (length w.clients)) (nat_le 65535 (length w.log))
     where
       longer : WorldState × Answer
       longer = (
-        record w { log = log_with w.log (length w.clients + 1) Join; clients = w.clients ++ new_client (length w.log + 1) (length w.clients + 1) name ∷ [] },
-        Joins (length w.log + 1) (length w.clients + 1),
+        record w { log = log_with w.log (sessions_in w.log + 1) Join; clients = w.clients ++ new_client (length w.log + 1) (sessions_in w.log + 1) name ∷ [] },
+        Joins (length w.log + 1) (sessions_in w.log + 1),
       )
 
       go : (b c : Bool) → Leads (λ v x. cond b (w, limit_refusal (record { of = Clients; kept = length w.clients })) (cond c (w, limit_refusal (record { of = Log; kept = length w.log })) longer) ≡ (v, x))
@@ -291,18 +316,21 @@ module _ (h : HeaderView) (w : WorldState) (s : AreSound h w) where
 
   -- ## Acts
 
-  has_act_of : (x : ActView) (i : ℕ) (c : Client) → slice_get w.clients i ≡ Some c → Leads (IsActOf h w x i c)
-  has_act_of step.join i c at = stays (No Taken)
-  has_act_of (step.edit e) i c at = has_edited i c at e
-  has_act_of (step.need path) i c at = has_needed i c at path
-  has_act_of step.begin i c at = has_begun i c at
-  has_act_of step.commit i c at = has_committed i c at
-  has_act_of step.abort i c at = has_aborted i c at
-  has_act_of (step.undo rev) i c at = has_undone i c at rev
-  has_act_of step.sequence i c at = has_sent i c at c.queue refl
-  has_act_of step.ack i c at = has_acked i c at
-  has_act_of step.deliver i c at = has_delivered i c at
-  has_act_of step.show i c at = let r = has_shown i c at in (w, r.0, (refl, r.1), s)
+  has_act_of : (x : ActView) (i : ℕ) (c : Client) → slice_get w.clients i ≡ Some c → (needs_connection x ≡ true → c.connected ≡ true) → Leads (IsActOf h w x i c)
+  has_act_of step.join i c at on = stays (No Taken)
+  has_act_of (step.edit e) i c at on = has_edited i c at e
+  has_act_of (step.need path) i c at on = has_needed i c at path
+  has_act_of step.begin i c at on = has_begun i c at
+  has_act_of step.commit i c at on = has_committed i c at
+  has_act_of step.abort i c at on = has_aborted i c at
+  has_act_of (step.undo rev) i c at on = has_undone i c at rev
+  has_act_of step.sequence i c at on = has_sent i c at c.queue refl
+  has_act_of step.ack i c at on = has_acked i c at (on refl)
+  has_act_of step.deliver i c at on = has_delivered i c at
+  has_act_of step.leave i c at on = has_left i c at
+  has_act_of step.drop_client i c at on = has_dropped i c at
+  has_act_of step.reconnect i c at on = has_returned i c at
+  has_act_of step.show i c at on = let r = has_shown i c at in (w, r.0, (refl, r.1), s)
 
   has_act_of_none : (name : List ℕ) (x : ActView) → Leads (λ v a. act_of_none w name x ≡ (v, a))
   has_act_of_none name step.join = has_joined name
@@ -315,6 +343,9 @@ module _ (h : HeaderView) (w : WorldState) (s : AreSound h w) where
   has_act_of_none name step.sequence = (w, No NoClient, refl, s)
   has_act_of_none name step.ack = (w, No NoClient, refl, s)
   has_act_of_none name step.deliver = (w, No NoClient, refl, s)
+  has_act_of_none name step.leave = (w, No NoClient, refl, s)
+  has_act_of_none name step.drop_client = (w, No NoClient, refl, s)
+  has_act_of_none name step.reconnect = (w, No NoClient, refl, s)
   has_act_of_none name step.show = (w, No NoClient, refl, s)
 
   -- ## Steps
@@ -322,13 +353,19 @@ module _ (h : HeaderView) (w : WorldState) (s : AreSound h w) where
   pub leads_on : (x : StepView) → Leads (IsNext h w x)
   leads_on x = place (place_of x.client w.clients)
     where
-      on : (branch i : ℕ) (c : Client) → Leads (IsActOf h w x.act i c) → Leads (λ v a. OnBranch branch w v a (IsActOf h w x.act i c v a))
+      by : (needs connected : Bool) (i : ℕ) (c : Client) → ((needs ≡ true → connected ≡ true) → Leads (IsActOf h w x.act i c)) → Leads (λ v a. ByConnected needs connected w v a (IsActOf h w x.act i c v a))
+      by false connected i c onward = onward (λ e. absurd (cc))
+      by true true i c onward = onward (λ e. refl)
+      by true false i c onward = stays (No NotConnected)
+
+      on : (branch i : ℕ) (c : Client) → Leads (λ v a. ByConnected (needs_connection x.act) c.connected w v a (IsActOf h w x.act i c v a))
+          → Leads (λ v a. OnBranch branch w v a (ByConnected (needs_connection x.act) c.connected w v a (IsActOf h w x.act i c v a)))
       on zero i c onward = onward
       on (suc k) i c onward = stays (No NoBranch)
 
       client_at : (i : ℕ) (o : Option Client) → slice_get w.clients i ≡ o → Leads (AtClient h w x (option_map (λ c. (i, c)) o))
       client_at i None at = has_act_of_none x.client x.act
-      client_at i (Some c) at = on (branch_at x.branch x.act) i c (has_act_of x.act i c at)
+      client_at i (Some c) at = on (branch_at x.branch x.act) i c (by (needs_connection x.act) c.connected i c (has_act_of x.act i c at))
 
       place : (o : Option ℕ) → Leads (AtClient h w x (option_and_then (λ i. option_map (λ c. (i, c)) (slice_get w.clients i)) o))
       place None = has_act_of_none x.client x.act

@@ -19,3 +19,4 @@ pub mod Taking
 pub mod Noting
 pub mod Undoing
 pub mod Undone
+pub mod Returning

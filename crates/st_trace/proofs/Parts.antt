@@ -230,6 +230,7 @@ module _ (h : HeaderView) (st : IsStart (opening_document h)) where
         few = k.few;
         few_names = now;
         under_way = k.under_way;
+        queued = k.queued;
         shown_fit = k.shown_fit;
         sent_fit = k.sent_fit;
         new = k.new;
@@ -247,6 +248,7 @@ module _ (h : HeaderView) (st : IsStart (opening_document h)) where
     few = k.few;
     few_names = few;
     under_way = k.under_way;
+    queued = k.queued;
     shown_fit = k.shown_fit;
     sent_fit = k.sent_fit;
     new = k.new;
@@ -275,6 +277,7 @@ module _ (h : HeaderView) (st : IsStart (opening_document h)) where
     few = k.few;
     few_names = few;
     under_way = k.under_way;
+    queued = k.queued;
     shown_fit = k.shown_fit;
     sent_fit = k.sent_fit;
     new = k.new;

@@ -32,9 +32,9 @@ use Rattle.st_trace.proofs.Agreed.{open_conforms}
 use Rattle.st_trace.proofs.Begun.{IsStart}
 use Rattle.st_trace.proofs.Clients.{shown_sound}
 use Rattle.st_trace.proofs.Parts.{editable}
-use Rattle.st_trace.specs.World.{HasShown, IsActOf, IsAfterEdit, IsAfterNeed, IsAllowedText, IsDeliveredIn, IsDeliveredTo, IsEditedIn, IsJoined, IsNext, AtClient, OnBranch, ShowsAllowed, abort, act_of_none, answer_of, after_edit, begin, branch_at, after_entry, commit, after_commit, join, last_in_effect, opening_document, with_beginning, with_client, with_pending, sequence, word_of}
+use Rattle.st_trace.specs.World.{HasShown, IsActOf, IsAfterEdit, IsAfterNeed, IsAllowedText, IsDeliveredIn, IsDeliveredTo, IsEditedIn, IsJoined, IsNext, AtClient, ByConnected, OnBranch, ShowsAllowed, abort, act_of_none, answer_of, after_edit, begin, branch_at, after_entry, commit, after_commit, drop_client, join, leave, needs_connection, reconnect, refusal_to_reconnect, last_in_effect, opening_document, with_beginning, with_client, with_pending, sequence, word_of}
 use Rattle.st_lists.specs.Clients.{with_ack, next_rev, place_of, received_by, without_transaction}
-use Rattle.st_lists.specs.Limits.{limit_passed, log_limit_passed, names_limit_passed, pending_limit_passed}
+use Rattle.st_lists.specs.Limits.{entries_limit_passed, limit_passed, log_limit_passed, names_limit_passed, pending_limit_passed}
 use Rattle.st_lists.specs.Names.{names_in_text}
 use Rattle.st_trace.specs.declared.client.EditWord.{EditWord}
 use Rattle.st_lists.specs.declared.lists.Client.{Client}
@@ -116,6 +116,9 @@ module _ (s : SchemaView) where
   none_fine w name step.sequence = tt
   none_fine w name step.ack = tt
   none_fine w name step.deliver = tt
+  none_fine w name step.leave = tt
+  none_fine w name step.drop_client = tt
+  none_fine w name step.reconnect = tt
   none_fine w name step.show = tt
 
   edited_fine : (c : Client) (word : EditWord) (r : Result Intent EditFault) → ShowsAllowed s (after_edit c word r).1
@@ -133,6 +136,18 @@ module _ (s : SchemaView) where
       go : (o : Option Limit) → Fine (after_entry w i c text rest o)
       go None = tt
       go (Some l) = tt
+
+  leave_fine : (w : WorldState) (i : ℕ) (c : Client) (o : Option Limit) → Fine (leave w i c o)
+  leave_fine w i c None = tt
+  leave_fine w i c (Some l) = tt
+
+  drop_fine : (w : WorldState) (i : ℕ) (c : Client) (o : Option Limit) → Fine (drop_client w i c o)
+  drop_fine w i c None = tt
+  drop_fine w i c (Some l) = tt
+
+  reconnect_fine : (w : WorldState) (i : ℕ) (c : Client) (o : Option Refusal) → Fine (reconnect w i c o)
+  reconnect_fine w i c None = tt
+  reconnect_fine w i c (Some why) = tt
 
   delivery_fine : (D : Document) (c d : Client) (o : Option Entry) (a : Answer) → IsDeliveredTo D c o d a → ShowsAllowed s a
   delivery_fine D c d None a is = subst (ShowsAllowed s) (sym is.1) tt
@@ -205,6 +220,10 @@ of_fine w (step.undo rev) i c v a sound at is = undo_fine w.header.schema (openi
 of_fine w step.sequence i c v a sound at is = one_fine w.header.schema (sequence w.lists i c c.queue) v a is (sequence_fine w.header.schema w.lists i c c.queue)
 of_fine w step.ack i c v a sound at is = one_fine w.header.schema (with_client w.lists i (with_ack c, answer.Ack c.received)) v a is tt
 of_fine w step.deliver i c v a sound at is = delivered_fine w.header.schema is.0 c is.1 c.transaction (slice_get w.lists.log c.received) a is.3
+of_fine w step.leave i c v a sound at is = one_fine w.header.schema (leave w.lists i c (entries_limit_passed w.lists.log)) v a is (leave_fine w.header.schema w.lists i c (entries_limit_passed w.lists.log))
+of_fine w step.drop_client i c v a sound at is = one_fine w.header.schema (drop_client w.lists i c (entries_limit_passed w.lists.log)) v a is (drop_fine w.header.schema w.lists i c (entries_limit_passed w.lists.log))
+of_fine w step.reconnect i c v a sound at is =
+    one_fine w.header.schema (reconnect w.lists i c (refusal_to_reconnect w.lists.log c)) v a is (reconnect_fine w.header.schema w.lists i c (refusal_to_reconnect w.lists.log c))
 of_fine w step.show i c v a sound at is =
     let shown = is.1 in
     subst (ShowsAllowed w.header.schema) (sym shown.4) (text_allowed w i c shown.0 shown.1 sound at shown.2 shown.3)
@@ -219,9 +238,16 @@ next_allowed w s v a sound is = place (place_of s.client w.lists.clients) is
     on zero next f is = f is
     on (suc k) next f is = subst (ShowsAllowed w.header.schema) (sym is.1) tt
 
+    by : (needs connected : Bool) (next : Type 0) → (next → ShowsAllowed w.header.schema a) → ByConnected needs connected w.lists v a next → ShowsAllowed w.header.schema a
+    by false connected next f is = f is
+    by true true next f is = f is
+    by true false next f is = subst (ShowsAllowed w.header.schema) (sym is.1) tt
+
     client : (i : ℕ) (o : Option Client) → slice_get w.lists.clients i ≡ o → AtClient (header_view w.header) w.lists s (option_map (λ c. (i, c)) o) v a → ShowsAllowed w.header.schema a
     client i None at is = none is
-    client i (Some c) at is = on (branch_at s.branch s.act) (IsActOf (header_view w.header) w.lists s.act i c v a) (of_fine w s.act i c v a sound at) is
+    client i (Some c) at is =
+        on (branch_at s.branch s.act) (ByConnected (needs_connection s.act) c.connected w.lists v a (IsActOf (header_view w.header) w.lists s.act i c v a))
+        (by (needs_connection s.act) c.connected (IsActOf (header_view w.header) w.lists s.act i c v a) (of_fine w s.act i c v a sound at)) is
 
     place : (o : Option ℕ) → AtClient (header_view w.header) w.lists s (option_and_then (λ i. option_map (λ c. (i, c)) (slice_get w.lists.clients i)) o) v a → ShowsAllowed w.header.schema a
     place None is = none is

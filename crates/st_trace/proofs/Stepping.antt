@@ -1,5 +1,5 @@
 -- The world after a step of one client.
-use Rattle.std.proofs.Common.{◌≡◌, ◌≢◌, ◌≤◌, ◌<◌, ◌+◌, ◌^◌, ◌-◌, ℕ, zero, suc, Bool, true, false, cond, min, not, ◌&&◌, nat_le, nat_lt, List, [], ◌∷◌, ◌++◌, length, length-append, Option, Some, None, IfSome, refl, sym, ap, ◌∙◌, subst, arith, append_assoc, inl, inr}
+use Rattle.std.proofs.Common.{◌≡◌, ◌≢◌, ◌≤◌, ◌<◌, ◌+◌, ◌^◌, ◌-◌, ℕ, zero, suc, Bool, true, false, cond, min, not, ◌&&◌, nat_le, nat_lt, List, [], ◌∷◌, ◌++◌, length, length-append, Option, Some, None, IfSome, is_some, refl, sym, ap, ◌∙◌, subst, arith, append_assoc, inl, inr}
 use Rattle.std.specs.List.{AllByRecursion, cons_option, remove, slice_get, slice_set}
 use Rattle.std.specs.BTreeMap.{BTreeMap}
 use Rattle.std.specs.Option.{option_map}
@@ -26,7 +26,8 @@ use Rattle.st_doc.specs.declared.doc.Doc.{Doc}
 use Rattle.st_script.specs.Header.{HeaderView, header_view}
 use Rattle.st_script.specs.declared.answer.Answer.{Answer}
 use Rattle.st_script.specs.declared.answer.Answer.TheVariants.{No}
-use Rattle.st_script.specs.declared.refusal.Refusal.TheVariants.{NotConnected, NothingToSend, NoBranch}
+use Rattle.st_script.specs.declared.refusal.Refusal.{Refusal}
+use Rattle.st_script.specs.declared.refusal.Refusal.TheVariants.{Connected, Limit as OverLimit, NotConnected, NothingToSend, NoBranch, Unfinished}
 use Rattle.st_script.specs.Steps.{StepView}
 use Rattle.st_trace.specs.Replicas.{AreReplicas, HaveOwnSessions, IsClient, IsEntryOf, IsReplicaOf, IsSound, IsSoundAfter, KeepToSchema}
 use Rattle.st_lists.specs.Log.{commit_in, commits_of_text, connected_after, intents_of, is_text, log_and_waiting, minimum, sessions_in, waiting}
@@ -36,14 +37,15 @@ use Rattle.st_lists.proofs.Present.{all_rest, connected_goes, connected_joined, 
 use Rattle.st_ids.proofs.Shared.{at_has}
 use Rattle.st_marks.proofs.Members.{all-has}
 use Rattle.st_lists.specs.Log.{commit_of, commits_in, log_with}
-use Rattle.st_trace.specs.World.{IsActOf, IsNext, AtClient, ByConnected, OnBranch, act_of_none, branch_at, needs_connection, opening_document, sequence}
+use Rattle.st_trace.specs.World.{IsActOf, IsNext, AtClient, ByConnected, OnBranch, act_of_none, branch_at, needs_connection, opening_document, refusal_to_reconnect, sequence}
 use Rattle.st_lists.specs.Clients.{new_client, place_of, with_connection, without_connection}
-use Rattle.st_lists.specs.Limits.{log_limit_passed}
+use Rattle.st_lists.specs.Limits.{entries_limit_passed, log_limit_passed}
 use Rattle.st_lists.specs.Names.{names_in, names_in_text}
 use Rattle.st_trace.specs.declared.replica.Replica.{Replica}
 use Rattle.st_lists.specs.declared.lists.Body.TheVariants.{Join, Leave}
 use Rattle.st_lists.specs.declared.lists.Client.{Client}
 use Rattle.st_lists.specs.declared.lists.Entry.{Entry}
+use Rattle.st_lists.specs.declared.lists.Transaction.{Transaction}
 use Rattle.st_lists.specs.declared.lists.WorldState.{WorldState}
 use Rattle.st_trace.specs.declared.world.World.{World}
 use Rattle.st_trace.proofs.Agreed.{dropped_keeps, joined_keeps, left_keeps, returned_keeps, sent_keeps}
@@ -157,7 +159,7 @@ head_fits w i c text rest s at is =
     first (Some N) f = f.0
 
 -- the document after a text
-run_entered : (O D E : Document) (L : List Intent) (o : Option Intent) → Run O L D → HasEntered D o E → Run O (L ++ cons_option o []) E
+pub run_entered : (O D E : Document) (L : List Intent) (o : Option Intent) → Run O L D → HasEntered D o E → Run O (L ++ cons_option o []) E
 run_entered O D E L None r e = subst (λ (F : Document). Run O (L ++ []) F) (sym e) (subst (λ l. Run O l D) (sym (append-nil L)) r)
 run_entered O D E L (Some N) r e = run_more N E e.0 r e.1 e.2
 
@@ -253,6 +255,24 @@ sound_sent w i c c' text log_document known logged s at is is_c few few_names no
     }
 
 -- ## Sessions come and go
+
+-- the log has room for one entry more
+pub within_entries : (log : List Entry) → entries_limit_passed log ≡ None → length log < 65535
+within_entries log e = go (nat_le 65535 (length log)) refl e
+  where
+    go : (b : Bool) → nat_le 65535 (length log) ≡ b → ◌≡◌ {A = Option Limit} (cond b (Some (record { of = Log; kept = length log })) None) None → length log < 65535
+    go true p e = absurd (cc)
+    go false p e = grind (arith, nat_tests)
+
+-- a client may reconnect that isn't connected, and has no transaction open
+pub may_reconnect : (log : List Entry) (c : Client) → refusal_to_reconnect log c ≡ None → ((c.connected ≡ false) × (c.transaction ≡ None)) × (length log < 65535)
+may_reconnect log c e = let r = go c.connected c.transaction (entries_limit_passed log) e in ((r.0, r.1), within_entries log r.2)
+  where
+    go : (b : Bool) (t : Option Transaction) (o : Option Limit) → ◌≡◌ {A = Option Refusal} (cond b (Some Connected) (cond (is_some t) (Some Unfinished) (option_map (λ l. OverLimit l) o))) None → (b ≡ false) × (t ≡ None) × (o ≡ None)
+    go true t o e = cc
+    go false (Some t) o e = cc
+    go false None (Some l) e = cc
+    go false None None e = (refl, refl, refl)
 
 -- a commit of the log is of one of the sessions that it has given
 pub of_sessions : (log : List Entry) (N : Intent) → AllByRecursion IsEntryOf log → Has (commits_in log) N → N.rev.session ≤ sessions_in log
@@ -430,33 +450,24 @@ set_entered w i c c' ks body known s at none few session ids kept keeps connecte
 pub dropped_connected : (w : World) (i : ℕ) (c : Client) → IsSound w → slice_get w.lists.clients i ≡ Some c → AreConnected (log_with w.lists.log c.session Leave) (slice_set w.lists.clients i (without_connection c))
 dropped_connected w i c s at = connected_goes w.lists.log w.lists.clients i c at s.sessions s.connected (without_connection c) Leave refl refl
 
-pub sound_dropped : (w : World) (i : ℕ) (c : Client) (known : BTreeMap ℕ ℕ) → IsSound w → slice_get w.lists.clients i ≡ Some c → length w.lists.log < 65535 → AreKnown (log_with w.lists.log c.session Leave) known
-    → IsSoundAfter (w.steps + 1) (record w {
-      lists = record w.lists { log = log_with w.lists.log c.session Leave; clients = slice_set w.lists.clients i (without_connection c) };
-      known = known;
-      minima = w.minima ++ minimum (log_with w.lists.log c.session Leave) ∷ [];
-    })
+abbrev IsDropped : World → ℕ → Client → BTreeMap ℕ ℕ → Type 0
+IsDropped w i c known = IsSoundAfter (w.steps + 1) (record w {
+  lists = record w.lists { log = log_with w.lists.log c.session Leave; clients = slice_set w.lists.clients i (without_connection c) };
+  known = known;
+  minima = w.minima ++ minimum (log_with w.lists.log c.session Leave) ∷ [];
+})
+
+pub sound_dropped : (w : World) (i : ℕ) (c : Client) (known : BTreeMap ℕ ℕ) → IsSound w → slice_get w.lists.clients i ≡ Some c → length w.lists.log < 65535 → AreKnown (log_with w.lists.log c.session Leave) known → IsDropped w i c known
 sound_dropped w i c known s at few knows = go (slice_get w.kept i) refl
   where
     h : HeaderView
     h = header_view w.header
 
-    log : List Entry
-    log = w.lists.log
-
-    longer : List Entry
-    longer = log_with log c.session Leave
-
-    abbrev Next : Type 0
-    Next = IsSoundAfter (w.steps + 1) (record w {
-      lists = record w.lists { log = log_with w.lists.log c.session Leave; clients = slice_set w.lists.clients i (without_connection c) };
-      known = known;
-      minima = w.minima ++ minimum (log_with w.lists.log c.session Leave) ∷ [];
-    })
-
-    by : (k : Replica) → slice_get w.kept i ≡ Some k → Next
+    by : (k : Replica) → slice_get w.kept i ≡ Some k → IsDropped w i c known
     by k at_k =
         let st = start_of w w.steps s in
+        let log = w.lists.log in
+        let longer = log_with log c.session Leave in
         let all = all_after_text h st log c.session Leave refl w.lists.clients w.kept s.kept in
         let one = kept_at h longer w.lists.clients w.kept i c k all at at_k in
         let now : AreOne h longer (without_connection c) k = record { client = client_offline h st longer c one.client; kept = kept_offline h st longer c k one.kept } in
@@ -464,8 +475,8 @@ sound_dropped w i c known s at few knows = go (slice_get w.kept i) refl
         sound_entered w c.session Leave (slice_set w.lists.clients i (without_connection c)) w.kept known w.sessions s
         (set_entered w i c (without_connection c) w.kept Leave known s at refl few refl refl kept (dropped_keeps h st log w.lists.clients i c (clients_of h log w.lists.clients w.kept s.kept) at s.schema) (dropped_connected w i c s at) knows)
 
-    go : (o : Option Replica) → slice_get w.kept i ≡ o → Next
-    go None none = absurd (kept_none h log w.lists.clients w.kept i c s.kept at none)
+    go : (o : Option Replica) → slice_get w.kept i ≡ o → IsDropped w i c known
+    go None none = absurd (kept_none h w.lists.log w.lists.clients w.kept i c s.kept at none)
     go (Some k) at_k = by k at_k
 
 -- a client comes back
@@ -525,6 +536,11 @@ pub not_connected : (needs connected : Bool) (w : WorldState) (next : Type 0) �
 not_connected false connected w next e = cc
 not_connected true true w next e = cc
 not_connected true false w next e = (refl, refl)
+
+pub is_there : (needs connected : Bool) → needs ≡ true → needs && not connected ≡ false → connected ≡ true
+is_there false connected n e = cc
+is_there true true n e = refl
+is_there true false n e = cc
 
 pub on_none : (branch : ℕ) (w : WorldState) (next : Type 0) → (branch ≡ 0 → ⊥) → OnBranch branch w w (No NoBranch) next
 on_none zero w next e = absurd (e refl)

@@ -1,5 +1,5 @@
 -- The world after a client undid a commit, or told how much it received.
-use Rattle.std.proofs.Common.{◌≡◌, ◌≤◌, ◌+◌, ℕ, List, Option, Some, None, Result, Ok, Err, refl, sym, ap, ◌∙◌, subst, arith}
+use Rattle.std.proofs.Common.{◌≡◌, ◌≤◌, ◌+◌, ℕ, true, List, Option, Some, None, Result, Ok, Err, refl, sym, ap, ◌∙◌, subst, arith}
 use Rattle.std.specs.List.{slice_get, slice_set, AllByRecursion}
 use Rattle.st_ids.specs.declared.names.Rev.{Rev}
 use Rattle.st_marks.specs.declared.intents.Intent.{Intent}
@@ -112,8 +112,8 @@ next_undone h w i c q d rev a at_c at_q is =
 
 -- ## An ack
 
-pub sound_ack : (w : World) (i : ℕ) (c c' : Client) → IsSound w → slice_get w.lists.clients i ≡ Some c → c' ≡ with_ack c → IsSoundAfter (w.steps + 1) (record w { lists = record w.lists { clients = slice_set w.lists.clients i c' } })
-sound_ack w i c c' s at same = go (slice_get w.kept i) refl
+pub sound_ack : (w : World) (i : ℕ) (c c' : Client) → IsSound w → slice_get w.lists.clients i ≡ Some c → c.connected ≡ true → c' ≡ with_ack c → IsSoundAfter (w.steps + 1) (record w { lists = record w.lists { clients = slice_set w.lists.clients i c' } })
+sound_ack w i c c' s at on same = go (slice_get w.kept i) refl
   where
     h : HeaderView
     h = header_view w.header
@@ -124,7 +124,7 @@ sound_ack w i c c' s at same = go (slice_get w.kept i) refl
         let one = one_at w i c k s at at_k in
         let are = clients_of h w.lists.log w.lists.clients w.kept s.kept in
         let kept : IsReplicaOf h w.lists.log c' k = subst (λ d. IsReplicaOf h w.lists.log d k) (sym same) (kept_rest h st w.lists.log c (with_ack c).queue k one.kept) in
-        let now = sound_goes w i c k s at at_k c' k (ack_goes h st w.lists.log w.lists.clients s.sessions are s.few_names s.schema i c at c' same) kept in
+        let now = sound_goes w i c k s at at_k c' k (ack_goes h st w.lists.log w.lists.clients s.sessions are s.few_names s.schema i c at c' on same) kept in
         subst (λ (ks : List Replica). IsSoundAfter (w.steps + 1) (record w { lists = record w.lists { clients = slice_set w.lists.clients i c' }; kept = ks })) (set_same w.kept i k at_k) now
 
     go : (o : Option Replica) → slice_get w.kept i ≡ o → IsSoundAfter (w.steps + 1) (record w { lists = record w.lists { clients = slice_set w.lists.clients i c' } })

@@ -30,6 +30,7 @@ fn new_client(alloc: Global, n: u32, session: u32, name: &Text) -> Result<Client
     Ok(Client {
         name: name.copy(alloc)?,
         session,
+        connected: true,
         received: n,
         ids: 0,
         pending: List::new(alloc),

@@ -214,12 +214,14 @@ fn push_waiting(queue: &mut List<Body>, reference: u32, intent: Intent) -> Resul
     Ok(())
 }
 
-/// Keeps a commit as pending and in the queue.
+/// Keeps a commit as pending, and in the queue if the client is connected.
 pub fn enqueue(alloc: Global, client: &mut Client, intent: Intent) -> Result<(), AllocError>
     ensures { OnOk result (client.new ≡ with_commit client.old intent) }
 {
     push_pending(alloc, &mut client.pending, &intent)?;
-    push_waiting(&mut client.queue, client.received, intent)?;
+    if client.connected {
+        push_waiting(&mut client.queue, client.received, intent)?;
+    }
     Ok(())
 }
 

@@ -1,5 +1,5 @@
 //! What one client does with the log's past: it undoes commits, and tells how much it received.
-ghost use Rattle.std.specs.Prelude.{◌≡◌, ◌+◌, ◌^◌, ◌<◌, ◌++◌, ◌∷◌, [], Some, slice_get, IfOk, OnOk};
+ghost use Rattle.std.specs.Prelude.{◌≡◌, ◌+◌, ◌^◌, ◌<◌, ◌++◌, ◌∷◌, [], true, Some, slice_get, IfOk, OnOk};
 ghost use Rattle.st_script.specs.Header.{header_view};
 ghost use Rattle.st_script.specs.Steps as act;
 ghost use Rattle.st_lists.specs.Clients.{with_ack};
@@ -53,6 +53,7 @@ impl World {
     pub(crate) fn ack(&mut self, i: usize) -> Result<Answer, AllocError>
         requires sound { IsSound self.old }
         requires few { self.old.steps + 1 < 2 ^ 32 }
+        requires connected { (c : Present) → slice_get self.old.lists.clients i ≡ Some c → c.connected ≡ true }
         ensures next { IfOk result (λ a. (c : Present) → slice_get self.old.lists.clients i ≡ Some c
             → IsActOf (header_view self.old.header) self.old.lists act.ack i c self.new.lists a) }
         ensures sound { OnOk result (IsSoundNext self.new) }

@@ -1,5 +1,5 @@
 //! The world: its lists, and the documents and numbers that its answers are read off.
-ghost use Rattle.std.specs.Prelude.{◌≡◌, ◌↔◌, ◌+◌, ◌-◌, ◌^◌, ◌<◌, ◌≤◌, ◌++◌, ◌∷◌, true, false, is_some, length, map, [], None, Some, slice_get, IfOk, IfSome, OnOk, IsErrOf};
+ghost use Rattle.std.specs.Prelude.{◌≡◌, ◌↔◌, ◌+◌, ◌-◌, ◌^◌, ◌<◌, ◌≤◌, ◌++◌, ◌∷◌, ◌&&◌, not, true, false, is_some, length, [], None, Some, slice_get, IfOk, IfSome, OnOk, IsErrOf};
 ghost use Rattle.st_marks.specs.Document.{IsSoundInForm};
 ghost use Rattle.st_marks.specs.Intent.{Fits};
 ghost use Rattle.st_doc.specs.Doc.{document_of};
@@ -8,7 +8,7 @@ ghost use Rattle.st_script.specs.Steps.{act_view, step_view, IsActWithin, IsWith
 ghost use Rattle.st_doc.specs.LiveText.{is_among};
 ghost use Rattle.st_edits.specs.ArrayTypes.{is_array_type};
 ghost use Rattle.st_lists.specs.Clients.{empty_state, place_of};
-ghost use Rattle.st_trace.specs.World.{opening_document, limit_refusal, join, sequence, act_of_none, branch_at, IsDelivered, IsShown, IsActOf, IsNext, AtRefusal, ShowsAllowed};
+ghost use Rattle.st_trace.specs.World.{opening_document, limit_refusal, join, sequence, act_of_none, branch_at, needs_connection, IsDelivered, IsShown, IsActOf, IsNext, AtRefusal, ShowsAllowed};
 ghost use Rattle.st_lists.specs.Names.{names_in_text};
 ghost use Rattle.st_lists.specs.Limits.{log_limit_passed};
 ghost use Rattle.st_trace.specs.Replicas.{IsHeader, IsSound};
@@ -40,8 +40,8 @@ const MOST_NAMES: u64 = 131_072;
 
 /// The lists, and beside them what is read off them: the types whose nodes have a row, the document after the whole log,
 /// what is kept of each client, the greatest reference known of each session, the minimum after each entry, of each commit
-/// of the log how it came out, and how many names the log makes. `spent` is set after want of memory, and `steps` counts
-/// the steps.
+/// of the log how it came out, how many names the log makes, and how many sessions it has given. `spent` is set after want
+/// of memory, and `steps` counts the steps.
 #[derive(Drop)]
 pub struct World {
     pub header: Header,
@@ -53,6 +53,7 @@ pub struct World {
     pub minima: List<u32>,
     pub logged: BTreeMap<Rev, Logged>,
     pub names: u64,
+    pub sessions: u32,
     pub steps: u32,
     pub spent: bool,
 }
@@ -129,7 +130,32 @@ fn branch_of(step: &TraceStep) -> u32
         Act::Edit(_) | Act::Need { .. } | Act::Begin | Act::Commit | Act::Abort | Act::Show => {
             step.branch
         }
-        Act::Join | Act::Undo { .. } | Act::Sequence | Act::Ack | Act::Deliver => 0,
+        Act::Join
+        | Act::Undo { .. }
+        | Act::Sequence
+        | Act::Ack
+        | Act::Deliver
+        | Act::Leave
+        | Act::Drop
+        | Act::Reconnect => 0,
+    }
+}
+
+// Whether only a client that is connected does the act.
+fn needs_connection(act: &Act) -> bool
+    ensures { result ≡ needs_connection (act_view act.now) }
+{
+    match act {
+        Act::Sequence | Act::Ack | Act::Deliver | Act::Leave | Act::Drop => true,
+        Act::Join
+        | Act::Edit(_)
+        | Act::Need { .. }
+        | Act::Begin
+        | Act::Commit
+        | Act::Abort
+        | Act::Undo { .. }
+        | Act::Reconnect
+        | Act::Show => false,
     }
 }
 
@@ -169,6 +195,7 @@ impl World {
             minima: List::new(alloc),
             logged: BTreeMap::new(alloc),
             names: 0,
+            sessions: 0,
             steps: 0,
             spent: false,
         }
@@ -235,10 +262,10 @@ impl World {
     }
 
     // Keeps the minimum after a log that has one entry more.
-    fn keep_minimum(&mut self) -> Result<u32, AllocError>
+    pub(crate) fn keep_minimum(&mut self) -> Result<u32, AllocError>
         requires few { length self.old.lists.log < 2 ^ 32 }
         requires known { AreKnown self.old.lists.log self.old.known }
-        requires connected { AreConnected self.old.lists.log (map (λ (c : Present). c.session) self.old.lists.clients) }
+        requires connected { AreConnected self.old.lists.log self.old.lists.clients }
         ensures minimum { IfOk result (λ m. m ≡ minimum self.old.lists.log) }
         ensures world { OnOk result (self.new ≡ record self.old { minima = self.old.minima ++ minimum self.old.lists.log ∷ [] }) }
         ensures spent { self.new.spent ≡ self.old.spent }
@@ -264,7 +291,7 @@ impl World {
         requires entries { length self.old.lists.log < 65535 }
         requires names { self.old.names + names_in_text text ≤ 131072 }
         requires known { AreKnown self.old.lists.log self.old.known }
-        requires connected { AreConnected (log_with self.old.lists.log session text) (map (λ (c : Present). c.session) self.old.lists.clients) }
+        requires connected { AreConnected (log_with self.old.lists.log session text) self.old.lists.clients }
         ensures answer { IfOk result (λ a. a ≡ Answer.Sequence (minimum self.new.lists.log) (length self.new.lists.log)) }
         ensures known { OnOk result (AreKnown self.new.lists.log self.new.known) }
         ensures logged { OnOk result (HasLogged (document_of self.old.log_document) self.old.logged (length self.old.lists.log + 1) (commit_in text)
@@ -340,12 +367,13 @@ impl World {
         if entries >= MOST_ENTRIES {
             return Ok(limit_refusal(LimitOf::Log, entries as u32));
         }
-        let s = count as u32 + 1;
+        let s = self.sessions + 1;
         append_entry(&mut self.lists.log, &mut self.known, s, Body::Join)?;
         let n = self.lists.log.len() as u32;
         client::add_replica(alloc, &mut self.kept, &self.log_document)?;
         client::add_client(alloc, &mut self.lists.clients, n, s, name)?;
         self.keep_minimum()?;
+        self.sessions = s;
         Ok(Answer::Join { n, s })
     }
 
@@ -392,6 +420,9 @@ impl World {
             | Act::Sequence
             | Act::Ack
             | Act::Deliver
+            | Act::Leave
+            | Act::Drop
+            | Act::Reconnect
             | Act::Show => Ok(Answer::No(Refusal::NoClient)),
         }
     }
@@ -401,6 +432,7 @@ impl World {
         requires sound { IsSound self.old }
         requires few { self.old.steps + 1 < 2 ^ 32 }
         requires form { IsActWithin (act_view act.now) }
+        requires connected { needs_connection (act_view act.now) ≡ true → (c : Present) → slice_get self.old.lists.clients i ≡ Some c → c.connected ≡ true }
         ensures next { IfOk result (λ a. (c : Present) → slice_get self.old.lists.clients i ≡ Some c
             → IsActOf (header_view self.old.header) self.old.lists (act_view act.now) i c self.new.lists a) }
         ensures sound { OnOk result (IsSoundNext self.new) }
@@ -420,10 +452,23 @@ impl World {
             Act::Sequence => self.sequence(alloc, i),
             Act::Ack => self.ack(i),
             Act::Deliver => self.deliver(alloc, i),
+            Act::Leave => self.leave(i),
+            Act::Drop => self.drop_client(alloc, i),
+            Act::Reconnect => self.reconnect(alloc, i),
             Act::Show => {
                 let answer = self.show(alloc, i)?;
                 Ok(answer)
             }
+        }
+    }
+
+    // Whether the act of the client at a place is refused because it isn't connected.
+    fn is_out(&self, i: usize, act: &Act) -> bool
+        ensures { (c : Present) → slice_get self.now.lists.clients i ≡ Some c → result ≡ (needs_connection (act_view act.now) && not c.connected) }
+    {
+        match self.lists.clients.get(i) {
+            None => false,
+            Some(client) => needs_connection(act) && !client.connected,
         }
     }
 
@@ -445,6 +490,9 @@ impl World {
         };
         if branch_of(step) != 0 {
             return Ok(Answer::No(Refusal::NoBranch));
+        }
+        if self.is_out(i, &step.act) {
+            return Ok(Answer::No(Refusal::NotConnected));
         }
         let answer = self.answer_at(alloc, i, &step.act)?;
         Ok(answer)

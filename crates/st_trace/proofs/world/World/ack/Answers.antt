@@ -18,4 +18,4 @@ returns-clause-next c = λ q at.
     next_with c.args.self.now.lists c.args.i client q c.ack.new.client (λ x. (with_ack x, Ack x.received)) c.in_ok-answer.answer (sym c.in-Some.ensures.value) at done
 
 pub returns-clause-sound : goal.returns-clause-sound
-returns-clause-sound c = sound_ack c.args.self.now c.args.i c.in-Some.client.now c.ack.new.client c.requires.sound (sym c.in-Some.ensures.value) c.in_ok-answer.ensures.client
+returns-clause-sound c = sound_ack c.args.self.now c.args.i c.in-Some.client.now c.ack.new.client c.requires.sound (sym c.in-Some.ensures.value) (c.requires.connected c.in-Some.client.now (sym c.in-Some.ensures.value)) c.in_ok-answer.ensures.client

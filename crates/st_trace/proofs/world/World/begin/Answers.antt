@@ -1,4 +1,4 @@
-use Rattle.std.proofs.Common.{◌≡◌, ℕ, [], Some, None, IsSome, refl, sym, subst, arith, rules}
+use Rattle.std.proofs.Common.{◌≡◌, ℕ, true, false, [], Some, None, IsSome, refl, sym, subst, arith, rules}
 use Rattle.std.specs.BTreeMap.{get}
 use Rattle.std.specs.List.{slice_get}
 use Rattle.st_ids.specs.Order.{rev_cmp}
@@ -20,6 +20,9 @@ returns-clause-sound c =
       header = c.requires.header;
       kept = tt;
       sessions = tt;
+      given = tt;
+      counted = refl;
+      few_sessions = omega arith;
       clients = omega arith;
       ids = tt;
       log = tt;
@@ -31,12 +34,15 @@ returns-clause-sound c =
       names = refl;
       few_names = omega arith;
       known = λ session. search (rules, common_steps);
-      connected = record { all = λ s i. absurd i; no_other = λ e i. absurd i };
+      connected = record { each = λ x i. absurd i; no_other = λ n e. nobody e };
       minima = record { size = refl; each = λ i h. absurd (omega (arith, h)) };
       logged = record { each = λ i e N at is. nothing_at i e at; no_other = λ rev h. nothing_for (subst IsSome (nothing rev) h) };
       arrays = c.requires.arrays;
     })
   where
+    nobody : {R : Type 0} → false ≡ true → R
+    nobody e = absurd (cc)
+
     nothing_at : {R : Type 0} (i : ℕ) (e : Entry) → slice_get [] i ≡ Some e → R
     nothing_at i e at = absurd (cc)
 

@@ -8,13 +8,13 @@ use Rattle.st_trace.proofs.world.World.join.Goals as goal
 pub keep_minimum-requires-clause-connected : goal.keep_minimum-requires-clause-connected
 keep_minimum-requires-clause-connected c =
     let w = c.args.self.now in
-    let session = c.len-count.result + 1 in
-    rw (c.in_ok-add_client.ensures, c.in_ok-append_entry.ensures.log) (joined_connected w session (new_client c.len-n.result session c.args.name.now) c.requires.sound refl)
+    let session = w.sessions + 1 in
+    rw (c.in_ok-add_client.ensures, c.in_ok-append_entry.ensures.log) (joined_connected w session (new_client c.len-n.result session c.args.name.now) c.requires.sound (ap (λ n. n + 1) c.requires.sound.counted) refl refl)
 
 pub returns-clause-sound : goal.returns-clause-sound
 returns-clause-sound c =
     let w = c.args.self.now in
-    let session = c.len-count.result + 1 in
+    let session = w.sessions + 1 in
     let few : length w.lists.clients < 64 = omega (arith, c.len-count.ensures) in
     let few_entries : length w.lists.log < 65535 = omega (arith, c.len-entries.ensures) in
     let logged = c.in_ok-append_entry.ensures.log in
@@ -22,5 +22,5 @@ returns-clause-sound c =
     let knows = rw logged at c.in_ok-append_entry.ensures.known in
     let opened = c.in_ok-add_replica.ensures in
     rw (c.in_ok-keep_minimum.ensures.world, c.in_ok-add_client.ensures, opened.1, logged)
-    (sound_joined w c.args.name.now c.len-n.result session (new_client c.len-n.result session c.args.name.now) opened.0 c.append_entry.new.known c.requires.sound few few_entries (omega (arith, c.len-count.ensures)) n knows refl
+    (sound_joined w c.args.name.now c.len-n.result session (new_client c.len-n.result session c.args.name.now) opened.0 c.append_entry.new.known c.requires.sound few few_entries (ap (λ n. n + 1) c.requires.sound.counted) n knows refl
     opened.2)

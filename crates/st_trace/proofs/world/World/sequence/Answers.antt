@@ -1,9 +1,6 @@
-use Rattle.std.proofs.Common.{◌≡◌, ◌+◌, sym, ap, subst}
+use Rattle.std.proofs.Common.{◌+◌, sym, ap, subst}
 use Rattle.st_trace.specs.Replicas.{IsSoundAfter}
-use Rattle.st_lists.specs.Known.{AreConnected, AreKnown}
-use Rattle.st_lists.specs.Log.{log_with}
-use Rattle.st_lists.specs.declared.lists.Client.{Client}
-use Rattle.st_lists.proofs.Minima.{sessions_stay}
+use Rattle.st_lists.specs.Known.{AreKnown}
 use Rattle.st_trace.specs.declared.world.World.{World}
 use Rattle.st_trace.proofs.Stepping.{head_fits, head_sound, sent_connected, sound_sent, text_within}
 use Rattle.st_trace.proofs.world.World.sequence.Goals as goal
@@ -32,10 +29,4 @@ returns-in_ok-answer-in-Some-take_text-clause-sound c =
 
 pub sequence_text-requires-clause-connected : goal.sequence_text-requires-clause-connected
 sequence_text-requires-clause-connected c =
-    let w = c.args.self.now in
-    let client = c.in-Some-get_mut.client.now in
-    let text = c.in-Some-take_text.text in
-    let at = sym c.in-Some-get_mut.ensures.value in
-    let same : c.take_text.new.client.session ≡ client.session = ap (λ (x : Client). x.session) c.in-Some-take_text.ensures.1 in
-    subst (AreConnected (log_with w.lists.log client.session text)) (sym (sessions_stay w.lists.clients c.args.i client c.take_text.new.client at same))
-    (sent_connected w c.args.i client text c.take_text.new.client.queue c.requires.sound at c.in-Some-take_text.ensures.0)
+    sent_connected c.args.self.now c.args.i c.in-Some-get_mut.client.now c.take_text.new.client c.in-Some-take_text.text c.requires.sound (sym c.in-Some-get_mut.ensures.value) c.in-Some-take_text.ensures.0 c.in-Some-take_text.ensures.1
