@@ -1,15 +1,12 @@
 -- Where the clients that are connected are the sessions that are, the minimum is the least known reference of those clients.
-use Rattle.std.proofs.Common.{◌≡◌, ◌≤◌, ◌<◌, ◌+◌, ◌-◌, ◌==◌, ℕ, zero, suc, Bool, true, false, cond, min, nat_le, List, [], ◌∷◌, ◌++◌, length, length-append, filter, take, Option, Some, None, unwrap_or, refl, sym, ap, ◌∙◌, subst, arith, ◌⊎◌, inl, inr}
-use Rattle.std.specs.List.{fold, slice_get, slice_set}
+use Rattle.std.proofs.Common.{◌≡◌, ◌≤◌, ◌<◌, ◌+◌, ◌-◌, ◌==◌, ℕ, zero, suc, Bool, true, false, cond, min, nat_le, List, [], ◌∷◌, ◌++◌, length, length-append, filter, take, Option, Some, unwrap_or, refl, sym, ap, ◌∙◌, arith, ◌⊎◌, inl, inr}
+use Rattle.std.specs.List.{fold, slice_get}
 use Rattle.std.proofs.lemmas.Bool.Decides.{nat_tests}
 use Rattle.std.proofs.lemmas.List.{take-append-le, take_all}
-use Rattle.std.proofs.lemmas.List.Sums.{fold-append}
 use Rattle.st_ids.specs.Listing.{Has}
-use Rattle.st_marks.proofs.Members.{append_left, append_right, has-append, has-map, map-has}
 use Rattle.st_lists.specs.Known.{AreConnected, AreKnown, AreMinima, known_so_far}
-use Rattle.st_lists.specs.Log.{connected_after, connected_by, floor, is_connected, is_text, known_reference, log_with, minimum}
+use Rattle.st_lists.specs.Log.{connected_after, connected_by, floor, is_connected, known_reference, log_with, minimum}
 use Rattle.st_lists.specs.declared.lists.Body.{Body}
-use Rattle.st_lists.specs.declared.lists.Body.TheVariants.{Join, Leave, Ack, Commit}
 use Rattle.st_lists.specs.declared.lists.Client.{Client}
 use Rattle.st_lists.specs.declared.lists.Entry.{Entry}
 use Rattle.st_lists.proofs.Logs.{last_entry}

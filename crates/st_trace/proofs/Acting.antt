@@ -283,6 +283,9 @@ refusal_as (Answer.Undo rev) P Q f p = tt
 refusal_as (Answer.Sequence min n) P Q f p = tt
 refusal_as (Answer.Ack reference) P Q f p = tt
 refusal_as (Answer.Deliver n void) P Q f p = tt
+refusal_as (Answer.Leave n) P Q f p = tt
+refusal_as (Answer.Drop n) P Q f p = tt
+refusal_as (Answer.Reconnect n sent) P Q f p = tt
 refusal_as (Answer.Show tree) P Q f p = tt
 refusal_as (Answer.No why) P Q f p = f p
 

@@ -1,5 +1,5 @@
 -- The commits of the log, and those that each client shows, agree with the schema, whoever makes a step.
-use Rattle.std.proofs.Common.{◌≡◌, ◌≢◌, ◌≤◌, ◌<◌, ◌+◌, ◌==◌, ℕ, zero, suc, Bool, true, false, List, [], ◌∷◌, ◌++◌, length, take, drop, Option, Some, None, IfSome, IsSome, is_some, Result, Ok, Err, refl, sym, ap, ◌∙◌, subst, arith, append_assoc, length-append, ◌⊎◌, inl, inr}
+use Rattle.std.proofs.Common.{◌≡◌, ◌≢◌, ◌≤◌, ◌+◌, ◌==◌, ℕ, zero, suc, Bool, true, false, List, [], ◌∷◌, ◌++◌, length, take, drop, Option, Some, None, IfSome, IsSome, is_some, Result, Ok, Err, refl, sym, ap, ◌∙◌, subst, arith, append_assoc, length-append, ◌⊎◌, inl, inr}
 use Rattle.std.specs.List.{cons_option, remove, slice_get, slice_set, AllByRecursion}
 use Rattle.std.proofs.lemmas.Bool.Decides.{nat_tests}
 use Rattle.std.proofs.lemmas.List.{append-nil, take_all}
@@ -67,7 +67,7 @@ use Rattle.st_trace.proofs.Parts.{edited_fits, follow}
 use Rattle.st_trace.proofs.Everyone.{all_get, all_set, others_apart, set_same}
 use Rattle.st_ids.proofs.Shared.{at_has}
 use Rattle.st_lists.proofs.Present.{all_rest, are_apart}
-use Rattle.st_lists.proofs.Logs.{by_sublist, commits_split, entered_commits, entered_front, last_entry, no_commit, one_commit, text_first}
+use Rattle.st_lists.proofs.Logs.{by_sublist, commits_split, entered_commits, entered_front, last_entry, no_commit, one_commit}
 use Rattle.st_lemmas.proofs.Lists.{AllByRecursion-append}
 
 -- before any client joins

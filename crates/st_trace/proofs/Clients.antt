@@ -30,7 +30,7 @@ use Rattle.st_lists.specs.Clients.{HasReceived, joined_of, queue_with, with_ack,
 use Rattle.st_lists.specs.Names.{names_in, names_in_text, names_made}
 use Rattle.st_trace.specs.World.{opening_document}
 use Rattle.st_lists.specs.declared.lists.Body.{Body}
-use Rattle.st_lists.specs.declared.lists.Body.TheVariants.{Ack, Join, Leave, Commit}
+use Rattle.st_lists.specs.declared.lists.Body.TheVariants.{Ack, Join, Commit}
 use Rattle.st_lists.specs.declared.lists.Client.{Client}
 use Rattle.st_lists.specs.declared.lists.Entry.{Entry}
 use Rattle.st_lists.specs.declared.lists.Transaction.{Transaction}

@@ -1,5 +1,5 @@
 -- All clients, and what is kept of them.
-use Rattle.std.proofs.Common.{◌≡◌, ◌≢◌, ◌≤◌, ◌<◌, ◌+◌, ◌==◌, ℕ, zero, suc, false, List, [], ◌∷◌, ◌++◌, length, Some, None, refl, sym, ap, ◌∙◌, subst, arith}
+use Rattle.std.proofs.Common.{◌≡◌, ◌≢◌, ◌≤◌, ◌<◌, ◌+◌, ◌==◌, ℕ, zero, suc, false, List, [], ◌∷◌, ◌++◌, length, Some, None, refl, sym, ap, subst, arith}
 use Rattle.std.specs.List.{remove, slice_get, slice_set, AllByRecursion}
 use Rattle.st_script.specs.Header.{HeaderView}
 use Rattle.st_trace.specs.Replicas.{IsClient, IsReplicaOf, AreReplicas, HaveOwnSessions}

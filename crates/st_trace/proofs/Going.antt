@@ -1,5 +1,5 @@
 -- The lists of a world by themselves: what holds of them holds after each step.
-use Rattle.std.proofs.Common.{◌≡◌, ◌≢◌, ◌≤◌, ◌<◌, ◌+◌, ◌==◌, ℕ, zero, suc, Bool, true, false, List, [], ◌∷◌, ◌++◌, length, drop, Option, Some, None, IfSome, Result, Ok, Err, refl, sym, ap, ◌∙◌, subst, arith, inl}
+use Rattle.std.proofs.Common.{◌≡◌, ◌≢◌, ◌≤◌, ◌+◌, ◌==◌, ℕ, zero, suc, Bool, true, false, List, [], ◌∷◌, ◌++◌, length, drop, Option, Some, None, IfSome, Result, Ok, Err, refl, sym, ap, ◌∙◌, subst, arith, inl}
 use Rattle.std.specs.List.{cons_option, remove, slice_get, slice_set, AllByRecursion}
 use Rattle.std.proofs.lemmas.List.{append-nil}
 use Rattle.st_ids.specs.declared.names.Limit.{Limit}
@@ -419,19 +419,19 @@ joined_sound h w name s =
 
 -- an entry without a commit, of a client that is there: the others stay, and it goes or is now so
 module _ (h : HeaderView) (w : WorldState) (i : ℕ) (c : Client) (body : Body) (s : AreSound h w) (at : slice_get w.clients i ≡ Some c) (none : commit_in body ≡ None) where
-  abbrev longer : List Entry
-  longer = log_with w.log c.session body
+  abbrev log_after : List Entry
+  log_after = log_with w.log c.session body
 
   st : IsStart (opening_document h)
   st = opened_start h s.header
 
-  commits : commits_in w.log ≡ commits_in longer
+  commits : commits_in w.log ≡ commits_in log_after
   commits = sym (entered_commits w.log c.session body ∙ ap (λ o. commits_in w.log ++ cons_option o []) none ∙ append-nil (commits_in w.log))
 
-  others : AllByRecursion (IsClient h longer) w.clients
-  others = all_as (IsClient h w.log) (IsClient h longer) w.clients (λ d k. client_after_text h st w.log c.session body d none k) s.clients
+  others : AllByRecursion (IsClient h log_after) w.clients
+  others = all_as (IsClient h w.log) (IsClient h log_after) w.clients (λ d k. client_after_text h st w.log c.session body d none k) s.clients
 
-  pub entered_sound : (cs : List Client) → AllByRecursion (IsClient h longer) cs → HaveOwnSessions cs → AllByRecursion (λ (x : Client). x.session ≤ sessions_in longer) cs → KeepToSchema h longer cs → AreSound h (record w { log = longer; clients = cs })
+  pub entered_sound : (cs : List Client) → AllByRecursion (IsClient h log_after) cs → HaveOwnSessions cs → AllByRecursion (λ (x : Client). x.session ≤ sessions_in log_after) cs → KeepToSchema h log_after cs → AreSound h (record w { log = log_after; clients = cs })
   entered_sound cs clients sessions given keeps = record {
     header = s.header;
     clients = clients;
@@ -444,16 +444,16 @@ module _ (h : HeaderView) (w : WorldState) (i : ℕ) (c : Client) (body : Body) 
     few_names = omega (arith, s.few_names, ap names_in commits);
   }
 
-  pub set_after : (c' : Client) → c'.session ≡ c.session → IsClient h longer c' → KeepToSchema h longer (slice_set w.clients i c') → AreSound h (record w { log = longer; clients = slice_set w.clients i c' })
+  pub set_after : (c' : Client) → c'.session ≡ c.session → IsClient h log_after c' → KeepToSchema h log_after (slice_set w.clients i c') → AreSound h (record w { log = log_after; clients = slice_set w.clients i c' })
   set_after c' session client keeps =
       let low = all_get (λ (x : Client). x.session ≤ sessions_in w.log) w.clients i c s.given at in
-      entered_sound (slice_set w.clients i c') (all_set (IsClient h longer) w.clients i c' others client) (distinct_set session_of w.clients i c c' at session s.sessions)
-      (all_set (λ (x : Client). x.session ≤ sessions_in longer) w.clients i c' (given_still w.log c.session body w.clients s.given) (omega (arith, low, session, sessions_entered w.log c.session body))) keeps
+      entered_sound (slice_set w.clients i c') (all_set (IsClient h log_after) w.clients i c' others client) (distinct_set session_of w.clients i c c' at session s.sessions)
+      (all_set (λ (x : Client). x.session ≤ sessions_in log_after) w.clients i c' (given_still w.log c.session body w.clients s.given) (omega (arith, low, session, sessions_entered w.log c.session body))) keeps
 
-  pub gone_after : KeepToSchema h longer (remove w.clients i) → AreSound h (record w { log = longer; clients = remove w.clients i })
+  pub gone_after : KeepToSchema h log_after (remove w.clients i) → AreSound h (record w { log = log_after; clients = remove w.clients i })
   gone_after keeps =
-      entered_sound (remove w.clients i) (all_rest (IsClient h longer) w.clients i others) (distinct_rest session_of w.clients i s.sessions)
-      (all_rest (λ (x : Client). x.session ≤ sessions_in longer) w.clients i (given_still w.log c.session body w.clients s.given)) keeps
+      entered_sound (remove w.clients i) (all_rest (IsClient h log_after) w.clients i others) (distinct_rest session_of w.clients i s.sessions)
+      (all_rest (λ (x : Client). x.session ≤ sessions_in log_after) w.clients i (given_still w.log c.session body w.clients s.given)) keeps
 
 pub left_sound : (h : HeaderView) (w : WorldState) (i : ℕ) (c : Client) → AreSound h w → slice_get w.clients i ≡ Some c → AreSound h (record w { log = log_with w.log c.session Leave; clients = remove w.clients i })
 left_sound h w i c s at = gone_after h w i c Leave s at refl (left_keeps h (opened_start h s.header) w.log w.clients i c.session s.clients s.schema)

@@ -1,21 +1,19 @@
 -- What is kept of the commits of the log, when it grows.
-use Rattle.std.proofs.Common.{◌≡◌, ◌<◌, ◌≤◌, ◌+◌, ℕ, zero, suc, Bool, true, false, cond, List, [], ◌∷◌, ◌++◌, length, map, take, Option, Some, None, IsSome, is_some, refl, sym, ap, ◌∙◌, subst, arith, ◌⊎◌, inl, inr}
+use Rattle.std.proofs.Common.{◌≡◌, ◌<◌, ◌+◌, ℕ, zero, suc, Bool, true, false, cond, List, [], ◌∷◌, ◌++◌, length, take, Option, Some, None, IsSome, is_some, refl, sym, ap, ◌∙◌, subst, arith, ◌⊎◌, inl, inr}
 use Rattle.std.specs.BTreeMap.{BTreeMap, get}
-use Rattle.std.specs.List.{cons_option, filter_map, slice_get}
-use Rattle.std.proofs.lemmas.List.{append-nil, take_all}
+use Rattle.std.specs.List.{cons_option, slice_get}
+use Rattle.std.proofs.lemmas.List.{take_all}
 use Rattle.st_ids.specs.Listing.{Has}
 use Rattle.st_ids.specs.Order.{rev_cmp, same_rev}
 use Rattle.st_ids.specs.Root.{opening}
 use Rattle.st_ids.specs.declared.names.Rev.{Rev}
 use Rattle.st_ids.proofs.Orders.{same_rev-true, same_rev-itself}
 use Rattle.st_marks.specs.declared.intents.Intent.{Intent}
-use Rattle.st_marks.specs.declared.verdicts.Verdict.{Verdict}
 use Rattle.st_marks.specs.Document.{Document}
 use Rattle.st_marks.specs.Run.{Run}
-use Rattle.st_marks.specs.Verdict.{IsVerdict, carried_document}
 use Rattle.st_marks.proofs.Members.{append_left, append_right, distinct-between, has-map, map-has}
 use Rattle.st_log_laws.specs.Names.{HaveNewRevisions, revisions}
-use Rattle.st_heads.specs.Remembered.{AreCarried, IsCarried, none as nothing_done, more}
+use Rattle.st_heads.specs.Remembered.{AreCarried, none as nothing_done}
 use Rattle.st_heads.specs.declared.ways.Carried.{Carried}
 use Rattle.st_heads.proofs.Runs.{opened}
 use Rattle.st_lists.specs.Log.{commit_in, commit_of, commits_in, commits_of_text, log_with}

@@ -1,7 +1,6 @@
 -- A client that comes back: what it missed is carried out, and what waits after it.
-use Rattle.std.proofs.Common.{◌≡◌, ◌≤◌, ◌<◌, ◌+◌, ℕ, zero, suc, List, [], ◌∷◌, ◌++◌, length, length-append, take, drop, Option, Some, None, IfSome, refl, sym, ap, ◌∙◌, subst, arith}
+use Rattle.std.proofs.Common.{◌≡◌, ◌≤◌, ◌+◌, ℕ, suc, List, [], ◌∷◌, length, length-append, take, drop, Option, Some, None, IfSome, refl, sym, ap, ◌∙◌, subst, arith}
 use Rattle.std.specs.List.{cons_option, slice_get, slice_set}
-use Rattle.std.proofs.lemmas.List.{append-nil}
 use Rattle.st_marks.specs.declared.intents.Intent.{Intent}
 use Rattle.st_marks.specs.Document.{Document, IsSoundInForm}
 use Rattle.st_marks.specs.Intent.{Fits}
@@ -12,13 +11,12 @@ use Rattle.st_log_laws.proofs.Turns.{rest as rest_fit}
 use Rattle.st_doc.specs.Doc.{document_of}
 use Rattle.st_lemmas.proofs.Lists.{drop-slice_get}
 use Rattle.st_script.specs.Header.{HeaderView, header_view}
-use Rattle.st_script.specs.declared.answer.Answer.{Answer}
 use Rattle.st_script.specs.declared.answer.Answer.TheVariants.{Drop, Leave as Leaves, No, Reconnect}
 use Rattle.st_script.specs.declared.refusal.Refusal.{Refusal}
 use Rattle.st_ids.specs.declared.names.Limit.{Limit}
-use Rattle.st_lists.specs.Clients.{received_by, with_connection, without_connection}
+use Rattle.st_lists.specs.Clients.{with_connection}
 use Rattle.st_lists.specs.Limits.{entries_limit_passed}
-use Rattle.st_lists.specs.Log.{commit_of, commits_by, commits_in, log_with, own_in_flight, waiting}
+use Rattle.st_lists.specs.Log.{commit_of, commits_by, commits_in, own_in_flight, waiting}
 use Rattle.st_lists.specs.Names.{names_in}
 use Rattle.st_lists.specs.declared.lists.Client.{Client}
 use Rattle.st_lists.specs.declared.lists.Entry.{Entry}
@@ -31,6 +29,7 @@ use Rattle.st_trace.specs.declared.world.World.{World}
 use Rattle.st_trace.specs.inside.Replicas.{HasEntered}
 use Rattle.st_trace.proofs.Acting.{one_at}
 use Rattle.st_trace.proofs.Clients.{received_sound, waiting_few}
+use Rattle.st_trace.proofs.Keeping.{AreOne}
 use Rattle.st_trace.proofs.Stepping.{run_entered, start_of}
 
 -- ## Entries that were missed
@@ -67,11 +66,14 @@ module _ (w : World) (i : ℕ) (c : Client) (k : Replica) (s : IsSound w) (at_c 
   abbrev log : List Entry
   log = w.lists.log
 
-  one : _
+  one : AreOne h log c k
   one = one_at w i c k s at_c at_k
 
   pub flight : length (commits_by c.session (drop c.received log)) ≤ length c.pending
   flight = omega (arith, ap length one.client.under_way ∙ length-append (own_in_flight log c) (waiting log c))
+
+  pub received_within : c.received ≤ length log
+  received_within = one.client.within
 
   pub few_pending : length c.pending ≤ 256
   few_pending = one.client.few
@@ -90,11 +92,11 @@ module _ (w : World) (i : ℕ) (c : Client) (k : Replica) (s : IsSound w) (at_c 
 
 -- ## What is kept of as many
 
-pub as_many_kept : (h : HeaderView) (log : List Entry) (cs : List Client) (ks : List Replica) → AreReplicas h log cs ks → length ks ≡ length cs
-as_many_kept h log [] [] w = refl
-as_many_kept h log [] (k ∷ ks) w = absurd w
-as_many_kept h log (c ∷ cs) [] w = absurd w
-as_many_kept h log (c ∷ cs) (k ∷ ks) w = ap suc (as_many_kept h log cs ks w.2)
+pub as_many_kept : (g : HeaderView) (es : List Entry) (cs : List Client) (ks : List Replica) → AreReplicas g es cs ks → length ks ≡ length cs
+as_many_kept g es [] [] w = refl
+as_many_kept g es [] (k ∷ ks) w = absurd w
+as_many_kept g es (c ∷ cs) [] w = absurd w
+as_many_kept g es (c ∷ cs) (k ∷ ks) w = ap suc (as_many_kept g es cs ks w.2)
 
 -- ## Answers
 

@@ -1,5 +1,5 @@
 -- The world after a step of one client.
-use Rattle.std.proofs.Common.{◌≡◌, ◌≢◌, ◌≤◌, ◌<◌, ◌+◌, ◌^◌, ◌-◌, ℕ, zero, suc, Bool, true, false, cond, min, not, ◌&&◌, nat_le, nat_lt, List, [], ◌∷◌, ◌++◌, length, length-append, Option, Some, None, IfSome, is_some, refl, sym, ap, ◌∙◌, subst, arith, append_assoc, inl, inr}
+use Rattle.std.proofs.Common.{◌≡◌, ◌≢◌, ◌≤◌, ◌<◌, ◌+◌, ◌^◌, ◌-◌, ℕ, zero, suc, Bool, true, false, cond, min, not, ◌&&◌, nat_le, nat_lt, List, [], ◌∷◌, ◌++◌, length, length-append, Option, Some, None, IfSome, is_some, refl, sym, ap, ◌∙◌, subst, arith, append_assoc}
 use Rattle.std.specs.List.{AllByRecursion, cons_option, remove, slice_get, slice_set}
 use Rattle.std.specs.BTreeMap.{BTreeMap}
 use Rattle.std.specs.Option.{option_map}
@@ -36,7 +36,7 @@ use Rattle.st_lists.proofs.Minima.{minima_more}
 use Rattle.st_lists.proofs.Present.{all_rest, connected_goes, connected_joined, connected_left, connected_stays, distinct_more, distinct_rest, distinct_set, rest_fewer, session_given, session_of, sessions_entered, text_stays}
 use Rattle.st_ids.proofs.Shared.{at_has}
 use Rattle.st_marks.proofs.Members.{all-has}
-use Rattle.st_lists.specs.Log.{commit_of, commits_in, log_with}
+use Rattle.st_lists.specs.Log.{commits_in, log_with}
 use Rattle.st_trace.specs.World.{IsActOf, IsNext, AtClient, ByConnected, OnBranch, act_of_none, branch_at, needs_connection, opening_document, refusal_to_reconnect, sequence}
 use Rattle.st_lists.specs.Clients.{new_client, place_of, with_connection, without_connection}
 use Rattle.st_lists.specs.Limits.{entries_limit_passed, log_limit_passed}
@@ -54,7 +54,7 @@ use Rattle.st_trace.proofs.Clients.{client_joined, client_offline, client_return
 use Rattle.st_lists.proofs.Names.{names_append, names_of_text}
 use Rattle.st_trace.proofs.Everyone.{all_after_text, all_as, all_get, all_sent, all_set, clients_of, kept_at, kept_none, kept_push, kept_set, kept_some, kept_without, past, set_same}
 use Rattle.st_trace.proofs.Keeping.{AreOne, kept_joined, kept_offline, kept_returned, run_more}
-use Rattle.st_lists.proofs.Logs.{entered_commits, last_entry, text_first}
+use Rattle.st_lists.proofs.Logs.{entered_commits, last_entry}
 use Rattle.st_lemmas.proofs.Lists.{AllByRecursion-append}
 use Rattle.st_lists.specs.declared.lists.Body.{Body}
 use Rattle.st_ids.specs.declared.names.Rev.{Rev}
@@ -282,18 +282,18 @@ of_sessions log N all i =
     omega (arith, own, session_given log p.1 (at_has log p.0 p.1 p.2))
 
 -- an entry without a commit, after which the clients are so, and what is kept of them
-pub record IsAfterEntry (w : World) (session : ℕ) (body : Body) (cs : List Client) (ks : List Replica) (known : BTreeMap ℕ ℕ) (sessions : ℕ) : Type 0 where
+pub record IsAfterEntry (w : World) (session : ℕ) (body : Body) (cs : List Client) (ks : List Replica) (refs : BTreeMap ℕ ℕ) (count : ℕ) : Type 0 where
   pub none : commit_in body ≡ None
   pub few : length w.lists.log < 65535
   pub kept : AreReplicas (header_view w.header) (log_with w.lists.log session body) cs ks
   pub sessions : HaveOwnSessions cs
   pub given : AllByRecursion (λ (c : Client). c.session ≤ sessions_in (log_with w.lists.log session body)) cs
-  pub counted : sessions ≡ sessions_in (log_with w.lists.log session body)
-  pub few_sessions : sessions ≤ length w.lists.log + 1
+  pub counted : count ≡ sessions_in (log_with w.lists.log session body)
+  pub few_sessions : count ≤ length w.lists.log + 1
   pub clients : length cs ≤ 64
   pub ids : AllByRecursion (λ (c : Client). c.ids ≤ w.steps) cs
   pub schema : KeepToSchema (header_view w.header) (log_with w.lists.log session body) cs
-  pub known : AreKnown (log_with w.lists.log session body) known
+  pub known : AreKnown (log_with w.lists.log session body) refs
   pub connected : AreConnected (log_with w.lists.log session body) cs
 
 pub sound_entered : (w : World) (session : ℕ) (body : Body) (cs : List Client) (ks : List Replica) (known : BTreeMap ℕ ℕ) (sessions : ℕ) → IsSound w → IsAfterEntry w session body cs ks known sessions

@@ -1,5 +1,5 @@
 -- What undoes a commit, by what is kept of how it came out.
-use Rattle.std.proofs.Common.{◌≡◌, ◌<◌, ◌≤◌, ◌+◌, ◌-◌, ◌==◌, ℕ, zero, suc, Bool, true, false, cond, not, nat_le, nat_lt, List, [], ◌∷◌, ◌++◌, length, map, take, drop, Option, Some, None, IsSome, is_some, Result, Ok, Err, refl, sym, ap, ◌∙◌, subst, arith, append_assoc, unwrap_or, ◌⊎◌, inl, inr}
+use Rattle.std.proofs.Common.{◌≡◌, ◌<◌, ◌≤◌, ◌+◌, ◌==◌, ℕ, zero, suc, Bool, true, false, cond, not, nat_le, nat_lt, List, [], ◌∷◌, ◌++◌, length, take, drop, Option, Some, None, IsSome, is_some, Result, Ok, Err, refl, sym, ap, ◌∙◌, subst, arith, append_assoc, ◌⊎◌, inl, inr}
 use Rattle.std.specs.BTreeMap.{BTreeMap, get}
 use Rattle.std.specs.List.{cons_option, find, flat_map, list_any, position, position_or_len, slice_get}
 use Rattle.std.specs.Option.{option_and_then, option_map, option_map_or}
@@ -18,15 +18,14 @@ use Rattle.st_marks.specs.declared.intents.Intent.{Intent}
 use Rattle.st_marks.specs.declared.verdicts.Verdict.{Verdict}
 use Rattle.st_marks.specs.Back.{IsBack}
 use Rattle.st_marks.specs.CarryOut.{full}
-use Rattle.st_marks.specs.Document.{Document, IsSoundInForm, last_of, revs}
+use Rattle.st_marks.specs.Document.{Document, IsSoundInForm}
 use Rattle.st_marks.specs.Intent.{group_cells}
 use Rattle.st_marks.specs.Run.{Run, done, next}
-use Rattle.st_marks.specs.Verdict.{IsVerdict, carried_document}
-use Rattle.st_marks.proofs.Members.{any-has, append_left, append_right, first-has, has-any, has-append, has-map, none-has}
+use Rattle.st_marks.specs.Verdict.{IsVerdict}
+use Rattle.st_marks.proofs.Members.{any-has, append_right, first-has, has-any, has-append, has-map, none-has}
 use Rattle.st_marks.proofs.OneVerdict.{run_then}
 use Rattle.st_lemmas.proofs.Bools.{true-false}
 use Rattle.st_lemmas.proofs.Lists.{drop-slice_get}
-use Rattle.st_doc.specs.Doc.{document_of}
 use Rattle.st_log_laws.specs.Turns.{FitInTurn}
 use Rattle.st_log_laws.proofs.Turns.{front, has_run, rest as rest_fit, turn_extends}
 use Rattle.st_log_laws.proofs.Verdicts.{has_verdict}
@@ -35,12 +34,11 @@ use Rattle.st_heads.specs.Undoing.{IsAt, IsUndoing}
 use Rattle.st_heads.specs.declared.ways.Carried.{Carried}
 use Rattle.st_heads.specs.declared.ways.Way.{Way}
 use Rattle.st_heads.proofs.Having.{has_way}
-use Rattle.st_heads.proofs.Runs.{as_many, opened, run_of, sound_verdict}
-use Rattle.st_script.specs.Header.{HeaderView}
+use Rattle.st_heads.proofs.Runs.{run_of, sound_verdict}
 use Rattle.st_script.specs.declared.answer.Answer.{Answer}
 use Rattle.st_script.specs.declared.answer.Answer.TheVariants.{No, Undo}
 use Rattle.st_script.specs.declared.refusal.Refusal.{Refusal}
-use Rattle.st_script.specs.declared.refusal.Refusal.TheVariants.{Gone, Kind, Limit as OverLimit, NoCommit, NotOwn, VoidCommit, Unfinished}
+use Rattle.st_script.specs.declared.refusal.Refusal.TheVariants.{Gone, Kind, Limit as OverLimit, NoCommit, NotOwn, VoidCommit}
 use Rattle.st_lists.specs.Clients.{next_rev, received_by, with_new_commit}
 use Rattle.st_lists.specs.Limits.{pending_limit_passed}
 use Rattle.st_lists.specs.Lines.{commits_of, main_line}
@@ -48,16 +46,13 @@ use Rattle.st_lists.specs.Log.{commit_of, commits_in, floor}
 use Rattle.st_lists.specs.Names.{names_made}
 use Rattle.st_lists.specs.declared.lists.Client.{Client}
 use Rattle.st_lists.specs.declared.lists.Entry.{Entry}
-use Rattle.st_lists.specs.declared.lists.Transaction.{Transaction}
-use Rattle.st_lists.proofs.Logs.{commits_append, commits_split}
-use Rattle.st_trace.specs.Kept.{IsKept, Unless}
+use Rattle.st_lists.proofs.Logs.{commits_split}
+use Rattle.st_trace.specs.Kept.{Unless}
 use Rattle.st_trace.specs.Logged.{AreLogged, IsLogged}
-use Rattle.st_trace.specs.Replicas.{IsClient, IsReplicaOf}
-use Rattle.st_trace.specs.Undo.{IsAfterUndo, IsUndone, IsUndoneAt, has_commit, has_rev, is_gone, number_of, refusal_of_rev, refusal_over}
-use Rattle.st_trace.specs.World.{last_in_effect, opening_document}
+use Rattle.st_trace.specs.Undo.{IsUndone, IsUndoneAt, has_commit, has_rev, is_gone, number_of, refusal_of_rev, refusal_over}
+use Rattle.st_trace.specs.World.{last_in_effect}
 use Rattle.st_trace.specs.declared.logged.Logged.{Logged}
-use Rattle.st_trace.specs.declared.replica.Replica.{Replica}
-use Rattle.st_trace.specs.inside.Undo.{logged_of, logged_within, undo_in, undone, way_at, way_logged, way_of, way_over, way_pending, way_within}
+use Rattle.st_trace.specs.inside.Undo.{logged_of, logged_within, undone, way_at, way_logged, way_of, way_over, way_pending, way_within}
 use Rattle.st_trace.proofs.Noting.{place_among}
 
 -- ## Lists

@@ -1,9 +1,8 @@
 -- The world after a client undid a commit, or told how much it received.
-use Rattle.std.proofs.Common.{◌≡◌, ◌≤◌, ◌+◌, ℕ, true, List, Option, Some, None, Result, Ok, Err, refl, sym, ap, ◌∙◌, subst, arith}
-use Rattle.std.specs.List.{slice_get, slice_set, AllByRecursion}
+use Rattle.std.proofs.Common.{◌≡◌, ◌≤◌, ◌+◌, ℕ, true, List, Option, Some, None, Result, Ok, Err, refl, sym, ap, subst, arith}
+use Rattle.std.specs.List.{slice_get, slice_set}
 use Rattle.st_ids.specs.declared.names.Rev.{Rev}
 use Rattle.st_marks.specs.declared.intents.Intent.{Intent}
-use Rattle.st_marks.specs.Document.{Document}
 use Rattle.st_marks.specs.Intent.{Fits}
 use Rattle.st_doc.specs.Doc.{document_of}
 use Rattle.st_heads.proofs.Fitting.{undoing_fits}
@@ -21,12 +20,12 @@ use Rattle.st_lists.specs.declared.lists.Entry.{Entry}
 use Rattle.st_lists.specs.declared.lists.Transaction.{Transaction}
 use Rattle.st_lists.specs.declared.lists.WorldState.{WorldState}
 use Rattle.st_trace.specs.Kept.{Unless}
-use Rattle.st_trace.specs.Replicas.{IsClient, IsReplicaOf, IsSound, IsSoundAfter}
+use Rattle.st_trace.specs.Replicas.{IsReplicaOf, IsSound, IsSoundAfter}
 use Rattle.st_trace.specs.Undo.{IsAfterUndo, IsUndoneAt, refusal_of_rev}
 use Rattle.st_trace.specs.World.{AtRefusal, IsUndoneBy, last_in_effect, opening_document}
 use Rattle.st_trace.specs.declared.replica.Replica.{Replica}
 use Rattle.st_trace.specs.declared.world.World.{World}
-use Rattle.st_trace.specs.inside.Undo.{HasGone, HasUndone, logged_of, undo_in, undone, way_over}
+use Rattle.st_trace.specs.inside.Undo.{HasUndone, logged_of, undo_in, way_over}
 use Rattle.st_trace.proofs.Acting.{one_at, sound_goes, stays_kept}
 use Rattle.st_trace.proofs.Everyone.{clients_of, kept_none, set_same}
 use Rattle.st_trace.proofs.Going.{ack_goes, undo_goes}

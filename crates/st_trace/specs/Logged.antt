@@ -1,5 +1,5 @@
 -- What is kept of the commits of the log: of each its number and how it came out where it came.
-use Rattle.std.specs.Prelude.{◌≡◌, ◌+◌, ℕ, List, take, slice_get, Option, Some, IsSome, is_some}
+use Rattle.std.specs.Prelude.{◌≡◌, ◌+◌, ℕ, List, take, slice_get, Some, IsSome, is_some}
 use Rattle.std.specs.BTreeMap.{BTreeMap, get}
 use Rattle.st_ids.specs.Listing.{Has}
 use Rattle.st_ids.specs.Order.{rev_cmp}

@@ -1,5 +1,5 @@
 -- the own commits so far, and then those of the entries that are left
-use Rattle.std.proofs.Common.{◌≡◌, ◌≤◌, ◌+◌, length, take}
+use Rattle.std.proofs.Common.{◌≡◌, ◌≤◌, length, take}
 use Rattle.st_lists.specs.Log.{commits_by}
 use Rattle.st_lists.proofs.counts.count_own.Given as goal
 

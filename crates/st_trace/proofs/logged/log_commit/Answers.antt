@@ -1,4 +1,4 @@
-use Rattle.std.proofs.Common.{◌∙◌, cond, is_some, Some, ap}
+use Rattle.std.proofs.Common.{◌∙◌, cond, Some, ap}
 use Rattle.std.specs.BTreeMap.{get}
 use Rattle.st_ids.specs.Order.{rev_cmp, same_rev}
 use Rattle.st_trace.proofs.logged.log_commit.Goals as goal

@@ -1,4 +1,4 @@
-use Rattle.std.proofs.Common.{sym, refl, ap, ◌∙◌, ◌&&◌, not}
+use Rattle.std.proofs.Common.{sym, refl, ◌∙◌}
 use Rattle.st_script.specs.Header.{header_view}
 use Rattle.st_script.specs.Steps.{step_view}
 use Rattle.st_script.specs.declared.answer.Answer.TheVariants.{No}

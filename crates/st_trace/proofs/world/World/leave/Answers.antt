@@ -1,8 +1,8 @@
-use Rattle.std.proofs.Common.{length, refl, sym, ap, ◌∙◌, arith}
+use Rattle.std.proofs.Common.{sym, ◌∙◌, arith}
 use Rattle.std.proofs.lemmas.Option.{slice_get_within}
 use Rattle.st_script.specs.Header.{header_view}
 use Rattle.st_trace.proofs.Returning.{as_many_kept}
-use Rattle.st_trace.proofs.Stepping.{left_connected, sound_later, sound_left, within_entries}
+use Rattle.st_trace.proofs.Stepping.{left_connected, sound_left, within_entries}
 use Rattle.st_trace.proofs.world.World.leave.Goals as goal
 
 pub remove-requires-2 : goal.remove-requires-2
