@@ -33,7 +33,7 @@ impl Doc {
     }
 
     /// All registers in which a node stands, in the order of their names.
-    pub fn occupied(&self, alloc: Global) -> Result<List<FieldId>, AllocError>
+    pub fn occupied_registers(&self, alloc: Global) -> Result<List<FieldId>, AllocError>
         ensures { IfOk result (λ fs. (f : Field) → Has fs f ↔ IsSome ((document_of self.now).held f)) }
     {
         let mut fields = List::new(alloc);
