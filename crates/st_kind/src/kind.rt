@@ -180,10 +180,10 @@ pub trait FieldKind: Sized {
     /// A change over a content is short where what it leads to is one too.
     fn changes_are_short()
         ensures { (n : Part) (c : Self.Ctx) (x : Self.Change) → Fits n c → IsContent (carry n false c)
-        → IsEmbedding n c x → IsShortChange x };
+            → IsEmbedding n c x → IsShortChange x };
 
     /// There is room where the change after the step leads to a content.
     fn there_is_room()
         ensures { (n : Part) (m : Nodes) (c d : Self.Ctx) (x : Self.Change) (s : Self.Step) → Fits n c → Fits n d
-        → IsContent (carry n false d) → IsEmbedding n c x → IsStep m c d s → HasRoom x s };
+            → IsContent (carry n false d) → IsEmbedding n c x → IsStep m c d s → HasRoom x s };
 }
