@@ -14,7 +14,7 @@ use Rattle.st_tree.specs.Node.{Node, nodes_of}
 use Rattle.st_schema.specs.TreeText.{trees_data}
 use Rattle.st_schema.proofs.PlainTrees.{tree_plain, tree_low, items_low}
 use Rattle.st_script.specs.Line.{line_of, step_of_value}
-use Rattle.st_script.specs.Steps.{EditView, insert, remove, move, set, clear, ActView, join, edit, need, begin, commit, abort, undo, sequence, ack, deliver, show, StepView}
+use Rattle.st_script.specs.Steps.{EditView, insert, remove, move, set, clear, ActView, join, edit, need, begin, commit, abort, undo, sequence, ack, deliver, leave, drop_client, reconnect, show, StepView}
 use Rattle.st_script.specs.StepText.{places_data, edit_data, act_data, step_data, step_text, edit_limits, act_limits, limits_of, trees_have_shape, IsReadBack, FitsLine}
 use Rattle.st_script.proofs.Again.{read_again}
 use Rattle.st_script.proofs.Fits.{line_fits}
@@ -49,6 +49,9 @@ act_plain client branch (undo rev) = refl
 act_plain client branch sequence = refl
 act_plain client branch ack = refl
 act_plain client branch deliver = refl
+act_plain client branch leave = refl
+act_plain client branch drop_client = refl
+act_plain client branch reconnect = refl
 act_plain client branch show = refl
 
 pub step_plain : (s : StepView) → has_float (step_data s) ≡ false
@@ -78,6 +81,9 @@ act_low client branch (undo rev) h = omega arith
 act_low client branch sequence h = omega arith
 act_low client branch ack h = omega arith
 act_low client branch deliver h = omega arith
+act_low client branch leave h = omega arith
+act_low client branch drop_client h = omega arith
+act_low client branch reconnect h = omega arith
 act_low client branch show h = omega arith
 
 pub step_low : (s : StepView) → limits_of s ≡ Ok tt → depth (step_data s) ≤ max_depth

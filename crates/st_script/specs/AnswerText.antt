@@ -43,6 +43,8 @@ gone_data floor = object (member (codes "floor") (number (unsigned floor)) (memb
 abbrev pub refusal_data : Refusal → Data
 refusal_data no.Taken = no_data (codes "Taken")
 refusal_data no.NoClient = no_data (codes "NoClient")
+refusal_data no.NotConnected = no_data (codes "NotConnected")
+refusal_data no.Connected = no_data (codes "Connected")
 refusal_data no.NoBranch = no_data (codes "NoBranch")
 refusal_data (no.NoNode depth) = no_node_data depth
 refusal_data no.Kind = no_data (codes "Kind")
@@ -95,6 +97,13 @@ void_data (Verdict.Cycle node) = reason_data (codes "cycle") (atom_text node.0)
 abbrev pub deliver_data : ℕ → Verdict → Data
 deliver_data n verdict = object (member (codes "n") (number (unsigned n)) (member (codes "ok") (string (codes "deliver")) (member (codes "void") (void_data verdict) no_members)))
 
+-- `{"n":n,"ok":word}`
+abbrev pub entry_data : List ℕ → ℕ → Data
+entry_data word n = object (member (codes "n") (number (unsigned n)) (member (codes "ok") (string word) no_members))
+
+abbrev pub reconnect_data : ℕ → ℕ → Data
+reconnect_data n sent = object (member (codes "n") (number (unsigned n)) (member (codes "ok") (string (codes "reconnect")) (member (codes "sent") (number (unsigned sent)) no_members)))
+
 -- the tree stands in its line as it is
 abbrev pub show_text : List ℕ → List ℕ
 show_text tree = codes "{\"ok\":\"show\",\"tree\":" ++ tree ++ codes "}"
@@ -115,6 +124,9 @@ answer_text (answer.Undo rev) = compact_text (rev_data (codes "undo") rev)
 answer_text (answer.Sequence least n) = compact_text (sequence_data least n)
 answer_text (answer.Ack reference) = compact_text (ack_data reference)
 answer_text (answer.Deliver n verdict) = compact_text (deliver_data n verdict)
+answer_text (answer.Leave n) = compact_text (entry_data (codes "leave") n)
+answer_text (answer.Drop n) = compact_text (entry_data (codes "drop") n)
+answer_text (answer.Reconnect n sent) = compact_text (reconnect_data n sent)
 answer_text (answer.Show tree) = show_text tree
 answer_text (answer.No refusal) = compact_text (refusal_data refusal)
 

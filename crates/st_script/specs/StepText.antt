@@ -13,7 +13,7 @@ use Rattle.st_tree.specs.declared.limits.TreeFault.{TreeFault}
 use Rattle.st_schema.specs.Shape.{has_shape, all_have_shape}
 use Rattle.st_schema.specs.TreeText.{tree_data, trees_data, tree_of}
 use Rattle.st_script.specs.Line.{line_of}
-use Rattle.st_script.specs.Steps.{EditView, insert, remove, move, set, clear, ActView, join, edit, need, begin, commit, abort, undo, sequence, ack, deliver, show, StepView}
+use Rattle.st_script.specs.Steps.{EditView, insert, remove, move, set, clear, ActView, join, edit, need, begin, commit, abort, undo, sequence, ack, deliver, leave, drop_client, reconnect, show, StepView}
 
 -- keys and indexes in turn
 abbrev pub places_data : List Place → List Data
@@ -75,6 +75,9 @@ act_data client branch (undo rev) = undo_data client rev
 act_data client branch sequence = plain_data (codes "sequence") client
 act_data client branch ack = plain_data (codes "ack") client
 act_data client branch deliver = plain_data (codes "deliver") client
+act_data client branch leave = plain_data (codes "leave") client
+act_data client branch drop_client = plain_data (codes "drop") client
+act_data client branch reconnect = plain_data (codes "reconnect") client
 act_data client branch show = object (actor_members (codes "show") client branch)
 
 abbrev pub step_data : StepView → Data
@@ -102,6 +105,9 @@ act_limits (undo rev) = Ok tt
 act_limits sequence = Ok tt
 act_limits ack = Ok tt
 act_limits deliver = Ok tt
+act_limits leave = Ok tt
+act_limits drop_client = Ok tt
+act_limits reconnect = Ok tt
 act_limits show = Ok tt
 
 -- the limits of a step's trees
@@ -127,6 +133,9 @@ act_has_shape (undo rev) = true
 act_has_shape sequence = true
 act_has_shape ack = true
 act_has_shape deliver = true
+act_has_shape leave = true
+act_has_shape drop_client = true
+act_has_shape reconnect = true
 act_has_shape show = true
 
 -- a step's trees have the shape of trees that values show
@@ -195,6 +204,9 @@ FitsAct branch (undo rev) = (branch ≡ 0) × IsRev rev
 FitsAct branch sequence = branch ≡ 0
 FitsAct branch ack = branch ≡ 0
 FitsAct branch deliver = branch ≡ 0
+FitsAct branch leave = branch ≡ 0
+FitsAct branch drop_client = branch ≡ 0
+FitsAct branch reconnect = branch ≡ 0
 FitsAct branch show = Unit {0}
 
 -- a step as a line can hold it

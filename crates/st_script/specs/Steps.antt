@@ -41,6 +41,9 @@ pub data ActView : Type 0 where
   sequence : ActView
   ack : ActView
   deliver : ActView
+  leave : ActView
+  drop_client : ActView
+  reconnect : ActView
   show : ActView
 
 -- a step of a client, on a branch
@@ -67,6 +70,9 @@ act_view (acts.Undo rev) = undo rev
 act_view acts.Sequence = sequence
 act_view acts.Ack = ack
 act_view acts.Deliver = deliver
+act_view acts.Leave = leave
+act_view acts.Drop = drop_client
+act_view acts.Reconnect = reconnect
 act_view acts.Show = show
 
 abbrev pub step_view : TraceStep → StepView
@@ -94,6 +100,9 @@ IsActWithin (undo rev) = Unit {0}
 IsActWithin sequence = Unit {0}
 IsActWithin ack = Unit {0}
 IsActWithin deliver = Unit {0}
+IsActWithin leave = Unit {0}
+IsActWithin drop_client = Unit {0}
+IsActWithin reconnect = Unit {0}
 IsActWithin show = Unit {0}
 
 -- its trees are within the limits of trees, and its paths short
@@ -202,6 +211,9 @@ read_of word d =
     if same word (codes "sequence") then plain_act (codes "client do") sequence d else
     if same word (codes "ack") then plain_act (codes "client do") ack d else
     if same word (codes "deliver") then plain_act (codes "client do") deliver d else
+    if same word (codes "leave") then plain_act (codes "client do") leave d else
+    if same word (codes "drop") then plain_act (codes "client do") drop_client d else
+    if same word (codes "reconnect") then plain_act (codes "client do") reconnect d else
     if same word (codes "show") then plain_act (codes "branch client do") show d else read_edit word d
 
 -- the word of a step

@@ -3,7 +3,7 @@ ghost use Rattle.std.specs.Prelude.{◌≡◌, [], ◌∷◌, ◌++◌, codes, I
 ghost use Rattle.serde_json.specs.Data.{object, member, no_members, number, unsigned, string, put};
 ghost use Rattle.serde_json.specs.View.{view, members_view};
 ghost use Rattle.serde_json.specs.Written.{compact_text};
-ghost use Rattle.st_script.specs.AnswerText.{ok_data, join_data, rev_data, sequence_data, ack_data, void_data, deliver_data, commit_data, refusal_data, show_text, answer_line};
+ghost use Rattle.st_script.specs.AnswerText.{ok_data, join_data, rev_data, sequence_data, ack_data, void_data, deliver_data, entry_data, reconnect_data, commit_data, refusal_data, show_text, answer_line};
 
 use crate::refusal::{Refusal, refusal_value};
 use serde_json::{Map, Value, json};
@@ -15,7 +15,9 @@ use std::alloc::{AllocError, Global};
 /// The answer to a header or a step. The tree of `Show` is a JSON text. The revision of `Need` and
 /// `Begin` is that of the transaction, and that of `Commit` is none where it made no commit; that
 /// of `Undo` is the revision of the new commit. The `reference` of `Ack` is the number of the last
-/// entry of the log that the client received.
+/// entry of the log that the client received. `n` is the number of an entry of the log: of the
+/// client's own Join or Leave, or of the one that was sequenced or delivered. `sent` of `Reconnect`
+/// is how many texts then wait to be sent.
 #[derive(Drop)]
 pub enum Answer {
     Header,
@@ -33,6 +35,9 @@ pub enum Answer {
     Sequence { min: u32, n: u32 },
     Ack { reference: u32 },
     Deliver { n: u32, void: Verdict },
+    Leave { n: u32 },
+    Drop { n: u32 },
+    Reconnect { n: u32, sent: u32 },
     Show { tree: Text },
     No(Refusal),
 }
@@ -155,6 +160,19 @@ fn deliver_value(alloc: Global, n: u32, void: Verdict) -> Result<Value, AllocErr
     Ok(Value::Object(members))
 }
 
+// The answer to a step that entered a Leave into the log, with its number there.
+fn entry_value(alloc: Global, word: &str, n: u32) -> Result<Value, AllocError>
+    ensures { IfOk result (λ v. view v ≡ entry_data word.now n) }
+{
+    json!(in alloc; {"n": n, "ok": word})
+}
+
+fn reconnect_value(alloc: Global, n: u32, sent: u32) -> Result<Value, AllocError>
+    ensures { IfOk result (λ v. view v ≡ reconnect_data n sent) }
+{
+    json!(in alloc; {"n": n, "ok": "reconnect", "sent": sent})
+}
+
 // The line of a tree, which is a JSON text.
 fn show_line(alloc: Global, tree: &str) -> Result<Text, AllocError>
     ensures { IfOk result (λ t. t ≡ show_text tree.now ++ 10 ∷ []) }
@@ -215,6 +233,20 @@ fn deliver_line(alloc: Global, n: u32, void: Verdict) -> Result<Text, AllocError
     write_line(alloc, &value)
 }
 
+fn entry_line(alloc: Global, word: &str, n: u32) -> Result<Text, AllocError>
+    ensures { IfOk result (λ t. t ≡ compact_text (entry_data word.now n) ++ 10 ∷ []) }
+{
+    let value = entry_value(alloc, word, n)?;
+    write_line(alloc, &value)
+}
+
+fn reconnect_line(alloc: Global, n: u32, sent: u32) -> Result<Text, AllocError>
+    ensures { IfOk result (λ t. t ≡ compact_text (reconnect_data n sent) ++ 10 ∷ []) }
+{
+    let value = reconnect_value(alloc, n, sent)?;
+    write_line(alloc, &value)
+}
+
 fn no_line(alloc: Global, refusal: Refusal) -> Result<Text, AllocError>
     ensures { IfOk result (λ t. t ≡ compact_text (refusal_data refusal) ++ 10 ∷ []) }
 {
@@ -242,6 +274,9 @@ pub fn answer_line(alloc: Global, answer: &Answer) -> Result<Text, AllocError>
         Answer::Sequence { min, n } => sequence_line(alloc, *min, *n),
         Answer::Ack { reference } => ack_line(alloc, *reference),
         Answer::Deliver { n, void } => deliver_line(alloc, *n, *void),
+        Answer::Leave { n } => entry_line(alloc, "leave", *n),
+        Answer::Drop { n } => entry_line(alloc, "drop", *n),
+        Answer::Reconnect { n, sent } => reconnect_line(alloc, *n, *sent),
         Answer::Show { tree } => show_line(alloc, tree.as_str()),
         Answer::No(refusal) => no_line(alloc, *refusal),
     }

@@ -241,6 +241,9 @@ fn read_of(alloc: Global, word: &str, value: &Value) -> Result<Option<Act>, Allo
         "sequence" => Ok(plain(value, "client do", Act::Sequence)),
         "ack" => Ok(plain(value, "client do", Act::Ack)),
         "deliver" => Ok(plain(value, "client do", Act::Deliver)),
+        "leave" => Ok(plain(value, "client do", Act::Leave)),
+        "drop" => Ok(plain(value, "client do", Act::Drop)),
+        "reconnect" => Ok(plain(value, "client do", Act::Reconnect)),
         "show" => Ok(plain(value, "branch client do", Act::Show)),
         _ => read_edit(alloc, word, value),
     }

@@ -14,6 +14,10 @@ pub enum Refusal {
     Taken,
     /// No present client has the name.
     NoClient,
+    /// The client was dropped and has not connected again.
+    NotConnected,
+    /// The client is connected.
+    Connected,
     /// The client has no such branch.
     NoBranch,
     /// The pair of that number, from 0, of a path leads to no live node.
@@ -101,6 +105,8 @@ pub(crate) fn refusal_value(alloc: Global, refusal: Refusal) -> Result<Value, Al
     match refusal {
         Refusal::Taken => no_value(alloc, "Taken"),
         Refusal::NoClient => no_value(alloc, "NoClient"),
+        Refusal::NotConnected => no_value(alloc, "NotConnected"),
+        Refusal::Connected => no_value(alloc, "Connected"),
         Refusal::NoBranch => no_value(alloc, "NoBranch"),
         Refusal::NoNode { depth } => no_node_value(alloc, depth),
         Refusal::Kind => no_value(alloc, "Kind"),

@@ -31,6 +31,12 @@ pub enum Act {
     /// Sends which entries of the log the client has received.
     Ack,
     Deliver,
+    /// Ends the session: the client is forgotten, and its name is free.
+    Leave,
+    /// Cuts the connection: the client stays, and loses the texts that it has not sent.
+    Drop,
+    /// Connects a client again that was dropped.
+    Reconnect,
     Show,
 }
 

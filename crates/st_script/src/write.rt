@@ -308,6 +308,9 @@ fn step_value(alloc: Global, step: &TraceStep) -> Result<Value, AllocError>
         Act::Sequence => plain_value(alloc, "sequence", &step.client),
         Act::Ack => plain_value(alloc, "ack", &step.client),
         Act::Deliver => plain_value(alloc, "deliver", &step.client),
+        Act::Leave => plain_value(alloc, "leave", &step.client),
+        Act::Drop => plain_value(alloc, "drop", &step.client),
+        Act::Reconnect => plain_value(alloc, "reconnect", &step.client),
         Act::Show => actor_value(alloc, "show", step),
     }
 }
@@ -350,6 +353,9 @@ fn limits(step: &TraceStep) -> Result<(), TreeFault>
         Act::Sequence => Ok(()),
         Act::Ack => Ok(()),
         Act::Deliver => Ok(()),
+        Act::Leave => Ok(()),
+        Act::Drop => Ok(()),
+        Act::Reconnect => Ok(()),
         Act::Show => Ok(()),
     }
 }
@@ -366,8 +372,8 @@ fn line_within(alloc: Global, step: &TraceStep) -> Result<Text, AllocError>
 }
 
 /// The line of a step, with its line feed: every member that the step has, also one that may be
-/// left out, in byte order of the names. A join, an undo, a sequence, an ack and a deliver
-/// have no member for the branch, which is 0 there. A step whose trees pass the limits is refused,
+/// left out, in byte order of the names. A join, an undo, a sequence, an ack, a deliver, a leave, a
+/// drop and a reconnect have no member for the branch, which is 0 there. A step whose trees pass the limits is refused,
 /// an insert's together. The line is told where the trees have the shape of trees that values show,
 /// and is read as the step. So it is of each step that was read of a line.
 pub fn step_line(alloc: Global, step: &TraceStep) -> Result<Text, Or<TreeFault>>
