@@ -16,13 +16,14 @@ struct Count {
 #[tactic(auto, using(crate::proofs::Repeats::length_repeated, crate::proofs::Repeats::repeated_more, crate::proofs::Repeats::repeated_front, crate::proofs::Repeats::repeated_rest))]
 impl Run for Count {
     ghost use Rattle.std.specs.Prelude.{replicate};
-    ghost use Rattle.st_base_tests.specs.Repeated.{replicate_some};
+    ghost use Rattle.std.proofs.Common.{arith};
+    ghost use Rattle.std.proofs.lemmas.List.{length-replicate};
 
     type Item = u32;
 
     ghost items = { λ c. replicate c.times c.value };
 
-    ghost some = { λ c. replicate_some c.value c.times c.some };
+    ghost some = { λ c. omega (arith, length-replicate c.times c.value, c.some) };
 
     fn size(&self) -> u32 {
         self.times

@@ -1,11 +1,14 @@
 //! All that a document has, name by name.
-ghost use Rattle.std.specs.Prelude.{◌≡◌, ◌↔◌, ◌++◌, ◌∷◌, [], IfOk, OnOk, IsSome};
+ghost use Rattle.std.specs.Prelude.{◌≡◌, ◌↔◌, ◌++◌, ◌∷◌, [], IfOk, OnOk, IsSome, option_and_then};
+ghost use Rattle.std.specs.Option.{option_copied};
 ghost use Rattle.st_ids.specs.Listing.{AreDistinct, Has};
 ghost use Rattle.st_ids.specs.declared.names.FieldId.{FieldId as Field};
 ghost use Rattle.st_ids.specs.declared.names.NodeId.{NodeId as Node};
 
 use crate::doc::Doc;
-use st_ids::{Copied, FieldId, List, NodeId};
+use crate::rows::cells_of;
+use st_ids::{Copied, FieldId, Leaf, List, NodeId};
+use st_marks::{Owned, SchemaEntry};
 use std::alloc::{AllocError, Global};
 
 // Puts a copy of a field behind others.
@@ -33,7 +36,7 @@ impl Doc {
     }
 
     /// All registers in which a node stands, in the order of their names.
-    pub fn occupied(&self, alloc: Global) -> Result<List<FieldId>, AllocError>
+    pub fn occupied_registers(&self, alloc: Global) -> Result<List<FieldId>, AllocError>
         ensures { IfOk result (λ fs. (f : Field) → Has fs f ↔ IsSome ((document_of self.now).held f)) }
     {
         let mut fields = List::new(alloc);
@@ -41,5 +44,26 @@ impl Doc {
             push_field(alloc, &mut fields, field)?;
         }
         Ok(fields)
+    }
+
+    /// The leaf of a node, if it is there and has one.
+    pub fn leaf_of(&self, node: NodeId) -> Option<&Leaf>
+        ensures { option_copied result ≡ option_and_then (λ t. t.leaf) ((document_of self.now).nodes node) }
+    {
+        self.nodes.get(&node)?.leaf.as_ref()
+    }
+
+    /// All cells ever made in a node's row, with their owners, in their order.
+    pub fn cells(&self, node: NodeId) -> &[Owned]
+        ensures { result.now ≡ (document_of self.now).rows node }
+    {
+        cells_of(&self.rows, node)
+    }
+
+    /// The schema entries in effect, in their order.
+    pub fn schemas(&self) -> &[SchemaEntry]
+        ensures { result.now ≡ (document_of self.now).schemas }
+    {
+        self.schemas.as_slice()
     }
 }

@@ -1,5 +1,5 @@
-//! Documents, intents and edits together: scenarios over the calls of `st_intent`, `st_join`, `st_doc`, `st_resolve` and
-//! `st_heads`.
+//! Documents, intents and edits together: scenarios over the calls of `st_intent`, `st_join`, `st_doc`, `st_resolve`,
+//! `st_heads` and `st_later`.
 #![tactic(auto)]
 
 #[cfg(test)]
@@ -18,3 +18,5 @@ mod joining;
 mod transactions;
 #[cfg(test)]
 mod undoing;
+#[cfg(test)]
+mod ways;

@@ -5,7 +5,7 @@ use Rattle.st_ids.specs.declared.names.FieldId.{FieldId}
 use Rattle.st_ids.specs.declared.names.Key.{Key}
 use Rattle.st_ids.specs.declared.names.NodeId.{NodeId}
 use Rattle.st_ids.specs.declared.names.Place.{Place}
-pub use Rattle.st_ids.specs.Or.{and_then}
+use Rattle.st_ids.specs.Or.{and_then}
 use Rattle.st_tree.specs.declared.edit.EditFault.{EditFault}
 use Rattle.st_tree.specs.declared.edit.EditFault.TheVariants.{NoNode}
 use Rattle.st_marks.specs.declared.places.Slot.{Slot}

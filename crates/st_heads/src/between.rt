@@ -140,8 +140,8 @@ fn push_changed(
 fn fields_between(alloc: Global, before: &Doc, after: &Doc) -> Result<List<FieldId>, AllocError>
     ensures { IfOk result (λ fs. (f : Field) → Has fs f ↔ (differs (document_of before.now) (document_of after.now) f ≡ true)) }
 {
-    let held_before = before.occupied(alloc)?;
-    let held_after = after.occupied(alloc)?;
+    let held_before = before.occupied_registers(alloc)?;
+    let held_after = after.occupied_registers(alloc)?;
     let mut fields = List::new(alloc);
     push_changed(alloc, &mut fields, before, after, held_before.as_slice())?;
     push_changed(alloc, &mut fields, before, after, held_after.as_slice())?;

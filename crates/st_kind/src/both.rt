@@ -34,6 +34,10 @@ where
         → K.IsEmbedding n c change.now → K.IsStep m c d first.now → K.IsStep k d e then.now → K.Fits n c → K.Fits n d → K.Fits n e
         → K.Keeps n c d → K.Keeps n d e → IfMemory result (λ s. K.IsEmbedding n e s.in_turn) }
 {
+    K::steps_are_short();
+    K::keeps_in_turn();
+    K::there_is_room();
+    K::one_embedding();
     let between = K::rebase(alloc, change, first)?;
     let in_turn = K::rebase(alloc, &between, then)?;
     let both = K::compose(alloc, first, then)?;

@@ -8,8 +8,9 @@ use st_ids::{Copied, Or};
 use std::alloc::{AllocError, Global};
 
 /// A kind of field: what one field of a document holds, what a change and a step say of it, and the operations on
-/// them. Each operation has as its contract the law that it keeps over every content. A kind defines the ghost members
-/// in the terms of documents, intents, changes and steps, restricted to one field.
+/// them. Each operation has as its contract the law that it keeps over every content; what holds of a kind as a whole is
+/// the contract of a function that does nothing. A kind defines the ghost members in the terms of documents, intents,
+/// changes and steps, restricted to one field.
 pub trait FieldKind: Sized {
     /// What a field holds.
     type Ctx: Copied;
@@ -153,28 +154,36 @@ pub trait FieldKind: Sized {
         ensures apart { IsApartWhere result (RebaseClashAt change.now step.now) };
 
     /// A part has an embedding in each content that it fits.
-    ghost has_embedding: { (n : Part) (c : Self.Ctx) → Fits n c → (x : Self.Change) × IsEmbedding n c x };
+    fn has_embedding()
+        ensures { (n : Part) (c : Self.Ctx) → Fits n c → (x : Self.Change) × IsEmbedding n c x };
 
     /// A step leads from a content to each that has all that it has.
-    ghost has_step: { (m : Nodes) (c d : Self.Ctx) → IsContent c → IsContent d → HasGrown m c d → (s : Self.Step) × IsStep m c d s };
+    fn has_step()
+        ensures { (m : Nodes) (c d : Self.Ctx) → IsContent c → IsContent d → HasGrown m c d → (s : Self.Step) × IsStep m c d s };
 
     /// A part has one embedding in a content.
-    ghost one_embedding: { (n : Part) (c : Self.Ctx) (x y : Self.Change) → IsEmbedding n c x → IsEmbedding n c y → x ≡ y };
+    fn one_embedding()
+        ensures { (n : Part) (c : Self.Ctx) (x y : Self.Change) → IsEmbedding n c x → IsEmbedding n c y → x ≡ y };
 
     /// One step leads from one content to another and names given nodes.
-    ghost one_step: { (m : Nodes) (c d : Self.Ctx) (s t : Self.Step) → IsStep m c d s → IsStep m c d t → s ≡ t };
+    fn one_step()
+        ensures { (m : Nodes) (c d : Self.Ctx) (s t : Self.Step) → IsStep m c d s → IsStep m c d t → s ≡ t };
 
     /// What becomes of the nodes that come in by one step and then by another is told by the two together.
-    ghost keeps_in_turn: { (n : Part) (c d e : Self.Ctx) → Keeps n c d → Keeps n d e → Keeps n c e };
+    fn keeps_in_turn()
+        ensures { (n : Part) (c d e : Self.Ctx) → Keeps n c d → Keeps n d e → Keeps n c e };
 
     /// A step over contents is short.
-    ghost steps_are_short: { (m : Nodes) (c d : Self.Ctx) (s : Self.Step) → IsStep m c d s → IsShortStep s };
+    fn steps_are_short()
+        ensures { (m : Nodes) (c d : Self.Ctx) (s : Self.Step) → IsStep m c d s → IsShortStep s };
 
     /// A change over a content is short where what it leads to is one too.
-    ghost changes_are_short: { (n : Part) (c : Self.Ctx) (x : Self.Change) → Fits n c → IsContent (carry n false c)
-        → IsEmbedding n c x → IsShortChange x };
+    fn changes_are_short()
+        ensures { (n : Part) (c : Self.Ctx) (x : Self.Change) → Fits n c → IsContent (carry n false c)
+            → IsEmbedding n c x → IsShortChange x };
 
     /// There is room where the change after the step leads to a content.
-    ghost there_is_room: { (n : Part) (m : Nodes) (c d : Self.Ctx) (x : Self.Change) (s : Self.Step) → Fits n c → Fits n d
-        → IsContent (carry n false d) → IsEmbedding n c x → IsStep m c d s → HasRoom x s };
+    fn there_is_room()
+        ensures { (n : Part) (m : Nodes) (c d : Self.Ctx) (x : Self.Change) (s : Self.Step) → Fits n c → Fits n d
+            → IsContent (carry n false d) → IsEmbedding n c x → IsStep m c d s → HasRoom x s };
 }

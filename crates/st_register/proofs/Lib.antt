@@ -1,3 +1,4 @@
+pub mod KindLaws
 pub mod Carried
 pub mod Documents
 pub mod Example

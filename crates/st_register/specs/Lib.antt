@@ -1,6 +1,5 @@
 pub mod Existence
 pub mod Joined
-pub mod Laws
 pub mod Register
 pub mod Readings
 pub mod inside

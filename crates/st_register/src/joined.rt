@@ -5,7 +5,7 @@ ghost use Rattle.st_register.specs.Joined.{AreRegPartsJoined};
 ghost use Rattle.st_register.specs.Register.{RegPart, RegFits, reg_carried, reg_change_of};
 ghost use Rattle.st_register.specs.inside.Readings.{put_in_turn, stays_in_turn, how_in_turn, makes_by};
 
-use crate::told::{coming, is_same, makes, put_there};
+use crate::told::{entering_node, is_same, makes, put_there};
 use crate::values::{RegChange, RegHeld};
 use st_ids::NodeId;
 use st_marks::How;
@@ -65,7 +65,7 @@ pub(crate) fn join_changes(first: &RegChange, then: &RegChange) -> RegChange
     ensures { (p q j : RegPart) (c : RegHeld) → AreRegPartsJoined p q c j → RegFits p c → RegFits q (reg_carried p false c)
         → first.now ≡ reg_change_of p c → then.now ≡ reg_change_of q (reg_carried p false c) → result ≡ reg_change_of j c }
 {
-    let fill = coming(first.held, put(first, then));
+    let fill = entering_node(first.held, put(first, then));
     RegChange {
         rev: first.rev,
         in_new: either(first.in_new, then.in_new),

@@ -89,7 +89,7 @@ fn how_of(change: &RegChange, held: Option<NodeId>) -> How
 }
 
 // The node that is put there, unless it is there already.
-pub(crate) fn coming(held: Option<NodeId>, put: Option<NodeId>) -> Option<NodeId>
+pub(crate) fn entering_node(held: Option<NodeId>, put: Option<NodeId>) -> Option<NodeId>
     ensures { result ≡ comes_in held put }
 {
     if is_same(held, put) { None } else { put }
@@ -119,7 +119,7 @@ pub(crate) fn over_occupant(change: &RegChange, held: Option<NodeId>) -> RegChan
     ensures void { (p : RegPart) (c d : RegHeld) → RegFits p c → RegFits p d → d.node ≡ held → change.now ≡ reg_change_of p c
         → left_void_by result ≡ held_void p d.node }
 {
-    let fill = coming(held, put_there(change));
+    let fill = entering_node(held, put_there(change));
     RegChange {
         held,
         how: how_of(change, held),

@@ -19,13 +19,10 @@ use Rattle.st_schema.specs.declared.names.FieldDef.{FieldDef}
 use Rattle.st_schema.specs.declared.names.Form.{Form}
 use Rattle.st_schema.specs.declared.names.Form.TheVariants.{Array, Map, Object}
 use Rattle.st_json.proofs.Shared.{is_object, is_array, is_string}
-use Rattle.st_lemmas.proofs.Options.{option_map-Some, option_and_then-Some}
+use Rattle.st_lemmas.proofs.Options.{one_some, option_map-Some, option_and_then-Some}
 use Rattle.st_lemmas.proofs.Bools.{and-true}
 
 -- ---- tests and options
-
-some_same : {A : Type 0} (a b : A) → Some a ≡ Some b → a ≡ b
-some_same a b h = cc
 
 if_some : {A : Type 0} (c : Bool) (a b : A) → (if c then Some a else None) ≡ Some b → (c ≡ true) × (a ≡ b)
 if_some true a b h = (refl, cc)
@@ -61,7 +58,7 @@ pair_back a b d x y h = let ms = option_and_then-Some (pair_in a b) (as_object d
 two_in_back : (ds : Items) (x y : Data) → two_in ds ≡ Some (x, y) → ds ≡ item x (item y no_items)
 two_in_back no_items x y h = absurd (cc)
 two_in_back (item u no_items) x y h = absurd (cc)
-two_in_back (item u (item v no_items)) x y h = let e = some_same {A = Data × Data} (u, v) (x, y) h in λ i. item ((e i).0) (item ((e i).1) no_items)
+two_in_back (item u (item v no_items)) x y h = let e = one_some {A = Data × Data} (u, v) (x, y) h in λ i. item ((e i).0) (item ((e i).1) no_items)
 two_in_back (item u (item v (item w ds))) x y h = absurd (cc)
 
 two_back : (d x y : Data) → two_items d ≡ Some (x, y) → d ≡ array (item x (item y no_items))

@@ -6,7 +6,7 @@ use st_tree::Tree;
 use std::alloc::{AllocError, Global};
 
 /// The start of a document: its schema and its opening tree, and how many entries of the log
-/// below the minimum can still be undone, 0 to 1,024, which nothing uses yet.
+/// below the minimum can still be undone, 0 to 1,024.
 #[derive(Drop)]
 pub struct Header {
     pub history: u32,

@@ -12,7 +12,7 @@ use Rattle.st_marks.specs.Embedding.{row_marks, tells}
 use Rattle.st_marks.specs.Extends.{GainsItems, IsExtendedBy, no_more, item_gained, item_kept}
 use Rattle.st_marks.specs.Row.{SameCell, embed_row, merge, spread, step_row}
 use Rattle.st_marks.specs.Step.{IsStep}
-use Rattle.st_seq.specs.Laws.{same_grown, spread-merge, spread_of}
+use Rattle.st_seq.proofs.KindLaws.{same_grown, spread-merge, spread_of}
 use Rattle.st_seq.specs.Rows.{NamesMoved}
 use Rattle.st_seq.specs.Sequence.{RowLeadsOver, SeqPart, row_change_of}
 use Rattle.st_seq.proofs.Documents.{can_hold, is_slot}

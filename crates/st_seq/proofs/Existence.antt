@@ -24,7 +24,7 @@ use Rattle.st_marks.specs.Row.{SameCell, embed_row, merge, spread, step_row}
 use Rattle.st_marks.specs.Listings.{nodes_new}
 use Rattle.st_marks.specs.Step.{IsMentionedByStep, IsStep}
 use Rattle.st_seq.specs.Existence.{HasChange, HasStep}
-use Rattle.st_seq.specs.Laws.{length-step_row, row_changes_are_short, spread-merge}
+use Rattle.st_seq.proofs.KindLaws.{length-step_row, row_changes_are_short, spread-merge}
 use Rattle.st_seq.specs.Rows.{NamesMoved}
 use Rattle.st_seq.specs.Sequence.{RowCanHold, RowFits, ListsNew, SeqPart, row_carried, row_change_of, row_part_of}
 use Rattle.st_seq.proofs.Carried.{carried_holds, void_long}

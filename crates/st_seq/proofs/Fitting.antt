@@ -13,7 +13,7 @@ use Rattle.st_marks.specs.Embedding.{is_among}
 use Rattle.st_marks.specs.Extends.{GainsItems, no_more, item_gained, item_kept}
 use Rattle.st_marks.specs.Row.{RowPart, SameCell}
 use Rattle.st_seq.specs.Changes.{StandsIn, AreOld, IsRowChange, Keeps, NamesNoGained, NoGroupAtGained, StandsOver, carried_row, full_after, placed_by, row_after, void_part}
-use Rattle.st_seq.specs.Laws.{has_grown, not_again, same_grown}
+use Rattle.st_seq.proofs.KindLaws.{has_grown, not_again, same_grown}
 use Rattle.st_seq.specs.Rows.{IsRowStep, NamesLeavers, NamesMoved}
 use Rattle.st_seq.specs.Sequence.{SeqPart, RowCanHold, RowFits, RowLeadsOver, row_carried, RowKeeps, cells_of, row_change_of}
 use Rattle.st_seq.specs.declared.values.RowChange.{RowChange}

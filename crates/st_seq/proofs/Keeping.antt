@@ -26,7 +26,7 @@ use Rattle.st_seq.specs.Views.{row_views}
 use Rattle.st_seq.specs.Differences.{first_difference}
 use Rattle.st_seq.specs.Changes.{AreOld}
 use Rattle.st_seq.specs.inside.NormalForm.{IsNormalRowChange, is_normal, stands_before, begins_with_skip, places, makes_cell, puts_found, has_cell, stands_in, may_put, are_allowed}
-use Rattle.st_seq.specs.Laws.{spread-merge, not_again}
+use Rattle.st_seq.proofs.KindLaws.{spread-merge, not_again}
 use Rattle.st_seq.specs.Sequence.{SeqPart, RowCanHold, RowFits, cells_of, row_change_of, made_in}
 use Rattle.st_seq.specs.declared.values.RowChange.{RowChange}
 use Rattle.st_seq.proofs.Described.{no_difference, change_finds}

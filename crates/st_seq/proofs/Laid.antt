@@ -15,7 +15,7 @@ use Rattle.st_marks.specs.Listings.{cell_view, cells_before}
 use Rattle.st_seq.specs.Views.{row_views}
 use Rattle.st_seq.specs.Differences.{agree, first_difference, view_before}
 use Rattle.st_seq.specs.Changes.{StandsIn}
-use Rattle.st_seq.specs.Laws.{not_again}
+use Rattle.st_seq.proofs.KindLaws.{not_again}
 use Rattle.st_seq.specs.inside.Reading.{is_made}
 use Rattle.st_seq.specs.Sequence.{cells_of, standing_nodes}
 use Rattle.st_seq.proofs.Retreating.{stands_not, stand_others}

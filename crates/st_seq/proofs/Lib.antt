@@ -1,3 +1,4 @@
+pub mod KindLaws
 pub mod Truth
 pub mod Merging
 pub mod Answered

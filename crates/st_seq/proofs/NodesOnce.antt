@@ -10,7 +10,7 @@ use Rattle.st_marks.specs.Row.{spread, step_row, embed_row}
 use Rattle.st_marks.specs.Listings.{CellView, cells_after, cells_before}
 use Rattle.st_marks.proofs.Members.{all-has, first-has, has-append}
 use Rattle.st_seq.specs.Views.{row_views}
-use Rattle.st_seq.specs.Laws.{spread_of}
+use Rattle.st_seq.proofs.KindLaws.{spread_of}
 use Rattle.st_seq.specs.NamedApart.{NamedApart, named_apart, same_atom, stands_at, standing_at}
 use Rattle.st_seq.specs.Sequence.{RowFits, RowLeadsOver, SeqPart, row_carried, row_change_of, standing_nodes}
 use Rattle.st_seq.specs.declared.name_clashes.NamedAt.{NamedAt}

@@ -17,7 +17,7 @@ use Rattle.st_marks.specs.How.{is_here}
 use Rattle.st_marks.specs.Listings.{CellView, cell_view, cells_before, cells_made}
 use Rattle.st_marks.proofs.Members.{all-has, has-any, has-append}
 use Rattle.st_seq.specs.Changes.{carried_cells, carried_row, made_cells}
-use Rattle.st_seq.specs.Laws.{spread_of}
+use Rattle.st_seq.proofs.KindLaws.{spread_of}
 use Rattle.st_seq.specs.Sequence.{RowFits, SeqPart, row_carried, row_change_of}
 use Rattle.st_seq.specs.declared.values.RowChange.{RowChange}
 use Rattle.st_seq.proofs.Described.{DescribeAll, IfTold}

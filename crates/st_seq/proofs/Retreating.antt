@@ -14,7 +14,7 @@ use Rattle.st_ids.specs.Root.{root}
 use Rattle.st_marks.specs.Extends.{GainsItems, no_more, item_gained, item_kept}
 use Rattle.st_marks.specs.Row.{CellMark, Counted, Touch, SameCell, merge, spread, step_cell, step_row}
 use Rattle.st_seq.specs.Changes.{StandsIn}
-use Rattle.st_seq.specs.Laws.{has_grown, not_again, same_grown, spread_of}
+use Rattle.st_seq.proofs.KindLaws.{has_grown, not_again, same_grown, spread_of}
 use Rattle.st_seq.specs.Rows.{IsRowStep, NamesMoved, retreat_row}
 use Rattle.st_seq.specs.Sequence.{RowCanHold, RowLeadsOver, nodes_brought, cells_of, is_full_in, retreat_to, standing_nodes}
 use Rattle.st_seq.proofs.Inverted.{backward}

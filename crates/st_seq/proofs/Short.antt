@@ -3,7 +3,7 @@ use Rattle.std.proofs.Common.{◌≡◌, ◌+◌, ◌<◌, ◌≤◌, ℕ, min, 
 use Rattle.st_marks.specs.Row.{CellMark, Counted, Gap, Touch, Make, Fill}
 use Rattle.st_marks.specs.Listings.{cells_before, cells_after}
 use Rattle.st_seq.specs.Changes.{may_list}
-use Rattle.st_seq.specs.Laws.{made_or_found}
+use Rattle.st_seq.proofs.KindLaws.{made_or_found}
 
 pub all_after : (xs : List CellMark) → length (cells_after xs) ≡ length xs
 all_after [] = omega arith

@@ -7,7 +7,6 @@ pub mod Rows
 pub mod Changes
 pub mod Reading
 pub mod Sequence
-pub mod Laws
 pub mod NamedApart
 pub mod OwnedEarly
 pub mod inside

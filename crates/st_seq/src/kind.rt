@@ -4,7 +4,7 @@ ghost use Rattle.st_marks.specs.Row.{spread};
 
 use crate::form::is_of_form;
 use crate::name_clashes::{agree_beside, agree_in_turn, agree_over};
-use crate::new_nodes::{merged_names, rising};
+use crate::new_nodes::{merged_names, rising_nodes};
 use crate::owners::agree_as_changes;
 use crate::values::{RowChange, RowHeld, RowStep};
 use crate::{row_bridge, row_compose, row_effect, row_invert, row_rebase, rows};
@@ -24,7 +24,6 @@ impl FieldKind for Sequence {
     ghost use Rattle.st_marks.specs.Listings.{cells_after, cells_before};
     ghost use Rattle.st_seq.specs.Views.{row_views};
     ghost use Rattle.st_seq.specs.Changes.{may_list};
-    ghost use Rattle.st_seq.specs.Laws.{has_row_change, has_row_step, kept_in_turn, one_row_change, one_row_step, row_changes_are_short, row_has_room, row_steps_are_short};
     ghost use Rattle.st_seq.specs.NamedApart.{ApartAt, named_after, named_before, named_in_row};
     ghost use Rattle.st_seq.specs.OwnedEarly.{TurnsApartAt};
     ghost use Rattle.st_seq.specs.Rows.{NamesMoved};
@@ -91,7 +90,7 @@ impl FieldKind for Sequence {
             let marks = row_effect::effect(alloc, &change.marks)?;
             return Ok(RowStep { marks });
         }
-        let new = rising(alloc, &change.new)?;
+        let new = rising_nodes(alloc, &change.new)?;
         let marks = row_effect::void_effect(alloc, &change.marks, change.in_new, &new)?;
         Ok(RowStep { marks })
     }
@@ -143,7 +142,7 @@ impl FieldKind for Sequence {
         was_void: bool,
         is_void: bool,
     ) -> Result<RowStep, Or<Apart>> {
-        let new = rising(alloc, &change.new)?;
+        let new = rising_nodes(alloc, &change.new)?;
         let marks = row_bridge::bridge(
             alloc,
             &step.marks,
@@ -157,19 +156,19 @@ impl FieldKind for Sequence {
         Ok(RowStep { marks })
     }
 
-    ghost has_embedding = { has_row_change };
+    fn has_embedding() {}
 
-    ghost has_step = { has_row_step };
+    fn has_step() {}
 
-    ghost one_embedding = { one_row_change };
+    fn one_embedding() {}
 
-    ghost one_step = { one_row_step };
+    fn one_step() {}
 
-    ghost keeps_in_turn = { kept_in_turn };
+    fn keeps_in_turn() {}
 
-    ghost steps_are_short = { row_steps_are_short };
+    fn steps_are_short() {}
 
-    ghost changes_are_short = { row_changes_are_short };
+    fn changes_are_short() {}
 
-    ghost there_is_room = { row_has_room };
+    fn there_is_room() {}
 }

@@ -44,7 +44,7 @@ pub fn is_rising(nodes: &List<NodeId>) -> bool
 }
 
 /// The nodes, if they rise by name, and else none.
-pub fn rising(alloc: Global, nodes: &List<NodeId>) -> Result<List<NodeId>, AllocError>
+pub fn rising_nodes(alloc: Global, nodes: &List<NodeId>) -> Result<List<NodeId>, AllocError>
     ensures rising { IfOk result (λ l. IsRising node_cmp (λ n. n) l) }
     ensures same { IsRising node_cmp (λ n. n) nodes.now → IfOk result (λ l. l ≡ nodes.now) }
 {

@@ -14,7 +14,7 @@ use Rattle.st_seq.proofs.Bridged.{bridge_row-embed_row, placed_new}
 use Rattle.st_seq.proofs.Described.{no_difference, step_finds, change_finds}
 use Rattle.st_seq.proofs.Differences.{apart_where}
 use Rattle.st_seq.proofs.Merging.{merged_is}
-use Rattle.st_seq.specs.Laws.{spread_of}
+use Rattle.st_seq.proofs.KindLaws.{spread_of}
 use Rattle.st_seq.proofs.Rebased.{Tells, marks_tell}
 use Rattle.st_seq.proofs.row_bridge.bridge.Goals as goal
 

@@ -9,7 +9,7 @@ use Rattle.st_seq.proofs.Answered.{none_apart}
 use Rattle.st_seq.proofs.Composed.{compose_row-step_row, grows_on}
 use Rattle.st_seq.proofs.Described.{no_difference, step_finds, step_leaves}
 use Rattle.st_seq.proofs.Merging.{merged_is}
-use Rattle.st_seq.specs.Laws.{spread_of}
+use Rattle.st_seq.proofs.KindLaws.{spread_of}
 use Rattle.st_kind.specs.Refused.{IsApartWhere}
 use Rattle.st_seq.proofs.Differences.{apart_where}
 use Rattle.st_seq.proofs.row_compose.compose.Goals as goal

@@ -9,7 +9,7 @@ use Rattle.st_seq.proofs.Answered.{none_apart}
 use Rattle.st_seq.proofs.Described.{no_difference, change_finds, change_leaves}
 use Rattle.st_seq.proofs.Joining.{join_row-embed_row}
 use Rattle.st_seq.proofs.Merging.{merged_is}
-use Rattle.st_seq.specs.Laws.{spread_of}
+use Rattle.st_seq.proofs.KindLaws.{spread_of}
 use Rattle.st_kind.specs.Refused.{IsApartWhere}
 use Rattle.st_seq.proofs.Differences.{apart_where}
 use Rattle.st_seq.proofs.row_compose.join.Goals as goal

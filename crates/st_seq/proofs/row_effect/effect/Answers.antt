@@ -4,7 +4,7 @@ use Rattle.st_seq.specs.inside.Cells.{effect_row}
 use Rattle.st_seq.proofs.Answered.{both_ok}
 use Rattle.st_seq.proofs.Effected.{effect_row-embed_row, grown_row}
 use Rattle.st_seq.proofs.Merging.{merged_is}
-use Rattle.st_seq.specs.Laws.{spread_of}
+use Rattle.st_seq.proofs.KindLaws.{spread_of}
 use Rattle.st_seq.proofs.row_effect.effect.Goals as goal
 
 pub returns : goal.returns

@@ -6,7 +6,7 @@ use Rattle.st_seq.proofs.Answered.{both_ok}
 use Rattle.st_seq.proofs.Effected.{grown_row}
 use Rattle.st_seq.proofs.Voided.{void_row-embed_row}
 use Rattle.st_seq.proofs.Merging.{merged_is}
-use Rattle.st_seq.specs.Laws.{spread_of}
+use Rattle.st_seq.proofs.KindLaws.{spread_of}
 use Rattle.st_seq.proofs.row_effect.void_effect.Goals as goal
 
 pub returns : goal.returns

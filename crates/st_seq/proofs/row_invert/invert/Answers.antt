@@ -4,7 +4,7 @@ use Rattle.st_seq.specs.inside.Cells.{invert_row}
 use Rattle.st_seq.proofs.Answered.{both_ok}
 use Rattle.st_seq.proofs.Inverted.{invert_row-step_row, backward}
 use Rattle.st_seq.proofs.Merging.{merged_is}
-use Rattle.st_seq.specs.Laws.{spread_of}
+use Rattle.st_seq.proofs.KindLaws.{spread_of}
 use Rattle.st_seq.proofs.row_invert.invert.Goals as goal
 
 pub returns : goal.returns

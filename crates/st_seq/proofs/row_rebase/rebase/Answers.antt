@@ -10,7 +10,7 @@ use Rattle.st_seq.proofs.Answered.{none_apart}
 use Rattle.st_seq.proofs.Described.{no_difference, step_finds, change_finds}
 use Rattle.st_seq.proofs.Rebased.{Tells, marks_tell, over_row-embed_row}
 use Rattle.st_seq.proofs.Merging.{merged_is}
-use Rattle.st_seq.specs.Laws.{spread_of}
+use Rattle.st_seq.proofs.KindLaws.{spread_of}
 use Rattle.st_kind.specs.Refused.{IsApartWhere}
 use Rattle.st_seq.proofs.Differences.{apart_where}
 use Rattle.st_seq.proofs.row_rebase.rebase.Goals as goal

@@ -7,7 +7,7 @@ use Rattle.st_seq.specs.inside.Cells.{after_row}
 use Rattle.st_seq.proofs.Leading.{after_row-step_row, row_itself}
 use Rattle.st_seq.proofs.Answered.{none_apart}
 use Rattle.st_seq.proofs.Described.{no_difference, step_finds}
-use Rattle.st_seq.specs.Laws.{spread_of}
+use Rattle.st_seq.proofs.KindLaws.{spread_of}
 use Rattle.st_kind.specs.Refused.{IsApartWhere}
 use Rattle.st_seq.proofs.Differences.{apart_where}
 use Rattle.st_seq.proofs.rows.after.Goals as goal

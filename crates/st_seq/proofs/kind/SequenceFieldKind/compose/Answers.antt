@@ -1,7 +1,7 @@
 use Rattle.std.proofs.Common.{rules, sym, subst, length, ◌<◌, ℕ, inl, inr}
 use Rattle.st_kind.specs.Named.{either}
 use Rattle.st_kind.proofs.Memory.{no_memory}
-use Rattle.st_seq.specs.Laws.{same_grown}
+use Rattle.st_seq.proofs.KindLaws.{same_grown}
 use Rattle.st_seq.proofs.Composed.{grows_on}
 use Rattle.st_seq.proofs.Fitting.{leavers_of, moved_in_turn}
 use Rattle.st_marks.specs.Row.{spread}

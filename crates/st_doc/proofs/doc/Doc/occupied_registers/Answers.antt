@@ -3,7 +3,7 @@ use Rattle.std.specs.Map.{keys_of}
 use Rattle.st_ids.specs.Listing.{Has}
 use Rattle.st_doc.proofs.Keys.{fields-found, key_more}
 use Rattle.st_doc.proofs.Look.{copied_all}
-use Rattle.st_doc.proofs.doc.Doc.occupied.Goals as goal
+use Rattle.st_doc.proofs.doc.Doc.occupied_registers.Goals as goal
 
 pub loop-field-preserved : goal.loop-field-preserved
 loop-field-preserved c =

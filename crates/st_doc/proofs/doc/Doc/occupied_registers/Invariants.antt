@@ -1,6 +1,6 @@
 use Rattle.std.proofs.Common.{◌≡◌, ◌++◌}
 use Rattle.std.specs.Map.{keys_of}
-use Rattle.st_doc.proofs.doc.Doc.occupied.Given as goal
+use Rattle.st_doc.proofs.doc.Doc.occupied_registers.Given as goal
 
 -- what is listed, and what is left to list
 abbrev pub invariant-loop-field : goal.invariant-loop-field

@@ -1,0 +1,236 @@
+//! The way back over a commit, made of the commit and the document before it, is the way back between the two documents.
+ghost use Rattle.std.specs.Prelude.{IfOk};
+ghost use Rattle.st_marks.specs.Document.{IsSoundInForm};
+ghost use Rattle.st_marks.specs.Intent.{Fits};
+ghost use Rattle.st_doc.specs.Doc.{document_of};
+
+use crate::given::{Case, carry, commit, opened, schema};
+use st_doc::Doc;
+use st_heads::way_back;
+use st_ids::{FieldId, OPENING, Or, Rev};
+use st_later::{NotLater, back};
+use st_marks::{Intent, Put, Verdict};
+use st_schema::Schema;
+use std::alloc::Global;
+use std::test::Fail;
+
+const REV: Rev = Rev { session: 9, num: 1 };
+
+// An edit of a tree, and whether the tree has all that there is after the edit.
+#[derive(Clone, Copy)]
+struct Row {
+    tree: &'static str,
+    case: Case,
+    keeps_all: bool,
+}
+
+// The way back between two documents, if the later one extends the earlier.
+fn between(alloc: Global, before: &Doc, after: &Doc) -> Result<Option<Intent>, Fail>
+    requires before { IsSoundInForm (document_of before.now) }
+    requires after { IsSoundInForm (document_of after.now) }
+{
+    match back(alloc, before, after, REV, OPENING) {
+        Ok(intent) => Ok(Some(intent)),
+        Err(Or::Fault(NotLater)) => Ok(None),
+        Err(Or::NoMemory) => Err(Fail::from("no memory")),
+    }
+}
+
+// The way back over a commit.
+fn over(alloc: Global, doc: &Doc, intent: &Intent) -> Result<Intent, Fail>
+    requires sound { IsSoundInForm (document_of doc.now) }
+    requires fits { Fits (document_of doc.now) intent.now }
+{
+    let way = way_back(alloc, doc, intent)?;
+    Ok(way.intent(alloc, REV, OPENING)?)
+}
+
+fn has_put(puts: &[Put], put: &Put) -> bool {
+    puts.iter().any(|it| *it == *put)
+}
+
+// Whether two lists, each of which puts a node once, have the same puts.
+fn are_same_puts(a: &[Put], b: &[Put]) -> bool {
+    a.len() == b.len() && a.iter().all(|put| has_put(b, put))
+}
+
+fn has_field(fields: &[FieldId], field: &FieldId) -> bool {
+    fields.iter().any(|it| *it == *field)
+}
+
+fn has_fields(fields: &[FieldId], among: &[FieldId]) -> bool {
+    among.iter().all(|field| has_field(fields, field))
+}
+
+// Whether two lists, in which a field may stand twice, have the same fields.
+fn are_same_fields(a: &[FieldId], b: &[FieldId]) -> bool {
+    has_fields(a, b) && has_fields(b, a)
+}
+
+// Whether two intents lead back the same way.
+fn is_same_way(a: &Intent, b: &Intent) -> bool {
+    are_same_puts(a.put.as_slice(), b.put.as_slice())
+        && are_same_fields(a.clear.as_slice(), b.clear.as_slice())
+}
+
+// The document after a commit that is sound.
+fn after(alloc: Global, doc: &Doc, intent: &Intent) -> Result<Doc, Fail>
+    requires { IsSoundInForm (document_of doc.now) }
+    ensures { IfOk result (λ d. IsSoundInForm (document_of d)) }
+{
+    let mut after = doc.copy(alloc)?;
+    match carry(alloc, &mut after, intent)? {
+        Verdict::Sound => Ok(after),
+        _ => Err(Fail::from("void")),
+    }
+}
+
+// Whether there is a way back between two documents, and it is this one.
+fn is_between(alloc: Global, before: &Doc, after: &Doc, way: &Intent) -> Result<bool, Fail>
+    requires before { IsSoundInForm (document_of before.now) }
+    requires after { IsSoundInForm (document_of after.now) }
+{
+    match between(alloc, before, after)? {
+        Some(other) => Ok(is_same_way(way, &other)),
+        None => Ok(false),
+    }
+}
+
+// Whether there is a way back from a document to one that came after it.
+fn is_kept(alloc: Global, before: &Doc, after: &Doc) -> Result<bool, Fail>
+    requires before { IsSoundInForm (document_of before.now) }
+    requires after { IsSoundInForm (document_of after.now) }
+{
+    Ok(between(alloc, after, before)?.is_some())
+}
+
+// Whether both ways back over a commit are one, and the document before it has all that there is after it exactly where
+// the row says so.
+fn leads_back(alloc: Global, doc: &Doc, intent: &Intent, keeps_all: bool) -> Result<bool, Fail>
+    requires { IsSoundInForm (document_of doc.now) }
+{
+    if !doc.fits(intent) {
+        return Err(Fail::from("does not fit"));
+    }
+    let way = over(alloc, doc, intent)?;
+    let after = after(alloc, doc, intent)?;
+    Ok(is_between(alloc, doc, &after, &way)? && is_kept(alloc, doc, &after)? == keeps_all)
+}
+
+fn is_so(alloc: Global, schema: &Schema, row: &Row) -> Result<bool, Fail> {
+    let doc = opened(alloc, schema, row.tree)?;
+    let intent = commit(alloc, schema, &doc, 1, row.case)?;
+    leads_back(alloc, &doc, &intent, row.keeps_all)
+}
+
+const ROWS: [Row; 15] = [
+    // New items, of which one has items and fields of its own.
+    Row {
+        tree: r#"{"list":["x"]}"#,
+        case: Case::Insert(
+            &[],
+            1,
+            &[
+                r#"{"list":["a",{"card":{"note":"n","title":"t"}}]}"#,
+                r#""b""#,
+            ],
+        ),
+        keeps_all: false,
+    },
+    Row {
+        tree: r#"{"list":[{"list":[]}]}"#,
+        case: Case::Insert(&[("", 0)], 0, &[r#""a""#]),
+        keeps_all: false,
+    },
+    // What goes nowhere.
+    Row {
+        tree: r#"{"list":["w","x","y"]}"#,
+        case: Case::Remove(&[], 0, 2),
+        keeps_all: true,
+    },
+    Row {
+        tree: r#"{"list":[{"list":["n"]},{"card":{"note":"n","title":"t"}}]}"#,
+        case: Case::Remove(&[], 0, 2),
+        keeps_all: true,
+    },
+    Row {
+        tree: r#"{"list":["w"]}"#,
+        case: Case::Remove(&[], 1, 0),
+        keeps_all: true,
+    },
+    // Moves to another row, within a row, to where the item stands, and into a field.
+    Row {
+        tree: r#"{"list":[{"list":["n","o"]},{"list":["m"]}]}"#,
+        case: Case::Move(&[("", 0)], 0, 2, &[("", 1)], "", 1),
+        keeps_all: false,
+    },
+    Row {
+        tree: r#"{"list":["w","x","y"]}"#,
+        case: Case::Move(&[], 0, 1, &[], "", 3),
+        keeps_all: false,
+    },
+    Row {
+        tree: r#"{"list":["w","x"]}"#,
+        case: Case::Move(&[], 0, 1, &[], "", 0),
+        keeps_all: false,
+    },
+    Row {
+        tree: r#"{"list":[{"card":{"note":"n","title":"p"}},"x"]}"#,
+        case: Case::Move(&[], 1, 1, &[("", 0)], "note", 0),
+        keeps_all: true,
+    },
+    Row {
+        tree: r#"{"list":[{"card":{"title":"p"}},"x"]}"#,
+        case: Case::Move(&[], 1, 1, &[("", 0)], "note", 0),
+        keeps_all: true,
+    },
+    // A field that is filled anew, one that was empty, and one that is emptied, twice.
+    Row {
+        tree: r#"{"list":[{"card":{"note":{"list":["a"]},"title":"p"}}]}"#,
+        case: Case::Put(&[("", 0)], "note", r#"{"list":["b"]}"#),
+        keeps_all: false,
+    },
+    Row {
+        tree: r#"{"list":[{"card":{"title":"p"}}]}"#,
+        case: Case::Put(&[("", 0)], "note", r#""n""#),
+        keeps_all: false,
+    },
+    Row {
+        tree: r#"{"list":[{"card":{"note":"n","title":"p"}}]}"#,
+        case: Case::Clear(&[("", 0)], "note"),
+        keeps_all: true,
+    },
+    Row {
+        tree: r#"{"list":[{"card":{"title":"p"}}]}"#,
+        case: Case::Clear(&[("", 0)], "note"),
+        keeps_all: true,
+    },
+    // A need, which changes nothing.
+    Row {
+        tree: r#"{"list":["w"]}"#,
+        case: Case::Need(&[("", 0)]),
+        keeps_all: true,
+    },
+];
+
+// The first row that isn't so.
+fn first_wrong(alloc: Global, schema: &Schema, rows: &[Row]) -> Result<Option<&'static str>, Fail> {
+    for row in rows {
+        if !is_so(alloc, schema, row)? {
+            return Ok(Some(row.tree));
+        }
+    }
+    Ok(None)
+}
+
+fn wrong_row(alloc: Global) -> Result<Option<&'static str>, Fail> {
+    let schema = schema(alloc)?;
+    first_wrong(alloc, &schema, &ROWS)
+}
+
+#[test]
+fn ways_agree(rt: HostRuntime) -> Result<(), Fail> {
+    let wrong = wrong_row(rt.alloc())?;
+    assert!(rt; wrong.is_none(), "{wrong:?}");
+    Ok(())
+}

@@ -1,0 +1,5 @@
+use Rattle.st_seq.proofs.KindLaws.{row_changes_are_short}
+use Rattle.st_seq.proofs.kind.SequenceFieldKind.changes_are_short.Goals as goal
+
+pub returns : goal.returns
+returns c = row_changes_are_short

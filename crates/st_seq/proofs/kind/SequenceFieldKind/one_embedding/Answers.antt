@@ -1,0 +1,5 @@
+use Rattle.st_seq.proofs.KindLaws.{one_row_change}
+use Rattle.st_seq.proofs.kind.SequenceFieldKind.one_embedding.Goals as goal
+
+pub returns : goal.returns
+returns c = one_row_change

@@ -1,0 +1,5 @@
+use Rattle.st_seq.proofs.KindLaws.{one_row_step}
+use Rattle.st_seq.proofs.kind.SequenceFieldKind.one_step.Goals as goal
+
+pub returns : goal.returns
+returns c = one_row_step

@@ -1,0 +1,5 @@
+use Rattle.st_seq.proofs.KindLaws.{row_has_room}
+use Rattle.st_seq.proofs.kind.SequenceFieldKind.there_is_room.Goals as goal
+
+pub returns : goal.returns
+returns c = row_has_room
