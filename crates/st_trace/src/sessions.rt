@@ -1,5 +1,6 @@
 //! Clients that leave, are dropped, and come back.
 ghost use Rattle.std.specs.Prelude.{◌≡◌, ◌+◌, ◌^◌, ◌<◌, ◌++◌, ◌∷◌, [], length, Some, slice_get, IfOk, OnOk};
+ghost use Rattle.std.specs.List.{remove};
 ghost use Rattle.st_script.specs.Header.{header_view};
 ghost use Rattle.st_script.specs.Steps as act;
 ghost use Rattle.st_lists.specs.Clients.{without_connection};
@@ -12,6 +13,7 @@ ghost use Rattle.st_trace.specs.inside.Replicas.{IsSoundNext};
 ghost use Rattle.st_lists.specs.declared.lists.Client.{Client as Present};
 
 use crate::reconnecting::{catch_up, refusal_to_reconnect};
+use crate::replica::Replica;
 use crate::world::World;
 use st_ids::{Limit, LimitOf, List};
 use st_lists::{Body, Client, append_entry};
@@ -27,6 +29,22 @@ fn disconnect(alloc: Global, client: &mut Client)
 {
     client.connected = false;
     client.queue = List::new(alloc);
+}
+
+// Lets go of the client at a place.
+fn remove_client(clients: &mut List<Client>, i: usize)
+    requires { i < length clients.old }
+    ensures { clients.new ≡ remove clients.old i }
+{
+    let _ = clients.remove(i);
+}
+
+// Lets go of what is kept of the client at a place.
+fn remove_replica(all: &mut List<Replica>, i: usize)
+    requires { i < length all.old }
+    ensures { all.new ≡ remove all.old i }
+{
+    let _ = all.remove(i);
 }
 
 impl World {
@@ -82,8 +100,8 @@ impl World {
             return Ok(Answer::No(Refusal::NoClient));
         };
         let session = client.session;
-        let _ = self.lists.clients.remove(i);
-        let _ = self.kept.remove(i);
+        remove_client(&mut self.lists.clients, i);
+        remove_replica(&mut self.kept, i);
         let n = self.enter(session, Body::Leave)?;
         Ok(Answer::Leave { n })
     }
