@@ -68,6 +68,7 @@ fn covers(stored: &Schema, view: &Schema) -> bool
     ensures yes { result ≡ true → Covers stored.now view.now }
     ensures no { result ≡ false → Covers stored.now view.now → ⊥ }
 {
+    stored.is_kept();
     contains_all(view.root(), stored.root()) && passes(stored, view, &[true; 256])
 }
 
