@@ -8,6 +8,7 @@ use Rattle.std.proofs.lemmas.Bool.Decides.{nat_tests}
 use Rattle.std.proofs.lemmas.List.{take_all}
 use Rattle.std.proofs.lemmas.List.Elements.{filter-append}
 use Rattle.std.proofs.lemmas.Map.Views.{any-filter_same}
+use Rattle.st_ids.proofs.Orders.{bytes-itself}
 use Rattle.st_schema.specs.Schema.{SchemaView}
 use Rattle.st_schema.specs.declared.names.Form.{Form}
 use Rattle.st_doc.specs.LiveText.{is_among}
@@ -25,10 +26,6 @@ text_same (x ∷ xs) (y ∷ ys) e =
     let test : nat_eq x y ≡ true = both.0 in
     let first : x ≡ y = grind (arith, nat_tests) in
     λ i. first i ∷ text_same xs ys both.1 i
-
-text_itself : (xs : List ℕ) → pointwise nat_eq xs xs ≡ true
-text_itself [] = refl
-text_itself (x ∷ xs) = let one : nat_eq x x ≡ true = grind (arith, nat_tests) in rw (one, text_itself xs) refl
 
 -- the names of the first types whose nodes have a row
 abbrev pub arrays_before : SchemaView → ℕ → List (List ℕ)
@@ -94,7 +91,7 @@ is_named (d ∷ es) ty e = go (pointwise nat_eq ty d.0) refl e (λ f. is_named e
     go : (b : Bool) → pointwise nat_eq ty d.0 ≡ b → is_array_form (cond b (Some d.1) (lookup (pointwise nat_eq ty) es)) ≡ true
         → (is_array_form (lookup (pointwise nat_eq ty) es) ≡ true → list_any (λ t. pointwise nat_eq t ty) (map (λ (d : List ℕ × Form). d.0) es) ≡ true)
         → pointwise nat_eq d.0 ty || list_any (λ t. pointwise nat_eq t ty) (map (λ (d : List ℕ × Form). d.0) es) ≡ true
-    go true same e rest = let at : pointwise nat_eq d.0 ty ≡ true = subst (λ x. pointwise nat_eq x ty ≡ true) (text_same ty d.0 same) (text_itself ty) in rw at refl
+    go true same e rest = let at : pointwise nat_eq d.0 ty ≡ true = subst (λ x. pointwise nat_eq x ty ≡ true) (text_same ty d.0 same) (bytes-itself ty) in rw at refl
     go false other e rest = rw (rest e) (or-true (pointwise nat_eq d.0 ty))
 
 among_all : (s : SchemaView) (ty : List ℕ) → is_among (filter (is_array_type s) (map (λ (d : List ℕ × Form). d.0) s.types)) ty ≡ is_array_type s ty

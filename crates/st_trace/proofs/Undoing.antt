@@ -7,6 +7,7 @@ use Rattle.std.proofs.lemmas.Bool.Decides.{nat_tests}
 use Rattle.std.proofs.lemmas.List.Quantifiers.{position-Some}
 use Rattle.std.proofs.lemmas.Option.{slice_get-get_or}
 use Rattle.std.specs.Prelude.{get_or}
+use Rattle.st_ids.proofs.Shared.{at_has}
 use Rattle.st_ids.specs.Listing.{Has}
 use Rattle.st_ids.specs.Order.{rev_cmp, same_rev}
 use Rattle.st_ids.specs.Root.{opening}
@@ -56,11 +57,6 @@ use Rattle.st_trace.specs.inside.Undo.{logged_of, logged_within, undone, way_at,
 use Rattle.st_trace.proofs.Noting.{place_among}
 
 -- ## Lists
-
-get_has : {X : Type 0} (xs : List X) (i : ℕ) (x : X) → slice_get xs i ≡ Some x → Has xs x
-get_has [] i x e = cc
-get_has (y ∷ ys) zero x e = let same : y ≡ x = cc in inl same
-get_has (y ∷ ys) (suc i) x e = inr (get_has ys i x e)
 
 has_get : {X : Type 0} (xs : List X) (x : X) → Has xs x → (i : ℕ) × (slice_get xs i ≡ Some x)
 has_get [] x h = absurd h
@@ -308,7 +304,7 @@ module _ (O : Document) (history : ℕ) (log : List Entry) (c : Client) (rev : R
           f = found l at
 
           there : Has (take c.received log) f.1
-          there = get_has (take c.received log) f.0 f.1 (get_take log c.received f.0 (omega (arith, within, f.6.n, f.6.numbered)) ∙ f.3)
+          there = at_has (take c.received log) f.0 f.1 (get_take log c.received f.0 (omega (arith, within, f.6.n, f.6.numbered)) ∙ f.3)
 
           go : (o : Option Entry) → find (has_commit rev) (take c.received log) ≡ o → number_of rev log c ≡ Some l.n
           go None e = absurd (true-false (has_commit_by rev f.1 f.2 f.4 f.5) (none-has (has_commit rev) (take c.received log) f.1 e there))
@@ -353,7 +349,7 @@ module _ (O : Document) (history : ℕ) (log : List Entry) (c : Client) (rev : R
               either : Has (commits_in (take c.received log)) x.0 ⊎ Has c.pending x.0 → ⊥
               either (inl h) =
                   let p = place_among (take c.received log) x.0 h in
-                  not_received p.1 (get_has (take c.received log) p.0 p.1 p.2) (has_commit_by rev p.1 x.0 p.3 (same_rev-true x.0.rev rev x.2))
+                  not_received p.1 (at_has (take c.received log) p.0 p.1 p.2) (has_commit_by rev p.1 x.0 p.3 (same_rev-true x.0.rev rev x.2))
               either (inr h) = no_place (has_rev rev) c.pending x.0 e h x.2
 
     -- one that is pending
