@@ -3,6 +3,7 @@ use Rattle.std.proofs.Common.{◌≡◌, ◌≤◌, ◌<◌, ◌+◌, ◌-◌, �
 use Rattle.std.specs.List.{fold, slice_get}
 use Rattle.std.proofs.lemmas.Bool.Decides.{nat_tests}
 use Rattle.std.proofs.lemmas.List.{take-append-le, take_all}
+use Rattle.st_ids.proofs.Shared.{filtered, filter-has}
 use Rattle.st_ids.specs.Listing.{Has}
 use Rattle.st_lists.specs.Known.{AreConnected, AreKnown, AreMinima, known_so_far}
 use Rattle.st_lists.specs.Log.{connected_after, connected_by, floor, is_connected, known_reference, log_with, minimum}
@@ -53,25 +54,6 @@ counted {X} p g n (x ∷ xs) = go (p x) refl (λ m. counted p g m xs)
     go true e rest = rest (min n (g x))
     go false e rest = rest n
 
-in_filter : {X : Type 0} (p : X → Bool) (xs : List X) (x : X) → Has xs x → p x ≡ true → Has (filter p xs) x
-in_filter p [] x h e = absurd h
-in_filter {X} p (y ∷ ys) x h e = go (p y) refl h (λ k. in_filter p ys x k e)
-  where
-    go : (b : Bool) → p y ≡ b → Has (y ∷ ys) x → (Has ys x → Has (filter p ys) x) → Has (cond b (y ∷ filter p ys) (filter p ys)) x
-    go true q (inl same) rest = inl same
-    go true q (inr h) rest = inr (rest h)
-    go false q (inl same) rest = let bad : true ≡ false = sym e ∙ ap p (sym same) ∙ q in absurd (cc)
-    go false q (inr h) rest = rest h
-
-of_filter : {X : Type 0} (p : X → Bool) (xs : List X) (x : X) → Has (filter p xs) x → Has xs x × (p x ≡ true)
-of_filter p [] x h = absurd h
-of_filter {X} p (y ∷ ys) x h = go (p y) refl h (λ k. of_filter p ys x k)
-  where
-    go : (b : Bool) → p y ≡ b → Has (cond b (y ∷ filter p ys) (filter p ys)) x → (Has (filter p ys) x → Has ys x × (p x ≡ true)) → Has (y ∷ ys) x × (p x ≡ true)
-    go true q (inl same) rest = (inl same, ap p (sym same) ∙ q)
-    go true q (inr h) rest = let w = rest h in (inr w.0, w.1)
-    go false q h rest = let w = rest h in (inr w.0, w.1)
-
 -- ## Sessions that are connected
 
 -- one that is connected has an entry
@@ -110,17 +92,17 @@ minimum_of_clients log clients w = counted (λ (c : Client). c.connected) by_cli
 
     client_of : (e : Entry) → Has (filter is_on log) e → (c : Client) × Has there c × (by_client c ≡ by_entry e)
     client_of e i =
-        let on = of_filter is_on log e i in
+        let on = filtered is_on log e i in
         let c = w.no_other e.session on.1 in
         let mine : c.0.connected ≡ true = sym (w.each c.0 c.1) ∙ ap (λ s. is_connected s log) c.2 ∙ on.1 in
-        (c.0, in_filter (λ (c : Client). c.connected) clients c.0 c.1 mine, ap (λ s. known_reference s log) c.2)
+        (c.0, filter-has (λ (c : Client). c.connected) clients c.0 c.1 mine, ap (λ s. known_reference s log) c.2)
 
     entry_of : (c : Client) → Has there c → (e : Entry) × Has (filter is_on log) e × (by_entry e ≡ by_client c)
     entry_of c i =
-        let on = of_filter (λ (c : Client). c.connected) clients c i in
+        let on = filtered (λ (c : Client). c.connected) clients c i in
         let mine : is_connected c.session log ≡ true = w.each c on.0 ∙ on.1 in
         let e = connected_entry c.session log mine in
-        (e.0, in_filter is_on log e.0 e.1 (ap (λ s. is_connected s log) e.2 ∙ mine), ap (λ s. known_reference s log) e.2)
+        (e.0, filter-has is_on log e.0 e.1 (ap (λ s. is_connected s log) e.2 ∙ mine), ap (λ s. known_reference s log) e.2)
 
     low : fold (lower by_client) (length log) there ≤ fold (lower by_entry) (length log) (filter is_on log)
     low = least_of_more by_client by_entry (length log) there (filter is_on log) client_of

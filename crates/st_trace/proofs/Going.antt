@@ -49,7 +49,7 @@ use Rattle.st_marks.proofs.Members.{all-has, append_right}
 use Rattle.st_lists.proofs.Present.{all_rest, are_apart, distinct_more, distinct_rest, distinct_set, session_given, session_of, sessions_entered}
 use Rattle.st_trace.proofs.Keeping.{within_limits, within_names, within_pending}
 use Rattle.st_lists.proofs.Logs.{entered_commits, last_entry}
-use Rattle.st_trace.proofs.Stepping.{is_last, of_sessions}
+use Rattle.st_trace.proofs.Stepping.{given_still, is_last, of_sessions}
 use Rattle.st_lemmas.proofs.Lists.{AllByRecursion-append}
 use Rattle.st_lists.specs.declared.lists.Body.{Body}
 
@@ -363,9 +363,6 @@ module _ (h : HeaderView) (st : IsStart (opening_document h)) where
     clients_sent (d ∷ cs) (suc i) s at w = (client_beside h st log c d text rest own w.0 is (others_apart cs d c s.0 (at_has cs i c at)) few, clients_sent cs i s.1 at w.1)
 
 -- an entry of a session that was given leaves those given as they are, and an entry of the next gives it
-pub given_still : (log : List Entry) (session : ℕ) (body : Body) (cs : List Client) → AllByRecursion (λ (c : Client). c.session ≤ sessions_in log) cs → AllByRecursion (λ (c : Client). c.session ≤ sessions_in (log_with log session body)) cs
-given_still log session body cs all = all_as (λ (c : Client). c.session ≤ sessions_in log) (λ (c : Client). c.session ≤ sessions_in (log_with log session body)) cs (λ c p. omega (arith, p, sessions_entered log session body)) all
-
 pub sent_sound : (h : HeaderView) (w : WorldState) (i : ℕ) (c : Client) (text : Body) (rest : List Body) → AreSound h w → slice_get w.clients i ≡ Some c → c.queue ≡ text ∷ rest → names_in (commits_in w.log) + names_in_text text ≤ 131072
     → AreSound h (record w { log = log_with w.log c.session text; clients = slice_set w.clients i (record c { queue = rest }) })
 sent_sound h w i c text rest s at is few =

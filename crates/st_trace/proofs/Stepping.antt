@@ -199,7 +199,7 @@ sent_connected w i c c' text s at is is_c =
 given_here : (w : World) (i : ℕ) (c : Client) → IsSound w → slice_get w.lists.clients i ≡ Some c → c.session ≤ sessions_in w.lists.log
 given_here w i c s at = all_get (λ (x : Client). x.session ≤ sessions_in w.lists.log) w.lists.clients i c s.given at
 
-given_still : (log : List Entry) (session : ℕ) (body : Body) (cs : List Client) → AllByRecursion (λ (c : Client). c.session ≤ sessions_in log) cs → AllByRecursion (λ (c : Client). c.session ≤ sessions_in (log_with log session body)) cs
+pub given_still : (log : List Entry) (session : ℕ) (body : Body) (cs : List Client) → AllByRecursion (λ (c : Client). c.session ≤ sessions_in log) cs → AllByRecursion (λ (c : Client). c.session ≤ sessions_in (log_with log session body)) cs
 given_still log session body cs all = all_as (λ (c : Client). c.session ≤ sessions_in log) (λ (c : Client). c.session ≤ sessions_in (log_with log session body)) cs (λ c p. omega (arith, p, sessions_entered log session body)) all
 
 pub sound_sent : (w : World) (i : ℕ) (c c' : Client) (text : Body) (log_document : Doc) (known : BTreeMap ℕ ℕ) (logged : BTreeMap Rev Logged) → IsSound w → slice_get w.lists.clients i ≡ Some c → c.queue ≡ text ∷ c'.queue → c' ≡ record c { queue = c'.queue }
