@@ -273,3 +273,32 @@ pub fn commit(
     };
     part(alloc, schema, doc, given, case)
 }
+
+/// A row of a table.
+pub trait Row {
+    /// Whether it is so.
+    fn is_so(&self, alloc: Global, schema: &Schema) -> Result<bool, Fail>;
+
+    /// What is told of it where it isn't.
+    fn told(&self) -> &'static str;
+}
+
+// What is told of the first row that isn't so.
+fn first_wrong<R: Row>(
+    alloc: Global,
+    schema: &Schema,
+    rows: &[R],
+) -> Result<Option<&'static str>, Fail> {
+    for row in rows {
+        if !row.is_so(alloc, schema)? {
+            return Ok(Some(row.told()));
+        }
+    }
+    Ok(None)
+}
+
+/// What is told of the first row of a table that isn't so.
+pub fn wrong_row<R: Row>(alloc: Global, rows: &[R]) -> Result<Option<&'static str>, Fail> {
+    let schema = schema(alloc)?;
+    first_wrong(alloc, &schema, rows)
+}

@@ -1,8 +1,10 @@
-//! Two edits of one commit, the second made in the document after the first, do joined what they do in turn.
+//! Two edits of one commit, the second made in the document after the first, do joined what they do in turn, also as the
+//! edits of a transaction.
 ghost use Rattle.st_marks.specs.Document.{IsSoundInForm};
 ghost use Rattle.st_doc.specs.Doc.{document_of};
 
-use crate::given::{Case, carry, opened, part, schema, shows};
+use crate::given::{Case, Row, carry, opened, part, shows, wrong_row};
+use crate::transactions::edits_lead;
 use st_doc::Doc;
 use st_edits::NameCounters;
 use st_ids::Rev;
@@ -16,7 +18,7 @@ const REV: Rev = Rev { session: 1, num: 1 };
 
 // Two edits of a tree, how many nodes and cells the first makes, and the tree after both.
 #[derive(Clone, Copy)]
-pub struct Row {
+pub struct Parts {
     pub tree: &'static str,
     pub first: Case,
     pub made: (u32, u32),
@@ -54,7 +56,7 @@ fn both_lead(
     doc: &mut Doc,
     after: &mut Doc,
     first: &Intent,
-    row: &Row,
+    row: &Parts,
 ) -> Result<bool, Fail>
     requires doc { IsSoundInForm (document_of doc.old) }
     requires after { IsSoundInForm (document_of after.old) }
@@ -69,7 +71,7 @@ fn both_lead(
     Ok(in_turn && join_leads(alloc, doc, first, &second, row.both)?)
 }
 
-fn row_leads(alloc: Global, schema: &Schema, doc: &mut Doc, row: &Row) -> Result<bool, Fail>
+fn row_leads(alloc: Global, schema: &Schema, doc: &mut Doc, row: &Parts) -> Result<bool, Fail>
     requires { IsSoundInForm (document_of doc.old) }
 {
     let given = NameCounters {
@@ -83,14 +85,20 @@ fn row_leads(alloc: Global, schema: &Schema, doc: &mut Doc, row: &Row) -> Result
     both_lead(alloc, schema, doc, &mut after, &first, row)
 }
 
-fn is_so(alloc: Global, schema: &Schema, row: &Row) -> Result<bool, Fail> {
-    let mut doc = opened(alloc, schema, row.tree)?;
-    row_leads(alloc, schema, &mut doc, row)
+impl Row for Parts {
+    fn is_so(&self, alloc: Global, schema: &Schema) -> Result<bool, Fail> {
+        let mut doc = opened(alloc, schema, self.tree)?;
+        Ok(edits_lead(alloc, schema, &doc, self)? && row_leads(alloc, schema, &mut doc, self)?)
+    }
+
+    fn told(&self) -> &'static str {
+        self.both
+    }
 }
 
-pub const ROWS: [Row; 5] = [
+const ROWS: [Parts; 5] = [
     // Into a list that the first part makes.
-    Row {
+    Parts {
         tree: r#"{"list":["x"]}"#,
         first: Case::Insert(&[], 1, &[r#"{"list":[]}"#]),
         made: (1, 1),
@@ -98,7 +106,7 @@ pub const ROWS: [Row; 5] = [
         both: r#"{"list":["x",{"list":["b"]}]}"#,
     },
     // At one place: the later stands left.
-    Row {
+    Parts {
         tree: r#"{"list":["x"]}"#,
         first: Case::Insert(&[], 0, &[r#""a""#]),
         made: (1, 1),
@@ -106,7 +114,7 @@ pub const ROWS: [Row; 5] = [
         both: r#"{"list":["b","a","x"]}"#,
     },
     // After an item that the first part makes.
-    Row {
+    Parts {
         tree: r#"{"list":["x"]}"#,
         first: Case::Insert(&[], 1, &[r#""a""#, r#""c""#]),
         made: (2, 2),
@@ -114,7 +122,7 @@ pub const ROWS: [Row; 5] = [
         both: r#"{"list":["x","a","b","c"]}"#,
     },
     // What the first part makes goes again.
-    Row {
+    Parts {
         tree: r#"{"list":["x"]}"#,
         first: Case::Insert(&[], 1, &[r#""a""#, r#""c""#]),
         made: (2, 2),
@@ -122,7 +130,7 @@ pub const ROWS: [Row; 5] = [
         both: r#"{"list":["x","c"]}"#,
     },
     // Of two settings of a field the second stays.
-    Row {
+    Parts {
         tree: r#"{"list":[{"card":{"title":"p"}}]}"#,
         first: Case::Put(&[("", 0)], "title", r#""a""#),
         made: (1, 0),
@@ -131,24 +139,9 @@ pub const ROWS: [Row; 5] = [
     },
 ];
 
-// The first row that isn't so.
-fn first_wrong(alloc: Global, schema: &Schema, rows: &[Row]) -> Result<Option<&'static str>, Fail> {
-    for row in rows {
-        if !is_so(alloc, schema, row)? {
-            return Ok(Some(row.both));
-        }
-    }
-    Ok(None)
-}
-
-fn wrong_row(alloc: Global) -> Result<Option<&'static str>, Fail> {
-    let schema = schema(alloc)?;
-    first_wrong(alloc, &schema, &ROWS)
-}
-
 #[test]
 fn joins(rt: HostRuntime) -> Result<(), Fail> {
-    let wrong = wrong_row(rt.alloc())?;
+    let wrong = wrong_row(rt.alloc(), &ROWS)?;
     assert!(rt; wrong.is_none(), "{wrong:?}");
     Ok(())
 }

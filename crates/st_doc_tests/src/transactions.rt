@@ -4,8 +4,8 @@ ghost use Rattle.st_marks.specs.Document.{IsSoundInForm};
 ghost use Rattle.st_doc.specs.Doc.{document_of};
 ghost use Rattle.st_heads.specs.Transactions.{with_open, HasOpen, IsOpen, IsSoundPart};
 
-use crate::given::{Case, opened, part, schema, shows};
-use crate::joining::{ROWS, Row};
+use crate::given::{Case, part, shows};
+use crate::joining::Parts;
 use st_doc::Doc;
 use st_edits::NameCounters;
 use st_heads::Head;
@@ -134,7 +134,7 @@ fn second_leads(
     head: &mut Head,
     joined: &mut Option<Intent>,
     under: Rev,
-    row: &Row,
+    row: &Parts,
 ) -> Result<bool, Fail>
     requires line { IsSoundInForm (document_of head.old.doc) }
     requires going { IsOpen head.old joined.old REV under }
@@ -145,7 +145,7 @@ fn second_leads(
 }
 
 // Whether two edits of one transaction over a document lead to a row's tree.
-fn both_lead(alloc: Global, schema: &Schema, head: &mut Head, row: &Row) -> Result<bool, Fail>
+fn both_lead(alloc: Global, schema: &Schema, head: &mut Head, row: &Parts) -> Result<bool, Fail>
     requires line { IsSoundInForm (document_of head.old.doc) }
     requires none { head.old.edited ≡ None }
 {
@@ -165,7 +165,7 @@ fn lets_go(alloc: Global, head: &mut Head, tree: &str) -> Result<bool, Fail>
 }
 
 // Whether the first edit of a row shows in a transaction, and not after it is let go of.
-fn first_goes(alloc: Global, schema: &Schema, head: &mut Head, row: &Row) -> Result<bool, Fail>
+fn first_goes(alloc: Global, schema: &Schema, head: &mut Head, row: &Parts) -> Result<bool, Fail>
     requires line { IsSoundInForm (document_of head.old.doc) }
     requires none { head.old.edited ≡ None }
 {
@@ -177,37 +177,11 @@ fn first_goes(alloc: Global, schema: &Schema, head: &mut Head, row: &Row) -> Res
     Ok(!before && lets_go(alloc, head, row.tree)?)
 }
 
-fn line_leads(alloc: Global, schema: &Schema, doc: &Doc, row: &Row) -> Result<bool, Fail>
+/// Whether the edits of a row lead to its tree as those of a transaction, and go where it is let go of.
+pub fn edits_lead(alloc: Global, schema: &Schema, doc: &Doc, row: &Parts) -> Result<bool, Fail>
     requires { IsSoundInForm (document_of doc.now) }
 {
     let mut line = line_over(alloc, doc)?;
     let mut other = line_over(alloc, doc)?;
     Ok(both_lead(alloc, schema, &mut line, row)? && first_goes(alloc, schema, &mut other, row)?)
-}
-
-fn is_so(alloc: Global, schema: &Schema, row: &Row) -> Result<bool, Fail> {
-    let doc = opened(alloc, schema, row.tree)?;
-    line_leads(alloc, schema, &doc, row)
-}
-
-// The first row that isn't so.
-fn first_wrong(alloc: Global, schema: &Schema, rows: &[Row]) -> Result<Option<&'static str>, Fail> {
-    for row in rows {
-        if !is_so(alloc, schema, row)? {
-            return Ok(Some(row.both));
-        }
-    }
-    Ok(None)
-}
-
-fn wrong_row(alloc: Global) -> Result<Option<&'static str>, Fail> {
-    let schema = schema(alloc)?;
-    first_wrong(alloc, &schema, &ROWS)
-}
-
-#[test]
-fn transactions(rt: HostRuntime) -> Result<(), Fail> {
-    let wrong = wrong_row(rt.alloc())?;
-    assert!(rt; wrong.is_none(), "{wrong:?}");
-    Ok(())
 }

@@ -3,7 +3,8 @@ ghost use Rattle.std.specs.Prelude.{IfOk, OnOk};
 ghost use Rattle.st_marks.specs.Document.{IsSoundInForm};
 ghost use Rattle.st_doc.specs.Doc.{document_of};
 
-use crate::given::{Case, commit, opened, schema, shows};
+use crate::given::{Case, Row, commit, opened, shows, wrong_row};
+use crate::ways::ways_agree;
 use st_doc::Doc;
 use st_heads::{Head, Way};
 use st_ids::{Copied, List, OPENING, Rev};
@@ -14,7 +15,7 @@ use std::test::Fail;
 
 // What one author does to a tree and then another, and the tree after both, and after the first commit is undone.
 #[derive(Clone, Copy)]
-struct Row {
+struct Pair {
     tree: &'static str,
     first: Case,
     second: Case,
@@ -80,7 +81,7 @@ fn undoes(alloc: Global, head: &mut Head, tree: &str) -> Result<bool, Fail>
 }
 
 // Whether the second commit leads on, and the first is then undone.
-fn leads(alloc: Global, head: &mut Head, second: &Intent, row: &Row) -> Result<bool, Fail>
+fn leads(alloc: Global, head: &mut Head, second: &Intent, row: &Pair) -> Result<bool, Fail>
     requires { IsSoundInForm (document_of head.old.doc) }
 {
     carry_at(alloc, head, second)?;
@@ -94,7 +95,7 @@ fn pair_leads(
     doc: &Doc,
     first: Intent,
     second: &Intent,
-    row: &Row,
+    row: &Pair,
 ) -> Result<bool, Fail>
     requires { IsSoundInForm (document_of doc.now) }
 {
@@ -102,22 +103,36 @@ fn pair_leads(
     leads(alloc, &mut head, second, row)
 }
 
-fn row_leads(alloc: Global, schema: &Schema, doc: &Doc, row: &Row) -> Result<bool, Fail>
+// Whether of each of two commits the way back is the one between the documents.
+fn both_agree(alloc: Global, doc: &Doc, first: &Intent, second: &Intent) -> Result<bool, Fail>
+    requires { IsSoundInForm (document_of doc.now) }
+{
+    Ok(ways_agree(alloc, doc, first)? && ways_agree(alloc, doc, second)?)
+}
+
+fn row_leads(alloc: Global, schema: &Schema, doc: &Doc, row: &Pair) -> Result<bool, Fail>
     requires { IsSoundInForm (document_of doc.now) }
 {
     let first = commit(alloc, schema, doc, 1, row.first)?;
     let second = commit(alloc, schema, doc, 2, row.second)?;
-    pair_leads(alloc, doc, first, &second, row)
+    let agree = both_agree(alloc, doc, &first, &second)?;
+    Ok(pair_leads(alloc, doc, first, &second, row)? && agree)
 }
 
-fn is_so(alloc: Global, schema: &Schema, row: &Row) -> Result<bool, Fail> {
-    let doc = opened(alloc, schema, row.tree)?;
-    row_leads(alloc, schema, &doc, row)
+impl Row for Pair {
+    fn is_so(&self, alloc: Global, schema: &Schema) -> Result<bool, Fail> {
+        let doc = opened(alloc, schema, self.tree)?;
+        row_leads(alloc, schema, &doc, self)
+    }
+
+    fn told(&self) -> &'static str {
+        self.both
+    }
 }
 
-const ROWS: [Row; 6] = [
+const ROWS: [Pair; 6] = [
     // What was inserted goes, and what another inserted stays.
-    Row {
+    Pair {
         tree: r#"{"list":["x"]}"#,
         first: Case::Insert(&[], 1, &[r#"{"list":["a"]}"#, r#""b""#]),
         second: Case::Insert(&[], 0, &[r#""c""#]),
@@ -125,7 +140,7 @@ const ROWS: [Row; 6] = [
         undone: r#"{"list":["c","x"]}"#,
     },
     // What was removed comes back to its place.
-    Row {
+    Pair {
         tree: r#"{"list":["w","x","y"]}"#,
         first: Case::Remove(&[], 0, 2),
         second: Case::Insert(&[], 1, &[r#""b""#]),
@@ -133,7 +148,7 @@ const ROWS: [Row; 6] = [
         undone: r#"{"list":["w","b","x","y"]}"#,
     },
     // What was moved goes back.
-    Row {
+    Pair {
         tree: r#"{"list":[{"list":["n"]},{"list":["m"]}]}"#,
         first: Case::Move(&[("", 0)], 0, 1, &[("", 1)], "", 1),
         second: Case::Insert(&[("", 1)], 0, &[r#""b""#]),
@@ -141,7 +156,7 @@ const ROWS: [Row; 6] = [
         undone: r#"{"list":[{"list":["n"]},{"list":["b","m"]}]}"#,
     },
     // The occupant that another took the place of comes back.
-    Row {
+    Pair {
         tree: r#"{"list":[{"card":{"note":"n","title":"p"}}]}"#,
         first: Case::Put(&[("", 0)], "title", r#""a""#),
         second: Case::Clear(&[("", 0)], "note"),
@@ -149,7 +164,7 @@ const ROWS: [Row; 6] = [
         undone: r#"{"list":[{"card":{"title":"p"}}]}"#,
     },
     // A cleared field has its occupant again, with what another put into it.
-    Row {
+    Pair {
         tree: r#"{"list":[{"card":{"note":{"list":[]},"title":"p"}}]}"#,
         first: Case::Clear(&[("", 0)], "note"),
         second: Case::Insert(&[("", 0), ("note", 0)], 0, &[r#""b""#]),
@@ -157,7 +172,7 @@ const ROWS: [Row; 6] = [
         undone: r#"{"list":[{"card":{"note":{"list":["b"]},"title":"p"}}]}"#,
     },
     // An item that was moved into a field goes back into its row, and who was in the field comes back.
-    Row {
+    Pair {
         tree: r#"{"list":[{"card":{"note":"n","title":"p"}},"x"]}"#,
         first: Case::Move(&[], 1, 1, &[("", 0)], "note", 0),
         second: Case::Insert(&[], 2, &[r#""b""#]),
@@ -166,24 +181,9 @@ const ROWS: [Row; 6] = [
     },
 ];
 
-// The first row that isn't so.
-fn first_wrong(alloc: Global, schema: &Schema, rows: &[Row]) -> Result<Option<&'static str>, Fail> {
-    for row in rows {
-        if !is_so(alloc, schema, row)? {
-            return Ok(Some(row.both));
-        }
-    }
-    Ok(None)
-}
-
-fn wrong_row(alloc: Global) -> Result<Option<&'static str>, Fail> {
-    let schema = schema(alloc)?;
-    first_wrong(alloc, &schema, &ROWS)
-}
-
 #[test]
 fn undone(rt: HostRuntime) -> Result<(), Fail> {
-    let wrong = wrong_row(rt.alloc())?;
+    let wrong = wrong_row(rt.alloc(), &ROWS)?;
     assert!(rt; wrong.is_none(), "{wrong:?}");
     Ok(())
 }

@@ -4,7 +4,7 @@ ghost use Rattle.st_marks.specs.Document.{IsSoundInForm};
 ghost use Rattle.st_marks.specs.Intent.{Fits};
 ghost use Rattle.st_doc.specs.Doc.{document_of};
 
-use crate::given::{Case, carry, commit, opened, schema};
+use crate::given::{Case, Row, carry, commit, opened, wrong_row};
 use st_doc::Doc;
 use st_heads::way_back;
 use st_ids::{FieldId, OPENING, Or, Rev};
@@ -18,7 +18,7 @@ const REV: Rev = Rev { session: 9, num: 1 };
 
 // An edit of a tree, and whether the tree has all that there is after the edit.
 #[derive(Clone, Copy)]
-struct Row {
+struct Edited {
     tree: &'static str,
     case: Case,
     keeps_all: bool,
@@ -96,17 +96,8 @@ fn is_between(alloc: Global, before: &Doc, after: &Doc, way: &Intent) -> Result<
     }
 }
 
-// Whether there is a way back from a document to one that came after it.
-fn is_kept(alloc: Global, before: &Doc, after: &Doc) -> Result<bool, Fail>
-    requires before { IsSoundInForm (document_of before.now) }
-    requires after { IsSoundInForm (document_of after.now) }
-{
-    Ok(between(alloc, after, before)?.is_some())
-}
-
-// Whether both ways back over a commit are one, and the document before it has all that there is after it exactly where
-// the row says so.
-fn leads_back(alloc: Global, doc: &Doc, intent: &Intent, keeps_all: bool) -> Result<bool, Fail>
+/// Whether both ways back over a commit are one.
+pub fn ways_agree(alloc: Global, doc: &Doc, intent: &Intent) -> Result<bool, Fail>
     requires { IsSoundInForm (document_of doc.now) }
 {
     if !doc.fits(intent) {
@@ -114,18 +105,39 @@ fn leads_back(alloc: Global, doc: &Doc, intent: &Intent, keeps_all: bool) -> Res
     }
     let way = over(alloc, doc, intent)?;
     let after = after(alloc, doc, intent)?;
-    Ok(is_between(alloc, doc, &after, &way)? && is_kept(alloc, doc, &after)? == keeps_all)
+    is_between(alloc, doc, &after, &way)
 }
 
-fn is_so(alloc: Global, schema: &Schema, row: &Row) -> Result<bool, Fail> {
-    let doc = opened(alloc, schema, row.tree)?;
-    let intent = commit(alloc, schema, &doc, 1, row.case)?;
-    leads_back(alloc, &doc, &intent, row.keeps_all)
+// Whether a document has all that there is after a commit, so that a way leads back from it to the document after.
+fn keeps_all(alloc: Global, doc: &Doc, intent: &Intent) -> Result<bool, Fail>
+    requires { IsSoundInForm (document_of doc.now) }
+{
+    let after = after(alloc, doc, intent)?;
+    Ok(between(alloc, &after, doc)?.is_some())
 }
 
-const ROWS: [Row; 15] = [
+// Whether both hold of a commit.
+fn leads_back(alloc: Global, doc: &Doc, intent: &Intent, keeps: bool) -> Result<bool, Fail>
+    requires { IsSoundInForm (document_of doc.now) }
+{
+    Ok(ways_agree(alloc, doc, intent)? && keeps_all(alloc, doc, intent)? == keeps)
+}
+
+impl Row for Edited {
+    fn is_so(&self, alloc: Global, schema: &Schema) -> Result<bool, Fail> {
+        let doc = opened(alloc, schema, self.tree)?;
+        let intent = commit(alloc, schema, &doc, 1, self.case)?;
+        leads_back(alloc, &doc, &intent, self.keeps_all)
+    }
+
+    fn told(&self) -> &'static str {
+        self.tree
+    }
+}
+
+const ROWS: [Edited; 16] = [
     // New items, of which one has items and fields of its own.
-    Row {
+    Edited {
         tree: r#"{"list":["x"]}"#,
         case: Case::Insert(
             &[],
@@ -137,100 +149,90 @@ const ROWS: [Row; 15] = [
         ),
         keeps_all: false,
     },
-    Row {
+    Edited {
         tree: r#"{"list":[{"list":[]}]}"#,
         case: Case::Insert(&[("", 0)], 0, &[r#""a""#]),
         keeps_all: false,
     },
     // What goes nowhere.
-    Row {
+    Edited {
         tree: r#"{"list":["w","x","y"]}"#,
         case: Case::Remove(&[], 0, 2),
         keeps_all: true,
     },
-    Row {
+    Edited {
         tree: r#"{"list":[{"list":["n"]},{"card":{"note":"n","title":"t"}}]}"#,
         case: Case::Remove(&[], 0, 2),
         keeps_all: true,
     },
-    Row {
+    Edited {
         tree: r#"{"list":["w"]}"#,
         case: Case::Remove(&[], 1, 0),
         keeps_all: true,
     },
     // Moves to another row, within a row, to where the item stands, and into a field.
-    Row {
+    Edited {
         tree: r#"{"list":[{"list":["n","o"]},{"list":["m"]}]}"#,
         case: Case::Move(&[("", 0)], 0, 2, &[("", 1)], "", 1),
         keeps_all: false,
     },
-    Row {
+    Edited {
         tree: r#"{"list":["w","x","y"]}"#,
         case: Case::Move(&[], 0, 1, &[], "", 3),
         keeps_all: false,
     },
-    Row {
+    Edited {
         tree: r#"{"list":["w","x"]}"#,
         case: Case::Move(&[], 0, 1, &[], "", 0),
         keeps_all: false,
     },
-    Row {
+    Edited {
         tree: r#"{"list":[{"card":{"note":"n","title":"p"}},"x"]}"#,
         case: Case::Move(&[], 1, 1, &[("", 0)], "note", 0),
         keeps_all: true,
     },
-    Row {
+    Edited {
         tree: r#"{"list":[{"card":{"title":"p"}},"x"]}"#,
         case: Case::Move(&[], 1, 1, &[("", 0)], "note", 0),
         keeps_all: true,
     },
     // A field that is filled anew, one that was empty, and one that is emptied, twice.
-    Row {
+    Edited {
+        tree: r#"{"list":[{"card":{"note":"n","title":"p"}}]}"#,
+        case: Case::Put(&[("", 0)], "title", r#""a""#),
+        keeps_all: false,
+    },
+    Edited {
         tree: r#"{"list":[{"card":{"note":{"list":["a"]},"title":"p"}}]}"#,
         case: Case::Put(&[("", 0)], "note", r#"{"list":["b"]}"#),
         keeps_all: false,
     },
-    Row {
+    Edited {
         tree: r#"{"list":[{"card":{"title":"p"}}]}"#,
         case: Case::Put(&[("", 0)], "note", r#""n""#),
         keeps_all: false,
     },
-    Row {
+    Edited {
         tree: r#"{"list":[{"card":{"note":"n","title":"p"}}]}"#,
         case: Case::Clear(&[("", 0)], "note"),
         keeps_all: true,
     },
-    Row {
+    Edited {
         tree: r#"{"list":[{"card":{"title":"p"}}]}"#,
         case: Case::Clear(&[("", 0)], "note"),
         keeps_all: true,
     },
     // A need, which changes nothing.
-    Row {
+    Edited {
         tree: r#"{"list":["w"]}"#,
         case: Case::Need(&[("", 0)]),
         keeps_all: true,
     },
 ];
 
-// The first row that isn't so.
-fn first_wrong(alloc: Global, schema: &Schema, rows: &[Row]) -> Result<Option<&'static str>, Fail> {
-    for row in rows {
-        if !is_so(alloc, schema, row)? {
-            return Ok(Some(row.tree));
-        }
-    }
-    Ok(None)
-}
-
-fn wrong_row(alloc: Global) -> Result<Option<&'static str>, Fail> {
-    let schema = schema(alloc)?;
-    first_wrong(alloc, &schema, &ROWS)
-}
-
 #[test]
-fn ways_agree(rt: HostRuntime) -> Result<(), Fail> {
-    let wrong = wrong_row(rt.alloc())?;
+fn ways_back(rt: HostRuntime) -> Result<(), Fail> {
+    let wrong = wrong_row(rt.alloc(), &ROWS)?;
     assert!(rt; wrong.is_none(), "{wrong:?}");
     Ok(())
 }

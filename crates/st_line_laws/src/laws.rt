@@ -28,41 +28,51 @@ ghost use Rattle.st_line_laws.specs.Transaction.{AreEditedIn, tree_after_edits};
 pub fn ways_back_are_seen()
     ensures verdict { (D E : Document) (rev under : Rev) (B : Intent) → IsExtendedBy D E → IsBack D E rev under B
         → Has (revs E.schemas) under → IsVerdict E B Verdict.Sound }
-    ensures tree { (is_array : List ℕ → Bool) (D E : Document) (rev under : Rev) (B : Intent) (d : Data) → IsExtendedBy D E → IsBack D E rev under B
-        → Shows is_array D root d ↔ Shows is_array (full E B) root d }
+    ensures tree { (is_array : List ℕ → Bool) (D E : Document) (rev under : Rev) (B : Intent) (d : Data)
+        → IsExtendedBy D E → IsBack D E rev under B → Shows is_array D root d ↔ Shows is_array (full E B) root d }
 {}
 
 /// Undoing a commit that was sound, directly after it, is sound, and shows the tree from before the commit.
 pub fn undoing_is_seen()
-    ensures verdict { (D : Document) (N B : Intent) (rev under : Rev) → IsSoundInForm D → Fits D N → HasShortRows (full D N) → IsVerdict D N Verdict.Sound
-        → IsBack D (full D N) rev under B → Has (revs (full D N).schemas) under → IsVerdict (full D N) B Verdict.Sound }
-    ensures tree { (is_array : List ℕ → Bool) (D : Document) (N B : Intent) (rev under : Rev) (text : List ℕ) → IsSoundInForm D → Fits D N → HasShortRows (full D N)
-        → IsVerdict D N Verdict.Sound → IsBack D (full D N) rev under B → IsTreeText is_array D text ↔ IsTreeText is_array (full (full D N) B) text }
+    ensures verdict { (D : Document) (N B : Intent) (rev under : Rev)
+        → IsSoundInForm D → Fits D N → HasShortRows (full D N) → IsVerdict D N Verdict.Sound
+        → IsBack D (full D N) rev under B → Has (revs (full D N).schemas) under
+        → IsVerdict (full D N) B Verdict.Sound }
+    ensures tree { (is_array : List ℕ → Bool) (D : Document) (N B : Intent) (rev under : Rev) (text : List ℕ)
+        → IsSoundInForm D → Fits D N → HasShortRows (full D N) → IsVerdict D N Verdict.Sound
+        → IsBack D (full D N) rev under B
+        → IsTreeText is_array D text ↔ IsTreeText is_array (full (full D N) B) text }
 {}
 
 /// Undoing the last commit of a list is sound, and what is shown after it is what the list shows without that commit. The
 /// commits fit one after the other, and no two have one revision.
 pub fn last_undoing_is_seen()
-    ensures verdict { (O D E : Document) (Ns : List Intent) (N B : Intent) (fresh : Rev) → IsSoundInForm O → FitInTurn O (Ns ++ N ∷ []) → AreDistinct (λ (I : Intent). I.rev) (Ns ++ N ∷ [])
-        → Run O Ns D → Run O (Ns ++ N ∷ []) E → IsUndoing O (Ns ++ N ∷ []) N.rev fresh B → IsVerdict E B Verdict.Sound }
-    ensures text { (is_array : List ℕ → Bool) (O D F : Document) (Ns : List Intent) (N B : Intent) (fresh : Rev) (text : List ℕ) → IsSoundInForm O → FitInTurn O (Ns ++ N ∷ [])
-        → AreDistinct (λ (I : Intent). I.rev) (Ns ++ N ∷ []) → Run O Ns D → IsUndoing O (Ns ++ N ∷ []) N.rev fresh B → Run O ((Ns ++ N ∷ []) ++ B ∷ []) F
+    ensures verdict { (O D E : Document) (Ns : List Intent) (N B : Intent) (fresh : Rev)
+        → IsSoundInForm O → FitInTurn O (Ns ++ N ∷ []) → AreDistinct (λ (I : Intent). I.rev) (Ns ++ N ∷ [])
+        → Run O Ns D → Run O (Ns ++ N ∷ []) E → IsUndoing O (Ns ++ N ∷ []) N.rev fresh B
+        → IsVerdict E B Verdict.Sound }
+    ensures text { (is_array : List ℕ → Bool) (O D F : Document) (Ns : List Intent) (N B : Intent) (fresh : Rev) (text : List ℕ)
+        → IsSoundInForm O → FitInTurn O (Ns ++ N ∷ []) → AreDistinct (λ (I : Intent). I.rev) (Ns ++ N ∷ [])
+        → Run O Ns D → IsUndoing O (Ns ++ N ∷ []) N.rev fresh B → Run O ((Ns ++ N ∷ []) ++ B ∷ []) F
         → IsTreeText is_array D text ↔ IsTreeText is_array F text }
 {}
 
 /// An open transaction shows the tree that its edits, one after the other, make of the tree of the line.
 pub fn transactions_are_seen()
-    ensures { (is_array : List ℕ → Bool) (D : Document) (s : SchemaView) (rev : Rev) (edits : List Edit) (joined : Option Intent) (d : Data) → IsSoundInForm D → is_sound s ≡ true
-        → TellsRows is_array s → IsAsTyped is_array D → AreEditedIn D s rev None edits joined → Shows is_array D root d
+    ensures { (is_array : List ℕ → Bool) (D : Document) (s : SchemaView) (rev : Rev) (edits : List Edit) (joined : Option Intent) (d : Data)
+        → IsSoundInForm D → is_sound s ≡ true → TellsRows is_array s → IsAsTyped is_array D
+        → AreEditedIn D s rev None edits joined → Shows is_array D root d
         → Shows is_array (with_open D joined) root (tree_after_edits edits d) }
 {}
 
 /// What the edits of a transaction mean as one intent fits the line and is sound there, so that its commit leads to the
 /// document that the open transaction shows.
 pub fn transactions_are_sound()
-    ensures fits { (D : Document) (s : SchemaView) (rev : Rev) (edits : List Edit) (K : Intent) → IsSoundInForm D → is_sound s ≡ true → AreEditedIn D s rev None edits (Some K) → Fits D K }
-    ensures verdict { (D : Document) (s : SchemaView) (rev : Rev) (edits : List Edit) (K : Intent) → IsSoundInForm D → is_sound s ≡ true
-        → AreEditedIn D s rev None edits (Some K) → IsVerdict D K Verdict.Sound }
-    ensures carried { (D : Document) (s : SchemaView) (rev : Rev) (edits : List Edit) (K : Intent) (v : Verdict) → IsSoundInForm D → is_sound s ≡ true
-        → AreEditedIn D s rev None edits (Some K) → IsVerdict D K v → carried_document v D K ≡ with_open D (Some K) }
+    ensures fits { (D : Document) (s : SchemaView) (rev : Rev) (edits : List Edit) (K : Intent)
+        → IsSoundInForm D → is_sound s ≡ true → AreEditedIn D s rev None edits (Some K) → Fits D K }
+    ensures verdict { (D : Document) (s : SchemaView) (rev : Rev) (edits : List Edit) (K : Intent)
+        → IsSoundInForm D → is_sound s ≡ true → AreEditedIn D s rev None edits (Some K) → IsVerdict D K Verdict.Sound }
+    ensures carried { (D : Document) (s : SchemaView) (rev : Rev) (edits : List Edit) (K : Intent) (v : Verdict)
+        → IsSoundInForm D → is_sound s ≡ true → AreEditedIn D s rev None edits (Some K) → IsVerdict D K v
+        → carried_document v D K ≡ with_open D (Some K) }
 {}
