@@ -1,4 +1,5 @@
 pub mod Marking
 pub mod Numbers
 pub mod Passing
+pub mod PlainCauses
 pub mod Reading

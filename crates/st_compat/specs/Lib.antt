@@ -1,2 +1,3 @@
 pub mod Relation
+pub mod RelationText
 pub mod inside

@@ -5,6 +5,8 @@ mod forms;
 mod laws;
 mod reached;
 mod relation;
+mod text;
 
 pub use laws::{equal_reads, reads_allows, related_reads, wider_reads};
 pub use relation::{Cause, Relation, Why, compat, reads};
+pub use text::relation_line;
