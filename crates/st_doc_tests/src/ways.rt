@@ -96,6 +96,16 @@ fn is_between(alloc: Global, before: &Doc, after: &Doc, way: &Intent) -> Result<
     }
 }
 
+// Whether the way back over a commit is the one between the documents before and after it.
+fn is_over(alloc: Global, before: &Doc, after: &Doc, intent: &Intent) -> Result<bool, Fail>
+    requires before { IsSoundInForm (document_of before.now) }
+    requires after { IsSoundInForm (document_of after.now) }
+    requires fits { Fits (document_of before.now) intent.now }
+{
+    let way = over(alloc, before, intent)?;
+    is_between(alloc, before, after, &way)
+}
+
 // Whether both ways back over a commit are one.
 fn are_one(alloc: Global, doc: &Doc, intent: &Intent) -> Result<bool, Fail>
     requires { IsSoundInForm (document_of doc.now) }
@@ -103,9 +113,8 @@ fn are_one(alloc: Global, doc: &Doc, intent: &Intent) -> Result<bool, Fail>
     if !doc.fits(intent) {
         return Err(Fail::from("does not fit"));
     }
-    let way = over(alloc, doc, intent)?;
     let after = after(alloc, doc, intent)?;
-    is_between(alloc, doc, &after, &way)
+    is_over(alloc, doc, &after, intent)
 }
 
 // Whether a document has all that there is after a commit, so that a way leads back from it to the document after.
