@@ -85,10 +85,17 @@ fn row_leads(alloc: Global, schema: &Schema, doc: &mut Doc, row: &Parts) -> Resu
     both_lead(alloc, schema, doc, &mut after, &first, row)
 }
 
+// Whether a row's edits lead to its tree, in a transaction and joined.
+fn all_lead(alloc: Global, schema: &Schema, doc: &mut Doc, row: &Parts) -> Result<bool, Fail>
+    requires { IsSoundInForm (document_of doc.old) }
+{
+    Ok(edits_lead(alloc, schema, doc, row)? && row_leads(alloc, schema, doc, row)?)
+}
+
 impl Row for Parts {
     fn is_so(&self, alloc: Global, schema: &Schema) -> Result<bool, Fail> {
         let mut doc = opened(alloc, schema, self.tree)?;
-        Ok(edits_lead(alloc, schema, &doc, self)? && row_leads(alloc, schema, &mut doc, self)?)
+        all_lead(alloc, schema, &mut doc, self)
     }
 
     fn told(&self) -> &'static str {

@@ -103,26 +103,29 @@ fn pair_leads(
     leads(alloc, &mut head, second, row)
 }
 
-// Whether of each of two commits the way back is the one between the documents.
-fn both_agree(alloc: Global, doc: &Doc, first: &Intent, second: &Intent) -> Result<bool, Fail>
-    requires { IsSoundInForm (document_of doc.now) }
-{
-    Ok(ways_agree(alloc, doc, first)? && ways_agree(alloc, doc, second)?)
-}
-
 fn row_leads(alloc: Global, schema: &Schema, doc: &Doc, row: &Pair) -> Result<bool, Fail>
     requires { IsSoundInForm (document_of doc.now) }
 {
     let first = commit(alloc, schema, doc, 1, row.first)?;
     let second = commit(alloc, schema, doc, 2, row.second)?;
-    let agree = both_agree(alloc, doc, &first, &second)?;
-    Ok(pair_leads(alloc, doc, first, &second, row)? && agree)
+    pair_leads(alloc, doc, first, &second, row)
+}
+
+// Whether a row's edits are undone, and both ways back over each are one.
+fn is_undone(alloc: Global, schema: &Schema, doc: &Doc, row: &Pair) -> Result<bool, Fail>
+    requires { IsSoundInForm (document_of doc.now) }
+{
+    Ok(
+        row_leads(alloc, schema, doc, row)?
+            && ways_agree(alloc, schema, doc, row.first)?
+            && ways_agree(alloc, schema, doc, row.second)?,
+    )
 }
 
 impl Row for Pair {
     fn is_so(&self, alloc: Global, schema: &Schema) -> Result<bool, Fail> {
         let doc = opened(alloc, schema, self.tree)?;
-        row_leads(alloc, schema, &doc, self)
+        is_undone(alloc, schema, &doc, self)
     }
 
     fn told(&self) -> &'static str {

@@ -96,16 +96,25 @@ fn is_between(alloc: Global, before: &Doc, after: &Doc, way: &Intent) -> Result<
     }
 }
 
-/// Whether both ways back over a commit are one.
-pub fn ways_agree(alloc: Global, doc: &Doc, intent: &Intent) -> Result<bool, Fail>
+// Whether the way back over a commit is the one between the documents before and after it.
+fn is_over(alloc: Global, before: &Doc, after: &Doc, intent: &Intent) -> Result<bool, Fail>
+    requires before { IsSoundInForm (document_of before.now) }
+    requires after { IsSoundInForm (document_of after.now) }
+    requires fits { Fits (document_of before.now) intent.now }
+{
+    let way = over(alloc, before, intent)?;
+    is_between(alloc, before, after, &way)
+}
+
+// Whether both ways back over a commit are one.
+fn are_one(alloc: Global, doc: &Doc, intent: &Intent) -> Result<bool, Fail>
     requires { IsSoundInForm (document_of doc.now) }
 {
     if !doc.fits(intent) {
         return Err(Fail::from("does not fit"));
     }
-    let way = over(alloc, doc, intent)?;
     let after = after(alloc, doc, intent)?;
-    is_between(alloc, doc, &after, &way)
+    is_over(alloc, doc, &after, intent)
 }
 
 // Whether a document has all that there is after a commit, so that a way leads back from it to the document after.
@@ -116,18 +125,34 @@ fn keeps_all(alloc: Global, doc: &Doc, intent: &Intent) -> Result<bool, Fail>
     Ok(between(alloc, &after, doc)?.is_some())
 }
 
-// Whether both hold of a commit.
-fn leads_back(alloc: Global, doc: &Doc, intent: &Intent, keeps: bool) -> Result<bool, Fail>
+/// Whether both ways back over the commit of a case are one.
+pub fn ways_agree(alloc: Global, schema: &Schema, doc: &Doc, case: Case) -> Result<bool, Fail>
     requires { IsSoundInForm (document_of doc.now) }
 {
-    Ok(ways_agree(alloc, doc, intent)? && keeps_all(alloc, doc, intent)? == keeps)
+    let intent = commit(alloc, schema, doc, 1, case)?;
+    are_one(alloc, doc, &intent)
+}
+
+// Whether a document has all that there is after the commit of a case.
+fn keeps_all_of(alloc: Global, schema: &Schema, doc: &Doc, case: Case) -> Result<bool, Fail>
+    requires { IsSoundInForm (document_of doc.now) }
+{
+    let intent = commit(alloc, schema, doc, 1, case)?;
+    keeps_all(alloc, doc, &intent)
+}
+
+// Whether both ways back over the commit of a row are one, and there is one from before the commit as the row says.
+fn leads_back(alloc: Global, schema: &Schema, doc: &Doc, row: &Edited) -> Result<bool, Fail>
+    requires { IsSoundInForm (document_of doc.now) }
+{
+    let keeps = keeps_all_of(alloc, schema, doc, row.case)?;
+    Ok(ways_agree(alloc, schema, doc, row.case)? && keeps == row.keeps_all)
 }
 
 impl Row for Edited {
     fn is_so(&self, alloc: Global, schema: &Schema) -> Result<bool, Fail> {
         let doc = opened(alloc, schema, self.tree)?;
-        let intent = commit(alloc, schema, &doc, 1, self.case)?;
-        leads_back(alloc, &doc, &intent, self.keeps_all)
+        leads_back(alloc, schema, &doc, self)
     }
 
     fn told(&self) -> &'static str {
