@@ -1,3 +1,4 @@
 pub mod Relation
 pub mod RelationText
+pub mod SchemaLine
 pub mod inside

@@ -27,8 +27,11 @@ abbrev pub view_data : List ℕ → Data
 view_data word = object (member (codes "ok") (string (codes "compat")) (member (codes "view") (string word) no_members))
 
 -- the same with the causes
+abbrev pub refusal_data : Data → Data
+refusal_data causes = object (member (codes "causes") causes (member (codes "ok") (string (codes "compat")) (member (codes "view") (string (codes "Refuse")) no_members)))
+
 abbrev pub refuse_data : List Cause → Data
-refuse_data causes = object (member (codes "causes") (causes_data causes) (member (codes "ok") (string (codes "compat")) (member (codes "view") (string (codes "Refuse")) no_members)))
+refuse_data causes = refusal_data (causes_data causes)
 
 abbrev pub relation_data : Relation → Data
 relation_data relation.Equal = view_data (codes "Equal")

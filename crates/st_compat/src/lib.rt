@@ -3,10 +3,12 @@
 
 mod forms;
 mod laws;
+mod line;
 mod reached;
 mod relation;
 mod text;
 
 pub use laws::{equal_reads, reads_allows, related_reads, wider_reads};
+pub use line::{further_cause, read_schema_line};
 pub use relation::{Cause, Relation, Why, compat, reads};
 pub use text::relation_line;

@@ -2,7 +2,7 @@
 ghost use Rattle.std.specs.Prelude.{◌≡◌, ◌++◌, ◌∷◌, [], IfOk};
 ghost use Rattle.serde_json.specs.View.{view};
 ghost use Rattle.serde_json.specs.Written.{compact_text};
-ghost use Rattle.st_compat.specs.RelationText.{why_word, cause_data, causes_data, view_data, refuse_data, relation_line};
+ghost use Rattle.st_compat.specs.RelationText.{why_word, cause_data, causes_data, view_data, refusal_data, refuse_data, relation_line};
 
 use crate::relation::{Cause, Relation, Why};
 use serde_json::{Value, json};
@@ -51,6 +51,13 @@ fn refuse_value(alloc: Global, causes: &List<Cause>) -> Result<Value, AllocError
     ensures { IfOk result (λ v. view v ≡ refuse_data causes.now) }
 {
     let causes = causes_value(alloc, causes)?;
+    refusal_value(alloc, causes)
+}
+
+// The answer with the value of the causes.
+fn refusal_value(alloc: Global, causes: Value) -> Result<Value, AllocError>
+    ensures { IfOk result (λ v. view v ≡ refusal_data (view causes)) }
+{
     json!(in alloc; {"causes": causes, "ok": "compat", "view": "Refuse"})
 }
 
