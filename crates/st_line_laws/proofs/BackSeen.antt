@@ -1,5 +1,5 @@
 -- The way back, directly after the document that it leads back from: it is sound there, and shows the earlier tree.
-use Rattle.std.proofs.Common.{◌≡◌, ◌↔◌, ℕ, zero, suc, Bool, true, false, cond, List, [], ◌∷◌, ◌++◌, map, Option, Some, None, IsSome, is_some, refl, sym, ap, ◌∙◌, subst, inl, inr, option_and_then}
+use Rattle.std.proofs.Common.{◌≡◌, ◌↔◌, ℕ, zero, suc, Bool, true, false, cond, List, [], ◌∷◌, ◌++◌, map, Option, Some, None, IsSome, refl, sym, ap, ◌∙◌, subst, inl, inr, option_and_then}
 use Rattle.std.specs.Option.{option_map_or}
 use Rattle.serde_json.specs.Data.{Data}
 use Rattle.st_ids.specs.Listing.{AreDistinct, Has}
@@ -15,7 +15,7 @@ use Rattle.st_marks.specs.declared.places.Spot.{Spot}
 use Rattle.st_marks.specs.declared.verdicts.Verdict.{Verdict}
 use Rattle.st_marks.specs.Back.{IsBack, is_in, place_back, retreat}
 use Rattle.st_marks.specs.CarryOut.{full}
-use Rattle.st_marks.specs.Document.{Document, IsAncestor, IsSoundInForm, NodeType, above, climb, content, is_cell, node_of, owned_cell, revs, slot}
+use Rattle.st_marks.specs.Document.{Document, IsAncestor, IsSoundInForm, NodeType, above, climb, is_cell, node_of, revs, slot}
 use Rattle.st_marks.specs.Extends.{IsExtendedBy, no_more, item_gained, item_kept}
 use Rattle.st_marks.specs.LiveTree.{IsTreeText, Shows, owners_shown}
 use Rattle.st_marks.specs.Verdict.{HasBase, IsVerdict}
@@ -25,7 +25,7 @@ use Rattle.st_marks.proofs.Members.{all-has}
 use Rattle.st_marks.proofs.NewRows.{KeepsOrder}
 use Rattle.st_marks.proofs.Retreat.{back_old, retreat_sound}
 use Rattle.st_marks.proofs.WayBack.{leads_back}
-use Rattle.st_edit_laws.specs.Alike.{AreAlikeAt, AreAlikeFrom, IsFrom}
+use Rattle.st_edit_laws.specs.Alike.{AreAlikeAt}
 use Rattle.st_edit_laws.proofs.Alike.{same_below}
 use Rattle.st_edit_laws.proofs.Beneath.{not_round}
 

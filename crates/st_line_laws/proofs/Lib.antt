@@ -1,1 +1,5 @@
 pub mod BackSeen
+pub mod Revealing
+pub mod Meant
+pub mod Transacted
+pub mod Undone

@@ -3,4 +3,7 @@
 
 mod laws;
 
-pub use laws::{undoing_is_seen, ways_back_are_seen};
+pub use laws::{
+    last_undoing_is_seen, transactions_are_seen, transactions_are_sound, undoing_is_seen,
+    ways_back_are_seen,
+};
