@@ -1,0 +1,4 @@
+pub mod Marking
+pub mod Numbers
+pub mod Passing
+pub mod Reading
