@@ -1,0 +1,4 @@
+pub mod Parts
+pub mod Carrying
+pub mod Voiding
+pub mod Schemas
