@@ -22,10 +22,10 @@ use Rattle.st_part_laws.specs.Schemas.{entries_after, is_last_entry, schemas_aft
 
 -- ## The last entry
 
-last-is : (entries : List SchemaEntry) (r : Rev) → last_of (revs entries) ≡ Some r → is_last_entry entries r ≡ true
+pub last-is : (entries : List SchemaEntry) (r : Rev) → last_of (revs entries) ≡ Some r → is_last_entry entries r ≡ true
 last-is entries r e = rw e (same_rev-itself r)
 
-is-last : (entries : List SchemaEntry) (r : Rev) → is_last_entry entries r ≡ true → last_of (revs entries) ≡ Some r
+pub is-last : (entries : List SchemaEntry) (r : Rev) → is_last_entry entries r ≡ true → last_of (revs entries) ≡ Some r
 is-last entries r e = go (last_of (revs entries)) e
   where
     go : (o : Option Rev) → option_map_or (λ s. same_rev s r) o false ≡ true → o ≡ Some r

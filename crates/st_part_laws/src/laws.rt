@@ -1,18 +1,24 @@
 //! Laws about parts of documents and schemas in effect: each is the contract of a function that does nothing.
-ghost use Rattle.std.specs.Prelude.{◌≡◌, ◌++◌, Bool, List, true, false};
+ghost use Rattle.std.specs.Prelude.{◌≡◌, ◌++◌, ◌∷◌, Bool, List, [], true, false};
 ghost use Rattle.std.specs.List.{AllByRecursion};
-ghost use Rattle.st_ids.specs.Root.{root};
+ghost use Rattle.st_ids.specs.Listing.{Has};
+ghost use Rattle.st_ids.specs.Root.{opening, root};
 ghost use Rattle.st_ids.specs.declared.names.FieldId.{FieldId};
 ghost use Rattle.st_ids.specs.declared.names.NodeId.{NodeId};
+ghost use Rattle.st_ids.specs.declared.names.Rev.{Rev};
 ghost use Rattle.st_marks.specs.declared.intents.Intent.{Intent};
 ghost use Rattle.st_marks.specs.declared.schemas.SchemaEntry.{SchemaEntry};
 ghost use Rattle.st_marks.specs.declared.verdicts.Verdict.{Verdict};
+ghost use Rattle.st_marks.specs.Back.{IsBack};
 ghost use Rattle.st_marks.specs.CarryOut.{full, void_data};
-ghost use Rattle.st_marks.specs.Document.{Document, IsSoundInForm};
+ghost use Rattle.st_marks.specs.Document.{Document, IsSoundInForm, revs};
+ghost use Rattle.st_marks.specs.Extends.{IsExtendedBy};
 ghost use Rattle.st_marks.specs.Intent.{Fits, IsIntent, is_new};
 ghost use Rattle.st_marks.specs.Run.{Run};
 ghost use Rattle.st_marks.specs.Verdict.{IsVerdict, carried_document};
-ghost use Rattle.st_part_laws.specs.Parts.{IsClosedBy, NamesWithin, part_by};
+ghost use Rattle.st_log_laws.specs.Names.{HasNames};
+ghost use Rattle.st_part_laws.specs.Chains.{AreInLine, TellsChain};
+ghost use Rattle.st_part_laws.specs.Parts.{IsClosedBy, NamesWithin, is_of_schemas, part_by};
 ghost use Rattle.st_part_laws.specs.Schemas.{entries_after, schemas_after};
 
 /// The part of a sound document is sound, where it is closed and has the root.
@@ -50,4 +56,39 @@ pub fn schemas_go_by_commits()
         → E.schemas ≡ schemas_after D.schemas Ns }
     ensures then { (entries : List SchemaEntry) (Ns Ms : List Intent)
         → schemas_after entries (Ns ++ Ms) ≡ schemas_after (schemas_after entries Ns) Ms }
+{}
+
+/// Where each change of schema tells its line of ancestors, the entries in effect are such a line: from the opening's entry
+/// on, and after any commits.
+pub fn entries_are_in_line()
+    ensures opening { (chain : Rev → List Rev) (entries : List SchemaEntry) → revs entries ≡ opening ∷ []
+        → chain opening ≡ opening ∷ [] → AreInLine chain entries }
+    ensures after { (chain : Rev → List Rev) (entries : List SchemaEntry) (Ns : List Intent)
+        → AllByRecursion (TellsChain chain) Ns → AreInLine chain entries → AreInLine chain (schemas_after entries Ns) }
+    ensures run { (chain : Rev → List Rev) (D E : Document) (Ns : List Intent) → AllByRecursion IsIntent Ns
+        → AllByRecursion (TellsChain chain) Ns → Run D Ns E → AreInLine chain D.schemas → AreInLine chain E.schemas }
+{}
+
+/// An intent that names nodes of its schema's line alone, where its author made it, does so in each later document, whatever
+/// came between; and where its schema is in effect, it names nodes of the part in effect alone.
+pub fn commits_are_within()
+    ensures later { (p : NodeId → Bool) (D E : Document) (N : Intent) → HasNames D E → IsSoundInForm D → IsSoundInForm E
+        → Fits D N → Fits E N → NamesWithin p D N → NamesWithin p E N }
+    ensures in_effect { (under : Rev → Rev) (chain : Rev → List Rev) (D : Document) (N : Intent) → AreInLine chain D.schemas
+        → Has (revs D.schemas) N.under → NamesWithin (is_of_schemas under (chain N.under)) D N
+        → NamesWithin (is_of_schemas under (revs D.schemas)) D N }
+    ensures more { (p q : NodeId → Bool) (D : Document) (N : Intent) → ((n : NodeId) → p n ≡ true → q n ≡ true)
+        → NamesWithin p D N → NamesWithin q D N }
+{}
+
+/// The way back over an intent that names nodes of a part alone names nodes of the part alone. A way back that does so is
+/// the way back between the parts, and so the one over the intent carried out in the part.
+pub fn parts_go_back()
+    ensures within { (p : NodeId → Bool) (D : Document) (N : Intent) (rev under : Rev) (B : Intent) → IsExtendedBy D (full D N)
+        → IsClosedBy p D → Fits D N → NamesWithin p D N → IsBack D (full D N) rev under B → NamesWithin p (full D N) B }
+    ensures parts { (p : NodeId → Bool) (D E : Document) (rev under : Rev) (B : Intent) → IsClosedBy p E → NamesWithin p E B
+        → IsBack D E rev under B → IsBack (part_by p D) (part_by p E) rev under B }
+    ensures carried { (p : NodeId → Bool) (D : Document) (N : Intent) (rev under : Rev) (B : Intent) → IsExtendedBy D (full D N)
+        → IsClosedBy p D → p root ≡ true → Fits D N → NamesWithin p D N → IsBack D (full D N) rev under B
+        → IsBack (part_by p D) (full (part_by p D) N) rev under B }
 {}

@@ -4,4 +4,7 @@
 
 mod laws;
 
-pub use laws::{parts_are_carried, parts_are_sound, schemas_go_by_commits};
+pub use laws::{
+    commits_are_within, entries_are_in_line, parts_are_carried, parts_are_sound, parts_go_back,
+    schemas_go_by_commits,
+};
