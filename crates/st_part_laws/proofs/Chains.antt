@@ -25,6 +25,21 @@ last_or-append : {A : Type 0} (d : Option A) (xs : List A) (x : A) → last_or d
 last_or-append d [] x = refl
 last_or-append d (y ∷ ys) x = last_or-append (Some y) ys x
 
+last_or-has : {A : Type 0} (d : Option A) (xs : List A) (x : A) → last_or d xs ≡ Some x → (d ≡ Some x) ⊎ Has xs x
+last_or-has d [] x e = inl e
+last_or-has {A} d (y ∷ ys) x e = later (last_or-has (Some y) ys x e)
+  where
+    later : (Some y ≡ Some x) ⊎ Has ys x → (d ≡ Some x) ⊎ Has (y ∷ ys) x
+    later (inl q) = inr (inl (one_some y x q))
+    later (inr h) = inr (inr h)
+
+pub last-has : {A : Type 0} (xs : List A) (x : A) → last_of xs ≡ Some x → Has xs x
+last-has {A} xs x e = go (last_or-has None xs x e)
+  where
+    go : (None ≡ Some x) ⊎ Has xs x → Has xs x
+    go (inl q) = let bad : None ≡ Some x = q in cc
+    go (inr h) = h
+
 -- a list of revisions that is in line, as `AreInLine` says of entries
 record InLine (chain : Rev → List Rev) (rs : List Rev) : Type 0 where
   last : (r : Rev) → last_of rs ≡ Some r → rs ≡ chain r

@@ -5,3 +5,4 @@ pub mod Schemas
 pub mod Within
 pub mod Chains
 pub mod Ways
+pub mod Told

@@ -1,5 +1,5 @@
 //! Laws about parts of documents and schemas in effect: each is the contract of a function that does nothing.
-ghost use Rattle.std.specs.Prelude.{◌≡◌, ◌++◌, ◌∷◌, Bool, List, [], true, false};
+ghost use Rattle.std.specs.Prelude.{◌≡◌, ◌≢◌, ◌++◌, ◌∷◌, Bool, List, [], true, false};
 ghost use Rattle.std.specs.List.{AllByRecursion};
 ghost use Rattle.st_ids.specs.Listing.{Has};
 ghost use Rattle.st_ids.specs.Root.{opening, root};
@@ -16,9 +16,9 @@ ghost use Rattle.st_marks.specs.Extends.{IsExtendedBy};
 ghost use Rattle.st_marks.specs.Intent.{Fits, IsIntent, is_new};
 ghost use Rattle.st_marks.specs.Run.{Run};
 ghost use Rattle.st_marks.specs.Verdict.{IsVerdict, carried_document};
-ghost use Rattle.st_log_laws.specs.Names.{HasNames};
-ghost use Rattle.st_part_laws.specs.Chains.{AreInLine, TellsChain};
-ghost use Rattle.st_part_laws.specs.Parts.{IsClosedBy, NamesWithin, is_of_schemas, part_by};
+ghost use Rattle.st_log_laws.specs.Names.{HasNames, IsMadeUnder};
+ghost use Rattle.st_part_laws.specs.Chains.{AreInLine, TellsChain, with_chain, with_under};
+ghost use Rattle.st_part_laws.specs.Parts.{IsClosedBy, NamesWithin, is_of_schemas, part_by, part_of_schemas};
 ghost use Rattle.st_part_laws.specs.Schemas.{entries_after, schemas_after};
 
 /// The part of a sound document is sound, where it is closed and has the root.
@@ -91,4 +91,23 @@ pub fn parts_go_back()
     ensures carried { (p : NodeId → Bool) (D : Document) (N : Intent) (rev under : Rev) (B : Intent) → IsExtendedBy D (full D N)
         → IsClosedBy p D → p root ≡ true → Fits D N → NamesWithin p D N → IsBack D (full D N) rev under B
         → IsBack (part_by p D) (full (part_by p D) N) rev under B }
+{}
+
+/// A new commit's schema, and a new schema's line of ancestors, can be told beside what is told: nothing of documents and
+/// commits that don't have its revision changes by that.
+pub fn schemas_can_be_told()
+    ensures under { (under : Rev → Rev) (N : Intent) → with_under under N N.rev ≡ N.under }
+    ensures chain { (chain : Rev → List Rev) (N : Intent) → N.under ≢ N.rev → TellsChain (with_chain chain N) N }
+    ensures others { (chain : Rev → List Rev) (N M : Intent) → M.rev ≢ N.rev → M.under ≢ N.rev
+        → TellsChain chain M → TellsChain (with_chain chain N) M }
+    ensures entries { (chain : Rev → List Rev) (N : Intent) (entries : List SchemaEntry) → (Has (revs entries) N.rev → ⊥)
+        → AreInLine chain entries → AreInLine (with_chain chain N) entries }
+    ensures parts { (under : Rev → Rev) (N : Intent) (rs ss : List Rev) (D : Document) → IsSoundInForm D → IsMadeUnder ss D
+        → (Has ss N.rev → ⊥) → part_of_schemas (with_under under N) rs D ≡ part_of_schemas under rs D }
+    ensures closed { (under : Rev → Rev) (N : Intent) (rs ss : List Rev) (D : Document) → IsSoundInForm D → IsMadeUnder ss D
+        → (Has ss N.rev → ⊥) → IsClosedBy (is_of_schemas under rs) D
+        → IsClosedBy (is_of_schemas (with_under under N) rs) D }
+    ensures intents { (under : Rev → Rev) (N : Intent) (rs ss : List Rev) (D : Document) → IsSoundInForm D → IsMadeUnder ss D
+        → (Has ss N.rev → ⊥) → (M : Intent) → M.rev ≢ N.rev → Fits D M → NamesWithin (is_of_schemas under rs) D M
+        → NamesWithin (is_of_schemas (with_under under N) rs) D M }
 {}
