@@ -6,3 +6,4 @@ pub mod Within
 pub mod Chains
 pub mod Ways
 pub mod Told
+pub mod Closed

@@ -47,7 +47,7 @@ module _ (D : Document) (N : Intent) where
   void_keeps None = refl
   void_keeps (Some t) = refl
 
-  kept_carried : N.schema ≡ None → (v : Verdict) → (carried_document v D N).schemas ≡ D.schemas
+  pub kept_carried : N.schema ≡ None → (v : Verdict) → (carried_document v D N).schemas ≡ D.schemas
   kept_carried e Verdict.Sound = rw e refl
   kept_carried e (Verdict.Need n) = void_keeps N.schema
   kept_carried e (Verdict.Cycle n) = void_keeps N.schema
@@ -61,13 +61,13 @@ module _ (D : Document) (N : Intent) where
       go false = refl
 
   -- of one that changes the schema: it needs nothing and puts nothing
-  changed_alone : (text : List ℕ) → N.schema ≡ Some text → IsIntent N → (N.need ≡ []) × (N.put ≡ [])
+  pub changed_alone : (text : List ℕ) → N.schema ≡ Some text → IsIntent N → (N.need ≡ []) × (N.put ≡ [])
   changed_alone text e w =
       let a : IfSome (Some text) (λ _. (N.new ≡ []) × (N.groups ≡ []) × (N.clear ≡ []) × (N.put ≡ []) × (N.need ≡ [])) =
       subst (λ o. IfSome o (λ (_ : List ℕ). (N.new ≡ []) × (N.groups ≡ []) × (N.clear ≡ []) × (N.put ≡ []) × (N.need ≡ []))) e w.schema_alone in
       (a.4, a.3)
 
-  based : (text : List ℕ) → N.schema ≡ Some text → IsBaseInEffect D N → last_of (revs D.schemas) ≡ Some N.under
+  pub based : (text : List ℕ) → N.schema ≡ Some text → IsBaseInEffect D N → last_of (revs D.schemas) ≡ Some N.under
   based text e h = subst (λ o. HasBase D.schemas o N.under) e h
 
   baseless : (text : List ℕ) → N.schema ≡ Some text → (IsBaseInEffect D N → ⊥) → last_of (revs D.schemas) ≡ Some N.under → ⊥

@@ -66,3 +66,7 @@ part_of_schemas under rs D = part_by (is_of_schemas under rs) D
 -- the part that was made under a schema in effect
 abbrev pub part_in_effect : (Rev → Rev) → Document → Document
 part_in_effect under D = part_of_schemas under (revs D.schemas) D
+
+-- a node that stands somewhere was made under a schema in effect exactly where the node was in whose field it stands
+abbrev pub IsClosedInEffect : (Rev → Rev) → Document → Type 0
+IsClosedInEffect under D = IsClosedBy (is_of_schemas under (revs D.schemas)) D

@@ -1,5 +1,5 @@
 //! Laws about parts of documents and schemas in effect: each is the contract of a function that does nothing.
-ghost use Rattle.std.specs.Prelude.{◌≡◌, ◌≢◌, ◌++◌, ◌∷◌, Bool, List, [], true, false};
+ghost use Rattle.std.specs.Prelude.{◌≡◌, ◌≢◌, ◌++◌, ◌∷◌, Bool, List, [], IsSome, true, false};
 ghost use Rattle.std.specs.List.{AllByRecursion};
 ghost use Rattle.st_ids.specs.Listing.{Has};
 ghost use Rattle.st_ids.specs.Root.{opening, root};
@@ -11,14 +11,16 @@ ghost use Rattle.st_marks.specs.declared.schemas.SchemaEntry.{SchemaEntry};
 ghost use Rattle.st_marks.specs.declared.verdicts.Verdict.{Verdict};
 ghost use Rattle.st_marks.specs.Back.{IsBack};
 ghost use Rattle.st_marks.specs.CarryOut.{full, void_data};
-ghost use Rattle.st_marks.specs.Document.{Document, IsSoundInForm, revs};
+ghost use Rattle.st_marks.specs.Document.{Document, IsSoundInForm, HasShortRows, revs};
 ghost use Rattle.st_marks.specs.Extends.{IsExtendedBy};
 ghost use Rattle.st_marks.specs.Intent.{Fits, IsIntent, is_new};
 ghost use Rattle.st_marks.specs.Run.{Run};
 ghost use Rattle.st_marks.specs.Verdict.{IsVerdict, carried_document};
 ghost use Rattle.st_log_laws.specs.Names.{HasNames, IsMadeUnder};
 ghost use Rattle.st_part_laws.specs.Chains.{AreInLine, TellsChain, with_chain, with_under};
-ghost use Rattle.st_part_laws.specs.Parts.{IsClosedBy, NamesWithin, is_of_schemas, part_by, part_of_schemas};
+ghost use Rattle.st_part_laws.specs.Parts.{IsClosedBy, IsClosedInEffect, NamesWithin, is_of_schemas, part_by, part_of_schemas};
+ghost use Rattle.st_log_laws.specs.Turns.{FitInTurn};
+ghost use Rattle.st_part_laws.specs.Turns.{ComesFirst, NameInTurn};
 ghost use Rattle.st_part_laws.specs.Schemas.{entries_after, schemas_after};
 
 /// The part of a sound document is sound, where it is closed and has the root.
@@ -110,4 +112,18 @@ pub fn schemas_can_be_told()
     ensures intents { (under : Rev → Rev) (N : Intent) (rs ss : List Rev) (D : Document) → IsSoundInForm D → IsMadeUnder ss D
         → (Has ss N.rev → ⊥) → (M : Intent) → M.rev ≢ N.rev → Fits D M → NamesWithin (is_of_schemas under rs) D M
         → NamesWithin (is_of_schemas (with_under under N) rs) D M }
+{}
+
+/// The part in effect stays closed: after an intent that names nodes of its schema's line alone, whatever its verdict, and
+/// after a list of them. A change of schema brings no node into effect that was there before it.
+pub fn parts_stay_closed()
+    ensures void { (p : NodeId → Bool) (D : Document) (N : Intent)
+        → ((m n : NodeId) → is_new N m ≡ true → is_new N n ≡ true → p m ≡ p n) → IsClosedBy p D → IsClosedBy p (void_data D N) }
+    ensures one { (under : Rev → Rev) (chain : Rev → List Rev) (D : Document) (N : Intent) → IsSoundInForm D → Fits D N
+        → HasShortRows (full D N) → under opening ≡ opening → AreInLine chain D.schemas
+        → NamesWithin (is_of_schemas under (chain N.under)) D N → ComesFirst under D N → IsClosedInEffect under D
+        → (v : Verdict) → IsVerdict D N v → IsClosedInEffect under (carried_document v D N) }
+    ensures run { (under : Rev → Rev) (chain : Rev → List Rev) (D E : Document) (Ns : List Intent) → IsSoundInForm D
+        → FitInTurn D Ns → under opening ≡ opening → AreInLine chain D.schemas → NameInTurn under chain D Ns
+        → IsClosedInEffect under D → Run D Ns E → IsClosedInEffect under E }
 {}

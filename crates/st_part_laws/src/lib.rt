@@ -6,5 +6,5 @@ mod laws;
 
 pub use laws::{
     commits_are_within, entries_are_in_line, parts_are_carried, parts_are_sound, parts_go_back,
-    schemas_can_be_told, schemas_go_by_commits,
+    parts_stay_closed, schemas_can_be_told, schemas_go_by_commits,
 };
