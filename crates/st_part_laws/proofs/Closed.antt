@@ -1,5 +1,5 @@
 -- The part in effect stays closed.
-use Rattle.std.proofs.Common.{◌≡◌, ◌≢◌, ℕ, Bool, true, false, ◌&&◌, ◌||◌, List, [], ◌∷◌, ◌++◌, map, Option, Some, None, IsSome, IsTrue, IfSome, MatchOption, refl, sym, ap, ◌∙◌, subst, inl}
+use Rattle.std.proofs.Common.{◌≡◌, ◌≢◌, ℕ, Bool, true, false, ◌&&◌, ◌||◌, List, [], ◌∷◌, ◌++◌, map, Option, Some, None, IsSome, IsTrue, IfSome, MatchOption, refl, sym, ap, ◌∙◌, subst, inl, inr, ◌⊎◌}
 use Rattle.std.specs.List.{AllByRecursion, list_any}
 use Rattle.std.specs.Option.{option_or, option_map_or}
 use Rattle.std.specs.Prelude.{if◌then◌else◌}
@@ -26,6 +26,8 @@ use Rattle.st_marks.specs.Run.{Run, done, next}
 use Rattle.st_marks.specs.Verdict.{HasBase, IsBaseInEffect, IsVerdict, carried_document}
 use Rattle.st_marks.proofs.Members.{has-any}
 use Rattle.st_marks.proofs.OneVerdict.{carried_extends}
+use Rattle.st_marks.proofs.Climb.{above_known, placed_known}
+use Rattle.st_log_laws.specs.Names.{IsMadeUnder}
 use Rattle.st_log_laws.specs.Turns.{FitInTurn}
 use Rattle.st_log_laws.proofs.Names.{new_node_rev}
 use Rattle.st_part_laws.specs.Chains.{AreInLine, TellsChain}
@@ -134,3 +136,15 @@ closed_in_turn under chain (next {D} {N = N} v a r) s f told line names closed =
     closed_in_turn under chain r (carried_extends D N v s f.0 f.1 a).after (f.2 v a) told
     (subst (AreInLine chain) (sym (entries_carried D N f.0.itself v a)) (line_after chain D.schemas N names.1 line)) (names.3 v a)
     (closed_after under chain D N s f.0 f.1 told line names.0 names.2 closed v a)
+
+-- ## At the opening
+
+pub closed_at_first : (under : Rev → Rev) (D : Document) → IsSoundInForm D → IsMadeUnder (opening ∷ []) D → IsClosedInEffect under D
+closed_at_first under D s made m n e =
+    let high : Has (opening ∷ []) n.0.rev = made.nodes n (above_known D s m n e) in
+    let low : Has (opening ∷ []) m.0.rev = made.nodes m (placed_known D s m (λ h. (let bad : None ≡ Some n = ap node_of (sym h) ∙ e in cc))) in
+    ap (λ r. list_any (λ s. same_rev s (under r)) (revs D.schemas)) (sym (only m.0.rev low) ∙ only n.0.rev high)
+  where
+    only : (r : Rev) → Has (opening ∷ []) r → opening ≡ r
+    only r (inl q) = q
+    only r (inr h) = absurd h

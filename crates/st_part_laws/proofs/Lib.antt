@@ -7,3 +7,4 @@ pub mod Chains
 pub mod Ways
 pub mod Told
 pub mod Closed
+pub mod Joins

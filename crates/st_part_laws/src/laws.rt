@@ -14,6 +14,7 @@ ghost use Rattle.st_marks.specs.CarryOut.{full, void_data};
 ghost use Rattle.st_marks.specs.Document.{Document, IsSoundInForm, HasShortRows, revs};
 ghost use Rattle.st_marks.specs.Extends.{IsExtendedBy};
 ghost use Rattle.st_marks.specs.Intent.{Fits, IsIntent, is_new};
+ghost use Rattle.st_marks.specs.Join.{AreParts, IsJoin};
 ghost use Rattle.st_marks.specs.Run.{Run};
 ghost use Rattle.st_marks.specs.Verdict.{IsVerdict, carried_document};
 ghost use Rattle.st_log_laws.specs.Names.{HasNames, IsMadeUnder};
@@ -72,7 +73,8 @@ pub fn entries_are_in_line()
 {}
 
 /// An intent that names nodes of its schema's line alone, where its author made it, does so in each later document, whatever
-/// came between; and where its schema is in effect, it names nodes of the part in effect alone.
+/// came between; and where its schema is in effect, it names nodes of the part in effect alone. Of two parts of a commit that
+/// do so the join does.
 pub fn commits_are_within()
     ensures later { (p : NodeId → Bool) (D E : Document) (N : Intent) → HasNames D E → IsSoundInForm D → IsSoundInForm E
         → Fits D N → Fits E N → NamesWithin p D N → NamesWithin p E N }
@@ -81,6 +83,8 @@ pub fn commits_are_within()
         → NamesWithin (is_of_schemas under (revs D.schemas)) D N }
     ensures more { (p q : NodeId → Bool) (D : Document) (N : Intent) → ((n : NodeId) → p n ≡ true → q n ≡ true)
         → NamesWithin p D N → NamesWithin q D N }
+    ensures joined { (p : NodeId → Bool) (D : Document) (N M J : Intent) → IsSoundInForm D → AreParts D N M → IsJoin N M J
+        → NamesWithin p D N → NamesWithin p (full D N) M → NamesWithin p D J }
 {}
 
 /// The way back over an intent that names nodes of a part alone names nodes of the part alone. A way back that does so is
@@ -114,9 +118,10 @@ pub fn schemas_can_be_told()
         → NamesWithin (is_of_schemas (with_under under N) rs) D M }
 {}
 
-/// The part in effect stays closed: after an intent that names nodes of its schema's line alone, whatever its verdict, and
+/// The part in effect is closed at the opening and stays so: after an intent that names nodes of its schema's line alone, whatever its verdict, and
 /// after a list of them. A change of schema brings no node into effect that was there before it.
 pub fn parts_stay_closed()
+    ensures opening { (under : Rev → Rev) (D : Document) → IsSoundInForm D → IsMadeUnder (opening ∷ []) D → IsClosedInEffect under D }
     ensures void { (p : NodeId → Bool) (D : Document) (N : Intent)
         → ((m n : NodeId) → is_new N m ≡ true → is_new N n ≡ true → p m ≡ p n) → IsClosedBy p D → IsClosedBy p (void_data D N) }
     ensures one { (under : Rev → Rev) (chain : Rev → List Rev) (D : Document) (N : Intent) → IsSoundInForm D → Fits D N
