@@ -1,7 +1,7 @@
 -- The part of the document after an intent is what the intent makes of the part, where what it names is in the part.
-use Rattle.std.proofs.Common.{◌≡◌, ◌≢◌, ◌⊎◌, Bool, true, false, ◌&&◌, List, [], ◌∷◌, ◌++◌, Option, Some, None, IsSome, IsTrue, IfSome, is_some, option_and_then, refl, sym, ap, ◌∙◌, subst, inl, inr}
+use Rattle.std.proofs.Common.{◌≡◌, Bool, true, false, List, [], ◌∷◌, ◌++◌, Option, Some, None, IsSome, IfSome, is_some, refl, sym, ap, ◌∙◌, subst, inl, inr}
 use mathlib.Core.Path.{fun_ext}
-use Rattle.std.specs.List.{AllByRecursion, filter}
+use Rattle.std.specs.List.{filter}
 use Rattle.std.specs.Option.{option_or, option_map_or}
 use Rattle.std.specs.Prelude.{if◌then◌else◌}
 use Rattle.std.proofs.lemmas.List.Elements.{filter-append}
@@ -15,10 +15,10 @@ use Rattle.st_marks.specs.declared.intents.Owned.{Owned}
 use Rattle.st_marks.specs.declared.intents.Put.{Put}
 use Rattle.st_marks.specs.declared.intents.To.{To}
 use Rattle.st_marks.specs.declared.places.Spot.{Spot}
-use Rattle.st_marks.specs.Document.{Document, NodeType, IsSoundInForm, above, node_of, owned_cell}
+use Rattle.st_marks.specs.Document.{Document, NodeType, IsSoundInForm, node_of, owned_cell}
 use Rattle.st_ids.specs.Root.{root}
-use Rattle.st_marks.specs.Intent.{Fits, IsIntent, IsKnown, Owns, cell_of, register_of, group_at, group_cells, is_new, new_type, put_of}
-use Rattle.st_marks.specs.CarryOut.{full, place_after, spot_of, unless_cleared, with_groups, with_names}
+use Rattle.st_marks.specs.Intent.{Fits, IsKnown, Owns, cell_of, register_of, group_at, group_cells, new_type, put_of}
+use Rattle.st_marks.specs.CarryOut.{full, place_after, spot_of, with_groups, with_names}
 use Rattle.st_lemmas.proofs.Bools.{true-false}
 use Rattle.st_ids.proofs.Shared.{no_members}
 use Rattle.st_marks.proofs.Members.{all-has, has-all, flat_map-has}

@@ -1,20 +1,18 @@
 -- The entries in effect stay a line of ancestors.
-use Rattle.std.proofs.Common.{◌≡◌, ℕ, Bool, true, false, List, [], ◌∷◌, ◌++◌, map, Option, Some, None, refl, sym, ap, ◌∙◌, subst, inl, inr, ◌⊎◌}
+use Rattle.std.proofs.Common.{◌≡◌, ℕ, Bool, true, false, List, [], ◌∷◌, ◌++◌, Option, Some, None, refl, sym, ap, ◌∙◌, subst, inl, inr, ◌⊎◌}
 use Rattle.std.specs.List.{AllByRecursion, last_or}
-use Rattle.std.specs.Prelude.{if◌then◌else◌, IfSome}
+use Rattle.std.specs.Prelude.{IfSome}
 use Rattle.st_lemmas.proofs.Lists.{map-append}
 use Rattle.st_lemmas.proofs.Options.{one_some}
 use Rattle.st_ids.specs.Listing.{Has}
 use Rattle.st_ids.specs.Root.{opening}
-use Rattle.st_ids.specs.declared.names.NodeId.{NodeId}
 use Rattle.st_ids.specs.declared.names.Rev.{Rev}
 use Rattle.st_marks.specs.declared.intents.Intent.{Intent}
 use Rattle.st_marks.specs.declared.schemas.SchemaEntry.{SchemaEntry}
-use Rattle.st_marks.specs.CarryOut.{with_schema}
 use Rattle.st_marks.specs.Document.{Document, last_of, revs}
 use Rattle.st_marks.specs.Intent.{IsIntent}
 use Rattle.st_marks.specs.Run.{Run}
-use Rattle.st_marks.proofs.Members.{append_left, append_right, has-append}
+use Rattle.st_marks.proofs.Members.{append_left, has-append}
 use Rattle.st_part_laws.specs.Chains.{AreInLine, TellsChain}
 use Rattle.st_part_laws.specs.Parts.{NamesWithin, is_of_schemas}
 use Rattle.st_part_laws.specs.Schemas.{entries_after, is_last_entry, schemas_after}

@@ -1,6 +1,6 @@
 -- The part in effect stays closed.
-use Rattle.std.proofs.Common.{◌≡◌, ◌≢◌, ℕ, Bool, true, false, ◌&&◌, ◌||◌, List, [], ◌∷◌, ◌++◌, map, Option, Some, None, IsSome, IsTrue, IfSome, MatchOption, refl, sym, ap, ◌∙◌, subst, inl, inr, ◌⊎◌}
-use Rattle.std.specs.List.{AllByRecursion, list_any}
+use Rattle.std.proofs.Common.{◌≡◌, ◌≢◌, ℕ, Bool, true, false, ◌&&◌, ◌||◌, List, [], ◌∷◌, ◌++◌, Option, Some, None, IsSome, IfSome, refl, sym, ap, ◌∙◌, subst, inl, inr}
+use Rattle.std.specs.List.{list_any}
 use Rattle.std.specs.Option.{option_or, option_map_or}
 use Rattle.std.specs.Prelude.{if◌then◌else◌}
 use Rattle.st_lemmas.proofs.Bools.{or-false}
@@ -19,24 +19,23 @@ use Rattle.st_marks.specs.declared.intents.To.{To}
 use Rattle.st_marks.specs.declared.schemas.SchemaEntry.{SchemaEntry}
 use Rattle.st_marks.specs.declared.verdicts.Verdict.{Verdict}
 use Rattle.st_marks.specs.CarryOut.{full, is_put_in_new, place_after, spot_of, void_data, with_names, with_schema}
-use Rattle.st_marks.specs.Document.{Document, HasShortRows, IsSoundInForm, first_of, last_of, node_of, revs}
+use Rattle.st_marks.specs.Document.{Document, HasShortRows, IsSoundInForm, first_of, node_of, revs}
 use Rattle.st_marks.specs.Extends.{IsExtendedBy}
 use Rattle.st_marks.specs.Intent.{Fits, IsIntent, is_new, new_type, put_of}
 use Rattle.st_marks.specs.Run.{Run, done, next}
-use Rattle.st_marks.specs.Verdict.{HasBase, IsBaseInEffect, IsVerdict, carried_document}
+use Rattle.st_marks.specs.Verdict.{HasBase, IsVerdict, carried_document}
 use Rattle.st_marks.proofs.Members.{has-any}
 use Rattle.st_marks.proofs.OneVerdict.{carried_extends}
 use Rattle.st_marks.proofs.Climb.{above_known, placed_known}
 use Rattle.st_log_laws.specs.Names.{IsMadeUnder}
 use Rattle.st_log_laws.specs.Turns.{FitInTurn}
 use Rattle.st_log_laws.proofs.Names.{new_node_rev}
-use Rattle.st_part_laws.specs.Chains.{AreInLine, TellsChain}
+use Rattle.st_part_laws.specs.Chains.{AreInLine}
 use Rattle.st_part_laws.specs.Parts.{IsClosedBy, IsClosedInEffect, NamesWithin, is_of_schemas}
-use Rattle.st_part_laws.specs.Schemas.{entries_after}
 use Rattle.st_part_laws.specs.Turns.{ComesFirst, NameInTurn}
 use Rattle.st_part_laws.proofs.Carrying.{stays_closed}
 use Rattle.st_part_laws.proofs.Chains.{last-has, line_after, named_in_effect}
-use Rattle.st_part_laws.proofs.Schemas.{based, changed_alone, entries_carried, kept_carried}
+use Rattle.st_part_laws.proofs.Schemas.{based, entries_carried, kept_carried}
 use Rattle.st_part_laws.proofs.Told.{same_closed}
 
 -- ## After a void intent

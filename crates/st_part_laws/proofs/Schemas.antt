@@ -3,7 +3,6 @@ use Rattle.std.proofs.Common.{◌≡◌, ℕ, Bool, true, false, List, [], ◌�
 use Rattle.std.specs.List.{AllByRecursion, find}
 use Rattle.std.specs.Option.{option_map, option_map_or}
 use Rattle.std.specs.Prelude.{if◌then◌else◌, IfSome}
-use Rattle.st_lemmas.proofs.Options.{one_some}
 use Rattle.st_ids.specs.Listing.{Has}
 use Rattle.st_ids.specs.Order.{same_node, same_rev}
 use Rattle.st_ids.specs.declared.names.NodeId.{NodeId}
@@ -13,9 +12,9 @@ use Rattle.st_marks.specs.declared.intents.Intent.{Intent}
 use Rattle.st_marks.specs.declared.intents.Put.{Put}
 use Rattle.st_marks.specs.declared.schemas.SchemaEntry.{SchemaEntry}
 use Rattle.st_marks.specs.declared.verdicts.Verdict.{Verdict}
-use Rattle.st_marks.specs.CarryOut.{full, void, void_data, with_schema}
+use Rattle.st_marks.specs.CarryOut.{void_data}
 use Rattle.st_marks.specs.Document.{Document, last_of, revs}
-use Rattle.st_marks.specs.Intent.{IsIntent, put_of}
+use Rattle.st_marks.specs.Intent.{IsIntent}
 use Rattle.st_marks.specs.Run.{Run, done, next}
 use Rattle.st_marks.specs.Verdict.{HasBase, IsBaseInEffect, IsUnmetNeed, IsAboveItself, IsVerdict, carried_document}
 use Rattle.st_part_laws.specs.Schemas.{entries_after, is_last_entry, schemas_after}

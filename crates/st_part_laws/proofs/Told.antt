@@ -1,10 +1,9 @@
 -- What is told of one more commit changes nothing of documents and commits that don't have its revision.
-use Rattle.std.proofs.Common.{◌≡◌, ◌≢◌, ℕ, Bool, true, false, ◌&&◌, List, [], ◌∷◌, ◌++◌, Option, Some, None, IsSome, IsTrue, IfSome, is_some, option_and_then, refl, sym, ap, ◌∙◌, subst, inl, inr, ◌⊎◌}
+use Rattle.std.proofs.Common.{◌≡◌, ◌≢◌, ℕ, Bool, true, false, ◌&&◌, List, [], ◌∷◌, ◌++◌, Option, Some, None, IsSome, IfSome, is_some, option_and_then, refl, sym, ap, ◌∙◌, subst, inl, inr, ◌⊎◌}
 use mathlib.Core.Path.{fun_ext}
 use Rattle.std.specs.List.{filter, list_any}
 use Rattle.std.specs.Option.{option_or, option_map_or}
 use Rattle.std.specs.Prelude.{if◌then◌else◌}
-use Rattle.st_lemmas.proofs.Bools.{true-false}
 use Rattle.st_ids.specs.Listing.{Has}
 use Rattle.st_ids.specs.Order.{same_rev}
 use Rattle.st_ids.specs.declared.names.CellId.{CellId}
@@ -16,13 +15,12 @@ use Rattle.st_ids.proofs.Shared.{no_members}
 use Rattle.st_marks.specs.declared.intents.Group.{Group}
 use Rattle.st_marks.specs.declared.intents.Intent.{Intent}
 use Rattle.st_marks.specs.declared.intents.Owned.{Owned}
-use Rattle.st_marks.specs.declared.intents.Put.{Put}
 use Rattle.st_marks.specs.declared.intents.To.{To}
 use Rattle.st_marks.specs.declared.places.Spot.{Spot}
 use Rattle.st_marks.specs.declared.schemas.SchemaEntry.{SchemaEntry}
 use Rattle.st_marks.specs.CarryOut.{spot_of, with_names}
-use Rattle.st_marks.specs.Document.{Document, NodeType, IsSoundInForm, above, last_of, node_of, owned_cell, revs}
-use Rattle.st_marks.specs.Intent.{Fits, IsKnown, Owns, cell_of, group_cells, new_row_of, put_of, register_of}
+use Rattle.st_marks.specs.Document.{Document, NodeType, IsSoundInForm, node_of, owned_cell, revs}
+use Rattle.st_marks.specs.Intent.{Fits, IsKnown, group_cells, new_row_of, put_of}
 use Rattle.st_marks.proofs.Climb.{above_known, placed_known, unknown_nowhere}
 use Rattle.st_marks.proofs.Full.{known_put}
 use Rattle.st_marks.proofs.Lookups.{group-new_row_of}

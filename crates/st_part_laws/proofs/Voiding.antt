@@ -1,11 +1,8 @@
 -- The same of a void intent, and of verdicts.
-use Rattle.std.proofs.Common.{◌≡◌, ◌≢◌, ◌⊎◌, ◌↔◌, ℕ, zero, suc, Bool, true, false, ◌&&◌, List, [], ◌∷◌, Option, Some, None, IsSome, IsTrue, is_some, option_and_then, refl, sym, ap, ◌∙◌, subst, inl, inr}
+use Rattle.std.proofs.Common.{◌≡◌, ◌↔◌, ℕ, zero, suc, Bool, true, false, ◌&&◌, Option, Some, None, IsSome, option_and_then, refl, sym, ap, ◌∙◌, subst}
 use mathlib.Core.Path.{fun_ext}
-use Rattle.std.specs.Option.{option_or, option_map_or}
-use Rattle.std.specs.Ordering.{is_lt}
+use Rattle.std.specs.Option.{option_map_or}
 use Rattle.std.specs.Prelude.{if◌then◌else◌}
-use Rattle.st_ids.specs.Listing.{Has}
-use Rattle.st_ids.specs.Order.{node_cmp}
 use Rattle.st_ids.specs.declared.names.FieldId.{FieldId}
 use Rattle.st_ids.specs.declared.names.NodeId.{NodeId}
 use Rattle.st_marks.specs.declared.intents.Intent.{Intent}
@@ -19,7 +16,7 @@ use Rattle.st_marks.specs.CarryOut.{full, is_put_in_new, only_new, place_after, 
 use Rattle.st_marks.specs.Verdict.{IsVerdict, IsUnmetNeed, IsAboveItself}
 use Rattle.st_lemmas.proofs.Bools.{true-false}
 use Rattle.st_part_laws.specs.Parts.{IsClosedBy, NamesWithin, part_by}
-use Rattle.st_part_laws.proofs.Carrying.{cells_kept, fits_part, nodes_kept, part_of_full, rows_kept, spot_there, stays_closed}
+use Rattle.st_part_laws.proofs.Carrying.{cells_kept, nodes_kept, part_of_full, rows_kept, spot_there, stays_closed}
 
 -- climbing from a node of the part stays in it
 module _ (p : NodeId → Bool) (E : Document) (closed : IsClosedBy p E) where

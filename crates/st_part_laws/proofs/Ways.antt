@@ -1,7 +1,7 @@
 -- The way back over an intent names what the intent names, and is the way back between the parts.
-use Rattle.std.proofs.Common.{◌≡◌, ◌≢◌, ◌↔◌, Bool, true, false, List, [], ◌∷◌, Option, Some, None, IsSome, MatchOption, is_some, refl, sym, ap, ◌∙◌, subst}
+use Rattle.std.proofs.Common.{◌≡◌, ◌≢◌, ◌↔◌, Bool, true, false, Option, Some, None, IsSome, MatchOption, refl, sym, ap, ◌∙◌, subst}
 use Rattle.std.specs.List.{flat_map}
-use Rattle.std.specs.Option.{option_or, option_map_or}
+use Rattle.std.specs.Option.{option_map_or}
 use Rattle.std.specs.Prelude.{if◌then◌else◌}
 use Rattle.st_lemmas.proofs.Bools.{true-false}
 use Rattle.st_ids.specs.Listing.{Has}
@@ -12,14 +12,13 @@ use Rattle.st_ids.specs.declared.names.Rev.{Rev}
 use Rattle.st_ids.proofs.Orders.{same_field-itself}
 use Rattle.st_marks.specs.declared.intents.Group.{Group}
 use Rattle.st_marks.specs.declared.intents.Intent.{Intent}
-use Rattle.st_marks.specs.declared.intents.Owned.{Owned}
 use Rattle.st_marks.specs.declared.intents.To.{To}
 use Rattle.st_marks.specs.declared.places.Spot.{Spot}
 use Rattle.st_marks.specs.Back.{IsBack, is_in, place_back, to_of}
-use Rattle.st_marks.specs.CarryOut.{full, place_after, spot_of, unless_cleared, unless_put, with_names}
+use Rattle.st_marks.specs.CarryOut.{full, place_after, spot_of, unless_cleared, with_names}
 use Rattle.st_marks.specs.Document.{Document, NodeType, above, node_of}
 use Rattle.st_marks.specs.Extends.{IsExtendedBy}
-use Rattle.st_marks.specs.Intent.{Fits, clears, group_cells, is_new, put_in, put_of}
+use Rattle.st_marks.specs.Intent.{Fits, clears, is_new, put_in, put_of}
 use Rattle.st_marks.proofs.Climb.{unknown_nowhere}
 use Rattle.st_marks.proofs.Lookups.{clears-has, has-put, put_in-has}
 use Rattle.st_marks.proofs.Members.{has-any}

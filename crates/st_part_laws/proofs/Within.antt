@@ -1,12 +1,10 @@
 -- What an intent names in a document it names in each that has the document's names.
-use Rattle.std.proofs.Common.{◌≡◌, Bool, true, List, Option, Some, None, IsSome, IsTrue, IfSome, is_some, option_and_then, refl, sym, ap, ◌∙◌, subst, inl, inr, ◌⊎◌}
+use Rattle.std.proofs.Common.{◌≡◌, Bool, true, List, Option, Some, None, IsSome, IfSome, refl, sym, ap, ◌∙◌, subst, inl, inr}
 use Rattle.std.specs.Option.{option_or, option_map_or}
-use Rattle.std.specs.List.{list_any}
 use Rattle.st_lemmas.proofs.Options.{one_some}
 use Rattle.st_ids.specs.Listing.{Has}
 use Rattle.st_ids.specs.Order.{same_rev}
 use Rattle.st_ids.specs.declared.names.CellId.{CellId}
-use Rattle.st_ids.specs.declared.names.FieldId.{FieldId}
 use Rattle.st_ids.specs.declared.names.NodeId.{NodeId}
 use Rattle.st_ids.specs.declared.names.Rev.{Rev}
 use Rattle.st_marks.specs.declared.intents.Group.{Group}
@@ -16,7 +14,7 @@ use Rattle.st_marks.specs.declared.intents.To.{To}
 use Rattle.st_marks.specs.declared.places.Spot.{Spot}
 use Rattle.st_marks.specs.CarryOut.{spot_of, with_names}
 use Rattle.st_marks.specs.Document.{Document, IsSoundInForm, node_of, owned_cell}
-use Rattle.st_marks.specs.Intent.{Fits, IsKnown, Owns, new_row_of, put_of, group_cells}
+use Rattle.st_marks.specs.Intent.{Fits, IsKnown, Owns, new_row_of, put_of}
 use Rattle.st_marks.proofs.Members.{all-has, any-has, has-any, distinct-has}
 use Rattle.st_marks.proofs.Lookups.{made_there}
 use Rattle.st_marks.proofs.Full.{known_put}
