@@ -96,25 +96,31 @@ module _ (under : Rev → Rev) (chain : Rev → List Rev) (D : Document) (N : In
   after_data : N.schema ≡ None → IsVerdict D N Verdict.Sound → IsClosedInEffect under (full D N)
   after_data e h = subst (λ es. IsClosedBy (is_of_schemas under (revs es)) (full D N)) (sym (kept_carried D N e Verdict.Sound)) (closed_full (subst (λ o. HasBase D.schemas o N.under) e h.0))
 
-  after_change : (text : List ℕ) → N.schema ≡ Some text → IsVerdict D N Verdict.Sound → IsClosedInEffect under (full D N)
-  after_change text e h =
-      let x : IsExtendedBy D (full D N) = carried_extends D N Verdict.Sound s f short h in
-      let entries : revs (full D N).schemas ≡ revs D.schemas ++ N.rev ∷ [] =
-      ap (λ o. revs (with_schema N o D.schemas)) e ∙ map-append (λ (e : SchemaEntry). e.rev) D.schemas (record { rev = N.rev; text = text } ∷ []) in
-      let before : IsClosedBy p (full D N) = closed_full (last-has (revs D.schemas) N.under (based D N text e h.0)) in
-      subst (λ rs. IsClosedBy (is_of_schemas under rs) (full D N)) (sym entries)
-      (same_closed p (is_of_schemas under (revs D.schemas ++ N.rev ∷ [])) (full D N) x.after (λ n i. one_more under (revs D.schemas) N.rev n (other n i)) before)
+  -- of a change of schema that is carried out
+  pub entries_of_change : (text : List ℕ) → N.schema ≡ Some text → revs (full D N).schemas ≡ revs D.schemas ++ N.rev ∷ []
+  entries_of_change text e =
+      ap (λ o. revs (with_schema N o D.schemas)) e ∙ map-append (λ (e : SchemaEntry). e.rev) D.schemas (record { rev = N.rev; text = text } ∷ [])
+
+  pub same_after_change : (text : List ℕ) → N.schema ≡ Some text → (n : NodeId) → IsSome ((full D N).nodes n) → p n ≡ is_of_schemas under (revs D.schemas ++ N.rev ∷ []) n
+  same_after_change text e n i = one_more under (revs D.schemas) N.rev n (new n (subst (λ o. IsSome o) (nothing N.new refl alone) i))
     where
-      nothing : (n : NodeId) (ms : List NewNode) → N.new ≡ ms → ms ≡ [] → (full D N).nodes n ≡ D.nodes n
-      nothing n ms q r =
+      alone : N.new ≡ []
+      alone = (subst (λ o. IfSome o (λ (_ : List ℕ). (N.new ≡ []) × (N.groups ≡ []) × (N.clear ≡ []) × (N.put ≡ []) × (N.need ≡ []))) e f.itself.schema_alone).0
+
+      new : (m : NodeId) → IsSome (D.nodes m) → under m.0.rev ≢ N.rev
+      new = subst (λ o. IfSome o (λ (_ : List ℕ). (m : NodeId) → IsSome (D.nodes m) → under m.0.rev ≢ N.rev)) e first
+
+      nothing : (ms : List NewNode) → N.new ≡ ms → ms ≡ [] → (full D N).nodes n ≡ D.nodes n
+      nothing ms q r =
           let none : new_type N n ≡ None = rw (q ∙ r) refl in
           ap (option_or (D.nodes n)) none ∙ option_or-None (D.nodes n)
 
-      other : (n : NodeId) → IsSome ((full D N).nodes n) → under n.0.rev ≢ N.rev
-      other n i =
-          let alone : (N.new ≡ []) = (subst (λ o. IfSome o (λ (_ : List ℕ). (N.new ≡ []) × (N.groups ≡ []) × (N.clear ≡ []) × (N.put ≡ []) × (N.need ≡ []))) e f.itself.schema_alone).0 in
-          let new : (m : NodeId) → IsSome (D.nodes m) → under m.0.rev ≢ N.rev = subst (λ o. IfSome o (λ (_ : List ℕ). (m : NodeId) → IsSome (D.nodes m) → under m.0.rev ≢ N.rev)) e first in
-          new n (subst (λ o. IsSome o) (nothing n N.new refl alone) i)
+  after_change : (text : List ℕ) → N.schema ≡ Some text → IsVerdict D N Verdict.Sound → IsClosedInEffect under (full D N)
+  after_change text e h =
+      let x : IsExtendedBy D (full D N) = carried_extends D N Verdict.Sound s f short h in
+      let before : IsClosedBy p (full D N) = closed_full (last-has (revs D.schemas) N.under (based D N text e h.0)) in
+      subst (λ rs. IsClosedBy (is_of_schemas under rs) (full D N)) (sym (entries_of_change text e))
+      (same_closed p (is_of_schemas under (revs D.schemas ++ N.rev ∷ [])) (full D N) x.after (same_after_change text e) before)
 
   pub closed_after : (v : Verdict) → IsVerdict D N v → IsClosedInEffect under (carried_document v D N)
   closed_after (Verdict.Schema u) h = after_void N.schema

@@ -8,3 +8,4 @@ pub mod Ways
 pub mod Told
 pub mod Closed
 pub mod Joins
+pub mod InEffect

@@ -10,16 +10,16 @@ ghost use Rattle.st_marks.specs.declared.intents.Intent.{Intent};
 ghost use Rattle.st_marks.specs.declared.schemas.SchemaEntry.{SchemaEntry};
 ghost use Rattle.st_marks.specs.declared.verdicts.Verdict.{Verdict};
 ghost use Rattle.st_marks.specs.Back.{IsBack};
-ghost use Rattle.st_marks.specs.CarryOut.{full, void_data};
+ghost use Rattle.st_marks.specs.CarryOut.{full, void, void_data};
 ghost use Rattle.st_marks.specs.Document.{Document, IsSoundInForm, HasShortRows, revs};
 ghost use Rattle.st_marks.specs.Extends.{IsExtendedBy};
 ghost use Rattle.st_marks.specs.Intent.{Fits, IsIntent, is_new};
 ghost use Rattle.st_marks.specs.Join.{AreParts, IsJoin};
 ghost use Rattle.st_marks.specs.Run.{Run};
-ghost use Rattle.st_marks.specs.Verdict.{IsVerdict, carried_document};
+ghost use Rattle.st_marks.specs.Verdict.{IsBaseInEffect, IsVerdict, carried_document};
 ghost use Rattle.st_log_laws.specs.Names.{HasNames, IsMadeUnder};
 ghost use Rattle.st_part_laws.specs.Chains.{AreInLine, TellsChain, with_chain, with_under};
-ghost use Rattle.st_part_laws.specs.Parts.{IsClosedBy, IsClosedInEffect, NamesWithin, is_of_schemas, part_by, part_of_schemas};
+ghost use Rattle.st_part_laws.specs.Parts.{IsClosedBy, IsClosedInEffect, NamesWithin, is_of_schemas, part_by, part_in_effect, part_of_schemas};
 ghost use Rattle.st_log_laws.specs.Turns.{FitInTurn};
 ghost use Rattle.st_part_laws.specs.Turns.{ComesFirst, NameInTurn};
 ghost use Rattle.st_part_laws.specs.Schemas.{entries_after, schemas_after};
@@ -131,4 +131,35 @@ pub fn parts_stay_closed()
     ensures run { (under : Rev → Rev) (chain : Rev → List Rev) (D E : Document) (Ns : List Intent) → IsSoundInForm D
         → FitInTurn D Ns → under opening ≡ opening → AreInLine chain D.schemas → NameInTurn under chain D Ns
         → IsClosedInEffect under D → Run D Ns E → IsClosedInEffect under E }
+{}
+
+/// An intent that names nodes of its schema's line alone, and whose schema is in effect, fits the part in effect, has its
+/// verdict there, and leads there to the part in effect of the document after it.
+pub fn the_part_in_effect_is_carried()
+    ensures fits { (under : Rev → Rev) (chain : Rev → List Rev) (D : Document) (N : Intent) → IsSoundInForm D → Fits D N
+        → HasShortRows (full D N) → under opening ≡ opening → AreInLine chain D.schemas
+        → NamesWithin (is_of_schemas under (chain N.under)) D N → ComesFirst under D N → IsClosedInEffect under D
+        → IsBaseInEffect D N → Fits (part_in_effect under D) N }
+    ensures verdict { (under : Rev → Rev) (chain : Rev → List Rev) (D : Document) (N : Intent) → IsSoundInForm D → Fits D N
+        → HasShortRows (full D N) → under opening ≡ opening → AreInLine chain D.schemas
+        → NamesWithin (is_of_schemas under (chain N.under)) D N → ComesFirst under D N → IsClosedInEffect under D
+        → IsBaseInEffect D N → (v : Verdict) → IsVerdict D N v → IsVerdict (part_in_effect under D) N v }
+    ensures carried { (under : Rev → Rev) (chain : Rev → List Rev) (D : Document) (N : Intent) → IsSoundInForm D → Fits D N
+        → HasShortRows (full D N) → under opening ≡ opening → AreInLine chain D.schemas
+        → NamesWithin (is_of_schemas under (chain N.under)) D N → ComesFirst under D N → IsClosedInEffect under D
+        → IsBaseInEffect D N → (v : Verdict) → IsVerdict D N v
+        → part_in_effect under (carried_document v D N) ≡ carried_document v (part_in_effect under D) N }
+{}
+
+/// An intent whose schema isn't in effect leaves the nodes, places and registers of the part in effect.
+pub fn the_part_in_effect_is_left()
+    ensures nodes { (under : Rev → Rev) (D : Document) (N : Intent) → Fits D N → under N.rev ≡ N.under
+        → (Has (revs D.schemas) N.under → ⊥) → (n : NodeId)
+        → (part_in_effect under (void D N)).nodes n ≡ (part_in_effect under D).nodes n }
+    ensures places { (under : Rev → Rev) (D : Document) (N : Intent) → Fits D N → under N.rev ≡ N.under
+        → (Has (revs D.schemas) N.under → ⊥) → (n : NodeId)
+        → (part_in_effect under (void D N)).place n ≡ (part_in_effect under D).place n }
+    ensures registers { (under : Rev → Rev) (D : Document) (N : Intent) → Fits D N → under N.rev ≡ N.under
+        → (Has (revs D.schemas) N.under → ⊥) → (f : FieldId)
+        → (part_in_effect under (void D N)).held f ≡ (part_in_effect under D).held f }
 {}
