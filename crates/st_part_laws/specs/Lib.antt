@@ -1,0 +1,4 @@
+pub mod Parts
+pub mod Schemas
+pub mod Chains
+pub mod Turns
