@@ -21,7 +21,7 @@ ghost use Rattle.st_log_laws.specs.Names.{HasNames, IsMadeUnder};
 ghost use Rattle.st_part_laws.specs.Chains.{AreInLine, TellsChain, with_chain, with_under};
 ghost use Rattle.st_part_laws.specs.Parts.{IsClosedBy, IsClosedInEffect, NamesWithin, is_of_schemas, part_by, part_in_effect, part_of_schemas};
 ghost use Rattle.st_log_laws.specs.Turns.{FitInTurn};
-ghost use Rattle.st_part_laws.specs.Turns.{ComesFirst, NameInTurn};
+ghost use Rattle.st_part_laws.specs.Turns.{ComesFirst, NameInTurn, SchemasComeFirst};
 ghost use Rattle.st_part_laws.specs.Schemas.{entries_after, schemas_after};
 
 /// The part of a sound document is sound, where it is closed and has the root.
@@ -128,9 +128,10 @@ pub fn parts_stay_closed()
         → HasShortRows (full D N) → under opening ≡ opening → AreInLine chain D.schemas
         → NamesWithin (is_of_schemas under (chain N.under)) D N → ComesFirst under D N → IsClosedInEffect under D
         → (v : Verdict) → IsVerdict D N v → IsClosedInEffect under (carried_document v D N) }
-    ensures run { (under : Rev → Rev) (chain : Rev → List Rev) (D E : Document) (Ns : List Intent) → IsSoundInForm D
-        → FitInTurn D Ns → under opening ≡ opening → AreInLine chain D.schemas → NameInTurn under chain D Ns
-        → IsClosedInEffect under D → Run D Ns E → IsClosedInEffect under E }
+    ensures run { (under : Rev → Rev) (chain : Rev → List Rev) (rs : List Rev) (D E : Document) (Ns : List Intent)
+        → IsSoundInForm D → FitInTurn D Ns → under opening ≡ opening → AreInLine chain D.schemas
+        → AllByRecursion (TellsChain chain) Ns → IsMadeUnder rs D → SchemasComeFirst under rs Ns
+        → NameInTurn under chain D Ns → IsClosedInEffect under D → Run D Ns E → IsClosedInEffect under E }
 {}
 
 /// An intent that names nodes of its schema's line alone, and whose schema is in effect, fits the part in effect, has its
@@ -162,4 +163,18 @@ pub fn the_part_in_effect_is_left()
     ensures registers { (under : Rev → Rev) (D : Document) (N : Intent) → Fits D N → under N.rev ≡ N.under
         → (Has (revs D.schemas) N.under → ⊥) → (f : FieldId)
         → (part_in_effect under (void D N)).held f ≡ (part_in_effect under D).held f }
+{}
+
+/// Where two lists, the one after the other, name in turn nodes of their schemas' lines alone, each does, and the other way
+/// round; and so does a list in each document with the same names that it fits.
+pub fn name_in_turn()
+    ensures front { (under : Rev → Rev) (chain : Rev → List Rev) (D : Document) (Ns Ms : List Intent)
+        → NameInTurn under chain D (Ns ++ Ms) → NameInTurn under chain D Ns }
+    ensures rest { (under : Rev → Rev) (chain : Rev → List Rev) (D E : Document) (Ns Ms : List Intent)
+        → NameInTurn under chain D (Ns ++ Ms) → Run D Ns E → NameInTurn under chain E Ms }
+    ensures then_one { (under : Rev → Rev) (chain : Rev → List Rev) (D E : Document) (Ns Ms : List Intent)
+        → NameInTurn under chain D Ns → Run D Ns E → NameInTurn under chain E Ms → NameInTurn under chain D (Ns ++ Ms) }
+    ensures beside { (under : Rev → Rev) (chain : Rev → List Rev) (D E : Document) (Ns : List Intent) → HasNames D E
+        → IsSoundInForm D → IsSoundInForm E → FitInTurn D Ns → FitInTurn E Ns
+        → NameInTurn under chain D Ns → NameInTurn under chain E Ns }
 {}
