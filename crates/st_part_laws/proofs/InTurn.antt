@@ -4,7 +4,7 @@ use Rattle.st_ids.specs.declared.names.Rev.{Rev}
 use Rattle.st_marks.specs.declared.intents.Intent.{Intent}
 use Rattle.st_marks.specs.Document.{Document, IsSoundInForm}
 use Rattle.st_marks.specs.Run.{Run, done, next}
-use Rattle.st_marks.specs.Verdict.{IsVerdict, carried_document}
+use Rattle.st_marks.specs.Verdict.{carried_document}
 use Rattle.st_marks.proofs.OneVerdict.{carried_extends, one_run}
 use Rattle.st_log_laws.specs.Names.{HasNames}
 use Rattle.st_log_laws.specs.Turns.{FitInTurn}
