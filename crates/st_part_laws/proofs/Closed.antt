@@ -1,6 +1,6 @@
 -- The part in effect stays closed.
 use Rattle.std.proofs.Common.{◌≡◌, ◌≢◌, ℕ, Bool, true, false, ◌&&◌, ◌||◌, List, [], ◌∷◌, ◌++◌, Option, Some, None, IsSome, IfSome, refl, sym, ap, ◌∙◌, subst, inl, inr}
-use Rattle.std.specs.List.{list_any}
+use Rattle.std.specs.List.{AllByRecursion, list_any}
 use Rattle.std.specs.Option.{option_or, option_map_or}
 use Rattle.std.specs.Prelude.{if◌then◌else◌}
 use Rattle.st_lemmas.proofs.Bools.{or-false}
@@ -29,10 +29,10 @@ use Rattle.st_marks.proofs.OneVerdict.{carried_extends}
 use Rattle.st_marks.proofs.Climb.{above_known, placed_known}
 use Rattle.st_log_laws.specs.Names.{IsMadeUnder}
 use Rattle.st_log_laws.specs.Turns.{FitInTurn}
-use Rattle.st_log_laws.proofs.Names.{new_node_rev}
-use Rattle.st_part_laws.specs.Chains.{AreInLine}
+use Rattle.st_log_laws.proofs.Names.{made_after, new_node_rev}
+use Rattle.st_part_laws.specs.Chains.{AreInLine, TellsChain}
 use Rattle.st_part_laws.specs.Parts.{IsClosedBy, IsClosedInEffect, NamesWithin, is_of_schemas}
-use Rattle.st_part_laws.specs.Turns.{ComesFirst, NameInTurn}
+use Rattle.st_part_laws.specs.Turns.{ComesFirst, NameInTurn, SchemasComeFirst}
 use Rattle.st_part_laws.proofs.Carrying.{stays_closed}
 use Rattle.st_part_laws.proofs.Chains.{last-has, line_after, named_in_effect}
 use Rattle.st_part_laws.proofs.Schemas.{based, entries_carried, kept_carried}
@@ -134,13 +134,21 @@ module _ (under : Rev → Rev) (chain : Rev → List Rev) (D : Document) (N : In
 
 -- ## After a list
 
-pub closed_in_turn : (under : Rev → Rev) (chain : Rev → List Rev) {D E : Document} {Ns : List Intent} → Run D Ns E → IsSoundInForm D → FitInTurn D Ns → under opening ≡ opening
-    → AreInLine chain D.schemas → NameInTurn under chain D Ns → IsClosedInEffect under D → IsClosedInEffect under E
-closed_in_turn under chain done s f told line names closed = closed
-closed_in_turn under chain (next {D} {N = N} v a r) s f told line names closed =
-    closed_in_turn under chain r (carried_extends D N v s f.0 f.1 a).after (f.2 v a) told
-    (subst (AreInLine chain) (sym (entries_carried D N f.0.itself v a)) (line_after chain D.schemas N names.1 line)) (names.3 v a)
-    (closed_after under chain D N s f.0 f.1 told line names.0 names.2 closed v a)
+comes_first : (under : Rev → Rev) (rs : List Rev) (D : Document) (N : Intent) → IsMadeUnder rs D → IfSome N.schema (λ _. (r : Rev) → Has rs r → under r ≢ N.rev) → ComesFirst under D N
+comes_first under rs D N made first = go N.schema first
+  where
+    go : (o : Option (List ℕ)) → IfSome o (λ _. (r : Rev) → Has rs r → under r ≢ N.rev) → IfSome o (λ _. (n : NodeId) → IsSome (D.nodes n) → under n.0.rev ≢ N.rev)
+    go None h = tt
+    go (Some text) h = λ n i. h n.0.rev (made.nodes n i)
+
+pub closed_in_turn : (under : Rev → Rev) (chain : Rev → List Rev) (rs : List Rev) {D E : Document} {Ns : List Intent} → Run D Ns E → IsSoundInForm D → FitInTurn D Ns → under opening ≡ opening
+    → AreInLine chain D.schemas → AllByRecursion (TellsChain chain) Ns → IsMadeUnder rs D → SchemasComeFirst under rs Ns → NameInTurn under chain D Ns → IsClosedInEffect under D → IsClosedInEffect under E
+closed_in_turn under chain rs done s f told line tell made first names closed = closed
+closed_in_turn under chain rs (next {D} {N = N} v a r) s f told line tell made first names closed =
+    closed_in_turn under chain (N.rev ∷ rs) r (carried_extends D N v s f.0 f.1 a).after (f.2 v a) told
+    (subst (AreInLine chain) (sym (entries_carried D N f.0.itself v a)) (line_after chain D.schemas N tell.0 line)) tell.1
+    (made_after rs D N v f.0 made) first.1 (names.1 v a)
+    (closed_after under chain D N s f.0 f.1 told line names.0 (comes_first under rs D N made first.0) closed v a)
 
 -- ## At the opening
 

@@ -1,7 +1,6 @@
 -- An intent whose schema is in effect does to the part in effect what it does to the document; one whose schema isn't leaves
 -- the part's nodes, places and registers.
-use Rattle.std.proofs.Common.{◌≡◌, ◌≢◌, ℕ, Bool, true, false, List, [], ◌∷◌, ◌++◌, Option, Some, None, refl, sym, ap, ◌∙◌, subst}
-use Rattle.std.specs.List.{list_any}
+use Rattle.std.proofs.Common.{◌≡◌, ℕ, Bool, true, false, List, [], ◌∷◌, ◌++◌, Option, Some, None, refl, sym, ap, ◌∙◌, subst}
 use Rattle.std.specs.Option.{option_or, option_map_or}
 use Rattle.std.specs.Prelude.{if◌then◌else◌, is_some}
 use Rattle.st_lemmas.proofs.Bools.{true-false}
@@ -16,7 +15,7 @@ use Rattle.st_ids.proofs.Orders.{same_rev-true}
 use Rattle.st_marks.specs.declared.intents.Intent.{Intent}
 use Rattle.st_marks.specs.declared.verdicts.Verdict.{Verdict}
 use Rattle.st_marks.specs.CarryOut.{full, void, void_data}
-use Rattle.st_marks.specs.Document.{Document, HasShortRows, IsSoundInForm, NodeType, last_of, revs}
+use Rattle.st_marks.specs.Document.{Document, HasShortRows, IsSoundInForm, NodeType, revs}
 use Rattle.st_marks.specs.Intent.{Fits, is_new, new_type}
 use Rattle.st_marks.specs.Verdict.{HasBase, IsBaseInEffect, IsVerdict, carried_document}
 use Rattle.st_marks.proofs.Members.{any-has}
@@ -48,6 +47,7 @@ module _ (under : Rev → Rev) (chain : Rev → List Rev) (D : Document) (N : In
 
   within : NamesWithin p D N
   within = named_in_effect under chain D N line in_effect w
+
   of_root : p root ≡ true
   of_root = root_in_effect under D s told
 

@@ -9,3 +9,4 @@ pub mod Told
 pub mod Closed
 pub mod Joins
 pub mod InEffect
+pub mod InTurn

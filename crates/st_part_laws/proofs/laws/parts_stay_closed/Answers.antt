@@ -6,5 +6,5 @@ returns c = record {
   opening = closed_at_first;
   void = closed_void;
   one = closed_after;
-  run = λ under chain D E Ns s f told line names closed r. closed_in_turn under chain r s f told line names closed;
+  run = λ under chain rs D E Ns s f told line tell made first names closed r. closed_in_turn under chain rs r s f told line tell made first names closed;
 }
