@@ -144,7 +144,7 @@ fn row_after(alloc: Global) -> Result<RowHeld, Or<Apart>> {
 }
 
 // Two steps in turn.
-fn composed(alloc: Global, first: &[Mark], then: &[Mark]) -> Result<RowStep, Or<Apart>> {
+fn compose_steps(alloc: Global, first: &[Mark], then: &[Mark]) -> Result<RowStep, Or<Apart>> {
     let first = step(alloc, first)?;
     let then = step(alloc, then)?;
     if is_short(&first.marks) && is_short(&then.marks) {
@@ -166,7 +166,7 @@ fn join_rows(alloc: Global, first: &[Mark], then: &[Mark]) -> Result<RowChange, 
 }
 
 // A change over a step.
-fn rebased(alloc: Global, marks: &[Mark], over: &[Mark]) -> Result<RowChange, Or<Apart>> {
+fn rebase_change(alloc: Global, marks: &[Mark], over: &[Mark]) -> Result<RowChange, Or<Apart>> {
     let added = change(alloc, Q, marks)?;
     let between = step(alloc, over)?;
     if are_short(&added.marks, &between.marks) {
@@ -177,7 +177,7 @@ fn rebased(alloc: Global, marks: &[Mark], over: &[Mark]) -> Result<RowChange, Or
 }
 
 // The step that empties the other node's cell, over the change that makes the new node, which becomes void.
-fn bridged(alloc: Global) -> Result<RowStep, Or<Apart>> {
+fn bridge_step(alloc: Global) -> Result<RowStep, Or<Apart>> {
     let added = change(alloc, Q, &[MAKE_Q, Mark::Skip(1)])?;
     let left = step(alloc, &[LEAVE_X])?;
     if are_short(&added.marks, &left.marks) {
@@ -188,7 +188,7 @@ fn bridged(alloc: Global) -> Result<RowStep, Or<Apart>> {
 }
 
 // The step of the change that makes the new node, void.
-fn effected(alloc: Global) -> Result<RowStep, AllocError> {
+fn effect_of_change(alloc: Global) -> Result<RowStep, AllocError> {
     let added = change(alloc, Q, &[MAKE_Q])?;
     if is_short(&added.marks) {
         Sequence::effect(alloc, &added, true)
@@ -198,7 +198,7 @@ fn effected(alloc: Global) -> Result<RowStep, AllocError> {
 }
 
 // The step back from the one that makes the new node.
-fn inverted(alloc: Global) -> Result<RowStep, AllocError> {
+fn inverse_step(alloc: Global) -> Result<RowStep, AllocError> {
     let there = step(alloc, &[MAKE_Q])?;
     if is_short(&there.marks) {
         Sequence::invert(alloc, &there)
@@ -246,16 +246,18 @@ fn row_is_known(alloc: Global) -> bool {
 }
 
 fn rebased_is_known(alloc: Global) -> bool {
-    rebased(alloc, &[MAKE_Q, Mark::Skip(1)], &[LEAVE_X]).is_ok_and(|change| change.marks.as_slice()
+    rebase_change(alloc, &[MAKE_Q, Mark::Skip(1)], &[LEAVE_X]).is_ok_and(|change| change
+        .marks
+        .as_slice()
         == [MAKE_Q, Mark::Gap(CELL_X)].as_slice())
 }
 
 fn composed_is_known(alloc: Global) -> bool {
-    composed(alloc, &[MAKE_X], &[LEAVE_X]).is_ok_and(|step| has_marks(&step, &[HOLE_X]))
+    compose_steps(alloc, &[MAKE_X], &[LEAVE_X]).is_ok_and(|step| has_marks(&step, &[HOLE_X]))
 }
 
 fn bridged_is_known(alloc: Global) -> bool {
-    bridged(alloc).is_ok_and(|step| has_marks(&step, &[TAKE_Q, LEAVE_X]))
+    bridge_step(alloc).is_ok_and(|step| has_marks(&step, &[TAKE_Q, LEAVE_X]))
 }
 
 // The new nodes of both changes are those of the join.
@@ -287,8 +289,8 @@ fn step_is_copied(alloc: Global) -> Result<bool, AllocError> {
 }
 
 fn steps_are_known(alloc: Global) -> Result<bool, AllocError> {
-    let effect = effected(alloc)?;
-    let back = inverted(alloc)?;
+    let effect = effect_of_change(alloc)?;
+    let back = inverse_step(alloc)?;
     Ok(has_marks(&effect, &[HOLE_Q]) && has_marks(&back, &[TAKE_Q]))
 }
 
@@ -344,9 +346,9 @@ fn broken_rules(rt: HostRuntime) {
 fn cells_are_named_apart(rt: HostRuntime) {
     let alloc = rt.alloc();
     let one = Mark::Skip(1);
-    let twice = is_apart(rebased(alloc, &[STAY_X, one], &[one, LEAVE_X]), 0);
-    let both = is_apart(rebased(alloc, &[one, MAKE_Q], &[one, MAKE_Q]), 1);
-    let again = is_apart(composed(alloc, &[MAKE_X], &[one, MAKE_X]), 0);
+    let twice = is_apart(rebase_change(alloc, &[STAY_X, one], &[one, LEAVE_X]), 0);
+    let both = is_apart(rebase_change(alloc, &[one, MAKE_Q], &[one, MAKE_Q]), 1);
+    let again = is_apart(compose_steps(alloc, &[MAKE_X], &[one, MAKE_X]), 0);
     assert!(rt; twice && both && again, "{twice} {both} {again}");
 }
 
@@ -356,10 +358,10 @@ fn nodes_are_named_apart(rt: HostRuntime) {
     let alloc = rt.alloc();
     let two = Mark::Skip(2);
     let beside = is_apart(
-        rebased(alloc, &[two, STAY_X, two], &[Mark::Skip(4), TAKE_X]),
+        rebase_change(alloc, &[two, STAY_X, two], &[Mark::Skip(4), TAKE_X]),
         2,
     );
-    let in_turn = is_apart(composed(alloc, &[MAKE_X, two], &[two, TAKE_X]), 0);
+    let in_turn = is_apart(compose_steps(alloc, &[MAKE_X, two], &[two, TAKE_X]), 0);
     assert!(rt; beside && in_turn, "{beside} {in_turn}");
 }
 

@@ -68,7 +68,7 @@ fn finds_few(marks: &List<Mark>) -> bool
 }
 
 // The step back.
-fn inverted(alloc: Global, marks: &[Mark]) -> Result<List<Mark>, AllocError> {
+fn invert_row(alloc: Global, marks: &[Mark]) -> Result<List<Mark>, AllocError> {
     let step = row(alloc, marks)?;
     if is_short(&step) {
         invert(alloc, &step)
@@ -78,7 +78,7 @@ fn inverted(alloc: Global, marks: &[Mark]) -> Result<List<Mark>, AllocError> {
 }
 
 // What a change does.
-fn effected(alloc: Global, marks: &[Mark]) -> Result<List<Mark>, AllocError> {
+fn effect_of(alloc: Global, marks: &[Mark]) -> Result<List<Mark>, AllocError> {
     let change = row(alloc, marks)?;
     if is_short(&change) {
         effect(alloc, &change)
@@ -88,7 +88,7 @@ fn effected(alloc: Global, marks: &[Mark]) -> Result<List<Mark>, AllocError> {
 }
 
 // What a void change does that makes the second session's node, in the row of a new node or in another.
-fn voided(alloc: Global, marks: &[Mark], in_new: bool) -> Result<List<Mark>, AllocError> {
+fn void_effect_of(alloc: Global, marks: &[Mark], in_new: bool) -> Result<List<Mark>, AllocError> {
     let change = row(alloc, marks)?;
     let mut new = List::new(alloc);
     new.push(NodeId(name(2)))?;
@@ -100,7 +100,7 @@ fn voided(alloc: Global, marks: &[Mark], in_new: bool) -> Result<List<Mark>, All
 }
 
 // Two steps in turn.
-fn composed(alloc: Global, first: &[Mark], then: &[Mark]) -> Result<List<Mark>, Or<Apart>> {
+fn compose_rows(alloc: Global, first: &[Mark], then: &[Mark]) -> Result<List<Mark>, Or<Apart>> {
     let first = row(alloc, first)?;
     let then = row(alloc, then)?;
     if is_short(&first) && is_short(&then) {
@@ -122,7 +122,7 @@ fn join_rows(alloc: Global, first: &[Mark], then: &[Mark]) -> Result<List<Mark>,
 }
 
 // A change after a step.
-fn rebased(alloc: Global, change: &[Mark], step: &[Mark]) -> Result<List<Mark>, Or<Apart>> {
+fn rebase_row(alloc: Global, change: &[Mark], step: &[Mark]) -> Result<List<Mark>, Or<Apart>> {
     let change = row(alloc, change)?;
     let step = row(alloc, step)?;
     if are_short(&change, &step) {
@@ -133,7 +133,7 @@ fn rebased(alloc: Global, change: &[Mark], step: &[Mark]) -> Result<List<Mark>, 
 }
 
 // A step after a change that was carried out and is void.
-fn bridged(alloc: Global, step: &[Mark], change: &[Mark]) -> Result<List<Mark>, Or<Apart>> {
+fn bridge_row(alloc: Global, step: &[Mark], change: &[Mark]) -> Result<List<Mark>, Or<Apart>> {
     let change = row(alloc, change)?;
     let step = row(alloc, step)?;
     let none = List::new(alloc);
@@ -145,7 +145,7 @@ fn bridged(alloc: Global, step: &[Mark], change: &[Mark]) -> Result<List<Mark>, 
 }
 
 // The row after a step.
-fn stepped(alloc: Global, slots: &[Slot], marks: &[Mark]) -> Result<List<Slot>, Or<Apart>> {
+fn row_after(alloc: Global, slots: &[Slot], marks: &[Mark]) -> Result<List<Slot>, Or<Apart>> {
     let slots = List::from_vec(slots.to_vec(alloc)?);
     let step = row(alloc, marks)?;
     if is_short(&step) && finds_few(&step) {
@@ -166,12 +166,12 @@ fn differ_at(answer: Result<List<Mark>, Or<Apart>>, place: u32) -> bool {
 }
 
 fn back_is_known(alloc: Global) -> Result<bool, AllocError> {
-    let back = inverted(alloc, &[Mark::Skip(1), make_mark(1, true)])?;
+    let back = invert_row(alloc, &[Mark::Skip(1), make_mark(1, true)])?;
     Ok(back.as_slice() == [Mark::Skip(1), touch(1, How::Leave)].as_slice())
 }
 
 fn effect_is_known(alloc: Global) -> Result<bool, AllocError> {
-    let step = effected(alloc, &[Mark::Skip(1), make_mark(2, true)])?;
+    let step = effect_of(alloc, &[Mark::Skip(1), make_mark(2, true)])?;
     Ok(step.as_slice() == [Mark::Skip(1), make_mark(2, true)].as_slice())
 }
 
@@ -182,8 +182,9 @@ fn step_is_known(alloc: Global) -> bool {
         node: NodeId(name(session)),
         full: true,
     };
-    stepped(alloc, &[slot(2)], &[Mark::Skip(1), make_mark(1, true)]).is_ok_and(|row| row.as_slice()
-        == [slot(2), slot(1)].as_slice())
+    row_after(alloc, &[slot(2)], &[Mark::Skip(1), make_mark(1, true)]).is_ok_and(
+        |row| row.as_slice() == [slot(2), slot(1)].as_slice(),
+    )
 }
 
 #[test]
@@ -204,8 +205,8 @@ fn later_insert_stands_left(rt: HostRuntime) {
     let over = [Mark::Skip(1), make_mark(2, true), Mark::Skip(1)];
     let back = [Mark::Skip(1), touch(1, How::Leave)];
     let taken = [Mark::Skip(1), make_mark(2, true), gap(1)];
-    let one = is_row(rebased(alloc, &change, &step), &over);
-    let two = is_row(rebased(alloc, &over, &back), &taken);
+    let one = is_row(rebase_row(alloc, &change, &step), &over);
+    let two = is_row(rebase_row(alloc, &over, &back), &taken);
     assert!(rt; one && two, "{one} {two}");
 }
 
@@ -214,10 +215,10 @@ fn later_insert_stands_left(rt: HostRuntime) {
 fn first_difference_is_named(rt: HostRuntime) {
     let alloc = rt.alloc();
     let change = [Mark::Skip(2), make_mark(2, true)];
-    let first = differ_at(rebased(alloc, &change, &[gap(3), Mark::Skip(1)]), 0);
-    let longer = differ_at(rebased(alloc, &change, &[Mark::Skip(4), gap(3)]), 2);
+    let first = differ_at(rebase_row(alloc, &change, &[gap(3), Mark::Skip(1)]), 0);
+    let longer = differ_at(rebase_row(alloc, &change, &[Mark::Skip(4), gap(3)]), 2);
     let left = [Mark::Skip(3), touch(1, How::Leave)];
-    let last = differ_at(composed(alloc, &left, &[Mark::Skip(4)]), 3);
+    let last = differ_at(compose_rows(alloc, &left, &[Mark::Skip(4)]), 3);
     assert!(rt; first && longer && last, "{first} {longer} {last}");
 }
 
@@ -239,8 +240,8 @@ fn touch_follows_its_node(rt: HostRuntime) {
     let step = [touch(1, How::Leave), Mark::Fill { cell, node }];
     let removed = [touch(1, How::Leave), gap(2)];
     let kept = [touch(1, How::Here), gap(2)];
-    let gone = is_row(rebased(alloc, &removed, &step), &[gap(1), leaves]);
-    let back = is_row(rebased(alloc, &kept, &step), &[fill_back, leaves]);
+    let gone = is_row(rebase_row(alloc, &removed, &step), &[gap(1), leaves]);
+    let back = is_row(rebase_row(alloc, &kept, &step), &[fill_back, leaves]);
     assert!(rt; gone && back, "{gone} {back}");
 }
 
@@ -252,14 +253,15 @@ fn emptied_cell_is_kept(rt: HostRuntime) {
     let taken = [touch(1, How::Leave), Mark::Skip(2)];
     let hole = [make_mark(1, false), Mark::Skip(2)];
     let changes = is_row(join_rows(alloc, &made_first, &taken), &hole);
-    let steps = is_row(composed(alloc, &made_first, &taken), &hole);
+    let steps = is_row(compose_rows(alloc, &made_first, &taken), &hole);
     assert!(rt; changes && steps, "{changes} {steps}");
 }
 
 // Whether a void change that makes two nodes, of which the second is new, has this effect.
 fn has_void_effect(alloc: Global, in_new: bool, marks: &[Mark]) -> bool {
-    voided(alloc, &[make_mark(1, true), make_mark(2, true)], in_new).is_ok_and(|row| row.as_slice()
-        == marks)
+    void_effect_of(alloc, &[make_mark(1, true), make_mark(2, true)], in_new).is_ok_and(
+        |row| row.as_slice() == marks,
+    )
 }
 
 // A void change makes its cells, and puts new nodes inside new nodes alone.
@@ -281,5 +283,5 @@ fn void_change_gives_up_its_nodes(rt: HostRuntime) {
     let step = [Mark::Skip(1), make_mark(1, true)];
     let change = [make_mark(2, true), Mark::Skip(1)];
     let over = [touch(2, How::Leave), Mark::Skip(1), make_mark(1, true)];
-    assert!(rt; is_row(bridged(alloc, &step, &change), &over));
+    assert!(rt; is_row(bridge_row(alloc, &step, &change), &over));
 }

@@ -149,7 +149,7 @@ fn list_line(
 }
 
 // A text so many times between two others.
-fn repeated(
+fn text_between(
     alloc: Global,
     before: &str,
     text: &str,
@@ -166,8 +166,8 @@ fn repeated(
 
 // A leaf below so many rows.
 fn deep_line(alloc: Global, rows: u32) -> Result<String, AllocError> {
-    let opened = repeated(alloc, "", ROW_OPENED, rows, "1")?;
-    repeated(alloc, opened.as_str(), "]}", rows, "")
+    let opened = text_between(alloc, "", ROW_OPENED, rows, "1")?;
+    text_between(alloc, opened.as_str(), "]}", rows, "")
 }
 
 // Whether a line is read, as a schema where it has types and else as a tree.
@@ -349,7 +349,7 @@ fn text_is_limited(
     count: u32,
     fits: bool,
 ) -> Result<bool, AllocError> {
-    let line = repeated(alloc, before, "k", count, behind)?;
+    let line = text_between(alloc, before, "k", count, behind)?;
     Ok(is_read(alloc, line.as_str()) == fits)
 }
 

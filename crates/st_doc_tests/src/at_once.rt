@@ -3,7 +3,7 @@
 ghost use Rattle.st_marks.specs.Document.{IsSoundInForm};
 ghost use Rattle.st_doc.specs.Doc.{document_of};
 
-use crate::given::{Case, carry, commit, opened, schema, shows};
+use crate::given::{Case, carry, commit, open_doc, schema, shows};
 use st_doc::Doc;
 use st_marks::{Intent, Verdict};
 use st_schema::Schema;
@@ -89,7 +89,7 @@ fn row_leads(alloc: Global, schema: &Schema, doc: &Doc, row: &Row) -> Result<boo
 }
 
 fn is_so(alloc: Global, schema: &Schema, row: &Row) -> Result<bool, Fail> {
-    let doc = opened(alloc, schema, row.tree)?;
+    let doc = open_doc(alloc, schema, row.tree)?;
     row_leads(alloc, schema, &doc, row)
 }
 

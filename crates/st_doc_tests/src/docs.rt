@@ -3,7 +3,7 @@ ghost use Rattle.std.specs.Prelude.{OnOk};
 ghost use Rattle.st_marks.specs.Document.{IsSoundInForm};
 ghost use Rattle.st_doc.specs.Doc.{document_of};
 
-use crate::given::{Case, carry, commit, opened, schema, shows};
+use crate::given::{Case, carry, commit, open_doc, schema, shows};
 use st_doc::Doc;
 use st_ids::{Atom, CellId, FieldId, Key, List, NodeId, OPENING, Rev, Text};
 use st_marks::{Group, Intent, Owned, Put, To, Verdict};
@@ -55,7 +55,7 @@ fn shows_and_tells(alloc: Global, doc: &Doc) -> Result<bool, AllocError>
 }
 
 fn is_told(alloc: Global, schema: &Schema) -> Result<bool, Fail> {
-    let doc = opened(alloc, schema, CARD)?;
+    let doc = open_doc(alloc, schema, CARD)?;
     Ok(shows_and_tells(alloc, &doc)?)
 }
 
@@ -123,7 +123,7 @@ fn moved_beneath(alloc: Global, doc: &mut Doc) -> Result<bool, Fail>
 
 // A list can't stand in its own row, nor in that of one beneath it: the intent is void, and the tree stays.
 fn ring_is_void(alloc: Global, schema: &Schema) -> Result<bool, Fail> {
-    let mut doc = opened(alloc, schema, LISTS)?;
+    let mut doc = open_doc(alloc, schema, LISTS)?;
     moved_beneath(alloc, &mut doc)
 }
 
@@ -168,7 +168,7 @@ fn move_turns_void(alloc: Global, schema: &Schema, doc: &mut Doc) -> Result<bool
 
 // What is needed has to be live, and the schema has to be the one in effect, which is judged first.
 fn causes(alloc: Global, schema: &Schema) -> Result<bool, Fail> {
-    let mut doc = opened(alloc, schema, LISTS)?;
+    let mut doc = open_doc(alloc, schema, LISTS)?;
     move_turns_void(alloc, schema, &mut doc)
 }
 
@@ -190,7 +190,7 @@ fn names_fit(alloc: Global, doc: &Doc) -> Result<bool, AllocError>
 }
 
 fn names(alloc: Global, schema: &Schema) -> Result<bool, Fail> {
-    let doc = opened(alloc, schema, LISTS)?;
+    let doc = open_doc(alloc, schema, LISTS)?;
     Ok(names_fit(alloc, &doc)?)
 }
 
@@ -235,7 +235,7 @@ fn removed_come_back(alloc: Global, schema: &Schema, doc: &mut Doc) -> Result<bo
 
 // Items that come back stand in their old order, and what came between them stays there.
 fn back_in_order(alloc: Global, schema: &Schema) -> Result<bool, Fail> {
-    let mut doc = opened(alloc, schema, r#"{"list":["a","b","c"]}"#)?;
+    let mut doc = open_doc(alloc, schema, r#"{"list":["a","b","c"]}"#)?;
     removed_come_back(alloc, schema, &mut doc)
 }
 

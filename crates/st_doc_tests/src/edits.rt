@@ -1,7 +1,7 @@
 //! Each edit, and its refusals.
 ghost use Rattle.st_edits.specs.Resolve.{IsWithin};
 
-use crate::given::{Case, Places, commit, edit, opened, schema};
+use crate::given::{Case, Places, commit, edit, open_doc, schema};
 use st_doc::Doc;
 use st_edits::NameCounters;
 use st_ids::{Limit, LimitOf, Or, Rev};
@@ -148,7 +148,7 @@ fn all_refused(
 
 // Whether all are made, and whether all are refused.
 fn all_in(alloc: Global, schema: &Schema) -> Result<(bool, bool), Fail> {
-    let doc = opened(alloc, schema, TREE)?;
+    let doc = open_doc(alloc, schema, TREE)?;
     let made = all_made(alloc, schema, &doc, &EDITS)?;
     let refused = all_refused(alloc, schema, &doc, &REFUSALS)?;
     Ok((made, refused))
@@ -160,7 +160,7 @@ fn all_cases(alloc: Global) -> Result<(bool, bool), Fail> {
 }
 
 #[test]
-fn resolved(rt: HostRuntime) -> Result<(), Fail> {
+fn edits_are_resolved(rt: HostRuntime) -> Result<(), Fail> {
     let (made, refused) = all_cases(rt.alloc())?;
     assert!(rt; made && refused, "{made} {refused}");
     Ok(())

@@ -45,7 +45,7 @@ fn start(alloc: Global, schema: &Schema, tree: &Tree) -> Result<Doc, Fail>
 }
 
 /// The document that opens with the tree of a line.
-pub fn opened(alloc: Global, schema: &Schema, line: &str) -> Result<Doc, Fail>
+pub fn open_doc(alloc: Global, schema: &Schema, line: &str) -> Result<Doc, Fail>
     ensures { IfOk result (λ d. IsSoundInForm (document_of d)) }
 {
     let tree = tree(alloc, line)?;
@@ -227,7 +227,7 @@ pub fn edit(alloc: Global, case: Case) -> Result<Edit, Fail>
 }
 
 // What an edit means in a document, with the names that are free.
-fn resolved(
+fn resolve_edit(
     alloc: Global,
     schema: &Schema,
     doc: &Doc,
@@ -253,7 +253,7 @@ pub fn part(
         return Err(Fail::from("too many names"));
     }
     match edit(alloc, case) {
-        Ok(edit) => resolved(alloc, schema, doc, given, &edit),
+        Ok(edit) => resolve_edit(alloc, schema, doc, given, &edit),
         Err(fail) => Err(fail),
     }
 }
@@ -280,7 +280,7 @@ pub trait Row {
     fn is_so(&self, alloc: Global, schema: &Schema) -> Result<bool, Fail>;
 
     /// What is told of it where it isn't.
-    fn told(&self) -> &'static str;
+    fn message(&self) -> &'static str;
 }
 
 // What is told of the first row that isn't so.
@@ -291,7 +291,7 @@ fn first_wrong<R: Row>(
 ) -> Result<Option<&'static str>, Fail> {
     for row in rows {
         if !row.is_so(alloc, schema)? {
-            return Ok(Some(row.told()));
+            return Ok(Some(row.message()));
         }
     }
     Ok(None)

@@ -140,7 +140,7 @@ fn fill(alloc: Global, intent: &mut Intent) -> Result<(), AllocError> {
 }
 
 // A new list at the start of the root's row, with another one inside.
-fn nested(alloc: Global) -> Result<Intent, AllocError> {
+fn nested_intent(alloc: Global) -> Result<Intent, AllocError> {
     let mut intent = nothing(alloc);
     fill(alloc, &mut intent)?;
     Ok(intent)
@@ -149,7 +149,7 @@ fn nested(alloc: Global) -> Result<Intent, AllocError> {
 #[test]
 fn first_use(rt: HostRuntime) -> Result<(), Fail> {
     let alloc = rt.alloc();
-    let mut intent = nested(alloc)?;
+    let mut intent = nested_intent(alloc)?;
     assert!(rt; is_intent(&intent));
     intent.need.push(new(1))?;
     assert!(rt; !is_intent(&intent));
@@ -201,7 +201,7 @@ fn add_schema(alloc: Global, intent: &mut Intent) -> Result<(), AllocError> {
 }
 
 fn holds_with(alloc: Global, added: Added) -> Result<bool, AllocError> {
-    let mut intent = nested(alloc)?;
+    let mut intent = nested_intent(alloc)?;
     add(alloc, &mut intent, added)?;
     Ok(is_intent(&intent))
 }
@@ -263,7 +263,7 @@ fn becomes_a_ring(alloc: Global, intent: &mut Intent) -> Result<bool, AllocError
 }
 
 fn ring_is_seen(alloc: Global) -> Result<bool, AllocError> {
-    let mut intent = nested(alloc)?;
+    let mut intent = nested_intent(alloc)?;
     becomes_a_ring(alloc, &mut intent)
 }
 

@@ -3,7 +3,7 @@
 ghost use Rattle.st_marks.specs.Document.{IsSoundInForm};
 ghost use Rattle.st_doc.specs.Doc.{document_of};
 
-use crate::given::{Case, Row, carry, opened, part, shows, wrong_row};
+use crate::given::{Case, Row, carry, open_doc, part, shows, wrong_row};
 use crate::transactions::edits_lead;
 use st_doc::Doc;
 use st_edits::NameCounters;
@@ -94,11 +94,11 @@ fn all_lead(alloc: Global, schema: &Schema, doc: &mut Doc, row: &Parts) -> Resul
 
 impl Row for Parts {
     fn is_so(&self, alloc: Global, schema: &Schema) -> Result<bool, Fail> {
-        let mut doc = opened(alloc, schema, self.tree)?;
+        let mut doc = open_doc(alloc, schema, self.tree)?;
         all_lead(alloc, schema, &mut doc, self)
     }
 
-    fn told(&self) -> &'static str {
+    fn message(&self) -> &'static str {
         self.both
     }
 }

@@ -3,7 +3,7 @@ ghost use Rattle.std.specs.Prelude.{IfOk, OnOk};
 ghost use Rattle.st_marks.specs.Document.{IsSoundInForm};
 ghost use Rattle.st_doc.specs.Doc.{document_of};
 
-use crate::given::{Case, Row, commit, opened, shows, wrong_row};
+use crate::given::{Case, Row, commit, open_doc, shows, wrong_row};
 use crate::ways::ways_agree;
 use st_doc::Doc;
 use st_heads::{Head, Way};
@@ -24,7 +24,7 @@ struct Pair {
 }
 
 // The intent that goes a way.
-fn going(alloc: Global, way: &Way) -> Result<Intent, AllocError> {
+fn intent_of_way(alloc: Global, way: &Way) -> Result<Intent, AllocError> {
     let clear = way.clear.copy(alloc)?;
     let put = way.put.copy(alloc)?;
     Ok(Intent {
@@ -42,7 +42,7 @@ fn going(alloc: Global, way: &Way) -> Result<Intent, AllocError> {
 // The intent that goes the first way that is remembered.
 fn first_way(alloc: Global, head: &Head) -> Result<Intent, Fail> {
     match head.own.get(0) {
-        Some(carried) if !carried.void => Ok(going(alloc, &carried.back)?),
+        Some(carried) if !carried.void => Ok(intent_of_way(alloc, &carried.back)?),
         _ => Err(Fail::from("no way")),
     }
 }
@@ -124,11 +124,11 @@ fn is_undone(alloc: Global, schema: &Schema, doc: &Doc, row: &Pair) -> Result<bo
 
 impl Row for Pair {
     fn is_so(&self, alloc: Global, schema: &Schema) -> Result<bool, Fail> {
-        let doc = opened(alloc, schema, self.tree)?;
+        let doc = open_doc(alloc, schema, self.tree)?;
         is_undone(alloc, schema, &doc, self)
     }
 
-    fn told(&self) -> &'static str {
+    fn message(&self) -> &'static str {
         self.both
     }
 }
@@ -185,7 +185,7 @@ const ROWS: [Pair; 6] = [
 ];
 
 #[test]
-fn undone(rt: HostRuntime) -> Result<(), Fail> {
+fn commits_are_undone(rt: HostRuntime) -> Result<(), Fail> {
     let wrong = wrong_row(rt.alloc(), &ROWS)?;
     assert!(rt; wrong.is_none(), "{wrong:?}");
     Ok(())

@@ -4,7 +4,7 @@ ghost use Rattle.st_marks.specs.Document.{IsSoundInForm};
 ghost use Rattle.st_marks.specs.Intent.{Fits};
 ghost use Rattle.st_doc.specs.Doc.{document_of};
 
-use crate::given::{Case, Row, carry, commit, opened, wrong_row};
+use crate::given::{Case, Row, carry, commit, open_doc, wrong_row};
 use st_doc::Doc;
 use st_heads::way_back;
 use st_ids::{FieldId, OPENING, Or, Rev};
@@ -151,11 +151,11 @@ fn leads_back(alloc: Global, schema: &Schema, doc: &Doc, row: &Edited) -> Result
 
 impl Row for Edited {
     fn is_so(&self, alloc: Global, schema: &Schema) -> Result<bool, Fail> {
-        let doc = opened(alloc, schema, self.tree)?;
+        let doc = open_doc(alloc, schema, self.tree)?;
         leads_back(alloc, schema, &doc, self)
     }
 
-    fn told(&self) -> &'static str {
+    fn message(&self) -> &'static str {
         self.tree
     }
 }

@@ -1,6 +1,6 @@
 //! Final numbers, op-space numbers and stable ids of the worked example.
 
-use crate::sessions::{ONE, add, put, two, worked};
+use crate::sessions::{ONE, add, compressor_in_use, put, two};
 use st_clusters::{At, Compressor, IdRange, Unknown};
 use st_ids::{List, Rev};
 use std::alloc::{AllocError, Global};
@@ -19,7 +19,7 @@ fn goes_from_own_to_final(alloc: Global) -> Option<bool> {
 }
 
 fn numbers(alloc: Global) -> Option<bool> {
-    let ids = worked(alloc)?;
+    let ids = compressor_in_use(alloc)?;
     let first = ids.to_final(rev(1, 512)) == Ok(512) && ids.to_final(rev(2, 1)) == Ok(513);
     let ends = ids.to_final(rev(0, 0)) == Ok(0) && ids.to_final(rev(2, 2)) == Err(Unknown);
     let back = ids.from_op(2, 1025) == Ok(rev(1, 513)) && ids.from_op(2, 514) == Err(Unknown);
@@ -30,7 +30,7 @@ fn numbers(alloc: Global) -> Option<bool> {
 }
 
 fn stable_ids(alloc: Global) -> Option<bool> {
-    let mut ids = worked(alloc)?;
+    let mut ids = compressor_in_use(alloc)?;
     let last = 0xffffffff_ffff_4fff_bfff_ffffffffffff;
     let round = 0x00000000_0000_4000_8000_000000000000;
     let joined = add(alloc, &mut ids, last) == Some(3) && put(&mut ids, 3, 1, 2);
@@ -62,7 +62,7 @@ fn saw(alloc: Global) -> Result<Option<bool>, AllocError> {
         first: 513,
         count: 1,
     })?;
-    let Some(ids) = worked(alloc) else {
+    let Some(ids) = compressor_in_use(alloc) else {
         return Ok(None);
     };
     Ok(Some(sees(&ids, &later, 1) && sees(&ids, &later, 0)))

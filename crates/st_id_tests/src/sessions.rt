@@ -42,7 +42,7 @@ pub fn put(ids: &mut Compressor, session: u32, first: u32, count: u32) -> bool {
 }
 
 /// The three ranges of the worked example: 512 ids, one of the other session, one more.
-pub fn worked(alloc: Global) -> Option<Compressor> {
+pub fn compressor_in_use(alloc: Global) -> Option<Compressor> {
     let mut ids = two(alloc)?;
     if put(&mut ids, 1, 1, 512) && put(&mut ids, 2, 1, 1) && put(&mut ids, 1, 513, 1) {
         Some(ids)
@@ -86,7 +86,7 @@ fn refuses_uuids(alloc: Global) -> Option<bool> {
 }
 
 fn refuses_ranges(alloc: Global) -> Option<bool> {
-    let mut ids = worked(alloc)?;
+    let mut ids = compressor_in_use(alloc)?;
     let range = IdRange {
         session: 1,
         first: 513,
@@ -112,7 +112,7 @@ fn ranges(rt: HostRuntime) -> Result<(), Fail> {
 }
 
 fn copies(alloc: Global) -> Option<bool> {
-    let ids = worked(alloc)?;
+    let ids = compressor_in_use(alloc)?;
     let copy = ids.copy(alloc).ok()?;
     Some(copy.clusters() == ids.clusters() && copy.uuid(2) == Some(TWO))
 }

@@ -1,6 +1,6 @@
 //! Names and the table as JSON.
 
-use crate::sessions::worked;
+use crate::sessions::compressor_in_use;
 use serde_json::Value;
 use st_clusters::{At, Compressor, IdRange};
 use st_idcodec::{CodecFault, op_atom, op_rev, read_op_atom, read_op_rev, read_table, table_value};
@@ -58,7 +58,7 @@ fn names(alloc: Global, ids: &Compressor) -> Result<bool, AllocError> {
 #[test]
 fn texts(rt: HostRuntime) -> Result<(), Fail> {
     let alloc = rt.alloc();
-    let ids = worked(alloc).ok_or("a table")?;
+    let ids = compressor_in_use(alloc).ok_or("a table")?;
     let (table, names) = (is_table(alloc, &ids, TABLE)?, names(alloc, &ids)?);
     assert!(rt; table && names);
     Ok(())

@@ -11,7 +11,7 @@ const HEADER: &str =
     r#"{"schema":{"root":["list"],"types":[{"array":["text"],"name":"list"}]},"trace":1,"tree":{"list":["x"]}}"#;
 
 // The world that the header opens.
-fn opened(alloc: Global) -> Result<World, Fail>
+fn open_world(alloc: Global) -> Result<World, Fail>
     ensures sound { IfOk result (λ w. (w.spent ≡ false) × IsSound w) }
     ensures fresh { IfOk result (λ w. w.steps ≡ 0) }
 {
@@ -44,7 +44,7 @@ fn is_written(alloc: Global, answer: &Answer, line: &str) -> Result<bool, AllocE
 #[test]
 fn first_use(rt: HostRuntime) -> Result<(), Fail> {
     let alloc = rt.alloc();
-    let mut world = opened(alloc)?;
+    let mut world = open_world(alloc)?;
     let joined = answer_to(alloc, &mut world, r#"{"client":"A","do":"join"}"#)?;
     let shown = answer_to(alloc, &mut world, r#"{"client":"A","do":"show"}"#)?;
     let first = is_written(alloc, &joined, "{\"n\":1,\"ok\":\"join\",\"s\":1}\n")?;
