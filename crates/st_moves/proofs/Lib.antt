@@ -1,0 +1,6 @@
+pub mod Gained
+pub mod BetweenSound
+pub mod BetweenRows
+pub mod CarriedRow
+pub mod CarriedRows
+pub mod CarriedRegister
