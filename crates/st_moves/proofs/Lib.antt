@@ -1,0 +1,5 @@
+pub mod BetweenSound
+pub mod BetweenRows
+pub mod CarriedRow
+pub mod CarriedRows
+pub mod CarriedRegister

@@ -1,0 +1,13 @@
+use Rattle.std.proofs.Common.{refl, ◌∙◌, sym, ap, map}
+use Rattle.std.specs.BTreeMap.{get}
+use Rattle.std.specs.BTreeSet.{contains}
+use Rattle.st_ids.specs.Order.{node_cmp}
+use Rattle.st_seq.specs.Pieces.{cells_of_piece}
+use Rattle.st_seq.proofs.Walking.{map-both_counted}
+use Rattle.st_moves.specs.Carried.{carried_piece}
+use Rattle.st_moves.proofs.carry.CarriedTable.mark.Goals as goal
+
+pub returns-in-Counted : goal.returns-in-Counted
+returns-in-Counted c =
+    map-both_counted (carried_piece (get node_cmp c.args.self.now.puts.now) (contains node_cmp c.args.self.now.named.now)) c.in-Counted.k refl
+    ∙ ap (λ p. map (carried_piece (get node_cmp c.args.self.now.puts.now) (contains node_cmp c.args.self.now.named.now)) (cells_of_piece p)) (sym c.in-Counted.is)

@@ -1,0 +1,37 @@
+//! Laws on the document between two: each is the contract of a function that does nothing.
+ghost use Rattle.std.specs.Prelude.{◌≡◌, ◌↔◌, true};
+ghost use Rattle.st_ids.specs.declared.names.NodeId.{NodeId};
+ghost use Rattle.st_kind.specs.Named.{Nodes};
+ghost use Rattle.st_marks.specs.declared.changes.Change.{Change};
+ghost use Rattle.st_marks.specs.declared.intents.Intent.{Intent};
+ghost use Rattle.st_marks.specs.declared.steps.Step.{Step};
+ghost use Rattle.st_marks.specs.Document.{Document, content};
+ghost use Rattle.st_marks.specs.Embedding.{IsEmbedding, IsMentionedByIntent, row_part};
+ghost use Rattle.st_marks.specs.Extends.{IsExtendedBy};
+ghost use Rattle.st_marks.specs.Intent.{Fits, put_of};
+ghost use Rattle.st_marks.specs.Row.{embed_row, step_row};
+ghost use Rattle.st_marks.specs.Step.{IsStep};
+ghost use Rattle.st_moves.specs.Between.{IsClosedIn, between};
+ghost use Rattle.st_moves.specs.Carried.{carry_row};
+
+/// The document between extends the earlier one, and the later one extends it, where with each node that stands as later the
+/// one above it stands as later.
+pub fn between_stands_between()
+    ensures earlier { (D E : Document) (m : Nodes) → IsExtendedBy D E → IsClosedIn E m → IsExtendedBy D (between m D E) }
+    ensures later { (D E : Document) (m : Nodes) → IsExtendedBy D E → IsClosedIn E m → IsExtendedBy (between m D E) E }
+{}
+
+/// An intent that fits the earlier document and the later one fits the one between.
+pub fn intents_fit_between()
+    ensures { (D E : Document) (N : Intent) (m : Nodes) → Fits D N → Fits E N → Fits (between m D E) N }
+{}
+
+/// What a change says of a row in the document between is what it and the step say of that row in the earlier one, laid side
+/// by side. As later stand the nodes that the intent mentions there.
+pub fn rows_are_carried()
+    ensures { (D E : Document) (N : Intent) (C : Change) (S : Step) (m : Nodes) (n : NodeId)
+        → IsExtendedBy D E → Fits D N → Fits E N → (change : IsEmbedding D N C) → (step : IsStep D E S)
+        → ((k : NodeId) → (m k ≡ true) ↔ IsMentionedByIntent E N k)
+        → carry_row (put_of N) m (embed_row (row_part change.mentioned N n) (content D n)) (step_row step.mentioned (step.grows n))
+        ≡ embed_row (row_part m N n) (content (between m D E) n) }
+{}
