@@ -145,7 +145,7 @@ fn bridge_row(alloc: Global, step: &[Mark], change: &[Mark]) -> Result<List<Mark
 }
 
 // The row after a step.
-fn row_after(alloc: Global, slots: &[Slot], marks: &[Mark]) -> Result<List<Slot>, Or<Apart>> {
+fn slots_after(alloc: Global, slots: &[Slot], marks: &[Mark]) -> Result<List<Slot>, Or<Apart>> {
     let slots = List::from_vec(slots.to_vec(alloc)?);
     let step = row(alloc, marks)?;
     if is_short(&step) && finds_few(&step) {
@@ -182,7 +182,7 @@ fn step_is_known(alloc: Global) -> bool {
         node: NodeId(name(session)),
         full: true,
     };
-    row_after(alloc, &[slot(2)], &[Mark::Skip(1), make_mark(1, true)]).is_ok_and(
+    slots_after(alloc, &[slot(2)], &[Mark::Skip(1), make_mark(1, true)]).is_ok_and(
         |row| row.as_slice() == [slot(2), slot(1)].as_slice(),
     )
 }
