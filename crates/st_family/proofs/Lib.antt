@@ -1,1 +1,9 @@
+pub mod Listed
+pub mod Exchanges
+pub mod Rest
+pub mod RowsFit
+pub mod RowsRebased
+pub mod RegistersRebased
+pub mod ChangeCarried
+pub mod ChangeRebased
 mod RegisterLaw
