@@ -7,3 +7,7 @@ pub mod RegistersRebased
 pub mod ChangeCarried
 pub mod ChangeRebased
 mod RegisterLaw
+pub mod Trimmed
+pub mod InTurn
+pub mod WayBack
+pub mod Effects
