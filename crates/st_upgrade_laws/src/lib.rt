@@ -1,0 +1,6 @@
+//! Edits, trees and schemas in the part of a document that is in effect: laws.
+#![tactic(auto)]
+
+mod laws;
+
+pub use laws::{parts_resolve, parts_show};
