@@ -1,3 +1,5 @@
 pub mod Live
 pub mod Resolved
 pub mod Shown
+pub mod Named
+pub mod Edits

@@ -42,7 +42,7 @@ module _ (p : NodeId → Bool) (D : Document) where
 
   module _ (s : IsSoundInForm D) (closed : IsClosedBy p D) where
     -- a full cell's owner passes where the row's node does
-    owner_in : (n : NodeId) → p n ≡ true → (o : Owned) → Has (D.rows n) o → (p o.node ≡ true) ⊎ (is_cell o.cell (D.place o.node) ≡ false)
+    pub owner_in : (n : NodeId) → p n ≡ true → (o : Owned) → Has (D.rows n) o → (p o.node ≡ true) ⊎ (is_cell o.cell (D.place o.node) ≡ false)
     owner_in n e o h = go (is_cell o.cell (D.place o.node)) refl
       where
         go : (b : Bool) → is_cell o.cell (D.place o.node) ≡ b → (p o.node ≡ true) ⊎ (is_cell o.cell (D.place o.node) ≡ false)

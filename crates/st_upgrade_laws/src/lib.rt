@@ -3,4 +3,4 @@
 
 mod laws;
 
-pub use laws::{parts_resolve, parts_show};
+pub use laws::{edits_name_within, parts_resolve, parts_show};
