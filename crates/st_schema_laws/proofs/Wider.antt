@@ -140,7 +140,7 @@ module _ (old new : SchemaView) (sound : is_sound new ≡ true) (wide : wider_of
       let b = and-true _ _ (sym (list_all-append (λ ok. ok) (types_widen old.types new.types) (contains_all new.root old.root ∷ [])) ∙ no_narrowing 0 (types_widen old.types new.types ++ contains_all new.root old.root ∷ []) wide) in
       (b.0, (and-true (contains_all new.root old.root) true b.1).0)
 
-  type_wider : (ty : List ℕ) (leaf : Option Leaf) → type_fits old ty leaf ≡ true → type_fits new ty leaf ≡ true
+  pub type_wider : (ty : List ℕ) (leaf : Option Leaf) → type_fits old ty leaf ≡ true → type_fits new ty leaf ≡ true
   type_wider ty (Some v) e = e
   type_wider ty None e = let f = some_there (form_of old.types ty) e in ap is_some (form_found old.types new.types ty f.0 parts.0 f.1).1
 
@@ -245,7 +245,7 @@ module _ (old new : SchemaView) (sound : is_sound new ≡ true) (wide : wider_of
     left_wider : (f : FieldId) → MayBeLeft old D N f → MayBeLeft new D N f
     left_wider f h = record { known = h.known; filled = λ required. h.filled (required_was (with_names D N) named f required) }
 
-    agrees_wider : KeepsSchema new home D N
+    pub agrees_wider : KeepsSchema new home D N
     agrees_wider = record {
       types = λ n t e. type_wider t.ty t.leaf (a.types n t e);
       puts = λ m to e. goes_wider m to (a.puts m to e);
@@ -254,6 +254,3 @@ module _ (old new : SchemaView) (sound : is_sound new ≡ true) (wide : wider_of
       homes = a.homes;
       filled = λ n key r new_node e required. (let rule = rule_before (with_names D N) named n key r e required in a.filled n key rule.0 new_node rule.1 rule.2);
     }
-
-  pub intent_wider : (home : NodeId → Option FieldId) (D : Document) (N : Intent) → IsConforming old home D → KeepsSchema old home D N → KeepsSchema new home D N
-  intent_wider home D N here a = agrees_wider home D N here.types a

@@ -32,7 +32,7 @@ ghost use Rattle.st_log_laws.specs.Turns.{FitInTurn, IsSublist};
 ghost use Rattle.st_opening.specs.Start.{start_of};
 ghost use Rattle.st_edits.specs.declared.names.NameCounters.{NameCounters};
 ghost use Rattle.st_edits.specs.Resolve.{clear, insert, move as move_of, need, put, remove, resolve};
-ghost use Rattle.st_schema_laws.specs.Conforming.{IsConforming, register_in};
+ghost use Rattle.st_schema_laws.specs.Conforming.{IsConforming, register_in, type_fits};
 ghost use Rattle.st_schema_laws.specs.Agreeing.{KeepsSchema, KeepsSchemaInTurn, KeepSchemaInTurn, TellsHomes, with_homes};
 ghost use Rattle.st_edits.specs.ArrayTypes.{is_array_type};
 
@@ -158,13 +158,14 @@ pub fn joins_agree()
         → IsConforming s home D → KeepsSchema s home D N → KeepsSchema s home (full D N) M → KeepsSchema s home D J }
 {}
 
-/// A document that conforms to a schema conforms to each wider one, and an intent that agrees with it there agrees with the
-/// wider one. So intents that were made before a schema was widened keep conformity after it.
+/// A document that conforms to a schema conforms to each wider one, and an intent that agrees with it, in a document whose
+/// nodes have types as it should, agrees with the wider one. So intents that were made before a schema was widened keep
+/// conformity after it.
 pub fn wider_schemas_conform()
     ensures documents { (old new : SchemaView) (home : NodeId → Option FieldId) (D : Document) → is_sound new ≡ true → wider_of old new ≡ Ok tt
         → IsConforming old home D → IsConforming new home D }
     ensures intents { (old new : SchemaView) (home : NodeId → Option FieldId) (D : Document) (N : Intent) → is_sound new ≡ true → wider_of old new ≡ Ok tt
-        → IsConforming old home D → KeepsSchema old home D N → KeepsSchema new home D N }
+        → ((n : NodeId) (t : NodeType) → D.nodes n ≡ Some t → type_fits old t.ty t.leaf ≡ true) → KeepsSchema old home D N → KeepsSchema new home D N }
 {}
 
 /// The opening document of a tree that the schema allows as its root is conforming, where the home of each node is the
