@@ -19,7 +19,7 @@ use Rattle.st_part_laws.specs.Schemas.{entries_after, is_last_entry, schemas_aft
 use Rattle.st_part_laws.proofs.Schemas.{is-last, schemas_run}
 use Rattle.st_part_laws.proofs.Within.{more_schemas, more_within}
 
-last_or-append : {A : Type 0} (d : Option A) (xs : List A) (x : A) → last_or d (xs ++ x ∷ []) ≡ Some x
+pub last_or-append : {A : Type 0} (d : Option A) (xs : List A) (x : A) → last_or d (xs ++ x ∷ []) ≡ Some x
 last_or-append d [] x = refl
 last_or-append d (y ∷ ys) x = last_or-append (Some y) ys x
 

@@ -134,7 +134,7 @@ module _ (under : Rev → Rev) (chain : Rev → List Rev) (D : Document) (N : In
 
 -- ## After a list
 
-comes_first : (under : Rev → Rev) (rs : List Rev) (D : Document) (N : Intent) → IsMadeUnder rs D → IfSome N.schema (λ _. (r : Rev) → Has rs r → under r ≢ N.rev) → ComesFirst under D N
+pub comes_first : (under : Rev → Rev) (rs : List Rev) (D : Document) (N : Intent) → IsMadeUnder rs D → IfSome N.schema (λ _. (r : Rev) → Has rs r → under r ≢ N.rev) → ComesFirst under D N
 comes_first under rs D N made first = go N.schema first
   where
     go : (o : Option (List ℕ)) → IfSome o (λ _. (r : Rev) → Has rs r → under r ≢ N.rev) → IfSome o (λ _. (n : NodeId) → IsSome (D.nodes n) → under n.0.rev ≢ N.rev)

@@ -144,7 +144,7 @@ module _ (under : Rev → Rev) (N : Intent) where
   pub told_under : with_under under N N.rev ≡ N.under
   told_under = rw (same_rev-itself N.rev) refl
 
-  other_under : (r : Rev) → r ≢ N.rev → with_under under N r ≡ under r
+  pub other_under : (r : Rev) → r ≢ N.rev → with_under under N r ≡ under r
   other_under r other = go (same_rev r N.rev) refl
     where
       go : (b : Bool) → same_rev r N.rev ≡ b → with_under under N r ≡ under r
@@ -175,7 +175,7 @@ module _ (chain : Rev → List Rev) (N : Intent) where
   told_line : with_chain chain N N.rev ≡ chain N.under ++ N.rev ∷ []
   told_line = rw (same_rev-itself N.rev) refl
 
-  other_line : (r : Rev) → r ≢ N.rev → with_chain chain N r ≡ chain r
+  pub other_line : (r : Rev) → r ≢ N.rev → with_chain chain N r ≡ chain r
   other_line r other = go (same_rev r N.rev) refl
     where
       go : (b : Bool) → same_rev r N.rev ≡ b → with_chain chain N r ≡ chain r

@@ -35,7 +35,7 @@ last_there : (x : Rev) (xs : List Rev) → (y : Rev) × (last_or (Some x) xs ≡
 last_there x [] = (x, refl)
 last_there x (y ∷ xs) = last_there y xs
 
-some_last : (xs : List Rev) → first_of xs ≡ Some opening → last_of xs ≡ Some (unwrap_or (last_of xs) opening)
+pub some_last : (xs : List Rev) → first_of xs ≡ Some opening → last_of xs ≡ Some (unwrap_or (last_of xs) opening)
 some_last [] e = let bad : None ≡ Some opening = e in cc
 some_last (x ∷ xs) e = let y = last_there x xs in y.1 ∙ ap (λ o. Some (unwrap_or o opening)) (sym y.1)
 

@@ -3,3 +3,5 @@ pub mod Resolved
 pub mod Shown
 pub mod Named
 pub mod Edits
+pub mod Widening
+pub mod Conformity

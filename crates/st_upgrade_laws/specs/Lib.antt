@@ -1,0 +1,3 @@
+pub mod Widening
+pub mod Agreeing
+pub mod Earlier

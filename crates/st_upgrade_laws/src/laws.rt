@@ -1,5 +1,5 @@
 //! Laws about the part of a document that is in effect: each is the contract of a function that does nothing.
-ghost use Rattle.std.specs.Prelude.{◌≡◌, ◌↔◌, ◌≤◌, ℕ, Bool, true, List, None, Ok};
+ghost use Rattle.std.specs.Prelude.{IfSome, ◌∷◌, [], ◌≡◌, ◌↔◌, ◌≤◌, ℕ, Bool, true, List, None, Ok};
 ghost use Rattle.serde_json.specs.Data.{Data};
 ghost use Rattle.st_ids.specs.Root.{opening, root};
 ghost use Rattle.st_ids.specs.declared.names.NodeId.{NodeId};
@@ -8,12 +8,25 @@ ghost use Rattle.st_tree.specs.Preorder.{cell_named, node_named};
 ghost use Rattle.st_tree.specs.declared.edit.Edit.{Edit};
 ghost use Rattle.st_schema.specs.Schema.{SchemaView, is_sound};
 ghost use Rattle.st_marks.specs.declared.intents.Intent.{Intent};
-ghost use Rattle.st_marks.specs.Document.{Document, IsSoundInForm};
+ghost use Rattle.st_marks.specs.Document.{Document, HasShortRows, IsSoundInForm, revs};
 ghost use Rattle.st_marks.specs.LiveTree.{Shows};
 ghost use Rattle.st_edits.specs.declared.names.NameCounters.{NameCounters};
 ghost use Rattle.st_edits.specs.Resolve.{resolve};
-ghost use Rattle.st_part_laws.specs.Chains.{AreInLine};
+ghost use Rattle.st_marks.specs.declared.schemas.SchemaEntry.{SchemaEntry};
+ghost use Rattle.st_marks.specs.declared.verdicts.Verdict.{Verdict};
+ghost use Rattle.st_marks.specs.CarryOut.{full};
+ghost use Rattle.st_marks.specs.Intent.{Fits};
+ghost use Rattle.st_marks.specs.Run.{Run};
+ghost use Rattle.st_marks.specs.Verdict.{IsVerdict, carried_document};
+ghost use Rattle.st_log_laws.specs.Names.{IsMadeUnder};
+ghost use Rattle.st_log_laws.specs.Turns.{FitInTurn};
+ghost use Rattle.st_schema_laws.specs.Conforming.{IsConforming};
+ghost use Rattle.st_part_laws.specs.Chains.{AreInLine, TellsChain};
 ghost use Rattle.st_part_laws.specs.Parts.{IsClosedBy, IsClosedInEffect, NamesWithin, is_of_schemas, part_by, part_in_effect};
+ghost use Rattle.st_part_laws.specs.Schemas.{entries_after};
+ghost use Rattle.st_part_laws.specs.Turns.{ComesFirst, SchemasComeFirst};
+ghost use Rattle.st_upgrade_laws.specs.Agreeing.{AgreeInTurn, AgreesInLine, ConformsInEffect, Told};
+ghost use Rattle.st_upgrade_laws.specs.Widening.{AreWidening, IsUpgrade};
 
 /// A node of a closed part shows there what it shows in the whole document, and so the part in effect shows its tree.
 pub fn parts_show()
@@ -51,4 +64,30 @@ pub fn edits_name_within()
         → ((k : ℕ) → G.cells ≤ k → D.row_of (cell_named G.rev k) ≡ None)
         → under N.rev ≡ N.under
         → resolve D s G edit ≡ Ok N → NamesWithin (is_of_schemas under (chain N.under)) D N }
+{}
+
+/// The schemas in effect are such that each is what those of its line of ancestors become by being widened: at the opening,
+/// and after any commit.
+pub fn schemas_widen()
+    ensures opening { (view : Rev → SchemaView) (chain : Rev → List Rev) (entries : List SchemaEntry)
+        → revs entries ≡ opening ∷ [] → chain opening ≡ opening ∷ [] → is_sound (view opening) ≡ true
+        → AreWidening view chain entries }
+    ensures after { (view : Rev → SchemaView) (chain : Rev → List Rev) (entries : List SchemaEntry) (N : Intent)
+        → TellsChain chain N → IfSome N.schema (IsUpgrade (view N.under) (view N.rev))
+        → AreWidening view chain entries → AreWidening view chain (entries_after entries N) }
+{}
+
+/// The part in effect keeps to the last schema in effect: at the opening; after a commit that agrees with the schema under
+/// which it was made, whether that is in effect or not and whatever its verdict, also one that widens the schema; and after a
+/// list of such commits.
+pub fn parts_conform()
+    ensures opening { (T : Told) (D : Document) → IsSoundInForm D → IsMadeUnder (opening ∷ []) D
+        → revs D.schemas ≡ opening ∷ [] → T.under opening ≡ opening → T.chain opening ≡ opening ∷ []
+        → is_sound (T.view opening) ≡ true → IsConforming (T.view opening) T.home D → ConformsInEffect T D }
+    ensures one { (T : Told) (D : Document) (N : Intent) (v : Verdict) → IsSoundInForm D → Fits D N → HasShortRows (full D N)
+        → ComesFirst T.under D N → AgreesInLine T D N → ConformsInEffect T D → IsVerdict D N v
+        → ConformsInEffect T (carried_document v D N) }
+    ensures run { (T : Told) (rs : List Rev) (D E : Document) (Ns : List Intent) → IsSoundInForm D → FitInTurn D Ns
+        → IsMadeUnder rs D → SchemasComeFirst T.under rs Ns → AgreeInTurn T D Ns → ConformsInEffect T D → Run D Ns E
+        → ConformsInEffect T E }
 {}

@@ -3,4 +3,4 @@
 
 mod laws;
 
-pub use laws::{edits_name_within, parts_resolve, parts_show};
+pub use laws::{edits_name_within, parts_conform, parts_resolve, parts_show, schemas_widen};
