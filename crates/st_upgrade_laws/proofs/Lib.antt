@@ -5,3 +5,6 @@ pub mod Named
 pub mod Edits
 pub mod Widening
 pub mod Conformity
+pub mod InTurn
+pub mod Told
+pub mod Earlier

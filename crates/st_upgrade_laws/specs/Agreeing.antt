@@ -11,7 +11,7 @@ use Rattle.st_marks.specs.declared.intents.Intent.{Intent}
 use Rattle.st_marks.specs.declared.verdicts.Verdict.{Verdict}
 use Rattle.st_marks.specs.Document.{Document, IsSoundInForm, NodeType, last_of, revs}
 use Rattle.st_marks.specs.Verdict.{IsVerdict, carried_document}
-use Rattle.st_schema_laws.specs.Agreeing.{KeepsSchema}
+use Rattle.st_schema_laws.specs.Agreeing.{KeepsSchema, with_homes}
 use Rattle.st_schema_laws.specs.Conforming.{IsConforming, type_fits}
 use Rattle.st_part_laws.specs.Chains.{AreInLine, TellsChain, with_chain, with_under}
 use Rattle.st_part_laws.specs.Parts.{IsClosedInEffect, NamesWithin, is_of_schemas, part_in_effect, part_of_schemas}
@@ -61,3 +61,7 @@ pub record ConformsInEffect (T : Told) (D : Document) : Type 0 where
 -- what is told, where one more commit tells its schema, and, if it changes the schema, its line of ancestors and the new one
 abbrev pub with_commit : Told → Intent → SchemaView → Told
 with_commit T N s = record { under = with_under T.under N; chain = with_chain T.chain N; view = λ r. if same_rev r N.rev then s else T.view r; home = T.home }
+
+-- what is told, where one more commit tells the homes of its new nodes
+abbrev pub with_home : Told → Intent → Told
+with_home T N = record T { home = with_homes T.home N }

@@ -1,6 +1,8 @@
 //! Laws about the part of a document that is in effect: each is the contract of a function that does nothing.
-ghost use Rattle.std.specs.Prelude.{IfSome, ◌∷◌, [], ◌≡◌, ◌↔◌, ◌≤◌, ℕ, Bool, true, List, None, Ok};
+ghost use Rattle.std.specs.Prelude.{IfSome, ◌∷◌, ◌++◌, [], ◌≡◌, ◌≢◌, ◌↔◌, ◌≤◌, ℕ, Bool, true, List, None, Ok};
+ghost use Rattle.std.specs.List.{AllByRecursion};
 ghost use Rattle.serde_json.specs.Data.{Data};
+ghost use Rattle.st_ids.specs.Listing.{Has};
 ghost use Rattle.st_ids.specs.Root.{opening, root};
 ghost use Rattle.st_ids.specs.declared.names.NodeId.{NodeId};
 ghost use Rattle.st_ids.specs.declared.names.Rev.{Rev};
@@ -15,17 +17,19 @@ ghost use Rattle.st_edits.specs.Resolve.{resolve};
 ghost use Rattle.st_marks.specs.declared.schemas.SchemaEntry.{SchemaEntry};
 ghost use Rattle.st_marks.specs.declared.verdicts.Verdict.{Verdict};
 ghost use Rattle.st_marks.specs.CarryOut.{full};
-ghost use Rattle.st_marks.specs.Intent.{Fits};
+ghost use Rattle.st_marks.specs.Intent.{Fits, IsIntent};
 ghost use Rattle.st_marks.specs.Run.{Run};
 ghost use Rattle.st_marks.specs.Verdict.{IsVerdict, carried_document};
-ghost use Rattle.st_log_laws.specs.Names.{IsMadeUnder};
-ghost use Rattle.st_log_laws.specs.Turns.{FitInTurn};
+ghost use Rattle.st_log_laws.specs.Names.{HasNames, HaveNewRevisions, IsMadeUnder, revisions};
+ghost use Rattle.st_log_laws.specs.Turns.{FitInTurn, IsSublist};
 ghost use Rattle.st_schema_laws.specs.Conforming.{IsConforming};
 ghost use Rattle.st_part_laws.specs.Chains.{AreInLine, TellsChain};
 ghost use Rattle.st_part_laws.specs.Parts.{IsClosedBy, IsClosedInEffect, NamesWithin, is_of_schemas, part_by, part_in_effect};
 ghost use Rattle.st_part_laws.specs.Schemas.{entries_after};
 ghost use Rattle.st_part_laws.specs.Turns.{ComesFirst, SchemasComeFirst};
-ghost use Rattle.st_upgrade_laws.specs.Agreeing.{AgreeInTurn, AgreesInLine, ConformsInEffect, Told};
+ghost use Rattle.st_upgrade_laws.specs.Agreeing.{AgreeInTurn, AgreesInLine, ConformsInEffect, Told, with_commit, with_home};
+ghost use Rattle.st_upgrade_laws.specs.Earlier.{AreUnderEarlier, schemas_made};
+ghost use Rattle.st_schema_laws.specs.Agreeing.{TellsHomes};
 ghost use Rattle.st_upgrade_laws.specs.Widening.{AreWidening, IsUpgrade};
 
 /// A node of a closed part shows there what it shows in the whole document, and so the part in effect shows its tree.
@@ -90,4 +94,70 @@ pub fn parts_conform()
     ensures run { (T : Told) (rs : List Rev) (D E : Document) (Ns : List Intent) → IsSoundInForm D → FitInTurn D Ns
         → IsMadeUnder rs D → SchemasComeFirst T.under rs Ns → AgreeInTurn T D Ns → ConformsInEffect T D → Run D Ns E
         → ConformsInEffect T E }
+{}
+
+/// A commit that agrees with its schema in the part of its schema's line does so in each later document with the same names.
+/// So a list of which each does, where it comes, stays such: its fronts and rests, lists one after the other, and the same
+/// commits after a longer list.
+pub fn commits_agree_in_turn()
+    ensures later { (T : Told) (D E : Document) (N : Intent) → HasNames D E → IsSoundInForm D → IsSoundInForm E
+        → Fits D N → Fits E N → AgreesInLine T D N → AgreesInLine T E N }
+    ensures front { (T : Told) (D : Document) (Ns Ms : List Intent) → AgreeInTurn T D (Ns ++ Ms) → AgreeInTurn T D Ns }
+    ensures rest { (T : Told) (D E : Document) (Ns Ms : List Intent) → AgreeInTurn T D (Ns ++ Ms) → Run D Ns E
+        → AgreeInTurn T E Ms }
+    ensures then_one { (T : Told) (D E : Document) (Ns Ms : List Intent) → AgreeInTurn T D Ns → Run D Ns E
+        → AgreeInTurn T E Ms → AgreeInTurn T D (Ns ++ Ms) }
+    ensures beside { (T : Told) (D E : Document) (Ns : List Intent) → HasNames D E → IsSoundInForm D → IsSoundInForm E
+        → FitInTurn D Ns → FitInTurn E Ns → AgreeInTurn T D Ns → AgreeInTurn T E Ns }
+    ensures longer { (T : Told) (D : Document) (As Bs Ns : List Intent) → IsSoundInForm D → IsSublist As Bs
+        → FitInTurn D (As ++ Ns) → FitInTurn D (Bs ++ Ns) → AgreeInTurn T D Bs → AgreeInTurn T D (As ++ Ns)
+        → AgreeInTurn T D (Bs ++ Ns) }
+{}
+
+/// A new commit's schema, the line of ancestors and the view of a new schema, and the homes of a commit's new nodes can be
+/// told beside what is told: documents that conform and lists that agree do so as before, if they don't have its revision.
+pub fn commits_can_be_told()
+    ensures under { (T : Told) (N : Intent) (new : SchemaView) → (with_commit T N new).under N.rev ≡ N.under }
+    ensures chain { (T : Told) (N : Intent) (new : SchemaView) → N.under ≢ N.rev
+        → TellsChain (with_commit T N new).chain N }
+    ensures view { (T : Told) (N : Intent) (new : SchemaView) → (with_commit T N new).view N.rev ≡ new }
+    ensures upgrade { (T : Told) (N : Intent) (new : SchemaView) → N.under ≢ N.rev
+        → IfSome N.schema (IsUpgrade (T.view N.under) new)
+        → IfSome N.schema (IsUpgrade ((with_commit T N new).view N.under) ((with_commit T N new).view N.rev)) }
+    ensures home { (T : Told) (N : Intent) → TellsHomes (with_home T N).home N }
+    ensures documents { (T : Told) (N : Intent) (new : SchemaView) (ss : List Rev) (D : Document) → IsSoundInForm D
+        → IsMadeUnder ss D → (Has ss N.rev → ⊥) → ((r : Rev) → Has ss r → T.under r ≢ N.rev)
+        → ConformsInEffect T D → ConformsInEffect (with_commit T N new) D }
+    ensures lists { (T : Told) (N : Intent) (new : SchemaView) (ss : List Rev) (D : Document) (Ms : List Intent)
+        → IsSoundInForm D → IsMadeUnder ss D → FitInTurn D Ms → (Has (revisions Ms ++ ss) N.rev → ⊥)
+        → ((M : Intent) → Has Ms M → M.under ≢ N.rev)
+        → AgreeInTurn T D Ms → AgreeInTurn (with_commit T N new) D Ms }
+    ensures home_documents { (T : Told) (N : Intent) (ss : List Rev) (D : Document) → IsIntent N → IsSoundInForm D
+        → IsMadeUnder ss D → (Has ss N.rev → ⊥) → ConformsInEffect T D → ConformsInEffect (with_home T N) D }
+    ensures home_lists { (T : Told) (N : Intent) (ss : List Rev) (D : Document) (Ms : List Intent) → IsIntent N
+        → IsMadeUnder ss D → FitInTurn D Ms → (Has (revisions Ms ++ ss) N.rev → ⊥)
+        → AgreeInTurn T D Ms → AgreeInTurn (with_home T N) D Ms }
+{}
+
+/// Lists of commits, each made under a schema that comes before it: fronts, rests, lists one after the other and longer lists
+/// are such. What is in effect after a list came before it or in it. So each change of schema comes before what was made
+/// under it.
+pub fn schemas_come_earlier()
+    ensures front { (rs : List Rev) (Ns Ms : List Intent) → AreUnderEarlier rs (Ns ++ Ms) → AreUnderEarlier rs Ns }
+    ensures rest { (rs : List Rev) (Ns Ms : List Intent) → AreUnderEarlier rs (Ns ++ Ms)
+        → AreUnderEarlier (schemas_made rs Ns) Ms }
+    ensures then { (rs : List Rev) (Ns Ms : List Intent) → AreUnderEarlier rs Ns
+        → AreUnderEarlier (schemas_made rs Ns) Ms → AreUnderEarlier rs (Ns ++ Ms) }
+    ensures longer { (rs : List Rev) (As Bs Ns : List Intent) → IsSublist As Bs → AreUnderEarlier rs Bs
+        → AreUnderEarlier rs (As ++ Ns) → AreUnderEarlier rs (Bs ++ Ns) }
+    ensures in_effect { (D E : Document) (Ns : List Intent) → AllByRecursion IsIntent Ns → Run D Ns E
+        → (r : Rev) → Has (revs E.schemas) r → Has (schemas_made (revs D.schemas) Ns) r }
+    ensures unders { (rs : List Rev) (Ns : List Intent) → AreUnderEarlier rs Ns → (N : Intent) → Has Ns N
+        → Has (schemas_made rs Ns) N.under }
+    ensures among { (rs : List Rev) (Ns : List Intent) (r : Rev) → Has (schemas_made rs Ns) r
+        → Has (revisions Ns ++ rs) r }
+    ensures first { (under : Rev → Rev) (rs ss : List Rev) (Ns : List Intent) → ((r : Rev) → Has rs r → Has ss r)
+        → ((r : Rev) → Has ss r → Has rs (under r)) → HaveNewRevisions ss Ns
+        → AllByRecursion (λ (N : Intent). under N.rev ≡ N.under) Ns
+        → AreUnderEarlier rs Ns → SchemasComeFirst under ss Ns }
 {}

@@ -3,4 +3,7 @@
 
 mod laws;
 
-pub use laws::{edits_name_within, parts_conform, parts_resolve, parts_show, schemas_widen};
+pub use laws::{
+    commits_agree_in_turn, commits_can_be_told, edits_name_within, parts_conform, parts_resolve,
+    parts_show, schemas_come_earlier, schemas_widen,
+};
