@@ -29,6 +29,10 @@ names_within p D s G edit N sound schema closed of_root nodes cells own e =
     let f = resolved_fits D s G edit N sound schema nodes cells e in
     within_of p D sound G N f own (edit_in p D sound closed of_root s G nodes own edit N f e)
 
+-- what an edit means has the commit's revision and the last schema's, and changes no schema
+pub meant : (D : Document) (s : SchemaView) (G : NameCounters) (edit : Edit) (N : Intent) → IsSoundInForm D → is_sound s ≡ true → NodesFresh D G → CellsFresh D G → resolve D s G edit ≡ Ok N → IsFromPart (λ n. true) D G N
+meant D s G edit N sound schema nodes cells e = edit_in (λ n. true) D sound (λ m n up. refl) refl s G nodes (λ n q. refl) edit N (resolved_fits D s G edit N sound schema nodes cells e) e
+
 -- ## Under the last schema in effect
 
 last_there : (x : Rev) (xs : List Rev) → (y : Rev) × (last_or (Some x) xs ≡ Some y)
@@ -47,13 +51,10 @@ names_in_line under chain D s G edit N sound schema closed told line nodes cells
     p : NodeId → Bool
     p = is_of_schemas under (revs D.schemas)
 
-    meant : IsFromPart (λ n. true) D G N
-    meant = edit_in (λ n. true) D sound (λ m n up. refl) refl s G nodes (λ n q. refl) edit N (resolved_fits D s G edit N sound schema nodes cells e) e
-
     last : last_of (revs D.schemas) ≡ Some N.under
-    last = some_last (revs D.schemas) sound.in_effect.begun ∙ ap (λ r. Some r) (sym meant.under)
+    last = some_last (revs D.schemas) sound.in_effect.begun ∙ ap (λ r. Some r) (sym (meant D s G edit N sound schema nodes cells e).under)
 
     own : (n : NodeId) → n.0.rev ≡ G.rev → p n ≡ true
     own n q =
-        let same : under n.0.rev ≡ N.under = ap under (q ∙ sym meant.rev) ∙ made in
+        let same : under n.0.rev ≡ N.under = ap under (q ∙ sym (meant D s G edit N sound schema nodes cells e).rev) ∙ made in
         has-any (λ r. same_rev r (under n.0.rev)) (revs D.schemas) N.under (last-has (revs D.schemas) N.under last) (ap (same_rev N.under) same ∙ same_rev-itself N.under)

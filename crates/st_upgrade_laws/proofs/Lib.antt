@@ -8,3 +8,4 @@ pub mod Conformity
 pub mod InTurn
 pub mod Told
 pub mod Earlier
+pub mod Kept

@@ -64,6 +64,7 @@ IsAnchor p D n after = IfSome after (λ c. (o : Owned) × Has (D.rows n) o × (o
 pub record IsFromPart (p : NodeId → Bool) (D : Document) (G : NameCounters) (N : Intent) : Type 0 where
   pub rev : N.rev ≡ G.rev
   pub under : N.under ≡ (empty_intent D G).under
+  pub no_schema : N.schema ≡ None
   pub groups : (g : Group) → Has N.groups g → (p g.node ≡ true) × IsAnchor p D g.node g.after
   pub puts : (m : NodeId) (to : To) → put_of N m ≡ Some to → p m ≡ true
   pub cells : (m : NodeId) (c : CellId) → put_of N m ≡ Some (To.Cell c) → Has (group_cells N) (owned_cell c m)
@@ -175,11 +176,12 @@ module _ (p : NodeId → Bool) (D : Document) (sound : IsSoundInForm D) where
           let is = under_at xs x.0 g x.2 in
           (ap p is.node ∙ new_in x.0.node (listed_new x.0 x.1), subst (IsAnchor p D g.node) (sym is.after) tt)
 
-      trees_in : N.under ≡ (empty_intent D G).under → N.need ≡ [] → ((g : Group) → Has N.groups g → (p g.node ≡ true) × IsAnchor p D g.node g.after)
+      trees_in : N.under ≡ (empty_intent D G).under → N.schema ≡ None → N.need ≡ [] → ((g : Group) → Has N.groups g → (p g.node ≡ true) × IsAnchor p D g.node g.after)
           → ((r : FieldId) → Has N.clear r → (r.node ≡ m) ⊎ (D.nodes r.node ≡ None)) → IsFromPart p D G N
-      trees_in under need groups clears = record {
+      trees_in under no_schema need groups clears = record {
         rev = rev;
         under = under;
+        no_schema = no_schema;
         groups = groups;
         puts = λ n to e. new_in n (put_new n to e);
         cells = in_new_cell;
@@ -192,7 +194,7 @@ module _ (p : NodeId → Bool) (D : Document) (sound : IsSoundInForm D) where
     insertion_in G m index trees fresh f own here =
         let xs = named_nodes G trees in
         let N = intent_to_insert D G m index xs in
-        trees_in G N f own refl m here None xs refl refl refl refl
+        trees_in G N f own refl m here None xs refl refl refl refl refl
         (λ g h. elim (with_has (group_of m (left_of D m index) (top_cells xs)) (groups_under xs) g h) [
           | inl e ↦ (let is = group_is m (left_of D m index) (top_cells xs) g e in (ap p is.node ∙ here, subst (IsAnchor p D g.node) (sym is.after) (subst (λ n. IsAnchor p D n (left_of D m index)) (sym is.node) (left_anchor m index here))))
           | inr k ↦ under_in G N f own refl m here None xs refl refl g k
@@ -204,7 +206,7 @@ module _ (p : NodeId → Bool) (D : Document) (sound : IsSoundInForm D) where
     setting_in G m key trees fresh f own here =
         let xs = named_nodes G trees in
         let N = intent_to_place D G (field_at m key) xs in
-        trees_in G N f own refl m here (Some (field_at m key)) xs refl refl refl refl
+        trees_in G N f own refl m here (Some (field_at m key)) xs refl refl refl refl refl
         (λ g h. under_in G N f own refl m here (Some (field_at m key)) xs refl refl g h)
         (λ r h. elim h [
           | inl e ↦ inl (ap (λ (f : FieldId). f.node) (sym e))
@@ -226,6 +228,7 @@ module _ (p : NodeId → Bool) (D : Document) (sound : IsSoundInForm D) where
     move_in G m key Required index ns here all = record {
       rev = refl;
       under = refl;
+      no_schema = refl;
       groups = λ g h. absurd h;
       puts = λ n to e. (let bad : None ≡ Some to = e in cc);
       cells = λ n c e. (let bad : None ≡ Some (To.Cell c) = e in cc);
@@ -235,6 +238,7 @@ module _ (p : NodeId → Bool) (D : Document) (sound : IsSoundInForm D) where
     move_in G m key Optional index ns here all = record {
       rev = refl;
       under = refl;
+      no_schema = refl;
       groups = λ g h. absurd h;
       puts = λ n to e. (let x = taken n to e in all n (subst (Has ns) (ap (λ (p : Put). p.node) x.2) x.1));
       cells = λ n c e. (let x = taken n (To.Cell c) e in let bad : To.Register (field_at m key) ≡ To.Cell c = ap (λ (p : Put). p.to) x.2 in cc);
@@ -247,6 +251,7 @@ module _ (p : NodeId → Bool) (D : Document) (sound : IsSoundInForm D) where
     move_in G m key Sequence index ns here all = record {
       rev = refl;
       under = refl;
+      no_schema = refl;
       groups = λ g h. elim (with_has (group_of m (left_of D m index) cells) [] g h) [
         | inl e ↦ (let is = group_is m (left_of D m index) cells g e in (ap p is.node ∙ here, subst (IsAnchor p D g.node) (sym is.after) (subst (λ n. IsAnchor p D n (left_of D m index)) (sym is.node) (left_anchor m index here))))
         | inr none ↦ absurd none
@@ -282,6 +287,7 @@ module _ (p : NodeId → Bool) (D : Document) (sound : IsSoundInForm D) where
           subst (IsFromPart p D G) w.intent (record {
             rev = refl;
             under = refl;
+            no_schema = refl;
             groups = λ g h. absurd h;
             puts = λ n to q. (let x = taken w.node n to q in closed n w.node (row_above D sound w.node n (items_in D w.node index count n (subst (Has (items_from D w.node index count)) (ap (λ (p : Put). p.node) x.2) x.1))) ∙ here);
             cells = λ n c q. (let x = taken w.node n (To.Cell c) q in let bad : To.Nowhere ≡ To.Cell c = ap (λ (p : Put). p.to) x.2 in cc);
@@ -303,6 +309,7 @@ module _ (p : NodeId → Bool) (D : Document) (sound : IsSoundInForm D) where
           subst (IsFromPart p D G) w.intent (record {
             rev = refl;
             under = refl;
+            no_schema = refl;
             groups = λ g h. absurd h;
             puts = λ n to q. (let bad : None ≡ Some to = q in cc);
             cells = λ n c q. (let bad : None ≡ Some (To.Cell c) = q in cc);
@@ -314,6 +321,7 @@ module _ (p : NodeId → Bool) (D : Document) (sound : IsSoundInForm D) where
           subst (IsFromPart p D G) w.2 (record {
             rev = refl;
             under = refl;
+            no_schema = refl;
             groups = λ g h. absurd h;
             puts = λ n to q. (let bad : None ≡ Some to = q in cc);
             cells = λ n c q. (let bad : None ≡ Some (To.Cell c) = q in cc);

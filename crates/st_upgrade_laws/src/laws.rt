@@ -6,8 +6,13 @@ ghost use Rattle.st_ids.specs.Listing.{Has};
 ghost use Rattle.st_ids.specs.Root.{opening, root};
 ghost use Rattle.st_ids.specs.declared.names.NodeId.{NodeId};
 ghost use Rattle.st_ids.specs.declared.names.Rev.{Rev};
+ghost use Rattle.st_tree.specs.Node.{Node};
 ghost use Rattle.st_tree.specs.Preorder.{cell_named, node_named};
 ghost use Rattle.st_tree.specs.declared.edit.Edit.{Edit};
+ghost use Rattle.st_schema.specs.Conforms.{conforms};
+ghost use Rattle.st_schema.specs.TreeText.{tree_data};
+ghost use Rattle.st_marks.specs.Join.{AreParts, IsJoin};
+ghost use Rattle.st_edits.specs.ArrayTypes.{is_array_type};
 ghost use Rattle.st_schema.specs.Schema.{SchemaView, is_sound};
 ghost use Rattle.st_marks.specs.declared.intents.Intent.{Intent};
 ghost use Rattle.st_marks.specs.Document.{Document, HasShortRows, IsSoundInForm, revs};
@@ -27,7 +32,7 @@ ghost use Rattle.st_part_laws.specs.Chains.{AreInLine, TellsChain};
 ghost use Rattle.st_part_laws.specs.Parts.{IsClosedBy, IsClosedInEffect, NamesWithin, is_of_schemas, part_by, part_in_effect};
 ghost use Rattle.st_part_laws.specs.Schemas.{entries_after};
 ghost use Rattle.st_part_laws.specs.Turns.{ComesFirst, SchemasComeFirst};
-ghost use Rattle.st_upgrade_laws.specs.Agreeing.{AgreeInTurn, AgreesInLine, ConformsInEffect, Told, with_commit, with_home};
+ghost use Rattle.st_upgrade_laws.specs.Agreeing.{AgreeInTurn, AgreesInLine, ConformsInEffect, Told, last_schema, with_commit, with_home};
 ghost use Rattle.st_upgrade_laws.specs.Earlier.{AreUnderEarlier, schemas_made};
 ghost use Rattle.st_schema_laws.specs.Agreeing.{TellsHomes};
 ghost use Rattle.st_upgrade_laws.specs.Widening.{AreWidening, IsUpgrade};
@@ -160,4 +165,26 @@ pub fn schemas_come_earlier()
         → ((r : Rev) → Has ss r → Has rs (under r)) → HaveNewRevisions ss Ns
         → AllByRecursion (λ (N : Intent). under N.rev ≡ N.under) Ns
         → AreUnderEarlier rs Ns → SchemasComeFirst under ss Ns }
+{}
+
+/// What an edit means agrees with its schema in the part of its schema's line, where its author makes it; so does the join of
+/// two parts of a commit that do.
+pub fn edits_agree_in_line()
+    ensures edit { (T : Told) (D : Document) (G : NameCounters) (edit : Edit) (N : Intent)
+        → IsSoundInForm D → ConformsInEffect T D
+        → ((k : ℕ) → G.nodes ≤ k → D.nodes (node_named G.rev k) ≡ None)
+        → ((k : ℕ) → G.cells ≤ k → D.row_of (cell_named G.rev k) ≡ None)
+        → TellsHomes T.home N → T.under N.rev ≡ N.under
+        → resolve D (T.view (last_schema D)) G edit ≡ Ok N → AgreesInLine T D N }
+    ensures join { (T : Told) (D : Document) (N M J : Intent)
+        → IsSoundInForm D → ConformsInEffect T D → IsSoundInForm (full D N)
+        → AreParts D N M → IsJoin N M J → N.under ≡ last_schema D
+        → AgreesInLine T D N → AgreesInLine T (full D N) M → AgreesInLine T D J }
+{}
+
+/// What a document shows is the JSON form of a tree that the last schema in effect allows as its root.
+pub fn shown_trees_are_allowed()
+    ensures { (T : Told) (D : Document) (is_array : List ℕ → Bool) (d : Data) → IsSoundInForm D → ConformsInEffect T D
+        → ((ty : List ℕ) → is_array ty ≡ is_array_type (T.view (last_schema D)) ty) → Shows is_array D root d
+        → (t : Node) × (tree_data t ≡ d) × (conforms (T.view (last_schema D)) (T.view (last_schema D)).root t ≡ true) }
 {}
