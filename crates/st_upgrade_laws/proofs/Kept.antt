@@ -44,10 +44,10 @@ use Rattle.st_upgrade_laws.proofs.Edits.{meant, names_in_line, some_last}
 use Rattle.st_upgrade_laws.proofs.Resolved.{resolves_in_effect}
 use Rattle.st_upgrade_laws.proofs.Shown.{shows_in_effect}
 
-no_upgrade : (T : Told) (N : Intent) → N.schema ≡ None → IfSome N.schema (IsUpgrade (T.view N.under) (T.view N.rev))
+pub no_upgrade : (T : Told) (N : Intent) → N.schema ≡ None → IfSome N.schema (IsUpgrade (T.view N.under) (T.view N.rev))
 no_upgrade T N e = subst (λ o. IfSome o (IsUpgrade (T.view N.under) (T.view N.rev))) (sym e) tt
 
-no_line : (T : Told) (N : Intent) → N.schema ≡ None → TellsChain T.chain N
+pub no_line : (T : Told) (N : Intent) → N.schema ≡ None → TellsChain T.chain N
 no_line T N e = subst (λ o. IfSome o (λ _. T.chain N.rev ≡ T.chain N.under ++ N.rev ∷ [])) (sym e) tt
 
 module _ (T : Told) (D : Document) (s : IsSoundInForm D) (here : ConformsInEffect T D) where

@@ -9,3 +9,4 @@ pub mod InTurn
 pub mod Told
 pub mod Earlier
 pub mod Kept
+pub mod Back

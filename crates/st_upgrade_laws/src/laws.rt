@@ -21,6 +21,7 @@ ghost use Rattle.st_edits.specs.declared.names.NameCounters.{NameCounters};
 ghost use Rattle.st_edits.specs.Resolve.{resolve};
 ghost use Rattle.st_marks.specs.declared.schemas.SchemaEntry.{SchemaEntry};
 ghost use Rattle.st_marks.specs.declared.verdicts.Verdict.{Verdict};
+ghost use Rattle.st_marks.specs.Back.{IsBack};
 ghost use Rattle.st_marks.specs.CarryOut.{full};
 ghost use Rattle.st_marks.specs.Intent.{Fits, IsIntent};
 ghost use Rattle.st_marks.specs.Run.{Run};
@@ -187,4 +188,13 @@ pub fn shown_trees_are_allowed()
     ensures { (T : Told) (D : Document) (is_array : List ℕ → Bool) (d : Data) → IsSoundInForm D → ConformsInEffect T D
         → ((ty : List ℕ) → is_array ty ≡ is_array_type (T.view (last_schema D)) ty) → Shows is_array D root d
         → (t : Node) × (tree_data t ≡ d) × (conforms (T.view (last_schema D)) (T.view (last_schema D)).root t ≡ true) }
+{}
+
+/// The way back over a sound commit of data, made under the last schema in effect in a later document, agrees with that schema
+/// in the part of its line, directly after the commit, and so in the later document too, where it fits.
+pub fn ways_back_agree_in_line()
+    ensures { (T : Told) (D E : Document) (N B : Intent) (rev : Rev) → IsSoundInForm D → Fits D N → HasShortRows (full D N)
+        → N.schema ≡ None → IsVerdict D N Verdict.Sound → AgreesInLine T D N → ConformsInEffect T D
+        → IsSoundInForm E → ConformsInEffect T E → ((r : Rev) → Has (revs D.schemas) r → Has (revs E.schemas) r)
+        → T.under rev ≡ last_schema E → IsBack D (full D N) rev (last_schema E) B → AgreesInLine T (full D N) B }
 {}
