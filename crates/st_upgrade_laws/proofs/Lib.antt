@@ -10,3 +10,4 @@ pub mod Told
 pub mod Earlier
 pub mod Kept
 pub mod Back
+pub mod Changes

@@ -1,5 +1,5 @@
 //! Laws about the part of a document that is in effect: each is the contract of a function that does nothing.
-ghost use Rattle.std.specs.Prelude.{IfSome, ◌∷◌, ◌++◌, [], ◌≡◌, ◌≢◌, ◌↔◌, ◌≤◌, ℕ, Bool, true, List, None, Ok};
+ghost use Rattle.std.specs.Prelude.{IfSome, IsSome, ◌∷◌, ◌++◌, [], ◌≡◌, ◌≢◌, ◌↔◌, ◌≤◌, ℕ, Bool, true, List, None, Ok};
 ghost use Rattle.std.specs.List.{AllByRecursion};
 ghost use Rattle.serde_json.specs.Data.{Data};
 ghost use Rattle.st_ids.specs.Listing.{Has};
@@ -77,7 +77,7 @@ pub fn edits_name_within()
 {}
 
 /// The schemas in effect are such that each is what those of its line of ancestors become by being widened: at the opening,
-/// and after any commit.
+/// and after any commit. What is in effect stays in effect.
 pub fn schemas_widen()
     ensures opening { (view : Rev → SchemaView) (chain : Rev → List Rev) (entries : List SchemaEntry)
         → revs entries ≡ opening ∷ [] → chain opening ≡ opening ∷ [] → is_sound (view opening) ≡ true
@@ -85,6 +85,8 @@ pub fn schemas_widen()
     ensures after { (view : Rev → SchemaView) (chain : Rev → List Rev) (entries : List SchemaEntry) (N : Intent)
         → TellsChain chain N → IfSome N.schema (IsUpgrade (view N.under) (view N.rev))
         → AreWidening view chain entries → AreWidening view chain (entries_after entries N) }
+    ensures stay { (D E : Document) (Ns : List Intent) → AllByRecursion IsIntent Ns → Run D Ns E
+        → (r : Rev) → Has (revs D.schemas) r → Has (revs E.schemas) r }
 {}
 
 /// The part in effect keeps to the last schema in effect: at the opening; after a commit that agrees with the schema under
@@ -169,7 +171,7 @@ pub fn schemas_come_earlier()
 {}
 
 /// What an edit means agrees with its schema in the part of its schema's line, where its author makes it; so does the join of
-/// two parts of a commit that do.
+/// two parts of a commit that do, and a change of schema as it is told.
 pub fn edits_agree_in_line()
     ensures edit { (T : Told) (D : Document) (G : NameCounters) (edit : Edit) (N : Intent)
         → IsSoundInForm D → ConformsInEffect T D
@@ -181,6 +183,9 @@ pub fn edits_agree_in_line()
         → IsSoundInForm D → ConformsInEffect T D → IsSoundInForm (full D N)
         → AreParts D N M → IsJoin N M J → N.under ≡ last_schema D
         → AgreesInLine T D N → AgreesInLine T (full D N) M → AgreesInLine T D J }
+    ensures change { (T : Told) (D : Document) (N : Intent) → IsIntent N → IsSome N.schema
+        → T.under N.rev ≡ N.under → TellsChain T.chain N
+        → IfSome N.schema (IsUpgrade (T.view N.under) (T.view N.rev)) → AgreesInLine T D N }
 {}
 
 /// What a document shows is the JSON form of a tree that the last schema in effect allows as its root.
