@@ -1,13 +1,17 @@
 -- Lists of commits that agree with their schemas, each where it comes, and in longer lists.
-use Rattle.std.proofs.Common.{◌≡◌, List, [], ◌∷◌, ◌++◌, true, subst}
+use Rattle.std.proofs.Common.{◌≡◌, List, [], ◌∷◌, ◌++◌, true, sym, ap, ◌∙◌, subst, inl, inr}
+use Rattle.std.specs.List.{AllByRecursion}
+use Rattle.st_ids.specs.Listing.{Has}
+use Rattle.st_ids.specs.Root.{opening}
 use Rattle.st_ids.specs.declared.names.NodeId.{NodeId}
+use Rattle.st_ids.specs.declared.names.Rev.{Rev}
 use Rattle.st_marks.specs.declared.intents.Intent.{Intent}
 use Rattle.st_marks.specs.Document.{Document, IsSoundInForm}
 use Rattle.st_marks.specs.Intent.{Fits}
 use Rattle.st_marks.specs.Run.{Run, done, next}
 use Rattle.st_marks.specs.Verdict.{carried_document}
 use Rattle.st_marks.proofs.OneVerdict.{carried_extends, one_run}
-use Rattle.st_log_laws.specs.Names.{HasNames}
+use Rattle.st_log_laws.specs.Names.{HasNames, HaveNewRevisions, IsMadeUnder}
 use Rattle.st_log_laws.specs.Turns.{FitInTurn, IsSublist}
 use Rattle.st_log_laws.proofs.Beside.{names_later}
 use Rattle.st_log_laws.proofs.Names.{names_beside}
@@ -15,8 +19,10 @@ use Rattle.st_log_laws.proofs.Turns.{front, has_run, rest, turn_extends}
 use Rattle.st_log_laws.proofs.Verdicts.{has_verdict}
 use Rattle.st_part_laws.specs.Parts.{is_of_schemas}
 use Rattle.st_part_laws.proofs.Within.{within_later}
-use Rattle.st_upgrade_laws.specs.Agreeing.{AgreeInTurn, AgreesInLine, Told}
-use Rattle.st_upgrade_laws.proofs.Conformity.{keeps_there}
+use Rattle.st_upgrade_laws.specs.Agreeing.{AgreeInTurn, AgreesInLine, ConformsInEffect, Told}
+use Rattle.st_upgrade_laws.specs.Earlier.{AreUnderEarlier}
+use Rattle.st_upgrade_laws.proofs.Conformity.{conforms_in_turn, keeps_there}
+use Rattle.st_upgrade_laws.proofs.Earlier.{come_first}
 
 module _ (T : Told) where
   pub agrees_later : (D E : Document) (N : Intent) → HasNames D E → IsSoundInForm D → IsSoundInForm E → Fits D N → Fits E N → AgreesInLine T D N → AgreesInLine T E N
@@ -63,3 +69,22 @@ module _ (T : Told) where
           let fit_bs : FitInTurn D Bs = front Bs Ns D k in
           let r = has_run As D sound fit_as in
           agree_beside Ns r.0 F (names_later D g fit_bs r.1 q) (turn_extends sound fit_as r.1).after (turn_extends sound fit_bs q).after (rest Ns r.1 f) (rest Ns q k) (agree_rest Ns r.1 a)
+
+  -- ## What is told of each
+
+  pub all_under : (Ns : List Intent) (D : Document) → IsSoundInForm D → FitInTurn D Ns → AgreeInTurn T D Ns → AllByRecursion (λ (N : Intent). T.under N.rev ≡ N.under) Ns
+  all_under [] D s f a = tt
+  all_under (N ∷ Ns) D s f a = (
+    a.0.under,
+    let b = has_verdict D N s in all_under Ns (carried_document b.0 D N) (carried_extends D N b.0 s f.0 f.1 b.1).after (f.2 b.0 b.1) (a.1 b.0 b.1),
+  )
+
+  -- where each commit was made under a schema that came before it
+  pub line_conforms : (O D : Document) (Ns : List Intent) → IsSoundInForm O → FitInTurn O Ns → IsMadeUnder (opening ∷ []) O → HaveNewRevisions (opening ∷ []) Ns → AreUnderEarlier (opening ∷ []) Ns → AgreeInTurn T O Ns → ConformsInEffect T O
+      → Run O Ns D → ConformsInEffect T D
+  line_conforms O D Ns s f made new earlier a here run =
+      conforms_in_turn T (opening ∷ []) run s f made (come_first T.under (opening ∷ []) (opening ∷ []) Ns (λ r h. h) own new (all_under Ns O s f a) earlier) a here
+    where
+      own : (r : Rev) → Has (opening ∷ []) r → Has (opening ∷ []) (T.under r)
+      own r (inl e) = inl (sym here.opened ∙ ap T.under e)
+      own r (inr h) = absurd h

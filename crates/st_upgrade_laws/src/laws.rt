@@ -102,6 +102,9 @@ pub fn parts_conform()
     ensures run { (T : Told) (rs : List Rev) (D E : Document) (Ns : List Intent) → IsSoundInForm D → FitInTurn D Ns
         → IsMadeUnder rs D → SchemasComeFirst T.under rs Ns → AgreeInTurn T D Ns → ConformsInEffect T D → Run D Ns E
         → ConformsInEffect T E }
+    ensures line { (T : Told) (O D : Document) (Ns : List Intent) → IsSoundInForm O → FitInTurn O Ns
+        → IsMadeUnder (opening ∷ []) O → HaveNewRevisions (opening ∷ []) Ns → AreUnderEarlier (opening ∷ []) Ns
+        → AgreeInTurn T O Ns → ConformsInEffect T O → Run O Ns D → ConformsInEffect T D }
 {}
 
 /// A commit that agrees with its schema in the part of its schema's line does so in each later document with the same names.
@@ -120,6 +123,8 @@ pub fn commits_agree_in_turn()
     ensures longer { (T : Told) (D : Document) (As Bs Ns : List Intent) → IsSoundInForm D → IsSublist As Bs
         → FitInTurn D (As ++ Ns) → FitInTurn D (Bs ++ Ns) → AgreeInTurn T D Bs → AgreeInTurn T D (As ++ Ns)
         → AgreeInTurn T D (Bs ++ Ns) }
+    ensures told { (T : Told) (D : Document) (Ns : List Intent) → IsSoundInForm D → FitInTurn D Ns → AgreeInTurn T D Ns
+        → AllByRecursion (λ (N : Intent). T.under N.rev ≡ N.under) Ns }
 {}
 
 /// A new commit's schema, the line of ancestors and the view of a new schema, and the homes of a commit's new nodes can be

@@ -1,4 +1,4 @@
-use Rattle.st_upgrade_laws.proofs.InTurn.{agree_beside, agree_front, agree_longer, agree_rest, agree_then_one, agrees_later}
+use Rattle.st_upgrade_laws.proofs.InTurn.{all_under, agree_beside, agree_front, agree_longer, agree_rest, agree_then_one, agrees_later}
 use Rattle.st_upgrade_laws.proofs.laws.commits_agree_in_turn.Goals as goal
 
 pub returns : goal.returns
@@ -9,4 +9,5 @@ returns c = record {
   then_one = λ T D E Ns Ms a r b. agree_then_one T Ns Ms a r b;
   beside = λ T D E Ns h s t f g a. agree_beside T Ns D E h s t f g a;
   longer = agree_longer;
+  told = λ T D Ns s f a. all_under T Ns D s f a;
 }
