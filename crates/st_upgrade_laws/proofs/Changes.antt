@@ -1,5 +1,5 @@
 -- A change of schema names nothing, and so agrees with every schema; schemas in effect stay in effect.
-use Rattle.std.proofs.Common.{◌≡◌, ℕ, Bool, true, false, cond, List, [], ◌∷◌, ◌++◌, Option, Some, None, IsSome, IfSome, refl, sym, ap, ◌∙◌, subst}
+use Rattle.std.proofs.Common.{◌≡◌, ℕ, Bool, true, false, cond, List, [], ◌∷◌, Option, Some, None, IsSome, IfSome, refl, sym, ◌∙◌, subst}
 use Rattle.std.specs.List.{AllByRecursion, flat_map}
 use Rattle.st_lemmas.proofs.Bools.{true-false}
 use Rattle.st_lemmas.proofs.Lists.{map-append}

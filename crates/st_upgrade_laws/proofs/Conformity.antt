@@ -1,11 +1,11 @@
 -- The part in effect keeps to the last schema, whatever commit comes.
-use Rattle.std.proofs.Common.{◌≡◌, ◌||◌, ℕ, Bool, true, false, cond, List, [], ◌∷◌, ◌++◌, Option, Some, None, IsSome, IfSome, Ok, is_some, option_and_then, unwrap_or, refl, sym, ap, ◌∙◌, subst, inl, inr}
+use Rattle.std.proofs.Common.{◌≡◌, ◌||◌, ℕ, Bool, true, false, cond, List, [], ◌∷◌, ◌++◌, Option, Some, None, IsSome, IfSome, is_some, unwrap_or, refl, sym, ap, ◌∙◌, subst, inl, inr}
 use mathlib.Core.Path.{fun_ext}
 use Rattle.std.specs.List.{list_any}
 use Rattle.std.specs.Option.{option_or, option_map_or}
 use Rattle.st_lemmas.proofs.Lists.{map-append}
 use Rattle.st_ids.specs.Listing.{Has}
-use Rattle.st_ids.specs.Root.{opening, root}
+use Rattle.st_ids.specs.Root.{opening}
 use Rattle.st_ids.specs.Order.{same_rev}
 use Rattle.st_ids.specs.declared.names.CellId.{CellId}
 use Rattle.st_ids.specs.declared.names.FieldId.{FieldId}
@@ -14,6 +14,8 @@ use Rattle.st_ids.specs.declared.names.NodeId.{NodeId}
 use Rattle.st_ids.specs.declared.names.Rev.{Rev}
 use Rattle.st_ids.proofs.Orders.{same_rev-itself, same_rev-true}
 use Rattle.st_schema.specs.Kind.{is_row, is_single_kind}
+use Rattle.serde_json.specs.Written.{compact_text}
+use Rattle.st_schema.specs.Written.{schema_data}
 use Rattle.st_schema.specs.Schema.{SchemaView, is_sound}
 use Rattle.st_schema.specs.declared.names.KindName.{KindName}
 use Rattle.st_marks.specs.declared.intents.Intent.{Intent}
@@ -23,7 +25,7 @@ use Rattle.st_marks.specs.declared.schemas.SchemaEntry.{SchemaEntry}
 use Rattle.st_marks.specs.declared.verdicts.Verdict.{Verdict}
 use Rattle.st_marks.specs.CarryOut.{full, void, void_data, with_schema}
 use Rattle.st_marks.specs.Document.{Document, HasShortRows, IsSoundInForm, NodeType, last_of, revs}
-use Rattle.st_marks.specs.Intent.{Fits, is_new, new_row_of, new_type}
+use Rattle.st_marks.specs.Intent.{Fits, new_type}
 use Rattle.st_marks.specs.Run.{Run, done, next}
 use Rattle.st_marks.specs.Verdict.{HasBase, IsBaseInEffect, IsVerdict, carried_document}
 use Rattle.st_marks.proofs.Members.{any-has}
@@ -36,8 +38,8 @@ use Rattle.st_schema_laws.specs.Conforming.{Admits, IsConforming, MayStand, row_
 use Rattle.st_schema_laws.proofs.Elsewhere.{agrees_there}
 use Rattle.st_schema_laws.proofs.Kept.{carried_conforms}
 use Rattle.st_schema_laws.proofs.Wider.{conforms_wider}
-use Rattle.st_part_laws.specs.Chains.{AreInLine, TellsChain}
-use Rattle.st_part_laws.specs.Parts.{IsClosedInEffect, NamesWithin, is_of_schemas, part_by, part_in_effect, part_of_schemas}
+use Rattle.st_part_laws.specs.Chains.{AreInLine}
+use Rattle.st_part_laws.specs.Parts.{is_of_schemas, part_by, part_in_effect, part_of_schemas}
 use Rattle.st_part_laws.specs.Turns.{ComesFirst, SchemasComeFirst}
 use Rattle.st_part_laws.proofs.Chains.{last-has, last_or-append, line_after, line_begins}
 use Rattle.st_part_laws.proofs.Closed.{closed_after, closed_at_first, comes_first, root_in_effect}
@@ -246,11 +248,11 @@ conforms_in_turn T rs (next {D} {N = N} v is r) s f made first a here =
 -- ## At the opening
 
 pub conforms_at_first : (T : Told) (D : Document) → IsSoundInForm D → IsMadeUnder (opening ∷ []) D → revs D.schemas ≡ opening ∷ [] → T.under opening ≡ opening → T.chain opening ≡ opening ∷ [] → is_sound (T.view opening) ≡ true
-    → IsConforming (T.view opening) T.home D → ConformsInEffect T D
-conforms_at_first T D s made one under chain sound here = record {
+    → ((e : SchemaEntry) → Has D.schemas e → e.text ≡ compact_text (schema_data (T.view opening))) → IsConforming (T.view opening) T.home D → ConformsInEffect T D
+conforms_at_first T D s made one under chain sound written here = record {
   opened = under;
   line = line_begins T.chain D.schemas one chain;
-  widening = widening_begins T.view T.chain D.schemas one chain sound;
+  widening = widening_begins T.view T.chain D.schemas one chain sound written;
   types = λ n t e. ap (λ u. type_fits (T.view u) t.ty t.leaf) (of_opening n (ap is_some e)) ∙ here.types n t e;
   closed = closed_at_first T.under D s made;
   part = subst (λ r. IsConforming (T.view r) T.home (part_in_effect T.under D)) (sym last) (subst (IsConforming (T.view opening) T.home) (sym whole) (conforms_alike (T.view opening) T.home D (part_by (λ n. true) D) (λ n. refl) (λ n. refl) (λ f. refl) refl here));

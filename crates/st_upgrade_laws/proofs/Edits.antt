@@ -1,7 +1,6 @@
 -- A commit names nodes of its schema's line alone, where its author makes it of an edit.
-use Rattle.std.proofs.Common.{◌≡◌, ◌≤◌, ℕ, Bool, true, List, [], ◌∷◌, Option, Some, None, Ok, unwrap_or, refl, sym, ap, ◌∙◌, subst}
+use Rattle.std.proofs.Common.{◌≡◌, Bool, true, List, [], ◌∷◌, Some, None, Ok, unwrap_or, refl, sym, ap, ◌∙◌, subst}
 use Rattle.std.specs.List.{last_or}
-use Rattle.st_ids.specs.Listing.{Has}
 use Rattle.st_ids.specs.Order.{same_rev}
 use Rattle.st_ids.specs.Root.{opening, root}
 use Rattle.st_ids.specs.declared.names.NodeId.{NodeId}
@@ -12,7 +11,7 @@ use Rattle.st_schema.specs.Schema.{SchemaView, is_sound}
 use Rattle.st_marks.specs.declared.intents.Intent.{Intent}
 use Rattle.st_marks.specs.Document.{Document, IsSoundInForm, first_of, last_of, revs}
 use Rattle.st_marks.proofs.Members.{has-any}
-use Rattle.st_edits.specs.Resolve.{empty_intent, resolve}
+use Rattle.st_edits.specs.Resolve.{resolve}
 use Rattle.st_edits.specs.declared.names.NameCounters.{NameCounters}
 use Rattle.st_edits.proofs.MoveFits.{CellsFresh}
 use Rattle.st_edits.proofs.NewFits.{NodesFresh}

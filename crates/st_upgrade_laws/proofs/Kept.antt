@@ -3,16 +3,13 @@ use Rattle.std.proofs.Common.{◌≡◌, ℕ, Bool, true, false, ◌||◌, List,
 use mathlib.Core.Path.{fun_ext}
 use Rattle.serde_json.specs.Data.{Data}
 use Rattle.st_lemmas.proofs.Bools.{or-cases}
-use Rattle.st_ids.specs.Listing.{Has}
-use Rattle.st_ids.specs.Root.{opening, root}
-use Rattle.st_ids.specs.declared.names.CellId.{CellId}
+use Rattle.st_ids.specs.Root.{root}
 use Rattle.st_ids.specs.declared.names.NodeId.{NodeId}
 use Rattle.st_ids.specs.declared.names.Rev.{Rev}
 use Rattle.st_tree.specs.Node.{Node}
-use Rattle.st_tree.specs.Preorder.{cell_named, node_named}
+use Rattle.st_tree.specs.Preorder.{node_named}
 use Rattle.st_tree.specs.declared.edit.Edit.{Edit}
 use Rattle.st_schema.specs.Conforms.{conforms}
-use Rattle.st_schema.specs.Schema.{SchemaView}
 use Rattle.st_schema.specs.TreeText.{tree_data}
 use Rattle.st_marks.specs.declared.intents.Intent.{Intent}
 use Rattle.st_marks.specs.declared.places.Spot.{Spot}

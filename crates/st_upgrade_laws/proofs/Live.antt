@@ -2,8 +2,6 @@
 use Rattle.std.proofs.Common.{◌≡◌, ◌==◌, ◌+◌, ℕ, zero, suc, Bool, true, false, cond, List, [], ◌∷◌, map, filter, length, Option, Some, None, Ok, option_map, option_and_then, slice_get, refl, sym, ap, ◌∙◌, subst, inl, inr, ◌⊎◌}
 use Rattle.st_ids.specs.Listing.{Has}
 use Rattle.st_ids.specs.Or.{and_then}
-use Rattle.st_ids.specs.Root.{root}
-use Rattle.st_ids.specs.declared.names.Key.{Key}
 use Rattle.st_ids.specs.declared.names.NodeId.{NodeId}
 use Rattle.st_ids.specs.declared.names.Place.{Place}
 use Rattle.st_tree.specs.declared.edit.EditFault.TheVariants.{NoNode}

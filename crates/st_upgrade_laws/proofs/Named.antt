@@ -1,5 +1,5 @@
 -- An edit names new nodes and nodes of the part alone, where the part is closed.
-use Rattle.std.proofs.Common.{◌≡◌, ◌≤◌, ◌+◌, ℕ, zero, suc, Bool, true, false, List, [], ◌∷◌, map, filter, Option, Some, None, IsSome, IfSome, Ok, option_map, slice_get, unwrap_or, refl, sym, ap, ◌∙◌, subst, arith, inl, inr, ◌⊎◌}
+use Rattle.std.proofs.Common.{◌≡◌, ◌+◌, ℕ, zero, suc, Bool, true, false, List, [], ◌∷◌, Option, Some, None, IsSome, IfSome, Ok, option_map, slice_get, refl, sym, ap, ◌∙◌, subst, arith, inl, inr, ◌⊎◌}
 use Rattle.std.specs.List.{flat_map}
 use Rattle.std.specs.Option.{option_or, option_map_or}
 use Rattle.st_lemmas.proofs.Bools.{true-false}
@@ -11,14 +11,12 @@ use Rattle.st_ids.specs.declared.names.CellId.{CellId}
 use Rattle.st_ids.specs.declared.names.FieldId.{FieldId}
 use Rattle.st_ids.specs.declared.names.Key.{Key}
 use Rattle.st_ids.specs.declared.names.NodeId.{NodeId}
-use Rattle.st_ids.specs.declared.names.Place.{Place}
 use Rattle.st_ids.proofs.Orders.{same_node-itself}
 use Rattle.st_ids.proofs.Shared.{at_has, filter-from}
 use Rattle.st_tree.specs.Node.{Nodes, first, no_nodes, trees_view, view}
-use Rattle.st_tree.specs.Preorder.{cell_named, node_named}
 use Rattle.st_tree.specs.declared.edit.Edit.{Edit}
 use Rattle.st_tree.specs.declared.flat.FlatNode.{FlatNode}
-use Rattle.st_schema.specs.Schema.{SchemaView, is_sound}
+use Rattle.st_schema.specs.Schema.{SchemaView}
 use Rattle.st_schema.specs.declared.names.KindName.{KindName}
 use Rattle.st_schema.specs.declared.names.KindName.TheVariants.{Required, Optional, Sequence}
 use Rattle.st_marks.specs.declared.changes.NewNode.{NewNode}
@@ -30,17 +28,16 @@ use Rattle.st_marks.specs.declared.intents.To.{To}
 use Rattle.st_marks.specs.declared.places.Slot.{Slot}
 use Rattle.st_marks.specs.declared.places.Spot.{Spot}
 use Rattle.st_marks.specs.CarryOut.{spot_of, with_names}
-use Rattle.st_marks.specs.Document.{Document, IsSoundInForm, content, is_cell, node_of, owned_cell}
+use Rattle.st_marks.specs.Document.{Document, IsSoundInForm, is_cell, node_of, owned_cell}
 use Rattle.st_marks.specs.Intent.{Fits, IsKnown, Owns, group_cells, is_new, new_node, new_row_of, put_of}
 use Rattle.st_marks.specs.LiveTree.{live_slots}
 use Rattle.st_marks.proofs.Full.{known_put}
 use Rattle.st_marks.proofs.Lookups.{clears-has, group-new_row_of, made_there, put-has, put_clears}
 use Rattle.st_marks.proofs.Members.{all-has, append_left, distinct-has, has-map, map-has, none-has}
 use Rattle.st_log_laws.proofs.Names.{new_node_rev}
-use Rattle.st_opening.specs.Start.{registers}
 use Rattle.st_edits.specs.New.{group_of, group_under, groups_under, new_nodes, puts, to_at, top_cells}
 use Rattle.st_edits.specs.Paths.{field_at, items_from, left_of}
-use Rattle.st_edits.specs.Resolve.{cells_for, empty_intent, intent_to_insert, intent_to_move, intent_to_place, intent_to_remove, moved_to_row, named_nodes, nodes_taken, resolve, with_group}
+use Rattle.st_edits.specs.Resolve.{cells_for, empty_intent, intent_to_insert, intent_to_move, intent_to_place, intent_to_remove, moved_to_row, named_nodes, resolve, with_group}
 use Rattle.st_edits.specs.declared.names.NameCounters.{NameCounters}
 use Rattle.st_edits.proofs.Fits.{shown}
 use Rattle.st_edits.proofs.NewFits.{NodesFresh, group_is, under_at, with_has}

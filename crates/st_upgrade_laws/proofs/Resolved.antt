@@ -1,13 +1,11 @@
 -- What an edit means in a closed part it means in the whole document, and it is refused there as here.
-use Rattle.std.proofs.Common.{◌≡◌, ◌==◌, ◌&&◌, ◌+◌, ℕ, zero, suc, nat_le, not, Bool, true, false, cond, List, [], ◌∷◌, map, length, take, drop, Option, Some, None, Result, Ok, Err, option_map, option_and_then, slice_get, refl, sym, ap, ◌∙◌, subst, inl, inr}
+use Rattle.std.proofs.Common.{◌≡◌, ◌==◌, ◌&&◌, ◌+◌, ℕ, zero, suc, nat_le, not, Bool, true, false, cond, List, [], ◌∷◌, map, length, take, drop, Some, None, Result, Ok, Err, option_map, option_and_then, slice_get, refl, sym, ap, ◌∙◌, subst, inl, inr}
 use Rattle.std.specs.List.{list_any, position_from}
 use Rattle.std.specs.Option.{option_map_or}
 use Rattle.st_ids.specs.Listing.{Has}
 use Rattle.st_ids.specs.Or.{and_then}
 use Rattle.st_ids.specs.Order.{same_node}
 use Rattle.st_ids.specs.Root.{opening, root}
-use Rattle.st_ids.specs.declared.names.CellId.{CellId}
-use Rattle.st_ids.specs.declared.names.FieldId.{FieldId}
 use Rattle.st_ids.specs.declared.names.Key.{Key}
 use Rattle.st_ids.specs.declared.names.NodeId.{NodeId}
 use Rattle.st_ids.specs.declared.names.Place.{Place}
@@ -20,19 +18,17 @@ use Rattle.st_schema.specs.Schema.{SchemaView, field_of, is_among}
 use Rattle.st_schema.specs.declared.names.FieldRule.{FieldRule}
 use Rattle.st_schema.specs.declared.names.KindName.{KindName}
 use Rattle.st_schema.specs.declared.names.KindName.TheVariants.{Required, Optional, Sequence}
-use Rattle.st_marks.specs.declared.intents.Intent.{Intent}
 use Rattle.st_marks.specs.declared.places.Slot.{Slot}
 use Rattle.st_marks.specs.Document.{Document, IsSoundInForm, NodeType, revs}
-use Rattle.st_edits.specs.New.{group_of, groups_under, new_nodes, puts, top_cells}
-use Rattle.st_edits.specs.Paths.{field_at, items_from, left_of, nodes_on_path, or_refuse, row_length}
-use Rattle.st_edits.specs.Resolve.{allowed_nodes, cells_for, cells_taken, clear, empty_intent, has_type, insert, intent_to_insert, intent_to_move, intent_to_place, intent_to_remove, is_inside, is_there, may_move, move, move_to, moved_to_row, names_left, need, nodes_allowed, nodes_taken, none_refused, of_kind, put, remove, require, resolve, rule_at, rule_for, takes_kind, walk, with_group, within_row}
+use Rattle.st_edits.specs.New.{group_of, groups_under, top_cells}
+use Rattle.st_edits.specs.Paths.{field_at, items_from, left_of, or_refuse, row_length}
+use Rattle.st_edits.specs.Resolve.{allowed_nodes, cells_for, cells_taken, clear, empty_intent, has_type, insert, intent_to_insert, intent_to_move, intent_to_place, intent_to_remove, is_inside, is_there, may_move, move, move_to, moved_to_row, names_left, need, nodes_allowed, nodes_taken, none_refused, of_kind, put, remove, require, resolve, rule_for, takes_kind, walk, with_group, within_row}
 use Rattle.st_edits.specs.declared.names.NameCounters.{NameCounters}
 use Rattle.st_edits.specs.declared.names.Takes.{Takes}
 use Rattle.st_edits.specs.declared.names.Takes.TheVariants as field
 use Rattle.st_edits.proofs.Fits.{or_refuse-Ok, passed}
 use Rattle.st_edit_laws.proofs.Beneath.{held_above, row_above}
 use Rattle.st_edit_laws.proofs.Removed.{items_in}
-use Rattle.st_opening.specs.Start.{registers}
 use Rattle.st_part_laws.specs.Parts.{IsClosedBy, IsClosedInEffect, is_of_schemas, part_by, part_in_effect}
 use Rattle.st_part_laws.proofs.Closed.{root_in_effect}
 use Rattle.st_upgrade_laws.proofs.Live.{on_path_same, slots_same, walk_in, walk_same}

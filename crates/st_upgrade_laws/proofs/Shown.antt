@@ -1,11 +1,11 @@
 -- A closed part shows what the whole document shows.
-use Rattle.std.proofs.Common.{◌≡◌, ◌↔◌, ℕ, Bool, true, false, List, Some, None, IsSome, cond, map, refl, sym, ap, ◌∙◌}
+use Rattle.std.proofs.Common.{◌≡◌, ◌↔◌, ℕ, Bool, true, false, List, None, IsSome, cond, map, refl, sym, ap, ◌∙◌}
 use Rattle.serde_json.specs.Data.{Data}
 use Rattle.st_ids.specs.Root.{opening, root}
 use Rattle.st_ids.specs.declared.names.NodeId.{NodeId}
 use Rattle.st_ids.specs.declared.names.Rev.{Rev}
 use Rattle.st_marks.specs.declared.places.Slot.{Slot}
-use Rattle.st_marks.specs.Document.{Document, IsSoundInForm, NodeType, content, revs}
+use Rattle.st_marks.specs.Document.{Document, IsSoundInForm, content, revs}
 use Rattle.st_marks.specs.LiveTree.{Shows, owners_shown, register}
 use Rattle.st_edit_laws.specs.Alike.{AreAlikeAt}
 use Rattle.st_edit_laws.proofs.Alike.{same_below}

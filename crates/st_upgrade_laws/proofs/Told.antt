@@ -1,13 +1,13 @@
 -- What is told of one more commit changes nothing of documents and lists that don't have its revision.
-use Rattle.std.proofs.Common.{◌≡◌, ◌≢◌, ℕ, Bool, true, false, cond, List, [], ◌∷◌, ◌++◌, Option, Some, None, IsSome, IfSome, is_some, refl, sym, ap, ◌∙◌, subst, ◌⊎◌, inl, inr}
-use Rattle.st_lemmas.proofs.Bools.{true-false}
-use Rattle.st_lemmas.proofs.Options.{None-IsSome}
+use Rattle.std.proofs.Common.{◌≡◌, ◌≢◌, ℕ, Bool, true, false, cond, List, [], ◌∷◌, ◌++◌, Option, Some, None, IsSome, IfSome, is_some, refl, sym, ap, ◌∙◌, subst, inl, inr}
 use Rattle.st_ids.specs.Listing.{Has}
 use Rattle.st_ids.specs.Order.{same_rev}
 use Rattle.st_ids.specs.Root.{opening}
 use Rattle.st_ids.specs.declared.names.NodeId.{NodeId}
 use Rattle.st_ids.specs.declared.names.Rev.{Rev}
 use Rattle.st_ids.proofs.Orders.{same_rev-itself, same_rev-true}
+use Rattle.serde_json.specs.Written.{compact_text}
+use Rattle.st_schema.specs.Written.{schema_data}
 use Rattle.st_schema.specs.Schema.{SchemaView, is_sound}
 use Rattle.st_marks.specs.declared.intents.Intent.{Intent}
 use Rattle.st_marks.specs.declared.intents.To.{To}
@@ -16,7 +16,7 @@ use Rattle.st_marks.specs.Document.{Document, IsSoundInForm, NodeType, first_of,
 use Rattle.st_marks.specs.Intent.{Fits, IsIntent, IsKnown, is_new, put_of}
 use Rattle.st_marks.specs.Verdict.{carried_document}
 use Rattle.st_marks.proofs.Full.{known_put}
-use Rattle.st_marks.proofs.Members.{append_left, append_right, has-append, has-map}
+use Rattle.st_marks.proofs.Members.{append_left, append_right, has-append, has-map, map-has}
 use Rattle.st_marks.proofs.OneVerdict.{carried_extends}
 use Rattle.st_log_laws.specs.Names.{IsMadeUnder, revisions}
 use Rattle.st_log_laws.specs.Turns.{FitInTurn}
@@ -24,12 +24,11 @@ use Rattle.st_log_laws.proofs.Names.{made_after, new_node_rev}
 use Rattle.st_schema_laws.specs.Agreeing.{KeepsSchema}
 use Rattle.st_schema_laws.specs.Conforming.{IsConforming, type_fits}
 use Rattle.st_schema_laws.proofs.Homes.{document_keeps, intent_keeps}
-use Rattle.st_part_laws.specs.Chains.{TellsChain}
 use Rattle.st_part_laws.specs.Parts.{NamesWithin, is_of_schemas, part_in_effect, part_of_schemas}
 use Rattle.st_part_laws.proofs.Chains.{last-has}
 use Rattle.st_part_laws.proofs.Parts.{part_sound}
 use Rattle.st_part_laws.proofs.Closed.{root_in_effect}
-use Rattle.st_part_laws.proofs.Told.{other_line, other_under, told_chain, told_closed, told_entries, told_others, told_part, told_under, told_within}
+use Rattle.st_part_laws.proofs.Told.{other_line, other_under, told_closed, told_entries, told_others, told_part, told_within}
 use Rattle.st_upgrade_laws.specs.Agreeing.{AgreeInTurn, AgreesInLine, ConformsInEffect, Told, last_schema, with_commit, with_home}
 use Rattle.st_upgrade_laws.specs.Widening.{BecomesWider, IsUpgrade}
 use Rattle.st_upgrade_laws.proofs.Edits.{some_last}
@@ -108,6 +107,9 @@ module _ (T : Told) (N : Intent) (new : SchemaView) where
         subst (λ v. BecomesWider v (U.view r)) (sym (other_view t (entry_other t (here.line.each r t h there))))
         (subst (BecomesWider (T.view t)) (sym (other_view r (entry_other r h))) (here.widening.each r t h there))
 
+    written_told : (e : SchemaEntry) → Has D.schemas e → e.text ≡ compact_text (schema_data (U.view e.rev))
+    written_told e h = here.widening.written e h ∙ ap (λ v. compact_text (schema_data v)) (sym (other_view e.rev (entry_other e.rev (map-has (λ (e : SchemaEntry). e.rev) D.schemas e h))))
+
     types_told : (n : NodeId) (t : NodeType) → D.nodes n ≡ Some t → type_fits (U.view (U.under n.0.rev)) t.ty t.leaf ≡ true
     types_told n t e =
         let there : Has ss n.0.rev = made.nodes n (ap is_some e) in
@@ -118,7 +120,7 @@ module _ (T : Told) (N : Intent) (new : SchemaView) where
     document_told = record {
       opened = other_under T.under N opening (entry_other opening (first_has (revs D.schemas) s.in_effect.begun)) ∙ here.opened;
       line = told_entries T.chain N D.schemas (λ h. entry_other N.rev h refl) here.line;
-      widening = record { sound = λ r h. ap is_sound (other_view r (entry_other r h)) ∙ here.widening.sound r h; each = widening_told };
+      widening = record { written = written_told; sound = λ r h. ap is_sound (other_view r (entry_other r h)) ∙ here.widening.sound r h; each = widening_told };
       types = types_told;
       closed = told_closed T.under N (revs D.schemas) ss D s made fresh here.closed;
       part = subst (λ E. IsConforming (U.view (last_schema D)) T.home E) (sym (told_part T.under N (revs D.schemas) ss D s made fresh))

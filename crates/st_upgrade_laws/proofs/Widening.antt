@@ -1,5 +1,5 @@
 -- The schemas in effect stay such that each is wider than those of its line.
-use Rattle.std.proofs.Common.{◌≡◌, ℕ, Bool, true, false, List, [], ◌∷◌, ◌++◌, Option, Some, None, Ok, IfSome, refl, sym, ap, ◌∙◌, subst, ◌⊎◌, inl, inr}
+use Rattle.std.proofs.Common.{◌≡◌, ℕ, Bool, true, false, List, [], ◌∷◌, ◌++◌, Option, Some, None, IfSome, refl, sym, ap, ◌∙◌, subst, ◌⊎◌, inl, inr}
 use Rattle.st_lemmas.proofs.Lists.{map-append}
 use Rattle.st_ids.specs.Listing.{Has}
 use Rattle.st_ids.specs.Root.{opening}
@@ -7,11 +7,13 @@ use Rattle.st_ids.specs.declared.names.Leaf.{Leaf}
 use Rattle.st_ids.specs.declared.names.NodeId.{NodeId}
 use Rattle.st_ids.specs.declared.names.FieldId.{FieldId}
 use Rattle.st_ids.specs.declared.names.Rev.{Rev}
+use Rattle.serde_json.specs.Written.{compact_text}
+use Rattle.st_schema.specs.Written.{schema_data}
 use Rattle.st_schema.specs.Schema.{SchemaView, is_sound}
 use Rattle.st_marks.specs.declared.intents.Intent.{Intent}
 use Rattle.st_marks.specs.declared.schemas.SchemaEntry.{SchemaEntry}
 use Rattle.st_marks.specs.Document.{Document, NodeType, last_of, revs}
-use Rattle.st_marks.proofs.Members.{has-append}
+use Rattle.st_marks.proofs.Members.{has-append, map-has}
 use Rattle.st_schema_laws.specs.Agreeing.{KeepsSchema}
 use Rattle.st_schema_laws.specs.Conforming.{type_fits}
 use Rattle.st_schema_laws.proofs.Wider.{agrees_wider, type_wider}
@@ -35,8 +37,10 @@ keeps_wider (one_change {before} {after} b sound wide) home D N types k =
 
 -- ## Entries
 
-pub widening_begins : (view : Rev → SchemaView) (chain : Rev → List Rev) (entries : List SchemaEntry) → revs entries ≡ opening ∷ [] → chain opening ≡ opening ∷ [] → is_sound (view opening) ≡ true → AreWidening view chain entries
-widening_begins view chain entries e c sound = record {
+pub widening_begins : (view : Rev → SchemaView) (chain : Rev → List Rev) (entries : List SchemaEntry) → revs entries ≡ opening ∷ [] → chain opening ≡ opening ∷ [] → is_sound (view opening) ≡ true
+    → ((e : SchemaEntry) → Has entries e → e.text ≡ compact_text (schema_data (view opening))) → AreWidening view chain entries
+widening_begins view chain entries e c sound written = record {
+  written = λ o h. written o h ∙ ap (λ r. compact_text (schema_data (view r))) (only o.rev (subst (λ l. Has l o.rev) e (map-has (λ (e : SchemaEntry). e.rev) entries o h)));
   sound = λ r h. ap (λ r. is_sound (view r)) (sym (only r (subst (λ l. Has l r) e h))) ∙ sound;
   each = λ r s h i. begin r s (only r (subst (λ l. Has l r) e h)) i;
 }
@@ -52,13 +56,18 @@ widening_begins view chain entries e c sound = record {
 
 module _ (view : Rev → SchemaView) (chain : Rev → List Rev) (entries : List SchemaEntry) (N : Intent) (tells : TellsChain chain N) (shows : IfSome N.schema (IsUpgrade (view N.under) (view N.rev))) (k : AreWidening view chain entries) where
   widening_more : (text : List ℕ) → N.schema ≡ Some text → last_of (revs entries) ≡ Some N.under → AreWidening view chain (entries ++ record { rev = N.rev; text = text } ∷ [])
-  widening_more text e last = record { sound = λ r h. sound r (split r h); each = λ r s h i. each r s (split r h) i }
+  widening_more text e last = record { written = λ o h. written o (has-append entries (record { rev = N.rev; text = text } ∷ []) o h); sound = λ r h. sound r (split r h); each = λ r s h i. each r s (split r h) i }
     where
       split : (r : Rev) → Has (revs (entries ++ record { rev = N.rev; text = text } ∷ [])) r → Has (revs entries) r ⊎ Has (N.rev ∷ []) r
       split r h = has-append (revs entries) (N.rev ∷ []) r (subst (λ l. Has l r) (map-append (λ (e : SchemaEntry). e.rev) entries (record { rev = N.rev; text = text } ∷ [])) h)
 
       upgrade : IsUpgrade (view N.under) (view N.rev) text
       upgrade = subst (λ o. IfSome o (IsUpgrade (view N.under) (view N.rev))) e shows
+
+      written : (o : SchemaEntry) → Has entries o ⊎ Has (record { rev = N.rev; text = text } ∷ []) o → o.text ≡ compact_text (schema_data (view o.rev))
+      written o (inl h) = k.written o h
+      written o (inr (inl q)) = subst (λ (o : SchemaEntry). o.text ≡ compact_text (schema_data (view o.rev))) q upgrade.written
+      written o (inr (inr h)) = absurd h
 
       own_line : chain N.rev ≡ chain N.under ++ N.rev ∷ []
       own_line = subst (λ o. IfSome o (λ (_ : List ℕ). chain N.rev ≡ chain N.under ++ N.rev ∷ [])) e tells

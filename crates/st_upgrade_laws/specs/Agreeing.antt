@@ -9,7 +9,7 @@ use Rattle.st_ids.specs.declared.names.Rev.{Rev}
 use Rattle.st_schema.specs.Schema.{SchemaView}
 use Rattle.st_marks.specs.declared.intents.Intent.{Intent}
 use Rattle.st_marks.specs.declared.verdicts.Verdict.{Verdict}
-use Rattle.st_marks.specs.Document.{Document, IsSoundInForm, NodeType, last_of, revs}
+use Rattle.st_marks.specs.Document.{Document, NodeType, last_of, revs}
 use Rattle.st_marks.specs.Verdict.{IsVerdict, carried_document}
 use Rattle.st_schema_laws.specs.Agreeing.{KeepsSchema, with_homes}
 use Rattle.st_schema_laws.specs.Conforming.{IsConforming, type_fits}

@@ -20,7 +20,9 @@ pub data BecomesWider (old : SchemaView) : SchemaView → Type 0 where
   no_change : BecomesWider old old
   one_change : {before after : SchemaView} → BecomesWider old before → is_sound after ≡ true → wider_of before after ≡ Ok tt → BecomesWider old after
 
--- the schemas of some entries keep their rules, and each is what those of its line of ancestors become
+-- the schemas of some entries: each entry has its schema's text, the schema keeps its rules, and it is what those of its line
+-- of ancestors become
 pub record AreWidening (view : Rev → SchemaView) (chain : Rev → List Rev) (entries : List SchemaEntry) : Type 0 where
+  pub written : (e : SchemaEntry) → Has entries e → e.text ≡ compact_text (schema_data (view e.rev))
   pub sound : (r : Rev) → Has (revs entries) r → is_sound (view r) ≡ true
   pub each : (r s : Rev) → Has (revs entries) r → Has (chain r) s → BecomesWider (view s) (view r)
