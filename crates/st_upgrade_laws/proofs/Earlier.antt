@@ -47,7 +47,7 @@ made_kept : (rs : List Rev) (Ns : List Intent) (r : Rev) → Has rs r → Has (s
 made_kept rs [] r h = h
 made_kept rs (N ∷ Ns) r h = made_kept (with_own rs N) Ns r (own_kept rs N r h)
 
-made_longer : {As Bs : List Intent} → IsSublist As Bs → (rs ss : List Rev) → ((r : Rev) → Has rs r → Has ss r) → (r : Rev) → Has (schemas_made rs As) r → Has (schemas_made ss Bs) r
+pub made_longer : {As Bs : List Intent} → IsSublist As Bs → (rs ss : List Rev) → ((r : Rev) → Has rs r → Has ss r) → (r : Rev) → Has (schemas_made rs As) r → Has (schemas_made ss Bs) r
 made_longer no_more rs ss more r h = more r h
 made_longer (item_gained {y = N} sub) rs ss more r h = made_longer sub rs (with_own ss N) (λ q i. own_kept ss N q (more q i)) r h
 made_longer (item_kept {x = N} {y = M} same sub) rs ss more r h = made_longer sub (with_own rs N) (with_own ss M) (λ q i. subst (λ M. Has (with_own ss M) q) same (own_more rs ss N more q i)) r h

@@ -11,3 +11,4 @@ pub mod Earlier
 pub mod Kept
 pub mod Back
 pub mod Changes
+pub mod Lines

@@ -1,3 +1,4 @@
 pub mod Widening
 pub mod Agreeing
 pub mod Earlier
+pub mod Lines

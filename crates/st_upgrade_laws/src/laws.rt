@@ -38,6 +38,7 @@ ghost use Rattle.st_part_laws.specs.Schemas.{entries_after};
 ghost use Rattle.st_part_laws.specs.Turns.{ComesFirst, SchemasComeFirst};
 ghost use Rattle.st_upgrade_laws.specs.Agreeing.{AgreeInTurn, AgreesInLine, ConformsInEffect, Told, last_schema, with_commit, with_home};
 ghost use Rattle.st_upgrade_laws.specs.Earlier.{AreUnderEarlier, schemas_made};
+ghost use Rattle.st_upgrade_laws.specs.Lines.{IsLine};
 ghost use Rattle.st_upgrade_laws.specs.Widening.{AreWidening, IsUpgrade};
 
 /// A node of a closed part shows there what it shows in the whole document, and so the part in effect shows its
@@ -122,10 +123,8 @@ pub fn parts_conform()
         → IsMadeUnder rs D → SchemasComeFirst T.under rs Ns → AgreeInTurn T D Ns
         → ConformsInEffect T D → Run D Ns E
         → ConformsInEffect T E }
-    ensures line { (T : Told) (O D : Document) (Ns : List Intent) → IsSoundInForm O → FitInTurn O Ns
-        → IsMadeUnder (opening ∷ []) O → HaveNewRevisions (opening ∷ []) Ns
-        → AreUnderEarlier (opening ∷ []) Ns
-        → AgreeInTurn T O Ns → ConformsInEffect T O → Run O Ns D → ConformsInEffect T D }
+    ensures line { (T : Told) (O D : Document) (Ns : List Intent)
+        → IsLine T O Ns → Run O Ns D → ConformsInEffect T D }
 {}
 
 /// A commit that agrees with its schema in the part of its schema's line does so in each later document with the
@@ -254,4 +253,30 @@ pub fn ways_back_agree_in_line()
         → ((r : Rev) → Has (revs D.schemas) r → Has (revs E.schemas) r)
         → T.under rev ≡ last_schema E → IsBack D (full D N) rev (last_schema E) B
         → AgreesInLine T (full D N) B }
+{}
+
+/// Lists of commits from the document opened go on: by what an edit means after them, by an upgrade of the last schema in
+/// effect, and after a longer list. What is told of a commit with a new revision leaves them.
+pub fn lines_go_on()
+    ensures edit { (T : Told) (O D : Document) (Ns : List Intent) (G : NameCounters) (edit : Edit) (N : Intent)
+        → IsLine T O Ns → Run O Ns D
+        → ((k : ℕ) → G.nodes ≤ k → D.nodes (node_named G.rev k) ≡ None)
+        → ((k : ℕ) → G.cells ≤ k → D.row_of (cell_named G.rev k) ≡ None)
+        → (Has (revisions Ns ++ opening ∷ []) N.rev → ⊥) → FitInTurn O (Ns ++ N ∷ [])
+        → resolve D (T.view (last_schema D)) G edit ≡ Ok N
+        → IsLine (with_home (with_commit T N (T.view N.under)) N) O (Ns ++ N ∷ []) }
+    ensures upgrade { (T : Told) (O D : Document) (Ns : List Intent) (N : Intent) (new : SchemaView)
+        → IsLine T O Ns → Run O Ns D
+        → (Has (revisions Ns ++ opening ∷ []) N.rev → ⊥) → FitInTurn O (Ns ++ N ∷ [])
+        → N.under ≡ last_schema D → IsSome N.schema → IfSome N.schema (IsUpgrade (T.view N.under) new)
+        → IsLine (with_commit T N new) O (Ns ++ N ∷ []) }
+    ensures longer { (T : Told) (O : Document) (As Bs Ns : List Intent) → IsSublist As Bs
+        → IsLine T O (As ++ Ns) → IsLine T O Bs
+        → FitInTurn O (Bs ++ Ns) → HaveNewRevisions (opening ∷ []) (Bs ++ Ns) → IsLine T O (Bs ++ Ns) }
+    ensures told { (T : Told) (O : Document) (Ns : List Intent) (N : Intent) (new : SchemaView)
+        → IsLine T O Ns → (Has (revisions Ns ++ opening ∷ []) N.rev → ⊥)
+        → IsLine (with_commit T N new) O Ns }
+    ensures home { (T : Told) (O : Document) (Ns : List Intent) (N : Intent)
+        → IsLine T O Ns → (Has (revisions Ns ++ opening ∷ []) N.rev → ⊥) → IsIntent N
+        → IsLine (with_home T N) O Ns }
 {}

@@ -1,5 +1,5 @@
 use Rattle.st_upgrade_laws.proofs.Conformity.{conforms_after, conforms_at_first, conforms_in_turn}
-use Rattle.st_upgrade_laws.proofs.InTurn.{line_conforms}
+use Rattle.st_upgrade_laws.proofs.Lines.{line_after_conforms}
 use Rattle.st_upgrade_laws.proofs.laws.parts_conform.Goals as goal
 
 pub returns : goal.returns
@@ -7,5 +7,5 @@ returns c = record {
   opening = conforms_at_first;
   one = λ T D N v s f short first a here h. conforms_after T D N s f a here short first v h;
   run = λ T rs D E Ns s f made first a here r. conforms_in_turn T rs r s f made first a here;
-  line = line_conforms;
+  line = λ T O D Ns l r. line_after_conforms T O Ns l D r;
 }
