@@ -16,10 +16,12 @@ use Rattle.st_marks.specs.Extends.{IsExtendedBy}
 use Rattle.st_marks.specs.Intent.{Fits, IsIntent}
 use Rattle.st_marks.specs.Run.{Run, next}
 use Rattle.st_marks.specs.Verdict.{IsVerdict, carried_document}
-use Rattle.st_marks.proofs.Members.{append_left, distinct-append, has-append, has-map, map-has}
-use Rattle.st_marks.proofs.OneVerdict.{carried_extends}
-use Rattle.st_log_laws.specs.Names.{HaveNewRevisions, IsMadeUnder, revisions}
+use Rattle.st_marks.proofs.Members.{append_left, distinct-append, distinct-left, has-append, has-map, map-has}
+use Rattle.st_marks.proofs.OneVerdict.{carried_extends, one_carried, run_then}
+use Rattle.st_marks.proofs.WayBack.{back_fits}
+use Rattle.st_log_laws.specs.Names.{HasNames, HaveNewRevisions, IsMadeUnder, revisions}
 use Rattle.st_log_laws.specs.Turns.{FitInTurn, IsSublist}
+use Rattle.st_log_laws.proofs.Names.{names_in_run}
 use Rattle.st_log_laws.proofs.Shorter.{sublist_itself}
 use Rattle.st_log_laws.proofs.Turns.{front, made_in_run, rest, turn_extends}
 use Rattle.st_log_laws.proofs.Verdicts.{has_verdict}
@@ -34,11 +36,12 @@ use Rattle.st_upgrade_laws.specs.Agreeing.{AgreeInTurn, AgreesInLine, ConformsIn
 use Rattle.st_upgrade_laws.specs.Earlier.{AreUnderEarlier, schemas_made}
 use Rattle.st_upgrade_laws.specs.Lines.{IsLine}
 use Rattle.st_upgrade_laws.specs.Widening.{IsUpgrade}
-use Rattle.st_upgrade_laws.proofs.Changes.{change_agrees}
-use Rattle.st_upgrade_laws.proofs.Earlier.{earlier_longer, earlier_more, earlier_then, in_effect_made, made_among, made_longer, unders_made}
+use Rattle.st_upgrade_laws.proofs.Changes.{change_agrees, schemas_stay}
+use Rattle.st_upgrade_laws.proofs.Earlier.{earlier_front, earlier_longer, earlier_more, earlier_then, in_effect_made, made_among, made_longer, unders_made}
 use Rattle.st_upgrade_laws.proofs.Edits.{meant, some_last}
 use Rattle.st_upgrade_laws.proofs.Named.{IsFromPart}
-use Rattle.st_upgrade_laws.proofs.InTurn.{agree_longer, agree_then_one, line_conforms}
+use Rattle.st_upgrade_laws.proofs.InTurn.{agree_front, agree_longer, agree_rest, agree_then_one, agrees_later, line_conforms}
+use Rattle.st_upgrade_laws.proofs.Back.{way_agrees}
 use Rattle.st_upgrade_laws.proofs.Kept.{edit_agrees}
 use Rattle.st_upgrade_laws.proofs.Told.{document_at_home, document_told, list_at_home, list_told, other_view, own_upgrade}
 
@@ -64,7 +67,7 @@ module _ (T : Told) (O : Document) (Ns : List Intent) (l : IsLine T O Ns) where
       let x = has-map (λ (e : SchemaEntry). e.rev) D.schemas r h in
       subst (Has (revisions Ns ++ opening ∷ [])) x.2 ((made_in_run (opening ∷ []) l.fit run l.made).schemas x.0 x.1)
 
-  last_made : (D : Document) → Run O Ns D → Has (schemas_made (opening ∷ []) Ns) (last_schema D)
+  pub last_made : (D : Document) → Run O Ns D → Has (schemas_made (opening ∷ []) Ns) (last_schema D)
   last_made D run =
       let s = (turn_extends l.sound l.fit run).after in
       made_longer (sublist_itself Ns) (revs O.schemas) (opening ∷ []) opening_entries (last_schema D)
@@ -113,7 +116,7 @@ module _ (T : Told) (O : Document) (Ns : List Intent) (l : IsLine T O Ns) where
 
     -- ## One commit more
 
-    line_more : (D : Document) → Run O Ns D → FitInTurn O (Ns ++ N ∷ []) → Has (schemas_made (opening ∷ []) Ns) N.under → AgreesInLine T D N → IsLine T O (Ns ++ N ∷ [])
+    pub line_more : (D : Document) → Run O Ns D → FitInTurn O (Ns ++ N ∷ []) → Has (schemas_made (opening ∷ []) Ns) N.under → AgreesInLine T D N → IsLine T O (Ns ++ N ∷ [])
     line_more D run f under a = record {
       sound = l.sound;
       made = l.made;
@@ -181,3 +184,56 @@ line_goes_on_longer T O As Bs Ns sub a b f new = record {
   earlier = earlier_longer (opening ∷ []) As Bs Ns sub b.earlier a.earlier;
   agree = agree_longer T O As Bs Ns a.sound sub a.fit f b.agree a.agree;
 }
+
+-- ## Undos
+
+line_front : (T : Told) (O : Document) (As Bs : List Intent) → IsLine T O (As ++ Bs) → IsLine T O As
+line_front T O As Bs l = record {
+  sound = l.sound;
+  made = l.made;
+  conforms = l.conforms;
+  fit = front As Bs O l.fit;
+  new = record { once = distinct-left (λ (N : Intent). N.rev) As Bs l.new.once; new = λ M h. l.new.new M (append_left As Bs M h) };
+  earlier = earlier_front (opening ∷ []) As Bs l.earlier;
+  agree = agree_front T As Bs O l.agree;
+}
+
+pub undo_goes_on : (T : Told) (O D E : Document) (As Bs : List Intent) (M B : Intent) (rev : Rev) → IsLine T O (As ++ M ∷ Bs) → Run O As D → Run D (M ∷ Bs) E → (Has (revisions (As ++ M ∷ Bs) ++ opening ∷ []) B.rev → ⊥)
+    → FitInTurn O ((As ++ M ∷ Bs) ++ B ∷ []) → M.schema ≡ None → IsVerdict D M Verdict.Sound → IsBack D (full D M) rev (last_schema E) B → IsLine (with_commit T B (T.view B.under)) O ((As ++ M ∷ Bs) ++ B ∷ [])
+undo_goes_on T O D E As Bs M B rev l run on fresh f data_only sound b =
+    line_more U O (As ++ M ∷ Bs) told B fresh E whole f (subst (Has (schemas_made (opening ∷ []) (As ++ M ∷ Bs))) (sym b.rev_and_under.1) (last_made T O (As ++ M ∷ Bs) l E whole))
+    (agrees_later U (full D M) E B (later on) extends.after s (back_fits D (full D M) extends rev (last_schema E) B b) (rest (B ∷ []) whole f).0 way)
+  where
+    U : Told
+    U = with_commit T B (T.view B.under)
+
+    told : IsLine U O (As ++ M ∷ Bs)
+    told = line_told T O (As ++ M ∷ Bs) l B fresh (T.view B.under)
+
+    whole : Run O (As ++ M ∷ Bs) E
+    whole = run_then run on
+
+    s : IsSoundInForm E
+    s = (turn_extends l.sound l.fit whole).after
+
+    before : IsSoundInForm D
+    before = (turn_extends l.sound (front As (M ∷ Bs) O l.fit) run).after
+
+    fits : FitInTurn D (M ∷ Bs)
+    fits = rest (M ∷ Bs) run l.fit
+
+    extends : IsExtendedBy D (full D M)
+    extends = carried_extends D M Verdict.Sound before fits.0 fits.1 sound
+
+    later : Run D (M ∷ Bs) E → HasNames (full D M) E
+    later (next v is r) = subst (λ F. HasNames F E) (one_carried D M v Verdict.Sound is sound) (names_in_run r)
+
+    way : AgreesInLine U (full D M) B
+    way = way_agrees U D M before fits.0 fits.1 data_only sound (agree_rest U (M ∷ Bs) run told.agree).0 (line_after_conforms U O As (line_front U O As (M ∷ Bs) told) D run)
+        E s (line_after_conforms U O (As ++ M ∷ Bs) told E whole) (schemas_stay D E (M ∷ Bs) (all_intents (M ∷ Bs) D before fits) on) rev B
+        (ap U.under (sym b.rev_and_under.0) ∙ told_under T.under B ∙ b.rev_and_under.1) b
+
+-- a commit that was told before, as that of a transaction
+pub commit_goes_on : (T : Told) (O D : Document) (Ns : List Intent) (N : Intent) → IsLine T O Ns → Run O Ns D → (Has (revisions Ns ++ opening ∷ []) N.rev → ⊥) → FitInTurn O (Ns ++ N ∷ []) → N.under ≡ last_schema D → AgreesInLine T D N
+    → IsLine T O (Ns ++ N ∷ [])
+commit_goes_on T O D Ns N l run fresh f base a = line_more T O Ns l N fresh D run f (subst (Has (schemas_made (opening ∷ []) Ns)) (sym base) (last_made T O Ns l D run)) a

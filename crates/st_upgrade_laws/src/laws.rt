@@ -255,10 +255,12 @@ pub fn ways_back_agree_in_line()
         → AgreesInLine T (full D N) B }
 {}
 
-/// Lists of commits from the document opened go on: by what an edit means after them, by an upgrade of the last schema in
-/// effect, and after a longer list. What is told of a commit with a new revision leaves them.
+/// Lists of commits from the document opened go on: by what an edit means after them, by an upgrade of the last
+/// schema in effect, by the undo of a sound commit of data, by a commit that agrees, and after a longer list. What is
+/// told of a commit with a new revision leaves them.
 pub fn lines_go_on()
-    ensures edit { (T : Told) (O D : Document) (Ns : List Intent) (G : NameCounters) (edit : Edit) (N : Intent)
+    ensures edit { (T : Told) (O D : Document) (Ns : List Intent) (G : NameCounters)
+        (edit : Edit) (N : Intent)
         → IsLine T O Ns → Run O Ns D
         → ((k : ℕ) → G.nodes ≤ k → D.nodes (node_named G.rev k) ≡ None)
         → ((k : ℕ) → G.cells ≤ k → D.row_of (cell_named G.rev k) ≡ None)
@@ -270,6 +272,16 @@ pub fn lines_go_on()
         → (Has (revisions Ns ++ opening ∷ []) N.rev → ⊥) → FitInTurn O (Ns ++ N ∷ [])
         → N.under ≡ last_schema D → IsSome N.schema → IfSome N.schema (IsUpgrade (T.view N.under) new)
         → IsLine (with_commit T N new) O (Ns ++ N ∷ []) }
+    ensures undo { (T : Told) (O D E : Document) (As Bs : List Intent) (M B : Intent) (rev : Rev)
+        → IsLine T O (As ++ M ∷ Bs) → Run O As D → Run D (M ∷ Bs) E
+        → (Has (revisions (As ++ M ∷ Bs) ++ opening ∷ []) B.rev → ⊥)
+        → FitInTurn O ((As ++ M ∷ Bs) ++ B ∷ [])
+        → M.schema ≡ None → IsVerdict D M Verdict.Sound → IsBack D (full D M) rev (last_schema E) B
+        → IsLine (with_commit T B (T.view B.under)) O ((As ++ M ∷ Bs) ++ B ∷ []) }
+    ensures commit { (T : Told) (O D : Document) (Ns : List Intent) (N : Intent)
+        → IsLine T O Ns → Run O Ns D
+        → (Has (revisions Ns ++ opening ∷ []) N.rev → ⊥) → FitInTurn O (Ns ++ N ∷ [])
+        → N.under ≡ last_schema D → AgreesInLine T D N → IsLine T O (Ns ++ N ∷ []) }
     ensures longer { (T : Told) (O : Document) (As Bs Ns : List Intent) → IsSublist As Bs
         → IsLine T O (As ++ Ns) → IsLine T O Bs
         → FitInTurn O (Bs ++ Ns) → HaveNewRevisions (opening ∷ []) (Bs ++ Ns) → IsLine T O (Bs ++ Ns) }
