@@ -5,7 +5,7 @@ use Rattle.std.specs.List.{list_any}
 use Rattle.std.specs.Option.{option_or, option_map_or}
 use Rattle.st_lemmas.proofs.Lists.{map-append}
 use Rattle.st_ids.specs.Listing.{Has}
-use Rattle.st_ids.specs.Root.{opening}
+use Rattle.st_ids.specs.Root.{opening, root}
 use Rattle.st_ids.specs.Order.{same_rev}
 use Rattle.st_ids.specs.declared.names.CellId.{CellId}
 use Rattle.st_ids.specs.declared.names.FieldId.{FieldId}
@@ -39,9 +39,10 @@ use Rattle.st_schema_laws.proofs.Elsewhere.{agrees_there}
 use Rattle.st_schema_laws.proofs.Kept.{carried_conforms}
 use Rattle.st_schema_laws.proofs.Wider.{conforms_wider}
 use Rattle.st_part_laws.specs.Chains.{AreInLine}
-use Rattle.st_part_laws.specs.Parts.{is_of_schemas, part_by, part_in_effect, part_of_schemas}
+use Rattle.st_part_laws.specs.Parts.{IsClosedBy, NamesWithin, is_of_schemas, part_by, part_in_effect, part_of_schemas}
 use Rattle.st_part_laws.specs.Turns.{ComesFirst, SchemasComeFirst}
-use Rattle.st_part_laws.proofs.Chains.{last-has, last_or-append, line_after, line_begins}
+use Rattle.st_part_laws.proofs.Carrying.{fits_part, part_of_full, stays_closed}
+use Rattle.st_part_laws.proofs.Chains.{last-has, last_or-append, line_after, line_begins, named_in_effect}
 use Rattle.st_part_laws.proofs.Closed.{closed_after, closed_at_first, comes_first, root_in_effect}
 use Rattle.st_part_laws.proofs.InEffect.{carried_in_effect, fits_in_effect, left_nodes, left_places, left_registers}
 use Rattle.st_part_laws.proofs.Parts.{has_row, part_one_row, part_sound, row_has, row_in}
@@ -173,6 +174,33 @@ module _ (T : Told) (D : Document) (N : Intent) (s : IsSoundInForm D) (f : Fits 
         keeps_there (is_of_schemas T.under (T.chain N.under)) (is_of_schemas T.under (revs D.schemas)) (more_schemas T.under (T.chain N.under) (revs D.schemas) (λ r i. here.line.each N.under r in_effect i))
         D D (names_itself D) s s (T.view (last_schema D)) T.home N f
         (keeps_wider wider T.home (part_of_schemas T.under (T.chain N.under) D) N line_types a.keeps)
+
+  -- ### Carried out whole, whatever the verdict, as in a transaction
+
+  module _ (data_only : N.schema ≡ None) (in_effect : Has (revs D.schemas) N.under) where
+    of_root : is_of_schemas T.under (revs D.schemas) root ≡ true
+    of_root = root_in_effect T.under D s here.opened
+
+    within : NamesWithin (is_of_schemas T.under (revs D.schemas)) D N
+    within = named_in_effect T.under T.chain D N here.line in_effect a.names
+
+    same_schemas : D.schemas ≡ (full D N).schemas
+    same_schemas = sym (kept_carried D N data_only Verdict.Sound)
+
+    part_edited : IsConforming (T.view (last_schema D)) T.home (part_of_schemas T.under (revs D.schemas) (full D N))
+    part_edited = subst (IsConforming (T.view (last_schema D)) T.home) (sym (part_of_full (is_of_schemas T.under (revs D.schemas)) D N s here.closed of_root f within))
+        (carried_conforms (T.view (last_schema D)) T.home (part_in_effect T.under D) N (part_sound (is_of_schemas T.under (revs D.schemas)) D s here.closed of_root)
+        (fits_part (is_of_schemas T.under (revs D.schemas)) D N s here.closed of_root f within) here.part (keeps_in_effect in_effect) Verdict.Sound)
+
+    pub conforms_edited : ConformsInEffect T (full D N)
+    conforms_edited = record {
+      opened = here.opened;
+      line = subst (AreInLine T.chain) same_schemas here.line;
+      widening = subst (AreWidening T.view T.chain) same_schemas here.widening;
+      types = named_types;
+      closed = subst (λ es. IsClosedBy (is_of_schemas T.under (revs es)) (full D N)) same_schemas (stays_closed (is_of_schemas T.under (revs D.schemas)) D N s here.closed of_root f within);
+      part = subst (λ es. IsConforming (T.view (unwrap_or (last_of (revs es)) opening)) T.home (part_of_schemas T.under (revs es) (full D N))) same_schemas part_edited;
+    }
 
   module _ (short : HasShortRows (full D N)) (first : ComesFirst T.under D N) where
     in_line : IsBaseInEffect D N → Has (revs D.schemas) N.under

@@ -1,25 +1,25 @@
 -- Lists of commits go on: by what an edit means, by an upgrade, by an undo, and after longer lists.
-use Rattle.std.proofs.Common.{◌≡◌, ◌≢◌, ℕ, Bool, true, List, [], ◌∷◌, ◌++◌, Option, Some, None, IsSome, IfSome, Ok, refl, sym, ap, ◌∙◌, subst, ◌⊎◌, inl, inr}
+use Rattle.std.proofs.Common.{◌≡◌, ◌≢◌, true, List, [], ◌∷◌, ◌++◌, None, IsSome, IfSome, Ok, sym, ap, ◌∙◌, subst, ◌⊎◌, inl, inr}
 use Rattle.std.specs.List.{AllByRecursion}
-use Rattle.st_ids.specs.Listing.{AreDistinct, Has}
+use Rattle.st_ids.specs.Listing.{Has}
 use Rattle.st_ids.specs.Root.{opening}
 use Rattle.st_ids.specs.declared.names.Rev.{Rev}
 use Rattle.st_tree.specs.declared.edit.Edit.{Edit}
-use Rattle.st_schema.specs.Schema.{SchemaView, is_sound}
+use Rattle.st_schema.specs.Schema.{SchemaView}
 use Rattle.st_marks.specs.declared.intents.Intent.{Intent}
 use Rattle.st_marks.specs.declared.schemas.SchemaEntry.{SchemaEntry}
 use Rattle.st_marks.specs.declared.verdicts.Verdict.{Verdict}
 use Rattle.st_marks.specs.Back.{IsBack}
 use Rattle.st_marks.specs.CarryOut.{full}
-use Rattle.st_marks.specs.Document.{Document, IsSoundInForm, last_of, revs}
+use Rattle.st_marks.specs.Document.{Document, IsSoundInForm, revs}
 use Rattle.st_marks.specs.Extends.{IsExtendedBy}
-use Rattle.st_marks.specs.Intent.{Fits, IsIntent}
+use Rattle.st_marks.specs.Intent.{IsIntent}
 use Rattle.st_marks.specs.Run.{Run, next}
 use Rattle.st_marks.specs.Verdict.{IsVerdict, carried_document}
 use Rattle.st_marks.proofs.Members.{append_left, distinct-append, distinct-left, has-append, has-map, map-has}
 use Rattle.st_marks.proofs.OneVerdict.{carried_extends, one_carried, run_then}
 use Rattle.st_marks.proofs.WayBack.{back_fits}
-use Rattle.st_log_laws.specs.Names.{HasNames, HaveNewRevisions, IsMadeUnder, revisions}
+use Rattle.st_log_laws.specs.Names.{HasNames, HaveNewRevisions, revisions}
 use Rattle.st_log_laws.specs.Turns.{FitInTurn, IsSublist}
 use Rattle.st_log_laws.proofs.Names.{names_in_run}
 use Rattle.st_log_laws.proofs.Shorter.{sublist_itself}
@@ -32,18 +32,18 @@ use Rattle.st_edits.proofs.NewFits.{NodesFresh}
 use Rattle.st_schema_laws.proofs.Homes.{tells_own}
 use Rattle.st_part_laws.proofs.Chains.{last-has}
 use Rattle.st_part_laws.proofs.Told.{told_chain, told_under}
-use Rattle.st_upgrade_laws.specs.Agreeing.{AgreeInTurn, AgreesInLine, ConformsInEffect, Told, last_schema, with_commit, with_home}
-use Rattle.st_upgrade_laws.specs.Earlier.{AreUnderEarlier, schemas_made}
+use Rattle.st_upgrade_laws.specs.Agreeing.{AgreesInLine, ConformsInEffect, Told, last_schema, with_commit, with_home}
+use Rattle.st_upgrade_laws.specs.Earlier.{schemas_made}
 use Rattle.st_upgrade_laws.specs.Lines.{IsLine}
 use Rattle.st_upgrade_laws.specs.Widening.{IsUpgrade}
 use Rattle.st_upgrade_laws.proofs.Changes.{change_agrees, schemas_stay}
-use Rattle.st_upgrade_laws.proofs.Earlier.{earlier_front, earlier_longer, earlier_more, earlier_then, in_effect_made, made_among, made_longer, unders_made}
+use Rattle.st_upgrade_laws.proofs.Earlier.{earlier_front, earlier_longer, earlier_then, in_effect_made, made_among, made_longer, unders_made}
 use Rattle.st_upgrade_laws.proofs.Edits.{meant, some_last}
 use Rattle.st_upgrade_laws.proofs.Named.{IsFromPart}
 use Rattle.st_upgrade_laws.proofs.InTurn.{agree_front, agree_longer, agree_rest, agree_then_one, agrees_later, line_conforms}
 use Rattle.st_upgrade_laws.proofs.Back.{way_agrees}
 use Rattle.st_upgrade_laws.proofs.Kept.{edit_agrees}
-use Rattle.st_upgrade_laws.proofs.Told.{document_at_home, document_told, list_at_home, list_told, other_view, own_upgrade}
+use Rattle.st_upgrade_laws.proofs.Told.{absent_by_rev, document_at_home, document_told, list_at_home, list_told, other_view, own_upgrade}
 
 all_intents : (Ns : List Intent) (D : Document) → IsSoundInForm D → FitInTurn D Ns → AllByRecursion IsIntent Ns
 all_intents [] D s f = tt
@@ -107,7 +107,7 @@ module _ (T : Told) (O : Document) (Ns : List Intent) (l : IsLine T O Ns) where
     line_at_home itself = record {
       sound = l.sound;
       made = l.made;
-      conforms = document_at_home T N itself (opening ∷ []) O l.sound l.made not_among l.conforms;
+      conforms = document_at_home T N O l.sound (absent_by_rev T N itself (opening ∷ []) O l.made not_among) l.conforms;
       fit = l.fit;
       new = l.new;
       earlier = l.earlier;

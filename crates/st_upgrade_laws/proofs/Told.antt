@@ -129,58 +129,63 @@ module _ (T : Told) (N : Intent) (new : SchemaView) where
 
 -- ## A commit's homes
 
-module _ (T : Told) (N : Intent) (itself : IsIntent N) where
-  not_new : (n : NodeId) → (n.0.rev ≡ N.rev → ⊥) → is_new N n ≡ false
-  not_new n apart = go (is_new N n) refl
-    where
-      go : (b : Bool) → is_new N n ≡ b → is_new N n ≡ false
-      go false e = e
-      go true e = absurd (apart (new_node_rev N itself n e))
-
-  put_apart : (ss : List Rev) (D : Document) (M : Intent) → IsMadeUnder ss D → (Has ss N.rev → ⊥) → M.rev ≢ N.rev → Fits D M → (m : NodeId) → IsSome (put_of M m) → m.0.rev ≡ N.rev → ⊥
-  put_apart ss D M made fresh other f m h e = go (put_of M m) refl h
-    where
-      known : IsKnown D M m → ⊥
-      known (inl i) = other (sym (new_node_rev M f.itself m i) ∙ e)
-      known (inr k) = fresh (subst (Has ss) e (made.nodes m k))
-
-      go : (o : Option To) → put_of M m ≡ o → IsSome o → ⊥
-      go None q k = cc
-      go (Some to) q k = known (known_put D M f m to q).0
-
-  pub commit_at_home : (ss : List Rev) (D : Document) (M : Intent) → IsMadeUnder ss D → (Has ss N.rev → ⊥) → M.rev ≢ N.rev → Fits D M → AgreesInLine T D M → AgreesInLine (with_home T N) D M
-  commit_at_home ss D M made fresh other f a = record {
+module _ (T : Told) (N : Intent) where
+  pub commit_at_home : (D : Document) (M : Intent) → ((m : NodeId) → IsSome (put_of M m) → is_new N m ≡ false) → ((m : NodeId) → is_new M m ≡ true → is_new N m ≡ false) → AgreesInLine T D M → AgreesInLine (with_home T N) D M
+  commit_at_home D M puts new a = record {
     under = a.under;
     chain = a.chain;
     view = a.view;
     names = a.names;
-    keeps = intent_keeps (T.view M.under) T.home (part_of_schemas T.under (T.chain M.under) D) N M
-        (λ m put. not_new m (put_apart ss D M made fresh other f m put))
-        (λ m i. not_new m (λ e. other (sym (new_node_rev M f.itself m i) ∙ e))) a.keeps;
+    keeps = intent_keeps (T.view M.under) T.home (part_of_schemas T.under (T.chain M.under) D) N M puts new a.keeps;
   }
 
-  pub list_at_home : (Ms : List Intent) (ss : List Rev) (D : Document) → IsMadeUnder ss D → FitInTurn D Ms → (Has (revisions Ms ++ ss) N.rev → ⊥) → AgreeInTurn T D Ms → AgreeInTurn (with_home T N) D Ms
-  list_at_home [] ss D made f fresh a = tt
-  list_at_home (M ∷ Ms) ss D made f fresh a = (
-    commit_at_home ss D M made (λ h. fresh (inr (append_right (revisions Ms) ss N.rev h))) (λ e. fresh (inl e)) f.0 a.0,
-    λ v is. list_at_home Ms (M.rev ∷ ss) (carried_document v D M) (made_after ss D M v f.0 made) (f.2 v is) (λ h. fresh (moved M Ms ss N.rev h)) (a.1 v is),
-  )
-
-  pub document_at_home : (ss : List Rev) (D : Document) → IsSoundInForm D → IsMadeUnder ss D → (Has ss N.rev → ⊥) → ConformsInEffect T D → ConformsInEffect (with_home T N) D
-  document_at_home ss D s made fresh here = record {
+  pub document_at_home : (D : Document) → IsSoundInForm D → ((n : NodeId) → is_new N n ≡ true → D.nodes n ≡ None) → ConformsInEffect T D → ConformsInEffect (with_home T N) D
+  document_at_home D s absent here = record {
     opened = here.opened;
     line = here.line;
     widening = here.widening;
     types = here.types;
     closed = here.closed;
     part = document_keeps (T.view (last_schema D)) T.home (part_in_effect T.under D) N
-        (part_sound (is_of_schemas T.under (revs D.schemas)) D s here.closed (root_in_effect T.under D s here.opened)) absent here.part;
+        (part_sound (is_of_schemas T.under (revs D.schemas)) D s here.closed (root_in_effect T.under D s here.opened)) (λ n i. nor_in_part n (absent n i) (is_of_schemas T.under (revs D.schemas) n)) here.part;
   }
     where
-      absent : (n : NodeId) → is_new N n ≡ true → (part_in_effect T.under D).nodes n ≡ None
-      absent n i = go (D.nodes n) refl (is_of_schemas T.under (revs D.schemas) n)
-        where
-          go : (o : Option NodeType) → D.nodes n ≡ o → (b : Bool) → cond b (D.nodes n) None ≡ None
-          go None e true = e
-          go None e false = refl
-          go (Some t) e b = absurd (fresh (subst (Has ss) (new_node_rev N itself n i) (made.nodes n (ap is_some e))))
+      nor_in_part : (n : NodeId) → D.nodes n ≡ None → (b : Bool) → cond b (D.nodes n) None ≡ None
+      nor_in_part n e true = e
+      nor_in_part n e false = refl
+
+  -- ### Of documents and commits with other revisions
+
+  module _ (itself : IsIntent N) where
+    not_new : (n : NodeId) → (n.0.rev ≡ N.rev → ⊥) → is_new N n ≡ false
+    not_new n apart = go (is_new N n) refl
+      where
+        go : (b : Bool) → is_new N n ≡ b → is_new N n ≡ false
+        go false e = e
+        go true e = absurd (apart (new_node_rev N itself n e))
+
+    pub absent_by_rev : (ss : List Rev) (D : Document) → IsMadeUnder ss D → (Has ss N.rev → ⊥) → (n : NodeId) → is_new N n ≡ true → D.nodes n ≡ None
+    absent_by_rev ss D made fresh n i = go (D.nodes n) refl
+      where
+        go : (o : Option NodeType) → D.nodes n ≡ o → D.nodes n ≡ None
+        go None e = e
+        go (Some t) e = absurd (fresh (subst (Has ss) (new_node_rev N itself n i) (made.nodes n (ap is_some e))))
+
+    put_apart : (ss : List Rev) (D : Document) (M : Intent) → IsMadeUnder ss D → (Has ss N.rev → ⊥) → M.rev ≢ N.rev → Fits D M → (m : NodeId) → IsSome (put_of M m) → m.0.rev ≡ N.rev → ⊥
+    put_apart ss D M made fresh other f m h e = go (put_of M m) refl h
+      where
+        known : IsKnown D M m → ⊥
+        known (inl i) = other (sym (new_node_rev M f.itself m i) ∙ e)
+        known (inr k) = fresh (subst (Has ss) e (made.nodes m k))
+
+        go : (o : Option To) → put_of M m ≡ o → IsSome o → ⊥
+        go None q k = cc
+        go (Some to) q k = known (known_put D M f m to q).0
+
+    pub list_at_home : (Ms : List Intent) (ss : List Rev) (D : Document) → IsMadeUnder ss D → FitInTurn D Ms → (Has (revisions Ms ++ ss) N.rev → ⊥) → AgreeInTurn T D Ms → AgreeInTurn (with_home T N) D Ms
+    list_at_home [] ss D made f fresh a = tt
+    list_at_home (M ∷ Ms) ss D made f fresh a = (
+      commit_at_home D M (λ m put. not_new m (put_apart ss D M made (λ h. fresh (inr (append_right (revisions Ms) ss N.rev h))) (λ e. fresh (inl e)) f.0 m put))
+          (λ m i. not_new m (λ e. fresh (inl (sym (new_node_rev M f.0.itself m i) ∙ e)))) a.0,
+      λ v is. list_at_home Ms (M.rev ∷ ss) (carried_document v D M) (made_after ss D M v f.0 made) (f.2 v is) (λ h. fresh (moved M Ms ss N.rev h)) (a.1 v is),
+    )

@@ -1,5 +1,5 @@
 //! Laws about the part of a document that is in effect: each is the contract of a function that does nothing.
-ghost use Rattle.std.specs.Prelude.{IfSome, IsSome, ◌∷◌, ◌++◌, [], ◌≡◌, ◌≢◌, ◌↔◌, ◌≤◌, ℕ, Bool, true, List, None, Ok};
+ghost use Rattle.std.specs.Prelude.{IfSome, IsSome, ◌∷◌, ◌++◌, [], ◌≡◌, ◌≢◌, ◌↔◌, ◌≤◌, ℕ, Bool, true, false, List, None, Ok};
 ghost use Rattle.std.specs.List.{AllByRecursion};
 ghost use Rattle.serde_json.specs.Data.{Data};
 ghost use Rattle.st_ids.specs.declared.names.NodeId.{NodeId};
@@ -20,7 +20,7 @@ ghost use Rattle.st_marks.specs.declared.verdicts.Verdict.{Verdict};
 ghost use Rattle.st_marks.specs.Back.{IsBack};
 ghost use Rattle.st_marks.specs.CarryOut.{full};
 ghost use Rattle.st_marks.specs.Document.{Document, HasShortRows, IsSoundInForm, revs};
-ghost use Rattle.st_marks.specs.Intent.{Fits, IsIntent};
+ghost use Rattle.st_marks.specs.Intent.{Fits, IsIntent, is_new, put_of};
 ghost use Rattle.st_marks.specs.Join.{AreParts, IsJoin};
 ghost use Rattle.st_marks.specs.LiveTree.{Shows};
 ghost use Rattle.st_marks.specs.Run.{Run};
@@ -105,7 +105,7 @@ pub fn schemas_widen()
 
 /// The part in effect keeps to the last schema in effect: at the opening; after a commit that agrees with the
 /// schema under which it was made, whether that is in effect or not and whatever its verdict, also one that widens
-/// the schema; and after a list of such commits.
+/// the schema; after edits of data that aren't a commit yet; and after a list of such commits.
 pub fn parts_conform()
     ensures opening { (T : Told) (D : Document) → IsSoundInForm D → IsMadeUnder (opening ∷ []) D
         → revs D.schemas ≡ opening ∷ [] → T.under opening ≡ opening → T.chain opening ≡ opening ∷ []
@@ -118,6 +118,9 @@ pub fn parts_conform()
         → Fits D N → HasShortRows (full D N)
         → ComesFirst T.under D N → AgreesInLine T D N → ConformsInEffect T D → IsVerdict D N v
         → ConformsInEffect T (carried_document v D N) }
+    ensures edited { (T : Told) (D : Document) (N : Intent) → IsSoundInForm D → Fits D N
+        → N.schema ≡ None → Has (revs D.schemas) N.under
+        → AgreesInLine T D N → ConformsInEffect T D → ConformsInEffect T (full D N) }
     ensures run { (T : Told) (rs : List Rev) (D E : Document) (Ns : List Intent)
         → IsSoundInForm D → FitInTurn D Ns
         → IsMadeUnder rs D → SchemasComeFirst T.under rs Ns → AgreeInTurn T D Ns
@@ -157,7 +160,7 @@ pub fn commits_agree_in_turn()
 
 /// A new commit's schema, the line of ancestors and the view of a new schema, and the homes of a commit's new nodes
 /// can be told beside what is told: documents that conform and lists that agree do so as before, if they don't have
-/// its revision.
+/// its revision, or, of homes, its new nodes.
 pub fn commits_can_be_told()
     ensures under { (T : Told) (N : Intent) (new : SchemaView)
         → (with_commit T N new).under N.rev ≡ N.under }
@@ -178,10 +181,13 @@ pub fn commits_can_be_told()
         → IsSoundInForm D → IsMadeUnder ss D → FitInTurn D Ms → (Has (revisions Ms ++ ss) N.rev → ⊥)
         → ((M : Intent) → Has Ms M → M.under ≢ N.rev)
         → AgreeInTurn T D Ms → AgreeInTurn (with_commit T N new) D Ms }
-    ensures home_documents { (T : Told) (N : Intent) (ss : List Rev) (D : Document) → IsIntent N
-        → IsSoundInForm D
-        → IsMadeUnder ss D → (Has ss N.rev → ⊥) → ConformsInEffect T D
-        → ConformsInEffect (with_home T N) D }
+    ensures home_documents { (T : Told) (N : Intent) (D : Document) → IsSoundInForm D
+        → ((n : NodeId) → is_new N n ≡ true → D.nodes n ≡ None)
+        → ConformsInEffect T D → ConformsInEffect (with_home T N) D }
+    ensures home_commits { (T : Told) (N M : Intent) (D : Document)
+        → ((m : NodeId) → IsSome (put_of M m) → is_new N m ≡ false)
+        → ((m : NodeId) → is_new M m ≡ true → is_new N m ≡ false)
+        → AgreesInLine T D M → AgreesInLine (with_home T N) D M }
     ensures home_lists { (T : Told) (N : Intent) (ss : List Rev) (D : Document)
         (Ms : List Intent) → IsIntent N
         → IsMadeUnder ss D → FitInTurn D Ms → (Has (revisions Ms ++ ss) N.rev → ⊥)
