@@ -12,3 +12,4 @@ pub mod Kept
 pub mod Back
 pub mod Changes
 pub mod Lines
+pub mod Upgraded

@@ -1,5 +1,5 @@
 //! Laws about the part of a document that is in effect: each is the contract of a function that does nothing.
-ghost use Rattle.std.specs.Prelude.{IfSome, IsSome, ◌∷◌, ◌++◌, [], ◌≡◌, ◌≢◌, ◌↔◌, ◌≤◌, ℕ, Bool, true, false, List, None, Ok};
+ghost use Rattle.std.specs.Prelude.{IfSome, IsSome, ◌∷◌, ◌++◌, [], ◌≡◌, ◌≢◌, ◌↔◌, ◌≤◌, ℕ, Bool, true, false, List, None, Ok, Some};
 ghost use Rattle.std.specs.List.{AllByRecursion};
 ghost use Rattle.serde_json.specs.Data.{Data};
 ghost use Rattle.st_ids.specs.declared.names.NodeId.{NodeId};
@@ -13,13 +13,14 @@ ghost use Rattle.st_tree.specs.Preorder.{cell_named, node_named};
 ghost use Rattle.st_schema.specs.Conforms.{conforms};
 ghost use Rattle.st_schema.specs.Schema.{SchemaView, is_sound};
 ghost use Rattle.st_schema.specs.TreeText.{tree_data};
+ghost use Rattle.st_schema.specs.Wider.{wider_of};
 ghost use Rattle.st_schema.specs.Written.{schema_data};
 ghost use Rattle.st_marks.specs.declared.intents.Intent.{Intent};
 ghost use Rattle.st_marks.specs.declared.schemas.SchemaEntry.{SchemaEntry};
 ghost use Rattle.st_marks.specs.declared.verdicts.Verdict.{Verdict};
 ghost use Rattle.st_marks.specs.Back.{IsBack};
 ghost use Rattle.st_marks.specs.CarryOut.{full};
-ghost use Rattle.st_marks.specs.Document.{Document, HasShortRows, IsSoundInForm, revs};
+ghost use Rattle.st_marks.specs.Document.{Document, HasShortRows, IsSoundInForm, last_of, revs};
 ghost use Rattle.st_marks.specs.Intent.{Fits, IsIntent, is_new, put_of};
 ghost use Rattle.st_marks.specs.Join.{AreParts, IsJoin};
 ghost use Rattle.st_marks.specs.LiveTree.{Shows};
@@ -297,4 +298,18 @@ pub fn lines_go_on()
     ensures home { (T : Told) (O : Document) (Ns : List Intent) (N : Intent)
         → IsLine T O Ns → (Has (revisions Ns ++ opening ∷ []) N.rev → ⊥) → IsIntent N
         → IsLine (with_home T N) O Ns }
+{}
+
+/// A change of schema made under the last schema in effect is sound, and where it widens that schema it changes no tree
+/// that is shown.
+pub fn upgrades_are_seen()
+    ensures verdict { (D : Document) (N : Intent) → IsIntent N → IsSome N.schema
+        → last_of (revs D.schemas) ≡ Some N.under → IsVerdict D N Verdict.Sound }
+    ensures tree { (T : Told) (D : Document) (N : Intent) (new : SchemaView)
+        (is_array is_array_then : List ℕ → Bool) (d : Data)
+        → IsSoundInForm D → ConformsInEffect T D → IsIntent N → IsSome N.schema
+        → wider_of (T.view (last_schema D)) new ≡ Ok tt
+        → ((ty : List ℕ) → is_array ty ≡ is_array_type (T.view (last_schema D)) ty)
+        → ((ty : List ℕ) → is_array_then ty ≡ is_array_type new ty)
+        → Shows is_array D root d → Shows is_array_then (full D N) root d }
 {}
