@@ -1,5 +1,5 @@
 //! Documents, intents and edits together: scenarios over the calls of `st_intent`, `st_join`, `st_doc`, `st_resolve`,
-//! `st_heads` and `st_later`.
+//! `st_heads`, `st_later` and `st_embed`.
 #![tactic(auto)]
 
 #[cfg(test)]
@@ -8,6 +8,8 @@ mod at_once;
 mod docs;
 #[cfg(test)]
 mod edits;
+#[cfg(test)]
+mod embeds;
 #[cfg(test)]
 mod given;
 #[cfg(test)]

@@ -1,0 +1,264 @@
+//! The change that lists an edit in the document that another edit left behind.
+ghost use Rattle.std.specs.Prelude.{OnOk};
+ghost use Rattle.st_marks.specs.Document.{IsSoundInForm};
+ghost use Rattle.st_doc.specs.Doc.{document_of};
+
+use crate::given::{Case, Row, carry, commit, open_doc, wrong_row};
+use st_doc::Doc;
+use st_embed::{embed, mentioned_nodes};
+use st_ids::{Atom, CellId, NodeId, OPENING, ROOT, Rev};
+use st_marks::{Change, How, Intent, Loose, Mark, RegMark, RowMarks};
+use st_schema::Schema;
+use std::alloc::Global;
+use std::test::Fail;
+
+const FIRST_REV: Rev = Rev { session: 1, num: 1 };
+
+const REV: Rev = Rev { session: 2, num: 1 };
+
+const NODE_1: NodeId = NodeId(Atom {
+    rev: OPENING,
+    at: 1,
+});
+
+const NODE_2: NodeId = NodeId(Atom {
+    rev: OPENING,
+    at: 2,
+});
+
+const NODE_3: NodeId = NodeId(Atom {
+    rev: OPENING,
+    at: 3,
+});
+
+const NEW: NodeId = NodeId(Atom { rev: REV, at: 0 });
+
+const CELL_0: CellId = CellId(Atom {
+    rev: OPENING,
+    at: 0,
+});
+
+const CELL_1: CellId = CellId(Atom {
+    rev: OPENING,
+    at: 1,
+});
+
+const CELL_2: CellId = CellId(Atom {
+    rev: OPENING,
+    at: 2,
+});
+
+const MOVED: CellId = CellId(Atom {
+    rev: FIRST_REV,
+    at: 0,
+});
+
+const MADE: CellId = CellId(Atom { rev: REV, at: 0 });
+
+// A mark of a cell that is made for the new node.
+const MAKE: Mark = Mark::Make {
+    cell: MADE,
+    node: NEW,
+    full: true,
+};
+
+// Marks of nodes that are only mentioned.
+const STAYS_1: Mark = Mark::Touch {
+    cell: CELL_0,
+    node: NODE_1,
+    how: How::Stay,
+};
+
+const STAYS_3: Mark = Mark::Touch {
+    cell: CELL_2,
+    node: NODE_3,
+    how: How::Stay,
+};
+
+const STAYS_2_MOVED: Mark = Mark::Touch {
+    cell: MOVED,
+    node: NODE_2,
+    how: How::Stay,
+};
+
+// What is listed of a register: who is there, what becomes of that node, whether it is cleared, and who comes in.
+type Register = (Option<NodeId>, How, bool, Option<NodeId>);
+
+// An edit that is made in the document of a tree, the edit that comes before it, and what its change lists after that:
+// rows, registers and loose nodes; and how many nodes it mentions.
+#[derive(Clone, Copy)]
+struct Listed {
+    tree: &'static str,
+    earlier: Option<Case>,
+    case: Case,
+    mentioned: usize,
+    rows: &'static [(NodeId, &'static [Mark])],
+    regs: &'static [Register],
+    loose: &'static [Loose],
+}
+
+fn is_row(row: &RowMarks, listed: (NodeId, &[Mark])) -> bool {
+    row.node == listed.0 && row.marks.as_slice() == listed.1
+}
+
+fn are_rows(rows: &[RowMarks], listed: &[(NodeId, &[Mark])]) -> bool {
+    rows.len() == listed.len() && rows.iter().zip(listed).all(|(row, it)| is_row(row, *it))
+}
+
+fn is_register(reg: &RegMark, listed: Register) -> bool {
+    reg.held == listed.0 && reg.how == listed.1 && reg.clear == listed.2 && reg.fill == listed.3
+}
+
+fn are_registers(regs: &[RegMark], listed: &[Register]) -> bool {
+    regs.len() == listed.len()
+        && regs
+            .iter()
+            .zip(listed)
+            .all(|(reg, it)| is_register(reg, *it))
+}
+
+fn is_listed(change: &Change, listed: &Listed) -> bool {
+    are_rows(change.rows.as_slice(), listed.rows)
+        && are_registers(change.regs.as_slice(), listed.regs)
+        && change.loose.as_slice() == listed.loose
+        && change.base
+}
+
+// The change of an intent that fits.
+fn change(alloc: Global, doc: &Doc, intent: &Intent) -> Result<Change, Fail>
+    requires { IsSoundInForm (document_of doc.now) }
+{
+    if !doc.fits(intent) {
+        return Err(Fail::from("does not fit"));
+    }
+    Ok(embed(alloc, doc, intent)?)
+}
+
+// How many nodes an intent that fits mentions.
+fn mentioned(alloc: Global, doc: &Doc, intent: &Intent) -> Result<usize, Fail>
+    requires { IsSoundInForm (document_of doc.now) }
+{
+    if !doc.fits(intent) {
+        return Err(Fail::from("does not fit"));
+    }
+    Ok(mentioned_nodes(alloc, doc, intent)?.len())
+}
+
+// Carries the edit out that comes before, if there is one.
+fn carry_earlier(
+    alloc: Global,
+    schema: &Schema,
+    doc: &mut Doc,
+    case: Option<Case>,
+) -> Result<(), Fail>
+    requires { IsSoundInForm (document_of doc.old) }
+    ensures { OnOk result (IsSoundInForm (document_of doc.new)) }
+{
+    let Some(case) = case else {
+        return Ok(());
+    };
+    let intent = commit(alloc, schema, &*doc, 1, case)?;
+    carry(alloc, doc, &intent)?;
+    Ok(())
+}
+
+// Whether the change of an intent is what is listed, and the intent mentions as many nodes.
+fn is_change(alloc: Global, doc: &Doc, intent: &Intent, listed: &Listed) -> Result<bool, Fail>
+    requires { IsSoundInForm (document_of doc.now) }
+{
+    let change = change(alloc, doc, intent)?;
+    Ok(is_listed(&change, listed) && mentioned(alloc, doc, intent)? == listed.mentioned)
+}
+
+// The same after the edit that comes before.
+fn is_change_after(
+    alloc: Global,
+    schema: &Schema,
+    doc: &mut Doc,
+    intent: &Intent,
+    listed: &Listed,
+) -> Result<bool, Fail>
+    requires { IsSoundInForm (document_of doc.old) }
+{
+    carry_earlier(alloc, schema, doc, listed.earlier)?;
+    is_change(alloc, &*doc, intent, listed)
+}
+
+impl Row for Listed {
+    fn is_so(&self, alloc: Global, schema: &Schema) -> Result<bool, Fail> {
+        let mut doc = open_doc(alloc, schema, self.tree)?;
+        let intent = commit(alloc, schema, &doc, 2, self.case)?;
+        is_change_after(alloc, schema, &mut doc, &intent, self)
+    }
+
+    fn message(&self) -> &'static str {
+        self.tree
+    }
+}
+
+const NESTED: &str = r#"{"list":[{"list":[{"list":[]}]},{"list":[]}]}"#;
+
+const LISTED: [Listed; 5] = [
+    Listed {
+        tree: r#"{"list":["x"]}"#,
+        earlier: Some(Case::Insert(&[], 1, &[r#""a""#])),
+        case: Case::Insert(&[], 1, &[r#""b""#]),
+        mentioned: 1,
+        rows: &[(ROOT, &[Mark::Skip(1), MAKE, Mark::Skip(1)])],
+        regs: &[],
+        loose: &[],
+    },
+    Listed {
+        tree: r#"{"list":["w","x","y"]}"#,
+        earlier: Some(Case::Remove(&[], 1, 1)),
+        case: Case::Insert(&[], 2, &[r#""b""#]),
+        mentioned: 1,
+        rows: &[(
+            ROOT,
+            &[Mark::Skip(1), Mark::Gap(CELL_1), MAKE, Mark::Skip(1)],
+        )],
+        regs: &[],
+        loose: &[],
+    },
+    Listed {
+        tree: r#"{"list":["a","b"]}"#,
+        earlier: Some(Case::Remove(&[], 0, 1)),
+        case: Case::Remove(&[], 0, 1),
+        mentioned: 1,
+        rows: &[],
+        regs: &[],
+        loose: &[Loose {
+            node: NODE_1,
+            how: How::Here,
+        }],
+    },
+    Listed {
+        tree: NESTED,
+        earlier: Some(Case::Move(&[("", 0)], 0, 1, &[("", 1)], "", 0)),
+        case: Case::Insert(&[("", 0), ("", 0)], 0, &[r#""b""#]),
+        mentioned: 3,
+        rows: &[
+            (ROOT, &[Mark::Skip(1), STAYS_3]),
+            (NODE_2, &[MAKE]),
+            (NODE_3, &[STAYS_2_MOVED]),
+        ],
+        regs: &[],
+        loose: &[],
+    },
+    Listed {
+        tree: r#"{"list":[{"card":{"title":"p"}}]}"#,
+        earlier: None,
+        case: Case::Put(&[("", 0)], "title", r#""b""#),
+        mentioned: 2,
+        rows: &[(ROOT, &[STAYS_1])],
+        regs: &[(Some(NODE_2), How::Stay, true, Some(NEW))],
+        loose: &[],
+    },
+];
+
+#[test]
+fn edits_are_listed_where_they_stand(rt: HostRuntime) -> Result<(), Fail> {
+    let wrong = wrong_row(rt.alloc(), &LISTED)?;
+    assert!(rt; wrong.is_none(), "{wrong:?}");
+    Ok(())
+}

@@ -1,0 +1,7 @@
+mod Candidates
+mod Climbing
+mod Keeping
+mod Listing
+mod Marking
+mod Naming
+mod Wanting

@@ -1,0 +1,11 @@
+use Rattle.std.proofs.Common.{◌≡◌, ◌++◌}
+use Rattle.std.specs.List.{filter_map}
+use Rattle.std.specs.BTreeSet.{contains}
+use Rattle.st_ids.specs.Order.{node_cmp}
+use Rattle.st_doc.specs.Doc.{document_of}
+use Rattle.st_embed.specs.inside.Wants.{loose_in}
+use Rattle.st_embed.proofs.lists.loose_nodes.Given as goal
+
+-- what is listed, and what is left to be gone through
+abbrev pub invariant-loop-node : goal.invariant-loop-node
+invariant-loop-node l = l.list ++ filter_map (loose_in l.wants (contains node_cmp l.mentioned) (document_of l.doc)) l.node-iterator ≡ filter_map (loose_in l.wants (contains node_cmp l.mentioned) (document_of l.doc)) l.mentioned.keys

@@ -1,0 +1,10 @@
+use Rattle.std.proofs.Common.{◌≡◌, ◌||◌, take}
+use Rattle.std.specs.BTreeSet.{contains}
+use Rattle.std.specs.List.{list_any}
+use Rattle.st_ids.specs.Order.{node_cmp, same_node}
+use Rattle.st_ids.specs.declared.names.NodeId.{NodeId}
+use Rattle.st_marks.specs.declared.intents.Group.{Group}
+use Rattle.st_embed.proofs.sets.add_grouped.Given as goal
+
+abbrev pub invariant-loop-group : goal.invariant-loop-group
+invariant-loop-group l = (n : NodeId) → contains node_cmp l.set n ≡ (contains node_cmp l.initial.set n || list_any (λ (x : Group). same_node x.node n) (take l.group-index l.groups))
