@@ -2,3 +2,5 @@ pub mod Logs
 pub mod Present
 pub mod Minima
 pub mod Names
+pub mod Branches
+pub mod Written

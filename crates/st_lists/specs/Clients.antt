@@ -28,7 +28,7 @@ client_named name clients = option_and_then (λ i. option_map (λ c. (i, c)) (sl
 
 -- a new client has received all of the log, with its own join
 abbrev pub new_client : ℕ → ℕ → List ℕ → Client
-new_client n session name = record { name = name; session = session; connected = true; received = n; ids = 0; pending = []; transaction = None; queue = [] }
+new_client n session name = record { name = name; session = session; connected = true; received = n; ids = 0; pending = []; transaction = None; queue = []; forks = 0; branches = [] }
 
 -- ## The commits of a client
 

@@ -39,8 +39,22 @@ pub struct Transaction {
     pub cells: u32,
 }
 
+/// A branch: it stands on the commits of so many entries of the log and then on those of its base, which were its parent's
+/// when it was made or brought up to date, and has commits of its own. The parent is a branch with a lesser number, or the
+/// main one, 0.
+#[derive(Drop)]
+pub struct Branch {
+    pub number: u32,
+    pub parent: u32,
+    pub received: u32,
+    pub base: List<Intent>,
+    pub own: List<Intent>,
+    pub transaction: Option<Transaction>,
+}
+
 /// A client: whether it is connected, how many entries it received, how many ids it generated, its commits that it has not
-/// received back, the transaction that is open on its main branch, and the texts that are not in the log yet.
+/// received back, the transaction that is open on its main branch, the texts that are not in the log yet, how many numbers
+/// of branches it gave, and its other branches in the order of their numbers.
 #[derive(Drop)]
 pub struct Client {
     pub name: Text,
@@ -51,4 +65,6 @@ pub struct Client {
     pub pending: List<Intent>,
     pub transaction: Option<Transaction>,
     pub queue: List<Body>,
+    pub forks: u32,
+    pub branches: List<Branch>,
 }
