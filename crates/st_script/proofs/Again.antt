@@ -15,7 +15,7 @@ use Rattle.st_tree.specs.Size.{check_items}
 use Rattle.st_schema.specs.TreeText.{tree_of, tree_data, trees_data}
 use Rattle.st_script.specs.Members.{client_named, client_in, as_small, number_in, number_or, at_least_one, one_or_more, count_of, key_within, key_or_empty, place_of, places_in, short_path, path_in, rev_in, trees_in, few, items_in, item_in}
 use Rattle.st_ids.specs.Numeral.{small}
-use Rattle.st_script.specs.Steps.{EditView, insert, remove, move, set, clear, ActView, join, edit, need, begin, commit, abort, undo, sequence, ack, deliver, leave, drop_client, reconnect, show, StepView, target_of, site_of, span_of, goal_of, read_insert, read_remove, read_move, read_set, read_clear, read_need, read_undo, act_of, step_of}
+use Rattle.st_script.specs.Steps.{EditView, insert, remove, move, set, clear, ActView, join, edit, need, begin, commit, abort, fork, rebase, merge, drop_branch, undo, sequence, ack, deliver, leave, drop_client, reconnect, show, StepView, target_of, site_of, span_of, goal_of, read_insert, read_remove, read_move, read_set, read_clear, read_need, read_undo, act_of, step_of}
 use Rattle.st_script.specs.StepText.{places_data, path_data, items_data, plain_data, undo_data, edit_data, act_data, step_data, IsName, IsActor, IsRev, ArePlaces, IsPath, IsTarget, IsSpan, AreShown, AreItems, FitsEdit, FitsAct, FitsLine}
 use Rattle.st_script.specs.declared.read.Goal.{Goal}
 use Rattle.st_script.specs.declared.read.Span.{Span}
@@ -231,6 +231,10 @@ act_again client branch (need at) by h =
 act_again client branch begin by h = branch_kept (act_data client branch begin) client branch begin refl refl by refl
 act_again client branch commit by h = branch_kept (act_data client branch commit) client branch commit refl refl by refl
 act_again client branch abort by h = branch_kept (act_data client branch abort) client branch abort refl refl by refl
+act_again client branch fork by h = branch_kept (act_data client branch fork) client branch fork refl refl by refl
+act_again client branch rebase by h = branch_kept (act_data client branch rebase) client branch rebase refl refl by refl
+act_again client branch merge by h = branch_kept (act_data client branch merge) client branch merge refl refl by refl
+act_again client branch drop_branch by h = branch_kept (act_data client branch drop_branch) client branch drop_branch refl refl by refl
 act_again client branch (undo rev) by h =
     let d = undo_data client rev in
     main_kept d client branch (undo rev) refl refl by.0 h.0 (undo_read d rev refl (rev_kept (codes "rev") d rev refl h.1))

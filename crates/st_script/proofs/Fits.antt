@@ -22,7 +22,7 @@ use Rattle.st_schema.specs.TreeText.{tree_of, tree_in, tree_data, within_limits}
 use Rattle.st_script.specs.Line.{line_of, step_of_value}
 use Rattle.st_script.specs.Members.{client_named, client_in, as_small, number_in, number_or, at_least_one, one_or_more, count_of, key_within, key_of, key_or_empty, place_of, places_in, short_path, path_in, rev_in, trees_in, few, items_in, item_in}
 use Rattle.st_ids.specs.Numeral.{small}
-use Rattle.st_script.specs.Steps.{EditView, insert, remove, move, set, clear, ActView, join, edit, need, begin, commit, abort, undo, sequence, ack, deliver, leave, drop_client, reconnect, show, StepView, IsEditWithin, IsActWithin, IsWithinLimits, same, target_of, site_of, span_of, goal_of, plain_act, read_insert, read_remove, read_move, read_set, read_clear, read_need, read_undo, read_edit, read_of, word_of, act_of, step_of}
+use Rattle.st_script.specs.Steps.{EditView, insert, remove, move, set, clear, ActView, join, edit, need, begin, commit, abort, fork, rebase, merge, drop_branch, undo, sequence, ack, deliver, leave, drop_client, reconnect, show, StepView, IsEditWithin, IsActWithin, IsWithinLimits, same, target_of, site_of, span_of, goal_of, plain_act, read_insert, read_remove, read_move, read_set, read_clear, read_need, read_undo, read_edit, read_of, word_of, act_of, step_of}
 use Rattle.st_script.specs.StepText.{IsName, IsRev, ArePlaces, IsPath, IsTarget, IsSpan, IsShown, AreShown, AreItems, FitsEdit, FitsAct, FitsLine}
 use Rattle.st_script.specs.declared.read.Goal.{Goal}
 use Rattle.st_script.specs.declared.read.Span.{Span}
@@ -283,6 +283,10 @@ module _ (d : Data) (b : ℕ) (is_branch : number_or 0 (get (codes "branch") d) 
       (either (same word (codes "begin")) _ _ (actor_fits begin tt)
       (either (same word (codes "commit")) _ _ (actor_fits commit tt)
       (either (same word (codes "abort")) _ _ (actor_fits abort tt)
+      (either (same word (codes "fork")) _ _ (actor_fits fork tt)
+      (either (same word (codes "rebase")) _ _ (actor_fits rebase tt)
+      (either (same word (codes "merge")) _ _ (actor_fits merge tt)
+      (either (same word (codes "drop_branch")) _ _ (actor_fits drop_branch tt)
       (either (same word (codes "undo")) _ _ undo_fits
       (either (same word (codes "sequence")) _ _ (main_fits sequence (λ zero. zero))
       (either (same word (codes "ack")) _ _ (main_fits ack (λ zero. zero))
@@ -290,7 +294,7 @@ module _ (d : Data) (b : ℕ) (is_branch : number_or 0 (get (codes "branch") d) 
       (either (same word (codes "leave")) _ _ (main_fits leave (λ zero. zero))
       (either (same word (codes "drop")) _ _ (main_fits drop_client (λ zero. zero))
       (either (same word (codes "reconnect")) _ _ (main_fits reconnect (λ zero. zero))
-      (either (same word (codes "show")) _ _ (actor_fits show tt) (edit_word_fits word sound)))))))))))))
+      (either (same word (codes "show")) _ _ (actor_fits show tt) (edit_word_fits word sound)))))))))))))))))
 
   act_fits : Sound d → Fits (act_of d)
   act_fits sound = Holds-and_then Any (FitsAct b) (λ word. read_of word d) (λ word _. word_fits word sound) (word_of d) (any _)
@@ -345,6 +349,10 @@ act_form b (need at) h = h.0
 act_form b begin h = tt
 act_form b commit h = tt
 act_form b abort h = tt
+act_form b fork h = tt
+act_form b rebase h = tt
+act_form b merge h = tt
+act_form b drop_branch h = tt
 act_form b (undo rev) h = tt
 act_form b sequence h = tt
 act_form b ack h = tt

@@ -3,6 +3,7 @@ pub mod Fits
 pub mod Listed
 pub mod OfForm
 pub mod Places
+pub mod Revisions
 pub mod Schemas
 pub mod Shaped
 pub mod Sound

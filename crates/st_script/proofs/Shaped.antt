@@ -22,7 +22,7 @@ use Rattle.st_schema.proofs.Holds.{Holds-cond}
 use Rattle.st_schema.proofs.Shaped.{IsShaped, shown_shaped}
 use Rattle.st_script.specs.Line.{line_of, step_of_value}
 use Rattle.st_script.specs.Members.{client_in, number_in, number_or, path_in, rev_in, trees_in, few, items_in, item_in}
-use Rattle.st_script.specs.Steps.{insert, remove, move, set, clear, ActView, join, edit, need, begin, commit, abort, undo, sequence, ack, deliver, leave, drop_client, reconnect, show, StepView, same, site_of, span_of, goal_of, read_insert, read_remove, read_move, read_set, read_clear, read_need, read_undo, read_edit, read_of, word_of, act_of, step_of}
+use Rattle.st_script.specs.Steps.{insert, remove, move, set, clear, ActView, join, edit, need, begin, commit, abort, fork, rebase, merge, drop_branch, undo, sequence, ack, deliver, leave, drop_client, reconnect, show, StepView, same, site_of, span_of, goal_of, read_insert, read_remove, read_move, read_set, read_clear, read_need, read_undo, read_edit, read_of, word_of, act_of, step_of}
 use Rattle.st_script.specs.StepText.{act_has_shape, trees_have_shape}
 use Rattle.st_script.specs.declared.read.Goal.{Goal}
 use Rattle.st_script.specs.declared.read.Span.{Span}
@@ -178,6 +178,10 @@ word_shaped word d rise =
     (either (same word (codes "begin")) _ _ (only (codes "branch client do") d (Some begin) refl)
     (either (same word (codes "commit")) _ _ (only (codes "branch client do") d (Some commit) refl)
     (either (same word (codes "abort")) _ _ (only (codes "branch client do") d (Some abort) refl)
+    (either (same word (codes "fork")) _ _ (only (codes "branch client do") d (Some fork) refl)
+    (either (same word (codes "rebase")) _ _ (only (codes "branch client do") d (Some rebase) refl)
+    (either (same word (codes "merge")) _ _ (only (codes "branch client do") d (Some merge) refl)
+    (either (same word (codes "drop_branch")) _ _ (only (codes "branch client do") d (Some drop_branch) refl)
     (either (same word (codes "undo")) _ _ (undo_shaped d)
     (either (same word (codes "sequence")) _ _ (only (codes "client do") d (Some sequence) refl)
     (either (same word (codes "ack")) _ _ (only (codes "client do") d (Some ack) refl)
@@ -185,7 +189,7 @@ word_shaped word d rise =
     (either (same word (codes "leave")) _ _ (only (codes "client do") d (Some leave) refl)
     (either (same word (codes "drop")) _ _ (only (codes "client do") d (Some drop_client) refl)
     (either (same word (codes "reconnect")) _ _ (only (codes "client do") d (Some reconnect) refl)
-    (either (same word (codes "show")) _ _ (only (codes "branch client do") d (Some show) refl) (edit_word_shaped word d rise)))))))))))))
+    (either (same word (codes "show")) _ _ (only (codes "branch client do") d (Some show) refl) (edit_word_shaped word d rise)))))))))))))))))
 
 act_shaped : (d : Data) → NamesRise d → Shaped (act_of d)
 act_shaped d rise = bound IsAct (λ word. read_of word d) (λ word. word_shaped word d rise) (word_of d)

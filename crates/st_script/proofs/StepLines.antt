@@ -14,7 +14,7 @@ use Rattle.st_tree.specs.Node.{Node, nodes_of}
 use Rattle.st_schema.specs.TreeText.{trees_data}
 use Rattle.st_schema.proofs.PlainTrees.{tree_plain, tree_low, items_low}
 use Rattle.st_script.specs.Line.{line_of, step_of_value}
-use Rattle.st_script.specs.Steps.{EditView, insert, remove, move, set, clear, ActView, join, edit, need, begin, commit, abort, undo, sequence, ack, deliver, leave, drop_client, reconnect, show, StepView}
+use Rattle.st_script.specs.Steps.{EditView, insert, remove, move, set, clear, ActView, join, edit, need, begin, commit, abort, fork, rebase, merge, drop_branch, undo, sequence, ack, deliver, leave, drop_client, reconnect, show, StepView}
 use Rattle.st_script.specs.StepText.{places_data, edit_data, act_data, step_data, step_text, edit_limits, act_limits, limits_of, trees_have_shape, IsReadBack, FitsLine}
 use Rattle.st_script.proofs.Again.{read_again}
 use Rattle.st_script.proofs.Fits.{line_fits}
@@ -45,6 +45,10 @@ act_plain client branch (need at) = rw (path_plain at) refl
 act_plain client branch begin = refl
 act_plain client branch commit = refl
 act_plain client branch abort = refl
+act_plain client branch fork = refl
+act_plain client branch rebase = refl
+act_plain client branch merge = refl
+act_plain client branch drop_branch = refl
 act_plain client branch (undo rev) = refl
 act_plain client branch sequence = refl
 act_plain client branch ack = refl
@@ -77,6 +81,10 @@ act_low client branch (need at) h = omega (arith, path_low at)
 act_low client branch begin h = omega arith
 act_low client branch commit h = omega arith
 act_low client branch abort h = omega arith
+act_low client branch fork h = omega arith
+act_low client branch rebase h = omega arith
+act_low client branch merge h = omega arith
+act_low client branch drop_branch h = omega arith
 act_low client branch (undo rev) h = omega arith
 act_low client branch sequence h = omega arith
 act_low client branch ack h = omega arith

@@ -1,6 +1,7 @@
 -- The lines of answers.
-use Rattle.std.specs.Prelude.{ℕ, List, [], ◌∷◌, ◌++◌, Option, None, Some, codes}
-use Rattle.serde_json.specs.Data.{Data, null, number, unsigned, string, object, no_members, member}
+use Rattle.std.specs.Prelude.{ℕ, List, [], ◌∷◌, ◌++◌, map, Option, None, Some, codes}
+use Rattle.serde_json.specs.Data.{Data, null, number, unsigned, string, array, object, no_members, member}
+use Rattle.serde_json.specs.View.{items_of}
 use Rattle.serde_json.specs.Written.{compact_text}
 use Rattle.st_ids.specs.Names.{rev_text, atom_text}
 use Rattle.st_ids.specs.declared.names.Rev.{Rev}
@@ -46,6 +47,7 @@ refusal_data no.NoClient = no_data (codes "NoClient")
 refusal_data no.NotConnected = no_data (codes "NotConnected")
 refusal_data no.Connected = no_data (codes "Connected")
 refusal_data no.NoBranch = no_data (codes "NoBranch")
+refusal_data no.HasChildren = no_data (codes "HasChildren")
 refusal_data (no.NoNode depth) = no_node_data depth
 refusal_data no.Kind = no_data (codes "Kind")
 refusal_data no.Range = no_data (codes "Range")
@@ -104,6 +106,16 @@ entry_data word n = object (member (codes "n") (number (unsigned n)) (member (co
 abbrev pub reconnect_data : ℕ → ℕ → Data
 reconnect_data n sent = object (member (codes "n") (number (unsigned n)) (member (codes "ok") (string (codes "reconnect")) (member (codes "sent") (number (unsigned sent)) no_members)))
 
+abbrev pub fork_data : ℕ → Data
+fork_data branch = object (member (codes "branch") (number (unsigned branch)) (member (codes "ok") (string (codes "fork")) no_members))
+
+abbrev pub revs_data : List Rev → Data
+revs_data revs = array (items_of (map (λ rev. string (rev_text rev)) revs))
+
+-- `{"ok":word,"void":[revisions]}`
+abbrev pub void_revs_data : List ℕ → List Rev → Data
+void_revs_data word void = object (member (codes "ok") (string word) (member (codes "void") (revs_data void) no_members))
+
 -- the tree stands in its line as it is
 abbrev pub show_text : List ℕ → List ℕ
 show_text tree = codes "{\"ok\":\"show\",\"tree\":" ++ tree ++ codes "}"
@@ -120,6 +132,10 @@ answer_text (answer.Need rev) = compact_text (rev_data (codes "need") rev)
 answer_text (answer.Begin rev) = compact_text (rev_data (codes "begin") rev)
 answer_text (answer.Commit rev) = compact_text (commit_data rev)
 answer_text answer.Abort = compact_text (ok_data (codes "abort"))
+answer_text (answer.Fork branch) = compact_text (fork_data branch)
+answer_text (answer.Rebase void) = compact_text (void_revs_data (codes "rebase") void)
+answer_text (answer.Merge void) = compact_text (void_revs_data (codes "merge") void)
+answer_text answer.DropBranch = compact_text (ok_data (codes "drop_branch"))
 answer_text (answer.Undo rev) = compact_text (rev_data (codes "undo") rev)
 answer_text (answer.Sequence least n) = compact_text (sequence_data least n)
 answer_text (answer.Ack reference) = compact_text (ack_data reference)

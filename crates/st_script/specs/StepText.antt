@@ -13,7 +13,7 @@ use Rattle.st_tree.specs.declared.limits.TreeFault.{TreeFault}
 use Rattle.st_schema.specs.Shape.{has_shape, all_have_shape}
 use Rattle.st_schema.specs.TreeText.{tree_data, trees_data, tree_of}
 use Rattle.st_script.specs.Line.{line_of}
-use Rattle.st_script.specs.Steps.{EditView, insert, remove, move, set, clear, ActView, join, edit, need, begin, commit, abort, undo, sequence, ack, deliver, leave, drop_client, reconnect, show, StepView}
+use Rattle.st_script.specs.Steps.{EditView, insert, remove, move, set, clear, ActView, join, edit, need, begin, commit, abort, fork, rebase, merge, drop_branch, undo, sequence, ack, deliver, leave, drop_client, reconnect, show, StepView}
 
 -- keys and indexes in turn
 abbrev pub places_data : List Place → List Data
@@ -71,6 +71,10 @@ act_data client branch (need at) = need_data client branch at
 act_data client branch begin = object (actor_members (codes "begin") client branch)
 act_data client branch commit = object (actor_members (codes "commit") client branch)
 act_data client branch abort = object (actor_members (codes "abort") client branch)
+act_data client branch fork = object (actor_members (codes "fork") client branch)
+act_data client branch rebase = object (actor_members (codes "rebase") client branch)
+act_data client branch merge = object (actor_members (codes "merge") client branch)
+act_data client branch drop_branch = object (actor_members (codes "drop_branch") client branch)
 act_data client branch (undo rev) = undo_data client rev
 act_data client branch sequence = plain_data (codes "sequence") client
 act_data client branch ack = plain_data (codes "ack") client
@@ -101,6 +105,10 @@ act_limits (need at) = Ok tt
 act_limits begin = Ok tt
 act_limits commit = Ok tt
 act_limits abort = Ok tt
+act_limits fork = Ok tt
+act_limits rebase = Ok tt
+act_limits merge = Ok tt
+act_limits drop_branch = Ok tt
 act_limits (undo rev) = Ok tt
 act_limits sequence = Ok tt
 act_limits ack = Ok tt
@@ -129,6 +137,10 @@ act_has_shape (need at) = true
 act_has_shape begin = true
 act_has_shape commit = true
 act_has_shape abort = true
+act_has_shape fork = true
+act_has_shape rebase = true
+act_has_shape merge = true
+act_has_shape drop_branch = true
 act_has_shape (undo rev) = true
 act_has_shape sequence = true
 act_has_shape ack = true
@@ -200,6 +212,10 @@ FitsAct branch (need at) = IsPath at
 FitsAct branch begin = Unit {0}
 FitsAct branch commit = Unit {0}
 FitsAct branch abort = Unit {0}
+FitsAct branch fork = Unit {0}
+FitsAct branch rebase = Unit {0}
+FitsAct branch merge = Unit {0}
+FitsAct branch drop_branch = Unit {0}
 FitsAct branch (undo rev) = (branch ≡ 0) × IsRev rev
 FitsAct branch sequence = branch ≡ 0
 FitsAct branch ack = branch ≡ 0

@@ -37,6 +37,10 @@ pub data ActView : Type 0 where
   begin : ActView
   commit : ActView
   abort : ActView
+  fork : ActView
+  rebase : ActView
+  merge : ActView
+  drop_branch : ActView
   undo : Rev → ActView
   sequence : ActView
   ack : ActView
@@ -66,6 +70,10 @@ act_view (acts.Need at) = need at
 act_view acts.Begin = begin
 act_view acts.Commit = commit
 act_view acts.Abort = abort
+act_view acts.Fork = fork
+act_view acts.Rebase = rebase
+act_view acts.Merge = merge
+act_view acts.DropBranch = drop_branch
 act_view (acts.Undo rev) = undo rev
 act_view acts.Sequence = sequence
 act_view acts.Ack = ack
@@ -96,6 +104,10 @@ IsActWithin (need at) = length at < 2 ^ 32
 IsActWithin begin = Unit {0}
 IsActWithin commit = Unit {0}
 IsActWithin abort = Unit {0}
+IsActWithin fork = Unit {0}
+IsActWithin rebase = Unit {0}
+IsActWithin merge = Unit {0}
+IsActWithin drop_branch = Unit {0}
 IsActWithin (undo rev) = Unit {0}
 IsActWithin sequence = Unit {0}
 IsActWithin ack = Unit {0}
@@ -207,6 +219,10 @@ read_of word d =
     if same word (codes "begin") then plain_act (codes "branch client do") begin d else
     if same word (codes "commit") then plain_act (codes "branch client do") commit d else
     if same word (codes "abort") then plain_act (codes "branch client do") abort d else
+    if same word (codes "fork") then plain_act (codes "branch client do") fork d else
+    if same word (codes "rebase") then plain_act (codes "branch client do") rebase d else
+    if same word (codes "merge") then plain_act (codes "branch client do") merge d else
+    if same word (codes "drop_branch") then plain_act (codes "branch client do") drop_branch d else
     if same word (codes "undo") then read_undo d else
     if same word (codes "sequence") then plain_act (codes "client do") sequence d else
     if same word (codes "ack") then plain_act (codes "client do") ack d else

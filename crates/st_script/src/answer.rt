@@ -3,21 +3,24 @@ ghost use Rattle.std.specs.Prelude.{◌≡◌, [], ◌∷◌, ◌++◌, codes, I
 ghost use Rattle.serde_json.specs.Data.{object, member, no_members, number, unsigned, string, put};
 ghost use Rattle.serde_json.specs.View.{view, members_view};
 ghost use Rattle.serde_json.specs.Written.{compact_text};
-ghost use Rattle.st_script.specs.AnswerText.{ok_data, join_data, rev_data, sequence_data, ack_data, void_data, deliver_data, entry_data, reconnect_data, commit_data, refusal_data, show_text, answer_line};
+ghost use Rattle.st_ids.specs.Names.{rev_text};
+ghost use Rattle.st_script.specs.AnswerText.{ok_data, join_data, rev_data, sequence_data, ack_data, void_data, deliver_data, entry_data, reconnect_data, fork_data, revs_data, void_revs_data, commit_data, refusal_data, show_text, answer_line};
 
 use crate::refusal::{Refusal, refusal_value};
 use serde_json::{Map, Value, json};
-use st_ids::{NodeId, Rev, Text};
+use st_ids::{List, NodeId, Rev, Text};
 use st_json::write_line;
 use st_marks::Verdict;
 use std::alloc::{AllocError, Global};
 
 /// The answer to a header or a step. The tree of `Show` is a JSON text. The revision of `Need` and
 /// `Begin` is that of the transaction, and that of `Commit` is none where it made no commit; that
-/// of `Undo` is the revision of the new commit. The `reference` of `Ack` is the number of the last
-/// entry of the log that the client received. `n` is the number of an entry of the log: of the
-/// client's own Join or Leave, or of the one that was sequenced or delivered. `sent` of `Reconnect`
-/// is how many texts then wait to be sent.
+/// of `Undo` is the revision of the new commit. `branch` of `Fork` is the number of the new branch.
+/// `void` of `Rebase` and `Merge` names the commits of the branch that are void on its parent, in
+/// their order. The `reference` of `Ack` is the number of the last entry of the log that the client
+/// received. `n` is the number of an entry of the log: of the client's own Join or Leave, or of the
+/// one that was sequenced or delivered. `sent` of `Reconnect` is how many texts then wait to be
+/// sent.
 #[derive(Drop)]
 pub enum Answer {
     Header,
@@ -31,6 +34,10 @@ pub enum Answer {
     Begin { rev: Rev },
     Commit { rev: Option<Rev> },
     Abort,
+    Fork { branch: u32 },
+    Rebase { void: List<Rev> },
+    Merge { void: List<Rev> },
+    DropBranch,
     Undo { rev: Rev },
     Sequence { min: u32, n: u32 },
     Ack { reference: u32 },
@@ -173,6 +180,38 @@ fn reconnect_value(alloc: Global, n: u32, sent: u32) -> Result<Value, AllocError
     json!(in alloc; {"n": n, "ok": "reconnect", "sent": sent})
 }
 
+fn fork_value(alloc: Global, branch: u32) -> Result<Value, AllocError>
+    ensures { IfOk result (λ v. view v ≡ fork_data branch) }
+{
+    json!(in alloc; {"branch": branch, "ok": "fork"})
+}
+
+// A list of revisions.
+fn revs_value(alloc: Global, revs: &List<Rev>) -> Result<Value, AllocError>
+    ensures { IfOk result (λ v. view v ≡ revs_data revs.now) }
+{
+    let mut items = Vec::new(alloc);
+    for rev in revs.as_slice() {
+        items.push(rev_item(alloc, *rev)?)?;
+    }
+    Ok(Value::Array(items))
+}
+
+fn rev_item(alloc: Global, rev: Rev) -> Result<Value, AllocError>
+    ensures { IfOk result (λ v. view v ≡ string (rev_text rev)) }
+{
+    let text = rev.text(alloc)?;
+    Ok(Value::String(String::from_str(alloc, text.as_str())?))
+}
+
+// The answer to a rebase or a merge, with the revisions of the commits that are void there.
+fn void_revs_value(alloc: Global, word: &str, void: &List<Rev>) -> Result<Value, AllocError>
+    ensures { IfOk result (λ v. view v ≡ void_revs_data word.now void.now) }
+{
+    let revs = revs_value(alloc, void)?;
+    json!(in alloc; {"ok": word, "void": revs})
+}
+
 // The line of a tree, which is a JSON text.
 fn show_line(alloc: Global, tree: &str) -> Result<Text, AllocError>
     ensures { IfOk result (λ t. t ≡ show_text tree.now ++ 10 ∷ []) }
@@ -247,6 +286,20 @@ fn reconnect_line(alloc: Global, n: u32, sent: u32) -> Result<Text, AllocError>
     write_line(alloc, &value)
 }
 
+fn fork_line(alloc: Global, branch: u32) -> Result<Text, AllocError>
+    ensures { IfOk result (λ t. t ≡ compact_text (fork_data branch) ++ 10 ∷ []) }
+{
+    let value = fork_value(alloc, branch)?;
+    write_line(alloc, &value)
+}
+
+fn void_revs_line(alloc: Global, word: &str, void: &List<Rev>) -> Result<Text, AllocError>
+    ensures { IfOk result (λ t. t ≡ compact_text (void_revs_data word.now void.now) ++ 10 ∷ []) }
+{
+    let value = void_revs_value(alloc, word, void)?;
+    write_line(alloc, &value)
+}
+
 fn no_line(alloc: Global, refusal: Refusal) -> Result<Text, AllocError>
     ensures { IfOk result (λ t. t ≡ compact_text (refusal_data refusal) ++ 10 ∷ []) }
 {
@@ -270,6 +323,10 @@ pub fn answer_line(alloc: Global, answer: &Answer) -> Result<Text, AllocError>
         Answer::Begin { rev } => rev_line(alloc, "begin", *rev),
         Answer::Commit { rev } => commit_line(alloc, *rev),
         Answer::Abort => ok_line(alloc, "abort"),
+        Answer::Fork { branch } => fork_line(alloc, *branch),
+        Answer::Rebase { void } => void_revs_line(alloc, "rebase", void),
+        Answer::Merge { void } => void_revs_line(alloc, "merge", void),
+        Answer::DropBranch => ok_line(alloc, "drop_branch"),
         Answer::Undo { rev } => rev_line(alloc, "undo", *rev),
         Answer::Sequence { min, n } => sequence_line(alloc, *min, *n),
         Answer::Ack { reference } => ack_line(alloc, *reference),

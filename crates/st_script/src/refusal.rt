@@ -18,8 +18,10 @@ pub enum Refusal {
     NotConnected,
     /// The client is connected.
     Connected,
-    /// The client has no such branch.
+    /// The client has no such branch, or it is the main one, which has no parent.
     NoBranch,
+    /// The client has a branch that was made of this one.
+    HasChildren,
     /// The pair of that number, from 0, of a path leads to no live node.
     NoNode { depth: u32 },
     /// The node has no such field, or the field is not of a kind that the edit takes.
@@ -30,7 +32,7 @@ pub enum Refusal {
     Inside,
     /// The schema does not allow the new or moved node of that number, from 0.
     NotAllowed { at: u32 },
-    /// A transaction is open on the branch.
+    /// A transaction is open on the branch, or on the parent that it is merged into.
     Unfinished,
     /// No transaction is open on the branch.
     NotBegun,
@@ -108,6 +110,7 @@ pub(crate) fn refusal_value(alloc: Global, refusal: Refusal) -> Result<Value, Al
         Refusal::NotConnected => no_value(alloc, "NotConnected"),
         Refusal::Connected => no_value(alloc, "Connected"),
         Refusal::NoBranch => no_value(alloc, "NoBranch"),
+        Refusal::HasChildren => no_value(alloc, "HasChildren"),
         Refusal::NoNode { depth } => no_node_value(alloc, depth),
         Refusal::Kind => no_value(alloc, "Kind"),
         Refusal::Range => no_value(alloc, "Range"),

@@ -25,6 +25,14 @@ pub enum Act {
     Commit,
     /// Gives the open transaction up.
     Abort,
+    /// Makes a branch that begins where the step's branch stands.
+    Fork,
+    /// Sets the branch on where its parent stands.
+    Rebase,
+    /// Adds the commits of the branch to its parent, and ends the branch.
+    Merge,
+    /// Ends the branch, with its commits.
+    DropBranch,
     /// Takes back what the client's own commit of the revision did.
     Undo { rev: Rev },
     Sequence,
