@@ -1,5 +1,17 @@
 -- The commits of the log, and those that each client shows, agree with the schema, whoever makes a step.
-use Rattle.std.proofs.Common.{◌≡◌, ◌≢◌, ◌≤◌, ◌+◌, ◌==◌, ℕ, zero, suc, Bool, true, false, List, [], ◌∷◌, ◌++◌, length, take, drop, Option, Some, None, IfSome, IsSome, is_some, Result, Ok, Err, refl, sym, ap, ◌∙◌, subst, arith, append_assoc, length-append, ◌⊎◌, inl, inr}
+use Rattle.std.proofs.Common.{Bool, Err, IfSome, IsSome, List, None, Ok, Option, Result, Some, [], ap, append_assoc, arith, drop, false, inl, inr, length, length-append, refl, subst, suc, sym, take, true, zero, ℕ, ◌++◌, ◌+◌, ◌<◌, ◌∙◌, ◌∷◌, ◌≡◌, ◌≢◌, ◌≤◌, ◌⊎◌}
+use Rattle.std.specs.Option.{option_and_then, option_map_or, option_or}
+use Rattle.std.specs.Prelude.{is_some, option_map, ◌==◌}
+use Rattle.st_lists.specs.Lines.{HasHead, Line, all_commits, branch_line, branch_of, commits_of, edited_on, line_of, main_line, own_of}
+use Rattle.st_lists.specs.Names.{names_in, names_made}
+use Rattle.st_lists.specs.declared.lists.Branch.{Branch}
+use Rattle.st_marks.proofs.Members.{all-has, append_left, append_right, has-all, has-append, has-map, map-has}
+use Rattle.st_trace.proofs.Among.{branch_among, branch_is, line_room}
+use Rattle.st_trace.proofs.Clients.{shown_sound, main_among, next_new, other_fit, own_first, own_more, queue_first, received_more}
+use Rattle.st_trace.proofs.Lookup.{branch_found}
+use Rattle.st_trace.proofs.Parts.{edited_fits, edited_room, edits_fit, follow}
+use Rattle.st_trace.specs.Replicas.{BranchesKeepSchema, CommitsKeepSchema, EditsKeepSchema, HasMain, HaveOwnSessions, IsBranch, IsClient, IsHeader, IsTransaction, KeepSchemaWith, KeepToSchema, LineFits}
+use Rattle.st_trace.specs.World.{IsDeliveredTo, after_edit, cells_given, next_names, opening_document, with_new_on}
 use Rattle.std.specs.List.{cons_option, remove, slice_get, slice_set, AllByRecursion}
 use Rattle.std.proofs.lemmas.Bool.Decides.{nat_tests}
 use Rattle.std.proofs.lemmas.List.{append-nil, take_all}
@@ -26,8 +38,6 @@ use Rattle.st_marks.proofs.OneVerdict.{one_run}
 use Rattle.st_heads.specs.Transactions.{FitsSoFar, IsWithPart, with_open}
 use Rattle.st_heads.specs.inside.Parts.{CanFollow}
 use Rattle.st_lemmas.proofs.Bools.{true-false}
-use Rattle.std.specs.Option.{option_and_then, option_or}
-use Rattle.st_marks.proofs.Members.{all-has, append_left, append_right, has-append, has-map, map-has}
 use Rattle.st_log_laws.specs.Names.{revisions}
 use Rattle.st_log_laws.specs.Turns.{FitInTurn, IsSublist}
 use Rattle.st_log_laws.proofs.Names.{new_node_rev}
@@ -47,13 +57,9 @@ use Rattle.st_marks.proofs.Later.{row_later}
 use Rattle.st_schema_laws.proofs.Opened.{allowed_conforms}
 use Rattle.st_script.specs.Header.{HeaderView}
 use Rattle.st_script.specs.declared.answer.Answer.{Answer}
-use Rattle.st_trace.specs.Replicas.{EditsKeepSchema, HasMain, HaveOwnSessions, IsClient, IsHeader, IsTransaction, KeepSchemaWith, KeepToSchema}
-use Rattle.st_lists.specs.Log.{commits_by, commits_of_text, intents_of, log_and_waiting, waiting}
-use Rattle.st_lists.specs.Log.{commit_in, commit_of, commits_in, log_with}
+use Rattle.st_lists.specs.Log.{commits_by, commits_of_text, intents_of, log_and_waiting, waiting, commit_in, commit_of, commits_in, log_with}
 use Rattle.st_lists.specs.Clients.{joined_of, next_rev, with_ack, with_commit, with_connection, without_connection, with_edited, with_new_commit, with_transaction, without_transaction, new_client, pending_after, received_by, with_received}
-use Rattle.st_trace.specs.World.{IsDeliveredTo, after_edit, cells_given, next_names, opening_document, with_pending}
 use Rattle.st_lists.specs.Limits.{limit_passed}
-use Rattle.st_lists.specs.Names.{names_in}
 use Rattle.st_trace.specs.declared.client.EditWord.{EditWord}
 use Rattle.st_lists.specs.declared.lists.Body.{Body}
 use Rattle.st_lists.specs.declared.lists.Body.TheVariants.{Join, Leave}
@@ -61,9 +67,7 @@ use Rattle.st_lists.specs.declared.lists.Client.{Client}
 use Rattle.st_lists.specs.declared.lists.Entry.{Entry}
 use Rattle.st_lists.specs.declared.lists.Transaction.{Transaction}
 use Rattle.st_trace.proofs.Begun.{IsStart, opens_allowed}
-use Rattle.st_trace.proofs.Clients.{next_new, other_fit, own_first, queue_first, received_more, shown_among, shown_new, shown_sound}
 use Rattle.st_trace.proofs.Meant.{IsMeaning, IsMeant}
-use Rattle.st_trace.proofs.Parts.{edited_fits, follow}
 use Rattle.st_trace.proofs.Everyone.{all_get, all_set, others_apart, set_same}
 use Rattle.st_ids.proofs.Shared.{at_has}
 use Rattle.st_lists.proofs.Present.{all_rest, are_apart}
@@ -74,7 +78,7 @@ use Rattle.st_lemmas.proofs.Lists.{AllByRecursion-append}
 pub begun_keeps : (h : HeaderView) → IsHeader h → KeepToSchema h [] []
 begun_keeps h k =
     let home : NodeId → Option FieldId = λ m. register_in ((opening_document h).place m) in
-    (home, record { start = allowed_conforms h.schema home h.tree (compact_text (schema_data h.schema)) k.schema (opens_allowed h.schema h.tree k.tree) (λ m i. refl); logged = tt; shown = tt; edited = tt })
+    (home, record { start = allowed_conforms h.schema home h.tree (compact_text (schema_data h.schema)) k.schema (opens_allowed h.schema h.tree k.tree) (λ m i. refl); logged = tt; shown = tt; edited = tt; branches = tt })
 
 front_sublist : (As Bs : List Intent) → IsSublist As (As ++ Bs)
 front_sublist [] Bs = sublist_none Bs
@@ -109,18 +113,44 @@ module _ (h : HeaderView) (st : IsStart (opening_document h)) where
 
   -- those that a client shows do
   abbrev Shown : (NodeId → Option FieldId) → List Entry → Client → Type 0
-  Shown home log c = Agree home (received_by log c ++ c.pending)
+  Shown home log c = CommitsKeepSchema h home log (main_line c)
 
   -- what is edited does
   abbrev Edited : (NodeId → Option FieldId) → List Entry → Client → Type 0
-  Edited home log c = EditsKeepSchema h home log c
+  Edited home log c = EditsKeepSchema h home log (main_line c)
 
-  nothing_edited : (home : NodeId → Option FieldId) (log : List Entry) (c : Client) → joined_of c ≡ None → Edited home log c
-  nothing_edited home log c none D main = subst (λ o. IfSome o (KeepsSchema h.schema home D)) (sym none) tt
+  -- what a branch has and what is edited on it does
+  abbrev pub BranchKeeps : (NodeId → Option FieldId) → List Entry → Branch → Type 0
+  BranchKeeps home log b = CommitsKeepSchema h home log (branch_line b) × EditsKeepSchema h home log (branch_line b)
+
+  -- and so for each branch of a client
+  abbrev Branches : (NodeId → Option FieldId) → List Entry → Client → Type 0
+  Branches home log c = BranchesKeepSchema h home log c
+
+  pub nothing_edited : (home : NodeId → Option FieldId) (log : List Entry) (l : Line) → option_and_then (λ (t : Transaction). t.joined) l.transaction ≡ None → EditsKeepSchema h home log l
+  nothing_edited home log l none D main = subst (λ o. IfSome o (KeepsSchema h.schema home D)) (sym none) tt
+
+  -- a line has one commit more, which agrees with the schema in the line's document
+  pub agrees_more : (home : NodeId → Option FieldId) (log : List Entry) (l : Line) (D : Document) (N : Intent) → CommitsKeepSchema h home log l → HasHead (opening_document h) log l D → KeepsSchema h.schema home D N
+      → CommitsKeepSchema h home log (record l { own = l.own ++ N ∷ [] })
+  agrees_more home log l D N agree head keeps = subst (Agree home) (own_more h st log l N) (agree_then_one h.schema home (commits_of log l) (N ∷ []) agree head (keeps, λ v is. tt))
 
   -- a client that stays as it is
   pub same_keeps : (log : List Entry) (cs : List Client) (i : ℕ) (c c' : Client) → slice_get cs i ≡ Some c → c ≡ c' → KeepToSchema h log cs → KeepToSchema h log (slice_set cs i c')
   same_keeps log cs i c c' at same w = subst (KeepToSchema h log) (sym (set_same cs i c at) ∙ ap (slice_set cs i) same) w
+
+  -- a client is now so, with the same homes
+  pub one_keeps : (home : NodeId → Option FieldId) (log : List Entry) (cs : List Client) (i : ℕ) (c' : Client) → KeepSchemaWith h log cs home → Shown home log c' → Edited home log c' → Branches home log c' → KeepToSchema h log (slice_set cs i c')
+  one_keeps home log cs i c' w shown edited branches = (
+    home,
+    record {
+      start = w.start;
+      logged = w.logged;
+      shown = all_set (Shown home log) cs i c' w.shown shown;
+      edited = all_set (Edited home log) cs i c' w.edited edited;
+      branches = all_set (Branches home log) cs i c' w.branches branches;
+    },
+  )
 
   -- ## An entry is received
 
@@ -168,35 +198,38 @@ module _ (h : HeaderView) (st : IsStart (opening_document h)) where
       go : (o : Option Entry) → slice_get log c.received ≡ o → IsDeliveredTo D c o c' a → KeepToSchema h log (slice_set cs i c')
       go None e d = same_keeps log cs i c c' at (sym d.0) w
       go (Some x) e d =
-          let now = taken_shows w.0 log c x (all_get (IsClient h log) cs i c are at) few e w.1.logged (all_get (Shown w.0 log) cs i c w.1.shown at) in (
-            w.0,
-            record {
-              start = w.1.start;
-              logged = w.1.logged;
-              shown = all_set (Shown w.0 log) cs i c' w.1.shown (subst (Shown w.0 log) (sym d.2) now);
-              edited = all_set (Edited w.0 log) cs i c' w.1.edited (nothing_edited w.0 log c' (ap joined_of d.2 ∙ ap (option_and_then (λ (t : Transaction). t.joined)) none));
-            },
-          )
+          let now = taken_shows w.0 log c x (all_get (IsClient h log) cs i c are at) few e w.1.logged (all_get (Shown w.0 log) cs i c w.1.shown at) in
+          one_keeps w.0 log cs i c' w.1 (subst (Shown w.0 log) (sym d.2) now) (nothing_edited w.0 log (main_line c') (ap joined_of d.2 ∙ ap (option_and_then (λ (t : Transaction). t.joined)) none))
+          (subst (Branches w.0 log) (sym d.2) (all_get (Branches w.0 log) cs i c w.1.branches at))
 
   -- ## The log grows
 
-  entered_shows : (home : NodeId → Option FieldId) (log : List Entry) (session : ℕ) (body : Body) (c : Client) → c.received ≤ length log → Shown home log c → Shown home (log_with log session body) c
-  entered_shows home log session body c within shown = subst (λ (es : List Entry). Agree home (commits_in es ++ c.pending)) (sym (entered_front log session body c.received within)) shown
+  entered_shows : (home : NodeId → Option FieldId) (log : List Entry) (session : ℕ) (body : Body) (l : Line) → l.received ≤ length log → CommitsKeepSchema h home log l → CommitsKeepSchema h home (log_with log session body) l
+  entered_shows home log session body l within shown = subst (λ (es : List Entry). Agree home (commits_in es ++ (l.base ++ l.own))) (sym (entered_front log session body l.received within)) shown
 
   -- what is edited stands on the same document
-  entered_edits : (home : NodeId → Option FieldId) (log : List Entry) (session : ℕ) (body : Body) (c c' : Client) → c.received ≤ length log → c'.pending ≡ c.pending → c'.received ≡ c.received → joined_of c' ≡ joined_of c
-      → Edited home log c → Edited home (log_with log session body) c'
-  entered_edits home log session body c c' within pending received joined edited D main =
-      subst (λ o. IfSome o (KeepsSchema h.schema home D)) (sym joined)
-      (edited D (subst (λ l. Run (opening_document h) l D) (ap (λ n. commits_in (take n (log_with log session body)) ++ c'.pending) received ∙ ap (λ es. commits_in es ++ c'.pending) (entered_front log session body c.received within) ∙ ap (λ l. received_by log c ++ l) pending) main))
+  entered_edits : (home : NodeId → Option FieldId) (log : List Entry) (session : ℕ) (body : Body) (l : Line) → l.received ≤ length log → EditsKeepSchema h home log l → EditsKeepSchema h home (log_with log session body) l
+  entered_edits home log session body l within edited D main = edited D (subst (λ (es : List Entry). Run (opening_document h) (commits_in es ++ (l.base ++ l.own)) D) (entered_front log session body l.received within) main)
 
   all_edits_entered : (home : NodeId → Option FieldId) (log : List Entry) (session : ℕ) (body : Body) (cs : List Client) → AllByRecursion (IsClient h log) cs → AllByRecursion (Edited home log) cs → AllByRecursion (Edited home (log_with log session body)) cs
   all_edits_entered home log session body [] are edited = tt
-  all_edits_entered home log session body (c ∷ cs) are edited = (entered_edits home log session body c c are.0.within refl refl refl edited.0, all_edits_entered home log session body cs are.1 edited.1)
+  all_edits_entered home log session body (c ∷ cs) are edited = (entered_edits home log session body (main_line c) are.0.within edited.0, all_edits_entered home log session body cs are.1 edited.1)
 
   all_entered : (home : NodeId → Option FieldId) (log : List Entry) (session : ℕ) (body : Body) (cs : List Client) → AllByRecursion (IsClient h log) cs → AllByRecursion (Shown home log) cs → AllByRecursion (Shown home (log_with log session body)) cs
   all_entered home log session body [] are shown = tt
-  all_entered home log session body (c ∷ cs) are shown = (entered_shows home log session body c are.0.within shown.0, all_entered home log session body cs are.1 shown.1)
+  all_entered home log session body (c ∷ cs) are shown = (entered_shows home log session body (main_line c) are.0.within shown.0, all_entered home log session body cs are.1 shown.1)
+
+  -- and so do branches
+  branches_entered : (home : NodeId → Option FieldId) (log : List Entry) (session : ℕ) (body : Body) (c : Client) (bs : List Branch) → AllByRecursion (IsBranch h log c) bs → AllByRecursion (BranchKeeps home log) bs → AllByRecursion (BranchKeeps home (log_with log session body)) bs
+  branches_entered home log session body c [] are keep = tt
+  branches_entered home log session body c (b ∷ bs) are keep = (
+    (entered_shows home log session body (branch_line b) are.0.within keep.0.0, entered_edits home log session body (branch_line b) are.0.within keep.0.1),
+    branches_entered home log session body c bs are.1 keep.1,
+  )
+
+  all_branches_entered : (home : NodeId → Option FieldId) (log : List Entry) (session : ℕ) (body : Body) (cs : List Client) → AllByRecursion (IsClient h log) cs → AllByRecursion (Branches home log) cs → AllByRecursion (Branches home (log_with log session body)) cs
+  all_branches_entered home log session body [] are keep = tt
+  all_branches_entered home log session body (c ∷ cs) are keep = (branches_entered home log session body c c.branches are.0.branches.each keep.0, all_branches_entered home log session body cs are.1 keep.1)
 
   -- the oldest text of a client comes after the commits of the log
   last_agrees : (home : NodeId → Option FieldId) (log : List Entry) (c : Client) (text : Body) (rest : List Body) → IsClient h log c → c.queue ≡ text ∷ rest → FitInTurn (opening_document h) (commits_in log ++ commits_of_text text)
@@ -223,9 +256,11 @@ module _ (h : HeaderView) (st : IsStart (opening_document h)) where
           start = w.1.start;
           logged = subst (Agree w.0) (sym (entered_commits log c.session text)) (last_agrees w.0 log c text c'.queue k is last_fit w.1.logged mine);
           shown = all_set (Shown w.0 (log_with log c.session text)) cs i c' (all_entered w.0 log c.session text cs are w.1.shown)
-              (subst (Shown w.0 (log_with log c.session text)) (sym is_c) (entered_shows w.0 log c.session text (record c { queue = c'.queue }) k.within mine));
+              (subst (Shown w.0 (log_with log c.session text)) (sym is_c) (entered_shows w.0 log c.session text (main_line c) k.within mine));
           edited = all_set (Edited w.0 (log_with log c.session text)) cs i c' (all_edits_entered w.0 log c.session text cs are w.1.edited)
-              (entered_edits w.0 log c.session text c c' k.within (ap (λ (x : Client). x.pending) is_c) (ap (λ (x : Client). x.received) is_c) (ap joined_of is_c) (all_get (Edited w.0 log) cs i c w.1.edited at));
+              (subst (Edited w.0 (log_with log c.session text)) (sym is_c) (entered_edits w.0 log c.session text (main_line c) k.within (all_get (Edited w.0 log) cs i c w.1.edited at)));
+          branches = all_set (Branches w.0 (log_with log c.session text)) cs i c' (all_branches_entered w.0 log c.session text cs are w.1.branches)
+              (subst (Branches w.0 (log_with log c.session text)) (sym is_c) (branches_entered w.0 log c.session text c c.branches k.branches.each (all_get (Branches w.0 log) cs i c w.1.branches at)));
         },
       )
 
@@ -242,7 +277,8 @@ module _ (h : HeaderView) (st : IsStart (opening_document h)) where
           start = w.1.start;
           logged = subst (Agree w.0) commits w.1.logged;
           shown = AllByRecursion-append (Shown w.0 longer) cs (c ∷ []) (all_entered w.0 log session Join cs are w.1.shown) (subst (Shown w.0 longer) (sym is_c) (subst (Agree w.0) all w.1.logged), tt);
-          edited = AllByRecursion-append (Edited w.0 longer) cs (c ∷ []) (all_edits_entered w.0 log session Join cs are w.1.edited) (nothing_edited w.0 longer c (ap joined_of is_c), tt);
+          edited = AllByRecursion-append (Edited w.0 longer) cs (c ∷ []) (all_edits_entered w.0 log session Join cs are w.1.edited) (nothing_edited w.0 longer (main_line c) (ap joined_of is_c), tt);
+          branches = AllByRecursion-append (Branches w.0 longer) cs (c ∷ []) (all_branches_entered w.0 log session Join cs are w.1.branches) (subst (Branches w.0 longer) (sym is_c) tt, tt);
         },
       )
 
@@ -261,6 +297,7 @@ module _ (h : HeaderView) (st : IsStart (opening_document h)) where
       logged = entered_logged w.0 log session Leave refl w.1.logged;
       shown = all_rest (Shown w.0 (log_with log session Leave)) cs i (all_entered w.0 log session Leave cs are w.1.shown);
       edited = all_rest (Edited w.0 (log_with log session Leave)) cs i (all_edits_entered w.0 log session Leave cs are w.1.edited);
+      branches = all_rest (Branches w.0 (log_with log session Leave)) cs i (all_branches_entered w.0 log session Leave cs are w.1.branches);
     },
   )
 
@@ -272,9 +309,11 @@ module _ (h : HeaderView) (st : IsStart (opening_document h)) where
         record {
           start = w.1.start;
           logged = entered_logged w.0 log c.session Leave refl w.1.logged;
-          shown = all_set (Shown w.0 longer) cs i (without_connection c) (all_entered w.0 log c.session Leave cs are w.1.shown) (entered_shows w.0 log c.session Leave c k.within (all_get (Shown w.0 log) cs i c w.1.shown at));
+          shown = all_set (Shown w.0 longer) cs i (without_connection c) (all_entered w.0 log c.session Leave cs are w.1.shown) (entered_shows w.0 log c.session Leave (main_line c) k.within (all_get (Shown w.0 log) cs i c w.1.shown at));
           edited = all_set (Edited w.0 longer) cs i (without_connection c) (all_edits_entered w.0 log c.session Leave cs are w.1.edited)
-              (entered_edits w.0 log c.session Leave c (without_connection c) k.within refl refl refl (all_get (Edited w.0 log) cs i c w.1.edited at));
+              (entered_edits w.0 log c.session Leave (main_line c) k.within (all_get (Edited w.0 log) cs i c w.1.edited at));
+          branches = all_set (Branches w.0 longer) cs i (without_connection c) (all_branches_entered w.0 log c.session Leave cs are w.1.branches)
+              (branches_entered w.0 log c.session Leave c c.branches k.branches.each (all_get (Branches w.0 log) cs i c w.1.branches at));
         },
       )
 
@@ -302,20 +341,44 @@ module _ (h : HeaderView) (st : IsStart (opening_document h)) where
           start = w.1.start;
           logged = entered_logged w.0 log c.session Join refl w.1.logged;
           shown = all_set (Shown w.0 longer) cs i d (all_entered w.0 log c.session Join cs are w.1.shown) (subst (Agree w.0) all (waiting_agrees w.0 log c k w.1.logged (all_get (Shown w.0 log) cs i c w.1.shown at)));
-          edited = all_set (Edited w.0 longer) cs i d (all_edits_entered w.0 log c.session Join cs are w.1.edited) (nothing_edited w.0 longer d (ap (option_and_then (λ (t : Transaction). t.joined)) none));
+          edited = all_set (Edited w.0 longer) cs i d (all_edits_entered w.0 log c.session Join cs are w.1.edited) (nothing_edited w.0 longer (main_line d) (ap (option_and_then (λ (t : Transaction). t.joined)) none));
+          branches = all_set (Branches w.0 longer) cs i d (all_branches_entered w.0 log c.session Join cs are w.1.branches)
+              (branches_entered w.0 log c.session Join c c.branches k.branches.each (all_get (Branches w.0 log) cs i c w.1.branches at));
         },
       )
 
+  -- ## The lines of branches
+
+  -- a branch's line has its number
+  pub branch_numbered : (log : List Entry) (c : Client) (b : Branch) → IsClient h log c → Has c.branches b → line_of c b.number ≡ Some (branch_line b)
+  branch_numbered log c b k i = go b.number (branch_is h st log c k b i).numbered (branch_found c b.number b k.branches.numbers i refl)
+    where
+      go : (n : ℕ) → 0 < n → branch_of c n ≡ Some b → line_of c n ≡ Some (branch_line b)
+      go zero low e = absurd (omega (arith, low))
+      go (suc n) low e = ap (option_map branch_line) e
+
+  -- what is edited on it fits in turn
+  branch_edits_fit : (log : List Entry) (c : Client) (b : Branch) (t : Transaction) (J : Intent) → IsClient h log c → Has c.branches b → b.transaction ≡ Some t → names_in (commits_in log) ≤ 131072 → (x : IsTransaction h log (branch_line b) c t) → t.joined ≡ Some J
+      → FitInTurn x.before (J ∷ [])
+  branch_edits_fit log c b t J k i is all x joined =
+      let made : option_map_or names_made (edited_on (branch_line b)) 0 ≡ names_made J =
+      ap (λ (o : Option Transaction). option_map_or names_made (option_and_then (λ (u : Transaction). u.joined) o) 0) is ∙ ap (λ (o : Option Intent). option_map_or names_made o 0) joined in
+      edits_fit h st log (branch_line b) c t J (branch_is h st log c k b i).fit (omega (arith, line_room h st log c k b.number (branch_line b) (branch_numbered log c b k i) all, made)) x joined
+
   -- ## The homes of new nodes are told
 
-  module _ (log : List Entry) (c : Client) (N : Intent) (k : IsClient h log c) (few : names_in (commits_in log) ≤ 131072) (itself : IsIntent N) (session : N.rev.session ≡ c.session)
-      (fresh : Has (revisions (log_and_waiting log c) ++ opening ∷ []) N.rev → ⊥) (home : NodeId → Option FieldId) where
-    -- no commit of the log and no client has its revision, nor has the opening
-    not_opening : Has (opening ∷ []) N.rev → ⊥
-    not_opening i = fresh (append_right (revisions (log_and_waiting log c)) (opening ∷ []) N.rev i)
+  -- where a transaction is open on a line of a client, another commit of it has another revision
+  pub line_next_apart : (log : List Entry) (c : Client) (l : Line) (t : Transaction) (r : Rev) → IsTransaction h log l c t → r ≡ next_rev c → r ≡ t.rev → ⊥
+  line_next_apart log c l t r x is e = let num : t.rev.num ≡ c.ids + 1 = ap (λ (q : Rev). q.num) (sym e ∙ is) in omega (arith, num, x.num)
 
-    not_sent : (M : Intent) → Has (log_and_waiting log c) M → M.rev ≡ N.rev → ⊥
-    not_sent M i e = fresh (append_left (revisions (log_and_waiting log c)) (opening ∷ []) N.rev (subst (Has (revisions (log_and_waiting log c))) e (map-has (λ (X : Intent). X.rev) (log_and_waiting log c) M i)))
+  module _ (log : List Entry) (c : Client) (N : Intent) (k : IsClient h log c) (few : names_in (commits_in log) ≤ 131072) (itself : IsIntent N) (session : N.rev.session ≡ c.session)
+      (fresh : Has (revisions (all_commits log c) ++ opening ∷ []) N.rev → ⊥) (home : NodeId → Option FieldId) where
+    -- no commit that there is for the client has its revision, nor has the opening
+    not_opening : Has (opening ∷ []) N.rev → ⊥
+    not_opening i = fresh (append_right (revisions (all_commits log c)) (opening ∷ []) N.rev i)
+
+    pub not_made : (M : Intent) → Has (all_commits log c) M → M.rev ≡ N.rev → ⊥
+    not_made M i e = fresh (append_left (revisions (all_commits log c)) (opening ∷ []) N.rev (subst (Has (revisions (all_commits log c))) e (map-has (λ (X : Intent). X.rev) (all_commits log c) M i)))
 
     not_among : (Ns : List Intent) → ((M : Intent) → Has Ns M → M.rev ≡ N.rev → ⊥) → Has (revisions Ns ++ opening ∷ []) N.rev → ⊥
     not_among Ns none i = elim (has-append (revisions Ns) (opening ∷ []) N.rev i) [
@@ -323,18 +386,27 @@ module _ (h : HeaderView) (st : IsStart (opening_document h)) where
       | inr j ↦ not_opening j
     ]
 
-    not_logged : Has (revisions (commits_in log) ++ opening ∷ []) N.rev → ⊥
-    not_logged = not_among (commits_in log) (λ M i e. not_sent M (append_left (commits_in log) (waiting log c) M i) e)
+    not_entered : (M : Intent) → Has (commits_in log) M → M.rev ≡ N.rev → ⊥
+    not_entered M i e = not_made M (append_left (log_and_waiting log c) (own_of c.branches) M (append_left (commits_in log) (waiting log c) M i)) e
 
-    not_shown : (d : Client) → IsClient h log d → (c.session == d.session) ≡ false → Has (revisions (received_by log d ++ d.pending) ++ opening ∷ []) N.rev → ⊥
-    not_shown d l apart = not_among (received_by log d ++ d.pending) (λ M i e. go M e (has-append (commits_in log) (waiting log d) M (has_longer (shown_among h st log d l) M i)))
+    -- nor has one that there is for another client
+    not_by : (d : Client) → IsClient h log d → (c.session == d.session) ≡ false → (M : Intent) → Has (all_commits log d) M → M.rev ≡ N.rev → ⊥
+    not_by d l apart M i e = go (has-append (log_and_waiting log d) (own_of d.branches) M i)
       where
-        differ : c.session ≡ d.session → ⊥
-        differ s = grind (arith, nat_tests)
+        differ : M.rev.session ≡ d.session → ⊥
+        differ s = let same : c.session ≡ d.session = sym session ∙ ap (λ (r : Rev). r.session) (sym e) ∙ s in grind (arith, nat_tests)
 
-        go : (M : Intent) → M.rev ≡ N.rev → Has (commits_in log) M ⊎ Has (waiting log d) M → ⊥
-        go M e (inl i) = not_sent M (append_left (commits_in log) (waiting log c) M i) e
-        go M e (inr i) = differ (sym session ∙ ap (λ (r : Rev). r.session) (sym e) ∙ all-has (λ (X : Intent). X.rev.session ≡ d.session) (waiting log d) M l.own i)
+        sent : Has (commits_in log) M ⊎ Has (waiting log d) M → ⊥
+        sent (inl j) = not_entered M j e
+        sent (inr j) = differ (all-has (λ (X : Intent). X.rev.session ≡ d.session) (waiting log d) M l.own j)
+
+        go : Has (log_and_waiting log d) M ⊎ Has (own_of d.branches) M → ⊥
+        go (inl j) = sent (has-append (commits_in log) (waiting log d) M j)
+        go (inr j) = differ (all-has (λ (X : Intent). X.rev.session ≡ d.session) (own_of d.branches) M l.branches.own j)
+
+    -- so it is new to a line that is among those commits
+    not_on : (d : Client) → ((M : Intent) → Has (all_commits log d) M → M.rev ≡ N.rev → ⊥) → (l : Line) → IsSublist (commits_of log l) (all_commits log d) → Has (revisions (commits_of log l) ++ opening ∷ []) N.rev → ⊥
+    not_on d none l among = not_among (commits_of log l) (λ M i e. none M (has_longer among M i) e)
 
     -- the homes of its new nodes are told beside the others
     abbrev told : NodeId → Option FieldId
@@ -343,7 +415,7 @@ module _ (h : HeaderView) (st : IsStart (opening_document h)) where
     keeps : (Ns : List Intent) → FitInTurn (opening_document h) Ns → (Has (revisions Ns ++ opening ∷ []) N.rev → ⊥) → Agree home Ns → Agree told Ns
     keeps Ns fit new a = list_keeps h.schema home N itself Ns (opening ∷ []) (opening_document h) st.made fit new a
 
-    start_told : IsConforming h.schema home (opening_document h) → IsConforming h.schema told (opening_document h)
+    pub start_told : IsConforming h.schema home (opening_document h) → IsConforming h.schema told (opening_document h)
     start_told start = document_keeps h.schema home (opening_document h) N st.sound no_such_node start
       where
         no_such_node : (n : NodeId) → is_new N n ≡ true → (opening_document h).nodes n ≡ None
@@ -353,38 +425,68 @@ module _ (h : HeaderView) (st : IsStart (opening_document h)) where
             go None e = e
             go (Some t) e = absurd (not_opening (subst (Has (opening ∷ [])) (new_node_rev N itself n new) (st.made.nodes n (ap is_some e))))
 
-    -- those of the log, and those that clients show, agree as before
+    -- the commits of the log agree as before
     pub logged_told : Agree home (commits_in log) → Agree told (commits_in log)
-    logged_told a = keeps (commits_in log) (front (commits_in log) (waiting log c) (opening_document h) k.sent_fit) not_logged a
+    logged_told a = keeps (commits_in log) (front (commits_in log) (waiting log c) (opening_document h) k.sent_fit) (not_among (commits_in log) not_entered) a
 
-    pub line_told : Shown home log c → Shown told log c
-    line_told shown = keeps (received_by log c ++ c.pending) k.shown_fit (shown_new h st log c N.rev k fresh) shown
-
-    other_told : (d : Client) → IsClient h log d → (c.session == d.session) ≡ false → Shown home log d → Shown told log d
-    other_told d l apart shown = keeps (received_by log d ++ d.pending) l.shown_fit (not_shown d l apart) shown
-
-    -- and so does what another edits
-    other_edits_told : (d : Client) → IsClient h log d → (c.session == d.session) ≡ false → Edited home log d → Edited told log d
-    other_edits_told d l apart edited D main = go d.transaction refl l.transaction (edited D main)
+    -- what is edited on a line to which the revision is new, in a transaction of another revision, does too
+    edits_told : (d : Client) (l : Line) → LineFits h log l → (Has (revisions (commits_of log l) ++ opening ∷ []) N.rev → ⊥) → ((t : Transaction) → l.transaction ≡ Some t → IsTransaction h log l d t → N.rev ≡ t.rev → ⊥)
+        → ((t : Transaction) (J : Intent) (i : IsTransaction h log l d t) → l.transaction ≡ Some t → t.joined ≡ Some J → FitInTurn i.before (J ∷ [])) → IfSome l.transaction (IsTransaction h log l d)
+        → EditsKeepSchema h home log l → EditsKeepSchema h told log l
+    edits_told d l fit new apart fits opened edited D main = go l.transaction refl opened (edited D main)
       where
-        differ : c.session ≡ d.session → ⊥
-        differ s = grind (arith, nat_tests)
-
-        J_told : (t : Transaction) (J : Intent) → d.transaction ≡ Some t → t.joined ≡ Some J → IsTransaction h log d t → KeepsSchema h.schema home D J → KeepsSchema h.schema told D J
+        J_told : (t : Transaction) (J : Intent) → l.transaction ≡ Some t → t.joined ≡ Some J → IsTransaction h log l d t → KeepsSchema h.schema home D J → KeepsSchema h.schema told D J
         J_told t J is joined i a =
-            let fits = edited_fits h st log d t J l is few i joined in
             let same : i.before ≡ D = one_run i.main main in
             let rev : J.rev ≡ t.rev = (subst (FitsSoFar i.before t.rev t.under) joined i.so_far).1 in
-            (list_keeps h.schema home N itself (J ∷ []) (revisions (received_by log d ++ d.pending) ++ opening ∷ []) D (made_in_run (opening ∷ []) l.shown_fit main st.made) (subst (λ F. FitInTurn F (J ∷ [])) same fits)
-            (λ h. elim h [ inl e ↦ differ (sym session ∙ ap (λ (r : Rev). r.session) (sym e ∙ rev) ∙ i.session) | inr q ↦ not_shown d l apart q ]) (a, λ v is. tt)).0
+            (list_keeps h.schema home N itself (J ∷ []) (revisions (commits_of log l) ++ opening ∷ []) D (made_in_run (opening ∷ []) fit main st.made) (subst (λ F. FitInTurn F (J ∷ [])) same (fits t J i is joined))
+            (λ h. elim h [ inl e ↦ apart t is i (sym e ∙ rev) | inr q ↦ new q ]) (a, λ v is. tt)).0
 
-        by : (t : Transaction) (o : Option Intent) → d.transaction ≡ Some t → t.joined ≡ o → IsTransaction h log d t → IfSome o (KeepsSchema h.schema home D) → IfSome o (KeepsSchema h.schema told D)
+        by : (t : Transaction) (o : Option Intent) → l.transaction ≡ Some t → t.joined ≡ o → IsTransaction h log l d t → IfSome o (KeepsSchema h.schema home D) → IfSome o (KeepsSchema h.schema told D)
         by t None is joined i a = tt
         by t (Some J) is joined i a = J_told t J is joined i a
 
-        go : (o : Option Transaction) → d.transaction ≡ o → IfSome o (IsTransaction h log d) → IfSome (option_and_then (λ (t : Transaction). t.joined) o) (KeepsSchema h.schema home D) → IfSome (option_and_then (λ (t : Transaction). t.joined) o) (KeepsSchema h.schema told D)
+        go : (o : Option Transaction) → l.transaction ≡ o → IfSome o (IsTransaction h log l d) → IfSome (option_and_then (λ (t : Transaction). t.joined) o) (KeepsSchema h.schema home D) → IfSome (option_and_then (λ (t : Transaction). t.joined) o) (KeepsSchema h.schema told D)
         go None is i a = tt
         go (Some t) is i a = by t t.joined is refl i a
+
+    -- a client to whose commits the revision is new
+    module _ (d : Client) (l : IsClient h log d) (none : (M : Intent) → Has (all_commits log d) M → M.rev ≡ N.rev → ⊥) where
+      pub main_told : Shown home log d → Shown told log d
+      main_told shown = keeps (commits_of log (main_line d)) l.shown_fit (not_on d none (main_line d) (main_among h st log d l)) shown
+
+      pub main_edits_told : ((t : Transaction) → d.transaction ≡ Some t → IsTransaction h log (main_line d) d t → N.rev ≡ t.rev → ⊥) → Edited home log d → Edited told log d
+      main_edits_told apart edited =
+          edits_told d (main_line d) l.shown_fit (not_on d none (main_line d) (main_among h st log d l)) apart (λ t J i is joined. edited_fits h st log d t J l is few i joined) l.transaction edited
+
+      pub branch_told : (b : Branch) → Has d.branches b → CommitsKeepSchema h home log (branch_line b) → CommitsKeepSchema h told log (branch_line b)
+      branch_told b i agree =
+          let x = branch_is h st log d l b i in
+          keeps (commits_of log (branch_line b)) x.fit (not_on d none (branch_line b) (branch_among h st log d l b i)) agree
+
+      pub branch_keeps_told : (b : Branch) → Has d.branches b → ((t : Transaction) → b.transaction ≡ Some t → IsTransaction h log (branch_line b) d t → N.rev ≡ t.rev → ⊥) → BranchKeeps home log b → BranchKeeps told log b
+      branch_keeps_told b i apart keep =
+          let x = branch_is h st log d l b i in (
+            branch_told b i keep.0,
+            edits_told d (branch_line b) x.fit (not_on d none (branch_line b) (branch_among h st log d l b i)) apart (λ t J y is joined. branch_edits_fit log d b t J l i is few y joined) x.transaction keep.1,
+          )
+
+      pub branches_told : ((b : Branch) (t : Transaction) → Has d.branches b → b.transaction ≡ Some t → IsTransaction h log (branch_line b) d t → N.rev ≡ t.rev → ⊥) → Branches home log d → Branches told log d
+      branches_told apart keep = has-all (BranchKeeps told log) d.branches (λ b i. branch_keeps_told b i (λ t is x. apart b t i is x) (all-has (BranchKeeps home log) d.branches b keep i))
+
+    -- another client
+    module _ (d : Client) (l : IsClient h log d) (apart : (c.session == d.session) ≡ false) where
+      other_rev : (m : Line) (t : Transaction) → IsTransaction h log m d t → N.rev ≡ t.rev → ⊥
+      other_rev m t x e = let same : c.session ≡ d.session = sym session ∙ ap (λ (r : Rev). r.session) e ∙ x.session in grind (arith, nat_tests)
+
+      other_told : Shown home log d → Shown told log d
+      other_told shown = main_told d l (not_by d l apart) shown
+
+      other_edits_told : Edited home log d → Edited told log d
+      other_edits_told edited = main_edits_told d l (not_by d l apart) (λ t is x. other_rev (main_line d) t x) edited
+
+      other_branches_told : Branches home log d → Branches told log d
+      other_branches_told keep = branches_told d l (not_by d l apart) (λ b t i is x. other_rev (branch_line b) t x) keep
 
     -- what holds of all clients by the homes of before holds of all by those that are told, and of the one that goes on
     module _ (P Q : Client → Type 0) (other : (d : Client) → IsClient h log d → (c.session == d.session) ≡ false → P d → Q d) where
@@ -399,41 +501,47 @@ module _ (h : HeaderView) (st : IsStart (opening_document h)) where
           (own, later cs (subst (λ (x : Client). AllByRecursion (λ (y : Client). y.session ≢ x.session) cs) same s.0) are.1 all.1)
       all_told c' (d ∷ cs) (suc i) s at are all own = (other d are.0 (others_apart cs d c s.0 (at_has cs i c at)) all.0, all_told c' cs i s.1 at are.1 all.1 own)
 
-    -- the client is now so
-    pub told_keeps : (cs : List Client) (i : ℕ) (c' : Client) → HaveOwnSessions cs → AllByRecursion (IsClient h log) cs → slice_get cs i ≡ Some c → KeepSchemaWith h log cs home → Shown told log c' → Edited told log c' → KeepToSchema h log (slice_set cs i c')
-    told_keeps cs i c' sessions are at w shown edited = (
+    -- the client is now so: what its lines have and what is edited on them agrees with the homes that are told
+    pub told_keeps : (cs : List Client) (i : ℕ) (c' : Client) → HaveOwnSessions cs → AllByRecursion (IsClient h log) cs → slice_get cs i ≡ Some c → KeepSchemaWith h log cs home → Shown told log c' → Edited told log c' → Branches told log c' → KeepToSchema h log (slice_set cs i c')
+    told_keeps cs i c' sessions are at w shown edited branches = (
       told,
       record {
         start = start_told w.start;
         logged = logged_told w.logged;
         shown = all_told (Shown home log) (Shown told log) other_told c' cs i sessions at are w.shown shown;
         edited = all_told (Edited home log) (Edited told log) other_edits_told c' cs i sessions at are w.edited edited;
+        branches = all_told (Branches home log) (Branches told log) other_branches_told c' cs i sessions at are w.branches branches;
       },
     )
 
   -- ## A commit is pending
 
   -- where no transaction is open
+  pub new_keeps : (log : List Entry) (cs : List Client) (i : ℕ) (c : Client) (D : Document) (word : EditWord) (N : Intent) → HaveOwnSessions cs → AllByRecursion (IsClient h log) cs → names_in (commits_in log) ≤ 131072
+      → slice_get cs i ≡ Some c → c.transaction ≡ None → HasMain h log c D → IsMeant h.schema D (next_names c None) word N → KeepToSchema h log cs → KeepToSchema h log (slice_set cs i (with_new_commit c N))
+  new_keeps log cs i c D word N sessions are few at none main m w =
+      let k = all_get (IsClient h log) cs i c are at in
+      let home = w.0 in
+      let fresh = next_new h st log c N.rev k m.rev in
+      let session : N.rev.session ≡ c.session = ap (λ (r : Rev). r.session) m.rev in
+      let own = not_made log c N k few m.fits.itself session fresh home in
+      let line = main_told log c N k few m.fits.itself session fresh home c k own (all_get (Shown home log) cs i c w.1.shown at) in
+      let beside = branches_told log c N k few m.fits.itself session fresh home c k own (λ b t j is x. line_next_apart log c (branch_line b) t N.rev x m.rev) (all_get (Branches home log) cs i c w.1.branches at) in
+      let here = list_conforms h.schema (with_homes home N) st.sound k.shown_fit (start_told log c N k few m.fits.itself session fresh home w.1.start) line main in
+      let shown : Shown (with_homes home N) log (with_new_commit c N) =
+      agrees_more (with_homes home N) log (main_line c) D N line main (m.agrees (with_homes home N) here (tells_own home N)) in
+      told_keeps log c N k few m.fits.itself session fresh home cs i (with_new_commit c N) sessions are at w.1 shown (nothing_edited (with_homes home N) log (main_line (with_new_commit c N)) (ap (option_and_then (λ (t : Transaction). t.joined)) none)) beside
+
   pub edited_keeps : (log : List Entry) (cs : List Client) (i : ℕ) (c c' : Client) (D : Document) (word : EditWord) (r : Result Intent EditFault) (a : Answer) → HaveOwnSessions cs → AllByRecursion (IsClient h log) cs → names_in (commits_in log) ≤ 131072
-      → slice_get cs i ≡ Some c → c.transaction ≡ None → HasMain h log c D → IsMeaning h.schema D (next_names c None) word r → after_edit c word r ≡ (c', a) → KeepToSchema h log cs → KeepToSchema h log (slice_set cs i c')
+      → slice_get cs i ≡ Some c → c.transaction ≡ None → HasMain h log c D → IsMeaning h.schema D (next_names c None) word r → after_edit c 0 (main_line c) word r ≡ (c', a) → KeepToSchema h log cs → KeepToSchema h log (slice_set cs i c')
   edited_keeps log cs i c c' D word (Err f) a sessions are few at none main means is w = same_keeps log cs i c c' at (ap (λ (p : Client × Answer). p.0) is) w
-  edited_keeps log cs i c c' D word (Ok N) a sessions are few at none main means is w = go (limit_passed c N) is
+  edited_keeps log cs i c c' D word (Ok N) a sessions are few at none main means is w = go (limit_passed c 0 (main_line c) N) is
     where
-      go : (o : Option Limit) → with_pending c word N o ≡ (c', a) → KeepToSchema h log (slice_set cs i c')
+      go : (o : Option Limit) → with_new_on c 0 word N o ≡ (c', a) → KeepToSchema h log (slice_set cs i c')
       go (Some l) is = same_keeps log cs i c c' at (ap (λ (p : Client × Answer). p.0) is) w
       go None is =
-          let k = all_get (IsClient h log) cs i c are at in
-          let m = means N refl in
-          let home = w.0 in
-          let fresh = next_new h st log c N.rev k m.rev in
-          let session : N.rev.session ≡ c.session = ap (λ (r : Rev). r.session) m.rev in
-          let line = line_told log c N k few m.fits.itself session fresh home (all_get (Shown home log) cs i c w.1.shown at) in
-          let here = list_conforms h.schema (with_homes home N) st.sound k.shown_fit (start_told log c N k few m.fits.itself session fresh home w.1.start) line main in
-          let shown : Shown (with_homes home N) log (with_new_commit c N) =
-          subst (Agree (with_homes home N)) (append_assoc (received_by log c) c.pending (N ∷ [])) (agree_then_one h.schema (with_homes home N) (received_by log c ++ c.pending) (N ∷ []) line main (m.agrees (with_homes home N) here (tells_own home N), λ v is. tt)) in
           let same : with_new_commit c N ≡ c' = ap (λ (p : Client × Answer). p.0) is in
-          subst (λ x. KeepToSchema h log (slice_set cs i x)) same
-          (told_keeps log c N k few m.fits.itself session fresh home cs i (with_new_commit c N) sessions are at w.1 shown (nothing_edited (with_homes home N) log (with_new_commit c N) (ap (option_and_then (λ (t : Transaction). t.joined)) none)))
+          subst (λ x. KeepToSchema h log (slice_set cs i x)) same (new_keeps log cs i c D word N sessions are few at none main (means N refl) w)
 
   -- ## A commit is undone
 
@@ -464,32 +572,18 @@ module _ (h : HeaderView) (st : IsStart (opening_document h)) where
       let k = all_get (IsClient h log) cs i c are at in
       let mine = all_get (Shown home log) cs i c w.1.shown at in
       let keeps = undoing_keeps home (received_by log c ++ c.pending) rev (next_rev c) B E k.shown_fit mine w.1.start main u in
-      let shown : Shown home log (with_new_commit c B) = subst (Agree home) (append_assoc (received_by log c) c.pending (B ∷ [])) (agree_then_one h.schema home (received_by log c ++ c.pending) (B ∷ []) mine main (keeps, λ v is. tt)) in (
-        home,
-        record {
-          start = w.1.start;
-          logged = w.1.logged;
-          shown = all_set (Shown home log) cs i (with_new_commit c B) w.1.shown shown;
-          edited = all_set (Edited home log) cs i (with_new_commit c B) w.1.edited (nothing_edited home log (with_new_commit c B) (ap (option_and_then (λ (t : Transaction). t.joined)) none));
-        },
-      )
+      let shown : Shown home log (with_new_commit c B) = agrees_more home log (main_line c) E B mine main keeps in
+      one_keeps home log cs i (with_new_commit c B) w.1 shown (nothing_edited home log (main_line (with_new_commit c B)) (ap (option_and_then (λ (t : Transaction). t.joined)) none)) (all_get (Branches home log) cs i c w.1.branches at)
 
   -- it tells how much it received
   pub acked_keeps : (log : List Entry) (cs : List Client) (i : ℕ) (c : Client) → slice_get cs i ≡ Some c → KeepToSchema h log cs → KeepToSchema h log (slice_set cs i (with_ack c))
-  acked_keeps log cs i c at w = (
-    w.0,
-    record {
-      start = w.1.start;
-      logged = w.1.logged;
-      shown = all_set (Shown w.0 log) cs i (with_ack c) w.1.shown (all_get (Shown w.0 log) cs i c w.1.shown at);
-      edited = all_set (Edited w.0 log) cs i (with_ack c) w.1.edited (all_get (Edited w.0 log) cs i c w.1.edited at);
-    },
-  )
+  acked_keeps log cs i c at w =
+      one_keeps w.0 log cs i (with_ack c) w.1 (all_get (Shown w.0 log) cs i c w.1.shown at) (all_get (Edited w.0 log) cs i c w.1.edited at) (all_get (Branches w.0 log) cs i c w.1.branches at)
 
   -- ## A part more of what is edited
 
   -- the homes of its new nodes are told beside those of what was edited before
-  so_far_told : (home : NodeId → Option FieldId) (D : Document) (rev under : Rev) (joined : Option Intent) (M : Intent) → FitsSoFar D rev under joined → Fits (with_open D joined) M
+  pub so_far_told : (home : NodeId → Option FieldId) (D : Document) (rev under : Rev) (joined : Option Intent) (M : Intent) → FitsSoFar D rev under joined → Fits (with_open D joined) M
       → IfSome joined (KeepsSchema h.schema home D) → IfSome joined (KeepsSchema h.schema (with_homes home M) D)
   so_far_told home D rev under None M so fits a = tt
   so_far_told home D rev under (Some J) M so fits a =
@@ -506,13 +600,19 @@ module _ (h : HeaderView) (st : IsStart (opening_document h)) where
   open_conforms home D rev under None sound so here a = here
   open_conforms home D rev under (Some J) sound so here a = carried_conforms h.schema home D J sound so.0 here a Verdict.Sound
 
-  whole_agrees : (home : NodeId → Option FieldId) (D : Document) (joined : Option Intent) (M K : Intent) → IsSoundInForm D → CanFollow D joined M → IsWithPart joined M K → IsConforming h.schema home D → IfSome joined (KeepsSchema h.schema home D)
+  pub whole_agrees : (home : NodeId → Option FieldId) (D : Document) (joined : Option Intent) (M K : Intent) → IsSoundInForm D → CanFollow D joined M → IsWithPart joined M K → IsConforming h.schema home D → IfSome joined (KeepsSchema h.schema home D)
       → KeepsSchema h.schema home (with_open D joined) M → KeepsSchema h.schema home D K
-  whole_agrees home D None M K sound follow w here a b = subst (KeepsSchema h.schema home D) (sym w) b
-  whole_agrees home D (Some J) M K sound follow w here a b = joined_agrees h.schema home D J M K sound follow w here a b
+  whole_agrees home D None M K sound can w here a b = subst (KeepsSchema h.schema home D) (sym w) b
+  whole_agrees home D (Some J) M K sound can w here a b = joined_agrees h.schema home D J M K sound can w here a b
+
+  -- a transaction on the main line has another revision than one on a branch
+  not_main : (log : List Entry) (c : Client) (b : Branch) (t u : Transaction) → IsClient h log c → Has c.branches b → c.transaction ≡ Some t → b.transaction ≡ Some u → t.rev ≡ u.rev → ⊥
+  not_main log c b t u k i main is e =
+      let zeroth : 0 ≡ b.number = k.branches.transactions 0 b.number (main_line c) (branch_line b) t u refl (branch_numbered log c b k i) main is e in
+      omega (arith, zeroth, (branch_is h st log c k b i).numbered)
 
   pub parted_keeps : (log : List Entry) (cs : List Client) (i : ℕ) (c : Client) (t : Transaction) (word : EditWord) (M K : Intent) → HaveOwnSessions cs → AllByRecursion (IsClient h log) cs → names_in (commits_in log) ≤ 131072
-      → slice_get cs i ≡ Some c → c.transaction ≡ Some t → (x : IsTransaction h log c t) → IsMeant h.schema (with_open x.before t.joined) (next_names c (Some t)) word M → IsWithPart t.joined M K
+      → slice_get cs i ≡ Some c → c.transaction ≡ Some t → (x : IsTransaction h log (main_line c) c t) → IsMeant h.schema (with_open x.before t.joined) (next_names c (Some t)) word M → IsWithPart t.joined M K
       → KeepToSchema h log cs → KeepToSchema h log (slice_set cs i (with_transaction c (with_edited t K (length M.new) (cells_given word M))))
   parted_keeps log cs i c t word M K sessions are few at is x m w keeps =
       let k = all_get (IsClient h log) cs i c are at in
@@ -520,41 +620,31 @@ module _ (h : HeaderView) (st : IsStart (opening_document h)) where
       let D = x.before in
       let told = with_homes home M in
       let session : M.rev.session ≡ c.session = ap (λ (r : Rev). r.session) m.rev ∙ x.session in
-      let fresh : Has (revisions (log_and_waiting log c) ++ opening ∷ []) M.rev → ⊥ = λ q. x.new (subst (Has (revisions (log_and_waiting log c) ++ opening ∷ [])) m.rev q) in
-      let line = line_told log c M k few m.fits.itself session fresh home (all_get (Shown home log) cs i c keeps.1.shown at) in
+      let fresh : Has (revisions (all_commits log c) ++ opening ∷ []) M.rev → ⊥ = λ q. x.new (subst (Has (revisions (all_commits log c) ++ opening ∷ [])) m.rev q) in
+      let own = not_made log c M k few m.fits.itself session fresh home in
+      let line = main_told log c M k few m.fits.itself session fresh home c k own (all_get (Shown home log) cs i c keeps.1.shown at) in
+      let beside = branches_told log c M k few m.fits.itself session fresh home c k own (λ b u j opened y e. not_main log c b t u k j is opened (sym m.rev ∙ e)) (all_get (Branches home log) cs i c keeps.1.branches at) in
       let sound = shown_sound h st log c D k x.main in
       let here : IsConforming h.schema told D = list_conforms h.schema told st.sound k.shown_fit (start_told log c M k few m.fits.itself session fresh home keeps.1.start) line x.main in
       let before : IfSome t.joined (KeepsSchema h.schema home D) = subst (λ o. IfSome (option_and_then (λ (t : Transaction). t.joined) o) (KeepsSchema h.schema home D)) is (all_get (Edited home log) cs i c keeps.1.edited at D x.main) in
       let so_far = so_far_told home D t.rev t.under t.joined M x.so_far m.fits before in
       let part = m.agrees told (open_conforms told D t.rev t.under t.joined sound x.so_far here so_far) (tells_own home M) in
-      let whole = whole_agrees told D t.joined M K sound (follow h st log c t word M k is few x m) w here so_far part in
+      let whole = whole_agrees told D t.joined M K sound (follow h st log (main_line c) c t word M k.shown_fit (edited_room h st log c t k is few) x m) w here so_far part in
       told_keeps log c M k few m.fits.itself session fresh home cs i (with_transaction c (with_edited t K (length M.new) (cells_given word M))) sessions are at keeps.1 line
-      (λ E main. subst (λ F. KeepsSchema h.schema told F K) (one_run x.main main) whole)
+      (λ E main. subst (λ F. KeepsSchema h.schema told F K) (one_run x.main main) whole) beside
 
   -- ## Transactions that begin and end
 
   -- one begins, or what was edited is dropped
-  pub ended_keeps : (log : List Entry) (cs : List Client) (i : ℕ) (c c' : Client) → slice_get cs i ≡ Some c → c'.received ≡ c.received → c'.pending ≡ c.pending → joined_of c' ≡ None → KeepToSchema h log cs → KeepToSchema h log (slice_set cs i c')
-  ended_keeps log cs i c c' at received pending none w = (
-    w.0,
-    record {
-      start = w.1.start;
-      logged = w.1.logged;
-      shown = all_set (Shown w.0 log) cs i c' w.1.shown (subst (Agree w.0) (ap (λ n. commits_in (take n log) ++ c.pending) (sym received) ∙ ap (λ l. received_by log c' ++ l) (sym pending)) (all_get (Shown w.0 log) cs i c w.1.shown at));
-      edited = all_set (Edited w.0 log) cs i c' w.1.edited (nothing_edited w.0 log c' none);
-    },
-  )
+  pub ended_keeps : (log : List Entry) (cs : List Client) (i : ℕ) (c c' : Client) → slice_get cs i ≡ Some c → c'.received ≡ c.received → c'.pending ≡ c.pending → c'.branches ≡ c.branches → joined_of c' ≡ None → KeepToSchema h log cs → KeepToSchema h log (slice_set cs i c')
+  ended_keeps log cs i c c' at received pending branches none w =
+      one_keeps w.0 log cs i c' w.1
+      (subst (Agree w.0) (ap (λ n. commits_in (take n log) ++ c.pending) (sym received) ∙ ap (λ l. received_by log c' ++ l) (sym pending)) (all_get (Shown w.0 log) cs i c w.1.shown at))
+      (nothing_edited w.0 log (main_line c') none) (subst (AllByRecursion (BranchKeeps w.0 log)) (sym branches) (all_get (Branches w.0 log) cs i c w.1.branches at))
 
   -- what was edited is a commit
   pub committed_keeps : (log : List Entry) (cs : List Client) (i : ℕ) (c : Client) (D : Document) (J : Intent) → slice_get cs i ≡ Some c → HasMain h log c D → joined_of c ≡ Some J → KeepToSchema h log cs → KeepToSchema h log (slice_set cs i (with_commit (without_transaction c) J))
   committed_keeps log cs i c D J at main is w =
-      let mine : KeepsSchema h.schema w.0 D J = subst (λ o. IfSome o (KeepsSchema h.schema w.0 D)) is (all_get (Edited w.0 log) cs i c w.1.edited at D main) in (
-        w.0,
-        record {
-          start = w.1.start;
-          logged = w.1.logged;
-          shown = all_set (Shown w.0 log) cs i _ w.1.shown
-              (subst (Agree w.0) (append_assoc (received_by log c) c.pending (J ∷ [])) (agree_then_one h.schema w.0 (received_by log c ++ c.pending) (J ∷ []) (all_get (Shown w.0 log) cs i c w.1.shown at) main (mine, λ v is. tt)));
-          edited = all_set (Edited w.0 log) cs i _ w.1.edited (nothing_edited w.0 log (with_commit (without_transaction c) J) refl);
-        },
-      )
+      let mine : KeepsSchema h.schema w.0 D J = subst (λ o. IfSome o (KeepsSchema h.schema w.0 D)) is (all_get (Edited w.0 log) cs i c w.1.edited at D main) in
+      one_keeps w.0 log cs i (with_commit (without_transaction c) J) w.1 (agrees_more w.0 log (main_line c) D J (all_get (Shown w.0 log) cs i c w.1.shown at) main mine)
+      (nothing_edited w.0 log (main_line (with_commit (without_transaction c) J)) refl) (all_get (Branches w.0 log) cs i c w.1.branches at)

@@ -118,7 +118,7 @@ module _ (h : HeaderView) (st : IsStart (opening_document h)) (log : List Entry)
     longer = log_with log c.session text
 
     beside : (d : Client) (k : Replica) → (c.session == d.session) ≡ false → IsClient h log d → IsReplicaOf h log d k → AreOne h longer d k
-    beside d k apart w v = record { client = client_beside h st log c d text rest own w is apart few; kept = kept_entered h st log c.session text d k w.within v }
+    beside d k apart w v = record { client = client_beside h st log c d text rest own w is apart few; kept = kept_entered h st log c.session text d k w v }
 
     all_beside : (cs : List Client) (ks : List Replica) → AllByRecursion (λ (x : Client). x.session ≢ c.session) cs → AreReplicas h log cs ks → AreReplicas h longer cs ks
     all_beside [] [] apart w = tt
@@ -136,7 +136,7 @@ module _ (h : HeaderView) (st : IsStart (opening_document h)) (log : List Entry)
         let kept : IsReplicaOf h log c k = rw (← same) w.1 in
         let apart = subst (λ (x : Client). AllByRecursion (λ (y : Client). y.session ≢ x.session) cs) same s.0 in (
           client_sent h st log c text rest own is,
-          kept_rest h st longer c rest k (kept_entered h st log c.session text c k own.within kept),
+          kept_rest h st longer c rest k (kept_entered h st log c.session text c k own kept),
           all_beside cs ks apart w.2,
         )
     all_sent (d ∷ cs) (k ∷ ks) (suc i) s at w =
@@ -149,4 +149,4 @@ module _ (h : HeaderView) (st : IsStart (opening_document h)) (log : List Entry)
   all_after_text session text none [] (k ∷ ks) w = absurd w
   all_after_text session text none (c ∷ cs) [] w = absurd w
   all_after_text session text none (c ∷ cs) (k ∷ ks) w =
-      (client_after_text h st log session text c none w.0, kept_entered h st log session text c k w.0.within w.1, all_after_text session text none cs ks w.2)
+      (client_after_text h st log session text c none w.0, kept_entered h st log session text c k w.0 w.1, all_after_text session text none cs ks w.2)

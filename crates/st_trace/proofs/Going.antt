@@ -1,4 +1,12 @@
 -- The lists of a world by themselves: what holds of them holds after each step.
+use Rattle.st_trace.proofs.Parts.{editable, client_begun, client_commits, client_ended, client_parted, edited_room, names_edited}
+use Rattle.st_lists.specs.Lines.{HasHead, Line, commits_of, main_line, with_commit_on}
+use Rattle.st_lists.specs.Names.{names_in, names_in_text, names_made, names_on_all}
+use Rattle.st_lists.specs.declared.lists.Branch.{Branch}
+use Rattle.st_trace.proofs.Clients.{client_acked, client_after_text, client_beside, client_committed, client_joined, client_none, client_offline, client_other, client_own, client_returned, client_sent, next_apart, next_new}
+use Rattle.st_trace.proofs.Meant.{IsEditable, IsMeaning, IsMeant}
+use Rattle.st_trace.specs.Replicas.{HasMain, HaveOwnSessions, IsClient, IsEntryOf, IsHeader, IsSound, IsTransaction, KeepToSchema, LineFits}
+use Rattle.st_trace.specs.World.{HasShown, IsAfterEdit, IsAfterNeed, IsDeliveredIn, IsDeliveredTo, IsEditedIn, IsJoined, abort, after_commit, after_edit, begin, commit, last_in_effect, next_names, opening_document, with_beginning, with_new_on}
 use Rattle.std.proofs.Common.{◌≡◌, ◌≢◌, ◌≤◌, ◌+◌, ◌==◌, ℕ, zero, suc, Bool, true, false, List, [], ◌∷◌, ◌++◌, length, drop, Option, Some, None, IfSome, Result, Ok, Err, refl, sym, ap, ◌∙◌, subst, arith, inl}
 use Rattle.std.specs.List.{cons_option, remove, slice_get, slice_set, AllByRecursion}
 use Rattle.std.proofs.lemmas.List.{append-nil}
@@ -11,17 +19,13 @@ use Rattle.st_log_laws.specs.Names.{HaveNewRevisions}
 use Rattle.st_log_laws.specs.Turns.{FitInTurn}
 use Rattle.st_script.specs.Header.{HeaderView, header_view}
 use Rattle.st_script.specs.declared.answer.Answer.{Answer}
-use Rattle.st_trace.specs.Replicas.{HasMain, HaveOwnSessions, IsClient, IsEntryOf, IsHeader, IsSound, IsTransaction, KeepToSchema}
 use Rattle.st_lists.specs.Log.{commit_in, commit_of, commits_in, commits_of_text, log_with, sessions_in}
 use Rattle.st_lists.specs.Clients.{empty_state, joined_of, new_client, next_rev, with_ack, pending_after, with_begun, with_commit, with_connection, with_new_commit, with_received, without_connection, without_transaction}
-use Rattle.st_lists.specs.Lines.{commits_of, main_line}
 use Rattle.st_heads.specs.Transactions.{with_open}
 use Rattle.st_marks.proofs.OneVerdict.{one_run}
 use Rattle.std.specs.Option.{option_and_then, option_map_or}
 use Rattle.st_ids.specs.declared.names.Rev.{Rev}
-use Rattle.st_trace.specs.World.{HasShown, IsAfterEdit, IsAfterNeed, IsDeliveredIn, IsDeliveredTo, IsEditedIn, IsJoined, abort, after_edit, begin, commit, after_commit, last_in_effect, next_names, opening_document, with_beginning, with_pending}
 use Rattle.st_lists.specs.Limits.{limit_passed, names_limit_passed, pending_limit_passed}
-use Rattle.st_lists.specs.Names.{names_in, names_in_text, names_made}
 use Rattle.st_trace.specs.declared.client.EditWord.{EditWord}
 use Rattle.st_lists.specs.declared.lists.Body.TheVariants.{Join, Leave}
 use Rattle.st_lists.specs.declared.lists.Client.{Client}
@@ -38,9 +42,6 @@ use Rattle.st_trace.specs.Undo.{IsAfterUndo, IsUndone, IsUndoneAt, refusal_of_re
 use Rattle.st_trace.proofs.Undoing.{no_limit, undoing_makes_none}
 use Rattle.st_trace.proofs.Agreed.{acked_keeps, undone_keeps, begun_keeps, committed_keeps, delivered_keeps, dropped_keeps, edited_keeps, ended_keeps, joined_keeps, left_keeps, parted_keeps, returned_keeps, same_keeps, sent_keeps}
 use Rattle.st_trace.proofs.Begun.{IsStart, opened_start}
-use Rattle.st_trace.proofs.Clients.{client_acked, pending_few, client_after_text, client_beside, client_committed, client_joined, client_none, client_offline, client_other, client_own, client_returned, client_sent, next_new}
-use Rattle.st_trace.proofs.Meant.{IsMeaning, IsMeant}
-use Rattle.st_trace.proofs.Parts.{client_begun, client_commits, client_ended, client_parted}
 use Rattle.st_lists.proofs.Names.{names_append, names_of_text}
 use Rattle.st_trace.proofs.Everyone.{all_as, all_get, all_set, clients_of, others_apart}
 use Rattle.st_ids.specs.Listing.{Has}
@@ -109,23 +110,57 @@ set_sound h w i c c' s at client session keeps = record {
   few_names = s.few_names;
 }
 
+-- ## What a step leaves of a client's numbers
+
+-- its session and its connection stay, and it has at most one more id and one more number of a branch
+pub record IsNear (c c' : Client) : Type 0 where
+  pub session : c'.session ≡ c.session
+  pub connected : c'.connected ≡ c.connected
+  pub ids : c'.ids ≤ c.ids + 1
+  pub forks : c'.forks ≤ c.forks + 1
+
+pub near_same : (c c' : Client) → c' ≡ c → IsNear c c'
+near_same c c' same = record {
+  session = ap (λ (x : Client). x.session) same;
+  connected = ap (λ (x : Client). x.connected) same;
+  ids = omega (arith, ap (λ (x : Client). x.ids) same);
+  forks = omega (arith, ap (λ (x : Client). x.forks) same);
+}
+
+pub near_committed : (c : Client) (k : ℕ) (N : Intent) → IsNear c (record (with_commit_on c k N) { ids = c.ids + 1 })
+near_committed c zero N = record { session = refl; connected = refl; ids = omega arith; forks = omega arith }
+near_committed c (suc k) N = record { session = refl; connected = refl; ids = omega arith; forks = omega arith }
+
+pub near_edited : (c c' : Client) (k : ℕ) (l : Line) (word : EditWord) (r : Result Intent EditFault) (a : Answer) → after_edit c k l word r ≡ (c', a) → IsNear c c'
+near_edited c c' k l word (Err f) a is = near_same c c' (ap (λ (p : Client × Answer). p.0) (sym is))
+near_edited c c' k l word (Ok N) a is = go (limit_passed c k l N) is
+  where
+    go : (o : Option Limit) → with_new_on c k word N o ≡ (c', a) → IsNear c c'
+    go (Some over) is = near_same c c' (ap (λ (p : Client × Answer). p.0) (sym is))
+    go None is = subst (IsNear c) (ap (λ (p : Client × Answer). p.0) is) (near_committed c k N)
+
+near_delivered : (c c' : Client) (D : Document) (o : Option Entry) (a : Answer) → IsDeliveredTo D c o c' a → IsNear c c'
+near_delivered c c' D None a done = near_same c c' done.0
+near_delivered c c' D (Some e) a done = subst (IsNear c) (sym done.2) (record { session = refl; connected = refl; ids = omega arith; forks = omega arith })
+
 module _ (h : HeaderView) (st : IsStart (opening_document h)) where
   -- where no transaction is open
   client_edited : (log : List Entry) (c c' : Client) (D : Document) (word : EditWord) (r : Result Intent EditFault) (a : Answer) → IsClient h log c → names_in (commits_in log) ≤ 131072 → c.transaction ≡ None → HasMain h log c D
-      → IsMeaning h.schema D (next_names c None) word r → after_edit c word r ≡ (c', a) → IsClient h log c'
+      → IsMeaning h.schema D (next_names c None) word r → after_edit c 0 (main_line c) word r ≡ (c', a) → IsClient h log c'
   client_edited log c c' D word (Err f) a k all none main means is = subst (IsClient h log) (ap (λ (p : Client × Answer). p.0) is) k
-  client_edited log c c' D word (Ok N) a k all none main means is = go (limit_passed c N) refl is
+  client_edited log c c' D word (Ok N) a k all none main means is = go (limit_passed c 0 (main_line c) N) refl is
     where
-      go : (o : Option Limit) → limit_passed c N ≡ o → with_pending c word N o ≡ (c', a) → IsClient h log c'
+      go : (o : Option Limit) → limit_passed c 0 (main_line c) N ≡ o → with_new_on c 0 word N o ≡ (c', a) → IsClient h log c'
       go (Some l) e is = subst (IsClient h log) (ap (λ (p : Client × Answer). p.0) is) k
       go None e is =
           let m = means N refl in
           let few = within_limits h st c N e in
           let session : N.rev.session ≡ c.session = ap (λ (r : Rev). r.session) m.rev in
           let num : N.rev.num ≡ c.ids + 1 = ap (λ (r : Rev). r.num) m.rev in
-          let waiting : (option_map_or names_made (joined_of c) 0 + names_in c.pending) + names_made N ≤ 16384 = few.1 in
-          let names : names_in c.pending + names_made N ≤ 16384 = omega (arith, waiting) in
-          let now = client_committed h st log c (c.ids + 1) D N k main m.fits session (omega (arith, num)) (omega arith) (next_new h st log c N.rev k m.rev) few.0 names all in
+          let waiting : ((option_map_or names_made (joined_of c) 0 + names_in c.pending) + names_on_all c.branches) + names_made N ≤ 16384 = few.1 in
+          let names : (names_in c.pending + names_on_all c.branches) + names_made N ≤ 16384 = omega (arith, waiting) in
+          let apart : (b : Branch) (t : Transaction) → Has c.branches b → b.transaction ≡ Some t → t.rev ≢ N.rev = λ b t i x e. next_apart h st log c k b t i x (e ∙ m.rev) in
+          let now = client_committed h st log c (c.ids + 1) D N k main m.fits session (omega (arith, num)) (omega arith) (next_new h st log c N.rev k m.rev) apart few.0 names all in
           subst (IsClient h log) (ap (λ (p : Client × Answer). p.0) is) (subst (λ (o : Option Transaction). IsClient h log (record (with_commit c N) { ids = c.ids + 1; transaction = o })) (sym none) now)
 
   client_taken : (log : List Entry) (c : Client) (e : Entry) → IsClient h log c → names_in (commits_in log) ≤ 131072 → slice_get log c.received ≡ Some e → c.transaction ≡ None → IsClient h log (with_received e c)
@@ -154,95 +189,104 @@ module _ (h : HeaderView) (st : IsStart (opening_document h)) where
 
   -- ## One client's steps
 
-  -- a client after a step: it is one still, its session stays, it has at most one more id, and all agrees with the schema
+  -- a client after a step: it is one still, its session stays, it has at most one more id and one more number of a branch,
+  -- and all agrees with the schema
   pub record GoesOn (log : List Entry) (cs : List Client) (i : ℕ) (c c' : Client) : Type 0 where
     pub client : IsClient h log c'
     pub session : c'.session ≡ c.session
     pub connected : c'.connected ≡ c.connected
     pub ids : c'.ids ≤ c.ids + 1
+    pub forks : c'.forks ≤ c.forks + 1
     pub keeps : KeepToSchema h log (slice_set cs i c')
+
+  -- the line of a number, on which a client goes on by each step that it takes there
+  pub record LineGoes (log : List Entry) (cs : List Client) (i : ℕ) (c : Client) (k : ℕ) (l : Line) : Type 0 where
+    pub fit : LineFits h log l
+    pub transaction : IfSome l.transaction (IsTransaction h log l c)
+    pub room : (t : Transaction) → l.transaction ≡ Some t → names_in (commits_of log l) + (names_edited t.joined + 2048) ≤ 200000
+    pub editable : (E : Document) → HasShown (opening_document h) log l E → IsEditable E (next_names c l.transaction)
+    pub edits : (d : Client) (E : Document) (word : EditWord) (r : Result Intent EditFault) (a : Answer) → HasShown (opening_document h) log l E → IsMeaning h.schema E (next_names c l.transaction) word r → IsAfterEdit c k l l.transaction word r d a → GoesOn log cs i c d
+    pub needs : (d : Client) (E : Document) (r : Result Intent EditFault) (a : Answer) → HasShown (opening_document h) log l E → IsMeaning h.schema E (next_names c l.transaction) EditWord.Need r → IsAfterNeed c k l.transaction r d a → GoesOn log cs i c d
+    pub begins : (d : Client) (E : Document) (a : Answer) → HasShown (opening_document h) log l E → begin c k l l.transaction (last_in_effect E) ≡ (d, a) → GoesOn log cs i c d
+    pub commits : (d : Client) (a : Answer) → commit c k l.transaction ≡ (d, a) → GoesOn log cs i c d
+    pub aborts : (d : Client) (a : Answer) → abort c k l.transaction ≡ (d, a) → GoesOn log cs i c d
 
   module _ (log : List Entry) (cs : List Client) (sessions : HaveOwnSessions cs) (are : AllByRecursion (IsClient h log) cs) (few : names_in (commits_in log) ≤ 131072) (keeps : KeepToSchema h log cs)
       (i : ℕ) (c : Client) (at : slice_get cs i ≡ Some c) where
     k : IsClient h log c
     k = all_get (IsClient h log) cs i c are at
 
-    stays : (c' : Client) → c' ≡ c → GoesOn log cs i c c'
+    pub stays : (c' : Client) → c' ≡ c → GoesOn log cs i c c'
     stays c' same = record {
       client = subst (IsClient h log) (sym same) k;
       session = ap (λ (x : Client). x.session) same;
       connected = ap (λ (x : Client). x.connected) same;
       ids = omega (arith, ap (λ (x : Client). x.ids) same);
+      forks = omega (arith, ap (λ (x : Client). x.forks) same);
       keeps = same_keeps h st log cs i c c' at (sym same) keeps;
     }
 
     goes_as : (d c' : Client) → c' ≡ d → GoesOn log cs i c d → GoesOn log cs i c c'
     goes_as d c' same g = subst (GoesOn log cs i c) (sym same) g
 
-    edited_on : (c' : Client) (word : EditWord) (r : Result Intent EditFault) (a : Answer) → after_edit c word r ≡ (c', a) → (c'.session ≡ c.session) × (c'.connected ≡ c.connected) × (c'.ids ≤ c.ids + 1)
-    edited_on c' word (Err f) a is = let same : c ≡ c' = ap (λ (p : Client × Answer). p.0) is in (ap (λ (x : Client). x.session) (sym same), ap (λ (x : Client). x.connected) (sym same), omega (arith, ap (λ (x : Client). x.ids) same))
-    edited_on c' word (Ok N) a is = go (limit_passed c N) is
-      where
-        go : (o : Option Limit) → with_pending c word N o ≡ (c', a) → (c'.session ≡ c.session) × (c'.connected ≡ c.connected) × (c'.ids ≤ c.ids + 1)
-        go (Some l) is = let same : c ≡ c' = ap (λ (p : Client × Answer). p.0) is in (ap (λ (x : Client). x.session) (sym same), ap (λ (x : Client). x.connected) (sym same), omega (arith, ap (λ (x : Client). x.ids) same))
-        go None is = let same : with_new_commit c N ≡ c' = ap (λ (p : Client × Answer). p.0) is in (ap (λ (x : Client). x.session) (sym same), ap (λ (x : Client). x.connected) (sym same), omega (arith, ap (λ (x : Client). x.ids) same))
-
     -- what an edit means in the document of an open transaction
-    pub meant_in : (E : Document) (t : Transaction) (word : EditWord) (M : Intent) (x : IsTransaction h log c t) (D : Document) → HasMain h log c D → E ≡ with_open D t.joined → IsMeant h.schema E (next_names c (Some t)) word M
+    pub meant_in : (l : Line) (E : Document) (t : Transaction) (word : EditWord) (M : Intent) (x : IsTransaction h log l c t) (D : Document) → HasHead (opening_document h) log l D → E ≡ with_open D t.joined → IsMeant h.schema E (next_names c (Some t)) word M
         → IsMeant h.schema (with_open x.before t.joined) (next_names c (Some t)) word M
-    meant_in E t word M x D main same m =
+    meant_in l E t word M x D main same m =
         let here : E ≡ with_open x.before t.joined = same ∙ ap (λ F. with_open F t.joined) (one_run main x.main) in
         subst (λ F. IsMeant h.schema F (next_names c (Some t)) word M) here m
 
-    goes_in : (c' : Client) (D E : Document) (t : Transaction) (word : EditWord) (r : Result Intent EditFault) (a : Answer) → c.transaction ≡ Some t → IsTransaction h log c t → HasMain h log c D → E ≡ with_open D t.joined
-        → IsMeaning h.schema E (next_names c (Some t)) word r → IsEditedIn c t word r c' a → GoesOn log cs i c c'
+    goes_in : (c' : Client) (D E : Document) (t : Transaction) (word : EditWord) (r : Result Intent EditFault) (a : Answer) → c.transaction ≡ Some t → IsTransaction h log (main_line c) c t → HasMain h log c D → E ≡ with_open D t.joined
+        → IsMeaning h.schema E (next_names c (Some t)) word r → IsEditedIn c 0 t word r c' a → GoesOn log cs i c c'
     goes_in c' D E t word (Err f) a is x main same means done = stays c' done.0
     goes_in c' D E t word (Ok M) a is x main same means done = go (names_limit_passed c M) refl done
       where
-        go : (o : Option Limit) → names_limit_passed c M ≡ o → IsJoined c t word M o c' a → GoesOn log cs i c c'
+        go : (o : Option Limit) → names_limit_passed c M ≡ o → IsJoined c 0 t word M o c' a → GoesOn log cs i c c'
         go (Some l) e done = stays c' done.0
         go None e done =
-            let m = meant_in E t word M x D main same (means M refl) in
+            let m = meant_in (main_line c) E t word M x D main same (means M refl) in
             goes_as _ c' done.2 (record {
               client = client_parted h st log c t word M k is few x m done.0 done.1 (within_names h st c M e);
               session = refl;
               connected = refl;
               ids = omega arith;
+              forks = omega arith;
               keeps = parted_keeps h st log cs i c t word M done.0 sessions are few at is x m done.1 keeps;
             })
 
     pub edit_goes : (c' : Client) (E : Document) (word : EditWord) (r : Result Intent EditFault) (a : Answer) → HasShown (opening_document h) log (main_line c) E → IsMeaning h.schema E (next_names c c.transaction) word r
-        → IsAfterEdit c c.transaction word r c' a → GoesOn log cs i c c'
+        → IsAfterEdit c 0 (main_line c) c.transaction word r c' a → GoesOn log cs i c c'
     edit_goes c' E word r a shown means done = go c.transaction refl k.transaction shown.2 means done
       where
         D : Document
         D = shown.0
 
-        go : (o : Option Transaction) → c.transaction ≡ o → IfSome o (IsTransaction h log c) → E ≡ with_open D (option_and_then (λ (t : Transaction). t.joined) o) → IsMeaning h.schema E (next_names c o) word r → IsAfterEdit c o word r c' a → GoesOn log cs i c c'
+        go : (o : Option Transaction) → c.transaction ≡ o → IfSome o (IsTransaction h log (main_line c) c) → E ≡ with_open D (option_and_then (λ (t : Transaction). t.joined) o) → IsMeaning h.schema E (next_names c o) word r → IsAfterEdit c 0 (main_line c) o word r c' a → GoesOn log cs i c c'
         go None none x same means done =
             let here = subst (λ F. IsMeaning h.schema F (next_names c None) word r) same means in
-            let on = edited_on c' word r a done in
+            let on = near_edited c c' 0 (main_line c) word r a done in
             record {
               client = client_edited log c c' D word r a k few none shown.1 here done;
-              session = on.0;
-              connected = on.1;
-              ids = on.2;
+              session = on.session;
+              connected = on.connected;
+              ids = on.ids;
+              forks = on.forks;
               keeps = edited_keeps h st log cs i c c' D word r a sessions are few at none shown.1 here done keeps;
             }
         go (Some t) is x same means done = goes_in c' D E t word r a is x shown.1 same means done
 
     pub need_goes : (c' : Client) (E : Document) (r : Result Intent EditFault) (a : Answer) → HasShown (opening_document h) log (main_line c) E → IsMeaning h.schema E (next_names c c.transaction) EditWord.Need r
-        → IsAfterNeed c c.transaction r c' a → GoesOn log cs i c c'
+        → IsAfterNeed c 0 c.transaction r c' a → GoesOn log cs i c c'
     need_goes c' E r a shown means done = go c.transaction refl k.transaction shown.2 means done
       where
-        go : (o : Option Transaction) → c.transaction ≡ o → IfSome o (IsTransaction h log c) → E ≡ with_open shown.0 (option_and_then (λ (t : Transaction). t.joined) o) → IsMeaning h.schema E (next_names c o) EditWord.Need r → IsAfterNeed c o r c' a → GoesOn log cs i c c'
+        go : (o : Option Transaction) → c.transaction ≡ o → IfSome o (IsTransaction h log (main_line c) c) → E ≡ with_open shown.0 (option_and_then (λ (t : Transaction). t.joined) o) → IsMeaning h.schema E (next_names c o) EditWord.Need r → IsAfterNeed c 0 o r c' a → GoesOn log cs i c c'
         go None none x same means done = stays c' done.0
         go (Some t) is x same means done = goes_in c' shown.0 E t EditWord.Need r a is x shown.1 same means done
 
-    pub begin_goes : (c' : Client) (E : Document) (a : Answer) → HasShown (opening_document h) log (main_line c) E → begin c c.transaction (last_in_effect E) ≡ (c', a) → GoesOn log cs i c c'
+    pub begin_goes : (c' : Client) (E : Document) (a : Answer) → HasShown (opening_document h) log (main_line c) E → begin c 0 (main_line c) c.transaction (last_in_effect E) ≡ (c', a) → GoesOn log cs i c c'
     begin_goes c' E a shown done = go c.transaction refl shown.2 done
       where
-        begun : E ≡ shown.0 → c.transaction ≡ None → (o : Option Limit) → pending_limit_passed c ≡ o → with_beginning c (last_in_effect E) o ≡ (c', a) → GoesOn log cs i c c'
+        begun : E ≡ shown.0 → c.transaction ≡ None → (o : Option Limit) → pending_limit_passed c ≡ o → with_beginning c 0 (last_in_effect E) o ≡ (c', a) → GoesOn log cs i c c'
         begun same none (Some l) e done = stays c' (ap (λ (p : Client × Answer). p.0) (sym done))
         begun same none None e done =
             goes_as (with_begun c (last_in_effect E)) c' (ap (λ (p : Client × Answer). p.0) (sym done)) (record {
@@ -250,20 +294,21 @@ module _ (h : HeaderView) (st : IsStart (opening_document h)) where
               session = refl;
               connected = refl;
               ids = omega arith;
-              keeps = ended_keeps h st log cs i c (with_begun c (last_in_effect E)) at refl refl refl keeps;
+              forks = omega arith;
+              keeps = ended_keeps h st log cs i c (with_begun c (last_in_effect E)) at refl refl refl refl keeps;
             })
 
-        go : (o : Option Transaction) → c.transaction ≡ o → E ≡ with_open shown.0 (option_and_then (λ (t : Transaction). t.joined) o) → begin c o (last_in_effect E) ≡ (c', a) → GoesOn log cs i c c'
+        go : (o : Option Transaction) → c.transaction ≡ o → E ≡ with_open shown.0 (option_and_then (λ (t : Transaction). t.joined) o) → begin c 0 (main_line c) o (last_in_effect E) ≡ (c', a) → GoesOn log cs i c c'
         go (Some t) is same done = stays c' (ap (λ (p : Client × Answer). p.0) (sym done))
         go None is same done = begun same is (pending_limit_passed c) refl done
 
     ended : GoesOn log cs i c (without_transaction c)
-    ended = record { client = client_ended h st log c k; session = refl; connected = refl; ids = omega arith; keeps = ended_keeps h st log cs i c (without_transaction c) at refl refl refl keeps }
+    ended = record { client = client_ended h st log c k; session = refl; connected = refl; ids = omega arith; forks = omega arith; keeps = ended_keeps h st log cs i c (without_transaction c) at refl refl refl refl keeps }
 
-    pub commit_goes : (c' : Client) (a : Answer) → commit c c.transaction ≡ (c', a) → GoesOn log cs i c c'
+    pub commit_goes : (c' : Client) (a : Answer) → commit c 0 c.transaction ≡ (c', a) → GoesOn log cs i c c'
     commit_goes c' a done = go c.transaction refl k.transaction done
       where
-        by : (t : Transaction) (o : Option Intent) → c.transaction ≡ Some t → t.joined ≡ o → IsTransaction h log c t → after_commit (without_transaction c) t.rev o ≡ (c', a) → GoesOn log cs i c c'
+        by : (t : Transaction) (o : Option Intent) → c.transaction ≡ Some t → t.joined ≡ o → IsTransaction h log (main_line c) c t → after_commit (without_transaction c) 0 t.rev o ≡ (c', a) → GoesOn log cs i c c'
         by t None is joined x done = goes_as (without_transaction c) c' (ap (λ (p : Client × Answer). p.0) (sym done)) ended
         by t (Some J) is joined x done =
             goes_as (with_commit (without_transaction c) J) c' (ap (λ (p : Client × Answer). p.0) (sym done)) (record {
@@ -271,19 +316,33 @@ module _ (h : HeaderView) (st : IsStart (opening_document h)) where
               session = refl;
               connected = refl;
               ids = omega arith;
+              forks = omega arith;
               keeps = committed_keeps h st log cs i c x.before J at x.main (ap (λ (o : Option Transaction). option_and_then (λ (y : Transaction). y.joined) o) is ∙ joined) keeps;
             })
 
-        go : (o : Option Transaction) → c.transaction ≡ o → IfSome o (IsTransaction h log c) → commit c o ≡ (c', a) → GoesOn log cs i c c'
+        go : (o : Option Transaction) → c.transaction ≡ o → IfSome o (IsTransaction h log (main_line c) c) → commit c 0 o ≡ (c', a) → GoesOn log cs i c c'
         go None is x done = stays c' (ap (λ (p : Client × Answer). p.0) (sym done))
         go (Some t) is x done = by t t.joined is refl x done
 
-    pub abort_goes : (c' : Client) (a : Answer) → abort c c.transaction ≡ (c', a) → GoesOn log cs i c c'
+    pub abort_goes : (c' : Client) (a : Answer) → abort c 0 c.transaction ≡ (c', a) → GoesOn log cs i c c'
     abort_goes c' a done = go c.transaction done
       where
-        go : (o : Option Transaction) → abort c o ≡ (c', a) → GoesOn log cs i c c'
+        go : (o : Option Transaction) → abort c 0 o ≡ (c', a) → GoesOn log cs i c c'
         go None done = stays c' (ap (λ (p : Client × Answer). p.0) (sym done))
         go (Some t) done = goes_as (without_transaction c) c' (ap (λ (p : Client × Answer). p.0) (sym done)) ended
+
+    pub main_goes : LineGoes log cs i c 0 (main_line c)
+    main_goes = record {
+      fit = k.shown_fit;
+      transaction = k.transaction;
+      room = λ t is. edited_room h st log c t k is few;
+      editable = λ E shown. editable h st log c E k shown;
+      edits = edit_goes;
+      needs = need_goes;
+      begins = begin_goes;
+      commits = commit_goes;
+      aborts = abort_goes;
+    }
 
     -- what undoes a commit is pending
     undone_goes : (rev : Rev) (B : Intent) → c.transaction ≡ None → pending_limit_passed c ≡ None → IsUndoing (opening_document h) (commits_of log (main_line c)) rev (next_rev c) B → GoesOn log cs i c (with_new_commit c B)
@@ -295,13 +354,16 @@ module _ (h : HeaderView) (st : IsStart (opening_document h)) where
         let num : B.rev.num ≡ c.ids + 1 = ap (λ (r : Rev). r.num) named in
         let nothing = undoing_makes_none O list rev (next_rev c) B u in
         let fits = undoing_fits O list rev (next_rev c) B u.after st.sound k.shown_fit u.now u in
-        let names : names_in c.pending + names_made B ≤ 16384 = omega (arith, pending_few h st log c k, nothing) in
-        let now = client_committed h st log c (c.ids + 1) u.after B k u.now fits session (omega (arith, num)) (omega arith) (next_new h st log c B.rev k named) (within_pending h st c few_pending) names few in
+        let waiting : (option_map_or names_made (joined_of c) 0 + names_in c.pending) + names_on_all c.branches ≤ 16384 = k.few_names in
+        let names : (names_in c.pending + names_on_all c.branches) + names_made B ≤ 16384 = omega (arith, waiting, nothing) in
+        let apart : (b : Branch) (t : Transaction) → Has c.branches b → b.transaction ≡ Some t → t.rev ≢ B.rev = λ b t i x e. next_apart h st log c k b t i x (e ∙ named) in
+        let now = client_committed h st log c (c.ids + 1) u.after B k u.now fits session (omega (arith, num)) (omega arith) (next_new h st log c B.rev k named) apart (within_pending h st c few_pending) names few in
         record {
           client = subst (λ (o : Option Transaction). IsClient h log (record (with_commit c B) { ids = c.ids + 1; transaction = o })) (sym none) now;
           session = refl;
           connected = refl;
           ids = omega arith;
+          forks = omega arith;
           keeps = undone_keeps h st log cs i c rev B u.after are at none u.now u keeps;
         }
 
@@ -324,11 +386,7 @@ module _ (h : HeaderView) (st : IsStart (opening_document h)) where
         go None none done = of_rev none (refusal_of_rev history log c list rev) done
 
     pub ack_goes : (c' : Client) → c.connected ≡ true → c' ≡ with_ack c → GoesOn log cs i c c'
-    ack_goes c' on same = goes_as (with_ack c) c' same (record { client = client_acked h st log c on k; session = refl; connected = refl; ids = omega arith; keeps = acked_keeps h st log cs i c at keeps })
-
-    delivered_on : (c' : Client) (D : Document) (o : Option Entry) (a : Answer) → IsDeliveredTo D c o c' a → (c'.session ≡ c.session) × (c'.connected ≡ c.connected) × (c'.ids ≤ c.ids + 1)
-    delivered_on c' D None a done = (ap (λ (x : Client). x.session) done.0, ap (λ (x : Client). x.connected) done.0, omega (arith, ap (λ (x : Client). x.ids) done.0))
-    delivered_on c' D (Some e) a done = (ap (λ (x : Client). x.session) done.2, ap (λ (x : Client). x.connected) done.2, omega (arith, ap (λ (x : Client). x.ids) done.2))
+    ack_goes c' on same = goes_as (with_ack c) c' same (record { client = client_acked h st log c on k; session = refl; connected = refl; ids = omega arith; forks = omega arith; keeps = acked_keeps h st log cs i c at keeps })
 
     pub delivery_goes : (c' : Client) (D : Document) (a : Answer) → IsDeliveredIn D c c.transaction (slice_get log c.received) c' a → GoesOn log cs i c c'
     delivery_goes c' D a done = go c.transaction refl done
@@ -336,12 +394,13 @@ module _ (h : HeaderView) (st : IsStart (opening_document h)) where
         go : (o : Option Transaction) → c.transaction ≡ o → IsDeliveredIn D c o (slice_get log c.received) c' a → GoesOn log cs i c c'
         go (Some t) is done = stays c' done.0
         go None none done =
-            let on = delivered_on c' D (slice_get log c.received) a done in
+            let on = near_delivered c c' D (slice_get log c.received) a done in
             record {
               client = client_delivered log c c' D a k few none done;
-              session = on.0;
-              connected = on.1;
-              ids = on.2;
+              session = on.session;
+              connected = on.connected;
+              ids = on.ids;
+              forks = on.forks;
               keeps = delivered_keeps h st log cs i c c' D a are few at none done keeps;
             }
 

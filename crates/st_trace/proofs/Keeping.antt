@@ -1,6 +1,11 @@
 -- What is kept of a client stands for its lists after each of its steps.
-use Rattle.std.proofs.Common.{◌≡◌, ◌≤◌, ◌<◌, ◌+◌, ◌-◌, ◌==◌, ℕ, Bool, true, false, cond, List, [], ◌∷◌, ◌++◌, length, length-append, take, drop, Option, Some, None, IfSome, nat_le, nat_lt, Result, Ok, Err, refl, sym, ap, ◌∙◌, subst, arith}
-use Rattle.std.specs.List.{slice_get}
+use Rattle.std.proofs.Common.{Bool, Err, IfSome, List, None, Ok, Option, Result, Some, [], ap, arith, cond, drop, false, length, length-append, nat_lt, refl, subst, sym, take, true, ℕ, ◌++◌, ◌+◌, ◌<◌, ◌∙◌, ◌∷◌, ◌≡◌, ◌≤◌}
+use Rattle.std.specs.List.{AllByRecursion, slice_get}
+use Rattle.std.specs.Prelude.{◌-◌, ◌==◌}
+use Rattle.st_lists.specs.Names.{names_in, names_made, names_on_all, unsequenced}
+use Rattle.st_lists.specs.declared.lists.Branch.{Branch}
+use Rattle.st_trace.specs.Replicas.{AreHeads, HasMain, IsBranch, IsClient, IsHeadOf, IsReplicaOf}
+use Rattle.st_trace.specs.World.{HasShown, IsDeliveredTo, after_commit, after_edit, cells_given, opening_document, with_new_on}
 use Rattle.std.proofs.lemmas.Bool.Decides.{nat_tests}
 use Rattle.std.proofs.lemmas.List.{append-nil, take_all}
 use Rattle.st_ids.specs.declared.names.Limit.{Limit}
@@ -21,10 +26,8 @@ use Rattle.st_heads.specs.Remembered.{AreCarried, none as nothing_done}
 use Rattle.st_heads.proofs.Runs.{as_many, run_of, runs_joined}
 use Rattle.st_script.specs.Header.{HeaderView}
 use Rattle.st_script.specs.declared.answer.Answer.{Answer}
-use Rattle.st_trace.specs.Replicas.{HasMain, IsClient, IsReplicaOf}
 use Rattle.st_trace.specs.inside.Replicas.{HasCaughtUp, IsCommitted, IsPending, HasTaken, HasPart, HasCommittedOf, IsNewReplica, CanReceive, CanCarry, HasMoved, HasReceivedNext, HasReceivedOf, HasReceivedOne}
 use Rattle.st_lists.specs.Log.{commit_of, commits_in, log_with, waiting}
-use Rattle.st_trace.specs.World.{HasShown, IsDeliveredTo, after_edit, cells_given, after_commit, opening_document, with_pending}
 use Rattle.st_lists.specs.Clients.{joined_of, with_begun, with_connection, with_edited, with_new_commit, with_transaction, without_connection, without_transaction, new_client, pending_after, received_by, with_received}
 use Rattle.st_lists.specs.Lines.{main_line}
 use Rattle.st_lists.specs.declared.lists.Transaction.{Transaction}
@@ -32,7 +35,6 @@ use Rattle.st_heads.specs.Transactions.{HasOpen, with_open}
 use Rattle.st_ids.specs.declared.names.Rev.{Rev}
 use Rattle.std.specs.Option.{option_and_then, option_or}
 use Rattle.st_lists.specs.Limits.{limit_passed, names_limit_passed, pending_limit_passed}
-use Rattle.st_lists.specs.Names.{names_in, names_made, unsequenced}
 use Rattle.st_trace.specs.declared.client.EditWord.{EditWord}
 use Rattle.st_trace.specs.declared.replica.Replica.{Replica}
 use Rattle.st_lists.specs.declared.lists.Body.{Body}
@@ -69,13 +71,21 @@ none_edited c k none w = subst (λ (o : Option Transaction). HasOpen k.main (opt
 pub still_none : (k : Replica) (o : Option Transaction) → o ≡ None → k.main.edited ≡ None → HasOpen k.main (option_and_then (λ (x : Transaction). x.joined) o)
 still_none k o none edited = subst (λ (o : Option Transaction). HasOpen k.main (option_and_then (λ (x : Transaction). x.joined) o)) (sym none) edited
 
+-- the heads of the other branches stay
+pub still_heads : (O : Document) (log : List Entry) (bs : List Branch) (k k' : Replica) → k'.branches ≡ k.branches → AreHeads O log bs k.branches → AreHeads O log bs k'.branches
+still_heads O log bs k k' same w = subst (AreHeads O log bs) (sym same) w
+
+-- how many names wait where what is edited in the open transaction is this
+pub names_with : (c : Client) (o : Option Transaction) → c.transaction ≡ o → unsequenced c ≡ (names_edited (option_and_then (λ (x : Transaction). x.joined) o) + names_in c.pending) + names_on_all c.branches
+names_with c o is = ap (λ (o : Option Transaction). (names_edited (option_and_then (λ (x : Transaction). x.joined) o) + names_in c.pending) + names_on_all c.branches) is
+
 module _ (h : HeaderView) (st : IsStart (opening_document h)) where
   -- ## Limits
 
   pub within_pending : (c : Client) → pending_limit_passed c ≡ None → length c.pending < 256
-  within_pending c e = go (nat_le 256 (length c.pending)) refl e
+  within_pending c e = go (nat_lt 256 (length c.pending + 1)) refl e
     where
-      go : (b : Bool) → nat_le 256 (length c.pending) ≡ b → ◌≡◌ {A = Option Limit} (cond b (Some (record { of = Pending; kept = length c.pending })) None) None → length c.pending < 256
+      go : (b : Bool) → nat_lt 256 (length c.pending + 1) ≡ b → ◌≡◌ {A = Option Limit} (cond b (Some (record { of = Pending; kept = length c.pending })) None) None → length c.pending < 256
       go true p e = absurd (cc)
       go false p e = grind (arith, nat_tests)
 
@@ -90,7 +100,7 @@ module _ (h : HeaderView) (st : IsStart (opening_document h)) where
       few n e = grind (arith, nat_tests)
 
   -- a commit that passes no limit
-  pub within_limits : (c : Client) (N : Intent) → limit_passed c N ≡ None → (length c.pending < 256) × (unsequenced c + names_made N ≤ 16384)
+  pub within_limits : (c : Client) (N : Intent) → limit_passed c 0 (main_line c) N ≡ None → (length c.pending < 256) × (unsequenced c + names_made N ≤ 16384)
   within_limits c N e = let b = both (pending_limit_passed c) (names_limit_passed c N) e in (within_pending c b.0, within_names c N b.1)
     where
       both : (o p : Option Limit) → option_or o p ≡ None → (o ≡ None) × (p ≡ None)
@@ -102,25 +112,26 @@ module _ (h : HeaderView) (st : IsStart (opening_document h)) where
   pub kept_committed : (log : List Entry) (c : Client) (k k' : Replica) (N : Intent) → c.transaction ≡ None → IsReplicaOf h log c k → IsCommitted k N k' → IsReplicaOf h log (with_new_commit c N) k'
   kept_committed log c k k' N none w done =
       let one_name : names_in (N ∷ []) ≡ names_made N = omega arith in
-      let before : k.names ≡ names_edited (joined_of c) + names_in c.pending = w.names in
-      let now : k'.names ≡ names_edited (joined_of c) + names_in (c.pending ++ N ∷ []) = omega (arith, done.names, before, names_append c.pending (N ∷ []), one_name) in
+      let before : k.names ≡ (names_edited (joined_of c) + names_in c.pending) + names_on_all c.branches = w.names in
+      let now : k'.names ≡ (names_edited (joined_of c) + names_in (c.pending ++ N ∷ [])) + names_on_all c.branches = omega (arith, done.names, before, names_append c.pending (N ∷ []), one_name) in
       record {
         received = subst (λ (d : Doc). Run (opening_document h) (received_by log c) (document_of d)) (sym done.received) w.received;
         own = subst (λ (d : Doc). AreCarried (document_of d) (c.pending ++ N ∷ []) k'.main.own (document_of k'.main.doc)) (sym done.received)
             (subst (λ ks. AreCarried (document_of k.received) (c.pending ++ N ∷ []) ks (document_of k'.main.doc)) (sym done.main.own) (runs_joined w.own done.main.run));
         edited = still_none k' c.transaction none (done.main.edited ∙ none_edited c k none w);
+        branches = still_heads (opening_document h) log c.branches k k' done.branches w.branches;
         names = now;
       }
 
   -- after what an edit means was taken in
   pub kept_taken : (log : List Entry) (c c' : Client) (k k' : Replica) (word : EditWord) (r : Result Intent EditFault) (a : Answer) → c.transaction ≡ None → IsReplicaOf h log c k
-      → after_edit c word r ≡ (c', a) → HasTaken c None k r c' k' → IsReplicaOf h log c' k'
+      → after_edit c 0 (main_line c) word r ≡ (c', a) → HasTaken c None k r c' k' → IsReplicaOf h log c' k'
   kept_taken log c c' k k' word (Err f) a none w is kept =
       let same : c ≡ c' = ap (λ (p : Client × Answer). p.0) is in
       subst (λ x. IsReplicaOf h log x k') same (subst (λ x. IsReplicaOf h log c x) (sym kept) w)
-  kept_taken log c c' k k' word (Ok N) a none w is kept = go (limit_passed c N) is kept
+  kept_taken log c c' k k' word (Ok N) a none w is kept = go (limit_passed c 0 (main_line c) N) is kept
     where
-      go : (o : Option Limit) → with_pending c word N o ≡ (c', a) → IsPending k N o k' → IsReplicaOf h log c' k'
+      go : (o : Option Limit) → with_new_on c 0 word N o ≡ (c', a) → IsPending k N o k' → IsReplicaOf h log c' k'
       go (Some l) is kept =
           let same : c ≡ c' = ap (λ (p : Client × Answer). p.0) is in
           subst (λ x. IsReplicaOf h log x k') same (subst (λ x. IsReplicaOf h log c x) (sym kept) w)
@@ -129,19 +140,21 @@ module _ (h : HeaderView) (st : IsStart (opening_document h)) where
           subst (λ x. IsReplicaOf h log x k') same (kept_committed log c k k' N none w kept)
 
   pub kept_parted : (log : List Entry) (c : Client) (t : Transaction) (k k' : Replica) (word : EditWord) (M K : Intent) → c.transaction ≡ Some t → IsReplicaOf h log c k → names_made K ≡ names_edited t.joined + names_made M
-      → HasPart k M (Some K) k' → IsReplicaOf h log (with_transaction c (with_edited t K (length M.new) (cells_given word M))) k'
-  kept_parted log c t k k' word M K is w whole part = record {
-    received = subst (λ (d : Doc). Run (opening_document h) (received_by log c) (document_of d)) (sym part.received) w.received;
-    own = subst (λ (d : Doc). AreCarried (document_of d) c.pending k'.main.own (document_of k'.main.doc)) (sym part.received)
+      → HasPart k.main k.names M (Some K) k'.main k'.names → k'.received ≡ k.received → k'.branches ≡ k.branches
+      → IsReplicaOf h log (with_transaction c (with_edited t K (length M.new) (cells_given word M))) k'
+  kept_parted log c t k k' word M K is w whole part received branches = record {
+    received = subst (λ (d : Doc). Run (opening_document h) (received_by log c) (document_of d)) (sym received) w.received;
+    own = subst (λ (d : Doc). AreCarried (document_of d) c.pending k'.main.own (document_of k'.main.doc)) (sym received)
         (subst (λ ks. AreCarried (document_of k.received) c.pending ks (document_of k'.main.doc)) (sym part.own) (subst (λ (d : Doc). AreCarried (document_of k.received) c.pending k.main.own (document_of d)) (sym part.doc) w.own));
     edited = part.edited;
+    branches = still_heads (opening_document h) log c.branches k k' branches w.branches;
     names = now;
   }
     where
-      waiting : unsequenced c ≡ names_edited t.joined + names_in c.pending
-      waiting = ap (λ (o : Option Transaction). names_edited (option_and_then (λ (x : Transaction). x.joined) o) + names_in c.pending) is
+      waiting : unsequenced c ≡ (names_edited t.joined + names_in c.pending) + names_on_all c.branches
+      waiting = names_with c (Some t) is
 
-      now : k'.names ≡ names_made K + names_in c.pending
+      now : k'.names ≡ (names_made K + names_in c.pending) + names_on_all c.branches
       now = omega (arith, part.names, w.names, whole, waiting)
 
   -- ## Transactions that begin and end
@@ -151,36 +164,38 @@ module _ (h : HeaderView) (st : IsStart (opening_document h)) where
     received = w.received;
     own = w.own;
     edited = none_edited c k none w;
-    names = w.names ∙ ap (λ (o : Option Transaction). names_edited (option_and_then (λ (x : Transaction). x.joined) o) + names_in c.pending) none;
+    branches = w.branches;
+    names = w.names ∙ names_with c None none;
   }
 
   pub kept_ended : (log : List Entry) (c : Client) (t : Transaction) (k : Replica) → c.transaction ≡ Some t → IsReplicaOf h log c k
       → IsReplicaOf h log (without_transaction c) (record k { main = record k.main { edited = None }; names = k.names - names_edited t.joined })
-  kept_ended log c t k is w = record { received = w.received; own = w.own; edited = refl; names = now }
+  kept_ended log c t k is w = record { received = w.received; own = w.own; edited = refl; branches = w.branches; names = now }
     where
-      waiting : unsequenced c ≡ names_edited t.joined + names_in c.pending
-      waiting = ap (λ (o : Option Transaction). names_edited (option_and_then (λ (x : Transaction). x.joined) o) + names_in c.pending) is
+      waiting : unsequenced c ≡ (names_edited t.joined + names_in c.pending) + names_on_all c.branches
+      waiting = names_with c (Some t) is
 
-      now : k.names - names_edited t.joined ≡ 0 + names_in c.pending
+      now : k.names - names_edited t.joined ≡ (0 + names_in c.pending) + names_on_all c.branches
       now = omega (arith, w.names, waiting)
 
-  pub kept_commits : (log : List Entry) (c : Client) (t : Transaction) (k k' : Replica) → c.transaction ≡ Some t → IsReplicaOf h log c k → HasCommittedOf k t.joined k' → IsReplicaOf h log (after_commit (without_transaction c) t.rev t.joined).0 k'
+  pub kept_commits : (log : List Entry) (c : Client) (t : Transaction) (k k' : Replica) → c.transaction ≡ Some t → IsReplicaOf h log c k → HasCommittedOf k t.joined k' → IsReplicaOf h log (after_commit (without_transaction c) 0 t.rev t.joined).0 k'
   kept_commits log c t k k' is w done = go t.joined waiting (subst (λ (o : Option Transaction). HasOpen k.main (option_and_then (λ (x : Transaction). x.joined) o)) is w.edited) done
     where
-      waiting : k.names ≡ names_edited t.joined + names_in c.pending
-      waiting = w.names ∙ ap (λ (o : Option Transaction). names_edited (option_and_then (λ (x : Transaction). x.joined) o) + names_in c.pending) is
+      waiting : k.names ≡ (names_edited t.joined + names_in c.pending) + names_on_all c.branches
+      waiting = w.names ∙ names_with c (Some t) is
 
-      go : (o : Option Intent) → k.names ≡ names_edited o + names_in c.pending → HasOpen k.main o → HasCommittedOf k o k' → IsReplicaOf h log (after_commit (without_transaction c) t.rev o).0 k'
-      go None names edited done = subst (IsReplicaOf h log (without_transaction c)) (sym done) (record { received = w.received; own = w.own; edited = edited; names = names })
+      go : (o : Option Intent) → k.names ≡ (names_edited o + names_in c.pending) + names_on_all c.branches → HasOpen k.main o → HasCommittedOf k o k' → IsReplicaOf h log (after_commit (without_transaction c) 0 t.rev o).0 k'
+      go None names edited done = subst (IsReplicaOf h log (without_transaction c)) (sym done) (record { received = w.received; own = w.own; edited = edited; branches = w.branches; names = names })
       go (Some J) names edited done =
           let one_name : names_in (J ∷ []) ≡ names_made J = omega arith in
-          let before : k.names ≡ names_made J + names_in c.pending = names in
-          let now : k'.names ≡ 0 + names_in (c.pending ++ J ∷ []) = omega (arith, done.names, before, names_append c.pending (J ∷ []), one_name) in
+          let before : k.names ≡ (names_made J + names_in c.pending) + names_on_all c.branches = names in
+          let now : k'.names ≡ (0 + names_in (c.pending ++ J ∷ [])) + names_on_all c.branches = omega (arith, done.names, before, names_append c.pending (J ∷ []), one_name) in
           record {
             received = subst (λ (d : Doc). Run (opening_document h) (received_by log c) (document_of d)) (sym done.received) w.received;
             own = subst (λ (d : Doc). AreCarried (document_of d) (c.pending ++ J ∷ []) k'.main.own (document_of k'.main.doc)) (sym done.received)
                 (subst (λ ks. AreCarried (document_of k.received) (c.pending ++ J ∷ []) ks (document_of k'.main.doc)) (sym done.main.own) (runs_joined w.own done.main.run));
             edited = done.main.edited;
+            branches = still_heads (opening_document h) log c.branches k k' done.branches w.branches;
             names = now;
           }
 
@@ -194,7 +209,7 @@ module _ (h : HeaderView) (st : IsStart (opening_document h)) where
       own N is b =
           let first = own_first h st log c e N w.client at is b in
           let names : names_in c.pending ≡ names_made N + _ = ap names_in first in
-          let before : k.names ≡ names_edited (joined_of c) + names_in c.pending = w.kept.names in
+          let before : k.names ≡ (names_edited (joined_of c) + names_in c.pending) + names_on_all c.branches = w.kept.names in
           record {
             fits = (subst (FitInTurn (document_of k.received)) first (rest_fit c.pending w.kept.received w.client.shown_fit)).0;
             later = λ bad. cc;
@@ -224,14 +239,15 @@ module _ (h : HeaderView) (st : IsStart (opening_document h)) where
       let head : c.pending ≡ N ∷ drop 1 c.pending = first ∙ ap (λ l. N ∷ l) (sym tail) in
       let now : commits_in (take (c.received + 1) log) ≡ A ++ N ∷ [] = received_more h st log c e at ∙ ap (λ l. A ++ l) (one_commit e N is) in
       let names : names_in c.pending ≡ names_made N + names_in (drop 1 c.pending) = ap names_in head in
-      let before : k.names ≡ names_edited (joined_of c) + names_in c.pending = w.kept.names in
-      let left : k'.names ≡ names_edited (joined_of c) + names_in (drop 1 c.pending) = omega (arith, got.1.1, names, before) in
+      let before : k.names ≡ (names_edited (joined_of c) + names_in c.pending) + names_on_all c.branches = w.kept.names in
+      let left : k'.names ≡ (names_edited (joined_of c) + names_in (drop 1 c.pending)) + names_on_all c.branches = omega (arith, got.1.1, names, before) in
       record {
         received = subst (λ l. Run (opening_document h) l (document_of k'.received)) (sym now) (run_more N (document_of k'.received) v w.kept.received got.0.verdict got.0.after);
         own = subst (λ (m : Head). AreCarried (document_of k'.received) (drop 1 c.pending) m.own (document_of m.doc)) (sym got.1.0)
             (rest_carried (document_of k.received) (document_of k'.received) (document_of k.main.doc) N (drop 1 c.pending) k.main.own v
             (subst (λ l. AreCarried (document_of k.received) l k.main.own (document_of k.main.doc)) head w.kept.own) (omega (arith, ap length head, as_many w.kept.own)) got.0.verdict got.0.after);
         edited = still_none k' c.transaction none (ap (λ (m : Head). m.edited) got.1.0 ∙ none_edited c k none w.kept);
+        branches = still_heads (opening_document h) log c.branches k k' got.0.branches w.kept.branches;
         names = left;
       }
 
@@ -242,7 +258,13 @@ module _ (h : HeaderView) (st : IsStart (opening_document h)) where
       let now : commits_in (take (c.received + 1) log) ≡ A ++ N ∷ [] = received_more h st log c e at ∙ ap (λ l. A ++ l) (one_commit e N is) in
       let r : Run (opening_document h) (commits_in (take (c.received + 1) log)) (document_of k'.received) =
       subst (λ l. Run (opening_document h) l (document_of k'.received)) (sym now) (run_more N (document_of k'.received) v w.kept.received got.0.verdict got.0.after) in
-      record { received = r; own = got.1.0; edited = still_none k' c.transaction none got.1.1; names = got.1.2 ∙ w.kept.names }
+      record {
+        received = r;
+        own = got.1.0;
+        edited = still_none k' c.transaction none got.1.1;
+        branches = still_heads (opening_document h) log c.branches k k' got.0.branches w.kept.branches;
+        names = got.1.2 ∙ w.kept.names;
+      }
 
   kept_none : (log : List Entry) (c : Client) (k : Replica) (e : Entry) → AreOne h log c k → slice_get log c.received ≡ Some e → commit_of e ≡ None → IsReplicaOf h log (record c { received = c.received + 1 }) k
   kept_none log c k e w at is =
@@ -252,6 +274,7 @@ module _ (h : HeaderView) (st : IsStart (opening_document h)) where
         received = subst (λ l. Run (opening_document h) l (document_of k.received)) now w.kept.received;
         own = w.kept.own;
         edited = w.kept.edited;
+        branches = w.kept.branches;
         names = w.kept.names;
       }
 
@@ -284,37 +307,64 @@ module _ (h : HeaderView) (st : IsStart (opening_document h)) where
 
   -- ## The log grows
 
-  pub kept_entered : (log : List Entry) (session : ℕ) (body : Body) (c : Client) (k : Replica) → c.received ≤ length log → IsReplicaOf h log c k → IsReplicaOf h (log_with log session body) c k
-  kept_entered log session body c k within w =
-      let front = sym (entered_front log session body c.received within) in
+  -- a branch stands on the same commits, where it has received no more than the log had
+  head_entered : (log : List Entry) (session : ℕ) (body : Body) (b : Branch) (k : Head) → b.received ≤ length log → IsHeadOf (opening_document h) log b k → IsHeadOf (opening_document h) (log_with log session body) b k
+  head_entered log session body b k within w = record {
+    base = w.base;
+    stands = subst (λ (es : List Entry). Run (opening_document h) (commits_in es ++ b.base) w.base) (sym (entered_front log session body b.received within)) w.stands;
+    own = w.own;
+    edited = w.edited;
+  }
+
+  pub heads_entered : (log : List Entry) (session : ℕ) (body : Body) (bs : List Branch) (ks : List Head) → AllByRecursion (λ (b : Branch). b.received ≤ length log) bs → AreHeads (opening_document h) log bs ks
+      → AreHeads (opening_document h) (log_with log session body) bs ks
+  heads_entered log session body [] [] within w = tt
+  heads_entered log session body [] (k ∷ ks) within w = absurd w
+  heads_entered log session body (b ∷ bs) [] within w = absurd w
+  heads_entered log session body (b ∷ bs) (k ∷ ks) within w = (head_entered log session body b k within.0 w.0, heads_entered log session body bs ks within.1 w.1)
+
+  -- a client's branches have received no more than the log has
+  pub branches_within : (log : List Entry) (c : Client) → IsClient h log c → AllByRecursion (λ (b : Branch). b.received ≤ length log) c.branches
+  branches_within log c w = go c.branches w.branches.each
+    where
+      go : (bs : List Branch) → AllByRecursion (IsBranch h log c) bs → AllByRecursion (λ (b : Branch). b.received ≤ length log) bs
+      go [] each = tt
+      go (b ∷ bs) each = (each.0.within, go bs each.1)
+
+  pub kept_entered : (log : List Entry) (session : ℕ) (body : Body) (c : Client) (k : Replica) → IsClient h log c → IsReplicaOf h log c k → IsReplicaOf h (log_with log session body) c k
+  kept_entered log session body c k own w =
+      let front = sym (entered_front log session body c.received own.within) in
       record {
         received = subst (λ (es : List Entry). Run (opening_document h) (commits_in es) (document_of k.received)) front w.received;
         own = w.own;
         edited = w.edited;
+        branches = heads_entered log session body c.branches k.branches (branches_within log c own) w.branches;
         names = w.names;
       }
 
   pub kept_rest : (log : List Entry) (c : Client) (rest : List Body) (k : Replica) → IsReplicaOf h log c k → IsReplicaOf h log (record c { queue = rest }) k
-  kept_rest log c rest k w = record { received = w.received; own = w.own; edited = w.edited; names = w.names }
+  kept_rest log c rest k w = record { received = w.received; own = w.own; edited = w.edited; branches = w.branches; names = w.names }
 
   -- of one that isn't connected any more
   pub kept_offline : (log : List Entry) (c : Client) (k : Replica) → IsReplicaOf h log c k → IsReplicaOf h log (without_connection c) k
-  kept_offline log c k w = record { received = w.received; own = w.own; edited = w.edited; names = w.names }
+  kept_offline log c k w = record { received = w.received; own = w.own; edited = w.edited; branches = w.branches; names = w.names }
 
   -- of one that comes back
-  pub kept_returned : (log : List Entry) (c : Client) (k k' : Replica) → c.transaction ≡ None → IsReplicaOf h log c k → HasCaughtUp log c k k' → IsReplicaOf h (log_with log c.session Join) (with_connection log c) k'
-  kept_returned log c k k' none w up =
+  pub kept_returned : (log : List Entry) (c : Client) (k k' : Replica) → c.transaction ≡ None → IsClient h log c → IsReplicaOf h log c k → HasCaughtUp log c k k' → IsReplicaOf h (log_with log c.session Join) (with_connection log c) k'
+  kept_returned log c k k' none own w up =
       let longer = log_with log c.session Join in
       let size : length longer ≡ length log + 1 = omega (arith, length-append log (last_entry log c.session Join ∷ [])) in
       let commits : commits_in log ≡ commits_in longer = sym (entered_commits log c.session Join ∙ append-nil (commits_in log)) in
       let whole : take (length log + 1) longer ≡ longer = take_all (length log + 1) longer (omega (arith, size)) in
-      let few : k'.names ≡ 0 + names_in (waiting log c) = omega (arith, up.names) in
+      let before : k.names ≡ (0 + names_in c.pending) + names_on_all c.branches = w.names ∙ names_with c None none in
+      let few : k'.names ≡ (0 + names_in (waiting log c)) + names_on_all c.branches = omega (arith, up.names, before) in
       let split : received_by log c ++ commits_in (drop c.received log) ≡ commits_in (take (length log + 1) longer) = sym (commits_split c.received log) ∙ commits ∙ ap commits_in (sym whole) in
       record {
         received = subst (λ l. Run (opening_document h) l (document_of k'.received)) split (run_then w.received up.received);
         own = up.own;
         edited = still_none k' c.transaction none up.edited;
-        names = few ∙ sym (ap (λ (o : Option Transaction). names_edited (option_and_then (λ (x : Transaction). x.joined) o) + names_in (waiting log c)) none);
+        branches = still_heads (opening_document h) longer c.branches k k' up.branches (heads_entered log c.session Join c.branches k.branches (branches_within log c own) w.branches);
+        names = few ∙ sym (names_with (with_connection log c) None none);
       }
 
   -- of a client that joins
@@ -326,5 +376,6 @@ module _ (h : HeaderView) (st : IsStart (opening_document h)) where
         received = subst (λ (es : List Entry). Run (opening_document h) (commits_in es) (document_of k.received)) whole (subst (λ (E : Document). Run (opening_document h) (commits_in log) E) (sym new.received) run);
         own = subst (λ (E : Document). AreCarried (document_of k.received) [] k.main.own E) (new.received ∙ sym new.shown) (subst (λ ks. AreCarried (document_of k.received) [] ks (document_of k.received)) (sym new.own) nothing_done);
         edited = new.edited;
+        branches = subst (AreHeads (opening_document h) log []) (sym new.branches) tt;
         names = new.names;
       }

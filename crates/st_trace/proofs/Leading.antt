@@ -1,7 +1,14 @@
 -- From lists of which holds what steps keep, each step leads on: there are next lists, of which the same holds, and an answer.
-use Rattle.std.proofs.Common.{◌≡◌, ℕ, zero, suc, ◌+◌, Bool, true, false, cond, nat_le, List, [], ◌∷◌, ◌++◌, length, map, Option, Some, None, IfSome, IsSome, option_map, option_and_then, Result, Ok, Err, refl, subst, ◌⊎◌, inl, inr}
+use Rattle.std.proofs.Common.{Bool, Err, IfSome, IsSome, List, None, Ok, Option, Result, Some, [], cond, false, inl, inr, length, map, nat_le, refl, subst, true, ℕ, ◌++◌, ◌+◌, ◌∷◌, ◌≡◌, ◌⊎◌}
+use Rattle.std.specs.Option.{option_and_then, option_map_or, option_or}
+use Rattle.std.specs.Prelude.{option_map}
+use Rattle.st_lists.specs.Clients.{HasReceived, new_client, place_of, received_by, with_ack, with_edited, with_received}
+use Rattle.st_lists.specs.Lines.{HasHead, Line, commits_of, edited_on, line_of, with_transaction_on}
+use Rattle.st_trace.proofs.Going.{AreSound, GoesOn, LineGoes, ack_goes, delivery_goes, dropped_sound, joined_sound, left_sound, lists_sound, meant_in, returned_sound, sent_sound, set_sound, undo_goes}
+use Rattle.st_trace.proofs.Parts.{next_joined}
+use Rattle.st_trace.specs.Replicas.{IsClient, IsSound, IsTransaction}
+use Rattle.st_trace.specs.World.{AtClient, ByConnected, HasShown, IsActOf, IsAfterEdit, IsAfterNeed, IsBegun, IsBranchDropped, IsDelivered, IsDeliveredIn, IsDeliveredTo, IsDoneIn, IsEdited, IsEditedIn, IsForked, IsJoined, IsMergedBy, IsNeeded, IsNext, IsRebasedBy, IsShown, IsUndoneBy, IsVerdictOf, OnLine, abort, act_of_none, after_edit, after_entry, answer_of, begin, branch_at, cells_given, commit, drop_client, intent_of, join, last_in_effect, leave, limit_refusal, needs_connection, next_names, opening_document, reconnect, refusal_of, refusal_to_reconnect, sequence, with_client, word_of}
 use Rattle.std.specs.List.{find, slice_get, slice_set}
-use Rattle.std.specs.Option.{option_map_or, option_or}
 use Rattle.serde_json.specs.Written.{compact_text}
 use Rattle.st_ids.specs.Listing.{Has}
 use Rattle.st_ids.specs.Order.{same_node}
@@ -36,13 +43,9 @@ use Rattle.st_script.specs.declared.answer.Answer.{Answer}
 use Rattle.st_script.specs.declared.answer.Answer.TheVariants.{Ack, Deliver, Join as Joins, No, Show}
 use Rattle.st_script.specs.declared.refusal.Refusal.{Refusal}
 use Rattle.st_script.specs.declared.refusal.Refusal.TheVariants.{Limit as OverLimit, NoBranch, NoClient, NotBegun, NotConnected, NothingNew, NothingToSend, Taken, Unfinished}
-use Rattle.st_trace.specs.Replicas.{HasMain, IsClient, IsSound, IsTransaction}
 use Rattle.st_heads.specs.Transactions.{with_open}
-use Rattle.st_lists.specs.Lines.{main_line}
 use Rattle.st_lists.specs.declared.lists.Transaction.{Transaction}
 use Rattle.st_lists.specs.Log.{commit_of, log_with, sessions_in}
-use Rattle.st_trace.specs.World.{HasShown, IsActOf, IsAfterEdit, IsAfterNeed, IsBegun, IsDelivered, IsDeliveredIn, IsDeliveredTo, IsDoneIn, IsEdited, IsEditedIn, IsJoined, IsNeeded, IsNext, AtClient, ByConnected, IsShown, IsUndoneBy, IsVerdictOf, OnBranch, abort, act_of_none, after_edit, answer_of, begin, branch_at, after_entry, cells_given, commit, drop_client, intent_of, last_in_effect, leave, needs_connection, next_names, join, opening_document, limit_refusal, reconnect, refusal_of, refusal_to_reconnect, sequence, with_client, word_of}
-use Rattle.st_lists.specs.Clients.{HasReceived, joined_of, new_client, place_of, received_by, with_ack, with_edited, with_received, with_transaction}
 use Rattle.st_lists.specs.Limits.{entries_limit_passed, log_limit_passed, names_limit_passed}
 use Rattle.st_lists.specs.Names.{names_in_text}
 use Rattle.st_trace.specs.declared.client.EditWord.{EditWord}
@@ -57,9 +60,7 @@ use Rattle.st_trace.proofs.Everyone.{all_get}
 use Rattle.st_ids.specs.declared.names.Rev.{Rev}
 use Rattle.st_trace.specs.Undo.{IsAfterUndo}
 use Rattle.st_trace.proofs.Undoing.{has_undo}
-use Rattle.st_trace.proofs.Going.{AreSound, GoesOn, abort_goes, ack_goes, undo_goes, begin_goes, commit_goes, delivery_goes, edit_goes, dropped_sound, joined_sound, left_sound, lists_sound, returned_sound, meant_in, need_goes, sent_sound, set_sound}
 use Rattle.st_trace.proofs.Meant.{IsMeaning, IsMeant, edit_means, need_means}
-use Rattle.st_trace.proofs.Parts.{editable, next_joined}
 use Rattle.st_trace.proofs.Stepping.{may_reconnect, within_log}
 use Rattle.st_lists.specs.declared.lists.Body.{Body}
 
@@ -137,95 +138,107 @@ open_listed D (Some J) ns all = (ns ++ map (λ (m : NewNode). m.node) J.new, λ 
 
 module _ (h : HeaderView) (w : WorldState) (s : AreSound h w) where
   -- next lists, an answer, and that the same holds
-  abbrev Leads : (WorldState → Answer → Type 0) → Type 0
+  abbrev pub Leads : (WorldState → Answer → Type 0) → Type 0
   Leads is_next = (v : WorldState) × (a : Answer) × is_next v a × AreSound h v
 
   abbrev stays : (a : Answer) → Leads (λ v b. (v ≡ w) × (b ≡ a))
   stays a = (w, a, (refl, refl), s)
 
-  module _ (i : ℕ) (c : Client) (at : slice_get w.clients i ≡ Some c) where
-    client : IsClient h w.log c
-    client = all_get (IsClient h w.log) w.clients i c s.clients at
+  pub st : IsStart (opening_document h)
+  st = opened_start h s.header
 
-    st : IsStart (opening_document h)
-    st = opened_start h s.header
-
-    main : (D : Document) × HasMain h w.log c D
-    main = has_run (received_by w.log c ++ c.pending) (opening_document h) st.sound client.shown_fit
+  -- on a line on which a client goes on
+  module _ (i : ℕ) (c : Client) (at : slice_get w.clients i ≡ Some c) (k : ℕ) (l : Line) (g : LineGoes h st w.log w.clients i c k l) where
+    head : (D : Document) × HasHead (opening_document h) w.log l D
+    head = has_run (commits_of w.log l) (opening_document h) st.sound g.fit
 
     -- what it shows
     abbrev E : Document
-    E = with_open main.0 (joined_of c)
+    E = with_open head.0 (edited_on l)
 
-    shown : HasShown (opening_document h) w.log (main_line c) E
-    shown = (main.0, main.1, refl)
+    shown : HasShown (opening_document h) w.log l E
+    shown = (head.0, head.1, refl)
 
-    received : (D : Document) × HasReceived (opening_document h) w.log c D
-    received = has_run (received_by w.log c) (opening_document h) (opened_start h s.header).sound (received_fit h (opened_start h s.header) w.log c client)
-
-    goes : (does : Document → Client → Answer → Type 0) (d : Client) (a : Answer) → does E d a → GoesOn h st w.log w.clients i c d → Leads (IsDoneIn h w i c does)
-    goes does d a so g = (record w { clients = slice_set w.clients i d }, a, (E, d, shown, so, refl), set_sound h w i c d s at g.client g.session g.keeps)
+    goes : (does : Document → Client → Answer → Type 0) (d : Client) (a : Answer) → does E d a → GoesOn h st w.log w.clients i c d → Leads (IsDoneIn h w i l does)
+    goes does d a so x = (record w { clients = slice_set w.clients i d }, a, (E, d, shown, so, refl), set_sound h w i c d s at x.client x.session x.keeps)
 
     -- an edit in the transaction that is open
-    edited_in : (t : Transaction) (word : EditWord) (r : Result Intent EditFault) → c.transaction ≡ Some t → IsTransaction h w.log c t → IsMeaning h.schema (with_open main.0 t.joined) (next_names c (Some t)) word r → (d : Client) × (a : Answer) × IsEditedIn c t word r d a
+    edited_in : (t : Transaction) (word : EditWord) (r : Result Intent EditFault) → l.transaction ≡ Some t → IsTransaction h w.log l c t → IsMeaning h.schema (with_open head.0 t.joined) (next_names c (Some t)) word r → (d : Client) × (a : Answer) × IsEditedIn c k t word r d a
     edited_in t word (Err f) is x means = (c, No (refusal_of f), (refl, refl))
     edited_in t word (Ok M) is x means = go (names_limit_passed c M)
       where
         m : IsMeant h.schema (with_open x.before t.joined) (next_names c (Some t)) word M
-        m = meant_in h st w.log w.clients s.sessions s.clients s.few_names s.schema i c at (with_open main.0 t.joined) t word M x main.0 main.1 refl (means M refl)
+        m = meant_in h st w.log w.clients s.sessions s.clients s.few_names s.schema i c at l (with_open head.0 t.joined) t word M x head.0 head.1 refl (means M refl)
 
-        go : (o : Option Limit) → (d : Client) × (a : Answer) × IsJoined c t word M o d a
-        go (Some l) = (c, No (OverLimit l), (refl, refl))
-        go None = let J = next_joined h st w.log c t word M client is s.few_names x m in (with_transaction c (with_edited t J.0 (length M.new) (cells_given word M)), answer_of word t.rev, (J.0, J.1, refl, refl))
+        go : (o : Option Limit) → (d : Client) × (a : Answer) × IsJoined c k t word M o d a
+        go (Some over) = (c, No (OverLimit over), (refl, refl))
+        go None =
+            let J = next_joined h st w.log l c t word M g.fit (g.room t is) x m in
+            (with_transaction_on c k (Some (with_edited t J.0 (length M.new) (cells_given word M))), answer_of word t.rev, (J.0, J.1, refl, refl))
 
-    meaning_at : (word : EditWord) (r : Result Intent EditFault) (o : Option Transaction) → c.transaction ≡ o → IsMeaning h.schema E (next_names c c.transaction) word r → IsMeaning h.schema (with_open main.0 (option_and_then (λ (t : Transaction). t.joined) o)) (next_names c o) word r
-    meaning_at word r o is means = subst (λ (o : Option Transaction). IsMeaning h.schema (with_open main.0 (option_and_then (λ (t : Transaction). t.joined) o)) (next_names c o) word r) is means
+    meaning_at : (word : EditWord) (r : Result Intent EditFault) (o : Option Transaction) → l.transaction ≡ o → IsMeaning h.schema E (next_names c l.transaction) word r → IsMeaning h.schema (with_open head.0 (option_and_then (λ (t : Transaction). t.joined) o)) (next_names c o) word r
+    meaning_at word r o is means = subst (λ (o : Option Transaction). IsMeaning h.schema (with_open head.0 (option_and_then (λ (t : Transaction). t.joined) o)) (next_names c o) word r) is means
 
-    after : (word : EditWord) (r : Result Intent EditFault) → IsMeaning h.schema E (next_names c c.transaction) word r → (d : Client) × (a : Answer) × IsAfterEdit c c.transaction word r d a
-    after word r means = go c.transaction refl client.transaction
+    after : (word : EditWord) (r : Result Intent EditFault) → IsMeaning h.schema E (next_names c l.transaction) word r → (d : Client) × (a : Answer) × IsAfterEdit c k l l.transaction word r d a
+    after word r means = go l.transaction refl g.transaction
       where
-        go : (o : Option Transaction) → c.transaction ≡ o → IfSome o (IsTransaction h w.log c) → (d : Client) × (a : Answer) × IsAfterEdit c o word r d a
-        go None is x = let p = after_edit c word r in (p.0, p.1, refl)
+        go : (o : Option Transaction) → l.transaction ≡ o → IfSome o (IsTransaction h w.log l c) → (d : Client) × (a : Answer) × IsAfterEdit c k l o word r d a
+        go None is x = let p = after_edit c k l word r in (p.0, p.1, refl)
         go (Some t) is x = edited_in t word r is x (meaning_at word r (Some t) is means)
 
-    after_need : (r : Result Intent EditFault) → IsMeaning h.schema E (next_names c c.transaction) EditWord.Need r → (d : Client) × (a : Answer) × IsAfterNeed c c.transaction r d a
-    after_need r means = go c.transaction refl client.transaction
+    after_need : (r : Result Intent EditFault) → IsMeaning h.schema E (next_names c l.transaction) EditWord.Need r → (d : Client) × (a : Answer) × IsAfterNeed c k l.transaction r d a
+    after_need r means = go l.transaction refl g.transaction
       where
-        go : (o : Option Transaction) → c.transaction ≡ o → IfSome o (IsTransaction h w.log c) → (d : Client) × (a : Answer) × IsAfterNeed c o r d a
+        go : (o : Option Transaction) → l.transaction ≡ o → IfSome o (IsTransaction h w.log l c) → (d : Client) × (a : Answer) × IsAfterNeed c k o r d a
         go None is x = (c, No NotBegun, (refl, refl))
         go (Some t) is x = edited_in t EditWord.Need r is x (meaning_at EditWord.Need r (Some t) is means)
 
-    has_edited : (e : EditView) → Leads (IsEdited h w i c e)
+    has_edited : (e : EditView) → Leads (IsEdited h w i c k l e)
     has_edited e =
-        let r = intent_of E h.schema (next_names c c.transaction) e in
-        let means = edit_means h.schema s.header.schema E (next_names c c.transaction) (editable h st w.log c E client shown) e in
+        let r = intent_of E h.schema (next_names c l.transaction) e in
+        let means = edit_means h.schema s.header.schema E (next_names c l.transaction) (g.editable E shown) e in
         let d = after (word_of e) r means in
-        goes (λ D. IsAfterEdit c c.transaction (word_of e) (intent_of D h.schema (next_names c c.transaction) e)) d.0 d.1 d.2
-        (edit_goes h st w.log w.clients s.sessions s.clients s.few_names s.schema i c at d.0 E (word_of e) r d.1 shown means d.2)
+        goes (λ D. IsAfterEdit c k l l.transaction (word_of e) (intent_of D h.schema (next_names c l.transaction) e)) d.0 d.1 d.2 (g.edits d.0 E (word_of e) r d.1 shown means d.2)
 
-    has_needed : (path : List Place) → Leads (IsNeeded h w i c path)
+    has_needed : (path : List Place) → Leads (IsNeeded h w i c k l path)
     has_needed path =
-        let r = need E (next_names c c.transaction) path in
-        let means = need_means h.schema s.header.schema E (next_names c c.transaction) (editable h st w.log c E client shown) path in
+        let r = need E (next_names c l.transaction) path in
+        let means = need_means h.schema s.header.schema E (next_names c l.transaction) (g.editable E shown) path in
         let d = after_need r means in
-        goes (λ D. IsAfterNeed c c.transaction (need D (next_names c c.transaction) path)) d.0 d.1 d.2 (need_goes h st w.log w.clients s.sessions s.clients s.few_names s.schema i c at d.0 E r d.1 shown means d.2)
+        goes (λ D. IsAfterNeed c k l.transaction (need D (next_names c l.transaction) path)) d.0 d.1 d.2 (g.needs d.0 E r d.1 shown means d.2)
 
-    has_begun : Leads (IsBegun h w i c)
+    has_begun : Leads (IsBegun h w i c k l)
     has_begun =
-        let p = begin c c.transaction (last_in_effect E) in
-        goes (λ D d b. begin c c.transaction (last_in_effect D) ≡ (d, b)) p.0 p.1 refl (begin_goes h st w.log w.clients s.sessions s.clients s.few_names s.schema i c at p.0 E p.1 shown refl)
+        let p = begin c k l l.transaction (last_in_effect E) in
+        goes (λ D d b. begin c k l l.transaction (last_in_effect D) ≡ (d, b)) p.0 p.1 refl (g.begins p.0 E p.1 shown refl)
 
-    has_committed : Leads (λ v a. with_client w i (commit c c.transaction) ≡ (v, a))
+    has_committed : Leads (λ v a. with_client w i (commit c k l.transaction) ≡ (v, a))
     has_committed =
-        let p = commit c c.transaction in
-        let g = commit_goes h st w.log w.clients s.sessions s.clients s.few_names s.schema i c at p.0 p.1 refl in
-        (record w { clients = slice_set w.clients i p.0 }, p.1, refl, set_sound h w i c p.0 s at g.client g.session g.keeps)
+        let p = commit c k l.transaction in
+        let x = g.commits p.0 p.1 refl in
+        (record w { clients = slice_set w.clients i p.0 }, p.1, refl, set_sound h w i c p.0 s at x.client x.session x.keeps)
 
-    has_aborted : Leads (λ v a. with_client w i (abort c c.transaction) ≡ (v, a))
+    has_aborted : Leads (λ v a. with_client w i (abort c k l.transaction) ≡ (v, a))
     has_aborted =
-        let p = abort c c.transaction in
-        let g = abort_goes h st w.log w.clients s.sessions s.clients s.few_names s.schema i c at p.0 p.1 refl in
-        (record w { clients = slice_set w.clients i p.0 }, p.1, refl, set_sound h w i c p.0 s at g.client g.session g.keeps)
+        let p = abort c k l.transaction in
+        let x = g.aborts p.0 p.1 refl in
+        (record w { clients = slice_set w.clients i p.0 }, p.1, refl, set_sound h w i c p.0 s at x.client x.session x.keeps)
+
+    has_shown : (a : Answer) × IsShown h w l a
+    has_shown =
+        let known = start_listed h (commits_of w.log l) head.0 head.1 in
+        let listed = open_listed head.0 (edited_on l) known.0 known.1 in
+        let sound = (g.editable E shown).sound in
+        let t = node_shows (is_array_type h.schema) E sound listed.0 listed.1 root sound.root_known in
+        (Show (compact_text t.0), (E, compact_text t.0, shown, (t.0, t.1, refl), refl))
+
+  -- the steps of a client as a whole
+  module _ (i : ℕ) (c : Client) (at : slice_get w.clients i ≡ Some c) where
+    client : IsClient h w.log c
+    client = all_get (IsClient h w.log) w.clients i c s.clients at
+
+    received : (D : Document) × HasReceived (opening_document h) w.log c D
+    received = has_run (received_by w.log c) (opening_document h) st.sound (received_fit h st w.log c client)
 
     has_undone : (rev : Rev) → Leads (IsUndoneBy h w i c rev)
     has_undone rev =
@@ -269,13 +282,6 @@ module _ (h : HeaderView) (w : WorldState) (s : AreSound h w) where
         go (Some l) e = (w, limit_refusal l, refl, s)
         go None e = let p = after_entry w i c text rest None in (p.0, p.1, refl, sent_sound h w i c text rest s at is (within_log w.log (names_in_text text) e).1)
 
-    has_shown : (a : Answer) × IsShown h w c a
-    has_shown =
-        let known = start_listed h (received_by w.log c ++ c.pending) main.0 main.1 in
-        let listed = open_listed main.0 (joined_of c) known.0 known.1 in
-        let t = node_shows (is_array_type h.schema) E (editable h st w.log c E client shown).sound listed.0 listed.1 root (editable h st w.log c E client shown).sound.root_known in
-        (Show (compact_text t.0), (E, compact_text t.0, shown, (t.0, t.1, refl), refl))
-
   -- ## Sessions come and go
 
   module _ (i : ℕ) (c : Client) (at : slice_get w.clients i ≡ Some c) where
@@ -316,21 +322,32 @@ module _ (h : HeaderView) (w : WorldState) (s : AreSound h w) where
 
   -- ## Acts
 
-  has_act_of : (x : ActView) (i : ℕ) (c : Client) → slice_get w.clients i ≡ Some c → (needs_connection x ≡ true → c.connected ≡ true) → Leads (IsActOf h w x i c)
-  has_act_of step.join i c at on = stays (No Taken)
-  has_act_of (step.edit e) i c at on = has_edited i c at e
-  has_act_of (step.need path) i c at on = has_needed i c at path
-  has_act_of step.begin i c at on = has_begun i c at
-  has_act_of step.commit i c at on = has_committed i c at
-  has_act_of step.abort i c at on = has_aborted i c at
-  has_act_of (step.undo rev) i c at on = has_undone i c at rev
-  has_act_of step.sequence i c at on = has_sent i c at c.queue refl
-  has_act_of step.ack i c at on = has_acked i c at (on refl)
-  has_act_of step.deliver i c at on = has_delivered i c at
-  has_act_of step.leave i c at on = has_left i c at
-  has_act_of step.drop_client i c at on = has_dropped i c at
-  has_act_of step.reconnect i c at on = has_returned i c at
-  has_act_of step.show i c at on = let r = has_shown i c at in (w, r.0, (refl, r.1), s)
+  -- the steps of branches lead on
+  pub record BranchesLead (i : ℕ) (c : Client) (k : ℕ) (l : Line) : Type 0 where
+    pub forks : Leads (IsForked w i c k l)
+    pub rebases : Leads (IsRebasedBy h w i c k)
+    pub merges : Leads (IsMergedBy h w i c k)
+    pub drops : Leads (IsBranchDropped w i c k)
+
+  has_act_of : (x : ActView) (i : ℕ) (c : Client) (k : ℕ) (l : Line) → slice_get w.clients i ≡ Some c → LineGoes h st w.log w.clients i c k l → BranchesLead i c k l → (needs_connection x ≡ true → c.connected ≡ true) → Leads (IsActOf h w x i c k l)
+  has_act_of step.join i c k l at g b on = stays (No Taken)
+  has_act_of (step.edit e) i c k l at g b on = has_edited i c at k l g e
+  has_act_of (step.need path) i c k l at g b on = has_needed i c at k l g path
+  has_act_of step.begin i c k l at g b on = has_begun i c at k l g
+  has_act_of step.commit i c k l at g b on = has_committed i c at k l g
+  has_act_of step.abort i c k l at g b on = has_aborted i c at k l g
+  has_act_of (step.undo rev) i c k l at g b on = has_undone i c at rev
+  has_act_of step.sequence i c k l at g b on = has_sent i c at c.queue refl
+  has_act_of step.ack i c k l at g b on = has_acked i c at (on refl)
+  has_act_of step.deliver i c k l at g b on = has_delivered i c at
+  has_act_of step.leave i c k l at g b on = has_left i c at
+  has_act_of step.drop_client i c k l at g b on = has_dropped i c at
+  has_act_of step.reconnect i c k l at g b on = has_returned i c at
+  has_act_of step.fork i c k l at g b on = b.forks
+  has_act_of step.rebase i c k l at g b on = b.rebases
+  has_act_of step.merge i c k l at g b on = b.merges
+  has_act_of step.drop_branch i c k l at g b on = b.drops
+  has_act_of step.show i c k l at g b on = let r = has_shown i c at k l g in (w, r.0, (refl, r.1), s)
 
   has_act_of_none : (name : List ℕ) (x : ActView) → Leads (λ v a. act_of_none w name x ≡ (v, a))
   has_act_of_none name step.join = has_joined name
@@ -346,30 +363,38 @@ module _ (h : HeaderView) (w : WorldState) (s : AreSound h w) where
   has_act_of_none name step.leave = (w, No NoClient, refl, s)
   has_act_of_none name step.drop_client = (w, No NoClient, refl, s)
   has_act_of_none name step.reconnect = (w, No NoClient, refl, s)
+  has_act_of_none name step.fork = (w, No NoClient, refl, s)
+  has_act_of_none name step.rebase = (w, No NoClient, refl, s)
+  has_act_of_none name step.merge = (w, No NoClient, refl, s)
+  has_act_of_none name step.drop_branch = (w, No NoClient, refl, s)
   has_act_of_none name step.show = (w, No NoClient, refl, s)
 
   -- ## Steps
 
-  pub leads_on : (x : StepView) → Leads (IsNext h w x)
-  leads_on x = place (place_of x.client w.clients)
-    where
-      by : (needs connected : Bool) (i : ℕ) (c : Client) → ((needs ≡ true → connected ≡ true) → Leads (IsActOf h w x.act i c)) → Leads (λ v a. ByConnected needs connected w v a (IsActOf h w x.act i c v a))
-      by false connected i c onward = onward (λ e. absurd (cc))
-      by true true i c onward = onward (λ e. refl)
-      by true false i c onward = stays (No NotConnected)
+  -- each line of a client goes on, and so do the steps of branches there
+  pub record AllLead : Type 0 where
+    pub lines : (i : ℕ) (c : Client) (k : ℕ) (l : Line) → slice_get w.clients i ≡ Some c → line_of c k ≡ Some l → LineGoes h st w.log w.clients i c k l
+    pub branches : (i : ℕ) (c : Client) (k : ℕ) (l : Line) → slice_get w.clients i ≡ Some c → line_of c k ≡ Some l → BranchesLead i c k l
 
-      on : (branch i : ℕ) (c : Client) → Leads (λ v a. ByConnected (needs_connection x.act) c.connected w v a (IsActOf h w x.act i c v a))
-          → Leads (λ v a. OnBranch branch w v a (ByConnected (needs_connection x.act) c.connected w v a (IsActOf h w x.act i c v a)))
-      on zero i c onward = onward
-      on (suc k) i c onward = stays (No NoBranch)
+  pub leads_on : AllLead → (x : StepView) → Leads (IsNext h w x)
+  leads_on all x = place (place_of x.client w.clients)
+    where
+      by : (needs connected : Bool) (i : ℕ) (c : Client) (k : ℕ) (l : Line) → ((needs ≡ true → connected ≡ true) → Leads (IsActOf h w x.act i c k l)) → Leads (λ v a. ByConnected needs connected w v a (IsActOf h w x.act i c k l v a))
+      by false connected i c k l onward = onward (λ e. absurd (cc))
+      by true true i c k l onward = onward (λ e. refl)
+      by true false i c k l onward = stays (No NotConnected)
+
+      on : (i : ℕ) (c : Client) (k : ℕ) (o : Option Line) → line_of c k ≡ o → slice_get w.clients i ≡ Some c → Leads (λ v a. OnLine w (λ l. ByConnected (needs_connection x.act) c.connected w v a (IsActOf h w x.act i c k l v a)) o v a)
+      on i c k None is at = stays (No NoBranch)
+      on i c k (Some l) is at = by (needs_connection x.act) c.connected i c k l (has_act_of x.act i c k l at (all.lines i c k l at is) (all.branches i c k l at is))
 
       client_at : (i : ℕ) (o : Option Client) → slice_get w.clients i ≡ o → Leads (AtClient h w x (option_map (λ c. (i, c)) o))
       client_at i None at = has_act_of_none x.client x.act
-      client_at i (Some c) at = on (branch_at x.branch x.act) i c (by (needs_connection x.act) c.connected i c (has_act_of x.act i c at))
+      client_at i (Some c) at = on i c (branch_at x.branch x.act) (line_of c (branch_at x.branch x.act)) refl at
 
       place : (o : Option ℕ) → Leads (AtClient h w x (option_and_then (λ i. option_map (λ c. (i, c)) (slice_get w.clients i)) o))
       place None = has_act_of_none x.client x.act
       place (Some i) = client_at i (slice_get w.clients i) refl
 
-pub has_next : (w : World) (s : StepView) → IsSound w → (v : WorldState) × (a : Answer) × IsNext (header_view w.header) w.lists s v a
-has_next w s sound = let r = leads_on (header_view w.header) w.lists (lists_sound w sound) s in (r.0, r.1, r.2)
+pub has_next : (w : World) (s : StepView) (sound : IsSound w) → AllLead (header_view w.header) w.lists (lists_sound w sound) → (v : WorldState) × (a : Answer) × IsNext (header_view w.header) w.lists s v a
+has_next w s sound all = let r = leads_on (header_view w.header) w.lists (lists_sound w sound) all s in (r.0, r.1, r.2)

@@ -1,4 +1,8 @@
 -- A client that comes back: what it missed is carried out, and what waits after it.
+use Rattle.st_lists.specs.Clients.{joined_of, with_connection}
+use Rattle.st_lists.specs.Names.{names_in, names_on_all}
+use Rattle.st_trace.proofs.Clients.{received_sound}
+use Rattle.st_trace.proofs.Parts.{names_edited}
 use Rattle.std.proofs.Common.{◌≡◌, ◌≤◌, ◌+◌, ℕ, suc, List, [], ◌∷◌, length, length-append, take, drop, Option, Some, None, IfSome, refl, sym, ap, ◌∙◌, subst, arith}
 use Rattle.std.specs.List.{cons_option, slice_get, slice_set}
 use Rattle.st_marks.specs.declared.intents.Intent.{Intent}
@@ -14,10 +18,8 @@ use Rattle.st_script.specs.Header.{HeaderView, header_view}
 use Rattle.st_script.specs.declared.answer.Answer.TheVariants.{Drop, Leave as Leaves, No, Reconnect}
 use Rattle.st_script.specs.declared.refusal.Refusal.{Refusal}
 use Rattle.st_ids.specs.declared.names.Limit.{Limit}
-use Rattle.st_lists.specs.Clients.{with_connection}
 use Rattle.st_lists.specs.Limits.{entries_limit_passed}
 use Rattle.st_lists.specs.Log.{commit_of, commits_by, commits_in, own_in_flight, waiting}
-use Rattle.st_lists.specs.Names.{names_in}
 use Rattle.st_lists.specs.declared.lists.Client.{Client}
 use Rattle.st_lists.specs.declared.lists.Entry.{Entry}
 use Rattle.st_lists.specs.declared.lists.WorldState.{WorldState}
@@ -28,7 +30,6 @@ use Rattle.st_trace.specs.declared.replica.Replica.{Replica}
 use Rattle.st_trace.specs.declared.world.World.{World}
 use Rattle.st_trace.specs.inside.Replicas.{HasEntered}
 use Rattle.st_trace.proofs.Acting.{one_at}
-use Rattle.st_trace.proofs.Clients.{received_sound, waiting_few}
 use Rattle.st_trace.proofs.Keeping.{AreOne}
 use Rattle.st_trace.proofs.Stepping.{run_entered, start_of}
 
@@ -87,8 +88,14 @@ module _ (w : World) (i : ℕ) (c : Client) (k : Replica) (s : IsSound w) (at_c 
   pub waiting_fits : (D : Document) → Run (document_of k.received) (commits_in (drop c.received log)) D → FitInTurn D (waiting log c)
   waiting_fits D run = rest_fit (waiting log c) (subst (λ l. Run (opening_document h) l D) (sym (commits_split c.received log)) (run_then one.kept.received run)) one.client.sent_fit
 
-  pub few_waiting : names_in (waiting log c) ≤ 16384
-  few_waiting = waiting_few h (start_of w w.steps s) log c one.client
+  pub few_kept : k.names ≤ 16384
+  few_kept = omega (arith, one.kept.names, one.client.few_names)
+
+  -- the names of what is pending are among those that wait
+  pub pending_kept : names_in c.pending ≤ k.names
+  pending_kept =
+      let waiting : k.names ≡ (names_edited (joined_of c) + names_in c.pending) + names_on_all c.branches = one.kept.names in
+      omega (arith, waiting)
 
 -- ## What is kept of as many
 

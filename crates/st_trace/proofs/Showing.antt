@@ -1,6 +1,13 @@
 -- A tree that a step shows is one that the schema allows.
-use Rattle.std.proofs.Common.{◌≡◌, ℕ, zero, suc, Bool, true, false, cond, nat_le, List, [], ◌∷◌, ◌++◌, length, Option, Some, None, IfSome, option_map, option_and_then, Result, Ok, Err, refl, sym, ap, ◌∙◌, subst}
-use Rattle.std.specs.List.{slice_get}
+use Rattle.std.specs.List.{slice_set, slice_get}
+use Rattle.st_lists.specs.Limits.{own_limit_passed, entries_limit_passed, limit_passed, log_limit_passed, names_limit_passed}
+use Rattle.st_lists.specs.declared.lists.Branch.{Branch}
+use Rattle.st_marks.proofs.Members.{all-has}
+use Rattle.st_marks.specs.Document.{IsSoundInForm, Document}
+use Rattle.st_script.specs.declared.refusal.Refusal.TheVariants.{HasChildren}
+use Rattle.st_trace.specs.Replicas.{BranchesKeepSchema, CommitsKeepSchema, EditsKeepSchema, IsClient, IsSound, IsTransaction}
+use Rattle.st_trace.specs.World.{OnLine, OnOwnBranch, OnParent, with_new_on, HasShown, IsActOf, IsAfterEdit, IsAfterNeed, IsAllowedText, IsDeliveredIn, IsDeliveredTo, IsEditedIn, IsJoined, IsNext, AtClient, ByConnected, ShowsAllowed, abort, act_of_none, answer_of, after_edit, begin, branch_at, after_entry, commit, after_commit, drop_client, join, leave, needs_connection, reconnect, refusal_to_reconnect, last_in_effect, opening_document, with_beginning, with_client, sequence, word_of}
+use Rattle.std.proofs.Common.{◌≡◌, ℕ, zero, suc, Bool, true, false, cond, nat_le, List, [], ◌∷◌, length, Option, Some, None, IfSome, option_map, option_and_then, Result, Ok, Err, refl, sym, ap, ◌∙◌, subst}
 use Rattle.serde_json.specs.Written.{compact_text}
 use Rattle.st_ids.specs.declared.names.Limit.{Limit}
 use Rattle.st_ids.specs.declared.names.Rev.{Rev}
@@ -9,7 +16,6 @@ use Rattle.st_ids.specs.declared.names.NodeId.{NodeId}
 use Rattle.st_tree.specs.declared.edit.EditFault.{EditFault}
 use Rattle.st_schema.specs.Schema.{SchemaView}
 use Rattle.st_marks.specs.declared.intents.Intent.{Intent}
-use Rattle.st_marks.specs.Document.{Document}
 use Rattle.st_marks.specs.LiveTree.{IsTreeText}
 use Rattle.st_schema_laws.proofs.InTurn.{list_conforms}
 use Rattle.st_schema_laws.proofs.ShownTree.{shown_conforms}
@@ -18,9 +24,8 @@ use Rattle.st_script.specs.Header.{HeaderView, header_view}
 use Rattle.st_script.specs.Steps.{ActView, StepView}
 use Rattle.st_script.specs.Steps as step
 use Rattle.st_script.specs.declared.answer.Answer.{Answer}
-use Rattle.st_trace.specs.Replicas.{EditsKeepSchema, IsClient, IsSound, IsTransaction}
 use Rattle.st_heads.specs.Transactions.{FitsSoFar, with_open}
-use Rattle.st_lists.specs.Lines.{commits_of, main_line}
+use Rattle.st_lists.specs.Lines.{Line, branch_line, branch_of, commits_of, has_children, line_of, main_line, with_transaction_on, without_branch}
 use Rattle.st_script.specs.declared.answer.Answer.TheVariants as answer
 use Rattle.st_script.specs.declared.refusal.Refusal.{Refusal}
 use Rattle.st_trace.specs.Kept.{Unless}
@@ -30,24 +35,26 @@ use Rattle.st_marks.proofs.OneVerdict.{one_run}
 use Rattle.st_schema_laws.specs.Conforming.{IsConforming}
 use Rattle.st_trace.proofs.Agreed.{open_conforms}
 use Rattle.st_trace.proofs.Begun.{IsStart}
-use Rattle.st_trace.proofs.Clients.{shown_sound}
-use Rattle.st_trace.proofs.Parts.{editable}
-use Rattle.st_trace.specs.World.{HasShown, IsActOf, IsAfterEdit, IsAfterNeed, IsAllowedText, IsDeliveredIn, IsDeliveredTo, IsEditedIn, IsJoined, IsNext, AtClient, ByConnected, OnBranch, ShowsAllowed, abort, act_of_none, answer_of, after_edit, begin, branch_at, after_entry, commit, after_commit, drop_client, join, leave, needs_connection, reconnect, refusal_to_reconnect, last_in_effect, opening_document, with_beginning, with_client, with_pending, sequence, word_of}
-use Rattle.st_lists.specs.Clients.{with_ack, next_rev, place_of, received_by, without_transaction}
-use Rattle.st_lists.specs.Limits.{entries_limit_passed, limit_passed, log_limit_passed, names_limit_passed, pending_limit_passed}
+use Rattle.st_trace.proofs.Clients.{head_sound}
+use Rattle.st_trace.proofs.Among.{line_fit, line_transaction}
+use Rattle.st_trace.proofs.BranchesAgree.{line_agrees}
+use Rattle.st_trace.proofs.LineActs.{line_editable}
+use Rattle.st_trace.proofs.Lookup.{branch_there, line_there}
+use Rattle.st_trace.specs.Branches.{IsMerged, IsRebased, drop_branch, fork, refusal_to_fork, refusal_to_merge, refusal_to_rebase}
+use Rattle.st_lists.specs.Clients.{with_ack, next_rev, place_of}
 use Rattle.st_lists.specs.Names.{names_in_text}
 use Rattle.st_trace.specs.declared.client.EditWord.{EditWord}
 use Rattle.st_lists.specs.declared.lists.Client.{Client}
 use Rattle.st_lists.specs.declared.lists.Entry.{Entry}
 use Rattle.st_lists.specs.declared.lists.WorldState.{WorldState}
 use Rattle.st_trace.specs.declared.world.World.{World}
-use Rattle.st_schema_laws.specs.Agreeing.{KeepSchemaInTurn, KeepsSchema}
+use Rattle.st_schema_laws.specs.Agreeing.{KeepsSchema}
 use Rattle.st_trace.proofs.Everyone.{all_get, kept_some}
 use Rattle.st_trace.proofs.Stepping.{start_of}
 use Rattle.st_lists.specs.declared.lists.Body.{Body}
 
--- what a client shows conforms to the schema
-module _ (w : World) (i : ℕ) (c : Client) (E : Document) (s : IsSound w) (at : slice_get w.lists.clients i ≡ Some c) (shown : HasShown (opening_document (header_view w.header)) w.lists.log (main_line c) E) where
+-- what a line of a client shows conforms to the schema
+module _ (w : World) (i : ℕ) (c : Client) (j : ℕ) (l : Line) (E : Document) (s : IsSound w) (at : slice_get w.lists.clients i ≡ Some c) (line : line_of c j ≡ Some l) (shown : HasShown (opening_document (header_view w.header)) w.lists.log l E) where
   abbrev h : HeaderView
   h = header_view w.header
 
@@ -63,27 +70,46 @@ module _ (w : World) (i : ℕ) (c : Client) (E : Document) (s : IsSound w) (at :
   k : IsClient h log c
   k = kept_some h log w.lists.clients w.kept i c s.kept at
 
-  here : IsConforming h.schema home shown.0
-  here = list_conforms h.schema home st.sound k.shown_fit s.schema.1.start (all_get (λ (c : Client). KeepSchemaInTurn h.schema home (opening_document h) (received_by log c ++ c.pending)) w.lists.clients i c s.schema.1.shown at) shown.1
+  sound : IsSoundInForm E
+  sound = (line_editable h st log c k j l line E shown).sound
 
-  with_edits : (o : Option Transaction) → IfSome o (IsTransaction h log c) → IfSome (option_and_then (λ (t : Transaction). t.joined) o) (KeepsSchema h.schema home shown.0)
+  on_main : CommitsKeepSchema h home log (main_line c)
+  on_main = all_get (λ (x : Client). CommitsKeepSchema h home log (main_line x)) w.lists.clients i c s.schema.1.shown at
+
+  on_branches : BranchesKeepSchema h home log c
+  on_branches = all_get (BranchesKeepSchema h home log) w.lists.clients i c s.schema.1.branches at
+
+  here : IsConforming h.schema home shown.0
+  here = list_conforms h.schema home st.sound (line_fit h st log c k j l line) s.schema.1.start (line_agrees h st home log c j l line on_main on_branches) shown.1
+
+  edits : EditsKeepSchema h home log l
+  edits = go j line
+    where
+      go : (j : ℕ) → line_of c j ≡ Some l → EditsKeepSchema h home log l
+      go zero e =
+          let same : main_line c ≡ l = cc in
+          subst (EditsKeepSchema h home log) same (all_get (λ (x : Client). EditsKeepSchema h home log (main_line x)) w.lists.clients i c s.schema.1.edited at)
+      go (suc n) e =
+          let b = line_there c n l e in
+          let there = branch_there c (suc n) b.0 b.1 in
+          subst (EditsKeepSchema h home log) b.2 (all-has (λ (b : Branch). CommitsKeepSchema h home log (branch_line b) × EditsKeepSchema h home log (branch_line b)) c.branches b.0 on_branches there.0).1
+
+  with_edits : (o : Option Transaction) → IfSome o (IsTransaction h log l c) → IfSome (option_and_then (λ (t : Transaction). t.joined) o) (KeepsSchema h.schema home shown.0)
       → IsConforming h.schema home (with_open shown.0 (option_and_then (λ (t : Transaction). t.joined) o))
   with_edits None x a = here
   with_edits (Some t) x a =
       let so = subst (λ F. FitsSoFar F t.rev t.under t.joined) (one_run x.main shown.1) x.so_far in
-      open_conforms h st home shown.0 t.rev t.under t.joined (shown_sound h st log c shown.0 k shown.1) so here a
+      open_conforms h st home shown.0 t.rev t.under t.joined (head_sound h st log l shown.0 (line_fit h st log c k j l line) shown.1) so here a
 
   shown_conforming : IsConforming h.schema home E
-  shown_conforming = subst (IsConforming h.schema home) (sym shown.2) (with_edits c.transaction k.transaction (all_get (EditsKeepSchema h home log) w.lists.clients i c s.schema.1.edited at shown.0 shown.1))
+  shown_conforming = subst (IsConforming h.schema home) (sym shown.2) (with_edits l.transaction (line_transaction h st log c k j l line) (edits shown.0 shown.1))
 
--- the text of what a client shows
-text_allowed : (w : World) (i : ℕ) (c : Client) (E : Document) (text : List ℕ) → IsSound w → slice_get w.lists.clients i ≡ Some c → HasShown (opening_document (header_view w.header)) w.lists.log (main_line c) E → IsTreeText (is_array_type w.header.schema) E text
+-- the text of what a line shows
+text_allowed : (w : World) (i : ℕ) (c : Client) (j : ℕ) (l : Line) (E : Document) (text : List ℕ) → IsSound w → slice_get w.lists.clients i ≡ Some c → line_of c j ≡ Some l → HasShown (opening_document (header_view w.header)) w.lists.log l E → IsTreeText (is_array_type w.header.schema) E text
     → IsAllowedText w.header.schema text
-text_allowed w i c E text s at shown is =
+text_allowed w i c j l E text s at line shown is =
     let h = header_view w.header in
-    let k = kept_some h w.lists.log w.lists.clients w.kept i c s.kept at in
-    let sound = (editable h (start_of w w.steps s) w.lists.log c E k shown).sound in
-    let tree = shown_conforms h.schema s.header.schema s.schema.0 E sound (shown_conforming w i c E s at shown) (is_array_type h.schema) (λ ty. refl) is.0 is.1 in
+    let tree = shown_conforms h.schema s.header.schema s.schema.0 E (sound w i c j l E s at line shown) (shown_conforming w i c j l E s at line shown) (is_array_type h.schema) (λ ty. refl) is.0 is.1 in
     (tree.0, tree.2, is.2 ∙ ap compact_text (sym tree.1))
 
 either : {A : Type 0} (P : A → Type 0) (b : Bool) (x y : A) → P x → P y → P (cond b x y)
@@ -119,15 +145,19 @@ module _ (s : SchemaView) where
   none_fine w name step.leave = tt
   none_fine w name step.drop_client = tt
   none_fine w name step.reconnect = tt
+  none_fine w name step.fork = tt
+  none_fine w name step.rebase = tt
+  none_fine w name step.merge = tt
+  none_fine w name step.drop_branch = tt
   none_fine w name step.show = tt
 
-  edited_fine : (c : Client) (word : EditWord) (r : Result Intent EditFault) → ShowsAllowed s (after_edit c word r).1
-  edited_fine c word (Err f) = tt
-  edited_fine c word (Ok N) = go (limit_passed c N)
+  edited_fine : (c : Client) (k : ℕ) (l : Line) (word : EditWord) (r : Result Intent EditFault) → ShowsAllowed s (after_edit c k l word r).1
+  edited_fine c k l word (Err f) = tt
+  edited_fine c k l word (Ok N) = go (limit_passed c k l N)
     where
-      go : (o : Option Limit) → ShowsAllowed s (with_pending c word N o).1
+      go : (o : Option Limit) → ShowsAllowed s (with_new_on c k word N o).1
       go None = answered_fine word (next_rev c)
-      go (Some l) = tt
+      go (Some over) = tt
 
   sequence_fine : (w : WorldState) (i : ℕ) (c : Client) (texts : List Body) → Fine (sequence w i c texts)
   sequence_fine w i c [] = tt
@@ -156,41 +186,69 @@ module _ (s : SchemaView) where
   one_fine : (p : WorldState × Answer) (v : WorldState) (a : Answer) → p ≡ (v, a) → Fine p → ShowsAllowed s a
   one_fine p v a is fine = subst (ShowsAllowed s) (ap (λ (q : WorldState × Answer). q.1) is) fine
 
-  edited_in_fine : (c d : Client) (t : Transaction) (word : EditWord) (r : Result Intent EditFault) (a : Answer) → IsEditedIn c t word r d a → ShowsAllowed s a
-  edited_in_fine c d t word (Err f) a is = subst (ShowsAllowed s) (sym is.1) tt
-  edited_in_fine c d t word (Ok M) a is = go (names_limit_passed c M) is
+  edited_in_fine : (c d : Client) (k : ℕ) (t : Transaction) (word : EditWord) (r : Result Intent EditFault) (a : Answer) → IsEditedIn c k t word r d a → ShowsAllowed s a
+  edited_in_fine c d k t word (Err f) a is = subst (ShowsAllowed s) (sym is.1) tt
+  edited_in_fine c d k t word (Ok M) a is = go (names_limit_passed c M) is
     where
-      go : (o : Option Limit) → IsJoined c t word M o d a → ShowsAllowed s a
+      go : (o : Option Limit) → IsJoined c k t word M o d a → ShowsAllowed s a
       go None is = subst (ShowsAllowed s) (sym is.3) (answered_fine word t.rev)
-      go (Some l) is = subst (ShowsAllowed s) (sym is.1) tt
+      go (Some over) is = subst (ShowsAllowed s) (sym is.1) tt
 
-  edit_fine : (c d : Client) (o : Option Transaction) (word : EditWord) (r : Result Intent EditFault) (a : Answer) → IsAfterEdit c o word r d a → ShowsAllowed s a
-  edit_fine c d None word r a is = subst (ShowsAllowed s) (ap (λ (q : Client × Answer). q.1) is) (edited_fine c word r)
-  edit_fine c d (Some t) word r a is = edited_in_fine c d t word r a is
+  edit_fine : (c d : Client) (k : ℕ) (l : Line) (o : Option Transaction) (word : EditWord) (r : Result Intent EditFault) (a : Answer) → IsAfterEdit c k l o word r d a → ShowsAllowed s a
+  edit_fine c d k l None word r a is = subst (ShowsAllowed s) (ap (λ (q : Client × Answer). q.1) is) (edited_fine c k l word r)
+  edit_fine c d k l (Some t) word r a is = edited_in_fine c d k t word r a is
 
-  need_fine : (c d : Client) (o : Option Transaction) (r : Result Intent EditFault) (a : Answer) → IsAfterNeed c o r d a → ShowsAllowed s a
-  need_fine c d None r a is = subst (ShowsAllowed s) (sym is.1) tt
-  need_fine c d (Some t) r a is = edited_in_fine c d t EditWord.Need r a is
+  need_fine : (c d : Client) (k : ℕ) (o : Option Transaction) (r : Result Intent EditFault) (a : Answer) → IsAfterNeed c k o r d a → ShowsAllowed s a
+  need_fine c d k None r a is = subst (ShowsAllowed s) (sym is.1) tt
+  need_fine c d k (Some t) r a is = edited_in_fine c d k t EditWord.Need r a is
 
-  begin_fine : (c : Client) (o : Option Transaction) (under : Rev) → ShowsAllowed s (begin c o under).1
-  begin_fine c (Some t) under = tt
-  begin_fine c None under = go (pending_limit_passed c)
+  begin_fine : (c : Client) (k : ℕ) (l : Line) (o : Option Transaction) (under : Rev) → ShowsAllowed s (begin c k l o under).1
+  begin_fine c k l (Some t) under = tt
+  begin_fine c k l None under = go (own_limit_passed k l 1)
     where
-      go : (o : Option Limit) → ShowsAllowed s (with_beginning c under o).1
+      go : (o : Option Limit) → ShowsAllowed s (with_beginning c k under o).1
       go None = tt
-      go (Some l) = tt
+      go (Some over) = tt
 
-  commit_fine : (c : Client) (o : Option Transaction) → ShowsAllowed s (commit c o).1
-  commit_fine c None = tt
-  commit_fine c (Some t) = go t.joined
+  commit_fine : (c : Client) (k : ℕ) (o : Option Transaction) → ShowsAllowed s (commit c k o).1
+  commit_fine c k None = tt
+  commit_fine c k (Some t) = go t.joined
     where
-      go : (o : Option Intent) → ShowsAllowed s (after_commit (without_transaction c) t.rev o).1
+      go : (o : Option Intent) → ShowsAllowed s (after_commit (with_transaction_on c k None) k t.rev o).1
       go None = tt
       go (Some J) = tt
 
-  abort_fine : (c : Client) (o : Option Transaction) → ShowsAllowed s (abort c o).1
-  abort_fine c None = tt
-  abort_fine c (Some t) = tt
+  abort_fine : (c : Client) (k : ℕ) (o : Option Transaction) → ShowsAllowed s (abort c k o).1
+  abort_fine c k None = tt
+  abort_fine c k (Some t) = tt
+
+  fork_fine : (c : Client) (k : ℕ) (l : Line) (o : Option Refusal) → ShowsAllowed s (fork c k l o).1
+  fork_fine c k l None = tt
+  fork_fine c k l (Some why) = tt
+
+  drop_branch_fine : (c : Client) (k : ℕ) → ShowsAllowed s (drop_branch c k).1
+  drop_branch_fine c k = go (has_children c k)
+    where
+      go : (t : Bool) → ShowsAllowed s (cond {A = Client × Answer} t (c, answer.No HasChildren) (without_branch c k, answer.DropBranch)).1
+      go true = tt
+      go false = tt
+
+  -- a step by the parent's line of a branch, where each answer shows what is allowed
+  on_own_fine : (w v : WorldState) (c : Client) (does : Branch → Line → Type 0) (a : Answer) → ((b : Branch) (l : Line) → does b l → ShowsAllowed s a) → (o : Option Branch) → OnOwnBranch w c does o v a → ShowsAllowed s a
+  on_own_fine w v c does a fine None is = subst (ShowsAllowed s) (sym is.1) tt
+  on_own_fine w v c does a fine (Some b) is = go (line_of c b.parent) is
+    where
+      go : (o : Option Line) → OnParent w (does b) o v a → ShowsAllowed s a
+      go None is = subst (ShowsAllowed s) (sym is.1) tt
+      go (Some l) is = fine b l is
+
+  rebased_fine : (O : Document) (log : List Entry) (c d : Client) (k : ℕ) (b : Branch) (l : Line) (o : Option Refusal) (a : Answer) → Unless o c d a (IsRebased O log c k b l d a) → ShowsAllowed s a
+  rebased_fine O log c d k b l (Some why) a is = subst (ShowsAllowed s) (sym is.1) tt
+  rebased_fine O log c d k b l None a is = subst (ShowsAllowed s) (sym is.5) tt
+
+  merged_fine : (O : Document) (log : List Entry) (c d : Client) (k : ℕ) (b : Branch) (l : Line) (o : Option Refusal) (a : Answer) → Unless o c d a (IsMerged O log c k b l d a) → ShowsAllowed s a
+  merged_fine O log c d k b l (Some why) a is = subst (ShowsAllowed s) (sym is.1) tt
+  merged_fine O log c d k b l None a is = subst (ShowsAllowed s) (sym is.5) tt
 
   undo_fine : (O : Document) (history : ℕ) (log : List Entry) (c d : Client) (o : Option Transaction) (rev : Rev) (a : Answer) → IsAfterUndo O history log c o rev d a → ShowsAllowed s a
   undo_fine O history es c d (Some t) rev a is = subst (ShowsAllowed s) (sym is.1) tt
@@ -209,24 +267,36 @@ module _ (s : SchemaView) where
   delivered_fine D c d (Some t) next a is = subst (ShowsAllowed s) (sym is.1) tt
 
 -- what the client at the place does
-of_fine : (w : World) (x : ActView) (i : ℕ) (c : Client) (v : WorldState) (a : Answer) → IsSound w → slice_get w.lists.clients i ≡ Some c → IsActOf (header_view w.header) w.lists x i c v a → ShowsAllowed w.header.schema a
-of_fine w step.join i c v a sound at is = subst (ShowsAllowed w.header.schema) (sym is.1) tt
-of_fine w (step.edit e) i c v a sound at is = edit_fine w.header.schema c is.1 c.transaction (word_of e) _ a is.3
-of_fine w (step.need path) i c v a sound at is = need_fine w.header.schema c is.1 c.transaction _ a is.3
-of_fine w step.begin i c v a sound at is = subst (ShowsAllowed w.header.schema) (ap (λ (q : Client × Answer). q.1) is.3) (begin_fine w.header.schema c c.transaction (last_in_effect is.0))
-of_fine w step.commit i c v a sound at is = one_fine w.header.schema (with_client w.lists i (commit c c.transaction)) v a is (commit_fine w.header.schema c c.transaction)
-of_fine w step.abort i c v a sound at is = one_fine w.header.schema (with_client w.lists i (abort c c.transaction)) v a is (abort_fine w.header.schema c c.transaction)
-of_fine w (step.undo rev) i c v a sound at is = undo_fine w.header.schema (opening_document (header_view w.header)) w.header.history w.lists.log c is.0 c.transaction rev a is.1
-of_fine w step.sequence i c v a sound at is = one_fine w.header.schema (sequence w.lists i c c.queue) v a is (sequence_fine w.header.schema w.lists i c c.queue)
-of_fine w step.ack i c v a sound at is = one_fine w.header.schema (with_client w.lists i (with_ack c, answer.Ack c.received)) v a is tt
-of_fine w step.deliver i c v a sound at is = delivered_fine w.header.schema is.0 c is.1 c.transaction (slice_get w.lists.log c.received) a is.3
-of_fine w step.leave i c v a sound at is = one_fine w.header.schema (leave w.lists i c (entries_limit_passed w.lists.log)) v a is (leave_fine w.header.schema w.lists i c (entries_limit_passed w.lists.log))
-of_fine w step.drop_client i c v a sound at is = one_fine w.header.schema (drop_client w.lists i c (entries_limit_passed w.lists.log)) v a is (drop_fine w.header.schema w.lists i c (entries_limit_passed w.lists.log))
-of_fine w step.reconnect i c v a sound at is =
+of_fine : (w : World) (x : ActView) (i : ℕ) (c : Client) (k : ℕ) (l : Line) (v : WorldState) (a : Answer) → IsSound w → slice_get w.lists.clients i ≡ Some c → line_of c k ≡ Some l → IsActOf (header_view w.header) w.lists x i c k l v a → ShowsAllowed w.header.schema a
+of_fine w step.join i c k l v a sound at line is = subst (ShowsAllowed w.header.schema) (sym is.1) tt
+of_fine w (step.edit e) i c k l v a sound at line is = edit_fine w.header.schema c is.1 k l l.transaction (word_of e) _ a is.3
+of_fine w (step.need path) i c k l v a sound at line is = need_fine w.header.schema c is.1 k l.transaction _ a is.3
+of_fine w step.begin i c k l v a sound at line is = subst (ShowsAllowed w.header.schema) (ap (λ (q : Client × Answer). q.1) is.3) (begin_fine w.header.schema c k l l.transaction (last_in_effect is.0))
+of_fine w step.commit i c k l v a sound at line is = one_fine w.header.schema (with_client w.lists i (commit c k l.transaction)) v a is (commit_fine w.header.schema c k l.transaction)
+of_fine w step.abort i c k l v a sound at line is = one_fine w.header.schema (with_client w.lists i (abort c k l.transaction)) v a is (abort_fine w.header.schema c k l.transaction)
+of_fine w (step.undo rev) i c k l v a sound at line is = undo_fine w.header.schema (opening_document (header_view w.header)) w.header.history w.lists.log c is.0 c.transaction rev a is.1
+of_fine w step.sequence i c k l v a sound at line is = one_fine w.header.schema (sequence w.lists i c c.queue) v a is (sequence_fine w.header.schema w.lists i c c.queue)
+of_fine w step.ack i c k l v a sound at line is = one_fine w.header.schema (with_client w.lists i (with_ack c, answer.Ack c.received)) v a is tt
+of_fine w step.deliver i c k l v a sound at line is = delivered_fine w.header.schema is.0 c is.1 c.transaction (slice_get w.lists.log c.received) a is.3
+of_fine w step.leave i c k l v a sound at line is = one_fine w.header.schema (leave w.lists i c (entries_limit_passed w.lists.log)) v a is (leave_fine w.header.schema w.lists i c (entries_limit_passed w.lists.log))
+of_fine w step.drop_client i c k l v a sound at line is = one_fine w.header.schema (drop_client w.lists i c (entries_limit_passed w.lists.log)) v a is (drop_fine w.header.schema w.lists i c (entries_limit_passed w.lists.log))
+of_fine w step.reconnect i c k l v a sound at line is =
     one_fine w.header.schema (reconnect w.lists i c (refusal_to_reconnect w.lists.log c)) v a is (reconnect_fine w.header.schema w.lists i c (refusal_to_reconnect w.lists.log c))
-of_fine w step.show i c v a sound at is =
+of_fine w step.fork i c k l v a sound at line is = one_fine w.header.schema (with_client w.lists i (fork c k l (refusal_to_fork c l))) v a is (fork_fine w.header.schema c k l (refusal_to_fork c l))
+of_fine w step.rebase i c k l v a sound at line is =
+    let h = header_view w.header in
+    on_own_fine w.header.schema w.lists v c (λ b parent. (d : Client) × Unless (refusal_to_rebase b) c d a (IsRebased (opening_document h) w.lists.log c k b parent d a) × (v ≡ record w.lists { clients = slice_set w.lists.clients i d })) a
+    (λ b m p. rebased_fine w.header.schema (opening_document h) w.lists.log c p.0 k b m (refusal_to_rebase b) a p.1) (branch_of c k) is
+of_fine w step.merge i c k l v a sound at line is =
+    let h = header_view w.header in
+    on_own_fine w.header.schema w.lists v c (λ b parent. (d : Client) × Unless (refusal_to_merge c k b parent) c d a (IsMerged (opening_document h) w.lists.log c k b parent d a) × (v ≡ record w.lists { clients = slice_set w.lists.clients i d })) a
+    (λ b m p. merged_fine w.header.schema (opening_document h) w.lists.log c p.0 k b m (refusal_to_merge c k b m) a p.1) (branch_of c k) is
+of_fine w step.drop_branch i c k l v a sound at line is =
+    on_own_fine w.header.schema w.lists v c (λ b parent. with_client w.lists i (drop_branch c k) ≡ (v, a)) a
+    (λ b m p. one_fine w.header.schema (with_client w.lists i (drop_branch c k)) v a p (drop_branch_fine w.header.schema c k)) (branch_of c k) is
+of_fine w step.show i c k l v a sound at line is =
     let shown = is.1 in
-    subst (ShowsAllowed w.header.schema) (sym shown.4) (text_allowed w i c shown.0 shown.1 sound at shown.2 shown.3)
+    subst (ShowsAllowed w.header.schema) (sym shown.4) (text_allowed w i c k l shown.0 shown.1 sound at line shown.2 shown.3)
 
 pub next_allowed : (w : World) (s : StepView) (v : WorldState) (a : Answer) → IsSound w → IsNext (header_view w.header) w.lists s v a → ShowsAllowed w.header.schema a
 next_allowed w s v a sound is = place (place_of s.client w.lists.clients) is
@@ -234,20 +304,19 @@ next_allowed w s v a sound is = place (place_of s.client w.lists.clients) is
     none : act_of_none w.lists s.client s.act ≡ (v, a) → ShowsAllowed w.header.schema a
     none is = one_fine w.header.schema (act_of_none w.lists s.client s.act) v a is (none_fine w.header.schema w.lists s.client s.act)
 
-    on : (branch : ℕ) (next : Type 0) → (next → ShowsAllowed w.header.schema a) → OnBranch branch w.lists v a next → ShowsAllowed w.header.schema a
-    on zero next f is = f is
-    on (suc k) next f is = subst (ShowsAllowed w.header.schema) (sym is.1) tt
-
     by : (needs connected : Bool) (next : Type 0) → (next → ShowsAllowed w.header.schema a) → ByConnected needs connected w.lists v a next → ShowsAllowed w.header.schema a
     by false connected next f is = f is
     by true true next f is = f is
     by true false next f is = subst (ShowsAllowed w.header.schema) (sym is.1) tt
 
+    on : (i : ℕ) (c : Client) (k : ℕ) (o : Option Line) → slice_get w.lists.clients i ≡ Some c → line_of c k ≡ o → OnLine w.lists (λ l. ByConnected (needs_connection s.act) c.connected w.lists v a (IsActOf (header_view w.header) w.lists s.act i c k l v a)) o v a → ShowsAllowed w.header.schema a
+    on i c k None at line is = subst (ShowsAllowed w.header.schema) (sym is.1) tt
+    on i c k (Some l) at line is =
+        by (needs_connection s.act) c.connected (IsActOf (header_view w.header) w.lists s.act i c k l v a) (of_fine w s.act i c k l v a sound at line) is
+
     client : (i : ℕ) (o : Option Client) → slice_get w.lists.clients i ≡ o → AtClient (header_view w.header) w.lists s (option_map (λ c. (i, c)) o) v a → ShowsAllowed w.header.schema a
     client i None at is = none is
-    client i (Some c) at is =
-        on (branch_at s.branch s.act) (ByConnected (needs_connection s.act) c.connected w.lists v a (IsActOf (header_view w.header) w.lists s.act i c v a))
-        (by (needs_connection s.act) c.connected (IsActOf (header_view w.header) w.lists s.act i c v a) (of_fine w s.act i c v a sound at)) is
+    client i (Some c) at is = on i c (branch_at s.branch s.act) (line_of c (branch_at s.branch s.act)) at refl is
 
     place : (o : Option ℕ) → AtClient (header_view w.header) w.lists s (option_and_then (λ i. option_map (λ c. (i, c)) (slice_get w.lists.clients i)) o) v a → ShowsAllowed w.header.schema a
     place None is = none is

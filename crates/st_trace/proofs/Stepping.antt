@@ -1,10 +1,12 @@
 -- The world after a step of one client.
-use Rattle.std.proofs.Common.{◌≡◌, ◌≢◌, ◌≤◌, ◌<◌, ◌+◌, ◌^◌, ◌-◌, ℕ, zero, suc, Bool, true, false, cond, min, not, ◌&&◌, nat_le, nat_lt, List, [], ◌∷◌, ◌++◌, length, length-append, Option, Some, None, IfSome, is_some, refl, sym, ap, ◌∙◌, subst, arith, append_assoc}
+use Rattle.std.proofs.Common.{Bool, IfSome, List, None, Option, Some, [], ap, append_assoc, arith, cond, false, length, length-append, nat_le, nat_lt, refl, subst, sym, true, ℕ, ◌&&◌, ◌++◌, ◌+◌, ◌<◌, ◌∙◌, ◌∷◌, ◌≡◌, ◌≢◌, ◌≤◌}
+use Rattle.std.specs.Prelude.{is_some, min, not, ◌-◌, ◌^◌, nat_eq}
+use Rattle.st_lists.specs.Lines.{Line, own_of}
+use Rattle.st_trace.specs.World.{AtClient, AtLine, ByConnected, IsNext, OnLine, act_of_none, branch_at, opening_document, refusal_to_reconnect, sequence}
 use Rattle.std.specs.List.{AllByRecursion, cons_option, remove, slice_get, slice_set}
 use Rattle.std.specs.BTreeMap.{BTreeMap}
 use Rattle.std.specs.Option.{option_map}
 use Rattle.std.specs.Cmp.Lexicographic.{pointwise}
-use Rattle.std.specs.Prelude.{nat_eq}
 use Rattle.std.proofs.Math.ListN.{length-set}
 use Rattle.std.proofs.lemmas.Bool.Decides.{nat_tests}
 use Rattle.std.proofs.lemmas.List.{append-nil}
@@ -30,14 +32,12 @@ use Rattle.st_script.specs.declared.refusal.Refusal.{Refusal}
 use Rattle.st_script.specs.declared.refusal.Refusal.TheVariants.{Connected, Limit as OverLimit, NotConnected, NothingToSend, NoBranch, Unfinished}
 use Rattle.st_script.specs.Steps.{StepView}
 use Rattle.st_trace.specs.Replicas.{AreReplicas, HaveOwnSessions, IsClient, IsEntryOf, IsReplicaOf, IsSound, IsSoundAfter, KeepToSchema}
-use Rattle.st_lists.specs.Log.{commit_in, commits_of_text, connected_after, intents_of, is_text, log_and_waiting, minimum, sessions_in, waiting}
+use Rattle.st_lists.specs.Log.{commit_in, commits_of_text, connected_after, intents_of, is_text, log_and_waiting, minimum, sessions_in, waiting, commits_in, log_with}
 use Rattle.st_lists.specs.Known.{AreConnected, AreKnown}
 use Rattle.st_lists.proofs.Minima.{minima_more}
 use Rattle.st_lists.proofs.Present.{all_rest, connected_goes, connected_joined, connected_left, connected_stays, distinct_more, distinct_rest, distinct_set, rest_fewer, session_given, session_of, sessions_entered, text_stays}
 use Rattle.st_ids.proofs.Shared.{at_has}
 use Rattle.st_marks.proofs.Members.{all-has}
-use Rattle.st_lists.specs.Log.{commits_in, log_with}
-use Rattle.st_trace.specs.World.{IsActOf, IsNext, AtClient, ByConnected, OnBranch, act_of_none, branch_at, needs_connection, opening_document, refusal_to_reconnect, sequence}
 use Rattle.st_lists.specs.Clients.{new_client, place_of, with_connection, without_connection}
 use Rattle.st_lists.specs.Limits.{entries_limit_passed, log_limit_passed}
 use Rattle.st_lists.specs.Names.{names_in, names_in_text}
@@ -76,6 +76,7 @@ sound_later steps w s = record {
   few_sessions = s.few_sessions;
   clients = s.clients;
   ids = all_as (λ (c : Client). c.ids ≤ steps) (λ (c : Client). c.ids ≤ steps + 1) w.lists.clients (λ c p. omega (arith, p)) s.ids;
+  forks = all_as (λ (c : Client). c.forks ≤ steps) (λ (c : Client). c.forks ≤ steps + 1) w.lists.clients (λ c p. omega (arith, p)) s.forks;
   log = s.log;
   log_fit = s.log_fit;
   log_new = s.log_new;
@@ -92,9 +93,9 @@ sound_later steps w s = record {
 }
 
 -- one client goes on
-pub sound_client : (w : World) (i : ℕ) (c c' : Client) (k' : Replica) → IsSound w → slice_get w.lists.clients i ≡ Some c → AreOne (header_view w.header) w.lists.log c' k' → c'.session ≡ c.session → c'.connected ≡ c.connected → c'.ids ≤ c.ids + 1
+pub sound_client : (w : World) (i : ℕ) (c c' : Client) (k' : Replica) → IsSound w → slice_get w.lists.clients i ≡ Some c → AreOne (header_view w.header) w.lists.log c' k' → c'.session ≡ c.session → c'.connected ≡ c.connected → c'.ids ≤ c.ids + 1 → c'.forks ≤ c.forks + 1
     → KeepToSchema (header_view w.header) w.lists.log (slice_set w.lists.clients i c') → IsSoundAfter (w.steps + 1) (record w { lists = record w.lists { clients = slice_set w.lists.clients i c' }; kept = slice_set w.kept i k' })
-sound_client w i c c' k' s at one session connected ids keeps = record {
+sound_client w i c c' k' s at one session connected ids forks keeps = record {
   header = s.header;
   kept = kept_set (header_view w.header) w.lists.log w.lists.clients w.kept i c' k' s.kept one;
   sessions = distinct_set session_of w.lists.clients i c c' at session s.sessions;
@@ -104,6 +105,8 @@ sound_client w i c c' k' s at one session connected ids keeps = record {
   clients = omega (arith, s.clients, length-set w.lists.clients i c');
   ids = all_set (λ (x : Client). x.ids ≤ w.steps + 1) w.lists.clients i c' (all_as (λ (x : Client). x.ids ≤ w.steps) (λ (x : Client). x.ids ≤ w.steps + 1) w.lists.clients (λ x p. omega (arith, p)) s.ids)
       (omega (arith, ids, all_get (λ (x : Client). x.ids ≤ w.steps) w.lists.clients i c s.ids at));
+  forks = all_set (λ (x : Client). x.forks ≤ w.steps + 1) w.lists.clients i c' (all_as (λ (x : Client). x.forks ≤ w.steps) (λ (x : Client). x.forks ≤ w.steps + 1) w.lists.clients (λ x p. omega (arith, p)) s.forks)
+      (omega (arith, forks, all_get (λ (x : Client). x.forks ≤ w.steps) w.lists.clients i c s.forks at));
   log = s.log;
   log_fit = s.log_fit;
   log_new = s.log_new;
@@ -134,10 +137,11 @@ is_last h log c text rest k is =
     let R = intents_of rest in
     let first : waiting log c ≡ X ++ R = (queue_first (waiting log c) c.connected c.queue rest text k.queued is).1 in
     let all : log_and_waiting log c ≡ (L ++ X) ++ R = ap (λ l. L ++ l) first ∙ sym (append_assoc L X R) in
-    let whole = subst (HaveNewRevisions (opening ∷ [])) all k.new in
+    let W = own_of c.branches in
+    let whole = subst (HaveNewRevisions (opening ∷ [])) (ap (λ l. l ++ W) all ∙ append_assoc (L ++ X) R W) k.new in
     record {
       fit = front (L ++ X) R (opening_document h) (subst (FitInTurn (opening_document h)) all k.sent_fit);
-      new = subst (HaveNewRevisions (opening ∷ [])) (append-nil (L ++ X)) (new_shorter (opening ∷ []) ((L ++ X) ++ []) ((L ++ X) ++ R) (sublist_joined (sublist_itself (L ++ X)) (sublist_none R)) whole);
+      new = subst (HaveNewRevisions (opening ∷ [])) (append-nil (L ++ X)) (new_shorter (opening ∷ []) ((L ++ X) ++ []) ((L ++ X) ++ (R ++ W)) (sublist_joined (sublist_itself (L ++ X)) (sublist_none (R ++ W))) whole);
       session = mine (commit_in text) R (subst (AllByRecursion (λ (M : Intent). M.rev.session ≡ c.session)) first k.own);
     }
   where
@@ -229,6 +233,7 @@ sound_sent w i c c' text log_document known logged s at is is_c few few_names no
     let mine = given_here w i c s at in
     let given : sessions_in (log_with log c.session text) ≡ sessions_in log = omega (arith, mine, sessions_entered log c.session text) in
     let low = all_get (λ (x : Client). x.ids ≤ w.steps) w.lists.clients i c s.ids at in
+    let few_forks = all_get (λ (x : Client). x.forks ≤ w.steps) w.lists.clients i c s.forks at in
     record {
       header = s.header;
       kept = subst (λ (cs : List Client). AreReplicas h (log_with log c.session text) cs w.kept) set (all_sent h st log c text c'.queue k is few_names w.lists.clients w.kept i s.sessions at s.kept);
@@ -239,6 +244,8 @@ sound_sent w i c c' text log_document known logged s at is is_c few few_names no
       clients = omega (arith, s.clients, size);
       ids = all_set (λ (x : Client). x.ids ≤ w.steps + 1) w.lists.clients i c' (all_as (λ (x : Client). x.ids ≤ w.steps) (λ (x : Client). x.ids ≤ w.steps + 1) w.lists.clients (λ x p. omega (arith, p)) s.ids)
           (omega (arith, low, ap (λ (x : Client). x.ids) is_c));
+      forks = all_set (λ (x : Client). x.forks ≤ w.steps + 1) w.lists.clients i c' (all_as (λ (x : Client). x.forks ≤ w.steps) (λ (x : Client). x.forks ≤ w.steps + 1) w.lists.clients (λ x p. omega (arith, p)) s.forks)
+          (omega (arith, few_forks, ap (λ (x : Client). x.forks) is_c));
       log = AllByRecursion-append IsEntryOf log (last_entry log c.session text ∷ []) s.log (last.session, tt);
       log_fit = subst (FitInTurn (opening_document h)) commits last.fit;
       log_new = subst (HaveNewRevisions (opening ∷ [])) commits last.new;
@@ -292,6 +299,7 @@ pub record IsAfterEntry (w : World) (session : ℕ) (body : Body) (cs : List Cli
   pub few_sessions : count ≤ length w.lists.log + 1
   pub clients : length cs ≤ 64
   pub ids : AllByRecursion (λ (c : Client). c.ids ≤ w.steps) cs
+  pub forks : AllByRecursion (λ (c : Client). c.forks ≤ w.steps) cs
   pub schema : KeepToSchema (header_view w.header) (log_with w.lists.log session body) cs
   pub known : AreKnown (log_with w.lists.log session body) refs
   pub connected : AreConnected (log_with w.lists.log session body) cs
@@ -320,6 +328,7 @@ sound_entered w session body cs ks known sessions s x =
       few_sessions = omega (arith, x.few_sessions, x.counted, size);
       clients = x.clients;
       ids = all_as (λ (c : Client). c.ids ≤ w.steps) (λ (c : Client). c.ids ≤ w.steps + 1) cs (λ c p. omega (arith, p)) x.ids;
+      forks = all_as (λ (c : Client). c.forks ≤ w.steps) (λ (c : Client). c.forks ≤ w.steps + 1) cs (λ c p. omega (arith, p)) x.forks;
       log = AllByRecursion-append IsEntryOf log (last_entry log session body ∷ []) s.log (subst (λ o. IfSome o (λ (N : Intent). N.rev.session ≡ session)) (sym x.none) tt, tt);
       log_fit = subst (FitInTurn (opening_document h)) commits s.log_fit;
       log_new = subst (HaveNewRevisions (opening ∷ [])) commits s.log_new;
@@ -378,6 +387,7 @@ sound_joined w name n session c k known s few few_entries is_s is_n knows is_c n
       few_sessions = omega (arith, is_s, s.few_sessions);
       clients = omega (arith, few, more);
       ids = AllByRecursion-append (λ (x : Client). x.ids ≤ w.steps) w.lists.clients (c ∷ []) s.ids (omega (arith, ap (λ (x : Client). x.ids) is_c), tt);
+      forks = AllByRecursion-append (λ (x : Client). x.forks ≤ w.steps) w.lists.clients (c ∷ []) s.forks (omega (arith, ap (λ (x : Client). x.forks) is_c), tt);
       schema = joined_keeps h st log w.lists.clients session name c (clients_of h log w.lists.clients w.kept s.kept) (sym is) s.schema;
       known = knows;
       connected = joined_connected w session c s is_s mine (ap (λ (x : Client). x.connected) is_c);
@@ -417,20 +427,22 @@ sound_left w i c known s at few knows =
       few_sessions = few_again w i c Leave s at;
       clients = omega (arith, s.clients, rest_fewer w.lists.clients i);
       ids = all_rest (λ (x : Client). x.ids ≤ w.steps) w.lists.clients i s.ids;
+      forks = all_rest (λ (x : Client). x.forks ≤ w.steps) w.lists.clients i s.forks;
       schema = left_keeps h st log w.lists.clients i c.session (clients_of h log w.lists.clients w.kept s.kept) s.schema;
       known = knows;
       connected = left_connected w i c s at;
     })
 
 -- a client that is there has an entry without a commit, and is now so
-set_entered : (w : World) (i : ℕ) (c c' : Client) (ks : List Replica) (body : Body) (known : BTreeMap ℕ ℕ) → IsSound w → slice_get w.lists.clients i ≡ Some c → commit_in body ≡ None → length w.lists.log < 65535 → c'.session ≡ c.session → c'.ids ≡ c.ids
+set_entered : (w : World) (i : ℕ) (c c' : Client) (ks : List Replica) (body : Body) (known : BTreeMap ℕ ℕ) → IsSound w → slice_get w.lists.clients i ≡ Some c → commit_in body ≡ None → length w.lists.log < 65535 → c'.session ≡ c.session → c'.ids ≡ c.ids → c'.forks ≡ c.forks
     → AreReplicas (header_view w.header) (log_with w.lists.log c.session body) (slice_set w.lists.clients i c') ks → KeepToSchema (header_view w.header) (log_with w.lists.log c.session body) (slice_set w.lists.clients i c')
     → AreConnected (log_with w.lists.log c.session body) (slice_set w.lists.clients i c') → AreKnown (log_with w.lists.log c.session body) known → IsAfterEntry w c.session body (slice_set w.lists.clients i c') ks known w.sessions
-set_entered w i c c' ks body known s at none few session ids kept keeps connected knows =
+set_entered w i c c' ks body known s at none few session ids forks kept keeps connected knows =
     let log = w.lists.log in
     let longer = log_with log c.session body in
     let mine = given_here w i c s at in
     let low = all_get (λ (x : Client). x.ids ≤ w.steps) w.lists.clients i c s.ids at in
+    let few_forks = all_get (λ (x : Client). x.forks ≤ w.steps) w.lists.clients i c s.forks at in
     record {
       none = none;
       few = few;
@@ -441,6 +453,7 @@ set_entered w i c c' ks body known s at none few session ids kept keeps connecte
       few_sessions = few_again w i c body s at;
       clients = omega (arith, s.clients, length-set w.lists.clients i c');
       ids = all_set (λ (x : Client). x.ids ≤ w.steps) w.lists.clients i c' s.ids (omega (arith, low, ids));
+      forks = all_set (λ (x : Client). x.forks ≤ w.steps) w.lists.clients i c' s.forks (omega (arith, few_forks, forks));
       schema = keeps;
       known = knows;
       connected = connected;
@@ -473,7 +486,7 @@ sound_dropped w i c known s at few knows = go (slice_get w.kept i) refl
         let now : AreOne h longer (without_connection c) k = record { client = client_offline h st longer c one.client; kept = kept_offline h st longer c k one.kept } in
         let kept = subst (λ (ks : List Replica). AreReplicas h longer (slice_set w.lists.clients i (without_connection c)) ks) (set_same w.kept i k at_k) (kept_set h longer w.lists.clients w.kept i (without_connection c) k all now) in
         sound_entered w c.session Leave (slice_set w.lists.clients i (without_connection c)) w.kept known w.sessions s
-        (set_entered w i c (without_connection c) w.kept Leave known s at refl few refl refl kept (dropped_keeps h st log w.lists.clients i c (clients_of h log w.lists.clients w.kept s.kept) at s.schema) (dropped_connected w i c s at) knows)
+        (set_entered w i c (without_connection c) w.kept Leave known s at refl few refl refl refl kept (dropped_keeps h st log w.lists.clients i c (clients_of h log w.lists.clients w.kept s.kept) at s.schema) (dropped_connected w i c s at) knows)
 
     go : (o : Option Replica) → slice_get w.kept i ≡ o → IsDropped w i c known
     go None none = absurd (kept_none h w.lists.log w.lists.clients w.kept i c s.kept at none)
@@ -498,11 +511,11 @@ sound_returned w i c c' k k' known s at at_k none few knows is_c up =
     let longer = log_with log c.session Join in
     let one = kept_at h log w.lists.clients w.kept i c k s.kept at at_k in
     let all = all_after_text h st log c.session Join refl w.lists.clients w.kept s.kept in
-    let now : AreOne h longer (with_connection log c) k' = record { client = client_returned h st log c one.client none; kept = kept_returned h st log c k k' none one.kept up } in
+    let now : AreOne h longer (with_connection log c) k' = record { client = client_returned h st log c one.client none; kept = kept_returned h st log c k k' none one.client one.kept up } in
     let is : AreOne h longer c' k' = subst (λ x. AreOne h longer x k') (sym is_c) now in
     let keeps = subst (λ x. KeepToSchema h longer (slice_set w.lists.clients i x)) (sym is_c) (returned_keeps h st log w.lists.clients i c (clients_of h log w.lists.clients w.kept s.kept) at none s.schema) in
     sound_entered w c.session Join (slice_set w.lists.clients i c') (slice_set w.kept i k') known w.sessions s
-    (set_entered w i c c' (slice_set w.kept i k') Join known s at refl few (ap (λ (x : Client). x.session) is_c) (ap (λ (x : Client). x.ids) is_c) (kept_set h longer w.lists.clients w.kept i c' k' all is) keeps (returned_connected w i c c' s at is_c) knows)
+    (set_entered w i c c' (slice_set w.kept i k') Join known s at refl few (ap (λ (x : Client). x.session) is_c) (ap (λ (x : Client). x.ids) is_c) (ap (λ (x : Client). x.forks) is_c) (kept_set h longer w.lists.clients w.kept i c' k' all is) keeps (returned_connected w i c c' s at is_c) knows)
 
 -- ## Answers
 
@@ -512,7 +525,7 @@ next_none h w s v a none is = rw none is
 
 -- what the client at the place does
 pub next_present : (h : HeaderView) (w : WorldState) (s : StepView) (i : ℕ) (v : WorldState) (a : Answer) → place_of s.client w.clients ≡ Some i
-    → ((c : Client) → slice_get w.clients i ≡ Some c → OnBranch (branch_at s.branch s.act) w v a (ByConnected (needs_connection s.act) c.connected w v a (IsActOf h w s.act i c v a))) → IsNext h w s v a
+    → ((c : Client) → slice_get w.clients i ≡ Some c → AtLine h w s.act i c (branch_at s.branch s.act) v a) → IsNext h w s v a
 next_present h w s i v a is does = rw is (at (slice_get w.clients i) refl)
   where
     within : i < length w.clients
@@ -522,9 +535,12 @@ next_present h w s i v a is does = rw is (at (slice_get w.clients i) refl)
     at None none = absurd (past w.clients i within none)
     at (Some c) there = rw there (does c there)
 
-pub on_main : (branch : ℕ) (w v : WorldState) (a : Answer) (next : Type 0) → branch ≡ 0 → next → OnBranch branch w v a next
-on_main zero w v a next e n = n
-on_main (suc k) w v a next e n = absurd (omega (arith, e))
+-- a step on a line that is there, or on none
+pub on_line : (w v : WorldState) (a : Answer) (does : Line → Type 0) (o : Option Line) (l : Line) → o ≡ Some l → does l → OnLine w does o v a
+on_line w v a does o l is done = subst (λ x. OnLine w does x v a) (sym is) done
+
+pub on_no_line : (w : WorldState) (does : Line → Type 0) (o : Option Line) → o ≡ None → OnLine w does o w (No NoBranch)
+on_no_line w does o none = subst (λ x. OnLine w does x w (No NoBranch)) (sym none) (refl, refl)
 
 -- whether an act is refused because its client isn't connected
 pub by_connected : (needs connected : Bool) (w v : WorldState) (a : Answer) (next : Type 0) → needs && not connected ≡ false → next → ByConnected needs connected w v a next
@@ -541,10 +557,6 @@ pub is_there : (needs connected : Bool) → needs ≡ true → needs && not conn
 is_there false connected n e = cc
 is_there true true n e = refl
 is_there true false n e = cc
-
-pub on_none : (branch : ℕ) (w : WorldState) (next : Type 0) → (branch ≡ 0 → ⊥) → OnBranch branch w w (No NoBranch) next
-on_none zero w next e = absurd (e refl)
-on_none (suc k) w next e = (refl, refl)
 
 -- a client whose queue is empty sends nothing
 pub next_unsent : (w : WorldState) (i : ℕ) (c q : Client) → slice_get w.clients i ≡ Some c → slice_get w.clients i ≡ Some q → c.queue ≡ [] → sequence w i q q.queue ≡ (w, No NothingToSend)

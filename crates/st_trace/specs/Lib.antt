@@ -4,3 +4,4 @@ pub mod Replicas
 pub mod Undo
 pub mod World
 pub mod inside
+pub mod Branches

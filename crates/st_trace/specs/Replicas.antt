@@ -22,13 +22,15 @@ use Rattle.st_heads.specs.Transactions.{FitsSoFar, HasOpen, with_open}
 use Rattle.st_script.specs.Header.{HeaderView, header_view, may_open}
 use Rattle.st_lists.specs.Known.{AreConnected, AreKnown, AreMinima}
 use Rattle.st_lists.specs.Log.{commit_of, commits_in, intents_of, is_text, log_and_waiting, own_in_flight, sessions_in, waiting}
-use Rattle.st_lists.specs.Clients.{HasReceived, joined_of, received_by}
-use Rattle.st_lists.specs.Lines.{HasHead, main_line}
+use Rattle.st_lists.specs.Clients.{HasReceived, joined_of}
+use Rattle.st_lists.specs.Lines.{AreStanding, HasHead, HaveOwnTransactions, Line, all_commits, base_of, branch_line, commits_of, edited_on, main_line, own_of}
 use Rattle.st_trace.specs.Logged.{AreLogged}
 use Rattle.st_trace.specs.World.{last_in_effect, opening_document}
 use Rattle.st_lists.specs.Names.{names_in, unsequenced}
+use Rattle.st_heads.specs.declared.heads.Head.{Head}
 use Rattle.st_trace.specs.declared.replica.Replica.{Replica}
 use Rattle.st_lists.specs.declared.lists.Body.{Body}
+use Rattle.st_lists.specs.declared.lists.Branch.{Branch}
 use Rattle.st_lists.specs.declared.lists.Client.{Client}
 use Rattle.st_lists.specs.declared.lists.Entry.{Entry}
 use Rattle.st_lists.specs.declared.lists.Transaction.{Transaction}
@@ -40,34 +42,61 @@ use Rattle.st_trace.specs.declared.world.World.{World}
 abbrev pub HasMain : HeaderView → List Entry → Client → Document → Type 0
 HasMain h log c D = HasHead (opening_document h) log (main_line c) D
 
--- what a transaction is that is open on the main line, beside the client's lists
-pub record IsTransaction (h : HeaderView) (log : List Entry) (c : Client) (t : Transaction) : Type 0 where
-  -- its revision is one of the client's ids, and that of no commit
-  pub session : t.rev.session ≡ c.session
-  pub num : t.rev.num ≤ c.ids
-  pub new : Has (revisions (log_and_waiting log c) ++ opening ∷ []) t.rev → ⊥
-  -- its commit can still be pending, and it has given at most as many names as a commit may
-  pub room : length c.pending < 256
+-- what a transaction is that is open on a line, beside the lists of the line's owner
+pub record IsTransaction (h : HeaderView) (log : List Entry) (l : Line) (owner : Client) (t : Transaction) : Type 0 where
+  -- its revision is one of the owner's ids, and that of no commit
+  pub session : t.rev.session ≡ owner.session
+  pub num : t.rev.num ≤ owner.ids
+  pub new : Has (revisions (all_commits log owner) ++ opening ∷ []) t.rev → ⊥
+  -- its commit can still be one of the line's own, and it has given at most as many names as a commit may
+  pub room : length l.own < 256
   pub counted : t.nodes + t.cells ≤ 2048
   -- in the line's document: it is made under the last schema in effect, what was edited fits, and the numbers that it
   -- may give are of no name that is there
   pub before : Document
-  pub main : HasMain h log c before
+  pub main : HasHead (opening_document h) log l before
   pub under : t.under ≡ last_in_effect before
   pub so_far : FitsSoFar before t.rev t.under t.joined
   pub sound : IsSoundInForm (with_open before t.joined)
   pub nodes : (k : ℕ) → t.nodes ≤ k → (with_open before t.joined).nodes (node_named t.rev k) ≡ None
   pub cells : (k : ℕ) → t.cells ≤ k → (with_open before t.joined).row_of (cell_named t.rev k) ≡ None
 
+-- the commits of a line can be carried out in turn
+abbrev pub LineFits : HeaderView → List Entry → Line → Type 0
+LineFits h log l = FitInTurn (opening_document h) (commits_of log l)
+
 -- the queue of a client that is connected has the commits that wait, and that of another is empty
 abbrev pub IsQueue : List Intent → Bool → List Body → Type 0
 IsQueue commits true queue = intents_of queue ≡ commits
 IsQueue commits false queue = queue ≡ []
 
+-- what a branch is, beside the lists of its owner
+pub record IsBranch (h : HeaderView) (log : List Entry) (owner : Client) (b : Branch) : Type 0 where
+  -- its number is one of those that were given
+  pub numbered : 0 < b.number
+  pub given : b.number ≤ owner.forks
+  -- it has at most 256 commits of its own, and they can be carried out in turn after those on which it stands
+  pub within : b.received ≤ length log
+  pub few : length b.own ≤ 256
+  pub fit : LineFits h log (branch_line b)
+  -- it may have a transaction open
+  pub transaction : IfSome b.transaction (IsTransaction h log (branch_line b) owner)
+
+-- what a client's branches are beside the main one
+pub record AreBranches (h : HeaderView) (log : List Entry) (c : Client) : Type 0 where
+  pub few : length c.branches ≤ 16
+  pub numbers : AreDistinct (λ (b : Branch). b.number) c.branches
+  pub each : AllByRecursion (IsBranch h log c) c.branches
+  -- each stands on its parent
+  pub standing : AreStanding log (main_line c) [] c.branches
+  -- their own commits are of the client's session
+  pub own : AllByRecursion (λ (N : Intent). N.rev.session ≡ c.session) (own_of c.branches)
+  pub transactions : HaveOwnTransactions c
+
 -- what a client's lists are, beside the log
 pub record IsClient (h : HeaderView) (log : List Entry) (c : Client) : Type 0 where
   pub within : c.received ≤ length log
-  -- it has at most 256 commits pending, with 16,384 names, those of its open transaction among them
+  -- it has at most 256 commits pending, and with those of its branches and of open transactions 16,384 names
   pub few : length c.pending ≤ 256
   pub few_names : unsequenced c ≤ 16384
   -- pending are its commits in the log that it has not received, and then those that wait
@@ -75,16 +104,32 @@ pub record IsClient (h : HeaderView) (log : List Entry) (c : Client) : Type 0 wh
   -- the queue has the commits that wait, while it is connected
   pub queued : IsQueue (waiting log c) c.connected c.queue
   -- what it shows, and what the log comes to when all that waits is sent, can be carried out in turn
-  pub shown_fit : FitInTurn (opening_document h) (received_by log c ++ c.pending)
+  pub shown_fit : LineFits h log (main_line c)
   pub sent_fit : FitInTurn (opening_document h) (log_and_waiting log c)
   -- no revision is there twice, those that wait are of its session, and those of its session are among the ids that it generated
-  pub new : HaveNewRevisions (opening ∷ []) (log_and_waiting log c)
+  pub new : HaveNewRevisions (opening ∷ []) (all_commits log c)
   pub own : AllByRecursion (λ (N : Intent). N.rev.session ≡ c.session) (waiting log c)
-  pub ids : (N : Intent) → Has (log_and_waiting log c) N → N.rev.session ≡ c.session → N.rev.num ≤ c.ids
+  pub ids : (N : Intent) → Has (all_commits log c) N → N.rev.session ≡ c.session → N.rev.num ≤ c.ids
   -- those that wait are texts
   pub texts : AllByRecursion (λ (text : Body). is_text text ≡ true) c.queue
-  -- it may have a transaction open
-  pub transaction : IfSome c.transaction (IsTransaction h log c)
+  -- it may have a transaction open, and other branches
+  pub transaction : IfSome c.transaction (IsTransaction h log (main_line c) c)
+  pub branches : AreBranches h log c
+
+-- what is kept of a branch is the head of its line: the document to which its commits lead, how its own came out, and what
+-- is edited beside them in the open transaction
+pub record IsHeadOf (O : Document) (log : List Entry) (b : Branch) (k : Head) : Type 0 where
+  pub base : Document
+  pub stands : Run O (base_of log (branch_line b)) base
+  pub own : AreCarried base b.own k.own (document_of k.doc)
+  pub edited : HasOpen k (edited_on (branch_line b))
+
+-- that of each of a client's branches
+abbrev pub AreHeads : Document → List Entry → List Branch → List Head → Type 0
+AreHeads O log [] [] = Unit {0}
+AreHeads O log (b ∷ bs) [] = ⊥
+AreHeads O log [] (k ∷ ks) = ⊥
+AreHeads O log (b ∷ bs) (k ∷ ks) = IsHeadOf O log b k × AreHeads O log bs ks
 
 -- what is kept is that to which the client's lists lead
 pub record IsReplicaOf (h : HeaderView) (log : List Entry) (c : Client) (k : Replica) : Type 0 where
@@ -93,6 +138,7 @@ pub record IsReplicaOf (h : HeaderView) (log : List Entry) (c : Client) (k : Rep
   -- them is that of the open transaction
   pub own : AreCarried (document_of k.received) c.pending k.main.own (document_of k.main.doc)
   pub edited : HasOpen k.main (joined_of c)
+  pub branches : AreHeads (opening_document h) log c.branches k.branches
   pub names : k.names ≡ unsequenced c
 
 -- ## The world
@@ -113,18 +159,28 @@ AreReplicas h log (c ∷ cs) [] = ⊥
 AreReplicas h log [] (k ∷ ks) = ⊥
 AreReplicas h log (c ∷ cs) (k ∷ ks) = IsClient h log c × IsReplicaOf h log c k × AreReplicas h log cs ks
 
--- what a client has edited in its open transaction agrees with the schema in the line's document
-abbrev pub EditsKeepSchema : HeaderView → (NodeId → Option FieldId) → List Entry → Client → Type 0
-EditsKeepSchema h home log c = (D : Document) → HasMain h log c D → IfSome (joined_of c) (KeepsSchema h.schema home D)
+-- the commits of a line agree with the schema in turn
+abbrev pub CommitsKeepSchema : HeaderView → (NodeId → Option FieldId) → List Entry → Line → Type 0
+CommitsKeepSchema h home log l = KeepSchemaInTurn h.schema home (opening_document h) (commits_of log l)
+
+-- what was edited in the transaction that is open on a line agrees with the schema in the line's document
+abbrev pub EditsKeepSchema : HeaderView → (NodeId → Option FieldId) → List Entry → Line → Type 0
+EditsKeepSchema h home log l = (D : Document) → HasHead (opening_document h) log l D → IfSome (edited_on l) (KeepsSchema h.schema home D)
+
+-- both hold of each branch of a client beside the main one
+abbrev pub BranchesKeepSchema : HeaderView → (NodeId → Option FieldId) → List Entry → Client → Type 0
+BranchesKeepSchema h home log c = AllByRecursion (λ (b : Branch). CommitsKeepSchema h home log (branch_line b) × EditsKeepSchema h home log (branch_line b)) c.branches
 
 -- the homes of nodes are such that the document opened conforms to the schema, and each commit agrees with it where it comes
 pub record KeepSchemaWith (h : HeaderView) (log : List Entry) (cs : List Client) (home : NodeId → Option FieldId) : Type 0 where
   pub start : IsConforming h.schema home (opening_document h)
   -- the commits of the log, one after the other, and those that each client shows
   pub logged : KeepSchemaInTurn h.schema home (opening_document h) (commits_in log)
-  pub shown : AllByRecursion (λ (c : Client). KeepSchemaInTurn h.schema home (opening_document h) (received_by log c ++ c.pending)) cs
+  pub shown : AllByRecursion (λ (c : Client). CommitsKeepSchema h home log (main_line c)) cs
   -- and what is edited in transactions that are open
-  pub edited : AllByRecursion (EditsKeepSchema h home log) cs
+  pub edited : AllByRecursion (λ (c : Client). EditsKeepSchema h home log (main_line c)) cs
+  -- on the main line, and on each other branch
+  pub branches : AllByRecursion (BranchesKeepSchema h home log) cs
 
 -- there are such homes
 abbrev pub KeepToSchema : HeaderView → List Entry → List Client → Type 0
@@ -145,6 +201,7 @@ pub record IsSoundAfter (steps : ℕ) (w : World) : Type 0 where
   pub few_sessions : sessions_in w.lists.log ≤ length w.lists.log
   pub clients : length w.lists.clients ≤ 64
   pub ids : AllByRecursion (λ (c : Client). c.ids ≤ steps) w.lists.clients
+  pub forks : AllByRecursion (λ (c : Client). c.forks ≤ steps) w.lists.clients
   pub log : AllByRecursion IsEntryOf w.lists.log
   pub log_fit : FitInTurn (opening_document (header_view w.header)) (commits_in w.lists.log)
   pub log_new : HaveNewRevisions (opening ∷ []) (commits_in w.lists.log)

@@ -1,6 +1,6 @@
 -- The world, as lists alone: the log, and of each client what it received and what it has pending. What a client shows is
 -- read off the document to which its list of commits leads from the opening.
-use Rattle.std.specs.Prelude.{◌≡◌, ℕ, zero, suc, ◌+◌, Bool, true, false, nat_le, List, [], ◌∷◌, ◌++◌, length, slice_get, slice_set, Option, Some, None, is_some, option_and_then, option_map, unwrap_or, Result, Ok, Err, if◌then◌else◌}
+use Rattle.std.specs.Prelude.{◌≡◌, ℕ, ◌+◌, Bool, true, false, nat_le, List, [], ◌∷◌, ◌++◌, length, slice_get, slice_set, Option, Some, None, is_some, option_map, unwrap_or, Result, Ok, Err, if◌then◌else◌}
 use Rattle.std.specs.List.{remove as remove_at}
 use Rattle.serde_json.specs.Written.{compact_text}
 use Rattle.st_ids.specs.Root.{opening}
@@ -34,16 +34,18 @@ use Rattle.st_script.specs.declared.answer.Answer.{Answer}
 use Rattle.st_script.specs.declared.answer.Answer.TheVariants as answer
 use Rattle.st_script.specs.declared.refusal.Refusal.{Refusal}
 use Rattle.st_script.specs.declared.refusal.Refusal.TheVariants as no
-use Rattle.st_lists.specs.Clients.{HasReceived, client_named, new_client, next_rev, with_ack, with_begun, with_commit, with_connection, with_edited, with_new_commit, with_received, with_transaction, without_connection, without_transaction}
-use Rattle.st_lists.specs.Limits.{entries_limit_passed, limit_passed, log_limit_passed, names_limit_passed, pending_limit_passed}
-use Rattle.st_lists.specs.Lines.{HasHead, Line, main_line}
+use Rattle.st_lists.specs.Clients.{HasReceived, client_named, new_client, new_transaction, next_rev, with_ack, with_connection, with_edited, with_received, without_connection}
+use Rattle.st_lists.specs.Limits.{entries_limit_passed, limit_passed, log_limit_passed, names_limit_passed, own_limit_passed}
+use Rattle.st_lists.specs.Lines.{HasHead, Line, branch_of, edited_on, line_of, with_commit_on, with_transaction_on}
 use Rattle.st_lists.specs.Log.{commit_of, log_with, minimum, sessions_in, waiting}
 use Rattle.st_lists.specs.Names.{names_in_text}
-use Rattle.st_trace.specs.Kept.{IsKept}
+use Rattle.st_trace.specs.Branches.{IsMerged, IsRebased, drop_branch, fork, refusal_to_fork, refusal_to_merge, refusal_to_rebase}
+use Rattle.st_trace.specs.Kept.{IsKept, Unless}
 use Rattle.st_trace.specs.Undo.{IsAfterUndo}
 use Rattle.st_trace.specs.declared.client.EditWord.{EditWord}
 use Rattle.st_trace.specs.declared.client.EditWord.TheVariants as word
 use Rattle.st_lists.specs.declared.lists.Body.TheVariants.{Join as Joined, Leave as Left}
+use Rattle.st_lists.specs.declared.lists.Branch.{Branch}
 use Rattle.st_lists.specs.declared.lists.Client.{Client}
 use Rattle.st_lists.specs.declared.lists.Entry.{Entry}
 use Rattle.st_lists.specs.declared.lists.Transaction.{Transaction}
@@ -110,62 +112,62 @@ cells_given word.Set M = length (group_cells M) + 1
 cells_given word.Clear M = length (group_cells M)
 cells_given word.Need M = length (group_cells M)
 
--- a commit is pending from now on, if it passes no limit
-abbrev pub with_pending : Client → EditWord → Intent → Option Limit → Client × Answer
-with_pending c word N None = (with_new_commit c N, answer_of word (next_rev c))
-with_pending c word N (Some l) = (c, answer.No (no.Limit l))
+-- a commit is the last of a line from now on, with an id generated for it, if it passes no limit
+abbrev pub with_new_on : Client → ℕ → EditWord → Intent → Option Limit → Client × Answer
+with_new_on c k word N None = (record (with_commit_on c k N) { ids = c.ids + 1 }, answer_of word (next_rev c))
+with_new_on c k word N (Some o) = (c, answer.No (no.Limit o))
 
--- an edit that is refused, or whose commit is pending from now on
-abbrev pub after_edit : Client → EditWord → Result Intent EditFault → Client × Answer
-after_edit c word (Err f) = (c, answer.No (refusal_of f))
-after_edit c word (Ok N) = with_pending c word N (limit_passed c N)
+-- an edit that is refused, or whose commit is the last of its line from now on
+abbrev pub after_edit : Client → ℕ → Line → EditWord → Result Intent EditFault → Client × Answer
+after_edit c k l word (Err f) = (c, answer.No (refusal_of f))
+after_edit c k l word (Ok N) = with_new_on c k word N (limit_passed c k l N)
 
 -- ## Transactions
 
--- an edit in a transaction is joined to what was edited in it before, if it passes no limit
-abbrev pub IsJoined : Client → Transaction → EditWord → Intent → Option Limit → Client → Answer → Type 0
-IsJoined c t word M None d a = (J : Intent) × IsWithPart t.joined M J
-    × (d ≡ with_transaction c (with_edited t J (length M.new) (cells_given word M))) × (a ≡ answer_of word t.rev)
-IsJoined c t word M (Some l) d a = IsKept c d a (answer.No (no.Limit l))
+-- an edit in the transaction of a line is joined to what was edited in it before, if it passes no limit
+abbrev pub IsJoined : Client → ℕ → Transaction → EditWord → Intent → Option Limit → Client → Answer → Type 0
+IsJoined c k t word M None d a = (J : Intent) × IsWithPart t.joined M J
+    × (d ≡ with_transaction_on c k (Some (with_edited t J (length M.new) (cells_given word M)))) × (a ≡ answer_of word t.rev)
+IsJoined c k t word M (Some o) d a = IsKept c d a (answer.No (no.Limit o))
 
 -- an edit in a transaction, which is refused or joined to the others
-abbrev pub IsEditedIn : Client → Transaction → EditWord → Result Intent EditFault → Client → Answer → Type 0
-IsEditedIn c t word (Err f) d a = IsKept c d a (answer.No (refusal_of f))
-IsEditedIn c t word (Ok M) d a = IsJoined c t word M (names_limit_passed c M) d a
+abbrev pub IsEditedIn : Client → ℕ → Transaction → EditWord → Result Intent EditFault → Client → Answer → Type 0
+IsEditedIn c k t word (Err f) d a = IsKept c d a (answer.No (refusal_of f))
+IsEditedIn c k t word (Ok M) d a = IsJoined c k t word M (names_limit_passed c M) d a
 
 -- an edit is a commit of its own where no transaction is open
-abbrev pub IsAfterEdit : Client → Option Transaction → EditWord → Result Intent EditFault → Client → Answer → Type 0
-IsAfterEdit c None word meant d a = after_edit c word meant ≡ (d, a)
-IsAfterEdit c (Some t) word meant d a = IsEditedIn c t word meant d a
+abbrev pub IsAfterEdit : Client → ℕ → Line → Option Transaction → EditWord → Result Intent EditFault → Client → Answer → Type 0
+IsAfterEdit c k l None word meant d a = after_edit c k l word meant ≡ (d, a)
+IsAfterEdit c k l (Some t) word meant d a = IsEditedIn c k t word meant d a
 
 -- a need is an edit that only a transaction has
-abbrev pub IsAfterNeed : Client → Option Transaction → Result Intent EditFault → Client → Answer → Type 0
-IsAfterNeed c None meant d a = IsKept c d a (answer.No no.NotBegun)
-IsAfterNeed c (Some t) meant d a = IsEditedIn c t word.Need meant d a
+abbrev pub IsAfterNeed : Client → ℕ → Option Transaction → Result Intent EditFault → Client → Answer → Type 0
+IsAfterNeed c k None meant d a = IsKept c d a (answer.No no.NotBegun)
+IsAfterNeed c k (Some t) meant d a = IsEditedIn c k t word.Need meant d a
 
 -- a transaction begins, if it passes no limit
-abbrev pub with_beginning : Client → Rev → Option Limit → Client × Answer
-with_beginning c under None = (with_begun c under, answer.Begin (next_rev c))
-with_beginning c under (Some l) = (c, answer.No (no.Limit l))
+abbrev pub with_beginning : Client → ℕ → Rev → Option Limit → Client × Answer
+with_beginning c k under None = (record (with_transaction_on c k (Some (new_transaction (next_rev c) under))) { ids = c.ids + 1 }, answer.Begin (next_rev c))
+with_beginning c k under (Some o) = (c, answer.No (no.Limit o))
 
 -- a transaction begins where none is open, made under the schema that is last in effect
-abbrev pub begin : Client → Option Transaction → Rev → Client × Answer
-begin c None under = with_beginning c under (pending_limit_passed c)
-begin c (Some t) under = (c, answer.No no.Unfinished)
+abbrev pub begin : Client → ℕ → Line → Option Transaction → Rev → Client × Answer
+begin c k l None under = with_beginning c k under (own_limit_passed k l 1)
+begin c k l (Some t) under = (c, answer.No no.Unfinished)
 
 -- what was edited, if anything was, is a commit now, of the revision that the transaction has
-abbrev pub after_commit : Client → Rev → Option Intent → Client × Answer
-after_commit c rev None = (c, answer.Commit None)
-after_commit c rev (Some J) = (with_commit c J, answer.Commit (Some rev))
+abbrev pub after_commit : Client → ℕ → Rev → Option Intent → Client × Answer
+after_commit c k rev None = (c, answer.Commit None)
+after_commit c k rev (Some J) = (with_commit_on c k J, answer.Commit (Some rev))
 
-abbrev pub commit : Client → Option Transaction → Client × Answer
-commit c None = (c, answer.No no.NotBegun)
-commit c (Some t) = after_commit (without_transaction c) t.rev t.joined
+abbrev pub commit : Client → ℕ → Option Transaction → Client × Answer
+commit c k None = (c, answer.No no.NotBegun)
+commit c k (Some t) = after_commit (with_transaction_on c k None) k t.rev t.joined
 
 -- what was edited is dropped; the revision stays used
-abbrev pub abort : Client → Option Transaction → Client × Answer
-abort c None = (c, answer.No no.NotBegun)
-abort c (Some t) = (without_transaction c, answer.Abort)
+abbrev pub abort : Client → ℕ → Option Transaction → Client × Answer
+abort c k None = (c, answer.No no.NotBegun)
+abort c k (Some t) = (with_transaction_on c k None, answer.Abort)
 
 -- ## Receiving
 
@@ -188,7 +190,7 @@ IsDeliveredIn D c (Some t) next d a = IsKept c d a (answer.No no.Unfinished)
 
 -- a line shows the document of its commits, and while a transaction is open that one with what was edited carried out whole
 abbrev pub HasShown : Document → List Entry → Line → Document → Type 0
-HasShown O log l E = (D : Document) × HasHead O log l D × (E ≡ with_open D (option_and_then (λ (t : Transaction). t.joined) l.transaction))
+HasShown O log l E = (D : Document) × HasHead O log l D × (E ≡ with_open D (edited_on l))
 
 -- ## The world
 
@@ -256,22 +258,22 @@ sequence w i c (text ∷ rest) = after_entry w i c text rest (log_limit_passed w
 abbrev pub IsUnchanged : WorldState → WorldState → Answer → Answer → Type 0
 IsUnchanged w v a b = (v ≡ w) × (a ≡ b)
 
--- the client at a place, and none else, takes a step that goes by the document that it shows
-abbrev pub IsDoneIn : HeaderView → WorldState → ℕ → Client → (Document → Client → Answer → Type 0) → WorldState → Answer → Type 0
-IsDoneIn h w i c does v a = (D : Document) × (d : Client) × HasShown (opening_document h) w.log (main_line c) D × does D d a
+-- the client at a place, and none else, takes a step that goes by the document that one of its lines shows
+abbrev pub IsDoneIn : HeaderView → WorldState → ℕ → Line → (Document → Client → Answer → Type 0) → WorldState → Answer → Type 0
+IsDoneIn h w i l does v a = (D : Document) × (d : Client) × HasShown (opening_document h) w.log l D × does D d a
     × (v ≡ record w { clients = slice_set w.clients i d })
 
--- an edit is resolved in the document that the client shows
-abbrev pub IsEdited : HeaderView → WorldState → ℕ → Client → EditView → WorldState → Answer → Type 0
-IsEdited h w i c e v a = IsDoneIn h w i c (λ D. IsAfterEdit c c.transaction (word_of e) (intent_of D h.schema (next_names c c.transaction) e)) v a
+-- an edit is resolved in the document that the line shows
+abbrev pub IsEdited : HeaderView → WorldState → ℕ → Client → ℕ → Line → EditView → WorldState → Answer → Type 0
+IsEdited h w i c k l e v a = IsDoneIn h w i l (λ D. IsAfterEdit c k l l.transaction (word_of e) (intent_of D h.schema (next_names c l.transaction) e)) v a
 
 -- the node that a path leads to in the document shown is needed
-abbrev pub IsNeeded : HeaderView → WorldState → ℕ → Client → List Place → WorldState → Answer → Type 0
-IsNeeded h w i c at v a = IsDoneIn h w i c (λ D. IsAfterNeed c c.transaction (need D (next_names c c.transaction) at)) v a
+abbrev pub IsNeeded : HeaderView → WorldState → ℕ → Client → ℕ → Line → List Place → WorldState → Answer → Type 0
+IsNeeded h w i c k l at v a = IsDoneIn h w i l (λ D. IsAfterNeed c k l.transaction (need D (next_names c l.transaction) at)) v a
 
 -- a transaction begins under the schema that is last in effect in the document shown
-abbrev pub IsBegun : HeaderView → WorldState → ℕ → Client → WorldState → Answer → Type 0
-IsBegun h w i c v a = IsDoneIn h w i c (λ D d b. begin c c.transaction (last_in_effect D) ≡ (d, b)) v a
+abbrev pub IsBegun : HeaderView → WorldState → ℕ → Client → ℕ → Line → WorldState → Answer → Type 0
+IsBegun h w i c k l v a = IsDoneIn h w i l (λ D d b. begin c k l l.transaction (last_in_effect D) ≡ (d, b)) v a
 
 -- the client receives the next entry
 abbrev pub IsDelivered : HeaderView → WorldState → ℕ → Client → WorldState → Answer → Type 0
@@ -282,26 +284,57 @@ IsDelivered h w i c v a = (D : Document) × (d : Client) × HasReceived (opening
 abbrev pub IsUndoneBy : HeaderView → WorldState → ℕ → Client → Rev → WorldState → Answer → Type 0
 IsUndoneBy h w i c rev v a = (d : Client) × IsAfterUndo (opening_document h) h.history w.log c c.transaction rev d a × (v ≡ record w { clients = slice_set w.clients i d })
 
--- the text of the tree that a client shows
-abbrev pub IsShown : HeaderView → WorldState → Client → Answer → Type 0
-IsShown h w c a = (D : Document) × (tree : List ℕ) × HasShown (opening_document h) w.log (main_line c) D × IsTreeText (is_array_type h.schema) D tree × (a ≡ answer.Show tree)
+-- a branch begins, and stands on a line
+abbrev pub IsForked : WorldState → ℕ → Client → ℕ → Line → WorldState → Answer → Type 0
+IsForked w i c k l v a = with_client w i (fork c k l (refusal_to_fork c l)) ≡ (v, a)
 
--- what an act makes of the world, for its client and that one's place
-abbrev pub IsActOf : HeaderView → WorldState → ActView → ℕ → Client → WorldState → Answer → Type 0
-IsActOf h w step.join i c v a = IsUnchanged w v a (answer.No no.Taken)
-IsActOf h w (step.edit e) i c v a = IsEdited h w i c e v a
-IsActOf h w (step.need at) i c v a = IsNeeded h w i c at v a
-IsActOf h w step.begin i c v a = IsBegun h w i c v a
-IsActOf h w step.commit i c v a = with_client w i (commit c c.transaction) ≡ (v, a)
-IsActOf h w step.abort i c v a = with_client w i (abort c c.transaction) ≡ (v, a)
-IsActOf h w (step.undo rev) i c v a = IsUndoneBy h w i c rev v a
-IsActOf h w step.sequence i c v a = sequence w i c c.queue ≡ (v, a)
-IsActOf h w step.ack i c v a = with_client w i (with_ack c, answer.Ack c.received) ≡ (v, a)
-IsActOf h w step.deliver i c v a = IsDelivered h w i c v a
-IsActOf h w step.leave i c v a = leave w i c (entries_limit_passed w.log) ≡ (v, a)
-IsActOf h w step.drop_client i c v a = drop_client w i c (entries_limit_passed w.log) ≡ (v, a)
-IsActOf h w step.reconnect i c v a = reconnect w i c (refusal_to_reconnect w.log c) ≡ (v, a)
-IsActOf h w step.show i c v a = (v ≡ w) × IsShown h w c a
+-- the branch of a number, which isn't the main one, takes a step that goes by its parent's line
+abbrev pub OnParent : WorldState → (Line → Type 0) → Option Line → WorldState → Answer → Type 0
+OnParent w does None v a = IsUnchanged w v a (answer.No no.NoBranch)
+OnParent w does (Some parent) v a = does parent
+
+abbrev pub OnOwnBranch : WorldState → Client → (Branch → Line → Type 0) → Option Branch → WorldState → Answer → Type 0
+OnOwnBranch w c does None v a = IsUnchanged w v a (answer.No no.NoBranch)
+OnOwnBranch w c does (Some b) v a = OnParent w (does b) (line_of c b.parent) v a
+
+-- a branch is brought up to date
+abbrev pub IsRebasedBy : HeaderView → WorldState → ℕ → Client → ℕ → WorldState → Answer → Type 0
+IsRebasedBy h w i c k v a = OnOwnBranch w c (λ b parent. (d : Client) × Unless (refusal_to_rebase b) c d a (IsRebased (opening_document h) w.log c k b parent d a)
+    × (v ≡ record w { clients = slice_set w.clients i d })) (branch_of c k) v a
+
+-- a branch is merged
+abbrev pub IsMergedBy : HeaderView → WorldState → ℕ → Client → ℕ → WorldState → Answer → Type 0
+IsMergedBy h w i c k v a = OnOwnBranch w c (λ b parent. (d : Client) × Unless (refusal_to_merge c k b parent) c d a (IsMerged (opening_document h) w.log c k b parent d a)
+    × (v ≡ record w { clients = slice_set w.clients i d })) (branch_of c k) v a
+
+-- a branch is dropped
+abbrev pub IsBranchDropped : WorldState → ℕ → Client → ℕ → WorldState → Answer → Type 0
+IsBranchDropped w i c k v a = OnOwnBranch w c (λ b parent. with_client w i (drop_branch c k) ≡ (v, a)) (branch_of c k) v a
+
+-- the text of the tree that a line shows
+abbrev pub IsShown : HeaderView → WorldState → Line → Answer → Type 0
+IsShown h w l a = (D : Document) × (tree : List ℕ) × HasShown (opening_document h) w.log l D × IsTreeText (is_array_type h.schema) D tree × (a ≡ answer.Show tree)
+
+-- what an act makes of the world, for its client and that one's place, on the line of a number
+abbrev pub IsActOf : HeaderView → WorldState → ActView → ℕ → Client → ℕ → Line → WorldState → Answer → Type 0
+IsActOf h w step.join i c k l v a = IsUnchanged w v a (answer.No no.Taken)
+IsActOf h w (step.edit e) i c k l v a = IsEdited h w i c k l e v a
+IsActOf h w (step.need at) i c k l v a = IsNeeded h w i c k l at v a
+IsActOf h w step.begin i c k l v a = IsBegun h w i c k l v a
+IsActOf h w step.commit i c k l v a = with_client w i (commit c k l.transaction) ≡ (v, a)
+IsActOf h w step.abort i c k l v a = with_client w i (abort c k l.transaction) ≡ (v, a)
+IsActOf h w (step.undo rev) i c k l v a = IsUndoneBy h w i c rev v a
+IsActOf h w step.sequence i c k l v a = sequence w i c c.queue ≡ (v, a)
+IsActOf h w step.ack i c k l v a = with_client w i (with_ack c, answer.Ack c.received) ≡ (v, a)
+IsActOf h w step.deliver i c k l v a = IsDelivered h w i c v a
+IsActOf h w step.leave i c k l v a = leave w i c (entries_limit_passed w.log) ≡ (v, a)
+IsActOf h w step.drop_client i c k l v a = drop_client w i c (entries_limit_passed w.log) ≡ (v, a)
+IsActOf h w step.reconnect i c k l v a = reconnect w i c (refusal_to_reconnect w.log c) ≡ (v, a)
+IsActOf h w step.fork i c k l v a = IsForked w i c k l v a
+IsActOf h w step.rebase i c k l v a = IsRebasedBy h w i c k v a
+IsActOf h w step.merge i c k l v a = IsMergedBy h w i c k v a
+IsActOf h w step.drop_branch i c k l v a = IsBranchDropped w i c k v a
+IsActOf h w step.show i c k l v a = (v ≡ w) × IsShown h w l a
 
 -- where no client has the name: one joins, and nothing else is done
 abbrev pub act_of_none : WorldState → List ℕ → ActView → WorldState × Answer
@@ -318,6 +351,10 @@ act_of_none w name step.deliver = (w, answer.No no.NoClient)
 act_of_none w name step.leave = (w, answer.No no.NoClient)
 act_of_none w name step.drop_client = (w, answer.No no.NoClient)
 act_of_none w name step.reconnect = (w, answer.No no.NoClient)
+act_of_none w name step.fork = (w, answer.No no.NoClient)
+act_of_none w name step.rebase = (w, answer.No no.NoClient)
+act_of_none w name step.merge = (w, answer.No no.NoClient)
+act_of_none w name step.drop_branch = (w, answer.No no.NoClient)
 act_of_none w name step.show = (w, answer.No no.NoClient)
 
 -- the branch that an act is on: what a client does as a whole is on the main one, 0, whatever branch stands beside it
@@ -335,6 +372,10 @@ branch_at branch step.deliver = 0
 branch_at branch step.leave = 0
 branch_at branch step.drop_client = 0
 branch_at branch step.reconnect = 0
+branch_at branch step.fork = branch
+branch_at branch step.rebase = branch
+branch_at branch step.merge = branch
+branch_at branch step.drop_branch = branch
 branch_at branch step.show = branch
 
 -- whether only a client that is connected does the act
@@ -352,6 +393,10 @@ needs_connection step.deliver = true
 needs_connection step.leave = true
 needs_connection step.drop_client = true
 needs_connection step.reconnect = false
+needs_connection step.fork = false
+needs_connection step.rebase = false
+needs_connection step.merge = false
+needs_connection step.drop_branch = false
 needs_connection step.show = false
 
 -- an act that needs a connection is refused of a client that has none
@@ -360,15 +405,19 @@ ByConnected false connected w v a next = next
 ByConnected true true w v a next = next
 ByConnected true false w v a next = IsUnchanged w v a (answer.No no.NotConnected)
 
--- there is the main branch, and no other
-abbrev pub OnBranch : ℕ → WorldState → WorldState → Answer → Type 0 → Type 0
-OnBranch zero w v a next = next
-OnBranch (suc k) w v a next = IsUnchanged w v a (answer.No no.NoBranch)
+-- an act on a line that the client has
+abbrev pub OnLine : WorldState → (Line → Type 0) → Option Line → WorldState → Answer → Type 0
+OnLine w does None v a = IsUnchanged w v a (answer.No no.NoBranch)
+OnLine w does (Some l) v a = does l
+
+-- a step of the client at a place, on the line of a number
+abbrev pub AtLine : HeaderView → WorldState → ActView → ℕ → Client → ℕ → WorldState → Answer → Type 0
+AtLine h w act i c k v a = OnLine w (λ l. ByConnected (needs_connection act) c.connected w v a (IsActOf h w act i c k l v a)) (line_of c k) v a
 
 -- a step of the client at its place, if there is one
 abbrev pub AtClient : HeaderView → WorldState → StepView → Option (ℕ × Client) → WorldState → Answer → Type 0
 AtClient h w s None v a = act_of_none w s.client s.act ≡ (v, a)
-AtClient h w s (Some p) v a = OnBranch (branch_at s.branch s.act) w v a (ByConnected (needs_connection s.act) p.1.connected w v a (IsActOf h w s.act p.0 p.1 v a))
+AtClient h w s (Some p) v a = AtLine h w s.act p.0 p.1 (branch_at s.branch s.act) v a
 
 -- the world after a step, and the answer
 abbrev pub IsNext : HeaderView → WorldState → StepView → WorldState → Answer → Type 0

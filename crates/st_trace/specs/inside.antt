@@ -2,3 +2,5 @@
 pub mod Edits
 pub mod Replicas
 pub mod Undo
+pub mod Branches
+pub mod BranchEdits

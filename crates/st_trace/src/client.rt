@@ -36,6 +36,8 @@ fn new_client(alloc: Global, n: u32, session: u32, name: &Text) -> Result<Client
         pending: List::new(alloc),
         transaction: None,
         queue: List::new(alloc),
+        forks: 0,
+        branches: List::new(alloc),
     })
 }
 
@@ -77,6 +79,7 @@ fn new_replica(alloc: Global, doc: &Doc) -> Result<Replica, AllocError>
     Ok(Replica {
         received,
         main,
+        branches: List::new(alloc),
         names: 0,
     })
 }

@@ -3,6 +3,7 @@ ghost use Rattle.std.specs.Prelude.{◌≡◌, ◌+◌, ◌^◌, ◌<◌, length
 ghost use Rattle.st_script.specs.Header.{header_view};
 ghost use Rattle.st_script.specs.Steps as act;
 ghost use Rattle.st_script.specs.Steps.{edit_view, IsEditWithin};
+ghost use Rattle.st_lists.specs.Lines.{main_line};
 ghost use Rattle.st_trace.specs.World.{IsActOf, AtRefusal};
 ghost use Rattle.st_trace.specs.Replicas.{IsSound};
 ghost use Rattle.st_trace.specs.inside.Replicas.{IsSoundNext};
@@ -27,7 +28,7 @@ impl World {
         requires few { self.old.steps + 1 < 2 ^ 32 }
         requires within { IsEditWithin (edit_view edit.now) }
         ensures next { IfOk result (λ a. (c : Present) → slice_get self.old.lists.clients i ≡ Some c
-            → IsActOf (header_view self.old.header) self.old.lists (act.edit (edit_view edit.now)) i c self.new.lists a) }
+            → IsActOf (header_view self.old.header) self.old.lists (act.edit (edit_view edit.now)) i c 0 (main_line c) self.new.lists a) }
         ensures sound { OnOk result (IsSoundNext self.new) }
         ensures steps { OnOk result (self.new.steps ≡ self.old.steps) }
         ensures header { OnOk result (self.new.header ≡ self.old.header) }
@@ -50,7 +51,7 @@ impl World {
         requires few { self.old.steps + 1 < 2 ^ 32 }
         requires short { length at.now < 2 ^ 32 }
         ensures next { IfOk result (λ a. (c : Present) → slice_get self.old.lists.clients i ≡ Some c
-            → IsActOf (header_view self.old.header) self.old.lists (act.need at.now) i c self.new.lists a) }
+            → IsActOf (header_view self.old.header) self.old.lists (act.need at.now) i c 0 (main_line c) self.new.lists a) }
         ensures sound { OnOk result (IsSoundNext self.new) }
         ensures steps { OnOk result (self.new.steps ≡ self.old.steps) }
         ensures header { OnOk result (self.new.header ≡ self.old.header) }
@@ -72,7 +73,7 @@ impl World {
         requires sound { IsSound self.old }
         requires few { self.old.steps + 1 < 2 ^ 32 }
         ensures next { (c : Present) → slice_get self.old.lists.clients i ≡ Some c
-            → IsActOf (header_view self.old.header) self.old.lists act.begin i c self.new.lists result }
+            → IsActOf (header_view self.old.header) self.old.lists act.begin i c 0 (main_line c) self.new.lists result }
         ensures sound { IsSoundNext self.new }
         ensures steps { self.new.steps ≡ self.old.steps }
         ensures header { self.new.header ≡ self.old.header }
@@ -98,7 +99,7 @@ impl World {
         requires sound { IsSound self.old }
         requires few { self.old.steps + 1 < 2 ^ 32 }
         ensures next { IfOk result (λ a. (c : Present) → slice_get self.old.lists.clients i ≡ Some c
-            → IsActOf (header_view self.old.header) self.old.lists act.commit i c self.new.lists a) }
+            → IsActOf (header_view self.old.header) self.old.lists act.commit i c 0 (main_line c) self.new.lists a) }
         ensures sound { OnOk result (IsSoundNext self.new) }
         ensures steps { OnOk result (self.new.steps ≡ self.old.steps) }
         ensures header { OnOk result (self.new.header ≡ self.old.header) }
@@ -120,7 +121,7 @@ impl World {
         requires sound { IsSound self.old }
         requires few { self.old.steps + 1 < 2 ^ 32 }
         ensures next { (c : Present) → slice_get self.old.lists.clients i ≡ Some c
-            → IsActOf (header_view self.old.header) self.old.lists act.abort i c self.new.lists result }
+            → IsActOf (header_view self.old.header) self.old.lists act.abort i c 0 (main_line c) self.new.lists result }
         ensures sound { IsSoundNext self.new }
         ensures steps { self.new.steps ≡ self.old.steps }
         ensures header { self.new.header ≡ self.old.header }

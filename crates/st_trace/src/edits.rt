@@ -9,11 +9,13 @@ ghost use Rattle.st_edits.specs.Resolve.{IsWithin, resolve};
 ghost use Rattle.st_heads.specs.Transactions.{HasOpen, with_open};
 ghost use Rattle.st_script.specs.Steps.{edit_view};
 ghost use Rattle.st_lists.specs.Clients.{joined_of, with_commit, with_new_commit};
-ghost use Rattle.st_lists.specs.Limits.{limit_passed, pending_limit_passed};
+ghost use Rattle.st_lists.specs.Limits.{limit_passed, own_limit_passed, pending_limit_passed};
+ghost use Rattle.st_lists.specs.Lines.{Line, main_line};
 ghost use Rattle.st_lists.specs.Names.{names_made, unsequenced};
 ghost use Rattle.st_lists.specs.declared.lists.Body.TheVariants.{Commit};
-ghost use Rattle.st_trace.specs.World.{IsAfterEdit, answer_of, last_in_effect, next_names, refusal_of, with_pending, word_of};
-ghost use Rattle.st_trace.specs.inside.Edits.{edit_of, names_limit};
+ghost use Rattle.st_lists.specs.declared.lists.Client.{Client as Present};
+ghost use Rattle.st_trace.specs.World.{IsAfterEdit, answer_of, last_in_effect, next_names, refusal_of, with_new_on, word_of};
+ghost use Rattle.st_trace.specs.inside.Edits.{edit_of, limit_on, line_limit, names_limit};
 ghost use Rattle.st_trace.specs.inside.Replicas.{CanTake, HasTaken, HasNumbersLeft, HasTakenIn, IsCommitted, IsPending, IsTakenIn};
 
 use crate::client::EditWord;
@@ -22,7 +24,7 @@ use crate::transactions::join_part;
 use st_doc::Doc;
 use st_edits::NameCounters;
 use st_ids::{Copied, Limit, LimitOf, List, Or, Rev};
-use st_lists::{Body, Client, names_made};
+use st_lists::{Body, Client, Transaction, names_made};
 use st_marks::Intent;
 use st_resolve::{clear, insert, move_items, remove, set};
 use st_schema::Schema;
@@ -30,8 +32,8 @@ use st_script::{Answer, EditAct, Refusal};
 use st_tree::EditFault;
 use std::alloc::{AllocError, Global};
 
-/// How many commits a client may have pending.
-const MOST_PENDING: usize = 256;
+/// How many commits of its own a line may have.
+const MOST_OWN: usize = 256;
 
 /// How many names may wait at a client.
 const MOST_NAMES: u64 = 16_384;
@@ -130,15 +132,15 @@ pub fn last_in_effect(doc: &Doc) -> Rev
     }
 }
 
-/// The names that an edit may give: those of the next commit, or the next ones of the transaction that is open.
-pub fn next_names(client: &Client) -> NameCounters
-    requires { client.now.ids + 1 < 2 ^ 32 }
-    ensures { result ≡ next_names client.now client.now.transaction }
+/// The names that an edit on a line may give, where its client has that session and has generated so many ids: those of the
+/// next commit, or the next ones of the transaction that is open on the line.
+pub fn next_names_of(session: u32, ids: u32, transaction: &Option<Transaction>) -> NameCounters
+    requires { ids + 1 < 2 ^ 32 }
+    ensures { (c : Present) → c.session ≡ session → c.ids ≡ ids → result ≡ next_names c transaction.now }
 {
-    match &client.transaction {
+    match transaction {
         None => {
-            let session = client.session;
-            let num = client.ids + 1;
+            let num = ids + 1;
             NameCounters {
                 rev: Rev { session, num },
                 nodes: 0,
@@ -153,18 +155,52 @@ pub fn next_names(client: &Client) -> NameCounters
     }
 }
 
+/// The names that an edit on the main line may give.
+pub fn next_names(client: &Client) -> NameCounters
+    requires { client.now.ids + 1 < 2 ^ 32 }
+    ensures { result ≡ next_names client.now client.now.transaction }
+{
+    next_names_of(client.session, client.ids, &client.transaction)
+}
+
+// What is limited on the line of a number.
+fn limit_on(number: u32) -> LimitOf
+    ensures { result ≡ limit_on number }
+{
+    if number == 0 {
+        LimitOf::Pending
+    } else {
+        LimitOf::Branch
+    }
+}
+
+// The limit that so many more commits on the line of a number would pass beside so many.
+fn line_limit(number: u32, own: usize, more: usize) -> Option<Limit>
+    requires { own ≤ 256 }
+    ensures { result ≡ line_limit number own more }
+{
+    if own.saturating_add(more) > MOST_OWN {
+        let of = limit_on(number);
+        let kept = own as u32;
+        return Some(Limit { of, kept });
+    }
+    None
+}
+
+/// The limit that so many more commits on the line of a number would pass, which has so many of its own, if they pass it.
+pub fn own_limit_passed(number: u32, own: usize, more: usize) -> Option<Limit>
+    requires { own ≤ 256 }
+    ensures { (l : Line) → length l.own ≡ own → result ≡ own_limit_passed number l more }
+{
+    line_limit(number, own, more)
+}
+
 /// The limit that one more pending commit would pass, if it passes one.
 pub fn pending_limit_passed(client: &Client) -> Option<Limit>
     requires { length client.now.pending ≤ 256 }
     ensures { result ≡ pending_limit_passed client.now }
 {
-    let pending = client.pending.len();
-    if pending >= MOST_PENDING {
-        let of = LimitOf::Pending;
-        let kept = pending as u32;
-        return Some(Limit { of, kept });
-    }
-    None
+    own_limit_passed(0, client.pending.len(), 1)
 }
 
 /// The limit that the names of an intent would pass beside so many that wait, if they pass it.
@@ -185,7 +221,7 @@ fn limit_passed(client: &Client, names: u64, intent: &Intent) -> Option<Limit>
     requires names { names ≡ unsequenced client.now }
     requires few { unsequenced client.now ≤ 16384 }
     requires pending { length client.now.pending ≤ 256 }
-    ensures { result ≡ limit_passed client.now intent.now }
+    ensures { result ≡ limit_passed client.now 0 (main_line client.now) intent.now }
 {
     match pending_limit_passed(client) {
         Some(limit) => Some(limit),
@@ -260,8 +296,8 @@ fn add_pending(
     requires few_names { unsequenced client.old ≤ 16384 }
     requires sound { IsSoundInForm (document_of kept.old.main.doc) }
     requires fits { Fits (document_of kept.old.main.doc) intent }
-    ensures answer { IfOk result (λ a. with_pending client.old done intent (limit_passed client.old intent) ≡ (client.new, a)) }
-    ensures kept { OnOk result (IsPending kept.old intent (limit_passed client.old intent) kept.new) }
+    ensures answer { IfOk result (λ a. with_new_on client.old 0 done intent (limit_passed client.old 0 (main_line client.old) intent) ≡ (client.new, a)) }
+    ensures kept { OnOk result (IsPending kept.old intent (limit_passed client.old 0 (main_line client.old) intent) kept.new) }
 {
     if let Some(limit) = limit_passed(client, kept.names, &intent) {
         return Ok(Answer::No(Refusal::Limit(limit)));
@@ -285,15 +321,22 @@ pub fn take_in(
     requires names { kept.old.names ≡ unsequenced client.old }
     requires few_names { unsequenced client.old ≤ 16384 }
     requires sound { IsSoundInForm (document_of kept.old.main.doc) }
-    requires can { CanTake kept.old client.old.transaction done intent }
-    ensures answer { IfOk result (IsTakenIn client.old client.old.transaction done intent client.new) }
+    requires can { CanTake kept.old.main client.old.transaction done intent }
+    ensures answer { IfOk result (IsTakenIn client.old 0 (main_line client.old) client.old.transaction done intent client.new) }
     ensures kept { OnOk result (HasTakenIn client.old client.old.transaction kept.old intent client.new kept.new) }
 {
     let Some(transaction) = client.transaction.as_mut() else {
         let answer = add_pending(alloc, client, kept, done, intent)?;
         return Ok(answer);
     };
-    let answer = join_part(alloc, transaction, kept, done, intent)?;
+    let answer = join_part(
+        alloc,
+        transaction,
+        &mut kept.names,
+        &mut kept.main,
+        done,
+        intent,
+    )?;
     Ok(answer)
 }
 
@@ -314,8 +357,8 @@ pub fn edit(
     requires open { HasOpen kept.old.main (joined_of client.old) }
     requires given { HasNumbersLeft client.old.transaction }
     requires can { (N : Meant) → resolve (with_open (document_of kept.old.main.doc) (joined_of client.old)) schema.now (next_names client.old client.old.transaction) (edit_of edit.now) ≡ Ok N
-        → CanTake kept.old client.old.transaction (word_of (edit_view edit.now)) N }
-    ensures answer { IfOk result (IsAfterEdit client.old client.old.transaction (word_of (edit_view edit.now))
+        → CanTake kept.old.main client.old.transaction (word_of (edit_view edit.now)) N }
+    ensures answer { IfOk result (IsAfterEdit client.old 0 (main_line client.old) client.old.transaction (word_of (edit_view edit.now))
         (resolve (with_open (document_of kept.old.main.doc) (joined_of client.old)) schema.now (next_names client.old client.old.transaction) (edit_of edit.now)) client.new) }
     ensures kept { OnOk result (HasTaken client.old client.old.transaction kept.old
         (resolve (with_open (document_of kept.old.main.doc) (joined_of client.old)) schema.now (next_names client.old client.old.transaction) (edit_of edit.now)) client.new kept.new) }

@@ -1,6 +1,10 @@
 //! The world of a trace: the log, the clients and what each of them shows.
 #![tactic(auto)]
 
+mod branch_edit_steps;
+mod branch_edits;
+mod branch_steps;
+mod branches;
 mod client;
 mod edit_steps;
 mod edits;

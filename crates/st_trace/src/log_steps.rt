@@ -25,6 +25,7 @@ fn renew_main(alloc: Global, kept: &mut Replica, pending: &[Intent]) -> Result<(
     ensures own { OnOk result (AreCarried (document_of kept.old.received) pending.now kept.new.main.own (document_of kept.new.main.doc)) }
     ensures edited { OnOk result (kept.new.main.edited ≡ None) }
     ensures received { OnOk result (kept.new.received ≡ kept.old.received) }
+    ensures branches { OnOk result (kept.new.branches ≡ kept.old.branches) }
     ensures names { OnOk result (kept.new.names ≡ kept.old.names) }
 {
     kept.main = Head::over(alloc, &kept.received, pending)?;

@@ -72,6 +72,15 @@ fn carry_entries(alloc: Global, doc: &mut Doc, entries: &[Entry]) -> Result<(), 
     Ok(())
 }
 
+// How many names the first commits make, so many of them.
+fn names_of_first(pending: &[Intent], count: usize) -> u64
+    requires within { count ≤ length pending.now }
+    requires few { names_in pending.now ≤ 16384 }
+    ensures { result + names_in (drop count pending.now) ≡ names_in pending.now }
+{
+    names_in(pending.split_at(count).0)
+}
+
 // Lets go of so many pending commits, the first ones.
 fn drop_first(pending: &mut List<Intent>, count: usize)
     requires { count ≤ length pending.old }
@@ -82,6 +91,18 @@ fn drop_first(pending: &mut List<Intent>, count: usize)
         let _ = pending.remove(0);
         left -= 1;
     }
+}
+
+// Lets go of so many pending commits, the first ones, and of their names among those that wait.
+fn drop_known(names: &mut u64, pending: &mut List<Intent>, count: usize)
+    requires within { count ≤ length pending.old }
+    requires few { names.old ≤ 16384 }
+    requires names { names_in pending.old ≤ names.old }
+    ensures pending { pending.new ≡ drop count pending.old }
+    ensures names { names.new + names_in pending.old ≡ names.old + names_in (drop count pending.old) }
+{
+    *names -= names_of_first(pending.as_slice(), count);
+    drop_first(pending, count);
 }
 
 // Commits as texts that wait, with a reference.
@@ -114,15 +135,14 @@ fn receive_all(
     requires sound { IsSoundInForm (document_of kept.old.received) }
     requires fit { FitInTurn (document_of kept.old.received) (commits_in missed.now) }
     requires later { (D : Document) → Run (document_of kept.old.received) (commits_in missed.now) D → FitInTurn D pending.now }
-    requires few { names_in pending.now ≤ 16384 }
     ensures received { OnOk result (Run (document_of kept.old.received) (commits_in missed.now) (document_of kept.new.received)) }
     ensures own { OnOk result (AreCarried (document_of kept.new.received) pending.now kept.new.main.own (document_of kept.new.main.doc)) }
     ensures edited { OnOk result (kept.new.main.edited ≡ None) }
-    ensures names { OnOk result (kept.new.names ≡ names_in pending.now) }
+    ensures branches { OnOk result (kept.new.branches ≡ kept.old.branches) }
+    ensures names { OnOk result (kept.new.names ≡ kept.old.names) }
 {
     carry_entries(alloc, &mut kept.received, missed)?;
     kept.main = Head::over(alloc, &kept.received, pending)?;
-    kept.names = names_in(pending);
     Ok(())
 }
 
@@ -141,13 +161,15 @@ pub fn catch_up(
     requires sound { IsSoundInForm (document_of kept.old.received) }
     requires fit { FitInTurn (document_of kept.old.received) (commits_in (drop client.old.received log.now)) }
     requires later { (D : Document) → Run (document_of kept.old.received) (commits_in (drop client.old.received log.now)) D → FitInTurn D (waiting log.now client.old) }
-    requires few_names { names_in (waiting log.now client.old) ≤ 16384 }
+    requires few_names { kept.old.names ≤ 16384 }
+    requires names { names_in client.old.pending ≤ kept.old.names }
     ensures client { OnOk result (client.new ≡ with_connection log.now client.old) }
     ensures sent { IfOk result (λ sent. sent ≡ length (waiting log.now client.old)) }
     ensures kept { OnOk result (HasCaughtUp log.now client.old kept.old kept.new) }
 {
     let missed = entries_after(log, client.received);
-    drop_first(&mut client.pending, count_own(missed, client.session));
+    let known = count_own(missed, client.session);
+    drop_known(&mut kept.names, &mut client.pending, known);
     receive_all(alloc, kept, missed, client.pending.as_slice())?;
     let n = log.len() as u32 + 1;
     client.queue = texts_of(alloc, client.pending.as_slice(), n)?;

@@ -7,6 +7,7 @@ ghost use Rattle.st_lists.specs.Clients.{without_connection};
 ghost use Rattle.st_lists.specs.Known.{AreConnected, AreKnown};
 ghost use Rattle.st_lists.specs.Limits.{entries_limit_passed};
 ghost use Rattle.st_lists.specs.Log.{log_with, minimum};
+ghost use Rattle.st_lists.specs.Lines.{main_line};
 ghost use Rattle.st_trace.specs.World.{IsActOf, AtRefusal};
 ghost use Rattle.st_trace.specs.Replicas.{IsSound};
 ghost use Rattle.st_trace.specs.inside.Replicas.{IsSoundNext};
@@ -86,7 +87,7 @@ impl World {
         requires sound { IsSound self.old }
         requires few { self.old.steps + 1 < 2 ^ 32 }
         ensures next { IfOk result (λ a. (c : Present) → slice_get self.old.lists.clients i ≡ Some c
-            → IsActOf (header_view self.old.header) self.old.lists act.leave i c self.new.lists a) }
+            → IsActOf (header_view self.old.header) self.old.lists act.leave i c 0 (main_line c) self.new.lists a) }
         ensures sound { OnOk result (IsSoundNext self.new) }
         ensures steps { OnOk result (self.new.steps ≡ self.old.steps) }
         ensures header { OnOk result (self.new.header ≡ self.old.header) }
@@ -111,7 +112,7 @@ impl World {
         requires sound { IsSound self.old }
         requires few { self.old.steps + 1 < 2 ^ 32 }
         ensures next { IfOk result (λ a. (c : Present) → slice_get self.old.lists.clients i ≡ Some c
-            → IsActOf (header_view self.old.header) self.old.lists act.drop_client i c self.new.lists a) }
+            → IsActOf (header_view self.old.header) self.old.lists act.drop_client i c 0 (main_line c) self.new.lists a) }
         ensures sound { OnOk result (IsSoundNext self.new) }
         ensures steps { OnOk result (self.new.steps ≡ self.old.steps) }
         ensures header { OnOk result (self.new.header ≡ self.old.header) }
@@ -135,7 +136,7 @@ impl World {
         requires sound { IsSound self.old }
         requires few { self.old.steps + 1 < 2 ^ 32 }
         ensures next { IfOk result (λ a. (c : Present) → slice_get self.old.lists.clients i ≡ Some c
-            → IsActOf (header_view self.old.header) self.old.lists act.reconnect i c self.new.lists a) }
+            → IsActOf (header_view self.old.header) self.old.lists act.reconnect i c 0 (main_line c) self.new.lists a) }
         ensures sound { OnOk result (IsSoundNext self.new) }
         ensures steps { OnOk result (self.new.steps ≡ self.old.steps) }
         ensures header { OnOk result (self.new.header ≡ self.old.header) }

@@ -8,6 +8,7 @@ ghost use Rattle.st_doc.specs.Doc.{document_of};
 ghost use Rattle.st_edits.specs.Resolve.{need as need_in};
 ghost use Rattle.st_heads.specs.Transactions.{HasOpen, IsWithPart, with_open};
 ghost use Rattle.st_lists.specs.Clients.{joined_of, with_edited};
+ghost use Rattle.st_lists.specs.Lines.{main_line};
 ghost use Rattle.st_lists.specs.Names.{names_made, unsequenced};
 ghost use Rattle.st_trace.specs.declared.client.EditWord.{EditWord as Word};
 ghost use Rattle.st_trace.specs.declared.client.EditWord.TheVariants as word;
@@ -20,6 +21,7 @@ use crate::edits::{
     answer_of, enqueue, names_limit_passed, next_names, pending_limit_passed, refusal_of, take_in,
 };
 use crate::replica::Replica;
+use st_heads::Head;
 use st_ids::{Or, Path, Rev};
 use st_lists::{Client, Transaction, names_made};
 use st_marks::Intent;
@@ -56,41 +58,44 @@ fn count_numbers(transaction: &mut Transaction, done: EditWord, part: &Intent)
 fn add_part(
     alloc: Global,
     transaction: &mut Transaction,
-    kept: &mut Replica,
+    names: &mut u64,
+    head: &mut Head,
     done: EditWord,
     part: Intent,
 ) -> Result<(), AllocError>
-    requires line { IsSoundInForm (document_of kept.old.main.doc) }
-    requires can { CanJoin kept.old transaction.old done part }
-    requires names { kept.old.names + names_made part ≤ 16384 }
+    requires line { IsSoundInForm (document_of head.old.doc) }
+    requires can { CanJoin head.old transaction.old done part }
+    requires names { names.old + names_made part ≤ 16384 }
     ensures transaction { OnOk result ((J : Meant) × IsWithPart transaction.old.joined part J
         × (transaction.new ≡ with_edited transaction.old J (length part.new) (cells_given done part))) }
-    ensures kept { OnOk result (HasPart kept.old part transaction.new.joined kept.new) }
+    ensures kept { OnOk result (HasPart head.old names.old part transaction.new.joined head.new names.new) }
 {
-    kept.names += names_made(&part);
+    *names += names_made(&part);
     count_numbers(transaction, done, &part);
-    kept.main.edit(alloc, &mut transaction.joined, part)?;
+    head.edit(alloc, &mut transaction.joined, part)?;
     Ok(())
 }
 
-/// Joins a part to what was edited before, if it passes no limit.
+/// Joins a part to what was edited before in the transaction that is open on a line, if it passes no limit beside so many
+/// names that wait at the client.
 pub fn join_part(
     alloc: Global,
     transaction: &mut Transaction,
-    kept: &mut Replica,
+    names: &mut u64,
+    head: &mut Head,
     done: EditWord,
     part: Intent,
 ) -> Result<Answer, AllocError>
-    requires line { IsSoundInForm (document_of kept.old.main.doc) }
-    requires few { kept.old.names ≤ 16384 }
-    requires can { CanJoin kept.old transaction.old done part }
-    ensures answer { IfOk result (IsJoinedIn transaction.old done part (names_limit kept.old.names part) transaction.new) }
-    ensures kept { OnOk result (HasJoined kept.old part (names_limit kept.old.names part) transaction.new.joined kept.new) }
+    requires line { IsSoundInForm (document_of head.old.doc) }
+    requires few { names.old ≤ 16384 }
+    requires can { CanJoin head.old transaction.old done part }
+    ensures answer { IfOk result (IsJoinedIn transaction.old done part (names_limit names.old part) transaction.new) }
+    ensures kept { OnOk result (HasJoined head.old names.old part (names_limit names.old part) transaction.new.joined head.new names.new) }
 {
-    if let Some(limit) = names_limit_passed(kept.names, &part) {
+    if let Some(limit) = names_limit_passed(*names, &part) {
         return Ok(Answer::No(Refusal::Limit(limit)));
     }
-    add_part(alloc, transaction, kept, done, part)?;
+    add_part(alloc, transaction, names, head, done, part)?;
     Ok(answer_of(done, transaction.rev))
 }
 
@@ -109,8 +114,8 @@ pub fn need(
     requires sound { IsSoundInForm (document_of kept.old.main.doc) }
     requires open { HasOpen kept.old.main (joined_of client.old) }
     requires can { (N : Meant) → need_in (with_open (document_of kept.old.main.doc) (joined_of client.old)) (next_names client.old client.old.transaction) at.now ≡ Ok N
-        → CanTake kept.old client.old.transaction word.Need N }
-    ensures answer { IfOk result (IsAfterNeed client.old client.old.transaction
+        → CanTake kept.old.main client.old.transaction word.Need N }
+    ensures answer { IfOk result (IsAfterNeed client.old 0 client.old.transaction
         (need_in (with_open (document_of kept.old.main.doc) (joined_of client.old)) (next_names client.old client.old.transaction) at.now) client.new) }
     ensures kept { OnOk result (HasTakenNeed client.old client.old.transaction kept.old
         (need_in (with_open (document_of kept.old.main.doc) (joined_of client.old)) (next_names client.old client.old.transaction) at.now) client.new kept.new) }
@@ -132,7 +137,7 @@ pub fn need(
 pub fn begin(client: &mut Client, under: Rev) -> Answer
     requires few { client.old.ids + 1 < 2 ^ 32 }
     requires pending { length client.old.pending ≤ 256 }
-    ensures { begin client.old client.old.transaction under ≡ (client.new, result) }
+    ensures { begin client.old 0 (main_line client.old) client.old.transaction under ≡ (client.new, result) }
 {
     if client.transaction.is_some() {
         return Answer::No(Refusal::Unfinished);
@@ -164,7 +169,7 @@ fn commit_joined(
 ) -> Result<Answer, AllocError>
     requires sound { IsSoundInForm (document_of kept.old.main.doc) }
     requires fits { IfSome joined (Fits (document_of kept.old.main.doc)) }
-    ensures answer { IfOk result (λ a. after_commit client.old rev joined ≡ (client.new, a)) }
+    ensures answer { IfOk result (λ a. after_commit client.old 0 rev joined ≡ (client.new, a)) }
     ensures kept { OnOk result (HasCommittedOf kept.old joined kept.new) }
 {
     match joined {
@@ -181,7 +186,7 @@ fn commit_joined(
 pub fn commit(alloc: Global, client: &mut Client, kept: &mut Replica) -> Result<Answer, AllocError>
     requires sound { IsSoundInForm (document_of kept.old.main.doc) }
     requires fits { IfSome (joined_of client.old) (Fits (document_of kept.old.main.doc)) }
-    ensures answer { IfOk result (λ a. commit client.old client.old.transaction ≡ (client.new, a)) }
+    ensures answer { IfOk result (λ a. commit client.old 0 client.old.transaction ≡ (client.new, a)) }
     ensures kept { OnOk result (HasCommitted client.old.transaction kept.old kept.new) }
 {
     match client.transaction.take() {
@@ -194,8 +199,8 @@ pub fn commit(alloc: Global, client: &mut Client, kept: &mut Replica) -> Result<
     }
 }
 
-// How many names were made in a transaction.
-fn names_edited(joined: &Option<Intent>) -> u64
+/// How many names were made in a transaction, by what was edited in it, or the greatest number if there are more.
+pub fn names_edited(joined: &Option<Intent>) -> u64
     ensures { result ≡ min (option_map_or names_made joined.now 0) (2 ^ 64 - 1) }
 {
     match joined {
@@ -208,7 +213,7 @@ fn names_edited(joined: &Option<Intent>) -> u64
 pub fn abort(client: &mut Client, kept: &mut Replica) -> Answer
     requires names { kept.old.names ≡ unsequenced client.old }
     requires few_names { unsequenced client.old ≤ 16384 }
-    ensures answer { abort client.old client.old.transaction ≡ (client.new, result) }
+    ensures answer { abort client.old 0 client.old.transaction ≡ (client.new, result) }
     ensures kept { HasAborted client.old.transaction kept.old kept.new }
 {
     match client.transaction.take() {

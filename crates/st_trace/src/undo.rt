@@ -22,8 +22,8 @@ use st_script::{Answer, Refusal};
 use std::alloc::{AllocError, Global};
 use std::collections::BTreeMap;
 
-// The revision of a client's next commit.
-fn next_rev(client: &Client) -> Rev
+/// The revision of a client's next commit.
+pub fn next_rev(client: &Client) -> Rev
     requires { client.now.ids + 1 < 2 ^ 32 }
     ensures { result ≡ next_rev client.now }
 {

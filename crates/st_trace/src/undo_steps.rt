@@ -3,6 +3,7 @@ ghost use Rattle.std.specs.Prelude.{◌≡◌, ◌+◌, ◌^◌, ◌<◌, ◌++�
 ghost use Rattle.st_script.specs.Header.{header_view};
 ghost use Rattle.st_script.specs.Steps as act;
 ghost use Rattle.st_lists.specs.Clients.{with_ack};
+ghost use Rattle.st_lists.specs.Lines.{main_line};
 ghost use Rattle.st_trace.specs.World.{IsActOf, AtRefusal};
 ghost use Rattle.st_trace.specs.Replicas.{IsSound};
 ghost use Rattle.st_trace.specs.inside.Replicas.{IsSoundNext};
@@ -31,7 +32,7 @@ impl World {
         requires sound { IsSound self.old }
         requires few { self.old.steps + 1 < 2 ^ 32 }
         ensures next { IfOk result (λ a. (c : Present) → slice_get self.old.lists.clients i ≡ Some c
-            → IsActOf (header_view self.old.header) self.old.lists (act.undo rev) i c self.new.lists a) }
+            → IsActOf (header_view self.old.header) self.old.lists (act.undo rev) i c 0 (main_line c) self.new.lists a) }
         ensures sound { OnOk result (IsSoundNext self.new) }
         ensures steps { OnOk result (self.new.steps ≡ self.old.steps) }
         ensures header { OnOk result (self.new.header ≡ self.old.header) }
@@ -55,7 +56,7 @@ impl World {
         requires few { self.old.steps + 1 < 2 ^ 32 }
         requires connected { (c : Present) → slice_get self.old.lists.clients i ≡ Some c → c.connected ≡ true }
         ensures next { IfOk result (λ a. (c : Present) → slice_get self.old.lists.clients i ≡ Some c
-            → IsActOf (header_view self.old.header) self.old.lists act.ack i c self.new.lists a) }
+            → IsActOf (header_view self.old.header) self.old.lists act.ack i c 0 (main_line c) self.new.lists a) }
         ensures sound { OnOk result (IsSoundNext self.new) }
         ensures steps { OnOk result (self.new.steps ≡ self.old.steps) }
         ensures header { OnOk result (self.new.header ≡ self.old.header) }

@@ -1,5 +1,5 @@
 //! The world: its lists, and the documents and numbers that its answers are read off.
-ghost use Rattle.std.specs.Prelude.{◌≡◌, ◌↔◌, ◌+◌, ◌-◌, ◌^◌, ◌<◌, ◌≤◌, ◌++◌, ◌∷◌, ◌&&◌, not, true, false, is_some, length, [], None, Some, slice_get, IfOk, IfSome, OnOk, IsErrOf};
+ghost use Rattle.std.specs.Prelude.{◌≡◌, ◌≢◌, ◌↔◌, ◌+◌, ◌-◌, ◌^◌, ◌<◌, ◌≤◌, ◌++◌, ◌∷◌, ◌&&◌, not, true, false, is_some, length, [], None, Some, slice_get, IfOk, IfSome, OnOk, IsErrOf};
 ghost use Rattle.st_marks.specs.Document.{IsSoundInForm};
 ghost use Rattle.st_marks.specs.Intent.{Fits};
 ghost use Rattle.st_doc.specs.Doc.{document_of};
@@ -9,6 +9,7 @@ ghost use Rattle.st_doc.specs.LiveText.{is_among};
 ghost use Rattle.st_edits.specs.ArrayTypes.{is_array_type};
 ghost use Rattle.st_lists.specs.Clients.{empty_state, place_of};
 ghost use Rattle.st_trace.specs.World.{opening_document, limit_refusal, join, sequence, act_of_none, branch_at, needs_connection, IsDelivered, IsShown, IsActOf, IsNext, AtRefusal, ShowsAllowed};
+ghost use Rattle.st_lists.specs.Lines.{Line, line_of, main_line};
 ghost use Rattle.st_lists.specs.Names.{names_in_text};
 ghost use Rattle.st_lists.specs.Limits.{log_limit_passed};
 ghost use Rattle.st_trace.specs.Replicas.{IsHeader, IsSound};
@@ -17,6 +18,7 @@ ghost use Rattle.st_lists.specs.Known.{AreConnected, AreKnown};
 ghost use Rattle.st_lists.specs.Log.{commit_in, log_with, minimum};
 ghost use Rattle.st_lists.specs.declared.lists.Client.{Client as Present};
 
+use crate::branches::{head_of, line_state};
 use crate::logged::{Logged, log_commit};
 use crate::replica::Replica;
 use crate::{client, log_steps};
@@ -127,9 +129,16 @@ fn branch_of(step: &TraceStep) -> u32
     ensures { result ≡ branch_at step.now.branch (act_view step.now.act) }
 {
     match &step.act {
-        Act::Edit(_) | Act::Need { .. } | Act::Begin | Act::Commit | Act::Abort | Act::Show => {
-            step.branch
-        }
+        Act::Edit(_)
+        | Act::Need { .. }
+        | Act::Begin
+        | Act::Commit
+        | Act::Abort
+        | Act::Fork
+        | Act::Rebase
+        | Act::Merge
+        | Act::DropBranch
+        | Act::Show => { step.branch }
         Act::Join
         | Act::Undo { .. }
         | Act::Sequence
@@ -155,6 +164,10 @@ fn needs_connection(act: &Act) -> bool
         | Act::Abort
         | Act::Undo { .. }
         | Act::Reconnect
+        | Act::Fork
+        | Act::Rebase
+        | Act::Merge
+        | Act::DropBranch
         | Act::Show => false,
     }
 }
@@ -377,18 +390,23 @@ impl World {
         Ok(Answer::Join { n, s })
     }
 
-    // The tree that the client at a place shows.
-    fn show(&self, alloc: Global, i: usize) -> Result<Answer, AllocError>
+    // The tree that a line of the client at a place shows.
+    fn show(&self, alloc: Global, i: usize, number: u32) -> Result<Answer, AllocError>
         requires { IsSound self.now }
-        ensures { IfOk result (λ a. (c : Present) → slice_get self.now.lists.clients i ≡ Some c → IsShown (header_view self.now.header) self.now.lists c a) }
+        ensures { IfOk result (λ a. (c : Present) (l : Line) → slice_get self.now.lists.clients i ≡ Some c → line_of c number ≡ Some l
+            → IsShown (header_view self.now.header) self.now.lists l a) }
     {
-        match self.kept.get(i) {
-            None => Ok(Answer::No(Refusal::NoClient)),
-            Some(kept) => {
-                let tree = kept.main.shown_doc().whole(alloc, self.arrays.as_slice())?;
-                Ok(Answer::Show { tree })
-            }
-        }
+        let Some(kept) = self.kept.get(i) else {
+            return Ok(Answer::No(Refusal::NoClient));
+        };
+        let Some(client) = self.lists.clients.get(i) else {
+            return Ok(Answer::No(Refusal::NoClient));
+        };
+        let Some(head) = head_of(client, kept, number) else {
+            return Ok(Answer::No(Refusal::NoBranch));
+        };
+        let tree = head.shown_doc().whole(alloc, self.arrays.as_slice())?;
+        Ok(Answer::Show { tree })
     }
 
     // The place of the client with a name.
@@ -423,18 +441,22 @@ impl World {
             | Act::Leave
             | Act::Drop
             | Act::Reconnect
+            | Act::Fork
+            | Act::Rebase
+            | Act::Merge
+            | Act::DropBranch
             | Act::Show => Ok(Answer::No(Refusal::NoClient)),
         }
     }
 
-    // Acts for the client at a place.
+    // Acts for the client at a place, as a whole or on its main line.
     fn answer_at(&mut self, alloc: Global, i: usize, act: &Act) -> Result<Answer, AllocError>
         requires sound { IsSound self.old }
         requires few { self.old.steps + 1 < 2 ^ 32 }
         requires form { IsActWithin (act_view act.now) }
         requires connected { needs_connection (act_view act.now) ≡ true → (c : Present) → slice_get self.old.lists.clients i ≡ Some c → c.connected ≡ true }
         ensures next { IfOk result (λ a. (c : Present) → slice_get self.old.lists.clients i ≡ Some c
-            → IsActOf (header_view self.old.header) self.old.lists (act_view act.now) i c self.new.lists a) }
+            → IsActOf (header_view self.old.header) self.old.lists (act_view act.now) i c 0 (main_line c) self.new.lists a) }
         ensures sound { OnOk result (IsSoundNext self.new) }
         ensures steps { OnOk result (self.new.steps ≡ self.old.steps) }
         ensures header { OnOk result (self.new.header ≡ self.old.header) }
@@ -455,11 +477,97 @@ impl World {
             Act::Leave => self.leave(i),
             Act::Drop => self.drop_client(alloc, i),
             Act::Reconnect => self.reconnect(alloc, i),
+            Act::Fork => self.fork(alloc, i, 0),
+            Act::Rebase => self.rebase(alloc, i, 0),
+            Act::Merge => self.merge(alloc, i, 0),
+            Act::DropBranch => Ok(self.drop_branch(i, 0)),
             Act::Show => {
-                let answer = self.show(alloc, i)?;
+                let answer = self.show(alloc, i, 0)?;
                 Ok(answer)
             }
         }
+    }
+
+    // Acts for the client at a place, as a whole or on a branch beside the main one.
+    fn answer_on_branch(
+        &mut self,
+        alloc: Global,
+        i: usize,
+        number: u32,
+        act: &Act,
+    ) -> Result<Answer, AllocError>
+        requires sound { IsSound self.old }
+        requires few { self.old.steps + 1 < 2 ^ 32 }
+        requires other { number ≢ 0 }
+        requires form { IsActWithin (act_view act.now) }
+        requires connected { needs_connection (act_view act.now) ≡ true → (c : Present) → slice_get self.old.lists.clients i ≡ Some c → c.connected ≡ true }
+        ensures next { IfOk result (λ a. (c : Present) (l : Line) → slice_get self.old.lists.clients i ≡ Some c → line_of c number ≡ Some l
+            → IsActOf (header_view self.old.header) self.old.lists (act_view act.now) i c number l self.new.lists a) }
+        ensures sound { OnOk result (IsSoundNext self.new) }
+        ensures steps { OnOk result (self.new.steps ≡ self.old.steps) }
+        ensures header { OnOk result (self.new.header ≡ self.old.header) }
+        ensures spent { self.new.spent ≡ self.old.spent }
+        ensures refused { IfOk result (λ a. AtRefusal a (self.new ≡ self.old)) }
+    {
+        match act {
+            Act::Edit(edit) => self.edit_branch(alloc, i, number, edit),
+            Act::Need { at } => self.need_on_branch(alloc, i, number, at),
+            Act::Begin => Ok(self.begin_on_branch(i, number)),
+            Act::Commit => self.commit_on_branch(alloc, i, number),
+            Act::Abort => Ok(self.abort_on_branch(i, number)),
+            Act::Fork => self.fork(alloc, i, number),
+            Act::Rebase => self.rebase(alloc, i, number),
+            Act::Merge => self.merge(alloc, i, number),
+            Act::DropBranch => Ok(self.drop_branch(i, number)),
+            Act::Show => {
+                let answer = self.show(alloc, i, number)?;
+                Ok(answer)
+            }
+            Act::Join
+            | Act::Undo { .. }
+            | Act::Sequence
+            | Act::Ack
+            | Act::Deliver
+            | Act::Leave
+            | Act::Drop
+            | Act::Reconnect => self.answer_at(alloc, i, act),
+        }
+    }
+
+    // Whether the client at a place has the line of a number.
+    fn has_line(&self, i: usize, number: u32) -> bool
+        ensures { (c : Present) → slice_get self.now.lists.clients i ≡ Some c → result ≡ is_some (line_of c number) }
+    {
+        match self.lists.clients.get(i) {
+            None => false,
+            Some(client) => line_state(client, number).is_some(),
+        }
+    }
+
+    // Acts for the client at a place on the line of a number, which it has.
+    fn answer_on(
+        &mut self,
+        alloc: Global,
+        i: usize,
+        number: u32,
+        act: &Act,
+    ) -> Result<Answer, AllocError>
+        requires sound { IsSound self.old }
+        requires few { self.old.steps + 1 < 2 ^ 32 }
+        requires form { IsActWithin (act_view act.now) }
+        requires connected { needs_connection (act_view act.now) ≡ true → (c : Present) → slice_get self.old.lists.clients i ≡ Some c → c.connected ≡ true }
+        ensures next { IfOk result (λ a. (c : Present) (l : Line) → slice_get self.old.lists.clients i ≡ Some c → line_of c number ≡ Some l
+            → IsActOf (header_view self.old.header) self.old.lists (act_view act.now) i c number l self.new.lists a) }
+        ensures sound { OnOk result (IsSoundNext self.new) }
+        ensures steps { OnOk result (self.new.steps ≡ self.old.steps) }
+        ensures header { OnOk result (self.new.header ≡ self.old.header) }
+        ensures spent { self.new.spent ≡ self.old.spent }
+        ensures refused { IfOk result (λ a. AtRefusal a (self.new ≡ self.old)) }
+    {
+        if number == 0 {
+            return self.answer_at(alloc, i, act);
+        }
+        self.answer_on_branch(alloc, i, number, act)
     }
 
     // Whether the act of the client at a place is refused because it isn't connected.
@@ -472,7 +580,7 @@ impl World {
         }
     }
 
-    // Makes a step: its client is there or joins, and there is the main branch alone.
+    // Makes a step: its client is there or joins, and has the line that the act is on.
     fn answer(&mut self, alloc: Global, step: &TraceStep) -> Result<Answer, AllocError>
         requires sound { IsSound self.old }
         requires few { self.old.steps + 1 < 2 ^ 32 }
@@ -488,13 +596,14 @@ impl World {
             let answer = self.answer_none(alloc, step)?;
             return Ok(answer);
         };
-        if branch_of(step) != 0 {
+        let number = branch_of(step);
+        if !self.has_line(i, number) {
             return Ok(Answer::No(Refusal::NoBranch));
         }
         if self.is_out(i, &step.act) {
             return Ok(Answer::No(Refusal::NotConnected));
         }
-        let answer = self.answer_at(alloc, i, &step.act)?;
+        let answer = self.answer_on(alloc, i, number, &step.act)?;
         Ok(answer)
     }
 

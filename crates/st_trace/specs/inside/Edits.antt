@@ -1,7 +1,8 @@
--- The edit of a tree that an act is, and the limit of its names.
-use Rattle.std.specs.Prelude.{ℕ, ◌+◌, nat_lt, Option, Some, None, if◌then◌else◌}
+-- The edit of a tree that an act is, and the limits that it may pass.
+use Rattle.std.specs.Prelude.{ℕ, ◌+◌, ◌==◌, nat_lt, Option, Some, None, if◌then◌else◌}
 use Rattle.st_ids.specs.declared.names.Limit.{Limit}
-use Rattle.st_ids.specs.declared.names.LimitOf.TheVariants.{Unsequenced}
+use Rattle.st_ids.specs.declared.names.LimitOf.{LimitOf}
+use Rattle.st_ids.specs.declared.names.LimitOf.TheVariants.{Branch, Pending, Unsequenced}
 use Rattle.st_lists.specs.Names.{names_made}
 use Rattle.st_marks.specs.declared.intents.Intent.{Intent}
 use Rattle.st_tree.specs.declared.edit.Edit.{Edit}
@@ -18,3 +19,11 @@ edit_of (edits.Clear at key) = Edit.Clear at key
 -- the limit that the names of an intent pass beside so many that wait
 abbrev pub names_limit : ℕ → Intent → Option Limit
 names_limit n N = if nat_lt 16384 (n + names_made N) then Some (record { of = Unsequenced; kept = n }) else None
+
+-- what is limited on the line of a number: pending commits on the main one, and else the commits of a branch
+abbrev pub limit_on : ℕ → LimitOf
+limit_on k = if k == 0 then Pending else Branch
+
+-- the limit that so many more commits on it would pass beside so many
+abbrev pub line_limit : ℕ → ℕ → ℕ → Option Limit
+line_limit k own more = if nat_lt 256 (own + more) then Some (record { of = limit_on k; kept = own }) else None

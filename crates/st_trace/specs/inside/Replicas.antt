@@ -16,19 +16,21 @@ use Rattle.st_ids.specs.declared.names.Rev.{Rev}
 use Rattle.st_heads.specs.declared.ways.Carried.{Carried}
 use Rattle.st_trace.specs.declared.logged.Logged.{Logged}
 use Rattle.st_heads.specs.Heads as head
+use Rattle.st_heads.specs.declared.heads.Head.{Head}
 use Rattle.st_heads.specs.Remembered.{AreCarried}
 use Rattle.st_lists.specs.Log.{commit_of, commits_in, waiting}
 use Rattle.st_lists.specs.Names.{names_in, names_made}
 use Rattle.st_marks.specs.Run.{Run}
 use Rattle.st_lists.specs.Clients.{joined_of, with_edited}
 use Rattle.st_lists.specs.Limits.{limit_passed, names_limit_passed}
+use Rattle.st_lists.specs.Lines.{Line, main_line}
 use Rattle.st_lists.specs.declared.lists.Transaction.{Transaction}
 use Rattle.st_heads.specs.Transactions.{HasOpen, IsOpen, IsSoundPart, IsWithPart, with_open}
 use Rattle.st_script.specs.declared.answer.Answer.{Answer}
 use Rattle.st_script.specs.declared.answer.Answer.TheVariants as answer
 use Rattle.st_script.specs.declared.refusal.Refusal.TheVariants as no
 use Rattle.st_trace.specs.declared.client.EditWord.{EditWord}
-use Rattle.st_trace.specs.World.{IsJoined, answer_of, cells_given, with_pending}
+use Rattle.st_trace.specs.World.{IsJoined, answer_of, cells_given, with_new_on}
 use Rattle.st_trace.specs.declared.replica.Replica.{Replica}
 use Rattle.st_lists.specs.declared.lists.Client.{Client}
 use Rattle.st_lists.specs.declared.lists.Entry.{Entry}
@@ -47,6 +49,7 @@ IsSoundNext w = IsSoundAfter (w.steps + 1) w
 pub record IsCommitted (old : Replica) (N : Intent) (new : Replica) : Type 0 where
   pub main : head.HasCarried old.main (N ∷ []) new.main
   pub received : new.received ≡ old.received
+  pub branches : new.branches ≡ old.branches
   pub names : new.names ≡ old.names + names_made N
 
 -- a commit that passes no limit is carried out, and after another nothing has changed
@@ -61,15 +64,16 @@ abbrev pub HasNumbersLeft : Option Transaction → Type 0
 HasNumbersLeft None = Unit {0}
 HasNumbersLeft (Some t) = (t.nodes < 2 ^ 31) × (t.cells < 2 ^ 31)
 
--- an intent can be joined to what was edited in a transaction: it is a sound part of the same commit, and gives few numbers
-pub record CanJoin (k : Replica) (t : Transaction) (word : EditWord) (M : Intent) : Type 0 where
-  pub going : IsOpen k.main t.joined M.rev M.under
-  pub part : IsSoundPart (with_open (document_of k.main.doc) t.joined) M
+-- an intent can be joined to what was edited in a line's transaction: it is a sound part of the same commit, and gives few
+-- numbers
+pub record CanJoin (k : Head) (t : Transaction) (word : EditWord) (M : Intent) : Type 0 where
+  pub going : IsOpen k t.joined M.rev M.under
+  pub part : IsSoundPart (with_open (document_of k.doc) t.joined) M
   pub counted : (t.nodes + length M.new) + (t.cells + cells_given word M) ≤ 2048
 
--- what an edit means can be taken in: as a commit, or as a part of the transaction that is open
-abbrev pub CanTake : Replica → Option Transaction → EditWord → Intent → Type 0
-CanTake k None word N = Fits (document_of k.main.doc) N
+-- what an edit means can be taken in on a line: as a commit, or as a part of the transaction that is open
+abbrev pub CanTake : Head → Option Transaction → EditWord → Intent → Type 0
+CanTake k None word N = Fits (document_of k.doc) N
 CanTake k (Some t) word N = CanJoin k t word N
 
 -- a transaction with one part more, if that passes no limit, and the answer
@@ -77,26 +81,32 @@ abbrev pub IsJoinedIn : Transaction → EditWord → Intent → Option Limit →
 IsJoinedIn t word M None u a = (J : Intent) × IsWithPart t.joined M J × (u ≡ with_edited t J (length M.new) (cells_given word M)) × (a ≡ answer_of word t.rev)
 IsJoinedIn t word M (Some l) u a = (u ≡ t) × (a ≡ answer.No (no.Limit l))
 
--- what is kept after a part more of what is edited, which is now so
-pub record HasPart (old : Replica) (M : Intent) (joined : Option Intent) (new : Replica) : Type 0 where
+-- a line's head, and so many names that wait, after a part more of what is edited, which is now so
+pub record HasPart (old : Head) (before : ℕ) (M : Intent) (joined : Option Intent) (new : Head) (after : ℕ) : Type 0 where
+  pub doc : new.doc ≡ old.doc
+  pub own : new.own ≡ old.own
+  pub edited : HasOpen new joined
+  pub names : after ≡ before + names_made M
+
+abbrev pub HasJoined : Head → ℕ → Intent → Option Limit → Option Intent → Head → ℕ → Type 0
+HasJoined old before M None joined new after = HasPart old before M joined new after
+HasJoined old before M (Some l) joined new after = (new ≡ old) × (after ≡ before)
+
+-- the same on the main line
+pub record HasJoinedMain (old : Replica) (M : Intent) (passed : Option Limit) (joined : Option Intent) (new : Replica) : Type 0 where
+  pub main : HasJoined old.main old.names M passed joined new.main new.names
   pub received : new.received ≡ old.received
-  pub doc : new.main.doc ≡ old.main.doc
-  pub own : new.main.own ≡ old.main.own
-  pub edited : HasOpen new.main joined
-  pub names : new.names ≡ old.names + names_made M
+  pub branches : new.branches ≡ old.branches
 
-abbrev pub HasJoined : Replica → Intent → Option Limit → Option Intent → Replica → Type 0
-HasJoined old M None joined new = HasPart old M joined new
-HasJoined old M (Some l) joined new = new ≡ old
+-- a client, after what an edit means was taken in on a line
+abbrev pub IsTakenIn : Client → ℕ → Line → Option Transaction → EditWord → Intent → Client → Answer → Type 0
+IsTakenIn c k l None word N d a = with_new_on c k word N (limit_passed c k l N) ≡ (d, a)
+IsTakenIn c k l (Some t) word N d a = IsJoined c k t word N (names_limit_passed c N) d a
 
--- the client and what is kept of it, after what an edit means was taken in
-abbrev pub IsTakenIn : Client → Option Transaction → EditWord → Intent → Client → Answer → Type 0
-IsTakenIn c None word N d a = with_pending c word N (limit_passed c N) ≡ (d, a)
-IsTakenIn c (Some t) word N d a = IsJoined c t word N (names_limit_passed c N) d a
-
+-- and what is kept of it, on the main line
 abbrev pub HasTakenIn : Client → Option Transaction → Replica → Intent → Client → Replica → Type 0
-HasTakenIn c None old N d new = IsPending old N (limit_passed c N) new
-HasTakenIn c (Some t) old N d new = HasJoined old N (names_limit_passed c N) (joined_of d) new
+HasTakenIn c None old N d new = IsPending old N (limit_passed c 0 (main_line c) N) new
+HasTakenIn c (Some t) old N d new = HasJoinedMain old N (names_limit_passed c N) (joined_of d) new
 
 abbrev pub HasTaken : Client → Option Transaction → Replica → Result Intent EditFault → Client → Replica → Type 0
 HasTaken c t old (Err f) d new = new ≡ old
@@ -111,6 +121,7 @@ HasTakenNeed c (Some t) old meant d new = HasTaken c (Some t) old meant d new
 pub record IsCommittedWhole (old : Replica) (J : Intent) (new : Replica) : Type 0 where
   pub main : head.HasCarried (record old.main { edited = None }) (J ∷ []) new.main
   pub received : new.received ≡ old.received
+  pub branches : new.branches ≡ old.branches
   pub names : new.names ≡ old.names
 
 abbrev pub HasCommittedOf : Replica → Option Intent → Replica → Type 0
@@ -128,10 +139,11 @@ HasAborted (Some t) old new = new ≡ record old { main = record old.main { edit
 
 -- ## Receiving
 
--- a commit with this verdict is carried out in the document of what was received
+-- a commit with this verdict is carried out in the document of what was received; the other branches stay
 pub record HasCarried (old : Replica) (N : Intent) (v : Verdict) (new : Replica) : Type 0 where
   pub verdict : IsVerdict (document_of old.received) N v
   pub after : document_of new.received ≡ carried_document v (document_of old.received) N
+  pub branches : new.branches ≡ old.branches
 
 -- a commit of its own was the first that the main line has, and goes; another comes before what is pending
 abbrev pub HasMainAfter : Client → Replica → Bool → Intent → Replica → Type 0
@@ -184,7 +196,9 @@ pub record HasCaughtUp (log : List Entry) (c : Client) (old new : Replica) : Typ
   pub received : Run (document_of old.received) (commits_in (drop c.received log)) (document_of new.received)
   pub own : AreCarried (document_of new.received) (waiting log c) new.main.own (document_of new.main.doc)
   pub edited : new.main.edited ≡ None
-  pub names : new.names ≡ names_in (waiting log c)
+  pub branches : new.branches ≡ old.branches
+  -- the names of the commits that are no longer pending are gone
+  pub names : new.names + names_in c.pending ≡ old.names + names_in (waiting log c)
 
 -- ## Joining
 
@@ -194,6 +208,7 @@ pub record IsNewReplica (D : Document) (k : Replica) : Type 0 where
   pub shown : document_of k.main.doc ≡ D
   pub own : k.main.own ≡ []
   pub edited : k.main.edited ≡ None
+  pub branches : k.branches ≡ []
   pub names : k.names ≡ 0
 
 -- ## The log

@@ -1,5 +1,8 @@
+use Rattle.st_script.specs.Header.{header_view}
+use Rattle.st_trace.proofs.Going.{lists_sound}
 use Rattle.st_trace.proofs.Leading.{has_next}
+use Rattle.st_trace.proofs.LeadingBranches.{all_lead}
 use Rattle.st_trace.proofs.laws.each_step_has_a_next.Goals as goal
 
 pub returns : goal.returns
-returns c = λ w s sound. has_next w s sound
+returns c = λ w s sound. has_next w s sound (all_lead (header_view w.header) w.lists (lists_sound w sound))

@@ -25,7 +25,7 @@ abort-requires-clause-few_names c = (one_at c.args.self.now c.args.i c.in-Some-g
 
 pub returns-clause-next : goal.returns-clause-next
 returns-clause-next c = λ q at.
-    next_with c.args.self.now.lists c.args.i c.in-Some-get_mut.client.now q c.abort.new.client (λ x. abort x x.transaction) c.abort.result (sym c.in-Some-get_mut.ensures.value) at c.abort.ensures.answer
+    next_with c.args.self.now.lists c.args.i c.in-Some-get_mut.client.now q c.abort.new.client (λ x. abort x 0 x.transaction) c.abort.result (sym c.in-Some-get_mut.ensures.value) at c.abort.ensures.answer
 
 pub returns-clause-sound : goal.returns-clause-sound
 returns-clause-sound c = sound_abort c.args.self.now c.args.i c.in-Some-get_mut.client.now c.in-Some.kept.now c.requires.sound (sym c.in-Some-get_mut.ensures.value) (sym c.in-Some.ensures.value) c.abort.new.client c.abort.new.kept c.abort.result c.abort.ensures.answer c.abort.ensures.kept

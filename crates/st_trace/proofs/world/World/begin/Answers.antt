@@ -25,6 +25,7 @@ returns-clause-sound c =
       few_sessions = omega arith;
       clients = omega arith;
       ids = tt;
+      forks = tt;
       log = tt;
       log_fit = tt;
       log_new = record { once = tt; new = λ N i j. i };

@@ -1,5 +1,6 @@
 use Rattle.std.proofs.Common.{◌≡◌, sym, arith}
 use Rattle.st_script.specs.Header.{header_view}
+use Rattle.st_lists.specs.Lines.{main_line}
 use Rattle.st_trace.specs.World.{begin, last_in_effect}
 use Rattle.st_trace.proofs.Acting.{begun_as, begun_refused, few_ids, next_done, one_at, shown, shown_of, sound_begin}
 use Rattle.st_trace.proofs.Everyone.{kept_none}
@@ -20,7 +21,7 @@ begin-requires-clause-pending c = (one_at c.args.self.now c.args.i c.in-Some-get
 
 pub returns-clause-next : goal.returns-clause-next
 returns-clause-next c = λ q at.
-    next_done (header_view c.args.self.now.header) c.args.self.now.lists c.args.i c.in-Some-get_mut.client.now q c.begin.new.client (λ x D d b. begin x x.transaction (last_in_effect D) ≡ (d, b)) (shown_of c.in-Some-get_mut.client.now c.in-Some.kept.now) c.begin.result (sym c.in-Some-get_mut.ensures.value) at (shown c.args.self.now c.args.i c.in-Some-get_mut.client.now c.in-Some.kept.now c.requires.sound (sym c.in-Some-get_mut.ensures.value) (sym c.in-Some.ensures))
+    next_done (header_view c.args.self.now.header) c.args.self.now.lists c.args.i c.in-Some-get_mut.client.now q c.begin.new.client main_line (λ x D d b. begin x 0 (main_line x) x.transaction (last_in_effect D) ≡ (d, b)) (shown_of c.in-Some-get_mut.client.now c.in-Some.kept.now) c.begin.result (sym c.in-Some-get_mut.ensures.value) at (shown c.args.self.now c.args.i c.in-Some-get_mut.client.now c.in-Some.kept.now c.requires.sound (sym c.in-Some-get_mut.ensures.value) (sym c.in-Some.ensures))
     (begun_as c.args.self.now c.args.i c.in-Some-get_mut.client.now c.in-Some.kept.now c.requires.sound (sym c.in-Some-get_mut.ensures.value) (sym c.in-Some.ensures) c.begin.new.client c.last_in_effect-under.result c.begin.result c.last_in_effect-under.ensures c.begin.ensures)
 
 pub returns-clause-sound : goal.returns-clause-sound

@@ -25,7 +25,7 @@ commit-requires-clause-fits c = commit_fits c.args.self.now c.args.i c.in-Some-g
 
 pub returns-clause-next : goal.returns-clause-next
 returns-clause-next c = λ q at.
-    next_with c.args.self.now.lists c.args.i c.in-Some-get_mut.client.now q c.commit.new.client (λ x. commit x x.transaction) c.in_ok-answer.answer (sym c.in-Some-get_mut.ensures.value) at c.in_ok-answer.ensures.answer
+    next_with c.args.self.now.lists c.args.i c.in-Some-get_mut.client.now q c.commit.new.client (λ x. commit x 0 x.transaction) c.in_ok-answer.answer (sym c.in-Some-get_mut.ensures.value) at c.in_ok-answer.ensures.answer
 
 pub returns-clause-sound : goal.returns-clause-sound
 returns-clause-sound c = sound_commit c.args.self.now c.args.i c.in-Some-get_mut.client.now c.in-Some.kept.now c.requires.sound (sym c.in-Some-get_mut.ensures.value) (sym c.in-Some.ensures.value) c.commit.new.client c.commit.new.kept c.in_ok-answer.answer c.in_ok-answer.ensures.answer c.in_ok-answer.ensures.kept

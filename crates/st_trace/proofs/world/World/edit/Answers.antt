@@ -2,6 +2,7 @@ use Rattle.std.proofs.Common.{refl, sym, arith}
 use Rattle.std.specs.List.{slice_set}
 use Rattle.st_edits.specs.Resolve.{resolve}
 use Rattle.st_script.specs.Header.{header_view}
+use Rattle.st_lists.specs.Lines.{main_line}
 use Rattle.st_script.specs.Steps.{edit_view}
 use Rattle.st_trace.specs.inside.Edits.{edit_of}
 use Rattle.st_trace.specs.World.{IsAfterEdit, next_names, word_of}
@@ -52,8 +53,8 @@ edit-requires-clause-can c = λ N e. can_take c.args.self.now c.args.i c.in-Some
 
 pub returns-clause-next : goal.returns-clause-next
 returns-clause-next c = λ q at.
-    next_edit (header_view c.args.self.now.header) c.args.self.now.lists c.args.i q (record c.args.self.now.lists { clients = slice_set c.args.self.now.lists.clients c.args.i c.edit.new.client }) c.in_ok-answer.answer c.args.edit.now
-    (next_done (header_view c.args.self.now.header) c.args.self.now.lists c.args.i c.in-Some-get_mut.client.now q c.edit.new.client (λ x D. IsAfterEdit x x.transaction (word_of (edit_view c.args.edit.now)) (resolve D c.args.self.now.header.schema (next_names x x.transaction) (edit_of c.args.edit.now))) (shown_of c.in-Some-get_mut.client.now c.in-Some.kept.now) c.in_ok-answer.answer (sym c.in-Some-get_mut.ensures.value) at
+    next_edit (header_view c.args.self.now.header) c.args.self.now.lists c.args.i q 0 (main_line q) (record c.args.self.now.lists { clients = slice_set c.args.self.now.lists.clients c.args.i c.edit.new.client }) c.in_ok-answer.answer c.args.edit.now
+    (next_done (header_view c.args.self.now.header) c.args.self.now.lists c.args.i c.in-Some-get_mut.client.now q c.edit.new.client main_line (λ x D. IsAfterEdit x 0 (main_line x) x.transaction (word_of (edit_view c.args.edit.now)) (resolve D c.args.self.now.header.schema (next_names x x.transaction) (edit_of c.args.edit.now))) (shown_of c.in-Some-get_mut.client.now c.in-Some.kept.now) c.in_ok-answer.answer (sym c.in-Some-get_mut.ensures.value) at
     (shown c.args.self.now c.args.i c.in-Some-get_mut.client.now c.in-Some.kept.now c.requires.sound (sym c.in-Some-get_mut.ensures.value) (sym c.in-Some.ensures.value)) c.in_ok-answer.ensures.answer)
 
 pub returns-clause-sound : goal.returns-clause-sound

@@ -1,6 +1,7 @@
 use Rattle.std.proofs.Common.{refl, sym, arith}
 use Rattle.st_edits.specs.Resolve.{need}
 use Rattle.st_script.specs.Header.{header_view}
+use Rattle.st_lists.specs.Lines.{main_line}
 use Rattle.st_trace.specs.World.{IsAfterNeed, next_names}
 use Rattle.st_trace.specs.declared.client.EditWord.TheVariants as word
 use Rattle.st_trace.proofs.Acting.{can_take, few_ids, line_sound, need_meant, need_refused, next_done, one_at, shown, shown_of, sound_need, world_refused}
@@ -43,7 +44,7 @@ need-requires-clause-can c = λ N e. can_take c.args.self.now c.args.i c.in-Some
 
 pub returns-clause-next : goal.returns-clause-next
 returns-clause-next c = λ q at.
-    next_done (header_view c.args.self.now.header) c.args.self.now.lists c.args.i c.in-Some-get_mut.client.now q c.need.new.client (λ x D. IsAfterNeed x x.transaction (need D (next_names x x.transaction) c.args.at.now)) (shown_of c.in-Some-get_mut.client.now c.in-Some.kept.now) c.in_ok-answer.answer (sym c.in-Some-get_mut.ensures.value) at (shown c.args.self.now c.args.i c.in-Some-get_mut.client.now c.in-Some.kept.now c.requires.sound (sym c.in-Some-get_mut.ensures.value) (sym c.in-Some.ensures.value)) c.in_ok-answer.ensures.answer
+    next_done (header_view c.args.self.now.header) c.args.self.now.lists c.args.i c.in-Some-get_mut.client.now q c.need.new.client main_line (λ x D. IsAfterNeed x 0 x.transaction (need D (next_names x x.transaction) c.args.at.now)) (shown_of c.in-Some-get_mut.client.now c.in-Some.kept.now) c.in_ok-answer.answer (sym c.in-Some-get_mut.ensures.value) at (shown c.args.self.now c.args.i c.in-Some-get_mut.client.now c.in-Some.kept.now c.requires.sound (sym c.in-Some-get_mut.ensures.value) (sym c.in-Some.ensures.value)) c.in_ok-answer.ensures.answer
 
 pub returns-clause-sound : goal.returns-clause-sound
 returns-clause-sound c = sound_need c.args.self.now c.args.i c.in-Some-get_mut.client.now c.in-Some.kept.now c.requires.sound (sym c.in-Some-get_mut.ensures.value) (sym c.in-Some.ensures.value) c.need.new.client c.need.new.kept c.args.at.now c.in_ok-answer.answer c.in_ok-answer.ensures.answer c.in_ok-answer.ensures.kept

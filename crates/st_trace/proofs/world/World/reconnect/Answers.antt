@@ -1,6 +1,6 @@
 use Rattle.std.proofs.Common.{refl, sym, ◌∙◌}
 use Rattle.st_trace.proofs.Everyone.{kept_none, set_same}
-use Rattle.st_trace.proofs.Returning.{few_pending, few_waiting, flight, here_sound, received_within, reconnect_refused, rest_fits, waiting_fits}
+use Rattle.st_trace.proofs.Returning.{few_kept, few_pending, pending_kept, flight, here_sound, received_within, reconnect_refused, rest_fits, waiting_fits}
 use Rattle.st_trace.proofs.Stepping.{may_reconnect, returned_connected, sound_later, sound_returned}
 use Rattle.st_trace.proofs.world.World.reconnect.Goals as goal
 
@@ -51,7 +51,10 @@ pub catch_up-requires-clause-later : goal.catch_up-requires-clause-later
 catch_up-requires-clause-later c = rw c.as_slice-log.ensures (waiting_fits c.args.self.now c.args.i c.in-Some-get_mut.client.now c.in-Some.kept.now c.requires.sound (sym c.in-Some-get_mut.ensures.value) (sym c.in-Some.ensures.value))
 
 pub catch_up-requires-clause-few_names : goal.catch_up-requires-clause-few_names
-catch_up-requires-clause-few_names c = rw c.as_slice-log.ensures (few_waiting c.args.self.now c.args.i c.in-Some-get_mut.client.now c.in-Some.kept.now c.requires.sound (sym c.in-Some-get_mut.ensures.value) (sym c.in-Some.ensures.value))
+catch_up-requires-clause-few_names c = few_kept c.args.self.now c.args.i c.in-Some-get_mut.client.now c.in-Some.kept.now c.requires.sound (sym c.in-Some-get_mut.ensures.value) (sym c.in-Some.ensures.value)
+
+pub catch_up-requires-clause-names : goal.catch_up-requires-clause-names
+catch_up-requires-clause-names c = pending_kept c.args.self.now c.args.i c.in-Some-get_mut.client.now c.in-Some.kept.now c.requires.sound (sym c.in-Some-get_mut.ensures.value) (sym c.in-Some.ensures.value)
 
 pub enter-requires-clause-connected : goal.enter-requires-clause-connected
 enter-requires-clause-connected c =
