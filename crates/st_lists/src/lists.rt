@@ -52,9 +52,9 @@ pub struct Branch {
     pub transaction: Option<Transaction>,
 }
 
-/// A client: whether it is connected, how many entries it received, how many ids it generated, its commits that it has not
-/// received back, the transaction that is open on its main branch, the texts that are not in the log yet, how many numbers
-/// of branches it gave, and its other branches in the order of their numbers.
+/// A client: whether it is connected, how many entries it received, how many ids it generated, the commits of its main line
+/// that it has not received back, the transaction that is open there, the texts that are not in the log yet, how many
+/// numbers of branches it gave, and its branches in the order of their numbers.
 #[derive(Drop)]
 pub struct Client {
     pub name: Text,
