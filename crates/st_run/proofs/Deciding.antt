@@ -12,6 +12,7 @@ use Rattle.st_lists.specs.Clients.{empty_state}
 use Rattle.st_lists.specs.declared.lists.WorldState.{WorldState}
 use Rattle.st_trace.proofs.Going.{AreSound, begun_sound}
 use Rattle.st_trace.proofs.Leading.{leads_on}
+use Rattle.st_trace.proofs.LeadingBranches.{all_lead}
 use Rattle.st_run.specs.Answers.{Answers, AnswersBy, AnswersFrom, AnswersLine, AnswersOpening, AnswersTrace, IsAnswered, IsAnsweredAs, NothingFailed, OrCutShort, Output, bad_line, before, is_trace, long_line, long_output, max_input, usage_output}
 use Rattle.st_run.specs.Lines.{cut}
 use Rattle.st_run.specs.declared.outcome.Outcome.{Outcome}
@@ -44,7 +45,7 @@ line_has : (h : HeaderView) (n : ℕ) (r : Result StepView BadCause) (w : WorldS
     → Whole (OrCutShort (AnswersLine h n r w Rest))
 line_has h n (Err c) w Rest s rest = (bad_line n c, inr refl, tt)
 line_has h n (Ok x) w Rest s rest =
-    let r = leads_on h w s x in
+    let r = leads_on h w s (all_lead h w s) x in
     let t = rest r.0 r.3 in
     (before (answer_line r.1) t.0, inr (record { world = r.0; answer = r.1; rest = t.0; next = r.2; follows = t.1; whole = refl }), t.2)
 
