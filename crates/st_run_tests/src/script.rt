@@ -146,7 +146,7 @@ const BAD_LINES: [(&str, BadCause); 16] = [
     (r#"{"client":"A","do":"show""#, BadCause::Json),
     (r#"[]"#, BadCause::Shape),
     (r#"{"client":"A"}"#, BadCause::Shape),
-    (r#"{"client":"A","do":"fork"}"#, BadCause::Shape),
+    (r#"{"client":"A","do":"branch"}"#, BadCause::Shape),
     (
         r#"{"client":"A","do":"undo","rev":"1.01"}"#,
         BadCause::Shape,
