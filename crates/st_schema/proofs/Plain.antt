@@ -54,8 +54,11 @@ definitions_shallow : (ds : List (List ℕ × Form)) → items_depth (items_of (
 definitions_shallow [] = omega arith
 definitions_shallow (d ∷ ds) = omega (arith, form_shallow d.0 d.1, definitions_shallow ds)
 
+pub schema_low : (s : SchemaView) → depth (schema_data s) ≤ 6
+schema_low s = omega (arith, names_shallow s.root, definitions_shallow s.types)
+
 pub schema_shallow : (s : SchemaView) → depth (schema_data s) ≤ max_depth
-schema_shallow s = omega (arith, names_shallow s.root, definitions_shallow s.types)
+schema_shallow s = omega (arith, schema_low s)
 
 -- ---- the fields of a sound schema are in order
 

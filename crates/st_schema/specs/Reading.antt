@@ -1,7 +1,8 @@
--- What is read of a JSON value on the way to a schema.
+-- What is read of a JSON value, or of its text, on the way to a schema.
 use Rattle.std.specs.Prelude.{ℕ, List, [], ◌∷◌, ◌&&◌, Option, None, Some, option_map, option_and_then, if◌then◌else◌, codes}
 use Rattle.serde_json.specs.Data.{Data, Items, no_items, item, Members, no_members, member}
 use Rattle.serde_json.specs.Find.{as_str, as_array, as_object}
+use Rattle.serde_json.specs.Read.{read}
 use Rattle.st_schema.specs.Schema.{same, SchemaView}
 use Rattle.st_schema.specs.declared.names.KindName.{KindName}
 use Rattle.st_schema.specs.declared.names.KindName.TheVariants.{Required, Optional}
@@ -84,3 +85,7 @@ definitions_of d = option_and_then definitions_in (as_array d)
 -- a schema whose rules are not looked at
 abbrev pub schema_of : Data → Option SchemaView
 schema_of d = option_and_then (λ p. option_and_then (λ root. option_map (λ types. record { root = root; types = types }) (definitions_of p.1)) (texts_of p.0)) (pair_of (codes "root") (codes "types") d)
+
+-- the schema that a text is the JSON form of, whose rules are not looked at
+abbrev pub schema_of_text : List ℕ → Option SchemaView
+schema_of_text text = option_and_then schema_of (read text)
