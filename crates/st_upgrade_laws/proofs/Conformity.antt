@@ -14,8 +14,6 @@ use Rattle.st_ids.specs.declared.names.NodeId.{NodeId}
 use Rattle.st_ids.specs.declared.names.Rev.{Rev}
 use Rattle.st_ids.proofs.Orders.{same_rev-itself, same_rev-true}
 use Rattle.st_schema.specs.Kind.{is_row, is_single_kind}
-use Rattle.serde_json.specs.Written.{compact_text}
-use Rattle.st_schema.specs.Written.{schema_data}
 use Rattle.st_schema.specs.Schema.{SchemaView, is_sound}
 use Rattle.st_schema.specs.declared.names.KindName.{KindName}
 use Rattle.st_marks.specs.declared.intents.Intent.{Intent}
@@ -50,7 +48,7 @@ use Rattle.st_part_laws.proofs.Schemas.{based, entries_carried, kept_carried}
 use Rattle.st_part_laws.proofs.Told.{same_part}
 use Rattle.st_part_laws.proofs.Within.{more_schemas}
 use Rattle.st_upgrade_laws.specs.Agreeing.{AgreeInTurn, AgreesInLine, ConformsInEffect, Told, last_schema}
-use Rattle.st_upgrade_laws.specs.Widening.{AreWidening, IsUpgrade}
+use Rattle.st_upgrade_laws.specs.Widening.{AreWidening, IsTextOf, IsUpgrade}
 use Rattle.st_upgrade_laws.proofs.Edits.{some_last}
 use Rattle.st_upgrade_laws.proofs.Widening.{keeps_wider, type_becomes, widening_after, widening_begins}
 
@@ -276,7 +274,7 @@ conforms_in_turn T rs (next {D} {N = N} v is r) s f made first a here =
 -- ## At the opening
 
 pub conforms_at_first : (T : Told) (D : Document) → IsSoundInForm D → IsMadeUnder (opening ∷ []) D → revs D.schemas ≡ opening ∷ [] → T.under opening ≡ opening → T.chain opening ≡ opening ∷ [] → is_sound (T.view opening) ≡ true
-    → ((e : SchemaEntry) → Has D.schemas e → e.text ≡ compact_text (schema_data (T.view opening))) → IsConforming (T.view opening) T.home D → ConformsInEffect T D
+    → ((e : SchemaEntry) → Has D.schemas e → IsTextOf (T.view opening) e.text) → IsConforming (T.view opening) T.home D → ConformsInEffect T D
 conforms_at_first T D s made one under chain sound written here = record {
   opened = under;
   line = line_begins T.chain D.schemas one chain;

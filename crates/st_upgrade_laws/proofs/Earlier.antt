@@ -1,5 +1,5 @@
 -- Schemas come before the commits that were made under them, in each list that has the commits of a shorter one.
-use Rattle.std.proofs.Common.{◌≡◌, ◌≢◌, ℕ, Bool, true, false, cond, List, [], ◌∷◌, ◌++◌, Option, Some, None, IfSome, is_some, refl, sym, ap, ◌∙◌, subst, ◌⊎◌, inl, inr}
+use Rattle.std.proofs.Common.{◌≡◌, ◌≢◌, ℕ, Bool, true, false, cond, List, [], ◌∷◌, ◌++◌, Option, Some, None, IfSome, IsSome, is_some, refl, sym, ap, ◌∙◌, subst, ◌⊎◌, inl, inr}
 use Rattle.std.specs.List.{AllByRecursion}
 use Rattle.st_lemmas.proofs.Lists.{map-append}
 use Rattle.st_ids.specs.Listing.{Has}
@@ -104,6 +104,15 @@ made_among rs (N ∷ Ns) r h = elim (has-append (revisions Ns) (with_own rs N) r
   | inl i ↦ inr (append_left (revisions Ns) rs r i)
   | inr i ↦ elim (has_own rs N r i) [ inl e ↦ inl e | inr j ↦ inr (append_right (revisions Ns) rs r j) ]
 ]
+
+pub made_by : (rs : List Rev) (Ns : List Intent) (r : Rev) → Has (schemas_made rs Ns) r → Has rs r ⊎ ((N : Intent) × Has Ns N × (N.rev ≡ r) × IsSome N.schema)
+made_by rs [] r h = inl h
+made_by rs (N ∷ Ns) r h = elim (made_by (with_own rs N) Ns r h) [ inl i ↦ own N.schema refl i | inr x ↦ inr (x.0, inr x.1, x.2, x.3) ]
+  where
+    own : (o : Option (List ℕ)) → N.schema ≡ o → Has (cond (is_some o) (N.rev ∷ rs) rs) r → Has rs r ⊎ ((M : Intent) × Has (N ∷ Ns) M × (M.rev ≡ r) × IsSome M.schema)
+    own None e i = inl i
+    own (Some text) e (inl q) = inr (N, inl refl, q, ap is_some e)
+    own (Some text) e (inr i) = inl i
 
 pub unders_made : (rs : List Rev) (Ns : List Intent) → AreUnderEarlier rs Ns → (N : Intent) → Has Ns N → Has (schemas_made rs Ns) N.under
 unders_made rs [] a N h = absurd h

@@ -13,3 +13,6 @@ pub mod Back
 pub mod Changes
 pub mod Lines
 pub mod Upgraded
+pub mod Read
+pub mod Entries
+pub mod Texts

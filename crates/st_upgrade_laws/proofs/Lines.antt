@@ -187,7 +187,7 @@ line_goes_on_longer T O As Bs Ns sub a b f new = record {
 
 -- ## Undos
 
-line_front : (T : Told) (O : Document) (As Bs : List Intent) → IsLine T O (As ++ Bs) → IsLine T O As
+pub line_front : (T : Told) (O : Document) (As Bs : List Intent) → IsLine T O (As ++ Bs) → IsLine T O As
 line_front T O As Bs l = record {
   sound = l.sound;
   made = l.made;

@@ -6,8 +6,6 @@ use Rattle.st_ids.specs.Root.{opening}
 use Rattle.st_ids.specs.declared.names.NodeId.{NodeId}
 use Rattle.st_ids.specs.declared.names.Rev.{Rev}
 use Rattle.st_ids.proofs.Orders.{same_rev-itself, same_rev-true}
-use Rattle.serde_json.specs.Written.{compact_text}
-use Rattle.st_schema.specs.Written.{schema_data}
 use Rattle.st_schema.specs.Schema.{SchemaView, is_sound}
 use Rattle.st_marks.specs.declared.intents.Intent.{Intent}
 use Rattle.st_marks.specs.declared.intents.To.{To}
@@ -30,7 +28,7 @@ use Rattle.st_part_laws.proofs.Parts.{part_sound}
 use Rattle.st_part_laws.proofs.Closed.{root_in_effect}
 use Rattle.st_part_laws.proofs.Told.{other_line, other_under, told_closed, told_entries, told_others, told_part, told_within}
 use Rattle.st_upgrade_laws.specs.Agreeing.{AgreeInTurn, AgreesInLine, ConformsInEffect, Told, last_schema, with_commit, with_home}
-use Rattle.st_upgrade_laws.specs.Widening.{BecomesWider, IsUpgrade}
+use Rattle.st_upgrade_laws.specs.Widening.{BecomesWider, IsTextOf, IsUpgrade}
 use Rattle.st_upgrade_laws.proofs.Edits.{some_last}
 
 -- the revisions of a list and of those before it, one commit on
@@ -107,8 +105,8 @@ module _ (T : Told) (N : Intent) (new : SchemaView) where
         subst (λ v. BecomesWider v (U.view r)) (sym (other_view t (entry_other t (here.line.each r t h there))))
         (subst (BecomesWider (T.view t)) (sym (other_view r (entry_other r h))) (here.widening.each r t h there))
 
-    written_told : (e : SchemaEntry) → Has D.schemas e → e.text ≡ compact_text (schema_data (U.view e.rev))
-    written_told e h = here.widening.written e h ∙ ap (λ v. compact_text (schema_data v)) (sym (other_view e.rev (entry_other e.rev (map-has (λ (e : SchemaEntry). e.rev) D.schemas e h))))
+    written_told : (e : SchemaEntry) → Has D.schemas e → IsTextOf (U.view e.rev) e.text
+    written_told e h = subst (λ v. IsTextOf v e.text) (sym (other_view e.rev (entry_other e.rev (map-has (λ (e : SchemaEntry). e.rev) D.schemas e h)))) (here.widening.written e h)
 
     types_told : (n : NodeId) (t : NodeType) → D.nodes n ≡ Some t → type_fits (U.view (U.under n.0.rev)) t.ty t.leaf ≡ true
     types_told n t e =

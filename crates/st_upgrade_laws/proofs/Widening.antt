@@ -7,8 +7,6 @@ use Rattle.st_ids.specs.declared.names.Leaf.{Leaf}
 use Rattle.st_ids.specs.declared.names.NodeId.{NodeId}
 use Rattle.st_ids.specs.declared.names.FieldId.{FieldId}
 use Rattle.st_ids.specs.declared.names.Rev.{Rev}
-use Rattle.serde_json.specs.Written.{compact_text}
-use Rattle.st_schema.specs.Written.{schema_data}
 use Rattle.st_schema.specs.Schema.{SchemaView, is_sound}
 use Rattle.st_marks.specs.declared.intents.Intent.{Intent}
 use Rattle.st_marks.specs.declared.schemas.SchemaEntry.{SchemaEntry}
@@ -21,7 +19,7 @@ use Rattle.st_part_laws.specs.Chains.{TellsChain}
 use Rattle.st_part_laws.specs.Schemas.{entries_after, is_last_entry}
 use Rattle.st_part_laws.proofs.Chains.{last-has}
 use Rattle.st_part_laws.proofs.Schemas.{is-last}
-use Rattle.st_upgrade_laws.specs.Widening.{AreWidening, BecomesWider, IsUpgrade, no_change, one_change}
+use Rattle.st_upgrade_laws.specs.Widening.{AreWidening, BecomesWider, IsTextOf, IsUpgrade, no_change, one_change}
 
 -- ## From schema to schema
 
@@ -38,9 +36,9 @@ keeps_wider (one_change {before} {after} b sound wide) home D N types k =
 -- ## Entries
 
 pub widening_begins : (view : Rev → SchemaView) (chain : Rev → List Rev) (entries : List SchemaEntry) → revs entries ≡ opening ∷ [] → chain opening ≡ opening ∷ [] → is_sound (view opening) ≡ true
-    → ((e : SchemaEntry) → Has entries e → e.text ≡ compact_text (schema_data (view opening))) → AreWidening view chain entries
+    → ((e : SchemaEntry) → Has entries e → IsTextOf (view opening) e.text) → AreWidening view chain entries
 widening_begins view chain entries e c sound written = record {
-  written = λ o h. written o h ∙ ap (λ r. compact_text (schema_data (view r))) (only o.rev (subst (λ l. Has l o.rev) e (map-has (λ (e : SchemaEntry). e.rev) entries o h)));
+  written = λ o h. subst (λ r. IsTextOf (view r) o.text) (only o.rev (subst (λ l. Has l o.rev) e (map-has (λ (e : SchemaEntry). e.rev) entries o h))) (written o h);
   sound = λ r h. ap (λ r. is_sound (view r)) (sym (only r (subst (λ l. Has l r) e h))) ∙ sound;
   each = λ r s h i. begin r s (only r (subst (λ l. Has l r) e h)) i;
 }
@@ -64,9 +62,9 @@ module _ (view : Rev → SchemaView) (chain : Rev → List Rev) (entries : List 
       upgrade : IsUpgrade (view N.under) (view N.rev) text
       upgrade = subst (λ o. IfSome o (IsUpgrade (view N.under) (view N.rev))) e shows
 
-      written : (o : SchemaEntry) → Has entries o ⊎ Has (record { rev = N.rev; text = text } ∷ []) o → o.text ≡ compact_text (schema_data (view o.rev))
+      written : (o : SchemaEntry) → Has entries o ⊎ Has (record { rev = N.rev; text = text } ∷ []) o → IsTextOf (view o.rev) o.text
       written o (inl h) = k.written o h
-      written o (inr (inl q)) = subst (λ (o : SchemaEntry). o.text ≡ compact_text (schema_data (view o.rev))) q upgrade.written
+      written o (inr (inl q)) = subst (λ (o : SchemaEntry). IsTextOf (view o.rev) o.text) q upgrade.written
       written o (inr (inr h)) = absurd h
 
       own_line : chain N.rev ≡ chain N.under ++ N.rev ∷ []

@@ -1,13 +1,15 @@
 -- When commits and documents keep to schemas that are widened: each commit to the schema under which it was made, in the
 -- part of its schema's line, and a document to the last schema in effect, in the part in effect.
-use Rattle.std.specs.Prelude.{◌≡◌, true, List, [], ◌∷◌, Option, Some, IfSome, unwrap_or, if◌then◌else◌}
+use Rattle.std.specs.Prelude.{◌≡◌, true, List, [], ◌∷◌, Option, Some, IfSome, option_and_then, unwrap_or, if◌then◌else◌}
 use Rattle.st_ids.specs.Order.{same_rev}
 use Rattle.st_ids.specs.Root.{opening}
 use Rattle.st_ids.specs.declared.names.FieldId.{FieldId}
 use Rattle.st_ids.specs.declared.names.NodeId.{NodeId}
 use Rattle.st_ids.specs.declared.names.Rev.{Rev}
+use Rattle.st_schema.specs.Reading.{schema_of_text}
 use Rattle.st_schema.specs.Schema.{SchemaView}
 use Rattle.st_marks.specs.declared.intents.Intent.{Intent}
+use Rattle.st_marks.specs.declared.schemas.SchemaEntry.{SchemaEntry}
 use Rattle.st_marks.specs.declared.verdicts.Verdict.{Verdict}
 use Rattle.st_marks.specs.Document.{Document, NodeType, last_of, revs}
 use Rattle.st_marks.specs.Verdict.{IsVerdict, carried_document}
@@ -45,6 +47,14 @@ AgreeInTurn T D (N ∷ Ns) = AgreesInLine T D N × ((v : Verdict) → IsVerdict 
 -- the last schema in effect
 abbrev pub last_schema : Document → Rev
 last_schema D = unwrap_or (last_of (revs D.schemas)) opening
+
+-- the schema that allows nothing, as a document's with no entry in effect
+abbrev pub empty_schema : SchemaView
+empty_schema = record { root = []; types = [] }
+
+-- the schema that the text of the last entry in effect is the form of
+abbrev pub schema_in_effect : Document → SchemaView
+schema_in_effect D = unwrap_or (option_and_then (λ (e : SchemaEntry). schema_of_text e.text) (last_of D.schemas)) empty_schema
 
 -- the schemas in effect are a line in which each widens the one before; each node has a type as its maker's schema says; a
 -- node stands in effect where its field's node does; and the part in effect conforms to the last schema

@@ -1,10 +1,10 @@
 //! Laws about the part of a document that is in effect: each is the contract of a function that does nothing.
-ghost use Rattle.std.specs.Prelude.{IfSome, IsSome, ◌∷◌, ◌++◌, [], ◌≡◌, ◌≢◌, ◌↔◌, ◌≤◌, ℕ, Bool, true, false, List, None, Ok, Some};
+ghost use Rattle.std.specs.Prelude.{IfSome, IsSome, ◌∷◌, ◌++◌, ◌+◌, [], ◌≡◌, ◌≢◌, ◌⊎◌, ◌↔◌, ◌≤◌, ℕ, Bool, true, false, List, length, None, Ok, Some};
 ghost use Rattle.std.specs.List.{AllByRecursion};
 ghost use Rattle.serde_json.specs.Data.{Data};
+ghost use Rattle.serde_json.specs.Written.{compact_text};
 ghost use Rattle.st_ids.specs.declared.names.NodeId.{NodeId};
 ghost use Rattle.st_ids.specs.declared.names.Rev.{Rev};
-ghost use Rattle.serde_json.specs.Written.{compact_text};
 ghost use Rattle.st_ids.specs.Listing.{Has};
 ghost use Rattle.st_ids.specs.Root.{opening, root};
 ghost use Rattle.st_tree.specs.declared.edit.Edit.{Edit};
@@ -37,10 +37,10 @@ ghost use Rattle.st_part_laws.specs.Chains.{AreInLine, TellsChain};
 ghost use Rattle.st_part_laws.specs.Parts.{IsClosedBy, IsClosedInEffect, NamesWithin, is_of_schemas, part_by, part_in_effect};
 ghost use Rattle.st_part_laws.specs.Schemas.{entries_after};
 ghost use Rattle.st_part_laws.specs.Turns.{ComesFirst, SchemasComeFirst};
-ghost use Rattle.st_upgrade_laws.specs.Agreeing.{AgreeInTurn, AgreesInLine, ConformsInEffect, Told, last_schema, with_commit, with_home};
+ghost use Rattle.st_upgrade_laws.specs.Agreeing.{AgreeInTurn, AgreesInLine, ConformsInEffect, Told, last_schema, schema_in_effect, with_commit, with_home};
 ghost use Rattle.st_upgrade_laws.specs.Earlier.{AreUnderEarlier, schemas_made};
 ghost use Rattle.st_upgrade_laws.specs.Lines.{IsLine};
-ghost use Rattle.st_upgrade_laws.specs.Widening.{AreWidening, IsUpgrade};
+ghost use Rattle.st_upgrade_laws.specs.Widening.{AreWidening, IsTextOf, IsUpgrade};
 
 /// A node of a closed part shows there what it shows in the whole document, and so the part in effect shows its
 /// tree.
@@ -93,8 +93,7 @@ pub fn schemas_widen()
         (entries : List SchemaEntry)
         → revs entries ≡ opening ∷ [] → chain opening ≡ opening ∷ []
         → is_sound (view opening) ≡ true
-        → ((e : SchemaEntry) → Has entries e
-        → e.text ≡ compact_text (schema_data (view opening)))
+        → ((e : SchemaEntry) → Has entries e → IsTextOf (view opening) e.text)
         → AreWidening view chain entries }
     ensures after { (view : Rev → SchemaView) (chain : Rev → List Rev)
         (entries : List SchemaEntry) (N : Intent)
@@ -104,6 +103,15 @@ pub fn schemas_widen()
         → (r : Rev) → Has (revs D.schemas) r → Has (revs E.schemas) r }
 {}
 
+/// The text of the last entry in effect is read as the schema that is told of it; and each sound schema has a text,
+/// which is read as it.
+pub fn schemas_are_read()
+    ensures in_effect { (T : Told) (D : Document) → IsSoundInForm D → ConformsInEffect T D
+        → schema_in_effect D ≡ T.view (last_schema D) }
+    ensures text { (s : SchemaView) → is_sound s ≡ true
+        → IsTextOf s (compact_text (schema_data s)) }
+{}
+
 /// The part in effect keeps to the last schema in effect: at the opening; after a commit that agrees with the
 /// schema under which it was made, whether that is in effect or not and whatever its verdict, also one that widens
 /// the schema; after edits of data that aren't a commit yet; and after a list of such commits.
@@ -111,8 +119,7 @@ pub fn parts_conform()
     ensures opening { (T : Told) (D : Document) → IsSoundInForm D → IsMadeUnder (opening ∷ []) D
         → revs D.schemas ≡ opening ∷ [] → T.under opening ≡ opening → T.chain opening ≡ opening ∷ []
         → is_sound (T.view opening) ≡ true
-        → ((e : SchemaEntry) → Has D.schemas e
-        → e.text ≡ compact_text (schema_data (T.view opening)))
+        → ((e : SchemaEntry) → Has D.schemas e → IsTextOf (T.view opening) e.text)
         → IsConforming (T.view opening) T.home D
         → ConformsInEffect T D }
     ensures one { (T : Told) (D : Document) (N : Intent) (v : Verdict) → IsSoundInForm D
@@ -196,8 +203,9 @@ pub fn commits_can_be_told()
 {}
 
 /// Lists of commits, each made under a schema that comes before it: fronts, rests, lists one after the other and
-/// longer lists are such. What is in effect after a list came before it or in it. So each change of schema comes
-/// before what was made under it.
+/// longer lists are such. What is in effect after a list was in effect before it, or is the change that one of its
+/// commits is, so there's at most one entry more for each commit. Each change of schema comes before what was made
+/// under it.
 pub fn schemas_come_earlier()
     ensures front { (rs : List Rev) (Ns Ms : List Intent) → AreUnderEarlier rs (Ns ++ Ms)
         → AreUnderEarlier rs Ns }
@@ -216,6 +224,13 @@ pub fn schemas_come_earlier()
         → Has (schemas_made rs Ns) N.under }
     ensures among { (rs : List Rev) (Ns : List Intent) (r : Rev) → Has (schemas_made rs Ns) r
         → Has (revisions Ns ++ rs) r }
+    ensures by { (rs : List Rev) (Ns : List Intent) (r : Rev) → Has (schemas_made rs Ns) r
+        → Has rs r ⊎ ((N : Intent) × Has Ns N × (N.rev ≡ r) × IsSome N.schema) }
+    ensures entries { (D E : Document) (Ns : List Intent) → AllByRecursion IsIntent Ns
+        → Run D Ns E → (e : SchemaEntry) → Has E.schemas e
+        → Has D.schemas e ⊎ ((N : Intent) × Has Ns N × (N.rev ≡ e.rev) × (N.schema ≡ Some e.text)) }
+    ensures count { (D E : Document) (Ns : List Intent) → AllByRecursion IsIntent Ns
+        → Run D Ns E → length E.schemas ≤ length D.schemas + length Ns }
     ensures first { (under : Rev → Rev) (rs ss : List Rev) (Ns : List Intent)
         → ((r : Rev) → Has rs r → Has ss r)
         → ((r : Rev) → Has ss r → Has rs (under r)) → HaveNewRevisions ss Ns
@@ -263,8 +278,8 @@ pub fn ways_back_agree_in_line()
 {}
 
 /// Lists of commits from the document opened go on: by what an edit means after them, by an upgrade of the last
-/// schema in effect, by the undo of a sound commit of data, by a commit that agrees, and after a longer list. What is
-/// told of a commit with a new revision leaves them.
+/// schema in effect, by the undo of a sound commit of data, by a commit that agrees, and after a longer list. Their
+/// fronts are such lists, and what is told of a commit with a new revision leaves them.
 pub fn lines_go_on()
     ensures edit { (T : Told) (O D : Document) (Ns : List Intent) (G : NameCounters)
         (edit : Edit) (N : Intent)
@@ -289,6 +304,8 @@ pub fn lines_go_on()
         → IsLine T O Ns → Run O Ns D
         → (Has (revisions Ns ++ opening ∷ []) N.rev → ⊥) → FitInTurn O (Ns ++ N ∷ [])
         → N.under ≡ last_schema D → AgreesInLine T D N → IsLine T O (Ns ++ N ∷ []) }
+    ensures front { (T : Told) (O : Document) (As Bs : List Intent) → IsLine T O (As ++ Bs)
+        → IsLine T O As }
     ensures longer { (T : Told) (O : Document) (As Bs Ns : List Intent) → IsSublist As Bs
         → IsLine T O (As ++ Ns) → IsLine T O Bs
         → FitInTurn O (Bs ++ Ns) → HaveNewRevisions (opening ∷ []) (Bs ++ Ns) → IsLine T O (Bs ++ Ns) }
