@@ -12,14 +12,17 @@ use Rattle.st_ids.proofs.Points.{read_rev-rev_text}
 use Rattle.st_json.specs.Look.{has_only}
 use Rattle.st_tree.specs.Node.{Node, nodes_of}
 use Rattle.st_tree.specs.Size.{check_items}
+use Rattle.st_schema.specs.Schema.{SchemaView, is_sound}
 use Rattle.st_schema.specs.TreeText.{tree_of, tree_data, trees_data}
-use Rattle.st_script.specs.Members.{client_named, client_in, as_small, number_in, number_or, at_least_one, one_or_more, count_of, key_within, key_or_empty, place_of, places_in, short_path, path_in, rev_in, trees_in, few, items_in, item_in}
+use Rattle.st_schema.specs.Written.{schema_data}
+use Rattle.st_script.specs.Members.{client_named, client_in, as_small, number_in, number_or, at_least_one, one_or_more, count_of, key_within, key_or_empty, place_of, places_in, short_path, path_in, rev_in, trees_in, few, items_in, item_in, sound_schema, schema_in}
 use Rattle.st_ids.specs.Numeral.{small}
-use Rattle.st_script.specs.Steps.{EditView, insert, remove, move, set, clear, ActView, join, edit, need, begin, commit, abort, fork, rebase, merge, drop_branch, undo, sequence, ack, deliver, leave, drop_client, reconnect, show, StepView, target_of, site_of, span_of, goal_of, read_insert, read_remove, read_move, read_set, read_clear, read_need, read_undo, act_of, step_of}
-use Rattle.st_script.specs.StepText.{places_data, path_data, items_data, plain_data, undo_data, edit_data, act_data, step_data, IsName, IsActor, IsRev, ArePlaces, IsPath, IsTarget, IsSpan, AreShown, AreItems, FitsEdit, FitsAct, FitsLine}
+use Rattle.st_script.specs.Steps.{EditView, insert, remove, move, set, clear, ActView, join, edit, need, begin, commit, abort, fork, rebase, merge, drop_branch, undo, upgrade, sequence, ack, deliver, leave, drop_client, reconnect, show, StepView, target_of, site_of, span_of, goal_of, read_insert, read_remove, read_move, read_set, read_clear, read_need, read_undo, read_upgrade, act_of, step_of}
+use Rattle.st_script.specs.StepText.{places_data, path_data, items_data, plain_data, undo_data, upgrade_data, edit_data, act_data, step_data, IsName, IsActor, IsRev, ArePlaces, IsPath, IsTarget, IsSpan, AreShown, AreItems, FitsEdit, FitsAct, FitsLine}
 use Rattle.st_script.specs.declared.read.Goal.{Goal}
 use Rattle.st_script.specs.declared.read.Span.{Span}
 use Rattle.st_script.specs.declared.read.Target.{Target}
+use Rattle.st_script.proofs.Schemas.{schema_seen}
 
 -- ---- options
 
@@ -80,6 +83,9 @@ path_kept name d ps there h =
 
 rev_kept : (name : List ℕ) (d : Data) (rev : Rev) → get name d ≡ Some (string (rev_text rev)) → IsRev rev → rev_in name d ≡ Some rev
 rev_kept name d rev there h = ap (λ (o : Option Data). option_and_then read_rev (option_and_then as_str o)) there ∙ read_rev-rev_text rev h.0 h.1
+
+schema_kept : (d : Data) (s : SchemaView) → get (codes "schema") d ≡ Some (schema_data s) → is_sound s ≡ true → schema_in d ≡ Some s
+schema_kept d s there sound = ap (option_and_then sound_schema) there ∙ sym (schema_seen (schema_data s) s refl sound)
 
 target_kept : (path key : List ℕ) (d : Data) (at : List Place) (k : Key) → get path d ≡ Some (path_data at) → get key d ≡ Some (string k.0) → IsTarget at k → target_of path key d ≡ Some (record { at = at; key = k })
 target_kept path key d at k path_there key_there h =
@@ -165,6 +171,11 @@ undo_read d rev only there =
     let f : Rev → ActView = λ rev. undo rev in
     passed (has_only (codes "client do rev") d) (option_map f (rev_in (codes "rev") d)) (Some (f rev)) only (ap (option_map f) there)
 
+upgrade_read : (d : Data) (s : SchemaView) → has_only (codes "client do schema") d ≡ true → schema_in d ≡ Some s → read_upgrade d ≡ Some (upgrade s)
+upgrade_read d s only there =
+    let f : SchemaView → ActView = λ schema. upgrade schema in
+    passed (has_only (codes "client do schema") d) (option_map f (schema_in d)) (Some (f s)) only (ap (option_map f) there)
+
 -- ---- each step
 
 step_kept : (d : Data) (client : List ℕ) (branch : ℕ) (a : ActView) → number_or 0 (get (codes "branch") d) ≡ Some branch
@@ -238,6 +249,9 @@ act_again client branch drop_branch by h = branch_kept (act_data client branch d
 act_again client branch (undo rev) by h =
     let d = undo_data client rev in
     main_kept d client branch (undo rev) refl refl by.0 h.0 (undo_read d rev refl (rev_kept (codes "rev") d rev refl h.1))
+act_again client branch (upgrade schema) by h =
+    let d = upgrade_data client schema in
+    main_kept d client branch (upgrade schema) refl refl by.0 h.0 (upgrade_read d schema refl (schema_kept d schema refl h.1))
 act_again client branch sequence by h = plain_again (codes "sequence") client branch sequence by.0 h refl
 act_again client branch ack by h = plain_again (codes "ack") client branch ack by.0 h refl
 act_again client branch deliver by h = plain_again (codes "deliver") client branch deliver by.0 h refl

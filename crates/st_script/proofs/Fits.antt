@@ -18,11 +18,13 @@ use Rattle.st_json.specs.declared.fault.BadCause.{BadCause}
 use Rattle.st_tree.specs.Node.{Node, nodes_of}
 use Rattle.st_tree.specs.Size.{check_of, check_items}
 use Rattle.st_tree.specs.declared.limits.TreeFault.{TreeFault}
+use Rattle.st_schema.specs.Reading.{schema_of}
+use Rattle.st_schema.specs.Schema.{SchemaView, is_sound}
 use Rattle.st_schema.specs.TreeText.{tree_of, tree_in, tree_data, within_limits}
 use Rattle.st_script.specs.Line.{line_of, step_of_value}
-use Rattle.st_script.specs.Members.{client_named, client_in, as_small, number_in, number_or, at_least_one, one_or_more, count_of, key_within, key_of, key_or_empty, place_of, places_in, short_path, path_in, rev_in, trees_in, few, items_in, item_in}
+use Rattle.st_script.specs.Members.{client_named, client_in, as_small, number_in, number_or, at_least_one, one_or_more, count_of, key_within, key_of, key_or_empty, place_of, places_in, short_path, path_in, rev_in, trees_in, few, items_in, item_in, sound_schema, schema_in}
 use Rattle.st_ids.specs.Numeral.{small}
-use Rattle.st_script.specs.Steps.{EditView, insert, remove, move, set, clear, ActView, join, edit, need, begin, commit, abort, fork, rebase, merge, drop_branch, undo, sequence, ack, deliver, leave, drop_client, reconnect, show, StepView, IsEditWithin, IsActWithin, IsWithinLimits, same, target_of, site_of, span_of, goal_of, plain_act, read_insert, read_remove, read_move, read_set, read_clear, read_need, read_undo, read_edit, read_of, word_of, act_of, step_of}
+use Rattle.st_script.specs.Steps.{EditView, insert, remove, move, set, clear, ActView, join, edit, need, begin, commit, abort, fork, rebase, merge, drop_branch, undo, upgrade, sequence, ack, deliver, leave, drop_client, reconnect, show, StepView, IsEditWithin, IsActWithin, IsWithinLimits, same, target_of, site_of, span_of, goal_of, plain_act, read_insert, read_remove, read_move, read_set, read_clear, read_need, read_undo, read_upgrade, read_edit, read_of, word_of, act_of, step_of}
 use Rattle.st_script.specs.StepText.{IsName, IsRev, ArePlaces, IsPath, IsTarget, IsSpan, IsShown, AreShown, AreItems, FitsEdit, FitsAct, FitsLine}
 use Rattle.st_script.specs.declared.read.Goal.{Goal}
 use Rattle.st_script.specs.declared.read.Span.{Span}
@@ -185,6 +187,16 @@ items_fit d sound =
 item_fits : (d : Data) → Sound d → Holds IsShown (item_in d)
 item_fits d sound = Holds-and_then Sound IsShown tree_of tree_shown (get (codes "item") d) (get_sound (codes "item") d sound)
 
+abbrev pub KeepsRules : SchemaView → Type 0
+KeepsRules s = is_sound s ≡ true
+
+form_fits : (d : Data) → Holds KeepsRules (sound_schema d)
+form_fits d =
+    Holds-and_then Any KeepsRules (λ (s : SchemaView). cond (is_sound s) (Some s) None) (λ s _. Holds-cond KeepsRules (is_sound s) (Some s) None (λ h. h) tt) (schema_of d) (any _)
+
+pub schema_fits : (d : Data) → Holds KeepsRules (schema_in d)
+schema_fits d = Holds-and_then Any KeepsRules sound_schema (λ e _. form_fits e) (get (codes "schema") d) (any _)
+
 -- ---- acts
 
 -- what a value does on a branch
@@ -259,6 +271,14 @@ module _ (d : Data) (b : ℕ) (is_branch : number_or 0 (get (codes "branch") d) 
       Holds-cond (FitsAct b) (has_only (codes "client do rev") d) (option_map undone (rev_in (codes "rev") d)) None
       (λ o. Holds-map IsRev (FitsAct b) undone (λ rev h. (on_main (codes "client do rev") refl o, h)) (rev_in (codes "rev") d) (rev_fits (codes "rev") d)) tt
 
+  abbrev upgraded : SchemaView → ActView
+  upgraded schema = upgrade schema
+
+  upgrade_fits : Fits (read_upgrade d)
+  upgrade_fits =
+      Holds-cond (FitsAct b) (has_only (codes "client do schema") d) (option_map upgraded (schema_in d)) None
+      (λ o. Holds-map KeepsRules (FitsAct b) upgraded (λ schema h. (on_main (codes "client do schema") refl o, h)) (schema_in d) (schema_fits d)) tt
+
   -- on whatever branch
   actor_fits : (a : ActView) → FitsAct b a → Fits (plain_act (codes "branch client do") a d)
   actor_fits a h = only (codes "branch client do") (Some a) h
@@ -288,13 +308,14 @@ module _ (d : Data) (b : ℕ) (is_branch : number_or 0 (get (codes "branch") d) 
       (either (same word (codes "merge")) _ _ (actor_fits merge tt)
       (either (same word (codes "drop_branch")) _ _ (actor_fits drop_branch tt)
       (either (same word (codes "undo")) _ _ undo_fits
+      (either (same word (codes "upgrade")) _ _ upgrade_fits
       (either (same word (codes "sequence")) _ _ (main_fits sequence (λ zero. zero))
       (either (same word (codes "ack")) _ _ (main_fits ack (λ zero. zero))
       (either (same word (codes "deliver")) _ _ (main_fits deliver (λ zero. zero))
       (either (same word (codes "leave")) _ _ (main_fits leave (λ zero. zero))
       (either (same word (codes "drop")) _ _ (main_fits drop_client (λ zero. zero))
       (either (same word (codes "reconnect")) _ _ (main_fits reconnect (λ zero. zero))
-      (either (same word (codes "show")) _ _ (actor_fits show tt) (edit_word_fits word sound)))))))))))))))))
+      (either (same word (codes "show")) _ _ (actor_fits show tt) (edit_word_fits word sound))))))))))))))))))
 
   act_fits : Sound d → Fits (act_of d)
   act_fits sound = Holds-and_then Any (FitsAct b) (λ word. read_of word d) (λ word _. word_fits word sound) (word_of d) (any _)
@@ -354,6 +375,7 @@ act_form b rebase h = tt
 act_form b merge h = tt
 act_form b drop_branch h = tt
 act_form b (undo rev) h = tt
+act_form b (upgrade schema) h = tt
 act_form b sequence h = tt
 act_form b ack h = tt
 act_form b deliver h = tt

@@ -5,12 +5,13 @@ use Rattle.serde_json.specs.Data.{Data}
 use Rattle.serde_json.specs.Find.{get}
 use Rattle.st_json.specs.Line.{line_value}
 use Rattle.st_json.specs.declared.fault.BadCause.{BadCause}
-use Rattle.st_schema.specs.Schema.{SchemaView, is_sound}
-use Rattle.st_schema.specs.Reading.{schema_of}
-use Rattle.st_script.specs.Header.{HeaderView, header_line, header_or_cause, header_of, header_that_opens, may_open, parts_of, sound_schema, schema_in, tree_in, history_or_64, is_begun}
+use Rattle.st_json.proofs.Rising.{Holds}
+use Rattle.st_schema.specs.Schema.{is_sound}
+use Rattle.st_script.specs.Header.{HeaderView, header_line, header_or_cause, header_of, header_that_opens, may_open, parts_of, tree_in, history_or_64, is_begun}
 use Rattle.st_script.specs.Line.{line_of}
+use Rattle.st_script.specs.Members.{schema_in}
 use Rattle.st_script.specs.Steps.{StepView, IsWithinLimits}
-use Rattle.st_script.proofs.Fits.{line_fits, fits_form}
+use Rattle.st_script.proofs.Fits.{KeepsRules, schema_fits, line_fits, fits_form}
 use Rattle.st_lemmas.proofs.Options.{option_map-Some, option_and_then-Some}
 
 -- ## What gave a value
@@ -36,11 +37,7 @@ header_kept d word h e =
     let n = option_and_then-Some (λ history. option_and_then (λ schema. option_map (λ tree. record { history = history; schema = schema; tree = tree }) (tree_in d)) (schema_in d)) (history_or_64 (get (codes "history") d)) p.0 p.1 in
     let s = option_and_then-Some (λ schema. option_map (λ tree. record { history = n.0; schema = schema; tree = tree }) (tree_in d)) (schema_in d) p.0 n.2 in
     let t = option_map-Some (λ tree. record { history = n.0; schema = s.0; tree = tree }) (tree_in d) p.0 s.2 in
-    let x = option_and_then-Some sound_schema (get (codes "schema") d) s.0 s.1 in
-    let v = option_and_then-Some (λ (v : SchemaView). cond (is_sound v) (Some v) None) (schema_of x.0) s.0 x.2 in
-    let w = guarded (is_sound v.0) (Some v.0) s.0 v.2 in
-    let same_schema : v.0 ≡ s.0 = cc in
-    let sound : is_sound s.0 ≡ true = subst (λ (y : SchemaView). is_sound y ≡ true) same_schema w.0 in
+    let sound : is_sound s.0 ≡ true = subst (Holds KeepsRules) s.1 (schema_fits d) in
     let here : is_sound p.0.schema ≡ true = subst (λ (y : HeaderView). is_sound y.schema ≡ true) t.2 sound in
     subst (λ (y : HeaderView). (is_sound y.schema ≡ true) × (may_open y.schema y.tree ≡ true)) same_header (here, o.0)
 

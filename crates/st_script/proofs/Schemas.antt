@@ -6,7 +6,7 @@ use Rattle.st_schema.specs.Schema.{SchemaView, is_sound}
 use Rattle.st_schema.specs.Reading.{schema_of}
 use Rattle.st_schema.specs.Written.{schema_data}
 use Rattle.st_schema.proofs.Forms.{schema_back, schema_read}
-use Rattle.st_script.specs.Header.{sound_schema}
+use Rattle.st_script.specs.Members.{sound_schema}
 
 picked_at : {A : Type 0} (k : Bool) (a : A) → k ≡ true → Some a ≡ (if k then Some a else None)
 picked_at true a h = refl

@@ -16,13 +16,14 @@ use Rattle.st_json.specs.declared.fault.BadCause.{BadCause}
 use Rattle.st_json.proofs.Rising.{read_rises, Holds-map, Holds-and_then, Holds}
 use Rattle.st_tree.specs.Node.{Node, nodes_of}
 use Rattle.st_tree.specs.Size.{check_items}
+use Rattle.st_schema.specs.Schema.{SchemaView}
 use Rattle.st_schema.specs.Shape.{has_shape, all_have_shape}
 use Rattle.st_schema.specs.TreeText.{tree_of}
 use Rattle.st_schema.proofs.Holds.{Holds-cond}
 use Rattle.st_schema.proofs.Shaped.{IsShaped, shown_shaped}
 use Rattle.st_script.specs.Line.{line_of, step_of_value}
-use Rattle.st_script.specs.Members.{client_in, number_in, number_or, path_in, rev_in, trees_in, few, items_in, item_in}
-use Rattle.st_script.specs.Steps.{insert, remove, move, set, clear, ActView, join, edit, need, begin, commit, abort, fork, rebase, merge, drop_branch, undo, sequence, ack, deliver, leave, drop_client, reconnect, show, StepView, same, site_of, span_of, goal_of, read_insert, read_remove, read_move, read_set, read_clear, read_need, read_undo, read_edit, read_of, word_of, act_of, step_of}
+use Rattle.st_script.specs.Members.{client_in, number_in, number_or, path_in, rev_in, trees_in, few, items_in, item_in, schema_in}
+use Rattle.st_script.specs.Steps.{insert, remove, move, set, clear, ActView, join, edit, need, begin, commit, abort, fork, rebase, merge, drop_branch, undo, upgrade, sequence, ack, deliver, leave, drop_client, reconnect, show, StepView, same, site_of, span_of, goal_of, read_insert, read_remove, read_move, read_set, read_clear, read_need, read_undo, read_upgrade, read_edit, read_of, word_of, act_of, step_of}
 use Rattle.st_script.specs.StepText.{act_has_shape, trees_have_shape}
 use Rattle.st_script.specs.declared.read.Goal.{Goal}
 use Rattle.st_script.specs.declared.read.Span.{Span}
@@ -158,6 +159,12 @@ undone rev = undo rev
 undo_shaped : (d : Data) → Shaped (read_undo d)
 undo_shaped d = only (codes "client do rev") d (option_map undone (rev_in (codes "rev") d)) (made IsAct undone (λ rev. refl) (rev_in (codes "rev") d))
 
+abbrev upgraded : SchemaView → ActView
+upgraded schema = upgrade schema
+
+upgrade_shaped : (d : Data) → Shaped (read_upgrade d)
+upgrade_shaped d = only (codes "client do schema") d (option_map upgraded (schema_in d)) (made IsAct upgraded (λ schema. refl) (schema_in d))
+
 -- one of two, each of which has the shape
 either : (b : Bool) (o p : Option ActView) → Shaped o → Shaped p → Shaped (cond b o p)
 either true o p l r = l
@@ -183,13 +190,14 @@ word_shaped word d rise =
     (either (same word (codes "merge")) _ _ (only (codes "branch client do") d (Some merge) refl)
     (either (same word (codes "drop_branch")) _ _ (only (codes "branch client do") d (Some drop_branch) refl)
     (either (same word (codes "undo")) _ _ (undo_shaped d)
+    (either (same word (codes "upgrade")) _ _ (upgrade_shaped d)
     (either (same word (codes "sequence")) _ _ (only (codes "client do") d (Some sequence) refl)
     (either (same word (codes "ack")) _ _ (only (codes "client do") d (Some ack) refl)
     (either (same word (codes "deliver")) _ _ (only (codes "client do") d (Some deliver) refl)
     (either (same word (codes "leave")) _ _ (only (codes "client do") d (Some leave) refl)
     (either (same word (codes "drop")) _ _ (only (codes "client do") d (Some drop_client) refl)
     (either (same word (codes "reconnect")) _ _ (only (codes "client do") d (Some reconnect) refl)
-    (either (same word (codes "show")) _ _ (only (codes "branch client do") d (Some show) refl) (edit_word_shaped word d rise)))))))))))))))))
+    (either (same word (codes "show")) _ _ (only (codes "branch client do") d (Some show) refl) (edit_word_shaped word d rise))))))))))))))))))
 
 act_shaped : (d : Data) → NamesRise d → Shaped (act_of d)
 act_shaped d rise = bound IsAct (λ word. read_of word d) (λ word. word_shaped word d rise) (word_of d)

@@ -1,5 +1,5 @@
 -- The value of a step has no floating-point number and nests no deeper than a text may, and its line is read as the step.
-use Rattle.std.proofs.Common.{arith, ◌≡◌, ◌∙◌, ℕ, ◌≤◌, ◌==◌, Bool, true, false, List, [], ◌∷◌, ◌++◌, length, Option, None, Some, Result, Ok, Err, String, string_bytes, Global, if◌then◌else◌, IfOk, OnOk, eq-eqb, refl, sym, ap, subst}
+use Rattle.std.proofs.Common.{arith, ◌≡◌, ◌∙◌, ℕ, ◌≤◌, ◌==◌, Bool, true, false, ◌||◌, List, [], ◌∷◌, ◌++◌, length, Option, None, Some, Result, Ok, Err, String, string_bytes, Global, if◌then◌else◌, IfOk, OnOk, eq-eqb, refl, sym, ap, subst}
 use Rattle.std.proofs.lemmas.Str.{IsUtf8-string_bytes, utf8_valid_len-IsUtf8}
 use Rattle.std.specs.Option.{ok_or}
 use Rattle.std.specs.Str.Lossy.{utf8_valid_len}
@@ -12,9 +12,10 @@ use Rattle.st_json.specs.Line.{line_value}
 use Rattle.st_json.specs.declared.fault.BadCause.{BadCause}
 use Rattle.st_tree.specs.Node.{Node, nodes_of}
 use Rattle.st_schema.specs.TreeText.{trees_data}
+use Rattle.st_schema.proofs.Plain.{schema_plain, schema_low}
 use Rattle.st_schema.proofs.PlainTrees.{tree_plain, tree_low, items_low}
 use Rattle.st_script.specs.Line.{line_of, step_of_value}
-use Rattle.st_script.specs.Steps.{EditView, insert, remove, move, set, clear, ActView, join, edit, need, begin, commit, abort, fork, rebase, merge, drop_branch, undo, sequence, ack, deliver, leave, drop_client, reconnect, show, StepView}
+use Rattle.st_script.specs.Steps.{EditView, insert, remove, move, set, clear, ActView, join, edit, need, begin, commit, abort, fork, rebase, merge, drop_branch, undo, upgrade, sequence, ack, deliver, leave, drop_client, reconnect, show, StepView}
 use Rattle.st_script.specs.StepText.{places_data, edit_data, act_data, step_data, step_text, edit_limits, act_limits, limits_of, trees_have_shape, IsReadBack, FitsLine}
 use Rattle.st_script.proofs.Again.{read_again}
 use Rattle.st_script.proofs.Fits.{line_fits}
@@ -50,6 +51,7 @@ act_plain client branch rebase = refl
 act_plain client branch merge = refl
 act_plain client branch drop_branch = refl
 act_plain client branch (undo rev) = refl
+act_plain client branch (upgrade schema) = ap (λ (b : Bool). b || false) (schema_plain schema)
 act_plain client branch sequence = refl
 act_plain client branch ack = refl
 act_plain client branch deliver = refl
@@ -86,6 +88,7 @@ act_low client branch rebase h = omega arith
 act_low client branch merge h = omega arith
 act_low client branch drop_branch h = omega arith
 act_low client branch (undo rev) h = omega arith
+act_low client branch (upgrade schema) h = omega (arith, schema_low schema)
 act_low client branch sequence h = omega arith
 act_low client branch ack h = omega arith
 act_low client branch deliver h = omega arith

@@ -41,6 +41,9 @@ not_allowed_data at = object (member (codes "at") (number (unsigned at)) (member
 abbrev pub gone_data : ℕ → Data
 gone_data floor = object (member (codes "floor") (number (unsigned floor)) (member (codes "no") (string (codes "Gone")) no_members))
 
+abbrev pub not_wider_data : ℕ → Data
+not_wider_data at = object (member (codes "at") (number (unsigned at)) (member (codes "no") (string (codes "NotWider")) no_members))
+
 abbrev pub refusal_data : Refusal → Data
 refusal_data no.Taken = no_data (codes "Taken")
 refusal_data no.NoClient = no_data (codes "NoClient")
@@ -61,6 +64,7 @@ refusal_data (no.Gone floor) = gone_data floor
 refusal_data no.VoidCommit = no_data (codes "VoidCommit")
 refusal_data no.NothingToSend = no_data (codes "NothingToSend")
 refusal_data no.NothingNew = no_data (codes "NothingNew")
+refusal_data (no.NotWider at) = not_wider_data at
 refusal_data (no.Limit l) = limit_data l
 
 -- `{"ok":word}`
@@ -137,6 +141,7 @@ answer_text (answer.Rebase void) = compact_text (void_revs_data (codes "rebase")
 answer_text (answer.Merge void) = compact_text (void_revs_data (codes "merge") void)
 answer_text answer.DropBranch = compact_text (ok_data (codes "drop_branch"))
 answer_text (answer.Undo rev) = compact_text (rev_data (codes "undo") rev)
+answer_text (answer.Upgrade rev) = compact_text (rev_data (codes "upgrade") rev)
 answer_text (answer.Sequence least n) = compact_text (sequence_data least n)
 answer_text (answer.Ack reference) = compact_text (ack_data reference)
 answer_text (answer.Deliver n verdict) = compact_text (deliver_data n verdict)

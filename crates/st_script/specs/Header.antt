@@ -8,12 +8,11 @@ use Rattle.st_json.specs.Look.{has_only}
 use Rattle.st_json.specs.declared.fault.BadCause.{BadCause}
 use Rattle.st_tree.specs.Node.{Node, view}
 use Rattle.st_tree.specs.Size.{check_of}
-use Rattle.st_schema.specs.Schema.{SchemaView, is_sound}
-use Rattle.st_schema.specs.Reading.{schema_of}
+use Rattle.st_schema.specs.Schema.{SchemaView}
 use Rattle.st_schema.specs.TreeText.{tree_of}
 use Rattle.st_schema.specs.Conforms.{allows_of}
 use Rattle.st_schema.specs.declared.header.Header.{Header}
-use Rattle.st_script.specs.Members.{as_small, number_in}
+use Rattle.st_script.specs.Members.{as_small, number_in, schema_in}
 
 -- a header as contracts see it, with its tree as a node
 pub record HeaderView : Type 0 where
@@ -32,13 +31,6 @@ kept_history n = if nat_le n 1024 then Some n else None
 abbrev pub history_or_64 : Option Data → Option ℕ
 history_or_64 None = Some 64
 history_or_64 (Some d) = option_and_then kept_history (as_small d)
-
--- the form of a schema that keeps the rules
-abbrev pub sound_schema : Data → Option SchemaView
-sound_schema d = option_and_then (λ s. if is_sound s then Some s else None) (schema_of d)
-
-abbrev pub schema_in : Data → Option SchemaView
-schema_in d = option_and_then sound_schema (get (codes "schema") d)
 
 abbrev pub tree_in : Data → Option Node
 tree_in d = option_and_then tree_of (get (codes "tree") d)

@@ -8,6 +8,8 @@ use Rattle.st_ids.specs.declared.names.Rev.{Rev}
 use Rattle.st_ids.specs.Names.{read_rev}
 use Rattle.st_tree.specs.Node.{Node, nodes_of}
 use Rattle.st_tree.specs.Size.{check_items}
+use Rattle.st_schema.specs.Schema.{SchemaView, is_sound}
+use Rattle.st_schema.specs.Reading.{schema_of}
 use Rattle.st_schema.specs.TreeText.{tree_of}
 use Rattle.st_ids.specs.Numeral.{small}
 
@@ -87,3 +89,10 @@ items_in d = option_and_then (λ ds. option_and_then few (trees_in ds)) (option_
 
 abbrev pub item_in : Data → Option Node
 item_in d = option_and_then tree_of (get (codes "item") d)
+
+-- the form of a schema that keeps the rules
+abbrev pub sound_schema : Data → Option SchemaView
+sound_schema d = option_and_then (λ s. if is_sound s then Some s else None) (schema_of d)
+
+abbrev pub schema_in : Data → Option SchemaView
+schema_in d = option_and_then sound_schema (get (codes "schema") d)

@@ -10,10 +10,12 @@ use Rattle.st_ids.specs.Names.{rev_text}
 use Rattle.st_tree.specs.Node.{Node, nodes_of}
 use Rattle.st_tree.specs.Size.{check_of, check_items}
 use Rattle.st_tree.specs.declared.limits.TreeFault.{TreeFault}
+use Rattle.st_schema.specs.Schema.{SchemaView, is_sound}
 use Rattle.st_schema.specs.Shape.{has_shape, all_have_shape}
 use Rattle.st_schema.specs.TreeText.{tree_data, trees_data, tree_of}
+use Rattle.st_schema.specs.Written.{schema_data}
 use Rattle.st_script.specs.Line.{line_of}
-use Rattle.st_script.specs.Steps.{EditView, insert, remove, move, set, clear, ActView, join, edit, need, begin, commit, abort, fork, rebase, merge, drop_branch, undo, sequence, ack, deliver, leave, drop_client, reconnect, show, StepView}
+use Rattle.st_script.specs.Steps.{EditView, insert, remove, move, set, clear, ActView, join, edit, need, begin, commit, abort, fork, rebase, merge, drop_branch, undo, upgrade, sequence, ack, deliver, leave, drop_client, reconnect, show, StepView}
 
 -- keys and indexes in turn
 abbrev pub places_data : List Place → List Data
@@ -41,6 +43,10 @@ need_data client branch at = object (member (codes "at") (path_data at) (actor_m
 -- an undo of the commit of a revision
 abbrev pub undo_data : List ℕ → Rev → Data
 undo_data client rev = object (member (codes "client") (string client) (member (codes "do") (string (codes "undo")) (member (codes "rev") (string (rev_text rev)) no_members)))
+
+-- an upgrade to a schema
+abbrev pub upgrade_data : List ℕ → SchemaView → Data
+upgrade_data client schema = object (member (codes "client") (string client) (member (codes "do") (string (codes "upgrade")) (member (codes "schema") (schema_data schema) no_members)))
 
 -- who edits which field, with the step's word
 abbrev pub site_members : List ℕ → List ℕ → ℕ → List Place → Key → Members
@@ -76,6 +82,7 @@ act_data client branch rebase = object (actor_members (codes "rebase") client br
 act_data client branch merge = object (actor_members (codes "merge") client branch)
 act_data client branch drop_branch = object (actor_members (codes "drop_branch") client branch)
 act_data client branch (undo rev) = undo_data client rev
+act_data client branch (upgrade schema) = upgrade_data client schema
 act_data client branch sequence = plain_data (codes "sequence") client
 act_data client branch ack = plain_data (codes "ack") client
 act_data client branch deliver = plain_data (codes "deliver") client
@@ -110,6 +117,7 @@ act_limits rebase = Ok tt
 act_limits merge = Ok tt
 act_limits drop_branch = Ok tt
 act_limits (undo rev) = Ok tt
+act_limits (upgrade schema) = Ok tt
 act_limits sequence = Ok tt
 act_limits ack = Ok tt
 act_limits deliver = Ok tt
@@ -142,6 +150,7 @@ act_has_shape rebase = true
 act_has_shape merge = true
 act_has_shape drop_branch = true
 act_has_shape (undo rev) = true
+act_has_shape (upgrade schema) = true
 act_has_shape sequence = true
 act_has_shape ack = true
 act_has_shape deliver = true
@@ -204,7 +213,8 @@ FitsEdit (move at key index count to to_key to_index) =
 FitsEdit (set at key item) = IsTarget at key × IsShown item
 FitsEdit (clear at key) = IsTarget at key
 
--- an act on a branch, which is the main one, 0, where the line has no member for it
+-- an act on a branch, which is the main one, 0, where the line has no member for it; the schema of an upgrade keeps the
+-- rules of schemas
 abbrev pub FitsAct : ℕ → ActView → Type 0
 FitsAct branch join = branch ≡ 0
 FitsAct branch (edit e) = FitsEdit e
@@ -217,6 +227,7 @@ FitsAct branch rebase = Unit {0}
 FitsAct branch merge = Unit {0}
 FitsAct branch drop_branch = Unit {0}
 FitsAct branch (undo rev) = (branch ≡ 0) × IsRev rev
+FitsAct branch (upgrade schema) = (branch ≡ 0) × (is_sound schema ≡ true)
 FitsAct branch sequence = branch ≡ 0
 FitsAct branch ack = branch ≡ 0
 FitsAct branch deliver = branch ≡ 0

@@ -7,6 +7,7 @@ use Rattle.st_ids.specs.declared.names.Key.{Key}
 use Rattle.st_ids.specs.declared.names.Place.{Place}
 use Rattle.st_ids.specs.declared.names.Rev.{Rev}
 use Rattle.st_json.specs.Look.{has_only}
+use Rattle.st_schema.specs.Schema.{SchemaView}
 use Rattle.st_tree.specs.Node.{Node, view, nodes_of}
 use Rattle.st_tree.specs.Size.{check_of, check_items}
 use Rattle.st_script.specs.declared.step.TraceStep.{TraceStep}
@@ -17,7 +18,7 @@ use Rattle.st_script.specs.declared.step.EditAct.TheVariants as edits
 use Rattle.st_script.specs.declared.read.Target.{Target}
 use Rattle.st_script.specs.declared.read.Span.{Span}
 use Rattle.st_script.specs.declared.read.Goal.{Goal}
-use Rattle.st_script.specs.Members.{client_in, number_in, number_or, count_of, key_or_empty, path_in, rev_in, items_in, item_in}
+use Rattle.st_script.specs.Members.{client_in, number_in, number_or, count_of, key_or_empty, path_in, rev_in, items_in, item_in, schema_in}
 
 -- ## Steps as contracts see them
 
@@ -42,6 +43,7 @@ pub data ActView : Type 0 where
   merge : ActView
   drop_branch : ActView
   undo : Rev → ActView
+  upgrade : SchemaView → ActView
   sequence : ActView
   ack : ActView
   deliver : ActView
@@ -75,6 +77,7 @@ act_view acts.Rebase = rebase
 act_view acts.Merge = merge
 act_view acts.DropBranch = drop_branch
 act_view (acts.Undo rev) = undo rev
+act_view (acts.Upgrade schema) = upgrade schema
 act_view acts.Sequence = sequence
 act_view acts.Ack = ack
 act_view acts.Deliver = deliver
@@ -109,6 +112,7 @@ IsActWithin rebase = Unit {0}
 IsActWithin merge = Unit {0}
 IsActWithin drop_branch = Unit {0}
 IsActWithin (undo rev) = Unit {0}
+IsActWithin (upgrade schema) = Unit {0}
 IsActWithin sequence = Unit {0}
 IsActWithin ack = Unit {0}
 IsActWithin deliver = Unit {0}
@@ -194,6 +198,12 @@ read_undo d =
     option_map (λ rev. undo rev) (rev_in (codes "rev") d)
     else None
 
+abbrev pub read_upgrade : Data → Option ActView
+read_upgrade d =
+    if has_only (codes "client do schema") d then
+    option_map (λ schema. upgrade schema) (schema_in d)
+    else None
+
 -- an act without members of its own, where a value has no members but those of the names
 abbrev pub plain_act : List ℕ → ActView → Data → Option ActView
 plain_act names a d = if has_only names d then Some a else None
@@ -224,6 +234,7 @@ read_of word d =
     if same word (codes "merge") then plain_act (codes "branch client do") merge d else
     if same word (codes "drop_branch") then plain_act (codes "branch client do") drop_branch d else
     if same word (codes "undo") then read_undo d else
+    if same word (codes "upgrade") then read_upgrade d else
     if same word (codes "sequence") then plain_act (codes "client do") sequence d else
     if same word (codes "ack") then plain_act (codes "client do") ack d else
     if same word (codes "deliver") then plain_act (codes "client do") deliver d else

@@ -15,7 +15,7 @@ use std::alloc::{AllocError, Global};
 
 /// The answer to a header or a step. The tree of `Show` is a JSON text. The revision of `Need` and
 /// `Begin` is that of the transaction, and that of `Commit` is none where it made no commit; that
-/// of `Undo` is the revision of the new commit. `branch` of `Fork` is the number of the new branch.
+/// of `Undo` and `Upgrade` is the revision of the new commit. `branch` of `Fork` is the number of the new branch.
 /// `void` of `Rebase` and `Merge` names the commits of the branch that are void on its parent, in
 /// their order. The `reference` of `Ack` is the number of the last entry of the log that the client
 /// received. `n` is the number of an entry of the log: of the client's own Join or Leave, or of the
@@ -39,6 +39,7 @@ pub enum Answer {
     Merge { void: List<Rev> },
     DropBranch,
     Undo { rev: Rev },
+    Upgrade { rev: Rev },
     Sequence { min: u32, n: u32 },
     Ack { reference: u32 },
     Deliver { n: u32, void: Verdict },
@@ -328,6 +329,7 @@ pub fn answer_line(alloc: Global, answer: &Answer) -> Result<Text, AllocError>
         Answer::Merge { void } => void_revs_line(alloc, "merge", void),
         Answer::DropBranch => ok_line(alloc, "drop_branch"),
         Answer::Undo { rev } => rev_line(alloc, "undo", *rev),
+        Answer::Upgrade { rev } => rev_line(alloc, "upgrade", *rev),
         Answer::Sequence { min, n } => sequence_line(alloc, *min, *n),
         Answer::Ack { reference } => ack_line(alloc, *reference),
         Answer::Deliver { n, void } => deliver_line(alloc, *n, *void),

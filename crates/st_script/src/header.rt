@@ -6,9 +6,9 @@ ghost use Rattle.serde_json.specs.Find.{get};
 ghost use Rattle.st_ids.specs.Or.{IfRefused};
 ghost use Rattle.st_tree.specs.Node.{view};
 ghost use Rattle.st_script.specs.Members.{as_small};
-ghost use Rattle.st_script.specs.Header.{kept_history, history_or_64, sound_schema, schema_in, tree_in, is_begun, may_open, header_that_opens, header_view, parts_of, header_of, header_line};
+ghost use Rattle.st_script.specs.Header.{kept_history, history_or_64, tree_in, is_begun, may_open, header_that_opens, header_view, parts_of, header_of, header_line};
 
-use crate::member::{has_only, number_member, small_number, tree};
+use crate::member::{has_only, number_member, schema_member, small_number, tree};
 use serde_json::Value;
 use st_ids::{Or, Text};
 use st_json::{BadCause, read_line};
@@ -31,27 +31,6 @@ fn history(value: &Value) -> Option<u32>
     match value.get("history") {
         None => Some(64),
         Some(history) => kept_history(history),
-    }
-}
-
-// The schema that a value is, if it is one.
-#[tactic(auto, using(crate::proofs::Schemas::schema_seen, crate::proofs::Schemas::schema_unseen))]
-fn schema_of(alloc: Global, value: &Value) -> Result<Option<Schema>, AllocError>
-    ensures { IfOk result (λ s. s ≡ sound_schema (value_view value.now)) }
-{
-    match Schema::read(alloc, value) {
-        Ok(schema) => Ok(Some(schema)),
-        Err(Or::NoMemory) => Err(AllocError),
-        Err(Or::Fault(_)) => Ok(None),
-    }
-}
-
-fn schema_member(alloc: Global, value: &Value) -> Result<Option<Schema>, AllocError>
-    ensures { IfOk result (λ s. s ≡ schema_in (value_view value.now)) }
-{
-    match value.get("schema") {
-        None => Ok(None),
-        Some(schema) => schema_of(alloc, schema),
     }
 }
 

@@ -1,16 +1,16 @@
-//! The members of a step: names, numbers, keys, paths and trees.
+//! The members of a step: names, numbers, keys, paths, trees and schemas.
 ghost use Rattle.std.specs.Prelude.{◌≡◌, Some, None, IfOk, map, option_map, option_and_then};
 ghost use Rattle.serde_json.specs.View.{view as value_view, items_view};
 ghost use Rattle.serde_json.specs.Find.{get};
 ghost use Rattle.st_json.specs.Look.{has_only};
 ghost use Rattle.st_schema.specs.TreeText.{tree_of};
 ghost use Rattle.st_tree.specs.Node.{view};
-ghost use Rattle.st_script.specs.Members.{as_small, number_in, number_or, at_least_one, count_of, client_in, key_within, key_of, key_or_empty, place_of, places_in, short_path, path_in, rev_in, trees_in, few, items_in, item_in};
+ghost use Rattle.st_script.specs.Members.{as_small, number_in, number_or, at_least_one, count_of, client_in, key_within, key_of, key_or_empty, place_of, places_in, short_path, path_in, rev_in, trees_in, few, items_in, item_in, sound_schema, schema_in};
 
 use serde_json::Value;
 use st_ids::{Key, List, Or, Path, Place, Rev, Text};
 use st_json::only;
-use st_schema::read_tree;
+use st_schema::{Schema, read_tree};
 use st_tree::{Tree, check_trees};
 use std::alloc::{AllocError, Global};
 
@@ -267,5 +267,27 @@ pub(crate) fn item(alloc: Global, value: &Value) -> Result<Option<Tree>, AllocEr
     match value.get("item") {
         None => Ok(None),
         Some(item) => tree(alloc, item),
+    }
+}
+
+// The schema that a value is, if it is one.
+#[tactic(auto, using(crate::proofs::Schemas::schema_seen, crate::proofs::Schemas::schema_unseen))]
+fn schema_of(alloc: Global, value: &Value) -> Result<Option<Schema>, AllocError>
+    ensures { IfOk result (λ s. s ≡ sound_schema (value_view value.now)) }
+{
+    match Schema::read(alloc, value) {
+        Ok(schema) => Ok(Some(schema)),
+        Err(Or::NoMemory) => Err(AllocError),
+        Err(Or::Fault(_)) => Ok(None),
+    }
+}
+
+/// The schema of an upgrade or a header.
+pub(crate) fn schema_member(alloc: Global, value: &Value) -> Result<Option<Schema>, AllocError>
+    ensures { IfOk result (λ s. s ≡ schema_in (value_view value.now)) }
+{
+    match value.get("schema") {
+        None => Ok(None),
+        Some(schema) => schema_of(alloc, schema),
     }
 }

@@ -1,11 +1,11 @@
 //! Steps read from the value of a line.
 ghost use Rattle.std.specs.Prelude.{◌≡◌, codes, IfOk, option_map};
 ghost use Rattle.serde_json.specs.View.{view};
-ghost use Rattle.st_script.specs.Steps.{target_of, span_of, goal_of, act_view, step_view, word_of, plain_act, read_insert, read_remove, read_move, read_set, read_clear, read_need, read_undo, read_edit, read_of, act_of, step_of};
+ghost use Rattle.st_script.specs.Steps.{target_of, span_of, goal_of, act_view, step_view, word_of, plain_act, read_insert, read_remove, read_move, read_set, read_clear, read_need, read_undo, read_upgrade, read_edit, read_of, act_of, step_of};
 
 use crate::member::{
     client, count, has_only, item, items, key_member, number_member, number_or_zero, path_member,
-    rev_member,
+    rev_member, schema_member,
 };
 use crate::step::{Act, EditAct, TraceStep};
 use serde_json::Value;
@@ -202,6 +202,18 @@ fn read_undo(value: &Value) -> Option<Act>
     Some(Act::Undo { rev })
 }
 
+fn read_upgrade(alloc: Global, value: &Value) -> Result<Option<Act>, AllocError>
+    ensures { IfOk result (λ a. option_map act_view a ≡ read_upgrade (view value.now)) }
+{
+    if !has_only(value, "client do schema") {
+        return Ok(None);
+    }
+    match schema_member(alloc, value)? {
+        None => Ok(None),
+        Some(schema) => Ok(Some(Act::Upgrade { schema })),
+    }
+}
+
 // An act without members of its own, where a value has no members but those of the names.
 fn plain(value: &Value, names: &str, act: Act) -> Option<Act>
     ensures { option_map act_view result ≡ plain_act names.now (act_view act) (view value.now) }
@@ -242,6 +254,7 @@ fn read_of(alloc: Global, word: &str, value: &Value) -> Result<Option<Act>, Allo
         "merge" => Ok(plain(value, "branch client do", Act::Merge)),
         "drop_branch" => Ok(plain(value, "branch client do", Act::DropBranch)),
         "undo" => Ok(read_undo(value)),
+        "upgrade" => read_upgrade(alloc, value),
         "sequence" => Ok(plain(value, "client do", Act::Sequence)),
         "ack" => Ok(plain(value, "client do", Act::Ack)),
         "deliver" => Ok(plain(value, "client do", Act::Deliver)),

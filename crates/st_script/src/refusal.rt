@@ -1,7 +1,7 @@
 //! Why a step is refused, and how a refusal is written.
 ghost use Rattle.std.specs.Prelude.{◌≡◌, IfOk};
 ghost use Rattle.serde_json.specs.View.{view};
-ghost use Rattle.st_script.specs.AnswerText.{limit_word, limit_data, no_data, no_node_data, not_allowed_data, gone_data, refusal_data};
+ghost use Rattle.st_script.specs.AnswerText.{limit_word, limit_data, no_data, no_node_data, not_allowed_data, gone_data, not_wider_data, refusal_data};
 
 use serde_json::{Value, json};
 use st_ids::{Limit, LimitOf};
@@ -48,6 +48,9 @@ pub enum Refusal {
     NothingToSend,
     /// The client received the whole log.
     NothingNew,
+    /// The schema isn't wider than the one that is last in effect: the old type of that number, from 0,
+    /// fails, or the root's list where it is the count of old types.
+    NotWider { at: u32 },
     /// A count would pass its bound.
     Limit(Limit),
 }
@@ -94,6 +97,12 @@ fn gone_value(alloc: Global, floor: u32) -> Result<Value, AllocError>
     json!(in alloc; {"floor": floor, "no": "Gone"})
 }
 
+fn not_wider_value(alloc: Global, at: u32) -> Result<Value, AllocError>
+    ensures { IfOk result (λ v. view v ≡ not_wider_data at) }
+{
+    json!(in alloc; {"at": at, "no": "NotWider"})
+}
+
 fn no_value(alloc: Global, name: &str) -> Result<Value, AllocError>
     ensures { IfOk result (λ v. view v ≡ no_data name.now) }
 {
@@ -124,6 +133,7 @@ pub(crate) fn refusal_value(alloc: Global, refusal: Refusal) -> Result<Value, Al
         Refusal::VoidCommit => no_value(alloc, "VoidCommit"),
         Refusal::NothingToSend => no_value(alloc, "NothingToSend"),
         Refusal::NothingNew => no_value(alloc, "NothingNew"),
+        Refusal::NotWider { at } => not_wider_value(alloc, at),
         Refusal::Limit(limit) => limit_value(alloc, limit),
     }
 }

@@ -1,6 +1,7 @@
 //! The steps of a trace.
 
 use st_ids::{Key, List, Path, Rev, Text};
+use st_schema::Schema;
 use st_tree::Tree;
 
 /// One step of one client, on one of its branches. Where the act names no branch, it is 0, the main
@@ -35,6 +36,8 @@ pub enum Act {
     DropBranch,
     /// Takes back what the client's own commit of the revision did.
     Undo { rev: Rev },
+    /// Widens the schema of the tree to this one.
+    Upgrade { schema: Schema },
     Sequence,
     /// Sends which entries of the log the client has received.
     Ack,

@@ -8,16 +8,17 @@ ghost use Rattle.st_ids.specs.Or.{IfRefused};
 ghost use Rattle.st_json.specs.Line.{line_value};
 ghost use Rattle.st_schema.specs.Shape.{has_shape, all_have_shape};
 ghost use Rattle.st_schema.specs.TreeText.{tree_data, trees_data};
+ghost use Rattle.st_schema.specs.Written.{schema_data};
 ghost use Rattle.st_tree.specs.Node.{view, trees_view};
 ghost use Rattle.st_tree.specs.Size.{check_of, check_items};
 ghost use Rattle.st_script.specs.Line.{line_of};
 ghost use Rattle.st_script.specs.Steps.{edit_view, step_view};
-ghost use Rattle.st_script.specs.StepText.{places_data, path_data, items_data, plain_data, actor_members, need_data, undo_data, site_members, edit_data, step_data, step_text, edit_limits, limits_of, edit_has_shape, trees_have_shape, IsReadBack, FitsLine};
+ghost use Rattle.st_script.specs.StepText.{places_data, path_data, items_data, plain_data, actor_members, need_data, undo_data, upgrade_data, site_members, edit_data, step_data, step_text, edit_limits, limits_of, edit_has_shape, trees_have_shape, IsReadBack, FitsLine};
 
 use crate::step::{Act, EditAct, TraceStep};
 use serde_json::{Map, Value};
 use st_ids::{Key, List, Or, Path, Place, Rev, Text};
-use st_schema::write_tree;
+use st_schema::{Schema, write_tree};
 use st_tree::{Tree, TreeFault, check, check_trees};
 use std::alloc::{AllocError, Global};
 
@@ -133,6 +134,29 @@ fn undo_value(alloc: Global, client: &Text, rev: Rev) -> Result<Value, AllocErro
     put_text(alloc, &mut members, "do", "undo")?;
     let rev = rev.text(alloc)?;
     put_text(alloc, &mut members, "rev", rev.as_str())?;
+    Ok(Value::Object(members))
+}
+
+// Puts a schema.
+fn put_schema(
+    alloc: Global,
+    members: &mut Map<String, Value>,
+    schema: &Schema,
+) -> Result<(), AllocError>
+    ensures { OnOk result (members_view members.new.entries ≡ put (codes "schema") (schema_data schema.now) (members_view members.old.entries)) }
+{
+    let schema = schema.value(alloc)?;
+    put_value(alloc, members, "schema", schema)
+}
+
+// An upgrade to a schema.
+fn upgrade_value(alloc: Global, client: &Text, schema: &Schema) -> Result<Value, AllocError>
+    ensures { IfOk result (λ v. value_view v ≡ upgrade_data client.now schema.now) }
+{
+    let mut members = Map::new(alloc);
+    put_text(alloc, &mut members, "client", client.as_str())?;
+    put_text(alloc, &mut members, "do", "upgrade")?;
+    put_schema(alloc, &mut members, schema)?;
     Ok(Value::Object(members))
 }
 
@@ -309,6 +333,7 @@ fn step_value(alloc: Global, step: &TraceStep) -> Result<Value, AllocError>
         Act::Merge => actor_value(alloc, "merge", step),
         Act::DropBranch => actor_value(alloc, "drop_branch", step),
         Act::Undo { rev } => undo_value(alloc, &step.client, *rev),
+        Act::Upgrade { schema } => upgrade_value(alloc, &step.client, schema),
         Act::Sequence => plain_value(alloc, "sequence", &step.client),
         Act::Ack => plain_value(alloc, "ack", &step.client),
         Act::Deliver => plain_value(alloc, "deliver", &step.client),
@@ -358,6 +383,7 @@ fn limits(step: &TraceStep) -> Result<(), TreeFault>
         Act::Merge => Ok(()),
         Act::DropBranch => Ok(()),
         Act::Undo { .. } => Ok(()),
+        Act::Upgrade { .. } => Ok(()),
         Act::Sequence => Ok(()),
         Act::Ack => Ok(()),
         Act::Deliver => Ok(()),
@@ -380,9 +406,9 @@ fn line_within(alloc: Global, step: &TraceStep) -> Result<Text, AllocError>
 }
 
 /// The line of a step, with its line feed: every member that the step has, also one that may be
-/// left out, in byte order of the names. A join, an undo, a sequence, an ack, a deliver, a leave, a
-/// drop and a reconnect have no member for the branch, which is 0 there. A step whose trees pass the limits is refused,
-/// an insert's together. The line is told where the trees have the shape of trees that values show,
+/// left out, in byte order of the names. A join, an undo, an upgrade, a sequence, an ack, a deliver,
+/// a leave, a drop and a reconnect have no member for the branch, which is 0 there. A step whose
+/// trees pass the limits is refused, an insert's together. The line is told where the trees have the shape of trees that values show,
 /// and is read as the step. So it is of each step that was read of a line.
 pub fn step_line(alloc: Global, step: &TraceStep) -> Result<Text, Or<TreeFault>>
     ensures text { IfOk result (λ t. trees_have_shape (step_view step.now) ≡ true → t ≡ step_text (step_view step.now) ++ 10 ∷ []) }
