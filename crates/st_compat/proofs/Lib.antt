@@ -1,3 +1,4 @@
+pub mod Deciding
 pub mod Marking
 pub mod Numbers
 pub mod Passing

@@ -1,3 +1,4 @@
+pub mod Compared
 pub mod Relation
 pub mod RelationText
 pub mod SchemaLine
