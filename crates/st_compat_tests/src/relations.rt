@@ -1,9 +1,10 @@
 //! Each public call once, and pairs of schemas with their answers.
 use st_compat::{
-    compat, equal_reads, further_cause, read_schema_line, reads, reads_allows, related_reads,
+    BadSchema, compare_lines, compat, each_pair_is_related, each_two_lines_are_compared,
+    equal_reads, further_cause, read_schema_line, reads, reads_allows, related_reads,
     relation_line, wider_reads,
 };
-use st_ids::Text;
+use st_ids::{Or, Text};
 use st_json::BadCause;
 use st_schema::Schema;
 use std::alloc::Global;
@@ -83,12 +84,17 @@ fn is_told(alloc: Global, stored: &str, view: &str, line: &str) -> bool {
     line_of(alloc, stored, view).is_some_and(|text| text.as_str() == line)
 }
 
+fn is_compared(alloc: Global, stored: &str, view: &str, line: &str) -> bool {
+    compare_lines(alloc, Some(stored.as_bytes()), Some(view.as_bytes())).is_ok_and(
+        |text| text.as_str() == line,
+    )
+}
+
 #[test]
 fn pairs_of_schemas(rt: HostRuntime) {
     let alloc = rt.alloc();
-    let other = PAIRS
-        .iter()
-        .position(|(stored, view, line)| !is_told(alloc, stored, view, line));
+    let other = PAIRS.iter().position(|(stored, view, line)| !is_told(alloc, stored, view, line)
+        || !is_compared(alloc, stored, view, line));
     assert!(rt; other.is_none(), "{other:?}");
 }
 
@@ -115,6 +121,8 @@ fn views_that_read(rt: HostRuntime) {
     wider_reads();
     related_reads();
     reads_allows();
+    each_pair_is_related();
+    each_two_lines_are_compared();
 }
 
 fn is_bad(alloc: Global, line: &str, cause: BadCause) -> bool {
@@ -131,4 +139,27 @@ fn lines_that_are_refused(rt: HostRuntime) {
     );
     let shape = is_bad(alloc, "{}", BadCause::Shape);
     assert!(rt; json && empty && shape, "{json} {empty} {shape}");
+}
+
+// Which of two lines is no schema.
+fn bad_of(alloc: Global, stored: Option<&[u8]>, view: Option<&[u8]>) -> Option<BadSchema> {
+    match compare_lines(alloc, stored, view) {
+        Err(Or::Fault(bad)) => Some(bad),
+        _ => None,
+    }
+}
+
+#[test]
+fn lines_that_are_missing_or_bad(rt: HostRuntime) {
+    let alloc = rt.alloc();
+    let texts = Some(TEXTS.as_bytes());
+    let none = bad_of(alloc, None, None) == Some(BadSchema::Stored(BadCause::Shape));
+    let first = bad_of(alloc, Some(b"{".as_slice()), None)
+        == Some(BadSchema::Stored(BadCause::Json));
+    let second = bad_of(alloc, texts, None) == Some(BadSchema::View(BadCause::Shape));
+    let last = bad_of(alloc, texts, Some(b"".as_slice())) == Some(BadSchema::View(BadCause::Json));
+    assert!(rt;
+        none && first && second && last,
+        "{none} {first} {second} {last}"
+    );
 }
