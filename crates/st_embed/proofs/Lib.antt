@@ -1,7 +1,7 @@
 mod Candidates
 mod Climbing
-mod Keeping
-mod Listing
-mod Marking
-mod Naming
-mod Wanting
+pub mod Keeping
+pub mod Listing
+pub mod Marking
+pub mod Naming
+pub mod Wanting

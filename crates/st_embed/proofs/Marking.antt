@@ -165,7 +165,7 @@ skip_within a (Mark.Touch c n h ∷ ms) w = (omega arith, within_later a (suc a)
 skip_within a (Mark.Make c n b ∷ ms) w = (omega arith, within_later a (suc a) (omega arith) (Mark.Make c n b ∷ ms) w)
 skip_within a (Mark.Fill c n ∷ ms) w = (omega arith, within_later a (suc a) (omega arith) (Mark.Fill c n ∷ ms) w)
 
-merge_within : (xs : List CellMark) → CountWithin (counted xs) (merge xs)
+pub merge_within : (xs : List CellMark) → CountWithin (counted xs) (merge xs)
 merge_within [] = tt
 merge_within (Counted ∷ xs) = skip_within (counted xs) (merge xs) (merge_within xs)
 merge_within (Gap c ∷ xs) = (tt, merge_within xs)

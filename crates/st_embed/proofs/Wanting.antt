@@ -22,7 +22,7 @@ use Rattle.st_embed.specs.inside.Wants.{AreWants, loose_in, part_in_register, pa
 
 -- ## The names of what is listed
 
-picked : {A K : Type 0} (key : A → K) (k : K) (b : Bool) (y x : A) → key y ≡ k → cond b (Some y) None ≡ Some x → key x ≡ k
+pub picked : {A K : Type 0} (key : A → K) (k : K) (b : Bool) (y x : A) → key y ≡ k → cond b (Some y) None ≡ Some x → key x ≡ k
 picked key k true y x e h = let q : y ≡ x = cc in ap key (sym q) ∙ e
 picked key k false y x e h = cc
 

@@ -1,4 +1,5 @@
--- The words of loops and of private functions: no public contract reaches them.
+-- The words of loops and of the parts of which listings are made. The contracts of `embed` and `mentioned_nodes` reach
+-- none of them; those of the parts that other crates build on do.
 pub mod Fields
 pub mod Marks
 pub mod Places

@@ -51,8 +51,12 @@ fn add_known(nodes: &mut BTreeSet<NodeId>, doc: &Doc, node: NodeId) -> Result<()
     Ok(())
 }
 
-// The names that a document has, and all nodes above them.
-fn known_upwards(alloc: Global, doc: &Doc, names: &[NodeId]) -> Result<BTreeSet<NodeId>, AllocError>
+/// The names that a document has, and all nodes above them.
+pub fn known_upwards(
+    alloc: Global,
+    doc: &Doc,
+    names: &[NodeId],
+) -> Result<BTreeSet<NodeId>, AllocError>
     ensures { IfOk result (λ s. AreAbove (document_of doc.now) names.now (contains node_cmp s)) }
 {
     let mut nodes = BTreeSet::new(alloc);

@@ -15,4 +15,11 @@ mod targets;
 mod wants;
 
 pub use change::embed;
-pub use climb::mentioned_nodes;
+pub use climb::{known_upwards, mentioned_nodes};
+pub use lists::push_if_some;
+pub use look::is_in;
+pub use marks::{push_cell, tells};
+pub use registers::{holds_mentioned, is_loose, is_nowhere, is_same_occupant};
+pub use rows::is_full;
+pub use sets::{add_cleared, add_nodes};
+pub use targets::rows_of_cells;

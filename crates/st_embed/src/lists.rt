@@ -23,8 +23,8 @@ use st_marks::{Loose, NewNode, RegMark, RowMarks};
 use std::alloc::{AllocError, Global};
 use std::collections::{BTreeMap, BTreeSet};
 
-// Puts an item behind others, if there is one.
-fn push_if_some<T: Drop>(list: &mut List<T>, item: Option<T>) -> Result<(), AllocError>
+/// Puts an item behind others, if there is one.
+pub fn push_if_some<T: Drop>(list: &mut List<T>, item: Option<T>) -> Result<(), AllocError>
     ensures { OnOk result (list.new ≡ list.old ++ option_to_list item) }
 {
     match item {

@@ -51,8 +51,8 @@ fn how_held(wants: &Wants, held: Option<NodeId>, field: &FieldId) -> How
     }
 }
 
-// Whether two occupants are the same, or neither is there.
-fn is_same_occupant(a: Option<NodeId>, b: Option<NodeId>) -> bool
+/// Whether two occupants are the same, or neither is there.
+pub fn is_same_occupant(a: Option<NodeId>, b: Option<NodeId>) -> bool
     ensures { result ≡ same_option same_node a b }
 {
     match (a, b) {
@@ -87,8 +87,8 @@ fn is_cleared(wants: &Wants, field: &FieldId) -> bool
     wants.clear.contains(field)
 }
 
-// Whether a mentioned node is in a register.
-fn holds_mentioned(mentioned: &BTreeSet<NodeId>, held: Option<NodeId>) -> bool
+/// Whether a mentioned node is in a register.
+pub fn holds_mentioned(mentioned: &BTreeSet<NodeId>, held: Option<NodeId>) -> bool
     ensures { result ≡ holds_mentioned (contains node_cmp mentioned.now) held }
 {
     match held {
@@ -142,8 +142,8 @@ pub fn listed_register(
     Ok(None)
 }
 
-// Whether a node is nowhere.
-fn is_nowhere(doc: &Doc, node: NodeId) -> bool
+/// Whether a node is nowhere.
+pub fn is_nowhere(doc: &Doc, node: NodeId) -> bool
     ensures { result ≡ is_nowhere ((document_of doc.now).place node) }
 {
     match doc.place(node) {
@@ -173,8 +173,8 @@ fn how_nowhere(wants: &Wants, node: NodeId) -> How
     }
 }
 
-// Whether a node is mentioned, is nowhere, and is not the root.
-fn is_loose(doc: &Doc, mentioned: &BTreeSet<NodeId>, node: NodeId) -> bool
+/// Whether a node is mentioned, is nowhere, and is not the root.
+pub fn is_loose(doc: &Doc, mentioned: &BTreeSet<NodeId>, node: NodeId) -> bool
     ensures { result ≡ is_loose (contains node_cmp mentioned.now) (document_of doc.now) node }
 {
     mentioned.contains(&node) && is_nowhere(doc, node) && !is_same_node(node, ROOT)

@@ -23,8 +23,8 @@ use st_marks::{How, Mark, Owned, RowMarks, Spot, To};
 use std::alloc::{AllocError, Global};
 use std::collections::BTreeSet;
 
-// Whether a cell is full: its owner stands in it.
-fn is_full(doc: &Doc, owned: Owned) -> bool
+/// Whether a cell is full: its owner stands in it.
+pub fn is_full(doc: &Doc, owned: Owned) -> bool
     ensures { result ≡ is_cell owned.cell ((document_of doc.now).place owned.node) }
 {
     match doc.place(owned.node) {

@@ -26,8 +26,8 @@ pub fn add<K: Ord + Drop>(set: &mut BTreeSet<K>, key: K) -> Result<(), AllocErro
     Ok(())
 }
 
-// Adds nodes.
-fn add_nodes(set: &mut BTreeSet<NodeId>, nodes: &[NodeId]) -> Result<(), AllocError>
+/// Adds nodes.
+pub fn add_nodes(set: &mut BTreeSet<NodeId>, nodes: &[NodeId]) -> Result<(), AllocError>
     ensures { OnOk result ((n : Node) → contains node_cmp set.new n
         ≡ (contains node_cmp set.old n || is_among nodes.now n)) }
 {
@@ -158,8 +158,8 @@ fn add_registers_of(
     Ok(())
 }
 
-// Adds registers.
-fn add_cleared(
+/// Adds registers.
+pub fn add_cleared(
     alloc: Global,
     set: &mut BTreeSet<FieldId>,
     fields: &[FieldId],

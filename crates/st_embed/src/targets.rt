@@ -128,8 +128,8 @@ fn push_target_rows(
     Ok(())
 }
 
-// The row of each cell of a document.
-fn rows_of_cells(alloc: Global, doc: &Doc) -> Result<BTreeMap<CellId, NodeId>, AllocError>
+/// The row of each cell of a document.
+pub fn rows_of_cells(alloc: Global, doc: &Doc) -> Result<BTreeMap<CellId, NodeId>, AllocError>
     requires { IsSoundInForm (document_of doc.now) }
     ensures { IfOk result (λ m. (c : Cell) → get cell_cmp m c ≡ (document_of doc.now).row_of c) }
 {
