@@ -1,0 +1,5 @@
+mod Changed
+mod Fronts
+mod Growing
+mod Listed
+mod Places
