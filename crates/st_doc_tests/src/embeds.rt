@@ -14,9 +14,9 @@ use std::test::Fail;
 
 const FIRST_REV: Rev = Rev { session: 1, num: 1 };
 
-const REV: Rev = Rev { session: 2, num: 1 };
+pub const REV: Rev = Rev { session: 2, num: 1 };
 
-const NODE_1: NodeId = NodeId(Atom {
+pub const NODE_1: NodeId = NodeId(Atom {
     rev: OPENING,
     at: 1,
 });
@@ -26,19 +26,19 @@ const NODE_2: NodeId = NodeId(Atom {
     at: 2,
 });
 
-const NODE_3: NodeId = NodeId(Atom {
+pub const NODE_3: NodeId = NodeId(Atom {
     rev: OPENING,
     at: 3,
 });
 
-const NEW: NodeId = NodeId(Atom { rev: REV, at: 0 });
+pub const NEW: NodeId = NodeId(Atom { rev: REV, at: 0 });
 
-const CELL_0: CellId = CellId(Atom {
+pub const CELL_0: CellId = CellId(Atom {
     rev: OPENING,
     at: 0,
 });
 
-const CELL_1: CellId = CellId(Atom {
+pub const CELL_1: CellId = CellId(Atom {
     rev: OPENING,
     at: 1,
 });
@@ -53,22 +53,23 @@ const MOVED: CellId = CellId(Atom {
     at: 0,
 });
 
-const MADE: CellId = CellId(Atom { rev: REV, at: 0 });
+pub const MADE: CellId = CellId(Atom { rev: REV, at: 0 });
 
-// A mark of a cell that is made for the new node.
-const MAKE: Mark = Mark::Make {
+/// A mark of a cell that is made for the new node.
+pub const MAKE: Mark = Mark::Make {
     cell: MADE,
     node: NEW,
     full: true,
 };
 
-// Marks of nodes that are only mentioned.
-const STAYS_1: Mark = Mark::Touch {
+/// A mark of a node that is only mentioned.
+pub const STAYS_1: Mark = Mark::Touch {
     cell: CELL_0,
     node: NODE_1,
     how: How::Stay,
 };
 
+// The same of others.
 const STAYS_3: Mark = Mark::Touch {
     cell: CELL_2,
     node: NODE_3,
@@ -101,7 +102,8 @@ fn is_row(row: &RowMarks, listed: (NodeId, &[Mark])) -> bool {
     row.node == listed.0 && row.marks.as_slice() == listed.1
 }
 
-fn are_rows(rows: &[RowMarks], listed: &[(NodeId, &[Mark])]) -> bool {
+/// Whether rows are those that are listed.
+pub fn are_rows(rows: &[RowMarks], listed: &[(NodeId, &[Mark])]) -> bool {
     rows.len() == listed.len() && rows.iter().zip(listed).all(|(row, it)| is_row(row, *it))
 }
 
@@ -124,8 +126,8 @@ fn is_listed(change: &Change, listed: &Listed) -> bool {
         && change.base
 }
 
-// The change of an intent that fits.
-fn change(alloc: Global, doc: &Doc, intent: &Intent) -> Result<Change, Fail>
+/// The change of an intent that fits.
+pub fn change(alloc: Global, doc: &Doc, intent: &Intent) -> Result<Change, Fail>
     requires { IsSoundInForm (document_of doc.now) }
 {
     if !doc.fits(intent) {
@@ -144,8 +146,8 @@ fn mentioned(alloc: Global, doc: &Doc, intent: &Intent) -> Result<usize, Fail>
     Ok(mentioned_nodes(alloc, doc, intent)?.len())
 }
 
-// Carries the edit out that comes before, if there is one.
-fn carry_earlier(
+/// Carries the edit out that comes before, if there is one.
+pub fn carry_earlier(
     alloc: Global,
     schema: &Schema,
     doc: &mut Doc,

@@ -1,9 +1,11 @@
 //! Documents, intents and edits together: scenarios over the calls of `st_intent`, `st_join`, `st_doc`, `st_resolve`,
-//! `st_heads`, `st_later` and `st_embed`.
+//! `st_agree`, `st_heads`, `st_later`, `st_embed` and `st_step`.
 #![tactic(auto)]
 
 #[cfg(test)]
 mod at_once;
+#[cfg(test)]
+mod clashing;
 #[cfg(test)]
 mod docs;
 #[cfg(test)]
@@ -16,6 +18,8 @@ mod given;
 mod intents;
 #[cfg(test)]
 mod joining;
+#[cfg(test)]
+mod steps;
 #[cfg(test)]
 mod transactions;
 #[cfg(test)]

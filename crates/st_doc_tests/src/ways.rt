@@ -73,8 +73,8 @@ fn is_same_way(a: &Intent, b: &Intent) -> bool {
         && are_same_fields(a.clear.as_slice(), b.clear.as_slice())
 }
 
-// The document after a commit that is sound.
-fn after(alloc: Global, doc: &Doc, intent: &Intent) -> Result<Doc, Fail>
+/// The document after a commit that is sound.
+pub fn after(alloc: Global, doc: &Doc, intent: &Intent) -> Result<Doc, Fail>
     requires { IsSoundInForm (document_of doc.now) }
     ensures { IfOk result (λ d. IsSoundInForm (document_of d)) }
 {
