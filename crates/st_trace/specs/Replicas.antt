@@ -1,9 +1,7 @@
 -- What the kept documents and numbers stand for, and what holds of the lists of each world that steps lead to.
-use Rattle.std.specs.Prelude.{◌≡◌, ℕ, ◌+◌, ◌<◌, ◌≤◌, Bool, true, false, List, [], ◌∷◌, ◌++◌, length, Option, None, IfSome}
+use Rattle.std.specs.Prelude.{◌≡◌, ℕ, ◌+◌, ◌<◌, ◌≤◌, Bool, true, false, List, [], ◌∷◌, ◌++◌, length, None, IfSome}
 use Rattle.std.specs.List.{AllByRecursion}
 use Rattle.st_ids.specs.Listing.{AreDistinct, Has}
-use Rattle.st_ids.specs.declared.names.FieldId.{FieldId}
-use Rattle.st_ids.specs.declared.names.NodeId.{NodeId}
 use Rattle.st_marks.specs.declared.intents.Intent.{Intent}
 use Rattle.st_ids.specs.Root.{opening}
 use Rattle.st_marks.specs.Run.{Run}
@@ -11,12 +9,13 @@ use Rattle.st_marks.specs.Document.{Document, IsSoundInForm}
 use Rattle.st_tree.specs.Preorder.{cell_named, node_named}
 use Rattle.st_log_laws.specs.Names.{HaveNewRevisions, revisions}
 use Rattle.st_log_laws.specs.Turns.{FitInTurn}
-use Rattle.st_schema_laws.specs.Agreeing.{KeepSchemaInTurn, KeepsSchema}
-use Rattle.st_schema_laws.specs.Conforming.{IsConforming}
+use Rattle.serde_json.specs.Written.{compact_text}
+use Rattle.st_ids.specs.declared.names.Rev.{Rev}
+use Rattle.st_schema.specs.Written.{schema_data}
+use Rattle.st_upgrade_laws.specs.Agreeing.{AgreesInLine, Told}
+use Rattle.st_upgrade_laws.specs.Lines.{IsLine}
 use Rattle.st_doc.specs.Doc.{document_of}
-use Rattle.st_doc.specs.LiveText.{is_among}
 use Rattle.st_schema.specs.Schema.{is_sound}
-use Rattle.st_edits.specs.ArrayTypes.{is_array_type}
 use Rattle.st_heads.specs.Remembered.{AreCarried}
 use Rattle.st_heads.specs.Transactions.{FitsSoFar, HasOpen, with_open}
 use Rattle.st_script.specs.Header.{HeaderView, header_view, may_open}
@@ -25,6 +24,7 @@ use Rattle.st_lists.specs.Log.{commit_of, commits_in, intents_of, is_text, log_a
 use Rattle.st_lists.specs.Clients.{HasReceived, joined_of}
 use Rattle.st_lists.specs.Lines.{AreStanding, HasHead, HaveOwnTransactions, Line, all_commits, base_of, branch_line, commits_of, edited_on, main_line, own_of}
 use Rattle.st_trace.specs.Logged.{AreLogged}
+use Rattle.st_trace.specs.Schemas.{HasReading, IsKnownBy}
 use Rattle.st_trace.specs.World.{last_in_effect, opening_document}
 use Rattle.st_lists.specs.Names.{names_in, unsequenced}
 use Rattle.st_heads.specs.declared.heads.Head.{Head}
@@ -159,32 +159,39 @@ AreReplicas h log (c ∷ cs) [] = ⊥
 AreReplicas h log [] (k ∷ ks) = ⊥
 AreReplicas h log (c ∷ cs) (k ∷ ks) = IsClient h log c × IsReplicaOf h log c k × AreReplicas h log cs ks
 
--- the commits of a line agree with the schema in turn
-abbrev pub CommitsKeepSchema : HeaderView → (NodeId → Option FieldId) → List Entry → Line → Type 0
-CommitsKeepSchema h home log l = KeepSchemaInTurn h.schema home (opening_document h) (commits_of log l)
+-- some commits, one after the other from the document opened, agree with the schemas under which they were made, as it is
+-- told, and each schema that they bring in is known
+pub record KeepsLine (K : Rev → List ℕ → Type 0) (T : Told) (O : Document) (Ns : List Intent) : Type 0 where
+  pub line : IsLine T O Ns
+  pub known : AllByRecursion (IsKnownBy K) Ns
 
--- what was edited in the transaction that is open on a line agrees with the schema in the line's document
-abbrev pub EditsKeepSchema : HeaderView → (NodeId → Option FieldId) → List Entry → Line → Type 0
-EditsKeepSchema h home log l = (D : Document) → HasHead (opening_document h) log l D → IfSome (edited_on l) (KeepsSchema h.schema home D)
+-- those of a line do
+abbrev pub CommitsKeepSchemas : HeaderView → (Rev → List ℕ → Type 0) → Told → List Entry → Line → Type 0
+CommitsKeepSchemas h K T log l = KeepsLine K T (opening_document h) (commits_of log l)
+
+-- what was edited in the transaction that is open on a line agrees with its schema in the line's document
+abbrev pub EditsKeepSchemas : HeaderView → Told → List Entry → Line → Type 0
+EditsKeepSchemas h T log l = (D : Document) → HasHead (opening_document h) log l D → IfSome (edited_on l) (AgreesInLine T D)
 
 -- both hold of each branch of a client beside the main one
-abbrev pub BranchesKeepSchema : HeaderView → (NodeId → Option FieldId) → List Entry → Client → Type 0
-BranchesKeepSchema h home log c = AllByRecursion (λ (b : Branch). CommitsKeepSchema h home log (branch_line b) × EditsKeepSchema h home log (branch_line b)) c.branches
+abbrev pub BranchesKeepSchemas : HeaderView → (Rev → List ℕ → Type 0) → Told → List Entry → Client → Type 0
+BranchesKeepSchemas h K T log c = AllByRecursion (λ (b : Branch). CommitsKeepSchemas h K T log (branch_line b) × EditsKeepSchemas h T log (branch_line b)) c.branches
 
--- the homes of nodes are such that the document opened conforms to the schema, and each commit agrees with it where it comes
-pub record KeepSchemaWith (h : HeaderView) (log : List Entry) (cs : List Client) (home : NodeId → Option FieldId) : Type 0 where
-  pub start : IsConforming h.schema home (opening_document h)
+-- the header's schema is known, and each commit agrees with the schema under which it was made, as it is told
+pub record KeepSchemasAsTold (h : HeaderView) (K : Rev → List ℕ → Type 0) (log : List Entry) (cs : List Client) (T : Told) : Type 0 where
+  pub opened : K opening (compact_text (schema_data h.schema))
   -- the commits of the log, one after the other, and those that each client shows
-  pub logged : KeepSchemaInTurn h.schema home (opening_document h) (commits_in log)
-  pub shown : AllByRecursion (λ (c : Client). CommitsKeepSchema h home log (main_line c)) cs
+  pub logged : KeepsLine K T (opening_document h) (commits_in log)
+  pub shown : AllByRecursion (λ (c : Client). CommitsKeepSchemas h K T log (main_line c)) cs
   -- and what is edited in transactions that are open
-  pub edited : AllByRecursion (λ (c : Client). EditsKeepSchema h home log (main_line c)) cs
+  pub edited : AllByRecursion (λ (c : Client). EditsKeepSchemas h T log (main_line c)) cs
   -- on the main line, and on each other branch
-  pub branches : AllByRecursion (BranchesKeepSchema h home log) cs
+  pub branches : AllByRecursion (BranchesKeepSchemas h K T log) cs
 
--- there are such homes
-abbrev pub KeepToSchema : HeaderView → List Entry → List Client → Type 0
-KeepToSchema h log cs = (home : NodeId → Option FieldId) × KeepSchemaWith h log cs home
+-- something can be told of commits and nodes so
+pub record KeepToSchemas (h : HeaderView) (K : Rev → List ℕ → Type 0) (log : List Entry) (cs : List Client) : Type 0 where
+  pub told : Told
+  pub keep : KeepSchemasAsTold h K log cs told
 
 -- an entry's commit has a revision of its session
 abbrev pub IsEntryOf : Entry → Type 0
@@ -205,7 +212,8 @@ pub record IsSoundAfter (steps : ℕ) (w : World) : Type 0 where
   pub log : AllByRecursion IsEntryOf w.lists.log
   pub log_fit : FitInTurn (opening_document (header_view w.header)) (commits_in w.lists.log)
   pub log_new : HaveNewRevisions (opening ∷ []) (commits_in w.lists.log)
-  pub schema : KeepToSchema (header_view w.header) w.lists.log w.lists.clients
+  -- which schema is the last in effect in a document is told by its revision, and the schema is kept
+  pub schema : KeepToSchemas (header_view w.header) (HasReading w.schemas) w.lists.log w.lists.clients
   pub log_document : Run (opening_document (header_view w.header)) (commits_in w.lists.log) (document_of w.log_document)
   pub entries : length w.lists.log ≤ 65535
   pub names : w.names ≡ names_in (commits_in w.lists.log)
@@ -215,7 +223,6 @@ pub record IsSoundAfter (steps : ℕ) (w : World) : Type 0 where
   pub connected : AreConnected w.lists.log w.lists.clients
   pub minima : AreMinima w.lists.log w.minima
   pub logged : AreLogged (opening_document (header_view w.header)) w.lists.log w.logged
-  pub arrays : is_among w.arrays ≡ is_array_type (header_view w.header).schema
 
 abbrev pub IsSound : World → Type 0
 IsSound w = IsSoundAfter w.steps w

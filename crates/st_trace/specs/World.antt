@@ -24,6 +24,7 @@ use Rattle.st_marks.specs.Intent.{group_cells}
 use Rattle.st_marks.specs.LiveTree.{IsTreeText}
 use Rattle.st_marks.specs.Verdict.{IsVerdict}
 use Rattle.st_opening.specs.Start.{start_of}
+use Rattle.st_upgrade_laws.specs.Agreeing.{schema_in_effect}
 use Rattle.st_edits.specs.declared.names.NameCounters.{NameCounters}
 use Rattle.st_edits.specs.Resolve.{insert, remove, move, put, clear, need}
 use Rattle.st_heads.specs.Transactions.{IsWithPart, with_open}
@@ -36,12 +37,13 @@ use Rattle.st_script.specs.declared.refusal.Refusal.{Refusal}
 use Rattle.st_script.specs.declared.refusal.Refusal.TheVariants as no
 use Rattle.st_lists.specs.Clients.{HasReceived, client_named, new_client, new_transaction, next_rev, with_ack, with_connection, with_edited, with_received, without_connection}
 use Rattle.st_lists.specs.Limits.{entries_limit_passed, limit_passed, log_limit_passed, names_limit_passed, own_limit_passed}
-use Rattle.st_lists.specs.Lines.{HasHead, Line, branch_of, edited_on, line_of, with_commit_on, with_transaction_on}
+use Rattle.st_lists.specs.Lines.{HasHead, Line, branch_of, edited_on, line_of, main_line, with_commit_on, with_transaction_on}
 use Rattle.st_lists.specs.Log.{commit_of, log_with, minimum, sessions_in, waiting}
 use Rattle.st_lists.specs.Names.{names_in_text}
 use Rattle.st_trace.specs.Branches.{IsMerged, IsRebased, drop_branch, fork, refusal_to_fork, refusal_to_merge, refusal_to_rebase}
 use Rattle.st_trace.specs.Kept.{IsKept, Unless}
 use Rattle.st_trace.specs.Undo.{IsAfterUndo}
+use Rattle.st_trace.specs.Upgrade.{change_of_schema, refusal_to_upgrade, upgrade}
 use Rattle.st_trace.specs.declared.client.EditWord.{EditWord}
 use Rattle.st_trace.specs.declared.client.EditWord.TheVariants as word
 use Rattle.st_lists.specs.declared.lists.Body.TheVariants.{Join as Joined, Leave as Left}
@@ -263,9 +265,9 @@ abbrev pub IsDoneIn : HeaderView → WorldState → ℕ → Line → (Document �
 IsDoneIn h w i l does v a = (D : Document) × (d : Client) × HasShown (opening_document h) w.log l D × does D d a
     × (v ≡ record w { clients = slice_set w.clients i d })
 
--- an edit is resolved in the document that the line shows
+-- an edit is resolved in the document that the line shows, by that one's schema
 abbrev pub IsEdited : HeaderView → WorldState → ℕ → Client → ℕ → Line → EditView → WorldState → Answer → Type 0
-IsEdited h w i c k l e v a = IsDoneIn h w i l (λ D. IsAfterEdit c k l l.transaction (word_of e) (intent_of D h.schema (next_names c l.transaction) e)) v a
+IsEdited h w i c k l e v a = IsDoneIn h w i l (λ D. IsAfterEdit c k l l.transaction (word_of e) (intent_of D (schema_in_effect D) (next_names c l.transaction) e)) v a
 
 -- the node that a path leads to in the document shown is needed
 abbrev pub IsNeeded : HeaderView → WorldState → ℕ → Client → ℕ → Line → List Place → WorldState → Answer → Type 0
@@ -283,6 +285,11 @@ IsDelivered h w i c v a = (D : Document) × (d : Client) × HasReceived (opening
 -- the client undoes a commit, of those that it received and has pending
 abbrev pub IsUndoneBy : HeaderView → WorldState → ℕ → Client → Rev → WorldState → Answer → Type 0
 IsUndoneBy h w i c rev v a = (d : Client) × IsAfterUndo (opening_document h) h.history w.log c c.transaction rev d a × (v ≡ record w { clients = slice_set w.clients i d })
+
+-- the client makes the schema of what its main line shows wider, by a commit made under the last entry in effect
+abbrev pub IsUpgradedBy : HeaderView → WorldState → ℕ → Client → SchemaView → WorldState → Answer → Type 0
+IsUpgradedBy h w i c new v a =
+    IsDoneIn h w i (main_line c) (λ D d b. upgrade c (change_of_schema (next_rev c) (last_in_effect D) new) (refusal_to_upgrade c (schema_in_effect D) (length D.schemas) new) ≡ (d, b)) v a
 
 -- a branch begins, and stands on a line
 abbrev pub IsForked : WorldState → ℕ → Client → ℕ → Line → WorldState → Answer → Type 0
@@ -311,9 +318,10 @@ IsMergedBy h w i c k v a = OnOwnBranch w c (λ b parent. (d : Client) × Unless 
 abbrev pub IsBranchDropped : WorldState → ℕ → Client → ℕ → WorldState → Answer → Type 0
 IsBranchDropped w i c k v a = OnOwnBranch w c (λ b parent. with_client w i (drop_branch c k) ≡ (v, a)) (branch_of c k) v a
 
--- the text of the tree that a line shows
+-- the text of the tree that a line shows, in which nodes have rows as the schema of its document says
 abbrev pub IsShown : HeaderView → WorldState → Line → Answer → Type 0
-IsShown h w l a = (D : Document) × (tree : List ℕ) × HasShown (opening_document h) w.log l D × IsTreeText (is_array_type h.schema) D tree × (a ≡ answer.Show tree)
+IsShown h w l a = (D : Document) × (tree : List ℕ) × HasShown (opening_document h) w.log l D
+    × IsTreeText (is_array_type (schema_in_effect D)) D tree × (a ≡ answer.Show tree)
 
 -- what an act makes of the world, for its client and that one's place, on the line of a number
 abbrev pub IsActOf : HeaderView → WorldState → ActView → ℕ → Client → ℕ → Line → WorldState → Answer → Type 0
@@ -324,6 +332,7 @@ IsActOf h w step.begin i c k l v a = IsBegun h w i c k l v a
 IsActOf h w step.commit i c k l v a = with_client w i (commit c k l.transaction) ≡ (v, a)
 IsActOf h w step.abort i c k l v a = with_client w i (abort c k l.transaction) ≡ (v, a)
 IsActOf h w (step.undo rev) i c k l v a = IsUndoneBy h w i c rev v a
+IsActOf h w (step.upgrade schema) i c k l v a = IsUpgradedBy h w i c schema v a
 IsActOf h w step.sequence i c k l v a = sequence w i c c.queue ≡ (v, a)
 IsActOf h w step.ack i c k l v a = with_client w i (with_ack c, answer.Ack c.received) ≡ (v, a)
 IsActOf h w step.deliver i c k l v a = IsDelivered h w i c v a
@@ -345,6 +354,7 @@ act_of_none w name step.begin = (w, answer.No no.NoClient)
 act_of_none w name step.commit = (w, answer.No no.NoClient)
 act_of_none w name step.abort = (w, answer.No no.NoClient)
 act_of_none w name (step.undo rev) = (w, answer.No no.NoClient)
+act_of_none w name (step.upgrade schema) = (w, answer.No no.NoClient)
 act_of_none w name step.sequence = (w, answer.No no.NoClient)
 act_of_none w name step.ack = (w, answer.No no.NoClient)
 act_of_none w name step.deliver = (w, answer.No no.NoClient)
@@ -366,6 +376,7 @@ branch_at branch step.begin = branch
 branch_at branch step.commit = branch
 branch_at branch step.abort = branch
 branch_at branch (step.undo rev) = 0
+branch_at branch (step.upgrade schema) = 0
 branch_at branch step.sequence = 0
 branch_at branch step.ack = 0
 branch_at branch step.deliver = 0
@@ -387,6 +398,7 @@ needs_connection step.begin = false
 needs_connection step.commit = false
 needs_connection step.abort = false
 needs_connection (step.undo rev) = false
+needs_connection (step.upgrade schema) = false
 needs_connection step.sequence = true
 needs_connection step.ack = true
 needs_connection step.deliver = true
@@ -434,7 +446,16 @@ AtRefusal a P = Unit {0}
 abbrev pub IsAllowedText : SchemaView → List ℕ → Type 0
 IsAllowedText s text = (t : Node) × (conforms s s.root t ≡ true) × (text ≡ compact_text (tree_data t))
 
--- the tree that an answer shows, if it shows one, is such a tree
-abbrev pub ShowsAllowed : SchemaView → Answer → Type 0
-ShowsAllowed s (answer.Show text) = IsAllowedText s text
-ShowsAllowed s a = Unit {0}
+-- what holds of the text of the tree that an answer shows, if it shows one
+abbrev pub AtShow : (List ℕ → Type 0) → Answer → Type 0
+AtShow P (answer.Show text) = P text
+AtShow P a = Unit {0}
+
+-- the document that is shown on the line of a step's client and branch
+abbrev pub IsShownTo : HeaderView → WorldState → StepView → Document → Type 0
+IsShownTo h w s D = (p : ℕ × Client) × (l : Line) × (client_named s.client w.clients ≡ Some p) × (line_of p.1 (branch_at s.branch s.act) ≡ Some l)
+    × HasShown (opening_document h) w.log l D
+
+-- the tree that an answer to a step shows, if it shows one, is one that the schema of the document shown allows
+abbrev pub ShowsAllowed : HeaderView → WorldState → StepView → Answer → Type 0
+ShowsAllowed h w s a = AtShow (λ text. (D : Document) × IsShownTo h w s D × IsAllowedText (schema_in_effect D) text) a

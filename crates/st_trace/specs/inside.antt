@@ -2,5 +2,6 @@
 pub mod Edits
 pub mod Replicas
 pub mod Undo
+pub mod Upgrade
 pub mod Branches
 pub mod BranchEdits
