@@ -1,4 +1,5 @@
 -- The world after a step of one client.
+use Rattle.st_upgrade_laws.specs.Agreeing.{schema_in_effect}
 use Rattle.std.proofs.Common.{Err, IfSome, List, None, Ok, Option, Result, Some, ap, refl, subst, sym, ℕ, ◌+◌, ◌∙◌, ◌≡◌, ◌≤◌}
 use Rattle.st_heads.specs.Transactions.{with_open}
 use Rattle.st_lists.specs.Clients.{HasReceived, joined_of, with_begun, without_transaction}
@@ -37,9 +38,11 @@ use Rattle.st_lists.specs.declared.lists.Transaction.{Transaction}
 use Rattle.st_lists.specs.declared.lists.WorldState.{WorldState}
 use Rattle.st_trace.specs.declared.world.World.{World}
 use Rattle.st_trace.proofs.Everyone.{all_get, clients_of, kept_at, set_same}
+use Rattle.st_trace.specs.Schemas.{HasReading}
 use Rattle.st_trace.proofs.Going.{GoesOn, abort_goes, begin_goes, commit_goes, delivery_goes, edit_goes, need_goes}
 use Rattle.st_trace.proofs.Keeping.{AreOne, can_receive, kept_begun, kept_commits, kept_delivered, kept_ended, kept_main, kept_parted, kept_shown, kept_taken, none_edited}
 use Rattle.st_trace.proofs.Stepping.{sound_client, start_of}
+use Rattle.st_trace.proofs.Effect.{schema_sound_on}
 
 -- a client and what is kept of it
 pub one_at : (w : World) (i : ℕ) (c : Client) (k : Replica) → IsSound w → slice_get w.lists.clients i ≡ Some c → slice_get w.kept i ≡ Some k → AreOne (header_view w.header) w.lists.log c k
@@ -74,6 +77,7 @@ module _ (w : World) (i : ℕ) (c : Client) (k : Replica) (s : IsSound w) (at_c 
   -- the main line, and the head that is kept of it
   pub main_kept : IsKeptLine h log c (main_line c) k.main
   main_kept = record {
+    schema = schema_sound_on h (start_of w w.steps s) (HasReading w.schemas) log w.lists.clients s.schema (clients_of h log w.lists.clients w.kept s.kept) i c at_c 0 (main_line c) refl (shown_of c k) shown;
     fit = one.client.shown_fit;
     transaction = one.client.transaction;
     room = λ t is. edited_room h (start_of w w.steps s) log c t one.client is s.few_names;
@@ -83,36 +87,36 @@ module _ (w : World) (i : ℕ) (c : Client) (k : Replica) (s : IsSound w) (at_c 
   }
 
   pub line_sound : IsSoundInForm (document_of k.main.doc)
-  line_sound = line_doc_sound h (start_of w w.steps s) s.header.schema log c (main_line c) k.main main_kept
+  line_sound = line_doc_sound h (start_of w w.steps s) log c (main_line c) k.main main_kept
 
   pub numbers : HasNumbersLeft c.transaction
-  numbers = line_numbers h (start_of w w.steps s) s.header.schema log c (main_line c) k.main main_kept
+  numbers = line_numbers h (start_of w w.steps s) log c (main_line c) k.main main_kept
 
-  pub edit_meant : (e : EditAct) → IsMeaning h.schema (shown_of c k) (next_names c c.transaction) (word_of (edit_view e)) (resolve (shown_of c k) w.header.schema (next_names c c.transaction) (edit_of e))
-  edit_meant e = line_edit_meant h (start_of w w.steps s) s.header.schema log c (main_line c) k.main main_kept e
+  pub edit_meant : (e : EditAct) → IsMeaning (shown_of c k) (next_names c c.transaction) (word_of (edit_view e)) (resolve (shown_of c k) (schema_in_effect (shown_of c k)) (next_names c c.transaction) (edit_of e))
+  edit_meant e = line_edit_meant h (start_of w w.steps s) log c (main_line c) k.main main_kept e
 
-  pub need_meant : (path : List Place) → IsMeaning h.schema (shown_of c k) (next_names c c.transaction) EditWord.Need (need (shown_of c k) (next_names c c.transaction) path)
-  need_meant path = line_need_meant h (start_of w w.steps s) s.header.schema log c (main_line c) k.main main_kept path
+  pub need_meant : (path : List Place) → IsMeaning (shown_of c k) (next_names c c.transaction) EditWord.Need (need (shown_of c k) (next_names c c.transaction) path)
+  need_meant path = line_need_meant h (start_of w w.steps s) log c (main_line c) k.main main_kept path
 
   -- what an edit means can be taken in
-  pub can_take : (word : EditWord) (r : Result Intent EditFault) → IsMeaning h.schema (shown_of c k) (next_names c c.transaction) word r → (N : Intent) → r ≡ Ok N → CanTake k.main c.transaction word N
-  can_take word r means N e = line_can_take h (start_of w w.steps s) s.header.schema log c (main_line c) k.main main_kept word r means N e
+  pub can_take : (word : EditWord) (r : Result Intent EditFault) → IsMeaning (shown_of c k) (next_names c c.transaction) word r → (N : Intent) → r ≡ Ok N → CanTake k.main c.transaction word N
+  can_take word r means N e = line_can_take h (start_of w w.steps s) log c (main_line c) k.main main_kept word r means N e
 
   -- what was edited fits the line's document
   pub commit_fits : IfSome (joined_of c) (Fits (document_of k.main.doc))
-  commit_fits = line_commit_fits h (start_of w w.steps s) s.header.schema log c (main_line c) k.main main_kept
+  commit_fits = line_commit_fits h (start_of w w.steps s) log c (main_line c) k.main main_kept
 
   -- ## What is kept stands for the lists
 
   module _ (c' : Client) (k' : Replica) where
-    pub sound_goes : GoesOn h (start_of w w.steps s) log w.lists.clients i c c' → IsReplicaOf h log c' k'
+    pub sound_goes : GoesOn h (start_of w w.steps s) (HasReading w.schemas) log w.lists.clients i c c' → IsReplicaOf h log c' k'
         → IsSoundAfter (w.steps + 1) (record w { lists = record w.lists { clients = slice_set w.lists.clients i c' }; kept = slice_set w.kept i k' })
     sound_goes g kept = sound_client w i c c' k' s at_c (record { client = g.client; kept = kept }) g.session g.connected g.ids g.forks g.keeps
 
     pub stays_kept : c' ≡ c → k' ≡ k → IsReplicaOf h log c' k'
     stays_kept same same_k = subst (λ x. IsReplicaOf h log x k') (sym same) (subst (λ x. IsReplicaOf h log c x) (sym same_k) one.kept)
 
-    taken_in : (t : Transaction) (word : EditWord) (r : Result Intent EditFault) (a : Answer) → c.transaction ≡ Some t → IsTransaction h log (main_line c) c t → IsMeaning h.schema (with_open (document_of k.main.doc) t.joined) (next_names c (Some t)) word r
+    taken_in : (t : Transaction) (word : EditWord) (r : Result Intent EditFault) (a : Answer) → c.transaction ≡ Some t → IsTransaction h log (main_line c) c t → IsMeaning (with_open (document_of k.main.doc) t.joined) (next_names c (Some t)) word r
         → IsEditedIn c 0 t word r c' a → HasTaken c (Some t) k r c' k' → IsReplicaOf h log c' k'
     taken_in t word (Err f) a is x means done kept = stays_kept done.0 kept
     taken_in t word (Ok M) a is x means done kept = go (names_limit_passed c M) done kept
@@ -121,21 +125,21 @@ module _ (w : World) (i : ℕ) (c : Client) (k : Replica) (s : IsSound w) (at_c 
         go (Some l) done kept = stays_kept done.0 (same_kept k k' kept.received kept.main.0 kept.branches kept.main.1)
         go None done kept =
             let st = start_of w w.steps s in
-            let whole = line_whole_names h st s.header.schema log c (main_line c) k.main main_kept t is x word M done.0 (means M refl) done.1 in
+            let whole = line_whole_names h st log c (main_line c) k.main main_kept t is x word M done.0 (means M refl) done.1 in
             subst (λ d. IsReplicaOf h log d k') (sym done.2) (kept_parted h st log c t k k' word M done.0 is one.kept whole (subst (λ (d : Client). HasJoined k.main k.names M None (joined_of d) k'.main k'.names) done.2 kept.main) kept.received kept.branches)
 
-    edit_kept : (word : EditWord) (r : Result Intent EditFault) (a : Answer) → IsMeaning h.schema (shown_of c k) (next_names c c.transaction) word r → IsAfterEdit c 0 (main_line c) c.transaction word r c' a → HasTaken c c.transaction k r c' k' → IsReplicaOf h log c' k'
+    edit_kept : (word : EditWord) (r : Result Intent EditFault) (a : Answer) → IsMeaning (shown_of c k) (next_names c c.transaction) word r → IsAfterEdit c 0 (main_line c) c.transaction word r c' a → HasTaken c c.transaction k r c' k' → IsReplicaOf h log c' k'
     edit_kept word r a means done kept = go c.transaction refl one.client.transaction means done kept
       where
-        go : (o : Option Transaction) → c.transaction ≡ o → IfSome o (IsTransaction h log (main_line c) c) → IsMeaning h.schema (with_open (document_of k.main.doc) (option_and_then (λ (t : Transaction). t.joined) o)) (next_names c o) word r → IsAfterEdit c 0 (main_line c) o word r c' a
+        go : (o : Option Transaction) → c.transaction ≡ o → IfSome o (IsTransaction h log (main_line c) c) → IsMeaning (with_open (document_of k.main.doc) (option_and_then (λ (t : Transaction). t.joined) o)) (next_names c o) word r → IsAfterEdit c 0 (main_line c) o word r c' a
             → HasTaken c o k r c' k' → IsReplicaOf h log c' k'
         go None none x means done kept = kept_taken h (start_of w w.steps s) log c c' k k' word r a none one.kept done kept
         go (Some t) is x means done kept = taken_in t word r a is x means done kept
 
-    need_kept : (r : Result Intent EditFault) (a : Answer) → IsMeaning h.schema (shown_of c k) (next_names c c.transaction) EditWord.Need r → IsAfterNeed c 0 c.transaction r c' a → HasTakenNeed c c.transaction k r c' k' → IsReplicaOf h log c' k'
+    need_kept : (r : Result Intent EditFault) (a : Answer) → IsMeaning (shown_of c k) (next_names c c.transaction) EditWord.Need r → IsAfterNeed c 0 c.transaction r c' a → HasTakenNeed c c.transaction k r c' k' → IsReplicaOf h log c' k'
     need_kept r a means done kept = go c.transaction refl one.client.transaction means done kept
       where
-        go : (o : Option Transaction) → c.transaction ≡ o → IfSome o (IsTransaction h log (main_line c) c) → IsMeaning h.schema (with_open (document_of k.main.doc) (option_and_then (λ (t : Transaction). t.joined) o)) (next_names c o) EditWord.Need r → IsAfterNeed c 0 o r c' a
+        go : (o : Option Transaction) → c.transaction ≡ o → IfSome o (IsTransaction h log (main_line c) c) → IsMeaning (with_open (document_of k.main.doc) (option_and_then (λ (t : Transaction). t.joined) o)) (next_names c o) EditWord.Need r → IsAfterNeed c 0 o r c' a
             → HasTakenNeed c o k r c' k' → IsReplicaOf h log c' k'
         go None none x means done kept = stays_kept done.0 kept
         go (Some t) is x means done kept = taken_in t EditWord.Need r a is x means done kept
@@ -179,31 +183,31 @@ module _ (w : World) (i : ℕ) (c : Client) (k : Replica) (s : IsSound w) (at_c 
     Next = IsSoundAfter (w.steps + 1) (record w { lists = record w.lists { clients = slice_set w.lists.clients i c' }; kept = slice_set w.kept i k' })
 
     abbrev Goes : Type 0
-    Goes = GoesOn h (start_of w w.steps s) log w.lists.clients i c c'
+    Goes = GoesOn h (start_of w w.steps s) (HasReading w.schemas) log w.lists.clients i c c'
 
     are : AllByRecursion (IsClient h log) w.lists.clients
     are = clients_of h log w.lists.clients w.kept s.kept
 
-    pub sound_edit : (e : EditAct) (a : Answer) → IsAfterEdit c 0 (main_line c) c.transaction (word_of (edit_view e)) (resolve (shown_of c k) w.header.schema (next_names c c.transaction) (edit_of e)) c' a
-        → HasTaken c c.transaction k (resolve (shown_of c k) w.header.schema (next_names c c.transaction) (edit_of e)) c' k' → Next
+    pub sound_edit : (e : EditAct) (a : Answer) → IsAfterEdit c 0 (main_line c) c.transaction (word_of (edit_view e)) (resolve (shown_of c k) (schema_in_effect (shown_of c k)) (next_names c c.transaction) (edit_of e)) c' a
+        → HasTaken c c.transaction k (resolve (shown_of c k) (schema_in_effect (shown_of c k)) (next_names c c.transaction) (edit_of e)) c' k' → Next
     sound_edit e a done kept =
-        let r = resolve (shown_of c k) w.header.schema (next_names c c.transaction) (edit_of e) in
-        sound_goes (edit_goes h (start_of w w.steps s) log w.lists.clients s.sessions are s.few_names s.schema i c at_c c' (shown_of c k) (word_of (edit_view e)) r a shown (edit_meant e) done)
+        let r = resolve (shown_of c k) (schema_in_effect (shown_of c k)) (next_names c c.transaction) (edit_of e) in
+        sound_goes (edit_goes h (start_of w w.steps s) (HasReading w.schemas) log w.lists.clients s.sessions are s.few_names s.schema i c at_c c' (shown_of c k) (word_of (edit_view e)) r a shown (edit_meant e) done)
         (edit_kept (word_of (edit_view e)) r a (edit_meant e) done kept)
 
     pub sound_need : (path : List Place) (a : Answer) → IsAfterNeed c 0 c.transaction (need (shown_of c k) (next_names c c.transaction) path) c' a → HasTakenNeed c c.transaction k (need (shown_of c k) (next_names c c.transaction) path) c' k' → Next
     sound_need path a done kept =
         let r = need (shown_of c k) (next_names c c.transaction) path in
-        sound_goes (need_goes h (start_of w w.steps s) log w.lists.clients s.sessions are s.few_names s.schema i c at_c c' (shown_of c k) r a shown (need_meant path) done) (need_kept r a (need_meant path) done kept)
+        sound_goes (need_goes h (start_of w w.steps s) (HasReading w.schemas) log w.lists.clients s.sessions are s.few_names s.schema i c at_c c' (shown_of c k) r a shown (need_meant path) done) (need_kept r a (need_meant path) done kept)
 
     pub sound_commit : (a : Answer) → commit c 0 c.transaction ≡ (c', a) → HasCommitted c.transaction k k' → Next
-    sound_commit a done kept = sound_goes (commit_goes h (start_of w w.steps s) log w.lists.clients s.sessions are s.few_names s.schema i c at_c c' a done) (commit_kept a done kept)
+    sound_commit a done kept = sound_goes (commit_goes h (start_of w w.steps s) (HasReading w.schemas) log w.lists.clients s.sessions are s.few_names s.schema i c at_c c' a done) (commit_kept a done kept)
 
     pub sound_abort : (a : Answer) → abort c 0 c.transaction ≡ (c', a) → HasAborted c.transaction k k' → Next
-    sound_abort a done kept = sound_goes (abort_goes h (start_of w w.steps s) log w.lists.clients s.sessions are s.few_names s.schema i c at_c c' a done) (abort_kept a done kept)
+    sound_abort a done kept = sound_goes (abort_goes h (start_of w w.steps s) (HasReading w.schemas) log w.lists.clients s.sessions are s.few_names s.schema i c at_c c' a done) (abort_kept a done kept)
 
     pub sound_delivery : (D : Document) (a : Answer) → IsDeliveredIn D c c.transaction (slice_get log c.received) c' a → HasMovedIn c k c.transaction (slice_get log c.received) k' → Next
-    sound_delivery D a done kept = sound_goes (delivery_goes h (start_of w w.steps s) log w.lists.clients s.sessions are s.few_names s.schema i c at_c c' D a done) (delivery_kept D a done kept)
+    sound_delivery D a done kept = sound_goes (delivery_goes h (start_of w w.steps s) (HasReading w.schemas) log w.lists.clients s.sessions are s.few_names s.schema i c at_c c' D a done) (delivery_kept D a done kept)
 
   -- a transaction begins under the schema that is last in effect in the line's document, which is the one that is shown then
   pub begun_as : (c' : Client) (under : Rev) (a : Answer) → under ≡ last_in_effect (document_of k.main.doc) → begin c 0 (main_line c) c.transaction under ≡ (c', a) → begin c 0 (main_line c) c.transaction (last_in_effect (shown_of c k)) ≡ (c', a)
@@ -219,7 +223,7 @@ module _ (w : World) (i : ℕ) (c : Client) (k : Replica) (s : IsSound w) (at_c 
   pub sound_begin : (c' : Client) (a : Answer) → begin c 0 (main_line c) c.transaction (last_in_effect (shown_of c k)) ≡ (c', a) → IsSoundAfter (w.steps + 1) (record w { lists = record w.lists { clients = slice_set w.lists.clients i c' } })
   sound_begin c' a done =
       let are = clients_of h log w.lists.clients w.kept s.kept in
-      let now = sound_goes c' k (begin_goes h (start_of w w.steps s) log w.lists.clients s.sessions are s.few_names s.schema i c at_c c' (shown_of c k) a shown done) (begin_kept c' k (last_in_effect (shown_of c k)) a done refl) in
+      let now = sound_goes c' k (begin_goes h (start_of w w.steps s) (HasReading w.schemas) log w.lists.clients s.sessions are s.few_names s.schema i c at_c c' (shown_of c k) a shown done) (begin_kept c' k (last_in_effect (shown_of c k)) a done refl) in
       subst (λ (ks : List Replica). IsSoundAfter (w.steps + 1) (record w { lists = record w.lists { clients = slice_set w.lists.clients i c' }; kept = ks })) (set_same w.kept i k at_k) now
 
   -- the next entry, if there is one, can be received where no transaction is open

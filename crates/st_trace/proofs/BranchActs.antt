@@ -1,4 +1,5 @@
 -- The world after a step of one client on a branch beside the main one.
+use Rattle.st_upgrade_laws.specs.Agreeing.{schema_in_effect}
 use Rattle.std.proofs.Common.{Err, IfSome, List, None, Ok, Option, Result, Some, [], ap, arith, length, refl, subst, suc, sym, zero, ℕ, ◌++◌, ◌+◌, ◌∙◌, ◌∷◌, ◌≡◌, ◌≢◌, ◌≤◌}
 use Rattle.std.specs.List.{slice_get, slice_set}
 use Rattle.std.specs.Option.{option_and_then}
@@ -30,6 +31,7 @@ use Rattle.st_trace.proofs.AtBranch.{branch_line_of, heads_get, kept_changed, na
 use Rattle.st_trace.proofs.BranchKept.{IsStepOn, MakeWhole, abort_on, begin_on, commit_on, edit_on, need_on}
 use Rattle.st_trace.proofs.Branched.{changed_at, found_by}
 use Rattle.st_trace.proofs.Everyone.{all_get, clients_of, set_same}
+use Rattle.st_trace.specs.Schemas.{HasReading}
 use Rattle.st_trace.proofs.Going.{GoesOn, LineGoes}
 use Rattle.st_trace.proofs.Keeping.{AreOne}
 use Rattle.st_trace.proofs.LineActs.{IsKeptLine, branch_head, line_can_take, line_commit_fits, line_doc_sound, line_edit_meant, line_kept, line_need_meant, line_numbers, line_whole_names}
@@ -49,6 +51,7 @@ use Rattle.st_trace.specs.inside.Branches.{IsAtBranch}
 use Rattle.st_trace.specs.inside.Edits.{edit_of, names_limit}
 use Rattle.st_trace.specs.inside.Replicas.{CanTake}
 use Rattle.st_tree.specs.declared.edit.EditFault.{EditFault}
+use Rattle.st_trace.proofs.Effect.{schema_sound_on}
 
 -- ## A client whose branch changes
 
@@ -201,10 +204,12 @@ module _ (w : World) (i : ℕ) (c : Client) (k : Replica) (s : IsSound w) (at_c 
 
   -- its line, and the head that is kept of it
   kept_is : IsKeptLine h log c (branch_line b) g
-  kept_is = line_kept h (start_of w w.steps s) log c one.client number (branch_line b) line_is g s.few_names (branch_head (opening_document h) log b g head_is) head_is.edited
+  kept_is = line_kept h (start_of w w.steps s) log c one.client number (branch_line b) line_is g
+      (schema_sound_on h (start_of w w.steps s) (HasReading w.schemas) log w.lists.clients s.schema (clients_of h log w.lists.clients w.kept s.kept) i c at_c number (branch_line b) line_is (shown_on b g) (document_of g.doc, branch_head (opening_document h) log b g head_is, refl))
+      s.few_names (branch_head (opening_document h) log b g head_is) head_is.edited
 
-  goes_is : LineGoes h (start_of w w.steps s) log w.lists.clients i c number (branch_line b)
-  goes_is = line_goes h (start_of w w.steps s) log w.lists.clients s.sessions (clients_of h log w.lists.clients w.kept s.kept) s.few_names s.schema i c at_c number (branch_line b) line_is
+  goes_is : LineGoes h (start_of w w.steps s) (HasReading w.schemas) log w.lists.clients i c number (branch_line b)
+  goes_is = line_goes h (start_of w w.steps s) (HasReading w.schemas) log w.lists.clients s.sessions (clients_of h log w.lists.clients w.kept s.kept) s.few_names s.schema i c at_c number (branch_line b) line_is
 
   pub shown_is : HasShown (opening_document h) log (branch_line b) (shown_on b g)
   shown_is = (document_of g.doc, kept_is.head, refl)
@@ -212,26 +217,26 @@ module _ (w : World) (i : ℕ) (c : Client) (k : Replica) (s : IsSound w) (at_c 
   pub can_edit : CanEditOn c b g
   can_edit = record {
     few = (all_get (IsBranch h log c) c.branches j b one.client.branches.each at_b.branch).few;
-    sound = line_doc_sound h (start_of w w.steps s) s.header.schema log c (branch_line b) g kept_is;
+    sound = line_doc_sound h (start_of w w.steps s) log c (branch_line b) g kept_is;
     edited = head_is.edited;
-    left = line_numbers h (start_of w w.steps s) s.header.schema log c (branch_line b) g kept_is;
+    left = line_numbers h (start_of w w.steps s) log c (branch_line b) g kept_is;
   }
 
   pub commit_fits : IfSome (edited_on (branch_line b)) (Fits (document_of g.doc))
-  commit_fits = line_commit_fits h (start_of w w.steps s) s.header.schema log c (branch_line b) g kept_is
+  commit_fits = line_commit_fits h (start_of w w.steps s) log c (branch_line b) g kept_is
 
-  edit_meant : (e : EditAct) → IsMeaning h.schema (shown_on b g) (next_names c b.transaction) (word_of (edit_view e)) (resolve (shown_on b g) w.header.schema (next_names c b.transaction) (edit_of e))
-  edit_meant e = line_edit_meant h (start_of w w.steps s) s.header.schema log c (branch_line b) g kept_is e
+  edit_meant : (e : EditAct) → IsMeaning (shown_on b g) (next_names c b.transaction) (word_of (edit_view e)) (resolve (shown_on b g) (schema_in_effect (shown_on b g)) (next_names c b.transaction) (edit_of e))
+  edit_meant e = line_edit_meant h (start_of w w.steps s) log c (branch_line b) g kept_is e
 
-  need_meant : (path : List Place) → IsMeaning h.schema (shown_on b g) (next_names c b.transaction) EditWord.Need (need (shown_on b g) (next_names c b.transaction) path)
-  need_meant path = line_need_meant h (start_of w w.steps s) s.header.schema log c (branch_line b) g kept_is path
+  need_meant : (path : List Place) → IsMeaning (shown_on b g) (next_names c b.transaction) EditWord.Need (need (shown_on b g) (next_names c b.transaction) path)
+  need_meant path = line_need_meant h (start_of w w.steps s) log c (branch_line b) g kept_is path
 
   -- what an edit and a need mean can be taken in
-  pub edit_can : (e : EditAct) (N : Intent) → resolve (shown_on b g) w.header.schema (next_names c b.transaction) (edit_of e) ≡ Ok N → CanTake g b.transaction (word_of (edit_view e)) N
-  edit_can e N is = line_can_take h (start_of w w.steps s) s.header.schema log c (branch_line b) g kept_is (word_of (edit_view e)) (resolve (shown_on b g) w.header.schema (next_names c b.transaction) (edit_of e)) (edit_meant e) N is
+  pub edit_can : (e : EditAct) (N : Intent) → resolve (shown_on b g) (schema_in_effect (shown_on b g)) (next_names c b.transaction) (edit_of e) ≡ Ok N → CanTake g b.transaction (word_of (edit_view e)) N
+  edit_can e N is = line_can_take h (start_of w w.steps s) log c (branch_line b) g kept_is (word_of (edit_view e)) (resolve (shown_on b g) (schema_in_effect (shown_on b g)) (next_names c b.transaction) (edit_of e)) (edit_meant e) N is
 
   pub need_can : (path : List Place) (N : Intent) → need (shown_on b g) (next_names c b.transaction) path ≡ Ok N → CanTake g b.transaction EditWord.Need N
-  need_can path N is = line_can_take h (start_of w w.steps s) s.header.schema log c (branch_line b) g kept_is EditWord.Need (need (shown_on b g) (next_names c b.transaction) path) (need_meant path) N is
+  need_can path N is = line_can_take h (start_of w w.steps s) log c (branch_line b) g kept_is EditWord.Need (need (shown_on b g) (next_names c b.transaction) path) (need_meant path) N is
 
   -- the names of the branch are counted
   names_there : names_on b ≤ k.names
@@ -249,10 +254,10 @@ module _ (w : World) (i : ℕ) (c : Client) (k : Replica) (s : IsSound w) (at_c 
       sum x own k e = omega (arith, e)
 
   -- the parts that an edit may mean make all of their names
-  whole_is : (word : EditWord) (r : Result Intent EditFault) → IsMeaning h.schema (shown_on b g) (next_names c b.transaction) word r → MakeWhole (opening_document h) log b g head_is c.ids k.names r
+  whole_is : (word : EditWord) (r : Result Intent EditFault) → IsMeaning (shown_on b g) (next_names c b.transaction) word r → MakeWhole (opening_document h) log b g head_is c.ids k.names r
   whole_is word r means t M J open_at is with_part =
-      line_whole_names h (start_of w w.steps s) s.header.schema log c (branch_line b) g kept_is t open_at (transaction_is t open_at) word M J
-      (subst (λ (o : Option Transaction). IsMeant h.schema (with_open (document_of g.doc) (option_and_then (λ (x : Transaction). x.joined) o)) (next_names c o) word M) open_at (means M is)) with_part
+      line_whole_names h (start_of w w.steps s) log c (branch_line b) g kept_is t open_at (transaction_is t open_at) word M J
+      (subst (λ (o : Option Transaction). IsMeant (with_open (document_of g.doc) (option_and_then (λ (x : Transaction). x.joined) o)) (next_names c o) word M) open_at (means M is)) with_part
     where
       transaction_is : (t : Transaction) → b.transaction ≡ Some t → IsTransaction h log (branch_line b) c t
       transaction_is t open_at = subst (λ (o : Option Transaction). IfSome o (IsTransaction h log (branch_line b) c)) open_at kept_is.transaction
@@ -266,7 +271,7 @@ module _ (w : World) (i : ℕ) (c : Client) (k : Replica) (s : IsSound w) (at_c 
   Stays d l a = AtRefusal a (◌≡◌ {A = World} (record w { lists = record w.lists { clients = slice_set w.lists.clients i d }; kept = slice_set w.kept i l }) w)
 
   abbrev Goes : Client → Type 0
-  Goes d = GoesOn h (start_of w w.steps s) log w.lists.clients i c d
+  Goes d = GoesOn h (start_of w w.steps s) (HasReading w.schemas) log w.lists.clients i c d
 
   abbrev Step : Branch → Client → Head → Replica → Answer → Type 0
   Step x d y l a = IsStepOn (opening_document h) log b g head_is c.ids k.names x d.ids y l.names a
@@ -291,10 +296,10 @@ module _ (w : World) (i : ℕ) (c : Client) (k : Replica) (s : IsSound w) (at_c 
   names_is : (P : ℕ → Type 0) → P k.names → P (unsequenced c)
   names_is P p = subst P one.kept.names p
 
-  pub edited_as : (e : EditAct) (d : Client) (l : Replica) (a : Answer) → HasEditedAt c k j b g (word_of (edit_view e)) (resolve (shown_on b g) w.header.schema (next_names c b.transaction) (edit_of e)) d l a
-      → IsAfterEdit c number (branch_line b) b.transaction (word_of (edit_view e)) (resolve (shown_on b g) w.header.schema (next_names c b.transaction) (edit_of e)) d a
+  pub edited_as : (e : EditAct) (d : Client) (l : Replica) (a : Answer) → HasEditedAt c k j b g (word_of (edit_view e)) (resolve (shown_on b g) (schema_in_effect (shown_on b g)) (next_names c b.transaction) (edit_of e)) d l a
+      → IsAfterEdit c number (branch_line b) b.transaction (word_of (edit_view e)) (resolve (shown_on b g) (schema_in_effect (shown_on b g)) (next_names c b.transaction) (edit_of e)) d a
   edited_as e d l a done =
-      let r = resolve (shown_on b g) w.header.schema (next_names c b.transaction) (edit_of e) in
+      let r = resolve (shown_on b g) (schema_in_effect (shown_on b g)) (next_names c b.transaction) (edit_of e) in
       let word = word_of (edit_view e) in
       as_number (λ n x. IsAfterEdit c n (branch_line b) b.transaction word r x a) d done.0 done.2.0
       (edited_there c j b one.client.branches.numbers at_b.branch numbered done.0 d.ids word r a (names_is (λ n. IsTakenOf word (next_names c b.transaction).rev r b.transaction n b c.ids done.0 d.ids a) done.3))
@@ -327,15 +332,15 @@ module _ (w : World) (i : ℕ) (c : Client) (k : Replica) (s : IsSound w) (at_c 
 
   -- ## The world goes on
 
-  module _ (e : EditAct) (d : Client) (l : Replica) (a : Answer) (done : HasEditedAt c k j b g (word_of (edit_view e)) (resolve (shown_on b g) w.header.schema (next_names c b.transaction) (edit_of e)) d l a) where
+  module _ (e : EditAct) (d : Client) (l : Replica) (a : Answer) (done : HasEditedAt c k j b g (word_of (edit_view e)) (resolve (shown_on b g) (schema_in_effect (shown_on b g)) (next_names c b.transaction) (edit_of e)) d l a) where
     edit_step : Step done.0 d done.1 l a
     edit_step =
-        let r = resolve (shown_on b g) w.header.schema (next_names c b.transaction) (edit_of e) in
+        let r = resolve (shown_on b g) (schema_in_effect (shown_on b g)) (next_names c b.transaction) (edit_of e) in
         edit_on (opening_document h) log b g head_is c.ids k.names done.0 d.ids done.1 l.names a (word_of (edit_view e)) (next_names c b.transaction).rev r (whole_is (word_of (edit_view e)) r (edit_meant e)) done.3 done.4
 
     pub edit_sound : Next d l
     edit_sound =
-        let r = resolve (shown_on b g) w.header.schema (next_names c b.transaction) (edit_of e) in
+        let r = resolve (shown_on b g) (schema_in_effect (shown_on b g)) (next_names c b.transaction) (edit_of e) in
         step_sound d l done.0 done.1 a done.2 edit_step (goes_is.edits d (shown_on b g) (word_of (edit_view e)) r a shown_is (edit_meant e) (edited_as e d l a done))
 
     pub edit_stays : Stays d l a

@@ -22,6 +22,7 @@ use Rattle.st_trace.proofs.Everyone.{set_same}
 use Rattle.st_trace.proofs.Keeping.{AreOne}
 use Rattle.st_trace.proofs.Lookup.{line_there}
 use Rattle.st_trace.proofs.Stepping.{sound_later}
+use Rattle.st_upgrade_laws.specs.Agreeing.{schema_in_effect}
 use Rattle.st_trace.specs.Replicas.{IsSound, IsSoundAfter}
 use Rattle.st_trace.specs.World.{AtRefusal, IsActOf, IsAfterEdit, IsBegun, IsDoneIn, IsNeeded, abort, commit, next_names, opening_document, with_client, word_of}
 use Rattle.st_trace.specs.declared.replica.Replica.{Replica}
@@ -94,13 +95,13 @@ module _ (w : World) (i : ℕ) (c : Client) (k : Replica) (s : IsSound w) (at_c 
       subst (λ (y : Client). P y l) same (subst (P c) x.4 (does x.0 x.1 x.2 x.3))
 
   module _ (e : EditAct) (d : Client) (m : Replica) (a : Answer)
-      (there : (j : ℕ) (b : Branch) (g : Head) → IsAtBranch c k number j b g → HasEditedAt c k j b g (word_of (edit_view e)) (resolve (shown_on b g) w.header.schema (next_names c b.transaction) (edit_of e)) d m a)
+      (there : (j : ℕ) (b : Branch) (g : Head) → IsAtBranch c k number j b g → HasEditedAt c k j b g (word_of (edit_view e)) (resolve (shown_on b g) (schema_in_effect (shown_on b g)) (next_names c b.transaction) (edit_of e)) d m a)
       (absent : place_of number c.branches ≡ None → IsNoBranch c k d m a) where
     pub edit_next : (q : Client) (l : Line) → slice_get w.lists.clients i ≡ Some q → line_of q number ≡ Some l → IsActOf h w.lists (edit (edit_view e)) i q number l (record w.lists { clients = slice_set w.lists.clients i d }) a
     edit_next q l at line =
         let v = record w.lists { clients = slice_set w.lists.clients i d } in
         next_edit h w.lists i q number l v a e
-        (on_same q l (λ (x : Client) (y : Line). IsDoneIn h w.lists i y (λ D. IsAfterEdit x number y y.transaction (word_of (edit_view e)) (resolve D h.schema (next_names x y.transaction) (edit_of e))) v a) at line
+        (on_same q l (λ (x : Client) (y : Line). IsDoneIn h w.lists i y (λ D. IsAfterEdit x number y y.transaction (word_of (edit_view e)) (resolve D (schema_in_effect D) (next_names x y.transaction) (edit_of e))) v a) at line
         (λ j b g x. (shown_on b g, d, shown_is w i c k s at_c at_k number other j b g x, edited_as w i c k s at_c at_k number other j b g x e d m a (there j b g x), refl)))
 
     pub edit_sound_on : Next d m

@@ -1,5 +1,6 @@
 -- What a line shows is read off the head that is kept of it.
 use Rattle.std.proofs.Common.{List, None, Option, Some, ap, refl, subst, suc, sym, zero, ℕ, ◌∙◌, ◌≡◌}
+use Rattle.std.specs.BTreeMap.{get}
 use Rattle.std.specs.List.{slice_get}
 use Rattle.std.specs.Option.{option_and_then}
 use Rattle.std.specs.Prelude.{option_map}
@@ -7,6 +8,7 @@ use Rattle.st_doc.specs.Doc.{document_of}
 use Rattle.st_doc.specs.LiveText.{is_among}
 use Rattle.st_heads.specs.Transactions.{HasOpen, with_open}
 use Rattle.st_heads.specs.declared.heads.Head.{Head}
+use Rattle.st_ids.specs.Order.{rev_cmp}
 use Rattle.st_lists.specs.Clients.{joined_of}
 use Rattle.st_trace.specs.inside.Branches.{place_of, head_of}
 use Rattle.st_lists.specs.Lines.{HasHead, Line, branch_line, edited_on, line_of, main_line}
@@ -17,15 +19,21 @@ use Rattle.st_marks.specs.LiveTree.{IsTreeText}
 use Rattle.st_marks.specs.declared.intents.Intent.{Intent}
 use Rattle.st_script.specs.Header.{HeaderView, header_view}
 use Rattle.st_script.specs.declared.answer.Answer.TheVariants.{Show}
+use Rattle.st_upgrade_laws.specs.Agreeing.{schema_in_effect}
 use Rattle.st_trace.proofs.Acting.{one_at}
 use Rattle.st_trace.proofs.BranchHeads.{head_at, heads_many}
 use Rattle.st_trace.proofs.Branched.{found_at, found_by, head_there}
 use Rattle.st_trace.proofs.Keeping.{AreOne, kept_main}
-use Rattle.st_trace.proofs.LineActs.{IsKeptLine, branch_head, line_editable, line_kept}
+use Rattle.st_trace.proofs.Effect.{schema_sound_on}
+use Rattle.st_trace.proofs.Everyone.{clients_of}
+use Rattle.st_trace.proofs.Knowing.{known_arrays, known_schema, known_some}
+use Rattle.st_trace.proofs.LineActs.{IsKeptLine, branch_head, line_editable, line_kept, shown_on}
 use Rattle.st_trace.proofs.Lookup.{line_there}
 use Rattle.st_trace.proofs.Stepping.{start_of}
 use Rattle.st_trace.specs.Replicas.{IsHeadOf, IsSound}
-use Rattle.st_trace.specs.World.{HasShown, IsShown, opening_document}
+use Rattle.st_trace.specs.Schemas.{HasReading}
+use Rattle.st_trace.specs.World.{HasShown, IsShown, last_in_effect, opening_document}
+use Rattle.st_trace.specs.declared.known.KnownSchema.{KnownSchema}
 use Rattle.st_trace.specs.declared.replica.Replica.{Replica}
 use Rattle.st_trace.specs.declared.world.World.{World}
 
@@ -66,7 +74,8 @@ module _ (w : World) (i : ℕ) (c : Client) (k : Replica) (s : IsSound w) (at_c 
     line_head_kept = go n line head
       where
         kept : HasHead (opening_document h) log l (document_of p.doc) → HasOpen p (edited_on l) → IsKeptLine h log c l p
-        kept main edited = line_kept h (start_of w w.steps s) log c one.client n l line p s.few_names main edited
+        kept main edited = line_kept h (start_of w w.steps s) log c one.client n l line p
+            (schema_sound_on h (start_of w w.steps s) (HasReading w.schemas) log w.lists.clients s.schema (clients_of h log w.lists.clients w.kept s.kept) i c at_c n l line (shown_on l p) (document_of p.doc, main, refl)) s.few_names main edited
 
         go : (m : ℕ) → line_of c m ≡ Some l → head_of c k m ≡ Some p → IsKeptLine h log c l p
         go zero line head =
@@ -90,8 +99,22 @@ module _ (w : World) (i : ℕ) (c : Client) (k : Replica) (s : IsSound w) (at_c 
     pub sound_by_head : (E : Document) → IsShownBy p E → IsSoundInForm E
     sound_by_head E shows = (line_editable h (start_of w w.steps s) log c one.client n l line E (shown_by_head E shows)).sound
 
-    pub next_shown : (E : Document) (tree : List ℕ) → IsShownBy p E → IsTreeText (is_among w.arrays) E tree → IsShown h w.lists l (Show tree)
-    next_shown E tree shows text = (E, tree, shown_by_head E shows, subst (λ f. IsTreeText f E tree) s.arrays text, refl)
+    -- what is kept of the schema in effect
+    pub schema_some : (E : Document) → IsShownBy p E → None ≡ get rev_cmp w.schemas (last_in_effect E) → ⊥
+    schema_some E shows none = known_some w i c s at_c n l line E (shown_by_head E shows) none
+
+    pub schema_by_head : (E : Document) → IsShownBy p E → (x : KnownSchema) → Some x ≡ get rev_cmp w.schemas (last_in_effect E) → x.schema ≡ schema_in_effect E
+    schema_by_head E shows x found = known_schema w i c s at_c n l line E (shown_by_head E shows) x found
+
+    pub next_shown : (E : Document) (tree : List ℕ) → IsShownBy p E → (x : KnownSchema) → Some x ≡ get rev_cmp w.schemas (last_in_effect E) → IsTreeText (is_among x.arrays) E tree → IsShown h w.lists l (Show tree)
+    next_shown E tree shows x found text = (E, tree, shown_by_head E shows, subst (λ f. IsTreeText f E tree) (known_arrays w i c s at_c n l line E (shown_by_head E shows) x found) text, refl)
+
+-- what is kept of the schema in effect where a head shows a document that is kept of a client
+pub known_there : (w : World) (i : ℕ) (c : Client) (k : Replica) (n : ℕ) (p : Head) (E : Document) → IsSound w → slice_get w.lists.clients i ≡ Some c → slice_get w.kept i ≡ Some k → head_of c k n ≡ Some p → IsShownBy p E
+    → None ≡ get rev_cmp w.schemas (last_in_effect E) → ⊥
+known_there w i c k n p E s at_c at_k head shows none =
+    let l = head_line c k n p head in
+    schema_some w i c k s at_c at_k n l.0 p l.1 head E shows none
 
 -- what a head shows that is kept of a client is sound in form
 pub shown_doc_sound : (w : World) (i : ℕ) (c : Client) (k : Replica) (n : ℕ) (p : Head) (E : Document) → IsSound w → slice_get w.lists.clients i ≡ Some c → slice_get w.kept i ≡ Some k → head_of c k n ≡ Some p → IsShownBy p E → IsSoundInForm E

@@ -53,7 +53,8 @@ use Rattle.st_trace.proofs.OnBranches.{HasMore, several_on_branch, several_on_ma
 use Rattle.st_trace.proofs.Rebasing.{client_rebases}
 use Rattle.st_trace.proofs.Taking.{none_of}
 use Rattle.st_trace.specs.Branches.{AreVoid, fork, refusal_to_fork, refusal_to_merge, refusal_to_rebase}
-use Rattle.st_trace.specs.Replicas.{AreHeads, HaveOwnSessions, IsClient, IsHeadOf, IsReplicaOf, KeepToSchema}
+use Rattle.st_ids.specs.declared.names.Rev.{Rev}
+use Rattle.st_trace.specs.Replicas.{AreHeads, HaveOwnSessions, IsClient, IsHeadOf, IsReplicaOf, KeepToSchemas}
 use Rattle.st_trace.specs.World.{opening_document}
 use Rattle.st_trace.specs.declared.replica.Replica.{Replica}
 use Rattle.st_trace.specs.inside.Branches.{HasMergedInto, IsNewHead, ground_of, head_of, void_among, with_ground, without_place}
@@ -137,44 +138,44 @@ several_near c zero Ns =
     record { session = m.session; connected = m.connected; ids = omega (arith, m.ids); forks = omega (arith, m.forks) }
 several_near c (suc j) Ns = subst (IsNear c) (sym (several_on_branch j Ns c)) (record { session = refl; connected = refl; ids = omega arith; forks = omega arith })
 
-module _ (h : HeaderView) (st : IsStart (opening_document h)) (log : List Entry) (cs : List Client) (sessions : HaveOwnSessions cs) (are : AllByRecursion (IsClient h log) cs) (few : names_in (commits_in log) ≤ 131072) (keeps : KeepToSchema h log cs)
+module _ (h : HeaderView) (st : IsStart (opening_document h)) (K : Rev → List ℕ → Type 0) (log : List Entry) (cs : List Client) (sessions : HaveOwnSessions cs) (are : AllByRecursion (IsClient h log) cs) (few : names_in (commits_in log) ≤ 131072) (keeps : KeepToSchemas h K log cs)
     (i : ℕ) (c : Client) (at : slice_get cs i ≡ Some c) where
   is_client : IsClient h log c
   is_client = all_get (IsClient h log) cs i c are at
 
-  pub same_goes : (c' : Client) → c' ≡ c → GoesOn h st log cs i c c'
-  same_goes c' same = stays h st log cs sessions are few keeps i c at c' same
+  pub same_goes : (c' : Client) → c' ≡ c → GoesOn h st K log cs i c c'
+  same_goes c' same = stays h st K log cs sessions are few keeps i c at c' same
 
-  pub fork_goes : (c' : Client) (k : ℕ) (l : Line) (a : Answer) → line_of c k ≡ Some l → fork c k l (refusal_to_fork c l) ≡ (c', a) → GoesOn h st log cs i c c'
+  pub fork_goes : (c' : Client) (k : ℕ) (l : Line) (a : Answer) → line_of c k ≡ Some l → fork c k l (refusal_to_fork c l) ≡ (c', a) → GoesOn h st K log cs i c c'
   fork_goes c' k l a line done = go (refusal_to_fork c l) refl done
     where
-      go : (o : Option Refusal) → refusal_to_fork c l ≡ o → fork c k l o ≡ (c', a) → GoesOn h st log cs i c c'
+      go : (o : Option Refusal) → refusal_to_fork c l ≡ o → fork c k l o ≡ (c', a) → GoesOn h st K log cs i c c'
       go (Some why) e done = same_goes c' (ap (λ (p : Client × Answer). p.0) (sym done))
-      go None e done = subst (GoesOn h st log cs i c) (ap (λ (p : Client × Answer). p.0) done) (record {
+      go None e done = subst (GoesOn h st K log cs i c) (ap (λ (p : Client × Answer). p.0) done) (record {
         client = client_forks h st log c is_client k l line (may_fork c l e).1;
         session = refl;
         connected = refl;
         ids = omega arith;
         forks = omega arith;
-        keeps = forked_keeps h st log cs i c k l at line keeps;
+        keeps = forked_keeps h st K log cs i c k l at line keeps;
       })
 
   module _ (k : ℕ) (b : Branch) (is : branch_of c k ≡ Some b) where
     there : Has c.branches b × (b.number ≡ k)
     there = branch_there c k b is
 
-    pub drop_goes : has_children c k ≡ false → GoesOn h st log cs i c (without_branch c k)
+    pub drop_goes : has_children c k ≡ false → GoesOn h st K log cs i c (without_branch c k)
     drop_goes childless = record {
       client = client_drops h st log c is_client k b there.0 there.1 childless;
       session = refl;
       connected = refl;
       ids = omega arith;
       forks = omega arith;
-      keeps = dropped_branch_keeps h st log cs i c k at keeps;
+      keeps = dropped_branch_keeps h st K log cs i c k at keeps;
     }
 
     module _ (l : Line) (line : line_of c b.parent ≡ Some l) where
-      pub rebase_goes : refusal_to_rebase b ≡ None → GoesOn h st log cs i c (with_base c k l)
+      pub rebase_goes : refusal_to_rebase b ≡ None → GoesOn h st K log cs i c (with_base c k l)
       rebase_goes may =
           let none = may_rebase b may in
           let now = client_rebases h st log c is_client k b l there.0 there.1 line none few in
@@ -184,10 +185,10 @@ module _ (h : HeaderView) (st : IsStart (opening_document h)) (log : List Entry)
             connected = refl;
             ids = omega arith;
             forks = omega arith;
-            keeps = rebased_keeps h st log cs i c k b l are at is line none (rebased_fits h st log c k b l is now) keeps;
+            keeps = rebased_keeps h st K log cs i c k b l are at is line none (rebased_fits h st K log c k b l is now) keeps;
           }
 
-      pub merge_goes : refusal_to_merge c k b l ≡ None → GoesOn h st log cs i c (with_commits_on (without_branch c k) b.parent b.own)
+      pub merge_goes : refusal_to_merge c k b l ≡ None → GoesOn h st K log cs i c (with_commits_on (without_branch c k) b.parent b.own)
       merge_goes may =
           let m = may_merge c k b l may in
           let now = client_merges h st log c k b l is_client there.0 there.1 line m.1 m.2 m.3 few in
@@ -198,7 +199,7 @@ module _ (h : HeaderView) (st : IsStart (opening_document h)) (log : List Entry)
             connected = near.connected;
             ids = near.ids;
             forks = near.forks;
-            keeps = merged_keeps h st log cs i c k b l are at is line m.1 (merged_fits h st log c k b l is line m.2 now) keeps;
+            keeps = merged_keeps h st K log cs i c k b l are at is line m.1 (merged_fits h st K log c k b l is line m.2 now) keeps;
           }
 
 -- ## What is kept

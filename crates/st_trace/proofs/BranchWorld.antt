@@ -32,6 +32,7 @@ use Rattle.st_trace.proofs.BranchSteps.{drop_goes, fork_goes, kept_dropped, kept
 use Rattle.st_trace.proofs.Branched.{changed_at, found_at, found_by}
 use Rattle.st_trace.proofs.Everyone.{all_as, all_get, clients_of, set_same}
 use Rattle.st_trace.proofs.Forking.{client_drops, line_left}
+use Rattle.st_trace.specs.Schemas.{HasReading}
 use Rattle.st_trace.proofs.Going.{GoesOn}
 use Rattle.st_trace.proofs.Keeping.{AreOne, kept_main}
 use Rattle.st_trace.proofs.Lookup.{branch_there}
@@ -110,8 +111,8 @@ module _ (w : World) (i : ℕ) (c : Client) (k : Replica) (s : IsSound w) (at_c 
     fork_at : (l : Line) → line_of c number ≡ Some l → GoesOnAt d m a
     fork_at l line = go (refusal_to_fork c l) (answer l line) (kept l line)
       where
-        goes : GoesOn h st log w.lists.clients i c d
-        goes = fork_goes h st log w.lists.clients s.sessions are s.few_names s.schema i c at_c d number l a line (answer l line)
+        goes : GoesOn h st (HasReading w.schemas) log w.lists.clients i c d
+        goes = fork_goes h st (HasReading w.schemas) log w.lists.clients s.sessions are s.few_names s.schema i c at_c d number l a line (answer l line)
 
         go : (o : Option Refusal) → fork c number l o ≡ (d, a) → HasForked (head_of c k number) o k m → GoesOnAt d m a
         go (Some why) is same = stays_at d m a why (ap (λ (x : Client × Answer). x.0) (sym is)) same (ap (λ (x : Client × Answer). x.1) (sym is))
@@ -236,13 +237,13 @@ module _ (w : World) (i : ℕ) (c : Client) (k : Replica) (s : IsSound w) (at_c 
         go : (o : Option Refusal) → refusal_to_rebase b ≡ o → HasRebased c k j b l p o d m a → GoesOnAt d m a × Unless o c d a (IsRebased O log c number b l d a)
         go (Some why) e done = (stays_at d m a why done.0 done.1 done.2, (done.0, done.2))
         go None e done =
-            let goes = rebase_goes h st log w.lists.clients s.sessions are s.few_names s.schema i c at_c number b x.found l x.line e in
+            let goes = rebase_goes h st (HasReading w.schemas) log w.lists.clients s.sessions are s.few_names s.schema i c at_c number b x.found l x.line e in
             let based_c = based j b l x.named at in
             let now = kept_rebased h log c k j b l p done.0 one.kept at (may_rebase b e) x.leads done.1 done.2 in
             let is_d : d ≡ with_base c number l = done.3 ∙ sym based_c in
             let void = void_as (document_of p.doc) (document_of done.0.doc) b.own done.0.own done.1 in (
               (
-                sound_goes w i c k s at_c at_k d m (subst (GoesOn h st log w.lists.clients i c) (sym is_d) goes)
+                sound_goes w i c k s at_c at_k d m (subst (GoesOn h st (HasReading w.schemas) log w.lists.clients i c) (sym is_d) goes)
                     (subst (λ y. IsReplicaOf h log y m) (sym done.3) (subst (IsReplicaOf h log (record c { branches = slice_set c.branches j (with_ground b (ground_of l)) })) (sym done.4) now)),
                 subst (λ y. AtRefusal y ((d ≡ c) × (m ≡ k))) (sym done.5) tt,
               ),
@@ -282,7 +283,7 @@ module _ (w : World) (i : ℕ) (c : Client) (k : Replica) (s : IsSound w) (at_c 
         go (Some why) e done = (stays_at d m a why done.0 done.1 done.2, (done.0, done.2))
         go None e done =
             let may = may_merge c number b l e in
-            let goes = merge_goes h st log w.lists.clients s.sessions are s.few_names s.schema i c at_c number b x.found l x.line e in
+            let goes = merge_goes h st (HasReading w.schemas) log w.lists.clients s.sessions are s.few_names s.schema i c at_c number b x.found l x.line e in
             let dropped = client_drops h st log c one.client number b x.among x.named may.2 in
             let numbers = subst (λ (y : Client). AreDistinct (λ (z : Branch). z.number) y.branches) gone dropped.branches.numbers in
             let line = subst (λ (y : Client). line_of y b.parent ≡ Some l) gone (line_left c number b.parent l one.client.branches.numbers x.line (λ same. x.apart (same ∙ sym x.named))) in
@@ -293,7 +294,7 @@ module _ (w : World) (i : ℕ) (c : Client) (k : Replica) (s : IsSound w) (at_c 
             let told = merged_void (without_place c j) d (without_head k j) m b.parent p b.own a done in
             let is_d : d ≡ with_commits_on (without_branch c number) b.parent b.own = now.0 ∙ ap (λ (y : Client). with_commits_on y b.parent b.own) (sym gone) in (
               (
-                sound_goes w i c k s at_c at_k d m (subst (GoesOn h st log w.lists.clients i c) (sym is_d) goes) now.1,
+                sound_goes w i c k s at_c at_k d m (subst (GoesOn h st (HasReading w.schemas) log w.lists.clients i c) (sym is_d) goes) now.1,
                 subst (λ y. AtRefusal y ((d ≡ c) × (m ≡ k))) (sym told.2) tt,
               ),
               (document_of p.doc, told.0, x.leads, told.1, is_d, told.2),
@@ -328,10 +329,10 @@ module _ (w : World) (i : ℕ) (c : Client) (k : Replica) (s : IsSound w) (at_c 
         go : (t : Bool) → has_children c number ≡ t → HasDropped c k j b t d m a → GoesOnAt d m a × (◌≡◌ {A = Client × Answer} (cond t (c, No HasChildren) (without_branch c number, DropBranch)) (d, a))
         go true e done = (stays_at d m a HasChildren done.0 done.1 done.2, pair (sym done.0) (sym done.2))
         go false e done =
-            let goes = drop_goes h st log w.lists.clients s.sessions are s.few_names s.schema i c at_c number b x.found e in
+            let goes = drop_goes h st (HasReading w.schemas) log w.lists.clients s.sessions are s.few_names s.schema i c at_c number b x.found e in
             let is_d : d ≡ without_branch c number = done.0 ∙ sym gone in (
               (
-                sound_goes w i c k s at_c at_k d m (subst (GoesOn h st log w.lists.clients i c) (sym is_d) goes)
+                sound_goes w i c k s at_c at_k d m (subst (GoesOn h st (HasReading w.schemas) log w.lists.clients i c) (sym is_d) goes)
                     (subst (λ y. IsReplicaOf h log y m) (sym done.0) (subst (IsReplicaOf h log (without_place c j)) (sym done.1) (kept_dropped h log c k j b one.kept at))),
                 subst (λ y. AtRefusal y ((d ≡ c) × (m ≡ k))) (sym done.2) tt,
               ),

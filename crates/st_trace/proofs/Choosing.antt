@@ -1,5 +1,6 @@
 -- The edit of a tree that an act is means the act's intent.
-use Rattle.std.proofs.Common.{Ok, Err, inl, inr, subst, None, true, is_some, Some, IfOk, Option, Result, slice_get, ◌⊎◌, ◌≡◌, ◌∙◌, ℕ, List, refl, sym, ap}
+use Rattle.st_schema.specs.Schema.{SchemaView}
+use Rattle.std.proofs.Common.{Ok, Err, inl, inr, subst, None, true, is_some, Some, IfOk, Option, Result, slice_get, ◌⊎◌, ◌≡◌, ◌∙◌, ℕ, List, refl, sym, ap, false}
 use Rattle.st_lists.specs.Lines.{main_line, line_of, Line}
 use Rattle.st_script.specs.Steps.{act_view, ActView, IsEditWithin, IsWithinLimits, edit, edit_view, step_view}
 use Rattle.st_script.specs.Line.{line_view, line_of as line_read}
@@ -14,13 +15,14 @@ use Rattle.st_ids.specs.declared.names.Rev.{Rev}
 use Rattle.st_script.specs.declared.step.Act.TheVariants as acts
 use Rattle.st_script.specs.declared.step.EditAct.{EditAct}
 use Rattle.st_script.specs.declared.step.EditAct.TheVariants as edits
+use Rattle.st_upgrade_laws.specs.Agreeing.{schema_in_effect}
 use Rattle.st_trace.specs.inside.Edits.{edit_of}
 use Rattle.st_trace.specs.World.{IsActOf, IsAfterEdit, IsDoneIn, next_names, word_of}
 use Rattle.st_lists.specs.declared.lists.Client.{Client}
 use Rattle.st_lists.specs.declared.lists.WorldState.{WorldState}
 
 pub next_edit : (h : HeaderView) (w : WorldState) (i : ℕ) (c : Client) (k : ℕ) (l : Line) (v : WorldState) (a : Answer) (e : EditAct)
-    → IsDoneIn h w i l (λ D. IsAfterEdit c k l l.transaction (word_of (edit_view e)) (resolve D h.schema (next_names c l.transaction) (edit_of e))) v a → IsActOf h w (edit (edit_view e)) i c k l v a
+    → IsDoneIn h w i l (λ D. IsAfterEdit c k l l.transaction (word_of (edit_view e)) (resolve D (schema_in_effect D) (next_names c l.transaction) (edit_of e))) v a → IsActOf h w (edit (edit_view e)) i c k l v a
 next_edit h w i c k l v a (edits.Insert at key index items) is = is
 next_edit h w i c k l v a (edits.Remove at key index count) is = is
 next_edit h w i c k l v a (edits.Move at key index count to to_key to_index) is = is
@@ -55,7 +57,7 @@ on_main_line h w x y i v (Err e) is f = tt
 
 -- an act of a client as a whole is the same on each line
 abbrev pub IsWhole : Act → Type 0
-IsWhole x = (x ≡ acts.Join) ⊎ (((rev : Rev) × (x ≡ acts.Undo rev)) ⊎ ((x ≡ acts.Sequence) ⊎ ((x ≡ acts.Ack) ⊎ ((x ≡ acts.Deliver) ⊎ ((x ≡ acts.Leave) ⊎ ((x ≡ acts.Drop) ⊎ (x ≡ acts.Reconnect)))))))
+IsWhole x = (x ≡ acts.Join) ⊎ (((rev : Rev) × (x ≡ acts.Undo rev)) ⊎ (((new : SchemaView) × (x ≡ acts.Upgrade new)) ⊎ ((x ≡ acts.Sequence) ⊎ ((x ≡ acts.Ack) ⊎ ((x ≡ acts.Deliver) ⊎ ((x ≡ acts.Leave) ⊎ ((x ≡ acts.Drop) ⊎ (x ≡ acts.Reconnect))))))))
 
 module _ (h : HeaderView) (w : WorldState) (i k : ℕ) (v : WorldState) where
   abbrev OnMain : Act → Answer → Type 0
@@ -71,12 +73,18 @@ module _ (h : HeaderView) (w : WorldState) (i k : ℕ) (v : WorldState) where
   pub as_whole : {E : Type 0} (x : Act) → IsWhole x → (r : Result Answer E) → IfOk r (OnMain x) → IfOk r (OnEach x)
   as_whole x (inl e) r f = same_act x acts.Join e (λ a p q l at line. p q at) r f
   as_whole x (inr (inl p)) r f = same_act x (acts.Undo p.0) p.1 (λ a p q l at line. p q at) r f
-  as_whole x (inr (inr (inl e))) r f = same_act x acts.Sequence e (λ a p q l at line. p q at) r f
-  as_whole x (inr (inr (inr (inl e)))) r f = same_act x acts.Ack e (λ a p q l at line. p q at) r f
-  as_whole x (inr (inr (inr (inr (inl e))))) r f = same_act x acts.Deliver e (λ a p q l at line. p q at) r f
-  as_whole x (inr (inr (inr (inr (inr (inl e)))))) r f = same_act x acts.Leave e (λ a p q l at line. p q at) r f
-  as_whole x (inr (inr (inr (inr (inr (inr (inl e))))))) r f = same_act x acts.Drop e (λ a p q l at line. p q at) r f
-  as_whole x (inr (inr (inr (inr (inr (inr (inr e))))))) r f = same_act x acts.Reconnect e (λ a p q l at line. p q at) r f
+  as_whole x (inr (inr (inl p))) r f = same_act x (acts.Upgrade p.0) p.1 (λ a p q l at line. p q at) r f
+  as_whole x (inr (inr (inr (inl e)))) r f = same_act x acts.Sequence e (λ a p q l at line. p q at) r f
+  as_whole x (inr (inr (inr (inr (inl e))))) r f = same_act x acts.Ack e (λ a p q l at line. p q at) r f
+  as_whole x (inr (inr (inr (inr (inr (inl e)))))) r f = same_act x acts.Deliver e (λ a p q l at line. p q at) r f
+  as_whole x (inr (inr (inr (inr (inr (inr (inl e))))))) r f = same_act x acts.Leave e (λ a p q l at line. p q at) r f
+  as_whole x (inr (inr (inr (inr (inr (inr (inr (inl e)))))))) r f = same_act x acts.Drop e (λ a p q l at line. p q at) r f
+  as_whole x (inr (inr (inr (inr (inr (inr (inr (inr e)))))))) r f = same_act x acts.Reconnect e (λ a p q l at line. p q at) r f
+
+-- no line is there where none is
+pub no_line : (o : Option Line) → is_some o ≡ false → o ≡ None
+no_line None e = refl
+no_line (Some l) e = cc
 
 -- a line is there where it isn't none
 pub some_line : (o : Option Line) → is_some o ≡ true → (l : Line) × (o ≡ Some l)

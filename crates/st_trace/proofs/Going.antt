@@ -1,13 +1,14 @@
 -- The lists of a world by themselves: what holds of them holds after each step.
+use Rattle.st_upgrade_laws.specs.Agreeing.{schema_in_effect}
 use Rattle.st_trace.proofs.Parts.{editable, client_begun, client_commits, client_ended, client_parted, edited_room, names_edited}
 use Rattle.st_lists.specs.Lines.{HasHead, Line, commits_of, main_line, with_commit_on}
 use Rattle.st_lists.specs.Names.{names_in, names_in_text, names_made, names_on_all}
 use Rattle.st_lists.specs.declared.lists.Branch.{Branch}
 use Rattle.st_trace.proofs.Clients.{client_acked, client_after_text, client_beside, client_committed, client_joined, client_none, client_offline, client_other, client_own, client_returned, client_sent, next_apart, next_new}
 use Rattle.st_trace.proofs.Meant.{IsEditable, IsMeaning, IsMeant}
-use Rattle.st_trace.specs.Replicas.{HasMain, HaveOwnSessions, IsClient, IsEntryOf, IsHeader, IsSound, IsTransaction, KeepToSchema, LineFits}
+use Rattle.st_trace.specs.Replicas.{HasMain, HaveOwnSessions, IsClient, IsEntryOf, IsHeader, IsSound, IsTransaction, KeepToSchemas, LineFits}
 use Rattle.st_trace.specs.World.{HasShown, IsAfterEdit, IsAfterNeed, IsDeliveredIn, IsDeliveredTo, IsEditedIn, IsJoined, abort, after_commit, after_edit, begin, commit, last_in_effect, next_names, opening_document, with_beginning, with_new_on}
-use Rattle.std.proofs.Common.{◌≡◌, ◌≢◌, ◌≤◌, ◌+◌, ◌==◌, ℕ, zero, suc, Bool, true, false, List, [], ◌∷◌, ◌++◌, length, drop, Option, Some, None, IfSome, Result, Ok, Err, refl, sym, ap, ◌∙◌, subst, arith, inl}
+use Rattle.std.proofs.Common.{◌≡◌, ◌≢◌, ◌≤◌, ◌+◌, ◌==◌, ℕ, zero, suc, Bool, true, false, List, [], ◌∷◌, ◌++◌, length, drop, Option, Some, None, IfSome, Result, Ok, Err, refl, sym, ap, ◌∙◌, subst, arith, inl, is_some}
 use Rattle.std.specs.List.{cons_option, remove, slice_get, slice_set, AllByRecursion}
 use Rattle.std.proofs.lemmas.List.{append-nil}
 use Rattle.st_ids.specs.declared.names.Limit.{Limit}
@@ -40,19 +41,28 @@ use Rattle.st_script.specs.declared.refusal.Refusal.{Refusal}
 use Rattle.st_trace.specs.Kept.{Unless}
 use Rattle.st_trace.specs.Undo.{IsAfterUndo, IsUndone, IsUndoneAt, refusal_of_rev, refusal_over}
 use Rattle.st_trace.proofs.Undoing.{no_limit, undoing_makes_none}
-use Rattle.st_trace.proofs.Agreed.{acked_keeps, undone_keeps, begun_keeps, committed_keeps, delivered_keeps, dropped_keeps, edited_keeps, ended_keeps, joined_keeps, left_keeps, parted_keeps, returned_keeps, same_keeps, sent_keeps}
+use Rattle.st_trace.proofs.Agreed.{acked_keeps, undone_keeps, begun_keeps, committed_keeps, delivered_keeps, dropped_keeps, edited_keeps, ended_keeps, joined_keeps, left_keeps, parted_keeps, returned_keeps, same_keeps, sent_keeps, knows_more}
 use Rattle.st_trace.proofs.Begun.{IsStart, opened_start}
 use Rattle.st_lists.proofs.Names.{names_append, names_of_text}
 use Rattle.st_trace.proofs.Everyone.{all_as, all_get, all_set, clients_of, others_apart}
 use Rattle.st_ids.specs.Listing.{Has}
 use Rattle.st_ids.proofs.Shared.{at_has}
-use Rattle.st_marks.proofs.Members.{all-has, append_right}
+use Rattle.st_marks.proofs.Members.{all-has, append_right, distinct-has}
 use Rattle.st_lists.proofs.Present.{all_rest, are_apart, distinct_more, distinct_rest, distinct_set, session_given, session_of, sessions_entered}
 use Rattle.st_trace.proofs.Keeping.{within_limits, within_names, within_pending}
 use Rattle.st_lists.proofs.Logs.{entered_commits, last_entry}
 use Rattle.st_trace.proofs.Stepping.{given_still, is_last, of_sessions}
 use Rattle.st_lemmas.proofs.Lists.{AllByRecursion-append}
 use Rattle.st_lists.specs.declared.lists.Body.{Body}
+use Rattle.st_trace.specs.Schemas.{HasReading}
+use Rattle.st_heads.specs.Undoing.{IsAt}
+use Rattle.st_schema.specs.Schema.{is_sound}
+use Rattle.st_trace.proofs.Effect.{schema_sound_on}
+use Rattle.st_trace.proofs.BranchesAgree.{main_in_order}
+
+-- the lists alone don't tell which schemas are kept
+abbrev pub Any : Rev → List ℕ → Type 0
+Any rev text = Unit {0}
 
 -- what holds of the lists of each world that steps lead to
 pub record AreSound (h : HeaderView) (w : WorldState) : Type 0 where
@@ -63,7 +73,7 @@ pub record AreSound (h : HeaderView) (w : WorldState) : Type 0 where
   pub log : AllByRecursion IsEntryOf w.log
   pub log_fit : FitInTurn (opening_document h) (commits_in w.log)
   pub log_new : HaveNewRevisions (opening ∷ []) (commits_in w.log)
-  pub schema : KeepToSchema h w.log w.clients
+  pub schema : KeepToSchemas h Any w.log w.clients
   pub few_names : names_in (commits_in w.log) ≤ 131072
 
 -- it holds of those of a sound world
@@ -76,7 +86,7 @@ lists_sound w s = record {
   log = s.log;
   log_fit = s.log_fit;
   log_new = s.log_new;
-  schema = s.schema;
+  schema = knows_more (header_view w.header) (HasReading w.schemas) Any w.lists.log w.lists.clients (λ r text k. tt) s.schema;
   few_names = s.few_names;
 }
 
@@ -90,13 +100,17 @@ begun_sound h k = record {
   log = tt;
   log_fit = tt;
   log_new = record { once = tt; new = λ N i j. i };
-  schema = begun_keeps h k;
+  schema = begun_keeps h Any k tt;
   few_names = omega arith;
 }
 
 -- ## One client goes on
 
-pub set_sound : (h : HeaderView) (w : WorldState) (i : ℕ) (c c' : Client) → AreSound h w → slice_get w.clients i ≡ Some c → IsClient h w.log c' → c'.session ≡ c.session → KeepToSchema h w.log (slice_set w.clients i c')
+none_of : {A : Type 0} (o : Option A) → is_some o ≡ false → o ≡ None
+none_of None e = refl
+none_of (Some a) e = absurd (cc)
+
+pub set_sound : (h : HeaderView) (w : WorldState) (i : ℕ) (c c' : Client) → AreSound h w → slice_get w.clients i ≡ Some c → IsClient h w.log c' → c'.session ≡ c.session → KeepToSchemas h Any w.log (slice_set w.clients i c')
     → AreSound h (record w { clients = slice_set w.clients i c' })
 set_sound h w i c c' s at client session keeps = record {
   header = s.header;
@@ -146,7 +160,7 @@ near_delivered c c' D (Some e) a done = subst (IsNear c) (sym done.2) (record { 
 module _ (h : HeaderView) (st : IsStart (opening_document h)) where
   -- where no transaction is open
   client_edited : (log : List Entry) (c c' : Client) (D : Document) (word : EditWord) (r : Result Intent EditFault) (a : Answer) → IsClient h log c → names_in (commits_in log) ≤ 131072 → c.transaction ≡ None → HasMain h log c D
-      → IsMeaning h.schema D (next_names c None) word r → after_edit c 0 (main_line c) word r ≡ (c', a) → IsClient h log c'
+      → IsMeaning D (next_names c None) word r → after_edit c 0 (main_line c) word r ≡ (c', a) → IsClient h log c'
   client_edited log c c' D word (Err f) a k all none main means is = subst (IsClient h log) (ap (λ (p : Client × Answer). p.0) is) k
   client_edited log c c' D word (Ok N) a k all none main means is = go (limit_passed c 0 (main_line c) N) refl is
     where
@@ -187,6 +201,7 @@ module _ (h : HeaderView) (st : IsStart (opening_document h)) where
       go None at done = subst (IsClient h log) (sym done.0) k
       go (Some e) at done = subst (IsClient h log) (sym done.2) (client_taken log c e k all at none)
 
+module _ (h : HeaderView) (st : IsStart (opening_document h)) (K : Rev → List ℕ → Type 0) where
   -- ## One client's steps
 
   -- a client after a step: it is one still, its session stays, it has at most one more id and one more number of a branch,
@@ -197,7 +212,7 @@ module _ (h : HeaderView) (st : IsStart (opening_document h)) where
     pub connected : c'.connected ≡ c.connected
     pub ids : c'.ids ≤ c.ids + 1
     pub forks : c'.forks ≤ c.forks + 1
-    pub keeps : KeepToSchema h log (slice_set cs i c')
+    pub keeps : KeepToSchemas h K log (slice_set cs i c')
 
   -- the line of a number, on which a client goes on by each step that it takes there
   pub record LineGoes (log : List Entry) (cs : List Client) (i : ℕ) (c : Client) (k : ℕ) (l : Line) : Type 0 where
@@ -205,13 +220,14 @@ module _ (h : HeaderView) (st : IsStart (opening_document h)) where
     pub transaction : IfSome l.transaction (IsTransaction h log l c)
     pub room : (t : Transaction) → l.transaction ≡ Some t → names_in (commits_of log l) + (names_edited t.joined + 2048) ≤ 200000
     pub editable : (E : Document) → HasShown (opening_document h) log l E → IsEditable E (next_names c l.transaction)
-    pub edits : (d : Client) (E : Document) (word : EditWord) (r : Result Intent EditFault) (a : Answer) → HasShown (opening_document h) log l E → IsMeaning h.schema E (next_names c l.transaction) word r → IsAfterEdit c k l l.transaction word r d a → GoesOn log cs i c d
-    pub needs : (d : Client) (E : Document) (r : Result Intent EditFault) (a : Answer) → HasShown (opening_document h) log l E → IsMeaning h.schema E (next_names c l.transaction) EditWord.Need r → IsAfterNeed c k l.transaction r d a → GoesOn log cs i c d
+    pub schema : (E : Document) → HasShown (opening_document h) log l E → is_sound (schema_in_effect E) ≡ true
+    pub edits : (d : Client) (E : Document) (word : EditWord) (r : Result Intent EditFault) (a : Answer) → HasShown (opening_document h) log l E → IsMeaning E (next_names c l.transaction) word r → IsAfterEdit c k l l.transaction word r d a → GoesOn log cs i c d
+    pub needs : (d : Client) (E : Document) (r : Result Intent EditFault) (a : Answer) → HasShown (opening_document h) log l E → IsMeaning E (next_names c l.transaction) EditWord.Need r → IsAfterNeed c k l.transaction r d a → GoesOn log cs i c d
     pub begins : (d : Client) (E : Document) (a : Answer) → HasShown (opening_document h) log l E → begin c k l l.transaction (last_in_effect E) ≡ (d, a) → GoesOn log cs i c d
     pub commits : (d : Client) (a : Answer) → commit c k l.transaction ≡ (d, a) → GoesOn log cs i c d
     pub aborts : (d : Client) (a : Answer) → abort c k l.transaction ≡ (d, a) → GoesOn log cs i c d
 
-  module _ (log : List Entry) (cs : List Client) (sessions : HaveOwnSessions cs) (are : AllByRecursion (IsClient h log) cs) (few : names_in (commits_in log) ≤ 131072) (keeps : KeepToSchema h log cs)
+  module _ (log : List Entry) (cs : List Client) (sessions : HaveOwnSessions cs) (are : AllByRecursion (IsClient h log) cs) (few : names_in (commits_in log) ≤ 131072) (keeps : KeepToSchemas h K log cs)
       (i : ℕ) (c : Client) (at : slice_get cs i ≡ Some c) where
     k : IsClient h log c
     k = all_get (IsClient h log) cs i c are at
@@ -223,21 +239,21 @@ module _ (h : HeaderView) (st : IsStart (opening_document h)) where
       connected = ap (λ (x : Client). x.connected) same;
       ids = omega (arith, ap (λ (x : Client). x.ids) same);
       forks = omega (arith, ap (λ (x : Client). x.forks) same);
-      keeps = same_keeps h st log cs i c c' at (sym same) keeps;
+      keeps = same_keeps h st K log cs i c c' at (sym same) keeps;
     }
 
     goes_as : (d c' : Client) → c' ≡ d → GoesOn log cs i c d → GoesOn log cs i c c'
     goes_as d c' same g = subst (GoesOn log cs i c) (sym same) g
 
     -- what an edit means in the document of an open transaction
-    pub meant_in : (l : Line) (E : Document) (t : Transaction) (word : EditWord) (M : Intent) (x : IsTransaction h log l c t) (D : Document) → HasHead (opening_document h) log l D → E ≡ with_open D t.joined → IsMeant h.schema E (next_names c (Some t)) word M
-        → IsMeant h.schema (with_open x.before t.joined) (next_names c (Some t)) word M
+    pub meant_in : (l : Line) (E : Document) (t : Transaction) (word : EditWord) (M : Intent) (x : IsTransaction h log l c t) (D : Document) → HasHead (opening_document h) log l D → E ≡ with_open D t.joined → IsMeant E (next_names c (Some t)) word M
+        → IsMeant (with_open x.before t.joined) (next_names c (Some t)) word M
     meant_in l E t word M x D main same m =
         let here : E ≡ with_open x.before t.joined = same ∙ ap (λ F. with_open F t.joined) (one_run main x.main) in
-        subst (λ F. IsMeant h.schema F (next_names c (Some t)) word M) here m
+        subst (λ F. IsMeant F (next_names c (Some t)) word M) here m
 
     goes_in : (c' : Client) (D E : Document) (t : Transaction) (word : EditWord) (r : Result Intent EditFault) (a : Answer) → c.transaction ≡ Some t → IsTransaction h log (main_line c) c t → HasMain h log c D → E ≡ with_open D t.joined
-        → IsMeaning h.schema E (next_names c (Some t)) word r → IsEditedIn c 0 t word r c' a → GoesOn log cs i c c'
+        → IsMeaning E (next_names c (Some t)) word r → IsEditedIn c 0 t word r c' a → GoesOn log cs i c c'
     goes_in c' D E t word (Err f) a is x main same means done = stays c' done.0
     goes_in c' D E t word (Ok M) a is x main same means done = go (names_limit_passed c M) refl done
       where
@@ -251,35 +267,36 @@ module _ (h : HeaderView) (st : IsStart (opening_document h)) where
               connected = refl;
               ids = omega arith;
               forks = omega arith;
-              keeps = parted_keeps h st log cs i c t word M done.0 sessions are few at is x m done.1 keeps;
+              keeps = parted_keeps h st K log cs i c t word M done.0 sessions are few at is x m done.1 keeps;
             })
 
-    pub edit_goes : (c' : Client) (E : Document) (word : EditWord) (r : Result Intent EditFault) (a : Answer) → HasShown (opening_document h) log (main_line c) E → IsMeaning h.schema E (next_names c c.transaction) word r
+    pub edit_goes : (c' : Client) (E : Document) (word : EditWord) (r : Result Intent EditFault) (a : Answer) → HasShown (opening_document h) log (main_line c) E → IsMeaning E (next_names c c.transaction) word r
         → IsAfterEdit c 0 (main_line c) c.transaction word r c' a → GoesOn log cs i c c'
     edit_goes c' E word r a shown means done = go c.transaction refl k.transaction shown.2 means done
       where
         D : Document
         D = shown.0
 
-        go : (o : Option Transaction) → c.transaction ≡ o → IfSome o (IsTransaction h log (main_line c) c) → E ≡ with_open D (option_and_then (λ (t : Transaction). t.joined) o) → IsMeaning h.schema E (next_names c o) word r → IsAfterEdit c 0 (main_line c) o word r c' a → GoesOn log cs i c c'
+        go : (o : Option Transaction) → c.transaction ≡ o → IfSome o (IsTransaction h log (main_line c) c) → E ≡ with_open D (option_and_then (λ (t : Transaction). t.joined) o) → IsMeaning E (next_names c o) word r → IsAfterEdit c 0 (main_line c) o word r c' a → GoesOn log cs i c c'
         go None none x same means done =
-            let here = subst (λ F. IsMeaning h.schema F (next_names c None) word r) same means in
+            let here = subst (λ F. IsMeaning F (next_names c None) word r) same means in
             let on = near_edited c c' 0 (main_line c) word r a done in
+            let next = client_edited h st log c c' D word r a k few none shown.1 here done in
             record {
-              client = client_edited log c c' D word r a k few none shown.1 here done;
+              client = next;
               session = on.session;
               connected = on.connected;
               ids = on.ids;
               forks = on.forks;
-              keeps = edited_keeps h st log cs i c c' D word r a sessions are few at none shown.1 here done keeps;
+              keeps = edited_keeps h st K log cs i c c' D word r a sessions are few at none shown.1 here done next keeps;
             }
         go (Some t) is x same means done = goes_in c' D E t word r a is x shown.1 same means done
 
-    pub need_goes : (c' : Client) (E : Document) (r : Result Intent EditFault) (a : Answer) → HasShown (opening_document h) log (main_line c) E → IsMeaning h.schema E (next_names c c.transaction) EditWord.Need r
+    pub need_goes : (c' : Client) (E : Document) (r : Result Intent EditFault) (a : Answer) → HasShown (opening_document h) log (main_line c) E → IsMeaning E (next_names c c.transaction) EditWord.Need r
         → IsAfterNeed c 0 c.transaction r c' a → GoesOn log cs i c c'
     need_goes c' E r a shown means done = go c.transaction refl k.transaction shown.2 means done
       where
-        go : (o : Option Transaction) → c.transaction ≡ o → IfSome o (IsTransaction h log (main_line c) c) → E ≡ with_open shown.0 (option_and_then (λ (t : Transaction). t.joined) o) → IsMeaning h.schema E (next_names c o) EditWord.Need r → IsAfterNeed c 0 o r c' a → GoesOn log cs i c c'
+        go : (o : Option Transaction) → c.transaction ≡ o → IfSome o (IsTransaction h log (main_line c) c) → E ≡ with_open shown.0 (option_and_then (λ (t : Transaction). t.joined) o) → IsMeaning E (next_names c o) EditWord.Need r → IsAfterNeed c 0 o r c' a → GoesOn log cs i c c'
         go None none x same means done = stays c' done.0
         go (Some t) is x same means done = goes_in c' shown.0 E t EditWord.Need r a is x shown.1 same means done
 
@@ -295,7 +312,7 @@ module _ (h : HeaderView) (st : IsStart (opening_document h)) where
               connected = refl;
               ids = omega arith;
               forks = omega arith;
-              keeps = ended_keeps h st log cs i c (with_begun c (last_in_effect E)) at refl refl refl refl keeps;
+              keeps = ended_keeps h st K log cs i c (with_begun c (last_in_effect E)) at refl refl refl refl keeps;
             })
 
         go : (o : Option Transaction) → c.transaction ≡ o → E ≡ with_open shown.0 (option_and_then (λ (t : Transaction). t.joined) o) → begin c 0 (main_line c) o (last_in_effect E) ≡ (c', a) → GoesOn log cs i c c'
@@ -303,7 +320,7 @@ module _ (h : HeaderView) (st : IsStart (opening_document h)) where
         go None is same done = begun same is (pending_limit_passed c) refl done
 
     ended : GoesOn log cs i c (without_transaction c)
-    ended = record { client = client_ended h st log c k; session = refl; connected = refl; ids = omega arith; forks = omega arith; keeps = ended_keeps h st log cs i c (without_transaction c) at refl refl refl refl keeps }
+    ended = record { client = client_ended h st log c k; session = refl; connected = refl; ids = omega arith; forks = omega arith; keeps = ended_keeps h st K log cs i c (without_transaction c) at refl refl refl refl keeps }
 
     pub commit_goes : (c' : Client) (a : Answer) → commit c 0 c.transaction ≡ (c', a) → GoesOn log cs i c c'
     commit_goes c' a done = go c.transaction refl k.transaction done
@@ -311,13 +328,14 @@ module _ (h : HeaderView) (st : IsStart (opening_document h)) where
         by : (t : Transaction) (o : Option Intent) → c.transaction ≡ Some t → t.joined ≡ o → IsTransaction h log (main_line c) c t → after_commit (without_transaction c) 0 t.rev o ≡ (c', a) → GoesOn log cs i c c'
         by t None is joined x done = goes_as (without_transaction c) c' (ap (λ (p : Client × Answer). p.0) (sym done)) ended
         by t (Some J) is joined x done =
+            let next = client_commits h st log c t J k is joined x few in
             goes_as (with_commit (without_transaction c) J) c' (ap (λ (p : Client × Answer). p.0) (sym done)) (record {
-              client = client_commits h st log c t J k is joined x few;
+              client = next;
               session = refl;
               connected = refl;
               ids = omega arith;
               forks = omega arith;
-              keeps = committed_keeps h st log cs i c x.before J at x.main (ap (λ (o : Option Transaction). option_and_then (λ (y : Transaction). y.joined) o) is ∙ joined) keeps;
+              keeps = committed_keeps h st K log cs i c t J are at is joined x next.shown_fit keeps;
             })
 
         go : (o : Option Transaction) → c.transaction ≡ o → IfSome o (IsTransaction h log (main_line c) c) → commit c 0 o ≡ (c', a) → GoesOn log cs i c c'
@@ -333,6 +351,7 @@ module _ (h : HeaderView) (st : IsStart (opening_document h)) where
 
     pub main_goes : LineGoes log cs i c 0 (main_line c)
     main_goes = record {
+      schema = λ E shown. schema_sound_on h st K log cs keeps are i c at 0 (main_line c) refl E shown;
       fit = k.shown_fit;
       transaction = k.transaction;
       room = λ t is. edited_room h st log c t k is few;
@@ -345,8 +364,8 @@ module _ (h : HeaderView) (st : IsStart (opening_document h)) where
     }
 
     -- what undoes a commit is pending
-    undone_goes : (rev : Rev) (B : Intent) → c.transaction ≡ None → pending_limit_passed c ≡ None → IsUndoing (opening_document h) (commits_of log (main_line c)) rev (next_rev c) B → GoesOn log cs i c (with_new_commit c B)
-    undone_goes rev B none few_pending u =
+    undone_goes : (rev : Rev) (B : Intent) → c.transaction ≡ None → pending_limit_passed c ≡ None → (u : IsUndoing (opening_document h) (commits_of log (main_line c)) rev (next_rev c) B) → u.commit.schema ≡ None → GoesOn log cs i c (with_new_commit c B)
+    undone_goes rev B none few_pending u data_only =
         let O = opening_document h in
         let list = commits_of log (main_line c) in
         let named : B.rev ≡ next_rev c = u.back.rev_and_under.0 in
@@ -358,13 +377,14 @@ module _ (h : HeaderView) (st : IsStart (opening_document h)) where
         let names : (names_in c.pending + names_on_all c.branches) + names_made B ≤ 16384 = omega (arith, waiting, nothing) in
         let apart : (b : Branch) (t : Transaction) → Has c.branches b → b.transaction ≡ Some t → t.rev ≢ B.rev = λ b t i x e. next_apart h st log c k b t i x (e ∙ named) in
         let now = client_committed h st log c (c.ids + 1) u.after B k u.now fits session (omega (arith, num)) (omega arith) (next_new h st log c B.rev k named) apart (within_pending h st c few_pending) names few in
+        let next : IsClient h log (with_new_commit c B) = subst (λ (o : Option Transaction). IsClient h log (record (with_commit c B) { ids = c.ids + 1; transaction = o })) (sym none) now in
         record {
-          client = subst (λ (o : Option Transaction). IsClient h log (record (with_commit c B) { ids = c.ids + 1; transaction = o })) (sym none) now;
+          client = next;
           session = refl;
           connected = refl;
           ids = omega arith;
           forks = omega arith;
-          keeps = undone_keeps h st log cs i c rev B u.after are at none u.now u keeps;
+          keeps = undone_keeps h st K log cs i c rev B u.after sessions are few at none u.now u data_only u.back.nothing_new.3 next.shown_fit keeps;
         }
 
     pub undo_goes : (c' : Client) (history : ℕ) (rev : Rev) (a : Answer) → IsAfterUndo (opening_document h) history log c c.transaction rev c' a → GoesOn log cs i c c'
@@ -373,20 +393,31 @@ module _ (h : HeaderView) (st : IsStart (opening_document h)) where
         list : List Intent
         list = commits_of log (main_line c)
 
-        over : c.transaction ≡ None → (N : Intent) (v : Verdict) (o : Option Refusal) → refusal_over v N c ≡ o → Unless o c c' a (IsUndone (opening_document h) list rev c c' a) → GoesOn log cs i c c'
-        over none N v (Some why) e done = stays c' done.0
-        over none N v None e done = goes_as (with_new_commit c done.0) c' done.2 (undone_goes rev done.0 none (no_limit v N c e).2 done.1)
+        in_list : (N : Intent) (D : Document) (v : Verdict) → IsAt (opening_document h) list rev N D v → Has list N
+        in_list N D v x = subst (λ l. Has l N) (sym x.list) (append_right x.front (N ∷ x.rest) N (inl refl))
+
+        -- the commit that is undone is the one of that revision
+        one_of_rev : (N : Intent) (D : Document) (v : Verdict) → IsAt (opening_document h) list rev N D v → is_some N.schema ≡ false → (B : Intent) (u : IsUndoing (opening_document h) list rev (next_rev c) B) → u.commit.schema ≡ None
+        one_of_rev N D v x e B u =
+            let once = (main_in_order h st log c k).1.once in
+            let same : u.commit ≡ N = distinct-has (λ (M : Intent). M.rev) list u.commit N once (in_list u.commit u.before Verdict.Sound u.is_at) (in_list N D v x) (u.is_at.named ∙ sym x.named) in
+            ap (λ (M : Intent). M.schema) same ∙ none_of N.schema e
+
+        over : c.transaction ≡ None → (N : Intent) (D : Document) (v : Verdict) → IsAt (opening_document h) list rev N D v → (o : Option Refusal) → refusal_over v N c ≡ o → Unless o c c' a (IsUndone (opening_document h) list rev c c' a)
+            → GoesOn log cs i c c'
+        over none N D v x (Some why) e done = stays c' done.0
+        over none N D v x None e done = let p = no_limit v N c e in goes_as (with_new_commit c done.0) c' done.2 (undone_goes rev done.0 none p.2 done.1 (one_of_rev N D v x p.1 done.0 done.1))
 
         of_rev : c.transaction ≡ None → (o : Option Refusal) → Unless o c c' a (IsUndoneAt (opening_document h) list rev c c' a) → GoesOn log cs i c c'
         of_rev none (Some why) done = stays c' done.0
-        of_rev none None done = over none done.0 done.2 (refusal_over done.2 done.0 c) refl done.4
+        of_rev none None done = over none done.0 done.1 done.2 done.3 (refusal_over done.2 done.0 c) refl done.4
 
         go : (o : Option Transaction) → c.transaction ≡ o → IsAfterUndo (opening_document h) history log c o rev c' a → GoesOn log cs i c c'
         go (Some t) is done = stays c' done.0
         go None none done = of_rev none (refusal_of_rev history log c list rev) done
 
     pub ack_goes : (c' : Client) → c.connected ≡ true → c' ≡ with_ack c → GoesOn log cs i c c'
-    ack_goes c' on same = goes_as (with_ack c) c' same (record { client = client_acked h st log c on k; session = refl; connected = refl; ids = omega arith; forks = omega arith; keeps = acked_keeps h st log cs i c at keeps })
+    ack_goes c' on same = goes_as (with_ack c) c' same (record { client = client_acked h st log c on k; session = refl; connected = refl; ids = omega arith; forks = omega arith; keeps = acked_keeps h st K log cs i c at keeps })
 
     pub delivery_goes : (c' : Client) (D : Document) (a : Answer) → IsDeliveredIn D c c.transaction (slice_get log c.received) c' a → GoesOn log cs i c c'
     delivery_goes c' D a done = go c.transaction refl done
@@ -395,15 +426,17 @@ module _ (h : HeaderView) (st : IsStart (opening_document h)) where
         go (Some t) is done = stays c' done.0
         go None none done =
             let on = near_delivered c c' D (slice_get log c.received) a done in
+            let next = client_delivered h st log c c' D a k few none done in
             record {
-              client = client_delivered log c c' D a k few none done;
+              client = next;
               session = on.session;
               connected = on.connected;
               ids = on.ids;
               forks = on.forks;
-              keeps = delivered_keeps h st log cs i c c' D a are few at none done keeps;
+              keeps = delivered_keeps h st K log cs i c c' D a are next at none done keeps;
             }
 
+module _ (h : HeaderView) (st : IsStart (opening_document h)) where
   -- ## The oldest text of a client is in the log
 
   module _ (log : List Entry) (c : Client) (text : Body) (rest : List Body) (own : IsClient h log c) (is : c.queue ≡ text ∷ rest) (few : names_in (commits_in log) + names_in_text text ≤ 131072) where
@@ -441,7 +474,7 @@ sent_sound h w i c text rest s at is few =
       log = AllByRecursion-append IsEntryOf w.log (last_entry w.log c.session text ∷ []) s.log (last.session, tt);
       log_fit = subst (FitInTurn (opening_document h)) commits last.fit;
       log_new = subst (HaveNewRevisions (opening ∷ [])) commits last.new;
-      schema = sent_keeps h st w.log w.clients i c c' text s.clients at is refl last.fit s.schema;
+      schema = sent_keeps h st Any w.log w.clients i c c' text s.clients at is refl last.fit last.new s.schema;
       few_names = omega (arith, few, names);
     }
 
@@ -469,7 +502,7 @@ joined_sound h w name s =
       log = AllByRecursion-append IsEntryOf w.log (last_entry w.log session Join ∷ []) s.log (tt, tt);
       log_fit = subst (FitInTurn (opening_document h)) commits s.log_fit;
       log_new = subst (HaveNewRevisions (opening ∷ [])) commits s.log_new;
-      schema = joined_keeps h st w.log w.clients session name c s.clients refl s.schema;
+      schema = joined_keeps h st Any w.log w.clients session name c s.clients refl s.schema;
       few_names = omega (arith, s.few_names, ap names_in commits);
     }
 
@@ -487,7 +520,7 @@ module _ (h : HeaderView) (w : WorldState) (i : ℕ) (c : Client) (body : Body) 
   others : AllByRecursion (IsClient h log_after) w.clients
   others = all_as (IsClient h w.log) (IsClient h log_after) w.clients (λ d k. client_after_text h st w.log c.session body d none k) s.clients
 
-  pub entered_sound : (cs : List Client) → AllByRecursion (IsClient h log_after) cs → HaveOwnSessions cs → AllByRecursion (λ (x : Client). x.session ≤ sessions_in log_after) cs → KeepToSchema h log_after cs → AreSound h (record w { log = log_after; clients = cs })
+  pub entered_sound : (cs : List Client) → AllByRecursion (IsClient h log_after) cs → HaveOwnSessions cs → AllByRecursion (λ (x : Client). x.session ≤ sessions_in log_after) cs → KeepToSchemas h Any log_after cs → AreSound h (record w { log = log_after; clients = cs })
   entered_sound cs clients sessions given keeps = record {
     header = s.header;
     clients = clients;
@@ -500,28 +533,28 @@ module _ (h : HeaderView) (w : WorldState) (i : ℕ) (c : Client) (body : Body) 
     few_names = omega (arith, s.few_names, ap names_in commits);
   }
 
-  pub set_after : (c' : Client) → c'.session ≡ c.session → IsClient h log_after c' → KeepToSchema h log_after (slice_set w.clients i c') → AreSound h (record w { log = log_after; clients = slice_set w.clients i c' })
+  pub set_after : (c' : Client) → c'.session ≡ c.session → IsClient h log_after c' → KeepToSchemas h Any log_after (slice_set w.clients i c') → AreSound h (record w { log = log_after; clients = slice_set w.clients i c' })
   set_after c' session client keeps =
       let low = all_get (λ (x : Client). x.session ≤ sessions_in w.log) w.clients i c s.given at in
       entered_sound (slice_set w.clients i c') (all_set (IsClient h log_after) w.clients i c' others client) (distinct_set session_of w.clients i c c' at session s.sessions)
       (all_set (λ (x : Client). x.session ≤ sessions_in log_after) w.clients i c' (given_still w.log c.session body w.clients s.given) (omega (arith, low, session, sessions_entered w.log c.session body))) keeps
 
-  pub gone_after : KeepToSchema h log_after (remove w.clients i) → AreSound h (record w { log = log_after; clients = remove w.clients i })
+  pub gone_after : KeepToSchemas h Any log_after (remove w.clients i) → AreSound h (record w { log = log_after; clients = remove w.clients i })
   gone_after keeps =
       entered_sound (remove w.clients i) (all_rest (IsClient h log_after) w.clients i others) (distinct_rest session_of w.clients i s.sessions)
       (all_rest (λ (x : Client). x.session ≤ sessions_in log_after) w.clients i (given_still w.log c.session body w.clients s.given)) keeps
 
 pub left_sound : (h : HeaderView) (w : WorldState) (i : ℕ) (c : Client) → AreSound h w → slice_get w.clients i ≡ Some c → AreSound h (record w { log = log_with w.log c.session Leave; clients = remove w.clients i })
-left_sound h w i c s at = gone_after h w i c Leave s at refl (left_keeps h (opened_start h s.header) w.log w.clients i c.session s.clients s.schema)
+left_sound h w i c s at = gone_after h w i c Leave s at refl (left_keeps h (opened_start h s.header) Any w.log w.clients i c.session s.clients s.schema)
 
 pub dropped_sound : (h : HeaderView) (w : WorldState) (i : ℕ) (c : Client) → AreSound h w → slice_get w.clients i ≡ Some c → AreSound h (record w { log = log_with w.log c.session Leave; clients = slice_set w.clients i (without_connection c) })
 dropped_sound h w i c s at =
     let st = opened_start h s.header in
     let k = all_get (IsClient h w.log) w.clients i c s.clients at in
-    set_after h w i c Leave s at refl (without_connection c) refl (client_offline h st (log_with w.log c.session Leave) c (client_after_text h st w.log c.session Leave c refl k)) (dropped_keeps h st w.log w.clients i c s.clients at s.schema)
+    set_after h w i c Leave s at refl (without_connection c) refl (client_offline h st (log_with w.log c.session Leave) c (client_after_text h st w.log c.session Leave c refl k)) (dropped_keeps h st Any w.log w.clients i c s.clients at s.schema)
 
 pub returned_sound : (h : HeaderView) (w : WorldState) (i : ℕ) (c : Client) → AreSound h w → slice_get w.clients i ≡ Some c → c.transaction ≡ None → AreSound h (record w { log = log_with w.log c.session Join; clients = slice_set w.clients i (with_connection w.log c) })
 returned_sound h w i c s at none =
     let st = opened_start h s.header in
     let k = all_get (IsClient h w.log) w.clients i c s.clients at in
-    set_after h w i c Join s at refl (with_connection w.log c) refl (client_returned h st w.log c k none) (returned_keeps h st w.log w.clients i c s.clients at none s.schema)
+    set_after h w i c Join s at refl (with_connection w.log c) refl (client_returned h st w.log c k none) (returned_keeps h st Any w.log w.clients i c s.clients at none s.schema)

@@ -1,13 +1,15 @@
 -- From lists of which holds what steps keep, each step leads on: there are next lists, of which the same holds, and an answer.
-use Rattle.std.proofs.Common.{Bool, Err, IfSome, IsSome, List, None, Ok, Option, Result, Some, [], cond, false, inl, inr, length, map, nat_le, refl, subst, true, ℕ, ◌++◌, ◌+◌, ◌∷◌, ◌≡◌, ◌⊎◌}
+use Rattle.st_upgrade_laws.specs.Agreeing.{schema_in_effect}
+use Rattle.std.proofs.lemmas.Bool.Decides.{nat_tests}
+use Rattle.std.proofs.Common.{is_some, Bool, Err, IfSome, IsSome, List, None, Ok, Option, Result, Some, [], cond, false, inl, inr, length, map, nat_le, refl, subst, true, ℕ, ◌++◌, ◌+◌, ◌∷◌, ◌≡◌, ◌⊎◌, ap, sym, ◌<◌, arith}
 use Rattle.std.specs.Option.{option_and_then, option_map_or, option_or}
 use Rattle.std.specs.Prelude.{option_map}
-use Rattle.st_lists.specs.Clients.{HasReceived, new_client, place_of, received_by, with_ack, with_edited, with_received}
-use Rattle.st_lists.specs.Lines.{HasHead, Line, commits_of, edited_on, line_of, with_transaction_on}
-use Rattle.st_trace.proofs.Going.{AreSound, GoesOn, LineGoes, ack_goes, delivery_goes, dropped_sound, joined_sound, left_sound, lists_sound, meant_in, returned_sound, sent_sound, set_sound, undo_goes}
+use Rattle.st_lists.specs.Clients.{HasReceived, next_rev, new_client, place_of, received_by, with_ack, with_edited, with_received, joined_of, with_new_commit}
+use Rattle.st_lists.specs.Lines.{HasHead, Line, commits_of, edited_on, line_of, with_transaction_on, main_line}
+use Rattle.st_trace.proofs.Going.{Any, AreSound, GoesOn, LineGoes, ack_goes, delivery_goes, dropped_sound, joined_sound, left_sound, lists_sound, meant_in, returned_sound, sent_sound, set_sound, undo_goes, main_goes}
 use Rattle.st_trace.proofs.Parts.{next_joined}
 use Rattle.st_trace.specs.Replicas.{IsClient, IsSound, IsTransaction}
-use Rattle.st_trace.specs.World.{AtClient, ByConnected, HasShown, IsActOf, IsAfterEdit, IsAfterNeed, IsBegun, IsBranchDropped, IsDelivered, IsDeliveredIn, IsDeliveredTo, IsDoneIn, IsEdited, IsEditedIn, IsForked, IsJoined, IsMergedBy, IsNeeded, IsNext, IsRebasedBy, IsShown, IsUndoneBy, IsVerdictOf, OnLine, abort, act_of_none, after_edit, after_entry, answer_of, begin, branch_at, cells_given, commit, drop_client, intent_of, join, last_in_effect, leave, limit_refusal, needs_connection, next_names, opening_document, reconnect, refusal_of, refusal_to_reconnect, sequence, with_client, word_of}
+use Rattle.st_trace.specs.World.{AtClient, ByConnected, HasShown, IsActOf, IsAfterEdit, IsAfterNeed, IsBegun, IsBranchDropped, IsDelivered, IsDeliveredIn, IsDeliveredTo, IsDoneIn, IsEdited, IsEditedIn, IsForked, IsJoined, IsMergedBy, IsNeeded, IsNext, IsRebasedBy, IsShown, IsUndoneBy, IsVerdictOf, OnLine, abort, act_of_none, after_edit, after_entry, answer_of, begin, branch_at, cells_given, commit, drop_client, intent_of, join, last_in_effect, leave, limit_refusal, needs_connection, next_names, opening_document, reconnect, refusal_of, refusal_to_reconnect, sequence, with_client, word_of, IsUpgradedBy}
 use Rattle.std.specs.List.{find, slice_get, slice_set}
 use Rattle.serde_json.specs.Written.{compact_text}
 use Rattle.st_ids.specs.Listing.{Has}
@@ -40,13 +42,13 @@ use Rattle.st_script.specs.Header.{HeaderView, header_view}
 use Rattle.st_script.specs.Steps.{ActView, EditView, StepView}
 use Rattle.st_script.specs.Steps as step
 use Rattle.st_script.specs.declared.answer.Answer.{Answer}
-use Rattle.st_script.specs.declared.answer.Answer.TheVariants.{Ack, Deliver, Join as Joins, No, Show}
+use Rattle.st_script.specs.declared.answer.Answer.TheVariants.{Ack, Deliver, Join as Joins, No, Show, Upgrade as Upgrades}
 use Rattle.st_script.specs.declared.refusal.Refusal.{Refusal}
 use Rattle.st_script.specs.declared.refusal.Refusal.TheVariants.{Limit as OverLimit, NoBranch, NoClient, NotBegun, NotConnected, NothingNew, NothingToSend, Taken, Unfinished}
 use Rattle.st_heads.specs.Transactions.{with_open}
 use Rattle.st_lists.specs.declared.lists.Transaction.{Transaction}
 use Rattle.st_lists.specs.Log.{commit_of, log_with, sessions_in}
-use Rattle.st_lists.specs.Limits.{entries_limit_passed, log_limit_passed, names_limit_passed}
+use Rattle.st_lists.specs.Limits.{entries_limit_passed, log_limit_passed, names_limit_passed, pending_limit_passed}
 use Rattle.st_lists.specs.Names.{names_in_text}
 use Rattle.st_trace.specs.declared.client.EditWord.{EditWord}
 use Rattle.st_lists.specs.declared.lists.Body.TheVariants.{Join}
@@ -63,6 +65,13 @@ use Rattle.st_trace.proofs.Undoing.{has_undo}
 use Rattle.st_trace.proofs.Meant.{IsMeaning, IsMeant, edit_means, need_means}
 use Rattle.st_trace.proofs.Stepping.{may_reconnect, within_log}
 use Rattle.st_lists.specs.declared.lists.Body.{Body}
+use Rattle.st_trace.proofs.Agreed.{same_keeps}
+use Rattle.st_schema.specs.declared.names.NotWider.{NotWider}
+use Rattle.st_ids.specs.declared.names.LimitOf.TheVariants.{Schemas}
+use Rattle.st_schema.specs.Wider.{wider_of}
+use Rattle.st_trace.specs.Upgrade.{change_of_schema, refusal_to_upgrade, upgrade, refusal_of_narrowing}
+use Rattle.st_trace.proofs.Upgrading.{upgrade_goes}
+use Rattle.st_schema.specs.Schema.{is_sound, SchemaView}
 
 -- ## The nodes of a document can be listed
 
@@ -134,12 +143,46 @@ open_listed D (Some J) ns all = (ns ++ map (λ (m : NewNode). m.node) J.new, λ 
     either n (inl h) = append_left ns (map (λ (m : NewNode). m.node) J.new) n (all n h)
     either n (inr h) = append_right ns (map (λ (m : NewNode). m.node) J.new) n (new_listed J n h)
 
+-- an act that changes the schema brings one that keeps the rules
+abbrev pub KeepsRules : ActView → Type 0
+KeepsRules (step.upgrade new) = is_sound new ≡ true
+KeepsRules act = Unit {0}
+
+-- what lets a client upgrade
+pub record MayUpgrade (c : Client) (old : SchemaView) (in_effect : ℕ) (new : SchemaView) : Type 0 where
+  pub none : c.transaction ≡ None
+  pub wide : wider_of old new ≡ Ok tt
+  pub room : pending_limit_passed c ≡ None
+  pub few : in_effect < 64
+
+pub may_upgrade : (c : Client) (old : SchemaView) (in_effect : ℕ) (new : SchemaView) → refusal_to_upgrade c old in_effect new ≡ None → MayUpgrade c old in_effect new
+may_upgrade c old in_effect new e = go c.transaction refl (wider_of old new) refl (nat_le 64 in_effect) refl (pending_limit_passed c) refl e
+  where
+    under : nat_le 64 in_effect ≡ false → in_effect < 64
+    under q = grind (arith, nat_tests)
+
+    go : (t : Option Transaction) → c.transaction ≡ t → (r : Result (Unit {0}) NotWider) → wider_of old new ≡ r → (b : Bool) → nat_le 64 in_effect ≡ b → (p : Option Limit) → pending_limit_passed c ≡ p
+        → ◌≡◌ {A = Option Refusal} (cond (is_some t) (Some Unfinished) (option_or (refusal_of_narrowing r) (option_map (λ l. OverLimit l) (option_or (cond b (Some (record { of = Schemas; kept = in_effect })) None) p)))) None
+        → MayUpgrade c old in_effect new
+    go (Some t) q r wide b few p room e = absurd (cc)
+    go None q (Err f) wide b few p room e = absurd (cc)
+    go None q (Ok u) wide true few p room e = absurd (cc)
+    go None q (Ok u) wide false few (Some l) room e = absurd (cc)
+    go None q (Ok u) wide false few None room e = record { none = q; wide = wide; room = room; few = under few }
+
 -- ## The steps of a client that is there
 
 module _ (h : HeaderView) (w : WorldState) (s : AreSound h w) where
   -- next lists, an answer, and that the same holds
   abbrev pub Leads : (WorldState → Answer → Type 0) → Type 0
   Leads is_next = (v : WorldState) × (a : Answer) × is_next v a × AreSound h v
+
+  -- next lists and an answer, and that the same holds under a condition
+  abbrev pub LeadsIf : Type 0 → (WorldState → Answer → Type 0) → Type 0
+  LeadsIf P is_next = (v : WorldState) × (a : Answer) × is_next v a × (P → AreSound h v)
+
+  anyway : (P : Type 0) (is_next : WorldState → Answer → Type 0) → Leads is_next → LeadsIf P is_next
+  anyway P is_next r = (r.0, r.1, r.2, λ p. r.3)
 
   abbrev stays : (a : Answer) → Leads (λ v b. (v ≡ w) × (b ≡ a))
   stays a = (w, a, (refl, refl), s)
@@ -148,7 +191,7 @@ module _ (h : HeaderView) (w : WorldState) (s : AreSound h w) where
   st = opened_start h s.header
 
   -- on a line on which a client goes on
-  module _ (i : ℕ) (c : Client) (at : slice_get w.clients i ≡ Some c) (k : ℕ) (l : Line) (g : LineGoes h st w.log w.clients i c k l) where
+  module _ (i : ℕ) (c : Client) (at : slice_get w.clients i ≡ Some c) (k : ℕ) (l : Line) (g : LineGoes h st Any w.log w.clients i c k l) where
     head : (D : Document) × HasHead (opening_document h) w.log l D
     head = has_run (commits_of w.log l) (opening_document h) st.sound g.fit
 
@@ -159,16 +202,16 @@ module _ (h : HeaderView) (w : WorldState) (s : AreSound h w) where
     shown : HasShown (opening_document h) w.log l E
     shown = (head.0, head.1, refl)
 
-    goes : (does : Document → Client → Answer → Type 0) (d : Client) (a : Answer) → does E d a → GoesOn h st w.log w.clients i c d → Leads (IsDoneIn h w i l does)
+    goes : (does : Document → Client → Answer → Type 0) (d : Client) (a : Answer) → does E d a → GoesOn h st Any w.log w.clients i c d → Leads (IsDoneIn h w i l does)
     goes does d a so x = (record w { clients = slice_set w.clients i d }, a, (E, d, shown, so, refl), set_sound h w i c d s at x.client x.session x.keeps)
 
     -- an edit in the transaction that is open
-    edited_in : (t : Transaction) (word : EditWord) (r : Result Intent EditFault) → l.transaction ≡ Some t → IsTransaction h w.log l c t → IsMeaning h.schema (with_open head.0 t.joined) (next_names c (Some t)) word r → (d : Client) × (a : Answer) × IsEditedIn c k t word r d a
+    edited_in : (t : Transaction) (word : EditWord) (r : Result Intent EditFault) → l.transaction ≡ Some t → IsTransaction h w.log l c t → IsMeaning (with_open head.0 t.joined) (next_names c (Some t)) word r → (d : Client) × (a : Answer) × IsEditedIn c k t word r d a
     edited_in t word (Err f) is x means = (c, No (refusal_of f), (refl, refl))
     edited_in t word (Ok M) is x means = go (names_limit_passed c M)
       where
-        m : IsMeant h.schema (with_open x.before t.joined) (next_names c (Some t)) word M
-        m = meant_in h st w.log w.clients s.sessions s.clients s.few_names s.schema i c at l (with_open head.0 t.joined) t word M x head.0 head.1 refl (means M refl)
+        m : IsMeant (with_open x.before t.joined) (next_names c (Some t)) word M
+        m = meant_in h st Any w.log w.clients s.sessions s.clients s.few_names s.schema i c at l (with_open head.0 t.joined) t word M x head.0 head.1 refl (means M refl)
 
         go : (o : Option Limit) → (d : Client) × (a : Answer) × IsJoined c k t word M o d a
         go (Some over) = (c, No (OverLimit over), (refl, refl))
@@ -176,17 +219,17 @@ module _ (h : HeaderView) (w : WorldState) (s : AreSound h w) where
             let J = next_joined h st w.log l c t word M g.fit (g.room t is) x m in
             (with_transaction_on c k (Some (with_edited t J.0 (length M.new) (cells_given word M))), answer_of word t.rev, (J.0, J.1, refl, refl))
 
-    meaning_at : (word : EditWord) (r : Result Intent EditFault) (o : Option Transaction) → l.transaction ≡ o → IsMeaning h.schema E (next_names c l.transaction) word r → IsMeaning h.schema (with_open head.0 (option_and_then (λ (t : Transaction). t.joined) o)) (next_names c o) word r
-    meaning_at word r o is means = subst (λ (o : Option Transaction). IsMeaning h.schema (with_open head.0 (option_and_then (λ (t : Transaction). t.joined) o)) (next_names c o) word r) is means
+    meaning_at : (word : EditWord) (r : Result Intent EditFault) (o : Option Transaction) → l.transaction ≡ o → IsMeaning E (next_names c l.transaction) word r → IsMeaning (with_open head.0 (option_and_then (λ (t : Transaction). t.joined) o)) (next_names c o) word r
+    meaning_at word r o is means = subst (λ (o : Option Transaction). IsMeaning (with_open head.0 (option_and_then (λ (t : Transaction). t.joined) o)) (next_names c o) word r) is means
 
-    after : (word : EditWord) (r : Result Intent EditFault) → IsMeaning h.schema E (next_names c l.transaction) word r → (d : Client) × (a : Answer) × IsAfterEdit c k l l.transaction word r d a
+    after : (word : EditWord) (r : Result Intent EditFault) → IsMeaning E (next_names c l.transaction) word r → (d : Client) × (a : Answer) × IsAfterEdit c k l l.transaction word r d a
     after word r means = go l.transaction refl g.transaction
       where
         go : (o : Option Transaction) → l.transaction ≡ o → IfSome o (IsTransaction h w.log l c) → (d : Client) × (a : Answer) × IsAfterEdit c k l o word r d a
         go None is x = let p = after_edit c k l word r in (p.0, p.1, refl)
         go (Some t) is x = edited_in t word r is x (meaning_at word r (Some t) is means)
 
-    after_need : (r : Result Intent EditFault) → IsMeaning h.schema E (next_names c l.transaction) EditWord.Need r → (d : Client) × (a : Answer) × IsAfterNeed c k l.transaction r d a
+    after_need : (r : Result Intent EditFault) → IsMeaning E (next_names c l.transaction) EditWord.Need r → (d : Client) × (a : Answer) × IsAfterNeed c k l.transaction r d a
     after_need r means = go l.transaction refl g.transaction
       where
         go : (o : Option Transaction) → l.transaction ≡ o → IfSome o (IsTransaction h w.log l c) → (d : Client) × (a : Answer) × IsAfterNeed c k o r d a
@@ -195,15 +238,15 @@ module _ (h : HeaderView) (w : WorldState) (s : AreSound h w) where
 
     has_edited : (e : EditView) → Leads (IsEdited h w i c k l e)
     has_edited e =
-        let r = intent_of E h.schema (next_names c l.transaction) e in
-        let means = edit_means h.schema s.header.schema E (next_names c l.transaction) (g.editable E shown) e in
+        let r = intent_of E (schema_in_effect E) (next_names c l.transaction) e in
+        let means = edit_means E (next_names c l.transaction) (g.editable E shown) (g.schema E shown) e in
         let d = after (word_of e) r means in
-        goes (λ D. IsAfterEdit c k l l.transaction (word_of e) (intent_of D h.schema (next_names c l.transaction) e)) d.0 d.1 d.2 (g.edits d.0 E (word_of e) r d.1 shown means d.2)
+        goes (λ D. IsAfterEdit c k l l.transaction (word_of e) (intent_of D (schema_in_effect D) (next_names c l.transaction) e)) d.0 d.1 d.2 (g.edits d.0 E (word_of e) r d.1 shown means d.2)
 
     has_needed : (path : List Place) → Leads (IsNeeded h w i c k l path)
     has_needed path =
         let r = need E (next_names c l.transaction) path in
-        let means = need_means h.schema s.header.schema E (next_names c l.transaction) (g.editable E shown) path in
+        let means = need_means E (next_names c l.transaction) (g.editable E shown) (g.schema E shown) path in
         let d = after_need r means in
         goes (λ D. IsAfterNeed c k l.transaction (need D (next_names c l.transaction) path)) d.0 d.1 d.2 (g.needs d.0 E r d.1 shown means d.2)
 
@@ -229,7 +272,7 @@ module _ (h : HeaderView) (w : WorldState) (s : AreSound h w) where
         let known = start_listed h (commits_of w.log l) head.0 head.1 in
         let listed = open_listed head.0 (edited_on l) known.0 known.1 in
         let sound = (g.editable E shown).sound in
-        let t = node_shows (is_array_type h.schema) E sound listed.0 listed.1 root sound.root_known in
+        let t = node_shows (is_array_type (schema_in_effect E)) E sound listed.0 listed.1 root sound.root_known in
         (Show (compact_text t.0), (E, compact_text t.0, shown, (t.0, t.1, refl), refl))
 
   -- the steps of a client as a whole
@@ -243,16 +286,38 @@ module _ (h : HeaderView) (w : WorldState) (s : AreSound h w) where
     has_undone : (rev : Rev) → Leads (IsUndoneBy h w i c rev)
     has_undone rev =
         let r = after_undo c.transaction in
-        let g = undo_goes h st w.log w.clients s.sessions s.clients s.few_names s.schema i c at r.0 h.history rev r.1 r.2 in
+        let g = undo_goes h st Any w.log w.clients s.sessions s.clients s.few_names s.schema i c at r.0 h.history rev r.1 r.2 in
         (record w { clients = slice_set w.clients i r.0 }, r.1, (r.0, r.2, refl), set_sound h w i c r.0 s at g.client g.session g.keeps)
       where
         after_undo : (o : Option Transaction) → (d : Client) × (a : Answer) × IsAfterUndo (opening_document h) h.history w.log c o rev d a
         after_undo (Some t) = (c, No Unfinished, (refl, refl))
         after_undo None = has_undo (opening_document h) h.history w.log c rev st.sound client.shown_fit
 
+    has_upgraded : (new : SchemaView) → LineGoes h st Any w.log w.clients i c 0 (main_line c) → LeadsIf (is_sound new ≡ true) (IsUpgradedBy h w i c new)
+    has_upgraded new g =
+        let D = has_run (commits_of w.log (main_line c)) (opening_document h) st.sound g.fit in
+        let E = with_open D.0 (joined_of c) in
+        go E D.0 (D.0, D.1, refl) D.1 (λ none. ap (with_open D.0) (ap (option_and_then (λ (t : Transaction). t.joined)) none)) (refusal_to_upgrade c (schema_in_effect E) (length E.schemas) new) refl
+      where
+        go : (E D : Document) → HasShown (opening_document h) w.log (main_line c) E → HasHead (opening_document h) w.log (main_line c) D → (c.transaction ≡ None → E ≡ D) → (o : Option Refusal) → refusal_to_upgrade c (schema_in_effect E) (length E.schemas) new ≡ o
+            → LeadsIf (is_sound new ≡ true) (IsUpgradedBy h w i c new)
+        go E D shown head closed (Some why) e =
+            (record w { clients = slice_set w.clients i c }, No why, (E, c, shown, ap (upgrade c (change_of_schema (next_rev c) (last_in_effect E) new)) e, refl), λ sound. set_sound h w i c c s at client refl (same_keeps h st Any w.log w.clients i c c at refl s.schema))
+        go E D shown head closed None e =
+            let may = may_upgrade c (schema_in_effect E) (length E.schemas) new e in
+            let there : D ≡ E = sym (closed may.none) in
+            let N = change_of_schema (next_rev c) (last_in_effect E) new in (
+              record w { clients = slice_set w.clients i (with_new_commit c N) },
+              Upgrades (next_rev c),
+              (E, with_new_commit c N, shown, ap (upgrade c N) e, refl),
+              λ sound.
+                  let g = upgrade_goes h st Any w.log w.clients s.sessions s.clients s.few_names s.schema i c at may.none may.room E (subst (HasHead (opening_document h) w.log (main_line c)) there head) new sound may.wide Any (λ r t apart k. tt) tt in
+                  set_sound h w i c (with_new_commit c N) s at g.client g.session g.keeps,
+            )
+
     has_acked : c.connected ≡ true → Leads (λ v a. with_client w i (with_ack c, Ack c.received) ≡ (v, a))
     has_acked on =
-        let g = ack_goes h st w.log w.clients s.sessions s.clients s.few_names s.schema i c at (with_ack c) on refl in
+        let g = ack_goes h st Any w.log w.clients s.sessions s.clients s.few_names s.schema i c at (with_ack c) on refl in
         (record w { clients = slice_set w.clients i (with_ack c) }, Ack c.received, refl, set_sound h w i c (with_ack c) s at g.client g.session g.keeps)
 
     verdict_of : (D : Document) (o : Option Intent) → IsSoundInForm D → (v : Verdict) × IsVerdictOf D o v
@@ -271,7 +336,7 @@ module _ (h : HeaderView) (w : WorldState) (s : AreSound h w) where
     has_delivered =
         let D = received.0 in
         let r = has_delivery_in D c.transaction (received_sound h st w.log c D client received.1) in
-        let g = delivery_goes h st w.log w.clients s.sessions s.clients s.few_names s.schema i c at r.0 D r.1 r.2 in
+        let g = delivery_goes h st Any w.log w.clients s.sessions s.clients s.few_names s.schema i c at r.0 D r.1 r.2 in
         (record w { clients = slice_set w.clients i r.0 }, r.1, (D, r.0, received.1, r.2, refl), set_sound h w i c r.0 s at g.client g.session g.keeps)
 
     has_sent : (texts : List Body) → c.queue ≡ texts → Leads (λ v a. sequence w i c texts ≡ (v, a))
@@ -329,25 +394,26 @@ module _ (h : HeaderView) (w : WorldState) (s : AreSound h w) where
     pub merges : Leads (IsMergedBy h w i c k)
     pub drops : Leads (IsBranchDropped w i c k)
 
-  has_act_of : (x : ActView) (i : ℕ) (c : Client) (k : ℕ) (l : Line) → slice_get w.clients i ≡ Some c → LineGoes h st w.log w.clients i c k l → BranchesLead i c k l → (needs_connection x ≡ true → c.connected ≡ true) → Leads (IsActOf h w x i c k l)
-  has_act_of step.join i c k l at g b on = stays (No Taken)
-  has_act_of (step.edit e) i c k l at g b on = has_edited i c at k l g e
-  has_act_of (step.need path) i c k l at g b on = has_needed i c at k l g path
-  has_act_of step.begin i c k l at g b on = has_begun i c at k l g
-  has_act_of step.commit i c k l at g b on = has_committed i c at k l g
-  has_act_of step.abort i c k l at g b on = has_aborted i c at k l g
-  has_act_of (step.undo rev) i c k l at g b on = has_undone i c at rev
-  has_act_of step.sequence i c k l at g b on = has_sent i c at c.queue refl
-  has_act_of step.ack i c k l at g b on = has_acked i c at (on refl)
-  has_act_of step.deliver i c k l at g b on = has_delivered i c at
-  has_act_of step.leave i c k l at g b on = has_left i c at
-  has_act_of step.drop_client i c k l at g b on = has_dropped i c at
-  has_act_of step.reconnect i c k l at g b on = has_returned i c at
-  has_act_of step.fork i c k l at g b on = b.forks
-  has_act_of step.rebase i c k l at g b on = b.rebases
-  has_act_of step.merge i c k l at g b on = b.merges
-  has_act_of step.drop_branch i c k l at g b on = b.drops
-  has_act_of step.show i c k l at g b on = let r = has_shown i c at k l g in (w, r.0, (refl, r.1), s)
+  has_act_of : (x : ActView) (i : ℕ) (c : Client) (k : ℕ) (l : Line) → slice_get w.clients i ≡ Some c → LineGoes h st Any w.log w.clients i c k l → BranchesLead i c k l → (needs_connection x ≡ true → c.connected ≡ true) → LeadsIf (KeepsRules x) (IsActOf h w x i c k l)
+  has_act_of step.join i c k l at g b on = anyway (KeepsRules step.join) (IsActOf h w step.join i c k l) (stays (No Taken))
+  has_act_of (step.edit e) i c k l at g b on = anyway (KeepsRules (step.edit e)) (IsActOf h w (step.edit e) i c k l) (has_edited i c at k l g e)
+  has_act_of (step.need path) i c k l at g b on = anyway (KeepsRules (step.need path)) (IsActOf h w (step.need path) i c k l) (has_needed i c at k l g path)
+  has_act_of step.begin i c k l at g b on = anyway (KeepsRules step.begin) (IsActOf h w step.begin i c k l) (has_begun i c at k l g)
+  has_act_of step.commit i c k l at g b on = anyway (KeepsRules step.commit) (IsActOf h w step.commit i c k l) (has_committed i c at k l g)
+  has_act_of step.abort i c k l at g b on = anyway (KeepsRules step.abort) (IsActOf h w step.abort i c k l) (has_aborted i c at k l g)
+  has_act_of (step.undo rev) i c k l at g b on = anyway (KeepsRules (step.undo rev)) (IsActOf h w (step.undo rev) i c k l) (has_undone i c at rev)
+  has_act_of (step.upgrade new) i c k l at g b on = has_upgraded i c at new (main_goes h st Any w.log w.clients s.sessions s.clients s.few_names s.schema i c at)
+  has_act_of step.sequence i c k l at g b on = anyway (KeepsRules step.sequence) (IsActOf h w step.sequence i c k l) (has_sent i c at c.queue refl)
+  has_act_of step.ack i c k l at g b on = anyway (KeepsRules step.ack) (IsActOf h w step.ack i c k l) (has_acked i c at (on refl))
+  has_act_of step.deliver i c k l at g b on = anyway (KeepsRules step.deliver) (IsActOf h w step.deliver i c k l) (has_delivered i c at)
+  has_act_of step.leave i c k l at g b on = anyway (KeepsRules step.leave) (IsActOf h w step.leave i c k l) (has_left i c at)
+  has_act_of step.drop_client i c k l at g b on = anyway (KeepsRules step.drop_client) (IsActOf h w step.drop_client i c k l) (has_dropped i c at)
+  has_act_of step.reconnect i c k l at g b on = anyway (KeepsRules step.reconnect) (IsActOf h w step.reconnect i c k l) (has_returned i c at)
+  has_act_of step.fork i c k l at g b on = anyway (KeepsRules step.fork) (IsActOf h w step.fork i c k l) (b.forks)
+  has_act_of step.rebase i c k l at g b on = anyway (KeepsRules step.rebase) (IsActOf h w step.rebase i c k l) (b.rebases)
+  has_act_of step.merge i c k l at g b on = anyway (KeepsRules step.merge) (IsActOf h w step.merge i c k l) (b.merges)
+  has_act_of step.drop_branch i c k l at g b on = anyway (KeepsRules step.drop_branch) (IsActOf h w step.drop_branch i c k l) (b.drops)
+  has_act_of step.show i c k l at g b on = anyway (KeepsRules step.show) (IsActOf h w step.show i c k l) (let r = has_shown i c at k l g in (w, r.0, (refl, r.1), s))
 
   has_act_of_none : (name : List ℕ) (x : ActView) → Leads (λ v a. act_of_none w name x ≡ (v, a))
   has_act_of_none name step.join = has_joined name
@@ -357,6 +423,7 @@ module _ (h : HeaderView) (w : WorldState) (s : AreSound h w) where
   has_act_of_none name step.commit = (w, No NoClient, refl, s)
   has_act_of_none name step.abort = (w, No NoClient, refl, s)
   has_act_of_none name (step.undo rev) = (w, No NoClient, refl, s)
+  has_act_of_none name (step.upgrade schema) = (w, No NoClient, refl, s)
   has_act_of_none name step.sequence = (w, No NoClient, refl, s)
   has_act_of_none name step.ack = (w, No NoClient, refl, s)
   has_act_of_none name step.deliver = (w, No NoClient, refl, s)
@@ -373,27 +440,33 @@ module _ (h : HeaderView) (w : WorldState) (s : AreSound h w) where
 
   -- each line of a client goes on, and so do the steps of branches there
   pub record AllLead : Type 0 where
-    pub lines : (i : ℕ) (c : Client) (k : ℕ) (l : Line) → slice_get w.clients i ≡ Some c → line_of c k ≡ Some l → LineGoes h st w.log w.clients i c k l
+    pub lines : (i : ℕ) (c : Client) (k : ℕ) (l : Line) → slice_get w.clients i ≡ Some c → line_of c k ≡ Some l → LineGoes h st Any w.log w.clients i c k l
     pub branches : (i : ℕ) (c : Client) (k : ℕ) (l : Line) → slice_get w.clients i ≡ Some c → line_of c k ≡ Some l → BranchesLead i c k l
 
-  pub leads_on : AllLead → (x : StepView) → Leads (IsNext h w x)
+  pub leads_on : AllLead → (x : StepView) → LeadsIf (KeepsRules x.act) (IsNext h w x)
   leads_on all x = place (place_of x.client w.clients)
     where
-      by : (needs connected : Bool) (i : ℕ) (c : Client) (k : ℕ) (l : Line) → ((needs ≡ true → connected ≡ true) → Leads (IsActOf h w x.act i c k l)) → Leads (λ v a. ByConnected needs connected w v a (IsActOf h w x.act i c k l v a))
+      nothing : (a : Answer) → LeadsIf (KeepsRules x.act) (λ v b. (v ≡ w) × (b ≡ a))
+      nothing a = (w, a, (refl, refl), λ p. s)
+
+      none : LeadsIf (KeepsRules x.act) (λ v a. act_of_none w x.client x.act ≡ (v, a))
+      none = anyway (KeepsRules x.act) (λ v a. act_of_none w x.client x.act ≡ (v, a)) (has_act_of_none x.client x.act)
+
+      by : (needs connected : Bool) (i : ℕ) (c : Client) (k : ℕ) (l : Line) → ((needs ≡ true → connected ≡ true) → LeadsIf (KeepsRules x.act) (IsActOf h w x.act i c k l)) → LeadsIf (KeepsRules x.act) (λ v a. ByConnected needs connected w v a (IsActOf h w x.act i c k l v a))
       by false connected i c k l onward = onward (λ e. absurd (cc))
       by true true i c k l onward = onward (λ e. refl)
-      by true false i c k l onward = stays (No NotConnected)
+      by true false i c k l onward = nothing (No NotConnected)
 
-      on : (i : ℕ) (c : Client) (k : ℕ) (o : Option Line) → line_of c k ≡ o → slice_get w.clients i ≡ Some c → Leads (λ v a. OnLine w (λ l. ByConnected (needs_connection x.act) c.connected w v a (IsActOf h w x.act i c k l v a)) o v a)
-      on i c k None is at = stays (No NoBranch)
+      on : (i : ℕ) (c : Client) (k : ℕ) (o : Option Line) → line_of c k ≡ o → slice_get w.clients i ≡ Some c → LeadsIf (KeepsRules x.act) (λ v a. OnLine w (λ l. ByConnected (needs_connection x.act) c.connected w v a (IsActOf h w x.act i c k l v a)) o v a)
+      on i c k None is at = nothing (No NoBranch)
       on i c k (Some l) is at = by (needs_connection x.act) c.connected i c k l (has_act_of x.act i c k l at (all.lines i c k l at is) (all.branches i c k l at is))
 
-      client_at : (i : ℕ) (o : Option Client) → slice_get w.clients i ≡ o → Leads (AtClient h w x (option_map (λ c. (i, c)) o))
-      client_at i None at = has_act_of_none x.client x.act
+      client_at : (i : ℕ) (o : Option Client) → slice_get w.clients i ≡ o → LeadsIf (KeepsRules x.act) (AtClient h w x (option_map (λ c. (i, c)) o))
+      client_at i None at = none
       client_at i (Some c) at = on i c (branch_at x.branch x.act) (line_of c (branch_at x.branch x.act)) refl at
 
-      place : (o : Option ℕ) → Leads (AtClient h w x (option_and_then (λ i. option_map (λ c. (i, c)) (slice_get w.clients i)) o))
-      place None = has_act_of_none x.client x.act
+      place : (o : Option ℕ) → LeadsIf (KeepsRules x.act) (AtClient h w x (option_and_then (λ i. option_map (λ c. (i, c)) (slice_get w.clients i)) o))
+      place None = none
       place (Some i) = client_at i (slice_get w.clients i) refl
 
 pub has_next : (w : World) (s : StepView) (sound : IsSound w) → AllLead (header_view w.header) w.lists (lists_sound w sound) → (v : WorldState) × (a : Answer) × IsNext (header_view w.header) w.lists s v a

@@ -24,7 +24,7 @@ use Rattle.st_trace.proofs.Among.{line_fit}
 use Rattle.st_trace.proofs.Begun.{IsStart}
 use Rattle.st_trace.proofs.BranchSteps.{drop_goes, fork_goes, merge_goes, rebase_goes, same_goes}
 use Rattle.st_trace.proofs.Everyone.{all_get}
-use Rattle.st_trace.proofs.Going.{AreSound, GoesOn, set_sound}
+use Rattle.st_trace.proofs.Going.{Any, AreSound, GoesOn, set_sound}
 use Rattle.st_trace.proofs.Leading.{AllLead, BranchesLead, Leads, st as start_from}
 use Rattle.st_trace.proofs.LineGoing.{line_goes}
 use Rattle.st_trace.proofs.Lookup.{branch_there}
@@ -51,11 +51,11 @@ module _ (h : HeaderView) (w : WorldState) (s : AreSound h w) where
     client : IsClient h w.log c
     client = all_get (IsClient h w.log) w.clients i c s.clients at
 
-    goes_to : (is_next : WorldState → Answer → Type 0) (d : Client) (a : Answer) → is_next (record w { clients = slice_set w.clients i d }) a → GoesOn h st w.log w.clients i c d → Leads h w s is_next
+    goes_to : (is_next : WorldState → Answer → Type 0) (d : Client) (a : Answer) → is_next (record w { clients = slice_set w.clients i d }) a → GoesOn h st Any w.log w.clients i c d → Leads h w s is_next
     goes_to is_next d a p g = (record w { clients = slice_set w.clients i d }, a, p, set_sound h w i c d s at g.client g.session g.keeps)
 
-    goes_nowhere : GoesOn h st w.log w.clients i c c
-    goes_nowhere = same_goes h st w.log w.clients s.sessions s.clients s.few_names s.schema i c at c refl
+    goes_nowhere : GoesOn h st Any w.log w.clients i c c
+    goes_nowhere = same_goes h st Any w.log w.clients s.sessions s.clients s.few_names s.schema i c at c refl
 
     -- a step of the branch of a number, by its parent's line
     on_own_leads : (k : ℕ) (does : WorldState → Answer → Branch → Line → Type 0) → ((b : Branch) (l : Line) → branch_of c k ≡ Some b → line_of c b.parent ≡ Some l → Leads h w s (λ v a. does v a b l))
@@ -73,7 +73,7 @@ module _ (h : HeaderView) (w : WorldState) (s : AreSound h w) where
     forks_lead : (k : ℕ) (l : Line) → line_of c k ≡ Some l → Leads h w s (IsForked w i c k l)
     forks_lead k l line =
         let p = fork c k l (refusal_to_fork c l) in
-        goes_to (IsForked w i c k l) p.0 p.1 refl (fork_goes h st w.log w.clients s.sessions s.clients s.few_names s.schema i c at p.0 k l p.1 line refl)
+        goes_to (IsForked w i c k l) p.0 p.1 refl (fork_goes h st Any w.log w.clients s.sessions s.clients s.few_names s.schema i c at p.0 k l p.1 line refl)
 
     module _ (k : ℕ) (b : Branch) (l : Line) (is : branch_of c k ≡ Some b) (line : line_of c b.parent ≡ Some l) where
       -- the parent's document, and what is void over it
@@ -94,7 +94,7 @@ module _ (h : HeaderView) (w : WorldState) (s : AreSound h w) where
           go : (o : Option Refusal) → refusal_to_rebase b ≡ o → Leads h w s (λ v a. (d : Client) × Unless o c d a (IsRebased (opening_document h) w.log c k b l d a) × (v ≡ record w { clients = slice_set w.clients i d }))
           go (Some why) e = goes_to (λ v a. (d : Client) × Unless (Some why) c d a (IsRebased (opening_document h) w.log c k b l d a) × (v ≡ record w { clients = slice_set w.clients i d })) c (No why) (c, (refl, refl), refl) goes_nowhere
           go None e = goes_to (λ v a. (d : Client) × Unless None c d a (IsRebased (opening_document h) w.log c k b l d a) × (v ≡ record w { clients = slice_set w.clients i d })) (with_base c k l) (Rebase over.1)
-              (with_base c k l, (over.0, over.1, over.2, over.3, refl, refl), refl) (rebase_goes h st w.log w.clients s.sessions s.clients s.few_names s.schema i c at k b is l line e)
+              (with_base c k l, (over.0, over.1, over.2, over.3, refl, refl), refl) (rebase_goes h st Any w.log w.clients s.sessions s.clients s.few_names s.schema i c at k b is l line e)
 
       abbrev Merges : WorldState → Answer → Type 0
       Merges v a = (d : Client) × Unless (refusal_to_merge c k b l) c d a (IsMerged (opening_document h) w.log c k b l d a) × (v ≡ record w { clients = slice_set w.clients i d })
@@ -107,14 +107,14 @@ module _ (h : HeaderView) (w : WorldState) (s : AreSound h w) where
           go None e =
               let d = with_commits_on (without_branch c k) b.parent b.own in
               goes_to (λ v a. (d : Client) × Unless None c d a (IsMerged (opening_document h) w.log c k b l d a) × (v ≡ record w { clients = slice_set w.clients i d })) d (Merge over.1)
-              (d, (over.0, over.1, over.2, over.3, refl, refl), refl) (merge_goes h st w.log w.clients s.sessions s.clients s.few_names s.schema i c at k b is l line e)
+              (d, (over.0, over.1, over.2, over.3, refl, refl), refl) (merge_goes h st Any w.log w.clients s.sessions s.clients s.few_names s.schema i c at k b is l line e)
 
       has_branch_dropped : Leads h w s (λ v a. with_client w i (drop_branch c k) ≡ (v, a))
       has_branch_dropped = go (has_children c k) refl
         where
           go : (t : Bool) → has_children c k ≡ t → Leads h w s (λ v a. with_client w i (cond t (c, No HasChildren) (without_branch c k, DropBranch)) ≡ (v, a))
           go true e = goes_to (λ v a. with_client w i (c, No HasChildren) ≡ (v, a)) c (No HasChildren) refl goes_nowhere
-          go false e = goes_to (λ v a. with_client w i (without_branch c k, DropBranch) ≡ (v, a)) (without_branch c k) DropBranch refl (drop_goes h st w.log w.clients s.sessions s.clients s.few_names s.schema i c at k b is e)
+          go false e = goes_to (λ v a. with_client w i (without_branch c k, DropBranch) ≡ (v, a)) (without_branch c k) DropBranch refl (drop_goes h st Any w.log w.clients s.sessions s.clients s.few_names s.schema i c at k b is e)
 
     branches_lead : (k : ℕ) (l : Line) → line_of c k ≡ Some l → BranchesLead h w s i c k l
     branches_lead k l line = record {
@@ -127,6 +127,6 @@ module _ (h : HeaderView) (w : WorldState) (s : AreSound h w) where
   -- each line of each client goes on, and so do the steps of branches
   pub all_lead : AllLead h w s
   all_lead = record {
-    lines = λ i c k l at line. line_goes h st w.log w.clients s.sessions s.clients s.few_names s.schema i c at k l line;
+    lines = λ i c k l at line. line_goes h st Any w.log w.clients s.sessions s.clients s.few_names s.schema i c at k l line;
     branches = λ i c k l at line. branches_lead i c at k l line;
   }

@@ -7,9 +7,11 @@ pub mod Among
 pub mod Keeping
 pub mod Meanings
 pub mod Everyone
+pub mod Telling
 pub mod Agreed
 pub mod OnBranches
 pub mod BranchesAgree
+pub mod Effect
 pub mod Stepping
 pub mod Receiving
 pub mod Acting
@@ -17,7 +19,10 @@ pub mod Showing
 pub mod Choosing
 pub mod Arrays
 pub mod Going
+pub mod Upgrading
+pub mod Upgraded
 pub mod Leading
+pub mod Trees
 pub mod Meant
 pub mod Branching
 pub mod Forking
@@ -41,7 +46,9 @@ pub mod BranchHeads
 pub mod Rebased
 pub mod BranchSteps
 pub mod LeadingBranches
+pub mod Knowing
 pub mod BranchShown
+pub mod KnownEdits
 pub mod MergeParts
 pub mod BranchNext
 pub mod BranchWorld

@@ -1,4 +1,5 @@
 -- What a client can do on one of its lines, by the head that is kept of it.
+use Rattle.st_upgrade_laws.specs.Agreeing.{schema_in_effect}
 use Rattle.st_trace.proofs.Among.{line_room, line_transaction, line_fit, line_new}
 use Rattle.std.proofs.Common.{IfSome, List, None, Ok, Option, Result, Some, [], ap, arith, refl, subst, sym, true, ℕ, ◌++◌, ◌+◌, ◌∙◌, ◌∷◌, ◌≡◌, ◌≤◌}
 use Rattle.std.specs.Option.{option_and_then}
@@ -53,8 +54,10 @@ pub record IsKeptLine (h : HeaderView) (log : List Entry) (c : Client) (l : Line
   pub head : HasHead (opening_document h) log l (document_of k.doc)
   pub edited : HasOpen k (edited_on l)
   pub editable : IsEditable (shown_on l k) (next_names c l.transaction)
+  -- and the last schema in effect keeps the rules
+  pub schema : is_sound (schema_in_effect (shown_on l k)) ≡ true
 
-module _ (h : HeaderView) (st : IsStart (opening_document h)) (schema : is_sound h.schema ≡ true) (log : List Entry) (c : Client) (l : Line) (k : Head) (x : IsKeptLine h log c l k) where
+module _ (h : HeaderView) (st : IsStart (opening_document h)) (log : List Entry) (c : Client) (l : Line) (k : Head) (x : IsKeptLine h log c l k) where
   pub line_shown : HasShown (opening_document h) log l (shown_on l k)
   line_shown = (document_of k.doc, x.head, refl)
 
@@ -69,22 +72,22 @@ module _ (h : HeaderView) (st : IsStart (opening_document h)) (schema : is_sound
       go None i = tt
       go (Some t) i = (omega (arith, i.counted), omega (arith, i.counted))
 
-  pub line_edit_meant : (e : EditAct) → IsMeaning h.schema (shown_on l k) (next_names c l.transaction) (word_of (edit_view e)) (resolve (shown_on l k) h.schema (next_names c l.transaction) (edit_of e))
-  line_edit_meant e = resolved_means h.schema schema (shown_on l k) (next_names c l.transaction) x.editable e
+  pub line_edit_meant : (e : EditAct) → IsMeaning (shown_on l k) (next_names c l.transaction) (word_of (edit_view e)) (resolve (shown_on l k) (schema_in_effect (shown_on l k)) (next_names c l.transaction) (edit_of e))
+  line_edit_meant e = resolved_means (shown_on l k) (next_names c l.transaction) x.editable x.schema e
 
-  pub line_need_meant : (path : List Place) → IsMeaning h.schema (shown_on l k) (next_names c l.transaction) EditWord.Need (need (shown_on l k) (next_names c l.transaction) path)
-  line_need_meant path = need_means h.schema schema (shown_on l k) (next_names c l.transaction) x.editable path
+  pub line_need_meant : (path : List Place) → IsMeaning (shown_on l k) (next_names c l.transaction) EditWord.Need (need (shown_on l k) (next_names c l.transaction) path)
+  line_need_meant path = need_means (shown_on l k) (next_names c l.transaction) x.editable x.schema path
 
   -- what a part of an open transaction means in the transaction's own document
-  pub line_meant : (t : Transaction) (i : IsTransaction h log l c t) (word : EditWord) (M : Intent) → IsMeant h.schema (with_open (document_of k.doc) t.joined) (next_names c (Some t)) word M → IsMeant h.schema (with_open i.before t.joined) (next_names c (Some t)) word M
-  line_meant t i word M m = subst (λ F. IsMeant h.schema (with_open F t.joined) (next_names c (Some t)) word M) (sym (one_run i.main x.head)) m
+  pub line_meant : (t : Transaction) (i : IsTransaction h log l c t) (word : EditWord) (M : Intent) → IsMeant (with_open (document_of k.doc) t.joined) (next_names c (Some t)) word M → IsMeant (with_open i.before t.joined) (next_names c (Some t)) word M
+  line_meant t i word M m = subst (λ F. IsMeant (with_open F t.joined) (next_names c (Some t)) word M) (sym (one_run i.main x.head)) m
 
   -- what an edit means can be taken in
-  pub line_can_take : (word : EditWord) (r : Result Intent EditFault) → IsMeaning h.schema (shown_on l k) (next_names c l.transaction) word r → (N : Intent) → r ≡ Ok N → CanTake k l.transaction word N
+  pub line_can_take : (word : EditWord) (r : Result Intent EditFault) → IsMeaning (shown_on l k) (next_names c l.transaction) word r → (N : Intent) → r ≡ Ok N → CanTake k l.transaction word N
   line_can_take word r means N e = go l.transaction refl x.transaction x.edited (means N e)
     where
       go : (o : Option Transaction) → l.transaction ≡ o → IfSome o (IsTransaction h log l c) → HasOpen k (option_and_then (λ (t : Transaction). t.joined) o)
-          → IsMeant h.schema (with_open (document_of k.doc) (option_and_then (λ (t : Transaction). t.joined) o)) (next_names c o) word N → CanTake k o word N
+          → IsMeant (with_open (document_of k.doc) (option_and_then (λ (t : Transaction). t.joined) o)) (next_names c o) word N → CanTake k o word N
       go None is i edits m = m.fits
       go (Some t) is i edits m =
           let before : i.before ≡ document_of k.doc = one_run i.main x.head in
@@ -112,7 +115,7 @@ module _ (h : HeaderView) (st : IsStart (opening_document h)) (schema : is_sound
       go (Some t) i = by t (document_of k.doc) t.joined (subst (λ F. FitsSoFar F t.rev t.under t.joined) (one_run i.main x.head) i.so_far)
 
   -- the names of what is edited, with one part more
-  pub line_whole_names : (t : Transaction) → l.transaction ≡ Some t → (i : IsTransaction h log l c t) (word : EditWord) (M J : Intent) → IsMeant h.schema (with_open (document_of k.doc) t.joined) (next_names c (Some t)) word M → IsWithPart t.joined M J
+  pub line_whole_names : (t : Transaction) → l.transaction ≡ Some t → (i : IsTransaction h log l c t) (word : EditWord) (M J : Intent) → IsMeant (with_open (document_of k.doc) t.joined) (next_names c (Some t)) word M → IsWithPart t.joined M J
       → names_made J ≡ names_edited t.joined + names_made M
   line_whole_names t is i word M J m with_part = whole_names h st log l c t word M x.fit (x.room t is) i (line_meant t i word M m) J with_part
 
@@ -146,8 +149,9 @@ module _ (h : HeaderView) (st : IsStart (opening_document h)) (log : List Entry)
           let here : with_open i.before t.joined ≡ E = ap (λ F. with_open F t.joined) (one_run i.main shown.1) ∙ sym same in
           subst (λ F. IsEditable F (next_names c (Some t))) here (record { sound = i.sound; nodes = i.nodes; cells = i.cells })
 
-  pub line_kept : (k : Head) → names_in (commits_in log) ≤ 131072 → HasHead (opening_document h) log l (document_of k.doc) → HasOpen k (edited_on l) → IsKeptLine h log c l k
-  line_kept k few head edited = record {
+  pub line_kept : (k : Head) → is_sound (schema_in_effect (shown_on l k)) ≡ true → names_in (commits_in log) ≤ 131072 → HasHead (opening_document h) log l (document_of k.doc) → HasOpen k (edited_on l) → IsKeptLine h log c l k
+  line_kept k schema few head edited = record {
+    schema = schema;
     fit = line_fit h st log c own j l at;
     transaction = line_transaction h st log c own j l at;
     room = λ t is.

@@ -98,7 +98,7 @@ later_cell G nodes cells M D k counted none past = go (new_row_of M d) refl
 -- ## The document that is shown
 
 -- what was edited leaves the schemas in effect
-open_schemas : (D : Document) (rev under : Rev) (joined : Option Intent) → FitsSoFar D rev under joined → last_in_effect (with_open D joined) ≡ last_in_effect D
+pub open_schemas : (D : Document) (rev under : Rev) (joined : Option Intent) → FitsSoFar D rev under joined → last_in_effect (with_open D joined) ≡ last_in_effect D
 open_schemas D rev under None so = refl
 open_schemas D rev under (Some J) so = ap (λ (o : Option (List ℕ)). unwrap_or (last_of (revs (with_schema J o D.schemas))) opening) so.3
 
@@ -259,7 +259,7 @@ module _ (h : HeaderView) (st : IsStart (opening_document h)) where
 
   -- the transaction that is open on a line goes on
   module _ (log : List Entry) (l : Line) (c : Client) (t : Transaction) (word : EditWord) (M : Intent) (fit : LineFits h log l) (room : names_in (commits_of log l) + (names_edited t.joined + 2048) ≤ 200000)
-      (i : IsTransaction h log l c t) (m : IsMeant h.schema (with_open i.before t.joined) (next_names c (Some t)) word M) where
+      (i : IsTransaction h log l c t) (m : IsMeant (with_open i.before t.joined) (next_names c (Some t)) word M) where
     abbrev D : Document
     D = i.before
 
@@ -384,7 +384,7 @@ module _ (h : HeaderView) (st : IsStart (opening_document h)) where
 
   -- one part more in it
   pub client_edited : (log : List Entry) (c : Client) (j : ℕ) (l : Line) (t : Transaction) (word : EditWord) (M : Intent) → IsClient h log c → line_of c j ≡ Some l → l.transaction ≡ Some t → names_in (commits_in log) ≤ 131072
-      → (i : IsTransaction h log l c t) → IsMeant h.schema (with_open i.before t.joined) (next_names c (Some t)) word M → (K : Intent) → IsWithPart t.joined M K → unsequenced c + names_made M ≤ 16384
+      → (i : IsTransaction h log l c t) → IsMeant (with_open i.before t.joined) (next_names c (Some t)) word M → (K : Intent) → IsWithPart t.joined M K → unsequenced c + names_made M ≤ 16384
       → IsClient h log (with_transaction_on c j (Some (with_edited t K (length M.new) (cells_given word M))))
   client_edited log c j l t word M k at is all i m K w few =
       let u = with_edited t K (length M.new) (cells_given word M) in
@@ -403,7 +403,7 @@ module _ (h : HeaderView) (st : IsStart (opening_document h)) where
           same q = cc
 
   pub client_parted : (log : List Entry) (c : Client) (t : Transaction) (word : EditWord) (M : Intent) (k : IsClient h log c) → c.transaction ≡ Some t → names_in (commits_in log) ≤ 131072
-      → (i : IsTransaction h log (main_line c) c t) → IsMeant h.schema (with_open i.before t.joined) (next_names c (Some t)) word M → (K : Intent) → IsWithPart t.joined M K → unsequenced c + names_made M ≤ 16384
+      → (i : IsTransaction h log (main_line c) c t) → IsMeant (with_open i.before t.joined) (next_names c (Some t)) word M → (K : Intent) → IsWithPart t.joined M K → unsequenced c + names_made M ≤ 16384
       → IsClient h log (with_transaction c (with_edited t K (length M.new) (cells_given word M)))
   client_parted log c t word M k is all i m K w few = client_edited log c zero (main_line c) t word M k refl is all i m K w few
 

@@ -40,6 +40,7 @@ refusal_as (Answer.Rebase void) P Q f p = tt
 refusal_as (Answer.Merge void) P Q f p = tt
 refusal_as Answer.DropBranch P Q f p = tt
 refusal_as (Answer.Undo rev) P Q f p = tt
+refusal_as (Answer.Upgrade rev) P Q f p = tt
 refusal_as (Answer.Sequence min n) P Q f p = tt
 refusal_as (Answer.Ack reference) P Q f p = tt
 refusal_as (Answer.Deliver n void) P Q f p = tt

@@ -31,7 +31,9 @@ use Rattle.st_script.specs.declared.answer.Answer.TheVariants.{No}
 use Rattle.st_script.specs.declared.refusal.Refusal.{Refusal}
 use Rattle.st_script.specs.declared.refusal.Refusal.TheVariants.{Connected, Limit as OverLimit, NotConnected, NothingToSend, NoBranch, Unfinished}
 use Rattle.st_script.specs.Steps.{StepView}
-use Rattle.st_trace.specs.Replicas.{AreReplicas, HaveOwnSessions, IsClient, IsEntryOf, IsReplicaOf, IsSound, IsSoundAfter, KeepToSchema}
+use Rattle.st_trace.specs.Schemas.{HasReading}
+use Rattle.st_trace.specs.declared.known.KnownSchema.{KnownSchema}
+use Rattle.st_trace.specs.Replicas.{AreReplicas, HaveOwnSessions, IsClient, IsEntryOf, IsReplicaOf, IsSound, IsSoundAfter, KeepToSchemas}
 use Rattle.st_lists.specs.Log.{commit_in, commits_of_text, connected_after, intents_of, is_text, log_and_waiting, minimum, sessions_in, waiting, commits_in, log_with}
 use Rattle.st_lists.specs.Known.{AreConnected, AreKnown}
 use Rattle.st_lists.proofs.Minima.{minima_more}
@@ -89,13 +91,12 @@ sound_later steps w s = record {
   connected = s.connected;
   minima = s.minima;
   logged = s.logged;
-  arrays = s.arrays;
 }
 
--- one client goes on
-pub sound_client : (w : World) (i : ℕ) (c c' : Client) (k' : Replica) → IsSound w → slice_get w.lists.clients i ≡ Some c → AreOne (header_view w.header) w.lists.log c' k' → c'.session ≡ c.session → c'.connected ≡ c.connected → c'.ids ≤ c.ids + 1 → c'.forks ≤ c.forks + 1
-    → KeepToSchema (header_view w.header) w.lists.log (slice_set w.lists.clients i c') → IsSoundAfter (w.steps + 1) (record w { lists = record w.lists { clients = slice_set w.lists.clients i c' }; kept = slice_set w.kept i k' })
-sound_client w i c c' k' s at one session connected ids forks keeps = record {
+-- one client goes on, and schemas may be kept beside the others
+pub sound_client_with : (w : World) (i : ℕ) (c c' : Client) (k' : Replica) (schemas : BTreeMap Rev KnownSchema) → IsSound w → slice_get w.lists.clients i ≡ Some c → AreOne (header_view w.header) w.lists.log c' k' → c'.session ≡ c.session → c'.connected ≡ c.connected → c'.ids ≤ c.ids + 1 → c'.forks ≤ c.forks + 1
+    → KeepToSchemas (header_view w.header) (HasReading schemas) w.lists.log (slice_set w.lists.clients i c') → IsSoundAfter (w.steps + 1) (record w { lists = record w.lists { clients = slice_set w.lists.clients i c' }; kept = slice_set w.kept i k'; schemas = schemas })
+sound_client_with w i c c' k' schemas s at one session connected ids forks keeps = record {
   header = s.header;
   kept = kept_set (header_view w.header) w.lists.log w.lists.clients w.kept i c' k' s.kept one;
   sessions = distinct_set session_of w.lists.clients i c c' at session s.sessions;
@@ -119,8 +120,11 @@ sound_client w i c c' k' s at one session connected ids forks keeps = record {
   connected = connected_stays w.lists.log w.lists.clients i c at s.sessions s.connected c' session connected;
   minima = s.minima;
   logged = s.logged;
-  arrays = s.arrays;
 }
+
+pub sound_client : (w : World) (i : ℕ) (c c' : Client) (k' : Replica) → IsSound w → slice_get w.lists.clients i ≡ Some c → AreOne (header_view w.header) w.lists.log c' k' → c'.session ≡ c.session → c'.connected ≡ c.connected → c'.ids ≤ c.ids + 1 → c'.forks ≤ c.forks + 1
+    → KeepToSchemas (header_view w.header) (HasReading w.schemas) w.lists.log (slice_set w.lists.clients i c') → IsSoundAfter (w.steps + 1) (record w { lists = record w.lists { clients = slice_set w.lists.clients i c' }; kept = slice_set w.kept i k' })
+sound_client w i c c' k' s at one session connected ids forks keeps = sound_client_with w i c c' k' w.schemas s at one session connected ids forks keeps
 
 -- ## A text enters the log
 
@@ -249,7 +253,7 @@ sound_sent w i c c' text log_document known logged s at is is_c few few_names no
       log = AllByRecursion-append IsEntryOf log (last_entry log c.session text ∷ []) s.log (last.session, tt);
       log_fit = subst (FitInTurn (opening_document h)) commits last.fit;
       log_new = subst (HaveNewRevisions (opening ∷ [])) commits last.new;
-      schema = sent_keeps h st log w.lists.clients i c c' text (clients_of h log w.lists.clients w.kept s.kept) at is is_c last.fit s.schema;
+      schema = sent_keeps h st (HasReading w.schemas) log w.lists.clients i c c' text (clients_of h log w.lists.clients w.kept s.kept) at is is_c last.fit last.new s.schema;
       log_document = subst (λ l. Run (opening_document h) l (document_of log_document)) commits (run_entered (opening_document h) (document_of w.log_document) (document_of log_document) L (commit_in text) s.log_document entered);
       entries = omega (arith, few, length-append log (last_entry log c.session text ∷ []));
       names = omega (arith, s.names, names);
@@ -258,7 +262,6 @@ sound_sent w i c c' text log_document known logged s at is is_c few few_names no
       connected = sent_connected w i c c' text s at is is_c;
       minima = minima_more log w.minima c.session text (minimum (log_with log c.session text)) refl s.minima;
       logged = logged_entered (opening_document h) (document_of w.log_document) (document_of log_document) log c.session text w.logged s.logged logged last.new s.log_document noted;
-      arrays = s.arrays;
     }
 
 -- ## Sessions come and go
@@ -300,7 +303,7 @@ pub record IsAfterEntry (w : World) (session : ℕ) (body : Body) (cs : List Cli
   pub clients : length cs ≤ 64
   pub ids : AllByRecursion (λ (c : Client). c.ids ≤ w.steps) cs
   pub forks : AllByRecursion (λ (c : Client). c.forks ≤ w.steps) cs
-  pub schema : KeepToSchema (header_view w.header) (log_with w.lists.log session body) cs
+  pub schema : KeepToSchemas (header_view w.header) (HasReading w.schemas) (log_with w.lists.log session body) cs
   pub known : AreKnown (log_with w.lists.log session body) refs
   pub connected : AreConnected (log_with w.lists.log session body) cs
 
@@ -341,7 +344,6 @@ sound_entered w session body cs ks known sessions s x =
       connected = x.connected;
       minima = minima_more log w.minima session body (minimum longer) refl s.minima;
       logged = logged_none (opening_document h) (document_of w.log_document) (document_of w.log_document) log session body w.logged s.logged x.none;
-      arrays = s.arrays;
     }
 
 -- a client joins, by the next session
@@ -388,7 +390,7 @@ sound_joined w name n session c k known s few few_entries is_s is_n knows is_c n
       clients = omega (arith, few, more);
       ids = AllByRecursion-append (λ (x : Client). x.ids ≤ w.steps) w.lists.clients (c ∷ []) s.ids (omega (arith, ap (λ (x : Client). x.ids) is_c), tt);
       forks = AllByRecursion-append (λ (x : Client). x.forks ≤ w.steps) w.lists.clients (c ∷ []) s.forks (omega (arith, ap (λ (x : Client). x.forks) is_c), tt);
-      schema = joined_keeps h st log w.lists.clients session name c (clients_of h log w.lists.clients w.kept s.kept) (sym is) s.schema;
+      schema = joined_keeps h st (HasReading w.schemas) log w.lists.clients session name c (clients_of h log w.lists.clients w.kept s.kept) (sym is) s.schema;
       known = knows;
       connected = joined_connected w session c s is_s mine (ap (λ (x : Client). x.connected) is_c);
     })
@@ -428,14 +430,14 @@ sound_left w i c known s at few knows =
       clients = omega (arith, s.clients, rest_fewer w.lists.clients i);
       ids = all_rest (λ (x : Client). x.ids ≤ w.steps) w.lists.clients i s.ids;
       forks = all_rest (λ (x : Client). x.forks ≤ w.steps) w.lists.clients i s.forks;
-      schema = left_keeps h st log w.lists.clients i c.session (clients_of h log w.lists.clients w.kept s.kept) s.schema;
+      schema = left_keeps h st (HasReading w.schemas) log w.lists.clients i c.session (clients_of h log w.lists.clients w.kept s.kept) s.schema;
       known = knows;
       connected = left_connected w i c s at;
     })
 
 -- a client that is there has an entry without a commit, and is now so
 set_entered : (w : World) (i : ℕ) (c c' : Client) (ks : List Replica) (body : Body) (known : BTreeMap ℕ ℕ) → IsSound w → slice_get w.lists.clients i ≡ Some c → commit_in body ≡ None → length w.lists.log < 65535 → c'.session ≡ c.session → c'.ids ≡ c.ids → c'.forks ≡ c.forks
-    → AreReplicas (header_view w.header) (log_with w.lists.log c.session body) (slice_set w.lists.clients i c') ks → KeepToSchema (header_view w.header) (log_with w.lists.log c.session body) (slice_set w.lists.clients i c')
+    → AreReplicas (header_view w.header) (log_with w.lists.log c.session body) (slice_set w.lists.clients i c') ks → KeepToSchemas (header_view w.header) (HasReading w.schemas) (log_with w.lists.log c.session body) (slice_set w.lists.clients i c')
     → AreConnected (log_with w.lists.log c.session body) (slice_set w.lists.clients i c') → AreKnown (log_with w.lists.log c.session body) known → IsAfterEntry w c.session body (slice_set w.lists.clients i c') ks known w.sessions
 set_entered w i c c' ks body known s at none few session ids forks kept keeps connected knows =
     let log = w.lists.log in
@@ -486,7 +488,7 @@ sound_dropped w i c known s at few knows = go (slice_get w.kept i) refl
         let now : AreOne h longer (without_connection c) k = record { client = client_offline h st longer c one.client; kept = kept_offline h st longer c k one.kept } in
         let kept = subst (λ (ks : List Replica). AreReplicas h longer (slice_set w.lists.clients i (without_connection c)) ks) (set_same w.kept i k at_k) (kept_set h longer w.lists.clients w.kept i (without_connection c) k all now) in
         sound_entered w c.session Leave (slice_set w.lists.clients i (without_connection c)) w.kept known w.sessions s
-        (set_entered w i c (without_connection c) w.kept Leave known s at refl few refl refl refl kept (dropped_keeps h st log w.lists.clients i c (clients_of h log w.lists.clients w.kept s.kept) at s.schema) (dropped_connected w i c s at) knows)
+        (set_entered w i c (without_connection c) w.kept Leave known s at refl few refl refl refl kept (dropped_keeps h st (HasReading w.schemas) log w.lists.clients i c (clients_of h log w.lists.clients w.kept s.kept) at s.schema) (dropped_connected w i c s at) knows)
 
     go : (o : Option Replica) → slice_get w.kept i ≡ o → IsDropped w i c known
     go None none = absurd (kept_none h w.lists.log w.lists.clients w.kept i c s.kept at none)
@@ -513,7 +515,7 @@ sound_returned w i c c' k k' known s at at_k none few knows is_c up =
     let all = all_after_text h st log c.session Join refl w.lists.clients w.kept s.kept in
     let now : AreOne h longer (with_connection log c) k' = record { client = client_returned h st log c one.client none; kept = kept_returned h st log c k k' none one.client one.kept up } in
     let is : AreOne h longer c' k' = subst (λ x. AreOne h longer x k') (sym is_c) now in
-    let keeps = subst (λ x. KeepToSchema h longer (slice_set w.lists.clients i x)) (sym is_c) (returned_keeps h st log w.lists.clients i c (clients_of h log w.lists.clients w.kept s.kept) at none s.schema) in
+    let keeps = subst (λ x. KeepToSchemas h (HasReading w.schemas) longer (slice_set w.lists.clients i x)) (sym is_c) (returned_keeps h st (HasReading w.schemas) log w.lists.clients i c (clients_of h log w.lists.clients w.kept s.kept) at none s.schema) in
     sound_entered w c.session Join (slice_set w.lists.clients i c') (slice_set w.kept i k') known w.sessions s
     (set_entered w i c c' (slice_set w.kept i k') Join known s at refl few (ap (λ (x : Client). x.session) is_c) (ap (λ (x : Client). x.ids) is_c) (ap (λ (x : Client). x.forks) is_c) (kept_set h longer w.lists.clients w.kept i c' k' all is) keeps (returned_connected w i c c' s at is_c) knows)
 

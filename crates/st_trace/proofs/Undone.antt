@@ -21,6 +21,7 @@ use Rattle.st_lists.specs.declared.lists.Transaction.{Transaction}
 use Rattle.st_lists.specs.declared.lists.WorldState.{WorldState}
 use Rattle.st_trace.specs.Kept.{Unless}
 use Rattle.st_trace.specs.Replicas.{IsReplicaOf, IsSound, IsSoundAfter}
+use Rattle.st_trace.specs.Schemas.{HasReading}
 use Rattle.st_trace.specs.Undo.{IsAfterUndo, IsUndoneAt, refusal_of_rev}
 use Rattle.st_trace.specs.World.{AtRefusal, IsUndoneBy, last_in_effect, opening_document}
 use Rattle.st_trace.specs.declared.replica.Replica.{Replica}
@@ -89,7 +90,7 @@ module _ (w : World) (i : ℕ) (c : Client) (k : Replica) (s : IsSound w) (at_c 
           → IsSoundAfter (w.steps + 1) (record w { lists = record w.lists { clients = slice_set w.lists.clients i c' }; kept = slice_set w.kept i k' })
       sound_undo done kept =
           let are = clients_of h log w.lists.clients w.kept s.kept in
-          sound_goes w i c k s at_c at_k c' k' (undo_goes h (start_of w w.steps s) log w.lists.clients s.sessions are s.few_names s.schema i c at_c c' h.history rev a (undo_done done)) (undo_kept (way_by low) done kept)
+          sound_goes w i c k s at_c at_k c' k' (undo_goes h (start_of w w.steps s) (HasReading w.schemas) log w.lists.clients s.sessions are s.few_names s.schema i c at_c c' h.history rev a (undo_done done)) (undo_kept (way_by low) done kept)
 
 -- a refusal leaves the client and what is kept of it
 pub undo_refused : (c c' : Client) (k k' : Replica) (o : Option Transaction) (r : Result Intent Refusal) (a : Answer) → undo_in c o r ≡ (c', a) → HasUndone o k r k' → AtRefusal a ((c' ≡ c) × (k' ≡ k))
@@ -123,7 +124,7 @@ sound_ack w i c c' s at on same = go (slice_get w.kept i) refl
         let one = one_at w i c k s at at_k in
         let are = clients_of h w.lists.log w.lists.clients w.kept s.kept in
         let kept : IsReplicaOf h w.lists.log c' k = subst (λ d. IsReplicaOf h w.lists.log d k) (sym same) (kept_rest h st w.lists.log c (with_ack c).queue k one.kept) in
-        let now = sound_goes w i c k s at at_k c' k (ack_goes h st w.lists.log w.lists.clients s.sessions are s.few_names s.schema i c at c' on same) kept in
+        let now = sound_goes w i c k s at at_k c' k (ack_goes h st (HasReading w.schemas) w.lists.log w.lists.clients s.sessions are s.few_names s.schema i c at c' on same) kept in
         subst (λ (ks : List Replica). IsSoundAfter (w.steps + 1) (record w { lists = record w.lists { clients = slice_set w.lists.clients i c' }; kept = ks })) (set_same w.kept i k at_k) now
 
     go : (o : Option Replica) → slice_get w.kept i ≡ o → IsSoundAfter (w.steps + 1) (record w { lists = record w.lists { clients = slice_set w.lists.clients i c' } })

@@ -10,6 +10,8 @@ ghost use Rattle.st_trace.specs.inside.Replicas.{IsSoundNext};
 ghost use Rattle.st_lists.specs.declared.lists.Client.{Client as Present};
 
 use crate::branch_edits;
+use crate::branches::head_of;
+use crate::known::schema_of;
 use crate::world::World;
 use st_ids::Path;
 use st_script::{Answer, EditAct, Refusal};
@@ -42,7 +44,13 @@ impl World {
         let Some(client) = self.lists.clients.get_mut(i) else {
             return Ok(Answer::No(Refusal::NoClient));
         };
-        let answer = branch_edits::edit(alloc, &self.header.schema, client, kept, number, edit)?;
+        let Some(head) = head_of(client, kept, number) else {
+            return Ok(Answer::No(Refusal::NoBranch));
+        };
+        let Some(known) = schema_of(&self.schemas, head.shown_doc()) else {
+            unreachable!();
+        };
+        let answer = branch_edits::edit(alloc, &known.schema, client, kept, number, edit)?;
         Ok(answer)
     }
 

@@ -10,6 +10,7 @@ ghost use Rattle.st_trace.specs.inside.Replicas.{IsSoundNext};
 ghost use Rattle.st_lists.specs.declared.lists.Client.{Client as Present};
 
 use crate::edits::{self, last_in_effect};
+use crate::known::schema_of;
 use crate::transactions;
 use crate::world::World;
 use st_ids::Path;
@@ -41,7 +42,10 @@ impl World {
         let Some(client) = self.lists.clients.get_mut(i) else {
             return Ok(Answer::No(Refusal::NoClient));
         };
-        let answer = edits::edit(alloc, &self.header.schema, client, kept, edit)?;
+        let Some(known) = schema_of(&self.schemas, kept.main.shown_doc()) else {
+            unreachable!();
+        };
+        let answer = edits::edit(alloc, &known.schema, client, kept, edit)?;
         Ok(answer)
     }
 

@@ -1,17 +1,19 @@
 //! The world: its lists, and the documents and numbers that its answers are read off.
 ghost use Rattle.std.specs.Prelude.{◌≡◌, ◌≢◌, ◌↔◌, ◌+◌, ◌-◌, ◌^◌, ◌<◌, ◌≤◌, ◌++◌, ◌∷◌, ◌&&◌, not, true, false, is_some, length, [], None, Some, slice_get, IfOk, IfSome, OnOk, IsErrOf};
+ghost use Rattle.serde_json.specs.Written.{compact_text};
+ghost use Rattle.st_ids.specs.Root.{opening};
+ghost use Rattle.st_schema.specs.Written.{schema_data};
 ghost use Rattle.st_marks.specs.Document.{IsSoundInForm};
 ghost use Rattle.st_marks.specs.Intent.{Fits};
 ghost use Rattle.st_doc.specs.Doc.{document_of};
 ghost use Rattle.st_script.specs.Header.{header_view, may_open};
 ghost use Rattle.st_script.specs.Steps.{act_view, step_view, IsActWithin, IsWithinLimits};
-ghost use Rattle.st_doc.specs.LiveText.{is_among};
-ghost use Rattle.st_edits.specs.ArrayTypes.{is_array_type};
 ghost use Rattle.st_lists.specs.Clients.{empty_state, place_of};
 ghost use Rattle.st_trace.specs.World.{opening_document, limit_refusal, join, sequence, act_of_none, branch_at, needs_connection, IsDelivered, IsShown, IsActOf, IsNext, AtRefusal, ShowsAllowed};
 ghost use Rattle.st_lists.specs.Lines.{Line, line_of, main_line};
 ghost use Rattle.st_lists.specs.Names.{names_in_text};
 ghost use Rattle.st_lists.specs.Limits.{log_limit_passed};
+ghost use Rattle.st_trace.specs.Schemas.{HasReading};
 ghost use Rattle.st_trace.specs.Replicas.{IsHeader, IsSound};
 ghost use Rattle.st_trace.specs.inside.Replicas.{HasLogged, IsSoundNext};
 ghost use Rattle.st_lists.specs.Known.{AreConnected, AreKnown};
@@ -19,6 +21,7 @@ ghost use Rattle.st_lists.specs.Log.{commit_in, log_with, minimum};
 ghost use Rattle.st_lists.specs.declared.lists.Client.{Client as Present};
 
 use crate::branches::{head_of, line_state};
+use crate::known::{KnownSchema, keep, know, schema_of};
 use crate::logged::{Logged, log_commit};
 use crate::replica::Replica;
 use crate::{client, log_steps};
@@ -26,7 +29,7 @@ use st_doc::Doc;
 use st_heads::carry_one;
 use st_ids::{Copied, Limit, LimitOf, List, Or, Rev, Text};
 use st_lists::{Body, Client, WorldState, append_entry, minimum, names_in_text};
-use st_schema::{Form, Header, Schema};
+use st_schema::Header;
 use st_script::{Act, Answer, Refusal, TraceStep};
 use std::alloc::{AllocError, Global};
 use std::collections::BTreeMap;
@@ -40,14 +43,14 @@ const MOST_ENTRIES: usize = 65_535;
 /// How many names the commits of a log make.
 const MOST_NAMES: u64 = 131_072;
 
-/// The lists, and beside them what is read off them: the types whose nodes have a row, the document after the whole log,
-/// what is kept of each client, the greatest reference known of each session, the minimum after each entry, of each commit
-/// of the log how it came out, how many names the log makes, and how many sessions it has given. `spent` is set after want
-/// of memory, and `steps` counts the steps.
+/// The lists, and beside them what is read off them: what is kept of the header's schema and of that of each upgrade, by the
+/// revision that brought it in, the document after the whole log, what is kept of each client, the greatest reference known
+/// of each session, the minimum after each entry, of each commit of the log how it came out, how many names the log makes,
+/// and how many sessions it has given. `spent` is set after want of memory, and `steps` counts the steps.
 #[derive(Drop)]
 pub struct World {
     pub header: Header,
-    pub arrays: List<Text>,
+    pub schemas: BTreeMap<Rev, KnownSchema>,
     pub log_document: Doc,
     pub lists: WorldState,
     pub kept: List<Replica>,
@@ -80,29 +83,6 @@ fn limit_refusal(of: LimitOf, kept: u32) -> Answer
     Answer::No(Refusal::Limit(Limit { of, kept }))
 }
 
-// Whether the nodes of a type have a row.
-fn is_array(schema: &Schema, name: &Text) -> bool
-    ensures { result ≡ is_array_type schema.now name.now }
-{
-    matches!(schema.form(name), Some(Form::Array(_)))
-}
-
-// The types of a schema whose nodes have a row.
-fn array_types(alloc: Global, schema: &Schema) -> Result<List<Text>, AllocError>
-    ensures { IfOk result (λ types. is_among types ≡ is_array_type schema.now) }
-{
-    schema.is_kept();
-    let mut types = List::new(alloc);
-    let mut i = 0;
-    'types: while let Some(name) = schema.name_at(i) {
-        if is_array(schema, name) {
-            types.push(name.copy(alloc)?)?;
-        }
-        i += 1;
-    }
-    Ok(types)
-}
-
 // The document of a header's tree.
 fn opening(alloc: Global, header: &Header) -> Result<Doc, AllocError>
     requires { IsHeader (header_view header.now) }
@@ -113,15 +93,27 @@ fn opening(alloc: Global, header: &Header) -> Result<Doc, AllocError>
     Ok(doc)
 }
 
-// What is read off a header: the types whose nodes have a row, and the opening document.
-fn read_off(alloc: Global, header: &Header) -> Result<(List<Text>, Doc), AllocError>
+// The table of schemas that has a header's alone, as that under which a trace opens.
+fn first_schemas(alloc: Global, header: &Header) -> Result<BTreeMap<Rev, KnownSchema>, AllocError>
     requires { IsHeader (header_view header.now) }
-    ensures arrays { IfOk result (λ r. is_among r.0 ≡ is_array_type (header_view header.now).schema) }
+    ensures { IfOk result (λ schemas. HasReading schemas opening (compact_text (schema_data (header_view header.now).schema))) }
+{
+    let mut schemas = BTreeMap::new(alloc);
+    let schema = header.schema.copy(alloc)?;
+    let known = know(alloc, schema)?;
+    keep(&mut schemas, Rev { session: 0, num: 0 }, known)?;
+    Ok(schemas)
+}
+
+// What is read off a header: the table that has its schema, and the opening document.
+fn read_off(alloc: Global, header: &Header) -> Result<(BTreeMap<Rev, KnownSchema>, Doc), AllocError>
+    requires { IsHeader (header_view header.now) }
+    ensures schemas { IfOk result (λ r. HasReading r.0 opening (compact_text (schema_data (header_view header.now).schema))) }
     ensures log_document { IfOk result (λ r. document_of r.1 ≡ opening_document (header_view header.now)) }
 {
-    let arrays = array_types(alloc, &header.schema)?;
+    let schemas = first_schemas(alloc, header)?;
     let log_document = opening(alloc, header)?;
-    Ok((arrays, log_document))
+    Ok((schemas, log_document))
 }
 
 // The branch that a step's act is on: 0 where the act names none.
@@ -141,6 +133,7 @@ fn branch_of(step: &TraceStep) -> u32
         | Act::Show => { step.branch }
         Act::Join
         | Act::Undo { .. }
+        | Act::Upgrade { .. }
         | Act::Sequence
         | Act::Ack
         | Act::Deliver
@@ -163,6 +156,7 @@ fn needs_connection(act: &Act) -> bool
         | Act::Commit
         | Act::Abort
         | Act::Undo { .. }
+        | Act::Upgrade { .. }
         | Act::Reconnect
         | Act::Fork
         | Act::Rebase
@@ -181,14 +175,19 @@ impl World {
         ensures sound { IfOk result IsSound }
         ensures fresh { IfOk result (λ w. (w.spent ≡ false) × (w.steps ≡ 0)) }
     {
-        let (arrays, log_document) = read_off(alloc, &header)?;
-        Ok(World::begin(alloc, header, arrays, log_document))
+        let (schemas, log_document) = read_off(alloc, &header)?;
+        Ok(World::begin(alloc, header, schemas, log_document))
     }
 
-    // The world of a header, of which the types with a row and the opening document are known.
-    fn begin(alloc: Global, header: Header, arrays: List<Text>, log_document: Doc) -> World
+    // The world of a header, with the table that has its schema and the opening document.
+    fn begin(
+        alloc: Global,
+        header: Header,
+        schemas: BTreeMap<Rev, KnownSchema>,
+        log_document: Doc,
+    ) -> World
         requires header { IsHeader (header_view header) }
-        requires arrays { is_among arrays ≡ is_array_type (header_view header).schema }
+        requires schemas { HasReading schemas opening (compact_text (schema_data (header_view header).schema)) }
         requires log_document { document_of log_document ≡ opening_document (header_view header) }
         ensures lists { result.lists ≡ empty_state }
         ensures header { result.header ≡ header }
@@ -197,7 +196,7 @@ impl World {
     {
         World {
             header,
-            arrays,
+            schemas,
             log_document,
             lists: WorldState {
                 log: List::new(alloc),
@@ -405,7 +404,11 @@ impl World {
         let Some(head) = head_of(client, kept, number) else {
             return Ok(Answer::No(Refusal::NoBranch));
         };
-        let tree = head.shown_doc().whole(alloc, self.arrays.as_slice())?;
+        let doc = head.shown_doc();
+        let Some(known) = schema_of(&self.schemas, doc) else {
+            unreachable!();
+        };
+        let tree = doc.whole(alloc, known.arrays.as_slice())?;
         Ok(Answer::Show { tree })
     }
 
@@ -435,6 +438,7 @@ impl World {
             | Act::Commit
             | Act::Abort
             | Act::Undo { .. }
+            | Act::Upgrade { .. }
             | Act::Sequence
             | Act::Ack
             | Act::Deliver
@@ -471,6 +475,7 @@ impl World {
             Act::Commit => self.commit_transaction(alloc, i),
             Act::Abort => Ok(self.abort_transaction(i)),
             Act::Undo { rev } => self.undo(alloc, i, *rev),
+            Act::Upgrade { schema } => self.upgrade(alloc, i, schema),
             Act::Sequence => self.sequence(alloc, i),
             Act::Ack => self.ack(i),
             Act::Deliver => self.deliver(alloc, i),
@@ -525,6 +530,7 @@ impl World {
             }
             Act::Join
             | Act::Undo { .. }
+            | Act::Upgrade { .. }
             | Act::Sequence
             | Act::Ack
             | Act::Deliver
@@ -619,7 +625,7 @@ impl World {
         ensures steps { OnOk result (self.new.steps ≡ self.old.steps + 1) }
         ensures header { OnOk result (self.new.header ≡ self.old.header) }
         ensures refused { IfOk result (λ a. AtRefusal a (self.new ≡ record self.old { steps = self.old.steps + 1 })) }
-        ensures allowed { IfOk result (λ a. ShowsAllowed (header_view self.old.header).schema a) }
+        ensures allowed { IfOk result (λ a. ShowsAllowed (header_view self.old.header) self.old.lists (step_view step.now) a) }
         ensures spent { IsErrOf result (Or.Fault (record {})) ↔ (self.old.spent ≡ true) }
         ensures stays { IsErrOf result (Or.Fault (record {})) → self.new ≡ self.old }
         ensures no_memory { IsErrOf result Or.NoMemory → self.new.spent ≡ true }

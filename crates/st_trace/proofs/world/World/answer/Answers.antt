@@ -1,18 +1,32 @@
-use Rattle.std.proofs.Common.{◌≡◌, true, ap, is_some, subst, sym, ◌∙◌}
+use Rattle.std.proofs.Common.{◌≡◌, true, false, ap, is_some, subst, sym, ◌∙◌}
 use Rattle.st_lists.specs.Lines.{Line, line_of}
 use Rattle.st_script.specs.Header.{header_view}
 use Rattle.st_script.specs.Steps.{step_view}
 use Rattle.st_script.specs.declared.answer.Answer.TheVariants.{No}
-use Rattle.st_script.specs.declared.refusal.Refusal.TheVariants.{NotConnected}
+use Rattle.st_script.specs.declared.refusal.Refusal.TheVariants.{NoBranch, NotConnected}
 use Rattle.st_trace.specs.World.{ByConnected, IsActOf, branch_at, needs_connection}
-use Rattle.st_trace.proofs.Choosing.{some_line}
-use Rattle.st_trace.proofs.Stepping.{by_connected, is_there, next_none, next_present, not_connected, on_line, sound_later}
+use Rattle.st_trace.proofs.Choosing.{no_line, some_line}
+use Rattle.st_trace.proofs.Stepping.{by_connected, is_there, next_none, next_present, not_connected, on_line, on_no_line, sound_later}
 use Rattle.st_trace.proofs.world.World.answer.Goals as goal
 
 pub returns-in_default-clause-next : goal.returns-in_default-clause-next
 returns-in_default-clause-next c =
     next_none (header_view c.args.self.now.header) c.args.self.now.lists (step_view c.args.step.now) c.answer_none.new.self.lists c.in_ok-answer.answer (sym c.in_default.ensures)
     c.in_ok-answer.ensures.next
+
+pub returns-then-not-has_line-clause-next : goal.returns-then-not-has_line-clause-next
+returns-then-not-has_line-clause-next c =
+    let h = header_view c.args.self.now.header in
+    let w = c.args.self.now.lists in
+    let s = step_view c.args.step.now in
+    let k = branch_at s.branch s.act in
+    next_present h w s c.in-Some.i w (No NoBranch) (sym c.in-Some.ensures)
+    (λ q at.
+    let there : is_some (line_of q k) ≡ false = sym (ap (λ n. is_some (line_of q n)) c.branch_of-number.ensures) ∙ sym (c.has_line.ensures q at) ∙ c.if-not-has_line.true in
+    on_no_line w (λ (x : Line). ByConnected (needs_connection s.act) q.connected w w (No NoBranch) (IsActOf h w s.act c.in-Some.i q k x w (No NoBranch))) (line_of q k) (no_line (line_of q k) there))
+
+pub returns-then-not-has_line-clause-sound : goal.returns-then-not-has_line-clause-sound
+returns-then-not-has_line-clause-sound c = sound_later c.args.self.now.steps c.args.self.now c.requires.sound
 
 pub returns-then-is_out-clause-next : goal.returns-then-is_out-clause-next
 returns-then-is_out-clause-next c =

@@ -20,3 +20,7 @@ returns-in_ok-answer-in-Show-clause-sound c = sound_later c.args.self.now.steps 
 
 pub returns-in-Join-clause-next : goal.returns-in-Join-clause-next
 returns-in-Join-clause-next c = as_whole (header_view c.args.self.now.header) c.args.self.now.lists c.args.i c.args.number c.answer_at.new.self.lists c.args.act.now c.in-Join.is c.answer_at.result c.answer_at.ensures.next
+
+pub returns-in-DropBranch-clause-next : goal.returns-in-DropBranch-clause-next
+returns-in-DropBranch-clause-next c = λ q l at line.
+    subst (λ z. IsActOf (header_view c.args.self.now.header) c.args.self.now.lists z c.args.i q c.args.number l c.drop_branch.new.self.lists c.drop_branch.result) (sym (ap act_view c.in-DropBranch.is)) (c.drop_branch.ensures.next q l at line)

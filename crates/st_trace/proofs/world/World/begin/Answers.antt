@@ -9,6 +9,7 @@ use Rattle.std.proofs.lemmas.Grind.{common_steps}
 use Rattle.st_marks.specs.Document.{Document}
 use Rattle.st_marks.specs.Run.{Run, done}
 use Rattle.st_script.specs.Header.{header_view}
+use Rattle.st_trace.specs.Schemas.{HasReading}
 use Rattle.st_trace.specs.World.{opening_document}
 use Rattle.st_trace.proofs.Agreed.{begun_keeps}
 use Rattle.st_trace.proofs.world.World.begin.Goals as goal
@@ -29,7 +30,7 @@ returns-clause-sound c =
       log = tt;
       log_fit = tt;
       log_new = record { once = tt; new = λ N i j. i };
-      schema = begun_keeps (header_view c.args.header) c.requires.header;
+      schema = begun_keeps (header_view c.args.header) (HasReading c.args.schemas) c.requires.header c.requires.schemas;
       log_document = subst (λ (D : Document). Run (opening_document (header_view c.args.header)) [] D) (sym c.requires.log_document) done;
       entries = omega arith;
       names = refl;
@@ -38,7 +39,6 @@ returns-clause-sound c =
       connected = record { each = λ x i. absurd i; no_other = λ n e. nobody e };
       minima = record { size = refl; each = λ i h. absurd (omega (arith, h)) };
       logged = record { each = λ i e N at is. nothing_at i e at; no_other = λ rev h. nothing_for (subst IsSome (nothing rev) h) };
-      arrays = c.requires.arrays;
     })
   where
     nobody : {R : Type 0} → false ≡ true → R

@@ -7,7 +7,10 @@ use Rattle.st_script.specs.Steps.{edit_view}
 use Rattle.st_trace.specs.inside.Edits.{edit_of}
 use Rattle.st_trace.specs.World.{IsAfterEdit, next_names, word_of}
 use Rattle.st_trace.proofs.Choosing.{next_edit, within_edit}
-use Rattle.st_trace.proofs.Acting.{can_take, edit_meant, edit_refused, few_ids, line_sound, next_done, numbers, one_at, shown, shown_of, sound_edit, world_refused}
+use Rattle.st_trace.proofs.Acting.{edit_refused, few_ids, line_sound, next_done, numbers, one_at, shown, shown_of, sound_edit, world_refused}
+use Rattle.st_trace.proofs.KnownEdits.{done_known, kept_known, main_some, take_known}
+use Rattle.st_upgrade_laws.specs.Agreeing.{schema_in_effect}
+use Rattle.st_doc.specs.Doc.{document_of}
 use Rattle.st_trace.proofs.Everyone.{kept_none, set_same}
 use Rattle.st_trace.proofs.Stepping.{sound_later}
 use Rattle.st_trace.proofs.world.World.edit.Goals as goal
@@ -49,18 +52,24 @@ pub edit-requires-clause-given : goal.edit-requires-clause-given
 edit-requires-clause-given c = numbers c.args.self.now c.args.i c.in-Some-get_mut.client.now c.in-Some.kept.now c.requires.sound (sym c.in-Some-get_mut.ensures.value) (sym c.in-Some.ensures.value)
 
 pub edit-requires-clause-can : goal.edit-requires-clause-can
-edit-requires-clause-can c = λ N e. can_take c.args.self.now c.args.i c.in-Some-get_mut.client.now c.in-Some.kept.now c.requires.sound (sym c.in-Some-get_mut.ensures.value) (sym c.in-Some.ensures.value) (word_of (edit_view c.args.edit.now)) (resolve (shown_of c.in-Some-get_mut.client.now c.in-Some.kept.now) c.args.self.now.header.schema (next_names c.in-Some-get_mut.client.now c.in-Some-get_mut.client.now.transaction) (edit_of c.args.edit.now)) (edit_meant c.args.self.now c.args.i c.in-Some-get_mut.client.now c.in-Some.kept.now c.requires.sound (sym c.in-Some-get_mut.ensures.value) (sym c.in-Some.ensures.value) c.args.edit.now) N e
+edit-requires-clause-can c = take_known c.args.self.now c.args.i c.in-Some-get_mut.client.now c.in-Some.kept.now c.requires.sound (sym c.in-Some-get_mut.ensures.value) (sym c.in-Some.ensures.value) (document_of c.shown_doc.result.now) c.shown_doc.ensures c.in-Some-schema_of.known.now c.in-Some-schema_of.ensures c.args.edit.now
 
 pub returns-clause-next : goal.returns-clause-next
 returns-clause-next c = λ q at.
     next_edit (header_view c.args.self.now.header) c.args.self.now.lists c.args.i q 0 (main_line q) (record c.args.self.now.lists { clients = slice_set c.args.self.now.lists.clients c.args.i c.edit.new.client }) c.in_ok-answer.answer c.args.edit.now
-    (next_done (header_view c.args.self.now.header) c.args.self.now.lists c.args.i c.in-Some-get_mut.client.now q c.edit.new.client main_line (λ x D. IsAfterEdit x 0 (main_line x) x.transaction (word_of (edit_view c.args.edit.now)) (resolve D c.args.self.now.header.schema (next_names x x.transaction) (edit_of c.args.edit.now))) (shown_of c.in-Some-get_mut.client.now c.in-Some.kept.now) c.in_ok-answer.answer (sym c.in-Some-get_mut.ensures.value) at
-    (shown c.args.self.now c.args.i c.in-Some-get_mut.client.now c.in-Some.kept.now c.requires.sound (sym c.in-Some-get_mut.ensures.value) (sym c.in-Some.ensures.value)) c.in_ok-answer.ensures.answer)
+    (next_done (header_view c.args.self.now.header) c.args.self.now.lists c.args.i c.in-Some-get_mut.client.now q c.edit.new.client main_line (λ x D. IsAfterEdit x 0 (main_line x) x.transaction (word_of (edit_view c.args.edit.now)) (resolve D (schema_in_effect D) (next_names x x.transaction) (edit_of c.args.edit.now))) (shown_of c.in-Some-get_mut.client.now c.in-Some.kept.now) c.in_ok-answer.answer (sym c.in-Some-get_mut.ensures.value) at
+    (shown c.args.self.now c.args.i c.in-Some-get_mut.client.now c.in-Some.kept.now c.requires.sound (sym c.in-Some-get_mut.ensures.value) (sym c.in-Some.ensures.value))
+    (done_known c.args.self.now c.args.i c.in-Some-get_mut.client.now c.in-Some.kept.now c.requires.sound (sym c.in-Some-get_mut.ensures.value) (sym c.in-Some.ensures.value) (document_of c.shown_doc.result.now) c.shown_doc.ensures c.in-Some-schema_of.known.now c.in-Some-schema_of.ensures c.args.edit.now c.edit.new.client c.in_ok-answer.answer c.in_ok-answer.ensures.answer))
 
 pub returns-clause-sound : goal.returns-clause-sound
-returns-clause-sound c = sound_edit c.args.self.now c.args.i c.in-Some-get_mut.client.now c.in-Some.kept.now c.requires.sound (sym c.in-Some-get_mut.ensures.value) (sym c.in-Some.ensures.value) c.edit.new.client c.edit.new.kept c.args.edit.now c.in_ok-answer.answer c.in_ok-answer.ensures.answer c.in_ok-answer.ensures.kept
+returns-clause-sound c = sound_edit c.args.self.now c.args.i c.in-Some-get_mut.client.now c.in-Some.kept.now c.requires.sound (sym c.in-Some-get_mut.ensures.value) (sym c.in-Some.ensures.value) c.edit.new.client c.edit.new.kept c.args.edit.now c.in_ok-answer.answer
+    (done_known c.args.self.now c.args.i c.in-Some-get_mut.client.now c.in-Some.kept.now c.requires.sound (sym c.in-Some-get_mut.ensures.value) (sym c.in-Some.ensures.value) (document_of c.shown_doc.result.now) c.shown_doc.ensures c.in-Some-schema_of.known.now c.in-Some-schema_of.ensures c.args.edit.now c.edit.new.client c.in_ok-answer.answer c.in_ok-answer.ensures.answer)
+    (kept_known c.args.self.now c.args.i c.in-Some-get_mut.client.now c.in-Some.kept.now c.requires.sound (sym c.in-Some-get_mut.ensures.value) (sym c.in-Some.ensures.value) (document_of c.shown_doc.result.now) c.shown_doc.ensures c.in-Some-schema_of.known.now c.in-Some-schema_of.ensures c.args.edit.now c.edit.new.client c.edit.new.kept c.in_ok-answer.ensures.kept)
 
 pub returns-clause-refused : goal.returns-clause-refused
 returns-clause-refused c =
     world_refused c.args.self.now c.args.i c.in-Some-get_mut.client.now c.edit.new.client c.in-Some.kept.now c.edit.new.kept c.in_ok-answer.answer (sym c.in-Some-get_mut.ensures.value) (sym c.in-Some.ensures.value)
-    (edit_refused c.in-Some-get_mut.client.now c.edit.new.client c.in-Some.kept.now c.edit.new.kept c.in-Some-get_mut.client.now.transaction (word_of (edit_view c.args.edit.now)) (resolve (shown_of c.in-Some-get_mut.client.now c.in-Some.kept.now) c.args.self.now.header.schema (next_names c.in-Some-get_mut.client.now c.in-Some-get_mut.client.now.transaction) (edit_of c.args.edit.now)) c.in_ok-answer.answer c.in_ok-answer.ensures.answer c.in_ok-answer.ensures.kept)
+    (edit_refused c.in-Some-get_mut.client.now c.edit.new.client c.in-Some.kept.now c.edit.new.kept c.in-Some-get_mut.client.now.transaction (word_of (edit_view c.args.edit.now)) (resolve (shown_of c.in-Some-get_mut.client.now c.in-Some.kept.now) c.in-Some-schema_of.known.now.schema (next_names c.in-Some-get_mut.client.now c.in-Some-get_mut.client.now.transaction) (edit_of c.args.edit.now)) c.in_ok-answer.answer c.in_ok-answer.ensures.answer c.in_ok-answer.ensures.kept)
+
+pub unreachable-requires : goal.unreachable-requires
+unreachable-requires c = main_some c.args.self.now c.args.i c.in-Some-get_mut.client.now c.in-Some.kept.now c.requires.sound (sym c.in-Some-get_mut.ensures.value) (sym c.in-Some.ensures.value) (document_of c.shown_doc.result.now) c.shown_doc.ensures c.in_default-schema_of.ensures

@@ -1,6 +1,11 @@
-use Rattle.std.proofs.Common.{refl, sym, arith}
+use Rattle.std.proofs.Common.{◌≡◌, ◌∙◌, ap, refl, sym, arith}
 use Rattle.st_trace.proofs.Acting.{few_ids, one_at}
-use Rattle.st_trace.proofs.BranchActs.{can_edit, edit_can}
+use Rattle.st_doc.specs.Doc.{document_of}
+use Rattle.st_lists.specs.declared.lists.Client.{Client}
+use Rattle.st_trace.specs.inside.Branches.{head_of}
+use Rattle.st_trace.proofs.BranchActs.{can_edit}
+use Rattle.st_trace.proofs.BranchShown.{head_some, known_there, same_some}
+use Rattle.st_trace.proofs.KnownEdits.{take_known_on, there_known}
 use Rattle.st_trace.proofs.BranchNext.{edit_next, edit_sound_on, edit_stays_on}
 use Rattle.st_trace.proofs.Choosing.{within_edit}
 use Rattle.st_trace.proofs.Everyone.{kept_none, set_same}
@@ -32,13 +37,28 @@ pub edit-requires-clause-can : goal.edit-requires-clause-can
 edit-requires-clause-can c = λ j b g x. can_edit c.args.self.now c.args.i c.in-Some-get_mut.client.now c.in-Some.kept.now c.requires.sound (sym c.in-Some-get_mut.ensures.value) (sym c.in-Some.ensures.value) c.args.number c.requires.other j b g x
 
 pub edit-requires-clause-take : goal.edit-requires-clause-take
-edit-requires-clause-take c = λ j b g x N e. edit_can c.args.self.now c.args.i c.in-Some-get_mut.client.now c.in-Some.kept.now c.requires.sound (sym c.in-Some-get_mut.ensures.value) (sym c.in-Some.ensures.value) c.args.number c.requires.other j b g x c.args.edit.now N e
+edit-requires-clause-take c = take_known_on c.args.self.now c.args.i c.in-Some-get_mut.client.now c.in-Some.kept.now c.requires.sound (sym c.in-Some-get_mut.ensures.value) (sym c.in-Some.ensures.value) c.args.number c.requires.other c.in-Some-head_of.head.now (sym c.in-Some-head_of.ensures) (document_of c.shown_doc.result.now) c.shown_doc.ensures c.in-Some-schema_of.known.now c.in-Some-schema_of.ensures c.args.edit.now
 
 pub returns-clause-next : goal.returns-clause-next
-returns-clause-next c = edit_next c.args.self.now c.args.i c.in-Some-get_mut.client.now c.in-Some.kept.now c.requires.sound (sym c.in-Some-get_mut.ensures.value) (sym c.in-Some.ensures.value) c.args.number c.requires.other c.args.edit.now c.edit.new.client c.edit.new.kept c.in_ok-answer.answer c.in_ok-answer.ensures.there c.in_ok-answer.ensures.absent
+returns-clause-next c = edit_next c.args.self.now c.args.i c.in-Some-get_mut.client.now c.in-Some.kept.now c.requires.sound (sym c.in-Some-get_mut.ensures.value) (sym c.in-Some.ensures.value) c.args.number c.requires.other c.args.edit.now c.edit.new.client c.edit.new.kept c.in_ok-answer.answer (there_known c.args.self.now c.args.i c.in-Some-get_mut.client.now c.in-Some.kept.now c.requires.sound (sym c.in-Some-get_mut.ensures.value) (sym c.in-Some.ensures.value) c.args.number c.requires.other c.in-Some-head_of.head.now (sym c.in-Some-head_of.ensures) (document_of c.shown_doc.result.now) c.shown_doc.ensures c.in-Some-schema_of.known.now c.in-Some-schema_of.ensures c.args.edit.now c.edit.new.client c.edit.new.kept c.in_ok-answer.answer c.in_ok-answer.ensures.there) c.in_ok-answer.ensures.absent
 
 pub returns-clause-sound : goal.returns-clause-sound
-returns-clause-sound c = edit_sound_on c.args.self.now c.args.i c.in-Some-get_mut.client.now c.in-Some.kept.now c.requires.sound (sym c.in-Some-get_mut.ensures.value) (sym c.in-Some.ensures.value) c.args.number c.requires.other c.args.edit.now c.edit.new.client c.edit.new.kept c.in_ok-answer.answer c.in_ok-answer.ensures.there c.in_ok-answer.ensures.absent
+returns-clause-sound c = edit_sound_on c.args.self.now c.args.i c.in-Some-get_mut.client.now c.in-Some.kept.now c.requires.sound (sym c.in-Some-get_mut.ensures.value) (sym c.in-Some.ensures.value) c.args.number c.requires.other c.args.edit.now c.edit.new.client c.edit.new.kept c.in_ok-answer.answer (there_known c.args.self.now c.args.i c.in-Some-get_mut.client.now c.in-Some.kept.now c.requires.sound (sym c.in-Some-get_mut.ensures.value) (sym c.in-Some.ensures.value) c.args.number c.requires.other c.in-Some-head_of.head.now (sym c.in-Some-head_of.ensures) (document_of c.shown_doc.result.now) c.shown_doc.ensures c.in-Some-schema_of.known.now c.in-Some-schema_of.ensures c.args.edit.now c.edit.new.client c.edit.new.kept c.in_ok-answer.answer c.in_ok-answer.ensures.there) c.in_ok-answer.ensures.absent
 
 pub returns-clause-refused : goal.returns-clause-refused
-returns-clause-refused c = edit_stays_on c.args.self.now c.args.i c.in-Some-get_mut.client.now c.in-Some.kept.now c.requires.sound (sym c.in-Some-get_mut.ensures.value) (sym c.in-Some.ensures.value) c.args.number c.requires.other c.args.edit.now c.edit.new.client c.edit.new.kept c.in_ok-answer.answer c.in_ok-answer.ensures.there c.in_ok-answer.ensures.absent
+returns-clause-refused c = edit_stays_on c.args.self.now c.args.i c.in-Some-get_mut.client.now c.in-Some.kept.now c.requires.sound (sym c.in-Some-get_mut.ensures.value) (sym c.in-Some.ensures.value) c.args.number c.requires.other c.args.edit.now c.edit.new.client c.edit.new.kept c.in_ok-answer.answer (there_known c.args.self.now c.args.i c.in-Some-get_mut.client.now c.in-Some.kept.now c.requires.sound (sym c.in-Some-get_mut.ensures.value) (sym c.in-Some.ensures.value) c.args.number c.requires.other c.in-Some-head_of.head.now (sym c.in-Some-head_of.ensures) (document_of c.shown_doc.result.now) c.shown_doc.ensures c.in-Some-schema_of.known.now c.in-Some-schema_of.ensures c.args.edit.now c.edit.new.client c.edit.new.kept c.in_ok-answer.answer c.in_ok-answer.ensures.there) c.in_ok-answer.ensures.absent
+
+pub returns-in_default-head_of-clause-next : goal.returns-in_default-head_of-clause-next
+returns-in_default-head_of-clause-next c = λ q l at line.
+    let k = c.in-Some.kept.now in
+    let same : c.in-Some-get_mut.client.now ≡ q = same_some c.in-Some-get_mut.client.now q (c.in-Some-get_mut.ensures.value ∙ at) in
+    absurd (head_some c.args.self.now c.args.i q k c.requires.sound at (sym c.in-Some.ensures.value) c.args.number l line (ap (λ (x : Client). head_of x k c.args.number) (sym same) ∙ sym c.in_default-head_of.ensures))
+
+pub returns-in_default-head_of-clause-sound : goal.returns-in_default-head_of-clause-sound
+returns-in_default-head_of-clause-sound c = rw (set_same c.args.self.now.kept c.args.i c.in-Some.kept.now (sym c.in-Some.ensures.value), set_same c.args.self.now.lists.clients c.args.i c.in-Some-get_mut.client.now (sym c.in-Some-get_mut.ensures.value)) (sound_later c.args.self.now.steps c.args.self.now c.requires.sound)
+
+pub returns-in_default-head_of-clause-refused : goal.returns-in_default-head_of-clause-refused
+returns-in_default-head_of-clause-refused c = rw (set_same c.args.self.now.kept c.args.i c.in-Some.kept.now (sym c.in-Some.ensures.value), set_same c.args.self.now.lists.clients c.args.i c.in-Some-get_mut.client.now (sym c.in-Some-get_mut.ensures.value)) refl
+
+pub unreachable-requires : goal.unreachable-requires
+unreachable-requires c = known_there c.args.self.now c.args.i c.in-Some-get_mut.client.now c.in-Some.kept.now c.args.number c.in-Some-head_of.head.now (document_of c.shown_doc.result.now) c.requires.sound (sym c.in-Some-get_mut.ensures.value) (sym c.in-Some.ensures.value) (sym c.in-Some-head_of.ensures) c.shown_doc.ensures c.in_default-schema_of.ensures

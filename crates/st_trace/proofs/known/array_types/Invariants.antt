@@ -1,7 +1,7 @@
 -- the types so far whose nodes have a row
 use Rattle.std.proofs.Common.{◌≡◌, ◌≤◌, ◌-◌, length}
 use Rattle.st_trace.proofs.Arrays.{arrays_before}
-use Rattle.st_trace.proofs.world.array_types.Given as goal
+use Rattle.st_trace.proofs.known.array_types.Given as goal
 
 abbrev pub invariant-types : goal.invariant-types
 invariant-types l = record {

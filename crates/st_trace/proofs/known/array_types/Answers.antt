@@ -1,7 +1,7 @@
 use Rattle.std.proofs.Common.{◌+◌, ◌≤◌, [], ◌∷◌, ◌++◌, length, sym, ap, ◌∙◌, arith}
 use Rattle.st_trace.proofs.Arrays.{array_more, array_none, arrays_all, name_within}
-use Rattle.st_trace.proofs.world.array_types.Goals as goal
-use Rattle.st_trace.proofs.world.array_types.Goals.{then-is_array+in_ok-copy+in_ok-push, else-is_array}
+use Rattle.st_trace.proofs.known.array_types.Goals as goal
+use Rattle.st_trace.proofs.known.array_types.Goals.{then-is_array+in_ok-copy+in_ok-push, else-is_array}
 use Rattle.st_schema.proofs.Widening.{few_types}
 
 pub types-preserved : goal.types-preserved
