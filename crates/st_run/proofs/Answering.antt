@@ -1,5 +1,5 @@
 -- What a run answers, from what it read.
-use Rattle.std.proofs.Common.{◌≡◌, ℕ, ◌+◌, ◌<◌, ◌≤◌, nat_lt, Bool, true, false, List, [], ◌∷◌, length, take, Option, Some, None, Result, Ok, Err, refl, sym, subst, ◌∙◌, ap, arith, inl, inr, codes}
+use Rattle.std.proofs.Common.{◌≡◌, ℕ, ◌+◌, ◌<◌, ◌≤◌, nat_lt, Bool, true, false, List, [], ◌∷◌, length, take, slice_get, Option, Some, None, Result, Ok, Err, refl, sym, subst, ◌∙◌, ap, arith, inl, inr, codes}
 use Rattle.std.specs.Option.{IfSome}
 use Rattle.std.proofs.lemmas.Bool.Decides.{nat_tests}
 use Rattle.std.proofs.lemmas.List.{length-take, take-take}
@@ -10,13 +10,18 @@ use Rattle.st_script.specs.Line.{line_of}
 use Rattle.st_script.specs.Steps.{StepView}
 use Rattle.st_lists.specs.Clients.{empty_state}
 use Rattle.st_lists.specs.declared.lists.WorldState.{WorldState}
+use Rattle.st_compat.specs.declared.compare.BadSchema.{BadSchema}
+use Rattle.st_compat.specs.declared.compare.BadSchema.TheVariants.{Stored, View}
+use Rattle.st_compat.specs.SchemaLine.{further_cause}
 use Rattle.st_run.specs.Lines.{cut}
-use Rattle.st_run.specs.Answers.{Output, cut_short, WritesPrefix, OrCutShort, AnswersLine, AnswersOpening, AnswersTrace, IsOutput, IsTraced, IsAnswered, IsAnsweredAs, Answers, AnswersBy, AnswersFrom, max_input, long_output, long_line, is_trace, bad_line}
+use Rattle.st_run.specs.Answers.{Output, cut_short, WritesPrefix, OrCutShort, AnswersLine, AnswersOpening, AnswersTrace, IsOutput, IsCarriedOut, IsAnswered, IsAnsweredAs, Answers, AnswersBy, AnswersFrom, AnswersThird, AnswersRelation, AnswersCompared, AnswersSchemas, AnswersCompat, AnswersLines, max_input, long_output, long_line, command_of, bad_line}
 use Rattle.st_run.proofs.Outputs.{output_also, appends_nothing}
+use Rattle.st_run.specs.declared.command.Command.{Command}
+use Rattle.st_run.specs.declared.command.Command.TheVariants.{Trace, Compat}
 use Rattle.st_run.specs.declared.outcome.Outcome.{Outcome}
 use Rattle.st_run.specs.declared.outcome.Outcome.TheVariants.{Done, Usage, BadLine, TooLong, ReadFault, WriteFault, NoMemory}
 
--- ## No line of a trace ends it as usage
+-- ## No line ends a command as usage
 
 abbrev NotUsage : (Output → Type 0) → Type 0
 NotUsage Wanted = (t : Output) → Wanted t → t.outcome ≡ Usage → ⊥
@@ -41,50 +46,50 @@ trace_other : (ls : List (List ℕ)) → NotUsage (AnswersTrace ls)
 trace_other [] = or_cut_short (λ (t : Output). t ≡ bad_line 1 Header) (λ t e is. cc)
 trace_other (l ∷ ls) = or_cut_short (AnswersOpening (header_line (codes "trace") l) (λ h. AnswersFrom h empty_state 2 ls)) (begun_other (header_line (codes "trace") l) (λ h. AnswersFrom h empty_state 2 ls) (λ h. from_other h empty_state 2 ls))
 
--- ## What was told is the answer
+bad_other : (n : ℕ) (c : BadCause) → NotUsage (λ (t : Output). t ≡ bad_line n c)
+bad_other n c t e is = cc
 
-traced : (left rest old new : Option (List ℕ)) (Wanted : Output → Type 0) (o : Outcome) → NotUsage Wanted → IfSome left (λ bytes. ((t : Output) → Wanted t → Answers bytes t) × (o ≡ Done → rest ≡ Some [])) → IsOutput old new Wanted o → IsTraced left rest old new o
-traced left rest old new Wanted ReadFault other known h = absurd h
-traced left rest old new Wanted Usage other known h = other h.0 h.1 h.2
-traced None rest old new Wanted Done other known h = tt
-traced None rest old new Wanted (BadLine n c) other known h = tt
-traced None rest old new Wanted (TooLong n) other known h = tt
-traced None rest old new Wanted WriteFault other known h = tt
-traced None rest old new Wanted NoMemory other known h = tt
-traced (Some bytes) rest old new Wanted Done other known h = (known.1 refl, output_also old new Wanted (Answers bytes) known.0 Done h)
-traced (Some bytes) rest old new Wanted (BadLine n c) other known h = output_also old new Wanted (Answers bytes) known.0 (BadLine n c) h
-traced (Some bytes) rest old new Wanted (TooLong n) other known h = output_also old new Wanted (Answers bytes) known.0 (TooLong n) h
-traced (Some bytes) rest old new Wanted WriteFault other known h = output_also old new Wanted (Answers bytes) known.0 WriteFault h
-traced (Some bytes) rest old new Wanted NoMemory other known h = output_also old new Wanted (Answers bytes) known.0 NoMemory h
+third_other : (third : Option (List ℕ)) → NotUsage (AnswersThird third)
+third_other None t e is = cc
+third_other (Some l) t e is = bad_other 3 (further_cause l) t e is
 
-answered_trace : (words : List (List ℕ)) (left rest old new : Option (List ℕ)) (o : Outcome) → is_trace words ≡ true → IsTraced left rest old new o → IsAnswered words left rest old new o
-answered_trace words left rest old new o command h = subst (λ b. IsAnsweredAs b left rest old new o) (sym command) h
+relation_other : (line : List ℕ) (third : Option (List ℕ)) → NotUsage (AnswersRelation line third)
+relation_other line third t out is = or_cut_short (AnswersThird third) (third_other third) out.rest out.follows (sym (ap (λ (x : Output). x.outcome) out.whole) ∙ is)
 
-whole_by : (b : Bool) (bytes got : List ℕ) → b ≡ false → got ≡ bytes → (t : Output) → AnswersTrace (cut got) t → AnswersBy b bytes t
-whole_by true bytes got fits read t h = absurd cc
-whole_by false bytes got fits read t h = subst (λ (bs : List ℕ). AnswersTrace (cut bs) t) read h
+compared_other : (r : Result (List ℕ) BadSchema) (third : Option (List ℕ)) → NotUsage (AnswersCompared r third)
+compared_other (Err (Stored c)) third t e is = bad_other 1 c t e is
+compared_other (Err (View c)) third t e is = bad_other 2 c t e is
+compared_other (Ok line) third t out is = relation_other line third t out is
 
-traced_whole : (left rest old new : Option (List ℕ)) (got : List ℕ) (o : Outcome) → length got ≤ max_input → IfSome left (λ bytes. (got ≡ bytes) × (rest ≡ Some [])) → IsOutput old new (AnswersTrace (cut got)) o → IsTraced left rest old new o
-traced_whole None rest old new got o short read h = traced None rest old new (AnswersTrace (cut got)) o (trace_other (cut got)) tt h
-traced_whole (Some bytes) rest old new got o short read h =
-    let fits : nat_lt max_input (length bytes) ≡ false = grind (arith, nat_tests, ap length read.0) in
-    traced (Some bytes) rest old new (AnswersTrace (cut got)) o (trace_other (cut got)) (whole_by (nat_lt max_input (length bytes)) bytes got fits read.0, λ _. read.1) h
+schemas_other : (stored view third : Option (List ℕ)) → NotUsage (AnswersSchemas stored view third)
+schemas_other stored view third t out is = compared_other out.compared third t out.follows is
 
-pub answered_whole : (words : List (List ℕ)) (left rest old new : Option (List ℕ)) (got : List ℕ) (o : Outcome) → is_trace words ≡ true → length got ≤ max_input → IfSome left (λ bytes. (got ≡ bytes) × (rest ≡ Some []))
-    → IsOutput old new (AnswersTrace (cut got)) o → IsAnswered words left rest old new o
-answered_whole words left rest old new got o command short read h = answered_trace words left rest old new o command (traced_whole left rest old new got o short read h)
+compat_other : (ls : List (List ℕ)) → NotUsage (AnswersCompat ls)
+compat_other ls = or_cut_short (AnswersSchemas (slice_get ls 0) (slice_get ls 1) (slice_get ls 2)) (schemas_other (slice_get ls 0) (slice_get ls 1) (slice_get ls 2))
+
+lines_other : (c : Command) (ls : List (List ℕ)) → NotUsage (AnswersLines c ls)
+lines_other Trace ls = trace_other ls
+lines_other Compat ls = compat_other ls
+
+-- ## Nothing is told
+
+trace_cut_short : (ls : List (List ℕ)) → AnswersTrace ls cut_short
+trace_cut_short [] = inl refl
+trace_cut_short (l ∷ ls) = inl refl
+
+lines_cut_short : (c : Command) (ls : List (List ℕ)) → AnswersLines c ls cut_short
+lines_cut_short Trace ls = trace_cut_short ls
+lines_cut_short Compat ls = inl refl
+
+-- ## An input that is too long
 
 abbrev IsLong : ℕ → Output → Type 0
 IsLong n out = out ≡ long_output n
 
-long_by : (b : Bool) (bytes : List ℕ) (n : ℕ) → b ≡ true → n ≡ long_line bytes → (t : Output) → IsLong n t → AnswersBy b bytes t
-long_by true bytes n past line t h = h ∙ ap long_output line
-long_by false bytes n past line t h = absurd cc
-
 not_done : (old new : Option (List ℕ)) (n : ℕ) (o : Outcome) (rest : Option (List ℕ)) → IsOutput old new (IsLong n) o → o ≡ Done → rest ≡ Some []
 not_done old new n Done rest h is = absurd (let ends : (long_output n).outcome ≡ Done = sym (ap (λ (x : Output). x.outcome) h.1) ∙ h.2 in cc)
 not_done old new n Usage rest h is = cc
-not_done old new n (BadLine m c) rest h is = cc
+not_done old new n (BadLine m cause) rest h is = cc
 not_done old new n (TooLong m) rest h is = cc
 not_done old new n ReadFault rest h is = absurd h
 not_done old new n WriteFault rest h is = cc
@@ -93,32 +98,66 @@ not_done old new n NoMemory rest h is = cc
 long_is_no_usage : (n : ℕ) → NotUsage (IsLong n)
 long_is_no_usage n t e is = cc
 
-traced_long : (left rest old new : Option (List ℕ)) (got : List ℕ) (o : Outcome) → max_input < length got → IfSome left (λ bytes. got ≡ take (length got) bytes) → IsOutput old new (IsLong (long_line got)) o → IsTraced left rest old new o
-traced_long None rest old new got o long read h = traced None rest old new (IsLong (long_line got)) o (long_is_no_usage (long_line got)) tt h
-traced_long (Some bytes) rest old new got o long read h =
-    let size : length got ≤ length bytes = omega (arith, ap length read, length-take (length got) bytes) in
-    let past : nat_lt max_input (length bytes) ≡ true = grind (arith, nat_tests) in
-    let same : take max_input bytes ≡ take max_input got = sym (ap (λ (l : List ℕ). take max_input l) read ∙ take-take max_input (length got) bytes (omega arith)) in
-    let line : long_line bytes ≡ long_line got = rw same refl in
-    traced (Some bytes) rest old new (IsLong (long_line got)) o (long_is_no_usage (long_line got)) (long_by (nat_lt max_input (length bytes)) bytes (long_line got) past (sym line), not_done old new (long_line got) o rest h) h
+-- ## What was told is the answer
 
-pub answered_long : (words : List (List ℕ)) (left rest old new : Option (List ℕ)) (got : List ℕ) (o : Outcome) → is_trace words ≡ true → max_input < length got → IfSome left (λ bytes. got ≡ take (length got) bytes)
-    → IsOutput old new (IsLong (long_line got)) o → IsAnswered words left rest old new o
-answered_long words left rest old new got o command long read h = answered_trace words left rest old new o command (traced_long left rest old new got o long read h)
+module _ (c : Command) where
+  carried : (left rest old new : Option (List ℕ)) (Wanted : Output → Type 0) (o : Outcome) → NotUsage Wanted → IfSome left (λ bytes. ((t : Output) → Wanted t → Answers c bytes t) × (o ≡ Done → rest ≡ Some [])) → IsOutput old new Wanted o → IsCarriedOut c left rest old new o
+  carried left rest old new Wanted ReadFault other known h = absurd h
+  carried left rest old new Wanted Usage other known h = other h.0 h.1 h.2
+  carried None rest old new Wanted Done other known h = tt
+  carried None rest old new Wanted (BadLine n cause) other known h = tt
+  carried None rest old new Wanted (TooLong n) other known h = tt
+  carried None rest old new Wanted WriteFault other known h = tt
+  carried None rest old new Wanted NoMemory other known h = tt
+  carried (Some bytes) rest old new Wanted Done other known h = (known.1 refl, output_also old new Wanted (Answers c bytes) known.0 Done h)
+  carried (Some bytes) rest old new Wanted (BadLine n cause) other known h = output_also old new Wanted (Answers c bytes) known.0 (BadLine n cause) h
+  carried (Some bytes) rest old new Wanted (TooLong n) other known h = output_also old new Wanted (Answers c bytes) known.0 (TooLong n) h
+  carried (Some bytes) rest old new Wanted WriteFault other known h = output_also old new Wanted (Answers c bytes) known.0 WriteFault h
+  carried (Some bytes) rest old new Wanted NoMemory other known h = output_also old new Wanted (Answers c bytes) known.0 NoMemory h
 
--- ## Nothing was written
+  answered_command : (words : List (List ℕ)) (left rest old new : Option (List ℕ)) (o : Outcome) → command_of words ≡ Some c → IsCarriedOut c left rest old new o → IsAnswered words left rest old new o
+  answered_command words left rest old new o command h = subst (λ (asked : Option Command). IsAnsweredAs asked left rest old new o) (sym command) h
 
-trace_cut_short : (ls : List (List ℕ)) → AnswersTrace ls cut_short
-trace_cut_short [] = inl refl
-trace_cut_short (l ∷ ls) = inl refl
+  whole_by : (b : Bool) (bytes got : List ℕ) → b ≡ false → got ≡ bytes → (t : Output) → AnswersLines c (cut got) t → AnswersBy c b bytes t
+  whole_by true bytes got fits read t h = absurd cc
+  whole_by false bytes got fits read t h = subst (λ (bs : List ℕ). AnswersLines c (cut bs) t) read h
 
-nothing_by : (b : Bool) (bytes : List ℕ) (old : Option (List ℕ)) → WritesPrefix old old (AnswersBy b bytes)
-nothing_by true bytes old = (long_output (long_line bytes), refl, (0, appends_nothing old))
-nothing_by false bytes old = (cut_short, trace_cut_short (cut bytes), (0, appends_nothing old))
+  carried_whole : (left rest old new : Option (List ℕ)) (got : List ℕ) (o : Outcome) → length got ≤ max_input → IfSome left (λ bytes. (got ≡ bytes) × (rest ≡ Some [])) → IsOutput old new (AnswersLines c (cut got)) o → IsCarriedOut c left rest old new o
+  carried_whole None rest old new got o short read h = carried None rest old new (AnswersLines c (cut got)) o (lines_other c (cut got)) tt h
+  carried_whole (Some bytes) rest old new got o short read h =
+      let fits : nat_lt max_input (length bytes) ≡ false = grind (arith, nat_tests, ap length read.0) in
+      carried (Some bytes) rest old new (AnswersLines c (cut got)) o (lines_other c (cut got)) (whole_by (nat_lt max_input (length bytes)) bytes got fits read.0, λ _. read.1) h
 
-traced_nothing : (left rest old : Option (List ℕ)) → IsTraced left rest old old NoMemory
-traced_nothing None rest old = tt
-traced_nothing (Some bytes) rest old = nothing_by (nat_lt max_input (length bytes)) bytes old
+  pub answered_whole : (words : List (List ℕ)) (left rest old new : Option (List ℕ)) (got : List ℕ) (o : Outcome) → command_of words ≡ Some c → length got ≤ max_input → IfSome left (λ bytes. (got ≡ bytes) × (rest ≡ Some []))
+      → IsOutput old new (AnswersLines c (cut got)) o → IsAnswered words left rest old new o
+  answered_whole words left rest old new got o command short read h = answered_command words left rest old new o command (carried_whole left rest old new got o short read h)
 
-pub answered_nothing : (words : List (List ℕ)) (left rest old : Option (List ℕ)) → is_trace words ≡ true → IsAnswered words left rest old old NoMemory
-answered_nothing words left rest old command = answered_trace words left rest old old NoMemory command (traced_nothing left rest old)
+  long_by : (b : Bool) (bytes : List ℕ) (n : ℕ) → b ≡ true → n ≡ long_line bytes → (t : Output) → IsLong n t → AnswersBy c b bytes t
+  long_by true bytes n past line t h = h ∙ ap long_output line
+  long_by false bytes n past line t h = absurd cc
+
+  carried_long : (left rest old new : Option (List ℕ)) (got : List ℕ) (o : Outcome) → max_input < length got → IfSome left (λ bytes. got ≡ take (length got) bytes) → IsOutput old new (IsLong (long_line got)) o → IsCarriedOut c left rest old new o
+  carried_long None rest old new got o long read h = carried None rest old new (IsLong (long_line got)) o (long_is_no_usage (long_line got)) tt h
+  carried_long (Some bytes) rest old new got o long read h =
+      let size : length got ≤ length bytes = omega (arith, ap length read, length-take (length got) bytes) in
+      let past : nat_lt max_input (length bytes) ≡ true = grind (arith, nat_tests) in
+      let same : take max_input bytes ≡ take max_input got = sym (ap (λ (l : List ℕ). take max_input l) read ∙ take-take max_input (length got) bytes (omega arith)) in
+      let line : long_line bytes ≡ long_line got = rw same refl in
+      carried (Some bytes) rest old new (IsLong (long_line got)) o (long_is_no_usage (long_line got)) (long_by (nat_lt max_input (length bytes)) bytes (long_line got) past (sym line), not_done old new (long_line got) o rest h) h
+
+  pub answered_long : (words : List (List ℕ)) (left rest old new : Option (List ℕ)) (got : List ℕ) (o : Outcome) → command_of words ≡ Some c → max_input < length got → IfSome left (λ bytes. got ≡ take (length got) bytes)
+      → IsOutput old new (IsLong (long_line got)) o → IsAnswered words left rest old new o
+  answered_long words left rest old new got o command long read h = answered_command words left rest old new o command (carried_long left rest old new got o long read h)
+
+  -- nothing was written
+
+  nothing_by : (b : Bool) (bytes : List ℕ) (old : Option (List ℕ)) → WritesPrefix old old (AnswersBy c b bytes)
+  nothing_by true bytes old = (long_output (long_line bytes), refl, (0, appends_nothing old))
+  nothing_by false bytes old = (cut_short, lines_cut_short c (cut bytes), (0, appends_nothing old))
+
+  carried_nothing : (left rest old : Option (List ℕ)) → IsCarriedOut c left rest old old NoMemory
+  carried_nothing None rest old = tt
+  carried_nothing (Some bytes) rest old = nothing_by (nat_lt max_input (length bytes)) bytes old
+
+  pub answered_nothing : (words : List (List ℕ)) (left rest old : Option (List ℕ)) → command_of words ≡ Some c → IsAnswered words left rest old old NoMemory
+  answered_nothing words left rest old command = answered_command words left rest old old NoMemory command (carried_nothing left rest old)

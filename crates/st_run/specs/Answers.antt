@@ -1,11 +1,15 @@
 -- What is answered to an input, and what of it was written at each outcome.
-use Rattle.std.specs.Prelude.{◌≡◌, ℕ, ◌+◌, ◌==◌, nat_lt, nat_eq, Bool, true, false, count_by, length, take, List, [], ◌∷◌, ◌++◌, Option, Some, IfSome, Result, Ok, Err, codes, ◌⊎◌}
+use Rattle.std.specs.Prelude.{◌≡◌, ℕ, ◌+◌, ◌==◌, nat_lt, nat_eq, Bool, true, false, count_by, length, take, List, [], ◌∷◌, ◌++◌, slice_get, Option, Some, None, IfSome, Result, Ok, Err, if◌then◌else◌, codes, ◌⊎◌}
 use Rattle.std.specs.Cmp.Lexicographic.{pointwise}
 use Rattle.st_io.specs.Bytes.{Appends}
 use Rattle.serde_json.specs.Data.{Data, number, unsigned, string, object, no_members, member}
 use Rattle.serde_json.specs.Written.{compact_text}
 use Rattle.st_json.specs.declared.fault.BadCause.{BadCause}
 use Rattle.st_json.specs.declared.fault.BadCause.TheVariants.{Json, Header, Shape, NotNormal}
+use Rattle.st_compat.specs.Compared.{IsCompared}
+use Rattle.st_compat.specs.SchemaLine.{further_cause}
+use Rattle.st_compat.specs.declared.compare.BadSchema.{BadSchema}
+use Rattle.st_compat.specs.declared.compare.BadSchema.TheVariants.{Stored, View}
 use Rattle.st_script.specs.AnswerText.{answer_line}
 use Rattle.st_script.specs.Header.{HeaderView, header_line}
 use Rattle.st_script.specs.Line.{line_of}
@@ -17,6 +21,8 @@ use Rattle.st_trace.specs.World.{IsNext}
 use Rattle.st_lists.specs.declared.lists.WorldState.{WorldState}
 use Rattle.st_run.specs.Lines.{cut}
 use Rattle.st_run.specs.Parts.{AppendsPrefix}
+use Rattle.st_run.specs.declared.command.Command.{Command}
+use Rattle.st_run.specs.declared.command.Command.TheVariants.{Trace, Compat}
 use Rattle.st_run.specs.declared.outcome.Outcome.{Outcome}
 use Rattle.st_run.specs.declared.outcome.Outcome.TheVariants.{Done, Usage, BadLine, TooLong, ReadFault, WriteFault, NoMemory}
 
@@ -104,13 +110,50 @@ abbrev pub AnswersTrace : List (List ℕ) → Output → Type 0
 AnswersTrace [] out = OrCutShort (λ (t : Output). t ≡ bad_line 1 Header) out
 AnswersTrace (l ∷ ls) out = OrCutShort (AnswersOpening (header_line (codes "trace") l) (λ h. AnswersFrom h empty_state 2 ls)) out
 
-abbrev pub AnswersBy : Bool → List ℕ → Output → Type 0
-AnswersBy true bytes out = out ≡ long_output (long_line bytes)
-AnswersBy false bytes out = AnswersTrace (cut bytes) out
+-- ## The answers to two schemas
 
--- the command `trace` over an input, which is taken whole
-abbrev pub Answers : List ℕ → Output → Type 0
-Answers bytes = AnswersBy (nat_lt max_input (length bytes)) bytes
+-- a line that follows the two is bad
+abbrev pub AnswersThird : Option (List ℕ) → Output → Type 0
+AnswersThird None out = out ≡ record { bytes = []; outcome = Done }
+AnswersThird (Some l) out = out ≡ bad_line 3 (further_cause l)
+
+-- the line of the relation of two schemas, and what follows it
+pub record AnswersRelation (line : List ℕ) (third : Option (List ℕ)) (out : Output) : Type 0 where
+  pub rest : Output
+  pub follows : OrCutShort (AnswersThird third) rest
+  pub whole : out ≡ before line rest
+
+-- the first of the two lines that is no schema
+abbrev pub bad_schema : BadSchema → Output
+bad_schema (Stored c) = bad_line 1 c
+bad_schema (View c) = bad_line 2 c
+
+abbrev pub AnswersCompared : Result (List ℕ) BadSchema → Option (List ℕ) → Output → Type 0
+AnswersCompared (Err bad) third out = out ≡ bad_schema bad
+AnswersCompared (Ok line) third out = AnswersRelation line third out
+
+-- what the first two lines come to, and what follows
+pub record AnswersSchemas (stored view third : Option (List ℕ)) (out : Output) : Type 0 where
+  pub compared : Result (List ℕ) BadSchema
+  pub is : IsCompared stored view compared
+  pub follows : AnswersCompared compared third out
+
+abbrev pub AnswersCompat : List (List ℕ) → Output → Type 0
+AnswersCompat ls out = OrCutShort (AnswersSchemas (slice_get ls 0) (slice_get ls 1) (slice_get ls 2)) out
+
+-- ## The answers of a command
+
+abbrev pub AnswersLines : Command → List (List ℕ) → Output → Type 0
+AnswersLines Trace ls out = AnswersTrace ls out
+AnswersLines Compat ls out = AnswersCompat ls out
+
+abbrev pub AnswersBy : Command → Bool → List ℕ → Output → Type 0
+AnswersBy c true bytes out = out ≡ long_output (long_line bytes)
+AnswersBy c false bytes out = AnswersLines c (cut bytes) out
+
+-- a command over an input, which is taken whole
+abbrev pub Answers : Command → List ℕ → Output → Type 0
+Answers c bytes = AnswersBy c (nat_lt max_input (length bytes)) bytes
 
 -- ## What was written
 
@@ -132,32 +175,37 @@ IsOutput old new Wanted Usage = WritesAll old new Wanted Usage
 IsOutput old new Wanted (BadLine n c) = WritesAll old new Wanted (BadLine n c)
 IsOutput old new Wanted (TooLong n) = WritesAll old new Wanted (TooLong n)
 
--- ## One line
+-- ## One run
 
--- the words are the one command
-abbrev pub is_trace : List (List ℕ) → Bool
-is_trace [] = false
-is_trace (w ∷ []) = pointwise nat_eq w (codes "trace")
-is_trace (w ∷ v ∷ ws) = false
+abbrev pub command_named : List ℕ → Option Command
+command_named word =
+    if pointwise nat_eq word (codes "trace") then Some Trace else
+    if pointwise nat_eq word (codes "compat") then Some Compat else None
+
+-- the command that the words are: one word, which names it
+abbrev pub command_of : List (List ℕ) → Option Command
+command_of [] = None
+command_of (w ∷ []) = command_named w
+command_of (w ∷ v ∷ ws) = None
 
 -- the answers to the bytes that the source had left; at `Done` none are left, and where the source failed nothing is written
-abbrev pub IsTraced : Option (List ℕ) → Option (List ℕ) → Option (List ℕ) → Option (List ℕ) → Outcome → Type 0
-IsTraced left rest old new Usage = ⊥
-IsTraced left rest old new ReadFault = new ≡ old
-IsTraced left rest old new Done = IfSome left (λ bytes. (rest ≡ Some []) × IsOutput old new (Answers bytes) Done)
-IsTraced left rest old new (BadLine n c) = IfSome left (λ bytes. IsOutput old new (Answers bytes) (BadLine n c))
-IsTraced left rest old new (TooLong n) = IfSome left (λ bytes. IsOutput old new (Answers bytes) (TooLong n))
-IsTraced left rest old new WriteFault = IfSome left (λ bytes. IsOutput old new (Answers bytes) WriteFault)
-IsTraced left rest old new NoMemory = IfSome left (λ bytes. IsOutput old new (Answers bytes) NoMemory)
+abbrev pub IsCarriedOut : Command → Option (List ℕ) → Option (List ℕ) → Option (List ℕ) → Option (List ℕ) → Outcome → Type 0
+IsCarriedOut c left rest old new Usage = ⊥
+IsCarriedOut c left rest old new ReadFault = new ≡ old
+IsCarriedOut c left rest old new Done = IfSome left (λ bytes. (rest ≡ Some []) × IsOutput old new (Answers c bytes) Done)
+IsCarriedOut c left rest old new (BadLine n cause) = IfSome left (λ bytes. IsOutput old new (Answers c bytes) (BadLine n cause))
+IsCarriedOut c left rest old new (TooLong n) = IfSome left (λ bytes. IsOutput old new (Answers c bytes) (TooLong n))
+IsCarriedOut c left rest old new WriteFault = IfSome left (λ bytes. IsOutput old new (Answers c bytes) WriteFault)
+IsCarriedOut c left rest old new NoMemory = IfSome left (λ bytes. IsOutput old new (Answers c bytes) NoMemory)
 
-abbrev pub IsAnsweredAs : Bool → Option (List ℕ) → Option (List ℕ) → Option (List ℕ) → Option (List ℕ) → Outcome → Type 0
-IsAnsweredAs true left rest old new outcome = IsTraced left rest old new outcome
-IsAnsweredAs false left rest old new outcome = (rest ≡ left) × IsOutput old new (λ (out : Output). out ≡ usage_output) outcome
+abbrev pub IsAnsweredAs : Option Command → Option (List ℕ) → Option (List ℕ) → Option (List ℕ) → Option (List ℕ) → Outcome → Type 0
+IsAnsweredAs (Some c) left rest old new outcome = IsCarriedOut c left rest old new outcome
+IsAnsweredAs None left rest old new outcome = (rest ≡ left) × IsOutput old new (λ (out : Output). out ≡ usage_output) outcome
 
--- what a run wrote by its words, from what its source had left before and after: other words than the command get the
+-- what a run wrote by its words, from what its source had left before and after: words that are no command get the
 -- usage line, and nothing of the source is read
 abbrev pub IsAnswered : List (List ℕ) → Option (List ℕ) → Option (List ℕ) → Option (List ℕ) → Option (List ℕ) → Outcome → Type 0
-IsAnswered words = IsAnsweredAs (is_trace words)
+IsAnswered words = IsAnsweredAs (command_of words)
 
 -- the words and the bytes decide how it ends: neither memory nor the source nor the sink failed
 abbrev pub NothingFailed : Outcome → Type 0

@@ -1,9 +1,11 @@
 //! A run, from its words and its input to its answers.
-ghost use Rattle.std.specs.Prelude.{◌≡◌, ◌+◌, ◌==◌, ◌<◌, ◌≤◌, ◌^◌, false, length, map, take, count_by, string_bytes, IfOk};
+ghost use Rattle.std.specs.Prelude.{◌≡◌, ◌+◌, ◌==◌, ◌<◌, ◌≤◌, ◌^◌, None, length, map, take, count_by, string_bytes, IfOk};
 ghost use Rattle.serde_json.specs.View.{view};
 ghost use Rattle.st_io.specs.Counts.{Rose};
-ghost use Rattle.st_run.specs.Answers.{is_trace, usage_data, usage_output, max_input, long_line, long_data, long_output, IsOutput, IsAnswered};
+ghost use Rattle.st_run.specs.Lines.{cut};
+ghost use Rattle.st_run.specs.Answers.{command_named, command_of, usage_data, usage_output, max_input, long_line, long_data, long_output, AnswersLines, IsOutput, IsAnswered};
 
+use crate::compat::answer_schemas;
 use crate::outcome::Outcome;
 use crate::send::write_all;
 use crate::take::{Input, read_all};
@@ -15,13 +17,33 @@ use std::alloc::{AllocError, Global};
 
 const MAX_INPUT: usize = 1 << 20;
 
-// Whether the words are a command.
-fn is_trace(words: &Vec<String>) -> bool
-    ensures { result ≡ is_trace (map string_bytes words.now.items) }
+/// What is asked for.
+#[derive(Clone, Copy)]
+pub enum Command {
+    /// The answers to a header and steps.
+    Trace,
+    /// The relation of two schemas.
+    Compat,
+}
+
+// The command of a name.
+fn command_named(word: &str) -> Option<Command>
+    ensures { result ≡ command_named word.now }
+{
+    match word {
+        "trace" => Some(Command::Trace),
+        "compat" => Some(Command::Compat),
+        _ => None,
+    }
+}
+
+// The command that the words are.
+fn command_of(words: &Vec<String>) -> Option<Command>
+    ensures { result ≡ command_of (map string_bytes words.now.items) }
 {
     match words.as_slice() {
-        [word] => word.as_str() == "trace",
-        _ => false,
+        [word] => command_named(word.as_str()),
+        _ => None,
     }
 }
 
@@ -87,7 +109,20 @@ fn send_long<K: Sink>(alloc: Global, line: u32, sink: &mut K) -> Outcome
     }
 }
 
-/// Answers the lines of a source, or the usage line where the words are no command: then nothing is read.
+// Answers some bytes, which are all of the input.
+fn answer<K: Sink>(alloc: Global, command: Command, bytes: &[u8], sink: &mut K) -> Outcome
+    requires { length bytes.now < 2 ^ 24 }
+    ensures output { IsOutput (K.written sink.old) (K.written sink.new) (AnswersLines command (cut bytes.now)) result }
+    ensures fault { result ≡ Outcome.WriteFault → Rose (K.faults sink.old) (K.faults sink.new) }
+{
+    match command {
+        Command::Trace => trace(alloc, bytes, sink),
+        Command::Compat => answer_schemas(alloc, bytes, sink),
+    }
+}
+
+/// Answers the lines of a source by the command that the words are, or by the usage line where they are none: then nothing
+/// is read.
 pub fn run<S: Source, K: Sink>(
     alloc: Global,
     words: &Vec<String>,
@@ -96,17 +131,17 @@ pub fn run<S: Source, K: Sink>(
 ) -> Outcome
     ensures answered { IsAnswered (map string_bytes words.now.items) (S.left source.old) (S.left source.new)
         (K.written sink.old) (K.written sink.new) result }
-    ensures unread { is_trace (map string_bytes words.now.items) ≡ false → S.calls source.new ≡ S.calls source.old }
+    ensures unread { command_of (map string_bytes words.now.items) ≡ None → S.calls source.new ≡ S.calls source.old }
     ensures read_fault { result ≡ Outcome.ReadFault → Rose (S.faults source.old) (S.faults source.new) }
     ensures write_fault { result ≡ Outcome.WriteFault → Rose (K.faults sink.old) (K.faults sink.new) }
 {
-    if !is_trace(words) {
+    let Some(command) = command_of(words) else {
         return send_usage(alloc, sink);
-    }
+    };
     match read_all(alloc, source, MAX_INPUT) {
         Input::Fault => Outcome::ReadFault,
         Input::NoMemory => Outcome::NoMemory,
         Input::Over(bytes) => send_long(alloc, long_line(bytes.as_slice()), sink),
-        Input::All(bytes) => trace(alloc, bytes.as_slice(), sink),
+        Input::All(bytes) => answer(alloc, command, bytes.as_slice(), sink),
     }
 }

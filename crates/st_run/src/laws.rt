@@ -1,11 +1,12 @@
 //! Laws about answers: each is the contract of a function that does nothing.
 ghost use Rattle.std.specs.Prelude.{ℕ, List, Option, Some};
 ghost use Rattle.st_run.specs.Answers.{Answers, IsAnswered, NothingFailed, Output};
+ghost use Rattle.st_run.specs.declared.command.Command.{Command};
 ghost use Rattle.st_run.specs.declared.outcome.Outcome.{Outcome};
 
-/// Each input has its answers, from the first line to the one that ends the run, and not cut short.
+/// Each input has its answers under each command, from the first line to the one that ends the run, and not cut short.
 pub fn each_input_has_answers()
-    ensures { (bytes : List ℕ) → (out : Output) × Answers bytes out × NothingFailed out.outcome }
+    ensures { (command : Command) (bytes : List ℕ) → (out : Output) × Answers command bytes out × NothingFailed out.outcome }
 {}
 
 /// Whatever the words are, whatever bytes a source has left and whatever a sink has written: there

@@ -1,7 +1,9 @@
 //! A run: from the words, the source and the sink of a program to its answers and its outcome.
 #![tactic(auto)]
 
+mod bad;
 mod command;
+mod compat;
 mod laws;
 mod lines;
 mod outcome;

@@ -3,7 +3,6 @@ ghost use Rattle.std.specs.Prelude.{◌≡◌, false, ◌+◌, ◌^◌, ◌<◌,
 ghost use Rattle.st_ids.specs.Or.{IfRefused};
 ghost use Rattle.st_io.specs.Bytes.{Appends};
 ghost use Rattle.st_io.specs.Counts.{Rose};
-ghost use Rattle.serde_json.specs.View.{view};
 ghost use Rattle.st_script.specs.AnswerText.{answer_line};
 ghost use Rattle.st_script.specs.Header.{header_view, header_line};
 ghost use Rattle.st_script.specs.Line.{line_of, line_view};
@@ -11,60 +10,19 @@ ghost use Rattle.st_script.specs.Steps.{step_view};
 ghost use Rattle.st_trace.specs.Replicas.{IsSound};
 ghost use Rattle.st_lists.specs.Clients.{empty_state};
 ghost use Rattle.st_run.specs.Lines.{cut};
-ghost use Rattle.st_run.specs.Answers.{OrCutShort, AnswersHeader, cause_name, bad_data, bad_line, AnswersFrom, AnswersTrace, IsOutput};
+ghost use Rattle.st_run.specs.Answers.{OrCutShort, AnswersHeader, bad_line, AnswersFrom, AnswersTrace, IsOutput};
 ghost use Rattle.st_run.specs.inside.Answers.{IsCutShort, IsLineAnswered, EndsAtLine};
 
+use crate::bad::refuse;
 use crate::lines::split_line;
 use crate::outcome::Outcome;
 use crate::send::write_all;
-use serde_json::{Value, json};
 use st_ids::Or;
 use st_io::Sink;
-use st_json::{BadCause, write_line};
+use st_json::BadCause;
 use st_script::{Answer, Line, TraceStep, answer_line, read_header as header_of, read_step_line};
 use st_trace::World;
-use std::alloc::{AllocError, Global};
-
-// The word for a cause.
-fn cause_word(cause: BadCause) -> &'static str
-    ensures { result.now ≡ cause_name cause }
-{
-    match cause {
-        BadCause::Json => "Json",
-        BadCause::Header => "Header",
-        BadCause::Shape => "Shape",
-        BadCause::NotNormal => "NotNormal",
-    }
-}
-
-// What names a bad line.
-fn bad_value(alloc: Global, number: u32, cause: BadCause) -> Result<Value, AllocError>
-    ensures { IfOk result (λ v. view v ≡ bad_data number cause) }
-{
-    let word = cause_word(cause);
-    json!(in alloc; {"bad": word, "line": number})
-}
-
-// Ends a run at a bad line.
-fn refuse<K: Sink>(alloc: Global, number: u32, cause: BadCause, sink: &mut K) -> Outcome
-    ensures output { IsOutput (K.written sink.old) (K.written sink.new) (OrCutShort (λ out. out ≡ bad_line number cause)) result }
-    ensures fault { result ≡ Outcome.WriteFault → Rose (K.faults sink.old) (K.faults sink.new) }
-    ensures later { K.faults sink.old ≤ K.faults sink.new }
-{
-    let Ok(value) = bad_value(alloc, number, cause) else {
-        return Outcome::NoMemory;
-    };
-    let Ok(line) = write_line(alloc, &value) else {
-        return Outcome::NoMemory;
-    };
-    match write_all(sink, line.as_str().as_bytes()) {
-        Ok(()) => Outcome::BadLine {
-            line: number,
-            cause,
-        },
-        Err(_) => Outcome::WriteFault,
-    }
-}
+use std::alloc::Global;
 
 // Answers the step that a line was read as. At `Err` the run has ended.
 fn take_step<K: Sink>(

@@ -1,7 +1,7 @@
 use Rattle.std.proofs.Common.{◌≡◌, inr, refl}
 use Rattle.st_run.specs.Answers.{Output, bad_line}
 use Rattle.st_run.proofs.Outputs.{nothing_is_output}
-use Rattle.st_run.proofs.trace.refuse.Goals as goal
+use Rattle.st_run.proofs.bad.refuse.Goals as goal
 
 pub returns-in_default-clause-output : goal.returns-in_default-clause-output
 returns-in_default-clause-output g c = nothing_is_output _ (λ (out : Output). out ≡ bad_line c.args.number c.args.cause)
