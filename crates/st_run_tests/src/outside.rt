@@ -21,6 +21,13 @@ const ANSWERS: &str = r#"{"ok":"header"}
 {"n":2,"ok":"join","s":2}
 "#;
 
+const SCHEMAS: &str = r#"{"root":["list"],"types":[{"array":["text"],"name":"list"}]}
+{"root":["list"],"types":[{"array":["text","int"],"name":"list"}]}
+"#;
+
+const UPGRADE: &str = r#"{"ok":"compat","view":"Upgrade"}
+"#;
+
 const USAGE: &str = r#"{"usage":"trace | replay | algebra | compat | work --seed N --steps M"}
 "#;
 
@@ -38,6 +45,7 @@ fn words_of(alloc: Global, text: &str) -> Result<Vec<String>, AllocError> {
 fn ends(
     alloc: Global,
     words: &str,
+    input: &str,
     reads: Vec<u64>,
     most: usize,
     writes: Vec<u64>,
@@ -47,7 +55,7 @@ fn ends(
     requires { 0 < most }
 {
     let words = words_of(alloc, words)?;
-    let mut source = MemSource::new(Vec::from_slice(alloc, HEADER_AND_TWO.as_bytes())?, reads);
+    let mut source = MemSource::new(Vec::from_slice(alloc, input.as_bytes())?, reads);
     let mut sink = MemSink::new(alloc, most, writes);
     let came = run(alloc, &words, &mut source, &mut sink);
     Ok(came == outcome && sink.bytes() == written.as_bytes())
@@ -62,6 +70,7 @@ fn read_fails(alloc: Global) -> Result<bool, AllocError> {
     ends(
         alloc,
         "trace",
+        HEADER_AND_TWO,
         reads,
         4096,
         Vec::new(alloc),
@@ -76,6 +85,7 @@ fn write_fails(alloc: Global) -> Result<bool, AllocError> {
     ends(
         alloc,
         "trace",
+        HEADER_AND_TWO,
         Vec::new(alloc),
         1,
         writes,
@@ -88,6 +98,7 @@ fn nothing_fails(alloc: Global) -> Result<bool, AllocError> {
     ends(
         alloc,
         "trace",
+        HEADER_AND_TWO,
         Vec::new(alloc),
         1,
         Vec::new(alloc),
@@ -102,12 +113,67 @@ fn words_are_wrong(alloc: Global) -> Result<bool, AllocError> {
     ends(
         alloc,
         "trace trace",
+        HEADER_AND_TWO,
         reads,
         4096,
         Vec::new(alloc),
         Outcome::Usage,
         USAGE,
     )
+}
+
+// The answer to two schemas is written in parts, of which the fourth fails.
+fn write_of_a_relation_fails(alloc: Global) -> Result<bool, AllocError> {
+    let writes = one(alloc, 4)?;
+    ends(
+        alloc,
+        "compat",
+        SCHEMAS,
+        Vec::new(alloc),
+        1,
+        writes,
+        Outcome::WriteFault,
+        "{\"o",
+    )
+}
+
+fn read_of_schemas_fails(alloc: Global) -> Result<bool, AllocError> {
+    let reads = one(alloc, 2)?;
+    ends(
+        alloc,
+        "compat",
+        SCHEMAS,
+        reads,
+        4096,
+        Vec::new(alloc),
+        Outcome::ReadFault,
+        "",
+    )
+}
+
+fn schemas_are_related(alloc: Global) -> Result<bool, AllocError> {
+    ends(
+        alloc,
+        "compat",
+        SCHEMAS,
+        Vec::new(alloc),
+        1,
+        Vec::new(alloc),
+        Outcome::Done,
+        UPGRADE,
+    )
+}
+
+#[test]
+fn faults_around_two_schemas(rt: HostRuntime) -> Result<(), Fail> {
+    let alloc = rt.alloc();
+    let (read, write) = (
+        read_of_schemas_fails(alloc)?,
+        write_of_a_relation_fails(alloc)?,
+    );
+    let none = schemas_are_related(alloc)?;
+    assert!(rt; read && write && none, "{read} {write} {none}");
+    Ok(())
 }
 
 #[test]
@@ -132,8 +198,8 @@ fn long_input(alloc: Global, lines: u32) -> Result<Vec<u8>, AllocError> {
 }
 
 // Of 38,833 lines behind the header the last one holds the byte past the limit.
-fn long_input_is_refused(alloc: Global) -> Result<bool, AllocError> {
-    let words = words_of(alloc, "trace")?;
+fn long_input_is_refused(alloc: Global, words: &str) -> Result<bool, AllocError> {
+    let words = words_of(alloc, words)?;
     let mut source = MemSource::new(long_input(alloc, 40000)?, Vec::new(alloc));
     let mut sink = MemSink::new(alloc, 4096, Vec::new(alloc));
     let came = run(alloc, &words, &mut source, &mut sink);
@@ -142,6 +208,9 @@ fn long_input_is_refused(alloc: Global) -> Result<bool, AllocError> {
 
 #[test]
 fn an_input_past_the_limit_is_too_long(rt: HostRuntime) -> Result<(), Fail> {
-    assert!(rt; long_input_is_refused(rt.alloc())?);
+    let alloc = rt.alloc();
+    let trace = long_input_is_refused(alloc, "trace")?;
+    let compat = long_input_is_refused(alloc, "compat")?;
+    assert!(rt; trace && compat, "{trace} {compat}");
     Ok(())
 }

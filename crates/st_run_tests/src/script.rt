@@ -50,7 +50,7 @@ fn first_use(rt: HostRuntime) {
 }
 
 // A line of each step, with every member. The last holds a tree that no schema allows.
-const WHOLE_LINES: [&str; 16] = [
+const WHOLE_LINES: [&str; 17] = [
     r#"{"client":"A","do":"join"}"#,
     r#"{"at":["",2],"branch":3,"client":"A","do":"insert","index":1,"items":[null,{"m":{"a":true,"b":-7}}],"key":"k"}"#,
     r#"{"at":[],"branch":0,"client":"A","count":2,"do":"remove","index":1,"key":""}"#,
@@ -62,6 +62,7 @@ const WHOLE_LINES: [&str; 16] = [
     r#"{"branch":4294967295,"client":"A","do":"commit"}"#,
     r#"{"branch":1,"client":"A","do":"abort"}"#,
     r#"{"client":"A","do":"undo","rev":"1.4294967295"}"#,
+    r#"{"client":"A","do":"upgrade","schema":{"root":["o"],"types":[{"array":["text","int"],"name":"list"},{"name":"o","object":{"a":["opt",["list"]],"b":["req",["text"]]}}]}}"#,
     r#"{"client":"A","do":"sequence"}"#,
     r#"{"client":"A","do":"ack"}"#,
     r#"{"client":"A","do":"deliver"}"#,
@@ -142,7 +143,7 @@ fn tall_trees(rt: HostRuntime) {
 }
 
 // Lines that are no steps, each with the first test that it fails.
-const BAD_LINES: [(&str, BadCause); 16] = [
+const BAD_LINES: [(&str, BadCause); 19] = [
     (r#"{"client":"A","do":"show""#, BadCause::Json),
     (r#"[]"#, BadCause::Shape),
     (r#"{"client":"A"}"#, BadCause::Shape),
@@ -162,6 +163,15 @@ const BAD_LINES: [(&str, BadCause); 16] = [
         BadCause::Shape,
     ),
     (r#"{"client":"A","do":"clear","at":[""]}"#, BadCause::Shape),
+    (r#"{"client":"A","do":"upgrade"}"#, BadCause::Shape),
+    (
+        r#"{"client":"A","do":"upgrade","schema":{"root":["list"],"types":[]}}"#,
+        BadCause::Shape,
+    ),
+    (
+        r#"{"branch":0,"client":"A","do":"upgrade","schema":{"root":["int"],"types":[]}}"#,
+        BadCause::Shape,
+    ),
     (r#"{"client":"A","do":"need"}"#, BadCause::Shape),
     (r#"{"client":"A","do":"begin","at":[]}"#, BadCause::Shape),
     (r#"{"client":"A","do":"set","at":[]}"#, BadCause::Shape),
@@ -225,14 +235,24 @@ fn numbers_are_written(alloc: Global) -> Result<bool, AllocError> {
     Ok(ack.as_str() == ACK_LINE && gone.as_str() == GONE_LINE)
 }
 
+const UPGRADE_LINE: &str = "{\"ok\":\"upgrade\",\"rev\":\"2.3\"}\n";
+
+const NOT_WIDER_LINE: &str = "{\"at\":1,\"no\":\"NotWider\"}\n";
+
+fn upgrades_are_written(alloc: Global) -> Result<bool, AllocError> {
+    let upgrade = answer_line(alloc, &Answer::Upgrade { rev: REV })?;
+    let narrower = answer_line(alloc, &Answer::No(Refusal::NotWider { at: 1 }))?;
+    Ok(upgrade.as_str() == UPGRADE_LINE && narrower.as_str() == NOT_WIDER_LINE)
+}
+
 #[test]
 fn answers(rt: HostRuntime) -> Result<(), Fail> {
     let alloc = rt.alloc();
     let (answers, commits) = (answers_are_written(alloc)?, commits_are_written(alloc)?);
-    let numbers = numbers_are_written(alloc)?;
+    let (numbers, upgrades) = (numbers_are_written(alloc)?, upgrades_are_written(alloc)?);
     assert!(rt;
-        answers && commits && numbers,
-        "{answers} {commits} {numbers}"
+        answers && commits && numbers && upgrades,
+        "{answers} {commits} {numbers} {upgrades}"
     );
     Ok(())
 }
