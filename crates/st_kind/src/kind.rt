@@ -139,6 +139,17 @@ pub trait FieldKind: Sized {
             → IsEmbedding n c change.now → IsStep m c d step.now → IfMemory result (IsEmbedding n d) }
         ensures apart { IsApartWhere result (RebaseClashAt change.now step.now) };
 
+    /// The change where it stands after a step, for two that are known to stand over one content: it doesn't test
+    /// whether they agree, and of two that don't, anything may be answered.
+    fn rebase_agreed(
+        alloc: Global,
+        change: &Self::Change,
+        step: &Self::Step,
+    ) -> Result<Self::Change, AllocError>
+        requires { HasRoom change.now step.now }
+        ensures { (n : Part) (m : Nodes) (c d : Self.Ctx) → Fits n c → Fits n d → Keeps n c d
+            → IsEmbedding n c change.now → IsStep m c d step.now → IfOk result (IsEmbedding n d) };
+
     /// The step where it stands after a change, which was and is void or not.
     fn bridge(
         alloc: Global,

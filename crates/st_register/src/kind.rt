@@ -106,6 +106,14 @@ impl FieldKind for Register {
         Ok(over_occupant(change, step.after))
     }
 
+    fn rebase_agreed(
+        _alloc: Global,
+        change: &RegChange,
+        step: &RegSwap,
+    ) -> Result<RegChange, AllocError> {
+        Ok(over_occupant(change, step.after))
+    }
+
     fn bridge(
         _alloc: Global,
         step: &RegSwap,

@@ -135,6 +135,21 @@ impl FieldKind for Sequence {
         })
     }
 
+    fn rebase_agreed(
+        alloc: Global,
+        change: &RowChange,
+        step: &RowStep,
+    ) -> Result<RowChange, AllocError> {
+        let marks = row_rebase::rebase_agreed(alloc, &change.marks, &step.marks)?;
+        let new = change.new.copy(alloc)?;
+        Ok(RowChange {
+            rev: change.rev,
+            in_new: change.in_new,
+            new,
+            marks,
+        })
+    }
+
     fn bridge(
         alloc: Global,
         step: &RowStep,

@@ -33,6 +33,6 @@ pub use row_bridge::bridge;
 pub use row_compose::{compose, join};
 pub use row_effect::{effect, void_effect};
 pub use row_invert::invert;
-pub use row_rebase::rebase;
+pub use row_rebase::{rebase, rebase_agreed};
 pub use rows::after;
 pub use values::{RowChange, RowHeld, RowStep};

@@ -1,5 +1,5 @@
 //! A change of a row after a step that stands beside it.
-ghost use Rattle.std.specs.Prelude.{◌≡◌, ◌^◌, ◌<◌, ◌∷◌, [], List as Seq};
+ghost use Rattle.std.specs.Prelude.{◌≡◌, ◌^◌, ◌<◌, ◌∷◌, [], IfOk, List as Seq};
 ghost use Rattle.std.specs.BTreeMap.{get};
 ghost use Rattle.st_ids.specs.Order.{node_cmp};
 ghost use Rattle.st_kind.specs.Named.{Nodes};
@@ -18,10 +18,10 @@ ghost use Rattle.st_seq.specs.Walks.{Then};
 use crate::merge_walk::{Table, lay_beside};
 use crate::pieces::Piece;
 use crate::touches::touches;
-use st_ids::{CellId, List, NodeId, Or};
+use st_ids::{CellId, Copied, List, NodeId, Or};
 use st_kind::Apart;
 use st_marks::{How, Mark};
-use std::alloc::Global;
+use std::alloc::{AllocError, Global};
 use std::collections::BTreeMap;
 
 /// How a node is touched where the step puts it.
@@ -143,4 +143,22 @@ pub fn rebase(
         change.as_slice(),
         step.as_slice(),
     )
+}
+
+/// The change where it stands after a step, for two that are known to stand over one row: it doesn't test whether they
+/// agree, and of two that don't, anything may be answered.
+pub fn rebase_agreed(
+    alloc: Global,
+    change: &List<Mark>,
+    step: &List<Mark>,
+) -> Result<List<Mark>, AllocError>
+    requires { may_list (spread change.now) (spread step.now) < 2 ^ 32 }
+    ensures { (p : RowPart) (m : Nodes) (c d : Seq Slot) → IsRowChange p c change.now → (s : IsRowStep m c d step.now) → Keeps p c d s.grows
+        → IfOk result (λ marks. marks ≡ merge (embed_row p d)) }
+{
+    match rebase(alloc, change, step) {
+        Ok(marks) => Ok(marks),
+        Err(Or::Fault(_)) => change.copy(alloc),
+        Err(Or::NoMemory) => Err(AllocError),
+    }
 }

@@ -1,6 +1,6 @@
 -- Two listings of one row that are laid over each other in turns.
 use Rattle.std.specs.Prelude.{◌≡◌, ℕ, ◌+◌, ◌<◌, Some, None, option_map, List, [], ◌∷◌, ◌++◌, length}
-use Rattle.st_marks.specs.Row.{CellMark, Counted}
+use Rattle.st_marks.specs.Row.{CellMark}
 use Rattle.st_marks.specs.Listings.{CellView, cells_before, cells_after}
 use Rattle.st_marks.specs.declared.places.Slot.{Slot}
 use Rattle.st_seq.specs.Views.{row_views}
@@ -9,7 +9,7 @@ use Rattle.st_seq.specs.inside.Cells.{after_row}
 use Rattle.st_seq.specs.declared.rows.SlotTurn.{SlotTurn}
 use Rattle.st_seq.specs.inside.Reading.{marks_left}
 use Rattle.st_seq.specs.Pieces.{cells_of_piece, IsOfCells}
-use Rattle.st_seq.specs.Walks.{CellPiece, Both, First, Then, in_turn, beside}
+use Rattle.st_seq.specs.Walks.{CellPiece, in_turn, beside}
 use Rattle.st_seq.specs.declared.pieces.Piece.{Piece}
 use Rattle.st_seq.specs.declared.pieces.Turn.{Turn}
 
