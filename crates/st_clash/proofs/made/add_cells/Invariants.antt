@@ -1,0 +1,7 @@
+use Rattle.std.proofs.Common.{◌≡◌, ◌++◌, take}
+use Rattle.st_marks.specs.Listings.{cells_in}
+use Rattle.st_marks.specs.Row.{spread}
+use Rattle.st_clash.proofs.made.add_cells.Given as goal
+
+abbrev pub invariant-loop-mark : goal.invariant-loop-mark
+invariant-loop-mark l = l.list ≡ l.initial.list ++ cells_in (spread (take l.mark-index l.marks))
