@@ -1,8 +1,9 @@
-mod Finding
+mod Answering
+mod InOrder
 mod Looking
 mod Naming
-mod InOrder
+mod Obeyed
 mod Standing
+mod Together
 mod Told
 mod Twice
-mod Walking

@@ -12,9 +12,10 @@ use Rattle.std.proofs.lemmas.Option.{slice_get-get_or}
 use Rattle.std.specs.Prelude.{Result, Ok, Err, MatchResult, is_ok}
 use Rattle.std.proofs.lemmas.List.Sorted.{searchable_from_sorted}
 use Rattle.std.proofs.lemmas.Map.Lookups.{CmpEqualImpliesEq}
-use Rattle.st_ids.specs.Listing.{Has, IsRising, item_of}
+use Rattle.st_ids.specs.Listing.{IsRising, item_of}
 use Rattle.st_ids.proofs.Listings.{has-item_of}
 use Rattle.st_lemmas.proofs.Bools.{and-second, and-first, or-right}
+use Rattle.st_clash.proofs.Finding.{there}
 
 turned : (o : Ordering) → is_lt o ≡ true → is_lt (ordering_reverse o) ≡ false
 turned Less h = refl
@@ -33,12 +34,6 @@ pub order : (k i : ℕ) → (k < i) ⊎ (i ≤ k)
 order k zero = inr (omega arith)
 order zero (suc i) = inl (omega arith)
 order (suc k) (suc i) = elim (order k i) [ inl e ↦ inl (omega (arith, e)) | inr e ↦ inr (omega (arith, e)) ]
-
--- the item at a place
-pub there : {A : Type 0} (xs : List A) (i : ℕ) → i < length xs → (x : A) × (slice_get xs i ≡ Some x) × Has xs x × ((d : A) → get_or xs i d ≡ x)
-there [] i l = absurd (omega (arith, l))
-there (x ∷ xs) zero l = (x, refl, inl refl, λ d. refl)
-there (x ∷ xs) (suc i) l = let r = there xs i (omega (arith, l)) in (r.0, r.1, inr r.2, r.3)
 
 -- what is lent of a place
 pub copied_at : {A : Type 0} (xs : List A) (i : ℕ) (o : Option (Bor A)) → i < length xs → is_some o ≡ nat_lt i (length xs) → IfSome o (λ x. x.now ≡ get_or xs i x.now) → option_copied o ≡ slice_get xs i

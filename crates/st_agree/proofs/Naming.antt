@@ -13,7 +13,7 @@ use Rattle.st_marks.specs.Embedding.{is_among}
 use Rattle.st_marks.specs.Listings.{nodes_in, nodes_new}
 use Rattle.st_marks.specs.Row.{CellMark, counted_cells, spread}
 use Rattle.st_agree.specs.inside.Names.{node_of_mark}
-use Rattle.st_agree.proofs.Finding.{flat_more}
+use Rattle.st_clash.proofs.Finding.{flat_more}
 use Rattle.st_agree.proofs.Looking.{found_or_not}
 
 counted_name : (k : ℕ) (xs : List CellMark) → nodes_in (counted_cells k xs) ≡ nodes_in xs

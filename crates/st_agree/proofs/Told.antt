@@ -1,5 +1,5 @@
 -- The fields that are found are those that the rules name.
-use Rattle.std.proofs.Common.{◌≡◌, ◌≢◌, ◌↔◌, Bool, true, false, not, cond, List, [], ◌∷◌, ◌++◌, Option, Some, None, option_map, refl, sym, ap, ◌∙◌, subst, inl, inr, ◌⊎◌}
+use Rattle.std.proofs.Common.{◌≡◌, ◌≢◌, ◌↔◌, Bool, true, false, not, List, [], ◌∷◌, ◌++◌, Option, Some, None, option_map, refl, sym, ap, ◌∙◌, subst, inl, inr, ◌⊎◌}
 use Rattle.std.specs.List.{AllZip, flat_map}
 use Rattle.st_ids.specs.Listing.{Has, IsRising, item_of}
 use Rattle.st_ids.specs.Order.{field_cmp, node_cmp, same_node}
@@ -20,19 +20,11 @@ use Rattle.st_marks.specs.Listings.{CellView, cells_before, listing_before_chang
 use Rattle.st_marks.specs.Row.{spread}
 use Rattle.st_marks.proofs.Members.{append_left, append_right, flat_map-has, has-append, has-flat_map}
 use Rattle.st_marks.proofs.Shared.{held-same, same-held}
-use Rattle.st_agree.specs.Clashes.{IsNamedSoFar, ListsRise, NodesAgain, NodesTwice, RegistersDiffer, RowsDiffer}
+use Rattle.st_clash.proofs.Names.{pick, picked}
+use Rattle.st_agree.specs.inside.Clashes.{IsNamedSoFar, ListsRise, NodesAgain, NodesTwice, RegistersDiffer, RowsDiffer}
 use Rattle.st_agree.specs.inside.Names.{made_again, nodes_of_change, nodes_of_step}
 use Rattle.st_agree.specs.inside.Rows.{differs_from, holds_other, register_apart, row_apart}
-use Rattle.st_agree.proofs.Walking.{views_same}
-
-picked : {A : Type 0} (b : Bool) (x y : A) → Has (cond b (x ∷ []) []) y → (b ≡ true) × (x ≡ y)
-picked true x y (inl e) = (refl, e)
-picked true x y (inr h) = absurd h
-picked false x y h = absurd h
-
-pick : {A : Type 0} (b : Bool) (x y : A) → b ≡ true → x ≡ y → Has (cond b (x ∷ []) []) y
-pick true x y e f = inl f
-pick false x y e f = cc
+use Rattle.st_clash.proofs.Walking.{views_same}
 
 not_true : (b : Bool) → not b ≡ true → b ≡ false
 not_true true e = cc
@@ -149,7 +141,7 @@ made_by_change_told C S f = let r = again C.new (nodes_of_step S) f in (
 -- ## All together
 
 -- what is found, one list behind the other
-abbrev all_found : Change → Step → List FieldId
+abbrev pub all_found : Change → Step → List FieldId
 all_found C S = flat_map (row_apart S.rows) C.rows ++ flat_map (register_apart S.regs) C.regs ++ flat_map (made_again S.new) (nodes_of_change C) ++ flat_map (made_again C.new) (nodes_of_step S)
 
 in_four : {A : Type 0} (a b c d : List A) (x : A) → Has (a ++ b ++ c ++ d) x ↔ (Has a x ⊎ Has b x ⊎ Has c x ⊎ Has d x)

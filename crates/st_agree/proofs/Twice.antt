@@ -15,8 +15,8 @@ use Rattle.st_marks.specs.Listings.{Listing, Places}
 use Rattle.st_marks.proofs.Members.{append_left, append_right, flat_map-has, has-append, has-flat_map}
 use Rattle.st_agree.specs.declared.places.Placed.{Placed}
 use Rattle.st_agree.specs.inside.Places.{IsTable, apart_fields, fields_of, found_twice, placed_at, same_spot}
-use Rattle.st_agree.specs.Clashes.{IsPlacedOnce, NodesTwice}
-use Rattle.st_agree.proofs.Looking.{there}
+use Rattle.st_agree.specs.inside.Clashes.{IsPlacedOnce, NodesTwice}
+use Rattle.st_clash.proofs.Finding.{there}
 
 -- ## The table
 

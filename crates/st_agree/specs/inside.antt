@@ -1,5 +1,5 @@
 -- The words of loops and of private functions: no public contract reaches them.
+pub mod Clashes
 pub mod Names
 pub mod Places
 pub mod Rows
-pub mod Walk

@@ -1,7 +1,7 @@
 //! Whether a change and a step agree, decided from their marks.
 #![tactic(auto)]
 
-mod fields;
+mod agreement;
 mod look;
 mod named;
 mod names;
@@ -9,8 +9,7 @@ mod places;
 mod registers;
 mod rising;
 mod rows;
-mod walk;
 
-pub use fields::least_field;
+pub use agreement::{FieldApart, agree};
 pub use look::{register_at, row_at};
 pub use named::clashes;

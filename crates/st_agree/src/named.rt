@@ -1,17 +1,19 @@
 //! The fields that rules of agreement name.
-ghost use Rattle.std.specs.Prelude.{◌≡◌, ◌++◌, [], IfOk, OnOk};
+ghost use Rattle.std.specs.Prelude.{◌≡◌, ◌++◌, [], IfOk, IfSome, OnOk};
 ghost use Rattle.std.specs.List.{flat_map};
 ghost use Rattle.st_ids.specs.Listing.{Has};
 ghost use Rattle.st_ids.specs.declared.names.FieldId.{FieldId as Field};
 ghost use Rattle.st_marks.specs.declared.intents.Intent.{Intent};
-ghost use Rattle.st_marks.specs.Agree.{RebaseClash};
+ghost use Rattle.st_marks.specs.Agree.{HaveSchemasBeside, RebaseClash, RootRule};
 ghost use Rattle.st_marks.specs.Document.{Document};
 ghost use Rattle.st_marks.specs.Embedding.{IsEmbedding};
 ghost use Rattle.st_marks.specs.Extends.{IsExtendedBy};
 ghost use Rattle.st_marks.specs.Intent.{Fits};
 ghost use Rattle.st_marks.specs.Listings.{listing_before_step};
 ghost use Rattle.st_marks.specs.Step.{IsStep};
-ghost use Rattle.st_agree.specs.Clashes.{IsNamedSoFar, IsPlacedOnce, ListsRise};
+ghost use Rattle.st_normal.specs.Rules.{ObeysChangeRules, ObeysStepRules, SchemaStepFits};
+ghost use Rattle.st_clash.specs.Adds.{Adds};
+ghost use Rattle.st_agree.specs.inside.Clashes.{IsClear, IsNamedSoFar, IsPlacedOnce, ListsRise};
 ghost use Rattle.st_agree.specs.inside.Names.{made_again, nodes_of_change, nodes_of_step};
 ghost use Rattle.st_agree.specs.inside.Rows.{register_apart, row_apart};
 
@@ -20,7 +22,8 @@ use crate::places::push_twice;
 use crate::registers::push_registers;
 use crate::rising::lists_rise;
 use crate::rows::push_rows;
-use st_ids::{FieldId, List};
+use st_clash::{have_schemas, push_cells, row_field};
+use st_ids::{FieldId, List, ROOT};
 use st_marks::{Change, Step};
 use std::alloc::{AllocError, Global};
 
@@ -56,23 +59,68 @@ fn push_made(
     Ok(())
 }
 
-/// The fields that are named by the rules on rows, on registers, on made nodes and on nodes that stand twice, where a
-/// change and a step find the same document. Each that is answered is named by a rule; where the listings rise by name
-/// and the step shows each node once, as in normal form, none is missed. Over one document there are none. One may be answered twice.
+// Adds the fields that are named by the rules on rows, on registers, on made nodes and on nodes that stand twice.
+fn push_ruled(
+    alloc: Global,
+    found: &mut List<FieldId>,
+    change: &Change,
+    step: &Step,
+) -> Result<(), AllocError>
+    requires { ListsRise change.now step.now }
+    ensures { OnOk result (Adds found.old found.new (IsNamedSoFar change.now step.now) (IsPlacedOnce (listing_before_step step.now))) }
+{
+    push_listed(alloc, found, change, step)?;
+    push_made(alloc, found, change, step)?;
+    push_twice(alloc, found, change, step)?;
+    Ok(())
+}
+
+// Adds the root's row, if no schema entries can be in effect.
+fn push_root(
+    alloc: Global,
+    found: &mut List<FieldId>,
+    change: &Change,
+    step: &Step,
+) -> Result<(), AllocError>
+    ensures { OnOk result (Adds found.old found.new (RootRule (HaveSchemasBeside change.now step.now)) (IfSome step.now.schema SchemaStepFits)) }
+{
+    if have_schemas(change, step) {
+        return Ok(());
+    }
+    found.push(row_field(alloc, ROOT))?;
+    Ok(())
+}
+
+// Adds the fields that are named.
+fn push_clashes(
+    alloc: Global,
+    found: &mut List<FieldId>,
+    change: &Change,
+    step: &Step,
+) -> Result<(), AllocError>
+    requires { ListsRise change.now step.now }
+    ensures { OnOk result (Adds found.old found.new (RebaseClash change.now step.now) (IsClear step.now)) }
+{
+    push_ruled(alloc, found, change, step)?;
+    push_cells(alloc, found, change, step)?;
+    push_root(alloc, found, change, step)?;
+    Ok(())
+}
+
+/// The fields that the rules of agreement name, where a change and a step find the same document. Each that is answered is
+/// named by a rule; between a change and a step in normal form none is missed. Over one document there are none. One may be
+/// answered twice.
 pub fn clashes(alloc: Global, change: &Change, step: &Step) -> Result<List<FieldId>, AllocError>
-    ensures found { IfOk result (λ l. (f : Field) → Has l f → IsNamedSoFar change.now step.now f) }
     ensures clash { IfOk result (λ l. (f : Field) → Has l f → RebaseClash change.now step.now f) }
+    ensures all { ObeysChangeRules change.now → ObeysStepRules step.now
+        → IfOk result (λ l. (f : Field) → RebaseClash change.now step.now f → Has l f) }
     ensures over { (D E : Document) (N : Intent) → IsExtendedBy D E → Fits D N → Fits E N
         → IsEmbedding D N change.now → IsStep D E step.now → IfOk result (λ l. l ≡ []) }
-    ensures all { ListsRise change.now step.now → IsPlacedOnce (listing_before_step step.now)
-        → IfOk result (λ l. (f : Field) → IsNamedSoFar change.now step.now f → Has l f) }
 {
     let mut found = List::new(alloc);
     if !lists_rise(change, step) {
         return Ok(found);
     }
-    push_listed(alloc, &mut found, change, step)?;
-    push_made(alloc, &mut found, change, step)?;
-    push_twice(alloc, &mut found, change, step)?;
+    push_clashes(alloc, &mut found, change, step)?;
     Ok(found)
 }

@@ -24,23 +24,10 @@ ghost use Rattle.st_agree.specs.inside.Names.{
   nodes_over_register,
 };
 
-use crate::fields::row_field;
+use st_clash::{push_if_some, row_field};
 use st_ids::{FieldId, List, NodeId};
 use st_marks::{Change, Loose, Mark, NewNode, RegMark, RegStep, RowMarks, Step};
 use std::alloc::{AllocError, Global};
-
-/// Puts an item behind others, if there is one.
-pub fn push_if_some<T: Drop>(list: &mut List<T>, item: Option<T>) -> Result<(), AllocError>
-    ensures { OnOk result (list.new ≡ list.old ++ one_or_none item) }
-{
-    match item {
-        None => Ok(()),
-        Some(item) => {
-            list.push(item)?;
-            Ok(())
-        }
-    }
-}
 
 // The node in a mark, the owner of an empty cell too.
 fn node_of(mark: Mark) -> Option<NodeId>

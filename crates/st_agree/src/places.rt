@@ -24,8 +24,7 @@ ghost use Rattle.st_agree.specs.inside.Places.{
   same_spot,
 };
 
-use crate::fields::row_field;
-use crate::names::push_if_some;
+use st_clash::{push_if_some, row_field};
 use st_ids::{Copied, FieldId, List, NodeId, is_same_cell, is_same_field, is_same_node};
 use st_marks::{Change, Loose, Mark, RegMark, RegStep, RowMarks, Spot, Step};
 use std::alloc::{AllocError, Global};

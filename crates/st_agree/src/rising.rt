@@ -7,9 +7,9 @@ ghost use Rattle.st_marks.specs.declared.changes.NewNode.{NewNode as NewOne};
 ghost use Rattle.st_marks.specs.declared.marks.RegMark.{RegMark as Register};
 ghost use Rattle.st_marks.specs.declared.marks.RegStep.{RegStep as RegisterOver};
 ghost use Rattle.st_marks.specs.declared.marks.RowMarks.{RowMarks as Row};
-ghost use Rattle.st_agree.specs.Clashes.{ListsRise};
+ghost use Rattle.st_agree.specs.inside.Clashes.{ListsRise};
 
-use crate::fields::are_in_order;
+use st_clash::are_in_order;
 use st_ids::NodeId;
 use st_marks::{Change, NewNode, RegMark, RegStep, RowMarks, Step};
 

@@ -8,9 +8,8 @@ ghost use Rattle.st_marks.specs.Listings.{cells_before};
 ghost use Rattle.st_marks.specs.Row.{spread};
 ghost use Rattle.st_agree.specs.inside.Rows.{differs_from, row_apart};
 
-use crate::fields::row_field;
 use crate::look::row_at;
-use crate::walk::shows_same;
+use st_clash::{row_field, shows_same};
 use st_ids::{FieldId, List};
 use st_marks::RowMarks;
 use std::alloc::{AllocError, Global};

@@ -127,7 +127,7 @@ fn is_listed(change: &Change, listed: &Listed) -> bool {
 }
 
 /// The change of an intent that fits.
-pub fn change(alloc: Global, doc: &Doc, intent: &Intent) -> Result<Change, Fail>
+fn change(alloc: Global, doc: &Doc, intent: &Intent) -> Result<Change, Fail>
     requires { IsSoundInForm (document_of doc.now) }
 {
     if !doc.fits(intent) {

@@ -1,11 +1,9 @@
 //! Documents, intents and edits together: scenarios over the calls of `st_intent`, `st_join`, `st_doc`, `st_resolve`,
-//! `st_agree`, `st_heads`, `st_later`, `st_embed` and `st_step`.
+//! `st_heads`, `st_later`, `st_embed` and `st_step`.
 #![tactic(auto)]
 
 #[cfg(test)]
 mod at_once;
-#[cfg(test)]
-mod clashing;
 #[cfg(test)]
 mod docs;
 #[cfg(test)]

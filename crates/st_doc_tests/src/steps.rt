@@ -60,7 +60,7 @@ fn is_listed(step: &Step, listed: &Stepped) -> bool {
 }
 
 /// The step between two documents, if the later one extends the earlier.
-pub fn between(alloc: Global, before: &Doc, after: &Doc) -> Result<Option<Step>, Fail>
+fn between(alloc: Global, before: &Doc, after: &Doc) -> Result<Option<Step>, Fail>
     requires before { IsSoundInForm (document_of before.now) }
     requires after { IsSoundInForm (document_of after.now) }
 {

@@ -11,7 +11,7 @@ use Rattle.st_marks.specs.Agree.{row_field}
 use Rattle.st_marks.specs.Intent.{same_option}
 use Rattle.st_marks.specs.Listings.{CellView, cells_before}
 use Rattle.st_marks.specs.Row.{spread}
-use Rattle.st_agree.specs.inside.Walk.{same_views}
+use Rattle.st_clash.specs.Views.{same_views}
 
 -- whether a row that shows these cells is listed otherwise
 abbrev pub differs_from : List CellView → Option RowMarks → Bool

@@ -1,5 +1,5 @@
 -- The rules by which what a change and a step show of one document differs, each by itself.
-use Rattle.std.specs.Prelude.{◌≡◌, ◌≢◌, ◌⊎◌, IsTrue, List, Option, Some}
+use Rattle.std.specs.Prelude.{IfSome, ◌≡◌, ◌≢◌, ◌⊎◌, IsTrue, List, Option, Some}
 use Rattle.std.specs.List.{AllZip}
 use Rattle.st_ids.specs.Listing.{IsRising}
 use Rattle.st_ids.specs.Order.{field_cmp, node_cmp}
@@ -12,6 +12,8 @@ use Rattle.st_marks.specs.declared.marks.RegStep.{RegStep}
 use Rattle.st_marks.specs.declared.marks.RowMarks.{RowMarks}
 use Rattle.st_marks.specs.declared.steps.Step.{Step}
 use Rattle.st_marks.specs.declared.places.Spot.{Spot}
+use Rattle.st_normal.specs.Rules.{SchemaStepFits}
+use Rattle.st_clash.specs.Cells.{AreCellsOnce}
 use Rattle.st_marks.specs.Agree.{IsSameView, field_of, row_field}
 use Rattle.st_marks.specs.Listings.{CellView, Listing, Places, listing_before_change, listing_before_step}
 
@@ -53,3 +55,9 @@ pub record ListsRise (C : Change) (S : Step) : Type 0 where
   pub regs_over : IsRising field_cmp (λ (r : RegStep). r.field) S.regs
   pub new : IsRising node_cmp (λ (m : NewNode). m.node) C.new
   pub new_over : IsRising node_cmp (λ (m : NewNode). m.node) S.new
+
+-- no node is found twice by the step, and no cell, and what it does to the schemas fits; so that none of the fields is missed
+pub record IsClear (S : Step) : Type 0 where
+  pub nodes : IsPlacedOnce (listing_before_step S)
+  pub cells : AreCellsOnce (listing_before_step S)
+  pub schemas : IfSome S.schema SchemaStepFits
