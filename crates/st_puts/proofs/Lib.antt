@@ -1,0 +1,11 @@
+pub mod Firsts
+pub mod Among
+pub mod Climbing
+pub mod Gathering
+pub mod Marks
+pub mod SpotsRight
+pub mod RowSays
+pub mod Placing
+pub mod PutsExact
+pub mod NamesExact
+pub mod MentionsExact

@@ -1,0 +1,18 @@
+use Rattle.std.proofs.Common.{◌++◌, sym}
+use Rattle.std.specs.BTreeMap.{get}
+use Rattle.st_ids.specs.Order.{node_cmp, same_node}
+use Rattle.st_lemmas.proofs.Options.{option_or-None}
+use Rattle.st_puts.proofs.Firsts.{kept_more}
+use Rattle.st_marks.specs.declared.marks.RegMark.{RegMark}
+use Rattle.st_puts.specs.inside.Puts.{into_register, set_here}
+use Rattle.st_puts.proofs.puts.keep_registers.Goals as goal
+
+pub loop-reg-init : goal.loop-reg-init
+loop-reg-init c = λ n. sym (option_or-None (get node_cmp c.args.puts.now n))
+
+pub loop-reg-preserved : goal.loop-reg-preserved
+unfolding same_node
+loop-reg-preserved c = λ n.
+    kept_more (λ (r : RegMark). into_register r.field r.fill ++ into_register r.field (set_here r)) (get node_cmp c.args.puts.now n) (get node_cmp c.loop-reg.puts n) (get node_cmp c.keep_register.new.puts n) n
+    c.args.regs.now c.loop-reg.reg-index c.reg-item.result c.reg-item.result c.loop-reg-test.true (sym c.reg-item.is)
+    (c.loop-reg.invariant n) (c.in_ok-keep_register.ensures n)

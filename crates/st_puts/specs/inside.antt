@@ -1,0 +1,6 @@
+-- The words of loops and of private functions: no public contract reaches them.
+pub mod First
+pub mod Names
+pub mod Puts
+pub mod Spots
+pub mod Upwards
