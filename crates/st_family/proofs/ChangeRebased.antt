@@ -23,11 +23,12 @@ use Rattle.st_marks.specs.Step.{IsStep}
 use Rattle.st_seq.specs.Sequence.{ListsNew}
 use Rattle.st_moves.specs.Between.{between}
 use Rattle.st_moves.proofs.BetweenSound.{mentions_between, mentions_closed}
-use Rattle.st_family.specs.Changes.{AreMentions, IsRebasedFrom}
+use Rattle.st_family.specs.Changes.{IsRebasedFrom}
+use Rattle.st_puts.specs.Mentions.{AreMentions}
 use Rattle.st_family.specs.Exchanged.{AreExchanged}
 use Rattle.st_family.specs.Registers.{RegBecomes}
 use Rattle.st_family.specs.Rows.{RowBecomes}
-use Rattle.st_family.proofs.ChangeCarried.{loose_between}
+use Rattle.st_moves.proofs.ChangeCarried.{loose_between}
 use Rattle.st_family.proofs.RegistersRebased.{registers_rebased}
 use Rattle.st_family.proofs.RowsRebased.{rows_rebased}
 

@@ -12,7 +12,7 @@ use Rattle.st_marks.specs.declared.marks.How.TheVariants.{Stay, Leave}
 use Rattle.st_marks.specs.declared.marks.RegMark.{RegMark}
 use Rattle.st_marks.specs.declared.marks.RegStep.{RegStep}
 use Rattle.st_marks.specs.declared.steps.Step.{Step}
-use Rattle.st_marks.specs.Document.{Document, content}
+use Rattle.st_marks.specs.Document.{Document}
 use Rattle.st_ids.specs.Root.{root}
 use Rattle.st_marks.specs.Embedding.{register_part}
 use Rattle.st_marks.specs.Extends.{IsExtendedBy}
@@ -30,7 +30,7 @@ use Rattle.st_moves.specs.Between.{between, only_others}
 use Rattle.st_moves.specs.Carried.{held_between}
 use Rattle.st_moves.proofs.BetweenSound.{between_sound, fits_between, mentions_closed}
 use Rattle.st_moves.proofs.CarriedRegister.{alike_register, same-true}
-use Rattle.st_family.specs.Changes.{AreMentions}
+use Rattle.st_puts.specs.Mentions.{AreMentions}
 use Rattle.st_family.specs.Exchanged.{AreExchanged}
 use Rattle.st_family.specs.Registers.{RegBecomes, RestSwaps}
 use Rattle.st_family.proofs.Exchanges.{listing_over}

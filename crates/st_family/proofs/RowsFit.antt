@@ -24,7 +24,7 @@ use Rattle.st_moves.specs.Carried.{row_between}
 use Rattle.st_agree_laws.proofs.Gained.{AllGained, gained_new}
 use Rattle.st_moves.proofs.BetweenRows.{content_between, slots_once}
 use Rattle.st_moves.proofs.BetweenSound.{between_sound, fits_between, mentions_between, mentions_closed}
-use Rattle.st_family.specs.Changes.{AreMentions}
+use Rattle.st_puts.specs.Mentions.{AreMentions}
 use Rattle.st_family.specs.Rest.{rest_row}
 use Rattle.st_family.proofs.Rest.{NamesRest, grow_between, rest_is_step, rest_names_moved}
 

@@ -20,7 +20,7 @@ use Rattle.st_seq.proofs.KindLaws.{spread-merge}
 use Rattle.st_seq.specs.Sequence.{ListsNew, RowLeadsOver, row_part_of}
 use Rattle.st_moves.specs.Between.{between}
 use Rattle.st_moves.proofs.BetweenRows.{content_between}
-use Rattle.st_family.specs.Changes.{AreMentions}
+use Rattle.st_puts.specs.Mentions.{AreMentions}
 use Rattle.st_family.specs.Exchanged.{AreExchanged}
 use Rattle.st_family.specs.Rows.{RestLeads, RowBecomes}
 use Rattle.st_family.specs.Rest.{rest_row}

@@ -12,16 +12,9 @@ ghost use Rattle.st_marks.specs.Intent.{Fits};
 ghost use Rattle.st_marks.specs.Step.{IsStep};
 ghost use Rattle.st_seq.specs.Sequence.{ListsNew};
 ghost use Rattle.st_moves.specs.Between.{between};
-ghost use Rattle.st_family.specs.Changes.{AreMentions, IsCarriedBy, IsRebasedFrom};
-
-/// A change laid beside a step, so that the nodes that its intent mentions later go where the step puts them, is the change
-/// of that intent in the document between.
-pub fn changes_are_carried()
-    ensures { (D E : Document) (N : Intent) (C X : Change) (S : Step) (m : Nodes)
-        → IsExtendedBy D E → Fits D N → Fits E N → AreMentions E N m
-        → (change : IsEmbedding D N C) → (step : IsStep D E S) → IsCarriedBy change step m X
-        → IsEmbedding (between m D E) N X }
-{}
+ghost use Rattle.st_puts.specs.Mentions.{AreMentions};
+ghost use Rattle.st_moves.specs.Changes.{IsCarriedBy};
+ghost use Rattle.st_family.specs.Changes.{IsRebasedFrom};
 
 /// The change in the document between, with each of its fields as its kind's law says over what is left of the step, is the
 /// change in the later document.

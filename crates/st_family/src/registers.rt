@@ -2,13 +2,20 @@
 ghost use Rattle.std.specs.Prelude.{◌≡◌, false, IfOk};
 ghost use Rattle.std.specs.Option.{option_map_or};
 ghost use Rattle.st_marks.specs.Embedding.{is_among};
+ghost use Rattle.st_ids.specs.Listing.{item_of};
+ghost use Rattle.st_ids.specs.Order.{field_cmp};
+ghost use Rattle.st_marks.specs.declared.marks.RegStep.{RegStep as RegisterOver};
+ghost use Rattle.st_moves.specs.inside.Index.{IsIndex};
 ghost use Rattle.st_family.specs.Registers.{RegBecomes};
+ghost use Rattle.st_family.specs.inside.Over.{AreRegistersOver};
 
-use crate::fields::rebase_field;
-use st_ids::{Copied, NodeId, Rev, is_same_node};
+use crate::index::{index_registers_over, register_over_in};
+use st_ids::{Copied, FieldId, List, NodeId, Rev, is_same_node};
+use st_kind::FieldKind;
 use st_marks::{RegMark, RegStep};
 use st_register::{RegChange, RegSwap, Register};
 use std::alloc::{AllocError, Global};
+use std::collections::BTreeMap;
 
 // Whether the node is one of these.
 fn is_among(nodes: &[NodeId], node: NodeId) -> bool
@@ -70,7 +77,7 @@ pub fn rebase_register(
         before: mark.held,
         after: step.after,
     };
-    let over = rebase_field::<Register>(alloc, &change, &rest)?;
+    let over = Register::rebase_agreed(alloc, &change, &rest)?;
     Ok(RegMark {
         field: mark.field.copy(alloc)?,
         held: over.held,
@@ -78,4 +85,70 @@ pub fn rebase_register(
         clear: over.clear,
         fill: over.fill,
     })
+}
+
+// What the step lists for a register.
+fn step_register(
+    alloc: Global,
+    step: &List<RegStep>,
+    index: &BTreeMap<FieldId, usize>,
+    field: &FieldId,
+) -> Result<Option<RegStep>, AllocError>
+    requires { IsIndex field_cmp (λ (s : RegisterOver). s.field) step.now index.now }
+    ensures { IfOk result (λ o. o ≡ item_of field_cmp (λ (s : RegisterOver). s.field) step.now field.now) }
+{
+    match register_over_in(step, index, field) {
+        None => Ok(None),
+        Some(step) => Ok(Some(step.copy(alloc)?)),
+    }
+}
+
+// A register over the step's, if the step lists it.
+fn register_over(
+    alloc: Global,
+    rev: Rev,
+    new: &[NodeId],
+    mark: &RegMark,
+    step: &List<RegStep>,
+    index: &BTreeMap<FieldId, usize>,
+) -> Result<RegMark, AllocError>
+    requires { IsIndex field_cmp (λ (s : RegisterOver). s.field) step.now index.now }
+    ensures field { IfOk result (λ t. t.field ≡ mark.now.field) }
+    ensures becomes { IfOk result (λ t. RegBecomes rev new.now (item_of field_cmp (λ (s : RegisterOver). s.field) step.now mark.now.field) mark.now t) }
+{
+    let step = step_register(alloc, step, index, &mark.field)?;
+    rebase_register(alloc, rev, new, mark, &step)
+}
+
+// The registers of a change, each over the step's.
+fn registers_over(
+    alloc: Global,
+    rev: Rev,
+    new: &[NodeId],
+    marks: &[RegMark],
+    step: &List<RegStep>,
+    index: &BTreeMap<FieldId, usize>,
+) -> Result<List<RegMark>, AllocError>
+    requires { IsIndex field_cmp (λ (s : RegisterOver). s.field) step.now index.now }
+    ensures { IfOk result (AreRegistersOver rev new.now step.now marks.now) }
+{
+    let mut over = List::new(alloc);
+    for mark in marks {
+        over.push(register_over(alloc, rev, new, mark, step, index)?)?;
+    }
+    Ok(over)
+}
+
+/// The registers of a change over what is left of a step's registers. The commit makes the nodes `new`.
+pub fn rebase_registers(
+    alloc: Global,
+    rev: Rev,
+    new: &[NodeId],
+    marks: &List<RegMark>,
+    step: &List<RegStep>,
+) -> Result<List<RegMark>, AllocError>
+    ensures { IfOk result (AreRegistersOver rev new.now step.now marks.now) }
+{
+    let index = index_registers_over(alloc, step.as_slice())?;
+    registers_over(alloc, rev, new, marks.as_slice(), step, &index)
 }

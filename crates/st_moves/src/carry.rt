@@ -5,7 +5,9 @@ ghost use Rattle.std.specs.BTreeSet.{contains};
 ghost use Rattle.st_ids.specs.Order.{node_cmp};
 ghost use Rattle.st_marks.specs.declared.intents.To.{To as Aim};
 ghost use Rattle.st_marks.specs.Row.{Counted, how as how_at, spread};
+ghost use Rattle.st_marks.specs.Listings.{cells_before};
 ghost use Rattle.st_seq.specs.Changes.{may_list};
+ghost use Rattle.st_seq.specs.Differences.{IsApart, first_difference};
 ghost use Rattle.st_seq.specs.Merged.{IsMerged};
 ghost use Rattle.st_seq.specs.Reading.{cell_of};
 ghost use Rattle.st_seq.specs.Pieces.{IsSingle};
@@ -150,7 +152,8 @@ impl<'a> Table for Carried<'a> {
     }
 }
 
-/// The row of a change in the document between, from that of the change and that of the step.
+/// The row of a change in the document between, from that of the change and that of the step. It is refused exactly where the
+/// two don't find the same.
 pub fn carry_row(
     alloc: Global,
     puts: &BTreeMap<NodeId, To>,
@@ -161,6 +164,7 @@ pub fn carry_row(
     requires { may_list (spread change.now) (spread step.now) < 2 ^ 32 }
     ensures merged { IfOk result (λ marks. IsMerged marks) }
     ensures cells { IfOk result (λ marks. spread marks ≡ carried_row (get node_cmp puts.now) (contains node_cmp named.now) (spread change.now) (spread step.now)) }
+    ensures apart { IsApart (first_difference (cells_before (spread change.now)) (cells_before (spread step.now))) result }
 {
     lay_beside(alloc, &Carried { puts, named }, change, step)
 }

@@ -11,7 +11,9 @@ ghost use Rattle.st_marks.specs.Extends.{IsExtendedBy};
 ghost use Rattle.st_marks.specs.Intent.{Fits, put_of};
 ghost use Rattle.st_marks.specs.Row.{embed_row, step_row};
 ghost use Rattle.st_marks.specs.Step.{IsStep};
+ghost use Rattle.st_puts.specs.Mentions.{AreMentions};
 ghost use Rattle.st_moves.specs.Between.{IsClosedIn, between};
+ghost use Rattle.st_moves.specs.Changes.{IsCarriedBy};
 ghost use Rattle.st_moves.specs.Carried.{carry_row};
 
 /// The document between extends the earlier one, and the later one extends it, where with each node that stands as later the
@@ -34,4 +36,13 @@ pub fn rows_are_carried()
         → ((k : NodeId) → (m k ≡ true) ↔ IsMentionedByIntent E N k)
         → carry_row (put_of N) m (embed_row (row_part change.mentioned N n) (content D n)) (step_row step.mentioned (step.grows n))
         ≡ embed_row (row_part m N n) (content (between m D E) n) }
+{}
+
+/// A change laid beside a step, so that the nodes that its intent mentions later go where the step puts them, is the change
+/// of that intent in the document between.
+pub fn changes_are_carried()
+    ensures { (D E : Document) (N : Intent) (C X : Change) (S : Step) (m : Nodes)
+        → IsExtendedBy D E → Fits D N → Fits E N → AreMentions E N m
+        → (change : IsEmbedding D N C) → (step : IsStep D E S) → IsCarriedBy change step m X
+        → IsEmbedding (between m D E) N X }
 {}

@@ -1,8 +1,15 @@
-//! The document between an earlier and a later one, and a row of a change rewritten for it: what a rebase does first.
+//! The document between an earlier and a later one, and a change rewritten for it: what a rebase does first.
 #![tactic(auto)]
 
 mod carry;
+mod index;
 mod laws;
+mod marks;
+mod registers;
+mod rows;
 
 pub use carry::carry_row;
-pub use laws::{between_stands_between, intents_fit_between, rows_are_carried};
+pub use laws::{
+    between_stands_between, changes_are_carried, intents_fit_between, rows_are_carried,
+};
+pub use marks::{Between, carry_marks};

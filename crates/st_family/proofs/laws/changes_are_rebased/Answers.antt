@@ -1,4 +1,4 @@
-use Rattle.st_family.proofs.ChangeCarried.{change_carried}
+use Rattle.st_moves.proofs.ChangeCarried.{change_carried}
 use Rattle.st_family.proofs.ChangeRebased.{change_rebased}
 use Rattle.st_family.proofs.laws.changes_are_rebased.Goals as goal
 
