@@ -1,0 +1,2 @@
+pub mod SchemaTexts
+pub mod Changes

@@ -1,0 +1,9 @@
+//! The JSON form of changes.
+#![tactic(auto)]
+
+mod change;
+mod marks;
+mod names;
+mod schema;
+
+pub use change::{change_text, change_value};
