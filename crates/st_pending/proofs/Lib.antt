@@ -1,0 +1,4 @@
+mod Existing
+mod Listed
+pub mod Having
+mod Turns
