@@ -107,7 +107,8 @@ pub fn rebase_with_base(
 }
 
 /// A change over a step, for two that are known to stand over one document: it doesn't test whether they agree, and of two that
-/// don't, anything may be answered. Takes O(n log n) for n marks and names, whatever a Skip counts.
+/// don't, anything may be answered. Takes O(n log n) for n marks and names, whatever a Skip counts, and a look at all new nodes for
+/// each register.
 pub fn rebase_agreed(alloc: Global, change: &Change, step: &Step) -> Result<Change, AllocError>
     requires { HasRoomInRows change.now step.now }
     ensures { (D E : Document) (N : Intent) → IsExtendedBy D E → Fits D N → Fits E N
