@@ -71,6 +71,7 @@ fits_rules branch step.leave h = tt
 fits_rules branch step.drop_client h = tt
 fits_rules branch step.reconnect h = tt
 fits_rules branch step.show h = tt
+fits_rules branch step.pending h = tt
 
 -- one line, and what follows it from lists of which holds what steps keep
 line_has : (h : HeaderView) (n : ℕ) (r : Result StepView BadCause) (w : WorldState) (Rest : WorldState → Output → Type 0) → AreSound h w → ((x : StepView) → r ≡ Ok x → KeepsRules x.act)

@@ -17,7 +17,7 @@ use Rattle.st_schema.specs.TreeText.{tree_of, tree_data, trees_data}
 use Rattle.st_schema.specs.Written.{schema_data}
 use Rattle.st_script.specs.Members.{client_named, client_in, as_small, number_in, number_or, at_least_one, one_or_more, count_of, key_within, key_or_empty, place_of, places_in, short_path, path_in, rev_in, trees_in, few, items_in, item_in, sound_schema, schema_in}
 use Rattle.st_ids.specs.Numeral.{small}
-use Rattle.st_script.specs.Steps.{EditView, insert, remove, move, set, clear, ActView, join, edit, need, begin, commit, abort, fork, rebase, merge, drop_branch, undo, upgrade, sequence, ack, deliver, leave, drop_client, reconnect, show, StepView, target_of, site_of, span_of, goal_of, read_insert, read_remove, read_move, read_set, read_clear, read_need, read_undo, read_upgrade, act_of, step_of}
+use Rattle.st_script.specs.Steps.{EditView, insert, remove, move, set, clear, ActView, join, edit, need, begin, commit, abort, fork, rebase, merge, drop_branch, undo, upgrade, sequence, ack, deliver, leave, drop_client, reconnect, show, pending, StepView, target_of, site_of, span_of, goal_of, read_insert, read_remove, read_move, read_set, read_clear, read_need, read_undo, read_upgrade, act_of, step_of}
 use Rattle.st_script.specs.StepText.{places_data, path_data, items_data, plain_data, undo_data, upgrade_data, edit_data, act_data, step_data, IsName, IsActor, IsRev, ArePlaces, IsPath, IsTarget, IsSpan, AreShown, AreItems, FitsEdit, FitsAct, FitsLine}
 use Rattle.st_script.specs.declared.read.Goal.{Goal}
 use Rattle.st_script.specs.declared.read.Span.{Span}
@@ -259,6 +259,7 @@ act_again client branch leave by h = plain_again (codes "leave") client branch l
 act_again client branch drop_client by h = plain_again (codes "drop") client branch drop_client by.0 h refl
 act_again client branch reconnect by h = plain_again (codes "reconnect") client branch reconnect by.0 h refl
 act_again client branch show by h = branch_kept (act_data client branch show) client branch show refl refl by refl
+act_again client branch pending by h = plain_again (codes "pending") client branch pending by.0 h refl
 
 pub read_again : (s : StepView) → FitsLine s → step_of (step_data s) ≡ Some s
 read_again s h = act_again s.client s.branch s.act h.0 h.1

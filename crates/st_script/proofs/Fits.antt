@@ -24,7 +24,7 @@ use Rattle.st_schema.specs.TreeText.{tree_of, tree_in, tree_data, within_limits}
 use Rattle.st_script.specs.Line.{line_of, step_of_value}
 use Rattle.st_script.specs.Members.{client_named, client_in, as_small, number_in, number_or, at_least_one, one_or_more, count_of, key_within, key_of, key_or_empty, place_of, places_in, short_path, path_in, rev_in, trees_in, few, items_in, item_in, sound_schema, schema_in}
 use Rattle.st_ids.specs.Numeral.{small}
-use Rattle.st_script.specs.Steps.{EditView, insert, remove, move, set, clear, ActView, join, edit, need, begin, commit, abort, fork, rebase, merge, drop_branch, undo, upgrade, sequence, ack, deliver, leave, drop_client, reconnect, show, StepView, IsEditWithin, IsActWithin, IsWithinLimits, same, target_of, site_of, span_of, goal_of, plain_act, read_insert, read_remove, read_move, read_set, read_clear, read_need, read_undo, read_upgrade, read_edit, read_of, word_of, act_of, step_of}
+use Rattle.st_script.specs.Steps.{EditView, insert, remove, move, set, clear, ActView, join, edit, need, begin, commit, abort, fork, rebase, merge, drop_branch, undo, upgrade, sequence, ack, deliver, leave, drop_client, reconnect, show, pending, StepView, IsEditWithin, IsActWithin, IsWithinLimits, same, target_of, site_of, span_of, goal_of, plain_act, read_insert, read_remove, read_move, read_set, read_clear, read_need, read_undo, read_upgrade, read_edit, read_of, word_of, act_of, step_of}
 use Rattle.st_script.specs.StepText.{IsName, IsRev, ArePlaces, IsPath, IsTarget, IsSpan, IsShown, AreShown, AreItems, FitsEdit, FitsAct, FitsLine}
 use Rattle.st_script.specs.declared.read.Goal.{Goal}
 use Rattle.st_script.specs.declared.read.Span.{Span}
@@ -315,7 +315,8 @@ module _ (d : Data) (b : ℕ) (is_branch : number_or 0 (get (codes "branch") d) 
       (either (same word (codes "leave")) _ _ (main_fits leave (λ zero. zero))
       (either (same word (codes "drop")) _ _ (main_fits drop_client (λ zero. zero))
       (either (same word (codes "reconnect")) _ _ (main_fits reconnect (λ zero. zero))
-      (either (same word (codes "show")) _ _ (actor_fits show tt) (edit_word_fits word sound))))))))))))))))))
+      (either (same word (codes "show")) _ _ (actor_fits show tt)
+      (either (same word (codes "pending")) _ _ (main_fits pending (λ zero. zero)) (edit_word_fits word sound)))))))))))))))))))
 
   act_fits : Sound d → Fits (act_of d)
   act_fits sound = Holds-and_then Any (FitsAct b) (λ word. read_of word d) (λ word _. word_fits word sound) (word_of d) (any _)
@@ -383,6 +384,7 @@ act_form b leave h = tt
 act_form b drop_client h = tt
 act_form b reconnect h = tt
 act_form b show h = tt
+act_form b pending h = tt
 
 -- a step that a line can hold keeps the limits
 pub fits_form : (s : StepView) → FitsLine s → IsWithinLimits s

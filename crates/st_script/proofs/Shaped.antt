@@ -23,7 +23,7 @@ use Rattle.st_schema.proofs.Holds.{Holds-cond}
 use Rattle.st_schema.proofs.Shaped.{IsShaped, shown_shaped}
 use Rattle.st_script.specs.Line.{line_of, step_of_value}
 use Rattle.st_script.specs.Members.{client_in, number_in, number_or, path_in, rev_in, trees_in, few, items_in, item_in, schema_in}
-use Rattle.st_script.specs.Steps.{insert, remove, move, set, clear, ActView, join, edit, need, begin, commit, abort, fork, rebase, merge, drop_branch, undo, upgrade, sequence, ack, deliver, leave, drop_client, reconnect, show, StepView, same, site_of, span_of, goal_of, read_insert, read_remove, read_move, read_set, read_clear, read_need, read_undo, read_upgrade, read_edit, read_of, word_of, act_of, step_of}
+use Rattle.st_script.specs.Steps.{insert, remove, move, set, clear, ActView, join, edit, need, begin, commit, abort, fork, rebase, merge, drop_branch, undo, upgrade, sequence, ack, deliver, leave, drop_client, reconnect, show, pending, StepView, same, site_of, span_of, goal_of, read_insert, read_remove, read_move, read_set, read_clear, read_need, read_undo, read_upgrade, read_edit, read_of, word_of, act_of, step_of}
 use Rattle.st_script.specs.StepText.{act_has_shape, trees_have_shape}
 use Rattle.st_script.specs.declared.read.Goal.{Goal}
 use Rattle.st_script.specs.declared.read.Span.{Span}
@@ -197,7 +197,8 @@ word_shaped word d rise =
     (either (same word (codes "leave")) _ _ (only (codes "client do") d (Some leave) refl)
     (either (same word (codes "drop")) _ _ (only (codes "client do") d (Some drop_client) refl)
     (either (same word (codes "reconnect")) _ _ (only (codes "client do") d (Some reconnect) refl)
-    (either (same word (codes "show")) _ _ (only (codes "branch client do") d (Some show) refl) (edit_word_shaped word d rise))))))))))))))))))
+    (either (same word (codes "show")) _ _ (only (codes "branch client do") d (Some show) refl)
+    (either (same word (codes "pending")) _ _ (only (codes "client do") d (Some pending) refl) (edit_word_shaped word d rise)))))))))))))))))))
 
 act_shaped : (d : Data) → NamesRise d → Shaped (act_of d)
 act_shaped d rise = bound IsAct (λ word. read_of word d) (λ word. word_shaped word d rise) (word_of d)

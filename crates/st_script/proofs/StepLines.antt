@@ -15,7 +15,7 @@ use Rattle.st_schema.specs.TreeText.{trees_data}
 use Rattle.st_schema.proofs.Plain.{schema_plain, schema_low}
 use Rattle.st_schema.proofs.PlainTrees.{tree_plain, tree_low, items_low}
 use Rattle.st_script.specs.Line.{line_of, step_of_value}
-use Rattle.st_script.specs.Steps.{EditView, insert, remove, move, set, clear, ActView, join, edit, need, begin, commit, abort, fork, rebase, merge, drop_branch, undo, upgrade, sequence, ack, deliver, leave, drop_client, reconnect, show, StepView}
+use Rattle.st_script.specs.Steps.{EditView, insert, remove, move, set, clear, ActView, join, edit, need, begin, commit, abort, fork, rebase, merge, drop_branch, undo, upgrade, sequence, ack, deliver, leave, drop_client, reconnect, show, pending, StepView}
 use Rattle.st_script.specs.StepText.{places_data, edit_data, act_data, step_data, step_text, edit_limits, act_limits, limits_of, trees_have_shape, IsReadBack, FitsLine}
 use Rattle.st_script.proofs.Again.{read_again}
 use Rattle.st_script.proofs.Fits.{line_fits}
@@ -59,6 +59,7 @@ act_plain client branch leave = refl
 act_plain client branch drop_client = refl
 act_plain client branch reconnect = refl
 act_plain client branch show = refl
+act_plain client branch pending = refl
 
 pub step_plain : (s : StepView) → has_float (step_data s) ≡ false
 step_plain s = act_plain s.client s.branch s.act
@@ -96,6 +97,7 @@ act_low client branch leave h = omega arith
 act_low client branch drop_client h = omega arith
 act_low client branch reconnect h = omega arith
 act_low client branch show h = omega arith
+act_low client branch pending h = omega arith
 
 pub step_low : (s : StepView) → limits_of s ≡ Ok tt → depth (step_data s) ≤ max_depth
 step_low s h = act_low s.client s.branch s.act h

@@ -1,5 +1,6 @@
 -- The lines of answers.
 use Rattle.std.specs.Prelude.{ℕ, List, [], ◌∷◌, ◌++◌, map, Option, None, Some, codes}
+use Rattle.std.specs.List.{join_by}
 use Rattle.serde_json.specs.Data.{Data, null, number, unsigned, string, array, object, no_members, member}
 use Rattle.serde_json.specs.View.{items_of}
 use Rattle.serde_json.specs.Written.{compact_text}
@@ -124,6 +125,11 @@ void_revs_data word void = object (member (codes "ok") (string word) (member (co
 abbrev pub show_text : List ℕ → List ℕ
 show_text tree = codes "{\"ok\":\"show\",\"tree\":" ++ tree ++ codes "}"
 
+-- the texts of changes stand in their line as they are, with a comma between each two
+abbrev pub pending_text : List (List ℕ) → List Rev → List ℕ
+pending_text texts void =
+    codes "{\"ok\":\"pending\",\"pending\":[" ++ join_by (λ t. t) (codes ",") texts ++ codes "],\"void\":" ++ compact_text (revs_data void) ++ codes "}"
+
 abbrev pub answer_text : Answer → List ℕ
 answer_text answer.Header = compact_text (ok_data (codes "header"))
 answer_text (answer.Join n s) = compact_text (join_data n s)
@@ -149,6 +155,7 @@ answer_text (answer.Leave n) = compact_text (entry_data (codes "leave") n)
 answer_text (answer.Drop n) = compact_text (entry_data (codes "drop") n)
 answer_text (answer.Reconnect n sent) = compact_text (reconnect_data n sent)
 answer_text (answer.Show tree) = show_text tree
+answer_text (answer.Pending texts void) = pending_text texts void
 answer_text (answer.No refusal) = compact_text (refusal_data refusal)
 
 abbrev pub answer_line : Answer → List ℕ

@@ -15,7 +15,7 @@ use Rattle.st_schema.specs.Shape.{has_shape, all_have_shape}
 use Rattle.st_schema.specs.TreeText.{tree_data, trees_data, tree_of}
 use Rattle.st_schema.specs.Written.{schema_data}
 use Rattle.st_script.specs.Line.{line_of}
-use Rattle.st_script.specs.Steps.{EditView, insert, remove, move, set, clear, ActView, join, edit, need, begin, commit, abort, fork, rebase, merge, drop_branch, undo, upgrade, sequence, ack, deliver, leave, drop_client, reconnect, show, StepView}
+use Rattle.st_script.specs.Steps.{EditView, insert, remove, move, set, clear, ActView, join, edit, need, begin, commit, abort, fork, rebase, merge, drop_branch, undo, upgrade, sequence, ack, deliver, leave, drop_client, reconnect, show, pending, StepView}
 
 -- keys and indexes in turn
 abbrev pub places_data : List Place → List Data
@@ -90,6 +90,7 @@ act_data client branch leave = plain_data (codes "leave") client
 act_data client branch drop_client = plain_data (codes "drop") client
 act_data client branch reconnect = plain_data (codes "reconnect") client
 act_data client branch show = object (actor_members (codes "show") client branch)
+act_data client branch pending = plain_data (codes "pending") client
 
 abbrev pub step_data : StepView → Data
 step_data s = act_data s.client s.branch s.act
@@ -125,6 +126,7 @@ act_limits leave = Ok tt
 act_limits drop_client = Ok tt
 act_limits reconnect = Ok tt
 act_limits show = Ok tt
+act_limits pending = Ok tt
 
 -- the limits of a step's trees
 abbrev pub limits_of : StepView → Result (Unit {0}) TreeFault
@@ -158,6 +160,7 @@ act_has_shape leave = true
 act_has_shape drop_client = true
 act_has_shape reconnect = true
 act_has_shape show = true
+act_has_shape pending = true
 
 -- a step's trees have the shape of trees that values show
 abbrev pub trees_have_shape : StepView → Bool
@@ -235,6 +238,7 @@ FitsAct branch leave = branch ≡ 0
 FitsAct branch drop_client = branch ≡ 0
 FitsAct branch reconnect = branch ≡ 0
 FitsAct branch show = Unit {0}
+FitsAct branch pending = branch ≡ 0
 
 -- a step as a line can hold it
 abbrev pub FitsLine : StepView → Type 0

@@ -51,6 +51,7 @@ pub data ActView : Type 0 where
   drop_client : ActView
   reconnect : ActView
   show : ActView
+  pending : ActView
 
 -- a step of a client, on a branch
 pub record StepView : Type 0 where
@@ -85,6 +86,7 @@ act_view acts.Leave = leave
 act_view acts.Drop = drop_client
 act_view acts.Reconnect = reconnect
 act_view acts.Show = show
+act_view acts.Pending = pending
 
 abbrev pub step_view : TraceStep → StepView
 step_view s = record { client = s.client; branch = s.branch; act = act_view s.act }
@@ -120,6 +122,7 @@ IsActWithin leave = Unit {0}
 IsActWithin drop_client = Unit {0}
 IsActWithin reconnect = Unit {0}
 IsActWithin show = Unit {0}
+IsActWithin pending = Unit {0}
 
 -- its trees are within the limits of trees, and its paths short
 abbrev pub IsWithinLimits : StepView → Type 0
@@ -241,7 +244,8 @@ read_of word d =
     if same word (codes "leave") then plain_act (codes "client do") leave d else
     if same word (codes "drop") then plain_act (codes "client do") drop_client d else
     if same word (codes "reconnect") then plain_act (codes "client do") reconnect d else
-    if same word (codes "show") then plain_act (codes "branch client do") show d else read_edit word d
+    if same word (codes "show") then plain_act (codes "branch client do") show d else
+    if same word (codes "pending") then plain_act (codes "client do") pending d else read_edit word d
 
 -- the word of a step
 abbrev pub word_of : Data → Option (List ℕ)

@@ -1,10 +1,11 @@
 //! What is answered to a header or a step, and the line of an answer.
 ghost use Rattle.std.specs.Prelude.{◌≡◌, [], ◌∷◌, ◌++◌, codes, IfOk, OnOk};
+ghost use Rattle.std.specs.List.{flat_map, join_by};
 ghost use Rattle.serde_json.specs.Data.{object, member, no_members, number, unsigned, string, put};
 ghost use Rattle.serde_json.specs.View.{view, members_view};
 ghost use Rattle.serde_json.specs.Written.{compact_text};
 ghost use Rattle.st_ids.specs.Names.{rev_text};
-ghost use Rattle.st_script.specs.AnswerText.{ok_data, join_data, rev_data, sequence_data, ack_data, void_data, deliver_data, entry_data, reconnect_data, fork_data, revs_data, void_revs_data, commit_data, refusal_data, show_text, answer_line};
+ghost use Rattle.st_script.specs.AnswerText.{ok_data, join_data, rev_data, sequence_data, ack_data, void_data, deliver_data, entry_data, reconnect_data, fork_data, revs_data, void_revs_data, commit_data, refusal_data, show_text, pending_text, answer_line};
 
 use crate::refusal::{Refusal, refusal_value};
 use serde_json::{Map, Value, json};
@@ -13,7 +14,8 @@ use st_json::write_line;
 use st_marks::Verdict;
 use std::alloc::{AllocError, Global};
 
-/// The answer to a header or a step. The tree of `Show` is a JSON text. The revision of `Need` and
+/// The answer to a header or a step. The tree of `Show` and each of the changes of `Pending` are JSON texts; `void` of
+/// `Pending` names the pending commits that are void, in their order. The revision of `Need` and
 /// `Begin` is that of the transaction, and that of `Commit` is none where it made no commit; that
 /// of `Undo` and `Upgrade` is the revision of the new commit. `branch` of `Fork` is the number of the new branch.
 /// `void` of `Rebase` and `Merge` names the commits of the branch that are void on its parent, in
@@ -24,29 +26,79 @@ use std::alloc::{AllocError, Global};
 #[derive(Drop)]
 pub enum Answer {
     Header,
-    Join { n: u32, s: u32 },
-    Insert { rev: Rev },
-    Remove { rev: Rev },
-    Move { rev: Rev },
-    Set { rev: Rev },
-    Clear { rev: Rev },
-    Need { rev: Rev },
-    Begin { rev: Rev },
-    Commit { rev: Option<Rev> },
+    Join {
+        n: u32,
+        s: u32,
+    },
+    Insert {
+        rev: Rev,
+    },
+    Remove {
+        rev: Rev,
+    },
+    Move {
+        rev: Rev,
+    },
+    Set {
+        rev: Rev,
+    },
+    Clear {
+        rev: Rev,
+    },
+    Need {
+        rev: Rev,
+    },
+    Begin {
+        rev: Rev,
+    },
+    Commit {
+        rev: Option<Rev>,
+    },
     Abort,
-    Fork { branch: u32 },
-    Rebase { void: List<Rev> },
-    Merge { void: List<Rev> },
+    Fork {
+        branch: u32,
+    },
+    Rebase {
+        void: List<Rev>,
+    },
+    Merge {
+        void: List<Rev>,
+    },
     DropBranch,
-    Undo { rev: Rev },
-    Upgrade { rev: Rev },
-    Sequence { min: u32, n: u32 },
-    Ack { reference: u32 },
-    Deliver { n: u32, void: Verdict },
-    Leave { n: u32 },
-    Drop { n: u32 },
-    Reconnect { n: u32, sent: u32 },
-    Show { tree: Text },
+    Undo {
+        rev: Rev,
+    },
+    Upgrade {
+        rev: Rev,
+    },
+    Sequence {
+        min: u32,
+        n: u32,
+    },
+    Ack {
+        reference: u32,
+    },
+    Deliver {
+        n: u32,
+        void: Verdict,
+    },
+    Leave {
+        n: u32,
+    },
+    Drop {
+        n: u32,
+    },
+    Reconnect {
+        n: u32,
+        sent: u32,
+    },
+    Show {
+        tree: Text,
+    },
+    Pending {
+        pending: List<Text>,
+        void: List<Rev>,
+    },
     No(Refusal),
 }
 
@@ -224,6 +276,59 @@ fn show_line(alloc: Global, tree: &str) -> Result<Text, AllocError>
     Ok(line)
 }
 
+// Puts texts behind a line, each with a comma before it.
+fn push_others(line: &mut Text, texts: &[Text]) -> Result<(), AllocError>
+    ensures { OnOk result (line.new ≡ line.old ++ flat_map (λ t. codes "," ++ t) texts.now) }
+{
+    for text in texts {
+        line.push_str(",")?;
+        line.push_str(text.as_str())?;
+    }
+    Ok(())
+}
+
+// Puts texts behind a line, with a comma between each two.
+fn push_texts(line: &mut Text, texts: &[Text]) -> Result<(), AllocError>
+    ensures { OnOk result (line.new ≡ line.old ++ join_by (λ t. t) (codes ",") texts.now) }
+{
+    let Some((first, others)) = texts.split_first() else {
+        return Ok(());
+    };
+    line.push_str(first.as_str())?;
+    push_others(line, others)
+}
+
+// The JSON text of a list of revisions.
+#[tactic(auto, using(crate::proofs::Revisions::list_plain))]
+fn revs_text(alloc: Global, revs: &List<Rev>) -> Result<Text, AllocError>
+    ensures { IfOk result (λ t. t ≡ compact_text (revs_data revs.now)) }
+{
+    let value = revs_value(alloc, revs)?;
+    Ok(Text::from_string(value.to_string(alloc)?))
+}
+
+// Puts the changes behind a line, and the text of the list of those that are void.
+fn push_pending(line: &mut Text, changes: &[Text], void: &str) -> Result<(), AllocError>
+    ensures { OnOk result (line.new ≡ line.old ++ join_by (λ t. t) (codes ",") changes.now ++ codes "],\"void\":" ++ void.now) }
+{
+    push_texts(line, changes)?;
+    line.push_str("],\"void\":")?;
+    line.push_str(void)?;
+    Ok(())
+}
+
+// The line of changes, which are JSON texts, and of the revisions of those that are void.
+fn pending_line(alloc: Global, changes: &List<Text>, void: &List<Rev>) -> Result<Text, AllocError>
+    ensures { IfOk result (λ t. t ≡ pending_text changes.now void.now ++ 10 ∷ []) }
+{
+    let void = revs_text(alloc, void)?;
+    let mut line = Text::from_str(alloc, "{\"ok\":\"pending\",\"pending\":[")?;
+    push_pending(&mut line, changes.as_slice(), void.as_str())?;
+    line.push_str("}")?;
+    line.push_str("\n")?;
+    Ok(line)
+}
+
 fn ok_line(alloc: Global, word: &str) -> Result<Text, AllocError>
     ensures { IfOk result (λ t. t ≡ compact_text (ok_data word.now) ++ 10 ∷ []) }
 {
@@ -337,6 +442,7 @@ pub fn answer_line(alloc: Global, answer: &Answer) -> Result<Text, AllocError>
         Answer::Drop { n } => entry_line(alloc, "drop", *n),
         Answer::Reconnect { n, sent } => reconnect_line(alloc, *n, *sent),
         Answer::Show { tree } => show_line(alloc, tree.as_str()),
+        Answer::Pending { pending, void } => pending_line(alloc, pending, void),
         Answer::No(refusal) => no_line(alloc, *refusal),
     }
 }

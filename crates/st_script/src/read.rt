@@ -262,6 +262,7 @@ fn read_of(alloc: Global, word: &str, value: &Value) -> Result<Option<Act>, Allo
         "drop" => Ok(plain(value, "client do", Act::Drop)),
         "reconnect" => Ok(plain(value, "client do", Act::Reconnect)),
         "show" => Ok(plain(value, "branch client do", Act::Show)),
+        "pending" => Ok(plain(value, "client do", Act::Pending)),
         _ => read_edit(alloc, word, value),
     }
 }

@@ -49,6 +49,8 @@ pub enum Act {
     /// Connects a client again that was dropped.
     Reconnect,
     Show,
+    /// Tells the client's pending commits, each as the change that it is where it stands.
+    Pending,
 }
 
 /// An edit of the tree that the client shows on the branch. A path leads from the root to a node,

@@ -341,6 +341,7 @@ fn step_value(alloc: Global, step: &TraceStep) -> Result<Value, AllocError>
         Act::Drop => plain_value(alloc, "drop", &step.client),
         Act::Reconnect => plain_value(alloc, "reconnect", &step.client),
         Act::Show => actor_value(alloc, "show", step),
+        Act::Pending => plain_value(alloc, "pending", &step.client),
     }
 }
 
@@ -391,6 +392,7 @@ fn limits(step: &TraceStep) -> Result<(), TreeFault>
         Act::Drop => Ok(()),
         Act::Reconnect => Ok(()),
         Act::Show => Ok(()),
+        Act::Pending => Ok(()),
     }
 }
 
@@ -407,7 +409,7 @@ fn line_within(alloc: Global, step: &TraceStep) -> Result<Text, AllocError>
 
 /// The line of a step, with its line feed: every member that the step has, also one that may be
 /// left out, in byte order of the names. A join, an undo, an upgrade, a sequence, an ack, a deliver,
-/// a leave, a drop and a reconnect have no member for the branch, which is 0 there. A step whose
+/// a leave, a drop, a reconnect and a pending have no member for the branch, which is 0 there. A step whose
 /// trees pass the limits is refused, an insert's together. The line is told where the trees have the shape of trees that values show,
 /// and is read as the step. So it is of each step that was read of a line.
 pub fn step_line(alloc: Global, step: &TraceStep) -> Result<Text, Or<TreeFault>>

@@ -57,7 +57,7 @@ on_main_line h w x y i v (Err e) is f = tt
 
 -- an act of a client as a whole is the same on each line
 abbrev pub IsWhole : Act → Type 0
-IsWhole x = (x ≡ acts.Join) ⊎ (((rev : Rev) × (x ≡ acts.Undo rev)) ⊎ (((new : SchemaView) × (x ≡ acts.Upgrade new)) ⊎ ((x ≡ acts.Sequence) ⊎ ((x ≡ acts.Ack) ⊎ ((x ≡ acts.Deliver) ⊎ ((x ≡ acts.Leave) ⊎ ((x ≡ acts.Drop) ⊎ (x ≡ acts.Reconnect))))))))
+IsWhole x = (x ≡ acts.Join) ⊎ (((rev : Rev) × (x ≡ acts.Undo rev)) ⊎ (((new : SchemaView) × (x ≡ acts.Upgrade new)) ⊎ ((x ≡ acts.Sequence) ⊎ ((x ≡ acts.Ack) ⊎ ((x ≡ acts.Deliver) ⊎ ((x ≡ acts.Leave) ⊎ ((x ≡ acts.Drop) ⊎ ((x ≡ acts.Reconnect) ⊎ (x ≡ acts.Pending)))))))))
 
 module _ (h : HeaderView) (w : WorldState) (i k : ℕ) (v : WorldState) where
   abbrev OnMain : Act → Answer → Type 0
@@ -79,7 +79,8 @@ module _ (h : HeaderView) (w : WorldState) (i k : ℕ) (v : WorldState) where
   as_whole x (inr (inr (inr (inr (inr (inl e)))))) r f = same_act x acts.Deliver e (λ a p q l at line. p q at) r f
   as_whole x (inr (inr (inr (inr (inr (inr (inl e))))))) r f = same_act x acts.Leave e (λ a p q l at line. p q at) r f
   as_whole x (inr (inr (inr (inr (inr (inr (inr (inl e)))))))) r f = same_act x acts.Drop e (λ a p q l at line. p q at) r f
-  as_whole x (inr (inr (inr (inr (inr (inr (inr (inr e)))))))) r f = same_act x acts.Reconnect e (λ a p q l at line. p q at) r f
+  as_whole x (inr (inr (inr (inr (inr (inr (inr (inr (inl e))))))))) r f = same_act x acts.Reconnect e (λ a p q l at line. p q at) r f
+  as_whole x (inr (inr (inr (inr (inr (inr (inr (inr (inr e))))))))) r f = same_act x acts.Pending e (λ a p q l at line. p q at) r f
 
 -- no line is there where none is
 pub no_line : (o : Option Line) → is_some o ≡ false → o ≡ None

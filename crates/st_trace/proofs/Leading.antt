@@ -9,7 +9,7 @@ use Rattle.st_lists.specs.Lines.{HasHead, Line, commits_of, edited_on, line_of, 
 use Rattle.st_trace.proofs.Going.{Any, AreSound, GoesOn, LineGoes, ack_goes, delivery_goes, dropped_sound, joined_sound, left_sound, lists_sound, meant_in, returned_sound, sent_sound, set_sound, undo_goes, main_goes}
 use Rattle.st_trace.proofs.Parts.{next_joined}
 use Rattle.st_trace.specs.Replicas.{IsClient, IsSound, IsTransaction}
-use Rattle.st_trace.specs.World.{AtClient, ByConnected, HasShown, IsActOf, IsAfterEdit, IsAfterNeed, IsBegun, IsBranchDropped, IsDelivered, IsDeliveredIn, IsDeliveredTo, IsDoneIn, IsEdited, IsEditedIn, IsForked, IsJoined, IsMergedBy, IsNeeded, IsNext, IsRebasedBy, IsShown, IsUndoneBy, IsVerdictOf, OnLine, abort, act_of_none, after_edit, after_entry, answer_of, begin, branch_at, cells_given, commit, drop_client, intent_of, join, last_in_effect, leave, limit_refusal, needs_connection, next_names, opening_document, reconnect, refusal_of, refusal_to_reconnect, sequence, with_client, word_of, IsUpgradedBy}
+use Rattle.st_trace.specs.World.{AtClient, ByConnected, HasShown, IsActOf, IsAfterEdit, IsAfterNeed, IsBegun, IsBranchDropped, IsDelivered, IsDeliveredIn, IsDeliveredTo, IsDoneIn, IsEdited, IsEditedIn, IsForked, IsJoined, IsMergedBy, IsNeeded, IsNext, IsPendingTold, IsRebasedBy, IsShown, IsUndoneBy, IsVerdictOf, OnLine, abort, act_of_none, after_edit, after_entry, answer_of, begin, branch_at, cells_given, commit, drop_client, intent_of, join, last_in_effect, leave, limit_refusal, needs_connection, next_names, opening_document, reconnect, refusal_of, refusal_to_reconnect, sequence, with_client, word_of, IsUpgradedBy}
 use Rattle.std.specs.List.{find, slice_get, slice_set}
 use Rattle.serde_json.specs.Written.{compact_text}
 use Rattle.st_ids.specs.Listing.{Has}
@@ -33,7 +33,7 @@ use Rattle.st_marks.specs.Run.{Run, done, next}
 use Rattle.st_marks.specs.Verdict.{carried_document}
 use Rattle.st_marks.proofs.Members.{append_left, append_right}
 use Rattle.st_opening.specs.Start.{first_said, type_at}
-use Rattle.st_log_laws.proofs.Turns.{has_run}
+use Rattle.st_log_laws.proofs.Turns.{has_run, rest}
 use Rattle.st_log_laws.proofs.Verdicts.{has_verdict}
 use Rattle.st_doc.proofs.Trees.{node_shows}
 use Rattle.st_edits.specs.ArrayTypes.{is_array_type}
@@ -42,7 +42,7 @@ use Rattle.st_script.specs.Header.{HeaderView, header_view}
 use Rattle.st_script.specs.Steps.{ActView, EditView, StepView}
 use Rattle.st_script.specs.Steps as step
 use Rattle.st_script.specs.declared.answer.Answer.{Answer}
-use Rattle.st_script.specs.declared.answer.Answer.TheVariants.{Ack, Deliver, Join as Joins, No, Show, Upgrade as Upgrades}
+use Rattle.st_script.specs.declared.answer.Answer.TheVariants.{Ack, Deliver, Join as Joins, No, Pending, Show, Upgrade as Upgrades}
 use Rattle.st_script.specs.declared.refusal.Refusal.{Refusal}
 use Rattle.st_script.specs.declared.refusal.Refusal.TheVariants.{Limit as OverLimit, NoBranch, NoClient, NotBegun, NotConnected, NothingNew, NothingToSend, Taken, Unfinished}
 use Rattle.st_heads.specs.Transactions.{with_open}
@@ -62,6 +62,8 @@ use Rattle.st_trace.proofs.Everyone.{all_get}
 use Rattle.st_ids.specs.declared.names.Rev.{Rev}
 use Rattle.st_trace.specs.Undo.{IsAfterUndo}
 use Rattle.st_trace.proofs.Undoing.{has_undo}
+use Rattle.st_pending.proofs.Having.{has_texts}
+use Rattle.st_trace.proofs.Voids.{has_void}
 use Rattle.st_trace.proofs.Meant.{IsMeaning, IsMeant, edit_means, need_means}
 use Rattle.st_trace.proofs.Stepping.{may_reconnect, within_log}
 use Rattle.st_lists.specs.declared.lists.Body.{Body}
@@ -283,6 +285,15 @@ module _ (h : HeaderView) (w : WorldState) (s : AreSound h w) where
     received : (D : Document) × HasReceived (opening_document h) w.log c D
     received = has_run (received_by w.log c) (opening_document h) st.sound (received_fit h st w.log c client)
 
+    has_pending : (a : Answer) × IsPendingTold h w c a
+    has_pending =
+        let D = received.0 in
+        let sound = received_sound h st w.log c D client received.1 in
+        let fit = rest c.pending received.1 client.shown_fit in
+        let texts = has_texts c.pending D sound fit in
+        let void = has_void D c.pending sound fit in
+        (Pending texts.0 void.0, (D, texts.0, void.0, received.1, texts.1, void.1, refl))
+
     has_undone : (rev : Rev) → Leads (IsUndoneBy h w i c rev)
     has_undone rev =
         let r = after_undo c.transaction in
@@ -414,6 +425,7 @@ module _ (h : HeaderView) (w : WorldState) (s : AreSound h w) where
   has_act_of step.merge i c k l at g b on = anyway (KeepsRules step.merge) (IsActOf h w step.merge i c k l) (b.merges)
   has_act_of step.drop_branch i c k l at g b on = anyway (KeepsRules step.drop_branch) (IsActOf h w step.drop_branch i c k l) (b.drops)
   has_act_of step.show i c k l at g b on = anyway (KeepsRules step.show) (IsActOf h w step.show i c k l) (let r = has_shown i c at k l g in (w, r.0, (refl, r.1), s))
+  has_act_of step.pending i c k l at g b on = anyway (KeepsRules step.pending) (IsActOf h w step.pending i c k l) (let r = has_pending i c at in (w, r.0, (refl, r.1), s))
 
   has_act_of_none : (name : List ℕ) (x : ActView) → Leads (λ v a. act_of_none w name x ≡ (v, a))
   has_act_of_none name step.join = has_joined name
@@ -435,6 +447,7 @@ module _ (h : HeaderView) (w : WorldState) (s : AreSound h w) where
   has_act_of_none name step.merge = (w, No NoClient, refl, s)
   has_act_of_none name step.drop_branch = (w, No NoClient, refl, s)
   has_act_of_none name step.show = (w, No NoClient, refl, s)
+  has_act_of_none name step.pending = (w, No NoClient, refl, s)
 
   -- ## Steps
 

@@ -29,19 +29,11 @@ use Rattle.st_trace.proofs.Leading.{AllLead, BranchesLead, Leads, st as start_fr
 use Rattle.st_trace.proofs.LineGoing.{line_goes}
 use Rattle.st_trace.proofs.Lookup.{branch_there}
 use Rattle.st_trace.proofs.Rebasing.{own_fits_behind_parent}
+use Rattle.st_trace.proofs.Voids.{has_void}
 use Rattle.st_trace.specs.Branches.{AreVoid, IsMerged, IsRebased, drop_branch, fork, refusal_to_fork, refusal_to_merge, refusal_to_rebase}
 use Rattle.st_trace.specs.Kept.{Unless}
 use Rattle.st_trace.specs.Replicas.{IsClient}
 use Rattle.st_trace.specs.World.{IsForked, OnOwnBranch, OnParent, opening_document, with_client}
-
--- commits that fit in turn have their void ones
-has_void : (D : Document) (Ns : List Intent) → IsSoundInForm D → FitInTurn D Ns → (revs : List Rev) × AreVoid D Ns revs
-has_void D [] sound fit = ([], refl)
-has_void D (N ∷ Ns) sound fit =
-    let v = has_verdict D N sound in
-    let x = carried_extends D N v.0 sound fit.0 fit.1 v.1 in
-    let r = has_void (carried_document v.0 D N) Ns x.after (fit.2 v.0 v.1) in
-    (cond (is_void v.0) (N.rev ∷ r.0) r.0, (v.0, r.0, v.1, r.1, refl))
 
 module _ (h : HeaderView) (w : WorldState) (s : AreSound h w) where
   abbrev st : IsStart (opening_document h)

@@ -54,3 +54,5 @@ pub mod BranchNext
 pub mod BranchWorld
 pub mod NumbersLeft
 pub mod Merged
+pub mod Voids
+pub mod Pendings

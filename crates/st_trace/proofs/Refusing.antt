@@ -48,6 +48,7 @@ refusal_as (Answer.Leave n) P Q f p = tt
 refusal_as (Answer.Drop n) P Q f p = tt
 refusal_as (Answer.Reconnect n sent) P Q f p = tt
 refusal_as (Answer.Show tree) P Q f p = tt
+refusal_as (Answer.Pending texts void) P Q f p = tt
 refusal_as (Answer.No why) P Q f p = f p
 
 -- what stays where a limit is passed

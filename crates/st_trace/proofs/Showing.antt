@@ -95,6 +95,7 @@ module _ (P : List ℕ → Type 0) where
   none_fine w name step.merge = tt
   none_fine w name step.drop_branch = tt
   none_fine w name step.show = tt
+  none_fine w name step.pending = tt
 
   edited_fine : (c : Client) (k : ℕ) (l : Line) (word : EditWord) (r : Result Intent EditFault) → AtShow P (after_edit c k l word r).1
   edited_fine c k l word (Err f) = tt
@@ -248,6 +249,9 @@ of_fine P w (step.upgrade new) i c k l v a sound at line is tree = subst (AtShow
 of_fine P w step.show i c k l v a sound at line is tree =
     let shown = is.1 in
     subst (AtShow P) (sym shown.4) (tree shown.0 shown.1 shown.2 shown.3)
+of_fine P w step.pending i c k l v a sound at line is tree =
+    let told = is.1 in
+    subst (AtShow P) (sym told.6) tt
 
 pub next_allowed : (w : World) (s : StepView) (v : WorldState) (a : Answer) → IsSound w → IsNext (header_view w.header) w.lists s v a → ShowsAllowed (header_view w.header) w.lists s a
 next_allowed w s v a sound is = place (place_of s.client w.lists.clients) refl is

@@ -40,7 +40,8 @@ use Rattle.st_lists.specs.Limits.{entries_limit_passed, limit_passed, log_limit_
 use Rattle.st_lists.specs.Lines.{HasHead, Line, branch_of, edited_on, line_of, main_line, with_commit_on, with_transaction_on}
 use Rattle.st_lists.specs.Log.{commit_of, log_with, minimum, sessions_in, waiting}
 use Rattle.st_lists.specs.Names.{names_in_text}
-use Rattle.st_trace.specs.Branches.{IsMerged, IsRebased, drop_branch, fork, refusal_to_fork, refusal_to_merge, refusal_to_rebase}
+use Rattle.st_pending.specs.Texts.{AreTextsOf}
+use Rattle.st_trace.specs.Branches.{AreVoid, IsMerged, IsRebased, drop_branch, fork, refusal_to_fork, refusal_to_merge, refusal_to_rebase}
 use Rattle.st_trace.specs.Kept.{IsKept, Unless}
 use Rattle.st_trace.specs.Undo.{IsAfterUndo}
 use Rattle.st_trace.specs.Upgrade.{change_of_schema, refusal_to_upgrade, upgrade}
@@ -323,6 +324,12 @@ abbrev pub IsShown : HeaderView → WorldState → Line → Answer → Type 0
 IsShown h w l a = (D : Document) × (tree : List ℕ) × HasShown (opening_document h) w.log l D
     × IsTreeText (is_array_type (schema_in_effect D)) D tree × (a ≡ answer.Show tree)
 
+-- the text of each pending commit as the change that it is after the commits received and the pending ones before it, and
+-- the revisions of those that are void there
+abbrev pub IsPendingTold : HeaderView → WorldState → Client → Answer → Type 0
+IsPendingTold h w c a = (D : Document) × (texts : List (List ℕ)) × (void : List Rev) × HasReceived (opening_document h) w.log c D
+    × AreTextsOf D c.pending texts × AreVoid D c.pending void × (a ≡ answer.Pending texts void)
+
 -- what an act makes of the world, for its client and that one's place, on the line of a number
 abbrev pub IsActOf : HeaderView → WorldState → ActView → ℕ → Client → ℕ → Line → WorldState → Answer → Type 0
 IsActOf h w step.join i c k l v a = IsUnchanged w v a (answer.No no.Taken)
@@ -344,6 +351,7 @@ IsActOf h w step.rebase i c k l v a = IsRebasedBy h w i c k v a
 IsActOf h w step.merge i c k l v a = IsMergedBy h w i c k v a
 IsActOf h w step.drop_branch i c k l v a = IsBranchDropped w i c k v a
 IsActOf h w step.show i c k l v a = (v ≡ w) × IsShown h w l a
+IsActOf h w step.pending i c k l v a = (v ≡ w) × IsPendingTold h w c a
 
 -- where no client has the name: one joins, and nothing else is done
 abbrev pub act_of_none : WorldState → List ℕ → ActView → WorldState × Answer
@@ -366,6 +374,7 @@ act_of_none w name step.rebase = (w, answer.No no.NoClient)
 act_of_none w name step.merge = (w, answer.No no.NoClient)
 act_of_none w name step.drop_branch = (w, answer.No no.NoClient)
 act_of_none w name step.show = (w, answer.No no.NoClient)
+act_of_none w name step.pending = (w, answer.No no.NoClient)
 
 -- the branch that an act is on: what a client does as a whole is on the main one, 0, whatever branch stands beside it
 abbrev pub branch_at : ℕ → ActView → ℕ
@@ -388,6 +397,7 @@ branch_at branch step.rebase = branch
 branch_at branch step.merge = branch
 branch_at branch step.drop_branch = branch
 branch_at branch step.show = branch
+branch_at branch step.pending = 0
 
 -- whether only a client that is connected does the act
 abbrev pub needs_connection : ActView → Bool
@@ -410,6 +420,7 @@ needs_connection step.rebase = false
 needs_connection step.merge = false
 needs_connection step.drop_branch = false
 needs_connection step.show = false
+needs_connection step.pending = false
 
 -- an act that needs a connection is refused of a client that has none
 abbrev pub ByConnected : Bool → Bool → WorldState → WorldState → Answer → Type 0 → Type 0

@@ -172,8 +172,12 @@ pub fn head_of<'a>(client: &Client, kept: &'a Replica, number: u32) -> Option<&'
     kept.branches.get(place)
 }
 
-// The revisions of the commits that came out void.
-fn void_revs(alloc: Global, own: &[Intent], carried: &[Carried]) -> Result<List<Rev>, AllocError>
+/// The revisions of the commits that came out void.
+pub fn void_revs(
+    alloc: Global,
+    own: &[Intent],
+    carried: &[Carried],
+) -> Result<List<Rev>, AllocError>
     ensures { IfOk result (λ revs. revs ≡ void_among own.now carried.now) }
 {
     let mut revs = List::new(alloc);

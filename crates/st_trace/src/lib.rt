@@ -12,6 +12,7 @@ mod known;
 mod laws;
 mod log_steps;
 mod logged;
+mod pending;
 mod reconnecting;
 mod replica;
 mod sessions;

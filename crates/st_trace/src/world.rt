@@ -139,7 +139,8 @@ fn branch_of(step: &TraceStep) -> u32
         | Act::Deliver
         | Act::Leave
         | Act::Drop
-        | Act::Reconnect => 0,
+        | Act::Reconnect
+        | Act::Pending => 0,
     }
 }
 
@@ -162,7 +163,8 @@ fn needs_connection(act: &Act) -> bool
         | Act::Rebase
         | Act::Merge
         | Act::DropBranch
-        | Act::Show => false,
+        | Act::Show
+        | Act::Pending => false,
     }
 }
 
@@ -449,7 +451,8 @@ impl World {
             | Act::Rebase
             | Act::Merge
             | Act::DropBranch
-            | Act::Show => Ok(Answer::No(Refusal::NoClient)),
+            | Act::Show
+            | Act::Pending => Ok(Answer::No(Refusal::NoClient)),
         }
     }
 
@@ -488,6 +491,10 @@ impl World {
             Act::DropBranch => Ok(self.drop_branch(i, 0)),
             Act::Show => {
                 let answer = self.show(alloc, i, 0)?;
+                Ok(answer)
+            }
+            Act::Pending => {
+                let answer = self.pending(alloc, i)?;
                 Ok(answer)
             }
         }
@@ -536,7 +543,8 @@ impl World {
             | Act::Deliver
             | Act::Leave
             | Act::Drop
-            | Act::Reconnect => self.answer_at(alloc, i, act),
+            | Act::Reconnect
+            | Act::Pending => self.answer_at(alloc, i, act),
         }
     }
 

@@ -27,3 +27,10 @@ returns-in_ok-answer-in-Show-clause-next c = λ q at.
 
 pub returns-in_ok-answer-in-Show-clause-sound : goal.returns-in_ok-answer-in-Show-clause-sound
 returns-in_ok-answer-in-Show-clause-sound c = sound_later c.args.self.now.steps c.args.self.now c.requires.sound
+
+pub returns-in_ok-answer-in-Pending-clause-next : goal.returns-in_ok-answer-in-Pending-clause-next
+returns-in_ok-answer-in-Pending-clause-next c = λ q at.
+    subst (λ z. IsActOf (header_view c.args.self.now.header) c.args.self.now.lists z c.args.i q 0 (main_line q) c.args.self.now.lists c.in_ok-answer-in-Pending.answer) (sym (ap act_view c.in-Pending.is)) (refl, c.in_ok-answer-in-Pending.ensures q at)
+
+pub returns-in_ok-answer-in-Pending-clause-sound : goal.returns-in_ok-answer-in-Pending-clause-sound
+returns-in_ok-answer-in-Pending-clause-sound c = sound_later c.args.self.now.steps c.args.self.now c.requires.sound
