@@ -6,12 +6,9 @@ pub mod RowsRebased
 pub mod RegistersRebased
 pub mod ChangeRebased
 mod RegisterLaw
-pub mod Trimmed
-pub mod InTurn
-pub mod WayBack
-pub mod Effects
 mod RestMarks
 mod RowRoom
+mod RowsRoom
 mod RowOver
 mod RoomLater
 mod ChangeLater

@@ -1,5 +1,0 @@
-use Rattle.st_family.proofs.Effects.{effect_covers}
-use Rattle.st_family.proofs.coverings.effects_are_covered.Goals as goal
-
-pub returns : goal.returns
-returns c = λ D N C x f change. effect_covers D N C x f change

@@ -1,5 +1,0 @@
-use Rattle.st_family.proofs.Trimmed.{listing_trimmed}
-use Rattle.st_family.proofs.coverings.trimmed_listings_are_steps.Goals as goal
-
-pub returns : goal.returns
-returns c = λ D E K k G T l w t. listing_trimmed D E K k G T l w t

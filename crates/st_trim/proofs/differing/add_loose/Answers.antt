@@ -1,0 +1,20 @@
+use Rattle.std.proofs.Common.{◌||◌, get_or, refl, sym, ap, ◌∙◌}
+use Rattle.std.specs.BTreeSet.{contains}
+use Rattle.st_ids.specs.Order.{node_cmp}
+use Rattle.st_lemmas.proofs.Bools.{or-false}
+use Rattle.st_marks.specs.declared.marks.Loose.{Loose}
+use Rattle.st_marks.specs.Embedding.{is_among}
+use Rattle.st_marks.specs.Listings.{one_or_none}
+use Rattle.st_puts.proofs.Among.{added_more}
+use Rattle.st_puts.proofs.Firsts.{no_loose}
+use Rattle.st_trim.specs.inside.Told.{loose_leaver}
+use Rattle.st_trim.proofs.differing.add_loose.Goals as goal
+
+pub loop-one-init : goal.loop-one-init
+loop-one-init c = λ n. sym (or-false (contains node_cmp c.args.set.now n))
+
+pub loop-one-preserved : goal.loop-one-preserved
+loop-one-preserved c = λ n.
+    added_more (λ (m : Loose). one_or_none (loose_leaver (contains node_cmp c.args.new.now) m)) (contains node_cmp c.args.set.now n) (contains node_cmp c.loop-one.set n) (contains node_cmp c.add_one.new.set n) n
+    c.args.loose.now c.loop-one.one-index no_loose (get_or c.args.loose.now c.loop-one.one-index no_loose) c.loop-one-test.true refl
+    (c.loop-one.invariant n) (c.in_ok-add_one.ensures n ∙ ap (λ o. contains node_cmp c.loop-one.set n || is_among (one_or_none o) n) c.loose_leaver.ensures)

@@ -1,0 +1,4 @@
+pub mod Covers
+pub mod Evicted
+pub mod Trimmed
+pub mod inside

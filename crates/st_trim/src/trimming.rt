@@ -1,0 +1,96 @@
+//! A listing of a step, trimmed to what the step mentions.
+ghost use Rattle.std.specs.Prelude.{◌≡◌, filter, IfOk, OnOk};
+ghost use Rattle.std.specs.BTreeSet.{contains};
+ghost use Rattle.st_ids.specs.Order.{node_cmp};
+ghost use Rattle.st_kind.specs.Named.{Nodes};
+ghost use Rattle.st_marks.specs.declared.marks.Loose.{Loose as LooseNode};
+ghost use Rattle.st_marks.specs.Document.{Document};
+ghost use Rattle.st_marks.specs.Extends.{IsExtendedBy};
+ghost use Rattle.st_marks.specs.Register.{holds_mentioned};
+ghost use Rattle.st_marks.specs.Step.{IsStep};
+ghost use Rattle.st_trim.specs.Trimmed.{AreMentionedByStep, ListsStep};
+ghost use Rattle.st_trim.specs.inside.Cut.{IsCutTo, tells_register};
+
+use crate::differing::{is_same_occupant, nodes_changed};
+use crate::places::places_before;
+use crate::rows::trim_rows;
+use st_ids::{List, NodeId};
+use st_marks::{Loose, RegStep, Step};
+use st_puts::upwards;
+use std::alloc::{AllocError, Global};
+use std::collections::BTreeSet;
+
+// Whether the occupant of a register is named.
+fn holds_named(named: &BTreeSet<NodeId>, held: Option<NodeId>) -> bool
+    ensures { result ≡ holds_mentioned (contains node_cmp named.now) held }
+{
+    match held {
+        None => false,
+        Some(node) => named.contains(&node),
+    }
+}
+
+// Whether a register is listed where some nodes alone are named.
+fn tells_register(named: &BTreeSet<NodeId>, reg: &RegStep) -> bool
+    ensures { result ≡ tells_register (contains node_cmp named.now) reg.now }
+{
+    !is_same_occupant(reg.before, reg.after) || holds_named(named, reg.before)
+}
+
+// The registers that differ or hold one of some nodes.
+fn trim_registers(named: &BTreeSet<NodeId>, regs: List<RegStep>) -> List<RegStep>
+    ensures { result ≡ filter (tells_register (contains node_cmp named.now)) regs }
+{
+    let mut items = regs.into_vec();
+    items.retain(|reg| tells_register(named, reg));
+    List::from_vec(items)
+}
+
+// Those of the nodes that are nowhere that are named.
+fn trim_loose(named: &BTreeSet<NodeId>, loose: List<Loose>) -> List<Loose>
+    ensures { result ≡ filter (λ (l : LooseNode). contains node_cmp named.now l.node) loose }
+{
+    let mut items = loose.into_vec();
+    items.retain(|one| named.contains(&one.node));
+    List::from_vec(items)
+}
+
+// A listing where some nodes alone are named.
+fn cut(alloc: Global, listing: Step, named: &BTreeSet<NodeId>) -> Result<Step, AllocError>
+    ensures { IfOk result (IsCutTo (contains node_cmp named.now) listing) }
+{
+    let Step {
+        new,
+        rows,
+        regs,
+        loose,
+        schema,
+    } = listing;
+    Ok(Step {
+        rows: trim_rows(alloc, named, rows.as_slice())?,
+        regs: trim_registers(named, regs),
+        loose: trim_loose(named, loose),
+        new,
+        schema,
+    })
+}
+
+// The nodes that a step mentions: those that differ, and all above them.
+fn mentioned(alloc: Global, listing: &Step) -> Result<BTreeSet<NodeId>, AllocError>
+    ensures { (D E : Document) (K : Nodes) → IsExtendedBy D E → ListsStep D E K listing.now
+        → IfOk result (λ s. AreMentionedByStep D E (contains node_cmp s)) }
+{
+    let places = places_before(alloc, listing)?;
+    let changed = nodes_changed(alloc, listing)?;
+    upwards(alloc, &places, &changed)
+}
+
+/// The step of which a listing tells, perhaps with more nodes named than the step mentions, and rows and registers listed that
+/// tell nothing: what is said with those alone named that the step mentions. Which these are is read off the listing itself. Takes
+/// O(n log n) for n marks and names, whatever a Skip counts.
+pub fn trim_step(alloc: Global, listing: Step) -> Result<Step, AllocError>
+    ensures { (D E : Document) (K : Nodes) → IsExtendedBy D E → ListsStep D E K listing → IfOk result (IsStep D E) }
+{
+    let named = mentioned(alloc, &listing)?;
+    cut(alloc, listing, &named)
+}
