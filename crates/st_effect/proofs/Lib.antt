@@ -1,0 +1,11 @@
+pub mod Shown
+pub mod Loops
+pub mod ShortRows
+pub mod KindLaws
+pub mod Matching
+pub mod Named
+pub mod RowsListed
+pub mod RegistersListed
+pub mod LooseListed
+pub mod Voided
+pub mod StepListed

@@ -1,0 +1,14 @@
+//! What a change does where it stands: its verdict, and the step to the document after it, told by its marks alone.
+#![tactic(auto)]
+
+mod effects;
+mod listing;
+mod loose;
+mod names;
+mod registers;
+mod rows;
+mod schemas;
+mod short;
+
+pub use effects::{Consequence, effect};
+pub use short::has_short_rows;
