@@ -47,8 +47,8 @@ fn made(marks: &List<Mark>) -> u64
     count
 }
 
-// Whether what the change lists after the step is fewer than 2^32 cells.
-fn has_room(change: &List<Mark>, step: &List<Mark>) -> bool
+/// Whether what a change's row lists after a step's is fewer than 2^32 cells.
+pub fn has_room(change: &List<Mark>, step: &List<Mark>) -> bool
     ensures { (result ≡ true) ↔ (may_list (spread change.now) (spread step.now) < 2 ^ 32) }
 {
     made(change) + made(step) + before(step) < MOST
