@@ -17,6 +17,7 @@ pub struct Sighting {
 }
 
 /// What a mark says of its cell before, if the cell is there; of a Skip, what it says of each.
+#[inline(always)]
 pub fn before(mark: Mark) -> Sighting
     ensures { view_of result ≡ view_before (cell_of mark) }
 {
@@ -50,6 +51,7 @@ pub fn before(mark: Mark) -> Sighting
 }
 
 /// What a mark says of its cell after; of a Skip, what it says of each.
+#[inline(always)]
 pub fn after(mark: Mark) -> Sighting
     ensures { view_of result ≡ view_after (cell_of mark) }
 {
@@ -118,6 +120,7 @@ fn same_bools(a: bool, b: bool) -> bool
 }
 
 /// Whether both say the same, as far as they tell.
+#[inline(always)]
 pub fn is_same(first: Sighting, then: Sighting) -> bool
     ensures { result ≡ agree (view_of first) (view_of then) }
 {

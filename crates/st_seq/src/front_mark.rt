@@ -19,6 +19,7 @@ pub enum Head {
 }
 
 /// Takes what comes first, where so many counted cells stand before the marks.
+#[inline(always)]
 pub fn next<'a>(count: u32, marks: &'a [Mark]) -> (Head, &'a [Mark])
     ensures { IsFirst (marks_left count marks.now) result.0 result.1.now }
 {

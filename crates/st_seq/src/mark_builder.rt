@@ -9,6 +9,7 @@ use st_marks::Mark;
 use std::alloc::{AllocError, Global};
 
 /// How many cells a mark counts, if it counts cells.
+#[inline(always)]
 fn count_of(mark: Mark) -> Option<u32>
     ensures { result ≡ count_in mark }
 {
@@ -19,6 +20,7 @@ fn count_of(mark: Mark) -> Option<u32>
 }
 
 /// Takes the count off that stands at the end, if one does.
+#[inline(always)]
 fn take_count(out: &mut List<Mark>) -> u32
     requires { IsMerged out.old }
     ensures cells { spread out.old ≡ spread out.new ++ counted_cells result [] }
@@ -37,6 +39,7 @@ fn take_count(out: &mut List<Mark>) -> u32
 }
 
 /// Adds some counted cells at the end.
+#[inline(always)]
 fn push_count(out: &mut List<Mark>, k: u32) -> Result<(), AllocError>
     requires merged { IsMerged out.old }
     requires some { 0 < k }
@@ -50,6 +53,7 @@ fn push_count(out: &mut List<Mark>, k: u32) -> Result<(), AllocError>
 }
 
 /// Adds one cell at the end.
+#[inline(always)]
 fn push_cell(out: &mut List<Mark>, mark: Mark) -> Result<(), AllocError>
     requires merged { IsMerged out.old }
     requires named { is_skip mark ≡ false }
@@ -61,6 +65,7 @@ fn push_cell(out: &mut List<Mark>, mark: Mark) -> Result<(), AllocError>
 }
 
 /// Adds what a mark says at the end.
+#[inline(always)]
 pub fn push(out: &mut List<Mark>, mark: Mark) -> Result<(), AllocError>
     requires merged { IsMerged out.old }
     requires room { length (spread out.old) + length (spread (mark ∷ [])) < 2 ^ 32 }

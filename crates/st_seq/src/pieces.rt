@@ -20,6 +20,7 @@ pub enum Piece {
 }
 
 /// How many cells of a piece both find.
+#[inline(always)]
 pub fn cells_met(piece: Piece) -> u32
     ensures { result ≡ met_by piece }
 {
@@ -44,6 +45,7 @@ pub enum Turn<'a> {
 }
 
 /// The first cell of what comes first, and how many counted cells stand behind it.
+#[inline(always)]
 pub fn one(head: Head) -> Option<(Mark, u32)>
     ensures { IsOne head result }
 {
@@ -62,6 +64,7 @@ pub fn one(head: Head) -> Option<(Mark, u32)>
 }
 
 /// The next cell, which the first listing leaves and the second finds.
+#[inline(always)]
 fn pair_in_turn<'a>(x: Head, xs: &'a [Mark], y: Head, ys: &'a [Mark]) -> Turn<'a>
     requires { is_make y ≡ false }
     ensures { (c d : Seq CellMark) → IsFirst c x xs.now → IsFirst d y ys.now → IsTurnInTurn c d result }
@@ -91,6 +94,7 @@ fn pair_in_turn<'a>(x: Head, xs: &'a [Mark], y: Head, ys: &'a [Mark]) -> Turn<'a
 }
 
 /// The next cell, which both listings find.
+#[inline(always)]
 fn pair_beside<'a>(x: Head, xs: &'a [Mark], y: Head, ys: &'a [Mark]) -> Turn<'a>
     requires first { is_make x ≡ false }
     requires then { is_make y ≡ false }
@@ -121,6 +125,7 @@ fn pair_beside<'a>(x: Head, xs: &'a [Mark], y: Head, ys: &'a [Mark]) -> Turn<'a>
 }
 
 /// One turn, where the second listing finds what the first leaves; so many counted cells stand before the marks.
+#[inline(always)]
 pub fn turn_in_turn<'a>(x_count: u32, xs: &'a [Mark], y_count: u32, ys: &'a [Mark]) -> Turn<'a>
     ensures { IsTurnInTurn (marks_left x_count xs.now) (marks_left y_count ys.now) result }
 {
@@ -155,6 +160,7 @@ pub fn turn_in_turn<'a>(x_count: u32, xs: &'a [Mark], y_count: u32, ys: &'a [Mar
 }
 
 /// One turn behind the cells that the first listing makes, where both listings find the same.
+#[inline(always)]
 fn turn_found<'a>(
     x: Head,
     x_rest: &'a [Mark],
@@ -197,6 +203,7 @@ fn turn_found<'a>(
 }
 
 /// One turn, where both listings find the same; so many counted cells stand before the marks.
+#[inline(always)]
 pub fn turn_beside<'a>(x_count: u32, xs: &'a [Mark], y_count: u32, ys: &'a [Mark]) -> Turn<'a>
     ensures { IsTurnBeside (marks_left x_count xs.now) (marks_left y_count ys.now) result }
 {
