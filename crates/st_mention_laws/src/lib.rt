@@ -1,4 +1,5 @@
-//! What an intent mentions in a document and in one that extends it: laws about the definitions of st_marks.
+//! What an intent mentions in a document and in one that extends it: laws about the definitions of st_marks. In specs/ what it is
+//! that a change or a step is shown but for which empty cells it names.
 #![tactic(auto)]
 
 mod laws;
