@@ -2,6 +2,7 @@
 use Rattle.std.proofs.Common.{◌≡◌, ℕ, zero, suc, Bool, true, false, ◌||◌, List, [], ◌∷◌, ◌++◌, map, Some, option_map, cond, refl, sym, ap, ◌∙◌}
 use Rattle.std.specs.List.{find, flat_map, list_any}
 use Rattle.st_ids.specs.declared.names.CellId.{CellId}
+use Rattle.st_ids.specs.declared.names.NodeId.{NodeId}
 use Rattle.st_marks.specs.declared.changes.Change.{Change}
 use Rattle.st_marks.specs.declared.intents.Intent.{Intent}
 use Rattle.st_marks.specs.declared.marks.Mark.{Mark}
@@ -104,6 +105,11 @@ list_any-marks f skip gap ms = some_cell f skip gap (thin_marks ms) ∙ list_any
 pub flat_map-rows : {B : Type 0} (f : RowMarks → List B) → ((r : RowMarks) → f (thin_row r) ≡ f r) → (rows : List RowMarks) → flat_map f (map thin_row rows) ≡ flat_map f rows
 flat_map-rows f same [] = refl
 flat_map-rows f same (r ∷ rows) = ap (λ l. l ++ flat_map f (map thin_row rows)) (same r) ∙ ap (λ l. f r ++ l) (flat_map-rows f same rows)
+
+-- where rows are read mark by mark
+pub flat_map-told : {B : Type 0} (f : NodeId → Mark → List B) → ((n : NodeId) (k : ℕ) → f n (Mark.Skip k) ≡ []) → ((n : NodeId) (c : CellId) → f n (Mark.Gap c) ≡ [])
+    → (rows : List RowMarks) → flat_map (λ (r : RowMarks). flat_map (f r.node) r.marks) (map thin_row rows) ≡ flat_map (λ (r : RowMarks). flat_map (f r.node) r.marks) rows
+flat_map-told f skip gap rows = flat_map-rows (λ (r : RowMarks). flat_map (f r.node) r.marks) (λ r. flat_map-marks (f r.node) (skip r.node) (gap r.node) r.marks) rows
 
 pub list_any-rows : (f : RowMarks → Bool) → ((r : RowMarks) → f (thin_row r) ≡ f r) → (rows : List RowMarks) → list_any f (map thin_row rows) ≡ list_any f rows
 list_any-rows f same [] = refl

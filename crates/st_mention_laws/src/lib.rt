@@ -1,5 +1,5 @@
-//! What an intent mentions in a document and in one that extends it: laws about the definitions of st_marks. In specs/ what it is
-//! that a change or a step is shown but for which empty cells it names.
+//! What an intent mentions in a document and in one that extends it: laws about the definitions of st_marks. And, in specs/,
+//! what shows a change or a step but for which empty cells it names.
 #![tactic(auto)]
 
 mod laws;

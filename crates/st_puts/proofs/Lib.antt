@@ -3,6 +3,7 @@ pub mod Among
 pub mod Climbing
 pub mod Gathering
 pub mod Marks
+pub mod Alike
 pub mod SpotsRight
 pub mod RowSays
 pub mod Placing

@@ -4,9 +4,9 @@ ghost use Rattle.std.specs.BTreeSet.{contains};
 ghost use Rattle.st_ids.specs.Order.{node_cmp};
 ghost use Rattle.st_marks.specs.declared.intents.Intent.{Intent};
 ghost use Rattle.st_marks.specs.Document.{Document};
-ghost use Rattle.st_marks.specs.Embedding.{IsEmbedding};
 ghost use Rattle.st_marks.specs.Extends.{IsExtendedBy};
 ghost use Rattle.st_marks.specs.Intent.{Fits};
+ghost use Rattle.st_mention_laws.specs.Shown.{Shows};
 ghost use Rattle.st_puts.specs.Mentions.{AreMentions, AreUpwards, PlacesMentioned, above_in};
 ghost use Rattle.st_puts.specs.inside.Upwards.{GainsUpwards, IsClosed};
 
@@ -71,7 +71,7 @@ pub fn mentioned_after(
     places: &BTreeMap<NodeId, Spot>,
 ) -> Result<BTreeSet<NodeId>, AllocError>
     ensures { (D E : Document) (N : Intent) → IsExtendedBy D E → Fits D N → Fits E N
-        → IsEmbedding D N change.now → PlacesMentioned E N places.now
+        → Shows D N change.now → PlacesMentioned E N places.now
         → IfOk result (λ s. AreMentions E N (contains node_cmp s)) }
 {
     let names = named_before(alloc, change)?;

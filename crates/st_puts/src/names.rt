@@ -7,9 +7,10 @@ ghost use Rattle.st_ids.specs.Order.{node_cmp};
 ghost use Rattle.st_ids.specs.declared.names.NodeId.{NodeId as Node};
 ghost use Rattle.st_marks.specs.declared.intents.Intent.{Intent};
 ghost use Rattle.st_marks.specs.Document.{Document, IsSoundInForm};
-ghost use Rattle.st_marks.specs.Embedding.{IsEmbedding, is_among, named_by_intent};
+ghost use Rattle.st_marks.specs.Embedding.{is_among, named_by_intent};
 ghost use Rattle.st_marks.specs.Intent.{Fits};
 ghost use Rattle.st_marks.specs.Listings.{nodes_new, one_or_none};
+ghost use Rattle.st_mention_laws.specs.Shown.{Shows};
 ghost use Rattle.st_puts.specs.inside.Names.{
   loose_names,
   moved_by,
@@ -178,7 +179,7 @@ fn old_names(alloc: Global, change: &Change) -> Result<BTreeSet<NodeId>, AllocEr
 /// The nodes of the earlier document that the intent of a change names, read off the change's marks: whom it puts or needs,
 /// and whose fields it names by cells that it makes or fills and by registers that it clears.
 pub fn named_before(alloc: Global, change: &Change) -> Result<BTreeSet<NodeId>, AllocError>
-    ensures { (D : Document) (N : Intent) → IsSoundInForm D → Fits D N → IsEmbedding D N change.now
+    ensures { (D : Document) (N : Intent) → IsSoundInForm D → Fits D N → Shows D N change.now
         → IfOk result (λ s. (n : Node) → (contains node_cmp s n
         ≡ true) ↔ (Has (named_by_intent D N) n × IsSome (D.nodes n))) }
 {

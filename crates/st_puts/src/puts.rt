@@ -8,9 +8,9 @@ ghost use Rattle.st_ids.specs.declared.names.NodeId.{NodeId as Node};
 ghost use Rattle.st_marks.specs.declared.intents.Intent.{Intent};
 ghost use Rattle.st_marks.specs.declared.marks.RegMark.{RegMark as Register};
 ghost use Rattle.st_marks.specs.Document.{Document, IsSoundInForm};
-ghost use Rattle.st_marks.specs.Embedding.{IsEmbedding};
 ghost use Rattle.st_marks.specs.Intent.{Fits, put_of};
 ghost use Rattle.st_marks.specs.Listings.{one_or_none};
+ghost use Rattle.st_mention_laws.specs.Shown.{Shows};
 ghost use Rattle.st_puts.specs.inside.First.{first_at};
 ghost use Rattle.st_puts.specs.inside.Puts.{
   comes_by,
@@ -250,7 +250,7 @@ fn told_puts(alloc: Global, change: &Change) -> Result<BTreeMap<NodeId, To>, All
 
 /// Where the intent of a change puts nodes, read off the change's marks.
 pub fn puts_of(alloc: Global, change: &Change) -> Result<BTreeMap<NodeId, To>, AllocError>
-    ensures { (D : Document) (N : Intent) → IsSoundInForm D → Fits D N → IsEmbedding D N change.now
+    ensures { (D : Document) (N : Intent) → IsSoundInForm D → Fits D N → Shows D N change.now
         → IfOk result (λ m. (n : Node) → get node_cmp m n ≡ put_of N n) }
 {
     told_puts(alloc, change)

@@ -9,11 +9,11 @@ ghost use Rattle.st_marks.specs.declared.intents.Intent.{Intent};
 ghost use Rattle.st_marks.specs.declared.marks.RegMark.{RegMark as Register};
 ghost use Rattle.st_marks.specs.declared.marks.RegStep.{RegStep as RegisterOver};
 ghost use Rattle.st_marks.specs.Document.{Document};
-ghost use Rattle.st_marks.specs.Embedding.{IsEmbedding, is_among};
+ghost use Rattle.st_marks.specs.Embedding.{is_among};
 ghost use Rattle.st_marks.specs.Extends.{IsExtendedBy};
 ghost use Rattle.st_marks.specs.Intent.{Fits};
 ghost use Rattle.st_marks.specs.Listings.{nodes_loose, nodes_new, one_or_none, placed_before};
-ghost use Rattle.st_marks.specs.Step.{IsStep};
+ghost use Rattle.st_mention_laws.specs.Shown.{Shows, ShowsStep};
 ghost use Rattle.st_puts.specs.Mentions.{PlacesMentioned};
 ghost use Rattle.st_puts.specs.inside.First.{first_at};
 ghost use Rattle.st_puts.specs.inside.Spots.{
@@ -291,9 +291,9 @@ fn spots_beside(
 /// Where nodes stand after a step, read off its touches, fills and makes: whom it tells of stands there in the later
 /// document, and it tells of each node that the step finds in a cell, in a register or nowhere, or makes.
 pub fn places_after(alloc: Global, step: &Step) -> Result<BTreeMap<NodeId, Spot>, AllocError>
-    ensures right { (D E : Document) → IsExtendedBy D E → IsStep D E step.now
+    ensures right { (D E : Document) → IsExtendedBy D E → ShowsStep D E step.now
         → IfOk result (λ m. (n : Node) → IfSome (get node_cmp m n) (λ s. E.place n ≡ s)) }
-    ensures listed { (D E : Document) → IsExtendedBy D E → IsStep D E step.now
+    ensures listed { (D E : Document) → IsExtendedBy D E → ShowsStep D E step.now
         → IfOk result (λ m. (n : Node)
         → is_among (nodes_new step.now.new ++ nodes_loose step.now.loose
         ++ placed_before step.now.rows (map (λ (r : RegisterOver). r.before) step.now.regs)) n ≡ true
@@ -309,7 +309,7 @@ pub fn places_beside(
     step: &Step,
 ) -> Result<BTreeMap<NodeId, Spot>, AllocError>
     ensures { (D E : Document) (N : Intent) → IsExtendedBy D E → Fits D N → Fits E N
-        → IsEmbedding D N change.now → IsStep D E step.now → IfOk result (PlacesMentioned E N) }
+        → Shows D N change.now → ShowsStep D E step.now → IfOk result (PlacesMentioned E N) }
 {
     spots_beside(alloc, change, step)
 }
