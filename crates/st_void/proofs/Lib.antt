@@ -6,3 +6,4 @@ pub mod AboveTrue
 pub mod PutsTrue
 pub mod VerdictTrue
 pub mod Folding
+pub mod Alike

@@ -3,8 +3,9 @@ ghost use Rattle.std.specs.Prelude.{◌≡◌, ◌⊎◌, ◌↔◌, true};
 ghost use Rattle.st_ids.specs.Root.{root};
 ghost use Rattle.st_marks.specs.declared.intents.Intent.{Intent};
 ghost use Rattle.st_marks.specs.Document.{Document, IsLive, IsSoundInForm, Reaches};
-ghost use Rattle.st_marks.specs.Embedding.{IsEmbedding, IsMentionedByIntent};
+ghost use Rattle.st_marks.specs.Embedding.{IsMentionedByIntent};
 ghost use Rattle.st_marks.specs.Intent.{Fits};
+ghost use Rattle.st_mention_laws.specs.Shown.{Shows};
 ghost use Rattle.st_void.specs.Standing.{IsShownLive, above_shown};
 
 use crate::standing::{When, above};
@@ -42,7 +43,7 @@ pub(crate) fn is_shown_live(change: &Change, node: NodeId) -> bool
 
 /// Whether a node is the root or beneath it, where a change stands.
 pub fn is_live(change: &Change, node: NodeId) -> bool
-    ensures { (D : Document) (N : Intent) → IsSoundInForm D → Fits D N → IsEmbedding D N change.now
+    ensures { (D : Document) (N : Intent) → IsSoundInForm D → Fits D N → Shows D N change.now
         → (node ≡ root) ⊎ IsMentionedByIntent D N node → ((result ≡ true) ↔ IsLive D node) }
 {
     is_shown_live(change, node)

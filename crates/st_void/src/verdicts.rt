@@ -2,9 +2,9 @@
 ghost use Rattle.st_ids.specs.Listing.{Has};
 ghost use Rattle.st_marks.specs.declared.intents.Intent.{Intent};
 ghost use Rattle.st_marks.specs.Document.{Document, IsSoundInForm};
-ghost use Rattle.st_marks.specs.Embedding.{IsEmbedding};
 ghost use Rattle.st_marks.specs.Intent.{Fits};
 ghost use Rattle.st_marks.specs.Verdict.{IsVerdict};
+ghost use Rattle.st_mention_laws.specs.Shown.{Shows};
 ghost use Rattle.st_doc.specs.inside.Ahead.{IsLeastOf};
 ghost use Rattle.st_void.specs.Standing.{IsShownLive};
 
@@ -28,7 +28,7 @@ fn least_unmet(change: &Change) -> Option<NodeId>
 /// node. It asks for no memory. Each need, and each node that is put and has something listed below it, costs a look at
 /// all marks for each node above it.
 pub fn verdict(change: &Change) -> Verdict
-    ensures { (D : Document) (N : Intent) → IsSoundInForm D → Fits D N → IsEmbedding D N change.now → IsVerdict D N result }
+    ensures { (D : Document) (N : Intent) → IsSoundInForm D → Fits D N → Shows D N change.now → IsVerdict D N result }
 {
     if !change.base {
         return Verdict::Schema(change.under);
