@@ -8,3 +8,4 @@ mod Reading
 mod Changing
 mod Standing
 mod Cutting
+mod Thinning

@@ -4,10 +4,12 @@ ghost use Rattle.std.specs.BTreeSet.{contains};
 ghost use Rattle.st_ids.specs.Order.{node_cmp};
 ghost use Rattle.st_kind.specs.Named.{Nodes};
 ghost use Rattle.st_marks.specs.declared.marks.Loose.{Loose as LooseNode};
+ghost use Rattle.st_marks.specs.declared.steps.Step.{Step as Listing};
 ghost use Rattle.st_marks.specs.Document.{Document};
 ghost use Rattle.st_marks.specs.Extends.{IsExtendedBy};
 ghost use Rattle.st_marks.specs.Register.{holds_mentioned};
 ghost use Rattle.st_marks.specs.Step.{IsStep};
+ghost use Rattle.st_mention_laws.specs.Shown.{ShowsStep, thin_step};
 ghost use Rattle.st_trim.specs.Trimmed.{AreMentionedByStep, ListsStep};
 ghost use Rattle.st_trim.specs.inside.Cut.{IsCutTo, tells_register};
 
@@ -77,8 +79,8 @@ fn cut(alloc: Global, listing: Step, named: &BTreeSet<NodeId>) -> Result<Step, A
 
 // The nodes that a step mentions: those that differ, and all above them.
 fn mentioned(alloc: Global, listing: &Step) -> Result<BTreeSet<NodeId>, AllocError>
-    ensures { (D E : Document) (K : Nodes) → IsExtendedBy D E → ListsStep D E K listing.now
-        → IfOk result (λ s. AreMentionedByStep D E (contains node_cmp s)) }
+    ensures { (D E : Document) (K : Nodes) (G : Listing) → IsExtendedBy D E → ListsStep D E K G
+        → thin_step listing.now ≡ thin_step G → IfOk result (λ s. AreMentionedByStep D E (contains node_cmp s)) }
 {
     let places = places_before(alloc, listing)?;
     let changed = nodes_changed(alloc, listing)?;
@@ -86,10 +88,15 @@ fn mentioned(alloc: Global, listing: &Step) -> Result<BTreeSet<NodeId>, AllocErr
 }
 
 /// The step of which a listing tells, perhaps with more nodes named than the step mentions, and rows and registers listed that
-/// tell nothing: what is said with those alone named that the step mentions. Which these are is read off the listing itself. Takes
-/// O(n log n) for n marks and names, whatever a Skip counts.
+/// tell nothing: what is said with those alone named that the step mentions. Which these are is read off the listing itself.
+/// Empty cells that stay empty aren't read: of a listing that counts some of them the step counts these too. Takes O(n log n)
+/// for n marks and names, whatever a Skip counts.
 pub fn trim_step(alloc: Global, listing: Step) -> Result<Step, AllocError>
-    ensures { (D E : Document) (K : Nodes) → IsExtendedBy D E → ListsStep D E K listing → IfOk result (IsStep D E) }
+    ensures exact { (D E : Document) (K : Nodes) → IsExtendedBy D E → ListsStep D E K listing → IfOk result (IsStep D E) }
+    ensures shown { (D E : Document) (K : Nodes) (G : Listing) → IsExtendedBy D E → ListsStep D E K G
+        → thin_step listing ≡ thin_step G → IfOk result (ShowsStep D E) }
+    ensures thin { (D E : Document) (K : Nodes) (G : Listing) → IsExtendedBy D E → ListsStep D E K G
+        → thin_step listing ≡ thin_step G → thin_step listing ≡ listing → IfOk result (λ s. thin_step s ≡ s) }
 {
     let named = mentioned(alloc, &listing)?;
     cut(alloc, listing, &named)
