@@ -35,6 +35,25 @@ merged (Fill c n ∷ ms) = ap (λ l. Fill c n ∷ l) (merged ms)
 pub spread-thin : (ms : List Mark) → spread (thin_marks ms) ≡ map unnamed (spread ms)
 spread-thin ms = merged (map unnamed (spread ms))
 
+unnamed-twice : (cells : List CellMark) → map unnamed (map unnamed cells) ≡ map unnamed cells
+unnamed-twice [] = refl
+unnamed-twice (Counted ∷ ms) = ap (λ l. Counted ∷ l) (unnamed-twice ms)
+unnamed-twice (Gap c ∷ ms) = ap (λ l. Counted ∷ l) (unnamed-twice ms)
+unnamed-twice (Touch c n h ∷ ms) = ap (λ l. Touch c n h ∷ l) (unnamed-twice ms)
+unnamed-twice (Make c n b ∷ ms) = ap (λ l. Make c n b ∷ l) (unnamed-twice ms)
+unnamed-twice (Fill c n ∷ ms) = ap (λ l. Fill c n ∷ l) (unnamed-twice ms)
+
+-- where they are counted, none is left to be counted
+rows-twice : (rows : List RowMarks) → map thin_row (map thin_row rows) ≡ map thin_row rows
+rows-twice [] = refl
+rows-twice (r ∷ rows) = λ i. record { node = r.node; marks = (ap (λ cells. merge (map unnamed cells)) (spread-thin r.marks) ∙ ap merge (unnamed-twice (spread r.marks))) i } ∷ rows-twice rows i
+
+pub thin-twice : (C : Change) → thin (thin C) ≡ thin C
+thin-twice C = λ i. record C { rows = rows-twice C.rows i }
+
+pub thin_step-twice : (S : Step) → thin_step (thin_step S) ≡ thin_step S
+thin_step-twice S = λ i. record S { rows = rows-twice S.rows i }
+
 -- ## Readers of cells that read nothing at a counted and at an empty cell
 
 pub flat_map-unnamed : {B : Type 0} (g : CellMark → List B) → g Counted ≡ [] → ((c : CellId) → g (Gap c) ≡ []) → (cells : List CellMark) → flat_map g (map unnamed cells) ≡ flat_map g cells
@@ -135,9 +154,15 @@ alike f same x c e = sym (same x) ∙ ap f e ∙ same c
 pub alike_step : {A : Type 0} (f : Step → A) → ((S : Step) → f (thin_step S) ≡ f S) → (x s : Step) → thin_step x ≡ thin_step s → f x ≡ f s
 alike_step f same x s e = sym (same x) ∙ ap f e ∙ same s
 
--- an embedding and a step show themselves
+-- an embedding and a step show themselves, and so do they with their empty cells counted
 pub shows_itself : (D : Document) (N : Intent) (C : Change) → IsEmbedding D N C → Shows D N C
 shows_itself D N C emb = (C, emb, refl)
 
+pub shows_thin : (D : Document) (N : Intent) (C : Change) → IsEmbedding D N C → Shows D N (thin C)
+shows_thin D N C emb = (C, emb, thin-twice C)
+
 pub shows_itself-step : (D E : Document) (S : Step) → IsStep D E S → ShowsStep D E S
 shows_itself-step D E S step = (S, step, refl)
+
+pub shows_thin-step : (D E : Document) (S : Step) → IsStep D E S → ShowsStep D E (thin_step S)
+shows_thin-step D E S step = (S, step, thin_step-twice S)

@@ -1,12 +1,15 @@
 //! Laws on documents and those that extend them: each is the contract of a function that does nothing.
 ghost use Rattle.std.specs.Prelude.{◌≡◌, ◌⊎◌, None, Some};
 ghost use Rattle.st_ids.specs.declared.names.NodeId.{NodeId};
+ghost use Rattle.st_marks.specs.declared.changes.Change.{Change};
 ghost use Rattle.st_marks.specs.declared.intents.Intent.{Intent};
+ghost use Rattle.st_marks.specs.declared.steps.Step.{Step};
 ghost use Rattle.st_marks.specs.Document.{Document, above};
-ghost use Rattle.st_marks.specs.Embedding.{IsMentionedByIntent, named_by_intent};
+ghost use Rattle.st_marks.specs.Embedding.{IsEmbedding, IsMentionedByIntent, named_by_intent};
 ghost use Rattle.st_marks.specs.Extends.{IsExtendedBy};
 ghost use Rattle.st_marks.specs.Intent.{Fits};
-ghost use Rattle.st_marks.specs.Step.{IsMentionedByStep};
+ghost use Rattle.st_marks.specs.Step.{IsMentionedByStep, IsStep};
+ghost use Rattle.st_mention_laws.specs.Shown.{Shows, ShowsStep, thin, thin_step};
 
 /// An intent that fits a document and one that extends it names the same nodes in both, in the same order.
 pub fn names_stay_the_same()
@@ -33,4 +36,14 @@ pub fn names_of_steps_are_closed()
     ensures { (D E : Document) (n p : NodeId)
         → IsExtendedBy D E → above E n ≡ Some p → IsMentionedByStep D E n ⊎ (D.nodes n ≡ None)
         → IsMentionedByStep D E p ⊎ (D.nodes p ≡ None) }
+{}
+
+/// The change of an intent shows itself, and so it does with its empty cells counted.
+pub fn embeddings_are_shown()
+    ensures { (D : Document) (N : Intent) (C : Change) → IsEmbedding D N C → Shows D N C × Shows D N (thin C) }
+{}
+
+/// A step shows itself, and so it does with its empty cells counted.
+pub fn steps_are_shown()
+    ensures { (D E : Document) (S : Step) → IsStep D E S → ShowsStep D E S × ShowsStep D E (thin_step S) }
 {}

@@ -5,5 +5,6 @@
 mod laws;
 
 pub use laws::{
-    mentions_are_closed, mentions_are_covered, names_of_steps_are_closed, names_stay_the_same,
+    embeddings_are_shown, mentions_are_closed, mentions_are_covered, names_of_steps_are_closed,
+    names_stay_the_same, steps_are_shown,
 };
