@@ -6,10 +6,9 @@ ghost use Rattle.st_ids.specs.Order.{same_rev};
 ghost use Rattle.st_marks.specs.declared.intents.Intent.{Intent};
 ghost use Rattle.st_marks.specs.declared.schemas.SchemaEntry.{SchemaEntry as Entry};
 ghost use Rattle.st_marks.specs.Document.{Document, last_of};
-ghost use Rattle.st_marks.specs.Embedding.{IsEmbedding};
 ghost use Rattle.st_marks.specs.Extends.{IsExtendedBy};
-ghost use Rattle.st_marks.specs.Step.{IsStep};
 ghost use Rattle.st_marks.specs.Verdict.{IsBaseInEffect};
+ghost use Rattle.st_mention_laws.specs.Shown.{Shows, ShowsStep};
 ghost use Rattle.st_family.specs.inside.Base.{IsBaseOver};
 
 use st_ids::{Rev, is_same_rev};
@@ -59,7 +58,7 @@ fn base_over(part: &SchemaStep, change: &Change) -> bool
 /// Whether the schema under which a commit was made is in effect after a step (for a change of schema: is the last in effect).
 /// Linear in the entries that come and go.
 pub fn base_after(change: &Change, step: &Step) -> bool
-    ensures { (D E : Document) (N : Intent) → IsExtendedBy D E → IsEmbedding D N change.now → IsStep D E step.now
+    ensures { (D E : Document) (N : Intent) → IsExtendedBy D E → Shows D N change.now → ShowsStep D E step.now
         → IsTrue result ↔ IsBaseInEffect E N }
 {
     match &step.schema {
