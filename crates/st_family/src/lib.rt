@@ -4,7 +4,6 @@
 
 mod base;
 mod change;
-mod index;
 mod laws;
 mod over_step;
 mod registers;

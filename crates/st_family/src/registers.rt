@@ -5,14 +5,14 @@ ghost use Rattle.st_marks.specs.Embedding.{is_among};
 ghost use Rattle.st_ids.specs.Listing.{item_of};
 ghost use Rattle.st_ids.specs.Order.{field_cmp};
 ghost use Rattle.st_marks.specs.declared.marks.RegStep.{RegStep as RegisterOver};
-ghost use Rattle.st_moves.specs.inside.Index.{IsIndex};
+ghost use Rattle.st_moves.specs.Index.{IsIndex};
 ghost use Rattle.st_family.specs.Registers.{RegBecomes};
 ghost use Rattle.st_family.specs.inside.Over.{AreRegistersOver};
 
-use crate::index::{index_registers_over, register_over_in};
 use st_ids::{Copied, FieldId, List, NodeId, Rev, is_same_node};
 use st_kind::FieldKind;
 use st_marks::{RegMark, RegStep};
+use st_moves::{index_registers_over, register_over_in};
 use st_register::{RegChange, RegSwap, Register};
 use std::alloc::{AllocError, Global};
 use std::collections::BTreeMap;

@@ -5,14 +5,14 @@ ghost use Rattle.st_ids.specs.Order.{node_cmp};
 ghost use Rattle.st_marks.specs.declared.marks.RowMarks.{RowMarks as Row};
 ghost use Rattle.st_marks.specs.Listings.{marks_of};
 ghost use Rattle.st_marks.specs.Row.{spread};
-ghost use Rattle.st_moves.specs.inside.Index.{IsIndex};
+ghost use Rattle.st_moves.specs.Index.{IsIndex};
 ghost use Rattle.st_moves.specs.Room.{HasRoomInRows};
 ghost use Rattle.st_family.specs.inside.Room.{has_room_at};
 
-use crate::index::{index_rows, row_in};
 use crate::rows::has_room;
 use st_ids::{List, NodeId};
 use st_marks::{Change, Mark, RowMarks, Step};
+use st_moves::{index_rows, row_in};
 use std::alloc::{AllocError, Global};
 use std::collections::BTreeMap;
 

@@ -11,13 +11,13 @@ ghost use Rattle.st_marks.specs.Listings.{cells_made};
 ghost use Rattle.st_marks.specs.Row.{RowPart, embed_row, merge, spread};
 ghost use Rattle.st_seq.specs.Changes.{IsRowChange, Keeps, may_list};
 ghost use Rattle.st_seq.specs.Rows.{IsRowStep};
-ghost use Rattle.st_moves.specs.inside.Index.{IsIndex};
+ghost use Rattle.st_moves.specs.Index.{IsIndex};
 ghost use Rattle.st_family.specs.inside.Room.{AreRowsOver, IsRowOver};
 
-use crate::index::{index_rows, row_in};
 use crate::row_rest::rest_marks;
 use st_ids::{Copied, List, NodeId};
 use st_marks::{Mark, RowMarks, before};
+use st_moves::{index_rows, row_in};
 use st_seq::rebase_agreed;
 use std::alloc::{AllocError, Global};
 use std::collections::{BTreeMap, BTreeSet};

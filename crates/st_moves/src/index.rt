@@ -12,7 +12,7 @@ ghost use Rattle.st_ids.specs.declared.names.NodeId.{NodeId as Node};
 ghost use Rattle.st_marks.specs.declared.marks.RegMark.{RegMark as Register};
 ghost use Rattle.st_marks.specs.declared.marks.RegStep.{RegStep as RegisterOver};
 ghost use Rattle.st_marks.specs.declared.marks.RowMarks.{RowMarks as Row};
-ghost use Rattle.st_moves.specs.inside.Index.{IsIndex};
+ghost use Rattle.st_moves.specs.Index.{IsIndex};
 
 use st_ids::{Copied, FieldId, List, NodeId};
 use st_marks::{RegMark, RegStep, RowMarks};

@@ -9,6 +9,7 @@ mod registers;
 mod rows;
 
 pub use carry::carry_row;
+pub use index::{index_registers_over, index_rows, register_over_in, row_in};
 pub use laws::{
     between_stands_between, changes_are_carried, intents_fit_between, rows_are_carried,
 };

@@ -19,7 +19,7 @@ ghost use Rattle.st_marks.specs.Row.{how as how_at};
 ghost use Rattle.st_puts.specs.Mentions.{place_in};
 ghost use Rattle.st_moves.specs.Between.{only_others};
 ghost use Rattle.st_moves.specs.Carried.{carried_register, goal_of, held_between, register_mark};
-ghost use Rattle.st_moves.specs.inside.Index.{IsIndex};
+ghost use Rattle.st_moves.specs.Index.{IsIndex};
 ghost use Rattle.st_moves.specs.inside.Registers.{loose_in, register_beside as beside};
 
 use crate::index::{

@@ -13,7 +13,7 @@ ghost use Rattle.st_marks.specs.Embedding.{tells as tells_cell};
 ghost use Rattle.st_marks.specs.Row.{spread};
 ghost use Rattle.st_seq.specs.Changes.{may_list};
 ghost use Rattle.st_moves.specs.Room.{HasRoomAt};
-ghost use Rattle.st_moves.specs.inside.Index.{IsIndex};
+ghost use Rattle.st_moves.specs.Index.{IsIndex};
 ghost use Rattle.st_moves.specs.inside.Rows.{
   bare as bare_cells,
   listed_row,

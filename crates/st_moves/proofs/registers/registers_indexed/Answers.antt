@@ -2,7 +2,7 @@ use Rattle.std.proofs.Common.{List, subst}
 use Rattle.st_ids.specs.Order.{field_cmp}
 use Rattle.st_marks.specs.declared.marks.RegMark.{RegMark}
 use Rattle.st_marks.specs.declared.marks.RegStep.{RegStep}
-use Rattle.st_moves.specs.inside.Index.{IsIndex}
+use Rattle.st_moves.specs.Index.{IsIndex}
 use Rattle.st_moves.proofs.registers.registers_indexed.Goals as goal
 
 pub returns-clause-change_index : goal.returns-clause-change_index

@@ -1,7 +1,7 @@
 use Rattle.std.proofs.Common.{List, subst}
 use Rattle.st_ids.specs.Order.{node_cmp}
 use Rattle.st_marks.specs.declared.marks.RowMarks.{RowMarks}
-use Rattle.st_moves.specs.inside.Index.{IsIndex}
+use Rattle.st_moves.specs.Index.{IsIndex}
 use Rattle.st_moves.proofs.rows.rows_indexed.Goals as goal
 
 pub returns-clause-index : goal.returns-clause-index
