@@ -1,5 +1,5 @@
 -- One turn of a walk over two listings.
-use Rattle.std.proofs.Common.{sym, ◌≡◌, ℕ, zero, suc, ◌+◌, ◌-◌, ◌<◌, ◌≤◌, Bool, true, false, List, ◌∷◌, ◌++◌, Option, Some, None, option_map, length, refl, ap, ◌∙◌, arith}
+use Rattle.std.proofs.Common.{sym, ◌≡◌, ℕ, zero, suc, ◌+◌, ◌-◌, ◌<◌, ◌≤◌, Bool, true, false, List, [], ◌∷◌, ◌++◌, Option, Some, None, option_map, length, refl, ap, ◌∙◌, arith}
 use Rattle.st_marks.specs.declared.marks.Mark.{Mark}
 use Rattle.st_marks.specs.Row.{CellMark, Counted, Gap, Touch, Make, Fill, spread, counted_cells}
 use Rattle.st_marks.specs.declared.places.Slot.{Slot}
@@ -12,10 +12,8 @@ use Rattle.st_seq.specs.Reading.{cell_of}
 use Rattle.st_seq.specs.inside.Reading.{marks_left, is_made, is_make, IsFirst}
 use Rattle.st_seq.specs.Pieces.{IsSingle, both_counted}
 use Rattle.st_seq.specs.declared.front_mark.Head.{Head}
-use Rattle.st_ids.specs.declared.names.CellId.{CellId}
-use Rattle.st_ids.specs.declared.names.NodeId.{NodeId}
 use Rattle.st_seq.proofs.Merging.{counted-plus, length-counted}
-use Rattle.st_seq.specs.Walks.{CellPiece, Both, Then, in_turn, meeting_piece, beside}
+use Rattle.st_seq.specs.Walks.{CellPiece, Both, First, Then, in_turn, meeting_piece, beside}
 
 pub single : (m : Mark) → is_skip m ≡ false → IsSingle m
 single (Mark.Skip k) s = cc
@@ -155,25 +153,90 @@ counted_beside p q k X Y xs ys pos a b e f = (
   ap (λ l. length (cells_before l)) (f ∙ split q k ys b) ∙ found-counted k (counted_cells (q - k) ys),
 )
 
--- ## A cell that the second listing makes, before one that both find
+-- ## Cells that one of the listings makes
 
-beside-made : (c : CellId) (n : NodeId) (b : Bool) (a : CellMark) (xs ys : List CellMark) → is_made a ≡ false → beside (a ∷ xs) (Make c n b ∷ ys) ≡ Then (Make c n b) ∷ beside (a ∷ xs) ys
-beside-made c n b Counted xs ys e = refl
-beside-made c n b (Gap d) xs ys e = refl
-beside-made c n b (Touch d m h) xs ys e = refl
-beside-made c n b (Make d m x) xs ys e = cc
-beside-made c n b (Fill d m) xs ys e = refl
+pub made_single : (m : Mark) → is_made (cell_of m) ≡ true → IsSingle m
+made_single (Mark.Skip k) e = cc
+made_single (Mark.Gap c) e = cc
+made_single (Mark.Touch c n h) e = cc
+made_single (Mark.Make c n b) e = refl
+made_single (Mark.Fill c n) e = cc
 
-made_then : (X : List CellMark) (x : Head) (rest : List Mark) → IsFirst X x rest → is_make x ≡ false → (c : CellId) (n : NodeId) (b : Bool) (ys : List CellMark) → beside X (Make c n b ∷ ys) ≡ Then (Make c n b) ∷ beside X ys
-made_then X Head.End rest h e c n b ys = rw h.0 refl
-made_then X (Head.Many zero) rest h e c n b ys = absurd (omega (arith, h.0))
-made_then X (Head.Many (suc k)) rest h e c n b ys = rw h.1 (beside-made c n b Counted (marks_left k rest) ys refl)
-made_then X (Head.Make d m x) rest h e c n b ys = cc
-made_then X (Head.Cell m) rest h e c n b ys = rw h.1 (beside-made c n b (cell_of m) (spread rest) ys h.2)
+beside-first : (m : CellMark) (xs ys : List CellMark) → is_made m ≡ true → beside (m ∷ xs) ys ≡ First m ∷ beside xs ys
+beside-first Counted xs ys e = cc
+beside-first (Gap d) xs ys e = cc
+beside-first (Touch d n h) xs ys e = cc
+beside-first (Make d n b) xs ys e = refl
+beside-first (Fill d n) xs ys e = cc
 
-pub then_beside : (X Y : List CellMark) (x : Head) (rest : List Mark) → IsFirst X x rest → is_make x ≡ false → (c : CellId) (n : NodeId) (b : Bool) (ys : List CellMark) → Y ≡ Make c n b ∷ ys
-    → (beside X Y ≡ Then (Make c n b) ∷ beside X ys) × (first_difference (cells_before X) (cells_before Y) ≡ option_map (λ j. 0 + j) (first_difference (cells_before X) (cells_before ys))) × (length X + length ys < length X + length Y) × (length (cells_before Y) ≡ 0 + length (cells_before ys))
-then_beside X Y x rest h e c n b ys f = rw f (made_then X x rest h e c n b ys, none-added (first_difference (cells_before X) (cells_before ys)), omega arith, omega arith)
+before-made : (m : CellMark) (xs : List CellMark) → is_made m ≡ true → cells_before (m ∷ xs) ≡ cells_before xs
+before-made Counted xs e = cc
+before-made (Gap d) xs e = cc
+before-made (Touch d n h) xs e = cc
+before-made (Make d n b) xs e = refl
+before-made (Fill d n) xs e = cc
+
+-- the first makes a cell
+pub first_beside : (m : CellMark) (X Y xs : List CellMark) → X ≡ m ∷ xs → is_made m ≡ true
+    → (beside X Y ≡ First m ∷ beside xs Y) × (first_difference (cells_before X) (cells_before Y) ≡ option_map (λ j. 0 + j) (first_difference (cells_before xs) (cells_before Y))) × (length xs + length Y < length X + length Y) × (length (cells_before Y) ≡ 0 + length (cells_before Y))
+first_beside m X Y xs f e = rw f (
+  beside-first m xs Y e,
+  ap (λ l. first_difference l (cells_before Y)) (before-made m xs e) ∙ none-added (first_difference (cells_before xs) (cells_before Y)),
+  omega arith,
+  omega arith,
+)
+
+-- the second makes a cell before one that both find
+beside-made : (m a : CellMark) (xs ys : List CellMark) → is_made m ≡ true → is_made a ≡ false → beside (a ∷ xs) (m ∷ ys) ≡ Then m ∷ beside (a ∷ xs) ys
+beside-made Counted a xs ys e f = cc
+beside-made (Gap d) a xs ys e f = cc
+beside-made (Touch d n h) a xs ys e f = cc
+beside-made (Fill d n) a xs ys e f = cc
+beside-made (Make c n b) Counted xs ys e f = refl
+beside-made (Make c n b) (Gap d) xs ys e f = refl
+beside-made (Make c n b) (Touch d m h) xs ys e f = refl
+beside-made (Make c n b) (Make d m x) xs ys e f = cc
+beside-made (Make c n b) (Fill d m) xs ys e f = refl
+
+alone-made : (m : CellMark) (ys : List CellMark) → is_made m ≡ true → beside [] (m ∷ ys) ≡ Then m ∷ beside [] ys
+alone-made Counted ys e = cc
+alone-made (Gap d) ys e = cc
+alone-made (Touch d n h) ys e = cc
+alone-made (Make d n b) ys e = refl
+alone-made (Fill d n) ys e = cc
+
+made_then : (X : List CellMark) (x : Head) (rest : List Mark) → IsFirst X x rest → is_make x ≡ false → (m : CellMark) → is_made m ≡ true → (ys : List CellMark) → beside X (m ∷ ys) ≡ Then m ∷ beside X ys
+made_then X Head.End rest h e m f ys = rw h.0 (alone-made m ys f)
+made_then X (Head.Many zero) rest h e m f ys = absurd (omega (arith, h.0))
+made_then X (Head.Many (suc k)) rest h e m f ys = rw h.1 (beside-made m Counted (marks_left k rest) ys f refl)
+made_then X (Head.Make a) rest h e m f ys = cc
+made_then X (Head.Cell a) rest h e m f ys = rw h.1 (beside-made m (cell_of a.now) (spread rest) ys f h.2)
+
+pub then_beside : (X Y : List CellMark) (x : Head) (rest : List Mark) → IsFirst X x rest → is_make x ≡ false → (m : CellMark) → is_made m ≡ true → (ys : List CellMark) → Y ≡ m ∷ ys
+    → (beside X Y ≡ Then m ∷ beside X ys) × (first_difference (cells_before X) (cells_before Y) ≡ option_map (λ j. 0 + j) (first_difference (cells_before X) (cells_before ys))) × (length X + length ys < length X + length Y) × (length (cells_before Y) ≡ 0 + length (cells_before ys))
+then_beside X Y x rest h e m g ys f = rw f (
+  made_then X x rest h e m g ys,
+  ap (first_difference (cells_before X)) (before-made m ys g) ∙ none-added (first_difference (cells_before X) (cells_before ys)),
+  omega arith,
+  (let n = ap length (before-made m ys g) in omega (arith, n)),
+)
+
+-- the second makes a cell where it finds what the first leaves
+in_turn-made : (m : CellMark) (xs ys : List CellMark) → is_made m ≡ true → in_turn xs (m ∷ ys) ≡ Then m ∷ in_turn xs ys
+in_turn-made Counted xs ys e = cc
+in_turn-made (Gap d) xs ys e = cc
+in_turn-made (Touch d n h) xs ys e = cc
+in_turn-made (Make d n b) xs ys e = refl
+in_turn-made (Fill d n) xs ys e = cc
+
+pub then_in_turn : (m : CellMark) (X Y ys : List CellMark) → Y ≡ m ∷ ys → is_made m ≡ true
+    → (in_turn X Y ≡ Then m ∷ in_turn X ys) × (first_difference (cells_after X) (cells_before Y) ≡ option_map (λ j. 0 + j) (first_difference (cells_after X) (cells_before ys))) × (length X + length ys < length X + length Y) × (length (cells_before Y) ≡ 0 + length (cells_before ys))
+then_in_turn m X Y ys f e = rw f (
+  in_turn-made m X ys e,
+  ap (first_difference (cells_after X)) (before-made m ys e) ∙ none-added (first_difference (cells_after X) (cells_before ys)),
+  omega arith,
+  (let n = ap length (before-made m ys e) in omega (arith, n)),
+)
 
 -- ## A slot of a row, and a mark that finds it
 

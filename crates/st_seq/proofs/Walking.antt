@@ -1,6 +1,6 @@
 -- What a walk over two listings has written so far.
 use Rattle.std.proofs.Common.{◌≡◌, ℕ, zero, suc, ◌+◌, ◌≤◌, List, [], ◌∷◌, ◌++◌, Option, Some, None, option_map, map, length, refl, sym, ap, ◌∙◌, arith, append_assoc, length-append}
-use Rattle.std.proofs.lemmas.List.{map-append}
+use Rattle.std.proofs.lemmas.List.{length-map, map-append}
 use Rattle.st_marks.specs.Row.{CellMark, Counted, Gap, Touch, Make, Fill, counted_cells}
 use Rattle.st_marks.specs.Listings.{cells_before, cells_made}
 use Rattle.st_seq.specs.Changes.{may_list}
@@ -23,6 +23,14 @@ has_room f out w T W W' l e g h =
     let b : length (map f W) ≡ length (map f l) + length (map f W') = ap length (ap (map f) g ∙ map-append f l W') ∙ length-append (map f l) (map f W') in
     let c : length w ≡ length (map f l) = ap length h in
     omega (arith, a, b, c)
+
+-- the cells that are written and those of a piece are no more than the whole
+pub room_left : (f : CellPiece → CellMark) (out : List CellMark) (whole W W' l : List CellPiece) → out ++ map f W ≡ map f whole → W ≡ l ++ W' → length out + length l ≤ length whole
+room_left f out whole W W' l e g =
+    let h = has_room f out (map f l) (map f whole) W W' l e g refl in
+    let a : length (map f l) ≡ length l = length-map l f in
+    let b : length (map f whole) ≡ length whole = length-map whole f in
+    omega (arith, h, a, b)
 
 pub place_on : (o d d' : Option ℕ) (place m : ℕ) → o ≡ option_map (λ k. place + k) d → d ≡ option_map (λ k. m + k) d' → o ≡ option_map (λ k. (place + m) + k) d'
 place_on o d d' place m e g = e ∙ ap (option_map (λ k. place + k)) g ∙ twice d'

@@ -2,25 +2,20 @@
 ghost use Rattle.std.specs.Prelude.{◌≡◌};
 ghost use Rattle.st_seq.specs.inside.Reading.{marks_left, IsFirst};
 
-use st_ids::{CellId, NodeId};
 use st_marks::Mark;
 
 /// What comes first in marks that are read: nothing, so many counted cells, a cell that is made, or another cell.
 #[derive(Clone, Copy)]
-pub enum Head {
+pub enum Head<'a> {
     End,
     Many(u32),
-    Make {
-        cell: CellId,
-        node: NodeId,
-        full: bool,
-    },
-    Cell(Mark),
+    Make(&'a Mark),
+    Cell(&'a Mark),
 }
 
 /// Takes what comes first, where so many counted cells stand before the marks.
 #[inline(always)]
-pub fn next<'a>(count: u32, marks: &'a [Mark]) -> (Head, &'a [Mark])
+pub fn next<'a>(count: u32, marks: &'a [Mark]) -> (Head<'a>, &'a [Mark])
     ensures { IsFirst (marks_left count marks.now) result.0 result.1.now }
 {
     if count > 0 {
@@ -31,8 +26,8 @@ pub fn next<'a>(count: u32, marks: &'a [Mark]) -> (Head, &'a [Mark])
         match *mark {
             Mark::Skip(0) => rest = more,
             Mark::Skip(k) => return (Head::Many(k), more),
-            Mark::Make { cell, node, full } => return (Head::Make { cell, node, full }, more),
-            other => return (Head::Cell(other), more),
+            Mark::Make { .. } => return (Head::Make(mark), more),
+            _ => return (Head::Cell(mark), more),
         }
     }
     (Head::End, rest)

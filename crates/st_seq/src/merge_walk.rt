@@ -1,19 +1,20 @@
 //! Operations on two listings of a row: each is a table of what a piece comes to.
-ghost use Rattle.std.specs.Prelude.{◌≡◌, ◌^◌, ◌<◌, ◌∷◌, [], map, length, IfOk};
+ghost use Rattle.std.specs.Prelude.{◌≡◌, ◌+◌, ◌^◌, ◌<◌, ◌∷◌, [], ◌++◌, map, length, IfOk, OnOk};
 ghost use Rattle.st_marks.specs.Row.{CellMark, spread};
 ghost use Rattle.st_marks.specs.Listings.{cells_after, cells_before};
 ghost use Rattle.st_seq.specs.Differences.{first_difference, IsApart};
 ghost use Rattle.st_seq.specs.Changes.{may_list};
 ghost use Rattle.st_seq.specs.Merged.{IsMerged};
-ghost use Rattle.st_seq.specs.Pieces.{cells_of_piece, IsOfCells};
-ghost use Rattle.st_seq.specs.Walks.{CellPiece, in_turn, beside};
+ghost use Rattle.st_seq.specs.Pieces.{cells_of_piece, IsOfCells, IsSingle};
+ghost use Rattle.st_seq.specs.Reading.{cell_of};
+ghost use Rattle.st_seq.specs.Walks.{CellPiece, Both, First, Then, in_turn, beside};
 
 use crate::mark_builder::push;
-use crate::pieces::{Piece, Turn, cells_met, turn_beside, turn_in_turn};
+use crate::pieces::{Piece, Turn, turn_beside, turn_in_turn};
 use st_ids::{List, Or};
 use st_kind::Apart;
 use st_marks::Mark;
-use std::alloc::Global;
+use std::alloc::{AllocError, Global};
 
 /// What each piece of two listings comes to: the mark of a counted run or of one cell, by a table that `cell` states cell by
 /// cell. A call is asked only for pieces whose marks are of one cell each.
@@ -23,6 +24,60 @@ pub trait Table {
     fn mark(&self, piece: Piece) -> Mark
         requires { IsOfCells piece }
         ensures { spread (result ∷ []) ≡ map (cell self.now) (cells_of_piece piece) };
+}
+
+/// Adds what the table makes of a piece.
+#[inline(always)]
+fn push_piece<T: Table>(table: &T, out: &mut List<Mark>, piece: Piece) -> Result<(), AllocError>
+    requires piece { IsOfCells piece }
+    requires merged { IsMerged out.old }
+    requires room { length (spread out.old) + length (cells_of_piece piece) < 2 ^ 32 }
+    ensures merged { OnOk result (IsMerged out.new) }
+    ensures cells { OnOk result (spread out.new ≡ spread out.old ++ map (T.cell table.now) (cells_of_piece piece)) }
+{
+    push(out, table.mark(piece))
+}
+
+/// Adds what the table makes of a cell that both find.
+#[inline(never)]
+fn push_both<T: Table>(
+    table: &T,
+    out: &mut List<Mark>,
+    x: &Mark,
+    y: &Mark,
+) -> Result<(), AllocError>
+    requires first { IsSingle x.now }
+    requires then { IsSingle y.now }
+    requires merged { IsMerged out.old }
+    requires room { length (spread out.old) + 1 < 2 ^ 32 }
+    ensures merged { OnOk result (IsMerged out.new) }
+    ensures cells { OnOk result (spread out.new ≡ spread out.old ++ T.cell table.now (Both (cell_of x.now) (cell_of y.now)) ∷ []) }
+{
+    push_piece(table, out, Piece::Both(*x, *y))
+}
+
+/// Adds what the table makes of a cell that the first listing makes.
+#[inline(never)]
+fn push_first<T: Table>(table: &T, out: &mut List<Mark>, x: &Mark) -> Result<(), AllocError>
+    requires one { IsSingle x.now }
+    requires merged { IsMerged out.old }
+    requires room { length (spread out.old) + 1 < 2 ^ 32 }
+    ensures merged { OnOk result (IsMerged out.new) }
+    ensures cells { OnOk result (spread out.new ≡ spread out.old ++ T.cell table.now (First (cell_of x.now)) ∷ []) }
+{
+    push_piece(table, out, Piece::First(*x))
+}
+
+/// Adds what the table makes of a cell that the second listing makes.
+#[inline(never)]
+fn push_then<T: Table>(table: &T, out: &mut List<Mark>, y: &Mark) -> Result<(), AllocError>
+    requires one { IsSingle y.now }
+    requires merged { IsMerged out.old }
+    requires room { length (spread out.old) + 1 < 2 ^ 32 }
+    ensures merged { OnOk result (IsMerged out.new) }
+    ensures cells { OnOk result (spread out.new ≡ spread out.old ++ T.cell table.now (Then (cell_of y.now)) ∷ []) }
+{
+    push_piece(table, out, Piece::Then(*y))
 }
 
 /// Lays a listing over one that finds what it leaves: `first` are the marks of a row up to a state, `then` those from that
@@ -49,18 +104,39 @@ pub fn lay_in_turn<T: Table>(
         match turn_in_turn(x_left, x_rest, y_left, y_rest) {
             Turn::Done => return Ok(out),
             Turn::Apart => return Err(Or::Fault(Apart { place })),
-            Turn::Go {
-                piece,
+            Turn::Counted {
+                count,
                 x_count,
                 xs,
                 y_count,
                 ys,
             } => {
-                push(&mut out, table.mark(piece))?;
-                place += cells_met(piece);
+                push_piece(table, &mut out, Piece::Counted(count))?;
+                place += count;
                 x_left = x_count;
                 x_rest = xs;
                 y_left = y_count;
+                y_rest = ys;
+            }
+            Turn::Both {
+                x,
+                y,
+                x_count,
+                xs,
+                y_count,
+                ys,
+            } => {
+                push_both(table, &mut out, x, y)?;
+                place += 1;
+                x_left = x_count;
+                x_rest = xs;
+                y_left = y_count;
+                y_rest = ys;
+            }
+            Turn::First { .. } => unreachable!(),
+            Turn::Then { y, ys } => {
+                push_then(table, &mut out, y)?;
+                y_left = 0;
                 y_rest = ys;
             }
         }
@@ -82,7 +158,7 @@ pub fn lay_beside<T: Table>(
     ensures apart { IsApart (first_difference (cells_before (spread first.now)) (cells_before (spread then.now))) result }
 {
     let mut out = List::new(alloc);
-    let mut place = 0;
+    let mut found = 0;
     let mut x_left = 0;
     let mut x_rest = first;
     let mut y_left = 0;
@@ -90,19 +166,44 @@ pub fn lay_beside<T: Table>(
     'cells: loop {
         match turn_beside(x_left, x_rest, y_left, y_rest) {
             Turn::Done => return Ok(out),
-            Turn::Apart => return Err(Or::Fault(Apart { place })),
-            Turn::Go {
-                piece,
+            Turn::Apart => return Err(Or::Fault(Apart { place: found })),
+            Turn::Counted {
+                count,
                 x_count,
                 xs,
                 y_count,
                 ys,
             } => {
-                push(&mut out, table.mark(piece))?;
-                place += cells_met(piece);
+                push_piece(table, &mut out, Piece::Counted(count))?;
+                found += count;
                 x_left = x_count;
                 x_rest = xs;
                 y_left = y_count;
+                y_rest = ys;
+            }
+            Turn::Both {
+                x,
+                y,
+                x_count,
+                xs,
+                y_count,
+                ys,
+            } => {
+                push_both(table, &mut out, x, y)?;
+                found += 1;
+                x_left = x_count;
+                x_rest = xs;
+                y_left = y_count;
+                y_rest = ys;
+            }
+            Turn::First { x, xs } => {
+                push_first(table, &mut out, x)?;
+                x_left = 0;
+                x_rest = xs;
+            }
+            Turn::Then { y, ys } => {
+                push_then(table, &mut out, y)?;
+                y_left = 0;
                 y_rest = ys;
             }
         }

@@ -1,9 +1,11 @@
 //! Two listings of one row, laid over each other piece by piece.
 ghost use Rattle.std.specs.Prelude.{◌≡◌, ◌<◌, false, List as Seq};
-ghost use Rattle.st_marks.specs.Row.{CellMark, spread};
+ghost use Rattle.st_marks.specs.Row.{CellMark};
+ghost use Rattle.st_seq.specs.Differences.{agree, view_before};
+ghost use Rattle.st_seq.specs.Views.{view_after};
 ghost use Rattle.st_seq.specs.Reading.{cell_of};
-ghost use Rattle.st_seq.specs.inside.Reading.{marks_left, is_made, is_make, IsFirst, IsOne};
-ghost use Rattle.st_seq.specs.inside.Turns.{IsTurnInTurn, IsTurnBeside, found_count as met_by};
+ghost use Rattle.st_seq.specs.inside.Reading.{marks_left, is_make, AreCountsOf, IsFirst, IsMakeOf, IsOne};
+ghost use Rattle.st_seq.specs.inside.Turns.{IsTurnInTurn, IsTurnBeside};
 
 use crate::cell_view::{after, before, is_same};
 use crate::front_mark::{Head, next};
@@ -19,55 +21,119 @@ pub enum Piece {
     Then(Mark),
 }
 
-/// How many cells of a piece both find.
-#[inline(always)]
-pub fn cells_met(piece: Piece) -> u32
-    ensures { result ≡ met_by piece }
-{
-    match piece {
-        Piece::Counted(k) => k,
-        Piece::Both(_, _) => 1,
-        _ => 0,
-    }
-}
-
-/// The next piece, and what is left of both listings; or that the listings differ at the next cell.
+/// The next piece, and what is left of the listings that it takes from; or that the listings differ at the next cell. A mark
+/// isn't copied before it is told what it comes to.
 pub enum Turn<'a> {
     Done,
     Apart,
-    Go {
-        piece: Piece,
+    Counted {
+        count: u32,
         x_count: u32,
         xs: &'a [Mark],
         y_count: u32,
         ys: &'a [Mark],
     },
+    Both {
+        x: &'a Mark,
+        y: &'a Mark,
+        x_count: u32,
+        xs: &'a [Mark],
+        y_count: u32,
+        ys: &'a [Mark],
+    },
+    First {
+        x: &'a Mark,
+        xs: &'a [Mark],
+    },
+    Then {
+        y: &'a Mark,
+        ys: &'a [Mark],
+    },
+}
+
+/// The mark that makes a cell, if one comes first.
+#[inline(always)]
+fn make_of<'a>(head: Head<'a>) -> Option<&'a Mark>
+    ensures { IsMakeOf head.entry result }
+{
+    match head {
+        Head::End => None,
+        Head::Many(_) => None,
+        Head::Make(mark) => Some(mark),
+        Head::Cell(_) => None,
+    }
+}
+
+/// How many counted cells come first in each of two listings, if some do in both.
+#[inline(always)]
+fn counts_of(x: Head, y: Head) -> Option<(u32, u32)>
+    ensures { AreCountsOf x.entry y.entry result }
+{
+    match x {
+        Head::Many(p) => match y {
+            Head::Many(q) => Some((p, q)),
+            _ => None,
+        },
+        _ => None,
+    }
 }
 
 /// The first cell of what comes first, and how many counted cells stand behind it.
 #[inline(always)]
-pub fn one(head: Head) -> Option<(Mark, u32)>
-    ensures { IsOne head result }
+pub fn one<'a>(head: Head<'a>) -> Option<(&'a Mark, u32)>
+    ensures { IsOne head.entry result }
 {
     match head {
         Head::End => None,
         Head::Many(k) => {
             if k > 0 {
-                Some((Mark::Skip(1), k - 1))
+                Some((&Mark::Skip(1), k - 1))
             } else {
                 None
             }
         }
-        Head::Make { cell, node, full } => Some((Mark::Make { cell, node, full }, 0)),
+        Head::Make(mark) => Some((mark, 0)),
         Head::Cell(mark) => Some((mark, 0)),
+    }
+}
+
+/// Whether the second mark finds what the first leaves.
+#[inline(always)]
+fn finds_left(x: &Mark, y: &Mark) -> bool
+    ensures { result ≡ agree (view_after (cell_of x.now)) (view_before (cell_of y.now)) }
+{
+    is_same(after(*x), before(*y))
+}
+
+/// Whether both marks find the same.
+#[inline(always)]
+fn finds_same(x: &Mark, y: &Mark) -> bool
+    ensures { result ≡ agree (view_before (cell_of x.now)) (view_before (cell_of y.now)) }
+{
+    is_same(before(*x), before(*y))
+}
+
+/// The counted cells that come first in both listings.
+#[inline(always)]
+fn counted_turn<'a>(p: u32, xs: &'a [Mark], q: u32, ys: &'a [Mark]) -> Turn<'a>
+    ensures in_turn { 0 < p → 0 < q → IsTurnInTurn (marks_left p xs.now) (marks_left q ys.now) result }
+    ensures beside { 0 < p → 0 < q → IsTurnBeside (marks_left p xs.now) (marks_left q ys.now) result }
+{
+    let count = if p < q { p } else { q };
+    Turn::Counted {
+        count,
+        x_count: p - count,
+        xs,
+        y_count: q - count,
+        ys,
     }
 }
 
 /// The next cell, which the first listing leaves and the second finds.
 #[inline(always)]
-fn pair_in_turn<'a>(x: Head, xs: &'a [Mark], y: Head, ys: &'a [Mark]) -> Turn<'a>
+fn pair_in_turn<'a>(x: Head<'a>, xs: &'a [Mark], y: Head<'a>, ys: &'a [Mark]) -> Turn<'a>
     requires { is_make y ≡ false }
-    ensures { (c d : Seq CellMark) → IsFirst c x xs.now → IsFirst d y ys.now → IsTurnInTurn c d result }
+    ensures { (c d : Seq CellMark) → IsFirst c x.entry xs.now → IsFirst d y.entry ys.now → IsTurnInTurn c d result }
 {
     match one(x) {
         None => match one(y) {
@@ -77,9 +143,10 @@ fn pair_in_turn<'a>(x: Head, xs: &'a [Mark], y: Head, ys: &'a [Mark]) -> Turn<'a
         Some((a, x_count)) => match one(y) {
             None => Turn::Apart,
             Some((b, y_count)) => {
-                if is_same(after(a), before(b)) {
-                    Turn::Go {
-                        piece: Piece::Both(a, b),
+                if finds_left(a, b) {
+                    Turn::Both {
+                        x: a,
+                        y: b,
                         x_count,
                         xs,
                         y_count,
@@ -95,10 +162,10 @@ fn pair_in_turn<'a>(x: Head, xs: &'a [Mark], y: Head, ys: &'a [Mark]) -> Turn<'a
 
 /// The next cell, which both listings find.
 #[inline(always)]
-fn pair_beside<'a>(x: Head, xs: &'a [Mark], y: Head, ys: &'a [Mark]) -> Turn<'a>
+fn pair_beside<'a>(x: Head<'a>, xs: &'a [Mark], y: Head<'a>, ys: &'a [Mark]) -> Turn<'a>
     requires first { is_make x ≡ false }
     requires then { is_make y ≡ false }
-    ensures { (c d : Seq CellMark) → IsFirst c x xs.now → IsFirst d y ys.now → IsTurnBeside c d result }
+    ensures { (c d : Seq CellMark) → IsFirst c x.entry xs.now → IsFirst d y.entry ys.now → IsTurnBeside c d result }
 {
     match one(x) {
         None => match one(y) {
@@ -108,9 +175,10 @@ fn pair_beside<'a>(x: Head, xs: &'a [Mark], y: Head, ys: &'a [Mark]) -> Turn<'a>
         Some((a, x_count)) => match one(y) {
             None => Turn::Apart,
             Some((b, y_count)) => {
-                if is_same(before(a), before(b)) {
-                    Turn::Go {
-                        piece: Piece::Both(a, b),
+                if finds_same(a, b) {
+                    Turn::Both {
+                        x: a,
+                        y: b,
                         x_count,
                         xs,
                         y_count,
@@ -124,81 +192,62 @@ fn pair_beside<'a>(x: Head, xs: &'a [Mark], y: Head, ys: &'a [Mark]) -> Turn<'a>
     }
 }
 
+/// One turn, where the second listing finds what the first leaves and makes no cell.
+#[inline(always)]
+fn found_in_turn<'a>(x: Head<'a>, xs: &'a [Mark], y: Head<'a>, ys: &'a [Mark]) -> Turn<'a>
+    requires { is_make y ≡ false }
+    ensures { (c d : Seq CellMark) → IsFirst c x.entry xs.now → IsFirst d y.entry ys.now → IsTurnInTurn c d result }
+{
+    match counts_of(x, y) {
+        Some((p, q)) => counted_turn(p, xs, q, ys),
+        None => pair_in_turn(x, xs, y, ys),
+    }
+}
+
+/// One turn, where both listings find the same and make no cell.
+#[inline(always)]
+fn found_beside<'a>(x: Head<'a>, xs: &'a [Mark], y: Head<'a>, ys: &'a [Mark]) -> Turn<'a>
+    requires first { is_make x ≡ false }
+    requires then { is_make y ≡ false }
+    ensures { (c d : Seq CellMark) → IsFirst c x.entry xs.now → IsFirst d y.entry ys.now → IsTurnBeside c d result }
+{
+    match counts_of(x, y) {
+        Some((p, q)) => counted_turn(p, xs, q, ys),
+        None => pair_beside(x, xs, y, ys),
+    }
+}
+
 /// One turn, where the second listing finds what the first leaves; so many counted cells stand before the marks.
 #[inline(always)]
 pub fn turn_in_turn<'a>(x_count: u32, xs: &'a [Mark], y_count: u32, ys: &'a [Mark]) -> Turn<'a>
     ensures { IsTurnInTurn (marks_left x_count xs.now) (marks_left y_count ys.now) result }
 {
-    let (x, x_rest) = next(x_count, xs);
     let (y, y_rest) = next(y_count, ys);
-    match y {
-        Head::Make { cell, node, full } => {
-            Turn::Go {
-                piece: Piece::Then(Mark::Make { cell, node, full }),
-                x_count,
-                xs,
-                y_count: 0,
-                ys: y_rest,
-            }
-        }
-        Head::Many(q) => match x {
-            Head::Many(p) => {
-                let k = if p < q { p } else { q };
-                Turn::Go {
-                    piece: Piece::Counted(k),
-                    x_count: p - k,
-                    xs: x_rest,
-                    y_count: q - k,
-                    ys: y_rest,
-                }
-            }
-            _ => pair_in_turn(x, x_rest, Head::Many(q), y_rest),
+    match make_of(y) {
+        Some(made) => Turn::Then {
+            y: made,
+            ys: y_rest,
         },
-        Head::Cell(b) => pair_in_turn(x, x_rest, Head::Cell(b), y_rest),
-        Head::End => pair_in_turn(x, x_rest, Head::End, y_rest),
+        None => {
+            let (x, x_rest) = next(x_count, xs);
+            found_in_turn(x, x_rest, y, y_rest)
+        }
     }
 }
 
 /// One turn behind the cells that the first listing makes, where both listings find the same.
 #[inline(always)]
-fn turn_found<'a>(
-    x: Head,
-    x_rest: &'a [Mark],
-    x_count: u32,
-    xs: &'a [Mark],
-    y_count: u32,
-    ys: &'a [Mark],
-) -> Turn<'a>
-    requires found { is_make x ≡ false }
-    requires first { IsFirst (marks_left x_count xs.now) x x_rest.now }
-    ensures { IsTurnBeside (marks_left x_count xs.now) (marks_left y_count ys.now) result }
+fn turn_found<'a>(x: Head<'a>, x_rest: &'a [Mark], y_count: u32, ys: &'a [Mark]) -> Turn<'a>
+    requires { is_make x ≡ false }
+    ensures { (c : Seq CellMark) → IsFirst c x.entry x_rest.now → IsTurnBeside c (marks_left y_count ys.now) result }
 {
     let (y, y_rest) = next(y_count, ys);
-    match y {
-        Head::Make { cell, node, full } => {
-            Turn::Go {
-                piece: Piece::Then(Mark::Make { cell, node, full }),
-                x_count,
-                xs,
-                y_count: 0,
-                ys: y_rest,
-            }
-        }
-        Head::Many(q) => match x {
-            Head::Many(p) => {
-                let k = if p < q { p } else { q };
-                Turn::Go {
-                    piece: Piece::Counted(k),
-                    x_count: p - k,
-                    xs: x_rest,
-                    y_count: q - k,
-                    ys: y_rest,
-                }
-            }
-            _ => pair_beside(x, x_rest, Head::Many(q), y_rest),
+    match make_of(y) {
+        Some(made) => Turn::Then {
+            y: made,
+            ys: y_rest,
         },
-        Head::Cell(b) => pair_beside(x, x_rest, Head::Cell(b), y_rest),
-        Head::End => pair_beside(x, x_rest, Head::End, y_rest),
+        None => found_beside(x, x_rest, y, y_rest),
     }
 }
 
@@ -208,18 +257,11 @@ pub fn turn_beside<'a>(x_count: u32, xs: &'a [Mark], y_count: u32, ys: &'a [Mark
     ensures { IsTurnBeside (marks_left x_count xs.now) (marks_left y_count ys.now) result }
 {
     let (x, x_rest) = next(x_count, xs);
-    match x {
-        Head::Make { cell, node, full } => {
-            Turn::Go {
-                piece: Piece::First(Mark::Make { cell, node, full }),
-                x_count: 0,
-                xs: x_rest,
-                y_count,
-                ys,
-            }
-        }
-        Head::Many(p) => turn_found(Head::Many(p), x_rest, x_count, xs, y_count, ys),
-        Head::Cell(a) => turn_found(Head::Cell(a), x_rest, x_count, xs, y_count, ys),
-        Head::End => turn_found(Head::End, x_rest, x_count, xs, y_count, ys),
+    match make_of(x) {
+        Some(made) => Turn::First {
+            x: made,
+            xs: x_rest,
+        },
+        None => turn_found(x, x_rest, y_count, ys),
     }
 }

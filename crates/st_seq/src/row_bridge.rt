@@ -173,6 +173,7 @@ impl<'a> Table for Across<'a> {
 
     ghost cell = { λ t. bridged_piece t.was_void t.is_void (placed_by t.in_new t.new.now) (get node_cmp t.seen.now) };
 
+    #[inline(always)]
     fn mark(&self, piece: Piece) -> Mark {
         match piece {
             Piece::Counted(k) => Mark::Skip(k),

@@ -91,6 +91,7 @@ impl Table for Steps {
 
     ghost cell = { λ t. composed_piece };
 
+    #[inline(always)]
     fn mark(&self, piece: Piece) -> Mark {
         match piece {
             Piece::Counted(k) => Mark::Skip(k),
@@ -155,6 +156,7 @@ impl Table for Changes {
 
     ghost cell = { λ t. joined_piece };
 
+    #[inline(always)]
     fn mark(&self, piece: Piece) -> Mark {
         match piece {
             Piece::Counted(k) => Mark::Skip(k),

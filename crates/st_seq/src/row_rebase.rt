@@ -112,6 +112,7 @@ impl<'a> Table for Beside<'a> {
 
     ghost cell = { λ t. rebased_piece (get node_cmp t.seen.now) };
 
+    #[inline(always)]
     fn mark(&self, piece: Piece) -> Mark {
         match piece {
             Piece::Counted(k) => Mark::Skip(k),

@@ -57,9 +57,9 @@ fn first_slot<'a>(slots: &'a [Slot]) -> Option<(Slot, &'a [Slot])>
 }
 
 /// The next cell, which the step finds.
-fn found_turn<'a>(slots: &'a [Slot], head: Head, marks: &'a [Mark]) -> SlotTurn<'a>
+fn found_turn<'a>(slots: &'a [Slot], head: Head<'a>, marks: &'a [Mark]) -> SlotTurn<'a>
     requires { is_make head ≡ false }
-    ensures { (xs : Seq CellMark) → IsFirst xs head marks.now → IsSlotTurn slots.now xs result }
+    ensures { (xs : Seq CellMark) → IsFirst xs head.entry marks.now → IsSlotTurn slots.now xs result }
 {
     match one(head) {
         None => match first_slot(slots) {
@@ -69,10 +69,10 @@ fn found_turn<'a>(slots: &'a [Slot], head: Head, marks: &'a [Mark]) -> SlotTurn<
         Some((mark, count)) => match first_slot(slots) {
             None => SlotTurn::Apart,
             Some((slot, others)) => {
-                if is_same(slot_said(slot), before(mark)) {
+                if is_same(slot_said(slot), before(*mark)) {
                     SlotTurn::Go {
                         slot: Slot {
-                            full: said_after(mark).full,
+                            full: said_after(*mark).full,
                             ..slot
                         },
                         found: 1,
@@ -94,15 +94,18 @@ pub fn slot_turn<'a>(slots: &'a [Slot], count: u32, marks: &'a [Mark]) -> SlotTu
 {
     let (head, rest) = next(count, marks);
     match head {
-        Head::Make { cell, node, full } => {
-            SlotTurn::Go {
-                slot: Slot { cell, node, full },
-                found: 0,
-                slots,
-                count: 0,
-                marks: rest,
+        Head::Make(made) => match *made {
+            Mark::Make { cell, node, full } => {
+                SlotTurn::Go {
+                    slot: Slot { cell, node, full },
+                    found: 0,
+                    slots,
+                    count: 0,
+                    marks: rest,
+                }
             }
-        }
+            _ => unreachable!(),
+        },
         Head::Many(k) => found_turn(slots, Head::Many(k), rest),
         Head::Cell(mark) => found_turn(slots, Head::Cell(mark), rest),
         Head::End => found_turn(slots, Head::End, rest),

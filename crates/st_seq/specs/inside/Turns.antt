@@ -20,24 +20,36 @@ found_count (Piece.Both a b) = 1
 found_count (Piece.First a) = 0
 found_count (Piece.Then b) = 0
 
--- one turn of a walk over two listings, of which the first shows these cells to the second: the piece and what is left
+-- a piece of a walk over two listings, of which the first shows these cells to the second, and what is left of both: they
 -- give the whole, and so does the place of the first difference
-abbrev pub GoesOn : (List CellMark → List CellMark → List CellPiece) → (List CellMark → List CellView) → List CellMark → List CellMark → Turn → Type 0
-GoesOn walk shows xs ys Turn.Done = (walk xs ys ≡ []) × (first_difference (shows xs) (cells_before ys) ≡ None)
-GoesOn walk shows xs ys Turn.Apart = first_difference (shows xs) (cells_before ys) ≡ Some 0
-GoesOn walk shows xs ys (Turn.Go piece p more q rest) =
-    IsOfCells piece × (walk xs ys ≡ cells_of_piece piece ++ walk (marks_left p more.now) (marks_left q rest.now))
-    × (first_difference (shows xs) (cells_before ys) ≡ option_map (λ k. found_count piece + k) (first_difference (shows (marks_left p more.now)) (cells_before (marks_left q rest.now))))
-    × (length (marks_left p more.now) + length (marks_left q rest.now) < length xs + length ys)
-    × (length (cells_before ys) ≡ found_count piece + length (cells_before (marks_left q rest.now)))
+abbrev pub GoesOn : (List CellMark → List CellMark → List CellPiece) → (List CellMark → List CellView) → List CellMark → List CellMark → Piece → List CellMark → List CellMark → Type 0
+GoesOn walk shows xs ys piece more rest =
+    IsOfCells piece × (walk xs ys ≡ cells_of_piece piece ++ walk more rest)
+    × (first_difference (shows xs) (cells_before ys) ≡ option_map (λ k. found_count piece + k) (first_difference (shows more) (cells_before rest)))
+    × (length more + length rest < length xs + length ys)
+    × (length (cells_before ys) ≡ found_count piece + length (cells_before rest))
+
+-- one turn of such a walk
+abbrev pub IsTurn : (List CellMark → List CellMark → List CellPiece) → (List CellMark → List CellView) → List CellMark → List CellMark → Turn → Type 0
+IsTurn walk shows xs ys Turn.Done = (walk xs ys ≡ []) × (first_difference (shows xs) (cells_before ys) ≡ None)
+IsTurn walk shows xs ys Turn.Apart = first_difference (shows xs) (cells_before ys) ≡ Some 0
+IsTurn walk shows xs ys (Turn.Counted k p more q rest) = GoesOn walk shows xs ys (Piece.Counted k) (marks_left p more.now) (marks_left q rest.now)
+IsTurn walk shows xs ys (Turn.Both a b p more q rest) = GoesOn walk shows xs ys (Piece.Both a.now b.now) (marks_left p more.now) (marks_left q rest.now)
+IsTurn walk shows xs ys (Turn.First a more) = GoesOn walk shows xs ys (Piece.First a.now) (marks_left 0 more.now) ys
+IsTurn walk shows xs ys (Turn.Then b rest) = GoesOn walk shows xs ys (Piece.Then b.now) xs (marks_left 0 rest.now)
+
+-- whether it is another than a cell that the first listing makes
+abbrev pub IsNotFirst : Turn → Type 0
+IsNotFirst (Turn.First a more) = ⊥
+IsNotFirst turn = Unit {0}
 
 -- one turn, where the second listing finds what the first leaves
 abbrev pub IsTurnInTurn : List CellMark → List CellMark → Turn → Type 0
-IsTurnInTurn xs ys turn = GoesOn in_turn cells_after xs ys turn
+IsTurnInTurn xs ys turn = IsTurn in_turn cells_after xs ys turn × IsNotFirst turn
 
 -- one turn, where both find the same
 abbrev pub IsTurnBeside : List CellMark → List CellMark → Turn → Type 0
-IsTurnBeside xs ys turn = GoesOn beside cells_before xs ys turn
+IsTurnBeside xs ys turn = IsTurn beside cells_before xs ys turn
 
 -- ## A row and a step
 

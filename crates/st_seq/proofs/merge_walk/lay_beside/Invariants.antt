@@ -11,8 +11,8 @@ abbrev pub invariant-cells : goal.invariant-cells
 invariant-cells g l = record {
   merged : IsMerged l.out;
   whole : spread l.out ++ map (g.T.Table.cell l.table) (beside (marks_left l.x_left l.x_rest) (marks_left l.y_left l.y_rest)) ≡ map (g.T.Table.cell l.table) (beside (spread l.first) (spread l.then));
-  place : l.place + length (cells_before (marks_left l.y_left l.y_rest)) ≡ length (cells_before (spread l.then));
-  apart : first_difference (cells_before (spread l.first)) (cells_before (spread l.then)) ≡ option_map (λ k. l.place + k) (first_difference (cells_before (marks_left l.x_left l.x_rest)) (cells_before (marks_left l.y_left l.y_rest)));
+  place : l.found + length (cells_before (marks_left l.y_left l.y_rest)) ≡ length (cells_before (spread l.then));
+  apart : first_difference (cells_before (spread l.first)) (cells_before (spread l.then)) ≡ option_map (λ k. l.found + k) (first_difference (cells_before (marks_left l.x_left l.x_rest)) (cells_before (marks_left l.y_left l.y_rest)));
 }
 
 abbrev pub decreases-cells : goal.decreases-cells

@@ -1,15 +1,12 @@
-use Rattle.std.proofs.Common.{◌≤◌, ◌<◌, arith}
 use Rattle.st_marks.specs.Row.{spread}
-use Rattle.st_seq.proofs.Pairs.{counted_in_turn}
+use Rattle.st_seq.specs.Reading.{cell_of}
+use Rattle.st_seq.specs.inside.Reading.{marks_left}
+use Rattle.st_seq.proofs.Pairs.{made_single, then_in_turn}
 use Rattle.st_seq.proofs.pieces.turn_in_turn.Goals as goal
-use Rattle.st_seq.proofs.pieces.turn_in_turn.Goals.{then-p-q, else-p-q}
 
-pub returns-after-p-q : goal.returns-after-p-q
-returns-after-p-q c =
-    let x = rw c.in-Many-x.is at c.next-x.ensures in
-    let y = rw c.in-Many.is at c.next-y.ensures in
-    let first : c.if-p-q.k ≤ c.in-Many-x.p = elim c.if-p-q.branch [ then-p-q w ↦ omega arith | else-p-q w ↦ omega arith ] in
-    let second : c.if-p-q.k ≤ c.in-Many.q = elim c.if-p-q.branch [ then-p-q w ↦ omega arith | else-p-q w ↦ omega arith ] in
-    let some : 0 < c.if-p-q.k = elim c.if-p-q.branch [ then-p-q w ↦ omega (arith, x.0) | else-p-q w ↦ omega (arith, y.0) ] in
-    let z = counted_in_turn c.in-Many-x.p c.in-Many.q c.if-p-q.k _ _ (spread c.next-x.result.1.now) (spread c.next-y.result.1.now) some first second x.1 y.1 in
-    (tt, z.0, z.1, z.2, z.3)
+pub returns-in-Some : goal.returns-in-Some
+returns-in-Some c =
+    let head = rw c.in-Some.is at c.make_of.ensures in
+    let y = rw head at c.next.ensures in
+    let z = then_in_turn (cell_of c.in-Some.made.now) (marks_left c.args.x_count c.args.xs.now) (marks_left c.args.y_count c.args.ys.now) (spread c.next.result.1.now) y.1 y.2 in
+    ((made_single c.in-Some.made.now y.2, z.0, z.1, z.2, z.3), tt)
