@@ -1,5 +1,6 @@
 //! What two listings say of one cell.
-ghost use Rattle.std.specs.Prelude.{◌≡◌};
+ghost use Rattle.std.specs.Prelude.{◌≡◌, true, false};
+ghost use Rattle.st_marks.specs.Listings.{cell_view, counted_view, empty_view};
 ghost use Rattle.st_seq.specs.Views.{view_of, view_after};
 ghost use Rattle.st_seq.specs.Differences.{agree, agree_if_named, same_bool, view_before};
 ghost use Rattle.st_ids.specs.Order.{same_cell, same_node};
@@ -127,4 +128,109 @@ pub fn is_same(first: Sighting, then: Sighting) -> bool
     same_bools(first.full, then.full)
         && same_cells(first.cell, then.cell)
         && same_nodes(first.node, then.node)
+}
+
+/// Whether a mark finds a full cell.
+#[inline(always)]
+fn finds_full(mark: &Mark) -> bool
+    ensures { result ≡ agree counted_view (view_before (cell_of mark.now)) }
+{
+    match mark {
+        Mark::Skip(_) => true,
+        Mark::Gap(_) => false,
+        Mark::Touch { .. } => true,
+        Mark::Make { full, .. } => *full,
+        Mark::Fill { .. } => false,
+    }
+}
+
+/// Whether a mark finds this cell, empty.
+#[inline(always)]
+fn finds_empty(mark: &Mark, a: CellId) -> bool
+    ensures { result ≡ agree (empty_view a) (view_before (cell_of mark.now)) }
+{
+    match mark {
+        Mark::Skip(_) => false,
+        Mark::Gap(cell) => is_same_cell(a, *cell),
+        Mark::Touch { .. } => false,
+        Mark::Make { cell, full, .. } => !*full && is_same_cell(a, *cell),
+        Mark::Fill { cell, .. } => is_same_cell(a, *cell),
+    }
+}
+
+/// Whether a mark finds this cell, full with this owner.
+#[inline(always)]
+fn finds_owner(mark: &Mark, a: CellId, n: NodeId) -> bool
+    ensures { result ≡ agree (cell_view a n true) (view_before (cell_of mark.now)) }
+{
+    match mark {
+        Mark::Skip(_) => true,
+        Mark::Gap(_) => false,
+        Mark::Touch { cell, node, .. } => is_same_cell(a, *cell) && is_same_node(n, *node),
+        Mark::Make { cell, node, full } => {
+            *full && is_same_cell(a, *cell) && is_same_node(n, *node)
+        }
+        Mark::Fill { .. } => false,
+    }
+}
+
+/// Whether a mark finds this cell of this owner, empty.
+#[inline(always)]
+fn finds_room(mark: &Mark, a: CellId, n: NodeId) -> bool
+    ensures { result ≡ agree (cell_view a n false) (view_before (cell_of mark.now)) }
+{
+    match mark {
+        Mark::Skip(_) => false,
+        Mark::Gap(cell) => is_same_cell(a, *cell),
+        Mark::Touch { .. } => false,
+        Mark::Make { cell, node, full } => {
+            !*full && is_same_cell(a, *cell) && is_same_node(n, *node)
+        }
+        Mark::Fill { cell, node } => is_same_cell(a, *cell) && is_same_node(n, *node),
+    }
+}
+
+/// Whether a mark finds this cell of this owner, full or empty.
+#[inline(always)]
+fn finds_cell(mark: &Mark, a: CellId, n: NodeId, full: bool) -> bool
+    ensures { result ≡ agree (cell_view a n full) (view_before (cell_of mark.now)) }
+{
+    if full {
+        finds_owner(mark, a, n)
+    } else {
+        finds_room(mark, a, n)
+    }
+}
+
+/// Whether both marks find the same, as far as they tell.
+#[inline(always)]
+pub fn finds_same(x: &Mark, y: &Mark) -> bool
+    ensures { result ≡ agree (view_before (cell_of x.now)) (view_before (cell_of y.now)) }
+{
+    match x {
+        Mark::Skip(_) => finds_full(y),
+        Mark::Gap(cell) => finds_empty(y, *cell),
+        Mark::Touch { cell, node, .. } => finds_owner(y, *cell, *node),
+        Mark::Make { cell, node, full } => finds_cell(y, *cell, *node, *full),
+        Mark::Fill { cell, node } => finds_room(y, *cell, *node),
+    }
+}
+
+/// Whether the second mark finds what the first leaves, as far as they tell.
+#[inline(always)]
+pub fn finds_left(x: &Mark, y: &Mark) -> bool
+    ensures { result ≡ agree (view_after (cell_of x.now)) (view_before (cell_of y.now)) }
+{
+    match x {
+        Mark::Skip(_) => finds_full(y),
+        Mark::Gap(cell) => finds_empty(y, *cell),
+        Mark::Touch {
+            cell,
+            node,
+            how: How::Leave,
+        } => finds_room(y, *cell, *node),
+        Mark::Touch { cell, node, .. } => finds_owner(y, *cell, *node),
+        Mark::Make { cell, node, full } => finds_cell(y, *cell, *node, *full),
+        Mark::Fill { cell, node } => finds_owner(y, *cell, *node),
+    }
 }

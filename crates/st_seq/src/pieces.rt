@@ -1,13 +1,10 @@
 //! Two listings of one row, laid over each other piece by piece.
 ghost use Rattle.std.specs.Prelude.{◌≡◌, ◌<◌, false, List as Seq};
 ghost use Rattle.st_marks.specs.Row.{CellMark};
-ghost use Rattle.st_seq.specs.Differences.{agree, view_before};
-ghost use Rattle.st_seq.specs.Views.{view_after};
-ghost use Rattle.st_seq.specs.Reading.{cell_of};
 ghost use Rattle.st_seq.specs.inside.Reading.{marks_left, is_make, AreCountsOf, IsFirst, IsMakeOf, IsOne};
 ghost use Rattle.st_seq.specs.inside.Turns.{IsTurnInTurn, IsTurnBeside};
 
-use crate::cell_view::{after, before, is_same};
+use crate::cell_view::{finds_left, finds_same};
 use crate::front_mark::{Head, next};
 use st_marks::Mark;
 
@@ -95,22 +92,6 @@ pub fn one<'a>(head: Head<'a>) -> Option<(&'a Mark, u32)>
         Head::Make(mark) => Some((mark, 0)),
         Head::Cell(mark) => Some((mark, 0)),
     }
-}
-
-/// Whether the second mark finds what the first leaves.
-#[inline(always)]
-fn finds_left(x: &Mark, y: &Mark) -> bool
-    ensures { result ≡ agree (view_after (cell_of x.now)) (view_before (cell_of y.now)) }
-{
-    is_same(after(*x), before(*y))
-}
-
-/// Whether both marks find the same.
-#[inline(always)]
-fn finds_same(x: &Mark, y: &Mark) -> bool
-    ensures { result ≡ agree (view_before (cell_of x.now)) (view_before (cell_of y.now)) }
-{
-    is_same(before(*x), before(*y))
 }
 
 /// The counted cells that come first in both listings.
