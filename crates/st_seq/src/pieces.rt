@@ -18,8 +18,8 @@ pub enum Piece {
     Then(Mark),
 }
 
-/// The next piece, and what is left of the listings that it takes from; or that the listings differ at the next cell. A mark
-/// isn't copied before it is told what it comes to.
+/// The next piece, whose marks are lent, and what is left of the listings that it takes from; or that the listings differ at
+/// the next cell.
 pub enum Turn<'a> {
     Done,
     Apart,
