@@ -11,3 +11,5 @@ pub mod Beside
 pub mod BesideRows
 pub mod Assembled
 pub mod RowNames
+pub mod ListedAfter
+mod RoomAfter

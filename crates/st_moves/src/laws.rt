@@ -1,11 +1,12 @@
-//! Laws on the document between two: each is the contract of a function that does nothing.
+//! Laws on the document between two, and on what a change and a step list together: each is the contract of a function that does nothing.
 ghost use Rattle.std.specs.Prelude.{◌≡◌, ◌↔◌, true};
 ghost use Rattle.st_ids.specs.declared.names.NodeId.{NodeId};
 ghost use Rattle.st_kind.specs.Named.{Nodes};
 ghost use Rattle.st_marks.specs.declared.changes.Change.{Change};
 ghost use Rattle.st_marks.specs.declared.intents.Intent.{Intent};
 ghost use Rattle.st_marks.specs.declared.steps.Step.{Step};
-ghost use Rattle.st_marks.specs.Document.{Document, content};
+ghost use Rattle.st_marks.specs.CarryOut.{full};
+ghost use Rattle.st_marks.specs.Document.{Document, HasShortRows, content};
 ghost use Rattle.st_marks.specs.Embedding.{IsEmbedding, IsMentionedByIntent, row_part};
 ghost use Rattle.st_marks.specs.Extends.{IsExtendedBy};
 ghost use Rattle.st_marks.specs.Intent.{Fits, put_of};
@@ -15,6 +16,7 @@ ghost use Rattle.st_puts.specs.Mentions.{AreMentions};
 ghost use Rattle.st_moves.specs.Between.{IsClosedIn, between};
 ghost use Rattle.st_moves.specs.Changes.{IsCarriedBy};
 ghost use Rattle.st_moves.specs.Carried.{carry_row};
+ghost use Rattle.st_moves.specs.Room.{HasRoomInRows};
 
 /// The document between extends the earlier one, and the later one extends it, where with each node that stands as later the
 /// one above it stands as later.
@@ -45,4 +47,12 @@ pub fn changes_are_carried()
         → IsExtendedBy D E → Fits D N → Fits E N → AreMentions E N m
         → (change : IsEmbedding D N C) → (step : IsStep D E S) → IsCarriedBy change step m X
         → IsEmbedding (between m D E) N X }
+{}
+
+/// A change and a step that stand over one document have room together in each row, if the change's intent leaves rows short
+/// in the document after the step: of a row the two list no more cells than it has there. Beside that nothing is asked of the
+/// documents and the intent.
+pub fn documents_have_room()
+    ensures { (D E : Document) (N : Intent) (C : Change) (S : Step)
+        → HasShortRows (full E N) → IsEmbedding D N C → IsStep D E S → HasRoomInRows C S }
 {}

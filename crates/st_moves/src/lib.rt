@@ -11,6 +11,7 @@ mod rows;
 pub use carry::carry_row;
 pub use index::{index_registers_over, index_rows, register_over_in, row_in};
 pub use laws::{
-    between_stands_between, changes_are_carried, intents_fit_between, rows_are_carried,
+    between_stands_between, changes_are_carried, documents_have_room, intents_fit_between,
+    rows_are_carried,
 };
 pub use marks::{Between, carry_marks};

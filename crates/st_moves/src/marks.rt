@@ -120,7 +120,7 @@ fn between_with(
 /// A change, rewritten for the document between: where the nodes that its intent mentions after the step stand as the step
 /// puts them, and all others as they stood. It is read off the marks of the two alone, in time n log n for n marks and names,
 /// whatever a Skip counts. Where the two stand over no document, the answer means nothing; a row in which they don't find the
-/// same stays as it is.
+/// same stays as it is. What it asks holds of each two that stand over documents with short rows (`documents_have_room`).
 pub fn carry_marks(alloc: Global, change: &Change, step: &Step) -> Result<Between, AllocError>
     requires room { HasRoomInRows change.now step.now }
     ensures carried { (D E : Document) (N : Intent) → IsExtendedBy D E → Fits D N → Fits E N
