@@ -1,6 +1,7 @@
 pub mod Shown
 pub mod Loops
 pub mod ShortRows
+mod ShortChanges
 pub mod KindLaws
 pub mod Matching
 pub mod Named

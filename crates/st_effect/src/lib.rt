@@ -2,6 +2,7 @@
 #![tactic(auto)]
 
 mod effects;
+mod laws;
 mod listing;
 mod loose;
 mod names;
@@ -11,4 +12,5 @@ mod schemas;
 mod short;
 
 pub use effects::{Consequence, effect};
+pub use laws::changes_have_short_rows;
 pub use short::has_short_rows;

@@ -25,7 +25,7 @@ fn are_short(rows: &[RowMarks]) -> bool
 }
 
 /// Whether each row of a change lists fewer than 2^32 cells, those that it finds and those that it makes, as each change does
-/// that stands over some document and fits there.
+/// whose intent leaves rows short where it stands (`changes_have_short_rows`).
 pub fn has_short_rows(change: &Change) -> bool
     ensures { (result ≡ true) ↔ HasShortRowsListed change.now }
 {

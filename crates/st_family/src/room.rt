@@ -62,8 +62,9 @@ fn all_have_room(
     )
 }
 
-/// Whether of each row, what a change and a step make and what either finds are fewer than 2^32 cells, as of each two that
-/// stand over documents with short rows (`documents_have_room` of `st_moves`). Takes O(n log n) for n marks.
+/// Whether of each row, what a change and a step make and what either finds are fewer than 2^32 cells. It is so where the
+/// change's intent leaves rows short in the document after the step (`documents_have_room` of `st_moves`). Takes O(n log n)
+/// for n marks.
 pub fn has_room_in_rows(alloc: Global, change: &Change, step: &Step) -> Result<bool, AllocError>
     ensures { IfOk result (λ b. (b ≡ true) ↔ HasRoomInRows change.now step.now) }
 {

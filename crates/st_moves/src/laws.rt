@@ -1,4 +1,4 @@
-//! Laws on the document between two, and on what a change and a step list together: each is the contract of a function that does nothing.
+//! Laws on the document between two, and on the room that rows have: each is the contract of a function that does nothing.
 ghost use Rattle.std.specs.Prelude.{◌≡◌, ◌↔◌, true};
 ghost use Rattle.st_ids.specs.declared.names.NodeId.{NodeId};
 ghost use Rattle.st_kind.specs.Named.{Nodes};
