@@ -142,6 +142,7 @@ impl<'a> Table for Carried<'a> {
 
     ghost cell = { λ t. carried_piece (get node_cmp t.puts.now) (contains node_cmp t.named.now) };
 
+    #[inline(always)]
     fn mark(&self, piece: Piece) -> Mark {
         match piece {
             Piece::Counted(k) => Mark::Skip(k),
