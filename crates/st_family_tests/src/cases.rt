@@ -301,6 +301,7 @@ fn step(alloc: Global, listed: Between) -> Result<Step, AllocError> {
     })
 }
 
+// A change over a step, if there is room and the two agree.
 fn rebased(alloc: Global, change: &Change, step: &Step) -> Result<Option<Change>, AllocError> {
     if !has_room_in_rows(alloc, change, step)? {
         return Ok(None);
@@ -312,11 +313,37 @@ fn rebased(alloc: Global, change: &Change, step: &Step) -> Result<Option<Change>
     }
 }
 
+/// Whether a change over a step is another.
+pub fn is_rebased_to(
+    alloc: Global,
+    change: &Change,
+    step: &Step,
+    there: &Change,
+) -> Result<bool, AllocError> {
+    match rebased(alloc, change, step)? {
+        Some(over) => Ok(over == *there),
+        None => Ok(false),
+    }
+}
+
+fn comes_after(
+    alloc: Global,
+    case: &Case,
+    before: &Change,
+    step: &Step,
+) -> Result<bool, AllocError> {
+    let after = change(alloc, case, case.after)?;
+    is_rebased_to(alloc, before, step, &after)
+}
+
+fn is_over_step(alloc: Global, case: &Case, before: &Change) -> Result<bool, AllocError> {
+    let step = step(alloc, case.step)?;
+    comes_after(alloc, case, before, &step)
+}
+
 fn is_so(alloc: Global, case: &Case) -> Result<bool, AllocError> {
     let before = change(alloc, case, case.change)?;
-    let after = change(alloc, case, case.after)?;
-    let step = step(alloc, case.step)?;
-    Ok(rebased(alloc, &before, &step)? == Some(after))
+    is_over_step(alloc, case, &before)
 }
 
 fn wrong_case(alloc: Global, cases: &[Case]) -> Result<Option<&'static str>, AllocError> {
@@ -335,7 +362,7 @@ const INSERT: Listed = Listed {
     loose: &[],
 };
 
-const CASES: [Case; 7] = [
+const CASES: [Case; 2] = [
     Case {
         name: "a tie: the later one stands left",
         makes: true,
@@ -368,6 +395,9 @@ const CASES: [Case; 7] = [
             loose: &[],
         },
     },
+];
+
+const CASES_OF_MOVES: [Case; 2] = [
     Case {
         name: "a move takes an insert with it",
         makes: true,
@@ -415,6 +445,10 @@ const CASES: [Case; 7] = [
             }],
         },
     },
+];
+
+// Of nodes that the change mentions, and that the step moves or takes away.
+const CASES_OF_NODES: [Case; 3] = [
     Case {
         name: "a node above is told though no mark of the change named it",
         makes: true,
@@ -504,9 +538,31 @@ const CASES: [Case; 7] = [
     },
 ];
 
+fn wrong_of_first(alloc: Global) -> Result<Option<&'static str>, AllocError> {
+    wrong_case(alloc, &CASES)
+}
+
+fn wrong_of_moves(alloc: Global) -> Result<Option<&'static str>, AllocError> {
+    wrong_case(alloc, &CASES_OF_MOVES)
+}
+
+fn wrong_of_nodes(alloc: Global) -> Result<Option<&'static str>, AllocError> {
+    wrong_case(alloc, &CASES_OF_NODES)
+}
+
+fn wrong_of_placed(alloc: Global) -> Result<Option<&'static str>, AllocError> {
+    let wrong = wrong_of_first(alloc)?;
+    Ok(wrong.or(wrong_of_moves(alloc)?))
+}
+
+fn wrong_of_all(alloc: Global) -> Result<Option<&'static str>, AllocError> {
+    let wrong = wrong_of_placed(alloc)?;
+    Ok(wrong.or(wrong_of_nodes(alloc)?))
+}
+
 #[test]
 fn changes_are_rebased(rt: HostRuntime) -> Result<(), Fail> {
-    let wrong = wrong_case(rt.alloc(), &CASES)?;
+    let wrong = wrong_of_all(rt.alloc())?;
     assert!(rt; wrong.is_none(), "{wrong:?}");
     Ok(())
 }
