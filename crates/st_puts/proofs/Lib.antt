@@ -1,4 +1,5 @@
 pub mod Firsts
+pub mod Keeping
 pub mod Among
 pub mod Climbing
 pub mod Gathering

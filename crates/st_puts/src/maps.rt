@@ -21,10 +21,7 @@ fn keep_at<K: Ord + Drop, V: Drop>(
     ensures { OnOk result ((q : K) → get K.cmp map.new q
         ≡ option_or (get K.cmp map.old q) (cond (is_eq (K.cmp key q)) (Some value) None)) }
 {
-    if map.contains_key(&key) {
-        return Ok(());
-    }
-    map.insert(key, value)?;
+    map.entry(key)?.or_insert(value);
     Ok(())
 }
 
