@@ -89,6 +89,9 @@ fn keep_row(puts: &mut BTreeMap<NodeId, To>, fate: Fate, marks: &[Mark]) -> Resu
         ≡ option_or (get node_cmp puts.old n) (first_at (flat_map (fate_by fate) marks.now) n)) }
 {
     for mark in marks {
+        if let Mark::Skip(_) | Mark::Gap(_) = mark {
+            continue;
+        }
         keep_one(puts, put_told(fate, *mark))?;
     }
     Ok(())

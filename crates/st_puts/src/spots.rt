@@ -108,6 +108,9 @@ fn keep_row(
         ≡ option_or (get node_cmp spots.old n) (first_at (flat_map (told_by told row) marks.now) n)) }
 {
     for mark in marks {
+        if let Mark::Skip(_) | Mark::Gap(_) = mark {
+            continue;
+        }
         keep_one(spots, spot_told(told, row, *mark))?;
     }
     Ok(())
