@@ -66,7 +66,7 @@ fn add_marks(set: &mut BTreeSet<NodeId>, row: NodeId, marks: &[Mark]) -> Result<
         ≡ (contains node_cmp set.old n || is_among (flat_map (names_by row) marks.now) n)) }
 {
     for mark in marks {
-        if let Mark::Skip(_) | Mark::Gap(_) = mark {
+        if let Mark::Skip(_) | Mark::Gap(_) | Mark::Touch { how: How::Stay, .. } = mark {
             continue;
         }
         add_mark(set, row, *mark)?;

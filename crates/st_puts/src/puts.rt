@@ -1,5 +1,5 @@
 //! Where a change puts nodes.
-ghost use Rattle.std.specs.Prelude.{◌≡◌, ◌++◌, IfOk, OnOk};
+ghost use Rattle.std.specs.Prelude.{◌≡◌, ◌++◌, [], IfOk, OnOk, false};
 ghost use Rattle.std.specs.BTreeMap.{get};
 ghost use Rattle.std.specs.List.{flat_map};
 ghost use Rattle.std.specs.Option.{option_or};
@@ -83,13 +83,36 @@ fn put_told(fate: Fate, mark: Mark) -> Option<(NodeId, To)>
     }
 }
 
+// Whether a put of a mark is told.
+#[inline(always)]
+fn is_told(fate: Fate, mark: &Mark) -> bool
+    ensures { result ≡ false → fate_by fate mark.now ≡ [] }
+{
+    match mark {
+        Mark::Touch { how, .. } => match (fate, how) {
+            (Fate::Comes, How::Here) => true,
+            (Fate::Goes, How::Leave) => true,
+            _ => false,
+        },
+        Mark::Make { full, .. } => match fate {
+            Fate::Comes => *full,
+            Fate::Goes => false,
+        },
+        Mark::Fill { .. } => match fate {
+            Fate::Comes => true,
+            Fate::Goes => false,
+        },
+        Mark::Skip(_) | Mark::Gap(_) => false,
+    }
+}
+
 // Keeps the puts of a row's marks.
 fn keep_row(puts: &mut BTreeMap<NodeId, To>, fate: Fate, marks: &[Mark]) -> Result<(), AllocError>
     ensures { OnOk result ((n : Node) → get node_cmp puts.new n
         ≡ option_or (get node_cmp puts.old n) (first_at (flat_map (fate_by fate) marks.now) n)) }
 {
     for mark in marks {
-        if let Mark::Skip(_) | Mark::Gap(_) = mark {
+        if !is_told(fate, mark) {
             continue;
         }
         keep_one(puts, put_told(fate, *mark))?;

@@ -1,5 +1,5 @@
 //! Where nodes stand after a step.
-ghost use Rattle.std.specs.Prelude.{◌≡◌, ◌++◌, IfOk, IfSome, OnOk, IsSome, Option as Maybe, map, true};
+ghost use Rattle.std.specs.Prelude.{◌≡◌, ◌++◌, [], IfOk, IfSome, OnOk, IsSome, Option as Maybe, map, true, false};
 ghost use Rattle.std.specs.BTreeMap.{get};
 ghost use Rattle.std.specs.List.{flat_map};
 ghost use Rattle.std.specs.Option.{option_or};
@@ -97,6 +97,30 @@ fn spot_told(told: Told, row: NodeId, mark: Mark) -> Option<(NodeId, Spot)>
     }
 }
 
+// Whether someone is told of a cell.
+#[inline(always)]
+fn is_told(told: Told, mark: &Mark) -> bool
+    ensures { (r : Node) → result ≡ false → told_by told r mark.now ≡ [] }
+{
+    match mark {
+        Mark::Touch { how, .. } => match (told, how) {
+            (Told::After, How::Leave) => false,
+            (Told::Left, How::Leave) => true,
+            (Told::Left, _) => false,
+            _ => true,
+        },
+        Mark::Make { full, .. } => match told {
+            Told::After => *full,
+            _ => false,
+        },
+        Mark::Fill { .. } => match told {
+            Told::After => true,
+            _ => false,
+        },
+        Mark::Skip(_) | Mark::Gap(_) => false,
+    }
+}
+
 // Keeps who is told of a row's cells.
 fn keep_row(
     spots: &mut BTreeMap<NodeId, Spot>,
@@ -108,7 +132,7 @@ fn keep_row(
         ≡ option_or (get node_cmp spots.old n) (first_at (flat_map (told_by told row) marks.now) n)) }
 {
     for mark in marks {
-        if let Mark::Skip(_) | Mark::Gap(_) = mark {
+        if !is_told(told, mark) {
             continue;
         }
         keep_one(spots, spot_told(told, row, *mark))?;
