@@ -92,7 +92,8 @@ fn mentioned(alloc: Global, listing: &Step) -> Result<BTreeSet<NodeId>, AllocErr
 /// Empty cells that stay empty aren't read: of a listing that counts some of them the step counts these too. Takes O(n log n)
 /// for n marks and names, whatever a Skip counts.
 pub fn trim_step(alloc: Global, listing: Step) -> Result<Step, AllocError>
-    ensures exact { (D E : Document) (K : Nodes) → IsExtendedBy D E → ListsStep D E K listing → IfOk result (IsStep D E) }
+    ensures exact { (D E : Document) (K : Nodes) → IsExtendedBy D E → ListsStep D E K listing
+        → IfOk result (IsStep D E) }
     ensures shown { (D E : Document) (K : Nodes) (G : Listing) → IsExtendedBy D E → ListsStep D E K G
         → thin_step listing ≡ thin_step G → IfOk result (ShowsStep D E) }
     ensures thin { (D E : Document) (K : Nodes) (G : Listing) → IsExtendedBy D E → ListsStep D E K G
