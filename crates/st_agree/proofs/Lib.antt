@@ -1,6 +1,4 @@
 mod Answering
-mod InOrder
-mod Looking
 mod Naming
 mod Obeyed
 mod Standing

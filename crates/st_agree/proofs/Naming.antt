@@ -12,9 +12,11 @@ use Rattle.st_marks.specs.declared.marks.Mark.{Mark}
 use Rattle.st_marks.specs.Embedding.{is_among}
 use Rattle.st_marks.specs.Listings.{nodes_in, nodes_new}
 use Rattle.st_marks.specs.Row.{CellMark, counted_cells, spread}
-use Rattle.st_agree.specs.inside.Names.{node_of_mark}
+use Rattle.st_ids.specs.declared.names.FieldId.{FieldId}
+use Rattle.std.proofs.lemmas.List.{append-nil}
+use Rattle.st_agree.specs.inside.Names.{made_again, node_of_mark}
 use Rattle.st_clash.proofs.Finding.{flat_more}
-use Rattle.st_agree.proofs.Looking.{found_or_not}
+use Rattle.st_clash.proofs.Looking.{found_or_not}
 
 counted_name : (k : ℕ) (xs : List CellMark) → nodes_in (counted_cells k xs) ≡ nodes_in xs
 counted_name zero xs = refl
@@ -42,3 +44,12 @@ pub made_or_not : (new : List NewNode) (n : NodeId) (r : Result ℕ ℕ) → IsR
     → IsBinarySearchResult (λ (m : NewNode). node_cmp m.node n) new r → is_ok r ≡ is_among (nodes_new new) n
 unfolding same_node
 made_or_not new n r h b s = found_or_not node_cmp node_cmp_total node_cmp_exact (λ (m : NewNode). m.node) new n r h b s ∙ sym (among_new new n)
+
+-- where none is made, none is made again
+pub none_made : (new : List NewNode) → length new ≡ 0 → (old : List FieldId) (names : List NodeId) → old ≡ old ++ flat_map (made_again new) names
+none_made new e old names = sym (append-nil old) ∙ ap (λ l. old ++ l) (sym (none new e names))
+  where
+    none : (new : List NewNode) → length new ≡ 0 → (names : List NodeId) → flat_map (made_again new) names ≡ []
+    none [] e [] = refl
+    none [] e (n ∷ names) = none [] e names
+    none (m ∷ new) e names = cc

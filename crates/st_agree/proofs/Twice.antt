@@ -1,7 +1,8 @@
 -- Nodes that stand twice.
 use Rattle.std.proofs.Common.{◌≡◌, ◌≢◌, ◌<◌, ◌≤◌, ◌+◌, ℕ, zero, suc, Bool, true, false, cond, List, [], ◌∷◌, ◌++◌, length, take, get_or, slice_get, Option, Some, None, MatchOption, ◌↔◌, refl, sym, ap, ◌∙◌, subst, inl, inr, ◌⊎◌}
 use Rattle.std.specs.Ordering.{is_eq}
-use Rattle.std.proofs.lemmas.List.{take_all}
+use Rattle.std.proofs.lemmas.List.{append-nil, take_all}
+use Rattle.std.specs.Option.{option_map}
 use Rattle.st_ids.specs.Listing.{Has}
 use Rattle.st_ids.specs.Order.{node_cmp, same_cell, same_node}
 use Rattle.st_ids.specs.declared.names.FieldId.{FieldId}
@@ -50,6 +51,37 @@ table_more ps i d before now inside more so_far n = go (is_eq (node_cmp (get_or 
 
 pub whole_table : (ps : List Placed) (i : ℕ) (at : NodeId → Option ℕ) → length ps ≤ i → IsTableTo ps i at → IsTable ps at
 whole_table ps i at l t n = subst (λ xs. MatchOption (at n) ((p : Placed) → Has xs p → p.node ≢ n) (λ j. (p : Placed) × (slice_get ps j ≡ Some p) × (p.node ≡ n))) (take_all i ps l) (t n)
+
+-- ## A table that no code builds
+
+-- at which place a node is first
+first_of : List Placed → NodeId → Option ℕ
+first_of [] n = None
+first_of (p ∷ ps) n = cond (same_node p.node n) (Some 0) (option_map (λ i. suc i) (first_of ps n))
+
+first_told : (ps : List Placed) → IsTable ps (first_of ps)
+unfolding first_of
+first_told [] n = λ p h. absurd h
+first_told (p ∷ ps) n = go (same_node p.node n) refl (first_of ps n) (first_told ps n)
+  where
+    go : (b : Bool) → same_node p.node n ≡ b → (o : Option ℕ) → MatchOption o ((q : Placed) → Has ps q → q.node ≢ n) (λ i. (q : Placed) × (slice_get ps i ≡ Some q) × (q.node ≡ n))
+        → MatchOption (cond b (Some 0) (option_map (λ i. suc i) o)) ((q : Placed) → Has (p ∷ ps) q → q.node ≢ n) (λ i. (q : Placed) × (slice_get (p ∷ ps) i ≡ Some q) × (q.node ≡ n))
+    go true e o t = (p, refl, same_node-true p.node n e)
+    go false e (Some i) t = (t.0, t.1, t.2)
+    go false e None t = λ q h. elim h [
+      | inl f ↦ (λ z. apart (ap (λ (r : Placed). r.node) f ∙ z))
+      | inr k ↦ t q k
+    ]
+      where
+        apart : p.node ≡ n → ⊥
+        apart z = let bad : true ≡ false = sym (same_node-itself n) ∙ ap (λ k. same_node k n) (sym z) ∙ e in cc
+
+pub some_table : (ps : List Placed) → (at : NodeId → Option ℕ) × IsTable ps at
+some_table ps = (first_of ps, first_told ps)
+
+pub none_twice : (old : List FieldId) (ps qs : List Placed) (at : NodeId → Option ℕ) → length ps ≡ 0 → old ≡ old ++ found_twice ps qs at
+none_twice old [] qs at e = sym (append-nil old)
+none_twice old (p ∷ ps) qs at e = cc
 
 -- ## Places
 

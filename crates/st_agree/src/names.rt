@@ -236,6 +236,9 @@ pub fn push_made_by_step(
     requires { IsRising node_cmp (λ (m : NewOne). m.node) step.now.new }
     ensures { OnOk result (found.new ≡ found.old ++ flat_map (made_again step.now.new) (nodes_of_change change.now)) }
 {
+    if step.new.is_empty() {
+        return Ok(());
+    }
     let names = nodes_of_change(alloc, change)?;
     push_nodes(alloc, found, step.new.as_slice(), names.as_slice())?;
     Ok(())
@@ -251,6 +254,9 @@ pub fn push_made_by_change(
     requires { IsRising node_cmp (λ (m : NewOne). m.node) change.now.new }
     ensures { OnOk result (found.new ≡ found.old ++ flat_map (made_again change.now.new) (nodes_of_step step.now)) }
 {
+    if change.new.is_empty() {
+        return Ok(());
+    }
     let names = nodes_of_step(alloc, step)?;
     push_nodes(alloc, found, change.new.as_slice(), names.as_slice())?;
     Ok(())

@@ -275,6 +275,21 @@ fn push_all(
     Ok(())
 }
 
+// Adds the fields of the nodes that a step places elsewhere.
+fn push_placed(
+    alloc: Global,
+    found: &mut List<FieldId>,
+    list: &[Placed],
+    step: &Step,
+) -> Result<(), AllocError>
+    ensures { OnOk result ((at : Node → Option ℕ) × IsTable (placements_of_step step.now) at
+        × (found.new ≡ found.old ++ found_twice list.now (placements_of_step step.now) at)) }
+{
+    let others = placements_of_step(alloc, step)?;
+    let table = table_of(alloc, others.as_slice())?;
+    push_all(alloc, found, &table, others.as_slice(), list)
+}
+
 /// Adds the fields of the nodes that stand elsewhere by the step than by the change.
 pub fn push_twice(
     alloc: Global,
@@ -286,8 +301,8 @@ pub fn push_twice(
         × (found.new ≡ found.old ++ found_twice (placements_of_change change.now) (placements_of_step step.now) at)) }
 {
     let list = placements_of_change(alloc, change)?;
-    let others = placements_of_step(alloc, step)?;
-    let table = table_of(alloc, others.as_slice())?;
-    push_all(alloc, found, &table, others.as_slice(), list.as_slice())?;
-    Ok(())
+    if list.is_empty() {
+        return Ok(());
+    }
+    push_placed(alloc, found, list.as_slice(), step)
 }

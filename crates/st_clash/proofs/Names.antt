@@ -58,7 +58,7 @@ marks_more F f same old before now ms i d m inside at so_far h =
 
 -- ## A test of the cells in marks
 
-any-append : (p : CellId → Bool) (xs ys : List CellId) → list_any p (xs ++ ys) ≡ (list_any p xs || list_any p ys)
+pub any-append : (p : CellId → Bool) (xs ys : List CellId) → list_any p (xs ++ ys) ≡ (list_any p xs || list_any p ys)
 any-append p [] ys = refl
 any-append p (x ∷ xs) ys = elim (p x) as (λ b. (b || list_any p (xs ++ ys)) ≡ ((b || list_any p xs) || list_any p ys)) [ true ↦ refl | false ↦ any-append p xs ys ]
 

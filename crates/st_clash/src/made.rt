@@ -1,5 +1,5 @@
 //! Cells that marks name and make, and those that one makes and the other names.
-ghost use Rattle.std.specs.Prelude.{◌≡◌, ◌++◌, cond, true, IfOk, OnOk};
+ghost use Rattle.std.specs.Prelude.{◌≡◌, ◌++◌, [], cond, true, IfOk, OnOk};
 ghost use Rattle.std.specs.BTreeSet.{contains};
 ghost use Rattle.std.specs.List.{flat_map};
 ghost use Rattle.std.specs.Ordering.{is_eq};
@@ -16,6 +16,7 @@ ghost use Rattle.st_clash.specs.inside.Made.{
 };
 
 use crate::push::push_if_some;
+use crate::revisions::{are_of, rows_name};
 use st_ids::{CellId, List};
 use st_marks::{Mark, RowMarks};
 use std::alloc::{AllocError, Global};
@@ -106,14 +107,6 @@ pub fn set_of(alloc: Global, cells: &[CellId]) -> Result<BTreeSet<CellId>, Alloc
     Ok(set)
 }
 
-// The set of the cells that rows make.
-fn made_set(alloc: Global, rows: &[RowMarks]) -> Result<BTreeSet<CellId>, AllocError>
-    ensures { IfOk result (λ s. (c : Cell) → contains cell_cmp s c ≡ is_among_cells (made_in_rows rows.now) c) }
-{
-    let made = made_in_rows(alloc, rows)?;
-    set_of(alloc, made.as_slice())
-}
-
 // Adds a cell, if it is in a set.
 fn push_if_in(
     bad: &mut List<CellId>,
@@ -142,6 +135,30 @@ fn push_those_in(
     Ok(())
 }
 
+// Adds those of the cells that rows name that are among some others, by a set of these.
+fn push_by_set(
+    alloc: Global,
+    bad: &mut List<CellId>,
+    rows: &[RowMarks],
+    made: &[CellId],
+) -> Result<(), AllocError>
+    ensures { OnOk result (bad.new ≡ bad.old ++ flat_map (only_if (is_among_cells made.now)) (named_in_rows rows.now)) }
+{
+    let set = set_of(alloc, made)?;
+    let names = named_in_rows(alloc, rows)?;
+    push_those_in(bad, &set, names.as_slice())
+}
+
+// Whether cells are all of one revision, of which no row names any: the common case, as what is made is new.
+fn are_new(made: &[CellId], rows: &[RowMarks]) -> bool
+    ensures { result ≡ true → flat_map (only_if (is_among_cells made.now)) (named_in_rows rows.now) ≡ [] }
+{
+    match made.first() {
+        None => true,
+        Some(cell) => are_of(cell.0.rev, made) && !rows_name(cell.0.rev, rows),
+    }
+}
+
 /// Adds the cells that rows name and others make.
 pub fn push_made_again(
     alloc: Global,
@@ -152,7 +169,9 @@ pub fn push_made_again(
     ensures { OnOk result (bad.new ≡ bad.old
         ++ flat_map (only_if (is_among_cells (made_in_rows makers.now))) (named_in_rows rows.now)) }
 {
-    let set = made_set(alloc, makers)?;
-    let names = named_in_rows(alloc, rows)?;
-    push_those_in(bad, &set, names.as_slice())
+    let made = made_in_rows(alloc, makers)?;
+    if are_new(made.as_slice(), rows) {
+        return Ok(());
+    }
+    push_by_set(alloc, bad, rows, made.as_slice())
 }

@@ -61,6 +61,9 @@ pub fn push_naming(
 ) -> Result<(), AllocError>
     ensures { OnOk result (found.new ≡ found.old ++ flat_map (row_naming (contains cell_cmp set.now)) rows.now) }
 {
+    if set.is_empty() {
+        return Ok(());
+    }
     for row in rows {
         push_if_naming(alloc, found, set, row)?;
     }

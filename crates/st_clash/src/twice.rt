@@ -7,9 +7,10 @@ ghost use Rattle.std.specs.Ordering.{is_eq};
 ghost use Rattle.st_ids.specs.Order.{cell_cmp};
 ghost use Rattle.st_ids.specs.declared.names.CellId.{CellId as Cell};
 ghost use Rattle.st_clash.specs.declared.seen.Seen.{Seen as View};
-ghost use Rattle.st_clash.specs.inside.Seen.{IsTable, apart_cell, row_seen, same_seen};
+ghost use Rattle.st_clash.specs.inside.Seen.{IsTable, apart_cell, apart_from, row_seen, same_seen};
 
 use crate::owners::is_same_owner;
+use crate::search::{cells_rise, push_by_search};
 use crate::seen::{Seen, seen_cells};
 use st_ids::{CellId, List, is_same_node};
 use st_marks::RowMarks;
@@ -36,19 +37,21 @@ fn table_of(alloc: Global, list: &[Seen]) -> Result<BTreeMap<CellId, Seen>, Allo
     Ok(table)
 }
 
-// What rows show of each cell that they name.
-fn table_of_rows(alloc: Global, rows: &[RowMarks]) -> Result<BTreeMap<CellId, Seen>, AllocError>
-    ensures { IfOk result (λ t. IsTable (flat_map row_seen rows.now) (get cell_cmp t)) }
-{
-    let list = seen_cells(alloc, rows)?;
-    table_of(alloc, list.as_slice())
-}
-
 // Whether a cell is seen at one place, and with one owner where both tell it.
 fn is_same_seen(a: Seen, b: Seen) -> bool
     ensures { result ≡ same_seen a b }
 {
     is_same_node(a.row, b.row) && a.place == b.place && is_same_owner(a.owner, b.owner)
+}
+
+/// Adds a cell, if it is seen otherwise.
+pub fn push_if_other(bad: &mut List<CellId>, seen: Seen, other: Seen) -> Result<(), AllocError>
+    ensures { OnOk result (bad.new ≡ bad.old ++ apart_from seen (Some other)) }
+{
+    if !is_same_seen(seen, other) {
+        bad.push(seen.cell)?;
+    }
+    Ok(())
 }
 
 // Adds a cell that others show elsewhere.
@@ -61,12 +64,7 @@ fn push_if_apart(
 {
     match table.get(&seen.cell) {
         None => Ok(()),
-        Some(other) => {
-            if !is_same_seen(seen, *other) {
-                bad.push(seen.cell)?;
-            }
-            Ok(())
-        }
+        Some(other) => push_if_other(bad, seen, *other),
     }
 }
 
@@ -84,6 +82,36 @@ fn push_apart(
     Ok(())
 }
 
+// Adds the cells that others show elsewhere, by a table of these.
+fn push_by_table(
+    alloc: Global,
+    bad: &mut List<CellId>,
+    list: &[Seen],
+    others: &[Seen],
+) -> Result<(), AllocError>
+    ensures { OnOk result ((at : Cell → Option View) × IsTable others.now at
+        × (bad.new ≡ bad.old ++ flat_map (apart_cell at) list.now)) }
+{
+    let table = table_of(alloc, others)?;
+    push_apart(bad, &table, list)
+}
+
+// Adds the cells that others show elsewhere: by a search where these rise by name, else by a table.
+fn push_seen(
+    alloc: Global,
+    bad: &mut List<CellId>,
+    list: &[Seen],
+    others: &[Seen],
+) -> Result<(), AllocError>
+    ensures { OnOk result ((at : Cell → Option View) × IsTable others.now at
+        × (bad.new ≡ bad.old ++ flat_map (apart_cell at) list.now)) }
+{
+    if cells_rise(others) {
+        return push_by_search(bad, list, others);
+    }
+    push_by_table(alloc, bad, list, others)
+}
+
 /// Adds the cells that others show at another place or with another owner.
 pub fn push_twice(
     alloc: Global,
@@ -94,7 +122,10 @@ pub fn push_twice(
     ensures { OnOk result ((at : Cell → Option View) × IsTable (flat_map row_seen others.now) at
         × (bad.new ≡ bad.old ++ flat_map (apart_cell at) (flat_map row_seen rows.now))) }
 {
-    let table = table_of_rows(alloc, others)?;
     let list = seen_cells(alloc, rows)?;
-    push_apart(bad, &table, list.as_slice())
+    if list.is_empty() {
+        return Ok(());
+    }
+    let others = seen_cells(alloc, others)?;
+    push_seen(alloc, bad, list.as_slice(), others.as_slice())
 }

@@ -1,7 +1,9 @@
 -- The cells that marks name, and those that they make.
 use Rattle.std.specs.Prelude.{Bool, List, [], ◌∷◌, if◌then◌else◌}
 use Rattle.std.specs.List.{flat_map}
+use Rattle.st_ids.specs.Order.{same_rev}
 use Rattle.st_ids.specs.declared.names.CellId.{CellId}
+use Rattle.st_ids.specs.declared.names.Rev.{Rev}
 use Rattle.st_marks.specs.declared.marks.Mark.{Mark}
 use Rattle.st_marks.specs.declared.marks.RowMarks.{RowMarks}
 use Rattle.st_marks.specs.Listings.{cells_in, cells_made}
@@ -34,3 +36,7 @@ made_in_rows rows = flat_map (λ (r : RowMarks). cells_made (spread r.marks)) ro
 -- the cell, if it passes a test
 abbrev pub only_if : (CellId → Bool) → CellId → List CellId
 only_if p c = if p c then c ∷ [] else []
+
+-- whether a cell is of a revision
+abbrev pub is_of : Rev → CellId → Bool
+is_of v c = same_rev c.0.rev v

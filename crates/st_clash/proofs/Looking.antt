@@ -70,6 +70,11 @@ module _ {K A : Type 0} (R : K → K → Ordering) (t : IsTotalOrder R) (exact :
       let parts = s (rises xs q h) in
       none_there xs q (λ k d l. ap is_eq (t.antisymm q (key (get_or xs k d))) ∙ turned_apart _ (elim (order k i) [ inl e ↦ inl (parts.0 k d (omega arith) e) | inr e ↦ inr (parts.1 k d e l) ]))
 
+  pub found_at : (xs : List A) (q : K) (r : Result ℕ ℕ) → IsRising R key xs → MatchResult r (λ i. i < length xs) (λ i. i ≤ length xs) → IsBinarySearchResult (λ y. R (key y) q) xs r
+      → MatchResult r (λ i. (i < length xs) × (slice_get xs i ≡ item_of R key xs q)) (λ i. item_of R key xs q ≡ None)
+  found_at xs q (Ok i) h b s = (b, searched xs q (Ok i) h b s)
+  found_at xs q (Err i) h b s = searched xs q (Err i) h b s
+
   none_so : (xs : List A) (q : K) → ((k : ℕ) (d : A) → k < length xs → is_eq (R (key (get_or xs k d)) q) ≡ false) → list_any (λ y. is_eq (R (key y) q)) xs ≡ false
   none_so [] q h = refl
   none_so (y ∷ ys) q h = ap (λ b. b || list_any (λ z. is_eq (R (key z) q)) ys) (h 0 y (omega arith)) ∙ none_so ys q (λ k d l. h (suc k) d (omega (arith, l)))

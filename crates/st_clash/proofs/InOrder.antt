@@ -7,7 +7,7 @@ use Rattle.std.specs.FinMap.Entries.{below_all}
 use Rattle.std.specs.Ordering.{is_lt}
 use Rattle.std.specs.Prelude.{IsTrue}
 use Rattle.st_ids.specs.Listing.{IsRising, key_pairs}
-use Rattle.st_agree.proofs.Looking.{order}
+use Rattle.st_clash.proofs.Looking.{order}
 use Rattle.st_clash.proofs.Finding.{there}
 use Rattle.st_lemmas.proofs.Bools.{and-both, and-second, and-first, true-false}
 

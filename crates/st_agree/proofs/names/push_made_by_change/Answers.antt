@@ -1,0 +1,10 @@
+use Rattle.std.proofs.Common.{◌≡◌, arith, length}
+use Rattle.std.proofs.lemmas.Bool.Decides.{nat_tests}
+use Rattle.st_agree.specs.inside.Names.{nodes_of_step}
+use Rattle.st_agree.proofs.Naming.{none_made}
+use Rattle.st_agree.proofs.names.push_made_by_change.Goals as goal
+
+pub returns-then-is_empty : goal.returns-then-is_empty
+returns-then-is_empty c =
+    let none : length c.args.change.now.new ≡ 0 = grind (arith, nat_tests, c.is_empty.ensures, c.if-is_empty.true) in
+    none_made c.args.change.now.new none c.args.found.now (nodes_of_step c.args.step.now)

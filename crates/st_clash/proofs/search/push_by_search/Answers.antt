@@ -1,0 +1,16 @@
+use Rattle.std.proofs.Common.{None, get_or, refl}
+use Rattle.st_ids.specs.Listing.{item_of}
+use Rattle.st_ids.specs.Order.{cell_cmp}
+use Rattle.st_clash.specs.declared.seen.Seen.{Seen}
+use Rattle.st_clash.specs.inside.Seen.{apart_cell}
+use Rattle.st_clash.proofs.Finding.{flat_more}
+use Rattle.st_clash.proofs.search.push_by_search.Goals as goal
+
+blank : Seen
+blank = record { cell = record { 0 = record { rev = record { session = 0; num = 0 }; at = 0 } }; row = record { 0 = record { rev = record { session = 0; num = 0 }; at = 0 } }; place = 0; owner = None }
+
+pub loop-seen-preserved : goal.loop-seen-preserved
+unfolding blank
+loop-seen-preserved c =
+    flat_more (apart_cell (item_of cell_cmp (λ (s : Seen). s.cell) c.args.others.now)) c.args.bad.now c.loop-seen.bad c.push_near.new.bad c.args.list.now c.loop-seen.seen-index
+    blank (get_or c.args.list.now c.loop-seen.seen-index blank) c.loop-seen-test.true refl c.loop-seen.invariant c.in_ok-near.ensures
