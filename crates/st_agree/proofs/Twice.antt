@@ -3,11 +3,14 @@ use Rattle.std.proofs.Common.{◌≡◌, ◌≢◌, ◌<◌, ◌≤◌, ◌+◌,
 use Rattle.std.specs.Ordering.{is_eq}
 use Rattle.std.proofs.lemmas.List.{append-nil, take_all}
 use Rattle.std.specs.Option.{option_map}
-use Rattle.st_ids.specs.Listing.{Has}
+use Rattle.std.specs.List.{flat_map}
+use Rattle.std.specs.Prelude.{OnOk, Result, Ok, Err}
+use Rattle.st_ids.specs.Listing.{Has, IsRising, item_of}
+use Rattle.st_ids.proofs.Listings.{has-item_of, item_of-has}
 use Rattle.st_ids.specs.Order.{node_cmp, same_cell, same_node}
 use Rattle.st_ids.specs.declared.names.FieldId.{FieldId}
 use Rattle.st_ids.specs.declared.names.NodeId.{NodeId}
-use Rattle.st_ids.proofs.Orders.{is_eq_equal, node_cmp_exact, same_cell-itself, same_cell-true, same_field-itself, same_field-true, same_node-itself, same_node-true}
+use Rattle.st_ids.proofs.Orders.{is_eq_equal, node_cmp_exact, node_cmp_total, same_cell-itself, same_cell-true, same_field-itself, same_field-true, same_node-itself, same_node-true}
 use Rattle.st_lemmas.proofs.FirstItems.{take_one}
 use Rattle.st_lemmas.proofs.Bools.{and-both, and-true, true-false}
 use Rattle.st_marks.specs.declared.places.Spot.{Spot}
@@ -83,6 +86,33 @@ pub none_twice : (old : List FieldId) (ps qs : List Placed) (at : NodeId → Opt
 none_twice old [] qs at e = sym (append-nil old)
 none_twice old (p ∷ ps) qs at e = cc
 
+-- ## A list that rises by name
+
+get-has : {A : Type 0} (xs : List A) (i : ℕ) (x : A) → slice_get xs i ≡ Some x → Has xs x
+get-has [] i x e = cc
+get-has (y ∷ ys) zero x e = inl (let q : y ≡ x = cc in q)
+get-has (y ∷ ys) (suc i) x e = inr (get-has ys i x e)
+
+-- what a table tells of a node, the list has at its name
+told_by_name : (ps : List Placed) (at : NodeId → Option ℕ) → IsTable ps at → IsRising node_cmp (λ (p : Placed). p.node) ps → (n : NodeId) → item_of node_cmp (λ (p : Placed). p.node) ps n ≡ placed_at ps (at n)
+told_by_name ps at table rise n = go (at n) (table n) (item_of node_cmp (λ (p : Placed). p.node) ps n) refl
+  where
+    go : (o : Option ℕ) → MatchOption o ((p : Placed) → Has ps p → p.node ≢ n) (λ i. (p : Placed) × (slice_get ps i ≡ Some p) × (p.node ≡ n))
+        → (r : Option Placed) → item_of node_cmp (λ (p : Placed). p.node) ps n ≡ r → item_of node_cmp (λ (p : Placed). p.node) ps n ≡ placed_at ps o
+    go None t None e = e
+    go None t (Some p) e = let h = item_of-has node_cmp node_cmp_total node_cmp_exact (λ (p : Placed). p.node) ps n p e in absurd (t p h.0 h.1)
+    go (Some i) t r e =
+        ap (item_of node_cmp (λ (p : Placed). p.node) ps) (sym t.2)
+        ∙ has-item_of node_cmp node_cmp_total node_cmp_exact (λ (p : Placed). p.node) ps t.0 rise (get-has ps i t.0 t.1) ∙ sym t.1
+
+pub found_by_name : {E : Type 0} (old now : List FieldId) (ps qs : List Placed) → IsRising node_cmp (λ (p : Placed). p.node) qs → (result : Result (Unit {0}) E)
+    → OnOk result (now ≡ old ++ flat_map (λ (p : Placed). apart_fields p (item_of node_cmp (λ (q : Placed). q.node) qs p.node)) ps)
+    → OnOk result ((at : NodeId → Option ℕ) × IsTable qs at × (now ≡ old ++ found_twice ps qs at))
+found_by_name old now ps qs rise (Ok v) h =
+    let same : (n : NodeId) → item_of node_cmp (λ (q : Placed). q.node) qs n ≡ placed_at qs (first_of qs n) = told_by_name qs (first_of qs) (first_told qs) rise in
+    (first_of qs, first_told qs, h ∙ (λ i. old ++ flat_map (λ (p : Placed). apart_fields p (same p.node i)) ps))
+found_by_name old now ps qs rise (Err e) h = h
+
 -- ## Places
 
 spot-itself : (a : Spot) → same_spot a a ≡ true
@@ -109,11 +139,6 @@ field_told : (s : Spot) (f : FieldId) → Has (fields_of s) f ↔ (field_of s �
 field_told Spot.Nowhere f = (λ h. absurd h, λ e. cc)
 field_told (Spot.Row n c) f = (λ h. elim h [ inl e ↦ ap (λ z. Some z) e | inr w ↦ absurd w ], λ e. inl (let q : row_field n ≡ f = cc in q))
 field_told (Spot.Register g) f = (λ h. elim h [ inl e ↦ ap (λ z. Some z) e | inr w ↦ absurd w ], λ e. inl (let q : g ≡ f = cc in q))
-
-get-has : {A : Type 0} (xs : List A) (i : ℕ) (x : A) → slice_get xs i ≡ Some x → Has xs x
-get-has [] i x e = cc
-get-has (y ∷ ys) zero x e = inl (let q : y ≡ x = cc in q)
-get-has (y ∷ ys) (suc i) x e = inr (get-has ys i x e)
 
 module _ (L M : Listing) (ps qs : List Placed) (at : NodeId → Option ℕ) (mine : (p : Placed) → Has ps p ↔ Places L p.node p.spot) (theirs : (p : Placed) → Has qs p ↔ Places M p.node p.spot) (table : IsTable qs at) where
   apart : (p q : Placed) (b : Bool) → same_spot p.spot q.spot ≡ b → (f : FieldId) → Has (apart_fields p (Some q)) f → (p.spot ≢ q.spot) × ((field_of p.spot ≡ Some f) ⊎ (field_of q.spot ≡ Some f))

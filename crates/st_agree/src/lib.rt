@@ -9,6 +9,7 @@ mod places;
 mod registers;
 mod rising;
 mod rows;
+mod search;
 
 pub use agreement::{FieldApart, agree};
 pub use look::{register_at, row_at};

@@ -24,17 +24,18 @@ ghost use Rattle.st_agree.specs.inside.Places.{
   same_spot,
 };
 
+use crate::search::{nodes_rise, push_by_search};
 use st_clash::{push_if_some, row_field};
 use st_ids::{Copied, FieldId, List, NodeId, is_same_cell, is_same_field, is_same_node};
 use st_marks::{Change, Loose, Mark, RegMark, RegStep, RowMarks, Spot, Step};
 use std::alloc::{AllocError, Global};
 use std::collections::BTreeMap;
 
-// A node and where it stands.
+/// A node and where it stands.
 #[derive(Drop)]
-struct Placed {
-    node: NodeId,
-    spot: Spot,
+pub struct Placed {
+    pub node: NodeId,
+    pub spot: Spot,
 }
 
 // The node that a mark shows in its cell, if any.
@@ -226,8 +227,8 @@ fn other_of<'a>(
     }
 }
 
-// Adds the fields of two places of a node, if they differ.
-fn push_both(
+/// Adds the fields of two places of a node, if they differ.
+pub fn push_both(
     alloc: Global,
     found: &mut List<FieldId>,
     placed: &Placed,
@@ -275,6 +276,22 @@ fn push_all(
     Ok(())
 }
 
+// Adds the fields of the nodes that others place elsewhere: by a search where these rise by name, else by a table.
+fn push_elsewhere(
+    alloc: Global,
+    found: &mut List<FieldId>,
+    list: &[Placed],
+    others: &[Placed],
+) -> Result<(), AllocError>
+    ensures { OnOk result ((at : Node → Option ℕ) × IsTable others.now at × (found.new ≡ found.old ++ found_twice list.now others.now at)) }
+{
+    if nodes_rise(others) {
+        return push_by_search(alloc, found, list, others);
+    }
+    let table = table_of(alloc, others)?;
+    push_all(alloc, found, &table, others, list)
+}
+
 // Adds the fields of the nodes that a step places elsewhere.
 fn push_placed(
     alloc: Global,
@@ -286,8 +303,7 @@ fn push_placed(
         × (found.new ≡ found.old ++ found_twice list.now (placements_of_step step.now) at)) }
 {
     let others = placements_of_step(alloc, step)?;
-    let table = table_of(alloc, others.as_slice())?;
-    push_all(alloc, found, &table, others.as_slice(), list)
+    push_elsewhere(alloc, found, list, others.as_slice())
 }
 
 /// Adds the fields of the nodes that stand elsewhere by the step than by the change.

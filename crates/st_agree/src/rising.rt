@@ -13,8 +13,8 @@ use st_clash::are_in_order;
 use st_ids::NodeId;
 use st_marks::{Change, NewNode, RegMark, RegStep, RowMarks, Step};
 
-// Whether one node is less than another.
-fn nodes_are_in_order(a: NodeId, b: NodeId) -> bool
+/// Whether one node is less than another.
+pub fn nodes_are_in_order(a: NodeId, b: NodeId) -> bool
     ensures { result ≡ is_lt (node_cmp a b) }
 {
     a.cmp(&b).is_lt()

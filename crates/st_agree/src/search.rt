@@ -1,0 +1,79 @@
+//! Nodes that are placed, looked for in a list where they rise by name.
+ghost use Rattle.std.specs.Prelude.{◌≡◌, ◌↔◌, ◌++◌, ◌<◌, true, length, slice_get, None, MatchResult, OnOk};
+ghost use Rattle.std.specs.List.{flat_map};
+ghost use Rattle.std.specs.Ordering.{is_lt};
+ghost use Rattle.st_ids.specs.Listing.{IsRising, item_of};
+ghost use Rattle.st_ids.specs.Order.{node_cmp};
+ghost use Rattle.st_agree.specs.declared.places.Placed.{Placed as Place};
+ghost use Rattle.st_agree.specs.inside.Places.{apart_fields};
+
+use crate::places::{Placed, push_both};
+use crate::rising::nodes_are_in_order;
+use st_ids::{FieldId, List, NodeId, is_same_node};
+use std::alloc::{AllocError, Global};
+
+/// Whether the nodes of a list rise by name.
+pub fn nodes_rise(list: &[Placed]) -> bool
+    ensures { (result ≡ true) ↔ IsRising node_cmp (λ (p : Place). p.node) list.now }
+{
+    let mut at = 1;
+    while at < list.len() {
+        if !nodes_are_in_order(list[at - 1].node, list[at].node) {
+            return false;
+        }
+        at += 1;
+    }
+    true
+}
+
+// The place of a node in a list that rises by name, which is looked for at one place first.
+fn place_of(list: &[Placed], near: usize, node: NodeId) -> Result<usize, usize>
+    requires { IsRising node_cmp (λ (p : Place). p.node) list.now }
+    ensures { MatchResult result
+        (λ i. (i < length list.now) × (slice_get list.now i ≡ item_of node_cmp (λ (p : Place). p.node) list.now node))
+        (λ i. item_of node_cmp (λ (p : Place). p.node) list.now node ≡ None) }
+{
+    if near < list.len() && is_same_node(list[near].node, node) {
+        return Ok(near);
+    }
+    list.binary_search_by_key(&node, |placed| placed.node)
+}
+
+// Adds the fields of a node that others place elsewhere, which is looked for at one place first; answers where the next may be.
+fn push_near(
+    alloc: Global,
+    found: &mut List<FieldId>,
+    others: &[Placed],
+    near: usize,
+    placed: &Placed,
+) -> Result<usize, AllocError>
+    requires { IsRising node_cmp (λ (p : Place). p.node) others.now }
+    ensures { OnOk result (found.new ≡ found.old
+        ++ apart_fields placed.now (item_of node_cmp (λ (p : Place). p.node) others.now placed.now.node)) }
+{
+    match place_of(others, near, placed.node) {
+        Err(at) => Ok(at),
+        Ok(at) => {
+            push_both(alloc, found, placed, &others[at])?;
+            Ok(at.wrapping_add(1))
+        }
+    }
+}
+
+/// Adds the fields of the nodes that others place elsewhere, where these rise by name. Linear where both come in one order.
+pub fn push_by_search(
+    alloc: Global,
+    found: &mut List<FieldId>,
+    list: &[Placed],
+    others: &[Placed],
+) -> Result<(), AllocError>
+    requires { IsRising node_cmp (λ (p : Place). p.node) others.now }
+    ensures { OnOk result (found.new ≡ found.old
+        ++ flat_map (λ (p : Place). apart_fields p (item_of node_cmp (λ (q : Place). q.node) others.now p.node)) list.now) }
+{
+    let mut near = 0;
+    for placed in list {
+        near = push_near(alloc, found, others, near, placed)?;
+    }
+    Ok(())
+}
