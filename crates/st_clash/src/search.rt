@@ -65,7 +65,8 @@ fn push_near(
     }
 }
 
-/// Adds the cells that others show elsewhere, where these rise by name. Linear where both come in one order.
+/// Adds the cells that others show elsewhere, where these rise by name. A cell that stands right behind the last one found costs
+/// one look, any other a search by halving.
 pub fn push_by_search(
     bad: &mut List<CellId>,
     list: &[Seen],
