@@ -59,7 +59,7 @@ fn step_by(alloc: Global, change: &Change, verdict: Verdict) -> Result<Step, All
 
 /// What a change does in the document where it stands: whether it is void, and the step from there to the document after it,
 /// which is the one where the change is carried out, or where it is void. Beside the verdict it takes O(n log n) for n marks
-/// and names, whatever a Skip counts.
+/// and names, whatever a Skip counts, where the new nodes rise by name, as those of each intent's change do.
 pub fn effect(alloc: Global, change: &Change) -> Result<Consequence, AllocError>
     requires { HasShortRowsListed change.now }
     ensures { (D : Document) (N : Intent) → IsSoundInForm D → Fits D N → HasShortRows (full D N)
