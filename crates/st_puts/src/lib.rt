@@ -12,4 +12,5 @@ mod spots;
 pub use climb::{mentioned_after, upwards};
 pub use names::named_before;
 pub use puts::puts_of;
+pub use sets::{add_one, new_names};
 pub use spots::{places_after, places_beside};

@@ -20,9 +20,10 @@ ghost use Rattle.st_trim.specs.inside.Told.{
   unless_in as unless_new,
 };
 
-use crate::sets::{add_one, new_names, unless_in};
+use crate::sets::unless_in;
 use st_ids::{NodeId, is_same_node};
 use st_marks::{How, Loose, Mark, RegStep, RowMarks, Step};
+use st_puts::{add_one, new_names};
 use std::alloc::{AllocError, Global};
 use std::collections::BTreeSet;
 
