@@ -1,20 +1,18 @@
 -- Sessions that join, and ranges that are finalised.
-use Rattle.std.proofs.Common.{◌≡◌, inl, inr, ◌<◌, ◌≤◌, ◌+◌, ◌-◌, ℕ, true, sym, ap, ◌∙◌, List, [], ◌∷◌, ◌++◌, length, map, set, Option, Some, None}
+use Rattle.std.proofs.Common.{◌≡◌, inl, inr, ◌<◌, ◌≤◌, ◌+◌, ◌-◌, ℕ, true, sym, ap, ◌∙◌, List, [], ◌∷◌, length, set, Some}
 use Rattle.std.proofs.lemmas.Bool.{cases_Bool}
 use Rattle.std.proofs.Math.Seq.{map-set_same}
 use Rattle.std.specs.Prelude.{Result, Ok, Err}
 use Rattle.std.specs.Result.{result_ok}
-use Rattle.st_clusters.specs.Free.{is_v4}
-use Rattle.st_clusters.specs.Table.{Ids, no_session, most_ids, session_of, is_next, raise_to, new_session, clash, join_unless, with_range, after_joining, after_finalising}
+use Rattle.st_clusters.specs.Table.{Ids, no_session, most_ids, session_of, is_next, raise_to, with_range, after_joining, after_finalising}
 use Rattle.st_ids.specs.Or.{and_then}
 use Rattle.st_clusters.specs.inside.Kept.{session_at}
 use Rattle.st_clusters.specs.declared.ids.IdFault.{IdFault}
-use Rattle.st_clusters.specs.declared.ids.IdFault.TheVariants.{Session, RangeOrder, NotV4}
+use Rattle.st_clusters.specs.declared.ids.IdFault.TheVariants.{Session, RangeOrder}
 use Rattle.st_clusters.specs.declared.ids.IdRange.{IdRange}
 use Rattle.st_clusters.specs.declared.ids.SessionIds.{SessionIds}
 use Rattle.st_clusters.proofs.Finalising.{next_parts}
 use Rattle.st_clusters.specs.Reached.{uuids_in}
-use Rattle.st_clusters.proofs.SessionsTouched.{with_joined}
 use Rattle.st_clusters.proofs.Stable.{cases_session, session_known}
 
 ids_same : (u v : Ids) → ◌≡◌ {A = Result Ids IdFault} (Ok u) (Ok v) → u ≡ v
