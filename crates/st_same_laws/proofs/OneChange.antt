@@ -42,10 +42,10 @@ filtered {A} {K} g (y ∷ xs) k h = go (g y) refl (filtered g xs k) h
         first (inl q) = (y, inl refl, e ∙ ap (λ (z : K). Some z) q)
         first (inr t) = let r = more t in (r.0, inr r.1, r.2)
 
-put_too : (N M : Intent) → IsIntent N → SaysTheSame N M → (p : Put) → Has N.put p → Has M.put p
+pub put_too : (N M : Intent) → IsIntent N → SaysTheSame N M → (p : Put) → Has N.put p → Has M.put p
 put_too N M w s p h = put-has M p.node p.to (sym (s.puts p.node) ∙ has-put N w p h)
 
-clear_too : (N M : Intent) → SaysTheSame N M → (f : FieldId) → Has N.clear f → clears N f ≡ true → Has M.clear f
+pub clear_too : (N M : Intent) → SaysTheSame N M → (f : FieldId) → Has N.clear f → clears N f ≡ true → Has M.clear f
 clear_too N M s f h e = clears-has M.clear f (sym (s.clear f) ∙ e)
 
 group_too : (N M : Intent) → IsIntent N → SaysTheSame N M → (g : Group) → Has N.groups g → (k : Group) × Has M.groups k × (k.node ≡ g.node)
