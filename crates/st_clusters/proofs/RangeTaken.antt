@@ -1,15 +1,13 @@
--- A table whose ranges are finalised in turn is the table of these ranges.
+-- What a range that is finalised changes: the clusters, and the session that it is of.
 use Rattle.std.proofs.Common.{◌≡◌, ◌≢◌, ◌⊎◌, inl, inr, ◌<◌, ◌+◌, ◌-◌, ℕ, true, false, List, [], ◌∷◌, ◌++◌, length, set, refl, sym, ap, ◌∙◌, arith, length-set, Some}
 use Rattle.std.proofs.lemmas.List.{get_or-set_same, get_or-set_other}
 use Rattle.std.proofs.lemmas.Bool.{cases_eq, cases_Bool}
 use Rattle.std.proofs.lemmas.Bool.Decides.{nat_tests}
 use Rattle.std.proofs.lemmas.Option.{slice_get-get_or}
 use Rattle.std.specs.Prelude.{Result, Ok, Err, ◌==◌}
-use Rattle.std.specs.List.{fold}
-use Rattle.st_clusters.specs.Table.{Ids, no_session, session_of, is_next, raise_to, with_range, table_of, after_finalising}
-use Rattle.st_clusters.specs.Log.{carried_count, GoOn, AreInTurn, after_log, IsFresh}
+use Rattle.st_clusters.specs.Table.{Ids, no_session, session_of, is_next, raise_to, with_range, after_finalising}
+use Rattle.st_clusters.specs.Log.{carried_count}
 use Rattle.st_clusters.specs.inside.Kept.{session_at}
-use Rattle.st_clusters.specs.declared.ids.Cluster.{Cluster}
 use Rattle.st_clusters.specs.declared.ids.IdFault.{IdFault}
 use Rattle.st_clusters.specs.declared.ids.IdFault.TheVariants.{Session, RangeOrder}
 use Rattle.st_clusters.specs.declared.ids.IdRange.{IdRange}
@@ -35,7 +33,7 @@ taken_next r t u x known test e =
     let same : record { sessions = set t.sessions (r.session - 1) (raise_to x (x.finalised + r.count)); clusters = with_range r t.clusters } ≡ u = ids_same (record { sessions = set t.sessions (r.session - 1) (raise_to x (x.finalised + r.count)); clusters = with_range r t.clusters }) u made in
     record { ids = x; known = known; next = (next_parts r x test).0; clusters = sym (ap (λ (v : Ids). v.clusters) same); sessions = sym (ap (λ (v : Ids). v.sessions) same) }
 
-was_taken : (r : IdRange) (t u : Ids) → after_finalising r t ≡ Ok u → WasTaken r t u
+pub was_taken : (r : IdRange) (t u : Ids) → after_finalising r t ≡ Ok u → WasTaken r t u
 was_taken r t u e = elim (cases_session (session_of t.sessions r.session)) [
   | inl n ↦ let none : ◌≡◌ {A = Result Ids IdFault} (Err Session) (Ok u) = rw n at e in absurd (cc none)
   | inr h ↦ elim (cases_Bool (is_next r h.0)) [
@@ -45,16 +43,16 @@ was_taken r t u e = elim (cases_session (session_of t.sessions r.session)) [
 ]
 
 -- the sessions have finalised what some ranges carry
-abbrev HaveCarried : List IdRange → List SessionIds → Type 0
+abbrev pub HaveCarried : List IdRange → List SessionIds → Type 0
 HaveCarried before ss = (s : ℕ) (x : SessionIds) → session_of ss s ≡ Some x → x.finalised ≡ carried_count s before
 
-known_session : (ss : List SessionIds) (s k : ℕ) → s ≡ k + 1 → k < length ss → session_of ss s ≡ Some (session_at ss k)
+pub known_session : (ss : List SessionIds) (s k : ℕ) → s ≡ k + 1 → k < length ss → session_of ss s ≡ Some (session_at ss k)
 known_session ss s k number within =
     let back : s - 1 ≡ k = omega (arith, number) in
     let test : (s == 0) ≡ false = grind (arith, nat_tests, number) in
     rw (test, back) (slice_get-get_or ss k no_session within)
 
-carried_on : (before : List IdRange) (r : IdRange) (t u : Ids) → HaveCarried before t.sessions → WasTaken r t u → HaveCarried (before ++ r ∷ []) u.sessions
+pub carried_on : (before : List IdRange) (r : IdRange) (t u : Ids) → HaveCarried before t.sessions → WasTaken r t u → HaveCarried (before ++ r ∷ []) u.sessions
 carried_on before r t u have took s x e =
     let y : SessionIds = raise_to took.ids (took.ids.finalised + r.count) in
     let in_set : session_of (set t.sessions (r.session - 1) (raise_to took.ids (took.ids.finalised + r.count))) s ≡ Some x = rw took.sessions at e in
@@ -84,21 +82,3 @@ carried_on before r t u have took s x e =
 pub cases_result : (o : Result Ids IdFault) → ((v : Ids) × (o ≡ Ok v)) ⊎ ((f : IdFault) × (o ≡ Err f))
 cases_result (Ok v) = inl (v, refl)
 cases_result (Err f) = inr (f, refl)
-
-runs : (rs before : List IdRange) (t u : Ids) → HaveCarried before t.sessions → after_log rs t ≡ Ok u → GoOn before rs × (u.clusters ≡ fold (λ cs r. with_range r cs) t.clusters rs)
-runs [] before t u have e = (tt, ap (λ (v : Ids). v.clusters) (sym (ids_same t u e)))
-runs (r ∷ rs) before t u have e = elim (cases_result (after_finalising r t)) [
-  | inr f ↦ let none : ◌≡◌ {A = Result Ids IdFault} (Err f.0) (Ok u) = rw f.1 at e in absurd (cc none)
-  | inl v ↦
-      let took : WasTaken r t v.0 = was_taken r t v.0 v.1 in
-      let rest : after_log rs v.0 ≡ Ok u = rw v.1 at e in
-      let later : GoOn (before ++ r ∷ []) rs × (u.clusters ≡ fold (λ cs q. with_range q cs) v.0.clusters rs) = runs rs (before ++ r ∷ []) v.0 u (carried_on before r t v.0 have took) rest in
-      let of_r = session_known t.sessions r.session took.ids took.known in
-      let next : r.first ≡ carried_count r.session before + 1 = took.next ∙ ap (λ (n : ℕ). n + 1) (have r.session took.ids took.known) in
-      ((omega (arith, of_r.0), next, later.0), later.1 ∙ ap (λ (cs : List Cluster). fold (λ ds q. with_range q ds) cs rs) took.clusters)
-]
-
-pub law_runs : (rs : List IdRange) (t u : Ids) → IsFresh t → after_log rs t ≡ Ok u → AreInTurn rs × (u.clusters ≡ table_of rs)
-law_runs rs t u fresh e =
-    let run : GoOn [] rs × (u.clusters ≡ fold (λ cs r. with_range r cs) t.clusters rs) = runs rs [] t u fresh.1 e in
-    (run.0, run.1 ∙ ap (λ (cs : List Cluster). fold (λ ds r. with_range r ds) cs rs) fresh.0)
