@@ -5,8 +5,8 @@ use Rattle.st_marks.specs.declared.places.Slot.{Slot}
 use Rattle.st_marks.specs.Extends.{GainsItems, no_more, item_gained, item_kept}
 use Rattle.st_marks.specs.Row.{SameCell}
 use Rattle.st_marks.proofs.Members.{all-has}
-use Rattle.st_seq.proofs.KindLaws.{has_grown, not_again}
-use Rattle.st_seq.specs.Sequence.{cells_of}
+use Rattle.st_rows.proofs.KindLaws.{has_grown, not_again}
+use Rattle.st_rows.specs.Sequence.{cells_of}
 
 -- what holds of each cell that is gained
 abbrev pub AllGained : (Slot → Type 0) → {c d : List Slot} → GainsItems SameCell c d → Type 0

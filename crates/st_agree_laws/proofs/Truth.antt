@@ -25,8 +25,8 @@ use Rattle.st_marks.specs.Step.{IsStep, step_loose}
 use Rattle.st_marks.proofs.Climb.{stands}
 use Rattle.st_marks.proofs.Members.{all-has, any-has, has-map}
 use Rattle.st_ids.proofs.Listings.{has-item_of}
-use Rattle.st_seq.proofs.KindLaws.{spread-merge}
-use Rattle.st_seq.proofs.Described.{DescribeAll, Describes, IfTold, change_finds, step_finds}
+use Rattle.st_rows.proofs.KindLaws.{spread-merge}
+use Rattle.st_rows.proofs.ViewsOfRows.{DescribeAll, Describes, IfTold, change_finds, step_finds}
 use Rattle.st_marks.proofs.Unique.{distinct_content}
 
 -- each row, register and node that is shown is as it is shown

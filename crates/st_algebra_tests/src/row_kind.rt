@@ -5,7 +5,7 @@ use crate::rows::{are_short, is_short};
 use st_ids::{Atom, CellId, Copied, List, NodeId, Or, Rev};
 use st_kind::{Apart, FieldKind, Sides, rebase_over_both};
 use st_marks::{How, Mark, Slot};
-use st_seq::{
+use st_rows::{
     RowChange, RowHeld, RowStep, Sequence, rows_are_joined, rows_are_listed, rows_are_of_documents,
     rows_hold,
 };

@@ -14,10 +14,10 @@ use Rattle.st_register.specs.Register.{RegCanHold, RegFits, RegLeadsOver, RegPar
 use Rattle.st_register.specs.declared.values.RegChange.{RegChange}
 use Rattle.st_register.specs.declared.values.RegHeld.{RegHeld}
 use Rattle.st_register.specs.declared.values.RegSwap.{RegSwap}
-use Rattle.st_seq.specs.Changes.{AreOld, IsRowChange, carried_row, placed_by, void_part}
-use Rattle.st_seq.specs.Rows.{IsRowStep}
-use Rattle.st_seq.specs.Sequence.{RowFits, SeqPart, row_change_of}
-use Rattle.st_seq.proofs.Fitting.{change_is, old_placed}
+use Rattle.st_rows.specs.Changes.{AreOld, IsRowChange, carried_row, placed_by, void_part}
+use Rattle.st_rows.specs.Rows.{IsRowStep}
+use Rattle.st_rows.specs.Sequence.{RowFits, SeqPart, row_change_of}
+use Rattle.st_rows.proofs.PartsThatFit.{change_is, old_placed}
 use Rattle.st_effect.specs.inside.Done.{IsRegisterDone, IsRowDone}
 
 -- ## Rows

@@ -22,8 +22,8 @@ use Rattle.st_register.specs.Register.{RegCanHold, RegFits, RegPart, only_made, 
 use Rattle.st_register.specs.declared.values.RegHeld.{RegHeld}
 use Rattle.st_register.proofs.Documents.{part_fits}
 use Rattle.st_register.proofs.Existence.{has_change}
-use Rattle.st_seq.specs.Sequence.{ListsNew}
-use Rattle.st_seq.proofs.Documents.{part_fits as row_fits}
+use Rattle.st_rows.specs.Sequence.{ListsNew}
+use Rattle.st_rows.proofs.Documents.{part_fits as row_fits}
 use Rattle.st_trim.specs.Evicted.{in_cleared}
 use Rattle.st_effect.specs.inside.Done.{AreRegistersDone, IsRegisterDone}
 use Rattle.st_effect.proofs.Matching.{matched}

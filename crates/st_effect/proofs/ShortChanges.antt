@@ -13,7 +13,7 @@ use Rattle.st_marks.specs.Row.{CellMark, embed_row, merge, spread}
 use Rattle.st_marks.specs.declared.changes.Change.{Change}
 use Rattle.st_marks.specs.declared.intents.Intent.{Intent}
 use Rattle.st_marks.specs.declared.marks.RowMarks.{RowMarks}
-use Rattle.st_seq.proofs.KindLaws.{spread-merge}
+use Rattle.st_rows.proofs.KindLaws.{spread-merge}
 use Rattle.st_moves.proofs.ListedAfter.{row_listed}
 use Rattle.st_effect.specs.Short.{HasShortRowsListed}
 use Rattle.st_effect.proofs.Shown.{shown-Some}

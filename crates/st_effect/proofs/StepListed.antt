@@ -31,9 +31,9 @@ use Rattle.st_marks.proofs.OneVerdict.{carried_extends}
 use Rattle.st_marks.proofs.Shared.{not_made}
 use Rattle.st_register.specs.Register.{reg_carried, reg_part_of}
 use Rattle.st_register.proofs.Documents.{void_is as register_void, whole_is as register_whole}
-use Rattle.st_seq.specs.Sequence.{ListsNew, row_carried, row_part_of}
-use Rattle.st_seq.proofs.DocumentsAfter.{void_is as row_void, whole_is as row_whole}
-use Rattle.st_seq.proofs.Existence.{contents_grow, lists_new}
+use Rattle.st_rows.specs.Sequence.{ListsNew, row_carried, row_part_of}
+use Rattle.st_rows.proofs.DocumentsAfter.{void_is as row_void, whole_is as row_whole}
+use Rattle.st_rows.proofs.Existence.{contents_grow, lists_new}
 use Rattle.st_trim.specs.Covers.{CoversStep}
 use Rattle.st_trim.specs.Evicted.{in_cleared}
 use Rattle.st_trim.specs.Trimmed.{ListsStep}

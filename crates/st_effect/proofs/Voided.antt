@@ -22,10 +22,10 @@ use Rattle.st_marks.specs.Step.{IsChanged}
 use Rattle.st_marks.proofs.Shared.{not_made}
 use Rattle.st_register.specs.Register.{only_made}
 use Rattle.st_register.proofs.Documents.{void_is as register_void}
-use Rattle.st_seq.specs.Sequence.{ListsNew, row_part_of}
-use Rattle.st_seq.proofs.Documents.{part_fits}
-use Rattle.st_seq.proofs.DocumentsAfter.{void_is as row_void}
-use Rattle.st_seq.proofs.Existence.{lists_new}
+use Rattle.st_rows.specs.Sequence.{ListsNew, row_part_of}
+use Rattle.st_rows.proofs.Documents.{part_fits}
+use Rattle.st_rows.proofs.DocumentsAfter.{void_is as row_void}
+use Rattle.st_rows.proofs.Existence.{lists_new}
 use Rattle.st_trim.specs.Covers.{CoversStep}
 use Rattle.st_trim.specs.Evicted.{in_cleared}
 use Rattle.st_trim.proofs.Effects.{effect_covers, telling_mentioned}

@@ -19,8 +19,8 @@ use Rattle.st_marks.specs.Listings.{nodes_new}
 use Rattle.st_marks.specs.Row.{embed_row}
 use Rattle.st_marks.specs.Step.{IsStep}
 use Rattle.st_marks.specs.Verdict.{IsBaseInEffect}
-use Rattle.st_seq.specs.Sequence.{ListsNew}
-use Rattle.st_seq.proofs.Existence.{lists_new}
+use Rattle.st_rows.specs.Sequence.{ListsNew}
+use Rattle.st_rows.proofs.Existence.{lists_new}
 use Rattle.st_puts.specs.Mentions.{AreMentions}
 use Rattle.st_moves.specs.Between.{between}
 use Rattle.st_moves.specs.Changes.{IsChangeBetween}

@@ -20,7 +20,7 @@ use Rattle.st_marks.specs.Intent.{Fits, new_node}
 use Rattle.st_marks.specs.Register.{embed_register}
 use Rattle.st_marks.specs.Row.{embed_row}
 use Rattle.st_marks.specs.Step.{IsStep}
-use Rattle.st_seq.specs.Sequence.{ListsNew}
+use Rattle.st_rows.specs.Sequence.{ListsNew}
 use Rattle.st_moves.specs.Between.{between}
 use Rattle.st_moves.proofs.BetweenSound.{mentions_between, mentions_closed}
 use Rattle.st_family.specs.Changes.{IsRebasedFrom}

@@ -25,7 +25,7 @@ use Rattle.st_register.specs.Readings.{as_mark}
 use Rattle.st_register.specs.declared.values.RegHeld.{RegHeld}
 use Rattle.st_marks.proofs.Shared.{not_made}
 use Rattle.st_register.proofs.Documents.{part_fits}
-use Rattle.st_seq.specs.Sequence.{ListsNew}
+use Rattle.st_rows.specs.Sequence.{ListsNew}
 use Rattle.st_moves.specs.Between.{between, only_others}
 use Rattle.st_moves.specs.Carried.{held_between}
 use Rattle.st_moves.proofs.BetweenSound.{between_sound, fits_between, mentions_closed}

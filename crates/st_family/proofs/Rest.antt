@@ -10,7 +10,7 @@ use Rattle.st_marks.specs.declared.places.Slot.{Slot}
 use Rattle.st_marks.specs.Embedding.{tells}
 use Rattle.st_marks.specs.Extends.{GainsItems, no_more, item_gained, item_kept}
 use Rattle.st_marks.specs.Row.{CellMark, Counted, Gap, Touch, Make, Fill, RowPart, SameCell, step_cell, step_row, embed_cell, embed_made, embed_cells, embed_row}
-use Rattle.st_seq.specs.Rows.{NamesMoved}
+use Rattle.st_rows.specs.Rows.{NamesMoved}
 use Rattle.st_moves.specs.Carried.{row_between}
 use Rattle.st_family.specs.Rest.{rest_mark, rest_row}
 

@@ -5,9 +5,9 @@ use Rattle.st_kind.specs.Named.{Nodes}
 use Rattle.st_marks.specs.declared.marks.How.TheVariants.{Stay, Here, Leave}
 use Rattle.st_marks.specs.declared.marks.Mark.{Mark}
 use Rattle.st_marks.specs.Row.{CellMark, Counted, Gap, Touch, Fill, spread, counted_cells, merge}
-use Rattle.st_seq.specs.inside.NormalForm.{begins_with_skip}
-use Rattle.st_seq.specs.Merged.{IsMerged, is_skip}
-use Rattle.st_seq.proofs.Merging.{AllStand, Stands, merged-stands, stands-merge}
+use Rattle.st_rows.specs.Merged.{begins_with_skip}
+use Rattle.st_rows.specs.Merged.{IsMerged, is_skip}
+use Rattle.st_rows.proofs.MergedMarks.{AllStand, Stands, merged-stands, stands-merge}
 use Rattle.st_family.specs.Rest.{rest_row}
 use Rattle.st_family.specs.inside.Marks.{rest_of}
 

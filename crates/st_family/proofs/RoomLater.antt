@@ -22,10 +22,10 @@ use Rattle.st_marks.specs.Intent.{Fits, group_at}
 use Rattle.st_marks.specs.Listings.{cells_before, cells_made, marks_of}
 use Rattle.st_marks.specs.Row.{CellMark, Counted, Gap, Touch, Make, Fill, RowPart, SameCell, embed_cell, embed_cells, embed_made, embed_row, how, merge, spread, step_row}
 use Rattle.st_marks.specs.Step.{IsStep}
-use Rattle.st_seq.specs.Changes.{may_list}
-use Rattle.st_seq.specs.Sequence.{ListsNew, RowFits, cells_of, row_part_of}
-use Rattle.st_seq.proofs.Documents.{part_fits}
-use Rattle.st_seq.proofs.KindLaws.{spread-merge}
+use Rattle.st_rows.specs.Changes.{may_list}
+use Rattle.st_rows.specs.Sequence.{ListsNew, RowFits, cells_of, row_part_of}
+use Rattle.st_rows.proofs.Documents.{part_fits}
+use Rattle.st_rows.proofs.KindLaws.{spread-merge}
 use Rattle.st_agree_laws.proofs.Gained.{AllGained, gained_new, weaker}
 use Rattle.st_moves.specs.Between.{between}
 use Rattle.st_moves.specs.Carried.{row_between}

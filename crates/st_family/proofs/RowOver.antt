@@ -8,12 +8,12 @@ use Rattle.st_marks.specs.declared.marks.Mark.{Mark}
 use Rattle.st_marks.specs.declared.marks.RowMarks.{RowMarks}
 use Rattle.st_marks.specs.declared.places.Slot.{Slot}
 use Rattle.st_marks.specs.Row.{RowPart, embed_row, merge, spread}
-use Rattle.st_seq.specs.Changes.{IsRowChange, Keeps, may_list}
-use Rattle.st_seq.specs.Merged.{IsMerged}
-use Rattle.st_seq.specs.Rows.{IsRowStep}
-use Rattle.st_seq.specs.Sequence.{RowLeadsOver, row_change_of}
-use Rattle.st_seq.proofs.Fitting.{change_is, keeps_is}
-use Rattle.st_seq.proofs.KindLaws.{spread-merge}
+use Rattle.st_rows.specs.Changes.{IsRowChange, Keeps, may_list}
+use Rattle.st_rows.specs.Merged.{IsMerged}
+use Rattle.st_rows.specs.Rows.{IsRowStep}
+use Rattle.st_rows.specs.Sequence.{RowLeadsOver, row_change_of}
+use Rattle.st_rows.proofs.PartsThatFit.{change_is, keeps_is}
+use Rattle.st_rows.proofs.KindLaws.{spread-merge}
 use Rattle.st_family.specs.Exchanged.{AreExchanged}
 use Rattle.st_family.specs.Rest.{rest_row}
 use Rattle.st_family.specs.inside.Room.{IsRowOver}

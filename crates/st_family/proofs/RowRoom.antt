@@ -7,7 +7,7 @@ use Rattle.st_marks.specs.declared.marks.How.TheVariants.{Stay, Here, Leave}
 use Rattle.st_marks.specs.declared.marks.Mark.{Mark}
 use Rattle.st_marks.specs.Listings.{cells_before, cells_made}
 use Rattle.st_marks.specs.Row.{CellMark, Counted, Gap, Touch, Make, Fill, counted_cells, spread}
-use Rattle.st_seq.specs.Changes.{may_list}
+use Rattle.st_rows.specs.Changes.{may_list}
 use Rattle.st_family.specs.Rest.{rest_row}
 
 -- ## How many cells marks make

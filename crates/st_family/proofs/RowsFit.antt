@@ -16,9 +16,9 @@ use Rattle.st_marks.specs.Row.{SameCell, merge, step_row}
 use Rattle.st_marks.specs.Step.{IsStep}
 use Rattle.st_marks.proofs.Climb.{shown, stands}
 use Rattle.st_marks.proofs.Members.{has-map, map-has}
-use Rattle.st_seq.specs.Changes.{StandsIn}
-use Rattle.st_seq.specs.Sequence.{RowCanHold, RowFits, RowKeeps, RowLeadsOver, ListsNew, cells_of, row_part_of}
-use Rattle.st_seq.proofs.Documents.{part_fits}
+use Rattle.st_rows.specs.Changes.{StandsIn}
+use Rattle.st_rows.specs.Sequence.{RowCanHold, RowFits, RowKeeps, RowLeadsOver, ListsNew, cells_of, row_part_of}
+use Rattle.st_rows.proofs.Documents.{part_fits}
 use Rattle.st_moves.specs.Between.{between}
 use Rattle.st_moves.specs.Carried.{row_between}
 use Rattle.st_agree_laws.proofs.Gained.{AllGained, gained_new}

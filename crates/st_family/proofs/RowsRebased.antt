@@ -16,8 +16,8 @@ use Rattle.st_marks.specs.Extends.{IsExtendedBy}
 use Rattle.st_marks.specs.Intent.{Fits, is_new, put_of}
 use Rattle.st_marks.specs.Row.{embed_row, merge, spread, step_row}
 use Rattle.st_marks.specs.Step.{IsStep}
-use Rattle.st_seq.proofs.KindLaws.{spread-merge}
-use Rattle.st_seq.specs.Sequence.{ListsNew, RowLeadsOver, row_part_of}
+use Rattle.st_rows.proofs.KindLaws.{spread-merge}
+use Rattle.st_rows.specs.Sequence.{ListsNew, RowLeadsOver, row_part_of}
 use Rattle.st_moves.specs.Between.{between}
 use Rattle.st_moves.proofs.BetweenRows.{content_between}
 use Rattle.st_puts.specs.Mentions.{AreMentions}

@@ -11,7 +11,7 @@ use Rattle.st_ids.specs.declared.names.NodeId.{NodeId}
 use Rattle.st_marks.specs.declared.marks.RowMarks.{RowMarks}
 use Rattle.st_marks.specs.Listings.{marks_of}
 use Rattle.st_marks.specs.Row.{CellMark, spread}
-use Rattle.st_seq.specs.Changes.{may_list}
+use Rattle.st_rows.specs.Changes.{may_list}
 use Rattle.st_moves.specs.Room.{HasRoomAt}
 use Rattle.st_family.specs.inside.Room.{has_room_at}
 

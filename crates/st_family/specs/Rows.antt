@@ -7,7 +7,7 @@ use Rattle.st_marks.specs.declared.marks.RowMarks.{RowMarks}
 use Rattle.st_marks.specs.declared.places.Slot.{Slot}
 use Rattle.st_marks.specs.Embedding.{is_among}
 use Rattle.st_marks.specs.Row.{embed_row, merge, spread}
-use Rattle.st_seq.specs.Sequence.{SeqPart, RowFits, RowKeeps, RowLeadsOver}
+use Rattle.st_rows.specs.Sequence.{SeqPart, RowFits, RowKeeps, RowLeadsOver}
 use Rattle.st_family.specs.Rest.{rest_row}
 
 -- the part is one of the commit of this revision that makes these nodes, of a node's row

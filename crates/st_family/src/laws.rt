@@ -10,7 +10,7 @@ ghost use Rattle.st_marks.specs.Embedding.{IsEmbedding};
 ghost use Rattle.st_marks.specs.Extends.{IsExtendedBy};
 ghost use Rattle.st_marks.specs.Intent.{Fits};
 ghost use Rattle.st_marks.specs.Step.{IsStep};
-ghost use Rattle.st_seq.specs.Sequence.{ListsNew};
+ghost use Rattle.st_rows.specs.Sequence.{ListsNew};
 ghost use Rattle.st_moves.specs.Between.{between};
 ghost use Rattle.st_puts.specs.Mentions.{AreMentions};
 ghost use Rattle.st_moves.specs.Changes.{IsCarriedBy};

@@ -5,7 +5,7 @@ ghost use Rattle.st_ids.specs.Order.{node_cmp};
 ghost use Rattle.st_marks.specs.Row.{merge, spread};
 ghost use Rattle.st_marks.specs.declared.marks.How.TheVariants.{Leave};
 ghost use Rattle.st_marks.specs.declared.marks.Mark.{Mark as Step};
-ghost use Rattle.st_seq.specs.Merged.{IsMerged};
+ghost use Rattle.st_rows.specs.Merged.{IsMerged};
 ghost use Rattle.st_family.specs.Rest.{rest_row};
 ghost use Rattle.st_family.specs.inside.Marks.{rest_of};
 

@@ -9,8 +9,8 @@ ghost use Rattle.st_marks.specs.declared.marks.RowMarks.{RowMarks as Row};
 ghost use Rattle.st_marks.specs.declared.places.Slot.{Slot};
 ghost use Rattle.st_marks.specs.Listings.{cells_made};
 ghost use Rattle.st_marks.specs.Row.{RowPart, embed_row, merge, spread};
-ghost use Rattle.st_seq.specs.Changes.{IsRowChange, Keeps, may_list};
-ghost use Rattle.st_seq.specs.Rows.{IsRowStep};
+ghost use Rattle.st_rows.specs.Changes.{IsRowChange, Keeps, may_list};
+ghost use Rattle.st_rows.specs.Rows.{IsRowStep};
 ghost use Rattle.st_moves.specs.Index.{IsIndex};
 ghost use Rattle.st_family.specs.inside.Room.{AreRowsOver, IsRowOver};
 
@@ -18,7 +18,7 @@ use crate::row_rest::rest_marks;
 use st_ids::{Copied, List, NodeId};
 use st_marks::{Mark, RowMarks, before};
 use st_moves::{index_rows, row_in};
-use st_seq::rebase_agreed;
+use st_rows::rebase_agreed;
 use std::alloc::{AllocError, Global};
 use std::collections::{BTreeMap, BTreeSet};
 

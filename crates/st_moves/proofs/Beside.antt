@@ -9,8 +9,8 @@ use Rattle.st_ids.specs.Order.{same_cell}
 use Rattle.st_ids.proofs.Orders.{same_cell-itself}
 use Rattle.st_marks.specs.Listings.{CellView, cell_view, cells_before, cells_made, counted_view, empty_view}
 use Rattle.st_marks.specs.Row.{CellMark, Counted, Gap, Touch, Make, Fill, counted_cells, merge, spread}
-use Rattle.st_seq.specs.Changes.{may_list}
-use Rattle.st_seq.specs.Differences.{agree, first_difference}
+use Rattle.st_rows.specs.Changes.{may_list}
+use Rattle.st_rows.specs.Differences.{agree, first_difference}
 use Rattle.st_marks.proofs.MarkLengths.{spread-append}
 use Rattle.std.proofs.lemmas.Grind.{flat_map-append}
 use Rattle.st_lemmas.proofs.FirstItems.{take_one}

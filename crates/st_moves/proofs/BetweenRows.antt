@@ -15,7 +15,7 @@ use Rattle.st_marks.proofs.Climb.{is_cell-true}
 use Rattle.st_marks.proofs.Later.{has_later}
 use Rattle.st_marks.proofs.Members.{all-has, has-all, has-map, map-has}
 use Rattle.st_agree_laws.proofs.Gained.{AllGained, gained_new, weaker}
-use Rattle.st_seq.specs.Sequence.{cells_of}
+use Rattle.st_rows.specs.Sequence.{cells_of}
 use Rattle.st_moves.specs.Between.{between, unless_taken}
 use Rattle.st_moves.specs.Carried.{row_between}
 use Rattle.st_moves.proofs.BetweenSound.{place_named, place_other}

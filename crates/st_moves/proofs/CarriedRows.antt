@@ -17,7 +17,7 @@ use Rattle.st_marks.specs.Row.{SameCell, embed_row, step_row}
 use Rattle.st_marks.specs.Step.{IsStep}
 use Rattle.st_marks.proofs.Lookups.{group_at-group}
 use Rattle.st_marks.proofs.Members.{all-has, has-map}
-use Rattle.st_seq.specs.Sequence.{cells_of}
+use Rattle.st_rows.specs.Sequence.{cells_of}
 use Rattle.st_moves.specs.Between.{between}
 use Rattle.st_moves.specs.Carried.{carry_row, AreCovered}
 use Rattle.st_agree_laws.proofs.Gained.{AllGained, gained_new}

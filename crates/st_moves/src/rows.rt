@@ -11,7 +11,7 @@ ghost use Rattle.st_ids.specs.declared.names.NodeId.{NodeId as Node};
 ghost use Rattle.st_marks.specs.declared.marks.RowMarks.{RowMarks as Row};
 ghost use Rattle.st_marks.specs.Embedding.{tells as tells_cell};
 ghost use Rattle.st_marks.specs.Row.{spread};
-ghost use Rattle.st_seq.specs.Changes.{may_list};
+ghost use Rattle.st_rows.specs.Changes.{may_list};
 ghost use Rattle.st_moves.specs.Room.{HasRoomAt};
 ghost use Rattle.st_moves.specs.Index.{IsIndex};
 ghost use Rattle.st_moves.specs.inside.Rows.{

@@ -32,7 +32,7 @@ use Rattle.st_marks.proofs.Climb.{above_known, shown}
 use Rattle.st_ids.proofs.Listings.{has-item_of, item_of-has}
 use Rattle.st_marks.proofs.Lookups.{group_at-group, made_there}
 use Rattle.st_marks.proofs.Members.{append_left, append_right, map-has, has-map, flat_map-has, has-flat_map, has-any}
-use Rattle.st_seq.proofs.KindLaws.{spread-merge}
+use Rattle.st_rows.proofs.KindLaws.{spread-merge}
 use Rattle.st_normal_laws.specs.Told.{AreAsSeen}
 use Rattle.st_normal_laws.proofs.Told.{change_sees}
 use Rattle.st_normal_laws.specs.Meant.{IsOver}

@@ -40,7 +40,7 @@ use Rattle.st_normal_laws.proofs.EasyRegisters.{how_is}
 use Rattle.st_normal_laws.proofs.EasyStaying.{loose-how, touch-row}
 use Rattle.st_normal_laws.proofs.FoundPlaces.{PlacedAs, as_row, as_held, as_loose, filled, found_placed}
 use Rattle.st_normal_laws.proofs.Lengths.{row-length}
-use Rattle.st_seq.proofs.Short.{all_after}
+use Rattle.st_rows.proofs.ShortRows.{all_after}
 
 -- an owner of a filled cell, with the cell
 pub fill-owner : (ms : List CellMark) (n : NodeId) → Has (fill_owners ms) n → (d : CellId) × Has ms (Fill d n)

@@ -45,7 +45,7 @@ use Rattle.st_normal_laws.proofs.Groups.{start_once, group-cases}
 use Rattle.st_normal.specs.inside.Links.{stands_after}
 use Rattle.st_normal_laws.proofs.MeantFits.{rows_once, regs_once, new_once, new-is, is-new, found-old, moving-found, group-nonempty, group-cell, cell-made, make-made, made_all, once-filter_map, cell_once, anchor_once, anchor-row, new_row-none, make-owner, made-new, made-all, group-cells}
 use Rattle.st_normal_laws.proofs.Basics.{one-is}
-use Rattle.st_seq.proofs.Rebased.{is-here}
+use Rattle.st_rows.proofs.RowRebases.{is-here}
 use Rattle.st_ids.proofs.Shared.{filtered}
 
 make-stands : (ms : List CellMark) (c : CellId) (n : NodeId) → Has ms (Make c n true) → Has (stands_after ms) n

@@ -48,7 +48,7 @@ use Rattle.st_marks.proofs.Climb.{stands}
 use Rattle.st_normal_laws.proofs.MeantIntent.{reg-put, clear-is, is-clear, meant_is_intent}
 use Rattle.st_normal_laws.proofs.Basics.{is-one, not-false, not-true, register-not-nowhere, row-not-nowhere}
 use Rattle.st_normal_laws.proofs.Lengths.{row-length}
-use Rattle.st_seq.proofs.Short.{all_after}
+use Rattle.st_rows.proofs.ShortRows.{all_after}
 use Rattle.st_lemmas.proofs.Bools.{true-false, and-both, and-true, or-left, or-right}
 use Rattle.st_ids.proofs.Shared.{filtered}
 

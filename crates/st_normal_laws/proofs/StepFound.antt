@@ -34,8 +34,8 @@ use Rattle.st_normal_laws.proofs.Basics.{is-one, one-is, register-not-nowhere, r
 use Rattle.st_normal_laws.proofs.Easy.{climb-known, row-told}
 use Rattle.st_normal_laws.proofs.FoundPlaces.{found_held-is, found_in-has, has-found_in, is-found_held}
 use Rattle.st_normal_laws.proofs.StepRows.{IsKept, StandsOnce, after-mark, cell_with, fill-incoming, fill-step, incoming-mark, kept-mark, make-incoming, make-step, touch-step}
-use Rattle.st_seq.proofs.KindLaws.{spread-merge}
-use Rattle.st_seq.proofs.Documents.{can_hold, is_slot}
+use Rattle.st_rows.proofs.KindLaws.{spread-merge}
+use Rattle.st_rows.proofs.Documents.{can_hold, is_slot}
 use Rattle.st_lemmas.proofs.Bools.{and-true, or-left, or-right}
 use Rattle.st_marks.proofs.Shared.{same-held, held-same}
 

@@ -11,8 +11,8 @@ use Rattle.st_marks.specs.Row.{CellMark, Counted, Gap, Touch, Make, Fill, SameCe
 use Rattle.st_marks.specs.Listings.{cells_in}
 use Rattle.st_marks.proofs.Members.{all-has, has-all}
 use Rattle.st_normal.specs.Rules.{incoming_nodes}
-use Rattle.st_seq.proofs.KindLaws.{has_grown, not_again}
-use Rattle.st_seq.specs.Sequence.{cells_of}
+use Rattle.st_rows.proofs.KindLaws.{has_grown, not_again}
+use Rattle.st_rows.specs.Sequence.{cells_of}
 
 -- ## The cell of a mark
 

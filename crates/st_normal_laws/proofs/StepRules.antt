@@ -53,7 +53,7 @@ use Rattle.st_normal_laws.proofs.SchemaRules.{last-entry}
 use Rattle.st_normal_laws.proofs.StepFound.{cells-once, comes-put, empty-not, fill-place, found-at, found-named, has-reg, known as named-known, leaves, loose-place, make-place, moved, named-up, one-or-other, put-at, put-place, reg-is, root-or-found, row-listed, row-look, row-register, same-register, same-row, slot-known, stands-once, told-listed, touch-place, touched-as}
 use Rattle.st_normal_laws.proofs.StepRows.{cell_with, fill-step, in-row-after, incoming-mark, incoming-once, make-step, step-cells-once}
 use Rattle.st_normal_laws.proofs.Told.{step_sees_after, step_sees_before}
-use Rattle.st_seq.proofs.Documents.{can_hold, in_document}
+use Rattle.st_rows.proofs.Documents.{can_hold, in_document}
 use Rattle.st_lemmas.proofs.Bools.{or-left, or-right}
 
 -- ## In one row

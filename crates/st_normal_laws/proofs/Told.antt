@@ -6,7 +6,7 @@ use Rattle.st_marks.specs.Extends.{GainsItems}
 use Rattle.st_marks.specs.Row.{RowPart, SameCell, embed_row, step_row}
 use Rattle.st_marks.specs.Listings.{CellView, cells_after, cells_before}
 use Rattle.st_normal_laws.specs.Told.{AreAsSeen, IfTold}
-use Rattle.st_seq.proofs.Described as seq
+use Rattle.st_rows.proofs.ViewsOfRows as seq
 
 told : {A : Type 0} (o : Option A) (a : A) → seq.IfTold o a → IfTold o a
 told None a h = tt

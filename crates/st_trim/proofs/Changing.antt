@@ -34,7 +34,7 @@ use Rattle.st_normal_laws.proofs.Basics.{is-one, one-is, register-not-nowhere, r
 use Rattle.st_normal_laws.proofs.StepFound.{empty-not, slot-known}
 use Rattle.st_normal_laws.proofs.StepRows.{cell_with, fill-step, kept-mark, make-step, touch-step}
 use Rattle.st_puts.proofs.Marks.{as_mark, from-spread, in-spread}
-use Rattle.st_seq.proofs.Documents.{can_hold}
+use Rattle.st_rows.proofs.Documents.{can_hold}
 use Rattle.st_lemmas.proofs.Bools.{or-left}
 use Rattle.st_trim.specs.Trimmed.{ListsStep}
 use Rattle.st_trim.specs.inside.Told.{changes_by_register, changes_by_row, changes_told, differs, leaver, loose_leaver, row_changed, unless_in}

@@ -10,8 +10,8 @@ use Rattle.st_marks.proofs.MarkLengths.{spread-append}
 use Rattle.st_marks.specs.declared.marks.How.TheVariants.{Stay}
 use Rattle.st_marks.specs.declared.marks.Mark.{Mark}
 use Rattle.st_marks.specs.Row.{CellMark, Counted, Gap, Touch, Make, Fill, counted_cells, merge, skip_one, spread}
-use Rattle.st_seq.proofs.Merging.{counted-plus, length-counted}
-use Rattle.st_seq.specs.Merged.{count_in}
+use Rattle.st_rows.proofs.MergedMarks.{counted-plus, length-counted}
+use Rattle.st_rows.specs.Merged.{count_in}
 use Rattle.st_trim.specs.Trimmed.{trim_mark}
 use Rattle.st_trim.specs.inside.Cut.{skips}
 

@@ -22,7 +22,7 @@ use Rattle.st_marks.specs.Extends.{IsExtendedBy}
 use Rattle.st_marks.specs.Row.{CellMark, merge, spread}
 use Rattle.st_moves.specs.inside.Rows.{mark_tells}
 use Rattle.st_moves.proofs.Beside.{any_spread}
-use Rattle.st_seq.proofs.KindLaws.{spread-merge}
+use Rattle.st_rows.proofs.KindLaws.{spread-merge}
 use Rattle.st_trim.specs.Trimmed.{IsTrimmedTo, ListsStep, trim_mark, trim_row, trim_register, trim_loose}
 use Rattle.st_trim.specs.inside.Cut.{IsCutTo, cut_row, tells_register}
 use Rattle.st_trim.proofs.Filtering.{filter-map, listing_left}

@@ -22,8 +22,8 @@ use Rattle.st_marks.specs.Register.{holds_mentioned, step_register}
 use Rattle.st_marks.specs.Row.{merge, spread, step_row}
 use Rattle.st_marks.specs.Step.{gained_node, step_loose}
 use Rattle.st_marks.proofs.Members.{any-has, has-any, has-map, map-has}
-use Rattle.st_seq.proofs.Documents.{can_hold}
-use Rattle.st_seq.proofs.KindLaws.{length-step_row, spread-merge}
+use Rattle.st_rows.proofs.Documents.{can_hold}
+use Rattle.st_rows.proofs.KindLaws.{length-step_row, spread-merge}
 use Rattle.st_trim.specs.Trimmed.{ListsStep}
 use Rattle.st_trim.specs.inside.Cut.{AreShort}
 

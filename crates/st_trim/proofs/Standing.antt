@@ -30,7 +30,7 @@ use Rattle.st_puts.specs.inside.First.{first_at}
 use Rattle.st_puts.specs.inside.Spots.{held_spot, stood_by}
 use Rattle.st_puts.proofs.Firsts.{first-is, is-first}
 use Rattle.st_puts.proofs.Marks.{from-spread, in-spread}
-use Rattle.st_seq.proofs.Documents.{can_hold}
+use Rattle.st_rows.proofs.Documents.{can_hold}
 use Rattle.st_lemmas.proofs.Bools.{or-right}
 use Rattle.st_trim.specs.Trimmed.{AreMentionedByStep, ListsStep}
 use Rattle.st_trim.specs.inside.Told.{changes_told, stood_before, stood_in_register, stood_in_row}

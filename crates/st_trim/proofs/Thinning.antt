@@ -19,7 +19,7 @@ use Rattle.st_marks.proofs.Members.{has-map, map-has}
 use Rattle.st_mention_laws.specs.Shown.{ShowsStep, thin_row, thin_step, unnamed}
 use Rattle.st_mention_laws.proofs.Thinned.{alike_step, flat_map-marks, flat_map-rows, flat_map-told, list_any-marks, list_any-unnamed, spread-thin}
 use Rattle.st_puts.specs.inside.Spots.{stood_by}
-use Rattle.st_seq.proofs.KindLaws.{spread-merge}
+use Rattle.st_rows.proofs.KindLaws.{spread-merge}
 use Rattle.st_trim.specs.Trimmed.{AreMentionedByStep, ListsStep, trim_mark}
 use Rattle.st_trim.specs.inside.Cut.{AreShort, IsCutTo, cut_row, tells_register}
 use Rattle.st_trim.specs.inside.Told.{changes_by_register, changes_by_row, changes_told, differs, leaver, loose_leaver, stood_before, stood_in_register, unless_in}

@@ -21,7 +21,7 @@ use Rattle.st_marks.specs.Intent.{same_option}
 use Rattle.st_marks.specs.Register.{holds_mentioned, step_register}
 use Rattle.st_marks.specs.Row.{Counted, Touch, Make, SameCell, merge, spread, step_cell, step_row}
 use Rattle.st_marks.specs.Step.{IsSchemaStep, IsStep, gained_node, step_loose}
-use Rattle.st_seq.proofs.KindLaws.{spread-merge}
+use Rattle.st_rows.proofs.KindLaws.{spread-merge}
 use Rattle.st_moves.specs.Between.{IsClosedIn}
 use Rattle.st_trim.specs.Trimmed.{AreMentionedByStep, IsTrimmedTo, ListsStep, trim_mark, trim_row, trim_register, trim_loose}
 

@@ -15,9 +15,9 @@ use Rattle.st_marks.specs.Extends.{IsExtendedBy}
 use Rattle.st_marks.specs.Step.{IsChanged, IsStep}
 use Rattle.st_marks.proofs.Climb.{placed_known, same_spot}
 use Rattle.st_marks.proofs.Members.{any-has, distinct-has, has-any}
-use Rattle.st_seq.specs.Sequence.{is_full_in, retreat_to}
+use Rattle.st_rows.specs.Sequence.{is_full_in, retreat_to}
 use Rattle.st_moves.proofs.BetweenRows.{slots_once}
-use Rattle.st_seq.proofs.DocumentsBack.{back_is}
+use Rattle.st_rows.proofs.DocumentsBack.{back_is}
 use Rattle.st_moves.specs.Between.{IsClosedIn}
 use Rattle.st_mention_laws.proofs.Mentions.{changed_above}
 use Rattle.st_trim.specs.Covers.{CoversStep}

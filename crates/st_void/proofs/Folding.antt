@@ -8,7 +8,7 @@ use Rattle.st_lemmas.proofs.FirstItems.{take_one}
 use Rattle.st_marks.specs.declared.marks.Mark.{Mark}
 use Rattle.st_marks.specs.Row.{counted_cells, spread}
 use Rattle.st_marks.proofs.MarkLengths.{spread-append}
-use Rattle.st_seq.specs.Reading.{cell_of}
+use Rattle.st_rows.specs.Reading.{cell_of}
 use Rattle.st_ids.specs.Listing.{Has}
 use Rattle.st_marks.specs.declared.changes.Change.{Change}
 use Rattle.st_doc.specs.inside.Ahead.{IsLeastOf, least_with}

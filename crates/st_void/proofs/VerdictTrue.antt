@@ -27,7 +27,7 @@ use Rattle.st_marks.proofs.Full.{known_put, put_to_register}
 use Rattle.st_marks.proofs.Lookups.{has-put, has-put_in, put-has, put_clears, put_in-has}
 use Rattle.st_marks.proofs.Members.{all-has, any-has, append_left, append_right, flat_map-has, has-any, has-append, has-flat_map}
 use Rattle.st_register.proofs.Occupants.{to-here}
-use Rattle.st_seq.proofs.KindLaws.{spread-merge}
+use Rattle.st_rows.proofs.KindLaws.{spread-merge}
 use Rattle.st_doc.specs.inside.Ahead.{IsLeastOf}
 use Rattle.st_doc.proofs.Verdicts.{least_from}
 use Rattle.st_void.specs.declared.standing.When.{When}

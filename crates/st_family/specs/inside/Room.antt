@@ -7,8 +7,8 @@ use Rattle.st_ids.specs.declared.names.Rev.{Rev}
 use Rattle.st_kind.specs.Named.{Nodes}
 use Rattle.st_marks.specs.declared.marks.RowMarks.{RowMarks}
 use Rattle.st_marks.specs.Row.{CellMark, spread}
-use Rattle.st_seq.specs.Changes.{may_list}
-use Rattle.st_seq.specs.Merged.{IsMerged}
+use Rattle.st_rows.specs.Changes.{may_list}
+use Rattle.st_rows.specs.Merged.{IsMerged}
 use Rattle.st_family.specs.Exchanged.{AreExchanged}
 use Rattle.st_family.specs.Rows.{RowBecomes}
 

@@ -10,7 +10,7 @@ use Rattle.st_marks.specs.declared.marks.RowMarks.{RowMarks}
 use Rattle.st_marks.specs.Embedding.{row_marks, tells}
 use Rattle.st_marks.specs.Listings.{cells_before}
 use Rattle.st_marks.specs.Row.{CellMark, Counted, Gap, Touch, Make, Fill, spread}
-use Rattle.st_seq.specs.Differences.{first_difference}
+use Rattle.st_rows.specs.Differences.{first_difference}
 use Rattle.st_moves.specs.Carried.{carry_row}
 
 -- what is said of a cell that both sides find, with no node told

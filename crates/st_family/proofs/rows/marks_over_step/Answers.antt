@@ -2,7 +2,7 @@ use Rattle.std.proofs.Common.{◌≡◌, subst, sym}
 use Rattle.std.specs.BTreeSet.{contains}
 use Rattle.st_ids.specs.Order.{node_cmp}
 use Rattle.st_marks.specs.Row.{merge, spread}
-use Rattle.st_seq.specs.Merged.{IsMerged}
+use Rattle.st_rows.specs.Merged.{IsMerged}
 use Rattle.st_family.specs.Rest.{rest_row}
 use Rattle.st_family.proofs.RowOver.{marks_law}
 use Rattle.st_family.proofs.rows.marks_over_step.Goals as goal

@@ -1,4 +1,4 @@
-use Rattle.st_seq.proofs.Retreating.{back_leads}
+use Rattle.st_rows.proofs.RowRetreats.{back_leads}
 use Rattle.st_seq.proofs.kind.SequenceFieldKind.invert.Goals as goal
 
 pub returns : goal.returns
