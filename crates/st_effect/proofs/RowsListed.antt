@@ -16,7 +16,7 @@ use Rattle.st_marks.specs.Embedding.{IsEmbedding, is_among, row_marks, row_part,
 use Rattle.st_marks.specs.Extends.{GainsItems, IsExtendedBy, no_more, item_gained, item_kept}
 use Rattle.st_marks.specs.Intent.{Fits}
 use Rattle.st_marks.specs.Row.{CellMark, Counted, Gap, Touch, Make, Fill, SameCell, embed_row, merge, step_cell, step_row}
-use Rattle.st_rows.specs.inside.Cells.{effected_mark, voided_mark}
+use Rattle.st_rows.specs.Cells.{effected_mark, voided_mark}
 use Rattle.st_rows.specs.Changes.{placed_by, void_part}
 use Rattle.st_rows.specs.Rows.{IsRowStep}
 use Rattle.st_rows.specs.Sequence.{ListsNew, RowFits, SeqPart, row_carried, row_change_of, row_part_of}
@@ -28,9 +28,9 @@ use Rattle.st_rows.proofs.KindLaws.{same_grown}
 use Rattle.st_rows.proofs.VoidRows.{void_row-embed_row}
 use Rattle.st_trim.specs.Evicted.{in_cleared}
 use Rattle.st_effect.specs.inside.Done.{AreRowsDone, IsRowDone}
-use Rattle.st_effect.proofs.Matching.{matched}
-use Rattle.st_effect.proofs.Named.{named_in_row}
-use Rattle.st_effect.proofs.Shown.{or_parts, shown-None, shown-Some}
+use Rattle.st_effect.proofs.ItemPairs.{matched}
+use Rattle.st_effect.proofs.NamesListed.{named_in_row}
+use Rattle.st_puts.proofs.ListedIf.{or_parts, shown-None, shown-Some}
 
 -- ## What a row tells
 

@@ -40,11 +40,11 @@ use Rattle.st_trim.specs.Trimmed.{ListsStep}
 use Rattle.st_trim.proofs.Effects.{effect_covers}
 use Rattle.st_effect.specs.inside.Done.{IsRegisterDone, IsRowDone, ListsDone, is_void, schema_done}
 use Rattle.st_effect.proofs.LooseListed.{MovesLoose, loose_listed, whole_moves}
-use Rattle.st_effect.proofs.Matching.{rising_same}
-use Rattle.st_effect.proofs.Named.{mentioned_there}
+use Rattle.st_effect.proofs.ItemPairs.{rising_same}
+use Rattle.st_effect.proofs.NamesListed.{mentioned_there}
 use Rattle.st_effect.proofs.RegistersListed.{register_listed}
 use Rattle.st_effect.proofs.RowsListed.{row_listed}
-use Rattle.st_effect.proofs.Voided.{void_covers, void_nodes, void_place, void_schemas}
+use Rattle.st_effect.proofs.VoidIntents.{void_covers, void_nodes, void_place, void_schemas}
 
 -- ## New nodes
 

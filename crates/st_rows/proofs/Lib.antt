@@ -5,6 +5,7 @@ pub mod DocumentsBack
 pub mod DocumentsJoined
 pub mod DocumentsListed
 pub mod Existence
+pub mod GainedCells
 pub mod KindLaws
 pub mod ListTests
 pub mod MarkByMark

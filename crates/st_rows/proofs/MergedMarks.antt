@@ -22,7 +22,7 @@ abbrev pub AllStand : List Mark → Type 0
 AllStand [] = Unit {0}
 AllStand (m ∷ ms) = Stands m ms × AllStand ms
 
-skip_one-stands : (ms : List Mark) → AllStand ms → AllStand (skip_one ms)
+pub skip_one-stands : (ms : List Mark) → AllStand ms → AllStand (skip_one ms)
 skip_one-stands [] h = (refl, tt)
 skip_one-stands (Mark.Skip zero ∷ ms) h = absurd h.0
 skip_one-stands (Mark.Skip (suc k) ∷ ms) h = h
@@ -39,7 +39,7 @@ merge-stands (Touch c n h ∷ ms) = (tt, merge-stands ms)
 merge-stands (Make c n b ∷ ms) = (tt, merge-stands ms)
 merge-stands (Fill c n ∷ ms) = (tt, merge-stands ms)
 
-skip_first : (ms : List Mark) → begins_with_skip ms ≡ false → skip_one ms ≡ Mark.Skip 1 ∷ ms
+pub skip_first : (ms : List Mark) → begins_with_skip ms ≡ false → skip_one ms ≡ Mark.Skip 1 ∷ ms
 skip_first [] h = refl
 skip_first (Mark.Skip k ∷ ms) h = let e : ◌≡◌ {A = Bool} true false = h in cc
 skip_first (Mark.Gap c ∷ ms) h = refl
@@ -47,7 +47,7 @@ skip_first (Mark.Touch c n x ∷ ms) h = refl
 skip_first (Mark.Make c n b ∷ ms) h = refl
 skip_first (Mark.Fill c n ∷ ms) h = refl
 
-merge-counted : (k : ℕ) (cells : List CellMark) (ms : List Mark) → merge cells ≡ ms → begins_with_skip ms ≡ false → merge (counted_cells (suc k) cells) ≡ Mark.Skip (suc k) ∷ ms
+pub merge-counted : (k : ℕ) (cells : List CellMark) (ms : List Mark) → merge cells ≡ ms → begins_with_skip ms ≡ false → merge (counted_cells (suc k) cells) ≡ Mark.Skip (suc k) ∷ ms
 merge-counted zero cells ms e h = ap skip_one e ∙ skip_first ms h
 merge-counted (suc k) cells ms e h = ap skip_one (merge-counted k cells ms e h)
 
@@ -90,7 +90,7 @@ count_room front old j k n e h =
 -- ## One mark more at the end
 
 -- the last mark, if it counts cells, is another count in its place
-recounted : (xs : List Mark) (j k : ℕ) → AllStand (xs ++ Mark.Skip j ∷ []) → 0 < k → AllStand (xs ++ Mark.Skip k ∷ [])
+pub recounted : (xs : List Mark) (j k : ℕ) → AllStand (xs ++ Mark.Skip j ∷ []) → 0 < k → AllStand (xs ++ Mark.Skip k ∷ [])
 recounted [] j zero h p = absurd (omega (arith, p))
 recounted [] j (suc k) h p = (refl, tt)
 recounted (x ∷ xs) j k h p = (first x xs h.0, recounted xs j k h.1 p)
@@ -111,7 +111,7 @@ pub recounted_merged : (xs : List Mark) (j k : ℕ) → IsMerged (xs ++ Mark.Ski
 recounted_merged xs j k h p = stands-merge (xs ++ Mark.Skip k ∷ []) (recounted xs j k (merged-stands (xs ++ Mark.Skip j ∷ []) h) p)
 
 -- a mark that counts no cells stands behind every mark
-behind : (xs : List Mark) (m : Mark) → is_skip m ≡ false → AllStand xs → AllStand (xs ++ m ∷ [])
+pub behind : (xs : List Mark) (m : Mark) → is_skip m ≡ false → AllStand xs → AllStand (xs ++ m ∷ [])
 behind [] m s h = (alone m s, tt)
   where
     alone : (m : Mark) → is_skip m ≡ false → Stands m []
@@ -138,7 +138,7 @@ pub behind_merged : (xs : List Mark) (m : Mark) → is_skip m ≡ false → IsMe
 behind_merged xs m s h = stands-merge (xs ++ m ∷ []) (behind xs m s (merged-stands xs h))
 
 -- a count stands behind a mark that counts no cells
-counted-behind : (xs : List Mark) (m : Mark) (k : ℕ) → is_skip m ≡ false → AllStand (xs ++ m ∷ []) → 0 < k → AllStand ((xs ++ m ∷ []) ++ Mark.Skip k ∷ [])
+pub counted-behind : (xs : List Mark) (m : Mark) (k : ℕ) → is_skip m ≡ false → AllStand (xs ++ m ∷ []) → 0 < k → AllStand ((xs ++ m ∷ []) ++ Mark.Skip k ∷ [])
 counted-behind [] m zero s h p = absurd (omega (arith, p))
 counted-behind [] m (suc k) s h p = (alone m s, (refl, tt))
   where

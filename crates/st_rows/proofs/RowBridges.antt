@@ -14,7 +14,7 @@ use Rattle.st_marks.specs.Row.{CellMark, Counted, Gap, Touch, Make, Fill, RowPar
 use Rattle.st_marks.specs.How.{is_here}
 use Rattle.st_rows.specs.Views.{view_after}
 use Rattle.st_rows.specs.Differences.{view_before}
-use Rattle.st_rows.specs.inside.Cells.{turned_mark, stepped_mark, full_first, full_then, bridged_mark, bridged_piece, bridge_row, made_full, gained_full}
+use Rattle.st_rows.specs.Cells.{turned_mark, stepped_mark, full_first, full_then, bridged_mark, bridged_piece, bridge_row, made_full, gained_full}
 use Rattle.st_rows.specs.Changes.{StandsIn, AreOld, NamesNoGained, NoGroupAtGained, full_after, made_cells, carried_cells, carried_row, placed_by, row_after, void_part}
 use Rattle.st_rows.specs.Rows.{NamesMoved}
 use Rattle.st_rows.proofs.VoidRows.{void-made}

@@ -9,7 +9,7 @@ use Rattle.st_marks.specs.declared.places.Slot.{Slot}
 use Rattle.st_marks.specs.Extends.{GainsItems, no_more, item_gained, item_kept}
 use Rattle.st_marks.specs.Row.{CellMark, Counted, Gap, Touch, Make, Fill, RowPart, SameCell, same_to, how, step_cell, step_row, embed_cell, embed_made, embed_cells, embed_row}
 use Rattle.st_marks.specs.How.{is_here}
-use Rattle.st_rows.specs.inside.Cells.{effected_mark, effect_row}
+use Rattle.st_rows.specs.Cells.{effected_mark, effect_row}
 use Rattle.st_rows.specs.Changes.{StandsIn, full_after, made_cells, carried_cells, carried_row}
 
 -- the cells that are made stand before others

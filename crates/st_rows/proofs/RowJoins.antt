@@ -12,7 +12,7 @@ use Rattle.st_marks.specs.declared.marks.How.TheVariants.{Stay, Here, Leave}
 use Rattle.st_marks.specs.declared.places.Slot.{Slot}
 use Rattle.st_marks.specs.Row.{CellMark, Counted, Gap, Touch, Make, Fill, RowPart, same_to, how, embed_cell, embed_made, embed_cells, embed_row}
 use Rattle.st_marks.specs.How.{is_here}
-use Rattle.st_rows.specs.inside.Cells.{joined_mark, join_row}
+use Rattle.st_rows.specs.Cells.{joined_mark, join_row}
 use Rattle.st_rows.proofs.RowRebases.{same_put}
 use Rattle.st_rows.specs.Changes.{StandsIn, full_after, made_cells, carried_cells, carried_row, interleaved_cells, goes_in_turn, AreJoined}
 

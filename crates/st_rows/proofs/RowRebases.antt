@@ -13,7 +13,7 @@ use Rattle.st_marks.specs.declared.places.Slot.{Slot}
 use Rattle.st_marks.specs.Extends.{GainsItems, no_more, item_gained, item_kept}
 use Rattle.st_marks.specs.Row.{CellMark, Counted, Gap, Touch, Make, Fill, RowPart, SameCell, same_to, how, step_cell, step_row, embed_cell, embed_made, embed_cells, embed_row}
 use Rattle.st_marks.specs.How.{is_here}
-use Rattle.st_rows.specs.inside.Cells.{touch_of, still, emptied_mark, how_there, filled_mark, rebased_mark, gained_cell, rebased_piece, over_row}
+use Rattle.st_rows.specs.Cells.{touch_of, still, emptied_mark, how_there, filled_mark, rebased_mark, gained_cell, rebased_piece, over_row}
 use Rattle.st_rows.specs.Changes.{StandsIn, NamesNoGained}
 use Rattle.st_rows.proofs.PiecesBeside.{beside-kept, beside-gained}
 

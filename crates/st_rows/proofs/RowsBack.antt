@@ -6,7 +6,7 @@ use Rattle.st_marks.specs.declared.marks.How.TheVariants.{Stay}
 use Rattle.st_marks.specs.declared.places.Slot.{Slot}
 use Rattle.st_marks.specs.Extends.{GainsItems, no_more, item_gained, item_kept}
 use Rattle.st_marks.specs.Row.{Counted, Touch, Make, SameCell, step_cell, step_row}
-use Rattle.st_rows.specs.inside.Cells.{inverted_mark, invert_row}
+use Rattle.st_rows.specs.Cells.{inverted_mark, invert_row}
 use Rattle.st_rows.specs.Rows.{retreat_row}
 
 abbrev pub backward : {c d : List Slot} (g : GainsItems SameCell c d) → GainsItems SameCell d (retreat_row g)

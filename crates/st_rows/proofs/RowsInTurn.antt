@@ -6,7 +6,7 @@ use Rattle.st_marks.specs.declared.marks.How.TheVariants.{Stay, Leave}
 use Rattle.st_marks.specs.declared.places.Slot.{Slot}
 use Rattle.st_marks.specs.Extends.{GainsItems, no_more, item_gained, item_kept}
 use Rattle.st_marks.specs.Row.{CellMark, Counted, Touch, Make, Fill, SameCell, step_cell, step_row}
-use Rattle.st_rows.specs.inside.Cells.{composed_mark, compose_row}
+use Rattle.st_rows.specs.Cells.{composed_mark, compose_row}
 use Rattle.st_kind.specs.Named.{either}
 use Rattle.st_rows.specs.Rows.{NamesLeavers}
 use Rattle.st_lemmas.proofs.Bools.{or-right, or-left}

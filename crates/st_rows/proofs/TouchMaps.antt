@@ -8,7 +8,7 @@ use Rattle.st_marks.specs.declared.marks.How.{How}
 use Rattle.st_marks.proofs.MarkLengths.{spread-append}
 use Rattle.st_marks.specs.declared.marks.Mark.{Mark}
 use Rattle.st_marks.specs.Row.{CellMark, Counted, Gap, Touch, Make, Fill, spread, counted_cells}
-use Rattle.st_rows.specs.inside.Cells.{touch_of}
+use Rattle.st_rows.specs.Cells.{touch_of}
 use Rattle.st_lemmas.proofs.Options.{option_or-assoc}
 
 touch-append : (xs ys : List CellMark) (n : NodeId) → touch_of (xs ++ ys) n ≡ option_or (touch_of ys n) (touch_of xs n)

@@ -11,7 +11,7 @@ use Rattle.st_marks.specs.Extends.{GainsItems, no_more, item_gained, item_kept}
 use Rattle.st_marks.specs.Row.{CellMark, Counted, Gap, Touch, Make, Fill, RowPart, SameCell, how, step_cell, step_row, embed_cell, embed_made, embed_cells, embed_row}
 use Rattle.st_marks.specs.How.{is_here}
 use Rattle.st_marks.specs.Listings.{CellView, cell_view, counted_view, empty_view, cells_before, cells_after}
-use Rattle.st_rows.specs.inside.Cells.{effect_row}
+use Rattle.st_rows.specs.Cells.{effect_row}
 use Rattle.st_rows.specs.Changes.{StandsIn, carried_row}
 use Rattle.st_rows.proofs.RowEffects.{effect_row-embed_row, grown_row}
 use Rattle.st_rows.specs.Differences.{agree, agree_if_named, same_bool, first_difference}

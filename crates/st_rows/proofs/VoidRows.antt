@@ -8,7 +8,7 @@ use Rattle.st_marks.specs.declared.intents.To.{To}
 use Rattle.st_marks.specs.declared.places.Slot.{Slot}
 use Rattle.st_marks.specs.Row.{CellMark, Counted, Gap, Touch, Make, Fill, RowPart, how, step_row, embed_cell, embed_made, embed_cells, embed_row}
 use Rattle.st_marks.specs.How.{is_here}
-use Rattle.st_rows.specs.inside.Cells.{effected_mark, effect_row, voided_mark, void_row}
+use Rattle.st_rows.specs.Cells.{effected_mark, effect_row, voided_mark, void_row}
 use Rattle.st_rows.specs.Changes.{StandsIn, AreOld, void_part}
 use Rattle.st_rows.proofs.RowEffects.{effect_row-embed_row, grown_row}
 

@@ -7,8 +7,8 @@ pub mod Pieces
 pub mod Heads
 pub mod Rows
 pub mod Changes
+pub mod Cells
 pub mod Sequence
 pub mod Turns
 pub mod RisingNodes
 pub mod Existence
-pub mod inside

@@ -85,6 +85,7 @@ fn push_then<T: Table>(table: &T, out: &mut List<Mark>, y: &Mark) -> Result<(), 
 /// How two listings are walked: the pieces that they come to, and the cell at which they first differ.
 trait Walk {
     ghost pieces: { Seq CellMark → Seq CellMark → Seq CellPiece };
+
     ghost difference: { Seq CellMark → Seq CellMark → Option ℕ };
 
     fn turn<'a>(x_count: u32, xs: &'a [Mark], y_count: u32, ys: &'a [Mark]) -> Turn<'a>
@@ -142,21 +143,21 @@ impl Walk for Alike {
     }
 }
 
-/// Walks through two listings. Answers the marks that the table makes of each piece, or the first cell, counted from 0 among
-/// those that the second finds, at which the listings differ.
-fn lay<W: Walk, T: Table>(
-    alloc: Global,
+/// Walks through two listings and writes the marks that the table makes of each piece, or answers the first cell, counted from
+/// 0 among those that the second finds, at which the listings differ.
+fn write_pieces<W: Walk, T: Table>(
     table: &T,
+    out: &mut List<Mark>,
     first: &[Mark],
     then: &[Mark],
-) -> Result<List<Mark>, Or<Apart>>
+) -> Result<(), Or<Apart>>
+    requires none { out.old ≡ [] }
     requires room { length (W.pieces (spread first.now) (spread then.now)) < 2 ^ 32 }
     requires found { length (cells_before (spread then.now)) < 2 ^ 32 }
-    ensures merged { IfOk result (λ marks. IsMerged marks) }
-    ensures cells { IfOk result (λ marks. spread marks ≡ map (T.cell table.now) (W.pieces (spread first.now) (spread then.now))) }
+    ensures merged { OnOk result (IsMerged out.new) }
+    ensures cells { OnOk result (spread out.new ≡ map (T.cell table.now) (W.pieces (spread first.now) (spread then.now))) }
     ensures apart { IsApart (W.difference (spread first.now) (spread then.now)) result }
 {
-    let mut out = List::new(alloc);
     let mut found = 0;
     let mut x_left = 0;
     let mut x_rest = first;
@@ -164,7 +165,7 @@ fn lay<W: Walk, T: Table>(
     let mut y_rest = then;
     'cells: loop {
         match W::turn(x_left, x_rest, y_left, y_rest) {
-            Turn::Done => return Ok(out),
+            Turn::Done => return Ok(()),
             Turn::Apart => return Err(Or::Fault(Apart { place: found })),
             Turn::Counted {
                 count,
@@ -173,7 +174,7 @@ fn lay<W: Walk, T: Table>(
                 y_count,
                 ys,
             } => {
-                push_piece(table, &mut out, Piece::Counted(count))?;
+                push_piece(table, out, Piece::Counted(count))?;
                 found += count;
                 x_left = x_count;
                 x_rest = xs;
@@ -188,7 +189,7 @@ fn lay<W: Walk, T: Table>(
                 y_count,
                 ys,
             } => {
-                push_both(table, &mut out, x, y)?;
+                push_both(table, out, x, y)?;
                 found += 1;
                 x_left = x_count;
                 x_rest = xs;
@@ -196,17 +197,35 @@ fn lay<W: Walk, T: Table>(
                 y_rest = ys;
             }
             Turn::First { x, xs } => {
-                push_first(table, &mut out, x)?;
+                push_first(table, out, x)?;
                 x_left = 0;
                 x_rest = xs;
             }
             Turn::Then { y, ys } => {
-                push_then(table, &mut out, y)?;
+                push_then(table, out, y)?;
                 y_left = 0;
                 y_rest = ys;
             }
         }
     }
+}
+
+/// Lays two listings over each other: the marks that the table makes of each piece, or the first cell at which they differ.
+fn lay<W: Walk, T: Table>(
+    alloc: Global,
+    table: &T,
+    first: &[Mark],
+    then: &[Mark],
+) -> Result<List<Mark>, Or<Apart>>
+    requires room { length (W.pieces (spread first.now) (spread then.now)) < 2 ^ 32 }
+    requires found { length (cells_before (spread then.now)) < 2 ^ 32 }
+    ensures merged { IfOk result (λ marks. IsMerged marks) }
+    ensures cells { IfOk result (λ marks. spread marks ≡ map (T.cell table.now) (W.pieces (spread first.now) (spread then.now))) }
+    ensures apart { IsApart (W.difference (spread first.now) (spread then.now)) result }
+{
+    let mut out = List::new(alloc);
+    write_pieces::<W, T>(table, &mut out, first, then)?;
+    Ok(out)
 }
 
 /// Lays a listing over one that finds what it leaves: `first` are the marks of a row up to a state, `then` those from that

@@ -10,7 +10,7 @@ ghost use Rattle.st_marks.specs.Embedding.{is_among as among};
 ghost use Rattle.st_marks.specs.Row.{RowPart, spread};
 ghost use Rattle.st_marks.specs.Listings.{cells_before};
 ghost use Rattle.st_rows.specs.Views.{DifferAt};
-ghost use Rattle.st_rows.specs.inside.Cells.{turned_mark as turned_cell, stepped_mark as stepped_cell, bridged_mark as bridged_cell, bridged_piece, full_first as full_by_change, full_then as full_by_both, made_full as full_if_made, gained_full as full_if_gained};
+ghost use Rattle.st_rows.specs.Cells.{turned_mark as turned_cell, stepped_mark as stepped_cell, bridged_mark as bridged_cell, bridged_piece, full_first as full_by_change, full_then as full_by_both, made_full as full_if_made, gained_full as full_if_gained};
 ghost use Rattle.st_rows.specs.Changes.{IsRowChange, Keeps, StandsOver, may_list, placed_by, row_after};
 ghost use Rattle.st_rows.specs.Reading.{cell_of};
 ghost use Rattle.st_rows.specs.Pieces.{IsSingle};
@@ -168,7 +168,7 @@ impl<'a> Across<'a> {
 impl<'a> Table for Across<'a> {
     ghost use Rattle.std.specs.BTreeMap.{get};
     ghost use Rattle.st_ids.specs.Order.{node_cmp};
-    ghost use Rattle.st_rows.specs.inside.Cells.{bridged_piece};
+    ghost use Rattle.st_rows.specs.Cells.{bridged_piece};
     ghost use Rattle.st_rows.specs.Changes.{placed_by};
 
     ghost cell = { λ t. bridged_piece t.was_void t.is_void (placed_by t.in_new t.new.now) (get node_cmp t.seen.now) };

@@ -1,12 +1,14 @@
 //! Two steps of a row in turn, and two changes.
-ghost use Rattle.std.specs.Prelude.{◌≡◌, ◌^◌, ◌<◌, ◌∷◌, [], length, List as Seq};
+ghost use Rattle.std.specs.Prelude.{◌≡◌, ◌^◌, ◌<◌, ◌∷◌, [], length, IfOk, List as Seq};
 ghost use Rattle.st_kind.specs.Named.{Nodes, either};
 ghost use Rattle.st_kind.specs.Refused.{IfMemory, IsApartWhere};
 ghost use Rattle.st_marks.specs.declared.places.Slot.{Slot};
 ghost use Rattle.st_marks.specs.Row.{Fill, Make, RowPart, spread, merge, embed_row};
 ghost use Rattle.st_marks.specs.Listings.{cells_after, cells_before};
+ghost use Rattle.st_rows.specs.Differences.{IsApart, first_difference};
 ghost use Rattle.st_rows.specs.Views.{DifferAt};
-ghost use Rattle.st_rows.specs.inside.Cells.{composed_mark as composed_cell, joined_mark as joined_cell};
+ghost use Rattle.st_rows.specs.Cells.{join_row, joined_mark as joined_cell};
+ghost use Rattle.st_rows.specs.Cells.{compose_row, composed_mark as composed_cell};
 ghost use Rattle.st_rows.specs.Changes.{AreJoined, IsRowChange, carried_row};
 ghost use Rattle.st_rows.specs.Reading.{cell_of};
 ghost use Rattle.st_rows.specs.Pieces.{IsSingle};
@@ -87,7 +89,7 @@ fn composed_mark(first: Mark, then: Mark) -> Mark
 struct Steps;
 
 impl Table for Steps {
-    ghost use Rattle.st_rows.specs.inside.Cells.{composed_piece};
+    ghost use Rattle.st_rows.specs.Cells.{composed_piece};
 
     ghost cell = { λ t. composed_piece };
 
@@ -112,6 +114,8 @@ pub fn compose(
     requires { length (spread then.now) < 2 ^ 32 }
     ensures composed { (m k : Nodes) (c d e : Seq Slot) (f : IsRowStep m c d first.now) → NamesLeavers m f.grows → IsRowStep k d e then.now
         → IfMemory result (λ s. IsRowStep (either m k) c e s) }
+    ensures met { IsApart (first_difference (cells_after (spread first.now)) (cells_before (spread then.now))) result }
+    ensures marks { IfOk result (λ s. s ≡ merge (compose_row (spread first.now) (spread then.now))) }
     ensures apart { IsApartWhere result (DifferAt (cells_after (spread first.now)) (cells_before (spread then.now))) }
 {
     lay_in_turn(alloc, &Steps, first.as_slice(), then.as_slice())
@@ -152,7 +156,7 @@ fn joined_mark(first: Mark, then: Mark) -> Mark
 struct Changes;
 
 impl Table for Changes {
-    ghost use Rattle.st_rows.specs.inside.Cells.{joined_piece};
+    ghost use Rattle.st_rows.specs.Cells.{joined_piece};
 
     ghost cell = { λ t. joined_piece };
 
@@ -172,6 +176,8 @@ pub fn join(alloc: Global, first: &List<Mark>, then: &List<Mark>) -> Result<List
     requires { length (spread then.now) < 2 ^ 32 }
     ensures joined { (p q j : RowPart) (c : Seq Slot) → AreJoined p q c j → IsRowChange p c first.now → IsRowChange q (carried_row p c) then.now
         → IfMemory result (λ marks. marks ≡ merge (embed_row j c)) }
+    ensures met { IsApart (first_difference (cells_after (spread first.now)) (cells_before (spread then.now))) result }
+    ensures marks { IfOk result (λ marks. marks ≡ merge (join_row (spread first.now) (spread then.now))) }
     ensures apart { IsApartWhere result (DifferAt (cells_after (spread first.now)) (cells_before (spread then.now))) }
 {
     lay_in_turn(alloc, &Changes, first.as_slice(), then.as_slice())

@@ -4,7 +4,7 @@ ghost use Rattle.st_ids.specs.Listing.{IsRising};
 ghost use Rattle.st_ids.specs.Order.{node_cmp};
 ghost use Rattle.st_marks.specs.declared.places.Slot.{Slot};
 ghost use Rattle.st_marks.specs.Row.{RowPart, spread};
-ghost use Rattle.st_rows.specs.inside.Cells.{effect_row, void_row};
+ghost use Rattle.st_rows.specs.Cells.{effect_row, void_row};
 ghost use Rattle.st_rows.specs.Changes.{AreOld, IsRowChange, carried_row, placed_by, void_part};
 ghost use Rattle.st_rows.specs.Merged.{IsMerged};
 ghost use Rattle.st_rows.specs.Rows.{IsRowStep};

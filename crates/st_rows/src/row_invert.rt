@@ -2,8 +2,8 @@
 ghost use Rattle.std.specs.Prelude.{◌≡◌, ◌^◌, ◌<◌, ◌∷◌, [], length, IfOk, List as Seq};
 ghost use Rattle.st_kind.specs.Named.{Nodes};
 ghost use Rattle.st_marks.specs.declared.places.Slot.{Slot};
-ghost use Rattle.st_marks.specs.Row.{spread};
-ghost use Rattle.st_rows.specs.inside.Cells.{invert_row};
+ghost use Rattle.st_marks.specs.Row.{merge, spread};
+ghost use Rattle.st_rows.specs.Cells.{invert_row};
 ghost use Rattle.st_rows.specs.Merged.{IsMerged};
 ghost use Rattle.st_rows.specs.Rows.{IsRowStep, retreat_row};
 
@@ -60,7 +60,8 @@ fn inverted_marks(alloc: Global, step: &[Mark]) -> Result<List<Mark>, AllocError
 /// The step that leads each node of the row back to where it was. Cells that the step made are empty then.
 pub fn invert(alloc: Global, step: &List<Mark>) -> Result<List<Mark>, AllocError>
     requires { length (spread step.now) < 2 ^ 32 }
-    ensures { (m : Nodes) (c d : Seq Slot) (s : IsRowStep m c d step.now) → IfOk result (λ t. IsRowStep m d (retreat_row s.grows) t) }
+    ensures inverted { (m : Nodes) (c d : Seq Slot) (s : IsRowStep m c d step.now) → IfOk result (λ t. IsRowStep m d (retreat_row s.grows) t) }
+    ensures marks { IfOk result (λ t. t ≡ merge (invert_row (spread step.now))) }
 {
     inverted_marks(alloc, step.as_slice())
 }

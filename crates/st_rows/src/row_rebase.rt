@@ -8,7 +8,7 @@ ghost use Rattle.st_marks.specs.declared.places.Slot.{Slot};
 ghost use Rattle.st_marks.specs.Row.{RowPart, spread, merge, embed_row};
 ghost use Rattle.st_marks.specs.Listings.{cells_before};
 ghost use Rattle.st_rows.specs.Views.{DifferAt};
-ghost use Rattle.st_rows.specs.inside.Cells.{rebased_mark as rebased_cell, rebased_piece, gained_cell, emptied_mark as emptied_cell, filled_mark as filled_cell, how_there as there};
+ghost use Rattle.st_rows.specs.Cells.{rebased_mark as rebased_cell, rebased_piece, gained_cell, emptied_mark as emptied_cell, filled_mark as filled_cell, how_there as there};
 ghost use Rattle.st_rows.specs.Changes.{IsRowChange, Keeps, may_list};
 ghost use Rattle.st_rows.specs.Reading.{cell_of};
 ghost use Rattle.st_rows.specs.Pieces.{IsSingle};
@@ -108,7 +108,7 @@ struct Beside<'a> {
 impl<'a> Table for Beside<'a> {
     ghost use Rattle.std.specs.BTreeMap.{get};
     ghost use Rattle.st_ids.specs.Order.{node_cmp};
-    ghost use Rattle.st_rows.specs.inside.Cells.{rebased_piece};
+    ghost use Rattle.st_rows.specs.Cells.{rebased_piece};
 
     ghost cell = { λ t. rebased_piece (get node_cmp t.seen.now) };
 

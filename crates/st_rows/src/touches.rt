@@ -5,7 +5,7 @@ ghost use Rattle.std.specs.Option.{option_or};
 ghost use Rattle.st_ids.specs.Order.{node_cmp, same_node};
 ghost use Rattle.st_ids.specs.declared.names.NodeId.{NodeId as Node};
 ghost use Rattle.st_marks.specs.Row.{spread};
-ghost use Rattle.st_rows.specs.inside.Cells.{touch_of};
+ghost use Rattle.st_rows.specs.Cells.{touch_of};
 
 use st_ids::NodeId;
 use st_marks::{How, Mark};

@@ -1,9 +1,9 @@
 -- The tests on the change of a row.
-use Rattle.std.proofs.Common.{◌≡◌, ℕ, zero, suc, Bool, false, ◌&&◌, ◌||◌, List, [], ◌∷◌, refl, sym, ap, ◌∙◌}
+use Rattle.std.proofs.Common.{◌≡◌, ℕ, zero, suc, ◌&&◌, List, ◌∷◌, refl}
 use Rattle.st_marks.specs.declared.marks.Mark.{Mark}
 use Rattle.st_marks.specs.declared.places.Slot.{Slot}
 use Rattle.st_ids.specs.declared.names.Rev.{Rev}
-use Rattle.st_marks.specs.Row.{CellMark, Counted, Gap, Touch, Make, Fill, spread, counted_cells}
+use Rattle.st_marks.specs.Row.{CellMark, spread, counted_cells}
 use Rattle.st_seq.specs.inside.NormalForm.{is_allowed, are_allowed}
 use Rattle.st_rows.specs.Reading.{cell_of}
 

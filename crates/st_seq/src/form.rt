@@ -15,11 +15,9 @@ ghost use Rattle.st_rows.specs.Reading.{cell_of};
 ghost use Rattle.st_rows.specs.Pieces.{IsSingle};
 
 use crate::new_nodes::is_rising;
-use st_rows::is_among;
-use st_rows::{SlotTurn, slot_turn};
-use st_rows::RowChange;
 use st_ids::{CellId, List, NodeId, ROOT, Rev, is_same_cell, is_same_node, is_same_rev};
 use st_marks::{How, Mark, Slot};
+use st_rows::{RowChange, SlotTurn, is_among, slot_turn};
 
 /// The first mark, and those behind it.
 fn first_mark<'a>(marks: &'a [Mark]) -> Option<(Mark, &'a [Mark])>

@@ -37,8 +37,8 @@ use Rattle.st_rows.proofs.DocumentsAfter.{whole_is}
 use Rattle.st_rows.proofs.KindLaws.{spread-merge}
 use Rattle.st_void.specs.declared.standing.When.{When}
 use Rattle.st_void.specs.Standing.{above_shown, document_at, held_by, stands as stands_at}
-use Rattle.st_void.proofs.Mentioned.{IsNamedAt}
-use Rattle.st_void.proofs.Shortest.{is_some_node, some_node_is}
+use Rattle.st_void.proofs.MentionsClosed.{IsNamedAt}
+use Rattle.st_climb.proofs.ShortestClimbs.{is_some_node, some_node_is}
 use Rattle.st_void.proofs.ShownInRows.{IsIn, after_found, after_shown, before_found, before_shown, full_cell, told_after, told_before}
 
 -- ## Places of the document after

@@ -25,14 +25,6 @@ bare_cell (Fill c n) = Gap c ∷ []
 abbrev pub bare : List CellMark → List CellMark
 bare = flat_map bare_cell
 
--- whether a mark tells something
-abbrev pub mark_tells : Mark → Bool
-mark_tells (Mark.Skip k) = false
-mark_tells (Mark.Gap c) = false
-mark_tells (Mark.Touch c n h) = true
-mark_tells (Mark.Make c n b) = true
-mark_tells (Mark.Fill c n) = true
-
 -- a row, if its marks tell something
 abbrev pub listed_row : NodeId → List Mark → Option RowMarks
 listed_row n ms = if list_any tells (spread ms) then Some (record { node = n; marks = ms }) else None

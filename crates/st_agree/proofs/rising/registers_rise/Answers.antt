@@ -2,7 +2,7 @@ use Rattle.std.proofs.Common.{arith, refl, sym, ◌∙◌}
 use Rattle.st_ids.specs.Order.{field_cmp}
 use Rattle.st_ids.proofs.Orders.{field_cmp_total}
 use Rattle.st_marks.specs.declared.marks.RegMark.{RegMark}
-use Rattle.st_clash.proofs.InOrder.{falls, more_rises, one_rises, to_the_end}
+use Rattle.st_clash.proofs.RisingListings.{falls, more_rises, one_rises, to_the_end}
 use Rattle.st_agree.proofs.rising.registers_rise.Goals as goal
 
 pub loop-at-init : goal.loop-at-init

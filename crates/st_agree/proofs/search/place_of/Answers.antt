@@ -3,7 +3,7 @@ use Rattle.std.proofs.lemmas.List.Sorted.{answers_always}
 use Rattle.st_ids.specs.Order.{node_cmp, same_node}
 use Rattle.st_ids.proofs.Orders.{is_eq_equal, node_cmp_exact, node_cmp_total}
 use Rattle.st_agree.specs.declared.places.Placed.{Placed}
-use Rattle.st_clash.proofs.Looking.{found_at, found_there}
+use Rattle.st_clash.proofs.ItemSearch.{found_at, found_there}
 use Rattle.st_agree.proofs.search.place_of.Goals as goal
 
 pub returns-then-is_same_node : goal.returns-then-is_same_node

@@ -2,7 +2,7 @@ use Rattle.std.proofs.Common.{None, arith, refl, sym, ◌∙◌}
 use Rattle.st_ids.specs.Order.{cell_cmp}
 use Rattle.st_ids.proofs.Orders.{cell_cmp_total}
 use Rattle.st_clash.specs.declared.seen.Seen.{Seen}
-use Rattle.st_clash.proofs.InOrder.{falls, more_rises, one_rises, to_the_end}
+use Rattle.st_clash.proofs.RisingListings.{falls, more_rises, one_rises, to_the_end}
 use Rattle.st_clash.proofs.search.cells_rise.Goals as goal
 
 blank : Seen

@@ -2,7 +2,7 @@ use Rattle.std.proofs.Common.{◌<◌, ◌-◌, length}
 use Rattle.st_ids.specs.Order.{cell_cmp}
 use Rattle.st_ids.proofs.Orders.{cell_cmp_total}
 use Rattle.st_clash.specs.declared.seen.Seen.{Seen}
-use Rattle.st_clash.proofs.InOrder.{RisesTo}
+use Rattle.st_clash.proofs.RisingListings.{RisesTo}
 use Rattle.st_clash.proofs.search.cells_rise.Given as goal
 
 abbrev pub invariant-loop-at : goal.invariant-loop-at

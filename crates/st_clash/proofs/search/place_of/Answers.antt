@@ -3,7 +3,7 @@ use Rattle.std.proofs.lemmas.List.Sorted.{answers_always}
 use Rattle.st_ids.specs.Order.{cell_cmp, same_cell}
 use Rattle.st_ids.proofs.Orders.{cell_cmp_exact, cell_cmp_total, is_eq_equal}
 use Rattle.st_clash.specs.declared.seen.Seen.{Seen}
-use Rattle.st_clash.proofs.Looking.{found_at, found_there}
+use Rattle.st_clash.proofs.ItemSearch.{found_at, found_there}
 use Rattle.st_clash.proofs.search.place_of.Goals as goal
 
 blank : Seen

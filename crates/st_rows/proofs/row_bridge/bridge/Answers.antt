@@ -7,7 +7,7 @@ use Rattle.st_marks.specs.Row.{spread, step_row, embed_row}
 use Rattle.st_marks.specs.Listings.{cells_before}
 use Rattle.st_rows.specs.Views.{DifferAt}
 use Rattle.st_rows.specs.Differences.{first_difference}
-use Rattle.st_rows.specs.inside.Cells.{bridge_row, touch_of}
+use Rattle.st_rows.specs.Cells.{bridge_row, touch_of}
 use Rattle.st_rows.specs.Changes.{placed_by}
 use Rattle.st_rows.proofs.NoErrors.{none_apart}
 use Rattle.st_rows.proofs.RowBridges.{bridge_row-embed_row, placed_new}

@@ -1,6 +1,6 @@
 use Rattle.std.proofs.Common.{ap, ◌∙◌}
 use Rattle.st_marks.specs.Row.{spread, step_row, embed_row}
-use Rattle.st_rows.specs.inside.Cells.{effect_row}
+use Rattle.st_rows.specs.Cells.{effect_row}
 use Rattle.st_rows.proofs.NoErrors.{both_ok}
 use Rattle.st_rows.proofs.RowEffects.{effect_row-embed_row, grown_row}
 use Rattle.st_rows.proofs.MergedMarks.{merged_is}

@@ -1,5 +1,5 @@
 use Rattle.std.proofs.Common.{refl}
-use Rattle.st_rows.specs.inside.Cells.{effected_mark}
+use Rattle.st_rows.specs.Cells.{effected_mark}
 use Rattle.st_rows.proofs.MarkByMark.{map-counted}
 use Rattle.st_rows.proofs.row_effect.effected_mark.Goals as goal
 

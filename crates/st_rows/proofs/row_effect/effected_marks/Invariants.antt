@@ -1,6 +1,6 @@
 use Rattle.std.proofs.Common.{◌≡◌, take}
 use Rattle.st_marks.specs.Row.{spread}
-use Rattle.st_rows.specs.inside.Cells.{effect_row}
+use Rattle.st_rows.specs.Cells.{effect_row}
 use Rattle.st_rows.specs.Merged.{IsMerged}
 use Rattle.st_rows.proofs.row_effect.effected_marks.Given as goal
 

@@ -1,6 +1,6 @@
 use Rattle.std.proofs.Common.{ap, ◌∙◌}
 use Rattle.st_marks.specs.Row.{spread, step_row, embed_row}
-use Rattle.st_rows.specs.inside.Cells.{void_row}
+use Rattle.st_rows.specs.Cells.{void_row}
 use Rattle.st_rows.specs.Changes.{placed_by, void_part}
 use Rattle.st_rows.proofs.NoErrors.{both_ok}
 use Rattle.st_rows.proofs.RowEffects.{grown_row}

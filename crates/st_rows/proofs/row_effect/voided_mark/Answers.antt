@@ -1,5 +1,5 @@
 use Rattle.std.proofs.Common.{refl}
-use Rattle.st_rows.specs.inside.Cells.{voided_mark}
+use Rattle.st_rows.specs.Cells.{voided_mark}
 use Rattle.st_rows.specs.Changes.{placed_by}
 use Rattle.st_rows.proofs.MarkByMark.{map-counted}
 use Rattle.st_rows.proofs.row_effect.voided_mark.Goals as goal

@@ -1,6 +1,6 @@
 use Rattle.std.proofs.Common.{◌^◌}
 use Rattle.st_marks.specs.declared.marks.Mark.{Mark}
-use Rattle.st_rows.specs.inside.Cells.{voided_mark}
+use Rattle.st_rows.specs.Cells.{voided_mark}
 use Rattle.st_rows.specs.Changes.{placed_by}
 use Rattle.st_rows.proofs.MarkByMark.{map_on, map_fits}
 use Rattle.st_rows.proofs.row_effect.voided_marks.Goals as goal

@@ -1,6 +1,6 @@
 use Rattle.std.proofs.Common.{◌≡◌, take}
 use Rattle.st_marks.specs.Row.{spread}
-use Rattle.st_rows.specs.inside.Cells.{void_row}
+use Rattle.st_rows.specs.Cells.{void_row}
 use Rattle.st_rows.specs.Changes.{placed_by}
 use Rattle.st_rows.specs.Merged.{IsMerged}
 use Rattle.st_rows.proofs.row_effect.voided_marks.Given as goal

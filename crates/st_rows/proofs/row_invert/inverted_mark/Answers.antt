@@ -1,5 +1,5 @@
 use Rattle.std.proofs.Common.{refl}
-use Rattle.st_rows.specs.inside.Cells.{inverted_mark}
+use Rattle.st_rows.specs.Cells.{inverted_mark}
 use Rattle.st_rows.proofs.MarkByMark.{map-counted}
 use Rattle.st_rows.proofs.row_invert.inverted_mark.Goals as goal
 

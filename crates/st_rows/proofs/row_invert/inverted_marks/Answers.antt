@@ -1,6 +1,6 @@
 use Rattle.std.proofs.Common.{◌^◌}
 use Rattle.st_marks.specs.declared.marks.Mark.{Mark}
-use Rattle.st_rows.specs.inside.Cells.{inverted_mark}
+use Rattle.st_rows.specs.Cells.{inverted_mark}
 use Rattle.st_rows.proofs.MarkByMark.{map_on, map_fits}
 use Rattle.st_rows.proofs.row_invert.inverted_marks.Goals as goal
 

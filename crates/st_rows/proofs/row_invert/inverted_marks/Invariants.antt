@@ -1,6 +1,6 @@
 use Rattle.std.proofs.Common.{◌≡◌, take}
 use Rattle.st_marks.specs.Row.{spread}
-use Rattle.st_rows.specs.inside.Cells.{invert_row}
+use Rattle.st_rows.specs.Cells.{invert_row}
 use Rattle.st_rows.specs.Merged.{IsMerged}
 use Rattle.st_rows.proofs.row_invert.inverted_marks.Given as goal
 

@@ -5,7 +5,7 @@ use Rattle.st_marks.specs.Row.{spread, step_row, embed_row}
 use Rattle.st_marks.specs.Listings.{cells_before}
 use Rattle.st_rows.specs.Views.{DifferAt}
 use Rattle.st_rows.specs.Differences.{first_difference}
-use Rattle.st_rows.specs.inside.Cells.{over_row, touch_of}
+use Rattle.st_rows.specs.Cells.{over_row, touch_of}
 use Rattle.st_rows.proofs.NoErrors.{none_apart}
 use Rattle.st_rows.proofs.ViewsOfRows.{no_difference, step_finds, change_finds}
 use Rattle.st_rows.proofs.RowRebases.{Tells, marks_tell, over_row-embed_row}

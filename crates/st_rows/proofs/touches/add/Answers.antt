@@ -4,7 +4,7 @@ use Rattle.std.specs.Option.{option_or}
 use Rattle.st_ids.specs.Order.{node_cmp}
 use Rattle.st_marks.specs.declared.marks.Mark.{Mark}
 use Rattle.st_marks.specs.Row.{spread}
-use Rattle.st_rows.specs.inside.Cells.{touch_of}
+use Rattle.st_rows.specs.Cells.{touch_of}
 use Rattle.st_rows.proofs.TouchMaps.{counted-untouched}
 use Rattle.st_rows.proofs.touches.add.Goals as goal
 

@@ -3,7 +3,7 @@ use Rattle.std.specs.BTreeMap.{get}
 use Rattle.st_ids.specs.Order.{node_cmp}
 use Rattle.st_ids.specs.declared.names.NodeId.{NodeId}
 use Rattle.st_marks.specs.Row.{spread}
-use Rattle.st_rows.specs.inside.Cells.{touch_of}
+use Rattle.st_rows.specs.Cells.{touch_of}
 use Rattle.st_rows.proofs.touches.touches.Given as goal
 
 abbrev pub invariant-loop-mark : goal.invariant-loop-mark

@@ -2,7 +2,7 @@ use Rattle.std.proofs.Common.{ap, ◌∙◌}
 use Rattle.std.specs.BTreeMap.{get}
 use Rattle.st_ids.specs.Order.{node_cmp}
 use Rattle.st_rows.specs.Views.{view_after}
-use Rattle.st_rows.specs.inside.Cells.{rebased_mark}
+use Rattle.st_rows.specs.Cells.{rebased_mark}
 use Rattle.st_rows.specs.Reading.{cell_of}
 use Rattle.st_rows.proofs.MarkByMark.{cell_is}
 use Rattle.st_rows.proofs.row_bridge.Across.full_then.Goals as goal

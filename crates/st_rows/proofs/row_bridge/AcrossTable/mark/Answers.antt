@@ -1,7 +1,7 @@
 use Rattle.std.proofs.Common.{◌∙◌, sym, ap, map}
 use Rattle.std.specs.BTreeMap.{get}
 use Rattle.st_ids.specs.Order.{node_cmp}
-use Rattle.st_rows.specs.inside.Cells.{bridged_piece}
+use Rattle.st_rows.specs.Cells.{bridged_piece}
 use Rattle.st_rows.specs.Changes.{placed_by}
 use Rattle.st_rows.specs.Pieces.{cells_of_piece}
 use Rattle.st_rows.proofs.RowBridges.{counted_stays}

@@ -1,5 +1,5 @@
 use Rattle.std.proofs.Common.{refl, ◌∙◌, sym, ap, map}
-use Rattle.st_rows.specs.inside.Cells.{joined_piece}
+use Rattle.st_rows.specs.Cells.{joined_piece}
 use Rattle.st_rows.specs.Pieces.{cells_of_piece}
 use Rattle.st_rows.proofs.WalkLengths.{map-both_counted}
 use Rattle.st_rows.proofs.row_compose.ChangesTable.mark.Goals as goal

@@ -1,5 +1,5 @@
 use Rattle.std.proofs.Common.{refl, ◌∙◌, sym, ap, map}
-use Rattle.st_rows.specs.inside.Cells.{composed_piece}
+use Rattle.st_rows.specs.Cells.{composed_piece}
 use Rattle.st_rows.specs.Pieces.{cells_of_piece}
 use Rattle.st_rows.proofs.WalkLengths.{map-both_counted}
 use Rattle.st_rows.proofs.row_compose.StepsTable.mark.Goals as goal

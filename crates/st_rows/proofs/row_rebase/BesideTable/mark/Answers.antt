@@ -1,7 +1,7 @@
 use Rattle.std.proofs.Common.{refl, ◌∙◌, sym, ap, map}
 use Rattle.std.specs.BTreeMap.{get}
 use Rattle.st_ids.specs.Order.{node_cmp}
-use Rattle.st_rows.specs.inside.Cells.{rebased_piece}
+use Rattle.st_rows.specs.Cells.{rebased_piece}
 use Rattle.st_rows.specs.Pieces.{cells_of_piece}
 use Rattle.st_rows.proofs.WalkLengths.{map-both_counted}
 use Rattle.st_rows.proofs.row_rebase.BesideTable.mark.Goals as goal
