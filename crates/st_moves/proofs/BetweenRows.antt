@@ -1,7 +1,7 @@
 -- What the rows and registers of the document between hold.
-use Rattle.std.proofs.Common.{◌≡◌, ◌≢◌, Bool, true, false, ◌&&◌, List, [], ◌∷◌, map, Option, Some, None, cond, if◌then◌else◌, refl, sym, ap, ◌∙◌, subst}
+use Rattle.std.proofs.Common.{◌≡◌, Bool, true, false, ◌&&◌, List, [], ◌∷◌, map, Option, Some, None, cond, if◌then◌else◌, refl, sym, ap, ◌∙◌, subst}
 use Rattle.std.specs.List.{AllByRecursion}
-use Rattle.st_ids.specs.Listing.{AreDistinct, Has}
+use Rattle.st_ids.specs.Listing.{Has}
 use Rattle.st_ids.specs.declared.names.CellId.{CellId}
 use Rattle.st_ids.specs.declared.names.NodeId.{NodeId}
 use Rattle.st_marks.specs.declared.intents.Owned.{Owned}
@@ -13,7 +13,7 @@ use Rattle.st_marks.specs.Register.{holds_mentioned}
 use Rattle.st_marks.specs.Row.{SameCell}
 use Rattle.st_marks.proofs.Climb.{is_cell-true}
 use Rattle.st_marks.proofs.Later.{has_later}
-use Rattle.st_marks.proofs.Members.{all-has, has-all, has-map, map-has}
+use Rattle.st_marks.proofs.Members.{has-map}
 use Rattle.st_marks.proofs.Unique.{distinct_content}
 use Rattle.st_rows.proofs.GainedCells.{AllGained, cell_there, gained_new, weaker}
 use Rattle.st_rows.specs.Sequence.{cells_of}

@@ -14,7 +14,7 @@ use Rattle.st_marks.specs.Embedding.{IsMentionedByIntent, named_by_intent}
 use Rattle.st_marks.specs.Extends.{IsExtendedBy, GainsItems, no_more, item_kept}
 use Rattle.st_marks.specs.Intent.{Fits}
 use Rattle.st_marks.specs.Register.{holds_mentioned}
-use Rattle.st_marks.proofs.Climb.{climb_end, climb_more, ends_above}
+use Rattle.st_marks.proofs.Climb.{climb_end, ends_above}
 use Rattle.st_marks.proofs.Later.{has_later, node_later}
 use Rattle.st_mention_laws.specs.Closed.{IsClosedIn}
 use Rattle.st_moves.specs.Between.{between, unless_taken, only_others}

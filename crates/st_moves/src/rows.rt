@@ -14,7 +14,7 @@ ghost use Rattle.st_marks.specs.Row.{spread};
 ghost use Rattle.st_rows.specs.Changes.{may_list};
 ghost use Rattle.st_moves.specs.Room.{HasRoomAt};
 ghost use Rattle.st_moves.specs.Index.{IsIndex};
-ghost use Rattle.st_moves.specs.inside.Rows.{bare as bare_cells, listed_row, row_beside as beside, row_both as both, row_first as first, row_then as then, };
+ghost use Rattle.st_moves.specs.inside.Rows.{bare as bare_cells, listed_row, row_beside as beside, row_both as both, row_first as first, row_then as then};
 ghost use Rattle.st_mention_laws.specs.Tells.{mark_tells};
 
 use crate::carry::carry_row;

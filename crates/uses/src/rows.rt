@@ -7,7 +7,8 @@ ghost use Rattle.uses.specs.Beside.{StandBeside};
 
 use st_ids::Or;
 use st_kind::{Apart, FieldKind};
-use st_rows::{RowChange, RowHeld, RowStep, Sequence};
+use st_rows::{RowChange, RowHeld, RowStep};
+use st_seq::Sequence;
 use std::alloc::Global;
 
 /// What a change does with a row where a step came in between: it leads from the row that the step left to the one that the

@@ -1,5 +1,5 @@
 -- A row of a change beside that of a step, each of them listed or not.
-use Rattle.std.specs.Prelude.{Bool, true, false, List, [], ◌∷◌, Option, Some, None, is_some, if◌then◌else◌}
+use Rattle.std.specs.Prelude.{Bool, List, [], ◌∷◌, Option, Some, None, is_some, if◌then◌else◌}
 use Rattle.std.specs.List.{flat_map, list_any}
 use Rattle.st_ids.specs.Listing.{item_of}
 use Rattle.st_ids.specs.Order.{node_cmp}
