@@ -292,7 +292,7 @@ module _ (L M : Listing) (n : NodeId) (xs ys : List CellMark) (first : ShowsRow 
         let y = at_then c m l p v in
         elim (same_number k l) [
           | inl e ↦ absurd (same_there X Y none k _ _ x.1.1 (ap (slice_get Y) e ∙ y.1.1) (λ z. bad (x.0 ∙ sym y.0, e, z.node)))
-          | inr other ↦ cell_said (found_at c.0 (0 + k)) (found_at c.0 (0 + l)) (shown_found 0 xs k c o x.1.0 x.1.1) (shown_found 0 ys l c p y.1.0 y.1.1) refl (apart_found k l other _ _ refl refl)
+          | inr other ↦ cell_said (found_at c.0 (0 + k)) (found_at c.0 (0 + l)) (shown_found 0 xs k c o x.1.0 x.1.1) (shown_found 0 ys l c p y.1.0 y.1.1) refl (apart_found k l other (found_at c.0 (0 + k)) (found_at c.0 (0 + l)) refl refl)
         ]
     differs_said g same (Differs.registers_differ f a b e h bad) = let z = sym (first.register f) ∙ e in cc
     differs_said g same (Differs.node_twice m s t u v bad f w) =
@@ -300,7 +300,7 @@ module _ (L M : Listing) (n : NodeId) (xs ys : List CellMark) (first : ShowsRow 
         let y = then_stands m t v in
         elim (same_number x.place y.place) [
           | inl e ↦ absurd (same_there X Y none x.place _ _ x.shown (ap (slice_get Y) e ∙ y.shown) (λ z. bad (x.spot ∙ ap (Spot.Row n) z.cell ∙ sym y.spot)))
-          | inr other ↦ node_said (found_at m.0 (0 + x.place)) (found_at m.0 (0 + y.place)) (shown_stands 0 X x.place x.cell m x.shown) (shown_stands 0 Y y.place y.cell m y.shown) refl (apart_found x.place y.place other _ _ refl refl)
+          | inr other ↦ node_said (found_at m.0 (0 + x.place)) (found_at m.0 (0 + y.place)) (shown_stands 0 X x.place x.cell m x.shown) (shown_stands 0 Y y.place y.cell m y.shown) refl (apart_found x.place y.place other (found_at m.0 (0 + x.place)) (found_at m.0 (0 + y.place)) refl refl)
         ]
 
     again_said : (g : FieldId) → g ≡ row_field n → MadeAgain L M g → IsSaid
