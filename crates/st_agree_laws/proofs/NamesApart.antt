@@ -1,5 +1,5 @@
 -- The names of a change and of a step that stand over one document: neither names what the other makes.
-use Rattle.std.proofs.Common.{◌≡◌, ℕ, zero, suc, Bool, true, false, ◌&&◌, ◌||◌, List, [], ◌∷◌, ◌++◌, Option, Some, None, option_and_then, cond, refl, sym, ap, ◌∙◌, subst, inl, inr, ◌⊎◌, IsSome, IsTrue, IfSome}
+use Rattle.std.proofs.Common.{◌≡◌, Bool, true, false, ◌&&◌, ◌||◌, List, [], ◌∷◌, ◌++◌, Option, Some, None, cond, refl, sym, ap, ◌∙◌, subst, inl, inr, ◌⊎◌, IsSome, IsTrue, IfSome}
 use Rattle.std.specs.List.{flat_map, list_any}
 use Rattle.st_ids.specs.Listing.{Has}
 use Rattle.st_ids.specs.Order.{field_cmp, node_cmp, same_field, same_node}
@@ -18,14 +18,13 @@ use Rattle.st_marks.specs.declared.marks.Loose.{Loose}
 use Rattle.st_marks.specs.declared.marks.RegMark.{RegMark}
 use Rattle.st_marks.specs.declared.marks.RowMarks.{RowMarks}
 use Rattle.st_marks.specs.declared.places.Slot.{Slot}
-use Rattle.st_marks.specs.Document.{Document, IsSoundInForm, above, climb, content, owned_cell, slot}
-use Rattle.st_marks.specs.Embedding.{IsEmbedding, is_among, register_part, row_marks, row_part, tells}
+use Rattle.st_marks.specs.Document.{Document, IsSoundInForm, content, owned_cell, slot}
+use Rattle.st_marks.specs.Embedding.{IsEmbedding, is_among, register_part, row_part, tells}
 use Rattle.st_marks.specs.Intent.{Fits, IsKnown, cell_of, clears, group_at, group_cells, is_new, new_node, put_in, register_of}
 use Rattle.st_marks.specs.Register.{comes_in, embed_register, holds_mentioned}
-use Rattle.st_marks.specs.Row.{CellMark, Counted, Gap, Touch, Fill, RowPart, embed_cell, embed_cells, embed_made, embed_row, how, merge, spread}
+use Rattle.st_marks.specs.Row.{CellMark, Counted, Gap, Touch, Fill, RowPart, embed_cell, embed_cells, embed_made, embed_row, how, spread}
 use Rattle.st_marks.specs.How.{is_here}
 use Rattle.st_marks.specs.Listings.{names_of_change, nodes_in, nodes_loose, nodes_new, nodes_of_rows, one_or_none}
-use Rattle.st_marks.proofs.Climb.{above_known}
 use Rattle.st_ids.proofs.Listings.{has-item_of}
 use Rattle.st_marks.proofs.Lookups.{group_at-group, put_in-has}
 use Rattle.st_marks.proofs.Members.{all-has, any-has, flat_map-has, has-append, has-flat_map, has-map}

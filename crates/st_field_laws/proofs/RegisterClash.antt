@@ -1,15 +1,13 @@
 -- A register that is listed alone: what its kind refuses is what the rules name.
-use Rattle.std.proofs.Common.{◌≡◌, ◌≢◌, ◌↔◌, ℕ, Bool, true, false, List, [], ◌∷◌, Option, Some, None, option_map, cond, refl, sym, ap, ◌∙◌, subst, inl, inr, ◌⊎◌}
-use Rattle.std.specs.Ordering.{is_eq}
+use Rattle.std.proofs.Common.{◌≡◌, ◌≢◌, ◌↔◌, ℕ, Bool, true, false, [], ◌∷◌, Option, Some, None, option_map, cond, refl, sym, ap, ◌∙◌, inl, inr}
 use Rattle.std.proofs.lemmas.Option.{same_Some}
 use Rattle.st_field_laws.specs.Alone.{IsNamedBeside, ListsRegisterAlone, StepsRegisterAlone}
 use Rattle.st_ids.specs.Listing.{item_of}
-use Rattle.st_ids.specs.Order.{field_cmp, node_cmp, same_field}
-use Rattle.st_ids.specs.declared.names.CellId.{CellId}
+use Rattle.st_ids.specs.Order.{field_cmp, same_field}
 use Rattle.st_ids.specs.declared.names.FieldId.{FieldId}
 use Rattle.st_ids.specs.declared.names.NodeId.{NodeId}
 use Rattle.st_ids.proofs.Orders.{same_field-itself, same_field-true}
-use Rattle.st_marks.specs.Agree.{Differs, MadeAgain, row_field, field_of}
+use Rattle.st_marks.specs.Agree.{Differs, MadeAgain}
 use Rattle.st_marks.specs.Embedding.{is_among}
 use Rattle.st_marks.specs.Listings.{Listing, Places, listing_before_change, listing_before_step, nodes_loose, rows_before}
 use Rattle.st_marks.specs.declared.changes.Change.{Change}
@@ -85,8 +83,7 @@ pub register_clash : (C : Change) (S : Step) (f : FieldId) (x : RegChange) (s : 
     → ((k : ℕ) × DifferAt x.held s.before k) ↔ IsNamedBeside C S f
 register_clash C S f x s other c t =
     let first = change_shows C (as_mark f x) c in
-    let then = step_shows S (as_step f s) t in
-    (
+    let then = step_shows S (as_step f s) t in (
       (λ d. inl (Differs.registers_differ f x.held s.before first.here then.here d.1.1)),
       (λ w. elim w [
         | inl d ↦ (0, (refl, apart (listing_before_change C) (listing_before_step S) f x.held s.before other first then f refl d))

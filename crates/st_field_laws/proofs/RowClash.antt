@@ -1,17 +1,17 @@
 -- A row that is listed alone: what its kind refuses is what the rules name.
-use Rattle.std.proofs.Common.{◌≡◌, ◌≢◌, ◌↔◌, ℕ, zero, suc, ◌+◌, ◌||◌, Bool, true, false, List, [], ◌∷◌, ◌++◌, Option, Some, None, option_map, cond, refl, sym, ap, ◌∙◌, subst, arith, inl, inr, ◌⊎◌, slice_get}
-use Rattle.std.specs.List.{AllZip, flat_map, list_any}
+use Rattle.std.proofs.Common.{◌≡◌, ◌≢◌, ◌↔◌, ℕ, zero, suc, ◌+◌, ◌||◌, Bool, true, false, List, [], ◌∷◌, Option, Some, None, option_map, cond, refl, sym, ap, ◌∙◌, subst, arith, inl, inr, ◌⊎◌, slice_get}
+use Rattle.std.specs.List.{AllZip, flat_map}
 use Rattle.std.proofs.lemmas.List.{append-nil}
 use Rattle.std.proofs.lemmas.Option.{same_Some}
 use Rattle.st_field_laws.specs.Alone.{IsNamedBeside, ListsRowAlone, NamesOnce, StepsRowAlone}
-use Rattle.st_field_laws.proofs.RowNames.{cell_named, first_is, first_found, first_itself, found_shown, listed_made, listed_named, made_listed, named_listed, node_named, StandsShown, shown_found, shown_stands, stands_shown}
+use Rattle.st_field_laws.proofs.RowNames.{cell_named, first_is, first_itself, found_shown, listed_made, listed_named, made_listed, named_listed, node_named, StandsShown, shown_found, shown_stands, stands_shown}
 use Rattle.st_ids.specs.Listing.{AreDistinct, Has, item_of}
 use Rattle.st_ids.specs.Order.{field_cmp, node_cmp, same_cell, same_node}
 use Rattle.st_ids.specs.declared.names.CellId.{CellId}
 use Rattle.st_ids.specs.declared.names.FieldId.{FieldId}
 use Rattle.st_ids.specs.declared.names.NodeId.{NodeId}
 use Rattle.st_ids.proofs.Orders.{same_cell-itself, same_cell-true, same_node-itself, same_node-true}
-use Rattle.st_marks.specs.Agree.{Differs, MadeAgain, IsNamedInRow, IsSameView, SameIfBoth, row_field, field_of}
+use Rattle.st_marks.specs.Agree.{Differs, MadeAgain, IsNamedInRow, IsSameView, row_field}
 use Rattle.st_marks.specs.Embedding.{is_among}
 use Rattle.st_marks.specs.Listings.{CellView, Listing, ListsCell, Places, cell_view, cells_before, cells_in, cells_made, is_among_cells, listing_before_change, listing_before_step, marks_of, nodes_loose, nodes_new, rows_before}
 use Rattle.st_marks.specs.Row.{CellMark, spread}
@@ -197,7 +197,7 @@ module _ (L M : Listing) (n : NodeId) (xs ys : List CellMark) (first : ShowsRow 
           let x = found_shown 0 xs e h ea in
           let y = found_shown 0 ys f w fb in
           inl (twice c x.0 y.0 x.1.owner y.1.owner x.1.full y.1.full (λ t. cant ea fb (x.1.at ∙ ap (λ z. 0 + z) t ∙ sym y.1.at))
-              (x.1.shown ∙ ap (λ d. Some (record { cell = Some d; node = x.1.owner; full = x.1.full })) (same_name e f q)) y.1.shown has_c)
+          (x.1.shown ∙ ap (λ d. Some (record { cell = Some d; node = x.1.owner; full = x.1.full })) (same_name e f q)) y.1.shown has_c)
 
   nodes_apart : (e f : NamedAt) → Has (standing_at 0 X) e → Has (standing_at 0 Y) f → e.name ≡ f.name → CantBoth e f → IsNamed
   nodes_apart e f h w q cant = stand_apart (stands_shown 0 xs e h) (stands_shown 0 ys f w)
@@ -292,7 +292,7 @@ module _ (L M : Listing) (n : NodeId) (xs ys : List CellMark) (first : ShowsRow 
         let y = at_then c m l p v in
         elim (same_number k l) [
           | inl e ↦ absurd (same_there X Y none k _ _ x.1.1 (ap (slice_get Y) e ∙ y.1.1) (λ z. bad (x.0 ∙ sym y.0, e, z.node)))
-          | inr other ↦ cell_said (found_at c.0 (0 + k)) (found_at c.0 (0 + l)) (shown_found 0 xs k c o x.1.0 x.1.1) (shown_found 0 ys l c p y.1.0 y.1.1) refl (apart_found k l other _ _ refl refl)
+          | inr other ↦ cell_said (found_at c.0 (0 + k)) (found_at c.0 (0 + l)) (shown_found 0 xs k c o x.1.0 x.1.1) (shown_found 0 ys l c p y.1.0 y.1.1) refl (apart_found k l other (found_at c.0 (0 + k)) (found_at c.0 (0 + l)) refl refl)
         ]
     differs_said g same (Differs.registers_differ f a b e h bad) = let z = sym (first.register f) ∙ e in cc
     differs_said g same (Differs.node_twice m s t u v bad f w) =
@@ -300,7 +300,7 @@ module _ (L M : Listing) (n : NodeId) (xs ys : List CellMark) (first : ShowsRow 
         let y = then_stands m t v in
         elim (same_number x.place y.place) [
           | inl e ↦ absurd (same_there X Y none x.place _ _ x.shown (ap (slice_get Y) e ∙ y.shown) (λ z. bad (x.spot ∙ ap (Spot.Row n) z.cell ∙ sym y.spot)))
-          | inr other ↦ node_said (found_at m.0 (0 + x.place)) (found_at m.0 (0 + y.place)) (shown_stands 0 X x.place x.cell m x.shown) (shown_stands 0 Y y.place y.cell m y.shown) refl (apart_found x.place y.place other _ _ refl refl)
+          | inr other ↦ node_said (found_at m.0 (0 + x.place)) (found_at m.0 (0 + y.place)) (shown_stands 0 X x.place x.cell m x.shown) (shown_stands 0 Y y.place y.cell m y.shown) refl (apart_found x.place y.place other (found_at m.0 (0 + x.place)) (found_at m.0 (0 + y.place)) refl refl)
         ]
 
     again_said : (g : FieldId) → g ≡ row_field n → MadeAgain L M g → IsSaid
@@ -333,8 +333,7 @@ pub row_clash : (C : Change) (S : Step) (n : NodeId) (xs ys : List Mark) → Lis
     → ((k : ℕ) × ApartAt (cells_before (spread xs)) (cells_before (spread ys)) (named_before 0 (spread xs)) (named_before 0 (spread ys)) k) ↔ IsNamedBeside C S (row_field n)
 row_clash C S n xs ys c t once =
     let first = change_shows C n xs c in
-    let then = step_shows S n ys t in
-    (
+    let then = step_shows S n ys t in (
       (λ d. refused_named (listing_before_change C) (listing_before_step S) n (spread xs) (spread ys) first then d.0 d.1),
       (λ w. named_refused (listing_before_change C) (listing_before_step S) n (spread xs) (spread ys) first then once.cells once.nodes w),
     )

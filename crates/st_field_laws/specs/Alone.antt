@@ -10,7 +10,6 @@ use Rattle.st_marks.specs.declared.changes.Change.{Change}
 use Rattle.st_marks.specs.declared.marks.Mark.{Mark}
 use Rattle.st_marks.specs.declared.marks.RegMark.{RegMark}
 use Rattle.st_marks.specs.declared.marks.RegStep.{RegStep}
-use Rattle.st_marks.specs.declared.marks.RowMarks.{RowMarks}
 use Rattle.st_marks.specs.declared.steps.Step.{Step}
 use Rattle.st_seq.specs.NamedApart.{named_before, standing_at}
 use Rattle.st_seq.specs.declared.name_clashes.NamedAt.{NamedAt}
