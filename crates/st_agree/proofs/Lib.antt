@@ -1,7 +1,7 @@
-mod Answering
-mod Naming
-mod Obeyed
-mod Standing
-mod Together
-mod Told
-mod Twice
+mod TestAnswers
+mod NamedNodes
+mod RulesObeyed
+mod ShownPlaces
+mod AllRules
+mod FieldsFound
+mod NodesTwice

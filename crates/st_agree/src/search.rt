@@ -1,42 +1,29 @@
 //! Nodes that are placed, looked for in a list where they rise by name.
-ghost use Rattle.std.specs.Prelude.{◌≡◌, ◌↔◌, ◌++◌, ◌<◌, true, length, slice_get, None, MatchResult, OnOk};
+ghost use Rattle.std.specs.Prelude.{◌≡◌, ◌↔◌, ◌++◌, true, OnOk};
 ghost use Rattle.std.specs.List.{flat_map};
-ghost use Rattle.std.specs.Ordering.{is_lt};
 ghost use Rattle.st_ids.specs.Listing.{IsRising, item_of};
 ghost use Rattle.st_ids.specs.Order.{node_cmp};
 ghost use Rattle.st_agree.specs.declared.places.Placed.{Placed as Place};
 ghost use Rattle.st_agree.specs.inside.Places.{apart_fields};
 
 use crate::places::{Placed, push_both};
-use crate::rising::nodes_are_in_order;
-use st_ids::{FieldId, List, NodeId, is_same_node};
+use st_clash::{Named, place_of, rise};
+use st_ids::{FieldId, List, NodeId};
 use std::alloc::{AllocError, Global};
+
+impl Named<NodeId> for Placed {
+    ghost key = { λ p. p.node };
+
+    fn name(&self) -> &NodeId {
+        &self.node
+    }
+}
 
 /// Whether the nodes of a list rise by name.
 pub fn nodes_rise(list: &[Placed]) -> bool
     ensures { (result ≡ true) ↔ IsRising node_cmp (λ (p : Place). p.node) list.now }
 {
-    let mut at = 1;
-    while at < list.len() {
-        if !nodes_are_in_order(list[at - 1].node, list[at].node) {
-            return false;
-        }
-        at += 1;
-    }
-    true
-}
-
-// The place of a node in a list that rises by name, which is looked for at one place first.
-fn place_of(list: &[Placed], near: usize, node: NodeId) -> Result<usize, usize>
-    requires { IsRising node_cmp (λ (p : Place). p.node) list.now }
-    ensures { MatchResult result
-        (λ i. (i < length list.now) × (slice_get list.now i ≡ item_of node_cmp (λ (p : Place). p.node) list.now node))
-        (λ i. item_of node_cmp (λ (p : Place). p.node) list.now node ≡ None) }
-{
-    if near < list.len() && is_same_node(list[near].node, node) {
-        return Ok(near);
-    }
-    list.binary_search_by_key(&node, |placed| placed.node)
+    rise(list)
 }
 
 // Adds the fields of a node that others place elsewhere, which is looked for at one place first; answers where the next may be.
@@ -51,7 +38,7 @@ fn push_near(
     ensures { OnOk result (found.new ≡ found.old
         ++ apart_fields placed.now (item_of node_cmp (λ (p : Place). p.node) others.now placed.now.node)) }
 {
-    match place_of(others, near, placed.node) {
+    match place_of(others, near, &placed.node) {
         Err(at) => Ok(at),
         Ok(at) => {
             push_both(alloc, found, placed, &others[at])?;

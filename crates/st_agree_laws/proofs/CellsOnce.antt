@@ -32,15 +32,15 @@ use Rattle.st_marks.proofs.Later.{row_later}
 use Rattle.st_ids.proofs.Listings.{has-item_of}
 use Rattle.st_marks.proofs.Lookups.{group_at-group, made_there}
 use Rattle.st_marks.proofs.Members.{any-has, flat_map-has, has-flat_map, map-has}
-use Rattle.st_seq.proofs.KindLaws.{spread-merge}
-use Rattle.st_seq.specs.Sequence.{cells_of}
-use Rattle.st_seq.proofs.Documents.{in_document}
-use Rattle.st_agree_laws.proofs.Gained.{AllGained, gained_new}
+use Rattle.st_rows.proofs.KindLaws.{spread-merge}
+use Rattle.st_rows.specs.Sequence.{cells_of}
+use Rattle.st_rows.proofs.Documents.{in_document}
+use Rattle.st_rows.proofs.GainedCells.{AllGained, gained_new}
 use Rattle.st_marks.proofs.Unique.{distinct_content}
 use Rattle.st_agree_laws.proofs.MadeOnce.{nodes_of_change_old, nodes_of_step_old}
-use Rattle.st_normal_laws.proofs.Easy.{row-told}
-use Rattle.st_normal_laws.proofs.StepRows.{in-row-after}
-use Rattle.st_agree_laws.proofs.Truth.{beside_agree}
+use Rattle.st_puts.proofs.OverDocuments.{row-told}
+use Rattle.st_puts.proofs.StepRows.{in-row-after}
+use Rattle.st_agree_laws.proofs.ShownTruth.{beside_agree}
 
 cell-has : (cs : List CellId) (c : CellId) → is_among_cells cs c ≡ true → Has cs c
 cell-has cs c e = let r = any-has (λ d. same_cell d c) cs e in subst (Has cs) (same_cell-true r.0 c r.2) r.1

@@ -1,5 +1,4 @@
-pub mod Gained
-pub mod Truth
-pub mod Named
+pub mod ShownTruth
+pub mod NamesApart
 pub mod MadeOnce
 pub mod CellsOnce

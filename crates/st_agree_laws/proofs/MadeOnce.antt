@@ -28,8 +28,8 @@ use Rattle.st_marks.proofs.Later.{node_later}
 use Rattle.st_ids.proofs.Listings.{has-item_of}
 use Rattle.st_marks.proofs.Members.{has-append, has-flat_map, has-map}
 use Rattle.st_lemmas.proofs.Options.{None-IsSome}
-use Rattle.st_agree_laws.proofs.Named.{among-has, change_makes_new, change_names_known}
-use Rattle.st_normal_laws.proofs.Easy.{climb-known, row-told}
+use Rattle.st_agree_laws.proofs.NamesApart.{among-has, change_makes_new, change_names_known}
+use Rattle.st_puts.proofs.OverDocuments.{climb-known, row-told}
 
 -- ## What the marks of a step name
 

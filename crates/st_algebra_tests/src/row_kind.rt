@@ -5,10 +5,10 @@ use crate::rows::{are_short, is_short};
 use st_ids::{Atom, CellId, Copied, List, NodeId, Or, Rev};
 use st_kind::{Apart, FieldKind, Sides, rebase_over_both};
 use st_marks::{How, Mark, Slot};
-use st_seq::{
-    RowChange, RowHeld, RowStep, Sequence, rows_are_joined, rows_are_listed, rows_are_of_documents,
-    rows_hold,
+use st_rows::{
+    RowChange, RowHeld, RowStep, rows_are_joined, rows_are_listed, rows_are_of_documents, rows_hold,
 };
+use st_seq::Sequence;
 use std::alloc::{AllocError, Global};
 use std::test::Fail;
 

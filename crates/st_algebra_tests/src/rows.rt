@@ -2,12 +2,12 @@
 ghost use Rattle.std.specs.Prelude.{◌+◌, ◌^◌, ◌<◌, length, IsTrue};
 ghost use Rattle.st_marks.specs.Row.{spread};
 ghost use Rattle.st_marks.specs.Listings.{cells_before};
-ghost use Rattle.st_seq.specs.Changes.{may_list};
+ghost use Rattle.st_rows.specs.Changes.{may_list};
 
 use st_ids::{Atom, CellId, List, NodeId, Or, Rev};
 use st_kind::Apart;
 use st_marks::{How, Mark, Slot, after, before};
-use st_seq::{after as row_after, bridge, compose, effect, invert, join, rebase, void_effect};
+use st_rows::{after as row_after, bridge, compose, effect, invert, join, rebase, void_effect};
 use std::alloc::{AllocError, Global};
 use std::test::Fail;
 

@@ -23,7 +23,7 @@ use Rattle.st_marks.specs.Step.{IsSchemaStep}
 use Rattle.st_marks.specs.Verdict.{HasBase}
 use Rattle.st_marks.proofs.Members.{all-has, has-any, append_left, append_right, distinct-append, distinct-between, distinct-left, has-all, has-append, has-map, map-has}
 use Rattle.st_normal.specs.Rules.{AreEntriesBehind, SchemaStepFits}
-use Rattle.st_clash.proofs.Finding.{there}
+use Rattle.st_clash.proofs.LeastFields.{there}
 use Rattle.st_clash.specs.inside.Schemas.{has_rev, is_known, last_before, may_be_between, suits_alone, suits_data, suits_part, suits_schema}
 
 -- the name of an entry

@@ -1,12 +1,12 @@
-mod Clashing
-pub mod Finding
+mod ClashFields
+pub mod LeastFields
 mod InEffect
-pub mod InOrder
-pub mod Looking
+pub mod RisingListings
+pub mod ItemSearch
 pub mod Names
-pub mod Once
+pub mod CellsOnce
 mod OneRevision
 pub mod OwnersTold
-mod Seeing
+mod SeenCells
 mod Tables
-pub mod Walking
+pub mod RowWalks

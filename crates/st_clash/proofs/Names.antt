@@ -20,7 +20,7 @@ use Rattle.st_marks.proofs.Members.{any-has, flat_map-has, has-any, has-flat_map
 use Rattle.st_clash.specs.inside.Bad.{row_naming}
 use Rattle.st_clash.specs.inside.Made.{cell_made_by, cell_of_mark, made_in_rows, named_in_rows, only_if}
 use Rattle.std.proofs.lemmas.List.{take_all}
-use Rattle.st_clash.proofs.Finding.{flat_more, there}
+use Rattle.st_clash.proofs.LeastFields.{flat_more, there}
 
 -- ## Mark by mark
 

@@ -11,7 +11,7 @@ use Rattle.st_lemmas.proofs.Bools.{and-first, and-second, true-false}
 use Rattle.st_marks.specs.Listings.{is_among_cells}
 use Rattle.st_marks.proofs.Members.{any-has, flat_map-has, has-any}
 use Rattle.st_clash.specs.inside.Made.{is_of, only_if}
-use Rattle.st_clash.proofs.Finding.{flat_more, there}
+use Rattle.st_clash.proofs.LeastFields.{flat_more, there}
 use Rattle.st_clash.proofs.Names.{any-append}
 
 -- ## A test of all cells that items name, item by item

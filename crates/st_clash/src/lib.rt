@@ -6,6 +6,7 @@ mod bad;
 mod cells;
 mod fields;
 mod made;
+mod named;
 mod naming;
 mod owners;
 mod push;
@@ -18,6 +19,7 @@ mod walk;
 
 pub use cells::push_cells;
 pub use fields::{are_in_order, least_field, row_field};
+pub use named::{Named, place_of, rise};
 pub use owners::is_same_owner;
 pub use push::push_if_some;
 pub use schemas::have_schemas;

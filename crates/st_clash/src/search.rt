@@ -1,49 +1,30 @@
 //! Cells that are seen, looked for in a list where they rise by name.
-ghost use Rattle.std.specs.Prelude.{◌≡◌, ◌↔◌, ◌++◌, ◌<◌, true, length, slice_get, None, MatchResult, OnOk};
+ghost use Rattle.std.specs.Prelude.{◌≡◌, ◌↔◌, ◌++◌, true, OnOk};
 ghost use Rattle.std.specs.List.{flat_map};
-ghost use Rattle.std.specs.Ordering.{is_lt};
 ghost use Rattle.st_ids.specs.Listing.{IsRising, item_of};
 ghost use Rattle.st_ids.specs.Order.{cell_cmp};
 ghost use Rattle.st_clash.specs.declared.seen.Seen.{Seen as View};
 ghost use Rattle.st_clash.specs.inside.Seen.{apart_cell, apart_from};
 
+use crate::named::{Named, place_of, rise};
 use crate::seen::Seen;
 use crate::twice::push_if_other;
-use st_ids::{CellId, List, is_same_cell};
+use st_ids::{CellId, List};
 use std::alloc::AllocError;
 
-// Whether one cell is less than another.
-fn are_cells_in_order(a: CellId, b: CellId) -> bool
-    ensures { result ≡ is_lt (cell_cmp a b) }
-{
-    a.cmp(&b).is_lt()
+impl Named<CellId> for Seen {
+    ghost key = { λ s. s.cell };
+
+    fn name(&self) -> &CellId {
+        &self.cell
+    }
 }
 
 /// Whether the cells of a list rise by name.
 pub fn cells_rise(list: &[Seen]) -> bool
     ensures { (result ≡ true) ↔ IsRising cell_cmp (λ (s : View). s.cell) list.now }
 {
-    let mut at = 1;
-    while at < list.len() {
-        if !are_cells_in_order(list[at - 1].cell, list[at].cell) {
-            return false;
-        }
-        at += 1;
-    }
-    true
-}
-
-// The place of a cell in a list that rises by name, which is looked for at one place first.
-fn place_of(list: &[Seen], near: usize, cell: CellId) -> Result<usize, usize>
-    requires { IsRising cell_cmp (λ (s : View). s.cell) list.now }
-    ensures { MatchResult result
-        (λ i. (i < length list.now) × (slice_get list.now i ≡ item_of cell_cmp (λ (s : View). s.cell) list.now cell))
-        (λ i. item_of cell_cmp (λ (s : View). s.cell) list.now cell ≡ None) }
-{
-    if near < list.len() && is_same_cell(list[near].cell, cell) {
-        return Ok(near);
-    }
-    list.binary_search_by_key(&cell, |seen| seen.cell)
+    rise(list)
 }
 
 // Adds a cell that others show elsewhere, which is looked for at one place first; answers where the next may be.
@@ -56,7 +37,7 @@ fn push_near(
     requires { IsRising cell_cmp (λ (s : View). s.cell) others.now }
     ensures { OnOk result (bad.new ≡ bad.old ++ apart_from seen (item_of cell_cmp (λ (s : View). s.cell) others.now seen.cell)) }
 {
-    match place_of(others, near, seen.cell) {
+    match place_of(others, near, &seen.cell) {
         Err(at) => Ok(at),
         Ok(at) => {
             push_if_other(bad, seen, others[at])?;

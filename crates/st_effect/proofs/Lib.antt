@@ -1,12 +1,11 @@
-pub mod Shown
-pub mod Loops
+pub mod ListLoops
 pub mod ShortRows
 mod ShortChanges
-pub mod KindLaws
-pub mod Matching
-pub mod Named
+pub mod FieldLaws
+pub mod ItemPairs
+pub mod NamesListed
 pub mod RowsListed
 pub mod RegistersListed
 pub mod LooseListed
-pub mod Voided
+pub mod VoidIntents
 pub mod StepListed

@@ -24,7 +24,7 @@ use Rattle.st_marks.proofs.Full.{known_put}
 use Rattle.st_marks.proofs.Lookups.{made_there}
 use Rattle.st_trim.specs.Evicted.{in_cleared, is_cleared_spot}
 use Rattle.st_effect.specs.inside.Done.{loose_done}
-use Rattle.st_effect.proofs.Matching.{item_of-map, rising-map}
+use Rattle.st_effect.proofs.ItemPairs.{item_of-map, rising-map}
 
 -- a mentioned node that is nowhere stays so, but where the change isn't void and puts it somewhere
 abbrev pub MovesLoose : Document → Document → Intent → Bool → NodeId → Type 0

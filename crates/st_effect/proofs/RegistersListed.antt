@@ -22,13 +22,13 @@ use Rattle.st_register.specs.Register.{RegCanHold, RegFits, RegPart, only_made, 
 use Rattle.st_register.specs.declared.values.RegHeld.{RegHeld}
 use Rattle.st_register.proofs.Documents.{part_fits}
 use Rattle.st_register.proofs.Existence.{has_change}
-use Rattle.st_seq.specs.Sequence.{ListsNew}
-use Rattle.st_seq.proofs.Documents.{part_fits as row_fits}
+use Rattle.st_rows.specs.Sequence.{ListsNew}
+use Rattle.st_rows.proofs.Documents.{part_fits as row_fits}
 use Rattle.st_trim.specs.Evicted.{in_cleared}
 use Rattle.st_effect.specs.inside.Done.{AreRegistersDone, IsRegisterDone}
-use Rattle.st_effect.proofs.Matching.{matched}
-use Rattle.st_effect.proofs.Named.{named_in_register}
-use Rattle.st_effect.proofs.Shown.{or_parts, shown-None, shown-Some}
+use Rattle.st_effect.proofs.ItemPairs.{matched}
+use Rattle.st_effect.proofs.NamesListed.{named_in_register}
+use Rattle.st_puts.proofs.ListedIf.{or_parts, shown-None, shown-Some}
 
 module _ (D E : Document) (N : Intent) (C : Change) (void : Bool) (x : IsSoundInForm D) (f : Fits D N) (emb : IsEmbedding D N C) (names : List NodeId) (listed : ListsNew N names) (k : FieldId)
     (held : E.held k ≡ (reg_carried (reg_part_of emb.mentioned N k) void (record { node = D.held k })).node) where

@@ -16,21 +16,21 @@ use Rattle.st_marks.specs.Embedding.{IsEmbedding, is_among, row_marks, row_part,
 use Rattle.st_marks.specs.Extends.{GainsItems, IsExtendedBy, no_more, item_gained, item_kept}
 use Rattle.st_marks.specs.Intent.{Fits}
 use Rattle.st_marks.specs.Row.{CellMark, Counted, Gap, Touch, Make, Fill, SameCell, embed_row, merge, step_cell, step_row}
-use Rattle.st_seq.specs.inside.Cells.{effected_mark, voided_mark}
-use Rattle.st_seq.specs.Changes.{placed_by, void_part}
-use Rattle.st_seq.specs.Rows.{IsRowStep}
-use Rattle.st_seq.specs.Sequence.{ListsNew, RowFits, SeqPart, row_carried, row_change_of, row_part_of}
-use Rattle.st_seq.proofs.Documents.{can_hold, part_fits}
-use Rattle.st_seq.proofs.Effected.{effect_row-embed_row, grown_row}
-use Rattle.st_seq.proofs.Existence.{contents_grow}
-use Rattle.st_seq.proofs.Fitting.{change_is, old_placed}
-use Rattle.st_seq.proofs.KindLaws.{same_grown}
-use Rattle.st_seq.proofs.Voided.{void_row-embed_row}
+use Rattle.st_rows.specs.Cells.{effected_mark, voided_mark}
+use Rattle.st_rows.specs.Changes.{placed_by, void_part}
+use Rattle.st_rows.specs.Rows.{IsRowStep}
+use Rattle.st_rows.specs.Sequence.{ListsNew, RowFits, SeqPart, row_carried, row_change_of, row_part_of}
+use Rattle.st_rows.proofs.Documents.{can_hold, part_fits}
+use Rattle.st_rows.proofs.RowEffects.{effect_row-embed_row, grown_row}
+use Rattle.st_rows.proofs.Existence.{contents_grow}
+use Rattle.st_rows.proofs.PartsThatFit.{change_is, old_placed}
+use Rattle.st_rows.proofs.KindLaws.{same_grown}
+use Rattle.st_rows.proofs.VoidRows.{void_row-embed_row}
 use Rattle.st_trim.specs.Evicted.{in_cleared}
 use Rattle.st_effect.specs.inside.Done.{AreRowsDone, IsRowDone}
-use Rattle.st_effect.proofs.Matching.{matched}
-use Rattle.st_effect.proofs.Named.{named_in_row}
-use Rattle.st_effect.proofs.Shown.{or_parts, shown-None, shown-Some}
+use Rattle.st_effect.proofs.ItemPairs.{matched}
+use Rattle.st_effect.proofs.NamesListed.{named_in_row}
+use Rattle.st_puts.proofs.ListedIf.{or_parts, shown-None, shown-Some}
 
 -- ## What a row tells
 

@@ -13,10 +13,10 @@ use Rattle.st_marks.specs.Row.{CellMark, embed_row, merge, spread}
 use Rattle.st_marks.specs.declared.changes.Change.{Change}
 use Rattle.st_marks.specs.declared.intents.Intent.{Intent}
 use Rattle.st_marks.specs.declared.marks.RowMarks.{RowMarks}
-use Rattle.st_seq.proofs.KindLaws.{spread-merge}
-use Rattle.st_moves.proofs.ListedAfter.{row_listed}
+use Rattle.st_rows.proofs.KindLaws.{spread-merge}
+use Rattle.st_puts.proofs.RowLengths.{row_listed}
 use Rattle.st_effect.specs.Short.{HasShortRowsListed}
-use Rattle.st_effect.proofs.Shown.{shown-Some}
+use Rattle.st_puts.proofs.ListedIf.{shown-Some}
 
 pub change_short : (D : Document) (N : Intent) (C : Change) → HasShortRows (full D N) → IsEmbedding D N C → HasShortRowsListed C
 change_short D N C short e = has-all (λ (r : RowMarks). length (spread r.marks) < 2 ^ 32) C.rows row_short

@@ -5,7 +5,7 @@ use Rattle.std.specs.List.{AllByRecursion, list_all}
 use Rattle.st_lemmas.proofs.Bools.{and-both, and-true}
 use Rattle.st_marks.specs.Row.{CellMark}
 use Rattle.st_marks.specs.Listings.{cells_after}
-use Rattle.st_seq.proofs.Short.{all_after}
+use Rattle.st_rows.proofs.ShortRows.{all_after}
 
 pub short_row : (n : ℕ) (xs : List CellMark) → n ≡ min (length (cells_after xs)) 4294967296 → nat_lt n 4294967296 ≡ nat_lt (length xs) 4294967296
 short_row n xs e = let a = all_after xs in grind (arith, nat_tests, a, e)

@@ -31,20 +31,20 @@ use Rattle.st_marks.proofs.OneVerdict.{carried_extends}
 use Rattle.st_marks.proofs.Shared.{not_made}
 use Rattle.st_register.specs.Register.{reg_carried, reg_part_of}
 use Rattle.st_register.proofs.Documents.{void_is as register_void, whole_is as register_whole}
-use Rattle.st_seq.specs.Sequence.{ListsNew, row_carried, row_part_of}
-use Rattle.st_seq.proofs.DocumentsAfter.{void_is as row_void, whole_is as row_whole}
-use Rattle.st_seq.proofs.Existence.{contents_grow, lists_new}
+use Rattle.st_rows.specs.Sequence.{ListsNew, row_carried, row_part_of}
+use Rattle.st_rows.proofs.DocumentsAfter.{void_is as row_void, whole_is as row_whole}
+use Rattle.st_rows.proofs.Existence.{contents_grow, lists_new}
 use Rattle.st_trim.specs.Covers.{CoversStep}
 use Rattle.st_trim.specs.Evicted.{in_cleared}
 use Rattle.st_trim.specs.Trimmed.{ListsStep}
 use Rattle.st_trim.proofs.Effects.{effect_covers}
 use Rattle.st_effect.specs.inside.Done.{IsRegisterDone, IsRowDone, ListsDone, is_void, schema_done}
 use Rattle.st_effect.proofs.LooseListed.{MovesLoose, loose_listed, whole_moves}
-use Rattle.st_effect.proofs.Matching.{rising_same}
-use Rattle.st_effect.proofs.Named.{mentioned_there}
+use Rattle.st_effect.proofs.ItemPairs.{rising_same}
+use Rattle.st_effect.proofs.NamesListed.{mentioned_there}
 use Rattle.st_effect.proofs.RegistersListed.{register_listed}
 use Rattle.st_effect.proofs.RowsListed.{row_listed}
-use Rattle.st_effect.proofs.Voided.{void_covers, void_nodes, void_place, void_schemas}
+use Rattle.st_effect.proofs.VoidIntents.{void_covers, void_nodes, void_place, void_schemas}
 
 -- ## New nodes
 

@@ -10,7 +10,7 @@ ghost use Rattle.st_effect.specs.inside.Done.{AreRowsDone, IsRowDone};
 use crate::names::is_among;
 use st_ids::{List, NodeId};
 use st_marks::{Mark, RowMarks};
-use st_seq::{effect, void_effect};
+use st_rows::{effect, void_effect};
 use std::alloc::{AllocError, Global};
 
 // The step's marks of a row, by the change's. The commit makes the nodes `new`.

@@ -12,10 +12,10 @@ ghost use Rattle.st_normal.specs.Rules.{ObeysChangeRules, ObeysStepRules};
 ghost use Rattle.st_agree.specs.Apart.{TellsLeast};
 ghost use Rattle.st_moves.specs.Room.{HasRoomInRows};
 
-use crate::change::rebase_agreed;
 use st_agree::{FieldApart, agree};
 use st_ids::Or;
 use st_marks::{Change, Step};
+use st_rebase::rebase_agreed;
 use std::alloc::Global;
 
 /// A change over a step: what the change's intent is in the document after the step. Refused at a field, that is one which a

@@ -1,8 +1,9 @@
 //! Worked cases of a rebase: a change of a few rows and registers, a step over the same document, and the change after it.
 
-use st_family::{has_room_in_rows, rebase};
+use st_family::rebase;
 use st_ids::{Atom, CellId, FieldId, Key, List, NodeId, OPENING, Or, ROOT, Rev, Text};
 use st_marks::{Change, How, Loose, Mark, NewNode, RegMark, RegStep, RowMarks, Step};
+use st_rebase::has_room_in_rows;
 use std::alloc::{AllocError, Global};
 use std::test::Fail;
 

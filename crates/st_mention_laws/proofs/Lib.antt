@@ -1,2 +1,4 @@
+pub mod ClosedSets
 pub mod Mentions
-pub mod Thinned
+pub mod SpreadTells
+pub mod ThinForms

@@ -12,9 +12,9 @@ use Rattle.st_marks.specs.Extends.{GainsItems, no_more, item_gained, item_kept}
 use Rattle.st_marks.specs.How.{is_here}
 use Rattle.st_marks.specs.Listings.{cells_before}
 use Rattle.st_marks.specs.Row.{CellMark, Counted, Gap, Touch, Make, Fill, RowPart, SameCell, embed_cell, embed_cells, embed_made, embed_row, how, merge, step_cell, step_row}
-use Rattle.st_seq.specs.Differences.{first_difference}
-use Rattle.st_seq.proofs.KindLaws.{spread-merge}
-use Rattle.st_seq.proofs.Described.{change_finds, no_difference, step_finds}
+use Rattle.st_rows.specs.Differences.{first_difference}
+use Rattle.st_rows.proofs.KindLaws.{spread-merge}
+use Rattle.st_rows.proofs.ViewsOfRows.{change_finds, no_difference, step_finds}
 use Rattle.st_moves.specs.Carried.{carry_row}
 use Rattle.st_moves.specs.inside.Rows.{bare, listed_row, row_both, row_listed}
 

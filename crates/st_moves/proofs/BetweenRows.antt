@@ -1,7 +1,7 @@
 -- What the rows and registers of the document between hold.
-use Rattle.std.proofs.Common.{◌≡◌, ◌≢◌, Bool, true, false, ◌&&◌, List, [], ◌∷◌, map, Option, Some, None, cond, if◌then◌else◌, refl, sym, ap, ◌∙◌, subst}
+use Rattle.std.proofs.Common.{◌≡◌, Bool, true, false, ◌&&◌, List, [], ◌∷◌, map, Option, Some, None, cond, if◌then◌else◌, refl, sym, ap, ◌∙◌, subst}
 use Rattle.std.specs.List.{AllByRecursion}
-use Rattle.st_ids.specs.Listing.{AreDistinct, Has}
+use Rattle.st_ids.specs.Listing.{Has}
 use Rattle.st_ids.specs.declared.names.CellId.{CellId}
 use Rattle.st_ids.specs.declared.names.NodeId.{NodeId}
 use Rattle.st_marks.specs.declared.intents.Owned.{Owned}
@@ -13,19 +13,13 @@ use Rattle.st_marks.specs.Register.{holds_mentioned}
 use Rattle.st_marks.specs.Row.{SameCell}
 use Rattle.st_marks.proofs.Climb.{is_cell-true}
 use Rattle.st_marks.proofs.Later.{has_later}
-use Rattle.st_marks.proofs.Members.{all-has, has-all, has-map, map-has}
-use Rattle.st_agree_laws.proofs.Gained.{AllGained, gained_new, weaker}
-use Rattle.st_seq.specs.Sequence.{cells_of}
+use Rattle.st_marks.proofs.Members.{has-map}
+use Rattle.st_marks.proofs.Unique.{distinct_content}
+use Rattle.st_rows.proofs.GainedCells.{AllGained, cell_there, gained_new, weaker}
+use Rattle.st_rows.specs.Sequence.{cells_of}
 use Rattle.st_moves.specs.Between.{between, unless_taken}
 use Rattle.st_moves.specs.Carried.{row_between}
 use Rattle.st_moves.proofs.BetweenSound.{place_named, place_other}
-
-pub cell_there : (D : Document) (n : NodeId) (o : Owned) → Has (D.rows n) o → Has (cells_of (content D n)) o.cell
-cell_there D n o w = map-has (λ (s : Slot). s.cell) (content D n) (slot D o) (map-has (slot D) (D.rows n) o w)
-
-pub slots_once : (D : Document) (os : List Owned) → AreDistinct (λ (o : Owned). o.cell) os → AreDistinct (λ (s : Slot). s.cell) (map (slot D) os)
-slots_once D [] h = tt
-slots_once D (o ∷ os) h = (has-all (λ (s : Slot). s.cell ≢ o.cell) (map (slot D) os) (λ s w e. let r = has-map (slot D) os s w in all-has (λ (p : Owned). p.cell ≢ o.cell) os r.0 h.0 r.1 (ap (λ (t : Slot). t.cell) r.2 ∙ e)), slots_once D os h.1)
 
 -- the slot as another document has it
 abbrev refit : Document → Slot → Slot
@@ -101,4 +95,4 @@ module _ (D E : Document) (m : NodeId → Bool) (x : IsExtendedBy D E) where
   pub content_between : (n : NodeId) (g : GainsItems SameCell (content D n) (content E n)) → content B n ≡ row_between m g
   content_between n g =
       sym (refit_all (E.rows n)) ∙ sym (refitted g (all_of D (D.rows n)) (all_of E (E.rows n))
-      (weaker (λ t. (Has (cells_of (content D n)) t.cell → ⊥) × Has (content E n) t) (λ t. is_cell t.cell (D.place t.node) ≡ false) (not_there n) g (gained_new g (slots_once E (E.rows n) (x.after.once n)))))
+      (weaker (λ t. (Has (cells_of (content D n)) t.cell → ⊥) × Has (content E n) t) (λ t. is_cell t.cell (D.place t.node) ≡ false) (not_there n) g (gained_new g (distinct_content E (E.rows n) (x.after.once n)))))

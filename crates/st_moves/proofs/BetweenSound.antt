@@ -14,9 +14,10 @@ use Rattle.st_marks.specs.Embedding.{IsMentionedByIntent, named_by_intent}
 use Rattle.st_marks.specs.Extends.{IsExtendedBy, GainsItems, no_more, item_kept}
 use Rattle.st_marks.specs.Intent.{Fits}
 use Rattle.st_marks.specs.Register.{holds_mentioned}
-use Rattle.st_marks.proofs.Climb.{climb_end, climb_more, ends_above}
+use Rattle.st_marks.proofs.Climb.{climb_end, ends_above}
 use Rattle.st_marks.proofs.Later.{has_later, node_later}
-use Rattle.st_moves.specs.Between.{between, unless_taken, only_others, IsClosedIn}
+use Rattle.st_mention_laws.specs.Closed.{IsClosedIn}
+use Rattle.st_moves.specs.Between.{between, unless_taken, only_others}
 
 true_false : {b : Bool} → b ≡ true → b ≡ false → ⊥
 true_false e f = let q : ◌≡◌ {A = Bool} true false = sym e ∙ f in cc
@@ -226,7 +227,3 @@ module _ (D E : Document) (m : NodeId → Bool) where
 
       back : IsMentionedByIntent B N n → IsMentionedByIntent E N n
       back k = (k.0, k.1, k.2, k.3, sym (climb_named x closed k.3 k.0 (start k.0 k.1 k.2)) ∙ k.4)
-
--- what an intent mentions is closed above
-pub mentions_closed : (E : Document) (N : Intent) (m : NodeId → Bool) → ((n : NodeId) → (m n ≡ true) ↔ IsMentionedByIntent E N n) → IsClosedIn E m
-mentions_closed E N m w n p e up = let k = (w n).0 e in (w p).1 (k.0, k.1, k.2, suc k.3, climb_more (above E) k.3 k.0 n p k.4 up)

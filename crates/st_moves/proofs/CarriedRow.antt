@@ -10,8 +10,8 @@ use Rattle.st_marks.specs.Extends.{GainsItems, no_more, item_gained, item_kept}
 use Rattle.st_marks.specs.Row.{CellMark, Counted, Gap, Touch, Make, Fill, RowPart, SameCell, how, step_cell, step_row, embed_cell, embed_made, embed_cells, embed_row}
 use Rattle.st_marks.specs.How.{is_here}
 use Rattle.st_moves.specs.Carried.{row_between, full_mark, empty_mark, read_again, carried_found, carried_piece, carry_row, AreCovered}
-use Rattle.st_seq.specs.Walks.{Then}
-use Rattle.st_seq.proofs.Laying.{beside-kept, beside-gained}
+use Rattle.st_rows.specs.Walks.{Then}
+use Rattle.st_rows.proofs.PiecesBeside.{beside-kept, beside-gained}
 
 -- the part, with other nodes mentioned
 abbrev pub mentioning : (NodeId → Bool) → RowPart → RowPart

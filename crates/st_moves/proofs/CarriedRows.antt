@@ -17,11 +17,13 @@ use Rattle.st_marks.specs.Row.{SameCell, embed_row, step_row}
 use Rattle.st_marks.specs.Step.{IsStep}
 use Rattle.st_marks.proofs.Lookups.{group_at-group}
 use Rattle.st_marks.proofs.Members.{all-has, has-map}
-use Rattle.st_seq.specs.Sequence.{cells_of}
+use Rattle.st_rows.specs.Sequence.{cells_of}
 use Rattle.st_moves.specs.Between.{between}
 use Rattle.st_moves.specs.Carried.{carry_row, AreCovered}
-use Rattle.st_agree_laws.proofs.Gained.{AllGained, gained_new}
-use Rattle.st_moves.proofs.BetweenRows.{cell_there, content_between, slots_once}
+use Rattle.st_rows.proofs.GainedCells.{AllGained, gained_new}
+use Rattle.st_moves.proofs.BetweenRows.{content_between}
+use Rattle.st_rows.proofs.GainedCells.{cell_there}
+use Rattle.st_marks.proofs.Unique.{distinct_content}
 use Rattle.st_moves.proofs.CarriedRow.{NoGroupAtGained, carry_row-embed_row}
 use Rattle.st_mention_laws.proofs.Mentions.{IsCovered, covers}
 
@@ -71,7 +73,7 @@ module _ (D E : Document) (N : Intent) (x : IsExtendedBy D E) (f : Fits D N) (g 
         → carry_row (put_of N) m (embed_row (row_part emb.mentioned N n) (content D n)) (step_row step.mentioned (step.grows n))
         ≡ embed_row (row_part m N n) (content (between m D E) n)
     carried_rows n =
-        let new = gained_new (step.grows n) (slots_once E (E.rows n) (x.after.once n)) in
+        let new = gained_new (step.grows n) (distinct_content E (E.rows n) (x.after.once n)) in
         carry_row-embed_row (row_part m N n) emb.mentioned step.mentioned (step.grows n)
         (no_group_at m n (step.grows n) (only_new (step.grows n) (λ t. (Has (cells_of (content D n)) t.cell → ⊥)) (λ t. Has (content E n) t) new))
         (covered_in (step.grows n) (old_owner n))

@@ -23,7 +23,8 @@ use Rattle.st_marks.specs.Verdict.{IsBaseInEffect}
 use Rattle.st_register.proofs.Documents.{part_fits as register_fits}
 use Rattle.st_moves.specs.Between.{between}
 use Rattle.st_moves.specs.Carried.{carried_register}
-use Rattle.st_moves.proofs.BetweenSound.{mentions_between, mentions_closed, place_named}
+use Rattle.st_moves.proofs.BetweenSound.{mentions_between, place_named}
+use Rattle.st_mention_laws.proofs.ClosedSets.{mentions_closed}
 use Rattle.st_moves.proofs.CarriedRegister.{FitsRegister, carried_register-embed_register}
 use Rattle.st_moves.proofs.CarriedRows.{carried_rows}
 use Rattle.st_mention_laws.proofs.Mentions.{IsCovered, covers}

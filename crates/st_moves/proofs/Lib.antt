@@ -4,12 +4,11 @@ pub mod CarriedRow
 pub mod CarriedRows
 pub mod CarriedRegister
 pub mod ChangeCarried
-pub mod Indexing
-pub mod Listing
-pub mod Keeping
-pub mod Beside
+pub mod Indices
+pub mod OrderedNames
+pub mod NamesLeft
+pub mod BareRows
 pub mod BesideRows
-pub mod Assembled
+pub mod CarriedFields
 pub mod RowNames
-pub mod ListedAfter
 mod RoomAfter

@@ -20,10 +20,10 @@ use Rattle.st_marks.specs.declared.marks.How.TheVariants.{Stay}
 use Rattle.st_marks.specs.declared.marks.RowMarks.{RowMarks}
 use Rattle.st_marks.specs.declared.places.Slot.{Slot}
 use Rattle.st_marks.specs.declared.steps.Step.{Step}
-use Rattle.st_seq.specs.Changes.{may_list}
-use Rattle.st_seq.proofs.KindLaws.{length-embed_row, made_or_found, room_for_row, spread-merge}
+use Rattle.st_rows.specs.Changes.{may_list}
+use Rattle.st_rows.proofs.KindLaws.{length-embed_row, made_or_found, room_for_row, spread-merge}
 use Rattle.st_moves.specs.Room.{HasRoomAt}
-use Rattle.st_moves.proofs.ListedAfter.{made_listed, row_listed}
+use Rattle.st_puts.proofs.RowLengths.{made_listed, row_listed}
 
 -- ## A row that grows
 

@@ -14,7 +14,7 @@ use Rattle.st_marks.specs.Embedding.{row_marks, tells}
 use Rattle.st_marks.specs.Listings.{cells_before}
 use Rattle.st_marks.specs.Register.{RegisterPart, embed_register, holds_mentioned}
 use Rattle.st_marks.specs.Row.{CellMark, spread}
-use Rattle.st_seq.specs.Differences.{first_difference}
+use Rattle.st_rows.specs.Differences.{first_difference}
 use Rattle.st_moves.specs.Carried.{carried_register, carry_row, goal_of, held_between}
 use Rattle.st_moves.specs.inside.Registers.{register_beside}
 use Rattle.st_moves.specs.inside.Rows.{bare, listed_row, row_beside, row_listed}

@@ -13,7 +13,7 @@ use Rattle.st_marks.specs.Row.{CellMark, Counted, Gap, Touch, Make, Fill, SameCe
 use Rattle.st_marks.specs.How.{is_here}
 use Rattle.st_marks.specs.Register.{embed_register, holds_mentioned}
 use Rattle.st_moves.specs.Between.{only_others}
-use Rattle.st_seq.specs.Walks.{CellPiece, Both, First, Then, beside}
+use Rattle.st_rows.specs.Walks.{CellPiece, Both, First, Then, beside}
 
 -- the later row's cells: those of given nodes as the later row has them, the others as the earlier one has them
 abbrev pub row_between : (NodeId → Bool) → {c d : List Slot} → GainsItems SameCell c d → List Slot

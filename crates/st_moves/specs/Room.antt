@@ -5,7 +5,7 @@ use Rattle.st_marks.specs.declared.changes.Change.{Change}
 use Rattle.st_marks.specs.declared.marks.RowMarks.{RowMarks}
 use Rattle.st_marks.specs.declared.steps.Step.{Step}
 use Rattle.st_marks.specs.Listings.{marks_of}
-use Rattle.st_seq.specs.Changes.{may_list}
+use Rattle.st_rows.specs.Changes.{may_list}
 
 -- of a row, what both make and what either finds are fewer than 2^32 cells
 abbrev pub HasRoomAt : List RowMarks → List RowMarks → NodeId → Type 0

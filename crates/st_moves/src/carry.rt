@@ -6,18 +6,18 @@ ghost use Rattle.st_ids.specs.Order.{node_cmp};
 ghost use Rattle.st_marks.specs.declared.intents.To.{To as Aim};
 ghost use Rattle.st_marks.specs.Row.{Counted, how as how_at, spread};
 ghost use Rattle.st_marks.specs.Listings.{cells_before};
-ghost use Rattle.st_seq.specs.Changes.{may_list};
-ghost use Rattle.st_seq.specs.Differences.{IsApart, first_difference};
-ghost use Rattle.st_seq.specs.Merged.{IsMerged};
-ghost use Rattle.st_seq.specs.Reading.{cell_of};
-ghost use Rattle.st_seq.specs.Pieces.{IsSingle};
-ghost use Rattle.st_seq.specs.Walks.{Then};
+ghost use Rattle.st_rows.specs.Changes.{may_list};
+ghost use Rattle.st_rows.specs.Differences.{IsApart, first_difference};
+ghost use Rattle.st_rows.specs.Merged.{IsMerged};
+ghost use Rattle.st_rows.specs.Reading.{cell_of};
+ghost use Rattle.st_rows.specs.Pieces.{IsSingle};
+ghost use Rattle.st_rows.specs.Walks.{Then};
 ghost use Rattle.st_moves.specs.Carried.{carried_found, carried_piece, carry_row as carried_row, empty_mark, full_mark, read_again};
 
 use st_ids::{CellId, List, NodeId, Or, is_same_cell};
 use st_kind::Apart;
 use st_marks::{How, Mark, To};
-use st_seq::{Piece, Table, lay_beside};
+use st_rows::{Piece, Table, lay_beside};
 use std::alloc::Global;
 use std::collections::{BTreeMap, BTreeSet};
 

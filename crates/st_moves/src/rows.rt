@@ -11,18 +11,11 @@ ghost use Rattle.st_ids.specs.declared.names.NodeId.{NodeId as Node};
 ghost use Rattle.st_marks.specs.declared.marks.RowMarks.{RowMarks as Row};
 ghost use Rattle.st_marks.specs.Embedding.{tells as tells_cell};
 ghost use Rattle.st_marks.specs.Row.{spread};
-ghost use Rattle.st_seq.specs.Changes.{may_list};
+ghost use Rattle.st_rows.specs.Changes.{may_list};
 ghost use Rattle.st_moves.specs.Room.{HasRoomAt};
 ghost use Rattle.st_moves.specs.Index.{IsIndex};
-ghost use Rattle.st_moves.specs.inside.Rows.{
-  bare as bare_cells,
-  listed_row,
-  mark_tells,
-  row_beside as beside,
-  row_both as both,
-  row_first as first,
-  row_then as then,
-};
+ghost use Rattle.st_moves.specs.inside.Rows.{bare as bare_cells, listed_row, row_beside as beside, row_both as both, row_first as first, row_then as then};
+ghost use Rattle.st_mention_laws.specs.Tells.{mark_tells};
 
 use crate::carry::carry_row;
 use crate::index::{add_rows, index_rows, row_in};

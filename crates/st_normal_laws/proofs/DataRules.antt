@@ -8,15 +8,15 @@ use Rattle.st_marks.specs.Embedding.{IsEmbedding}
 use Rattle.st_marks.specs.Intent.{Fits}
 use Rattle.st_normal.specs.Rules.{ObeysDataRules}
 use Rattle.st_normal_laws.proofs.EasyCells.{cells_are_once}
-use Rattle.st_normal_laws.proofs.EasyFound.{fields_are_found, nodes_are_found_once}
+use Rattle.st_puts.proofs.FoundOnce.{fields_are_found, nodes_are_found_once}
 use Rattle.st_normal_laws.proofs.EasyLoose.{loose_are_put}
 use Rattle.st_normal_laws.proofs.EasyNames.{filled_cells_are_old, holes_have_movers, new_names_have_its_revision, rows_are_short}
 use Rattle.st_normal_laws.proofs.EasyPutOnce.{nodes_are_put_once}
 use Rattle.st_normal_laws.proofs.EasyPuts.{put_nodes_leave, root_stays}
-use Rattle.st_normal_laws.proofs.EasyRegisters.{filled_are_cleared, keys_are_there, marks_fit, new_rows_are_made, registers_tell}
+use Rattle.st_puts.proofs.RegisterRules.{filled_are_cleared, keys_are_there, marks_fit, new_rows_are_made, registers_tell}
 use Rattle.st_normal_laws.proofs.EasyRing.{no_ring_of_new}
 use Rattle.st_normal_laws.proofs.EasyRules.{lists_rise, marks_are_merged, needed_are_found, new_not_found, new_registers_are_empty, no_ring_before, opening_is_base, rows_tell}
-use Rattle.st_normal_laws.proofs.EasyStaying.{staying_are_mentioned}
+use Rattle.st_puts.proofs.StayingNodes.{staying_are_mentioned}
 
 pub embedding_obeys : (D : Document) (N : Intent) (C : Change) → IsSoundInForm D → Fits D N → HasShortRows (full D N) → N.schema ≡ None → IsEmbedding D N C → ObeysDataRules C
 embedding_obeys D N C x f s p e = record {

@@ -22,10 +22,10 @@ use Rattle.st_marks.specs.Listings.{cells_in}
 use Rattle.st_marks.proofs.Lookups.{group_at-group, made_there, new_row_of-group}
 use Rattle.st_marks.proofs.Members.{all-has, first-has, flat_map-has, has-all, has-map, list_distinct, one_list}
 use Rattle.st_normal.specs.Rules.{CellsAreOnce, entries_of_change}
-use Rattle.st_normal_laws.proofs.Easy.{row-look}
-use Rattle.st_normal_laws.proofs.EasyFound.{content_once}
-use Rattle.st_normal_laws.proofs.Groups.{distinct-flat}
-use Rattle.st_normal_laws.proofs.MeantFits.{rising_distinct}
+use Rattle.st_puts.proofs.OverDocuments.{row-look}
+use Rattle.st_puts.proofs.FoundOnce.{content_once}
+use Rattle.st_puts.proofs.Groups.{distinct-flat}
+use Rattle.st_puts.proofs.MeaningFits.{rising_distinct}
 
 abbrev IsOf : List Owned → CellId → Type 0
 IsOf os d = (o : Owned) × Has os o × (o.cell ≡ d)

@@ -29,10 +29,10 @@ use Rattle.st_marks.proofs.Lookups.{group_found, has-put_in, put-has, put_clears
 use Rattle.st_marks.proofs.Members.{all-has, append_left, append_right, flat_map-has, has-all, has-flat_map, map-has}
 use Rattle.st_normal.specs.Rules.{Entries, LooseNodesArePut, incoming_nodes, in_rows, entries_of_change, put_at}
 use Rattle.st_ids.proofs.Listings.{item_of-has}
-use Rattle.st_normal_laws.proofs.Basics.{is-one, register-not-nowhere}
-use Rattle.st_normal_laws.proofs.Easy.{embedding_over, loose-look, row-listed}
-use Rattle.st_normal_laws.proofs.EasyStaying.{loose-how}
-use Rattle.st_normal_laws.proofs.Puts.{put-is_here}
+use Rattle.st_puts.proofs.Basics.{is-one, register-not-nowhere}
+use Rattle.st_puts.proofs.OverDocuments.{embedding_over, loose-look, row-listed}
+use Rattle.st_puts.proofs.StayingNodes.{loose-how}
+use Rattle.st_puts.proofs.PutsOfIntents.{put-is_here}
 
 -- marks by which a node comes in tell something
 incoming-tells : (ms : List CellMark) (n : NodeId) → Has (incoming_nodes ms) n → list_any tells ms ≡ true

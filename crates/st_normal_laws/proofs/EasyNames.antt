@@ -32,15 +32,15 @@ use Rattle.st_marks.proofs.Members.{all-has, append_left, first-has, flat_map-ha
 use Rattle.st_normal.specs.declared.entries.Found.{Found}
 use Rattle.st_normal.specs.Rules.{FilledCellsAreOld, HolesHaveMovers, IsFoundAs, Entries, NewNamesHaveItsRevision, RowsAreShort, fill_owners, hole_owners, in_rows, entries_of_change}
 use Rattle.st_ids.proofs.Listings.{has-item_of}
-use Rattle.st_normal_laws.specs.Meant.{IsOver}
-use Rattle.st_normal_laws.specs.Told.{IsAsSeen}
-use Rattle.st_normal_laws.proofs.Easy.{embedding_over, loose-look, mentioned-found, row-look, row-makes}
-use Rattle.st_normal_laws.proofs.EasyFound.{has-new}
-use Rattle.st_normal_laws.proofs.EasyRegisters.{how_is}
-use Rattle.st_normal_laws.proofs.EasyStaying.{loose-how, touch-row}
-use Rattle.st_normal_laws.proofs.FoundPlaces.{PlacedAs, as_row, as_held, as_loose, filled, found_placed}
+use Rattle.st_puts.specs.Meant.{IsOver}
+use Rattle.st_puts.specs.Seen.{IsAsSeen}
+use Rattle.st_puts.proofs.OverDocuments.{embedding_over, loose-look, mentioned-found, row-look, row-makes}
+use Rattle.st_puts.proofs.FoundOnce.{has-new}
+use Rattle.st_puts.proofs.RegisterRules.{how_is}
+use Rattle.st_puts.proofs.StayingNodes.{loose-how, touch-row}
+use Rattle.st_puts.proofs.FoundPlaces.{PlacedAs, as_row, as_held, as_loose, filled, found_placed}
 use Rattle.st_normal_laws.proofs.Lengths.{row-length}
-use Rattle.st_seq.proofs.Short.{all_after}
+use Rattle.st_rows.proofs.ShortRows.{all_after}
 
 -- an owner of a filled cell, with the cell
 pub fill-owner : (ms : List CellMark) (n : NodeId) → Has (fill_owners ms) n → (d : CellId) × Has ms (Fill d n)

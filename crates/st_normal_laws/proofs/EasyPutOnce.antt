@@ -23,13 +23,13 @@ use Rattle.st_marks.specs.Listings.{cells_in, one_or_none}
 use Rattle.st_marks.proofs.Lookups.{has-put, put_in-has}
 use Rattle.st_marks.proofs.Members.{all-has, distinct-append, has-all, has-flat_map, list_distinct}
 use Rattle.st_normal.specs.Rules.{NodesArePutOnce, incoming_nodes, in_rows, entries_of_change, put_at}
-use Rattle.st_normal_laws.proofs.Basics.{one-is}
-use Rattle.st_normal_laws.proofs.Easy.{row-look}
+use Rattle.st_puts.proofs.Basics.{one-is}
+use Rattle.st_puts.proofs.OverDocuments.{row-look}
 use Rattle.st_normal_laws.proofs.EasyCells.{IsInRow, cells_are_once, in-row, one-row}
-use Rattle.st_normal_laws.proofs.EasyRegisters.{fill-put}
-use Rattle.st_normal_laws.proofs.Groups.{distinct-flat}
-use Rattle.st_normal_laws.proofs.MeantFits.{rising_distinct}
-use Rattle.st_normal_laws.proofs.Puts.{is_here-put}
+use Rattle.st_puts.proofs.RegisterRules.{fill-put}
+use Rattle.st_puts.proofs.Groups.{distinct-flat}
+use Rattle.st_puts.proofs.MeaningFits.{rising_distinct}
+use Rattle.st_puts.proofs.PutsOfIntents.{is_here-put}
 
 -- a mark by which a node comes into a cell
 abbrev IsComing : CellMark → CellId → NodeId → Type 0

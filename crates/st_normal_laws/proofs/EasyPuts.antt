@@ -27,17 +27,17 @@ use Rattle.st_marks.specs.How.{is_here}
 use Rattle.st_normal.specs.Rules.{Entries, in_rows, entries_of_change, IsFoundAs, PutNodesLeave, RootStays, incoming_nodes, put_at}
 use Rattle.st_marks.proofs.Lookups.{group_at-group, made_there, put-has, has-put, put_in-has}
 use Rattle.st_marks.proofs.Members.{all-has, append_left, has-append, map-has, has-map, flat_map-has, has-flat_map, has-all}
-use Rattle.st_normal_laws.specs.Meant.{IsOver}
+use Rattle.st_puts.specs.Meant.{IsOver}
 use Rattle.st_marks.specs.declared.intents.Put.{Put}
-use Rattle.st_normal_laws.proofs.FoundPlaces.{PlacedAs, as_row, as_held, as_loose, found_placed}
-use Rattle.st_normal_laws.proofs.Easy.{embedding_over, mentioned-found, row-look, loose-is, loose-look, parts}
-use Rattle.st_normal_laws.proofs.Puts.{is_here-put}
+use Rattle.st_puts.proofs.FoundPlaces.{PlacedAs, as_row, as_held, as_loose, found_placed}
+use Rattle.st_puts.proofs.OverDocuments.{embedding_over, mentioned-found, row-look, loose-is, loose-look, parts}
+use Rattle.st_puts.proofs.PutsOfIntents.{is_here-put}
 use Rattle.st_marks.proofs.Shared.{same_to-true}
 use Rattle.st_marks.specs.declared.marks.How.TheVariants.{Here, Leave}
-use Rattle.st_normal_laws.proofs.EasyFound.{has-new}
-use Rattle.st_normal_laws.proofs.EasyRegisters.{fill-put, how_is}
-use Rattle.st_normal_laws.proofs.EasyStaying.{loose-how, touch-row}
-use Rattle.st_normal_laws.proofs.Basics.{not-true, one-is, register-not-nowhere, row-not-nowhere}
+use Rattle.st_puts.proofs.FoundOnce.{has-new}
+use Rattle.st_puts.proofs.RegisterRules.{fill-put, how_is}
+use Rattle.st_puts.proofs.StayingNodes.{loose-how, touch-row}
+use Rattle.st_puts.proofs.Basics.{not-true, one-is, register-not-nowhere, row-not-nowhere}
 use Rattle.st_lemmas.proofs.Bools.{true-false}
 
 -- who comes into a cell is put there; the cell is made, or empty

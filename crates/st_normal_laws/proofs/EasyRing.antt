@@ -31,11 +31,11 @@ use Rattle.st_normal.specs.Rules.{IsNewInNew, NoRingOfNewNodes, incoming_nodes}
 use Rattle.st_normal.proofs.AboveItself.{never_ends, one_step, step_before}
 use Rattle.st_ids.proofs.Listings.{item_of-has}
 use Rattle.st_normal.proofs.ShownPlaces.{after_stands}
-use Rattle.st_normal_laws.specs.Meant.{IsOver}
-use Rattle.st_normal_laws.proofs.Easy.{embedding_over, new-is, row-look}
+use Rattle.st_puts.specs.Meant.{IsOver}
+use Rattle.st_puts.proofs.OverDocuments.{embedding_over, new-is, row-look}
 use Rattle.st_normal_laws.proofs.EasyPuts.{row-incoming}
-use Rattle.st_normal_laws.proofs.EasyRegisters.{fill-put}
-use Rattle.st_normal_laws.proofs.FoundPlaces.{touched}
+use Rattle.st_puts.proofs.RegisterRules.{fill-put}
+use Rattle.st_puts.proofs.FoundPlaces.{touched}
 
 -- who stands in a row after stood there before, or comes in
 after-comes : (ms : List CellMark) (n : NodeId) → Has (stands_after ms) n → ((d : CellId) × (h : How) × Has ms (Touch d n h)) ⊎ Has (incoming_nodes ms) n

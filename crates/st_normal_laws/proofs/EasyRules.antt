@@ -23,10 +23,10 @@ use Rattle.st_normal.specs.Rules.{IsFound, Entries, entries_of_change, ChangeIsR
 use Rattle.st_marks.specs.Listings.{cells_before, nodes_new, Places, placed_in_row, placed_in_register, placed_nowhere, CellView, cell_view, listing_before_change}
 use Rattle.st_ids.proofs.Listings.{has-item_of, item_of-has}
 use Rattle.st_marks.proofs.Members.{all-has, append_left, append_right, has-all}
-use Rattle.st_normal_laws.specs.Meant.{IsOver}
+use Rattle.st_puts.specs.Meant.{IsOver}
 use Rattle.st_marks.specs.declared.intents.Put.{Put}
-use Rattle.st_normal_laws.proofs.FoundPlaces.{held_place, touch_place, found_there}
-use Rattle.st_normal_laws.proofs.Easy.{embedding_over, mentioned-found, row-look, row-told}
+use Rattle.st_puts.proofs.FoundPlaces.{held_place, touch_place, found_there}
+use Rattle.st_puts.proofs.OverDocuments.{embedding_over, mentioned-found, row-look, row-told}
 use Rattle.st_marks.specs.Agree.{LeadsUp}
 use Rattle.st_marks.specs.Agree.LeadsUp.{one_up, further_up}
 use Rattle.st_marks.specs.Verdict.{HasBase}

@@ -36,16 +36,16 @@ use Rattle.st_ids.proofs.Listings.{has-item_of}
 use Rattle.st_marks.proofs.Lookups.{put-has, group-new_row_of}
 use Rattle.st_marks.proofs.Members.{all-has, has-all, append_left, append_right, has-append, map-has, has-map, flat_map-has, has-flat_map, any-has, has-any, distinct-has}
 use Rattle.st_normal.proofs.ShownPlaces.{stands-after}
-use Rattle.st_normal_laws.specs.Meant.{IsOver, cleared_at, leaving_nodes, meant_intent, put_to, reg_puts}
-use Rattle.st_normal_laws.proofs.FoundPlaces.{touched, filled, found_there, row_field-has, reg_field-has}
-use Rattle.st_normal_laws.proofs.Mentioned.{leaving-has, row_put-has}
-use Rattle.st_normal_laws.proofs.Exact.{put-cases, put-moved, known-need}
-use Rattle.st_normal_laws.proofs.Puts.{put_once, put-is, cell-put, one_mark}
-use Rattle.st_normal_laws.proofs.Groups.{start_once, group-cases}
+use Rattle.st_puts.specs.Meant.{IsOver, cleared_at, leaving_nodes, meant_intent, put_to, reg_puts}
+use Rattle.st_puts.proofs.FoundPlaces.{touched, filled, found_there, row_field-has, reg_field-has}
+use Rattle.st_puts.proofs.MentionsOfIntents.{leaving-has, row_put-has}
+use Rattle.st_puts.proofs.MentionsListed.{put-cases, put-moved, known-need}
+use Rattle.st_puts.proofs.PutsOfIntents.{put_once, put-is, cell-put, one_mark}
+use Rattle.st_puts.proofs.Groups.{start_once, group-cases}
 use Rattle.st_normal.specs.inside.Links.{stands_after}
-use Rattle.st_normal_laws.proofs.MeantFits.{rows_once, regs_once, new_once, new-is, is-new, found-old, moving-found, group-nonempty, group-cell, cell-made, make-made, made_all, once-filter_map, cell_once, anchor_once, anchor-row, new_row-none, make-owner, made-new, made-all, group-cells}
-use Rattle.st_normal_laws.proofs.Basics.{one-is}
-use Rattle.st_seq.proofs.Rebased.{is-here}
+use Rattle.st_puts.proofs.MeaningFits.{rows_once, regs_once, new_once, new-is, is-new, found-old, moving-found, group-nonempty, group-cell, cell-made, make-made, made_all, once-filter_map, cell_once, anchor_once, anchor-row, new_row-none, make-owner, made-new, made-all, group-cells}
+use Rattle.st_puts.proofs.Basics.{one-is}
+use Rattle.st_rows.proofs.RowRebases.{is-here}
 use Rattle.st_ids.proofs.Shared.{filtered}
 
 make-stands : (ms : List CellMark) (c : CellId) (n : NodeId) → Has ms (Make c n true) → Has (stands_after ms) n
@@ -292,7 +292,7 @@ module _ (D : Document) (C : Change) (x : IsSoundInForm D) (w : ObeysDataRules C
       held r i (inl e) = ap (λ q. option_or q (cond (is_leave r.how) None (cond (Rattle.std.specs.Prelude.◌&&◌ r.clear (not (is_here r.how))) None r.held))) e
       held r i (inr e) = absurd (found-old D C x w o plain n (map-has (λ (f : Found). f.node) L.found (record { node = n; how = r.how })
           (append_right (in_rows found_in C.rows) (flat_map found_at C.regs ++ found_loose C.loose) (record { node = n; how = r.how })
-          (append_left (flat_map found_at C.regs) (found_loose C.loose) (record { node = n; how = r.how }) (flat_map-has found_at C.regs r (record { node = n; how = r.how }) i (Rattle.st_normal_laws.proofs.FoundPlaces.is-found_held r.held n r.how e.1))))) h)
+          (append_left (flat_map found_at C.regs) (found_loose C.loose) (record { node = n; how = r.how }) (flat_map-has found_at C.regs r (record { node = n; how = r.how }) i (Rattle.st_puts.proofs.FoundPlaces.is-found_held r.held n r.how e.1))))) h)
 
   new-above : (n p : NodeId) → above_new N n ≡ Some p → Has (nodes_new C.new) n × Has (nodes_new C.new) p × ((s : Spot) × Places (listing_after_change C) n s × (node_of s ≡ Some p))
   new-above n p e = one (is_new N n) refl e

@@ -26,9 +26,9 @@ use Rattle.st_normal.specs.Rules.{IsFound, Entries, ObeysDataRules, fields_of, f
 use Rattle.st_marks.specs.Listings.{CellView, Places, placed_in_row, placed_in_register, cells_after, cells_before, cells_in, cells_made, nodes_new, one_or_none, nodes_standing, listing_before_change}
 use Rattle.st_ids.proofs.Listings.{has-item_of}
 use Rattle.st_marks.proofs.Members.{all-has, has-all, append_left, append_right, has-append, map-has, has-map, flat_map-has, has-flat_map, distinct-left, distinct-between, list_distinct, one_list}
-use Rattle.st_normal_laws.specs.Meant.{IsOver, meant_intent}
-use Rattle.st_normal_laws.proofs.Groups.{distinct-flat}
-use Rattle.st_normal_laws.proofs.MeantFits.{rising_distinct, append-assoc}
+use Rattle.st_puts.specs.Meant.{IsOver, meant_intent}
+use Rattle.st_puts.proofs.Groups.{distinct-flat}
+use Rattle.st_puts.proofs.MeaningFits.{rising_distinct, append-assoc}
 use Rattle.st_ids.specs.declared.names.Atom.{Atom}
 use Rattle.st_marks.specs.declared.schemas.SchemaEntry.{SchemaEntry}
 use Rattle.st_marks.specs.Embedding.{is_among}
@@ -201,7 +201,7 @@ module _ (C : Change) (w : ObeysDataRules C) (plain : C.schema ≡ None) where
 
   reg-found : (r : RegMark) (n : NodeId) → Has C.regs r → r.held ≡ Some n → IsFound L n
   reg-found r n i e = map-has (λ (f : Found). f.node) L.found (record { node = n; how = r.how }) (append_right found_rows (found_regs ++ found_loose C.loose) (record { node = n; how = r.how })
-      (append_left found_regs (found_loose C.loose) (record { node = n; how = r.how }) (flat_map-has found_at C.regs r (record { node = n; how = r.how }) i (Rattle.st_normal_laws.proofs.FoundPlaces.is-found_held r.held n r.how e))))
+      (append_left found_regs (found_loose C.loose) (record { node = n; how = r.how }) (flat_map-has found_at C.regs r (record { node = n; how = r.how }) i (Rattle.st_puts.proofs.FoundPlaces.is-found_held r.held n r.how e))))
 
   -- ## No ring
 

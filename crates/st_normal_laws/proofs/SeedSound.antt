@@ -17,11 +17,11 @@ use Rattle.st_marks.specs.Document.{content, node_of, IsSoundInForm}
 use Rattle.st_ids.specs.Root.{root}
 use Rattle.st_marks.specs.Listings.{CellView, one_or_none, nodes_standing}
 use Rattle.st_marks.proofs.Members.{all-has, has-all, append_left, append_right, has-append, map-has, has-map, flat_map-has, has-flat_map, first-has, distinct-has, distinct-append, distinct-between, distinct-left, distinct-right, one_list}
-use Rattle.st_normal_laws.specs.Told.{AreAsSeen, IfTold}
+use Rattle.st_puts.specs.Seen.{AreAsSeen, IfTold}
 use Rattle.st_normal_laws.specs.Laid.{LaidRow, LaidHeld, Stand, Layout, stands_in, all_stands, laid_document, StandsAt, IsLayout}
 use Rattle.st_normal_laws.specs.Seed.{lift, fresh, fresh_cell, fresh_node, FoundRow, FoundHeld, Finds, lay_cell, lay, lay_row, lay_held, owners_laid, seed, cells_named, nodes_found, IsFoundAt, IsBelow, CanBeFound}
 use Rattle.st_normal_laws.proofs.LaidSound.{has-stands, laid_content, laid_sound, has-held}
-use Rattle.st_normal_laws.proofs.Basics.{is-one, one-is}
+use Rattle.st_puts.proofs.Basics.{is-one, one-is}
 
 -- ## Fresh names don't clash
 

@@ -31,24 +31,24 @@ use Rattle.st_marks.specs.Listings.{cells_after, cells_before, one_or_none}
 use Rattle.st_ids.proofs.Listings.{has-item_of, item_of-has}
 use Rattle.st_marks.proofs.Lookups.{put-has, has-put_in, put_in-has}
 use Rattle.st_marks.proofs.Members.{all-has, append_left, append_right, has-append, map-has, has-map, flat_map-has, first-has, distinct-has, first-distinct}
-use Rattle.st_normal_laws.specs.Meant.{Along, IsOver, along, leaving_nodes, meant_intent, put_to}
-use Rattle.st_normal_laws.proofs.FoundPlaces.{touched, filled, found_there, PlacedAs, as_row, as_held, as_loose, found_placed, is-found_held, has-found_in}
-use Rattle.st_normal_laws.specs.Mentions.{moving_nodes, mentions}
-use Rattle.st_normal_laws.proofs.Mentioned.{moving-has, row_put-has, here-put, fill-put, has-moving, has-staying}
-use Rattle.st_normal_laws.proofs.Exact.{put-cases, put-moved, moved-put, mentions-exact, mentions-found, listed-field, listed-moved, stay-leave, found-row, found-reg, found-loose, is-found, put-reg, put-loose}
-use Rattle.st_normal_laws.proofs.Puts.{put-is, cell-put, one_mark, is_here-put, put-is_here}
+use Rattle.st_puts.specs.Meant.{Along, IsOver, along, leaving_nodes, meant_intent, put_to}
+use Rattle.st_puts.proofs.FoundPlaces.{touched, filled, found_there, PlacedAs, as_row, as_held, as_loose, found_placed, is-found_held, has-found_in}
+use Rattle.st_puts.specs.ChangeMentions.{moving_nodes, mentions}
+use Rattle.st_puts.proofs.MentionsOfIntents.{moving-has, row_put-has, here-put, fill-put, has-moving, has-staying}
+use Rattle.st_puts.proofs.MentionsListed.{put-cases, put-moved, moved-put, mentions-exact, mentions-found, listed-field, listed-moved, stay-leave, found-row, found-reg, found-loose, is-found, put-reg, put-loose}
+use Rattle.st_puts.proofs.PutsOfIntents.{put-is, cell-put, one_mark, is_here-put, put-is_here}
 use Rattle.st_marks.proofs.Shared.{same_to-true}
-use Rattle.st_normal_laws.proofs.Groups.{along-has, IsMarkOf, AreMade, row_along, has-along, ts_once, at-start, at-cell, no-row, same_row}
-use Rattle.st_normal_laws.proofs.MeantFits.{rows_once, regs_once, new_once, found-old, make-put, put-row, made-new}
+use Rattle.st_puts.proofs.Groups.{along-has, IsMarkOf, AreMade, row_along, has-along, ts_once, at-start, at-cell, no-row, same_row}
+use Rattle.st_puts.proofs.MeaningFits.{rows_once, regs_once, new_once, found-old, make-put, put-row, made-new}
 use Rattle.st_marks.specs.CarryOut.{full, with_groups}
 use Rattle.st_marks.specs.Embedding.{IsEmbedding, embed_loose, is_among, is_loose, is_nowhere, row_marks, row_part, register_part, tells}
 use Rattle.st_marks.specs.Register.{comes_in, embed_register, holds_mentioned, how_held}
 use Rattle.st_normal.proofs.NoRings.{among_has}
 use Rattle.st_marks.proofs.Climb.{stands}
 use Rattle.st_normal_laws.proofs.MeantIntent.{reg-put, clear-is, is-clear, meant_is_intent}
-use Rattle.st_normal_laws.proofs.Basics.{is-one, not-false, not-true, register-not-nowhere, row-not-nowhere}
+use Rattle.st_puts.proofs.Basics.{is-one, not-false, not-true, register-not-nowhere, row-not-nowhere}
 use Rattle.st_normal_laws.proofs.Lengths.{row-length}
-use Rattle.st_seq.proofs.Short.{all_after}
+use Rattle.st_rows.proofs.ShortRows.{all_after}
 use Rattle.st_lemmas.proofs.Bools.{true-false, and-both, and-true, or-left, or-right}
 use Rattle.st_ids.proofs.Shared.{filtered}
 

@@ -41,19 +41,19 @@ use Rattle.st_normal.specs.Rules.{AreEntriesBehind, CellsAreOnce, FieldsAreFound
 use Rattle.st_marks.specs.How.{is_stay}
 use Rattle.st_normal.proofs.AboveItself.{never_ends, one_step, step_before}
 use Rattle.st_ids.proofs.Listings.{has-item_of, item_of-has}
-use Rattle.st_normal_laws.specs.Told.{AreAsSeen, IsAsSeen}
-use Rattle.st_normal_laws.proofs.Basics.{register-not-nowhere, row-not-nowhere}
-use Rattle.st_normal_laws.proofs.EasyFound.{held-alone, loose-once, touched-once}
+use Rattle.st_puts.specs.Seen.{AreAsSeen, IsAsSeen}
+use Rattle.st_puts.proofs.Basics.{register-not-nowhere, row-not-nowhere}
+use Rattle.st_puts.proofs.FoundOnce.{held-alone, loose-once, touched-once}
 use Rattle.st_normal_laws.proofs.EasyNames.{fill-owner}
 use Rattle.st_normal_laws.proofs.EasyRules.{merged-told}
-use Rattle.st_normal_laws.proofs.FoundPlaces.{found_held-is, found_in-has}
-use Rattle.st_normal_laws.proofs.Groups.{distinct-flat}
-use Rattle.st_normal_laws.proofs.MeantFits.{rising_distinct}
+use Rattle.st_puts.proofs.FoundPlaces.{found_held-is, found_in-has}
+use Rattle.st_puts.proofs.Groups.{distinct-flat}
+use Rattle.st_puts.proofs.MeaningFits.{rising_distinct}
 use Rattle.st_normal_laws.proofs.SchemaRules.{last-entry}
-use Rattle.st_normal_laws.proofs.StepFound.{cells-once, comes-put, empty-not, fill-place, found-at, found-named, has-reg, known as named-known, leaves, loose-place, make-place, moved, named-up, one-or-other, put-at, put-place, reg-is, root-or-found, row-listed, row-look, row-register, same-register, same-row, slot-known, stands-once, told-listed, touch-place, touched-as}
-use Rattle.st_normal_laws.proofs.StepRows.{cell_with, fill-step, in-row-after, incoming-mark, incoming-once, make-step, step-cells-once}
-use Rattle.st_normal_laws.proofs.Told.{step_sees_after, step_sees_before}
-use Rattle.st_seq.proofs.Documents.{can_hold, in_document}
+use Rattle.st_puts.proofs.StepPlaces.{cells-once, comes-put, empty-not, fill-place, found-at, found-named, has-reg, known as named-known, leaves, loose-place, make-place, moved, named-up, one-or-other, put-at, put-place, reg-is, root-or-found, row-listed, row-look, row-register, same-register, same-row, slot-known, stands-once, told-listed, touch-place, touched-as}
+use Rattle.st_puts.proofs.StepRows.{cell_with, fill-step, in-row-after, incoming-mark, incoming-once, make-step, step-cells-once}
+use Rattle.st_puts.proofs.RowsAsSeen.{step_sees_after, step_sees_before}
+use Rattle.st_rows.proofs.Documents.{can_hold, in_document}
 use Rattle.st_lemmas.proofs.Bools.{or-left, or-right}
 
 -- ## In one row

@@ -15,8 +15,8 @@ use Rattle.st_marks.proofs.Members.{all-has, has-all, append_left, append_right,
 use Rattle.st_normal_laws.specs.Seed.{FoundRow}
 use Rattle.st_normal_laws.specs.Two.{IsNamedAt, RowsAgree, cell_key, cells_of_row, join, cells_of_both, joined_row, lists_row, node_key, rows_of_both}
 use Rattle.st_normal_laws.specs.inside.Two.{AreInPlace, keys}
-use Rattle.st_normal_laws.proofs.Groups.{distinct-flat}
-use Rattle.st_normal_laws.proofs.Basics.{not-true, one-is}
+use Rattle.st_puts.proofs.Groups.{distinct-flat}
+use Rattle.st_puts.proofs.Basics.{not-true, one-is}
 use Rattle.st_ids.proofs.Shared.{filtered}
 
 -- ## No ring

@@ -15,14 +15,14 @@ use Rattle.st_marks.specs.Document.{content, node_of}
 use Rattle.st_ids.specs.Root.{root}
 use Rattle.st_marks.specs.Listings.{CellView, one_or_none, nodes_standing}
 use Rattle.st_marks.proofs.Members.{all-has, has-all, append_left, append_right, has-append, map-has, has-map, flat_map-has, has-flat_map, any-has, has-any, distinct-append, distinct-left, distinct-right, distinct-between, one_list}
-use Rattle.st_normal_laws.specs.Told.{AreAsSeen, IfTold}
+use Rattle.st_puts.specs.Seen.{AreAsSeen, IfTold}
 use Rattle.st_normal_laws.specs.Laid.{laid_document}
 use Rattle.st_normal_laws.specs.Seed.{CanBeFound, Finds, FoundHeld, FoundRow, IsBelow, IsFoundAt, cells_named, nodes_found, seed}
 use Rattle.st_normal_laws.specs.Two.{AgreeBeside, IsNamedAt, IsUnder, joined_finds, cell_key, cells_of_row, cells_of_both, joined_row, lists_row, node_key}
 use Rattle.st_normal_laws.specs.inside.Two.{keys}
 use Rattle.st_normal_laws.proofs.SeedSound.{seed_row, seed_held}
 use Rattle.st_normal_laws.proofs.TwoFound.{Either, both-named, cells_joined, keys_once_together, nodes_joined, no_ring_together, rows_once_together}
-use Rattle.st_normal_laws.proofs.Basics.{is-one, not-true, one-is}
+use Rattle.st_puts.proofs.Basics.{is-one, not-true, one-is}
 use Rattle.st_ids.proofs.Shared.{filtered, filter-has}
 use Rattle.st_lemmas.proofs.Lists.{flat_map-same}
 
@@ -218,7 +218,7 @@ module _ (F : ℕ) (A B : Finds) (a : CanBeFound F A) (b : CanBeFound F B) (g : 
   nodes-once : AreDistinct (λ (n : NodeId). n) (nodes_found W)
   nodes-once = distinct-append (λ (n : NodeId). n) (flat_map (λ (r : FoundRow). nodes_standing r.cells) W.rows) (flat_map (λ (h : FoundHeld). one_or_none h.node) W.held)
       (subst (AreDistinct (λ (n : NodeId). n)) (sym (rows-nodes W.rows)) (keys_once_together node_key nodes_joined A.rows B.rows a.rows_once b.rows_once g.rows a-nodes b-nodes g.nodes))
-      (Rattle.st_normal_laws.proofs.Groups.distinct-flat (λ (n : NodeId). n) (λ (h : FoundHeld). one_or_none h.node) (λ (h : FoundHeld). h.field) W.held fields-once (λ h i. alone h.node)
+      (Rattle.st_puts.proofs.Groups.distinct-flat (λ (n : NodeId). n) (λ (h : FoundHeld). one_or_none h.node) (λ (h : FoundHeld). h.field) W.held fields-once (λ h i. alone h.node)
       (λ h k m n i j p q e. one-holder k h n j i (one-is k.node n q) (one-is h.node m p ∙ ap (λ n. Some n) (sym e))))
       (λ m n h i e. let r = has-flat_map (λ (r : FoundRow). nodes_standing r.cells) W.rows m h in let k = has-flat_map (λ (h : FoundHeld). one_or_none h.node) W.held n i in
       cross m r.0 (row-shown r.0 m r.1 r.2) k.0 (held-of k.0 k.1) (one-is k.0.node n k.2 ∙ ap (λ n. Some n) e))

@@ -12,10 +12,10 @@ ghost use Rattle.st_marks.specs.Intent.{Fits};
 ghost use Rattle.st_marks.specs.Normal.{IsNormalChange, IsNormalStep};
 ghost use Rattle.st_normal.specs.Rules.{ObeysChangeRules, ObeysDataRules, ObeysStepRules};
 ghost use Rattle.st_normal_laws.specs.Laid.{IsLayout, Layout, laid_document};
-ghost use Rattle.st_normal_laws.specs.Meant.{IsOver, meant_intent};
-ghost use Rattle.st_normal_laws.specs.Mentions.{mentions};
+ghost use Rattle.st_puts.specs.Meant.{IsOver, meant_intent};
+ghost use Rattle.st_puts.specs.ChangeMentions.{mentions};
 ghost use Rattle.st_normal_laws.specs.Seed.{CanBeFound, Finds, FoundHeld, FoundRow, seed};
-ghost use Rattle.st_normal_laws.specs.Told.{AreAsSeen};
+ghost use Rattle.st_puts.specs.Seen.{AreAsSeen};
 ghost use Rattle.st_normal_laws.specs.Two.{AgreeBeside, joined_finds};
 
 /// A document that is laid out from lists is sound in form.

@@ -13,7 +13,8 @@ use Rattle.st_marks.specs.Extends.{IsExtendedBy}
 use Rattle.st_marks.specs.Intent.{Fits}
 use Rattle.st_mention_laws.proofs.Mentions.{mentioned_above, same_names}
 use Rattle.st_puts.proofs.NamesExact.{named-known}
-use Rattle.st_puts.specs.Mentions.{AreMentions, AreUpwards, PlacesMentioned, above_in}
+use Rattle.st_puts.specs.Mentions.{AreMentions, PlacesMentioned, above_in}
+use Rattle.st_climb.specs.Upwards.{AreUpwards}
 
 -- two ways up that agree on the nodes met lead to the same
 same_climb : (up other : NodeId → Option NodeId) (P : NodeId → Type 0) → ((n : NodeId) → P n → up n ≡ other n) → ((n m : NodeId) → P n → other n ≡ Some m → P m)

@@ -32,15 +32,15 @@ use Rattle.st_marks.specs.Row.{CellMark, Counted, Fill, Make, Touch, embed_row, 
 use Rattle.st_marks.proofs.Lookups.{clears-has, group_at-group, has-put, put-has}
 use Rattle.st_marks.proofs.Members.{all-has, append_left, append_right, flat_map-has, has-any, has-append, has-filter_map, has-flat_map, has-map, map-has}
 use Rattle.st_normal.proofs.NoRings.{among_has}
-use Rattle.st_normal_laws.proofs.Basics.{is-one, one-is}
-use Rattle.st_normal_laws.proofs.Easy.{loose-look, new-is, reg-look, row-look, row-makes}
-use Rattle.st_normal_laws.proofs.EasyFound.{has-new}
-use Rattle.st_normal_laws.proofs.EasyStaying.{loose-how, reg-how}
-use Rattle.st_normal_laws.proofs.FoundPlaces.{PlacedAs, as_held, as_loose, as_row, filled, touched}
-use Rattle.st_normal_laws.proofs.Puts.{is_here-put}
+use Rattle.st_puts.proofs.Basics.{is-one, one-is}
+use Rattle.st_puts.proofs.OverDocuments.{loose-look, new-is, reg-look, row-look, row-makes}
+use Rattle.st_puts.proofs.FoundOnce.{has-new}
+use Rattle.st_puts.proofs.StayingNodes.{loose-how, reg-how}
+use Rattle.st_puts.proofs.FoundPlaces.{PlacedAs, as_held, as_loose, as_row, filled, touched}
+use Rattle.st_puts.proofs.PutsOfIntents.{is_here-put}
 use Rattle.st_puts.specs.inside.Names.{loose_names, moved_by, moved_held, names_by, names_told, node_cleared, register_names, row_named, row_names}
 use Rattle.st_puts.proofs.Marks.{from-spread, in-spread}
-use Rattle.st_puts.proofs.Placing.{cleared-listed, held-how, in-group, mark-says, mark_of, over, part, put-named, put-placed, row-how, target-told}
+use Rattle.st_puts.proofs.PutsInMarks.{cleared-listed, held-how, in-group, mark-says, mark_of, over, part, put-named, put-placed, row-how, target-told}
 
 touch-not : (c : CellId) (n : NodeId) (h : How) → Touch c n h ≡ Counted → ⊥
 touch-not c n h e = cc

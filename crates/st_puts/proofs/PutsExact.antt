@@ -27,17 +27,17 @@ use Rattle.st_marks.specs.Row.{Counted, Fill, Make, Touch, how, spread}
 use Rattle.st_marks.proofs.Full.{known_put}
 use Rattle.st_marks.proofs.Lookups.{has-put, has-put_in, put-has, put_clears, put_in-has}
 use Rattle.st_marks.proofs.Members.{all-has, append_left, append_right, flat_map-has, has-append, has-flat_map}
-use Rattle.st_normal_laws.proofs.Easy.{loose-look}
-use Rattle.st_normal_laws.proofs.EasyRegisters.{fill-put}
-use Rattle.st_normal_laws.proofs.EasyStaying.{loose-how}
-use Rattle.st_normal_laws.proofs.FoundPlaces.{PlacedAs, as_held, as_loose, as_row}
-use Rattle.st_normal_laws.proofs.Puts.{is_here-put}
+use Rattle.st_puts.proofs.OverDocuments.{loose-look}
+use Rattle.st_puts.proofs.RegisterRules.{fill-put}
+use Rattle.st_puts.proofs.StayingNodes.{loose-how}
+use Rattle.st_puts.proofs.FoundPlaces.{PlacedAs, as_held, as_loose, as_row}
+use Rattle.st_puts.proofs.PutsOfIntents.{is_here-put}
 use Rattle.st_puts.specs.declared.puts.Fate.{Fate}
 use Rattle.st_puts.specs.inside.First.{first_at}
 use Rattle.st_puts.specs.inside.Puts.{comes_by, comes_told, fate_by, goes_by, goes_told, into_nowhere, into_register, leaving, loose_put, row_fate, set_here}
 use Rattle.st_puts.proofs.Firsts.{first-is, is-first}
 use Rattle.st_puts.proofs.Marks.{from-spread, in-spread}
-use Rattle.st_puts.proofs.Placing.{cleared-listed, held-how, mark-says, mark_of, put-in-cell, put-placed, row-how}
+use Rattle.st_puts.proofs.PutsInMarks.{cleared-listed, held-how, mark-says, mark_of, put-in-cell, put-placed, row-how}
 
 abbrev Pair : Type 0
 Pair = NodeId × To
@@ -215,7 +215,7 @@ module _ (D : Document) (N : Intent) (C : Change) (x : IsSoundInForm D) (f : Fit
               let same = Rattle.st_ids.proofs.Orders.same_node-true m n g in
               let held : D.held k ≡ Some n = q ∙ ap (λ m. Some m) same in
               let i = cleared-listed D N C x f emb k (put_clears N f.itself n k (put-has N n (To.Register k) e)) in
-              let here : is_here (mark_of D N C x f emb k).how ≡ true = ap is_here (sym (held-how D N C x f emb (mark_of D N C x f emb k) n i held) ∙ Rattle.st_normal_laws.proofs.Puts.put-is_here (put_of N n) (To.Register k) e) in
+              let here : is_here (mark_of D N C x f emb k).how ≡ true = ap is_here (sym (held-how D N C x f emb (mark_of D N C x f emb k) n i held) ∙ Rattle.st_puts.proofs.PutsOfIntents.put-is_here (put_of N n) (To.Register k) e) in
               append_right (into_register k (comes_in (D.held k) (put_in N k))) (into_register k (set_here (mark_of D N C x f emb k))) (n, To.Register k)
               (is-into k (set_here (mark_of D N C x f emb k)) n ((λ i. cond (here i) (D.held k) None) ∙ held))
 

@@ -36,12 +36,12 @@ use Rattle.st_marks.proofs.Members.{append_left, append_right, flat_map-has, has
 use Rattle.st_mention_laws.proofs.Mentions.{IsCovered, covers}
 use Rattle.st_normal.specs.declared.entries.Found.{Found}
 use Rattle.st_normal.specs.Rules.{entries_of_change, entries_of_step, in_rows, incoming_nodes, put_over}
-use Rattle.st_normal_laws.proofs.Basics.{one-is}
-use Rattle.st_normal_laws.proofs.Easy.{climb-known, embedding_over, mentioned-found}
-use Rattle.st_normal_laws.proofs.FoundPlaces.{PlacedAs, as_held, as_loose, as_row, found_placed, held_place, touch_place}
-use Rattle.st_normal_laws.proofs.StepFound.{FoundAt, at_loose, at_register, at_row, comes-put, fill-place, found-at, held-place, loose-place, make-place, moved, reg-is, root-or-found, touch-place}
-use Rattle.st_normal_laws.proofs.StepRows.{incoming-mark}
-use Rattle.st_normal_laws.specs.Meant.{IsOver}
+use Rattle.st_puts.proofs.Basics.{one-is}
+use Rattle.st_puts.proofs.OverDocuments.{climb-known, embedding_over, mentioned-found}
+use Rattle.st_puts.proofs.FoundPlaces.{PlacedAs, as_held, as_loose, as_row, found_placed, held_place, touch_place}
+use Rattle.st_puts.proofs.StepPlaces.{FoundAt, at_loose, at_register, at_row, comes-put, fill-place, found-at, held-place, loose-place, make-place, moved, reg-is, root-or-found, touch-place}
+use Rattle.st_puts.proofs.StepRows.{incoming-mark}
+use Rattle.st_puts.specs.Meant.{IsOver}
 use Rattle.st_puts.specs.declared.spots.Told.{Told}
 use Rattle.st_puts.specs.inside.First.{first_at}
 use Rattle.st_puts.specs.inside.Spots.{found_before, gone_after, gone_spot, held_spot, leaves_by, loose_spot, new_spot, row_told, stands_after, stands_by, stood_by, told_by}

@@ -1,2 +1,5 @@
+pub mod Seen
+pub mod Meant
+pub mod ChangeMentions
 pub mod Mentions
 pub mod inside

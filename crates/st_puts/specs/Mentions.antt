@@ -1,11 +1,11 @@
 -- Where nodes stand, as a table of places tells, and the nodes above them.
-use Rattle.std.specs.Prelude.{◌≡◌, ◌↔◌, ℕ, Bool, true, Option, Some, unwrap_or}
+use Rattle.std.specs.Prelude.{◌≡◌, ◌↔◌, Bool, true, Option, unwrap_or}
 use Rattle.std.specs.BTreeMap.{BTreeMap, get}
 use Rattle.st_ids.specs.Order.{node_cmp}
 use Rattle.st_ids.specs.declared.names.NodeId.{NodeId}
 use Rattle.st_marks.specs.declared.intents.Intent.{Intent}
 use Rattle.st_marks.specs.declared.places.Spot.{Spot}
-use Rattle.st_marks.specs.Document.{Document, climb, node_of}
+use Rattle.st_marks.specs.Document.{Document, node_of}
 use Rattle.st_marks.specs.Embedding.{IsMentionedByIntent}
 
 -- where a node stands, as the table tells; nowhere, if it tells nothing
@@ -23,7 +23,3 @@ PlacesMentioned E N places = (n : NodeId) → IsMentionedByIntent E N n → plac
 -- m are the nodes that the intent mentions in the document
 abbrev pub AreMentions : Document → Intent → (NodeId → Bool) → Type 0
 AreMentions E N m = (n : NodeId) → (m n ≡ true) ↔ IsMentionedByIntent E N n
-
--- the nodes of a set, and all nodes above them
-abbrev pub AreUpwards : (NodeId → Option NodeId) → (NodeId → Bool) → (NodeId → Bool) → Type 0
-AreUpwards up begins has = (n : NodeId) → (has n ≡ true) ↔ ((s : NodeId) × (begins s ≡ true) × (k : ℕ) × (climb up k s ≡ Some n))

@@ -3,4 +3,3 @@ pub mod First
 pub mod Names
 pub mod Puts
 pub mod Spots
-pub mod Upwards

@@ -1,5 +1,5 @@
 //! The nodes that the intent of a change mentions after a step.
-ghost use Rattle.std.specs.Prelude.{◌≡◌, IfOk, OnOk};
+ghost use Rattle.std.specs.Prelude.{◌≡◌, IfOk};
 ghost use Rattle.std.specs.BTreeSet.{contains};
 ghost use Rattle.st_ids.specs.Order.{node_cmp};
 ghost use Rattle.st_marks.specs.declared.intents.Intent.{Intent};
@@ -7,45 +7,46 @@ ghost use Rattle.st_marks.specs.Document.{Document};
 ghost use Rattle.st_marks.specs.Extends.{IsExtendedBy};
 ghost use Rattle.st_marks.specs.Intent.{Fits};
 ghost use Rattle.st_mention_laws.specs.Shown.{Shows};
-ghost use Rattle.st_puts.specs.Mentions.{AreMentions, AreUpwards, PlacesMentioned, above_in};
-ghost use Rattle.st_puts.specs.inside.Upwards.{GainsUpwards, IsClosed};
+ghost use Rattle.st_puts.specs.Mentions.{AreMentions, PlacesMentioned, above_in};
+ghost use Rattle.st_climb.specs.Upwards.{AreUpwards};
 
 use crate::names::named_before;
+use st_climb::Above;
 use st_ids::NodeId;
 use st_marks::{Change, Spot};
 use std::alloc::{AllocError, Global};
 use std::collections::{BTreeMap, BTreeSet};
 
-// The node above, as a table of places tells.
-fn above(places: &BTreeMap<NodeId, Spot>, node: NodeId) -> Option<NodeId>
-    ensures { result ≡ above_in places.now node }
-{
-    match places.get(&node) {
-        Some(Spot::Row { node: row, .. }) => Some(*row),
-        Some(Spot::Register(field)) => Some(field.node),
-        _ => None,
-    }
+/// A table of places.
+#[derive(Drop)]
+struct Places<'a> {
+    places: &'a BTreeMap<NodeId, Spot>,
 }
 
-// Adds a node and all above it to a set that has all nodes above its own.
-fn add_upwards(
-    nodes: &mut BTreeSet<NodeId>,
-    places: &BTreeMap<NodeId, Spot>,
-    node: NodeId,
-) -> Result<(), AllocError>
-    requires { IsClosed (above_in places.now) (contains node_cmp nodes.old) }
-    ensures { OnOk result (GainsUpwards (above_in places.now)
-        (contains node_cmp nodes.old) node (contains node_cmp nodes.new)) }
-{
-    let mut next = Some(node);
-    while let Some(here) = next {
-        if nodes.contains(&here) {
-            break;
+impl<'a> Above for Places<'a> {
+    ghost use Rattle.std.specs.BTreeMap.{keys};
+    ghost use Rattle.st_ids.specs.Listing.{Has};
+    ghost use Rattle.st_ids.specs.declared.names.NodeId.{NodeId as Node};
+    ghost use Rattle.st_puts.specs.Mentions.{above_in};
+    ghost use Rattle.std.specs.Prelude.{◌≡◌, Some};
+
+    ghost up = { λ p. above_in p.places.now };
+
+    ghost lower = { λ p. keys p.places.now };
+
+    fn above(&self, node: NodeId) -> Option<NodeId>
+        ensures { result ≡ above_in self.now.places.now node }
+    {
+        match self.places.get(&node) {
+            Some(Spot::Row { node: row, .. }) => Some(*row),
+            Some(Spot::Register(field)) => Some(field.node),
+            _ => None,
         }
-        nodes.insert(here)?;
-        next = above(places, here);
     }
-    Ok(())
+
+    fn has_lower()
+        ensures { (p : Places) (n m : Node) → above_in p.places.now n ≡ Some m → Has (keys p.places.now) n }
+    {}
 }
 
 /// Some nodes and all above them, where a table tells places. Each node is visited once.
@@ -56,11 +57,7 @@ pub fn upwards(
 ) -> Result<BTreeSet<NodeId>, AllocError>
     ensures { IfOk result (λ s. AreUpwards (above_in places.now) (contains node_cmp begins.now) (contains node_cmp s)) }
 {
-    let mut nodes = BTreeSet::new(alloc);
-    for node in begins.iter() {
-        add_upwards(&mut nodes, places, *node)?;
-    }
-    Ok(nodes)
+    st_climb::upwards(alloc, &Places { places }, begins)
 }
 
 /// The nodes that the intent of a change mentions after a step, read off the change's marks, where `places` tells where they

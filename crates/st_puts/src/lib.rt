@@ -6,11 +6,9 @@ mod climb;
 mod maps;
 mod names;
 mod puts;
-mod sets;
 mod spots;
 
 pub use climb::{mentioned_after, upwards};
 pub use names::named_before;
 pub use puts::puts_of;
-pub use sets::{add_one, new_names};
 pub use spots::{places_after, places_beside};

@@ -23,7 +23,7 @@ ghost use Rattle.st_puts.specs.inside.Names.{
   row_names,
 };
 
-use crate::sets::{add_all, add_one, new_names, without};
+use st_climb::{add_all, add_one, new_names, without};
 use st_ids::NodeId;
 use st_marks::{Change, How, Loose, Mark, RegMark, RowMarks};
 use std::alloc::{AllocError, Global};

@@ -14,10 +14,10 @@ use Rattle.st_marks.specs.declared.places.Slot.{Slot}
 use Rattle.st_ids.specs.Root.{root}
 use Rattle.st_marks.specs.Embedding.{is_among}
 use Rattle.st_marks.specs.Extends.{no_more, item_gained, item_kept}
-use Rattle.st_seq.specs.Sequence.{SeqPart, RowCanHold, RowFits, RowKeeps, RowLeadsOver, cells_of, row_carried, row_change_of}
-use Rattle.st_seq.specs.declared.values.RowChange.{RowChange}
-use Rattle.st_seq.specs.declared.values.RowHeld.{RowHeld}
-use Rattle.st_seq.specs.declared.values.RowStep.{RowStep}
+use Rattle.st_rows.specs.Sequence.{SeqPart, RowCanHold, RowFits, RowKeeps, RowLeadsOver, cells_of, row_carried, row_change_of}
+use Rattle.st_rows.specs.declared.values.RowChange.{RowChange}
+use Rattle.st_rows.specs.declared.values.RowHeld.{RowHeld}
+use Rattle.st_rows.specs.declared.values.RowStep.{RowStep}
 use Rattle.st_lemmas.proofs.Bools.{true-false}
 
 abbrev node : ℕ → NodeId

@@ -13,11 +13,11 @@ use Rattle.st_marks.specs.declared.marks.Mark.{Mark}
 use Rattle.st_marks.specs.declared.places.Slot.{Slot}
 use Rattle.st_marks.specs.Row.{CellMark, Counted, Gap, Touch, Make, Fill, counted_cells, spread}
 use Rattle.st_marks.specs.Listings.{CellView, cells_after, cells_before, cell_view}
-use Rattle.st_seq.specs.Views.{row_views}
+use Rattle.st_rows.specs.Views.{row_views}
 use Rattle.st_seq.specs.NamedApart.{stands_at, standing_at, found_at, made_at, named_before, named_after, named_in_row, first_named, same_atom, CantBoth, NamedApart, named_apart}
 use Rattle.st_seq.specs.inside.NamedApart.{clash_with, first_clash, IsPlace}
 use Rattle.st_seq.specs.declared.name_clashes.NamedAt.{NamedAt}
-use Rattle.st_seq.proofs.MarkByMark.{more_cells}
+use Rattle.st_rows.proofs.MarkByMark.{more_cells}
 
 -- ## Marks one after another
 

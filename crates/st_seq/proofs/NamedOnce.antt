@@ -15,13 +15,13 @@ use Rattle.st_marks.specs.Extends.{GainsItems, no_more, item_gained, item_kept}
 use Rattle.st_marks.specs.Row.{CellMark, Counted, Gap, Touch, Fill, RowPart, SameCell, how, spread, step_cell, step_row, embed_cell, embed_made, embed_cells, embed_row}
 use Rattle.st_marks.specs.How.{is_here}
 use Rattle.st_marks.proofs.Members.{all-has, append_left, append_right, first-has, has-append}
-use Rattle.st_seq.specs.Changes.{carried_cells, carried_row, full_after, made_cells}
-use Rattle.st_seq.proofs.KindLaws.{has_grown, not_again, spread_of}
+use Rattle.st_rows.specs.Changes.{carried_cells, carried_row, full_after, made_cells}
+use Rattle.st_rows.proofs.KindLaws.{has_grown, not_again, spread_of}
 use Rattle.st_seq.proofs.NamedCells.{same_atom-true}
 use Rattle.st_seq.specs.NamedApart.{same_atom, CantBoth, NamedApart, named_apart, found_at, named_after, named_before, named_in_row}
-use Rattle.st_seq.specs.Sequence.{RowFits, RowLeadsOver, SeqPart, row_carried, cells_of, row_change_of, made_in}
+use Rattle.st_rows.specs.Sequence.{RowFits, RowLeadsOver, SeqPart, row_carried, cells_of, row_change_of, made_in}
 use Rattle.st_seq.specs.declared.name_clashes.NamedAt.{NamedAt}
-use Rattle.st_seq.specs.declared.values.RowChange.{RowChange}
+use Rattle.st_rows.specs.declared.values.RowChange.{RowChange}
 
 -- ## What is true of a row
 

@@ -9,15 +9,15 @@ use Rattle.st_marks.specs.declared.places.Slot.{Slot}
 use Rattle.st_marks.specs.Row.{spread, step_row, embed_row}
 use Rattle.st_marks.specs.Listings.{CellView, cells_after, cells_before}
 use Rattle.st_marks.proofs.Members.{all-has, first-has, has-append}
-use Rattle.st_seq.specs.Views.{row_views}
-use Rattle.st_seq.proofs.KindLaws.{spread_of}
+use Rattle.st_rows.specs.Views.{row_views}
+use Rattle.st_rows.proofs.KindLaws.{spread_of}
 use Rattle.st_seq.specs.NamedApart.{NamedApart, named_apart, same_atom, stands_at, standing_at}
-use Rattle.st_seq.specs.Sequence.{RowFits, RowLeadsOver, SeqPart, row_carried, row_change_of, standing_nodes}
+use Rattle.st_rows.specs.Sequence.{RowFits, RowLeadsOver, SeqPart, row_carried, row_change_of, standing_nodes}
 use Rattle.st_seq.specs.declared.name_clashes.NamedAt.{NamedAt}
-use Rattle.st_seq.specs.declared.values.RowChange.{RowChange}
-use Rattle.st_seq.proofs.Described.{DescribeAll, IfTold, change_finds, change_leaves, step_finds, step_leaves}
-use Rattle.st_seq.proofs.Fitting.{change_is}
-use Rattle.st_seq.proofs.Leading.{row_itself}
+use Rattle.st_rows.specs.declared.values.RowChange.{RowChange}
+use Rattle.st_rows.proofs.ViewsOfRows.{DescribeAll, IfTold, change_finds, change_leaves, step_finds, step_leaves}
+use Rattle.st_rows.proofs.PartsThatFit.{change_is}
+use Rattle.st_rows.proofs.RowsAfter.{row_itself}
 use Rattle.st_seq.proofs.NamedCells.{same_atom-true}
 
 -- ## What is true of a row

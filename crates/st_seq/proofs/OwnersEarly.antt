@@ -16,11 +16,11 @@ use Rattle.st_marks.specs.Row.{CellMark, Counted, Gap, Touch, Make, Fill, RowPar
 use Rattle.st_marks.specs.How.{is_here}
 use Rattle.st_marks.specs.Listings.{CellView, cell_view, cells_before, cells_made}
 use Rattle.st_marks.proofs.Members.{all-has, has-any, has-append}
-use Rattle.st_seq.specs.Changes.{carried_cells, carried_row, made_cells}
-use Rattle.st_seq.proofs.KindLaws.{spread_of}
-use Rattle.st_seq.specs.Sequence.{RowFits, SeqPart, row_carried, row_change_of}
-use Rattle.st_seq.specs.declared.values.RowChange.{RowChange}
-use Rattle.st_seq.proofs.Described.{DescribeAll, IfTold}
+use Rattle.st_rows.specs.Changes.{carried_cells, carried_row, made_cells}
+use Rattle.st_rows.proofs.KindLaws.{spread_of}
+use Rattle.st_rows.specs.Sequence.{RowFits, SeqPart, row_carried, row_change_of}
+use Rattle.st_rows.specs.declared.values.RowChange.{RowChange}
+use Rattle.st_rows.proofs.ViewsOfRows.{DescribeAll, IfTold}
 use Rattle.st_seq.proofs.NodesOnce.{change_before}
 use Rattle.st_seq.specs.NamedApart.{found_at, first_named, same_atom}
 use Rattle.st_seq.specs.inside.NamedApart.{IsPlace}
@@ -31,7 +31,7 @@ use Rattle.st_seq.proofs.NamedCells.{lesser-assoc, none_left, moved_on, same_ato
 use Rattle.st_lemmas.proofs.Lists.{map-append}
 use Rattle.st_lemmas.proofs.Bools.{refuted-false, true-false}
 use Rattle.st_marks.proofs.MarkLengths.{before-append}
-use Rattle.st_seq.proofs.MarkByMark.{more_cells}
+use Rattle.st_rows.proofs.MarkByMark.{more_cells}
 use Rattle.st_lemmas.proofs.Options.{one_some}
 
 -- ## One mark more

@@ -1,13 +1,3 @@
-pub mod Views
-pub mod Differences
-pub mod Merged
-pub mod Pieces
-pub mod Walks
-pub mod Rows
-pub mod Changes
-pub mod Reading
-pub mod Sequence
 pub mod NamedApart
 pub mod OwnedEarly
 pub mod inside
-pub mod Existence

@@ -9,7 +9,7 @@ use Rattle.st_ids.specs.declared.names.NodeId.{NodeId}
 use Rattle.st_marks.specs.declared.places.Slot.{Slot}
 use Rattle.st_marks.specs.Row.{CellMark, Counted, Gap, Touch, Make, Fill}
 use Rattle.st_marks.specs.Listings.{CellView, cells_after, cells_before}
-use Rattle.st_seq.specs.Views.{DifferAt}
+use Rattle.st_rows.specs.Views.{DifferAt}
 use Rattle.st_seq.specs.declared.name_clashes.NamedAt.{NamedAt}
 
 -- ## The cells that a listing names

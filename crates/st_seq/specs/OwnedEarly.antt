@@ -5,7 +5,7 @@ use Rattle.st_ids.specs.declared.names.CellId.{CellId}
 use Rattle.st_ids.specs.declared.names.NodeId.{NodeId}
 use Rattle.st_marks.specs.Row.{CellMark}
 use Rattle.st_marks.specs.Listings.{CellView, cell_view, cells_after, cells_before, cells_made}
-use Rattle.st_seq.specs.Views.{DifferAt}
+use Rattle.st_rows.specs.Views.{DifferAt}
 use Rattle.st_seq.specs.NamedApart.{SaidInTurn}
 
 -- the second finds a cell, owned by a node that the first makes, though the first doesn't make the cell; the place is the cell's

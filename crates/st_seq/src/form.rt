@@ -7,18 +7,17 @@ ghost use Rattle.st_ids.specs.Root.{root};
 ghost use Rattle.st_marks.specs.Embedding.{is_among as among};
 ghost use Rattle.st_marks.specs.Row.{spread};
 ghost use Rattle.st_marks.specs.Listings.{cells_before};
-ghost use Rattle.st_seq.specs.Views.{row_views};
-ghost use Rattle.st_seq.specs.Differences.{first_difference};
-ghost use Rattle.st_seq.specs.inside.NormalForm.{IsNormalRowChange, begins_with_skip as counts_first, stands_before as stands_well, is_normal as normal, places as puts_into, makes_cell as makes_a_cell, puts_found as puts_one_found, has_cell as holds_cell, stands_in as holds_node, may_put as may_be_put, may_make as may_be_made, is_allowed as allowed, are_allowed as all_allowed};
-ghost use Rattle.st_seq.specs.Reading.{cell_of};
-ghost use Rattle.st_seq.specs.Pieces.{IsSingle};
+ghost use Rattle.st_rows.specs.Views.{row_views};
+ghost use Rattle.st_rows.specs.Differences.{first_difference};
+ghost use Rattle.st_seq.specs.inside.NormalForm.{IsNormalRowChange, stands_before as stands_well, is_normal as normal, places as puts_into, makes_cell as makes_a_cell, puts_found as puts_one_found, has_cell as holds_cell, stands_in as holds_node, may_put as may_be_put, may_make as may_be_made, is_allowed as allowed, are_allowed as all_allowed};
+ghost use Rattle.st_rows.specs.Merged.{begins_with_skip as counts_first};
+ghost use Rattle.st_rows.specs.Reading.{cell_of};
+ghost use Rattle.st_rows.specs.Pieces.{IsSingle};
 
 use crate::new_nodes::is_rising;
-use crate::node_set::is_among;
-use crate::rows::{SlotTurn, slot_turn};
-use crate::values::RowChange;
 use st_ids::{CellId, List, NodeId, ROOT, Rev, is_same_cell, is_same_node, is_same_rev};
 use st_marks::{How, Mark, Slot};
+use st_rows::{RowChange, SlotTurn, is_among, slot_turn};
 
 /// The first mark, and those behind it.
 fn first_mark<'a>(marks: &'a [Mark]) -> Option<(Mark, &'a [Mark])>

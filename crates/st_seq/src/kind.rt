@@ -6,11 +6,10 @@ use crate::form::is_of_form;
 use crate::name_clashes::{agree_beside, agree_in_turn, agree_over};
 use crate::new_nodes::{merged_names, rising_nodes};
 use crate::owners::agree_as_changes;
-use crate::values::{RowChange, RowHeld, RowStep};
-use crate::{row_bridge, row_compose, row_effect, row_invert, row_rebase, rows};
 use st_ids::{Copied, List, Or};
 use st_kind::{Apart, FieldKind};
 use st_marks::{Mark, after};
+use st_rows::{RowChange, RowHeld, RowStep};
 use std::alloc::{AllocError, Global};
 
 /// Fields that hold nodes in an order.
@@ -22,12 +21,12 @@ impl FieldKind for Sequence {
     ghost use Rattle.st_marks.specs.Extends.{GainsItems};
     ghost use Rattle.st_marks.specs.Row.{SameCell, spread};
     ghost use Rattle.st_marks.specs.Listings.{cells_after, cells_before};
-    ghost use Rattle.st_seq.specs.Views.{row_views};
-    ghost use Rattle.st_seq.specs.Changes.{may_list};
+    ghost use Rattle.st_rows.specs.Views.{row_views};
+    ghost use Rattle.st_rows.specs.Changes.{may_list};
     ghost use Rattle.st_seq.specs.NamedApart.{ApartAt, named_after, named_before, named_in_row};
     ghost use Rattle.st_seq.specs.OwnedEarly.{TurnsApartAt};
-    ghost use Rattle.st_seq.specs.Rows.{NamesMoved};
-    ghost use Rattle.st_seq.specs.Sequence.{SeqPart, RowPartsAreJoined, RowCanHold, RowFits, RowKeeps, RowLeadsOver, nodes_brought, row_carried, row_change_of, retreat_to};
+    ghost use Rattle.st_rows.specs.Rows.{NamesMoved};
+    ghost use Rattle.st_rows.specs.Sequence.{SeqPart, RowPartsAreJoined, RowCanHold, RowFits, RowKeeps, RowLeadsOver, nodes_brought, row_carried, row_change_of, retreat_to};
 
     type Ctx = RowHeld;
 
@@ -80,29 +79,29 @@ impl FieldKind for Sequence {
     }
 
     fn after(alloc: Global, ctx: &RowHeld, step: &RowStep) -> Result<RowHeld, Or<Apart>> {
-        let cells = rows::after(alloc, &ctx.cells, &step.marks)?;
+        let cells = st_rows::after(alloc, &ctx.cells, &step.marks)?;
         agree_over(alloc, ctx.cells.as_slice(), step.marks.as_slice())?;
         Ok(RowHeld { cells })
     }
 
     fn effect(alloc: Global, change: &RowChange, void: bool) -> Result<RowStep, AllocError> {
         if !void {
-            let marks = row_effect::effect(alloc, &change.marks)?;
+            let marks = st_rows::effect(alloc, &change.marks)?;
             return Ok(RowStep { marks });
         }
         let new = rising_nodes(alloc, &change.new)?;
-        let marks = row_effect::void_effect(alloc, &change.marks, change.in_new, &new)?;
+        let marks = st_rows::void_effect(alloc, &change.marks, change.in_new, &new)?;
         Ok(RowStep { marks })
     }
 
     fn compose(alloc: Global, first: &RowStep, then: &RowStep) -> Result<RowStep, Or<Apart>> {
-        let marks = row_compose::compose(alloc, &first.marks, &then.marks)?;
+        let marks = st_rows::compose(alloc, &first.marks, &then.marks)?;
         agree_in_turn(alloc, first.marks.as_slice(), then.marks.as_slice())?;
         Ok(RowStep { marks })
     }
 
     fn join(alloc: Global, first: &RowChange, then: &RowChange) -> Result<RowChange, Or<Apart>> {
-        let marks = row_compose::join(alloc, &first.marks, &then.marks)?;
+        let marks = st_rows::join(alloc, &first.marks, &then.marks)?;
         agree_as_changes(
             alloc,
             first.new.as_slice(),
@@ -119,12 +118,12 @@ impl FieldKind for Sequence {
     }
 
     fn invert(alloc: Global, step: &RowStep) -> Result<RowStep, AllocError> {
-        let marks = row_invert::invert(alloc, &step.marks)?;
+        let marks = st_rows::invert(alloc, &step.marks)?;
         Ok(RowStep { marks })
     }
 
     fn rebase(alloc: Global, change: &RowChange, step: &RowStep) -> Result<RowChange, Or<Apart>> {
-        let marks = row_rebase::rebase(alloc, &change.marks, &step.marks)?;
+        let marks = st_rows::rebase(alloc, &change.marks, &step.marks)?;
         agree_beside(alloc, change.marks.as_slice(), step.marks.as_slice())?;
         let new = change.new.copy(alloc)?;
         Ok(RowChange {
@@ -140,7 +139,7 @@ impl FieldKind for Sequence {
         change: &RowChange,
         step: &RowStep,
     ) -> Result<RowChange, AllocError> {
-        let marks = row_rebase::rebase_agreed(alloc, &change.marks, &step.marks)?;
+        let marks = st_rows::rebase_agreed(alloc, &change.marks, &step.marks)?;
         let new = change.new.copy(alloc)?;
         Ok(RowChange {
             rev: change.rev,
@@ -158,7 +157,7 @@ impl FieldKind for Sequence {
         is_void: bool,
     ) -> Result<RowStep, Or<Apart>> {
         let new = rising_nodes(alloc, &change.new)?;
-        let marks = row_bridge::bridge(
+        let marks = st_rows::bridge(
             alloc,
             &step.marks,
             &change.marks,

@@ -7,7 +7,7 @@ ghost use Rattle.st_ids.specs.declared.names.Atom.{Atom as Name};
 ghost use Rattle.st_kind.specs.Refused.{IsApartWhere};
 ghost use Rattle.st_marks.specs.Row.{spread};
 ghost use Rattle.st_marks.specs.Listings.{cells_after, cells_before};
-ghost use Rattle.st_seq.specs.Views.{row_views};
+ghost use Rattle.st_rows.specs.Views.{row_views};
 ghost use Rattle.st_seq.specs.NamedApart.{NamedApart, SaidInTurn, found_at as at, first_named, named_after as after_names, named_before as before_names, named_in_row as row_names, stands_at as stands, standing_at as standing};
 ghost use Rattle.st_seq.specs.inside.NamedApart.{IsPlace, SaidBeside, SaidOver, clash_with, first_clash};
 ghost use Rattle.st_seq.specs.declared.name_clashes.NamedAt.{NamedAt as Named};

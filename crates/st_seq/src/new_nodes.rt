@@ -4,7 +4,7 @@ ghost use Rattle.st_ids.specs.Listing.{IsRising};
 ghost use Rattle.st_ids.specs.Order.{node_cmp, same_node};
 ghost use Rattle.st_ids.specs.declared.names.NodeId.{NodeId as Node};
 ghost use Rattle.st_marks.specs.Embedding.{is_among};
-ghost use Rattle.st_seq.specs.inside.Sequence.{below_first};
+ghost use Rattle.st_rows.specs.RisingNodes.{below_first};
 
 use st_ids::{Copied, List, NodeId};
 use std::alloc::{AllocError, Global};

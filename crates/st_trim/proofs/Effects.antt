@@ -29,11 +29,11 @@ use Rattle.st_marks.specs.Step.{IsChanged}
 use Rattle.st_marks.proofs.Climb.{stands}
 use Rattle.st_marks.proofs.Lookups.{group_at-group, put-has, put_clears, put_in-has}
 use Rattle.st_marks.proofs.Members.{any-has, append_left, append_right, has-filter_map, has-map, map-has}
-use Rattle.st_seq.specs.Changes.{carried_cells, carried_row, full_after, made_cells}
-use Rattle.st_seq.proofs.DocumentsAfter.{whole_is}
-use Rattle.st_seq.proofs.Rebased.{same_put}
-use Rattle.st_moves.specs.Between.{IsClosedIn}
-use Rattle.st_moves.proofs.BetweenSound.{mentions_closed}
+use Rattle.st_rows.specs.Changes.{carried_cells, carried_row, full_after, made_cells}
+use Rattle.st_rows.proofs.DocumentsAfter.{whole_is}
+use Rattle.st_rows.proofs.RowRebases.{same_put}
+use Rattle.st_mention_laws.specs.Closed.{IsClosedIn}
+use Rattle.st_mention_laws.proofs.ClosedSets.{mentions_closed}
 use Rattle.st_trim.specs.Covers.{CoversStep}
 use Rattle.st_trim.specs.Evicted.{in_cleared, is_cleared_spot}
 

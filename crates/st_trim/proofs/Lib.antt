@@ -1,11 +1,11 @@
-pub mod Trimmed
-pub mod InTurn
+pub mod TrimmedSteps
+pub mod StepsInTurn
 pub mod WayBack
 pub mod Effects
-mod Counting
-mod Filtering
-mod Reading
-mod Changing
-mod Standing
-mod Cutting
-mod Thinning
+mod WrittenMarks
+mod FilteredLists
+mod ListingItems
+mod DifferingNodes
+mod PlacesTold
+mod CutItems
+mod ThinListings

@@ -15,13 +15,13 @@ use Rattle.st_marks.specs.Extends.{IsExtendedBy}
 use Rattle.st_marks.specs.Step.{IsChanged, IsStep}
 use Rattle.st_marks.proofs.Climb.{placed_known, same_spot}
 use Rattle.st_marks.proofs.Members.{any-has, distinct-has, has-any}
-use Rattle.st_seq.specs.Sequence.{is_full_in, retreat_to}
-use Rattle.st_moves.proofs.BetweenRows.{slots_once}
-use Rattle.st_seq.proofs.DocumentsBack.{back_is}
-use Rattle.st_moves.specs.Between.{IsClosedIn}
+use Rattle.st_rows.specs.Sequence.{is_full_in, retreat_to}
+use Rattle.st_marks.proofs.Unique.{distinct_content}
+use Rattle.st_rows.proofs.DocumentsBack.{back_is}
+use Rattle.st_mention_laws.specs.Closed.{IsClosedIn}
 use Rattle.st_mention_laws.proofs.Mentions.{changed_above}
 use Rattle.st_trim.specs.Covers.{CoversStep}
-use Rattle.st_trim.proofs.InTurn.{step_closed}
+use Rattle.st_trim.proofs.StepsInTurn.{step_closed}
 
 -- a row that goes back to itself stays
 full_itself : (c : List Slot) (s : Slot) → AreDistinct (λ (t : Slot). t.cell) c → Has c s → is_full_in c s.cell ≡ s.full
@@ -104,7 +104,7 @@ module _ (D E : Document) (S : Step) (x : IsExtendedBy D E) (s : IsStep D E S) w
         where
           place_old : is_in D n ≡ true → place_back D E n ≡ D.place n
           place_old q = rw q refl
-      none h e (inr (inl apart)) = unchanged e (known n h, inr (inl (λ p. apart (sym (back_is D E n x (known n h) ∙ ap (λ c. retreat_to c (content E n)) p ∙ retreat_itself (content E n) (slots_once E (E.rows n) (x.after.once n)))))))
+      none h e (inr (inl apart)) = unchanged e (known n h, inr (inl (λ p. apart (sym (back_is D E n x (known n h) ∙ ap (λ c. retreat_to c (content E n)) p ∙ retreat_itself (content E n) (distinct_content E (E.rows n) (x.after.once n)))))))
       none h e (inr (inr w)) = unchanged e (known n h, inr (inr (w.0, w.1, λ p. w.2 (sym p ∙ sym (ap (λ b. cond b (D.held w.0) (unless_in D (E.held w.0))) (ap (is_in D) w.1 ∙ h))))))
 
       go : (b : Bool) → is_in D n ≡ b → (a : Bool) → s.mentioned n ≡ a → named_back n ≡ true

@@ -21,9 +21,9 @@ ghost use Rattle.st_trim.specs.inside.Told.{
 };
 
 use crate::sets::unless_in;
+use st_climb::{add_one, new_names};
 use st_ids::{NodeId, is_same_node};
 use st_marks::{How, Loose, Mark, RegStep, RowMarks, Step};
-use st_puts::{add_one, new_names};
 use std::alloc::{AllocError, Global};
 use std::collections::BTreeSet;
 

@@ -7,8 +7,8 @@ ghost use Rattle.st_ids.specs.Order.{node_cmp};
 ghost use Rattle.st_marks.specs.Embedding.{row_marks};
 ghost use Rattle.st_marks.specs.declared.marks.How.TheVariants.{Stay};
 ghost use Rattle.st_marks.specs.Row.{CellMark, Touch as TouchCell, counted_cells, merge, spread};
-ghost use Rattle.st_moves.specs.inside.Rows.{mark_tells};
-ghost use Rattle.st_seq.specs.Merged.{count_in};
+ghost use Rattle.st_mention_laws.specs.Tells.{mark_tells};
+ghost use Rattle.st_rows.specs.Merged.{count_in};
 ghost use Rattle.st_trim.specs.Trimmed.{trim_mark};
 ghost use Rattle.st_trim.specs.inside.Cut.{AreShort, cut_row, skips};
 

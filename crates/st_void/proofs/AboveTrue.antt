@@ -32,13 +32,13 @@ use Rattle.st_marks.proofs.NewRows.{old_cell, one_row_each, owns_in_row}
 use Rattle.st_register.specs.Register.{reg_part_of}
 use Rattle.st_register.proofs.Documents.{part_fits}
 use Rattle.st_register.proofs.Registers.{left_is}
-use Rattle.st_seq.specs.Changes.{carried_row}
-use Rattle.st_seq.proofs.DocumentsAfter.{whole_is}
-use Rattle.st_seq.proofs.KindLaws.{spread-merge}
+use Rattle.st_rows.specs.Changes.{carried_row}
+use Rattle.st_rows.proofs.DocumentsAfter.{whole_is}
+use Rattle.st_rows.proofs.KindLaws.{spread-merge}
 use Rattle.st_void.specs.declared.standing.When.{When}
 use Rattle.st_void.specs.Standing.{above_shown, document_at, held_by, stands as stands_at}
-use Rattle.st_void.proofs.Mentioned.{IsNamedAt}
-use Rattle.st_void.proofs.Shortest.{is_some_node, some_node_is}
+use Rattle.st_void.proofs.MentionsClosed.{IsNamedAt}
+use Rattle.st_climb.proofs.ShortestClimbs.{is_some_node, some_node_is}
 use Rattle.st_void.proofs.ShownInRows.{IsIn, after_found, after_shown, before_found, before_shown, full_cell, told_after, told_before}
 
 -- ## Places of the document after

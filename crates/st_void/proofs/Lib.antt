@@ -1,9 +1,8 @@
-pub mod Shortest
-pub mod Climbing
+pub mod Climbs
 pub mod ShownInRows
-pub mod Mentioned
+pub mod MentionsClosed
 pub mod AboveTrue
 pub mod PutsTrue
 pub mod VerdictTrue
-pub mod Folding
-pub mod Alike
+pub mod GatheredLists
+pub mod ThinChanges

@@ -11,7 +11,7 @@ use Rattle.st_marks.specs.declared.places.Slot.{Slot}
 use Rattle.st_marks.specs.How.{is_here}
 use Rattle.st_marks.specs.Row.{CellMark, Counted, Gap, Touch, Make, Fill, RowPart, embed_cell, embed_cells, embed_made, embed_row, how}
 use Rattle.st_marks.proofs.Members.{append_left, append_right, has-append}
-use Rattle.st_seq.specs.Changes.{carried_cells, carried_row, full_after, made_cells}
+use Rattle.st_rows.specs.Changes.{carried_cells, carried_row, full_after, made_cells}
 use Rattle.st_void.specs.inside.Puts.{put_by}
 use Rattle.st_void.proofs.ShownInRows.{IsIn, IsMentionedIn, full_cell}
 

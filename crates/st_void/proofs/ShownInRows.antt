@@ -15,7 +15,7 @@ use Rattle.st_marks.specs.Embedding.{tells}
 use Rattle.st_marks.specs.How.{is_here, is_leave}
 use Rattle.st_marks.specs.Row.{CellMark, Counted, Gap, Touch, Make, Fill, RowPart, embed_cell, embed_cells, embed_made, embed_row, how, same_to}
 use Rattle.st_marks.proofs.Members.{append_left, append_right, has-append}
-use Rattle.st_seq.specs.Changes.{carried_cells, carried_row, full_after, made_cells}
+use Rattle.st_rows.specs.Changes.{carried_cells, carried_row, full_after, made_cells}
 use Rattle.st_void.specs.declared.standing.When.{When}
 use Rattle.st_void.specs.Standing.{stands}
 

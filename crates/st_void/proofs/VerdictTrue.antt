@@ -27,16 +27,16 @@ use Rattle.st_marks.proofs.Full.{known_put, put_to_register}
 use Rattle.st_marks.proofs.Lookups.{has-put, has-put_in, put-has, put_clears, put_in-has}
 use Rattle.st_marks.proofs.Members.{all-has, any-has, append_left, append_right, flat_map-has, has-any, has-append, has-flat_map}
 use Rattle.st_register.proofs.Occupants.{to-here}
-use Rattle.st_seq.proofs.KindLaws.{spread-merge}
+use Rattle.st_rows.proofs.KindLaws.{spread-merge}
 use Rattle.st_doc.specs.inside.Ahead.{IsLeastOf}
 use Rattle.st_doc.proofs.Verdicts.{least_from}
 use Rattle.st_void.specs.declared.standing.When.{When}
 use Rattle.st_void.specs.Standing.{IsShownLive, above_shown, document_at}
 use Rattle.st_void.specs.inside.Puts.{IsLeastRing, put_by, put_here, put_into, puts_shown}
 use Rattle.st_void.proofs.AboveTrue.{above_true, after_is, cells_of_row, is_shown, known_in_row, listed_if, mentioned_in, part, places, row_is, row_shown, row_told, said, said_is}
-use Rattle.st_void.proofs.Mentioned.{IsNamedAt, mentioned_if_named, named_above, need_named, old_or_new, put_named}
+use Rattle.st_void.proofs.MentionsClosed.{IsNamedAt, mentioned_if_named, named_above, need_named, old_or_new, put_named}
 use Rattle.st_void.proofs.PutsTrue.{by_row, on_row}
-use Rattle.st_void.proofs.Shortest.{is_some_node}
+use Rattle.st_climb.proofs.ShortestClimbs.{is_some_node}
 
 some_of : {A : Type 0} (o : Option A) → IsSome o → (x : A) × (o ≡ Some x)
 some_of None h = absurd (let bad : false ≡ true = h in cc)

@@ -8,7 +8,7 @@ ghost use Rattle.st_marks.specs.declared.marks.RegMark.{RegMark as Register};
 ghost use Rattle.st_marks.specs.declared.marks.RowMarks.{RowMarks as Row};
 ghost use Rattle.st_marks.specs.Document.{Reaches};
 ghost use Rattle.st_marks.specs.Row.{spread};
-ghost use Rattle.st_seq.specs.Reading.{cell_of};
+ghost use Rattle.st_rows.specs.Reading.{cell_of};
 ghost use Rattle.st_doc.specs.inside.Ahead.{IsLeastOf, least_with};
 ghost use Rattle.st_void.specs.declared.standing.When.{When as Time};
 ghost use Rattle.st_void.specs.Standing.{above_shown};

@@ -9,7 +9,7 @@ ghost use Rattle.st_marks.specs.Intent.{same_option};
 ghost use Rattle.st_marks.specs.Listings.{held_after};
 ghost use Rattle.st_void.specs.declared.standing.When.{When as Time};
 ghost use Rattle.st_marks.specs.Row.{spread};
-ghost use Rattle.st_seq.specs.Reading.{cell_of};
+ghost use Rattle.st_rows.specs.Reading.{cell_of};
 ghost use Rattle.st_void.specs.Standing.{above_shown, held_by, stands};
 
 use st_ids::{NodeId, is_same_node};

@@ -1,10 +1,10 @@
 -- A change of a row and a step that came in between.
 use Rattle.std.specs.Prelude.{◌≡◌, false}
 use Rattle.st_kind.specs.Named.{Nodes}
-use Rattle.st_seq.specs.Sequence.{SeqPart, RowCanHold, RowFits, RowKeeps, RowLeadsOver, row_carried, row_change_of}
-use Rattle.st_seq.specs.declared.values.RowChange.{RowChange}
-use Rattle.st_seq.specs.declared.values.RowHeld.{RowHeld}
-use Rattle.st_seq.specs.declared.values.RowStep.{RowStep}
+use Rattle.st_rows.specs.Sequence.{SeqPart, RowCanHold, RowFits, RowKeeps, RowLeadsOver, row_carried, row_change_of}
+use Rattle.st_rows.specs.declared.values.RowChange.{RowChange}
+use Rattle.st_rows.specs.declared.values.RowHeld.{RowHeld}
+use Rattle.st_rows.specs.declared.values.RowStep.{RowStep}
 
 -- the change says what a part wants of the row c; the step leads from c to the row d, where the part fits as well, with what
 -- becomes of the nodes that came in told by the change; and the part makes a row of d

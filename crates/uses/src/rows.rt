@@ -2,12 +2,13 @@
 ghost use Rattle.std.specs.Prelude.{false};
 ghost use Rattle.st_kind.specs.Named.{Nodes};
 ghost use Rattle.st_kind.specs.Refused.{IfMemory};
-ghost use Rattle.st_seq.specs.Sequence.{RowLeadsOver, SeqPart, row_carried};
+ghost use Rattle.st_rows.specs.Sequence.{RowLeadsOver, SeqPart, row_carried};
 ghost use Rattle.uses.specs.Beside.{StandBeside};
 
 use st_ids::Or;
 use st_kind::{Apart, FieldKind};
-use st_seq::{RowChange, RowHeld, RowStep, Sequence};
+use st_rows::{RowChange, RowHeld, RowStep};
+use st_seq::Sequence;
 use std::alloc::Global;
 
 /// What a change does with a row where a step came in between: it leads from the row that the step left to the one that the

@@ -21,8 +21,8 @@ use Rattle.st_marks.specs.Row.{embed_row, merge}
 use Rattle.st_register.specs.Readings.{as_mark}
 use Rattle.st_register.specs.Register.{RegCanHold, RegFits, RegPart, reg_carried, reg_change_of}
 use Rattle.st_register.specs.declared.values.RegHeld.{RegHeld}
-use Rattle.st_seq.specs.Rows.{IsRowStep}
-use Rattle.st_seq.specs.Sequence.{RowFits, SeqPart, row_carried}
+use Rattle.st_rows.specs.Rows.{IsRowStep}
+use Rattle.st_rows.specs.Sequence.{RowFits, SeqPart, row_carried}
 use Rattle.st_effect.specs.inside.Listed.{AreListedAs}
 
 -- whether a change with this verdict is void

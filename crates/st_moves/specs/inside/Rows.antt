@@ -1,5 +1,5 @@
 -- A row of a change beside that of a step, each of them listed or not.
-use Rattle.std.specs.Prelude.{Bool, true, false, List, [], ◌∷◌, Option, Some, None, is_some, if◌then◌else◌}
+use Rattle.std.specs.Prelude.{Bool, List, [], ◌∷◌, Option, Some, None, is_some, if◌then◌else◌}
 use Rattle.std.specs.List.{flat_map, list_any}
 use Rattle.st_ids.specs.Listing.{item_of}
 use Rattle.st_ids.specs.Order.{node_cmp}
@@ -10,7 +10,7 @@ use Rattle.st_marks.specs.declared.marks.RowMarks.{RowMarks}
 use Rattle.st_marks.specs.Embedding.{row_marks, tells}
 use Rattle.st_marks.specs.Listings.{cells_before}
 use Rattle.st_marks.specs.Row.{CellMark, Counted, Gap, Touch, Make, Fill, spread}
-use Rattle.st_seq.specs.Differences.{first_difference}
+use Rattle.st_rows.specs.Differences.{first_difference}
 use Rattle.st_moves.specs.Carried.{carry_row}
 
 -- what is said of a cell that both sides find, with no node told
@@ -24,14 +24,6 @@ bare_cell (Fill c n) = Gap c ∷ []
 -- the same of a row: how it is listed by a side that tells nothing there
 abbrev pub bare : List CellMark → List CellMark
 bare = flat_map bare_cell
-
--- whether a mark tells something
-abbrev pub mark_tells : Mark → Bool
-mark_tells (Mark.Skip k) = false
-mark_tells (Mark.Gap c) = false
-mark_tells (Mark.Touch c n h) = true
-mark_tells (Mark.Make c n b) = true
-mark_tells (Mark.Fill c n) = true
 
 -- a row, if its marks tell something
 abbrev pub listed_row : NodeId → List Mark → Option RowMarks

@@ -4,7 +4,7 @@ use Rattle.st_kind.specs.Refused.{IsFirstPlace}
 use Rattle.st_marks.specs.declared.places.Slot.{Slot}
 use Rattle.st_marks.specs.Row.{CellMark}
 use Rattle.st_marks.specs.Listings.{cells_before}
-use Rattle.st_seq.specs.Views.{row_views}
+use Rattle.st_rows.specs.Views.{row_views}
 use Rattle.st_seq.specs.declared.name_clashes.NamedAt.{NamedAt}
 use Rattle.st_seq.specs.NamedApart.{SaidApart, first_named, named_before, named_in_row}
 use Rattle.st_ids.specs.Order.{lesser}

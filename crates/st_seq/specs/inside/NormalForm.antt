@@ -13,18 +13,14 @@ use Rattle.st_ids.specs.Root.{root}
 use Rattle.st_marks.specs.Embedding.{is_among}
 use Rattle.st_marks.specs.Row.{CellMark, Counted, Gap, Touch, Make, Fill, spread}
 use Rattle.st_marks.specs.Listings.{cells_before}
-use Rattle.st_seq.specs.Views.{row_views}
-use Rattle.st_seq.specs.Differences.{first_difference}
-use Rattle.st_seq.specs.Merged.{is_skip}
-use Rattle.st_seq.specs.declared.values.RowChange.{RowChange}
+use Rattle.st_rows.specs.Views.{row_views}
+use Rattle.st_rows.specs.Differences.{first_difference}
+use Rattle.st_rows.specs.Merged.{begins_with_skip}
+use Rattle.st_rows.specs.declared.values.RowChange.{RowChange}
 
 -- ## Marks
 
 -- whether a mark stands well before others: it counts some cells, and none before another that counts
-abbrev pub begins_with_skip : List Mark → Bool
-begins_with_skip [] = false
-begins_with_skip (m ∷ ms) = is_skip m
-
 abbrev pub stands_before : Mark → List Mark → Bool
 stands_before (Mark.Skip zero) ms = false
 stands_before (Mark.Skip (suc k)) ms = not (begins_with_skip ms)

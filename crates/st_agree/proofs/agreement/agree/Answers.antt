@@ -1,7 +1,7 @@
 use Rattle.std.proofs.Common.{subst, sym, ◌∙◌}
 use Rattle.st_ids.specs.Listing.{Has}
 use Rattle.st_marks.specs.Agree.{RebaseClash}
-use Rattle.st_agree.proofs.Answering.{refused_along, tells_least}
+use Rattle.st_agree.proofs.TestAnswers.{refused_along, tells_least}
 use Rattle.st_agree.proofs.agreement.agree.Goals as goal
 
 pub returns-clause-named : goal.returns-clause-named

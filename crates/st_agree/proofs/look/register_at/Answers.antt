@@ -3,7 +3,7 @@ use Rattle.std.specs.Option.{option_copied}
 use Rattle.st_ids.specs.Order.{field_cmp}
 use Rattle.st_ids.proofs.Orders.{field_cmp_exact, field_cmp_total}
 use Rattle.st_marks.specs.declared.marks.RegStep.{RegStep}
-use Rattle.st_clash.proofs.Looking.{all_between, copied_at, found_there, greater_after, less_before, none_between}
+use Rattle.st_clash.proofs.ItemSearch.{all_between, copied_at, found_there, greater_after, less_before, none_between}
 use Rattle.st_agree.proofs.look.register_at.Goals as goal
 
 pub loop-low-init : goal.loop-low-init

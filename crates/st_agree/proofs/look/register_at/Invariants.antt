@@ -2,7 +2,7 @@ use Rattle.std.proofs.Common.{◌-◌}
 use Rattle.st_ids.specs.Order.{field_cmp}
 use Rattle.st_ids.proofs.Orders.{field_cmp_exact, field_cmp_total}
 use Rattle.st_marks.specs.declared.marks.RegStep.{RegStep}
-use Rattle.st_clash.proofs.Looking.{IsBetween}
+use Rattle.st_clash.proofs.ItemSearch.{IsBetween}
 use Rattle.st_agree.proofs.look.register_at.Given as goal
 
 abbrev pub invariant-loop-low : goal.invariant-loop-low

@@ -4,7 +4,7 @@ use Rattle.std.specs.Option.{option_copied}
 use Rattle.st_ids.specs.Order.{node_cmp}
 use Rattle.st_ids.proofs.Orders.{node_cmp_exact, node_cmp_total}
 use Rattle.st_marks.specs.declared.marks.RowMarks.{RowMarks}
-use Rattle.st_clash.proofs.Looking.{copied_at, searched}
+use Rattle.st_clash.proofs.ItemSearch.{copied_at, searched}
 use Rattle.st_agree.proofs.look.row_at.Goals as goal
 
 pub returns-in-Ok : goal.returns-in-Ok

@@ -2,8 +2,8 @@ use Rattle.std.proofs.Common.{◌++◌, ap, ◌∙◌, subst, sym}
 use Rattle.st_ids.specs.Listing.{Has}
 use Rattle.st_lemmas.proofs.Bools.{true-false}
 use Rattle.st_agree_laws.proofs.CellsOnce.{agree_over}
-use Rattle.st_agree.proofs.Obeyed.{lists_rise, step_is_clear}
-use Rattle.st_agree.proofs.Told.{none_has}
+use Rattle.st_agree.proofs.RulesObeyed.{lists_rise, step_is_clear}
+use Rattle.st_agree.proofs.FieldsFound.{none_has}
 use Rattle.st_agree.proofs.named.clashes.Goals as goal
 
 pub returns-then-not-lists_rise-clause-all : goal.returns-then-not-lists_rise-clause-all

@@ -1,4 +1,4 @@
-use Rattle.st_agree.proofs.Together.{added_all}
+use Rattle.st_agree.proofs.AllRules.{added_all}
 use Rattle.st_agree.proofs.named.push_clashes.Goals as goal
 
 pub returns : goal.returns

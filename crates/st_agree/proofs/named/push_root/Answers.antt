@@ -1,5 +1,5 @@
 use Rattle.st_lemmas.proofs.Bools.{true-false}
-use Rattle.st_agree.proofs.Together.{root_clash, root_passes}
+use Rattle.st_agree.proofs.AllRules.{root_clash, root_passes}
 use Rattle.st_agree.proofs.named.push_root.Goals as goal
 
 pub returns-then-have_schemas : goal.returns-then-have_schemas

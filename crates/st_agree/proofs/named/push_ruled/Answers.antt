@@ -4,10 +4,10 @@ use Rattle.st_marks.specs.Listings.{listing_before_change, listing_before_step}
 use Rattle.st_agree.specs.inside.Names.{made_again, nodes_of_change, nodes_of_step}
 use Rattle.st_agree.specs.inside.Places.{found_twice, placements_of_change, placements_of_step}
 use Rattle.st_agree.specs.inside.Rows.{register_apart, row_apart}
-use Rattle.st_agree.proofs.Standing.{change_placed, step_placed}
-use Rattle.st_agree.proofs.Together.{behind_five}
-use Rattle.st_agree.proofs.Told.{all_found, all_told, told_all}
-use Rattle.st_agree.proofs.Twice.{told_twice, twice_told}
+use Rattle.st_agree.proofs.ShownPlaces.{change_placed, step_placed}
+use Rattle.st_agree.proofs.AllRules.{behind_five}
+use Rattle.st_agree.proofs.FieldsFound.{all_found, all_told, told_all}
+use Rattle.st_agree.proofs.NodesTwice.{told_twice, twice_told}
 use Rattle.st_agree.proofs.named.push_ruled.Goals as goal
 
 pub returns : goal.returns

@@ -2,7 +2,7 @@ use Rattle.std.proofs.Common.{get_or, refl}
 use Rattle.st_marks.specs.declared.marks.Loose.{Loose}
 use Rattle.st_ids.specs.Root.{root}
 use Rattle.st_marks.specs.declared.marks.How.TheVariants.{Stay}
-use Rattle.st_clash.proofs.Finding.{mapped_more}
+use Rattle.st_clash.proofs.LeastFields.{mapped_more}
 use Rattle.st_agree.proofs.names.add_loose.Goals as goal
 
 blank : Loose

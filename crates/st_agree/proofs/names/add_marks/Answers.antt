@@ -1,6 +1,6 @@
 use Rattle.std.proofs.Common.{ap, get_or, refl, ◌∙◌, ◌++◌}
 use Rattle.st_marks.specs.declared.marks.Mark.{Mark}
-use Rattle.st_agree.proofs.Naming.{marks_more}
+use Rattle.st_agree.proofs.NamedNodes.{marks_more}
 use Rattle.st_agree.proofs.names.add_marks.Goals as goal
 
 pub loop-mark-preserved : goal.loop-mark-preserved

@@ -1,6 +1,6 @@
 use Rattle.std.proofs.Common.{sym}
 use Rattle.st_marks.specs.declared.changes.NewNode.{NewNode}
-use Rattle.st_clash.proofs.Finding.{mapped_more}
+use Rattle.st_clash.proofs.LeastFields.{mapped_more}
 use Rattle.st_agree.proofs.names.add_new.Goals as goal
 
 pub loop-made-preserved : goal.loop-made-preserved

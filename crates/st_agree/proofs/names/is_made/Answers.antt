@@ -2,7 +2,7 @@ use Rattle.std.proofs.Common.{ap, rules, sym, ◌∙◌}
 use Rattle.std.proofs.lemmas.List.Sorted.{answers_always}
 use Rattle.std.specs.Prelude.{is_ok}
 use Rattle.st_marks.specs.declared.changes.NewNode.{NewNode}
-use Rattle.st_agree.proofs.Naming.{made_or_not}
+use Rattle.st_agree.proofs.NamedNodes.{made_or_not}
 use Rattle.st_agree.proofs.names.is_made.Goals as goal
 
 pub returns-in-Ok : goal.returns-in-Ok

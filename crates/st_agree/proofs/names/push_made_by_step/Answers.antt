@@ -1,7 +1,7 @@
 use Rattle.std.proofs.Common.{◌≡◌, arith, length}
 use Rattle.std.proofs.lemmas.Bool.Decides.{nat_tests}
 use Rattle.st_agree.specs.inside.Names.{nodes_of_change}
-use Rattle.st_agree.proofs.Naming.{none_made}
+use Rattle.st_agree.proofs.NamedNodes.{none_made}
 use Rattle.st_agree.proofs.names.push_made_by_step.Goals as goal
 
 pub returns-then-is_empty : goal.returns-then-is_empty

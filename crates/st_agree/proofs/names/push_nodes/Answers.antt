@@ -1,7 +1,7 @@
 use Rattle.std.proofs.Common.{get_or, refl}
 use Rattle.st_ids.specs.Root.{root}
 use Rattle.st_agree.specs.inside.Names.{made_again}
-use Rattle.st_clash.proofs.Finding.{flat_more}
+use Rattle.st_clash.proofs.LeastFields.{flat_more}
 use Rattle.st_agree.proofs.names.push_nodes.Goals as goal
 
 pub loop-node-preserved : goal.loop-node-preserved

@@ -1,7 +1,7 @@
 use Rattle.std.proofs.Common.{ap, get_or, refl, ◌∙◌, ◌++◌}
 use Rattle.st_marks.specs.declared.marks.Mark.{Mark}
 use Rattle.st_agree.specs.inside.Places.{placed_by}
-use Rattle.st_clash.proofs.Finding.{flat_more}
+use Rattle.st_clash.proofs.LeastFields.{flat_more}
 use Rattle.st_agree.proofs.places.add_marks.Goals as goal
 
 pub loop-mark-preserved : goal.loop-mark-preserved

@@ -1,7 +1,7 @@
 use Rattle.std.proofs.Common.{sym}
 use Rattle.st_marks.specs.declared.marks.RegMark.{RegMark}
 use Rattle.st_agree.specs.inside.Places.{placed_held}
-use Rattle.st_clash.proofs.Finding.{flat_more}
+use Rattle.st_clash.proofs.LeastFields.{flat_more}
 use Rattle.st_agree.proofs.places.add_registers.Goals as goal
 
 pub loop-register-preserved : goal.loop-register-preserved

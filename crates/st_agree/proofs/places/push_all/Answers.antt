@@ -3,7 +3,7 @@ use Rattle.std.specs.BTreeMap.{get}
 use Rattle.st_ids.specs.Order.{node_cmp}
 use Rattle.st_agree.specs.declared.places.Placed.{Placed}
 use Rattle.st_agree.specs.inside.Places.{apart_fields, placed_at}
-use Rattle.st_clash.proofs.Finding.{flat_more}
+use Rattle.st_clash.proofs.LeastFields.{flat_more}
 use Rattle.st_agree.proofs.places.push_all.Goals as goal
 
 pub loop-placed-preserved : goal.loop-placed-preserved

@@ -1,4 +1,4 @@
-use Rattle.st_agree.proofs.Twice.{found_by_name}
+use Rattle.st_agree.proofs.NodesTwice.{found_by_name}
 use Rattle.st_agree.proofs.places.push_elsewhere.Goals as goal
 
 pub returns-then-nodes_rise : goal.returns-then-nodes_rise

@@ -1,7 +1,7 @@
 use Rattle.std.proofs.Common.{◌≡◌, ◌++◌, arith, length, subst}
 use Rattle.std.proofs.lemmas.Bool.Decides.{nat_tests}
 use Rattle.st_agree.specs.inside.Places.{found_twice, placements_of_step}
-use Rattle.st_agree.proofs.Twice.{none_twice, some_table}
+use Rattle.st_agree.proofs.NodesTwice.{none_twice, some_table}
 use Rattle.st_agree.proofs.places.push_twice.Goals as goal
 
 pub returns-then-is_empty : goal.returns-then-is_empty

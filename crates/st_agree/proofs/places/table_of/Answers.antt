@@ -1,7 +1,7 @@
 use Rattle.std.proofs.Common.{arith}
 use Rattle.std.specs.BTreeMap.{get}
 use Rattle.st_ids.specs.Order.{node_cmp}
-use Rattle.st_agree.proofs.Twice.{table_more, whole_table}
+use Rattle.st_agree.proofs.NodesTwice.{table_more, whole_table}
 use Rattle.st_agree.proofs.places.table_of.Goals as goal
 
 pub loop-at-preserved : goal.loop-at-preserved

@@ -1,7 +1,7 @@
 use Rattle.std.proofs.Common.{◌≤◌, ◌-◌, length}
 use Rattle.std.specs.BTreeMap.{get}
 use Rattle.st_ids.specs.Order.{node_cmp}
-use Rattle.st_agree.proofs.Twice.{IsTableTo}
+use Rattle.st_agree.proofs.NodesTwice.{IsTableTo}
 use Rattle.st_agree.proofs.places.table_of.Given as goal
 
 abbrev pub invariant-loop-at : goal.invariant-loop-at

@@ -1,6 +1,6 @@
 use Rattle.std.proofs.Common.{sym}
 use Rattle.st_agree.specs.inside.Rows.{register_apart}
-use Rattle.st_clash.proofs.Finding.{flat_more}
+use Rattle.st_clash.proofs.LeastFields.{flat_more}
 use Rattle.st_agree.proofs.registers.push_registers.Goals as goal
 
 pub loop-register-preserved : goal.loop-register-preserved

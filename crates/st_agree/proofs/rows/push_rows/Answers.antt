@@ -1,6 +1,6 @@
 use Rattle.std.proofs.Common.{sym}
 use Rattle.st_agree.specs.inside.Rows.{row_apart}
-use Rattle.st_clash.proofs.Finding.{flat_more}
+use Rattle.st_clash.proofs.LeastFields.{flat_more}
 use Rattle.st_agree.proofs.rows.push_rows.Goals as goal
 
 pub loop-row-preserved : goal.loop-row-preserved

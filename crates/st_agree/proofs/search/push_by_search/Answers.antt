@@ -3,7 +3,7 @@ use Rattle.st_ids.specs.Listing.{item_of}
 use Rattle.st_ids.specs.Order.{node_cmp}
 use Rattle.st_agree.specs.declared.places.Placed.{Placed}
 use Rattle.st_agree.specs.inside.Places.{apart_fields}
-use Rattle.st_clash.proofs.Finding.{flat_more}
+use Rattle.st_clash.proofs.LeastFields.{flat_more}
 use Rattle.st_agree.proofs.search.push_by_search.Goals as goal
 
 pub loop-placed-preserved : goal.loop-placed-preserved

@@ -1,6 +1,6 @@
 use Rattle.std.proofs.Common.{rules}
 use Rattle.st_marks.specs.Row.{spread}
-use Rattle.st_seq.proofs.Short.{are_short}
+use Rattle.st_rows.proofs.ShortRows.{are_short}
 use Rattle.st_algebra_tests.proofs.rows.are_short.Goals as goal
 
 pub returns : goal.returns

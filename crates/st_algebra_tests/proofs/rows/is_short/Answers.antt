@@ -1,6 +1,6 @@
 use Rattle.std.proofs.Common.{rules}
 use Rattle.st_marks.specs.Row.{spread}
-use Rattle.st_seq.proofs.Short.{is_short}
+use Rattle.st_rows.proofs.ShortRows.{is_short}
 use Rattle.st_algebra_tests.proofs.rows.is_short.Goals as goal
 
 pub returns : goal.returns

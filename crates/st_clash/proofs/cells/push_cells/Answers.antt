@@ -1,6 +1,6 @@
 use Rattle.std.specs.BTreeSet.{contains}
 use Rattle.st_ids.specs.Order.{cell_cmp}
-use Rattle.st_clash.proofs.Clashing.{cells_added}
+use Rattle.st_clash.proofs.ClashFields.{cells_added}
 use Rattle.st_clash.proofs.cells.push_cells.Goals as goal
 
 pub returns : goal.returns

@@ -2,7 +2,7 @@ use Rattle.std.proofs.Common.{ap, ◌∙◌}
 use Rattle.std.specs.Ordering.{is_lt}
 use Rattle.st_ids.specs.Order.{field_cmp}
 use Rattle.st_lemmas.proofs.Bools.{true-false}
-use Rattle.st_clash.proofs.Finding.{least_more}
+use Rattle.st_clash.proofs.LeastFields.{least_more}
 use Rattle.st_clash.proofs.fields.least_field.Goals.{then-are_in_order, else-are_in_order}
 use Rattle.st_clash.proofs.fields.least_field.Goals as goal
 

@@ -2,7 +2,7 @@ use Rattle.std.proofs.Common.{[], ◌++◌, ap, sym, ◌∙◌}
 use Rattle.st_marks.specs.declared.marks.RowMarks.{RowMarks}
 use Rattle.st_marks.specs.Listings.{cells_made}
 use Rattle.st_marks.specs.Row.{spread}
-use Rattle.st_clash.proofs.Finding.{flat_more}
+use Rattle.st_clash.proofs.LeastFields.{flat_more}
 use Rattle.st_clash.proofs.made.made_in_rows.Goals as goal
 
 pub loop-row-preserved : goal.loop-row-preserved

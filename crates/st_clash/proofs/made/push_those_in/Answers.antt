@@ -3,7 +3,7 @@ use Rattle.std.specs.BTreeSet.{contains}
 use Rattle.st_ids.specs.Order.{cell_cmp}
 use Rattle.st_ids.specs.declared.names.CellId.{CellId}
 use Rattle.st_clash.specs.inside.Made.{only_if}
-use Rattle.st_clash.proofs.Finding.{flat_more}
+use Rattle.st_clash.proofs.LeastFields.{flat_more}
 use Rattle.st_clash.proofs.made.push_those_in.Goals as goal
 
 blank : CellId

@@ -2,7 +2,7 @@ use Rattle.std.proofs.Common.{sym}
 use Rattle.std.specs.BTreeSet.{contains}
 use Rattle.st_ids.specs.Order.{cell_cmp}
 use Rattle.st_clash.specs.inside.Bad.{row_naming}
-use Rattle.st_clash.proofs.Finding.{flat_more}
+use Rattle.st_clash.proofs.LeastFields.{flat_more}
 use Rattle.st_clash.proofs.Tables.{no_row}
 use Rattle.st_clash.proofs.naming.push_naming.Goals as goal
 

@@ -3,7 +3,7 @@ use Rattle.st_ids.specs.Listing.{item_of}
 use Rattle.st_ids.specs.Order.{cell_cmp}
 use Rattle.st_clash.specs.declared.seen.Seen.{Seen}
 use Rattle.st_clash.specs.inside.Seen.{apart_cell}
-use Rattle.st_clash.proofs.Finding.{flat_more}
+use Rattle.st_clash.proofs.LeastFields.{flat_more}
 use Rattle.st_clash.proofs.search.push_by_search.Goals as goal
 
 blank : Seen

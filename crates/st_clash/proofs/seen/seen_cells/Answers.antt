@@ -1,6 +1,6 @@
 use Rattle.std.proofs.Common.{[], ◌++◌, ap, sym, ◌∙◌}
 use Rattle.st_clash.specs.inside.Seen.{row_seen, seen_from}
-use Rattle.st_clash.proofs.Finding.{flat_more}
+use Rattle.st_clash.proofs.LeastFields.{flat_more}
 use Rattle.st_clash.proofs.seen.seen_cells.Goals as goal
 
 pub loop-row-preserved : goal.loop-row-preserved

@@ -3,7 +3,7 @@ use Rattle.std.specs.BTreeMap.{get}
 use Rattle.st_ids.specs.Order.{cell_cmp}
 use Rattle.st_clash.specs.declared.seen.Seen.{Seen}
 use Rattle.st_clash.specs.inside.Seen.{apart_cell}
-use Rattle.st_clash.proofs.Finding.{flat_more}
+use Rattle.st_clash.proofs.LeastFields.{flat_more}
 use Rattle.st_clash.proofs.twice.push_apart.Goals as goal
 
 blank : Seen

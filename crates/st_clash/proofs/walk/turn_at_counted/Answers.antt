@@ -1,5 +1,5 @@
 use Rattle.std.proofs.Common.{◌<◌, ◌≤◌, arith}
-use Rattle.st_clash.proofs.Walking.{counted_both}
+use Rattle.st_clash.proofs.RowWalks.{counted_both}
 use Rattle.st_clash.proofs.walk.turn_at_counted.Goals.{then-k-j, else-k-j}
 use Rattle.st_clash.proofs.walk.turn_at_counted.Goals as goal
 

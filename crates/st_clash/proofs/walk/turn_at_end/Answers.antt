@@ -1,6 +1,6 @@
 use Rattle.std.proofs.Common.{ap, []}
 use Rattle.st_clash.specs.Views.{same_views}
-use Rattle.st_clash.proofs.Walking.{end_counted}
+use Rattle.st_clash.proofs.RowWalks.{end_counted}
 use Rattle.st_clash.proofs.walk.turn_at_end.Goals as goal
 
 pub returns-in-Counted : goal.returns-in-Counted

@@ -2,7 +2,7 @@ use Rattle.std.proofs.Common.{◌∙◌, subst, length, ◌<◌, ◌≤◌}
 use Rattle.std.specs.List.Sorted.{IsBinarySearchResult}
 use Rattle.std.specs.Prelude.{MatchResult}
 use Rattle.st_ids.specs.Order.{node_cmp}
-use Rattle.st_seq.proofs.Searching.{found_or_not}
+use Rattle.st_rows.proofs.NodeSearch.{found_or_not}
 use Rattle.st_effect.proofs.names.is_among.Goals as goal
 
 pub returns : goal.returns

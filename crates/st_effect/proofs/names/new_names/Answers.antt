@@ -1,5 +1,5 @@
 use Rattle.st_marks.specs.Embedding.{is_among}
-use Rattle.st_effect.proofs.Loops.{among_more}
+use Rattle.st_effect.proofs.ListLoops.{among_more}
 use Rattle.st_effect.proofs.names.new_names.Goals as goal
 
 pub nodes-preserved : goal.nodes-preserved

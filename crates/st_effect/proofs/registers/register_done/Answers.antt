@@ -2,7 +2,7 @@ use Rattle.std.proofs.Common.{subst, sym}
 use Rattle.st_ids.specs.declared.names.FieldId.{FieldId}
 use Rattle.st_register.specs.declared.values.RegChange.{RegChange}
 use Rattle.st_effect.specs.inside.Done.{IsRegisterDone}
-use Rattle.st_effect.proofs.KindLaws.{IsSwapLaw, change_in, swap_law}
+use Rattle.st_effect.proofs.FieldLaws.{IsSwapLaw, change_in, swap_law}
 use Rattle.st_effect.proofs.registers.register_done.Goals as goal
 
 pub returns-clause-done : goal.returns-clause-done

@@ -1,7 +1,7 @@
 use Rattle.st_marks.specs.declared.marks.RegMark.{RegMark}
 use Rattle.st_marks.specs.declared.marks.RegStep.{RegStep}
 use Rattle.st_effect.specs.inside.Done.{IsRegisterDone}
-use Rattle.st_effect.proofs.Matching.{listed_on}
+use Rattle.st_effect.proofs.ItemPairs.{listed_on}
 use Rattle.st_effect.proofs.registers.registers_done.Goals as goal
 
 pub loop-mark-preserved : goal.loop-mark-preserved

@@ -1,7 +1,7 @@
 use Rattle.std.proofs.Common.{subst, sym}
 use Rattle.std.specs.Prelude.{IfOk}
 use Rattle.st_effect.specs.inside.Done.{IsRowDone}
-use Rattle.st_effect.proofs.KindLaws.{void_law, whole_law}
+use Rattle.st_effect.proofs.FieldLaws.{void_law, whole_law}
 use Rattle.st_effect.proofs.rows.marks_done.Goals as goal
 
 pub returns-then-void : goal.returns-then-void

@@ -2,8 +2,8 @@ use Rattle.std.proofs.Common.{◌<◌, ◌^◌, length}
 use Rattle.st_marks.specs.declared.marks.RowMarks.{RowMarks}
 use Rattle.st_marks.specs.Row.{spread}
 use Rattle.st_effect.specs.inside.Done.{IsRowDone}
-use Rattle.st_effect.proofs.Loops.{all_at}
-use Rattle.st_effect.proofs.Matching.{listed_on}
+use Rattle.st_effect.proofs.ListLoops.{all_at}
+use Rattle.st_effect.proofs.ItemPairs.{listed_on}
 use Rattle.st_effect.proofs.rows.rows_done.Goals as goal
 
 pub row_done-requires-clause-short : goal.row_done-requires-clause-short

@@ -2,7 +2,7 @@ use Rattle.st_marks.specs.Agree.{RebaseClash}
 use Rattle.st_marks.specs.Embedding.{IsEmbedding}
 use Rattle.st_marks.specs.declared.changes.Change.{Change}
 use Rattle.st_agree.specs.declared.agreement.FieldApart.{FieldApart}
-use Rattle.st_family.proofs.Agreed.{least_same, refused_none, refused_same}
+use Rattle.st_family.proofs.Refusals.{least_same, refused_none, refused_same}
 use Rattle.st_family.proofs.over_step.rebase.Goals as goal
 
 pub returns-in-Err-clause-rebased : goal.returns-in-Err-clause-rebased

@@ -1,4 +1,4 @@
-use Rattle.st_mention_laws.proofs.Thinned.{shows_itself, shows_thin}
+use Rattle.st_mention_laws.proofs.ThinForms.{shows_itself, shows_thin}
 use Rattle.st_mention_laws.proofs.laws.embeddings_are_shown.Goals as goal
 
 pub returns : goal.returns

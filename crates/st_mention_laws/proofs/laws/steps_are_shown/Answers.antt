@@ -1,4 +1,4 @@
-use Rattle.st_mention_laws.proofs.Thinned.{shows_itself-step, shows_thin-step}
+use Rattle.st_mention_laws.proofs.ThinForms.{shows_itself-step, shows_thin-step}
 use Rattle.st_mention_laws.proofs.laws.steps_are_shown.Goals as goal
 
 pub returns : goal.returns

@@ -6,7 +6,7 @@ use Rattle.st_ids.specs.declared.names.FieldId.{FieldId}
 use Rattle.st_lemmas.proofs.Bools.{or-false}
 use Rattle.st_lemmas.proofs.FirstItems.{found_more}
 use Rattle.st_marks.specs.declared.marks.RegMark.{RegMark}
-use Rattle.st_moves.proofs.Keeping.{or_last}
+use Rattle.st_moves.proofs.NamesLeft.{or_last}
 use Rattle.st_moves.proofs.index.add_registers.Goals as goal
 
 pub loop-item-init : goal.loop-item-init

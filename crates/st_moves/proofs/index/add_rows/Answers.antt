@@ -5,7 +5,7 @@ use Rattle.st_ids.specs.Order.{node_cmp}
 use Rattle.st_lemmas.proofs.Bools.{or-false}
 use Rattle.st_lemmas.proofs.FirstItems.{found_more}
 use Rattle.st_marks.specs.declared.marks.RowMarks.{RowMarks}
-use Rattle.st_moves.proofs.Keeping.{or_last}
+use Rattle.st_moves.proofs.NamesLeft.{or_last}
 use Rattle.st_moves.proofs.index.add_rows.Goals as goal
 
 pub loop-item-init : goal.loop-item-init

@@ -4,7 +4,7 @@ use Rattle.st_ids.specs.Order.{field_cmp}
 use Rattle.st_ids.proofs.Orders.{field_cmp_total}
 use Rattle.st_ids.specs.declared.names.FieldId.{FieldId}
 use Rattle.st_marks.specs.declared.marks.RegMark.{RegMark}
-use Rattle.st_moves.proofs.Indexing.{IsIndexed}
+use Rattle.st_moves.proofs.Indices.{IsIndexed}
 use Rattle.st_moves.proofs.index.index_registers.Given as goal
 
 abbrev pub invariant-loop-at : goal.invariant-loop-at

@@ -8,7 +8,7 @@ use Rattle.st_ids.specs.Order.{field_cmp}
 use Rattle.st_ids.proofs.Orders.{field_cmp_total}
 use Rattle.st_ids.specs.declared.names.FieldId.{FieldId}
 use Rattle.st_marks.specs.declared.marks.RegStep.{RegStep}
-use Rattle.st_moves.proofs.Indexing.{indexed_all, indexed_more}
+use Rattle.st_moves.proofs.Indices.{indexed_all, indexed_more}
 use Rattle.st_moves.proofs.index.index_registers_over.Goals as goal
 
 pub loop-at-init : goal.loop-at-init

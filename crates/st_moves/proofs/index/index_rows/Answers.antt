@@ -7,7 +7,7 @@ use Rattle.std.proofs.lemmas.List.{take_all}
 use Rattle.st_ids.specs.Order.{node_cmp}
 use Rattle.st_ids.proofs.Orders.{node_cmp_total}
 use Rattle.st_marks.specs.declared.marks.RowMarks.{RowMarks}
-use Rattle.st_moves.proofs.Indexing.{indexed_all, indexed_more}
+use Rattle.st_moves.proofs.Indices.{indexed_all, indexed_more}
 use Rattle.st_moves.proofs.index.index_rows.Goals as goal
 
 pub loop-at-init : goal.loop-at-init

@@ -1,4 +1,4 @@
-use Rattle.st_mention_laws.proofs.Thinned.{shows_itself}
+use Rattle.st_mention_laws.proofs.ThinForms.{shows_itself}
 use Rattle.st_moves.proofs.marks.between_with.Goals as goal
 
 pub returns : goal.returns

@@ -1,4 +1,4 @@
-use Rattle.st_mention_laws.proofs.Thinned.{shows_itself, shows_itself-step}
+use Rattle.st_mention_laws.proofs.ThinForms.{shows_itself, shows_itself-step}
 use Rattle.st_moves.proofs.marks.carry_marks.Goals as goal
 
 pub returns : goal.returns

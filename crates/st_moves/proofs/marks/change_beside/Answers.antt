@@ -5,7 +5,7 @@ use Rattle.st_lemmas.proofs.Options.{IfOk-along}
 use Rattle.st_marks.specs.declared.changes.Change.{Change}
 use Rattle.st_moves.specs.Changes.{IsChangeBetween}
 use Rattle.st_moves.specs.inside.Fields.{IsChangeWith}
-use Rattle.st_moves.proofs.Assembled.{assembled}
+use Rattle.st_moves.proofs.CarriedFields.{assembled}
 use Rattle.st_moves.proofs.ChangeCarried.{carried_with}
 use Rattle.st_moves.proofs.marks.change_beside.Goals as goal
 

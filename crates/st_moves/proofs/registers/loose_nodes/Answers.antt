@@ -5,7 +5,7 @@ use Rattle.std.specs.Option.{option_to_list}
 use Rattle.st_ids.specs.Order.{node_cmp}
 use Rattle.st_puts.specs.Mentions.{place_in}
 use Rattle.st_moves.specs.inside.Registers.{loose_in}
-use Rattle.st_moves.proofs.Keeping.{listed_all, listed_left}
+use Rattle.st_moves.proofs.NamesLeft.{listed_all, listed_left}
 use Rattle.st_moves.proofs.registers.loose_nodes.Goals as goal
 
 pub loop-node-preserved : goal.loop-node-preserved

@@ -5,7 +5,7 @@ use Rattle.std.specs.List.{filter_map}
 use Rattle.std.specs.Option.{option_to_list}
 use Rattle.st_ids.specs.Order.{node_cmp}
 use Rattle.st_moves.specs.inside.Registers.{register_beside}
-use Rattle.st_moves.proofs.Keeping.{listed_all, listed_left}
+use Rattle.st_moves.proofs.NamesLeft.{listed_all, listed_left}
 use Rattle.st_moves.proofs.registers.registers_beside.Goals as goal
 
 pub loop-field-preserved : goal.loop-field-preserved

@@ -9,8 +9,8 @@ use Rattle.st_marks.specs.declared.marks.RegMark.{RegMark}
 use Rattle.st_marks.specs.declared.marks.RegStep.{RegStep}
 use Rattle.st_moves.specs.Carried.{carried_register}
 use Rattle.st_moves.specs.inside.Registers.{register_beside}
-use Rattle.st_moves.proofs.Indexing.{not_listed}
-use Rattle.st_moves.proofs.Listing.{listing}
+use Rattle.st_moves.proofs.Indices.{not_listed}
+use Rattle.st_moves.proofs.OrderedNames.{listing}
 use Rattle.st_moves.proofs.RowNames.{either_none, register_named}
 use Rattle.st_moves.proofs.registers.registers_listed.Goals as goal
 

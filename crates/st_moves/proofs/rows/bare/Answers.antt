@@ -1,6 +1,6 @@
 use Rattle.std.proofs.Common.{get_or, refl}
 use Rattle.st_marks.specs.declared.marks.Mark.{Mark}
-use Rattle.st_moves.proofs.Beside.{bare_more}
+use Rattle.st_moves.proofs.BareRows.{bare_more}
 use Rattle.st_moves.proofs.rows.bare.Goals as goal
 
 pub loop-mark-preserved : goal.loop-mark-preserved

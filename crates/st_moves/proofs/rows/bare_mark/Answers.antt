@@ -2,7 +2,7 @@ use Rattle.std.proofs.Common.{[], ◌∷◌, sym, ap, ◌∙◌}
 use Rattle.st_marks.specs.declared.marks.Mark.{Mark}
 use Rattle.st_marks.specs.Row.{spread}
 use Rattle.st_moves.specs.inside.Rows.{bare}
-use Rattle.st_moves.proofs.Beside.{count_bare}
+use Rattle.st_moves.proofs.BareRows.{count_bare}
 use Rattle.st_moves.proofs.rows.bare_mark.Goals as goal
 
 pub returns-in-Skip : goal.returns-in-Skip

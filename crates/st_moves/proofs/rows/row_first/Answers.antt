@@ -7,7 +7,7 @@ use Rattle.st_marks.specs.declared.marks.Mark.{Mark}
 use Rattle.st_marks.specs.declared.marks.RowMarks.{RowMarks}
 use Rattle.st_marks.specs.Row.{spread}
 use Rattle.st_moves.specs.inside.Rows.{bare, row_both, row_first}
-use Rattle.st_moves.proofs.Beside.{first_is, room_first}
+use Rattle.st_moves.proofs.BareRows.{first_is, room_first}
 use Rattle.st_moves.proofs.rows.row_first.Goals as goal
 
 pub row_both-requires : goal.row_both-requires

@@ -7,8 +7,8 @@ use Rattle.st_ids.specs.Order.{node_cmp}
 use Rattle.st_ids.proofs.Orders.{node_cmp_exact, node_cmp_total}
 use Rattle.st_marks.specs.declared.marks.RowMarks.{RowMarks}
 use Rattle.st_moves.specs.inside.Rows.{row_beside, row_listed}
-use Rattle.st_moves.proofs.Indexing.{not_listed}
-use Rattle.st_moves.proofs.Listing.{listing}
+use Rattle.st_moves.proofs.Indices.{not_listed}
+use Rattle.st_moves.proofs.OrderedNames.{listing}
 use Rattle.st_moves.proofs.RowNames.{either_none, row_named}
 use Rattle.st_moves.proofs.rows.rows_listed.Goals as goal
 

@@ -1,5 +1,5 @@
 use Rattle.std.proofs.Common.{◌∙◌}
-use Rattle.st_moves.proofs.Beside.{any_spread}
+use Rattle.st_mention_laws.proofs.SpreadTells.{any_spread}
 use Rattle.st_moves.proofs.rows.tells.Goals as goal
 
 pub returns : goal.returns

@@ -1,4 +1,4 @@
-use Rattle.st_normal_laws.proofs.Easy.{embedding_over}
+use Rattle.st_puts.proofs.OverDocuments.{embedding_over}
 use Rattle.st_normal_laws.proofs.SchemaRules.{change_obeys}
 use Rattle.st_normal_laws.proofs.laws.embeddings_obey_rules.Goals as goal
 

@@ -1,4 +1,4 @@
-use Rattle.st_normal_laws.proofs.Exact.{mentions-exact}
+use Rattle.st_puts.proofs.MentionsListed.{mentions-exact}
 use Rattle.st_normal_laws.proofs.laws.mentions_are_exact.Goals as goal
 
 pub returns : goal.returns

@@ -2,7 +2,8 @@ use Rattle.std.specs.BTreeSet.{BTreeSet, contains}
 use Rattle.st_ids.specs.Order.{node_cmp}
 use Rattle.st_ids.specs.declared.names.NodeId.{NodeId}
 use Rattle.st_lemmas.proofs.Options.{IfOk-along}
-use Rattle.st_puts.specs.Mentions.{AreMentions, AreUpwards, above_in}
+use Rattle.st_puts.specs.Mentions.{AreMentions, above_in}
+use Rattle.st_climb.specs.Upwards.{AreUpwards}
 use Rattle.st_puts.proofs.MentionsExact.{mentions_exact, names_back}
 use Rattle.st_puts.proofs.climb.mentioned_after.Goals as goal
 

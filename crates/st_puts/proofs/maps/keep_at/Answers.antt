@@ -1,7 +1,7 @@
 use Rattle.std.proofs.Common.{rules, ◌≡◌, unwrap_or, ap, ◌∙◌}
 use Rattle.std.specs.BTreeMap.{get}
 use Rattle.std.specs.BTreeMap.Entry.{map_with_value}
-use Rattle.st_puts.proofs.Keeping.{kept_at}
+use Rattle.st_puts.proofs.MapEntries.{kept_at}
 use Rattle.st_puts.proofs.maps.keep_at.Goals as goal
 
 pub returns : goal.returns

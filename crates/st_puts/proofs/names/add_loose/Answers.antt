@@ -3,7 +3,7 @@ use Rattle.std.specs.BTreeSet.{contains}
 use Rattle.st_ids.specs.Order.{node_cmp}
 use Rattle.st_lemmas.proofs.Bools.{or-false}
 use Rattle.st_marks.specs.Embedding.{is_among}
-use Rattle.st_puts.proofs.Among.{added_more}
+use Rattle.st_climb.proofs.GrownSets.{added_more}
 use Rattle.st_puts.specs.inside.Names.{loose_names}
 use Rattle.st_puts.proofs.Firsts.{no_loose}
 use Rattle.st_puts.proofs.names.add_loose.Goals as goal

@@ -2,7 +2,7 @@ use Rattle.std.proofs.Common.{get_or, refl, sym}
 use Rattle.std.specs.BTreeSet.{contains}
 use Rattle.st_ids.specs.Order.{node_cmp}
 use Rattle.st_lemmas.proofs.Bools.{or-false}
-use Rattle.st_puts.proofs.Among.{added_more}
+use Rattle.st_climb.proofs.GrownSets.{added_more}
 use Rattle.st_puts.specs.inside.Names.{names_by}
 use Rattle.st_marks.specs.declared.marks.Mark.{Mark}
 use Rattle.st_puts.proofs.names.add_marks.Goals as goal

@@ -4,7 +4,7 @@ use Rattle.std.specs.List.{flat_map}
 use Rattle.st_ids.specs.Order.{node_cmp}
 use Rattle.st_lemmas.proofs.Bools.{or-false}
 use Rattle.st_marks.specs.Embedding.{is_among}
-use Rattle.st_puts.proofs.Among.{added_more}
+use Rattle.st_climb.proofs.GrownSets.{added_more}
 use Rattle.st_puts.specs.inside.Names.{row_names}
 use Rattle.st_puts.specs.inside.Names.{names_by}
 use Rattle.st_puts.proofs.names.add_rows.Goals as goal

@@ -7,7 +7,7 @@ use Rattle.st_lemmas.proofs.Options.{IfOk-along}
 use Rattle.st_marks.specs.Embedding.{is_among, named_by_intent}
 use Rattle.st_marks.specs.Listings.{nodes_new}
 use Rattle.st_puts.specs.inside.Names.{names_told}
-use Rattle.st_puts.proofs.Alike.{same_named}
+use Rattle.st_puts.proofs.ThinMarks.{same_named}
 use Rattle.st_puts.proofs.NamesExact.{names_exact}
 use Rattle.st_puts.proofs.names.named_before.Goals as goal
 

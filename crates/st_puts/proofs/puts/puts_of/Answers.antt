@@ -8,7 +8,7 @@ use Rattle.st_marks.specs.declared.intents.To.{To}
 use Rattle.st_marks.specs.Intent.{put_of}
 use Rattle.st_puts.specs.inside.First.{first_at}
 use Rattle.st_puts.specs.inside.Puts.{comes_told, goes_told}
-use Rattle.st_puts.proofs.Alike.{same_puts}
+use Rattle.st_puts.proofs.ThinMarks.{same_puts}
 use Rattle.st_puts.proofs.PutsExact.{puts_exact}
 use Rattle.st_puts.proofs.puts.puts_of.Goals as goal
 

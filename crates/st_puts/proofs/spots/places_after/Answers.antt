@@ -10,7 +10,7 @@ use Rattle.st_marks.specs.Embedding.{is_among}
 use Rattle.st_marks.specs.Listings.{nodes_loose, nodes_new, placed_before}
 use Rattle.st_puts.specs.inside.First.{first_at}
 use Rattle.st_puts.specs.inside.Spots.{gone_after, stands_after}
-use Rattle.st_puts.proofs.Alike.{same_after, same_listed}
+use Rattle.st_puts.proofs.ThinMarks.{same_after, same_listed}
 use Rattle.st_puts.proofs.SpotsRight.{after_right, listed_told}
 use Rattle.st_puts.proofs.spots.places_after.Goals as goal
 

@@ -8,7 +8,7 @@ use Rattle.st_marks.specs.declared.places.Spot.{Spot}
 use Rattle.st_puts.specs.Mentions.{PlacesMentioned}
 use Rattle.st_puts.specs.inside.First.{first_at}
 use Rattle.st_puts.specs.inside.Spots.{found_before, gone_after, stands_after}
-use Rattle.st_puts.proofs.Alike.{same_after, same_found}
+use Rattle.st_puts.proofs.ThinMarks.{same_after, same_found}
 use Rattle.st_puts.proofs.SpotsRight.{beside_right}
 use Rattle.st_puts.proofs.spots.places_beside.Goals as goal
 

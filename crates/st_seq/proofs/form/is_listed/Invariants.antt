@@ -2,9 +2,9 @@ use Rattle.std.proofs.Common.{◌≡◌, ◌+◌, length}
 use Rattle.std.specs.Prelude.{is_none}
 use Rattle.st_marks.specs.Row.{spread}
 use Rattle.st_marks.specs.Listings.{cells_before}
-use Rattle.st_seq.specs.Views.{row_views}
-use Rattle.st_seq.specs.Differences.{first_difference}
-use Rattle.st_seq.specs.inside.Reading.{marks_left}
+use Rattle.st_rows.specs.Views.{row_views}
+use Rattle.st_rows.specs.Differences.{first_difference}
+use Rattle.st_rows.specs.Heads.{marks_left}
 use Rattle.st_seq.proofs.form.is_listed.Given as goal
 
 abbrev pub invariant-cells : goal.invariant-cells

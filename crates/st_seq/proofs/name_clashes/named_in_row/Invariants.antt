@@ -1,5 +1,5 @@
 use Rattle.std.proofs.Common.{◌≡◌, take}
-use Rattle.st_seq.specs.Views.{row_views}
+use Rattle.st_rows.specs.Views.{row_views}
 use Rattle.st_seq.specs.NamedApart.{standing_at, named_in_row as row_names}
 use Rattle.st_seq.proofs.name_clashes.named_in_row.Given as goal
 

@@ -3,8 +3,8 @@ use Rattle.std.specs.List.Sorted.{IsBinarySearchResult}
 use Rattle.std.specs.Prelude.{MatchResult, Err, is_ok}
 use Rattle.st_ids.specs.Order.{node_cmp}
 use Rattle.st_marks.specs.Embedding.{is_among}
-use Rattle.st_seq.proofs.Rising.{with_itself, with_another}
-use Rattle.st_seq.proofs.Searching.{found_or_not}
+use Rattle.st_rows.proofs.RisingNodes.{with_itself, with_another}
+use Rattle.st_rows.proofs.NodeSearch.{found_or_not}
 use Rattle.st_seq.proofs.new_nodes.add.Goals as goal
 
 pub returns-in-Ok : goal.returns-in-Ok

@@ -1,5 +1,5 @@
 use Rattle.std.proofs.Common.{ap, sym, ◌∙◌}
-use Rattle.st_seq.proofs.Rising.{rising, rising_behind}
+use Rattle.st_rows.proofs.RisingNodes.{rising, rising_behind}
 use Rattle.st_seq.proofs.new_nodes.is_rising.Goals as goal
 
 pub nodes-preserved : goal.nodes-preserved

@@ -1,5 +1,5 @@
 use Rattle.std.proofs.Common.{◌≡◌, length}
-use Rattle.st_seq.proofs.Rising.{rising}
+use Rattle.st_rows.proofs.RisingNodes.{rising}
 use Rattle.st_seq.proofs.new_nodes.is_rising.Given as goal
 
 abbrev pub invariant-nodes : goal.invariant-nodes

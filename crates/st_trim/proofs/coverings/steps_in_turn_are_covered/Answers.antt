@@ -1,4 +1,4 @@
-use Rattle.st_trim.proofs.InTurn.{in_turn_covers}
+use Rattle.st_trim.proofs.StepsInTurn.{in_turn_covers}
 use Rattle.st_trim.proofs.coverings.steps_in_turn_are_covered.Goals as goal
 
 pub returns : goal.returns

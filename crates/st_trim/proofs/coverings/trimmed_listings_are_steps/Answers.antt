@@ -1,4 +1,4 @@
-use Rattle.st_trim.proofs.Trimmed.{listing_trimmed}
+use Rattle.st_trim.proofs.TrimmedSteps.{listing_trimmed}
 use Rattle.st_trim.proofs.coverings.trimmed_listings_are_steps.Goals as goal
 
 pub returns : goal.returns

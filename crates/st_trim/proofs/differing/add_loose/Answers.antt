@@ -5,7 +5,7 @@ use Rattle.st_lemmas.proofs.Bools.{or-false}
 use Rattle.st_marks.specs.declared.marks.Loose.{Loose}
 use Rattle.st_marks.specs.Embedding.{is_among}
 use Rattle.st_marks.specs.Listings.{one_or_none}
-use Rattle.st_puts.proofs.Among.{added_more}
+use Rattle.st_climb.proofs.GrownSets.{added_more}
 use Rattle.st_puts.proofs.Firsts.{no_loose}
 use Rattle.st_trim.specs.inside.Told.{loose_leaver}
 use Rattle.st_trim.proofs.differing.add_loose.Goals as goal

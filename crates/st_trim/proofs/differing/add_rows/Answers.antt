@@ -2,7 +2,7 @@ use Rattle.std.proofs.Common.{sym}
 use Rattle.std.specs.BTreeSet.{contains}
 use Rattle.st_ids.specs.Order.{node_cmp}
 use Rattle.st_lemmas.proofs.Bools.{or-false}
-use Rattle.st_puts.proofs.Among.{added_more}
+use Rattle.st_climb.proofs.GrownSets.{added_more}
 use Rattle.st_trim.specs.inside.Told.{changes_by_row}
 use Rattle.st_trim.proofs.differing.add_rows.Goals as goal
 

@@ -1,7 +1,7 @@
 use Rattle.std.proofs.Common.{ap, sym, ◌∙◌}
 use Rattle.std.specs.List.{list_any}
-use Rattle.st_moves.specs.inside.Rows.{mark_tells}
-use Rattle.st_trim.proofs.Cutting.{listed_none, listed_some}
+use Rattle.st_mention_laws.specs.Tells.{mark_tells}
+use Rattle.st_trim.proofs.CutItems.{listed_none, listed_some}
 use Rattle.st_trim.proofs.rows.listed.Goals as goal
 
 pub returns-then-any_tells : goal.returns-then-any_tells

@@ -1,5 +1,5 @@
 use Rattle.std.proofs.Common.{arith, sym, ◌∙◌}
-use Rattle.st_trim.proofs.Counting.{count_length, push_counted, push_named}
+use Rattle.st_trim.proofs.WrittenMarks.{count_length, push_counted, push_named}
 use Rattle.st_trim.proofs.rows.push.Goals as goal
 
 pub returns-in-Some-clause-fewer : goal.returns-in-Some-clause-fewer

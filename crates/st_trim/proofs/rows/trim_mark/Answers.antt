@@ -4,7 +4,7 @@ use Rattle.st_ids.specs.Order.{node_cmp}
 use Rattle.st_marks.specs.declared.marks.Mark.{Mark}
 use Rattle.st_marks.specs.Row.{spread}
 use Rattle.st_trim.specs.Trimmed.{trim_mark}
-use Rattle.st_trim.proofs.Counting.{trim_counted}
+use Rattle.st_trim.proofs.WrittenMarks.{trim_counted}
 use Rattle.st_trim.proofs.rows.trim_mark.Goals as goal
 
 pub returns-in-Skip : goal.returns-in-Skip

@@ -3,7 +3,7 @@ use Rattle.std.proofs.lemmas.List.{take_all}
 use Rattle.std.specs.BTreeSet.{contains}
 use Rattle.st_ids.specs.Order.{node_cmp}
 use Rattle.st_marks.specs.declared.marks.Mark.{Mark}
-use Rattle.st_trim.proofs.Counting.{IsWritten, written_all, written_more, written_none}
+use Rattle.st_trim.proofs.WrittenMarks.{IsWritten, written_all, written_more, written_none}
 use Rattle.st_trim.proofs.rows.trim_marks.Goals as goal
 
 pub loop-mark-init : goal.loop-mark-init

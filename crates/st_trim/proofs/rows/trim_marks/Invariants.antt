@@ -1,6 +1,6 @@
 use Rattle.std.specs.BTreeSet.{contains}
 use Rattle.st_ids.specs.Order.{node_cmp}
-use Rattle.st_trim.proofs.Counting.{IsWritten}
+use Rattle.st_trim.proofs.WrittenMarks.{IsWritten}
 use Rattle.st_trim.proofs.rows.trim_marks.Given as goal
 
 abbrev pub invariant-loop-mark : goal.invariant-loop-mark

@@ -2,7 +2,7 @@ use Rattle.std.proofs.Common.{sym}
 use Rattle.std.specs.BTreeSet.{contains}
 use Rattle.st_ids.specs.Order.{node_cmp}
 use Rattle.st_trim.specs.inside.Cut.{cut_row}
-use Rattle.st_trim.proofs.Cutting.{cut_more, has-at}
+use Rattle.st_trim.proofs.CutItems.{cut_more, has-at}
 use Rattle.st_trim.proofs.rows.trim_rows.Goals as goal
 
 pub loop-row-preserved : goal.loop-row-preserved

@@ -1,7 +1,7 @@
 use Rattle.std.proofs.Common.{sym, ◌∙◌}
 use Rattle.std.specs.BTreeSet.{contains}
 use Rattle.st_ids.specs.Order.{node_cmp}
-use Rattle.st_trim.proofs.Counting.{trim_named, trim_unnamed}
+use Rattle.st_trim.proofs.WrittenMarks.{trim_named, trim_unnamed}
 use Rattle.st_trim.proofs.rows.trim_stay.Goals as goal
 
 pub returns-then-contains : goal.returns-then-contains

@@ -4,11 +4,12 @@ use Rattle.st_ids.specs.Order.{node_cmp}
 use Rattle.st_ids.specs.declared.names.NodeId.{NodeId}
 use Rattle.st_lemmas.proofs.Options.{IfOk-along}
 use Rattle.st_marks.specs.Embedding.{is_among}
-use Rattle.st_puts.specs.Mentions.{AreUpwards, above_in}
+use Rattle.st_puts.specs.Mentions.{above_in}
+use Rattle.st_climb.specs.Upwards.{AreUpwards}
 use Rattle.st_puts.specs.inside.First.{first_at}
 use Rattle.st_trim.specs.Trimmed.{AreMentionedByStep}
-use Rattle.st_trim.proofs.Standing.{upwards_mentioned}
-use Rattle.st_trim.proofs.Thinning.{same_changes, same_stood}
+use Rattle.st_trim.proofs.PlacesTold.{upwards_mentioned}
+use Rattle.st_trim.proofs.ThinListings.{same_changes, same_stood}
 use Rattle.st_trim.proofs.trimming.mentioned.Goals as goal
 
 pub returns : goal.returns

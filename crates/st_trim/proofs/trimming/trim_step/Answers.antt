@@ -6,9 +6,9 @@ use Rattle.st_marks.specs.declared.steps.Step.{Step}
 use Rattle.st_marks.specs.Step.{IsStep}
 use Rattle.st_mention_laws.specs.Shown.{ShowsStep, thin_step}
 use Rattle.st_trim.specs.inside.Cut.{IsCutTo}
-use Rattle.st_trim.proofs.Cutting.{cut_trims}
-use Rattle.st_trim.proofs.Thinning.{trimmed_shows, trimmed_thin}
-use Rattle.st_trim.proofs.Trimmed.{listing_trimmed}
+use Rattle.st_trim.proofs.CutItems.{cut_trims}
+use Rattle.st_trim.proofs.ThinListings.{trimmed_shows, trimmed_thin}
+use Rattle.st_trim.proofs.TrimmedSteps.{listing_trimmed}
 use Rattle.st_trim.proofs.trimming.trim_step.Goals as goal
 
 pub returns-clause-exact : goal.returns-clause-exact

@@ -3,7 +3,8 @@ use Rattle.st_ids.proofs.Orders.{same_node-itself, same_node-true}
 use Rattle.st_ids.specs.Order.{same_node}
 use Rattle.st_lemmas.proofs.Bools.{true-false}
 use Rattle.st_void.specs.Standing.{above_shown}
-use Rattle.st_void.proofs.Climbing.{all_above, came, count_above, ended, goes_on, is_above_some, long}
+use Rattle.st_void.proofs.Climbs.{all_above, count_above, is_above_some}
+use Rattle.st_climb.proofs.StepsUp.{came, ended, goes_on, long}
 use Rattle.st_void.proofs.climb.is_above.Goals as goal
 
 pub returns-in-None : goal.returns-in-None

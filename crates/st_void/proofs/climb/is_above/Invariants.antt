@@ -1,6 +1,6 @@
 use Rattle.std.proofs.Common.{◌-◌}
 use Rattle.st_void.specs.Standing.{above_shown}
-use Rattle.st_void.proofs.Climbing.{HasClimbed}
+use Rattle.st_climb.proofs.StepsUp.{HasClimbed}
 use Rattle.st_void.proofs.climb.is_above.Given as goal
 
 abbrev pub invariant-climb : goal.invariant-climb

@@ -1,4 +1,4 @@
-use Rattle.st_void.proofs.Alike.{from_live, to_live}
+use Rattle.st_void.proofs.ThinChanges.{from_live, to_live}
 use Rattle.st_void.proofs.VerdictTrue.{live_if_shown, shown_if_live}
 use Rattle.st_void.proofs.climb.is_live.Goals as goal
 

@@ -3,8 +3,8 @@ use Rattle.st_lemmas.proofs.Bools.{true-false}
 use Rattle.st_marks.specs.Document.{Reaches}
 use Rattle.st_void.specs.declared.standing.When.{When}
 use Rattle.st_void.specs.Standing.{above_shown}
-use Rattle.st_void.proofs.Climbing.{is_above_some, listed_if_above}
-use Rattle.st_void.proofs.Shortest.{last}
+use Rattle.st_void.proofs.Climbs.{is_above_some, listed_if_above}
+use Rattle.st_climb.proofs.ShortestClimbs.{last}
 use Rattle.st_void.proofs.rings.is_in_ring.Goals as goal
 
 pub returns-else-has_listed : goal.returns-else-has_listed

@@ -2,7 +2,7 @@ use Rattle.std.proofs.Common.{◌++◌, arith, ◌∙◌, subst, take, take_all}
 use Rattle.std.specs.List.{flat_map}
 use Rattle.st_marks.specs.Row.{spread}
 use Rattle.st_void.specs.inside.Puts.{IsLeastRing, put_by}
-use Rattle.st_void.proofs.Folding.{row_step}
+use Rattle.st_void.proofs.GatheredLists.{row_step}
 use Rattle.st_void.proofs.rings.with_row.Goals as goal
 
 pub marks-preserved : goal.marks-preserved

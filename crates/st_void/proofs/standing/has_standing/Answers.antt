@@ -2,7 +2,7 @@ use Rattle.std.proofs.Common.{◌≡◌, false, refl, ap, ◌∙◌}
 use Rattle.std.specs.List.{list_any}
 use Rattle.st_ids.specs.declared.names.NodeId.{NodeId}
 use Rattle.st_marks.specs.Row.{Counted, spread}
-use Rattle.st_seq.proofs.Forms.{any_spread}
+use Rattle.st_rows.proofs.ListTests.{any_spread}
 use Rattle.st_void.specs.declared.standing.When.{When}
 use Rattle.st_void.specs.Standing.{stands}
 use Rattle.st_void.proofs.standing.has_standing.Goals as goal

@@ -2,7 +2,7 @@ use Rattle.std.proofs.Common.{arith, ◌∙◌, subst, take_all}
 use Rattle.st_ids.specs.Listing.{Has}
 use Rattle.st_doc.specs.inside.Ahead.{IsLeastOf}
 use Rattle.st_void.specs.Standing.{IsShownLive}
-use Rattle.st_void.proofs.Folding.{needs_step}
+use Rattle.st_void.proofs.GatheredLists.{needs_step}
 use Rattle.st_void.proofs.verdicts.least_unmet.Goals as goal
 
 pub needs-preserved : goal.needs-preserved

@@ -2,7 +2,7 @@ use Rattle.std.proofs.Common.{sym, subst, ◌∙◌}
 use Rattle.st_lemmas.proofs.Bools.{true-false}
 use Rattle.st_marks.specs.Verdict.{IsAboveItself, IsUnmetNeed}
 use Rattle.st_doc.specs.inside.Ahead.{IsLeastOf}
-use Rattle.st_void.proofs.Alike.{base_of, ring_shown, under_of, unmet_shown}
+use Rattle.st_void.proofs.ThinChanges.{base_of, ring_shown, under_of, unmet_shown}
 use Rattle.st_void.proofs.verdicts.verdict.Goals as goal
 
 pub returns-then-not-change : goal.returns-then-not-change

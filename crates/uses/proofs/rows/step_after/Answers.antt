@@ -1,6 +1,6 @@
 use Rattle.std.proofs.Common.{rules}
 use Rattle.st_kind.proofs.Memory.{no_memory}
-use Rattle.st_seq.proofs.KindLaws.{row_changes_are_short, row_has_room}
+use Rattle.st_rows.proofs.KindLaws.{row_changes_are_short, row_has_room}
 use Rattle.uses.proofs.rows.step_after.Goals as goal
 
 pub rebase-requires : goal.rebase-requires

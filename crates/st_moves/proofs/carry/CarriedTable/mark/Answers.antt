@@ -2,8 +2,8 @@ use Rattle.std.proofs.Common.{refl, ◌∙◌, sym, ap, map}
 use Rattle.std.specs.BTreeMap.{get}
 use Rattle.std.specs.BTreeSet.{contains}
 use Rattle.st_ids.specs.Order.{node_cmp}
-use Rattle.st_seq.specs.Pieces.{cells_of_piece}
-use Rattle.st_seq.proofs.Walking.{map-both_counted}
+use Rattle.st_rows.specs.Pieces.{cells_of_piece}
+use Rattle.st_rows.proofs.WalkLengths.{map-both_counted}
 use Rattle.st_moves.specs.Carried.{carried_piece}
 use Rattle.st_moves.proofs.carry.CarriedTable.mark.Goals as goal
 

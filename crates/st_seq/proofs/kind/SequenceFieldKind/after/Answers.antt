@@ -1,12 +1,12 @@
 use Rattle.std.proofs.Common.{rules, arith, sym, subst, length, ◌<◌, ℕ, inl, inr}
 use Rattle.st_kind.proofs.Memory.{no_memory}
 use Rattle.st_marks.specs.Row.{spread}
-use Rattle.st_seq.proofs.Walking.{found_length}
+use Rattle.st_rows.proofs.WalkLengths.{found_length}
 use Rattle.st_marks.specs.Listings.{cells_before}
-use Rattle.st_seq.specs.Views.{row_views}
+use Rattle.st_rows.specs.Views.{row_views}
 use Rattle.st_seq.proofs.NamedOnce.{named_once-after}
 use Rattle.st_seq.proofs.NodesOnce.{stands_once-after}
-use Rattle.st_seq.proofs.Refusing.{nothing_apart, row_short, before_short}
+use Rattle.st_seq.proofs.Refusals.{nothing_apart, row_short, before_short}
 use Rattle.st_seq.specs.NamedApart.{SaidApart, named_before, named_in_row}
 use Rattle.st_seq.proofs.kind.SequenceFieldKind.after.Goals as goal
 

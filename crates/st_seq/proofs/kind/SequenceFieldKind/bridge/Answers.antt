@@ -4,14 +4,14 @@ use Rattle.st_ids.specs.Listing.{IsRising}
 use Rattle.st_ids.specs.Order.{node_cmp}
 use Rattle.st_ids.specs.declared.names.NodeId.{NodeId}
 use Rattle.st_marks.specs.Embedding.{is_among}
-use Rattle.st_seq.specs.Changes.{StandsOver}
-use Rattle.st_seq.proofs.Fitting.{beside_leads, change_is, keeps_is, stands_over}
-use Rattle.st_seq.specs.declared.values.RowChange.{RowChange}
+use Rattle.st_rows.specs.Changes.{StandsOver}
+use Rattle.st_rows.proofs.PartsThatFit.{beside_leads, change_is, keeps_is, stands_over}
+use Rattle.st_rows.specs.declared.values.RowChange.{RowChange}
 use Rattle.st_marks.specs.Row.{spread}
 use Rattle.st_marks.specs.Listings.{cells_before}
 use Rattle.st_seq.proofs.NamedOnce.{named_once-rebase}
 use Rattle.st_seq.proofs.NodesOnce.{stands_once-rebase}
-use Rattle.st_seq.proofs.Refusing.{nothing_apart, beside_short}
+use Rattle.st_seq.proofs.Refusals.{nothing_apart, beside_short}
 use Rattle.st_seq.specs.NamedApart.{SaidApart, named_before}
 use Rattle.st_seq.proofs.kind.SequenceFieldKind.bridge.Goals as goal
 

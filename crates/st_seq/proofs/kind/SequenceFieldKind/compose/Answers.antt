@@ -1,14 +1,14 @@
 use Rattle.std.proofs.Common.{rules, sym, subst, length, ◌<◌, ℕ, inl, inr}
 use Rattle.st_kind.specs.Named.{either}
 use Rattle.st_kind.proofs.Memory.{no_memory}
-use Rattle.st_seq.proofs.KindLaws.{same_grown}
-use Rattle.st_seq.proofs.Composed.{grows_on}
-use Rattle.st_seq.proofs.Fitting.{leavers_of, moved_in_turn}
+use Rattle.st_rows.proofs.KindLaws.{same_grown}
+use Rattle.st_rows.proofs.RowsInTurn.{grows_on}
+use Rattle.st_rows.proofs.PartsThatFit.{leavers_of, moved_in_turn}
 use Rattle.st_marks.specs.Row.{spread}
 use Rattle.st_marks.specs.Listings.{cells_after, cells_before}
 use Rattle.st_seq.proofs.NamedOnce.{named_once-compose}
 use Rattle.st_seq.proofs.NodesOnce.{stands_once-compose}
-use Rattle.st_seq.proofs.Refusing.{nothing_apart, before_short, after_short}
+use Rattle.st_seq.proofs.Refusals.{nothing_apart, before_short, after_short}
 use Rattle.st_seq.specs.NamedApart.{SaidApart, named_after, named_before}
 use Rattle.st_seq.proofs.kind.SequenceFieldKind.compose.Goals as goal
 

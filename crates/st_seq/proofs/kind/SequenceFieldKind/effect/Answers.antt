@@ -2,10 +2,10 @@ use Rattle.std.proofs.Common.{◌≡◌, ap, sym, ◌∙◌, subst}
 use Rattle.st_ids.specs.Listing.{IsRising}
 use Rattle.st_ids.specs.Order.{node_cmp}
 use Rattle.st_ids.specs.declared.names.NodeId.{NodeId}
-use Rattle.st_seq.specs.Changes.{AreOld, carried_row, placed_by, void_part}
-use Rattle.st_seq.specs.Rows.{IsRowStep}
-use Rattle.st_seq.specs.declared.values.RowChange.{RowChange}
-use Rattle.st_seq.proofs.Fitting.{change_is, old_placed, void_leads, whole_leads}
+use Rattle.st_rows.specs.Changes.{AreOld, carried_row, placed_by, void_part}
+use Rattle.st_rows.specs.Rows.{IsRowStep}
+use Rattle.st_rows.specs.declared.values.RowChange.{RowChange}
+use Rattle.st_rows.proofs.PartsThatFit.{change_is, old_placed, void_leads, whole_leads}
 use Rattle.st_seq.proofs.kind.SequenceFieldKind.effect.Goals as goal
 
 pub returns-then-not-void : goal.returns-then-not-void

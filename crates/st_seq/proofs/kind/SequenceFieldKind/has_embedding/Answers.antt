@@ -1,4 +1,4 @@
-use Rattle.st_seq.proofs.KindLaws.{has_row_change}
+use Rattle.st_rows.proofs.KindLaws.{has_row_change}
 use Rattle.st_seq.proofs.kind.SequenceFieldKind.has_embedding.Goals as goal
 
 pub returns : goal.returns

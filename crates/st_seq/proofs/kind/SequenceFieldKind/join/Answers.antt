@@ -5,15 +5,15 @@ use Rattle.st_ids.specs.Order.{node_cmp}
 use Rattle.st_ids.specs.declared.names.NodeId.{NodeId}
 use Rattle.st_marks.specs.Embedding.{is_among}
 use Rattle.std.specs.Prelude.{◌||◌}
-use Rattle.st_seq.specs.Sequence.{row_carried}
-use Rattle.st_seq.proofs.Fitting.{change_is}
-use Rattle.st_seq.proofs.Rising.{one_rising}
-use Rattle.st_seq.specs.declared.values.RowChange.{RowChange}
+use Rattle.st_rows.specs.Sequence.{row_carried}
+use Rattle.st_rows.proofs.PartsThatFit.{change_is}
+use Rattle.st_rows.proofs.RisingNodes.{one_rising}
+use Rattle.st_rows.specs.declared.values.RowChange.{RowChange}
 use Rattle.st_marks.specs.Row.{spread}
 use Rattle.st_marks.specs.Listings.{cells_after, cells_before}
 use Rattle.st_seq.proofs.NamedOnce.{named_once-join}
 use Rattle.st_seq.proofs.NodesOnce.{stands_once-join}
-use Rattle.st_seq.proofs.Refusing.{nothing_apart, before_short, after_short}
+use Rattle.st_seq.proofs.Refusals.{nothing_apart, before_short, after_short}
 use Rattle.st_seq.specs.NamedApart.{SaidApart, named_after, named_before}
 use Rattle.st_marks.specs.declared.marks.Mark.{Mark}
 use Rattle.st_seq.specs.OwnedEarly.{OwnedEarly}

@@ -1,6 +1,6 @@
 use Rattle.std.proofs.Common.{sym, subst}
 use Rattle.st_seq.specs.inside.NormalForm.{IsNormalRowChange}
-use Rattle.st_seq.proofs.Keeping.{form_is_told, part_keeps_form}
+use Rattle.st_seq.proofs.RowRules.{form_is_told, part_keeps_form}
 use Rattle.st_seq.proofs.kind.SequenceFieldKind.over.Goals as goal
 
 pub returns : goal.returns

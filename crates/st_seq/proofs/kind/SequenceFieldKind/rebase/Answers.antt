@@ -1,12 +1,12 @@
 use Rattle.std.proofs.Common.{ap, ◌∙◌, rules, sym, subst, length, ◌<◌, ℕ, inl, inr}
 use Rattle.st_kind.proofs.Memory.{no_memory}
-use Rattle.st_seq.proofs.Fitting.{change_is, keeps_is}
-use Rattle.st_seq.specs.declared.values.RowChange.{RowChange}
+use Rattle.st_rows.proofs.PartsThatFit.{change_is, keeps_is}
+use Rattle.st_rows.specs.declared.values.RowChange.{RowChange}
 use Rattle.st_marks.specs.Row.{spread}
 use Rattle.st_marks.specs.Listings.{cells_before}
 use Rattle.st_seq.proofs.NamedOnce.{named_once-rebase}
 use Rattle.st_seq.proofs.NodesOnce.{stands_once-rebase}
-use Rattle.st_seq.proofs.Refusing.{nothing_apart, beside_short}
+use Rattle.st_seq.proofs.Refusals.{nothing_apart, beside_short}
 use Rattle.st_seq.specs.NamedApart.{SaidApart, named_before}
 use Rattle.st_seq.proofs.kind.SequenceFieldKind.rebase.Goals as goal
 

@@ -1,6 +1,6 @@
 use Rattle.std.proofs.Common.{ap, ◌∙◌}
-use Rattle.st_seq.proofs.Fitting.{change_is, keeps_is}
-use Rattle.st_seq.specs.declared.values.RowChange.{RowChange}
+use Rattle.st_rows.proofs.PartsThatFit.{change_is, keeps_is}
+use Rattle.st_rows.specs.declared.values.RowChange.{RowChange}
 use Rattle.st_seq.proofs.kind.SequenceFieldKind.rebase_agreed.Goals as goal
 
 pub returns : goal.returns

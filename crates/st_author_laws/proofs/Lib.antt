@@ -1,0 +1,4 @@
+pub mod RowsBack
+pub mod ReadLists
+pub mod StepsBack
+pub mod ChangesOver

@@ -1,0 +1,5 @@
+pub mod Climbs
+pub mod GrownSets
+pub mod NodesAbove
+pub mod ShortestClimbs
+pub mod StepsUp

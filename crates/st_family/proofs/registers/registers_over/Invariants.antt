@@ -1,6 +1,0 @@
-use Rattle.std.proofs.Common.{take}
-use Rattle.st_family.specs.inside.Over.{AreRegistersOver}
-use Rattle.st_family.proofs.registers.registers_over.Given as goal
-
-abbrev pub invariant-loop-mark : goal.invariant-loop-mark
-invariant-loop-mark l = AreRegistersOver l.rev l.new l.step (take l.mark-index l.marks) l.over

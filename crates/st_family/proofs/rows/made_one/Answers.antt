@@ -1,5 +1,0 @@
-use Rattle.st_family.proofs.RowRoom.{counted_made}
-use Rattle.st_family.proofs.rows.made_one.Goals as goal
-
-pub returns-in-Skip : goal.returns-in-Skip
-returns-in-Skip c = rw c.in-Skip.is (counted_made c.in-Skip.field-0)

@@ -1,4 +1,0 @@
-use Rattle.st_family.proofs.rows.row_over_step.Goals as goal
-
-pub returns-clause-over : goal.returns-clause-over
-returns-clause-over c = c.in_ok-marks.ensures c.args.row.now.node

@@ -1,0 +1,3 @@
+pub mod RegisterClash
+pub mod RowClash
+pub mod RowNames

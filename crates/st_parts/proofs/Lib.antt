@@ -1,0 +1,2 @@
+pub mod RowsJoined
+pub mod TrimmedChanges

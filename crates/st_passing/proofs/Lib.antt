@@ -1,0 +1,11 @@
+pub mod RowsPassed
+pub mod CountsRaised
+pub mod Seats
+pub mod MarksWalked
+pub mod Mentions
+pub mod SilentRows
+pub mod PlacesStanding
+pub mod NodesStaying
+pub mod CellsLeft
+pub mod RowsLeftThere
+pub mod CellsThatMeet

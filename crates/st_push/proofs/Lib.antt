@@ -1,0 +1,2 @@
+pub mod ExtensionsBeside
+pub mod ListsPushed

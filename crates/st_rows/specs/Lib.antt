@@ -1,0 +1,14 @@
+pub mod Views
+pub mod Differences
+pub mod Merged
+pub mod Walks
+pub mod Reading
+pub mod Pieces
+pub mod Heads
+pub mod Rows
+pub mod Changes
+pub mod Cells
+pub mod Sequence
+pub mod Turns
+pub mod RisingNodes
+pub mod Existence

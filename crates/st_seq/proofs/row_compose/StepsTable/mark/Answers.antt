@@ -1,8 +1,0 @@
-use Rattle.std.proofs.Common.{refl, ◌∙◌, sym, ap, map}
-use Rattle.st_seq.specs.inside.Cells.{composed_piece}
-use Rattle.st_seq.specs.Pieces.{cells_of_piece}
-use Rattle.st_seq.proofs.Walking.{map-both_counted}
-use Rattle.st_seq.proofs.row_compose.StepsTable.mark.Goals as goal
-
-pub returns-in-Counted : goal.returns-in-Counted
-returns-in-Counted c = map-both_counted composed_piece c.in-Counted.k refl ∙ ap (λ p. map composed_piece (cells_of_piece p)) (sym c.in-Counted.is)

@@ -1,0 +1,10 @@
+//! Steps in turn as one, and the way back over a step: what is listed, as laws.
+#![tactic(auto)]
+
+mod laws;
+
+pub use laws::{
+    full_and_void_lead_to_each_other, mentioned_nodes_are_listed, names_dropped_are_the_seconds,
+    rows_left_are_found, steps_go_over_void_commits, steps_in_turn_are_listed,
+    ways_back_are_listed,
+};
