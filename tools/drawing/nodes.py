@@ -91,17 +91,20 @@ class Places:
     """Which nodes there are, as labels, and where each stands: beneath which node, and by whose commit."""
 
     def __init__(self, tree):
-        self.labels, self.opening = {}, {}
-        todo, number = [(tree, None)], 0
+        self.labels, self.opening, self.fields = {}, {}, {}
+        todo, number = [(tree, None, None)], 0
         while todo:
-            here, above = todo.pop()
+            here, above, field = todo.pop()
             name = f"0.0.{number}"
+            if field is not None:
+                self.fields[above, field] = name
             self.labels[name], self.opening[name] = label(here, not number), (above, None)
             number += 1
             inner = kind_of(here)
             if inner:
-                items = inner[1] if isinstance(inner[1], list) else [inner[1][key] for key in sorted(inner[1], key=lambda it: it.encode())]
-                todo += [(it, name) for it in reversed(items)]
+                is_row = isinstance(inner[1], list)
+                items = [(it, name, None) for it in inner[1]] if is_row else [(inner[1][key], name, key) for key in sorted(inner[1], key=lambda it: it.encode())]
+                todo += reversed(items)
 
     def learn(self, change):
         """Takes the labels of the nodes that a change makes."""
@@ -126,11 +129,24 @@ class Places:
         return self.labels.get(node, f"the node {node}")
 
     def after(self, commits):
-        """Returns where nodes stand after these changes, each with its revision, in their order."""
-        where = dict(self.opening)
+        """Returns where nodes stand after these changes, in their order: beneath which node, and by which revision."""
+        where, held = dict(self.opening), dict(self.fields)
+        field_of = {node: field for field, node in held.items()}
         for change in commits:
-            for child, above in moves(change):
-                where[child] = (above, change["rev"])
+            for above, key, _, _, clears, _ in change.get("regs", []):
+                # (whoever is in the field by then goes)
+                if clears and (above, key) in held:
+                    node = held.pop((above, key))
+                    where[node] = (None, change["rev"])
+                    field_of.pop(node, None)
+            for node, above in moves(change):
+                held.pop(field_of.pop(node, None), None)
+                where[node] = (above, change["rev"])
+            for above, key, old, how, _, fill in change.get("regs", []):
+                node = fill if fill is not None else old if how == "set" else None
+                if node is not None:
+                    held[above, key] = node
+                    field_of[node] = (above, key)
         return where
 
 
@@ -154,9 +170,8 @@ def moves(change):
         for mark in marks:
             if isinstance(mark, list) and mark[0] == "out" and mark[2] not in placed:
                 yield mark[2], None
-    for _, _, held, how, _, fill in change.get("regs", []):
-        # (what a register held makes way for what fills it)
-        if held is not None and held not in placed and (how == "out" or fill is not None and fill != held):
+    for _, _, held, how, _, _ in change.get("regs", []):
+        if held is not None and held not in placed and how == "out":
             yield held, None
     yield from placed.items()
 

@@ -226,6 +226,8 @@ function drawLanes() {
 function bringIn() {
   const box = at("scroll"), px = x(here);
   if (px < box.scrollLeft + COLUMN * 1.5 || px > box.scrollLeft + box.clientWidth - COLUMN * 2.5) box.scrollLeft = px - box.clientWidth / 2;
+  const all = at("all"), row = rows.find((it) => (it.lanes || []).includes(steps[here].lane)) || logRow;
+  if (all.scrollHeight > all.clientHeight && (row.top < all.scrollTop || row.top + row.high > all.scrollTop + all.clientHeight)) all.scrollTop = row.y - all.clientHeight / 2;
 }
 
 // ---- trees, and what changed in them since the step before
@@ -350,7 +352,19 @@ function view(old, now, most) {
     const parts = "r" in t ? (both ? pairs(both.r, t.r) : t.r.map((it) => [of ? it : it, it])) : (both ? fields(both, t) : t.f.map(([key, it]) => [it, it, key]));
     const name = head(of, el("span", "type", key === t.t ? "" : el("bdi", "", seen(t.t)), parts.length ? "" : key === t.t ? "empty" : ", empty"));
     const list = el("ul", "");
-    for (const [a, b, key] of parts) list.append(item(a, b, key));
+    for (let k = 0; k < parts.length; k++) {
+      // (of a long run of items that are as they were the middle is left out, until the whole is asked for)
+      let run = k;
+      while (most === MOST && run < parts.length && parts[run][0] === parts[run][1] && isLeaf(table[parts[run][1]])) run++;
+      if (run - k > 14) {
+        const start = k ? 4 : 8, end = run < parts.length ? 4 : 2;
+        for (const [a, b, key] of parts.slice(k, k + start)) list.append(item(a, b, key));
+        list.append(el("li", "empty", "… " + (run - k - start - end) + " more as before"));
+        left += run - k - start - end;
+        for (const [a, b, key] of parts.slice(run - end, run)) list.append(item(a, b, key));
+        k = run - 1;
+      } else list.append(item(...parts[k]));
+    }
     const before = s && !both ? [el("span", "gone", head("gone", brief(old))), " "] : [];
     return parts.length ? [...before, name, list] : [...before, name];
   }
@@ -406,7 +420,7 @@ function part(number, step) {
     const [tree, left] = view(old, now, whole.has(number) ? Infinity : MOST);
     box.append(tree);
     if (left) {
-      const more = el("button", "more", "show the " + count(left, "node") + " more");
+      const more = el("button", "more", "show the whole tree, " + count(left, "node") + " more");
       more.type = "button";
       more.addEventListener("click", () => { whole.add(number); show(); });
       box.append(more);
@@ -436,9 +450,12 @@ function drawCards() {
     if (made.parts.children.length !== parts.length || parts.some((it, k) => made.parts.children[k] !== it)) made.parts.replaceChildren(...parts);
     const step = steps[here];
     made.box.classList.toggle("acts", here > 0 && step.client === k);
-    list.push(made.box);
+    // (where they are many, who acts comes first)
+    if (data.clients.length > 6 && made.box.classList.contains("acts")) list.unshift(made.box); else list.push(made.box);
   });
-  if (box.children.length !== list.length || list.some((it, k) => box.children[k] !== it)) box.replaceChildren(...list);
+  const kept = new Set(list);
+  for (const it of [...box.children]) if (!kept.has(it)) it.remove();
+  list.forEach((it, k) => { if (box.children[k] !== it) box.insertBefore(it, box.children[k] || null); });
   if (!list.length) {
     const opening = el("article", "card", el("h3", "", "At the beginning"), view(data.opening, data.opening, MOST)[0]);
     opening.style.setProperty("--mine", "var(--muted)");

@@ -90,7 +90,7 @@ class Trace:
             why = "has more than 1 MiB" if cause == "Long" else "is no header of a trace" if cause == "Header" else "is no JSON"
             raise Stop(f"line 1 {why}, so there is nothing to draw")
         text = lines[line - 1] if line <= len(lines) else b""
-        self.ended = {"cause": cause, "line": line, "text": text[:400].decode(errors="replace")}
+        self.ended = {"cause": cause, "line": line, "text": text[:200_000].decode(errors="replace") + ("\u2026" if len(text) > 200_000 else "")}
 
     def cut(self, steps):
         """Leaves out what comes after so many steps."""
