@@ -552,7 +552,7 @@ function legend() {
 }
 
 at("title").textContent = seen(data.title);
-at("summary").textContent = count(data.clients.length, "session") + ", " + count(last, "step") + ", and " + (data.entries.length === 1 ? "1 entry" : data.entries.length.toLocaleString("en") + " entries") + " of the log.";
+at("summary").textContent = count(data.clients.length, "session") + ", " + count(last, "step") + ", and " + (data.entries.length === 1 ? "1 entry" : data.entries.length.toLocaleString("en") + " entries") + " of the log. Press → to step, or Play.";
 if (data.ended) {
   at("ended").hidden = false;
   put(at("ended"), el("p", "", data.ended.why));

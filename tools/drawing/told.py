@@ -88,15 +88,17 @@ class Told:
         trace = Trace(program, data)
         world = World(trace.steps, trace.answers)
         self.table, self.index, self.bytes = [], {}, {}
-        # of each lane the trees that it shows, from which step on, and of each client what is pending, and what of it is void
-        self.shown, self.waiting = {}, {}
+        # of each lane the trees that it shows, from which step on, and what of the pending commits is void, with their changes
+        self.shown, self.voids, self.last, self.changes = {}, {}, {}, {}
         self.places = nodes.Places(trace.steps[0]["tree"])
         opening = self.put(trace.steps[0]["tree"])
         trace.look(world.present.__getitem__, lambda *it: self.see(world, trace, *it), of_all)
         if len(trace.steps) < len(world.present):
             world = World(trace.steps, trace.answers)
+        for rev, change in self.changes.items():
+            if rev in world.commits:
+                world.commits[rev].change = change
         self.trace, self.world, self.reasons, self.known = trace, world, [], {}
-        self.facts()
         self.data = self.tell(opening)
 
     def put(self, tree):
@@ -127,9 +129,9 @@ class Told:
         """Takes what the program answered to a look. One that it refuses shows nothing, and is no error."""
         lane = next(it.lane for it in reversed(world.lanes) if it.client.name == name and it.branch == (branch or 0) and it.since <= i and (it.until is None or it.until > i))
         if branch is None:
-            answer = self.waiting.setdefault(lane, [])
-            if not answer or answer[-1][1] != line:
-                answer.append((i, line))
+            if self.last.get(lane) != line:
+                self.last[lane] = line
+                self.learn(i, lane, parsed(trace.program, line))
             return
         if line not in self.bytes:
             answer = parsed(trace.program, line)
@@ -147,21 +149,15 @@ class Told:
             found = number
         return found
 
-    def facts(self):
-        """Takes the commits' changes from what was told pending, and of each step which of them are void there."""
-        world, self.voids = self.world, {}
-        for lane, answers in self.waiting.items():
-            told = []
-            for i, line in answers:
-                answer = parsed(self.trace.program, line)
-                changes = {it["rev"]: it for it in answer.get("pending", [])}
-                for rev, change in changes.items():
-                    made = world.commits.get(rev)
-                    if made and made.change is None:
-                        made.change = change
-                        self.places.learn(change)
-                told.append((i, answer.get("void", []), {rev: changes[rev] for rev in answer.get("void", []) if rev in changes}))
-            self.voids[lane] = told
+    def learn(self, i, lane, answer):
+        """Takes from what is pending each commit's change where it comes first, and which of the commits are void."""
+        changes = {it["rev"]: it for it in answer.get("pending", [])}
+        for rev, change in changes.items():
+            if rev not in self.changes:
+                self.changes[rev] = change
+                self.places.learn(change)
+        void = answer.get("void", [])
+        self.voids.setdefault(lane, []).append((i, void, {rev: changes[rev] for rev in void if rev in changes}))
 
     def reason(self, pair):
         """Returns the number of a reason, which is told in short and in whole."""
