@@ -7,7 +7,8 @@ SHORT = 28
 def short(text, most=SHORT):
     """Returns a text in one line that is not too long, with what can't be seen made visible."""
     cut = text[: most + 1]
-    plain = "".join(chr(0x2400 + ord(it)) if ord(it) < 32 else "\u2423" if it in "\u2028\u2029\u007f" or 0xFFFE <= ord(it) <= 0xFFFF else it for it in cut)
+    unseen = lambda it: it in "\u007f\u2028\u2029\ufffe\uffff" or "\u202a" <= it <= "\u202e" or "\u2066" <= it <= "\u2069"
+    plain = "".join(chr(0x2400 + ord(it)) if it < " " else "\u2423" if unseen(it) else it for it in cut)
     return plain if len(text) <= most else plain[: most - 1] + "\u2026"
 
 
@@ -103,7 +104,8 @@ class Places:
             inner = kind_of(here)
             if inner:
                 is_row = isinstance(inner[1], list)
-                items = [(it, name, None) for it in inner[1]] if is_row else [(inner[1][key], name, key) for key in sorted(inner[1], key=lambda it: it.encode())]
+                keys = [] if is_row else sorted(inner[1], key=lambda it: it.encode())
+                items = [(it, name, None) for it in inner[1]] if is_row else [(inner[1][key], name, key) for key in keys]
                 todo += reversed(items)
 
     def learn(self, change):
@@ -218,10 +220,14 @@ def why_cycle(world, places, where, rev, node, upto):
         child, above, by = links[0]
         other = whose(world, by, upto)
         return f"{name} would be inside itself, for {other} comes before it.", (
-            f"{commit} puts {name} into {places.name(target)}. But {other}, which comes before it, put {places.name(child)} into {places.name(above)}. "
+            f"{commit} puts {name} into {places.name(target)}. "
+            f"But {other}, which comes before it, put {places.name(child)} into {places.name(above)}. "
             f"Both would leave {name} inside itself, a ring that hangs from nothing. So the later of the two, {rev}, has no effect."
         )
     return f"{name} would be inside itself.", f"With {commit} {name} would stand inside itself, a ring that hangs from nothing. So it has no effect."
+
+
+VOID_UPGRADE = "So this upgrade is void, and with it all that is made under it."
 
 
 def why_schema(world, rev, of, before, upto):
@@ -229,7 +235,9 @@ def why_schema(world, rev, of, before, upto):
     if rev in world.commits and world.commits[rev].upgrades:
         schema = "the opening schema" if of == "0.0" else f"the schema of {of}"
         if not before:
-            return "another upgrade came first.", f"{name} widens {schema}, which is not the last one in effect any more. So this upgrade is void, and with it all that is made under it."
+            return "another upgrade came first.", f"{name} widens {schema}, which is not the last one in effect any more. {VOID_UPGRADE}"
         other = whose(world, before, upto)
-        return f"{other} widened the schema first.", f"{name} widens {schema}, but {other} came first and did that. So this upgrade is void, and with it all that is made under it."
-    return f"the upgrade {of}, under which it was made, is void.", f"{name} was made under the schema of {of}, an upgrade that is void. So it is void, too."
+        whole = f"{name} widens {schema}, but {other} came first and did that. {VOID_UPGRADE}"
+        return f"{other} widened the schema first.", whole
+    whole = f"{name} was made under the schema of {of}, an upgrade that is void. So it is void, too."
+    return f"the upgrade {of}, under which it was made, is void.", whole

@@ -24,7 +24,13 @@ def in_script(data):
 def page(data, title):
     script = read("page.js")
     digest = base64.b64encode(hashlib.sha256(script.encode()).digest()).decode()
-    parts = {"sum": f"sha256-{digest}", "title": html.escape(f"{title} \u00b7 SharedTree"), "style": read("page.css"), "data": in_script({"title": title} | data), "script": script}
+    parts = {
+        "sum": f"sha256-{digest}",
+        "title": html.escape(f"{title} \u00b7 SharedTree"),
+        "style": read("page.css"),
+        "data": in_script({"title": title} | data),
+        "script": script,
+    }
     # (each place is filled once, and what is filled in is not looked through)
     text, made = read("page.html"), []
     while True:

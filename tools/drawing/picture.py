@@ -2,9 +2,11 @@
 import difflib
 import html
 import math
+import re
 
 from .nodes import TITLES, short
 
+HOW = "A number in a frame is an entry of the log; an arrow leads to it from where it was made, and from it to who receives it."
 WORDS = 500
 SIDE, TOP = 46, 118
 STYLE = """
@@ -37,12 +39,14 @@ text { font: 16px/1 system-ui, -apple-system, "Segoe UI", Roboto, Helvetica, Ari
 .bang { fill: var(--bad); font-weight: 700; }
 .look { fill: var(--paper); stroke: var(--muted); stroke-width: 2; }
 """
-GLYPHS = {"insert": "+", "remove": "\u2212", "move": "\u2192", "set": "=", "clear": "\u2212", "begin": "(", "commit": ")", "abort": "(", "need": "?", "undo": "\u21ba", "upgrade": "\u2191"}
+GLYPHS = {"insert": "+", "remove": "\u2212", "move": "\u2192", "set": "=", "clear": "\u2212", "begin": "("}
+GLYPHS |= {"commit": ")", "abort": "(", "need": "?", "undo": "\u21ba", "upgrade": "\u2191"}
 GLYPHS |= {"join": "", "leave": "", "drop": "", "reconnect": "", "ack": "a", "fork": "Y", "rebase": "R", "merge": "M", "drop_branch": "\u2212"}
 
 
 def esc(text):
-    return html.escape("".join(it if ord(it) >= 32 and not 0xFFFE <= ord(it) <= 0xFFFF and not 0xD800 <= ord(it) <= 0xDFFF else "\ufffd" for it in text))
+    # (some letters have no place in XML)
+    return html.escape(re.sub("[\u0000-\u001f\ud800-\udfff\ufffe\uffff]", "\ufffd", text))
 
 
 def wrapped(text, width):
@@ -120,8 +124,12 @@ class Picture:
         if "r" in it:
             inner = [self.value(k) for k in it["r"]]
             apart = " | " if any(self.titled(k) and self.has_rows(k) for k in it["r"]) else ", "
-            flat = [piece for k, items in enumerate(inner) for piece in ([apart] if k else []) + (items if self.is_leaf(it["r"][k]) or self.titled(it["r"][k]) else [f"{short(self.data['trees'][it['r'][k]]['t'])}(", *items, ")"])]
-            return flat or ["nothing"]
+            made = []
+            for k, items in zip(it["r"], inner):
+                is_plain = self.is_leaf(k) or self.titled(k)
+                made += [apart] if made else []
+                made += items if is_plain else [f"{short(self.data['trees'][k]['t'])}(", *items, ")"]
+            return made or ["nothing"]
         fields = dict(it["f"])
         title = next((key for key in TITLES if key in fields and isinstance(self.data["trees"][fields[key]], str)), None)
         made = self.value(fields.pop(title)) if title else []
@@ -131,7 +139,9 @@ class Picture:
         made += [")"] if title and plain else []
         for key in fields:
             if key not in plain:
-                made += ["; " if "v" not in made and made else "", f"{short(key)}: ", *self.value(fields[key])] if len(fields) > len(plain) + 1 or not title else [": ", *self.value(fields[key])]
+                is_only = title and len(fields) == len(plain) + 1
+                made += [": "] if is_only else ["; " if made else "", f"{short(key)}: "]
+                made += self.value(fields[key])
         return made or ["nothing"]
 
     def is_leaf(self, number):
@@ -192,7 +202,9 @@ class Picture:
         entry = self.data["entries"][n - 1]
         wide, look = 16 + 9 * len(str(n)), self.data["clients"][entry["client"]]["look"]
         is_void = entry["void"] is not None
-        made = f'<g transform="translate({x},{y})"><rect x="{-wide / 2:g}" y="-12" width="{wide}" height="24" rx="{5 if entry["kind"] == "commit" else 12}" class="pill{" void" if is_void else ""}" stroke="var(--c{look % 8})"/><text class="mid">{n}</text>'
+        of, rx = "pill void" if is_void else "pill", 5 if entry["kind"] == "commit" else 12
+        frame = f'<rect x="{-wide / 2:g}" y="-12" width="{wide}" height="24" rx="{rx}" class="{of}" stroke="var(--c{look % 8})"/>'
+        made = f'<g transform="translate({x},{y})">{frame}<text class="mid">{n}</text>'
         return made + (self.strike(wide / 2 + 4, 7) if is_void else "") + "</g>"
 
     def strike(self, w, h):
@@ -212,9 +224,11 @@ class Picture:
         tone = f'class="pill void" stroke="var(--c{look % 8})"' if step["do"] in ("drop", "leave") else f'fill="var(--c{look % 8})"'
         glyph = GLYPHS.get(step["do"], "\u00b7")
         commit = self.data["commits"].get(step.get("rev"))
-        lost = step["do"] == "abort" or commit and commit["entry"] and commit["step"] == i and self.data["entries"][commit["entry"] - 1]["void"] is not None
+        entry = self.data["entries"][commit["entry"] - 1] if commit and commit["entry"] and commit["step"] == i else None
+        lost = step["do"] == "abort" or entry and entry["void"] is not None
         over = f'<path class="halo" d="M-15 9L15 -9"/>{self.strike(15, 9)}' if lost else ""
-        return f'<g transform="translate({x},{y})">{shape(look, 12, tone)}' + (f'<text class="mid on">{glyph}</text>' if glyph else "") + over + "</g>"
+        sign = f'<text class="mid on">{glyph}</text>' if glyph else ""
+        return f'<g transform="translate({x},{y})">{shape(look, 12, tone)}{sign}{over}</g>'
 
     def arrow(self, kind, start, lane, end, to, n):
         x1, y1, x2, y2 = self.x(lane), self.ys[start], self.x(to), self.ys[end]
@@ -226,7 +240,8 @@ class Picture:
         ex, ey = x2 - ux * near, y2 - uy * near
         tip = [(ex + ux * 5, ey + uy * 5), (ex - ux * 6 - uy * 5, ey - uy * 6 + ux * 5), (ex - ux * 6 + uy * 5, ey - uy * 6 - ux * 5)]
         cut = " cut" if entry and entry["void"] is not None and kind == "get" else ""
-        line = f'<path class="arrow{cut}" stroke="var(--c{look % 8})" d="M{x1 + ux * 13:.1f} {y1 + uy * 13:.1f}L{ex - ux * 4:.1f} {ey - uy * 4:.1f}"/>'
+        way = f"M{x1 + ux * 13:.1f} {y1 + uy * 13:.1f}L{ex - ux * 4:.1f} {ey - uy * 4:.1f}"
+        line = f'<path class="arrow{cut}" stroke="var(--c{look % 8})" d="{way}"/>'
         return f'{line}<polygon points="{" ".join(f"{a:.1f},{b:.1f}" for a, b in tip)}" fill="var(--c{look % 8})"/>'
 
     def lanes(self):
@@ -255,19 +270,21 @@ class Picture:
             else:
                 client = self.client(row["lanes"][0])
                 made.append(f'<g transform="translate({x},70)">{shape(client["look"], 8, f"""fill="var(--c{client["look"] % 8})" """)}</g>')
-                made.append(f'<text class="mid name" x="{x}" y="92">{esc(short(client["name"], 9))}<title>{esc(short(client["name"], 200))}</title></text>')
+                name, whole = esc(short(client["name"], 9)), esc(short(client["name"], 200))
+                made.append(f'<text class="mid name" x="{x}" y="92">{name}<title>{whole}</title></text>')
         return made
 
     def draw(self):
         data = self.data
         count = len(data["clients"])
-        what = f"{count} session{'' if count == 1 else 's'}, {len(data['steps']) - 1} steps. Time goes down. A number in a frame is an entry of the log; an arrow leads to it from where it was made, and from it to who receives it."
+        what = f"{count} session{'' if count == 1 else 's'}, {len(data['steps']) - 1} steps. Time goes down. " + HOW
+        size = f'width="{self.width}" height="{self.height}"'
         out = [
-            f'<svg xmlns="http://www.w3.org/2000/svg" width="{self.width}" height="{self.height}" viewBox="0 0 {self.width} {self.height}" role="img" aria-labelledby="t d">',
+            f'<svg xmlns="http://www.w3.org/2000/svg" {size} viewBox="0 0 {self.width} {self.height}" role="img" aria-labelledby="t d">',
             f'<title id="t">The trace {esc(short(self.title, 80))}</title>',
             f'<desc id="d">{esc(" ".join(it["says"] for it in data["steps"][:200]))}</desc>',
             f"<style>{STYLE}</style>",
-            f'<rect class="paper" width="{self.width}" height="{self.height}" rx="14"/>',
+            f'<rect class="paper" {size} rx="14"/>',
             f'<text x="20" y="36" style="font-size:24px;font-weight:700">{esc(short(self.title, 60))}</text>',
         ]
         out += [f'<text class="small" x="{self.words_at}" y="{30 + 20 * k}">{esc(it)}</text>' for k, it in enumerate(wrapped(what, 64))]
@@ -278,7 +295,8 @@ class Picture:
         for i, (y, lines) in enumerate(self.texts):
             out.append(f'<text class="num" x="{SIDE - 14}" y="{y}">{i + 1}</text>')
             for k, (of, line) in enumerate(lines):
-                words = esc(line) if isinstance(line, str) else "".join(f'<tspan class="{how}">{esc(it)}</tspan>' if how else esc(it) for it, how in line)
+                pieces = [(line, "")] if isinstance(line, str) else line
+                words = "".join(f'<tspan class="{how}">{esc(it)}</tspan>' if how else esc(it) for it, how in pieces)
                 out.append(f'<text{f""" class="{of}" """ if of else ""} x="{self.words_at}" y="{y + 22 * k}" xml:space="preserve">{words}</text>')
         if data["ended"]:
             out.append(f'<text class="why" x="20" y="{self.height - 8}">{esc(data["ended"]["why"])}</text>')

@@ -127,7 +127,8 @@ class Told:
 
     def see(self, world, trace, i, name, branch, line):
         """Takes what the program answered to a look. One that it refuses shows nothing, and is no error."""
-        lane = next(it.lane for it in reversed(world.lanes) if it.client.name == name and it.branch == (branch or 0) and it.since <= i and (it.until is None or it.until > i))
+        is_it = lambda it: it.client.name == name and it.branch == (branch or 0) and it.is_there(i)
+        lane = next(it.lane for it in reversed(world.lanes) if is_it(it))
         if branch is None:
             if self.last.get(lane) != line:
                 self.last[lane] = line
@@ -240,13 +241,19 @@ class Told:
                 says = self.turned(says, lanes[-1]["void"], line.lane)
         data = {
             "rows": rows,
-            "clients": [{"name": it.name, "session": it.session, "since": it.since, "until": it.until, "look": look[next(at.lane for at in world.lanes if at.client is it)]} for it in world.clients],
+            "clients": [
+                {"name": it.name, "session": it.session, "since": it.since, "until": it.until, "look": look[it.lane]}
+                for it in world.clients
+            ],
             "lanes": lanes,
             "entries": [
-                {key: entry[key] for key in ("n", "step", "client", "kind", "rev", "ref")} | {"void": self.reason(entry["why"]) if entry.get("why") else None, "known": entry["void"] is not None or entry["kind"] != "commit"}
-                for entry in world.entries
+                {key: it[key] for key in ("n", "step", "client", "kind", "rev", "ref")}
+                | {"void": self.reason(it["why"]) if it.get("why") else None, "known": it["void"] is not None or it["kind"] != "commit"}
+                for it in world.entries
             ],
-            "commits": {rev: {"lane": it.lane, "step": it.step, "entry": it.entry, "what": self.what(it)} for rev, it in world.commits.items() if it.step is not None},
+            "commits": {
+                rev: {"lane": it.lane, "step": it.step, "entry": it.entry, "what": self.what(it)} for rev, it in world.commits.items()
+            },
             "arrows": [list(it) for it in world.arrows],
             "steps": [self.step(i, *says[i]) for i in range(len(trace.steps))],
             "trees": self.table,
@@ -328,7 +335,8 @@ class Told:
     def branch_why(self, rev):
         made, name = self.world.commits.get(rev), nodes.whose(self.world, rev)
         if made and made.needs:
-            return f"it needs {several(made.needs)}, which isn\u2019t there.", f"{name} needs {several(made.needs)}, which isn\u2019t there on what the branch stands on now. So nothing of the commit takes effect."
+            lost = f"{several(made.needs)}, which isn\u2019t there"
+            return f"it needs {lost}.", f"{name} needs {lost} on what the branch stands on now. So nothing of the commit takes effect."
         return "it has no effect there.", f"{name} has no effect on what the branch stands on now."
 
     def what(self, commit):
@@ -385,7 +393,8 @@ class Told:
         if do == "begin":
             return f"{who} begins a transaction{on}: it will be commit {rev}.", None
         if do == "commit":
-            return (f"{who} closes the transaction{on}: nothing was edited, so there is no commit.", None) if about["null"] else (f"{who} closes the transaction{on}: {rev} is one commit.", None)
+            made = "nothing was edited, so there is no commit" if about["null"] else f"{rev} is one commit"
+            return f"{who} closes the transaction{on}: {made}.", None
         if do == "abort":
             return f"{who} drops the transaction {rev}{on}.", None
         if do == "undo":
@@ -401,8 +410,9 @@ class Told:
             void = f" Void there: {', '.join(answer['void'])}." if answer["void"] else ""
             up = world.lanes[lane].parent.branch
             why = joined([self.branch_why(it) for it in answer["void"][:3]])
-            what = f"lets branch {branch} stand on all that {parent(up)} has by now" if do == "rebase" else f"merges branch {branch} into {parent(up)}"
-            return f"{who} {what}.{void}", why
+            if do == "merge":
+                return f"{who} merges branch {branch} into {parent(up)}.{void}", why
+            return f"{who} lets branch {branch} stand on all that {parent(up)} has by now.{void}", why
         if do == "drop_branch":
             return f"{who} drops branch {branch}.", None
         if do == "ack":
@@ -417,9 +427,11 @@ class Told:
             own = other is client
             name = f"{who}\u2019s own" if own else f"{short(other.name)}\u2019s"
             if entry["kind"] != "commit":
-                kinds = {"join": "joining", "leave": "leaving", "drop": "lost connection", "reconnect": "coming back", "ack": f"word of {entry['ref']} entries received"}
-                return f"{who} receives entry {n}: {name} {kinds[entry['kind']]}.", None
-            what = f"{who} receives entry {n}: {name} {entry['rev']}." if own else f"{who} receives entry {n}: {name} {entry['rev']} ({self.what(world.commits[entry['rev']])})."
+                kinds = {"join": "joining", "leave": "leaving", "drop": "lost connection", "reconnect": "coming back"}
+                what = kinds.get(entry["kind"], f"word of {entry['ref']} entries received")
+                return f"{who} receives entry {n}: {name} {what}.", None
+            more = "" if own else f" ({self.what(world.commits[entry['rev']])})"
+            what = f"{who} receives entry {n}: {name} {entry['rev']}{more}."
             if entry["void"]:
                 return f"{what} It is void.", entry["why"]
             return what, None

@@ -9,7 +9,7 @@ class Client:
     def __init__(self, number, name, session, step):
         self.number, self.name, self.session, self.since, self.until = number, name, session, step, None
         self.connected, self.received = True, 0
-        self.queue, self.lines = [], {}
+        self.queue, self.lines, self.lane = [], {}, None
 
 
 class Line:
@@ -19,6 +19,9 @@ class Line:
         self.lane, self.client, self.branch, self.parent, self.since, self.until = lane, client, branch, parent, step, None
         self.received, self.base, self.own, self.open = 0, [], [], None
         self.void = {}
+
+    def is_there(self, step):
+        return self.since <= step and (self.until is None or self.until > step)
 
     def state(self):
         return (self.received, tuple(self.base), tuple(self.own), self.open, self.client.connected)
@@ -98,7 +101,7 @@ class World:
             self.here[name] = client
             at = self.line(client, 0, None, i)
             client.received = at.received = self.enter(i, client, "join")
-            lane = at.lane
+            lane = client.lane = at.lane
             about = {"client": client, "branch": 0, "n": at.received}
             self.arrow("enter", i, lane, i, LOG, at.received)
         elif do in EDITS:
@@ -184,7 +187,7 @@ class World:
                 self.note(i, line)
 
     def blocks(self):
-        """Returns the rows of the lanes, from above, as lists of lanes, the log's among them; and of each row its client's number of a colour.
+        """Returns the rows, from above, with the lanes that are in each, the log's among them, and with a number for its colour.
 
         A client has a row for its main line, and beneath it as many as it has branches at one time. Who joins under a name
         that is free again goes on in the rows of that name; where there are many, in any that are free."""
