@@ -24,6 +24,7 @@ function svg(tag, given, ...items) {
 // what can't be seen is made visible
 const seen = (text) => text.replace(/[\u0000-\u001f\u007f-\u009f\u200b-\u200f\u2028-\u202e\u2060-\u2069\ufeff\ufffe\uffff]/g,
   (it) => it < " " ? String.fromCharCode(0x2400 + it.charCodeAt(0)) : "⟨" + it.charCodeAt(0).toString(16).toUpperCase().padStart(4, "0") + "⟩");
+const entries = (n) => n.toLocaleString("en") + (n === 1 ? " entry" : " entries");
 const count = (n, one) => n.toLocaleString("en") + " " + one + (n === 1 ? "" : "s");
 
 // a text, cut, with a button that shows it whole
@@ -65,13 +66,15 @@ const SHAPES = [
   (r) => [0, 1, 2, 3, 4].map((k) => [Math.sin(k * Math.PI * .4) * r * 1.18, -Math.cos(k * Math.PI * .4) * r * 1.18]),
 ];
 const colour = (look) => "var(--c" + look % 8 + ")";
+const pointsOf = (points) => points.map((it) => it.map((k) => k.toFixed(1)).join()).join(" ");
 function shape(look, r, given = {}) {
   const points = SHAPES[look % SHAPES.length](r);
-  return points ? svg("polygon", { points: points.map((it) => it.map((k) => k.toFixed(1)).join()).join(" "), ...given }) : svg("circle", { r, ...given });
+  return points ? svg("polygon", { points: pointsOf(points), ...given }) : svg("circle", { r, ...given });
 }
 function icon(look, size = 22) {
   const half = size / 2;
-  return svg("svg", { width: size, height: size, viewBox: [-half, -half, size, size].join(" "), "aria-hidden": "true" }, shape(look, half * .78, { fill: colour(look) }));
+  const box = { width: size, height: size, viewBox: [-half, -half, size, size].join(" "), "aria-hidden": "true" };
+  return svg("svg", box, shape(look, half * .78, { fill: colour(look) }));
 }
 
 // ---- the lanes
@@ -81,7 +84,10 @@ const voidSince = (rev, step) => voidFrom.set(rev, Math.min(step, voidFrom.has(r
 for (const lane of data.lanes) for (const [step, revs] of lane.void) for (const [rev] of revs) voidSince(rev, step);
 for (const entry of data.entries) if (entry.void !== null) voidSince(entry.rev, entry.step);
 const COLUMN = 40, TOP = 30, EDGE = 26;
-const GLYPHS = { insert: "+", remove: "−", move: "→", set: "=", clear: "−", begin: "(", commit: ")", abort: "(", need: "?", undo: "↺", upgrade: "↑", join: "", leave: "", drop: "", reconnect: "", ack: "a", fork: "Y", rebase: "R", merge: "M", drop_branch: "−" };
+const GLYPHS = {
+  insert: "+", remove: "−", move: "→", set: "=", clear: "−", begin: "(", commit: ")", abort: "(", need: "?", undo: "↺", upgrade: "↑",
+  join: "", leave: "", drop: "", reconnect: "", ack: "a", fork: "Y", rebase: "R", merge: "M", drop_branch: "−",
+};
 const x = (step) => EDGE + step * COLUMN;
 const rows = [];
 let height = TOP;
@@ -130,8 +136,9 @@ const strike = (w, h) => ["halo", "strike"].map((of) => svg("line", { x1: -w, y1
 function pill(px, py, n, step) {
   const entry = data.entries[n - 1], look = data.clients[entry.client].look;
   const width = 16 + 9 * String(n).length, isVoid = entry.void !== null;
+  const rx = entry.kind === "commit" ? 5 : 12, of = "pill" + (isVoid ? " void" : "");
   const made = svg("g", { transform: `translate(${px},${py})`, class: "mark" + (step > here ? " later" : "") },
-    svg("rect", { x: -width / 2, y: -12, width, height: 24, rx: entry.kind === "commit" ? 5 : 12, class: "pill" + (isVoid ? " void" : ""), stroke: colour(look) }),
+    svg("rect", { x: -width / 2, y: -12, width, height: 24, rx, class: of, stroke: colour(look) }),
     svg("text", {}, String(n)));
   if (isVoid) made.append(svg("line", { x1: -width / 2 - 4, y1: 7, x2: width / 2 + 4, y2: -7, class: "strike" }));
   return made;
@@ -146,7 +153,7 @@ function arrow([kind, from, lane, to, other, n]) {
   const tip = [[ex + ux * 5, ey + uy * 5], [ex - ux * 6 - uy * 5, ey - uy * 6 + ux * 5], [ex - ux * 6 + uy * 5, ey - uy * 6 - ux * 5]];
   return [
     svg("line", { x1: x1 + ux * start, y1: y1 + uy * start, x2: ex - ux * 4, y2: ey - uy * 4, class: "arrow" + of, stroke: colour(look) }),
-    svg("polygon", { points: tip.map((it) => it.map((k) => k.toFixed(1)).join()).join(" "), class: "head" + of.replace(" cut", ""), fill: colour(look) }),
+    svg("polygon", { points: pointsOf(tip), class: "head" + of.replace(" cut", ""), fill: colour(look) }),
   ];
 }
 function mark(step) {
@@ -194,7 +201,10 @@ function drawLanes() {
       const main = lane.branch === 0;
       // (a line without connection is dotted)
       let begin = lane.since, has = true;
-      const part = (upto, is) => upto > begin && all.push(svg("line", { x1: x(begin), x2: x(upto) + (lane.until === null && upto === last ? 14 : 0), y1: row.y, y2: row.y, class: "lane" + (is ? "" : " gone") }));
+      const part = (upto, is) => {
+        const x2 = x(upto) + (lane.until === null && upto === last ? 14 : 0);
+        if (upto > begin) all.push(svg("line", { x1: x(begin), x2, y1: row.y, y2: row.y, class: "lane" + (is ? "" : " gone") }));
+      };
       if (main) for (const stand of lane.stands) {
         if (stand[5] !== has) { part(stand[0], has); begin = stand[0]; has = stand[5]; }
       }
@@ -213,11 +223,14 @@ function drawLanes() {
     const entry = data.entries[k];
     all.push(pill(x(entry.step), logRow.y, entry.n, entry.step));
     const look = data.clients[entry.client].look;
-    const up = data.arrows.length && yOf(data.lanes.findIndex((it) => it.client === entry.client)) < logRow.y;
-    all.push(svg("g", { transform: `translate(${x(entry.step)},${logRow.y + (up ? 25 : -25)})`, class: entry.step > here ? "later" : "" }, shape(look, 5, { fill: colour(look) })));
+    // (whose entry it is stands on the side of the log on which no arrow comes)
+    const py = logRow.y + (yOf(data.clients[entry.client].lanes[0]) < logRow.y ? 25 : -25);
+    const place = { transform: `translate(${x(entry.step)},${py})`, class: entry.step > here ? "later" : "" };
+    all.push(svg("g", place, shape(look, 5, { fill: colour(look) })));
   }
   for (let step = from; step <= to; step++) {
-    const hit = svg("rect", { x: x(step) - COLUMN / 2, y: 0, width: COLUMN, height, class: "hit" }, svg("title", {}, "line " + (step + 1) + ": " + seen(steps[step].says)));
+    const title = svg("title", {}, "line " + (step + 1) + ": " + seen(steps[step].says));
+    const hit = svg("rect", { x: x(step) - COLUMN / 2, y: 0, width: COLUMN, height, class: "hit" }, title);
     hit.addEventListener("click", () => go(step));
     all.push(hit);
   }
@@ -227,7 +240,8 @@ function bringIn() {
   const box = at("scroll"), px = x(here);
   if (px < box.scrollLeft + COLUMN * 1.5 || px > box.scrollLeft + box.clientWidth - COLUMN * 2.5) box.scrollLeft = px - box.clientWidth / 2;
   const all = at("all"), row = rows.find((it) => (it.lanes || []).includes(steps[here].lane)) || logRow;
-  if (all.scrollHeight > all.clientHeight && (row.top < all.scrollTop || row.top + row.high > all.scrollTop + all.clientHeight)) all.scrollTop = row.y - all.clientHeight / 2;
+  const isIn = row.top >= all.scrollTop && row.top + row.high <= all.scrollTop + all.clientHeight;
+  if (all.scrollHeight > all.clientHeight && !isIn) all.scrollTop = row.y - all.clientHeight / 2;
 }
 
 // ---- trees, and what changed in them since the step before
@@ -313,7 +327,8 @@ function lost(old, now, gone, made) {
 }
 function fields(s, t) {
   const old = new Map(s.f), now = new Map(t.f);
-  return [...new Set([...old.keys(), ...now.keys()])].sort().map((key) => [old.has(key) ? old.get(key) : null, now.has(key) ? now.get(key) : null, key]);
+  const of = (map, key) => map.has(key) ? map.get(key) : null;
+  return [...new Set([...old.keys(), ...now.keys()])].sort().map((key) => [of(old, key), of(now, key), key]);
 }
 function view(old, now, most) {
   const gone = new Set(), made = new Set();
@@ -349,7 +364,9 @@ function view(old, now, most) {
       return [head(of, leaf(t))];
     }
     const both = s && !isLeaf(s) && s.t === t.t && "r" in s === "r" in t ? s : null;
-    const parts = "r" in t ? (both ? pairs(both.r, t.r) : t.r.map((it) => [of ? it : it, it])) : (both ? fields(both, t) : t.f.map(([key, it]) => [it, it, key]));
+    const parts = "r" in t
+      ? (both ? pairs(both.r, t.r) : t.r.map((it) => [it, it]))
+      : (both ? fields(both, t) : t.f.map(([key, it]) => [it, it, key]));
     const name = head(of, el("span", "type", key === t.t ? "" : el("bdi", "", seen(t.t)), parts.length ? "" : key === t.t ? "empty" : ", empty"));
     const list = el("ul", "");
     for (let k = 0; k < parts.length; k++) {
@@ -383,7 +400,8 @@ function stands(lane, step) {
   const line = (of, tag, rev, text, why) => {
     const commit = rev ? data.commits[rev] : null;
     const what = text + (commit ? ": " + commit.what : "");
-    list.append(el("li", of + (why === null ? "" : " void"), el("span", "tag", tag), why === null ? el("bdi", "", seen(what)) : el("s", "", seen(what)),
+    const told = why === null ? el("bdi", "", seen(what)) : el("s", "", seen(what));
+    list.append(el("li", of + (why === null ? "" : " void"), el("span", "tag", tag), told,
       why === null ? null : el("span", "reason", "Void: " + seen(shortly(why)))));
   };
   const got = [];
@@ -414,7 +432,10 @@ function part(number, step) {
   const had = cards.get(number);
   if (had && had.key === key) return had.box;
   const box = el("div", lane.branch ? "branch-of" : "");
-  if (lane.branch) box.append(el("h4", "", "Branch " + lane.branch + ", on " + (data.lanes[lane.parent].branch ? "branch " + data.lanes[lane.parent].branch : "the main line")));
+  if (lane.branch) {
+    const parent = data.lanes[lane.parent].branch;
+    box.append(el("h4", "", "Branch " + lane.branch + ", on " + (parent ? "branch " + parent : "the main line")));
+  }
   if (now === null) box.append(el("p", "empty", "The tree can’t be told: the program refuses to show it."));
   else {
     const [tree, left] = view(old, now, whole.has(number) ? Infinity : MOST);
@@ -445,7 +466,8 @@ function drawCards() {
     }
     const lanes = client.lanes.filter((it) => isHere(data.lanes[it], here));
     const main = data.lanes[client.lanes[0]], stand = main.stands[upto(main.stands, here)];
-    made.state.textContent = "Session " + client.session + (stand && !stand[5] ? ", not connected" : "") + " · received " + (stand ? stand[1] : 0) + " of " + size.toLocaleString("en") + (size === 1 ? " entry" : " entries");
+    const away = stand && !stand[5] ? ", not connected" : "";
+    made.state.textContent = "Session " + client.session + away + " · received " + (stand ? stand[1] : 0) + " of " + entries(size);
     const parts = lanes.map((it) => part(it, here));
     if (made.parts.children.length !== parts.length || parts.some((it, k) => made.parts.children[k] !== it)) made.parts.replaceChildren(...parts);
     const step = steps[here];
@@ -537,7 +559,10 @@ function legend() {
   const box = at("marks"), sign = (...items) => svg("svg", { width: 34, height: 30, viewBox: "-17 -15 34 30", "aria-hidden": "true" }, ...items);
   const of = (glyph) => sign(shape(0, 12, { fill: colour(0) }), svg("text", { class: "glyph" }, glyph));
   const line = (picture, text) => box.append(el("div", "", picture, el("span", "", text)));
-  const entry = (rx, ...more) => sign(svg("rect", { x: -13, y: -12, width: 26, height: 24, rx, class: "pill" + (more.length ? " void" : ""), stroke: colour(0) }), svg("text", {}, "3"), ...more);
+  const entry = (rx, ...more) => {
+    const of = "pill" + (more.length ? " void" : "");
+    return sign(svg("rect", { x: -13, y: -12, width: 26, height: 24, rx, class: of, stroke: colour(0) }), svg("text", {}, "3"), ...more);
+  };
   const used = new Set(steps.map((it) => it.do));
   line(entry(5), "entry 3 of the log, a commit; on a client’s lane: the client receives it");
   line(entry(12), "an entry that is no commit: somebody joins, goes, comes back, or tells what arrived");
@@ -545,14 +570,19 @@ function legend() {
   line(sign(shape(0, 12, { fill: colour(0) })), "joins, or comes back");
   if (used.has("drop") || used.has("leave")) line(sign(shape(0, 12, { class: "out", stroke: colour(0) })), "loses the connection, or leaves");
   line(sign(svg("polygon", { points: "0,-12 12,0 0,12 -12,0", class: "refused" }), svg("text", { class: "bang" }, "!")), "a step that is refused");
-  const words = { insert: "puts something in", remove: "takes something out, or empties a field", move: "moves something", set: "sets a field", begin: "begins a transaction", need: "puts a condition on it", commit: "closes it", undo: "takes a commit back", upgrade: "widens the schema", fork: "forks a branch", rebase: "rebases a branch", merge: "merges a branch", ack: "tells what arrived" };
+  const words = {
+    insert: "puts something in", remove: "takes something out, or empties a field", move: "moves something", set: "sets a field",
+    begin: "begins a transaction", need: "puts a condition on it", commit: "closes it", undo: "takes a commit back",
+    upgrade: "widens the schema", fork: "forks a branch", rebase: "rebases a branch", merge: "merges a branch", ack: "tells what arrived",
+  };
   for (const it in words) if (used.has(it) || it === "remove" && used.has("clear")) line(of(GLYPHS[it]), words[it]);
   if (used.has("show") || used.has("pending")) line(sign(svg("circle", { r: 6, class: "look" })), "the trace looks at what is shown or pending");
   if (used.has("drop")) line(sign(svg("line", { x1: -17, x2: 17, y1: 0, y2: 0, class: "lane gone" })), "no connection");
 }
 
 at("title").textContent = seen(data.title);
-at("summary").textContent = count(data.clients.length, "session") + ", " + count(last, "step") + ", and " + (data.entries.length === 1 ? "1 entry" : data.entries.length.toLocaleString("en") + " entries") + " of the log. Press → to step, or Play.";
+at("summary").textContent = count(data.clients.length, "session") + ", " + count(last, "step") + ", and " + entries(data.entries.length)
+  + " of the log. Press → to step, or Play.";
 if (data.ended) {
   at("ended").hidden = false;
   put(at("ended"), el("p", "", data.ended.why));
