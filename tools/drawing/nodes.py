@@ -23,10 +23,11 @@ def kind_of(tree):
 
 
 def first_leaf(tree):
+    """Returns the first leaf in a tree in words, a text if there is one, or none where the tree has no leaf."""
     while True:
         inner = kind_of(tree)
         if not inner:
-            return tree if not isinstance(tree, dict) else None
+            return None if isinstance(tree, dict) else said(tree)
         items = inner[1] if isinstance(inner[1], list) else list(inner[1].values())
         leaves = [it for it in items if isinstance(it, str)] or [it for it in items if kind_of(it)] or items
         if not leaves:
@@ -49,7 +50,7 @@ def label(tree, root=False):
     if titles:
         return f"the {name} {said(titles[0])}"
     leaf = first_leaf(tree)
-    return f"the {name} with {said(leaf)}" if leaf is not None else f"the empty {name}"
+    return f"the {name} with {leaf}" if leaf else f"the empty {name}"
 
 
 def label_at(tree, path):
