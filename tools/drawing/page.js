@@ -513,13 +513,13 @@ function pause() {
   clearInterval(playing);
   playing = null;
   at("play").textContent = "Play";
-  at("says").setAttribute("aria-live", "polite");
+  at("told").setAttribute("aria-live", "polite");
 }
 function play() {
   if (playing !== null) return pause();
   if (here === last) go(0);
   at("play").textContent = "Pause";
-  at("says").setAttribute("aria-live", "off");
+  at("told").setAttribute("aria-live", "off");
   playing = setInterval(() => {
     go(here + 1);
     if (here === last) pause();
