@@ -33,8 +33,10 @@ ENDS = {
 }
 
 
-def refusal(answer):
+def refusal(do, answer):
     name = answer["no"]
+    if do == "undo" and name == "Kind":
+        return "the commit is an upgrade, which is never taken back"
     if name == "NoNode":
         return f"the path leads nowhere at its place {answer.get('depth')}"
     if name == "NotAllowed":
@@ -378,7 +380,7 @@ class Told:
             tree = self.tree(number) if number is not None else None
         if "no" in answer:
             wish = self.wish(step, tree, who, on)
-            return f"{who} {wish}: refused.", (refusal(answer), f"Refused, and nothing changes: {refusal(answer)} ({answer['no']}).")
+            return f"{who} {wish}: refused.", (refusal(do, answer), f"Refused, and nothing changes: {refusal(do, answer)} ({answer['no']}).")
         if do == "join":
             return f"{who} joins as session {answer['s']}. That is entry {n} of the log.", None
         if do in EDITS:
