@@ -1,11 +1,9 @@
 -- The ranges of the log, each of which goes on where the last one of its session ended.
-use Rattle.std.specs.Prelude.{ℕ, ◌≡◌, ◌+◌, ◌≤◌, ◌==◌, List, [], ◌∷◌, ◌++◌, cond, Some, Result, Ok}
+use Rattle.std.specs.Prelude.{ℕ, ◌≡◌, ◌+◌, ◌<◌, ◌≤◌, ◌==◌, List, [], ◌∷◌, ◌++◌, length, cond, Some}
 use Rattle.std.specs.List.{sum_by}
-use Rattle.st_clusters.specs.Table.{Ids, session_of, after_finalising}
-use Rattle.st_clusters.specs.declared.ids.IdFault.{IdFault}
+use Rattle.st_clusters.specs.Table.{Ids, session_of, table_of}
 use Rattle.st_clusters.specs.declared.ids.IdRange.{IdRange}
 use Rattle.st_clusters.specs.declared.ids.SessionIds.{SessionIds}
-use Rattle.st_ids.specs.Or.{and_then}
 
 -- how many ids of a session some ranges carry
 abbrev pub carried_count : ℕ → List IdRange → ℕ
@@ -20,11 +18,12 @@ GoOn before (r ∷ rs) = (1 ≤ r.session) × (r.first ≡ carried_count r.sessi
 abbrev pub AreInTurn : List IdRange → Type 0
 AreInTurn rs = GoOn [] rs
 
--- the table after some ranges are finalised in turn, or the first refusal
-abbrev pub after_log : List IdRange → Ids → Result Ids IdFault
-after_log [] t = Ok t
-after_log (r ∷ rs) t = and_then (after_finalising r t) (λ u. after_log rs u)
+-- ## A table and its ranges
 
--- no id is finalised yet
-abbrev pub IsFresh : Ids → Type 0
-IsFresh t = (t.clusters ≡ []) × ((s : ℕ) (x : SessionIds) → session_of t.sessions s ≡ Some x → x.finalised ≡ 0)
+-- the table is that of some ranges, in their order: each goes on where the last one of its session ended, the clusters are
+-- those of the fold, and each session has finalised what they carry of it; they carry nothing of a session that isn't there
+pub record IsTableOf (rs : List IdRange) (t : Ids) : Type 0 where
+  pub in_turn : AreInTurn rs
+  pub clusters : t.clusters ≡ table_of rs
+  pub finalised : (s : ℕ) (x : SessionIds) → session_of t.sessions s ≡ Some x → x.finalised ≡ carried_count s rs
+  pub later : (s : ℕ) → length t.sessions < s → carried_count s rs ≡ 0

@@ -1,21 +1,49 @@
 //! Laws of the table, over its definition.
-ghost use Rattle.std.specs.Prelude.{◌≡◌, ◌↔◌, ◌⊎◌, ◌≤◌, ℕ, ℤ, Ok, Some, List as Seq, [], ◌∷◌, ◌++◌};
-ghost use Rattle.st_clusters.specs.Log.{AreInTurn, IsFresh, after_log, carried_count};
+ghost use Rattle.std.specs.Prelude.{◌≡◌, ◌↔◌, ◌⊎◌, ◌<◌, ◌≤◌, ◌^◌, ℕ, ℤ, Ok, Some, List as Seq, [], ◌∷◌, ◌++◌, length};
+ghost use Rattle.st_clusters.specs.Log.{AreInTurn, IsTableOf, carried_count};
 ghost use Rattle.st_clusters.specs.Names.{IsFinal, IsFinalBefore, IsOp, stable_of};
+ghost use Rattle.st_clusters.specs.Reached.{IsReached, no_ids};
 ghost use Rattle.st_ids.specs.Root.{opening};
-ghost use Rattle.st_clusters.specs.Table.{Ids, table_of, with_range};
+ghost use Rattle.st_clusters.specs.Table.{Ids, after_finalising, after_generating, after_joining, after_rewinding, after_taking, table_of, with_range};
 ghost use Rattle.st_clusters.specs.declared.ids.Cluster.{Cluster as Clusters};
 ghost use Rattle.st_clusters.specs.declared.ids.IdRange.{IdRange as Range};
 ghost use Rattle.st_ids.specs.declared.names.Rev.{Rev as RevNames};
 
 use crate::compressor::Compressor;
 
-/// The law that a table in which no id was finalised, and then some ranges in turn, is the table
-/// of these ranges, each of which goes on where the last one of its session ended. So two tables
-/// in which the same ranges were finalised in one order have the same final numbers.
-pub fn finalising_is_the_fold()
-    ensures { (rs : Seq Range) (t u : Ids) → IsFresh t → after_log rs t ≡ Ok u → AreInTurn rs
-        × (u.clusters ≡ table_of rs) }
+/// The law that a table stays that of the ranges finalised in it, in their order, whatever sessions
+/// join and whatever ids are generated, taken and given back between them; and that the ranges in
+/// their order tell the final numbers: two such tables of the same ranges have the same.
+pub fn tables_go_on()
+    ensures begins { IsTableOf [] no_ids }
+    ensures joins { (rs : Seq Range) (u n : ℕ) (t v : Ids) → IsTableOf rs t
+        → after_joining u t ≡ Ok (n, v) → IsTableOf rs v }
+    ensures generates { (rs : Seq Range) (s n : ℕ) (t v : Ids) → IsTableOf rs t
+        → after_generating s t ≡ Ok (n, v) → IsTableOf rs v }
+    ensures takes { (rs : Seq Range) (s : ℕ) (r : Range) (t v : Ids) → IsTableOf rs t
+        → after_taking s t ≡ Ok (r, v) → IsTableOf rs v }
+    ensures rewinds { (rs : Seq Range) (s : ℕ) (t v : Ids) → IsTableOf rs t
+        → after_rewinding s t ≡ Ok v → IsTableOf rs v }
+    ensures finalises { (rs : Seq Range) (r : Range) (t v : Ids) → IsTableOf rs t
+        → after_finalising r t ≡ Ok v → IsTableOf (rs ++ r ∷ []) v }
+    ensures one { (rs : Seq Range) (t v : Ids) → IsTableOf rs t → IsTableOf rs v
+        → t.clusters ≡ v.clusters }
+{}
+
+/// The law that a table to which calls lead is led on by each further call, while there are at most
+/// 65,535 sessions and each UUID has 128 bits.
+pub fn reached_tables_go_on()
+    ensures begins { IsReached no_ids }
+    ensures joins { (u n : ℕ) (t v : Ids) → IsReached t → length t.sessions < 65535 → u < 2 ^ 128
+        → after_joining u t ≡ Ok (n, v) → IsReached v }
+    ensures generates { (s n : ℕ) (t v : Ids) → IsReached t → after_generating s t ≡ Ok (n, v)
+        → IsReached v }
+    ensures takes { (s : ℕ) (r : Range) (t v : Ids) → IsReached t → after_taking s t ≡ Ok (r, v)
+        → IsReached v }
+    ensures rewinds { (s : ℕ) (t v : Ids) → IsReached t → after_rewinding s t ≡ Ok v
+        → IsReached v }
+    ensures finalises { (r : Range) (t v : Ids) → IsReached t → after_finalising r t ≡ Ok v
+        → IsReached v }
 {}
 
 /// The law that the ranges of a log, each of which goes on where the last one of its session

@@ -16,6 +16,6 @@ pub use at::At;
 pub use compressor::Compressor;
 pub use ids::{Cluster, IdFault, IdRange, SessionIds, Unknown};
 pub use laws::{
-    carried_ids_have_numbers, final_numbers_are_distinct, final_numbers_stay,
-    finalising_is_the_fold, table_is_as_it_was,
+    carried_ids_have_numbers, final_numbers_are_distinct, final_numbers_stay, reached_tables_go_on,
+    table_is_as_it_was, tables_go_on,
 };

@@ -43,9 +43,9 @@ sound_verdict (Verdict.Need n) e = cc
 sound_verdict (Verdict.Cycle n) e = cc
 sound_verdict (Verdict.Schema u) e = cc
 
-pub way_undoes : (O E : Document) (front rest : List Intent) (ks ls : List Carried) (N : Intent) (k : Carried) (fresh : Rev) → AreCarried O (front ++ N ∷ rest) (ks ++ k ∷ ls) E → length ks ≡ length front → k.void ≡ false → N.schema ≡ None
+pub way_undoes : (O E : Document) (front rest : List Intent) (ks ls : List Carried) (N : Intent) (k : Carried) (fresh : Rev) → AreCarried O (front ++ N ∷ rest) (ks ++ k ∷ ls) E → length ks ≡ length front → k.void ≡ false
     → IsUndoing O (front ++ N ∷ rest) N.rev fresh (intent_of_way k.back fresh (unwrap_or (last_of (revs E.schemas)) opening))
-way_undoes O E front rest ks ls N k fresh r e out plain =
+way_undoes O E front rest ks ls N k fresh r e out =
     let p = run_parted front (N ∷ rest) ks (k ∷ ls) r e in
     let o = opened p.2 in
     let sound = sound_verdict o.0 (sym o.2.void ∙ out) in
@@ -55,7 +55,7 @@ way_undoes O E front rest ks ls N k fresh r e out plain =
       after = E;
       is_at = record { front = front; rest = rest; list = refl; named = refl; before = run_of p.1; verdict = subst (IsVerdict p.0 N) sound o.1 };
       now = run_of r;
-      back = o.2.back sound plain fresh (unwrap_or (last_of (revs E.schemas)) opening);
+      back = o.2.back sound fresh (unwrap_or (last_of (revs E.schemas)) opening);
     }
 
 -- a commit that came out by its verdict is a remembered run of one
@@ -64,7 +64,7 @@ one_carried D E N v w k a after back void kept =
     more v a (
     record {
       void = void;
-      back = λ sound _. subst (IsWayBack D N) (sym (kept ∙ ap (λ b. cond b no_way w) (void ∙ ap is_void sound))) back;
+      back = λ sound. subst (IsWayBack D N) (sym (kept ∙ ap (λ b. cond b no_way w) (void ∙ ap is_void sound))) back;
       none = λ t. kept ∙ ap (λ b. cond b no_way w) t;
     }
     ) (subst (λ F. AreCarried (carried_document v D N) [] [] F) (sym after) none)

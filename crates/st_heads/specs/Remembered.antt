@@ -29,11 +29,10 @@ IsWayBack D N w = (rev under : Rev) → IsBack D (full D N) rev under (intent_of
 abbrev pub no_way : Way
 no_way = record { clear = []; put = [] }
 
--- how a commit with that verdict came out: the way back over it where it is sound and no change of schema, and none where
--- it is void
+-- how a commit with that verdict came out: the way back over it where it is sound, and none where it is void
 pub record IsCarried (D : Document) (N : Intent) (v : Verdict) (k : Carried) : Type 0 where
   pub void : k.void ≡ is_void v
-  pub back : v ≡ Verdict.Sound → N.schema ≡ None → IsWayBack D N k.back
+  pub back : v ≡ Verdict.Sound → IsWayBack D N k.back
   pub none : k.void ≡ true → k.back ≡ no_way
 
 -- the remembered run: a document becomes another by commits one after the other, each carried out by its verdict where it

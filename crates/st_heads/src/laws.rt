@@ -1,5 +1,5 @@
 //! Laws about what is remembered: each is the contract of a function that does nothing.
-ghost use Rattle.std.specs.Prelude.{◌≡◌, ◌≢◌, ◌↔◌, ◌++◌, ◌∷◌, false, true, List, None, Some, IsSome, MatchOption, length, unwrap_or};
+ghost use Rattle.std.specs.Prelude.{◌≡◌, ◌≢◌, ◌↔◌, ◌++◌, ◌∷◌, false, true, List, Some, IsSome, MatchOption, length, unwrap_or};
 ghost use Rattle.st_ids.specs.Listing.{AreDistinct};
 ghost use Rattle.st_ids.specs.Root.{opening};
 ghost use Rattle.st_ids.specs.declared.names.FieldId.{FieldId};
@@ -44,7 +44,7 @@ pub fn ways_lead_back()
 /// whole list.
 pub fn remembered_ways_undo()
     ensures { (O E : Document) (front rest : List Intent) (ks ls : List Carried) (N : Intent) (k : Carried) (fresh : Rev)
-        → AreCarried O (front ++ N ∷ rest) (ks ++ k ∷ ls) E → length ks ≡ length front → k.void ≡ false → N.schema ≡ None
+        → AreCarried O (front ++ N ∷ rest) (ks ++ k ∷ ls) E → length ks ≡ length front → k.void ≡ false
         → IsUndoing O (front ++ N ∷ rest) N.rev fresh (intent_of_way k.back fresh (unwrap_or (last_of (revs E.schemas)) opening)) }
 {}
 

@@ -27,13 +27,15 @@ use Rattle.st_clusters.specs.declared.ids.IdRange.{IdRange}
 use Rattle.st_clusters.specs.declared.ids.SessionIds.{SessionIds}
 use Rattle.st_clusters.proofs.Stable.{session_known}
 use Rattle.st_idcodec.specs.TableText.{uuid_text, uuid_data, cluster_data, table_data}
-use Rattle.st_idcodec.specs.Tables.{Step, joins, finalises, IsTable, AreWide, AreSettled, after_steps, no_ids}
+use Rattle.st_clusters.specs.Reached.{no_ids, uuids_in, AreWide}
+use Rattle.st_idcodec.specs.Tables.{Step, joins, finalises, IsTable, AreSettled, after_steps}
 use Rattle.st_idcodec.specs.inside.Reading.{IsRead, same, with_text, uuid_of_text, uuid_of, cluster_of, clusters_of, after_uuid, after_uuid_value, after_uuids, after_clusters, led_to}
 use Rattle.st_idcodec.proofs.Going.{used_of, used_new, AllGo}
 use Rattle.st_idcodec.proofs.Running.{led_after, HasAll, IsLed, AllGiven, all_given, one_table}
-use Rattle.st_idcodec.proofs.Sessions.{after_joins, uuids_in, with_joined, joined_is, uuids_kept}
+use Rattle.st_idcodec.proofs.Sessions.{after_joins, uuids_kept}
+use Rattle.st_clusters.proofs.SessionsTouched.{with_joined, joined_is}
 use Rattle.st_idcodec.proofs.Tables.{text_data, texts_are}
-use Rattle.st_clusters.proofs.Running.{cases_result}
+use Rattle.st_clusters.proofs.RangeTaken.{cases_result}
 use Rattle.st_ids.proofs.Orders.{bytes-itself}
 
 -- ## UUIDs

@@ -17,9 +17,11 @@ use Rattle.st_clusters.specs.declared.ids.IdRange.{IdRange}
 use Rattle.st_clusters.specs.declared.ids.SessionIds.{SessionIds}
 use Rattle.st_clusters.proofs.Stable.{cases_session, session_known}
 use Rattle.st_idcodec.specs.TableText.{uuid_data, cluster_data, table_data}
-use Rattle.st_idcodec.specs.Tables.{Step, joins, finalises, Call, joining, generating, taking, rewinding, finalising, IsTable, IsReached, AreWide, after_steps, after_calls, only_finalised, only_final, no_ids}
+use Rattle.st_clusters.specs.Reached.{Call, joining, generating, taking, rewinding, finalising, IsReached, AreWide, after_calls, no_ids}
+use Rattle.st_idcodec.specs.Tables.{Step, joins, finalises, IsTable, after_steps, only_finalised, only_final}
 use Rattle.st_idcodec.proofs.Complete.{joins_too}
-use Rattle.st_idcodec.proofs.Sessions.{with_joined, joined_is, IsTaken, is_taken}
+use Rattle.st_idcodec.proofs.Sessions.{IsTaken, is_taken}
+use Rattle.st_clusters.proofs.SessionsTouched.{with_joined, joined_is}
 
 uuids_same : (ss : List SessionIds) → map (λ (x : SessionIds). x.uuid) (map only_finalised ss) ≡ map (λ (x : SessionIds). x.uuid) ss
 uuids_same [] = refl

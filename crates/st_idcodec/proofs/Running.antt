@@ -6,7 +6,7 @@ use Rattle.std.proofs.lemmas.List.{append_assoc, append-nil, get_or-set_same, ge
 use Rattle.std.proofs.lemmas.List.Sums.{sum_by-append}
 use Rattle.std.proofs.lemmas.Option.{slice_get-get_or}
 use Rattle.std.specs.Prelude.{◌==◌, cond, Result, Ok, Err}
-use Rattle.st_clusters.specs.Log.{after_log}
+use Rattle.st_clusters.specs.Reached.{uuids_in}
 use Rattle.st_clusters.specs.Table.{Ids, no_session, most_ids, session_of, is_next, raise_to, with_range, after_finalising}
 use Rattle.st_clusters.specs.inside.Kept.{session_at}
 use Rattle.st_clusters.specs.declared.ids.Cluster.{Cluster}
@@ -16,8 +16,8 @@ use Rattle.st_clusters.specs.declared.ids.SessionIds.{SessionIds}
 use Rattle.st_idcodec.specs.inside.Reading.{part, front_of, rest_of, after_cluster, after_clusters}
 use Rattle.st_idcodec.proofs.Going.{used_of, used_new, used_more, used_others, Goes, AllGo, both_parts}
 use Rattle.st_idcodec.proofs.Gone.{range_go}
-use Rattle.st_idcodec.proofs.Sessions.{uuids_in, IsTaken, is_taken, uuids_kept, to_ok}
-use Rattle.st_clusters.proofs.Running.{cases_result}
+use Rattle.st_idcodec.proofs.Sessions.{IsTaken, is_taken, uuids_kept, to_ok, after_log}
+use Rattle.st_clusters.proofs.RangeTaken.{cases_result}
 
 -- ## What the sessions have
 

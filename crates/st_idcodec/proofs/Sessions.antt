@@ -1,40 +1,22 @@
 -- Sessions that join, and ranges that are finalised.
-use Rattle.std.proofs.Common.{◌≡◌, inl, inr, ◌<◌, ◌≤◌, ◌+◌, ◌-◌, ℕ, true, sym, ap, ◌∙◌, List, [], ◌∷◌, ◌++◌, length, map, set, Option, Some, None}
+use Rattle.std.proofs.Common.{◌≡◌, inl, inr, ◌<◌, ◌≤◌, ◌+◌, ◌-◌, ℕ, true, sym, ap, ◌∙◌, List, [], ◌∷◌, length, set, Some}
 use Rattle.std.proofs.lemmas.Bool.{cases_Bool}
 use Rattle.std.proofs.Math.Seq.{map-set_same}
 use Rattle.std.specs.Prelude.{Result, Ok, Err}
 use Rattle.std.specs.Result.{result_ok}
-use Rattle.st_clusters.specs.Free.{is_v4}
-use Rattle.st_clusters.specs.Table.{Ids, no_session, most_ids, session_of, is_next, raise_to, new_session, clash, join_unless, with_range, after_joining, after_finalising}
+use Rattle.st_clusters.specs.Table.{Ids, no_session, most_ids, session_of, is_next, raise_to, with_range, after_joining, after_finalising}
 use Rattle.st_ids.specs.Or.{and_then}
 use Rattle.st_clusters.specs.inside.Kept.{session_at}
 use Rattle.st_clusters.specs.declared.ids.IdFault.{IdFault}
-use Rattle.st_clusters.specs.declared.ids.IdFault.TheVariants.{Session, RangeOrder, NotV4}
+use Rattle.st_clusters.specs.declared.ids.IdFault.TheVariants.{Session, RangeOrder}
 use Rattle.st_clusters.specs.declared.ids.IdRange.{IdRange}
 use Rattle.st_clusters.specs.declared.ids.SessionIds.{SessionIds}
 use Rattle.st_clusters.proofs.Finalising.{next_parts}
+use Rattle.st_clusters.specs.Reached.{uuids_in}
 use Rattle.st_clusters.proofs.Stable.{cases_session, session_known}
-
--- the UUIDs of the sessions
-abbrev pub uuids_in : Ids → List ℕ
-uuids_in t = map (λ (x : SessionIds). x.uuid) t.sessions
-
-abbrev pub with_joined : ℕ → Ids → Ids
-with_joined u t = record { sessions = t.sessions ++ new_session u ∷ []; clusters = t.clusters }
 
 ids_same : (u v : Ids) → ◌≡◌ {A = Result Ids IdFault} (Ok u) (Ok v) → u ≡ v
 ids_same u v e = cc e
-
--- a session that joined stands behind the others
-joined_unless : (u : ℕ) (t : Ids) (o : Option ℕ) (p : ℕ × Ids) → join_unless u t o ≡ Ok p → with_joined u t ≡ p.1
-joined_unless u t (Some s) p e = absurd (cc e)
-joined_unless u t None p e = ap (λ (r : Result (ℕ × Ids) IdFault). elim r as (λ x. Ids) [ Ok q ↦ q.1 | Err f ↦ t ]) e
-
-pub joined_is : (u : ℕ) (t : Ids) (p : ℕ × Ids) → after_joining u t ≡ Ok p → with_joined u t ≡ p.1
-joined_is u t p e = elim (cases_Bool (is_v4 u)) [
-  | inl v ↦ joined_unless u t (clash u t.sessions) p (rw v at e)
-  | inr v ↦ let none : ◌≡◌ {A = Result (ℕ × Ids) IdFault} (Err NotV4) (Ok p) = rw v at e in absurd (cc none)
-]
 
 -- what a range that was taken says
 pub record IsTaken (r : IdRange) (t u : Ids) : Type 0 where
@@ -87,3 +69,8 @@ to_ok (Err f) a e = absurd (cc e)
 abbrev pub after_joins : List ℕ → Ids → Result Ids IdFault
 after_joins [] t = Ok t
 after_joins (u ∷ us) t = and_then (after_joining u t) (λ p. after_joins us p.1)
+
+-- the table after ranges are finalised in turn, or the first refusal
+abbrev pub after_log : List IdRange → Ids → Result Ids IdFault
+after_log [] t = Ok t
+after_log (r ∷ rs) t = and_then (after_finalising r t) (λ u. after_log rs u)

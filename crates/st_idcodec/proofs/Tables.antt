@@ -11,16 +11,17 @@ use Rattle.serde_json.specs.View.{items_of}
 use Rattle.st_clusters.specs.Table.{Ids, new_session, after_joining, after_finalising}
 use Rattle.st_clusters.specs.Ids.{ids_of}
 use Rattle.st_clusters.specs.declared.compressor.Compressor.{Compressor}
-use Rattle.st_clusters.specs.Log.{after_log}
 use Rattle.st_ids.specs.Or.{and_then}
 use Rattle.st_clusters.specs.declared.ids.Cluster.{Cluster}
 use Rattle.st_clusters.specs.declared.ids.IdRange.{IdRange}
 use Rattle.st_clusters.specs.declared.ids.SessionIds.{SessionIds}
 use Rattle.st_idcodec.specs.TableText.{uuid_text, uuid_data, table_data}
-use Rattle.st_idcodec.specs.Tables.{Step, joins, finalises, IsTable, AreWide, after_steps, no_ids}
+use Rattle.st_clusters.specs.Reached.{no_ids, uuids_in, AreWide}
+use Rattle.st_idcodec.specs.Tables.{Step, joins, finalises, IsTable, after_steps}
 use Rattle.st_idcodec.specs.inside.Reading.{IsRead, uuid_of, after_uuid, after_uuid_value, after_uuids, front_of, rest_of, after_range, after_cluster, after_clusters}
 use Rattle.st_idcodec.proofs.Sound.{from_some, from_map, uuid_is, clusters_are, members_is}
-use Rattle.st_idcodec.proofs.Sessions.{after_joins, uuids_in, with_joined, joined_is, uuids_kept, from_ok}
+use Rattle.st_clusters.proofs.SessionsTouched.{with_joined, joined_is}
+use Rattle.st_idcodec.proofs.Sessions.{after_log, after_joins, uuids_kept, from_ok}
 
 abbrev pub text_data : ℕ → Data
 text_data u = string (uuid_text u)

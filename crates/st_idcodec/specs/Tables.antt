@@ -1,18 +1,11 @@
 -- The tables that sessions and ranges lead to.
-use Rattle.std.specs.Prelude.{ℕ, ◌≡◌, map, ◌<◌, ◌≤◌, ◌^◌, List, [], ◌∷◌, length, Some, Result, Ok}
-use Rattle.st_clusters.specs.Table.{Ids, session_of, after_joining, after_generating, after_taking, after_rewinding, after_finalising}
+use Rattle.std.specs.Prelude.{ℕ, ◌≡◌, map, ◌≤◌, List, [], ◌∷◌, length, Some, Result, Ok}
+use Rattle.st_clusters.specs.Reached.{no_ids, uuids_in, AreWide}
+use Rattle.st_clusters.specs.Table.{Ids, session_of, after_joining, after_finalising}
 use Rattle.st_ids.specs.Or.{and_then}
 use Rattle.st_clusters.specs.declared.ids.IdFault.{IdFault}
 use Rattle.st_clusters.specs.declared.ids.IdRange.{IdRange}
 use Rattle.st_clusters.specs.declared.ids.SessionIds.{SessionIds}
-
--- the table of no sessions
-abbrev pub no_ids : Ids
-no_ids = record { sessions = []; clusters = [] }
-
-abbrev pub AreWide : List ℕ → Type 0
-AreWide [] = Unit {0}
-AreWide (u ∷ us) = (u < 2 ^ 128) × AreWide us
 
 -- a session joins with a UUID, or a range is finalised
 pub data Step : Type 0 where
@@ -30,7 +23,7 @@ pub record IsTable (t : Ids) : Type 0 where
   pub steps : List Step
   pub led : after_steps steps no_ids ≡ Ok t
   pub few : length t.sessions ≤ 65535
-  pub wide : AreWide (map (λ (x : SessionIds). x.uuid) t.sessions)
+  pub wide : AreWide (uuids_in t)
 
 -- each session has taken and generated just the ids that are finalised
 abbrev pub AreSettled : Ids → Type 0
@@ -42,29 +35,3 @@ only_finalised x = record { uuid = x.uuid; generated = x.finalised; taken = x.fi
 
 abbrev pub only_final : Ids → Ids
 only_final t = record { sessions = map only_finalised t.sessions; clusters = t.clusters }
-
--- ## Any calls
-
--- a session joins, generates an id, takes its ids, gives them back, or a range is finalised
-pub data Call : Type 0 where
-  joining : ℕ → Call
-  generating : ℕ → Call
-  taking : ℕ → Call
-  rewinding : ℕ → Call
-  finalising : IdRange → Call
-
--- the table after some calls, or the first refusal
-abbrev pub after_calls : List Call → Ids → Result Ids IdFault
-after_calls [] t = Ok t
-after_calls (joining u ∷ calls) t = and_then (after_joining u t) (λ p. after_calls calls p.1)
-after_calls (generating s ∷ calls) t = and_then (after_generating s t) (λ p. after_calls calls p.1)
-after_calls (taking s ∷ calls) t = and_then (after_taking s t) (λ p. after_calls calls p.1)
-after_calls (rewinding s ∷ calls) t = and_then (after_rewinding s t) (λ v. after_calls calls v)
-after_calls (finalising r ∷ calls) t = and_then (after_finalising r t) (λ v. after_calls calls v)
-
--- a table of 65,535 sessions at most to which some calls lead
-pub record IsReached (t : Ids) : Type 0 where
-  pub calls : List Call
-  pub led : after_calls calls no_ids ≡ Ok t
-  pub few : length t.sessions ≤ 65535
-  pub wide : AreWide (map (λ (x : SessionIds). x.uuid) t.sessions)

@@ -1,12 +1,13 @@
 //! Laws of the texts of op-space names, and of tables.
 ghost use Rattle.std.specs.Prelude.{◌≡◌, ◌<◌, ◌^◌, ℕ, ℤ, Some, Ok};
 ghost use Rattle.st_clusters.specs.Ids.{IsOpAt};
+ghost use Rattle.st_clusters.specs.Reached.{IsReached};
 ghost use Rattle.st_clusters.specs.Table.{Ids, after_joining, after_generating, after_taking, after_rewinding, after_finalising};
 ghost use Rattle.st_clusters.specs.declared.ids.IdRange.{IdRange as Range};
 ghost use Rattle.st_ids.specs.declared.names.Rev.{Rev as RevNames};
 ghost use Rattle.st_idcodec.specs.OpText.{rev_data, atom_data, rev_number, atom_numbers, IsShort};
 ghost use Rattle.st_idcodec.specs.TableText.{table_data};
-ghost use Rattle.st_idcodec.specs.Tables.{IsTable, IsReached, AreSettled, only_final};
+ghost use Rattle.st_idcodec.specs.Tables.{IsTable, AreSettled, only_final};
 
 use st_clusters::At;
 

@@ -6,7 +6,8 @@ ghost use Rattle.st_clusters.specs.Table.{Ids};
 ghost use Rattle.st_ids.specs.Or.{IfRefused};
 ghost use Rattle.st_idcodec.specs.inside.Reading.{same, cluster_of_numbers, cluster_in, cluster_of, clusters_of, with_text, uuid_of_text, uuid_of, both_items, items_in, table_items, after_uuid, after_uuid_value, after_uuids, part, front_of, rest_of, after_range, after_cluster, after_clusters, led_to, IsRead};
 ghost use Rattle.st_idcodec.specs.TableText.{uuid_text, table_data};
-ghost use Rattle.st_idcodec.specs.Tables.{no_ids, IsTable};
+ghost use Rattle.st_clusters.specs.Reached.{no_ids};
+ghost use Rattle.st_idcodec.specs.Tables.{IsTable};
 ghost use Rattle.uuid.specs.Text.{parsed};
 
 use crate::names::place_number;

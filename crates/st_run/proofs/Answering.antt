@@ -6,7 +6,7 @@ use Rattle.std.proofs.lemmas.List.{length-take, take-take}
 use Rattle.st_json.specs.declared.fault.BadCause.{BadCause}
 use Rattle.st_json.specs.declared.fault.BadCause.TheVariants.{Header}
 use Rattle.st_script.specs.Header.{HeaderView, header_line}
-use Rattle.st_script.specs.Line.{line_of}
+use Rattle.st_script.specs.Line.{step_of_line}
 use Rattle.st_script.specs.Steps.{StepView}
 use Rattle.st_lists.specs.Clients.{empty_state}
 use Rattle.st_lists.specs.declared.lists.WorldState.{WorldState}
@@ -36,7 +36,7 @@ line_other h n (Ok s) w Rest other t out is = other out.world out.rest out.follo
 
 from_other : (h : HeaderView) (w : WorldState) (n : ℕ) (ls : List (List ℕ)) → NotUsage (AnswersFrom h w n ls)
 from_other h w n [] = or_cut_short (λ (t : Output). t ≡ record { bytes = []; outcome = Done }) (λ t e is. cc)
-from_other h w n (l ∷ ls) = or_cut_short (AnswersLine h n (line_of l) w (λ v. AnswersFrom h v (n + 1) ls)) (line_other h n (line_of l) w (λ v. AnswersFrom h v (n + 1) ls) (λ v. from_other h v (n + 1) ls))
+from_other h w n (l ∷ ls) = or_cut_short (AnswersLine h n (step_of_line l) w (λ v. AnswersFrom h v (n + 1) ls)) (line_other h n (step_of_line l) w (λ v. AnswersFrom h v (n + 1) ls) (λ v. from_other h v (n + 1) ls))
 
 begun_other : (line : Result HeaderView BadCause) (Rest : HeaderView → Output → Type 0) → ((h : HeaderView) → NotUsage (Rest h)) → NotUsage (AnswersOpening line Rest)
 begun_other (Err c) Rest other t e is = cc

@@ -8,7 +8,7 @@ use Rattle.st_compat.specs.declared.compare.BadSchema.TheVariants.{Stored, View}
 use Rattle.st_compat.proofs.Deciding.{are_compared}
 use Rattle.st_script.specs.AnswerText.{answer_line}
 use Rattle.st_script.specs.Header.{HeaderView, header_line}
-use Rattle.st_script.specs.Line.{line_of}
+use Rattle.st_script.specs.Line.{step_of_line}
 use Rattle.st_script.specs.Steps.{StepView}
 use Rattle.st_script.specs.declared.answer.Answer.TheVariants as answer
 use Rattle.st_script.proofs.OfForm.{header_line_kept}
@@ -84,7 +84,7 @@ line_has h n (Ok x) w Rest s keeps rest =
 
 lines_have : (h : HeaderView) (ls : List (List ℕ)) (w : WorldState) (n : ℕ) → AreSound h w → Whole (AnswersFrom h w n ls)
 lines_have h [] w n s = (record { bytes = []; outcome = Done }, inr refl, tt)
-lines_have h (l ∷ ls) w n s = line_has h n (line_of l) w (λ v. AnswersFrom h v (n + 1) ls) s (λ x is. fits_rules x.branch x.act (line_fits l x is).1) (λ v t. lines_have h ls v (n + 1) t)
+lines_have h (l ∷ ls) w n s = line_has h n (step_of_line l) w (λ v. AnswersFrom h v (n + 1) ls) s (λ x is. fits_rules x.branch x.act (line_fits l x is).1) (λ v t. lines_have h ls v (n + 1) t)
 
 trace_has : (ls : List (List ℕ)) → Whole (AnswersTrace ls)
 trace_has [] = (bad_line 1 Header, inr refl, tt)

@@ -8,7 +8,7 @@ use Rattle.st_io.specs.Bytes.{Appends}
 use Rattle.st_json.specs.declared.fault.BadCause.{BadCause}
 use Rattle.st_script.specs.AnswerText.{answer_line}
 use Rattle.st_script.specs.Header.{HeaderView, header_line}
-use Rattle.st_script.specs.Line.{line_of}
+use Rattle.st_script.specs.Line.{step_of_line}
 use Rattle.st_script.specs.Steps.{StepView}
 use Rattle.st_script.specs.declared.answer.Answer.{Answer}
 use Rattle.st_lists.specs.Clients.{empty_state}
@@ -131,7 +131,7 @@ no_line_is_output old h w n (b ∷ bs) e = absurd (omega arith)
 
 -- where one line is left, and what follows it
 pub line_is_output : (old new : Option (List ℕ)) (h : HeaderView) (w : WorldState) (n : ℕ) (bs line after : List ℕ) (o : Outcome) → 0 < length bs → line ≡ before_first (λ b. b == 10) bs → after ≡ after_first (λ b. b == 10) bs
-    → IsOutput old new (OrCutShort (AnswersLine h n (line_of line) w (λ v. AnswersFrom h v (n + 1) (cut after)))) o → IsOutput old new (AnswersFrom h w n (cut bs)) o
+    → IsOutput old new (OrCutShort (AnswersLine h n (step_of_line line) w (λ v. AnswersFrom h v (n + 1) (cut after)))) o → IsOutput old new (AnswersFrom h w n (cut bs)) o
 line_is_output old new h w n bs line after o some is_line is_after t =
     let lines : line ∷ cut after ≡ cut bs = (λ i. is_line i ∷ cut (is_after i)) ∙ sym (cut-step bs some) in
     subst (λ (ls : List (List ℕ)). IsOutput old new (AnswersFrom h w n ls) o) lines t

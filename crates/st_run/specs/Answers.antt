@@ -12,7 +12,7 @@ use Rattle.st_compat.specs.declared.compare.BadSchema.{BadSchema}
 use Rattle.st_compat.specs.declared.compare.BadSchema.TheVariants.{Stored, View}
 use Rattle.st_script.specs.AnswerText.{answer_line}
 use Rattle.st_script.specs.Header.{HeaderView, header_line}
-use Rattle.st_script.specs.Line.{line_of}
+use Rattle.st_script.specs.Line.{step_of_line}
 use Rattle.st_script.specs.Steps.{StepView}
 use Rattle.st_script.specs.declared.answer.Answer.{Answer}
 use Rattle.st_script.specs.declared.answer.Answer.TheVariants as answer
@@ -94,7 +94,7 @@ AnswersLine h n (Ok s) w Rest out = AnswersStep h w s Rest out
 -- the answers to the lines from the n-th on, or to some first ones of them where something failed
 abbrev pub AnswersFrom : HeaderView → WorldState → ℕ → List (List ℕ) → Output → Type 0
 AnswersFrom h w n [] out = OrCutShort (λ (t : Output). t ≡ record { bytes = []; outcome = Done }) out
-AnswersFrom h w n (l ∷ ls) out = OrCutShort (AnswersLine h n (line_of l) w (λ v. AnswersFrom h v (n + 1) ls)) out
+AnswersFrom h w n (l ∷ ls) out = OrCutShort (AnswersLine h n (step_of_line l) w (λ v. AnswersFrom h v (n + 1) ls)) out
 
 -- the answer to a header, and what follows it
 pub record AnswersHeader (Rest : Output → Type 0) (out : Output) : Type 0 where

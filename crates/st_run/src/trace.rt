@@ -5,7 +5,7 @@ ghost use Rattle.st_io.specs.Bytes.{Appends};
 ghost use Rattle.st_io.specs.Counts.{Rose};
 ghost use Rattle.st_script.specs.AnswerText.{answer_line};
 ghost use Rattle.st_script.specs.Header.{header_view, header_line};
-ghost use Rattle.st_script.specs.Line.{line_of, line_view};
+ghost use Rattle.st_script.specs.Line.{step_of_line, line_view};
 ghost use Rattle.st_script.specs.Steps.{step_view};
 ghost use Rattle.st_trace.specs.Replicas.{IsSound};
 ghost use Rattle.st_lists.specs.Clients.{empty_state};
@@ -35,11 +35,11 @@ fn take_step<K: Sink>(
 ) -> Result<(), Outcome>
     requires sound { (world.old.spent ≡ false) × IsSound world.old }
     requires few { world.old.steps + 1 < 2 ^ 32 }
-    requires read { line_of line.now ≡ Ok (step_view step.now) }
-    ensures ok { OnOk result (IsLineAnswered (header_view world.old.header) (line_of line.now)
+    requires read { step_of_line line.now ≡ Ok (step_view step.now) }
+    ensures ok { OnOk result (IsLineAnswered (header_view world.old.header) (step_of_line line.now)
         world.old.lists world.new.lists (K.written sink.old) (K.written sink.new)) }
     ensures ended { IfErr result (IsOutput (K.written sink.old) (K.written sink.new)
-        (EndsAtLine (header_view world.old.header) number (line_of line.now) world.old.lists)) }
+        (EndsAtLine (header_view world.old.header) number (step_of_line line.now) world.old.lists)) }
     ensures fault { result ≡ Err Outcome.WriteFault → Rose (K.faults sink.old) (K.faults sink.new) }
     ensures later { K.faults sink.old ≤ K.faults sink.new }
     ensures sound { OnOk result ((world.new.spent ≡ false) × IsSound world.new) }
@@ -69,11 +69,11 @@ fn take_read<K: Sink>(
 ) -> Result<(), Outcome>
     requires sound { (world.old.spent ≡ false) × IsSound world.old }
     requires few { world.old.steps + 1 < 2 ^ 32 }
-    requires read { line_view read.now ≡ line_of line.now }
-    ensures ok { OnOk result (IsLineAnswered (header_view world.old.header) (line_of line.now)
+    requires read { line_view read.now ≡ step_of_line line.now }
+    ensures ok { OnOk result (IsLineAnswered (header_view world.old.header) (step_of_line line.now)
         world.old.lists world.new.lists (K.written sink.old) (K.written sink.new)) }
     ensures ended { IfErr result (IsOutput (K.written sink.old) (K.written sink.new)
-        (EndsAtLine (header_view world.old.header) number (line_of line.now) world.old.lists)) }
+        (EndsAtLine (header_view world.old.header) number (step_of_line line.now) world.old.lists)) }
     ensures fault { result ≡ Err Outcome.WriteFault → Rose (K.faults sink.old) (K.faults sink.new) }
     ensures later { K.faults sink.old ≤ K.faults sink.new }
     ensures sound { OnOk result ((world.new.spent ≡ false) × IsSound world.new) }
@@ -96,10 +96,10 @@ fn take_line<K: Sink>(
 ) -> Result<(), Outcome>
     requires sound { (world.old.spent ≡ false) × IsSound world.old }
     requires few { world.old.steps + 1 < 2 ^ 32 }
-    ensures ok { OnOk result (IsLineAnswered (header_view world.old.header) (line_of line.now)
+    ensures ok { OnOk result (IsLineAnswered (header_view world.old.header) (step_of_line line.now)
         world.old.lists world.new.lists (K.written sink.old) (K.written sink.new)) }
     ensures ended { IfErr result (IsOutput (K.written sink.old) (K.written sink.new)
-        (EndsAtLine (header_view world.old.header) number (line_of line.now) world.old.lists)) }
+        (EndsAtLine (header_view world.old.header) number (step_of_line line.now) world.old.lists)) }
     ensures fault { result ≡ Err Outcome.WriteFault → Rose (K.faults sink.old) (K.faults sink.new) }
     ensures later { K.faults sink.old ≤ K.faults sink.new }
     ensures sound { OnOk result ((world.new.spent ≡ false) × IsSound world.new) }

@@ -15,7 +15,7 @@ use Rattle.st_tree.specs.Size.{check_items}
 use Rattle.st_schema.specs.Schema.{SchemaView, is_sound}
 use Rattle.st_schema.specs.TreeText.{tree_of, tree_data, trees_data}
 use Rattle.st_schema.specs.Written.{schema_data}
-use Rattle.st_script.specs.Members.{client_named, client_in, as_small, number_in, number_or, at_least_one, one_or_more, count_of, key_within, key_or_empty, place_of, places_in, short_path, path_in, rev_in, trees_in, few, items_in, item_in, sound_schema, schema_in}
+use Rattle.st_script.specs.Members.{as_client_name, client_in, as_small, number_in, number_or, at_least_one, one_or_more, count_of, key_within, key_or_empty, as_place, places_in, short_path, path_in, rev_in, trees_in, few, items_in, item_in, sound_schema, schema_in}
 use Rattle.st_ids.specs.Numeral.{small}
 use Rattle.st_script.specs.Steps.{EditView, insert, remove, move, set, clear, ActView, join, edit, need, begin, commit, abort, fork, rebase, merge, drop_branch, undo, upgrade, sequence, ack, deliver, leave, drop_client, reconnect, show, pending, StepView, target_of, site_of, span_of, goal_of, read_insert, read_remove, read_move, read_set, read_clear, read_need, read_undo, read_upgrade, act_of, step_of}
 use Rattle.st_script.specs.StepText.{places_data, path_data, items_data, plain_data, undo_data, upgrade_data, edit_data, act_data, step_data, IsName, IsActor, IsRev, ArePlaces, IsPath, IsTarget, IsSpan, AreShown, AreItems, FitsEdit, FitsAct, FitsLine}
@@ -34,14 +34,14 @@ passed b o y e g = ap (λ (c : Bool). cond c o None) e ∙ g
 
 -- ---- members
 
-name_kept : (t : List ℕ) → IsName t → client_named t ≡ Some t
+name_kept : (t : List ℕ) → IsName t → as_client_name t ≡ Some t
 name_kept t h =
     let some : nat_le 1 (length t) ≡ true = grind (arith, nat_tests, h.0) in
     let few : nat_le (length t) 64 ≡ true = grind (arith, nat_tests, h.1) in
     (λ i. cond (some i && few i) (Some t) None)
 
 client_kept : (d : Data) (t : List ℕ) → get (codes "client") d ≡ Some (string t) → IsName t → client_in d ≡ Some t
-client_kept d t there h = ap (λ (o : Option Data). option_and_then client_named (option_and_then as_str o)) there ∙ name_kept t h
+client_kept d t there h = ap (λ (o : Option Data). option_and_then as_client_name (option_and_then as_str o)) there ∙ name_kept t h
 
 small_kept : (n : ℕ) → n < 2 ^ 32 → small n ≡ Some n
 small_kept n h = let low : nat_lt n (2 ^ 32) ≡ true = grind (arith, nat_tests) in ap (λ (b : Bool). cond b (Some n) None) low
@@ -63,7 +63,7 @@ key_kept k h = let short : nat_le (length k.0) 64 ≡ true = grind (arith, nat_t
 key_or_kept : (o : Option Data) (k : Key) → o ≡ Some (string k.0) → length k.0 ≤ 64 → key_or_empty o ≡ Some k
 key_or_kept o k there h = ap key_or_empty there ∙ key_kept k h
 
-place_kept : (p : Place) → length p.key.0 ≤ 64 → p.index < 2 ^ 32 → place_of (string p.key.0) (number (unsigned p.index)) ≡ Some p
+place_kept : (p : Place) → length p.key.0 ≤ 64 → p.index < 2 ^ 32 → as_place (string p.key.0) (number (unsigned p.index)) ≡ Some p
 place_kept p short low =
     let f : ℕ → Key → Place = λ index key. record { key = key; index = index } in
     option_and_then-of_some (λ index. option_map (f index) (key_within p.key.0)) (small p.index) p.index (Some p) (small_kept p.index low) (ap (option_map (f p.index)) (key_kept p.key short))
@@ -71,7 +71,7 @@ place_kept p short low =
 places_kept : (ps : List Place) → ArePlaces ps → places_in (items_of (places_data ps)) ≡ Some ps
 places_kept [] h = refl
 places_kept (p ∷ ps) h =
-    option_and_then-of_some (λ (q : Place). option_map (λ (qs : List Place). q ∷ qs) (places_in (items_of (places_data ps)))) (place_of (string p.key.0) (number (unsigned p.index))) p (Some (p ∷ ps))
+    option_and_then-of_some (λ (q : Place). option_map (λ (qs : List Place). q ∷ qs) (places_in (items_of (places_data ps)))) (as_place (string p.key.0) (number (unsigned p.index))) p (Some (p ∷ ps))
     (place_kept p h.0 h.1) (ap (option_map (λ (qs : List Place). p ∷ qs)) (places_kept ps h.2))
 
 path_kept : (name : List ℕ) (d : Data) (ps : List Place) → get name d ≡ Some (path_data ps) → IsPath ps → path_in name d ≡ Some ps

@@ -21,10 +21,10 @@ use Rattle.st_tree.specs.declared.limits.TreeFault.{TreeFault}
 use Rattle.st_schema.specs.Reading.{schema_of}
 use Rattle.st_schema.specs.Schema.{SchemaView, is_sound}
 use Rattle.st_schema.specs.TreeText.{tree_of, tree_in, tree_data, within_limits}
-use Rattle.st_script.specs.Line.{line_of, step_of_value}
-use Rattle.st_script.specs.Members.{client_named, client_in, as_small, number_in, number_or, at_least_one, one_or_more, count_of, key_within, key_of, key_or_empty, place_of, places_in, short_path, path_in, rev_in, trees_in, few, items_in, item_in, sound_schema, schema_in}
+use Rattle.st_script.specs.Line.{step_of_line, step_of_value}
+use Rattle.st_script.specs.Members.{as_client_name, client_in, as_small, number_in, number_or, at_least_one, one_or_more, count_of, key_within, key_of, key_or_empty, as_place, places_in, short_path, path_in, rev_in, trees_in, few, items_in, item_in, sound_schema, schema_in}
 use Rattle.st_ids.specs.Numeral.{small}
-use Rattle.st_script.specs.Steps.{EditView, insert, remove, move, set, clear, ActView, join, edit, need, begin, commit, abort, fork, rebase, merge, drop_branch, undo, upgrade, sequence, ack, deliver, leave, drop_client, reconnect, show, pending, StepView, IsEditWithin, IsActWithin, IsWithinLimits, same, target_of, site_of, span_of, goal_of, plain_act, read_insert, read_remove, read_move, read_set, read_clear, read_need, read_undo, read_upgrade, read_edit, read_of, word_of, act_of, step_of}
+use Rattle.st_script.specs.Steps.{EditView, insert, remove, move, set, clear, ActView, join, edit, need, begin, commit, abort, fork, rebase, merge, drop_branch, undo, upgrade, sequence, ack, deliver, leave, drop_client, reconnect, show, pending, StepView, IsEditWithin, IsActWithin, IsWithinLimits, same, target_of, site_of, span_of, goal_of, plain_act, read_insert, read_remove, read_move, read_set, read_clear, read_need, read_undo, read_upgrade, read_edit, read_of, step_word, act_of, step_of}
 use Rattle.st_script.specs.StepText.{IsName, IsRev, ArePlaces, IsPath, IsTarget, IsSpan, IsShown, AreShown, AreItems, FitsEdit, FitsAct, FitsLine}
 use Rattle.st_script.specs.declared.read.Goal.{Goal}
 use Rattle.st_script.specs.declared.read.Span.{Span}
@@ -70,11 +70,11 @@ IsKey k = length k.0 ≤ 64
 abbrev IsPlace : Place → Type 0
 IsPlace p = (length p.key.0 ≤ 64) × (p.index < 2 ^ 32)
 
-name_fits : (t : List ℕ) → Holds IsName (client_named t)
+name_fits : (t : List ℕ) → Holds IsName (as_client_name t)
 name_fits t = Holds-cond IsName (nat_le 1 (length t) && nat_le (length t) 64) (Some t) None (λ h. let b = and-true (nat_le 1 (length t)) (nat_le (length t) 64) h in (at_most 1 (length t) b.0, at_most (length t) 64 b.1)) tt
 
 client_fits : (d : Data) → Holds IsName (client_in d)
-client_fits d = Holds-and_then Any IsName client_named (λ t _. name_fits t) (option_and_then as_str (get (codes "client") d)) (any _)
+client_fits d = Holds-and_then Any IsName as_client_name (λ t _. name_fits t) (option_and_then as_str (get (codes "client") d)) (any _)
 
 small_fits : (n : ℕ) → Holds IsSmall (small n)
 small_fits n = Holds-cond IsSmall (nat_lt n (2 ^ 32)) (Some n) None (λ h. below n (2 ^ 32) h) tt
@@ -106,7 +106,7 @@ key_or_fits : (o : Option Data) → Holds IsKey (key_or_empty o)
 key_or_fits None = omega arith
 key_or_fits (Some d) = key_of_fits d
 
-place_fits : (k i : Data) → Holds IsPlace (place_of k i)
+place_fits : (k i : Data) → Holds IsPlace (as_place k i)
 place_fits k i =
     Holds-and_then IsSmall IsPlace (λ index. option_map (λ key. record { key = key; index = index }) (key_of k))
     (λ n low. Holds-map IsKey IsPlace (λ key. record { key = key; index = n }) (λ c short. (short, low)) (key_of k) (key_of_fits k)) (as_small i) (value_fits i)
@@ -116,7 +116,7 @@ places_fit no_items = tt
 places_fit (item k no_items) = tt
 places_fit (item k (item i ds)) =
     Holds-and_then IsPlace ArePlaces (λ (p : Place). option_map (λ (ps : List Place). p ∷ ps) (places_in ds))
-    (λ p here. Holds-map ArePlaces ArePlaces (λ (ps : List Place). p ∷ ps) (λ ps rest. (here.0, here.1, rest)) (places_in ds) (places_fit ds)) (place_of k i) (place_fits k i)
+    (λ p here. Holds-map ArePlaces ArePlaces (λ (ps : List Place). p ∷ ps) (λ ps rest. (here.0, here.1, rest)) (places_in ds) (places_fit ds)) (as_place k i) (place_fits k i)
 
 short_fits : (ps : List Place) → ArePlaces ps → Holds IsPath (short_path ps)
 short_fits ps h = Holds-cond IsPath (nat_lt (length ps) (2 ^ 32)) (Some ps) None (λ short. (below (length ps) (2 ^ 32) short, h)) tt
@@ -319,7 +319,7 @@ module _ (d : Data) (b : ℕ) (is_branch : number_or 0 (get (codes "branch") d) 
       (either (same word (codes "pending")) _ _ (main_fits pending (λ zero. zero)) (edit_word_fits word sound)))))))))))))))))))
 
   act_fits : Sound d → Fits (act_of d)
-  act_fits sound = Holds-and_then Any (FitsAct b) (λ word. read_of word d) (λ word _. word_fits word sound) (word_of d) (any _)
+  act_fits sound = Holds-and_then Any (FitsAct b) (λ word. read_of word d) (λ word _. word_fits word sound) (step_word d) (any _)
 
 -- ---- steps
 
@@ -338,7 +338,7 @@ value_step_fits d sound =
     branch (Holds-itself IsSmall branch (number_or_fits (get (codes "branch") d)))
 
 -- the step of a line is one that a line can hold
-pub line_fits : (bytes : List ℕ) (s : StepView) → line_of bytes ≡ Ok s → FitsLine s
+pub line_fits : (bytes : List ℕ) (s : StepView) → step_of_line bytes ≡ Ok s → FitsLine s
 line_fits bytes s e = go (line_value bytes) (line_sound bytes) e
   where
     step : (o : Option StepView) → Holds FitsLine o → ok_or o BadCause.Shape ≡ Ok s → FitsLine s

@@ -8,7 +8,7 @@ use Rattle.st_json.specs.declared.fault.BadCause.{BadCause}
 use Rattle.st_json.proofs.Rising.{Holds}
 use Rattle.st_schema.specs.Schema.{is_sound}
 use Rattle.st_script.specs.Header.{HeaderView, header_line, header_or_cause, header_of, header_that_opens, may_open, parts_of, tree_in, history_or_64, is_begun}
-use Rattle.st_script.specs.Line.{line_of}
+use Rattle.st_script.specs.Line.{step_of_line}
 use Rattle.st_script.specs.Members.{schema_in}
 use Rattle.st_script.specs.Steps.{StepView, IsWithinLimits}
 use Rattle.st_script.proofs.Fits.{KeepsRules, schema_fits, line_fits, fits_form}
@@ -23,7 +23,7 @@ guarded false o y e = absurd cc
 -- ## Steps
 
 -- the step of a line keeps the limits
-pub line_formed : (bytes : List ℕ) (s : StepView) → line_of bytes ≡ Ok s → IsWithinLimits s
+pub line_formed : (bytes : List ℕ) (s : StepView) → step_of_line bytes ≡ Ok s → IsWithinLimits s
 line_formed bytes s e = fits_form s (line_fits bytes s e)
 
 -- ## Headers

@@ -21,9 +21,9 @@ use Rattle.st_schema.specs.Shape.{has_shape, all_have_shape}
 use Rattle.st_schema.specs.TreeText.{tree_of}
 use Rattle.st_schema.proofs.Holds.{Holds-cond}
 use Rattle.st_schema.proofs.Shaped.{IsShaped, shown_shaped}
-use Rattle.st_script.specs.Line.{line_of, step_of_value}
+use Rattle.st_script.specs.Line.{step_of_line, step_of_value}
 use Rattle.st_script.specs.Members.{client_in, number_in, number_or, path_in, rev_in, trees_in, few, items_in, item_in, schema_in}
-use Rattle.st_script.specs.Steps.{insert, remove, move, set, clear, ActView, join, edit, need, begin, commit, abort, fork, rebase, merge, drop_branch, undo, upgrade, sequence, ack, deliver, leave, drop_client, reconnect, show, pending, StepView, same, site_of, span_of, goal_of, read_insert, read_remove, read_move, read_set, read_clear, read_need, read_undo, read_upgrade, read_edit, read_of, word_of, act_of, step_of}
+use Rattle.st_script.specs.Steps.{insert, remove, move, set, clear, ActView, join, edit, need, begin, commit, abort, fork, rebase, merge, drop_branch, undo, upgrade, sequence, ack, deliver, leave, drop_client, reconnect, show, pending, StepView, same, site_of, span_of, goal_of, read_insert, read_remove, read_move, read_set, read_clear, read_need, read_undo, read_upgrade, read_edit, read_of, step_word, act_of, step_of}
 use Rattle.st_script.specs.StepText.{act_has_shape, trees_have_shape}
 use Rattle.st_script.specs.declared.read.Goal.{Goal}
 use Rattle.st_script.specs.declared.read.Span.{Span}
@@ -201,7 +201,7 @@ word_shaped word d rise =
     (either (same word (codes "pending")) _ _ (only (codes "client do") d (Some pending) refl) (edit_word_shaped word d rise)))))))))))))))))))
 
 act_shaped : (d : Data) → NamesRise d → Shaped (act_of d)
-act_shaped d rise = bound IsAct (λ word. read_of word d) (λ word. word_shaped word d rise) (word_of d)
+act_shaped d rise = bound IsAct (λ word. read_of word d) (λ word. word_shaped word d rise) (step_word d)
 
 -- ---- steps
 
@@ -215,7 +215,7 @@ value_step_shaped d rise =
     (λ b. bound IsStep (λ c. option_map (step b c) (act_of d)) (λ c. Holds-map IsAct IsStep (step b c) (λ a h. h) (act_of d) (act_shaped d rise)) (client_in d)) (number_or 0 (get (codes "branch") d))
 
 -- the step of a line
-pub line_shaped : (bytes : List ℕ) (s : StepView) → line_of bytes ≡ Ok s → trees_have_shape s ≡ true
+pub line_shaped : (bytes : List ℕ) (s : StepView) → step_of_line bytes ≡ Ok s → trees_have_shape s ≡ true
 line_shaped bytes s e = go (line_value bytes) (line_rises bytes) e
   where
     step : (o : Option StepView) → Holds IsStep o → ok_or o BadCause.Shape ≡ Ok s → trees_have_shape s ≡ true

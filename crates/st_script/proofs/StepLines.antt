@@ -14,7 +14,7 @@ use Rattle.st_tree.specs.Node.{Node, nodes_of}
 use Rattle.st_schema.specs.TreeText.{trees_data}
 use Rattle.st_schema.proofs.Plain.{schema_plain, schema_low}
 use Rattle.st_schema.proofs.PlainTrees.{tree_plain, tree_low, items_low}
-use Rattle.st_script.specs.Line.{line_of, step_of_value}
+use Rattle.st_script.specs.Line.{step_of_line, step_of_value}
 use Rattle.st_script.specs.Steps.{EditView, insert, remove, move, set, clear, ActView, join, edit, need, begin, commit, abort, fork, rebase, merge, drop_branch, undo, upgrade, sequence, ack, deliver, leave, drop_client, reconnect, show, pending, StepView}
 use Rattle.st_script.specs.StepText.{places_data, edit_data, act_data, step_data, step_text, edit_limits, act_limits, limits_of, trees_have_shape, IsReadBack, FitsLine}
 use Rattle.st_script.proofs.Again.{read_again}
@@ -110,7 +110,7 @@ text_read s d text back =
     let whole : (utf8_valid_len (string_bytes s) == length (string_bytes s)) ≡ true = eq-eqb _ _ (utf8_valid_len-IsUtf8 (string_bytes s) (IsUtf8-string_bytes s)) in
     subst (λ (x : List ℕ). line_value x ≡ Some d) text (ap (λ (b : Bool). if b then read (string_bytes s) else None) whole ∙ back)
 
-pub line_again : (s : StepView) (d : Data) → d ≡ step_data s → line_value (compact_text d) ≡ Some d → FitsLine s → line_of (step_text s) ≡ Ok s
+pub line_again : (s : StepView) (d : Data) → d ≡ step_data s → line_value (compact_text d) ≡ Some d → FitsLine s → step_of_line (step_text s) ≡ Ok s
 line_again s d is back fits =
     let told : line_value (step_text s) ≡ Some (step_data s) = subst (λ (e : Data). line_value (compact_text e) ≡ Some e) is back in
     ap step_of_value told ∙ ap (λ (o : Option StepView). ok_or o BadCause.Shape) (read_again s fits)
@@ -122,13 +122,13 @@ told_text (Ok t) s d is h = λ form. h (ap has_float (is form) ∙ step_plain s)
 told_text (Err e) s d is h = tt
 
 pub told_back : {T E : Type 0} (r : Result T E) (s : StepView) (d : Data) → limits_of s ≡ Ok tt → (trees_have_shape s ≡ true → d ≡ step_data s)
-    → OnOk r (has_float d ≡ false → depth d ≤ max_depth → line_value (compact_text d) ≡ Some d) → OnOk r (trees_have_shape s ≡ true → FitsLine s → line_of (step_text s) ≡ Ok s)
+    → OnOk r (has_float d ≡ false → depth d ≤ max_depth → line_value (compact_text d) ≡ Some d) → OnOk r (trees_have_shape s ≡ true → FitsLine s → step_of_line (step_text s) ≡ Ok s)
 told_back (Ok t) s d within is h = λ form fits.
     line_again s d (is form) (h (ap has_float (is form) ∙ step_plain s) (subst (λ (e : Data). depth e ≤ max_depth) (sym (is form)) (step_low s within))) fits
 told_back (Err e) s d within is h = tt
 
 -- the line of a step that a line is
 pub told_again : {E : Type 0} (r : Result (List ℕ) E) (s : StepView) → IfOk r (λ t. trees_have_shape s ≡ true → t ≡ step_text s ++ 10 ∷ [])
-    → OnOk r (trees_have_shape s ≡ true → FitsLine s → line_of (step_text s) ≡ Ok s) → IfOk r (λ t. (bytes : List ℕ) → line_of bytes ≡ Ok s → IsReadBack t s)
+    → OnOk r (trees_have_shape s ≡ true → FitsLine s → step_of_line (step_text s) ≡ Ok s) → IfOk r (λ t. (bytes : List ℕ) → step_of_line bytes ≡ Ok s → IsReadBack t s)
 told_again (Ok t) s text back = λ bytes is. (text (line_shaped bytes s is), back (line_shaped bytes s is) (line_fits bytes s is))
 told_again (Err e) s text back = tt

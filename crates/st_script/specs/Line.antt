@@ -18,5 +18,5 @@ abbrev pub step_of_value : Option Data → Result StepView BadCause
 step_of_value None = Err BadCause.Json
 step_of_value (Some d) = ok_or (step_of d) BadCause.Shape
 
-abbrev pub line_of : List ℕ → Result StepView BadCause
-line_of bytes = step_of_value (line_value bytes)
+abbrev pub step_of_line : List ℕ → Result StepView BadCause
+step_of_line bytes = step_of_value (line_value bytes)

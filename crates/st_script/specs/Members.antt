@@ -14,11 +14,11 @@ use Rattle.st_schema.specs.TreeText.{tree_of}
 use Rattle.st_ids.specs.Numeral.{small}
 
 -- a client's name has 1 to 64 bytes
-abbrev pub client_named : List ℕ → Option (List ℕ)
-client_named t = if nat_le 1 (length t) && nat_le (length t) 64 then Some t else None
+abbrev pub as_client_name : List ℕ → Option (List ℕ)
+as_client_name t = if nat_le 1 (length t) && nat_le (length t) 64 then Some t else None
 
 abbrev pub client_in : Data → Option (List ℕ)
-client_in d = option_and_then client_named (option_and_then as_str (get (codes "client") d))
+client_in d = option_and_then as_client_name (option_and_then as_str (get (codes "client") d))
 
 abbrev pub as_small : Data → Option ℕ
 as_small d = option_and_then small (option_and_then as_u64 (as_number d))
@@ -55,14 +55,14 @@ abbrev pub key_or_empty : Option Data → Option Key
 key_or_empty None = Some (record { 0 = [] })
 key_or_empty (Some d) = key_of d
 
-abbrev pub place_of : Data → Data → Option Place
-place_of k i = option_and_then (λ index. option_map (λ key. record { key = key; index = index }) (key_of k)) (as_small i)
+abbrev pub as_place : Data → Data → Option Place
+as_place k i = option_and_then (λ index. option_map (λ key. record { key = key; index = index }) (key_of k)) (as_small i)
 
 -- keys and indexes in turn
 abbrev pub places_in : Items → Option (List Place)
 places_in no_items = Some []
 places_in (item k no_items) = None
-places_in (item k (item i ds)) = option_and_then (λ p. option_map (λ ps. p ∷ ps) (places_in ds)) (place_of k i)
+places_in (item k (item i ds)) = option_and_then (λ p. option_map (λ ps. p ∷ ps) (places_in ds)) (as_place k i)
 
 -- a path has fewer than 2^32 places, as each path has that a line of an input holds
 abbrev pub short_path : List Place → Option (List Place)

@@ -14,7 +14,7 @@ use Rattle.st_schema.specs.Schema.{SchemaView, is_sound}
 use Rattle.st_schema.specs.Shape.{has_shape, all_have_shape}
 use Rattle.st_schema.specs.TreeText.{tree_data, trees_data, tree_of}
 use Rattle.st_schema.specs.Written.{schema_data}
-use Rattle.st_script.specs.Line.{line_of}
+use Rattle.st_script.specs.Line.{step_of_line}
 use Rattle.st_script.specs.Steps.{EditView, insert, remove, move, set, clear, ActView, join, edit, need, begin, commit, abort, fork, rebase, merge, drop_branch, undo, upgrade, sequence, ack, deliver, leave, drop_client, reconnect, show, pending, StepView}
 
 -- keys and indexes in turn
@@ -248,4 +248,4 @@ FitsLine s = IsActor s.client s.branch × FitsAct s.branch s.act
 
 -- a line is the step's, and without its line feed is read as that step
 abbrev pub IsReadBack : List ℕ → StepView → Type 0
-IsReadBack line s = (line ≡ step_text s ++ 10 ∷ []) × (line_of (step_text s) ≡ Ok s)
+IsReadBack line s = (line ≡ step_text s ++ 10 ∷ []) × (step_of_line (step_text s) ≡ Ok s)

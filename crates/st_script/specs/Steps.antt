@@ -248,12 +248,12 @@ read_of word d =
     if same word (codes "pending") then plain_act (codes "client do") pending d else read_edit word d
 
 -- the word of a step
-abbrev pub word_of : Data → Option (List ℕ)
-word_of d = option_and_then as_str (get (codes "do") d)
+abbrev pub step_word : Data → Option (List ℕ)
+step_word d = option_and_then as_str (get (codes "do") d)
 
 -- what a value does, by its word
 abbrev pub act_of : Data → Option ActView
-act_of d = option_and_then (λ word. read_of word d) (word_of d)
+act_of d = option_and_then (λ word. read_of word d) (step_word d)
 
 -- ## Steps
 

@@ -3,7 +3,7 @@ ghost use Rattle.std.specs.Prelude.{◌≡◌, IfOk};
 ghost use Rattle.std.specs.Option.{ok_or};
 ghost use Rattle.serde_json.specs.View.{view};
 ghost use Rattle.st_script.specs.Steps.{step_of};
-ghost use Rattle.st_script.specs.Line.{line_view, line_of};
+ghost use Rattle.st_script.specs.Line.{line_view, step_of_line};
 
 use crate::read::read_step;
 use crate::step::TraceStep;
@@ -32,7 +32,7 @@ fn step_of_value(alloc: Global, value: &Value) -> Result<Line, AllocError>
 /// What a line is, given without its line feed: `Json` where the bytes have no reading, `Shape`
 /// where the value is no step.
 pub fn read_step_line(alloc: Global, bytes: &[u8]) -> Result<Line, AllocError>
-    ensures { IfOk result (λ l. line_view l ≡ line_of bytes.now) }
+    ensures { IfOk result (λ l. line_view l ≡ step_of_line bytes.now) }
 {
     match read_line(alloc, bytes) {
         Ok(value) => step_of_value(alloc, &value),

@@ -5,7 +5,7 @@ ghost use Rattle.serde_json.specs.Find.{get};
 ghost use Rattle.st_json.specs.Look.{has_only};
 ghost use Rattle.st_schema.specs.TreeText.{tree_of};
 ghost use Rattle.st_tree.specs.Node.{view};
-ghost use Rattle.st_script.specs.Members.{as_small, number_in, number_or, at_least_one, count_of, client_in, key_within, key_of, key_or_empty, place_of, places_in, short_path, path_in, rev_in, trees_in, few, items_in, item_in, sound_schema, schema_in};
+ghost use Rattle.st_script.specs.Members.{as_small, number_in, number_or, at_least_one, count_of, client_in, key_within, key_of, key_or_empty, as_place, places_in, short_path, path_in, rev_in, trees_in, few, items_in, item_in, sound_schema, schema_in};
 
 use serde_json::Value;
 use st_ids::{Key, List, Or, Path, Place, Rev, Text};
@@ -126,7 +126,7 @@ pub(crate) fn key_member(
 
 // The place of a key and an index.
 fn place(alloc: Global, key: &Value, index: &Value) -> Result<Option<Place>, AllocError>
-    ensures { IfOk result (λ p. p ≡ place_of (value_view key.now) (value_view index.now)) }
+    ensures { IfOk result (λ p. p ≡ as_place (value_view key.now) (value_view index.now)) }
 {
     let Some(index) = small_number(index) else {
         return Ok(None);

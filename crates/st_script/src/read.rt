@@ -1,7 +1,7 @@
 //! Steps read from the value of a line.
 ghost use Rattle.std.specs.Prelude.{◌≡◌, codes, IfOk, option_map};
 ghost use Rattle.serde_json.specs.View.{view};
-ghost use Rattle.st_script.specs.Steps.{target_of, span_of, goal_of, act_view, step_view, word_of, plain_act, read_insert, read_remove, read_move, read_set, read_clear, read_need, read_undo, read_upgrade, read_edit, read_of, act_of, step_of};
+ghost use Rattle.st_script.specs.Steps.{target_of, span_of, goal_of, act_view, step_view, step_word, plain_act, read_insert, read_remove, read_move, read_set, read_clear, read_need, read_undo, read_upgrade, read_edit, read_of, act_of, step_of};
 
 use crate::member::{
     client, count, has_only, item, items, key_member, number_member, number_or_zero, path_member,
@@ -269,7 +269,7 @@ fn read_of(alloc: Global, word: &str, value: &Value) -> Result<Option<Act>, Allo
 
 // The word of a step.
 fn word(value: &Value) -> Option<&str>
-    ensures { option_map (λ t. t.now) result ≡ word_of (view value.now) }
+    ensures { option_map (λ t. t.now) result ≡ step_word (view value.now) }
 {
     value.get("do")?.as_str()
 }

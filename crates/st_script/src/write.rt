@@ -11,7 +11,7 @@ ghost use Rattle.st_schema.specs.TreeText.{tree_data, trees_data};
 ghost use Rattle.st_schema.specs.Written.{schema_data};
 ghost use Rattle.st_tree.specs.Node.{view, trees_view};
 ghost use Rattle.st_tree.specs.Size.{check_of, check_items};
-ghost use Rattle.st_script.specs.Line.{line_of};
+ghost use Rattle.st_script.specs.Line.{step_of_line};
 ghost use Rattle.st_script.specs.Steps.{edit_view, step_view};
 ghost use Rattle.st_script.specs.StepText.{places_data, path_data, items_data, plain_data, actor_members, need_data, undo_data, upgrade_data, site_members, edit_data, step_data, step_text, edit_limits, limits_of, edit_has_shape, trees_have_shape, IsReadBack, FitsLine};
 
@@ -400,8 +400,8 @@ fn limits(step: &TraceStep) -> Result<(), TreeFault>
 fn line_within(alloc: Global, step: &TraceStep) -> Result<Text, AllocError>
     requires { limits_of (step_view step.now) ≡ Ok tt }
     ensures text { IfOk result (λ t. trees_have_shape (step_view step.now) ≡ true → t ≡ step_text (step_view step.now) ++ 10 ∷ []) }
-    ensures back { OnOk result (trees_have_shape (step_view step.now) ≡ true → FitsLine (step_view step.now) → line_of (step_text (step_view step.now)) ≡ Ok (step_view step.now)) }
-    ensures again { IfOk result (λ t. (bytes : Seq ℕ) → line_of bytes ≡ Ok (step_view step.now) → IsReadBack t (step_view step.now)) }
+    ensures back { OnOk result (trees_have_shape (step_view step.now) ≡ true → FitsLine (step_view step.now) → step_of_line (step_text (step_view step.now)) ≡ Ok (step_view step.now)) }
+    ensures again { IfOk result (λ t. (bytes : Seq ℕ) → step_of_line bytes ≡ Ok (step_view step.now) → IsReadBack t (step_view step.now)) }
 {
     let value = step_value(alloc, step)?;
     value_line(alloc, &value)
@@ -416,8 +416,8 @@ pub fn step_line(alloc: Global, step: &TraceStep) -> Result<Text, Or<TreeFault>>
     ensures text { IfOk result (λ t. trees_have_shape (step_view step.now) ≡ true → t ≡ step_text (step_view step.now) ++ 10 ∷ []) }
     ensures within { OnOk result (limits_of (step_view step.now) ≡ Ok tt) }
     ensures bad { IfRefused result (λ e. limits_of (step_view step.now) ≡ Err e) }
-    ensures back { OnOk result (trees_have_shape (step_view step.now) ≡ true → FitsLine (step_view step.now) → line_of (step_text (step_view step.now)) ≡ Ok (step_view step.now)) }
-    ensures again { IfOk result (λ t. (bytes : Seq ℕ) → line_of bytes ≡ Ok (step_view step.now) → IsReadBack t (step_view step.now)) }
+    ensures back { OnOk result (trees_have_shape (step_view step.now) ≡ true → FitsLine (step_view step.now) → step_of_line (step_text (step_view step.now)) ≡ Ok (step_view step.now)) }
+    ensures again { IfOk result (λ t. (bytes : Seq ℕ) → step_of_line bytes ≡ Ok (step_view step.now) → IsReadBack t (step_view step.now)) }
 {
     match limits(step) {
         Err(fault) => Err(Or::Fault(fault)),

@@ -3,7 +3,7 @@ use Rattle.st_schema.specs.Schema.{SchemaView}
 use Rattle.std.proofs.Common.{Ok, Err, inl, inr, subst, None, true, is_some, Some, IfOk, Option, Result, slice_get, ◌⊎◌, ◌≡◌, ◌∙◌, ℕ, List, refl, sym, ap, false}
 use Rattle.st_lists.specs.Lines.{main_line, line_of, Line}
 use Rattle.st_script.specs.Steps.{act_view, ActView, IsEditWithin, IsWithinLimits, edit, edit_view, step_view}
-use Rattle.st_script.specs.Line.{line_view, line_of as line_read}
+use Rattle.st_script.specs.Line.{line_view, step_of_line as line_read}
 use Rattle.st_edits.specs.Resolve.{IsWithin, resolve}
 use Rattle.st_script.specs.Header.{HeaderView}
 use Rattle.st_script.specs.declared.step.TraceStep.{TraceStep}

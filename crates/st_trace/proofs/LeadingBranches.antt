@@ -1,20 +1,14 @@
 -- From lists of which holds what steps keep, each step of branches leads on.
 use Rattle.st_trace.proofs.Clients.{head_sound}
-use Rattle.std.proofs.Common.{Bool, List, None, Option, Some, [], cond, false, refl, true, ℕ, ◌∷◌, ◌≡◌}
+use Rattle.std.proofs.Common.{Bool, List, None, Option, Some, cond, false, refl, true, ℕ, ◌≡◌}
 use Rattle.std.specs.List.{slice_get, slice_set}
-use Rattle.st_heads.specs.Remembered.{is_void}
 use Rattle.st_ids.specs.declared.names.Rev.{Rev}
 use Rattle.st_lists.specs.Lines.{HasHead, Line, branch_of, commits_of, has_children, line_of, with_base, with_commits_on, without_branch}
 use Rattle.st_lists.specs.declared.lists.Branch.{Branch}
 use Rattle.st_lists.specs.declared.lists.Client.{Client}
 use Rattle.st_lists.specs.declared.lists.WorldState.{WorldState}
 use Rattle.st_log_laws.proofs.Turns.{has_run, rest as rest_fit}
-use Rattle.st_log_laws.proofs.Verdicts.{has_verdict}
-use Rattle.st_log_laws.specs.Turns.{FitInTurn}
-use Rattle.st_marks.proofs.OneVerdict.{carried_extends}
-use Rattle.st_marks.specs.Document.{Document, IsSoundInForm}
-use Rattle.st_marks.specs.Verdict.{carried_document}
-use Rattle.st_marks.specs.declared.intents.Intent.{Intent}
+use Rattle.st_marks.specs.Document.{Document}
 use Rattle.st_script.specs.Header.{HeaderView}
 use Rattle.st_script.specs.declared.answer.Answer.{Answer}
 use Rattle.st_script.specs.declared.answer.Answer.TheVariants.{DropBranch, Merge, No, Rebase}

@@ -50,7 +50,7 @@ use Rattle.st_lists.specs.declared.lists.Entry.{Entry}
 use Rattle.st_lists.proofs.Logs.{commits_split}
 use Rattle.st_trace.specs.Kept.{Unless}
 use Rattle.st_trace.specs.Logged.{AreLogged, IsLogged}
-use Rattle.st_trace.specs.Undo.{IsUndone, IsUndoneAt, has_commit, has_rev, is_gone, number_of, refusal_of_rev, refusal_over}
+use Rattle.st_trace.specs.Undo.{IsUndone, IsUndoneAt, has_commit, has_rev, is_gone, entry_number, refusal_of_rev, refusal_over}
 use Rattle.st_trace.specs.World.{last_in_effect}
 use Rattle.st_trace.specs.declared.logged.Logged.{Logged}
 use Rattle.st_trace.specs.inside.Undo.{logged_of, logged_within, undone, way_at, way_logged, way_of, way_over, way_pending, way_within}
@@ -96,10 +96,6 @@ no_place {X} p xs x e h t = go (nat_lt (position_or_len p xs) (length xs)) refl 
     go : (b : Bool) → nat_lt (position_or_len p xs) (length xs) ≡ b → ◌≡◌ {A = Option ℕ} (cond b (Some (position_or_len p xs)) None) None → ⊥
     go true b e = absurd (cc)
     go false b e = let past : length xs ≤ position_or_len p xs = grind (arith, nat_tests) in absurd (omega (arith, past, place_within p xs x h t))
-
-none_if : {X : Type 0} (o : Option X) → is_some o ≡ false → o ≡ None
-none_if None e = refl
-none_if (Some x) e = cc
 
 -- the commits of some entries around that of one
 commits_at : (es : List Entry) (i : ℕ) (e : Entry) (N : Intent) → slice_get es i ≡ Some e → commit_of e ≡ Some N → commits_in es ≡ commits_in (take i es) ++ N ∷ commits_in (drop (i + 1) es)
@@ -193,7 +189,7 @@ module _ (O : Document) (list : List Intent) (c : Client) (rev : Rev) where
             after = E;
             is_at = subst (λ w. IsAt O list rev N x.before w) sound x.at;
             now = run;
-            back = subst (λ u. IsBack x.before (full x.before N) (next_rev c) u B) is (x.carried.back sound (none_if N.schema (sym x.schema ∙ f)) (next_rev c) under);
+            back = subst (λ u. IsBack x.before (full x.before N) (next_rev c) u B) is (x.carried.back sound (next_rev c) under);
           }
 
 -- ## The list of a client
@@ -297,7 +293,7 @@ module _ (O : Document) (history : ℕ) (log : List Entry) (c : Client) (rev : R
             schema = x.is_schema;
           }
 
-      number : number_of rev log c ≡ Some l.n
+      number : entry_number rev log c ≡ Some l.n
       number = go (find (has_commit rev) (take c.received log)) refl
         where
           f : (i : ℕ) × (e : Entry) × (N : Intent) × (slice_get log i ≡ Some e) × (commit_of e ≡ Some N) × (N.rev ≡ rev) × IsLogged O log i e N l
@@ -306,7 +302,7 @@ module _ (O : Document) (history : ℕ) (log : List Entry) (c : Client) (rev : R
           there : Has (take c.received log) f.1
           there = at_has (take c.received log) f.0 f.1 (get_take log c.received f.0 (omega (arith, within, f.6.n, f.6.numbered)) ∙ f.3)
 
-          go : (o : Option Entry) → find (has_commit rev) (take c.received log) ≡ o → number_of rev log c ≡ Some l.n
+          go : (o : Option Entry) → find (has_commit rev) (take c.received log) ≡ o → entry_number rev log c ≡ Some l.n
           go None e = absurd (true-false (has_commit_by rev f.1 f.2 f.4 f.5) (none-has (has_commit rev) (take c.received log) f.1 e there))
           go (Some y) e =
               let h = first-has (has_commit rev) (take c.received log) y e in

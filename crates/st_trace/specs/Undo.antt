@@ -31,12 +31,12 @@ abbrev pub has_commit : Rev → Entry → Bool
 has_commit rev e = option_map_or (has_rev rev) (commit_of e) false
 
 -- the number of the entry that has the commit of a revision, if one of those that the client received has it
-abbrev pub number_of : Rev → List Entry → Client → Option ℕ
-number_of rev log c = option_map (λ (e : Entry). e.n) (find (has_commit rev) (take c.received log))
+abbrev pub entry_number : Rev → List Entry → Client → Option ℕ
+entry_number rev log c = option_map (λ (e : Entry). e.n) (find (has_commit rev) (take c.received log))
 
 -- whether the client received the commit at or below the floor; one that is pending has no number yet
 abbrev pub is_gone : ℕ → Rev → List Entry → Client → Bool
-is_gone history rev log c = option_map_or (λ n. nat_le n (floor history log c.received)) (number_of rev log c) false
+is_gone history rev log c = option_map_or (λ n. nat_le n (floor history log c.received)) (entry_number rev log c) false
 
 -- a commit that undoes another is pending
 abbrev pub IsUndone : Document → List Intent → Rev → Client → Client → Answer → Type 0

@@ -2,7 +2,8 @@
 ghost use Rattle.std.specs.Prelude.{◌≡◌, IfOk};
 ghost use Rattle.st_ids.specs.Or.{IfRefused};
 ghost use Rattle.st_clusters.specs.Ids.{ids_of};
-ghost use Rattle.st_idcodec.specs.Tables.{IsReached, only_final};
+ghost use Rattle.st_clusters.specs.Reached.{IsReached};
+ghost use Rattle.st_idcodec.specs.Tables.{only_final};
 
 use st_clusters::Compressor;
 use st_idcodec::{only_finalised_ids_are_written, read_table, table_value, tables_are_read_back};

@@ -12,7 +12,7 @@ use Rattle.st_clusters.specs.declared.ids.Cluster.{Cluster}
 use Rattle.st_clusters.specs.declared.ids.IdRange.{IdRange}
 use Rattle.st_idcodec.specs.OpText.{place_number}
 use Rattle.st_idcodec.specs.TableText.{uuid_text}
-use Rattle.st_idcodec.specs.Tables.{no_ids}
+use Rattle.st_clusters.specs.Reached.{no_ids}
 
 abbrev pub same : List ℕ → List ℕ → Bool
 same s t = pointwise nat_eq s t

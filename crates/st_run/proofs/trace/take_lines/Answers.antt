@@ -2,7 +2,7 @@ use Rattle.std.proofs.Common.{◌+◌, ◌<◌, length, arith, subst}
 use Rattle.std.proofs.lemmas.Bool.Decides.{nat_tests}
 use Rattle.st_schema.specs.declared.header.Header.{Header}
 use Rattle.st_script.specs.Header.{header_view}
-use Rattle.st_script.specs.Line.{line_of}
+use Rattle.st_script.specs.Line.{step_of_line}
 use Rattle.st_run.specs.Lines.{cut}
 use Rattle.st_run.specs.Answers.{AnswersFrom, OrCutShort, AnswersLine, IsOutput}
 use Rattle.st_run.specs.inside.Answers.{EndsAtLine}
@@ -20,8 +20,8 @@ returns-in-Err-clause-output g c =
     let after = c.split_line.result.1.now in
     c.loop-rest.invariant.goes_on _ _
     (line_is_output _ _ h w n c.loop-rest.rest.now line after _ some c.split_line.ensures.line c.split_line.ensures.rest
-    (output_also _ _ (EndsAtLine h n (line_of line) w) (OrCutShort (AnswersLine h n (line_of line) w (λ v. AnswersFrom h v (n + 1) (cut after))))
-    (ended_also h n (line_of line) w (λ v. AnswersFrom h v (n + 1) (cut after)) (λ v. cut_short_from h v (n + 1) (cut after))) _ c.in-Err.ensures.ended))
+    (output_also _ _ (EndsAtLine h n (step_of_line line) w) (OrCutShort (AnswersLine h n (step_of_line line) w (λ v. AnswersFrom h v (n + 1) (cut after))))
+    (ended_also h n (step_of_line line) w (λ v. AnswersFrom h v (n + 1) (cut after)) (λ v. cut_short_from h v (n + 1) (cut after))) _ c.in-Err.ensures.ended))
 
 pub loop-rest-preserved : goal.loop-rest-preserved
 loop-rest-preserved g c =
@@ -35,7 +35,7 @@ loop-rest-preserved g c =
     record {
       goes_on = λ after o out. c.loop-rest.invariant.goes_on after o
           (line_is_output _ _ h w n c.loop-rest.rest.now line rest o some c.split_line.ensures.line c.split_line.ensures.rest
-          (answered_more h n (line_of line) w v _ _ after (λ u. AnswersFrom h u (n + 1) (cut rest)) o c.in-Ok.ensures.ok
+          (answered_more h n (step_of_line line) w v _ _ after (λ u. AnswersFrom h u (n + 1) (cut rest)) o c.in-Ok.ensures.ok
           (subst (λ (x : Header). IsOutput (g.K.Sink.written c.take_line.new.sink) after (AnswersFrom (header_view x) v (n + 1) (cut rest)) o) c.in-Ok.ensures.header out)));
       place = omega (arith, c.loop-rest.invariant.place, after-shorter c.loop-rest.rest.now rest some c.split_line.ensures.rest);
       steps = omega (arith, c.in-Ok.ensures.steps, c.loop-rest.invariant.steps);

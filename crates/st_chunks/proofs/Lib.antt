@@ -1,0 +1,6 @@
+pub mod Counting
+pub mod Found
+pub mod Gaps
+pub mod GroupCounts
+pub mod Splicing
+pub mod Walks

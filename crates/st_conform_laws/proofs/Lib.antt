@@ -1,0 +1,16 @@
+pub mod FieldsOfWiderSchemas
+pub mod WiderSchemas
+pub mod NodesThatConform
+pub mod DocumentsAfter
+pub mod ShownTrees
+pub mod SchemasOfParts
+pub mod LaterDocuments
+pub mod ValidLists
+pub mod OwnCommits
+pub mod EditsThatKeep
+pub mod WaysBack
+pub mod JoinsThatKeep
+pub mod WhatListsTell
+pub mod FrontsOfSchemas
+pub mod TestsAsTold
+pub mod ValidEntries

@@ -1,0 +1,3 @@
+pub mod FitsAlike
+pub mod MarksOfARow
+pub mod OneIntent
