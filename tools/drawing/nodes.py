@@ -22,16 +22,25 @@ def kind_of(tree):
     return next(iter(tree.items())) if isinstance(tree, dict) and tree else None
 
 
+def inside(tree):
+    """Returns what stands directly in a tree's root, in order."""
+    inner = kind_of(tree)
+    return [] if not inner else inner[1] if isinstance(inner[1], list) else list(inner[1].values())
+
+
 def first_leaf(tree):
-    while True:
-        inner = kind_of(tree)
-        if not inner:
-            return tree if not isinstance(tree, dict) else None
-        items = inner[1] if isinstance(inner[1], list) else list(inner[1].values())
-        leaves = [it for it in items if isinstance(it, str)] or [it for it in items if kind_of(it)] or items
-        if not leaves:
-            return None
-        tree = leaves[0]
+    """Returns in words the first text in a tree, else its first leaf, or none. It looks at so many nodes at most."""
+    todo, found = [tree], None
+    for _ in range(200):
+        if not todo:
+            break
+        here = todo.pop()
+        if isinstance(here, str):
+            return said(here)
+        if not isinstance(here, dict):
+            found = found or said(here)
+        todo += reversed(inside(here))
+    return found
 
 
 TITLES = ("title", "name", "label", "key", "id")
@@ -49,7 +58,7 @@ def label(tree, root=False):
     if titles:
         return f"the {name} {said(titles[0])}"
     leaf = first_leaf(tree)
-    return f"the {name} with {said(leaf)}" if leaf is not None else f"the empty {name}"
+    return f"the {name} with {leaf}" if leaf else f"the {name}" if inside(tree) else f"the empty {name}"
 
 
 def label_at(tree, path):

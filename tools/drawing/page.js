@@ -83,7 +83,8 @@ const voidFrom = new Map();
 const voidSince = (rev, step) => voidFrom.set(rev, Math.min(step, voidFrom.has(rev) ? voidFrom.get(rev) : Infinity));
 for (const lane of data.lanes) for (const [step, revs] of lane.void) for (const [rev] of revs) voidSince(rev, step);
 for (const entry of data.entries) if (entry.void !== null) voidSince(entry.rev, entry.step);
-const COLUMN = 40, TOP = 30, EDGE = 26;
+// (wide enough for the numbers of lines and entries)
+const COLUMN = data.entries.length > 999 ? 50 : data.entries.length > 99 || last > 998 ? 44 : 40, TOP = 30, EDGE = 26;
 const GLYPHS = {
   insert: "+", remove: "−", move: "→", set: "=", clear: "−", begin: "(", commit: ")", abort: "(", need: "?", undo: "↺", upgrade: "↑",
   join: "", leave: "", drop: "", reconnect: "", ack: "a", fork: "Y", rebase: "R", merge: "M", drop_branch: "−",
@@ -135,7 +136,7 @@ function nameRows() {
 const strike = (w, h) => ["halo", "strike"].map((of) => svg("line", { x1: -w, y1: h, x2: w, y2: -h, class: of }));
 function pill(px, py, n, step) {
   const entry = data.entries[n - 1], look = data.clients[entry.client].look;
-  const width = 16 + 9 * String(n).length, isVoid = entry.void !== null;
+  const width = 12 + 9 * String(n).length, isVoid = entry.void !== null;
   const rx = entry.kind === "commit" ? 5 : 12, of = "pill" + (isVoid ? " void" : "");
   const made = svg("g", { transform: `translate(${px},${py})`, class: "mark" + (step > here ? " later" : "") },
     svg("rect", { x: -width / 2, y: -12, width, height: 24, rx, class: of, stroke: colour(look) }),
@@ -512,13 +513,13 @@ function pause() {
   clearInterval(playing);
   playing = null;
   at("play").textContent = "Play";
-  at("says").setAttribute("aria-live", "polite");
+  at("told").setAttribute("aria-live", "polite");
 }
 function play() {
   if (playing !== null) return pause();
   if (here === last) go(0);
   at("play").textContent = "Pause";
-  at("says").setAttribute("aria-live", "off");
+  at("told").setAttribute("aria-live", "off");
   playing = setInterval(() => {
     go(here + 1);
     if (here === last) pause();

@@ -33,8 +33,10 @@ ENDS = {
 }
 
 
-def refusal(answer):
+def refusal(do, answer):
     name = answer["no"]
+    if do == "undo" and name == "Kind":
+        return "the commit is an upgrade, which is never taken back"
     if name == "NoNode":
         return f"the path leads nowhere at its place {answer.get('depth')}"
     if name == "NotAllowed":
@@ -52,7 +54,7 @@ def edit_words(step, tree):
     """Says what an edit does, by the tree that its client showed before."""
     do, here = step["do"], reach(tree, step["at"])
     inner = nodes.kind_of(here)
-    field = inner[1].get(step.get("key", "")) if inner and isinstance(inner[1], dict) else None
+    field = [it for name, it in inner[1].items() if name == step.get("key", "")] if inner and isinstance(inner[1], dict) else []
     key = f"\u201c{short(step.get('key', ''))}\u201d"
 
     def place(path, key, index):
@@ -67,14 +69,14 @@ def edit_words(step, tree):
         return f"puts {several([label(it) for it in step['items']])} {place(step['at'], '', step['index'])}"
     if do in ("remove", "move"):
         count, index = step.get("count", 1), step["index"]
-        items = [field] if step.get("key") else row_of(here)[index : index + count]
-        what = several([label(it) for it in items if it is not None])
+        items = field if step.get("key") else row_of(here)[index : index + count]
+        what = several([label(it) for it in items])
         if do == "remove":
             return f"takes {what} out"
         return f"moves {what} {place(step['to'], step.get('to_key', ''), step.get('to_index', 0))}"
     if do == "set":
         return f"sets {key} of {label_at(tree, step['at'])} to {label(step['item'])}"
-    was = f", where {label(field)} was" if field is not None else ""
+    was = f", where {label(field[0])} was" if field else ""
     return f"empties {key} of {label_at(tree, step['at'])}{was}"
 
 
@@ -378,7 +380,7 @@ class Told:
             tree = self.tree(number) if number is not None else None
         if "no" in answer:
             wish = self.wish(step, tree, who, on)
-            return f"{who} {wish}: refused.", (refusal(answer), f"Refused, and nothing changes: {refusal(answer)} ({answer['no']}).")
+            return f"{who} {wish}: refused.", (refusal(do, answer), f"Refused, and nothing changes: {refusal(do, answer)} ({answer['no']}).")
         if do == "join":
             return f"{who} joins as session {answer['s']}. That is entry {n} of the log.", None
         if do in EDITS:
