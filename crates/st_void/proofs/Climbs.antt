@@ -1,5 +1,5 @@
 -- The nodes that stand above others, as a change shows them.
-use Rattle.std.proofs.Common.{◌≡◌, ◌≢◌, ℕ, zero, suc, ◌+◌, ◌≤◌, ◌<◌, true, ◌||◌, List, ◌++◌, length, map, Option, Some, None, option_map, refl, sym, ap, ◌∙◌, arith, inl, inr, subst}
+use Rattle.std.proofs.Common.{◌≡◌, ◌+◌, true, ◌||◌, List, ◌++◌, length, map, Option, Some, None, option_map, refl, ap, ◌∙◌, inl, inr, subst}
 use Rattle.std.proofs.lemmas.Option.{same_Some}
 use Rattle.std.proofs.lemmas.List.{length-map}
 use Rattle.std.specs.List.{find, list_any}
@@ -13,10 +13,8 @@ use Rattle.st_lemmas.proofs.Lists.{length-append}
 use Rattle.st_marks.specs.declared.changes.Change.{Change}
 use Rattle.st_marks.specs.declared.marks.RegMark.{RegMark}
 use Rattle.st_marks.specs.declared.marks.RowMarks.{RowMarks}
-use Rattle.st_marks.specs.Document.{Reaches, climb}
 use Rattle.st_marks.specs.Intent.{same_option}
 use Rattle.st_marks.specs.Row.{spread}
-use Rattle.st_marks.proofs.Climb.{climb_more}
 use Rattle.st_marks.proofs.Members.{append_left, append_right, first-has, has-any, has-append, has-map, map-has}
 use Rattle.st_void.specs.declared.standing.When.{When}
 use Rattle.st_void.specs.Standing.{above_shown, held_by, stands}
