@@ -30,6 +30,7 @@ use Rattle.st_puts.specs.Meant.{IsOver, meant_intent}
 use Rattle.st_puts.specs.Seen.{AreAsSeen}
 use Rattle.st_puts.proofs.OverDocuments.{embedding_over}
 use Rattle.st_normal_laws.proofs.MeantIntent.{meant_fits}
+use Rattle.st_normal_laws.proofs.SchemaNormal.{schema_intent}
 use Rattle.st_normal_laws.proofs.StandsChange.{stands_over}
 use Rattle.st_reading.specs.Reading.{IsStepRead, read_step}
 use Rattle.st_author_laws.specs.Back.{IsOfAnIntent, IsOverBack, IsTakenBack, row_back}
@@ -85,27 +86,7 @@ module _ (A : Document) (C : Change) (w : ObeysSchemaRules C) (text : List ℕ) 
   N = record { rev = C.rev; under = C.under; new = []; groups = []; clear = []; put = []; need = []; schema = Some text }
 
   intent : IsIntent N
-  intent = record {
-    new_rev = tt;
-    new_once = tt;
-    cell_rev = tt;
-    cell_once = tt;
-    group_some = tt;
-    start_once = tt;
-    anchor_once = tt;
-    anchor_old = tt;
-    owners = tt;
-    root_stays = refl;
-    put_once = tt;
-    no_cell_twice = tt;
-    no_register_twice = tt;
-    new_somewhere = tt;
-    cleared = tt;
-    register_keys = tt;
-    need_old = tt;
-    no_ring = λ n. (1, refl);
-    schema_alone = (refl, refl, refl, refl, refl);
-  }
+  intent = schema_intent C.rev C.under text
 
   fits : Fits A N
   fits = record {

@@ -47,6 +47,30 @@ entries true false rev under = entry opening ∷ entry under ∷ []
 entries false true rev under = entry opening ∷ entry (other rev) ∷ []
 entries false false rev under = entry opening ∷ []
 
+-- what changes the schema and nothing else is an intent
+pub schema_intent : (rev under : Rev) (text : List ℕ) → IsIntent (record { rev = rev; under = under; new = []; groups = []; clear = []; put = []; need = []; schema = Some text })
+schema_intent rev under text = record {
+  new_rev = tt;
+  new_once = tt;
+  cell_rev = tt;
+  cell_once = tt;
+  group_some = tt;
+  start_once = tt;
+  anchor_once = tt;
+  anchor_old = tt;
+  owners = tt;
+  root_stays = refl;
+  put_once = tt;
+  no_cell_twice = tt;
+  no_register_twice = tt;
+  new_somewhere = tt;
+  cleared = tt;
+  register_keys = tt;
+  need_old = tt;
+  no_ring = λ n. (1, refl);
+  schema_alone = (refl, refl, refl, refl, refl);
+}
+
 module _ (C : Change) (w : ObeysSchemaRules C) (text : List ℕ) (e : C.schema ≡ Some text) where
   abbrev here : List SchemaEntry
   here = entries C.base (same_rev C.under opening) C.rev C.under
@@ -107,27 +131,7 @@ module _ (C : Change) (w : ObeysSchemaRules C) (text : List ℕ) (e : C.schema �
   N = record { rev = C.rev; under = C.under; new = []; groups = []; clear = []; put = []; need = []; schema = Some text }
 
   intent : IsIntent N
-  intent = record {
-    new_rev = tt;
-    new_once = tt;
-    cell_rev = tt;
-    cell_once = tt;
-    group_some = tt;
-    start_once = tt;
-    anchor_once = tt;
-    anchor_old = tt;
-    owners = tt;
-    root_stays = refl;
-    put_once = tt;
-    no_cell_twice = tt;
-    no_register_twice = tt;
-    new_somewhere = tt;
-    cleared = tt;
-    register_keys = tt;
-    need_old = tt;
-    no_ring = λ n. (1, refl);
-    schema_alone = (refl, refl, refl, refl, refl);
-  }
+  intent = schema_intent C.rev C.under text
 
   fits : Fits D N
   fits = record {
