@@ -3,11 +3,10 @@ ghost use Rattle.std.specs.Prelude.{OnOk};
 ghost use Rattle.st_marks.specs.Document.{IsSoundInForm};
 ghost use Rattle.st_doc.specs.Doc.{document_of};
 
-use crate::given::{Case, carry, commit, open_doc, schema, shows};
+use crate::given::{Case, Row, Scene, wrong_row};
 use st_doc::Doc;
 use st_ids::{Atom, CellId, FieldId, Key, List, NodeId, OPENING, Rev, Text};
 use st_marks::{Group, Intent, Owned, Put, To, Verdict};
-use st_schema::Schema;
 use std::alloc::{AllocError, Global};
 use std::test::Fail;
 
@@ -46,23 +45,16 @@ fn tells(alloc: Global, doc: &Doc) -> Result<bool, AllocError> {
 
 const CARD: &str = r#"{"list":["x",{"card":{"title":"y\"\n"}}]}"#;
 
-fn shows_and_tells(alloc: Global, doc: &Doc) -> Result<bool, AllocError>
-    requires { IsSoundInForm (document_of doc.now) }
-{
-    let shown = shows(alloc, doc, CARD)?;
-    let told = tells(alloc, doc)?;
-    Ok(shown && told)
+fn is_told(alloc: Global, scene: &mut Scene) -> Result<bool, Fail> {
+    scene.open(alloc, CARD)?;
+    let shown = scene.shows(alloc, CARD)?;
+    Ok(shown && tells(alloc, &scene.doc)?)
 }
 
-fn is_told(alloc: Global, schema: &Schema) -> Result<bool, Fail> {
-    let doc = open_doc(alloc, schema, CARD)?;
-    Ok(shows_and_tells(alloc, &doc)?)
-}
-
-fn nothing(alloc: Global) -> Intent {
+fn nothing(alloc: Global, under: Rev) -> Intent {
     Intent {
         rev: REV,
-        under: OPENING,
+        under,
         new: List::new(alloc),
         groups: List::new(alloc),
         clear: List::new(alloc),
@@ -74,7 +66,7 @@ fn nothing(alloc: Global) -> Intent {
 
 // An intent that puts a node somewhere.
 fn puts(alloc: Global, node: NodeId, to: To) -> Result<Intent, AllocError> {
-    let mut intent = nothing(alloc);
+    let mut intent = nothing(alloc, OPENING);
     intent.put.push(Put { node, to })?;
     Ok(intent)
 }
@@ -95,81 +87,82 @@ fn add_group(
     Ok(())
 }
 
+fn add_move(alloc: Global, intent: &mut Intent, of: NodeId, row: NodeId) -> Result<(), AllocError> {
+    let cell = cell(REV, 0);
+    intent.put.push(Put {
+        node: of,
+        to: To::Cell(cell),
+    })?;
+    add_group(alloc, &mut intent.groups, row, Owned { cell, node: of })
+}
+
 // Puts a node into a new cell of a row.
 fn moves(alloc: Global, of: NodeId, row: NodeId) -> Result<Intent, AllocError> {
-    let cell = cell(REV, 0);
-    let mut intent = puts(alloc, of, To::Cell(cell))?;
-    add_group(alloc, &mut intent.groups, row, Owned { cell, node: of })?;
+    let mut intent = nothing(alloc, OPENING);
+    add_move(alloc, &mut intent, of, row)?;
+    Ok(intent)
+}
+
+fn add_need(alloc: Global, intent: &mut Intent, node: NodeId) -> Result<(), AllocError> {
+    add_move(
+        alloc,
+        intent,
+        node,
+        NodeId(Atom {
+            rev: OPENING,
+            at: 0,
+        }),
+    )?;
+    intent.need.push(node)?;
+    Ok(())
+}
+
+// Moves a node into the root's row, and needs it, under a schema.
+fn needs(alloc: Global, of: NodeId, under: Rev) -> Result<Intent, AllocError> {
+    let mut intent = nothing(alloc, under);
+    add_need(alloc, &mut intent, of)?;
     Ok(intent)
 }
 
 const LISTS: &str = r#"{"list":[{"list":[{"list":[]}]},"x"]}"#;
 
-// Whether the document takes an intent for a ring at a node, and shows the same tree after it.
-fn is_ring(alloc: Global, doc: &mut Doc, intent: &Intent, at: NodeId) -> Result<bool, Fail>
-    requires { IsSoundInForm (document_of doc.old) }
-{
-    let verdict = carry(alloc, doc, intent)?;
-    let same = shows(alloc, doc, LISTS)?;
-    Ok(same && verdict == Verdict::Cycle(at))
-}
-
-fn moved_beneath(alloc: Global, doc: &mut Doc) -> Result<bool, Fail>
-    requires { IsSoundInForm (document_of doc.old) }
-{
-    let intent = moves(alloc, node(1), node(2))?;
-    is_ring(alloc, doc, &intent, node(1))
-}
-
 // A list can't stand in its own row, nor in that of one beneath it: the intent is void, and the tree stays.
-fn ring_is_void(alloc: Global, schema: &Schema) -> Result<bool, Fail> {
-    let mut doc = open_doc(alloc, schema, LISTS)?;
-    moved_beneath(alloc, &mut doc)
+fn ring_is_void(alloc: Global, scene: &mut Scene) -> Result<bool, Fail> {
+    scene.open(alloc, LISTS)?;
+    let intent = moves(alloc, node(1), node(2))?;
+    let verdict = scene.carry_new(alloc, intent)?;
+    let same = scene.shows(alloc, LISTS)?;
+    Ok(same && verdict == Verdict::Cycle(node(1)))
 }
 
-// Carries out a case that is resolved in the document.
-fn carry_case(alloc: Global, schema: &Schema, doc: &mut Doc, case: Case) -> Result<(), Fail>
-    requires { IsSoundInForm (document_of doc.old) }
-{
-    let intent = commit(alloc, schema, doc, 2, case)?;
-    carry(alloc, doc, &intent)?;
-    Ok(())
-}
-
-// Whether an intent that needs a node which is gone is void, for that, and for its schema before that.
-fn is_void_after(alloc: Global, doc: &Doc, intent: &mut Intent) -> Result<bool, AllocError> {
-    let need = doc.fails(alloc, intent)? == Verdict::Need(node(2));
-    intent.under = REV;
-    let schema = doc.fails(alloc, intent)? == Verdict::Schema(REV);
-    Ok(need && schema && !doc.is_live(alloc, node(2))?)
-}
-
-fn turns_void(
+// Whether one of the intents has a verdict.
+fn has_verdict(
     alloc: Global,
-    schema: &Schema,
-    doc: &mut Doc,
-    intent: &mut Intent,
-) -> Result<bool, Fail>
-    requires { IsSoundInForm (document_of doc.old) }
-{
-    intent.need.push(node(2))?;
-    let sound = doc.fails(alloc, intent)? == Verdict::Sound;
-    carry_case(alloc, schema, doc, Case::Remove(&[], 0, 1))?;
-    let void = is_void_after(alloc, doc, intent)?;
-    Ok(sound && void)
+    scene: &Scene,
+    at: usize,
+    verdict: Verdict,
+) -> Result<bool, AllocError> {
+    match scene.intents.get(at) {
+        Some(intent) => Ok(scene.doc.fails(alloc, intent)? == verdict),
+        None => Ok(false),
+    }
 }
 
-fn move_turns_void(alloc: Global, schema: &Schema, doc: &mut Doc) -> Result<bool, Fail>
-    requires { IsSoundInForm (document_of doc.old) }
-{
-    let mut intent = moves(alloc, node(2), node(0))?;
-    turns_void(alloc, schema, doc, &mut intent)
+// Whether an intent is void that needs a node which is gone, for that; and for its schema before that.
+fn are_void(alloc: Global, scene: &Scene) -> Result<bool, AllocError> {
+    let need = has_verdict(alloc, scene, 0, Verdict::Need(node(2)))?;
+    let schema = has_verdict(alloc, scene, 1, Verdict::Schema(REV))?;
+    Ok(need && schema && !scene.doc.is_live(alloc, node(2))?)
 }
 
 // What is needed has to be live, and the schema has to be the one in effect, which is judged first.
-fn causes(alloc: Global, schema: &Schema) -> Result<bool, Fail> {
-    let mut doc = open_doc(alloc, schema, LISTS)?;
-    move_turns_void(alloc, schema, &mut doc)
+fn causes(alloc: Global, scene: &mut Scene) -> Result<bool, Fail> {
+    scene.open(alloc, LISTS)?;
+    scene.add(needs(alloc, node(2), OPENING)?)?;
+    scene.add(needs(alloc, node(2), REV)?)?;
+    let sound = has_verdict(alloc, scene, 0, Verdict::Sound)?;
+    scene.carry_first(alloc, Some(Case::Remove(&[], 0, 1)))?;
+    Ok(sound && are_void(alloc, scene)?)
 }
 
 fn fits(alloc: Global, doc: &Doc, at: u32, to: To) -> Result<bool, AllocError>
@@ -180,83 +173,79 @@ fn fits(alloc: Global, doc: &Doc, at: u32, to: To) -> Result<bool, AllocError>
 }
 
 // A cell of the node fits, and nowhere; a cell of another node doesn't, nor does a node that is not there.
-fn names_fit(alloc: Global, doc: &Doc) -> Result<bool, AllocError>
-    requires { IsSoundInForm (document_of doc.now) }
-{
-    let own = fits(alloc, doc, 1, To::Cell(cell(OPENING, 0)))?;
-    let out = fits(alloc, doc, 3, To::Nowhere)?;
-    let other = fits(alloc, doc, 3, To::Cell(cell(OPENING, 0)))?;
-    Ok(own && out && !other && !fits(alloc, doc, 4, To::Nowhere)?)
-}
-
-fn names(alloc: Global, schema: &Schema) -> Result<bool, Fail> {
-    let doc = open_doc(alloc, schema, LISTS)?;
-    Ok(names_fit(alloc, &doc)?)
+fn names(alloc: Global, scene: &mut Scene) -> Result<bool, Fail> {
+    scene.open(alloc, LISTS)?;
+    let own = fits(alloc, &scene.doc, 1, To::Cell(cell(OPENING, 0)))?;
+    let out = fits(alloc, &scene.doc, 3, To::Nowhere)?;
+    let other = fits(alloc, &scene.doc, 3, To::Cell(cell(OPENING, 0)))?;
+    Ok(own && out && !other && !fits(alloc, &scene.doc, 4, To::Nowhere)?)
 }
 
 // Puts an item back into its cell.
-fn put_back(alloc: Global, doc: &mut Doc, item: u32, at: u32) -> Result<(), Fail>
-    requires { IsSoundInForm (document_of doc.old) }
-    ensures { OnOk result (IsSoundInForm (document_of doc.new)) }
+fn put_back(alloc: Global, scene: &mut Scene, item: u32, at: u32) -> Result<(), Fail>
+    requires { IsSoundInForm (document_of scene.old.doc) }
+    ensures { OnOk result (IsSoundInForm (document_of scene.new.doc)) }
 {
     let intent = puts(alloc, node(item), To::Cell(cell(OPENING, at)))?;
-    carry(alloc, doc, &intent)?;
+    scene.carry_new(alloc, intent)?;
     Ok(())
 }
 
-fn come_back(alloc: Global, doc: &mut Doc, gone: &Intent, more: &Intent) -> Result<bool, Fail>
-    requires { IsSoundInForm (document_of doc.old) }
-{
-    carry(alloc, doc, gone)?;
-    carry(alloc, doc, more)?;
-    put_back(alloc, doc, 3, 2)?;
-    put_back(alloc, doc, 1, 0)?;
-    Ok(shows(alloc, doc, r#"{"list":["a","n","c"]}"#)?)
-}
-
-fn come_back_after(
-    alloc: Global,
-    schema: &Schema,
-    doc: &mut Doc,
-    gone: &Intent,
-) -> Result<bool, Fail>
-    requires { IsSoundInForm (document_of doc.old) }
-{
-    let more = commit(alloc, schema, doc, 2, Case::Insert(&[], 2, &[r#""n""#]))?;
-    come_back(alloc, doc, gone, &more)
-}
-
-fn removed_come_back(alloc: Global, schema: &Schema, doc: &mut Doc) -> Result<bool, Fail>
-    requires { IsSoundInForm (document_of doc.old) }
-{
-    let gone = commit(alloc, schema, doc, 1, Case::Remove(&[], 0, 3))?;
-    come_back_after(alloc, schema, doc, &gone)
-}
-
 // Items that come back stand in their old order, and what came between them stays there.
-fn back_in_order(alloc: Global, schema: &Schema) -> Result<bool, Fail> {
-    let mut doc = open_doc(alloc, schema, r#"{"list":["a","b","c"]}"#)?;
-    removed_come_back(alloc, schema, &mut doc)
+fn back_in_order(alloc: Global, scene: &mut Scene) -> Result<bool, Fail> {
+    scene.open(alloc, r#"{"list":["a","b","c"]}"#)?;
+    scene.commit(alloc, 1, Case::Remove(&[], 0, 3))?;
+    scene.commit(alloc, 2, Case::Insert(&[], 2, &[r#""n""#]))?;
+    scene.carry(alloc, 0)?;
+    scene.carry(alloc, 1)?;
+    put_back(alloc, scene, 3, 2)?;
+    put_back(alloc, scene, 1, 0)?;
+    Ok(scene.shows(alloc, r#"{"list":["a","n","c"]}"#)?)
 }
 
-// Whether each is so, in the order in which they stand above.
-fn all_so(alloc: Global, schema: &Schema) -> Result<[bool; 5], Fail> {
-    let told = is_told(alloc, schema)?;
-    let ring = ring_is_void(alloc, schema)?;
-    let causes = causes(alloc, schema)?;
-    let names = names(alloc, schema)?;
-    let back = back_in_order(alloc, schema)?;
-    Ok([told, ring, causes, names, back])
+// What is looked at of a document.
+#[derive(Clone, Copy)]
+enum Look {
+    Told,
+    Ring,
+    Causes,
+    Names,
+    Back,
 }
 
-fn all_calls(alloc: Global) -> Result<[bool; 5], Fail> {
-    let schema = schema(alloc)?;
-    all_so(alloc, &schema)
+impl Row for Look {
+    fn is_so(&self, alloc: Global, scene: &mut Scene) -> Result<bool, Fail> {
+        match self {
+            Look::Told => is_told(alloc, scene),
+            Look::Ring => ring_is_void(alloc, scene),
+            Look::Causes => causes(alloc, scene),
+            Look::Names => names(alloc, scene),
+            Look::Back => back_in_order(alloc, scene),
+        }
+    }
+
+    fn message(&self) -> &'static str {
+        match self {
+            Look::Told => "told",
+            Look::Ring => "ring",
+            Look::Causes => "causes",
+            Look::Names => "names",
+            Look::Back => "back",
+        }
+    }
 }
+
+const LOOKS: [Look; 5] = [
+    Look::Told,
+    Look::Ring,
+    Look::Causes,
+    Look::Names,
+    Look::Back,
+];
 
 #[test]
 fn calls(rt: HostRuntime) -> Result<(), Fail> {
-    let so = all_calls(rt.alloc())?;
-    assert!(rt; so == [true; 5], "{so:?}");
+    let wrong = wrong_row(rt.alloc(), &LOOKS)?;
+    assert!(rt; wrong.is_none(), "{wrong:?}");
     Ok(())
 }

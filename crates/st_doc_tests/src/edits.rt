@@ -1,14 +1,9 @@
 //! Each edit, and its refusals.
-ghost use Rattle.st_edits.specs.Resolve.{IsWithin};
-
-use crate::given::{Case, Places, commit, edit, open_doc, schema};
-use st_doc::Doc;
+use crate::given::{Case, Places, Resolved, Row, Scene, resolved, wrong_row};
 use st_edits::NameCounters;
 use st_ids::{Limit, LimitOf, Or, Rev};
 use st_marks::Intent;
-use st_resolve::resolve;
-use st_schema::Schema;
-use st_tree::{Edit, EditFault};
+use st_tree::EditFault;
 use std::alloc::Global;
 use std::test::Fail;
 
@@ -32,22 +27,19 @@ fn parts(intent: &Intent) -> [usize; 5] {
     ]
 }
 
-fn comes_to(
-    alloc: Global,
-    schema: &Schema,
-    doc: &Doc,
-    case: Case,
-    to: &[usize; 5],
-) -> Result<bool, Fail> {
-    let intent = commit(alloc, schema, doc, 1, case)?;
-    Ok(parts(&intent) == *to)
+// An edit in the tree, and how many it makes of each.
+type Made = (Case, [usize; 5]);
+
+fn comes_to(alloc: Global, scene: &Scene, made: &Made) -> Result<bool, Fail> {
+    let intent = scene.made(alloc, 1, made.0)?;
+    Ok(parts(&intent) == made.1)
 }
 
 const FIRST: Places = &[("", 2)];
 
 const CARD: Places = &[("", 4)];
 
-const EDITS: [(Case, [usize; 5]); 8] = [
+const EDITS: [Made; 8] = [
     (Case::Insert(&[], 5, &[r#""a""#]), [1, 1, 0, 1, 0]),
     (
         Case::Insert(FIRST, 1, &[r#"{"list":["b","c"]}"#]),
@@ -61,44 +53,25 @@ const EDITS: [(Case, [usize; 5]); 8] = [
     (Case::Need(CARD), [0, 0, 0, 0, 1]),
 ];
 
-fn all_made(
-    alloc: Global,
-    schema: &Schema,
-    doc: &Doc,
-    edits: &[(Case, [usize; 5])],
-) -> Result<bool, Fail> {
-    for (case, to) in edits {
-        if !comes_to(alloc, schema, doc, *case, to)? {
+fn all_made(alloc: Global, scene: &Scene, edits: &[Made]) -> Result<bool, Fail> {
+    for made in edits {
+        if !comes_to(alloc, scene, made)? {
             return Ok(false);
         }
     }
     Ok(true)
 }
 
-fn is_fault(resolved: Result<Intent, Or<EditFault>>, fault: EditFault) -> bool {
+fn is_fault(resolved: Resolved, fault: EditFault) -> bool {
     match resolved {
         Ok(_) => false,
         Err(refusal) => refusal == Or::Fault(fault),
     }
 }
 
-fn fails(alloc: Global, schema: &Schema, doc: &Doc, edit: &Edit, fault: EditFault) -> bool
-    requires { IsWithin edit.now }
-{
-    is_fault(resolve(alloc, doc, schema, GIVEN, edit), fault)
-}
-
-fn is_refused(
-    alloc: Global,
-    schema: &Schema,
-    doc: &Doc,
-    case: Case,
-    fault: EditFault,
-) -> Result<bool, Fail> {
-    match edit(alloc, case) {
-        Ok(edit) => Ok(fails(alloc, schema, doc, &edit, fault)),
-        Err(fail) => Err(fail),
-    }
+fn is_refused(alloc: Global, scene: &Scene, refusal: &(Case, EditFault)) -> Result<bool, Fail> {
+    let resolved = resolved(alloc, &scene.schema, &scene.doc, GIVEN, refusal.0)?;
+    Ok(is_fault(resolved, refusal.1))
 }
 
 const REFUSALS: [(Case, EditFault); 13] = [
@@ -132,36 +105,50 @@ const REFUSALS: [(Case, EditFault); 13] = [
     ),
 ];
 
-fn all_refused(
-    alloc: Global,
-    schema: &Schema,
-    doc: &Doc,
-    refusals: &[(Case, EditFault)],
-) -> Result<bool, Fail> {
-    for (case, fault) in refusals {
-        if !is_refused(alloc, schema, doc, *case, *fault)? {
+fn all_refused(alloc: Global, scene: &Scene, refusals: &[(Case, EditFault)]) -> Result<bool, Fail> {
+    for refusal in refusals {
+        if !is_refused(alloc, scene, refusal)? {
             return Ok(false);
         }
     }
     Ok(true)
 }
 
-// Whether all are made, and whether all are refused.
-fn all_in(alloc: Global, schema: &Schema) -> Result<(bool, bool), Fail> {
-    let doc = open_doc(alloc, schema, TREE)?;
-    let made = all_made(alloc, schema, &doc, &EDITS)?;
-    let refused = all_refused(alloc, schema, &doc, &REFUSALS)?;
-    Ok((made, refused))
+// Edits that are made, and edits that are refused.
+struct Edits {
+    made: &'static [Made],
+    refused: &'static [(Case, EditFault)],
 }
 
-fn all_cases(alloc: Global) -> Result<(bool, bool), Fail> {
-    let schema = schema(alloc)?;
-    all_in(alloc, &schema)
+impl Row for Edits {
+    fn is_so(&self, alloc: Global, scene: &mut Scene) -> Result<bool, Fail> {
+        scene.open(alloc, TREE)?;
+        Ok(all_made(alloc, scene, self.made)? && all_refused(alloc, scene, self.refused)?)
+    }
+
+    fn message(&self) -> &'static str {
+        if self.made.is_empty() {
+            "refused"
+        } else {
+            "made"
+        }
+    }
 }
+
+const ROWS: [Edits; 2] = [
+    Edits {
+        made: &EDITS,
+        refused: &[],
+    },
+    Edits {
+        made: &[],
+        refused: &REFUSALS,
+    },
+];
 
 #[test]
 fn edits_are_resolved(rt: HostRuntime) -> Result<(), Fail> {
-    let (made, refused) = all_cases(rt.alloc())?;
-    assert!(rt; made && refused, "{made} {refused}");
+    let wrong = wrong_row(rt.alloc(), &ROWS)?;
+    assert!(rt; wrong.is_none(), "{wrong:?}");
     Ok(())
 }

@@ -1,14 +1,12 @@
 //! The change that lists an edit in the document that another edit left behind.
-ghost use Rattle.std.specs.Prelude.{OnOk};
 ghost use Rattle.st_marks.specs.Document.{IsSoundInForm};
 ghost use Rattle.st_doc.specs.Doc.{document_of};
 
-use crate::given::{Case, Row, carry, commit, open_doc, wrong_row};
+use crate::given::{Case, Row, Scene, wrong_row};
 use st_doc::Doc;
 use st_embed::{embed, mentioned_nodes};
 use st_ids::{Atom, CellId, NodeId, OPENING, ROOT, Rev};
 use st_marks::{Change, How, Intent, Loose, Mark, RegMark, RowMarks};
-use st_schema::Schema;
 use std::alloc::Global;
 use std::test::Fail;
 
@@ -126,71 +124,27 @@ fn is_listed(change: &Change, listed: &Listed) -> bool {
         && change.base
 }
 
-/// The change of an intent that fits.
-fn change(alloc: Global, doc: &Doc, intent: &Intent) -> Result<Change, Fail>
-    requires { IsSoundInForm (document_of doc.now) }
-{
-    if !doc.fits(intent) {
-        return Err(Fail::from("does not fit"));
-    }
-    Ok(embed(alloc, doc, intent)?)
-}
-
-// How many nodes an intent that fits mentions.
-fn mentioned(alloc: Global, doc: &Doc, intent: &Intent) -> Result<usize, Fail>
-    requires { IsSoundInForm (document_of doc.now) }
-{
-    if !doc.fits(intent) {
-        return Err(Fail::from("does not fit"));
-    }
-    Ok(mentioned_nodes(alloc, doc, intent)?.len())
-}
-
-/// Carries the edit out that comes before, if there is one.
-pub fn carry_earlier(
-    alloc: Global,
-    schema: &Schema,
-    doc: &mut Doc,
-    case: Option<Case>,
-) -> Result<(), Fail>
-    requires { IsSoundInForm (document_of doc.old) }
-    ensures { OnOk result (IsSoundInForm (document_of doc.new)) }
-{
-    let Some(case) = case else {
-        return Ok(());
-    };
-    let intent = commit(alloc, schema, &*doc, 1, case)?;
-    carry(alloc, doc, &intent)?;
-    Ok(())
-}
-
 // Whether the change of an intent is what is listed, and the intent mentions as many nodes.
 fn is_change(alloc: Global, doc: &Doc, intent: &Intent, listed: &Listed) -> Result<bool, Fail>
     requires { IsSoundInForm (document_of doc.now) }
 {
-    let change = change(alloc, doc, intent)?;
-    Ok(is_listed(&change, listed) && mentioned(alloc, doc, intent)? == listed.mentioned)
-}
-
-// The same after the edit that comes before.
-fn is_change_after(
-    alloc: Global,
-    schema: &Schema,
-    doc: &mut Doc,
-    intent: &Intent,
-    listed: &Listed,
-) -> Result<bool, Fail>
-    requires { IsSoundInForm (document_of doc.old) }
-{
-    carry_earlier(alloc, schema, doc, listed.earlier)?;
-    is_change(alloc, &*doc, intent, listed)
+    if !doc.fits(intent) {
+        return Err(Fail::from("does not fit"));
+    }
+    let mentioned = mentioned_nodes(alloc, doc, intent)?.len();
+    let change = embed(alloc, doc, intent)?;
+    Ok(is_listed(&change, listed) && mentioned == listed.mentioned)
 }
 
 impl Row for Listed {
-    fn is_so(&self, alloc: Global, schema: &Schema) -> Result<bool, Fail> {
-        let mut doc = open_doc(alloc, schema, self.tree)?;
-        let intent = commit(alloc, schema, &doc, 2, self.case)?;
-        is_change_after(alloc, schema, &mut doc, &intent, self)
+    fn is_so(&self, alloc: Global, scene: &mut Scene) -> Result<bool, Fail> {
+        scene.open(alloc, self.tree)?;
+        scene.commit(alloc, 2, self.case)?;
+        scene.carry_first(alloc, self.earlier)?;
+        match scene.intents.get(0) {
+            Some(intent) => is_change(alloc, &scene.doc, intent, self),
+            None => Ok(false),
+        }
     }
 
     fn message(&self) -> &'static str {

@@ -8,12 +8,12 @@ ghost use Rattle.st_edits.specs.Resolve.{IsWithin};
 
 use st_doc::Doc;
 use st_edits::NameCounters;
-use st_ids::{Key, List, Path, Place, Rev, Text};
+use st_ids::{Key, List, Or, Path, Place, Rev, Text};
 use st_json::read_line;
 use st_marks::{Intent, Verdict};
 use st_resolve::resolve;
 use st_schema::{Schema, read_tree};
-use st_tree::{Edit, Tree, check, check_trees};
+use st_tree::{Edit, EditFault, Tree, check, check_trees};
 use std::alloc::{AllocError, Global};
 use std::test::Fail;
 
@@ -21,7 +21,7 @@ use std::test::Fail;
 const SCHEMA: &str =
     r#"{"root":["list"],"types":[{"array":["text","list","card"],"name":"list"},{"name":"card","object":{"note":["opt",["text","list"]],"title":["req",["text"]]}}]}"#;
 
-pub fn schema(alloc: Global) -> Result<Schema, Fail> {
+fn schema(alloc: Global) -> Result<Schema, Fail> {
     let value = read_line(alloc, SCHEMA.as_bytes())?;
     Ok(Schema::read(alloc, &value)?)
 }
@@ -44,16 +44,16 @@ fn start(alloc: Global, schema: &Schema, tree: &Tree) -> Result<Doc, Fail>
     }
 }
 
-/// The document that opens with the tree of a line.
-pub fn open_doc(alloc: Global, schema: &Schema, line: &str) -> Result<Doc, Fail>
+// The document that opens with the tree of a line.
+fn open_doc(alloc: Global, schema: &Schema, line: &str) -> Result<Doc, Fail>
     ensures { IfOk result (λ d. IsSoundInForm (document_of d)) }
 {
     let tree = tree(alloc, line)?;
     start(alloc, schema, &tree)
 }
 
-/// Carries an intent out in a document that it fits.
-pub fn carry(alloc: Global, doc: &mut Doc, intent: &Intent) -> Result<Verdict, Fail>
+// Carries an intent out in a document that it fits.
+fn carry(alloc: Global, doc: &mut Doc, intent: &Intent) -> Result<Verdict, Fail>
     requires { IsSoundInForm (document_of doc.old) }
     ensures { OnOk result (IsSoundInForm (document_of doc.new)) }
 {
@@ -208,8 +208,8 @@ fn clear(alloc: Global, at: Places, under: &str) -> Result<Edit, Fail>
     Ok(Edit::Clear { at, key })
 }
 
-/// The edit of a case.
-pub fn edit(alloc: Global, case: Case) -> Result<Edit, Fail>
+// The edit of a case.
+fn edit(alloc: Global, case: Case) -> Result<Edit, Fail>
     ensures { IfOk result IsWithin }
 {
     match case {
@@ -226,19 +226,24 @@ pub fn edit(alloc: Global, case: Case) -> Result<Edit, Fail>
     }
 }
 
-// What an edit means in a document, with the names that are free.
-fn resolve_edit(
+/// An intent, or why an edit is refused.
+pub type Resolved = Result<Intent, Or<EditFault>>;
+
+/// What a case means in a document, with the names that are free, or why it is refused.
+pub fn resolved(
     alloc: Global,
     schema: &Schema,
     doc: &Doc,
     given: NameCounters,
-    edit: &Edit,
-) -> Result<Intent, Fail>
-    requires within { IsWithin edit.now }
+    case: Case,
+) -> Result<Resolved, Fail>
     requires nodes { given.nodes < 2 ^ 31 }
     requires cells { given.cells < 2 ^ 31 }
 {
-    Ok(resolve(alloc, doc, schema, given, edit)?)
+    match edit(alloc, case) {
+        Ok(edit) => Ok(resolve(alloc, doc, schema, given, &edit)),
+        Err(fail) => Err(fail),
+    }
 }
 
 /// What a case means in a document, as a part of a commit that has made names.
@@ -252,32 +257,128 @@ pub fn part(
     if given.nodes > 9 || given.cells > 9 {
         return Err(Fail::from("too many names"));
     }
-    match edit(alloc, case) {
-        Ok(edit) => resolve_edit(alloc, schema, doc, given, &edit),
-        Err(fail) => Err(fail),
+    Ok(resolved(alloc, schema, doc, given, case)??)
+}
+
+/// A document under a schema, and intents that were made in it.
+#[derive(Drop)]
+pub struct Scene {
+    pub schema: Schema,
+    pub doc: Doc,
+    pub intents: List<Intent>,
+}
+
+impl Scene {
+    fn new(alloc: Global) -> Result<Scene, Fail> {
+        let schema = schema(alloc)?;
+        let doc = open_doc(alloc, &schema, r#"{"list":[]}"#)?;
+        let intents = List::new(alloc);
+        Ok(Scene {
+            schema,
+            doc,
+            intents,
+        })
+    }
+
+    /// Opens with the tree of a line. The intents stay.
+    pub fn open_again(&mut self, alloc: Global, line: &str) -> Result<(), Fail>
+        ensures { OnOk result (IsSoundInForm (document_of self.new.doc)) }
+    {
+        self.doc = open_doc(alloc, &self.schema, line)?;
+        Ok(())
+    }
+
+    /// Opens with the tree of a line, and no intents.
+    pub fn open(&mut self, alloc: Global, line: &str) -> Result<(), Fail>
+        ensures { OnOk result (IsSoundInForm (document_of self.new.doc)) }
+    {
+        self.intents = List::new(alloc);
+        self.open_again(alloc, line)
+    }
+
+    /// The commit of a case here, by a session.
+    pub fn made(&self, alloc: Global, session: u32, case: Case) -> Result<Intent, Fail> {
+        let given = NameCounters {
+            rev: Rev { session, num: 1 },
+            nodes: 0,
+            cells: 0,
+        };
+        part(alloc, &self.schema, &self.doc, given, case)
+    }
+
+    /// Adds an intent.
+    pub fn add(&mut self, intent: Intent) -> Result<(), Fail>
+        ensures { self.new.doc ≡ self.old.doc }
+    {
+        match self.intents.push(intent) {
+            Ok(()) => Ok(()),
+            Err(_) => Err(Fail::from("no memory")),
+        }
+    }
+
+    /// Adds the commit of a case here, by a session.
+    pub fn commit(&mut self, alloc: Global, session: u32, case: Case) -> Result<(), Fail>
+        ensures { self.new.doc ≡ self.old.doc }
+    {
+        let intent = self.made(alloc, session, case)?;
+        self.add(intent)
+    }
+
+    /// Carries out one of the intents.
+    pub fn carry(&mut self, alloc: Global, at: usize) -> Result<Verdict, Fail>
+        requires { IsSoundInForm (document_of self.old.doc) }
+        ensures { OnOk result (IsSoundInForm (document_of self.new.doc)) }
+    {
+        match self.intents.get(at) {
+            Some(intent) => carry(alloc, &mut self.doc, intent),
+            None => Err(Fail::from("no intent")),
+        }
+    }
+
+    /// Carries out an intent.
+    pub fn carry_new(&mut self, alloc: Global, intent: Intent) -> Result<Verdict, Fail>
+        requires { IsSoundInForm (document_of self.old.doc) }
+        ensures { OnOk result (IsSoundInForm (document_of self.new.doc)) }
+    {
+        carry(alloc, &mut self.doc, &intent)
+    }
+
+    /// Makes the commit of a case, if there is one, by the first session, and carries it out.
+    pub fn carry_first(&mut self, alloc: Global, case: Option<Case>) -> Result<(), Fail>
+        requires { IsSoundInForm (document_of self.old.doc) }
+        ensures { OnOk result (IsSoundInForm (document_of self.new.doc)) }
+    {
+        if let Some(case) = case {
+            let intent = self.made(alloc, 1, case)?;
+            self.carry_new(alloc, intent)?;
+        }
+        Ok(())
+    }
+
+    /// Whether the document shows the tree of a line.
+    pub fn shows(&self, alloc: Global, line: &str) -> Result<bool, AllocError>
+        requires { IsSoundInForm (document_of self.now.doc) }
+    {
+        shows(alloc, &self.doc, line)
     }
 }
 
-/// The commit of a case in a document, by a session.
-pub fn commit(
-    alloc: Global,
-    schema: &Schema,
-    doc: &Doc,
-    session: u32,
-    case: Case,
-) -> Result<Intent, Fail> {
-    let given = NameCounters {
-        rev: Rev { session, num: 1 },
-        nodes: 0,
-        cells: 0,
-    };
-    part(alloc, schema, doc, given, case)
+/// The document after a commit that is sound.
+pub fn after(alloc: Global, doc: &Doc, intent: &Intent) -> Result<Doc, Fail>
+    requires { IsSoundInForm (document_of doc.now) }
+    ensures { IfOk result (λ d. IsSoundInForm (document_of d)) }
+{
+    let mut after = doc.copy(alloc)?;
+    match carry(alloc, &mut after, intent)? {
+        Verdict::Sound => Ok(after),
+        _ => Err(Fail::from("void")),
+    }
 }
 
 /// A row of a table.
 pub trait Row {
     /// Whether it is so.
-    fn is_so(&self, alloc: Global, schema: &Schema) -> Result<bool, Fail>;
+    fn is_so(&self, alloc: Global, scene: &mut Scene) -> Result<bool, Fail>;
 
     /// What is told of it where it isn't.
     fn message(&self) -> &'static str;
@@ -286,11 +387,11 @@ pub trait Row {
 // What is told of the first row that isn't so.
 fn first_wrong<R: Row>(
     alloc: Global,
-    schema: &Schema,
+    scene: &mut Scene,
     rows: &[R],
 ) -> Result<Option<&'static str>, Fail> {
     for row in rows {
-        if !row.is_so(alloc, schema)? {
+        if !row.is_so(alloc, scene)? {
             return Ok(Some(row.message()));
         }
     }
@@ -299,6 +400,6 @@ fn first_wrong<R: Row>(
 
 /// What is told of the first row of a table that isn't so.
 pub fn wrong_row<R: Row>(alloc: Global, rows: &[R]) -> Result<Option<&'static str>, Fail> {
-    let schema = schema(alloc)?;
-    first_wrong(alloc, &schema, rows)
+    let mut scene = Scene::new(alloc)?;
+    first_wrong(alloc, &mut scene, rows)
 }

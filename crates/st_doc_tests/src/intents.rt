@@ -7,14 +7,6 @@ use std::test::Fail;
 
 const REV: Rev = Rev { session: 1, num: 1 };
 
-fn old(at: u32) -> NodeId {
-    NodeId(Atom { rev: OPENING, at })
-}
-
-fn new(at: u32) -> NodeId {
-    NodeId(Atom { rev: REV, at })
-}
-
 fn cell(at: u32) -> CellId {
     CellId(Atom { rev: REV, at })
 }
@@ -82,7 +74,7 @@ fn add_group(
 
 fn add_empty_group(alloc: Global, list: &mut List<Group>) -> Result<(), AllocError> {
     let group = Group {
-        node: old(1),
+        node: OLD_1,
         after: None,
         cells: List::new(alloc),
     };
@@ -130,33 +122,12 @@ fn nothing(alloc: Global) -> Intent {
     }
 }
 
-fn fill(alloc: Global, intent: &mut Intent) -> Result<(), AllocError> {
-    add_new(alloc, &mut intent.new, new(0))?;
-    add_new(alloc, &mut intent.new, new(1))?;
-    add_group(alloc, &mut intent.groups, ROOT, None, 0, new(0))?;
-    add_group(alloc, &mut intent.groups, new(0), None, 1, new(1))?;
-    add_put(&mut intent.put, cell_put(new(0), 0))?;
-    add_put(&mut intent.put, cell_put(new(1), 1))
-}
-
-// A new list at the start of the root's row, with another one inside.
-fn nested_intent(alloc: Global) -> Result<Intent, AllocError> {
-    let mut intent = nothing(alloc);
-    fill(alloc, &mut intent)?;
-    Ok(intent)
-}
-
-#[test]
-fn first_use(rt: HostRuntime) -> Result<(), Fail> {
-    let alloc = rt.alloc();
-    let mut intent = nested_intent(alloc)?;
-    assert!(rt; is_intent(&intent));
-    intent.need.push(new(1))?;
-    assert!(rt; !is_intent(&intent));
+fn add_need(list: &mut List<NodeId>, node: NodeId) -> Result<(), AllocError> {
+    list.push(node)?;
     Ok(())
 }
 
-// What is added to an intent so that it breaks one rule.
+// What is added to an intent.
 #[derive(Clone, Copy)]
 enum Added {
     New(NodeId),
@@ -166,7 +137,8 @@ enum Added {
     CellPut(NodeId, u32),
     Out(NodeId),
     Register(NodeId, NodeId),
-    Clear(&'static str),
+    Clear(NodeId, &'static str),
+    Need(NodeId),
     Schema,
 }
 
@@ -183,14 +155,15 @@ fn add(alloc: Global, intent: &mut Intent, added: Added) -> Result<(), AllocErro
                 ROOT,
                 Some(cell(anchor)),
                 at,
-                new(0),
+                NEW_0,
             )
         }
         Added::EmptyGroup => add_empty_group(alloc, &mut intent.groups),
         Added::CellPut(node, at) => add_put(&mut intent.put, cell_put(node, at)),
         Added::Out(node) => add_put(&mut intent.put, out(node)),
         Added::Register(node, above) => add_register(alloc, &mut intent.put, node, above),
-        Added::Clear(key) => add_clear(alloc, &mut intent.clear, ROOT, key),
+        Added::Clear(node, key) => add_clear(alloc, &mut intent.clear, node, key),
+        Added::Need(node) => add_need(&mut intent.need, node),
         Added::Schema => add_schema(alloc, intent),
     }
 }
@@ -200,76 +173,138 @@ fn add_schema(alloc: Global, intent: &mut Intent) -> Result<(), AllocError> {
     Ok(())
 }
 
-fn holds_with(alloc: Global, added: Added) -> Result<bool, AllocError> {
-    let mut intent = nested_intent(alloc)?;
-    add(alloc, &mut intent, added)?;
-    Ok(is_intent(&intent))
+fn add_all(alloc: Global, intent: &mut Intent, all: &[Added]) -> Result<(), AllocError> {
+    for added in all {
+        add(alloc, intent, *added)?;
+    }
+    Ok(())
 }
 
-// Whether each of these, added to an intent, leaves it within the rules, or each breaks one.
+const NEW_0: NodeId = NodeId(Atom { rev: REV, at: 0 });
+
+const NEW_1: NodeId = NodeId(Atom { rev: REV, at: 1 });
+
+const NEW_2: NodeId = NodeId(Atom { rev: REV, at: 2 });
+
+const NEW_3: NodeId = NodeId(Atom { rev: REV, at: 3 });
+
+const OLD_1: NodeId = NodeId(Atom {
+    rev: OPENING,
+    at: 1,
+});
+
+const OLD_2: NodeId = NodeId(Atom {
+    rev: OPENING,
+    at: 2,
+});
+
+const OLD_5: NodeId = NodeId(Atom {
+    rev: OPENING,
+    at: 5,
+});
+
+// A new list at the start of the root's row, with another one inside.
+const NESTED: [Added; 6] = [
+    Added::New(NEW_0),
+    Added::New(NEW_1),
+    Added::Start(ROOT, 0, NEW_0),
+    Added::Start(NEW_0, 1, NEW_1),
+    Added::CellPut(NEW_0, 0),
+    Added::CellPut(NEW_1, 1),
+];
+
+fn holds(alloc: Global, intent: &mut Intent, all: &[Added]) -> Result<bool, AllocError> {
+    add_all(alloc, intent, &NESTED)?;
+    add_all(alloc, intent, all)?;
+    Ok(is_intent(intent))
+}
+
+// Whether the nested lists are an intent with all of these too.
+fn holds_with(alloc: Global, all: &[Added]) -> Result<bool, AllocError> {
+    let mut intent = nothing(alloc);
+    holds(alloc, &mut intent, all)
+}
+
+// Whether each of these, added to the nested lists, leaves them within the rules, or each breaks one.
 fn all_hold(alloc: Global, cases: &[Added], holds: bool) -> Result<bool, AllocError> {
     for added in cases {
-        if holds_with(alloc, *added)? != holds {
+        if holds_with(alloc, &[*added])? != holds {
             return Ok(false);
         }
     }
     Ok(true)
 }
 
+fn first_is_used(alloc: Global) -> Result<[bool; 2], AllocError> {
+    let held = holds_with(alloc, &[])?;
+    Ok([held, holds_with(alloc, &[Added::Need(NEW_1)])?])
+}
+
 #[test]
-fn broken_rules(rt: HostRuntime) -> Result<(), Fail> {
-    let broken = [
-        // A new node of another revision, and one that is there twice.
-        Added::New(old(5)),
-        Added::New(new(1)),
-        // A cell that is there twice, two groups at one start, an owner that is neither new nor put.
-        Added::Start(old(1), 1, new(1)),
-        Added::Start(ROOT, 2, new(0)),
-        Added::Start(old(1), 2, old(2)),
-        // A new anchor, and no cells.
-        Added::After(1, 2),
-        Added::EmptyGroup,
-        // A node that is put twice, two nodes in one cell, the root put, and a new node put nowhere.
-        Added::CellPut(new(1), 7),
-        Added::CellPut(old(1), 1),
-        Added::Out(ROOT),
-        Added::Out(new(1)),
-        // A register that is filled and not cleared, the empty key, and a schema beside other wishes.
-        Added::Register(old(1), ROOT),
-        Added::Clear(""),
-        Added::Schema,
-    ];
-    let allowed = [Added::Clear("k"), Added::New(new(2)), Added::Out(old(1))];
-    let refused = all_hold(rt.alloc(), &broken, false)?;
-    let held = all_hold(rt.alloc(), &allowed, true)?;
-    assert!(rt; refused && held, "{refused} {held}");
+fn first_use(rt: HostRuntime) -> Result<(), Fail> {
+    let so = first_is_used(rt.alloc())?;
+    assert!(rt; so == [true, false], "{so:?}");
     Ok(())
 }
 
-// Two new nodes, one in the register of the other.
-fn hang(alloc: Global, intent: &mut Intent) -> Result<(), AllocError> {
-    add_new(alloc, &mut intent.new, new(2))?;
-    add_new(alloc, &mut intent.new, new(3))?;
-    add_clear(alloc, &mut intent.clear, new(2), "k")?;
-    add_clear(alloc, &mut intent.clear, new(3), "k")?;
-    add_register(alloc, &mut intent.put, new(2), new(3))
+const BROKEN: [Added; 14] = [
+    // A new node of another revision, and one that is there twice.
+    Added::New(OLD_5),
+    Added::New(NEW_1),
+    // A cell that is there twice, two groups at one start, an owner that is neither new nor put.
+    Added::Start(OLD_1, 1, NEW_1),
+    Added::Start(ROOT, 2, NEW_0),
+    Added::Start(OLD_1, 2, OLD_2),
+    // A new anchor, and no cells.
+    Added::After(1, 2),
+    Added::EmptyGroup,
+    // A node that is put twice, two nodes in one cell, the root put, and a new node put nowhere.
+    Added::CellPut(NEW_1, 7),
+    Added::CellPut(OLD_1, 1),
+    Added::Out(ROOT),
+    Added::Out(NEW_1),
+    // A register that is filled and not cleared, the empty key, and a schema beside other wishes.
+    Added::Register(OLD_1, ROOT),
+    Added::Clear(ROOT, ""),
+    Added::Schema,
+];
+
+const ALLOWED: [Added; 3] = [
+    Added::Clear(ROOT, "k"),
+    Added::New(NEW_2),
+    Added::Out(OLD_1),
+];
+
+fn rules_are_kept(alloc: Global) -> Result<[bool; 2], AllocError> {
+    let refused = all_hold(alloc, &BROKEN, false)?;
+    Ok([refused, all_hold(alloc, &ALLOWED, true)?])
 }
 
-fn becomes_a_ring(alloc: Global, intent: &mut Intent) -> Result<bool, AllocError> {
-    hang(alloc, intent)?;
-    let held = is_intent(intent);
-    add_register(alloc, &mut intent.put, new(3), new(2))?;
-    Ok(held && !is_intent(intent))
+#[test]
+fn broken_rules(rt: HostRuntime) -> Result<(), Fail> {
+    let so = rules_are_kept(rt.alloc())?;
+    assert!(rt; so == [true; 2], "{so:?}");
+    Ok(())
 }
 
-fn ring_is_seen(alloc: Global) -> Result<bool, AllocError> {
-    let mut intent = nested_intent(alloc)?;
-    becomes_a_ring(alloc, &mut intent)
+// Two new nodes, one in the register of the other; and then each in the register of the other.
+const RING: [Added; 6] = [
+    Added::New(NEW_2),
+    Added::New(NEW_3),
+    Added::Clear(NEW_2, "k"),
+    Added::Clear(NEW_3, "k"),
+    Added::Register(NEW_2, NEW_3),
+    Added::Register(NEW_3, NEW_2),
+];
+
+fn ring_is_seen(alloc: Global) -> Result<[bool; 2], AllocError> {
+    let held = holds_with(alloc, &RING[..5])?;
+    Ok([held, holds_with(alloc, &RING)?])
 }
 
-// Two new nodes, each in the register of the other.
 #[test]
 fn ring(rt: HostRuntime) -> Result<(), Fail> {
-    assert!(rt; ring_is_seen(rt.alloc())?);
+    let so = ring_is_seen(rt.alloc())?;
+    assert!(rt; so == [true, false], "{so:?}");
     Ok(())
 }

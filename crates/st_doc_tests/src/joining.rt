@@ -1,16 +1,15 @@
 //! Two edits of one commit, the second made in the document after the first, do joined what they do in turn, also as the
 //! edits of a transaction.
+ghost use Rattle.std.specs.Prelude.{OnOk};
 ghost use Rattle.st_marks.specs.Document.{IsSoundInForm};
 ghost use Rattle.st_doc.specs.Doc.{document_of};
 
-use crate::given::{Case, Row, carry, open_doc, part, shows, wrong_row};
+use crate::given::{Case, Row, Scene, part, wrong_row};
 use crate::transactions::edits_lead;
-use st_doc::Doc;
 use st_edits::NameCounters;
-use st_ids::Rev;
+use st_ids::{List, Rev};
 use st_join::join;
 use st_marks::Intent;
-use st_schema::Schema;
 use std::alloc::Global;
 use std::test::Fail;
 
@@ -26,76 +25,49 @@ pub struct Parts {
     pub both: &'static str,
 }
 
-// Whether the join of two parts leads to a tree.
-fn join_leads(
-    alloc: Global,
-    doc: &mut Doc,
-    first: &Intent,
-    second: &Intent,
-    tree: &str,
-) -> Result<bool, Fail>
-    requires { IsSoundInForm (document_of doc.old) }
-{
-    let whole = join(alloc, first, second)?;
-    carry(alloc, doc, &whole)?;
-    Ok(shows(alloc, doc, tree)?)
-}
-
-// Whether a second part leads to a tree, in the document after the first.
-fn then_leads(alloc: Global, doc: &mut Doc, second: &Intent, tree: &str) -> Result<bool, Fail>
-    requires { IsSoundInForm (document_of doc.old) }
-{
-    carry(alloc, doc, second)?;
-    Ok(shows(alloc, doc, tree)?)
-}
-
-// Whether both ways lead to a row's tree; `after` is the document after the first part.
-fn both_lead(
-    alloc: Global,
-    schema: &Schema,
-    doc: &mut Doc,
-    after: &mut Doc,
-    first: &Intent,
-    row: &Parts,
-) -> Result<bool, Fail>
-    requires doc { IsSoundInForm (document_of doc.old) }
-    requires after { IsSoundInForm (document_of after.old) }
+// Adds what a case means in the document, as a part of a commit that has made names, and carries it out.
+fn carry_part(alloc: Global, scene: &mut Scene, made: (u32, u32), case: Case) -> Result<(), Fail>
+    requires { IsSoundInForm (document_of scene.old.doc) }
+    ensures { OnOk result (IsSoundInForm (document_of scene.new.doc)) }
 {
     let given = NameCounters {
         rev: REV,
-        nodes: row.made.0,
-        cells: row.made.1,
+        nodes: made.0,
+        cells: made.1,
     };
-    let second = part(alloc, schema, after, given, row.second)?;
-    let in_turn = then_leads(alloc, after, &second, row.both)?;
-    Ok(in_turn && join_leads(alloc, doc, first, &second, row.both)?)
+    let at = scene.intents.len();
+    let part = part(alloc, &scene.schema, &scene.doc, given, case)?;
+    scene.add(part)?;
+    scene.carry(alloc, at)?;
+    Ok(())
 }
 
-fn row_leads(alloc: Global, schema: &Schema, doc: &mut Doc, row: &Parts) -> Result<bool, Fail>
-    requires { IsSoundInForm (document_of doc.old) }
-{
-    let given = NameCounters {
-        rev: REV,
-        nodes: 0,
-        cells: 0,
-    };
-    let first = part(alloc, schema, doc, given, row.first)?;
-    let mut after = doc.copy(alloc)?;
-    carry(alloc, &mut after, &first)?;
-    both_lead(alloc, schema, doc, &mut after, &first, row)
+// The join of the two intents that there are.
+fn joined(alloc: Global, intents: &List<Intent>) -> Result<Intent, Fail> {
+    match intents.as_slice() {
+        [first, second] => Ok(join(alloc, first, second)?),
+        _ => Err(Fail::from("not two")),
+    }
 }
 
-// Whether a row's edits lead to its tree, in a transaction and joined.
-fn all_lead(alloc: Global, schema: &Schema, doc: &mut Doc, row: &Parts) -> Result<bool, Fail>
-    requires { IsSoundInForm (document_of doc.old) }
+// Whether the join of the two parts leads to a tree.
+fn join_leads(alloc: Global, scene: &mut Scene, tree: &str) -> Result<bool, Fail>
+    requires { IsSoundInForm (document_of scene.old.doc) }
 {
-    Ok(edits_lead(alloc, schema, doc, row)? && row_leads(alloc, schema, doc, row)?)
+    let whole = joined(alloc, &scene.intents)?;
+    scene.carry_new(alloc, whole)?;
+    Ok(scene.shows(alloc, tree)?)
 }
 
 impl Row for Parts {
-    fn is_so(&self, alloc: Global, schema: &Schema) -> Result<bool, Fail> {
-        let mut doc = open_doc(alloc, schema, self.tree)?;
-        all_lead(alloc, schema, &mut doc, self)
+    fn is_so(&self, alloc: Global, scene: &mut Scene) -> Result<bool, Fail> {
+        scene.open(alloc, self.tree)?;
+        let open = edits_lead(alloc, scene, self)?;
+        carry_part(alloc, scene, (0, 0), self.first)?;
+        carry_part(alloc, scene, self.made, self.second)?;
+        let in_turn = scene.shows(alloc, self.both)?;
+        scene.open_again(alloc, self.tree)?;
+        Ok(open && in_turn && join_leads(alloc, scene, self.both)?)
     }
 
     fn message(&self) -> &'static str {

@@ -1,17 +1,14 @@
 //! The step over a commit, and back, where the document after it has nothing more.
+ghost use Rattle.std.specs.Prelude.{IfOk};
 ghost use Rattle.st_marks.specs.Document.{IsSoundInForm};
 ghost use Rattle.st_doc.specs.Doc.{document_of};
 
-use crate::embeds::{
-    CELL_0, CELL_1, MADE, MAKE, NEW, NODE_1, NODE_3, REV, STAYS_1, are_rows, carry_earlier,
-};
-use crate::given::{Case, Row, commit, open_doc, schema, wrong_row};
-use crate::ways::after;
+use crate::embeds::{CELL_0, CELL_1, MADE, MAKE, NEW, NODE_1, NODE_3, REV, STAYS_1, are_rows};
+use crate::given::{Case, Row, Scene, after, wrong_row};
 use st_doc::Doc;
 use st_ids::{List, NodeId, OPENING, Or, ROOT, Text};
 use st_later::NotLater;
 use st_marks::{How, Intent, Loose, Mark, RegStep, SchemaStep, Step};
-use st_schema::Schema;
 use st_step::step_to;
 use std::alloc::{AllocError, Global};
 use std::test::Fail;
@@ -91,25 +88,22 @@ fn are_steps(alloc: Global, before: &Doc, after: &Doc, listed: &Stepped) -> Resu
     Ok(is_step(alloc, before, after, listed)? && back == listed.leads_back)
 }
 
-fn is_step_over(
-    alloc: Global,
-    schema: &Schema,
-    doc: &mut Doc,
-    intent: &Intent,
-    listed: &Stepped,
-) -> Result<bool, Fail>
-    requires { IsSoundInForm (document_of doc.old) }
+fn are_steps_over(alloc: Global, doc: &Doc, intent: &Intent, listed: &Stepped) -> Result<bool, Fail>
+    requires { IsSoundInForm (document_of doc.now) }
 {
-    carry_earlier(alloc, schema, doc, listed.earlier)?;
-    let after = after(alloc, &*doc, intent)?;
-    are_steps(alloc, &*doc, &after, listed)
+    let after = after(alloc, doc, intent)?;
+    are_steps(alloc, doc, &after, listed)
 }
 
 impl Row for Stepped {
-    fn is_so(&self, alloc: Global, schema: &Schema) -> Result<bool, Fail> {
-        let mut doc = open_doc(alloc, schema, self.tree)?;
-        let intent = commit(alloc, schema, &doc, 2, self.case)?;
-        is_step_over(alloc, schema, &mut doc, &intent, self)
+    fn is_so(&self, alloc: Global, scene: &mut Scene) -> Result<bool, Fail> {
+        scene.open(alloc, self.tree)?;
+        scene.commit(alloc, 2, self.case)?;
+        scene.carry_first(alloc, self.earlier)?;
+        match scene.intents.get(0) {
+            Some(intent) => are_steps_over(alloc, &scene.doc, intent, self),
+            None => Ok(false),
+        }
     }
 
     fn message(&self) -> &'static str {
@@ -243,23 +237,44 @@ fn schemas_change(
     }
 }
 
-fn schema_comes_and_goes(alloc: Global, doc: &Doc) -> Result<bool, Fail>
-    requires { IsSoundInForm (document_of doc.now) }
+fn schema_comes_and_goes(alloc: Global, doc: &Doc, after: &Doc) -> Result<bool, Fail>
+    requires before { IsSoundInForm (document_of doc.now) }
+    requires after { IsSoundInForm (document_of after.now) }
 {
-    let intent = other_schema(alloc)?;
-    let after = after(alloc, doc, &intent)?;
-    Ok(schemas_change(alloc, doc, &after, 0, 1)? && schemas_change(alloc, &after, doc, 1, 0)?)
+    Ok(schemas_change(alloc, doc, after, 0, 1)? && schemas_change(alloc, after, doc, 1, 0)?)
 }
 
-fn schema_is_listed(alloc: Global) -> Result<bool, Fail> {
-    let schema = schema(alloc)?;
-    let doc = open_doc(alloc, &schema, r#"{"list":["w"]}"#)?;
-    schema_comes_and_goes(alloc, &doc)
+// The document after the commit that brings another schema.
+fn with_other_schema(alloc: Global, doc: &Doc) -> Result<Doc, Fail>
+    requires { IsSoundInForm (document_of doc.now) }
+    ensures { IfOk result (λ d. IsSoundInForm (document_of d)) }
+{
+    let intent = other_schema(alloc)?;
+    after(alloc, doc, &intent)
+}
+
+// Another schema in the document of a tree.
+#[derive(Drop)]
+struct OtherSchema {
+    tree: &'static str,
+}
+
+impl Row for OtherSchema {
+    fn is_so(&self, alloc: Global, scene: &mut Scene) -> Result<bool, Fail> {
+        scene.open(alloc, self.tree)?;
+        let after = with_other_schema(alloc, &scene.doc)?;
+        schema_comes_and_goes(alloc, &scene.doc, &after)
+    }
+
+    fn message(&self) -> &'static str {
+        self.tree
+    }
 }
 
 #[test]
 fn steps_list_schemas(rt: HostRuntime) -> Result<(), Fail> {
-    let listed = schema_is_listed(rt.alloc())?;
-    assert!(rt; listed, "the schemas differ");
+    let tree = r#"{"list":["w"]}"#;
+    let wrong = wrong_row(rt.alloc(), &[OtherSchema { tree }])?;
+    assert!(rt; wrong.is_none(), "{wrong:?}");
     Ok(())
 }

@@ -4,7 +4,7 @@ ghost use Rattle.st_marks.specs.Document.{IsSoundInForm};
 ghost use Rattle.st_doc.specs.Doc.{document_of};
 ghost use Rattle.st_heads.specs.Transactions.{with_open, HasOpen, IsOpen, IsSoundPart};
 
-use crate::given::{Case, part, shows};
+use crate::given::{Case, Scene, part, shows};
 use crate::joining::Parts;
 use st_doc::Doc;
 use st_edits::NameCounters;
@@ -58,6 +58,25 @@ fn is_next_part(
     is_sound_part(alloc, head.shown_doc(), part)
 }
 
+// Whether an intent goes on with the transaction that is open on a head.
+fn goes_on(
+    alloc: Global,
+    head: &Head,
+    joined: &Option<Intent>,
+    under: Rev,
+    part: &Intent,
+) -> Result<bool, Fail>
+    requires has { HasOpen head.now joined.now }
+    requires sound { IsSoundInForm (with_open (document_of head.now.doc) joined.now) }
+    ensures part { IfOk result (λ b. b ≡ true → IsSoundPart (with_open (document_of head.now.doc) joined.now) part.now) }
+    ensures names { IfOk result (λ b. b ≡ true → (part.now.rev ≡ REV) × (part.now.under ≡ under)) }
+{
+    if part.rev != REV || part.under != under {
+        return Ok(false);
+    }
+    is_next_part(alloc, head, joined, part)
+}
+
 // Edits in the transaction that is open on a head.
 fn edit_at(
     alloc: Global,
@@ -71,11 +90,11 @@ fn edit_at(
     ensures line { OnOk result (head.new.doc ≡ head.old.doc) }
     ensures going { OnOk result (IsOpen head.new joined.new REV under) }
 {
-    if part.rev != REV || part.under != under || !is_next_part(alloc, head, joined, &part)? {
-        return Err(Fail::from("not sound"));
+    match goes_on(alloc, head, joined, under, &part) {
+        Ok(true) => Ok(head.edit(alloc, joined, part)?),
+        Ok(false) => Err(Fail::from("not sound")),
+        Err(fail) => Err(fail),
     }
-    head.edit(alloc, joined, part)?;
-    Ok(())
 }
 
 // The head of a document that has no commit of its own yet.
@@ -144,16 +163,31 @@ fn second_leads(
     leads(alloc, head, joined, row.both)
 }
 
+// Whether two edits of the transaction that is open on a head lead to a row's tree.
+fn edits_lead_at(
+    alloc: Global,
+    schema: &Schema,
+    head: &mut Head,
+    joined: &mut Option<Intent>,
+    part: Intent,
+    row: &Parts,
+) -> Result<bool, Fail>
+    requires line { IsSoundInForm (document_of head.old.doc) }
+    requires going { IsOpen head.old joined.old REV part.under }
+{
+    let under = part.under;
+    edit_at(alloc, head, joined, under, part)?;
+    second_leads(alloc, schema, head, joined, under, row)
+}
+
 // Whether two edits of one transaction over a document lead to a row's tree.
 fn both_lead(alloc: Global, schema: &Schema, head: &mut Head, row: &Parts) -> Result<bool, Fail>
     requires line { IsSoundInForm (document_of head.old.doc) }
     requires none { head.old.edited ≡ None }
 {
     let part = part_at(alloc, schema, head, (0, 0), row.first)?;
-    let under = part.under;
     let mut joined = None;
-    edit_at(alloc, head, &mut joined, under, part)?;
-    second_leads(alloc, schema, head, &mut joined, under, row)
+    edits_lead_at(alloc, schema, head, &mut joined, part, row)
 }
 
 // Whether a transaction that is let go of leaves the line as it was.
@@ -164,24 +198,51 @@ fn lets_go(alloc: Global, head: &mut Head, tree: &str) -> Result<bool, Fail>
     Ok(head_shows(alloc, head, &None, tree)?)
 }
 
+// Whether an edit shows in the transaction that is open on a head, and not after it is let go of.
+fn edit_goes(
+    alloc: Global,
+    head: &mut Head,
+    joined: &mut Option<Intent>,
+    part: Intent,
+    tree: &str,
+) -> Result<bool, Fail>
+    requires line { IsSoundInForm (document_of head.old.doc) }
+    requires going { IsOpen head.old joined.old REV part.under }
+{
+    let under = part.under;
+    edit_at(alloc, head, joined, under, part)?;
+    let before = head_shows(alloc, head, joined, tree)?;
+    Ok(!before && lets_go(alloc, head, tree)?)
+}
+
 // Whether the first edit of a row shows in a transaction, and not after it is let go of.
 fn first_goes(alloc: Global, schema: &Schema, head: &mut Head, row: &Parts) -> Result<bool, Fail>
     requires line { IsSoundInForm (document_of head.old.doc) }
     requires none { head.old.edited ≡ None }
 {
     let part = part_at(alloc, schema, head, (0, 0), row.first)?;
-    let under = part.under;
     let mut joined = None;
-    edit_at(alloc, head, &mut joined, under, part)?;
-    let before = head_shows(alloc, head, &joined, row.tree)?;
-    Ok(!before && lets_go(alloc, head, row.tree)?)
+    edit_goes(alloc, head, &mut joined, part, row.tree)
+}
+
+// The same over a document.
+fn first_goes_over(alloc: Global, scene: &Scene, row: &Parts) -> Result<bool, Fail>
+    requires { IsSoundInForm (document_of scene.now.doc) }
+{
+    let mut line = line_over(alloc, &scene.doc)?;
+    first_goes(alloc, &scene.schema, &mut line, row)
+}
+
+fn both_lead_over(alloc: Global, scene: &Scene, row: &Parts) -> Result<bool, Fail>
+    requires { IsSoundInForm (document_of scene.now.doc) }
+{
+    let mut line = line_over(alloc, &scene.doc)?;
+    both_lead(alloc, &scene.schema, &mut line, row)
 }
 
 /// Whether the edits of a row lead to its tree as those of a transaction, and go where it is let go of.
-pub fn edits_lead(alloc: Global, schema: &Schema, doc: &Doc, row: &Parts) -> Result<bool, Fail>
-    requires { IsSoundInForm (document_of doc.now) }
+pub fn edits_lead(alloc: Global, scene: &Scene, row: &Parts) -> Result<bool, Fail>
+    requires { IsSoundInForm (document_of scene.now.doc) }
 {
-    let mut line = line_over(alloc, doc)?;
-    let mut other = line_over(alloc, doc)?;
-    Ok(both_lead(alloc, schema, &mut line, row)? && first_goes(alloc, schema, &mut other, row)?)
+    Ok(both_lead_over(alloc, scene, row)? && first_goes_over(alloc, scene, row)?)
 }

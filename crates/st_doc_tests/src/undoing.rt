@@ -3,13 +3,12 @@ ghost use Rattle.std.specs.Prelude.{IfOk, OnOk};
 ghost use Rattle.st_marks.specs.Document.{IsSoundInForm};
 ghost use Rattle.st_doc.specs.Doc.{document_of};
 
-use crate::given::{Case, Row, commit, open_doc, shows, wrong_row};
-use crate::ways::ways_agree;
+use crate::given::{Case, Row, Scene, shows, wrong_row};
+use crate::ways::case_leads_back;
 use st_doc::Doc;
 use st_heads::{Head, Way};
 use st_ids::{Copied, List, OPENING, Rev};
 use st_marks::Intent;
-use st_schema::Schema;
 use std::alloc::{AllocError, Global};
 use std::test::Fail;
 
@@ -103,29 +102,23 @@ fn pair_leads(
     leads(alloc, &mut head, second, row)
 }
 
-fn row_leads(alloc: Global, schema: &Schema, doc: &Doc, row: &Pair) -> Result<bool, Fail>
-    requires { IsSoundInForm (document_of doc.now) }
+fn row_leads(alloc: Global, scene: &Scene, row: &Pair) -> Result<bool, Fail>
+    requires { IsSoundInForm (document_of scene.now.doc) }
 {
-    let first = commit(alloc, schema, doc, 1, row.first)?;
-    let second = commit(alloc, schema, doc, 2, row.second)?;
-    pair_leads(alloc, doc, first, &second, row)
-}
-
-// Whether a row's edits are undone, and both ways back over each are one.
-fn is_undone(alloc: Global, schema: &Schema, doc: &Doc, row: &Pair) -> Result<bool, Fail>
-    requires { IsSoundInForm (document_of doc.now) }
-{
-    Ok(
-        row_leads(alloc, schema, doc, row)?
-            && ways_agree(alloc, schema, doc, row.first)?
-            && ways_agree(alloc, schema, doc, row.second)?,
-    )
+    let first = scene.made(alloc, 1, row.first)?;
+    match scene.intents.get(0) {
+        Some(second) => pair_leads(alloc, &scene.doc, first, second, row),
+        None => Ok(false),
+    }
 }
 
 impl Row for Pair {
-    fn is_so(&self, alloc: Global, schema: &Schema) -> Result<bool, Fail> {
-        let doc = open_doc(alloc, schema, self.tree)?;
-        is_undone(alloc, schema, &doc, self)
+    fn is_so(&self, alloc: Global, scene: &mut Scene) -> Result<bool, Fail> {
+        scene.open(alloc, self.tree)?;
+        scene.commit(alloc, 2, self.second)?;
+        let undone = row_leads(alloc, scene, self)?;
+        let first = case_leads_back(alloc, scene, self.first, None)?;
+        Ok(undone && first && case_leads_back(alloc, scene, self.second, None)?)
     }
 
     fn message(&self) -> &'static str {

@@ -1,16 +1,14 @@
 //! The way back over a commit, made of the commit and the document before it, is the way back between the two documents.
-ghost use Rattle.std.specs.Prelude.{IfOk};
 ghost use Rattle.st_marks.specs.Document.{IsSoundInForm};
 ghost use Rattle.st_marks.specs.Intent.{Fits};
 ghost use Rattle.st_doc.specs.Doc.{document_of};
 
-use crate::given::{Case, Row, carry, commit, open_doc, wrong_row};
+use crate::given::{Case, Row, Scene, after, wrong_row};
 use st_doc::Doc;
 use st_heads::way_back;
 use st_ids::{FieldId, OPENING, Or, Rev};
 use st_later::{NotLater, back};
-use st_marks::{Intent, Put, Verdict};
-use st_schema::Schema;
+use st_marks::{Intent, Put};
 use std::alloc::Global;
 use std::test::Fail;
 
@@ -73,18 +71,6 @@ fn is_same_way(a: &Intent, b: &Intent) -> bool {
         && are_same_fields(a.clear.as_slice(), b.clear.as_slice())
 }
 
-/// The document after a commit that is sound.
-pub fn after(alloc: Global, doc: &Doc, intent: &Intent) -> Result<Doc, Fail>
-    requires { IsSoundInForm (document_of doc.now) }
-    ensures { IfOk result (λ d. IsSoundInForm (document_of d)) }
-{
-    let mut after = doc.copy(alloc)?;
-    match carry(alloc, &mut after, intent)? {
-        Verdict::Sound => Ok(after),
-        _ => Err(Fail::from("void")),
-    }
-}
-
 // Whether there is a way back between two documents, and it is this one.
 fn is_between(alloc: Global, before: &Doc, after: &Doc, way: &Intent) -> Result<bool, Fail>
     requires before { IsSoundInForm (document_of before.now) }
@@ -106,53 +92,59 @@ fn is_over(alloc: Global, before: &Doc, after: &Doc, intent: &Intent) -> Result<
     is_between(alloc, before, after, &way)
 }
 
-// Whether both ways back over a commit are one.
-fn are_one(alloc: Global, doc: &Doc, intent: &Intent) -> Result<bool, Fail>
+// Whether both ways back over a commit are one; and whether a way leads back from the document before it to that after it, if
+// that is asked.
+fn leads_back(
+    alloc: Global,
+    before: &Doc,
+    after: &Doc,
+    intent: &Intent,
+    keeps_all: Option<bool>,
+) -> Result<bool, Fail>
+    requires before { IsSoundInForm (document_of before.now) }
+    requires after { IsSoundInForm (document_of after.now) }
+    requires fits { Fits (document_of before.now) intent.now }
+{
+    let one = is_over(alloc, before, after, intent)?;
+    match keeps_all {
+        Some(keeps) => Ok(one && between(alloc, after, before)?.is_some() == keeps),
+        None => Ok(one),
+    }
+}
+
+fn commit_leads_back(
+    alloc: Global,
+    doc: &Doc,
+    intent: &Intent,
+    keeps_all: Option<bool>,
+) -> Result<bool, Fail>
     requires { IsSoundInForm (document_of doc.now) }
 {
     if !doc.fits(intent) {
         return Err(Fail::from("does not fit"));
     }
     let after = after(alloc, doc, intent)?;
-    is_over(alloc, doc, &after, intent)
+    leads_back(alloc, doc, &after, intent, keeps_all)
 }
 
-// Whether a document has all that there is after a commit, so that a way leads back from it to the document after.
-fn keeps_all(alloc: Global, doc: &Doc, intent: &Intent) -> Result<bool, Fail>
-    requires { IsSoundInForm (document_of doc.now) }
+/// Whether both ways back over the commit of a case are one; and whether a document has all that there is after it, if that is
+/// asked.
+pub fn case_leads_back(
+    alloc: Global,
+    scene: &Scene,
+    case: Case,
+    keeps_all: Option<bool>,
+) -> Result<bool, Fail>
+    requires { IsSoundInForm (document_of scene.now.doc) }
 {
-    let after = after(alloc, doc, intent)?;
-    Ok(between(alloc, &after, doc)?.is_some())
-}
-
-/// Whether both ways back over the commit of a case are one.
-pub fn ways_agree(alloc: Global, schema: &Schema, doc: &Doc, case: Case) -> Result<bool, Fail>
-    requires { IsSoundInForm (document_of doc.now) }
-{
-    let intent = commit(alloc, schema, doc, 1, case)?;
-    are_one(alloc, doc, &intent)
-}
-
-// Whether a document has all that there is after the commit of a case.
-fn keeps_all_of(alloc: Global, schema: &Schema, doc: &Doc, case: Case) -> Result<bool, Fail>
-    requires { IsSoundInForm (document_of doc.now) }
-{
-    let intent = commit(alloc, schema, doc, 1, case)?;
-    keeps_all(alloc, doc, &intent)
-}
-
-// Whether both ways back over the commit of a row are one, and there is one from before the commit as the row says.
-fn leads_back(alloc: Global, schema: &Schema, doc: &Doc, row: &Edited) -> Result<bool, Fail>
-    requires { IsSoundInForm (document_of doc.now) }
-{
-    let keeps = keeps_all_of(alloc, schema, doc, row.case)?;
-    Ok(ways_agree(alloc, schema, doc, row.case)? && keeps == row.keeps_all)
+    let intent = scene.made(alloc, 1, case)?;
+    commit_leads_back(alloc, &scene.doc, &intent, keeps_all)
 }
 
 impl Row for Edited {
-    fn is_so(&self, alloc: Global, schema: &Schema) -> Result<bool, Fail> {
-        let doc = open_doc(alloc, schema, self.tree)?;
-        leads_back(alloc, schema, &doc, self)
+    fn is_so(&self, alloc: Global, scene: &mut Scene) -> Result<bool, Fail> {
+        scene.open(alloc, self.tree)?;
+        case_leads_back(alloc, scene, self.case, Some(self.keeps_all))
     }
 
     fn message(&self) -> &'static str {
