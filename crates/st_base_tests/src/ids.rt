@@ -1,3 +1,5 @@
+ghost use Rattle.std.specs.Prelude.{◌≤◌, length};
+
 use st_ids::{
     Atom, CellId, Copied, FieldId, Key, Leaf, List, NodeId, Or, Path, Place, Rev, Text, atom_order,
     cell_order, field_order, node_order, rev_order,
@@ -57,60 +59,74 @@ fn field_is_copied(alloc: Global) -> Result<bool, AllocError> {
     Ok(field.copy(alloc)? == field)
 }
 
-fn path_is_copied(alloc: Global) -> Result<bool, AllocError> {
-    let Ok(key) = Key::read(alloc, "k") else {
-        return Ok(false);
-    };
-    let mut path = Path::new(alloc);
-    path.push(Place { key, index: 7 })?;
+fn add_place(alloc: Global, path: &mut Path) -> Result<(), AllocError> {
+    let key = Key(Text::from_str(alloc, "k")?);
+    path.push(Place { key, index: 7 })
+}
+
+fn copy_has_place(alloc: Global, path: &Path) -> Result<bool, AllocError> {
     let copy = path.copy(alloc)?;
-    Ok(
-        copy.len() == 1
-            && copy.get(0).is_some_and(|place| place.index == 7)
-            && copy.get(1).is_none(),
-    )
+    let first = copy.get(0).is_some_and(|place| place.index == 7);
+    Ok(copy.len() == 1 && first && copy.get(1).is_none())
+}
+
+fn path_is_copied(alloc: Global) -> Result<bool, AllocError> {
+    let mut path = Path::new(alloc);
+    add_place(alloc, &mut path)?;
+    copy_has_place(alloc, &path)
+}
+
+fn names_are_used(alloc: Global) -> Result<[bool; 3], AllocError> {
+    let names = rev_is_written(alloc)? && atom_is_written(alloc)? && names_are_read();
+    let copies = text_is_copied(alloc)? && leaf_is_copied(alloc)?;
+    let paths = field_is_copied(alloc)? && path_is_copied(alloc)?;
+    Ok([names, copies, paths])
 }
 
 #[test]
 fn first_use(rt: HostRuntime) -> Result<(), Fail> {
-    let alloc = rt.alloc();
-    let names = rev_is_written(alloc)? && atom_is_written(alloc)? && names_are_read();
-    let copies = text_is_copied(alloc)? && leaf_is_copied(alloc)?;
-    let paths = field_is_copied(alloc)? && path_is_copied(alloc)?;
-    assert!(rt; names && copies && paths, "{names} {copies} {paths}");
+    let so = names_are_used(rt.alloc())?;
+    assert!(rt; so == [true; 3], "{so:?}");
+    Ok(())
+}
+
+fn add_items(list: &mut List<u32>) -> Result<(), AllocError>
+    requires { 1 ≤ length list.old }
+{
+    list.insert(1, 2)?;
+    list.push(4)?;
     Ok(())
 }
 
 fn list_takes(alloc: Global) -> Result<bool, AllocError> {
     let mut list = List::from_vec(vec![in alloc; 1u32, 3]?);
-    list.insert(1, 2)?;
-    list.push(4)?;
+    add_items(&mut list)?;
     if let Some(item) = list.get_mut(3) {
         *item = 5;
     }
     Ok(list.as_slice() == [1, 2, 3, 5].as_slice() && list.len() == 4)
 }
 
+fn copy_is_same(alloc: Global, list: &List<u32>) -> Result<bool, AllocError> {
+    Ok(list.copy(alloc)? == *list)
+}
+
 fn list_gives(alloc: Global) -> Result<bool, AllocError> {
     let mut list = List::from_vec(vec![in alloc; 1u32, 2, 3, 4]?);
-    let first = list.remove(0);
-    let last = list.pop();
-    let copy = list.copy(alloc)?;
-    Ok(
-        first == 1
-            && last == Some(4)
-            && copy == list
-            && list.get(1).copied() == Some(3)
-            && list.get(2).is_none(),
-    )
+    let ends = list.remove(0) == 1 && list.pop() == Some(4);
+    let left = list.get(1).copied() == Some(3) && list.get(2).is_none();
+    Ok(copy_is_same(alloc, &list)? && ends && left)
+}
+
+fn lists_are_used(alloc: Global) -> Result<[bool; 2], AllocError> {
+    let takes = list_takes(alloc)?;
+    Ok([takes, list_gives(alloc)?])
 }
 
 #[test]
 fn lists(rt: HostRuntime) -> Result<(), Fail> {
-    let alloc = rt.alloc();
-    let takes = list_takes(alloc)?;
-    let gives = list_gives(alloc)?;
-    assert!(rt; takes && gives, "{takes} {gives}");
+    let so = lists_are_used(rt.alloc())?;
+    assert!(rt; so == [true; 2], "{so:?}");
     Ok(())
 }
 
@@ -175,11 +191,16 @@ fn names_in_order() -> bool {
         && cell_order(&CellId(FIRST), &CellId(SECOND)) == Ordering::Less
 }
 
+fn is_before(alloc: Global, first: &FieldId, key: &str) -> Result<bool, AllocError> {
+    let second = field(alloc, FIRST, key)?;
+    Ok(second.is_some_and(|second| field_order(first, &second) == Ordering::Less))
+}
+
 fn fields_in_order(alloc: Global) -> Result<bool, AllocError> {
-    let (Some(a), Some(b)) = (field(alloc, FIRST, "b")?, field(alloc, FIRST, "ba")?) else {
-        return Ok(false);
-    };
-    Ok(field_order(&a, &b) == Ordering::Less)
+    match field(alloc, FIRST, "b")? {
+        Some(first) => is_before(alloc, &first, "ba"),
+        None => Ok(false),
+    }
 }
 
 #[test]

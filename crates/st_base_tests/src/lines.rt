@@ -42,23 +42,32 @@ fn text_is_read(alloc: Global, value: &Value) -> bool {
     text(alloc, found).is_ok_and(|words| words.as_str() == "x")
 }
 
-fn value_is_written(alloc: Global) -> Result<bool, AllocError> {
+fn is_line_of(alloc: Global, line: &str, value: &Value) -> bool {
+    let Some(back) = value_of(alloc, line) else {
+        return false;
+    };
+    back == *value && line == "{\"a\":\"x\",\"b\":[7,-7]}\n"
+}
+
+fn value_is_written(alloc: Global, value: &Value) -> Result<bool, AllocError>
+    requires { has_float (view value.now) ≡ false }
+{
+    let line = write_line(alloc, value)?;
+    Ok(is_line_of(alloc, line.as_str(), value))
+}
+
+// Whether the sample's members are read, its text, and whether it is written.
+fn sample_is_used(alloc: Global) -> Result<[bool; 3], AllocError> {
     let value = sample(alloc)?;
-    let line = write_line(alloc, &value)?;
-    let back = value_of(alloc, line.as_str()) == Some(value);
-    Ok(back && line.as_str() == "{\"a\":\"x\",\"b\":[7,-7]}\n")
+    let members = only(&value, "a b") == Ok(()) && items_are_read(&value) == Ok(true);
+    let words = text_is_read(alloc, &value);
+    Ok([members, words, value_is_written(alloc, &value)?])
 }
 
 #[test]
 fn first_use(rt: HostRuntime) -> Result<(), Fail> {
-    let alloc = rt.alloc();
-    let value = sample(alloc)?;
-    let members = only(&value, "a b") == Ok(()) && items_are_read(&value) == Ok(true);
-    let written = value_is_written(alloc)?;
-    assert!(rt;
-        members && text_is_read(alloc, &value) && written,
-        "{members} {written}"
-    );
+    let so = sample_is_used(rt.alloc())?;
+    assert!(rt; so == [true; 3], "{so:?}");
     Ok(())
 }
 
@@ -107,20 +116,15 @@ fn numbers(rt: HostRuntime) {
 const TWICE: &str = r#"{"a":1,"":2,"a":3}"#;
 
 // Of a name that stands twice the later member counts; an empty name is one.
-fn later_member_counts(alloc: Global) -> Result<bool, Shape> {
-    let Some(value) = value_of(alloc, TWICE) else {
-        return Ok(false);
-    };
-    let Some(found) = member(&value, "a")? else {
-        return Ok(false);
-    };
-    Ok(number(found) == Ok(3) && member(&value, "b")?.is_none() && item(&value, 0).is_err())
+fn later_member_counts(value: &Value) -> bool {
+    let later = matches!(member(value, "a"), Ok(Some(found)) if number(found) == Ok(3));
+    later && member(value, "b") == Ok(None) && item(value, 0).is_err()
 }
 
 #[test]
 fn names_of_members(rt: HostRuntime) {
     let alloc = rt.alloc();
-    let later = later_member_counts(alloc) == Ok(true);
+    let later = value_of(alloc, TWICE).is_some_and(|value| later_member_counts(&value));
     let other = is_only(alloc, TWICE, "a")
         || is_only(alloc, TWICE, " a")
         || is_only(alloc, "[]", "");

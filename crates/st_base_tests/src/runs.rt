@@ -6,7 +6,7 @@ use st_runs::{Range, Run, RunPlace, Runs};
 use std::alloc::Global;
 
 // One value, some times.
-#[derive(Clone, Copy, Debug, PartialEq, Eq)]
+#[derive(Clone, Copy)]
 struct Count {
     value: u32,
     times: u32,

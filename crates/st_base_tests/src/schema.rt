@@ -170,57 +170,84 @@ fn deep_line(alloc: Global, rows: u32) -> Result<String, AllocError> {
     text_between(alloc, opened.as_str(), "]}", rows, "")
 }
 
-// Whether a line is read, as a schema where it has types and else as a tree.
-fn is_read(alloc: Global, line: &str) -> bool {
-    let Some(value) = value_of(alloc, line) else {
-        return false;
-    };
+// Whether a value is read, as a schema where it has types and else as a tree.
+fn is_value_read(alloc: Global, value: &Value) -> bool {
     if value.get("types").is_some() {
-        Schema::read(alloc, &value).is_ok()
+        Schema::read(alloc, value).is_ok()
     } else {
-        read_tree(alloc, &value).is_ok()
+        read_tree(alloc, value).is_ok()
     }
 }
 
-fn schema_is_written(alloc: Global) -> Result<bool, AllocError> {
-    let Some(schema) = schema_of(alloc, BOARD) else {
-        return Ok(false);
-    };
-    let copy = schema.copy(alloc)?;
-    schema.is_kept();
-    Ok(schema.text(alloc)?.as_str() == BOARD && copy.text(alloc)?.as_str() == BOARD)
+fn is_read(alloc: Global, line: &str) -> bool {
+    match value_of(alloc, line) {
+        Some(value) => is_value_read(alloc, &value),
+        None => false,
+    }
 }
 
-fn schema_is_looked_up(alloc: Global) -> Result<bool, AllocError> {
-    let Some(schema) = schema_of(alloc, BOARD) else {
-        return Ok(false);
-    };
-    let card = Text::from_str(alloc, "card")?;
+fn is_board(alloc: Global, schema: &Schema) -> Result<bool, AllocError> {
+    Ok(schema.text(alloc)?.as_str() == BOARD)
+}
+
+fn copy_is_board(alloc: Global, schema: &Schema) -> Result<bool, AllocError> {
+    let copy = schema.copy(alloc)?;
+    is_board(alloc, &copy)
+}
+
+fn board_is_written(alloc: Global, board: &Schema) -> Result<bool, AllocError> {
+    board.is_kept();
+    Ok(is_board(alloc, board)? && copy_is_board(alloc, board)?)
+}
+
+// How many types a field of a card takes.
+fn type_count(alloc: Global, schema: &Schema, card: &Text) -> Result<Option<usize>, AllocError> {
     let key = Key(Text::from_str(alloc, "note")?);
-    let types = schema
-        .field(alloc, &card, &key)?
-        .map(|rule| rule.types.len());
-    let names = schema.root().len() == 1 && schema.name_at(3).is_none();
-    Ok(names && types == Some(2) && schema.form(&card).is_some())
+    let rule = schema.field(alloc, card, &key)?;
+    Ok(rule.map(|rule| rule.types.len()))
+}
+
+fn board_is_looked_up(alloc: Global, board: &Schema) -> Result<bool, AllocError> {
+    let card = Text::from_str(alloc, "card")?;
+    let names = board.root().len() == 1 && board.name_at(3).is_none();
+    let formed = names && board.form(&card).is_some();
+    Ok(type_count(alloc, board, &card)? == Some(2) && formed)
+}
+
+// Whether the board is written, and looked up.
+fn board_is_used(alloc: Global) -> Result<(bool, bool), AllocError> {
+    let Some(board) = schema_of(alloc, BOARD) else {
+        return Ok((false, false));
+    };
+    let found = board_is_looked_up(alloc, &board)?;
+    Ok((board_is_written(alloc, &board)?, found))
+}
+
+fn header(alloc: Global) -> Option<Header> {
+    let schema = schema_of(alloc, BOARD)?;
+    let tree = tree_of(alloc, "1")?;
+    Some(Header {
+        history: 64,
+        schema,
+        tree,
+    })
+}
+
+fn copy_has_history(alloc: Global, header: &Header) -> Result<bool, AllocError> {
+    Ok(header.copy(alloc)?.history == 64)
 }
 
 fn header_is_copied(alloc: Global) -> Result<bool, AllocError> {
-    let (Some(schema), Some(tree)) = (schema_of(alloc, BOARD), tree_of(alloc, "1")) else {
-        return Ok(false);
-    };
-    let history = 64;
-    let header = Header {
-        history,
-        schema,
-        tree,
-    };
-    Ok(header.copy(alloc)?.history == 64)
+    match header(alloc) {
+        Some(header) => copy_has_history(alloc, &header),
+        None => Ok(false),
+    }
 }
 
 #[test]
 fn first_use(rt: HostRuntime) -> Result<(), Fail> {
     let alloc = rt.alloc();
-    let (written, found) = (schema_is_written(alloc)?, schema_is_looked_up(alloc)?);
+    let (written, found) = board_is_used(alloc)?;
     let copied = header_is_copied(alloc)?;
     assert!(rt; written && found && copied, "{written} {found} {copied}");
     wider_allows_more();
@@ -231,17 +258,21 @@ fn first_use(rt: HostRuntime) -> Result<(), Fail> {
     Ok(())
 }
 
-// The first node of a tree that the board doesn't allow.
-fn not_allowed(alloc: Global, line: &str) -> Option<u32> {
-    let schema = schema_of(alloc, BOARD)?;
-    let tree = tree_of(alloc, line)?;
-    if st_tree::check(&tree).is_err() {
+// The first node of a tree that a schema doesn't allow.
+fn not_allowed_by(schema: &Schema, tree: &Tree) -> Option<u32> {
+    if st_tree::check(tree).is_err() {
         return None;
     }
     schema
-        .allows(schema.root(), &tree)
+        .allows(schema.root(), tree)
         .err()
         .map(|fault| fault.at)
+}
+
+fn not_allowed(alloc: Global, line: &str) -> Option<u32> {
+    let schema = schema_of(alloc, BOARD)?;
+    let tree = tree_of(alloc, line)?;
+    not_allowed_by(&schema, &tree)
 }
 
 #[test]
@@ -263,10 +294,14 @@ fn schemas_that_are_refused(rt: HostRuntime) {
     assert!(rt; read.is_none(), "{read:?}");
 }
 
+fn is_wider_than(alloc: Global, old: &Schema, new: &str) -> Option<Result<(), NotWider>> {
+    let new = schema_of(alloc, new)?;
+    Some(wider(old, &new))
+}
+
 fn is_wider(alloc: Global, old: &str, new: &str) -> Option<Result<(), NotWider>> {
     let old = schema_of(alloc, old)?;
-    let new = schema_of(alloc, new)?;
-    Some(wider(&old, &new))
+    is_wider_than(alloc, &old, new)
 }
 
 #[test]
@@ -297,16 +332,24 @@ const WRITTEN_TREES: [&str; 8] = [
     r#"{"a":[1,{"b":{"k":null,"l":{"c":["x"]}}},"y"]}"#,
 ];
 
-fn is_written(alloc: Global, line: &str) -> bool {
-    let Some(tree) = tree_of(alloc, line) else {
-        return false;
-    };
-    let Ok(value) = write_tree(alloc, &tree) else {
-        return false;
-    };
+fn is_text_of(alloc: Global, line: &str, value: &Value) -> bool {
     value
         .to_string(alloc)
         .is_ok_and(|text| text.as_str() == line)
+}
+
+fn is_written_so(alloc: Global, tree: &Tree, line: &str) -> bool {
+    match write_tree(alloc, tree) {
+        Ok(value) => is_text_of(alloc, line, &value),
+        Err(_) => false,
+    }
+}
+
+fn is_written(alloc: Global, line: &str) -> bool {
+    match tree_of(alloc, line) {
+        Some(tree) => is_written_so(alloc, &tree, line),
+        None => false,
+    }
 }
 
 #[test]

@@ -1,6 +1,8 @@
 //! Each public call once, and the edges of the limits.
 use st_ids::{Copied, Key, Leaf, List, Or, Path, Rev, Text};
-use st_tree::{Edit, Field, FlatAt, FlatNode, Tree, TreeFault, check, flatten, opening, unflatten};
+use st_tree::{
+    Edit, Field, Flat, FlatAt, FlatNode, Tree, TreeFault, check, flatten, opening, unflatten,
+};
 use std::alloc::{AllocError, Global};
 use std::test::Fail;
 
@@ -86,12 +88,20 @@ fn are_named(nodes: &[FlatNode], rows: &[(u32, &str, bool)]) -> bool {
             == *row)
 }
 
+// Whether the nodes are those of one tree.
+fn are_of_tree(alloc: Global, flat: &Flat, tree: &Tree) -> Result<bool, AllocError> {
+    let back = unflatten(alloc, flat)?;
+    Ok(back.len() == 1 && back.get(0) == Some(tree))
+}
+
+fn tree_is_opened(alloc: Global, tree: &Tree) -> Result<bool, Or<TreeFault>> {
+    let flat = opening(alloc, tree)?;
+    Ok(are_of_tree(alloc, &flat, tree)? && are_named(flat.nodes.as_slice(), &NODES))
+}
+
 fn sample_is_opened(alloc: Global) -> Result<bool, Or<TreeFault>> {
     let tree = sample(alloc)?;
-    let flat = opening(alloc, &tree)?;
-    let back = unflatten(alloc, &flat)?;
-    let same = back.as_slice() == [tree].as_slice();
-    Ok(same && are_named(flat.nodes.as_slice(), &NODES))
+    tree_is_opened(alloc, &tree)
 }
 
 // The cells of a text and of the sample, in preorder.
@@ -115,21 +125,32 @@ fn cell_of(node: &FlatNode) -> Option<u32> {
 
 const REV: Rev = Rev { session: 2, num: 7 };
 
-fn trees_are_named(alloc: Global) -> Result<bool, Or<TreeFault>> {
-    let text = words(alloc, "d")?;
-    let sample = sample(alloc)?;
-    let trees = two(alloc, text, sample)?;
-    let flat = flatten(alloc, &trees, REV, 10, 20)?;
+fn have_cells(nodes: &[FlatNode]) -> bool {
+    nodes
+        .iter()
+        .zip(&CELLS)
+        .all(|(node, cell)| cell_of(node) == *cell)
+}
+
+// Whether the nodes, copied, are those of some trees.
+fn copies_are_of_trees(alloc: Global, flat: &Flat, trees: &List<Tree>) -> Result<bool, AllocError> {
     let copy = flat.copy(alloc)?;
-    let back = unflatten(alloc, &copy)?;
-    let nodes = flat.nodes.as_slice();
-    Ok(
-        back == trees
-            && nodes
-                .iter()
-                .zip(&CELLS)
-                .all(|(node, cell)| cell_of(node) == *cell),
-    )
+    Ok(unflatten(alloc, &copy)? == *trees)
+}
+
+fn are_flattened(alloc: Global, trees: &List<Tree>) -> Result<bool, Or<TreeFault>> {
+    let flat = flatten(alloc, trees, REV, 10, 20)?;
+    Ok(copies_are_of_trees(alloc, &flat, trees)? && have_cells(flat.nodes.as_slice()))
+}
+
+fn text_and_sample(alloc: Global) -> Result<List<Tree>, AllocError> {
+    let text = words(alloc, "d")?;
+    two(alloc, text, sample(alloc)?)
+}
+
+fn trees_are_named(alloc: Global) -> Result<bool, Or<TreeFault>> {
+    let trees = text_and_sample(alloc)?;
+    are_flattened(alloc, &trees)
 }
 
 #[test]
@@ -156,10 +177,20 @@ fn is_insert_of_one(edit: &Edit) -> bool {
     }
 }
 
+fn copy_is_insert(alloc: Global, edit: &Edit) -> Result<bool, AllocError> {
+    match edit.copy(alloc) {
+        Ok(copy) => Ok(is_insert_of_one(&copy)),
+        Err(error) => Err(error),
+    }
+}
+
+fn insert_is_copied(alloc: Global, items: List<Tree>) -> Result<bool, AllocError> {
+    copy_is_insert(alloc, &insert_of(alloc, items))
+}
+
 fn edit_is_copied(alloc: Global) -> Result<bool, AllocError> {
     let items = one(alloc, words(alloc, "x")?)?;
-    let edit = insert_of(alloc, items);
-    Ok(is_insert_of_one(&edit.copy(alloc)?))
+    insert_is_copied(alloc, items)
 }
 
 #[test]
