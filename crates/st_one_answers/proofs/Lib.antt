@@ -1,0 +1,4 @@
+mod OneRelation
+mod EachWorldGoesOn
+mod OneListOfAnswers
+mod OneRun

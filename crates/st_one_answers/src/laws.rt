@@ -1,0 +1,51 @@
+//! Laws on answers: each is the contract of a function that does nothing.
+ghost use Rattle.std.specs.Prelude.{◌≡◌, ◌++◌, ℕ, List as Seq, Option, Some, Result};
+ghost use Rattle.st_compat.specs.Compared.{IsCompared};
+ghost use Rattle.st_compat.specs.declared.compare.BadSchema.{BadSchema};
+ghost use Rattle.st_script.specs.Header.{header_view};
+ghost use Rattle.st_script.specs.Steps.{StepView};
+ghost use Rattle.st_script.specs.declared.answer.Answer.{Answer};
+ghost use Rattle.st_run.specs.Answers.{Answers, IsAnswered, NothingFailed, Output};
+ghost use Rattle.st_run.specs.declared.command.Command.{Command};
+ghost use Rattle.std.specs.List.{AllByRecursion};
+ghost use Rattle.st_trace.specs.Replicas.{IsSound};
+ghost use Rattle.st_trace.specs.declared.world.World.{World};
+ghost use Rattle.st_run.specs.declared.outcome.Outcome.{Outcome};
+ghost use Rattle.st_one_answers.specs.StepAnswers.{AreAnswers, HasSoundSchema};
+
+/// Steps from a sound world have one list of answers.
+pub fn one_list_of_steps()
+    ensures { (w : World) (steps : Seq StepView) (a b : Seq Answer) → IsSound w
+        → AllByRecursion HasSoundSchema steps → AreAnswers (header_view w.header) w.lists steps a
+        → AreAnswers (header_view w.header) w.lists steps b → a ≡ b }
+{}
+
+/// Two lines of schemas come to one line.
+pub fn one_relation()
+    ensures { (stored view : Option (Seq ℕ)) (a b : Result (Seq ℕ) BadSchema)
+        → IsCompared stored view a → IsCompared stored view b → a ≡ b }
+{}
+
+/// The answers to an input are one, where nothing failed; and else they are a front of these.
+pub fn one_list_of_answers()
+    ensures one { (command : Command) (bytes : Seq ℕ) (a b : Output) → Answers command bytes a
+        → Answers command bytes b → NothingFailed a.outcome → NothingFailed b.outcome → a ≡ b }
+    ensures front { (command : Command) (bytes : Seq ℕ) (a b : Output) → Answers command bytes a
+        → Answers command bytes b → NothingFailed b.outcome → (rest : Seq ℕ)
+        × (b.bytes ≡ a.bytes ++ rest) }
+{}
+
+/// Two runs by the same words over the same bytes, at which nothing failed, end alike and have
+/// written the same; and what a run has written at any outcome is a front of that.
+pub fn one_run()
+    ensures whole { (words : Seq (Seq ℕ)) (left written : Seq ℕ)
+        (rest more after later : Option (Seq ℕ)) (o p : Outcome)
+        → IsAnswered words (Some left) rest (Some written) after o
+        → IsAnswered words (Some left) more (Some written) later p → NothingFailed o
+        → NothingFailed p → (o ≡ p) × (after ≡ later) }
+    ensures front { (words : Seq (Seq ℕ)) (left written : Seq ℕ)
+        (rest more after later : Option (Seq ℕ)) (o p : Outcome)
+        → IsAnswered words (Some left) rest (Some written) after o
+        → IsAnswered words (Some left) more (Some written) later p → NothingFailed p
+        → (x y : Seq ℕ) × (after ≡ Some x) × (later ≡ Some (x ++ y)) }
+{}

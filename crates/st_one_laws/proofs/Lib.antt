@@ -1,0 +1,11 @@
+pub mod OneByOne
+pub mod AlikeIntents
+pub mod AlikeLogs
+pub mod AlikeClients
+pub mod VoidCommits
+pub mod ActsOfClients
+pub mod StepsOfWorlds
+pub mod AlikeToItself
+pub mod OneMeaning
+pub mod LiftedActs
+pub mod ReceivedEntries

@@ -1,0 +1,2 @@
+pub mod AlikeWorlds
+pub mod ClientActs
