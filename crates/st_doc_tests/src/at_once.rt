@@ -53,11 +53,7 @@ impl Row for AtOnce {
 
 const MOVED: Case = Case::Move(&[("", 0)], 0, 1, &[("", 1)], "", 0);
 
-<<<<<<< HEAD
-const ROWS: [AtOnce; 6] = [
-=======
 static ROWS: [AtOnce; 6] = [
->>>>>>> 6e24fcb42a1e09e73dc079c58d603e9a6b7b165e
     // A node that one author moves to another field keeps what the other author puts into it.
     AtOnce {
         tree: r#"{"list":[{"list":[{"list":[]}]},{"list":[]}]}"#,
