@@ -39,10 +39,10 @@ use Rattle.st_part_laws.specs.Turns.{ComesFirst, SchemasComeFirst}
 use Rattle.st_part_laws.proofs.Chains.{last-has, last_or-append, line_after, line_begins}
 use Rattle.st_part_laws.proofs.Closed.{comes_first}
 use Rattle.st_part_laws.proofs.Schemas.{based, entries_carried, kept_carried}
-use Rattle.st_upgrade_laws.specs.Agreeing.{Told, last_schema}
-use Rattle.st_upgrade_laws.specs.Widening.{AreWidening, BecomesWider, IsTextOf, IsUpgrade, no_change, one_change}
-use Rattle.st_upgrade_laws.proofs.Edits.{some_last}
-use Rattle.st_upgrade_laws.proofs.Widening.{type_becomes, widening_after, widening_begins}
+use Rattle.st_schema_laws.specs.AgreeingInEffect.{Told, last_schema}
+use Rattle.st_schema_laws.specs.Widening.{AreWidening, BecomesWider, IsTextOf, IsUpgrade, no_change, one_change}
+use Rattle.st_schema_laws.proofs.EditsInLine.{some_last}
+use Rattle.st_schema_laws.proofs.Widening.{type_becomes, widening_after, widening_begins}
 use Rattle.st_conform_laws.specs.Keeping.{KeepInTurn, KeepsTo, KeepsWhereBased}
 use Rattle.st_conform_laws.specs.Nodes.{ConformsByNodes, HasField, IsUnder, MayStandIn, NodesConform, StandsKnown, StandsWell}
 use Rattle.st_marks.specs.Back.{IsBack}

@@ -38,11 +38,11 @@ use Rattle.st_schema_laws.proofs.Rules.{required_not_row}
 use Rattle.st_part_laws.specs.Parts.{part_by}
 use Rattle.st_part_laws.proofs.Chains.{last-has}
 use Rattle.st_part_laws.proofs.Parts.{part_sound}
-use Rattle.st_upgrade_laws.specs.Agreeing.{Told, last_schema}
-use Rattle.st_upgrade_laws.proofs.Edits.{meant}
-use Rattle.st_upgrade_laws.proofs.Named.{IsFromPart}
-use Rattle.st_upgrade_laws.proofs.Kept.{no_line, no_upgrade}
-use Rattle.st_upgrade_laws.proofs.Resolved.{resolves_same}
+use Rattle.st_schema_laws.specs.AgreeingInEffect.{Told, last_schema}
+use Rattle.st_schema_laws.proofs.EditsInLine.{meant}
+use Rattle.st_schema_laws.proofs.NamesInParts.{IsFromPart}
+use Rattle.st_schema_laws.proofs.SchemasKept.{no_line, no_upgrade}
+use Rattle.st_schema_laws.proofs.EditsInParts.{resolves_same}
 use Rattle.st_conform_laws.specs.Keeping.{KeepsTo, KeepsWhereBased}
 use Rattle.st_conform_laws.specs.Nodes.{ConformsByNodes, MayStandIn, StandsWell}
 use Rattle.st_conform_laws.proofs.DocumentsAfter.{last}

@@ -28,9 +28,9 @@ use Rattle.st_schema_laws.specs.Agreeing.{TellsHomes, put_register}
 use Rattle.st_schema_laws.specs.Conforming.{is_required_field, row_key, type_fits}
 use Rattle.st_schema_laws.proofs.Kept.{HasNodes, known_later, named_later, one_rule, required_by, required_later, required_rule, rule_later, type_later}
 use Rattle.st_schema_laws.proofs.Rules.{required_not_row}
-use Rattle.st_upgrade_laws.specs.Agreeing.{Told}
-use Rattle.st_upgrade_laws.specs.Widening.{BecomesWider, no_change}
-use Rattle.st_upgrade_laws.proofs.Widening.{type_becomes}
+use Rattle.st_schema_laws.specs.AgreeingInEffect.{Told}
+use Rattle.st_schema_laws.specs.Widening.{BecomesWider, no_change}
+use Rattle.st_schema_laws.proofs.Widening.{type_becomes}
 use Rattle.st_conform_laws.specs.Keeping.{GoesWell, KeepsTo}
 use Rattle.st_conform_laws.specs.Nodes.{HasField, IsUnder, MayStandIn, NodesConform, StandsKnown, StandsWell}
 use Rattle.st_conform_laws.proofs.WiderSchemas.{TakesMore, becomes_on, field_becomes, field_was}

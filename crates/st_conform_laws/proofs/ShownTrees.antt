@@ -31,9 +31,9 @@ use Rattle.st_schema_laws.proofs.ShownTree.{shown_conforms}
 use Rattle.st_part_laws.specs.Parts.{IsClosedBy, part_by}
 use Rattle.st_part_laws.proofs.Chains.{last-has}
 use Rattle.st_part_laws.proofs.Parts.{part_sound}
-use Rattle.st_upgrade_laws.specs.Agreeing.{Told, last_schema}
-use Rattle.st_upgrade_laws.proofs.Shown.{shows_same}
-use Rattle.st_upgrade_laws.proofs.Widening.{type_becomes}
+use Rattle.st_schema_laws.specs.AgreeingInEffect.{Told, last_schema}
+use Rattle.st_schema_laws.proofs.Shown.{shows_same}
+use Rattle.st_schema_laws.proofs.Widening.{type_becomes}
 use Rattle.st_conform_laws.specs.Nodes.{ConformsByNodes, IsUnder, MayStandIn, StandsWell}
 use Rattle.st_conform_laws.proofs.DocumentsAfter.{becomes_last, last}
 

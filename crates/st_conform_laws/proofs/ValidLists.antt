@@ -32,7 +32,7 @@ use Rattle.st_schema_laws.proofs.Kept.{known_later, named_later}
 use Rattle.st_part_laws.specs.Schemas.{schemas_after}
 use Rattle.st_part_laws.specs.Turns.{ComesFirst}
 use Rattle.st_part_laws.proofs.Schemas.{schemas_run}
-use Rattle.st_upgrade_laws.specs.Agreeing.{Told}
+use Rattle.st_schema_laws.specs.AgreeingInEffect.{Told}
 use Rattle.st_conform_laws.specs.Keeping.{KeepsWhereBased}
 use Rattle.st_conform_laws.specs.Logs.{AreOwnAfter, AreValid, HasHomes, IsValidAfter, none_yet, one_more, no_own, own_more}
 use Rattle.st_conform_laws.specs.Nodes.{ConformsByNodes}

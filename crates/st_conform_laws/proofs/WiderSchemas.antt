@@ -7,8 +7,8 @@ use Rattle.st_schema.specs.declared.names.FieldRule.{FieldRule}
 use Rattle.st_schema.proofs.MoreTrees.{among_all}
 use Rattle.st_schema_laws.specs.Conforming.{type_fits}
 use Rattle.st_conform_laws.proofs.FieldsOfWiderSchemas.{field_before, field_wider, parts}
-use Rattle.st_upgrade_laws.specs.Widening.{BecomesWider, no_change, one_change}
-use Rattle.st_upgrade_laws.proofs.Widening.{type_becomes}
+use Rattle.st_schema_laws.specs.Widening.{BecomesWider, no_change, one_change}
+use Rattle.st_schema_laws.proofs.Widening.{type_becomes}
 
 -- a rule that takes what another takes, and more
 pub record TakesMore (old new : FieldRule) : Type 0 where

@@ -39,8 +39,8 @@ ghost use Rattle.st_schema_laws.specs.Conforming.{IsConforming, register_in};
 ghost use Rattle.st_tree.specs.Node.{Node};
 ghost use Rattle.st_tree.specs.Preorder.{cell_named, node_named};
 ghost use Rattle.st_tree.specs.declared.edit.Edit.{Edit};
-ghost use Rattle.st_upgrade_laws.specs.Agreeing.{AgreesInLine, Told, last_schema, schema_in_effect};
-ghost use Rattle.st_upgrade_laws.specs.Widening.{BecomesWider, IsTextOf};
+ghost use Rattle.st_schema_laws.specs.AgreeingInEffect.{AgreesInLine, Told, last_schema, schema_in_effect};
+ghost use Rattle.st_schema_laws.specs.Widening.{BecomesWider, IsTextOf};
 
 /// The hardest step: a commit of data with moves between registers and rows, made under a schema
 /// in effect, carried out whole or void.

@@ -25,9 +25,9 @@ use Rattle.st_marks.proofs.Members.{all-has}
 use Rattle.st_marks.proofs.NewRows.{KeepsOrder}
 use Rattle.st_marks.proofs.Retreat.{back_old, retreat_sound}
 use Rattle.st_marks.proofs.WayBack.{leads_back}
-use Rattle.st_edit_laws.specs.Alike.{AreAlikeAt}
-use Rattle.st_edit_laws.proofs.Alike.{same_below}
-use Rattle.st_edit_laws.proofs.Beneath.{not_round}
+use Rattle.st_schema_laws.specs.Alike.{AreAlikeAt}
+use Rattle.st_schema_laws.proofs.Alike.{same_below}
+use Rattle.st_schema_laws.proofs.Beneath.{not_round}
 
 module _ (D E : Document) (x : IsExtendedBy D E) where
   -- the document after the way back: the retreat, but for the schemas

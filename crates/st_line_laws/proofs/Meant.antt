@@ -37,12 +37,12 @@ use Rattle.st_edits.specs.Paths.{field_at, items_from, or_refuse, row_length}
 use Rattle.st_edits.specs.Resolve.{cells_for, intent_to_move, intent_to_remove, nodes_taken, resolve}
 use Rattle.st_edits.specs.declared.names.NameCounters.{NameCounters}
 use Rattle.st_edits.proofs.Fits.{has_drop, has_take, or_refuse-Ok, passed}
-use Rattle.st_edit_laws.proofs.Along.{live_at}
-use Rattle.st_edit_laws.proofs.Cleared.{is_clearing, is_need}
-use Rattle.st_edit_laws.proofs.Filled.{is_setting}
-use Rattle.st_edit_laws.proofs.Inserted.{is_insertion}
-use Rattle.st_edit_laws.proofs.Moves.{is_move}
-use Rattle.st_edit_laws.proofs.Removed.{is_removal}
+use Rattle.st_schema_laws.proofs.Along.{live_at}
+use Rattle.st_schema_laws.proofs.Cleared.{is_clearing, is_need}
+use Rattle.st_schema_laws.proofs.Filled.{is_setting}
+use Rattle.st_schema_laws.proofs.Inserted.{is_insertion}
+use Rattle.st_schema_laws.proofs.Moves.{is_move}
+use Rattle.st_schema_laws.proofs.Removed.{is_removal}
 use Rattle.st_line_laws.proofs.Revealing.{PutsLiveOnes, live_below}
 
 pub record IsMeant (D : Document) (G : NameCounters) (N : Intent) : Type 0 where

@@ -21,14 +21,14 @@ use Rattle.st_marks.specs.Verdict.{HasBase, IsUnmetNeed, IsVerdict}
 use Rattle.st_marks.proofs.Members.{all-has}
 use Rattle.st_marks.proofs.OneVerdict.{carried_extends}
 use Rattle.st_edits.proofs.Resolved.{resolved_fits}
-use Rattle.st_edit_laws.specs.Edited.{TellsRows}
-use Rattle.st_edit_laws.specs.Edits.{tree_after_edit}
-use Rattle.st_edit_laws.specs.Typed.{IsAsTyped}
-use Rattle.st_edit_laws.proofs.Beneath.{not_round}
-use Rattle.st_edit_laws.proofs.Edits.{any_seen, any_verdict}
-use Rattle.st_edit_laws.proofs.Sound.{last_in_effect}
-use Rattle.st_edit_laws.proofs.TypedEdits.{any_typed}
-use Rattle.st_edit_laws.proofs.Typing.{full_typed}
+use Rattle.st_schema_laws.specs.Edited.{TellsRows}
+use Rattle.st_schema_laws.specs.Edits.{tree_after_edit}
+use Rattle.st_schema_laws.specs.Typed.{IsAsTyped}
+use Rattle.st_schema_laws.proofs.Beneath.{not_round}
+use Rattle.st_schema_laws.proofs.Edits.{any_seen, any_verdict}
+use Rattle.st_schema_laws.proofs.Sound.{last_in_effect}
+use Rattle.st_schema_laws.proofs.TypedEdits.{any_typed}
+use Rattle.st_schema_laws.proofs.Typing.{full_typed}
 use Rattle.st_heads.specs.Transactions.{FitsSoFar, IsWithPart, with_open}
 use Rattle.st_heads.specs.inside.Parts.{CanFollow}
 use Rattle.st_heads.proofs.Editing.{can_follow, fits_so_far, open_shows}

@@ -14,7 +14,7 @@ use Rattle.st_marks.specs.Run.{Run, done, next}
 use Rattle.st_marks.specs.Verdict.{IsVerdict}
 use Rattle.st_marks.proofs.Members.{all-has, append_right}
 use Rattle.st_marks.proofs.OneVerdict.{carried_extends, one_run, run_then}
-use Rattle.st_edit_laws.proofs.Sound.{last_in_effect}
+use Rattle.st_schema_laws.proofs.Sound.{last_in_effect}
 use Rattle.st_log_laws.specs.Turns.{FitInTurn}
 use Rattle.st_log_laws.proofs.Turns.{front, rest, turn_extends}
 use Rattle.st_heads.specs.Undoing.{IsUndoing}

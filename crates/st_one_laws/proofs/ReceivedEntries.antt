@@ -10,13 +10,13 @@ use Rattle.st_marks.specs.Document.{Document}
 use Rattle.st_marks.specs.LiveTree.{IsTreeText}
 use Rattle.st_marks.specs.Run.{Run}
 use Rattle.st_heads.specs.Transactions.{with_open}
-use Rattle.st_upgrade_laws.specs.Agreeing.{schema_in_effect}
+use Rattle.st_schema_laws.specs.AgreeingInEffect.{schema_in_effect}
 use Rattle.st_script.specs.Steps.{ActView}
 use Rattle.st_script.specs.Steps as step
 use Rattle.st_script.specs.declared.answer.Answer.{Answer}
 use Rattle.st_script.specs.declared.answer.Answer.TheVariants as answer
 use Rattle.st_script.specs.declared.refusal.Refusal.TheVariants as no
-use Rattle.st_pending.specs.Texts.{AreTextsOf}
+use Rattle.st_trace.specs.Texts.{AreTextsOf}
 use Rattle.st_lists.specs.Clients.{next_rev}
 use Rattle.st_lists.specs.Lines.{HasHead, Line, branch_of, commits_of, edited_on, line_of, main_line, with_base, with_commits_on, without_branch}
 use Rattle.st_lists.specs.Log.{commits_in, minimum}

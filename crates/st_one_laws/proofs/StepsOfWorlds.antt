@@ -11,7 +11,7 @@ use Rattle.st_edits.specs.Resolve.{need}
 use Rattle.st_marks.specs.Document.{Document}
 use Rattle.st_marks.specs.LiveTree.{IsTreeText}
 use Rattle.st_marks.proofs.OneTree.{one_text}
-use Rattle.st_upgrade_laws.specs.Agreeing.{schema_in_effect}
+use Rattle.st_schema_laws.specs.AgreeingInEffect.{schema_in_effect}
 use Rattle.st_script.specs.Header.{HeaderView}
 use Rattle.st_script.specs.Steps.{ActView, EditView, StepView}
 use Rattle.st_script.specs.Steps as step
@@ -19,7 +19,7 @@ use Rattle.st_script.specs.declared.answer.Answer.{Answer}
 use Rattle.st_script.specs.declared.answer.Answer.TheVariants as answer
 use Rattle.st_script.specs.declared.refusal.Refusal.{Refusal}
 use Rattle.st_script.specs.declared.refusal.Refusal.TheVariants as no
-use Rattle.st_pending.specs.Texts.{AreTextsOf}
+use Rattle.st_trace.specs.Texts.{AreTextsOf}
 use Rattle.st_lists.specs.declared.lists.Body.{Body}
 use Rattle.st_lists.specs.declared.lists.Body.TheVariants.{Join as Joined, Leave as Left}
 use Rattle.st_lists.specs.declared.lists.Branch.{Branch}

@@ -1,7 +1,7 @@
 -- The opening document of a tree that the schema allows is conforming.
-use Rattle.std.proofs.Common.{◌≡◌, ℕ, suc, ◌+◌, ◌≤◌, Bool, true, false, not, cond, List, [], ◌∷◌, ◌++◌, length, length-append, Option, Some, None, IsSome, is_some, unwrap_or, option_and_then, refl, sym, ap, ◌∙◌, subst, arith, inl, inr, ◌⊎◌, Ok}
+use Rattle.std.proofs.Common.{◌≡◌, ℕ, suc, ◌+◌, ◌≤◌, Bool, true, false, not, cond, List, [], ◌∷◌, ◌++◌, length, Option, Some, None, IsSome, is_some, unwrap_or, option_and_then, refl, sym, ap, ◌∙◌, subst, arith, inl, inr, Ok}
 use Rattle.std.specs.List.{list_all, position_from}
-use Rattle.std.specs.Option.{option_or, option_map_or}
+use Rattle.std.specs.Option.{option_map_or}
 use Rattle.st_ids.specs.Listing.{Has}
 use Rattle.st_ids.specs.Order.{same_node}
 use Rattle.st_ids.specs.declared.names.FieldId.{FieldId}
@@ -12,7 +12,7 @@ use Rattle.st_ids.proofs.Orders.{same_node-true, same_node-itself, same_field-it
 use Rattle.st_tree.specs.declared.flat.FlatAt.{FlatAt}
 use Rattle.st_tree.specs.declared.flat.FlatNode.{FlatNode}
 use Rattle.st_tree.specs.Node.{Node, node, Fields, no_fields, field, Nodes, no_nodes, first}
-use Rattle.st_tree.specs.Size.{node_count, field_count, item_count}
+use Rattle.st_tree.specs.Size.{node_count, item_count}
 use Rattle.st_tree.specs.Preorder.{node_named, cells_taken, cell_count, item_cells, at_of, tree_listed, fields_listed, items_listed, opening_listed}
 use Rattle.st_schema.specs.Schema.{SchemaView, field_of, is_among, is_sound}
 use Rattle.st_schema.specs.Conforms.{verdicts, refusal, allows_of}

@@ -1,2 +1,11 @@
-pub mod Conforming
 pub mod Agreeing
+pub mod AgreeingInEffect
+pub mod Alike
+pub mod Conforming
+pub mod Earlier
+pub mod Edited
+pub mod Edits
+pub mod Lines
+pub mod Moved
+pub mod Typed
+pub mod Widening

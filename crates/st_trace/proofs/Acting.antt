@@ -1,5 +1,5 @@
 -- The world after a step of one client.
-use Rattle.st_upgrade_laws.specs.Agreeing.{schema_in_effect}
+use Rattle.st_schema_laws.specs.AgreeingInEffect.{schema_in_effect}
 use Rattle.std.proofs.Common.{Err, IfSome, List, None, Ok, Option, Result, Some, ap, refl, subst, sym, ℕ, ◌+◌, ◌∙◌, ◌≡◌, ◌≤◌}
 use Rattle.st_heads.specs.Transactions.{with_open}
 use Rattle.st_lists.specs.Clients.{HasReceived, joined_of, with_begun, without_transaction}

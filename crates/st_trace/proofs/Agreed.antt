@@ -64,21 +64,21 @@ use Rattle.st_lists.proofs.Present.{all_rest, are_apart}
 use Rattle.st_lists.proofs.Logs.{by_sublist, commits_split, entered_commits, entered_front, last_entry, no_commit, one_commit}
 use Rattle.st_lemmas.proofs.Lists.{AllByRecursion-append}
 use Rattle.st_part_laws.proofs.Told.{told_under}
-use Rattle.st_upgrade_laws.proofs.Edits.{some_last}
+use Rattle.st_schema_laws.proofs.EditsInLine.{some_last}
 use Rattle.st_part_laws.proofs.Chains.{last-has}
 use Rattle.st_marks.specs.Verdict.{carried_document}
 use Rattle.st_marks.specs.Back.{IsBack}
 use Rattle.st_marks.specs.declared.schemas.SchemaEntry.{SchemaEntry}
-use Rattle.st_upgrade_laws.proofs.Texts.{schema_text}
-use Rattle.st_upgrade_laws.specs.Widening.{IsTextOf}
-use Rattle.st_upgrade_laws.proofs.Kept.{join_agrees}
-use Rattle.st_upgrade_laws.proofs.Conformity.{conforms_edited, conforms_at_first}
-use Rattle.st_upgrade_laws.proofs.Told.{commit_at_home}
-use Rattle.st_upgrade_laws.proofs.Lines.{undo_goes_on, line_after_conforms}
-use Rattle.st_upgrade_laws.specs.Lines.{IsLine}
+use Rattle.st_schema_laws.proofs.Texts.{schema_text}
+use Rattle.st_schema_laws.specs.Widening.{IsTextOf}
+use Rattle.st_schema_laws.proofs.SchemasKept.{join_agrees}
+use Rattle.st_schema_laws.proofs.Conformity.{conforms_edited, conforms_at_first}
+use Rattle.st_schema_laws.proofs.Told.{commit_at_home}
+use Rattle.st_schema_laws.proofs.Lines.{undo_goes_on, line_after_conforms}
+use Rattle.st_schema_laws.specs.Lines.{IsLine}
 use Rattle.st_trace.proofs.Telling.{GoesAnew, same_known, run_after, IsToldAnew, goes_front, goes_longer, goes_more, goes_told, nothing_known, commit_is_told, homes_are_told, new_is_told}
 use Rattle.st_trace.specs.Schemas.{IsKnownBy}
-use Rattle.st_upgrade_laws.specs.Agreeing.{Told, AgreesInLine, ConformsInEffect, with_home, with_commit as told_with_commit}
+use Rattle.st_schema_laws.specs.AgreeingInEffect.{Told, AgreesInLine, ConformsInEffect, with_home, with_commit as told_with_commit}
 
 -- what is told before any commit
 abbrev told_first : HeaderView → Told

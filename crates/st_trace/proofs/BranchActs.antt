@@ -1,5 +1,5 @@
 -- The world after a step of one client on a branch beside the main one.
-use Rattle.st_upgrade_laws.specs.Agreeing.{schema_in_effect}
+use Rattle.st_schema_laws.specs.AgreeingInEffect.{schema_in_effect}
 use Rattle.std.proofs.Common.{Err, IfSome, List, None, Ok, Option, Result, Some, [], ap, arith, length, refl, subst, suc, sym, zero, ℕ, ◌++◌, ◌+◌, ◌∙◌, ◌∷◌, ◌≡◌, ◌≢◌, ◌≤◌}
 use Rattle.std.specs.List.{slice_get, slice_set}
 use Rattle.std.specs.Option.{option_and_then}

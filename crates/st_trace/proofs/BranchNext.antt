@@ -22,7 +22,7 @@ use Rattle.st_trace.proofs.Everyone.{set_same}
 use Rattle.st_trace.proofs.Keeping.{AreOne}
 use Rattle.st_trace.proofs.Lookup.{line_there}
 use Rattle.st_trace.proofs.Stepping.{sound_later}
-use Rattle.st_upgrade_laws.specs.Agreeing.{schema_in_effect}
+use Rattle.st_schema_laws.specs.AgreeingInEffect.{schema_in_effect}
 use Rattle.st_trace.specs.Replicas.{IsSound, IsSoundAfter}
 use Rattle.st_trace.specs.World.{AtRefusal, IsActOf, IsAfterEdit, IsBegun, IsDoneIn, IsNeeded, abort, commit, next_names, opening_document, with_client, word_of}
 use Rattle.st_trace.specs.declared.replica.Replica.{Replica}

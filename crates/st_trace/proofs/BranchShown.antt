@@ -19,7 +19,7 @@ use Rattle.st_marks.specs.LiveTree.{IsTreeText}
 use Rattle.st_marks.specs.declared.intents.Intent.{Intent}
 use Rattle.st_script.specs.Header.{HeaderView, header_view}
 use Rattle.st_script.specs.declared.answer.Answer.TheVariants.{Show}
-use Rattle.st_upgrade_laws.specs.Agreeing.{schema_in_effect}
+use Rattle.st_schema_laws.specs.AgreeingInEffect.{schema_in_effect}
 use Rattle.st_trace.proofs.Acting.{one_at}
 use Rattle.st_trace.proofs.BranchHeads.{head_at, heads_many}
 use Rattle.st_trace.proofs.Branched.{found_at, found_by, head_there}

@@ -43,9 +43,9 @@ use Rattle.st_trace.specs.World.{cells_given, next_names, opening_document}
 use Rattle.st_trace.specs.declared.client.EditWord.{EditWord}
 use Rattle.st_part_laws.proofs.Told.{told_under}
 use Rattle.st_log_laws.proofs.Shorter.{new_shorter}
-use Rattle.st_upgrade_laws.proofs.Lines.{line_after_conforms}
+use Rattle.st_schema_laws.proofs.Lines.{line_after_conforms}
 use Rattle.st_trace.proofs.Telling.{GoesAnew, same_known, goes_longer, nothing_known, new_is_told}
-use Rattle.st_upgrade_laws.specs.Agreeing.{Told, AgreesInLine, ConformsInEffect, with_home, with_commit}
+use Rattle.st_schema_laws.specs.AgreeingInEffect.{Told, AgreesInLine, ConformsInEffect, with_home, with_commit}
 
 module _ (h : HeaderView) (st : IsStart (opening_document h)) where
   -- a line's commits can be carried out in turn, and each has a new revision

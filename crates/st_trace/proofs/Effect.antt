@@ -19,9 +19,9 @@ use Rattle.st_lists.specs.declared.lists.Branch.{Branch}
 use Rattle.st_lists.specs.declared.lists.Client.{Client}
 use Rattle.st_lists.specs.declared.lists.Entry.{Entry}
 use Rattle.st_lists.specs.declared.lists.Transaction.{Transaction}
-use Rattle.st_upgrade_laws.specs.Agreeing.{AgreesInLine, ConformsInEffect, schema_in_effect}
-use Rattle.st_upgrade_laws.proofs.Entries.{entries_from}
-use Rattle.st_upgrade_laws.proofs.Lines.{line_after_conforms}
+use Rattle.st_schema_laws.specs.AgreeingInEffect.{AgreesInLine, ConformsInEffect, schema_in_effect}
+use Rattle.st_schema_laws.proofs.Entries.{entries_from}
+use Rattle.st_schema_laws.proofs.Lines.{line_after_conforms}
 use Rattle.st_trace.specs.Replicas.{BranchesKeepSchemas, CommitsKeepSchemas, EditsKeepSchemas, IsClient, IsTransaction, KeepToSchemas}
 use Rattle.st_trace.specs.Schemas.{IsKnownBy}
 use Rattle.st_trace.specs.World.{HasShown, last_in_effect, opening_document}

@@ -1,5 +1,5 @@
 -- The lists of a world by themselves: what holds of them holds after each step.
-use Rattle.st_upgrade_laws.specs.Agreeing.{schema_in_effect}
+use Rattle.st_schema_laws.specs.AgreeingInEffect.{schema_in_effect}
 use Rattle.st_trace.proofs.Parts.{editable, client_begun, client_commits, client_ended, client_parted, edited_room, names_edited}
 use Rattle.st_lists.specs.Lines.{HasHead, Line, commits_of, main_line, with_commit_on}
 use Rattle.st_lists.specs.Names.{names_in, names_in_text, names_made, names_on_all}

@@ -25,8 +25,8 @@ use Rattle.st_lists.specs.Lines.{HasHead, Line, edited_on, line_of}
 use Rattle.st_lists.specs.declared.lists.Client.{Client}
 use Rattle.st_lists.specs.declared.lists.Entry.{Entry}
 use Rattle.st_lists.specs.declared.lists.Transaction.{Transaction}
-use Rattle.st_upgrade_laws.specs.Agreeing.{empty_schema, schema_in_effect}
-use Rattle.st_upgrade_laws.proofs.Texts.{schema_text}
+use Rattle.st_schema_laws.specs.AgreeingInEffect.{empty_schema, schema_in_effect}
+use Rattle.st_schema_laws.proofs.Texts.{schema_text}
 use Rattle.st_trace.specs.Replicas.{IsClient, IsSound, IsTransaction}
 use Rattle.st_trace.specs.Schemas.{HasReading}
 use Rattle.st_trace.specs.World.{HasShown, last_in_effect, opening_document}

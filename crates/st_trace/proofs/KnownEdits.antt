@@ -17,7 +17,7 @@ use Rattle.st_lists.specs.Clients.{joined_of}
 use Rattle.st_lists.specs.Lines.{branch_line, edited_on, main_line}
 use Rattle.st_lists.specs.declared.lists.Branch.{Branch}
 use Rattle.st_lists.specs.declared.lists.Client.{Client}
-use Rattle.st_upgrade_laws.specs.Agreeing.{schema_in_effect}
+use Rattle.st_schema_laws.specs.AgreeingInEffect.{schema_in_effect}
 use Rattle.st_trace.specs.Replicas.{IsSound}
 use Rattle.st_trace.specs.World.{IsAfterEdit, last_in_effect, next_names, word_of}
 use Rattle.st_trace.specs.inside.BranchEdits.{HasEditedAt, shown_on}

@@ -1,5 +1,5 @@
 -- From lists of which holds what steps keep, each step leads on: there are next lists, of which the same holds, and an answer.
-use Rattle.st_upgrade_laws.specs.Agreeing.{schema_in_effect}
+use Rattle.st_schema_laws.specs.AgreeingInEffect.{schema_in_effect}
 use Rattle.std.proofs.lemmas.Bool.Decides.{nat_tests}
 use Rattle.std.proofs.Common.{is_some, Bool, Err, IfSome, IsSome, List, None, Ok, Option, Result, Some, [], cond, false, inl, inr, length, map, nat_le, refl, subst, true, ℕ, ◌++◌, ◌+◌, ◌∷◌, ◌≡◌, ◌⊎◌, ap, sym, ◌<◌, arith}
 use Rattle.std.specs.Option.{option_and_then, option_map_or, option_or}
@@ -62,7 +62,7 @@ use Rattle.st_trace.proofs.Everyone.{all_get}
 use Rattle.st_ids.specs.declared.names.Rev.{Rev}
 use Rattle.st_trace.specs.Undo.{IsAfterUndo}
 use Rattle.st_trace.proofs.Undoing.{has_undo}
-use Rattle.st_pending.proofs.Having.{has_texts}
+use Rattle.st_trace.proofs.TextOfEach.{has_texts}
 use Rattle.st_trace.proofs.Voids.{has_void}
 use Rattle.st_trace.proofs.Meant.{IsMeaning, IsMeant, edit_means, need_means}
 use Rattle.st_trace.proofs.Stepping.{may_reconnect, within_log}

@@ -56,3 +56,7 @@ pub mod NumbersLeft
 pub mod Merged
 pub mod Voids
 pub mod Pendings
+mod TextsExist
+mod TextsListed
+pub mod TextOfEach
+mod TextsInTurn

@@ -17,17 +17,17 @@ use Rattle.st_edits.proofs.Fits.{clear_fits, need_fits, remove_fits}
 use Rattle.st_edits.proofs.Given.{clear_counted, insert_counted, move_counted, need_counted, put_counted, remove_counted}
 use Rattle.st_edits.proofs.MoveFits.{CellsFresh, move_fits}
 use Rattle.st_edits.proofs.NewFits.{NodesFresh, insert_fits, put_fits}
-use Rattle.st_edit_laws.proofs.Cleared.{clearing_verdict, needing_verdict}
-use Rattle.st_edit_laws.proofs.Filled.{setting_verdict}
-use Rattle.st_edit_laws.proofs.Inserted.{insertion_verdict}
-use Rattle.st_edit_laws.proofs.Moves.{move_verdict}
-use Rattle.st_edit_laws.proofs.Removed.{removal_verdict}
+use Rattle.st_schema_laws.proofs.Cleared.{clearing_verdict, needing_verdict}
+use Rattle.st_schema_laws.proofs.Filled.{setting_verdict}
+use Rattle.st_schema_laws.proofs.Inserted.{insertion_verdict}
+use Rattle.st_schema_laws.proofs.Moves.{move_verdict}
+use Rattle.st_schema_laws.proofs.Removed.{removal_verdict}
 use Rattle.st_schema_laws.specs.Agreeing.{TellsHomes}
 use Rattle.st_tree.specs.declared.edit.Edit.{Edit}
 use Rattle.st_tree.specs.declared.edit.Edit.TheVariants as tree_edit
-use Rattle.st_upgrade_laws.specs.Agreeing.{AgreesInLine, ConformsInEffect, Told, schema_in_effect}
-use Rattle.st_upgrade_laws.proofs.Kept.{edit_agrees}
-use Rattle.st_upgrade_laws.proofs.Read.{read_as_told}
+use Rattle.st_schema_laws.specs.AgreeingInEffect.{AgreesInLine, ConformsInEffect, Told, schema_in_effect}
+use Rattle.st_schema_laws.proofs.SchemasKept.{edit_agrees}
+use Rattle.st_schema_laws.proofs.Read.{read_as_told}
 use Rattle.st_trace.proofs.Trees.{tree_from, tree_seen, trees_from, trees_seen}
 use Rattle.st_script.specs.Steps.{EditView, edit_view}
 use Rattle.st_script.specs.Steps as step

@@ -7,7 +7,7 @@ use Rattle.st_lists.specs.declared.lists.Entry.{Entry}
 use Rattle.st_log_laws.specs.Turns.{FitInTurn}
 use Rattle.st_log_laws.proofs.Turns.{rest}
 use Rattle.st_marks.specs.Document.{IsSoundInForm}
-use Rattle.st_pending.specs.Texts.{AreTextsOf}
+use Rattle.st_trace.specs.Texts.{AreTextsOf}
 use Rattle.st_script.specs.Header.{HeaderView, header_view}
 use Rattle.st_script.specs.declared.answer.Answer.{Answer}
 use Rattle.st_script.specs.declared.answer.Answer.TheVariants.{Pending}

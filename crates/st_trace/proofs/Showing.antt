@@ -35,11 +35,11 @@ use Rattle.st_trace.specs.declared.world.World.{World}
 use Rattle.st_trace.proofs.Everyone.{clients_of}
 use Rattle.st_trace.proofs.Stepping.{start_of}
 use Rattle.st_lists.specs.declared.lists.Body.{Body}
-use Rattle.st_upgrade_laws.proofs.Kept.{shown_allowed}
-use Rattle.st_upgrade_laws.proofs.Read.{read_as_told}
+use Rattle.st_schema_laws.proofs.SchemasKept.{shown_allowed}
+use Rattle.st_schema_laws.proofs.Read.{read_as_told}
 use Rattle.st_trace.specs.Schemas.{HasReading}
 use Rattle.st_trace.specs.Upgrade.{upgrade}
-use Rattle.st_upgrade_laws.specs.Agreeing.{schema_in_effect}
+use Rattle.st_schema_laws.specs.AgreeingInEffect.{schema_in_effect}
 use Rattle.st_trace.proofs.Effect.{shown_conforms, shown_in_form}
 use Rattle.st_schema.specs.Conforms.{conforms}
 

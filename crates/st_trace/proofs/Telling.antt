@@ -18,13 +18,13 @@ use Rattle.st_log_laws.specs.Names.{HaveNewRevisions, revisions}
 use Rattle.st_log_laws.specs.Turns.{FitInTurn, IsSublist}
 use Rattle.st_log_laws.proofs.Turns.{made_in_run, turn_extends}
 use Rattle.st_part_laws.proofs.Chains.{last-has}
-use Rattle.st_upgrade_laws.specs.Agreeing.{AgreesInLine, ConformsInEffect, Told, last_schema, schema_in_effect, with_commit, with_home}
-use Rattle.st_upgrade_laws.specs.Lines.{IsLine}
-use Rattle.st_upgrade_laws.proofs.Earlier.{made_among}
-use Rattle.st_upgrade_laws.proofs.Edits.{some_last}
-use Rattle.st_upgrade_laws.proofs.Lines.{commit_goes_on, last_made, line_at_home, line_front, line_goes_on_longer, line_told}
-use Rattle.st_upgrade_laws.proofs.Read.{read_as_told}
-use Rattle.st_upgrade_laws.proofs.Told.{list_at_home, list_told}
+use Rattle.st_schema_laws.specs.AgreeingInEffect.{AgreesInLine, ConformsInEffect, Told, last_schema, schema_in_effect, with_commit, with_home}
+use Rattle.st_schema_laws.specs.Lines.{IsLine}
+use Rattle.st_schema_laws.proofs.Earlier.{made_among}
+use Rattle.st_schema_laws.proofs.EditsInLine.{some_last}
+use Rattle.st_schema_laws.proofs.Lines.{commit_goes_on, last_made, line_at_home, line_front, line_goes_on_longer, line_told}
+use Rattle.st_schema_laws.proofs.Read.{read_as_told}
+use Rattle.st_schema_laws.proofs.Told.{list_at_home, list_told}
 use Rattle.st_trace.specs.Replicas.{KeepsLine}
 use Rattle.st_trace.specs.Schemas.{IsKnownBy}
 

@@ -29,9 +29,9 @@ use Rattle.st_schema.specs.Wider.{wider_of}
 use Rattle.st_lists.specs.declared.lists.Client.{Client}
 use Rattle.st_lists.specs.declared.lists.Entry.{Entry}
 use Rattle.st_lists.specs.declared.lists.WorldState.{WorldState}
-use Rattle.st_upgrade_laws.specs.Agreeing.{empty_schema, schema_in_effect}
-use Rattle.st_upgrade_laws.proofs.Entries.{entries_count}
-use Rattle.st_upgrade_laws.proofs.Texts.{schema_text}
+use Rattle.st_schema_laws.specs.AgreeingInEffect.{empty_schema, schema_in_effect}
+use Rattle.st_schema_laws.proofs.Entries.{entries_count}
+use Rattle.st_schema_laws.proofs.Texts.{schema_text}
 use Rattle.st_trace.specs.Replicas.{IsClient, IsSound, IsSoundAfter}
 use Rattle.st_trace.specs.Schemas.{HasReading}
 use Rattle.st_trace.specs.Upgrade.{change_of_schema, refusal_to_upgrade, upgrade}

@@ -28,11 +28,11 @@ use Rattle.st_lists.specs.declared.lists.Branch.{Branch}
 use Rattle.st_lists.specs.declared.lists.Client.{Client}
 use Rattle.st_lists.specs.declared.lists.Entry.{Entry}
 use Rattle.st_lists.specs.declared.lists.Transaction.{Transaction}
-use Rattle.st_upgrade_laws.specs.Agreeing.{ConformsInEffect, schema_in_effect, with_commit as told_with_commit}
-use Rattle.st_upgrade_laws.specs.Widening.{IsUpgrade}
-use Rattle.st_upgrade_laws.proofs.Lines.{upgrade_goes_on}
-use Rattle.st_upgrade_laws.proofs.Read.{read_as_told}
-use Rattle.st_upgrade_laws.proofs.Texts.{schema_text}
+use Rattle.st_schema_laws.specs.AgreeingInEffect.{ConformsInEffect, schema_in_effect, with_commit as told_with_commit}
+use Rattle.st_schema_laws.specs.Widening.{IsUpgrade}
+use Rattle.st_schema_laws.proofs.Lines.{upgrade_goes_on}
+use Rattle.st_schema_laws.proofs.Read.{read_as_told}
+use Rattle.st_schema_laws.proofs.Texts.{schema_text}
 use Rattle.st_trace.specs.Replicas.{BranchesKeepSchemas, CommitsKeepSchemas, HasMain, HaveOwnSessions, IsClient, KeepToSchemas, KeepsLine}
 use Rattle.st_trace.specs.Schemas.{IsKnownBy}
 use Rattle.st_trace.specs.Upgrade.{change_of_schema}

@@ -7,3 +7,4 @@ pub mod Upgrade
 pub mod World
 pub mod inside
 pub mod Branches
+pub mod Texts

@@ -12,8 +12,8 @@ use Rattle.st_log_laws.specs.Turns.{FitInTurn}
 use Rattle.serde_json.specs.Written.{compact_text}
 use Rattle.st_ids.specs.declared.names.Rev.{Rev}
 use Rattle.st_schema.specs.Written.{schema_data}
-use Rattle.st_upgrade_laws.specs.Agreeing.{AgreesInLine, Told}
-use Rattle.st_upgrade_laws.specs.Lines.{IsLine}
+use Rattle.st_schema_laws.specs.AgreeingInEffect.{AgreesInLine, Told}
+use Rattle.st_schema_laws.specs.Lines.{IsLine}
 use Rattle.st_doc.specs.Doc.{document_of}
 use Rattle.st_schema.specs.Schema.{is_sound}
 use Rattle.st_heads.specs.Remembered.{AreCarried}

@@ -24,7 +24,7 @@ use Rattle.st_marks.specs.Intent.{group_cells}
 use Rattle.st_marks.specs.LiveTree.{IsTreeText}
 use Rattle.st_marks.specs.Verdict.{IsVerdict}
 use Rattle.st_opening.specs.Start.{start_of}
-use Rattle.st_upgrade_laws.specs.Agreeing.{schema_in_effect}
+use Rattle.st_schema_laws.specs.AgreeingInEffect.{schema_in_effect}
 use Rattle.st_edits.specs.declared.names.NameCounters.{NameCounters}
 use Rattle.st_edits.specs.Resolve.{insert, remove, move, put, clear, need}
 use Rattle.st_heads.specs.Transactions.{IsWithPart, with_open}
@@ -40,7 +40,7 @@ use Rattle.st_lists.specs.Limits.{entries_limit_passed, limit_passed, log_limit_
 use Rattle.st_lists.specs.Lines.{HasHead, Line, branch_of, edited_on, line_of, main_line, with_commit_on, with_transaction_on}
 use Rattle.st_lists.specs.Log.{commit_of, log_with, minimum, sessions_in, waiting}
 use Rattle.st_lists.specs.Names.{names_in_text}
-use Rattle.st_pending.specs.Texts.{AreTextsOf}
+use Rattle.st_trace.specs.Texts.{AreTextsOf}
 use Rattle.st_trace.specs.Branches.{AreVoid, IsMerged, IsRebased, drop_branch, fork, refusal_to_fork, refusal_to_merge, refusal_to_rebase}
 use Rattle.st_trace.specs.Kept.{IsKept, Unless}
 use Rattle.st_trace.specs.Undo.{IsAfterUndo}

@@ -16,6 +16,7 @@ mod pending;
 mod reconnecting;
 mod replica;
 mod sessions;
+mod texts;
 mod transactions;
 mod undo;
 mod undo_steps;

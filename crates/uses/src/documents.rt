@@ -6,10 +6,10 @@ ghost use Rattle.st_tree.specs.Size.{check_of};
 ghost use Rattle.st_schema.specs.Conforms.{conforms};
 ghost use Rattle.st_schema.specs.TreeText.{tree_data};
 ghost use Rattle.st_doc.specs.LiveText.{is_among};
-ghost use Rattle.st_edit_laws.specs.Edited.{TellsRows};
+ghost use Rattle.st_schema_laws.specs.Edited.{TellsRows};
 
 use st_doc::Doc;
-use st_edit_laws::opening_is_seen;
+use st_schema_laws::opening_is_seen;
 use st_ids::Text;
 use st_marks::one_tree;
 use st_schema::{Schema, allowed_has_form};

@@ -10,11 +10,11 @@ ghost use Rattle.st_marks.specs.Document.{IsSoundInForm};
 ghost use Rattle.st_marks.specs.LiveTree.{Shows};
 ghost use Rattle.st_doc.specs.Doc.{document_of};
 ghost use Rattle.st_edits.specs.Resolve.{insert};
-ghost use Rattle.st_edit_laws.specs.Edited.{TellsRows, at_path, data_items, with_items};
+ghost use Rattle.st_schema_laws.specs.Edited.{TellsRows, at_path, data_items, with_items};
 ghost use Rattle.uses.specs.Fresh.{AreFresh};
 
 use st_doc::Doc;
-use st_edit_laws::insertion_is_seen;
+use st_schema_laws::insertion_is_seen;
 use st_edits::{NameCounters, new_trees_fit};
 use st_ids::{Key, List, Or, Path};
 use st_marks::{Verdict, one_verdict};

@@ -6,7 +6,7 @@ use Rattle.st_marks.specs.Document.{Document}
 use Rattle.st_marks.specs.LiveTree.{Shows}
 use Rattle.st_marks.specs.declared.verdicts.Verdict.{Verdict}
 use Rattle.st_doc.specs.Doc.{document_of}
-use Rattle.st_edit_laws.specs.Edited.{at_path, data_items, with_items}
+use Rattle.st_schema_laws.specs.Edited.{at_path, data_items, with_items}
 use Rattle.uses.proofs.edits.insert_items.Goals as goal
 
 pub carry-requires-clause-fits : goal.carry-requires-clause-fits

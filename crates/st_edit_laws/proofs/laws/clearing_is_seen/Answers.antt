@@ -1,5 +1,0 @@
-use Rattle.st_edit_laws.proofs.Cleared.{clearing_verdict, clearing_seen}
-use Rattle.st_edit_laws.proofs.laws.clearing_is_seen.Goals as goal
-
-pub returns : goal.returns
-returns c = record { verdict = clearing_verdict; tree = clearing_seen }

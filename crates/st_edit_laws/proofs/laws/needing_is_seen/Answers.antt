@@ -1,5 +1,0 @@
-use Rattle.st_edit_laws.proofs.Cleared.{needing_verdict, needing_seen}
-use Rattle.st_edit_laws.proofs.laws.needing_is_seen.Goals as goal
-
-pub returns : goal.returns
-returns c = record { verdict = needing_verdict; tree = needing_seen }

@@ -1,5 +1,0 @@
-pub mod Edited
-pub mod Alike
-pub mod Moved
-pub mod Typed
-pub mod Edits

@@ -1,4 +1,0 @@
-mod Existing
-mod Listed
-pub mod Having
-mod Turns

@@ -1,5 +1,0 @@
-use Rattle.st_upgrade_laws.proofs.Kept.{shown_allowed}
-use Rattle.st_upgrade_laws.proofs.laws.shown_trees_are_allowed.Goals as goal
-
-pub returns : goal.returns
-returns c = λ T D is_array d s here tells shows. shown_allowed T D s here is_array d tells shows

@@ -1,4 +1,0 @@
-pub mod Widening
-pub mod Agreeing
-pub mod Earlier
-pub mod Lines
