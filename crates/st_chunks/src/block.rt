@@ -2,6 +2,7 @@
 ghost use Rattle.std.specs.Prelude.{◌≡◌, ◌<◌, ◌≤◌, ◌+◌, ◌^◌, length, insert, IfOk, OnOk, OnErr, option_copied};
 ghost use Rattle.st_chunks.specs.Slots.{count_full, one_if, with_full};
 
+use st_ids::Copied;
 use st_marks::Slot;
 use std::alloc::{AllocError, Global};
 use std::marker::Model;
@@ -99,4 +100,25 @@ impl Block {
         self.slots[offset].full = full;
         self.full = self.full - one_if(was) + one_if(full);
     }
+}
+
+impl Copied for Block {
+    fn copy(&self, alloc: Global) -> Result<Self, AllocError> {
+        let slots = Vec::from_slice(alloc, self.as_slice())?;
+        Ok(Block {
+            slots,
+            full: self.full,
+        })
+    }
+}
+
+/// Equal blocks.
+pub fn copy_blocks(alloc: Global, blocks: &[Block]) -> Result<Vec<Block>, AllocError>
+    ensures { IfOk result (λ copies. copies.items ≡ blocks.now) }
+{
+    let mut copies = Vec::new(alloc);
+    for block in blocks {
+        copies.push(block.copy(alloc)?)?;
+    }
+    Ok(copies)
 }

@@ -2,6 +2,7 @@
 #![tactic(auto)]
 
 mod block;
+mod chunks;
 mod gap;
 mod group;
 mod row;

@@ -1,15 +1,16 @@
 //! A row of slots.
 ghost use Rattle.std.specs.Prelude.{◌≡◌, ◌<◌, ◌≤◌, ◌+◌, ◌-◌, ◌^◌, ◌↔◌, ◌++◌, [], length, take, drop, slice_get, IfOk, IsErr, IsErrOf, OnOk, OnErr, Some};
 ghost use Rattle.st_ids.specs.declared.fault.Or;
-ghost use Rattle.st_chunks.specs.Slots.{all_slots, count_full, with_full, IsFullPlace};
+ghost use Rattle.st_chunks.specs.Slots.{all_slots, chunk_count, count_full, with_full, IsFullPlace};
 
-use crate::block::Block;
+use crate::block::{Block, copy_blocks};
+use crate::chunks::count_chunks;
 use crate::gap::{Range, count_all, find_full, find_item};
 use crate::group::{Group, fill};
 use crate::splice::{flip_at, put};
-use st_ids::Or;
+use st_ids::{Copied, Or};
 use st_marks::Slot;
-use std::alloc::Global;
+use std::alloc::{AllocError, Global};
 use std::marker::Model;
 
 /// A row of slots. Contracts see it as a list.
@@ -59,6 +60,14 @@ impl ChunkRow {
         ensures { result ≡ count_full self.now }
     {
         count_all(self.blocks.as_slice(), self.groups.as_slice())
+    }
+
+    /// How many chunks there are: longest runs of slots that are all full or all empty, whose cells have one revision and
+    /// numbers that rise by one, and whose nodes do too. It goes through the row.
+    pub fn chunks(&self) -> u64
+        ensures { result ≡ chunk_count self.now }
+    {
+        count_chunks(self.blocks.as_slice())
     }
 
     /// The slot at a place.
@@ -119,5 +128,18 @@ impl ChunkRow {
         let at = find_item(self.blocks.as_slice(), self.groups.as_slice(), place)?;
         flip_at(&mut self.blocks, &mut self.groups, at, full);
         Ok(())
+    }
+}
+
+impl Copied for ChunkRow {
+    fn copy(&self, alloc: Global) -> Result<Self, AllocError> {
+        let blocks = copy_blocks(alloc, self.blocks.as_slice())?;
+        let mut groups = Vec::new(alloc);
+        fill(&mut groups, blocks.as_slice());
+        Ok(ChunkRow {
+            blocks,
+            groups,
+            total: self.total,
+        })
     }
 }

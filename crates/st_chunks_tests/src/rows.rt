@@ -1,6 +1,6 @@
 //! Rows of 20,000 slots, as they grow one by one and all at once.
 use st_chunks::{ChunkRow, Range};
-use st_ids::{Atom, CellId, NodeId, Or, Rev};
+use st_ids::{Atom, CellId, Copied, NodeId, Or, Rev};
 use st_marks::Slot;
 use std::alloc::Global;
 
@@ -85,11 +85,42 @@ fn spliced(alloc: Global) -> Result<bool, Or<Range>> {
     )
 }
 
+// The slots that one insert of so many items makes.
+fn made(alloc: Global, count: u32) -> Result<Vec<Slot>, Or<Range>> {
+    let mut slots = Vec::new(alloc);
+    for at in 0..count {
+        let name = Atom {
+            rev: Rev { session: 1, num: 1 },
+            at,
+        };
+        slots.push(Slot {
+            cell: CellId(name),
+            node: NodeId(name),
+            full: true,
+        })?;
+    }
+    Ok(slots)
+}
+
+// A row that one insert filled is one chunk; a flip in its midst parts it.
+fn chunked(alloc: Global) -> Result<bool, Or<Range>> {
+    let mut row = ChunkRow::new(alloc);
+    let slots = made(alloc, 1_000)?;
+    if row.len() < 1_000_000 && slots.len() < 1_000_000 {
+        row.splice(alloc, 0, 0, slots.as_slice())?;
+    }
+    let whole = row.chunks();
+    let done = row.flip(500, false).is_ok();
+    let copy = row.copy(alloc)?;
+    Ok(done && whole == 1 && row.chunks() == 3 && copy.chunks() == 3 && copy.full_len() == 999)
+}
+
 #[test]
 fn rows_answer(rt: HostRuntime) -> Result<(), Or<Range>> {
     let alloc = rt.alloc();
     let (a, b) = (grown(alloc)?, found(alloc)?);
     let (c, d) = (flipped(alloc)?, spliced(alloc)?);
-    assert!(rt; a && b && c && d, "{a} {b} {c} {d}");
+    let e = chunked(alloc)?;
+    assert!(rt; a && b && c && d && e, "{a} {b} {c} {d} {e}");
     Ok(())
 }

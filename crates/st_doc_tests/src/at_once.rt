@@ -53,7 +53,7 @@ impl Row for AtOnce {
 
 const MOVED: Case = Case::Move(&[("", 0)], 0, 1, &[("", 1)], "", 0);
 
-const ROWS: [AtOnce; 6] = [
+static ROWS: [AtOnce; 6] = [
     // A node that one author moves to another field keeps what the other author puts into it.
     AtOnce {
         tree: r#"{"list":[{"list":[{"list":[]}]},{"list":[]}]}"#,

@@ -154,7 +154,7 @@ impl Row for Listed {
 
 const NESTED: &str = r#"{"list":[{"list":[{"list":[]}]},{"list":[]}]}"#;
 
-const LISTED: [Listed; 5] = [
+static LISTED: [Listed; 5] = [
     Listed {
         tree: r#"{"list":["x"]}"#,
         earlier: Some(Case::Insert(&[], 1, &[r#""a""#])),

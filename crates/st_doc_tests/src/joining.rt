@@ -75,7 +75,7 @@ impl Row for Parts {
     }
 }
 
-const ROWS: [Parts; 5] = [
+static ROWS: [Parts; 5] = [
     // Into a list that the first part makes.
     Parts {
         tree: r#"{"list":["x"]}"#,

@@ -111,7 +111,7 @@ impl Row for Stepped {
     }
 }
 
-const STEPS: [Stepped; 4] = [
+static STEPS: [Stepped; 4] = [
     Stepped {
         tree: r#"{"list":["w","x"]}"#,
         earlier: None,

@@ -70,12 +70,20 @@ fn carry_at(alloc: Global, head: &mut Head, intent: &Intent) -> Result<(), Fail>
     Ok(())
 }
 
+// Goes the first way that is remembered.
+fn go_back(alloc: Global, head: &mut Head) -> Result<(), Fail>
+    requires { IsSoundInForm (document_of head.old.doc) }
+    ensures { OnOk result (IsSoundInForm (document_of head.new.doc)) }
+{
+    let intent = first_way(alloc, head)?;
+    carry_at(alloc, head, &intent)
+}
+
 // Whether the first commit is undone.
 fn undoes(alloc: Global, head: &mut Head, tree: &str) -> Result<bool, Fail>
     requires { IsSoundInForm (document_of head.old.doc) }
 {
-    let intent = first_way(alloc, head)?;
-    carry_at(alloc, head, &intent)?;
+    go_back(alloc, head)?;
     Ok(shows(alloc, &head.doc, tree)?)
 }
 
@@ -126,7 +134,7 @@ impl Row for Pair {
     }
 }
 
-const ROWS: [Pair; 6] = [
+static ROWS: [Pair; 6] = [
     // What was inserted goes, and what another inserted stays.
     Pair {
         tree: r#"{"list":["x"]}"#,

@@ -152,7 +152,7 @@ impl Row for Edited {
     }
 }
 
-const ROWS: [Edited; 16] = [
+static ROWS: [Edited; 16] = [
     // New items, of which one has items and fields of its own.
     Edited {
         tree: r#"{"list":["x"]}"#,
