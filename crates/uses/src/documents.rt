@@ -9,10 +9,10 @@ ghost use Rattle.st_doc.specs.LiveText.{is_among};
 ghost use Rattle.st_schema_laws.specs.Edited.{TellsRows};
 
 use st_doc::Doc;
-use st_schema_laws::opening_is_seen;
 use st_ids::Text;
 use st_marks::one_tree;
 use st_schema::{Schema, allowed_has_form};
+use st_schema_laws::opening_is_seen;
 use st_tree::Tree;
 use std::alloc::{AllocError, Global};
 

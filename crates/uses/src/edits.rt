@@ -14,12 +14,12 @@ ghost use Rattle.st_schema_laws.specs.Edited.{TellsRows, at_path, data_items, wi
 ghost use Rattle.uses.specs.Fresh.{AreFresh};
 
 use st_doc::Doc;
-use st_schema_laws::insertion_is_seen;
 use st_edits::{NameCounters, new_trees_fit};
 use st_ids::{Key, List, Or, Path};
 use st_marks::{Verdict, one_verdict};
 use st_resolve::insert;
 use st_schema::Schema;
+use st_schema_laws::insertion_is_seen;
 use st_tree::{EditFault, Tree};
 use std::alloc::Global;
 
