@@ -1,4 +1,3 @@
-pub mod FieldsOfWiderSchemas
 pub mod WiderSchemas
 pub mod NodesThatConform
 pub mod DocumentsAfter

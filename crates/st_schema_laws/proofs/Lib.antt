@@ -20,6 +20,7 @@ pub mod Gap
 pub mod Homes
 pub mod InTurn
 pub mod Inserted
+pub mod JoinedNames
 pub mod Joins
 pub mod Kept
 pub mod Keys

@@ -135,7 +135,7 @@ required_before (Object olds) (Object news) key r wide e required = go (declared
 -- ## Documents and intents
 
 module _ (old new : SchemaView) (sound : is_sound new ≡ true) (wide : wider_of old new ≡ Ok tt) where
-  parts : (list_all (λ ok. ok) (types_widen old.types new.types) ≡ true) × (contains_all new.root old.root ≡ true)
+  pub parts : (list_all (λ ok. ok) (types_widen old.types new.types) ≡ true) × (contains_all new.root old.root ≡ true)
   parts =
       let b = and-true _ _ (sym (list_all-append (λ ok. ok) (types_widen old.types new.types) (contains_all new.root old.root ∷ [])) ∙ no_narrowing 0 (types_widen old.types new.types ++ contains_all new.root old.root ∷ []) wide) in
       (b.0, (and-true (contains_all new.root old.root) true b.1).0)
@@ -144,7 +144,7 @@ module _ (old new : SchemaView) (sound : is_sound new ≡ true) (wide : wider_of
   type_wider ty (Some v) e = e
   type_wider ty None e = let f = some_there (form_of old.types ty) e in ap is_some (form_found old.types new.types ty f.0 parts.0 f.1).1
 
-  field_wider : (ty key : List ℕ) (rule : FieldRule) → field_of old ty key ≡ Some rule → (r : FieldRule) × (field_of new ty key ≡ Some r) × Widens rule r
+  pub field_wider : (ty key : List ℕ) (rule : FieldRule) → field_of old ty key ≡ Some rule → (r : FieldRule) × (field_of new ty key ≡ Some r) × Widens rule r
   field_wider ty key rule e = go (form_of old.types ty) refl e
     where
       go : (o : Option Form) → form_of old.types ty ≡ o → option_and_then (λ (form : Form). field_in form key) o ≡ Some rule → (r : FieldRule) × (field_of new ty key ≡ Some r) × Widens rule r
@@ -154,7 +154,7 @@ module _ (old new : SchemaView) (sound : is_sound new ≡ true) (wide : wider_of
           let r = rule_wider form g.0 key rule g.2 f in
           (r.0, ap (option_and_then (λ (form : Form). field_in form key)) g.1 ∙ r.1, r.2)
 
-  field_before : (ty key : List ℕ) (leaf : Option Leaf) (r : FieldRule) → type_fits old ty leaf ≡ true → field_of new ty key ≡ Some r → is_required r.kind ≡ true → (rule : FieldRule) × (field_of old ty key ≡ Some rule) × (is_required rule.kind ≡ true)
+  pub field_before : (ty key : List ℕ) (leaf : Option Leaf) (r : FieldRule) → type_fits old ty leaf ≡ true → field_of new ty key ≡ Some r → is_required r.kind ≡ true → (rule : FieldRule) × (field_of old ty key ≡ Some rule) × (is_required rule.kind ≡ true)
   field_before ty key (Some v) r fits e required =
       let bad : None ≡ Some r = sym (ap (option_and_then (λ (form : Form). field_in form key)) (leaf_undefined new sound ty v fits)) ∙ e in
       absurd (cc)
