@@ -16,3 +16,8 @@ pub mod StepsListed
 pub mod VoidPlaces
 pub mod VoidsExtend
 pub mod WaysBack
+pub mod MapListings
+pub mod ListLoops
+pub mod Settling
+pub mod NodesFound
+pub mod ToldTogether

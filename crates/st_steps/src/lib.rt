@@ -1,8 +1,17 @@
-//! Steps in turn as one, and the way back over a step: what is listed, as laws.
+//! Steps in turn as one, and the way back over a step: what is listed, as laws and as running code.
 #![tactic(auto)]
 
+mod composition;
 mod laws;
+mod listing;
+mod loose;
+mod registers;
+mod rows;
+mod schemas;
+mod tables;
+mod union;
 
+pub use composition::compose_agreed;
 pub use laws::{
     full_and_void_lead_to_each_other, mentioned_nodes_are_listed, names_dropped_are_the_seconds,
     rows_left_are_found, steps_go_over_void_commits, steps_in_turn_are_listed,

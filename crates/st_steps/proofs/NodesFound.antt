@@ -1,0 +1,112 @@
+-- Who is found before a step stands there.
+use Rattle.std.proofs.Common.{◌≡◌, ◌||◌, ℕ, zero, suc, Bool, true, false, List, [], ◌∷◌, ◌++◌, map, Option, Some, None, IsSome, is_some, refl, sym, ap, ◌∙◌, subst, inl, inr}
+use Rattle.std.specs.List.{flat_map}
+use Rattle.st_ids.specs.Listing.{Has}
+use Rattle.st_ids.specs.Order.{node_cmp, same_node}
+use Rattle.st_ids.specs.Root.{root}
+use Rattle.st_ids.proofs.Listings.{has-item_of, item_of-has}
+use Rattle.st_ids.proofs.Orders.{node_cmp_exact, node_cmp_total, same_node-true}
+use Rattle.st_ids.specs.declared.names.CellId.{CellId}
+use Rattle.st_ids.specs.declared.names.NodeId.{NodeId}
+use Rattle.st_lemmas.proofs.Lists.{flat_map-map, flat_map-same}
+use Rattle.st_climb.proofs.GrownSets.{among-append}
+use Rattle.st_marks.specs.declared.changes.NewNode.{NewNode}
+use Rattle.st_marks.specs.declared.marks.How.{How}
+use Rattle.st_marks.specs.declared.marks.Mark.{Mark}
+use Rattle.st_marks.specs.declared.marks.RegStep.{RegStep}
+use Rattle.st_marks.specs.declared.marks.RowMarks.{RowMarks}
+use Rattle.st_marks.specs.declared.steps.Step.{Step}
+use Rattle.st_marks.specs.Back.{is_in}
+use Rattle.st_marks.specs.Document.{Document, NodeType}
+use Rattle.st_marks.specs.Embedding.{is_among, is_nowhere}
+use Rattle.st_marks.specs.Extends.{IsExtendedBy}
+use Rattle.st_marks.specs.Listings.{cells_before, nodes_loose, nodes_new, nodes_standing, one_or_none, placed_before}
+use Rattle.st_marks.specs.Row.{CellMark, Counted, Gap, Touch, Make, Fill, counted_cells, spread}
+use Rattle.st_marks.specs.Step.{IsStep, gained_node}
+use Rattle.st_marks.proofs.Members.{any-has, append_left, append_right, has-append, has-flat_map, has-map, map-has}
+use Rattle.st_puts.proofs.Basics.{one-is}
+use Rattle.st_puts.proofs.StepPlaces.{reg-is, touch-place}
+use Rattle.st_steps.proofs.NamesListed.{among, mentioned_loose, mentioned_stood}
+use Rattle.st_steps.specs.inside.Stood.{finds}
+
+among-has : (xs : List NodeId) (n : NodeId) → is_among xs n ≡ true → Has xs n
+among-has xs n e = let r = any-has (λ m. same_node m n) xs e in subst (Has xs) (same_node-true r.0 n r.2) r.1
+
+-- ## Read off marks
+
+none_counted : (k : ℕ) (xs : List CellMark) → nodes_standing (cells_before (counted_cells k xs)) ≡ nodes_standing (cells_before xs)
+none_counted zero xs = refl
+none_counted (suc k) xs = none_counted k xs
+
+pub standing_is : (ms : List Mark) → flat_map (λ (m : Mark). one_or_none (finds m)) ms ≡ nodes_standing (cells_before (spread ms))
+standing_is [] = refl
+standing_is (Mark.Skip k ∷ ms) = standing_is ms ∙ sym (none_counted k (spread ms))
+standing_is (Mark.Gap c ∷ ms) = standing_is ms
+standing_is (Mark.Touch c n h ∷ ms) = ap (λ l. n ∷ l) (standing_is ms)
+standing_is (Mark.Make c n b ∷ ms) = standing_is ms
+standing_is (Mark.Fill c n ∷ ms) = standing_is ms
+
+-- what is added for rows and then for registers
+pub found_of : (rows : List RowMarks) (regs : List RegStep) (n : NodeId) (before now : Bool)
+    → before ≡ is_among (flat_map (λ (r : RowMarks). flat_map (λ (m : Mark). one_or_none (finds m)) r.marks) rows) n
+    → now ≡ (before || is_among (flat_map (λ (r : RegStep). one_or_none r.before) regs) n)
+    → now ≡ is_among (placed_before rows (map (λ (r : RegStep). r.before) regs)) n
+found_of rows regs n before now e f =
+    f ∙ (λ i. (e ∙ ap (λ l. is_among l n) (flat_map-same (λ (r : RowMarks). flat_map (λ (m : Mark). one_or_none (finds m)) r.marks) (λ (r : RowMarks). nodes_standing (cells_before (spread r.marks))) (λ r. standing_is r.marks) rows)) i
+    || is_among (sym (flat_map-map one_or_none (λ (r : RegStep). r.before) regs) i) n)
+    ∙ sym (among-append (flat_map (λ (r : RowMarks). nodes_standing (cells_before (spread r.marks))) rows) (flat_map one_or_none (map (λ (r : RegStep). r.before) regs)) n)
+
+-- who stands in a cell before is touched
+standing_touch : (ms : List CellMark) (n : NodeId) → Has (nodes_standing (cells_before ms)) n → (c : CellId) × (h : How) × Has ms (Touch c n h)
+standing_touch [] n i = absurd i
+standing_touch (Counted ∷ ms) n i = let r = standing_touch ms n i in (r.0, r.1, inr r.2)
+standing_touch (Gap e ∷ ms) n i = let r = standing_touch ms n i in (r.0, r.1, inr r.2)
+standing_touch (Touch e k g ∷ ms) n (inl q) = (e, g, inl (ap (λ k. Touch e k g) q))
+standing_touch (Touch e k g ∷ ms) n (inr i) = let r = standing_touch ms n i in (r.0, r.1, inr r.2)
+standing_touch (Make e k b ∷ ms) n i = let r = standing_touch ms n i in (r.0, r.1, inr r.2)
+standing_touch (Fill e k ∷ ms) n i = let r = standing_touch ms n i in (r.0, r.1, inr r.2)
+
+-- ## Over documents
+
+module _ (D E : Document) (S : Step) (x : IsExtendedBy D E) (s : IsStep D E S) where
+  pub found_stands : (n : NodeId) → is_among (placed_before S.rows (map (λ (r : RegStep). r.before) S.regs)) n ≡ true → is_nowhere (D.place n) ≡ false
+  found_stands n e = elim (has-append (flat_map (λ (r : RowMarks). nodes_standing (cells_before (spread r.marks))) S.rows) (flat_map one_or_none (map (λ (r : RegStep). r.before) S.regs)) n (among-has _ n e)) [
+    | inl i ↦ (let r = has-flat_map (λ (r : RowMarks). nodes_standing (cells_before (spread r.marks))) S.rows n i in
+        let t = standing_touch (spread r.0.marks) n r.2 in
+        ap is_nowhere (touch-place D E S x s r.0 t.0 n t.1 r.1 t.2).0)
+    | inr i ↦ (let o = has-flat_map one_or_none (map (λ (r : RegStep). r.before) S.regs) n i in
+        let r = has-map (λ (r : RegStep). r.before) S.regs o.0 o.1 in
+        let held : D.held r.0.field ≡ Some n = sym (reg-is D E S x s r.0 r.1).0 ∙ r.2 ∙ one-is o.0 n o.2 in
+        ap is_nowhere ((x.before.one_held n r.0.field).0 held))
+  ]
+
+  -- who is new
+  pub new_apart : (n : NodeId) → is_among (nodes_new S.new) n ≡ true → is_in D n ≡ false
+  new_apart n e =
+      let r = has-map (λ (m : NewNode). m.node) S.new n (among-has (nodes_new S.new) n e) in
+      let at : gained_node r.0.node (D.nodes r.0.node) (E.nodes r.0.node) ≡ Some r.0 = sym (s.new.at_each r.0.node) ∙ has-item_of node_cmp node_cmp_total node_cmp_exact (λ (m : NewNode). m.node) S.new r.0 s.new.rising r.1 in
+      ap (λ j. is_some (D.nodes j)) (sym r.2) ∙ none r.0.node (D.nodes r.0.node) (E.nodes r.0.node) r.0 at
+    where
+      none : (k : NodeId) (o p : Option NodeType) (m : NewNode) → gained_node k o p ≡ Some m → is_some o ≡ false
+      none k None p m e = refl
+      none k (Some t) p m e = cc
+
+  pub made_new : (n : NodeId) → is_in D n ≡ false → IsSome (E.nodes n) → is_among (nodes_new S.new) n ≡ true
+  made_new n e k = go (D.nodes n) refl e (E.nodes n) refl k
+    where
+      go : (o : Option NodeType) → D.nodes n ≡ o → is_some o ≡ false → (p : Option NodeType) → E.nodes n ≡ p → IsSome p → is_among (nodes_new S.new) n ≡ true
+      go (Some t) f e p g k = cc
+      go None f e None g k = cc
+      go None f e (Some t) g k =
+          let m : NewNode = record { node = n; ty = t.ty; leaf = t.leaf } in
+          let q = item_of-has node_cmp node_cmp_total node_cmp_exact (λ (m : NewNode). m.node) S.new n m (s.new.at_each n ∙ (λ i. gained_node n (f i) (g i))) in
+          among (nodes_new S.new) n (map-has (λ (m : NewNode). m.node) S.new m q.0)
+
+  -- whom the step mentions, but for the root, it lists
+  pub all_listed : (n : NodeId) → s.mentioned n ≡ true → same_node n root ≡ false → is_among (nodes_new S.new ++ nodes_loose S.loose ++ placed_before S.rows (map (λ (r : RegStep). r.before) S.regs)) n ≡ true
+  all_listed n e z = go (is_nowhere (D.place n)) refl
+    where
+      go : (b : Bool) → is_nowhere (D.place n) ≡ b → is_among (nodes_new S.new ++ nodes_loose S.loose ++ placed_before S.rows (map (λ (r : RegStep). r.before) S.regs)) n ≡ true
+      go true p = among _ n (append_left (nodes_new S.new ++ nodes_loose S.loose) (placed_before S.rows (map (λ (r : RegStep). r.before) S.regs)) n
+          (append_right (nodes_new S.new) (nodes_loose S.loose) n (among-has _ n (mentioned_loose D E S x s n e p z))))
+      go false p = among _ n (append_right (nodes_new S.new ++ nodes_loose S.loose) (placed_before S.rows (map (λ (r : RegStep). r.before) S.regs)) n (among-has _ n (mentioned_stood D E S x s n e p)))
