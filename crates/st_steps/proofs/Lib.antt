@@ -21,3 +21,5 @@ pub mod ListLoops
 pub mod Settling
 pub mod NodesFound
 pub mod ToldTogether
+pub mod ShortRows
+pub mod ShortSteps

@@ -22,14 +22,14 @@ use Rattle.st_moves.proofs.Indices.{item_of-push, same_both}
 
 -- ## Items that are gone through
 
--- what is listed, and what is left of the entries
-pub values_left : {K A : Type 0} (before now whole : List A) (items left : List (K × A)) (e : K × A) → items ≡ e ∷ left → now ≡ before ++ e.1 ∷ []
-    → before ++ values_of items ≡ whole → now ++ values_of left ≡ whole
-values_left before now whole items left e opened pushed so_far =
-    ap (λ l. l ++ values_of left) pushed ∙ append_assoc before (e.1 ∷ []) (values_of left) ∙ ap (λ l. before ++ values_of l) (sym opened) ∙ so_far
+-- what is listed, and what is left of the items
+pub values_left : {A : Type 0} (before now whole : List A) (items left : List A) (x : A) → items ≡ x ∷ left → now ≡ before ++ x ∷ []
+    → before ++ items ≡ whole → now ++ left ≡ whole
+values_left before now whole items left x opened pushed so_far =
+    ap (λ l. l ++ left) pushed ∙ append_assoc before (x ∷ []) left ∙ ap (λ l. before ++ l) (sym opened) ∙ so_far
 
-pub values_all : {K A : Type 0} (out whole : List A) (items : List (K × A)) → items ≡ [] → out ++ values_of items ≡ whole → out ≡ whole
-values_all out whole items none so_far = sym (append-nil out) ∙ ap (λ l. out ++ values_of l) (sym none) ∙ so_far
+pub values_all : {A : Type 0} (out whole : List A) (items : List A) → items ≡ [] → out ++ items ≡ whole → out ≡ whole
+values_all out whole items none so_far = sym (append-nil out) ∙ ap (λ l. out ++ l) (sym none) ∙ so_far
 
 module _ {K A : Type 0} (R : K → K → Ordering) (total : IsTotalOrder R) (key : A → K) where
   -- one item more is kept under its name

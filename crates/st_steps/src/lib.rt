@@ -8,12 +8,14 @@ mod loose;
 mod registers;
 mod rows;
 mod schemas;
+mod short;
 mod tables;
 mod union;
 
 pub use composition::compose_agreed;
 pub use laws::{
     full_and_void_lead_to_each_other, mentioned_nodes_are_listed, names_dropped_are_the_seconds,
-    rows_left_are_found, steps_go_over_void_commits, steps_in_turn_are_listed,
-    ways_back_are_listed,
+    rows_left_are_found, steps_go_over_void_commits, steps_have_short_rows,
+    steps_in_turn_are_listed, ways_back_are_listed,
 };
+pub use short::has_short_rows;

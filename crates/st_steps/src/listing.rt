@@ -1,5 +1,5 @@
 //! Two steps in turn, told together with all that either names.
-ghost use Rattle.std.specs.Prelude.{◌≡◌, map, IfOk, OnOk, IfSome, IsSome};
+ghost use Rattle.std.specs.Prelude.{◌≡◌, [], None, map, IfOk, OnOk, IfSome, IsSome};
 ghost use Rattle.std.specs.BTreeMap.{get};
 ghost use Rattle.std.specs.BTreeSet.{contains};
 ghost use Rattle.st_ids.specs.Order.{node_cmp};
@@ -14,7 +14,6 @@ ghost use Rattle.st_trim.specs.Trimmed.{ListsStep};
 ghost use Rattle.st_steps.specs.Short.{HasShortRowsListed};
 ghost use Rattle.st_steps.specs.Turned.{TellsTurn, named_in_turn};
 ghost use Rattle.st_steps.specs.inside.Told.{AreFieldsTold, ToldInTurn};
-ghost use Rattle.st_steps.specs.Schemas.{schemas_in_turn as in_turn};
 
 use crate::loose::{Tables, loose_in_turn};
 use crate::registers::registers_in_turn;
@@ -39,6 +38,19 @@ fn tables_of(alloc: Global, first: &Step, second: &Step) -> Result<Tables, Alloc
     Ok(Tables { stood, new, spots })
 }
 
+/// The step that lists nothing.
+pub fn empty_step(alloc: Global) -> Step
+    ensures { result ≡ record { new = []; rows = []; regs = []; loose = []; schema = None } }
+{
+    Step {
+        new: List::new(alloc),
+        rows: List::new(alloc),
+        regs: List::new(alloc),
+        loose: List::new(alloc),
+        schema: None,
+    }
+}
+
 // Lists the rows and registers of two steps in turn.
 fn fill_fields(
     alloc: Global,
@@ -47,15 +59,14 @@ fn fill_fields(
     step: &mut Step,
 ) -> Result<(), AllocError>
     requires { HasShortRowsListed second.now }
-    ensures fields { OnOk result (AreFieldsTold first.now second.now step.exit.now) }
-    ensures schema { OnOk result (step.exit.now.schema ≡ step.entry.now.schema) }
+    ensures { OnOk result (AreFieldsTold first.now second.now step.exit.now) }
 {
     step.rows = rows_in_turn(alloc, &first.rows, &second.rows)?;
     step.regs = registers_in_turn(alloc, &first.regs, &second.regs)?;
     Ok(())
 }
 
-// Lists what two steps in turn say, but for schemas.
+// Lists what two steps in turn say, by what tables tell of nodes.
 fn fill(
     alloc: Global,
     first: &Step,
@@ -64,8 +75,8 @@ fn fill(
     step: &mut Step,
 ) -> Result<(), AllocError>
     requires { HasShortRowsListed second.now }
-    ensures { step.entry.now.schema ≡ in_turn first.now.schema second.now.schema
-        → OnOk result (ToldInTurn first.now second.now step.exit.now (contains node_cmp tables.now.stood) (contains node_cmp tables.now.new) (get node_cmp tables.now.spots)) }
+    ensures { OnOk result (ToldInTurn first.now second.now step.exit.now
+        (contains node_cmp tables.now.stood) (contains node_cmp tables.now.new) (get node_cmp tables.now.spots)) }
 {
     fill_fields(alloc, first, second, step)?;
     step.new = union(alloc, first.new.as_slice(), second.new.as_slice())?;
@@ -75,22 +86,17 @@ fn fill(
         first.loose.as_slice(),
         second.loose.as_slice(),
     )?;
+    step.schema = schemas_in_turn(alloc, &first.schema, &second.schema)?;
     Ok(())
 }
 
 // What two steps in turn say, by what tables tell of nodes.
 fn told_by(alloc: Global, first: &Step, second: &Step, tables: &Tables) -> Result<Step, AllocError>
     requires { HasShortRowsListed second.now }
-    ensures { IfOk result (λ g. ToldInTurn first.now second.now g (contains node_cmp tables.now.stood) (contains node_cmp tables.now.new) (get node_cmp tables.now.spots)) }
+    ensures { IfOk result (λ g. ToldInTurn first.now second.now g
+        (contains node_cmp tables.now.stood) (contains node_cmp tables.now.new) (get node_cmp tables.now.spots)) }
 {
-    let schema = schemas_in_turn(alloc, &first.schema, &second.schema)?;
-    let mut step = Step {
-        new: List::new(alloc),
-        rows: List::new(alloc),
-        regs: List::new(alloc),
-        loose: List::new(alloc),
-        schema,
-    };
+    let mut step = empty_step(alloc);
     fill(alloc, first, second, tables, &mut step)?;
     Ok(step)
 }

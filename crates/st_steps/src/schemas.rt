@@ -121,6 +121,34 @@ fn settle(
     }
 }
 
+// Two changes of the list in turn, where the second takes away all that the first brings, and more before that.
+fn taken_too(
+    alloc: Global,
+    first: &SchemaStep,
+    second: &SchemaStep,
+    more: usize,
+) -> Result<Option<SchemaStep>, AllocError>
+    requires { more ≤ length second.now.cut }
+    ensures { IfOk result (λ o. o ≡ settled second.now.on (take more second.now.cut ++ first.now.cut) second.now.add) }
+{
+    let cut = front_and(alloc, second.cut.as_slice(), more, first.cut.as_slice())?;
+    settle(alloc, second.on, cut.as_slice(), second.add.as_slice())
+}
+
+// Two changes of the list in turn, where the second leaves so many entries of those that the first brings.
+fn left_of_both(
+    alloc: Global,
+    first: &SchemaStep,
+    second: &SchemaStep,
+    left: usize,
+) -> Result<Option<SchemaStep>, AllocError>
+    requires { left ≤ length first.now.add }
+    ensures { IfOk result (λ o. o ≡ settled first.now.on first.now.cut (take left first.now.add ++ second.now.add)) }
+{
+    let add = front_and(alloc, first.add.as_slice(), left, second.add.as_slice())?;
+    settle(alloc, first.on, first.cut.as_slice(), add.as_slice())
+}
+
 // Two changes of the list in turn.
 fn both_in_turn(
     alloc: Global,
@@ -132,21 +160,9 @@ fn both_in_turn(
     let brought = first.add.len();
     let taken = second.cut.len();
     if brought < taken {
-        let cut = front_and(
-            alloc,
-            second.cut.as_slice(),
-            taken - brought,
-            first.cut.as_slice(),
-        )?;
-        settle(alloc, second.on, cut.as_slice(), second.add.as_slice())
+        taken_too(alloc, first, second, taken - brought)
     } else {
-        let add = front_and(
-            alloc,
-            first.add.as_slice(),
-            brought - taken,
-            second.add.as_slice(),
-        )?;
-        settle(alloc, first.on, first.cut.as_slice(), add.as_slice())
+        left_of_both(alloc, first, second, brought - taken)
     }
 }
 

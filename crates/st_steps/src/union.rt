@@ -1,5 +1,5 @@
 //! Two listings as one.
-ghost use Rattle.std.specs.Prelude.{◌≡◌, Some, None, cond, IfOk, OnOk};
+ghost use Rattle.std.specs.Prelude.{◌≡◌, ◌++◌, ◌∷◌, [], Some, None, cond, IfOk, OnOk};
 ghost use Rattle.std.specs.BTreeMap.{IsOrdered, get, values};
 ghost use Rattle.std.specs.Option.{option_or};
 ghost use Rattle.std.specs.Ordering.{is_eq};
@@ -94,17 +94,30 @@ fn keep_all<T: Named<K> + Copied + Drop, K: Ord + Copied + Drop>(
     Ok(())
 }
 
-// The items of a map, in the order of their names.
-fn in_order<T: Drop, K: Ord + Drop>(
+// Adds a copy of an item.
+fn push_copy<T: Copied + Drop>(
     alloc: Global,
-    map: BTreeMap<K, T>,
+    list: &mut List<T>,
+    item: &T,
+) -> Result<(), AllocError>
+    ensures { OnOk result (list.new ≡ list.old ++ item.now ∷ []) }
+{
+    let copy = item.copy(alloc)?;
+    list.push(copy)?;
+    Ok(())
+}
+
+// The items of a map, in the order of their names.
+fn in_order<T: Copied + Drop, K: Ord + Drop>(
+    alloc: Global,
+    map: &BTreeMap<K, T>,
 ) -> Result<List<T>, AllocError>
-    ensures items { IfOk result (λ l. l ≡ values map) }
-    ensures ordered { OnOk result (IsOrdered K.cmp map) }
+    ensures items { IfOk result (λ l. l ≡ values map.now) }
+    ensures ordered { OnOk result (IsOrdered K.cmp map.now) }
 {
     let mut list = List::new(alloc);
-    for (_, item) in map {
-        list.push(item)?;
+    for item in map.values() {
+        push_copy(alloc, &mut list, item)?;
     }
     Ok(list)
 }
@@ -122,5 +135,5 @@ pub fn union<T: Named<K> + Copied + Drop, K: Ord + Copied + Drop>(
     let mut map = BTreeMap::new(alloc);
     keep_all(alloc, &mut map, first)?;
     keep_all(alloc, &mut map, second)?;
-    in_order(alloc, map)
+    in_order(alloc, &map)
 }
