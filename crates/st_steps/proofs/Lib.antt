@@ -23,3 +23,4 @@ pub mod NodesFound
 pub mod ToldTogether
 pub mod ShortRows
 pub mod ShortSteps
+pub mod ToldBack

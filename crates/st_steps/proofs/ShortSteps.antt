@@ -1,6 +1,5 @@
 -- A step lists few cells of each row, since documents do.
-use Rattle.std.proofs.Common.{◌≡◌, ◌<◌, ◌^◌, length, ap, sym, ◌∙◌, subst}
-use Rattle.st_ids.specs.Listing.{Has}
+use Rattle.std.proofs.Common.{◌<◌, ◌^◌, length, ap, sym, ◌∙◌, subst}
 use Rattle.st_marks.proofs.Members.{has-all}
 use Rattle.st_marks.specs.Document.{Document}
 use Rattle.st_marks.specs.Extends.{IsExtendedBy}

@@ -1,3 +1,4 @@
+pub mod Back
 pub mod Settling
 pub mod Stood
 pub mod Told

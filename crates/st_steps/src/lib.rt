@@ -5,12 +5,15 @@ mod composition;
 mod laws;
 mod listing;
 mod loose;
+mod loose_back;
 mod registers;
 mod rows;
+mod rows_back;
 mod schemas;
 mod short;
 mod tables;
 mod union;
+mod way_back;
 
 pub use composition::compose_agreed;
 pub use laws::{
@@ -19,3 +22,4 @@ pub use laws::{
     steps_in_turn_are_listed, ways_back_are_listed,
 };
 pub use short::has_short_rows;
+pub use way_back::invert;

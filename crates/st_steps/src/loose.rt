@@ -59,8 +59,8 @@ fn behind_one(stood: &BTreeSet<NodeId>, new: &BTreeSet<NodeId>, one: Loose) -> O
     }
 }
 
-// Puts an item behind others, if there is one.
-fn push_if_some(list: &mut List<Loose>, item: Option<Loose>) -> Result<(), AllocError>
+/// Puts an item behind others, if there is one.
+pub fn push_if_some(list: &mut List<Loose>, item: Option<Loose>) -> Result<(), AllocError>
     ensures { OnOk result (list.new ≡ list.old ++ option_to_list item) }
 {
     match item {

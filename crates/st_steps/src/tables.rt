@@ -1,5 +1,5 @@
-//! Who stands somewhere before a step.
-ghost use Rattle.std.specs.Prelude.{◌≡◌, ◌||◌, map, IfOk, OnOk};
+//! Who is found before a step.
+ghost use Rattle.std.specs.Prelude.{◌≡◌, ◌||◌, ◌++◌, map, IfOk, OnOk};
 ghost use Rattle.std.specs.BTreeSet.{contains};
 ghost use Rattle.std.specs.List.{flat_map};
 ghost use Rattle.st_ids.specs.Order.{node_cmp};
@@ -8,12 +8,12 @@ ghost use Rattle.st_marks.specs.declared.marks.Mark.{Mark as AnyMark};
 ghost use Rattle.st_marks.specs.declared.marks.RegStep.{RegStep as Register};
 ghost use Rattle.st_marks.specs.declared.marks.RowMarks.{RowMarks as Row};
 ghost use Rattle.st_marks.specs.Embedding.{is_among};
-ghost use Rattle.st_marks.specs.Listings.{one_or_none, placed_before};
+ghost use Rattle.st_marks.specs.Listings.{nodes_loose, nodes_new, one_or_none, placed_before};
 ghost use Rattle.st_steps.specs.inside.Stood.{finds};
 
-use st_climb::add_one;
+use st_climb::{add_one, new_names};
 use st_ids::NodeId;
-use st_marks::{Mark, RegStep, RowMarks, Step};
+use st_marks::{Loose, Mark, RegStep, RowMarks, Step};
 use std::alloc::{AllocError, Global};
 use std::collections::BTreeSet;
 
@@ -60,13 +60,44 @@ fn add_registers(set: &mut BTreeSet<NodeId>, regs: &[RegStep]) -> Result<(), All
     Ok(())
 }
 
+// Adds those who are found somewhere.
+fn add_found(set: &mut BTreeSet<NodeId>, step: &Step) -> Result<(), AllocError>
+    ensures { OnOk result ((n : Node) → contains node_cmp set.new n
+        ≡ (contains node_cmp set.old n || is_among (placed_before step.now.rows (map (λ (r : Register). r.before) step.now.regs)) n)) }
+{
+    add_rows(set, step.rows.as_slice())?;
+    add_registers(set, step.regs.as_slice())?;
+    Ok(())
+}
+
 /// The nodes that a step finds somewhere.
 pub fn nodes_found(alloc: Global, step: &Step) -> Result<BTreeSet<NodeId>, AllocError>
     ensures { IfOk result (λ s. (n : Node) → contains node_cmp s n
         ≡ is_among (placed_before step.now.rows (map (λ (r : Register). r.before) step.now.regs)) n) }
 {
     let mut set = BTreeSet::new(alloc);
-    add_rows(&mut set, step.rows.as_slice())?;
-    add_registers(&mut set, step.regs.as_slice())?;
+    add_found(&mut set, step)?;
+    Ok(set)
+}
+
+// Adds nodes that are nowhere.
+fn add_loose(set: &mut BTreeSet<NodeId>, loose: &[Loose]) -> Result<(), AllocError>
+    ensures { OnOk result ((n : Node) → contains node_cmp set.new n
+        ≡ (contains node_cmp set.old n || is_among (nodes_loose loose.now) n)) }
+{
+    for one in loose {
+        add_one(set, Some(one.node))?;
+    }
+    Ok(())
+}
+
+/// The nodes that a step finds somewhere or nowhere, and those that it makes.
+pub fn nodes_listed(alloc: Global, step: &Step) -> Result<BTreeSet<NodeId>, AllocError>
+    ensures { IfOk result (λ s. (n : Node) → contains node_cmp s n ≡ is_among (nodes_new step.now.new ++ nodes_loose step.now.loose
+        ++ placed_before step.now.rows (map (λ (r : Register). r.before) step.now.regs)) n) }
+{
+    let mut set = new_names(alloc, step.new.as_slice())?;
+    add_loose(&mut set, step.loose.as_slice())?;
+    add_found(&mut set, step)?;
     Ok(set)
 }
