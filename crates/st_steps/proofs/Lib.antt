@@ -16,9 +16,6 @@ pub mod StepsListed
 pub mod VoidPlaces
 pub mod VoidsExtend
 pub mod WaysBack
-pub mod MapListings
-pub mod ListLoops
-pub mod Settling
 pub mod NodesFound
 pub mod ToldTogether
 pub mod ShortRows

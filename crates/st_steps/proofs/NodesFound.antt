@@ -1,5 +1,5 @@
 -- Who is found before a step stands there.
-use Rattle.std.proofs.Common.{◌≡◌, ◌≢◌, ◌||◌, ◌&&◌, not, cond, ◌⊎◌, ℕ, zero, suc, Bool, true, false, List, [], ◌∷◌, ◌++◌, map, Option, Some, None, IsSome, IfSome, is_some, refl, sym, ap, ◌∙◌, subst, inl, inr}
+use Rattle.std.proofs.Common.{◌≡◌, ◌≢◌, ◌||◌, ◌&&◌, not, cond, ◌⊎◌, zero, Bool, true, false, List, [], ◌∷◌, ◌++◌, map, Option, Some, None, IsSome, IfSome, is_some, refl, sym, ap, ◌∙◌, subst, inl, inr}
 use Rattle.std.specs.List.{flat_map}
 use Rattle.st_ids.specs.Listing.{Has}
 use Rattle.st_ids.specs.Order.{node_cmp, same_node}
@@ -8,16 +8,13 @@ use Rattle.st_ids.proofs.Listings.{has-item_of, item_of-has}
 use Rattle.st_ids.proofs.Orders.{node_cmp_exact, node_cmp_total, same_node-true}
 use Rattle.st_ids.specs.declared.names.CellId.{CellId}
 use Rattle.st_ids.specs.declared.names.NodeId.{NodeId}
-use Rattle.st_lemmas.proofs.Lists.{flat_map-map, flat_map-same}
 use Rattle.st_kind.specs.Named.{Nodes}
 use Rattle.st_lemmas.proofs.Bools.{or-right}
-use Rattle.st_climb.proofs.GrownSets.{added_then}
 use Rattle.st_marks.specs.declared.changes.NewNode.{NewNode}
 use Rattle.st_marks.specs.declared.marks.How.{How}
 use Rattle.st_marks.specs.declared.marks.How.TheVariants.{Stay, Leave}
 use Rattle.st_marks.specs.declared.marks.Loose.{Loose}
 use Rattle.st_marks.specs.Register.{holds_mentioned}
-use Rattle.st_marks.specs.declared.marks.Mark.{Mark}
 use Rattle.st_marks.specs.declared.marks.RegStep.{RegStep}
 use Rattle.st_marks.specs.declared.marks.RowMarks.{RowMarks}
 use Rattle.st_marks.specs.declared.places.Spot.{Spot}
@@ -27,7 +24,7 @@ use Rattle.st_marks.specs.Document.{Document, NodeType}
 use Rattle.st_marks.specs.Embedding.{is_among, is_nowhere}
 use Rattle.st_marks.specs.Extends.{IsExtendedBy}
 use Rattle.st_marks.specs.Listings.{cells_before, nodes_loose, nodes_new, nodes_standing, one_or_none, placed_before}
-use Rattle.st_marks.specs.Row.{CellMark, Counted, Gap, Touch, Make, Fill, counted_cells, spread}
+use Rattle.st_marks.specs.Row.{CellMark, Counted, Gap, Touch, Make, Fill, spread}
 use Rattle.st_marks.specs.Step.{IsStep, gained_node, step_loose}
 use Rattle.st_marks.proofs.Climb.{placed_known}
 use Rattle.st_marks.proofs.Members.{any-has, append_left, append_right, has-append, has-flat_map, has-map, map-has}
@@ -36,34 +33,11 @@ use Rattle.st_puts.proofs.StepPlaces.{one-or-other, reg-is, touch-place}
 use Rattle.st_steps.proofs.NamesListed.{among, mentioned_loose, mentioned_stood}
 use Rattle.st_steps.specs.WayBack.{named_back_of}
 use Rattle.st_steps.specs.inside.Back.{lists_node, told_of}
-use Rattle.st_steps.specs.inside.Stood.{finds}
 
 among-has : (xs : List NodeId) (n : NodeId) → is_among xs n ≡ true → Has xs n
 among-has xs n e = let r = any-has (λ m. same_node m n) xs e in subst (Has xs) (same_node-true r.0 n r.2) r.1
 
 -- ## Read off marks
-
-none_counted : (k : ℕ) (xs : List CellMark) → nodes_standing (cells_before (counted_cells k xs)) ≡ nodes_standing (cells_before xs)
-none_counted zero xs = refl
-none_counted (suc k) xs = none_counted k xs
-
-pub standing_is : (ms : List Mark) → flat_map (λ (m : Mark). one_or_none (finds m)) ms ≡ nodes_standing (cells_before (spread ms))
-standing_is [] = refl
-standing_is (Mark.Skip k ∷ ms) = standing_is ms ∙ sym (none_counted k (spread ms))
-standing_is (Mark.Gap c ∷ ms) = standing_is ms
-standing_is (Mark.Touch c n h ∷ ms) = ap (λ l. n ∷ l) (standing_is ms)
-standing_is (Mark.Make c n b ∷ ms) = standing_is ms
-standing_is (Mark.Fill c n ∷ ms) = standing_is ms
-
--- what is added for rows and then for registers
-pub found_of : (rows : List RowMarks) (regs : List RegStep) (n : NodeId) (old before now : Bool)
-    → before ≡ (old || is_among (flat_map (λ (r : RowMarks). flat_map (λ (m : Mark). one_or_none (finds m)) r.marks) rows) n)
-    → now ≡ (before || is_among (flat_map (λ (r : RegStep). one_or_none r.before) regs) n)
-    → now ≡ (old || is_among (placed_before rows (map (λ (r : RegStep). r.before) regs)) n)
-found_of rows regs n old before now e f =
-    added_then old before now (flat_map (λ (r : RowMarks). flat_map (λ (m : Mark). one_or_none (finds m)) r.marks) rows) (flat_map (λ (r : RegStep). one_or_none r.before) regs) n e f
-    ∙ (λ i. old || is_among (flat_map-same (λ (r : RowMarks). flat_map (λ (m : Mark). one_or_none (finds m)) r.marks) (λ (r : RowMarks). nodes_standing (cells_before (spread r.marks))) (λ r. standing_is r.marks) rows i
-    ++ sym (flat_map-map one_or_none (λ (r : RegStep). r.before) regs) i) n)
 
 -- who stands in a cell before is touched
 standing_touch : (ms : List CellMark) (n : NodeId) → Has (nodes_standing (cells_before ms)) n → (c : CellId) × (h : How) × Has ms (Touch c n h)

@@ -1,6 +1,5 @@
 pub mod Across
 pub mod Left
-pub mod Schemas
 pub mod Short
 pub mod Turned
 pub mod WayBack

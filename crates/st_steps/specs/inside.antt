@@ -1,4 +1,2 @@
 pub mod Back
-pub mod Settling
-pub mod Stood
 pub mod Told

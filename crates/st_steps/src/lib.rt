@@ -9,10 +9,7 @@ mod loose_back;
 mod registers;
 mod rows;
 mod rows_back;
-mod schemas;
 mod short;
-mod tables;
-mod union;
 mod way_back;
 
 pub use composition::compose_agreed;

@@ -10,8 +10,8 @@ ghost use Rattle.st_marks.specs.declared.marks.Loose.{Loose as LooseNode};
 ghost use Rattle.st_steps.specs.Turned.{how_in_turn as how_told};
 ghost use Rattle.st_steps.specs.inside.Told.{loose_before as before, loose_behind as behind};
 
-use crate::union::union;
 use st_ids::{List, NodeId};
+use st_listings::union;
 use st_marks::{How, Loose, Spot};
 use std::alloc::{AllocError, Global};
 use std::collections::{BTreeMap, BTreeSet};

@@ -6,8 +6,8 @@ ghost use Rattle.st_ids.specs.Order.{field_cmp};
 ghost use Rattle.st_marks.specs.declared.marks.RegStep.{RegStep as Register};
 ghost use Rattle.st_steps.specs.inside.Told.{register_behind as behind};
 
-use crate::union::union;
 use st_ids::{Copied, List};
+use st_listings::union;
 use st_marks::RegStep;
 use st_moves::{index_registers_over, register_over_in};
 use std::alloc::{AllocError, Global};

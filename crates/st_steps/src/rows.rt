@@ -8,8 +8,8 @@ ghost use Rattle.st_marks.specs.declared.marks.RowMarks.{RowMarks as Row};
 ghost use Rattle.st_marks.specs.Row.{spread};
 ghost use Rattle.st_steps.specs.inside.Told.{row_behind as behind, row_of_both as both};
 
-use crate::union::union;
 use st_ids::{Copied, List, NodeId, Or};
+use st_listings::union;
 use st_marks::{Mark, RowMarks};
 use st_moves::{index_rows, row_in};
 use st_rows::compose;

@@ -17,7 +17,7 @@ use Rattle.st_marks.specs.Listings.{cells_after, cells_before}
 use Rattle.st_marks.specs.Row.{merge, spread}
 use Rattle.st_rows.specs.Cells.{compose_row}
 use Rattle.st_rows.specs.Differences.{first_difference}
-use Rattle.st_steps.specs.Schemas.{schemas_in_turn}
+use Rattle.st_listings.specs.Schemas.{schemas_in_turn}
 use Rattle.st_steps.specs.Turned.{how_in_turn}
 
 -- a row that both list; it stays as the first has it where the two differ

@@ -6,7 +6,7 @@ use Rattle.st_ids.specs.Order.{node_cmp}
 use Rattle.st_marks.specs.declared.changes.NewNode.{NewNode}
 use Rattle.st_marks.specs.declared.marks.Loose.{Loose}
 use Rattle.st_steps.specs.inside.Told.{loose_before, loose_behind}
-use Rattle.st_steps.proofs.MapListings.{listing_along}
+use Rattle.st_listings.proofs.MapListings.{listing_along}
 use Rattle.st_steps.proofs.listing.fill.Goals as goal
 
 pub returns : goal.returns

@@ -3,7 +3,7 @@ use Rattle.std.specs.BTreeSet.{contains}
 use Rattle.st_ids.specs.Order.{node_cmp}
 use Rattle.st_puts.proofs.Firsts.{no_loose}
 use Rattle.st_steps.specs.inside.Told.{loose_behind}
-use Rattle.st_steps.proofs.ListLoops.{filtered_more}
+use Rattle.st_listings.proofs.ListLoops.{filtered_more}
 use Rattle.st_steps.proofs.loose.loose_behind.Goals as goal
 
 pub loop-one-preserved : goal.loop-one-preserved

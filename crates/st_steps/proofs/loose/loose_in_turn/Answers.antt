@@ -5,7 +5,7 @@ use Rattle.std.specs.List.{filter_map}
 use Rattle.st_ids.specs.Order.{node_cmp}
 use Rattle.st_marks.specs.declared.marks.Loose.{Loose}
 use Rattle.st_steps.specs.inside.Told.{loose_before, loose_behind}
-use Rattle.st_steps.proofs.MapListings.{listed_along}
+use Rattle.st_listings.proofs.MapListings.{listed_along}
 use Rattle.st_steps.proofs.loose.loose_in_turn.Goals as goal
 
 pub returns : goal.returns

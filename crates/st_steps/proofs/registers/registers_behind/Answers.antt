@@ -3,7 +3,7 @@ use Rattle.st_ids.specs.Listing.{item_of}
 use Rattle.st_ids.specs.Order.{field_cmp}
 use Rattle.st_marks.specs.declared.marks.RegStep.{RegStep}
 use Rattle.st_steps.specs.inside.Told.{register_behind}
-use Rattle.st_steps.proofs.ListLoops.{mapped_more}
+use Rattle.st_listings.proofs.ListLoops.{mapped_more}
 use Rattle.st_steps.proofs.registers.registers_behind.Goals as goal
 
 pub loop-reg-preserved : goal.loop-reg-preserved

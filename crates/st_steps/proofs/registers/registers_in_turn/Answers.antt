@@ -4,7 +4,7 @@ use Rattle.st_ids.specs.Order.{field_cmp}
 use Rattle.st_ids.proofs.Orders.{field_cmp_exact}
 use Rattle.st_marks.specs.declared.marks.RegStep.{RegStep}
 use Rattle.st_steps.specs.inside.Told.{register_behind}
-use Rattle.st_steps.proofs.MapListings.{listed_along}
+use Rattle.st_listings.proofs.MapListings.{listed_along}
 use Rattle.st_steps.proofs.registers.registers_in_turn.Goals as goal
 
 pub union-requires : goal.union-requires

@@ -3,7 +3,7 @@ use Rattle.st_ids.specs.Listing.{item_of}
 use Rattle.st_ids.specs.Order.{node_cmp}
 use Rattle.st_marks.specs.declared.marks.RowMarks.{RowMarks}
 use Rattle.st_steps.specs.inside.Told.{row_behind}
-use Rattle.st_steps.proofs.ListLoops.{mapped_more}
+use Rattle.st_listings.proofs.ListLoops.{mapped_more}
 use Rattle.st_steps.proofs.rows.rows_behind.Goals as goal
 
 pub loop-row-preserved : goal.loop-row-preserved

@@ -3,7 +3,7 @@ use Rattle.st_ids.specs.Listing.{item_of}
 use Rattle.st_ids.specs.Order.{node_cmp}
 use Rattle.st_marks.specs.declared.marks.RowMarks.{RowMarks}
 use Rattle.st_steps.specs.inside.Told.{row_behind}
-use Rattle.st_steps.proofs.MapListings.{listed_along}
+use Rattle.st_listings.proofs.MapListings.{listed_along}
 use Rattle.st_steps.proofs.rows.rows_in_turn.Goals as goal
 
 pub returns : goal.returns

@@ -2,7 +2,7 @@ use Rattle.std.proofs.Common.{sym}
 use Rattle.std.specs.BTreeSet.{contains}
 use Rattle.st_ids.specs.Order.{node_cmp}
 use Rattle.st_steps.specs.WayBack.{register_back}
-use Rattle.st_steps.proofs.ListLoops.{mapped_more}
+use Rattle.st_listings.proofs.ListLoops.{mapped_more}
 use Rattle.st_steps.proofs.rows_back.registers_back.Goals as goal
 
 pub loop-reg-preserved : goal.loop-reg-preserved

@@ -2,7 +2,7 @@ use Rattle.std.proofs.Common.{sym}
 use Rattle.std.specs.BTreeSet.{contains}
 use Rattle.st_ids.specs.Order.{node_cmp}
 use Rattle.st_steps.specs.inside.Back.{row_turned}
-use Rattle.st_steps.proofs.ListLoops.{mapped_more}
+use Rattle.st_listings.proofs.ListLoops.{mapped_more}
 use Rattle.st_steps.proofs.rows_back.rows_back.Goals as goal
 
 pub loop-row-preserved : goal.loop-row-preserved
