@@ -1,6 +1,5 @@
 -- Maps of items under their names: the items, in the order of their names, are a listing.
 use Rattle.std.proofs.Common.{◌≡◌, ℕ, ◌+◌, ◌<◌, Bool, true, false, cond, ◌&&◌, List, [], ◌∷◌, ◌++◌, length, take, get_or, Option, Some, None, Result, Ok, Err, refl, sym, ap, ◌∙◌, subst, append_assoc}
-use Rattle.std.proofs.lemmas.List.{append-nil}
 use Rattle.std.proofs.lemmas.Map.Lookups.{CmpEqualImpliesEq}
 use Rattle.std.specs.BTreeMap.{is_at}
 use Rattle.std.specs.Cmp.{IsTotalOrder}
@@ -26,9 +25,6 @@ pub values_left : {A : Type 0} (before now whole : List A) (items left : List A)
     → before ++ items ≡ whole → now ++ left ≡ whole
 values_left before now whole items left x opened pushed so_far =
     ap (λ l. l ++ left) pushed ∙ append_assoc before (x ∷ []) left ∙ ap (λ l. before ++ l) (sym opened) ∙ so_far
-
-pub values_all : {A : Type 0} (out whole : List A) (items : List A) → items ≡ [] → out ++ items ≡ whole → out ≡ whole
-values_all out whole items none so_far = sym (append-nil out) ∙ ap (λ l. out ++ l) (sym none) ∙ so_far
 
 module _ {K A : Type 0} (R : K → K → Ordering) (total : IsTotalOrder R) (key : A → K) where
   same_both : (a b : K) → is_eq (R a b) ≡ is_eq (R b a)

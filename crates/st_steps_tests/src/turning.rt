@@ -208,27 +208,36 @@ fn step(alloc: Global, listed: &Listed) -> Result<Step, AllocError> {
     Ok(step)
 }
 
+// Whether a step lists this.
+fn is_step(alloc: Global, made: &Step, listed: &Listed) -> Result<bool, AllocError> {
+    Ok(step(alloc, listed)? == *made)
+}
+
 // Two steps in turn, and the step over both.
 #[derive(Clone, Copy)]
 struct InTurn {
     name: &'static str,
-    first: Listed,
-    second: Listed,
-    both: Listed,
+    first: &'static Listed,
+    second: &'static Listed,
+    both: &'static Listed,
 }
 
-fn composes(alloc: Global, first: &Step, second: &Step, both: &Step) -> Result<bool, AllocError> {
+fn composes(alloc: Global, first: &Step, second: &Step, both: &Listed) -> Result<bool, AllocError> {
     if !has_short_rows(second) {
         return Ok(false);
     }
-    Ok(compose_agreed(alloc, first, second)? == *both)
+    let made = compose_agreed(alloc, first, second)?;
+    is_step(alloc, &made, both)
+}
+
+fn goes_on(alloc: Global, first: &Step, case: &InTurn) -> Result<bool, AllocError> {
+    let second = step(alloc, case.second)?;
+    composes(alloc, first, &second, case.both)
 }
 
 fn is_both(alloc: Global, case: &InTurn) -> Result<bool, AllocError> {
-    let first = step(alloc, &case.first)?;
-    let second = step(alloc, &case.second)?;
-    let both = step(alloc, &case.both)?;
-    composes(alloc, &first, &second, &both)
+    let first = step(alloc, case.first)?;
+    goes_on(alloc, &first, case)
 }
 
 fn wrong_turn(alloc: Global, cases: &[InTurn]) -> Result<Option<&'static str>, AllocError> {
@@ -244,21 +253,21 @@ fn wrong_turn(alloc: Global, cases: &[InTurn]) -> Result<Option<&'static str>, A
 #[derive(Clone, Copy)]
 struct Back {
     name: &'static str,
-    step: Listed,
-    back: Listed,
+    step: &'static Listed,
+    back: &'static Listed,
 }
 
-fn turns_round(alloc: Global, step: &Step, back: &Step) -> Result<bool, AllocError> {
+fn turns_round(alloc: Global, step: &Step, back: &Listed) -> Result<bool, AllocError> {
     if !has_short_rows(step) {
         return Ok(false);
     }
-    Ok(invert(alloc, step)? == *back)
+    let made = invert(alloc, step)?;
+    is_step(alloc, &made, back)
 }
 
 fn is_back(alloc: Global, case: &Back) -> Result<bool, AllocError> {
-    let there = step(alloc, &case.step)?;
-    let back = step(alloc, &case.back)?;
-    turns_round(alloc, &there, &back)
+    let there = step(alloc, case.step)?;
+    turns_round(alloc, &there, case.back)
 }
 
 fn wrong_back(alloc: Global, cases: &[Back]) -> Result<Option<&'static str>, AllocError> {
@@ -302,36 +311,36 @@ const P_MADE_APART: Listed = Listed {
     add: &[],
 };
 
-const TURNS: [InTurn; 6] = [
+const TURNS: [InTurn; 4] = [
     InTurn {
         name: "a new node is taken out again",
-        first: P_MADE,
-        second: Listed {
+        first: &P_MADE,
+        second: &Listed {
             new: &[],
             rows: &[(ROOT, &[Mark::Skip(1), P_LEAVES])],
             loose: &[],
             cut: &[],
             add: &[],
         },
-        both: P_MADE_APART,
+        both: &P_MADE_APART,
     },
     InTurn {
         name: "a new node is put later",
-        first: P_MADE_APART,
-        second: Listed {
+        first: &P_MADE_APART,
+        second: &Listed {
             new: &[],
             rows: &[(ROOT, &[Mark::Skip(1), P_COMES])],
             loose: &[P_WAS_NOWHERE],
             cut: &[],
             add: &[],
         },
-        both: P_MADE,
+        both: &P_MADE,
     },
     InTurn {
         name: "a node goes to another row, and back",
-        first: MOVED,
-        second: MOVED_BACK,
-        both: Listed {
+        first: &MOVED,
+        second: &MOVED_BACK,
+        both: &Listed {
             new: &[],
             rows: &[],
             loose: &[],
@@ -341,65 +350,17 @@ const TURNS: [InTurn; 6] = [
     },
     InTurn {
         name: "a new node comes in, and a node goes",
-        first: P_MADE,
-        second: Listed {
+        first: &P_MADE,
+        second: &Listed {
             new: &[],
             rows: &[(ROOT, &[A_LEAVES, Mark::Skip(1)])],
             loose: &[],
             cut: &[],
             add: &[],
         },
-        both: Listed {
+        both: &Listed {
             new: &[P],
             rows: &[(ROOT, &[A_LEAVES, P_PUT])],
-            loose: &[],
-            cut: &[],
-            add: &[],
-        },
-    },
-    InTurn {
-        name: "a schema comes, and goes for another",
-        first: Listed {
-            new: &[],
-            rows: &[],
-            loose: &[],
-            cut: &[],
-            add: &[OURS],
-        },
-        second: Listed {
-            new: &[],
-            rows: &[],
-            loose: &[],
-            cut: &[OURS],
-            add: &[THEIRS],
-        },
-        both: Listed {
-            new: &[],
-            rows: &[],
-            loose: &[],
-            cut: &[],
-            add: &[THEIRS],
-        },
-    },
-    InTurn {
-        name: "a schema goes, and comes again",
-        first: Listed {
-            new: &[],
-            rows: &[],
-            loose: &[],
-            cut: &[OURS],
-            add: &[THEIRS],
-        },
-        second: Listed {
-            new: &[],
-            rows: &[],
-            loose: &[],
-            cut: &[THEIRS],
-            add: &[OURS],
-        },
-        both: Listed {
-            new: &[],
-            rows: &[],
             loose: &[],
             cut: &[],
             add: &[],
@@ -414,22 +375,80 @@ fn steps_in_turn_are_one(rt: HostRuntime) -> Result<(), Fail> {
     Ok(())
 }
 
+const SCHEMA_TURNS: [InTurn; 2] = [
+    InTurn {
+        name: "a schema comes, and goes for another",
+        first: &Listed {
+            new: &[],
+            rows: &[],
+            loose: &[],
+            cut: &[],
+            add: &[OURS],
+        },
+        second: &Listed {
+            new: &[],
+            rows: &[],
+            loose: &[],
+            cut: &[OURS],
+            add: &[THEIRS],
+        },
+        both: &Listed {
+            new: &[],
+            rows: &[],
+            loose: &[],
+            cut: &[],
+            add: &[THEIRS],
+        },
+    },
+    InTurn {
+        name: "a schema goes, and comes again",
+        first: &Listed {
+            new: &[],
+            rows: &[],
+            loose: &[],
+            cut: &[OURS],
+            add: &[THEIRS],
+        },
+        second: &Listed {
+            new: &[],
+            rows: &[],
+            loose: &[],
+            cut: &[THEIRS],
+            add: &[OURS],
+        },
+        both: &Listed {
+            new: &[],
+            rows: &[],
+            loose: &[],
+            cut: &[],
+            add: &[],
+        },
+    },
+];
+
+#[test]
+fn schemas_in_turn_are_one(rt: HostRuntime) -> Result<(), Fail> {
+    let wrong = wrong_turn(rt.alloc(), &SCHEMA_TURNS)?;
+    assert!(rt; wrong.is_none(), "{wrong:?}");
+    Ok(())
+}
+
 const BACKS: [Back; 5] = [
     Back {
         name: "who went to another row goes back",
-        step: MOVED,
-        back: MOVED_BACK,
+        step: &MOVED,
+        back: &MOVED_BACK,
     },
     Back {
         name: "a new node leaves, and who is new in its row stays",
-        step: Listed {
+        step: &Listed {
             new: &[P, Q],
             rows: &[(ROOT, &[Mark::Skip(1), P_PUT]), (P, &[Q_PUT])],
             loose: &[],
             cut: &[],
             add: &[],
         },
-        back: Listed {
+        back: &Listed {
             new: &[],
             rows: &[(ROOT, &[Mark::Skip(1), P_LEAVES])],
             loose: &[],
@@ -439,14 +458,14 @@ const BACKS: [Back; 5] = [
     },
     Back {
         name: "who was taken out was nowhere",
-        step: Listed {
+        step: &Listed {
             new: &[],
             rows: &[(ROOT, &[A_LEAVES, Mark::Skip(1)])],
             loose: &[],
             cut: &[],
             add: &[],
         },
-        back: Listed {
+        back: &Listed {
             new: &[],
             rows: &[(ROOT, &[A_RETURNS, Mark::Skip(1)])],
             loose: &[A_WAS_NOWHERE],
@@ -456,14 +475,14 @@ const BACKS: [Back; 5] = [
     },
     Back {
         name: "who was nowhere is taken out",
-        step: Listed {
+        step: &Listed {
             new: &[],
             rows: &[(ROOT, &[A_RETURNS, Mark::Skip(1)])],
             loose: &[A_WAS_NOWHERE],
             cut: &[],
             add: &[],
         },
-        back: Listed {
+        back: &Listed {
             new: &[],
             rows: &[(ROOT, &[A_LEAVES, Mark::Skip(1)])],
             loose: &[],
@@ -473,14 +492,14 @@ const BACKS: [Back; 5] = [
     },
     Back {
         name: "a schema goes that came",
-        step: Listed {
+        step: &Listed {
             new: &[],
             rows: &[],
             loose: &[],
             cut: &[THEIRS],
             add: &[OURS],
         },
-        back: Listed {
+        back: &Listed {
             new: &[],
             rows: &[],
             loose: &[],
