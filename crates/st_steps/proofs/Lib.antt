@@ -16,3 +16,8 @@ pub mod StepsListed
 pub mod VoidPlaces
 pub mod VoidsExtend
 pub mod WaysBack
+pub mod NodesFound
+pub mod ToldTogether
+pub mod ShortRows
+pub mod ShortSteps
+pub mod ToldBack

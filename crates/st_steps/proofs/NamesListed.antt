@@ -30,7 +30,7 @@ use Rattle.st_marks.proofs.Members.{append_left, append_right, flat_map-has, has
 use Rattle.st_rows.proofs.KindLaws.{spread-merge}
 use Rattle.st_lemmas.proofs.Bools.{or-right}
 
-among : (xs : List NodeId) (n : NodeId) → Has xs n → is_among xs n ≡ true
+pub among : (xs : List NodeId) (n : NodeId) → Has xs n → is_among xs n ≡ true
 among xs n h = has-any (λ m. same_node m n) xs n h (same_node-itself n)
 
 -- who is full in a row before, and named, is told by its mark

@@ -81,11 +81,11 @@ silent_back (Fill c n ∷ xs) e = cc
 
 -- ## Rows of nodes that the step makes
 
-abbrev made_of : List Slot → List CellMark
+abbrev pub made_of : List Slot → List CellMark
 made_of [] = []
 made_of (s ∷ d) = Make s.cell s.node s.full ∷ made_of d
 
-all_made : (m : Nodes) {c d : List Slot} → c ≡ [] → (g : GainsItems SameCell c d) → step_row m g ≡ made_of d
+pub all_made : (m : Nodes) {c d : List Slot} → c ≡ [] → (g : GainsItems SameCell c d) → step_row m g ≡ made_of d
 all_made m e no_more = refl
 all_made m e (item_gained {y = t} g) = ap (λ l. Make t.cell t.node t.full ∷ l) (all_made m e g)
 all_made m e (item_kept a g) = cc
@@ -145,7 +145,7 @@ module _ (D E : Document) (S : Step) (x : IsExtendedBy D E) (s : IsStep D E S) (
   -- ## The node is new
 
   module _ (young : is_in D n ≡ false) where
-    empty : D.rows n ≡ []
+    pub empty : D.rows n ≡ []
     empty = go (D.rows n) (λ o h. x.before.cells_known n o h)
       where
         go : (os : List Owned) → ((o : Owned) → Has os o → IsSome (D.nodes n) × IsSome (D.nodes o.node)) → os ≡ []

@@ -1,5 +1,6 @@
 pub mod Across
 pub mod Left
-pub mod Schemas
+pub mod Short
 pub mod Turned
 pub mod WayBack
+pub mod inside

@@ -20,7 +20,7 @@ use Rattle.st_marks.specs.Document.{Document}
 use Rattle.st_marks.specs.Embedding.{is_nowhere}
 use Rattle.st_marks.specs.Row.{merge, spread}
 use Rattle.st_rows.specs.Cells.{compose_row}
-use Rattle.st_steps.specs.Schemas.{schemas_in_turn}
+use Rattle.st_listings.specs.Schemas.{schemas_in_turn}
 
 -- ## One name at a time
 

@@ -12,6 +12,7 @@ ghost use Rattle.st_marks.specs.Embedding.{IsEmbedding, is_among, is_nowhere, te
 ghost use Rattle.st_marks.specs.Intent.{Fits};
 ghost use Rattle.st_marks.specs.Extends.{IsExtendedBy};
 ghost use Rattle.st_marks.specs.Step.{IsMentionedByStep, IsStep};
+ghost use Rattle.st_steps.specs.Short.{HasShortRowsListed};
 ghost use Rattle.st_steps.specs.Turned.{IsInTurn, TellsTurn, named_in_turn};
 ghost use Rattle.st_marks.specs.Back.{retreat};
 ghost use Rattle.st_marks.specs.Listings.{cells_after, cells_before, nodes_loose, placed_before};
@@ -79,4 +80,9 @@ pub fn mentioned_nodes_are_listed()
         → is_among (placed_before S.rows (map (λ (g : RegStep). g.before) S.regs)) n ≡ true }
     ensures loose { (D E : Document) (S : Step) → IsExtendedBy D E → (step : IsStep D E S) → (n : NodeId) → step.mentioned n ≡ true → is_nowhere (D.place n) ≡ true
         → same_node n root ≡ false → is_among (nodes_loose S.loose) n ≡ true }
+{}
+
+/// A step lists few enough cells of each row: of a row that it lists, its cells are those that the row has after it.
+pub fn steps_have_short_rows()
+    ensures { (D E : Document) (S : Step) → IsExtendedBy D E → IsStep D E S → HasShortRowsListed S }
 {}

@@ -1,0 +1,4 @@
+pub mod ListLoops
+pub mod MapListings
+pub mod NodesRead
+mod Settling
