@@ -57,8 +57,8 @@ at_line : (input : Option (List ℕ)) (ls : List Line) (l : Line) (P : Line → 
 at_line None ls l P p h = tt
 at_line (Some all) ls l P p h = (l, h.0, h.1, p)
 
-module _ {S : Type 0} (Takes : S → ℕ → List ℕ → List ℕ → S → Type 0) (EndsAt : S → ℕ → List ℕ → List ℕ → Type 0)
-    (Finishes : S → ℕ → List ℕ → Type 0) (Fails : S → ℕ → List ℕ → Type 0) where
+module _ {S E : Type 0} (Takes : S → ℕ → List ℕ → List ℕ → S → Type 0) (EndsAt : S → ℕ → List ℕ → List ℕ → E → Type 0)
+    (Finishes : S → ℕ → List ℕ → Type 0) (Fails : S → ℕ → List ℕ → E → Type 0) where
   partly : (first : S) (input old : Option (List ℕ)) (s : S) (left w new : Option (List ℕ)) (n start : ℕ) (tail next : List ℕ) (at : ℕ) → ((rest : List Line) → IsNextTold Takes EndsAt Finishes Fails s n start (line_of (take at tail) 1 ∷ rest) next)
       → IsReached Takes first input old s left w n start tail → IsFeedAt tail at → AppendsPrefix w next new → IsPartly Takes EndsAt Finishes Fails first input old new
   partly first input old s left w new n start tail next at p r feed h = record {
@@ -74,11 +74,11 @@ module _ {S : Type 0} (Takes : S → ℕ → List ℕ → List ℕ → S → Typ
   }
 
   -- a line is too long
-  pub long_told : (first : S) (input old : Option (List ℕ)) (s : S) (left w new : Option (List ℕ)) (n start : ℕ) (tail : List ℕ) (at : ℕ) (o : Outcome)
+  pub long_told : (first : S) (input old : Option (List ℕ)) (s : S) (left w new : Option (List ℕ)) (n start : ℕ) (tail : List ℕ) (at : ℕ) (o : Outcome E)
       → IsReached Takes first input old s left w n start tail → IsFeedAt tail at → is_long n start (line_of (take at tail) 1) ≡ true
       → IsLongSent n w new o → IsTold Takes EndsAt Finishes Fails first input old left new o
   long_told first input old s left w new n start tail at Done r feed long h = absurd h
-  long_told first input old s left w new n start tail at (Bad m) r feed long h = absurd h
+  long_told first input old s left w new n start tail at (Bad m e) r feed long h = absurd h
   long_told first input old s left w new n start tail at ReadFault r feed long h = absurd h
   long_told first input old s left w new n start tail at NoMemory r feed long h =
       partly first input old s left w new n start tail [] at (λ rest. inl refl) r feed (no_bytes w new h)
@@ -97,7 +97,7 @@ module _ {S : Type 0} (Takes : S → ℕ → List ℕ → List ℕ → S → Typ
       subst (λ k. IsTold Takes EndsAt Finishes Fails first input old left new (TooLong k)) (sym h.0) ended
 
   -- a run ends at a line
-  pub line_ended : (first : S) (input old : Option (List ℕ)) (s : S) (left w new : Option (List ℕ)) (n start : ℕ) (tail : List ℕ) (at : ℕ) (o : Outcome)
+  pub line_ended : (first : S) (input old : Option (List ℕ)) (s : S) (left w new : Option (List ℕ)) (n start : ℕ) (tail : List ℕ) (at : ℕ) (o : Outcome E)
       → IsReached Takes first input old s left w n start tail → IsFeedAt tail at → is_long n start (line_of (take at tail) 1) ≡ false
       → IsLineEnd (IsAnswerTo (Takes s n (take at tail)) (EndsAt s n (take at tail))) (EndsAt s n (take at tail)) n w new o → IsTold Takes EndsAt Finishes Fails first input old left new o
   line_ended first input old s left w new n start tail at Done r feed short h = absurd h
@@ -110,19 +110,19 @@ module _ {S : Type 0} (Takes : S → ℕ → List ℕ → List ℕ → S → Typ
       appends_nothing : (old : Option (List ℕ)) → Appends old [] old
       appends_nothing None = tt
       appends_nothing (Some bs) = ap Some (sym (append-nil bs))
-  line_ended first input old s left w new n start tail at (Bad m) r feed short h =
+  line_ended first input old s left w new n start tail at (Bad m e) r feed short h =
       let last = h.1 in
-      let ended : IsEnded Takes EndsAt Finishes Fails first input old new n (λ s n start l last. (is_long n start l ≡ false) × EndsAt s n l.bytes last) = record {
+      let ended : IsEnded Takes EndsAt Finishes Fails first input old new n (λ s n start l last. (is_long n start l ≡ false) × EndsAt s n l.bytes last e) = record {
         lines = r.lines;
         start = start;
         text = r.text;
         last = last;
         s = s;
         answered = r.answered;
-        line = at_line input r.lines (line_of (take at tail) 1) (λ l. (is_long n start l ≡ false) × EndsAt s n l.bytes last) (short, h.2) (next_line input left r.lines tail at r.read feed);
+        line = at_line input r.lines (line_of (take at tail) 1) (λ l. (is_long n start l ≡ false) × EndsAt s n l.bytes last e) (short, h.2) (next_line input left r.lines tail at r.read feed);
         written = appends_more old w new r.text last r.written h.3;
       } in
-      subst (λ k. IsTold Takes EndsAt Finishes Fails first input old left new (Bad k)) (sym h.0) (inl ended)
+      subst (λ k. IsTold Takes EndsAt Finishes Fails first input old left new (Bad k e)) (sym h.0) (inl ended)
 
   -- a line is answered
   pub line_goes : (first : S) (input old : Option (List ℕ)) (s v : S) (left w new : Option (List ℕ)) (n start : ℕ) (tail told : List ℕ) (at : ℕ)
@@ -190,7 +190,7 @@ module _ {S : Type 0} (Takes : S → ℕ → List ℕ → List ℕ → S → Typ
   lines_all None left ls h = tt
   lines_all (Some all) left ls h = h.0
 
-  all_partly : (first : S) (input old : Option (List ℕ)) (s : S) (left w new : Option (List ℕ)) (n : ℕ) (next : List ℕ) → ((next ≡ []) ⊎ (Finishes s n next ⊎ Fails s n next)) → IsAll first input old s left w n → AppendsPrefix w next new → IsPartly Takes EndsAt Finishes Fails first input old new
+  all_partly : (first : S) (input old : Option (List ℕ)) (s : S) (left w new : Option (List ℕ)) (n : ℕ) (next : List ℕ) → ((next ≡ []) ⊎ (Finishes s n next ⊎ ((e : E) × Fails s n next e))) → IsAll first input old s left w n → AppendsPrefix w next new → IsPartly Takes EndsAt Finishes Fails first input old new
   all_partly first input old s left w new n next p a h = record {
     lines = a.lines;
     n = n;
@@ -204,7 +204,7 @@ module _ {S : Type 0} (Takes : S → ℕ → List ℕ → List ℕ → S → Typ
   }
 
   -- the end is told
-  pub end_told : (first : S) (input old : Option (List ℕ)) (s : S) (left w new : Option (List ℕ)) (n : ℕ) (o : Outcome)
+  pub end_told : (first : S) (input old : Option (List ℕ)) (s : S) (left w new : Option (List ℕ)) (n : ℕ) (o : Outcome E)
       → IsAll first input old s left w n → IsEndTold (Finishes s n) (Fails s n) n w new o → IsTold Takes EndsAt Finishes Fails first input old left new o
   end_told first input old s left w new n (TooLong m) a h = absurd h
   end_told first input old s left w new n ReadFault a h = absurd h
@@ -222,8 +222,8 @@ module _ {S : Type 0} (Takes : S → ℕ → List ℕ → List ℕ → S → Typ
     whole = a.whole;
     written = appends_more old w new a.text h.0 a.written h.2;
   }
-  end_told first input old s left w new n (Bad m) a h =
-      subst (λ k. IsTold Takes EndsAt Finishes Fails first input old left new (Bad k)) (sym h.0) (inr (record {
+  end_told first input old s left w new n (Bad m e) a h =
+      subst (λ k. IsTold Takes EndsAt Finishes Fails first input old left new (Bad k e)) (sym h.0) (inr (record {
         lines = a.lines;
         start = a.start;
         text = a.text;
@@ -236,7 +236,7 @@ module _ {S : Type 0} (Takes : S → ℕ → List ℕ → List ℕ → S → Typ
       }))
 
   -- a run ends at the last line
-  pub last_ended : (first : S) (input old : Option (List ℕ)) (s : S) (left w new : Option (List ℕ)) (n start : ℕ) (tail : List ℕ) (o : Outcome)
+  pub last_ended : (first : S) (input old : Option (List ℕ)) (s : S) (left w new : Option (List ℕ)) (n start : ℕ) (tail : List ℕ) (o : Outcome E)
       → IsReached Takes first input old s left w n start tail → 0 < length tail → NoFeed tail → is_long n start (line_of tail 0) ≡ false
       → IsLineEnd (IsAnswerTo (Takes s n tail) (EndsAt s n tail)) (EndsAt s n tail) n w new o → IfSome input (λ _. left ≡ Some []) → IsTold Takes EndsAt Finishes Fails first input old left new o
   last_ended first input old s left w new n start tail o r some unended short h nothing_left = by o h
@@ -261,21 +261,21 @@ module _ {S : Type 0} (Takes : S → ℕ → List ℕ → List ℕ → S → Typ
         written = part_more old w new r.text next_text r.written p;
       }
 
-      by : (o : Outcome) → IsLineEnd (IsAnswerTo (Takes s n tail) (EndsAt s n tail)) (EndsAt s n tail) n w new o → IsTold Takes EndsAt Finishes Fails first input old left new o
+      by : (o : Outcome E) → IsLineEnd (IsAnswerTo (Takes s n tail) (EndsAt s n tail)) (EndsAt s n tail) n w new o → IsTold Takes EndsAt Finishes Fails first input old left new o
       by Done h = absurd h
       by (TooLong m) h = absurd h
       by ReadFault h = absurd h
       by WriteFault h = in_part h.0 (λ rest. inr (inr (short, h.1))) h.2
       by NoMemory h = in_part [] (λ rest. inl refl) (no_bytes w new h)
-      by (Bad m) h =
-          subst (λ k. IsTold Takes EndsAt Finishes Fails first input old left new (Bad k)) (sym h.0) (inl (record {
+      by (Bad m e) h =
+          subst (λ k. IsTold Takes EndsAt Finishes Fails first input old left new (Bad k e)) (sym h.0) (inl (record {
             lines = r.lines;
             start = start;
             text = r.text;
             last = h.1;
             s = s;
             answered = r.answered;
-            line = at_line input r.lines (line_of tail 0) (λ l. (is_long n start l ≡ false) × EndsAt s n l.bytes h.1) (short, h.2) next;
+            line = at_line input r.lines (line_of tail 0) (λ l. (is_long n start l ≡ false) × EndsAt s n l.bytes h.1 e) (short, h.2) next;
             written = appends_more old w new r.text h.1 r.written h.3;
           }))
 
@@ -317,11 +317,11 @@ module _ {S : Type 0} (Takes : S → ℕ → List ℕ → List ℕ → S → Typ
   }
 
   -- a tail is too long
-  pub long_tail_told : (first : S) (input old : Option (List ℕ)) (s : S) (left w new : Option (List ℕ)) (n start : ℕ) (tail : List ℕ) (o : Outcome)
+  pub long_tail_told : (first : S) (input old : Option (List ℕ)) (s : S) (left w new : Option (List ℕ)) (n start : ℕ) (tail : List ℕ) (o : Outcome E)
       → IsReached Takes first input old s left w n start tail → 0 < length tail → NoFeed tail → is_long n start (line_of tail 0) ≡ true
       → IsLongSent n w new o → IsTold Takes EndsAt Finishes Fails first input old left new o
   long_tail_told first input old s left w new n start tail Done r some unended long h = absurd h
-  long_tail_told first input old s left w new n start tail (Bad m) r some unended long h = absurd h
+  long_tail_told first input old s left w new n start tail (Bad m e) r some unended long h = absurd h
   long_tail_told first input old s left w new n start tail ReadFault r some unended long h = absurd h
   long_tail_told first input old s left w new n start tail NoMemory r some unended long h =
       subst (λ (x : Option (List ℕ)). IsPartly Takes EndsAt Finishes Fails first input old x) (sym h)

@@ -13,9 +13,9 @@ pub record IsFront (input left : Option (List ℕ)) (ls : List Line) (tail : Lis
   pub whole : IfSome input (λ all.
       (rest : List ℕ) × (all ≡ front ++ (tail ++ rest)) × (left ≡ Some rest))
 
-module _ {S : Type 0} (Takes : S → ℕ → List ℕ → List ℕ → S → Type 0)
-    (Ends : S → ℕ → List ℕ → List ℕ → Type 0)
-    (Finishes : S → ℕ → List ℕ → Type 0) (Fails : S → ℕ → List ℕ → Type 0) where
+module _ {S E : Type 0} (Takes : S → ℕ → List ℕ → List ℕ → S → Type 0)
+    (Ends : S → ℕ → List ℕ → List ℕ → E → Type 0)
+    (Finishes : S → ℕ → List ℕ → Type 0) (Fails : S → ℕ → List ℕ → E → Type 0) where
   -- all lines are answered and told, with what is told at the end
   pub record IsDone (first : S) (input old left new : Option (List ℕ)) : Type 0 where
     pub lines : List Line
@@ -30,14 +30,14 @@ module _ {S : Type 0} (Takes : S → ℕ → List ℕ → List ℕ → S → Typ
     pub written : Appends old (text ++ last) new
 
   -- the input fails at its end
-  pub record IsFailed (first : S) (input old new : Option (List ℕ)) (n : ℕ) : Type 0 where
+  pub record IsFailed (first : S) (input old new : Option (List ℕ)) (n : ℕ) (e : E) : Type 0 where
     pub lines : List Line
     pub start : ℕ
     pub text : List ℕ
     pub last : List ℕ
     pub s : S
     pub answered : Answered Takes first lines n start text s
-    pub fails : Fails s n last
+    pub fails : Fails s n last e
     pub whole : IfSome input (λ all. cut all ≡ lines)
     pub written : Appends old (text ++ last) new
 
@@ -55,8 +55,8 @@ module _ {S : Type 0} (Takes : S → ℕ → List ℕ → List ℕ → S → Typ
         (l : Line) × (rest : List Line) × (cut all ≡ lines ++ l ∷ rest) × At s n start l last)
     pub written : Appends old (text ++ last) new
 
-  abbrev pub AtBad : S → ℕ → ℕ → Line → List ℕ → Type 0
-  AtBad s n start l last = (is_long n start l ≡ false) × Ends s n l.bytes last
+  abbrev pub AtBad : E → S → ℕ → ℕ → Line → List ℕ → Type 0
+  AtBad e s n start l last = (is_long n start l ≡ false) × Ends s n l.bytes last e
 
   abbrev pub AtLong : S → ℕ → ℕ → Line → List ℕ → Type 0
   AtLong s n start l last = (is_long n start l ≡ true) × (last ≡ long_line n)
@@ -77,11 +77,12 @@ module _ {S : Type 0} (Takes : S → ℕ → List ℕ → List ℕ → S → Typ
   -- what a line that isn't too long is answered with
   abbrev pub IsAnswered : S → ℕ → ℕ → Line → List ℕ → Type 0
   IsAnswered s n start l next =
-      (is_long n start l ≡ false) × (((v : S) × Takes s n l.bytes next v) ⊎ Ends s n l.bytes next)
+      (is_long n start l ≡ false)
+      × (((v : S) × Takes s n l.bytes next v) ⊎ ((e : E) × Ends s n l.bytes next e))
 
   -- what is told next, where some lines are left: nothing, or what the first is answered with
   abbrev pub IsNextTold : S → ℕ → ℕ → List Line → List ℕ → Type 0
-  IsNextTold s n start [] next = (next ≡ []) ⊎ (Finishes s n next ⊎ Fails s n next)
+  IsNextTold s n start [] next = (next ≡ []) ⊎ (Finishes s n next ⊎ ((e : E) × Fails s n next e))
   IsNextTold s n start (l ∷ ls) next =
       (next ≡ []) ⊎ (AtLong s n start l next ⊎ IsAnswered s n start l next)
 
@@ -98,12 +99,12 @@ module _ {S : Type 0} (Takes : S → ℕ → List ℕ → List ℕ → S → Typ
         (rest : List Line) × (cut all ≡ lines ++ rest) × IsNextTold s n start rest next)
     pub written : AppendsPrefix old (text ++ next) new
 
-  -- what was told at an outcome: `first` is the state at the beginning, `input` and `left` the bytes
-  -- that the source had and has left, `old` and `new` what the sink was given before and by now
-  abbrev pub IsTold : (first : S) (input old left new : Option (List ℕ)) → Outcome → Type 0
+  -- what was told at an outcome: `first` is the state at the beginning, `input` and `left` are the
+  -- bytes that the source had and has left, `old` and `new` what the sink was given before and by now
+  abbrev pub IsTold : (first : S) (input old left new : Option (List ℕ)) → Outcome E → Type 0
   IsTold first input old left new Done = IsDone first input old left new
-  IsTold first input old left new (Bad n) =
-      IsEnded first input old new n AtBad ⊎ IsFailed first input old new n
+  IsTold first input old left new (Bad n e) =
+      IsEnded first input old new n (AtBad e) ⊎ IsFailed first input old new n e
   IsTold first input old left new (TooLong n) = IsEnded first input old new n AtLong
   IsTold first input old left new ReadFault = IsCutOff first input old left new
   IsTold first input old left new WriteFault = IsPartly first input old new

@@ -20,15 +20,15 @@ module _ {S : Type 0} (Takes : S → ℕ → List ℕ → List ℕ → S → Typ
         → Answered first (ls ++ l ∷ []) (n + 1) (start + length l.bytes + l.feed) (text ++ told) v
 
 -- a line is answered, and what answers stands for another state; or the run ends at it
-abbrev pub IsReply : {S : Type 0} → (List ℕ → S → Type 0) → (List ℕ → Type 0) → (S → Type 0) → Reply
-    → Type 0
+abbrev pub IsReply : {S E : Type 0} → (List ℕ → S → Type 0) → (List ℕ → E → Type 0) → (S → Type 0)
+    → Reply E → Type 0
 IsReply {S} Takes EndsWith Stands (Goes text) = (v : S) × Takes text.items v × Stands v
-IsReply Takes EndsWith Stands (Ends text) = EndsWith text.items
+IsReply Takes EndsWith Stands (Ends text e) = EndsWith text.items e
 
 -- the input ends, as it may or as it may not
-abbrev pub IsEnd : (List ℕ → Type 0) → (List ℕ → Type 0) → Reply → Type 0
+abbrev pub IsEnd : {E : Type 0} → (List ℕ → Type 0) → (List ℕ → E → Type 0) → Reply E → Type 0
 IsEnd Finishes Fails (Goes text) = Finishes text.items
-IsEnd Finishes Fails (Ends text) = Fails text.items
+IsEnd Finishes Fails (Ends text e) = Fails text.items e
 
 -- a front of some bytes was added
 abbrev pub AppendsPrefix : Option (List ℕ) → List ℕ → Option (List ℕ) → Type 0

@@ -25,7 +25,7 @@ fn read_more<R: Responder, S: Source, K: Sink>(
     piece: &mut [u8],
     reading: &mut Reading,
     sink: &mut K,
-) -> Result<(), Outcome>
+) -> Result<(), Outcome<R::Ending>>
     requires place { IsPlaced reading.old }
     requires piece { length piece.old ≡ 65536 }
     requires unended { NoFeed (tail_of reading.old) }
@@ -75,7 +75,7 @@ fn turn<R: Responder, S: Source, K: Sink>(
     piece: &mut [u8],
     reading: &mut Reading,
     sink: &mut K,
-) -> Result<(), Outcome>
+) -> Result<(), Outcome<R::Ending>>
     requires place { IsPlaced reading.old }
     requires piece { length piece.old ≡ 65536 }
     ensures goes { OnOk result ((s first : R.State) (input old : Option (List ℕ))
@@ -112,7 +112,7 @@ pub fn answer_lines<R: Responder, S: Source, K: Sink>(
     responder: &mut R,
     source: &mut S,
     sink: &mut K,
-) -> Outcome
+) -> Outcome<R::Ending>
     ensures told { (first : R.State) → R.Stands responder.old first
         → IsTold R.Takes R.Ends R.Finishes R.Fails first (S.left source.old) (K.written sink.old)
         (S.left source.new) (K.written sink.new) result }

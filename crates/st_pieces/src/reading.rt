@@ -37,7 +37,7 @@ fn first_feed(bytes: &[u8]) -> Option<usize>
     bytes.iter().position(|b| *b == b'\n')
 }
 
-/// Whether a line of so many bytes is too long.
+/// Whether a line is too long, with so many line feeds behind it.
 pub fn is_long(number: u32, start: u32, bytes: &[u8], feed: u32) -> bool
     requires { (start ≤ 16777216) × (feed ≤ 1) × (length bytes.now < 2 ^ 32) }
     ensures { result ≡ is_long number start (line_of bytes.now feed) }

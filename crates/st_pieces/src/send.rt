@@ -36,7 +36,7 @@ fn long_line(alloc: Global, number: u32) -> Result<String, AllocError>
 }
 
 /// Says that a line is too long.
-pub fn send_long<K: Sink>(alloc: Global, number: u32, sink: &mut K) -> Outcome
+pub fn send_long<E, K: Sink>(alloc: Global, number: u32, sink: &mut K) -> Outcome<E>
     ensures told { IsLongSent number (K.written sink.old) (K.written sink.new) result }
     ensures fault { result ≡ Outcome.WriteFault → Rose (K.faults sink.old) (K.faults sink.new) }
     ensures later { K.faults sink.old ≤ K.faults sink.new }
@@ -51,7 +51,11 @@ pub fn send_long<K: Sink>(alloc: Global, number: u32, sink: &mut K) -> Outcome
 }
 
 /// Writes what a line is answered with.
-pub fn send_reply<K: Sink>(reply: &Reply, number: u32, sink: &mut K) -> Result<(), Outcome>
+pub fn send_reply<E: Copy, K: Sink>(
+    reply: &Reply<E>,
+    number: u32,
+    sink: &mut K,
+) -> Result<(), Outcome<E>>
     ensures goes { OnOk result (IsSent reply.now (K.written sink.old) (K.written sink.new)) }
     ensures ended { IfErr result (λ o.
         IsReplyEnd reply.now number (K.written sink.old) (K.written sink.new) o) }
@@ -64,8 +68,8 @@ pub fn send_reply<K: Sink>(reply: &Reply, number: u32, sink: &mut K) -> Result<(
             Ok(()) => Ok(()),
             Err(_) => Err(Outcome::WriteFault),
         },
-        Reply::Ends(text) => match write_all(sink, text.as_slice()) {
-            Ok(()) => Err(Outcome::Bad(number)),
+        Reply::Ends(text, ending) => match write_all(sink, text.as_slice()) {
+            Ok(()) => Err(Outcome::Bad(number, *ending)),
             Err(_) => Err(Outcome::WriteFault),
         },
     }

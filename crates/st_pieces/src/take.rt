@@ -23,7 +23,7 @@ fn take_line<R: Responder, K: Sink>(
     number: u32,
     line: &[u8],
     sink: &mut K,
-) -> Result<(), Outcome>
+) -> Result<(), Outcome<R::Ending>>
     ensures goes { OnOk result ((s : R.State) → R.Stands responder.old s
         → IsGoing (R.Takes s number line.now) (R.Stands responder.new)
         (K.written sink.old) (K.written sink.new)) }
@@ -48,7 +48,7 @@ pub fn take_whole<R: Responder, K: Sink>(
     reading: &mut Reading,
     at: usize,
     sink: &mut K,
-) -> Result<(), Outcome>
+) -> Result<(), Outcome<R::Ending>>
     requires place { IsPlaced reading.old }
     requires feed { IsFeedAt (tail_of reading.old) at }
     ensures goes { OnOk result ((s first : R.State) (input old left : Option (List ℕ))
@@ -93,7 +93,7 @@ fn send_end<R: Responder, K: Sink>(
     responder: &mut R,
     number: u32,
     sink: &mut K,
-) -> Outcome
+) -> Outcome<R::Ending>
     ensures told { (s : R.State) → R.Stands responder.old s
         → IsEndTold (R.Finishes s number) (R.Fails s number) number
         (K.written sink.old) (K.written sink.new) result }
@@ -117,7 +117,7 @@ pub fn finish<R: Responder, K: Sink>(
     responder: &mut R,
     reading: &Reading,
     sink: &mut K,
-) -> Outcome
+) -> Outcome<R::Ending>
     requires place { IsPlaced reading.now }
     requires unended { NoFeed (tail_of reading.now) }
     requires short { 0 < length (tail_of reading.now)
