@@ -143,6 +143,15 @@ long_more n start l more feed e =
     let size : length (l ++ more) ≡ length l + length more = length-append l more in
     grind (arith, nat_tests)
 
+-- a tail that isn't too long stands before the end of the longest input
+pub short_within : (n start : ℕ) (tail : List ℕ) → start ≤ 16777216 → (0 < length tail → is_long n start (line_of tail 0) ≡ false)
+    → start + length tail ≤ 16777216
+short_within n start [] h short = omega (arith, h)
+short_within n start (b ∷ tail) h short =
+    let some : 0 < length (b ∷ tail) = omega arith in
+    let is : is_long n start (line_of (b ∷ tail) 0) ≡ false = short some in
+    grind (arith, nat_tests)
+
 -- ## Fronts
 
 pub front_start : (input : Option (List ℕ)) → IsFront input input [] []

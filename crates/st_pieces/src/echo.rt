@@ -1,5 +1,5 @@
 //! A responder that answers each line with itself.
-ghost use Rattle.std.specs.Prelude.{⊤, ◌≡◌, ℕ, List, ◌++◌, ◌∷◌, []};
+ghost use Rattle.std.specs.Prelude.{⊤, ◌≡◌, ◌++◌, ◌∷◌, []};
 
 use crate::responder::{Reply, Responder};
 use std::alloc::{AllocError, Global};

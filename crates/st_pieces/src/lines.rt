@@ -1,23 +1,67 @@
 //! The lines of a source, one after another.
-ghost use Rattle.std.specs.Prelude.{◌≡◌, ◌≢◌, None, string_bytes, ℕ, List, Option, ◌+◌, ◌<◌, ◌≤◌, ◌^◌, ◌-◌, ◌++◌, Ok, Err, length, drop, take, true, false, IfOk, IfErr, OnOk, OnErr, ◌==◌, position, IfSome, Some, []};
-ghost use Rattle.st_pieces.specs.inside.Sent.{IsLineEnd, IsLongSent, IsReplyEnd, IsSent, IsEndTold, IsAnswerTo, IsGoing};
-ghost use Rattle.st_pieces.specs.Lines.{IsFeedAt};
+ghost use Rattle.std.specs.Prelude.{◌≡◌, None, ℕ, List, Option, ◌+◌, ◌<◌, ◌≤◌, ◌-◌, Ok, Err, length, take, false, IfErr, OnOk, ◌==◌, Some};
 ghost use Rattle.st_pieces.specs.Outcomes.{IsTold};
 ghost use Rattle.st_pieces.specs.inside.Reached.{IsReached};
 ghost use Rattle.st_pieces.specs.inside.Placed.{IsPlaced, tail_of, turns_left};
-ghost use Rattle.st_io.specs.Bytes.{Appends};
-ghost use Rattle.st_io.specs.Counts.{Rose, HasCause};
+ghost use Rattle.st_io.specs.Counts.{Rose};
 ghost use Rattle.st_pieces.specs.Lines.{NoFeed, is_long, line_of};
-ghost use Rattle.st_pieces.specs.Told.{IsReply, IsEnd, AppendsPrefix, long_line};
 
-use crate::reading::{Reading, is_long, keep_more, next_feed};
+use crate::reading::{Reading, is_tail_long, keep_more, next_feed};
 use crate::responder::{Outcome, Responder};
 use crate::send::send_long;
 use crate::take::{finish, take_whole};
 use st_io::{Sink, Source};
 use std::alloc::Global;
 
-// Reads a piece behind a tail that has no line feed, or ends the run.
+// Reads a piece behind a tail that has no line feed and isn't too long, or ends the run.
+fn read_piece<R: Responder, S: Source, K: Sink>(
+    alloc: Global,
+    responder: &mut R,
+    source: &mut S,
+    piece: &mut [u8],
+    reading: &mut Reading,
+    sink: &mut K,
+) -> Result<(), Outcome<R::Ending>>
+    requires place { IsPlaced reading.old }
+    requires piece { length piece.old ≡ 65536 }
+    requires unended { NoFeed (tail_of reading.old) }
+    requires short { 0 < length (tail_of reading.old)
+        → is_long reading.old.number reading.old.start (line_of (tail_of reading.old) 0) ≡ false }
+    ensures goes { OnOk result ((s first : R.State) (input old : Option (List ℕ))
+        → R.Stands responder.old s
+        → IsReached R.Takes first input old s (S.left source.old) (K.written sink.old)
+        reading.old.number reading.old.start (tail_of reading.old)
+        → (v : R.State) × R.Stands responder.new v
+        × IsReached R.Takes first input old v (S.left source.new) (K.written sink.new)
+        reading.new.number reading.new.start (tail_of reading.new)) }
+    ensures placed { OnOk result (IsPlaced reading.new) }
+    ensures less { OnOk result (turns_left reading.new + 1 ≤ turns_left reading.old) }
+    ensures ended { IfErr result (λ o. (s first : R.State) (input old : Option (List ℕ))
+        → R.Stands responder.old s
+        → IsReached R.Takes first input old s (S.left source.old) (K.written sink.old)
+        reading.old.number reading.old.start (tail_of reading.old)
+        → IsTold R.Takes R.Ends R.Finishes R.Fails first input old (S.left source.new)
+        (K.written sink.new) o) }
+    ensures read_fault { result ≡ Err Outcome.ReadFault
+        → Rose (S.faults source.old) (S.faults source.new) }
+    ensures write_fault { result ≡ Err Outcome.WriteFault
+        → Rose (K.faults sink.old) (K.faults sink.new) }
+    ensures read_later { S.faults source.old ≤ S.faults source.new }
+    ensures later { K.faults sink.old ≤ K.faults sink.new }
+{
+    let Ok(count) = source.read(piece) else {
+        return Err(Outcome::ReadFault);
+    };
+    if count == 0 {
+        return Err(finish(alloc, responder, reading, sink));
+    }
+    match keep_more(alloc, reading, &piece[..count]) {
+        Ok(()) => Ok(()),
+        Err(_) => Err(Outcome::NoMemory),
+    }
+}
+
+// Reads a piece behind a tail that has no line feed, or ends the run where the tail is too long.
 fn read_more<R: Responder, S: Source, K: Sink>(
     alloc: Global,
     responder: &mut R,
@@ -51,20 +95,10 @@ fn read_more<R: Responder, S: Source, K: Sink>(
     ensures read_later { S.faults source.old ≤ S.faults source.new }
     ensures later { K.faults sink.old ≤ K.faults sink.new }
 {
-    let tail = &reading.pending[reading.from..];
-    if !tail.is_empty() && is_long(reading.number, reading.start, tail, 0) {
+    if is_tail_long(reading) {
         return Err(send_long(alloc, reading.number, sink));
     }
-    let Ok(count) = source.read(piece) else {
-        return Err(Outcome::ReadFault);
-    };
-    if count == 0 {
-        return Err(finish(alloc, responder, reading, sink));
-    }
-    match keep_more(alloc, reading, &piece[..count]) {
-        Ok(()) => Ok(()),
-        Err(_) => Err(Outcome::NoMemory),
-    }
+    read_piece(alloc, responder, source, piece, reading, sink)
 }
 
 // One turn: the next line, or one more piece.

@@ -1,14 +1,8 @@
 //! What was read and isn't answered yet.
-ghost use Rattle.std.specs.Prelude.{◌≡◌, ◌≢◌, None, string_bytes, ℕ, List, Option, ◌+◌, ◌<◌, ◌≤◌, ◌^◌, ◌-◌, ◌++◌, Ok, Err, length, drop, take, true, false, IfOk, IfErr, OnOk, OnErr, ◌==◌, position, IfSome, Some, []};
-ghost use Rattle.st_pieces.specs.inside.Sent.{IsLineEnd, IsLongSent, IsReplyEnd, IsSent, IsEndTold, IsAnswerTo, IsGoing};
+ghost use Rattle.std.specs.Prelude.{◌≡◌, None, Option, ◌+◌, ◌<◌, ◌≤◌, ◌^◌, ◌-◌, ◌++◌, Ok, length, OnOk, ◌==◌, position, IfSome, Some, true, false};
 ghost use Rattle.st_pieces.specs.Lines.{IsFeedAt};
-ghost use Rattle.st_pieces.specs.Outcomes.{IsTold};
-ghost use Rattle.st_pieces.specs.inside.Reached.{IsReached};
-ghost use Rattle.st_pieces.specs.inside.Placed.{IsPlaced, tail_of, turns_left};
-ghost use Rattle.st_io.specs.Bytes.{Appends};
-ghost use Rattle.st_io.specs.Counts.{Rose, HasCause};
+ghost use Rattle.st_pieces.specs.inside.Placed.{IsPlaced, tail_of};
 ghost use Rattle.st_pieces.specs.Lines.{NoFeed, is_long, line_of};
-ghost use Rattle.st_pieces.specs.Told.{IsReply, IsEnd, AppendsPrefix, long_line};
 
 use std::alloc::{AllocError, Global};
 
@@ -45,6 +39,19 @@ pub fn is_long(number: u32, start: u32, bytes: &[u8], feed: u32) -> bool
     number > MAX_LINES
         || bytes.len() > MAX_LINE
         || start as usize + bytes.len() + feed as usize > MAX_INPUT
+}
+
+/// Whether what isn't answered yet is too long, whatever follows.
+pub fn is_tail_long(reading: &Reading) -> bool
+    requires { IsPlaced reading.now }
+    ensures some { result ≡ true → 0 < length (tail_of reading.now) }
+    ensures long { result ≡ true
+        → is_long reading.now.number reading.now.start (line_of (tail_of reading.now) 0) ≡ true }
+    ensures short { result ≡ false → 0 < length (tail_of reading.now)
+        → is_long reading.now.number reading.now.start (line_of (tail_of reading.now) 0) ≡ false }
+{
+    let tail = &reading.pending[reading.from..];
+    !tail.is_empty() && is_long(reading.number, reading.start, tail, 0)
 }
 
 /// Where the next line feed stands in what isn't answered yet.

@@ -1,14 +1,9 @@
 //! Writing answers.
-ghost use Rattle.std.specs.Prelude.{◌≡◌, ◌≢◌, None, string_bytes, ℕ, List, Option, ◌+◌, ◌<◌, ◌≤◌, ◌^◌, ◌-◌, ◌++◌, Ok, Err, length, drop, take, true, false, IfOk, IfErr, OnOk, OnErr, ◌==◌, position, IfSome, Some, []};
-ghost use Rattle.st_pieces.specs.inside.Sent.{IsLineEnd, IsLongSent, IsReplyEnd, IsSent, IsEndTold, IsAnswerTo, IsGoing};
-ghost use Rattle.st_pieces.specs.Lines.{IsFeedAt};
-ghost use Rattle.st_pieces.specs.Outcomes.{IsTold};
-ghost use Rattle.st_pieces.specs.inside.Reached.{IsReached};
-ghost use Rattle.st_pieces.specs.inside.Placed.{IsPlaced, tail_of, turns_left};
+ghost use Rattle.std.specs.Prelude.{◌≡◌, ◌≢◌, string_bytes, ◌+◌, ◌<◌, ◌≤◌, ◌-◌, Ok, Err, IfOk, IfErr, OnOk, OnErr};
+ghost use Rattle.st_pieces.specs.inside.Sent.{IsLongSent, IsReplyEnd, IsSent};
 ghost use Rattle.st_io.specs.Bytes.{Appends};
 ghost use Rattle.st_io.specs.Counts.{Rose, HasCause};
-ghost use Rattle.st_pieces.specs.Lines.{NoFeed, is_long, line_of};
-ghost use Rattle.st_pieces.specs.Told.{IsReply, IsEnd, AppendsPrefix, long_line};
+ghost use Rattle.st_pieces.specs.Told.{AppendsPrefix, long_line};
 
 use crate::responder::{Outcome, Reply};
 use st_io::{Failed, Sink};

@@ -1,14 +1,12 @@
 //! One line, or the end of the input.
-ghost use Rattle.std.specs.Prelude.{◌≡◌, ◌≢◌, None, string_bytes, ℕ, List, Option, ◌+◌, ◌<◌, ◌≤◌, ◌^◌, ◌-◌, ◌++◌, Ok, Err, length, drop, take, true, false, IfOk, IfErr, OnOk, OnErr, ◌==◌, position, IfSome, Some, []};
-ghost use Rattle.st_pieces.specs.inside.Sent.{IsLineEnd, IsLongSent, IsReplyEnd, IsSent, IsEndTold, IsAnswerTo, IsGoing};
+ghost use Rattle.std.specs.Prelude.{◌≡◌, ◌≢◌, ℕ, List, Option, ◌+◌, ◌<◌, ◌≤◌, ◌-◌, Ok, Err, length, false, IfErr, OnOk, IfSome, Some, []};
+ghost use Rattle.st_pieces.specs.inside.Sent.{IsLineEnd, IsEndTold, IsAnswerTo, IsGoing};
 ghost use Rattle.st_pieces.specs.Lines.{IsFeedAt};
 ghost use Rattle.st_pieces.specs.Outcomes.{IsTold};
 ghost use Rattle.st_pieces.specs.inside.Reached.{IsReached};
 ghost use Rattle.st_pieces.specs.inside.Placed.{IsPlaced, tail_of, turns_left};
-ghost use Rattle.st_io.specs.Bytes.{Appends};
-ghost use Rattle.st_io.specs.Counts.{Rose, HasCause};
+ghost use Rattle.st_io.specs.Counts.{Rose};
 ghost use Rattle.st_pieces.specs.Lines.{NoFeed, is_long, line_of};
-ghost use Rattle.st_pieces.specs.Told.{IsReply, IsEnd, AppendsPrefix, long_line};
 
 use crate::reading::{Reading, is_long};
 use crate::responder::{Outcome, Responder};

@@ -1,77 +1,13 @@
-use Rattle.std.proofs.Common.{◌≡◌, rules, arith, ap, ◌∙◌, ◌<◌, ◌-◌, ◌++◌, ℕ, List, drop, take, length, subst, true, length-append, length-drop, length-take-le}
-use Rattle.std.proofs.lemmas.Bool.Decides.{nat_tests}
-use Rattle.st_pieces.specs.Lines.{is_long, line_of}
-use Rattle.st_pieces.specs.inside.Placed.{IsPlaced, tail_of}
-use Rattle.st_pieces.proofs.Appending.{from_place}
-use Rattle.st_pieces.proofs.Outcomes.{end_read, long_tail_told, nothing_partly, piece_read, reached_as}
+use Rattle.st_pieces.specs.inside.Placed.{tail_of}
+use Rattle.st_pieces.proofs.Outcomes.{long_tail_told}
 use Rattle.st_pieces.proofs.lines.read_more.Goals as goal
 
-pub returns-then-is_long-clause-ended : goal.returns-then-is_long-clause-ended
-returns-then-is_long-clause-ended g c = λ s first input old stands r.
+pub returns-then-is_tail_long-clause-ended : goal.returns-then-is_tail_long-clause-ended
+returns-then-is_tail_long-clause-ended g c = λ s first input old stands r.
     let n = c.args.reading.now.number in
     let start = c.args.reading.now.start in
-    let tail = tail_of c.args.reading.now in
     let w = g.K.Sink.written c.args.sink.now in
-    let from = c.args.reading.now.from in
-    let slice = take (length c.deref.result.now - from) (drop from c.deref.result.now) in
-    let same : slice ≡ tail = from_place c.deref.result.now from ∙ ap (drop from) c.deref.ensures.value in
-    let full : 0 < length slice = grind (arith, nat_tests) in
-    let some : 0 < length tail = omega (arith, ap length same, full) in
-    let told : is_long n start (line_of slice 0) ≡ true = search rules in
-    let long : is_long n start (line_of tail 0) ≡ true = subst (λ (x : List ℕ). is_long n start (line_of x 0) ≡ true) same told in
-    long_tail_told g.R.Responder.Takes g.R.Responder.Ends g.R.Responder.Finishes g.R.Responder.Fails first input old s (g.S.Source.left c.args.source.now) w (g.K.Sink.written c.send_long.new.sink) n start tail c.send_long.result r some c.requires.unended long c.send_long.ensures.told
-
-pub returns-then-count-eq0-clause-ended : goal.returns-then-count-eq0-clause-ended
-returns-then-count-eq0-clause-ended g c = λ s first input old stands r.
-    let n = c.args.reading.now.number in
-    let start = c.args.reading.now.start in
-    let tail = tail_of c.args.reading.now in
-    let w = g.K.Sink.written c.args.sink.now in
-    let e = end_read g.R.Responder.Takes g.R.Responder.Ends g.R.Responder.Finishes g.R.Responder.Fails first input old s (g.S.Source.left c.args.source.now) (g.S.Source.left c.read.new.self) w n start c.in-Ok.count tail c.read.new.buf r c.in-Ok.ensures.takes c.if-count-eq0.true in
-    let reading = c.else-not-is_empty.reading in
-    let r = reached_as g.R.Responder.Takes g.R.Responder.Ends g.R.Responder.Finishes g.R.Responder.Fails first input old s (g.S.Source.left c.read.new.self) w n reading.number start reading.start tail (tail_of reading) e.0 (search rules) (search rules) (search rules) in
-    c.finish.ensures.told s first input old (g.S.Source.left c.read.new.self) stands r e.1
-
-pub returns-then-count-eq0-clause-read_fault : goal.returns-then-count-eq0-clause-read_fault
-returns-then-count-eq0-clause-read_fault g c = λ e. absurd (c.finish.ensures.unread cc)
-
-pub returns-in-Ok-keep_more-clause-goes : goal.returns-in-Ok-keep_more-clause-goes
-returns-in-Ok-keep_more-clause-goes g c = λ s first input old stands r.
-    let n = c.args.reading.now.number in
-    let start = c.args.reading.now.start in
-    let tail = tail_of c.args.reading.now in
-    let w = g.K.Sink.written c.args.sink.now in
-    let t : tail_of c.keep_more.new.reading ≡ tail ++ take c.in-Ok.count c.read.new.buf = search rules in
-    let piece = piece_read g.R.Responder.Takes g.R.Responder.Ends g.R.Responder.Finishes g.R.Responder.Fails first input old s (g.S.Source.left c.args.source.now) (g.S.Source.left c.read.new.self) w n start c.in-Ok.count tail c.read.new.buf r c.in-Ok.ensures.takes in
-    (s, stands, reached_as g.R.Responder.Takes g.R.Responder.Ends g.R.Responder.Finishes g.R.Responder.Fails first input old s (g.S.Source.left c.read.new.self) w n _ start _ (tail ++ take c.in-Ok.count c.read.new.buf) _ piece (search rules) (search rules) t)
-
-pub returns-in-Ok-keep_more-clause-less : goal.returns-in-Ok-keep_more-clause-less
-returns-in-Ok-keep_more-clause-less g c =
-    let before = c.args.reading.now in
-    let after = c.keep_more.new.reading in
-    let t : tail_of after ≡ tail_of before ++ take c.in-Ok.count c.read.new.buf = search rules in
-    let more : length (take c.in-Ok.count c.read.new.buf) ≡ c.in-Ok.count = length-take-le c.in-Ok.count c.read.new.buf c.in-Ok.ensures.fits in
-    let sum = length-append (tail_of before) (take c.in-Ok.count c.read.new.buf) in
-    let some : 0 < c.in-Ok.count = grind (arith, nat_tests) in
-    let placed : IsPlaced after = search rules in
-    let same : after.start ≡ before.start = search rules in
-    omega (
-      arith,
-      ap length t,
-      more,
-      sum,
-      some,
-      same,
-      length-drop before.from before.pending.items,
-      length-drop after.from after.pending.items,
-      c.requires.place.from,
-      c.requires.place.start,
-      c.requires.place.within,
-      placed.from,
-      placed.start,
-      placed.within,
-    )
-
-pub returns-in-Err-clause-ended : goal.returns-in-Err-clause-ended
-returns-in-Err-clause-ended g c = λ s first input old stands r.
-    nothing_partly g.R.Responder.Takes g.R.Responder.Ends g.R.Responder.Finishes g.R.Responder.Fails first input old s (g.S.Source.left c.args.source.now) (g.K.Sink.written c.args.sink.now) c.args.reading.now.number c.args.reading.now.start (tail_of c.args.reading.now) r
+    let over = c.if-is_tail_long.true in
+    long_tail_told g.R.Responder.Takes g.R.Responder.Ends g.R.Responder.Finishes g.R.Responder.Fails first input old s (g.S.Source.left c.args.source.now) w
+    (g.K.Sink.written c.send_long.new.sink) n start (tail_of c.args.reading.now) c.send_long.result r
+    (c.is_tail_long.ensures.some over) c.requires.unended (c.is_tail_long.ensures.long over) c.send_long.ensures.told
