@@ -140,7 +140,7 @@ fn turn<R: Responder, S: Source, K: Sink>(
     }
 }
 
-/// Answers the lines of a source.
+/// Answers the lines of a source one after another and then its end, or ends at the first line that ends the run.
 pub fn answer_lines<R: Responder, S: Source, K: Sink>(
     alloc: Global,
     responder: &mut R,
