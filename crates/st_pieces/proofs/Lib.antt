@@ -1,0 +1,4 @@
+pub mod Appending
+pub mod Cutting
+pub mod Outcomes
+pub mod Replies

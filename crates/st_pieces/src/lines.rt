@@ -1,0 +1,182 @@
+//! The lines of a source, one after another.
+ghost use Rattle.std.specs.Prelude.{◌≡◌, None, ℕ, List, Option, ◌+◌, ◌<◌, ◌≤◌, ◌-◌, Ok, Err, length, take, false, IfErr, OnOk, ◌==◌, Some};
+ghost use Rattle.st_pieces.specs.Outcomes.{IsTold};
+ghost use Rattle.st_pieces.specs.inside.Reached.{IsReached};
+ghost use Rattle.st_pieces.specs.inside.Placed.{IsPlaced, tail_of, turns_left};
+ghost use Rattle.st_io.specs.Counts.{Rose};
+ghost use Rattle.st_pieces.specs.Lines.{NoFeed, is_long, line_of};
+
+use crate::reading::{Reading, is_tail_long, keep_more, next_feed};
+use crate::responder::{Outcome, Responder};
+use crate::send::send_long;
+use crate::take::{finish, take_whole};
+use st_io::{Sink, Source};
+use std::alloc::Global;
+
+// Reads a piece behind a tail that has no line feed and isn't too long, or ends the run.
+fn read_piece<R: Responder, S: Source, K: Sink>(
+    alloc: Global,
+    responder: &mut R,
+    source: &mut S,
+    piece: &mut [u8],
+    reading: &mut Reading,
+    sink: &mut K,
+) -> Result<(), Outcome<R::Ending>>
+    requires place { IsPlaced reading.old }
+    requires piece { length piece.old ≡ 65536 }
+    requires unended { NoFeed (tail_of reading.old) }
+    requires short { 0 < length (tail_of reading.old)
+        → is_long reading.old.number reading.old.start (line_of (tail_of reading.old) 0) ≡ false }
+    ensures goes { OnOk result ((s first : R.State) (input old : Option (List ℕ))
+        → R.Stands responder.old s
+        → IsReached R.Takes first input old s (S.left source.old) (K.written sink.old)
+        reading.old.number reading.old.start (tail_of reading.old)
+        → (v : R.State) × R.Stands responder.new v
+        × IsReached R.Takes first input old v (S.left source.new) (K.written sink.new)
+        reading.new.number reading.new.start (tail_of reading.new)) }
+    ensures placed { OnOk result (IsPlaced reading.new) }
+    ensures less { OnOk result (turns_left reading.new + 1 ≤ turns_left reading.old) }
+    ensures ended { IfErr result (λ o. (s first : R.State) (input old : Option (List ℕ))
+        → R.Stands responder.old s
+        → IsReached R.Takes first input old s (S.left source.old) (K.written sink.old)
+        reading.old.number reading.old.start (tail_of reading.old)
+        → IsTold R.Takes R.Ends R.Finishes R.Fails first input old (S.left source.new)
+        (K.written sink.new) o) }
+    ensures read_fault { result ≡ Err Outcome.ReadFault
+        → Rose (S.faults source.old) (S.faults source.new) }
+    ensures write_fault { result ≡ Err Outcome.WriteFault
+        → Rose (K.faults sink.old) (K.faults sink.new) }
+    ensures read_later { S.faults source.old ≤ S.faults source.new }
+    ensures later { K.faults sink.old ≤ K.faults sink.new }
+{
+    let Ok(count) = source.read(piece) else {
+        return Err(Outcome::ReadFault);
+    };
+    if count == 0 {
+        return Err(finish(alloc, responder, reading, sink));
+    }
+    match keep_more(alloc, reading, &piece[..count]) {
+        Ok(()) => Ok(()),
+        Err(_) => Err(Outcome::NoMemory),
+    }
+}
+
+// Reads a piece behind a tail that has no line feed, or ends the run where the tail is too long.
+fn read_more<R: Responder, S: Source, K: Sink>(
+    alloc: Global,
+    responder: &mut R,
+    source: &mut S,
+    piece: &mut [u8],
+    reading: &mut Reading,
+    sink: &mut K,
+) -> Result<(), Outcome<R::Ending>>
+    requires place { IsPlaced reading.old }
+    requires piece { length piece.old ≡ 65536 }
+    requires unended { NoFeed (tail_of reading.old) }
+    ensures goes { OnOk result ((s first : R.State) (input old : Option (List ℕ))
+        → R.Stands responder.old s
+        → IsReached R.Takes first input old s (S.left source.old) (K.written sink.old)
+        reading.old.number reading.old.start (tail_of reading.old)
+        → (v : R.State) × R.Stands responder.new v
+        × IsReached R.Takes first input old v (S.left source.new) (K.written sink.new)
+        reading.new.number reading.new.start (tail_of reading.new)) }
+    ensures placed { OnOk result (IsPlaced reading.new) }
+    ensures less { OnOk result (turns_left reading.new + 1 ≤ turns_left reading.old) }
+    ensures ended { IfErr result (λ o. (s first : R.State) (input old : Option (List ℕ))
+        → R.Stands responder.old s
+        → IsReached R.Takes first input old s (S.left source.old) (K.written sink.old)
+        reading.old.number reading.old.start (tail_of reading.old)
+        → IsTold R.Takes R.Ends R.Finishes R.Fails first input old (S.left source.new)
+        (K.written sink.new) o) }
+    ensures read_fault { result ≡ Err Outcome.ReadFault
+        → Rose (S.faults source.old) (S.faults source.new) }
+    ensures write_fault { result ≡ Err Outcome.WriteFault
+        → Rose (K.faults sink.old) (K.faults sink.new) }
+    ensures read_later { S.faults source.old ≤ S.faults source.new }
+    ensures later { K.faults sink.old ≤ K.faults sink.new }
+{
+    if is_tail_long(reading) {
+        return Err(send_long(alloc, reading.number, sink));
+    }
+    read_piece(alloc, responder, source, piece, reading, sink)
+}
+
+// One turn: the next line, or one more piece.
+fn turn<R: Responder, S: Source, K: Sink>(
+    alloc: Global,
+    responder: &mut R,
+    source: &mut S,
+    piece: &mut [u8],
+    reading: &mut Reading,
+    sink: &mut K,
+) -> Result<(), Outcome<R::Ending>>
+    requires place { IsPlaced reading.old }
+    requires piece { length piece.old ≡ 65536 }
+    ensures goes { OnOk result ((s first : R.State) (input old : Option (List ℕ))
+        → R.Stands responder.old s
+        → IsReached R.Takes first input old s (S.left source.old) (K.written sink.old)
+        reading.old.number reading.old.start (tail_of reading.old)
+        → (v : R.State) × R.Stands responder.new v
+        × IsReached R.Takes first input old v (S.left source.new) (K.written sink.new)
+        reading.new.number reading.new.start (tail_of reading.new)) }
+    ensures placed { OnOk result (IsPlaced reading.new) }
+    ensures less { OnOk result (turns_left reading.new + 1 ≤ turns_left reading.old) }
+    ensures ended { IfErr result (λ o. (s first : R.State) (input old : Option (List ℕ))
+        → R.Stands responder.old s
+        → IsReached R.Takes first input old s (S.left source.old) (K.written sink.old)
+        reading.old.number reading.old.start (tail_of reading.old)
+        → IsTold R.Takes R.Ends R.Finishes R.Fails first input old (S.left source.new)
+        (K.written sink.new) o) }
+    ensures read_fault { result ≡ Err Outcome.ReadFault
+        → Rose (S.faults source.old) (S.faults source.new) }
+    ensures write_fault { result ≡ Err Outcome.WriteFault
+        → Rose (K.faults sink.old) (K.faults sink.new) }
+    ensures read_later { S.faults source.old ≤ S.faults source.new }
+    ensures later { K.faults sink.old ≤ K.faults sink.new }
+{
+    match next_feed(reading) {
+        Some(at) => take_whole(alloc, responder, reading, at, sink),
+        None => read_more(alloc, responder, source, piece, reading, sink),
+    }
+}
+
+/// Answers the lines of a source one after another and then its end, or ends at the first line that ends the run.
+pub fn answer_lines<R: Responder, S: Source, K: Sink>(
+    alloc: Global,
+    responder: &mut R,
+    source: &mut S,
+    sink: &mut K,
+) -> Outcome<R::Ending>
+    ensures told { (first : R.State) → R.Stands responder.old first
+        → IsTold R.Takes R.Ends R.Finishes R.Fails first (S.left source.old) (K.written sink.old)
+        (S.left source.new) (K.written sink.new) result }
+    ensures read_fault { result ≡ Outcome.ReadFault
+        → Rose (S.faults source.old) (S.faults source.new) }
+    ensures write_fault { result ≡ Outcome.WriteFault
+        → Rose (K.faults sink.old) (K.faults sink.new) }
+{
+    let Ok(mut piece) = vec![in alloc; 0u8; 65_536] else {
+        return Outcome::NoMemory;
+    };
+    let mut reading = Reading {
+        pending: Vec::new(alloc),
+        from: 0,
+        seen: 0,
+        number: 1,
+        start: 0,
+    };
+    'turns: while reading.start <= 16_777_216 {
+        match turn(
+            alloc,
+            responder,
+            source,
+            piece.as_mut_slice(),
+            &mut reading,
+            sink,
+        ) {
+            Ok(()) => {}
+            Err(outcome) => return outcome,
+        }
+    }
+    unreachable!()
+}

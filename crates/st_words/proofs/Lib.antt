@@ -1,0 +1,4 @@
+pub mod Forms
+pub mod Found
+pub mod Numerals
+pub mod Taken
