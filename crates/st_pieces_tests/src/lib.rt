@@ -5,3 +5,5 @@
 mod limits;
 #[cfg(test)]
 mod outside;
+#[cfg(test)]
+mod words;
