@@ -1,90 +1,17 @@
 //! Changes that list a few rows, the verdict of each, and the rows of the step to the document after it.
 
+use crate::names::{A, A_COMES, A_LEAVES, B, B_STAYS, OURS, P, P_PUT, P_UNPUT, Q, Q_PUT};
 use st_effect::{effect, has_short_rows};
-use st_ids::{Atom, CellId, List, NodeId, OPENING, ROOT, Rev, Text};
-use st_marks::{Change, How, Mark, NewNode, RowMarks, Step, Verdict};
+use st_ids::{Atom, List, NodeId, OPENING, ROOT, Text};
+use st_marks::{Change, Mark, NewNode, RowMarks, Step, Verdict};
 use std::alloc::{AllocError, Global};
 use std::test::Fail;
-
-const REV: Rev = Rev { session: 2, num: 1 };
-
-/// A node that moves.
-const A: NodeId = NodeId(Atom {
-    rev: OPENING,
-    at: 1,
-});
-
-/// The node into whose row it moves.
-const B: NodeId = NodeId(Atom {
-    rev: OPENING,
-    at: 2,
-});
 
 /// A node of which nothing is listed.
 const AWAY: NodeId = NodeId(Atom {
     rev: OPENING,
     at: 3,
 });
-
-/// A new node.
-const P: NodeId = NodeId(Atom { rev: REV, at: 0 });
-
-/// Another, in the row of that one.
-const Q: NodeId = NodeId(Atom { rev: REV, at: 1 });
-
-const CELL_OF_A: CellId = CellId(Atom {
-    rev: OPENING,
-    at: 1,
-});
-
-const CELL_OF_B: CellId = CellId(Atom {
-    rev: OPENING,
-    at: 2,
-});
-
-const EMPTY_CELL: CellId = CellId(Atom {
-    rev: OPENING,
-    at: 3,
-});
-
-const CELL_OF_P: CellId = CellId(Atom { rev: REV, at: 0 });
-
-const CELL_OF_Q: CellId = CellId(Atom { rev: REV, at: 1 });
-
-const B_STAYS: Mark = Mark::Touch {
-    cell: CELL_OF_B,
-    node: B,
-    how: How::Stay,
-};
-
-const A_LEAVES: Mark = Mark::Touch {
-    cell: CELL_OF_A,
-    node: A,
-    how: How::Leave,
-};
-
-const A_COMES: Mark = Mark::Fill {
-    cell: EMPTY_CELL,
-    node: A,
-};
-
-const P_PUT: Mark = Mark::Make {
-    cell: CELL_OF_P,
-    node: P,
-    full: true,
-};
-
-const P_UNPUT: Mark = Mark::Make {
-    cell: CELL_OF_P,
-    node: P,
-    full: false,
-};
-
-const Q_PUT: Mark = Mark::Make {
-    cell: CELL_OF_Q,
-    node: Q,
-    full: true,
-};
 
 // What a change makes, needs and lists, whether it has its base; its verdict, and the rows of its step.
 #[derive(Clone, Copy)]
@@ -137,7 +64,7 @@ fn new_nodes(alloc: Global, nodes: &[NodeId]) -> Result<List<NewNode>, AllocErro
 
 fn empty_change(alloc: Global, base: bool) -> Change {
     Change {
-        rev: REV,
+        rev: OURS,
         under: OPENING,
         base,
         need: List::new(alloc),

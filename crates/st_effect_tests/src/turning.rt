@@ -1,71 +1,19 @@
 //! Steps that list a few rows, loose nodes and schemas: two in turn and the step over both, and the way back over one.
 
-use st_ids::{Atom, CellId, List, NodeId, OPENING, ROOT, Rev, Text};
+use crate::names::{
+    A, A_COMES, A_LEAVES, B, B_STAYS, CELL_OF_A, CELL_OF_P, EMPTY_CELL, OURS, P, P_PUT, P_UNPUT, Q,
+    Q_PUT,
+};
+use st_ids::{List, NodeId, OPENING, ROOT, Rev, Text};
 use st_marks::{How, Loose, Mark, NewNode, RowMarks, SchemaEntry, SchemaStep, Step};
 use st_steps::{compose_agreed, has_short_rows, invert};
 use std::alloc::{AllocError, Global};
 use std::test::Fail;
 
-const OURS: Rev = Rev { session: 2, num: 1 };
-
 const THEIRS: Rev = Rev { session: 1, num: 1 };
-
-/// A node that moves.
-const A: NodeId = NodeId(Atom {
-    rev: OPENING,
-    at: 1,
-});
-
-/// The node into whose row it moves.
-const B: NodeId = NodeId(Atom {
-    rev: OPENING,
-    at: 2,
-});
-
-/// A new node.
-const P: NodeId = NodeId(Atom { rev: OURS, at: 0 });
-
-/// Another, in the row of that one.
-const Q: NodeId = NodeId(Atom { rev: OURS, at: 1 });
-
-const CELL_OF_A: CellId = CellId(Atom {
-    rev: OPENING,
-    at: 1,
-});
-
-const CELL_OF_B: CellId = CellId(Atom {
-    rev: OPENING,
-    at: 2,
-});
-
-const EMPTY_CELL: CellId = CellId(Atom {
-    rev: OPENING,
-    at: 3,
-});
-
-const CELL_OF_P: CellId = CellId(Atom { rev: OURS, at: 0 });
-
-const CELL_OF_Q: CellId = CellId(Atom { rev: OURS, at: 1 });
-
-const B_STAYS: Mark = Mark::Touch {
-    cell: CELL_OF_B,
-    node: B,
-    how: How::Stay,
-};
-
-const A_LEAVES: Mark = Mark::Touch {
-    cell: CELL_OF_A,
-    node: A,
-    how: How::Leave,
-};
 
 const A_RETURNS: Mark = Mark::Fill {
     cell: CELL_OF_A,
-    node: A,
-};
-
-const A_COMES: Mark = Mark::Fill {
-    cell: EMPTY_CELL,
     node: A,
 };
 
@@ -73,18 +21,6 @@ const A_GOES_BACK: Mark = Mark::Touch {
     cell: EMPTY_CELL,
     node: A,
     how: How::Leave,
-};
-
-const P_PUT: Mark = Mark::Make {
-    cell: CELL_OF_P,
-    node: P,
-    full: true,
-};
-
-const P_UNPUT: Mark = Mark::Make {
-    cell: CELL_OF_P,
-    node: P,
-    full: false,
 };
 
 const P_LEAVES: Mark = Mark::Touch {
@@ -96,12 +32,6 @@ const P_LEAVES: Mark = Mark::Touch {
 const P_COMES: Mark = Mark::Fill {
     cell: CELL_OF_P,
     node: P,
-};
-
-const Q_PUT: Mark = Mark::Make {
-    cell: CELL_OF_Q,
-    node: Q,
-    full: true,
 };
 
 const P_WAS_NOWHERE: Loose = Loose {
