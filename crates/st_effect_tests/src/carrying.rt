@@ -1,8 +1,10 @@
 //! Changes that list a few rows, the verdict of each, and the rows of the step to the document after it.
 
-use crate::names::{A, A_COMES, A_LEAVES, B, B_STAYS, OURS, P, P_PUT, P_UNPUT, Q, Q_PUT};
+use crate::names::{
+    A, A_COMES, A_LEAVES, B, B_STAYS, OURS, P, P_PUT, P_UNPUT, Q, Q_PUT, new_nodes, rows,
+};
 use st_effect::{effect, has_short_rows};
-use st_ids::{Atom, List, NodeId, OPENING, ROOT, Text};
+use st_ids::{Atom, List, NodeId, OPENING, ROOT};
 use st_marks::{Change, Mark, NewNode, RowMarks, Step, Verdict};
 use std::alloc::{AllocError, Global};
 use std::test::Fail;
@@ -23,43 +25,6 @@ struct Case {
     change: &'static [(NodeId, &'static [Mark])],
     verdict: Verdict,
     step: &'static [(NodeId, &'static [Mark])],
-}
-
-fn push_row(
-    alloc: Global,
-    rows: &mut List<RowMarks>,
-    node: NodeId,
-    marks: &[Mark],
-) -> Result<(), AllocError> {
-    let marks = List::from_vec(marks.to_vec(alloc)?);
-    rows.push(RowMarks { node, marks })?;
-    Ok(())
-}
-
-fn rows(alloc: Global, listed: &[(NodeId, &'static [Mark])]) -> Result<List<RowMarks>, AllocError> {
-    let mut rows = List::new(alloc);
-    for (node, marks) in listed {
-        push_row(alloc, &mut rows, *node, marks)?;
-    }
-    Ok(rows)
-}
-
-fn push_new(alloc: Global, new: &mut List<NewNode>, node: NodeId) -> Result<(), AllocError> {
-    let ty = Text::from_str(alloc, "t")?;
-    new.push(NewNode {
-        node,
-        ty,
-        leaf: None,
-    })?;
-    Ok(())
-}
-
-fn new_nodes(alloc: Global, nodes: &[NodeId]) -> Result<List<NewNode>, AllocError> {
-    let mut new = List::new(alloc);
-    for node in nodes {
-        push_new(alloc, &mut new, *node)?;
-    }
-    Ok(new)
 }
 
 fn empty_change(alloc: Global, base: bool) -> Change {

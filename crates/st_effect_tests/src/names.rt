@@ -1,6 +1,7 @@
-//! The names and marks that the tests share: of two nodes that were there, and two new ones in each other's row.
-use st_ids::{Atom, CellId, NodeId, OPENING, Rev};
-use st_marks::{How, Mark};
+//! What the tests share: names and marks of two nodes that were there and of two new ones, and lists of rows and of new nodes.
+use st_ids::{Atom, CellId, List, NodeId, OPENING, Rev, Text};
+use st_marks::{How, Mark, NewNode, RowMarks};
+use std::alloc::{AllocError, Global};
 
 pub const OURS: Rev = Rev { session: 2, num: 1 };
 
@@ -75,3 +76,45 @@ pub const Q_PUT: Mark = Mark::Make {
     node: Q,
     full: true,
 };
+
+fn push_row(
+    alloc: Global,
+    rows: &mut List<RowMarks>,
+    node: NodeId,
+    marks: &[Mark],
+) -> Result<(), AllocError> {
+    let marks = List::from_vec(marks.to_vec(alloc)?);
+    rows.push(RowMarks { node, marks })?;
+    Ok(())
+}
+
+/// The rows that are listed.
+pub fn rows(
+    alloc: Global,
+    listed: &[(NodeId, &'static [Mark])],
+) -> Result<List<RowMarks>, AllocError> {
+    let mut rows = List::new(alloc);
+    for (node, marks) in listed {
+        push_row(alloc, &mut rows, *node, marks)?;
+    }
+    Ok(rows)
+}
+
+fn push_new(alloc: Global, new: &mut List<NewNode>, node: NodeId) -> Result<(), AllocError> {
+    let ty = Text::from_str(alloc, "t")?;
+    new.push(NewNode {
+        node,
+        ty,
+        leaf: None,
+    })?;
+    Ok(())
+}
+
+/// The new nodes, of one type.
+pub fn new_nodes(alloc: Global, nodes: &[NodeId]) -> Result<List<NewNode>, AllocError> {
+    let mut new = List::new(alloc);
+    for node in nodes {
+        push_new(alloc, &mut new, *node)?;
+    }
+    Ok(new)
+}

@@ -2,10 +2,10 @@
 
 use crate::names::{
     A, A_COMES, A_LEAVES, B, B_STAYS, CELL_OF_A, CELL_OF_P, EMPTY_CELL, OURS, P, P_PUT, P_UNPUT, Q,
-    Q_PUT,
+    Q_PUT, new_nodes, rows,
 };
 use st_ids::{List, NodeId, OPENING, ROOT, Rev, Text};
-use st_marks::{How, Loose, Mark, NewNode, RowMarks, SchemaEntry, SchemaStep, Step};
+use st_marks::{How, Loose, Mark, SchemaEntry, SchemaStep, Step};
 use st_steps::{compose_agreed, has_short_rows, invert};
 use std::alloc::{AllocError, Global};
 use std::test::Fail;
@@ -52,43 +52,6 @@ struct Listed {
     loose: &'static [Loose],
     cut: &'static [Rev],
     add: &'static [Rev],
-}
-
-fn push_row(
-    alloc: Global,
-    rows: &mut List<RowMarks>,
-    node: NodeId,
-    marks: &[Mark],
-) -> Result<(), AllocError> {
-    let marks = List::from_vec(marks.to_vec(alloc)?);
-    rows.push(RowMarks { node, marks })?;
-    Ok(())
-}
-
-fn rows(alloc: Global, listed: &[(NodeId, &'static [Mark])]) -> Result<List<RowMarks>, AllocError> {
-    let mut rows = List::new(alloc);
-    for (node, marks) in listed {
-        push_row(alloc, &mut rows, *node, marks)?;
-    }
-    Ok(rows)
-}
-
-fn push_new(alloc: Global, new: &mut List<NewNode>, node: NodeId) -> Result<(), AllocError> {
-    let ty = Text::from_str(alloc, "t")?;
-    new.push(NewNode {
-        node,
-        ty,
-        leaf: None,
-    })?;
-    Ok(())
-}
-
-fn new_nodes(alloc: Global, nodes: &[NodeId]) -> Result<List<NewNode>, AllocError> {
-    let mut new = List::new(alloc);
-    for node in nodes {
-        push_new(alloc, &mut new, *node)?;
-    }
-    Ok(new)
 }
 
 fn push_schema(alloc: Global, schemas: &mut List<SchemaEntry>, rev: Rev) -> Result<(), AllocError> {
