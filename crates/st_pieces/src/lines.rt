@@ -1,7 +1,7 @@
 //! The lines of a source, one after another.
 ghost use Rattle.std.specs.Prelude.{◌≡◌, None, ℕ, List, Option, ◌+◌, ◌<◌, ◌≤◌, ◌-◌, Ok, Err, length, take, false, IfErr, OnOk, ◌==◌, Some};
 ghost use Rattle.st_pieces.specs.Outcomes.{IsTold};
-ghost use Rattle.st_pieces.specs.inside.Reached.{IsReached};
+ghost use Rattle.st_pieces.specs.inside.Reached.{EndsSo, GoesOn, IsReached};
 ghost use Rattle.st_pieces.specs.inside.Placed.{IsPlaced, tail_of, turns_left};
 ghost use Rattle.st_io.specs.Counts.{Rose};
 ghost use Rattle.st_pieces.specs.Lines.{NoFeed, is_long, line_of};
@@ -27,21 +27,12 @@ fn read_piece<R: Responder, S: Source, K: Sink>(
     requires unended { NoFeed (tail_of reading.old) }
     requires short { 0 < length (tail_of reading.old)
         → is_long reading.old.number reading.old.start (line_of (tail_of reading.old) 0) ≡ false }
-    ensures goes { OnOk result ((s first : R.State) (input old : Option (List ℕ))
-        → R.Stands responder.old s
-        → IsReached R.Takes first input old s (S.left source.old) (K.written sink.old)
-        reading.old.number reading.old.start (tail_of reading.old)
-        → (v : R.State) × R.Stands responder.new v
-        × IsReached R.Takes first input old v (S.left source.new) (K.written sink.new)
-        reading.new.number reading.new.start (tail_of reading.new)) }
+    ensures goes { OnOk result (GoesOn R.Takes (R.Stands responder.old) (R.Stands responder.new)
+        (S.left source.old) (S.left source.new) (K.written sink.old) (K.written sink.new) reading.old reading.new) }
     ensures placed { OnOk result (IsPlaced reading.new) }
     ensures less { OnOk result (turns_left reading.new + 1 ≤ turns_left reading.old) }
-    ensures ended { IfErr result (λ o. (s first : R.State) (input old : Option (List ℕ))
-        → R.Stands responder.old s
-        → IsReached R.Takes first input old s (S.left source.old) (K.written sink.old)
-        reading.old.number reading.old.start (tail_of reading.old)
-        → IsTold R.Takes R.Ends R.Finishes R.Fails first input old (S.left source.new)
-        (K.written sink.new) o) }
+    ensures ended { IfErr result (λ o. EndsSo R.Takes R.Ends R.Finishes R.Fails (R.Stands responder.old)
+        (S.left source.old) (S.left source.new) (K.written sink.old) (K.written sink.new) reading.old o) }
     ensures read_fault { result ≡ Err Outcome.ReadFault
         → Rose (S.faults source.old) (S.faults source.new) }
     ensures write_fault { result ≡ Err Outcome.WriteFault
@@ -73,21 +64,12 @@ fn read_more<R: Responder, S: Source, K: Sink>(
     requires place { IsPlaced reading.old }
     requires piece { length piece.old ≡ 65536 }
     requires unended { NoFeed (tail_of reading.old) }
-    ensures goes { OnOk result ((s first : R.State) (input old : Option (List ℕ))
-        → R.Stands responder.old s
-        → IsReached R.Takes first input old s (S.left source.old) (K.written sink.old)
-        reading.old.number reading.old.start (tail_of reading.old)
-        → (v : R.State) × R.Stands responder.new v
-        × IsReached R.Takes first input old v (S.left source.new) (K.written sink.new)
-        reading.new.number reading.new.start (tail_of reading.new)) }
+    ensures goes { OnOk result (GoesOn R.Takes (R.Stands responder.old) (R.Stands responder.new)
+        (S.left source.old) (S.left source.new) (K.written sink.old) (K.written sink.new) reading.old reading.new) }
     ensures placed { OnOk result (IsPlaced reading.new) }
     ensures less { OnOk result (turns_left reading.new + 1 ≤ turns_left reading.old) }
-    ensures ended { IfErr result (λ o. (s first : R.State) (input old : Option (List ℕ))
-        → R.Stands responder.old s
-        → IsReached R.Takes first input old s (S.left source.old) (K.written sink.old)
-        reading.old.number reading.old.start (tail_of reading.old)
-        → IsTold R.Takes R.Ends R.Finishes R.Fails first input old (S.left source.new)
-        (K.written sink.new) o) }
+    ensures ended { IfErr result (λ o. EndsSo R.Takes R.Ends R.Finishes R.Fails (R.Stands responder.old)
+        (S.left source.old) (S.left source.new) (K.written sink.old) (K.written sink.new) reading.old o) }
     ensures read_fault { result ≡ Err Outcome.ReadFault
         → Rose (S.faults source.old) (S.faults source.new) }
     ensures write_fault { result ≡ Err Outcome.WriteFault
@@ -112,21 +94,12 @@ fn turn<R: Responder, S: Source, K: Sink>(
 ) -> Result<(), Outcome<R::Ending>>
     requires place { IsPlaced reading.old }
     requires piece { length piece.old ≡ 65536 }
-    ensures goes { OnOk result ((s first : R.State) (input old : Option (List ℕ))
-        → R.Stands responder.old s
-        → IsReached R.Takes first input old s (S.left source.old) (K.written sink.old)
-        reading.old.number reading.old.start (tail_of reading.old)
-        → (v : R.State) × R.Stands responder.new v
-        × IsReached R.Takes first input old v (S.left source.new) (K.written sink.new)
-        reading.new.number reading.new.start (tail_of reading.new)) }
+    ensures goes { OnOk result (GoesOn R.Takes (R.Stands responder.old) (R.Stands responder.new)
+        (S.left source.old) (S.left source.new) (K.written sink.old) (K.written sink.new) reading.old reading.new) }
     ensures placed { OnOk result (IsPlaced reading.new) }
     ensures less { OnOk result (turns_left reading.new + 1 ≤ turns_left reading.old) }
-    ensures ended { IfErr result (λ o. (s first : R.State) (input old : Option (List ℕ))
-        → R.Stands responder.old s
-        → IsReached R.Takes first input old s (S.left source.old) (K.written sink.old)
-        reading.old.number reading.old.start (tail_of reading.old)
-        → IsTold R.Takes R.Ends R.Finishes R.Fails first input old (S.left source.new)
-        (K.written sink.new) o) }
+    ensures ended { IfErr result (λ o. EndsSo R.Takes R.Ends R.Finishes R.Fails (R.Stands responder.old)
+        (S.left source.old) (S.left source.new) (K.written sink.old) (K.written sink.new) reading.old o) }
     ensures read_fault { result ≡ Err Outcome.ReadFault
         → Rose (S.faults source.old) (S.faults source.new) }
     ensures write_fault { result ≡ Err Outcome.WriteFault
