@@ -39,7 +39,8 @@ use Rattle.st_part_laws.specs.Turns.{ComesFirst, SchemasComeFirst}
 use Rattle.st_part_laws.proofs.Chains.{last-has, last_or-append, line_after, line_begins}
 use Rattle.st_part_laws.proofs.Closed.{comes_first}
 use Rattle.st_part_laws.proofs.Schemas.{based, entries_carried, kept_carried}
-use Rattle.st_schema_laws.specs.AgreeingInEffect.{Told, last_schema}
+use Rattle.st_schema_laws.specs.AgreeingInEffect.{Told}
+use Rattle.st_edits.specs.InEffect.{last_in_effect}
 use Rattle.st_schema_laws.specs.Widening.{AreWidening, BecomesWider, IsTextOf, IsUpgrade, no_change, one_change}
 use Rattle.st_schema_laws.proofs.EditsInLine.{some_last}
 use Rattle.st_schema_laws.proofs.Widening.{type_becomes, widening_after, widening_begins}
@@ -53,12 +54,12 @@ use Rattle.st_conform_laws.proofs.WiderSchemas.{TakesMore, root_becomes}
 -- ## What follows from the line of schemas
 
 module _ (T : Told) (D : Document) (sound : IsSoundInForm D) (here : ConformsByNodes T D) where
-  pub last : last_of (revs D.schemas) ≡ Some (last_schema D)
+  pub last : last_of (revs D.schemas) ≡ Some (last_in_effect D)
   last = some_last (revs D.schemas) sound.in_effect.begun
 
   -- each schema in effect becomes the last
-  pub becomes_last : (r : Rev) → Has (revs D.schemas) r → BecomesWider (T.view r) (T.view (last_schema D))
-  becomes_last r h = here.widening.each (last_schema D) r (last-has (revs D.schemas) (last_schema D) last) (subst (λ rs. Has rs r) (here.line.last (last_schema D) last) h)
+  pub becomes_last : (r : Rev) → Has (revs D.schemas) r → BecomesWider (T.view r) (T.view (last_in_effect D))
+  becomes_last r h = here.widening.each (last_in_effect D) r (last-has (revs D.schemas) (last_in_effect D) last) (subst (λ rs. Has rs r) (here.line.last (last_in_effect D) last) h)
 
   -- each of the line of a schema in effect is in effect, and becomes it
   pub front_of : (u : Rev) → Has (revs D.schemas) u → (r : Rev) → Has (T.chain u) r → Has (revs D.schemas) r × BecomesWider (T.view r) (T.view u)
@@ -179,9 +180,9 @@ last_push : (rs : List Rev) (r : Rev) → unwrap_or (last_of (rs ++ r ∷ [])) o
 last_push rs r = ap (λ o. unwrap_or o opening) (last_or-append None rs r)
 
 abbrev KeptBy : Told → Document → Type 0
-KeptBy T F = NodesConform T (revs F.schemas) (T.view (last_schema F)) F
+KeptBy T F = NodesConform T (revs F.schemas) (T.view (last_in_effect F)) F
 
-kept_by : (T : Told) (D F : Document) → F.schemas ≡ D.schemas → NodesConform T (revs D.schemas) (T.view (last_schema D)) F → KeptBy T F
+kept_by : (T : Told) (D F : Document) → F.schemas ≡ D.schemas → NodesConform T (revs D.schemas) (T.view (last_in_effect D)) F → KeptBy T F
 kept_by T D F q k = subst (λ es. NodesConform T (revs es) (T.view (unwrap_or (last_of (revs es)) opening)) F) (sym q) k
 
 module _ (T : Told) (D : Document) (N : Intent) (s : IsSoundInForm D) (f : Fits D N) (a : KeepsWhereBased T D N) (here : ConformsByNodes T D) where
@@ -194,11 +195,11 @@ module _ (T : Told) (D : Document) (N : Intent) (s : IsSoundInForm D) (f : Fits 
 
   -- ### Carried out whole, whatever the verdict, as in a transaction
 
-  whole : IsBaseInEffect D N → KeepsTo T D N → NodesConform T (revs D.schemas) (T.view (last_schema D)) (full D N)
-  whole base k = full_conform T D N (revs D.schemas) (T.view (last_schema D)) s f here.nodes a.under a.homes (in_line base) (front_of T D s here N.under (in_line base)) (becomes_last T D s here N.under (in_line base)) k
+  whole : IsBaseInEffect D N → KeepsTo T D N → NodesConform T (revs D.schemas) (T.view (last_in_effect D)) (full D N)
+  whole base k = full_conform T D N (revs D.schemas) (T.view (last_in_effect D)) s f here.nodes a.under a.homes (in_line base) (front_of T D s here N.under (in_line base)) (becomes_last T D s here N.under (in_line base)) k
 
-  void_whole : IsBaseInEffect D N → KeepsTo T D N → NodesConform T (revs D.schemas) (T.view (last_schema D)) (void_data D N)
-  void_whole base k = void_conform T D N (revs D.schemas) (T.view (last_schema D)) s f here.nodes a.under a.homes (in_line base) (front_of T D s here N.under (in_line base)) (becomes_last T D s here N.under (in_line base)) k
+  void_whole : IsBaseInEffect D N → KeepsTo T D N → NodesConform T (revs D.schemas) (T.view (last_in_effect D)) (void_data D N)
+  void_whole base k = void_conform T D N (revs D.schemas) (T.view (last_in_effect D)) s f here.nodes a.under a.homes (in_line base) (front_of T D s here N.under (in_line base)) (becomes_last T D s here N.under (in_line base)) k
 
   pub conforms_edited : N.schema ≡ None → IsBaseInEffect D N → ConformsByNodes T (full D N)
   conforms_edited e base =
@@ -220,7 +221,7 @@ module _ (T : Told) (D : Document) (N : Intent) (s : IsSoundInForm D) (f : Fits 
 
   left : N.schema ≡ None → (IsBaseInEffect D N → ⊥) → KeptBy T (void D N)
   left e out = subst (KeptBy T) (sym (is_data e)) (kept_by T D (void_data D N) refl
-      (left_conform T D N (revs D.schemas) (T.view (last_schema D)) f here.nodes a.under (λ i. out (subst (λ o. HasBase D.schemas o N.under) (sym e) i))))
+      (left_conform T D N (revs D.schemas) (T.view (last_in_effect D)) f here.nodes a.under (λ i. out (subst (λ o. HasBase D.schemas o N.under) (sym e) i))))
 
   data_after : N.schema ≡ None → (v : Verdict) → IsVerdict D N v → KeptBy T (carried_document v D N)
   data_after e Verdict.Sound h = kept_by T D (full D N) (kept_carried D N e Verdict.Sound) (whole h.0 (a.keeps h.0 e))
@@ -234,10 +235,10 @@ module _ (T : Told) (D : Document) (N : Intent) (s : IsSoundInForm D) (f : Fits 
     changed : (text : List ℕ) → N.schema ≡ Some text → IsVerdict D N Verdict.Sound → KeptBy T (full D N)
     changed text e h =
         let upgrade : IsUpgrade (T.view N.under) (T.view N.rev) text = subst (λ o. IfSome o (IsUpgrade (T.view N.under) (T.view N.rev))) e (a.widens h.0) in
-        let old : last_schema D ≡ N.under = ap (λ o. unwrap_or o opening) (based D N text e h.0) in
-        let wide : BecomesWider (T.view (last_schema D)) (T.view N.rev) = subst (λ r. BecomesWider (T.view r) (T.view N.rev)) (sym old) (one_change no_change upgrade.sound upgrade.wide) in
+        let old : last_in_effect D ≡ N.under = ap (λ o. unwrap_or o opening) (based D N text e h.0) in
+        let wide : BecomesWider (T.view (last_in_effect D)) (T.view N.rev) = subst (λ r. BecomesWider (T.view r) (T.view N.rev)) (sym old) (one_change no_change upgrade.sound upgrade.wide) in
         let entries : revs (full D N).schemas ≡ revs D.schemas ++ N.rev ∷ [] = ap (λ o. revs (with_schema N o D.schemas)) e ∙ map-append (λ (e : SchemaEntry). e.rev) D.schemas (record { rev = N.rev; text = text } ∷ []) in
-        let k = conform_wider T (full D N) (revs D.schemas) N.rev (T.view (last_schema D)) (T.view N.rev) (carried_extends D N Verdict.Sound s f short h).after wide (becomes_last T D s here) comes (whole h.0 (change_keeps T D N f.itself (ap is_some e))) in
+        let k = conform_wider T (full D N) (revs D.schemas) N.rev (T.view (last_in_effect D)) (T.view N.rev) (carried_extends D N Verdict.Sound s f short h).after wide (becomes_last T D s here) comes (whole h.0 (change_keeps T D N f.itself (ap is_some e))) in
         subst (λ rs. NodesConform T rs (T.view (unwrap_or (last_of rs) opening)) (full D N)) (sym entries)
         (subst (λ r. NodesConform T (revs D.schemas ++ N.rev ∷ []) (T.view r) (full D N)) (sym (last_push (revs D.schemas) N.rev)) k)
       where
@@ -363,13 +364,13 @@ module _ (T : Told) (D : Document) (s : IsSoundInForm D) (made : IsMadeUnder (op
 -- ## The way back
 
 pub way_keeps : (T : Told) (D E : Document) (N B : Intent) (rev : Rev) → IsSoundInForm D → Fits D N → HasShortRows (full D N) → N.schema ≡ None → IsVerdict D N Verdict.Sound → KeepsWhereBased T D N → ConformsByNodes T D
-    → IsSoundInForm E → ConformsByNodes T E → ((r : Rev) → Has (revs D.schemas) r → Has (revs E.schemas) r) → IsBack D (full D N) rev (last_schema E) B → KeepsTo T (full D N) B
+    → IsSoundInForm E → ConformsByNodes T E → ((r : Rev) → Has (revs D.schemas) r → Has (revs E.schemas) r) → IsBack D (full D N) rev (last_in_effect E) B → KeepsTo T (full D N) B
 way_keeps T D E N B rev s f short no_change_of_schema h a here other there more b =
     let i : Has (revs D.schemas) N.under = in_line T D N s f a here h.0 in
     let x = carried_extends D N Verdict.Sound s f short h in
-    let mine : last_schema E ≡ B.under = sym b.rev_and_under.1 in
-    let old : Has (revs E.schemas) (last_schema D) = more (last_schema D) (last-has (revs D.schemas) (last_schema D) (last T D s here)) in
-    let wide : BecomesWider (T.view (last_schema D)) (T.view B.under) = subst (λ u. BecomesWider (T.view (last_schema D)) (T.view u)) mine (becomes_last T E other there (last_schema D) old) in
+    let mine : last_in_effect E ≡ B.under = sym b.rev_and_under.1 in
+    let old : Has (revs E.schemas) (last_in_effect D) = more (last_in_effect D) (last-has (revs D.schemas) (last_in_effect D) (last T D s here)) in
+    let wide : BecomesWider (T.view (last_in_effect D)) (T.view B.under) = subst (λ u. BecomesWider (T.view (last_in_effect D)) (T.view u)) mine (becomes_last T E other there (last_in_effect D) old) in
     let line : revs E.schemas ≡ T.chain B.under = there.line.last B.under (last T E other there ∙ ap (λ r. Some r) mine) in
-    back_keeps T D N (revs D.schemas) (T.view (last_schema D)) s f x here.nodes (whole T D N s f a here h.0 (a.keeps h.0 no_change_of_schema)) a.under i
-    (λ r j. (front_of T D s here N.under i r j).0) (becomes_last T D s here) (a.keeps h.0 no_change_of_schema) rev (last_schema E) B b wide (λ r j. subst (λ rs. Has rs r) line (more r j))
+    back_keeps T D N (revs D.schemas) (T.view (last_in_effect D)) s f x here.nodes (whole T D N s f a here h.0 (a.keeps h.0 no_change_of_schema)) a.under i
+    (λ r j. (front_of T D s here N.under i r j).0) (becomes_last T D s here) (a.keeps h.0 no_change_of_schema) rev (last_in_effect E) B b wide (λ r j. subst (λ rs. Has rs r) line (more r j))

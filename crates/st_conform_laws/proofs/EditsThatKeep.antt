@@ -38,7 +38,8 @@ use Rattle.st_schema_laws.proofs.Rules.{required_not_row}
 use Rattle.st_part_laws.specs.Parts.{part_by}
 use Rattle.st_part_laws.proofs.Chains.{last-has}
 use Rattle.st_part_laws.proofs.Parts.{part_sound}
-use Rattle.st_schema_laws.specs.AgreeingInEffect.{Told, last_schema}
+use Rattle.st_schema_laws.specs.AgreeingInEffect.{Told}
+use Rattle.st_edits.specs.InEffect.{last_in_effect}
 use Rattle.st_schema_laws.proofs.EditsInLine.{meant}
 use Rattle.st_schema_laws.proofs.NamesInParts.{IsFromPart}
 use Rattle.st_schema_laws.proofs.SchemasKept.{no_line, no_upgrade}
@@ -58,7 +59,7 @@ module _ (T : Told) (D : Document) (s : IsSoundInForm D) (here : ConformsByNodes
   P = part_by p D
 
   abbrev V : SchemaView
-  V = T.view (last_schema D)
+  V = T.view (last_in_effect D)
 
   -- the home of an old node is told where the home's node is live
   abbrev if_live : Option FieldId → Option FieldId
@@ -181,7 +182,7 @@ module _ (T : Told) (D : Document) (s : IsSoundInForm D) (here : ConformsByNodes
 
   module _ (G : NameCounters) (edit : Edit) (nodes : NodesFresh D G) (cells : CellsFresh D G) (told : T.under N.rev ≡ N.under) (tells : TellsHomes T.home N) (e : resolve D V G edit ≡ Ok N) where
     schema : is_sound V ≡ true
-    schema = here.widening.sound (last_schema D) (last-has (revs D.schemas) (last_schema D) (last T D s here))
+    schema = here.widening.sound (last_in_effect D) (last-has (revs D.schemas) (last_in_effect D) (last T D s here))
 
     whole : IsSoundInForm P
     whole = part_sound p D s (live_closed D s) (root_live D s)

@@ -31,7 +31,8 @@ use Rattle.st_schema_laws.proofs.ShownTree.{shown_conforms}
 use Rattle.st_part_laws.specs.Parts.{IsClosedBy, part_by}
 use Rattle.st_part_laws.proofs.Chains.{last-has}
 use Rattle.st_part_laws.proofs.Parts.{part_sound}
-use Rattle.st_schema_laws.specs.AgreeingInEffect.{Told, last_schema}
+use Rattle.st_schema_laws.specs.AgreeingInEffect.{Told}
+use Rattle.st_edits.specs.InEffect.{last_in_effect}
 use Rattle.st_schema_laws.proofs.Shown.{shows_same}
 use Rattle.st_schema_laws.proofs.Widening.{type_becomes}
 use Rattle.st_conform_laws.specs.Nodes.{ConformsByNodes, IsUnder, MayStandIn, StandsWell}
@@ -107,7 +108,7 @@ module _ (T : Told) (D : Document) (s : IsSoundInForm D) (here : ConformsByNodes
   P = part_by p D
 
   abbrev V : SchemaView
-  V = T.view (last_schema D)
+  V = T.view (last_in_effect D)
 
   abbrev home : NodeId → Option FieldId
   home m = register_in (D.place m)
@@ -227,5 +228,5 @@ module _ (T : Told) (D : Document) (s : IsSoundInForm D) (here : ConformsByNodes
 
   pub shown_allowed : (is_array : List ℕ → Bool) (d : Data) → ((ty : List ℕ) → is_array ty ≡ is_array_type V ty) → Shows is_array D root d → (t : Node) × (tree_data t ≡ d) × (conforms V V.root t ≡ true)
   shown_allowed is_array d tells shows =
-      shown_conforms V (here.widening.sound (last_schema D) (last-has (revs D.schemas) (last_schema D) (last T D s here))) home P (part_sound p D s (live_closed D s) (root_live D s)) part_conforms is_array tells d
+      shown_conforms V (here.widening.sound (last_in_effect D) (last-has (revs D.schemas) (last_in_effect D) (last T D s here))) home P (part_sound p D s (live_closed D s) (root_live D s)) part_conforms is_array tells d
       ((shows_same p D s (live_closed D s) is_array root d (root_live D s) (root_live D s)).0 shows)

@@ -32,7 +32,8 @@ use Rattle.st_log_laws.proofs.Shorter.{has_longer}
 use Rattle.st_schema_laws.specs.Agreeing.{put_register}
 use Rattle.st_schema_laws.specs.Conforming.{is_required_field, register_in}
 use Rattle.st_part_laws.specs.Chains.{TellsChain}
-use Rattle.st_schema_laws.specs.AgreeingInEffect.{Told, empty_schema}
+use Rattle.st_schema_laws.specs.AgreeingInEffect.{Told}
+use Rattle.st_edits.specs.InEffect.{empty_schema}
 use Rattle.st_schema_laws.proofs.Entries.{entries_from}
 use Rattle.st_schema_laws.proofs.Texts.{schema_text}
 use Rattle.st_conform_laws.specs.Keeping.{KeepsTo}

@@ -32,7 +32,8 @@ use Rattle.st_log_laws.specs.Names.{HaveNewRevisions, revisions}
 use Rattle.st_log_laws.specs.Turns.{FitInTurn, HasRoom}
 use Rattle.st_log_laws.proofs.Shorter.{new_shorter}
 use Rattle.st_schema_laws.specs.Conforming.{Admits, IsConforming, MayStand, register_in, row_key}
-use Rattle.st_schema_laws.specs.AgreeingInEffect.{Told, empty_schema, last_schema, schema_in_effect}
+use Rattle.st_schema_laws.specs.AgreeingInEffect.{Told}
+use Rattle.st_edits.specs.InEffect.{empty_schema, last_in_effect, schema_in_effect}
 use Rattle.st_schema_laws.specs.Widening.{IsTextOf, IsUpgrade}
 use Rattle.st_schema_laws.proofs.Texts.{schema_text}
 use Rattle.st_conform_laws.specs.Entries.{AreValidEntries, IsOpened, IsValidEntry, MayFollow, PassesSchema, no_entries, one_entry_more}
@@ -175,7 +176,7 @@ last_entry : (e : SchemaEntry) (es : List SchemaEntry) → (o : SchemaEntry) × 
 last_entry e [] = (e, refl, inl refl, refl)
 last_entry e (x ∷ es) = let o = last_entry x es in (o.0, o.1, inr o.2, o.3)
 
-pub read_as_told : (T : Told) (D : Document) → IsSoundInForm D → ConformsByNodes T D → schema_in_effect D ≡ T.view (last_schema D)
+pub read_as_told : (T : Told) (D : Document) → IsSoundInForm D → ConformsByNodes T D → schema_in_effect D ≡ T.view (last_in_effect D)
 read_as_told T D s here = go D.schemas s.in_effect.begun here.widening.written
   where
     go : (es : List SchemaEntry) → first_of (revs es) ≡ Some opening → ((e : SchemaEntry) → Has es e → IsTextOf (T.view e.rev) e.text)
@@ -227,5 +228,5 @@ module _ (s : SchemaView) (O : Document) (Ls : List Intent) (opened : IsOpened s
   entries_show D r is_array d tells shows =
       let here = entries_conform.1 D r in
       let s : IsSoundInForm D = (turn_extends opened.sound entries_conform.0 r).after in
-      let read : schema_in_effect D ≡ T.view (last_schema D) = read_as_told T D s here in
+      let read : schema_in_effect D ≡ T.view (last_in_effect D) = read_as_told T D s here in
       subst (λ v. (t : Node) × (tree_data t ≡ d) × (conforms v v.root t ≡ true)) (sym read) (shown_allowed T D s here is_array d (λ ty. tells ty ∙ ap (λ v. is_array_type v ty) read) shows)

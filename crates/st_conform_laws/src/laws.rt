@@ -39,7 +39,8 @@ ghost use Rattle.st_schema_laws.specs.Conforming.{IsConforming, register_in};
 ghost use Rattle.st_tree.specs.Node.{Node};
 ghost use Rattle.st_tree.specs.Preorder.{cell_named, node_named};
 ghost use Rattle.st_tree.specs.declared.edit.Edit.{Edit};
-ghost use Rattle.st_schema_laws.specs.AgreeingInEffect.{AgreesInLine, Told, last_schema, schema_in_effect};
+ghost use Rattle.st_schema_laws.specs.AgreeingInEffect.{AgreesInLine, Told};
+ghost use Rattle.st_edits.specs.InEffect.{last_in_effect, schema_in_effect};
 ghost use Rattle.st_schema_laws.specs.Widening.{BecomesWider, IsTextOf};
 
 /// The hardest step: a commit of data with moves between registers and rows, made under a schema
@@ -86,9 +87,9 @@ pub fn nodes_conform()
 pub fn shown_trees_are_allowed()
     ensures { (T : Told) (D : Document) (is_array : List ℕ → Bool) (d : Data) → IsSoundInForm D
         → ConformsByNodes T D → ((ty : List ℕ)
-        → is_array ty ≡ is_array_type (T.view (last_schema D)) ty) → Shows is_array D root d
+        → is_array ty ≡ is_array_type (T.view (last_in_effect D)) ty) → Shows is_array D root d
         → (t : Node) × (tree_data t ≡ d)
-        × (conforms (T.view (last_schema D)) (T.view (last_schema D)).root t ≡ true) }
+        × (conforms (T.view (last_in_effect D)) (T.view (last_in_effect D)).root t ≡ true) }
 {}
 
 /// What is in effect after a list of commits is in effect after each part of it that has the
@@ -140,7 +141,7 @@ pub fn edits_keep()
         → IsSoundInForm D → ConformsByNodes T D → Fits D N → ((k : ℕ) → G.nodes ≤ k
         → D.nodes (node_named G.rev k) ≡ None) → ((k : ℕ) → G.cells ≤ k
         → D.row_of (cell_named G.rev k) ≡ None) → T.under N.rev ≡ N.under → TellsHomes T.home N
-        → resolve D (T.view (last_schema D)) G edit ≡ Ok N → KeepsWhereBased T D N }
+        → resolve D (T.view (last_in_effect D)) G edit ≡ Ok N → KeepsWhereBased T D N }
 {}
 
 /// The way back over a sound commit of data, which kept to its schema in a document that conforms
@@ -151,7 +152,7 @@ pub fn ways_back_keep()
         → HasShortRows (full D N) → N.schema ≡ None → IsVerdict D N Verdict.Sound
         → KeepsWhereBased T D N → ConformsByNodes T D → IsSoundInForm E → ConformsByNodes T E
         → ((r : Rev) → Has (revs D.schemas) r → Has (revs E.schemas) r)
-        → IsBack D (full D N) rev (last_schema E) B → KeepsTo T (full D N) B }
+        → IsBack D (full D N) rev (last_in_effect E) B → KeepsTo T (full D N) B }
 {}
 
 /// Two parts of a commit that keep to their schema, the one after the other, keep to it as one

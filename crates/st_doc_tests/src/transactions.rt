@@ -2,7 +2,8 @@
 ghost use Rattle.std.specs.Prelude.{◌≡◌, Option, None, true, IfOk, OnOk};
 ghost use Rattle.st_marks.specs.Document.{IsSoundInForm};
 ghost use Rattle.st_doc.specs.Doc.{document_of};
-ghost use Rattle.st_heads.specs.Transactions.{with_open, HasOpen, IsOpen, IsSoundPart};
+ghost use Rattle.st_lists.specs.Open.{with_open, IsSoundPart};
+ghost use Rattle.st_heads.specs.Transactions.{HasOpen, IsOpen};
 
 use crate::given::{Case, Scene, part, shows};
 use crate::joining::Parts;

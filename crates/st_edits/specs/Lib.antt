@@ -3,3 +3,4 @@ pub mod Paths
 pub mod New
 pub mod Resolve
 pub mod Given
+pub mod InEffect

@@ -15,7 +15,8 @@ use Rattle.st_doc.specs.declared.doc.Doc.{Doc}
 use Rattle.st_doc.specs.Doc.{document_of}
 use Rattle.st_heads.specs.declared.heads.Head.{Head}
 use Rattle.st_join.proofs.JoinFits as fit
-use Rattle.st_heads.specs.Transactions.{with_open, FitsSoFar, HasOpen, IsOpen, IsSoundPart, IsWithPart}
+use Rattle.st_lists.specs.Open.{with_open, FitsSoFar, IsSoundPart, IsWithPart}
+use Rattle.st_heads.specs.Transactions.{HasOpen, IsOpen}
 use Rattle.st_heads.specs.inside.Parts.{CanFollow}
 
 -- a way up that leaves out some of the steps ends where the whole one does

@@ -14,7 +14,7 @@ use Rattle.st_marks.proofs.WayBack.{back_fits}
 use Rattle.st_lemmas.proofs.Bools.{true-false}
 use Rattle.st_log_laws.specs.Turns.{FitInTurn}
 use Rattle.st_log_laws.proofs.Turns.{front, has_run, rest, turn_extends}
-use Rattle.st_heads.specs.Undoing.{IsUndoing}
+use Rattle.st_lists.specs.Undoing.{IsUndoing}
 
 -- the way back fits where the commit was carried out, and the document after the whole list extends that one
 pub undoing_later : (O : Document) (Ns : List Intent) (rev fresh : Rev) (B : Intent) (E : Document) → IsSoundInForm O → FitInTurn O Ns → Run O Ns E → (u : IsUndoing O Ns rev fresh B)

@@ -9,8 +9,9 @@ use Rattle.st_marks.specs.Run.{Run, done, next}
 use Rattle.st_marks.specs.Verdict.{IsVerdict, carried_document}
 use Rattle.st_heads.specs.declared.ways.Carried.{Carried}
 use Rattle.st_heads.specs.declared.ways.Way.{Way}
-use Rattle.st_heads.specs.Remembered.{AreCarried, none, more, IsCarried, IsWayBack, is_void, no_way, intent_of_way}
-use Rattle.st_heads.specs.Undoing.{IsUndoing}
+use Rattle.st_heads.specs.Remembered.{AreCarried, none, more, IsCarried, IsWayBack, no_way, intent_of_way}
+use Rattle.st_lists.specs.Voids.{is_void}
+use Rattle.st_lists.specs.Undoing.{IsUndoing}
 
 pub run_of : {D E : Document} {Ns : List Intent} {ks : List Carried} → AreCarried D Ns ks E → Run D Ns E
 run_of none = done

@@ -1,5 +1,5 @@
 pub mod Heads
 pub mod Remembered
+pub mod Replicas
 pub mod Transactions
-pub mod Undoing
 pub mod inside

@@ -9,17 +9,11 @@ use Rattle.st_marks.specs.Document.{Document}
 use Rattle.st_marks.specs.Verdict.{IsVerdict, carried_document}
 use Rattle.st_heads.specs.declared.ways.Carried.{Carried}
 use Rattle.st_heads.specs.declared.ways.Way.{Way}
+use Rattle.st_lists.specs.Voids.{is_void}
 
 -- the intent that goes a way back, under a revision and a schema's revision
 abbrev pub intent_of_way : Way → Rev → Rev → Intent
 intent_of_way w rev under = record { rev = rev; under = under; new = []; groups = []; clear = w.clear; put = w.put; need = []; schema = None }
-
--- whether a verdict says that the commit is void
-abbrev pub is_void : Verdict → Bool
-is_void Verdict.Sound = false
-is_void (Verdict.Need n) = true
-is_void (Verdict.Cycle n) = true
-is_void (Verdict.Schema u) = true
 
 -- a way leads back from what a document becomes by an intent that is carried out whole, under whatever revisions
 abbrev pub IsWayBack : Document → Intent → Way → Type 0

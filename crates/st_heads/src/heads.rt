@@ -6,7 +6,8 @@ ghost use Rattle.st_marks.specs.Intent.{Fits};
 ghost use Rattle.st_marks.specs.Verdict.{IsVerdict, carried_document};
 ghost use Rattle.st_doc.specs.Doc.{document_of};
 ghost use Rattle.st_log_laws.specs.Turns.{FitInTurn};
-ghost use Rattle.st_heads.specs.Remembered.{AreCarried, is_void as is_void_by, no_way};
+ghost use Rattle.st_heads.specs.Remembered.{AreCarried, no_way};
+ghost use Rattle.st_lists.specs.Voids.{is_void as is_void_by};
 
 use crate::back::way_back;
 use crate::ways::{Carried, Way};

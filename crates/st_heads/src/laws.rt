@@ -18,8 +18,8 @@ ghost use Rattle.st_log_laws.specs.Turns.{FitInTurn};
 ghost use Rattle.st_heads.specs.declared.ways.Carried.{Carried};
 ghost use Rattle.st_heads.specs.declared.ways.Way.{Way};
 ghost use Rattle.st_heads.specs.Remembered.{AreCarried, intent_of_way};
-ghost use Rattle.st_heads.specs.Transactions.{FitsSoFar, IsSoundPart};
-ghost use Rattle.st_heads.specs.Undoing.{IsUndoing};
+ghost use Rattle.st_lists.specs.Open.{FitsSoFar, IsSoundPart};
+ghost use Rattle.st_lists.specs.Undoing.{IsUndoing};
 
 /// A remembered run is a run, and of each commit one thing is remembered. Two runs, one after the other, are one run of
 /// both lists, and a run of two lists joined is one of each.

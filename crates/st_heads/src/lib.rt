@@ -6,6 +6,7 @@ mod back;
 mod between;
 mod heads;
 mod laws;
+mod replica;
 mod transactions;
 mod ways;
 
@@ -15,4 +16,5 @@ pub use heads::{Head, carry_one};
 pub use laws::{
     edits_are_parts, remembered_runs, remembered_ways_undo, undoings_fit, ways_lead_back,
 };
+pub use replica::{Replica, commit_new, last_in_effect};
 pub use ways::{Carried, Way};

@@ -5,7 +5,8 @@ ghost use Rattle.st_marks.specs.CarryOut.{full};
 ghost use Rattle.st_marks.specs.Document.{Document, HasShortRows, IsSoundInForm};
 ghost use Rattle.st_marks.specs.Intent.{Fits};
 ghost use Rattle.st_doc.specs.Doc.{document_of};
-ghost use Rattle.st_heads.specs.Transactions.{with_open, HasOpen, IsOpen, IsSoundPart, IsWithPart};
+ghost use Rattle.st_lists.specs.Open.{with_open, IsSoundPart, IsWithPart};
+ghost use Rattle.st_heads.specs.Transactions.{HasOpen, IsOpen};
 ghost use Rattle.st_heads.specs.inside.Parts.{CanFollow};
 
 use crate::heads::Head;

@@ -29,7 +29,7 @@ use Rattle.st_schema_laws.proofs.Edits.{any_seen, any_verdict}
 use Rattle.st_schema_laws.proofs.Sound.{last_in_effect}
 use Rattle.st_schema_laws.proofs.TypedEdits.{any_typed}
 use Rattle.st_schema_laws.proofs.Typing.{full_typed}
-use Rattle.st_heads.specs.Transactions.{FitsSoFar, IsWithPart, with_open}
+use Rattle.st_lists.specs.Open.{FitsSoFar, IsWithPart, with_open}
 use Rattle.st_heads.specs.inside.Parts.{CanFollow}
 use Rattle.st_heads.proofs.Editing.{can_follow, fits_so_far, open_shows}
 use Rattle.st_line_laws.specs.Transaction.{AreEditedIn, no_more, one_more, IsMeantBy, tree_after_edits}

@@ -17,7 +17,7 @@ use Rattle.st_marks.proofs.OneVerdict.{carried_extends, one_run, run_then}
 use Rattle.st_schema_laws.proofs.Sound.{last_in_effect}
 use Rattle.st_log_laws.specs.Turns.{FitInTurn}
 use Rattle.st_log_laws.proofs.Turns.{front, rest, turn_extends}
-use Rattle.st_heads.specs.Undoing.{IsUndoing}
+use Rattle.st_lists.specs.Undoing.{IsUndoing}
 use Rattle.st_line_laws.proofs.BackSeen.{same_text, sound_after}
 
 -- of intents with revisions of their own, the one with the last one's revision is the last

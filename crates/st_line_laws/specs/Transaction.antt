@@ -11,7 +11,7 @@ use Rattle.st_marks.specs.Document.{Document, HasShortRows}
 use Rattle.st_edits.specs.Resolve.{resolve}
 use Rattle.st_edits.specs.declared.names.NameCounters.{NameCounters}
 use Rattle.st_schema_laws.specs.Edits.{tree_after_edit}
-use Rattle.st_heads.specs.Transactions.{IsWithPart, with_open}
+use Rattle.st_lists.specs.Open.{IsWithPart, with_open}
 
 -- the tree after some edits, one after the other
 abbrev pub tree_after_edits : List Edit → Data → Data

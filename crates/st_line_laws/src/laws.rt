@@ -19,8 +19,8 @@ ghost use Rattle.st_schema.specs.Schema.{SchemaView, is_sound};
 ghost use Rattle.st_schema_laws.specs.Edited.{TellsRows};
 ghost use Rattle.st_schema_laws.specs.Typed.{IsAsTyped};
 ghost use Rattle.st_log_laws.specs.Turns.{FitInTurn};
-ghost use Rattle.st_heads.specs.Transactions.{with_open};
-ghost use Rattle.st_heads.specs.Undoing.{IsUndoing};
+ghost use Rattle.st_lists.specs.Open.{with_open};
+ghost use Rattle.st_lists.specs.Undoing.{IsUndoing};
 ghost use Rattle.st_line_laws.specs.Transaction.{AreEditedIn, tree_after_edits};
 
 /// The way back from a document to an earlier one is sound where it comes directly, if it was made under a schema in

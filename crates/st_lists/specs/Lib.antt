@@ -5,3 +5,6 @@ pub mod Clients
 pub mod Lines
 pub mod Limits
 pub mod inside
+pub mod Open
+pub mod Undoing
+pub mod Voids

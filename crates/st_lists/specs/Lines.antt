@@ -1,6 +1,6 @@
 -- Lines of commits: a branch's own commits, and what they stand on.
 use Rattle.std.specs.Prelude.{◌≡◌, ◌⊎◌, ℕ, zero, suc, ◌+◌, ◌==◌, Bool, not, List, [], ◌∷◌, ◌++◌, take, filter, fold, map, Option, Some, None, option_and_then, option_map, if◌then◌else◌}
-use Rattle.std.specs.List.{find, flat_map, list_any}
+use Rattle.std.specs.List.{find, flat_map, list_any, position}
 use Rattle.st_ids.specs.Listing.{Has}
 use Rattle.st_log_laws.specs.Turns.{IsSublist}
 use Rattle.st_marks.specs.declared.intents.Intent.{Intent}
@@ -44,6 +44,10 @@ branch_line b = record { received = b.received; base = b.base; own = b.own; tran
 -- the branch of a number
 abbrev pub branch_of : Client → ℕ → Option Branch
 branch_of c k = find (λ (b : Branch). b.number == k) c.branches
+
+-- its place among them
+abbrev pub branch_place : ℕ → List Branch → Option ℕ
+branch_place k bs = position (λ (b : Branch). b.number == k) bs
 
 -- the line of a number: 0 is the main branch
 abbrev pub line_of : Client → ℕ → Option Line

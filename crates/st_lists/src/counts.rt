@@ -1,6 +1,7 @@
 //! How many names commits make.
 ghost use Rattle.std.specs.Prelude.{◌≡◌, ◌-◌, ◌^◌, min, length};
 ghost use Rattle.std.specs.List.{flat_map};
+ghost use Rattle.std.specs.Option.{option_map_or};
 ghost use Rattle.st_lists.specs.Log.{commits_by};
 ghost use Rattle.st_lists.specs.Names.{names_in, names_in_text, names_made};
 ghost use Rattle.st_lists.specs.inside.Own.{is_own_of};
@@ -37,6 +38,16 @@ pub fn names_in(intents: &[Intent]) -> u64
         count = count.saturating_add(made);
     }
     count
+}
+
+/// How many names were made in a transaction, by what was edited in it, or the greatest number if there are more.
+pub fn names_edited(joined: &Option<Intent>) -> u64
+    ensures { result ≡ min (option_map_or names_made joined.now 0) (2 ^ 64 - 1) }
+{
+    match joined {
+        None => 0,
+        Some(joined) => names_made(joined),
+    }
 }
 
 // Whether an entry is a commit of a session.

@@ -14,7 +14,7 @@ use Rattle.st_marks.specs.declared.verdicts.Verdict.{Verdict}
 use Rattle.st_marks.specs.Document.{Document}
 use Rattle.st_marks.specs.Intent.{IsIntent}
 use Rattle.st_marks.proofs.OneVerdict.{one_verdict}
-use Rattle.st_heads.specs.Remembered.{is_void}
+use Rattle.st_lists.specs.Voids.{is_void}
 use Rattle.st_script.specs.declared.answer.Answer.{Answer}
 use Rattle.st_script.specs.declared.answer.Answer.TheVariants as answer
 use Rattle.st_script.specs.declared.refusal.Refusal.{Refusal}
@@ -28,7 +28,8 @@ use Rattle.st_lists.specs.Limits.{limit_passed, names_limit_passed, own_limit_pa
 use Rattle.st_lists.specs.Lines.{Line, commits_of, has_children, main_line, with_base, with_commit_on, with_commits_on, with_transaction_on, without_branch}
 use Rattle.st_lists.specs.Log.{commit_of, floor}
 use Rattle.st_edits.specs.declared.names.NameCounters.{NameCounters}
-use Rattle.st_trace.specs.Branches.{AreVoid, IsMerged, IsRebased, drop_branch, fork, refusal_to_fork, refusal_to_merge, refusal_to_rebase}
+use Rattle.st_lists.specs.Voids.{AreVoid}
+use Rattle.st_trace.specs.Branches.{IsMerged, IsRebased, drop_branch, fork, refusal_to_fork, refusal_to_merge, refusal_to_rebase}
 use Rattle.st_trace.specs.Kept.{IsKept, Unless}
 use Rattle.st_trace.specs.Undo.{IsAfterUndo, IsUndone, IsUndoneAt, has_commit, has_rev, entry_number, refusal_of_rev, refusal_over}
 use Rattle.st_trace.specs.Upgrade.{change_of_schema, refusal_of_narrowing, refusal_to_upgrade, schemas_limit_passed, upgrade}

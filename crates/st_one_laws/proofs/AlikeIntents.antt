@@ -12,7 +12,7 @@ use Rattle.st_marks.specs.Join.{IsJoin, IsOldAnchor, put_unless_new, unless_clea
 use Rattle.st_marks.specs.CarryOut.{with_groups}
 use Rattle.st_marks.specs.Run.{Run}
 use Rattle.st_marks.proofs.OneVerdict.{one_run}
-use Rattle.st_heads.specs.Transactions.{IsWithPart}
+use Rattle.st_lists.specs.Open.{IsWithPart}
 use Rattle.st_lists.specs.Names.{names_in, names_made}
 use Rattle.st_same_laws.specs.Same.{SaysTheSame, SayTheSame}
 use Rattle.st_same_laws.proofs.JoinsAndWaysBack.{joins_say}

@@ -5,7 +5,7 @@ use Rattle.std.specs.Option.{option_or}
 use Rattle.st_ids.specs.declared.names.LimitOf.TheVariants.{Branch as BranchLimit, Branches, Log, Names, Pending, Unsequenced}
 use Rattle.st_marks.specs.declared.intents.Intent.{Intent}
 use Rattle.st_marks.specs.Document.{Document}
-use Rattle.st_heads.specs.Transactions.{with_open}
+use Rattle.st_lists.specs.Open.{with_open}
 use Rattle.st_lists.specs.declared.lists.Body.{Body}
 use Rattle.st_lists.specs.declared.lists.Body.TheVariants.{Join, Leave, Ack, Commit}
 use Rattle.st_lists.specs.declared.lists.Branch.{Branch}

@@ -5,7 +5,7 @@ use Rattle.st_marks.specs.Document.{Document}
 use Rattle.st_marks.specs.Intent.{IsIntent}
 use Rattle.st_marks.proofs.Members.{all-has}
 use Rattle.st_ids.specs.declared.names.Rev.{Rev}
-use Rattle.st_heads.specs.Transactions.{FitsSoFar}
+use Rattle.st_lists.specs.Open.{FitsSoFar}
 use Rattle.st_script.specs.Header.{HeaderView, header_view}
 use Rattle.st_lists.specs.declared.lists.Branch.{Branch}
 use Rattle.st_lists.specs.declared.lists.Client.{Client}

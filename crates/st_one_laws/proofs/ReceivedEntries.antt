@@ -9,8 +9,8 @@ use Rattle.st_ids.specs.declared.names.Rev.{Rev}
 use Rattle.st_marks.specs.Document.{Document}
 use Rattle.st_marks.specs.LiveTree.{IsTreeText}
 use Rattle.st_marks.specs.Run.{Run}
-use Rattle.st_heads.specs.Transactions.{with_open}
-use Rattle.st_schema_laws.specs.AgreeingInEffect.{schema_in_effect}
+use Rattle.st_lists.specs.Open.{with_open}
+use Rattle.st_edits.specs.InEffect.{schema_in_effect}
 use Rattle.st_script.specs.Steps.{ActView}
 use Rattle.st_script.specs.Steps as step
 use Rattle.st_script.specs.declared.answer.Answer.{Answer}
@@ -24,11 +24,13 @@ use Rattle.st_lists.specs.declared.lists.Branch.{Branch}
 use Rattle.st_lists.specs.declared.lists.Client.{Client}
 use Rattle.st_lists.specs.declared.lists.Entry.{Entry}
 use Rattle.st_lists.specs.declared.lists.Transaction.{Transaction}
-use Rattle.st_trace.specs.Branches.{AreVoid, IsMerged, IsRebased, refusal_to_merge, refusal_to_rebase}
+use Rattle.st_lists.specs.Voids.{AreVoid}
+use Rattle.st_trace.specs.Branches.{IsMerged, IsRebased, refusal_to_merge, refusal_to_rebase}
 use Rattle.st_trace.specs.Kept.{Unless}
 use Rattle.st_trace.specs.Undo.{IsAfterUndo, IsUndoneAt, has_commit, has_rev, refusal_of_rev}
 use Rattle.st_trace.specs.Upgrade.{change_of_schema, refusal_to_upgrade, upgrade}
-use Rattle.st_trace.specs.World.{HasShown, IsAfterEdit, IsAfterNeed, begin, intent_of, last_in_effect, next_names, word_of}
+use Rattle.st_trace.specs.World.{HasShown, IsAfterEdit, IsAfterNeed, begin, intent_of, next_names, word_of}
+use Rattle.st_edits.specs.InEffect.{last_in_effect}
 use Rattle.st_one_laws.specs.ClientActs.{IsClientAct, IsDoneOn, StandsOnReceived, WithBranch, WithParent}
 
 module _ (O : Document) (history : ℕ) (log : List Entry) (c : Client) (within : StandsOnReceived c) (d : Client) (a : Answer) where

@@ -47,7 +47,8 @@ use Rattle.st_part_laws.proofs.Parts.{has_row, part_one_row, part_sound, row_has
 use Rattle.st_part_laws.proofs.Schemas.{based, entries_carried, kept_carried}
 use Rattle.st_part_laws.proofs.Told.{same_part}
 use Rattle.st_part_laws.proofs.Within.{more_schemas}
-use Rattle.st_schema_laws.specs.AgreeingInEffect.{AgreeInTurn, AgreesInLine, ConformsInEffect, Told, last_schema}
+use Rattle.st_schema_laws.specs.AgreeingInEffect.{AgreeInTurn, AgreesInLine, ConformsInEffect, Told}
+use Rattle.st_edits.specs.InEffect.{last_in_effect}
 use Rattle.st_schema_laws.specs.Widening.{AreWidening, IsTextOf, IsUpgrade}
 use Rattle.st_schema_laws.proofs.EditsInLine.{some_last}
 use Rattle.st_schema_laws.proofs.Widening.{keeps_wider, type_becomes, widening_after, widening_begins}
@@ -148,7 +149,7 @@ module _ (T : Told) (D : Document) (N : Intent) (s : IsSoundInForm D) (f : Fits 
 
   -- ### In effect
 
-  last : last_of (revs D.schemas) ≡ Some (last_schema D)
+  last : last_of (revs D.schemas) ≡ Some (last_in_effect D)
   last = some_last (revs D.schemas) s.in_effect.begun
 
   module _ (in_effect : Has (revs D.schemas) N.under) where
@@ -162,15 +163,15 @@ module _ (T : Told) (D : Document) (N : Intent) (s : IsSoundInForm D) (f : Fits 
             let made : T.under n.0.rev ≡ r.0 = sym (same_rev-true r.0 (T.under n.0.rev) r.2) in
             type_becomes (here.widening.each N.under r.0 in_effect r.1) t.ty t.leaf (ap (λ u. type_fits (T.view u) t.ty t.leaf) (sym made) ∙ here.types n t h)
 
-    in_last : Has (T.chain (last_schema D)) N.under
-    in_last = subst (λ rs. Has rs N.under) (here.line.last (last_schema D) last) in_effect
+    in_last : Has (T.chain (last_in_effect D)) N.under
+    in_last = subst (λ rs. Has rs N.under) (here.line.last (last_in_effect D) last) in_effect
 
     -- it agrees with the last schema in the part in effect
-    pub keeps_in_effect : KeepsSchema (T.view (last_schema D)) T.home (part_in_effect T.under D) N
+    pub keeps_in_effect : KeepsSchema (T.view (last_in_effect D)) T.home (part_in_effect T.under D) N
     keeps_in_effect =
-        let wider = here.widening.each (last_schema D) N.under (last-has (revs D.schemas) (last_schema D) last) in_last in
+        let wider = here.widening.each (last_in_effect D) N.under (last-has (revs D.schemas) (last_in_effect D) last) in_last in
         keeps_there (is_of_schemas T.under (T.chain N.under)) (is_of_schemas T.under (revs D.schemas)) (more_schemas T.under (T.chain N.under) (revs D.schemas) (λ r i. here.line.each N.under r in_effect i))
-        D D (names_itself D) s s (T.view (last_schema D)) T.home N f
+        D D (names_itself D) s s (T.view (last_in_effect D)) T.home N f
         (keeps_wider wider T.home (part_of_schemas T.under (T.chain N.under) D) N line_types a.keeps)
 
   -- ### Carried out whole, whatever the verdict, as in a transaction
@@ -185,9 +186,9 @@ module _ (T : Told) (D : Document) (N : Intent) (s : IsSoundInForm D) (f : Fits 
     same_schemas : D.schemas ≡ (full D N).schemas
     same_schemas = sym (kept_carried D N data_only Verdict.Sound)
 
-    part_edited : IsConforming (T.view (last_schema D)) T.home (part_of_schemas T.under (revs D.schemas) (full D N))
-    part_edited = subst (IsConforming (T.view (last_schema D)) T.home) (sym (part_of_full (is_of_schemas T.under (revs D.schemas)) D N s here.closed of_root f within))
-        (carried_conforms (T.view (last_schema D)) T.home (part_in_effect T.under D) N (part_sound (is_of_schemas T.under (revs D.schemas)) D s here.closed of_root)
+    part_edited : IsConforming (T.view (last_in_effect D)) T.home (part_of_schemas T.under (revs D.schemas) (full D N))
+    part_edited = subst (IsConforming (T.view (last_in_effect D)) T.home) (sym (part_of_full (is_of_schemas T.under (revs D.schemas)) D N s here.closed of_root f within))
+        (carried_conforms (T.view (last_in_effect D)) T.home (part_in_effect T.under D) N (part_sound (is_of_schemas T.under (revs D.schemas)) D s here.closed of_root)
         (fits_part (is_of_schemas T.under (revs D.schemas)) D N s here.closed of_root f within) here.part (keeps_in_effect in_effect) Verdict.Sound)
 
     pub conforms_edited : ConformsInEffect T (full D N)
@@ -208,24 +209,24 @@ module _ (T : Told) (D : Document) (N : Intent) (s : IsSoundInForm D) (f : Fits 
         go None e = subst (λ o. HasBase D.schemas o N.under) e base
         go (Some text) e = last-has (revs D.schemas) N.under (based D N text e base)
 
-    carried_part : IsBaseInEffect D N → (v : Verdict) → IsVerdict D N v → IsConforming (T.view (last_schema D)) T.home (part_in_effect T.under (carried_document v D N))
+    carried_part : IsBaseInEffect D N → (v : Verdict) → IsVerdict D N v → IsConforming (T.view (last_in_effect D)) T.home (part_in_effect T.under (carried_document v D N))
     carried_part base v h =
-        subst (IsConforming (T.view (last_schema D)) T.home) (sym (carried_in_effect T.under T.chain D N s f short here.opened here.line a.names first here.closed base v h))
-        (carried_conforms (T.view (last_schema D)) T.home (part_in_effect T.under D) N
+        subst (IsConforming (T.view (last_in_effect D)) T.home) (sym (carried_in_effect T.under T.chain D N s f short here.opened here.line a.names first here.closed base v h))
+        (carried_conforms (T.view (last_in_effect D)) T.home (part_in_effect T.under D) N
         (part_sound (is_of_schemas T.under (revs D.schemas)) D s here.closed (root_in_effect T.under D s here.opened))
         (fits_in_effect T.under T.chain D N s f short here.opened here.line a.names first here.closed base) here.part (keeps_in_effect (in_line base)) v)
 
     -- ### Any commit
 
     abbrev KeptBy : Document → Type 0
-    KeptBy E = IsConforming (T.view (last_schema E)) T.home (part_in_effect T.under E)
+    KeptBy E = IsConforming (T.view (last_in_effect E)) T.home (part_in_effect T.under E)
 
-    same_last : N.schema ≡ None → (v : Verdict) → IsConforming (T.view (last_schema D)) T.home (part_in_effect T.under (carried_document v D N)) → KeptBy (carried_document v D N)
+    same_last : N.schema ≡ None → (v : Verdict) → IsConforming (T.view (last_in_effect D)) T.home (part_in_effect T.under (carried_document v D N)) → KeptBy (carried_document v D N)
     same_last e v k = subst (λ es. IsConforming (T.view (unwrap_or (last_of (revs es)) opening)) T.home (part_in_effect T.under (carried_document v D N))) (sym (kept_carried D N e v)) k
 
-    left : N.schema ≡ None → (Has (revs D.schemas) N.under → ⊥) → IsConforming (T.view (last_schema D)) T.home (part_in_effect T.under (void D N))
+    left : N.schema ≡ None → (Has (revs D.schemas) N.under → ⊥) → IsConforming (T.view (last_in_effect D)) T.home (part_in_effect T.under (void D N))
     left e out =
-        conforms_alike (T.view (last_schema D)) T.home (part_in_effect T.under D) (part_in_effect T.under (void D N))
+        conforms_alike (T.view (last_in_effect D)) T.home (part_in_effect T.under D) (part_in_effect T.under (void D N))
         (left_nodes T.under D N f a.under out) (left_places T.under D N f a.under out) (left_registers T.under D N f a.under out) (kept_carried D N e (Verdict.Schema N.under)) here.part
 
     data_after : N.schema ≡ None → (v : Verdict) → IsVerdict D N v → KeptBy (carried_document v D N)
@@ -240,8 +241,8 @@ module _ (T : Told) (D : Document) (N : Intent) (s : IsSoundInForm D) (f : Fits 
     change_after text e (Verdict.Schema u) h = subst KeptBy (ap (λ o. option_map_or (λ _. D) o (void_data D N)) (sym e)) here.part
     change_after text e Verdict.Sound h =
         let upgrade : IsUpgrade (T.view N.under) (T.view N.rev) text = subst (λ o. IfSome o (IsUpgrade (T.view N.under) (T.view N.rev))) e a.view in
-        let old : last_schema D ≡ N.under = ap (λ o. unwrap_or o opening) (based D N text e h.0) in
-        let now : last_schema (full D N) ≡ N.rev = ap (λ o. last_schema (record D { schemas = with_schema N o D.schemas })) e ∙ ap (λ rs. unwrap_or (last_of rs) opening) (map-append (λ (e : SchemaEntry). e.rev) D.schemas (record { rev = N.rev; text = text } ∷ [])) ∙ last_push (revs D.schemas) N.rev in
+        let old : last_in_effect D ≡ N.under = ap (λ o. unwrap_or o opening) (based D N text e h.0) in
+        let now : last_in_effect (full D N) ≡ N.rev = ap (λ o. last_in_effect (record D { schemas = with_schema N o D.schemas })) e ∙ ap (λ rs. unwrap_or (last_of rs) opening) (map-append (λ (e : SchemaEntry). e.rev) D.schemas (record { rev = N.rev; text = text } ∷ [])) ∙ last_push (revs D.schemas) N.rev in
         subst (λ r. IsConforming (T.view r) T.home (part_in_effect T.under (full D N))) (sym now)
         (conforms_wider (T.view N.under) (T.view N.rev) upgrade.sound upgrade.wide T.home (part_in_effect T.under (full D N))
         (subst (λ r. IsConforming (T.view r) T.home (part_in_effect T.under (full D N))) old (carried_part h.0 Verdict.Sound h)))
@@ -284,7 +285,7 @@ conforms_at_first T D s made one under chain sound written here = record {
   part = subst (λ r. IsConforming (T.view r) T.home (part_in_effect T.under D)) (sym last) (subst (IsConforming (T.view opening) T.home) (sym whole) (conforms_alike (T.view opening) T.home D (part_by (λ n. true) D) (λ n. refl) (λ n. refl) (λ f. refl) refl here));
 }
   where
-    last : last_schema D ≡ opening
+    last : last_in_effect D ≡ opening
     last = ap (λ rs. unwrap_or (last_of rs) opening) one
 
     of_opening : (n : NodeId) → IsSome (D.nodes n) → T.under n.0.rev ≡ opening

@@ -32,7 +32,8 @@ use Rattle.st_edits.proofs.NewFits.{NodesFresh}
 use Rattle.st_schema_laws.proofs.Homes.{tells_own}
 use Rattle.st_part_laws.proofs.Chains.{last-has}
 use Rattle.st_part_laws.proofs.Told.{told_chain, told_under}
-use Rattle.st_schema_laws.specs.AgreeingInEffect.{AgreesInLine, ConformsInEffect, Told, last_schema, with_commit, with_home}
+use Rattle.st_schema_laws.specs.AgreeingInEffect.{AgreesInLine, ConformsInEffect, Told, with_commit, with_home}
+use Rattle.st_edits.specs.InEffect.{last_in_effect}
 use Rattle.st_schema_laws.specs.Earlier.{schemas_made}
 use Rattle.st_schema_laws.specs.Lines.{IsLine}
 use Rattle.st_schema_laws.specs.Widening.{IsUpgrade}
@@ -67,11 +68,11 @@ module _ (T : Told) (O : Document) (Ns : List Intent) (l : IsLine T O Ns) where
       let x = has-map (λ (e : SchemaEntry). e.rev) D.schemas r h in
       subst (Has (revisions Ns ++ opening ∷ [])) x.2 ((made_in_run (opening ∷ []) l.fit run l.made).schemas x.0 x.1)
 
-  pub last_made : (D : Document) → Run O Ns D → Has (schemas_made (opening ∷ []) Ns) (last_schema D)
+  pub last_made : (D : Document) → Run O Ns D → Has (schemas_made (opening ∷ []) Ns) (last_in_effect D)
   last_made D run =
       let s = (turn_extends l.sound l.fit run).after in
-      made_longer (sublist_itself Ns) (revs O.schemas) (opening ∷ []) opening_entries (last_schema D)
-      (in_effect_made O D Ns (all_intents Ns O l.sound l.fit) run (last_schema D) (last-has (revs D.schemas) (last_schema D) (some_last (revs D.schemas) s.in_effect.begun)))
+      made_longer (sublist_itself Ns) (revs O.schemas) (opening ∷ []) opening_entries (last_in_effect D)
+      (in_effect_made O D Ns (all_intents Ns O l.sound l.fit) run (last_in_effect D) (last-has (revs D.schemas) (last_in_effect D) (some_last (revs D.schemas) s.in_effect.begun)))
 
   -- ## What is told of another commit
 
@@ -142,7 +143,7 @@ module _ (T : Told) (O : Document) (Ns : List Intent) (l : IsLine T O Ns) where
 -- ## Lines go on
 
 pub edit_goes_on : (T : Told) (O D : Document) (Ns : List Intent) (G : NameCounters) (edit : Edit) (N : Intent) → IsLine T O Ns → Run O Ns D → NodesFresh D G → CellsFresh D G → (Has (revisions Ns ++ opening ∷ []) N.rev → ⊥)
-    → FitInTurn O (Ns ++ N ∷ []) → resolve D (T.view (last_schema D)) G edit ≡ Ok N → IsLine (with_home (with_commit T N (T.view N.under)) N) O (Ns ++ N ∷ [])
+    → FitInTurn O (Ns ++ N ∷ []) → resolve D (T.view (last_in_effect D)) G edit ≡ Ok N → IsLine (with_home (with_commit T N (T.view N.under)) N) O (Ns ++ N ∷ [])
 edit_goes_on T O D Ns G edit N l run nodes cells fresh f e =
     line_more U O Ns told N fresh D run f (subst (Has (schemas_made (opening ∷ []) Ns)) (sym m.under) (last_made T O Ns l D run))
     (edit_agrees U D s (line_after_conforms U O Ns told D run) G nodes cells edit N (tells_own T.home N) (told_under T.under N) (ap (λ v. resolve D v G edit) same_view ∙ e))
@@ -153,20 +154,20 @@ edit_goes_on T O D Ns G edit N l run nodes cells fresh f e =
     s : IsSoundInForm D
     s = (turn_extends l.sound l.fit run).after
 
-    last : Has (revs D.schemas) (last_schema D)
-    last = last-has (revs D.schemas) (last_schema D) (some_last (revs D.schemas) s.in_effect.begun)
+    last : Has (revs D.schemas) (last_in_effect D)
+    last = last-has (revs D.schemas) (last_in_effect D) (some_last (revs D.schemas) s.in_effect.begun)
 
     m : IsFromPart (λ n. true) D G N
-    m = meant D (T.view (last_schema D)) G edit N s ((line_after_conforms T O Ns l D run).widening.sound (last_schema D) last) nodes cells e
+    m = meant D (T.view (last_in_effect D)) G edit N s ((line_after_conforms T O Ns l D run).widening.sound (last_in_effect D) last) nodes cells e
 
     told : IsLine U O Ns
     told = line_at_home (with_commit T N (T.view N.under)) O Ns (line_told T O Ns l N fresh (T.view N.under)) N fresh (rest (N ∷ []) run f).0.itself
 
-    same_view : U.view (last_schema D) ≡ T.view (last_schema D)
-    same_view = other_view T N (T.view N.under) (last_schema D) (λ q. fresh (subst (Has (revisions Ns ++ opening ∷ [])) q (entry_among T O Ns l D run (last_schema D) last)))
+    same_view : U.view (last_in_effect D) ≡ T.view (last_in_effect D)
+    same_view = other_view T N (T.view N.under) (last_in_effect D) (λ q. fresh (subst (Has (revisions Ns ++ opening ∷ [])) q (entry_among T O Ns l D run (last_in_effect D) last)))
 
 pub upgrade_goes_on : (T : Told) (O D : Document) (Ns : List Intent) (N : Intent) (new : SchemaView) → IsLine T O Ns → Run O Ns D → (Has (revisions Ns ++ opening ∷ []) N.rev → ⊥)
-    → FitInTurn O (Ns ++ N ∷ []) → N.under ≡ last_schema D → IsSome N.schema → IfSome N.schema (IsUpgrade (T.view N.under) new) → IsLine (with_commit T N new) O (Ns ++ N ∷ [])
+    → FitInTurn O (Ns ++ N ∷ []) → N.under ≡ last_in_effect D → IsSome N.schema → IfSome N.schema (IsUpgrade (T.view N.under) new) → IsLine (with_commit T N new) O (Ns ++ N ∷ [])
 upgrade_goes_on T O D Ns N new l run fresh f base change upgrade =
     line_more (with_commit T N new) O Ns (line_told T O Ns l N fresh new) N fresh D run f (subst (Has (schemas_made (opening ∷ []) Ns)) (sym base) (last_made T O Ns l D run))
     (change_agrees (with_commit T N new) D N (rest (N ∷ []) run f).0.itself change (told_under T.under N) (told_chain T.chain N other) (own_upgrade T N new other upgrade))
@@ -199,10 +200,10 @@ line_front T O As Bs l = record {
 }
 
 pub undo_goes_on : (T : Told) (O D E : Document) (As Bs : List Intent) (M B : Intent) (rev : Rev) → IsLine T O (As ++ M ∷ Bs) → Run O As D → Run D (M ∷ Bs) E → (Has (revisions (As ++ M ∷ Bs) ++ opening ∷ []) B.rev → ⊥)
-    → FitInTurn O ((As ++ M ∷ Bs) ++ B ∷ []) → M.schema ≡ None → IsVerdict D M Verdict.Sound → IsBack D (full D M) rev (last_schema E) B → IsLine (with_commit T B (T.view B.under)) O ((As ++ M ∷ Bs) ++ B ∷ [])
+    → FitInTurn O ((As ++ M ∷ Bs) ++ B ∷ []) → M.schema ≡ None → IsVerdict D M Verdict.Sound → IsBack D (full D M) rev (last_in_effect E) B → IsLine (with_commit T B (T.view B.under)) O ((As ++ M ∷ Bs) ++ B ∷ [])
 undo_goes_on T O D E As Bs M B rev l run on fresh f data_only sound b =
     line_more U O (As ++ M ∷ Bs) told B fresh E whole f (subst (Has (schemas_made (opening ∷ []) (As ++ M ∷ Bs))) (sym b.rev_and_under.1) (last_made T O (As ++ M ∷ Bs) l E whole))
-    (agrees_later U (full D M) E B (later on) extends.after s (back_fits D (full D M) extends rev (last_schema E) B b) (rest (B ∷ []) whole f).0 way)
+    (agrees_later U (full D M) E B (later on) extends.after s (back_fits D (full D M) extends rev (last_in_effect E) B b) (rest (B ∷ []) whole f).0 way)
   where
     U : Told
     U = with_commit T B (T.view B.under)
@@ -234,6 +235,6 @@ undo_goes_on T O D E As Bs M B rev l run on fresh f data_only sound b =
         (ap U.under (sym b.rev_and_under.0) ∙ told_under T.under B ∙ b.rev_and_under.1) b
 
 -- a commit that was told before, as that of a transaction
-pub commit_goes_on : (T : Told) (O D : Document) (Ns : List Intent) (N : Intent) → IsLine T O Ns → Run O Ns D → (Has (revisions Ns ++ opening ∷ []) N.rev → ⊥) → FitInTurn O (Ns ++ N ∷ []) → N.under ≡ last_schema D → AgreesInLine T D N
+pub commit_goes_on : (T : Told) (O D : Document) (Ns : List Intent) (N : Intent) → IsLine T O Ns → Run O Ns D → (Has (revisions Ns ++ opening ∷ []) N.rev → ⊥) → FitInTurn O (Ns ++ N ∷ []) → N.under ≡ last_in_effect D → AgreesInLine T D N
     → IsLine T O (Ns ++ N ∷ [])
 commit_goes_on T O D Ns N l run fresh f base a = line_more T O Ns l N fresh D run f (subst (Has (schemas_made (opening ∷ []) Ns)) (sym base) (last_made T O Ns l D run)) a

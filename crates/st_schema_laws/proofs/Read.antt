@@ -8,14 +8,15 @@ use Rattle.st_schema.specs.Reading.{schema_of_text}
 use Rattle.st_schema.specs.Schema.{SchemaView}
 use Rattle.st_marks.specs.declared.schemas.SchemaEntry.{SchemaEntry}
 use Rattle.st_marks.specs.Document.{Document, IsSoundInForm, first_of, last_of, revs}
-use Rattle.st_schema_laws.specs.AgreeingInEffect.{ConformsInEffect, Told, empty_schema, last_schema, schema_in_effect}
+use Rattle.st_schema_laws.specs.AgreeingInEffect.{ConformsInEffect, Told}
+use Rattle.st_edits.specs.InEffect.{empty_schema, last_in_effect, schema_in_effect}
 use Rattle.st_schema_laws.specs.Widening.{IsTextOf}
 
 last_entry : (e : SchemaEntry) (es : List SchemaEntry) → (o : SchemaEntry) × (last_or (Some e) es ≡ Some o) × Has (e ∷ es) o × (last_or (Some e.rev) (revs es) ≡ Some o.rev)
 last_entry e [] = (e, refl, inl refl, refl)
 last_entry e (x ∷ es) = let o = last_entry x es in (o.0, o.1, inr o.2, o.3)
 
-pub read_as_told : (T : Told) (D : Document) → IsSoundInForm D → ConformsInEffect T D → schema_in_effect D ≡ T.view (last_schema D)
+pub read_as_told : (T : Told) (D : Document) → IsSoundInForm D → ConformsInEffect T D → schema_in_effect D ≡ T.view (last_in_effect D)
 read_as_told T D s here = go D.schemas s.in_effect.begun here.widening.written
   where
     go : (es : List SchemaEntry) → first_of (revs es) ≡ Some opening → ((e : SchemaEntry) → Has es e → IsTextOf (T.view e.rev) e.text)

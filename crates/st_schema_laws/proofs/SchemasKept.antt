@@ -35,7 +35,8 @@ use Rattle.st_part_laws.proofs.Chains.{last-has}
 use Rattle.st_part_laws.proofs.Closed.{root_in_effect}
 use Rattle.st_part_laws.proofs.Joins.{join_within}
 use Rattle.st_part_laws.proofs.Parts.{part_sound}
-use Rattle.st_schema_laws.specs.AgreeingInEffect.{AgreesInLine, ConformsInEffect, Told, last_schema}
+use Rattle.st_schema_laws.specs.AgreeingInEffect.{AgreesInLine, ConformsInEffect, Told}
+use Rattle.st_edits.specs.InEffect.{last_in_effect}
 use Rattle.st_schema_laws.specs.Widening.{IsUpgrade}
 use Rattle.st_schema_laws.proofs.EditsInLine.{meant, names_in_line, some_last}
 use Rattle.st_schema_laws.proofs.EditsInParts.{resolves_in_effect}
@@ -54,17 +55,17 @@ module _ (T : Told) (D : Document) (s : IsSoundInForm D) (here : ConformsInEffec
   of_root : p root ≡ true
   of_root = root_in_effect T.under D s here.opened
 
-  last : last_of (revs D.schemas) ≡ Some (last_schema D)
+  last : last_of (revs D.schemas) ≡ Some (last_in_effect D)
   last = some_last (revs D.schemas) s.in_effect.begun
 
   -- the schemas in effect are the last one's line
-  pub whole_line : (u : Rev) → u ≡ last_schema D → revs D.schemas ≡ T.chain u
+  pub whole_line : (u : Rev) → u ≡ last_in_effect D → revs D.schemas ≡ T.chain u
   whole_line u e = here.line.last u (last ∙ ap (λ r. Some r) (sym e))
 
-  pub shown_allowed : (is_array : List ℕ → Bool) (d : Data) → ((ty : List ℕ) → is_array ty ≡ is_array_type (T.view (last_schema D)) ty) → Shows is_array D root d
-      → (t : Node) × (tree_data t ≡ d) × (conforms (T.view (last_schema D)) (T.view (last_schema D)).root t ≡ true)
+  pub shown_allowed : (is_array : List ℕ → Bool) (d : Data) → ((ty : List ℕ) → is_array ty ≡ is_array_type (T.view (last_in_effect D)) ty) → Shows is_array D root d
+      → (t : Node) × (tree_data t ≡ d) × (conforms (T.view (last_in_effect D)) (T.view (last_in_effect D)).root t ≡ true)
   shown_allowed is_array d tells shows =
-      shown_conforms (T.view (last_schema D)) (here.widening.sound (last_schema D) (last-has (revs D.schemas) (last_schema D) last)) T.home (part_in_effect T.under D) (part_sound p D s here.closed of_root) here.part is_array tells d
+      shown_conforms (T.view (last_in_effect D)) (here.widening.sound (last_in_effect D) (last-has (revs D.schemas) (last_in_effect D) last)) T.home (part_in_effect T.under D) (part_sound p D s here.closed of_root) here.part is_array tells d
       ((shows_in_effect is_array T.under D d s here.closed here.opened).0 shows)
 
   -- ## Edits
@@ -80,24 +81,24 @@ module _ (T : Told) (D : Document) (s : IsSoundInForm D) (here : ConformsInEffec
     cells_fresh : CellsFresh (part_by p D) G
     cells_fresh k low = rw (cells k low) refl
 
-    pub edit_agrees : (edit : Edit) (N : Intent) → TellsHomes T.home N → T.under N.rev ≡ N.under → resolve D (T.view (last_schema D)) G edit ≡ Ok N → AgreesInLine T D N
+    pub edit_agrees : (edit : Edit) (N : Intent) → TellsHomes T.home N → T.under N.rev ≡ N.under → resolve D (T.view (last_in_effect D)) G edit ≡ Ok N → AgreesInLine T D N
     edit_agrees edit N own told e =
-        let sound = here.widening.sound (last_schema D) (last-has (revs D.schemas) (last_schema D) last) in
-        let m = meant D (T.view (last_schema D)) G edit N s sound nodes cells e in
-        let k = resolved_agrees (T.view (last_schema D)) T.home (part_in_effect T.under D) G N (part_sound p D s here.closed of_root) sound here.part nodes_fresh cells_fresh own edit
-        (resolves_in_effect T.under D (T.view (last_schema D)) G edit s here.closed here.opened ∙ e) in
+        let sound = here.widening.sound (last_in_effect D) (last-has (revs D.schemas) (last_in_effect D) last) in
+        let m = meant D (T.view (last_in_effect D)) G edit N s sound nodes cells e in
+        let k = resolved_agrees (T.view (last_in_effect D)) T.home (part_in_effect T.under D) G N (part_sound p D s here.closed of_root) sound here.part nodes_fresh cells_fresh own edit
+        (resolves_in_effect T.under D (T.view (last_in_effect D)) G edit s here.closed here.opened ∙ e) in
         record {
           under = told;
           chain = no_line T N m.no_schema;
           view = no_upgrade T N m.no_schema;
-          names = names_in_line T.under T.chain D (T.view (last_schema D)) G edit N s sound here.closed here.opened here.line nodes cells told e;
+          names = names_in_line T.under T.chain D (T.view (last_in_effect D)) G edit N s sound here.closed here.opened here.line nodes cells told e;
           keeps = subst (λ rs. KeepsSchema (T.view N.under) T.home (part_of_schemas T.under rs D) N) (whole_line N.under m.under)
               (subst (λ u. KeepsSchema (T.view u) T.home (part_in_effect T.under D) N) (sym m.under) k);
         }
 
   -- ## Joins
 
-  module _ (N M J : Intent) (after : IsSoundInForm (full D N)) (parts : AreParts D N M) (join : IsJoin N M J) (a : AgreesInLine T D N) (b : AgreesInLine T (full D N) M) (base : N.under ≡ last_schema D) where
+  module _ (N M J : Intent) (after : IsSoundInForm (full D N)) (parts : AreParts D N M) (join : IsJoin N M J) (a : AgreesInLine T D N) (b : AgreesInLine T (full D N) M) (base : N.under ≡ last_in_effect D) where
     line : revs D.schemas ≡ T.chain N.under
     line = whole_line N.under base
 

@@ -27,7 +27,8 @@ use Rattle.st_part_laws.proofs.Chains.{last-has}
 use Rattle.st_part_laws.proofs.Parts.{part_sound}
 use Rattle.st_part_laws.proofs.Closed.{root_in_effect}
 use Rattle.st_part_laws.proofs.Told.{other_line, other_under, told_closed, told_entries, told_others, told_part, told_within}
-use Rattle.st_schema_laws.specs.AgreeingInEffect.{AgreeInTurn, AgreesInLine, ConformsInEffect, Told, last_schema, with_commit, with_home}
+use Rattle.st_schema_laws.specs.AgreeingInEffect.{AgreeInTurn, AgreesInLine, ConformsInEffect, Told, with_commit, with_home}
+use Rattle.st_edits.specs.InEffect.{last_in_effect}
 use Rattle.st_schema_laws.specs.Widening.{BecomesWider, IsTextOf, IsUpgrade}
 use Rattle.st_schema_laws.proofs.EditsInLine.{some_last}
 
@@ -121,8 +122,8 @@ module _ (T : Told) (N : Intent) (new : SchemaView) where
       widening = record { written = written_told; sound = λ r h. ap is_sound (other_view r (entry_other r h)) ∙ here.widening.sound r h; each = widening_told };
       types = types_told;
       closed = told_closed T.under N (revs D.schemas) ss D s made fresh here.closed;
-      part = subst (λ E. IsConforming (U.view (last_schema D)) T.home E) (sym (told_part T.under N (revs D.schemas) ss D s made fresh))
-          (subst (λ v. IsConforming v T.home (part_in_effect T.under D)) (sym (other_view (last_schema D) (entry_other (last_schema D) (last-has (revs D.schemas) (last_schema D) (some_last (revs D.schemas) s.in_effect.begun))))) here.part);
+      part = subst (λ E. IsConforming (U.view (last_in_effect D)) T.home E) (sym (told_part T.under N (revs D.schemas) ss D s made fresh))
+          (subst (λ v. IsConforming v T.home (part_in_effect T.under D)) (sym (other_view (last_in_effect D) (entry_other (last_in_effect D) (last-has (revs D.schemas) (last_in_effect D) (some_last (revs D.schemas) s.in_effect.begun))))) here.part);
     }
 
 -- ## A commit's homes
@@ -144,7 +145,7 @@ module _ (T : Told) (N : Intent) where
     widening = here.widening;
     types = here.types;
     closed = here.closed;
-    part = document_keeps (T.view (last_schema D)) T.home (part_in_effect T.under D) N
+    part = document_keeps (T.view (last_in_effect D)) T.home (part_in_effect T.under D) N
         (part_sound (is_of_schemas T.under (revs D.schemas)) D s here.closed (root_in_effect T.under D s here.opened)) (λ n i. nor_in_part n (absent n i) (is_of_schemas T.under (revs D.schemas) n)) here.part;
   }
     where

@@ -28,7 +28,8 @@ use Rattle.st_schema_laws.proofs.Alike.{same_below}
 use Rattle.st_schema_laws.proofs.Removed.{no_groups}
 use Rattle.st_schema_laws.proofs.Rows.{owners_same}
 use Rattle.st_part_laws.specs.Parts.{part_in_effect}
-use Rattle.st_schema_laws.specs.AgreeingInEffect.{ConformsInEffect, Told, last_schema}
+use Rattle.st_schema_laws.specs.AgreeingInEffect.{ConformsInEffect, Told}
+use Rattle.st_edits.specs.InEffect.{last_in_effect}
 use Rattle.st_schema_laws.proofs.Shown.{shows_in_effect}
 
 -- ## A change of schema, which has nothing else
@@ -124,11 +125,11 @@ module _ (old new : SchemaView) (wide : wider_of old new ≡ Ok tt) where
 
 -- ## The tree that is shown
 
-pub upgrade_seen : (T : Told) (D : Document) (N : Intent) (new : SchemaView) (is_array is_array_then : List ℕ → Bool) (d : Data) → IsSoundInForm D → ConformsInEffect T D → IsIntent N → IsSome N.schema → wider_of (T.view (last_schema D)) new ≡ Ok tt
-    → ((ty : List ℕ) → is_array ty ≡ is_array_type (T.view (last_schema D)) ty) → ((ty : List ℕ) → is_array_then ty ≡ is_array_type new ty) → Shows is_array D root d → Shows is_array_then (full D N) root d
+pub upgrade_seen : (T : Told) (D : Document) (N : Intent) (new : SchemaView) (is_array is_array_then : List ℕ → Bool) (d : Data) → IsSoundInForm D → ConformsInEffect T D → IsIntent N → IsSome N.schema → wider_of (T.view (last_in_effect D)) new ≡ Ok tt
+    → ((ty : List ℕ) → is_array ty ≡ is_array_type (T.view (last_in_effect D)) ty) → ((ty : List ℕ) → is_array_then ty ≡ is_array_type new ty) → Shows is_array D root d → Shows is_array_then (full D N) root d
 upgrade_seen T D N new is_array is_array_then d s here itself change wide tells tells_then shows =
     let in_part = (shows_in_effect is_array T.under D d s here.closed here.opened).0 shows in
-    let then = shown_then (T.view (last_schema D)) new wide is_array is_array_then tells tells_then (part_in_effect T.under D) here.part.types in_part in
+    let then = shown_then (T.view (last_in_effect D)) new wide is_array is_array_then tells tells_then (part_in_effect T.under D) here.part.types in_part in
     let whole = (shows_in_effect is_array_then T.under D d s here.closed here.opened).1 then in
     subst (λ N. Shows is_array_then (full D N) root d) (is_bare N itself change)
     (same_below is_array_then D (full D (bare N.rev N.under N.schema)) s root d (λ x known w. bare_alike D N.rev N.under N.schema x) whole)

@@ -29,7 +29,8 @@ use Rattle.st_part_laws.proofs.Schemas.{kept_carried}
 use Rattle.st_part_laws.proofs.Voiding.{verdict_part}
 use Rattle.st_part_laws.proofs.Ways.{back_in_part, way_within}
 use Rattle.st_part_laws.proofs.Within.{more_schemas, more_within}
-use Rattle.st_schema_laws.specs.AgreeingInEffect.{AgreesInLine, ConformsInEffect, Told, last_schema}
+use Rattle.st_schema_laws.specs.AgreeingInEffect.{AgreesInLine, ConformsInEffect, Told}
+use Rattle.st_edits.specs.InEffect.{last_in_effect}
 use Rattle.st_schema_laws.proofs.Conformity.{conforms_after, keeps_there}
 use Rattle.st_schema_laws.proofs.EditsInLine.{some_last}
 use Rattle.st_schema_laws.proofs.SchemasKept.{no_line, no_upgrade, whole_line}
@@ -70,31 +71,31 @@ module _ (T : Told) (D : Document) (N : Intent) (s : IsSoundInForm D) (f : Fits 
       (carried_extends (part_by p D) N Verdict.Sound (part_sound p D s here.closed of_root) (fits_part p D N s here.closed of_root f within)
       (subst HasShortRows in_part sound_then.short) (verdict_part p D N s here.closed of_root f within Verdict.Sound sound))
 
-  conforms_then : IsConforming (T.view (last_schema D)) T.home (part_by p (full D N))
+  conforms_then : IsConforming (T.view (last_in_effect D)) T.home (part_by p (full D N))
   conforms_then = subst (λ es. IsConforming (T.view (unwrap_or (last_of (revs es)) opening)) T.home (part_of_schemas T.under (revs es) (full D N))) (kept_carried D N data_only Verdict.Sound)
       (conforms_after T D N s f a here short first Verdict.Sound sound).part
 
-  module _ (E : Document) (other : IsSoundInForm E) (there : ConformsInEffect T E) (more : (r : Rev) → Has (revs D.schemas) r → Has (revs E.schemas) r) (rev : Rev) (B : Intent) (told : T.under rev ≡ last_schema E) (b : IsBack D (full D N) rev (last_schema E) B) where
+  module _ (E : Document) (other : IsSoundInForm E) (there : ConformsInEffect T E) (more : (r : Rev) → Has (revs D.schemas) r → Has (revs E.schemas) r) (rev : Rev) (B : Intent) (told : T.under rev ≡ last_in_effect E) (b : IsBack D (full D N) rev (last_in_effect E) B) where
     abbrev q : NodeId → Bool
     q = is_of_schemas T.under (revs E.schemas)
 
     named : NamesWithin p (full D N) B
-    named = way_within p D N extends here.closed f within rev (last_schema E) B b
+    named = way_within p D N extends here.closed f within rev (last_in_effect E) B b
 
     line : revs E.schemas ≡ T.chain B.under
     line = whole_line T E other there B.under b.rev_and_under.1
 
-    old_in : Has (T.chain (last_schema E)) (last_schema D)
-    old_in = subst (λ rs. Has rs (last_schema D)) (whole_line T E other there (last_schema E) refl) (more (last_schema D) (last-has (revs D.schemas) (last_schema D) (some_last (revs D.schemas) s.in_effect.begun)))
+    old_in : Has (T.chain (last_in_effect E)) (last_in_effect D)
+    old_in = subst (λ rs. Has rs (last_in_effect D)) (whole_line T E other there (last_in_effect E) refl) (more (last_in_effect D) (last-has (revs D.schemas) (last_in_effect D) (some_last (revs D.schemas) s.in_effect.begun)))
 
-    keeps_part : KeepsSchema (T.view (last_schema E)) T.home (part_by p (full D N)) B
+    keeps_part : KeepsSchema (T.view (last_in_effect E)) T.home (part_by p (full D N)) B
     keeps_part =
-        keeps_wider (there.widening.each (last_schema E) (last_schema D) (last-has (revs E.schemas) (last_schema E) (some_last (revs E.schemas) other.in_effect.begun)) old_in) T.home (part_by p (full D N)) B conforms_then.types
-        (back_agrees (T.view (last_schema D)) T.home (part_by p D) (part_by p (full D N)) parts_extend rev (last_schema E) B (back_in_part p D (full D N) rev (last_schema E) B closed_then named b) here.part conforms_then)
+        keeps_wider (there.widening.each (last_in_effect E) (last_in_effect D) (last-has (revs E.schemas) (last_in_effect E) (some_last (revs E.schemas) other.in_effect.begun)) old_in) T.home (part_by p (full D N)) B conforms_then.types
+        (back_agrees (T.view (last_in_effect D)) T.home (part_by p D) (part_by p (full D N)) parts_extend rev (last_in_effect E) B (back_in_part p D (full D N) rev (last_in_effect E) B closed_then named b) here.part conforms_then)
 
-    keeps_more : KeepsSchema (T.view (last_schema E)) T.home (part_by q (full D N)) B
-    keeps_more = keeps_there p q (more_schemas T.under (revs D.schemas) (revs E.schemas) more) (full D N) (full D N) (names_itself (full D N)) extends.after extends.after (T.view (last_schema E)) T.home B
-        (back_fits D (full D N) extends rev (last_schema E) B b) keeps_part
+    keeps_more : KeepsSchema (T.view (last_in_effect E)) T.home (part_by q (full D N)) B
+    keeps_more = keeps_there p q (more_schemas T.under (revs D.schemas) (revs E.schemas) more) (full D N) (full D N) (names_itself (full D N)) extends.after extends.after (T.view (last_in_effect E)) T.home B
+        (back_fits D (full D N) extends rev (last_in_effect E) B b) keeps_part
 
     pub way_agrees : AgreesInLine T (full D N) B
     way_agrees = record {

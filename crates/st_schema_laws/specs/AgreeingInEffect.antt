@@ -6,7 +6,7 @@ use Rattle.st_ids.specs.Root.{opening}
 use Rattle.st_ids.specs.declared.names.FieldId.{FieldId}
 use Rattle.st_ids.specs.declared.names.NodeId.{NodeId}
 use Rattle.st_ids.specs.declared.names.Rev.{Rev}
-use Rattle.st_schema.specs.Reading.{schema_of_text}
+use Rattle.st_edits.specs.InEffect.{last_in_effect}
 use Rattle.st_schema.specs.Schema.{SchemaView}
 use Rattle.st_marks.specs.declared.intents.Intent.{Intent}
 use Rattle.st_marks.specs.declared.schemas.SchemaEntry.{SchemaEntry}
@@ -44,18 +44,6 @@ AgreeInTurn T D (N ∷ Ns) = AgreesInLine T D N × ((v : Verdict) → IsVerdict 
 
 -- ## Documents
 
--- the last schema in effect
-abbrev pub last_schema : Document → Rev
-last_schema D = unwrap_or (last_of (revs D.schemas)) opening
-
--- the schema that allows nothing, as a document's with no entry in effect
-abbrev pub empty_schema : SchemaView
-empty_schema = record { root = []; types = [] }
-
--- the schema that the text of the last entry in effect is the form of
-abbrev pub schema_in_effect : Document → SchemaView
-schema_in_effect D = unwrap_or (option_and_then (λ (e : SchemaEntry). schema_of_text e.text) (last_of D.schemas)) empty_schema
-
 -- the schemas in effect are a line in which each widens the one before; each node has a type as its maker's schema says; a
 -- node stands in effect where its field's node does; and the part in effect conforms to the last schema
 pub record ConformsInEffect (T : Told) (D : Document) : Type 0 where
@@ -64,7 +52,7 @@ pub record ConformsInEffect (T : Told) (D : Document) : Type 0 where
   pub widening : AreWidening T.view T.chain D.schemas
   pub types : (n : NodeId) (t : NodeType) → D.nodes n ≡ Some t → type_fits (T.view (T.under n.0.rev)) t.ty t.leaf ≡ true
   pub closed : IsClosedInEffect T.under D
-  pub part : IsConforming (T.view (last_schema D)) T.home (part_in_effect T.under D)
+  pub part : IsConforming (T.view (last_in_effect D)) T.home (part_in_effect T.under D)
 
 -- ## One more commit
 

@@ -37,7 +37,8 @@ ghost use Rattle.st_part_laws.specs.Chains.{AreInLine, TellsChain};
 ghost use Rattle.st_part_laws.specs.Parts.{IsClosedBy, IsClosedInEffect, NamesWithin, is_of_schemas, part_by, part_in_effect};
 ghost use Rattle.st_part_laws.specs.Schemas.{entries_after};
 ghost use Rattle.st_part_laws.specs.Turns.{ComesFirst, SchemasComeFirst};
-ghost use Rattle.st_schema_laws.specs.AgreeingInEffect.{AgreeInTurn, AgreesInLine, ConformsInEffect, Told, last_schema, schema_in_effect, with_commit, with_home};
+ghost use Rattle.st_schema_laws.specs.AgreeingInEffect.{AgreeInTurn, AgreesInLine, ConformsInEffect, Told, with_commit, with_home};
+ghost use Rattle.st_edits.specs.InEffect.{last_in_effect, schema_in_effect};
 ghost use Rattle.st_schema_laws.specs.Earlier.{AreUnderEarlier, schemas_made};
 ghost use Rattle.st_schema_laws.specs.Lines.{IsLine};
 ghost use Rattle.st_schema_laws.specs.Widening.{AreWidening, IsTextOf, IsUpgrade};
@@ -107,7 +108,7 @@ pub fn schemas_widen()
 /// which is read as it.
 pub fn schemas_are_read()
     ensures in_effect { (T : Told) (D : Document) → IsSoundInForm D → ConformsInEffect T D
-        → schema_in_effect D ≡ T.view (last_schema D) }
+        → schema_in_effect D ≡ T.view (last_in_effect D) }
     ensures text { (s : SchemaView) → is_sound s ≡ true
         → IsTextOf s (compact_text (schema_data s)) }
 {}
@@ -246,10 +247,10 @@ pub fn edits_agree_in_line()
         → ((k : ℕ) → G.nodes ≤ k → D.nodes (node_named G.rev k) ≡ None)
         → ((k : ℕ) → G.cells ≤ k → D.row_of (cell_named G.rev k) ≡ None)
         → TellsHomes T.home N → T.under N.rev ≡ N.under
-        → resolve D (T.view (last_schema D)) G edit ≡ Ok N → AgreesInLine T D N }
+        → resolve D (T.view (last_in_effect D)) G edit ≡ Ok N → AgreesInLine T D N }
     ensures join { (T : Told) (D : Document) (N M J : Intent)
         → IsSoundInForm D → ConformsInEffect T D → IsSoundInForm (full D N)
-        → AreParts D N M → IsJoin N M J → N.under ≡ last_schema D
+        → AreParts D N M → IsJoin N M J → N.under ≡ last_in_effect D
         → AgreesInLine T D N → AgreesInLine T (full D N) M → AgreesInLine T D J }
     ensures change { (T : Told) (D : Document) (N : Intent) → IsIntent N → IsSome N.schema
         → T.under N.rev ≡ N.under → TellsChain T.chain N
@@ -260,9 +261,9 @@ pub fn edits_agree_in_line()
 pub fn shown_trees_are_allowed()
     ensures { (T : Told) (D : Document) (is_array : List ℕ → Bool) (d : Data) → IsSoundInForm D
         → ConformsInEffect T D
-        → ((ty : List ℕ) → is_array ty ≡ is_array_type (T.view (last_schema D)) ty)
+        → ((ty : List ℕ) → is_array ty ≡ is_array_type (T.view (last_in_effect D)) ty)
         → Shows is_array D root d
-        → (t : Node) × (tree_data t ≡ d) × (conforms (T.view (last_schema D)) (T.view (last_schema D)).root t ≡ true) }
+        → (t : Node) × (tree_data t ≡ d) × (conforms (T.view (last_in_effect D)) (T.view (last_in_effect D)).root t ≡ true) }
 {}
 
 /// The way back over a sound commit of data, made under the last schema in effect in a later document, agrees with
@@ -273,7 +274,7 @@ pub fn ways_back_agree_in_line()
         → N.schema ≡ None → IsVerdict D N Verdict.Sound → AgreesInLine T D N → ConformsInEffect T D
         → IsSoundInForm E → ConformsInEffect T E
         → ((r : Rev) → Has (revs D.schemas) r → Has (revs E.schemas) r)
-        → T.under rev ≡ last_schema E → IsBack D (full D N) rev (last_schema E) B
+        → T.under rev ≡ last_in_effect E → IsBack D (full D N) rev (last_in_effect E) B
         → AgreesInLine T (full D N) B }
 {}
 
@@ -287,23 +288,23 @@ pub fn lines_go_on()
         → ((k : ℕ) → G.nodes ≤ k → D.nodes (node_named G.rev k) ≡ None)
         → ((k : ℕ) → G.cells ≤ k → D.row_of (cell_named G.rev k) ≡ None)
         → (Has (revisions Ns ++ opening ∷ []) N.rev → ⊥) → FitInTurn O (Ns ++ N ∷ [])
-        → resolve D (T.view (last_schema D)) G edit ≡ Ok N
+        → resolve D (T.view (last_in_effect D)) G edit ≡ Ok N
         → IsLine (with_home (with_commit T N (T.view N.under)) N) O (Ns ++ N ∷ []) }
     ensures upgrade { (T : Told) (O D : Document) (Ns : List Intent) (N : Intent) (new : SchemaView)
         → IsLine T O Ns → Run O Ns D
         → (Has (revisions Ns ++ opening ∷ []) N.rev → ⊥) → FitInTurn O (Ns ++ N ∷ [])
-        → N.under ≡ last_schema D → IsSome N.schema → IfSome N.schema (IsUpgrade (T.view N.under) new)
+        → N.under ≡ last_in_effect D → IsSome N.schema → IfSome N.schema (IsUpgrade (T.view N.under) new)
         → IsLine (with_commit T N new) O (Ns ++ N ∷ []) }
     ensures undo { (T : Told) (O D E : Document) (As Bs : List Intent) (M B : Intent) (rev : Rev)
         → IsLine T O (As ++ M ∷ Bs) → Run O As D → Run D (M ∷ Bs) E
         → (Has (revisions (As ++ M ∷ Bs) ++ opening ∷ []) B.rev → ⊥)
         → FitInTurn O ((As ++ M ∷ Bs) ++ B ∷ [])
-        → M.schema ≡ None → IsVerdict D M Verdict.Sound → IsBack D (full D M) rev (last_schema E) B
+        → M.schema ≡ None → IsVerdict D M Verdict.Sound → IsBack D (full D M) rev (last_in_effect E) B
         → IsLine (with_commit T B (T.view B.under)) O ((As ++ M ∷ Bs) ++ B ∷ []) }
     ensures commit { (T : Told) (O D : Document) (Ns : List Intent) (N : Intent)
         → IsLine T O Ns → Run O Ns D
         → (Has (revisions Ns ++ opening ∷ []) N.rev → ⊥) → FitInTurn O (Ns ++ N ∷ [])
-        → N.under ≡ last_schema D → AgreesInLine T D N → IsLine T O (Ns ++ N ∷ []) }
+        → N.under ≡ last_in_effect D → AgreesInLine T D N → IsLine T O (Ns ++ N ∷ []) }
     ensures front { (T : Told) (O : Document) (As Bs : List Intent) → IsLine T O (As ++ Bs)
         → IsLine T O As }
     ensures longer { (T : Told) (O : Document) (As Bs Ns : List Intent) → IsSublist As Bs
@@ -325,8 +326,8 @@ pub fn upgrades_are_seen()
     ensures tree { (T : Told) (D : Document) (N : Intent) (new : SchemaView)
         (is_array is_array_then : List ℕ → Bool) (d : Data)
         → IsSoundInForm D → ConformsInEffect T D → IsIntent N → IsSome N.schema
-        → wider_of (T.view (last_schema D)) new ≡ Ok tt
-        → ((ty : List ℕ) → is_array ty ≡ is_array_type (T.view (last_schema D)) ty)
+        → wider_of (T.view (last_in_effect D)) new ≡ Ok tt
+        → ((ty : List ℕ) → is_array ty ≡ is_array_type (T.view (last_in_effect D)) ty)
         → ((ty : List ℕ) → is_array_then ty ≡ is_array_type new ty)
         → Shows is_array D root d → Shows is_array_then (full D N) root d }
 {}

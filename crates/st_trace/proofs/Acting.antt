@@ -1,7 +1,7 @@
 -- The world after a step of one client.
-use Rattle.st_schema_laws.specs.AgreeingInEffect.{schema_in_effect}
+use Rattle.st_edits.specs.InEffect.{schema_in_effect}
 use Rattle.std.proofs.Common.{Err, IfSome, List, None, Ok, Option, Result, Some, ap, refl, subst, sym, ℕ, ◌+◌, ◌∙◌, ◌≡◌, ◌≤◌}
-use Rattle.st_heads.specs.Transactions.{with_open}
+use Rattle.st_lists.specs.Open.{with_open}
 use Rattle.st_lists.specs.Clients.{HasReceived, joined_of, with_begun, without_transaction}
 use Rattle.st_lists.specs.Lines.{Line, main_line}
 use Rattle.st_script.specs.declared.answer.Answer.TheVariants.{Deliver, No}
@@ -10,7 +10,8 @@ use Rattle.st_trace.proofs.LineActs.{IsKeptLine, line_can_take, line_commit_fits
 use Rattle.st_trace.proofs.Meant.{IsMeaning}
 use Rattle.st_trace.proofs.Parts.{editable, edited_room}
 use Rattle.st_trace.proofs.Refusing.{Left, StaysEdited, StaysIn, StaysNeeded, StaysOver, at_answer, line_abort_refused, line_begin_refused, line_commit_refused, line_edit_refused, line_need_refused, refusal_as}
-use Rattle.st_trace.specs.World.{AtRefusal, HasShown, IsAfterEdit, IsAfterNeed, IsDelivered, IsDeliveredIn, IsDeliveredTo, IsDoneIn, IsEditedIn, IsJoined, abort, begin, commit, last_in_effect, next_names, opening_document, with_beginning, with_client, word_of}
+use Rattle.st_trace.specs.World.{AtRefusal, HasShown, IsAfterEdit, IsAfterNeed, IsDelivered, IsDeliveredIn, IsDeliveredTo, IsDoneIn, IsEditedIn, IsJoined, abort, begin, commit, next_names, opening_document, with_beginning, with_client, word_of}
+use Rattle.st_edits.specs.InEffect.{last_in_effect}
 use Rattle.st_trace.specs.inside.Replicas.{CanReceive, CanReceiveIn, CanTake, HasAborted, HasCommitted, HasJoined, HasJoinedMain, HasMoved, HasMovedIn, HasNumbersLeft, HasTaken, HasTakenNeed, IsPending}
 use Rattle.std.specs.List.{slice_get, slice_set, AllByRecursion}
 use Rattle.std.specs.Option.{option_and_then}
@@ -31,7 +32,7 @@ use Rattle.st_trace.specs.Replicas.{IsClient, IsReplicaOf, IsSound, IsSoundAfter
 use Rattle.st_trace.specs.inside.Edits.{edit_of}
 use Rattle.st_lists.specs.Limits.{limit_passed, names_limit_passed, pending_limit_passed}
 use Rattle.st_trace.specs.declared.client.EditWord.{EditWord}
-use Rattle.st_trace.specs.declared.replica.Replica.{Replica}
+use Rattle.st_heads.specs.declared.replica.Replica.{Replica}
 use Rattle.st_lists.specs.declared.lists.Client.{Client}
 use Rattle.st_lists.specs.declared.lists.Entry.{Entry}
 use Rattle.st_lists.specs.declared.lists.Transaction.{Transaction}

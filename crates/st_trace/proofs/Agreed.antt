@@ -11,7 +11,8 @@ use Rattle.st_trace.proofs.Clients.{shown_sound, main_among, next_new, own_first
 use Rattle.st_trace.proofs.Lookup.{branch_found}
 use Rattle.st_trace.proofs.Parts.{edited_fits, edited_room, edits_fit, follow, open_schemas}
 use Rattle.st_trace.specs.Replicas.{BranchesKeepSchemas, CommitsKeepSchemas, EditsKeepSchemas, HasMain, HaveOwnSessions, IsBranch, IsClient, IsHeader, IsTransaction, KeepSchemasAsTold, KeepToSchemas, LineFits, KeepsLine}
-use Rattle.st_trace.specs.World.{IsDeliveredTo, after_edit, cells_given, next_names, opening_document, with_new_on, last_in_effect}
+use Rattle.st_trace.specs.World.{IsDeliveredTo, after_edit, cells_given, next_names, opening_document, with_new_on}
+use Rattle.st_edits.specs.InEffect.{last_in_effect}
 use Rattle.std.specs.List.{cons_option, remove, slice_get, slice_set, AllByRecursion}
 use Rattle.std.proofs.lemmas.Bool.Decides.{nat_tests}
 use Rattle.std.proofs.lemmas.List.{append-nil, take_all}
@@ -34,7 +35,7 @@ use Rattle.st_marks.specs.CarryOut.{full}
 use Rattle.st_marks.specs.Run.{Run}
 use Rattle.st_marks.proofs.Lookups.{put-has}
 use Rattle.st_marks.proofs.OneVerdict.{one_run}
-use Rattle.st_heads.specs.Transactions.{FitsSoFar, IsWithPart, with_open}
+use Rattle.st_lists.specs.Open.{FitsSoFar, IsWithPart, with_open}
 use Rattle.st_heads.specs.inside.Parts.{CanFollow}
 use Rattle.st_lemmas.proofs.Bools.{true-false}
 use Rattle.st_log_laws.specs.Names.{revisions, HaveNewRevisions}
@@ -43,7 +44,7 @@ use Rattle.st_log_laws.proofs.Shorter.{sublist_itself, sublist_joined, sublist_n
 use Rattle.st_schema_laws.specs.Agreeing.{TellsHomes}
 use Rattle.st_schema_laws.specs.Conforming.{register_in}
 use Rattle.st_schema_laws.proofs.Homes.{tells_own}
-use Rattle.st_heads.specs.Undoing.{IsUndoing}
+use Rattle.st_lists.specs.Undoing.{IsUndoing}
 use Rattle.st_schema_laws.proofs.Opened.{allowed_conforms}
 use Rattle.st_script.specs.Header.{HeaderView}
 use Rattle.st_script.specs.declared.answer.Answer.{Answer}

@@ -15,7 +15,7 @@ use Rattle.st_script.specs.Header.{HeaderView}
 use Rattle.st_trace.proofs.Parts.{names_edited}
 use Rattle.st_trace.specs.Replicas.{AreHeads, IsHeadOf, IsReplicaOf}
 use Rattle.st_trace.specs.World.{opening_document}
-use Rattle.st_trace.specs.declared.replica.Replica.{Replica}
+use Rattle.st_heads.specs.declared.replica.Replica.{Replica}
 use Rattle.st_trace.specs.inside.BranchEdits.{IsChangedAt}
 
 -- ## Lines

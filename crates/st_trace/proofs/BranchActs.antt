@@ -1,11 +1,11 @@
 -- The world after a step of one client on a branch beside the main one.
-use Rattle.st_schema_laws.specs.AgreeingInEffect.{schema_in_effect}
+use Rattle.st_edits.specs.InEffect.{schema_in_effect}
 use Rattle.std.proofs.Common.{Err, IfSome, List, None, Ok, Option, Result, Some, [], ap, arith, length, refl, subst, suc, sym, zero, ℕ, ◌++◌, ◌+◌, ◌∙◌, ◌∷◌, ◌≡◌, ◌≢◌, ◌≤◌}
 use Rattle.std.specs.List.{slice_get, slice_set}
 use Rattle.std.specs.Option.{option_and_then}
 use Rattle.st_doc.specs.Doc.{document_of}
 use Rattle.st_edits.specs.Resolve.{need, resolve}
-use Rattle.st_heads.specs.Transactions.{with_open}
+use Rattle.st_lists.specs.Open.{with_open}
 use Rattle.st_heads.specs.declared.heads.Head.{Head}
 use Rattle.st_ids.specs.Listing.{AreDistinct}
 use Rattle.st_ids.specs.declared.names.Limit.{Limit}
@@ -42,13 +42,15 @@ use Rattle.st_trace.proofs.Parts.{names_edited}
 use Rattle.st_trace.proofs.Refusing.{refusal_as}
 use Rattle.st_trace.proofs.Stepping.{start_of}
 use Rattle.st_trace.specs.Replicas.{IsBranch, IsHeadOf, IsSound, IsSoundAfter, IsTransaction}
-use Rattle.st_trace.specs.World.{AtRefusal, HasShown, IsAfterEdit, IsAfterNeed, IsJoined, abort, after_commit, begin, cells_given, commit, last_in_effect, next_names, opening_document, with_beginning, with_new_on, word_of}
+use Rattle.st_trace.specs.World.{AtRefusal, HasShown, IsAfterEdit, IsAfterNeed, IsJoined, abort, after_commit, begin, cells_given, commit, next_names, opening_document, with_beginning, with_new_on, word_of}
+use Rattle.st_edits.specs.InEffect.{last_in_effect}
 use Rattle.st_trace.specs.declared.client.EditWord.{EditWord}
-use Rattle.st_trace.specs.declared.replica.Replica.{Replica}
+use Rattle.st_heads.specs.declared.replica.Replica.{Replica}
 use Rattle.st_trace.specs.declared.world.World.{World}
 use Rattle.st_trace.specs.inside.BranchEdits.{CanEditOn, HasAbortedAt, HasBegunAt, HasBegunBy, HasBegunIn, HasCommittedAt, HasEditedAt, HasNeededAt, IsAbortedOn, IsChangedAt, IsCommittedOf, IsCommittedOn, IsNeededOn, IsOwnTaken, IsPartTaken, IsTakenOf, own_limit, shown_on}
-use Rattle.st_trace.specs.inside.Branches.{IsAtBranch}
-use Rattle.st_trace.specs.inside.Edits.{edit_of, names_limit}
+use Rattle.st_heads.specs.Replicas.{IsAtBranch}
+use Rattle.st_trace.specs.inside.Edits.{edit_of}
+use Rattle.st_lists.specs.Limits.{names_limit}
 use Rattle.st_trace.specs.inside.Replicas.{CanTake}
 use Rattle.st_tree.specs.declared.edit.EditFault.{EditFault}
 use Rattle.st_trace.proofs.Effect.{schema_sound_on}

@@ -16,8 +16,8 @@ use Rattle.st_trace.proofs.Branched.{found_at}
 use Rattle.st_trace.proofs.LineActs.{branch_head}
 use Rattle.st_trace.proofs.Lookup.{line_there}
 use Rattle.st_trace.specs.Replicas.{AreHeads, IsHeadOf}
-use Rattle.st_trace.specs.declared.replica.Replica.{Replica}
-use Rattle.st_trace.specs.inside.Branches.{head_of}
+use Rattle.st_heads.specs.declared.replica.Replica.{Replica}
+use Rattle.st_heads.specs.Replicas.{head_of}
 
 -- ## Places
 

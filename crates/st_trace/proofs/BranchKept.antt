@@ -6,7 +6,8 @@ use Rattle.st_doc.specs.Doc.{document_of}
 use Rattle.st_doc.specs.declared.doc.Doc.{Doc}
 use Rattle.st_heads.proofs.Runs.{runs_joined}
 use Rattle.st_heads.specs.Remembered.{AreCarried}
-use Rattle.st_heads.specs.Transactions.{HasOpen, IsWithPart}
+use Rattle.st_heads.specs.Transactions.{HasOpen}
+use Rattle.st_lists.specs.Open.{IsWithPart}
 use Rattle.st_heads.specs.declared.heads.Head.{Head}
 use Rattle.st_ids.specs.declared.names.Limit.{Limit}
 use Rattle.st_ids.specs.declared.names.Rev.{Rev}
@@ -29,7 +30,7 @@ use Rattle.st_trace.specs.Replicas.{IsHeadOf}
 use Rattle.st_trace.specs.World.{AtRefusal, refusal_of}
 use Rattle.st_trace.specs.declared.client.EditWord.{EditWord}
 use Rattle.st_trace.specs.inside.BranchEdits.{HasTakenIn, HasAbortedOn, HasBegunBy, HasBegunIn, HasBegunOn, HasCommittedOn, HasEndedOn, HasNeededIn, HasNeededOn, HasOwnTaken, HasTakenOf, IsAbortedOn, IsCommittedOf, IsCommittedOn, IsNeededOn, IsOwnTaken, IsPartTaken, IsTakenOf, own_limit}
-use Rattle.st_trace.specs.inside.Edits.{names_limit}
+use Rattle.st_lists.specs.Limits.{names_limit}
 use Rattle.st_trace.specs.inside.Replicas.{HasJoined}
 use Rattle.st_tree.specs.declared.edit.EditFault.{EditFault}
 

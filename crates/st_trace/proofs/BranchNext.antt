@@ -4,7 +4,8 @@ use Rattle.std.specs.List.{slice_get, slice_set}
 use Rattle.st_edits.specs.Resolve.{need, resolve}
 use Rattle.st_heads.specs.declared.heads.Head.{Head}
 use Rattle.st_ids.specs.declared.names.Place.{Place}
-use Rattle.st_trace.specs.inside.Branches.{place_of, IsAtBranch}
+use Rattle.st_lists.specs.Lines.{branch_place}
+use Rattle.st_heads.specs.Replicas.{IsAtBranch}
 use Rattle.st_lists.specs.Lines.{Line, branch_line, line_of}
 use Rattle.st_lists.specs.declared.lists.Branch.{Branch}
 use Rattle.st_lists.specs.declared.lists.Client.{Client}
@@ -22,10 +23,10 @@ use Rattle.st_trace.proofs.Everyone.{set_same}
 use Rattle.st_trace.proofs.Keeping.{AreOne}
 use Rattle.st_trace.proofs.Lookup.{line_there}
 use Rattle.st_trace.proofs.Stepping.{sound_later}
-use Rattle.st_schema_laws.specs.AgreeingInEffect.{schema_in_effect}
+use Rattle.st_edits.specs.InEffect.{schema_in_effect}
 use Rattle.st_trace.specs.Replicas.{IsSound, IsSoundAfter}
 use Rattle.st_trace.specs.World.{AtRefusal, IsActOf, IsAfterEdit, IsBegun, IsDoneIn, IsNeeded, abort, commit, next_names, opening_document, with_client, word_of}
-use Rattle.st_trace.specs.declared.replica.Replica.{Replica}
+use Rattle.st_heads.specs.declared.replica.Replica.{Replica}
 use Rattle.st_trace.specs.declared.world.World.{World}
 use Rattle.st_trace.specs.inside.BranchEdits.{HasAbortedAt, HasBegunAt, HasCommittedAt, HasEditedAt, HasNeededAt, IsNoBranch, shown_on}
 use Rattle.st_trace.specs.inside.Edits.{edit_of}
@@ -59,10 +60,10 @@ module _ (w : World) (i : ℕ) (c : Client) (k : Replica) (s : IsSound w) (at_c 
   There = (j : ℕ) × (b : Branch) × (g : Head) × IsAtBranch c k number j b g
 
   -- the branch of the number is at its place, or there is none
-  there_or_not : There ⊎ (place_of number c.branches ≡ None)
-  there_or_not = go (place_of number c.branches) refl
+  there_or_not : There ⊎ (branch_place number c.branches ≡ None)
+  there_or_not = go (branch_place number c.branches) refl
     where
-      go : (o : Option ℕ) → place_of number c.branches ≡ o → There ⊎ (place_of number c.branches ≡ None)
+      go : (o : Option ℕ) → branch_place number c.branches ≡ o → There ⊎ (branch_place number c.branches ≡ None)
       go None e = inr e
       go (Some j) e =
           let b = found_by number c.branches j e in
@@ -79,7 +80,7 @@ module _ (w : World) (i : ℕ) (c : Client) (k : Replica) (s : IsSound w) (at_c 
           let b = line_there c n l line in
           let r = found_at (suc n) c.branches b.0 b.1 in
           let g = heads_some (opening_document h) log c.branches k.branches r.0 b.0 one.kept.branches r.2 in
-          (r.0, b.0, g.0, record { found = ap (λ x. place_of x c.branches) e ∙ r.1; branch = r.2; kept = g.1 }, b.2)
+          (r.0, b.0, g.0, record { found = ap (λ x. branch_place x c.branches) e ∙ r.1; branch = r.2; kept = g.1 }, b.2)
 
   abbrev Next : Client → Replica → Type 0
   Next d m = IsSoundAfter (w.steps + 1) (record w { lists = record w.lists { clients = slice_set w.lists.clients i d }; kept = slice_set w.kept i m })
@@ -96,7 +97,7 @@ module _ (w : World) (i : ℕ) (c : Client) (k : Replica) (s : IsSound w) (at_c 
 
   module _ (e : EditAct) (d : Client) (m : Replica) (a : Answer)
       (there : (j : ℕ) (b : Branch) (g : Head) → IsAtBranch c k number j b g → HasEditedAt c k j b g (word_of (edit_view e)) (resolve (shown_on b g) (schema_in_effect (shown_on b g)) (next_names c b.transaction) (edit_of e)) d m a)
-      (absent : place_of number c.branches ≡ None → IsNoBranch c k d m a) where
+      (absent : branch_place number c.branches ≡ None → IsNoBranch c k d m a) where
     pub edit_next : (q : Client) (l : Line) → slice_get w.lists.clients i ≡ Some q → line_of q number ≡ Some l → IsActOf h w.lists (edit (edit_view e)) i q number l (record w.lists { clients = slice_set w.lists.clients i d }) a
     edit_next q l at line =
         let v = record w.lists { clients = slice_set w.lists.clients i d } in
@@ -107,20 +108,20 @@ module _ (w : World) (i : ℕ) (c : Client) (k : Replica) (s : IsSound w) (at_c 
     pub edit_sound_on : Next d m
     edit_sound_on = go there_or_not
       where
-        go : There ⊎ (place_of number c.branches ≡ None) → Next d m
+        go : There ⊎ (branch_place number c.branches ≡ None) → Next d m
         go (inl x) = edit_sound w i c k s at_c at_k number other x.0 x.1 x.2 x.3 e d m a (there x.0 x.1 x.2 x.3)
         go (inr none) = none_sound w i c k s at_c at_k d m a (absent none)
 
     pub edit_stays_on : Stays d m a
     edit_stays_on = go there_or_not
       where
-        go : There ⊎ (place_of number c.branches ≡ None) → Stays d m a
+        go : There ⊎ (branch_place number c.branches ≡ None) → Stays d m a
         go (inl x) = edit_stays w i c k s at_c at_k number other x.0 x.1 x.2 x.3 e d m a (there x.0 x.1 x.2 x.3)
         go (inr none) = none_stays w i c k s at_c at_k d m a (absent none)
 
   module _ (path : List Place) (d : Client) (m : Replica) (a : Answer)
       (there : (j : ℕ) (b : Branch) (g : Head) → IsAtBranch c k number j b g → HasNeededAt c k j b g (need (shown_on b g) (next_names c b.transaction) path) d m a)
-      (absent : place_of number c.branches ≡ None → IsNoBranch c k d m a) where
+      (absent : branch_place number c.branches ≡ None → IsNoBranch c k d m a) where
     pub need_next : (q : Client) (l : Line) → slice_get w.lists.clients i ≡ Some q → line_of q number ≡ Some l → IsActOf h w.lists (step.need path) i q number l (record w.lists { clients = slice_set w.lists.clients i d }) a
     need_next q l at line =
         let v = record w.lists { clients = slice_set w.lists.clients i d } in
@@ -130,18 +131,18 @@ module _ (w : World) (i : ℕ) (c : Client) (k : Replica) (s : IsSound w) (at_c 
     pub need_sound_on : Next d m
     need_sound_on = go there_or_not
       where
-        go : There ⊎ (place_of number c.branches ≡ None) → Next d m
+        go : There ⊎ (branch_place number c.branches ≡ None) → Next d m
         go (inl x) = need_sound w i c k s at_c at_k number other x.0 x.1 x.2 x.3 path d m a (there x.0 x.1 x.2 x.3)
         go (inr none) = none_sound w i c k s at_c at_k d m a (absent none)
 
     pub need_stays_on : Stays d m a
     need_stays_on = go there_or_not
       where
-        go : There ⊎ (place_of number c.branches ≡ None) → Stays d m a
+        go : There ⊎ (branch_place number c.branches ≡ None) → Stays d m a
         go (inl x) = need_stays w i c k s at_c at_k number other x.0 x.1 x.2 x.3 path d m a (there x.0 x.1 x.2 x.3)
         go (inr none) = none_stays w i c k s at_c at_k d m a (absent none)
 
-  module _ (d : Client) (a : Answer) (there : (j : ℕ) (b : Branch) (g : Head) → IsAtBranch c k number j b g → HasBegunAt c j b g d a) (absent : place_of number c.branches ≡ None → IsNoBranch c k d k a) where
+  module _ (d : Client) (a : Answer) (there : (j : ℕ) (b : Branch) (g : Head) → IsAtBranch c k number j b g → HasBegunAt c j b g d a) (absent : branch_place number c.branches ≡ None → IsNoBranch c k d k a) where
     pub begin_next : (q : Client) (l : Line) → slice_get w.lists.clients i ≡ Some q → line_of q number ≡ Some l → IsActOf h w.lists step.begin i q number l (record w.lists { clients = slice_set w.lists.clients i d }) a
     begin_next q l at line =
         let v = record w.lists { clients = slice_set w.lists.clients i d } in
@@ -151,7 +152,7 @@ module _ (w : World) (i : ℕ) (c : Client) (k : Replica) (s : IsSound w) (at_c 
     pub begin_sound_on : IsSoundAfter (w.steps + 1) (record w { lists = record w.lists { clients = slice_set w.lists.clients i d } })
     begin_sound_on = go there_or_not
       where
-        go : There ⊎ (place_of number c.branches ≡ None) → IsSoundAfter (w.steps + 1) (record w { lists = record w.lists { clients = slice_set w.lists.clients i d } })
+        go : There ⊎ (branch_place number c.branches ≡ None) → IsSoundAfter (w.steps + 1) (record w { lists = record w.lists { clients = slice_set w.lists.clients i d } })
         go (inl x) = begin_sound w i c k s at_c at_k number other x.0 x.1 x.2 x.3 d a (there x.0 x.1 x.2 x.3)
         go (inr none) =
             subst (λ (ks : List Replica). IsSoundAfter (w.steps + 1) (record w { lists = record w.lists { clients = slice_set w.lists.clients i d }; kept = ks })) (set_same w.kept i k at_k) (none_sound w i c k s at_c at_k d k a (absent none))
@@ -159,12 +160,12 @@ module _ (w : World) (i : ℕ) (c : Client) (k : Replica) (s : IsSound w) (at_c 
     pub begin_stays_on : AtRefusal a (◌≡◌ {A = World} (record w { lists = record w.lists { clients = slice_set w.lists.clients i d } }) w)
     begin_stays_on = go there_or_not
       where
-        go : There ⊎ (place_of number c.branches ≡ None) → AtRefusal a (◌≡◌ {A = World} (record w { lists = record w.lists { clients = slice_set w.lists.clients i d } }) w)
+        go : There ⊎ (branch_place number c.branches ≡ None) → AtRefusal a (◌≡◌ {A = World} (record w { lists = record w.lists { clients = slice_set w.lists.clients i d } }) w)
         go (inl x) = begin_stays w i c k s at_c at_k number other x.0 x.1 x.2 x.3 d a (there x.0 x.1 x.2 x.3)
         go (inr none) =
             subst (λ (ks : List Replica). AtRefusal a (◌≡◌ {A = World} (record w { lists = record w.lists { clients = slice_set w.lists.clients i d }; kept = ks }) w)) (set_same w.kept i k at_k) (none_stays w i c k s at_c at_k d k a (absent none))
 
-  module _ (d : Client) (m : Replica) (a : Answer) (there : (j : ℕ) (b : Branch) (g : Head) → IsAtBranch c k number j b g → HasCommittedAt c k j b g d m a) (absent : place_of number c.branches ≡ None → IsNoBranch c k d m a) where
+  module _ (d : Client) (m : Replica) (a : Answer) (there : (j : ℕ) (b : Branch) (g : Head) → IsAtBranch c k number j b g → HasCommittedAt c k j b g d m a) (absent : branch_place number c.branches ≡ None → IsNoBranch c k d m a) where
     pub commit_next : (q : Client) (l : Line) → slice_get w.lists.clients i ≡ Some q → line_of q number ≡ Some l → IsActOf h w.lists step.commit i q number l (record w.lists { clients = slice_set w.lists.clients i d }) a
     commit_next q l at line =
         let v = record w.lists { clients = slice_set w.lists.clients i d } in
@@ -174,18 +175,18 @@ module _ (w : World) (i : ℕ) (c : Client) (k : Replica) (s : IsSound w) (at_c 
     pub commit_sound_on : Next d m
     commit_sound_on = go there_or_not
       where
-        go : There ⊎ (place_of number c.branches ≡ None) → Next d m
+        go : There ⊎ (branch_place number c.branches ≡ None) → Next d m
         go (inl x) = commit_sound w i c k s at_c at_k number other x.0 x.1 x.2 x.3 d m a (there x.0 x.1 x.2 x.3)
         go (inr none) = none_sound w i c k s at_c at_k d m a (absent none)
 
     pub commit_stays_on : Stays d m a
     commit_stays_on = go there_or_not
       where
-        go : There ⊎ (place_of number c.branches ≡ None) → Stays d m a
+        go : There ⊎ (branch_place number c.branches ≡ None) → Stays d m a
         go (inl x) = commit_stays w i c k s at_c at_k number other x.0 x.1 x.2 x.3 d m a (there x.0 x.1 x.2 x.3)
         go (inr none) = none_stays w i c k s at_c at_k d m a (absent none)
 
-  module _ (d : Client) (m : Replica) (a : Answer) (there : (j : ℕ) (b : Branch) (g : Head) → IsAtBranch c k number j b g → HasAbortedAt c k j b g d m a) (absent : place_of number c.branches ≡ None → IsNoBranch c k d m a) where
+  module _ (d : Client) (m : Replica) (a : Answer) (there : (j : ℕ) (b : Branch) (g : Head) → IsAtBranch c k number j b g → HasAbortedAt c k j b g d m a) (absent : branch_place number c.branches ≡ None → IsNoBranch c k d m a) where
     pub abort_next : (q : Client) (l : Line) → slice_get w.lists.clients i ≡ Some q → line_of q number ≡ Some l → IsActOf h w.lists step.abort i q number l (record w.lists { clients = slice_set w.lists.clients i d }) a
     abort_next q l at line =
         let v = record w.lists { clients = slice_set w.lists.clients i d } in
@@ -195,13 +196,13 @@ module _ (w : World) (i : ℕ) (c : Client) (k : Replica) (s : IsSound w) (at_c 
     pub abort_sound_on : Next d m
     abort_sound_on = go there_or_not
       where
-        go : There ⊎ (place_of number c.branches ≡ None) → Next d m
+        go : There ⊎ (branch_place number c.branches ≡ None) → Next d m
         go (inl x) = abort_sound w i c k s at_c at_k number other x.0 x.1 x.2 x.3 d m a (there x.0 x.1 x.2 x.3)
         go (inr none) = none_sound w i c k s at_c at_k d m a (absent none)
 
     pub abort_stays_on : Stays d m a
     abort_stays_on = go there_or_not
       where
-        go : There ⊎ (place_of number c.branches ≡ None) → Stays d m a
+        go : There ⊎ (branch_place number c.branches ≡ None) → Stays d m a
         go (inl x) = abort_stays w i c k s at_c at_k number other x.0 x.1 x.2 x.3 d m a (there x.0 x.1 x.2 x.3)
         go (inr none) = none_stays w i c k s at_c at_k d m a (absent none)

@@ -6,11 +6,13 @@ use Rattle.std.specs.Option.{option_and_then}
 use Rattle.std.specs.Prelude.{option_map}
 use Rattle.st_doc.specs.Doc.{document_of}
 use Rattle.st_doc.specs.LiveText.{is_among}
-use Rattle.st_heads.specs.Transactions.{HasOpen, with_open}
+use Rattle.st_heads.specs.Transactions.{HasOpen}
+use Rattle.st_lists.specs.Open.{with_open}
 use Rattle.st_heads.specs.declared.heads.Head.{Head}
 use Rattle.st_ids.specs.Order.{rev_cmp}
 use Rattle.st_lists.specs.Clients.{joined_of}
-use Rattle.st_trace.specs.inside.Branches.{place_of, head_of}
+use Rattle.st_lists.specs.Lines.{branch_place}
+use Rattle.st_heads.specs.Replicas.{head_of}
 use Rattle.st_lists.specs.Lines.{HasHead, Line, branch_line, edited_on, line_of, main_line}
 use Rattle.st_lists.specs.declared.lists.Client.{Client}
 use Rattle.st_lists.specs.declared.lists.Entry.{Entry}
@@ -19,7 +21,7 @@ use Rattle.st_marks.specs.LiveTree.{IsTreeText}
 use Rattle.st_marks.specs.declared.intents.Intent.{Intent}
 use Rattle.st_script.specs.Header.{HeaderView, header_view}
 use Rattle.st_script.specs.declared.answer.Answer.TheVariants.{Show}
-use Rattle.st_schema_laws.specs.AgreeingInEffect.{schema_in_effect}
+use Rattle.st_edits.specs.InEffect.{schema_in_effect}
 use Rattle.st_trace.proofs.Acting.{one_at}
 use Rattle.st_trace.proofs.BranchHeads.{head_at, heads_many}
 use Rattle.st_trace.proofs.Branched.{found_at, found_by, head_there}
@@ -32,9 +34,10 @@ use Rattle.st_trace.proofs.Lookup.{line_there}
 use Rattle.st_trace.proofs.Stepping.{start_of}
 use Rattle.st_trace.specs.Replicas.{IsHeadOf, IsSound}
 use Rattle.st_trace.specs.Schemas.{HasReading}
-use Rattle.st_trace.specs.World.{HasShown, IsShown, last_in_effect, opening_document}
+use Rattle.st_trace.specs.World.{HasShown, IsShown, opening_document}
+use Rattle.st_edits.specs.InEffect.{last_in_effect}
 use Rattle.st_trace.specs.declared.known.KnownSchema.{KnownSchema}
-use Rattle.st_trace.specs.declared.replica.Replica.{Replica}
+use Rattle.st_heads.specs.declared.replica.Replica.{Replica}
 use Rattle.st_trace.specs.declared.world.World.{World}
 
 -- the document that a head shows
@@ -47,9 +50,9 @@ same_some x y e = cc
 -- a number of which a head is kept is that of a line
 pub head_line : (c : Client) (k : Replica) (n : ℕ) (p : Head) → head_of c k n ≡ Some p → (l : Line) × (line_of c n ≡ Some l)
 head_line c k zero p head = (main_line c, refl)
-head_line c k (suc n) p head = go (place_of (suc n) c.branches) refl head
+head_line c k (suc n) p head = go (branch_place (suc n) c.branches) refl head
   where
-    go : (o : Option ℕ) → place_of (suc n) c.branches ≡ o → option_and_then (λ i. slice_get k.branches i) o ≡ Some p → (l : Line) × (line_of c (suc n) ≡ Some l)
+    go : (o : Option ℕ) → branch_place (suc n) c.branches ≡ o → option_and_then (λ i. slice_get k.branches i) o ≡ Some p → (l : Line) × (line_of c (suc n) ≡ Some l)
     go None e head = absurd (cc)
     go (Some j) e head =
         let b = found_by (suc n) c.branches j e in

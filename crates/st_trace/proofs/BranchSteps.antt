@@ -52,12 +52,14 @@ use Rattle.st_trace.proofs.Merging.{client_merges}
 use Rattle.st_trace.proofs.OnBranches.{HasMore, several_on_branch, several_on_main, stands_among, with_branches, with_own}
 use Rattle.st_trace.proofs.Rebasing.{client_rebases}
 use Rattle.st_trace.proofs.Taking.{none_of}
-use Rattle.st_trace.specs.Branches.{AreVoid, fork, refusal_to_fork, refusal_to_merge, refusal_to_rebase}
+use Rattle.st_lists.specs.Voids.{AreVoid}
+use Rattle.st_trace.specs.Branches.{fork, refusal_to_fork, refusal_to_merge, refusal_to_rebase}
 use Rattle.st_ids.specs.declared.names.Rev.{Rev}
 use Rattle.st_trace.specs.Replicas.{AreHeads, HaveOwnSessions, IsClient, IsHeadOf, IsReplicaOf, KeepToSchemas}
 use Rattle.st_trace.specs.World.{opening_document}
-use Rattle.st_trace.specs.declared.replica.Replica.{Replica}
-use Rattle.st_trace.specs.inside.Branches.{HasMergedInto, IsNewHead, ground_of, head_of, void_among, with_ground, without_place}
+use Rattle.st_heads.specs.declared.replica.Replica.{Replica}
+use Rattle.st_trace.specs.inside.Branches.{HasMergedInto, IsNewHead, ground_of, void_among, with_ground, without_place}
+use Rattle.st_heads.specs.Replicas.{head_of}
 
 -- ## What a step that isn't refused asks for
 

@@ -6,7 +6,9 @@ use Rattle.std.specs.Prelude.{◌-◌}
 use Rattle.st_doc.specs.Doc.{document_of}
 use Rattle.st_heads.specs.declared.heads.Head.{Head}
 use Rattle.st_ids.specs.Listing.{AreDistinct, Has}
-use Rattle.st_trace.specs.inside.Branches.{place_of, HasDropped, HasForked, HasForkedOn, HasMerged, HasNoLine, HasRebased, ground_of, head_of, void_among, with_ground, without_head, without_place}
+use Rattle.st_lists.specs.Lines.{branch_place}
+use Rattle.st_trace.specs.inside.Branches.{HasDropped, HasForked, HasForkedOn, HasMerged, HasNoLine, HasRebased, ground_of, void_among, with_ground, without_head, without_place}
+use Rattle.st_heads.specs.Replicas.{head_of}
 use Rattle.st_lists.specs.Lines.{HasHead, Line, branch_of, has_children, line_of, on_branch, with_base, with_branch, with_commits_on, without_branch}
 use Rattle.st_lists.specs.Names.{names_in, names_on}
 use Rattle.st_lists.specs.declared.lists.Branch.{Branch}
@@ -44,7 +46,7 @@ use Rattle.st_trace.specs.Branches.{IsMerged, IsRebased, drop_branch, fork, refu
 use Rattle.st_trace.specs.Kept.{Unless}
 use Rattle.st_trace.specs.Replicas.{IsBranch, IsClient, IsReplicaOf, IsSound, IsSoundAfter}
 use Rattle.st_trace.specs.World.{AtRefusal, IsBranchDropped, IsForked, IsMergedBy, IsRebasedBy, IsUnchanged, OnOwnBranch, OnParent, opening_document, with_client}
-use Rattle.st_trace.specs.declared.replica.Replica.{Replica}
+use Rattle.st_heads.specs.declared.replica.Replica.{Replica}
 use Rattle.st_trace.specs.declared.world.World.{World}
 
 same_some : {X : Type 0} (x y : X) → Some x ≡ Some y → x ≡ y
@@ -150,9 +152,9 @@ module _ (w : World) (i : ℕ) (c : Client) (k : Replica) (s : IsSound w) (at_c 
     pub leads : HasHead O log l (document_of p.doc)
 
   abbrev There : Type 0
-  There = (j : ℕ) × (b : Branch) × (place_of number c.branches ≡ Some j) × (slice_get c.branches j ≡ Some b)
+  There = (j : ℕ) × (b : Branch) × (branch_place number c.branches ≡ Some j) × (slice_get c.branches j ≡ Some b)
 
-  pub parent_of : (j : ℕ) (b : Branch) → place_of number c.branches ≡ Some j → slice_get c.branches j ≡ Some b → (l : Line) × (p : Head) × HasParent j b l p
+  pub parent_of : (j : ℕ) (b : Branch) → branch_place number c.branches ≡ Some j → slice_get c.branches j ≡ Some b → (l : Line) × (p : Head) × HasParent j b l p
   parent_of j b place at =
       let x = found_by number c.branches j place in
       let same : x.0 ≡ b = same_some x.0 b (sym x.2 ∙ at) in
@@ -162,21 +164,21 @@ module _ (w : World) (i : ℕ) (c : Client) (k : Replica) (s : IsSound w) (at_c 
       let p = head_of_line b.parent l.0 l.1 in
       (l.0, p.0, record { found = found; named = among.1; among = among.0; line = l.1; apart = parent_apart h st log c one.client b among.0; head = p.1; leads = p.2 })
 
-  there_or_not : There ⊎ (place_of number c.branches ≡ None)
-  there_or_not = go (place_of number c.branches) refl
+  there_or_not : There ⊎ (branch_place number c.branches ≡ None)
+  there_or_not = go (branch_place number c.branches) refl
     where
-      go : (o : Option ℕ) → place_of number c.branches ≡ o → There ⊎ (place_of number c.branches ≡ None)
+      go : (o : Option ℕ) → branch_place number c.branches ≡ o → There ⊎ (branch_place number c.branches ≡ None)
       go None e = inr e
       go (Some j) e = let b = found_by number c.branches j e in inl (j, b.0, e, b.2)
 
-  no_branch : place_of number c.branches ≡ None → branch_of c number ≡ None
+  no_branch : branch_place number c.branches ≡ None → branch_of c number ≡ None
   no_branch none = go (branch_of c number) refl
     where
       go : (o : Option Branch) → branch_of c number ≡ o → o ≡ None
       go None e = refl
       go (Some b) e =
           let r = found_at number c.branches b e in
-          absurd (bad (place_of number c.branches) r.0 r.1 none)
+          absurd (bad (branch_place number c.branches) r.0 r.1 none)
         where
           bad : (o : Option ℕ) (j : ℕ) → o ≡ Some j → o ≡ None → ⊥
           bad o j e f = cc
@@ -188,13 +190,13 @@ module _ (w : World) (i : ℕ) (c : Client) (k : Replica) (s : IsSound w) (at_c 
     rest_fit b.own x.leads (own_fits_behind_parent h st log c one.client number b l x.among x.named x.line s.few_names),
   )
 
-  pub can_rebase : (j : ℕ) (b : Branch) (p : Head) → place_of number c.branches ≡ Some j → slice_get c.branches j ≡ Some b → head_of c k b.parent ≡ Some p → IsSoundInForm (document_of p.doc) × FitInTurn (document_of p.doc) b.own
+  pub can_rebase : (j : ℕ) (b : Branch) (p : Head) → branch_place number c.branches ≡ Some j → slice_get c.branches j ≡ Some b → head_of c k b.parent ≡ Some p → IsSoundInForm (document_of p.doc) × FitInTurn (document_of p.doc) b.own
   can_rebase j b p place at head =
       let x = parent_of j b place at in
       let same : x.1 ≡ p = same_some x.1 p (sym x.2.head ∙ head) in
       subst (λ (y : Head). IsSoundInForm (document_of y.doc) × FitInTurn (document_of y.doc) b.own) same (own_behind j b x.0 x.1 x.2)
 
-  pub can_merge : (j : ℕ) (b : Branch) (p : Head) → place_of number c.branches ≡ Some j → slice_get c.branches j ≡ Some b → head_of (without_place c j) (without_head k j) b.parent ≡ Some p
+  pub can_merge : (j : ℕ) (b : Branch) (p : Head) → branch_place number c.branches ≡ Some j → slice_get c.branches j ≡ Some b → head_of (without_place c j) (without_head k j) b.parent ≡ Some p
       → IsSoundInForm (document_of p.doc) × FitInTurn (document_of p.doc) b.own
   can_merge j b p place at head =
       let x = parent_of j b place at in
@@ -202,13 +204,13 @@ module _ (w : World) (i : ℕ) (c : Client) (k : Replica) (s : IsSound w) (at_c 
 
   -- a step by the parent's line, told of the client at the place
   on_own : (q : Client) (v : WorldState) (a : Answer) (does : Client → Branch → Line → Type 0) → slice_get w.lists.clients i ≡ Some q
-      → ((j : ℕ) (b : Branch) (l : Line) (p : Head) → place_of number c.branches ≡ Some j → slice_get c.branches j ≡ Some b → HasParent j b l p → does c b l) → (place_of number c.branches ≡ None → IsUnchanged w.lists v a (No NoBranch))
+      → ((j : ℕ) (b : Branch) (l : Line) (p : Head) → branch_place number c.branches ≡ Some j → slice_get c.branches j ≡ Some b → HasParent j b l p → does c b l) → (branch_place number c.branches ≡ None → IsUnchanged w.lists v a (No NoBranch))
       → OnOwnBranch w.lists q (does q) (branch_of q number) v a
   on_own q v a does at some none =
       let same : c ≡ q = same_some c q (sym at_c ∙ at) in
       subst (λ (x : Client). OnOwnBranch w.lists x (does x) (branch_of x number) v a) same (go there_or_not)
     where
-      go : There ⊎ (place_of number c.branches ≡ None) → OnOwnBranch w.lists c (does c) (branch_of c number) v a
+      go : There ⊎ (branch_place number c.branches ≡ None) → OnOwnBranch w.lists c (does c) (branch_of c number) v a
       go (inr e) = subst (λ o. OnOwnBranch w.lists c (does c) o v a) (sym (no_branch e)) (none e)
       go (inl x) =
           let y = parent_of x.0 x.1 x.2 x.3 in
@@ -228,9 +230,9 @@ module _ (w : World) (i : ℕ) (c : Client) (k : Replica) (s : IsSound w) (at_c 
       let here : on_branch number f c.branches ≡ slice_set c.branches j (f b) = subst (λ n. on_branch n f c.branches ≡ slice_set c.branches j (f b)) named (changed_at f c.branches j b one.client.branches.numbers at) in
       ap (λ (bs : List Branch). record c { branches = bs }) here
 
-  module _ (d : Client) (m : Replica) (a : Answer) (none : place_of number c.branches ≡ None → HasNoLine c k d m a)
-      (rebased : (j : ℕ) (b : Branch) (l : Line) (p : Head) → place_of number c.branches ≡ Some j → slice_get c.branches j ≡ Some b → line_of c b.parent ≡ Some l → head_of c k b.parent ≡ Some p → HasRebased c k j b l p (refusal_to_rebase b) d m a) where
-    rebase_at : (j : ℕ) (b : Branch) (l : Line) (p : Head) → place_of number c.branches ≡ Some j → slice_get c.branches j ≡ Some b → HasParent j b l p
+  module _ (d : Client) (m : Replica) (a : Answer) (none : branch_place number c.branches ≡ None → HasNoLine c k d m a)
+      (rebased : (j : ℕ) (b : Branch) (l : Line) (p : Head) → branch_place number c.branches ≡ Some j → slice_get c.branches j ≡ Some b → line_of c b.parent ≡ Some l → head_of c k b.parent ≡ Some p → HasRebased c k j b l p (refusal_to_rebase b) d m a) where
+    rebase_at : (j : ℕ) (b : Branch) (l : Line) (p : Head) → branch_place number c.branches ≡ Some j → slice_get c.branches j ≡ Some b → HasParent j b l p
         → GoesOnAt d m a × Unless (refusal_to_rebase b) c d a (IsRebased O log c number b l d a)
     rebase_at j b l p place at x = go (refusal_to_rebase b) refl (rebased j b l p place at x.line x.head)
       where
@@ -253,7 +255,7 @@ module _ (w : World) (i : ℕ) (c : Client) (k : Replica) (s : IsSound w) (at_c 
     pub rebases_on : GoesOnAt d m a
     rebases_on = go there_or_not
       where
-        go : There ⊎ (place_of number c.branches ≡ None) → GoesOnAt d m a
+        go : There ⊎ (branch_place number c.branches ≡ None) → GoesOnAt d m a
         go (inr e) = none_at d m a (none e)
         go (inl x) = let y = parent_of x.0 x.1 x.2 x.3 in (rebase_at x.0 x.1 y.0 y.1 x.2 x.3 y.2).0
 
@@ -265,10 +267,10 @@ module _ (w : World) (i : ℕ) (c : Client) (k : Replica) (s : IsSound w) (at_c 
 
   -- ## Merging
 
-  module _ (d : Client) (m : Replica) (a : Answer) (none : place_of number c.branches ≡ None → HasNoLine c k d m a)
-      (merged : (j : ℕ) (b : Branch) (l : Line) (p : Head) → place_of number c.branches ≡ Some j → slice_get c.branches j ≡ Some b → line_of c b.parent ≡ Some l → head_of (without_place c j) (without_head k j) b.parent ≡ Some p
+  module _ (d : Client) (m : Replica) (a : Answer) (none : branch_place number c.branches ≡ None → HasNoLine c k d m a)
+      (merged : (j : ℕ) (b : Branch) (l : Line) (p : Head) → branch_place number c.branches ≡ Some j → slice_get c.branches j ≡ Some b → line_of c b.parent ≡ Some l → head_of (without_place c j) (without_head k j) b.parent ≡ Some p
       → HasMerged c k j b p (refusal_to_merge c number b l) d m a) where
-    merge_at : (j : ℕ) (b : Branch) (l : Line) (p : Head) → place_of number c.branches ≡ Some j → slice_get c.branches j ≡ Some b → HasParent j b l p
+    merge_at : (j : ℕ) (b : Branch) (l : Line) (p : Head) → branch_place number c.branches ≡ Some j → slice_get c.branches j ≡ Some b → HasParent j b l p
         → GoesOnAt d m a × Unless (refusal_to_merge c number b l) c d a (IsMerged O log c number b l d a)
     merge_at j b l p place at x = go (refusal_to_merge c number b l) refl (merged j b l p place at x.line beside)
       where
@@ -303,7 +305,7 @@ module _ (w : World) (i : ℕ) (c : Client) (k : Replica) (s : IsSound w) (at_c 
     pub merges_on : GoesOnAt d m a
     merges_on = go there_or_not
       where
-        go : There ⊎ (place_of number c.branches ≡ None) → GoesOnAt d m a
+        go : There ⊎ (branch_place number c.branches ≡ None) → GoesOnAt d m a
         go (inr e) = none_at d m a (none e)
         go (inl x) = let y = parent_of x.0 x.1 x.2 x.3 in (merge_at x.0 x.1 y.0 y.1 x.2 x.3 y.2).0
 
@@ -315,9 +317,9 @@ module _ (w : World) (i : ℕ) (c : Client) (k : Replica) (s : IsSound w) (at_c 
 
   -- ## Dropping
 
-  module _ (d : Client) (m : Replica) (a : Answer) (none : place_of number c.branches ≡ None → HasNoLine c k d m a)
-      (dropped : (j : ℕ) (b : Branch) → place_of number c.branches ≡ Some j → slice_get c.branches j ≡ Some b → HasDropped c k j b (has_children c number) d m a) where
-    drop_at : (j : ℕ) (b : Branch) (l : Line) (p : Head) → place_of number c.branches ≡ Some j → slice_get c.branches j ≡ Some b → HasParent j b l p → GoesOnAt d m a × (drop_branch c number ≡ (d, a))
+  module _ (d : Client) (m : Replica) (a : Answer) (none : branch_place number c.branches ≡ None → HasNoLine c k d m a)
+      (dropped : (j : ℕ) (b : Branch) → branch_place number c.branches ≡ Some j → slice_get c.branches j ≡ Some b → HasDropped c k j b (has_children c number) d m a) where
+    drop_at : (j : ℕ) (b : Branch) (l : Line) (p : Head) → branch_place number c.branches ≡ Some j → slice_get c.branches j ≡ Some b → HasParent j b l p → GoesOnAt d m a × (drop_branch c number ≡ (d, a))
     drop_at j b l p place at x = go (has_children c number) refl (dropped j b place at)
       where
         gone : without_branch c number ≡ without_place c j
@@ -342,7 +344,7 @@ module _ (w : World) (i : ℕ) (c : Client) (k : Replica) (s : IsSound w) (at_c 
     pub drops_on : GoesOnAt d m a
     drops_on = go there_or_not
       where
-        go : There ⊎ (place_of number c.branches ≡ None) → GoesOnAt d m a
+        go : There ⊎ (branch_place number c.branches ≡ None) → GoesOnAt d m a
         go (inr e) = none_at d m a (none e)
         go (inl x) = let y = parent_of x.0 x.1 x.2 x.3 in (drop_at x.0 x.1 y.0 y.1 x.2 x.3 y.2).0
 

@@ -16,8 +16,10 @@ use Rattle.st_lists.specs.Names.{names_in, names_made, names_on, names_on_all, u
 use Rattle.st_lists.specs.declared.lists.Branch.{Branch}
 use Rattle.st_lists.specs.declared.lists.Client.{Client}
 use Rattle.st_marks.specs.declared.intents.Intent.{Intent}
-use Rattle.st_trace.specs.declared.replica.Replica.{Replica}
-use Rattle.st_trace.specs.inside.Branches.{head_of, place_of, void_among}
+use Rattle.st_heads.specs.declared.replica.Replica.{Replica}
+use Rattle.st_heads.specs.Replicas.{head_of}
+use Rattle.st_lists.specs.Lines.{branch_place}
+use Rattle.st_trace.specs.inside.Branches.{void_among}
 
 -- ## Places
 
@@ -49,26 +51,26 @@ position_step p x xs = step (p x) (position_or_len p xs) (length xs)
     step false n m = further n m (nat_lt n m) refl
 
 -- the branch of a number is at its place
-pub found_at : (k : ℕ) (bs : List Branch) (b : Branch) → find (λ (x : Branch). x.number == k) bs ≡ Some b → (j : ℕ) × (place_of k bs ≡ Some j) × (slice_get bs j ≡ Some b) × (b.number ≡ k)
+pub found_at : (k : ℕ) (bs : List Branch) (b : Branch) → find (λ (x : Branch). x.number == k) bs ≡ Some b → (j : ℕ) × (branch_place k bs ≡ Some j) × (slice_get bs j ≡ Some b) × (b.number ≡ k)
 found_at k [] b e = cc
 found_at k (x ∷ xs) b e = go (x.number == k) refl (λ e. found_at k xs b e) e
   where
-    go : (y : Bool) → (x.number == k) ≡ y → (find (λ (x : Branch). x.number == k) xs ≡ Some b → (j : ℕ) × (place_of k xs ≡ Some j) × (slice_get xs j ≡ Some b) × (b.number ≡ k)) → cond y (Some x) (find (λ (x : Branch). x.number == k) xs) ≡ Some b
+    go : (y : Bool) → (x.number == k) ≡ y → (find (λ (x : Branch). x.number == k) xs ≡ Some b → (j : ℕ) × (branch_place k xs ≡ Some j) × (slice_get xs j ≡ Some b) × (b.number ≡ k)) → cond y (Some x) (find (λ (x : Branch). x.number == k) xs) ≡ Some b
         → (j : ℕ) × (position (λ (x : Branch). x.number == k) (x ∷ xs) ≡ Some j) × (slice_get (x ∷ xs) j ≡ Some b) × (b.number ≡ k)
     go true t rest e =
         let same : x ≡ b = cc in
-        (0, position_step (λ (z : Branch). z.number == k) x xs ∙ ap (λ y. cond y (Some 0) (option_map suc (place_of k xs))) t, e, ap (λ (z : Branch). z.number) (sym same) ∙ number_is x.number k t)
+        (0, position_step (λ (z : Branch). z.number == k) x xs ∙ ap (λ y. cond y (Some 0) (option_map suc (branch_place k xs))) t, e, ap (λ (z : Branch). z.number) (sym same) ∙ number_is x.number k t)
     go false t rest e =
         let r = rest e in
-        (suc r.0, position_step (λ (z : Branch). z.number == k) x xs ∙ ap (λ y. cond y (Some 0) (option_map suc (place_of k xs))) t ∙ ap (option_map suc) r.1, r.2, r.3)
+        (suc r.0, position_step (λ (z : Branch). z.number == k) x xs ∙ ap (λ y. cond y (Some 0) (option_map suc (branch_place k xs))) t ∙ ap (option_map suc) r.1, r.2, r.3)
 
 -- the branch of a number, by its place
-pub found_by : (k : ℕ) (bs : List Branch) (j : ℕ) → place_of k bs ≡ Some j → (b : Branch) × (find (λ (x : Branch). x.number == k) bs ≡ Some b) × (slice_get bs j ≡ Some b) × (b.number ≡ k)
+pub found_by : (k : ℕ) (bs : List Branch) (j : ℕ) → branch_place k bs ≡ Some j → (b : Branch) × (find (λ (x : Branch). x.number == k) bs ≡ Some b) × (slice_get bs j ≡ Some b) × (b.number ≡ k)
 found_by k [] j e = cc
 found_by k (x ∷ xs) j e = go (x.number == k) refl (position (λ (x : Branch). x.number == k) xs) refl (λ i is. found_by k xs i is) (sym (position_step (λ (z : Branch). z.number == k) x xs) ∙ e)
   where
     go : (y : Bool) → (x.number == k) ≡ y → (o : Option ℕ) → position (λ (x : Branch). x.number == k) xs ≡ o
-        → ((i : ℕ) → place_of k xs ≡ Some i → (b : Branch) × (find (λ (x : Branch). x.number == k) xs ≡ Some b) × (slice_get xs i ≡ Some b) × (b.number ≡ k)) → cond y (Some 0) (option_map suc o) ≡ Some j
+        → ((i : ℕ) → branch_place k xs ≡ Some i → (b : Branch) × (find (λ (x : Branch). x.number == k) xs ≡ Some b) × (slice_get xs i ≡ Some b) × (b.number ≡ k)) → cond y (Some 0) (option_map suc o) ≡ Some j
         → (b : Branch) × (find (λ (x : Branch). x.number == k) (x ∷ xs) ≡ Some b) × (slice_get (x ∷ xs) j ≡ Some b) × (b.number ≡ k)
     go true t o is rest e = let first : 0 ≡ j = cc in (x, rw t refl, subst (λ i. slice_get (x ∷ xs) i ≡ Some x) first refl, number_is x.number k t)
     go false t None is rest e = absurd (cc)

@@ -4,7 +4,7 @@ use Rattle.std.proofs.lemmas.List.{append-nil}
 use Rattle.std.specs.List.{AllByRecursion, slice_get, slice_set}
 use Rattle.std.specs.Option.{option_and_then, option_map_or}
 use Rattle.std.specs.Prelude.{not, option_map, ◌==◌}
-use Rattle.st_heads.specs.Transactions.{IsWithPart, with_open, FitsSoFar}
+use Rattle.st_lists.specs.Open.{IsWithPart, with_open, FitsSoFar}
 use Rattle.st_ids.proofs.Shared.{filter-has, filtered}
 use Rattle.st_ids.specs.Listing.{Has}
 use Rattle.st_ids.specs.Root.{opening}

@@ -7,7 +7,7 @@ use Rattle.st_ids.specs.declared.names.LimitOf.TheVariants.{Pending, Branch}
 use Rattle.st_lists.proofs.Names.{cells_few, names_append}
 use Rattle.st_lists.specs.Limits.{own_limit_passed}
 use Rattle.st_lists.specs.Lines.{Line}
-use Rattle.st_trace.specs.inside.Edits.{line_limit}
+use Rattle.st_lists.specs.Limits.{line_limit}
 use Rattle.st_marks.specs.declared.intents.Intent.{Intent}
 use Rattle.st_marks.specs.Document.{Document}
 use Rattle.st_log_laws.specs.Turns.{HasRoom}

@@ -11,7 +11,7 @@ use Rattle.st_marks.specs.declared.schemas.SchemaEntry.{SchemaEntry}
 use Rattle.st_marks.specs.Document.{Document, IsSoundInForm, first_of, last_of, revs}
 use Rattle.st_marks.proofs.Members.{all-has}
 use Rattle.st_marks.proofs.OneVerdict.{one_run}
-use Rattle.st_heads.specs.Transactions.{FitsSoFar, with_open}
+use Rattle.st_lists.specs.Open.{FitsSoFar, with_open}
 use Rattle.st_log_laws.proofs.Turns.{turn_extends}
 use Rattle.st_script.specs.Header.{HeaderView}
 use Rattle.st_lists.specs.Lines.{HasHead, Line, branch_line, commits_of, line_of, main_line}
@@ -19,12 +19,14 @@ use Rattle.st_lists.specs.declared.lists.Branch.{Branch}
 use Rattle.st_lists.specs.declared.lists.Client.{Client}
 use Rattle.st_lists.specs.declared.lists.Entry.{Entry}
 use Rattle.st_lists.specs.declared.lists.Transaction.{Transaction}
-use Rattle.st_schema_laws.specs.AgreeingInEffect.{AgreesInLine, ConformsInEffect, schema_in_effect}
+use Rattle.st_schema_laws.specs.AgreeingInEffect.{AgreesInLine, ConformsInEffect}
+use Rattle.st_edits.specs.InEffect.{schema_in_effect}
 use Rattle.st_schema_laws.proofs.Entries.{entries_from}
 use Rattle.st_schema_laws.proofs.Lines.{line_after_conforms}
 use Rattle.st_trace.specs.Replicas.{BranchesKeepSchemas, CommitsKeepSchemas, EditsKeepSchemas, IsClient, IsTransaction, KeepToSchemas}
 use Rattle.st_trace.specs.Schemas.{IsKnownBy}
-use Rattle.st_trace.specs.World.{HasShown, last_in_effect, opening_document}
+use Rattle.st_trace.specs.World.{HasShown, opening_document}
+use Rattle.st_edits.specs.InEffect.{last_in_effect}
 use Rattle.st_trace.proofs.Agreed.{open_conforms}
 use Rattle.st_trace.proofs.Among.{line_fit, line_transaction}
 use Rattle.st_trace.proofs.Begun.{IsStart}

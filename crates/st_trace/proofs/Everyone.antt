@@ -10,7 +10,7 @@ use Rattle.st_lists.specs.Log.{commit_in, log_with, commits_in}
 use Rattle.st_lists.proofs.Present.{are_apart}
 use Rattle.st_lists.specs.Names.{names_in, names_in_text}
 use Rattle.st_trace.specs.World.{opening_document}
-use Rattle.st_trace.specs.declared.replica.Replica.{Replica}
+use Rattle.st_heads.specs.declared.replica.Replica.{Replica}
 use Rattle.st_lists.specs.declared.lists.Client.{Client}
 use Rattle.st_lists.specs.declared.lists.Entry.{Entry}
 use Rattle.st_trace.proofs.Begun.{IsStart}

@@ -1,5 +1,5 @@
 -- The lists of a world by themselves: what holds of them holds after each step.
-use Rattle.st_schema_laws.specs.AgreeingInEffect.{schema_in_effect}
+use Rattle.st_edits.specs.InEffect.{schema_in_effect}
 use Rattle.st_trace.proofs.Parts.{editable, client_begun, client_commits, client_ended, client_parted, edited_room, names_edited}
 use Rattle.st_lists.specs.Lines.{HasHead, Line, commits_of, main_line, with_commit_on}
 use Rattle.st_lists.specs.Names.{names_in, names_in_text, names_made, names_on_all}
@@ -7,7 +7,8 @@ use Rattle.st_lists.specs.declared.lists.Branch.{Branch}
 use Rattle.st_trace.proofs.Clients.{client_acked, client_after_text, client_beside, client_committed, client_joined, client_none, client_offline, client_other, client_own, client_returned, client_sent, next_apart, next_new}
 use Rattle.st_trace.proofs.Meant.{IsEditable, IsMeaning, IsMeant}
 use Rattle.st_trace.specs.Replicas.{HasMain, HaveOwnSessions, IsClient, IsEntryOf, IsHeader, IsSound, IsTransaction, KeepToSchemas, LineFits}
-use Rattle.st_trace.specs.World.{HasShown, IsAfterEdit, IsAfterNeed, IsDeliveredIn, IsDeliveredTo, IsEditedIn, IsJoined, abort, after_commit, after_edit, begin, commit, last_in_effect, next_names, opening_document, with_beginning, with_new_on}
+use Rattle.st_trace.specs.World.{HasShown, IsAfterEdit, IsAfterNeed, IsDeliveredIn, IsDeliveredTo, IsEditedIn, IsJoined, abort, after_commit, after_edit, begin, commit, next_names, opening_document, with_beginning, with_new_on}
+use Rattle.st_edits.specs.InEffect.{last_in_effect}
 use Rattle.std.proofs.Common.{◌≡◌, ◌≢◌, ◌≤◌, ◌+◌, ◌==◌, ℕ, zero, suc, Bool, true, false, List, [], ◌∷◌, ◌++◌, length, drop, Option, Some, None, IfSome, Result, Ok, Err, refl, sym, ap, ◌∙◌, subst, arith, inl, is_some}
 use Rattle.std.specs.List.{cons_option, remove, slice_get, slice_set, AllByRecursion}
 use Rattle.std.proofs.lemmas.List.{append-nil}
@@ -22,7 +23,7 @@ use Rattle.st_script.specs.Header.{HeaderView, header_view}
 use Rattle.st_script.specs.declared.answer.Answer.{Answer}
 use Rattle.st_lists.specs.Log.{commit_in, commit_of, commits_in, commits_of_text, log_with, sessions_in}
 use Rattle.st_lists.specs.Clients.{empty_state, joined_of, new_client, next_rev, with_ack, pending_after, with_begun, with_commit, with_connection, with_new_commit, with_received, without_connection, without_transaction}
-use Rattle.st_heads.specs.Transactions.{with_open}
+use Rattle.st_lists.specs.Open.{with_open}
 use Rattle.st_marks.proofs.OneVerdict.{one_run}
 use Rattle.std.specs.Option.{option_and_then, option_map_or}
 use Rattle.st_ids.specs.declared.names.Rev.{Rev}
@@ -35,7 +36,7 @@ use Rattle.st_lists.specs.declared.lists.Transaction.{Transaction}
 use Rattle.st_lists.specs.declared.lists.WorldState.{WorldState}
 use Rattle.st_trace.specs.declared.world.World.{World}
 use Rattle.st_marks.specs.declared.verdicts.Verdict.{Verdict}
-use Rattle.st_heads.specs.Undoing.{IsUndoing}
+use Rattle.st_lists.specs.Undoing.{IsUndoing}
 use Rattle.st_heads.proofs.Fitting.{undoing_fits}
 use Rattle.st_script.specs.declared.refusal.Refusal.{Refusal}
 use Rattle.st_trace.specs.Kept.{Unless}
@@ -55,7 +56,7 @@ use Rattle.st_trace.proofs.Stepping.{given_still, is_last, of_sessions}
 use Rattle.st_lemmas.proofs.Lists.{AllByRecursion-append}
 use Rattle.st_lists.specs.declared.lists.Body.{Body}
 use Rattle.st_trace.specs.Schemas.{HasReading}
-use Rattle.st_heads.specs.Undoing.{IsAt}
+use Rattle.st_lists.specs.Undoing.{IsAt}
 use Rattle.st_schema.specs.Schema.{is_sound}
 use Rattle.st_trace.proofs.Effect.{schema_sound_on}
 use Rattle.st_trace.proofs.BranchesAgree.{main_in_order}

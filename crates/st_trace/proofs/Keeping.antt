@@ -26,17 +26,19 @@ use Rattle.st_heads.specs.Remembered.{AreCarried, none as nothing_done}
 use Rattle.st_heads.proofs.Runs.{as_many, run_of, runs_joined}
 use Rattle.st_script.specs.Header.{HeaderView}
 use Rattle.st_script.specs.declared.answer.Answer.{Answer}
-use Rattle.st_trace.specs.inside.Replicas.{HasCaughtUp, IsCommitted, IsPending, HasTaken, HasPart, HasCommittedOf, IsNewReplica, CanReceive, CanCarry, HasMoved, HasReceivedNext, HasReceivedOf, HasReceivedOne}
+use Rattle.st_trace.specs.inside.Replicas.{HasCaughtUp, IsPending, HasTaken, HasPart, HasCommittedOf, IsNewReplica, CanReceive, CanCarry, HasMoved, HasReceivedNext, HasReceivedOf, HasReceivedOne}
+use Rattle.st_heads.specs.Replicas.{IsCommitted}
 use Rattle.st_lists.specs.Log.{commit_of, commits_in, log_with, waiting}
 use Rattle.st_lists.specs.Clients.{joined_of, with_begun, with_connection, with_edited, with_new_commit, with_transaction, without_connection, without_transaction, new_client, pending_after, received_by, with_received}
 use Rattle.st_lists.specs.Lines.{main_line}
 use Rattle.st_lists.specs.declared.lists.Transaction.{Transaction}
-use Rattle.st_heads.specs.Transactions.{HasOpen, with_open}
+use Rattle.st_heads.specs.Transactions.{HasOpen}
+use Rattle.st_lists.specs.Open.{with_open}
 use Rattle.st_ids.specs.declared.names.Rev.{Rev}
 use Rattle.std.specs.Option.{option_and_then, option_or}
 use Rattle.st_lists.specs.Limits.{limit_passed, names_limit_passed, pending_limit_passed}
 use Rattle.st_trace.specs.declared.client.EditWord.{EditWord}
-use Rattle.st_trace.specs.declared.replica.Replica.{Replica}
+use Rattle.st_heads.specs.declared.replica.Replica.{Replica}
 use Rattle.st_lists.specs.declared.lists.Body.{Body}
 use Rattle.st_lists.specs.declared.lists.Body.TheVariants.{Join}
 use Rattle.st_lists.specs.declared.lists.Client.{Client}

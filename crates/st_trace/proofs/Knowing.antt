@@ -19,17 +19,18 @@ use Rattle.st_marks.specs.Document.{Document, last_of, revs}
 use Rattle.st_marks.proofs.OneVerdict.{one_run}
 use Rattle.st_doc.specs.LiveText.{is_among}
 use Rattle.st_edits.specs.ArrayTypes.{is_array_type}
-use Rattle.st_heads.specs.Transactions.{FitsSoFar, with_open}
+use Rattle.st_lists.specs.Open.{FitsSoFar, with_open}
 use Rattle.st_script.specs.Header.{HeaderView, header_view}
 use Rattle.st_lists.specs.Lines.{HasHead, Line, edited_on, line_of}
 use Rattle.st_lists.specs.declared.lists.Client.{Client}
 use Rattle.st_lists.specs.declared.lists.Entry.{Entry}
 use Rattle.st_lists.specs.declared.lists.Transaction.{Transaction}
-use Rattle.st_schema_laws.specs.AgreeingInEffect.{empty_schema, schema_in_effect}
+use Rattle.st_edits.specs.InEffect.{empty_schema, schema_in_effect}
 use Rattle.st_schema_laws.proofs.Texts.{schema_text}
 use Rattle.st_trace.specs.Replicas.{IsClient, IsSound, IsTransaction}
 use Rattle.st_trace.specs.Schemas.{HasReading}
-use Rattle.st_trace.specs.World.{HasShown, last_in_effect, opening_document}
+use Rattle.st_trace.specs.World.{HasShown, opening_document}
+use Rattle.st_edits.specs.InEffect.{last_in_effect}
 use Rattle.st_trace.specs.declared.known.KnownSchema.{KnownSchema}
 use Rattle.st_trace.specs.declared.world.World.{World}
 use Rattle.st_trace.proofs.Among.{line_transaction}

@@ -1,5 +1,5 @@
 -- From lists of which holds what steps keep, each step leads on: there are next lists, of which the same holds, and an answer.
-use Rattle.st_schema_laws.specs.AgreeingInEffect.{schema_in_effect}
+use Rattle.st_edits.specs.InEffect.{schema_in_effect}
 use Rattle.std.proofs.lemmas.Bool.Decides.{nat_tests}
 use Rattle.std.proofs.Common.{is_some, Bool, Err, IfSome, IsSome, List, None, Ok, Option, Result, Some, [], cond, false, inl, inr, length, map, nat_le, refl, subst, true, ℕ, ◌++◌, ◌+◌, ◌∷◌, ◌≡◌, ◌⊎◌, ap, sym, ◌<◌, arith}
 use Rattle.std.specs.Option.{option_and_then, option_map_or, option_or}
@@ -9,7 +9,8 @@ use Rattle.st_lists.specs.Lines.{HasHead, Line, commits_of, edited_on, line_of, 
 use Rattle.st_trace.proofs.Going.{Any, AreSound, GoesOn, LineGoes, ack_goes, delivery_goes, dropped_sound, joined_sound, left_sound, lists_sound, meant_in, returned_sound, sent_sound, set_sound, undo_goes, main_goes}
 use Rattle.st_trace.proofs.Parts.{next_joined}
 use Rattle.st_trace.specs.Replicas.{IsClient, IsSound, IsTransaction}
-use Rattle.st_trace.specs.World.{AtClient, ByConnected, HasShown, IsActOf, IsAfterEdit, IsAfterNeed, IsBegun, IsBranchDropped, IsDelivered, IsDeliveredIn, IsDeliveredTo, IsDoneIn, IsEdited, IsEditedIn, IsForked, IsJoined, IsMergedBy, IsNeeded, IsNext, IsPendingTold, IsRebasedBy, IsShown, IsUndoneBy, IsVerdictOf, OnLine, abort, act_of_none, after_edit, after_entry, answer_of, begin, branch_at, cells_given, commit, drop_client, intent_of, join, last_in_effect, leave, limit_refusal, needs_connection, next_names, opening_document, reconnect, refusal_of, refusal_to_reconnect, sequence, with_client, word_of, IsUpgradedBy}
+use Rattle.st_trace.specs.World.{AtClient, ByConnected, HasShown, IsActOf, IsAfterEdit, IsAfterNeed, IsBegun, IsBranchDropped, IsDelivered, IsDeliveredIn, IsDeliveredTo, IsDoneIn, IsEdited, IsEditedIn, IsForked, IsJoined, IsMergedBy, IsNeeded, IsNext, IsPendingTold, IsRebasedBy, IsShown, IsUndoneBy, IsVerdictOf, OnLine, abort, act_of_none, after_edit, after_entry, answer_of, begin, branch_at, cells_given, commit, drop_client, intent_of, join, leave, limit_refusal, needs_connection, next_names, opening_document, reconnect, refusal_of, refusal_to_reconnect, sequence, with_client, word_of, IsUpgradedBy}
+use Rattle.st_edits.specs.InEffect.{last_in_effect}
 use Rattle.std.specs.List.{find, slice_get, slice_set}
 use Rattle.serde_json.specs.Written.{compact_text}
 use Rattle.st_ids.specs.Listing.{Has}
@@ -45,7 +46,7 @@ use Rattle.st_script.specs.declared.answer.Answer.{Answer}
 use Rattle.st_script.specs.declared.answer.Answer.TheVariants.{Ack, Deliver, Join as Joins, No, Pending, Show, Upgrade as Upgrades}
 use Rattle.st_script.specs.declared.refusal.Refusal.{Refusal}
 use Rattle.st_script.specs.declared.refusal.Refusal.TheVariants.{Limit as OverLimit, NoBranch, NoClient, NotBegun, NotConnected, NothingNew, NothingToSend, Taken, Unfinished}
-use Rattle.st_heads.specs.Transactions.{with_open}
+use Rattle.st_lists.specs.Open.{with_open}
 use Rattle.st_lists.specs.declared.lists.Transaction.{Transaction}
 use Rattle.st_lists.specs.Log.{commit_of, log_with, sessions_in}
 use Rattle.st_lists.specs.Limits.{entries_limit_passed, log_limit_passed, names_limit_passed, pending_limit_passed}

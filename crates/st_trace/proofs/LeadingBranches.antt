@@ -24,7 +24,8 @@ use Rattle.st_trace.proofs.LineGoing.{line_goes}
 use Rattle.st_trace.proofs.Lookup.{branch_there}
 use Rattle.st_trace.proofs.Rebasing.{own_fits_behind_parent}
 use Rattle.st_trace.proofs.Voids.{has_void}
-use Rattle.st_trace.specs.Branches.{AreVoid, IsMerged, IsRebased, drop_branch, fork, refusal_to_fork, refusal_to_merge, refusal_to_rebase}
+use Rattle.st_lists.specs.Voids.{AreVoid}
+use Rattle.st_trace.specs.Branches.{IsMerged, IsRebased, drop_branch, fork, refusal_to_fork, refusal_to_merge, refusal_to_rebase}
 use Rattle.st_trace.specs.Kept.{Unless}
 use Rattle.st_trace.specs.Replicas.{IsClient}
 use Rattle.st_trace.specs.World.{IsForked, OnOwnBranch, OnParent, opening_document, with_client}

@@ -1,12 +1,13 @@
 -- What a client can do on one of its lines, by the head that is kept of it.
-use Rattle.st_schema_laws.specs.AgreeingInEffect.{schema_in_effect}
+use Rattle.st_edits.specs.InEffect.{schema_in_effect}
 use Rattle.st_trace.proofs.Among.{line_room, line_transaction, line_fit, line_new}
 use Rattle.std.proofs.Common.{IfSome, List, None, Ok, Option, Result, Some, [], ap, arith, refl, subst, sym, true, ℕ, ◌++◌, ◌+◌, ◌∙◌, ◌∷◌, ◌≡◌, ◌≤◌}
 use Rattle.std.specs.Option.{option_and_then}
 use Rattle.st_doc.specs.Doc.{document_of}
 use Rattle.st_edits.specs.Resolve.{need, resolve}
 use Rattle.st_heads.proofs.Runs.{run_of}
-use Rattle.st_heads.specs.Transactions.{FitsSoFar, HasOpen, IsSoundPart, IsWithPart, with_open}
+use Rattle.st_lists.specs.Open.{FitsSoFar, IsSoundPart, IsWithPart, with_open}
+use Rattle.st_heads.specs.Transactions.{HasOpen}
 use Rattle.st_heads.specs.declared.heads.Head.{Head}
 use Rattle.st_ids.specs.Listing.{Has}
 use Rattle.st_ids.specs.Root.{opening}

@@ -4,7 +4,7 @@ use Rattle.std.proofs.Common.{Bool, Err, IfSome, List, None, Ok, Option, Result,
 use Rattle.std.proofs.lemmas.Bool.Decides.{nat_tests}
 use Rattle.std.specs.List.{AllByRecursion, slice_get, slice_set}
 use Rattle.std.specs.Option.{option_and_then, option_or}
-use Rattle.st_heads.specs.Transactions.{with_open}
+use Rattle.st_lists.specs.Open.{with_open}
 use Rattle.st_ids.specs.declared.names.Limit.{Limit}
 use Rattle.st_lists.specs.Clients.{new_transaction, next_rev, with_edited}
 use Rattle.st_lists.specs.Limits.{names_limit_passed, own_limit_passed}
@@ -32,7 +32,8 @@ use Rattle.st_trace.proofs.LineActs.{line_editable}
 use Rattle.st_trace.proofs.Meant.{IsMeaning, IsMeant}
 use Rattle.st_trace.proofs.Parts.{client_adds, client_begins, client_commits_on, client_edited, client_ends, edited_room_on}
 use Rattle.st_trace.specs.Replicas.{HaveOwnSessions, IsClient, IsTransaction, KeepToSchemas, LineFits}
-use Rattle.st_trace.specs.World.{HasShown, IsAfterEdit, IsAfterNeed, IsEditedIn, IsJoined, abort, after_commit, after_edit, begin, cells_given, commit, last_in_effect, next_names, opening_document, with_beginning, with_new_on}
+use Rattle.st_trace.specs.World.{HasShown, IsAfterEdit, IsAfterNeed, IsEditedIn, IsJoined, abort, after_commit, after_edit, begin, cells_given, commit, next_names, opening_document, with_beginning, with_new_on}
+use Rattle.st_edits.specs.InEffect.{last_in_effect}
 use Rattle.st_trace.specs.declared.client.EditWord.{EditWord}
 use Rattle.st_tree.specs.declared.edit.EditFault.{EditFault}
 use Rattle.st_ids.specs.declared.names.LimitOf.TheVariants as limit

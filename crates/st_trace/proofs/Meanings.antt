@@ -18,7 +18,7 @@ use Rattle.st_ids.specs.Or.{and_then}
 use Rattle.st_edits.specs.Paths.{field_at, row_length}
 use Rattle.st_edits.specs.Resolve.{allowed_nodes, require, clear, insert, intent_to_insert, may_move, move, intent_to_move, need, empty_intent, intent_to_place, put, remove, intent_to_remove, rule_for, nodes_taken, walk, within_row}
 use Rattle.st_edits.proofs.Fits.{passed}
-use Rattle.st_trace.specs.World.{last_in_effect}
+use Rattle.st_edits.specs.InEffect.{last_in_effect}
 
 abbrev pub IsOf : Document → NameCounters → Intent → Type 0
 IsOf D G N = (N.rev ≡ G.rev) × (N.schema ≡ None) × (N.under ≡ last_in_effect D)

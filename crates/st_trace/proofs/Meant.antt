@@ -25,7 +25,8 @@ use Rattle.st_schema_laws.proofs.Removed.{removal_verdict}
 use Rattle.st_schema_laws.specs.Agreeing.{TellsHomes}
 use Rattle.st_tree.specs.declared.edit.Edit.{Edit}
 use Rattle.st_tree.specs.declared.edit.Edit.TheVariants as tree_edit
-use Rattle.st_schema_laws.specs.AgreeingInEffect.{AgreesInLine, ConformsInEffect, Told, schema_in_effect}
+use Rattle.st_schema_laws.specs.AgreeingInEffect.{AgreesInLine, ConformsInEffect, Told}
+use Rattle.st_edits.specs.InEffect.{schema_in_effect}
 use Rattle.st_schema_laws.proofs.SchemasKept.{edit_agrees}
 use Rattle.st_schema_laws.proofs.Read.{read_as_told}
 use Rattle.st_trace.proofs.Trees.{tree_from, tree_seen, trees_from, trees_seen}
@@ -35,7 +36,8 @@ use Rattle.st_script.specs.declared.step.EditAct.{EditAct}
 use Rattle.st_script.specs.declared.step.EditAct.TheVariants as edits
 use Rattle.st_trace.specs.declared.client.EditWord.{EditWord}
 use Rattle.st_trace.specs.inside.Edits.{edit_of}
-use Rattle.st_trace.specs.World.{cells_given, intent_of, last_in_effect, word_of}
+use Rattle.st_trace.specs.World.{cells_given, intent_of, word_of}
+use Rattle.st_edits.specs.InEffect.{last_in_effect}
 use Rattle.st_trace.proofs.Meanings.{clear_of, insert_of, move_of, need_of, put_of, remove_of}
 
 -- an intent that an edit means fits the document and is sound there, is made under the last schema in effect with the names

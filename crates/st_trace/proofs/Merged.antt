@@ -19,8 +19,10 @@ use Rattle.st_script.specs.declared.refusal.Refusal.{Refusal}
 use Rattle.st_trace.proofs.Branched.{found_at, found_by}
 use Rattle.st_trace.specs.Branches.{refusal_to_merge}
 use Rattle.st_trace.specs.declared.branches.LineState.{LineState}
-use Rattle.st_trace.specs.declared.replica.Replica.{Replica}
-use Rattle.st_trace.specs.inside.Branches.{HasMerged, HasMergedInto, head_of, place_of, state_of, void_among, without_head, without_place}
+use Rattle.st_heads.specs.declared.replica.Replica.{Replica}
+use Rattle.st_trace.specs.inside.Branches.{HasMerged, HasMergedInto, state_of, void_among, without_head, without_place}
+use Rattle.st_heads.specs.Replicas.{head_of}
+use Rattle.st_lists.specs.Lines.{branch_place}
 
 -- ## Into a line
 
@@ -31,7 +33,7 @@ merged_main c d k l zero Ns revs z is_d run is_l void p at =
     subst (λ q. HasMergedInto c k 0 q Ns d l (Merge revs)) same (l.main, run.more, run.run, run.own, run.edited, is_d, is_l, ap (λ r. Merge r) (void run.more run.own))
 merged_main c d k l (suc n) Ns revs z is_d run is_l void p at = absurd (cc)
 
-pub merged_branch : (c d : Client) (k l : Replica) (n j : ℕ) (b x : Branch) (g h : Head) (Ns : List Intent) (revs : List Rev) → n ≢ 0 → place_of n c.branches ≡ Some j → slice_get c.branches j ≡ Some b → slice_get k.branches j ≡ Some g
+pub merged_branch : (c d : Client) (k l : Replica) (n j : ℕ) (b x : Branch) (g h : Head) (Ns : List Intent) (revs : List Rev) → n ≢ 0 → branch_place n c.branches ≡ Some j → slice_get c.branches j ≡ Some b → slice_get k.branches j ≡ Some g
     → x ≡ record b { own = b.own ++ Ns } → HasCarried g Ns h → ((ks : List Carried) → h.own ≡ g.own ++ ks → revs ≡ void_among Ns ks) → d ≡ record c { branches = slice_set c.branches j x } → l ≡ record k { branches = slice_set k.branches j h }
     → (p : Head) → head_of c k n ≡ Some p → HasMergedInto c k n p Ns d l (Merge revs)
 merged_branch c d k l zero j b x g h Ns revs other place at at_g is_x run void is_d is_l p at_p = absurd (other refl)
@@ -42,12 +44,12 @@ merged_branch c d k l (suc n) j b x g h Ns revs other place at at_g is_x run voi
     (j, b, h, run.more, place, at, run.run, run.own, run.edited, is_d ∙ ap (λ (y : Branch). record c { branches = slice_set c.branches j y }) is_x, is_l, ap (λ r. Merge r) (void run.more run.own))
 
 -- the head of a branch is at its place
-pub head_by : (c : Client) (k : Replica) (n j : ℕ) (g : Head) → n ≢ 0 → place_of n c.branches ≡ Some j → slice_get k.branches j ≡ Some g → head_of c k n ≡ Some g
+pub head_by : (c : Client) (k : Replica) (n j : ℕ) (g : Head) → n ≢ 0 → branch_place n c.branches ≡ Some j → slice_get k.branches j ≡ Some g → head_of c k n ≡ Some g
 head_by c k zero j g other place at = absurd (other refl)
 head_by c k (suc n) j g other place at = ap (option_and_then (λ i. slice_get k.branches i)) place ∙ at
 
 -- a branch is at its place
-pub place_there : (bs : List Branch) (n j : ℕ) → place_of n bs ≡ Some j → slice_get bs j ≡ None → ⊥
+pub place_there : (bs : List Branch) (n j : ℕ) → branch_place n bs ≡ Some j → slice_get bs j ≡ None → ⊥
 place_there bs n j place none = differ (slice_get bs j) none (found_by n bs j place).2
   where
     differ : (o : Option Branch) → o ≡ None → {b : Branch} → o ≡ Some b → ⊥
@@ -56,10 +58,10 @@ place_there bs n j place none = differ (slice_get bs j) none (found_by n bs j pl
 -- ## A branch into its parent
 
 -- what is told of a merge by the branch, and its parent's state, is so for the line of that state
-pub merge_as : (c : Client) (k : Replica) (n i : ℕ) (x : Branch) (q : LineState) (o : Option Refusal) (P : ℕ → Branch → Head → Option Refusal → Type 0) → place_of n c.branches ≡ Some i → slice_get c.branches i ≡ Some x
+pub merge_as : (c : Client) (k : Replica) (n i : ℕ) (x : Branch) (q : LineState) (o : Option Refusal) (P : ℕ → Branch → Head → Option Refusal → Type 0) → branch_place n c.branches ≡ Some i → slice_get c.branches i ≡ Some x
     → option_map state_of (line_of c x.parent) ≡ Some q → ((l : Line) → state_of l ≡ q → o ≡ refusal_to_merge c x.number x l)
     → ((p : Head) → head_of (without_place c i) (without_head k i) x.parent ≡ Some p → P i x p o)
-    → (j : ℕ) (b : Branch) (l : Line) (p : Head) → place_of n c.branches ≡ Some j → slice_get c.branches j ≡ Some b → line_of c b.parent ≡ Some l → head_of (without_place c j) (without_head k j) b.parent ≡ Some p
+    → (j : ℕ) (b : Branch) (l : Line) (p : Head) → branch_place n c.branches ≡ Some j → slice_get c.branches j ≡ Some b → line_of c b.parent ≡ Some l → head_of (without_place c j) (without_head k j) b.parent ≡ Some p
     → P j b p (refusal_to_merge c n b l)
 merge_as c k n i x q o P place at state refusal holds j b l p place_j at_b line at_p =
     let same : i ≡ j = one_some i j (sym place ∙ place_j) in

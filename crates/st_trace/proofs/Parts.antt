@@ -37,7 +37,7 @@ use Rattle.st_edits.specs.Given.{IsCountedFrom}
 use Rattle.st_join.proofs.JoinNames.{cells_of_both, nodes_of_both}
 use Rattle.st_join.proofs.JoinOf.{joined_is_join}
 use Rattle.st_join.specs.inside.Lists.{join_of}
-use Rattle.st_heads.specs.Transactions.{FitsSoFar, IsSoundPart, IsWithPart, with_open}
+use Rattle.st_lists.specs.Open.{FitsSoFar, IsSoundPart, IsWithPart, with_open}
 use Rattle.st_heads.specs.inside.Parts.{CanFollow}
 use Rattle.st_heads.proofs.Editing.{can_follow, fits_so_far, open_shows}
 use Rattle.st_script.specs.Header.{HeaderView}
@@ -47,7 +47,8 @@ use Rattle.st_lists.specs.declared.lists.Entry.{Entry}
 use Rattle.st_lists.specs.declared.lists.Transaction.{Transaction}
 use Rattle.st_trace.specs.declared.client.EditWord.{EditWord}
 use Rattle.st_trace.specs.Replicas.{HasMain, IsClient, IsTransaction, LineFits}
-use Rattle.st_trace.specs.World.{HasShown, cells_given, last_in_effect, next_names, opening_document}
+use Rattle.st_trace.specs.World.{HasShown, cells_given, next_names, opening_document}
+use Rattle.st_edits.specs.InEffect.{last_in_effect}
 use Rattle.st_trace.proofs.Begun.{IsStart}
 use Rattle.st_log_laws.specs.Names.{revisions}
 use Rattle.st_trace.proofs.Counting.{room_left}

@@ -20,7 +20,7 @@ use Rattle.st_trace.proofs.Stepping.{start_of}
 use Rattle.st_trace.specs.inside.Branches.{void_among}
 use Rattle.st_trace.specs.Replicas.{IsSound}
 use Rattle.st_trace.specs.World.{IsPendingTold}
-use Rattle.st_trace.specs.declared.replica.Replica.{Replica}
+use Rattle.st_heads.specs.declared.replica.Replica.{Replica}
 use Rattle.st_trace.specs.declared.world.World.{World}
 
 module _ (w : World) (i : ℕ) (c : Client) (k : Replica) (s : IsSound w) (at_c : slice_get w.lists.clients i ≡ Some c) (at_k : slice_get w.kept i ≡ Some k) where

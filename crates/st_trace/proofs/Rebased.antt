@@ -14,14 +14,16 @@ use Rattle.st_script.specs.declared.answer.Answer.TheVariants.{Rebase}
 use Rattle.st_script.specs.declared.refusal.Refusal.TheVariants.{Unfinished}
 use Rattle.st_trace.specs.Branches.{refusal_to_rebase}
 use Rattle.st_trace.specs.declared.branches.Ground.{Ground}
-use Rattle.st_trace.specs.declared.replica.Replica.{Replica}
-use Rattle.st_trace.specs.inside.Branches.{HasRebased, ground_of, head_of, place_of, void_among, with_ground}
+use Rattle.st_heads.specs.declared.replica.Replica.{Replica}
+use Rattle.st_trace.specs.inside.Branches.{HasRebased, ground_of, void_among, with_ground}
+use Rattle.st_heads.specs.Replicas.{head_of}
+use Rattle.st_lists.specs.Lines.{branch_place}
 
 -- the place, the branch, its parent's line and that one's head are those by which it was rebased
-pub rebased_as : (c d : Client) (k k' : Replica) (n j : ℕ) (b : Branch) (g : Ground) (p head : Head) (a : Answer) → place_of n c.branches ≡ Some j → slice_get c.branches j ≡ Some b → is_some b.transaction ≡ false
+pub rebased_as : (c d : Client) (k k' : Replica) (n j : ℕ) (b : Branch) (g : Ground) (p head : Head) (a : Answer) → branch_place n c.branches ≡ Some j → slice_get c.branches j ≡ Some b → is_some b.transaction ≡ false
     → option_map ground_of (line_of c b.parent) ≡ Some g → head_of c k b.parent ≡ Some p → AreCarried (document_of p.doc) b.own head.own (document_of head.doc) → head.edited ≡ None
     → d ≡ record c { branches = slice_set c.branches j (with_ground b g) } → k' ≡ record k { branches = slice_set k.branches j head } → a ≡ Rebase (void_among b.own head.own)
-    → (i : ℕ) (x : Branch) (l : Line) (q : Head) → place_of n c.branches ≡ Some i → slice_get c.branches i ≡ Some x → line_of c x.parent ≡ Some l → head_of c k x.parent ≡ Some q → HasRebased c k i x l q (refusal_to_rebase x) d k' a
+    → (i : ℕ) (x : Branch) (l : Line) (q : Head) → branch_place n c.branches ≡ Some i → slice_get c.branches i ≡ Some x → line_of c x.parent ≡ Some l → head_of c k x.parent ≡ Some q → HasRebased c k i x l q (refusal_to_rebase x) d k' a
 rebased_as c d k k' n j b g p head a place at none ground at_p run edited is_d is_k is_a i x l q place_i at_x line at_q =
     let same : j ≡ i = one_some j i (sym place ∙ place_i) in
     let same_b : b ≡ x = one_some b x (sym at ∙ ap (slice_get c.branches) same ∙ at_x) in

@@ -12,7 +12,7 @@ use Rattle.st_heads.proofs.Runs.{as_many}
 use Rattle.st_trace.specs.inside.Replicas.{CanCarry, CanReceive, HasCarried, HasReceivedNext, HasReceivedOf, HasReceivedOne}
 use Rattle.st_lists.specs.Log.{commit_of}
 use Rattle.st_heads.specs.declared.heads.Head.{Head}
-use Rattle.st_trace.specs.declared.replica.Replica.{Replica}
+use Rattle.st_heads.specs.declared.replica.Replica.{Replica}
 use Rattle.st_lists.specs.declared.lists.Body.TheVariants.{Commit}
 use Rattle.st_lists.specs.declared.lists.Client.{Client}
 use Rattle.st_lists.specs.declared.lists.Entry.{Entry}

@@ -26,7 +26,7 @@ use Rattle.st_lists.specs.declared.lists.WorldState.{WorldState}
 use Rattle.st_lists.proofs.Logs.{commits_append, commits_split, take-get}
 use Rattle.st_trace.specs.Replicas.{AreReplicas, IsSound}
 use Rattle.st_trace.specs.World.{drop_client, leave, limit_refusal, opening_document, reconnect, refusal_to_reconnect}
-use Rattle.st_trace.specs.declared.replica.Replica.{Replica}
+use Rattle.st_heads.specs.declared.replica.Replica.{Replica}
 use Rattle.st_trace.specs.declared.world.World.{World}
 use Rattle.st_trace.specs.inside.Replicas.{HasEntered}
 use Rattle.st_trace.proofs.Acting.{one_at}

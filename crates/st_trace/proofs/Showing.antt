@@ -5,7 +5,8 @@ use Rattle.st_lists.specs.declared.lists.Branch.{Branch}
 use Rattle.st_marks.specs.Document.{Document}
 use Rattle.st_script.specs.declared.refusal.Refusal.TheVariants.{HasChildren}
 use Rattle.st_trace.specs.Replicas.{IsSound}
-use Rattle.st_trace.specs.World.{OnLine, OnOwnBranch, OnParent, with_new_on, HasShown, IsActOf, IsAfterEdit, IsAfterNeed, IsAllowedText, IsDeliveredIn, IsDeliveredTo, IsEditedIn, IsJoined, IsNext, AtClient, ByConnected, ShowsAllowed, abort, act_of_none, answer_of, after_edit, begin, branch_at, after_entry, commit, after_commit, drop_client, join, leave, needs_connection, reconnect, refusal_to_reconnect, last_in_effect, opening_document, with_beginning, with_client, sequence, word_of, AtShow, IsShownTo}
+use Rattle.st_trace.specs.World.{OnLine, OnOwnBranch, OnParent, with_new_on, HasShown, IsActOf, IsAfterEdit, IsAfterNeed, IsAllowedText, IsDeliveredIn, IsDeliveredTo, IsEditedIn, IsJoined, IsNext, AtClient, ByConnected, ShowsAllowed, abort, act_of_none, answer_of, after_edit, begin, branch_at, after_entry, commit, after_commit, drop_client, join, leave, needs_connection, reconnect, refusal_to_reconnect, opening_document, with_beginning, with_client, sequence, word_of, AtShow, IsShownTo}
+use Rattle.st_edits.specs.InEffect.{last_in_effect}
 use Rattle.std.proofs.Common.{◌≡◌, ℕ, Bool, true, false, cond, nat_le, List, [], ◌∷◌, length, Option, Some, None, option_map, option_and_then, Result, Ok, Err, refl, sym, ap, ◌∙◌, subst}
 use Rattle.serde_json.specs.Written.{compact_text}
 use Rattle.st_ids.specs.declared.names.Limit.{Limit}
@@ -39,7 +40,7 @@ use Rattle.st_schema_laws.proofs.SchemasKept.{shown_allowed}
 use Rattle.st_schema_laws.proofs.Read.{read_as_told}
 use Rattle.st_trace.specs.Schemas.{HasReading}
 use Rattle.st_trace.specs.Upgrade.{upgrade}
-use Rattle.st_schema_laws.specs.AgreeingInEffect.{schema_in_effect}
+use Rattle.st_edits.specs.InEffect.{schema_in_effect}
 use Rattle.st_trace.proofs.Effect.{shown_conforms, shown_in_form}
 use Rattle.st_schema.specs.Conforms.{conforms}
 

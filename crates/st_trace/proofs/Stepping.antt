@@ -43,7 +43,7 @@ use Rattle.st_marks.proofs.Members.{all-has}
 use Rattle.st_lists.specs.Clients.{new_client, place_of, with_connection, without_connection}
 use Rattle.st_lists.specs.Limits.{entries_limit_passed, log_limit_passed}
 use Rattle.st_lists.specs.Names.{names_in, names_in_text}
-use Rattle.st_trace.specs.declared.replica.Replica.{Replica}
+use Rattle.st_heads.specs.declared.replica.Replica.{Replica}
 use Rattle.st_lists.specs.declared.lists.Body.TheVariants.{Join, Leave}
 use Rattle.st_lists.specs.declared.lists.Client.{Client}
 use Rattle.st_lists.specs.declared.lists.Entry.{Entry}

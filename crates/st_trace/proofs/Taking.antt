@@ -12,7 +12,7 @@ use Rattle.st_script.specs.declared.answer.Answer.{Answer}
 use Rattle.st_script.specs.declared.answer.Answer.TheVariants.{Abort, Begin, No}
 use Rattle.st_script.specs.declared.refusal.Refusal.TheVariants.{Limit as OverLimit, NotBegun, Unfinished}
 use Rattle.st_trace.specs.declared.client.EditWord.{EditWord}
-use Rattle.st_trace.specs.declared.replica.Replica.{Replica}
+use Rattle.st_heads.specs.declared.replica.Replica.{Replica}
 use Rattle.st_trace.specs.inside.Replicas.{HasTaken, HasTakenIn, HasTakenNeed, IsTakenIn}
 use Rattle.st_trace.specs.World.{IsAfterEdit, IsAfterNeed, abort, begin, commit, after_commit, refusal_of, with_beginning}
 use Rattle.st_lists.specs.declared.lists.Client.{Client}

@@ -18,7 +18,8 @@ use Rattle.st_log_laws.specs.Names.{HaveNewRevisions, revisions}
 use Rattle.st_log_laws.specs.Turns.{FitInTurn, IsSublist}
 use Rattle.st_log_laws.proofs.Turns.{made_in_run, turn_extends}
 use Rattle.st_part_laws.proofs.Chains.{last-has}
-use Rattle.st_schema_laws.specs.AgreeingInEffect.{AgreesInLine, ConformsInEffect, Told, last_schema, schema_in_effect, with_commit, with_home}
+use Rattle.st_schema_laws.specs.AgreeingInEffect.{AgreesInLine, ConformsInEffect, Told, with_commit, with_home}
+use Rattle.st_edits.specs.InEffect.{last_in_effect, schema_in_effect}
 use Rattle.st_schema_laws.specs.Lines.{IsLine}
 use Rattle.st_schema_laws.proofs.Earlier.{made_among}
 use Rattle.st_schema_laws.proofs.EditsInLine.{some_last}
@@ -49,7 +50,7 @@ module _ {K : Rev → List ℕ → Type 0} (T : Told) (O : Document) where
   }
 
   -- one commit more, made under the last schema in effect
-  pub goes_more : (Ns : List Intent) (D : Document) (N : Intent) → KeepsLine K T O Ns → Run O Ns D → (Has (revisions Ns ++ opening ∷ []) N.rev → ⊥) → FitInTurn O (Ns ++ N ∷ []) → N.under ≡ last_schema D → AgreesInLine T D N → IsKnownBy K N
+  pub goes_more : (Ns : List Intent) (D : Document) (N : Intent) → KeepsLine K T O Ns → Run O Ns D → (Has (revisions Ns ++ opening ∷ []) N.rev → ⊥) → FitInTurn O (Ns ++ N ∷ []) → N.under ≡ last_in_effect D → AgreesInLine T D N → IsKnownBy K N
       → KeepsLine K T O (Ns ++ N ∷ [])
   goes_more Ns D N w run fresh fit under agrees known = record {
     line = commit_goes_on T O D Ns N w.line run fresh fit under agrees;
@@ -65,17 +66,17 @@ nothing_known K N none = subst (λ o. IfSome o (K N.rev)) (sym none) tt
 -- what is told anew of a revision leaves lists that don't have it, and what is edited after such a list
 pub record IsToldAnew (O : Document) (T U : Told) (r : Rev) : Type 0 where
   pub lines : (Ns : List Intent) → IsLine T O Ns → (Has (revisions Ns ++ opening ∷ []) r → ⊥) → IsLine U O Ns
-  pub edits : (Ns : List Intent) (D : Document) (J : Intent) → IsLine T O Ns → Run O Ns D → FitInTurn D (J ∷ []) → J.under ≡ last_schema D → (Has (revisions Ns ++ opening ∷ []) r → ⊥) → J.rev ≢ r → AgreesInLine T D J → AgreesInLine U D J
+  pub edits : (Ns : List Intent) (D : Document) (J : Intent) → IsLine T O Ns → Run O Ns D → FitInTurn D (J ∷ []) → J.under ≡ last_in_effect D → (Has (revisions Ns ++ opening ∷ []) r → ⊥) → J.rev ≢ r → AgreesInLine T D J → AgreesInLine U D J
 
 -- the last schema in effect came before the list or in it
-last_among : (T : Told) (O : Document) (Ns : List Intent) (D : Document) → IsLine T O Ns → Run O Ns D → Has (revisions Ns ++ opening ∷ []) (last_schema D)
-last_among T O Ns D l run = made_among (opening ∷ []) Ns (last_schema D) (last_made T O Ns l D run)
+last_among : (T : Told) (O : Document) (Ns : List Intent) (D : Document) → IsLine T O Ns → Run O Ns D → Has (revisions Ns ++ opening ∷ []) (last_in_effect D)
+last_among T O Ns D l run = made_among (opening ∷ []) Ns (last_in_effect D) (last_made T O Ns l D run)
 
 -- under which schema a commit was made, and the schema that it brings in
 pub commit_is_told : (O : Document) (T : Told) (N : Intent) (new : SchemaView) → IsToldAnew O T (with_commit T N new) N.rev
 commit_is_told O T N new = record { lines = λ Ns l fresh. line_told T O Ns l N fresh new; edits = edits }
   where
-    edits : (Ns : List Intent) (D : Document) (J : Intent) → IsLine T O Ns → Run O Ns D → FitInTurn D (J ∷ []) → J.under ≡ last_schema D → (Has (revisions Ns ++ opening ∷ []) N.rev → ⊥) → J.rev ≢ N.rev → AgreesInLine T D J → AgreesInLine (with_commit T N new) D J
+    edits : (Ns : List Intent) (D : Document) (J : Intent) → IsLine T O Ns → Run O Ns D → FitInTurn D (J ∷ []) → J.under ≡ last_in_effect D → (Has (revisions Ns ++ opening ∷ []) N.rev → ⊥) → J.rev ≢ N.rev → AgreesInLine T D J → AgreesInLine (with_commit T N new) D J
     edits Ns D J l run fit under fresh apart a =
         (list_told T N new (J ∷ []) (revisions Ns ++ opening ∷ []) D (turn_extends l.sound l.fit run).after (made_in_run (opening ∷ []) l.fit run l.made) fit (λ h. elim h [ inl e ↦ apart e | inr q ↦ fresh q ]) unders (a, λ v is. tt)).0
       where
@@ -87,7 +88,7 @@ commit_is_told O T N new = record { lines = λ Ns l fresh. line_told T O Ns l N 
 pub homes_are_told : (O : Document) (T : Told) (N : Intent) → IsIntent N → IsToldAnew O T (with_home T N) N.rev
 homes_are_told O T N itself = record { lines = λ Ns l fresh. line_at_home T O Ns l N fresh itself; edits = edits }
   where
-    edits : (Ns : List Intent) (D : Document) (J : Intent) → IsLine T O Ns → Run O Ns D → FitInTurn D (J ∷ []) → J.under ≡ last_schema D → (Has (revisions Ns ++ opening ∷ []) N.rev → ⊥) → J.rev ≢ N.rev → AgreesInLine T D J → AgreesInLine (with_home T N) D J
+    edits : (Ns : List Intent) (D : Document) (J : Intent) → IsLine T O Ns → Run O Ns D → FitInTurn D (J ∷ []) → J.under ≡ last_in_effect D → (Has (revisions Ns ++ opening ∷ []) N.rev → ⊥) → J.rev ≢ N.rev → AgreesInLine T D J → AgreesInLine (with_home T N) D J
     edits Ns D J l run fit under fresh apart a =
         (list_at_home T N itself (J ∷ []) (revisions Ns ++ opening ∷ []) D (made_in_run (opening ∷ []) l.fit run l.made) fit (λ h. elim h [ inl e ↦ apart e | inr q ↦ fresh q ]) (a, λ v is. tt)).0
 
@@ -129,7 +130,7 @@ goes_told K L T U O r Ns anew fresh w = record {
 pub in_effect_sound : (T : Told) (D : Document) → IsSoundInForm D → ConformsInEffect T D → is_sound (schema_in_effect D) ≡ true
 in_effect_sound T D s here =
     let last = some_last (revs D.schemas) s.in_effect.begun in
-    ap is_sound (read_as_told T D s here) ∙ here.widening.sound (last_schema D) (last-has (revs D.schemas) (last_schema D) last)
+    ap is_sound (read_as_told T D s here) ∙ here.widening.sound (last_in_effect D) (last-has (revs D.schemas) (last_in_effect D) last)
 
 -- ## Intents
 

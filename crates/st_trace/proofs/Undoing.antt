@@ -30,8 +30,9 @@ use Rattle.st_lemmas.proofs.Lists.{drop-slice_get}
 use Rattle.st_log_laws.specs.Turns.{FitInTurn}
 use Rattle.st_log_laws.proofs.Turns.{front, has_run, rest as rest_fit, turn_extends}
 use Rattle.st_log_laws.proofs.Verdicts.{has_verdict}
-use Rattle.st_heads.specs.Remembered.{AreCarried, IsCarried, IsWayBack, intent_of_way, is_void, no_way, none as nothing_done, more}
-use Rattle.st_heads.specs.Undoing.{IsAt, IsUndoing}
+use Rattle.st_heads.specs.Remembered.{AreCarried, IsCarried, IsWayBack, intent_of_way, no_way, none as nothing_done, more}
+use Rattle.st_lists.specs.Voids.{is_void}
+use Rattle.st_lists.specs.Undoing.{IsAt, IsUndoing}
 use Rattle.st_heads.specs.declared.ways.Carried.{Carried}
 use Rattle.st_heads.specs.declared.ways.Way.{Way}
 use Rattle.st_heads.proofs.Having.{has_way}
@@ -51,7 +52,7 @@ use Rattle.st_lists.proofs.Logs.{commits_split}
 use Rattle.st_trace.specs.Kept.{Unless}
 use Rattle.st_trace.specs.Logged.{AreLogged, IsLogged}
 use Rattle.st_trace.specs.Undo.{IsUndone, IsUndoneAt, has_commit, has_rev, is_gone, entry_number, refusal_of_rev, refusal_over}
-use Rattle.st_trace.specs.World.{last_in_effect}
+use Rattle.st_edits.specs.InEffect.{last_in_effect}
 use Rattle.st_trace.specs.declared.logged.Logged.{Logged}
 use Rattle.st_trace.specs.inside.Undo.{logged_of, logged_within, undone, way_at, way_logged, way_of, way_over, way_pending, way_within}
 use Rattle.st_trace.proofs.Noting.{place_among}

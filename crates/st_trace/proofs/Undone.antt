@@ -23,8 +23,9 @@ use Rattle.st_trace.specs.Kept.{Unless}
 use Rattle.st_trace.specs.Replicas.{IsReplicaOf, IsSound, IsSoundAfter}
 use Rattle.st_trace.specs.Schemas.{HasReading}
 use Rattle.st_trace.specs.Undo.{IsAfterUndo, IsUndoneAt, refusal_of_rev}
-use Rattle.st_trace.specs.World.{AtRefusal, IsUndoneBy, last_in_effect, opening_document}
-use Rattle.st_trace.specs.declared.replica.Replica.{Replica}
+use Rattle.st_trace.specs.World.{AtRefusal, IsUndoneBy, opening_document}
+use Rattle.st_edits.specs.InEffect.{last_in_effect}
+use Rattle.st_heads.specs.declared.replica.Replica.{Replica}
 use Rattle.st_trace.specs.declared.world.World.{World}
 use Rattle.st_trace.specs.inside.Undo.{HasUndone, logged_of, undo_in, way_over}
 use Rattle.st_trace.proofs.Acting.{one_at, sound_goes, stays_kept}

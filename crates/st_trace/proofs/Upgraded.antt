@@ -29,16 +29,17 @@ use Rattle.st_schema.specs.Wider.{wider_of}
 use Rattle.st_lists.specs.declared.lists.Client.{Client}
 use Rattle.st_lists.specs.declared.lists.Entry.{Entry}
 use Rattle.st_lists.specs.declared.lists.WorldState.{WorldState}
-use Rattle.st_schema_laws.specs.AgreeingInEffect.{empty_schema, schema_in_effect}
+use Rattle.st_edits.specs.InEffect.{empty_schema, schema_in_effect}
 use Rattle.st_schema_laws.proofs.Entries.{entries_count}
 use Rattle.st_schema_laws.proofs.Texts.{schema_text}
 use Rattle.st_trace.specs.Replicas.{IsClient, IsSound, IsSoundAfter}
 use Rattle.st_trace.specs.Schemas.{HasReading}
 use Rattle.st_trace.specs.Upgrade.{change_of_schema, refusal_to_upgrade, upgrade}
-use Rattle.st_trace.specs.World.{AtRefusal, HasShown, IsUpgradedBy, last_in_effect, opening_document}
+use Rattle.st_trace.specs.World.{AtRefusal, HasShown, IsUpgradedBy, opening_document}
+use Rattle.st_edits.specs.InEffect.{last_in_effect}
 use Rattle.st_trace.specs.inside.Upgrade.{HasKeptOf, HasUpgraded, IsKeptBeside}
 use Rattle.st_trace.specs.declared.known.KnownSchema.{KnownSchema}
-use Rattle.st_trace.specs.declared.replica.Replica.{Replica}
+use Rattle.st_heads.specs.declared.replica.Replica.{Replica}
 use Rattle.st_trace.specs.declared.world.World.{World}
 use Rattle.st_trace.proofs.Acting.{one_at, shown, shown_of}
 use Rattle.st_trace.proofs.Everyone.{clients_of, set_same}

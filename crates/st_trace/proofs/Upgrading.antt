@@ -28,7 +28,8 @@ use Rattle.st_lists.specs.declared.lists.Branch.{Branch}
 use Rattle.st_lists.specs.declared.lists.Client.{Client}
 use Rattle.st_lists.specs.declared.lists.Entry.{Entry}
 use Rattle.st_lists.specs.declared.lists.Transaction.{Transaction}
-use Rattle.st_schema_laws.specs.AgreeingInEffect.{ConformsInEffect, schema_in_effect, with_commit as told_with_commit}
+use Rattle.st_schema_laws.specs.AgreeingInEffect.{ConformsInEffect, with_commit as told_with_commit}
+use Rattle.st_edits.specs.InEffect.{schema_in_effect}
 use Rattle.st_schema_laws.specs.Widening.{IsUpgrade}
 use Rattle.st_schema_laws.proofs.Lines.{upgrade_goes_on}
 use Rattle.st_schema_laws.proofs.Read.{read_as_told}
@@ -36,7 +37,8 @@ use Rattle.st_schema_laws.proofs.Texts.{schema_text}
 use Rattle.st_trace.specs.Replicas.{BranchesKeepSchemas, CommitsKeepSchemas, HasMain, HaveOwnSessions, IsClient, KeepToSchemas, KeepsLine}
 use Rattle.st_trace.specs.Schemas.{IsKnownBy}
 use Rattle.st_trace.specs.Upgrade.{change_of_schema}
-use Rattle.st_trace.specs.World.{last_in_effect, opening_document}
+use Rattle.st_edits.specs.InEffect.{last_in_effect}
+use Rattle.st_trace.specs.World.{opening_document}
 use Rattle.st_trace.proofs.Agreed.{branches_told, main_told, line_next_apart, not_made, nothing_edited, told_keeps}
 use Rattle.st_trace.proofs.Among.{line_new}
 use Rattle.st_trace.proofs.Begun.{IsStart}

@@ -1,6 +1,6 @@
 -- Commits that fit one after the other have their void ones.
 use Rattle.std.proofs.Common.{List, [], ◌∷◌, cond, refl}
-use Rattle.st_heads.specs.Remembered.{is_void}
+use Rattle.st_lists.specs.Voids.{is_void}
 use Rattle.st_ids.specs.declared.names.Rev.{Rev}
 use Rattle.st_log_laws.specs.Turns.{FitInTurn}
 use Rattle.st_log_laws.proofs.Verdicts.{has_verdict}
@@ -8,7 +8,7 @@ use Rattle.st_marks.specs.declared.intents.Intent.{Intent}
 use Rattle.st_marks.specs.Document.{Document, IsSoundInForm}
 use Rattle.st_marks.specs.Verdict.{carried_document}
 use Rattle.st_marks.proofs.OneVerdict.{carried_extends}
-use Rattle.st_trace.specs.Branches.{AreVoid}
+use Rattle.st_lists.specs.Voids.{AreVoid}
 
 pub has_void : (D : Document) (Ns : List Intent) → IsSoundInForm D → FitInTurn D Ns → (revs : List Rev) × AreVoid D Ns revs
 has_void D [] sound fit = ([], refl)

@@ -6,7 +6,7 @@ use Rattle.st_marks.specs.declared.intents.Intent.{Intent}
 use Rattle.st_marks.specs.declared.verdicts.Verdict.{Verdict}
 use Rattle.st_marks.specs.Document.{Document}
 use Rattle.st_marks.specs.Verdict.{IsVerdict, carried_document}
-use Rattle.st_heads.specs.Remembered.{is_void}
+use Rattle.st_lists.specs.Voids.{is_void}
 use Rattle.st_script.specs.declared.answer.Answer.{Answer}
 use Rattle.st_script.specs.declared.answer.Answer.TheVariants as answer
 use Rattle.st_script.specs.declared.refusal.Refusal.{Refusal}
@@ -16,12 +16,6 @@ use Rattle.st_lists.specs.Lines.{HasHead, Line, has_children, with_base, with_br
 use Rattle.st_lists.specs.declared.lists.Branch.{Branch}
 use Rattle.st_lists.specs.declared.lists.Client.{Client}
 use Rattle.st_lists.specs.declared.lists.Entry.{Entry}
-
--- the revisions of the commits that are void, where they come one after the other
-abbrev pub AreVoid : Document → List Intent → List Rev → Type 0
-AreVoid D [] revs = revs ≡ []
-AreVoid D (N ∷ Ns) revs = (v : Verdict) × (rest : List Rev) × IsVerdict D N v × AreVoid (carried_document v D N) Ns rest
-    × (revs ≡ (if is_void v then N.rev ∷ rest else rest))
 
 -- a branch is made of a line, which has no transaction open
 abbrev pub refusal_to_fork : Client → Line → Option Refusal

@@ -17,7 +17,8 @@ use Rattle.st_schema_laws.specs.Lines.{IsLine}
 use Rattle.st_doc.specs.Doc.{document_of}
 use Rattle.st_schema.specs.Schema.{is_sound}
 use Rattle.st_heads.specs.Remembered.{AreCarried}
-use Rattle.st_heads.specs.Transactions.{FitsSoFar, HasOpen, with_open}
+use Rattle.st_lists.specs.Open.{FitsSoFar, with_open}
+use Rattle.st_heads.specs.Transactions.{HasOpen}
 use Rattle.st_script.specs.Header.{HeaderView, header_view, may_open}
 use Rattle.st_lists.specs.Known.{AreConnected, AreKnown, AreMinima}
 use Rattle.st_lists.specs.Log.{commit_of, commits_in, intents_of, is_text, log_and_waiting, own_in_flight, sessions_in, waiting}
@@ -25,10 +26,11 @@ use Rattle.st_lists.specs.Clients.{HasReceived, joined_of}
 use Rattle.st_lists.specs.Lines.{AreStanding, HasHead, HaveOwnTransactions, Line, all_commits, base_of, branch_line, commits_of, edited_on, main_line, own_of}
 use Rattle.st_trace.specs.Logged.{AreLogged}
 use Rattle.st_trace.specs.Schemas.{HasReading, IsKnownBy}
-use Rattle.st_trace.specs.World.{last_in_effect, opening_document}
+use Rattle.st_edits.specs.InEffect.{last_in_effect}
+use Rattle.st_trace.specs.World.{opening_document}
 use Rattle.st_lists.specs.Names.{names_in, unsequenced}
 use Rattle.st_heads.specs.declared.heads.Head.{Head}
-use Rattle.st_trace.specs.declared.replica.Replica.{Replica}
+use Rattle.st_heads.specs.declared.replica.Replica.{Replica}
 use Rattle.st_lists.specs.declared.lists.Body.{Body}
 use Rattle.st_lists.specs.declared.lists.Branch.{Branch}
 use Rattle.st_lists.specs.declared.lists.Client.{Client}

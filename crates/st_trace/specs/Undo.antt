@@ -7,8 +7,8 @@ use Rattle.st_ids.specs.declared.names.Rev.{Rev}
 use Rattle.st_marks.specs.declared.intents.Intent.{Intent}
 use Rattle.st_marks.specs.declared.verdicts.Verdict.{Verdict}
 use Rattle.st_marks.specs.Document.{Document}
-use Rattle.st_heads.specs.Remembered.{is_void}
-use Rattle.st_heads.specs.Undoing.{IsAt, IsUndoing}
+use Rattle.st_lists.specs.Voids.{is_void}
+use Rattle.st_lists.specs.Undoing.{IsAt, IsUndoing}
 use Rattle.st_script.specs.declared.answer.Answer.{Answer}
 use Rattle.st_script.specs.declared.answer.Answer.TheVariants as answer
 use Rattle.st_script.specs.declared.refusal.Refusal.{Refusal}

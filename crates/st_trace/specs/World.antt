@@ -24,10 +24,10 @@ use Rattle.st_marks.specs.Intent.{group_cells}
 use Rattle.st_marks.specs.LiveTree.{IsTreeText}
 use Rattle.st_marks.specs.Verdict.{IsVerdict}
 use Rattle.st_opening.specs.Start.{start_of}
-use Rattle.st_schema_laws.specs.AgreeingInEffect.{schema_in_effect}
+use Rattle.st_edits.specs.InEffect.{schema_in_effect}
 use Rattle.st_edits.specs.declared.names.NameCounters.{NameCounters}
 use Rattle.st_edits.specs.Resolve.{insert, remove, move, put, clear, need}
-use Rattle.st_heads.specs.Transactions.{IsWithPart, with_open}
+use Rattle.st_lists.specs.Open.{IsWithPart, with_open}
 use Rattle.st_script.specs.Header.{HeaderView}
 use Rattle.st_script.specs.Steps.{ActView, EditView, StepView}
 use Rattle.st_script.specs.Steps as step
@@ -41,7 +41,8 @@ use Rattle.st_lists.specs.Lines.{HasHead, Line, branch_of, edited_on, line_of, m
 use Rattle.st_lists.specs.Log.{commit_of, log_with, minimum, sessions_in, waiting}
 use Rattle.st_lists.specs.Names.{names_in_text}
 use Rattle.st_trace.specs.Texts.{AreTextsOf}
-use Rattle.st_trace.specs.Branches.{AreVoid, IsMerged, IsRebased, drop_branch, fork, refusal_to_fork, refusal_to_merge, refusal_to_rebase}
+use Rattle.st_lists.specs.Voids.{AreVoid}
+use Rattle.st_trace.specs.Branches.{IsMerged, IsRebased, drop_branch, fork, refusal_to_fork, refusal_to_merge, refusal_to_rebase}
 use Rattle.st_trace.specs.Kept.{IsKept, Unless}
 use Rattle.st_trace.specs.Undo.{IsAfterUndo}
 use Rattle.st_trace.specs.Upgrade.{change_of_schema, refusal_to_upgrade, upgrade}
@@ -60,10 +61,6 @@ use Rattle.st_lists.specs.declared.lists.Body.{Body}
 -- the document that a trace opens with
 abbrev pub opening_document : HeaderView → Document
 opening_document h = start_of (opening_listed h.tree) (compact_text (schema_data h.schema))
-
--- the schema entry that is last in effect
-abbrev pub last_in_effect : Document → Rev
-last_in_effect D = unwrap_or (last_of (revs D.schemas)) opening
 
 -- ## Edits of one client
 

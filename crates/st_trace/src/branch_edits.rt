@@ -7,17 +7,20 @@ ghost use Rattle.st_marks.specs.Document.{IsSoundInForm};
 ghost use Rattle.st_marks.specs.Intent.{Fits};
 ghost use Rattle.st_doc.specs.Doc.{document_of};
 ghost use Rattle.st_edits.specs.Resolve.{IsWithin, need as need_in, resolve};
-ghost use Rattle.st_heads.specs.Transactions.{HasOpen, with_open};
+ghost use Rattle.st_heads.specs.Transactions.{HasOpen};
+ghost use Rattle.st_lists.specs.Open.{with_open};
 ghost use Rattle.st_lists.specs.Limits.{own_limit_passed};
 ghost use Rattle.st_lists.specs.Lines.{branch_line, edited_on};
 ghost use Rattle.st_lists.specs.Names.{names_made};
 ghost use Rattle.st_script.specs.Steps.{edit_view};
 ghost use Rattle.st_trace.specs.declared.client.EditWord.TheVariants as word;
 ghost use Rattle.st_trace.specs.World.{next_names, word_of};
-ghost use Rattle.st_trace.specs.inside.Branches.{IsAtBranch, place_of};
+ghost use Rattle.st_heads.specs.Replicas.{IsAtBranch};
+ghost use Rattle.st_lists.specs.Lines.{branch_place};
 ghost use Rattle.st_heads.specs.declared.heads.Head.{Head as HeadOf};
 ghost use Rattle.st_lists.specs.declared.lists.Branch.{Branch as BranchOf};
-ghost use Rattle.st_trace.specs.inside.Edits.{edit_of, names_limit};
+ghost use Rattle.st_trace.specs.inside.Edits.{edit_of};
+ghost use Rattle.st_lists.specs.Limits.{names_limit};
 ghost use Rattle.st_trace.specs.inside.Replicas.{CanTake};
 ghost use Rattle.st_trace.specs.inside.BranchEdits.{CanEditOn, HasAbortedAt, HasBegunAt, HasCommittedAt, HasEditedAt, HasNeededAt, IsNoBranch, shown_on, HasAbortedOn, HasBegunOn, HasCommittedOn, HasEndedOn, HasNeededOn, HasOwnTaken, HasTakenOf, HasTakenOn, IsAbortedOn, IsCommittedOf, IsCommittedOn, IsNeededOn, IsOwnTaken, IsTakenOf, IsTakenOn, own_limit};
 
@@ -305,7 +308,7 @@ pub fn edit(
         → resolve (shown_on b k) schema.now (next_names client.old b.transaction) (edit_of edit.now) ≡ Ok N → CanTake k b.transaction (word_of (edit_view edit.now)) N }
     ensures there { IfOk result (λ a. (j : ℕ) (b : BranchOf) (k : HeadOf) → IsAtBranch client.old kept.old number j b k
         → HasEditedAt client.old kept.old j b k (word_of (edit_view edit.now)) (resolve (shown_on b k) schema.now (next_names client.old b.transaction) (edit_of edit.now)) client.new kept.new a) }
-    ensures absent { IfOk result (λ a. place_of number client.old.branches ≡ None → IsNoBranch client.old kept.old client.new kept.new a) }
+    ensures absent { IfOk result (λ a. branch_place number client.old.branches ≡ None → IsNoBranch client.old kept.old client.new kept.new a) }
 {
     let session = client.session;
     let Some(place) = branch_place(client.branches.as_slice(), number) else {
@@ -349,7 +352,7 @@ pub fn need(
         → need_in (shown_on b k) (next_names client.old b.transaction) at.now ≡ Ok N → CanTake k b.transaction word.Need N }
     ensures there { IfOk result (λ a. (j : ℕ) (b : BranchOf) (k : HeadOf) → IsAtBranch client.old kept.old number j b k
         → HasNeededAt client.old kept.old j b k (need_in (shown_on b k) (next_names client.old b.transaction) at.now) client.new kept.new a) }
-    ensures absent { IfOk result (λ a. place_of number client.old.branches ≡ None → IsNoBranch client.old kept.old client.new kept.new a) }
+    ensures absent { IfOk result (λ a. branch_place number client.old.branches ≡ None → IsNoBranch client.old kept.old client.new kept.new a) }
 {
     let session = client.session;
     let Some(place) = branch_place(client.branches.as_slice(), number) else {
@@ -372,7 +375,7 @@ pub fn begin(client: &mut Client, kept: &Replica, number: u32) -> Answer
     requires few { client.old.ids + 1 < 2 ^ 32 }
     requires own { AllByRecursion (λ (b : BranchOf). length b.own ≤ 256) client.old.branches }
     ensures there { (j : ℕ) (b : BranchOf) (k : HeadOf) → IsAtBranch client.old kept.now number j b k → HasBegunAt client.old j b k client.new result }
-    ensures absent { place_of number client.old.branches ≡ None → IsNoBranch client.old kept.now client.new kept.now result }
+    ensures absent { branch_place number client.old.branches ≡ None → IsNoBranch client.old kept.now client.new kept.now result }
 {
     let next = next_rev(client);
     let Some(place) = branch_place(client.branches.as_slice(), number) else {
@@ -397,7 +400,7 @@ pub fn commit(
 ) -> Result<Answer, AllocError>
     requires can { (j : ℕ) (b : BranchOf) (k : HeadOf) → IsAtBranch client.old kept.old number j b k → CanEditOn client.old b k × IfSome (edited_on (branch_line b)) (Fits (document_of k.doc)) }
     ensures there { IfOk result (λ a. (j : ℕ) (b : BranchOf) (k : HeadOf) → IsAtBranch client.old kept.old number j b k → HasCommittedAt client.old kept.old j b k client.new kept.new a) }
-    ensures absent { IfOk result (λ a. place_of number client.old.branches ≡ None → IsNoBranch client.old kept.old client.new kept.new a) }
+    ensures absent { IfOk result (λ a. branch_place number client.old.branches ≡ None → IsNoBranch client.old kept.old client.new kept.new a) }
 {
     let Some(place) = branch_place(client.branches.as_slice(), number) else {
         return Ok(Answer::No(Refusal::NoBranch));
@@ -417,7 +420,7 @@ pub fn abort(client: &mut Client, kept: &mut Replica, number: u32) -> Answer
     requires names { kept.old.names ≤ 16384 }
     requires counted { (j : ℕ) (b : BranchOf) (k : HeadOf) → IsAtBranch client.old kept.old number j b k → option_map_or names_made (edited_on (branch_line b)) 0 ≤ kept.old.names }
     ensures there { (j : ℕ) (b : BranchOf) (k : HeadOf) → IsAtBranch client.old kept.old number j b k → HasAbortedAt client.old kept.old j b k client.new kept.new result }
-    ensures absent { place_of number client.old.branches ≡ None → IsNoBranch client.old kept.old client.new kept.new result }
+    ensures absent { branch_place number client.old.branches ≡ None → IsNoBranch client.old kept.old client.new kept.new result }
 {
     let Some(place) = branch_place(client.branches.as_slice(), number) else {
         return Answer::No(Refusal::NoBranch);

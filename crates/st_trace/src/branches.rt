@@ -14,7 +14,9 @@ ghost use Rattle.st_lists.specs.Lines.{Line, branch_line, branch_of, has_childre
 ghost use Rattle.st_lists.specs.Names.{names_on, unsequenced};
 ghost use Rattle.st_lists.specs.declared.lists.Branch.{Branch as BranchOf};
 ghost use Rattle.st_trace.specs.Branches.{fork, refusal_to_fork, refusal_to_merge, refusal_to_rebase};
-ghost use Rattle.st_trace.specs.inside.Branches.{HasDropped, HasForked, HasMerged, HasMergedInto, HasNoLine, HasRebased, IsNewHead, branch_over, ground_of, head_of, place_of, state_of, void_among, with_ground, without_head, without_place};
+ghost use Rattle.st_trace.specs.inside.Branches.{HasDropped, HasForked, HasMerged, HasMergedInto, HasNoLine, HasRebased, IsNewHead, branch_over, ground_of, state_of, void_among, with_ground, without_head, without_place};
+ghost use Rattle.st_heads.specs.Replicas.{head_of};
+ghost use Rattle.st_lists.specs.Lines.{branch_place};
 
 use crate::edits::{enqueue, own_limit_passed};
 use crate::replica::Replica;
@@ -29,24 +31,6 @@ use std::alloc::{AllocError, Global};
 
 /// How many branches a client may have beside the main one.
 const MOST_BRANCHES: usize = 16;
-
-/// The place of the branch of a number.
-pub fn branch_place(branches: &[Branch], number: u32) -> Option<usize>
-    ensures { result ≡ place_of number branches.now }
-{
-    branches.iter().position(|branch| branch.number == number)
-}
-
-/// The branch of a number.
-pub fn find_branch(client: &Client, number: u32) -> Option<&Branch>
-    ensures { option_copied result ≡ branch_of client.now number }
-{
-    client
-        .branches
-        .as_slice()
-        .iter()
-        .find(|branch| branch.number == number)
-}
 
 /// Of a line: whether a transaction is open on it, and how many commits of its own it has.
 #[derive(Clone, Copy)]
@@ -304,10 +288,10 @@ pub fn rebase(
     number: u32,
 ) -> Result<Answer, AllocError>
     requires heads { length kept.old.branches ≡ length client.old.branches }
-    requires can { (j : ℕ) (b : BranchOf) (p : HeadOf) → place_of number client.old.branches ≡ Some j → slice_get client.old.branches j ≡ Some b → head_of client.old kept.old b.parent ≡ Some p
+    requires can { (j : ℕ) (b : BranchOf) (p : HeadOf) → branch_place number client.old.branches ≡ Some j → slice_get client.old.branches j ≡ Some b → head_of client.old kept.old b.parent ≡ Some p
         → IsSoundInForm (document_of p.doc) × FitInTurn (document_of p.doc) b.own }
-    ensures none { IfOk result (λ a. place_of number client.old.branches ≡ None → HasNoLine client.old kept.old client.new kept.new a) }
-    ensures rebased { IfOk result (λ a. (j : ℕ) (b : BranchOf) (l : Line) (p : HeadOf) → place_of number client.old.branches ≡ Some j → slice_get client.old.branches j ≡ Some b
+    ensures none { IfOk result (λ a. branch_place number client.old.branches ≡ None → HasNoLine client.old kept.old client.new kept.new a) }
+    ensures rebased { IfOk result (λ a. (j : ℕ) (b : BranchOf) (l : Line) (p : HeadOf) → branch_place number client.old.branches ≡ Some j → slice_get client.old.branches j ≡ Some b
         → line_of client.old b.parent ≡ Some l → head_of client.old kept.old b.parent ≡ Some p → HasRebased client.old kept.old j b l p (refusal_to_rebase b) client.new kept.new a) }
 {
     let Some(place) = branch_place(client.branches.as_slice(), number) else {
@@ -467,10 +451,10 @@ pub fn merge(
     requires heads { length kept.old.branches ≡ length client.old.branches }
     requires own { AllByRecursion (λ (b : BranchOf). length b.own ≤ 256) client.old.branches }
     requires pending { length client.old.pending ≤ 256 }
-    requires can { (j : ℕ) (b : BranchOf) (p : HeadOf) → place_of number client.old.branches ≡ Some j → slice_get client.old.branches j ≡ Some b
+    requires can { (j : ℕ) (b : BranchOf) (p : HeadOf) → branch_place number client.old.branches ≡ Some j → slice_get client.old.branches j ≡ Some b
         → head_of (without_place client.old j) (without_head kept.old j) b.parent ≡ Some p → IsSoundInForm (document_of p.doc) × FitInTurn (document_of p.doc) b.own }
-    ensures none { IfOk result (λ a. place_of number client.old.branches ≡ None → HasNoLine client.old kept.old client.new kept.new a) }
-    ensures merged { IfOk result (λ a. (j : ℕ) (b : BranchOf) (l : Line) (p : HeadOf) → place_of number client.old.branches ≡ Some j → slice_get client.old.branches j ≡ Some b
+    ensures none { IfOk result (λ a. branch_place number client.old.branches ≡ None → HasNoLine client.old kept.old client.new kept.new a) }
+    ensures merged { IfOk result (λ a. (j : ℕ) (b : BranchOf) (l : Line) (p : HeadOf) → branch_place number client.old.branches ≡ Some j → slice_get client.old.branches j ≡ Some b
         → line_of client.old b.parent ≡ Some l → head_of (without_place client.old j) (without_head kept.old j) b.parent ≡ Some p
         → HasMerged client.old kept.old j b p (refusal_to_merge client.old number b l) client.new kept.new a) }
 {
@@ -509,8 +493,8 @@ pub fn drop_branch(client: &mut Client, kept: &mut Replica, number: u32) -> Answ
     requires heads { length kept.old.branches ≡ length client.old.branches }
     requires names { kept.old.names ≡ unsequenced client.old }
     requires few_names { unsequenced client.old ≤ 16384 }
-    ensures none { place_of number client.old.branches ≡ None → HasNoLine client.old kept.old client.new kept.new result }
-    ensures dropped { (j : ℕ) (b : BranchOf) → place_of number client.old.branches ≡ Some j → slice_get client.old.branches j ≡ Some b
+    ensures none { branch_place number client.old.branches ≡ None → HasNoLine client.old kept.old client.new kept.new result }
+    ensures dropped { (j : ℕ) (b : BranchOf) → branch_place number client.old.branches ≡ Some j → slice_get client.old.branches j ≡ Some b
         → HasDropped client.old kept.old j b (has_children client.old number) client.new kept.new result }
 {
     let Some(place) = branch_place(client.branches.as_slice(), number) else {

@@ -2,7 +2,7 @@
 ghost use Rattle.std.specs.Prelude.{◌≡◌, [], ◌∷◌, ◌++◌, IfOk, OnOk, None};
 ghost use Rattle.st_doc.specs.Doc.{document_of};
 ghost use Rattle.st_lists.specs.Clients.{new_client};
-ghost use Rattle.st_trace.specs.declared.replica.Replica.{Replica as KeptOf};
+ghost use Rattle.st_heads.specs.declared.replica.Replica.{Replica as KeptOf};
 ghost use Rattle.st_trace.specs.inside.Replicas.{IsNewReplica};
 
 use crate::replica::Replica;

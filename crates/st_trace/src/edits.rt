@@ -6,7 +6,8 @@ ghost use Rattle.st_marks.specs.Document.{IsSoundInForm};
 ghost use Rattle.st_marks.specs.Intent.{Fits};
 ghost use Rattle.st_doc.specs.Doc.{document_of};
 ghost use Rattle.st_edits.specs.Resolve.{IsWithin, resolve};
-ghost use Rattle.st_heads.specs.Transactions.{HasOpen, with_open};
+ghost use Rattle.st_heads.specs.Transactions.{HasOpen};
+ghost use Rattle.st_lists.specs.Open.{with_open};
 ghost use Rattle.st_script.specs.Steps.{edit_view};
 ghost use Rattle.st_lists.specs.Clients.{joined_of, with_commit, with_new_commit};
 ghost use Rattle.st_lists.specs.Limits.{limit_passed, own_limit_passed, pending_limit_passed};
@@ -14,9 +15,12 @@ ghost use Rattle.st_lists.specs.Lines.{Line, main_line};
 ghost use Rattle.st_lists.specs.Names.{names_made, unsequenced};
 ghost use Rattle.st_lists.specs.declared.lists.Body.TheVariants.{Commit};
 ghost use Rattle.st_lists.specs.declared.lists.Client.{Client as Present};
-ghost use Rattle.st_trace.specs.World.{IsAfterEdit, answer_of, last_in_effect, next_names, refusal_of, with_new_on, word_of};
-ghost use Rattle.st_trace.specs.inside.Edits.{edit_of, limit_on, line_limit, names_limit};
-ghost use Rattle.st_trace.specs.inside.Replicas.{CanTake, HasTaken, HasNumbersLeft, HasTakenIn, IsCommitted, IsPending, IsTakenIn};
+ghost use Rattle.st_trace.specs.World.{IsAfterEdit, answer_of, next_names, refusal_of, with_new_on, word_of};
+ghost use Rattle.st_edits.specs.InEffect.{last_in_effect};
+ghost use Rattle.st_trace.specs.inside.Edits.{edit_of};
+ghost use Rattle.st_lists.specs.Limits.{limit_on, line_limit, names_limit};
+ghost use Rattle.st_trace.specs.inside.Replicas.{CanTake, HasTaken, HasNumbersLeft, HasTakenIn, IsPending, IsTakenIn};
+ghost use Rattle.st_heads.specs.Replicas.{IsCommitted};
 
 use crate::client::EditWord;
 use crate::replica::Replica;
@@ -31,12 +35,6 @@ use st_schema::Schema;
 use st_script::{Answer, EditAct, Refusal};
 use st_tree::EditFault;
 use std::alloc::{AllocError, Global};
-
-/// How many commits of its own a line may have.
-const MOST_OWN: usize = 256;
-
-/// How many names may wait at a client.
-const MOST_NAMES: u64 = 16_384;
 
 /// Which answer an edit gets that is accepted.
 pub fn word_of(edit: &EditAct) -> EditWord
@@ -122,16 +120,6 @@ pub fn refusal_of(fault: EditFault) -> Refusal
     }
 }
 
-/// The schema entry that is last in effect in a document.
-pub fn last_in_effect(doc: &Doc) -> Rev
-    ensures { result ≡ last_in_effect (document_of doc.now) }
-{
-    match doc.under() {
-        Some(rev) => rev,
-        None => Rev { session: 0, num: 0 },
-    }
-}
-
 /// The names that an edit on a line may give, where its client has that session and has generated so many ids: those of the
 /// next commit, or the next ones of the transaction that is open on the line.
 pub fn next_names_of(session: u32, ids: u32, transaction: &Option<Transaction>) -> NameCounters
@@ -163,59 +151,6 @@ pub fn next_names(client: &Client) -> NameCounters
     next_names_of(client.session, client.ids, &client.transaction)
 }
 
-// What is limited on the line of a number.
-fn limit_on(number: u32) -> LimitOf
-    ensures { result ≡ limit_on number }
-{
-    if number == 0 {
-        LimitOf::Pending
-    } else {
-        LimitOf::Branch
-    }
-}
-
-// The limit that so many more commits on the line of a number would pass beside so many.
-fn line_limit(number: u32, own: usize, more: usize) -> Option<Limit>
-    requires { own ≤ 256 }
-    ensures { result ≡ line_limit number own more }
-{
-    if own.saturating_add(more) > MOST_OWN {
-        let of = limit_on(number);
-        let kept = own as u32;
-        return Some(Limit { of, kept });
-    }
-    None
-}
-
-/// The limit that so many more commits on the line of a number would pass, which has so many of its own, if they pass it.
-pub fn own_limit_passed(number: u32, own: usize, more: usize) -> Option<Limit>
-    requires { own ≤ 256 }
-    ensures { (l : Line) → length l.own ≡ own → result ≡ own_limit_passed number l more }
-{
-    line_limit(number, own, more)
-}
-
-/// The limit that one more pending commit would pass, if it passes one.
-pub fn pending_limit_passed(client: &Client) -> Option<Limit>
-    requires { length client.now.pending ≤ 256 }
-    ensures { result ≡ pending_limit_passed client.now }
-{
-    own_limit_passed(0, client.pending.len(), 1)
-}
-
-/// The limit that the names of an intent would pass beside so many that wait, if they pass it.
-pub fn names_limit_passed(names: u64, intent: &Intent) -> Option<Limit>
-    requires { names ≤ 16384 }
-    ensures { result ≡ names_limit names intent.now }
-{
-    if names.saturating_add(names_made(intent)) > MOST_NAMES {
-        let of = LimitOf::Unsequenced;
-        let kept = names as u32;
-        return Some(Limit { of, kept });
-    }
-    None
-}
-
 // The limit that one more pending commit would pass, if there is one.
 fn limit_passed(client: &Client, names: u64, intent: &Intent) -> Option<Limit>
     requires names { names ≡ unsequenced client.now }
@@ -227,59 +162,6 @@ fn limit_passed(client: &Client, names: u64, intent: &Intent) -> Option<Limit>
         Some(limit) => Some(limit),
         None => names_limit_passed(names, intent),
     }
-}
-
-// Puts a copy of a commit behind those that are pending.
-fn push_pending(
-    alloc: Global,
-    pending: &mut List<Intent>,
-    intent: &Intent,
-) -> Result<(), AllocError>
-    ensures { OnOk result (pending.new ≡ pending.old ++ intent.now ∷ []) }
-{
-    let intent = intent.copy(alloc)?;
-    pending.push(intent)?;
-    Ok(())
-}
-
-// Puts a commit behind the texts that wait.
-fn push_waiting(queue: &mut List<Body>, reference: u32, intent: Intent) -> Result<(), AllocError>
-    ensures { OnOk result (queue.new ≡ queue.old ++ Commit reference intent ∷ []) }
-{
-    queue.push(Body::Commit { reference, intent })?;
-    Ok(())
-}
-
-/// Keeps a commit as pending, and in the queue if the client is connected.
-pub fn enqueue(alloc: Global, client: &mut Client, intent: Intent) -> Result<(), AllocError>
-    ensures { OnOk result (client.new ≡ with_commit client.old intent) }
-{
-    push_pending(alloc, &mut client.pending, &intent)?;
-    if client.connected {
-        push_waiting(&mut client.queue, client.received, intent)?;
-    }
-    Ok(())
-}
-
-/// Carries a commit out under a new id, and keeps it as pending and in the queue.
-pub fn commit_new(
-    alloc: Global,
-    client: &mut Client,
-    kept: &mut Replica,
-    intent: Intent,
-) -> Result<(), AllocError>
-    requires few { client.old.ids + 1 < 2 ^ 32 }
-    requires names { kept.old.names + names_made intent ≤ 16384 }
-    requires sound { IsSoundInForm (document_of kept.old.main.doc) }
-    requires fits { Fits (document_of kept.old.main.doc) intent }
-    ensures client { OnOk result (client.new ≡ with_new_commit client.old intent) }
-    ensures kept { OnOk result (IsCommitted kept.old intent kept.new) }
-{
-    kept.names += names_made(&intent);
-    kept.main.carry(alloc, &intent)?;
-    enqueue(alloc, client, intent)?;
-    client.ids += 1;
-    Ok(())
 }
 
 // Keeps a commit as pending, if it passes no limit.

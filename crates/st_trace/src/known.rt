@@ -6,7 +6,7 @@ ghost use Rattle.st_ids.specs.declared.names.Rev.{Rev as RevNames};
 ghost use Rattle.st_doc.specs.Doc.{document_of};
 ghost use Rattle.st_doc.specs.LiveText.{is_among};
 ghost use Rattle.st_edits.specs.ArrayTypes.{is_array_type};
-ghost use Rattle.st_trace.specs.World.{last_in_effect};
+ghost use Rattle.st_edits.specs.InEffect.{last_in_effect};
 
 use crate::edits::last_in_effect;
 use st_doc::Doc;

@@ -6,14 +6,15 @@ ghost use Rattle.st_marks.specs.Document.{IsSoundInForm};
 ghost use Rattle.st_marks.specs.Intent.{Fits, group_cells};
 ghost use Rattle.st_doc.specs.Doc.{document_of};
 ghost use Rattle.st_edits.specs.Resolve.{need as need_in};
-ghost use Rattle.st_heads.specs.Transactions.{HasOpen, IsWithPart, with_open};
+ghost use Rattle.st_heads.specs.Transactions.{HasOpen};
+ghost use Rattle.st_lists.specs.Open.{IsWithPart, with_open};
 ghost use Rattle.st_lists.specs.Clients.{joined_of, with_edited};
 ghost use Rattle.st_lists.specs.Lines.{main_line};
 ghost use Rattle.st_lists.specs.Names.{names_made, unsequenced};
 ghost use Rattle.st_trace.specs.declared.client.EditWord.{EditWord as Word};
 ghost use Rattle.st_trace.specs.declared.client.EditWord.TheVariants as word;
 ghost use Rattle.st_trace.specs.World.{IsAfterNeed, abort, begin, cells_given, commit, after_commit, next_names};
-ghost use Rattle.st_trace.specs.inside.Edits.{names_limit};
+ghost use Rattle.st_lists.specs.Limits.{names_limit};
 ghost use Rattle.st_trace.specs.inside.Replicas.{CanJoin, CanTake, HasAborted, HasCommitted, HasCommittedOf, HasJoined, HasNumbersLeft, HasPart, HasTakenNeed, IsJoinedIn};
 
 use crate::client::EditWord;
@@ -196,16 +197,6 @@ pub fn commit(alloc: Global, client: &mut Client, kept: &mut Replica) -> Result<
             let answer = commit_joined(alloc, client, kept, rev, transaction.joined)?;
             Ok(answer)
         }
-    }
-}
-
-/// How many names were made in a transaction, by what was edited in it, or the greatest number if there are more.
-pub fn names_edited(joined: &Option<Intent>) -> u64
-    ensures { result ≡ min (option_map_or names_made joined.now 0) (2 ^ 64 - 1) }
-{
-    match joined {
-        None => 0,
-        Some(joined) => names_made(joined),
     }
 }
 

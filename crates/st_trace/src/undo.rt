@@ -7,7 +7,7 @@ ghost use Rattle.st_marks.specs.Intent.{Fits};
 ghost use Rattle.st_doc.specs.Doc.{document_of};
 ghost use Rattle.st_lists.specs.Clients.{next_rev};
 ghost use Rattle.st_lists.specs.Names.{names_made};
-ghost use Rattle.st_trace.specs.World.{last_in_effect};
+ghost use Rattle.st_edits.specs.InEffect.{last_in_effect};
 ghost use Rattle.st_trace.specs.Undo.{has_rev};
 ghost use Rattle.st_trace.specs.inside.Undo.{HasGone, HasUndone, logged_of, undo_in, undone, way_at, way_logged, way_of, way_over, way_pending};
 
@@ -21,16 +21,6 @@ use st_marks::Intent;
 use st_script::{Answer, Refusal};
 use std::alloc::{AllocError, Global};
 use std::collections::BTreeMap;
-
-/// The revision of a client's next commit.
-pub fn next_rev(client: &Client) -> Rev
-    requires { client.now.ids + 1 < 2 ^ 32 }
-    ensures { result ≡ next_rev client.now }
-{
-    let session = client.session;
-    let num = client.ids + 1;
-    Rev { session, num }
-}
 
 // The way back over a commit that came out so, or why it isn't undone.
 fn way_of(

@@ -7,7 +7,7 @@ ghost use Rattle.st_lists.specs.Clients.{next_rev};
 ghost use Rattle.std.specs.Option.{option_or};
 ghost use Rattle.st_lists.specs.Limits.{pending_limit_passed};
 ghost use Rattle.st_trace.specs.Upgrade.{change_of_schema, refusal_to_upgrade, schemas_limit_passed, upgrade};
-ghost use Rattle.st_trace.specs.World.{last_in_effect};
+ghost use Rattle.st_edits.specs.InEffect.{last_in_effect};
 ghost use Rattle.st_trace.specs.inside.Upgrade.{HasKeptOf, HasUpgraded};
 
 use crate::edits::{commit_new, last_in_effect, pending_limit_passed};

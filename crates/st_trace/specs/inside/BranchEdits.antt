@@ -10,7 +10,8 @@ use Rattle.st_marks.specs.Document.{Document, IsSoundInForm}
 use Rattle.st_doc.specs.Doc.{document_of}
 use Rattle.st_heads.specs.declared.heads.Head.{Head}
 use Rattle.st_heads.specs.Heads as head
-use Rattle.st_heads.specs.Transactions.{HasOpen, IsWithPart, with_open}
+use Rattle.st_heads.specs.Transactions.{HasOpen}
+use Rattle.st_lists.specs.Open.{IsWithPart, with_open}
 use Rattle.st_script.specs.declared.answer.Answer.{Answer}
 use Rattle.st_script.specs.declared.answer.Answer.TheVariants as answer
 use Rattle.st_script.specs.declared.refusal.Refusal.TheVariants as no
@@ -20,13 +21,14 @@ use Rattle.st_lists.specs.Lines.{branch_line, edited_on}
 use Rattle.st_lists.specs.Names.{names_made}
 use Rattle.st_lists.specs.declared.lists.Branch.{Branch}
 use Rattle.st_lists.specs.declared.lists.Transaction.{Transaction}
-use Rattle.st_trace.specs.World.{answer_of, cells_given, last_in_effect, next_names, refusal_of}
+use Rattle.st_trace.specs.World.{answer_of, cells_given, next_names, refusal_of}
+use Rattle.st_edits.specs.InEffect.{last_in_effect}
 use Rattle.st_trace.specs.declared.client.EditWord.{EditWord}
 use Rattle.st_trace.specs.declared.client.EditWord.TheVariants as word
-use Rattle.st_trace.specs.inside.Edits.{names_limit}
+use Rattle.st_lists.specs.Limits.{names_limit}
 use Rattle.st_trace.specs.inside.Replicas.{HasJoined, HasNumbersLeft}
 use Rattle.st_lists.specs.declared.lists.Client.{Client}
-use Rattle.st_trace.specs.declared.replica.Replica.{Replica}
+use Rattle.st_heads.specs.declared.replica.Replica.{Replica}
 
 -- the limit that one more commit of its own would pass, beside so many names that wait
 abbrev pub own_limit : Branch → ℕ → Intent → Option Limit

@@ -19,7 +19,7 @@ use Rattle.st_lists.specs.declared.lists.Branch.{Branch}
 use Rattle.st_lists.specs.declared.lists.Client.{Client}
 use Rattle.st_trace.specs.declared.branches.Ground.{Ground}
 use Rattle.st_trace.specs.declared.branches.LineState.{LineState}
-use Rattle.st_trace.specs.declared.replica.Replica.{Replica}
+use Rattle.st_heads.specs.declared.replica.Replica.{Replica}
 
 -- of a line: whether a transaction is open on it, and how many commits of its own it has
 abbrev pub state_of : Line → LineState
@@ -32,15 +32,6 @@ ground_of l = record { received = l.received; base = l.base ++ l.own }
 -- a branch that begins there
 abbrev pub branch_over : ℕ → ℕ → Ground → Branch
 branch_over number parent g = record { number = number; parent = parent; received = g.received; base = g.base; own = []; transaction = None }
-
--- the place of the branch of a number
-abbrev pub place_of : ℕ → List Branch → Option ℕ
-place_of k bs = position (λ (b : Branch). b.number == k) bs
-
--- the head of the line of a number
-abbrev pub head_of : Client → Replica → ℕ → Option Head
-head_of c k zero = Some k.main
-head_of c k (suc n) = option_and_then (λ i. slice_get k.branches i) (place_of (suc n) c.branches)
 
 -- a branch on other ground
 abbrev pub with_ground : Branch → Ground → Branch
@@ -70,12 +61,6 @@ HasForkedOn (Some parent) old new = (h : Head) × IsNewHead (document_of parent.
 abbrev pub HasForked : Option Head → Option Refusal → Replica → Replica → Type 0
 HasForked parent None old new = HasForkedOn parent old new
 HasForked parent (Some why) old new = new ≡ old
-
--- the branch of a number, its place, and its head
-pub record IsAtBranch (c : Client) (k : Replica) (number place : ℕ) (b : Branch) (head : Head) : Type 0 where
-  pub found : place_of number c.branches ≡ Some place
-  pub branch : slice_get c.branches place ≡ Some b
-  pub kept : slice_get k.branches place ≡ Some head
 
 -- a client, and what is kept of it, after a rebase of the branch at a place onto its parent's line and that one's head
 abbrev pub HasRebased : Client → Replica → ℕ → Branch → Line → Head → Option Refusal → Client → Replica → Answer → Type 0

@@ -25,13 +25,14 @@ use Rattle.st_lists.specs.Clients.{joined_of, with_edited}
 use Rattle.st_lists.specs.Limits.{limit_passed, names_limit_passed}
 use Rattle.st_lists.specs.Lines.{Line, main_line}
 use Rattle.st_lists.specs.declared.lists.Transaction.{Transaction}
-use Rattle.st_heads.specs.Transactions.{HasOpen, IsOpen, IsSoundPart, IsWithPart, with_open}
+use Rattle.st_heads.specs.Transactions.{HasOpen, IsOpen}
+use Rattle.st_lists.specs.Open.{IsSoundPart, IsWithPart, with_open}
 use Rattle.st_script.specs.declared.answer.Answer.{Answer}
 use Rattle.st_script.specs.declared.answer.Answer.TheVariants as answer
 use Rattle.st_script.specs.declared.refusal.Refusal.TheVariants as no
 use Rattle.st_trace.specs.declared.client.EditWord.{EditWord}
 use Rattle.st_trace.specs.World.{IsJoined, answer_of, cells_given, with_new_on}
-use Rattle.st_trace.specs.declared.replica.Replica.{Replica}
+use Rattle.st_heads.specs.declared.replica.Replica.{Replica}
 use Rattle.st_lists.specs.declared.lists.Client.{Client}
 use Rattle.st_lists.specs.declared.lists.Entry.{Entry}
 use Rattle.st_trace.specs.declared.world.World.{World}
@@ -44,13 +45,6 @@ abbrev pub IsSoundNext : World → Type 0
 IsSoundNext w = IsSoundAfter (w.steps + 1) w
 
 -- ## Steps of a client
-
--- a commit is carried out at the head of a client's main line
-pub record IsCommitted (old : Replica) (N : Intent) (new : Replica) : Type 0 where
-  pub main : head.HasCarried old.main (N ∷ []) new.main
-  pub received : new.received ≡ old.received
-  pub branches : new.branches ≡ old.branches
-  pub names : new.names ≡ old.names + names_made N
 
 -- a commit that passes no limit is carried out, and after another nothing has changed
 abbrev pub IsPending : Replica → Intent → Option Limit → Replica → Type 0

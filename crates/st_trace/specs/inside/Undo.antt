@@ -18,8 +18,8 @@ use Rattle.st_lists.specs.declared.lists.Client.{Client}
 use Rattle.st_lists.specs.declared.lists.Transaction.{Transaction}
 use Rattle.st_trace.specs.Undo.{has_rev}
 use Rattle.st_trace.specs.declared.logged.Logged.{Logged}
-use Rattle.st_trace.specs.declared.replica.Replica.{Replica}
-use Rattle.st_trace.specs.inside.Replicas.{IsCommitted}
+use Rattle.st_heads.specs.declared.replica.Replica.{Replica}
+use Rattle.st_heads.specs.Replicas.{IsCommitted}
 
 -- the way back over a commit, if one more can be pending
 abbrev pub way_within : Client → Rev → Way → Option Limit → Result Intent Refusal

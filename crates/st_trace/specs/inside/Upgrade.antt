@@ -11,8 +11,8 @@ use Rattle.st_script.specs.declared.answer.Answer.{Answer}
 use Rattle.st_script.specs.declared.answer.Answer.TheVariants as answer
 use Rattle.st_script.specs.declared.refusal.Refusal.{Refusal}
 use Rattle.st_trace.specs.declared.known.KnownSchema.{KnownSchema}
-use Rattle.st_trace.specs.declared.replica.Replica.{Replica}
-use Rattle.st_trace.specs.inside.Replicas.{IsCommitted}
+use Rattle.st_heads.specs.declared.replica.Replica.{Replica}
+use Rattle.st_heads.specs.Replicas.{IsCommitted}
 
 -- what is kept of a client after a change of its schema, which may be refused
 abbrev pub HasUpgraded : Option Refusal → Replica → Intent → Replica → Type 0

@@ -1,12 +1,12 @@
 use Rattle.std.proofs.Common.{ap, refl, sym, ◌∙◌}
-use Rattle.st_trace.specs.inside.Branches.{place_of}
+use Rattle.st_lists.specs.Lines.{branch_place}
 use Rattle.st_trace.proofs.NumbersLeft.{left_few}
 use Rattle.st_trace.proofs.branch_edits.edit.Goals as goal
 
 pub edit_branch-requires-clause-own : goal.edit_branch-requires-clause-own
 edit_branch-requires-clause-own c =
     let can = c.requires.can c.in-Some.place c.in-Some-get_mut.branch.now c.in-Some-get_mut-2.head.now (record {
-      found = ap (place_of c.args.number) (sym c.as_slice.ensures) ∙ sym c.in-Some.ensures;
+      found = ap (branch_place c.args.number) (sym c.as_slice.ensures) ∙ sym c.in-Some.ensures;
       branch = sym c.in-Some-get_mut.ensures.value;
       kept = sym c.in-Some-get_mut-2.ensures.value;
     }) in
@@ -15,7 +15,7 @@ edit_branch-requires-clause-own c =
 pub edit_branch-requires-clause-sound : goal.edit_branch-requires-clause-sound
 edit_branch-requires-clause-sound c =
     let can = c.requires.can c.in-Some.place c.in-Some-get_mut.branch.now c.in-Some-get_mut-2.head.now (record {
-      found = ap (place_of c.args.number) (sym c.as_slice.ensures) ∙ sym c.in-Some.ensures;
+      found = ap (branch_place c.args.number) (sym c.as_slice.ensures) ∙ sym c.in-Some.ensures;
       branch = sym c.in-Some-get_mut.ensures.value;
       kept = sym c.in-Some-get_mut-2.ensures.value;
     }) in
@@ -24,7 +24,7 @@ edit_branch-requires-clause-sound c =
 pub edit_branch-requires-clause-open : goal.edit_branch-requires-clause-open
 edit_branch-requires-clause-open c =
     let can = c.requires.can c.in-Some.place c.in-Some-get_mut.branch.now c.in-Some-get_mut-2.head.now (record {
-      found = ap (place_of c.args.number) (sym c.as_slice.ensures) ∙ sym c.in-Some.ensures;
+      found = ap (branch_place c.args.number) (sym c.as_slice.ensures) ∙ sym c.in-Some.ensures;
       branch = sym c.in-Some-get_mut.ensures.value;
       kept = sym c.in-Some-get_mut-2.ensures.value;
     }) in
@@ -33,7 +33,7 @@ edit_branch-requires-clause-open c =
 pub edit_branch-requires-clause-nodes : goal.edit_branch-requires-clause-nodes
 edit_branch-requires-clause-nodes c =
     let can = c.requires.can c.in-Some.place c.in-Some-get_mut.branch.now c.in-Some-get_mut-2.head.now (record {
-      found = ap (place_of c.args.number) (sym c.as_slice.ensures) ∙ sym c.in-Some.ensures;
+      found = ap (branch_place c.args.number) (sym c.as_slice.ensures) ∙ sym c.in-Some.ensures;
       branch = sym c.in-Some-get_mut.ensures.value;
       kept = sym c.in-Some-get_mut-2.ensures.value;
     }) in
@@ -42,7 +42,7 @@ edit_branch-requires-clause-nodes c =
 pub edit_branch-requires-clause-cells : goal.edit_branch-requires-clause-cells
 edit_branch-requires-clause-cells c =
     let can = c.requires.can c.in-Some.place c.in-Some-get_mut.branch.now c.in-Some-get_mut-2.head.now (record {
-      found = ap (place_of c.args.number) (sym c.as_slice.ensures) ∙ sym c.in-Some.ensures;
+      found = ap (branch_place c.args.number) (sym c.as_slice.ensures) ∙ sym c.in-Some.ensures;
       branch = sym c.in-Some-get_mut.ensures.value;
       kept = sym c.in-Some-get_mut-2.ensures.value;
     }) in

@@ -1,6 +1,6 @@
 use Rattle.std.proofs.Common.{ap, arith}
 use Rattle.st_trace.proofs.Branched.{few_among}
-use Rattle.st_trace.specs.declared.replica.Replica.{Replica}
+use Rattle.st_heads.specs.declared.replica.Replica.{Replica}
 use Rattle.st_trace.proofs.branches.drop_branch.Goals as goal
 
 pub names_on-requires : goal.names_on-requires

@@ -1,7 +1,8 @@
 use Rattle.std.proofs.Common.{None, Some, ap, refl, sym, ◌∙◌}
 use Rattle.st_lemmas.proofs.Options.{IfOk-along, one_some}
 use Rattle.st_script.specs.declared.answer.Answer.TheVariants.{No}
-use Rattle.st_trace.specs.inside.Branches.{HasMerged, place_of}
+use Rattle.st_trace.specs.inside.Branches.{HasMerged}
+use Rattle.st_lists.specs.Lines.{branch_place}
 use Rattle.st_trace.proofs.Merged.{merge_as, parent_few, removed_many, taken_as}
 use Rattle.st_trace.proofs.branches.merge.Goals as goal
 
@@ -15,7 +16,7 @@ returns-in-Some-refusal_to_merge-clause-merged c =
     let kept = c.args.kept.now in
     let why = c.in-Some-refusal_to_merge.refusal in
     merge_as client kept c.args.number c.in-Some.place c.in-Some-get.branch.now c.in-Some-line_state.parent (Some why) (λ j b p o. HasMerged client kept j b p o client kept (No why))
-    (ap (place_of c.args.number) (sym c.as_slice.ensures) ∙ sym c.in-Some.ensures) (sym c.in-Some-get.ensures) (sym c.in-Some-line_state.ensures) c.in-Some-refusal_to_merge.ensures (λ p at. (refl, refl, refl))
+    (ap (branch_place c.args.number) (sym c.as_slice.ensures) ∙ sym c.in-Some.ensures) (sym c.in-Some-get.ensures) (sym c.in-Some-line_state.ensures) c.in-Some-refusal_to_merge.ensures (λ p at. (refl, refl, refl))
 
 pub merge_into-requires-clause-heads : goal.merge_into-requires-clause-heads
 merge_into-requires-clause-heads c =
@@ -24,7 +25,7 @@ merge_into-requires-clause-heads c =
 pub merge_into-requires-clause-can : goal.merge_into-requires-clause-can
 merge_into-requires-clause-can c p at =
     let here = rw (c.take_branch-branch.ensures.client, c.take_branch-branch.ensures.kept) at at in
-    rw c.as_slice-2.ensures (c.requires.can c.in-Some.place c.take_branch-branch.result p (ap (place_of c.args.number) (sym c.as_slice.ensures) ∙ sym c.in-Some.ensures) c.take_branch-branch.ensures.branch here)
+    rw c.as_slice-2.ensures (c.requires.can c.in-Some.place c.take_branch-branch.result p (ap (branch_place c.args.number) (sym c.as_slice.ensures) ∙ sym c.in-Some.ensures) c.take_branch-branch.ensures.branch here)
 
 pub returns-clause-merged : goal.returns-clause-merged
 returns-clause-merged c =
@@ -39,5 +40,5 @@ returns-clause-merged c =
     let l = c.merge_into.new.kept in
     IfOk-along c.merge_into.result _ _ (λ a told.
     merge_as client kept c.args.number i x c.in-Some-line_state.parent None (λ j b p o. HasMerged client kept j b p o d l a)
-    (ap (place_of c.args.number) (sym c.as_slice.ensures) ∙ sym c.in-Some.ensures) at (sym c.in-Some-line_state.ensures) c.in_default-refusal_to_merge.ensures
+    (ap (branch_place c.args.number) (sym c.as_slice.ensures) ∙ sym c.in-Some.ensures) at (sym c.in-Some-line_state.ensures) c.in_default-refusal_to_merge.ensures
     (taken_as client c.take_branch-branch.new.client d kept c.take_branch-branch.new.kept l i x y c.as_slice-2.result.now a c.take_branch-branch.ensures.client c.take_branch-branch.ensures.kept c.as_slice-2.ensures same told)) c.merge_into.ensures

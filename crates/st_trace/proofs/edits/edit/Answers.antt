@@ -1,6 +1,6 @@
 use Rattle.st_doc.specs.Doc.{document_of}
 use Rattle.st_edits.specs.Resolve.{resolve}
-use Rattle.st_heads.specs.Transactions.{with_open}
+use Rattle.st_lists.specs.Open.{with_open}
 use Rattle.st_lists.specs.Clients.{joined_of}
 use Rattle.st_lists.specs.Lines.{main_line}
 use Rattle.st_script.specs.Steps.{edit_view}

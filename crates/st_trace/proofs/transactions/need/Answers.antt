@@ -1,7 +1,7 @@
 use Rattle.std.proofs.Common.{◌≡◌, ◌∙◌, Ok, sym, ap}
 use Rattle.st_doc.specs.Doc.{document_of}
 use Rattle.st_edits.specs.Resolve.{need}
-use Rattle.st_heads.specs.Transactions.{with_open}
+use Rattle.st_lists.specs.Open.{with_open}
 use Rattle.st_lists.specs.Clients.{joined_of}
 use Rattle.st_trace.specs.World.{next_names}
 use Rattle.st_trace.proofs.transactions.need.Goals as goal

@@ -2,7 +2,7 @@ use Rattle.std.proofs.Common.{◌≡◌, ◌∙◌, ap, refl, sym, arith}
 use Rattle.st_trace.proofs.Acting.{few_ids, one_at}
 use Rattle.st_doc.specs.Doc.{document_of}
 use Rattle.st_lists.specs.declared.lists.Client.{Client}
-use Rattle.st_trace.specs.inside.Branches.{head_of}
+use Rattle.st_heads.specs.Replicas.{head_of}
 use Rattle.st_trace.proofs.BranchActs.{can_edit}
 use Rattle.st_trace.proofs.BranchShown.{head_some, known_there, same_some}
 use Rattle.st_trace.proofs.KnownEdits.{take_known_on, there_known}

@@ -1,7 +1,7 @@
 use Rattle.std.proofs.Common.{ap, sym, ◌∙◌, ◌≡◌}
 use Rattle.st_doc.specs.Doc.{document_of}
 use Rattle.st_lists.specs.declared.lists.Client.{Client}
-use Rattle.st_trace.specs.inside.Branches.{head_of}
+use Rattle.st_heads.specs.Replicas.{head_of}
 use Rattle.st_trace.proofs.BranchShown.{head_some, known_there, next_shown, same_some, shown_doc_sound}
 use Rattle.st_trace.proofs.Everyone.{kept_none}
 use Rattle.st_trace.proofs.world.World.show.Goals as goal
