@@ -1,8 +1,9 @@
 //! Clients that edit one typed document at once, from lines of JSON to lines of JSON.
 #![tactic(auto)]
 
+use st_answers::Outcome;
 use st_io::{StdSink, StdSource};
-use st_run::{Outcome, run};
+use st_run::run;
 use std::io::{Error, ErrorKind};
 use std::process::ExitCode;
 use std::{env, io};

@@ -1,5 +1,7 @@
 -- How many names and cells lists of commits make.
-use Rattle.std.proofs.Common.{◌≡◌, ◌≤◌, ◌+◌, ℕ, List, [], ◌∷◌, ◌++◌, take, Option, Some, None, refl, ap, ◌∙◌, arith}
+use Rattle.std.proofs.Common.{◌≡◌, ◌≤◌, ◌+◌, ℕ, List, [], ◌∷◌, ◌++◌, drop, take, Option, Some, None, refl, sym, ap, ◌∙◌, arith}
+use Rattle.std.proofs.lemmas.List.{take-append-drop}
+use Rattle.std.specs.Prelude.{min, ◌-◌, ◌^◌}
 use Rattle.std.specs.List.{cons_option, slice_get}
 use Rattle.std.specs.Option.{option_map_or}
 use Rattle.st_marks.specs.declared.intents.Intent.{Intent}
@@ -33,3 +35,10 @@ names_of_text text = go (commit_in text)
 -- one more of a list
 pub names_taken : (Ns : List Intent) (i : ℕ) (N : Intent) → slice_get Ns i ≡ Some N → names_in (take (i + 1) Ns) ≡ names_in (take i Ns) + names_made N
 names_taken Ns i N at = ap names_in (take-get Ns i N at) ∙ names_append (take i Ns) (N ∷ []) ∙ omega arith
+
+-- the names of the first commits, and those of the rest
+pub names_split : (n : ℕ) (Ns : List Intent) → names_in (take n Ns) + names_in (drop n Ns) ≡ names_in Ns
+names_split n Ns = sym (names_append (take n Ns) (drop n Ns)) ∙ ap names_in (take-append-drop n Ns)
+
+pub names_first : (n made : ℕ) (Ns : List Intent) → names_in Ns ≤ 16384 → made ≡ min (names_in (take n Ns)) (2 ^ 64 - 1) → made + names_in (drop n Ns) ≡ names_in Ns
+names_first n made Ns few is = omega (arith, names_split n Ns, few, is)

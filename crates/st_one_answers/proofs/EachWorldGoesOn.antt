@@ -12,11 +12,13 @@ use Rattle.st_script.specs.Steps as step
 use Rattle.st_script.specs.declared.answer.Answer.{Answer}
 use Rattle.st_script.proofs.Fits.{line_fits}
 use Rattle.st_script.proofs.OfForm.{header_line_kept}
-use Rattle.st_trace.specs.World.{IsNext}
-use Rattle.st_trace.proofs.Going.{AreSound, begun_sound}
-use Rattle.st_trace.proofs.Leading.{KeepsRules, leads_on}
-use Rattle.st_trace.proofs.LeadingBranches.{all_lead}
-use Rattle.st_run.specs.Lines.{cut}
+use Rattle.st_world.specs.World.{IsNext}
+use Rattle.st_world_laws.specs.Worlds.{IsWorld}
+use Rattle.st_world_laws.proofs.Going.{begun_sound}
+use Rattle.st_world_laws.specs.Worlds.{KeepsRules}
+use Rattle.st_world_laws.proofs.Leading.{leads_on}
+use Rattle.st_world_laws.proofs.LeadingBranches.{all_lead}
+use Rattle.st_answers.specs.Lines.{cut}
 use Rattle.st_one_laws.specs.AlikeWorlds.{HasOneMeaning}
 use Rattle.st_one_laws.proofs.OneMeaning.{lists_mean_one}
 use Rattle.st_one_answers.specs.StepAnswers.{HasSoundSchema}
@@ -61,13 +63,13 @@ sound_rules step.pending h = tt
 fits_rules : (branch : ℕ) (x : ActView) → FitsAct branch x → KeepsRules x
 fits_rules branch x h = sound_rules x (λ new e. (subst (FitsAct branch) e h).1)
 
-pub steps_go_on : (h : HeaderView) (w : WorldState) (steps : List StepView) → AreSound h w → AllByRecursion HasSoundSchema steps → StepsGoOn h w steps
+pub steps_go_on : (h : HeaderView) (w : WorldState) (steps : List StepView) → IsWorld h w → AllByRecursion HasSoundSchema steps → StepsGoOn h w steps
 steps_go_on h w [] s all = tt
 steps_go_on h w (x ∷ steps) s all =
     let r = leads_on h w s (all_lead h w s) x in
     (lists_mean_one h w s, (r.0, r.1, r.2, steps_go_on h r.0 steps (r.3 (sound_rules x.act all.0)) all.1))
 
-lines_go_on : (h : HeaderView) (w : WorldState) (lines : List (List ℕ)) → AreSound h w → LinesGoOn h w lines
+lines_go_on : (h : HeaderView) (w : WorldState) (lines : List (List ℕ)) → IsWorld h w → LinesGoOn h w lines
 lines_go_on h w [] s = tt
 lines_go_on h w (l ∷ lines) s = λ x is.
     let r = leads_on h w s (all_lead h w s) x in

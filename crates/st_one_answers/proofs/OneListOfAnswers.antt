@@ -7,21 +7,19 @@ use Rattle.st_compat.specs.declared.compare.BadSchema.{BadSchema}
 use Rattle.st_lists.specs.Clients.{empty_state}
 use Rattle.st_lists.specs.declared.lists.WorldState.{WorldState}
 use Rattle.st_script.specs.AnswerText.{answer_line}
-use Rattle.st_script.specs.Header.{HeaderView, header_line, header_view}
+use Rattle.st_script.specs.Header.{HeaderView, header_line}
 use Rattle.std.specs.List.{AllByRecursion}
-use Rattle.st_trace.specs.Replicas.{IsSound}
-use Rattle.st_trace.specs.declared.world.World.{World}
-use Rattle.st_trace.proofs.Going.{lists_sound}
+use Rattle.st_world_laws.specs.Worlds.{IsWorld}
 use Rattle.st_one_laws.proofs.AlikeToItself.{worlds_itself}
 use Rattle.st_script.specs.Line.{step_of_line}
 use Rattle.st_script.specs.Steps.{StepView}
 use Rattle.st_script.specs.declared.answer.Answer.{Answer}
 use Rattle.st_script.specs.declared.answer.Answer.TheVariants as answer
-use Rattle.st_run.specs.Answers.{Answers, AnswersBy, AnswersCompared, AnswersCompat, AnswersFrom, AnswersLine, AnswersLines, AnswersOpening, AnswersSchemas, AnswersThird, AnswersTrace, NothingFailed, OrCutShort, Output, bad_line, bad_schema, before, cut_short, long_line, long_output, max_input}
-use Rattle.st_run.specs.Lines.{cut}
-use Rattle.st_run.specs.declared.command.Command.{Command}
-use Rattle.st_run.specs.declared.command.Command.TheVariants.{Trace, Compat}
-use Rattle.st_run.specs.declared.outcome.Outcome.TheVariants.{Done, NoMemory}
+use Rattle.st_answers.specs.Answers.{Answers, AnswersBy, AnswersCompared, AnswersCompat, AnswersFrom, AnswersLine, AnswersLines, AnswersOpening, AnswersSchemas, AnswersThird, AnswersTrace, NothingFailed, OrCutShort, Output, bad_line, bad_schema, before, cut_short, long_line, long_output, max_input}
+use Rattle.st_answers.specs.Lines.{cut}
+use Rattle.st_answers.specs.declared.command.Command.{Command}
+use Rattle.st_answers.specs.declared.command.Command.TheVariants.{Trace, Compat}
+use Rattle.st_answers.specs.declared.outcome.Outcome.TheVariants.{Done, NoMemory}
 use Rattle.st_one_laws.specs.AlikeWorlds.{AreAlike}
 use Rattle.st_one_laws.proofs.StepsOfWorlds.{next_alike}
 use Rattle.st_one_answers.specs.StepAnswers.{AreAnswers, HasSoundSchema}
@@ -140,6 +138,5 @@ answers_one c bytes a b y z well fine = go (front_one c bytes a b (input_goes_on
     go (inl e) = e
     go (inr e) = absurd (subst NothingFailed e well)
 
-pub sound_steps_one : (w : World) (steps : List StepView) (xs ys : List Answer) → IsSound w → AllByRecursion HasSoundSchema steps → AreAnswers (header_view w.header) w.lists steps xs → AreAnswers (header_view w.header) w.lists steps ys → xs ≡ ys
-sound_steps_one w steps xs ys s all a b =
-    steps_one (header_view w.header) w.lists w.lists w.lists steps xs ys (steps_go_on (header_view w.header) w.lists steps (lists_sound w s) all) (worlds_itself w.lists) (worlds_itself w.lists) a b
+pub sound_steps_one : (h : HeaderView) (w : WorldState) (steps : List StepView) (xs ys : List Answer) → IsWorld h w → AllByRecursion HasSoundSchema steps → AreAnswers h w steps xs → AreAnswers h w steps ys → xs ≡ ys
+sound_steps_one h w steps xs ys s all a b = steps_one h w w w steps xs ys (steps_go_on h w steps s all) (worlds_itself w) (worlds_itself w) a b

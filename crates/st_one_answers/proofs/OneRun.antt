@@ -2,10 +2,10 @@
 use Rattle.std.proofs.Common.{◌≡◌, ℕ, List, [], ◌++◌, append_assoc, append-nil, Option, Some, None, drop, take, sym, ap, ◌∙◌, subst}
 use Rattle.std.proofs.lemmas.List.{take-append-drop}
 use Rattle.st_io.specs.Bytes.{Appends}
-use Rattle.st_run.specs.Answers.{Answers, IsAnswered, IsAnsweredAs, IsCarriedOut, IsOutput, NothingFailed, Output, WritesAll, command_of, usage_output}
-use Rattle.st_run.specs.declared.command.Command.{Command}
-use Rattle.st_run.specs.declared.outcome.Outcome.{Outcome}
-use Rattle.st_run.specs.declared.outcome.Outcome.TheVariants.{Done, Usage, BadLine, TooLong, ReadFault, WriteFault, NoMemory}
+use Rattle.st_answers.specs.Answers.{Answers, IsAnswered, IsAnsweredAs, IsCarriedOut, IsOutput, NothingFailed, Output, WritesAll, command_of, usage_output}
+use Rattle.st_answers.specs.declared.command.Command.{Command}
+use Rattle.st_answers.specs.declared.outcome.Outcome.{Outcome}
+use Rattle.st_answers.specs.declared.outcome.Outcome.TheVariants.{Done, Usage, BadLine, TooLong, ReadFault, WriteFault, NoMemory}
 use Rattle.st_one_answers.proofs.OneListOfAnswers.{answers_one, front_of_answers}
 
 -- what was written before is a front of what was written later

@@ -2,22 +2,22 @@
 ghost use Rattle.std.specs.Prelude.{◌≡◌, ◌++◌, ℕ, List as Seq, Option, Some, Result};
 ghost use Rattle.st_compat.specs.Compared.{IsCompared};
 ghost use Rattle.st_compat.specs.declared.compare.BadSchema.{BadSchema};
-ghost use Rattle.st_script.specs.Header.{header_view};
+ghost use Rattle.st_script.specs.Header.{HeaderView};
 ghost use Rattle.st_script.specs.Steps.{StepView};
 ghost use Rattle.st_script.specs.declared.answer.Answer.{Answer};
-ghost use Rattle.st_run.specs.Answers.{Answers, IsAnswered, NothingFailed, Output};
-ghost use Rattle.st_run.specs.declared.command.Command.{Command};
+ghost use Rattle.st_answers.specs.Answers.{Answers, IsAnswered, NothingFailed, Output};
+ghost use Rattle.st_answers.specs.declared.command.Command.{Command};
 ghost use Rattle.std.specs.List.{AllByRecursion};
-ghost use Rattle.st_trace.specs.Replicas.{IsSound};
-ghost use Rattle.st_trace.specs.declared.world.World.{World};
-ghost use Rattle.st_run.specs.declared.outcome.Outcome.{Outcome};
+ghost use Rattle.st_lists.specs.declared.lists.WorldState.{WorldState};
+ghost use Rattle.st_world_laws.specs.Worlds.{IsWorld};
+ghost use Rattle.st_answers.specs.declared.outcome.Outcome.{Outcome};
 ghost use Rattle.st_one_answers.specs.StepAnswers.{AreAnswers, HasSoundSchema};
 
-/// Steps from a sound world have one list of answers.
+/// Steps from a world that steps lead to have one list of answers.
 pub fn one_list_of_steps()
-    ensures { (w : World) (steps : Seq StepView) (a b : Seq Answer) → IsSound w
-        → AllByRecursion HasSoundSchema steps → AreAnswers (header_view w.header) w.lists steps a
-        → AreAnswers (header_view w.header) w.lists steps b → a ≡ b }
+    ensures { (h : HeaderView) (w : WorldState) (steps : Seq StepView) (a b : Seq Answer)
+        → IsWorld h w → AllByRecursion HasSoundSchema steps → AreAnswers h w steps a
+        → AreAnswers h w steps b → a ≡ b }
 {}
 
 /// Two lines of schemas come to one line.

@@ -29,13 +29,13 @@ use Rattle.st_lists.specs.Lines.{Line, commits_of, has_children, main_line, with
 use Rattle.st_lists.specs.Log.{commit_of, floor}
 use Rattle.st_edits.specs.declared.names.NameCounters.{NameCounters}
 use Rattle.st_lists.specs.Voids.{AreVoid}
-use Rattle.st_trace.specs.Branches.{IsMerged, IsRebased, drop_branch, fork, refusal_to_fork, refusal_to_merge, refusal_to_rebase}
-use Rattle.st_trace.specs.Kept.{IsKept, Unless}
-use Rattle.st_trace.specs.Undo.{IsAfterUndo, IsUndone, IsUndoneAt, has_commit, has_rev, entry_number, refusal_of_rev, refusal_over}
-use Rattle.st_trace.specs.Upgrade.{change_of_schema, refusal_of_narrowing, refusal_to_upgrade, schemas_limit_passed, upgrade}
-use Rattle.st_trace.specs.World.{IsAfterEdit, IsAfterNeed, IsDeliveredIn, IsDeliveredTo, IsEditedIn, IsJoined, IsVerdictOf, abort, after_commit, after_edit, answer_of, begin, cells_given, commit, next_names, refusal_of, with_beginning, with_new_on}
-use Rattle.st_trace.specs.declared.client.EditWord.{EditWord}
-use Rattle.st_trace.specs.declared.client.EditWord.TheVariants as word
+use Rattle.st_world.specs.Branches.{IsMerged, IsRebased, drop_branch, fork, refusal_to_fork, refusal_to_merge, refusal_to_rebase}
+use Rattle.st_world.specs.Kept.{IsKept, Unless}
+use Rattle.st_world.specs.Undo.{IsAfterUndo, IsUndone, IsUndoneAt, has_commit, has_rev, entry_number, refusal_of_rev, refusal_over}
+use Rattle.st_world.specs.Upgrade.{change_of_schema, refusal_of_narrowing, refusal_to_upgrade, schemas_limit_passed, upgrade}
+use Rattle.st_world.specs.World.{IsAfterEdit, IsAfterNeed, IsDeliveredIn, IsDeliveredTo, IsEditedIn, IsJoined, IsVerdictOf, abort, after_commit, after_edit, answer_of, begin, cells_given, commit, next_names, refusal_of, with_beginning, with_new_on}
+use Rattle.st_world.specs.declared.edit_word.EditWord.{EditWord}
+use Rattle.st_world.specs.declared.edit_word.EditWord.TheVariants as word
 use Rattle.st_same_laws.proofs.CarriedDocuments.{verdict_same}
 use Rattle.st_one_laws.specs.AlikeWorlds.{AlikeBranch, AlikeClient, AlikeEntry, AlikeLine, AlikeTransaction, InBoth, IsAlike, OneByOne}
 use Rattle.st_one_laws.proofs.OneByOne.{any_same, as_long, found, option_mapped, taken}

@@ -17,7 +17,7 @@ use Rattle.st_lists.specs.Limits.{entries_limit_passed, limit_passed, log_limit_
 use Rattle.st_lists.specs.Lines.{HasHead, Line, branch_line, branch_of, commits_of, edited_on, has_children, line_of, main_line}
 use Rattle.st_lists.specs.Log.{commit_in, commit_of, commits_in, connected_after, connected_by, floor, is_connected, known_reference, minimum, own_in_flight, reference_in, reference_of, sessions_in, waiting, with_reference}
 use Rattle.st_lists.specs.Names.{names_in_text, names_made, names_on, names_on_all, unsequenced}
-use Rattle.st_trace.specs.World.{HasShown}
+use Rattle.st_world.specs.World.{HasShown}
 use Rattle.st_same_laws.proofs.CarriedDocuments.{full_same}
 use Rattle.st_one_laws.specs.AlikeWorlds.{AlikeBody, AlikeBranch, AlikeClient, AlikeEntry, AlikeLine, AlikeTransaction, InBoth, IsAlike, OneByOne, bare}
 use Rattle.st_one_laws.proofs.OneByOne.{any_same, as_long, behind, dropped, filter_mapped, filtered, folded, found, taken}

@@ -12,9 +12,9 @@ use Rattle.st_lists.specs.Lines.{Line, branch_of, line_of}
 use Rattle.st_lists.specs.declared.lists.Branch.{Branch}
 use Rattle.st_lists.specs.declared.lists.Client.{Client}
 use Rattle.st_lists.specs.declared.lists.WorldState.{WorldState}
-use Rattle.st_trace.specs.Branches.{IsMerged, IsRebased, drop_branch, fork, refusal_to_fork, refusal_to_merge, refusal_to_rebase}
-use Rattle.st_trace.specs.Kept.{Unless}
-use Rattle.st_trace.specs.World.{IsActOf, OnOwnBranch, OnParent, abort, commit, opening_document, with_client}
+use Rattle.st_world.specs.Branches.{IsMerged, IsRebased, drop_branch, fork, refusal_to_fork, refusal_to_merge, refusal_to_rebase}
+use Rattle.st_world.specs.Kept.{Unless}
+use Rattle.st_world.specs.World.{IsActOf, OnOwnBranch, OnParent, abort, commit, opening_document, with_client}
 use Rattle.st_one_laws.specs.ClientActs.{IsActCut, WithBranch, WithParent}
 
 set_same : {A : Type 0} (xs : List A) (i : ℕ) (x : A) → slice_get xs i ≡ Some x → xs ≡ slice_set xs i x

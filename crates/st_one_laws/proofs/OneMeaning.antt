@@ -1,25 +1,27 @@
 -- In the lists of a sound world a step means one thing.
-use Rattle.std.proofs.Common.{◌≡◌, ℕ, zero, suc, Option, Some, None, IfSome, List, refl, subst, option_map, option_and_then}
+use Rattle.std.proofs.Common.{◌≡◌, ℕ, slice_get, zero, suc, Option, Some, None, IfSome, List, refl, subst, option_map, option_and_then}
 use Rattle.st_marks.specs.declared.intents.Intent.{Intent}
 use Rattle.st_marks.specs.Document.{Document}
 use Rattle.st_marks.specs.Intent.{IsIntent}
 use Rattle.st_marks.proofs.Members.{all-has}
 use Rattle.st_ids.specs.declared.names.Rev.{Rev}
 use Rattle.st_lists.specs.Open.{FitsSoFar}
-use Rattle.st_script.specs.Header.{HeaderView, header_view}
+use Rattle.st_script.specs.Header.{HeaderView}
 use Rattle.st_lists.specs.declared.lists.Branch.{Branch}
 use Rattle.st_lists.specs.declared.lists.Client.{Client}
 use Rattle.st_lists.specs.declared.lists.Entry.{Entry}
 use Rattle.st_lists.specs.declared.lists.Transaction.{Transaction}
 use Rattle.st_lists.specs.declared.lists.WorldState.{WorldState}
 use Rattle.st_lists.specs.Lines.{Line, branch_line, branch_of, edited_on, line_of, main_line}
-use Rattle.st_trace.specs.Replicas.{IsBranch, IsClient, IsSound, IsTransaction}
-use Rattle.st_trace.specs.declared.world.World.{World}
-use Rattle.st_trace.proofs.Begun.{opened_start}
-use Rattle.st_trace.proofs.BranchesAgree.{main_in_order}
-use Rattle.st_trace.proofs.Going.{AreSound, lists_sound}
-use Rattle.st_trace.proofs.Lookup.{branch_there}
+use Rattle.st_world_laws.specs.Worlds.{IsBranch, IsClient, IsTransaction}
+use Rattle.st_world_laws.proofs.Begun.{opened_start}
+use Rattle.st_world_laws.proofs.BranchesAgree.{main_in_order}
+use Rattle.st_world_laws.specs.Worlds.{IsWorld}
+use Rattle.st_world_laws.proofs.Lookup.{branch_there}
+use Rattle.st_world_laws.proofs.Everyone.{all_get}
+use Rattle.st_world_laws.proofs.Forking.{line_received}
 use Rattle.st_one_laws.specs.AlikeWorlds.{HasOneMeaning}
+use Rattle.st_one_laws.specs.ClientActs.{StandsOnReceived}
 
 so_far_intent : (D : Document) (rev under : Rev) (o : Option Intent) → FitsSoFar D rev under o → IfSome o IsIntent
 so_far_intent D rev under None f = tt
@@ -40,11 +42,12 @@ line_intent h log c (suc k) l is e = subst (λ (o : Option Line). IfSome o (λ m
         let is_b : IsBranch h log c b = all-has (IsBranch h log c) c.branches b is.branches.each there.0 in
         open_intent h log (branch_line b) c b.transaction is_b.transaction
 
-pub lists_mean_one : (h : HeaderView) (w : WorldState) → AreSound h w → HasOneMeaning w
+pub lists_mean_one : (h : HeaderView) (w : WorldState) → IsWorld h w → HasOneMeaning w
 lists_mean_one h w s = record {
   once = λ c i. (main_in_order h (opened_start h s.header) w.log c (all-has (IsClient h w.log) w.clients c s.clients i)).1.once;
   intents = λ c k l i e. line_intent h w.log c k l (all-has (IsClient h w.log) w.clients c s.clients i) e;
 }
 
-pub worlds_mean_one : (w : World) → IsSound w → HasOneMeaning w.lists
-worlds_mean_one w s = lists_mean_one (header_view w.header) w.lists (lists_sound w s)
+-- no line of a client of a world stands on more entries than the client received
+pub lines_stand_on_received : (h : HeaderView) (w : WorldState) (i : ℕ) (c : Client) → IsWorld h w → slice_get w.clients i ≡ Some c → StandsOnReceived c
+lines_stand_on_received h w i c s at k l e = line_received h (opened_start h s.header) w.log c (all_get (IsClient h w.log) w.clients i c s.clients at) k l e

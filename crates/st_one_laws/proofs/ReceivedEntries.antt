@@ -16,7 +16,7 @@ use Rattle.st_script.specs.Steps as step
 use Rattle.st_script.specs.declared.answer.Answer.{Answer}
 use Rattle.st_script.specs.declared.answer.Answer.TheVariants as answer
 use Rattle.st_script.specs.declared.refusal.Refusal.TheVariants as no
-use Rattle.st_trace.specs.Texts.{AreTextsOf}
+use Rattle.st_world.specs.Texts.{AreTextsOf}
 use Rattle.st_lists.specs.Clients.{next_rev}
 use Rattle.st_lists.specs.Lines.{HasHead, Line, branch_of, commits_of, edited_on, line_of, main_line, with_base, with_commits_on, without_branch}
 use Rattle.st_lists.specs.Log.{commits_in, minimum}
@@ -25,11 +25,11 @@ use Rattle.st_lists.specs.declared.lists.Client.{Client}
 use Rattle.st_lists.specs.declared.lists.Entry.{Entry}
 use Rattle.st_lists.specs.declared.lists.Transaction.{Transaction}
 use Rattle.st_lists.specs.Voids.{AreVoid}
-use Rattle.st_trace.specs.Branches.{IsMerged, IsRebased, refusal_to_merge, refusal_to_rebase}
-use Rattle.st_trace.specs.Kept.{Unless}
-use Rattle.st_trace.specs.Undo.{IsAfterUndo, IsUndoneAt, has_commit, has_rev, refusal_of_rev}
-use Rattle.st_trace.specs.Upgrade.{change_of_schema, refusal_to_upgrade, upgrade}
-use Rattle.st_trace.specs.World.{HasShown, IsAfterEdit, IsAfterNeed, begin, intent_of, next_names, word_of}
+use Rattle.st_world.specs.Branches.{IsMerged, IsRebased, refusal_to_merge, refusal_to_rebase}
+use Rattle.st_world.specs.Kept.{Unless}
+use Rattle.st_world.specs.Undo.{IsAfterUndo, IsUndoneAt, has_commit, has_rev, refusal_of_rev}
+use Rattle.st_world.specs.Upgrade.{change_of_schema, refusal_to_upgrade, upgrade}
+use Rattle.st_world.specs.World.{HasShown, IsAfterEdit, IsAfterNeed, begin, intent_of, next_names, word_of}
 use Rattle.st_edits.specs.InEffect.{last_in_effect}
 use Rattle.st_one_laws.specs.ClientActs.{IsClientAct, IsDoneOn, StandsOnReceived, WithBranch, WithParent}
 

@@ -13,13 +13,13 @@ use Rattle.st_marks.specs.LiveTree.{IsTreeText}
 use Rattle.st_marks.proofs.OneTree.{one_text}
 use Rattle.st_edits.specs.InEffect.{schema_in_effect}
 use Rattle.st_script.specs.Header.{HeaderView}
-use Rattle.st_script.specs.Steps.{ActView, EditView, StepView}
+use Rattle.st_script.specs.Steps.{ActView, StepView}
 use Rattle.st_script.specs.Steps as step
 use Rattle.st_script.specs.declared.answer.Answer.{Answer}
 use Rattle.st_script.specs.declared.answer.Answer.TheVariants as answer
 use Rattle.st_script.specs.declared.refusal.Refusal.{Refusal}
 use Rattle.st_script.specs.declared.refusal.Refusal.TheVariants as no
-use Rattle.st_trace.specs.Texts.{AreTextsOf}
+use Rattle.st_world.specs.Texts.{AreTextsOf}
 use Rattle.st_lists.specs.declared.lists.Body.{Body}
 use Rattle.st_lists.specs.declared.lists.Body.TheVariants.{Join as Joined, Leave as Left}
 use Rattle.st_lists.specs.declared.lists.Branch.{Branch}
@@ -32,10 +32,10 @@ use Rattle.st_lists.specs.Lines.{Line, branch_of, line_of, main_line}
 use Rattle.st_lists.specs.Log.{log_with, sessions_in, waiting}
 use Rattle.st_lists.specs.Names.{names_in_text}
 use Rattle.st_lists.specs.Voids.{AreVoid}
-use Rattle.st_trace.specs.Branches.{IsMerged, IsRebased, drop_branch, fork, refusal_to_fork, refusal_to_merge, refusal_to_rebase}
-use Rattle.st_trace.specs.Kept.{Unless}
-use Rattle.st_trace.specs.Upgrade.{change_of_schema, refusal_to_upgrade, upgrade}
-use Rattle.st_trace.specs.World.{AtClient, AtLine, ByConnected, IsActOf, IsAfterEdit, IsAfterNeed, IsDeliveredIn, IsDoneIn, IsNext, IsPendingTold, IsShown, OnLine, OnOwnBranch, OnParent, abort, act_of_none, after_entry, begin, branch_at, commit, drop_client, intent_of, join, leave, limit_refusal, needs_connection, next_names, opening_document, reconnect, refusal_to_reconnect, sequence, with_client, word_of}
+use Rattle.st_world.specs.Branches.{IsMerged, IsRebased, drop_branch, fork, refusal_to_fork, refusal_to_merge, refusal_to_rebase}
+use Rattle.st_world.specs.Kept.{Unless}
+use Rattle.st_world.specs.Upgrade.{change_of_schema, refusal_to_upgrade, upgrade}
+use Rattle.st_world.specs.World.{AtClient, AtLine, ByConnected, IsActOf, IsAfterEdit, IsAfterNeed, IsDeliveredIn, IsDoneIn, IsNext, IsPendingTold, IsShown, OnLine, OnOwnBranch, OnParent, abort, act_of_none, after_entry, begin, branch_at, commit, drop_client, intent_of, join, leave, limit_refusal, needs_connection, next_names, opening_document, reconnect, refusal_to_reconnect, sequence, with_client, word_of}
 use Rattle.st_edits.specs.InEffect.{last_in_effect}
 use Rattle.st_one_laws.specs.AlikeWorlds.{AlikeBody, AlikeBranch, AlikeClient, AlikeEntry, AlikeLine, AlikeTransaction, AreAlike, HasOneMeaning, InBoth, IsAlike, OneByOne}
 use Rattle.st_one_laws.proofs.OneByOne.{as_long, behind, got, removed, set_both}

@@ -17,7 +17,7 @@ use Rattle.st_marks.proofs.Unique.{one_embedding}
 use Rattle.st_change_codec.specs.Changes.{change_data}
 use Rattle.st_lists.specs.Voids.{is_void}
 use Rattle.st_lists.specs.Undoing.{IsAt, IsUndoing}
-use Rattle.st_trace.specs.Texts.{AreTextsOf, IsTextOf}
+use Rattle.st_world.specs.Texts.{AreTextsOf, IsTextOf}
 use Rattle.st_lists.specs.Voids.{AreVoid}
 use Rattle.st_same_laws.proofs.JoinsAndWaysBack.{backs_say}
 use Rattle.st_same_laws.proofs.OneChange.{embedding_same}

@@ -13,13 +13,13 @@ use Rattle.st_lists.specs.declared.lists.WorldState.{WorldState}
 use Rattle.st_compat.specs.declared.compare.BadSchema.{BadSchema}
 use Rattle.st_compat.specs.declared.compare.BadSchema.TheVariants.{Stored, View}
 use Rattle.st_compat.specs.SchemaLine.{further_cause}
-use Rattle.st_run.specs.Lines.{cut}
-use Rattle.st_run.specs.Answers.{Output, cut_short, WritesPrefix, OrCutShort, AnswersLine, AnswersOpening, AnswersTrace, IsOutput, IsCarriedOut, IsAnswered, IsAnsweredAs, Answers, AnswersBy, AnswersFrom, AnswersThird, AnswersRelation, AnswersCompared, AnswersSchemas, AnswersCompat, AnswersLines, max_input, long_output, long_line, command_of, bad_line}
+use Rattle.st_answers.specs.Lines.{cut}
+use Rattle.st_answers.specs.Answers.{Output, cut_short, WritesPrefix, OrCutShort, AnswersLine, AnswersOpening, AnswersTrace, IsOutput, IsCarriedOut, IsAnswered, IsAnsweredAs, Answers, AnswersBy, AnswersFrom, AnswersThird, AnswersRelation, AnswersCompared, AnswersSchemas, AnswersCompat, AnswersLines, max_input, long_output, long_line, command_of, bad_line}
 use Rattle.st_run.proofs.Outputs.{output_also, appends_nothing}
-use Rattle.st_run.specs.declared.command.Command.{Command}
-use Rattle.st_run.specs.declared.command.Command.TheVariants.{Trace, Compat}
-use Rattle.st_run.specs.declared.outcome.Outcome.{Outcome}
-use Rattle.st_run.specs.declared.outcome.Outcome.TheVariants.{Done, Usage, BadLine, TooLong, ReadFault, WriteFault, NoMemory}
+use Rattle.st_answers.specs.declared.command.Command.{Command}
+use Rattle.st_answers.specs.declared.command.Command.TheVariants.{Trace, Compat}
+use Rattle.st_answers.specs.declared.outcome.Outcome.{Outcome}
+use Rattle.st_answers.specs.declared.outcome.Outcome.TheVariants.{Done, Usage, BadLine, TooLong, ReadFault, WriteFault, NoMemory}
 
 -- ## No line ends a command as usage
 

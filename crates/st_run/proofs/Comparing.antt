@@ -2,10 +2,10 @@
 use Rattle.std.proofs.Common.{◌≡◌, ◌∙◌, ℕ, suc, List, [], ◌∷◌, drop, slice_get, Option, Some, None, Result, inl, inr, refl, ap, subst}
 use Rattle.st_compat.specs.Compared.{IsCompared}
 use Rattle.st_compat.specs.declared.compare.BadSchema.{BadSchema}
-use Rattle.st_run.specs.Lines.{cut}
-use Rattle.st_run.specs.Answers.{Output, OrCutShort, AnswersThird, AnswersCompared, AnswersSchemas, AnswersCompat, IsOutput, WritesAll}
-use Rattle.st_run.specs.declared.outcome.Outcome.{Outcome}
-use Rattle.st_run.specs.declared.outcome.Outcome.TheVariants.{Done}
+use Rattle.st_answers.specs.Lines.{cut}
+use Rattle.st_answers.specs.Answers.{Output, OrCutShort, AnswersThird, AnswersCompared, AnswersSchemas, AnswersCompat, IsOutput, WritesAll}
+use Rattle.st_answers.specs.declared.outcome.Outcome.{Outcome}
+use Rattle.st_answers.specs.declared.outcome.Outcome.TheVariants.{Done}
 use Rattle.st_run.proofs.Outputs.{output_also, appends_nothing}
 
 after_one : {X : Type 0} (xs : List X) (k : ℕ) → slice_get (drop 1 xs) k ≡ slice_get xs (suc k)

@@ -14,19 +14,21 @@ use Rattle.st_script.specs.declared.answer.Answer.TheVariants as answer
 use Rattle.st_script.proofs.OfForm.{header_line_kept}
 use Rattle.st_lists.specs.Clients.{empty_state}
 use Rattle.st_lists.specs.declared.lists.WorldState.{WorldState}
-use Rattle.st_trace.proofs.Going.{AreSound, begun_sound}
-use Rattle.st_trace.proofs.Leading.{KeepsRules, leads_on}
+use Rattle.st_world_laws.specs.Worlds.{IsWorld}
+use Rattle.st_world_laws.proofs.Going.{begun_sound}
+use Rattle.st_world_laws.specs.Worlds.{KeepsRules}
+use Rattle.st_world_laws.proofs.Leading.{leads_on}
 use Rattle.st_script.proofs.Fits.{line_fits}
 use Rattle.st_script.specs.StepText.{FitsAct}
 use Rattle.st_script.specs.Steps.{ActView}
 use Rattle.st_script.specs.Steps as step
-use Rattle.st_trace.proofs.LeadingBranches.{all_lead}
-use Rattle.st_run.specs.Answers.{Answers, AnswersBy, AnswersFrom, AnswersLine, AnswersLines, AnswersOpening, AnswersTrace, AnswersThird, AnswersCompared, AnswersCompat, IsAnswered, IsAnsweredAs, NothingFailed, OrCutShort, Output, bad_line, before, command_of, long_line, long_output, max_input, usage_output}
-use Rattle.st_run.specs.Lines.{cut}
-use Rattle.st_run.specs.declared.command.Command.{Command}
-use Rattle.st_run.specs.declared.command.Command.TheVariants.{Trace, Compat}
-use Rattle.st_run.specs.declared.outcome.Outcome.{Outcome}
-use Rattle.st_run.specs.declared.outcome.Outcome.TheVariants.{Done, Usage, BadLine, TooLong, ReadFault, WriteFault, NoMemory}
+use Rattle.st_world_laws.proofs.LeadingBranches.{all_lead}
+use Rattle.st_answers.specs.Answers.{Answers, AnswersBy, AnswersFrom, AnswersLine, AnswersLines, AnswersOpening, AnswersTrace, AnswersThird, AnswersCompared, AnswersCompat, IsAnswered, IsAnsweredAs, NothingFailed, OrCutShort, Output, bad_line, before, command_of, long_line, long_output, max_input, usage_output}
+use Rattle.st_answers.specs.Lines.{cut}
+use Rattle.st_answers.specs.declared.command.Command.{Command}
+use Rattle.st_answers.specs.declared.command.Command.TheVariants.{Trace, Compat}
+use Rattle.st_answers.specs.declared.outcome.Outcome.{Outcome}
+use Rattle.st_answers.specs.declared.outcome.Outcome.TheVariants.{Done, Usage, BadLine, TooLong, ReadFault, WriteFault, NoMemory}
 
 -- how the lines of an input end, where nothing fails
 abbrev IsEnd : Outcome → Type 0
@@ -74,15 +76,15 @@ fits_rules branch step.show h = tt
 fits_rules branch step.pending h = tt
 
 -- one line, and what follows it from lists of which holds what steps keep
-line_has : (h : HeaderView) (n : ℕ) (r : Result StepView BadCause) (w : WorldState) (Rest : WorldState → Output → Type 0) → AreSound h w → ((x : StepView) → r ≡ Ok x → KeepsRules x.act)
-    → ((v : WorldState) → AreSound h v → Whole (Rest v)) → Whole (OrCutShort (AnswersLine h n r w Rest))
+line_has : (h : HeaderView) (n : ℕ) (r : Result StepView BadCause) (w : WorldState) (Rest : WorldState → Output → Type 0) → IsWorld h w → ((x : StepView) → r ≡ Ok x → KeepsRules x.act)
+    → ((v : WorldState) → IsWorld h v → Whole (Rest v)) → Whole (OrCutShort (AnswersLine h n r w Rest))
 line_has h n (Err c) w Rest s keeps rest = (bad_line n c, inr refl, tt)
 line_has h n (Ok x) w Rest s keeps rest =
     let r = leads_on h w s (all_lead h w s) x in
     let t = rest r.0 (r.3 (keeps x refl)) in
     (before (answer_line r.1) t.0, inr (record { world = r.0; answer = r.1; rest = t.0; next = r.2; follows = t.1; whole = refl }), t.2)
 
-lines_have : (h : HeaderView) (ls : List (List ℕ)) (w : WorldState) (n : ℕ) → AreSound h w → Whole (AnswersFrom h w n ls)
+lines_have : (h : HeaderView) (ls : List (List ℕ)) (w : WorldState) (n : ℕ) → IsWorld h w → Whole (AnswersFrom h w n ls)
 lines_have h [] w n s = (record { bytes = []; outcome = Done }, inr refl, tt)
 lines_have h (l ∷ ls) w n s = line_has h n (step_of_line l) w (λ v. AnswersFrom h v (n + 1) ls) s (λ x is. fits_rules x.branch x.act (line_fits l x is).1) (λ v t. lines_have h ls v (n + 1) t)
 

@@ -12,14 +12,14 @@ use Rattle.st_script.specs.Line.{step_of_line}
 use Rattle.st_script.specs.Steps.{StepView}
 use Rattle.st_script.specs.declared.answer.Answer.{Answer}
 use Rattle.st_lists.specs.Clients.{empty_state}
-use Rattle.st_trace.specs.World.{IsNext}
+use Rattle.st_world.specs.World.{IsNext}
 use Rattle.st_lists.specs.declared.lists.WorldState.{WorldState}
-use Rattle.st_run.specs.Lines.{cut}
-use Rattle.st_run.specs.Parts.{AppendsPrefix}
-use Rattle.st_run.specs.Answers.{Output, before, cut_short, OrCutShort, AnswersLine, AnswersHeader, AnswersOpening, AnswersTrace, IsOutput, WritesAll, WritesPrefix, AnswersFrom, bad_line}
+use Rattle.st_answers.specs.Lines.{cut}
+use Rattle.st_answers.specs.Parts.{AppendsPrefix}
+use Rattle.st_answers.specs.Answers.{Output, before, cut_short, OrCutShort, AnswersLine, AnswersHeader, AnswersOpening, AnswersTrace, IsOutput, WritesAll, WritesPrefix, AnswersFrom, bad_line}
 use Rattle.st_run.specs.inside.Answers.{EndsAtLine, IsCutShort, IsLineAnswered}
-use Rattle.st_run.specs.declared.outcome.Outcome.{Outcome}
-use Rattle.st_run.specs.declared.outcome.Outcome.TheVariants.{Done, Usage, BadLine, TooLong, ReadFault, WriteFault, NoMemory}
+use Rattle.st_answers.specs.declared.outcome.Outcome.{Outcome}
+use Rattle.st_answers.specs.declared.outcome.Outcome.TheVariants.{Done, Usage, BadLine, TooLong, ReadFault, WriteFault, NoMemory}
 use Rattle.st_run.proofs.Appending.{appends_more}
 use Rattle.st_run.proofs.LineSteps.{cut-step}
 

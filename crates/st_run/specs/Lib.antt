@@ -1,5 +1,1 @@
-pub mod Answers
-pub mod Lines
-pub mod Parts
-pub mod Status
 pub mod inside

@@ -2,11 +2,11 @@
 ghost use Rattle.std.specs.Prelude.{◌≡◌, ◌≤◌, IfOk};
 ghost use Rattle.st_io.specs.Counts.{Rose};
 ghost use Rattle.serde_json.specs.View.{view};
-ghost use Rattle.st_run.specs.Answers.{OrCutShort, cause_name, bad_data, bad_line, IsOutput};
+ghost use Rattle.st_answers.specs.Answers.{OrCutShort, cause_name, bad_data, bad_line, IsOutput};
 
-use crate::outcome::Outcome;
 use crate::send::write_all;
 use serde_json::{Value, json};
+use st_answers::Outcome;
 use st_io::Sink;
 use st_json::{BadCause, write_line};
 use std::alloc::{AllocError, Global};

@@ -2,29 +2,20 @@
 ghost use Rattle.std.specs.Prelude.{◌≡◌, ◌+◌, ◌==◌, ◌<◌, ◌≤◌, ◌^◌, None, length, map, take, count_by, string_bytes, IfOk};
 ghost use Rattle.serde_json.specs.View.{view};
 ghost use Rattle.st_io.specs.Counts.{Rose};
-ghost use Rattle.st_run.specs.Lines.{cut};
-ghost use Rattle.st_run.specs.Answers.{command_named, command_of, usage_data, usage_output, max_input, long_line, long_data, long_output, AnswersLines, IsOutput, IsAnswered};
+ghost use Rattle.st_answers.specs.Lines.{cut};
+ghost use Rattle.st_answers.specs.Answers.{command_named, command_of, usage_data, usage_output, max_input, long_line, long_data, long_output, AnswersLines, IsOutput, IsAnswered};
 
 use crate::compat::answer_schemas;
-use crate::outcome::Outcome;
 use crate::send::write_all;
 use crate::take::{Input, read_all};
 use crate::trace::trace;
 use serde_json::{Value, json};
+use st_answers::{Command, Outcome};
 use st_io::{Sink, Source};
 use st_json::write_line;
 use std::alloc::{AllocError, Global};
 
 const MAX_INPUT: usize = 1 << 20;
-
-/// What is asked for.
-#[derive(Clone, Copy)]
-pub enum Command {
-    /// The answers to a header and steps.
-    Trace,
-    /// The relation of two schemas.
-    Compat,
-}
 
 // The command of a name.
 fn command_named(word: &str) -> Option<Command>

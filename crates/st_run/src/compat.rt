@@ -3,13 +3,13 @@ ghost use Rattle.std.specs.Prelude.{◌≡◌, ◌≤◌};
 ghost use Rattle.std.specs.Option.{option_copied};
 ghost use Rattle.st_io.specs.Counts.{Rose};
 ghost use Rattle.st_compat.specs.SchemaLine.{further_cause};
-ghost use Rattle.st_run.specs.Lines.{cut};
-ghost use Rattle.st_run.specs.Answers.{OrCutShort, bad_line, bad_schema, AnswersThird, AnswersRelation, AnswersCompat, IsOutput};
+ghost use Rattle.st_answers.specs.Lines.{cut};
+ghost use Rattle.st_answers.specs.Answers.{OrCutShort, bad_line, bad_schema, AnswersThird, AnswersRelation, AnswersCompat, IsOutput};
 
 use crate::bad::refuse;
 use crate::lines::{after_line, first_line};
-use crate::outcome::Outcome;
 use crate::send::write_all;
+use st_answers::Outcome;
 use st_compat::{BadSchema, compare_lines, further_cause};
 use st_ids::{Or, Text};
 use st_io::Sink;

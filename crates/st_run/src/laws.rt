@@ -1,8 +1,8 @@
 //! Laws about answers: each is the contract of a function that does nothing.
 ghost use Rattle.std.specs.Prelude.{ℕ, List, Option, Some};
-ghost use Rattle.st_run.specs.Answers.{Answers, IsAnswered, NothingFailed, Output};
-ghost use Rattle.st_run.specs.declared.command.Command.{Command};
-ghost use Rattle.st_run.specs.declared.outcome.Outcome.{Outcome};
+ghost use Rattle.st_answers.specs.Answers.{Answers, IsAnswered, NothingFailed, Output};
+ghost use Rattle.st_answers.specs.declared.command.Command.{Command};
+ghost use Rattle.st_answers.specs.declared.outcome.Outcome.{Outcome};
 
 /// Each input has its answers under each command, from the first line to the one that ends the run, and not cut short.
 pub fn each_input_has_answers()

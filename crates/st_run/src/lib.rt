@@ -6,11 +6,9 @@ mod command;
 mod compat;
 mod laws;
 mod lines;
-mod outcome;
 mod send;
 mod take;
 mod trace;
 
 pub use command::run;
 pub use laws::{each_input_has_answers, each_run_has_an_answer};
-pub use outcome::Outcome;

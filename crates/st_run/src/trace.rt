@@ -9,14 +9,14 @@ ghost use Rattle.st_script.specs.Line.{step_of_line, line_view};
 ghost use Rattle.st_script.specs.Steps.{step_view};
 ghost use Rattle.st_trace.specs.Replicas.{IsSound};
 ghost use Rattle.st_lists.specs.Clients.{empty_state};
-ghost use Rattle.st_run.specs.Lines.{cut};
-ghost use Rattle.st_run.specs.Answers.{OrCutShort, AnswersHeader, bad_line, AnswersFrom, AnswersTrace, IsOutput};
+ghost use Rattle.st_answers.specs.Lines.{cut};
+ghost use Rattle.st_answers.specs.Answers.{OrCutShort, AnswersHeader, bad_line, AnswersFrom, AnswersTrace, IsOutput};
 ghost use Rattle.st_run.specs.inside.Answers.{IsCutShort, IsLineAnswered, EndsAtLine};
 
 use crate::bad::refuse;
 use crate::lines::split_line;
-use crate::outcome::Outcome;
 use crate::send::write_all;
+use st_answers::Outcome;
 use st_ids::Or;
 use st_io::Sink;
 use st_json::BadCause;

@@ -1,8 +1,9 @@
 //! Runs whose source or sink fails, and an input past the limit.
 ghost use Rattle.std.specs.Prelude.{◌<◌};
 
+use st_answers::Outcome;
 use st_io::{MemSink, MemSource};
-use st_run::{Outcome, run};
+use st_run::run;
 use std::alloc::{AllocError, Global};
 use std::test::Fail;
 

@@ -7,12 +7,13 @@ use Rattle.st_lists.specs.Lines.{Line, main_line}
 use Rattle.st_script.specs.declared.answer.Answer.TheVariants.{Deliver, No}
 use Rattle.st_script.specs.declared.refusal.Refusal.TheVariants.{NothingNew, Unfinished}
 use Rattle.st_trace.proofs.LineActs.{IsKeptLine, line_can_take, line_commit_fits, line_doc_sound, line_edit_meant, line_need_meant, line_numbers, line_whole_names}
-use Rattle.st_trace.proofs.Meant.{IsMeaning}
-use Rattle.st_trace.proofs.Parts.{editable, edited_room}
+use Rattle.st_world_laws.proofs.Meant.{IsMeaning}
+use Rattle.st_world_laws.proofs.Parts.{editable, edited_room}
 use Rattle.st_trace.proofs.Refusing.{Left, StaysEdited, StaysIn, StaysNeeded, StaysOver, at_answer, line_abort_refused, line_begin_refused, line_commit_refused, line_edit_refused, line_need_refused, refusal_as}
-use Rattle.st_trace.specs.World.{AtRefusal, HasShown, IsAfterEdit, IsAfterNeed, IsDelivered, IsDeliveredIn, IsDeliveredTo, IsDoneIn, IsEditedIn, IsJoined, abort, begin, commit, next_names, opening_document, with_beginning, with_client, word_of}
+use Rattle.st_world.specs.World.{AtRefusal, HasShown, IsAfterEdit, IsAfterNeed, IsDelivered, IsDeliveredIn, IsDeliveredTo, IsDoneIn, IsEditedIn, IsJoined, abort, begin, commit, next_names, opening_document, with_beginning, with_client, word_of}
 use Rattle.st_edits.specs.InEffect.{last_in_effect}
-use Rattle.st_trace.specs.inside.Replicas.{CanReceive, CanReceiveIn, CanTake, HasAborted, HasCommitted, HasJoined, HasJoinedMain, HasMoved, HasMovedIn, HasNumbersLeft, HasTaken, HasTakenNeed, IsPending}
+use Rattle.st_plain_log.specs.Receiving.{CanReceive, CanReceiveIn, HasMoved, HasMovedIn}
+use Rattle.st_plain_edits.specs.Taking.{CanTake, HasAborted, HasCommitted, HasJoined, HasJoinedMain, HasNumbersLeft, HasTaken, HasTakenNeed, IsPending}
 use Rattle.std.specs.List.{slice_get, slice_set, AllByRecursion}
 use Rattle.std.specs.Option.{option_and_then}
 use Rattle.st_ids.specs.declared.names.Limit.{Limit}
@@ -28,22 +29,24 @@ use Rattle.st_script.specs.Steps.{edit_view}
 use Rattle.st_script.specs.declared.answer.Answer.{Answer}
 use Rattle.st_script.specs.declared.step.EditAct.{EditAct}
 use Rattle.st_ids.specs.declared.names.Place.{Place}
-use Rattle.st_trace.specs.Replicas.{IsClient, IsReplicaOf, IsSound, IsSoundAfter, IsTransaction}
-use Rattle.st_trace.specs.inside.Edits.{edit_of}
+use Rattle.st_world_laws.specs.Worlds.{IsClient, IsTransaction}
+use Rattle.st_trace.specs.Replicas.{IsReplicaOf, IsSound, IsSoundAfter}
+use Rattle.st_world.specs.Edits.{edit_of}
 use Rattle.st_lists.specs.Limits.{limit_passed, names_limit_passed, pending_limit_passed}
-use Rattle.st_trace.specs.declared.client.EditWord.{EditWord}
+use Rattle.st_world.specs.declared.edit_word.EditWord.{EditWord}
 use Rattle.st_heads.specs.declared.replica.Replica.{Replica}
 use Rattle.st_lists.specs.declared.lists.Client.{Client}
 use Rattle.st_lists.specs.declared.lists.Entry.{Entry}
 use Rattle.st_lists.specs.declared.lists.Transaction.{Transaction}
 use Rattle.st_lists.specs.declared.lists.WorldState.{WorldState}
 use Rattle.st_trace.specs.declared.world.World.{World}
-use Rattle.st_trace.proofs.Everyone.{all_get, clients_of, kept_at, set_same}
-use Rattle.st_trace.specs.Schemas.{HasReading}
-use Rattle.st_trace.proofs.Going.{GoesOn, abort_goes, begin_goes, commit_goes, delivery_goes, edit_goes, need_goes}
+use Rattle.st_world_laws.proofs.Everyone.{all_get, set_same}
+use Rattle.st_trace.proofs.Everyone.{clients_of, kept_at}
+use Rattle.st_plain_schemas.specs.Schemas.{HasReading}
+use Rattle.st_world_laws.proofs.Going.{GoesOn, abort_goes, begin_goes, commit_goes, delivery_goes, edit_goes, need_goes}
 use Rattle.st_trace.proofs.Keeping.{AreOne, can_receive, kept_begun, kept_commits, kept_delivered, kept_ended, kept_main, kept_parted, kept_shown, kept_taken, none_edited}
 use Rattle.st_trace.proofs.Stepping.{sound_client, start_of}
-use Rattle.st_trace.proofs.Effect.{schema_sound_on}
+use Rattle.st_world_laws.proofs.Effect.{schema_sound_on}
 
 -- a client and what is kept of it
 pub one_at : (w : World) (i : ℕ) (c : Client) (k : Replica) → IsSound w → slice_get w.lists.clients i ≡ Some c → slice_get w.kept i ≡ Some k → AreOne (header_view w.header) w.lists.log c k

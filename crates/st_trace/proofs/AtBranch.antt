@@ -12,11 +12,11 @@ use Rattle.st_lists.specs.declared.lists.Entry.{Entry}
 use Rattle.st_lists.specs.declared.lists.Transaction.{Transaction}
 use Rattle.st_marks.specs.Document.{Document}
 use Rattle.st_script.specs.Header.{HeaderView}
-use Rattle.st_trace.proofs.Parts.{names_edited}
+use Rattle.st_world_laws.proofs.Parts.{names_edited}
 use Rattle.st_trace.specs.Replicas.{AreHeads, IsHeadOf, IsReplicaOf}
-use Rattle.st_trace.specs.World.{opening_document}
+use Rattle.st_world.specs.World.{opening_document}
 use Rattle.st_heads.specs.declared.replica.Replica.{Replica}
-use Rattle.st_trace.specs.inside.BranchEdits.{IsChangedAt}
+use Rattle.st_plain_edits.specs.BranchEdits.{IsChangedAt}
 
 -- ## Lines
 

@@ -29,31 +29,33 @@ use Rattle.st_script.specs.declared.step.EditAct.{EditAct}
 use Rattle.st_trace.proofs.Acting.{one_at, sound_goes, world_refused}
 use Rattle.st_trace.proofs.AtBranch.{branch_line_of, heads_get, kept_changed, names_at}
 use Rattle.st_trace.proofs.BranchKept.{IsStepOn, MakeWhole, abort_on, begin_on, commit_on, edit_on, need_on}
-use Rattle.st_trace.proofs.Branched.{changed_at, found_by}
-use Rattle.st_trace.proofs.Everyone.{all_get, clients_of, set_same}
-use Rattle.st_trace.specs.Schemas.{HasReading}
-use Rattle.st_trace.proofs.Going.{GoesOn, LineGoes}
+use Rattle.st_plain_branches.proofs.Branched.{changed_at, found_by}
+use Rattle.st_world_laws.proofs.Everyone.{all_get, set_same}
+use Rattle.st_trace.proofs.Everyone.{clients_of}
+use Rattle.st_plain_schemas.specs.Schemas.{HasReading}
+use Rattle.st_world_laws.proofs.Going.{GoesOn, LineGoes}
 use Rattle.st_trace.proofs.Keeping.{AreOne}
 use Rattle.st_trace.proofs.LineActs.{IsKeptLine, branch_head, line_can_take, line_commit_fits, line_doc_sound, line_edit_meant, line_kept, line_need_meant, line_numbers, line_whole_names}
-use Rattle.st_trace.proofs.LineGoing.{line_goes}
-use Rattle.st_trace.proofs.Meant.{IsMeaning, IsMeant}
-use Rattle.st_trace.proofs.OnBranches.{changed_twice}
-use Rattle.st_trace.proofs.Parts.{names_edited}
+use Rattle.st_world_laws.proofs.LineGoing.{line_goes}
+use Rattle.st_world_laws.proofs.Meant.{IsMeaning, IsMeant}
+use Rattle.st_world_laws.proofs.OnBranches.{changed_twice}
+use Rattle.st_world_laws.proofs.Parts.{names_edited}
 use Rattle.st_trace.proofs.Refusing.{refusal_as}
 use Rattle.st_trace.proofs.Stepping.{start_of}
-use Rattle.st_trace.specs.Replicas.{IsBranch, IsHeadOf, IsSound, IsSoundAfter, IsTransaction}
-use Rattle.st_trace.specs.World.{AtRefusal, HasShown, IsAfterEdit, IsAfterNeed, IsJoined, abort, after_commit, begin, cells_given, commit, next_names, opening_document, with_beginning, with_new_on, word_of}
+use Rattle.st_world_laws.specs.Worlds.{IsBranch, IsTransaction}
+use Rattle.st_trace.specs.Replicas.{IsHeadOf, IsSound, IsSoundAfter}
+use Rattle.st_world.specs.World.{AtRefusal, HasShown, IsAfterEdit, IsAfterNeed, IsJoined, abort, after_commit, begin, cells_given, commit, next_names, opening_document, with_beginning, with_new_on, word_of}
 use Rattle.st_edits.specs.InEffect.{last_in_effect}
-use Rattle.st_trace.specs.declared.client.EditWord.{EditWord}
+use Rattle.st_world.specs.declared.edit_word.EditWord.{EditWord}
 use Rattle.st_heads.specs.declared.replica.Replica.{Replica}
 use Rattle.st_trace.specs.declared.world.World.{World}
-use Rattle.st_trace.specs.inside.BranchEdits.{CanEditOn, HasAbortedAt, HasBegunAt, HasBegunBy, HasBegunIn, HasCommittedAt, HasEditedAt, HasNeededAt, IsAbortedOn, IsChangedAt, IsCommittedOf, IsCommittedOn, IsNeededOn, IsOwnTaken, IsPartTaken, IsTakenOf, own_limit, shown_on}
+use Rattle.st_plain_edits.specs.BranchEdits.{CanEditOn, HasAbortedAt, HasBegunAt, HasBegunBy, HasBegunIn, HasCommittedAt, HasEditedAt, HasNeededAt, IsAbortedOn, IsChangedAt, IsCommittedOf, IsCommittedOn, IsNeededOn, IsOwnTaken, IsPartTaken, IsTakenOf, own_limit, shown_on}
 use Rattle.st_heads.specs.Replicas.{IsAtBranch}
-use Rattle.st_trace.specs.inside.Edits.{edit_of}
+use Rattle.st_world.specs.Edits.{edit_of}
 use Rattle.st_lists.specs.Limits.{names_limit}
-use Rattle.st_trace.specs.inside.Replicas.{CanTake}
+use Rattle.st_plain_edits.specs.Taking.{CanTake}
 use Rattle.st_tree.specs.declared.edit.EditFault.{EditFault}
-use Rattle.st_trace.proofs.Effect.{schema_sound_on}
+use Rattle.st_world_laws.proofs.Effect.{schema_sound_on}
 
 -- ## A client whose branch changes
 

@@ -12,9 +12,9 @@ use Rattle.st_lists.specs.declared.lists.Branch.{Branch}
 use Rattle.st_lists.specs.declared.lists.Client.{Client}
 use Rattle.st_lists.specs.declared.lists.Entry.{Entry}
 use Rattle.st_marks.specs.Document.{Document}
-use Rattle.st_trace.proofs.Branched.{found_at}
+use Rattle.st_plain_branches.proofs.Branched.{found_at}
 use Rattle.st_trace.proofs.LineActs.{branch_head}
-use Rattle.st_trace.proofs.Lookup.{line_there}
+use Rattle.st_world_laws.proofs.Lookup.{line_there}
 use Rattle.st_trace.specs.Replicas.{AreHeads, IsHeadOf}
 use Rattle.st_heads.specs.declared.replica.Replica.{Replica}
 use Rattle.st_heads.specs.Replicas.{head_of}

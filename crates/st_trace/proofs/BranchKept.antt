@@ -24,14 +24,14 @@ use Rattle.st_script.specs.declared.answer.Answer.{Answer}
 use Rattle.st_script.specs.declared.answer.Answer.TheVariants.{No}
 use Rattle.st_script.specs.declared.refusal.Refusal.{Refusal}
 use Rattle.st_script.specs.declared.refusal.Refusal.TheVariants.{Limit as OverLimit, NotBegun, Unfinished}
-use Rattle.st_trace.proofs.Parts.{names_edited}
+use Rattle.st_world_laws.proofs.Parts.{names_edited}
 use Rattle.st_trace.proofs.Refusing.{no_refusal}
 use Rattle.st_trace.specs.Replicas.{IsHeadOf}
-use Rattle.st_trace.specs.World.{AtRefusal, refusal_of}
-use Rattle.st_trace.specs.declared.client.EditWord.{EditWord}
-use Rattle.st_trace.specs.inside.BranchEdits.{HasTakenIn, HasAbortedOn, HasBegunBy, HasBegunIn, HasBegunOn, HasCommittedOn, HasEndedOn, HasNeededIn, HasNeededOn, HasOwnTaken, HasTakenOf, IsAbortedOn, IsCommittedOf, IsCommittedOn, IsNeededOn, IsOwnTaken, IsPartTaken, IsTakenOf, own_limit}
+use Rattle.st_world.specs.World.{AtRefusal, refusal_of}
+use Rattle.st_world.specs.declared.edit_word.EditWord.{EditWord}
+use Rattle.st_plain_edits.specs.BranchEdits.{HasTakenIn, HasAbortedOn, HasBegunBy, HasBegunIn, HasBegunOn, HasCommittedOn, HasEndedOn, HasNeededIn, HasNeededOn, HasOwnTaken, HasTakenOf, IsAbortedOn, IsCommittedOf, IsCommittedOn, IsNeededOn, IsOwnTaken, IsPartTaken, IsTakenOf, own_limit}
 use Rattle.st_lists.specs.Limits.{names_limit}
-use Rattle.st_trace.specs.inside.Replicas.{HasJoined}
+use Rattle.st_plain_edits.specs.Taking.{HasJoined}
 use Rattle.st_tree.specs.declared.edit.EditFault.{EditFault}
 
 -- how many names wait on a branch where what is edited in its open transaction is this

@@ -17,19 +17,19 @@ use Rattle.st_script.specs.declared.step.EditAct.{EditAct}
 use Rattle.st_trace.proofs.Acting.{one_at, same_world}
 use Rattle.st_trace.proofs.AtBranch.{heads_some}
 use Rattle.st_trace.proofs.BranchActs.{begun_as, abort_sound, abort_stays, aborted_as, begin_sound, begin_stays, commit_sound, commit_stays, committed_as, edit_sound, edit_stays, edited_as, need_sound, need_stays, needed_as, shown_is}
-use Rattle.st_trace.proofs.Branched.{found_at, found_by}
+use Rattle.st_plain_branches.proofs.Branched.{found_at, found_by}
 use Rattle.st_trace.proofs.Choosing.{next_edit}
-use Rattle.st_trace.proofs.Everyone.{set_same}
+use Rattle.st_world_laws.proofs.Everyone.{set_same}
 use Rattle.st_trace.proofs.Keeping.{AreOne}
-use Rattle.st_trace.proofs.Lookup.{line_there}
+use Rattle.st_world_laws.proofs.Lookup.{line_there}
 use Rattle.st_trace.proofs.Stepping.{sound_later}
 use Rattle.st_edits.specs.InEffect.{schema_in_effect}
 use Rattle.st_trace.specs.Replicas.{IsSound, IsSoundAfter}
-use Rattle.st_trace.specs.World.{AtRefusal, IsActOf, IsAfterEdit, IsBegun, IsDoneIn, IsNeeded, abort, commit, next_names, opening_document, with_client, word_of}
+use Rattle.st_world.specs.World.{AtRefusal, IsActOf, IsAfterEdit, IsBegun, IsDoneIn, IsNeeded, abort, commit, next_names, opening_document, with_client, word_of}
 use Rattle.st_heads.specs.declared.replica.Replica.{Replica}
 use Rattle.st_trace.specs.declared.world.World.{World}
-use Rattle.st_trace.specs.inside.BranchEdits.{HasAbortedAt, HasBegunAt, HasCommittedAt, HasEditedAt, HasNeededAt, IsNoBranch, shown_on}
-use Rattle.st_trace.specs.inside.Edits.{edit_of}
+use Rattle.st_plain_edits.specs.BranchEdits.{HasAbortedAt, HasBegunAt, HasCommittedAt, HasEditedAt, HasNeededAt, IsNoBranch, shown_on}
+use Rattle.st_world.specs.Edits.{edit_of}
 use Rattle.st_script.specs.Steps as step
 
 same_some : {X : Type 0} (x y : X) → Some x ≡ Some y → x ≡ y

@@ -24,19 +24,20 @@ use Rattle.st_script.specs.declared.answer.Answer.TheVariants.{Show}
 use Rattle.st_edits.specs.InEffect.{schema_in_effect}
 use Rattle.st_trace.proofs.Acting.{one_at}
 use Rattle.st_trace.proofs.BranchHeads.{head_at, heads_many}
-use Rattle.st_trace.proofs.Branched.{found_at, found_by, head_there}
+use Rattle.st_plain_branches.proofs.Branched.{found_at, found_by, head_there}
 use Rattle.st_trace.proofs.Keeping.{AreOne, kept_main}
-use Rattle.st_trace.proofs.Effect.{schema_sound_on}
+use Rattle.st_world_laws.proofs.Effect.{schema_sound_on}
 use Rattle.st_trace.proofs.Everyone.{clients_of}
 use Rattle.st_trace.proofs.Knowing.{known_arrays, known_schema, known_some}
-use Rattle.st_trace.proofs.LineActs.{IsKeptLine, branch_head, line_editable, line_kept, shown_on}
-use Rattle.st_trace.proofs.Lookup.{line_there}
+use Rattle.st_trace.proofs.LineActs.{IsKeptLine, branch_head, line_kept, shown_on}
+use Rattle.st_world_laws.proofs.LineEditable.{line_editable}
+use Rattle.st_world_laws.proofs.Lookup.{line_there}
 use Rattle.st_trace.proofs.Stepping.{start_of}
 use Rattle.st_trace.specs.Replicas.{IsHeadOf, IsSound}
-use Rattle.st_trace.specs.Schemas.{HasReading}
-use Rattle.st_trace.specs.World.{HasShown, IsShown, opening_document}
+use Rattle.st_plain_schemas.specs.Schemas.{HasReading}
+use Rattle.st_world.specs.World.{HasShown, IsShown, opening_document}
 use Rattle.st_edits.specs.InEffect.{last_in_effect}
-use Rattle.st_trace.specs.declared.known.KnownSchema.{KnownSchema}
+use Rattle.st_plain_schemas.specs.declared.known.KnownSchema.{KnownSchema}
 use Rattle.st_heads.specs.declared.replica.Replica.{Replica}
 use Rattle.st_trace.specs.declared.world.World.{World}
 

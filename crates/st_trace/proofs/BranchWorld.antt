@@ -7,7 +7,7 @@ use Rattle.st_doc.specs.Doc.{document_of}
 use Rattle.st_heads.specs.declared.heads.Head.{Head}
 use Rattle.st_ids.specs.Listing.{AreDistinct, Has}
 use Rattle.st_lists.specs.Lines.{branch_place}
-use Rattle.st_trace.specs.inside.Branches.{HasDropped, HasForked, HasForkedOn, HasMerged, HasNoLine, HasRebased, ground_of, void_among, with_ground, without_head, without_place}
+use Rattle.st_plain_branches.specs.Branches.{HasDropped, HasForked, HasForkedOn, HasMerged, HasNoLine, HasRebased, ground_of, void_among, with_ground, without_head, without_place}
 use Rattle.st_heads.specs.Replicas.{head_of}
 use Rattle.st_lists.specs.Lines.{HasHead, Line, branch_of, has_children, line_of, on_branch, with_base, with_branch, with_commits_on, without_branch}
 use Rattle.st_lists.specs.Names.{names_in, names_on}
@@ -25,27 +25,30 @@ use Rattle.st_script.specs.declared.answer.Answer.TheVariants.{DropBranch, No}
 use Rattle.st_script.specs.declared.refusal.Refusal.{Refusal}
 use Rattle.st_script.specs.declared.refusal.Refusal.TheVariants.{HasChildren, NoBranch}
 use Rattle.st_trace.proofs.Acting.{one_at, same_world, sound_goes, world_refused}
-use Rattle.st_trace.proofs.Clients.{head_sound as head_doc_sound}
-use Rattle.st_trace.proofs.Among.{line_fit}
-use Rattle.st_trace.proofs.Begun.{IsStart}
+use Rattle.st_world_laws.proofs.Clients.{head_sound as head_doc_sound}
+use Rattle.st_world_laws.proofs.Among.{line_fit}
+use Rattle.st_world_laws.proofs.Begun.{IsStart}
 use Rattle.st_trace.proofs.BranchHeads.{heads_many, line_head, without_at}
-use Rattle.st_trace.proofs.BranchNames.{names_among}
-use Rattle.st_trace.proofs.BranchSteps.{drop_goes, fork_goes, kept_dropped, kept_forked, kept_merged, kept_rebased, may_merge, may_rebase, merge_goes, parent_apart, parent_there, rebase_goes, void_as}
-use Rattle.st_trace.proofs.Branched.{changed_at, found_at, found_by}
-use Rattle.st_trace.proofs.Everyone.{all_as, all_get, clients_of, set_same}
-use Rattle.st_trace.proofs.Forking.{client_drops, line_left}
-use Rattle.st_trace.specs.Schemas.{HasReading}
-use Rattle.st_trace.proofs.Going.{GoesOn}
+use Rattle.st_world_laws.proofs.BranchNames.{names_among}
+use Rattle.st_world_laws.proofs.BranchSteps.{drop_goes, fork_goes, may_merge, may_rebase, merge_goes, parent_apart, parent_there, rebase_goes}
+use Rattle.st_trace.proofs.BranchSteps.{kept_dropped, kept_forked, kept_merged, kept_rebased, void_as}
+use Rattle.st_plain_branches.proofs.Branched.{changed_at, found_at, found_by}
+use Rattle.st_world_laws.proofs.Everyone.{all_as, all_get, set_same}
+use Rattle.st_trace.proofs.Everyone.{clients_of}
+use Rattle.st_world_laws.proofs.Forking.{client_drops, line_left}
+use Rattle.st_plain_schemas.specs.Schemas.{HasReading}
+use Rattle.st_world_laws.proofs.Going.{GoesOn}
 use Rattle.st_trace.proofs.Keeping.{AreOne, kept_main}
-use Rattle.st_trace.proofs.Lookup.{branch_there}
+use Rattle.st_world_laws.proofs.Lookup.{branch_there}
 use Rattle.st_trace.proofs.MergeParts.{head_beside, merged_void}
-use Rattle.st_trace.proofs.Parts.{names_edited}
-use Rattle.st_trace.proofs.Rebasing.{own_fits_behind_parent}
+use Rattle.st_world_laws.proofs.Parts.{names_edited}
+use Rattle.st_world_laws.proofs.Rebasing.{own_fits_behind_parent}
 use Rattle.st_trace.proofs.Stepping.{sound_later, start_of}
-use Rattle.st_trace.specs.Branches.{IsMerged, IsRebased, drop_branch, fork, refusal_to_fork, refusal_to_merge, refusal_to_rebase}
-use Rattle.st_trace.specs.Kept.{Unless}
-use Rattle.st_trace.specs.Replicas.{IsBranch, IsClient, IsReplicaOf, IsSound, IsSoundAfter}
-use Rattle.st_trace.specs.World.{AtRefusal, IsBranchDropped, IsForked, IsMergedBy, IsRebasedBy, IsUnchanged, OnOwnBranch, OnParent, opening_document, with_client}
+use Rattle.st_world.specs.Branches.{IsMerged, IsRebased, drop_branch, fork, refusal_to_fork, refusal_to_merge, refusal_to_rebase}
+use Rattle.st_world.specs.Kept.{Unless}
+use Rattle.st_world_laws.specs.Worlds.{IsBranch, IsClient}
+use Rattle.st_trace.specs.Replicas.{IsReplicaOf, IsSound, IsSoundAfter}
+use Rattle.st_world.specs.World.{AtRefusal, IsBranchDropped, IsForked, IsMergedBy, IsRebasedBy, IsUnchanged, OnOwnBranch, OnParent, opening_document, with_client}
 use Rattle.st_heads.specs.declared.replica.Replica.{Replica}
 use Rattle.st_trace.specs.declared.world.World.{World}
 

@@ -16,8 +16,8 @@ use Rattle.st_script.specs.declared.step.Act.TheVariants as acts
 use Rattle.st_script.specs.declared.step.EditAct.{EditAct}
 use Rattle.st_script.specs.declared.step.EditAct.TheVariants as edits
 use Rattle.st_edits.specs.InEffect.{schema_in_effect}
-use Rattle.st_trace.specs.inside.Edits.{edit_of}
-use Rattle.st_trace.specs.World.{IsActOf, IsAfterEdit, IsDoneIn, next_names, word_of}
+use Rattle.st_world.specs.Edits.{edit_of}
+use Rattle.st_world.specs.World.{IsActOf, IsAfterEdit, IsDoneIn, next_names, word_of}
 use Rattle.st_lists.specs.declared.lists.Client.{Client}
 use Rattle.st_lists.specs.declared.lists.WorldState.{WorldState}
 

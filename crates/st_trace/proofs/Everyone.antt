@@ -1,56 +1,22 @@
--- All clients, and what is kept of them.
-use Rattle.std.proofs.Common.{◌≡◌, ◌≢◌, ◌≤◌, ◌<◌, ◌+◌, ◌==◌, ℕ, zero, suc, false, List, [], ◌∷◌, ◌++◌, length, Some, None, refl, sym, ap, subst, arith}
+-- What is kept of all clients.
+use Rattle.std.proofs.Common.{◌≡◌, ◌≢◌, ◌≤◌, ◌+◌, ◌==◌, ℕ, zero, suc, false, List, [], ◌∷◌, ◌++◌, Some, None, refl, subst}
 use Rattle.std.specs.List.{remove, slice_get, slice_set, AllByRecursion}
 use Rattle.st_script.specs.Header.{HeaderView}
-use Rattle.st_trace.specs.Replicas.{IsClient, IsReplicaOf, AreReplicas, HaveOwnSessions}
-use Rattle.st_ids.specs.Listing.{Has}
+use Rattle.st_world_laws.specs.Worlds.{IsClient, HaveOwnSessions}
+use Rattle.st_trace.specs.Replicas.{IsReplicaOf, AreReplicas}
 use Rattle.st_ids.proofs.Shared.{at_has}
-use Rattle.st_marks.proofs.Members.{all-has}
 use Rattle.st_lists.specs.Log.{commit_in, log_with, commits_in}
 use Rattle.st_lists.proofs.Present.{are_apart}
 use Rattle.st_lists.specs.Names.{names_in, names_in_text}
-use Rattle.st_trace.specs.World.{opening_document}
+use Rattle.st_world.specs.World.{opening_document}
 use Rattle.st_heads.specs.declared.replica.Replica.{Replica}
 use Rattle.st_lists.specs.declared.lists.Client.{Client}
 use Rattle.st_lists.specs.declared.lists.Entry.{Entry}
-use Rattle.st_trace.proofs.Begun.{IsStart}
-use Rattle.st_trace.proofs.Clients.{client_after_text, client_beside, client_sent}
+use Rattle.st_world_laws.proofs.Begun.{IsStart}
+use Rattle.st_world_laws.proofs.Clients.{client_after_text, client_beside, client_sent}
 use Rattle.st_trace.proofs.Keeping.{AreOne, kept_entered, kept_rest}
 use Rattle.st_lists.specs.declared.lists.Body.{Body}
-
--- ## Lists
-
-pub past : {X : Type 0} (xs : List X) (i : ℕ) → i < length xs → slice_get xs i ≡ None → ⊥
-past [] i h e = absurd (omega (arith, h))
-past (x ∷ xs) zero h e = cc
-past (x ∷ xs) (suc i) h e = past xs i (omega (arith, h)) e
-
-pub set_same : {X : Type 0} (xs : List X) (i : ℕ) (x : X) → slice_get xs i ≡ Some x → slice_set xs i x ≡ xs
-set_same [] i x e = cc
-set_same (y ∷ ys) zero x e = let same : y ≡ x = cc in rw same refl
-set_same (y ∷ ys) (suc i) x e = ap (λ l. y ∷ l) (set_same ys i x e)
-
-pub all_get : {X : Type 0} (P : X → Type 0) (xs : List X) (i : ℕ) (x : X) → AllByRecursion P xs → slice_get xs i ≡ Some x → P x
-all_get P [] i x p e = cc
-all_get P (y ∷ ys) zero x p e = let same : y ≡ x = cc in rw (← same) p.0
-all_get P (y ∷ ys) (suc i) x p e = all_get P ys i x p.1 e
-
-pub all_set : {X : Type 0} (P : X → Type 0) (xs : List X) (i : ℕ) (x : X) → AllByRecursion P xs → P x → AllByRecursion P (slice_set xs i x)
-all_set P [] i x p q = tt
-all_set P (y ∷ ys) zero x p q = (q, p.1)
-all_set P (y ∷ ys) (suc i) x p q = (p.0, all_set P ys i x p.1 q)
-
-pub all_as : {X : Type 0} (P Q : X → Type 0) (xs : List X) → ((x : X) → P x → Q x) → AllByRecursion P xs → AllByRecursion Q xs
-all_as P Q [] f p = tt
-all_as P Q (x ∷ xs) f p = (f x p.0, all_as P Q xs f p.1)
-
--- ## Sessions
-
--- of two clients at different places
-pub others_apart : (cs : List Client) (d c : Client) → AllByRecursion (λ (x : Client). x.session ≢ d.session) cs → Has cs c → (c.session == d.session) ≡ false
-others_apart cs d c apart h = are_apart c.session d.session (λ e. all-has (λ (x : Client). x.session ≢ d.session) cs c apart h (sym e))
-
--- ## What is kept
+use Rattle.st_world_laws.proofs.Everyone.{others_apart}
 
 module _ (h : HeaderView) (log : List Entry) where
   pub kept_at : (cs : List Client) (ks : List Replica) (i : ℕ) (c : Client) (k : Replica) → AreReplicas h log cs ks → slice_get cs i ≡ Some c → slice_get ks i ≡ Some k → AreOne h log c k

@@ -1,15 +1,14 @@
 -- What is kept of a client stands for its lists after each of its steps.
-use Rattle.std.proofs.Common.{Bool, Err, IfSome, List, None, Ok, Option, Result, Some, [], ap, arith, cond, drop, false, length, length-append, nat_lt, refl, subst, sym, take, true, ℕ, ◌++◌, ◌+◌, ◌<◌, ◌∙◌, ◌∷◌, ◌≡◌, ◌≤◌}
+use Rattle.std.proofs.Common.{Bool, Err, IfSome, List, None, Ok, Option, Result, Some, [], ap, arith, drop, false, length, length-append, refl, subst, sym, take, true, ℕ, ◌++◌, ◌+◌, ◌∙◌, ◌∷◌, ◌≡◌, ◌≤◌}
 use Rattle.std.specs.List.{AllByRecursion, slice_get}
 use Rattle.std.specs.Prelude.{◌-◌, ◌==◌}
 use Rattle.st_lists.specs.Names.{names_in, names_made, names_on_all, unsequenced}
 use Rattle.st_lists.specs.declared.lists.Branch.{Branch}
-use Rattle.st_trace.specs.Replicas.{AreHeads, HasMain, IsBranch, IsClient, IsHeadOf, IsReplicaOf}
-use Rattle.st_trace.specs.World.{HasShown, IsDeliveredTo, after_commit, after_edit, cells_given, opening_document, with_new_on}
-use Rattle.std.proofs.lemmas.Bool.Decides.{nat_tests}
+use Rattle.st_trace.specs.Replicas.{AreHeads, IsHeadOf, IsReplicaOf}
+use Rattle.st_world_laws.specs.Worlds.{HasMain, IsBranch, IsClient}
+use Rattle.st_world.specs.World.{HasShown, IsDeliveredTo, after_commit, after_edit, cells_given, opening_document, with_new_on}
 use Rattle.std.proofs.lemmas.List.{append-nil, take_all}
 use Rattle.st_ids.specs.declared.names.Limit.{Limit}
-use Rattle.st_ids.specs.declared.names.LimitOf.TheVariants.{Pending, Unsequenced}
 use Rattle.st_tree.specs.declared.edit.EditFault.{EditFault}
 use Rattle.st_marks.specs.declared.intents.Intent.{Intent}
 use Rattle.st_marks.specs.declared.verdicts.Verdict.{Verdict}
@@ -26,7 +25,8 @@ use Rattle.st_heads.specs.Remembered.{AreCarried, none as nothing_done}
 use Rattle.st_heads.proofs.Runs.{as_many, run_of, runs_joined}
 use Rattle.st_script.specs.Header.{HeaderView}
 use Rattle.st_script.specs.declared.answer.Answer.{Answer}
-use Rattle.st_trace.specs.inside.Replicas.{HasCaughtUp, IsPending, HasTaken, HasPart, HasCommittedOf, IsNewReplica, CanReceive, CanCarry, HasMoved, HasReceivedNext, HasReceivedOf, HasReceivedOne}
+use Rattle.st_plain_log.specs.Receiving.{HasCaughtUp, IsNewReplica, CanReceive, CanCarry, HasMoved, HasReceivedNext, HasReceivedOf, HasReceivedOne}
+use Rattle.st_plain_edits.specs.Taking.{IsPending, HasTaken, HasPart, HasCommittedOf}
 use Rattle.st_heads.specs.Replicas.{IsCommitted}
 use Rattle.st_lists.specs.Log.{commit_of, commits_in, log_with, waiting}
 use Rattle.st_lists.specs.Clients.{joined_of, with_begun, with_connection, with_edited, with_new_commit, with_transaction, without_connection, without_transaction, new_client, pending_after, received_by, with_received}
@@ -35,20 +35,20 @@ use Rattle.st_lists.specs.declared.lists.Transaction.{Transaction}
 use Rattle.st_heads.specs.Transactions.{HasOpen}
 use Rattle.st_lists.specs.Open.{with_open}
 use Rattle.st_ids.specs.declared.names.Rev.{Rev}
-use Rattle.std.specs.Option.{option_and_then, option_or}
-use Rattle.st_lists.specs.Limits.{limit_passed, names_limit_passed, pending_limit_passed}
-use Rattle.st_trace.specs.declared.client.EditWord.{EditWord}
+use Rattle.std.specs.Option.{option_and_then}
+use Rattle.st_lists.specs.Limits.{limit_passed}
+use Rattle.st_world.specs.declared.edit_word.EditWord.{EditWord}
 use Rattle.st_heads.specs.declared.replica.Replica.{Replica}
 use Rattle.st_lists.specs.declared.lists.Body.{Body}
 use Rattle.st_lists.specs.declared.lists.Body.TheVariants.{Join}
 use Rattle.st_lists.specs.declared.lists.Client.{Client}
 use Rattle.st_lists.specs.declared.lists.Entry.{Entry}
-use Rattle.st_trace.proofs.Begun.{IsStart}
+use Rattle.st_world_laws.proofs.Begun.{IsStart}
 use Rattle.st_lists.proofs.Names.{names_append}
-use Rattle.st_trace.proofs.Clients.{other_fit, own_first, received_more}
-use Rattle.st_trace.proofs.Parts.{names_edited}
+use Rattle.st_world_laws.proofs.Clients.{other_fit, own_first, received_more}
+use Rattle.st_world_laws.proofs.Parts.{names_edited}
 use Rattle.st_lists.proofs.Logs.{commits_split, one_commit, no_commit, entered_commits, entered_front, last_entry}
-use Rattle.st_trace.proofs.Receiving.{rest_carried}
+use Rattle.st_plain_log.proofs.Receiving.{rest_carried}
 
 -- one more commit is carried out
 pub run_more : {O D : Document} {Ns : List Intent} (N : Intent) (E : Document) (v : Verdict) → Run O Ns D → IsVerdict D N v → E ≡ carried_document v D N → Run O (Ns ++ N ∷ []) E
@@ -82,33 +82,6 @@ pub names_with : (c : Client) (o : Option Transaction) → c.transaction ≡ o �
 names_with c o is = ap (λ (o : Option Transaction). (names_edited (option_and_then (λ (x : Transaction). x.joined) o) + names_in c.pending) + names_on_all c.branches) is
 
 module _ (h : HeaderView) (st : IsStart (opening_document h)) where
-  -- ## Limits
-
-  pub within_pending : (c : Client) → pending_limit_passed c ≡ None → length c.pending < 256
-  within_pending c e = go (nat_lt 256 (length c.pending + 1)) refl e
-    where
-      go : (b : Bool) → nat_lt 256 (length c.pending + 1) ≡ b → ◌≡◌ {A = Option Limit} (cond b (Some (record { of = Pending; kept = length c.pending })) None) None → length c.pending < 256
-      go true p e = absurd (cc)
-      go false p e = grind (arith, nat_tests)
-
-  pub within_names : (c : Client) (N : Intent) → names_limit_passed c N ≡ None → unsequenced c + names_made N ≤ 16384
-  within_names c N e = few (unsequenced c + names_made N) (go (nat_lt 16384 (unsequenced c + names_made N)) refl e)
-    where
-      go : (b : Bool) → nat_lt 16384 (unsequenced c + names_made N) ≡ b → ◌≡◌ {A = Option Limit} (cond b (Some (record { of = Unsequenced; kept = unsequenced c })) None) None → nat_lt 16384 (unsequenced c + names_made N) ≡ false
-      go true p e = absurd (cc)
-      go false p e = p
-
-      few : (n : ℕ) → nat_lt 16384 n ≡ false → n ≤ 16384
-      few n e = grind (arith, nat_tests)
-
-  -- a commit that passes no limit
-  pub within_limits : (c : Client) (N : Intent) → limit_passed c 0 (main_line c) N ≡ None → (length c.pending < 256) × (unsequenced c + names_made N ≤ 16384)
-  within_limits c N e = let b = both (pending_limit_passed c) (names_limit_passed c N) e in (within_pending c b.0, within_names c N b.1)
-    where
-      both : (o p : Option Limit) → option_or o p ≡ None → (o ≡ None) × (p ≡ None)
-      both None p e = (refl, e)
-      both (Some l) p e = cc
-
   -- ## Edits
 
   pub kept_committed : (log : List Entry) (c : Client) (k k' : Replica) (N : Intent) → c.transaction ≡ None → IsReplicaOf h log c k → IsCommitted k N k' → IsReplicaOf h log (with_new_commit c N) k'

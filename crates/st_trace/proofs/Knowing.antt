@@ -27,15 +27,17 @@ use Rattle.st_lists.specs.declared.lists.Entry.{Entry}
 use Rattle.st_lists.specs.declared.lists.Transaction.{Transaction}
 use Rattle.st_edits.specs.InEffect.{empty_schema, schema_in_effect}
 use Rattle.st_schema_laws.proofs.Texts.{schema_text}
-use Rattle.st_trace.specs.Replicas.{IsClient, IsSound, IsTransaction}
-use Rattle.st_trace.specs.Schemas.{HasReading}
-use Rattle.st_trace.specs.World.{HasShown, opening_document}
+use Rattle.st_world_laws.specs.Worlds.{IsClient, IsTransaction}
+use Rattle.st_trace.specs.Replicas.{IsSound}
+use Rattle.st_plain_schemas.specs.Schemas.{HasReading}
+use Rattle.st_world.specs.World.{HasShown, opening_document}
 use Rattle.st_edits.specs.InEffect.{last_in_effect}
-use Rattle.st_trace.specs.declared.known.KnownSchema.{KnownSchema}
+use Rattle.st_plain_schemas.specs.declared.known.KnownSchema.{KnownSchema}
 use Rattle.st_trace.specs.declared.world.World.{World}
-use Rattle.st_trace.proofs.Among.{line_transaction}
-use Rattle.st_trace.proofs.Effect.{IsLastEntry, entry_known, has_last_entry, head_in_form}
-use Rattle.st_trace.proofs.Everyone.{all_get, clients_of}
+use Rattle.st_world_laws.proofs.Among.{line_transaction}
+use Rattle.st_world_laws.proofs.Effect.{IsLastEntry, entry_known, has_last_entry, head_in_form}
+use Rattle.st_world_laws.proofs.Everyone.{all_get}
+use Rattle.st_trace.proofs.Everyone.{clients_of}
 use Rattle.st_trace.proofs.Stepping.{start_of}
 
 -- a table has the schema that is last in effect in a document, and its types whose nodes have a row

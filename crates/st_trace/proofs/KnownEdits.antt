@@ -19,13 +19,13 @@ use Rattle.st_lists.specs.declared.lists.Branch.{Branch}
 use Rattle.st_lists.specs.declared.lists.Client.{Client}
 use Rattle.st_edits.specs.InEffect.{schema_in_effect}
 use Rattle.st_trace.specs.Replicas.{IsSound}
-use Rattle.st_trace.specs.World.{IsAfterEdit, next_names, word_of}
+use Rattle.st_world.specs.World.{IsAfterEdit, next_names, word_of}
 use Rattle.st_edits.specs.InEffect.{last_in_effect}
-use Rattle.st_trace.specs.inside.BranchEdits.{HasEditedAt, shown_on}
+use Rattle.st_plain_edits.specs.BranchEdits.{HasEditedAt, shown_on}
 use Rattle.st_heads.specs.Replicas.{IsAtBranch, head_of}
-use Rattle.st_trace.specs.inside.Edits.{edit_of}
-use Rattle.st_trace.specs.inside.Replicas.{CanTake, HasTaken}
-use Rattle.st_trace.specs.declared.known.KnownSchema.{KnownSchema}
+use Rattle.st_world.specs.Edits.{edit_of}
+use Rattle.st_plain_edits.specs.Taking.{CanTake, HasTaken}
+use Rattle.st_plain_schemas.specs.declared.known.KnownSchema.{KnownSchema}
 use Rattle.st_heads.specs.declared.replica.Replica.{Replica}
 use Rattle.st_trace.specs.declared.world.World.{World}
 use Rattle.st_trace.proofs.Acting.{can_take, edit_meant, one_at, shown_of}

@@ -1,7 +1,7 @@
 -- What a client can do on one of its lines, by the head that is kept of it.
 use Rattle.st_edits.specs.InEffect.{schema_in_effect}
-use Rattle.st_trace.proofs.Among.{line_room, line_transaction, line_fit, line_new}
-use Rattle.std.proofs.Common.{IfSome, List, None, Ok, Option, Result, Some, [], ap, arith, refl, subst, sym, true, ℕ, ◌++◌, ◌+◌, ◌∙◌, ◌∷◌, ◌≡◌, ◌≤◌}
+use Rattle.st_world_laws.proofs.Among.{line_room, line_transaction, line_fit}
+use Rattle.std.proofs.Common.{IfSome, List, None, Ok, Option, Result, Some, ap, arith, refl, subst, sym, true, ℕ, ◌+◌, ◌≡◌, ◌≤◌}
 use Rattle.std.specs.Option.{option_and_then}
 use Rattle.st_doc.specs.Doc.{document_of}
 use Rattle.st_edits.specs.Resolve.{need, resolve}
@@ -9,11 +9,8 @@ use Rattle.st_heads.proofs.Runs.{run_of}
 use Rattle.st_lists.specs.Open.{FitsSoFar, IsSoundPart, IsWithPart, with_open}
 use Rattle.st_heads.specs.Transactions.{HasOpen}
 use Rattle.st_heads.specs.declared.heads.Head.{Head}
-use Rattle.st_ids.specs.Listing.{Has}
-use Rattle.st_ids.specs.Root.{opening}
 use Rattle.st_ids.specs.declared.names.Place.{Place}
 use Rattle.st_lists.proofs.Branches.{line_parts}
-use Rattle.st_lists.specs.Clients.{next_rev}
 use Rattle.st_lists.specs.Lines.{HasHead, Line, branch_line, commits_of, edited_on, line_of}
 use Rattle.st_lists.specs.Log.{commits_in}
 use Rattle.st_lists.specs.Names.{names_in, names_made}
@@ -21,7 +18,6 @@ use Rattle.st_lists.specs.declared.lists.Branch.{Branch}
 use Rattle.st_lists.specs.declared.lists.Client.{Client}
 use Rattle.st_lists.specs.declared.lists.Entry.{Entry}
 use Rattle.st_lists.specs.declared.lists.Transaction.{Transaction}
-use Rattle.st_log_laws.specs.Names.{revisions}
 use Rattle.st_marks.proofs.OneVerdict.{one_run, run_then}
 use Rattle.st_marks.specs.Document.{Document, IsSoundInForm}
 use Rattle.st_marks.specs.Intent.{Fits}
@@ -31,15 +27,16 @@ use Rattle.st_schema.specs.Schema.{is_sound}
 use Rattle.st_script.specs.Header.{HeaderView}
 use Rattle.st_script.specs.Steps.{edit_view}
 use Rattle.st_script.specs.declared.step.EditAct.{EditAct}
-use Rattle.st_trace.proofs.Begun.{IsStart}
-use Rattle.st_trace.proofs.Clients.{head_sound, next_new, unused_cells, unused_nodes}
-use Rattle.st_trace.proofs.Meant.{IsEditable, IsMeaning, IsMeant, need_means, resolved_means}
-use Rattle.st_trace.proofs.Parts.{counted as numbers_left, is_part, names_edited, so_far, whole_names}
-use Rattle.st_trace.specs.Replicas.{IsClient, IsHeadOf, IsTransaction, LineFits}
-use Rattle.st_trace.specs.World.{HasShown, next_names, opening_document, word_of}
-use Rattle.st_trace.specs.declared.client.EditWord.{EditWord}
-use Rattle.st_trace.specs.inside.Edits.{edit_of}
-use Rattle.st_trace.specs.inside.Replicas.{CanTake, HasNumbersLeft}
+use Rattle.st_world_laws.proofs.Begun.{IsStart}
+use Rattle.st_world_laws.proofs.Clients.{head_sound}
+use Rattle.st_world_laws.proofs.Meant.{IsEditable, IsMeaning, IsMeant, need_means, resolved_means}
+use Rattle.st_world_laws.proofs.Parts.{counted as numbers_left, is_part, names_edited, so_far, whole_names}
+use Rattle.st_world_laws.specs.Worlds.{IsClient, IsTransaction, LineFits}
+use Rattle.st_trace.specs.Replicas.{IsHeadOf}
+use Rattle.st_world.specs.World.{HasShown, next_names, opening_document, word_of}
+use Rattle.st_world.specs.declared.edit_word.EditWord.{EditWord}
+use Rattle.st_world.specs.Edits.{edit_of}
+use Rattle.st_plain_edits.specs.Taking.{CanTake, HasNumbersLeft}
 use Rattle.st_tree.specs.declared.edit.EditFault.{EditFault}
 
 -- the document that a head shows, where this is edited on its line
@@ -127,29 +124,6 @@ pub branch_head : (O : Document) (log : List Entry) (b : Branch) (k : Head) → 
 branch_head O log b k w = subst (λ l. Run O l (document_of k.doc)) (sym (line_parts log (branch_line b))) (run_then w.stands (run_of w.own))
 
 module _ (h : HeaderView) (st : IsStart (opening_document h)) (log : List Entry) (c : Client) (own : IsClient h log c) (j : ℕ) (l : Line) (at : line_of c j ≡ Some l) where
-  -- what a line shows can be edited
-  pub line_editable : (E : Document) → HasShown (opening_document h) log l E → IsEditable E (next_names c l.transaction)
-  line_editable E shown = go l.transaction (line_transaction h st log c own j l at) shown.2
-    where
-      D : Document
-      D = shown.0
-
-      fit : LineFits h log l
-      fit = line_fit h st log c own j l at
-
-      fresh : Has (revisions (commits_of log l) ++ opening ∷ []) (next_rev c) → ⊥
-      fresh = line_new h st log c own j l (next_rev c) at (next_new h st log c (next_rev c) own refl)
-
-      go : (o : Option Transaction) → IfSome o (IsTransaction h log l c) → E ≡ with_open D (option_and_then (λ (t : Transaction). t.joined) o) → IsEditable E (next_names c o)
-      go None i same = subst (λ F. IsEditable F (next_names c None)) (sym same) (record {
-        sound = head_sound h st log l D fit shown.1;
-        nodes = λ n low. unused_nodes h st log l D (next_rev c) fit shown.1 fresh n;
-        cells = λ n low. unused_cells h st log l D (next_rev c) fit shown.1 fresh n;
-      })
-      go (Some t) i same =
-          let here : with_open i.before t.joined ≡ E = ap (λ F. with_open F t.joined) (one_run i.main shown.1) ∙ sym same in
-          subst (λ F. IsEditable F (next_names c (Some t))) here (record { sound = i.sound; nodes = i.nodes; cells = i.cells })
-
   pub line_kept : (k : Head) → is_sound (schema_in_effect (shown_on l k)) ≡ true → names_in (commits_in log) ≤ 131072 → HasHead (opening_document h) log l (document_of k.doc) → HasOpen k (edited_on l) → IsKeptLine h log c l k
   line_kept k schema few head edited = record {
     schema = schema;

@@ -7,7 +7,7 @@ use Rattle.st_doc.specs.Doc.{document_of}
 use Rattle.st_heads.specs.declared.heads.Head.{Head}
 use Rattle.st_ids.specs.declared.names.Rev.{Rev}
 use Rattle.st_lists.specs.Lines.{branch_place}
-use Rattle.st_trace.specs.inside.Branches.{HasMergedInto, void_among, without_head, without_place}
+use Rattle.st_plain_branches.specs.Branches.{HasMergedInto, void_among, without_head, without_place}
 use Rattle.st_heads.specs.Replicas.{head_of}
 use Rattle.st_lists.specs.declared.lists.Branch.{Branch}
 use Rattle.st_lists.specs.declared.lists.Client.{Client}
@@ -15,8 +15,8 @@ use Rattle.st_marks.specs.declared.intents.Intent.{Intent}
 use Rattle.st_script.specs.declared.answer.Answer.{Answer}
 use Rattle.st_script.specs.declared.answer.Answer.TheVariants.{Merge}
 use Rattle.st_trace.proofs.BranchSteps.{void_as}
-use Rattle.st_trace.proofs.Branched.{position_step}
-use Rattle.st_trace.proofs.Branching.{is_not}
+use Rattle.st_plain_branches.proofs.Branched.{position_step}
+use Rattle.st_world_laws.proofs.Branching.{is_not}
 use Rattle.st_lists.specs.Voids.{AreVoid}
 use Rattle.st_heads.specs.declared.replica.Replica.{Replica}
 

@@ -20,9 +20,10 @@ use Rattle.st_lists.specs.Log.{commit_in, commit_of, commits_in, commits_of_text
 use Rattle.st_lists.specs.declared.lists.Body.{Body}
 use Rattle.st_lists.specs.declared.lists.Entry.{Entry}
 use Rattle.st_lists.proofs.Logs.{entered_commits, entered_front, last_entry}
-use Rattle.st_trace.specs.Logged.{AreLogged, IsLogged}
-use Rattle.st_trace.specs.declared.logged.Logged.{Logged}
-use Rattle.st_trace.specs.inside.Replicas.{HasEntered, HasLogged}
+use Rattle.st_plain_undo.specs.Logged.{AreLogged, IsLogged}
+use Rattle.st_plain_undo.specs.declared.logged.Logged.{Logged}
+use Rattle.st_plain_log.specs.Receiving.{HasEntered}
+use Rattle.st_trace.specs.inside.Replicas.{HasLogged}
 
 -- ## Lists
 
@@ -44,20 +45,6 @@ commit_among (x ∷ es) (suc i) e N at is = past (commit_of x) (commit_among es 
     past : (o : Option Intent) → Has (commits_in es) N → Has (cons_option o (commits_in es)) N
     past None h = h
     past (Some M) h = inr h
-
--- and each is that of an entry
-pub place_among : (es : List Entry) (N : Intent) → Has (commits_in es) N → (i : ℕ) × (e : Entry) × (slice_get es i ≡ Some e) × (commit_of e ≡ Some N)
-place_among [] N h = absurd h
-place_among (x ∷ es) N h = go (commit_of x) refl (λ i. place_among es N i) h
-  where
-    later : (i : ℕ) × (e : Entry) × (slice_get es i ≡ Some e) × (commit_of e ≡ Some N) → (i : ℕ) × (e : Entry) × (slice_get (x ∷ es) i ≡ Some e) × (commit_of e ≡ Some N)
-    later w = (suc w.0, w.1, w.2, w.3)
-
-    go : (o : Option Intent) → commit_of x ≡ o → (Has (commits_in es) N → (i : ℕ) × (e : Entry) × (slice_get es i ≡ Some e) × (commit_of e ≡ Some N)) → Has (cons_option o (commits_in es)) N
-        → (i : ℕ) × (e : Entry) × (slice_get (x ∷ es) i ≡ Some e) × (commit_of e ≡ Some N)
-    go None e rest h = later (rest h)
-    go (Some M) e rest (inl same) = (zero, x, refl, e ∙ ap Some same)
-    go (Some M) e rest (inr h) = later (rest h)
 
 revisions_more : (As Bs : List Intent) (r : Rev) → Has (revisions As) r → Has (revisions (As ++ Bs)) r
 revisions_more As Bs r h =

@@ -7,19 +7,19 @@ use Rattle.st_lists.specs.declared.lists.Entry.{Entry}
 use Rattle.st_log_laws.specs.Turns.{FitInTurn}
 use Rattle.st_log_laws.proofs.Turns.{rest}
 use Rattle.st_marks.specs.Document.{IsSoundInForm}
-use Rattle.st_trace.specs.Texts.{AreTextsOf}
+use Rattle.st_world.specs.Texts.{AreTextsOf}
 use Rattle.st_script.specs.Header.{HeaderView, header_view}
 use Rattle.st_script.specs.declared.answer.Answer.{Answer}
 use Rattle.st_script.specs.declared.answer.Answer.TheVariants.{Pending}
 use Rattle.st_trace.proofs.Acting.{one_at}
 use Rattle.st_trace.proofs.BranchShown.{same_some}
 use Rattle.st_trace.proofs.BranchSteps.{void_as}
-use Rattle.st_trace.proofs.Clients.{received_sound}
+use Rattle.st_world_laws.proofs.Clients.{received_sound}
 use Rattle.st_trace.proofs.Keeping.{AreOne}
 use Rattle.st_trace.proofs.Stepping.{start_of}
-use Rattle.st_trace.specs.inside.Branches.{void_among}
+use Rattle.st_plain_branches.specs.Branches.{void_among}
 use Rattle.st_trace.specs.Replicas.{IsSound}
-use Rattle.st_trace.specs.World.{IsPendingTold}
+use Rattle.st_world.specs.World.{IsPendingTold}
 use Rattle.st_heads.specs.declared.replica.Replica.{Replica}
 use Rattle.st_trace.specs.declared.world.World.{World}
 

@@ -11,8 +11,8 @@ use Rattle.st_lists.specs.declared.lists.Transaction.{Transaction}
 use Rattle.st_marks.specs.declared.intents.Intent.{Intent}
 use Rattle.st_script.specs.declared.answer.Answer.{Answer}
 use Rattle.st_script.specs.declared.refusal.Refusal.TheVariants.{Limit as OverLimit, NotBegun, Unfinished}
-use Rattle.st_trace.specs.World.{AtRefusal, IsAfterEdit, IsAfterNeed, IsEditedIn, IsJoined, abort, after_commit, after_edit, answer_of, begin, commit, refusal_of, with_beginning, with_new_on}
-use Rattle.st_trace.specs.declared.client.EditWord.{EditWord}
+use Rattle.st_world.specs.World.{AtRefusal, IsAfterEdit, IsAfterNeed, IsEditedIn, IsJoined, abort, after_commit, after_edit, answer_of, begin, commit, refusal_of, with_beginning, with_new_on}
+use Rattle.st_world.specs.declared.edit_word.EditWord.{EditWord}
 use Rattle.st_tree.specs.declared.edit.EditFault.{EditFault}
 
 pub no_refusal : (word : EditWord) (rev : Rev) (P : Type 0) → AtRefusal (answer_of word rev) P

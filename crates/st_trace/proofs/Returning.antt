@@ -1,62 +1,33 @@
 -- A client that comes back: what it missed is carried out, and what waits after it.
 use Rattle.st_lists.specs.Clients.{joined_of, with_connection}
 use Rattle.st_lists.specs.Names.{names_in, names_on_all}
-use Rattle.st_trace.proofs.Clients.{received_sound}
-use Rattle.st_trace.proofs.Parts.{names_edited}
-use Rattle.std.proofs.Common.{◌≡◌, ◌≤◌, ◌+◌, ℕ, suc, List, [], ◌∷◌, length, length-append, take, drop, Option, Some, None, IfSome, refl, sym, ap, ◌∙◌, subst, arith}
-use Rattle.std.specs.List.{cons_option, slice_get, slice_set}
-use Rattle.st_marks.specs.declared.intents.Intent.{Intent}
+use Rattle.st_world_laws.proofs.Clients.{received_sound}
+use Rattle.st_world_laws.proofs.Parts.{names_edited}
+use Rattle.std.proofs.Common.{◌≡◌, ◌≤◌, ◌+◌, ℕ, suc, List, [], ◌∷◌, length, length-append, drop, Some, None, refl, sym, ap, ◌∙◌, subst, arith}
+use Rattle.std.specs.List.{slice_get, slice_set}
 use Rattle.st_marks.specs.Document.{Document, IsSoundInForm}
-use Rattle.st_marks.specs.Intent.{Fits}
 use Rattle.st_marks.specs.Run.{Run}
-use Rattle.st_marks.proofs.OneVerdict.{carried_extends, run_then}
+use Rattle.st_marks.proofs.OneVerdict.{run_then}
 use Rattle.st_log_laws.specs.Turns.{FitInTurn}
 use Rattle.st_log_laws.proofs.Turns.{rest as rest_fit}
 use Rattle.st_doc.specs.Doc.{document_of}
-use Rattle.st_lemmas.proofs.Lists.{drop-slice_get}
 use Rattle.st_script.specs.Header.{HeaderView, header_view}
 use Rattle.st_script.specs.declared.answer.Answer.TheVariants.{Drop, Leave as Leaves, No, Reconnect}
 use Rattle.st_script.specs.declared.refusal.Refusal.{Refusal}
 use Rattle.st_ids.specs.declared.names.Limit.{Limit}
 use Rattle.st_lists.specs.Limits.{entries_limit_passed}
-use Rattle.st_lists.specs.Log.{commit_of, commits_by, commits_in, own_in_flight, waiting}
+use Rattle.st_lists.specs.Log.{commits_by, commits_in, own_in_flight, waiting}
 use Rattle.st_lists.specs.declared.lists.Client.{Client}
 use Rattle.st_lists.specs.declared.lists.Entry.{Entry}
 use Rattle.st_lists.specs.declared.lists.WorldState.{WorldState}
-use Rattle.st_lists.proofs.Logs.{commits_append, commits_split, take-get}
+use Rattle.st_lists.proofs.Logs.{commits_split}
 use Rattle.st_trace.specs.Replicas.{AreReplicas, IsSound}
-use Rattle.st_trace.specs.World.{drop_client, leave, limit_refusal, opening_document, reconnect, refusal_to_reconnect}
+use Rattle.st_world.specs.World.{drop_client, leave, limit_refusal, opening_document, reconnect, refusal_to_reconnect}
 use Rattle.st_heads.specs.declared.replica.Replica.{Replica}
 use Rattle.st_trace.specs.declared.world.World.{World}
-use Rattle.st_trace.specs.inside.Replicas.{HasEntered}
 use Rattle.st_trace.proofs.Acting.{one_at}
 use Rattle.st_trace.proofs.Keeping.{AreOne}
-use Rattle.st_trace.proofs.Stepping.{run_entered, start_of}
-
--- ## Entries that were missed
-
--- those from a place on
-rest_of : (es : List Entry) (i : ℕ) (e : Entry) → slice_get es i ≡ Some e → commits_in (drop i es) ≡ cons_option (commit_of e) (commits_in (drop (i + 1) es))
-rest_of es i e at = ap commits_in (drop-slice_get es i e at)
-
-pub entry_fits : (D : Document) (es : List Entry) (i : ℕ) (e : Entry) → slice_get es i ≡ Some e → FitInTurn D (commits_in (drop i es)) → IfSome (commit_of e) (Fits D)
-entry_fits D es i e at fit = go (commit_of e) (subst (FitInTurn D) (rest_of es i e at) fit)
-  where
-    go : (o : Option Intent) → FitInTurn D (cons_option o (commits_in (drop (i + 1) es))) → IfSome o (Fits D)
-    go None f = tt
-    go (Some N) f = f.0
-
-pub entry_run : (O D E : Document) (es : List Entry) (i : ℕ) (e : Entry) → slice_get es i ≡ Some e → Run O (commits_in (take i es)) D → HasEntered D (commit_of e) E → Run O (commits_in (take (i + 1) es)) E
-entry_run O D E es i e at run entered =
-    subst (λ l. Run O l E) (sym (ap commits_in (take-get es i e at) ∙ commits_append (take i es) (e ∷ []))) (run_entered O D E (commits_in (take i es)) (commit_of e) run entered)
-
-pub entry_on : (D E : Document) (es : List Entry) (i : ℕ) (e : Entry) → slice_get es i ≡ Some e → IsSoundInForm D → FitInTurn D (commits_in (drop i es)) → HasEntered D (commit_of e) E → IsSoundInForm E × FitInTurn E (commits_in (drop (i + 1) es))
-entry_on D E es i e at sound fit entered = go (commit_of e) (subst (FitInTurn D) (rest_of es i e at) fit) entered
-  where
-    go : (o : Option Intent) → FitInTurn D (cons_option o (commits_in (drop (i + 1) es))) → HasEntered D o E → IsSoundInForm E × FitInTurn E (commits_in (drop (i + 1) es))
-    go None f x = (subst IsSoundInForm (sym x) sound, subst (λ F. FitInTurn F (commits_in (drop (i + 1) es))) (sym x) f)
-    go (Some N) f x =
-        (subst IsSoundInForm (sym x.2) (carried_extends D N x.0 sound f.0 f.1 x.1).after, subst (λ F. FitInTurn F (commits_in (drop (i + 1) es))) (sym x.2) (f.2 x.0 x.1))
+use Rattle.st_trace.proofs.Stepping.{start_of}
 
 -- ## What a client that comes back has
 

@@ -5,7 +5,7 @@ use Rattle.st_lists.specs.declared.lists.Branch.{Branch}
 use Rattle.st_marks.specs.Document.{Document}
 use Rattle.st_script.specs.declared.refusal.Refusal.TheVariants.{HasChildren}
 use Rattle.st_trace.specs.Replicas.{IsSound}
-use Rattle.st_trace.specs.World.{OnLine, OnOwnBranch, OnParent, with_new_on, HasShown, IsActOf, IsAfterEdit, IsAfterNeed, IsAllowedText, IsDeliveredIn, IsDeliveredTo, IsEditedIn, IsJoined, IsNext, AtClient, ByConnected, ShowsAllowed, abort, act_of_none, answer_of, after_edit, begin, branch_at, after_entry, commit, after_commit, drop_client, join, leave, needs_connection, reconnect, refusal_to_reconnect, opening_document, with_beginning, with_client, sequence, word_of, AtShow, IsShownTo}
+use Rattle.st_world.specs.World.{OnLine, OnOwnBranch, OnParent, with_new_on, HasShown, IsActOf, IsAfterEdit, IsAfterNeed, IsAllowedText, IsDeliveredIn, IsDeliveredTo, IsEditedIn, IsJoined, IsNext, AtClient, ByConnected, ShowsAllowed, abort, act_of_none, answer_of, after_edit, begin, branch_at, after_entry, commit, after_commit, drop_client, join, leave, needs_connection, reconnect, refusal_to_reconnect, opening_document, with_beginning, with_client, sequence, word_of, AtShow, IsShownTo}
 use Rattle.st_edits.specs.InEffect.{last_in_effect}
 use Rattle.std.proofs.Common.{◌≡◌, ℕ, Bool, true, false, cond, nat_le, List, [], ◌∷◌, length, Option, Some, None, option_map, option_and_then, Result, Ok, Err, refl, sym, ap, ◌∙◌, subst}
 use Rattle.serde_json.specs.Written.{compact_text}
@@ -22,13 +22,13 @@ use Rattle.st_script.specs.declared.answer.Answer.{Answer}
 use Rattle.st_lists.specs.Lines.{Line, branch_of, commits_of, has_children, line_of, main_line, with_transaction_on, without_branch}
 use Rattle.st_script.specs.declared.answer.Answer.TheVariants as answer
 use Rattle.st_script.specs.declared.refusal.Refusal.{Refusal}
-use Rattle.st_trace.specs.Kept.{Unless}
-use Rattle.st_trace.specs.Undo.{IsAfterUndo, IsUndone, IsUndoneAt, refusal_of_rev, refusal_over}
+use Rattle.st_world.specs.Kept.{Unless}
+use Rattle.st_world.specs.Undo.{IsAfterUndo, IsUndone, IsUndoneAt, refusal_of_rev, refusal_over}
 use Rattle.st_lists.specs.declared.lists.Transaction.{Transaction}
-use Rattle.st_trace.specs.Branches.{IsMerged, IsRebased, drop_branch, fork, refusal_to_fork, refusal_to_merge, refusal_to_rebase}
+use Rattle.st_world.specs.Branches.{IsMerged, IsRebased, drop_branch, fork, refusal_to_fork, refusal_to_merge, refusal_to_rebase}
 use Rattle.st_lists.specs.Clients.{with_ack, next_rev, place_of, client_named}
 use Rattle.st_lists.specs.Names.{names_in_text}
-use Rattle.st_trace.specs.declared.client.EditWord.{EditWord}
+use Rattle.st_world.specs.declared.edit_word.EditWord.{EditWord}
 use Rattle.st_lists.specs.declared.lists.Client.{Client}
 use Rattle.st_lists.specs.declared.lists.Entry.{Entry}
 use Rattle.st_lists.specs.declared.lists.WorldState.{WorldState}
@@ -38,10 +38,10 @@ use Rattle.st_trace.proofs.Stepping.{start_of}
 use Rattle.st_lists.specs.declared.lists.Body.{Body}
 use Rattle.st_schema_laws.proofs.SchemasKept.{shown_allowed}
 use Rattle.st_schema_laws.proofs.Read.{read_as_told}
-use Rattle.st_trace.specs.Schemas.{HasReading}
-use Rattle.st_trace.specs.Upgrade.{upgrade}
+use Rattle.st_plain_schemas.specs.Schemas.{HasReading}
+use Rattle.st_world.specs.Upgrade.{upgrade}
 use Rattle.st_edits.specs.InEffect.{schema_in_effect}
-use Rattle.st_trace.proofs.Effect.{shown_conforms, shown_in_form}
+use Rattle.st_world_laws.proofs.Effect.{shown_conforms, shown_in_form}
 use Rattle.st_schema.specs.Conforms.{conforms}
 
 -- the text of what a line shows is that of a tree which the schema in effect there allows

@@ -1,68 +1,64 @@
 -- The world after a step of one client.
-use Rattle.std.proofs.Common.{Bool, IfSome, List, None, Option, Some, [], ap, append_assoc, arith, cond, false, length, length-append, nat_le, nat_lt, refl, subst, sym, true, ℕ, ◌&&◌, ◌++◌, ◌+◌, ◌<◌, ◌∙◌, ◌∷◌, ◌≡◌, ◌≢◌, ◌≤◌}
-use Rattle.std.specs.Prelude.{is_some, min, not, ◌-◌, ◌^◌, nat_eq}
-use Rattle.st_lists.specs.Lines.{Line, own_of}
-use Rattle.st_trace.specs.World.{AtClient, AtLine, ByConnected, IsNext, OnLine, act_of_none, branch_at, opening_document, refusal_to_reconnect, sequence}
+use Rattle.std.proofs.Common.{Bool, IfSome, List, None, Option, Some, [], ap, arith, false, length, length-append, refl, subst, sym, true, ℕ, ◌&&◌, ◌++◌, ◌+◌, ◌<◌, ◌∙◌, ◌∷◌, ◌≡◌, ◌≢◌, ◌≤◌}
+use Rattle.std.specs.Prelude.{min, not, ◌-◌, ◌^◌, nat_eq}
+use Rattle.st_lists.specs.Lines.{Line}
+use Rattle.st_world.specs.World.{AtClient, AtLine, ByConnected, IsNext, OnLine, act_of_none, branch_at, opening_document, sequence}
 use Rattle.std.specs.List.{AllByRecursion, cons_option, remove, slice_get, slice_set}
 use Rattle.std.specs.BTreeMap.{BTreeMap}
 use Rattle.std.specs.Option.{option_map}
 use Rattle.std.specs.Cmp.Lexicographic.{pointwise}
 use Rattle.std.proofs.Math.ListN.{length-set}
-use Rattle.std.proofs.lemmas.Bool.Decides.{nat_tests}
 use Rattle.std.proofs.lemmas.List.{append-nil}
 use Rattle.std.proofs.lemmas.List.Quantifiers.{position-Some}
 use Rattle.st_ids.specs.Listing.{Has}
 use Rattle.st_ids.specs.declared.names.Limit.{Limit}
-use Rattle.st_ids.specs.declared.names.LimitOf.TheVariants.{Log, Names}
 use Rattle.st_marks.specs.declared.intents.Intent.{Intent}
-use Rattle.st_marks.specs.Document.{Document, IsSoundInForm}
+use Rattle.st_marks.specs.Document.{IsSoundInForm}
 use Rattle.st_ids.specs.Root.{opening}
 use Rattle.st_marks.specs.Intent.{Fits}
 use Rattle.st_marks.specs.Run.{Run}
 use Rattle.st_log_laws.specs.Names.{HaveNewRevisions}
 use Rattle.st_log_laws.specs.Turns.{FitInTurn}
-use Rattle.st_log_laws.proofs.Shorter.{sublist_itself, sublist_joined, sublist_none, new_shorter}
-use Rattle.st_log_laws.proofs.Turns.{front, rest as rest_fit, turn_extends}
+use Rattle.st_log_laws.proofs.Turns.{rest as rest_fit, turn_extends}
 use Rattle.st_doc.specs.Doc.{document_of}
 use Rattle.st_doc.specs.declared.doc.Doc.{Doc}
 use Rattle.st_script.specs.Header.{HeaderView, header_view}
 use Rattle.st_script.specs.declared.answer.Answer.{Answer}
 use Rattle.st_script.specs.declared.answer.Answer.TheVariants.{No}
-use Rattle.st_script.specs.declared.refusal.Refusal.{Refusal}
-use Rattle.st_script.specs.declared.refusal.Refusal.TheVariants.{Connected, Limit as OverLimit, NotConnected, NothingToSend, NoBranch, Unfinished}
+use Rattle.st_script.specs.declared.refusal.Refusal.TheVariants.{NotConnected, NothingToSend, NoBranch}
 use Rattle.st_script.specs.Steps.{StepView}
-use Rattle.st_trace.specs.Schemas.{HasReading}
-use Rattle.st_trace.specs.declared.known.KnownSchema.{KnownSchema}
-use Rattle.st_trace.specs.Replicas.{AreReplicas, HaveOwnSessions, IsClient, IsEntryOf, IsReplicaOf, IsSound, IsSoundAfter, KeepToSchemas}
-use Rattle.st_lists.specs.Log.{commit_in, commits_of_text, connected_after, intents_of, is_text, log_and_waiting, minimum, sessions_in, waiting, commits_in, log_with}
+use Rattle.st_plain_schemas.specs.Schemas.{HasReading}
+use Rattle.st_plain_schemas.specs.declared.known.KnownSchema.{KnownSchema}
+use Rattle.st_trace.specs.Replicas.{AreReplicas, IsReplicaOf, IsSound, IsSoundAfter}
+use Rattle.st_world_laws.specs.Worlds.{HaveOwnSessions, IsClient, IsEntryOf, KeepToSchemas}
+use Rattle.st_lists.specs.Log.{commit_in, commits_of_text, connected_after, is_text, minimum, sessions_in, commits_in, log_with}
 use Rattle.st_lists.specs.Known.{AreConnected, AreKnown}
 use Rattle.st_lists.proofs.Minima.{minima_more}
-use Rattle.st_lists.proofs.Present.{all_rest, connected_goes, connected_joined, connected_left, connected_stays, distinct_more, distinct_rest, distinct_set, rest_fewer, session_given, session_of, sessions_entered, text_stays}
-use Rattle.st_ids.proofs.Shared.{at_has}
+use Rattle.st_lists.proofs.Present.{all_rest, connected_goes, connected_joined, connected_left, connected_stays, distinct_more, distinct_rest, distinct_set, rest_fewer, session_of, sessions_entered, text_stays}
 use Rattle.st_marks.proofs.Members.{all-has}
 use Rattle.st_lists.specs.Clients.{new_client, place_of, with_connection, without_connection}
-use Rattle.st_lists.specs.Limits.{entries_limit_passed, log_limit_passed}
+use Rattle.st_lists.specs.Limits.{log_limit_passed}
 use Rattle.st_lists.specs.Names.{names_in, names_in_text}
 use Rattle.st_heads.specs.declared.replica.Replica.{Replica}
 use Rattle.st_lists.specs.declared.lists.Body.TheVariants.{Join, Leave}
 use Rattle.st_lists.specs.declared.lists.Client.{Client}
-use Rattle.st_lists.specs.declared.lists.Entry.{Entry}
-use Rattle.st_lists.specs.declared.lists.Transaction.{Transaction}
 use Rattle.st_lists.specs.declared.lists.WorldState.{WorldState}
 use Rattle.st_trace.specs.declared.world.World.{World}
-use Rattle.st_trace.proofs.Agreed.{dropped_keeps, joined_keeps, left_keeps, returned_keeps, sent_keeps}
-use Rattle.st_trace.proofs.Begun.{IsStart, opened_start}
-use Rattle.st_trace.proofs.Clients.{client_joined, client_offline, client_returned, queue_first}
+use Rattle.st_world_laws.proofs.Agreed.{dropped_keeps, joined_keeps, left_keeps, returned_keeps, sent_keeps}
+use Rattle.st_world_laws.proofs.Begun.{IsStart, opened_start}
+use Rattle.st_world_laws.proofs.Clients.{client_joined, client_offline, client_returned}
 use Rattle.st_lists.proofs.Names.{names_append, names_of_text}
-use Rattle.st_trace.proofs.Everyone.{all_after_text, all_as, all_get, all_sent, all_set, clients_of, kept_at, kept_none, kept_push, kept_set, kept_some, kept_without, past, set_same}
-use Rattle.st_trace.proofs.Keeping.{AreOne, kept_joined, kept_offline, kept_returned, run_more}
+use Rattle.st_trace.proofs.Everyone.{all_after_text, all_sent, clients_of, kept_at, kept_none, kept_push, kept_set, kept_some, kept_without}
+use Rattle.st_world_laws.proofs.Everyone.{all_as, all_get, all_set, past, set_same}
+use Rattle.st_trace.proofs.Keeping.{AreOne, kept_joined, kept_offline, kept_returned}
 use Rattle.st_lists.proofs.Logs.{entered_commits, last_entry}
 use Rattle.st_lemmas.proofs.Lists.{AllByRecursion-append}
 use Rattle.st_lists.specs.declared.lists.Body.{Body}
 use Rattle.st_ids.specs.declared.names.Rev.{Rev}
-use Rattle.st_trace.specs.declared.logged.Logged.{Logged}
-use Rattle.st_trace.specs.inside.Replicas.{HasCaughtUp, HasEntered, HasLogged, IsNewReplica}
-use Rattle.st_trace.proofs.Noting.{entered_of, logged_entered, logged_none, place_among}
+use Rattle.st_plain_undo.specs.declared.logged.Logged.{Logged}
+use Rattle.st_plain_log.specs.Receiving.{HasCaughtUp, IsNewReplica}
+use Rattle.st_trace.specs.inside.Replicas.{HasLogged}
+use Rattle.st_trace.proofs.Noting.{entered_of, logged_entered, logged_none}
 
 abbrev pub start_of : (w : World) (steps : ℕ) → IsSoundAfter steps w → IsStart (opening_document (header_view w.header))
 start_of w steps s = opened_start (header_view w.header) s.header
@@ -126,33 +122,6 @@ pub sound_client : (w : World) (i : ℕ) (c c' : Client) (k' : Replica) → IsSo
     → KeepToSchemas (header_view w.header) (HasReading w.schemas) w.lists.log (slice_set w.lists.clients i c') → IsSoundAfter (w.steps + 1) (record w { lists = record w.lists { clients = slice_set w.lists.clients i c' }; kept = slice_set w.kept i k' })
 sound_client w i c c' k' s at one session connected ids forks keeps = sound_client_with w i c c' k' w.schemas s at one session connected ids forks keeps
 
--- ## A text enters the log
-
--- the oldest text of a client, after the commits of the log
-pub record IsLast (h : HeaderView) (log : List Entry) (c : Client) (text : Body) : Type 0 where
-  pub fit : FitInTurn (opening_document h) (commits_in log ++ commits_of_text text)
-  pub new : HaveNewRevisions (opening ∷ []) (commits_in log ++ commits_of_text text)
-  pub session : IfSome (commit_in text) (λ N. N.rev.session ≡ c.session)
-
-pub is_last : (h : HeaderView) (log : List Entry) (c : Client) (text : Body) (rest : List Body) → IsClient h log c → c.queue ≡ text ∷ rest → IsLast h log c text
-is_last h log c text rest k is =
-    let L = commits_in log in
-    let X = commits_of_text text in
-    let R = intents_of rest in
-    let first : waiting log c ≡ X ++ R = (queue_first (waiting log c) c.connected c.queue rest text k.queued is).1 in
-    let all : log_and_waiting log c ≡ (L ++ X) ++ R = ap (λ l. L ++ l) first ∙ sym (append_assoc L X R) in
-    let W = own_of c.branches in
-    let whole = subst (HaveNewRevisions (opening ∷ [])) (ap (λ l. l ++ W) all ∙ append_assoc (L ++ X) R W) k.new in
-    record {
-      fit = front (L ++ X) R (opening_document h) (subst (FitInTurn (opening_document h)) all k.sent_fit);
-      new = subst (HaveNewRevisions (opening ∷ [])) (append-nil (L ++ X)) (new_shorter (opening ∷ []) ((L ++ X) ++ []) ((L ++ X) ++ (R ++ W)) (sublist_joined (sublist_itself (L ++ X)) (sublist_none (R ++ W))) whole);
-      session = mine (commit_in text) R (subst (AllByRecursion (λ (M : Intent). M.rev.session ≡ c.session)) first k.own);
-    }
-  where
-    mine : (o : Option Intent) (R : List Intent) → AllByRecursion (λ (M : Intent). M.rev.session ≡ c.session) (cons_option o [] ++ R) → IfSome o (λ N. N.rev.session ≡ c.session)
-    mine None R p = tt
-    mine (Some N) R p = p.0
-
 -- it fits the document after the whole log, which is sound in form
 pub head_sound : (w : World) → IsSound w → IsSoundInForm (document_of w.log_document)
 head_sound w s = (turn_extends (start_of w w.steps s).sound s.log_fit s.log_document).after
@@ -166,35 +135,6 @@ head_fits w i c text rest s at is =
     first None f = tt
     first (Some N) f = f.0
 
--- the document after a text
-pub run_entered : (O D E : Document) (L : List Intent) (o : Option Intent) → Run O L D → HasEntered D o E → Run O (L ++ cons_option o []) E
-run_entered O D E L None r e = subst (λ (F : Document). Run O (L ++ []) F) (sym e) (subst (λ l. Run O l D) (sym (append-nil L)) r)
-run_entered O D E L (Some N) r e = run_more N E e.0 r e.1 e.2
-
--- a text that passes no limit
-pub within_log : (log : List Entry) (made : ℕ) → log_limit_passed log made ≡ None → (length log < 65535) × (names_in (commits_in log) + made ≤ 131072)
-within_log log made e = go (nat_le 65535 (length log)) refl (nat_lt 131072 (names_in (commits_in log) + made)) refl e
-  where
-    go : (a : Bool) → nat_le 65535 (length log) ≡ a → (b : Bool) → nat_lt 131072 (names_in (commits_in log) + made) ≡ b
-        → ◌≡◌ {A = Option Limit} (cond a (Some (record { of = Log; kept = length log })) (cond b (Some (record { of = Names; kept = names_in (commits_in log) })) None)) None
-        → (length log < 65535) × (names_in (commits_in log) + made ≤ 131072)
-    go true p b q e = absurd (cc)
-    go false p true q e = absurd (cc)
-    go false p false q e = (few p, few_names q)
-      where
-        few : nat_le 65535 (length log) ≡ false → length log < 65535
-        few p = grind (arith, nat_tests)
-
-        few_names : nat_lt 131072 (names_in (commits_in log) + made) ≡ false → names_in (commits_in log) + made ≤ 131072
-        few_names q = grind (arith, nat_tests)
-
--- a count that stops at a number's end passes the limit where the whole count does
-pub limit_stopped : (log : List Entry) (made : ℕ) → log_limit_passed log (min made (2 ^ 64 - 1)) ≡ log_limit_passed log made
-limit_stopped log made = ap (λ b. cond (nat_le 65535 (length log)) (Some (record { of = Log; kept = length log })) (cond b (Some (record { of = Names; kept = names_in (commits_in log) })) None)) (same (names_in (commits_in log)))
-  where
-    same : (n : ℕ) → nat_lt 131072 (n + min made (2 ^ 64 - 1)) ≡ nat_lt 131072 (n + made)
-    same n = grind (arith, nat_tests)
-
 -- who is connected is so still
 pub sent_connected : (w : World) (i : ℕ) (c c' : Client) (text : Body) → IsSound w → slice_get w.lists.clients i ≡ Some c → c.queue ≡ text ∷ c'.queue → c' ≡ record c { queue = c'.queue }
     → AreConnected (log_with w.lists.log c.session text) (slice_set w.lists.clients i c')
@@ -206,9 +146,6 @@ sent_connected w i c c' text s at is is_c =
 -- a client's session is one of those that the log has given, with one entry more too
 given_here : (w : World) (i : ℕ) (c : Client) → IsSound w → slice_get w.lists.clients i ≡ Some c → c.session ≤ sessions_in w.lists.log
 given_here w i c s at = all_get (λ (x : Client). x.session ≤ sessions_in w.lists.log) w.lists.clients i c s.given at
-
-pub given_still : (log : List Entry) (session : ℕ) (body : Body) (cs : List Client) → AllByRecursion (λ (c : Client). c.session ≤ sessions_in log) cs → AllByRecursion (λ (c : Client). c.session ≤ sessions_in (log_with log session body)) cs
-given_still log session body cs all = all_as (λ (c : Client). c.session ≤ sessions_in log) (λ (c : Client). c.session ≤ sessions_in (log_with log session body)) cs (λ c p. omega (arith, p, sessions_entered log session body)) all
 
 pub sound_sent : (w : World) (i : ℕ) (c c' : Client) (text : Body) (log_document : Doc) (known : BTreeMap ℕ ℕ) (logged : BTreeMap Rev Logged) → IsSound w → slice_get w.lists.clients i ≡ Some c → c.queue ≡ text ∷ c'.queue → c' ≡ record c { queue = c'.queue }
     → length w.lists.log < 65535 → names_in (commits_in w.lists.log) + names_in_text text ≤ 131072 → HasLogged (document_of w.log_document) w.logged (length w.lists.log + 1) (commit_in text) (document_of log_document) logged
@@ -263,33 +200,6 @@ sound_sent w i c c' text log_document known logged s at is is_c few few_names no
       minima = minima_more log w.minima c.session text (minimum (log_with log c.session text)) refl s.minima;
       logged = logged_entered (opening_document h) (document_of w.log_document) (document_of log_document) log c.session text w.logged s.logged logged last.new s.log_document noted;
     }
-
--- ## Sessions come and go
-
--- the log has room for one entry more
-pub within_entries : (log : List Entry) → entries_limit_passed log ≡ None → length log < 65535
-within_entries log e = go (nat_le 65535 (length log)) refl e
-  where
-    go : (b : Bool) → nat_le 65535 (length log) ≡ b → ◌≡◌ {A = Option Limit} (cond b (Some (record { of = Log; kept = length log })) None) None → length log < 65535
-    go true p e = absurd (cc)
-    go false p e = grind (arith, nat_tests)
-
--- a client may reconnect that isn't connected, and has no transaction open
-pub may_reconnect : (log : List Entry) (c : Client) → refusal_to_reconnect log c ≡ None → ((c.connected ≡ false) × (c.transaction ≡ None)) × (length log < 65535)
-may_reconnect log c e = let r = go c.connected c.transaction (entries_limit_passed log) e in ((r.0, r.1), within_entries log r.2)
-  where
-    go : (b : Bool) (t : Option Transaction) (o : Option Limit) → ◌≡◌ {A = Option Refusal} (cond b (Some Connected) (cond (is_some t) (Some Unfinished) (option_map (λ l. OverLimit l) o))) None → (b ≡ false) × (t ≡ None) × (o ≡ None)
-    go true t o e = cc
-    go false (Some t) o e = cc
-    go false None (Some l) e = cc
-    go false None None e = (refl, refl, refl)
-
--- a commit of the log is of one of the sessions that it has given
-pub of_sessions : (log : List Entry) (N : Intent) → AllByRecursion IsEntryOf log → Has (commits_in log) N → N.rev.session ≤ sessions_in log
-of_sessions log N all i =
-    let p = place_among log N i in
-    let own : N.rev.session ≡ p.1.session = subst (λ o. IfSome o (λ (M : Intent). M.rev.session ≡ p.1.session)) p.3 (all_get IsEntryOf log p.0 p.1 all p.2) in
-    omega (arith, own, session_given log p.1 (at_has log p.0 p.1 p.2))
 
 -- an entry without a commit, after which the clients are so, and what is kept of them
 pub record IsAfterEntry (w : World) (session : ℕ) (body : Body) (cs : List Client) (ks : List Replica) (refs : BTreeMap ℕ ℕ) (count : ℕ) : Type 0 where

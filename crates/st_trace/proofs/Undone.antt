@@ -19,21 +19,23 @@ use Rattle.st_lists.specs.declared.lists.Client.{Client}
 use Rattle.st_lists.specs.declared.lists.Entry.{Entry}
 use Rattle.st_lists.specs.declared.lists.Transaction.{Transaction}
 use Rattle.st_lists.specs.declared.lists.WorldState.{WorldState}
-use Rattle.st_trace.specs.Kept.{Unless}
+use Rattle.st_world.specs.Kept.{Unless}
 use Rattle.st_trace.specs.Replicas.{IsReplicaOf, IsSound, IsSoundAfter}
-use Rattle.st_trace.specs.Schemas.{HasReading}
-use Rattle.st_trace.specs.Undo.{IsAfterUndo, IsUndoneAt, refusal_of_rev}
-use Rattle.st_trace.specs.World.{AtRefusal, IsUndoneBy, opening_document}
+use Rattle.st_plain_schemas.specs.Schemas.{HasReading}
+use Rattle.st_world.specs.Undo.{IsAfterUndo, IsUndoneAt, refusal_of_rev}
+use Rattle.st_world.specs.World.{AtRefusal, IsUndoneBy, opening_document}
 use Rattle.st_edits.specs.InEffect.{last_in_effect}
 use Rattle.st_heads.specs.declared.replica.Replica.{Replica}
 use Rattle.st_trace.specs.declared.world.World.{World}
-use Rattle.st_trace.specs.inside.Undo.{HasUndone, logged_of, undo_in, way_over}
+use Rattle.st_plain_undo.specs.Undo.{HasUndone, logged_of, undo_in, way_over}
 use Rattle.st_trace.proofs.Acting.{one_at, sound_goes, stays_kept}
-use Rattle.st_trace.proofs.Everyone.{clients_of, kept_none, set_same}
-use Rattle.st_trace.proofs.Going.{ack_goes, undo_goes}
+use Rattle.st_trace.proofs.Everyone.{clients_of, kept_none}
+use Rattle.st_world_laws.proofs.Everyone.{set_same}
+use Rattle.st_world_laws.proofs.Going.{ack_goes, undo_goes}
 use Rattle.st_trace.proofs.Keeping.{AreOne, kept_committed, kept_main, kept_rest}
 use Rattle.st_trace.proofs.Stepping.{start_of}
-use Rattle.st_trace.proofs.Undoing.{Meets, over_meets, undoing_makes_none}
+use Rattle.st_trace.proofs.Undoing.{Meets, over_meets}
+use Rattle.st_world_laws.proofs.Undoing.{undoing_makes_none}
 
 -- ## An undo
 

@@ -32,24 +32,26 @@ use Rattle.st_lists.specs.declared.lists.WorldState.{WorldState}
 use Rattle.st_edits.specs.InEffect.{empty_schema, schema_in_effect}
 use Rattle.st_schema_laws.proofs.Entries.{entries_count}
 use Rattle.st_schema_laws.proofs.Texts.{schema_text}
-use Rattle.st_trace.specs.Replicas.{IsClient, IsSound, IsSoundAfter}
-use Rattle.st_trace.specs.Schemas.{HasReading}
-use Rattle.st_trace.specs.Upgrade.{change_of_schema, refusal_to_upgrade, upgrade}
-use Rattle.st_trace.specs.World.{AtRefusal, HasShown, IsUpgradedBy, opening_document}
+use Rattle.st_world_laws.specs.Worlds.{IsClient}
+use Rattle.st_trace.specs.Replicas.{IsSound, IsSoundAfter}
+use Rattle.st_plain_schemas.specs.Schemas.{HasReading}
+use Rattle.st_world.specs.Upgrade.{change_of_schema, refusal_to_upgrade, upgrade}
+use Rattle.st_world.specs.World.{AtRefusal, HasShown, IsUpgradedBy, opening_document}
 use Rattle.st_edits.specs.InEffect.{last_in_effect}
-use Rattle.st_trace.specs.inside.Upgrade.{HasKeptOf, HasUpgraded, IsKeptBeside}
-use Rattle.st_trace.specs.declared.known.KnownSchema.{KnownSchema}
+use Rattle.st_plain_schemas.specs.Upgrade.{HasKeptOf, HasUpgraded, IsKeptBeside}
+use Rattle.st_plain_schemas.specs.declared.known.KnownSchema.{KnownSchema}
 use Rattle.st_heads.specs.declared.replica.Replica.{Replica}
 use Rattle.st_trace.specs.declared.world.World.{World}
 use Rattle.st_trace.proofs.Acting.{one_at, shown, shown_of}
-use Rattle.st_trace.proofs.Everyone.{clients_of, set_same}
+use Rattle.st_trace.proofs.Everyone.{clients_of}
+use Rattle.st_world_laws.proofs.Everyone.{set_same}
 use Rattle.st_trace.proofs.Keeping.{AreOne, kept_committed, kept_main}
 use Rattle.st_trace.proofs.Knowing.{known_schema, known_some, same_schemas}
-use Rattle.st_trace.proofs.Leading.{may_upgrade}
+use Rattle.st_world_laws.proofs.Leading.{may_upgrade}
 use Rattle.st_trace.proofs.Refusing.{refusal_as}
 use Rattle.st_trace.proofs.Stepping.{sound_client_with, sound_later, start_of}
-use Rattle.st_trace.proofs.Telling.{turn_intents}
-use Rattle.st_trace.proofs.Upgrading.{upgrade_fits, upgrade_goes}
+use Rattle.st_world_laws.proofs.Telling.{turn_intents}
+use Rattle.st_world_laws.proofs.Upgrading.{upgrade_fits, upgrade_goes}
 
 -- ## What is asked of two documents with the same schemas
 

@@ -1,10 +1,2 @@
-pub mod Kept
-pub mod Logged
 pub mod Replicas
-pub mod Schemas
-pub mod Undo
-pub mod Upgrade
-pub mod World
 pub mod inside
-pub mod Branches
-pub mod Texts

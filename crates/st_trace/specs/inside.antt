@@ -1,7 +1,2 @@
--- The words of loops and of private functions: no public contract reaches them.
-pub mod Edits
+-- The words of private functions: no public contract reaches them.
 pub mod Replicas
-pub mod Undo
-pub mod Upgrade
-pub mod Branches
-pub mod BranchEdits

@@ -4,16 +4,16 @@ ghost use Rattle.st_script.specs.Header.{header_view};
 ghost use Rattle.st_script.specs.Steps as act;
 ghost use Rattle.st_script.specs.Steps.{IsEditWithin, edit_view};
 ghost use Rattle.st_lists.specs.Lines.{Line, line_of};
-ghost use Rattle.st_trace.specs.World.{IsActOf, AtRefusal};
+ghost use Rattle.st_world.specs.World.{IsActOf, AtRefusal};
 ghost use Rattle.st_trace.specs.Replicas.{IsSound};
 ghost use Rattle.st_trace.specs.inside.Replicas.{IsSoundNext};
 ghost use Rattle.st_lists.specs.declared.lists.Client.{Client as Present};
 
-use crate::branch_edits;
-use crate::branches::head_of;
-use crate::known::schema_of;
 use crate::world::World;
 use st_ids::Path;
+use st_plain_branches::head_of;
+use st_plain_edits::branch_edits;
+use st_plain_schemas::schema_of;
 use st_script::{Answer, EditAct, Refusal};
 use std::alloc::{AllocError, Global};
 

@@ -3,13 +3,13 @@ ghost use Rattle.std.specs.Prelude.{◌≡◌, ◌+◌, ◌^◌, ◌<◌, Some, 
 ghost use Rattle.st_script.specs.Header.{header_view};
 ghost use Rattle.st_script.specs.Steps as act;
 ghost use Rattle.st_lists.specs.Lines.{Line, line_of};
-ghost use Rattle.st_trace.specs.World.{IsActOf, AtRefusal};
+ghost use Rattle.st_world.specs.World.{IsActOf, AtRefusal};
 ghost use Rattle.st_trace.specs.Replicas.{IsSound};
 ghost use Rattle.st_trace.specs.inside.Replicas.{IsSoundNext};
 ghost use Rattle.st_lists.specs.declared.lists.Client.{Client as Present};
 
-use crate::branches;
 use crate::world::World;
+use st_plain_branches as branches;
 use st_script::{Answer, Refusal};
 use std::alloc::{AllocError, Global};
 

@@ -4,16 +4,16 @@ ghost use Rattle.st_script.specs.Header.{header_view};
 ghost use Rattle.st_script.specs.Steps as act;
 ghost use Rattle.st_script.specs.Steps.{edit_view, IsEditWithin};
 ghost use Rattle.st_lists.specs.Lines.{main_line};
-ghost use Rattle.st_trace.specs.World.{IsActOf, AtRefusal};
+ghost use Rattle.st_world.specs.World.{IsActOf, AtRefusal};
 ghost use Rattle.st_trace.specs.Replicas.{IsSound};
 ghost use Rattle.st_trace.specs.inside.Replicas.{IsSoundNext};
 ghost use Rattle.st_lists.specs.declared.lists.Client.{Client as Present};
 
-use crate::edits::{self, last_in_effect};
-use crate::known::schema_of;
-use crate::transactions;
 use crate::world::World;
+use st_heads::last_in_effect;
 use st_ids::Path;
+use st_plain_edits as edits;
+use st_plain_schemas::schema_of;
 use st_script::{Answer, EditAct, Refusal};
 use std::alloc::{AllocError, Global};
 
@@ -68,7 +68,7 @@ impl World {
         let Some(client) = self.lists.clients.get_mut(i) else {
             return Ok(Answer::No(Refusal::NoClient));
         };
-        let answer = transactions::need(alloc, client, kept, at)?;
+        let answer = edits::need(alloc, client, kept, at)?;
         Ok(answer)
     }
 
@@ -91,7 +91,7 @@ impl World {
         let Some(client) = self.lists.clients.get_mut(i) else {
             return Answer::No(Refusal::NoClient);
         };
-        transactions::begin(client, under)
+        edits::begin(client, under)
     }
 
     // The client at a place commits its open transaction.
@@ -116,7 +116,7 @@ impl World {
         let Some(client) = self.lists.clients.get_mut(i) else {
             return Ok(Answer::No(Refusal::NoClient));
         };
-        let answer = transactions::commit(alloc, client, kept)?;
+        let answer = edits::commit(alloc, client, kept)?;
         Ok(answer)
     }
 
@@ -138,6 +138,6 @@ impl World {
         let Some(client) = self.lists.clients.get_mut(i) else {
             return Answer::No(Refusal::NoClient);
         };
-        transactions::abort(client, kept)
+        edits::abort(client, kept)
     }
 }

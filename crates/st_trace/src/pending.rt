@@ -3,18 +3,18 @@ ghost use Rattle.std.specs.Prelude.{◌≡◌, ℕ, List as Seq, Some, slice_get
 ghost use Rattle.st_doc.specs.Doc.{document_of};
 ghost use Rattle.st_log_laws.specs.Turns.{FitInTurn};
 ghost use Rattle.st_marks.specs.Document.{IsSoundInForm};
-ghost use Rattle.st_trace.specs.Texts.{AreTextsOf};
+ghost use Rattle.st_world.specs.Texts.{AreTextsOf};
 ghost use Rattle.st_script.specs.Header.{header_view};
-ghost use Rattle.st_trace.specs.World.{IsPendingTold};
+ghost use Rattle.st_world.specs.World.{IsPendingTold};
 ghost use Rattle.st_trace.specs.Replicas.{IsSound};
-ghost use Rattle.st_trace.specs.inside.Branches.{void_among};
+ghost use Rattle.st_plain_branches.specs.Branches.{void_among};
 ghost use Rattle.st_lists.specs.declared.lists.Client.{Client as Present};
 
-use crate::branches::void_revs;
-use crate::replica::Replica;
-use crate::texts::texts_in_turn;
 use crate::world::World;
+use st_heads::Replica;
 use st_lists::Client;
+use st_plain_branches::void_revs;
+use st_plain_log::texts_in_turn;
 use st_script::{Answer, Refusal};
 use std::alloc::{AllocError, Global};
 

@@ -8,16 +8,16 @@ ghost use Rattle.st_lists.specs.Known.{AreConnected, AreKnown};
 ghost use Rattle.st_lists.specs.Limits.{entries_limit_passed};
 ghost use Rattle.st_lists.specs.Log.{log_with, minimum};
 ghost use Rattle.st_lists.specs.Lines.{main_line};
-ghost use Rattle.st_trace.specs.World.{IsActOf, AtRefusal};
+ghost use Rattle.st_world.specs.World.{IsActOf, AtRefusal};
 ghost use Rattle.st_trace.specs.Replicas.{IsSound};
 ghost use Rattle.st_trace.specs.inside.Replicas.{IsSoundNext};
 ghost use Rattle.st_lists.specs.declared.lists.Client.{Client as Present};
 
-use crate::reconnecting::{catch_up, refusal_to_reconnect};
-use crate::replica::Replica;
 use crate::world::World;
+use st_heads::Replica;
 use st_ids::{Limit, LimitOf, List};
 use st_lists::{Body, Client, append_entry};
+use st_plain_log::{catch_up, refusal_to_reconnect};
 use st_script::{Answer, Refusal};
 use std::alloc::{AllocError, Global};
 

@@ -4,15 +4,15 @@ ghost use Rattle.st_script.specs.Header.{header_view};
 ghost use Rattle.st_script.specs.Steps as act;
 ghost use Rattle.st_lists.specs.Clients.{with_ack};
 ghost use Rattle.st_lists.specs.Lines.{main_line};
-ghost use Rattle.st_trace.specs.World.{IsActOf, AtRefusal};
+ghost use Rattle.st_world.specs.World.{IsActOf, AtRefusal};
 ghost use Rattle.st_trace.specs.Replicas.{IsSound};
 ghost use Rattle.st_trace.specs.inside.Replicas.{IsSoundNext};
 ghost use Rattle.st_lists.specs.declared.lists.Client.{Client as Present};
 
-use crate::undo;
 use crate::world::World;
 use st_ids::Rev;
 use st_lists::{Body, Client, floor};
+use st_plain_undo::undo;
 use st_script::{Answer, Refusal};
 use std::alloc::{AllocError, Global};
 
@@ -46,7 +46,7 @@ impl World {
             return Ok(Answer::No(Refusal::NoClient));
         };
         let low = floor(self.header.history, self.minima.as_slice(), client.received);
-        let answer = undo::undo(alloc, low, &self.logged, client, kept, rev)?;
+        let answer = undo(alloc, low, &self.logged, client, kept, rev)?;
         Ok(answer)
     }
 

@@ -3,14 +3,13 @@ ghost use Rattle.std.specs.Prelude.{◌≡◌, ◌+◌, ◌^◌, ◌<◌, Some, 
 ghost use Rattle.st_script.specs.Header.{header_view};
 ghost use Rattle.st_script.specs.Steps as act;
 ghost use Rattle.st_lists.specs.Lines.{main_line};
-ghost use Rattle.st_trace.specs.World.{IsActOf, AtRefusal};
+ghost use Rattle.st_world.specs.World.{IsActOf, AtRefusal};
 ghost use Rattle.st_trace.specs.Replicas.{IsSound};
 ghost use Rattle.st_trace.specs.inside.Replicas.{IsSoundNext};
 ghost use Rattle.st_lists.specs.declared.lists.Client.{Client as Present};
 
-use crate::known::schema_of;
-use crate::upgrade;
 use crate::world::World;
+use st_plain_schemas::{keep_upgrade, schema_of, upgrade};
 use st_schema::Schema;
 use st_script::{Answer, Refusal};
 use std::alloc::{AllocError, Global};
@@ -43,8 +42,8 @@ impl World {
         let Some(known) = schema_of(&self.schemas, &kept.main.doc) else {
             unreachable!()
         };
-        let answer = upgrade::upgrade(alloc, &known.schema, client, kept, schema)?;
-        upgrade::keep_upgrade(alloc, &mut self.schemas, &answer, schema)?;
+        let answer = upgrade(alloc, &known.schema, client, kept, schema)?;
+        keep_upgrade(alloc, &mut self.schemas, &answer, schema)?;
         Ok(answer)
     }
 }

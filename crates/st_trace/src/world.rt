@@ -9,26 +9,26 @@ ghost use Rattle.st_doc.specs.Doc.{document_of};
 ghost use Rattle.st_script.specs.Header.{header_view, may_open};
 ghost use Rattle.st_script.specs.Steps.{act_view, step_view, IsActWithin, IsWithinLimits};
 ghost use Rattle.st_lists.specs.Clients.{empty_state, place_of};
-ghost use Rattle.st_trace.specs.World.{opening_document, limit_refusal, join, sequence, act_of_none, branch_at, needs_connection, IsDelivered, IsShown, IsActOf, IsNext, AtRefusal, ShowsAllowed};
+ghost use Rattle.st_world.specs.World.{opening_document, limit_refusal, join, sequence, act_of_none, branch_at, needs_connection, IsDelivered, IsShown, IsActOf, IsNext, AtRefusal, ShowsAllowed};
 ghost use Rattle.st_lists.specs.Lines.{Line, line_of, main_line};
 ghost use Rattle.st_lists.specs.Names.{names_in_text};
 ghost use Rattle.st_lists.specs.Limits.{log_limit_passed};
-ghost use Rattle.st_trace.specs.Schemas.{HasReading};
-ghost use Rattle.st_trace.specs.Replicas.{IsHeader, IsSound};
+ghost use Rattle.st_plain_schemas.specs.Schemas.{HasReading};
+ghost use Rattle.st_world_laws.specs.Worlds.{IsHeader};
+ghost use Rattle.st_trace.specs.Replicas.{IsSound};
 ghost use Rattle.st_trace.specs.inside.Replicas.{HasLogged, IsSoundNext};
 ghost use Rattle.st_lists.specs.Known.{AreConnected, AreKnown};
 ghost use Rattle.st_lists.specs.Log.{commit_in, log_with, minimum};
 ghost use Rattle.st_lists.specs.declared.lists.Client.{Client as Present};
 
-use crate::branches::{head_of, line_state};
-use crate::known::{KnownSchema, keep, know, schema_of};
-use crate::logged::{Logged, log_commit};
-use crate::replica::Replica;
-use crate::{client, log_steps};
 use st_doc::Doc;
-use st_heads::carry_one;
+use st_heads::{Replica, carry_one};
 use st_ids::{Copied, Limit, LimitOf, List, Or, Rev, Text};
 use st_lists::{Body, Client, WorldState, append_entry, minimum, names_in_text};
+use st_plain_branches::{head_of, line_state};
+use st_plain_log::{add_client, add_replica, deliver, names_waiting, take_text};
+use st_plain_schemas::{KnownSchema, keep, know, schema_of};
+use st_plain_undo::{Logged, log_commit};
 use st_schema::Header;
 use st_script::{Act, Answer, Refusal, TraceStep};
 use std::alloc::{AllocError, Global};
@@ -234,7 +234,7 @@ impl World {
             return Ok(Answer::No(Refusal::NoClient));
         };
         let log = self.lists.log.as_slice();
-        let answer = log_steps::deliver(alloc, log, client, kept)?;
+        let answer = deliver(alloc, log, client, kept)?;
         Ok(answer)
     }
 
@@ -343,7 +343,7 @@ impl World {
         let Some(client) = self.lists.clients.get(i) else {
             return Ok(Answer::No(Refusal::NoClient));
         };
-        let Some(made) = log_steps::names_waiting(client) else {
+        let Some(made) = names_waiting(client) else {
             return Ok(Answer::No(Refusal::NothingToSend));
         };
         if let Some(limit) = self.limit_passed(made) {
@@ -353,7 +353,7 @@ impl World {
             return Ok(Answer::No(Refusal::NoClient));
         };
         let session = client.session;
-        match log_steps::take_text(client) {
+        match take_text(client) {
             None => Ok(Answer::No(Refusal::NothingToSend)),
             Some(text) => {
                 let answer = self.sequence_text(alloc, session, text)?;
@@ -384,8 +384,8 @@ impl World {
         let s = self.sessions + 1;
         append_entry(&mut self.lists.log, &mut self.known, s, Body::Join)?;
         let n = self.lists.log.len() as u32;
-        client::add_replica(alloc, &mut self.kept, &self.log_document)?;
-        client::add_client(alloc, &mut self.lists.clients, n, s, name)?;
+        add_replica(alloc, &mut self.kept, &self.log_document)?;
+        add_client(alloc, &mut self.lists.clients, n, s, name)?;
         self.keep_minimum()?;
         self.sessions = s;
         Ok(Answer::Join { n, s })

@@ -7,9 +7,9 @@ use Rattle.st_script.specs.Header.{HeaderView}
 use Rattle.st_script.specs.Steps.{StepView}
 use Rattle.st_script.specs.declared.answer.Answer.{Answer}
 use Rattle.st_script.specs.declared.answer.Answer.TheVariants as answer
-use Rattle.st_trace.specs.World.{IsNext}
+use Rattle.st_world.specs.World.{IsNext}
 use Rattle.st_lists.specs.declared.lists.WorldState.{WorldState}
-use Rattle.st_run.specs.Answers.{AnswersLine, OrCutShort, Output, cut_short}
+use Rattle.st_answers.specs.Answers.{AnswersLine, OrCutShort, Output, cut_short}
 
 -- ## One line
 

@@ -1,5 +1,5 @@
 use Rattle.std.proofs.Common.{◌≡◌, inr, refl}
-use Rattle.st_run.specs.Answers.{Output, bad_line}
+use Rattle.st_answers.specs.Answers.{Output, bad_line}
 use Rattle.st_run.proofs.Outputs.{nothing_is_output}
 use Rattle.st_run.proofs.bad.refuse.Goals as goal
 

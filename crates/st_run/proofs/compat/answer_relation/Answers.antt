@@ -1,6 +1,6 @@
 use Rattle.std.proofs.Common.{◌≡◌, inl, inr, refl}
 use Rattle.std.specs.Option.{option_copied}
-use Rattle.st_run.specs.Answers.{OrCutShort, AnswersThird, AnswersRelation, cut_short}
+use Rattle.st_answers.specs.Answers.{OrCutShort, AnswersThird, AnswersRelation, cut_short}
 use Rattle.st_run.proofs.Outputs.{output_more, output_in_part}
 use Rattle.st_run.proofs.compat.answer_relation.Goals as goal
 

@@ -1,8 +1,8 @@
 use Rattle.std.proofs.Common.{◌≡◌, ◌∙◌, Ok, Err, slice_get, refl}
 use Rattle.std.specs.Option.{option_copied}
 use Rattle.st_compat.specs.Compared.{IsCompared}
-use Rattle.st_run.specs.Lines.{cut}
-use Rattle.st_run.specs.Answers.{Output, OrCutShort, AnswersSchemas, IsOutput, bad_schema}
+use Rattle.st_answers.specs.Lines.{cut}
+use Rattle.st_answers.specs.Answers.{Output, OrCutShort, AnswersSchemas, IsOutput, bad_schema}
 use Rattle.st_run.proofs.Comparing.{second_line, third_line, compared_is_output}
 use Rattle.st_run.proofs.Outputs.{nothing_is_output}
 use Rattle.st_run.proofs.compat.answer_schemas.Goals as goal

@@ -1,6 +1,6 @@
 use Rattle.std.proofs.Common.{◌≡◌}
 use Rattle.st_compat.specs.SchemaLine.{further_cause}
-use Rattle.st_run.specs.Answers.{Output, bad_line}
+use Rattle.st_answers.specs.Answers.{Output, bad_line}
 use Rattle.st_run.proofs.Outputs.{nothing_is_output}
 use Rattle.st_run.proofs.compat.refuse_third.Goals as goal
 

@@ -1,5 +1,5 @@
 use Rattle.std.proofs.Common.{◌∙◌, ap}
-use Rattle.st_run.specs.Lines.{cut}
+use Rattle.st_answers.specs.Lines.{cut}
 use Rattle.st_run.proofs.LineSteps.{cut-rest}
 use Rattle.st_run.proofs.lines.after_line.Goals as goal
 

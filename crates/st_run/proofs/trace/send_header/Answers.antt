@@ -1,7 +1,7 @@
 use Rattle.std.proofs.Common.{◌≡◌, inr, refl}
 use Rattle.st_script.specs.AnswerText.{answer_line}
 use Rattle.st_script.specs.declared.answer.Answer.TheVariants as answer
-use Rattle.st_run.specs.Answers.{OrCutShort, AnswersHeader, cut_short}
+use Rattle.st_answers.specs.Answers.{OrCutShort, AnswersHeader, cut_short}
 use Rattle.st_run.specs.inside.Answers.{IsCutShort}
 use Rattle.st_run.proofs.Outputs.{nothing_is_output, output_in_part}
 use Rattle.st_run.proofs.trace.send_header.Goals as goal

@@ -2,7 +2,7 @@ use Rattle.std.proofs.Common.{◌≡◌, Ok, sym}
 use Rattle.st_script.specs.Header.{header_view}
 use Rattle.st_script.specs.Line.{step_of_line}
 use Rattle.st_script.specs.Steps.{step_view}
-use Rattle.st_run.specs.Answers.{AnswersLine}
+use Rattle.st_answers.specs.Answers.{AnswersLine}
 use Rattle.st_run.specs.inside.Answers.{IsCutShort}
 use Rattle.st_run.proofs.Outputs.{nothing_is_output}
 use Rattle.st_run.proofs.trace.take_line.Goals as goal

@@ -3,10 +3,10 @@ use Rattle.std.proofs.lemmas.Bool.Decides.{nat_tests}
 use Rattle.st_schema.specs.declared.header.Header.{Header}
 use Rattle.st_script.specs.Header.{header_view}
 use Rattle.st_script.specs.Line.{step_of_line}
-use Rattle.st_run.specs.Lines.{cut}
-use Rattle.st_run.specs.Answers.{AnswersFrom, OrCutShort, AnswersLine, IsOutput}
+use Rattle.st_answers.specs.Lines.{cut}
+use Rattle.st_answers.specs.Answers.{AnswersFrom, OrCutShort, AnswersLine, IsOutput}
 use Rattle.st_run.specs.inside.Answers.{EndsAtLine}
-use Rattle.st_run.specs.declared.outcome.Outcome.TheVariants.{Done}
+use Rattle.st_answers.specs.declared.outcome.Outcome.TheVariants.{Done}
 use Rattle.st_run.proofs.Outputs.{no_line_is_output, line_is_output, output_also, answered_more, ended_also, cut_short_from, after-shorter}
 use Rattle.st_run.proofs.trace.take_lines.Goals as goal
 

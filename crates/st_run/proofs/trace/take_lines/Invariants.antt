@@ -2,9 +2,9 @@
 use Rattle.std.proofs.Common.{◌≡◌, false, ℕ, ◌+◌, ◌≤◌, List, length, Option}
 use Rattle.st_script.specs.Header.{header_view}
 use Rattle.st_trace.specs.Replicas.{IsSound}
-use Rattle.st_run.specs.Lines.{cut}
-use Rattle.st_run.specs.Answers.{AnswersFrom, IsOutput}
-use Rattle.st_run.specs.declared.outcome.Outcome.{Outcome}
+use Rattle.st_answers.specs.Lines.{cut}
+use Rattle.st_answers.specs.Answers.{AnswersFrom, IsOutput}
+use Rattle.st_answers.specs.declared.outcome.Outcome.{Outcome}
 use Rattle.st_run.proofs.trace.take_lines.Given as goal
 
 abbrev pub invariant-loop-rest : goal.invariant-loop-rest

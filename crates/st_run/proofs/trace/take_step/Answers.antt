@@ -4,7 +4,7 @@ use Rattle.st_script.specs.Header.{header_view}
 use Rattle.st_script.specs.Line.{step_of_line}
 use Rattle.st_script.specs.Steps.{step_view}
 use Rattle.st_script.proofs.OfForm.{line_formed}
-use Rattle.st_run.specs.Answers.{AnswersLine, cut_short}
+use Rattle.st_answers.specs.Answers.{AnswersLine, cut_short}
 use Rattle.st_run.specs.inside.Answers.{IsCutShort, EndsAtLine}
 use Rattle.st_run.proofs.Outputs.{nothing_is_output, output_in_part, step_is_output}
 use Rattle.st_run.proofs.trace.take_step.Goals as goal

@@ -2,9 +2,9 @@ use Rattle.std.proofs.Common.{◌≡◌, Err, ◌<◌, length, arith, codes}
 use Rattle.std.proofs.lemmas.Bool.Decides.{nat_tests}
 use Rattle.st_script.specs.Header.{header_view, header_line}
 use Rattle.st_lists.specs.Clients.{empty_state}
-use Rattle.st_run.specs.Lines.{cut}
-use Rattle.st_run.specs.Answers.{Output, OrCutShort, AnswersOpening, AnswersHeader, AnswersFrom, bad_line}
-use Rattle.st_run.specs.declared.outcome.Outcome.TheVariants.{NoMemory}
+use Rattle.st_answers.specs.Lines.{cut}
+use Rattle.st_answers.specs.Answers.{Output, OrCutShort, AnswersOpening, AnswersHeader, AnswersFrom, bad_line}
+use Rattle.st_answers.specs.declared.outcome.Outcome.TheVariants.{NoMemory}
 use Rattle.st_run.proofs.Outputs.{output_head, output_also, nothing_is_output, no_header_is_output, header_is_output}
 use Rattle.st_run.proofs.trace.trace.Goals as goal
 

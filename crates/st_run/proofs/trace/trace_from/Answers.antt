@@ -4,8 +4,8 @@ use Rattle.st_script.specs.Header.{header_view}
 use Rattle.st_script.specs.declared.answer.Answer.TheVariants as answer
 use Rattle.st_lists.specs.Clients.{empty_state}
 use Rattle.st_lists.specs.declared.lists.WorldState.{WorldState}
-use Rattle.st_run.specs.Lines.{cut}
-use Rattle.st_run.specs.Answers.{OrCutShort, AnswersHeader, IsOutput, AnswersFrom}
+use Rattle.st_answers.specs.Lines.{cut}
+use Rattle.st_answers.specs.Answers.{OrCutShort, AnswersHeader, IsOutput, AnswersFrom}
 use Rattle.st_run.specs.inside.Answers.{IsCutShort}
 use Rattle.st_run.proofs.Outputs.{output_more, output_also, header_ended_also, cut_short_from}
 use Rattle.st_run.proofs.trace.trace_from.Goals as goal

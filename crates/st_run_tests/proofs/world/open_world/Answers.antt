@@ -1,5 +1,5 @@
 use Rattle.std.proofs.Common.{codes}
-use Rattle.st_trace.proofs.Begun.{header_opens}
+use Rattle.st_world_laws.proofs.Begun.{header_opens}
 use Rattle.st_run_tests.proofs.world.open_world.Goals as goal
 
 pub new-requires : goal.new-requires

@@ -2,7 +2,7 @@ use Rattle.std.proofs.Common.{◌∙◌, ap}
 use Rattle.st_tree.specs.Node.{view}
 use Rattle.st_tree.specs.Preorder.{opening_listed}
 use Rattle.st_opening.specs.Start.{start_of}
-use Rattle.st_trace.proofs.Begun.{opens_formed}
+use Rattle.st_world_laws.proofs.Begun.{opens_formed}
 use Rattle.st_trace.proofs.world.opening.Goals as goal
 
 pub start-requires-clause-form : goal.start-requires-clause-form

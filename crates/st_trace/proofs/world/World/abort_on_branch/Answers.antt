@@ -2,7 +2,8 @@ use Rattle.std.proofs.Common.{refl, sym, arith}
 use Rattle.st_trace.proofs.Acting.{one_at}
 use Rattle.st_trace.proofs.BranchActs.{counted}
 use Rattle.st_trace.proofs.BranchNext.{abort_next, abort_sound_on, abort_stays_on}
-use Rattle.st_trace.proofs.Everyone.{kept_none, set_same}
+use Rattle.st_trace.proofs.Everyone.{kept_none}
+use Rattle.st_world_laws.proofs.Everyone.{set_same}
 use Rattle.st_trace.proofs.Stepping.{sound_later}
 use Rattle.st_trace.proofs.world.World.abort_on_branch.Goals as goal
 

@@ -1,7 +1,8 @@
 use Rattle.std.proofs.Common.{refl, sym}
-use Rattle.st_trace.specs.World.{abort}
+use Rattle.st_world.specs.World.{abort}
 use Rattle.st_trace.proofs.Acting.{abort_refused, next_with, one_at, sound_abort, world_refused}
-use Rattle.st_trace.proofs.Everyone.{kept_none, set_same}
+use Rattle.st_trace.proofs.Everyone.{kept_none}
+use Rattle.st_world_laws.proofs.Everyone.{set_same}
 use Rattle.st_trace.proofs.Stepping.{sound_later}
 use Rattle.st_trace.proofs.world.World.abort_transaction.Goals as goal
 

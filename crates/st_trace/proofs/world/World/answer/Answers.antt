@@ -4,7 +4,7 @@ use Rattle.st_script.specs.Header.{header_view}
 use Rattle.st_script.specs.Steps.{step_view}
 use Rattle.st_script.specs.declared.answer.Answer.TheVariants.{No}
 use Rattle.st_script.specs.declared.refusal.Refusal.TheVariants.{NoBranch, NotConnected}
-use Rattle.st_trace.specs.World.{ByConnected, IsActOf, branch_at, needs_connection}
+use Rattle.st_world.specs.World.{ByConnected, IsActOf, branch_at, needs_connection}
 use Rattle.st_trace.proofs.Choosing.{no_line, some_line}
 use Rattle.st_trace.proofs.Stepping.{by_connected, is_there, next_none, next_present, not_connected, on_line, on_no_line, sound_later}
 use Rattle.st_trace.proofs.world.World.answer.Goals as goal

@@ -3,7 +3,7 @@ use Rattle.st_script.specs.Header.{header_view}
 use Rattle.st_script.specs.Steps.{act_view}
 use Rattle.st_script.specs.Steps as act
 use Rattle.st_lists.specs.Lines.{main_line}
-use Rattle.st_trace.specs.World.{IsActOf}
+use Rattle.st_world.specs.World.{IsActOf}
 use Rattle.st_trace.proofs.Choosing.{on_main_line}
 use Rattle.st_trace.proofs.Stepping.{sound_later}
 use Rattle.st_trace.proofs.world.World.answer_at.Goals as goal

@@ -2,7 +2,7 @@ use Rattle.std.proofs.Common.{ap, refl, subst, sym}
 use Rattle.st_script.specs.Header.{header_view}
 use Rattle.st_script.specs.Steps.{act_view, edit_view}
 use Rattle.st_script.specs.Steps as act
-use Rattle.st_trace.specs.World.{IsActOf}
+use Rattle.st_world.specs.World.{IsActOf}
 use Rattle.st_trace.proofs.Choosing.{as_act, as_whole}
 use Rattle.st_trace.proofs.Stepping.{sound_later}
 use Rattle.st_trace.proofs.world.World.answer_on_branch.Goals as goal

@@ -4,14 +4,14 @@ use Rattle.std.specs.List.{slice_get}
 use Rattle.st_ids.specs.Order.{rev_cmp}
 use Rattle.st_ids.specs.declared.names.Rev.{Rev}
 use Rattle.st_lists.specs.declared.lists.Entry.{Entry}
-use Rattle.st_trace.specs.declared.logged.Logged.{Logged}
+use Rattle.st_plain_undo.specs.declared.logged.Logged.{Logged}
 use Rattle.std.proofs.lemmas.Grind.{common_steps}
 use Rattle.st_marks.specs.Document.{Document}
 use Rattle.st_marks.specs.Run.{Run, done}
 use Rattle.st_script.specs.Header.{header_view}
-use Rattle.st_trace.specs.Schemas.{HasReading}
-use Rattle.st_trace.specs.World.{opening_document}
-use Rattle.st_trace.proofs.Agreed.{begun_keeps}
+use Rattle.st_plain_schemas.specs.Schemas.{HasReading}
+use Rattle.st_world.specs.World.{opening_document}
+use Rattle.st_world_laws.proofs.Agreed.{begun_keeps}
 use Rattle.st_trace.proofs.world.World.begin.Goals as goal
 
 pub returns-clause-sound : goal.returns-clause-sound

@@ -1,7 +1,7 @@
 use Rattle.std.proofs.Common.{◌≡◌, sym, arith}
 use Rattle.st_script.specs.Header.{header_view}
 use Rattle.st_lists.specs.Lines.{main_line}
-use Rattle.st_trace.specs.World.{begin}
+use Rattle.st_world.specs.World.{begin}
 use Rattle.st_edits.specs.InEffect.{last_in_effect}
 use Rattle.st_trace.proofs.Acting.{begun_as, begun_refused, few_ids, next_done, one_at, shown, shown_of, sound_begin}
 use Rattle.st_trace.proofs.Everyone.{kept_none}

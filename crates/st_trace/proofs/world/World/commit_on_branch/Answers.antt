@@ -1,7 +1,8 @@
 use Rattle.std.proofs.Common.{refl, sym}
 use Rattle.st_trace.proofs.BranchActs.{can_edit, commit_fits}
 use Rattle.st_trace.proofs.BranchNext.{commit_next, commit_sound_on, commit_stays_on}
-use Rattle.st_trace.proofs.Everyone.{kept_none, set_same}
+use Rattle.st_trace.proofs.Everyone.{kept_none}
+use Rattle.st_world_laws.proofs.Everyone.{set_same}
 use Rattle.st_trace.proofs.Stepping.{sound_later}
 use Rattle.st_trace.proofs.world.World.commit_on_branch.Goals as goal
 

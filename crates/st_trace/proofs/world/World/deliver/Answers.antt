@@ -3,8 +3,9 @@ use Rattle.std.specs.List.{slice_get}
 use Rattle.st_doc.specs.Doc.{document_of}
 use Rattle.st_script.specs.Header.{header_view}
 use Rattle.st_trace.proofs.Acting.{can_deliver, delivery_refused, next_delivered, one_at, sound_delivery, world_refused}
-use Rattle.st_trace.proofs.Clients.{received_sound}
-use Rattle.st_trace.proofs.Everyone.{kept_none, set_same}
+use Rattle.st_world_laws.proofs.Clients.{received_sound}
+use Rattle.st_trace.proofs.Everyone.{kept_none}
+use Rattle.st_world_laws.proofs.Everyone.{set_same}
 use Rattle.st_trace.proofs.Stepping.{sound_later, start_of}
 use Rattle.st_trace.proofs.world.World.deliver.Goals as goal
 

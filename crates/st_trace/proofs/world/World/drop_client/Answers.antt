@@ -1,5 +1,6 @@
 use Rattle.std.proofs.Common.{sym, ◌∙◌}
-use Rattle.st_trace.proofs.Stepping.{dropped_connected, sound_dropped, within_entries}
+use Rattle.st_trace.proofs.Stepping.{dropped_connected, sound_dropped}
+use Rattle.st_world_laws.proofs.Entering.{within_entries}
 use Rattle.st_trace.proofs.world.World.drop_client.Goals as goal
 
 pub enter-requires-clause-connected : goal.enter-requires-clause-connected

@@ -4,14 +4,15 @@ use Rattle.st_edits.specs.Resolve.{resolve}
 use Rattle.st_script.specs.Header.{header_view}
 use Rattle.st_lists.specs.Lines.{main_line}
 use Rattle.st_script.specs.Steps.{edit_view}
-use Rattle.st_trace.specs.inside.Edits.{edit_of}
-use Rattle.st_trace.specs.World.{IsAfterEdit, next_names, word_of}
+use Rattle.st_world.specs.Edits.{edit_of}
+use Rattle.st_world.specs.World.{IsAfterEdit, next_names, word_of}
 use Rattle.st_trace.proofs.Choosing.{next_edit, within_edit}
 use Rattle.st_trace.proofs.Acting.{edit_refused, few_ids, line_sound, next_done, numbers, one_at, shown, shown_of, sound_edit, world_refused}
 use Rattle.st_trace.proofs.KnownEdits.{done_known, kept_known, main_some, take_known}
 use Rattle.st_edits.specs.InEffect.{schema_in_effect}
 use Rattle.st_doc.specs.Doc.{document_of}
-use Rattle.st_trace.proofs.Everyone.{kept_none, set_same}
+use Rattle.st_trace.proofs.Everyone.{kept_none}
+use Rattle.st_world_laws.proofs.Everyone.{set_same}
 use Rattle.st_trace.proofs.Stepping.{sound_later}
 use Rattle.st_trace.proofs.world.World.edit.Goals as goal
 

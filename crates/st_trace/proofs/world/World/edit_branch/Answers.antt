@@ -8,7 +8,8 @@ use Rattle.st_trace.proofs.BranchShown.{head_some, known_there, same_some}
 use Rattle.st_trace.proofs.KnownEdits.{take_known_on, there_known}
 use Rattle.st_trace.proofs.BranchNext.{edit_next, edit_sound_on, edit_stays_on}
 use Rattle.st_trace.proofs.Choosing.{within_edit}
-use Rattle.st_trace.proofs.Everyone.{kept_none, set_same}
+use Rattle.st_trace.proofs.Everyone.{kept_none}
+use Rattle.st_world_laws.proofs.Everyone.{set_same}
 use Rattle.st_trace.proofs.Stepping.{sound_later}
 use Rattle.st_trace.proofs.world.World.edit_branch.Goals as goal
 

@@ -1,7 +1,8 @@
 use Rattle.std.proofs.Common.{refl, sym, arith}
 use Rattle.st_trace.proofs.Acting.{one_at}
 use Rattle.st_trace.proofs.BranchWorld.{few_forks, fork_next, forks_on, left_world, many}
-use Rattle.st_trace.proofs.Everyone.{kept_none, set_same}
+use Rattle.st_trace.proofs.Everyone.{kept_none}
+use Rattle.st_world_laws.proofs.Everyone.{set_same}
 use Rattle.st_trace.proofs.Stepping.{sound_later}
 use Rattle.st_trace.proofs.world.World.fork.Goals as goal
 

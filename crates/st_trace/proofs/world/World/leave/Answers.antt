@@ -2,7 +2,8 @@ use Rattle.std.proofs.Common.{sym, ◌∙◌, arith}
 use Rattle.std.proofs.lemmas.Option.{slice_get_within}
 use Rattle.st_script.specs.Header.{header_view}
 use Rattle.st_trace.proofs.Returning.{as_many_kept}
-use Rattle.st_trace.proofs.Stepping.{left_connected, sound_left, within_entries}
+use Rattle.st_trace.proofs.Stepping.{left_connected, sound_left}
+use Rattle.st_world_laws.proofs.Entering.{within_entries}
 use Rattle.st_trace.proofs.world.World.leave.Goals as goal
 
 pub remove_replica-requires : goal.remove_replica-requires

@@ -1,7 +1,8 @@
 use Rattle.std.proofs.Common.{refl, sym}
 use Rattle.st_trace.proofs.Acting.{one_at}
 use Rattle.st_trace.proofs.BranchWorld.{can_merge, few_own, left_world, many, merge_next, merges_on}
-use Rattle.st_trace.proofs.Everyone.{kept_none, set_same}
+use Rattle.st_trace.proofs.Everyone.{kept_none}
+use Rattle.st_world_laws.proofs.Everyone.{set_same}
 use Rattle.st_trace.proofs.Stepping.{sound_later}
 use Rattle.st_trace.proofs.world.World.merge.Goals as goal
 

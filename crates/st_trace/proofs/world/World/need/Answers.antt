@@ -2,10 +2,11 @@ use Rattle.std.proofs.Common.{refl, sym, arith}
 use Rattle.st_edits.specs.Resolve.{need}
 use Rattle.st_script.specs.Header.{header_view}
 use Rattle.st_lists.specs.Lines.{main_line}
-use Rattle.st_trace.specs.World.{IsAfterNeed, next_names}
-use Rattle.st_trace.specs.declared.client.EditWord.TheVariants as word
+use Rattle.st_world.specs.World.{IsAfterNeed, next_names}
+use Rattle.st_world.specs.declared.edit_word.EditWord.TheVariants as word
 use Rattle.st_trace.proofs.Acting.{can_take, few_ids, line_sound, need_meant, need_refused, next_done, one_at, shown, shown_of, sound_need, world_refused}
-use Rattle.st_trace.proofs.Everyone.{kept_none, set_same}
+use Rattle.st_trace.proofs.Everyone.{kept_none}
+use Rattle.st_world_laws.proofs.Everyone.{set_same}
 use Rattle.st_trace.proofs.Stepping.{sound_later}
 use Rattle.st_trace.proofs.world.World.need.Goals as goal
 

@@ -1,7 +1,9 @@
 use Rattle.std.proofs.Common.{refl, sym, ◌∙◌}
-use Rattle.st_trace.proofs.Everyone.{kept_none, set_same}
+use Rattle.st_trace.proofs.Everyone.{kept_none}
+use Rattle.st_world_laws.proofs.Everyone.{set_same}
 use Rattle.st_trace.proofs.Returning.{few_kept, few_pending, pending_kept, flight, here_sound, received_within, reconnect_refused, rest_fits, waiting_fits}
-use Rattle.st_trace.proofs.Stepping.{may_reconnect, returned_connected, sound_later, sound_returned}
+use Rattle.st_world_laws.proofs.Entering.{may_reconnect}
+use Rattle.st_trace.proofs.Stepping.{returned_connected, sound_later, sound_returned}
 use Rattle.st_trace.proofs.world.World.reconnect.Goals as goal
 
 pub returns-in_default-clause-next : goal.returns-in_default-clause-next

@@ -2,7 +2,8 @@ use Rattle.std.proofs.Common.{◌≡◌, refl, sym, arith}
 use Rattle.st_lists.specs.Log.{floor}
 use Rattle.st_script.specs.Header.{header_view}
 use Rattle.st_trace.proofs.Acting.{few_ids, line_sound, one_at, world_refused}
-use Rattle.st_trace.proofs.Everyone.{kept_none, set_same}
+use Rattle.st_trace.proofs.Everyone.{kept_none}
+use Rattle.st_world_laws.proofs.Everyone.{set_same}
 use Rattle.st_trace.proofs.Stepping.{sound_later}
 use Rattle.st_trace.proofs.Undone.{can_undo, next_undone, sound_undo, undo_done, undo_refused, way_by}
 use Rattle.st_trace.proofs.world.World.undo.Goals as goal

@@ -1,7 +1,8 @@
 use Rattle.std.proofs.Common.{refl, sym, arith}
 use Rattle.st_script.specs.Header.{header_view}
 use Rattle.st_trace.proofs.Acting.{few_ids, line_sound, one_at, shown, shown_of}
-use Rattle.st_trace.proofs.Everyone.{kept_none, set_same}
+use Rattle.st_trace.proofs.Everyone.{kept_none}
+use Rattle.st_world_laws.proofs.Everyone.{set_same}
 use Rattle.st_trace.proofs.Stepping.{sound_later}
 use Rattle.st_trace.proofs.Upgraded.{few_schemas, fits_main, known_is, known_there, next_upgraded, sound_upgrade, upgrade_leaves, upgraded_as}
 use Rattle.st_trace.proofs.world.World.upgrade.Goals as goal

@@ -1,0 +1,10 @@
+//! The commands of a program.
+
+/// What is asked for.
+#[derive(Clone, Copy)]
+pub enum Command {
+    /// The answers to a header and steps.
+    Trace,
+    /// The relation of two schemas.
+    Compat,
+}

@@ -1,0 +1,8 @@
+//! What is answered to an input, and what of it is written at each outcome.
+#![tactic(auto)]
+
+mod command;
+mod outcome;
+
+pub use command::Command;
+pub use outcome::Outcome;

@@ -1,8 +1,0 @@
-use Rattle.std.proofs.Common.{◌≡◌, take}
-use Rattle.std.specs.List.{fold}
-use Rattle.st_lists.specs.Clients.{with_commit}
-use Rattle.st_trace.proofs.branches.enqueue_all.Given as goal
-
--- the commits so far are pending
-abbrev pub invariant-loop-intent : goal.invariant-loop-intent
-invariant-loop-intent l = l.client ≡ fold (λ d N. with_commit d N) l.initial.client (take l.intent-index l.intents)
