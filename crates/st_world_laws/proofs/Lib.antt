@@ -13,6 +13,7 @@ pub mod Entering
 pub mod Everyone
 pub mod Forking
 pub mod Going
+pub mod GoingOn
 pub mod Leading
 pub mod LeadingBranches
 pub mod Limits

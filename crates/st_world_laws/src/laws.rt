@@ -18,3 +18,9 @@ pub fn each_step_leads_on()
     ensures { (h : HeaderView) (w : WorldState) (s : StepView) → IsWorld h w
         → (v : WorldState) × (a : Answer) × IsNext h w s v a × (KeepsRules s.act → IsWorld h v) }
 {}
+
+/// Whatever a step leads to from a world is a world again, unless the step brings in a schema that breaks the rules of schemas.
+pub fn worlds_go_on()
+    ensures { (h : HeaderView) (w v : WorldState) (s : StepView) (a : Answer) → IsWorld h w
+        → KeepsRules s.act → IsNext h w s v a → IsWorld h v }
+{}

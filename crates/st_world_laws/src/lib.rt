@@ -3,4 +3,4 @@
 
 mod laws;
 
-pub use laws::{each_step_leads_on, opened_worlds_are_worlds};
+pub use laws::{each_step_leads_on, opened_worlds_are_worlds, worlds_go_on};
