@@ -3,11 +3,7 @@ use Rattle.std.specs.Prelude.{◌≡◌, Option, Some, None}
 use Rattle.st_ids.specs.declared.names.Rev.{Rev}
 use Rattle.st_marks.specs.declared.intents.Intent.{Intent}
 use Rattle.st_marks.specs.CarryOut.{full}
-use Rattle.st_marks.specs.declared.verdicts.Verdict.{Verdict}
-use Rattle.st_marks.specs.Document.{Document, HasShortRows, IsSoundInForm}
-use Rattle.st_marks.specs.Intent.{Fits}
-use Rattle.st_marks.specs.Join.{IsJoin}
-use Rattle.st_marks.specs.Verdict.{IsVerdict}
+use Rattle.st_marks.specs.Document.{IsSoundInForm}
 use Rattle.st_doc.specs.declared.doc.Doc.{Doc}
 use Rattle.st_doc.specs.Doc.{document_of}
 use Rattle.st_heads.specs.declared.heads.Head.{Head}

@@ -20,6 +20,7 @@ use Rattle.st_lists.specs.declared.lists.Client.{Client}
 use Rattle.st_plain_branches.specs.declared.branches.Ground.{Ground}
 use Rattle.st_plain_branches.specs.declared.branches.LineState.{LineState}
 use Rattle.st_heads.specs.declared.replica.Replica.{Replica}
+use Rattle.st_lists.specs.Lines.{branch_place}
 
 -- of a line: whether a transaction is open on it, and how many commits of its own it has
 abbrev pub state_of : Line → LineState
@@ -80,7 +81,7 @@ without_head k j = record k { branches = remove k.branches j }
 abbrev pub HasMergedInto : Client → Replica → ℕ → Head → List Intent → Client → Replica → Answer → Type 0
 HasMergedInto c old zero p Ns d new a = (h : Head) × (ks : List Carried) × AreCarried (document_of p.doc) Ns ks (document_of h.doc) × (h.own ≡ p.own ++ ks) × (h.edited ≡ p.edited)
     × (d ≡ fold (λ c N. with_commit c N) c Ns) × (new ≡ record old { main = h }) × (a ≡ answer.Merge (void_among Ns ks))
-HasMergedInto c old (suc n) p Ns d new a = (j : ℕ) × (b : Branch) × (h : Head) × (ks : List Carried) × (place_of (suc n) c.branches ≡ Some j) × (slice_get c.branches j ≡ Some b)
+HasMergedInto c old (suc n) p Ns d new a = (j : ℕ) × (b : Branch) × (h : Head) × (ks : List Carried) × (branch_place (suc n) c.branches ≡ Some j) × (slice_get c.branches j ≡ Some b)
     × AreCarried (document_of p.doc) Ns ks (document_of h.doc) × (h.own ≡ p.own ++ ks) × (h.edited ≡ p.edited)
     × (d ≡ record c { branches = slice_set c.branches j (record b { own = b.own ++ Ns }) }) × (new ≡ record old { branches = slice_set old.branches j h }) × (a ≡ answer.Merge (void_among Ns ks))
 

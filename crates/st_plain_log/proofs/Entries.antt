@@ -4,14 +4,20 @@ use Rattle.std.specs.List.{cons_option, slice_get}
 use Rattle.st_marks.specs.declared.intents.Intent.{Intent}
 use Rattle.st_marks.specs.Document.{Document, IsSoundInForm}
 use Rattle.st_marks.specs.Intent.{Fits}
-use Rattle.st_marks.specs.Run.{Run}
-use Rattle.st_marks.proofs.OneVerdict.{carried_extends}
+use Rattle.st_marks.specs.Run.{Run, done as nothing, next}
+use Rattle.st_marks.specs.Verdict.{IsVerdict, carried_document}
+use Rattle.st_marks.specs.declared.verdicts.Verdict.{Verdict}
+use Rattle.st_marks.proofs.OneVerdict.{carried_extends, run_then}
 use Rattle.st_log_laws.specs.Turns.{FitInTurn}
 use Rattle.st_lemmas.proofs.Lists.{drop-slice_get}
 use Rattle.st_lists.specs.Log.{commit_of, commits_in}
 use Rattle.st_lists.specs.declared.lists.Entry.{Entry}
 use Rattle.st_lists.proofs.Logs.{commits_append, take-get}
 use Rattle.st_plain_log.specs.Receiving.{HasEntered}
+
+-- one more commit is carried out
+pub run_more : {O D : Document} {Ns : List Intent} (N : Intent) (E : Document) (v : Verdict) → Run O Ns D → IsVerdict D N v → E ≡ carried_document v D N → Run O (Ns ++ N ∷ []) E
+run_more {O} {D} {Ns} N E v r a e = subst (λ F. Run O (Ns ++ N ∷ []) F) (sym e) (run_then r (next v a nothing))
 
 -- the document after a text
 pub run_entered : (O D E : Document) (L : List Intent) (o : Option Intent) → Run O L D → HasEntered D o E → Run O (L ++ cons_option o []) E

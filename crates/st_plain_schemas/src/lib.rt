@@ -2,7 +2,7 @@
 #![tactic(auto)]
 
 mod known;
-mod upgrade;
+mod upgrading;
 
 pub use known::{KnownSchema, keep, know, schema_of};
-pub use upgrade::{keep_upgrade, upgrade};
+pub use upgrading::{keep_upgrade, upgrade};

@@ -2,7 +2,7 @@
 #![tactic(auto)]
 
 mod logged;
-mod undo;
+mod undoing;
 
 pub use logged::{Logged, log_commit};
-pub use undo::undo;
+pub use undoing::undo;

@@ -7,7 +7,7 @@ ghost use Rattle.st_script.specs.AnswerText.{answer_line};
 ghost use Rattle.st_script.specs.Header.{header_view, header_line};
 ghost use Rattle.st_script.specs.Line.{step_of_line, line_view};
 ghost use Rattle.st_script.specs.Steps.{step_view};
-ghost use Rattle.st_trace.specs.Replicas.{IsSound};
+ghost use Rattle.st_plain.specs.Replicas.{IsSound};
 ghost use Rattle.st_lists.specs.Clients.{empty_state};
 ghost use Rattle.st_answers.specs.Lines.{cut};
 ghost use Rattle.st_answers.specs.Answers.{OrCutShort, AnswersHeader, bad_line, AnswersFrom, AnswersTrace, IsOutput};
@@ -20,8 +20,8 @@ use st_answers::Outcome;
 use st_ids::Or;
 use st_io::Sink;
 use st_json::BadCause;
+use st_plain::World;
 use st_script::{Answer, Line, TraceStep, answer_line, read_header as header_of, read_step_line};
-use st_trace::World;
 use std::alloc::Global;
 
 // Answers the step that a line was read as. At `Err` the run has ended.

@@ -1,9 +1,9 @@
 //! A world that is opened, and two of its steps.
 ghost use Rattle.std.specs.Prelude.{◌≡◌, false, ◌+◌, ◌^◌, ◌<◌, IfOk, OnOk};
-ghost use Rattle.st_trace.specs.Replicas.{IsSound};
+ghost use Rattle.st_plain.specs.Replicas.{IsSound};
 
+use st_plain::World;
 use st_script::{Answer, Line, answer_line, read_header, read_step_line};
-use st_trace::World;
 use std::alloc::{AllocError, Global};
 use std::test::Fail;
 
@@ -22,7 +22,7 @@ fn open_world(alloc: Global) -> Result<World, Fail>
 }
 
 // The answer to a line.
-#[tactic(auto, using(st_trace::proofs::Choosing::line_formed))]
+#[tactic(auto, using(st_plain::proofs::Choosing::line_formed))]
 fn answer_to(alloc: Global, world: &mut World, line: &str) -> Result<Answer, Fail>
     requires sound { (world.old.spent ≡ false) × IsSound world.old }
     requires few { world.old.steps + 1 < 2 ^ 32 }

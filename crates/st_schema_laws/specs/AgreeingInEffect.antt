@@ -1,6 +1,6 @@
 -- When commits and documents keep to schemas that are widened: each commit to the schema under which it was made, in the
 -- part of its schema's line, and a document to the last schema in effect, in the part in effect.
-use Rattle.std.specs.Prelude.{◌≡◌, true, List, [], ◌∷◌, Option, Some, IfSome, option_and_then, unwrap_or, if◌then◌else◌}
+use Rattle.std.specs.Prelude.{◌≡◌, true, List, [], ◌∷◌, Option, Some, IfSome, if◌then◌else◌}
 use Rattle.st_ids.specs.Order.{same_rev}
 use Rattle.st_ids.specs.Root.{opening}
 use Rattle.st_ids.specs.declared.names.FieldId.{FieldId}
@@ -9,9 +9,8 @@ use Rattle.st_ids.specs.declared.names.Rev.{Rev}
 use Rattle.st_edits.specs.InEffect.{last_in_effect}
 use Rattle.st_schema.specs.Schema.{SchemaView}
 use Rattle.st_marks.specs.declared.intents.Intent.{Intent}
-use Rattle.st_marks.specs.declared.schemas.SchemaEntry.{SchemaEntry}
 use Rattle.st_marks.specs.declared.verdicts.Verdict.{Verdict}
-use Rattle.st_marks.specs.Document.{Document, NodeType, last_of, revs}
+use Rattle.st_marks.specs.Document.{Document, NodeType}
 use Rattle.st_marks.specs.Verdict.{IsVerdict, carried_document}
 use Rattle.st_schema_laws.specs.Agreeing.{KeepsSchema, with_homes}
 use Rattle.st_schema_laws.specs.Conforming.{IsConforming, type_fits}

@@ -12,6 +12,7 @@ use Rattle.st_lists.specs.Lines.{HasHead, Line, has_children, with_base, with_br
 use Rattle.st_lists.specs.declared.lists.Branch.{Branch}
 use Rattle.st_lists.specs.declared.lists.Client.{Client}
 use Rattle.st_lists.specs.declared.lists.Entry.{Entry}
+use Rattle.st_lists.specs.Voids.{AreVoid}
 
 -- a branch is made of a line, which has no transaction open
 abbrev pub refusal_to_fork : Client → Line → Option Refusal

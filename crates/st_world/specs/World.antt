@@ -23,7 +23,7 @@ use Rattle.st_marks.specs.Intent.{group_cells}
 use Rattle.st_marks.specs.LiveTree.{IsTreeText}
 use Rattle.st_marks.specs.Verdict.{IsVerdict}
 use Rattle.st_opening.specs.Start.{start_of}
-use Rattle.st_edits.specs.InEffect.{schema_in_effect}
+use Rattle.st_edits.specs.InEffect.{last_in_effect, schema_in_effect}
 use Rattle.st_edits.specs.declared.names.NameCounters.{NameCounters}
 use Rattle.st_edits.specs.Resolve.{insert, remove, move, put, clear, need}
 use Rattle.st_lists.specs.Open.{IsWithPart, with_open}

@@ -34,7 +34,6 @@ use Rattle.st_lists.specs.declared.lists.Client.{Client}
 use Rattle.st_lists.specs.declared.lists.Transaction.{Transaction}
 use Rattle.st_world_laws.proofs.Clients.{queue_first}
 use Rattle.st_world_laws.proofs.Everyone.{all_as, all_get}
-use Rattle.st_world_laws.proofs.Entering.{place_among}
 
 -- and each is that of an entry
 pub place_among : (es : List Entry) (N : Intent) → Has (commits_in es) N → (i : ℕ) × (e : Entry) × (slice_get es i ≡ Some e) × (commit_of e ≡ Some N)

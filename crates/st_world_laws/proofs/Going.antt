@@ -58,9 +58,10 @@ use Rattle.st_lists.specs.Undoing.{IsAt}
 use Rattle.st_schema.specs.Schema.{is_sound}
 use Rattle.st_world_laws.proofs.Effect.{schema_sound_on}
 use Rattle.st_world_laws.proofs.BranchesAgree.{main_in_order}
+use Rattle.st_world_laws.specs.Worlds.{Any, IsWorld}
 
 -- and before any client joins
-pub begun_sound : (h : HeaderView) → IsHeader h → AreSound h empty_state
+pub begun_sound : (h : HeaderView) → IsHeader h → IsWorld h empty_state
 begun_sound h k = record {
   header = k;
   clients = tt;
@@ -79,8 +80,8 @@ pub none_of : {A : Type 0} (o : Option A) → is_some o ≡ false → o ≡ None
 none_of None e = refl
 none_of (Some a) e = absurd (cc)
 
-pub set_sound : (h : HeaderView) (w : WorldState) (i : ℕ) (c c' : Client) → AreSound h w → slice_get w.clients i ≡ Some c → IsClient h w.log c' → c'.session ≡ c.session → KeepToSchemas h Any w.log (slice_set w.clients i c')
-    → AreSound h (record w { clients = slice_set w.clients i c' })
+pub set_sound : (h : HeaderView) (w : WorldState) (i : ℕ) (c c' : Client) → IsWorld h w → slice_get w.clients i ≡ Some c → IsClient h w.log c' → c'.session ≡ c.session → KeepToSchemas h Any w.log (slice_set w.clients i c')
+    → IsWorld h (record w { clients = slice_set w.clients i c' })
 set_sound h w i c c' s at client session keeps = record {
   header = s.header;
   clients = all_set (IsClient h w.log) w.clients i c' s.clients client;
@@ -424,8 +425,8 @@ module _ (h : HeaderView) (st : IsStart (opening_document h)) where
     clients_sent (d ∷ cs) (suc i) s at w = (client_beside h st log c d text rest own w.0 is (others_apart cs d c s.0 (at_has cs i c at)) few, clients_sent cs i s.1 at w.1)
 
 -- an entry of a session that was given leaves those given as they are, and an entry of the next gives it
-pub sent_sound : (h : HeaderView) (w : WorldState) (i : ℕ) (c : Client) (text : Body) (rest : List Body) → AreSound h w → slice_get w.clients i ≡ Some c → c.queue ≡ text ∷ rest → names_in (commits_in w.log) + names_in_text text ≤ 131072
-    → AreSound h (record w { log = log_with w.log c.session text; clients = slice_set w.clients i (record c { queue = rest }) })
+pub sent_sound : (h : HeaderView) (w : WorldState) (i : ℕ) (c : Client) (text : Body) (rest : List Body) → IsWorld h w → slice_get w.clients i ≡ Some c → c.queue ≡ text ∷ rest → names_in (commits_in w.log) + names_in_text text ≤ 131072
+    → IsWorld h (record w { log = log_with w.log c.session text; clients = slice_set w.clients i (record c { queue = rest }) })
 sent_sound h w i c text rest s at is few =
     let st = opened_start h s.header in
     let L = commits_in w.log in
@@ -453,8 +454,8 @@ sent_sound h w i c text rest s at is few =
 pub apart_from_new : (log : List Entry) (cs : List Client) → AllByRecursion (λ (c : Client). c.session ≤ sessions_in log) cs → (x : Client) → Has cs x → x.session ≢ sessions_in log + 1
 apart_from_new log cs given x h e = omega (arith, all-has (λ (c : Client). c.session ≤ sessions_in log) cs x given h, e)
 
-pub joined_sound : (h : HeaderView) (w : WorldState) (name : List ℕ) → AreSound h w
-    → AreSound h (record w { log = log_with w.log (sessions_in w.log + 1) Join; clients = w.clients ++ new_client (length w.log + 1) (sessions_in w.log + 1) name ∷ [] })
+pub joined_sound : (h : HeaderView) (w : WorldState) (name : List ℕ) → IsWorld h w
+    → IsWorld h (record w { log = log_with w.log (sessions_in w.log + 1) Join; clients = w.clients ++ new_client (length w.log + 1) (sessions_in w.log + 1) name ∷ [] })
 joined_sound h w name s =
     let st = opened_start h s.header in
     let session = sessions_in w.log + 1 in
@@ -476,7 +477,7 @@ joined_sound h w name s =
     }
 
 -- an entry without a commit, of a client that is there: the others stay, and it goes or is now so
-module _ (h : HeaderView) (w : WorldState) (i : ℕ) (c : Client) (body : Body) (s : AreSound h w) (at : slice_get w.clients i ≡ Some c) (none : commit_in body ≡ None) where
+module _ (h : HeaderView) (w : WorldState) (i : ℕ) (c : Client) (body : Body) (s : IsWorld h w) (at : slice_get w.clients i ≡ Some c) (none : commit_in body ≡ None) where
   abbrev log_after : List Entry
   log_after = log_with w.log c.session body
 
@@ -489,7 +490,7 @@ module _ (h : HeaderView) (w : WorldState) (i : ℕ) (c : Client) (body : Body) 
   others : AllByRecursion (IsClient h log_after) w.clients
   others = all_as (IsClient h w.log) (IsClient h log_after) w.clients (λ d k. client_after_text h st w.log c.session body d none k) s.clients
 
-  pub entered_sound : (cs : List Client) → AllByRecursion (IsClient h log_after) cs → HaveOwnSessions cs → AllByRecursion (λ (x : Client). x.session ≤ sessions_in log_after) cs → KeepToSchemas h Any log_after cs → AreSound h (record w { log = log_after; clients = cs })
+  pub entered_sound : (cs : List Client) → AllByRecursion (IsClient h log_after) cs → HaveOwnSessions cs → AllByRecursion (λ (x : Client). x.session ≤ sessions_in log_after) cs → KeepToSchemas h Any log_after cs → IsWorld h (record w { log = log_after; clients = cs })
   entered_sound cs clients sessions given keeps = record {
     header = s.header;
     clients = clients;
@@ -502,27 +503,27 @@ module _ (h : HeaderView) (w : WorldState) (i : ℕ) (c : Client) (body : Body) 
     few_names = omega (arith, s.few_names, ap names_in commits);
   }
 
-  pub set_after : (c' : Client) → c'.session ≡ c.session → IsClient h log_after c' → KeepToSchemas h Any log_after (slice_set w.clients i c') → AreSound h (record w { log = log_after; clients = slice_set w.clients i c' })
+  pub set_after : (c' : Client) → c'.session ≡ c.session → IsClient h log_after c' → KeepToSchemas h Any log_after (slice_set w.clients i c') → IsWorld h (record w { log = log_after; clients = slice_set w.clients i c' })
   set_after c' session client keeps =
       let low = all_get (λ (x : Client). x.session ≤ sessions_in w.log) w.clients i c s.given at in
       entered_sound (slice_set w.clients i c') (all_set (IsClient h log_after) w.clients i c' others client) (distinct_set session_of w.clients i c c' at session s.sessions)
       (all_set (λ (x : Client). x.session ≤ sessions_in log_after) w.clients i c' (given_still w.log c.session body w.clients s.given) (omega (arith, low, session, sessions_entered w.log c.session body))) keeps
 
-  pub gone_after : KeepToSchemas h Any log_after (remove w.clients i) → AreSound h (record w { log = log_after; clients = remove w.clients i })
+  pub gone_after : KeepToSchemas h Any log_after (remove w.clients i) → IsWorld h (record w { log = log_after; clients = remove w.clients i })
   gone_after keeps =
       entered_sound (remove w.clients i) (all_rest (IsClient h log_after) w.clients i others) (distinct_rest session_of w.clients i s.sessions)
       (all_rest (λ (x : Client). x.session ≤ sessions_in log_after) w.clients i (given_still w.log c.session body w.clients s.given)) keeps
 
-pub left_sound : (h : HeaderView) (w : WorldState) (i : ℕ) (c : Client) → AreSound h w → slice_get w.clients i ≡ Some c → AreSound h (record w { log = log_with w.log c.session Leave; clients = remove w.clients i })
+pub left_sound : (h : HeaderView) (w : WorldState) (i : ℕ) (c : Client) → IsWorld h w → slice_get w.clients i ≡ Some c → IsWorld h (record w { log = log_with w.log c.session Leave; clients = remove w.clients i })
 left_sound h w i c s at = gone_after h w i c Leave s at refl (left_keeps h (opened_start h s.header) Any w.log w.clients i c.session s.clients s.schema)
 
-pub dropped_sound : (h : HeaderView) (w : WorldState) (i : ℕ) (c : Client) → AreSound h w → slice_get w.clients i ≡ Some c → AreSound h (record w { log = log_with w.log c.session Leave; clients = slice_set w.clients i (without_connection c) })
+pub dropped_sound : (h : HeaderView) (w : WorldState) (i : ℕ) (c : Client) → IsWorld h w → slice_get w.clients i ≡ Some c → IsWorld h (record w { log = log_with w.log c.session Leave; clients = slice_set w.clients i (without_connection c) })
 dropped_sound h w i c s at =
     let st = opened_start h s.header in
     let k = all_get (IsClient h w.log) w.clients i c s.clients at in
     set_after h w i c Leave s at refl (without_connection c) refl (client_offline h st (log_with w.log c.session Leave) c (client_after_text h st w.log c.session Leave c refl k)) (dropped_keeps h st Any w.log w.clients i c s.clients at s.schema)
 
-pub returned_sound : (h : HeaderView) (w : WorldState) (i : ℕ) (c : Client) → AreSound h w → slice_get w.clients i ≡ Some c → c.transaction ≡ None → AreSound h (record w { log = log_with w.log c.session Join; clients = slice_set w.clients i (with_connection w.log c) })
+pub returned_sound : (h : HeaderView) (w : WorldState) (i : ℕ) (c : Client) → IsWorld h w → slice_get w.clients i ≡ Some c → c.transaction ≡ None → IsWorld h (record w { log = log_with w.log c.session Join; clients = slice_set w.clients i (with_connection w.log c) })
 returned_sound h w i c s at none =
     let st = opened_start h s.header in
     let k = all_get (IsClient h w.log) w.clients i c s.clients at in

@@ -50,6 +50,7 @@ use Rattle.st_world.specs.Kept.{Unless}
 use Rattle.st_world.specs.World.{OnOwnBranch, OnParent}
 use Rattle.st_world_laws.proofs.Leading.{may_upgrade}
 use Rattle.std.proofs.Common.{◌∙◌}
+use Rattle.st_world_laws.specs.Worlds.{KeepsRules}
 
 module _ (h : HeaderView) (w : WorldState) (s : IsWorld h w) where
   abbrev st : IsStart (opening_document h)
@@ -245,25 +246,25 @@ module _ (h : HeaderView) (w : WorldState) (s : IsWorld h w) where
 
     acted_none : (name : List ℕ) (x : ActView) → act_of_none w name x ≡ (v, a) → IsWorld h v
     acted_none name step.join e = joined name e
-    acted_none name (step.edit e) e = as_told (w, No NoClient) v a e s
-    acted_none name (step.need path) e = as_told (w, No NoClient) v a e s
-    acted_none name step.begin e = as_told (w, No NoClient) v a e s
-    acted_none name step.commit e = as_told (w, No NoClient) v a e s
-    acted_none name step.abort e = as_told (w, No NoClient) v a e s
-    acted_none name (step.undo rev) e = as_told (w, No NoClient) v a e s
-    acted_none name (step.upgrade schema) e = as_told (w, No NoClient) v a e s
-    acted_none name step.sequence e = as_told (w, No NoClient) v a e s
-    acted_none name step.ack e = as_told (w, No NoClient) v a e s
-    acted_none name step.deliver e = as_told (w, No NoClient) v a e s
-    acted_none name step.leave e = as_told (w, No NoClient) v a e s
-    acted_none name step.drop_client e = as_told (w, No NoClient) v a e s
-    acted_none name step.reconnect e = as_told (w, No NoClient) v a e s
-    acted_none name step.fork e = as_told (w, No NoClient) v a e s
-    acted_none name step.rebase e = as_told (w, No NoClient) v a e s
-    acted_none name step.merge e = as_told (w, No NoClient) v a e s
-    acted_none name step.drop_branch e = as_told (w, No NoClient) v a e s
-    acted_none name step.show e = as_told (w, No NoClient) v a e s
-    acted_none name step.pending e = as_told (w, No NoClient) v a e s
+    acted_none name (step.edit e) y = as_told (w, No NoClient) v a y s
+    acted_none name (step.need path) y = as_told (w, No NoClient) v a y s
+    acted_none name step.begin y = as_told (w, No NoClient) v a y s
+    acted_none name step.commit y = as_told (w, No NoClient) v a y s
+    acted_none name step.abort y = as_told (w, No NoClient) v a y s
+    acted_none name (step.undo rev) y = as_told (w, No NoClient) v a y s
+    acted_none name (step.upgrade schema) y = as_told (w, No NoClient) v a y s
+    acted_none name step.sequence y = as_told (w, No NoClient) v a y s
+    acted_none name step.ack y = as_told (w, No NoClient) v a y s
+    acted_none name step.deliver y = as_told (w, No NoClient) v a y s
+    acted_none name step.leave y = as_told (w, No NoClient) v a y s
+    acted_none name step.drop_client y = as_told (w, No NoClient) v a y s
+    acted_none name step.reconnect y = as_told (w, No NoClient) v a y s
+    acted_none name step.fork y = as_told (w, No NoClient) v a y s
+    acted_none name step.rebase y = as_told (w, No NoClient) v a y s
+    acted_none name step.merge y = as_told (w, No NoClient) v a y s
+    acted_none name step.drop_branch y = as_told (w, No NoClient) v a y s
+    acted_none name step.show y = as_told (w, No NoClient) v a y s
+    acted_none name step.pending y = as_told (w, No NoClient) v a y s
 
     by : (x : ActView) (i : ℕ) (c : Client) (at : slice_get w.clients i ≡ Some c) (k : ℕ) (l : Line) → line_of c k ≡ Some l → KeepsRules x → (needs connected : Bool) → needs_connection x ≡ needs → c.connected ≡ connected
         → ByConnected needs connected w v a (IsActOf h w x i c k l v a) → IsWorld h v

@@ -75,6 +75,7 @@ use Rattle.st_schema.specs.Wider.{wider_of}
 use Rattle.st_world.specs.Upgrade.{change_of_schema, refusal_to_upgrade, upgrade, refusal_of_narrowing}
 use Rattle.st_world_laws.proofs.Upgrading.{upgrade_goes}
 use Rattle.st_schema.specs.Schema.{is_sound, SchemaView}
+use Rattle.st_world_laws.specs.Worlds.{KeepsRules}
 
 -- ## The nodes of a document can be listed
 

@@ -1,6 +1,6 @@
 -- What each line of a client shows can be edited.
 use Rattle.st_world_laws.proofs.Among.{line_transaction, line_fit, line_new}
-use Rattle.std.proofs.Common.{IfSome, List, None, Option, Some, [], ap, refl, subst, sym, ℕ, ◌++◌, ◌+◌, ◌∙◌, ◌∷◌, ◌≡◌}
+use Rattle.std.proofs.Common.{IfSome, List, None, Option, Some, [], ap, refl, subst, sym, ℕ, ◌++◌, ◌∙◌, ◌∷◌, ◌≡◌}
 use Rattle.std.specs.Option.{option_and_then}
 use Rattle.st_lists.specs.Open.{with_open}
 use Rattle.st_ids.specs.Listing.{Has}

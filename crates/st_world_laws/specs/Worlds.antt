@@ -18,7 +18,6 @@ use Rattle.st_lists.specs.Open.{FitsSoFar, with_open}
 use Rattle.st_script.specs.Header.{HeaderView, may_open}
 use Rattle.st_lists.specs.Log.{commit_of, commits_in, intents_of, is_text, log_and_waiting, own_in_flight, sessions_in, waiting}
 use Rattle.st_lists.specs.Lines.{AreStanding, HasHead, HaveOwnTransactions, Line, all_commits, branch_line, commits_of, edited_on, main_line, own_of}
-use Rattle.st_world_laws.specs.Worlds.{IsKnownBy}
 use Rattle.st_edits.specs.InEffect.{last_in_effect}
 use Rattle.st_world.specs.World.{opening_document}
 use Rattle.st_lists.specs.Names.{names_in, unsequenced}
@@ -27,9 +26,10 @@ use Rattle.st_lists.specs.declared.lists.Branch.{Branch}
 use Rattle.st_lists.specs.declared.lists.Client.{Client}
 use Rattle.st_lists.specs.declared.lists.Entry.{Entry}
 use Rattle.st_lists.specs.declared.lists.Transaction.{Transaction}
-use Rattle.st_world_laws.specs.Worlds.{HasMain, HaveOwnSessions, IsClient, IsEntryOf, IsHeader, IsTransaction, KeepToSchemas, LineFits}
 use Rattle.std.proofs.Common.{◌≡◌, ◌≤◌, ◌+◌, ℕ, Bool, true, false, List, [], ◌∷◌, ◌++◌, length, None, IfSome}
 use Rattle.st_lists.specs.declared.lists.WorldState.{WorldState}
+use Rattle.st_script.specs.Steps.{ActView}
+use Rattle.st_script.specs.Steps as step
 
 -- if a commit changes the schema, the schema is known as one of its revision
 abbrev pub IsKnownBy : (Rev → List ℕ → Type 0) → Intent → Type 0

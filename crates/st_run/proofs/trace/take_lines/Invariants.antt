@@ -1,7 +1,7 @@
 -- what tells the rest tells the whole
 use Rattle.std.proofs.Common.{◌≡◌, false, ℕ, ◌+◌, ◌≤◌, List, length, Option}
 use Rattle.st_script.specs.Header.{header_view}
-use Rattle.st_trace.specs.Replicas.{IsSound}
+use Rattle.st_plain.specs.Replicas.{IsSound}
 use Rattle.st_answers.specs.Lines.{cut}
 use Rattle.st_answers.specs.Answers.{AnswersFrom, IsOutput}
 use Rattle.st_answers.specs.declared.outcome.Outcome.{Outcome}

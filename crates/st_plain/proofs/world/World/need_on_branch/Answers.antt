@@ -1,0 +1,41 @@
+use Rattle.std.proofs.Common.{refl, sym, arith}
+use Rattle.st_plain.proofs.Acting.{few_ids, one_at}
+use Rattle.st_plain.proofs.BranchActs.{can_edit, need_can}
+use Rattle.st_plain.proofs.BranchNext.{need_next, need_sound_on, need_stays_on}
+use Rattle.st_plain.proofs.Everyone.{kept_none}
+use Rattle.st_world_laws.proofs.Everyone.{set_same}
+use Rattle.st_plain.proofs.Stepping.{sound_later}
+use Rattle.st_plain.proofs.world.World.need_on_branch.Goals as goal
+
+pub returns-in_default-clause-next : goal.returns-in_default-clause-next
+returns-in_default-clause-next c = λ q l at line. absurd (kept_none _ _ _ _ _ q c.requires.sound.kept at (sym c.in_default.ensures.value))
+
+pub returns-in_default-clause-sound : goal.returns-in_default-clause-sound
+returns-in_default-clause-sound c = sound_later c.args.self.now.steps c.args.self.now c.requires.sound
+
+pub returns-in_default-get_mut-clause-sound : goal.returns-in_default-get_mut-clause-sound
+returns-in_default-get_mut-clause-sound c = rw (set_same c.args.self.now.kept c.args.i c.in-Some.kept.now (sym c.in-Some.ensures.value)) (sound_later c.args.self.now.steps c.args.self.now c.requires.sound)
+
+pub returns-in_default-get_mut-clause-refused : goal.returns-in_default-get_mut-clause-refused
+returns-in_default-get_mut-clause-refused c = rw (set_same c.args.self.now.kept c.args.i c.in-Some.kept.now (sym c.in-Some.ensures.value)) refl
+
+pub need-requires-clause-few : goal.need-requires-clause-few
+need-requires-clause-few c = omega (arith, c.requires.few, few_ids c.args.self.now c.args.i c.in-Some-get_mut.client.now c.requires.sound (sym c.in-Some-get_mut.ensures.value))
+
+pub need-requires-clause-names : goal.need-requires-clause-names
+need-requires-clause-names c = let one = one_at c.args.self.now c.args.i c.in-Some-get_mut.client.now c.in-Some.kept.now c.requires.sound (sym c.in-Some-get_mut.ensures.value) (sym c.in-Some.ensures.value) in omega (arith, one.kept.names, one.client.few_names)
+
+pub need-requires-clause-can : goal.need-requires-clause-can
+need-requires-clause-can c = λ j b g x. can_edit c.args.self.now c.args.i c.in-Some-get_mut.client.now c.in-Some.kept.now c.requires.sound (sym c.in-Some-get_mut.ensures.value) (sym c.in-Some.ensures.value) c.args.number c.requires.other j b g x
+
+pub need-requires-clause-take : goal.need-requires-clause-take
+need-requires-clause-take c = λ j b g x N e. need_can c.args.self.now c.args.i c.in-Some-get_mut.client.now c.in-Some.kept.now c.requires.sound (sym c.in-Some-get_mut.ensures.value) (sym c.in-Some.ensures.value) c.args.number c.requires.other j b g x c.args.at.now N e
+
+pub returns-clause-next : goal.returns-clause-next
+returns-clause-next c = need_next c.args.self.now c.args.i c.in-Some-get_mut.client.now c.in-Some.kept.now c.requires.sound (sym c.in-Some-get_mut.ensures.value) (sym c.in-Some.ensures.value) c.args.number c.requires.other c.args.at.now c.need.new.client c.need.new.kept c.in_ok-answer.answer c.in_ok-answer.ensures.there c.in_ok-answer.ensures.absent
+
+pub returns-clause-sound : goal.returns-clause-sound
+returns-clause-sound c = need_sound_on c.args.self.now c.args.i c.in-Some-get_mut.client.now c.in-Some.kept.now c.requires.sound (sym c.in-Some-get_mut.ensures.value) (sym c.in-Some.ensures.value) c.args.number c.requires.other c.args.at.now c.need.new.client c.need.new.kept c.in_ok-answer.answer c.in_ok-answer.ensures.there c.in_ok-answer.ensures.absent
+
+pub returns-clause-refused : goal.returns-clause-refused
+returns-clause-refused c = need_stays_on c.args.self.now c.args.i c.in-Some-get_mut.client.now c.in-Some.kept.now c.requires.sound (sym c.in-Some-get_mut.ensures.value) (sym c.in-Some.ensures.value) c.args.number c.requires.other c.args.at.now c.need.new.client c.need.new.kept c.in_ok-answer.answer c.in_ok-answer.ensures.there c.in_ok-answer.ensures.absent
