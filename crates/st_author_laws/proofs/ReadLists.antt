@@ -14,7 +14,7 @@ use Rattle.st_marks.specs.Row.{CellMark, Counted, Gap, Touch, Make, Fill, spread
 use Rattle.st_normal.specs.declared.entries.Found.{Found}
 use Rattle.st_normal.specs.Rules.{entries_of_step, found_in, found_loose, found_over, in_rows}
 use Rattle.st_rows.proofs.KindLaws.{spread-merge}
-use Rattle.st_reading.specs.Reading.{read, read_row, read_step}
+use Rattle.st_read_laws.specs.Reading.{read, read_row, read_step}
 
 -- ## Marks
 

@@ -11,7 +11,7 @@ use Rattle.st_marks.specs.Verdict.{IsVerdict, carried_document}
 use Rattle.st_log_laws.specs.Turns.{FitInTurn}
 use Rattle.st_marks.proofs.OneVerdict.{one_verdict}
 use Rattle.st_marks.proofs.Unique.{one_embedding}
-use Rattle.st_reading.specs.Reading.{IsRead, IsStepRead, read_change}
+use Rattle.st_read_laws.specs.Reading.{IsRead, IsStepRead, read_change}
 use Rattle.st_push.specs.InTurn.{Carries, PushedTo, ShowInTurn, none_shown, one_shown}
 
 pub push : (l : Bool) → Carries l → {D F : Document} {Ns : List Intent} {Cs : List Change} → ShowInTurn l D Ns Cs F → (E : Document) (S : Step)

@@ -10,7 +10,7 @@ use Rattle.st_marks.specs.Intent.{Fits}
 use Rattle.st_marks.specs.CarryOut.{full}
 use Rattle.st_marks.specs.Verdict.{IsVerdict, carried_document}
 use Rattle.st_log_laws.specs.Turns.{FitInTurn}
-use Rattle.st_reading.specs.Reading.{IsRead, IsStepRead}
+use Rattle.st_read_laws.specs.Reading.{IsRead, IsStepRead}
 
 -- changes that show intents, each in the document that those before it leave; the last leaves F
 pub data ShowInTurn (l : Bool) : Document → List Intent → List Change → Document → Type 0 where

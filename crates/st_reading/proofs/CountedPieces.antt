@@ -4,7 +4,7 @@ use Rattle.st_marks.specs.Row.{CellMark, Counted, Gap, Touch, Make, Fill}
 use Rattle.st_mention_laws.specs.Shown.{unnamed}
 use Rattle.st_rows.specs.Walks.{CellPiece, Both, First, Then, beside, in_turn, meeting_piece}
 use Rattle.st_reading.specs.Pieces.{AreAlike, IsBlind, read_piece}
-use Rattle.st_reading.specs.Reading.{read}
+use Rattle.st_read_laws.specs.Reading.{read}
 
 abbrev unnamed_piece : CellPiece → CellPiece
 unnamed_piece (Both x y) = Both (unnamed x) (unnamed y)

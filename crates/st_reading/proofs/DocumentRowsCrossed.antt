@@ -25,7 +25,7 @@ use Rattle.st_rows.proofs.DocumentsAfter.{void_is, whole_is}
 use Rattle.st_rows.proofs.DocumentsListed.{moved_apart, names_moved}
 use Rattle.st_reading.specs.Bridge.{crossed_piece, crossed_row, full_beside, full_beyond, is_void, stepped, target_by}
 use Rattle.st_reading.specs.Pieces.{AreAlike, IsBlind, read_piece}
-use Rattle.st_reading.specs.Reading.{read}
+use Rattle.st_read_laws.specs.Reading.{read}
 use Rattle.st_reading.proofs.CountedPieces.{alike_beside, named}
 use Rattle.st_reading.proofs.RowsCrossed.{Led, row_crossed}
 use Rattle.st_reading.proofs.DocumentRowsOver.{groups_are_old}

@@ -16,7 +16,7 @@ use Rattle.st_rows.specs.Walks.{Both, First, Then}
 use Rattle.st_rows.proofs.PiecesBeside.{beside-kept, beside-gained}
 use Rattle.st_reading.specs.Over.{AreCovered, empty_cell, found_cell, full_cell, mentioning, over_piece, over_row, read_cell}
 use Rattle.st_reading.specs.Pieces.{AreAlike, IsBlind}
-use Rattle.st_reading.specs.Reading.{read}
+use Rattle.st_read_laws.specs.Reading.{read}
 use Rattle.st_reading.proofs.CountedPieces.{alike_beside}
 
 -- ## The table sees no more than is read
