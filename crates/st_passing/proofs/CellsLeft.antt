@@ -16,7 +16,7 @@ use Rattle.st_reading.specs.Over.{mentioning}
 use Rattle.st_reading.specs.Pieces.{AreAlike, read_piece}
 use Rattle.st_read_laws.specs.Reading.{read}
 use Rattle.st_reading.proofs.CountedPieces.{alike_beside}
-use Rattle.st_reading.proofs.RowsOver.{read-twice}
+use Rattle.st_read_laws.proofs.Readings.{read-twice}
 use Rattle.st_passing.specs.Passing.{first_kept, raised}
 use Rattle.st_passing.specs.Staying.{IsLeft}
 use Rattle.st_passing.proofs.RowsPassed.{twice}
