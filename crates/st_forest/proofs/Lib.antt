@@ -1,2 +1,3 @@
 pub mod OneDocument
 pub mod Opened
+pub mod RowsLed

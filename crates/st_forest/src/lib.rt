@@ -5,8 +5,10 @@ mod forest;
 mod laws;
 mod maps;
 mod reads;
+mod row_step;
 mod rows;
 mod start;
 
 pub use forest::{Forest, Seated};
 pub use laws::one_document;
+pub use row_step::apply_row;
