@@ -72,12 +72,14 @@ fn is_of(forest: &Forest, node: NodeId, ty: &str) -> bool {
 
 fn nodes_are_there(alloc: Global) -> Result<bool, Fail> {
     let forest = opened(alloc)?;
-    Ok(is_of(&forest, ROOT, "list")
-        && is_of(&forest, node(1), "text")
-        && is_of(&forest, node(2), "text")
-        && forest.node(node(3)).is_none()
-        && has_slots(&forest, ROOT, 1, 1)
-        && has_slots(&forest, node(1), 0, 0))
+    Ok(
+        is_of(&forest, ROOT, "list")
+            && is_of(&forest, node(1), "text")
+            && is_of(&forest, node(2), "text")
+            && forest.node(node(3)).is_none()
+            && has_slots(&forest, ROOT, 1, 1)
+            && has_slots(&forest, node(1), 0, 0),
+    )
 }
 
 fn nodes_stand(alloc: Global) -> Result<bool, Fail> {
@@ -90,10 +92,12 @@ fn nodes_stand(alloc: Global) -> Result<bool, Fail> {
         rev: OPENING,
         at: 0,
     });
-    Ok(forest.place(ROOT) == Some(&Spot::Nowhere)
-        && forest.place(node(1)) == Some(&Spot::Row { node: ROOT, cell })
-        && forest.held(&title) == Some(node(2))
-        && forest.place(node(3)).is_none())
+    Ok(
+        forest.place(ROOT) == Some(&Spot::Nowhere)
+            && forest.place(node(1)) == Some(&Spot::Row { node: ROOT, cell })
+            && forest.held(&title) == Some(node(2))
+            && forest.place(node(3)).is_none(),
+    )
 }
 
 fn schema_is_there(alloc: Global) -> Result<bool, Fail> {
@@ -102,14 +106,27 @@ fn schema_is_there(alloc: Global) -> Result<bool, Fail> {
         None => false,
         Some(entry) => entry.rev == OPENING && entry.text.as_str() == SCHEMA,
     };
-    Ok(text && forest.under() == Some(OPENING) && forest.schemas() == 1 && forest.entry(1).is_none())
+    Ok(
+        text && forest.under() == Some(OPENING)
+            && forest.schemas() == 1
+            && forest.entry(1).is_none(),
+    )
+}
+
+fn copies(alloc: Global) -> Result<bool, Fail> {
+    let copy = opened(alloc)?.copy(alloc)?;
+    Ok(
+        is_of(&copy, node(2), "text")
+            && has_slots(&copy, ROOT, 1, 1)
+            && copy.under() == Some(OPENING),
+    )
 }
 
 #[test]
 fn forests_answer(rt: HostRuntime) -> Result<(), Fail> {
     let alloc = rt.alloc();
     let (a, b) = (nodes_are_there(alloc)?, nodes_stand(alloc)?);
-    let c = schema_is_there(alloc)?;
-    assert!(rt; a && b && c, "{a} {b} {c}");
+    let (c, d) = (schema_is_there(alloc)?, copies(alloc)?);
+    assert!(rt; a && b && c && d, "{a} {b} {c} {d}");
     Ok(())
 }

@@ -5,3 +5,5 @@
 mod forests;
 #[cfg(test)]
 mod pushes;
+#[cfg(test)]
+mod row_steps;

@@ -1,6 +1,7 @@
 //! A document as tables: of each node what it is and where it stands, and of each row its slots.
 #![tactic(auto)]
 
+mod copy;
 mod forest;
 mod laws;
 mod maps;

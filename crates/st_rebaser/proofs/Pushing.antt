@@ -95,12 +95,14 @@ module _ (l : Bool) (As : List Change) (bs : List Verdict) (Z : Step) where
 
       go : (o : Option Change) (p : Option Verdict) → slice_get Cs i ≡ o → slice_get vs i ≡ p → IsTurnOf l i o p Cs vs S Xs us T → (length Xs ≡ length Cs) × GoesOn (i + 1) Xs us T
       go None p e f t = let past : length Cs ≤ i = past_end Cs i e in let never : ⊥ = omega arith in absurd never
-      go (Some C) None e f t =
-          (ap length t.0,
-          subst (λ W. GoesOn (i + 1) Xs us W) (sym t.2) (subst (λ ys. GoesOn (i + 1) Xs ys S) (sym t.1) (subst (λ xs. GoesOn (i + 1) xs vs S) (sym t.0) (alone C e f))))
-      go (Some C) (Some v) e f t =
-          (ap length t.3 ∙ length-set Cs i t.0,
-          subst (λ ys. GoesOn (i + 1) Xs ys T) (sym t.4) (subst (λ xs. GoesOn (i + 1) xs (slice_set vs i t.1) T) (sym t.3) (both C t.0 v t.1 e f t.2)))
+      go (Some C) None e f t = (
+        ap length t.0,
+        subst (λ W. GoesOn (i + 1) Xs us W) (sym t.2) (subst (λ ys. GoesOn (i + 1) Xs ys S) (sym t.1) (subst (λ xs. GoesOn (i + 1) xs vs S) (sym t.0) (alone C e f))),
+      )
+      go (Some C) (Some v) e f t = (
+        ap length t.3 ∙ length-set Cs i t.0,
+        subst (λ ys. GoesOn (i + 1) Xs ys T) (sym t.4) (subst (λ xs. GoesOn (i + 1) xs (slice_set vs i t.1) T) (sym t.3) (both C t.0 v t.1 e f t.2)),
+      )
 
   pub finished : (i : ℕ) (Cs : List Change) (vs : List Verdict) (S : Step) → length Cs ≤ i → GoesOn i Cs vs S → ArePushed l As bs Z Cs vs S
   finished i Cs vs S past on =

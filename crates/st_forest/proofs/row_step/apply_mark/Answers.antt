@@ -22,8 +22,8 @@ returns-in-Touch-clause-leads c = λ ms d h short.
 
 pub returns-in_ok-behind-in-Make-clause-leads : goal.returns-in_ok-behind-in-Make-clause-leads
 returns-in_ok-behind-in-Make-clause-leads c = λ ms d h short.
-    by_make c.args.row.now c.args.place c.requires c.in-Make.cell c.in-Make.node c.in-Make.full d c.make-behind.new.row c.in_ok-behind.behind ms
-    (subst (λ (k : AnyMark). Leads (drop c.args.place c.args.row.now) (spread (k ∷ ms)) d) c.in-Make.is h) short c.in_ok-behind.ensures.made
+    by_make c.args.row.now c.args.place c.requires c.in-Make.cell c.in-Make.node c.in-Make.full d c.make.new.row c.in_ok-behind-in-Make.behind ms
+    (subst (λ (k : AnyMark). Leads (drop c.args.place c.args.row.now) (spread (k ∷ ms)) d) c.in-Make.is h) short c.in_ok-behind-in-Make.ensures.made
 
 pub returns-in-Fill-clause-leads : goal.returns-in-Fill-clause-leads
 returns-in-Fill-clause-leads c = λ ms d h short.

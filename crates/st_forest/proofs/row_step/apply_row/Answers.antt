@@ -12,17 +12,17 @@ pub loop-mark-preserved : goal.loop-mark-preserved
 loop-mark-preserved c = record {
   within = c.in_ok-place.ensures.within;
   leads = λ d short h. (
-    let r = c.loop-mark.invariant.leads d short h in
-    let row = c.loop-mark.row in
-    let place = c.loop-mark.place in
-    let marks = c.args.marks.now in
-    let ms = drop (c.loop-mark.mark-index + 1) marks in
-    let next = drop_next marks c.loop-mark.mark-index (Mark.Skip 0) (get_or marks c.loop-mark.mark-index (Mark.Skip 0)) c.loop-mark-test.true refl in
-    let here = subst (λ (l : Seq Mark). Leads (drop place row) (spread l) r.0) next r.1 in
-    let few = subst (λ (l : Seq AnySlot). length l < 2 ^ 32) r.2 short in
-    let t = c.in_ok-place.ensures.leads ms r.0 here few in
-    (t.0, t.1, r.2 ∙ t.2)
-  );
+      let r = c.loop-mark.invariant.leads d short h in
+      let row = c.loop-mark.row in
+      let place = c.loop-mark.place in
+      let marks = c.args.marks.now in
+      let ms = drop (c.loop-mark.mark-index + 1) marks in
+      let next = drop_next marks c.loop-mark.mark-index (Mark.Skip 0) (get_or marks c.loop-mark.mark-index (Mark.Skip 0)) c.loop-mark-test.true refl in
+      let here = subst (λ (l : Seq Mark). Leads (drop place row) (spread l) r.0) next r.1 in
+      let few = subst (λ (l : Seq AnySlot). length l < 2 ^ 32) r.2 short in
+      let t = c.in_ok-place.ensures.leads ms r.0 here few in
+      (t.0, t.1, r.2 ∙ t.2)
+      );
 }
 
 pub returns : goal.returns
