@@ -5,22 +5,22 @@ use st_ids::{Atom, CellId, NodeId, Or, Rev};
 use st_marks::{How, Mark, Slot};
 use std::alloc::Global;
 
-const fn name(at: u32) -> Atom {
+fn name(at: u32) -> Atom {
     Atom {
         rev: Rev { session: 1, num: 1 },
         at,
     }
 }
 
-const fn cell(at: u32) -> CellId {
+fn cell(at: u32) -> CellId {
     CellId(name(at))
 }
 
-const fn node(at: u32) -> NodeId {
+fn node(at: u32) -> NodeId {
     NodeId(name(at))
 }
 
-const fn slot(at: u32, full: bool) -> Slot {
+fn slot(at: u32, full: bool) -> Slot {
     Slot {
         cell: cell(at),
         node: node(at),
@@ -29,58 +29,67 @@ const fn slot(at: u32, full: bool) -> Slot {
 }
 
 // A row of a full cell, two empty ones and a full one.
-const BEFORE: [Slot; 4] = [slot(0, true), slot(1, false), slot(2, false), slot(3, true)];
+fn before() -> [Slot; 4] {
+    [slot(0, true), slot(1, false), slot(2, false), slot(3, true)]
+}
 
 // The first node leaves, the second empty cell is filled, and two cells are made behind it: one full, one empty.
-const BEHIND: [Slot; 6] = [
-    slot(0, false),
-    slot(1, false),
-    slot(2, true),
-    slot(4, true),
-    slot(5, false),
-    slot(3, true),
-];
+fn behind() -> [Slot; 6] {
+    [
+        slot(0, false),
+        slot(1, false),
+        slot(2, true),
+        slot(4, true),
+        slot(5, false),
+        slot(3, true),
+    ]
+}
 
-const LEAVES: Mark = Mark::Touch {
-    cell: cell(0),
-    node: node(0),
-    how: How::Leave,
-};
+fn touch(at: u32, how: How) -> Mark {
+    Mark::Touch {
+        cell: cell(at),
+        node: node(at),
+        how,
+    }
+}
 
-const FILLED: Mark = Mark::Fill {
-    cell: cell(2),
-    node: node(2),
-};
+fn fill(at: u32) -> Mark {
+    Mark::Fill {
+        cell: cell(at),
+        node: node(at),
+    }
+}
 
-const MADE: Mark = Mark::Make {
-    cell: cell(4),
-    node: node(4),
-    full: true,
-};
+fn make(at: u32, full: bool) -> Mark {
+    Mark::Make {
+        cell: cell(at),
+        node: node(at),
+        full,
+    }
+}
 
-const MADE_EMPTY: Mark = Mark::Make {
-    cell: cell(5),
-    node: node(5),
-    full: false,
-};
+// The step with its empty cell named, and with it counted.
+fn listed() -> [Mark; 6] {
+    [
+        touch(0, How::Leave),
+        Mark::Gap(cell(1)),
+        fill(2),
+        make(4, true),
+        make(5, false),
+        touch(3, How::Stay),
+    ]
+}
 
-const STAYS: Mark = Mark::Touch {
-    cell: cell(3),
-    node: node(3),
-    how: How::Stay,
-};
-
-// With the empty cell named, and counted.
-const LISTED: [Mark; 6] = [LEAVES, Mark::Gap(cell(1)), FILLED, MADE, MADE_EMPTY, STAYS];
-
-const THIN: [Mark; 6] = [
-    LEAVES,
-    Mark::Skip(1),
-    FILLED,
-    MADE,
-    MADE_EMPTY,
-    Mark::Skip(1),
-];
+fn thin() -> [Mark; 6] {
+    [
+        touch(0, How::Leave),
+        Mark::Skip(1),
+        fill(2),
+        make(4, true),
+        make(5, false),
+        Mark::Skip(1),
+    ]
+}
 
 fn row_of(alloc: Global, slots: &[Slot]) -> Result<ChunkRow, Or<Range>> {
     let mut row = ChunkRow::new(alloc);
@@ -99,15 +108,15 @@ fn has(row: &ChunkRow, slots: &[Slot]) -> bool {
 }
 
 fn leads(alloc: Global, marks: &[Mark]) -> Result<bool, Or<Range>> {
-    let mut row = row_of(alloc, &BEFORE)?;
+    let mut row = row_of(alloc, &before())?;
     apply_row(alloc, &mut row, marks)?;
-    Ok(has(&row, &BEHIND))
+    Ok(has(&row, &behind()))
 }
 
 #[test]
 fn marks_lead(rt: HostRuntime) -> Result<(), Or<Range>> {
     let alloc = rt.alloc();
-    let (listed, thin) = (leads(alloc, &LISTED)?, leads(alloc, &THIN)?);
-    assert!(rt; listed && thin, "{listed} {thin}");
+    let (named, counted) = (leads(alloc, &listed())?, leads(alloc, &thin())?);
+    assert!(rt; named && counted, "{named} {counted}");
     Ok(())
 }

@@ -1,5 +1,5 @@
 -- A forest stands for one document.
-use Rattle.std.proofs.Common.{◌≡◌, List, [], ◌∷◌, map, Option, Some, None, option_map, unwrap_or, refl, sym, ap, ◌∙◌, subst}
+use Rattle.std.proofs.Common.{◌≡◌, List, [], ◌∷◌, map, Option, Some, None, option_map, refl, sym, ap, ◌∙◌, subst}
 use mathlib.Core.Path.{fun_ext}
 use Rattle.st_ids.specs.Listing.{Has}
 use Rattle.st_ids.specs.declared.names.CellId.{CellId}

@@ -1,5 +1,5 @@
 -- The opening document of a tree, node by node.
-use Rattle.std.proofs.Common.{◌≡◌, ℕ, ◌+◌, ◌-◌, ◌<◌, ◌≤◌, ◌^◌, Bool, true, false, cond, List, [], ◌∷◌, ◌++◌, length, take, get_or, map, Option, Some, None, unwrap_or, option_map, refl, sym, ap, ◌∙◌, subst, arith}
+use Rattle.std.proofs.Common.{◌≡◌, ℕ, ◌+◌, ◌-◌, ◌<◌, ◌≤◌, ◌^◌, Bool, true, false, cond, List, [], ◌∷◌, ◌++◌, length, take, get_or, map, Option, Some, None, unwrap_or, option_map, refl, sym, ap, ◌∙◌, arith}
 use Rattle.std.specs.Prelude.{Ok, slice_get}
 use Rattle.std.specs.List.{filter_map, cons_option, last_or}
 use Rattle.std.specs.Option.{option_or, option_to_list}
@@ -27,7 +27,7 @@ use Rattle.st_lemmas.proofs.FirstItems.{take_one}
 use Rattle.st_lemmas.proofs.Lists.{filter_map-append, filter_map-length}
 use Rattle.st_lemmas.proofs.Options.{option_or-assoc, option_or-None}
 use Rattle.st_forest.specs.Stands.{named}
-use Rattle.st_forest.specs.inside.Opening.{slot_at, slot_by, slots_of}
+use Rattle.st_forest.specs.inside.Opening.{slot_by, slots_of}
 
 said_append : {A B : Type 0} (say : A → Option B) (xs ys : List A) → first_said say (xs ++ ys) ≡ option_or (first_said say xs) (first_said say ys)
 said_append say [] ys = refl

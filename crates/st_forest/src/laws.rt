@@ -6,5 +6,6 @@ ghost use Rattle.st_forest.specs.Stands.{StandsFor};
 
 /// A forest stands for one document that is sound in form.
 pub fn one_document()
-    ensures { (F : Forest) (D E : Document) → IsSoundInForm D → IsSoundInForm E → StandsFor F D → StandsFor F E → D ≡ E }
+    ensures { (F : Forest) (D E : Document) → IsSoundInForm D → IsSoundInForm E
+        → StandsFor F D → StandsFor F E → D ≡ E }
 {}

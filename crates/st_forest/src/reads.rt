@@ -20,14 +20,16 @@ impl Forest {
 
     /// A node, if it is there.
     pub fn node(&self, node: NodeId) -> Option<&NewNode>
-        ensures { (D : Document) → StandsFor self.now D → option_copied result ≡ option_map (named node) (D.nodes node) }
+        ensures { (D : Document) → StandsFor self.now D
+            → option_copied result ≡ option_map (named node) (D.nodes node) }
     {
         Some(&self.nodes.get(&node)?.node)
     }
 
     /// Where a node stands, if it is there.
     pub fn place(&self, node: NodeId) -> Option<&Spot>
-        ensures { (D : Document) → StandsFor self.now D → option_copied result ≡ option_map (λ _. D.place node) (D.nodes node) }
+        ensures { (D : Document) → StandsFor self.now D
+            → option_copied result ≡ option_map (λ _. D.place node) (D.nodes node) }
     {
         Some(&self.nodes.get(&node)?.place)
     }

@@ -54,7 +54,8 @@ fn touch(row: &mut ChunkRow, place: u64, how: How) -> u64
 // Puts a slot at a place, and goes past it, where there is room for one.
 fn make(alloc: Global, row: &mut ChunkRow, place: u64, slot: Slot) -> Result<u64, AllocError>
     requires { place ≤ length row.old }
-    ensures made { IfOk result (λ q. length row.old + 1 < 2 ^ 32 → (row.new ≡ take place row.old ++ slot ∷ drop place row.old) × (q ≡ place + 1)) }
+    ensures made { IfOk result (λ q. length row.old + 1 < 2 ^ 32
+        → (row.new ≡ take place row.old ++ slot ∷ drop place row.old) × (q ≡ place + 1)) }
     ensures within { IfOk result (λ q. q ≤ length row.new) }
 {
     if row.len() + 1 >= 4_294_967_296 {
@@ -71,8 +72,10 @@ fn make(alloc: Global, row: &mut ChunkRow, place: u64, slot: Slot) -> Result<u64
 fn apply_mark(alloc: Global, row: &mut ChunkRow, place: u64, mark: Mark) -> Result<u64, AllocError>
     requires { place ≤ length row.old }
     ensures within { IfOk result (λ q. q ≤ length row.new) }
-    ensures leads { (ms : Seq AnyMark) (d : Seq AnySlot) → Leads (drop place row.old) (spread (mark ∷ ms)) d → length (take place row.old ++ d) < 2 ^ 32
-        → IfOk result (λ q. (e : Seq AnySlot) × Leads (drop q row.new) (spread ms) e × (take place row.old ++ d ≡ take q row.new ++ e)) }
+    ensures leads { (ms : Seq AnyMark) (d : Seq AnySlot)
+        → Leads (drop place row.old) (spread (mark ∷ ms)) d → length (take place row.old ++ d) < 2 ^ 32
+        → IfOk result (λ q. (e : Seq AnySlot) × Leads (drop q row.new) (spread ms) e
+        × (take place row.old ++ d ≡ take q row.new ++ e)) }
 {
     match mark {
         Mark::Skip(count) => Ok(past(row, place, count)),
@@ -89,7 +92,8 @@ fn apply_mark(alloc: Global, row: &mut ChunkRow, place: u64, mark: Mark) -> Resu
 /// Changes a row as a step's marks say, whichever empty cells they name: it becomes the row to which they lead. It takes a search
 /// for each mark that changes a slot, and goes past the others. After an `Err` the row is spent.
 pub fn apply_row(alloc: Global, row: &mut ChunkRow, marks: &[Mark]) -> Result<(), AllocError>
-    ensures { OnOk result ((d : Seq AnySlot) → length d < 2 ^ 32 → Leads row.old (spread marks.now) d → row.new ≡ d) }
+    ensures { OnOk result ((d : Seq AnySlot) → length d < 2 ^ 32
+        → Leads row.old (spread marks.now) d → row.new ≡ d) }
 {
     let mut place = 0;
     for mark in marks {

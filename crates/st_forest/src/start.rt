@@ -71,8 +71,10 @@ fn add_node(
 
 // The nodes of the list, each where it stands.
 fn start_nodes(alloc: Global, flat: &[FlatNode]) -> Result<BTreeMap<NodeId, Seated>, AllocError>
-    ensures node { IfOk result (λ m. (n : Node) → option_map (λ (s : Entry). s.node) (get node_cmp m n) ≡ option_map (named n) (first_said (type_at n) flat.now)) }
-    ensures place { IfOk result (λ m. (n : Node) → option_map (λ (s : Entry). s.place) (get node_cmp m n) ≡ first_said (place_at n) flat.now) }
+    ensures node { IfOk result (λ m. (n : Node) → option_map (λ (s : Entry). s.node) (get node_cmp m n)
+        ≡ option_map (named n) (first_said (type_at n) flat.now)) }
+    ensures place { IfOk result (λ m. (n : Node) → option_map (λ (s : Entry). s.place) (get node_cmp m n)
+        ≡ first_said (place_at n) flat.now) }
 {
     let mut nodes = BTreeMap::new(alloc);
     for x in flat {
@@ -88,7 +90,8 @@ fn add_held(
     node: NodeId,
     at: &FlatAt,
 ) -> Result<(), AllocError>
-    ensures { OnOk result ((f : Register) → get field_cmp held.new f ≡ option_or (get field_cmp held.old f) (held_at f node at.now)) }
+    ensures { OnOk result ((f : Register) → get field_cmp held.new f
+        ≡ option_or (get field_cmp held.old f) (held_at f node at.now)) }
 {
     if let FlatAt::Register(field) = at {
         add(held, field.copy(alloc)?, node)?;
@@ -120,7 +123,8 @@ fn is_in(place: &Spot, cell: CellId) -> bool
 
 // Whether a node stands in a cell.
 fn stands_in(nodes: &BTreeMap<NodeId, Seated>, node: NodeId, cell: CellId) -> bool
-    ensures { result ≡ is_cell cell (unwrap_or (option_map (λ (s : Entry). s.place) (get node_cmp nodes.now node)) Standing.Nowhere) }
+    ensures { result ≡ is_cell cell
+        (unwrap_or (option_map (λ (s : Entry). s.place) (get node_cmp nodes.now node)) Standing.Nowhere) }
 {
     match nodes.get(&node) {
         None => false,

@@ -1,5 +1,5 @@
 -- What is read so of cells, rows, changes and steps.
-use Rattle.std.proofs.Common.{◌≡◌, Bool, true, false, List, [], ◌∷◌, map, Option, Some, None, cond, refl, sym, ap, ◌∙◌, subst, inl, inr}
+use Rattle.std.proofs.Common.{◌≡◌, Bool, true, false, List, [], ◌∷◌, map, Some, None, cond, refl, sym, ap, ◌∙◌, subst, inl, inr}
 use Rattle.std.specs.List.{list_any}
 use Rattle.st_ids.specs.Listing.{Has, IsListing}
 use Rattle.st_ids.specs.Order.{node_cmp}

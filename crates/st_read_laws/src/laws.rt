@@ -16,8 +16,10 @@ pub fn reading_again_tells_no_more()
 
 /// Counting the empty cells of what was read either way gives the change, or the step, with its empty cells counted.
 pub fn read_ones_are_counted()
-    ensures change { (l : Bool) (D : Document) (N : Intent) (C : Change) → IsRead l D N C → IsRead false D N (read_change false C) }
-    ensures step { (l : Bool) (D E : Document) (S : Step) → IsStepRead l D E S → IsStepRead false D E (read_step false S) }
+    ensures change { (l : Bool) (D : Document) (N : Intent) (C : Change)
+        → IsRead l D N C → IsRead false D N (read_change false C) }
+    ensures step { (l : Bool) (D E : Document) (S : Step)
+        → IsStepRead l D E S → IsStepRead false D E (read_step false S) }
 {}
 
 /// With each empty cell named, what is read is the change of the intent itself, or the step.
@@ -28,6 +30,8 @@ pub fn listed_ones_are_whole()
 
 /// An intent has one change in a document, and two documents have one step, however they are read.
 pub fn one_is_read()
-    ensures change { (l : Bool) (D : Document) (N : Intent) (C K : Change) → IsRead l D N C → IsRead l D N K → C ≡ K }
-    ensures step { (l : Bool) (D E : Document) (S T : Step) → IsSoundInForm E → IsStepRead l D E S → IsStepRead l D E T → S ≡ T }
+    ensures change { (l : Bool) (D : Document) (N : Intent) (C K : Change)
+        → IsRead l D N C → IsRead l D N K → C ≡ K }
+    ensures step { (l : Bool) (D E : Document) (S T : Step) → IsSoundInForm E
+        → IsStepRead l D E S → IsStepRead l D E T → S ≡ T }
 {}

@@ -6,15 +6,11 @@ use Rattle.std.proofs.lemmas.Option.{get_or_from_slice_get, slice_get_cases, sli
 use Rattle.std.proofs.Math.ListN.{drop_of_length-le}
 use Rattle.st_lemmas.proofs.Lists.{drop-slice_get}
 use Rattle.st_marks.specs.declared.changes.Change.{Change}
-use Rattle.st_marks.specs.declared.intents.Intent.{Intent}
 use Rattle.st_marks.specs.declared.steps.Step.{Step}
 use Rattle.st_marks.specs.declared.verdicts.Verdict.{Verdict}
 use Rattle.st_marks.specs.Document.{Document}
-use Rattle.st_marks.specs.Extends.{IsExtendedBy}
-use Rattle.st_marks.specs.Verdict.{IsVerdict, carried_document}
+use Rattle.st_marks.specs.Verdict.{carried_document}
 use Rattle.st_marks.proofs.OneVerdict.{one_verdict}
-use Rattle.st_log_laws.specs.Turns.{FitInTurn}
-use Rattle.st_read_laws.specs.Reading.{IsStepRead}
 use Rattle.st_rebaser.specs.InTurn.{HaveVerdicts, ShowInTurn, none_judged, none_shown, one_judged, one_shown}
 use Rattle.st_rebaser.specs.inside.Turns.{ArePushed, IsCarried, IsTurn, IsTurnOf}
 

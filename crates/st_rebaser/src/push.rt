@@ -21,7 +21,8 @@ fn carry_at<R: Rebaser>(
     place: usize,
     step: &mut Step,
 ) -> Result<(), AllocError>
-    ensures { OnOk result (IsTurn R.listed place changes.old verdicts.old step.entry.now changes.new verdicts.new step.exit.now) }
+    ensures { OnOk result (IsTurn R.listed place changes.old verdicts.old step.entry.now
+        changes.new verdicts.new step.exit.now) }
 {
     let Some(change) = changes.get_mut(place) else {
         return Ok(());
@@ -41,8 +42,10 @@ pub fn push_through<R: Rebaser>(
     verdicts: &mut List<Verdict>,
     step: &mut Step,
 ) -> Result<(), AllocError>
-    ensures { OnOk result ((D E F : Document) (Ns : Seq Intent) → IsExtendedBy D E → FitInTurn D Ns → FitInTurn E Ns
-        → ShowInTurn R.listed D Ns changes.old F → HaveVerdicts D Ns verdicts.old → IsStepRead R.listed D E step.entry.now
+    ensures { OnOk result ((D E F : Document) (Ns : Seq Intent)
+        → IsExtendedBy D E → FitInTurn D Ns → FitInTurn E Ns
+        → ShowInTurn R.listed D Ns changes.old F → HaveVerdicts D Ns verdicts.old
+        → IsStepRead R.listed D E step.entry.now
         → (G : Document) × ShowInTurn R.listed E Ns changes.new G × HaveVerdicts E Ns verdicts.new
         × IsExtendedBy F G × IsStepRead R.listed F G step.exit.now) }
 {

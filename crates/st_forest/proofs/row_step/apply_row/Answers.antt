@@ -1,4 +1,4 @@
-use Rattle.std.proofs.Common.{◌≡◌, ◌++◌, ◌∷◌, ◌+◌, ◌<◌, ◌≤◌, ◌∙◌, ◌^◌, [], arith, drop, get_or, length, refl, subst, sym, take}
+use Rattle.std.proofs.Common.{◌+◌, ◌<◌, ◌≤◌, ◌∙◌, ◌^◌, arith, drop, get_or, length, refl, subst, sym}
 use Rattle.std.proofs.Common.{List as Seq}
 use Rattle.std.proofs.Math.ListN.{drop_of_length-le}
 use Rattle.st_marks.specs.declared.marks.Mark.{Mark}

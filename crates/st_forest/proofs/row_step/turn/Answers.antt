@@ -1,6 +1,5 @@
-use Rattle.std.proofs.Common.{◌≡◌, ◌∙◌, ◌+◌, ◌<◌, ◌≤◌, arith, ap, length}
+use Rattle.std.proofs.Common.{◌≡◌, ◌∙◌, ◌+◌, ◌≤◌, arith, ap, length}
 use Rattle.std.proofs.Math.Nat.{min-eq_left}
-use Rattle.st_chunks.specs.Slots.{with_full}
 use Rattle.st_chunks.proofs.Found.{length-full}
 use Rattle.st_forest.proofs.row_step.turn.Goals as goal
 

@@ -1,4 +1,4 @@
-use Rattle.std.proofs.Common.{◌<◌, ◌^◌, [], arith, length, option_map, sym, unwrap_or}
+use Rattle.std.proofs.Common.{◌^◌, [], option_map, sym, unwrap_or}
 use Rattle.std.specs.BTreeMap.{get}
 use Rattle.st_ids.specs.Order.{node_cmp}
 use Rattle.st_marks.specs.declared.places.Spot.{Spot as Standing}
