@@ -32,7 +32,7 @@ use Rattle.st_puts.proofs.OverDocuments.{embedding_over}
 use Rattle.st_normal_laws.proofs.MeantIntent.{meant_fits}
 use Rattle.st_normal_laws.proofs.SchemaNormal.{schema_intent}
 use Rattle.st_normal_laws.proofs.StandsChange.{stands_over}
-use Rattle.st_reading.specs.Reading.{IsStepRead, read_step}
+use Rattle.st_read_laws.specs.Reading.{IsStepRead, read_step}
 use Rattle.st_author_laws.specs.Back.{IsOfAnIntent, IsOverBack, IsTakenBack, row_back}
 use Rattle.st_normal.specs.declared.entries.Found.{Found}
 use Rattle.st_author_laws.proofs.StepsBack.{taken_back}

@@ -13,8 +13,8 @@ use Rattle.st_marks.specs.Listings.{cells_made, marks_of}
 use Rattle.st_marks.specs.Row.{CellMark, Counted, Gap, Touch, Make, Fill, spread}
 use Rattle.st_normal.specs.declared.entries.Found.{Found}
 use Rattle.st_normal.specs.Rules.{entries_of_step, found_in, found_loose, found_over, in_rows}
-use Rattle.st_rows.proofs.KindLaws.{spread-merge}
-use Rattle.st_reading.specs.Reading.{read, read_row, read_step}
+use Rattle.st_read_laws.proofs.Readings.{spread-read}
+use Rattle.st_read_laws.specs.Reading.{read, read_row, read_step}
 
 -- ## Marks
 
@@ -45,12 +45,9 @@ found-read l (Fill c n ∷ ys) = found-read l ys
 
 -- ## Rows
 
-spread-read : (l : Bool) (r : RowMarks) → spread (read_row l r).marks ≡ map (read l) (spread r.marks)
-spread-read l r = spread-merge (map (read l) (spread r.marks))
-
 pub rows-read : {A : Type 0} (f : List CellMark → List A) (l : Bool) → ((ys : List CellMark) → f (map (read l) ys) ≡ f ys) → (rows : List RowMarks) → in_rows f (map (read_row l) rows) ≡ in_rows f rows
 rows-read f l h [] = refl
-rows-read f l h (r ∷ rows) = λ i. (ap f (spread-read l r) ∙ h (spread r.marks)) i ++ rows-read f l h rows i
+rows-read f l h (r ∷ rows) = λ i. (ap f (spread-read l r.marks) ∙ h (spread r.marks)) i ++ rows-read f l h rows i
 
 -- the marks of a row
 pub marks_of-read : (l : Bool) (rows : List RowMarks) (n : NodeId) → marks_of (map (read_row l) rows) n ≡ map (read l) (marks_of rows n)
@@ -60,7 +57,7 @@ marks_of-read l (r ∷ rows) n = go (is_eq (node_cmp n r.node)) (marks_of-read l
     go : (b : Bool) → marks_of (map (read_row l) rows) n ≡ map (read l) (marks_of rows n)
         → option_map_or (λ (q : RowMarks). spread q.marks) (cond b (Some (read_row l r)) (item_of node_cmp (λ (q : RowMarks). q.node) (map (read_row l) rows) n)) []
         ≡ map (read l) (option_map_or (λ (q : RowMarks). spread q.marks) (cond b (Some r) (item_of node_cmp (λ (q : RowMarks). q.node) rows n)) [])
-    go true e = spread-read l r
+    go true e = spread-read l r.marks
     go false e = e
 
 -- ## The whole

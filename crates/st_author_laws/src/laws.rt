@@ -9,7 +9,7 @@ ghost use Rattle.st_marks.specs.Extends.{GainsItems, IsExtendedBy};
 ghost use Rattle.st_marks.specs.Row.{SameCell, step_row};
 ghost use Rattle.st_normal.specs.Rules.{ObeysChangeRules};
 ghost use Rattle.st_puts.specs.Meant.{IsOver};
-ghost use Rattle.st_reading.specs.Reading.{IsStepRead, read};
+ghost use Rattle.st_read_laws.specs.Reading.{IsStepRead, read};
 ghost use Rattle.st_author_laws.specs.Back.{IsOfAnIntent, IsOverBack, IsTakenBack, row_back};
 
 /// The row from which a step leads is the one to which it leads, with what the step says of it taken back, read thin or not.

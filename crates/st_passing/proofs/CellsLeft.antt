@@ -14,9 +14,9 @@ use Rattle.st_rows.specs.Walks.{CellPiece, Both, First, Then, beside}
 use Rattle.st_rows.proofs.PiecesBeside.{beside-kept, beside-gained}
 use Rattle.st_reading.specs.Over.{mentioning}
 use Rattle.st_reading.specs.Pieces.{AreAlike, read_piece}
-use Rattle.st_reading.specs.Reading.{read}
+use Rattle.st_read_laws.specs.Reading.{read}
 use Rattle.st_reading.proofs.CountedPieces.{alike_beside}
-use Rattle.st_reading.proofs.RowsOver.{read-twice}
+use Rattle.st_read_laws.proofs.Readings.{read-twice}
 use Rattle.st_passing.specs.Passing.{first_kept, raised}
 use Rattle.st_passing.specs.Staying.{IsLeft}
 use Rattle.st_passing.proofs.RowsPassed.{twice}

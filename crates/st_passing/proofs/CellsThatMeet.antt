@@ -11,7 +11,7 @@ use Rattle.st_marks.specs.Row.{Counted, Touch, Fill, how}
 use Rattle.st_rows.specs.Walks.{Both}
 use Rattle.st_reading.specs.Bridge.{crossed_piece, turned}
 use Rattle.st_reading.specs.Over.{over_piece}
-use Rattle.st_reading.specs.Reading.{read}
+use Rattle.st_read_laws.specs.Reading.{read}
 use Rattle.st_passing.proofs.RowsPassed.{leaves}
 
 pub taken : (t : NodeId → Option To) (m : Nodes) (c : CellId) (n : NodeId) (h : How) → over_piece false t m (Both (Touch c n h) (Touch c n Leave)) ≢ Touch c n h

@@ -14,7 +14,7 @@ use Rattle.st_marks.specs.Row.{CellMark, Counted, Gap, Touch, Make, Fill, RowPar
 use Rattle.st_rows.specs.Walks.{CellPiece, Both, beside}
 use Rattle.st_rows.proofs.PiecesBeside.{beside-kept, beside-gained}
 use Rattle.st_reading.specs.Pieces.{read_piece}
-use Rattle.st_reading.specs.Reading.{read}
+use Rattle.st_read_laws.specs.Reading.{read}
 use Rattle.st_reading.proofs.CountedPieces.{beside-read}
 use Rattle.st_passing.specs.Passing.{all_pass, cell_passes, do_not_meet, piece_passes}
 use Rattle.st_passing.specs.Staying.{MentionedStay}

@@ -13,7 +13,7 @@ use Rattle.st_rows.specs.Walks.{CellPiece, Both, First, Then, beside}
 use Rattle.st_passing.specs.Passing.{AreAside, DoesNotMeet, IsAside, IsFree, IsNamed, IsUnseen, all_pass, first_kept, piece_passes, raised, raised_beside, then_kept, trimmed}
 use Rattle.st_reading.specs.Bridge.{crossed_piece, crossed_row, target_by, turned}
 use Rattle.st_reading.specs.Over.{empty_cell, full_cell, over_piece, over_row}
-use Rattle.st_reading.specs.Reading.{read}
+use Rattle.st_read_laws.specs.Reading.{read}
 
 unequal : {P : Type 0} → false ≡ true → P
 unequal e = cc

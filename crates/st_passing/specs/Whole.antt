@@ -21,7 +21,7 @@ use Rattle.st_marks.specs.Intent.{Fits}
 use Rattle.st_marks.specs.Row.{merge, spread}
 use Rattle.st_marks.specs.Verdict.{IsVerdict, carried_document}
 use Rattle.st_passing.specs.Passing.{do_not_meet, raised, raised_beside}
-use Rattle.st_reading.specs.Reading.{IsRead, IsStepRead}
+use Rattle.st_read_laws.specs.Reading.{IsRead, IsStepRead}
 
 -- ## The test
 

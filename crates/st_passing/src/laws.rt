@@ -26,7 +26,7 @@ ghost use Rattle.st_marks.specs.declared.marks.How.TheVariants.{Leave, Stay};
 ghost use Rattle.st_rows.specs.Walks.{Both};
 ghost use Rattle.st_reading.specs.Bridge.{crossed_piece, crossed_row};
 ghost use Rattle.st_reading.specs.Over.{mentioning, over_piece, over_row};
-ghost use Rattle.st_reading.specs.Reading.{read};
+ghost use Rattle.st_read_laws.specs.Reading.{read};
 
 /// A change and a step of a row that don't meet: each says after the other what it said before, and counts what the other makes.
 pub fn rows_pass()

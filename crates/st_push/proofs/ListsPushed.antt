@@ -1,5 +1,5 @@
 -- Changes that stand in turn, carried over a step.
-use Rattle.std.proofs.Common.{◌≡◌, Bool, List, [], ◌∷◌, ◌++◌, refl, sym, ap, ◌∙◌, subst}
+use Rattle.std.proofs.Common.{◌≡◌, Bool, List, [], ◌∷◌, ◌++◌, refl, sym, subst}
 use Rattle.st_marks.specs.declared.changes.Change.{Change}
 use Rattle.st_marks.specs.declared.intents.Intent.{Intent}
 use Rattle.st_marks.specs.declared.steps.Step.{Step}
@@ -10,9 +10,10 @@ use Rattle.st_marks.specs.Run.{Run, done, next}
 use Rattle.st_marks.specs.Verdict.{IsVerdict, carried_document}
 use Rattle.st_log_laws.specs.Turns.{FitInTurn}
 use Rattle.st_marks.proofs.OneVerdict.{one_verdict}
-use Rattle.st_marks.proofs.Unique.{one_embedding}
-use Rattle.st_reading.specs.Reading.{IsRead, IsStepRead, read_change}
-use Rattle.st_push.specs.InTurn.{Carries, PushedTo, ShowInTurn, none_shown, one_shown}
+use Rattle.st_read_laws.specs.Reading.{IsRead, IsStepRead}
+use Rattle.st_read_laws.proofs.Readings.{one_read}
+use Rattle.st_rebaser.specs.InTurn.{ShowInTurn, none_shown, one_shown}
+use Rattle.st_push.specs.InTurn.{Carries, PushedTo}
 
 pub push : (l : Bool) → Carries l → {D F : Document} {Ns : List Intent} {Cs : List Change} → ShowInTurn l D Ns Cs F → (E : Document) (S : Step)
     → IsExtendedBy D E → FitInTurn D Ns → FitInTurn E Ns → IsStepRead l D E S → PushedTo l E F Ns
@@ -33,9 +34,6 @@ then_one none_shown N C v is c = one_shown v is c none_shown
 then_one (one_shown w was d rest) N C v is c = one_shown w was d (then_one rest N C v is c)
 
 -- ## There is one list
-
-pub one_read : (l : Bool) (D : Document) (N : Intent) (x y : Change) → IsRead l D N x → IsRead l D N y → x ≡ y
-one_read l D N x y c d = c.2 ∙ ap (read_change l) (one_embedding D N c.0 d.0 c.1 d.1) ∙ sym d.2
 
 pub one_list : (l : Bool) {D F : Document} {Ns : List Intent} {Cs : List Change} → ShowInTurn l D Ns Cs F → {G : Document} {Xs : List Change} → ShowInTurn l D Ns Xs G → (Cs ≡ Xs) × (F ≡ G)
 one_list l none_shown none_shown = (refl, refl)

@@ -1,5 +1,5 @@
--- Lists of changes that stand in turn, and what carries them over a step.
-use Rattle.std.specs.Prelude.{Bool, List, [], ◌∷◌}
+-- What carries changes that stand in turn over a step.
+use Rattle.std.specs.Prelude.{Bool, List}
 use Rattle.st_marks.specs.declared.changes.Change.{Change}
 use Rattle.st_marks.specs.declared.intents.Intent.{Intent}
 use Rattle.st_marks.specs.declared.steps.Step.{Step}
@@ -10,13 +10,8 @@ use Rattle.st_marks.specs.Intent.{Fits}
 use Rattle.st_marks.specs.CarryOut.{full}
 use Rattle.st_marks.specs.Verdict.{IsVerdict, carried_document}
 use Rattle.st_log_laws.specs.Turns.{FitInTurn}
-use Rattle.st_reading.specs.Reading.{IsRead, IsStepRead}
-
--- changes that show intents, each in the document that those before it leave; the last leaves F
-pub data ShowInTurn (l : Bool) : Document → List Intent → List Change → Document → Type 0 where
-  none_shown : {D : Document} → ShowInTurn l D [] [] D
-  one_shown : {D F : Document} {N : Intent} {Ns : List Intent} {C : Change} {Cs : List Change} (v : Verdict) → IsVerdict D N v → IsRead l D N C
-      → ShowInTurn l (carried_document v D N) Ns Cs F → ShowInTurn l D (N ∷ Ns) (C ∷ Cs) F
+use Rattle.st_read_laws.specs.Reading.{IsRead, IsStepRead}
+use Rattle.st_rebaser.specs.InTurn.{ShowInTurn}
 
 -- ## One change over a step
 

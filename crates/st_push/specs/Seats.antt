@@ -14,8 +14,8 @@ use Rattle.st_marks.specs.Run.{Run}
 use Rattle.st_marks.specs.Verdict.{IsVerdict, carried_document}
 use Rattle.st_lists.specs.declared.lists.Entry.{Entry}
 use Rattle.st_lists.specs.Log.{commit_of, commits_in, known_reference}
-use Rattle.st_reading.specs.Reading.{IsRead, IsStepRead}
-use Rattle.st_push.specs.InTurn.{ShowInTurn}
+use Rattle.st_read_laws.specs.Reading.{IsRead, IsStepRead}
+use Rattle.st_rebaser.specs.InTurn.{ShowInTurn}
 
 -- ## Authors
 

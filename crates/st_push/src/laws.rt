@@ -13,8 +13,9 @@ ghost use Rattle.st_marks.specs.CarryOut.{full};
 ghost use Rattle.st_marks.specs.Run.{Run};
 ghost use Rattle.st_marks.specs.Verdict.{IsVerdict, carried_document};
 ghost use Rattle.st_log_laws.specs.Turns.{FitInTurn};
-ghost use Rattle.st_reading.specs.Reading.{IsRead, IsStepRead};
-ghost use Rattle.st_push.specs.InTurn.{CarriedTo, Carries, Composes, PushedTo, Pushes, ShowInTurn};
+ghost use Rattle.st_read_laws.specs.Reading.{IsRead, IsStepRead};
+ghost use Rattle.st_rebaser.specs.InTurn.{ShowInTurn};
+ghost use Rattle.st_push.specs.InTurn.{CarriedTo, Carries, Composes, PushedTo, Pushes};
 
 /// Where each change can be carried over each step, so can several that stand in turn.
 pub fn changes_are_pushed()

@@ -4,7 +4,8 @@ use Rattle.st_marks.specs.Row.{CellMark, Counted, Gap, Touch, Make, Fill}
 use Rattle.st_mention_laws.specs.Shown.{unnamed}
 use Rattle.st_rows.specs.Walks.{CellPiece, Both, First, Then, beside, in_turn, meeting_piece}
 use Rattle.st_reading.specs.Pieces.{AreAlike, IsBlind, read_piece}
-use Rattle.st_reading.specs.Reading.{read}
+use Rattle.st_read_laws.specs.Reading.{read}
+use Rattle.st_read_laws.proofs.Readings.{all_listed, read-listed}
 
 abbrev unnamed_piece : CellPiece → CellPiece
 unnamed_piece (Both x y) = Both (unnamed x) (unnamed y)
@@ -51,13 +52,6 @@ in_turn-unnamed (x ∷ xs) (Fill c n ∷ ys) = ap (λ l. Both (unnamed x) (Fill 
 
 -- ## Either way of reading
 
-pub named : (x : CellMark) → read true x ≡ x
-named Counted = refl
-named (Gap c) = refl
-named (Touch c n h) = refl
-named (Make c n b) = refl
-named (Fill c n) = refl
-
 counted : (x : CellMark) → read false x ≡ unnamed x
 counted Counted = refl
 counted (Gap c) = refl
@@ -65,19 +59,15 @@ counted (Touch c n h) = refl
 counted (Make c n b) = refl
 counted (Fill c n) = refl
 
-all_named : (xs : List CellMark) → map (read true) xs ≡ xs
-all_named [] = refl
-all_named (x ∷ xs) = λ i. named x i ∷ all_named xs i
-
 all_counted : (xs : List CellMark) → map (read false) xs ≡ map unnamed xs
 all_counted [] = refl
 all_counted (x ∷ xs) = λ i. counted x i ∷ all_counted xs i
 
 pieces_named : (ps : List CellPiece) → map (read_piece true) ps ≡ ps
 pieces_named [] = refl
-pieces_named (Both x y ∷ ps) = λ i. Both (named x i) (named y i) ∷ pieces_named ps i
-pieces_named (First x ∷ ps) = λ i. First (named x i) ∷ pieces_named ps i
-pieces_named (Then y ∷ ps) = λ i. Then (named y i) ∷ pieces_named ps i
+pieces_named (Both x y ∷ ps) = λ i. Both (read-listed x i) (read-listed y i) ∷ pieces_named ps i
+pieces_named (First x ∷ ps) = λ i. First (read-listed x i) ∷ pieces_named ps i
+pieces_named (Then y ∷ ps) = λ i. Then (read-listed y i) ∷ pieces_named ps i
 
 pieces_counted : (ps : List CellPiece) → map (read_piece false) ps ≡ map unnamed_piece ps
 pieces_counted [] = refl
@@ -86,11 +76,11 @@ pieces_counted (First x ∷ ps) = λ i. First (counted x i) ∷ pieces_counted p
 pieces_counted (Then y ∷ ps) = λ i. Then (counted y i) ∷ pieces_counted ps i
 
 pub beside-read : (l : Bool) (xs ys : List CellMark) → beside (map (read l) xs) (map (read l) ys) ≡ map (read_piece l) (beside xs ys)
-beside-read true xs ys = (λ i. beside (all_named xs i) (all_named ys i)) ∙ sym (pieces_named (beside xs ys))
+beside-read true xs ys = (λ i. beside (all_listed xs i) (all_listed ys i)) ∙ sym (pieces_named (beside xs ys))
 beside-read false xs ys = (λ i. beside (all_counted xs i) (all_counted ys i)) ∙ beside-unnamed xs ys ∙ sym (pieces_counted (beside xs ys))
 
 pub in_turn-read : (l : Bool) (xs ys : List CellMark) → in_turn (map (read l) xs) (map (read l) ys) ≡ map (read_piece l) (in_turn xs ys)
-in_turn-read true xs ys = (λ i. in_turn (all_named xs i) (all_named ys i)) ∙ sym (pieces_named (in_turn xs ys))
+in_turn-read true xs ys = (λ i. in_turn (all_listed xs i) (all_listed ys i)) ∙ sym (pieces_named (in_turn xs ys))
 in_turn-read false xs ys = (λ i. in_turn (all_counted xs i) (all_counted ys i)) ∙ in_turn-unnamed xs ys ∙ sym (pieces_counted (in_turn xs ys))
 
 -- ## Tables that see no more than is read

@@ -25,11 +25,11 @@ use Rattle.st_rows.proofs.DocumentsAfter.{void_is, whole_is}
 use Rattle.st_rows.proofs.DocumentsListed.{moved_apart, names_moved}
 use Rattle.st_reading.specs.Bridge.{crossed_piece, crossed_row, full_beside, full_beyond, is_void, stepped, target_by}
 use Rattle.st_reading.specs.Pieces.{AreAlike, IsBlind, read_piece}
-use Rattle.st_reading.specs.Reading.{read}
-use Rattle.st_reading.proofs.CountedPieces.{alike_beside, named}
+use Rattle.st_read_laws.specs.Reading.{read}
+use Rattle.st_reading.proofs.CountedPieces.{alike_beside}
 use Rattle.st_reading.proofs.RowsCrossed.{Led, row_crossed}
 use Rattle.st_reading.proofs.DocumentRowsOver.{groups_are_old}
-use Rattle.st_reading.proofs.RowsOver.{read-twice}
+use Rattle.st_read_laws.proofs.Readings.{read-listed, read-twice}
 
 -- ## The table sees no more than is read
 
@@ -72,9 +72,9 @@ stepped-thin g u (Fill c n) (Make d m e) = refl
 stepped-thin g u (Fill c n) (Fill d m) = refl
 
 piece_named : (p : CellPiece) → read_piece true p ≡ p
-piece_named (Both x y) = λ i. Both (named x i) (named y i)
-piece_named (First x) = λ i. First (named x i)
-piece_named (Then y) = λ i. Then (named y i)
+piece_named (Both x y) = λ i. Both (read-listed x i) (read-listed y i)
+piece_named (First x) = λ i. First (read-listed x i)
+piece_named (Then y) = λ i. Then (read-listed y i)
 
 pub crossed_blind : (l was is : Bool) (placed : Nodes) (t : NodeId → Option To) → IsBlind l (λ p. read l (crossed_piece was is placed t p))
 crossed_blind true was is placed t p = ap (λ r. read true (crossed_piece was is placed t r)) (piece_named p)

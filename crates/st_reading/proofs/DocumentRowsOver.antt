@@ -24,7 +24,7 @@ use Rattle.st_rows.specs.Changes.{NoGroupAtGained}
 use Rattle.st_rows.specs.Sequence.{cells_of}
 use Rattle.st_reading.specs.Over.{AreCovered, over_row}
 use Rattle.st_reading.specs.Pieces.{AreAlike}
-use Rattle.st_reading.specs.Reading.{read}
+use Rattle.st_read_laws.specs.Reading.{read}
 use Rattle.st_reading.proofs.RowsOver.{shown_row_over}
 
 -- ## Cells that are gained weren't there. `st_agree_laws` and `st_moves` have these; the crate then stands on those.

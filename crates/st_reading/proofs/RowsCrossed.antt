@@ -16,7 +16,7 @@ use Rattle.st_rows.proofs.RowBridges.{placing}
 use Rattle.st_rows.proofs.VoidRows.{void-made}
 use Rattle.st_rows.proofs.PiecesBeside.{beside-kept, beside-gained}
 use Rattle.st_lemmas.proofs.Bools.{and-second, or-false, and-first, or-left, or-right}
-use Rattle.st_reading.specs.Reading.{read}
+use Rattle.st_read_laws.specs.Reading.{read}
 use Rattle.st_reading.specs.Bridge.{crossed_cell, crossed_piece, crossed_row, full_beside, full_beyond, made_by, stepped, turned}
 
 -- ## One cell that both find

@@ -16,7 +16,8 @@ use Rattle.st_rows.specs.Walks.{Both, First, Then}
 use Rattle.st_rows.proofs.PiecesBeside.{beside-kept, beside-gained}
 use Rattle.st_reading.specs.Over.{AreCovered, empty_cell, found_cell, full_cell, mentioning, over_piece, over_row, read_cell}
 use Rattle.st_reading.specs.Pieces.{AreAlike, IsBlind}
-use Rattle.st_reading.specs.Reading.{read}
+use Rattle.st_read_laws.specs.Reading.{read}
+use Rattle.st_read_laws.proofs.Readings.{read-twice}
 use Rattle.st_reading.proofs.CountedPieces.{alike_beside}
 
 -- ## The table sees no more than is read
@@ -44,17 +45,6 @@ found-again l t m x (Touch c n Here) = refl
 found-again l t m x (Touch c n Leave) = refl
 found-again l t m x (Make c n b) = read-again l t m x
 found-again l t m x (Fill c n) = refl
-
-gap-twice : (l : Bool) (c : CellId) → read l (read l (Gap c)) ≡ read l (Gap c)
-gap-twice true c = refl
-gap-twice false c = refl
-
-pub read-twice : (l : Bool) (x : CellMark) → read l (read l x) ≡ read l x
-read-twice l Counted = refl
-read-twice l (Gap c) = gap-twice l c
-read-twice l (Touch c n h) = refl
-read-twice l (Make c n b) = refl
-read-twice l (Fill c n) = refl
 
 gap-then : (l : Bool) (t : NodeId → Option To) (m : Nodes) (c : CellId) → over_piece l t m (Then (read l (Gap c))) ≡ Counted
 gap-then true t m c = refl

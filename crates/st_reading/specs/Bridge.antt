@@ -10,7 +10,7 @@ use Rattle.st_marks.specs.declared.verdicts.Verdict.{Verdict}
 use Rattle.st_marks.specs.Row.{CellMark, Gap, Touch, Make, Fill}
 use Rattle.st_rows.specs.Changes.{full_after}
 use Rattle.st_rows.specs.Walks.{CellPiece, Both, First, Then, beside}
-use Rattle.st_reading.specs.Reading.{read}
+use Rattle.st_read_laws.specs.Reading.{read}
 
 -- where a change puts a node: a void one puts those that are placed
 abbrev pub target_by : Bool → Nodes → (NodeId → Option To) → NodeId → Option To

@@ -11,7 +11,7 @@ use Rattle.st_marks.specs.Extends.{GainsItems, no_more, item_gained, item_kept}
 use Rattle.st_marks.specs.How.{is_here}
 use Rattle.st_marks.specs.Row.{CellMark, Counted, Gap, Touch, Make, Fill, RowPart, SameCell, how}
 use Rattle.st_rows.specs.Walks.{CellPiece, Both, First, Then, beside}
-use Rattle.st_reading.specs.Reading.{read}
+use Rattle.st_read_laws.specs.Reading.{read}
 
 -- a full cell
 abbrev pub full_cell : (NodeId → Option To) → Nodes → CellId → NodeId → CellMark

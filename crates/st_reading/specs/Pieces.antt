@@ -2,7 +2,7 @@
 use Rattle.std.specs.Prelude.{◌≡◌, Bool, List, map}
 use Rattle.st_marks.specs.Row.{CellMark}
 use Rattle.st_rows.specs.Walks.{CellPiece, Both, First, Then}
-use Rattle.st_reading.specs.Reading.{read}
+use Rattle.st_read_laws.specs.Reading.{read}
 
 -- a piece, read so
 abbrev pub read_piece : Bool → CellPiece → CellPiece

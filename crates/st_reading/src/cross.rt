@@ -10,7 +10,7 @@ ghost use Rattle.st_rows.specs.Pieces.{IsSingle};
 ghost use Rattle.st_rows.specs.Reading.{cell_of};
 ghost use Rattle.st_rows.specs.Walks.{First, Then};
 ghost use Rattle.st_reading.specs.Bridge.{crossed_cell, crossed_piece, crossed_row, full_beside, full_beyond, stepped as step_mark, target_by, turned as turned_cell};
-ghost use Rattle.st_reading.specs.Reading.{read};
+ghost use Rattle.st_read_laws.specs.Reading.{read};
 
 use crate::reading::Reading;
 use st_ids::{CellId, List, NodeId, is_same_cell};
@@ -194,7 +194,7 @@ impl<'a, R: Reading> Table for Across<'a, R> {
     ghost use Rattle.std.specs.BTreeSet.{contains};
     ghost use Rattle.st_ids.specs.Order.{node_cmp};
     ghost use Rattle.st_reading.specs.Bridge.{crossed_piece};
-    ghost use Rattle.st_reading.specs.Reading.{read};
+    ghost use Rattle.st_read_laws.specs.Reading.{read};
 
     ghost cell = { λ t. λ p. read R.listed (crossed_piece t.was t.is (contains node_cmp t.placed.now) (get node_cmp t.puts.now) p) };
 

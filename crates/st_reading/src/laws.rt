@@ -21,7 +21,7 @@ ghost use Rattle.st_marks.specs.Verdict.{carried_document};
 ghost use Rattle.st_rows.specs.Walks.{CellPiece, beside, in_turn};
 ghost use Rattle.st_reading.specs.Over.{AreCovered, mentioning, over_row};
 ghost use Rattle.st_reading.specs.Pieces.{AreAlike, IsBlind, read_piece};
-ghost use Rattle.st_reading.specs.Reading.{read};
+ghost use Rattle.st_read_laws.specs.Reading.{read};
 
 /// Two listings with their empty cells counted, laid over each other, are their pieces with empty cells counted. So a table that
 /// reads no name of an empty cell makes the same of listings that are alike.

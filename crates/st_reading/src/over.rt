@@ -22,7 +22,7 @@ ghost use Rattle.st_rows.specs.Reading.{cell_of};
 ghost use Rattle.st_rows.specs.Walks.{Then};
 ghost use Rattle.st_reading.specs.Over.{empty_cell, found_cell, full_cell, over_piece, over_row as rebased_row, read_cell};
 ghost use Rattle.st_reading.specs.Pieces.{AreAlike};
-ghost use Rattle.st_reading.specs.Reading.{read};
+ghost use Rattle.st_read_laws.specs.Reading.{read};
 
 use crate::reading::Reading;
 use st_ids::{CellId, List, NodeId, is_same_cell};

@@ -1,7 +1,7 @@
 //! How empty cells that stay empty are read.
 ghost use Rattle.std.specs.Prelude.{Bool, ◌≡◌, ◌∷◌, [], true, false};
 ghost use Rattle.st_marks.specs.Row.{Gap, spread};
-ghost use Rattle.st_reading.specs.Reading.{read};
+ghost use Rattle.st_read_laws.specs.Reading.{read};
 
 use st_ids::CellId;
 use st_marks::Mark;

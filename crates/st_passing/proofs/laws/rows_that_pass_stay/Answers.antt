@@ -11,7 +11,7 @@ use Rattle.st_marks.specs.Extends.{IsExtendedBy}
 use Rattle.st_marks.specs.Row.{embed_row, step_row}
 use Rattle.st_marks.specs.Step.{IsStep}
 use Rattle.st_marks.proofs.Climb.{shown, stands}
-use Rattle.st_reading.specs.Reading.{read}
+use Rattle.st_read_laws.specs.Reading.{read}
 use Rattle.st_passing.specs.Passing.{DoesNotMeet}
 use Rattle.st_passing.proofs.NodesStaying.{row_stays, stands_on}
 use Rattle.st_passing.proofs.laws.rows_that_pass_stay.Goals as goal

@@ -7,7 +7,7 @@ use Rattle.st_rows.specs.Pieces.{cells_of_piece}
 use Rattle.st_rows.specs.Walks.{CellPiece}
 use Rattle.st_rows.proofs.WalkLengths.{map-both_counted}
 use Rattle.st_reading.specs.Bridge.{crossed_piece}
-use Rattle.st_reading.specs.Reading.{read}
+use Rattle.st_read_laws.specs.Reading.{read}
 use Rattle.st_reading.proofs.DocumentRowsCrossed.{counted_stays}
 use Rattle.st_reading.proofs.cross.AcrossTable.mark.Goals as goal
 

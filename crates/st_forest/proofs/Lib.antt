@@ -1,0 +1,4 @@
+pub mod MapsCopied
+pub mod OneDocument
+pub mod Opened
+pub mod RowsLed

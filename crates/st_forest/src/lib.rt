@@ -1,0 +1,15 @@
+//! A document as tables: of each node what it is and where it stands, and of each row its slots.
+#![tactic(auto)]
+
+mod copy;
+mod forest;
+mod laws;
+mod maps;
+mod reads;
+mod row_step;
+mod rows;
+mod start;
+
+pub use forest::{Forest, Seated};
+pub use laws::one_document;
+pub use row_step::apply_row;
