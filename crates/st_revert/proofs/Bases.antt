@@ -1,6 +1,5 @@
 -- Whether a schema is in effect after a step, where the way back begins.
-use Rattle.std.proofs.Common.{◌≡◌, ◌↔◌, Bool, true, false, ◌&&◌, not, List, ◌++◌, map, Option, Some, None, MatchOption, refl, sym, ap, ◌∙◌, subst, inl, inr, ◌⊎◌, IsTrue}
-use Rattle.std.specs.List.{list_any}
+use Rattle.std.proofs.Common.{◌≡◌, ◌↔◌, Bool, true, false, ◌&&◌, not, List, Option, Some, None, refl, sym, ap, ◌∙◌, subst, inl, inr, ◌⊎◌, IsTrue}
 use Rattle.st_ids.specs.Listing.{Has}
 use Rattle.st_ids.specs.Order.{same_rev}
 use Rattle.st_ids.proofs.Orders.{same_rev-itself, same_rev-true}
@@ -8,7 +7,7 @@ use Rattle.st_ids.specs.declared.names.Rev.{Rev}
 use Rattle.st_marks.specs.declared.intents.Intent.{Intent}
 use Rattle.st_marks.specs.declared.schemas.SchemaEntry.{SchemaEntry}
 use Rattle.st_marks.specs.declared.schemas.SchemaStep.{SchemaStep}
-use Rattle.st_marks.specs.Document.{CanBeInEffect, Document, last_of, revs}
+use Rattle.st_marks.specs.Document.{CanBeInEffect, Document, revs}
 use Rattle.st_marks.specs.Step.{IsSchemaStep}
 use Rattle.st_marks.specs.Verdict.{HasBase, IsBaseInEffect}
 use Rattle.st_marks.proofs.Members.{any-has, distinct-between, has-any, has-append, has-map}

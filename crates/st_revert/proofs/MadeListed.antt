@@ -1,5 +1,5 @@
 -- What a step makes, told mark by mark, lists the step to the retreat.
-use Rattle.std.proofs.Common.{◌≡◌, ◌≢◌, zero, Bool, true, false, ◌||◌, ◌&&◌, not, List, [], ◌∷◌, map, Option, Some, None, MatchOption, option_map, cond, refl, sym, ap, ◌∙◌, subst, inl, inr, ◌⊎◌, IsSome, is_some}
+use Rattle.std.proofs.Common.{◌≡◌, ◌≢◌, zero, Bool, true, false, ◌||◌, ◌&&◌, not, List, [], ◌∷◌, map, Option, Some, None, MatchOption, option_map, cond, refl, sym, ap, ◌∙◌, subst, inl, inr, IsSome, is_some}
 use Rattle.std.specs.List.{list_any}
 use Rattle.std.specs.Option.{option_map_or}
 use Rattle.st_ids.specs.Listing.{Has, IsListing, item_of}
@@ -22,7 +22,7 @@ use Rattle.st_marks.specs.declared.places.Spot.{Spot}
 use Rattle.st_marks.specs.declared.steps.Step.{Step}
 use Rattle.st_marks.specs.Back.{is_in, place_back, retreat, unless_in}
 use Rattle.st_marks.specs.Document.{Document, NodeType, content, is_cell, node_of, owned_cell, slot}
-use Rattle.st_marks.specs.Embedding.{is_loose, is_nowhere, row_marks, tells}
+use Rattle.st_marks.specs.Embedding.{is_nowhere, row_marks, tells}
 use Rattle.st_marks.specs.Extends.{GainsItems, IsExtendedBy, no_more, item_gained, item_kept}
 use Rattle.st_marks.specs.Intent.{same_option}
 use Rattle.st_marks.specs.Register.{holds_mentioned, step_register}
@@ -42,7 +42,6 @@ use Rattle.st_rows.proofs.Existence.{contents_grow}
 use Rattle.st_rows.proofs.KindLaws.{same_grown}
 use Rattle.st_rows.proofs.RowRetreats.{retreat_is}
 use Rattle.st_puts.proofs.ListedIf.{or_parts, shown-None, shown-Some}
-use Rattle.st_trim.specs.Covers.{CoversStep}
 use Rattle.st_trim.specs.Trimmed.{ListsStep}
 use Rattle.st_trim.proofs.StepsInTurn.{step_closed}
 use Rattle.st_steps.specs.WayBack.{named_back_of, register_back}

@@ -1,8 +1,8 @@
 -- The way back over a step, read as a change, is the embedding of the intent that leads back.
 use Rattle.std.proofs.Common.{◌≡◌, ◌≢◌, ◌↔◌, ℕ, zero, suc, Bool, true, false, ◌||◌, ◌&&◌, not, List, [], ◌∷◌, ◌++◌, map, Option, Some, None, MatchOption, option_map, option_and_then, cond, refl, sym, ap, ◌∙◌, subst, inl, inr, ◌⊎◌, IsSome, IsTrue, is_some}
-use Rattle.std.specs.List.{filter_map, list_any}
-use Rattle.st_ids.specs.Listing.{Has, IsListing, item_of}
-use Rattle.st_ids.specs.Order.{field_cmp, node_cmp, same_cell, same_field, same_node}
+use Rattle.std.specs.List.{filter_map}
+use Rattle.st_ids.specs.Listing.{Has}
+use Rattle.st_ids.specs.Order.{field_cmp, same_cell, same_field, same_node}
 use Rattle.st_ids.specs.Root.{root}
 use Rattle.st_ids.proofs.Orders.{same_cell-itself, same_cell-true, same_field-itself}
 use Rattle.st_ids.proofs.Shared.{filter-from}
@@ -12,36 +12,31 @@ use Rattle.st_ids.specs.declared.names.NodeId.{NodeId}
 use Rattle.st_ids.specs.declared.names.Rev.{Rev}
 use Rattle.st_kind.specs.Named.{Nodes}
 use Rattle.st_lemmas.proofs.Bools.{true-false}
-use Rattle.st_marks.specs.declared.changes.Change.{Change}
-use Rattle.st_marks.specs.declared.changes.NewNode.{NewNode}
 use Rattle.st_marks.specs.declared.intents.Group.{Group}
 use Rattle.st_marks.specs.declared.intents.Intent.{Intent}
 use Rattle.st_marks.specs.declared.intents.Owned.{Owned}
 use Rattle.st_marks.specs.declared.intents.Put.{Put}
 use Rattle.st_marks.specs.declared.intents.To.{To}
-use Rattle.st_marks.specs.declared.marks.How.{How}
 use Rattle.st_marks.specs.declared.marks.How.TheVariants.{Stay, Here, Leave}
 use Rattle.st_marks.specs.declared.marks.Loose.{Loose}
 use Rattle.st_marks.specs.declared.marks.RegMark.{RegMark}
 use Rattle.st_marks.specs.declared.marks.RegStep.{RegStep}
-use Rattle.st_marks.specs.declared.marks.RowMarks.{RowMarks}
-use Rattle.st_marks.specs.declared.places.Slot.{Slot}
 use Rattle.st_marks.specs.declared.places.Spot.{Spot}
 use Rattle.st_marks.specs.declared.steps.Step.{Step}
 use Rattle.st_marks.specs.Back.{IsBack, is_in, place_back, retreat, to_of, unless_in}
 use Rattle.st_marks.specs.Document.{Document, NodeType, above, climb, content, is_cell, node_of, owned_cell, slot}
-use Rattle.st_marks.specs.Embedding.{IsEmbedding, IsMentionedByIntent, embed_loose, is_among, is_loose, is_nowhere, named_by_intent, register_part, row_marks, row_part}
-use Rattle.st_marks.specs.Extends.{GainsItems, IsExtendedBy, no_more, item_gained, item_kept}
+use Rattle.st_marks.specs.Embedding.{IsEmbedding, IsMentionedByIntent, embed_loose, is_among, is_nowhere, named_by_intent, register_part, row_marks, row_part}
+use Rattle.st_marks.specs.Extends.{GainsItems, IsExtendedBy, no_more, item_kept}
 use Rattle.st_marks.specs.How.{is_here}
 use Rattle.st_marks.specs.Intent.{cell_of, clears, group_at, new_node, put_in, put_of, same_option}
 use Rattle.st_marks.specs.Register.{comes_in, embed_register, holds_mentioned, how_held, step_register}
-use Rattle.st_marks.specs.Row.{CellMark, Counted, Gap, Touch, Fill, RowPart, SameCell, embed_cell, embed_cells, embed_made, embed_row, how, same_to, step_cell, step_row}
+use Rattle.st_marks.specs.Row.{Counted, Gap, Touch, Fill, RowPart, SameCell, embed_cell, embed_cells, embed_made, embed_row, how, same_to, step_cell, step_row}
 use Rattle.st_marks.specs.Step.{IsChanged, IsMentionedByStep, IsStep, step_loose}
 use Rattle.st_marks.specs.Verdict.{IsBaseInEffect}
 use Rattle.st_marks.proofs.Climb.{is_cell-true, shown, stands, unknown_nowhere}
 use Rattle.st_marks.proofs.Lookups.{clears-has, has-put, has-put_in, put-has, put_in-has}
 use Rattle.st_marks.proofs.Members.{append_left, append_right, has-any, has-append, has-filter_map, has-map, map-has}
-use Rattle.st_marks.proofs.Retreat.{back_old, retreat_extends, retreat_one_held, retreat_sound}
+use Rattle.st_marks.proofs.Retreat.{retreat_one_held, retreat_sound}
 use Rattle.st_marks.proofs.Shared.{held-same, same-held, same_to-true}
 use Rattle.st_mention_laws.proofs.Mentions.{mentioned_above}
 use Rattle.st_rows.proofs.Documents.{can_hold}

@@ -1,5 +1,5 @@
 -- What a step makes, told mark by mark: nodes that were there stay in their places, and no others stand in their fields.
-use Rattle.std.specs.Prelude.{◌≡◌, ◌&&◌, Bool, false, map, None}
+use Rattle.std.specs.Prelude.{◌≡◌, ◌&&◌, Bool, map, None}
 use Rattle.st_kind.specs.Named.{Nodes}
 use Rattle.st_marks.specs.declared.marks.How.TheVariants.{Stay}
 use Rattle.st_marks.specs.declared.marks.Loose.{Loose}

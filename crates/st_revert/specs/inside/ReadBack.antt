@@ -1,5 +1,5 @@
 -- The way back over a step, read as a change.
-use Rattle.std.specs.Prelude.{Bool, true, false, not, map, [], Option, None, is_some, if◌then◌else◌}
+use Rattle.std.specs.Prelude.{Bool, false, not, map, [], None, is_some, if◌then◌else◌}
 use Rattle.st_ids.specs.Order.{same_node}
 use Rattle.st_ids.specs.declared.names.Rev.{Rev}
 use Rattle.st_kind.specs.Named.{Nodes}
