@@ -1,5 +1,4 @@
 use Rattle.std.proofs.Common.{ap, ◌∙◌}
-use Rattle.st_marks.specs.declared.marks.RowMarks.{RowMarks}
 use Rattle.st_marks.specs.Row.{spread}
 use Rattle.st_rows.proofs.MergedMarks.{merged_is}
 use Rattle.st_steps.specs.Across.{with_holes}
