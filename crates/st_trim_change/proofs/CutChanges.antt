@@ -1,8 +1,7 @@
 -- What is cut of a listing of a change, item by item, is trimmed; and a row beside the count of its cells is the row.
-use Rattle.std.proofs.Common.{◌≡◌, ◌<◌, ◌+◌, ◌^◌, ℕ, zero, suc, Bool, true, false, List, [], ◌∷◌, map, length, Option, Some, None, cond, refl, sym, ap, ◌∙◌, arith, Result, Ok, Err, IfOk}
-use Rattle.std.specs.List.{filter_map, list_any}
+use Rattle.std.proofs.Common.{◌≡◌, ◌<◌, ◌^◌, ℕ, zero, suc, true, false, List, [], ◌∷◌, map, length, Option, Some, None, cond, refl, sym, ap, ◌∙◌, arith, Result, Ok, Err, IfOk}
+use Rattle.std.specs.List.{list_any}
 use Rattle.std.specs.Option.{option_and_then}
-use Rattle.std.proofs.lemmas.Option.{same_Some}
 use Rattle.st_ids.specs.Listing.{IsListing, item_of}
 use Rattle.st_ids.specs.Order.{field_cmp, node_cmp}
 use Rattle.st_ids.proofs.Listings.{item_of-has}
