@@ -1,0 +1,2 @@
+mod FilteredLists
+mod AcrossListed

@@ -1,0 +1,4 @@
+mod MappedLists
+mod MadeListed
+mod Reversals
+mod Bases

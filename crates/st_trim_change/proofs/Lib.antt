@@ -1,0 +1,3 @@
+mod ShortRows
+mod FilteredLists
+mod CutChanges
