@@ -1,0 +1,35 @@
+//! Parts of a change, while it is read.
+
+use st_ids::{List, NodeId, Rev};
+use st_marks::{How, NewNode, RegMark, RowMarks};
+
+/// Who is in a register, what becomes of that node, whether the register is cleared, and who comes in.
+#[derive(Clone, Copy)]
+pub(crate) struct Fate {
+    pub held: Option<NodeId>,
+    pub how: How,
+    pub clear: bool,
+    pub fill: Option<NodeId>,
+}
+
+/// The revision of a change, under which schema it was made, and whether that is in effect.
+#[derive(Clone, Copy)]
+pub(crate) struct Ground {
+    pub rev: Rev,
+    pub under: Rev,
+    pub base: bool,
+}
+
+/// The fields that a change lists.
+#[derive(Drop)]
+pub(crate) struct Fields {
+    pub rows: List<RowMarks>,
+    pub regs: List<RegMark>,
+}
+
+/// The nodes that a change needs, and those that it makes.
+#[derive(Drop)]
+pub(crate) struct Nodes {
+    pub need: List<NodeId>,
+    pub new: List<NewNode>,
+}
