@@ -7,6 +7,7 @@ use Rattle.serde_json.specs.Data.{Data, no_members}
 use Rattle.serde_json.specs.View.{items_view, members_view}
 use Rattle.serde_json.specs.declared.value.Value.{Value}
 use Rattle.st_change_reader.specs.Reading.{has_names, six_in}
+use Rattle.st_change_reader.specs.StepReading.{four_in}
 
 pub other_than_six : (vs : List Value) → (length vs ≡ 6 → ⊥) → ◌≡◌ {A = Option (Data × Data × Data × Data × Data × Data)} None (six_in (items_view vs))
 other_than_six [] h = refl
@@ -17,6 +18,14 @@ other_than_six (a ∷ b ∷ c ∷ d ∷ []) h = refl
 other_than_six (a ∷ b ∷ c ∷ d ∷ e ∷ []) h = refl
 other_than_six (a ∷ b ∷ c ∷ d ∷ e ∷ f ∷ []) h = absurd (h refl)
 other_than_six (a ∷ b ∷ c ∷ d ∷ e ∷ f ∷ g ∷ vs) h = refl
+
+pub other_than_four : (vs : List Value) → (length vs ≡ 4 → ⊥) → ◌≡◌ {A = Option (Data × Data × Data × Data)} None (four_in (items_view vs))
+other_than_four [] h = refl
+other_than_four (a ∷ []) h = refl
+other_than_four (a ∷ b ∷ []) h = refl
+other_than_four (a ∷ b ∷ c ∷ []) h = refl
+other_than_four (a ∷ b ∷ c ∷ d ∷ []) h = absurd (h refl)
+other_than_four (a ∷ b ∷ c ∷ d ∷ e ∷ vs) h = refl
 
 -- where no members are left, the names were those of the members exactly where none is left
 names_end : {A : Type 0} (f : A → List ℕ) (left : List A) → has_names (map f left) no_members ≡ (length left == 0)

@@ -1,3 +1,4 @@
 pub mod Naming
 pub mod Told
 pub mod Reading
+pub mod StepReading

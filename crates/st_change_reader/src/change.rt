@@ -14,8 +14,8 @@ use st_marks::{Change, Loose};
 use st_schema::Schema;
 use std::alloc::{AllocError, Global};
 
-// The revision of a member.
-fn rev_member<N: ReadNames>(names: &N, value: &Value, name: &str) -> Option<Rev>
+/// The revision of a member.
+pub(crate) fn rev_member<N: ReadNames>(names: &N, value: &Value, name: &str) -> Option<Rev>
     ensures { result ≡ member_of (N.form names.now).rev name.now (view value.now) }
 {
     names.rev(value.get(name)?)
@@ -119,9 +119,9 @@ fn read_edits<N: ReadNames>(
     }
 }
 
-// The text of the schema that a value is the form of, if it keeps the rules.
+/// The text of the schema that a value is the form of, if it keeps the rules.
 #[tactic(auto, using(crate::proofs::Schemas::text_seen, crate::proofs::Schemas::text_unseen))]
-fn schema_text(alloc: Global, value: &Value) -> Result<Option<Text>, AllocError>
+pub(crate) fn schema_text(alloc: Global, value: &Value) -> Result<Option<Text>, AllocError>
     ensures { IfOk result (λ t. t ≡ schema_text_of (view value.now)) }
 {
     match Schema::read(alloc, value) {

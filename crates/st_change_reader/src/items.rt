@@ -4,8 +4,12 @@ ghost use Rattle.serde_json.specs.Find.{as_array};
 ghost use Rattle.serde_json.specs.View.{view, items_view};
 ghost use Rattle.st_schema.specs.Reading.{two_in, two_items};
 ghost use Rattle.st_change_reader.specs.Reading.{three_in, six_in};
+ghost use Rattle.st_change_reader.specs.StepReading.{four_in};
 
 use serde_json::Value;
+
+/// Four values.
+pub(crate) type Four<'a> = (&'a Value, &'a Value, &'a Value, &'a Value);
 
 /// Six values.
 pub(crate) type Six<'a> = (
@@ -73,4 +77,23 @@ pub(crate) fn six_items(value: &Value) -> Option<Six<'_>>
         ≡ option_and_then six_in (as_array (view value.now)) }
 {
     six_in(value.as_array()?.as_slice())
+}
+
+// The four of four values, where there are no others.
+fn four_in(values: &[Value]) -> Option<Four<'_>>
+    ensures { option_map (λ p. (view p.0.now, view p.1.now, view p.2.now, view p.3.now)) result ≡ four_in (items_view values.now) }
+{
+    if values.len() == 4 {
+        Some((&values[0], &values[1], &values[2], &values[3]))
+    } else {
+        None
+    }
+}
+
+/// The four items of an array that has no others.
+pub(crate) fn four_items(value: &Value) -> Option<Four<'_>>
+    ensures { option_map (λ p. (view p.0.now, view p.1.now, view p.2.now, view p.3.now)) result
+        ≡ option_and_then four_in (as_array (view value.now)) }
+{
+    four_in(value.as_array()?.as_slice())
 }

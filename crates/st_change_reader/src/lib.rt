@@ -7,7 +7,9 @@ mod listed;
 mod marks;
 mod names;
 mod parts;
+mod step;
 mod values;
 
 pub use change::read_change;
 pub use names::{Plain, ReadNames};
+pub use step::read_step;

@@ -23,6 +23,14 @@ fn loose_in<N: ReadNames>(names: &N, who: &Value, word: &Value) -> Option<Loose>
     Some(Loose { node, how })
 }
 
+/// A mentioned node that is nowhere.
+pub(crate) fn loose<N: ReadNames>(names: &N, value: &Value) -> Option<Loose>
+    ensures { result ≡ loose_of (N.form names.now) (view value.now) }
+{
+    let (who, word) = two_items(value)?;
+    loose_in(names, who, word)
+}
+
 /// How mentioned nodes are read that are nowhere.
 #[derive(Clone, Copy)]
 pub(crate) struct Nowhere<'a, N>(pub &'a N);
@@ -33,10 +41,7 @@ impl<N: ReadNames> ReadItem for Nowhere<'_, N> {
     ghost of = { λ s. loose_of (N.form s.0.now) };
 
     fn read(&self, _alloc: Global, value: &Value) -> Result<Option<Loose>, AllocError> {
-        match two_items(value) {
-            None => Ok(None),
-            Some((who, word)) => Ok(loose_in(self.0, who, word)),
-        }
+        Ok(loose(self.0, value))
     }
 }
 

@@ -87,8 +87,8 @@ fn mark_in<N: ReadNames>(names: &N, items: &[Value]) -> Option<Mark>
     }
 }
 
-// A mark.
-fn mark<N: ReadNames>(names: &N, value: &Value) -> Option<Mark>
+/// A mark.
+pub(crate) fn mark<N: ReadNames>(names: &N, value: &Value) -> Option<Mark>
     ensures { result ≡ mark_of (N.form names.now) (view value.now) }
 {
     match value.as_array() {
@@ -146,8 +146,8 @@ impl<N: ReadNames> ReadItem for Rows<'_, N> {
     }
 }
 
-// A field of a node.
-fn field<N: ReadNames>(
+/// A field of a node.
+pub(crate) fn field<N: ReadNames>(
     alloc: Global,
     names: &N,
     whose: &Value,

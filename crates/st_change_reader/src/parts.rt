@@ -1,7 +1,7 @@
 //! Parts of a change, while it is read.
 
 use st_ids::{List, NodeId, Rev};
-use st_marks::{How, NewNode, RegMark, RowMarks};
+use st_marks::{How, Loose, NewNode, RegMark, RegStep, RowMarks};
 
 /// Who is in a register, what becomes of that node, whether the register is cleared, and who comes in.
 #[derive(Clone, Copy)]
@@ -32,4 +32,25 @@ pub(crate) struct Fields {
 pub(crate) struct Nodes {
     pub need: List<NodeId>,
     pub new: List<NewNode>,
+}
+
+/// Who is in a register before a step and after it.
+#[derive(Clone, Copy)]
+pub(crate) struct Turn {
+    pub before: Option<NodeId>,
+    pub after: Option<NodeId>,
+}
+
+/// The fields that a step lists.
+#[derive(Drop)]
+pub(crate) struct StepFields {
+    pub rows: List<RowMarks>,
+    pub regs: List<RegStep>,
+}
+
+/// The nodes that a step makes, and those that are nowhere.
+#[derive(Drop)]
+pub(crate) struct StepNodes {
+    pub new: List<NewNode>,
+    pub loose: List<Loose>,
 }
