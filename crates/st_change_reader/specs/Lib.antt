@@ -1,4 +1,3 @@
-pub mod Naming
 pub mod Told
 pub mod Reading
 pub mod StepReading

@@ -1,41 +1,24 @@
 -- Which value is which step, over which value tells which name: the form alone.
-use Rattle.std.specs.Prelude.{ℕ, List, [], ◌∷◌, length, nat_le, Bool, true, false, is_some, Option, None, Some, option_and_then, option_map, codes, if◌then◌else◌}
-use Rattle.serde_json.specs.Data.{Data, null, boolean, number, string, array, object, Items, no_items, item, Members, no_members, member}
-use Rattle.serde_json.specs.Find.{get, as_null, as_bool, as_str, as_array, as_number, as_u64}
-use Rattle.serde_json.specs.Written.{compact_text}
-use Rattle.st_ids.specs.declared.names.CellId.{CellId}
-use Rattle.st_ids.specs.declared.names.FieldId.{FieldId}
-use Rattle.st_ids.specs.declared.names.Key.{Key}
-use Rattle.st_ids.specs.declared.names.Leaf.{Leaf}
-use Rattle.st_ids.specs.declared.names.NodeId.{NodeId}
-use Rattle.st_ids.specs.declared.names.Rev.{Rev}
-use Rattle.st_marks.specs.declared.changes.Change.{Change}
-use Rattle.st_marks.specs.declared.changes.NewNode.{NewNode}
+use Rattle.std.specs.Prelude.{ℕ, List, [], ◌∷◌, is_some, Option, None, Some, option_and_then, option_map, codes, if◌then◌else◌}
+use Rattle.serde_json.specs.Data.{Data, null}
+use Rattle.serde_json.specs.Find.{as_null, as_array}
 use Rattle.st_marks.specs.declared.marks.How.{How}
 use Rattle.st_marks.specs.declared.marks.How.TheVariants.{Stay, Here, Leave}
 use Rattle.st_marks.specs.declared.marks.Loose.{Loose}
 use Rattle.st_marks.specs.declared.marks.Mark.{Mark}
 use Rattle.st_marks.specs.declared.marks.Mark.TheVariants as mark
-use Rattle.st_marks.specs.declared.marks.RegMark.{RegMark}
 use Rattle.st_marks.specs.declared.marks.RegStep.{RegStep}
 use Rattle.st_marks.specs.declared.marks.RowMarks.{RowMarks}
 use Rattle.st_marks.specs.declared.schemas.SchemaEntry.{SchemaEntry}
 use Rattle.st_marks.specs.declared.schemas.SchemaStep.{SchemaStep}
 use Rattle.st_marks.specs.declared.steps.Step.{Step}
-use Rattle.st_schema.specs.Conforms.{leaf_type}
-use Rattle.st_schema.specs.Reading.{schema_of, two_in, first_of}
-use Rattle.st_schema.specs.Schema.{same, is_among, leaf_types}
-use Rattle.st_schema.specs.TreeText.{leaf_of}
-use Rattle.st_schema.specs.Written.{schema_data}
-use Rattle.st_ids.specs.Numeral.{small}
-use Rattle.st_change_codec.specs.SchemaTexts.{if_sound}
-use Rattle.st_change_reader.specs.Naming.{NameForm}
-use Rattle.st_change_reader.specs.Reading.{field_of, is_named, list_of, loose_of, mark_of, member_of, new_of, node_of, occupant_of, schema_text_of}
+use Rattle.st_schema.specs.Reading.{two_in}
+use Rattle.st_mark_reader.specs.Naming.{NameForm}
+use Rattle.st_mark_reader.specs.Reading.{list_of, is_named, node_of, occupant_of, field_of, mark_of, loose_of, new_of, member_of, four_in}
+use Rattle.st_change_reader.specs.Reading.{schema_text_of}
 use Rattle.st_change_reader.specs.declared.parts.StepFields.{StepFields}
 use Rattle.st_change_reader.specs.declared.parts.StepNodes.{StepNodes}
 use Rattle.st_change_reader.specs.declared.parts.Turn.{Turn}
-
--- ## Steps
 
 abbrev pub step_names : List (List ℕ)
 step_names = codes "loose" ∷ codes "new" ∷ codes "regs" ∷ codes "rows" ∷ codes "schema" ∷ []
@@ -71,15 +54,6 @@ step_row_in F p = option_and_then (λ node. option_map (λ marks. record { node 
 
 abbrev pub step_row_of : NameForm → Data → Option RowMarks
 step_row_of F d = option_and_then (step_row_in F) (option_and_then two_in (as_array d))
-
--- exactly four items
-abbrev pub four_in : Items → Option (Data × Data × Data × Data)
-four_in no_items = None
-four_in (item a no_items) = None
-four_in (item a (item b no_items)) = None
-four_in (item a (item b (item c no_items))) = None
-four_in (item a (item b (item c (item d no_items)))) = Some (a, b, c, d)
-four_in (item a (item b (item c (item d (item e ds))))) = None
 
 -- who is in a register before and after
 abbrev pub turn_of : NameForm → Data → Data → Option Turn

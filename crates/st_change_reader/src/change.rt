@@ -1,15 +1,15 @@
 //! Changes read from values.
 ghost use Rattle.std.specs.Prelude.{◌≡◌, codes, IfOk};
 ghost use Rattle.serde_json.specs.View.{view};
-ghost use Rattle.st_change_reader.specs.Reading.{ground_of, fields_of, nodes_of, edits_of, read_lists, read_edits, schema_text_of, upgrade_of, read_upgrade, change_of, member_of};
+ghost use Rattle.st_change_reader.specs.Reading.{ground_of, fields_of, nodes_of, edits_of, read_lists, read_edits, schema_text_of, upgrade_of, read_upgrade, change_of};
+ghost use Rattle.st_mark_reader.specs.Reading.{member_of};
 
-use crate::listed::{NewNodes, Nodes as NodeNames, Nowhere};
-use crate::marks::{Registers, Rows};
-use crate::names::ReadNames;
 use crate::parts::{Fields, Ground, Nodes};
-use crate::values::{is_named, list_member};
 use serde_json::Value;
 use st_ids::{List, Or, Rev, Text};
+use st_mark_reader::{
+    NewNodes, Nodes as NodeNames, Nowhere, ReadNames, Registers, Rows, is_named, list_member,
+};
 use st_marks::{Change, Loose};
 use st_schema::Schema;
 use std::alloc::{AllocError, Global};

@@ -2,14 +2,8 @@
 #![tactic(auto)]
 
 mod change;
-mod items;
-mod listed;
-mod marks;
-mod names;
 mod parts;
 mod step;
-mod values;
 
 pub use change::read_change;
-pub use names::{Plain, ReadNames};
 pub use step::read_step;

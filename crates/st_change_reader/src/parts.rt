@@ -1,16 +1,7 @@
-//! Parts of a change, while it is read.
+//! Parts of a change or a step, while it is read.
 
 use st_ids::{List, NodeId, Rev};
-use st_marks::{How, Loose, NewNode, RegMark, RegStep, RowMarks};
-
-/// Who is in a register, what becomes of that node, whether the register is cleared, and who comes in.
-#[derive(Clone, Copy)]
-pub(crate) struct Fate {
-    pub held: Option<NodeId>,
-    pub how: How,
-    pub clear: bool,
-    pub fill: Option<NodeId>,
-}
+use st_marks::{Loose, NewNode, RegMark, RegStep, RowMarks};
 
 /// The revision of a change, under which schema it was made, and whether that is in effect.
 #[derive(Clone, Copy)]

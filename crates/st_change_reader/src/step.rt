@@ -1,17 +1,16 @@
 //! Steps read from values.
 ghost use Rattle.std.specs.Prelude.{◌≡◌, codes, IfOk, option_and_then};
 ghost use Rattle.serde_json.specs.View.{view};
-ghost use Rattle.st_change_reader.specs.Reading.{loose_of, mark_of, member_of};
+ghost use Rattle.st_mark_reader.specs.Reading.{loose_of, mark_of, member_of};
 ghost use Rattle.st_change_reader.specs.StepReading.{if_moves, step_loose_in, step_loose_of, step_mark_in, step_mark_of, step_row_in, step_row_of, turn_of, reg_step_at, reg_step_of, entry_in, entry_of, schema_lists_of, schema_step_of, schema_part_of, step_fields_of, step_nodes_of, step_of_parts, step_lists_of, step_of};
 
 use crate::change::{rev_member, schema_text};
-use crate::items::{four_items, two_items};
-use crate::listed::{NewNodes, loose};
-use crate::marks::{field, mark};
-use crate::names::{ReadNames, node, occupant};
 use crate::parts::{StepFields, StepNodes, Turn};
-use crate::values::{ReadItem, is_named, list_member, read_list};
 use serde_json::Value;
+use st_mark_reader::{
+    NewNodes, ReadItem, ReadNames, field, four_items, is_named, list_member, loose, mark, node,
+    occupant, read_list, two_items,
+};
 use st_marks::{How, Loose, Mark, RegStep, RowMarks, SchemaEntry, SchemaStep, Step};
 use std::alloc::{AllocError, Global};
 

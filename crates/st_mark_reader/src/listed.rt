@@ -4,7 +4,7 @@ ghost use Rattle.serde_json.specs.Find.{as_str};
 ghost use Rattle.serde_json.specs.View.{view, items_view};
 ghost use Rattle.st_schema.specs.Conforms.{leaf_type};
 ghost use Rattle.st_schema.specs.TreeText.{leaf_of};
-ghost use Rattle.st_change_reader.specs.Reading.{loose_in, loose_of, if_no_leaf_type, if_of_type, typed_leaf, branch_node_of, leaf_node_of, new_in, new_of, node_of};
+ghost use Rattle.st_mark_reader.specs.Reading.{loose_in, loose_of, if_no_leaf_type, if_of_type, typed_leaf, branch_node_of, leaf_node_of, new_in, new_of, node_of};
 
 use crate::items::{three_in, two_in, two_items};
 use crate::marks::how;
@@ -24,7 +24,7 @@ fn loose_in<N: ReadNames>(names: &N, who: &Value, word: &Value) -> Option<Loose>
 }
 
 /// A mentioned node that is nowhere.
-pub(crate) fn loose<N: ReadNames>(names: &N, value: &Value) -> Option<Loose>
+pub fn loose<N: ReadNames>(names: &N, value: &Value) -> Option<Loose>
     ensures { result ≡ loose_of (N.form names.now) (view value.now) }
 {
     let (who, word) = two_items(value)?;
@@ -33,7 +33,7 @@ pub(crate) fn loose<N: ReadNames>(names: &N, value: &Value) -> Option<Loose>
 
 /// How mentioned nodes are read that are nowhere.
 #[derive(Clone, Copy)]
-pub(crate) struct Nowhere<'a, N>(pub &'a N);
+pub struct Nowhere<'a, N>(pub &'a N);
 
 impl<N: ReadNames> ReadItem for Nowhere<'_, N> {
     type Item = Loose;
@@ -47,7 +47,7 @@ impl<N: ReadNames> ReadItem for Nowhere<'_, N> {
 
 /// How nodes are read.
 #[derive(Clone, Copy)]
-pub(crate) struct Nodes<'a, N>(pub &'a N);
+pub struct Nodes<'a, N>(pub &'a N);
 
 impl<N: ReadNames> ReadItem for Nodes<'_, N> {
     type Item = NodeId;
@@ -191,7 +191,7 @@ fn new_in<N: ReadNames>(
 
 /// How new nodes are read.
 #[derive(Clone, Copy)]
-pub(crate) struct NewNodes<'a, N>(pub &'a N);
+pub struct NewNodes<'a, N>(pub &'a N);
 
 impl<N: ReadNames> ReadItem for NewNodes<'_, N> {
     type Item = NewNode;

@@ -4,14 +4,14 @@ ghost use Rattle.serde_json.specs.Data.{Data};
 ghost use Rattle.serde_json.specs.Find.{as_str};
 ghost use Rattle.serde_json.specs.View.{view, items_view, members_view};
 ghost use Rattle.st_schema.specs.TreeText.{leaf_of};
-ghost use Rattle.st_change_reader.specs.Reading.{each_of, list_of, member_of, has_names, is_named, small_number, key_of, key_within};
+ghost use Rattle.st_mark_reader.specs.Reading.{each_of, list_of, member_of, has_names, is_named, small_number, key_of, key_within};
 
 use serde_json::{Map, Value};
 use st_ids::{Key, Leaf, List, Text};
 use std::alloc::{AllocError, Global};
 
 /// What values are read as.
-pub(crate) trait ReadItem {
+pub trait ReadItem {
     type Item: Drop;
 
     ghost of: { Self → Data → Option Self.Item };
@@ -40,7 +40,7 @@ fn read_each<R: ReadItem>(
 }
 
 /// What the items of an array are.
-pub(crate) fn read_list<R: ReadItem>(
+pub fn read_list<R: ReadItem>(
     alloc: Global,
     value: &Value,
     reader: &R,
@@ -54,7 +54,7 @@ pub(crate) fn read_list<R: ReadItem>(
 }
 
 /// What the items of a member are, which is an array.
-pub(crate) fn list_member<R: ReadItem>(
+pub fn list_member<R: ReadItem>(
     alloc: Global,
     value: &Value,
     name: &str,
@@ -86,7 +86,7 @@ fn has_names(members: &Map<String, Value>, names: &[&str]) -> bool
 }
 
 /// Whether a value is an object that has the members of these names, in their order, and no others.
-pub(crate) fn is_named(value: &Value, names: &[&str]) -> bool
+pub fn is_named(value: &Value, names: &[&str]) -> bool
     ensures { result ≡ is_named (map (λ n. n.now) names.now) (view value.now) }
 {
     match value.as_object() {
@@ -96,7 +96,7 @@ pub(crate) fn is_named(value: &Value, names: &[&str]) -> bool
 }
 
 /// A number below 2^32.
-pub(crate) fn small_number(value: &Value) -> Option<u32>
+pub fn small_number(value: &Value) -> Option<u32>
     ensures { result ≡ small_number (view value.now) }
 {
     let number = value.as_u64()?;
@@ -119,7 +119,7 @@ fn key_within(alloc: Global, text: &str) -> Result<Option<Key>, AllocError>
 }
 
 /// The key that a value is.
-pub(crate) fn key(alloc: Global, value: &Value) -> Result<Option<Key>, AllocError>
+pub fn key(alloc: Global, value: &Value) -> Result<Option<Key>, AllocError>
     ensures { IfOk result (λ k. k ≡ key_of (view value.now)) }
 {
     match value.as_str() {
@@ -129,7 +129,7 @@ pub(crate) fn key(alloc: Global, value: &Value) -> Result<Option<Key>, AllocErro
 }
 
 /// The text that a value is.
-pub(crate) fn text(alloc: Global, value: &Value) -> Result<Option<Text>, AllocError>
+pub fn text(alloc: Global, value: &Value) -> Result<Option<Text>, AllocError>
     ensures { IfOk result (λ t. t ≡ as_str (view value.now)) }
 {
     match value.as_str() {
@@ -139,7 +139,7 @@ pub(crate) fn text(alloc: Global, value: &Value) -> Result<Option<Text>, AllocEr
 }
 
 /// The value of a leaf.
-pub(crate) fn leaf(alloc: Global, value: &Value) -> Result<Option<Leaf>, AllocError>
+pub fn leaf(alloc: Global, value: &Value) -> Result<Option<Leaf>, AllocError>
     ensures { IfOk result (λ v. v ≡ leaf_of (view value.now)) }
 {
     if value.is_null() {

@@ -1,7 +1,7 @@
 //! Marks, rows and registers read from values.
 ghost use Rattle.std.specs.Prelude.{◌≡◌, IfOk, option_and_then};
 ghost use Rattle.serde_json.specs.View.{view, items_view};
-ghost use Rattle.st_change_reader.specs.Reading.{how_named, how_of, mark_named, gap_of, cell_mark_of, mark_in, mark_of, row_in, row_of, field_of, fate_of, register_at, register_in, register_of, list_of};
+ghost use Rattle.st_mark_reader.specs.Reading.{how_named, how_of, mark_named, gap_of, cell_mark_of, mark_in, mark_of, row_in, row_of, field_of, fate_of, register_at, register_in, register_of, list_of};
 
 use crate::names::{ReadNames, cell, node, occupant};
 use crate::parts::Fate;
@@ -25,7 +25,7 @@ fn how_named(word: &str) -> Option<How>
 }
 
 /// What becomes of a node.
-pub(crate) fn how(value: &Value) -> Option<How>
+pub fn how(value: &Value) -> Option<How>
     ensures { result ≡ how_of (view value.now) }
 {
     how_named(value.as_str()?)
@@ -88,7 +88,7 @@ fn mark_in<N: ReadNames>(names: &N, items: &[Value]) -> Option<Mark>
 }
 
 /// A mark.
-pub(crate) fn mark<N: ReadNames>(names: &N, value: &Value) -> Option<Mark>
+pub fn mark<N: ReadNames>(names: &N, value: &Value) -> Option<Mark>
     ensures { result ≡ mark_of (N.form names.now) (view value.now) }
 {
     match value.as_array() {
@@ -99,7 +99,7 @@ pub(crate) fn mark<N: ReadNames>(names: &N, value: &Value) -> Option<Mark>
 
 /// How marks are read.
 #[derive(Clone, Copy)]
-pub(crate) struct Marks<'a, N>(pub &'a N);
+pub struct Marks<'a, N>(pub &'a N);
 
 impl<N: ReadNames> ReadItem for Marks<'_, N> {
     type Item = Mark;
@@ -131,7 +131,7 @@ fn row_in<N: ReadNames>(
 
 /// How rows are read.
 #[derive(Clone, Copy)]
-pub(crate) struct Rows<'a, N>(pub &'a N);
+pub struct Rows<'a, N>(pub &'a N);
 
 impl<N: ReadNames> ReadItem for Rows<'_, N> {
     type Item = RowMarks;
@@ -147,7 +147,7 @@ impl<N: ReadNames> ReadItem for Rows<'_, N> {
 }
 
 /// A field of a node.
-pub(crate) fn field<N: ReadNames>(
+pub fn field<N: ReadNames>(
     alloc: Global,
     names: &N,
     whose: &Value,
@@ -226,7 +226,7 @@ fn register_with<N: ReadNames>(
 
 /// How registers are read.
 #[derive(Clone, Copy)]
-pub(crate) struct Registers<'a, N>(pub &'a N);
+pub struct Registers<'a, N>(pub &'a N);
 
 impl<N: ReadNames> ReadItem for Registers<'_, N> {
     type Item = RegMark;

@@ -3,16 +3,15 @@ ghost use Rattle.std.specs.Prelude.{◌≡◌, option_map, option_and_then};
 ghost use Rattle.serde_json.specs.Find.{as_array};
 ghost use Rattle.serde_json.specs.View.{view, items_view};
 ghost use Rattle.st_schema.specs.Reading.{two_in, two_items};
-ghost use Rattle.st_change_reader.specs.Reading.{three_in, six_in};
-ghost use Rattle.st_change_reader.specs.StepReading.{four_in};
+ghost use Rattle.st_mark_reader.specs.Reading.{three_in, four_in, six_in};
 
 use serde_json::Value;
 
 /// Four values.
-pub(crate) type Four<'a> = (&'a Value, &'a Value, &'a Value, &'a Value);
+pub type Four<'a> = (&'a Value, &'a Value, &'a Value, &'a Value);
 
 /// Six values.
-pub(crate) type Six<'a> = (
+pub type Six<'a> = (
     &'a Value,
     &'a Value,
     &'a Value,
@@ -22,7 +21,7 @@ pub(crate) type Six<'a> = (
 );
 
 /// The two of two values, where there are no others.
-pub(crate) fn two_in(values: &[Value]) -> Option<(&Value, &Value)>
+pub fn two_in(values: &[Value]) -> Option<(&Value, &Value)>
     ensures { option_map (λ p. (view p.0.now, view p.1.now)) result ≡ two_in (items_view values.now) }
 {
     let mut values = values.iter();
@@ -36,7 +35,7 @@ pub(crate) fn two_in(values: &[Value]) -> Option<(&Value, &Value)>
 }
 
 /// The three of three values, where there are no others.
-pub(crate) fn three_in(values: &[Value]) -> Option<(&Value, &Value, &Value)>
+pub fn three_in(values: &[Value]) -> Option<(&Value, &Value, &Value)>
     ensures { option_map (λ p. (view p.0.now, view p.1.now, view p.2.now)) result ≡ three_in (items_view values.now) }
 {
     let mut values = values.iter();
@@ -65,14 +64,14 @@ fn six_in(values: &[Value]) -> Option<Six<'_>>
 }
 
 /// The two items of an array that has no others.
-pub(crate) fn two_items(value: &Value) -> Option<(&Value, &Value)>
+pub fn two_items(value: &Value) -> Option<(&Value, &Value)>
     ensures { option_map (λ p. (view p.0.now, view p.1.now)) result ≡ two_items (view value.now) }
 {
     two_in(value.as_array()?.as_slice())
 }
 
 /// The six items of an array that has no others.
-pub(crate) fn six_items(value: &Value) -> Option<Six<'_>>
+pub fn six_items(value: &Value) -> Option<Six<'_>>
     ensures { option_map (λ p. (view p.0.now, view p.1.now, view p.2.now, view p.3.now, view p.4.now, view p.5.now)) result
         ≡ option_and_then six_in (as_array (view value.now)) }
 {
@@ -91,7 +90,7 @@ fn four_in(values: &[Value]) -> Option<Four<'_>>
 }
 
 /// The four items of an array that has no others.
-pub(crate) fn four_items(value: &Value) -> Option<Four<'_>>
+pub fn four_items(value: &Value) -> Option<Four<'_>>
     ensures { option_map (λ p. (view p.0.now, view p.1.now, view p.2.now, view p.3.now)) result
         ≡ option_and_then four_in (as_array (view value.now)) }
 {

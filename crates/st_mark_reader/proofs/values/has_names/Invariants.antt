@@ -1,8 +1,8 @@
 -- the names that are left are those of the members that are left
 use Rattle.std.proofs.Common.{◌≡◌, map}
 use Rattle.serde_json.specs.View.{members_view}
-use Rattle.st_change_reader.specs.Reading.{has_names}
-use Rattle.st_change_reader.proofs.values.has_names.Given as goal
+use Rattle.st_mark_reader.specs.Reading.{has_names}
+use Rattle.st_mark_reader.proofs.values.has_names.Given as goal
 
 abbrev pub invariant-loop-key : goal.invariant-loop-key
 invariant-loop-key l = record {

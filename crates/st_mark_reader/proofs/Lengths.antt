@@ -6,8 +6,7 @@ use Rattle.std.proofs.lemmas.Bool.Decides.{nat_tests}
 use Rattle.serde_json.specs.Data.{Data, no_members}
 use Rattle.serde_json.specs.View.{items_view, members_view}
 use Rattle.serde_json.specs.declared.value.Value.{Value}
-use Rattle.st_change_reader.specs.Reading.{has_names, six_in}
-use Rattle.st_change_reader.specs.StepReading.{four_in}
+use Rattle.st_mark_reader.specs.Reading.{has_names, four_in, six_in}
 
 pub other_than_six : (vs : List Value) → (length vs ≡ 6 → ⊥) → ◌≡◌ {A = Option (Data × Data × Data × Data × Data × Data)} None (six_in (items_view vs))
 other_than_six [] h = refl

@@ -1,8 +1,8 @@
 //! Which value tells which name.
 ghost use Rattle.std.specs.Prelude.{◌≡◌};
 ghost use Rattle.serde_json.specs.View.{view};
-ghost use Rattle.st_change_reader.specs.Naming.{NameForm};
-ghost use Rattle.st_change_reader.specs.Reading.{node_of, cell_of, occupant_of};
+ghost use Rattle.st_mark_reader.specs.Naming.{NameForm};
+ghost use Rattle.st_mark_reader.specs.Reading.{node_of, cell_of, occupant_of};
 
 use serde_json::Value;
 use st_ids::{Atom, CellId, NodeId, Rev};
@@ -25,7 +25,7 @@ pub trait ReadNames {
 pub struct Plain;
 
 impl ReadNames for Plain {
-    ghost use Rattle.st_change_reader.specs.Naming.{plain_form};
+    ghost use Rattle.st_mark_reader.specs.Naming.{plain_form};
     ghost form = { λ s. plain_form };
 
     fn rev(&self, value: &Value) -> Option<Rev> {
@@ -38,21 +38,21 @@ impl ReadNames for Plain {
 }
 
 /// The node that a value tells.
-pub(crate) fn node<N: ReadNames>(names: &N, value: &Value) -> Option<NodeId>
+pub fn node<N: ReadNames>(names: &N, value: &Value) -> Option<NodeId>
     ensures { result ≡ node_of (N.form names.now) (view value.now) }
 {
     Some(NodeId(names.atom(value)?))
 }
 
 /// The cell that a value tells.
-pub(crate) fn cell<N: ReadNames>(names: &N, value: &Value) -> Option<CellId>
+pub fn cell<N: ReadNames>(names: &N, value: &Value) -> Option<CellId>
     ensures { result ≡ cell_of (N.form names.now) (view value.now) }
 {
     Some(CellId(names.atom(value)?))
 }
 
 /// The node that a value tells, or none where it is null.
-pub(crate) fn occupant<N: ReadNames>(names: &N, value: &Value) -> Option<Option<NodeId>>
+pub fn occupant<N: ReadNames>(names: &N, value: &Value) -> Option<Option<NodeId>>
     ensures { result ≡ occupant_of (N.form names.now) (view value.now) }
 {
     if value.is_null() {
