@@ -1,10 +1,8 @@
 -- What is read as a change is told by its value.
-use Rattle.std.proofs.Common.{◌≡◌, ◌∙◌, ℕ, Bool, true, false, List, [], ◌∷◌, map, Option, None, Some, option_map, option_and_then, IsTrue, codes, refl, sym, ap, subst}
+use Rattle.std.proofs.Common.{◌≡◌, ◌∙◌, ℕ, Bool, true, false, List, [], ◌∷◌, map, Option, None, Some, option_map, option_and_then, codes, refl, sym, ap, subst}
 use Rattle.std.specs.Prelude.{if◌then◌else◌}
-use Rattle.std.specs.List.{AllByRecursion}
 use Rattle.serde_json.specs.Data.{Data, boolean, object}
 use Rattle.serde_json.specs.Find.{get, as_bool}
-use Rattle.serde_json.specs.Read.{read}
 use Rattle.serde_json.specs.Written.{compact_text}
 use Rattle.st_ids.specs.declared.names.Atom.{Atom}
 use Rattle.st_ids.specs.declared.names.NodeId.{NodeId}
@@ -12,27 +10,26 @@ use Rattle.st_ids.specs.declared.names.Rev.{Rev}
 use Rattle.st_lemmas.proofs.Options.{one_some, option_map-Some, option_and_then-Some}
 use Rattle.st_marks.specs.declared.changes.Change.{Change}
 use Rattle.st_marks.specs.declared.changes.NewNode.{NewNode}
-use Rattle.st_marks.specs.declared.marks.Loose.{Loose}
 use Rattle.st_marks.specs.declared.marks.RegMark.{RegMark}
 use Rattle.st_marks.specs.declared.marks.RowMarks.{RowMarks}
 use Rattle.st_schema.specs.Reading.{schema_of}
 use Rattle.st_schema.specs.Schema.{SchemaView, is_sound}
 use Rattle.st_schema.specs.Written.{schema_data}
-use Rattle.st_schema.proofs.Forms.{schema_back, schema_read}
+use Rattle.st_schema.proofs.Forms.{schema_back}
 use Rattle.st_change_laws.proofs.Texts.{schema_text}
 use Rattle.st_change_codec.specs.Changes.{list_data}
 use Rattle.st_change_codec.specs.SchemaTexts.{if_sound, schema_or, sound_schema_of, text_data}
 use Rattle.st_mark_reader.specs.Naming.{Naming, NameForm}
-use Rattle.st_mark_reader.specs.Told.{loose_data, new_data, node_data, register_data, row_data}
+use Rattle.st_change_laws.specs.Listed.{loose_data, new_data, node_data, register_data, row_data}
 use Rattle.st_mark_reader.specs.Reading.{is_named, list_of, loose_of, member_of, new_of, node_of, register_of, row_of}
-use Rattle.st_change_reader.specs.Told.{change_data, data_with, edits_data, upgrade_data}
+use Rattle.st_change_laws.specs.Told.{change_data}
 use Rattle.st_change_reader.specs.Reading.{change_of, edit_names, edits_of, fields_of, ground_of, nodes_of, read_edits, read_lists, read_upgrade, schema_text_of, upgrade_names, upgrade_of}
 use Rattle.st_change_reader.specs.declared.parts.Fields.{Fields}
 use Rattle.st_change_reader.specs.declared.parts.Ground.{Ground}
 use Rattle.st_change_reader.specs.declared.parts.Nodes.{Nodes}
 use Rattle.st_change_laws.specs.Both.{Reads}
 use Rattle.st_change_laws.specs.Signed.{NumbersAreSigned}
-use Rattle.st_change_laws.specs.Within.{ChangeIsWithin, ContentIsWithin, IsSchemaText, ListsAreEmpty, ListsAreWithin, LooseIsWithin, NewIsWithin, NodeIsWithin, RegisterIsWithin, RowIsWithin}
+use Rattle.st_change_laws.specs.Within.{ChangeIsWithin, IsSchemaText, LooseIsWithin, NewIsWithin, NodeIsWithin, RegisterIsWithin, RowIsWithin}
 use Rattle.st_change_laws.proofs.Members.{first, later, named_object, with_names}
 use Rattle.st_change_laws.proofs.ReadValues.{is_bool, list_reads, loose_reads, new_reads, node_reads, register_reads, row_reads}
 
@@ -83,7 +80,7 @@ edits_read n F R A r a ds C h q =
     let made : Nodes → Fields → Change = λ nodes fields. edits_of g.0 nodes fields loose.0 in
     let whole : made (of_nodes need.0 new.0) (of_fields rows.0 regs.0) ≡ C = (λ i. made (new.2 i) (regs.2 i)) ∙ loose.2 in
     let told : List Data = boolean g.0.base ∷ list_data (map (loose_data n) loose.0) ∷ list_data (map (node_data n) need.0) ∷ list_data (map (new_data n) new.0) ∷ list_data (map (register_data n) regs.0)
-        ∷ n.rev g.0.rev ∷ list_data (map (row_data n) rows.0) ∷ n.rev g.0.under ∷ [] in
+    ∷ n.rev g.0.rev ∷ list_data (map (row_data n) rows.0) ∷ n.rev g.0.under ∷ [] in
     subst (λ (C : Change). (d ≡ change_data n C) × ChangeIsWithin R A C) whole (
       (λ i. object (with_names edit_names (ground.0 i ∷ l.0 i ∷ e.0 i ∷ m.0 i ∷ g4.0 i ∷ ground.1 i ∷ w.0 i ∷ ground.2 i ∷ []))),
       record { rev = ground.3; under = ground.4; content = record { need = e.1; new = m.1; rows = w.1; regs = g4.1; loose = l.1 } },

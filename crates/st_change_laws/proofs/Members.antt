@@ -1,7 +1,7 @@
 -- An object whose members have some names is that of these names and its values.
-use Rattle.std.proofs.Common.{◌≡◌, ◌∙◌, ℕ, Bool, true, false, List, [], ◌∷◌, refl, ap}
+use Rattle.std.proofs.Common.{◌≡◌, ℕ, Bool, true, false, List, [], ◌∷◌, refl, ap}
 use Rattle.std.specs.Prelude.{if◌then◌else◌}
-use Rattle.serde_json.specs.Data.{Data, null, boolean, number, string, array, object, Items, Members, no_members, member}
+use Rattle.serde_json.specs.Data.{Data, null, boolean, number, string, array, object, Members, no_members, member}
 use Rattle.st_schema.specs.Schema.{same}
 use Rattle.st_schema.proofs.Forms.{text_same}
 use Rattle.st_mark_reader.specs.Reading.{has_names, is_named}

@@ -1,8 +1,8 @@
 -- Names as texts: what is read is told, and what is told is read.
-use Rattle.std.proofs.Common.{◌≡◌, ◌∙◌, ℕ, ◌<◌, ◌^◌, false, List, Option, None, Some, IfSome, option_map, option_and_then, is_some, refl, ap, subst}
+use Rattle.std.proofs.Common.{◌≡◌, ◌∙◌, ℕ, ◌<◌, ◌^◌, false, List, Option, Some, IfSome, option_map, is_some, refl, ap, subst}
 use Rattle.std.specs.List.{before_first, after_first}
 use Rattle.std.specs.Prelude.{◌==◌}
-use Rattle.serde_json.specs.Data.{Data, string}
+use Rattle.serde_json.specs.Data.{string}
 use Rattle.serde_json.specs.Find.{as_null, as_str}
 use Rattle.st_ids.specs.Names.{atom_text, read_atom, read_pair, read_rev, rev_text}
 use Rattle.st_ids.specs.Numeral.{number_of}

@@ -1,10 +1,10 @@
 -- What is read of a value is told by that value, and can be told.
-use Rattle.std.proofs.Common.{◌≡◌, ◌∙◌, ℕ, ℤ, pos, negsuc, ◌<◌, ◌≤◌, ◌^◌, Bool, true, false, nat_lt, nat_le, List, [], ◌∷◌, map, length, Option, None, Some, option_map, option_and_then, is_some, IsTrue, codes, cond, refl, sym, ap, subst, arith}
-use Rattle.std.specs.Prelude.{if◌then◌else◌, ⊤}
+use Rattle.std.proofs.Common.{◌≡◌, ◌∙◌, ℕ, ℤ, pos, negsuc, ◌<◌, ◌≤◌, ◌^◌, Bool, true, false, nat_lt, nat_le, List, [], ◌∷◌, map, length, Option, None, Some, option_map, option_and_then, is_some, codes, refl, ap, subst, arith}
+use Rattle.std.specs.Prelude.{if◌then◌else◌}
 use Rattle.std.specs.List.{AllByRecursion}
 use Rattle.std.proofs.lemmas.Bool.Decides.{nat_tests}
-use Rattle.serde_json.specs.Data.{Num, unsigned, negative, float, Data, null, boolean, number, string, array, object, Items, no_items, item, Members, no_members, member}
-use Rattle.serde_json.specs.Find.{get, as_null, as_bool, as_str, as_array, as_number, as_u64, as_i64}
+use Rattle.serde_json.specs.Data.{Num, unsigned, negative, float, Data, null, boolean, number, string, array, object, Items, no_items, item}
+use Rattle.serde_json.specs.Find.{as_null, as_bool, as_str, as_array, as_number, as_u64, as_i64}
 use Rattle.serde_json.specs.View.{items_of}
 use Rattle.st_ids.specs.LeafText.{leaf_data}
 use Rattle.st_ids.specs.Numeral.{small}
@@ -27,14 +27,14 @@ use Rattle.st_schema.specs.Reading.{two_in, first_of}
 use Rattle.st_schema.specs.Schema.{same, is_among, leaf_types}
 use Rattle.st_schema.specs.TreeText.{leaf_of}
 use Rattle.st_schema.proofs.Forms.{text_same}
-use Rattle.st_change_codec.specs.Changes.{list_data, how_text, make_text}
+use Rattle.st_change_codec.specs.Changes.{list_data, how_text}
 use Rattle.st_mark_reader.specs.Naming.{Naming, NameForm}
-use Rattle.st_mark_reader.specs.Told.{node_data, node_or_null, cell_mark_data, mark_data, marks_data, row_data, register_data, loose_data, made_data, new_data}
+use Rattle.st_change_laws.specs.Listed.{node_data, node_or_null, cell_mark_data, mark_data, row_data, register_data, loose_data, new_data}
 use Rattle.st_mark_reader.specs.Reading.{each_of, list_of, three_in, six_in, small_number, node_of, cell_of, occupant_of, key_within, key_of, field_of, how_named, how_of, mark_named, gap_of, cell_mark_of, mark_in, mark_of, row_in, row_of, fate_of, register_at, register_in, register_of, loose_in, loose_of, if_no_leaf_type, if_of_type, branch_node_of, typed_leaf, leaf_node_of, new_in, new_of}
 use Rattle.st_mark_reader.specs.declared.parts.Fate.{Fate}
 use Rattle.st_change_laws.specs.Both.{Reads}
-use Rattle.st_change_laws.specs.Signed.{NumbersAreSigned, ItemsAreSigned, MembersAreSigned}
-use Rattle.st_change_laws.specs.Within.{MarkIsWithin, NodeIsWithin, RowIsWithin, OccupantIsWithin, FieldIsWithin, RegisterIsWithin, LooseIsWithin, IsShortNumber, LeafIsShort, LeafFits, NewIsWithin}
+use Rattle.st_change_laws.specs.Signed.{NumbersAreSigned, ItemsAreSigned}
+use Rattle.st_change_laws.specs.Within.{MarkIsWithin, NodeIsWithin, RowIsWithin, OccupantIsWithin, FieldIsWithin, RegisterIsWithin, LooseIsWithin, LeafIsShort, NewIsWithin}
 
 if_some : {A : Type 0} (c : Bool) (a b : A) → (if c then Some a else None) ≡ Some b → (c ≡ true) × (a ≡ b)
 if_some true a b h = (refl, cc)
@@ -303,7 +303,7 @@ register_reads n F A r d x h e =
     let clear = is_bool p.0.4 c.0 c.1 in
     let told : (y : Fate) → RegMark = λ y. record { field = f.0; held = y.held; how = y.how; clear = y.clear; fill = y.fill } in
     let at_fate : (d ≡ register_data n (told fate.0)) × RegisterIsWithin A (told fate.0) = subst (λ (y : Fate). (d ≡ register_data n (told y)) × RegisterIsWithin A (told y)) g.2
-        (form ∙ (λ i. list_data (field.0 i ∷ field.1 i ∷ held.0 i ∷ how i ∷ clear i ∷ fill.0 i ∷ [])), (field.2, held.1, fill.1)) in
+    (form ∙ (λ i. list_data (field.0 i ∷ field.1 i ∷ held.0 i ∷ how i ∷ clear i ∷ fill.0 i ∷ [])), (field.2, held.1, fill.1)) in
     subst (λ (y : RegMark). (d ≡ register_data n y) × RegisterIsWithin A y) f.2 at_fate
 
 leaf_reads : (d : Data) (v : Leaf) → NumbersAreSigned d → leaf_of d ≡ Some v → (d ≡ leaf_data v) × LeafIsShort v

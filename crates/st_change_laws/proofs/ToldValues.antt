@@ -1,10 +1,10 @@
 -- What is told is read back.
-use Rattle.std.proofs.Common.{◌≡◌, ◌∙◌, ℕ, ℤ, pos, negsuc, ◌<◌, ◌≤◌, ◌^◌, Bool, true, false, nat_lt, nat_le, List, [], ◌∷◌, map, length, Option, None, Some, option_map, option_and_then, is_some, IsTrue, codes, cond, refl, sym, ap, subst, arith}
+use Rattle.std.proofs.Common.{◌≡◌, ◌∙◌, ℕ, ℤ, pos, negsuc, ◌<◌, ◌≤◌, ◌^◌, Bool, true, false, nat_lt, nat_le, List, [], ◌∷◌, map, length, Option, None, Some, option_map, option_and_then, codes, refl, sym, ap, arith}
 use Rattle.std.specs.Prelude.{if◌then◌else◌}
 use Rattle.std.specs.List.{AllByRecursion}
 use Rattle.std.proofs.lemmas.Bool.Decides.{nat_tests}
-use Rattle.serde_json.specs.Data.{Data, boolean, number, unsigned, string}
-use Rattle.serde_json.specs.Find.{as_bool, as_null}
+use Rattle.serde_json.specs.Data.{Data, boolean, string}
+use Rattle.serde_json.specs.Find.{as_bool}
 use Rattle.serde_json.specs.View.{items_of}
 use Rattle.serde_json.specs.Written.{compact_text}
 use Rattle.st_ids.specs.LeafText.{leaf_data}
@@ -24,24 +24,23 @@ use Rattle.st_marks.specs.declared.marks.Mark.{Mark}
 use Rattle.st_marks.specs.declared.marks.RegMark.{RegMark}
 use Rattle.st_marks.specs.declared.marks.RowMarks.{RowMarks}
 use Rattle.st_schema.specs.Conforms.{leaf_type}
-use Rattle.st_schema.specs.Reading.{schema_of}
-use Rattle.st_schema.specs.Schema.{SchemaView, is_among, is_sound, leaf_types}
+use Rattle.st_schema.specs.Schema.{SchemaView, is_sound}
 use Rattle.st_schema.specs.TreeText.{leaf_of}
 use Rattle.st_schema.specs.Written.{schema_data}
 use Rattle.st_schema.proofs.Forms.{schema_read}
-use Rattle.st_change_codec.specs.Changes.{how_text, list_data, make_text}
+use Rattle.st_change_codec.specs.Changes.{how_text, list_data}
 use Rattle.st_change_codec.specs.SchemaTexts.{if_sound, text_data}
 use Rattle.st_mark_reader.specs.Naming.{Naming, NameForm}
-use Rattle.st_mark_reader.specs.Told.{loose_data, made_data, mark_data, new_data, node_data, node_or_null, register_data, row_data}
-use Rattle.st_mark_reader.specs.Reading.{cell_of, each_of, fate_of, field_of, how_of, if_no_leaf_type, if_of_type, key_of, key_within, list_of, loose_of, mark_named, mark_of, member_of, new_of, node_of, occupant_of, register_at, register_of, row_of, typed_leaf}
+use Rattle.st_change_laws.specs.Listed.{loose_data, made_data, mark_data, new_data, node_data, node_or_null, register_data, row_data}
+use Rattle.st_mark_reader.specs.Reading.{cell_of, each_of, fate_of, field_of, how_of, if_no_leaf_type, if_of_type, key_of, list_of, loose_of, mark_named, mark_of, new_of, node_of, occupant_of, register_at, register_of, row_of, typed_leaf}
 use Rattle.st_mark_reader.specs.declared.parts.Fate.{Fate}
-use Rattle.st_change_reader.specs.Told.{change_data, data_with, edits_data, upgrade_data}
-use Rattle.st_change_reader.specs.Reading.{change_of, edits_of, fields_of, ground_of, nodes_of, read_edits, read_lists, read_upgrade, schema_text_of, upgrade_of}
+use Rattle.st_change_laws.specs.Told.{change_data, data_with, edits_data, upgrade_data}
+use Rattle.st_change_reader.specs.Reading.{change_of, edits_of, fields_of, ground_of, nodes_of, read_lists, schema_text_of, upgrade_of}
 use Rattle.st_change_reader.specs.declared.parts.Fields.{Fields}
 use Rattle.st_change_reader.specs.declared.parts.Ground.{Ground}
 use Rattle.st_change_reader.specs.declared.parts.Nodes.{Nodes}
 use Rattle.st_change_laws.specs.Both.{Writes, WritesNames}
-use Rattle.st_change_laws.specs.Within.{ChangeIsWithin, ContentIsWithin, FieldIsWithin, IsSchemaText, IsShortNumber, LeafFits, LeafIsShort, ListsAreEmpty, ListsAreWithin, LooseIsWithin, MarkIsWithin, NewIsWithin, NodeIsWithin, OccupantIsWithin, RegisterIsWithin, RowIsWithin}
+use Rattle.st_change_laws.specs.Within.{ChangeIsWithin, ContentIsWithin, FieldIsWithin, IsSchemaText, LeafFits, LeafIsShort, ListsAreEmpty, ListsAreWithin, LooseIsWithin, MarkIsWithin, NewIsWithin, NodeIsWithin, OccupantIsWithin, RegisterIsWithin, RowIsWithin}
 use Rattle.st_change_laws.proofs.Changes.{text_told}
 
 then_some : {A B : Type 0} (f : A → Option B) (o : Option A) (x : A) (y : Option B) → o ≡ Some x → f x ≡ y → option_and_then f o ≡ y
@@ -123,9 +122,9 @@ register_writes n F A w r h =
     let made : Option NodeId → How → Bool → Option NodeId → Fate = λ held how clear fill. record { held = held; how = how; clear = clear; fill = fill } in
     let c = boolean r.clear in let f = node_or_null n r.fill in let word = string (how_text r.how) in
     let is_fate : fate_of F (node_or_null n r.held) word c f ≡ Some fate =
-      then_some (λ held. option_and_then (λ how. option_and_then (λ clear. option_map (made held how clear) (occupant_of F f)) (as_bool c)) (how_of word)) (occupant_of F (node_or_null n r.held)) r.held (Some fate) (occupant_writes n F A w r.held h.1)
-      (then_some (λ how. option_and_then (λ clear. option_map (made r.held how clear) (occupant_of F f)) (as_bool c)) (how_of word) r.how (Some fate) (how_writes r.how)
-      (ap (option_map (made r.held r.how r.clear)) (occupant_writes n F A w r.fill h.2))) in
+    then_some (λ held. option_and_then (λ how. option_and_then (λ clear. option_map (made held how clear) (occupant_of F f)) (as_bool c)) (how_of word)) (occupant_of F (node_or_null n r.held)) r.held (Some fate) (occupant_writes n F A w r.held h.1)
+    (then_some (λ how. option_and_then (λ clear. option_map (made r.held how clear) (occupant_of F f)) (as_bool c)) (how_of word) r.how (Some fate) (how_writes r.how)
+    (ap (option_map (made r.held r.how r.clear)) (occupant_writes n F A w r.fill h.2))) in
     let whole : FieldId → RegMark = λ field. record { field = field; held = r.held; how = r.how; clear = r.clear; fill = r.fill } in
     then_some (register_at F (node_data n r.field.node) (string r.field.key.0)) (fate_of F (node_or_null n r.held) word c f) fate (Some r) is_fate (ap (option_map whole) (field_writes n F A w r.field h.0))
 
@@ -154,7 +153,7 @@ new_writes n F A w m h = go m.leaf refl h.1
     go (Some v) e fits =
         let made : Leaf → NewNode = λ leaf. record { node = m.node; ty = m.ty; leaf = Some leaf } in
         let value : option_and_then (if_of_type m.ty) (leaf_of (leaf_data v)) ≡ Some v =
-          then_some (if_of_type m.ty) (leaf_of (leaf_data v)) v (Some v) (leaf_writes v fits.1) (ap (λ (t : List ℕ). if_of_type t v) fits.0 ∙ typed_writes v) in
+        then_some (if_of_type m.ty) (leaf_of (leaf_data v)) v (Some v) (leaf_writes v fits.1) (ap (λ (t : List ℕ). if_of_type t v) fits.0 ∙ typed_writes v) in
         then_some (λ node. typed_leaf node m.ty (leaf_data v)) (node_of F (node_data n m.node)) m.node (Some m) (node_writes n F A w m.node h.0)
         (ap (option_map made) value ∙ (λ i. Some (record { node = m.node; ty = m.ty; leaf = sym e i })))
 

@@ -1,3 +1,5 @@
+pub mod Listed
+pub mod Told
 pub mod Both
 pub mod Signed
 pub mod Within

@@ -1,5 +1,5 @@
 -- Values in which each number that is told as negative is so, as in each that is read of a text.
-use Rattle.std.specs.Prelude.{ℕ, ℤ, pos, negsuc}
+use Rattle.std.specs.Prelude.{pos, negsuc}
 use Rattle.serde_json.specs.Data.{Num, unsigned, negative, float, Data, null, boolean, number, string, array, object, Items, no_items, item, Members, no_members, member}
 
 abbrev pub IsSigned : Num → Type 0

@@ -7,8 +7,7 @@ use Rattle.st_schema.specs.Reading.{schema_of}
 use Rattle.st_schema.specs.Schema.{SchemaView, is_sound}
 use Rattle.st_schema.specs.Written.{schema_data}
 use Rattle.st_schema.proofs.Forms.{schema_back, schema_read}
-use Rattle.st_change_codec.specs.SchemaTexts.{if_sound}
-use Rattle.st_change_reader.specs.Reading.{schema_text_of}
+use Rattle.st_change_reader.specs.Reading.{if_sound, schema_text_of}
 
 abbrev text_of : SchemaView → List ℕ
 text_of s = compact_text (schema_data s)

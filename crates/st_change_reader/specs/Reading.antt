@@ -7,7 +7,7 @@ use Rattle.st_marks.specs.declared.changes.Change.{Change}
 use Rattle.st_marks.specs.declared.marks.Loose.{Loose}
 use Rattle.st_schema.specs.Reading.{schema_of}
 use Rattle.st_schema.specs.Written.{schema_data}
-use Rattle.st_change_codec.specs.SchemaTexts.{if_sound}
+use Rattle.st_schema.specs.Schema.{SchemaView, is_sound}
 use Rattle.st_mark_reader.specs.Naming.{NameForm}
 use Rattle.st_mark_reader.specs.Reading.{list_of, is_named, node_of, row_of, register_of, loose_of, new_of, member_of}
 use Rattle.st_change_reader.specs.declared.parts.Ground.{Ground}
@@ -55,6 +55,10 @@ read_lists F g d =
 
 abbrev pub read_edits : NameForm → Data → Option Change
 read_edits F d = option_and_then (λ g. read_lists F g d) (ground_of F d)
+
+-- a schema that keeps the rules
+abbrev pub if_sound : SchemaView → Option SchemaView
+if_sound s = if is_sound s then Some s else None
 
 -- the text of the schema that a value is the form of, if it keeps the rules
 abbrev pub schema_text_of : Data → Option (List ℕ)

@@ -49,11 +49,7 @@ fn fields<N: ReadNames>(
 }
 
 // The nodes that a change needs, and those that it makes.
-fn nodes<N: ReadNames>(
-    alloc: Global,
-    names: &N,
-    value: &Value,
-) -> Result<Option<Nodes>, AllocError>
+fn nodes<N: ReadNames>(alloc: Global, names: &N, value: &Value) -> Result<Option<Nodes>, AllocError>
     ensures { IfOk result (λ o. o ≡ nodes_of (N.form names.now) (view value.now)) }
 {
     let Some(need) = list_member(alloc, value, "need", &NodeNames(names))? else {

@@ -3,9 +3,9 @@ ghost use Rattle.std.specs.Prelude.{◌≡◌, IfOk, option_and_then};
 ghost use Rattle.serde_json.specs.View.{view, items_view};
 ghost use Rattle.st_mark_reader.specs.Reading.{how_named, how_of, mark_named, gap_of, cell_mark_of, mark_in, mark_of, row_in, row_of, field_of, fate_of, register_at, register_in, register_of, list_of};
 
+use crate::items::{six_items, three_in, two_in, two_items};
 use crate::names::{ReadNames, cell, node, occupant};
 use crate::parts::Fate;
-use crate::items::{six_items, three_in, two_in, two_items};
 use crate::values::{ReadItem, key, read_list, small_number};
 use serde_json::Value;
 use st_ids::{CellId, FieldId, NodeId};

@@ -26,6 +26,7 @@ pub struct Plain;
 
 impl ReadNames for Plain {
     ghost use Rattle.st_mark_reader.specs.Naming.{plain_form};
+
     ghost form = { λ s. plain_form };
 
     fn rev(&self, value: &Value) -> Option<Rev> {

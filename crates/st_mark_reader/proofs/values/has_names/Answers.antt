@@ -1,6 +1,6 @@
 use Rattle.serde_json.specs.View.{members_view}
 use Rattle.st_mark_reader.specs.Reading.{has_names}
-use Rattle.std.proofs.Common.{map, ℕ, List}
+use Rattle.std.proofs.Common.{map}
 use Rattle.st_mark_reader.proofs.Lengths.{names_ended}
 use Rattle.st_mark_reader.proofs.values.has_names.Goals as goal
 

@@ -1,5 +1,5 @@
 -- the items so far, and then those of what is left
-use Rattle.std.proofs.Common.{◌≡◌, ◌++◌, drop, List}
+use Rattle.std.proofs.Common.{◌≡◌, ◌++◌, drop}
 use Rattle.std.specs.Option.{option_map}
 use Rattle.serde_json.specs.View.{items_view}
 use Rattle.st_mark_reader.specs.Reading.{each_of}
