@@ -11,8 +11,8 @@ use Rattle.st_marks.specs.declared.marks.RowMarks.{RowMarks}
 use Rattle.st_change_codec.specs.Changes as plain
 use Rattle.st_change_codec.specs.Changes.{how_text, list_data}
 use Rattle.st_mark_reader.specs.Naming.{plain_naming}
-use Rattle.st_change_laws.specs.Listed.{made_data, mark_data, new_data, node_or_null, register_data, row_data}
-use Rattle.st_change_laws.specs.Told.{change_data, data_with, edits_data}
+use Rattle.st_change_writer.specs.Listed.{made_data, mark_data, new_data, node_or_null, register_data, row_data}
+use Rattle.st_change_writer.specs.Told.{change_data, data_with, edits_data}
 
 mark_same : (m : Mark) → plain.mark_data m ≡ mark_data plain_naming m
 mark_same (Mark.Skip k) = refl

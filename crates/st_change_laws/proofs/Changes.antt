@@ -20,9 +20,9 @@ use Rattle.st_change_laws.proofs.Texts.{schema_text}
 use Rattle.st_change_codec.specs.Changes.{list_data}
 use Rattle.st_change_codec.specs.SchemaTexts.{if_sound, schema_or, sound_schema_of, text_data}
 use Rattle.st_mark_reader.specs.Naming.{Naming, NameForm}
-use Rattle.st_change_laws.specs.Listed.{loose_data, new_data, node_data, register_data, row_data}
+use Rattle.st_change_writer.specs.Listed.{loose_data, new_data, node_data, register_data, row_data}
 use Rattle.st_mark_reader.specs.Reading.{is_named, list_of, loose_of, member_of, new_of, node_of, register_of, row_of}
-use Rattle.st_change_laws.specs.Told.{change_data}
+use Rattle.st_change_writer.specs.Told.{change_data}
 use Rattle.st_change_reader.specs.Reading.{change_of, edit_names, edits_of, fields_of, ground_of, nodes_of, read_edits, read_lists, read_upgrade, schema_text_of, upgrade_names, upgrade_of}
 use Rattle.st_change_reader.specs.declared.parts.Fields.{Fields}
 use Rattle.st_change_reader.specs.declared.parts.Ground.{Ground}

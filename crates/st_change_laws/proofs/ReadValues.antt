@@ -29,7 +29,7 @@ use Rattle.st_schema.specs.TreeText.{leaf_of}
 use Rattle.st_schema.proofs.Forms.{text_same}
 use Rattle.st_change_codec.specs.Changes.{list_data, how_text}
 use Rattle.st_mark_reader.specs.Naming.{Naming, NameForm}
-use Rattle.st_change_laws.specs.Listed.{node_data, node_or_null, cell_mark_data, mark_data, row_data, register_data, loose_data, new_data}
+use Rattle.st_change_writer.specs.Listed.{node_data, node_or_null, cell_mark_data, mark_data, row_data, register_data, loose_data, new_data}
 use Rattle.st_mark_reader.specs.Reading.{each_of, list_of, three_in, six_in, small_number, node_of, cell_of, occupant_of, key_within, key_of, field_of, how_named, how_of, mark_named, gap_of, cell_mark_of, mark_in, mark_of, row_in, row_of, fate_of, register_at, register_in, register_of, loose_in, loose_of, if_no_leaf_type, if_of_type, branch_node_of, typed_leaf, leaf_node_of, new_in, new_of}
 use Rattle.st_mark_reader.specs.declared.parts.Fate.{Fate}
 use Rattle.st_change_laws.specs.Both.{Reads}

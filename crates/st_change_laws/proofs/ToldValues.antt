@@ -31,10 +31,10 @@ use Rattle.st_schema.proofs.Forms.{schema_read}
 use Rattle.st_change_codec.specs.Changes.{how_text, list_data}
 use Rattle.st_change_codec.specs.SchemaTexts.{if_sound, text_data}
 use Rattle.st_mark_reader.specs.Naming.{Naming, NameForm}
-use Rattle.st_change_laws.specs.Listed.{loose_data, made_data, mark_data, new_data, node_data, node_or_null, register_data, row_data}
+use Rattle.st_change_writer.specs.Listed.{loose_data, made_data, mark_data, new_data, node_data, node_or_null, register_data, row_data}
 use Rattle.st_mark_reader.specs.Reading.{cell_of, each_of, fate_of, field_of, how_of, if_no_leaf_type, if_of_type, key_of, list_of, loose_of, mark_named, mark_of, new_of, node_of, occupant_of, register_at, register_of, row_of, typed_leaf}
 use Rattle.st_mark_reader.specs.declared.parts.Fate.{Fate}
-use Rattle.st_change_laws.specs.Told.{change_data, data_with, edits_data, upgrade_data}
+use Rattle.st_change_writer.specs.Told.{change_data, data_with, edits_data, upgrade_data}
 use Rattle.st_change_reader.specs.Reading.{change_of, edits_of, fields_of, ground_of, nodes_of, read_lists, schema_text_of, upgrade_of}
 use Rattle.st_change_reader.specs.declared.parts.Fields.{Fields}
 use Rattle.st_change_reader.specs.declared.parts.Ground.{Ground}

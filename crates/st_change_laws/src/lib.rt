@@ -5,7 +5,7 @@ ghost use Rattle.std.specs.Prelude.{◌≡◌};
 ghost use Rattle.st_change_codec.specs.Changes.{change_data as plain_change_data};
 ghost use Rattle.st_marks.specs.declared.changes.Change.{Change};
 ghost use Rattle.st_mark_reader.specs.Naming.{plain_form, plain_naming};
-ghost use Rattle.st_change_laws.specs.Told.{change_data};
+ghost use Rattle.st_change_writer.specs.Told.{change_data};
 ghost use Rattle.st_change_reader.specs.Reading.{change_of};
 ghost use Rattle.st_change_laws.specs.Both.{Reads, Writes};
 ghost use Rattle.st_change_laws.specs.Within.{ChangeIsWithin, IsShortAtom, IsShortRev};

@@ -9,7 +9,7 @@ use Rattle.st_marks.specs.declared.steps.Step.{Step}
 use Rattle.st_change_codec.specs.Changes.{list_data}
 use Rattle.st_change_codec.specs.SchemaTexts.{text_data}
 use Rattle.st_mark_reader.specs.Naming.{Naming}
-use Rattle.st_change_laws.specs.Listed.{node_data, node_or_null, loose_data, new_data, register_data, row_data}
+use Rattle.st_change_writer.specs.Listed.{node_data, node_or_null, loose_data, new_data, register_data, row_data}
 
 -- ## Changes
 
