@@ -1,0 +1,7 @@
+mod ReadValues
+mod Members
+mod Changes
+mod Texts
+mod Plain
+mod ToldValues
+mod Before

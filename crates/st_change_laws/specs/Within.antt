@@ -1,0 +1,105 @@
+-- What can be told of a change or a step: numbers below 2^32, keys of at most 64 bytes, leaves of their types, schemas that
+-- keep the rules, and names of some kind.
+use Rattle.std.specs.Prelude.{◌≡◌, ◌<◌, ◌≤◌, ◌^◌, ℕ, ℤ, pos, negsuc, List, [], length, false, IsTrue, Option, None, Some}
+use Rattle.std.specs.List.{AllByRecursion}
+use Rattle.serde_json.specs.Written.{compact_text}
+use Rattle.st_ids.specs.declared.names.Atom.{Atom}
+use Rattle.st_ids.specs.declared.names.FieldId.{FieldId}
+use Rattle.st_ids.specs.declared.names.Leaf.{Leaf}
+use Rattle.st_ids.specs.declared.names.NodeId.{NodeId}
+use Rattle.st_ids.specs.declared.names.Rev.{Rev}
+use Rattle.st_marks.specs.declared.changes.Change.{Change}
+use Rattle.st_marks.specs.declared.changes.NewNode.{NewNode}
+use Rattle.st_marks.specs.declared.marks.Loose.{Loose}
+use Rattle.st_marks.specs.declared.marks.Mark.{Mark}
+use Rattle.st_marks.specs.declared.marks.RegMark.{RegMark}
+use Rattle.st_marks.specs.declared.marks.RowMarks.{RowMarks}
+use Rattle.st_schema.specs.Conforms.{leaf_type}
+use Rattle.st_schema.specs.Schema.{SchemaView, is_among, is_sound, leaf_types}
+use Rattle.st_schema.specs.Written.{schema_data}
+
+-- ## Names with numbers below 2^32, as every name in memory has
+
+abbrev pub IsShortRev : Rev → Type 0
+IsShortRev r = (r.session < 2 ^ 32) × (r.num < 2 ^ 32)
+
+abbrev pub IsShortAtom : Atom → Type 0
+IsShortAtom a = (a.rev.session < 2 ^ 32) × (a.rev.num < 2 ^ 32) × (a.at < 2 ^ 32)
+
+-- ## What a change lists, with atoms of a kind
+
+abbrev pub MarkIsWithin : (Atom → Type 0) → Mark → Type 0
+MarkIsWithin A (Mark.Skip k) = k < 2 ^ 32
+MarkIsWithin A (Mark.Gap c) = A c.0
+MarkIsWithin A (Mark.Touch c x how) = A c.0 × A x.0
+MarkIsWithin A (Mark.Make c x full) = A c.0 × A x.0
+MarkIsWithin A (Mark.Fill c x) = A c.0 × A x.0
+
+abbrev pub NodeIsWithin : (Atom → Type 0) → NodeId → Type 0
+NodeIsWithin A x = A x.0
+
+abbrev pub RowIsWithin : (Atom → Type 0) → RowMarks → Type 0
+RowIsWithin A r = A r.node.0 × AllByRecursion (MarkIsWithin A) r.marks
+
+abbrev pub OccupantIsWithin : (Atom → Type 0) → Option NodeId → Type 0
+OccupantIsWithin A None = Unit {0}
+OccupantIsWithin A (Some x) = A x.0
+
+abbrev pub FieldIsWithin : (Atom → Type 0) → FieldId → Type 0
+FieldIsWithin A f = A f.node.0 × (length f.key.0 ≤ 64)
+
+abbrev pub RegisterIsWithin : (Atom → Type 0) → RegMark → Type 0
+RegisterIsWithin A r = FieldIsWithin A r.field × OccupantIsWithin A r.held × OccupantIsWithin A r.fill
+
+abbrev pub LooseIsWithin : (Atom → Type 0) → Loose → Type 0
+LooseIsWithin A l = A l.node.0
+
+-- a whole number below 2^63
+abbrev pub IsShortNumber : ℤ → Type 0
+IsShortNumber (pos n) = n < 2 ^ 63
+IsShortNumber (negsuc n) = Unit {0}
+
+abbrev pub LeafIsShort : Leaf → Type 0
+LeafIsShort Leaf.Null = Unit {0}
+LeafIsShort (Leaf.Bool b) = Unit {0}
+LeafIsShort (Leaf.Int i) = IsShortNumber i
+LeafIsShort (Leaf.Words t) = Unit {0}
+
+-- a leaf's type has a value of that type, another type has none
+abbrev pub LeafFits : List ℕ → Option Leaf → Type 0
+LeafFits ty None = is_among ty leaf_types ≡ false
+LeafFits ty (Some v) = (ty ≡ leaf_type v) × LeafIsShort v
+
+abbrev pub NewIsWithin : (Atom → Type 0) → NewNode → Type 0
+NewIsWithin A m = A m.node.0 × LeafFits m.ty m.leaf
+
+-- ## Changes
+
+-- a text is the form of a schema that keeps the rules, as `Schema::text` gives it
+abbrev pub IsSchemaText : List ℕ → Type 0
+IsSchemaText t = (s : SchemaView) × IsTrue (is_sound s) × (t ≡ compact_text (schema_data s))
+
+pub record ListsAreWithin (A : Atom → Type 0) (C : Change) : Type 0 where
+  pub need : AllByRecursion (NodeIsWithin A) C.need
+  pub new : AllByRecursion (NewIsWithin A) C.new
+  pub rows : AllByRecursion (RowIsWithin A) C.rows
+  pub regs : AllByRecursion (RegisterIsWithin A) C.regs
+  pub loose : AllByRecursion (LooseIsWithin A) C.loose
+
+-- a change of the schema lists nothing
+pub record ListsAreEmpty (C : Change) : Type 0 where
+  pub need : C.need ≡ []
+  pub new : C.new ≡ []
+  pub rows : C.rows ≡ []
+  pub regs : C.regs ≡ []
+  pub loose : C.loose ≡ []
+
+abbrev pub ContentIsWithin : (Atom → Type 0) → Change → Option (List ℕ) → Type 0
+ContentIsWithin A C None = ListsAreWithin A C
+ContentIsWithin A C (Some t) = IsSchemaText t × ListsAreEmpty C
+
+-- a change that can be told with revisions and atoms of a kind
+pub record ChangeIsWithin (R : Rev → Type 0) (A : Atom → Type 0) (C : Change) : Type 0 where
+  pub rev : R C.rev
+  pub under : R C.under
+  pub content : ContentIsWithin A C C.schema

@@ -1,0 +1,11 @@
+//! Changes written as text, without JSON values between.
+#![tactic(auto)]
+
+mod change;
+mod lists;
+mod marks;
+mod names;
+mod nodes;
+
+pub use change::push_edits;
+pub use names::{Plain, PushNames, push_op_atom, push_op_rev};
