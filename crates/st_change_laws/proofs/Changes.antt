@@ -16,7 +16,7 @@ use Rattle.st_schema.specs.Reading.{schema_of}
 use Rattle.st_schema.specs.Schema.{SchemaView, is_sound}
 use Rattle.st_schema.specs.Written.{schema_data}
 use Rattle.st_schema.proofs.Forms.{schema_back}
-use Rattle.st_change_laws.proofs.Texts.{schema_text}
+use Rattle.st_schema_laws.proofs.Texts.{schema_text}
 use Rattle.st_change_codec.specs.Changes.{list_data}
 use Rattle.st_change_codec.specs.SchemaTexts.{if_sound, schema_or, sound_schema_of, text_data}
 use Rattle.st_mark_reader.specs.Naming.{Naming, NameForm}
@@ -98,7 +98,7 @@ sound_is s t false e h = absurd (none_some (rw e at h))
 -- the text of a sound schema is told as the schema's form
 pub text_told : (s : SchemaView) → is_sound s ≡ true → text_data (compact_text (schema_data s)) ≡ schema_data s
 text_told s h =
-    let back : sound_schema_of (compact_text (schema_data s)) ≡ Some s = ap (option_and_then if_sound) (schema_text s h) ∙ kept (is_sound s) refl h in
+    let back : sound_schema_of (compact_text (schema_data s)) ≡ Some s = ap (option_and_then if_sound) (schema_text s h).back ∙ kept (is_sound s) refl h in
     ap (schema_or (compact_text (schema_data s))) back
   where
     kept : (b : Bool) → is_sound s ≡ b → b ≡ true → if_sound s ≡ Some s

@@ -1,7 +1,6 @@
 mod ReadValues
 mod Members
 mod Changes
-mod Texts
 mod Plain
 mod ToldValues
 mod Before

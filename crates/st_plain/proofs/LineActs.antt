@@ -136,5 +136,5 @@ module _ (h : HeaderView) (st : IsStart (opening_document h)) (log : List Entry)
         omega (arith, room, same);
     head = head;
     edited = edited;
-    editable = line_editable (shown_on l k) (document_of k.doc, head, refl);
+    editable = line_editable h st log c own j l at (shown_on l k) (document_of k.doc, head, refl);
   }
