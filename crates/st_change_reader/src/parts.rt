@@ -5,7 +5,7 @@ use st_marks::{Loose, NewNode, RegMark, RegStep, RowMarks};
 
 /// The revision of a change, under which schema it was made, and whether that is in effect.
 #[derive(Clone, Copy)]
-pub(crate) struct Ground {
+pub struct Ground {
     pub rev: Rev,
     pub under: Rev,
     pub base: bool,
@@ -13,14 +13,14 @@ pub(crate) struct Ground {
 
 /// The fields that a change lists.
 #[derive(Drop)]
-pub(crate) struct Fields {
+pub struct Fields {
     pub rows: List<RowMarks>,
     pub regs: List<RegMark>,
 }
 
 /// The nodes that a change needs, and those that it makes.
 #[derive(Drop)]
-pub(crate) struct Nodes {
+pub struct Nodes {
     pub need: List<NodeId>,
     pub new: List<NewNode>,
 }

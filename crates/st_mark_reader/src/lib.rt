@@ -12,4 +12,5 @@ pub use items::{Four, Six, four_items, two_items};
 pub use listed::{NewNodes, Nodes, Nowhere, loose};
 pub use marks::{Marks, Registers, Rows, field, mark};
 pub use names::{Plain, ReadNames, node, occupant};
+pub use parts::Fate;
 pub use values::{ReadItem, is_named, list_member, read_list};

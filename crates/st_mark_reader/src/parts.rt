@@ -5,7 +5,7 @@ use st_marks::How;
 
 /// Who is in a register, what becomes of that node, whether the register is cleared, and who comes in.
 #[derive(Clone, Copy)]
-pub(crate) struct Fate {
+pub struct Fate {
     pub held: Option<NodeId>,
     pub how: How,
     pub clear: bool,
