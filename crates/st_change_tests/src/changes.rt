@@ -8,8 +8,8 @@ use st_marks::Change;
 use std::alloc::{AllocError, Global};
 use std::test::Fail;
 
-// Written as they are, they are read.
-const CHANGES: [&str; 8] = [
+/// Written as they are, they are read.
+pub const CHANGES: [&str; 8] = [
     r#"{"base":true,"loose":[],"need":[],"new":[],"regs":[],"rev":"1.1","rows":[],"under":"0.0"}"#,
     r#"{"base":true,"loose":[],"need":["0.0.0"],"new":[["2.1.0","text","b"]],"regs":[],"rev":"2.1","rows":[["0.0.0",[1,["make","2.1.0","2.1.0"],["gap","1.1.0"]]]],"under":"0.0"}"#,
     r#"{"base":false,"loose":[["1.1.0","at"],["1.2.0","out"]],"need":[],"new":[],"regs":[["1.1.0","k",null,"at",true,"1.2.0"],["1.1.0","l","1.3.0","out",false,null]],"rev":"4294967295.4294967295","rows":[],"under":"7.0"}"#,
@@ -62,7 +62,7 @@ pub fn value_of(alloc: Global, text: &str) -> Result<Option<Value>, AllocError> 
     }
 }
 
-fn change_of(alloc: Global, text: &str) -> Result<Option<Change>, AllocError> {
+pub fn change_of(alloc: Global, text: &str) -> Result<Option<Change>, AllocError> {
     match value_of(alloc, text)? {
         None => Ok(None),
         Some(value) => read_change(alloc, &Plain, &value),
