@@ -11,7 +11,8 @@ ghost use Rattle.st_change_laws.specs.Both.{Reads, Writes};
 ghost use Rattle.st_change_laws.specs.Within.{ChangeIsWithin, IsShortAtom, IsShortRev};
 
 /// With plain names, what is told of a change that can be told is read as that change; and what is
-/// read as a change can be told, and is told by no other value than the one that it was read of.
+/// read as a change can be told, and is told by no other value than the one that it was read of, if
+/// each number told as negative in that value is so.
 pub fn plain_changes_are_read_back()
     ensures written { Writes (change_of plain_form) (change_data plain_naming) (ChangeIsWithin IsShortRev IsShortAtom) }
     ensures read { Reads (change_of plain_form) (change_data plain_naming) (ChangeIsWithin IsShortRev IsShortAtom) }
