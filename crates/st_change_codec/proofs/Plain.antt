@@ -14,7 +14,7 @@ use Rattle.st_marks.specs.declared.marks.RowMarks.{RowMarks}
 use Rattle.st_schema.specs.Schema.{SchemaView}
 use Rattle.st_schema.proofs.Plain.{schema_plain}
 use Rattle.st_change_codec.specs.Changes.{change_data, data_with, edits_data, loose_data, made_data, mark_data, new_data, node_data, node_or_null, register_data, row_data}
-use Rattle.st_change_codec.specs.SchemaTexts.{schema_or, sound_schema_of}
+use Rattle.st_change_codec.specs.SchemaTexts.{schema_or, sound_schema_of, text_data}
 
 list_plain : {A : Type 0} (f : A → Data) → ((x : A) → has_float (f x) ≡ false) → (xs : List A) → items_have_float (items_of (map f xs)) ≡ false
 list_plain f plain [] = refl
@@ -53,6 +53,9 @@ edits_plain c = rw (
 schema_or_plain : (text : List ℕ) (s : Option SchemaView) → has_float (schema_or text s) ≡ false
 schema_or_plain text None = refl
 schema_or_plain text (Some s) = schema_plain s
+
+pub text_plain : (text : List ℕ) → has_float (text_data text) ≡ false
+text_plain text = schema_or_plain text (sound_schema_of text)
 
 with_plain : (c : Change) (schema : Option (List ℕ)) → has_float (data_with c schema) ≡ false
 with_plain c None = edits_plain c

@@ -7,3 +7,4 @@ mod names;
 mod schema;
 
 pub use change::{change_text, change_value};
+pub use schema::schema_text;

@@ -2,6 +2,7 @@
 ghost use Rattle.std.specs.Prelude.{◌≡◌, IfOk, option_map, option_and_then};
 ghost use Rattle.serde_json.specs.Read.{read};
 ghost use Rattle.serde_json.specs.View.{view};
+ghost use Rattle.serde_json.specs.Written.{compact_text};
 ghost use Rattle.st_schema.specs.Reading.{schema_of};
 ghost use Rattle.st_change_codec.specs.SchemaTexts.{if_sound, sound_schema_of, text_data};
 
@@ -57,4 +58,14 @@ pub fn schema_value(alloc: Global, text: &Text) -> Result<Value, AllocError>
         None => text_value(alloc, text.as_str()),
         Some(schema) => schema.value(alloc),
     }
+}
+
+/// The compact text of the schema of a text, as a change or a step has it; a text that is no
+/// schema's is written as a JSON text.
+#[tactic(auto, using(crate::proofs::Plain::text_plain))]
+pub fn schema_text(alloc: Global, text: &Text) -> Result<Text, AllocError>
+    ensures { IfOk result (λ t. t ≡ compact_text (text_data text.now)) }
+{
+    let value = schema_value(alloc, text)?;
+    Ok(Text::from_string(value.to_string(alloc)?))
 }
