@@ -105,7 +105,7 @@ text_told s h =
     kept true e q = rw e refl
     kept false e q = absurd (cc)
 
-schema_reads : (d : Data) (t : List ℕ) → schema_text_of d ≡ Some t → (d ≡ text_data t) × IsSchemaText t
+pub schema_reads : (d : Data) (t : List ℕ) → schema_text_of d ≡ Some t → (d ≡ text_data t) × IsSchemaText t
 schema_reads d t e =
     let s = option_map-Some (λ s. compact_text (schema_data s)) (option_and_then if_sound (schema_of d)) t e in
     let u = option_and_then-Some if_sound (schema_of d) s.0 s.1 in

@@ -4,3 +4,6 @@ mod Changes
 mod Plain
 mod ToldValues
 mod Before
+mod Steps
+mod ToldSteps
+mod OpNumbersTold

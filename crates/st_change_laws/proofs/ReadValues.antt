@@ -45,7 +45,7 @@ either : {A : Type 0} (c : Bool) (a : A) (o : Option A) (b : A) (P : A → Type 
 either true a o b P h f g = let e : a ≡ b = one_some a b h in subst P e (f refl)
 either false a o b P h f g = g h
 
-guarded : {A : Type 0} (b : Bool) (o : Option A) (y : A) → (if b then o else None) ≡ Some y → (b ≡ true) × (o ≡ Some y)
+pub guarded : {A : Type 0} (b : Bool) (o : Option A) (y : A) → (if b then o else None) ≡ Some y → (b ≡ true) × (o ≡ Some y)
 guarded true o y e = (refl, e)
 guarded false o y e = absurd (cc)
 
@@ -126,7 +126,7 @@ cell_reads n F A r d x h e =
     let one = r d a.0 h a.1 in
     subst (λ (y : CellId). (d ≡ n.atom y.0) × A y.0) a.2 one
 
-is_null : (d : Data) → is_some (as_null d) ≡ true → d ≡ null
+pub is_null : (d : Data) → is_some (as_null d) ≡ true → d ≡ null
 is_null null h = refl
 is_null (boolean b) h = absurd (cc)
 is_null (number x) h = absurd (cc)
@@ -152,7 +152,7 @@ key_reads d k e =
     let short : length t.0 ≤ 64 = grind (arith, nat_tests, p.0) in
     subst (λ (l : Key). (d ≡ string l.0) × (length l.0 ≤ 64)) p.1 (is_string d t.0 t.1, short)
 
-field_reads : (n : Naming) (F : NameForm) (A : Atom → Type 0) → Reads F.atom n.atom A → (d k : Data) (f : FieldId) → NumbersAreSigned d → field_of F d k ≡ Some f → (d ≡ node_data n f.node) × (k ≡ string f.key.0) × FieldIsWithin A f
+pub field_reads : (n : Naming) (F : NameForm) (A : Atom → Type 0) → Reads F.atom n.atom A → (d k : Data) (f : FieldId) → NumbersAreSigned d → field_of F d k ≡ Some f → (d ≡ node_data n f.node) × (k ≡ string f.key.0) × FieldIsWithin A f
 field_reads n F A r d k f h e =
     let made : NodeId → Key → FieldId = λ x key. record { node = x; key = key } in
     let x = option_and_then-Some (λ (x : NodeId). option_map (made x) (key_of k)) (node_of F d) f e in
@@ -245,7 +245,7 @@ mark_reads n F A r d m h e = go (as_array d) refl e
 
 -- ## Rows, registers and nodes
 
-pair_reads : {A : Type 0} (f : Data × Data → Option A) (d : Data) (x : A) → NumbersAreSigned d → option_and_then f (option_and_then two_in (as_array d)) ≡ Some x
+pub pair_reads : {A : Type 0} (f : Data × Data → Option A) (d : Data) (x : A) → NumbersAreSigned d → option_and_then f (option_and_then two_in (as_array d)) ≡ Some x
     → (p : Data × Data) × (d ≡ list_data (p.0 ∷ p.1 ∷ [])) × NumbersAreSigned p.0 × NumbersAreSigned p.1 × (f p ≡ Some x)
 pair_reads f d x h e =
     let p = option_and_then-Some f (option_and_then two_in (as_array d)) x e in

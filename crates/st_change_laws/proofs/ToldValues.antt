@@ -43,7 +43,7 @@ use Rattle.st_change_laws.specs.Both.{Writes, WritesNames}
 use Rattle.st_change_laws.specs.Within.{ChangeIsWithin, ContentIsWithin, FieldIsWithin, IsSchemaText, LeafFits, LeafIsShort, ListsAreEmpty, ListsAreWithin, LooseIsWithin, MarkIsWithin, NewIsWithin, NodeIsWithin, OccupantIsWithin, RegisterIsWithin, RowIsWithin}
 use Rattle.st_change_laws.proofs.Changes.{text_told}
 
-then_some : {A B : Type 0} (f : A → Option B) (o : Option A) (x : A) (y : Option B) → o ≡ Some x → f x ≡ y → option_and_then f o ≡ y
+pub then_some : {A B : Type 0} (f : A → Option B) (o : Option A) (x : A) (y : Option B) → o ≡ Some x → f x ≡ y → option_and_then f o ≡ y
 then_some f o x y e g = ap (option_and_then f) e ∙ g
 
 -- ## Lists
@@ -194,7 +194,7 @@ if_is_sound : (s : SchemaView) (b : Bool) → is_sound s ≡ b → b ≡ true �
 if_is_sound s true e q = rw e refl
 if_is_sound s false e q = absurd (cc)
 
-schema_writes : (t : List ℕ) → IsSchemaText t → schema_text_of (text_data t) ≡ Some t
+pub schema_writes : (t : List ℕ) → IsSchemaText t → schema_text_of (text_data t) ≡ Some t
 schema_writes t h =
     let text : SchemaView → List ℕ = λ s. compact_text (schema_data s) in
     let sound : is_sound h.0 ≡ true = h.1 in

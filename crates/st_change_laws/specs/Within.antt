@@ -10,10 +10,18 @@ use Rattle.st_ids.specs.declared.names.NodeId.{NodeId}
 use Rattle.st_ids.specs.declared.names.Rev.{Rev}
 use Rattle.st_marks.specs.declared.changes.Change.{Change}
 use Rattle.st_marks.specs.declared.changes.NewNode.{NewNode}
+use Rattle.st_marks.specs.declared.marks.How.{How}
 use Rattle.st_marks.specs.declared.marks.Loose.{Loose}
 use Rattle.st_marks.specs.declared.marks.Mark.{Mark}
 use Rattle.st_marks.specs.declared.marks.RegMark.{RegMark}
+use Rattle.st_marks.specs.declared.marks.RegStep.{RegStep}
 use Rattle.st_marks.specs.declared.marks.RowMarks.{RowMarks}
+use Rattle.st_marks.specs.declared.schemas.SchemaEntry.{SchemaEntry}
+use Rattle.st_marks.specs.declared.schemas.SchemaStep.{SchemaStep}
+use Rattle.st_marks.specs.declared.steps.Step.{Step}
+use Rattle.st_clusters.specs.declared.at.At.{At}
+use Rattle.st_idcodec.specs.OpText.{IsShort}
+use Rattle.st_mark_reader.specs.OpSpace.{op_number}
 use Rattle.st_schema.specs.Conforms.{leaf_type}
 use Rattle.st_schema.specs.Schema.{SchemaView, is_among, is_sound, leaf_types}
 use Rattle.st_schema.specs.Written.{schema_data}
@@ -103,3 +111,56 @@ pub record ChangeIsWithin (R : Rev → Type 0) (A : Atom → Type 0) (C : Change
   pub rev : R C.rev
   pub under : R C.under
   pub content : ContentIsWithin A C C.schema
+
+-- ## Steps
+
+-- in a step a node stays or leaves
+abbrev pub HowMoves : How → Type 0
+HowMoves How.Stay = Unit {0}
+HowMoves How.Here = ⊥
+HowMoves How.Leave = Unit {0}
+
+abbrev pub MarkMoves : Mark → Type 0
+MarkMoves (Mark.Skip k) = Unit {0}
+MarkMoves (Mark.Gap c) = Unit {0}
+MarkMoves (Mark.Touch c x how) = HowMoves how
+MarkMoves (Mark.Make c x full) = Unit {0}
+MarkMoves (Mark.Fill c x) = Unit {0}
+
+abbrev pub StepMarkIsWithin : (Atom → Type 0) → Mark → Type 0
+StepMarkIsWithin A m = MarkIsWithin A m × MarkMoves m
+
+abbrev pub StepRowIsWithin : (Atom → Type 0) → RowMarks → Type 0
+StepRowIsWithin A r = A r.node.0 × AllByRecursion (StepMarkIsWithin A) r.marks
+
+abbrev pub StepLooseIsWithin : (Atom → Type 0) → Loose → Type 0
+StepLooseIsWithin A l = A l.node.0 × HowMoves l.how
+
+abbrev pub RegStepIsWithin : (Atom → Type 0) → RegStep → Type 0
+RegStepIsWithin A r = FieldIsWithin A r.field × OccupantIsWithin A r.before × OccupantIsWithin A r.after
+
+abbrev pub EntryIsWithin : (Rev → Type 0) → SchemaEntry → Type 0
+EntryIsWithin R e = R e.rev × IsSchemaText e.text
+
+abbrev pub SchemaStepIsWithin : (Rev → Type 0) → SchemaStep → Type 0
+SchemaStepIsWithin R s = R s.on × AllByRecursion (EntryIsWithin R) s.cut × AllByRecursion (EntryIsWithin R) s.add
+
+abbrev pub SchemaPartIsWithin : (Rev → Type 0) → Option SchemaStep → Type 0
+SchemaPartIsWithin R None = Unit {0}
+SchemaPartIsWithin R (Some s) = SchemaStepIsWithin R s
+
+-- a step that can be told with revisions and atoms of a kind
+pub record StepIsWithin (R : Rev → Type 0) (A : Atom → Type 0) (S : Step) : Type 0 where
+  pub new : AllByRecursion (NewIsWithin A) S.new
+  pub rows : AllByRecursion (StepRowIsWithin A) S.rows
+  pub regs : AllByRecursion (RegStepIsWithin A) S.regs
+  pub loose : AllByRecursion (StepLooseIsWithin A) S.loose
+  pub schema : SchemaPartIsWithin R S.schema
+
+-- ## Names in op space that have a number, which is a number of 64 bits
+
+abbrev pub HasNumber : At → Rev → Type 0
+HasNumber a r = (z : ℤ) × (op_number a r ≡ Some z) × IsShort z
+
+abbrev pub AtomHasNumber : At → Atom → Type 0
+AtomHasNumber a x = HasNumber a x.rev × (x.at < 2 ^ 32)

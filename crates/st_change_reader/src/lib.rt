@@ -6,5 +6,5 @@ mod parts;
 mod step;
 
 pub use change::read_change;
-pub use parts::{Fields, Ground, Nodes};
+pub use parts::{Fields, Ground, Nodes, StepFields, StepNodes, Turn};
 pub use step::read_step;

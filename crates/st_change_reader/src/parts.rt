@@ -27,21 +27,21 @@ pub struct Nodes {
 
 /// Who is in a register before a step and after it.
 #[derive(Clone, Copy)]
-pub(crate) struct Turn {
+pub struct Turn {
     pub before: Option<NodeId>,
     pub after: Option<NodeId>,
 }
 
 /// The fields that a step lists.
 #[derive(Drop)]
-pub(crate) struct StepFields {
+pub struct StepFields {
     pub rows: List<RowMarks>,
     pub regs: List<RegStep>,
 }
 
 /// The nodes that a step makes, and those that are nowhere.
 #[derive(Drop)]
-pub(crate) struct StepNodes {
+pub struct StepNodes {
     pub new: List<NewNode>,
     pub loose: List<Loose>,
 }

@@ -1,7 +1,9 @@
-//! Steps of each kind, and values that are none.
+//! Steps of each kind, read and written back, and values that are none.
 
 use crate::changes::value_of;
 use st_change_reader::read_step;
+use st_change_writer::push_step;
+use st_ids::Text;
 use st_mark_reader::Plain;
 use st_marks::Step;
 use std::alloc::{AllocError, Global};
@@ -56,10 +58,17 @@ fn has_counts(step: &Step, counts: &[usize; 5]) -> bool {
     lists && fields && added(step) == counts[4]
 }
 
+// Whether a step is written straight as that text.
+fn is_written(alloc: Global, step: &Step, text: &str) -> Result<bool, AllocError> {
+    let mut out = Text::from_str(alloc, "")?;
+    push_step(alloc, &mut out, step, &st_change_writer::Plain)?;
+    Ok(out.as_str() == text)
+}
+
 fn is_read(alloc: Global, text: &str, counts: &[usize; 5]) -> Result<bool, AllocError> {
     match step_of(alloc, text)? {
         None => Ok(false),
-        Some(step) => Ok(has_counts(&step, counts)),
+        Some(step) => Ok(has_counts(&step, counts) && is_written(alloc, &step, text)?),
     }
 }
 

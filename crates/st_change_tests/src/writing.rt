@@ -1,7 +1,7 @@
-//! Changes of data, written straight as they were read.
+//! Changes, written straight as they were read.
 
 use crate::changes::{CHANGES, change_of};
-use st_change_writer::{Plain, push_edits, push_op_atom, push_op_rev};
+use st_change_writer::{Plain, push_change, push_op_atom, push_op_rev};
 use st_ids::Text;
 use st_marks::Change;
 use std::alloc::{AllocError, Global};
@@ -9,19 +9,19 @@ use std::test::Fail;
 
 fn text_of(alloc: Global, change: &Change) -> Result<Text, AllocError> {
     let mut out = Text::from_str(alloc, "")?;
-    push_edits(alloc, &mut out, change, &Plain)?;
+    push_change(alloc, &mut out, change, &Plain)?;
     Ok(out)
 }
 
-// Whether a text is that of the change of data that is read of it.
+// Whether a text is that of the change that is read of it.
 fn is_written(alloc: Global, text: &str) -> Result<bool, AllocError> {
     match change_of(alloc, text)? {
         None => Ok(false),
-        Some(change) => Ok(change.schema.is_none() && text_of(alloc, &change)?.as_str() == text),
+        Some(change) => Ok(text_of(alloc, &change)?.as_str() == text),
     }
 }
 
-// How many of the changes are written straight as they were read: all but those of schemas.
+// How many of the changes are written straight as they were read.
 fn written(alloc: Global) -> Result<u32, AllocError> {
     let mut count: u32 = 0;
     for text in CHANGES.iter() {
@@ -43,6 +43,6 @@ fn op_names(alloc: Global) -> Result<Text, AllocError> {
 #[test]
 fn changes_are_written_straight(rt: HostRuntime) -> Result<(), Fail> {
     let (count, names) = (written(rt.alloc())?, op_names(rt.alloc())?);
-    assert!(rt; count == 6 && names.as_str() == "-1[7,2]", "{count}");
+    assert!(rt; count == 8 && names.as_str() == "-1[7,2]", "{count}");
     Ok(())
 }

@@ -25,8 +25,9 @@ use Rattle.st_marks.specs.declared.changes.Change.{Change}
 use Rattle.st_marks.specs.declared.marks.Loose.{Loose}
 use Rattle.st_marks.specs.declared.marks.RegMark.{RegMark}
 use Rattle.st_change_writer.specs.Listed.{loose_data, made_data, mark_data, new_data, node_data, node_or_null, register_data, row_data}
-use Rattle.st_change_writer.specs.Told.{edits_data}
-use Rattle.st_change_writer.specs.Texts.{atom_inside, bool_text, cell_mark_text, head_text, how_front, how_quoted, make_front, middle_text, rev_inside, tail_text}
+use Rattle.st_change_codec.specs.SchemaTexts.{text_data}
+use Rattle.st_change_writer.specs.Told.{edits_data, upgrade_data}
+use Rattle.st_change_writer.specs.Texts.{atom_inside, bool_text, cell_mark_text, head_text, how_front, how_quoted, make_front, middle_text, rev_inside, tail_text, upgrade_head_text}
 
 -- three pieces
 pub three : (a b c d : List ℕ) → ((a ++ b) ++ c) ++ d ≡ a ++ (b ++ (c ++ d))
@@ -52,7 +53,7 @@ unfolding escape_byte
 fill_is n c x = refl
 
 -- five pieces
-five : (o a b c d e : List ℕ) → ((((o ++ a) ++ b) ++ c) ++ d) ++ e ≡ o ++ (a ++ (b ++ (c ++ (d ++ e))))
+pub five : (o a b c d e : List ℕ) → ((((o ++ a) ++ b) ++ c) ++ d) ++ e ≡ o ++ (a ++ (b ++ (c ++ (d ++ e))))
 five o a b c d e = simp append_assoc
 
 pub row_is : (out : List ℕ) (n : Naming) (r : RowMarks) → ((((out ++ codes "[") ++ compact_text (n.atom r.node.0)) ++ codes ",") ++ compact_text (list_data (map (mark_data n) r.marks))) ++ codes "]" ≡ out ++ compact_text (row_data n r)
@@ -120,7 +121,7 @@ loose_is out n l = five out (codes "[") (compact_text (n.atom l.node.0)) (codes 
 pub branch_is : (out : List ℕ) (n : Naming) (x : NodeId) (ty : List ℕ) → ((((out ++ codes "[") ++ compact_text (n.atom x.0)) ++ codes ",") ++ compact_text (string ty)) ++ codes "]" ≡ out ++ compact_text (made_data n x ty None)
 branch_is out n x ty = five out (codes "[") (compact_text (n.atom x.0)) (codes ",") (compact_text (string ty)) (codes "]")
 
-seven : (o a b c d e f g : List ℕ) → ((((((o ++ a) ++ b) ++ c) ++ d) ++ e) ++ f) ++ g ≡ o ++ (a ++ (b ++ (c ++ (d ++ (e ++ (f ++ g))))))
+pub seven : (o a b c d e f g : List ℕ) → ((((((o ++ a) ++ b) ++ c) ++ d) ++ e) ++ f) ++ g ≡ o ++ (a ++ (b ++ (c ++ (d ++ (e ++ (f ++ g))))))
 seven o a b c d e f g = simp append_assoc
 
 pub leaf_is : (out : List ℕ) (n : Naming) (x : NodeId) (ty : List ℕ) (v : Leaf) → ((((((out ++ codes "[") ++ compact_text (n.atom x.0)) ++ codes ",") ++ compact_text (string ty)) ++ codes ",") ++ compact_text (leaf_data v)) ++ codes "]" ≡ out ++ compact_text (made_data n x ty (Some v))
@@ -149,3 +150,14 @@ edits_text_is n c =
 
 pub edits_are : (out : List ℕ) (n : Naming) (c : Change) → ((out ++ head_text n c) ++ middle_text n c) ++ tail_text n c ≡ out ++ compact_text (edits_data n c)
 edits_are out n c = three out (head_text n c) (middle_text n c) (tail_text n c) ∙ ap (λ (t : List ℕ). out ++ t) (edits_text_is n c)
+
+upgrade_nested : (a b c d e f g h i : List ℕ) → (a ++ (b ++ ((c ++ d) ++ e))) ++ (f ++ (g ++ (h ++ i))) ≡ a ++ (b ++ (c ++ (d ++ (e ++ (f ++ (g ++ (h ++ i)))))))
+upgrade_nested a b c d e f g h i = simp append_assoc
+
+-- a change of the schema
+pub upgrade_is : (out : List ℕ) (n : Naming) (c : Change) (t : List ℕ)
+    → ((((out ++ upgrade_head_text n c) ++ compact_text (text_data t)) ++ codes ",\"under\":") ++ compact_text (n.rev c.under)) ++ codes "}" ≡ out ++ compact_text (upgrade_data n c t)
+unfolding escape_byte
+upgrade_is out n c t =
+    five out (upgrade_head_text n c) (compact_text (text_data t)) (codes ",\"under\":") (compact_text (n.rev c.under)) (codes "}")
+    ∙ ap (λ (x : List ℕ). out ++ x) (upgrade_nested (codes "{\"base\":") (compact_text (boolean c.base)) (codes ",\"rev\":") (compact_text (n.rev c.rev)) (codes ",\"schema\":") (compact_text (text_data t)) (codes ",\"under\":") (compact_text (n.rev c.under)) (codes "}"))

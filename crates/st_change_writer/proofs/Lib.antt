@@ -1,1 +1,2 @@
 mod Append
+mod Steps

@@ -7,9 +7,11 @@ use Rattle.st_ids.specs.declared.names.Atom.{Atom}
 use Rattle.st_ids.specs.declared.names.Rev.{Rev}
 use Rattle.st_marks.specs.declared.changes.Change.{Change}
 use Rattle.st_marks.specs.declared.marks.How.{How}
+use Rattle.st_marks.specs.declared.steps.Step.{Step}
 use Rattle.st_change_codec.specs.Changes.{list_data}
 use Rattle.st_mark_reader.specs.Naming.{Naming}
 use Rattle.st_change_writer.specs.Listed.{loose_data, new_data, node_data, register_data, row_data}
+use Rattle.st_change_writer.specs.Told.{reg_step_data}
 
 -- an atom in op space: the number of its revision, and its place
 abbrev pub op_data : ℤ → ℕ → Data
@@ -59,3 +61,14 @@ middle_text n c = after (codes ",\"new\":") (list_data (map (new_data n) c.new))
 
 abbrev pub tail_text : Naming → Change → List ℕ
 tail_text n c = after (codes ",\"rev\":") (n.rev c.rev) ++ (after (codes ",\"rows\":") (list_data (map (row_data n) c.rows)) ++ (after (codes ",\"under\":") (n.rev c.under) ++ codes "}"))
+
+-- a change of the schema, as far as the schema
+abbrev pub upgrade_head_text : Naming → Change → List ℕ
+upgrade_head_text n c = codes "{\"base\":" ++ (compact_text (boolean c.base) ++ (after (codes ",\"rev\":") (n.rev c.rev) ++ codes ",\"schema\":"))
+
+-- the first two members of a step, and the next two, as far as the last
+abbrev pub step_head_text : Naming → Step → List ℕ
+step_head_text n s = after (codes "{\"loose\":") (list_data (map (loose_data n) s.loose)) ++ after (codes ",\"new\":") (list_data (map (new_data n) s.new))
+
+abbrev pub step_tail_text : Naming → Step → List ℕ
+step_tail_text n s = after (codes ",\"regs\":") (list_data (map (reg_step_data n) s.regs)) ++ (after (codes ",\"rows\":") (list_data (map (row_data n) s.rows)) ++ codes ",\"schema\":")

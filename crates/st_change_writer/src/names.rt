@@ -8,6 +8,7 @@ ghost use Rattle.st_change_writer.specs.Texts.{op_data, rev_inside};
 
 use itoa::Buffer;
 use st_ids::{Atom, Rev, Text};
+use st_mark_reader::{OpNames, op_number};
 use std::alloc::AllocError;
 
 /// How names are told.
@@ -91,5 +92,27 @@ impl PushNames for Plain {
         out.push_str(".")?;
         push_digits(out, atom.at)?;
         out.push_str("\"")
+    }
+}
+
+/// Names in op space, as the author of a message saw the table of ids; a name that has no number
+/// there is written as null.
+impl PushNames for OpNames<'_> {
+    ghost use Rattle.st_mark_reader.specs.OpSpace.{op_naming};
+
+    ghost naming = { λ s. op_naming s.0 };
+
+    fn push_rev(&self, out: &mut Text, rev: Rev) -> Result<(), AllocError> {
+        match op_number(&self.0, rev) {
+            Some(id) => push_op_rev(out, id),
+            None => out.push_str("null"),
+        }
+    }
+
+    fn push_atom(&self, out: &mut Text, atom: Atom) -> Result<(), AllocError> {
+        match op_number(&self.0, atom.rev) {
+            Some(id) => push_op_atom(out, id, atom.at),
+            None => out.push_str("null"),
+        }
     }
 }

@@ -37,8 +37,8 @@ impl<N: PushNames> PushItem for Nodes<'_, N> {
     }
 }
 
-// Writes a node, or null.
-fn push_occupant<N: PushNames>(
+/// Writes a node, or null.
+pub(crate) fn push_occupant<N: PushNames>(
     out: &mut Text,
     node: Option<NodeId>,
     names: &N,

@@ -5,6 +5,7 @@ mod items;
 mod listed;
 mod marks;
 mod names;
+mod op_names;
 mod parts;
 mod values;
 
@@ -12,5 +13,6 @@ pub use items::{Four, Six, four_items, two_items};
 pub use listed::{NewNodes, Nodes, Nowhere, loose};
 pub use marks::{Marks, Registers, Rows, field, mark};
 pub use names::{Plain, ReadNames, node, occupant};
+pub use op_names::{AnyOpNames, OpNames, op_id, op_number};
 pub use parts::Fate;
 pub use values::{ReadItem, is_named, list_member, read_list};
