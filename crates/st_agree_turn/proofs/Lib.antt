@@ -1,3 +1,4 @@
 mod CellsTold
+mod NamedNodes
 mod RowsTold
 mod SchemasMeet

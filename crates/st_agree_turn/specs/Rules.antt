@@ -1,5 +1,5 @@
 -- The rules by which what one of two steps leaves isn't what the other finds, each by itself: L is what is left, M what is found.
-use Rattle.std.specs.Prelude.{◌≡◌, ◌≢◌, ◌⊎◌, List, Option, Some}
+use Rattle.std.specs.Prelude.{◌≡◌, ◌≢◌, ◌⊎◌, IsTrue, List, Option, Some}
 use Rattle.std.specs.List.{AllZip}
 use Rattle.st_ids.specs.declared.names.CellId.{CellId}
 use Rattle.st_ids.specs.declared.names.FieldId.{FieldId}
@@ -19,3 +19,7 @@ RegistersApart L M f = (a : Option NodeId) × (b : Option NodeId) × (L.register
 -- a cell that both show stands at two places or has two owners, or the second makes a cell that the first names; the rows that name it are named
 abbrev pub CellsApart : Listing → Listing → FieldId → Type 0
 CellsApart L M f = (c : CellId) × (IsShownTwice L M c ⊎ IsMadeAgain L M c) × (r : NodeId) × IsNamedInRow L M c r × (row_field r ≡ f)
+
+-- the second makes a node that the first names
+abbrev pub NodesAgain : Listing → Listing → FieldId → Type 0
+NodesAgain L M f = (n : NodeId) × IsTrue (M.names.makes_node n) × IsTrue (L.names.names_node n) × (row_field n ≡ f)

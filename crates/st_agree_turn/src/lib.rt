@@ -3,11 +3,13 @@
 
 mod cells;
 mod left;
+mod names;
 mod registers;
 mod rows;
 mod schemas;
 
 pub use cells::push_cells;
+pub use names::push_made;
 pub use registers::push_registers;
 pub use rows::push_rows;
 pub use schemas::have_schemas_in_turn;
