@@ -4,12 +4,14 @@
 mod cells;
 mod left;
 mod names;
+mod owners;
 mod registers;
 mod rows;
 mod schemas;
 
 pub use cells::push_cells;
 pub use names::push_made;
+pub use owners::push_owners;
 pub use registers::push_registers;
 pub use rows::push_rows;
 pub use schemas::have_schemas_in_turn;
