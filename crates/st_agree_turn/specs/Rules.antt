@@ -1,12 +1,12 @@
 -- The rules by which what one of two steps leaves isn't what the other finds, each by itself: L is what is left, M what is found.
-use Rattle.std.specs.Prelude.{◌≡◌, ◌≢◌, ◌⊎◌, ℕ, false, IsTrue, List, Option, Some}
+use Rattle.std.specs.Prelude.{◌≡◌, ◌≢◌, ◌⊎◌, List, Option, Some}
 use Rattle.std.specs.List.{AllZip}
 use Rattle.st_ids.specs.declared.names.CellId.{CellId}
 use Rattle.st_ids.specs.declared.names.FieldId.{FieldId}
 use Rattle.st_ids.specs.declared.names.NodeId.{NodeId}
 use Rattle.st_clash.specs.Cells.{IsMadeAgain, IsShownTwice}
 use Rattle.st_marks.specs.Agree.{IsNamedInRow, IsSameView, row_field}
-use Rattle.st_marks.specs.Listings.{CellView, Listing, ListsCell}
+use Rattle.st_marks.specs.Listings.{CellView, Listing}
 
 -- the row of a node that both show doesn't have the same cells, place by place
 abbrev pub RowsApart : Listing → Listing → FieldId → Type 0
@@ -19,12 +19,3 @@ RegistersApart L M f = (a : Option NodeId) × (b : Option NodeId) × (L.register
 -- a cell that both show stands at two places or has two owners, or the second makes a cell that the first names; the rows that name it are named
 abbrev pub CellsApart : Listing → Listing → FieldId → Type 0
 CellsApart L M f = (c : CellId) × (IsShownTwice L M c ⊎ IsMadeAgain L M c) × (r : NodeId) × IsNamedInRow L M c r × (row_field r ≡ f)
-
--- the second makes a node that the first names
-abbrev pub NodesAgain : Listing → Listing → FieldId → Type 0
-NodesAgain L M f = (n : NodeId) × IsTrue (M.names.makes_node n) × IsTrue (L.names.names_node n) × (row_field n ≡ f)
-
--- the second finds a cell, which the first doesn't make, with an owner that the first makes; the rows that name the cell are named
-abbrev pub OwnersEarly : Listing → Listing → FieldId → Type 0
-OwnersEarly L M f = (c : CellId) × (n : NodeId) × (q : NodeId) × (k : ℕ) × ListsCell M c q k (Some n) × IsTrue (L.names.makes_node n) × (L.names.makes_cell c ≡ false)
-    × (r : NodeId) × IsNamedInRow L M c r × (row_field r ≡ f)

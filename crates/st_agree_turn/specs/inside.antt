@@ -1,7 +1,5 @@
 -- The words of loops and of private functions: no public contract reaches them.
-pub mod Early
 pub mod Left
 pub mod Meets
-pub mod Names
 pub mod Registers
 pub mod Rows

@@ -1,7 +1,0 @@
-use Rattle.std.proofs.Common.{◌≡◌, ◌++◌, take}
-use Rattle.std.specs.List.{flat_map}
-use Rattle.st_agree_turn.specs.inside.Names.{nodes_of_register}
-use Rattle.st_agree_turn.proofs.names.add_registers.Given as goal
-
-abbrev pub invariant-loop-register : goal.invariant-loop-register
-invariant-loop-register l = l.names ≡ l.initial.names ++ flat_map nodes_of_register (take l.register-index l.registers)
