@@ -2,10 +2,10 @@
 use Rattle.std.proofs.Common.{◌≡◌, ◌||◌, ℕ, Bool, true, false, List, [], ◌∷◌, ◌++◌, map, slice_get, Option, Some, None, option_map, if◌then◌else◌, refl, sym, ap, ◌∙◌, subst, inl, inr, ◌⊎◌, IsTrue}
 use Rattle.std.specs.List.{flat_map}
 use Rattle.std.specs.Option.{option_map_or, option_or}
-use Rattle.st_ids.specs.Listing.{Has, IsRising, item_of, key_pairs}
+use Rattle.st_ids.specs.Listing.{IsRising, item_of, key_pairs}
 use Rattle.std.specs.FinMap.Entries.{below_all, is_sorted}
 use Rattle.std.specs.Ordering.{is_lt}
-use Rattle.std.specs.Prelude.{◌&&◌}
+use Rattle.std.specs.Prelude.{◌&&◌, OnOk, Result, Ok, Err}
 use Rattle.st_ids.specs.Order.{node_cmp}
 use Rattle.st_ids.specs.declared.names.CellId.{CellId}
 use Rattle.st_ids.specs.declared.names.FieldId.{FieldId}
@@ -13,14 +13,14 @@ use Rattle.st_ids.specs.declared.names.NodeId.{NodeId}
 use Rattle.st_marks.specs.declared.changes.Change.{Change}
 use Rattle.st_marks.specs.declared.marks.RowMarks.{RowMarks}
 use Rattle.st_marks.specs.declared.steps.Step.{Step}
-use Rattle.st_marks.specs.Agree.{IsNamedInRow, SameIfBoth, row_field}
+use Rattle.st_marks.specs.Agree.{IsNamedInRow}
 use Rattle.st_marks.specs.Embedding.{is_among}
-use Rattle.st_marks.specs.Listings.{CellView, Listing, ListsCell, cells_after, cells_before, cells_in, cells_made, is_among_cells, listing_after_step, listing_before_change, listing_before_step, marks_of, nodes_new, rows_before}
+use Rattle.st_marks.specs.Listings.{CellView, Listing, ListsCell, cells_after, cells_before, cells_in, cells_made, is_among_cells, listing_after_step, listing_before_change, listing_before_step, nodes_new}
 use Rattle.st_marks.specs.Row.{spread}
 use Rattle.st_clash.specs.Adds.{Adds}
 use Rattle.st_clash.specs.Cells.{CellsClash, IsMadeAgain, IsShownTwice}
 use Rattle.st_agree_turn.specs.Rules.{CellsApart}
-use Rattle.st_agree_turn.specs.inside.Left.{left_mark, row_left}
+use Rattle.st_agree_turn.specs.inside.Left.{row_left}
 use Rattle.st_agree_turn.proofs.RowsTold.{item_of-map, marks_left_made, marks_left_names, marks_left_views}
 
 module _ (S T : Step) (K : Change) (e : K.rows ≡ map row_left S.rows) where
@@ -117,3 +117,8 @@ sorted_left (r ∷ rows) = λ i. below_left r.node rows i && sorted_left rows i
 
 pub rows_left_rise : (rows now : List RowMarks) → now ≡ map row_left rows → IsRising node_cmp (λ (r : RowMarks). r.node) rows → IsRising node_cmp (λ (r : RowMarks). r.node) now
 rows_left_rise rows now e h = ap (λ l. is_sorted node_cmp (key_pairs (λ (r : RowMarks). r.node) l)) e ∙ sorted_left rows ∙ h
+
+-- what is so where an answer is good
+pub OnOk-along : {T E : Type 0} (r : Result T E) (P Q : Type 0) → (P → Q) → OnOk r P → OnOk r Q
+OnOk-along (Ok v) P Q f p = f p
+OnOk-along (Err e) P Q f p = tt

@@ -1,19 +1,18 @@
 -- The rows, registers and cells that are found apart are those that the rules name.
-use Rattle.std.proofs.Common.{◌≡◌, ◌≢◌, ◌↔◌, ℕ, zero, suc, Bool, true, false, not, ◌&&◌, cond, if◌then◌else◌, List, [], ◌∷◌, ◌++◌, map, Option, Some, None, option_map, refl, sym, ap, ◌∙◌, subst, inl, inr, ◌⊎◌, IsTrue}
+use Rattle.std.proofs.Common.{◌≡◌, ◌≢◌, ◌↔◌, ℕ, zero, suc, Bool, true, false, not, cond, if◌then◌else◌, List, [], ◌∷◌, ◌++◌, map, Option, Some, None, option_map, refl, sym, ap, ◌∙◌, subst}
 use Rattle.std.specs.List.{AllZip, flat_map}
 use Rattle.std.specs.Option.{option_or}
 use Rattle.std.specs.Ordering.{is_eq}
 use Rattle.std.specs.declared.cmp.Ordering.{Ordering}
 use Rattle.st_ids.specs.Listing.{Has, IsRising, item_of}
-use Rattle.st_ids.specs.Order.{field_cmp, node_cmp, same_node}
+use Rattle.st_ids.specs.Order.{field_cmp, node_cmp}
 use Rattle.st_ids.specs.declared.names.CellId.{CellId}
 use Rattle.st_ids.specs.declared.names.FieldId.{FieldId}
 use Rattle.st_ids.specs.declared.names.NodeId.{NodeId}
 use Rattle.st_ids.proofs.Listings.{has-item_of, item_of-has}
 use Rattle.st_ids.proofs.Orders.{field_cmp_exact, field_cmp_total, node_cmp_exact, node_cmp_total}
-use Rattle.st_lemmas.proofs.Bools.{and-both, and-true, true-false}
+use Rattle.st_lemmas.proofs.Bools.{true-false}
 use Rattle.st_kind.specs.Named.{Nodes}
-use Rattle.st_marks.specs.declared.marks.How.{How}
 use Rattle.st_marks.specs.declared.marks.How.TheVariants.{Stay, Here, Leave}
 use Rattle.st_marks.specs.declared.marks.Mark.{Mark}
 use Rattle.st_marks.specs.declared.marks.RegStep.{RegStep}
@@ -21,8 +20,7 @@ use Rattle.st_marks.specs.declared.marks.RowMarks.{RowMarks}
 use Rattle.st_marks.specs.declared.steps.Step.{Step}
 use Rattle.st_marks.specs.Agree.{IsSameView, row_field}
 use Rattle.st_marks.specs.Embedding.{is_among}
-use Rattle.st_marks.specs.Intent.{same_option}
-use Rattle.st_marks.specs.Listings.{CellView, cells_after, cells_before, cells_in, cells_made, listing_after_step, listing_before_step, nodes_new, rows_after, registers_after}
+use Rattle.st_marks.specs.Listings.{CellView, cells_after, cells_before, cells_in, cells_made, listing_after_step, listing_before_step, nodes_new}
 use Rattle.st_marks.specs.Row.{CellMark, counted_cells, spread}
 use Rattle.st_marks.proofs.Members.{flat_map-has, has-flat_map}
 use Rattle.st_marks.proofs.Shared.{held-same, same-held}

@@ -18,7 +18,7 @@ use Rattle.st_marks.specs.declared.schemas.SchemaEntry.{SchemaEntry}
 use Rattle.st_marks.specs.declared.schemas.SchemaStep.{SchemaStep}
 use Rattle.st_marks.specs.declared.steps.Step.{Step}
 use Rattle.st_marks.specs.Agree.{HaveSchemasInTurn, SchemasOverStep}
-use Rattle.st_marks.specs.Document.{CanBeInEffect, first_of, last_of, revs}
+use Rattle.st_marks.specs.Document.{CanBeInEffect, last_of, revs}
 use Rattle.st_marks.specs.Step.{IsSchemaStep}
 use Rattle.st_marks.proofs.Members.{all-has, any-has, append_left, append_right, distinct-append, distinct-between, distinct-left, has-all, has-any, has-append, has-map, map-has}
 use Rattle.st_normal.specs.Rules.{AreEntriesBehind, SchemaStepFits}
@@ -142,11 +142,15 @@ step_over : (S : Step) (o : Option SchemaStep) → S.schema ≡ o → IfSome o S
 step_over S None e h =
     let c = base_in opening [] (record { once = tt; behind = tt }) in
     (base opening ++ [], base opening ++ [], record { before_in_effect = c; after_in_effect = c; step = subst (IsSchemaStep (base opening ++ []) (base opening ++ [])) (sym e) refl })
-step_over S (Some s) e h = (base s.on ++ s.cut, base s.on ++ s.add, record {
-  before_in_effect = base_in s.on s.cut h.cut;
-  after_in_effect = base_in s.on s.add h.add;
-  step = subst (IsSchemaStep (base s.on ++ s.cut) (base s.on ++ s.add)) (sym e) (base s.on, refl, refl, base_last s.on, h.differ);
-})
+step_over S (Some s) e h = (
+  base s.on ++ s.cut,
+  base s.on ++ s.add,
+  record {
+    before_in_effect = base_in s.on s.cut h.cut;
+    after_in_effect = base_in s.on s.add h.add;
+    step = subst (IsSchemaStep (base s.on ++ s.cut) (base s.on ++ s.add)) (sym e) (base s.on, refl, refl, base_last s.on, h.differ);
+  },
+)
 
 stays_over : (S : Step) (es : List SchemaEntry) → CanBeInEffect es → S.schema ≡ None → SchemasOverStep es es S
 stays_over S es c e = record { before_in_effect = c; after_in_effect = c; step = subst (IsSchemaStep es es) (sym e) refl }
@@ -280,8 +284,8 @@ module _ (on at : Rev) (long short others front end : List SchemaEntry) (e : fro
           all_apart on front others p.1,
         ),
     λ w. is ∙ and-both (same_rev (last_behind on front) at) (list_all (is_apart on front) others)
-    (ap (λ f. same_rev (last_behind on f) at) (front_is w) ∙ ap (λ r. same_rev r at) w.2 ∙ same_rev-itself at)
-    (apart_all on front others (subst (λ f. AreApartFrom on f others) (sym (front_is w)) w.3)),
+        (ap (λ f. same_rev (last_behind on f) at) (front_is w) ∙ ap (λ r. same_rev r at) w.2 ∙ same_rev-itself at)
+        (apart_all on front others (subst (λ f. AreApartFrom on f others) (sym (front_is w)) w.3)),
   )
 
 -- the last entry, by its place
@@ -338,6 +342,6 @@ entries_decide a b = (
       let q = and-true (nat_eq a.rev.session b.rev.session) (nat_eq a.rev.num b.rev.num) p.0 in
       λ i. record { rev = record { session = same_number a.rev.session b.rev.session q.0 i; num = same_number a.rev.num b.rev.num q.1 i }; text = (bytes_decides a.text b.text).0 p.1 i },
   λ e. subst (λ (z : SchemaEntry). ((nat_eq a.rev.session z.rev.session && nat_eq a.rev.num z.rev.num) && pointwise nat_eq a.text z.text) ≡ true) e
-  (and-both (nat_eq a.rev.session a.rev.session && nat_eq a.rev.num a.rev.num) (pointwise nat_eq a.text a.text)
-  (and-both (nat_eq a.rev.session a.rev.session) (nat_eq a.rev.num a.rev.num) (number_itself a.rev.session) (number_itself a.rev.num)) ((bytes_decides a.text a.text).1 refl)),
+      (and-both (nat_eq a.rev.session a.rev.session && nat_eq a.rev.num a.rev.num) (pointwise nat_eq a.text a.text)
+      (and-both (nat_eq a.rev.session a.rev.session) (nat_eq a.rev.num a.rev.num) (number_itself a.rev.session) (number_itself a.rev.num)) ((bytes_decides a.text a.text).1 refl)),
 )

@@ -55,6 +55,5 @@ pub fn push_cells(
         (AreCellsOnce (listing_before_step then.now))) }
 {
     let left = found_after(alloc, first)?;
-    push_cells_beside(alloc, found, &left, then)?;
-    Ok(())
+    push_cells_beside(alloc, found, &left, then)
 }

@@ -60,7 +60,11 @@ fn push_register(
     ensures { OnOk result (found.new ≡ found.old ++ register_apart left.now.regs.now (contains node_cmp left.now.made.now) register.now) }
 {
     let there = register_over_in(left.regs, left.index, &register.field);
-    if holds_otherwise(there, left.made.contains(&register.field.node), register.before) {
+    if holds_otherwise(
+        there,
+        left.made.contains(&register.field.node),
+        register.before,
+    ) {
         found.push(register.field.copy(alloc)?)?;
     }
     Ok(())
@@ -82,6 +86,25 @@ fn push_all(
     Ok(())
 }
 
+// The same, by the nodes that are made.
+fn push_listed(
+    alloc: Global,
+    found: &mut List<FieldId>,
+    lefts: &List<RegStep>,
+    made: &BTreeSet<NodeId>,
+    registers: &[RegStep],
+) -> Result<(), AllocError>
+    ensures { OnOk result (found.new ≡ found.old ++ flat_map (register_apart lefts.now (contains node_cmp made.now)) registers.now) }
+{
+    let index = index_registers_over(alloc, lefts.as_slice())?;
+    let left = Left {
+        regs: lefts,
+        index: &index,
+        made,
+    };
+    push_all(alloc, found, &left, registers)
+}
+
 /// Adds the registers that one step leaves with another occupant than another step finds: where both list a register, or the
 /// second lists one of a node that the first makes. Takes O(n log n) for n registers and new nodes.
 pub fn push_registers(
@@ -94,12 +117,5 @@ pub fn push_registers(
     ensures { OnOk result (Adds found.old found.new (RegistersApart (listing_after_step first.now) (listing_before_step then.now)) (Unit {0})) }
 {
     let made = new_names(alloc, first.new.as_slice())?;
-    let index = index_registers_over(alloc, first.regs.as_slice())?;
-    let left = Left {
-        regs: &first.regs,
-        index: &index,
-        made: &made,
-    };
-    push_all(alloc, found, &left, then.regs.as_slice())?;
-    Ok(())
+    push_listed(alloc, found, &first.regs, &made, then.regs.as_slice())
 }

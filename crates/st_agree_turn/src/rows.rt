@@ -105,6 +105,5 @@ pub fn push_rows(
 {
     let lefts = rows_left(alloc, first.rows.as_slice())?;
     let made = new_names(alloc, first.new.as_slice())?;
-    push_listed(alloc, found, &lefts, &made, then.rows.as_slice())?;
-    Ok(())
+    push_listed(alloc, found, &lefts, &made, then.rows.as_slice())
 }

@@ -1,6 +1,6 @@
 -- The nodes in marks, and those that are made.
-use Rattle.std.proofs.Common.{◌≡◌, ◌<◌, ◌≤◌, ◌+◌, ◌||◌, ℕ, zero, suc, List, [], ◌∷◌, ◌++◌, length, take, get_or, Bool, true, inl, inr, ◌↔◌, subst, refl, sym, ap, ◌∙◌}
-use Rattle.std.specs.List.{flat_map, list_any}
+use Rattle.std.proofs.Common.{◌≡◌, ◌<◌, ◌+◌, ℕ, zero, suc, List, [], ◌∷◌, ◌++◌, length, take, get_or, true, inl, inr, ◌↔◌, subst, refl, sym, ap, ◌∙◌}
+use Rattle.std.specs.List.{flat_map}
 use Rattle.st_ids.specs.Listing.{Has}
 use Rattle.st_ids.specs.Order.{same_node}
 use Rattle.st_ids.specs.declared.names.FieldId.{FieldId}
@@ -38,7 +38,6 @@ pub marks_more : (old before now : List NodeId) (ms : List Mark) (i : ℕ) (d m 
 marks_more old before now ms i d m inside at so_far h =
     flat_more node_of_mark old before now ms i d m inside at (so_far ∙ ap (λ l. old ++ l) (marks_name (take i ms))) h
     ∙ ap (λ l. old ++ l) (sym (marks_name (take (i + 1) ms)))
-
 
 -- ## Nodes that are made again
 

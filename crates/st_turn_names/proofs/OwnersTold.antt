@@ -1,7 +1,6 @@
 -- The cells that are owned too early, and the rows that name them.
-use Rattle.std.proofs.Common.{◌≡◌, ◌↔◌, ◌&&◌, ◌||◌, ◌+◌, ℕ, Bool, true, false, not, cond, List, [], ◌∷◌, ◌++◌, Option, Some, None, refl, sym, ap, ◌∙◌, subst, inl, inr, ◌⊎◌, IsTrue, append_assoc}
+use Rattle.std.proofs.Common.{◌≡◌, ◌↔◌, ◌&&◌, ◌+◌, ℕ, Bool, true, false, not, List, [], ◌∷◌, ◌++◌, Some, None, refl, sym, ap, ◌∙◌, subst, inl, inr, IsTrue, append_assoc}
 use Rattle.std.specs.List.{flat_map}
-use Rattle.std.specs.Prelude.{IfSome}
 use Rattle.std.proofs.lemmas.Option.{same_Some}
 use Rattle.st_ids.specs.Listing.{Has, IsRising}
 use Rattle.st_ids.specs.Order.{node_cmp}
@@ -13,7 +12,6 @@ use Rattle.st_lemmas.proofs.Bools.{and-both, and-true, or-cases, or-left, or-rig
 use Rattle.st_marks.specs.declared.marks.Mark.{Mark}
 use Rattle.st_marks.specs.declared.marks.RowMarks.{RowMarks}
 use Rattle.st_marks.specs.declared.steps.Step.{Step}
-use Rattle.st_marks.specs.Agree.{IsNamedInRow, row_field}
 use Rattle.st_marks.specs.Embedding.{is_among}
 use Rattle.st_marks.specs.Listings.{Listing, ListsCell, is_among_cells, listing_after_step, listing_before_step, nodes_new}
 use Rattle.st_marks.proofs.Members.{append_left, append_right, flat_map-has, has-append, has-flat_map}

@@ -1,5 +1,5 @@
 -- What a step leaves of a row, told as a row that is found.
-use Rattle.std.specs.Prelude.{Bool, true, not, List, map, if◌then◌else◌}
+use Rattle.std.specs.Prelude.{Bool, true, not, map, if◌then◌else◌}
 use Rattle.st_ids.specs.declared.names.CellId.{CellId}
 use Rattle.st_ids.specs.declared.names.NodeId.{NodeId}
 use Rattle.st_marks.specs.declared.marks.How.TheVariants.{Stay}

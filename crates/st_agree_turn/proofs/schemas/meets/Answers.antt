@@ -1,5 +1,3 @@
-use Rattle.std.proofs.Common.{◌≡◌, ◌-◌, length, take, drop}
-use Rattle.st_marks.specs.declared.schemas.SchemaEntry.{SchemaEntry}
 use Rattle.st_agree_turn.proofs.SchemasMeet.{meets_is, meets_not}
 use Rattle.st_agree_turn.proofs.schemas.meets.Goals as goal
 
