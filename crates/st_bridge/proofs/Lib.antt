@@ -1,2 +1,6 @@
 mod FilteredLists
 mod AcrossListed
+mod EntriesOver
+mod Refusals
+mod ShortChanges
+mod WaysTaken

@@ -1,7 +1,11 @@
-//! A step over a commit that is void before it and after it.
+//! A step over a commit, whole or void before it and after it.
 #![tactic(auto)]
 
-mod bridge;
+mod entries;
 mod rows;
+mod void;
+mod ways;
+mod whole;
 
-pub use bridge::bridge_void_agreed;
+pub use void::bridge_void_agreed;
+pub use whole::{bridge, bridge_agreed};

@@ -1,7 +1,9 @@
 //! Steps and changes of the root's row, as rows of data.
 
-use st_ids::{Atom, CellId, List, NodeId, OPENING, ROOT, Rev, Text};
-use st_marks::{Change, How, Loose, Mark, NewNode, RowMarks, SchemaEntry, SchemaStep, Step};
+use st_ids::{Atom, CellId, FieldId, Key, List, NodeId, OPENING, ROOT, Rev, Text};
+use st_marks::{
+    Change, How, Loose, Mark, NewNode, RegMark, RowMarks, SchemaEntry, SchemaStep, Step,
+};
 use std::alloc::{AllocError, Global};
 
 pub const OURS: Rev = Rev { session: 2, num: 1 };
@@ -79,7 +81,8 @@ fn new_nodes(alloc: Global, nodes: &[NodeId]) -> Result<List<NewNode>, AllocErro
     Ok(new)
 }
 
-fn no_step(alloc: Global) -> Step {
+/// The step that leaves all as it is.
+pub fn no_step(alloc: Global) -> Step {
     Step {
         new: List::new(alloc),
         rows: List::new(alloc),
@@ -145,4 +148,64 @@ pub fn change(alloc: Global, rev: Rev, listed: &Listed) -> Result<Change, AllocE
     };
     fill_change(alloc, &mut change, listed)?;
     Ok(change)
+}
+
+fn register(alloc: Global) -> Result<FieldId, AllocError> {
+    let key = Key(Text::from_str(alloc, "k")?);
+    Ok(FieldId { node: ROOT, key })
+}
+
+fn push_filled(alloc: Global, regs: &mut List<RegMark>, node: NodeId) -> Result<(), AllocError> {
+    let field = register(alloc)?;
+    regs.push(RegMark {
+        field,
+        held: None,
+        how: How::Stay,
+        clear: true,
+        fill: Some(node),
+    })?;
+    Ok(())
+}
+
+/// The change that lists this, and puts a node into a register of the root.
+pub fn change_into_register(
+    alloc: Global,
+    rev: Rev,
+    listed: &Listed,
+    node: NodeId,
+) -> Result<Change, AllocError> {
+    let mut change = change(alloc, rev, listed)?;
+    push_filled(alloc, &mut change.regs, node)?;
+    Ok(change)
+}
+
+const NOTHING: Listed = Listed {
+    need: &[],
+    new: &[],
+    marks: &[],
+    loose: &[],
+};
+
+/// A change of schema where another stands behind the opening's, so that it is void there.
+pub fn schema_change(alloc: Global, rev: Rev) -> Result<Change, AllocError> {
+    let mut change = change(alloc, rev, &NOTHING)?;
+    change.rows = List::new(alloc);
+    change.base = false;
+    change.schema = Some(Text::from_str(alloc, "n")?);
+    Ok(change)
+}
+
+fn push_entry(alloc: Global, entries: &mut List<SchemaEntry>, rev: Rev) -> Result<(), AllocError> {
+    let text = Text::from_str(alloc, "n")?;
+    entries.push(SchemaEntry { rev, text })?;
+    Ok(())
+}
+
+/// A step that takes our schema out of effect, and brings another.
+pub fn step_to_another(alloc: Global, rev: Rev) -> Result<Step, AllocError> {
+    let mut step = step_without_ours(alloc)?;
+    if let Some(part) = &mut step.schema {
+        push_entry(alloc, &mut part.add, rev)?;
+    }
+    Ok(step)
 }

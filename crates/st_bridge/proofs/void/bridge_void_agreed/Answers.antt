@@ -1,6 +1,6 @@
 use Rattle.st_marks.specs.CarryOut.{void}
 use Rattle.st_steps.proofs.VoidsExtend.{voids_extend}
-use Rattle.st_bridge.proofs.bridge.bridge_void_agreed.Goals as goal
+use Rattle.st_bridge.proofs.void.bridge_void_agreed.Goals as goal
 
 pub returns : goal.returns
 returns c = λ D E N x f h plain short later emb s.

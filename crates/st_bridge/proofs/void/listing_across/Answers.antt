@@ -5,7 +5,7 @@ use Rattle.st_marks.specs.CarryOut.{void}
 use Rattle.st_trim.specs.Trimmed.{ListsStep}
 use Rattle.st_steps.proofs.StepsAcross.{lists_over_void}
 use Rattle.st_bridge.proofs.AcrossListed.{is_across}
-use Rattle.st_bridge.proofs.bridge.listing_across.Goals as goal
+use Rattle.st_bridge.proofs.void.listing_across.Goals as goal
 
 pub returns : goal.returns
 returns c = λ D E N x f h plain short later emb s.

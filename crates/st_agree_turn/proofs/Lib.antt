@@ -1,0 +1,3 @@
+mod CellsTold
+mod RowsTold
+mod SchemasMeet

@@ -1,0 +1,4 @@
+mod CellSets
+mod NamedNodes
+mod OwnersTold
+mod SeenCells
