@@ -6,4 +6,6 @@ mod forests;
 #[cfg(test)]
 mod pushes;
 #[cfg(test)]
+mod rebases;
+#[cfg(test)]
 mod row_steps;

@@ -1,0 +1,38 @@
+//! Laws on steps over changes: each is the contract of a function that does nothing.
+ghost use Rattle.std.specs.Prelude.{Bool, ◌≡◌, List as Seq, map};
+ghost use Rattle.st_ids.specs.Listing.{item_of};
+ghost use Rattle.st_ids.specs.Order.{node_cmp};
+ghost use Rattle.st_ids.specs.declared.names.NodeId.{NodeId};
+ghost use Rattle.st_kind.specs.Named.{named_beside};
+ghost use Rattle.st_marks.specs.declared.changes.Change.{Change};
+ghost use Rattle.st_marks.specs.declared.intents.Intent.{Intent};
+ghost use Rattle.st_marks.specs.declared.marks.RowMarks.{RowMarks};
+ghost use Rattle.st_marks.specs.declared.steps.Step.{Step};
+ghost use Rattle.st_marks.specs.declared.verdicts.Verdict.{Verdict};
+ghost use Rattle.st_marks.specs.Document.{Document, content};
+ghost use Rattle.st_marks.specs.Embedding.{IsEmbedding, is_among, row_marks};
+ghost use Rattle.st_marks.specs.Extends.{GainsItems, IsExtendedBy};
+ghost use Rattle.st_marks.specs.Intent.{Fits, is_new, put_of};
+ghost use Rattle.st_marks.specs.Row.{SameCell, step_row};
+ghost use Rattle.st_marks.specs.Step.{IsStep};
+ghost use Rattle.st_marks.specs.Verdict.{carried_document};
+ghost use Rattle.st_read_laws.specs.Reading.{read, read_change, read_step};
+ghost use Rattle.st_reading.specs.Bridge.{is_void};
+ghost use Rattle.st_rows.specs.Changes.{placed_by};
+ghost use Rattle.st_rows.specs.Rows.{NamesMoved};
+ghost use Rattle.st_rows.specs.Sequence.{ListsNew};
+ghost use Rattle.st_cross_laws.specs.Across.{row_across};
+
+/// What a change and a step that stand over one document list of a row, whether one of them lists it or not, comes to the row of the
+/// step from the document after the change's intent to the later one after it, whatever the two verdicts are, with the nodes named
+/// that either names.
+pub fn rows_beside_are_crossed()
+    ensures { (l : Bool) (D E : Document) (N : Intent) (C : Change) (S : Step) (new : Seq NodeId) (v u : Verdict) (n : NodeId)
+        → IsExtendedBy D E → Fits D N → Fits E N → (change : IsEmbedding D N C) → (step : IsStep D E S) → ListsNew N new
+        → (h : GainsItems SameCell (content (carried_document v D N) n) (content (carried_document u E N) n))
+        × (row_across l (is_void v) (is_void u) (placed_by (is_new N n) new) (put_of N) n
+        (item_of node_cmp (λ (r : RowMarks). r.node) (read_change l C).rows n)
+        (item_of node_cmp (λ (r : RowMarks). r.node) (read_step l S).rows n)
+        ≡ row_marks n (map (read l) (step_row (named_beside step.mentioned change.mentioned (is_among new) (is_void v) (is_void u)) h)))
+        × NamesMoved (named_beside step.mentioned change.mentioned (is_among new) (is_void v) (is_void u)) h }
+{}

@@ -1,0 +1,6 @@
+//! What a step lists after a change that stands beside it, read off what both list: laws.
+#![tactic(auto)]
+
+mod laws;
+
+pub use laws::rows_beside_are_crossed;

@@ -1,0 +1,4 @@
+mod RowRoom
+mod RowsRoom
+mod SchemasLater
+mod Laid

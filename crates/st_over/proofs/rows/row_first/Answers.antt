@@ -1,0 +1,25 @@
+use Rattle.std.proofs.Common.{◌≡◌, ◌<◌, ◌^◌, Option, List, sym, ap, ◌∙◌, subst}
+use Rattle.std.specs.BTreeMap.{get}
+use Rattle.std.specs.BTreeSet.{contains}
+use Rattle.st_ids.specs.Order.{node_cmp}
+use Rattle.st_lemmas.proofs.Options.{IfOk-along}
+use Rattle.st_marks.specs.declared.marks.Mark.{Mark}
+use Rattle.st_marks.specs.declared.marks.RowMarks.{RowMarks}
+use Rattle.st_marks.specs.Row.{spread}
+use Rattle.st_moves.specs.inside.Rows.{bare}
+use Rattle.st_over.specs.inside.Rows.{row_both, row_first}
+use Rattle.st_moves.proofs.BareRows.{room_first}
+use Rattle.st_over.proofs.rows.row_first.Goals as goal
+
+pub row_both-requires : goal.row_both-requires
+row_both-requires g c =
+    subst (λ k. k < 2 ^ 32) (sym (room_first (spread c.args.change.now) (spread c.in_ok-step.step) (c.in_ok-step.ensures ∙ ap (λ (l : List Mark). bare (spread l)) c.as_slice.ensures))) c.requires
+
+pub returns : goal.returns
+returns g c =
+    let l = g.R.Reading.listed in
+    let P = get node_cmp c.args.aims.now.puts.now in
+    let m = contains node_cmp c.args.aims.now.named.now in
+    let xs = spread c.args.change.now in
+    IfOk-along c.row_both.result (λ (o : Option RowMarks). o ≡ row_both l P m c.args.node xs (spread c.in_ok-step.step)) (λ (o : Option RowMarks). o ≡ row_first l P m c.args.node xs)
+    (λ o h. h ∙ ap (row_both l P m c.args.node xs) (c.in_ok-step.ensures ∙ ap (λ (q : List Mark). bare (spread q)) c.as_slice.ensures)) c.row_both.ensures

@@ -1,0 +1,4 @@
+-- The words of loops and of private functions: no public contract reaches them.
+pub mod Rows
+pub mod Registers
+pub mod Fields
