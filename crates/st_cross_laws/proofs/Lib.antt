@@ -1,1 +1,2 @@
 mod RowsAcross
+mod RegistersAcross

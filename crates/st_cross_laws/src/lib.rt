@@ -3,4 +3,4 @@
 
 mod laws;
 
-pub use laws::rows_beside_are_crossed;
+pub use laws::{registers_beside_are_crossed, rows_beside_are_crossed};
