@@ -1,5 +1,5 @@
 -- How many lines were answered, and how many bytes they have.
-use Rattle.std.proofs.Common.{◌≡◌, ℕ, ◌+◌, List, [], ◌∷◌, ◌++◌, length, length-append, refl, sym, ◌∙◌, ap, arith}
+use Rattle.std.proofs.Common.{◌≡◌, ℕ, ◌+◌, List, [], ◌∷◌, ◌++◌, length, length-append, refl, arith}
 use Rattle.st_pieces.specs.Lines.{Line, size_of}
 use Rattle.st_pieces.specs.Told.{Answered, more, nothing}
 

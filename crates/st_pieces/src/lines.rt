@@ -7,7 +7,7 @@ ghost use Rattle.st_io.specs.Counts.{Rose};
 ghost use Rattle.st_pieces.specs.Lines.{NoFeed, is_long, line_of};
 
 use crate::reading::{Reading, is_tail_long, keep_more, next_feed};
-use crate::responder::{RunEnd, Responder};
+use crate::responder::{Responder, RunEnd};
 use crate::send::send_long;
 use crate::take::{finish, take_whole};
 use st_io::{Sink, Source};

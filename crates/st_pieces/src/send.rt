@@ -5,7 +5,7 @@ ghost use Rattle.st_io.specs.Bytes.{Appends};
 ghost use Rattle.st_io.specs.Counts.{Rose, HasCause};
 ghost use Rattle.st_pieces.specs.Told.{AppendsPrefix, long_line};
 
-use crate::responder::{RunEnd, Reply};
+use crate::responder::{Reply, RunEnd};
 use st_io::{Failed, Sink};
 use std::alloc::{AllocError, Global};
 

@@ -9,7 +9,7 @@ ghost use Rattle.st_io.specs.Counts.{Rose};
 ghost use Rattle.st_pieces.specs.Lines.{NoFeed, is_long, line_of};
 
 use crate::reading::{Reading, is_long};
-use crate::responder::{RunEnd, Responder};
+use crate::responder::{Responder, RunEnd};
 use crate::send::{send_long, send_reply};
 use st_io::Sink;
 use std::alloc::Global;
