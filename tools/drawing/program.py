@@ -3,8 +3,8 @@ import json
 import os
 import subprocess
 
-# the program reads at most so many bytes, and no run is given more lines than this
-BYTES = 1 << 20
+# the program reads at most so many bytes and lines
+BYTES = 16 << 20
 LINES = 65_536
 # so many steps are drawn at most
 STEPS = 5_000

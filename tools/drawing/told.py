@@ -28,8 +28,8 @@ ENDS = {
     "Json": "is no JSON",
     "Shape": "is no step",
     "Header": "is no header of a trace",
-    "Long": "holds the byte at which the trace passes 1 MiB, the most that the program reads",
-    "Room": "leaves the program\u2019s input, which is at most 1 MiB, no room to look at its clients",
+    "Long": "is too long: the program reads 65,536 lines of at most 1 MiB each, and 16 MiB of them",
+    "Room": "leaves the program\u2019s input, which is at most 16 MiB, no room to look at its clients",
 }
 
 

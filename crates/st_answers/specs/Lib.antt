@@ -1,4 +1,7 @@
 pub mod Answers
-pub mod Lines
-pub mod Parts
+pub mod Compat
+pub mod Endings
+pub mod Meaning
+pub mod Run
 pub mod Status
+pub mod Trace

@@ -1,24 +1,18 @@
--- Each sound world goes on: what the law on answers asks of an opening is met by each trace.
-use Rattle.std.proofs.Common.{◌≡◌, ℕ, true, List, [], ◌∷◌, Ok, codes, refl, subst}
+-- Each sound world goes on.
+use Rattle.std.proofs.Common.{◌≡◌, ℕ, true, List, [], ◌∷◌, refl, subst}
 use Rattle.std.specs.List.{AllByRecursion}
 use Rattle.st_schema.specs.Schema.{SchemaView, is_sound}
-use Rattle.st_lists.specs.Clients.{empty_state}
 use Rattle.st_lists.specs.declared.lists.WorldState.{WorldState}
-use Rattle.st_script.specs.Header.{HeaderView, header_line}
-use Rattle.st_script.specs.Line.{step_of_line}
+use Rattle.st_script.specs.Header.{HeaderView}
 use Rattle.st_script.specs.StepText.{FitsAct}
 use Rattle.st_script.specs.Steps.{ActView, StepView}
 use Rattle.st_script.specs.Steps as step
 use Rattle.st_script.specs.declared.answer.Answer.{Answer}
-use Rattle.st_script.proofs.Fits.{line_fits}
-use Rattle.st_script.proofs.OfForm.{header_line_kept}
 use Rattle.st_world.specs.World.{IsNext}
 use Rattle.st_world_laws.specs.Worlds.{IsWorld}
-use Rattle.st_world_laws.proofs.Going.{begun_sound}
 use Rattle.st_world_laws.specs.Worlds.{KeepsRules}
 use Rattle.st_world_laws.proofs.Leading.{leads_on}
 use Rattle.st_world_laws.proofs.LeadingBranches.{all_lead}
-use Rattle.st_answers.specs.Lines.{cut}
 use Rattle.st_one_laws.specs.AlikeWorlds.{HasOneMeaning}
 use Rattle.st_one_laws.proofs.OneMeaning.{lists_mean_one}
 use Rattle.st_one_answers.specs.StepAnswers.{HasSoundSchema}
@@ -27,15 +21,6 @@ use Rattle.st_one_answers.specs.StepAnswers.{HasSoundSchema}
 abbrev pub StepsGoOn : HeaderView → WorldState → List StepView → Type 0
 StepsGoOn h w [] = Unit {0}
 StepsGoOn h w (s ∷ steps) = HasOneMeaning w × ((v : WorldState) × (a : Answer) × IsNext h w s v a × StepsGoOn h v steps)
-
--- the same of the steps that lines are
-abbrev pub LinesGoOn : HeaderView → WorldState → List (List ℕ) → Type 0
-LinesGoOn h w [] = Unit {0}
-LinesGoOn h w (l ∷ lines) = (s : StepView) → step_of_line l ≡ Ok s → HasOneMeaning w × ((v : WorldState) × (a : Answer) × IsNext h w s v a × LinesGoOn h v lines)
-
--- and of a trace from its header on
-abbrev pub InputGoesOn : List ℕ → Type 0
-InputGoesOn bytes = (l : List ℕ) (lines : List (List ℕ)) (h : HeaderView) → cut bytes ≡ l ∷ lines → header_line (codes "trace") l ≡ Ok h → LinesGoOn h empty_state lines
 
 sound_rules : (x : ActView) → ((new : SchemaView) → x ≡ step.upgrade new → is_sound new ≡ true) → KeepsRules x
 sound_rules step.join h = tt
@@ -60,7 +45,7 @@ sound_rules step.show h = tt
 sound_rules step.pending h = tt
 
 -- the schema of a step that a line holds keeps the rules
-fits_rules : (branch : ℕ) (x : ActView) → FitsAct branch x → KeepsRules x
+pub fits_rules : (branch : ℕ) (x : ActView) → FitsAct branch x → KeepsRules x
 fits_rules branch x h = sound_rules x (λ new e. (subst (FitsAct branch) e h).1)
 
 pub steps_go_on : (h : HeaderView) (w : WorldState) (steps : List StepView) → IsWorld h w → AllByRecursion HasSoundSchema steps → StepsGoOn h w steps
@@ -68,14 +53,3 @@ steps_go_on h w [] s all = tt
 steps_go_on h w (x ∷ steps) s all =
     let r = leads_on h w s (all_lead h w s) x in
     (lists_mean_one h w s, (r.0, r.1, r.2, steps_go_on h r.0 steps (r.3 (sound_rules x.act all.0)) all.1))
-
-lines_go_on : (h : HeaderView) (w : WorldState) (lines : List (List ℕ)) → IsWorld h w → LinesGoOn h w lines
-lines_go_on h w [] s = tt
-lines_go_on h w (l ∷ lines) s = λ x is.
-    let r = leads_on h w s (all_lead h w s) x in
-    (lists_mean_one h w s, (r.0, r.1, r.2, lines_go_on h r.0 lines (r.3 (fits_rules x.branch x.act (line_fits l x is).1))))
-
-pub input_goes_on : (bytes : List ℕ) → InputGoesOn bytes
-input_goes_on bytes = λ l lines h e is.
-    let kept = header_line_kept (codes "trace") l h is in
-    lines_go_on h empty_state lines (begun_sound h (record { schema = kept.0; tree = kept.1 }))

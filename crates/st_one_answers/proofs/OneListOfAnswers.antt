@@ -1,30 +1,42 @@
 -- An input has one list of answers.
-use Rattle.std.proofs.Common.{◌≡◌, ◌⊎◌, inl, inr, ℕ, ◌+◌, Bool, true, false, List, [], ◌∷◌, ◌++◌, append_assoc, append-nil, Option, Some, None, Result, Ok, Err, codes, length, nat_lt, refl, sym, ap, ◌∙◌, subst, slice_get}
+use Rattle.std.proofs.Common.{◌≡◌, ◌⊎◌, inl, inr, ℕ, ◌+◌, Bool, true, false, List, [], ◌∷◌, ◌++◌, append_assoc, append-nil, Result, Ok, Err, codes, length, refl, sym, ap, ◌∙◌, subst}
 use Rattle.st_json.specs.declared.fault.BadCause.{BadCause}
-use Rattle.st_json.specs.declared.fault.BadCause.TheVariants.{Header}
-use Rattle.st_compat.specs.SchemaLine.{further_cause}
-use Rattle.st_compat.specs.declared.compare.BadSchema.{BadSchema}
+use Rattle.st_compat.specs.RelationText.{relation_line}
+use Rattle.st_compat.specs.Relation.{IsRelation}
+use Rattle.st_compat.specs.SchemaLine.{IsSchemaLine}
+use Rattle.st_schema.specs.Schema.{SchemaView}
 use Rattle.st_lists.specs.Clients.{empty_state}
 use Rattle.st_lists.specs.declared.lists.WorldState.{WorldState}
 use Rattle.st_script.specs.AnswerText.{answer_line}
 use Rattle.st_script.specs.Header.{HeaderView, header_line}
+use Rattle.st_script.proofs.Fits.{line_fits}
+use Rattle.st_script.proofs.OfForm.{header_line_kept}
 use Rattle.std.specs.List.{AllByRecursion}
+use Rattle.st_world.specs.World.{IsNext}
 use Rattle.st_world_laws.specs.Worlds.{IsWorld}
+use Rattle.st_world_laws.proofs.Going.{begun_sound}
+use Rattle.st_world_laws.proofs.Leading.{leads_on}
+use Rattle.st_world_laws.proofs.LeadingBranches.{all_lead}
 use Rattle.st_one_laws.proofs.AlikeToItself.{worlds_itself}
+use Rattle.st_one_laws.proofs.OneMeaning.{lists_mean_one}
 use Rattle.st_script.specs.Line.{step_of_line}
 use Rattle.st_script.specs.Steps.{StepView}
 use Rattle.st_script.specs.declared.answer.Answer.{Answer}
-use Rattle.st_script.specs.declared.answer.Answer.TheVariants as answer
-use Rattle.st_answers.specs.Answers.{Answers, AnswersBy, AnswersCompared, AnswersCompat, AnswersFrom, AnswersLine, AnswersLines, AnswersOpening, AnswersSchemas, AnswersThird, AnswersTrace, NothingFailed, OrCutShort, Output, bad_line, bad_schema, before, cut_short, long_line, long_output, max_input}
-use Rattle.st_answers.specs.Lines.{cut}
+use Rattle.st_pieces.specs.Lines.{Line, cut, is_long}
+use Rattle.st_answers.specs.Answers.{Answers, AnswersEnd, AnswersFrom, AnswersLine, OrCutShort}
+use Rattle.st_answers.specs.Compat.{CompatState, IsBadInCompat, TakesCompat, compat, related, stored, unread}
+use Rattle.st_answers.specs.Endings.{Output, bad_line, before, cut_short, ended, long_output}
+use Rattle.st_answers.specs.Meaning.{Meaning}
+use Rattle.st_answers.specs.Run.{NothingFailed}
+use Rattle.st_answers.specs.Trace.{IsBadInTrace, IsStep, TakesTrace, TraceState, opened, trace, unopened}
 use Rattle.st_answers.specs.declared.command.Command.{Command}
 use Rattle.st_answers.specs.declared.command.Command.TheVariants.{Trace, Compat}
-use Rattle.st_answers.specs.declared.outcome.Outcome.TheVariants.{Done, NoMemory}
+use Rattle.st_answers.specs.declared.outcome.Outcome.TheVariants.{NoMemory}
 use Rattle.st_one_laws.specs.AlikeWorlds.{AreAlike}
 use Rattle.st_one_laws.proofs.StepsOfWorlds.{next_alike}
 use Rattle.st_one_answers.specs.StepAnswers.{AreAnswers, HasSoundSchema}
-use Rattle.st_one_answers.proofs.EachWorldGoesOn.{InputGoesOn, LinesGoOn, StepsGoOn, input_goes_on, steps_go_on}
-use Rattle.st_one_answers.proofs.OneRelation.{compared_one}
+use Rattle.st_one_answers.proofs.EachWorldGoesOn.{StepsGoOn, fits_rules, steps_go_on}
+use Rattle.st_one_answers.proofs.OneRelation.{line_one, relation_one}
 
 steps_one : (h : HeaderView) (w x u : WorldState) (steps : List StepView) (xs ys : List Answer) → StepsGoOn h u steps → AreAlike w u → AreAlike x u → AreAnswers h w steps xs → AreAnswers h x steps ys → xs ≡ ys
 steps_one h w x u [] xs ys on p q a b = a ∙ sym b
@@ -63,76 +75,202 @@ or_cut P Q a b n next (inr x) (inr y) = next x y
 fine_rest : (line : List ℕ) (a b : Output) → a ≡ before line b → NothingFailed a.outcome → NothingFailed b.outcome
 fine_rest line a b e n = subst (λ (o : Output). NothingFailed o.outcome) e n
 
-from_one : (h : HeaderView) (w x u : WorldState) (n : ℕ) (ls : List (List ℕ)) (a b : Output) → LinesGoOn h u ls → AreAlike w u → AreAlike x u → AnswersFrom h w n ls a → AnswersFrom h x n ls b → NothingFailed b.outcome → IsFront a b
-from_one h w x u n [] a b on p q y z fine = or_cut (λ (t : Output). t ≡ record { bytes = []; outcome = Done }) (λ (t : Output). t ≡ record { bytes = []; outcome = Done }) a b fine (front_same a b (record { bytes = []; outcome = Done })) y z
-from_one h w x u n (l ∷ ls) a b on p q y z fine =
-    or_cut (AnswersLine h n (step_of_line l) w (λ v. AnswersFrom h v (n + 1) ls)) (AnswersLine h n (step_of_line l) x (λ v. AnswersFrom h v (n + 1) ls)) a b fine (go (λ v z t c d further p q y k f. from_one h v z t (n + 1) ls c d further p q y k f) (step_of_line l) refl) y z
-  where
-    go : ((v z t : WorldState) (c d : Output) → LinesGoOn h t ls → AreAlike v t → AreAlike z t → AnswersFrom h v (n + 1) ls c → AnswersFrom h z (n + 1) ls d → NothingFailed d.outcome → IsFront c d)
-        → (r : Result StepView BadCause) → step_of_line l ≡ r → AnswersLine h n r w (λ v. AnswersFrom h v (n + 1) ls) a → AnswersLine h n r x (λ v. AnswersFrom h v (n + 1) ls) b → IsFront a b
-    go later (Err c) e y z = front_same a b (bad_line n c) y z
-    go later (Ok s) e y z =
-        let r = on s e in
-        let t = r.1.0 in
-        let c = r.1.1 in
-        let next = r.1.2 in
-        let left = next_alike h w u p r.0 s y.world t y.answer c y.next next in
-        let right = next_alike h x u q r.0 s z.world t z.answer c z.next next in
-        let same : y.answer ≡ z.answer = left.0 ∙ sym right.0 in
-        let fine_on = fine_rest (answer_line z.answer) b z.rest z.whole fine in
-        let rest = later y.world z.world t y.rest z.rest r.1.3 left.1 right.1 y.follows z.follows fine_on in
-        front_of a b (before (answer_line z.answer) y.rest) (before (answer_line z.answer) z.rest) (y.whole ∙ ap (λ r. before (answer_line r) y.rest) same) z.whole (front_before (answer_line z.answer) y.rest z.rest rest)
+-- ## Any command
+
+-- from two states that are alike a line is answered alike or is bad alike, and the input ends alike
+record IsOne (m : Meaning) (Alike : m.State → m.State → Type 0) : Type 0 where
+  takes : (s t u v : m.State) (n : ℕ) (line a b : List ℕ) → Alike s t → m.Takes s n line a u → m.Takes t n line b v → (a ≡ b) × Alike u v
+  apart : (s t u : m.State) (n : ℕ) (line a : List ℕ) (c : BadCause) → Alike s t → m.Takes s n line a u → m.IsBad t line c → ⊥
+  other : (s t v : m.State) (n : ℕ) (line b : List ℕ) (c : BadCause) → Alike s t → m.IsBad s line c → m.Takes t n line b v → ⊥
+  bad : (s t : m.State) (line : List ℕ) (c e : BadCause) → Alike s t → m.IsBad s line c → m.IsBad t line e → c ≡ e
+  ends : (s t : m.State) (a b : List ℕ) → Alike s t → m.Finishes s a → m.Finishes t b → a ≡ b
+  lacks : (s t : m.State) (c e : BadCause) → Alike s t → m.Lacks s c → m.Lacks t e → c ≡ e
+  ends_apart : (s t : m.State) (a : List ℕ) (c : BadCause) → Alike s t → m.Finishes s a → m.Lacks t c → ⊥
+  ends_other : (s t : m.State) (b : List ℕ) (c : BadCause) → Alike s t → m.Lacks s c → m.Finishes t b → ⊥
+
+module _ (m : Meaning) (Alike : m.State → m.State → Type 0) (one : IsOne m Alike) where
+  end_one : (s t : m.State) (n : ℕ) (a b : Output) → Alike s t → AnswersEnd m s n a → AnswersEnd m t n b → IsFront a b
+  end_one s t n a b k (inl (x, f, e)) (inl (y, g, d)) = front_same a b (ended y) (e ∙ ap ended (one.ends s t x y k f g)) d
+  end_one s t n a b k (inl (x, f, e)) (inr (c, g, d)) = absurd (one.ends_apart s t x c k f g)
+  end_one s t n a b k (inr (c, f, e)) (inl (y, g, d)) = absurd (one.ends_other s t y c k f g)
+  end_one s t n a b k (inr (c, f, e)) (inr (x, g, d)) = front_same a b (bad_line n x) (e ∙ ap (bad_line n) (one.lacks s t c x k f g)) d
+
+  line_answers_one : (s t : m.State) (n : ℕ) (line : List ℕ) (long : Bool) (Rest : m.State → Output → Type 0) (a b : Output) → Alike s t
+      → ((u v : m.State) (c d : Output) → Alike u v → Rest u c → Rest v d → NothingFailed d.outcome → IsFront c d) → NothingFailed b.outcome
+      → AnswersLine m long s n line Rest a → AnswersLine m long t n line Rest b → IsFront a b
+  line_answers_one s t n line true Rest a b k later fine y z = front_same a b (long_output n) y z
+  line_answers_one s t n line false Rest a b k later fine (inl y) (inl z) =
+      let same = one.takes s t y.state z.state n line y.told z.told k y.takes z.takes in
+      let rest = later y.state z.state y.rest z.rest same.1 y.follows z.follows (fine_rest z.told b z.rest z.whole fine) in
+      front_of a b (before z.told y.rest) (before z.told z.rest) (y.whole ∙ ap (λ x. before x y.rest) same.0) z.whole (front_before z.told y.rest z.rest rest)
+  line_answers_one s t n line false Rest a b k later fine (inl y) (inr z) = absurd (one.apart s t y.state n line y.told z.cause k y.takes z.is)
+  line_answers_one s t n line false Rest a b k later fine (inr y) (inl z) = absurd (one.other s t z.state n line z.told y.cause k y.is z.takes)
+  line_answers_one s t n line false Rest a b k later fine (inr y) (inr z) =
+      front_same a b (bad_line n z.cause) (y.whole ∙ ap (bad_line n) (one.bad s t line y.cause z.cause k y.is z.is)) z.whole
+
+  from_one : (ls : List Line) (s t : m.State) (n start : ℕ) (a b : Output) → Alike s t → AnswersFrom m s n start ls a → AnswersFrom m t n start ls b → NothingFailed b.outcome → IsFront a b
+  from_one [] s t n start a b k y z fine = or_cut (AnswersEnd m s n) (AnswersEnd m t n) a b fine (end_one s t n a b k) y z
+  from_one (l ∷ ls) s t n start a b k y z fine =
+      or_cut (AnswersLine m (is_long n start l) s n l.bytes (λ v. AnswersFrom m v (n + 1) (start + length l.bytes + l.feed) ls)) (AnswersLine m (is_long n start l) t n l.bytes (λ v. AnswersFrom m v (n + 1) (start + length l.bytes + l.feed) ls)) a b fine
+      (line_answers_one s t n l.bytes (is_long n start l) (λ v. AnswersFrom m v (n + 1) (start + length l.bytes + l.feed) ls) a b k (λ u v c d alike p q f. from_one ls u v (n + 1) (start + length l.bytes + l.feed) c d alike p q f) fine) y z
+
+-- ## A trace
+
+there : {A E : Type 0} (r : Result A E) (x y : A) → r ≡ Ok x → r ≡ Ok y → x ≡ y
+there r x y e f = let q : Ok x ≡ Ok y = sym e ∙ f in cc
+
+why_one : {A E : Type 0} (r : Result A E) (x y : E) → r ≡ Err x → r ≡ Err y → x ≡ y
+why_one r x y e f = let q : Err x ≡ Err y = sym e ∙ f in cc
+
+both : {A E : Type 0} (r : Result A E) (x : A) (y : E) → r ≡ Ok x → r ≡ Err y → ⊥
+both r x y e f = let q : Ok x ≡ Err y = sym e ∙ f in cc
+
+-- two worlds that are alike to one that steps lead to
+abbrev AreOne : TraceState → TraceState → Type 0
+AreOne unopened unopened = Unit {0}
+AreOne unopened (opened g x) = ⊥
+AreOne (opened h w) unopened = ⊥
+AreOne (opened h w) (opened g x) = (h ≡ g) × (u : WorldState) × IsWorld g u × AreAlike w u × AreAlike x u
 
 empty_alike : AreAlike empty_state empty_state
 empty_alike = record { log = tt; clients = tt }
 
-trace_one : (ls : List (List ℕ)) (a b : Output) → ((l : List ℕ) (rest : List (List ℕ)) (h : HeaderView) → ls ≡ l ∷ rest → header_line (codes "trace") l ≡ Ok h → LinesGoOn h empty_state rest) → NothingFailed b.outcome → AnswersTrace ls a → AnswersTrace ls b → IsFront a b
-trace_one [] a b on fine y z = or_cut (λ (t : Output). t ≡ bad_line 1 Header) (λ (t : Output). t ≡ bad_line 1 Header) a b fine (front_same a b (bad_line 1 Header)) y z
-trace_one (l ∷ ls) a b on fine y z =
-    or_cut (AnswersOpening (header_line (codes "trace") l) (λ h. AnswersFrom h empty_state 2 ls)) (AnswersOpening (header_line (codes "trace") l) (λ h. AnswersFrom h empty_state 2 ls)) a b fine (go (header_line (codes "trace") l) refl) y z
-  where
-    go : (r : Result HeaderView BadCause) → header_line (codes "trace") l ≡ r → AnswersOpening r (λ h. AnswersFrom h empty_state 2 ls) a → AnswersOpening r (λ h. AnswersFrom h empty_state 2 ls) b → IsFront a b
-    go (Err c) e y z = front_same a b (bad_line 1 c) y z
-    go (Ok h) e y z =
-        let fine_on = fine_rest (answer_line answer.Header) b z.rest z.whole fine in
-        let rest = from_one h empty_state empty_state empty_state 2 ls y.rest z.rest (on l ls h refl e) empty_alike empty_alike y.follows z.follows fine_on in
-        front_of a b (before (answer_line answer.Header) y.rest) (before (answer_line answer.Header) z.rest) y.whole z.whole (front_before (answer_line answer.Header) y.rest z.rest rest)
+step_one : (h : HeaderView) (w x u : WorldState) (line a b : List ℕ) (s t : TraceState) → IsWorld h u → AreAlike w u → AreAlike x u → IsStep h w line a s → IsStep h x line b t → (a ≡ b) × AreOne s t
+step_one h w x u line a b s t sound p q y z =
+    let same : y.step ≡ z.step = there (step_of_line line) y.step z.step y.is z.is in
+    let r = leads_on h u sound (all_lead h u sound) z.step in
+    let left = next_alike h w u p (lists_mean_one h u sound) z.step y.world r.0 y.answer r.1 (subst (λ (k : StepView). IsNext h w k y.world y.answer) same y.next) r.2 in
+    let right = next_alike h x u q (lists_mean_one h u sound) z.step z.world r.0 z.answer r.1 z.next r.2 in
+    let further = r.3 (fits_rules z.step.branch z.step.act (line_fits line z.step z.is).1) in
+    let after : AreOne (opened h y.world) (opened h z.world) = (refl, r.0, further, left.1, right.1) in (
+      y.told ∙ ap answer_line (left.0 ∙ sym right.0) ∙ sym z.told,
+      subst (λ (k : TraceState). AreOne k t) (sym y.state) (subst (λ (k : TraceState). AreOne (opened h y.world) k) (sym z.state) after),
+    )
 
-third_one : (o : Option (List ℕ)) (a b : Output) → AnswersThird o a → AnswersThird o b → IsFront a b
-third_one None a b y z = front_same a b (record { bytes = []; outcome = Done }) y z
-third_one (Some l) a b y z = front_same a b (bad_line 3 (further_cause l)) y z
+trace_takes_one : (s t u v : TraceState) (n : ℕ) (line a b : List ℕ) → AreOne s t → TakesTrace s n line a u → TakesTrace t n line b v → (a ≡ b) × AreOne u v
+trace_takes_one unopened unopened u v n line a b k y z =
+    let kept = header_line_kept (codes "trace") line z.header z.is in
+    let after : AreOne (opened y.header empty_state) (opened z.header empty_state) =
+    (there (header_line (codes "trace") line) y.header z.header y.is z.is, empty_state, begun_sound z.header (record { schema = kept.0; tree = kept.1 }), empty_alike, empty_alike) in (
+      y.told ∙ sym z.told,
+      subst (λ (k : TraceState). AreOne k v) (sym y.state) (subst (λ (k : TraceState). AreOne (opened y.header empty_state) k) (sym z.state) after),
+    )
+trace_takes_one unopened (opened g x) u v n line a b k y z = absurd k
+trace_takes_one (opened h w) unopened u v n line a b k y z = absurd k
+trace_takes_one (opened h w) (opened g x) u v n line a b k y z =
+    step_one g w x k.1 line a b u v k.2 k.3 k.4 (subst (λ (i : HeaderView). IsStep i w line a u) k.0 y) z
 
-related_one : (r : Result (List ℕ) BadSchema) (third : Option (List ℕ)) (a b : Output) → NothingFailed b.outcome → AnswersCompared r third a → AnswersCompared r third b → IsFront a b
-related_one (Err bad) third a b fine y z = front_same a b (bad_schema bad) y z
-related_one (Ok line) third a b fine y z =
-    let fine_on = fine_rest line b z.rest z.whole fine in
-    let rest = or_cut (AnswersThird third) (AnswersThird third) y.rest z.rest fine_on (third_one third y.rest z.rest) y.follows z.follows in
-    front_of a b (before line y.rest) (before line z.rest) y.whole z.whole (front_before line y.rest z.rest rest)
+trace_apart : (s t u : TraceState) (n : ℕ) (line a : List ℕ) (c : BadCause) → AreOne s t → TakesTrace s n line a u → IsBadInTrace t line c → ⊥
+trace_apart unopened unopened u n line a c k y z = both (header_line (codes "trace") line) y.header c y.is z
+trace_apart unopened (opened g x) u n line a c k y z = k
+trace_apart (opened h w) unopened u n line a c k y z = k
+trace_apart (opened h w) (opened g x) u n line a c k y z = both (step_of_line line) y.step c y.is z
 
-schemas_one : (stored view third : Option (List ℕ)) (a b : Output) → NothingFailed b.outcome → AnswersSchemas stored view third a → AnswersSchemas stored view third b → IsFront a b
-schemas_one stored view third a b fine y z =
-    let same : y.compared ≡ z.compared = compared_one stored view y.compared z.compared y.is z.is in
-    related_one z.compared third a b fine (subst (λ r. AnswersCompared r third a) same y.follows) z.follows
+trace_other : (s t v : TraceState) (n : ℕ) (line b : List ℕ) (c : BadCause) → AreOne s t → IsBadInTrace s line c → TakesTrace t n line b v → ⊥
+trace_other unopened unopened v n line b c k y z = both (header_line (codes "trace") line) z.header c z.is y
+trace_other unopened (opened g x) v n line b c k y z = k
+trace_other (opened h w) unopened v n line b c k y z = k
+trace_other (opened h w) (opened g x) v n line b c k y z = both (step_of_line line) z.step c z.is y
 
-compat_one : (ls : List (List ℕ)) (a b : Output) → NothingFailed b.outcome → AnswersCompat ls a → AnswersCompat ls b → IsFront a b
-compat_one ls a b fine y z = or_cut (AnswersSchemas (slice_get ls 0) (slice_get ls 1) (slice_get ls 2)) (AnswersSchemas (slice_get ls 0) (slice_get ls 1) (slice_get ls 2)) a b fine (schemas_one (slice_get ls 0) (slice_get ls 1) (slice_get ls 2) a b fine) y z
+trace_bad : (s t : TraceState) (line : List ℕ) (c e : BadCause) → AreOne s t → IsBadInTrace s line c → IsBadInTrace t line e → c ≡ e
+trace_bad unopened unopened line c e k y z = why_one (header_line (codes "trace") line) c e y z
+trace_bad unopened (opened g x) line c e k y z = absurd k
+trace_bad (opened h w) unopened line c e k y z = absurd k
+trace_bad (opened h w) (opened g x) line c e k y z = why_one (step_of_line line) c e y z
 
-lines_one : (c : Command) (bytes : List ℕ) (a b : Output) → InputGoesOn bytes → NothingFailed b.outcome → AnswersLines c (cut bytes) a → AnswersLines c (cut bytes) b → IsFront a b
-lines_one Trace bytes a b on fine y z = trace_one (cut bytes) a b on fine y z
-lines_one Compat bytes a b on fine y z = compat_one (cut bytes) a b fine y z
+trace_ends : (s t : TraceState) (a b : List ℕ) → AreOne s t → trace.Finishes s a → trace.Finishes t b → a ≡ b
+trace_ends unopened t a b k y z = absurd y
+trace_ends (opened h w) unopened a b k y z = absurd z
+trace_ends (opened h w) (opened g x) a b k y z = y ∙ sym z
 
-by_one : (c : Command) (long : Bool) (bytes : List ℕ) (a b : Output) → InputGoesOn bytes → NothingFailed b.outcome → AnswersBy c long bytes a → AnswersBy c long bytes b → IsFront a b
-by_one c true bytes a b on fine y z = front_same a b (long_output (long_line bytes)) y z
-by_one c false bytes a b on fine y z = lines_one c bytes a b on fine y z
+trace_lacks : (s t : TraceState) (c e : BadCause) → AreOne s t → trace.Lacks s c → trace.Lacks t e → c ≡ e
+trace_lacks (opened h w) t c e k y z = absurd y
+trace_lacks unopened (opened h w) c e k y z = absurd z
+trace_lacks unopened unopened c e k y z = y ∙ sym z
 
-front_one : (c : Command) (bytes : List ℕ) (a b : Output) → InputGoesOn bytes → Answers c bytes a → Answers c bytes b → NothingFailed b.outcome → IsFront a b
-front_one c bytes a b on y z fine = by_one c (nat_lt max_input (length bytes)) bytes a b on fine y z
+trace_ends_apart : (s t : TraceState) (a : List ℕ) (c : BadCause) → AreOne s t → trace.Finishes s a → trace.Lacks t c → ⊥
+trace_ends_apart unopened t a c k y z = y
+trace_ends_apart (opened h w) unopened a c k y z = k
+trace_ends_apart (opened h w) (opened g x) a c k y z = z
+
+trace_ends_other : (s t : TraceState) (b : List ℕ) (c : BadCause) → AreOne s t → trace.Lacks s c → trace.Finishes t b → ⊥
+trace_ends_other (opened h w) t b c k y z = y
+trace_ends_other unopened unopened b c k y z = z
+trace_ends_other unopened (opened g x) b c k y z = k
+
+trace_one : IsOne trace AreOne
+trace_one = record { takes = trace_takes_one; apart = trace_apart; other = trace_other; bad = trace_bad; ends = trace_ends; lacks = trace_lacks; ends_apart = trace_ends_apart; ends_other = trace_ends_other }
+
+-- ## Two schemas
+
+abbrev AreSame : CompatState → CompatState → Type 0
+AreSame s t = s ≡ t
+
+schema_both : (line : List ℕ) (s : SchemaView) (c : BadCause) → IsSchemaLine line (Ok s) → IsSchemaLine line (Err c) → ⊥
+schema_both line s c y z = let q : Ok s ≡ Err c = line_one line (Ok s) (Err c) y z in cc
+
+schema_bad : (line : List ℕ) (c e : BadCause) → IsSchemaLine line (Err c) → IsSchemaLine line (Err e) → c ≡ e
+schema_bad line c e y z = let q : Err c ≡ Err e = line_one line (Err c) (Err e) y z in cc
+
+schema_same : (line : List ℕ) (s v : SchemaView) → IsSchemaLine line (Ok s) → IsSchemaLine line (Ok v) → s ≡ v
+schema_same line s v y z = let q : Ok s ≡ Ok v = line_one line (Ok s) (Ok v) y z in cc
+
+compat_takes_here : (s u v : CompatState) (n : ℕ) (line a b : List ℕ) → TakesCompat s n line a u → TakesCompat s n line b v → (a ≡ b) × (u ≡ v)
+compat_takes_here unread u v n line a b y z = (y.told ∙ sym z.told, y.state ∙ ap stored (schema_same line y.schema z.schema y.is z.is) ∙ sym z.state)
+compat_takes_here (stored s) u v n line a b y z =
+    let same : y.view ≡ z.view = schema_same line y.view z.view y.is z.is in
+    let r : y.relation ≡ z.relation = relation_one s z.view y.relation z.relation (subst (λ (k : SchemaView). IsRelation s k y.relation) same y.relates) z.relates in
+    (y.told ∙ ap relation_line r ∙ sym z.told, y.state ∙ sym z.state)
+compat_takes_here related u v n line a b y z = absurd y
+
+compat_apart_here : (s u : CompatState) (n : ℕ) (line a : List ℕ) (c : BadCause) → TakesCompat s n line a u → IsBadInCompat s line c → ⊥
+compat_apart_here unread u n line a c y z = schema_both line y.schema c y.is z
+compat_apart_here (stored s) u n line a c y z = schema_both line y.view c y.is z
+compat_apart_here related u n line a c y z = y
+
+compat_bad_here : (s : CompatState) (line : List ℕ) (c e : BadCause) → IsBadInCompat s line c → IsBadInCompat s line e → c ≡ e
+compat_bad_here unread line c e y z = schema_bad line c e y z
+compat_bad_here (stored s) line c e y z = schema_bad line c e y z
+compat_bad_here related line c e y z = y ∙ sym z
+
+compat_ends_here : (s : CompatState) (a b : List ℕ) → compat.Finishes s a → compat.Finishes s b → a ≡ b
+compat_ends_here unread a b y z = absurd y
+compat_ends_here (stored s) a b y z = absurd y
+compat_ends_here related a b y z = y ∙ sym z
+
+compat_lacks_here : (s : CompatState) (c e : BadCause) → compat.Lacks s c → compat.Lacks s e → c ≡ e
+compat_lacks_here unread c e y z = y ∙ sym z
+compat_lacks_here (stored s) c e y z = y ∙ sym z
+compat_lacks_here related c e y z = absurd y
+
+compat_ends_apart : (s : CompatState) (a : List ℕ) (c : BadCause) → compat.Finishes s a → compat.Lacks s c → ⊥
+compat_ends_apart unread a c y z = y
+compat_ends_apart (stored s) a c y z = y
+compat_ends_apart related a c y z = z
+
+compat_one : IsOne compat AreSame
+compat_one = record {
+  takes = λ s t u v n line a b e y z. compat_takes_here t u v n line a b (subst (λ (k : CompatState). TakesCompat k n line a u) e y) z;
+  apart = λ s t u n line a c e y z. compat_apart_here t u n line a c (subst (λ (k : CompatState). TakesCompat k n line a u) e y) z;
+  other = λ s t v n line b c e y z. compat_apart_here t v n line b c z (subst (λ (k : CompatState). IsBadInCompat k line c) e y);
+  bad = λ s t line c d e y z. compat_bad_here t line c d (subst (λ (k : CompatState). IsBadInCompat k line c) e y) z;
+  ends = λ s t a b e y z. compat_ends_here t a b (subst (λ (k : CompatState). compat.Finishes k a) e y) z;
+  lacks = λ s t c d e y z. compat_lacks_here t c d (subst (λ (k : CompatState). compat.Lacks k c) e y) z;
+  ends_apart = λ s t a c e y z. compat_ends_apart t a c (subst (λ (k : CompatState). compat.Finishes k a) e y) z;
+  ends_other = λ s t b c e y z. compat_ends_apart t b c z (subst (λ (k : CompatState). compat.Lacks k c) e y);
+}
+
+-- ## Each input
+
+front_one : (c : Command) (bytes : List ℕ) (a b : Output) → Answers c bytes a → Answers c bytes b → NothingFailed b.outcome → IsFront a b
+front_one Trace bytes a b y z fine = from_one trace AreOne trace_one (cut bytes) unopened unopened 1 0 a b tt y z fine
+front_one Compat bytes a b y z fine = from_one compat AreSame compat_one (cut bytes) unread unread 1 0 a b refl y z fine
 
 pub front_of_answers : (c : Command) (bytes : List ℕ) (a b : Output) → Answers c bytes a → Answers c bytes b → NothingFailed b.outcome → (rest : List ℕ) × (b.bytes ≡ a.bytes ++ rest)
-front_of_answers c bytes a b y z fine = (front_one c bytes a b (input_goes_on bytes) y z fine).1
+front_of_answers c bytes a b y z fine = (front_one c bytes a b y z fine).1
 
 pub answers_one : (c : Command) (bytes : List ℕ) (a b : Output) → Answers c bytes a → Answers c bytes b → NothingFailed a.outcome → NothingFailed b.outcome → a ≡ b
-answers_one c bytes a b y z well fine = go (front_one c bytes a b (input_goes_on bytes) y z fine).0
+answers_one c bytes a b y z well fine = go (front_one c bytes a b y z fine).0
   where
     go : (a ≡ b) ⊎ (a.outcome ≡ NoMemory) → a ≡ b
     go (inl e) = e

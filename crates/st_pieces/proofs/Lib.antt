@@ -1,4 +1,5 @@
 pub mod Appending
+pub mod Counting
 pub mod Cutting
 pub mod Outcomes
 pub mod Replies

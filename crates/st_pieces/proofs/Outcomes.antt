@@ -4,8 +4,8 @@ use Rattle.std.specs.Option.{IfSome}
 use Rattle.std.proofs.Math.Seq.{take-append-add}
 use Rattle.st_io.specs.Bytes.{Appends}
 use Rattle.st_io.specs.Bytes as InOut
-use Rattle.st_pieces.specs.declared.responder.Outcome.{Outcome}
-use Rattle.st_pieces.specs.declared.responder.Outcome.TheVariants.{Done, Bad, TooLong, ReadFault, WriteFault, NoMemory}
+use Rattle.st_pieces.specs.declared.responder.RunEnd.{RunEnd}
+use Rattle.st_pieces.specs.declared.responder.RunEnd.TheVariants.{Done, Bad, TooLong, ReadFault, WriteFault, NoMemory}
 use Rattle.st_pieces.specs.Lines.{IsFeedAt, Line, NoFeed, cut, is_long, line_of}
 use Rattle.st_pieces.specs.Told.{Answered, AppendsPrefix, long_line, more, nothing}
 use Rattle.st_pieces.specs.inside.Sent.{IsAnswerTo, IsEndTold, IsLineEnd, IsLongSent}
@@ -74,7 +74,7 @@ module _ {S E : Type 0} (Takes : S → ℕ → List ℕ → List ℕ → S → T
   }
 
   -- a line is too long
-  pub long_told : (first : S) (input old : Option (List ℕ)) (s : S) (left w new : Option (List ℕ)) (n start : ℕ) (tail : List ℕ) (at : ℕ) (o : Outcome E)
+  pub long_told : (first : S) (input old : Option (List ℕ)) (s : S) (left w new : Option (List ℕ)) (n start : ℕ) (tail : List ℕ) (at : ℕ) (o : RunEnd E)
       → IsReached Takes first input old s left w n start tail → IsFeedAt tail at → is_long n start (line_of (take at tail) 1) ≡ true
       → IsLongSent n w new o → IsTold Takes EndsAt Finishes Fails first input old left new o
   long_told first input old s left w new n start tail at Done r feed long h = absurd h
@@ -97,7 +97,7 @@ module _ {S E : Type 0} (Takes : S → ℕ → List ℕ → List ℕ → S → T
       subst (λ k. IsTold Takes EndsAt Finishes Fails first input old left new (TooLong k)) (sym h.0) ended
 
   -- a run ends at a line
-  pub line_ended : (first : S) (input old : Option (List ℕ)) (s : S) (left w new : Option (List ℕ)) (n start : ℕ) (tail : List ℕ) (at : ℕ) (o : Outcome E)
+  pub line_ended : (first : S) (input old : Option (List ℕ)) (s : S) (left w new : Option (List ℕ)) (n start : ℕ) (tail : List ℕ) (at : ℕ) (o : RunEnd E)
       → IsReached Takes first input old s left w n start tail → IsFeedAt tail at → is_long n start (line_of (take at tail) 1) ≡ false
       → IsLineEnd (IsAnswerTo (Takes s n (take at tail)) (EndsAt s n (take at tail))) (EndsAt s n (take at tail)) n w new o → IsTold Takes EndsAt Finishes Fails first input old left new o
   line_ended first input old s left w new n start tail at Done r feed short h = absurd h
@@ -204,7 +204,7 @@ module _ {S E : Type 0} (Takes : S → ℕ → List ℕ → List ℕ → S → T
   }
 
   -- the end is told
-  pub end_told : (first : S) (input old : Option (List ℕ)) (s : S) (left w new : Option (List ℕ)) (n : ℕ) (o : Outcome E)
+  pub end_told : (first : S) (input old : Option (List ℕ)) (s : S) (left w new : Option (List ℕ)) (n : ℕ) (o : RunEnd E)
       → IsAll first input old s left w n → IsEndTold (Finishes s n) (Fails s n) n w new o → IsTold Takes EndsAt Finishes Fails first input old left new o
   end_told first input old s left w new n (TooLong m) a h = absurd h
   end_told first input old s left w new n ReadFault a h = absurd h
@@ -236,7 +236,7 @@ module _ {S E : Type 0} (Takes : S → ℕ → List ℕ → List ℕ → S → T
       }))
 
   -- a run ends at the last line
-  pub last_ended : (first : S) (input old : Option (List ℕ)) (s : S) (left w new : Option (List ℕ)) (n start : ℕ) (tail : List ℕ) (o : Outcome E)
+  pub last_ended : (first : S) (input old : Option (List ℕ)) (s : S) (left w new : Option (List ℕ)) (n start : ℕ) (tail : List ℕ) (o : RunEnd E)
       → IsReached Takes first input old s left w n start tail → 0 < length tail → NoFeed tail → is_long n start (line_of tail 0) ≡ false
       → IsLineEnd (IsAnswerTo (Takes s n tail) (EndsAt s n tail)) (EndsAt s n tail) n w new o → IfSome input (λ _. left ≡ Some []) → IsTold Takes EndsAt Finishes Fails first input old left new o
   last_ended first input old s left w new n start tail o r some unended short h nothing_left = by o h
@@ -261,7 +261,7 @@ module _ {S E : Type 0} (Takes : S → ℕ → List ℕ → List ℕ → S → T
         written = part_more old w new r.text next_text r.written p;
       }
 
-      by : (o : Outcome E) → IsLineEnd (IsAnswerTo (Takes s n tail) (EndsAt s n tail)) (EndsAt s n tail) n w new o → IsTold Takes EndsAt Finishes Fails first input old left new o
+      by : (o : RunEnd E) → IsLineEnd (IsAnswerTo (Takes s n tail) (EndsAt s n tail)) (EndsAt s n tail) n w new o → IsTold Takes EndsAt Finishes Fails first input old left new o
       by Done h = absurd h
       by (TooLong m) h = absurd h
       by ReadFault h = absurd h
@@ -317,7 +317,7 @@ module _ {S E : Type 0} (Takes : S → ℕ → List ℕ → List ℕ → S → T
   }
 
   -- a tail is too long
-  pub long_tail_told : (first : S) (input old : Option (List ℕ)) (s : S) (left w new : Option (List ℕ)) (n start : ℕ) (tail : List ℕ) (o : Outcome E)
+  pub long_tail_told : (first : S) (input old : Option (List ℕ)) (s : S) (left w new : Option (List ℕ)) (n start : ℕ) (tail : List ℕ) (o : RunEnd E)
       → IsReached Takes first input old s left w n start tail → 0 < length tail → NoFeed tail → is_long n start (line_of tail 0) ≡ true
       → IsLongSent n w new o → IsTold Takes EndsAt Finishes Fails first input old left new o
   long_tail_told first input old s left w new n start tail Done r some unended long h = absurd h
@@ -352,8 +352,8 @@ module _ {S E : Type 0} (Takes : S → ℕ → List ℕ → List ℕ → S → T
 
   -- the source failed
   pub cut_off : (first : S) (input old : Option (List ℕ)) (s : S) (left w : Option (List ℕ)) (n start : ℕ) (tail : List ℕ)
-      → IsReached Takes first input old s left w n start tail → NoFeed tail → IsTold Takes EndsAt Finishes Fails first input old left w ReadFault
-  cut_off first input old s left w n start tail r unended = record {
+      → IsReached Takes first input old s left w n start tail → NoFeed tail → (0 < length tail → is_long n start (line_of tail 0) ≡ false) → IsTold Takes EndsAt Finishes Fails first input old left w ReadFault
+  cut_off first input old s left w n start tail r unended short = record {
     lines = r.lines;
     n = n;
     start = start;
@@ -363,6 +363,7 @@ module _ {S E : Type 0} (Takes : S → ℕ → List ℕ → List ℕ → S → T
     answered = r.answered;
     read = r.read;
     unended = unended;
+    short = short;
     written = r.written;
   }
 

@@ -20,6 +20,11 @@ abbrev pub cut : List ℕ → List Line
 cut [] = []
 cut (b ∷ bs) = if b == 10 then line_of [] 1 ∷ cut bs else cons_byte b (cut bs)
 
+-- the bytes of lines, with the line feeds that end them
+abbrev pub size_of : List Line → ℕ
+size_of [] = 0
+size_of (l ∷ ls) = length l.bytes + l.feed + size_of ls
+
 -- a line is too long where it is one too many, has too many bytes, or holds the byte by which the
 -- input passes its limit; n is its number, and `start` counts the bytes before it
 abbrev pub is_long : ℕ → ℕ → Line → Bool

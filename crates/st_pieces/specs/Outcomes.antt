@@ -1,10 +1,10 @@
 -- What was told at each outcome of a run.
-use Rattle.std.specs.Prelude.{◌≡◌, ◌⊎◌, ℕ, true, false, List, [], ◌∷◌, ◌++◌, Option, IfSome, Some}
+use Rattle.std.specs.Prelude.{◌≡◌, ◌⊎◌, ◌<◌, ℕ, true, false, List, [], ◌∷◌, ◌++◌, length, Option, IfSome, Some}
 use Rattle.st_io.specs.Bytes.{Appends}
-use Rattle.st_pieces.specs.Lines.{Line, cut, is_long, NoFeed}
+use Rattle.st_pieces.specs.Lines.{Line, cut, is_long, line_of, NoFeed}
 use Rattle.st_pieces.specs.Told.{Answered, AppendsPrefix, long_line}
-use Rattle.st_pieces.specs.declared.responder.Outcome.{Outcome}
-use Rattle.st_pieces.specs.declared.responder.Outcome.TheVariants.{Done, Bad, TooLong, ReadFault, WriteFault, NoMemory}
+use Rattle.st_pieces.specs.declared.responder.RunEnd.{RunEnd}
+use Rattle.st_pieces.specs.declared.responder.RunEnd.TheVariants.{Done, Bad, TooLong, ReadFault, WriteFault, NoMemory}
 
 -- of the input the lines `ls` and then `tail` were read
 pub record IsFront (input left : Option (List ℕ)) (ls : List Line) (tail : List ℕ) : Type 0 where
@@ -61,7 +61,8 @@ module _ {S E : Type 0} (Takes : S → ℕ → List ℕ → List ℕ → S → T
   abbrev pub AtLong : S → ℕ → ℕ → Line → List ℕ → Type 0
   AtLong s n start l last = (is_long n start l ≡ true) × (last ≡ long_line n)
 
-  -- the source failed after some lines and a tail
+  -- the source failed after some lines and a tail, which isn't too long itself: all lines that end within what was read
+  -- are answered and told, and nothing more
   pub record IsCutOff (first : S) (input old left new : Option (List ℕ)) : Type 0 where
     pub lines : List Line
     pub n : ℕ
@@ -72,11 +73,12 @@ module _ {S E : Type 0} (Takes : S → ℕ → List ℕ → List ℕ → S → T
     pub answered : Answered Takes first lines n start text s
     pub read : IsFront input left lines tail
     pub unended : NoFeed tail
+    pub short : 0 < length tail → is_long n start (line_of tail 0) ≡ false
     pub written : Appends old text new
 
   -- what a line that isn't too long is answered with
-  abbrev pub IsAnswered : S → ℕ → ℕ → Line → List ℕ → Type 0
-  IsAnswered s n start l next =
+  abbrev pub IsLineAnswer : S → ℕ → ℕ → Line → List ℕ → Type 0
+  IsLineAnswer s n start l next =
       (is_long n start l ≡ false)
       × (((v : S) × Takes s n l.bytes next v) ⊎ ((e : E) × Ends s n l.bytes next e))
 
@@ -84,7 +86,7 @@ module _ {S E : Type 0} (Takes : S → ℕ → List ℕ → List ℕ → S → T
   abbrev pub IsNextTold : S → ℕ → ℕ → List Line → List ℕ → Type 0
   IsNextTold s n start [] next = (next ≡ []) ⊎ (Finishes s n next ⊎ ((e : E) × Fails s n next e))
   IsNextTold s n start (l ∷ ls) next =
-      (next ≡ []) ⊎ (AtLong s n start l next ⊎ IsAnswered s n start l next)
+      (next ≡ []) ⊎ (AtLong s n start l next ⊎ IsLineAnswer s n start l next)
 
   -- some lines are answered and told, and a front of what comes next
   pub record IsPartly (first : S) (input old new : Option (List ℕ)) : Type 0 where
@@ -101,7 +103,7 @@ module _ {S E : Type 0} (Takes : S → ℕ → List ℕ → List ℕ → S → T
 
   -- what was told at an outcome: `first` is the state at the beginning, `input` and `left` are the
   -- bytes that the source had and has left, `old` and `new` what the sink was given before and by now
-  abbrev pub IsTold : (first : S) (input old left new : Option (List ℕ)) → Outcome E → Type 0
+  abbrev pub IsTold : (first : S) (input old left new : Option (List ℕ)) → RunEnd E → Type 0
   IsTold first input old left new Done = IsDone first input old left new
   IsTold first input old left new (Bad n e) =
       IsEnded first input old new n (AtBad e) ⊎ IsFailed first input old new n e

@@ -13,7 +13,7 @@ impl Responder for Echo {
 
     ghost State = { ⊤ };
 
-    ghost Stands = { λ e s. ⊤ };
+    ghost Stands = { λ e n s. ⊤ };
 
     ghost Takes = { λ s n line told v. told ≡ line ++ 10 ∷ [] };
 

@@ -2,6 +2,7 @@
 #![tactic(auto)]
 
 mod echo;
+mod laws;
 mod lines;
 mod reading;
 mod responder;
@@ -9,6 +10,7 @@ mod send;
 mod take;
 
 pub use echo::Echo;
+pub use laws::answered_lines_are_counted;
 pub use lines::answer_lines;
-pub use responder::{Outcome, Reply, Responder};
+pub use responder::{Reply, Responder, RunEnd};
 pub use send::write_all;

@@ -7,7 +7,7 @@ ghost use Rattle.st_io.specs.Counts.{Rose};
 ghost use Rattle.st_pieces.specs.Lines.{NoFeed, is_long, line_of};
 
 use crate::reading::{Reading, is_tail_long, keep_more, next_feed};
-use crate::responder::{Outcome, Responder};
+use crate::responder::{Responder, RunEnd};
 use crate::send::send_long;
 use crate::take::{finish, take_whole};
 use st_io::{Sink, Source};
@@ -21,34 +21,37 @@ fn read_piece<R: Responder, S: Source, K: Sink>(
     piece: &mut [u8],
     reading: &mut Reading,
     sink: &mut K,
-) -> Result<(), Outcome<R::Ending>>
+) -> Result<(), RunEnd<R::Ending>>
     requires place { IsPlaced reading.old }
+    requires stands { (s : R.State) × R.Stands responder.old reading.old.number s }
     requires piece { length piece.old ≡ 65536 }
     requires unended { NoFeed (tail_of reading.old) }
     requires short { 0 < length (tail_of reading.old)
         → is_long reading.old.number reading.old.start (line_of (tail_of reading.old) 0) ≡ false }
-    ensures goes { OnOk result (GoesOn R.Takes (R.Stands responder.old) (R.Stands responder.new)
+    ensures goes { OnOk result (GoesOn R.Takes (R.Stands responder.old reading.old.number)
+        (R.Stands responder.new reading.new.number)
         (S.left source.old) (S.left source.new) (K.written sink.old) (K.written sink.new) reading.old reading.new) }
+    ensures stands { OnOk result ((s : R.State) × R.Stands responder.new reading.new.number s) }
     ensures placed { OnOk result (IsPlaced reading.new) }
     ensures less { OnOk result (turns_left reading.new + 1 ≤ turns_left reading.old) }
-    ensures ended { IfErr result (λ o. EndsSo R.Takes R.Ends R.Finishes R.Fails (R.Stands responder.old)
+    ensures ended { IfErr result (λ o. EndsSo R.Takes R.Ends R.Finishes R.Fails (R.Stands responder.old reading.old.number)
         (S.left source.old) (S.left source.new) (K.written sink.old) (K.written sink.new) reading.old o) }
-    ensures read_fault { result ≡ Err Outcome.ReadFault
+    ensures read_fault { result ≡ Err RunEnd.ReadFault
         → Rose (S.faults source.old) (S.faults source.new) }
-    ensures write_fault { result ≡ Err Outcome.WriteFault
+    ensures write_fault { result ≡ Err RunEnd.WriteFault
         → Rose (K.faults sink.old) (K.faults sink.new) }
     ensures read_later { S.faults source.old ≤ S.faults source.new }
     ensures later { K.faults sink.old ≤ K.faults sink.new }
 {
     let Ok(count) = source.read(piece) else {
-        return Err(Outcome::ReadFault);
+        return Err(RunEnd::ReadFault);
     };
     if count == 0 {
         return Err(finish(alloc, responder, reading, sink));
     }
     match keep_more(alloc, reading, &piece[..count]) {
         Ok(()) => Ok(()),
-        Err(_) => Err(Outcome::NoMemory),
+        Err(_) => Err(RunEnd::NoMemory),
     }
 }
 
@@ -60,19 +63,22 @@ fn read_more<R: Responder, S: Source, K: Sink>(
     piece: &mut [u8],
     reading: &mut Reading,
     sink: &mut K,
-) -> Result<(), Outcome<R::Ending>>
+) -> Result<(), RunEnd<R::Ending>>
     requires place { IsPlaced reading.old }
+    requires stands { (s : R.State) × R.Stands responder.old reading.old.number s }
     requires piece { length piece.old ≡ 65536 }
     requires unended { NoFeed (tail_of reading.old) }
-    ensures goes { OnOk result (GoesOn R.Takes (R.Stands responder.old) (R.Stands responder.new)
+    ensures goes { OnOk result (GoesOn R.Takes (R.Stands responder.old reading.old.number)
+        (R.Stands responder.new reading.new.number)
         (S.left source.old) (S.left source.new) (K.written sink.old) (K.written sink.new) reading.old reading.new) }
+    ensures stands { OnOk result ((s : R.State) × R.Stands responder.new reading.new.number s) }
     ensures placed { OnOk result (IsPlaced reading.new) }
     ensures less { OnOk result (turns_left reading.new + 1 ≤ turns_left reading.old) }
-    ensures ended { IfErr result (λ o. EndsSo R.Takes R.Ends R.Finishes R.Fails (R.Stands responder.old)
+    ensures ended { IfErr result (λ o. EndsSo R.Takes R.Ends R.Finishes R.Fails (R.Stands responder.old reading.old.number)
         (S.left source.old) (S.left source.new) (K.written sink.old) (K.written sink.new) reading.old o) }
-    ensures read_fault { result ≡ Err Outcome.ReadFault
+    ensures read_fault { result ≡ Err RunEnd.ReadFault
         → Rose (S.faults source.old) (S.faults source.new) }
-    ensures write_fault { result ≡ Err Outcome.WriteFault
+    ensures write_fault { result ≡ Err RunEnd.WriteFault
         → Rose (K.faults sink.old) (K.faults sink.new) }
     ensures read_later { S.faults source.old ≤ S.faults source.new }
     ensures later { K.faults sink.old ≤ K.faults sink.new }
@@ -91,18 +97,21 @@ fn turn<R: Responder, S: Source, K: Sink>(
     piece: &mut [u8],
     reading: &mut Reading,
     sink: &mut K,
-) -> Result<(), Outcome<R::Ending>>
+) -> Result<(), RunEnd<R::Ending>>
     requires place { IsPlaced reading.old }
+    requires stands { (s : R.State) × R.Stands responder.old reading.old.number s }
     requires piece { length piece.old ≡ 65536 }
-    ensures goes { OnOk result (GoesOn R.Takes (R.Stands responder.old) (R.Stands responder.new)
+    ensures goes { OnOk result (GoesOn R.Takes (R.Stands responder.old reading.old.number)
+        (R.Stands responder.new reading.new.number)
         (S.left source.old) (S.left source.new) (K.written sink.old) (K.written sink.new) reading.old reading.new) }
+    ensures stands { OnOk result ((s : R.State) × R.Stands responder.new reading.new.number s) }
     ensures placed { OnOk result (IsPlaced reading.new) }
     ensures less { OnOk result (turns_left reading.new + 1 ≤ turns_left reading.old) }
-    ensures ended { IfErr result (λ o. EndsSo R.Takes R.Ends R.Finishes R.Fails (R.Stands responder.old)
+    ensures ended { IfErr result (λ o. EndsSo R.Takes R.Ends R.Finishes R.Fails (R.Stands responder.old reading.old.number)
         (S.left source.old) (S.left source.new) (K.written sink.old) (K.written sink.new) reading.old o) }
-    ensures read_fault { result ≡ Err Outcome.ReadFault
+    ensures read_fault { result ≡ Err RunEnd.ReadFault
         → Rose (S.faults source.old) (S.faults source.new) }
-    ensures write_fault { result ≡ Err Outcome.WriteFault
+    ensures write_fault { result ≡ Err RunEnd.WriteFault
         → Rose (K.faults sink.old) (K.faults sink.new) }
     ensures read_later { S.faults source.old ≤ S.faults source.new }
     ensures later { K.faults sink.old ≤ K.faults sink.new }
@@ -119,17 +128,18 @@ pub fn answer_lines<R: Responder, S: Source, K: Sink>(
     responder: &mut R,
     source: &mut S,
     sink: &mut K,
-) -> Outcome<R::Ending>
-    ensures told { (first : R.State) → R.Stands responder.old first
+) -> RunEnd<R::Ending>
+    requires stands { (first : R.State) × R.Stands responder.old 1 first }
+    ensures told { (first : R.State) → R.Stands responder.old 1 first
         → IsTold R.Takes R.Ends R.Finishes R.Fails first (S.left source.old) (K.written sink.old)
         (S.left source.new) (K.written sink.new) result }
-    ensures read_fault { result ≡ Outcome.ReadFault
+    ensures read_fault { result ≡ RunEnd.ReadFault
         → Rose (S.faults source.old) (S.faults source.new) }
-    ensures write_fault { result ≡ Outcome.WriteFault
+    ensures write_fault { result ≡ RunEnd.WriteFault
         → Rose (K.faults sink.old) (K.faults sink.new) }
 {
     let Ok(mut piece) = vec![in alloc; 0u8; 65_536] else {
-        return Outcome::NoMemory;
+        return RunEnd::NoMemory;
     };
     let mut reading = Reading {
         pending: Vec::new(alloc),

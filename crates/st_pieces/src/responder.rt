@@ -1,12 +1,12 @@
 //! What answers the lines of an input.
-ghost use Rattle.std.specs.Prelude.{ℕ, List, ◌<◌, ◌-◌, take, IfOk};
+ghost use Rattle.std.specs.Prelude.{ℕ, List, ◌+◌, ◌≤◌, IfOk};
 ghost use Rattle.st_pieces.specs.Told.{IsReply, IsEnd};
 
 use std::alloc::{AllocError, Global};
 
 /// How a run ends.
 #[derive(Clone, Copy)]
-pub enum Outcome<E> {
+pub enum RunEnd<E> {
     /// The input was read to its end, and every line is answered.
     Done,
     /// The line at which the responder ended the run, counted from 1, and why.
@@ -35,11 +35,11 @@ pub trait Responder {
     /// Why it ends a run.
     type Ending: Copy;
 
-    /// What it may stand for, and what stands for which. What follows is said of each state that it
-    /// stands for.
+    /// What it may stand for, and what stands for which before the line of a number. What follows is
+    /// said of each state that it stands for.
     ghost State: { Type 0 };
 
-    ghost Stands: { Self → State → Type 0 };
+    ghost Stands: { Self → ℕ → State → Type 0 };
 
     /// The line of a number is answered, and the state is another.
     ghost Takes: { State → ℕ → List ℕ → List ℕ → State → Type 0 };
@@ -59,11 +59,14 @@ pub trait Responder {
         number: u32,
         line: &[u8],
     ) -> Result<Reply<Self::Ending>, AllocError>
-        ensures { IfOk result (λ r. (s : State) → Stands self.old s
-            → IsReply (Takes s number line.now) (Ends s number line.now) (Stands self.new) r) };
+        requires few { number ≤ 65536 }
+        requires stands { (s : State) × Stands self.old number s }
+        ensures { IfOk result (λ r. (s : State) → Stands self.old number s
+            → IsReply (Takes s number line.now) (Ends s number line.now) (Stands self.new (number + 1)) r) };
 
     /// Answers the end of the input.
     fn end(&mut self, alloc: Global, number: u32) -> Result<Reply<Self::Ending>, AllocError>
-        ensures { IfOk result (λ r. (s : State) → Stands self.old s
+        requires stands { (s : State) × Stands self.old number s }
+        ensures { IfOk result (λ r. (s : State) → Stands self.old number s
             → IsEnd (Finishes s number) (Fails s number) r) };
 }

@@ -5,7 +5,7 @@ ghost use Rattle.st_io.specs.Bytes.{Appends};
 ghost use Rattle.st_io.specs.Counts.{Rose, HasCause};
 ghost use Rattle.st_pieces.specs.Told.{AppendsPrefix, long_line};
 
-use crate::responder::{Outcome, Reply};
+use crate::responder::{Reply, RunEnd};
 use st_io::{Failed, Sink};
 use std::alloc::{AllocError, Global};
 
@@ -31,17 +31,17 @@ fn long_line(alloc: Global, number: u32) -> Result<String, AllocError>
 }
 
 /// Says that a line is too long.
-pub fn send_long<E, K: Sink>(alloc: Global, number: u32, sink: &mut K) -> Outcome<E>
+pub fn send_long<E, K: Sink>(alloc: Global, number: u32, sink: &mut K) -> RunEnd<E>
     ensures told { IsLongSent number (K.written sink.old) (K.written sink.new) result }
-    ensures fault { result ≡ Outcome.WriteFault → Rose (K.faults sink.old) (K.faults sink.new) }
+    ensures fault { result ≡ RunEnd.WriteFault → Rose (K.faults sink.old) (K.faults sink.new) }
     ensures later { K.faults sink.old ≤ K.faults sink.new }
 {
     let Ok(line) = long_line(alloc, number) else {
-        return Outcome::NoMemory;
+        return RunEnd::NoMemory;
     };
     match write_all(sink, line.as_str().as_bytes()) {
-        Ok(()) => Outcome::TooLong(number),
-        Err(_) => Outcome::WriteFault,
+        Ok(()) => RunEnd::TooLong(number),
+        Err(_) => RunEnd::WriteFault,
     }
 }
 
@@ -50,22 +50,22 @@ pub fn send_reply<E: Copy, K: Sink>(
     reply: &Reply<E>,
     number: u32,
     sink: &mut K,
-) -> Result<(), Outcome<E>>
+) -> Result<(), RunEnd<E>>
     ensures goes { OnOk result (IsSent reply.now (K.written sink.old) (K.written sink.new)) }
     ensures ended { IfErr result (λ o.
         IsReplyEnd reply.now number (K.written sink.old) (K.written sink.new) o) }
-    ensures unread { result ≢ Err Outcome.ReadFault }
-    ensures fault { result ≡ Err Outcome.WriteFault → Rose (K.faults sink.old) (K.faults sink.new) }
+    ensures unread { result ≢ Err RunEnd.ReadFault }
+    ensures fault { result ≡ Err RunEnd.WriteFault → Rose (K.faults sink.old) (K.faults sink.new) }
     ensures later { K.faults sink.old ≤ K.faults sink.new }
 {
     match reply {
         Reply::Goes(text) => match write_all(sink, text.as_slice()) {
             Ok(()) => Ok(()),
-            Err(_) => Err(Outcome::WriteFault),
+            Err(_) => Err(RunEnd::WriteFault),
         },
         Reply::Ends(text, ending) => match write_all(sink, text.as_slice()) {
-            Ok(()) => Err(Outcome::Bad(number, *ending)),
-            Err(_) => Err(Outcome::WriteFault),
+            Ok(()) => Err(RunEnd::Bad(number, *ending)),
+            Err(_) => Err(RunEnd::WriteFault),
         },
     }
 }

@@ -1,6 +1,6 @@
 //! Inputs at the limits, and past them.
 use st_io::{MemSink, MemSource};
-use st_pieces::{Echo, Outcome, answer_lines};
+use st_pieces::{Echo, RunEnd, answer_lines};
 use std::alloc::{AllocError, Global};
 use std::test::Fail;
 
@@ -11,7 +11,7 @@ fn is_whole(alloc: Global, input: Vec<u8>) -> Result<bool, AllocError> {
     let mut sink = MemSink::new(alloc, 1 << 20, Vec::new(alloc));
     let mut echo = Echo;
     let outcome = answer_lines(alloc, &mut echo, &mut source, &mut sink);
-    Ok(matches!(outcome, Outcome::Done) && sink.bytes().len() == size)
+    Ok(matches!(outcome, RunEnd::Done) && sink.bytes().len() == size)
 }
 
 // Whether a run over some bytes ends at a line that is too long, after so many bytes, and says so.
@@ -27,7 +27,7 @@ fn is_long(
     let mut echo = Echo;
     let outcome = answer_lines(alloc, &mut echo, &mut source, &mut sink);
     Ok(
-        matches!(outcome, Outcome::TooLong(n) if n == number)
+        matches!(outcome, RunEnd::TooLong(n) if n == number)
             && sink.bytes().get(before..) == Some(last.as_bytes()),
     )
 }

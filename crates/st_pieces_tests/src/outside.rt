@@ -2,7 +2,7 @@
 ghost use Rattle.std.specs.Prelude.{◌<◌};
 
 use st_io::{MemSink, MemSource};
-use st_pieces::{Echo, Outcome, answer_lines};
+use st_pieces::{Echo, RunEnd, answer_lines};
 use std::alloc::{AllocError, Global};
 use std::test::Fail;
 
@@ -14,7 +14,7 @@ fn is_echoed(alloc: Global, input: &str, most: usize, written: &str) -> Result<b
     let mut sink = MemSink::new(alloc, most, Vec::new(alloc));
     let mut echo = Echo;
     let outcome = answer_lines(alloc, &mut echo, &mut source, &mut sink);
-    Ok(matches!(outcome, Outcome::Done) && sink.bytes() == written.as_bytes())
+    Ok(matches!(outcome, RunEnd::Done) && sink.bytes() == written.as_bytes())
 }
 
 fn read_fails(alloc: Global) -> Result<bool, AllocError> {
@@ -22,7 +22,7 @@ fn read_fails(alloc: Global) -> Result<bool, AllocError> {
     let mut sink = MemSink::new(alloc, 9, Vec::new(alloc));
     let mut echo = Echo;
     let outcome = answer_lines(alloc, &mut echo, &mut source, &mut sink);
-    Ok(matches!(outcome, Outcome::ReadFault) && sink.bytes().is_empty())
+    Ok(matches!(outcome, RunEnd::ReadFault) && sink.bytes().is_empty())
 }
 
 // The second read, which would find the end of the input, fails when the first line is answered.
@@ -31,7 +31,7 @@ fn later_read_fails(alloc: Global) -> Result<bool, AllocError> {
     let mut sink = MemSink::new(alloc, 9, Vec::new(alloc));
     let mut echo = Echo;
     let outcome = answer_lines(alloc, &mut echo, &mut source, &mut sink);
-    Ok(matches!(outcome, Outcome::ReadFault) && sink.bytes() == b"a\n".as_slice())
+    Ok(matches!(outcome, RunEnd::ReadFault) && sink.bytes() == b"a\n".as_slice())
 }
 
 fn write_fails(alloc: Global) -> Result<bool, AllocError> {
@@ -39,7 +39,7 @@ fn write_fails(alloc: Global) -> Result<bool, AllocError> {
     let mut sink = MemSink::new(alloc, 1, vec![in alloc; 5]?);
     let mut echo = Echo;
     let outcome = answer_lines(alloc, &mut echo, &mut source, &mut sink);
-    Ok(matches!(outcome, Outcome::WriteFault) && sink.bytes() == b"ab\nc".as_slice())
+    Ok(matches!(outcome, RunEnd::WriteFault) && sink.bytes() == b"ab\nc".as_slice())
 }
 
 #[test]

@@ -20,6 +20,7 @@ pub mod Pendings
 pub mod Refusing
 pub mod Returning
 pub mod Showing
+pub mod Standing
 pub mod Stepping
 pub mod Undoing
 pub mod Undone

@@ -1,2 +1,3 @@
 pub mod Replicas
+pub mod Stands
 pub mod inside

@@ -1,12 +1,12 @@
 //! The world: its lists, and the documents and numbers that its answers are read off.
-ghost use Rattle.std.specs.Prelude.{◌≡◌, ◌≢◌, ◌↔◌, ◌+◌, ◌-◌, ◌^◌, ◌<◌, ◌≤◌, ◌++◌, ◌∷◌, ◌&&◌, not, true, false, is_some, length, [], None, Some, slice_get, IfOk, IfSome, OnOk, IsErrOf};
+ghost use Rattle.std.specs.Prelude.{ℕ, ◌≡◌, ◌≢◌, ◌↔◌, ◌+◌, ◌-◌, ◌^◌, ◌<◌, ◌≤◌, ◌++◌, ◌∷◌, ◌&&◌, not, true, false, is_some, length, [], None, Some, slice_get, IfOk, IfSome, OnOk, IsErrOf};
 ghost use Rattle.serde_json.specs.Written.{compact_text};
 ghost use Rattle.st_ids.specs.Root.{opening};
 ghost use Rattle.st_schema.specs.Written.{schema_data};
 ghost use Rattle.st_marks.specs.Document.{IsSoundInForm};
 ghost use Rattle.st_marks.specs.Intent.{Fits};
 ghost use Rattle.st_doc.specs.Doc.{document_of};
-ghost use Rattle.st_script.specs.Header.{header_view, may_open};
+ghost use Rattle.st_script.specs.Header.{HeaderView, header_view};
 ghost use Rattle.st_script.specs.Steps.{act_view, step_view, IsActWithin, IsWithinLimits};
 ghost use Rattle.st_lists.specs.Clients.{empty_state, place_of};
 ghost use Rattle.st_world.specs.World.{opening_document, limit_refusal, join, sequence, act_of_none, branch_at, needs_connection, IsDelivered, IsShown, IsActOf, IsNext, AtRefusal, ShowsAllowed};
@@ -16,10 +16,12 @@ ghost use Rattle.st_lists.specs.Limits.{log_limit_passed};
 ghost use Rattle.st_plain_schemas.specs.Schemas.{HasReading};
 ghost use Rattle.st_world_laws.specs.Worlds.{IsHeader};
 ghost use Rattle.st_plain.specs.Replicas.{IsSound};
+ghost use Rattle.st_plain.specs.Stands.{IsSpent, MayStep, Stands};
 ghost use Rattle.st_plain.specs.inside.Replicas.{HasLogged, IsSoundNext};
 ghost use Rattle.st_lists.specs.Known.{AreConnected, AreKnown};
 ghost use Rattle.st_lists.specs.Log.{commit_in, log_with, minimum};
 ghost use Rattle.st_lists.specs.declared.lists.Client.{Client as Present};
+ghost use Rattle.st_lists.specs.declared.lists.WorldState.{WorldState as Lists};
 
 use st_doc::Doc;
 use st_heads::{Replica, carry_one};
@@ -49,18 +51,18 @@ const MOST_NAMES: u64 = 131_072;
 /// and how many sessions it has given. `spent` is set after want of memory, and `steps` counts the steps.
 #[derive(Drop)]
 pub struct World {
-    pub header: Header,
-    pub schemas: BTreeMap<Rev, KnownSchema>,
-    pub log_document: Doc,
-    pub lists: WorldState,
-    pub kept: List<Replica>,
-    pub known: BTreeMap<u32, u32>,
-    pub minima: List<u32>,
-    pub logged: BTreeMap<Rev, Logged>,
-    pub names: u64,
-    pub sessions: u32,
-    pub steps: u32,
-    pub spent: bool,
+    pub(crate) header: Header,
+    pub(crate) schemas: BTreeMap<Rev, KnownSchema>,
+    pub(crate) log_document: Doc,
+    pub(crate) lists: WorldState,
+    pub(crate) kept: List<Replica>,
+    pub(crate) known: BTreeMap<u32, u32>,
+    pub(crate) minima: List<u32>,
+    pub(crate) logged: BTreeMap<Rev, Logged>,
+    pub(crate) names: u64,
+    pub(crate) sessions: u32,
+    pub(crate) steps: u32,
+    pub(crate) spent: bool,
 }
 
 /// The world found no memory before, and makes no more steps.
@@ -172,10 +174,7 @@ impl World {
     /// The world that opens with a header, before any client joins.
     pub fn new(alloc: Global, header: Header) -> Result<World, AllocError>
         requires { IsHeader (header_view header) }
-        ensures lists { IfOk result (λ w. w.lists ≡ empty_state) }
-        ensures header { IfOk result (λ w. w.header ≡ header) }
-        ensures sound { IfOk result IsSound }
-        ensures fresh { IfOk result (λ w. (w.spent ≡ false) × (w.steps ≡ 0)) }
+        ensures stands { IfOk result (λ w. Stands 0 w (header_view header) empty_state) }
     {
         let (schemas, log_document) = read_off(alloc, &header)?;
         Ok(World::begin(alloc, header, schemas, log_document))
@@ -621,11 +620,10 @@ impl World {
         Ok(answer)
     }
 
-    /// Makes a step. A refused step changes nothing but the count of steps. After want of memory the world is spent, and
-    /// answers `Spent` from then on, and at no other time.
-    pub fn step(&mut self, alloc: Global, step: &TraceStep) -> Result<Answer, Or<Spent>>
+    // Makes a step, as it shows in what is kept.
+    fn make_step(&mut self, alloc: Global, step: &TraceStep) -> Result<Answer, Or<Spent>>
         requires sound { self.old.spent ≡ false → IsSound self.old }
-        requires few { self.old.steps + 1 < 2 ^ 32 }
+        requires few { self.old.spent ≡ false → self.old.steps + 1 < 2 ^ 32 }
         requires form { IsWithinLimits (step_view step.now) }
         ensures next { IfOk result (λ a. IsNext (header_view self.old.header) self.old.lists (step_view step.now) self.new.lists a) }
         ensures sound { OnOk result (IsSound self.new) }
@@ -646,5 +644,22 @@ impl World {
         self.spent = false;
         self.steps += 1;
         Ok(answer)
+    }
+    /// Makes a step. After a refused step the world stands for the same lists. After want of memory it is spent, and answers
+    /// `Spent` from then on, and at no other time.
+    pub fn step(&mut self, alloc: Global, step: &TraceStep) -> Result<Answer, Or<Spent>>
+        requires may { MayStep self.old }
+        requires form { IsWithinLimits (step_view step.now) }
+        ensures next { IfOk result (λ a. (k : ℕ) (h : HeaderView) (w : Lists) → Stands k self.old h w
+            → (v : Lists) × IsNext h w (step_view step.now) v a × Stands (k + 1) self.new h v) }
+        ensures refused { IfOk result (λ a. AtRefusal a ((k : ℕ) (h : HeaderView) (w : Lists)
+            → Stands k self.old h w → Stands (k + 1) self.new h w)) }
+        ensures allowed { IfOk result (λ a. (k : ℕ) (h : HeaderView) (w : Lists)
+            → Stands k self.old h w → ShowsAllowed h w (step_view step.now) a) }
+        ensures spent { IsErrOf result (Or.Fault (record {})) ↔ IsSpent self.old }
+        ensures stays { IsErrOf result (Or.Fault (record {})) → self.new ≡ self.old }
+        ensures no_memory { IsErrOf result Or.NoMemory → IsSpent self.new }
+    {
+        self.make_step(alloc, step)
     }
 }

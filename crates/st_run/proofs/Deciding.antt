@@ -1,30 +1,35 @@
 -- Each input has its answers: some output is told of it in which nothing failed.
-use Rattle.std.proofs.Common.{◌≡◌, ℕ, ◌+◌, nat_lt, Bool, true, false, List, [], ◌∷◌, ◌++◌, length, Option, Some, None, Result, Ok, Err, codes, slice_get, refl, inr}
+use Rattle.std.proofs.Common.{◌≡◌, ◌⊎◌, ℕ, ◌+◌, Bool, true, false, List, [], ◌∷◌, ◌++◌, length, Option, Some, None, Result, Ok, Err, codes, refl, inl, inr}
 use Rattle.st_json.specs.declared.fault.BadCause.{BadCause}
-use Rattle.st_json.specs.declared.fault.BadCause.TheVariants.{Header}
-use Rattle.st_compat.specs.SchemaLine.{further_cause}
+use Rattle.st_json.specs.declared.fault.BadCause.TheVariants.{Header, Shape}
+use Rattle.st_compat.specs.Compared.{IsCompared}
+use Rattle.st_compat.specs.RelationText.{relation_line}
+use Rattle.st_compat.specs.SchemaLine.{IsSchemaLine, further_cause}
 use Rattle.st_compat.specs.declared.compare.BadSchema.{BadSchema}
 use Rattle.st_compat.specs.declared.compare.BadSchema.TheVariants.{Stored, View}
-use Rattle.st_compat.proofs.Deciding.{are_compared}
+use Rattle.st_compat.proofs.Deciding.{are_compared, has_relation}
+use Rattle.st_schema.specs.Schema.{SchemaView, is_sound}
 use Rattle.st_script.specs.AnswerText.{answer_line}
 use Rattle.st_script.specs.Header.{HeaderView, header_line}
 use Rattle.st_script.specs.Line.{step_of_line}
-use Rattle.st_script.specs.Steps.{StepView}
+use Rattle.st_script.specs.Steps.{ActView, StepView}
+use Rattle.st_script.specs.Steps as step
+use Rattle.st_script.specs.StepText.{FitsAct}
 use Rattle.st_script.specs.declared.answer.Answer.TheVariants as answer
+use Rattle.st_script.proofs.Fits.{line_fits}
 use Rattle.st_script.proofs.OfForm.{header_line_kept}
 use Rattle.st_lists.specs.Clients.{empty_state}
-use Rattle.st_lists.specs.declared.lists.WorldState.{WorldState}
-use Rattle.st_world_laws.specs.Worlds.{IsWorld}
+use Rattle.st_world_laws.specs.Worlds.{IsWorld, KeepsRules}
 use Rattle.st_world_laws.proofs.Going.{begun_sound}
-use Rattle.st_world_laws.specs.Worlds.{KeepsRules}
 use Rattle.st_world_laws.proofs.Leading.{leads_on}
-use Rattle.st_script.proofs.Fits.{line_fits}
-use Rattle.st_script.specs.StepText.{FitsAct}
-use Rattle.st_script.specs.Steps.{ActView}
-use Rattle.st_script.specs.Steps as step
 use Rattle.st_world_laws.proofs.LeadingBranches.{all_lead}
-use Rattle.st_answers.specs.Answers.{Answers, AnswersBy, AnswersFrom, AnswersLine, AnswersLines, AnswersOpening, AnswersTrace, AnswersThird, AnswersCompared, AnswersCompat, IsAnswered, IsAnsweredAs, NothingFailed, OrCutShort, Output, bad_line, before, command_of, long_line, long_output, max_input, usage_output}
-use Rattle.st_answers.specs.Lines.{cut}
+use Rattle.st_pieces.specs.Lines.{Line, cut, is_long}
+use Rattle.st_answers.specs.Answers.{Answers, AnswersFrom, AnswersLine}
+use Rattle.st_answers.specs.Compat.{CompatState, TakesCompat, compat, related, stored, unread}
+use Rattle.st_answers.specs.Endings.{Output, bad_line, before, ended, long_output, usage_output}
+use Rattle.st_answers.specs.Meaning.{Meaning}
+use Rattle.st_answers.specs.Run.{IsAnswered, IsAnsweredAs, NothingFailed, command_of}
+use Rattle.st_answers.specs.Trace.{TakesTrace, TraceState, opened, trace, unopened}
 use Rattle.st_answers.specs.declared.command.Command.{Command}
 use Rattle.st_answers.specs.declared.command.Command.TheVariants.{Trace, Compat}
 use Rattle.st_answers.specs.declared.outcome.Outcome.{Outcome}
@@ -52,6 +57,42 @@ end_unfailed NoMemory h = h
 abbrev Whole : (Output → Type 0) → Type 0
 Whole Wanted = (out : Output) × Wanted out × IsEnd out.outcome
 
+-- ## Any command
+
+-- from a state of which something holds each line is answered and leads to such a state, or is bad, and the input may end
+-- or lacks a line
+record GoesOn (m : Meaning) (Holds : m.State → Type 0) : Type 0 where
+  takes : (s : m.State) (n : ℕ) (line : List ℕ) → Holds s → ((told : List ℕ) × (v : m.State) × m.Takes s n line told v × Holds v) ⊎ ((c : BadCause) × m.IsBad s line c)
+  ends : (s : m.State) → Holds s → ((last : List ℕ) × m.Finishes s last) ⊎ ((c : BadCause) × m.Lacks s c)
+
+module _ (m : Meaning) (Holds : m.State → Type 0) (on : GoesOn m Holds) where
+  end_has : (s : m.State) (n : ℕ) → Holds s → Whole (AnswersFrom m s n 0 [])
+  end_has s n h = by (on.ends s h)
+    where
+      by : ((last : List ℕ) × m.Finishes s last) ⊎ ((c : BadCause) × m.Lacks s c) → Whole (AnswersFrom m s n 0 [])
+      by (inl (last, f)) = (ended last, inr (inl (last, f, refl)), tt)
+      by (inr (c, lacks)) = (bad_line n c, inr (inr (c, lacks, refl)), tt)
+
+  line_has : (s : m.State) (n : ℕ) (line : List ℕ) (long : Bool) (Rest : m.State → Output → Type 0) → Holds s → ((v : m.State) → Holds v → Whole (Rest v)) → Whole (AnswersLine m long s n line Rest)
+  line_has s n line true Rest h rest = (long_output n, refl, tt)
+  line_has s n line false Rest h rest = by (on.takes s n line h)
+    where
+      by : ((told : List ℕ) × (v : m.State) × m.Takes s n line told v × Holds v) ⊎ ((c : BadCause) × m.IsBad s line c) → Whole (AnswersLine m false s n line Rest)
+      by (inl (told, v, takes, holds)) = let t = rest v holds in (before told t.0, inl (record { told = told; state = v; rest = t.0; takes = takes; follows = t.1; whole = refl }), t.2)
+      by (inr (c, is)) = (bad_line n c, inr (record { cause = c; is = is; whole = refl }), tt)
+
+  lines_have : (ls : List Line) (s : m.State) (n start : ℕ) → Holds s → Whole (AnswersFrom m s n start ls)
+  lines_have [] s n start h = end_has s n h
+  lines_have (l ∷ ls) s n start h =
+      let t = line_has s n l.bytes (is_long n start l) (λ v. AnswersFrom m v (n + 1) (start + length l.bytes + l.feed) ls) h (λ v holds. lines_have ls v (n + 1) (start + length l.bytes + l.feed) holds) in
+      (t.0, inr t.1, t.2)
+
+-- ## A trace
+
+abbrev IsWorldIn : TraceState → Type 0
+IsWorldIn unopened = Unit {0}
+IsWorldIn (opened h w) = IsWorld h w
+
 -- the schema of a step that a line holds keeps the rules
 fits_rules : (branch : ℕ) (x : ActView) → FitsAct branch x → KeepsRules x
 fits_rules branch step.join h = tt
@@ -75,57 +116,67 @@ fits_rules branch step.reconnect h = tt
 fits_rules branch step.show h = tt
 fits_rules branch step.pending h = tt
 
--- one line, and what follows it from lists of which holds what steps keep
-line_has : (h : HeaderView) (n : ℕ) (r : Result StepView BadCause) (w : WorldState) (Rest : WorldState → Output → Type 0) → IsWorld h w → ((x : StepView) → r ≡ Ok x → KeepsRules x.act)
-    → ((v : WorldState) → IsWorld h v → Whole (Rest v)) → Whole (OrCutShort (AnswersLine h n r w Rest))
-line_has h n (Err c) w Rest s keeps rest = (bad_line n c, inr refl, tt)
-line_has h n (Ok x) w Rest s keeps rest =
-    let r = leads_on h w s (all_lead h w s) x in
-    let t = rest r.0 (r.3 (keeps x refl)) in
-    (before (answer_line r.1) t.0, inr (record { world = r.0; answer = r.1; rest = t.0; next = r.2; follows = t.1; whole = refl }), t.2)
-
-lines_have : (h : HeaderView) (ls : List (List ℕ)) (w : WorldState) (n : ℕ) → IsWorld h w → Whole (AnswersFrom h w n ls)
-lines_have h [] w n s = (record { bytes = []; outcome = Done }, inr refl, tt)
-lines_have h (l ∷ ls) w n s = line_has h n (step_of_line l) w (λ v. AnswersFrom h v (n + 1) ls) s (λ x is. fits_rules x.branch x.act (line_fits l x is).1) (λ v t. lines_have h ls v (n + 1) t)
-
-trace_has : (ls : List (List ℕ)) → Whole (AnswersTrace ls)
-trace_has [] = (bad_line 1 Header, inr refl, tt)
-trace_has (l ∷ ls) = opening (header_line (codes "trace") l) refl
+trace_takes : (s : TraceState) (n : ℕ) (line : List ℕ) → IsWorldIn s
+    → ((told : List ℕ) × (v : TraceState) × TakesTrace s n line told v × IsWorldIn v) ⊎ ((c : BadCause) × trace.IsBad s line c)
+trace_takes unopened n line holds = by (header_line (codes "trace") line) refl
   where
-    opening : (r : Result HeaderView BadCause) → header_line (codes "trace") l ≡ r → Whole (OrCutShort (AnswersOpening r (λ h. AnswersFrom h empty_state 2 ls)))
-    opening (Err c) e = (bad_line 1 c, inr refl, tt)
-    opening (Ok h) e =
-        let kept = header_line_kept (codes "trace") l h e in
-        let t = lines_have h ls empty_state 2 (begun_sound h (record { schema = kept.0; tree = kept.1 })) in
-        (before (answer_line answer.Header) t.0, inr (record { rest = t.0; follows = t.1; whole = refl }), t.2)
+    by : (r : Result HeaderView BadCause) → header_line (codes "trace") line ≡ r → ((told : List ℕ) × (v : TraceState) × TakesTrace unopened n line told v × IsWorldIn v) ⊎ ((c : BadCause) × trace.IsBad unopened line c)
+    by (Err c) e = inr (c, e)
+    by (Ok h) e =
+        let kept = header_line_kept (codes "trace") line h e in
+        inl (answer_line answer.Header, opened h empty_state, record { header = h; is = e; told = refl; state = refl }, begun_sound h (record { schema = kept.0; tree = kept.1 }))
+trace_takes (opened h w) n line holds = by (step_of_line line) refl
+  where
+    by : (r : Result StepView BadCause) → step_of_line line ≡ r → ((told : List ℕ) × (v : TraceState) × TakesTrace (opened h w) n line told v × IsWorldIn v) ⊎ ((c : BadCause) × trace.IsBad (opened h w) line c)
+    by (Err c) e = inr (c, e)
+    by (Ok x) e =
+        let r = leads_on h w holds (all_lead h w holds) x in
+        inl (answer_line r.1, opened h r.0, record { step = x; answer = r.1; world = r.0; is = e; next = r.2; told = refl; state = refl }, r.3 (fits_rules x.branch x.act (line_fits line x e).1))
 
-third_has : (third : Option (List ℕ)) → Whole (AnswersThird third)
-third_has None = (record { bytes = []; outcome = Done }, refl, tt)
-third_has (Some l) = (bad_line 3 (further_cause l), refl, tt)
+trace_ends : (s : TraceState) → IsWorldIn s → ((last : List ℕ) × trace.Finishes s last) ⊎ ((c : BadCause) × trace.Lacks s c)
+trace_ends unopened holds = inr (Header, refl)
+trace_ends (opened h w) holds = inl ([], refl)
 
-compared_has : (r : Result (List ℕ) BadSchema) (third : Option (List ℕ)) → Whole (AnswersCompared r third)
-compared_has (Err (Stored c)) third = (bad_line 1 c, refl, tt)
-compared_has (Err (View c)) third = (bad_line 2 c, refl, tt)
-compared_has (Ok line) third =
-    let t = third_has third in
-    (before line t.0, record { rest = t.0; follows = inr t.1; whole = refl }, t.2)
+-- ## Two schemas
 
-compat_has : (ls : List (List ℕ)) → Whole (AnswersCompat ls)
-compat_has ls =
-    let r = are_compared (slice_get ls 0) (slice_get ls 1) in
-    let t = compared_has r.0 (slice_get ls 2) in
-    (t.0, inr (record { compared = r.0; is = r.1; follows = t.1 }), t.2)
+abbrev IsSoundIn : CompatState → Type 0
+IsSoundIn unread = Unit {0}
+IsSoundIn (stored s) = is_sound s ≡ true
+IsSoundIn related = Unit {0}
 
-lines_of_command : (c : Command) (ls : List (List ℕ)) → Whole (AnswersLines c ls)
-lines_of_command Trace ls = trace_has ls
-lines_of_command Compat ls = compat_has ls
+-- a line is a schema, or fails a test
+line_decided : (line : List ℕ) → (r : Result SchemaView BadCause) × IsSchemaLine line r
+line_decided line = by (are_compared (Some line) None)
+  where
+    by : ((r : Result (List ℕ) BadSchema) × IsCompared (Some line) None r) → (r : Result SchemaView BadCause) × IsSchemaLine line r
+    by (Ok t, is) = (Ok is.s, is.of_stored)
+    by (Err (Stored c), is) = (Err c, is)
+    by (Err (View c), is) = (Ok is.0, is.1)
+
+compat_takes : (s : CompatState) (n : ℕ) (line : List ℕ) → IsSoundIn s
+    → ((told : List ℕ) × (v : CompatState) × TakesCompat s n line told v × IsSoundIn v) ⊎ ((c : BadCause) × compat.IsBad s line c)
+compat_takes unread n line holds = by (line_decided line)
+  where
+    by : ((r : Result SchemaView BadCause) × IsSchemaLine line r) → ((told : List ℕ) × (v : CompatState) × TakesCompat unread n line told v × IsSoundIn v) ⊎ ((c : BadCause) × compat.IsBad unread line c)
+    by (Err c, is) = inr (c, is)
+    by (Ok s, is) = inl ([], stored s, record { schema = s; is = is; told = refl; state = refl }, is.0)
+compat_takes (stored s) n line holds = by (line_decided line)
+  where
+    by : ((r : Result SchemaView BadCause) × IsSchemaLine line r) → ((told : List ℕ) × (v : CompatState) × TakesCompat (stored s) n line told v × IsSoundIn v) ⊎ ((c : BadCause) × compat.IsBad (stored s) line c)
+    by (Err c, is) = inr (c, is)
+    by (Ok v, is) = let r = has_relation s v holds is.0 in inl (relation_line r.0, related, record { view = v; relation = r.0; is = is; relates = r.1; told = refl; state = refl }, tt)
+compat_takes related n line holds = inr (further_cause line, refl)
+
+compat_ends : (s : CompatState) → IsSoundIn s → ((last : List ℕ) × compat.Finishes s last) ⊎ ((c : BadCause) × compat.Lacks s c)
+compat_ends unread holds = inr (Shape, refl)
+compat_ends (stored s) holds = inr (Shape, refl)
+compat_ends related holds = inl ([], refl)
+
+-- ## Each input
 
 bytes_have : (c : Command) (bytes : List ℕ) → Whole (Answers c bytes)
-bytes_have c bytes = by (nat_lt max_input (length bytes))
-  where
-    by : (over : Bool) → Whole (AnswersBy c over bytes)
-    by true = (long_output (long_line bytes), refl, tt)
-    by false = lines_of_command c (cut bytes)
+bytes_have Trace bytes = lines_have trace IsWorldIn (record { takes = trace_takes; ends = trace_ends }) (cut bytes) unopened 1 0 tt
+bytes_have Compat bytes = lines_have compat IsSoundIn (record { takes = compat_takes; ends = compat_ends }) (cut bytes) unread 1 0 tt
 
 pub has_answers : (c : Command) (bytes : List ℕ) → (out : Output) × Answers c bytes out × NothingFailed out.outcome
 has_answers c bytes = let t = bytes_have c bytes in (t.0, t.1, end_unfailed t.0.outcome t.2)

@@ -1,7 +1,4 @@
-pub mod Answering
-pub mod Fronts
-pub mod Appending
+pub mod Carrying
 pub mod Comparing
-pub mod LineSteps
-pub mod Outputs
 pub mod Deciding
+pub mod Tracing

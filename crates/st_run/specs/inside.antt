@@ -1,3 +1,4 @@
--- The words of loops and of private functions: no public contract reaches them.
-pub mod Answers
-pub mod Inputs
+-- The words of private functions: no public contract reaches them.
+pub mod Ends
+pub mod Replies
+pub mod Standing

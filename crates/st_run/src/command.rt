@@ -1,40 +1,39 @@
 //! A run, from its words and its input to its answers.
-ghost use Rattle.std.specs.Prelude.{◌≡◌, ◌+◌, ◌==◌, ◌<◌, ◌≤◌, ◌^◌, None, length, map, take, count_by, string_bytes, IfOk};
+ghost use Rattle.std.specs.Prelude.{◌≡◌, None, map, string_bytes, IfOk};
 ghost use Rattle.serde_json.specs.View.{view};
 ghost use Rattle.st_io.specs.Counts.{Rose};
-ghost use Rattle.st_answers.specs.Lines.{cut};
-ghost use Rattle.st_answers.specs.Answers.{command_named, command_of, usage_data, usage_output, max_input, long_line, long_data, long_output, AnswersLines, IsOutput, IsAnswered};
+ghost use Rattle.st_answers.specs.Endings.{usage_data, usage_output};
+ghost use Rattle.st_answers.specs.Run.{command_asked, command_of, IsCarriedOut, IsOutput, IsAnswered};
+ghost use Rattle.st_run.specs.inside.Ends.{outcome_of};
 
-use crate::compat::answer_schemas;
-use crate::send::write_all;
-use crate::take::{Input, read_all};
-use crate::trace::trace;
+use crate::compat::Comparing;
+use crate::trace::Tracing;
 use serde_json::{Value, json};
 use st_answers::{Command, Outcome};
 use st_io::{Sink, Source};
-use st_json::write_line;
+use st_json::{BadCause, write_line};
+use st_pieces::{RunEnd, answer_lines, write_all};
+use st_words::{Request, request_of};
 use std::alloc::{AllocError, Global};
 
-const MAX_INPUT: usize = 1 << 20;
-
-// The command of a name.
-fn command_named(word: &str) -> Option<Command>
-    ensures { result ≡ command_named word.now }
+// The command that is asked for, if the program has it.
+fn command_asked(request: Request) -> Option<Command>
+    ensures { result ≡ command_asked request }
 {
-    match word {
-        "trace" => Some(Command::Trace),
-        "compat" => Some(Command::Compat),
-        _ => None,
+    match request {
+        Request::Trace => Some(Command::Trace),
+        Request::Compat => Some(Command::Compat),
+        Request::Replay | Request::Algebra | Request::Work { .. } => None,
     }
 }
 
 // The command that the words are.
-fn command_of(words: &Vec<String>) -> Option<Command>
-    ensures { result ≡ command_of (map string_bytes words.now.items) }
+fn command_of(alloc: Global, words: &Vec<String>) -> Result<Option<Command>, AllocError>
+    ensures { IfOk result (λ c. c ≡ command_of (map string_bytes words.now.items)) }
 {
-    match words.as_slice() {
-        [word] => command_named(word.as_str()),
-        _ => None,
+    match request_of(alloc, words.as_slice())? {
+        Some(request) => Ok(command_asked(request)),
+        None => Ok(None),
     }
 }
 
@@ -42,12 +41,6 @@ fn usage_value(alloc: Global) -> Result<Value, AllocError>
     ensures { IfOk result (λ v. view v ≡ usage_data) }
 {
     json!(in alloc; {"usage": "trace | replay | algebra | compat | work --seed N --steps M"})
-}
-
-fn long_value(alloc: Global, number: u32) -> Result<Value, AllocError>
-    ensures { IfOk result (λ v. view v ≡ long_data number) }
-{
-    json!(in alloc; {"line": number, "too": "long"})
 }
 
 // Answers words that are no command.
@@ -67,53 +60,65 @@ fn send_usage<K: Sink>(alloc: Global, sink: &mut K) -> Outcome
     }
 }
 
-// How many line feeds there are.
-fn feeds(bytes: &[u8]) -> usize
-    ensures count { result ≡ count_by (λ b. b == 10) bytes.now }
-    ensures within { result ≤ length bytes.now }
+// The outcome of a run over lines.
+fn outcome_of(end: RunEnd<BadCause>) -> Outcome
+    ensures { result ≡ outcome_of end }
 {
-    bytes.iter().filter(|b| **b == b'\n').count()
-}
-
-// The line that holds the byte past the limit.
-fn long_line(bytes: &[u8]) -> u32
-    requires { max_input < length bytes.now }
-    ensures { result ≡ long_line bytes.now }
-{
-    feeds(&bytes[..MAX_INPUT]) as u32 + 1
-}
-
-// Answers an input that is too long.
-fn send_long<K: Sink>(alloc: Global, line: u32, sink: &mut K) -> Outcome
-    ensures output { IsOutput (K.written sink.old) (K.written sink.new) (λ out. out ≡ long_output line) result }
-    ensures fault { result ≡ Outcome.WriteFault → Rose (K.faults sink.old) (K.faults sink.new) }
-{
-    let Ok(value) = long_value(alloc, line) else {
-        return Outcome::NoMemory;
-    };
-    let Ok(text) = write_line(alloc, &value) else {
-        return Outcome::NoMemory;
-    };
-    match write_all(sink, text.as_str().as_bytes()) {
-        Ok(()) => Outcome::TooLong { line },
-        Err(_) => Outcome::WriteFault,
+    match end {
+        RunEnd::Done => Outcome::Done,
+        RunEnd::Bad(line, cause) => Outcome::BadLine { line, cause },
+        RunEnd::TooLong(line) => Outcome::TooLong { line },
+        RunEnd::ReadFault => Outcome::ReadFault,
+        RunEnd::WriteFault => Outcome::WriteFault,
+        RunEnd::NoMemory => Outcome::NoMemory,
     }
 }
 
-// Answers some bytes, which are all of the input.
-fn answer<K: Sink>(alloc: Global, command: Command, bytes: &[u8], sink: &mut K) -> Outcome
-    requires { length bytes.now < 2 ^ 24 }
-    ensures output { IsOutput (K.written sink.old) (K.written sink.new) (AnswersLines command (cut bytes.now)) result }
-    ensures fault { result ≡ Outcome.WriteFault → Rose (K.faults sink.old) (K.faults sink.new) }
+// Answers a trace.
+fn trace<S: Source, K: Sink>(alloc: Global, source: &mut S, sink: &mut K) -> RunEnd<BadCause>
+    ensures carried { IsCarriedOut Command.Trace (S.left source.old) (S.left source.new)
+        (K.written sink.old) (K.written sink.new) (outcome_of result) }
+    ensures read_fault { result ≡ RunEnd.ReadFault → Rose (S.faults source.old) (S.faults source.new) }
+    ensures write_fault { result ≡ RunEnd.WriteFault → Rose (K.faults sink.old) (K.faults sink.new) }
+{
+    let mut tracing = Tracing { world: None };
+    answer_lines(alloc, &mut tracing, source, sink)
+}
+
+// Answers two schemas.
+fn compat<S: Source, K: Sink>(alloc: Global, source: &mut S, sink: &mut K) -> RunEnd<BadCause>
+    ensures carried { IsCarriedOut Command.Compat (S.left source.old) (S.left source.new)
+        (K.written sink.old) (K.written sink.new) (outcome_of result) }
+    ensures read_fault { result ≡ RunEnd.ReadFault → Rose (S.faults source.old) (S.faults source.new) }
+    ensures write_fault { result ≡ RunEnd.WriteFault → Rose (K.faults sink.old) (K.faults sink.new) }
+{
+    let mut comparing = Comparing {
+        schema: None,
+        done: false,
+    };
+    answer_lines(alloc, &mut comparing, source, sink)
+}
+
+// Answers the lines of a source by a command.
+fn answer<S: Source, K: Sink>(
+    alloc: Global,
+    command: Command,
+    source: &mut S,
+    sink: &mut K,
+) -> RunEnd<BadCause>
+    ensures carried { IsCarriedOut command (S.left source.old) (S.left source.new)
+        (K.written sink.old) (K.written sink.new) (outcome_of result) }
+    ensures read_fault { result ≡ RunEnd.ReadFault → Rose (S.faults source.old) (S.faults source.new) }
+    ensures write_fault { result ≡ RunEnd.WriteFault → Rose (K.faults sink.old) (K.faults sink.new) }
 {
     match command {
-        Command::Trace => trace(alloc, bytes, sink),
-        Command::Compat => answer_schemas(alloc, bytes, sink),
+        Command::Trace => trace(alloc, source, sink),
+        Command::Compat => compat(alloc, source, sink),
     }
 }
 
-/// Answers the lines of a source by the command that the words are, or by the usage line where they are none: then nothing
-/// is read.
+/// Answers the lines of a source by the command that the words are, one after another: each answer is written before the
+/// next line is judged. Where the words are no command it answers by the usage line, and nothing is read.
 pub fn run<S: Source, K: Sink>(
     alloc: Global,
     words: &Vec<String>,
@@ -126,13 +131,9 @@ pub fn run<S: Source, K: Sink>(
     ensures read_fault { result ≡ Outcome.ReadFault → Rose (S.faults source.old) (S.faults source.new) }
     ensures write_fault { result ≡ Outcome.WriteFault → Rose (K.faults sink.old) (K.faults sink.new) }
 {
-    let Some(command) = command_of(words) else {
-        return send_usage(alloc, sink);
-    };
-    match read_all(alloc, source, MAX_INPUT) {
-        Input::Fault => Outcome::ReadFault,
-        Input::NoMemory => Outcome::NoMemory,
-        Input::Over(bytes) => send_long(alloc, long_line(bytes.as_slice()), sink),
-        Input::All(bytes) => answer(alloc, command, bytes.as_slice(), sink),
+    match command_of(alloc, words) {
+        Ok(Some(command)) => outcome_of(answer(alloc, command, source, sink)),
+        Ok(None) => send_usage(alloc, sink),
+        Err(_) => Outcome::NoMemory,
     }
 }

@@ -1,80 +1,126 @@
 //! The answer to the lines of two schemas.
-ghost use Rattle.std.specs.Prelude.{◌≡◌, ◌≤◌};
-ghost use Rattle.std.specs.Option.{option_copied};
-ghost use Rattle.st_io.specs.Counts.{Rose};
+ghost use Rattle.std.specs.Prelude.{◌≡◌, Ok, Err, IfOk, true};
+ghost use Rattle.st_compat.specs.Relation.{IsRelation};
+ghost use Rattle.st_compat.specs.RelationText.{relation_line};
 ghost use Rattle.st_compat.specs.SchemaLine.{further_cause};
-ghost use Rattle.st_answers.specs.Lines.{cut};
-ghost use Rattle.st_answers.specs.Answers.{OrCutShort, bad_line, bad_schema, AnswersThird, AnswersRelation, AnswersCompat, IsOutput};
+ghost use Rattle.st_compat.specs.declared.relation.Relation.{Relation};
+ghost use Rattle.st_pieces.specs.Told.{IsReply};
+ghost use Rattle.st_answers.specs.Compat.{CompatState, TakesCompat, compat, unread, stored, related};
+ghost use Rattle.st_answers.specs.Meaning.{EndsAt, FailsAt, FinishesAt};
+ghost use Rattle.st_run.specs.inside.Replies.{IsRefusal, IsTelling};
+ghost use Rattle.st_run.specs.inside.Standing.{IsStoredIn, StandsForCompat};
 
-use crate::bad::refuse;
-use crate::lines::{after_line, first_line};
-use crate::send::write_all;
-use st_answers::Outcome;
-use st_compat::{BadSchema, compare_lines, further_cause};
-use st_ids::{Or, Text};
-use st_io::Sink;
-use std::alloc::Global;
+use crate::reply::{refuse, tell, tell_nothing};
+use st_compat::{compat, further_cause, read_schema_line, relation_line};
+use st_ids::Or;
+use st_json::BadCause;
+use st_pieces::{Reply, Responder};
+use st_schema::Schema;
+use std::alloc::{AllocError, Global};
 
-// Ends a run at the first line that is no schema.
-fn refuse_schema<K: Sink>(alloc: Global, bad: BadSchema, sink: &mut K) -> Outcome
-    ensures output { IsOutput (K.written sink.old) (K.written sink.new) (OrCutShort (λ out. out ≡ bad_schema bad)) result }
-    ensures fault { result ≡ Outcome.WriteFault → Rose (K.faults sink.old) (K.faults sink.new) }
-{
-    match bad {
-        BadSchema::Stored(cause) => refuse(alloc, 1, cause, sink),
-        BadSchema::View(cause) => refuse(alloc, 2, cause, sink),
-    }
+/// Two schemas that are compared: the stored one, once it is read, and whether both are.
+#[derive(Drop)]
+pub struct Comparing {
+    pub schema: Option<Schema>,
+    pub done: bool,
 }
 
-// Ends a run at a line that should not be there.
-fn refuse_third<K: Sink>(alloc: Global, line: &[u8], sink: &mut K) -> Outcome
-    ensures output { IsOutput (K.written sink.old) (K.written sink.new) (OrCutShort (λ out. out ≡ bad_line 3 (further_cause line.now))) result }
-    ensures fault { result ≡ Outcome.WriteFault → Rose (K.faults sink.old) (K.faults sink.new) }
-    ensures later { K.faults sink.old ≤ K.faults sink.new }
-{
-    match further_cause(alloc, line) {
-        Ok(cause) => refuse(alloc, 3, cause, sink),
-        Err(_) => Outcome::NoMemory,
-    }
-}
-
-// Ends a run after its answer.
-fn end<K: Sink>(alloc: Global, third: Option<&[u8]>, sink: &mut K) -> Outcome
-    ensures output { IsOutput (K.written sink.old) (K.written sink.new) (OrCutShort (AnswersThird (option_copied third.entry))) result }
-    ensures fault { result ≡ Outcome.WriteFault → Rose (K.faults sink.old) (K.faults sink.new) }
-    ensures later { K.faults sink.old ≤ K.faults sink.new }
-{
-    match third {
-        Some(line) => refuse_third(alloc, line, sink),
-        None => Outcome::Done,
-    }
-}
-
-// Answers two schemas by the line of their relation.
-fn answer_relation<K: Sink>(
+// Takes the first line, which is to be the stored schema.
+fn take_stored(
     alloc: Global,
-    line: &Text,
-    third: Option<&[u8]>,
-    sink: &mut K,
-) -> Outcome
-    ensures output { IsOutput (K.written sink.old) (K.written sink.new) (OrCutShort (AnswersRelation line.now (option_copied third.entry))) result }
-    ensures fault { result ≡ Outcome.WriteFault → Rose (K.faults sink.old) (K.faults sink.new) }
+    schema: &mut Option<Schema>,
+    number: u32,
+    line: &[u8],
+) -> Result<Reply<BadCause>, AllocError>
+    ensures { IfOk result (IsReply (TakesCompat unread number line.now)
+        (EndsAt compat unread number line.now) (IsStoredIn schema.new)) }
 {
-    match write_all(sink, line.as_str().as_bytes()) {
-        Ok(()) => end(alloc, third, sink),
-        Err(_) => Outcome::WriteFault,
+    match read_schema_line(alloc, line) {
+        Ok(read) => {
+            *schema = Some(read);
+            Ok(tell_nothing(alloc))
+        }
+        Err(Or::NoMemory) => Err(AllocError),
+        Err(Or::Fault(cause)) => refuse(alloc, number, cause),
     }
 }
 
-/// Answers the lines of some bytes, which are to be two schemas.
-pub fn answer_schemas<K: Sink>(alloc: Global, bytes: &[u8], sink: &mut K) -> Outcome
-    ensures output { IsOutput (K.written sink.old) (K.written sink.new) (AnswersCompat (cut bytes.now)) result }
-    ensures fault { result ≡ Outcome.WriteFault → Rose (K.faults sink.old) (K.faults sink.new) }
+// Tells the relation of two schemas.
+fn tell_relation(
+    alloc: Global,
+    stored: &Schema,
+    view: &Schema,
+) -> Result<Reply<BadCause>, AllocError>
+    ensures { IfOk result (λ r. (relation : Relation) × IsRelation stored.now view.now relation
+        × IsTelling (relation_line relation) r) }
 {
-    let rest = after_line(bytes);
-    match compare_lines(alloc, first_line(bytes), first_line(rest)) {
-        Ok(line) => answer_relation(alloc, &line, first_line(after_line(rest)), sink),
-        Err(Or::NoMemory) => Outcome::NoMemory,
-        Err(Or::Fault(bad)) => refuse_schema(alloc, bad, sink),
+    let relation = compat(alloc, stored, view)?;
+    let text = relation_line(alloc, &relation)?;
+    tell(alloc, &text)
+}
+
+// Answers the second line, which is to be the other schema.
+fn take_view(
+    alloc: Global,
+    schema: &Schema,
+    number: u32,
+    line: &[u8],
+) -> Result<Reply<BadCause>, AllocError>
+    ensures { IfOk result (IsReply (TakesCompat (stored schema.now) number line.now)
+        (EndsAt compat (stored schema.now) number line.now) (λ t. t ≡ related)) }
+{
+    match read_schema_line(alloc, line) {
+        Ok(view) => tell_relation(alloc, schema, &view),
+        Err(Or::NoMemory) => Err(AllocError),
+        Err(Or::Fault(cause)) => refuse(alloc, number, cause),
+    }
+}
+
+// Refuses a line that should not be there.
+fn refuse_further(alloc: Global, number: u32, line: &[u8]) -> Result<Reply<BadCause>, AllocError>
+    ensures { IfOk result (IsRefusal number (further_cause line.now)) }
+{
+    let cause = further_cause(alloc, line)?;
+    refuse(alloc, number, cause)
+}
+
+impl Responder for Comparing {
+    type Ending = BadCause;
+
+    ghost State = { CompatState };
+
+    ghost Stands = { StandsForCompat };
+
+    ghost Takes = { TakesCompat };
+
+    ghost Ends = { EndsAt compat };
+
+    ghost Finishes = { FinishesAt compat };
+
+    ghost Fails = { FailsAt compat };
+
+    fn take(
+        &mut self,
+        alloc: Global,
+        number: u32,
+        line: &[u8],
+    ) -> Result<Reply<BadCause>, AllocError> {
+        if self.done {
+            return refuse_further(alloc, number, line);
+        }
+        match &self.schema {
+            Some(schema) => {
+                self.done = true;
+                take_view(alloc, schema, number, line)
+            }
+            None => take_stored(alloc, &mut self.schema, number, line),
+        }
+    }
+
+    fn end(&mut self, alloc: Global, number: u32) -> Result<Reply<BadCause>, AllocError> {
+        if self.done {
+            return Ok(tell_nothing(alloc));
+        }
+        refuse(alloc, number, BadCause::Shape)
     }
 }

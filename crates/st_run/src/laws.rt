@@ -1,6 +1,8 @@
 //! Laws about answers: each is the contract of a function that does nothing.
 ghost use Rattle.std.specs.Prelude.{ℕ, List, Option, Some};
-ghost use Rattle.st_answers.specs.Answers.{Answers, IsAnswered, NothingFailed, Output};
+ghost use Rattle.st_answers.specs.Answers.{Answers};
+ghost use Rattle.st_answers.specs.Endings.{Output};
+ghost use Rattle.st_answers.specs.Run.{IsAnswered, NothingFailed};
 ghost use Rattle.st_answers.specs.declared.command.Command.{Command};
 ghost use Rattle.st_answers.specs.declared.outcome.Outcome.{Outcome};
 

@@ -1,13 +1,10 @@
 //! A run: from the words, the source and the sink of a program to its answers and its outcome.
 #![tactic(auto)]
 
-mod bad;
 mod command;
 mod compat;
 mod laws;
-mod lines;
-mod send;
-mod take;
+mod reply;
 mod trace;
 
 pub use command::run;

@@ -1,147 +1,91 @@
-//! The answers to the lines of an input.
-ghost use Rattle.std.specs.Prelude.{◌≡◌, false, ◌+◌, ◌^◌, ◌<◌, ◌≤◌, length, Ok, Err, IfOk, IfErr, OnOk, codes};
+//! The answers to the lines of a trace.
+ghost use Rattle.std.specs.Prelude.{◌≡◌, ℕ, ◌+◌, Ok, Err, IfOk, codes};
 ghost use Rattle.st_ids.specs.Or.{IfRefused};
-ghost use Rattle.st_io.specs.Bytes.{Appends};
-ghost use Rattle.st_io.specs.Counts.{Rose};
 ghost use Rattle.st_script.specs.AnswerText.{answer_line};
-ghost use Rattle.st_script.specs.Header.{header_view, header_line};
+ghost use Rattle.st_script.specs.Header.{HeaderView, header_line};
 ghost use Rattle.st_script.specs.Line.{step_of_line, line_view};
-ghost use Rattle.st_script.specs.Steps.{step_view};
-ghost use Rattle.st_plain.specs.Replicas.{IsSound};
+ghost use Rattle.st_script.specs.Steps.{step_view, IsWithinLimits};
 ghost use Rattle.st_lists.specs.Clients.{empty_state};
-ghost use Rattle.st_answers.specs.Lines.{cut};
-ghost use Rattle.st_answers.specs.Answers.{OrCutShort, AnswersHeader, bad_line, AnswersFrom, AnswersTrace, IsOutput};
-ghost use Rattle.st_run.specs.inside.Answers.{IsCutShort, IsLineAnswered, EndsAtLine};
+ghost use Rattle.st_lists.specs.declared.lists.WorldState.{WorldState};
+ghost use Rattle.st_pieces.specs.Told.{IsReply};
+ghost use Rattle.st_plain.specs.Stands.{MayStep, Stands};
+ghost use Rattle.st_answers.specs.Meaning.{EndsAt, FailsAt, FinishesAt};
+ghost use Rattle.st_answers.specs.Trace.{TraceState, TakesTrace, trace, unopened, opened};
+ghost use Rattle.st_run.specs.inside.Replies.{IsTelling};
+ghost use Rattle.st_run.specs.inside.Standing.{IsOpened, IsOpenedIn, IsStepReply, StandsForTrace};
 
-use crate::bad::refuse;
-use crate::lines::split_line;
-use crate::send::write_all;
-use st_answers::Outcome;
+use crate::reply::{refuse, tell, tell_nothing};
 use st_ids::Or;
-use st_io::Sink;
 use st_json::BadCause;
+use st_pieces::{Reply, Responder};
 use st_plain::World;
 use st_script::{Answer, Line, TraceStep, answer_line, read_header as header_of, read_step_line};
-use std::alloc::Global;
+use std::alloc::{AllocError, Global};
 
-// Answers the step that a line was read as. At `Err` the run has ended.
-fn take_step<K: Sink>(
-    alloc: Global,
-    world: &mut World,
-    number: u32,
-    line: &[u8],
-    step: &TraceStep,
-    sink: &mut K,
-) -> Result<(), Outcome>
-    requires sound { (world.old.spent ≡ false) × IsSound world.old }
-    requires few { world.old.steps + 1 < 2 ^ 32 }
-    requires read { step_of_line line.now ≡ Ok (step_view step.now) }
-    ensures ok { OnOk result (IsLineAnswered (header_view world.old.header) (step_of_line line.now)
-        world.old.lists world.new.lists (K.written sink.old) (K.written sink.new)) }
-    ensures ended { IfErr result (IsOutput (K.written sink.old) (K.written sink.new)
-        (EndsAtLine (header_view world.old.header) number (step_of_line line.now) world.old.lists)) }
-    ensures fault { result ≡ Err Outcome.WriteFault → Rose (K.faults sink.old) (K.faults sink.new) }
-    ensures later { K.faults sink.old ≤ K.faults sink.new }
-    ensures sound { OnOk result ((world.new.spent ≡ false) × IsSound world.new) }
-    ensures steps { OnOk result (world.new.steps ≡ world.old.steps + 1) }
-    ensures header { OnOk result (world.new.header ≡ world.old.header) }
-{
-    let Ok(answer) = world.step(alloc, step) else {
-        return Err(Outcome::NoMemory);
-    };
-    let Ok(text) = answer_line(alloc, &answer) else {
-        return Err(Outcome::NoMemory);
-    };
-    match write_all(sink, text.as_str().as_bytes()) {
-        Ok(()) => Ok(()),
-        Err(_) => Err(Outcome::WriteFault),
-    }
+/// A trace that is answered: its world, once a header has opened one.
+#[derive(Drop)]
+pub struct Tracing {
+    pub world: Option<World>,
 }
 
-// Answers what a line was read as. At `Err` the run has ended.
-fn take_read<K: Sink>(
+// Answers a step.
+fn take_step(
+    alloc: Global,
+    world: &mut World,
+    step: &TraceStep,
+) -> Result<Reply<BadCause>, AllocError>
+    requires may { MayStep world.old }
+    requires form { IsWithinLimits (step_view step.now) }
+    ensures { IfOk result (λ r. (k : ℕ) (h : HeaderView) (w : WorldState) → Stands k world.old h w
+        → IsStepReply h w (step_view step.now) (Stands (k + 1) world.new h) r) }
+{
+    let Ok(answer) = world.step(alloc, step) else {
+        return Err(AllocError);
+    };
+    let text = answer_line(alloc, &answer)?;
+    tell(alloc, &text)
+}
+
+// Answers what a line was read as.
+fn take_read(
     alloc: Global,
     world: &mut World,
     number: u32,
     line: &[u8],
     read: &Line,
-    sink: &mut K,
-) -> Result<(), Outcome>
-    requires sound { (world.old.spent ≡ false) × IsSound world.old }
-    requires few { world.old.steps + 1 < 2 ^ 32 }
+) -> Result<Reply<BadCause>, AllocError>
+    requires may { MayStep world.old }
     requires read { line_view read.now ≡ step_of_line line.now }
-    ensures ok { OnOk result (IsLineAnswered (header_view world.old.header) (step_of_line line.now)
-        world.old.lists world.new.lists (K.written sink.old) (K.written sink.new)) }
-    ensures ended { IfErr result (IsOutput (K.written sink.old) (K.written sink.new)
-        (EndsAtLine (header_view world.old.header) number (step_of_line line.now) world.old.lists)) }
-    ensures fault { result ≡ Err Outcome.WriteFault → Rose (K.faults sink.old) (K.faults sink.new) }
-    ensures later { K.faults sink.old ≤ K.faults sink.new }
-    ensures sound { OnOk result ((world.new.spent ≡ false) × IsSound world.new) }
-    ensures steps { OnOk result (world.new.steps ≡ world.old.steps + 1) }
-    ensures header { OnOk result (world.new.header ≡ world.old.header) }
+    ensures { IfOk result (λ r. (k : ℕ) (h : HeaderView) (w : WorldState) → Stands k world.old h w
+        → IsReply (TakesTrace (opened h w) number line.now) (EndsAt trace (opened h w) number line.now)
+        (IsOpened (k + 1) world.new) r) }
 {
     match read {
-        Line::Step(step) => take_step(alloc, world, number, line, step, sink),
-        Line::Bad(cause) => Err(refuse(alloc, number, *cause, sink)),
+        Line::Step(step) => take_step(alloc, world, step),
+        Line::Bad(cause) => refuse(alloc, number, *cause),
     }
 }
 
-// Answers one line. At `Err` the run has ended.
-fn take_line<K: Sink>(
+// Answers a line that follows the header.
+fn take_line(
     alloc: Global,
     world: &mut World,
     number: u32,
     line: &[u8],
-    sink: &mut K,
-) -> Result<(), Outcome>
-    requires sound { (world.old.spent ≡ false) × IsSound world.old }
-    requires few { world.old.steps + 1 < 2 ^ 32 }
-    ensures ok { OnOk result (IsLineAnswered (header_view world.old.header) (step_of_line line.now)
-        world.old.lists world.new.lists (K.written sink.old) (K.written sink.new)) }
-    ensures ended { IfErr result (IsOutput (K.written sink.old) (K.written sink.new)
-        (EndsAtLine (header_view world.old.header) number (step_of_line line.now) world.old.lists)) }
-    ensures fault { result ≡ Err Outcome.WriteFault → Rose (K.faults sink.old) (K.faults sink.new) }
-    ensures later { K.faults sink.old ≤ K.faults sink.new }
-    ensures sound { OnOk result ((world.new.spent ≡ false) × IsSound world.new) }
-    ensures steps { OnOk result (world.new.steps ≡ world.old.steps + 1) }
-    ensures header { OnOk result (world.new.header ≡ world.old.header) }
+) -> Result<Reply<BadCause>, AllocError>
+    requires may { MayStep world.old }
+    ensures { IfOk result (λ r. (k : ℕ) (h : HeaderView) (w : WorldState) → Stands k world.old h w
+        → IsReply (TakesTrace (opened h w) number line.now) (EndsAt trace (opened h w) number line.now)
+        (IsOpened (k + 1) world.new) r) }
 {
-    match read_step_line(alloc, line) {
-        Ok(read) => take_read(alloc, world, number, line, &read, sink),
-        Err(_) => Err(Outcome::NoMemory),
-    }
-}
-
-// Answers the lines of some bytes, which begin with the second line.
-fn take_lines<K: Sink>(alloc: Global, world: &mut World, bytes: &[u8], sink: &mut K) -> Outcome
-    requires size { length bytes.now < 2 ^ 24 }
-    requires sound { (world.old.spent ≡ false) × IsSound world.old }
-    requires fresh { world.old.steps ≡ 0 }
-    ensures output { IsOutput (K.written sink.old) (K.written sink.new)
-        (AnswersFrom (header_view world.old.header) world.old.lists 2 (cut bytes.now)) result }
-    ensures fault { result ≡ Outcome.WriteFault → Rose (K.faults sink.old) (K.faults sink.new) }
-    ensures later { K.faults sink.old ≤ K.faults sink.new }
-{
-    let mut number = 2;
-    let mut rest = bytes;
-    while !rest.is_empty() {
-        let (line, after) = split_line(rest);
-        match take_line(alloc, world, number, line, sink) {
-            Ok(()) => {}
-            Err(outcome) => return outcome,
-        }
-        number += 1;
-        rest = after;
-    }
-    Outcome::Done
+    let read = read_step_line(alloc, line)?;
+    take_read(alloc, world, number, line, &read)
 }
 
 // The world that a line opens.
 fn read_header(alloc: Global, line: &[u8]) -> Result<World, Or<BadCause>>
-    ensures ok { IfOk result (λ w. header_line (codes "trace") line.now ≡ Ok (header_view w.header)) }
-    ensures lists { IfOk result (λ w. w.lists ≡ empty_state) }
-    ensures sound { IfOk result (λ w. (w.spent ≡ false) × IsSound w) }
-    ensures fresh { IfOk result (λ w. w.steps ≡ 0) }
+    ensures ok { IfOk result (λ w. (h : HeaderView) × (header_line (codes "trace") line.now ≡ Ok h)
+        × Stands 0 w h empty_state) }
     ensures bad { IfRefused result (λ c. header_line (codes "trace") line.now ≡ Err c) }
 {
     let header = header_of(alloc, line, "trace")?;
@@ -149,49 +93,64 @@ fn read_header(alloc: Global, line: &[u8]) -> Result<World, Or<BadCause>>
 }
 
 // Answers a header.
-fn send_header<K: Sink>(alloc: Global, sink: &mut K) -> Result<(), Outcome>
-    ensures ok { OnOk result (Appends (K.written sink.old) (answer_line Answer.Header) (K.written sink.new)) }
-    ensures ended { IfErr result (IsOutput (K.written sink.old) (K.written sink.new) (OrCutShort (AnswersHeader IsCutShort))) }
-    ensures fault { result ≡ Err Outcome.WriteFault → Rose (K.faults sink.old) (K.faults sink.new) }
-    ensures later { K.faults sink.old ≤ K.faults sink.new }
+fn tell_header(alloc: Global) -> Result<Reply<BadCause>, AllocError>
+    ensures { IfOk result (IsTelling (answer_line Answer.Header)) }
 {
-    let Ok(text) = answer_line(alloc, &Answer::Header) else {
-        return Err(Outcome::NoMemory);
-    };
-    match write_all(sink, text.as_str().as_bytes()) {
-        Ok(()) => Ok(()),
-        Err(_) => Err(Outcome::WriteFault),
-    }
+    let text = answer_line(alloc, &Answer::Header)?;
+    tell(alloc, &text)
 }
 
-// Answers a header that opened a world, and the lines that follow it.
-fn trace_from<K: Sink>(alloc: Global, world: &mut World, bytes: &[u8], sink: &mut K) -> Outcome
-    requires size { length bytes.now < 2 ^ 24 }
-    requires sound { (world.old.spent ≡ false) × IsSound world.old }
-    requires fresh { (world.old.steps ≡ 0) × (world.old.lists ≡ empty_state) }
-    ensures output { IsOutput (K.written sink.old) (K.written sink.new)
-        (OrCutShort (AnswersHeader (AnswersFrom (header_view world.old.header) empty_state 2 (cut bytes.now)))) result }
-    ensures fault { result ≡ Outcome.WriteFault → Rose (K.faults sink.old) (K.faults sink.new) }
+// Answers the first line.
+fn take_header(
+    alloc: Global,
+    opening: &mut Option<World>,
+    number: u32,
+    line: &[u8],
+) -> Result<Reply<BadCause>, AllocError>
+    ensures { IfOk result (IsReply (TakesTrace unopened number line.now)
+        (EndsAt trace unopened number line.now) (IsOpenedIn opening.new)) }
 {
-    match send_header(alloc, sink) {
-        Ok(()) => take_lines(alloc, world, bytes, sink),
-        Err(outcome) => outcome,
-    }
-}
-
-/// Answers the lines of some bytes.
-pub fn trace<K: Sink>(alloc: Global, bytes: &[u8], sink: &mut K) -> Outcome
-    requires { length bytes.now < 2 ^ 24 }
-    ensures output { IsOutput (K.written sink.old) (K.written sink.new) (AnswersTrace (cut bytes.now)) result }
-    ensures fault { result ≡ Outcome.WriteFault → Rose (K.faults sink.old) (K.faults sink.new) }
-{
-    if bytes.is_empty() {
-        return refuse(alloc, 1, BadCause::Header, sink);
-    }
-    let (line, rest) = split_line(bytes);
     match read_header(alloc, line) {
-        Ok(mut world) => trace_from(alloc, &mut world, rest, sink),
-        Err(Or::NoMemory) => Outcome::NoMemory,
-        Err(Or::Fault(cause)) => refuse(alloc, 1, cause, sink),
+        Ok(world) => {
+            *opening = Some(world);
+            tell_header(alloc)
+        }
+        Err(Or::NoMemory) => Err(AllocError),
+        Err(Or::Fault(cause)) => refuse(alloc, number, cause),
+    }
+}
+
+impl Responder for Tracing {
+    type Ending = BadCause;
+
+    ghost State = { TraceState };
+
+    ghost Stands = { StandsForTrace };
+
+    ghost Takes = { TakesTrace };
+
+    ghost Ends = { EndsAt trace };
+
+    ghost Finishes = { FinishesAt trace };
+
+    ghost Fails = { FailsAt trace };
+
+    fn take(
+        &mut self,
+        alloc: Global,
+        number: u32,
+        line: &[u8],
+    ) -> Result<Reply<BadCause>, AllocError> {
+        match &mut self.world {
+            Some(world) => take_line(alloc, world, number, line),
+            None => take_header(alloc, &mut self.world, number, line),
+        }
+    }
+
+    fn end(&mut self, alloc: Global, number: u32) -> Result<Reply<BadCause>, AllocError> {
+        match &self.world {
+            Some(_) => Ok(tell_nothing(alloc)),
+            None => refuse(alloc, number, BadCause::Header),
+        }
     }
 }

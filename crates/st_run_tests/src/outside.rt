@@ -1,4 +1,4 @@
-//! Runs whose source or sink fails, and an input past the limit.
+//! Runs whose source or sink fails.
 ghost use Rattle.std.specs.Prelude.{◌<◌};
 
 use st_answers::Outcome;
@@ -138,6 +138,7 @@ fn write_of_a_relation_fails(alloc: Global) -> Result<bool, AllocError> {
     )
 }
 
+// The second read, which would find the end of the input, fails when both lines are answered.
 fn read_of_schemas_fails(alloc: Global) -> Result<bool, AllocError> {
     let reads = one(alloc, 2)?;
     ends(
@@ -148,7 +149,7 @@ fn read_of_schemas_fails(alloc: Global) -> Result<bool, AllocError> {
         4096,
         Vec::new(alloc),
         Outcome::ReadFault,
-        "",
+        UPGRADE,
     )
 }
 
@@ -186,32 +187,5 @@ fn faults_of_the_outside(rt: HostRuntime) -> Result<(), Fail> {
         read && write && none && words,
         "{read} {write} {none} {words}"
     );
-    Ok(())
-}
-
-// A header and so many lines of 26 bytes.
-fn long_input(alloc: Global, lines: u32) -> Result<Vec<u8>, AllocError> {
-    let mut input = Vec::from_slice(alloc, HEADER.as_bytes())?;
-    for _ in 0..lines {
-        input.extend_from_slice(b"{\"do\":\"show\",\"client\":\"Z\"}\n")?;
-    }
-    Ok(input)
-}
-
-// Of 38,833 lines behind the header the last one holds the byte past the limit.
-fn long_input_is_refused(alloc: Global, words: &str) -> Result<bool, AllocError> {
-    let words = words_of(alloc, words)?;
-    let mut source = MemSource::new(long_input(alloc, 40000)?, Vec::new(alloc));
-    let mut sink = MemSink::new(alloc, 4096, Vec::new(alloc));
-    let came = run(alloc, &words, &mut source, &mut sink);
-    Ok(came.status() == 5 && sink.bytes() == b"{\"line\":38834,\"too\":\"long\"}\n".as_slice())
-}
-
-#[test]
-fn an_input_past_the_limit_is_too_long(rt: HostRuntime) -> Result<(), Fail> {
-    let alloc = rt.alloc();
-    let trace = long_input_is_refused(alloc, "trace")?;
-    let compat = long_input_is_refused(alloc, "compat")?;
-    assert!(rt; trace && compat, "{trace} {compat}");
     Ok(())
 }

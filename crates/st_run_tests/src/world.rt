@@ -1,6 +1,8 @@
-//! A world that is opened, and two of its steps.
-ghost use Rattle.std.specs.Prelude.{◌≡◌, false, ◌+◌, ◌^◌, ◌<◌, IfOk, OnOk};
-ghost use Rattle.st_plain.specs.Replicas.{IsSound};
+//! A world that is opened, and its first step.
+ghost use Rattle.std.specs.Prelude.{IfOk};
+ghost use Rattle.st_lists.specs.declared.lists.WorldState.{WorldState};
+ghost use Rattle.st_plain.specs.Stands.{Stands};
+ghost use Rattle.st_script.specs.Header.{HeaderView};
 
 use st_plain::World;
 use st_script::{Answer, Line, answer_line, read_header, read_step_line};
@@ -12,8 +14,7 @@ const HEADER: &str =
 
 // The world that the header opens.
 fn open_world(alloc: Global) -> Result<World, Fail>
-    ensures sound { IfOk result (λ w. (w.spent ≡ false) × IsSound w) }
-    ensures fresh { IfOk result (λ w. w.steps ≡ 0) }
+    ensures stands { IfOk result (λ w. (h : HeaderView) × (v : WorldState) × Stands 0 w h v) }
 {
     let Ok(header) = read_header(alloc, HEADER.as_bytes(), "trace") else {
         return Err(Fail::from("no header"));
@@ -21,13 +22,10 @@ fn open_world(alloc: Global) -> Result<World, Fail>
     Ok(World::new(alloc, header)?)
 }
 
-// The answer to a line.
+// The answer of the first step to a line.
 #[tactic(auto, using(st_plain::proofs::Choosing::line_formed))]
 fn answer_to(alloc: Global, world: &mut World, line: &str) -> Result<Answer, Fail>
-    requires sound { (world.old.spent ≡ false) × IsSound world.old }
-    requires few { world.old.steps + 1 < 2 ^ 32 }
-    ensures sound { OnOk result ((world.new.spent ≡ false) × IsSound world.new) }
-    ensures steps { OnOk result (world.new.steps ≡ world.old.steps + 1) }
+    requires stands { (h : HeaderView) × (v : WorldState) × Stands 0 world.old h v }
 {
     match read_step_line(alloc, line.as_bytes())? {
         Line::Step(step) => world
@@ -46,13 +44,7 @@ fn first_use(rt: HostRuntime) -> Result<(), Fail> {
     let alloc = rt.alloc();
     let mut world = open_world(alloc)?;
     let joined = answer_to(alloc, &mut world, r#"{"client":"A","do":"join"}"#)?;
-    let shown = answer_to(alloc, &mut world, r#"{"client":"A","do":"show"}"#)?;
     let first = is_written(alloc, &joined, "{\"n\":1,\"ok\":\"join\",\"s\":1}\n")?;
-    let second = is_written(
-        alloc,
-        &shown,
-        "{\"ok\":\"show\",\"tree\":{\"list\":[\"x\"]}}\n",
-    )?;
-    assert!(rt; first && second, "{first} {second}");
+    assert!(rt; first);
     Ok(())
 }

@@ -5,7 +5,7 @@ use Rattle.st_pieces.specs.Lines.{Line}
 use Rattle.st_pieces.specs.Outcomes.{IsFront, IsTold}
 use Rattle.st_pieces.specs.Told.{Answered}
 use Rattle.st_pieces.specs.declared.reading.Reading.{Reading}
-use Rattle.st_pieces.specs.declared.responder.Outcome.{Outcome}
+use Rattle.st_pieces.specs.declared.responder.RunEnd.{RunEnd}
 use Rattle.st_pieces.specs.inside.Placed.{tail_of}
 
 module _ {S : Type 0} (Takes : S → ℕ → List ℕ → List ℕ → S → Type 0) where
@@ -30,7 +30,7 @@ module _ {S : Type 0} (Takes : S → ℕ → List ℕ → List ℕ → S → Typ
 abbrev pub EndsSo : {S E : Type 0} (Takes : S → ℕ → List ℕ → List ℕ → S → Type 0)
     (Ends : S → ℕ → List ℕ → List ℕ → E → Type 0) (Finishes : S → ℕ → List ℕ → Type 0)
     (Fails : S → ℕ → List ℕ → E → Type 0) (Stood : S → Type 0)
-    (left_before left written_before written : Option (List ℕ)) → Reading → Outcome E → Type 0
+    (left_before left written_before written : Option (List ℕ)) → Reading → RunEnd E → Type 0
 EndsSo {S} Takes Ends Finishes Fails Stood left_before left written_before written before o =
     (s first : S) (input old : Option (List ℕ)) → Stood s
     → IsReached Takes first input old s left_before written_before before.number before.start (tail_of before)

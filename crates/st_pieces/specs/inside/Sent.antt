@@ -4,8 +4,8 @@ use Rattle.st_io.specs.Bytes.{Appends}
 use Rattle.st_pieces.specs.Told.{AppendsPrefix, long_line}
 use Rattle.st_pieces.specs.declared.responder.Reply.{Reply}
 use Rattle.st_pieces.specs.declared.responder.Reply.TheVariants.{Goes, Ends}
-use Rattle.st_pieces.specs.declared.responder.Outcome.{Outcome}
-use Rattle.st_pieces.specs.declared.responder.Outcome.TheVariants.{Done, Bad, TooLong, ReadFault, WriteFault, NoMemory}
+use Rattle.st_pieces.specs.declared.responder.RunEnd.{RunEnd}
+use Rattle.st_pieces.specs.declared.responder.RunEnd.TheVariants.{Done, Bad, TooLong, ReadFault, WriteFault, NoMemory}
 
 -- a line is answered, and its answer written
 abbrev pub IsGoing : {S : Type 0} → (List ℕ → S → Type 0) → (S → Type 0)
@@ -14,7 +14,7 @@ IsGoing {S} Takes Stands old new =
     (told : List ℕ) × (v : S) × Takes told v × Stands v × Appends old told new
 
 -- the line that says that one is too long was sent
-abbrev pub IsLongSent : {E : Type 0} → ℕ → (old new : Option (List ℕ)) → Outcome E → Type 0
+abbrev pub IsLongSent : {E : Type 0} → ℕ → (old new : Option (List ℕ)) → RunEnd E → Type 0
 IsLongSent n old new (TooLong m) = (m ≡ n) × Appends old (long_line n) new
 IsLongSent n old new WriteFault = AppendsPrefix old (long_line n) new
 IsLongSent n old new Done = ⊥
@@ -24,7 +24,7 @@ IsLongSent n old new NoMemory = new ≡ old
 
 -- a run ended at a line
 abbrev pub IsLineEnd : {E : Type 0} → (List ℕ → Type 0) → (List ℕ → E → Type 0) → ℕ
-    → (old new : Option (List ℕ)) → Outcome E → Type 0
+    → (old new : Option (List ℕ)) → RunEnd E → Type 0
 IsLineEnd Told EndsWith n old new (Bad m e) =
     (m ≡ n) × (last : List ℕ) × EndsWith last e × Appends old last new
 IsLineEnd Told EndsWith n old new WriteFault =
@@ -34,7 +34,7 @@ IsLineEnd Told EndsWith n old new Done = ⊥
 IsLineEnd Told EndsWith n old new (TooLong m) = ⊥
 IsLineEnd Told EndsWith n old new ReadFault = ⊥
 
-abbrev pub IsReplyEnd : {E : Type 0} → Reply E → ℕ → (old new : Option (List ℕ)) → Outcome E → Type 0
+abbrev pub IsReplyEnd : {E : Type 0} → Reply E → ℕ → (old new : Option (List ℕ)) → RunEnd E → Type 0
 IsReplyEnd (Goes text) n old new o = (o ≡ WriteFault) × AppendsPrefix old text.items new
 IsReplyEnd (Ends text e) n old new o =
     IsLineEnd (λ next. next ≡ text.items) (λ last f. (last ≡ text.items) × (f ≡ e)) n old new o
@@ -46,7 +46,7 @@ IsSent (Ends text e) old new = ⊥
 
 -- what was told at the end of the input
 abbrev pub IsEndTold : {E : Type 0} → (List ℕ → Type 0) → (List ℕ → E → Type 0) → ℕ
-    → (old new : Option (List ℕ)) → Outcome E → Type 0
+    → (old new : Option (List ℕ)) → RunEnd E → Type 0
 IsEndTold Finishes Fails n old new Done = (last : List ℕ) × Finishes last × Appends old last new
 IsEndTold Finishes Fails n old new (Bad m e) =
     (m ≡ n) × (last : List ℕ) × Fails last e × Appends old last new

@@ -10,6 +10,7 @@ turns-init g c =
     let empty : c.new.result.items ≡ [] = c.new.ensures.items in
     let none : length c.new.result.items ≡ 0 = ap length empty in
     record {
+      stands = c.requires.stands;
       reached = λ s stands. (
         s,
         stands,
@@ -24,6 +25,7 @@ turns-init g c =
 
 pub turns-preserved : goal.turns-preserved
 turns-preserved g c = record {
+  stands = c.in-Ok-turn.ensures.stands;
   reached = λ first stands.
       let at = c.turns.invariant.reached first stands in
       c.in-Ok-turn.ensures.goes at.0 first (g.S.Source.left c.args.source.now) (g.K.Sink.written c.args.sink.now) at.1 at.2;

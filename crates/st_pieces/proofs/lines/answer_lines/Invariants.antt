@@ -6,8 +6,9 @@ use Rattle.st_pieces.proofs.lines.answer_lines.Given as goal
 
 abbrev pub invariant-turns : goal.invariant-turns
 invariant-turns g l = record {
-  reached : (first : g.R.Responder.State) → g.R.Responder.Stands l.initial.responder first
-      → (s : g.R.Responder.State) × g.R.Responder.Stands l.responder s × IsReached g.R.Responder.Takes first (g.S.Source.left l.initial.source) (g.K.Sink.written l.initial.sink)
+  stands : (s : g.R.Responder.State) × g.R.Responder.Stands l.responder l.reading.number s;
+  reached : (first : g.R.Responder.State) → g.R.Responder.Stands l.initial.responder 1 first
+      → (s : g.R.Responder.State) × g.R.Responder.Stands l.responder l.reading.number s × IsReached g.R.Responder.Takes first (g.S.Source.left l.initial.source) (g.K.Sink.written l.initial.sink)
       s (g.S.Source.left l.source) (g.K.Sink.written l.sink) l.reading.number l.reading.start (tail_of l.reading);
   piece : vec_len l.piece ≡ 65536;
   placed : IsPlaced l.reading;

@@ -1,4 +1,4 @@
-use Rattle.std.proofs.Common.{◌≡◌, rules, arith, ap, ◌<◌, ◌++◌, take, length, length-append, length-drop, length-take-le}
+use Rattle.std.proofs.Common.{◌≡◌, ℕ, sym, subst, rules, arith, ap, ◌<◌, ◌++◌, take, length, length-append, length-drop, length-take-le}
 use Rattle.std.proofs.lemmas.Bool.Decides.{nat_tests}
 use Rattle.st_pieces.specs.inside.Placed.{IsPlaced, tail_of}
 use Rattle.st_pieces.proofs.Cutting.{short_within}
@@ -27,7 +27,8 @@ returns-in-Ok-keep_more-clause-goes g c = λ s first input old stands r.
     let w = g.K.Sink.written c.args.sink.now in
     let t : tail_of c.keep_more.new.reading ≡ tail ++ take c.in-Ok.count c.read.new.buf = search rules in
     let piece = piece_read g.R.Responder.Takes g.R.Responder.Ends g.R.Responder.Finishes g.R.Responder.Fails first input old s (g.S.Source.left c.args.source.now) (g.S.Source.left c.read.new.self) w n start c.in-Ok.count tail c.read.new.buf r c.in-Ok.ensures.takes in
-    (s, stands, reached_as g.R.Responder.Takes g.R.Responder.Ends g.R.Responder.Finishes g.R.Responder.Fails first input old s (g.S.Source.left c.read.new.self) w n _ start _ (tail ++ take c.in-Ok.count c.read.new.buf) _ piece (search rules) (search rules) t)
+    let same : c.keep_more.new.reading.number ≡ n = search rules in
+    (s, subst (λ (k : ℕ). g.R.Responder.Stands c.args.responder.now k s) (sym same) stands, reached_as g.R.Responder.Takes g.R.Responder.Ends g.R.Responder.Finishes g.R.Responder.Fails first input old s (g.S.Source.left c.read.new.self) w n _ start _ (tail ++ take c.in-Ok.count c.read.new.buf) _ piece (search rules) (search rules) t)
 
 pub returns-in-Ok-keep_more-clause-less : goal.returns-in-Ok-keep_more-clause-less
 returns-in-Ok-keep_more-clause-less g c =
@@ -63,3 +64,8 @@ returns-in-Err-clause-ended g c = λ s first input old stands r.
 pub keep_more-requires-clause-within : goal.keep_more-requires-clause-within
 keep_more-requires-clause-within g c =
     short_within c.args.reading.now.number c.args.reading.now.start (tail_of c.args.reading.now) c.requires.place.start c.requires.short
+
+pub returns-in-Ok-keep_more-clause-stands : goal.returns-in-Ok-keep_more-clause-stands
+returns-in-Ok-keep_more-clause-stands g c =
+    let same : c.keep_more.new.reading.number ≡ c.args.reading.now.number = search rules in
+    (c.requires.stands.0, subst (λ (k : ℕ). g.R.Responder.Stands c.args.responder.now k c.requires.stands.0) (sym same) c.requires.stands.1)
