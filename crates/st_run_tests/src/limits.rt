@@ -86,12 +86,8 @@ fn bad_before_long(alloc: Global) -> Result<bool, AllocError> {
     let mut input = trace(alloc, 0, 0, 0)?;
     input.extend_from_slice(b"\n[\n")?;
     add_line(&mut input, SHOW, MIB + 1)?;
-    Ok(
-        ends_so(alloc, input, "{\"bad\":\"Shape\",\"line\":2}\n")?
-            .0
-            .status()
-            == 3,
-    )
+    let (outcome, last) = ends_so(alloc, input, "{\"bad\":\"Json\",\"line\":2}\n")?;
+    Ok(outcome.status() == 3 && last)
 }
 
 #[test]
