@@ -12,7 +12,7 @@ pub enum Outcome {
     Usage,
     /// The first line that can't be answered, counted from 1.
     BadLine { line: u32, cause: BadCause },
-    /// The line that holds the byte past the limit, counted from 1.
+    /// The first line that is too long, or one too many, counted from 1.
     TooLong { line: u32 },
     /// The source failed.
     ReadFault,
