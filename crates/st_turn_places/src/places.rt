@@ -170,7 +170,7 @@ fn found_nodes(alloc: Global, step: &Step) -> Result<List<Placed>, AllocError>
     Ok(list)
 }
 
-/// Where a step finds nodes.
+/// Where a step finds nodes; one place may be listed twice.
 pub fn places_before(alloc: Global, step: &Step) -> Result<List<Placed>, AllocError>
     requires rows { IsRising node_cmp (λ (r : Row). r.node) step.now.rows }
     requires regs { IsRising field_cmp (λ (r : Register). r.field) step.now.regs }
@@ -273,7 +273,8 @@ fn add_rest(alloc: Global, list: &mut List<Placed>, step: &Step) -> Result<(), A
     Ok(())
 }
 
-/// Where a step leaves nodes: one that is new or found, and stands nowhere after it, as nowhere. Takes O(n log n) for n marks.
+/// Where a step leaves nodes: one that is new or found, and that no cell and no register has after it, as nowhere. One place may
+/// be listed twice. Takes O(n log n) for n marks and new nodes.
 pub fn places_after(alloc: Global, step: &Step) -> Result<List<Placed>, AllocError>
     requires rows { IsRising node_cmp (λ (r : Row). r.node) step.now.rows }
     requires regs { IsRising field_cmp (λ (r : Register). r.field) step.now.regs }
