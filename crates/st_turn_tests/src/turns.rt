@@ -10,8 +10,9 @@ ghost use Rattle.st_marks.specs.declared.marks.RowMarks.{RowMarks as Row};
 use st_agree_turn::{have_schemas_in_turn, push_cells, push_registers, push_rows};
 use st_clash::rise;
 use st_ids::{Atom, CellId, FieldId, Key, List, NodeId, OPENING, ROOT, Rev, Text};
-use st_marks::{How, Mark, NewNode, RegStep, RowMarks, Step};
+use st_marks::{How, Loose, Mark, NewNode, RegStep, RowMarks, Step};
 use st_turn_names::{push_made, push_owners};
+use st_turn_places::push_twice;
 use std::alloc::{AllocError, Global};
 use std::test::Fail;
 
@@ -71,6 +72,13 @@ const ELSEWHERE: [Mark; 1] = [Mark::Gap(CELL_OF_P)];
 const OWNED: [Mark; 1] = [Mark::Fill {
     cell: CELL_IN_Q,
     node: P,
+}];
+
+// The new node in another row than its own.
+const FOUND_IN_Q: [Mark; 1] = [Mark::Touch {
+    cell: CELL_IN_Q,
+    node: P,
+    how: How::Stay,
 }];
 
 fn push_row(
@@ -226,15 +234,53 @@ fn made_nodes_are_named(alloc: Global, first: &Step) -> Result<bool, AllocError>
     Ok(name_nodes(&found, &[P, P]) && have_schemas_in_turn(first, &then))
 }
 
+// The fields of nodes that are found elsewhere, if the first's rows and registers rise.
+fn places_apart(alloc: Global, first: &Step, then: &Step) -> Result<List<FieldId>, AllocError>
+    requires rows { IsRising node_cmp (λ (r : Row). r.node) then.now.rows }
+    requires regs { IsRising field_cmp (λ (r : Register). r.field) then.now.regs }
+{
+    let mut found = List::new(alloc);
+    if rows_rise(first) && registers_rise(first) {
+        push_twice(alloc, &mut found, first, then)?;
+    }
+    Ok(found)
+}
+
+// The same, if the second's rise too.
+fn nodes_twice(alloc: Global, first: &Step, then: &Step) -> Result<List<FieldId>, AllocError> {
+    if rows_rise(then) && registers_rise(then) {
+        places_apart(alloc, first, then)
+    } else {
+        Ok(List::new(alloc))
+    }
+}
+
+// The new node is found in q, and a, which is left in the register, nowhere.
+fn strayed(alloc: Global) -> Result<Step, AllocError> {
+    let mut step = of_row(alloc, Q, &FOUND_IN_Q)?;
+    step.loose.push(Loose {
+        node: A,
+        how: How::Stay,
+    })?;
+    Ok(step)
+}
+
+fn places_are_named(alloc: Global, first: &Step) -> Result<bool, AllocError> {
+    let then = strayed(alloc)?;
+    let found = nodes_twice(alloc, first, &then)?;
+    Ok(name_nodes(&found, &[ROOT, Q, ROOT]))
+}
+
 #[test]
 fn fields_are_named(rt: HostRuntime) -> Result<(), Fail> {
     let alloc = rt.alloc();
     let first = first(alloc)?;
-    let (rows, cells) = (
+    let (rows, cells, places) = (
         rows_are_named(alloc, &first)?,
         cells_are_named(alloc, &first)?,
+        places_are_named(alloc, &first)?,
     );
-    assert!(rt; rows && cells, "{rows} {cells}");
+    assert!(rt; rows && cells && places, "{rows} {cells} {places}");
     Ok(())
 }
 
