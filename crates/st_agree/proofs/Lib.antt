@@ -1,7 +1,7 @@
-mod TestAnswers
+pub mod TestAnswers
 mod NamedNodes
-mod RulesObeyed
+pub mod RulesObeyed
 mod ShownPlaces
-mod AllRules
+pub mod AllRules
 mod FieldsFound
 mod NodesTwice

@@ -35,8 +35,8 @@ fn apart_at(alloc: Global, field: &FieldId) -> Result<FieldApart, AllocError>
     Ok(FieldApart { field })
 }
 
-// What comes of the fields that are named.
-fn refused_at(alloc: Global, found: &[FieldId]) -> Result<(), Or<FieldApart>>
+/// The refusal at the least of the fields that are named, if one is.
+pub fn refused_at(alloc: Global, found: &[FieldId]) -> Result<(), Or<FieldApart>>
     ensures ok { OnOk result (found.now ≡ []) }
     ensures among { IfRefused result (λ a. Has found.now a.field) }
     ensures least { IfRefused result (λ a. (g : Field) → Has found.now g → is_lt (field_cmp g a.field) ≡ false) }

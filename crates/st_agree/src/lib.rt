@@ -11,6 +11,6 @@ mod rising;
 mod rows;
 mod search;
 
-pub use agreement::{FieldApart, agree};
+pub use agreement::{FieldApart, agree, refused_at};
 pub use look::{register_at, row_at};
 pub use named::clashes;

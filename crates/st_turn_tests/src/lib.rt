@@ -2,4 +2,6 @@
 #![tactic(auto)]
 
 #[cfg(test)]
+mod composing;
+#[cfg(test)]
 mod turns;

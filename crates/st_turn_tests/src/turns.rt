@@ -18,7 +18,7 @@ use std::test::Fail;
 
 const OURS: Rev = Rev { session: 2, num: 1 };
 
-const A: NodeId = NodeId(Atom {
+pub(crate) const A: NodeId = NodeId(Atom {
     rev: OPENING,
     at: 1,
 });
@@ -28,9 +28,9 @@ const Q: NodeId = NodeId(Atom {
     at: 2,
 });
 
-const P: NodeId = NodeId(Atom { rev: OURS, at: 0 });
+pub(crate) const P: NodeId = NodeId(Atom { rev: OURS, at: 0 });
 
-const CELL_OF_A: CellId = CellId(Atom {
+pub(crate) const CELL_OF_A: CellId = CellId(Atom {
     rev: OPENING,
     at: 1,
 });
@@ -40,7 +40,7 @@ const CELL_IN_Q: CellId = CellId(Atom {
     at: 2,
 });
 
-const CELL_OF_P: CellId = CellId(Atom { rev: OURS, at: 0 });
+pub(crate) const CELL_OF_P: CellId = CellId(Atom { rev: OURS, at: 0 });
 
 const SWAPPED: [Mark; 2] = [
     Mark::Touch {
@@ -56,7 +56,7 @@ const SWAPPED: [Mark; 2] = [
 ];
 
 // Two full cells, where the first step leaves one of them empty.
-const BOTH_FULL: [Mark; 2] = [
+pub(crate) const BOTH_FULL: [Mark; 2] = [
     Mark::Skip(1),
     Mark::Touch {
         cell: CELL_OF_P,
@@ -123,7 +123,7 @@ fn no_step(alloc: Global) -> Step {
     }
 }
 
-fn first(alloc: Global) -> Result<Step, AllocError> {
+pub(crate) fn first(alloc: Global) -> Result<Step, AllocError> {
     let mut step = no_step(alloc);
     push_new(alloc, &mut step)?;
     push_row(alloc, &mut step, ROOT, &SWAPPED)?;
@@ -131,7 +131,7 @@ fn first(alloc: Global) -> Result<Step, AllocError> {
     Ok(step)
 }
 
-fn of_row(alloc: Global, node: NodeId, marks: &[Mark]) -> Result<Step, AllocError> {
+pub(crate) fn of_row(alloc: Global, node: NodeId, marks: &[Mark]) -> Result<Step, AllocError> {
     let mut step = no_step(alloc);
     push_row(alloc, &mut step, node, marks)?;
     Ok(step)
