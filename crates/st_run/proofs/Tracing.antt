@@ -1,11 +1,11 @@
 -- Replies to the lines of a trace.
-use Rattle.std.proofs.Common.{◌≡◌, inr, ℕ, ◌+◌, ◌≤◌, List, [], Option, Some, None, Ok, refl, sym, ◌∙◌, ap, subst, arith}
+use Rattle.std.proofs.Common.{◌≡◌, false, true, inr, ℕ, ◌+◌, ◌≤◌, List, [], Option, Some, None, Ok, refl, sym, ◌∙◌, ap, subst, arith}
 use Rattle.st_json.specs.declared.fault.BadCause.{BadCause}
 use Rattle.st_lists.specs.declared.lists.WorldState.{WorldState}
 use Rattle.st_pieces.specs.Told.{IsEnd, IsReply}
 use Rattle.st_pieces.specs.declared.responder.Reply.{Reply}
 use Rattle.st_pieces.specs.declared.responder.Reply.TheVariants.{Goes, Ends}
-use Rattle.st_plain.specs.Stands.{MayStep, Stands}
+use Rattle.st_plain.specs.Stands.{IsSpent, MayStep, Stands}
 use Rattle.st_plain.specs.declared.world.World.{World}
 use Rattle.st_script.specs.AnswerText.{answer_line}
 use Rattle.st_script.specs.Header.{HeaderView}
@@ -19,7 +19,7 @@ use Rattle.st_answers.specs.Meaning.{EndsAt, FailsAt, FinishesAt, Meaning}
 use Rattle.st_answers.specs.Trace.{TakesTrace, TraceState, opened, trace, unopened}
 use Rattle.st_run.specs.declared.trace.Tracing.{Tracing}
 use Rattle.st_run.specs.inside.Replies.{IsRefusal, IsTelling}
-use Rattle.st_run.specs.inside.Standing.{IsOpened, IsOpenedIn, IsStepReply, StandsForTrace}
+use Rattle.st_run.specs.inside.Standing.{GoesOn, IsOpened, IsOpenedIn, IsStepReply, StandsForTrace}
 
 -- ## Any command
 
@@ -70,11 +70,21 @@ same_world o x y e f = let r : Some x ≡ Some y = sym e ∙ f in cc
 no_world : (o : Option World) (x : World) → o ≡ Some x → o ≡ None → ⊥
 no_world o x e f = let r : Some x ≡ None = sym e ∙ f in cc
 
--- it may make a step
-pub may_go_on : (t : Tracing) (n : ℕ) (w : World) → n ≤ 65536 → t.world ≡ Some w → (s : TraceState) × StandsForTrace t n s → MayStep w
+-- it goes on
+pub may_go_on : (t : Tracing) (n : ℕ) (w : World) → n ≤ 65536 → t.world ≡ Some w → (s : TraceState) × StandsForTrace t n s → GoesOn w
 may_go_on t n w few is (unopened, stands) = absurd (no_world t.world w is stands.0)
 may_go_on t n w few is (opened h v, (x, at, k, counted, stands)) =
-    inr (k, h, v, subst (λ (y : World). Stands k y h v) (same_world t.world x w at is) stands, omega (arith, few, counted))
+    (k, h, v, subst (λ (y : World). Stands k y h v) (same_world t.world x w at is) stands, omega (arith, few, counted))
+
+-- so it may make a step, and isn't spent
+pub may_step : (w : World) → GoesOn w → MayStep w
+may_step w goes = inr goes
+
+pub never_spent : (w : World) → GoesOn w → IsSpent w → ⊥
+never_spent w goes spent =
+    let fresh : w.spent ≡ false = goes.3.fresh in
+    let is : w.spent ≡ true = spent in
+    cc
 
 -- a line is answered by the world
 pub line_taken : (old new : Tracing) (n : ℕ) (w u : World) (line : List ℕ) (r : Reply BadCause) → old.world ≡ Some w → new.world ≡ Some u

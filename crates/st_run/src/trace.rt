@@ -8,11 +8,12 @@ ghost use Rattle.st_script.specs.Steps.{step_view, IsWithinLimits};
 ghost use Rattle.st_lists.specs.Clients.{empty_state};
 ghost use Rattle.st_lists.specs.declared.lists.WorldState.{WorldState};
 ghost use Rattle.st_pieces.specs.Told.{IsReply};
-ghost use Rattle.st_plain.specs.Stands.{MayStep, Stands};
+ghost use Rattle.st_plain.specs.Stands.{Stands};
+ghost use Rattle.st_world.specs.World.{IsNext};
 ghost use Rattle.st_answers.specs.Meaning.{EndsAt, FailsAt, FinishesAt};
 ghost use Rattle.st_answers.specs.Trace.{TraceState, TakesTrace, trace, unopened, opened};
 ghost use Rattle.st_run.specs.inside.Replies.{IsTelling};
-ghost use Rattle.st_run.specs.inside.Standing.{IsOpened, IsOpenedIn, IsStepReply, StandsForTrace};
+ghost use Rattle.st_run.specs.inside.Standing.{GoesOn, IsOpened, IsOpenedIn, IsStepReply, StandsForTrace};
 
 use crate::reply::{refuse, tell, tell_nothing};
 use st_ids::Or;
@@ -28,20 +29,33 @@ pub struct Tracing {
     pub world: Option<World>,
 }
 
+// Makes a step of a world that isn't spent.
+#[tactic(auto, using(crate::proofs::Tracing::may_step, crate::proofs::Tracing::never_spent))]
+fn make_step(alloc: Global, world: &mut World, step: &TraceStep) -> Result<Answer, AllocError>
+    requires goes { GoesOn world.old }
+    requires form { IsWithinLimits (step_view step.now) }
+    ensures { IfOk result (λ a. (k : ℕ) (h : HeaderView) (w : WorldState) → Stands k world.old h w
+        → (v : WorldState) × IsNext h w (step_view step.now) v a × Stands (k + 1) world.new h v) }
+{
+    match world.step(alloc, step) {
+        Ok(answer) => Ok(answer),
+        Err(Or::NoMemory) => Err(AllocError),
+        Err(Or::Fault(_)) => unreachable!(),
+    }
+}
+
 // Answers a step.
 fn take_step(
     alloc: Global,
     world: &mut World,
     step: &TraceStep,
 ) -> Result<Reply<BadCause>, AllocError>
-    requires may { MayStep world.old }
+    requires goes { GoesOn world.old }
     requires form { IsWithinLimits (step_view step.now) }
     ensures { IfOk result (λ r. (k : ℕ) (h : HeaderView) (w : WorldState) → Stands k world.old h w
         → IsStepReply h w (step_view step.now) (Stands (k + 1) world.new h) r) }
 {
-    let Ok(answer) = world.step(alloc, step) else {
-        return Err(AllocError);
-    };
+    let answer = make_step(alloc, world, step)?;
     let text = answer_line(alloc, &answer)?;
     tell(alloc, &text)
 }
@@ -54,7 +68,7 @@ fn take_read(
     line: &[u8],
     read: &Line,
 ) -> Result<Reply<BadCause>, AllocError>
-    requires may { MayStep world.old }
+    requires goes { GoesOn world.old }
     requires read { line_view read.now ≡ step_of_line line.now }
     ensures { IfOk result (λ r. (k : ℕ) (h : HeaderView) (w : WorldState) → Stands k world.old h w
         → IsReply (TakesTrace (opened h w) number line.now) (EndsAt trace (opened h w) number line.now)
@@ -73,7 +87,7 @@ fn take_line(
     number: u32,
     line: &[u8],
 ) -> Result<Reply<BadCause>, AllocError>
-    requires may { MayStep world.old }
+    requires goes { GoesOn world.old }
     ensures { IfOk result (λ r. (k : ℕ) (h : HeaderView) (w : WorldState) → Stands k world.old h w
         → IsReply (TakesTrace (opened h w) number line.now) (EndsAt trace (opened h w) number line.now)
         (IsOpened (k + 1) world.new) r) }

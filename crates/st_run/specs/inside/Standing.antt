@@ -1,5 +1,5 @@
 -- What stands for the states of a trace and of two schemas.
-use Rattle.std.specs.Prelude.{◌≡◌, ℕ, ◌+◌, true, false, Option, Some, None}
+use Rattle.std.specs.Prelude.{◌≡◌, ℕ, ◌+◌, ◌<◌, ◌^◌, true, false, Option, Some, None}
 use Rattle.st_json.specs.declared.fault.BadCause.{BadCause}
 use Rattle.st_lists.specs.declared.lists.WorldState.{WorldState}
 use Rattle.st_script.specs.AnswerText.{answer_line}
@@ -18,6 +18,10 @@ use Rattle.st_run.specs.declared.trace.Tracing.{Tracing}
 use Rattle.st_run.specs.declared.compat.Comparing.{Comparing}
 
 -- ## A trace
+
+-- a world stands for some lists, so that it isn't spent, and one step more can be counted
+abbrev pub GoesOn : World → Type 0
+GoesOn w = (steps : ℕ) × (h : HeaderView) × (v : WorldState) × Stands steps w h v × (steps + 1 < 2 ^ 32)
 
 -- a world stands for an opened state, after so many steps
 abbrev pub IsOpened : ℕ → World → TraceState → Type 0

@@ -9,5 +9,5 @@ use Rattle.st_run.proofs.trace.take_step.Goals as goal
 pub returns : goal.returns
 returns c =
     IfOk-weaker c.tell.result _ _
-    (λ r told k h w st. step_told h w (step_view c.args.step.now) (Stands (k + 1) c.step.new.self h) c.in-Ok.answer r (c.in-Ok.ensures.next k h w st)
+    (λ r told k h w st. step_told h w (step_view c.args.step.now) (Stands (k + 1) c.make_step.new.world h) _ r (c.in_ok-answer.ensures k h w st)
     (subst (λ (t : List ℕ). IsTelling t r) c.in_ok-text.ensures told)) c.tell.ensures

@@ -6,7 +6,7 @@ use Rattle.st_run.proofs.trace.TracingResponder.take.Goals as goal
 pub take_line-requires : goal.take_line-requires
 take_line-requires c =
     let is : c.args.self.now.world ≡ Some c.in-Some.world = search rules in
-    record { may = may_go_on c.args.self.now c.args.number c.in-Some.world c.requires.few is c.requires.stands }
+    record { goes = may_go_on c.args.self.now c.args.number c.in-Some.world c.requires.few is c.requires.stands }
 
 pub returns-in-Some : goal.returns-in-Some
 returns-in-Some c =
