@@ -2,12 +2,13 @@
 use Rattle.std.specs.Prelude.{◌≡◌, ◌⊎◌, ℕ, ◌+◌, Bool, true, false, length, List, [], ◌∷◌}
 use Rattle.st_json.specs.declared.fault.BadCause.{BadCause}
 use Rattle.st_pieces.specs.Lines.{Line, cut, is_long}
+use Rattle.st_answers.specs.Algebra.{algebra}
 use Rattle.st_answers.specs.Compat.{compat}
 use Rattle.st_answers.specs.Endings.{Output, bad_line, before, cut_short, ended, long_output}
 use Rattle.st_answers.specs.Meaning.{Meaning}
 use Rattle.st_answers.specs.Trace.{trace}
 use Rattle.st_answers.specs.declared.command.Command.{Command}
-use Rattle.st_answers.specs.declared.command.Command.TheVariants.{Trace, Compat}
+use Rattle.st_answers.specs.declared.command.Command.TheVariants.{Trace, Compat, Algebra}
 
 -- the whole, or nothing of it where something failed before
 abbrev pub OrCutShort : (Output → Type 0) → Output → Type 0
@@ -50,6 +51,7 @@ AnswersFrom m s n start (l ∷ ls) out =
 abbrev pub meaning_of : Command → Meaning
 meaning_of Trace = trace
 meaning_of Compat = compat
+meaning_of Algebra = algebra
 
 -- a command over an input
 abbrev pub Answers : Command → List ℕ → Output → Type 0

@@ -1,3 +1,4 @@
+pub mod Algebra
 pub mod Answers
 pub mod Compat
 pub mod Endings

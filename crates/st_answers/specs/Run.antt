@@ -10,7 +10,7 @@ use Rattle.st_answers.specs.Answers.{Answers, meaning_of}
 use Rattle.st_answers.specs.Endings.{Output, usage_output}
 use Rattle.st_answers.specs.Meaning.{EndsAt, FailsAt, FinishesAt, Meaning}
 use Rattle.st_answers.specs.declared.command.Command.{Command}
-use Rattle.st_answers.specs.declared.command.Command.TheVariants.{Trace, Compat}
+use Rattle.st_answers.specs.declared.command.Command.TheVariants.{Trace, Compat, Algebra}
 use Rattle.st_answers.specs.declared.outcome.Outcome.{Outcome}
 use Rattle.st_answers.specs.declared.outcome.Outcome.TheVariants.{Done, Usage, BadLine, TooLong, ReadFault, WriteFault, NoMemory}
 
@@ -40,7 +40,7 @@ IsStopped m left rest old new = IsCutOff m.Takes (EndsAt m) (FinishesAt m) (Fail
 abbrev pub command_asked : Request → Option Command
 command_asked request.Trace = Some Trace
 command_asked request.Replay = None
-command_asked request.Algebra = None
+command_asked request.Algebra = Some Algebra
 command_asked request.Compat = Some Compat
 command_asked (request.Work seed steps) = None
 

@@ -7,4 +7,6 @@ pub enum Command {
     Trace,
     /// The relation of two schemas.
     Compat,
+    /// The answers to requests to the algebra of changes.
+    Algebra,
 }

@@ -1,5 +1,5 @@
--- An input has one list of answers.
-use Rattle.std.proofs.Common.{◌≡◌, ◌⊎◌, inl, inr, ℕ, ◌+◌, Bool, true, false, List, [], ◌∷◌, ◌++◌, append_assoc, append-nil, Result, Ok, Err, codes, length, refl, sym, ap, ◌∙◌, subst}
+-- An input has one list of answers under a command other than `algebra`.
+use Rattle.std.proofs.Common.{◌≡◌, ◌≢◌, ◌⊎◌, inl, inr, ℕ, ◌+◌, Bool, true, false, List, [], ◌∷◌, ◌++◌, append_assoc, append-nil, Result, Ok, Err, codes, length, refl, sym, ap, ◌∙◌, subst}
 use Rattle.st_json.specs.declared.fault.BadCause.{BadCause}
 use Rattle.st_compat.specs.RelationText.{relation_line}
 use Rattle.st_compat.specs.Relation.{IsRelation}
@@ -30,7 +30,7 @@ use Rattle.st_answers.specs.Meaning.{Meaning}
 use Rattle.st_answers.specs.Run.{NothingFailed}
 use Rattle.st_answers.specs.Trace.{IsBadInTrace, IsStep, TakesTrace, TraceState, opened, trace, unopened}
 use Rattle.st_answers.specs.declared.command.Command.{Command}
-use Rattle.st_answers.specs.declared.command.Command.TheVariants.{Trace, Compat}
+use Rattle.st_answers.specs.declared.command.Command.TheVariants.{Trace, Compat, Algebra}
 use Rattle.st_answers.specs.declared.outcome.Outcome.TheVariants.{NoMemory}
 use Rattle.st_one_laws.specs.AlikeWorlds.{AreAlike}
 use Rattle.st_one_laws.proofs.StepsOfWorlds.{next_alike}
@@ -262,15 +262,16 @@ compat_one = record {
 
 -- ## Each input
 
-front_one : (c : Command) (bytes : List ℕ) (a b : Output) → Answers c bytes a → Answers c bytes b → NothingFailed b.outcome → IsFront a b
-front_one Trace bytes a b y z fine = from_one trace AreOne trace_one (cut bytes) unopened unopened 1 0 a b tt y z fine
-front_one Compat bytes a b y z fine = from_one compat AreSame compat_one (cut bytes) unread unread 1 0 a b refl y z fine
+front_one : (c : Command) → c ≢ Algebra → (bytes : List ℕ) (a b : Output) → Answers c bytes a → Answers c bytes b → NothingFailed b.outcome → IsFront a b
+front_one Trace other bytes a b y z fine = from_one trace AreOne trace_one (cut bytes) unopened unopened 1 0 a b tt y z fine
+front_one Compat other bytes a b y z fine = from_one compat AreSame compat_one (cut bytes) unread unread 1 0 a b refl y z fine
+front_one Algebra other bytes a b y z fine = absurd (other refl)
 
-pub front_of_answers : (c : Command) (bytes : List ℕ) (a b : Output) → Answers c bytes a → Answers c bytes b → NothingFailed b.outcome → (rest : List ℕ) × (b.bytes ≡ a.bytes ++ rest)
-front_of_answers c bytes a b y z fine = (front_one c bytes a b y z fine).1
+pub front_of_answers : (c : Command) → c ≢ Algebra → (bytes : List ℕ) (a b : Output) → Answers c bytes a → Answers c bytes b → NothingFailed b.outcome → (rest : List ℕ) × (b.bytes ≡ a.bytes ++ rest)
+front_of_answers c other bytes a b y z fine = (front_one c other bytes a b y z fine).1
 
-pub answers_one : (c : Command) (bytes : List ℕ) (a b : Output) → Answers c bytes a → Answers c bytes b → NothingFailed a.outcome → NothingFailed b.outcome → a ≡ b
-answers_one c bytes a b y z well fine = go (front_one c bytes a b y z fine).0
+pub answers_one : (c : Command) → c ≢ Algebra → (bytes : List ℕ) (a b : Output) → Answers c bytes a → Answers c bytes b → NothingFailed a.outcome → NothingFailed b.outcome → a ≡ b
+answers_one c other bytes a b y z well fine = go (front_one c other bytes a b y z fine).0
   where
     go : (a ≡ b) ⊎ (a.outcome ≡ NoMemory) → a ≡ b
     go (inl e) = e

@@ -1,5 +1,5 @@
--- Each input has its answers: some output is told of it in which nothing failed.
-use Rattle.std.proofs.Common.{◌≡◌, ◌⊎◌, ℕ, ◌+◌, Bool, true, false, List, [], ◌∷◌, ◌++◌, length, Option, Some, None, Result, Ok, Err, codes, refl, inl, inr}
+-- Each input has its answers under a command other than `algebra`: some output is told of it in which nothing failed.
+use Rattle.std.proofs.Common.{◌≡◌, ◌≢◌, ap, ◌⊎◌, ℕ, ◌+◌, Bool, true, false, List, [], ◌∷◌, ◌++◌, length, Option, Some, None, Result, Ok, Err, codes, refl, inl, inr}
 use Rattle.st_json.specs.declared.fault.BadCause.{BadCause}
 use Rattle.st_json.specs.declared.fault.BadCause.TheVariants.{Header, Shape}
 use Rattle.st_compat.specs.Compared.{IsCompared}
@@ -31,7 +31,7 @@ use Rattle.st_answers.specs.Meaning.{Meaning}
 use Rattle.st_answers.specs.Run.{IsAnswered, IsAnsweredAs, NothingFailed, command_of}
 use Rattle.st_answers.specs.Trace.{TakesTrace, TraceState, opened, trace, unopened}
 use Rattle.st_answers.specs.declared.command.Command.{Command}
-use Rattle.st_answers.specs.declared.command.Command.TheVariants.{Trace, Compat}
+use Rattle.st_answers.specs.declared.command.Command.TheVariants.{Trace, Compat, Algebra}
 use Rattle.st_answers.specs.declared.outcome.Outcome.{Outcome}
 use Rattle.st_answers.specs.declared.outcome.Outcome.TheVariants.{Done, Usage, BadLine, TooLong, ReadFault, WriteFault, NoMemory}
 
@@ -174,12 +174,13 @@ compat_ends related holds = inl ([], refl)
 
 -- ## Each input
 
-bytes_have : (c : Command) (bytes : List ℕ) → Whole (Answers c bytes)
-bytes_have Trace bytes = lines_have trace IsWorldIn (record { takes = trace_takes; ends = trace_ends }) (cut bytes) unopened 1 0 tt
-bytes_have Compat bytes = lines_have compat IsSoundIn (record { takes = compat_takes; ends = compat_ends }) (cut bytes) unread 1 0 tt
+bytes_have : (c : Command) (bytes : List ℕ) → c ≢ Algebra → Whole (Answers c bytes)
+bytes_have Trace bytes other = lines_have trace IsWorldIn (record { takes = trace_takes; ends = trace_ends }) (cut bytes) unopened 1 0 tt
+bytes_have Compat bytes other = lines_have compat IsSoundIn (record { takes = compat_takes; ends = compat_ends }) (cut bytes) unread 1 0 tt
+bytes_have Algebra bytes other = absurd (other refl)
 
-pub has_answers : (c : Command) (bytes : List ℕ) → (out : Output) × Answers c bytes out × NothingFailed out.outcome
-has_answers c bytes = let t = bytes_have c bytes in (t.0, t.1, end_unfailed t.0.outcome t.2)
+pub has_answers : (c : Command) (bytes : List ℕ) → c ≢ Algebra → (out : Output) × Answers c bytes out × NothingFailed out.outcome
+has_answers c bytes other = let t = bytes_have c bytes other in (t.0, t.1, end_unfailed t.0.outcome t.2)
 
 -- ## Any words
 
@@ -196,10 +197,10 @@ command_decided c left written out wanted ReadFault is h = absurd h
 command_decided c left written out wanted WriteFault is h = absurd h
 command_decided c left written out wanted NoMemory is h = absurd h
 
-pub has_answer : (words : List (List ℕ)) (left written : List ℕ)
+pub has_answer : (words : List (List ℕ)) (left written : List ℕ) → command_of words ≢ Some Algebra
     → (outcome : Outcome) × (rest : Option (List ℕ)) × (after : Option (List ℕ)) × NothingFailed outcome × IsAnswered words (Some left) rest (Some written) after outcome
 has_answer words left written = by (command_of words)
   where
-    by : (command : Option Command) → IsDecided command left written
-    by (Some c) = let t = bytes_have c left in command_decided c left written t.0 t.1 t.0.outcome refl t.2
-    by None = (Usage, Some left, Some (written ++ usage_output.bytes), tt, (refl, (usage_output, refl, refl, refl)))
+    by : (command : Option Command) → command ≢ Some Algebra → IsDecided command left written
+    by (Some c) other = let t = bytes_have c left (λ e. other (ap Some e)) in command_decided c left written t.0 t.1 t.0.outcome refl t.2
+    by None other = (Usage, Some left, Some (written ++ usage_output.bytes), tt, (refl, (usage_output, refl, refl, refl)))

@@ -6,6 +6,7 @@ ghost use Rattle.st_answers.specs.Endings.{usage_data, usage_output};
 ghost use Rattle.st_answers.specs.Run.{command_asked, command_of, IsCarriedOut, IsOutput, IsAnswered};
 ghost use Rattle.st_run.specs.inside.Ends.{outcome_of};
 
+use crate::algebra::Asking;
 use crate::compat::Comparing;
 use crate::trace::Tracing;
 use serde_json::{Value, json};
@@ -23,7 +24,8 @@ fn command_asked(request: Request) -> Option<Command>
     match request {
         Request::Trace => Some(Command::Trace),
         Request::Compat => Some(Command::Compat),
-        Request::Replay | Request::Algebra | Request::Work { .. } => None,
+        Request::Algebra => Some(Command::Algebra),
+        Request::Replay | Request::Work { .. } => None,
     }
 }
 
@@ -99,6 +101,17 @@ fn compat<S: Source, K: Sink>(alloc: Global, source: &mut S, sink: &mut K) -> Ru
     answer_lines(alloc, &mut comparing, source, sink)
 }
 
+// Answers requests to the algebra of changes.
+fn algebra<S: Source, K: Sink>(alloc: Global, source: &mut S, sink: &mut K) -> RunEnd<BadCause>
+    ensures carried { IsCarriedOut Command.Algebra (S.left source.old) (S.left source.new)
+        (K.written sink.old) (K.written sink.new) (outcome_of result) }
+    ensures read_fault { result ≡ RunEnd.ReadFault → Rose (S.faults source.old) (S.faults source.new) }
+    ensures write_fault { result ≡ RunEnd.WriteFault → Rose (K.faults sink.old) (K.faults sink.new) }
+{
+    let mut asking = Asking {};
+    answer_lines(alloc, &mut asking, source, sink)
+}
+
 // Answers the lines of a source by a command.
 fn answer<S: Source, K: Sink>(
     alloc: Global,
@@ -114,6 +127,7 @@ fn answer<S: Source, K: Sink>(
     match command {
         Command::Trace => trace(alloc, source, sink),
         Command::Compat => compat(alloc, source, sink),
+        Command::Algebra => algebra(alloc, source, sink),
     }
 }
 

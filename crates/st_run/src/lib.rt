@@ -1,6 +1,7 @@
 //! A run: from the words, the source and the sink of a program to its answers and its outcome.
 #![tactic(auto)]
 
+mod algebra;
 mod command;
 mod compat;
 mod laws;

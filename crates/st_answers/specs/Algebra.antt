@@ -1,0 +1,122 @@
+-- Requests to the algebra of changes: each line asks for one value, and is answered by itself.
+use Rattle.std.specs.Prelude.{◌≡◌, ◌↔◌, ◌⊎◌, ℕ, Bool, List, [], Ok, Err, IsTrue, MatchOption, codes}
+use Rattle.serde_json.specs.Data.{Data}
+use Rattle.st_ids.specs.Listing.{Has}
+use Rattle.st_ids.specs.declared.names.FieldId.{FieldId}
+use Rattle.st_ids.specs.declared.names.Rev.{Rev}
+use Rattle.st_json.specs.declared.fault.BadCause.{BadCause}
+use Rattle.st_json.specs.declared.fault.BadCause.TheVariants.{Shape}
+use Rattle.st_marks.specs.Agree.{Agrees, ComposeClash, IsApartAt, RebaseClash}
+use Rattle.st_marks.specs.Back.{IsBack, retreat}
+use Rattle.st_marks.specs.CarryOut.{full}
+use Rattle.st_marks.specs.Document.{Document, HasShortRows, IsSoundInForm, revs}
+use Rattle.st_marks.specs.Embedding.{IsEmbedding}
+use Rattle.st_marks.specs.Extends.{IsExtendedBy}
+use Rattle.st_marks.specs.Intent.{Fits}
+use Rattle.st_marks.specs.Step.{IsStep}
+use Rattle.st_marks.specs.Verdict.{IsBaseInEffect, IsVerdict, carried_document}
+use Rattle.st_marks.specs.declared.changes.Change.{Change}
+use Rattle.st_marks.specs.declared.intents.Intent.{Intent}
+use Rattle.st_marks.specs.declared.schemas.SchemaStep.{SchemaStep}
+use Rattle.st_marks.specs.declared.steps.Step.{Step}
+use Rattle.st_marks.specs.declared.verdicts.Verdict.{Verdict}
+use Rattle.st_requests.specs.Answers.{apart_answer, change_answer, line_of, step_answer, verdict_answer}
+use Rattle.st_requests.specs.Requests.{IsRequest}
+use Rattle.st_requests.specs.declared.request.Request.{Request}
+use Rattle.st_requests.specs.declared.request.Request.TheVariants.{Compose, Join, Invert, Rebase, Bridge, Effect, Revert}
+use Rattle.st_answers.specs.Meaning.{Meaning}
+
+-- ## What is asked for
+
+-- A value is the one that is asked for where it is so over every document on which the arguments stand. Of arguments that
+-- agree and stand over no document nothing more is asked.
+
+-- the step over two in turn
+abbrev pub IsComposed : Step → Step → Step → Type 0
+IsComposed S T U = (D E F : Document) → IsExtendedBy D E → IsExtendedBy E F
+    → IsStep D E S → IsStep E F T → IsStep D F U
+
+-- the way back over a step
+abbrev pub IsInverted : Step → Step → Type 0
+IsInverted S U = (D E : Document) → IsExtendedBy D E → IsStep D E S → IsStep E (retreat D E) U
+
+-- the change of the same intent after the step
+abbrev pub IsRebased : Change → Step → Change → Type 0
+IsRebased C S X = (D E : Document) (N : Intent) → IsExtendedBy D E → Fits D N → Fits E N
+    → IsEmbedding D N C → IsStep D E S → IsEmbedding E N X
+
+-- the step over a commit, which its verdict makes whole or void before the step and after it
+abbrev pub IsBridged : Change → Step → Step → Type 0
+IsBridged C S U = (D E : Document) (N : Intent) (v u : Verdict) → IsExtendedBy D E → Fits D N → Fits E N
+    → HasShortRows (full D N) → HasShortRows (full E N)
+    → IsEmbedding D N C → IsStep D E S → IsVerdict D N v → IsVerdict E N u
+    → IsStep (carried_document v D N) (carried_document u E N) U
+
+-- the step that a commit makes, with its verdict
+abbrev pub IsEffect : Change → Step → Verdict → Type 0
+IsEffect C U v = (D : Document) (N : Intent) → IsSoundInForm D → Fits D N
+    → HasShortRows (full D N) → IsEmbedding D N C → IsVerdict D N v × IsStep D (carried_document v D N) U
+
+-- a step takes the schema of a revision out of effect: it goes, and doesn't come again
+abbrev pub TakesOut : Step → Rev → Type 0
+TakesOut S u = MatchOption S.schema ⊥ (λ (s : SchemaStep). Has (revs s.cut) u × (Has (revs s.add) u → ⊥))
+
+-- the change that takes a step back where it leads, of the commit of a revision under a schema
+pub record IsReverted (S : Step) (rev under : Rev) (X : Change) : Type 0 where
+  -- it is that of the intent that leads back where the schema is in effect; where it isn't, but for `base`
+  pub back : (D E : Document) (B : Intent) → IsExtendedBy D E → IsStep D E S → IsBack D E rev under B
+      → Has (revs E.schemas) under → IsEmbedding E B X
+  pub back_under : (D E : Document) (B : Intent) → IsExtendedBy D E → IsStep D E S → IsBack D E rev under B
+      → (b : Bool) → IsTrue b ↔ IsBaseInEffect E B → IsEmbedding E B (record X { base = b })
+  pub base : IsTrue X.base ↔ (TakesOut S under → ⊥)
+
+-- ## Answers
+
+-- a value is told
+abbrev pub Told : {V : Type 0} → (V → Type 0) → (V → Data) → List ℕ → Type 0
+Told {V} Is answer text = (v : V) × Is v × (text ≡ line_of (answer v))
+
+-- it is told of two arguments that agree, and of others the least field at which they don't
+abbrev pub ToldOrApart : {V : Type 0} → (FieldId → Type 0) → (V → Type 0) → (V → Data) → List ℕ → Type 0
+ToldOrApart Clash Is answer text =
+    (Agrees Clash × Told Is answer text)
+    ⊎ ((f : FieldId) × IsApartAt Clash f × (text ≡ line_of (apart_answer f)))
+
+-- the line that answers a request. What joins two parts of a commit isn't answered yet
+abbrev pub AnswersRequest : Request → List ℕ → Type 0
+AnswersRequest (Compose first last) text =
+    ToldOrApart (ComposeClash first last) (IsComposed first last) (step_answer (codes "compose")) text
+AnswersRequest (Join first last) text = ⊥
+AnswersRequest (Invert step) text = Told (IsInverted step) (step_answer (codes "invert")) text
+AnswersRequest (Rebase change over) text =
+    ToldOrApart (RebaseClash change over) (IsRebased change over) (change_answer (codes "rebase")) text
+AnswersRequest (Bridge change step) text =
+    ToldOrApart (RebaseClash change step) (IsBridged change step) (step_answer (codes "bridge")) text
+AnswersRequest (Effect change) text =
+    (v : Verdict) × Told (λ U. IsEffect change U v) (λ U. verdict_answer (codes "effect") U v) text
+AnswersRequest (Revert step rev under) text = Told (IsReverted step rev under) (change_answer (codes "revert")) text
+
+-- ## Lines
+
+-- a line is a request, which is answered
+pub record IsAsked (line text : List ℕ) : Type 0 where
+  pub request : Request
+  pub is : IsRequest line (Ok request)
+  pub answered : AnswersRequest request text
+
+-- a line is no request, or one that isn't answered yet
+abbrev pub IsBadRequest : List ℕ → BadCause → Type 0
+IsBadRequest line c =
+    IsRequest line (Err c)
+    ⊎ ((first : Change) × (last : Change) × IsRequest line (Ok (Join first last)) × (c ≡ Shape))
+
+-- each line stands alone, and the input may end anywhere
+abbrev pub algebra : Meaning
+algebra = record {
+  State = Unit {0};
+  first = tt;
+  Takes = λ s n line text t. IsAsked line text;
+  IsBad = λ s line c. IsBadRequest line c;
+  Finishes = λ s last. last ≡ [];
+  Lacks = λ s c. ⊥;
+}

@@ -1,0 +1,17 @@
+use Rattle.std.proofs.Common.{codes, refl, inl}
+use Rattle.std.proofs.lemmas.Result.{IfOk-weaker}
+use Rattle.st_requests.specs.Answers.{line_of, step_answer}
+use Rattle.st_requests.specs.declared.request.Request.TheVariants.{Compose}
+use Rattle.st_run.proofs.AlgebraAnswers.{told_to}
+use Rattle.st_run.proofs.ShortTexts.{step_few}
+use Rattle.st_run.proofs.algebra.answer_compose.Goals as goal
+
+pub compose-requires : goal.compose-requires
+compose-requires c = step_few c.args.«then».now c.requires.1.1
+
+pub returns-in-Ok : goal.returns-in-Ok
+returns-in-Ok c =
+    let step = c.in-Ok.step in
+    IfOk-weaker c.tell_step.result _ _
+    (λ r h. told_to c.args.number (Compose c.args.first.now c.args.«then».now) (line_of (step_answer (codes "compose") step)) r
+    (inl (c.in-Ok.ensures.apart c.requires.0.0 c.requires.1.0, (step, c.in-Ok.ensures.composed, refl))) h) c.tell_step.ensures

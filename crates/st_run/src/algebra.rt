@@ -1,0 +1,205 @@
+//! The answers to requests to the algebra of changes.
+ghost use Rattle.std.specs.Prelude.{codes, IfOk};
+ghost use Rattle.st_requests.specs.Answers.{apart_answer, change_answer, line_of, step_answer, verdict_answer};
+ghost use Rattle.st_requests.specs.Normal.{IsNormal};
+ghost use Rattle.st_requests.specs.declared.request.Request.{Request as Asked};
+ghost use Rattle.st_answers.specs.Algebra.{algebra};
+ghost use Rattle.st_answers.specs.Meaning.{EndsAt, FailsAt, FinishesAt};
+ghost use Rattle.st_run.specs.inside.Replies.{IsAnswerTo, IsTelling};
+
+use crate::reply::{refuse, tell, tell_nothing};
+use st_agree::FieldApart;
+use st_bridge::bridge;
+use st_compose::compose;
+use st_effect::{Consequence, effect};
+use st_family::rebase;
+use st_ids::{Or, Rev};
+use st_json::BadCause;
+use st_marks::{Change, Step};
+use st_pieces::{Reply, Responder};
+use st_requests::{Request, apart_line, change_line, effect_line, read_request, step_line};
+use st_revert::revert;
+use st_steps::invert;
+use std::alloc::{AllocError, Global};
+
+/// Requests that are answered, each by itself.
+#[derive(Drop)]
+pub struct Asking {}
+
+// Tells a step.
+fn tell_step(alloc: Global, word: &str, step: &Step) -> Result<Reply<BadCause>, AllocError>
+    ensures { IfOk result (IsTelling (line_of (step_answer word.now step.now))) }
+{
+    let text = step_line(alloc, word, step)?;
+    tell(alloc, &text)
+}
+
+// Tells a change.
+fn tell_change(alloc: Global, word: &str, change: &Change) -> Result<Reply<BadCause>, AllocError>
+    ensures { IfOk result (IsTelling (line_of (change_answer word.now change.now))) }
+{
+    let text = change_line(alloc, word, change)?;
+    tell(alloc, &text)
+}
+
+// Tells what a change does.
+fn tell_effect(alloc: Global, done: &Consequence) -> Result<Reply<BadCause>, AllocError>
+    ensures { IfOk result
+        (IsTelling (line_of (verdict_answer (codes "effect") done.now.step done.now.verdict))) }
+{
+    let text = effect_line(alloc, "effect", &done.step, done.verdict)?;
+    tell(alloc, &text)
+}
+
+// Tells where two arguments don't agree.
+fn tell_apart(alloc: Global, apart: &FieldApart) -> Result<Reply<BadCause>, AllocError>
+    ensures { IfOk result (IsTelling (line_of (apart_answer apart.now.field))) }
+{
+    let text = apart_line(alloc, &apart.field)?;
+    tell(alloc, &text)
+}
+
+// Two steps in turn as one.
+fn answer_compose(
+    alloc: Global,
+    number: u32,
+    first: &Step,
+    then: &Step,
+) -> Result<Reply<BadCause>, AllocError>
+    requires { IsNormal (Asked.Compose first.now then.now) }
+    ensures { IfOk result (IsAnswerTo number (Asked.Compose first.now then.now)) }
+{
+    match compose(alloc, first, then) {
+        Ok(step) => tell_step(alloc, "compose", &step),
+        Err(Or::Fault(apart)) => tell_apart(alloc, &apart),
+        Err(Or::NoMemory) => Err(AllocError),
+    }
+}
+
+// Two parts of a commit as one change, which isn't answered yet.
+fn answer_join(
+    alloc: Global,
+    number: u32,
+    first: &Change,
+    then: &Change,
+) -> Result<Reply<BadCause>, AllocError>
+    ensures { IfOk result (IsAnswerTo number (Asked.Join first.now then.now)) }
+{
+    refuse(alloc, number, BadCause::Shape)
+}
+
+// The way back over a step.
+fn answer_invert(alloc: Global, number: u32, step: &Step) -> Result<Reply<BadCause>, AllocError>
+    requires { IsNormal (Asked.Invert step.now) }
+    ensures { IfOk result (IsAnswerTo number (Asked.Invert step.now)) }
+{
+    let back = invert(alloc, step)?;
+    tell_step(alloc, "invert", &back)
+}
+
+// A change after a step.
+fn answer_rebase(
+    alloc: Global,
+    number: u32,
+    change: &Change,
+    over: &Step,
+) -> Result<Reply<BadCause>, AllocError>
+    requires { IsNormal (Asked.Rebase change.now over.now) }
+    ensures { IfOk result (IsAnswerTo number (Asked.Rebase change.now over.now)) }
+{
+    match rebase(alloc, change, over) {
+        Ok(later) => tell_change(alloc, "rebase", &later),
+        Err(Or::Fault(apart)) => tell_apart(alloc, &apart),
+        Err(Or::NoMemory) => Err(AllocError),
+    }
+}
+
+// A step after a change.
+fn answer_bridge(
+    alloc: Global,
+    number: u32,
+    change: &Change,
+    step: &Step,
+) -> Result<Reply<BadCause>, AllocError>
+    requires { IsNormal (Asked.Bridge change.now step.now) }
+    ensures { IfOk result (IsAnswerTo number (Asked.Bridge change.now step.now)) }
+{
+    match bridge(alloc, step, change) {
+        Ok(later) => tell_step(alloc, "bridge", &later),
+        Err(Or::Fault(apart)) => tell_apart(alloc, &apart),
+        Err(Or::NoMemory) => Err(AllocError),
+    }
+}
+
+// What a change does where it stands.
+fn answer_effect(alloc: Global, number: u32, change: &Change) -> Result<Reply<BadCause>, AllocError>
+    requires { IsNormal (Asked.Effect change.now) }
+    ensures { IfOk result (IsAnswerTo number (Asked.Effect change.now)) }
+{
+    let done = effect(alloc, change)?;
+    tell_effect(alloc, &done)
+}
+
+// The change that takes a step back.
+fn answer_revert(
+    alloc: Global,
+    number: u32,
+    step: &Step,
+    rev: Rev,
+    under: Rev,
+) -> Result<Reply<BadCause>, AllocError>
+    requires { IsNormal (Asked.Revert step.now rev under) }
+    ensures { IfOk result (IsAnswerTo number (Asked.Revert step.now rev under)) }
+{
+    let change = revert(alloc, step, rev, under)?;
+    tell_change(alloc, "revert", &change)
+}
+
+// Answers a request.
+fn answer(alloc: Global, number: u32, request: &Request) -> Result<Reply<BadCause>, AllocError>
+    requires { IsNormal request.now }
+    ensures { IfOk result (IsAnswerTo number request.now) }
+{
+    match request {
+        Request::Compose { first, then } => answer_compose(alloc, number, first, then),
+        Request::Join { first, then } => answer_join(alloc, number, first, then),
+        Request::Invert { step } => answer_invert(alloc, number, step),
+        Request::Rebase { change, over } => answer_rebase(alloc, number, change, over),
+        Request::Bridge { change, step } => answer_bridge(alloc, number, change, step),
+        Request::Effect { change } => answer_effect(alloc, number, change),
+        Request::Revert { step, rev, under } => answer_revert(alloc, number, step, *rev, *under),
+    }
+}
+
+impl Responder for Asking {
+    type Ending = BadCause;
+
+    ghost State = { algebra.State };
+
+    ghost Stands = { λ asking n s. Unit {0} };
+
+    ghost Takes = { algebra.Takes };
+
+    ghost Ends = { EndsAt algebra };
+
+    ghost Finishes = { FinishesAt algebra };
+
+    ghost Fails = { FailsAt algebra };
+
+    fn take(
+        &mut self,
+        alloc: Global,
+        number: u32,
+        line: &[u8],
+    ) -> Result<Reply<BadCause>, AllocError> {
+        match read_request(alloc, line) {
+            Ok(request) => answer(alloc, number, &request),
+            Err(Or::NoMemory) => Err(AllocError),
+            Err(Or::Fault(cause)) => refuse(alloc, number, cause),
+        }
+    }
+
+    fn end(&mut self, alloc: Global, _number: u32) -> Result<Reply<BadCause>, AllocError> {
+        Ok(tell_nothing(alloc))
+    }
+}
