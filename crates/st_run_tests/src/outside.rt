@@ -29,6 +29,14 @@ const SCHEMAS: &str = r#"{"root":["list"],"types":[{"array":["text"],"name":"lis
 const UPGRADE: &str = r#"{"ok":"compat","view":"Upgrade"}
 "#;
 
+const REQUEST: &str =
+    r#"{"do":"invert","step":{"loose":[],"new":[["1.1.0","text","a"]],"regs":[],"rows":[["0.0.0",[1,["make","1.1.0","1.1.0"]]]],"schema":null}}
+"#;
+
+const WAY_BACK: &str =
+    r#"{"ok":"invert","step":{"loose":[],"new":[],"regs":[],"rows":[["0.0.0",[1,["out","1.1.0","1.1.0"]]]],"schema":null}}
+"#;
+
 const USAGE: &str = r#"{"usage":"trace | replay | algebra | compat | work --seed N --steps M"}
 "#;
 
@@ -174,6 +182,62 @@ fn faults_around_two_schemas(rt: HostRuntime) -> Result<(), Fail> {
         write_of_a_relation_fails(alloc)?,
     );
     let none = schemas_are_related(alloc)?;
+    assert!(rt; read && write && none, "{read} {write} {none}");
+    Ok(())
+}
+
+// The answer to a request is written in parts, of which the fifth fails.
+fn write_of_a_step_fails(alloc: Global) -> Result<bool, AllocError> {
+    let writes = one(alloc, 5)?;
+    ends(
+        alloc,
+        "algebra",
+        REQUEST,
+        Vec::new(alloc),
+        1,
+        writes,
+        Outcome::WriteFault,
+        "{\"ok",
+    )
+}
+
+// The second read, which would find the end of the input, fails when the request is answered.
+fn read_of_requests_fails(alloc: Global) -> Result<bool, AllocError> {
+    let reads = one(alloc, 2)?;
+    ends(
+        alloc,
+        "algebra",
+        REQUEST,
+        reads,
+        4096,
+        Vec::new(alloc),
+        Outcome::ReadFault,
+        WAY_BACK,
+    )
+}
+
+// No request is no answer.
+fn nothing_is_asked(alloc: Global) -> Result<bool, AllocError> {
+    ends(
+        alloc,
+        "algebra",
+        "",
+        Vec::new(alloc),
+        1,
+        Vec::new(alloc),
+        Outcome::Done,
+        "",
+    )
+}
+
+#[test]
+fn faults_around_requests(rt: HostRuntime) -> Result<(), Fail> {
+    let alloc = rt.alloc();
+    let (read, write) = (
+        read_of_requests_fails(alloc)?,
+        write_of_a_step_fails(alloc)?,
+    );
+    let none = nothing_is_asked(alloc)?;
     assert!(rt; read && write && none, "{read} {write} {none}");
     Ok(())
 }
