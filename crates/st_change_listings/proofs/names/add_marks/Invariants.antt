@@ -1,0 +1,11 @@
+use Rattle.std.proofs.Common.{◌≡◌, ◌||◌, take}
+use Rattle.std.specs.BTreeSet.{contains}
+use Rattle.std.specs.List.{flat_map}
+use Rattle.st_ids.specs.Order.{node_cmp}
+use Rattle.st_ids.specs.declared.names.NodeId.{NodeId}
+use Rattle.st_marks.specs.Embedding.{is_among}
+use Rattle.st_puts.specs.inside.Names.{names_by}
+use Rattle.st_change_listings.proofs.names.add_marks.Given as goal
+
+abbrev pub invariant-loop-mark : goal.invariant-loop-mark
+invariant-loop-mark l = (n : NodeId) → contains node_cmp l.set n ≡ (contains node_cmp l.initial.set n || is_among (flat_map (names_by l.row) (take l.mark-index l.marks)) n)
