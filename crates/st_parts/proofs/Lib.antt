@@ -1,2 +1,15 @@
+mod ShortRows
+mod FilteredLists
+mod CutChanges
 pub mod RowsJoined
 pub mod TrimmedChanges
+mod RegistersOfParts
+mod LooseOfParts
+mod NamesOfParts
+pub mod PartsListed
+mod MappedItems
+mod PartsTold
+mod TablesTell
+mod AboveNames
+mod ShortListings
+pub mod MentionsListed

@@ -4,10 +4,15 @@ ghost use Rattle.st_ids.specs.declared.names.NodeId.{NodeId};
 ghost use Rattle.st_kind.specs.Named.{Nodes};
 ghost use Rattle.st_marks.specs.declared.changes.Change.{Change};
 ghost use Rattle.st_marks.specs.declared.intents.Intent.{Intent};
-ghost use Rattle.st_marks.specs.Document.{Document, IsSoundInForm};
+ghost use Rattle.st_marks.specs.CarryOut.{full};
+ghost use Rattle.st_marks.specs.Document.{Document, HasShortRows, IsSoundInForm};
 ghost use Rattle.st_marks.specs.Embedding.{IsEmbedding, IsMentionedByIntent, row_marks, tells};
+ghost use Rattle.st_marks.specs.Join.{AreParts, IsJoin};
 ghost use Rattle.st_marks.specs.Row.{RowPart, embed_row, merge};
+ghost use Rattle.st_marks.specs.Verdict.{IsAboveItself};
+ghost use Rattle.st_marks.specs.declared.intents.To.{To};
 ghost use Rattle.st_parts.specs.Joined.{row_joined};
+ghost use Rattle.st_parts.specs.JoinedParts.{IsOfParts, TellsParts, named_by_parts};
 ghost use Rattle.st_marks.specs.declared.marks.RowMarks.{RowMarks};
 ghost use Rattle.st_marks.specs.declared.places.Slot.{Slot};
 ghost use Rattle.st_rows.specs.Changes.{AreJoined, StandsIn, carried_row};
@@ -28,4 +33,15 @@ pub fn rows_of_parts_are_listed()
         → ((n : NodeId) → StandsIn n (carried_row p c) → q.target_of n ≢ None → q.mentioned n ≡ true)
         → (a b : Option RowMarks) → row_marks n (embed_row p c) ≡ a → row_marks n (embed_row q (carried_row p c)) ≡ b
         → MatchOption (row_joined n a b) (list_any tells (embed_row j c) ≡ false) (λ r. r.marks ≡ merge (embed_row j c)) }
+{}
+
+/// What two parts of one commit say of each name, told together, lists the change of both as one, with all that the first part
+/// mentions, and all that the second mentions and that was there before. Registers are told by where both together put nodes: who
+/// is evicted may be put elsewhere, and who is put may be put again.
+pub fn parts_are_listed()
+    ensures { (D : Document) (N M J : Intent) (C X G : Change) (new known : Nodes) (goes : NodeId → Option To)
+        → IsSoundInForm D → AreParts D N M → ((n : NodeId) → IsAboveItself D N n → ⊥) → IsJoin N M J → HasShortRows (full D N)
+        → (first : IsEmbedding D N C) → (second : IsEmbedding (full D N) M X)
+        → TellsParts D N M first.mentioned second.mentioned new known goes → IsOfParts C X G new known goes
+        → ListsChange D J (named_by_parts D first.mentioned second.mentioned) G }
 {}

@@ -8,10 +8,10 @@ use crate::steps::{
 use st_bridge::bridge_void_agreed;
 use st_ids::{NodeId, OPENING, ROOT, Rev};
 use st_marks::{Change, How, Loose, Mark, Step};
+use st_parts::{has_short_rows as change_has_short_rows, trim_change};
 use st_rebase::has_room_in_rows;
 use st_revert::{makings, revert};
 use st_steps::has_short_rows;
-use st_trim_change::{has_short_rows as change_has_short_rows, trim_change};
 use std::alloc::{AllocError, Global};
 use std::collections::BTreeSet;
 use std::test::Fail;

@@ -1,0 +1,81 @@
+//! The rows of two parts of one commit.
+ghost use Rattle.std.specs.Prelude.{◌≡◌, ◌^◌, ◌<◌, length, map, IfOk, option_copied};
+ghost use Rattle.std.specs.List.{AllByRecursion};
+ghost use Rattle.st_ids.specs.Listing.{item_of};
+ghost use Rattle.st_ids.specs.Order.{node_cmp};
+ghost use Rattle.st_marks.specs.declared.marks.RowMarks.{RowMarks as Row};
+ghost use Rattle.st_marks.specs.Row.{spread};
+ghost use Rattle.st_parts.specs.inside.OfParts.{AreRowsOf, row_behind as behind, row_of_both as both};
+
+use crate::unions::table_of;
+use st_ids::{Copied, List, NodeId, Or};
+use st_listings::union;
+use st_marks::{Mark, RowMarks};
+use st_rows::join;
+use std::alloc::{AllocError, Global};
+
+// A row that both list; as the first has it where what the first leaves differs from what the second finds.
+fn row_of_both(
+    alloc: Global,
+    node: NodeId,
+    first: &List<Mark>,
+    second: &List<Mark>,
+) -> Result<RowMarks, AllocError>
+    requires { length (spread second.now) < 2 ^ 32 }
+    ensures { IfOk result (λ r. r ≡ both node first.now second.now) }
+{
+    match join(alloc, first, second) {
+        Ok(marks) => Ok(RowMarks { node, marks }),
+        Err(Or::Fault(_)) => Ok(RowMarks {
+            node,
+            marks: first.copy(alloc)?,
+        }),
+        Err(Or::NoMemory) => Err(AllocError),
+    }
+}
+
+// A row of the second part, behind that of the first.
+fn row_behind(
+    alloc: Global,
+    first: Option<&RowMarks>,
+    second: &RowMarks,
+) -> Result<RowMarks, AllocError>
+    requires { length (spread second.now.marks) < 2 ^ 32 }
+    ensures { IfOk result (λ r. r ≡ behind (option_copied first.entry) second.now) }
+{
+    match first {
+        None => second.copy(alloc),
+        Some(first) => row_of_both(alloc, second.node, &first.marks, &second.marks),
+    }
+}
+
+// The rows of the second part, each behind that of the first.
+fn rows_behind(
+    alloc: Global,
+    first: &[RowMarks],
+    second: &[RowMarks],
+) -> Result<List<RowMarks>, AllocError>
+    requires { AllByRecursion (λ (r : Row). length (spread r.marks) < 2 ^ 32) second.now }
+    ensures { IfOk result (λ l. l ≡ map (λ (r : Row). behind (item_of node_cmp (λ (q : Row). q.node) first.now r.node) r) second.now) }
+{
+    let table = table_of(alloc, first)?;
+    let mut rows = List::new(alloc);
+    for row in second {
+        let before = table.get(&row.node);
+        rows.push(row_behind(alloc, before, row)?)?;
+    }
+    Ok(rows)
+}
+
+/// The rows of two parts.
+pub fn rows_of_parts(
+    alloc: Global,
+    first: &[RowMarks],
+    second: &[RowMarks],
+) -> Result<List<RowMarks>, AllocError>
+    requires { AllByRecursion (λ (r : Row). length (spread r.marks) < 2 ^ 32) second.now }
+    ensures { IfOk result (AreRowsOf first.now second.now) }
+{
+    let behind = rows_behind(alloc, first, second)?;
+    union(alloc, behind.as_slice(), first)
+}

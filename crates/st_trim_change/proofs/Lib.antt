@@ -1,3 +1,0 @@
-mod ShortRows
-mod FilteredLists
-mod CutChanges

@@ -1,6 +1,0 @@
-use Rattle.st_marks.specs.Row.{spread}
-use Rattle.st_trim_change.proofs.ShortRows.{short_row}
-use Rattle.st_trim_change.proofs.short.is_short.Goals as goal
-
-pub returns : goal.returns
-returns c = short_row c.after.result (spread c.args.row.now.marks) c.after.ensures

@@ -1,2 +1,0 @@
--- The words of loops and of private functions: no public contract reaches them.
-pub mod Cut
