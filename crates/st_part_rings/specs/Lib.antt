@@ -1,0 +1,3 @@
+pub mod Told
+pub mod Under
+pub mod inside
