@@ -3,18 +3,18 @@ use Rattle.std.specs.Prelude.{◌≡◌, ◌↔◌, ◌⊎◌, ℕ, Bool, List, 
 use Rattle.serde_json.specs.Data.{Data}
 use Rattle.st_ids.specs.Listing.{Has}
 use Rattle.st_ids.specs.declared.names.FieldId.{FieldId}
+use Rattle.st_ids.specs.declared.names.NodeId.{NodeId}
 use Rattle.st_ids.specs.declared.names.Rev.{Rev}
-use Rattle.st_json.specs.declared.fault.BadCause.{BadCause}
-use Rattle.st_json.specs.declared.fault.BadCause.TheVariants.{Shape}
-use Rattle.st_marks.specs.Agree.{Agrees, ComposeClash, IsApartAt, RebaseClash}
+use Rattle.st_marks.specs.Agree.{Agrees, ComposeClash, IsApartAt, JoinClash, RebaseClash}
 use Rattle.st_marks.specs.Back.{IsBack, retreat}
 use Rattle.st_marks.specs.CarryOut.{full}
 use Rattle.st_marks.specs.Document.{Document, HasShortRows, IsSoundInForm, revs}
 use Rattle.st_marks.specs.Embedding.{IsEmbedding}
 use Rattle.st_marks.specs.Extends.{IsExtendedBy}
 use Rattle.st_marks.specs.Intent.{Fits}
+use Rattle.st_marks.specs.Join.{AreParts, IsJoin}
 use Rattle.st_marks.specs.Step.{IsStep}
-use Rattle.st_marks.specs.Verdict.{IsBaseInEffect, IsVerdict, carried_document}
+use Rattle.st_marks.specs.Verdict.{IsAboveItself, IsBaseInEffect, IsVerdict, carried_document}
 use Rattle.st_marks.specs.declared.changes.Change.{Change}
 use Rattle.st_marks.specs.declared.intents.Intent.{Intent}
 use Rattle.st_marks.specs.declared.schemas.SchemaStep.{SchemaStep}
@@ -35,6 +35,11 @@ use Rattle.st_answers.specs.Meaning.{Meaning}
 abbrev pub IsComposed : Step → Step → Step → Type 0
 IsComposed S T U = (D E F : Document) → IsExtendedBy D E → IsExtendedBy E F
     → IsStep D E S → IsStep E F T → IsStep D F U
+
+-- the change of two parts of one commit, of which the first closes no ring
+abbrev pub IsJoined : Change → Change → Change → Type 0
+IsJoined C K X = (D : Document) (N M J : Intent) → IsSoundInForm D → AreParts D N M → ((n : NodeId) → IsAboveItself D N n → ⊥) → IsJoin N M J
+    → HasShortRows (full D N) → HasShortRows (full (full D N) M) → IsEmbedding D N C → IsEmbedding (full D N) M K → IsEmbedding D J X
 
 -- the way back over a step
 abbrev pub IsInverted : Step → Step → Type 0
@@ -82,11 +87,12 @@ ToldOrApart Clash Is answer text =
     (Agrees Clash × Told Is answer text)
     ⊎ ((f : FieldId) × IsApartAt Clash f × (text ≡ line_of (apart_answer f)))
 
--- the line that answers a request. What joins two parts of a commit isn't answered yet
+-- the line that answers a request
 abbrev pub AnswersRequest : Request → List ℕ → Type 0
 AnswersRequest (Compose first last) text =
     ToldOrApart (ComposeClash first last) (IsComposed first last) (step_answer (codes "compose")) text
-AnswersRequest (Join first last) text = ⊥
+AnswersRequest (Join first last) text =
+    ToldOrApart (JoinClash first last) (IsJoined first last) (change_answer (codes "join")) text
 AnswersRequest (Invert step) text = Told (IsInverted step) (step_answer (codes "invert")) text
 AnswersRequest (Rebase change over) text =
     ToldOrApart (RebaseClash change over) (IsRebased change over) (change_answer (codes "rebase")) text
@@ -104,19 +110,13 @@ pub record IsAsked (line text : List ℕ) : Type 0 where
   pub is : IsRequest line (Ok request)
   pub answered : AnswersRequest request text
 
--- a line is no request, or one that isn't answered yet
-abbrev pub IsBadRequest : List ℕ → BadCause → Type 0
-IsBadRequest line c =
-    IsRequest line (Err c)
-    ⊎ ((first : Change) × (last : Change) × IsRequest line (Ok (Join first last)) × (c ≡ Shape))
-
 -- each line stands alone, and the input may end anywhere
 abbrev pub algebra : Meaning
 algebra = record {
   State = Unit {0};
   first = tt;
   Takes = λ s n line text t. IsAsked line text;
-  IsBad = λ s line c. IsBadRequest line c;
+  IsBad = λ s line c. IsRequest line (Err c);
   Finishes = λ s last. last ≡ [];
   Lacks = λ s c. ⊥;
 }

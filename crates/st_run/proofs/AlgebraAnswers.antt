@@ -1,5 +1,5 @@
 -- Replies to requests to the algebra of changes.
-use Rattle.std.proofs.Common.{◌≡◌, ◌↔◌, ◌&&◌, ℕ, Bool, true, false, not, List, Option, Some, None, Ok, Err, refl, sym, ◌∙◌, ap, subst, inr, IsTrue, MatchOption}
+use Rattle.std.proofs.Common.{◌≡◌, ◌↔◌, ◌&&◌, ℕ, Bool, true, false, not, List, Option, Some, None, Ok, Err, refl, sym, ◌∙◌, ap, subst, IsTrue, MatchOption}
 use Rattle.serde_json.specs.Data.{Data}
 use Rattle.st_ids.specs.Listing.{Has}
 use Rattle.st_ids.specs.Order.{same_rev}
@@ -8,7 +8,6 @@ use Rattle.st_ids.proofs.Orders.{same_rev-itself, same_rev-true}
 use Rattle.st_json.specs.Line.{line_value}
 use Rattle.st_json.specs.declared.fault.BadCause.{BadCause}
 use Rattle.st_marks.specs.Document.{revs}
-use Rattle.st_marks.specs.declared.changes.Change.{Change}
 use Rattle.st_marks.specs.declared.schemas.SchemaEntry.{SchemaEntry}
 use Rattle.st_marks.specs.declared.schemas.SchemaStep.{SchemaStep}
 use Rattle.st_marks.specs.declared.steps.Step.{Step}
@@ -20,12 +19,10 @@ use Rattle.st_requests.specs.Form.{form_of}
 use Rattle.st_requests.specs.Normal.{IsNormal}
 use Rattle.st_requests.specs.Requests.{IsOfForm, IsOfValue, IsRequest}
 use Rattle.st_requests.specs.declared.request.Request.{Request}
-use Rattle.st_requests.specs.declared.request.Request.TheVariants.{Join}
 use Rattle.st_revert.specs.Reversal.{has_rev, takes_out}
 use Rattle.st_answers.specs.Algebra.{AnswersRequest, TakesOut, algebra}
-use Rattle.st_answers.specs.Endings.{bad_text}
 use Rattle.st_answers.specs.Meaning.{EndsAt}
-use Rattle.st_run.specs.inside.Replies.{IsAnswerTo, IsTelling, IsRefusal}
+use Rattle.st_run.specs.inside.Replies.{IsAnswerTo, IsTelling}
 
 -- ## A request
 
@@ -43,22 +40,16 @@ request_normal line q h = of_value (line_value line) q h
 
 -- ## Its answer
 
-module _ (n : ℕ) (q : Request) where
+module _ (q : Request) where
   -- a line is told that answers
-  pub told_to : (told : List ℕ) (r : Reply BadCause) → AnswersRequest q told → IsTelling told r → IsAnswerTo n q r
+  pub told_to : (told : List ℕ) (r : Reply BadCause) → AnswersRequest q told → IsTelling told r → IsAnswerTo q r
   told_to told (Goes text) is h = subst (AnswersRequest q) (sym h) is
   told_to told (Ends text e) is h = absurd h
 
--- a request that isn't answered yet
-pub join_refused : (n : ℕ) (first last : Change) (r : Reply BadCause) → IsRefusal n BadCause.Shape r → IsAnswerTo n (Join first last) r
-join_refused n first last (Goes text) h = absurd h
-join_refused n first last (Ends text e) h = (first, last, refl, h.0, h.1)
-
--- a line that is a request is answered, or the run ends there
-pub request_taken : (n : ℕ) (line : List ℕ) (q : Request) (r : Reply BadCause) → IsRequest line (Ok q) → IsAnswerTo n q r → IsReply (algebra.Takes tt n line) (EndsAt algebra tt n line) (λ t. Unit {0}) r
+-- a line that is a request is answered
+pub request_taken : (n : ℕ) (line : List ℕ) (q : Request) (r : Reply BadCause) → IsRequest line (Ok q) → IsAnswerTo q r → IsReply (algebra.Takes tt n line) (EndsAt algebra tt n line) (λ t. Unit {0}) r
 request_taken n line q (Goes text) is h = (tt, record { request = q; is = is; answered = h }, tt)
-request_taken n line q (Ends text e) is h =
-    (inr (h.0, h.1, subst (λ (x : Request). IsRequest line (Ok x)) h.2 is, h.3), h.4 ∙ ap (bad_text n) (sym h.3))
+request_taken n line q (Ends text e) is h = absurd h
 
 -- ## What a step takes out of effect
 

@@ -14,6 +14,7 @@ use st_compose::compose;
 use st_effect::{Consequence, effect};
 use st_family::rebase;
 use st_ids::{Or, Rev};
+use st_join_parts::join;
 use st_json::BadCause;
 use st_marks::{Change, Step};
 use st_pieces::{Reply, Responder};
@@ -60,14 +61,9 @@ fn tell_apart(alloc: Global, apart: &FieldApart) -> Result<Reply<BadCause>, Allo
 }
 
 // Two steps in turn as one.
-fn answer_compose(
-    alloc: Global,
-    number: u32,
-    first: &Step,
-    then: &Step,
-) -> Result<Reply<BadCause>, AllocError>
+fn answer_compose(alloc: Global, first: &Step, then: &Step) -> Result<Reply<BadCause>, AllocError>
     requires { IsNormal (Asked.Compose first.now then.now) }
-    ensures { IfOk result (IsAnswerTo number (Asked.Compose first.now then.now)) }
+    ensures { IfOk result (IsAnswerTo (Asked.Compose first.now then.now)) }
 {
     match compose(alloc, first, then) {
         Ok(step) => tell_step(alloc, "compose", &step),
@@ -76,36 +72,31 @@ fn answer_compose(
     }
 }
 
-// Two parts of a commit as one change, which isn't answered yet.
-fn answer_join(
-    alloc: Global,
-    number: u32,
-    first: &Change,
-    then: &Change,
-) -> Result<Reply<BadCause>, AllocError>
-    ensures { IfOk result (IsAnswerTo number (Asked.Join first.now then.now)) }
+// Two parts of a commit as one change.
+fn answer_join(alloc: Global, first: &Change, then: &Change) -> Result<Reply<BadCause>, AllocError>
+    requires { IsNormal (Asked.Join first.now then.now) }
+    ensures { IfOk result (IsAnswerTo (Asked.Join first.now then.now)) }
 {
-    refuse(alloc, number, BadCause::Shape)
+    match join(alloc, first, then) {
+        Ok(change) => tell_change(alloc, "join", &change),
+        Err(Or::Fault(apart)) => tell_apart(alloc, &apart),
+        Err(Or::NoMemory) => Err(AllocError),
+    }
 }
 
 // The way back over a step.
-fn answer_invert(alloc: Global, number: u32, step: &Step) -> Result<Reply<BadCause>, AllocError>
+fn answer_invert(alloc: Global, step: &Step) -> Result<Reply<BadCause>, AllocError>
     requires { IsNormal (Asked.Invert step.now) }
-    ensures { IfOk result (IsAnswerTo number (Asked.Invert step.now)) }
+    ensures { IfOk result (IsAnswerTo (Asked.Invert step.now)) }
 {
     let back = invert(alloc, step)?;
     tell_step(alloc, "invert", &back)
 }
 
 // A change after a step.
-fn answer_rebase(
-    alloc: Global,
-    number: u32,
-    change: &Change,
-    over: &Step,
-) -> Result<Reply<BadCause>, AllocError>
+fn answer_rebase(alloc: Global, change: &Change, over: &Step) -> Result<Reply<BadCause>, AllocError>
     requires { IsNormal (Asked.Rebase change.now over.now) }
-    ensures { IfOk result (IsAnswerTo number (Asked.Rebase change.now over.now)) }
+    ensures { IfOk result (IsAnswerTo (Asked.Rebase change.now over.now)) }
 {
     match rebase(alloc, change, over) {
         Ok(later) => tell_change(alloc, "rebase", &later),
@@ -115,14 +106,9 @@ fn answer_rebase(
 }
 
 // A step after a change.
-fn answer_bridge(
-    alloc: Global,
-    number: u32,
-    change: &Change,
-    step: &Step,
-) -> Result<Reply<BadCause>, AllocError>
+fn answer_bridge(alloc: Global, change: &Change, step: &Step) -> Result<Reply<BadCause>, AllocError>
     requires { IsNormal (Asked.Bridge change.now step.now) }
-    ensures { IfOk result (IsAnswerTo number (Asked.Bridge change.now step.now)) }
+    ensures { IfOk result (IsAnswerTo (Asked.Bridge change.now step.now)) }
 {
     match bridge(alloc, step, change) {
         Ok(later) => tell_step(alloc, "bridge", &later),
@@ -132,9 +118,9 @@ fn answer_bridge(
 }
 
 // What a change does where it stands.
-fn answer_effect(alloc: Global, number: u32, change: &Change) -> Result<Reply<BadCause>, AllocError>
+fn answer_effect(alloc: Global, change: &Change) -> Result<Reply<BadCause>, AllocError>
     requires { IsNormal (Asked.Effect change.now) }
-    ensures { IfOk result (IsAnswerTo number (Asked.Effect change.now)) }
+    ensures { IfOk result (IsAnswerTo (Asked.Effect change.now)) }
 {
     let done = effect(alloc, change)?;
     tell_effect(alloc, &done)
@@ -143,31 +129,30 @@ fn answer_effect(alloc: Global, number: u32, change: &Change) -> Result<Reply<Ba
 // The change that takes a step back.
 fn answer_revert(
     alloc: Global,
-    number: u32,
     step: &Step,
     rev: Rev,
     under: Rev,
 ) -> Result<Reply<BadCause>, AllocError>
     requires { IsNormal (Asked.Revert step.now rev under) }
-    ensures { IfOk result (IsAnswerTo number (Asked.Revert step.now rev under)) }
+    ensures { IfOk result (IsAnswerTo (Asked.Revert step.now rev under)) }
 {
     let change = revert(alloc, step, rev, under)?;
     tell_change(alloc, "revert", &change)
 }
 
 // Answers a request.
-fn answer(alloc: Global, number: u32, request: &Request) -> Result<Reply<BadCause>, AllocError>
+fn answer(alloc: Global, request: &Request) -> Result<Reply<BadCause>, AllocError>
     requires { IsNormal request.now }
-    ensures { IfOk result (IsAnswerTo number request.now) }
+    ensures { IfOk result (IsAnswerTo request.now) }
 {
     match request {
-        Request::Compose { first, then } => answer_compose(alloc, number, first, then),
-        Request::Join { first, then } => answer_join(alloc, number, first, then),
-        Request::Invert { step } => answer_invert(alloc, number, step),
-        Request::Rebase { change, over } => answer_rebase(alloc, number, change, over),
-        Request::Bridge { change, step } => answer_bridge(alloc, number, change, step),
-        Request::Effect { change } => answer_effect(alloc, number, change),
-        Request::Revert { step, rev, under } => answer_revert(alloc, number, step, *rev, *under),
+        Request::Compose { first, then } => answer_compose(alloc, first, then),
+        Request::Join { first, then } => answer_join(alloc, first, then),
+        Request::Invert { step } => answer_invert(alloc, step),
+        Request::Rebase { change, over } => answer_rebase(alloc, change, over),
+        Request::Bridge { change, step } => answer_bridge(alloc, change, step),
+        Request::Effect { change } => answer_effect(alloc, change),
+        Request::Revert { step, rev, under } => answer_revert(alloc, step, *rev, *under),
     }
 }
 
@@ -193,7 +178,7 @@ impl Responder for Asking {
         line: &[u8],
     ) -> Result<Reply<BadCause>, AllocError> {
         match read_request(alloc, line) {
-            Ok(request) => answer(alloc, number, &request),
+            Ok(request) => answer(alloc, &request),
             Err(Or::NoMemory) => Err(AllocError),
             Err(Or::Fault(cause)) => refuse(alloc, number, cause),
         }

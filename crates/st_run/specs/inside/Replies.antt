@@ -1,12 +1,9 @@
 -- What a line is replied to.
 use Rattle.std.specs.Prelude.{◌≡◌, ℕ, List}
 use Rattle.st_json.specs.declared.fault.BadCause.{BadCause}
-use Rattle.st_json.specs.declared.fault.BadCause.TheVariants.{Shape}
-use Rattle.st_marks.specs.declared.changes.Change.{Change}
 use Rattle.st_pieces.specs.declared.responder.Reply.{Reply}
 use Rattle.st_pieces.specs.declared.responder.Reply.TheVariants.{Goes, Ends}
 use Rattle.st_requests.specs.declared.request.Request.{Request}
-use Rattle.st_requests.specs.declared.request.Request.TheVariants.{Join}
 use Rattle.st_answers.specs.Algebra.{AnswersRequest}
 use Rattle.st_answers.specs.Endings.{bad_text}
 
@@ -20,7 +17,7 @@ abbrev pub IsTelling : List ℕ → Reply BadCause → Type 0
 IsTelling told (Goes text) = text.items ≡ told
 IsTelling told (Ends text e) = ⊥
 
--- a request is answered; or it is one that isn't answered yet, and the run ends at its line
-abbrev pub IsAnswerTo : ℕ → Request → Reply BadCause → Type 0
-IsAnswerTo n q (Goes text) = AnswersRequest q text.items
-IsAnswerTo n q (Ends text e) = (first : Change) × (last : Change) × (q ≡ Join first last) × (e ≡ Shape) × (text.items ≡ bad_text n Shape)
+-- a request is answered
+abbrev pub IsAnswerTo : Request → Reply BadCause → Type 0
+IsAnswerTo q (Goes text) = AnswersRequest q text.items
+IsAnswerTo q (Ends text e) = ⊥

@@ -13,5 +13,5 @@ pub returns-in-Ok : goal.returns-in-Ok
 returns-in-Ok c =
     let later = c.in-Ok.later in
     IfOk-weaker c.tell_step.result _ _
-    (λ r h. told_to c.args.number (Bridge c.args.change.now c.args.step.now) (line_of (step_answer (codes "bridge") later)) r
+    (λ r h. told_to (Bridge c.args.change.now c.args.step.now) (line_of (step_answer (codes "bridge") later)) r
     (inl (c.in-Ok.ensures.apart c.requires.0.0 c.requires.1.0, (later, c.in-Ok.ensures.bridged, refl))) h) c.tell_step.ensures

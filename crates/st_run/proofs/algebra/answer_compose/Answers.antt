@@ -13,5 +13,5 @@ pub returns-in-Ok : goal.returns-in-Ok
 returns-in-Ok c =
     let step = c.in-Ok.step in
     IfOk-weaker c.tell_step.result _ _
-    (λ r h. told_to c.args.number (Compose c.args.first.now c.args.«then».now) (line_of (step_answer (codes "compose") step)) r
+    (λ r h. told_to (Compose c.args.first.now c.args.«then».now) (line_of (step_answer (codes "compose") step)) r
     (inl (c.in-Ok.ensures.apart c.requires.0.0 c.requires.1.0, (step, c.in-Ok.ensures.composed, refl))) h) c.tell_step.ensures

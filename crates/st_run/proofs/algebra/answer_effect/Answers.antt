@@ -13,5 +13,5 @@ pub returns : goal.returns
 returns c =
     let done = c.in_ok-done.done in
     IfOk-weaker c.tell_effect.result _ _
-    (λ r h. told_to c.args.number (Effect c.args.change.now) (line_of (verdict_answer (codes "effect") done.step done.verdict)) r
+    (λ r h. told_to (Effect c.args.change.now) (line_of (verdict_answer (codes "effect") done.step done.verdict)) r
     (done.verdict, (done.step, c.in_ok-done.ensures, refl)) h) c.tell_effect.ensures

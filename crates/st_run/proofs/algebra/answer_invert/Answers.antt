@@ -13,4 +13,4 @@ pub returns : goal.returns
 returns c =
     let back = c.in_ok-back.back in
     IfOk-weaker c.tell_step.result _ _
-    (λ r h. told_to c.args.number (Invert c.args.step.now) (line_of (step_answer (codes "invert") back)) r (back, c.in_ok-back.ensures, refl) h) c.tell_step.ensures
+    (λ r h. told_to (Invert c.args.step.now) (line_of (step_answer (codes "invert") back)) r (back, c.in_ok-back.ensures, refl) h) c.tell_step.ensures

@@ -13,5 +13,5 @@ pub returns-in-Ok : goal.returns-in-Ok
 returns-in-Ok c =
     let later = c.in-Ok.later in
     IfOk-weaker c.tell_change.result _ _
-    (λ r h. told_to c.args.number (Rebase c.args.change.now c.args.over.now) (line_of (change_answer (codes "rebase") later)) r
+    (λ r h. told_to (Rebase c.args.change.now c.args.over.now) (line_of (change_answer (codes "rebase") later)) r
     (inl (c.in-Ok.ensures.apart c.requires.0.0 c.requires.1.0, (later, c.in-Ok.ensures.rebased, refl))) h) c.tell_change.ensures
