@@ -1,0 +1,3 @@
+pub mod LeftMarks
+pub mod LeftTruth
+pub mod TurnsAgree
