@@ -26,8 +26,7 @@ fn places_left(alloc: Global, change: &Change) -> Result<List<Placed>, AllocErro
     ensures { IfOk result (λ l. ArePlaces l (listing_after_change change.now)) }
 {
     let step = step_of(alloc, change)?;
-    let places = places_after(alloc, &step)?;
-    Ok(places)
+    places_after(alloc, &step)
 }
 
 // Whether links lead up in a ring.
@@ -64,8 +63,7 @@ fn links_made(alloc: Global, first: &Change, then: &Change) -> Result<List<Link>
     let made = nodes_made(alloc, first.new.as_slice(), then.new.as_slice())?;
     let left = places_left(alloc, first)?;
     let left_then = places_left(alloc, then)?;
-    let links = links_joint(alloc, &made, left.as_slice(), left_then.as_slice())?;
-    Ok(links)
+    links_joint(alloc, &made, left.as_slice(), left_then.as_slice())
 }
 
 /// Whether some node that either of two changes makes is above itself among such nodes, where both together leave them: where the
