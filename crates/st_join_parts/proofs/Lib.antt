@@ -1,0 +1,5 @@
+mod FoundOnce
+mod PlacesBefore
+mod NamesTold
+mod PartsTold
+mod Rules

@@ -1,0 +1,3 @@
+-- The words of private functions: no public contract reaches them.
+pub mod Clashes
+pub mod Parts
