@@ -30,8 +30,9 @@ use Rattle.st_rows.proofs.DocumentsAfter.{whole_is}
 use Rattle.st_rows.proofs.ViewsOfRows.{DescribeAll, change_finds, change_leaves, no_difference}
 use Rattle.st_puts.proofs.OverDocuments.{row-look}
 use Rattle.st_parts.specs.Joined.{row_joined}
-use Rattle.st_parts.specs.JoinedParts.{IsOfParts, if_it_goes, loose_joined, mark_joined, need_joined, put_there, register_joined}
-use Rattle.st_parts.specs.inside.OfParts.{ToldOfParts, loose_before, loose_behind, register_behind, row_behind, row_of_both, unless_new}
+use Rattle.st_part_listings.specs.Together.{if_it_goes, loose_before, loose_behind, mark_joined, put_there, register_behind, unless_new}
+use Rattle.st_parts.specs.JoinedParts.{IsOfParts, loose_joined, need_joined, register_joined}
+use Rattle.st_parts.specs.inside.OfParts.{ToldOfParts, row_behind, row_of_both}
 use Rattle.st_parts.proofs.MappedItems.{item_of-left, item_of-map}
 use Rattle.st_parts.proofs.NamesOfParts.{put_names}
 use Rattle.st_parts.proofs.PartsListed.{some_put, standing_known}

@@ -24,7 +24,8 @@ use Rattle.st_marks.specs.Row.{how}
 use Rattle.st_marks.proofs.Lookups.{has-put, has-put_in, put-has, put_clears, put_in-has}
 use Rattle.st_puts.proofs.ListedIf.{or_parts}
 use Rattle.st_puts.proofs.PutsOfIntents.{is_here-put, put-is_here}
-use Rattle.st_parts.specs.JoinedParts.{how_it_goes, if_it_goes, mark_joined, named_by_parts, put_there, register_joined}
+use Rattle.st_part_listings.specs.Together.{how_it_goes, if_it_goes, mark_joined, put_there}
+use Rattle.st_parts.specs.JoinedParts.{named_by_parts, register_joined}
 use Rattle.st_parts.specs.TrimmedChange.{mark_of}
 
 -- ## Whom one part puts into a register

@@ -32,8 +32,8 @@ use Rattle.st_puts.proofs.ListedIf.{or_parts}
 use Rattle.st_puts.proofs.OverDocuments.{held-is, mentioned-known, reg-look}
 use Rattle.st_puts.proofs.PutsInMarks.{cleared-listed, mark_of}
 use Rattle.st_parts.specs.JoinedParts.{TellsParts}
-use Rattle.st_parts.specs.declared.joint_puts.Tables.{Tables}
-use Rattle.st_parts.specs.inside.OfParts.{cleared_by, clears_in, goes_of, known_by, unless_cleared_in}
+use Rattle.st_part_listings.specs.declared.joint_puts.Tables.{Tables}
+use Rattle.st_part_listings.specs.Together.{cleared_by, clears_in, goes_of, known_by, unless_cleared_in}
 use Rattle.st_parts.proofs.NamesOfParts.{put_names}
 
 module _ (D : Document) (N M : Intent) (C X : Change) (x : IsExtendedBy D (full D N)) (p : AreParts D N M) (first : IsEmbedding D N C) (next : IsEmbedding (full D N) M X) (t : Tables)

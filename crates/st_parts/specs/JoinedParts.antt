@@ -10,8 +10,6 @@ use Rattle.st_marks.specs.declared.changes.Change.{Change}
 use Rattle.st_marks.specs.declared.changes.NewNode.{NewNode}
 use Rattle.st_marks.specs.declared.intents.Intent.{Intent}
 use Rattle.st_marks.specs.declared.intents.To.{To}
-use Rattle.st_marks.specs.declared.marks.How.{How}
-use Rattle.st_marks.specs.declared.marks.How.TheVariants.{Stay}
 use Rattle.st_marks.specs.declared.marks.Loose.{Loose}
 use Rattle.st_marks.specs.declared.marks.RegMark.{RegMark}
 use Rattle.st_marks.specs.declared.marks.RowMarks.{RowMarks}
@@ -19,32 +17,13 @@ use Rattle.st_marks.specs.Back.{is_in}
 use Rattle.st_marks.specs.CarryOut.{full}
 use Rattle.st_marks.specs.Document.{Document}
 use Rattle.st_marks.specs.Embedding.{is_nowhere}
-use Rattle.st_marks.specs.How.{is_here}
 use Rattle.st_marks.specs.Intent.{is_new}
 use Rattle.st_marks.specs.Join.{joined_put}
-use Rattle.st_marks.specs.Register.{comes_in}
 use Rattle.st_marks.specs.Row.{how}
+use Rattle.st_part_listings.specs.Together.{if_it_goes, mark_joined, put_there}
 use Rattle.st_parts.specs.Joined.{row_joined}
 
 -- ## One name at a time, where `goes` tells where both parts together put a node
-
--- whom the mark of a register puts there: who comes in, or is set where it is
-abbrev pub put_there : RegMark → Option NodeId
-put_there r = option_or r.fill (if is_here r.how then r.held else None)
-
--- the node, if both parts together put it there
-abbrev pub if_it_goes : (NodeId → Option To) → To → Option NodeId → Option NodeId
-if_it_goes goes here None = None
-if_it_goes goes here (Some n) = if is_here (how (goes n) here) then Some n else None
-
--- what becomes of an occupant
-abbrev pub how_it_goes : (NodeId → Option To) → To → Option NodeId → How
-how_it_goes goes here None = Stay
-how_it_goes goes here (Some n) = how (goes n) here
-
--- the mark of a register, by its occupant, whether it is cleared, and whom it gets
-abbrev pub mark_joined : (NodeId → Option To) → FieldId → Option NodeId → Bool → Option NodeId → RegMark
-mark_joined goes f held clear gets = record { field = f; held = held; how = how_it_goes goes (To.Register f) held; clear = clear; fill = comes_in held gets }
 
 -- a register: the occupant is the one that the first part finds, if that lists it
 abbrev pub register_joined : (NodeId → Option To) → FieldId → Option RegMark → Option RegMark → Option RegMark

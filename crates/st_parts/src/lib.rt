@@ -1,16 +1,12 @@
 //! Changes that name more than they mention, and the parts of one commit: what is listed, as laws and as running code.
 #![tactic(auto)]
 
-mod joint_puts;
 mod laws;
-mod nodes_of_parts;
 mod parts;
-mod registers_of_parts;
 mod rows;
 mod rows_of_parts;
 mod short;
 mod trimming;
-mod unions;
 
 pub use laws::{parts_are_listed, rows_of_parts_are_listed, trimmed_changes_are_changes};
 pub use parts::join_agreed;

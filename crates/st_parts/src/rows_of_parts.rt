@@ -7,10 +7,10 @@ ghost use Rattle.st_marks.specs.declared.marks.RowMarks.{RowMarks as Row};
 ghost use Rattle.st_marks.specs.Row.{spread};
 ghost use Rattle.st_parts.specs.inside.OfParts.{AreRowsOf, row_behind as behind, row_of_both as both};
 
-use crate::unions::table_of;
 use st_ids::{Copied, List, NodeId, Or};
 use st_listings::union;
 use st_marks::{Mark, RowMarks};
+use st_part_listings::table_of;
 use st_rows::join;
 use std::alloc::{AllocError, Global};
 

@@ -1,7 +1,8 @@
 use Rattle.std.proofs.Common.{subst}
 use Rattle.std.specs.BTreeSet.{contains}
 use Rattle.st_ids.specs.Order.{node_cmp}
-use Rattle.st_parts.specs.inside.OfParts.{AreLooseOf, AreNeedsOf, AreNewOf, AreRegistersOf, AreRowsOf, goes_of, known_by}
+use Rattle.st_part_listings.specs.Together.{AreLooseOf, AreNeedsOf, AreRegistersOf, goes_of, known_by}
+use Rattle.st_parts.specs.inside.OfParts.{AreNewOf, AreRowsOf}
 use Rattle.st_parts.proofs.parts.fill.Goals as goal
 
 pub returns : goal.returns

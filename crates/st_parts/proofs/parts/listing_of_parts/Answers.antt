@@ -5,7 +5,8 @@ use Rattle.st_join.proofs.JoinFits.{joins_fit}
 use Rattle.st_marks.specs.declared.changes.Change.{Change}
 use Rattle.st_parts.specs.JoinedParts.{named_by_parts}
 use Rattle.st_parts.specs.TrimmedChange.{ListsChange}
-use Rattle.st_parts.specs.inside.OfParts.{ToldOfParts, goes_of, known_by}
+use Rattle.st_part_listings.specs.Together.{goes_of, known_by}
+use Rattle.st_parts.specs.inside.OfParts.{ToldOfParts}
 use Rattle.st_parts.proofs.PartsListed.{parts_listed}
 use Rattle.st_parts.proofs.PartsTold.{of_parts}
 use Rattle.st_parts.proofs.parts.listing_of_parts.Goals as goal

@@ -1,0 +1,2 @@
+mod ListLoops
+mod MapListings

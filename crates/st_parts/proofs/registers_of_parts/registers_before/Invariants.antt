@@ -1,6 +1,0 @@
-use Rattle.std.proofs.Common.{◌≡◌, None, map, take}
-use Rattle.st_parts.specs.inside.OfParts.{goes_of, register_behind}
-use Rattle.st_parts.proofs.registers_of_parts.registers_before.Given as goal
-
-abbrev pub invariant-loop-reg : goal.invariant-loop-reg
-invariant-loop-reg l = l.regs ≡ map (register_behind (goes_of l.tables) None) (take l.reg-index l.first)
