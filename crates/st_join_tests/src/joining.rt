@@ -1,12 +1,8 @@
 //! Parts of one commit of which the first puts a new p into the root's row, and what is named where the second doesn't go on from it.
 
-ghost use Rattle.std.specs.Prelude.{◌≡◌, true};
-ghost use Rattle.st_parts.specs.Short.{HasShortRowsListed};
-
 use st_ids::{Atom, CellId, List, NodeId, OPENING, Or, ROOT, Rev, Text};
-use st_join_parts::{agree_parts, clashes_of_parts, join};
+use st_join_parts::{agree_parts, clashes_of_parts};
 use st_marks::{Change, How, Mark, NewNode, RowMarks};
-use st_parts::has_short_rows;
 use std::alloc::{AllocError, Global};
 use std::test::Fail;
 
@@ -58,13 +54,6 @@ const PUTS_P_IN: [Mark; 1] = [Mark::Make {
     cell: CELL_IN_Q,
     node: P,
     full: true,
-}];
-
-// The root's new cell as both leave it.
-const LEFT_EMPTY: [Mark; 1] = [Mark::Make {
-    cell: CELL_OF_P,
-    node: P,
-    full: false,
 }];
 
 const PUTS_A: [Mark; 1] = [Mark::Fill {
@@ -159,41 +148,6 @@ fn goes_on(alloc: Global) -> Result<bool, AllocError> {
     Ok(clashes_of_parts(alloc, &first, &then)?.is_empty())
 }
 
-fn is_short(change: &Change) -> bool
-    ensures { result ≡ true → HasShortRowsListed change.now }
-{
-    has_short_rows(change)
-}
-
-// The two as one, where they agree.
-fn joined(alloc: Global, first: &Change, then: &Change) -> Result<Option<Change>, AllocError> {
-    if !is_short(first) || !is_short(then) {
-        return Ok(None);
-    }
-    match join(alloc, first, then) {
-        Ok(change) => Ok(Some(change)),
-        Err(Or::Fault(_)) => Ok(None),
-        Err(Or::NoMemory) => Err(AllocError),
-    }
-}
-
-fn has_row(change: &Change, node: NodeId, marks: &[Mark]) -> bool {
-    change
-        .rows
-        .as_slice()
-        .iter()
-        .any(|row| row.node == node && row.marks.as_slice() == marks)
-}
-
-// Both together make the root's cell empty, and put p into a.
-fn is_joined(alloc: Global) -> Result<bool, AllocError> {
-    let (first, then) = (nested(alloc)?, moving(alloc, A)?);
-    match joined(alloc, &first, &then)? {
-        None => Ok(false),
-        Some(change) => Ok(has_row(&change, ROOT, &LEFT_EMPTY) && has_row(&change, A, &PUTS_P_IN)),
-    }
-}
-
 // The row of p is found empty, p is made again, and a is made though it is needed.
 fn rows_are_named(alloc: Global) -> Result<bool, AllocError> {
     let (first, then) = (first(alloc)?, of_row(alloc, ROOT, &FINDS_NOBODY)?);
@@ -249,12 +203,5 @@ fn no_parts_are_refused(rt: HostRuntime) -> Result<(), Fail> {
     let others = others_are_refused(alloc)?;
     let (rings, made) = (rings_are_refused(alloc)?, made_rings_are_refused(alloc)?);
     assert!(rt; others && rings && made, "{others} {rings} {made}");
-    Ok(())
-}
-
-#[test]
-fn parts_are_joined(rt: HostRuntime) -> Result<(), Fail> {
-    let joined = is_joined(rt.alloc())?;
-    assert!(rt; joined);
     Ok(())
 }
