@@ -1,0 +1,3 @@
+pub mod NothingSteps
+pub mod Refusals
+pub mod Retreats

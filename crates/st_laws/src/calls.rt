@@ -1,0 +1,96 @@
+//! The calls of the algebra, for arguments of which nothing is asked.
+ghost use Rattle.std.specs.Prelude.{IfOk};
+ghost use Rattle.st_kind.specs.Refused.{IfMemory};
+ghost use Rattle.st_marks.specs.declared.intents.Intent.{Intent};
+ghost use Rattle.st_marks.specs.declared.verdicts.Verdict.{Verdict};
+ghost use Rattle.st_marks.specs.Back.{retreat};
+ghost use Rattle.st_marks.specs.CarryOut.{full};
+ghost use Rattle.st_marks.specs.Document.{Document, HasShortRows, IsSoundInForm};
+ghost use Rattle.st_marks.specs.Embedding.{IsEmbedding};
+ghost use Rattle.st_marks.specs.Extends.{IsExtendedBy};
+ghost use Rattle.st_marks.specs.Intent.{Fits};
+ghost use Rattle.st_marks.specs.Step.{IsStep};
+ghost use Rattle.st_marks.specs.Verdict.{IsVerdict, carried_document};
+
+use crate::nothing::empty_step;
+use st_agree::FieldApart;
+use st_bridge::bridge;
+use st_compose::compose;
+use st_effect::{changes_have_short_rows, effect};
+use st_family::rebase;
+use st_ids::{Copied, Or};
+use st_marks::{Change, Step};
+use st_moves::documents_have_room;
+use st_rebase::has_room_in_rows;
+use st_steps::{has_short_rows, invert};
+use std::alloc::{AllocError, Global};
+
+/// Two steps in turn, or the field at which they don't agree. A second one with a row of 2^32 cells stands over no document, and
+/// adds nothing.
+pub fn in_turn(alloc: Global, first: &Step, second: &Step) -> Result<Step, Or<FieldApart>>
+    ensures { (D E F : Document) → IsExtendedBy D E → IsExtendedBy E F → IsStep D E first.now → IsStep E F second.now
+        → IfMemory result (IsStep D F) }
+{
+    if has_short_rows(second) {
+        compose(alloc, first, second)
+    } else {
+        Ok(first.copy(alloc)?)
+    }
+}
+
+/// The way back over a step. One with a row of 2^32 cells is its own.
+pub fn way_back(alloc: Global, step: &Step) -> Result<Step, AllocError>
+    ensures { (D E : Document) → IsExtendedBy D E → IsStep D E step.now → IfOk result (IsStep E (retreat D E)) }
+{
+    if has_short_rows(step) {
+        invert(alloc, step)
+    } else {
+        step.copy(alloc)
+    }
+}
+
+/// A change over a step, or the field at which they don't agree. Where the two have no room in a row they stand over no document
+/// together, and the change stays.
+pub fn over(alloc: Global, change: &Change, step: &Step) -> Result<Change, Or<FieldApart>>
+    ensures { (D E : Document) (N : Intent) → IsExtendedBy D E → Fits D N → Fits E N → HasShortRows (full E N)
+        → IsEmbedding D N change.now → IsStep D E step.now → IfMemory result (IsEmbedding E N) }
+{
+    documents_have_room();
+    let room = has_room_in_rows(alloc, change, step)?;
+    if room {
+        rebase(alloc, change, step)
+    } else {
+        Ok(change.copy(alloc)?)
+    }
+}
+
+/// A step over a commit, or the field at which they don't agree. Where the two have no room in a row they stand over no document
+/// together, and the step stays.
+pub fn step_over(alloc: Global, step: &Step, change: &Change) -> Result<Step, Or<FieldApart>>
+    ensures { (D E : Document) (N : Intent) (v u : Verdict) → IsExtendedBy D E → Fits D N → Fits E N → HasShortRows (full D N) → HasShortRows (full E N)
+        → IsEmbedding D N change.now → IsStep D E step.now → IsVerdict D N v → IsVerdict E N u
+        → IfMemory result (IsStep (carried_document v D N) (carried_document u E N)) }
+{
+    documents_have_room();
+    let room = has_room_in_rows(alloc, change, step)?;
+    if room {
+        bridge(alloc, step, change)
+    } else {
+        Ok(step.copy(alloc)?)
+    }
+}
+
+/// What a change does where it stands. One with a row of 2^32 cells stands over no document, and does nothing.
+pub fn done_by(alloc: Global, change: &Change) -> Result<Step, AllocError>
+    ensures { (D : Document) (N : Intent) (v : Verdict) → IsSoundInForm D → Fits D N → HasShortRows (full D N)
+        → IsEmbedding D N change.now → IsVerdict D N v → IfOk result (IsStep D (carried_document v D N)) }
+{
+    changes_have_short_rows();
+    if st_effect::has_short_rows(change) {
+        let done = effect(alloc, change)?;
+        let step = done.step.copy(alloc)?;
+        Ok(step)
+    } else {
+        Ok(empty_step(alloc))
+    }
+}

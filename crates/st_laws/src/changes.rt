@@ -1,0 +1,177 @@
+//! Axioms on changes.
+ghost use Rattle.std.specs.Prelude.{◌≡◌};
+ghost use Rattle.st_kind.specs.Refused.{IfMemory};
+ghost use Rattle.st_marks.specs.declared.intents.Intent.{Intent};
+ghost use Rattle.st_marks.specs.Back.{retreat};
+ghost use Rattle.st_marks.specs.CarryOut.{full};
+ghost use Rattle.st_marks.specs.Document.{Document, HasShortRows, IsSoundInForm};
+ghost use Rattle.st_marks.specs.Embedding.{IsEmbedding};
+ghost use Rattle.st_marks.specs.Extends.{IsExtendedBy};
+ghost use Rattle.st_marks.specs.Intent.{Fits};
+ghost use Rattle.st_marks.specs.Step.{IsStep};
+
+use crate::calls::{in_turn, over, way_back};
+use crate::nothing::empty_step;
+use crate::sides::ChangeSides;
+use st_agree::FieldApart;
+use st_ids::{Copied, Or};
+use st_marks::{Change, Step};
+use st_revert::makings;
+use std::alloc::Global;
+
+// A change over two steps taken together.
+fn over_both(alloc: Global, change: &Change, a: &Step, b: &Step) -> Result<Change, Or<FieldApart>>
+    ensures { (D E F : Document) (N : Intent) → IsExtendedBy D E → IsExtendedBy E F → Fits D N → Fits F N → HasShortRows (full F N)
+        → IsEmbedding D N change.now → IsStep D E a.now → IsStep E F b.now → IfMemory result (IsEmbedding F N) }
+{
+    match in_turn(alloc, a, b) {
+        Ok(together) => over(alloc, change, &together),
+        Err(why) => Err(why),
+    }
+}
+
+// A change over one step and then over another.
+fn over_each(alloc: Global, change: &Change, a: &Step, b: &Step) -> Result<Change, Or<FieldApart>>
+    ensures { (D E F : Document) (N : Intent) → IsExtendedBy D E → IsExtendedBy E F → Fits D N → Fits E N → Fits F N
+        → HasShortRows (full E N) → HasShortRows (full F N)
+        → IsEmbedding D N change.now → IsStep D E a.now → IsStep E F b.now → IfMemory result (IsEmbedding F N) }
+{
+    match over(alloc, change, a) {
+        Ok(between) => over(alloc, &between, b),
+        Err(why) => Err(why),
+    }
+}
+
+// The left side, with the change over the one and then the other on the right.
+fn beside_each(
+    alloc: Global,
+    left: Change,
+    change: &Change,
+    a: &Step,
+    b: &Step,
+) -> Result<ChangeSides, Or<FieldApart>>
+    ensures { (D E F : Document) (N : Intent) → IsExtendedBy D E → IsExtendedBy E F → Fits D N → Fits E N → Fits F N
+        → HasShortRows (full E N) → HasShortRows (full F N)
+        → IsEmbedding D N change.now → IsStep D E a.now → IsStep E F b.now → IsEmbedding F N left
+        → IfMemory result (λ s. IsEmbedding F N s.left × (s.left ≡ s.right)) }
+{
+    match over_each(alloc, change, a, b) {
+        Ok(right) => Ok(ChangeSides { left, right }),
+        Err(why) => Err(why),
+    }
+}
+
+/// A change over two steps composed, and over the one and then the other. Refused where one of these calls is. Over documents
+/// none is, and both sides are the change of the intent after both steps.
+pub fn over_parts(
+    alloc: Global,
+    change: &Change,
+    a: &Step,
+    b: &Step,
+) -> Result<ChangeSides, Or<FieldApart>>
+    ensures { (D E F : Document) (N : Intent) → IsExtendedBy D E → IsExtendedBy E F → Fits D N → Fits E N → Fits F N
+        → HasShortRows (full E N) → HasShortRows (full F N)
+        → IsEmbedding D N change.now → IsStep D E a.now → IsStep E F b.now
+        → IfMemory result (λ s. IsEmbedding F N s.left × (s.left ≡ s.right)) }
+{
+    match over_both(alloc, change, a, b) {
+        Ok(left) => beside_each(alloc, left, change, a, b),
+        Err(why) => Err(why),
+    }
+}
+
+// A change over the way back over a step.
+fn over_back(alloc: Global, change: &Change, step: &Step) -> Result<Change, Or<FieldApart>>
+    ensures { (D E : Document) (N : Intent) → IsExtendedBy D E → Fits D N → Fits E N → HasShortRows (full E N)
+        → IsEmbedding E N change.now → IsStep D E step.now → IfMemory result (IsEmbedding (retreat D E) N) }
+{
+    let back = way_back(alloc, step)?;
+    over(alloc, change, &back)
+}
+
+// A change over a step and over its way back.
+fn over_and_back(alloc: Global, change: &Change, step: &Step) -> Result<Change, Or<FieldApart>>
+    ensures { (D E : Document) (N : Intent) → IsExtendedBy D E → Fits D N → Fits E N → HasShortRows (full E N)
+        → IsEmbedding D N change.now → IsStep D E step.now → IfMemory result (IsEmbedding (retreat D E) N) }
+{
+    match over(alloc, change, step) {
+        Ok(later) => over_back(alloc, &later, step),
+        Err(why) => Err(why),
+    }
+}
+
+// A change over what a step makes.
+fn over_makings(alloc: Global, change: &Change, step: &Step) -> Result<Change, Or<FieldApart>>
+    ensures { (D E : Document) (N : Intent) → IsExtendedBy D E → Fits D N → Fits E N → HasShortRows (full E N)
+        → IsEmbedding D N change.now → IsStep D E step.now → IfMemory result (IsEmbedding (retreat D E) N) }
+{
+    let made = makings(alloc, step)?;
+    over(alloc, change, &made)
+}
+
+// The left side, with the change over what the step makes on the right.
+fn beside_makings(
+    alloc: Global,
+    left: Change,
+    change: &Change,
+    step: &Step,
+) -> Result<ChangeSides, Or<FieldApart>>
+    ensures { (D E : Document) (N : Intent) → IsExtendedBy D E → Fits D N → Fits E N → HasShortRows (full E N)
+        → IsEmbedding D N change.now → IsStep D E step.now → IsEmbedding (retreat D E) N left
+        → IfMemory result (λ s. IsEmbedding (retreat D E) N s.left × (s.left ≡ s.right)) }
+{
+    match over_makings(alloc, change, step) {
+        Ok(right) => Ok(ChangeSides { left, right }),
+        Err(why) => Err(why),
+    }
+}
+
+/// A change over a step and over its way back, and the change over what the step makes, with old nodes where they were. Refused
+/// where one of these calls is. Over documents none is, and both sides are the change of the intent in the retreat.
+pub fn there_and_back(
+    alloc: Global,
+    change: &Change,
+    step: &Step,
+) -> Result<ChangeSides, Or<FieldApart>>
+    ensures { (D E : Document) (N : Intent) → IsExtendedBy D E → Fits D N → Fits E N → HasShortRows (full E N)
+        → IsEmbedding D N change.now → IsStep D E step.now
+        → IfMemory result (λ s. IsEmbedding (retreat D E) N s.left × (s.left ≡ s.right)) }
+{
+    match over_and_back(alloc, change, step) {
+        Ok(left) => beside_makings(alloc, left, change, step),
+        Err(why) => Err(why),
+    }
+}
+
+// The left side, with the change itself on the right.
+fn beside_itself(
+    alloc: Global,
+    left: Change,
+    change: &Change,
+) -> Result<ChangeSides, Or<FieldApart>>
+    ensures { left ≡ change.now → IfMemory result (λ s. (s.left ≡ change.now) × (s.left ≡ s.right)) }
+{
+    let right = change.copy(alloc)?;
+    Ok(ChangeSides { left, right })
+}
+
+// A change over a step that changes nothing, and the change.
+fn over_none(alloc: Global, change: &Change, step: &Step) -> Result<ChangeSides, Or<FieldApart>>
+    ensures { (D : Document) (N : Intent) → IsSoundInForm D → Fits D N → HasShortRows (full D N) → IsEmbedding D N change.now
+        → IsStep D D step.now → IfMemory result (λ s. (s.left ≡ change.now) × (s.left ≡ s.right)) }
+{
+    match over(alloc, change, step) {
+        Ok(left) => beside_itself(alloc, left, change),
+        Err(why) => Err(why),
+    }
+}
+
+/// A change over the step that changes nothing, and the change. Refused where this call is. Over a document it isn't, and both
+/// sides are the change.
+pub fn over_nothing(alloc: Global, change: &Change) -> Result<ChangeSides, Or<FieldApart>>
+    ensures { (D : Document) (N : Intent) → IsSoundInForm D → Fits D N → HasShortRows (full D N) → IsEmbedding D N change.now
+        → IfMemory result (λ s. (s.left ≡ change.now) × (s.left ≡ s.right)) }
+{
+    let nothing = empty_step(alloc);
+    over_none(alloc, change, &nothing)
+}
