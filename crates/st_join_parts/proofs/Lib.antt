@@ -3,3 +3,4 @@ mod PlacesBefore
 mod NamesTold
 mod PartsTold
 mod Rules
+mod Refusals

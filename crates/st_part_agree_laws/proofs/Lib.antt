@@ -1,0 +1,3 @@
+pub mod LeftRegisters
+pub mod LeftByChange
+pub mod PartsAgree
