@@ -1,0 +1,2 @@
+pub mod StepOver
+pub mod inside
