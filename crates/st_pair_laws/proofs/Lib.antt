@@ -1,0 +1,14 @@
+pub mod Decided
+pub mod Alike
+pub mod Marks
+pub mod Shown
+pub mod OneDocument
+pub mod ShownBefore
+pub mod Bounds
+pub mod FitsLater
+pub mod StandData
+pub mod StandSchema
+pub mod SchemasBeside
+pub mod RoomInRows
+pub mod StandBeside
+pub mod OneAnswer

@@ -1,0 +1,12 @@
+mod BackRows
+mod Seeds
+mod Marks
+mod Shown
+mod Meeting
+mod BackFound
+mod FirstOver
+mod ChangeLater
+mod MadeRings
+mod PartsDecided
+mod SecondOver
+mod PartsStand

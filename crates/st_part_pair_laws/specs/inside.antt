@@ -1,0 +1,2 @@
+-- The words of proofs: no public contract reaches them.
+pub mod PartBack

@@ -1,0 +1,3 @@
+-- The words of proofs: no public contract reaches them.
+pub mod Back
+pub mod Meets
