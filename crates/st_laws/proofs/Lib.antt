@@ -1,3 +1,7 @@
 pub mod NothingSteps
 pub mod Refusals
 pub mod Retreats
+mod EmptyChanges
+mod EmptyRules
+mod PartsLater
+mod StaysBack

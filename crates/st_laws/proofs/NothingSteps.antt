@@ -1,22 +1,17 @@
 -- The step that changes nothing leads from each document to itself.
-use Rattle.std.proofs.Common.{◌≡◌, Bool, true, false, ◌||◌, not, List, [], ◌∷◌, Option, Some, None, cond, refl, sym, ap, ◌∙◌, inl, inr, ◌⊎◌}
+use Rattle.std.proofs.Common.{◌≡◌, Bool, true, false, ◌||◌, not, List, [], ◌∷◌, Option, Some, None, cond, refl, sym, ap, inl, inr}
 use Rattle.std.specs.List.{list_any}
-use Rattle.st_ids.specs.Order.{same_node}
 use Rattle.st_ids.proofs.Orders.{same_node-itself}
 use Rattle.st_ids.specs.declared.names.FieldId.{FieldId}
 use Rattle.st_ids.specs.declared.names.NodeId.{NodeId}
-use Rattle.st_marks.specs.declared.changes.NewNode.{NewNode}
-use Rattle.st_marks.specs.declared.marks.RegStep.{RegStep}
-use Rattle.st_marks.specs.declared.marks.RowMarks.{RowMarks}
 use Rattle.st_marks.specs.declared.places.Slot.{Slot}
 use Rattle.st_marks.specs.Document.{Document, NodeType, content}
 use Rattle.st_marks.specs.Embedding.{row_marks, tells}
 use Rattle.st_marks.specs.Extends.{GainsItems, no_more, item_kept}
-use Rattle.st_marks.specs.Intent.{same_option}
-use Rattle.st_marks.specs.Register.{holds_mentioned, step_register}
+use Rattle.st_marks.specs.Register.{step_register}
 use Rattle.st_marks.specs.Row.{SameCell, merge, step_cell, step_row}
 use Rattle.st_marks.specs.Step.{IsMentionedByStep, IsStep, gained_node}
-use Rattle.st_laws.specs.inside.Nothing.{nothing}
+use Rattle.st_laws.specs.Empty.{nothing}
 
 same-gains : (c : List Slot) → GainsItems SameCell c c
 same-gains [] = no_more

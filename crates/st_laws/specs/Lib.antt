@@ -1,1 +1,5 @@
+pub mod Empty
+pub mod First
+pub mod PartsOver
+pub mod Unmade
 pub mod inside

@@ -1,1 +1,2 @@
-pub mod Nothing
+-- The words of proofs: no public contract reaches them.
+pub mod Together

@@ -1,7 +1,10 @@
 //! Axioms on changes.
-ghost use Rattle.std.specs.Prelude.{◌≡◌};
+ghost use Rattle.std.specs.Prelude.{◌≡◌, IfOk};
+ghost use Rattle.st_agree.specs.Apart.{TellsLeast};
+ghost use Rattle.st_ids.specs.Or.{IfRefused};
 ghost use Rattle.st_kind.specs.Refused.{IfMemory};
 ghost use Rattle.st_marks.specs.declared.intents.Intent.{Intent};
+ghost use Rattle.st_marks.specs.Agree.{Agrees, ComposeClash, RebaseClash};
 ghost use Rattle.st_marks.specs.Back.{retreat};
 ghost use Rattle.st_marks.specs.CarryOut.{full};
 ghost use Rattle.st_marks.specs.Document.{Document, HasShortRows, IsSoundInForm};
@@ -9,20 +12,27 @@ ghost use Rattle.st_marks.specs.Embedding.{IsEmbedding};
 ghost use Rattle.st_marks.specs.Extends.{IsExtendedBy};
 ghost use Rattle.st_marks.specs.Intent.{Fits};
 ghost use Rattle.st_marks.specs.Step.{IsStep};
+ghost use Rattle.st_moves.specs.Room.{HasRoomInRows};
+ghost use Rattle.st_normal.specs.Rules.{ObeysChangeRules, ObeysStepRules};
+ghost use Rattle.st_laws.specs.Empty.{nothing};
+ghost use Rattle.st_laws.specs.First.{TellsLeastFirst};
+ghost use Rattle.st_laws.specs.Unmade.{MakesNoneIn};
 
 use crate::calls::{in_turn, over, way_back};
 use crate::nothing::empty_step;
 use crate::sides::ChangeSides;
+use crate::together::stand_together;
 use st_agree::FieldApart;
 use st_ids::{Copied, Or};
 use st_marks::{Change, Step};
 use st_revert::makings;
-use std::alloc::Global;
+use std::alloc::{AllocError, Global};
 
 // A change over two steps taken together.
 fn over_both(alloc: Global, change: &Change, a: &Step, b: &Step) -> Result<Change, Or<FieldApart>>
-    ensures { (D E F : Document) (N : Intent) → IsExtendedBy D E → IsExtendedBy E F → Fits D N → Fits F N → HasShortRows (full F N)
+    ensures later { (D E F : Document) (N : Intent) → IsExtendedBy D E → IsExtendedBy E F → Fits D N → Fits F N → HasShortRows (full F N)
         → IsEmbedding D N change.now → IsStep D E a.now → IsStep E F b.now → IfMemory result (IsEmbedding F N) }
+    ensures first { ObeysStepRules a.now → ObeysStepRules b.now → TellsLeastFirst result (ComposeClash a.now b.now) }
 {
     match in_turn(alloc, a, b) {
         Ok(together) => over(alloc, change, &together),
@@ -32,9 +42,11 @@ fn over_both(alloc: Global, change: &Change, a: &Step, b: &Step) -> Result<Chang
 
 // A change over one step and then over another.
 fn over_each(alloc: Global, change: &Change, a: &Step, b: &Step) -> Result<Change, Or<FieldApart>>
-    ensures { (D E F : Document) (N : Intent) → IsExtendedBy D E → IsExtendedBy E F → Fits D N → Fits E N → Fits F N
+    ensures later { (D E F : Document) (N : Intent) → IsExtendedBy D E → IsExtendedBy E F → Fits D N → Fits E N → Fits F N
         → HasShortRows (full E N) → HasShortRows (full F N)
         → IsEmbedding D N change.now → IsStep D E a.now → IsStep E F b.now → IfMemory result (IsEmbedding F N) }
+    ensures each { HasRoomInRows change.now a.now → ObeysChangeRules change.now → ObeysStepRules a.now
+        → IfOk result (λ s. Agrees (RebaseClash change.now a.now)) }
 {
     match over(alloc, change, a) {
         Ok(between) => over(alloc, &between, b),
@@ -50,10 +62,12 @@ fn beside_each(
     a: &Step,
     b: &Step,
 ) -> Result<ChangeSides, Or<FieldApart>>
-    ensures { (D E F : Document) (N : Intent) → IsExtendedBy D E → IsExtendedBy E F → Fits D N → Fits E N → Fits F N
+    ensures sides { (D E F : Document) (N : Intent) → IsExtendedBy D E → IsExtendedBy E F → Fits D N → Fits E N → Fits F N
         → HasShortRows (full E N) → HasShortRows (full F N)
         → IsEmbedding D N change.now → IsStep D E a.now → IsStep E F b.now → IsEmbedding F N left
         → IfMemory result (λ s. IsEmbedding F N s.left × (s.left ≡ s.right)) }
+    ensures each { HasRoomInRows change.now a.now → ObeysChangeRules change.now → ObeysStepRules a.now
+        → IfOk result (λ s. Agrees (RebaseClash change.now a.now)) }
 {
     match over_each(alloc, change, a, b) {
         Ok(right) => Ok(ChangeSides { left, right }),
@@ -62,17 +76,22 @@ fn beside_each(
 }
 
 /// A change over two steps composed, and over the one and then the other. Refused where one of these calls is. Over documents
-/// none is, and both sides are the change of the intent after both steps.
+/// none is, and both sides are the change of the intent after both steps. Of arguments in normal form, those are refused of which
+/// the steps don't agree, at the least field; and those of which the change and the first step don't, where these have room
+/// together in each row.
 pub fn over_parts(
     alloc: Global,
     change: &Change,
     a: &Step,
     b: &Step,
 ) -> Result<ChangeSides, Or<FieldApart>>
-    ensures { (D E F : Document) (N : Intent) → IsExtendedBy D E → IsExtendedBy E F → Fits D N → Fits E N → Fits F N
+    ensures sides { (D E F : Document) (N : Intent) → IsExtendedBy D E → IsExtendedBy E F → Fits D N → Fits E N → Fits F N
         → HasShortRows (full E N) → HasShortRows (full F N)
         → IsEmbedding D N change.now → IsStep D E a.now → IsStep E F b.now
         → IfMemory result (λ s. IsEmbedding F N s.left × (s.left ≡ s.right)) }
+    ensures first { ObeysStepRules a.now → ObeysStepRules b.now → TellsLeastFirst result (ComposeClash a.now b.now) }
+    ensures each { HasRoomInRows change.now a.now → ObeysChangeRules change.now → ObeysStepRules a.now
+        → IfOk result (λ s. Agrees (RebaseClash change.now a.now)) }
 {
     match over_both(alloc, change, a, b) {
         Ok(left) => beside_each(alloc, left, change, a, b),
@@ -89,11 +108,14 @@ fn over_back(alloc: Global, change: &Change, step: &Step) -> Result<Change, Or<F
     over(alloc, change, &back)
 }
 
-// A change over a step and over its way back.
+// A change over a step and over its way back. The way back refuses none that the step lets through.
 fn over_and_back(alloc: Global, change: &Change, step: &Step) -> Result<Change, Or<FieldApart>>
-    ensures { (D E : Document) (N : Intent) → IsExtendedBy D E → Fits D N → Fits E N → HasShortRows (full E N)
+    ensures later { (D E : Document) (N : Intent) → IsExtendedBy D E → Fits D N → Fits E N → HasShortRows (full E N)
         → IsEmbedding D N change.now → IsStep D E step.now → IfMemory result (IsEmbedding (retreat D E) N) }
+    ensures apart { HasRoomInRows change.now step.now → ObeysChangeRules change.now → ObeysStepRules step.now
+        → TellsLeast result (RebaseClash change.now step.now) }
 {
+    stand_together();
     match over(alloc, change, step) {
         Ok(later) => over_back(alloc, &later, step),
         Err(why) => Err(why),
@@ -118,7 +140,8 @@ fn beside_makings(
 ) -> Result<ChangeSides, Or<FieldApart>>
     ensures { (D E : Document) (N : Intent) → IsExtendedBy D E → Fits D N → Fits E N → HasShortRows (full E N)
         → IsEmbedding D N change.now → IsStep D E step.now → IsEmbedding (retreat D E) N left
-        → IfMemory result (λ s. IsEmbedding (retreat D E) N s.left × (s.left ≡ s.right)) }
+        → IfMemory result (λ s. IsEmbedding (retreat D E) N s.left × (s.left ≡ s.right)
+        × (MakesNoneIn step.now change.now → s.left ≡ change.now)) }
 {
     match over_makings(alloc, change, step) {
         Ok(right) => Ok(ChangeSides { left, right }),
@@ -126,17 +149,26 @@ fn beside_makings(
     }
 }
 
-/// A change over a step and over its way back, and the change over what the step makes, with old nodes where they were. Refused
-/// where one of these calls is. Over documents none is, and both sides are the change of the intent in the retreat.
+/// A change over a step and over its way back, and the change over what the step makes, with old nodes where they were. Over
+/// documents none is refused, and both sides are the change of the intent in the retreat; where the step makes no cell in a row
+/// that the change lists, they are the change itself. A change and a step in normal form that have room together in each row are
+/// refused exactly where they don't agree, at the least field that a rule of agreement names, and by no later call; where they
+/// aren't refused, both sides are one.
 pub fn there_and_back(
     alloc: Global,
     change: &Change,
     step: &Step,
 ) -> Result<ChangeSides, Or<FieldApart>>
-    ensures { (D E : Document) (N : Intent) → IsExtendedBy D E → Fits D N → Fits E N → HasShortRows (full E N)
+    ensures sides { (D E : Document) (N : Intent) → IsExtendedBy D E → Fits D N → Fits E N → HasShortRows (full E N)
         → IsEmbedding D N change.now → IsStep D E step.now
-        → IfMemory result (λ s. IsEmbedding (retreat D E) N s.left × (s.left ≡ s.right)) }
+        → IfMemory result (λ s. IsEmbedding (retreat D E) N s.left × (s.left ≡ s.right)
+        × (MakesNoneIn step.now change.now → s.left ≡ change.now)) }
+    ensures apart { HasRoomInRows change.now step.now → ObeysChangeRules change.now → ObeysStepRules step.now
+        → TellsLeast result (RebaseClash change.now step.now) }
+    ensures equal { HasRoomInRows change.now step.now → ObeysChangeRules change.now → ObeysStepRules step.now
+        → IfOk result (λ s. (s.left ≡ s.right) × (MakesNoneIn step.now change.now → s.left ≡ change.now)) }
 {
+    stand_together();
     match over_and_back(alloc, change, step) {
         Ok(left) => beside_makings(alloc, left, change, step),
         Err(why) => Err(why),
@@ -144,12 +176,8 @@ pub fn there_and_back(
 }
 
 // The left side, with the change itself on the right.
-fn beside_itself(
-    alloc: Global,
-    left: Change,
-    change: &Change,
-) -> Result<ChangeSides, Or<FieldApart>>
-    ensures { left ≡ change.now → IfMemory result (λ s. (s.left ≡ change.now) × (s.left ≡ s.right)) }
+fn beside_itself(alloc: Global, left: Change, change: &Change) -> Result<ChangeSides, AllocError>
+    ensures { left ≡ change.now → IfOk result (λ s. (s.left ≡ change.now) × (s.left ≡ s.right)) }
 {
     let right = change.copy(alloc)?;
     Ok(ChangeSides { left, right })
@@ -157,20 +185,25 @@ fn beside_itself(
 
 // A change over a step that changes nothing, and the change.
 fn over_none(alloc: Global, change: &Change, step: &Step) -> Result<ChangeSides, Or<FieldApart>>
-    ensures { (D : Document) (N : Intent) → IsSoundInForm D → Fits D N → HasShortRows (full D N) → IsEmbedding D N change.now
+    ensures stays { (D : Document) (N : Intent) → IsSoundInForm D → Fits D N → HasShortRows (full D N) → IsEmbedding D N change.now
         → IsStep D D step.now → IfMemory result (λ s. (s.left ≡ change.now) × (s.left ≡ s.right)) }
+    ensures named { IfRefused result (λ a. RebaseClash change.now step.now a.field) }
+    ensures apart { HasRoomInRows change.now step.now → ObeysChangeRules change.now → ObeysStepRules step.now
+        → TellsLeast result (RebaseClash change.now step.now) }
 {
     match over(alloc, change, step) {
-        Ok(left) => beside_itself(alloc, left, change),
+        Ok(left) => Ok(beside_itself(alloc, left, change)?),
         Err(why) => Err(why),
     }
 }
 
-/// A change over the step that changes nothing, and the change. Refused where this call is. Over a document it isn't, and both
-/// sides are the change.
+/// A change over the step that changes nothing, and the change. Refused at a field that a rule of agreement names; a change in
+/// normal form exactly where one is named, at the least. Over a document none is, and both sides are the change.
 pub fn over_nothing(alloc: Global, change: &Change) -> Result<ChangeSides, Or<FieldApart>>
-    ensures { (D : Document) (N : Intent) → IsSoundInForm D → Fits D N → HasShortRows (full D N) → IsEmbedding D N change.now
+    ensures stays { (D : Document) (N : Intent) → IsSoundInForm D → Fits D N → HasShortRows (full D N) → IsEmbedding D N change.now
         → IfMemory result (λ s. (s.left ≡ change.now) × (s.left ≡ s.right)) }
+    ensures named { IfRefused result (λ a. RebaseClash change.now nothing a.field) }
+    ensures apart { ObeysChangeRules change.now → TellsLeast result (RebaseClash change.now nothing) }
 {
     let nothing = empty_step(alloc);
     over_none(alloc, change, &nothing)

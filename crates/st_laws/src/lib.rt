@@ -1,12 +1,18 @@
-//! The axioms of the algebra: each call makes the calls of both sides and gives what they come to, which is one value.
+//! The axioms of the algebra: each call makes the calls of both sides and gives what they come to, which over documents is one value,
+//! but where its contract tells otherwise.
 #![tactic(auto)]
 
 mod calls;
 mod changes;
+mod empty;
 mod nothing;
+mod parts;
 mod sides;
 mod steps;
+mod together;
 
 pub use changes::{over_nothing, over_parts, there_and_back};
+pub use empty::nothing_over;
+pub use parts::parts_over;
 pub use sides::{ChangeSides, StepSides};
 pub use steps::{associative, bridge_in_turn, neutral};

@@ -1,6 +1,6 @@
 //! The step that changes nothing.
 ghost use Rattle.std.specs.Prelude.{◌≡◌};
-ghost use Rattle.st_laws.specs.inside.Nothing.{nothing};
+ghost use Rattle.st_laws.specs.Empty.{nothing};
 
 use st_ids::List;
 use st_marks::Step;

@@ -1,8 +1,10 @@
 //! Axioms on steps.
-ghost use Rattle.std.specs.Prelude.{◌≡◌};
+ghost use Rattle.std.specs.Prelude.{◌≡◌, IfOk};
+ghost use Rattle.st_agree.specs.Apart.{TellsLeast};
 ghost use Rattle.st_kind.specs.Refused.{IfMemory};
 ghost use Rattle.st_marks.specs.declared.intents.Intent.{Intent};
 ghost use Rattle.st_marks.specs.declared.verdicts.Verdict.{Verdict};
+ghost use Rattle.st_marks.specs.Agree.{Agrees, ComposeClash, RebaseClash};
 ghost use Rattle.st_marks.specs.Back.{retreat};
 ghost use Rattle.st_marks.specs.CarryOut.{full};
 ghost use Rattle.st_marks.specs.Document.{Document, HasShortRows};
@@ -11,20 +13,27 @@ ghost use Rattle.st_marks.specs.Extends.{IsExtendedBy};
 ghost use Rattle.st_marks.specs.Intent.{Fits};
 ghost use Rattle.st_marks.specs.Step.{IsStep};
 ghost use Rattle.st_marks.specs.Verdict.{IsVerdict, carried_document};
+ghost use Rattle.st_moves.specs.Room.{HasRoomInRows};
+ghost use Rattle.st_normal.specs.Rules.{ObeysChangeRules, ObeysStepRules};
+ghost use Rattle.st_laws.specs.First.{TellsLeastFirst};
+ghost use Rattle.st_laws.specs.inside.Together.{IsDoneBy};
 
 use crate::calls::{done_by, in_turn, over, step_over, way_back};
 use crate::sides::StepSides;
+use crate::together::stand_together;
 use st_agree::FieldApart;
 use st_ids::Or;
 use st_marks::{Change, Step};
+use st_normal_step_laws::steps_that_obey_are_normal;
 use st_push::extends_beside;
 use st_revert::makings;
 use std::alloc::Global;
 
 // Three steps in turn, the first two taken together.
 fn first_together(alloc: Global, a: &Step, b: &Step, c: &Step) -> Result<Step, Or<FieldApart>>
-    ensures { (D E F G : Document) → IsExtendedBy D E → IsExtendedBy E F → IsExtendedBy F G
+    ensures later { (D E F G : Document) → IsExtendedBy D E → IsExtendedBy E F → IsExtendedBy F G
         → IsStep D E a.now → IsStep E F b.now → IsStep F G c.now → IfMemory result (IsStep D G) }
+    ensures first { ObeysStepRules a.now → ObeysStepRules b.now → TellsLeastFirst result (ComposeClash a.now b.now) }
 {
     match in_turn(alloc, a, b) {
         Ok(together) => in_turn(alloc, &together, c),
@@ -34,8 +43,9 @@ fn first_together(alloc: Global, a: &Step, b: &Step, c: &Step) -> Result<Step, O
 
 // Three steps in turn, the last two taken together.
 fn last_together(alloc: Global, a: &Step, b: &Step, c: &Step) -> Result<Step, Or<FieldApart>>
-    ensures { (D E F G : Document) → IsExtendedBy D E → IsExtendedBy E F → IsExtendedBy F G
+    ensures later { (D E F G : Document) → IsExtendedBy D E → IsExtendedBy E F → IsExtendedBy F G
         → IsStep D E a.now → IsStep E F b.now → IsStep F G c.now → IfMemory result (IsStep D G) }
+    ensures last { ObeysStepRules b.now → ObeysStepRules c.now → IfOk result (λ s. Agrees (ComposeClash b.now c.now)) }
 {
     match in_turn(alloc, b, c) {
         Ok(together) => in_turn(alloc, a, &together),
@@ -51,9 +61,10 @@ fn beside_last(
     b: &Step,
     c: &Step,
 ) -> Result<StepSides, Or<FieldApart>>
-    ensures { (D E F G : Document) → IsExtendedBy D E → IsExtendedBy E F → IsExtendedBy F G
+    ensures sides { (D E F G : Document) → IsExtendedBy D E → IsExtendedBy E F → IsExtendedBy F G
         → IsStep D E a.now → IsStep E F b.now → IsStep F G c.now → IsStep D G left
         → IfMemory result (λ s. IsStep D G s.left × (s.left ≡ s.right)) }
+    ensures last { ObeysStepRules b.now → ObeysStepRules c.now → IfOk result (λ s. Agrees (ComposeClash b.now c.now)) }
 {
     match last_together(alloc, a, b, c) {
         Ok(right) => Ok(StepSides { left, right }),
@@ -62,10 +73,13 @@ fn beside_last(
 }
 
 /// Three steps in turn: the first two composed and then the third, and the first with the last two composed. Refused where one
-/// of these calls is. Over documents none is, and both sides are the step from the first document to the last.
+/// of these calls is. Over documents none is, and both sides are the step from the first document to the last. Of steps in normal
+/// form, those are refused of which the first two or the last two don't agree: at the least field where the first two don't.
 pub fn associative(alloc: Global, a: &Step, b: &Step, c: &Step) -> Result<StepSides, Or<FieldApart>>
-    ensures { (D E F G : Document) → IsExtendedBy D E → IsExtendedBy E F → IsExtendedBy F G
+    ensures sides { (D E F G : Document) → IsExtendedBy D E → IsExtendedBy E F → IsExtendedBy F G
         → IsStep D E a.now → IsStep E F b.now → IsStep F G c.now → IfMemory result (λ s. IsStep D G s.left × (s.left ≡ s.right)) }
+    ensures first { ObeysStepRules a.now → ObeysStepRules b.now → TellsLeastFirst result (ComposeClash a.now b.now) }
+    ensures last { ObeysStepRules b.now → ObeysStepRules c.now → IfOk result (λ s. Agrees (ComposeClash b.now c.now)) }
 {
     match first_together(alloc, a, b, c) {
         Ok(left) => beside_last(alloc, left, a, b, c),
@@ -90,29 +104,34 @@ fn beside_makings(alloc: Global, left: Step, step: &Step) -> Result<StepSides, O
     Ok(StepSides { left, right })
 }
 
-/// A step composed with its way back, and what the step makes, with old nodes where they were. Refused where one of these calls
-/// is. Over documents none is, and both sides are the step to the retreat.
+/// A step composed with its way back, and what the step makes, with old nodes where they were. Over documents none is refused, and
+/// both sides are the step to the retreat. So none in normal form is, and both sides are one.
 pub fn neutral(alloc: Global, step: &Step) -> Result<StepSides, Or<FieldApart>>
-    ensures { (D E : Document) → IsExtendedBy D E → IsStep D E step.now
+    ensures sides { (D E : Document) → IsExtendedBy D E → IsStep D E step.now
         → IfMemory result (λ s. IsStep D (retreat D E) s.left × (s.left ≡ s.right)) }
+    ensures whole { ObeysStepRules step.now → IfMemory result (λ s. s.left ≡ s.right) }
 {
+    steps_that_obey_are_normal();
     match there_and_home(alloc, step) {
         Ok(left) => beside_makings(alloc, left, step),
         Err(why) => Err(why),
     }
 }
 
-// What a commit did, and then the step over it.
+// What a commit did, and then the step over it, which agrees with what the commit did where it agrees with the commit.
 fn commit_over(
     alloc: Global,
     done: &Step,
     step: &Step,
     change: &Change,
 ) -> Result<Step, Or<FieldApart>>
-    ensures { (D E : Document) (N : Intent) (v u : Verdict) → IsExtendedBy D E → Fits D N → Fits E N → HasShortRows (full D N) → HasShortRows (full E N)
+    ensures later { (D E : Document) (N : Intent) (v u : Verdict) → IsExtendedBy D E → Fits D N → Fits E N → HasShortRows (full D N) → HasShortRows (full E N)
         → IsEmbedding D N change.now → IsStep D E step.now → IsVerdict D N v → IsVerdict E N u → IsStep D (carried_document v D N) done.now
         → IfMemory result (IsStep D (carried_document u E N)) }
+    ensures apart { HasRoomInRows change.now step.now → ObeysChangeRules change.now → ObeysStepRules step.now → IsDoneBy change.now done.now
+        → TellsLeast result (RebaseClash change.now step.now) }
 {
+    stand_together();
     extends_beside();
     match step_over(alloc, step, change) {
         Ok(over) => in_turn(alloc, done, &over),
@@ -122,9 +141,11 @@ fn commit_over(
 
 // What a commit does, and then the step over it.
 fn commit_first(alloc: Global, step: &Step, change: &Change) -> Result<Step, Or<FieldApart>>
-    ensures { (D E : Document) (N : Intent) (v u : Verdict) → IsExtendedBy D E → Fits D N → Fits E N → HasShortRows (full D N) → HasShortRows (full E N)
+    ensures later { (D E : Document) (N : Intent) (v u : Verdict) → IsExtendedBy D E → Fits D N → Fits E N → HasShortRows (full D N) → HasShortRows (full E N)
         → IsEmbedding D N change.now → IsStep D E step.now → IsVerdict D N v → IsVerdict E N u
         → IfMemory result (IsStep D (carried_document u E N)) }
+    ensures apart { HasRoomInRows change.now step.now → ObeysChangeRules change.now → ObeysStepRules step.now
+        → TellsLeast result (RebaseClash change.now step.now) }
 {
     let done = done_by(alloc, change)?;
     commit_over(alloc, &done, step, change)
@@ -168,17 +189,23 @@ fn beside_step(
 }
 
 /// What a commit does composed with the step over it, and the step composed with what the commit does after it. In either place
-/// the commit may be void. Refused where one of these calls is. Over documents none is, and both sides are the step to the later
-/// document after the commit.
+/// the commit may be void. Over documents none is refused, and both sides are the step to the later document after the commit. A
+/// change and a step in normal form that have room together in each row are refused exactly where they don't agree, at the least
+/// field that a rule of agreement names, and by no later call; where they aren't refused, both sides are one.
 pub fn bridge_in_turn(
     alloc: Global,
     step: &Step,
     change: &Change,
 ) -> Result<StepSides, Or<FieldApart>>
-    ensures { (D E : Document) (N : Intent) (v u : Verdict) → IsExtendedBy D E → Fits D N → Fits E N → HasShortRows (full D N) → HasShortRows (full E N)
+    ensures sides { (D E : Document) (N : Intent) (v u : Verdict) → IsExtendedBy D E → Fits D N → Fits E N → HasShortRows (full D N) → HasShortRows (full E N)
         → IsEmbedding D N change.now → IsStep D E step.now → IsVerdict D N v → IsVerdict E N u
         → IfMemory result (λ s. IsStep D (carried_document u E N) s.left × (s.left ≡ s.right)) }
+    ensures apart { HasRoomInRows change.now step.now → ObeysChangeRules change.now → ObeysStepRules step.now
+        → TellsLeast result (RebaseClash change.now step.now) }
+    ensures equal { HasRoomInRows change.now step.now → ObeysChangeRules change.now → ObeysStepRules step.now
+        → IfOk result (λ s. s.left ≡ s.right) }
 {
+    stand_together();
     match commit_first(alloc, step, change) {
         Ok(left) => beside_step(alloc, left, step, change),
         Err(why) => Err(why),

@@ -7,8 +7,11 @@ use Rattle.st_marks.specs.declared.changes.Change.{Change}
 use Rattle.std.proofs.Common.{◌≡◌}
 use Rattle.st_laws.proofs.changes.beside_each.Goals as goal
 
-pub returns-in-Ok : goal.returns-in-Ok
-returns-in-Ok c = λ D E F N x y f g h middle last emb p q l. (l, one_embedding F N c.args.left c.in-Ok.right l (c.in-Ok.ensures D E F N x y f g h middle last emb p q))
+pub returns-in-Ok-clause-sides : goal.returns-in-Ok-clause-sides
+returns-in-Ok-clause-sides c = λ D E F N x y f g h middle last emb p q l. (l, one_embedding F N c.args.left c.in-Ok.right l (c.in-Ok.ensures.later D E F N x y f g h middle last emb p q))
 
-pub returns-in-Err : goal.returns-in-Err
-returns-in-Err c = λ D E F N x y f g h middle last emb p q l. memory_on Change ChangeSides FieldApart (IsEmbedding F N) (λ s. IsEmbedding F N s.left × (s.left ≡ s.right)) c.in-Err.why (c.in-Err.ensures D E F N x y f g h middle last emb p q)
+pub returns-in-Err-clause-sides : goal.returns-in-Err-clause-sides
+returns-in-Err-clause-sides c = λ D E F N x y f g h middle last emb p q l. memory_on Change ChangeSides FieldApart (IsEmbedding F N) (λ s. IsEmbedding F N s.left × (s.left ≡ s.right)) c.in-Err.why (c.in-Err.ensures.later D E F N x y f g h middle last emb p q)
+
+pub returns-in-Ok-clause-each : goal.returns-in-Ok-clause-each
+returns-in-Ok-clause-each c = λ room v w. c.in-Ok.ensures.each room v w

@@ -1,11 +1,16 @@
 use Rattle.st_agree.specs.declared.agreement.FieldApart.{FieldApart}
-use Rattle.st_laws.proofs.Refusals.{memory_on}
+use Rattle.st_laws.proofs.Refusals.{memory_on, ok_always}
 use Rattle.st_marks.specs.Embedding.{IsEmbedding}
 use Rattle.st_marks.specs.declared.changes.Change.{Change}
+use Rattle.st_ids.specs.declared.fault.Or.{Or}
+use Rattle.st_marks.specs.Agree.{Agrees, RebaseClash}
 use Rattle.st_laws.proofs.changes.over_each.Goals as goal
 
-pub returns-in-Ok : goal.returns-in-Ok
-returns-in-Ok c = λ D E F N x y f g h middle last emb p q. c.over-in-Ok.ensures E F N y g h last (c.in-Ok.ensures D E N x f g middle emb p) q
+pub returns-in-Ok-clause-later : goal.returns-in-Ok-clause-later
+returns-in-Ok-clause-later c = λ D E F N x y f g h middle last emb p q. c.over-in-Ok.ensures.later E F N y g h last (c.in-Ok.ensures.later D E N x f g middle emb p) q
 
-pub returns-in-Err : goal.returns-in-Err
-returns-in-Err c = λ D E F N x y f g h middle last emb p q. memory_on Change Change FieldApart (IsEmbedding E N) (IsEmbedding F N) c.in-Err.why (c.in-Err.ensures D E N x f g middle emb p)
+pub returns-in-Err-clause-later : goal.returns-in-Err-clause-later
+returns-in-Err-clause-later c = λ D E F N x y f g h middle last emb p q. memory_on Change Change FieldApart (IsEmbedding E N) (IsEmbedding F N) c.in-Err.why (c.in-Err.ensures.later D E N x f g middle emb p)
+
+pub returns-in-Ok-clause-each : goal.returns-in-Ok-clause-each
+returns-in-Ok-clause-each c = λ room v w. ok_always Change (Or FieldApart) (λ s. Agrees (RebaseClash c.args.change.now c.args.a.now)) c.over-in-Ok.result (λ s. c.in-Ok.ensures.apart room v w)

@@ -7,8 +7,11 @@ use Rattle.st_marks.specs.declared.steps.Step.{Step}
 use Rattle.std.proofs.Common.{◌≡◌}
 use Rattle.st_laws.proofs.steps.beside_last.Goals as goal
 
-pub returns-in-Ok : goal.returns-in-Ok
-returns-in-Ok c = λ D E F G x y z p q r l. (l, one_step D G c.args.left c.in-Ok.right z.after l (c.in-Ok.ensures D E F G x y z p q r))
+pub returns-in-Ok-clause-sides : goal.returns-in-Ok-clause-sides
+returns-in-Ok-clause-sides c = λ D E F G x y z p q r l. (l, one_step D G c.args.left c.in-Ok.right z.after l (c.in-Ok.ensures.later D E F G x y z p q r))
 
-pub returns-in-Err : goal.returns-in-Err
-returns-in-Err c = λ D E F G x y z p q r l. memory_on Step StepSides FieldApart (IsStep D G) (λ s. IsStep D G s.left × (s.left ≡ s.right)) c.in-Err.why (c.in-Err.ensures D E F G x y z p q r)
+pub returns-in-Err-clause-sides : goal.returns-in-Err-clause-sides
+returns-in-Err-clause-sides c = λ D E F G x y z p q r l. memory_on Step StepSides FieldApart (IsStep D G) (λ s. IsStep D G s.left × (s.left ≡ s.right)) c.in-Err.why (c.in-Err.ensures.later D E F G x y z p q r)
+
+pub returns-in-Ok-clause-last : goal.returns-in-Ok-clause-last
+returns-in-Ok-clause-last c = λ v w. c.in-Ok.ensures.last v w

@@ -8,8 +8,8 @@ use Rattle.st_agree.specs.declared.agreement.FieldApart.{FieldApart}
 use Rattle.st_laws.proofs.steps.step_first.Goals as goal
 
 pub returns-in-Ok : goal.returns-in-Ok
-returns-in-Ok c = λ D E N u x f g later emb s there. c.step_then.ensures D E N u x g later (c.in-Ok.ensures D E N x f g later emb s) s there
+returns-in-Ok c = λ D E N u x f g later emb s there. c.step_then.ensures D E N u x g later (c.in-Ok.ensures.later D E N x f g later emb s) s there
 
 pub returns-in-Err : goal.returns-in-Err
 returns-in-Err c = λ D E N u x f g later emb s there.
-    memory_on Change Step FieldApart (IsEmbedding E N) (IsStep D (carried_document u E N)) c.in-Err.why (c.in-Err.ensures D E N x f g later emb s)
+    memory_on Change Step FieldApart (IsEmbedding E N) (IsStep D (carried_document u E N)) c.in-Err.why (c.in-Err.ensures.later D E N x f g later emb s)

@@ -4,4 +4,4 @@ use Rattle.st_laws.proofs.steps.step_then.Goals as goal
 
 pub returns : goal.returns
 returns c = λ D E N u x g later emb s there.
-    c.in_turn.ensures D E (carried_document u E N) x (carried_extends E N u x.after g later there) s (c.in_ok-done.ensures E N u x.after g later emb there)
+    c.in_turn.ensures.later D E (carried_document u E N) x (carried_extends E N u x.after g later there) s (c.in_ok-done.ensures E N u x.after g later emb there)
