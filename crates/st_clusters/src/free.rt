@@ -1,6 +1,6 @@
 //! Version 4 UUIDs and their free numbers.
 ghost use Rattle.std.specs.Prelude.{◌≡◌, ◌<◌, ◌^◌};
-ghost use Rattle.st_clusters.specs.Free.{is_v4, free_number, uuid_of, ahead, free_after};
+ghost use Rattle.st_clusters.specs.Free.{is_v4, free_number, uuid_of, ahead, free_after, spans_meet};
 
 /// How many free numbers the span of a session has.
 pub(crate) const SPAN: u128 = 1 << 32;
@@ -9,7 +9,7 @@ const ROUND: u128 = 1 << 122;
 
 /// Whether the version is 4 and the variant that of RFC 9562.
 #[tactic(auto, unfolding(crate::specs::Free::is_v4))]
-pub(crate) fn is_v4(uuid: u128) -> bool
+pub fn is_v4(uuid: u128) -> bool
     ensures { result ≡ is_v4 uuid }
 {
     (uuid >> 76) % 16 == 4 && (uuid >> 62) % 4 == 2
@@ -26,7 +26,7 @@ pub(crate) fn free_number(uuid: u128) -> u128
 
 /// The version 4 UUID of a free number.
 #[tactic(auto, unfolding(crate::specs::Free::uuid_of))]
-pub(crate) fn uuid_of(free: u128) -> u128
+pub fn uuid_of(free: u128) -> u128
     requires { free < 2 ^ 122 }
     ensures { result ≡ uuid_of free }
 {
@@ -45,6 +45,15 @@ pub(crate) fn ahead(a: u128, b: u128) -> u128
     ensures { result ≡ ahead a b }
 {
     (b + ROUND - a) % ROUND
+}
+
+/// Whether the spans of two sessions meet, which begin at the free numbers of their UUIDs.
+pub fn spans_clash(one: u128, other: u128) -> bool
+    ensures { result ≡ spans_meet (free_number one) (free_number other) }
+{
+    let one = free_number(one);
+    let other = free_number(other);
+    ahead(one, other) < SPAN || ahead(other, one) < SPAN
 }
 
 /// The free number that comes `n` after another.

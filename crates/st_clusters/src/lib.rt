@@ -14,6 +14,7 @@ mod spans;
 
 pub use at::At;
 pub use compressor::Compressor;
+pub use free::{is_v4, spans_clash, uuid_of};
 pub use ids::{Cluster, IdFault, IdRange, SessionIds, Unknown};
 pub use laws::{
     carried_ids_have_numbers, final_numbers_are_distinct, final_numbers_stay, reached_tables_go_on,

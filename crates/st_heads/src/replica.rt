@@ -4,7 +4,7 @@ ghost use Rattle.st_marks.specs.Document.{IsSoundInForm};
 ghost use Rattle.st_marks.specs.Intent.{Fits};
 ghost use Rattle.st_doc.specs.Doc.{document_of};
 ghost use Rattle.st_edits.specs.InEffect.{last_in_effect};
-ghost use Rattle.st_lists.specs.Clients.{with_new_commit};
+ghost use Rattle.st_lists.specs.Clients.{KeepsIds, with_new_commit};
 ghost use Rattle.st_lists.specs.Names.{names_made};
 ghost use Rattle.st_heads.specs.Replicas.{IsCommitted};
 
@@ -35,7 +35,7 @@ pub fn last_in_effect(doc: &Doc) -> Rev
     }
 }
 
-/// Carries a commit out under a new id, and keeps it as pending and in the queue.
+/// Carries a commit out under a new id, and keeps it as pending and in the queue, where it takes the ids that are left.
 pub fn commit_new(
     alloc: Global,
     client: &mut Client,
@@ -43,6 +43,7 @@ pub fn commit_new(
     intent: Intent,
 ) -> Result<(), AllocError>
     requires few { client.old.ids + 1 < 2 ^ 32 }
+    requires taken { KeepsIds client.old }
     requires names { kept.old.names + names_made intent ≤ 16384 }
     requires sound { IsSoundInForm (document_of kept.old.main.doc) }
     requires fits { Fits (document_of kept.old.main.doc) intent }
@@ -51,7 +52,7 @@ pub fn commit_new(
 {
     kept.names += names_made(&intent);
     kept.main.carry(alloc, &intent)?;
-    enqueue(alloc, client, intent)?;
     client.ids += 1;
+    enqueue(alloc, client, intent)?;
     Ok(())
 }

@@ -57,7 +57,7 @@ text_back s u wide e =
     let equal : same (uuid_text u) s ≡ true = subst (λ (x : List ℕ). same (uuid_text u) x ≡ true) e (bytes-itself (uuid_text u)) in
     rw (low, equal) refl
 
-parsed_back : (u : ℕ) → Some (to_be_bytes w128 u) ≡ parsed (uuid_text u)
+pub parsed_back : (u : ℕ) → Some (to_be_bytes w128 u) ≡ parsed (uuid_text u)
 parsed_back u = parses_hyphenated lower (to_be_bytes w128 u) (inl refl) refl (All-from_recursion (λ (b : ℕ). b < 256) (to_be_bytes w128 u) (bytes_low 16 u))
 
 number_back : (s xs : List ℕ) (u : ℕ) → Some xs ≡ parsed s → from_be_bytes w128 xs ≡ u → with_text s u ≡ Some u → uuid_of_text s ≡ Some u

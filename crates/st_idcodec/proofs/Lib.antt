@@ -9,3 +9,4 @@ pub mod Gone
 pub mod Running
 pub mod Complete
 pub mod Final
+pub mod TextsOfUuids

@@ -1,13 +1,15 @@
 //! Laws of the texts of op-space names, and of tables.
-ghost use Rattle.std.specs.Prelude.{◌≡◌, ◌<◌, ◌^◌, ℕ, ℤ, Some, Ok};
+ghost use Rattle.std.specs.Prelude.{◌≡◌, ◌<◌, ◌^◌, ℕ, ℤ, true, Some, Ok};
+ghost use Rattle.st_clusters.specs.Free.{is_v4};
 ghost use Rattle.st_clusters.specs.Ids.{IsOpAt};
 ghost use Rattle.st_clusters.specs.Reached.{IsReached};
 ghost use Rattle.st_clusters.specs.Table.{Ids, after_joining, after_generating, after_taking, after_rewinding, after_finalising};
 ghost use Rattle.st_clusters.specs.declared.ids.IdRange.{IdRange as Range};
 ghost use Rattle.st_ids.specs.declared.names.Rev.{Rev as RevNames};
 ghost use Rattle.st_idcodec.specs.OpText.{rev_data, atom_data, rev_number, atom_numbers, IsShort};
-ghost use Rattle.st_idcodec.specs.TableText.{table_data};
+ghost use Rattle.st_idcodec.specs.TableText.{table_data, uuid_text};
 ghost use Rattle.st_idcodec.specs.Tables.{IsTable, AreSettled, only_final};
+ghost use Rattle.st_idcodec.specs.Uuids.{uuid_read};
 
 use st_clusters::At;
 
@@ -28,6 +30,11 @@ pub fn ops_are_read_back(at: &At)
 {
     at.ids.names_are_distinct();
 }
+
+/// The law that the text of a UUID of version 4 is read as that UUID.
+pub fn uuids_are_read_back()
+    ensures { (u : ℕ) → u < 2 ^ 128 → is_v4 u ≡ true → uuid_read (uuid_text u) ≡ Some u }
+{}
 
 /// The law that what is written for a table is written for no other, and that each session of a
 /// table has taken and generated the ids that are finalised, and no others.

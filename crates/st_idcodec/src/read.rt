@@ -8,9 +8,9 @@ ghost use Rattle.st_idcodec.specs.inside.Reading.{same, cluster_of_numbers, clus
 ghost use Rattle.st_idcodec.specs.TableText.{uuid_text, table_data};
 ghost use Rattle.st_clusters.specs.Reached.{no_ids};
 ghost use Rattle.st_idcodec.specs.Tables.{IsTable};
-ghost use Rattle.uuid.specs.Text.{parsed};
 
 use crate::names::place_number;
+use crate::uuids::parsed_uuid;
 use serde_json::{Map, Value};
 use st_clusters::{Cluster, Compressor, IdRange};
 use st_ids::Or;
@@ -85,16 +85,6 @@ fn is_text(uuid: u128, text: &str) -> bool
     let written = Uuid::from_u128(uuid).hyphenated().encode_lower(&mut buffer);
     let written: &str = written;
     written == text
-}
-
-// The UUID that a text of any form is.
-fn parsed_uuid(text: &str) -> Option<Uuid>
-    ensures { result ≡ parsed text.now }
-{
-    match Uuid::parse_str(text) {
-        Ok(uuid) => Some(uuid),
-        Err(_) => None,
-    }
 }
 
 // The number of a UUID, where a text is its text.

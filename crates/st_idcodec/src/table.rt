@@ -1,14 +1,14 @@
 //! The table of ids as a JSON value.
 ghost use Rattle.std.specs.Prelude.{◌≡◌, ℕ, IfOk, OnOk, codes, map};
-ghost use Rattle.serde_json.specs.Data.{string, array, put};
+ghost use Rattle.serde_json.specs.Data.{array, put};
 ghost use Rattle.serde_json.specs.View.{view, items_of, members_view};
 ghost use Rattle.st_clusters.specs.Ids.{ids_of};
-ghost use Rattle.st_idcodec.specs.TableText.{plain_number, cluster_data, uuid_data, uuid_text, table_data};
+ghost use Rattle.st_idcodec.specs.TableText.{plain_number, cluster_data, uuid_data, table_data};
 
+use crate::uuids::uuid_value;
 use serde_json::{Map, Value};
 use st_clusters::{Cluster, Compressor, SessionIds};
 use std::alloc::{AllocError, Global};
-use uuid::Uuid;
 
 // The values of numbers.
 fn numbers_value(alloc: Global, numbers: &[u64]) -> Result<Value, AllocError>
@@ -43,31 +43,13 @@ fn clusters_value(alloc: Global, clusters: &[Cluster]) -> Result<Value, AllocErr
     Ok(Value::Array(items))
 }
 
-// The value of a text.
-fn text_value(alloc: Global, text: &str) -> Result<Value, AllocError>
-    ensures { IfOk result (λ v. view v ≡ string text.now) }
-{
-    Ok(Value::String(String::from_str(alloc, text)?))
-}
-
-// The value of a session: its UUID, in lower case with hyphens.
-fn uuid_value(alloc: Global, session: &SessionIds) -> Result<Value, AllocError>
-    ensures { IfOk result (λ v. view v ≡ uuid_data session.now) }
-{
-    let mut buffer = Uuid::encode_buffer();
-    let text = Uuid::from_u128(session.uuid)
-        .hyphenated()
-        .encode_lower(&mut buffer);
-    text_value(alloc, text)
-}
-
-// The values of sessions.
+// The values of sessions: their UUIDs, in lower case with hyphens.
 fn uuids_value(alloc: Global, sessions: &[SessionIds]) -> Result<Value, AllocError>
     ensures { IfOk result (λ v. view v ≡ array (items_of (map uuid_data sessions.now))) }
 {
     let mut items = Vec::new(alloc);
     for session in sessions {
-        items.push(uuid_value(alloc, session)?)?;
+        items.push(uuid_value(alloc, session.uuid)?)?;
     }
     Ok(Value::Array(items))
 }

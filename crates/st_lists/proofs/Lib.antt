@@ -4,3 +4,4 @@ pub mod Minima
 pub mod Names
 pub mod Branches
 pub mod Written
+pub mod Texts

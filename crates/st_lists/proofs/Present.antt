@@ -143,10 +143,10 @@ not_same n m e same = let back : n ≡ m = sym same in grind (arith, nat_tests)
 
 -- a text leaves it connected or not
 pub text_stays : (b : Bool) (text : Body) → is_text text ≡ true → connected_after b text ≡ b
-text_stays b Join h = cc
+text_stays b (Join uuid) h = cc
 text_stays b Leave h = cc
 text_stays b (Ack reference) h = refl
-text_stays b (Commit reference intent) h = refl
+text_stays b (Commit reference ids intent) h = refl
 
 abbrev pub session_of : Client → ℕ
 session_of c = c.session
@@ -201,19 +201,19 @@ module _ (log : List Entry) (clients : List Client) (i : ℕ) (c : Client) (at :
           (x.0, rest_there session_of clients i c x.0 at x.1 (λ q. not_same c.session s e (sym x.2 ∙ q)), x.2)
 
 -- a client comes, with a session of its own
-pub connected_joined : (log : List Entry) (clients : List Client) (c : Client) → ((x : Client) → Has clients x → x.session ≢ c.session) → c.connected ≡ true → AreConnected log clients → AreConnected (log_with log c.session Join) (clients ++ c ∷ [])
-connected_joined log clients c apart on w = record {
+pub connected_joined : (log : List Entry) (clients : List Client) (c : Client) (uuid : ℕ) → ((x : Client) → Has clients x → x.session ≢ c.session) → c.connected ≡ true → AreConnected log clients → AreConnected (log_with log c.session (Join uuid)) (clients ++ c ∷ [])
+connected_joined log clients c uuid apart on w = record {
   each = λ x h. each x (has-append clients (c ∷ []) x h);
   no_other = λ s h. no_other s (c.session == s) refl h;
 }
   where
-    each : (x : Client) → Has clients x ⊎ Has (c ∷ []) x → is_connected x.session (log_with log c.session Join) ≡ x.connected
-    each x (inl h) = connected_other c.session x.session log Join (are_apart c.session x.session (apart x h)) ∙ w.each x h
-    each x (inr (inl e)) = subst (λ (y : Client). is_connected y.session (log_with log c.session Join) ≡ y.connected) e (connected_same c.session log Join ∙ sym on)
+    each : (x : Client) → Has clients x ⊎ Has (c ∷ []) x → is_connected x.session (log_with log c.session (Join uuid)) ≡ x.connected
+    each x (inl h) = connected_other c.session x.session log (Join uuid) (are_apart c.session x.session (apart x h)) ∙ w.each x h
+    each x (inr (inl e)) = subst (λ (y : Client). is_connected y.session (log_with log c.session (Join uuid)) ≡ y.connected) e (connected_same c.session log (Join uuid) ∙ sym on)
     each x (inr (inr h)) = absurd h
 
-    no_other : (s : ℕ) (b : Bool) → (c.session == s) ≡ b → is_connected s (log_with log c.session Join) ≡ true → (x : Client) × Has (clients ++ c ∷ []) x × (x.session ≡ s)
+    no_other : (s : ℕ) (b : Bool) → (c.session == s) ≡ b → is_connected s (log_with log c.session (Join uuid)) ≡ true → (x : Client) × Has (clients ++ c ∷ []) x × (x.session ≡ s)
     no_other s true e h = (c, append_right clients (c ∷ []) c (inl refl), are_same c.session s e)
     no_other s false e h =
-        let x = w.no_other s (sym (connected_other c.session s log Join e) ∙ h) in
+        let x = w.no_other s (sym (connected_other c.session s log (Join uuid) e) ∙ h) in
         (x.0, append_left clients (c ∷ []) x.0 x.1, x.2)

@@ -1,11 +1,13 @@
 -- The clients of a world: who is there, and what a client's own steps make of its lists.
-use Rattle.std.specs.Prelude.{ℕ, ◌+◌, ◌==◌, ◌&&◌, Bool, true, false, List, length, map, [], ◌∷◌, ◌++◌, drop, take, position, slice_get, nat_eq, Option, Some, None, is_some, option_map, option_and_then, if◌then◌else◌}
+use Rattle.std.specs.Prelude.{◌≡◌, ℕ, ◌+◌, ◌-◌, ◌≤◌, ◌==◌, ◌&&◌, Bool, true, false, List, length, [], ◌∷◌, ◌++◌, drop, take, position, slice_get, nat_eq, Option, Some, None, is_some, option_map, option_and_then, if◌then◌else◌}
 use Rattle.std.specs.Cmp.Lexicographic.{pointwise}
+use Rattle.st_clusters.specs.Log.{carried_count}
+use Rattle.st_clusters.specs.declared.ids.IdRange.{IdRange}
 use Rattle.st_ids.specs.declared.names.Rev.{Rev}
 use Rattle.st_marks.specs.declared.intents.Intent.{Intent}
 use Rattle.st_marks.specs.Document.{Document}
 use Rattle.st_marks.specs.Run.{Run}
-use Rattle.st_lists.specs.Log.{commit_of, commits_in, waiting}
+use Rattle.st_lists.specs.Log.{commit_of, commits_in, ranges_in, waiting}
 use Rattle.st_lists.specs.declared.lists.Body.{Body}
 use Rattle.st_lists.specs.declared.lists.Body.TheVariants.{Ack, Commit}
 use Rattle.st_lists.specs.declared.lists.Client.{Client}
@@ -27,8 +29,9 @@ abbrev pub client_named : List ℕ → List Client → Option (ℕ × Client)
 client_named name clients = option_and_then (λ i. option_map (λ c. (i, c)) (slice_get clients i)) (place_of name clients)
 
 -- a new client has received all of the log, with its own join
-abbrev pub new_client : ℕ → ℕ → List ℕ → Client
-new_client n session name = record { name = name; session = session; connected = true; received = n; ids = 0; pending = []; transaction = None; queue = []; forks = 0; branches = [] }
+abbrev pub new_client : ℕ → ℕ → ℕ → List ℕ → Client
+new_client n session uuid name =
+    record { name = name; session = session; uuid = uuid; connected = true; received = n; ids = 0; taken = 0; pending = []; transaction = None; queue = []; forks = 0; branches = [] }
 
 -- ## The commits of a client
 
@@ -48,16 +51,33 @@ next_rev c = record { session = c.session; num = c.ids + 1 }
 abbrev pub queue_with : Client → Body → List Body
 queue_with c text = if c.connected then c.queue ++ text ∷ [] else c.queue
 
--- a commit is pending, and its text waits
+-- the ids of a session from the one after so many up to another
+abbrev pub ids_from : ℕ → ℕ → ℕ → IdRange
+ids_from session taken ids = record { session = session; first = taken + 1; count = ids - taken }
+
+-- how many ids the texts of a client have taken, where one more is written: all that it generated, if it is connected
+abbrev pub taken_with : Client → ℕ
+taken_with c = if c.connected then c.ids else c.taken
+
+-- one that is connected has taken no ids but those that it generated
+abbrev pub KeepsIds : Client → Type 0
+KeepsIds c = c.connected ≡ true → c.taken ≤ c.ids
+
+-- a commit is pending, and its text waits, which takes the ids that no text has taken yet
 abbrev pub with_commit : Client → Intent → Client
 with_commit c intent = record c {
+  taken = taken_with c;
   pending = c.pending ++ intent ∷ [];
-  queue = queue_with c (Commit c.received intent);
+  queue = queue_with c (Commit c.received (ids_from c.session c.taken c.ids) intent);
 }
 
--- the same, with an id generated for it
+-- one more id is generated
+abbrev pub with_id : Client → Client
+with_id c = record c { ids = c.ids + 1 }
+
+-- a commit for which an id is generated, that its text takes
 abbrev pub with_new_commit : Client → Intent → Client
-with_new_commit c intent = record (with_commit c intent) { ids = c.ids + 1 }
+with_new_commit c intent = with_commit (with_id c) intent
 
 -- it tells how many entries it received, by a text that waits in the queue
 abbrev pub with_ack : Client → Client
@@ -107,12 +127,28 @@ with_received e c = record c { received = c.received + 1; pending = pending_afte
 abbrev pub without_connection : Client → Client
 without_connection c = record c { connected = false; queue = [] }
 
+-- texts of commits that are written one after the other, under one reference: the first takes all ids from the one after so
+-- many, and there are none left for the others
+abbrev pub texts_from : ℕ → ℕ → ℕ → ℕ → List Intent → List Body
+texts_from reference session taken ids [] = []
+texts_from reference session taken ids (N ∷ Ns) = Commit reference (ids_from session taken ids) N ∷ texts_from reference session ids ids Ns
+
+-- how many ids are taken after them
+abbrev pub taken_after : ℕ → ℕ → List Intent → ℕ
+taken_after taken ids [] = taken
+taken_after taken ids (N ∷ Ns) = ids
+
+-- how many ids of its own the log carries
+abbrev pub carried_of : List Entry → Client → ℕ
+carried_of log c = carried_count c.session (ranges_in log)
+
 -- one that comes back has received the whole log, with its new join as the last entry; what was in no log is pending
--- still, and waits with the join's number as its reference
+-- still, and waits with the join's number as its reference, from the ids on that the log doesn't carry
 abbrev pub with_connection : List Entry → Client → Client
 with_connection log c = record c {
   connected = true;
   received = length log + 1;
+  taken = taken_after (carried_of log c) c.ids (waiting log c);
   pending = waiting log c;
-  queue = map (Commit (length log + 1)) (waiting log c);
+  queue = texts_from (length log + 1) c.session (carried_of log c) c.ids (waiting log c);
 }

@@ -1,8 +1,9 @@
 //! How many names commits make.
-ghost use Rattle.std.specs.Prelude.{◌≡◌, ◌-◌, ◌^◌, min, length};
+ghost use Rattle.std.specs.Prelude.{◌≡◌, ◌-◌, ◌^◌, [], ◌∷◌, min, length};
 ghost use Rattle.std.specs.List.{flat_map};
 ghost use Rattle.std.specs.Option.{option_map_or};
-ghost use Rattle.st_lists.specs.Log.{commits_by};
+ghost use Rattle.st_clusters.specs.Log.{carried_count};
+ghost use Rattle.st_lists.specs.Log.{commits_by, ranges_in};
 ghost use Rattle.st_lists.specs.Names.{names_in, names_in_text, names_made};
 ghost use Rattle.st_lists.specs.inside.Own.{is_own_of};
 
@@ -55,7 +56,7 @@ fn is_own(entry: &Entry, session: u32) -> bool
     ensures { result ≡ is_own_of entry.now session }
 {
     match &entry.body {
-        Body::Join | Body::Leave | Body::Ack { .. } => false,
+        Body::Join { .. } | Body::Leave | Body::Ack { .. } => false,
         Body::Commit { .. } => entry.session == session,
     }
 }
@@ -73,12 +74,34 @@ pub fn count_own(entries: &[Entry], session: u32) -> usize
     count
 }
 
+// How many ids of a session an entry carries.
+fn ids_in(entry: &Entry, session: u32) -> u32
+    ensures { result ≡ carried_count session (ranges_in (entry.now ∷ [])) }
+{
+    match &entry.body {
+        Body::Join { .. } | Body::Leave | Body::Ack { .. } => 0,
+        Body::Commit { ids, .. } => { if ids.session == session { ids.count } else { 0 } }
+    }
+}
+
+/// How many ids of a session entries carry, or the greatest number if there are more.
+pub fn ids_carried(entries: &[Entry], session: u32) -> u32
+    ensures { result ≡ min (carried_count session (ranges_in entries.now)) (2 ^ 32 - 1) }
+{
+    let mut count: u32 = 0;
+    for entry in entries {
+        let carried = ids_in(entry, session);
+        count = count.saturating_add(carried);
+    }
+    count
+}
+
 /// How many nodes and cells the commit of a text makes, or the greatest number if there are more; none where it has none.
 pub fn names_in_text(text: &Body) -> u64
     ensures { result ≡ min (names_in_text text.now) (2 ^ 64 - 1) }
 {
     match text {
         Body::Commit { intent, .. } => names_made(intent),
-        Body::Join | Body::Leave | Body::Ack { .. } => 0,
+        Body::Join { .. } | Body::Leave | Body::Ack { .. } => 0,
     }
 }

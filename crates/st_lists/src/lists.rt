@@ -1,5 +1,6 @@
 //! The world as lists: what the answers are defined by.
 
+use st_clusters::IdRange;
 use st_ids::{List, Rev, Text};
 use st_marks::Intent;
 
@@ -18,14 +19,22 @@ pub struct Entry {
     pub body: Body,
 }
 
-/// What an entry says, or a text that waits to become one. A reference is the number of entries that its author had
-/// received.
+/// What an entry says, or a text that waits to become one. A join tells the UUID of its session. A reference is the number
+/// of entries that its author had received. A commit carries the ids that its session has generated since its last text.
 #[derive(Drop)]
 pub enum Body {
-    Join,
+    Join {
+        uuid: u128,
+    },
     Leave,
-    Ack { reference: u32 },
-    Commit { reference: u32, intent: Intent },
+    Ack {
+        reference: u32,
+    },
+    Commit {
+        reference: u32,
+        ids: IdRange,
+        intent: Intent,
+    },
 }
 
 /// A transaction that is open: the revision of its commit, the schema's revision that it is made under, what was edited in
@@ -52,16 +61,19 @@ pub struct Branch {
     pub transaction: Option<Transaction>,
 }
 
-/// A client: whether it is connected, how many entries it received, how many ids it generated, the commits of its main line
-/// that it has not received back, the transaction that is open there, the texts that are not in the log yet, how many
-/// numbers of branches it gave, and its branches in the order of their numbers.
+/// A client: the UUID of its session, whether it is connected, how many entries it received, how many ids it generated, how
+/// many of these its texts have taken, the commits of its main line that it has not received back, the transaction that is
+/// open there, the texts that are not in the log yet, how many numbers of branches it gave, and its branches in the order of
+/// their numbers.
 #[derive(Drop)]
 pub struct Client {
     pub name: Text,
     pub session: u32,
+    pub uuid: u128,
     pub connected: bool,
     pub received: u32,
     pub ids: u32,
+    pub taken: u32,
     pub pending: List<Intent>,
     pub transaction: Option<Transaction>,
     pub queue: List<Body>,

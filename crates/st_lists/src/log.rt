@@ -1,10 +1,11 @@
 //! The log, and how much of it each session is known to have received.
 ghost use Rattle.std.specs.Prelude.{◌≡◌, ℕ, List as Seq, ◌+◌, ◌-◌, ◌^◌, ◌<◌, ◌≤◌, length, fold, min, slice_get, unwrap_or, OnOk, if◌then◌else◌};
-ghost use Rattle.st_lists.specs.Log.{floor, log_with, minimum, reference_of, with_reference};
+ghost use Rattle.st_lists.specs.Log.{clashes, floor, log_with, meets, minimum, reference_of, with_reference};
 ghost use Rattle.st_lists.specs.Known.{known_so_far, AreConnected, AreKnown, AreMinima};
 ghost use Rattle.st_lists.specs.declared.lists.Entry.{Entry as Logged};
 
 use crate::lists::{Body, Client, Entry};
+use st_clusters::spans_clash;
 use st_ids::List;
 use std::alloc::AllocError;
 use std::collections::BTreeMap;
@@ -14,7 +15,7 @@ fn reference_of(entry: &Entry) -> u32
     ensures { result ≡ reference_of entry.now }
 {
     match &entry.body {
-        Body::Join => entry.n,
+        Body::Join { .. } => entry.n,
         Body::Leave => 0,
         Body::Ack { reference } => *reference,
         Body::Commit { reference, .. } => *reference,
@@ -54,6 +55,23 @@ pub fn append_entry(
     note_reference(known, &entry)?;
     log.push(entry)?;
     Ok(())
+}
+
+// Whether an entry tells a UUID whose span of stable ids meets that of another.
+fn meets(uuid: u128, entry: &Entry) -> bool
+    ensures { result ≡ meets uuid entry.now }
+{
+    match &entry.body {
+        Body::Join { uuid: other } => spans_clash(*other, uuid),
+        Body::Leave | Body::Ack { .. } | Body::Commit { .. } => false,
+    }
+}
+
+/// Whether the span of a session's stable ids meets that of one that joined before.
+pub fn clashes(uuid: u128, log: &[Entry]) -> bool
+    ensures { result ≡ clashes uuid log.now }
+{
+    log.iter().any(|entry| meets(uuid, entry))
 }
 
 // The least known reference of the clients that are connected; with none, `number`.

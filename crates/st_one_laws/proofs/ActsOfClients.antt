@@ -23,9 +23,9 @@ use Rattle.st_lists.specs.declared.lists.Branch.{Branch}
 use Rattle.st_lists.specs.declared.lists.Client.{Client}
 use Rattle.st_lists.specs.declared.lists.Entry.{Entry}
 use Rattle.st_lists.specs.declared.lists.Transaction.{Transaction}
-use Rattle.st_lists.specs.Clients.{next_rev, new_transaction, with_edited, with_new_commit, with_received}
+use Rattle.st_lists.specs.Clients.{next_rev, new_transaction, with_edited, with_id, with_new_commit, with_received}
 use Rattle.st_lists.specs.Limits.{limit_passed, names_limit_passed, own_limit_passed}
-use Rattle.st_lists.specs.Lines.{Line, commits_of, has_children, main_line, with_base, with_commit_on, with_commits_on, with_transaction_on, without_branch}
+use Rattle.st_lists.specs.Lines.{Line, commits_of, has_children, main_line, with_base, with_commits_on, with_transaction_on, without_branch}
 use Rattle.st_lists.specs.Log.{commit_of, floor}
 use Rattle.st_edits.specs.declared.names.NameCounters.{NameCounters}
 use Rattle.st_lists.specs.Voids.{AreVoid}
@@ -70,7 +70,7 @@ module _ (c d : Client) (s : AlikeClient c d) where
   -- ## Edits
 
   new_on : (k : ℕ) (w : EditWord) (N : Intent) (o : Option Limit) → Same (with_new_on c k w N o).0 (with_new_on c k w N o).1 (with_new_on d k w N o).0 (with_new_on d k w N o).1
-  new_on k w N None = (ids_alike (with_commit_on c k N) (with_commit_on d k N) (c.ids + 1) (d.ids + 1) (committed_on c d k N N s (alike_itself N)) (ids_more c d s), ap (answer_of w) (next_both c d s))
+  new_on k w N None = (committed_on (with_id c) (with_id d) k N N (ids_alike c d (c.ids + 1) (d.ids + 1) s (ids_more c d s)) (alike_itself N), ap (answer_of w) (next_both c d s))
   new_on k w N (Some o) = (s, refl)
 
   edit_same : (k : ℕ) (l m : Line) (w : EditWord) (r : Result Intent EditFault) → AlikeLine l m → Same (after_edit c k l w r).0 (after_edit c k l w r).1 (after_edit d k m w r).0 (after_edit d k m w r).1

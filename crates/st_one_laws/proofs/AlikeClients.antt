@@ -9,12 +9,13 @@ use Rattle.st_lists.specs.declared.lists.Branch.{Branch}
 use Rattle.st_lists.specs.declared.lists.Client.{Client}
 use Rattle.st_lists.specs.declared.lists.Entry.{Entry}
 use Rattle.st_lists.specs.declared.lists.Transaction.{Transaction}
-use Rattle.st_lists.specs.Clients.{is_own, new_transaction, queue_with, with_ack, with_commit, with_connection, with_edited, with_new_commit, with_received, without_connection}
+use Rattle.st_clusters.specs.Log.{carried_count}
+use Rattle.st_lists.specs.Clients.{carried_of, ids_from, is_own, new_transaction, queue_with, taken_after, taken_with, texts_from, with_ack, with_connection, with_edited, with_id, with_new_commit, with_received, without_connection}
 use Rattle.st_lists.specs.Lines.{Line, new_branch, on_branch, with_base, with_branch, with_commit_on, with_commits_on, with_transaction_on, without_branch}
 use Rattle.st_lists.specs.Log.{commit_of, waiting}
 use Rattle.st_one_laws.specs.AlikeWorlds.{AlikeBody, AlikeBranch, AlikeClient, AlikeEntry, AlikeLine, AlikeTransaction, InBoth, IsAlike, OneByOne}
 use Rattle.st_one_laws.proofs.OneByOne.{as_long, behind, dropped, filtered, mapped}
-use Rattle.st_one_laws.proofs.AlikeLogs.{connected_both, received_both, session_alike, waiting_alike}
+use Rattle.st_one_laws.proofs.AlikeLogs.{connected_both, ranges_alike, received_both, session_alike, waiting_alike}
 
 pub some_alike : {A : Type 0} (R : A → A → Type 0) (o p : Option A) → InBoth R o p → is_some o ≡ is_some p
 some_alike R None None a = refl
@@ -50,10 +51,10 @@ queued_alike c d b e a r = chosen (OneByOne AlikeBody) c.connected d.connected (
 
 pub committed_on : (c d : Client) (k : ℕ) (N M : Intent) → AlikeClient c d → IsAlike N M → AlikeClient (with_commit_on c k N) (with_commit_on d k M)
 committed_on c d zero N M a r = record {
-  plain = a.plain;
+  plain = ap (λ (x : Client). record x { taken = taken_with x }) a.plain;
   pending = behind IsAlike c.pending d.pending (N ∷ []) (M ∷ []) a.pending (r, tt);
   transaction = a.transaction;
-  queue = queued_alike c d (Commit c.received N) (Commit d.received M) a (ap (λ n. Ack n) (received_both c d a), r);
+  queue = queued_alike c d (Commit c.received (ids_from c.session c.taken c.ids) N) (Commit d.received (ids_from d.session d.taken d.ids) M) a (ap (λ (x : Client). (Ack x.received, Some (ids_from x.session x.taken x.ids))) a.plain, r);
   branches = a.branches;
 }
 committed_on c d (suc k) N M a r = with_branches c d (on_branch (suc k) (λ b. record b { own = b.own ++ N ∷ [] }) c.branches) (on_branch (suc k) (λ b. record b { own = b.own ++ M ∷ [] }) d.branches) a
@@ -69,7 +70,7 @@ all_committed_on k (N ∷ Ns) [] c d a o = absurd o
 all_committed_on k (N ∷ Ns) (M ∷ Ms) c d a o = all_committed_on k Ns Ms (with_commit_on c k N) (with_commit_on d k M) (committed_on c d k N M a o.0) o.1
 
 pub newly_committed : (c d : Client) (N M : Intent) → AlikeClient c d → IsAlike N M → AlikeClient (with_new_commit c N) (with_new_commit d M)
-newly_committed c d N M a r = ids_alike (with_commit c N) (with_commit d M) (c.ids + 1) (d.ids + 1) (committed_on c d 0 N M a r) (ids_more c d a)
+newly_committed c d N M a r = committed_on (with_id c) (with_id d) 0 N M (ids_alike c d (c.ids + 1) (d.ids + 1) a (ids_more c d a)) r
 
 -- ## Transactions
 
@@ -103,22 +104,38 @@ acked_alike c d a = record {
   plain = a.plain;
   pending = a.pending;
   transaction = a.transaction;
-  queue = behind AlikeBody c.queue d.queue (Ack c.received ∷ []) (Ack d.received ∷ []) a.queue ((ap (λ n. Ack n) (received_both c d a), tt), tt);
+  queue = behind AlikeBody c.queue d.queue (Ack c.received ∷ []) (Ack d.received ∷ []) a.queue ((ap (λ n. (Ack n, None)) (received_both c d a), tt), tt);
   branches = a.branches;
 }
 
 pub offline_alike : (c d : Client) → AlikeClient c d → AlikeClient (without_connection c) (without_connection d)
 offline_alike c d a = record { plain = ap (λ (x : Client). record x { connected = false }) a.plain; pending = a.pending; transaction = a.transaction; queue = tt; branches = a.branches }
 
+-- texts of commits that say the same, under one reference and with the same ids
+texts_alike : (n m s z t u ids jds : ℕ) (Ns Ms : List Intent) → n ≡ m → s ≡ z → t ≡ u → ids ≡ jds → OneByOne IsAlike Ns Ms → OneByOne AlikeBody (texts_from n s t ids Ns) (texts_from m z u jds Ms)
+texts_alike n m s z t u ids jds [] [] e f g h o = tt
+texts_alike n m s z t u ids jds [] (M ∷ Ms) e f g h o = absurd o
+texts_alike n m s z t u ids jds (N ∷ Ns) [] e f g h o = absurd o
+texts_alike n m s z t u ids jds (N ∷ Ns) (M ∷ Ms) e f g h o = (((λ i. (Ack (e i), Some (ids_from (f i) (g i) (h i)))), o.0), texts_alike n m s z ids jds ids jds Ns Ms e f h h o.1)
+
+after_alike : (t u ids jds : ℕ) (Ns Ms : List Intent) → t ≡ u → ids ≡ jds → OneByOne IsAlike Ns Ms → taken_after t ids Ns ≡ taken_after u jds Ms
+after_alike t u ids jds [] [] g h o = g
+after_alike t u ids jds [] (M ∷ Ms) g h o = absurd o
+after_alike t u ids jds (N ∷ Ns) [] g h o = absurd o
+after_alike t u ids jds (N ∷ Ns) (M ∷ Ms) g h o = h
+
 pub online_alike : (es fs : List Entry) (c d : Client) → OneByOne AlikeEntry es fs → AlikeClient c d → AlikeClient (with_connection es c) (with_connection fs d)
 online_alike es fs c d o a =
     let long : length es ≡ length fs = as_long AlikeEntry es fs o in
     let rest = waiting_alike es fs c d o a in
+    let ids : c.ids ≡ d.ids = ap (λ (x : Client). x.ids) a.plain in
+    let carried : carried_of es c ≡ carried_of fs d = λ i. carried_count (session_alike c d a i) (ranges_alike es fs o i) in
+    let taken = after_alike (carried_of es c) (carried_of fs d) c.ids d.ids (waiting es c) (waiting fs d) carried ids rest in
     record {
-      plain = λ i. record (a.plain i) { connected = true; received = long i + 1 };
+      plain = λ i. record (a.plain i) { connected = true; received = long i + 1; taken = taken i };
       pending = rest;
       transaction = a.transaction;
-      queue = mapped IsAlike AlikeBody (Commit (length es + 1)) (Commit (length fs + 1)) (λ N M r. (ap (λ n. Ack (n + 1)) long, r)) (waiting es c) (waiting fs d) rest;
+      queue = texts_alike (length es + 1) (length fs + 1) c.session d.session (carried_of es c) (carried_of fs d) c.ids d.ids (waiting es c) (waiting fs d) (ap (λ n. n + 1) long) (session_alike c d a) carried ids rest;
       branches = a.branches;
     }
 

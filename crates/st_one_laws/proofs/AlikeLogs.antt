@@ -1,7 +1,9 @@
 -- Logs, lines and clients that are alike.
 use Rattle.std.proofs.Common.{◌≡◌, ℕ, zero, suc, ◌+◌, ◌-◌, ◌==◌, nat_le, nat_lt, min, max, Bool, false, List, [], ◌∷◌, ◌++◌, length, take, drop, Option, Some, None, refl, sym, ap, ◌∙◌, subst, cond, option_map, option_and_then, fold}
-use Rattle.std.specs.List.{filter}
-use Rattle.std.specs.Option.{option_or}
+use Rattle.std.specs.List.{cons_option, filter}
+use Rattle.std.specs.Option.{option_map_or, option_or}
+use Rattle.st_clusters.specs.Free.{free_number, spans_meet}
+use Rattle.st_clusters.specs.declared.ids.IdRange.{IdRange}
 use Rattle.st_ids.specs.declared.names.LimitOf.TheVariants.{Branch as BranchLimit, Branches, Log, Names, Pending, Unsequenced}
 use Rattle.st_marks.specs.declared.intents.Intent.{Intent}
 use Rattle.st_marks.specs.Document.{Document}
@@ -15,7 +17,7 @@ use Rattle.st_lists.specs.declared.lists.Transaction.{Transaction}
 use Rattle.st_lists.specs.Clients.{HasReceived, joined_of, next_rev}
 use Rattle.st_lists.specs.Limits.{entries_limit_passed, limit_passed, log_limit_passed, names_limit_passed, own_limit_passed, pending_limit_passed, branches_limit_passed}
 use Rattle.st_lists.specs.Lines.{HasHead, Line, branch_line, branch_of, commits_of, edited_on, has_children, line_of, main_line}
-use Rattle.st_lists.specs.Log.{commit_in, commit_of, commits_in, connected_after, connected_by, floor, is_connected, known_reference, minimum, own_in_flight, reference_in, reference_of, sessions_in, waiting, with_reference}
+use Rattle.st_lists.specs.Log.{clashes, commit_in, commit_of, commits_in, connected_after, connected_by, floor, is_connected, known_reference, meets, minimum, own_in_flight, range_in, ranges_in, reference_in, reference_of, sessions_in, uuid_in, waiting, with_reference}
 use Rattle.st_lists.specs.Names.{names_in_text, names_made, names_on, names_on_all, unsequenced}
 use Rattle.st_world.specs.World.{HasShown}
 use Rattle.st_same_laws.proofs.CarriedDocuments.{full_same}
@@ -28,25 +30,52 @@ use Rattle.st_one_laws.proofs.AlikeIntents.{alike_says, lead_alike, names_alike,
 commits_alike : (es fs : List Entry) → OneByOne AlikeEntry es fs → OneByOne IsAlike (commits_in es) (commits_in fs)
 commits_alike es fs o = filter_mapped AlikeEntry IsAlike commit_of commit_of (λ e f a. a.body.1) es fs o
 
-after_bare : (before : Bool) (b : Body) → connected_after before b ≡ connected_after before (bare b)
-after_bare before Join = refl
+after_bare : (before : Bool) (b : Body) → connected_after before b ≡ connected_after before (bare b).0
+after_bare before (Join uuid) = refl
 after_bare before Leave = refl
 after_bare before (Ack reference) = refl
-after_bare before (Commit reference intent) = refl
+after_bare before (Commit reference ids intent) = refl
 
-reference_bare : (n : ℕ) (b : Body) → reference_in n b ≡ reference_in n (bare b)
-reference_bare n Join = refl
+reference_bare : (n : ℕ) (b : Body) → reference_in n b ≡ reference_in n (bare b).0
+reference_bare n (Join uuid) = refl
 reference_bare n Leave = refl
 reference_bare n (Ack reference) = refl
-reference_bare n (Commit reference intent) = refl
+reference_bare n (Commit reference ids intent) = refl
+
+range_bare : (b : Body) → range_in b ≡ (bare b).1
+range_bare (Join uuid) = refl
+range_bare Leave = refl
+range_bare (Ack reference) = refl
+range_bare (Commit reference ids intent) = refl
+
+uuid_bare : (b : Body) → uuid_in b ≡ uuid_in (bare b).0
+uuid_bare (Join uuid) = refl
+uuid_bare Leave = refl
+uuid_bare (Ack reference) = refl
+uuid_bare (Commit reference ids intent) = refl
+
+-- they carry the same ids, and tell the same UUIDs
+pub ranges_alike : (es fs : List Entry) → OneByOne AlikeEntry es fs → ranges_in es ≡ ranges_in fs
+ranges_alike [] [] o = refl
+ranges_alike [] (f ∷ fs) o = absurd o
+ranges_alike (e ∷ es) [] o = absurd o
+ranges_alike (e ∷ es) (f ∷ fs) o =
+    let range : range_in e.body ≡ range_in f.body = range_bare e.body ∙ ap (λ (p : Body × Option IdRange). p.1) o.0.body.0 ∙ sym (range_bare f.body) in
+    λ i. cons_option (range i) (ranges_alike es fs o.1 i)
+
+pub clashes_alike : (uuid : ℕ) (es fs : List Entry) → OneByOne AlikeEntry es fs → clashes uuid es ≡ clashes uuid fs
+clashes_alike uuid es fs o = any_same AlikeEntry (meets uuid) (meets uuid) (λ e f a. ap (λ u. option_map_or (λ n. spans_meet (free_number n) (free_number uuid)) u false) (told e f a)) es fs o
+  where
+    told : (e f : Entry) → AlikeEntry e f → uuid_in e.body ≡ uuid_in f.body
+    told e f a = uuid_bare e.body ∙ ap (λ (p : Body × Option IdRange). uuid_in p.0) a.body.0 ∙ sym (uuid_bare f.body)
 
 connected_one : (s : ℕ) (before : Bool) (e f : Entry) → AlikeEntry e f → connected_by s before e ≡ connected_by s before f
 connected_one s before e f a =
-    let body : connected_after before e.body ≡ connected_after before f.body = after_bare before e.body ∙ ap (connected_after before) a.body.0 ∙ sym (after_bare before f.body) in
+    let body : connected_after before e.body ≡ connected_after before f.body = after_bare before e.body ∙ ap (λ (p : Body × Option IdRange). connected_after before p.0) a.body.0 ∙ sym (after_bare before f.body) in
     λ i. cond (a.session i == s) (body i) before
 
 reference_alike : (e f : Entry) → AlikeEntry e f → reference_of e ≡ reference_of f
-reference_alike e f a = reference_bare e.n e.body ∙ (λ i. reference_in (a.n i) (a.body.0 i)) ∙ sym (reference_bare f.n f.body)
+reference_alike e f a = reference_bare e.n e.body ∙ (λ i. reference_in (a.n i) (a.body.0 i).0) ∙ sym (reference_bare f.n f.body)
 
 connected_alike : (s : ℕ) (es fs : List Entry) → OneByOne AlikeEntry es fs → is_connected s es ≡ is_connected s fs
 connected_alike s es fs o = folded AlikeEntry (connected_by s) (connected_by s) (connected_one s) false es fs o

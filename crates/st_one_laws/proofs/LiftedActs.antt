@@ -74,7 +74,7 @@ module _ (h : HeaderView) (w : WorldState) (i : ℕ) (c : Client) (at : slice_ge
     DoesMerge d b p = Unless (refusal_to_merge c k b p) c d a (IsMerged (opening_document h) w.log c k b p d a)
 
     pub act_to : (x : ActView) → IsActOf h w x i c k l v a → IsActCut h w x i c k l v a
-    act_to step.join p = kept_to (answer.No no.Taken) p
+    act_to (step.join uuid) p = kept_to (answer.No no.Taken) p
     act_to (step.edit e) (D, d, s, p, q) = (d, (D, s, p), q)
     act_to (step.need path) (D, d, s, p, q) = (d, (D, s, p), q)
     act_to step.begin (D, d, s, p, q) = (d, (D, s, p), q)
@@ -96,7 +96,7 @@ module _ (h : HeaderView) (w : WorldState) (i : ℕ) (c : Client) (at : slice_ge
     act_to step.pending p = shown_to _ p
 
     pub act_back : (x : ActView) → IsActCut h w x i c k l v a → IsActOf h w x i c k l v a
-    act_back step.join p = kept_back (answer.No no.Taken) p
+    act_back (step.join uuid) p = kept_back (answer.No no.Taken) p
     act_back (step.edit e) (d, (D, s, p), q) = (D, d, s, p, q)
     act_back (step.need path) (d, (D, s, p), q) = (D, d, s, p, q)
     act_back step.begin (d, (D, s, p), q) = (D, d, s, p, q)

@@ -79,7 +79,7 @@ module _ (O : Document) (history : ℕ) (log : List Entry) (c : Client) (within 
   merged k b m few = λ i. (D : Document) × (void : List Rev) × head m few D i × AreVoid D b.own void × (d ≡ with_commits_on (without_branch c k) b.parent b.own) × (a ≡ answer.Merge void)
 
   act : (x : ActView) (k : ℕ) (l : Line) → x ≢ step.deliver → l.received ≤ c.received → IsClientAct O history log x c k l d a ≡ IsClientAct O history seen x c k l d a
-  act step.join k l never few = refl
+  act (step.join uuid) k l never few = refl
   act (step.edit e) k l never few = done_on l (λ D. IsAfterEdit c k l l.transaction (word_of e) (intent_of D (schema_in_effect D) (next_names c l.transaction) e)) few
   act (step.need path) k l never few = done_on l (λ D. IsAfterNeed c k l.transaction (need D (next_names c l.transaction) path)) few
   act step.begin k l never few = done_on l (λ D e b. begin c k l l.transaction (last_in_effect D) ≡ (e, b)) few

@@ -29,17 +29,17 @@ use Rattle.st_lists.specs.declared.lists.WorldState.{WorldState}
 use Rattle.st_lists.specs.Clients.{client_named, new_client, next_rev, place_of, with_ack, with_connection, without_connection}
 use Rattle.st_lists.specs.Limits.{entries_limit_passed, log_limit_passed}
 use Rattle.st_lists.specs.Lines.{Line, branch_of, line_of, main_line}
-use Rattle.st_lists.specs.Log.{log_with, sessions_in, waiting}
+use Rattle.st_lists.specs.Log.{clashes, log_with, sessions_in, waiting}
 use Rattle.st_lists.specs.Names.{names_in_text}
 use Rattle.st_lists.specs.Voids.{AreVoid}
 use Rattle.st_world.specs.Branches.{IsMerged, IsRebased, drop_branch, fork, refusal_to_fork, refusal_to_merge, refusal_to_rebase}
 use Rattle.st_world.specs.Kept.{Unless}
 use Rattle.st_world.specs.Upgrade.{change_of_schema, refusal_to_upgrade, upgrade}
-use Rattle.st_world.specs.World.{AtClient, AtLine, ByConnected, IsActOf, IsAfterEdit, IsAfterNeed, IsDeliveredIn, IsDoneIn, IsNext, IsPendingTold, IsShown, OnLine, OnOwnBranch, OnParent, abort, act_of_none, after_entry, begin, branch_at, commit, drop_client, intent_of, join, leave, limit_refusal, needs_connection, next_names, opening_document, reconnect, refusal_to_reconnect, sequence, with_client, word_of}
+use Rattle.st_world.specs.World.{AtClient, AtLine, ByConnected, IsActOf, IsAfterEdit, IsAfterNeed, IsDeliveredIn, IsDoneIn, IsNext, IsPendingTold, IsShown, OnLine, OnOwnBranch, OnParent, abort, act_of_none, after_entry, begin, branch_at, commit, drop_client, enter, intent_of, join, leave, limit_refusal, needs_connection, next_names, opening_document, reconnect, refusal_to_reconnect, sequence, uuid_for, with_client, word_of}
 use Rattle.st_edits.specs.InEffect.{last_in_effect}
 use Rattle.st_one_laws.specs.AlikeWorlds.{AlikeBody, AlikeBranch, AlikeClient, AlikeEntry, AlikeLine, AlikeTransaction, AreAlike, HasOneMeaning, InBoth, IsAlike, OneByOne}
 use Rattle.st_one_laws.proofs.OneByOne.{as_long, behind, got, removed, set_both}
-use Rattle.st_one_laws.proofs.AlikeLogs.{branch_of_alike, connected_both, entries_limit_alike, line_of_alike, log_limit_alike, main_alike, minimum_alike, name_alike, received_alike, received_both, session_alike, sessions_alike, shown_alike, text_names_alike, waiting_alike}
+use Rattle.st_one_laws.proofs.AlikeLogs.{branch_of_alike, clashes_alike, connected_both, entries_limit_alike, line_of_alike, log_limit_alike, main_alike, minimum_alike, name_alike, received_alike, received_both, session_alike, sessions_alike, shown_alike, text_names_alike, waiting_alike}
 use Rattle.st_one_laws.proofs.AlikeClients.{acked_alike, chosen, offline_alike, online_alike, sent_alike, some_alike}
 use Rattle.st_one_laws.proofs.VoidCommits.{texts_alike, void_alike}
 use Rattle.st_one_laws.proofs.ActsOfClients.{Same, abort_same, after_edit_same, after_need_same, begin_same, commit_same, delivered_same, drop_same, fork_same, merged_same, rebased_same, same_of, to_merge, to_rebase, undo_same, unless_same, upgrade_same}
@@ -102,31 +102,41 @@ client_itself c d p t q b e = subst (AlikeClient c) e (record {
   branches = subst (λ l. OneByOne AlikeBranch l l) (sym b) tt;
 })
 
-abbrev join_world : WorldState → List ℕ → WorldState
-join_world w name = record w { log = log_with w.log (sessions_in w.log + 1) Joined; clients = w.clients ++ new_client (length w.log + 1) (sessions_in w.log + 1) name ∷ [] }
-
 module _ (h : HeaderView) (w u : WorldState) (alike : AreAlike w u) (one : HasOneMeaning u) where
-  joined : (name : List ℕ) → EndsPair (join w name) (join u name)
-  joined name =
+  enters : (s z x y : ℕ) (name : List ℕ) → s ≡ z → x ≡ y → EndsPair (enter w s x name) (enter u z y name)
+  enters s z x y name session uuid =
+      let long : length w.log ≡ length u.log = as_long AlikeEntry w.log u.log alike.log in
+      let new : AlikeClient (new_client (length w.log + 1) s x name) (new_client (length u.log + 1) z y name) =
+      client_itself (new_client (length w.log + 1) s x name) (new_client (length u.log + 1) z y name) refl refl refl refl (λ i. new_client (long i + 1) (session i) (uuid i) name) in (
+        (λ i. answer.Join (long i + 1) (session i)),
+        record {
+          log = logged_alike w.log u.log s z (Joined x) (Joined y) alike.log session ((λ i. (Joined (uuid i), None)), tt);
+          clients = behind AlikeClient w.clients u.clients (new_client (length w.log + 1) s x name ∷ []) (new_client (length u.log + 1) z y name ∷ []) alike.clients (new, tt);
+        },
+      )
+
+  joined : (name : List ℕ) (told : Option ℕ) → EndsPair (join w name told) (join u name told)
+  joined name told =
       let clients : length w.clients ≡ length u.clients = as_long AlikeClient w.clients u.clients alike.clients in
       let long : length w.log ≡ length u.log = as_long AlikeEntry w.log u.log alike.log in
-      let session : sessions_in w.log + 1 ≡ sessions_in u.log + 1 = ap (λ n. n + 1) (sessions_alike w.log u.log alike.log) in
-      let new : AlikeClient (new_client (length w.log + 1) (sessions_in w.log + 1) name) (new_client (length u.log + 1) (sessions_in u.log + 1) name) =
-      client_itself (new_client (length w.log + 1) (sessions_in w.log + 1) name) (new_client (length u.log + 1) (sessions_in u.log + 1) name) refl refl refl refl (λ i. new_client (long i + 1) (session i) name) in
-      let there : AreAlike (join_world w name) (join_world u name) = record {
-        log = logged_alike w.log u.log (sessions_in w.log + 1) (sessions_in u.log + 1) Joined Joined alike.log session (refl, tt);
-        clients = behind AlikeClient w.clients u.clients (new_client (length w.log + 1) (sessions_in w.log + 1) name ∷ []) (new_client (length u.log + 1) (sessions_in u.log + 1) name ∷ []) alike.clients (new, tt);
-      } in
+      let s = sessions_in w.log + 1 in
+      let z = sessions_in u.log + 1 in
+      let session : s ≡ z = ap (λ n. n + 1) (sessions_alike w.log u.log alike.log) in
+      let x = uuid_for s told in
+      let y = uuid_for z told in
+      let uuid : x ≡ y = ap (λ n. uuid_for n told) session in
+      let meets : clashes x w.log ≡ clashes y u.log = ap (λ n. clashes n w.log) uuid ∙ clashes_alike y w.log u.log alike.log in
       chosen EndsPair (nat_le 64 (length w.clients)) (nat_le 64 (length u.clients)) (w, limit_refusal (record { of = Clients; kept = length w.clients })) (u, limit_refusal (record { of = Clients; kept = length u.clients }))
-      (cond (nat_le 65535 (length w.log)) (w, limit_refusal (record { of = Log; kept = length w.log })) (join_world w name, answer.Join (length w.log + 1) (sessions_in w.log + 1)))
-      (cond (nat_le 65535 (length u.log)) (u, limit_refusal (record { of = Log; kept = length u.log })) (join_world u name, answer.Join (length u.log + 1) (sessions_in u.log + 1)))
+      (cond (nat_le 65535 (length w.log)) (w, limit_refusal (record { of = Log; kept = length w.log })) (cond (clashes x w.log) (w, answer.No no.Clash) (enter w s x name)))
+      (cond (nat_le 65535 (length u.log)) (u, limit_refusal (record { of = Log; kept = length u.log })) (cond (clashes y u.log) (u, answer.No no.Clash) (enter u z y name)))
       (ap (nat_le 64) clients) (ap (λ n. limit_refusal (record { of = Clients; kept = n })) clients, alike)
       (chosen EndsPair (nat_le 65535 (length w.log)) (nat_le 65535 (length u.log)) (w, limit_refusal (record { of = Log; kept = length w.log })) (u, limit_refusal (record { of = Log; kept = length u.log }))
-      (join_world w name, answer.Join (length w.log + 1) (sessions_in w.log + 1)) (join_world u name, answer.Join (length u.log + 1) (sessions_in u.log + 1))
-      (ap (nat_le 65535) long) (ap (λ n. limit_refusal (record { of = Log; kept = n })) long, alike) ((λ i. answer.Join (long i + 1) (session i)), there))
+      (cond (clashes x w.log) (w, answer.No no.Clash) (enter w s x name)) (cond (clashes y u.log) (u, answer.No no.Clash) (enter u z y name))
+      (ap (nat_le 65535) long) (ap (λ n. limit_refusal (record { of = Log; kept = n })) long, alike)
+      (chosen EndsPair (clashes x w.log) (clashes y u.log) (w, answer.No no.Clash) (u, answer.No no.Clash) (enter w s x name) (enter u z y name) meets (refl, alike) (enters s z x y name session uuid)))
 
   none_same : (name : List ℕ) (act : ActView) → EndsPair (act_of_none w name act) (act_of_none u name act)
-  none_same name step.join = joined name
+  none_same name (step.join uuid) = joined name uuid
   none_same name (step.edit e) = (refl, alike)
   none_same name (step.need at) = (refl, alike)
   none_same name step.begin = (refl, alike)
@@ -193,7 +203,7 @@ module _ (h : HeaderView) (w u : WorldState) (alike : AreAlike w u) (one : HasOn
   reconnected i c d None s = (
     (λ j. answer.Reconnect (as_long AlikeEntry w.log u.log alike.log j + 1) (as_long IsAlike (waiting w.log c) (waiting u.log d) (waiting_alike w.log u.log c d alike.log s) j)),
     record {
-      log = logged_alike w.log u.log c.session d.session Joined Joined alike.log (session_alike c d s) (refl, tt);
+      log = logged_alike w.log u.log c.session d.session (Joined c.uuid) (Joined d.uuid) alike.log (session_alike c d s) (ap (λ (x : Client). (Joined x.uuid, None)) s.plain, tt);
       clients = set_both AlikeClient w.clients u.clients i (with_connection w.log c) (with_connection u.log d) alike.clients (online_alike w.log u.log c d alike.log s);
     },
   )
@@ -250,7 +260,7 @@ module _ (h : HeaderView) (w u : WorldState) (alike : AreAlike w u) (one : HasOn
 
   module _ (i k : ℕ) (c d : Client) (l m : Line) (s : AlikeClient c d) (line : AlikeLine l m) (there : Has u.clients d) (at : line_of d k ≡ Some m) (v x : WorldState) (a b : Answer) where
     act_same : (act : ActView) → IsActOf h w act i c k l v a → IsActOf h u act i d k m x b → Ends v x a b
-    act_same step.join y z = unchanged v x a b (answer.No no.Taken) y z
+    act_same (step.join uuid) y z = unchanged v x a b (answer.No no.Taken) y z
     act_same (step.edit e) y z =
         done_in i l m (λ D. IsAfterEdit c k l l.transaction (word_of e) (intent_of D (schema_in_effect D) (next_names c l.transaction) e)) (λ D. IsAfterEdit d k m m.transaction (word_of e) (intent_of D (schema_in_effect D) (next_names d m.transaction) e)) v x a b line
         (λ D f g p q. after_edit_same c d s k l m l.transaction m.transaction (word_of e) (λ G. intent_of D (schema_in_effect D) G e) f g a b line line.transaction (one.intents d k m there at) p q) y z

@@ -8,7 +8,7 @@ ghost use Rattle.st_log_laws.specs.Turns.{FitInTurn};
 ghost use Rattle.st_heads.specs.Heads.{HasCarried};
 ghost use Rattle.st_heads.specs.declared.heads.Head.{Head as HeadOf};
 ghost use Rattle.st_heads.specs.declared.ways.Carried.{Carried as CarriedOf};
-ghost use Rattle.st_lists.specs.Clients.{with_commit};
+ghost use Rattle.st_lists.specs.Clients.{KeepsIds, with_commit};
 ghost use Rattle.st_lists.specs.Limits.{branches_limit_passed};
 ghost use Rattle.st_lists.specs.Lines.{Line, branch_line, branch_of, has_children, line_of, main_line};
 ghost use Rattle.st_lists.specs.Names.{names_on, unsequenced};
@@ -352,6 +352,8 @@ fn carry_all(alloc: Global, head: &mut Head, intents: &[Intent]) -> Result<List<
 // Keeps copies of commits as pending, and in the queue.
 #[tactic(auto, using(std::proofs::lemmas::List::Sums::fold_more))]
 fn enqueue_all(alloc: Global, client: &mut Client, intents: &[Intent]) -> Result<(), AllocError>
+    requires few { client.old.ids + 1 < 2 ^ 32 }
+    requires taken { KeepsIds client.old }
     ensures { OnOk result (client.new ≡ fold (λ d N. with_commit d N) client.old intents.now) }
 {
     for intent in intents {
@@ -368,6 +370,8 @@ fn merge_main(
     kept: &mut Replica,
     intents: &[Intent],
 ) -> Result<List<Rev>, AllocError>
+    requires few { client.old.ids + 1 < 2 ^ 32 }
+    requires taken { KeepsIds client.old }
     requires sound { IsSoundInForm (document_of kept.old.main.doc) }
     requires fit { FitInTurn (document_of kept.old.main.doc) intents.now }
     ensures client { OnOk result (client.new ≡ fold (λ d N. with_commit d N) client.old intents.now) }
@@ -418,6 +422,8 @@ fn merge_into(
     number: u32,
     intents: &[Intent],
 ) -> Result<Answer, AllocError>
+    requires few { client.old.ids + 1 < 2 ^ 32 }
+    requires taken { KeepsIds client.old }
     requires heads { length kept.old.branches ≡ length client.old.branches }
     requires can { (p : HeadOf) → head_of client.old kept.old number ≡ Some p → IsSoundInForm (document_of p.doc) × FitInTurn (document_of p.doc) intents.now }
     ensures { IfOk result (λ a. (p : HeadOf) → head_of client.old kept.old number ≡ Some p → HasMergedInto client.old kept.old number p intents.now client.new kept.new a) }
@@ -447,6 +453,8 @@ pub fn merge(
     kept: &mut Replica,
     number: u32,
 ) -> Result<Answer, AllocError>
+    requires few { client.old.ids + 1 < 2 ^ 32 }
+    requires taken { KeepsIds client.old }
     requires heads { length kept.old.branches ≡ length client.old.branches }
     requires own { AllByRecursion (λ (b : BranchOf). length b.own ≤ 256) client.old.branches }
     requires pending { length client.old.pending ≤ 256 }

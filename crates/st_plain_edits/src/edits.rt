@@ -9,7 +9,7 @@ ghost use Rattle.st_edits.specs.Resolve.{IsWithin, resolve};
 ghost use Rattle.st_heads.specs.Transactions.{HasOpen};
 ghost use Rattle.st_lists.specs.Open.{with_open};
 ghost use Rattle.st_script.specs.Steps.{edit_view};
-ghost use Rattle.st_lists.specs.Clients.{joined_of, with_commit, with_new_commit};
+ghost use Rattle.st_lists.specs.Clients.{KeepsIds, joined_of, with_commit, with_new_commit};
 ghost use Rattle.st_lists.specs.Limits.{limit_passed, own_limit_passed, pending_limit_passed};
 ghost use Rattle.st_lists.specs.Lines.{Line, main_line};
 ghost use Rattle.st_lists.specs.Names.{names_made, unsequenced};
@@ -173,6 +173,7 @@ fn add_pending(
     intent: Intent,
 ) -> Result<Answer, AllocError>
     requires few { client.old.ids + 1 < 2 ^ 32 }
+    requires taken { KeepsIds client.old }
     requires pending { length client.old.pending ≤ 256 }
     requires names { kept.old.names ≡ unsequenced client.old }
     requires few_names { unsequenced client.old ≤ 16384 }
@@ -199,6 +200,7 @@ pub fn take_in(
     intent: Intent,
 ) -> Result<Answer, AllocError>
     requires few { client.old.ids + 1 < 2 ^ 32 }
+    requires taken { KeepsIds client.old }
     requires pending { length client.old.pending ≤ 256 }
     requires names { kept.old.names ≡ unsequenced client.old }
     requires few_names { unsequenced client.old ≤ 16384 }
@@ -231,6 +233,7 @@ pub fn edit(
     edit: &EditAct,
 ) -> Result<Answer, AllocError>
     requires few { client.old.ids + 1 < 2 ^ 32 }
+    requires taken { KeepsIds client.old }
     requires within { IsWithin (edit_of edit.now) }
     requires pending { length client.old.pending ≤ 256 }
     requires names { kept.old.names ≡ unsequenced client.old }

@@ -8,7 +8,7 @@ ghost use Rattle.st_doc.specs.Doc.{document_of};
 ghost use Rattle.st_edits.specs.Resolve.{need as need_in};
 ghost use Rattle.st_heads.specs.Transactions.{HasOpen};
 ghost use Rattle.st_lists.specs.Open.{IsWithPart, with_open};
-ghost use Rattle.st_lists.specs.Clients.{joined_of, with_edited};
+ghost use Rattle.st_lists.specs.Clients.{KeepsIds, joined_of, with_edited};
 ghost use Rattle.st_lists.specs.Lines.{main_line};
 ghost use Rattle.st_lists.specs.Names.{names_made, unsequenced};
 ghost use Rattle.st_world.specs.declared.edit_word.EditWord.{EditWord as Word};
@@ -108,6 +108,7 @@ pub fn need(
     at: &Path,
 ) -> Result<Answer, AllocError>
     requires few { client.old.ids + 1 < 2 ^ 32 }
+    requires taken { KeepsIds client.old }
     requires short { length at.now < 2 ^ 32 }
     requires pending { length client.old.pending ≤ 256 }
     requires names { kept.old.names ≡ unsequenced client.old }
@@ -168,6 +169,8 @@ fn commit_joined(
     rev: Rev,
     joined: Option<Intent>,
 ) -> Result<Answer, AllocError>
+    requires few { client.old.ids + 1 < 2 ^ 32 }
+    requires taken { KeepsIds client.old }
     requires sound { IsSoundInForm (document_of kept.old.main.doc) }
     requires fits { IfSome joined (Fits (document_of kept.old.main.doc)) }
     ensures answer { IfOk result (λ a. after_commit client.old 0 rev joined ≡ (client.new, a)) }
@@ -185,6 +188,8 @@ fn commit_joined(
 
 /// Commits the open transaction: what was edited in it is one commit, of the revision that it has.
 pub fn commit(alloc: Global, client: &mut Client, kept: &mut Replica) -> Result<Answer, AllocError>
+    requires few { client.old.ids + 1 < 2 ^ 32 }
+    requires taken { KeepsIds client.old }
     requires sound { IsSoundInForm (document_of kept.old.main.doc) }
     requires fits { IfSome (joined_of client.old) (Fits (document_of kept.old.main.doc)) }
     ensures answer { IfOk result (λ a. commit client.old 0 client.old.transaction ≡ (client.new, a)) }

@@ -1,5 +1,6 @@
 -- What it says that an entry was received, from the steps that receive it.
 use Rattle.std.proofs.Common.{◌≡◌, ◌==◌, ◌<◌, ℕ, Bool, true, false, List, [], ◌∷◌, drop, length, None, Some, refl, sym, ap, ◌∙◌, subst, arith}
+use Rattle.st_clusters.specs.declared.ids.IdRange.{IdRange}
 use Rattle.st_marks.specs.declared.intents.Intent.{Intent}
 use Rattle.st_marks.specs.declared.verdicts.Verdict.{Verdict}
 use Rattle.st_marks.specs.Document.{Document}
@@ -66,13 +67,13 @@ received_before c old new false N v pending other is got run edited names =
     (got, (subst (λ l. AreCarried (document_of new.received) l new.main.own (document_of new.main.doc)) is run, edited, names))
 
 -- an entry with a commit
-pub can_carry : (c : Client) (old : Replica) (e : Entry) (reference : ℕ) (N : Intent) (own : Bool) → e.body ≡ Commit reference N → own ≡ (e.session == c.session) → CanReceive c old e → CanCarry c old own N
-can_carry c old e reference N own is by can =
+pub can_carry : (c : Client) (old : Replica) (e : Entry) (reference : ℕ) (ids : IdRange) (N : Intent) (own : Bool) → e.body ≡ Commit reference ids N → own ≡ (e.session == c.session) → CanReceive c old e → CanCarry c old own N
+can_carry c old e reference ids N own is by can =
     let at : commit_of e ≡ Some N = rw is refl in
     let here : CanCarry c old (e.session == c.session) N = rw at at can in
     subst (λ b. CanCarry c old b N) (sym by) here
 
-pub received_commit : (c : Client) (old new : Replica) (e : Entry) (reference : ℕ) (N : Intent) (own : Bool) (v : Verdict) → e.body ≡ Commit reference N → own ≡ (e.session == c.session) → HasReceivedOne c old own N v new → HasReceivedNext c old e v new
-received_commit c old new e reference N own v is by got =
+pub received_commit : (c : Client) (old new : Replica) (e : Entry) (reference : ℕ) (ids : IdRange) (N : Intent) (own : Bool) (v : Verdict) → e.body ≡ Commit reference ids N → own ≡ (e.session == c.session) → HasReceivedOne c old own N v new → HasReceivedNext c old e v new
+received_commit c old new e reference ids N own v is by got =
     let at : Some N ≡ commit_of e = rw is refl in
     subst (λ o. HasReceivedOf c old (e.session == c.session) o v new) at (subst (λ b. HasReceivedOne c old b N v new) by got)

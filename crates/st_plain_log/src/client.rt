@@ -12,15 +12,23 @@ use st_lists::Client;
 use std::alloc::{AllocError, Global};
 
 // A client that has received so many entries, with its own join as the last.
-fn new_client(alloc: Global, n: u32, session: u32, name: &Text) -> Result<Client, AllocError>
-    ensures { IfOk result (λ c. c ≡ new_client n session name.now) }
+fn new_client(
+    alloc: Global,
+    n: u32,
+    session: u32,
+    uuid: u128,
+    name: &Text,
+) -> Result<Client, AllocError>
+    ensures { IfOk result (λ c. c ≡ new_client n session uuid name.now) }
 {
     Ok(Client {
         name: name.copy(alloc)?,
         session,
+        uuid,
         connected: true,
         received: n,
         ids: 0,
+        taken: 0,
         pending: List::new(alloc),
         transaction: None,
         queue: List::new(alloc),
@@ -35,11 +43,12 @@ pub fn add_client(
     clients: &mut List<Client>,
     n: u32,
     session: u32,
+    uuid: u128,
     name: &Text,
 ) -> Result<(), AllocError>
-    ensures { OnOk result (clients.new ≡ clients.old ++ new_client n session name.now ∷ []) }
+    ensures { OnOk result (clients.new ≡ clients.old ++ new_client n session uuid name.now ∷ []) }
 {
-    let client = new_client(alloc, n, session, name)?;
+    let client = new_client(alloc, n, session, uuid, name)?;
     clients.push(client)?;
     Ok(())
 }

@@ -134,7 +134,7 @@ fn receive_entry(
     ensures { IfOk result (λ v. HasReceivedNext client.now kept.old entry.now v kept.new) }
 {
     match &entry.body {
-        Body::Join | Body::Leave | Body::Ack { .. } => Ok(Verdict::Sound),
+        Body::Join { .. } | Body::Leave | Body::Ack { .. } => Ok(Verdict::Sound),
         Body::Commit { intent, .. } => {
             let is_own = is_from(entry, client);
             let verdict = receive(alloc, client, kept, is_own, intent)?;
@@ -159,7 +159,7 @@ fn is_own(entry: &Entry, client: &Client) -> bool
     ensures { result ≡ is_own entry.now client.now }
 {
     match &entry.body {
-        Body::Join | Body::Leave | Body::Ack { .. } => false,
+        Body::Join { .. } | Body::Leave | Body::Ack { .. } => false,
         Body::Commit { .. } => entry.session == client.session,
     }
 }

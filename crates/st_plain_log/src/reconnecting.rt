@@ -1,5 +1,5 @@
 //! What a client that comes back catches up with.
-ghost use Rattle.std.specs.Prelude.{◌≡◌, ◌+◌, ◌^◌, ◌<◌, ◌≤◌, ◌++◌, drop, length, map, IfOk, IfSome, None, OnOk};
+ghost use Rattle.std.specs.Prelude.{◌≡◌, ◌+◌, ◌^◌, ◌<◌, ◌≤◌, ◌++◌, drop, length, IfOk, IfSome, None, OnOk};
 ghost use Rattle.st_marks.specs.Document.{Document, IsSoundInForm};
 ghost use Rattle.st_marks.specs.Intent.{Fits};
 ghost use Rattle.st_marks.specs.Run.{Run};
@@ -7,16 +7,15 @@ ghost use Rattle.st_doc.specs.Doc.{document_of};
 ghost use Rattle.st_log_laws.specs.Turns.{FitInTurn};
 ghost use Rattle.st_heads.specs.Remembered.{AreCarried};
 ghost use Rattle.st_lists.specs.Names.{names_in};
-ghost use Rattle.st_lists.specs.Clients.{with_connection};
+ghost use Rattle.st_lists.specs.Clients.{carried_of, taken_after, texts_from, with_connection};
 ghost use Rattle.st_lists.specs.Log.{commit_of, commits_by, commits_in, waiting};
-ghost use Rattle.st_lists.specs.declared.lists.Body.TheVariants.{Commit};
 ghost use Rattle.st_world.specs.World.{refusal_to_reconnect};
 ghost use Rattle.st_plain_log.specs.Receiving.{HasCaughtUp, HasEntered};
 
 use st_doc::Doc;
 use st_heads::{Head, Replica};
-use st_ids::{Copied, Limit, LimitOf, List};
-use st_lists::{Body, Client, Entry, count_own, names_in};
+use st_ids::{Limit, LimitOf, List};
+use st_lists::{Body, Client, Entry, count_own, ids_carried, names_in, taken_after, texts_from};
 use st_marks::Intent;
 use st_script::Refusal;
 use std::alloc::{AllocError, Global};
@@ -50,7 +49,7 @@ fn carry_entry(alloc: Global, doc: &mut Doc, entry: &Entry) -> Result<(), AllocE
     ensures { OnOk result (HasEntered (document_of doc.old) (commit_of entry.now) (document_of doc.new)) }
 {
     match &entry.body {
-        Body::Join | Body::Leave | Body::Ack { .. } => Ok(()),
+        Body::Join { .. } | Body::Leave | Body::Ack { .. } => Ok(()),
         Body::Commit { intent, .. } => {
             doc.carry(alloc, intent)?;
             Ok(())
@@ -104,16 +103,32 @@ fn drop_known(names: &mut u64, pending: &mut List<Intent>, count: usize)
     drop_first(pending, count);
 }
 
-// Commits as texts that wait, with a reference.
-fn texts_of(alloc: Global, pending: &[Intent], reference: u32) -> Result<List<Body>, AllocError>
-    ensures { IfOk result (λ texts. texts ≡ map (Commit reference) pending.now) }
+// Writes the texts of a client's pending commits anew, with a reference, where the log carries so many of its ids.
+fn write_anew(
+    alloc: Global,
+    client: &mut Client,
+    reference: u32,
+    carried: u32,
+) -> Result<(), AllocError>
+    requires within { carried ≤ client.old.ids }
+    requires few { client.old.ids + 1 < 2 ^ 32 }
+    ensures { OnOk result (client.new ≡ record client.old {
+      taken = taken_after carried client.old.ids client.old.pending;
+      queue = texts_from reference client.old.session carried client.old.ids client.old.pending;
+    }) }
 {
-    let mut texts = List::new(alloc);
-    for intent in pending {
-        let intent = intent.copy(alloc)?;
-        texts.push(Body::Commit { reference, intent })?;
-    }
-    Ok(texts)
+    let pending = client.pending.as_slice();
+    let taken = taken_after(carried, client.ids, pending);
+    client.queue = texts_from(
+        alloc,
+        reference,
+        client.session,
+        carried,
+        client.ids,
+        pending,
+    )?;
+    client.taken = taken;
+    Ok(())
 }
 
 // The entries after so many.
@@ -162,6 +177,8 @@ pub fn catch_up(
     requires later { (D : Document) → Run (document_of kept.old.received) (commits_in (drop client.old.received log.now)) D → FitInTurn D (waiting log.now client.old) }
     requires few_names { kept.old.names ≤ 16384 }
     requires names { names_in client.old.pending ≤ kept.old.names }
+    requires carried { carried_of log.now client.old ≤ client.old.ids }
+    requires ids { client.old.ids + 1 < 2 ^ 32 }
     ensures client { OnOk result (client.new ≡ with_connection log.now client.old) }
     ensures sent { IfOk result (λ sent. sent ≡ length (waiting log.now client.old)) }
     ensures kept { OnOk result (HasCaughtUp log.now client.old kept.old kept.new) }
@@ -171,7 +188,8 @@ pub fn catch_up(
     drop_known(&mut kept.names, &mut client.pending, known);
     receive_all(alloc, kept, missed, client.pending.as_slice())?;
     let n = log.len() as u32 + 1;
-    client.queue = texts_of(alloc, client.pending.as_slice(), n)?;
+    let carried = ids_carried(log, client.session);
+    write_anew(alloc, client, n, carried)?;
     client.received = n;
     client.connected = true;
     Ok(client.pending.len() as u32)

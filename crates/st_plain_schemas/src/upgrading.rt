@@ -3,7 +3,7 @@ ghost use Rattle.std.specs.Prelude.{◌≡◌, ◌+◌, ◌<◌, ◌≤◌, ◌^
 ghost use Rattle.st_marks.specs.Document.{IsSoundInForm};
 ghost use Rattle.st_marks.specs.Intent.{Fits};
 ghost use Rattle.st_doc.specs.Doc.{document_of};
-ghost use Rattle.st_lists.specs.Clients.{next_rev};
+ghost use Rattle.st_lists.specs.Clients.{KeepsIds, next_rev};
 ghost use Rattle.std.specs.Option.{option_or};
 ghost use Rattle.st_lists.specs.Limits.{pending_limit_passed};
 ghost use Rattle.st_world.specs.Upgrade.{change_of_schema, refusal_to_upgrade, schemas_limit_passed, upgrade};
@@ -93,6 +93,7 @@ fn add_upgrade(
     new: &Schema,
 ) -> Result<Answer, AllocError>
     requires few { client.old.ids + 1 < 2 ^ 32 }
+    requires taken { KeepsIds client.old }
     requires names { kept.old.names ≤ 16384 }
     requires sound { IsSoundInForm (document_of kept.old.main.doc) }
     requires fits { Fits (document_of kept.old.main.doc) (change_of_schema (next_rev client.old) (last_in_effect (document_of kept.old.main.doc)) new.now) }
@@ -115,6 +116,7 @@ pub fn upgrade(
     new: &Schema,
 ) -> Result<Answer, AllocError>
     requires few { client.old.ids + 1 < 2 ^ 32 }
+    requires taken { KeepsIds client.old }
     requires pending { length client.old.pending ≤ 256 }
     requires names { kept.old.names ≤ 16384 }
     requires schemas { length (document_of kept.old.main.doc).schemas < 2 ^ 32 }

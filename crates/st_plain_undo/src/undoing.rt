@@ -5,7 +5,7 @@ ghost use Rattle.st_marks.specs.declared.intents.Intent.{Intent as Meant};
 ghost use Rattle.st_marks.specs.Document.{IsSoundInForm};
 ghost use Rattle.st_marks.specs.Intent.{Fits};
 ghost use Rattle.st_doc.specs.Doc.{document_of};
-ghost use Rattle.st_lists.specs.Clients.{next_rev};
+ghost use Rattle.st_lists.specs.Clients.{KeepsIds, next_rev};
 ghost use Rattle.st_lists.specs.Names.{names_made};
 ghost use Rattle.st_edits.specs.InEffect.{last_in_effect};
 ghost use Rattle.st_world.specs.Undo.{has_rev};
@@ -173,6 +173,7 @@ fn add_undo(
     intent: Intent,
 ) -> Result<Answer, AllocError>
     requires few { client.old.ids + 1 < 2 ^ 32 }
+    requires taken { KeepsIds client.old }
     requires names { kept.old.names + names_made intent ≤ 16384 }
     requires sound { IsSoundInForm (document_of kept.old.main.doc) }
     requires fits { Fits (document_of kept.old.main.doc) intent }
@@ -195,6 +196,7 @@ pub fn undo(
     rev: Rev,
 ) -> Result<Answer, AllocError>
     requires few { client.old.ids + 1 < 2 ^ 32 }
+    requires taken { KeepsIds client.old }
     requires pending { length client.old.pending ≤ 256 }
     requires sound { IsSoundInForm (document_of kept.old.main.doc) }
     requires can { (B : Meant) → way_over floor client.old (last_in_effect (document_of kept.old.main.doc)) kept.old.main.own rev (logged_of logged.now client.old.received rev) ≡ Ok B

@@ -1,5 +1,5 @@
 -- The value of a step that a line can hold is read as that step.
-use Rattle.std.proofs.Common.{arith, ◌≡◌, ℕ, ◌<◌, ◌≤◌, ◌^◌, nat_lt, nat_le, Bool, true, cond, ◌&&◌, List, [], ◌∷◌, length, Option, Some, None, option_and_then, option_map, is_ok, Ok, codes, refl, sym, ap, ◌∙◌}
+use Rattle.std.proofs.Common.{arith, ◌≡◌, ℕ, ◌<◌, ◌≤◌, ◌^◌, nat_lt, nat_le, Bool, true, cond, ◌&&◌, List, [], ◌∷◌, length, Option, Some, None, IfSome, option_and_then, option_map, is_ok, Ok, codes, refl, sym, ap, ◌∙◌}
 use Rattle.std.proofs.lemmas.Bool.Decides.{nat_tests}
 use Rattle.serde_json.specs.Data.{Data, number, unsigned, string}
 use Rattle.serde_json.specs.Find.{get, as_str, as_array}
@@ -15,13 +15,15 @@ use Rattle.st_tree.specs.Size.{check_items}
 use Rattle.st_schema.specs.Schema.{SchemaView, is_sound}
 use Rattle.st_schema.specs.TreeText.{tree_of, tree_data, trees_data}
 use Rattle.st_schema.specs.Written.{schema_data}
-use Rattle.st_script.specs.Members.{as_client_name, client_in, as_small, number_in, number_or, at_least_one, one_or_more, count_of, key_within, key_or_empty, as_place, places_in, short_path, path_in, rev_in, trees_in, few, items_in, item_in, sound_schema, schema_in}
+use Rattle.st_script.specs.Members.{as_client_name, client_in, as_small, number_in, number_or, at_least_one, one_or_more, count_of, key_within, key_or_empty, as_place, places_in, short_path, path_in, rev_in, trees_in, few, items_in, item_in, sound_schema, schema_in, uuid_in, uuid_or_none}
 use Rattle.st_ids.specs.Numeral.{small}
-use Rattle.st_script.specs.Steps.{EditView, insert, remove, move, set, clear, ActView, join, edit, need, begin, commit, abort, fork, rebase, merge, drop_branch, undo, upgrade, sequence, ack, deliver, leave, drop_client, reconnect, show, pending, StepView, target_of, site_of, span_of, goal_of, read_insert, read_remove, read_move, read_set, read_clear, read_need, read_undo, read_upgrade, act_of, step_of}
-use Rattle.st_script.specs.StepText.{places_data, path_data, items_data, plain_data, undo_data, upgrade_data, edit_data, act_data, step_data, IsName, IsActor, IsRev, ArePlaces, IsPath, IsTarget, IsSpan, AreShown, AreItems, FitsEdit, FitsAct, FitsLine}
+use Rattle.st_script.specs.Steps.{EditView, insert, remove, move, set, clear, ActView, join, edit, need, begin, commit, abort, fork, rebase, merge, drop_branch, undo, upgrade, sequence, ack, deliver, leave, drop_client, reconnect, show, pending, StepView, target_of, site_of, span_of, goal_of, read_insert, read_remove, read_move, read_set, read_clear, read_join, read_need, read_undo, read_upgrade, act_of, step_of}
+use Rattle.st_script.specs.StepText.{places_data, path_data, items_data, plain_data, join_data, undo_data, upgrade_data, edit_data, act_data, step_data, IsName, IsActor, IsRev, IsUuid, ArePlaces, IsPath, IsTarget, IsSpan, AreShown, AreItems, FitsEdit, FitsAct, FitsLine}
 use Rattle.st_script.specs.declared.read.Goal.{Goal}
 use Rattle.st_script.specs.declared.read.Span.{Span}
 use Rattle.st_script.specs.declared.read.Target.{Target}
+use Rattle.st_idcodec.specs.TableText.{uuid_text}
+use Rattle.st_idcodec.proofs.TextsOfUuids.{read_back}
 use Rattle.st_script.proofs.Schemas.{schema_seen}
 
 -- ---- options
@@ -166,6 +168,17 @@ need_read d at only there =
     let f : List Place → ActView = λ at. need at in
     passed (has_only (codes "at branch client do") d) (option_map f (path_in (codes "at") d)) (Some (f at)) only (ap (option_map f) there)
 
+uuid_none : (d : Data) → get (codes "uuid") d ≡ None → uuid_in d ≡ Some None
+uuid_none d none = ap uuid_or_none none
+
+uuid_kept : (d : Data) (u : ℕ) → get (codes "uuid") d ≡ Some (string (uuid_text u)) → IsUuid u → uuid_in d ≡ Some (Some u)
+uuid_kept d u there h = ap uuid_or_none there ∙ ap (option_map (λ (n : ℕ). Some n)) (read_back u h.0 h.1)
+
+join_read : (d : Data) (uuid : Option ℕ) → has_only (codes "client do uuid") d ≡ true → uuid_in d ≡ Some uuid → read_join d ≡ Some (join uuid)
+join_read d uuid only there =
+    let f : Option ℕ → ActView = λ uuid. join uuid in
+    passed (has_only (codes "client do uuid") d) (option_map f (uuid_in d)) (Some (f uuid)) only (ap (option_map f) there)
+
 undo_read : (d : Data) (rev : Rev) → has_only (codes "client do rev") d ≡ true → rev_in (codes "rev") d ≡ Some rev → read_undo d ≡ Some (undo rev)
 undo_read d rev only there =
     let f : Rev → ActView = λ rev. undo rev in
@@ -232,9 +245,18 @@ plain_again : (word client : List ℕ) (branch : ℕ) (a : ActView) → IsName c
     → step_of (plain_data word client) ≡ Some (record { client = client; branch = branch; act = a })
 plain_again word client branch a name zero is = main_kept (plain_data word client) client branch a refl refl name zero is
 
+join_again : (client : List ℕ) (branch : ℕ) (uuid : Option ℕ) → IsName client → branch ≡ 0 → IfSome uuid IsUuid
+    → step_of (join_data client uuid) ≡ Some (record { client = client; branch = branch; act = join uuid })
+join_again client branch None name zero h =
+    let d = join_data client None in
+    main_kept d client branch (join None) refl refl name zero (join_read d None refl (uuid_none d refl))
+join_again client branch (Some u) name zero h =
+    let d = join_data client (Some u) in
+    main_kept d client branch (join (Some u)) refl refl name zero (join_read d (Some u) refl (uuid_kept d u refl h))
+
 act_again : (client : List ℕ) (branch : ℕ) (a : ActView) → IsActor client branch → FitsAct branch a
     → step_of (act_data client branch a) ≡ Some (record { client = client; branch = branch; act = a })
-act_again client branch join by h = plain_again (codes "join") client branch join by.0 h refl
+act_again client branch (join uuid) by h = join_again client branch uuid by.0 h.0 h.1
 act_again client branch (edit e) by h = edit_again client branch e by h
 act_again client branch (need at) by h =
     let d = act_data client branch (need at) in

@@ -1,5 +1,5 @@
 -- The steps that lines are read as are steps that a line can hold.
-use Rattle.std.proofs.Common.{arith, ◌≡◌, ℕ, ◌<◌, ◌≤◌, ◌^◌, nat_lt, nat_le, Bool, true, false, cond, ◌&&◌, ◌==◌, List, ◌∷◌, length, Option, Some, None, option_and_then, option_map, is_ok, Result, Ok, Err, codes, refl, sym, ap, ◌∙◌, subst}
+use Rattle.std.proofs.Common.{arith, ◌≡◌, ℕ, ◌<◌, ◌≤◌, ◌^◌, nat_lt, nat_le, Bool, true, false, cond, ◌&&◌, ◌==◌, List, ◌∷◌, length, Option, Some, None, IfSome, option_and_then, option_map, is_ok, Result, Ok, Err, codes, refl, sym, ap, ◌∙◌, subst}
 use Rattle.std.proofs.lemmas.Bool.Decides.{nat_tests}
 use Rattle.std.specs.Prelude.{⊤}
 use Rattle.std.specs.List.{before_first, after_first}
@@ -22,10 +22,12 @@ use Rattle.st_schema.specs.Reading.{schema_of}
 use Rattle.st_schema.specs.Schema.{SchemaView, is_sound}
 use Rattle.st_schema.specs.TreeText.{tree_of, tree_in, tree_data, within_limits}
 use Rattle.st_script.specs.Line.{step_of_line, step_of_value}
-use Rattle.st_script.specs.Members.{as_client_name, client_in, as_small, number_in, number_or, at_least_one, one_or_more, count_of, key_within, key_of, key_or_empty, as_place, places_in, short_path, path_in, rev_in, trees_in, few, items_in, item_in, sound_schema, schema_in}
+use Rattle.st_script.specs.Members.{as_client_name, client_in, as_small, number_in, number_or, at_least_one, one_or_more, count_of, key_within, key_of, key_or_empty, as_place, places_in, short_path, path_in, rev_in, trees_in, few, items_in, item_in, sound_schema, schema_in, as_uuid, uuid_or_none, uuid_in}
+use Rattle.st_idcodec.specs.Uuids.{uuid_read}
+use Rattle.st_idcodec.proofs.TextsOfUuids.{read_is_v4}
 use Rattle.st_ids.specs.Numeral.{small}
-use Rattle.st_script.specs.Steps.{EditView, insert, remove, move, set, clear, ActView, join, edit, need, begin, commit, abort, fork, rebase, merge, drop_branch, undo, upgrade, sequence, ack, deliver, leave, drop_client, reconnect, show, pending, StepView, IsEditWithin, IsActWithin, IsWithinLimits, same, target_of, site_of, span_of, goal_of, plain_act, read_insert, read_remove, read_move, read_set, read_clear, read_need, read_undo, read_upgrade, read_edit, read_of, step_word, act_of, step_of}
-use Rattle.st_script.specs.StepText.{IsName, IsRev, ArePlaces, IsPath, IsTarget, IsSpan, IsShown, AreShown, AreItems, FitsEdit, FitsAct, FitsLine}
+use Rattle.st_script.specs.Steps.{EditView, insert, remove, move, set, clear, ActView, join, edit, need, begin, commit, abort, fork, rebase, merge, drop_branch, undo, upgrade, sequence, ack, deliver, leave, drop_client, reconnect, show, pending, StepView, IsEditWithin, IsActWithin, IsWithinLimits, same, target_of, site_of, span_of, goal_of, plain_act, read_insert, read_remove, read_move, read_set, read_clear, read_join, read_need, read_undo, read_upgrade, read_edit, read_of, step_word, act_of, step_of}
+use Rattle.st_script.specs.StepText.{IsName, IsRev, IsUuid, ArePlaces, IsPath, IsTarget, IsSpan, IsShown, AreShown, AreItems, FitsEdit, FitsAct, FitsLine}
 use Rattle.st_script.specs.declared.read.Goal.{Goal}
 use Rattle.st_script.specs.declared.read.Span.{Span}
 use Rattle.st_script.specs.declared.read.Target.{Target}
@@ -105,6 +107,20 @@ key_of_fits d = Holds-and_then Any IsKey key_within (λ t _. key_fits t) (as_str
 key_or_fits : (o : Option Data) → Holds IsKey (key_or_empty o)
 key_or_fits None = omega arith
 key_or_fits (Some d) = key_of_fits d
+
+abbrev IsToldUuid : Option ℕ → Type 0
+IsToldUuid uuid = IfSome uuid IsUuid
+
+text_fits : (s : List ℕ) → Holds IsUuid (uuid_read s)
+text_fits s = go (uuid_read s) refl
+  where
+    go : (o : Option ℕ) → uuid_read s ≡ o → Holds IsUuid o
+    go None e = tt
+    go (Some u) e = read_is_v4 s u e
+
+uuid_fits : (o : Option Data) → Holds IsToldUuid (uuid_or_none o)
+uuid_fits None = tt
+uuid_fits (Some d) = Holds-map IsUuid IsToldUuid (λ (u : ℕ). Some u) (λ u h. h) (as_uuid d) (Holds-and_then Any IsUuid uuid_read (λ s _. text_fits s) (as_str d) (any _))
 
 place_fits : (k i : Data) → Holds IsPlace (as_place k i)
 place_fits k i =
@@ -263,6 +279,14 @@ module _ (d : Data) (b : ℕ) (is_branch : number_or 0 (get (codes "branch") d) 
   need_fits : Fits (read_need d)
   need_fits = only (codes "at branch client do") (option_map needed (path_in (codes "at") d)) (Holds-map IsPath (FitsAct b) needed (λ at h. h) (path_in (codes "at") d) (path_fits (codes "at") d))
 
+  abbrev joined : Option ℕ → ActView
+  joined uuid = join uuid
+
+  join_fits : Fits (read_join d)
+  join_fits =
+      Holds-cond (FitsAct b) (has_only (codes "client do uuid") d) (option_map joined (uuid_in d)) None
+      (λ o. Holds-map IsToldUuid (FitsAct b) joined (λ uuid h. (on_main (codes "client do uuid") refl o, h)) (uuid_in d) (uuid_fits (get (codes "uuid") d))) tt
+
   abbrev undone : Rev → ActView
   undone rev = undo rev
 
@@ -298,7 +322,7 @@ module _ (d : Data) (b : ℕ) (is_branch : number_or 0 (get (codes "branch") d) 
 
   word_fits : (word : List ℕ) → Sound d → Fits (read_of word d)
   word_fits word sound =
-      either (same word (codes "join")) _ _ (main_fits join (λ zero. zero))
+      either (same word (codes "join")) _ _ join_fits
       (either (same word (codes "need")) _ _ need_fits
       (either (same word (codes "begin")) _ _ (actor_fits begin tt)
       (either (same word (codes "commit")) _ _ (actor_fits commit tt)
@@ -365,7 +389,7 @@ edit_form (set at key tree) h = (shown_within tree h.1, h.0.0.0)
 edit_form (clear at key) h = h.0.0
 
 act_form : (b : ℕ) (a : ActView) → FitsAct b a → IsActWithin a
-act_form b join h = tt
+act_form b (join uuid) h = tt
 act_form b (edit e) h = edit_form e h
 act_form b (need at) h = h.0
 act_form b begin h = tt

@@ -22,8 +22,8 @@ use Rattle.st_schema.specs.TreeText.{tree_of}
 use Rattle.st_schema.proofs.Holds.{Holds-cond}
 use Rattle.st_schema.proofs.Shaped.{IsShaped, shown_shaped}
 use Rattle.st_script.specs.Line.{step_of_line, step_of_value}
-use Rattle.st_script.specs.Members.{client_in, number_in, number_or, path_in, rev_in, trees_in, few, items_in, item_in, schema_in}
-use Rattle.st_script.specs.Steps.{insert, remove, move, set, clear, ActView, join, edit, need, begin, commit, abort, fork, rebase, merge, drop_branch, undo, upgrade, sequence, ack, deliver, leave, drop_client, reconnect, show, pending, StepView, same, site_of, span_of, goal_of, read_insert, read_remove, read_move, read_set, read_clear, read_need, read_undo, read_upgrade, read_edit, read_of, step_word, act_of, step_of}
+use Rattle.st_script.specs.Members.{client_in, number_in, number_or, path_in, rev_in, trees_in, few, items_in, item_in, schema_in, uuid_in}
+use Rattle.st_script.specs.Steps.{insert, remove, move, set, clear, ActView, join, edit, need, begin, commit, abort, fork, rebase, merge, drop_branch, undo, upgrade, sequence, ack, deliver, leave, drop_client, reconnect, show, pending, StepView, same, site_of, span_of, goal_of, read_insert, read_remove, read_move, read_set, read_clear, read_join, read_need, read_undo, read_upgrade, read_edit, read_of, step_word, act_of, step_of}
 use Rattle.st_script.specs.StepText.{act_has_shape, trees_have_shape}
 use Rattle.st_script.specs.declared.read.Goal.{Goal}
 use Rattle.st_script.specs.declared.read.Span.{Span}
@@ -153,6 +153,12 @@ needed at = need at
 need_shaped : (d : Data) → Shaped (read_need d)
 need_shaped d = only (codes "at branch client do") d (option_map needed (path_in (codes "at") d)) (made IsAct needed (λ at. refl) (path_in (codes "at") d))
 
+abbrev joined : Option ℕ → ActView
+joined uuid = join uuid
+
+join_shaped : (d : Data) → Shaped (read_join d)
+join_shaped d = only (codes "client do uuid") d (option_map joined (uuid_in d)) (made IsAct joined (λ uuid. refl) (uuid_in d))
+
 abbrev undone : Rev → ActView
 undone rev = undo rev
 
@@ -180,7 +186,7 @@ edit_word_shaped word d rise =
 
 word_shaped : (word : List ℕ) (d : Data) → NamesRise d → Shaped (read_of word d)
 word_shaped word d rise =
-    either (same word (codes "join")) _ _ (only (codes "client do") d (Some join) refl)
+    either (same word (codes "join")) _ _ (join_shaped d)
     (either (same word (codes "need")) _ _ (need_shaped d)
     (either (same word (codes "begin")) _ _ (only (codes "branch client do") d (Some begin) refl)
     (either (same word (codes "commit")) _ _ (only (codes "branch client do") d (Some commit) refl)

@@ -16,7 +16,7 @@ use Rattle.st_schema.proofs.Plain.{schema_plain, schema_low}
 use Rattle.st_schema.proofs.PlainTrees.{tree_plain, tree_low, items_low}
 use Rattle.st_script.specs.Line.{step_of_line, step_of_value}
 use Rattle.st_script.specs.Steps.{EditView, insert, remove, move, set, clear, ActView, join, edit, need, begin, commit, abort, fork, rebase, merge, drop_branch, undo, upgrade, sequence, ack, deliver, leave, drop_client, reconnect, show, pending, StepView}
-use Rattle.st_script.specs.StepText.{places_data, edit_data, act_data, step_data, step_text, edit_limits, act_limits, limits_of, trees_have_shape, IsReadBack, FitsLine}
+use Rattle.st_script.specs.StepText.{places_data, join_data, edit_data, act_data, step_data, step_text, edit_limits, act_limits, limits_of, trees_have_shape, IsReadBack, FitsLine}
 use Rattle.st_script.proofs.Again.{read_again}
 use Rattle.st_script.proofs.Fits.{line_fits}
 use Rattle.st_script.proofs.Shaped.{line_shaped}
@@ -39,8 +39,12 @@ edit_plain client branch (move at key index count to to_key to_index) = rw (path
 edit_plain client branch (set at key item) = rw (path_plain at, tree_plain item) refl
 edit_plain client branch (clear at key) = rw (path_plain at) refl
 
+join_plain : (client : List ℕ) (uuid : Option ℕ) → has_float (join_data client uuid) ≡ false
+join_plain client None = refl
+join_plain client (Some u) = refl
+
 act_plain : (client : List ℕ) (branch : ℕ) (a : ActView) → has_float (act_data client branch a) ≡ false
-act_plain client branch join = refl
+act_plain client branch (join uuid) = join_plain client uuid
 act_plain client branch (edit e) = edit_plain client branch e
 act_plain client branch (need at) = rw (path_plain at) refl
 act_plain client branch begin = refl
@@ -77,8 +81,12 @@ edit_low client branch (move at key index count to to_key to_index) h = omega (a
 edit_low client branch (set at key item) h = omega (arith, path_low at, tree_low item, (one_small item h).1)
 edit_low client branch (clear at key) h = omega (arith, path_low at)
 
+join_low : (client : List ℕ) (uuid : Option ℕ) → depth (join_data client uuid) ≤ max_depth
+join_low client None = omega arith
+join_low client (Some u) = omega arith
+
 act_low : (client : List ℕ) (branch : ℕ) (a : ActView) → act_limits a ≡ Ok tt → depth (act_data client branch a) ≤ max_depth
-act_low client branch join h = omega arith
+act_low client branch (join uuid) h = join_low client uuid
 act_low client branch (edit e) h = edit_low client branch e h
 act_low client branch (need at) h = omega (arith, path_low at)
 act_low client branch begin h = omega arith

@@ -47,6 +47,7 @@ not_wider_data at = object (member (codes "at") (number (unsigned at)) (member (
 
 abbrev pub refusal_data : Refusal → Data
 refusal_data no.Taken = no_data (codes "Taken")
+refusal_data no.Clash = no_data (codes "Clash")
 refusal_data no.NoClient = no_data (codes "NoClient")
 refusal_data no.NotConnected = no_data (codes "NotConnected")
 refusal_data no.Connected = no_data (codes "Connected")

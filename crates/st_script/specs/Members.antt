@@ -2,6 +2,7 @@
 use Rattle.std.specs.Prelude.{ℕ, ◌^◌, nat_le, nat_lt, List, [], ◌∷◌, length, ◌&&◌, is_ok, Option, Some, None, option_and_then, option_map, codes, if◌then◌else◌}
 use Rattle.serde_json.specs.Data.{Data, Items, no_items, item}
 use Rattle.serde_json.specs.Find.{get, as_str, as_array, as_number, as_u64}
+use Rattle.st_idcodec.specs.Uuids.{uuid_read}
 use Rattle.st_ids.specs.declared.names.Key.{Key}
 use Rattle.st_ids.specs.declared.names.Place.{Place}
 use Rattle.st_ids.specs.declared.names.Rev.{Rev}
@@ -74,6 +75,18 @@ path_in name d = option_and_then short_path (option_and_then places_in (option_a
 -- the revision that a member names, of the form `s.n`
 abbrev pub rev_in : List ℕ → Data → Option Rev
 rev_in name d = option_and_then read_rev (option_and_then as_str (get name d))
+
+-- the UUID of version 4 that a value is
+abbrev pub as_uuid : Data → Option ℕ
+as_uuid d = option_and_then uuid_read (as_str d)
+
+-- the UUID of a member, if there is one
+abbrev pub uuid_or_none : Option Data → Option (Option ℕ)
+uuid_or_none None = Some None
+uuid_or_none (Some d) = option_map (λ u. Some u) (as_uuid d)
+
+abbrev pub uuid_in : Data → Option (Option ℕ)
+uuid_in d = uuid_or_none (get (codes "uuid") d)
 
 -- values that are all trees
 abbrev pub trees_in : Items → Option (List Node)

@@ -1,8 +1,10 @@
 -- The value that stands for a step, and which steps are read of theirs.
-use Rattle.std.specs.Prelude.{◌≡◌, ◌<◌, ◌≤◌, ◌^◌, ℕ, List, [], ◌∷◌, ◌++◌, length, Bool, true, Some, Result, Ok, codes}
+use Rattle.std.specs.Prelude.{◌≡◌, ◌<◌, ◌≤◌, ◌^◌, ℕ, List, [], ◌∷◌, ◌++◌, length, Bool, true, Option, Some, None, IfSome, Result, Ok, codes}
 use Rattle.serde_json.specs.Data.{Data, number, unsigned, string, array, object, Members, no_members, member}
 use Rattle.serde_json.specs.View.{items_of}
 use Rattle.serde_json.specs.Written.{compact_text}
+use Rattle.st_clusters.specs.Free.{is_v4}
+use Rattle.st_idcodec.specs.TableText.{uuid_text}
 use Rattle.st_ids.specs.declared.names.Key.{Key}
 use Rattle.st_ids.specs.declared.names.Place.{Place}
 use Rattle.st_ids.specs.declared.names.Rev.{Rev}
@@ -31,6 +33,14 @@ items_data ts = array (trees_data (nodes_of ts))
 -- a step that names a client alone
 abbrev pub plain_data : List ℕ → List ℕ → Data
 plain_data word client = object (member (codes "client") (string client) (member (codes "do") (string word) no_members))
+
+-- a join, with the UUID of its session if one is told
+abbrev pub uuid_members : Option ℕ → Members
+uuid_members None = no_members
+uuid_members (Some uuid) = member (codes "uuid") (string (uuid_text uuid)) no_members
+
+abbrev pub join_data : List ℕ → Option ℕ → Data
+join_data client uuid = object (member (codes "client") (string client) (member (codes "do") (string (codes "join")) (uuid_members uuid)))
 
 -- who does a step, and on which branch, with the step's word
 abbrev pub actor_members : List ℕ → List ℕ → ℕ → Members
@@ -71,7 +81,7 @@ edit_data client branch (set at key item) =
 edit_data client branch (clear at key) = object (site_members (codes "clear") client branch at key)
 
 abbrev pub act_data : List ℕ → ℕ → ActView → Data
-act_data client branch join = plain_data (codes "join") client
+act_data client branch (join uuid) = join_data client uuid
 act_data client branch (edit e) = edit_data client branch e
 act_data client branch (need at) = need_data client branch at
 act_data client branch begin = object (actor_members (codes "begin") client branch)
@@ -107,7 +117,7 @@ edit_limits (set at key item) = check_of item
 edit_limits (clear at key) = Ok tt
 
 abbrev pub act_limits : ActView → Result (Unit {0}) TreeFault
-act_limits join = Ok tt
+act_limits (join uuid) = Ok tt
 act_limits (edit e) = edit_limits e
 act_limits (need at) = Ok tt
 act_limits begin = Ok tt
@@ -141,7 +151,7 @@ edit_has_shape (set at key item) = has_shape item
 edit_has_shape (clear at key) = true
 
 abbrev pub act_has_shape : ActView → Bool
-act_has_shape join = true
+act_has_shape (join uuid) = true
 act_has_shape (edit e) = edit_has_shape e
 act_has_shape (need at) = true
 act_has_shape begin = true
@@ -184,6 +194,10 @@ ArePlaces (p ∷ ps) = (length p.key.0 ≤ 64) × (p.index < 2 ^ 32) × ArePlace
 abbrev pub IsRev : Rev → Type 0
 IsRev rev = (rev.session < 2 ^ 32) × (rev.num < 2 ^ 32)
 
+-- a UUID of version 4, where one is told
+abbrev pub IsUuid : ℕ → Type 0
+IsUuid uuid = (uuid < 2 ^ 128) × (is_v4 uuid ≡ true)
+
 -- fewer than 2^32 places
 abbrev pub IsPath : List Place → Type 0
 IsPath at = (length at < 2 ^ 32) × ArePlaces at
@@ -219,7 +233,7 @@ FitsEdit (clear at key) = IsTarget at key
 -- an act on a branch, which is the main one, 0, where the line has no member for it; the schema of an upgrade keeps the
 -- rules of schemas
 abbrev pub FitsAct : ℕ → ActView → Type 0
-FitsAct branch join = branch ≡ 0
+FitsAct branch (join uuid) = (branch ≡ 0) × IfSome uuid IsUuid
 FitsAct branch (edit e) = FitsEdit e
 FitsAct branch (need at) = IsPath at
 FitsAct branch begin = Unit {0}

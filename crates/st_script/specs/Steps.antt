@@ -18,7 +18,7 @@ use Rattle.st_script.specs.declared.step.EditAct.TheVariants as edits
 use Rattle.st_script.specs.declared.read.Target.{Target}
 use Rattle.st_script.specs.declared.read.Span.{Span}
 use Rattle.st_script.specs.declared.read.Goal.{Goal}
-use Rattle.st_script.specs.Members.{client_in, number_in, number_or, count_of, key_or_empty, path_in, rev_in, items_in, item_in, schema_in}
+use Rattle.st_script.specs.Members.{client_in, number_in, number_or, count_of, key_or_empty, path_in, rev_in, items_in, item_in, schema_in, uuid_in}
 
 -- ## Steps as contracts see them
 
@@ -32,7 +32,7 @@ pub data EditView : Type 0 where
 
 -- what a step does
 pub data ActView : Type 0 where
-  join : ActView
+  join : Option ℕ → ActView
   edit : EditView → ActView
   need : List Place → ActView
   begin : ActView
@@ -67,7 +67,7 @@ edit_view (edits.Set at key item) = set at key (view item)
 edit_view (edits.Clear at key) = clear at key
 
 abbrev pub act_view : Act → ActView
-act_view acts.Join = join
+act_view (acts.Join uuid) = join uuid
 act_view (acts.Edit e) = edit (edit_view e)
 act_view (acts.Need at) = need at
 act_view acts.Begin = begin
@@ -103,7 +103,7 @@ IsEditWithin (clear at key) = length at < 2 ^ 32
 
 -- its trees are within the limits of trees, and its paths short
 abbrev pub IsActWithin : ActView → Type 0
-IsActWithin join = Unit {0}
+IsActWithin (join uuid) = Unit {0}
 IsActWithin (edit e) = IsEditWithin e
 IsActWithin (need at) = length at < 2 ^ 32
 IsActWithin begin = Unit {0}
@@ -189,6 +189,12 @@ read_clear d =
     option_map (λ t. edit (clear t.at t.key)) (site_of d)
     else None
 
+abbrev pub read_join : Data → Option ActView
+read_join d =
+    if has_only (codes "client do uuid") d then
+    option_map (λ uuid. join uuid) (uuid_in d)
+    else None
+
 abbrev pub read_need : Data → Option ActView
 read_need d =
     if has_only (codes "at branch client do") d then
@@ -227,7 +233,7 @@ read_edit word d =
 -- the act of a word, which is an edit's where it is no other act's
 abbrev pub read_of : List ℕ → Data → Option ActView
 read_of word d =
-    if same word (codes "join") then plain_act (codes "client do") join d else
+    if same word (codes "join") then read_join d else
     if same word (codes "need") then read_need d else
     if same word (codes "begin") then plain_act (codes "branch client do") begin d else
     if same word (codes "commit") then plain_act (codes "branch client do") commit d else

@@ -5,9 +5,10 @@ ghost use Rattle.serde_json.specs.Find.{get};
 ghost use Rattle.st_json.specs.Look.{has_only};
 ghost use Rattle.st_schema.specs.TreeText.{tree_of};
 ghost use Rattle.st_tree.specs.Node.{view};
-ghost use Rattle.st_script.specs.Members.{as_small, number_in, number_or, at_least_one, count_of, client_in, key_within, key_of, key_or_empty, as_place, places_in, short_path, path_in, rev_in, trees_in, few, items_in, item_in, sound_schema, schema_in};
+ghost use Rattle.st_script.specs.Members.{as_small, number_in, number_or, at_least_one, count_of, client_in, key_within, key_of, key_or_empty, as_place, places_in, short_path, path_in, rev_in, trees_in, few, items_in, item_in, sound_schema, schema_in, as_uuid, uuid_in};
 
 use serde_json::Value;
+use st_idcodec::read_uuid;
 use st_ids::{Key, List, Or, Path, Place, Rev, Text};
 use st_json::only;
 use st_schema::{Schema, read_tree};
@@ -199,6 +200,23 @@ pub(crate) fn rev_member(value: &Value, name: &str) -> Option<Rev>
     ensures { result ≡ rev_in name.now (value_view value.now) }
 {
     Rev::read(value.get(name)?.as_str()?)
+}
+
+// The UUID that a value is.
+fn uuid_of(value: &Value) -> Option<u128>
+    ensures { result ≡ as_uuid (value_view value.now) }
+{
+    read_uuid(value.as_str()?)
+}
+
+/// The UUID of a join, if one is told.
+pub(crate) fn uuid_member(value: &Value) -> Option<Option<u128>>
+    ensures { result ≡ uuid_in (value_view value.now) }
+{
+    match value.get("uuid") {
+        None => Some(None),
+        Some(uuid) => Some(Some(uuid_of(uuid)?)),
+    }
 }
 
 // The tree that a value shows.

@@ -1,11 +1,11 @@
 //! Steps read from the value of a line.
 ghost use Rattle.std.specs.Prelude.{◌≡◌, codes, IfOk, option_map};
 ghost use Rattle.serde_json.specs.View.{view};
-ghost use Rattle.st_script.specs.Steps.{target_of, span_of, goal_of, act_view, step_view, step_word, plain_act, read_insert, read_remove, read_move, read_set, read_clear, read_need, read_undo, read_upgrade, read_edit, read_of, act_of, step_of};
+ghost use Rattle.st_script.specs.Steps.{target_of, span_of, goal_of, act_view, step_view, step_word, plain_act, read_insert, read_remove, read_move, read_set, read_clear, read_join, read_need, read_undo, read_upgrade, read_edit, read_of, act_of, step_of};
 
 use crate::member::{
     client, count, has_only, item, items, key_member, number_member, number_or_zero, path_member,
-    rev_member, schema_member,
+    rev_member, schema_member, uuid_member,
 };
 use crate::step::{Act, EditAct, TraceStep};
 use serde_json::Value;
@@ -180,6 +180,16 @@ fn read_clear(alloc: Global, value: &Value) -> Result<Option<Act>, AllocError>
     }
 }
 
+fn read_join(value: &Value) -> Option<Act>
+    ensures { option_map act_view result ≡ read_join (view value.now) }
+{
+    if !has_only(value, "client do uuid") {
+        return None;
+    }
+    let uuid = uuid_member(value)?;
+    Some(Act::Join { uuid })
+}
+
 fn read_need(alloc: Global, value: &Value) -> Result<Option<Act>, AllocError>
     ensures { IfOk result (λ a. option_map act_view a ≡ read_need (view value.now)) }
 {
@@ -244,7 +254,7 @@ fn read_of(alloc: Global, word: &str, value: &Value) -> Result<Option<Act>, Allo
     ensures { IfOk result (λ a. option_map act_view a ≡ read_of word.now (view value.now)) }
 {
     match word {
-        "join" => Ok(plain(value, "client do", Act::Join)),
+        "join" => Ok(read_join(value)),
         "need" => read_need(alloc, value),
         "begin" => Ok(plain(value, "branch client do", Act::Begin)),
         "commit" => Ok(plain(value, "branch client do", Act::Commit)),

@@ -12,6 +12,8 @@ use std::alloc::{AllocError, Global};
 pub enum Refusal {
     /// A present client has the name.
     Taken,
+    /// The span of the session's stable ids meets that of an earlier session.
+    Clash,
     /// No present client has the name.
     NoClient,
     /// The client was dropped and has not connected again.
@@ -115,6 +117,7 @@ pub(crate) fn refusal_value(alloc: Global, refusal: Refusal) -> Result<Value, Al
 {
     match refusal {
         Refusal::Taken => no_value(alloc, "Taken"),
+        Refusal::Clash => no_value(alloc, "Clash"),
         Refusal::NoClient => no_value(alloc, "NoClient"),
         Refusal::NotConnected => no_value(alloc, "NotConnected"),
         Refusal::Connected => no_value(alloc, "Connected"),

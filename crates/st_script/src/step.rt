@@ -16,7 +16,8 @@ pub struct TraceStep {
 /// What a step does.
 #[derive(Drop)]
 pub enum Act {
-    Join,
+    /// The UUID of the session is told, or made of its number.
+    Join { uuid: Option<u128> },
     Edit(EditAct),
     /// The open transaction needs the node that the path leads to.
     Need { at: Path },

@@ -13,10 +13,11 @@ ghost use Rattle.st_tree.specs.Node.{view, trees_view};
 ghost use Rattle.st_tree.specs.Size.{check_of, check_items};
 ghost use Rattle.st_script.specs.Line.{step_of_line};
 ghost use Rattle.st_script.specs.Steps.{edit_view, step_view};
-ghost use Rattle.st_script.specs.StepText.{places_data, path_data, items_data, plain_data, actor_members, need_data, undo_data, upgrade_data, site_members, edit_data, step_data, step_text, edit_limits, limits_of, edit_has_shape, trees_have_shape, IsReadBack, FitsLine};
+ghost use Rattle.st_script.specs.StepText.{places_data, path_data, items_data, plain_data, join_data, actor_members, need_data, undo_data, upgrade_data, site_members, edit_data, step_data, step_text, edit_limits, limits_of, edit_has_shape, trees_have_shape, IsReadBack, FitsLine};
 
 use crate::step::{Act, EditAct, TraceStep};
 use serde_json::{Map, Value};
+use st_idcodec::uuid_value;
 use st_ids::{Key, List, Or, Path, Place, Rev, Text};
 use st_schema::{Schema, write_tree};
 use st_tree::{Tree, TreeFault, check, check_trees};
@@ -123,6 +124,28 @@ fn plain_value(alloc: Global, word: &str, client: &Text) -> Result<Value, AllocE
     put_text(alloc, &mut members, "client", client.as_str())?;
     put_text(alloc, &mut members, "do", word)?;
     Ok(Value::Object(members))
+}
+
+// A join of a session with a UUID that is told.
+fn told_join_value(alloc: Global, client: &Text, uuid: u128) -> Result<Value, AllocError>
+    ensures { IfOk result (λ v. value_view v ≡ join_data client.now (Some uuid)) }
+{
+    let mut members = Map::new(alloc);
+    put_text(alloc, &mut members, "client", client.as_str())?;
+    put_text(alloc, &mut members, "do", "join")?;
+    let uuid = uuid_value(alloc, uuid)?;
+    put_value(alloc, &mut members, "uuid", uuid)?;
+    Ok(Value::Object(members))
+}
+
+// A join, with the UUID of its session if one is told.
+fn join_value(alloc: Global, client: &Text, uuid: Option<u128>) -> Result<Value, AllocError>
+    ensures { IfOk result (λ v. value_view v ≡ join_data client.now uuid) }
+{
+    match uuid {
+        None => plain_value(alloc, "join", client),
+        Some(uuid) => told_join_value(alloc, client, uuid),
+    }
 }
 
 // An undo of the commit of a revision.
@@ -322,7 +345,7 @@ fn step_value(alloc: Global, step: &TraceStep) -> Result<Value, AllocError>
     ensures { IfOk result (λ v. trees_have_shape (step_view step.now) ≡ true → value_view v ≡ step_data (step_view step.now)) }
 {
     match &step.act {
-        Act::Join => plain_value(alloc, "join", &step.client),
+        Act::Join { uuid } => join_value(alloc, &step.client, *uuid),
         Act::Edit(edit) => edit_value(alloc, step, edit),
         Act::Need { at } => need_value(alloc, step, at),
         Act::Begin => actor_value(alloc, "begin", step),
@@ -373,7 +396,7 @@ fn limits(step: &TraceStep) -> Result<(), TreeFault>
     ensures { result ≡ limits_of (step_view step.now) }
 {
     match &step.act {
-        Act::Join => Ok(()),
+        Act::Join { .. } => Ok(()),
         Act::Edit(edit) => edit_limits(edit),
         Act::Need { .. } => Ok(()),
         Act::Begin => Ok(()),

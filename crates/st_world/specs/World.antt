@@ -1,8 +1,9 @@
 -- The world, as lists alone: the log, and of each client what it received and what it has pending. What a client shows is
 -- read off the document to which its list of commits leads from the opening.
-use Rattle.std.specs.Prelude.{◌≡◌, ℕ, ◌+◌, Bool, true, false, nat_le, List, [], ◌∷◌, ◌++◌, length, slice_get, slice_set, Option, Some, None, is_some, option_map, Result, Ok, Err, if◌then◌else◌}
+use Rattle.std.specs.Prelude.{◌≡◌, ℕ, ◌+◌, ◌*◌, ◌^◌, Bool, true, false, nat_le, List, [], ◌∷◌, ◌++◌, length, slice_get, slice_set, Option, Some, None, is_some, option_map, Result, Ok, Err, if◌then◌else◌}
 use Rattle.std.specs.List.{remove as remove_at}
 use Rattle.serde_json.specs.Written.{compact_text}
+use Rattle.st_clusters.specs.Free.{uuid_of}
 use Rattle.st_ids.specs.declared.names.Limit.{Limit}
 use Rattle.st_ids.specs.declared.names.LimitOf.TheVariants.{Clients, Log}
 use Rattle.st_ids.specs.declared.names.Place.{Place}
@@ -34,10 +35,10 @@ use Rattle.st_script.specs.declared.answer.Answer.{Answer}
 use Rattle.st_script.specs.declared.answer.Answer.TheVariants as answer
 use Rattle.st_script.specs.declared.refusal.Refusal.{Refusal}
 use Rattle.st_script.specs.declared.refusal.Refusal.TheVariants as no
-use Rattle.st_lists.specs.Clients.{HasReceived, client_named, new_client, new_transaction, next_rev, with_ack, with_connection, with_edited, with_received, without_connection}
+use Rattle.st_lists.specs.Clients.{HasReceived, client_named, new_client, new_transaction, next_rev, with_ack, with_id, with_connection, with_edited, with_received, without_connection}
 use Rattle.st_lists.specs.Limits.{entries_limit_passed, limit_passed, log_limit_passed, names_limit_passed, own_limit_passed}
 use Rattle.st_lists.specs.Lines.{HasHead, Line, branch_of, edited_on, line_of, main_line, with_commit_on, with_transaction_on}
-use Rattle.st_lists.specs.Log.{commit_of, log_with, minimum, sessions_in, waiting}
+use Rattle.st_lists.specs.Log.{clashes, commit_of, log_with, minimum, sessions_in, waiting}
 use Rattle.st_lists.specs.Names.{names_in_text}
 use Rattle.st_world.specs.Texts.{AreTextsOf}
 use Rattle.st_lists.specs.Voids.{AreVoid}
@@ -111,9 +112,9 @@ cells_given word.Set M = length (group_cells M) + 1
 cells_given word.Clear M = length (group_cells M)
 cells_given word.Need M = length (group_cells M)
 
--- a commit is the last of a line from now on, with an id generated for it, if it passes no limit
+-- an id is generated and its commit is the last of a line from now on, if it passes no limit
 abbrev pub with_new_on : Client → ℕ → EditWord → Intent → Option Limit → Client × Answer
-with_new_on c k word N None = (record (with_commit_on c k N) { ids = c.ids + 1 }, answer_of word (next_rev c))
+with_new_on c k word N None = (with_commit_on (with_id c) k N, answer_of word (next_rev c))
 with_new_on c k word N (Some o) = (c, answer.No (no.Limit o))
 
 -- an edit that is refused, or whose commit is the last of its line from now on
@@ -201,18 +202,32 @@ with_client w i p = (record w { clients = slice_set w.clients i p.0 }, p.1)
 abbrev pub limit_refusal : Limit → Answer
 limit_refusal l = answer.No (no.Limit l)
 
+-- the UUID of a session: the one that is told, or else the one whose free number is the session's times 2^64
+abbrev pub uuid_for : ℕ → Option ℕ → ℕ
+uuid_for session None = uuid_of (session * 2 ^ 64)
+uuid_for session (Some uuid) = uuid
+
+-- a client enters by a session with a UUID
+abbrev pub enter : WorldState → ℕ → ℕ → List ℕ → WorldState × Answer
+enter w session uuid name = (
+  record w {
+    log = log_with w.log session (Joined uuid);
+    clients = w.clients ++ new_client (length w.log + 1) session uuid name ∷ [];
+  },
+  answer.Join (length w.log + 1) session,
+)
+
+-- it does, if its stable ids are those of no session before
+abbrev pub enter_apart : WorldState → ℕ → ℕ → List ℕ → WorldState × Answer
+enter_apart w session uuid name = if clashes uuid w.log then (w, answer.No no.Clash) else enter w session uuid name
+
 -- a client of a name that no other has, by the next session: at most 64 clients at a time, also those that are not
 -- connected, and 65,535 entries
-abbrev pub join : WorldState → List ℕ → WorldState × Answer
-join w name =
+abbrev pub join : WorldState → List ℕ → Option ℕ → WorldState × Answer
+join w name told =
     if nat_le 64 (length w.clients) then (w, limit_refusal (record { of = Clients; kept = length w.clients })) else
-    if nat_le 65535 (length w.log) then (w, limit_refusal (record { of = Log; kept = length w.log })) else (
-      record w {
-        log = log_with w.log (sessions_in w.log + 1) Joined;
-        clients = w.clients ++ new_client (length w.log + 1) (sessions_in w.log + 1) name ∷ [];
-      },
-      answer.Join (length w.log + 1) (sessions_in w.log + 1),
-    )
+    if nat_le 65535 (length w.log) then (w, limit_refusal (record { of = Log; kept = length w.log })) else
+    enter_apart w (sessions_in w.log + 1) (uuid_for (sessions_in w.log + 1) told) name
 
 -- a client leaves, if the log has room: it is gone, and its name is free
 abbrev pub leave : WorldState → ℕ → Client → Option Limit → WorldState × Answer
@@ -233,7 +248,7 @@ refusal_to_reconnect log c =
 -- a client comes back by a new join of its session, and sends anew what is in no log
 abbrev pub reconnect : WorldState → ℕ → Client → Option Refusal → WorldState × Answer
 reconnect w i c None = (
-  record w { log = log_with w.log c.session Joined; clients = slice_set w.clients i (with_connection w.log c) },
+  record w { log = log_with w.log c.session (Joined c.uuid); clients = slice_set w.clients i (with_connection w.log c) },
   answer.Reconnect (length w.log + 1) (length (waiting w.log c)),
 )
 reconnect w i c (Some why) = (w, answer.No why)
@@ -328,7 +343,7 @@ IsPendingTold h w c a = (D : Document) × (texts : List (List ℕ)) × (void : L
 
 -- what an act makes of the world, for its client and that one's place, on the line of a number
 abbrev pub IsActOf : HeaderView → WorldState → ActView → ℕ → Client → ℕ → Line → WorldState → Answer → Type 0
-IsActOf h w step.join i c k l v a = IsUnchanged w v a (answer.No no.Taken)
+IsActOf h w (step.join uuid) i c k l v a = IsUnchanged w v a (answer.No no.Taken)
 IsActOf h w (step.edit e) i c k l v a = IsEdited h w i c k l e v a
 IsActOf h w (step.need at) i c k l v a = IsNeeded h w i c k l at v a
 IsActOf h w step.begin i c k l v a = IsBegun h w i c k l v a
@@ -351,7 +366,7 @@ IsActOf h w step.pending i c k l v a = (v ≡ w) × IsPendingTold h w c a
 
 -- where no client has the name: one joins, and nothing else is done
 abbrev pub act_of_none : WorldState → List ℕ → ActView → WorldState × Answer
-act_of_none w name step.join = join w name
+act_of_none w name (step.join uuid) = join w name uuid
 act_of_none w name (step.edit e) = (w, answer.No no.NoClient)
 act_of_none w name (step.need at) = (w, answer.No no.NoClient)
 act_of_none w name step.begin = (w, answer.No no.NoClient)
@@ -374,7 +389,7 @@ act_of_none w name step.pending = (w, answer.No no.NoClient)
 
 -- the branch that an act is on: what a client does as a whole is on the main one, 0, whatever branch stands beside it
 abbrev pub branch_at : ℕ → ActView → ℕ
-branch_at branch step.join = 0
+branch_at branch (step.join uuid) = 0
 branch_at branch (step.edit e) = branch
 branch_at branch (step.need at) = branch
 branch_at branch step.begin = branch
@@ -397,7 +412,7 @@ branch_at branch step.pending = 0
 
 -- whether only a client that is connected does the act
 abbrev pub needs_connection : ActView → Bool
-needs_connection step.join = false
+needs_connection (step.join uuid) = false
 needs_connection (step.edit e) = false
 needs_connection (step.need at) = false
 needs_connection step.begin = false

@@ -374,21 +374,21 @@ module _ (h : HeaderView) (st : IsStart (opening_document h)) (K : Rev → List 
         };
       }
 
-  pub joined_keeps : (log : List Entry) (cs : List Client) (session : ℕ) (name : List ℕ) (c : Client) → AllByRecursion (IsClient h log) cs → c ≡ new_client (length log + 1) session name
-      → KeepToSchemas h K log cs → KeepToSchemas h K (log_with log session Join) (cs ++ c ∷ [])
-  joined_keeps log cs session name c are is_c w =
-      let longer = log_with log session Join in
-      let size : length longer ≡ length log + 1 = omega (arith, length-append log (last_entry log session Join ∷ [])) in
-      let commits : commits_in log ≡ commits_in longer = sym (entered_commits log session Join ∙ append-nil (commits_in log)) in
+  pub joined_keeps : (log : List Entry) (cs : List Client) (session uuid : ℕ) (name : List ℕ) (c : Client) → AllByRecursion (IsClient h log) cs → c ≡ new_client (length log + 1) session uuid name
+      → KeepToSchemas h K log cs → KeepToSchemas h K (log_with log session (Join uuid)) (cs ++ c ∷ [])
+  joined_keeps log cs session uuid name c are is_c w =
+      let longer = log_with log session (Join uuid) in
+      let size : length longer ≡ length log + 1 = omega (arith, length-append log (last_entry log session (Join uuid) ∷ [])) in
+      let commits : commits_in log ≡ commits_in longer = sym (entered_commits log session (Join uuid) ∙ append-nil (commits_in log)) in
       let whole : take (length log + 1) longer ≡ longer = take_all (length log + 1) longer (omega (arith, size)) in
       let all : commits_in log ≡ commits_in (take (length log + 1) longer) ++ [] = commits ∙ ap commits_in (sym whole) ∙ sym (append-nil (commits_in (take (length log + 1) longer))) in record {
         told = w.told;
         keep = record {
           opened = w.keep.opened;
           logged = subst (Agree w.told) commits w.keep.logged;
-          shown = AllByRecursion-append (Shown w.told longer) cs (c ∷ []) (all_entered w.told log session Join cs are w.keep.shown) (subst (Shown w.told longer) (sym is_c) (subst (Agree w.told) all w.keep.logged), tt);
-          edited = AllByRecursion-append (Edited w.told longer) cs (c ∷ []) (all_edits_entered w.told log session Join cs are w.keep.edited) (nothing_edited w.told longer (main_line c) (ap joined_of is_c), tt);
-          branches = AllByRecursion-append (Branches w.told longer) cs (c ∷ []) (all_branches_entered w.told log session Join cs are w.keep.branches) (subst (Branches w.told longer) (sym is_c) tt, tt);
+          shown = AllByRecursion-append (Shown w.told longer) cs (c ∷ []) (all_entered w.told log session (Join uuid) cs are w.keep.shown) (subst (Shown w.told longer) (sym is_c) (subst (Agree w.told) all w.keep.logged), tt);
+          edited = AllByRecursion-append (Edited w.told longer) cs (c ∷ []) (all_edits_entered w.told log session (Join uuid) cs are w.keep.edited) (nothing_edited w.told longer (main_line c) (ap joined_of is_c), tt);
+          branches = AllByRecursion-append (Branches w.told longer) cs (c ∷ []) (all_branches_entered w.told log session (Join uuid) cs are w.keep.branches) (subst (Branches w.told longer) (sym is_c) tt, tt);
         };
       }
 
@@ -437,23 +437,23 @@ module _ (h : HeaderView) (st : IsStart (opening_document h)) (K : Rev → List 
       let among : IsSublist (A ++ B) (commits_in log) = subst (IsSublist (A ++ B)) (sym (commits_split c.received log)) (sublist_joined (sublist_itself A) (by_sublist c.session (drop c.received log))) in
       goes_longer T (opening_document h) (A ++ B) (commits_in log) W among (subst (Agree T) all shown) logged k.sent_fit (new_shorter (opening ∷ []) (log_and_waiting log c) (all_commits log c) (front_sublist (log_and_waiting log c) (own_of c.branches)) k.new)
 
-  pub returned_keeps : (log : List Entry) (cs : List Client) (i : ℕ) (c : Client) → AllByRecursion (IsClient h log) cs → slice_get cs i ≡ Some c → c.transaction ≡ None → KeepToSchemas h K log cs → KeepToSchemas h K (log_with log c.session Join) (slice_set cs i (with_connection log c))
+  pub returned_keeps : (log : List Entry) (cs : List Client) (i : ℕ) (c : Client) → AllByRecursion (IsClient h log) cs → slice_get cs i ≡ Some c → c.transaction ≡ None → KeepToSchemas h K log cs → KeepToSchemas h K (log_with log c.session (Join c.uuid)) (slice_set cs i (with_connection log c))
   returned_keeps log cs i c are at none w =
       let k = all_get (IsClient h log) cs i c are at in
-      let longer = log_with log c.session Join in
+      let longer = log_with log c.session (Join c.uuid) in
       let d : Client = with_connection log c in
-      let size : length longer ≡ length log + 1 = omega (arith, length-append log (last_entry log c.session Join ∷ [])) in
-      let commits : commits_in log ≡ commits_in longer = sym (entered_commits log c.session Join ∙ append-nil (commits_in log)) in
+      let size : length longer ≡ length log + 1 = omega (arith, length-append log (last_entry log c.session (Join c.uuid) ∷ [])) in
+      let commits : commits_in log ≡ commits_in longer = sym (entered_commits log c.session (Join c.uuid) ∙ append-nil (commits_in log)) in
       let whole : take (length log + 1) longer ≡ longer = take_all (length log + 1) longer (omega (arith, size)) in
       let all : log_and_waiting log c ≡ commits_in (take (length log + 1) longer) ++ waiting log c = ap (λ l. l ++ waiting log c) (commits ∙ ap commits_in (sym whole)) in record {
         told = w.told;
         keep = record {
           opened = w.keep.opened;
-          logged = entered_logged w.told log c.session Join refl w.keep.logged;
-          shown = all_set (Shown w.told longer) cs i d (all_entered w.told log c.session Join cs are w.keep.shown) (subst (Agree w.told) all (waiting_agrees w.told log c k w.keep.logged (all_get (Shown w.told log) cs i c w.keep.shown at)));
-          edited = all_set (Edited w.told longer) cs i d (all_edits_entered w.told log c.session Join cs are w.keep.edited) (nothing_edited w.told longer (main_line d) (ap (option_and_then (λ (t : Transaction). t.joined)) none));
-          branches = all_set (Branches w.told longer) cs i d (all_branches_entered w.told log c.session Join cs are w.keep.branches)
-              (branches_entered w.told log c.session Join c c.branches k.branches.each (all_get (Branches w.told log) cs i c w.keep.branches at));
+          logged = entered_logged w.told log c.session (Join c.uuid) refl w.keep.logged;
+          shown = all_set (Shown w.told longer) cs i d (all_entered w.told log c.session (Join c.uuid) cs are w.keep.shown) (subst (Agree w.told) all (waiting_agrees w.told log c k w.keep.logged (all_get (Shown w.told log) cs i c w.keep.shown at)));
+          edited = all_set (Edited w.told longer) cs i d (all_edits_entered w.told log c.session (Join c.uuid) cs are w.keep.edited) (nothing_edited w.told longer (main_line d) (ap (option_and_then (λ (t : Transaction). t.joined)) none));
+          branches = all_set (Branches w.told longer) cs i d (all_branches_entered w.told log c.session (Join c.uuid) cs are w.keep.branches)
+              (branches_entered w.told log c.session (Join c.uuid) c c.branches k.branches.each (all_get (Branches w.told log) cs i c w.keep.branches at));
         };
       }
 

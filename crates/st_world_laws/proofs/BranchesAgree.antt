@@ -12,7 +12,7 @@ use Rattle.st_ids.specs.declared.names.Rev.{Rev}
 use Rattle.st_lemmas.proofs.Lists.{AllByRecursion-append}
 use Rattle.st_lemmas.proofs.Options.{one_some}
 use Rattle.st_lists.proofs.Branches.{line_parts}
-use Rattle.st_lists.specs.Clients.{with_edited}
+use Rattle.st_lists.specs.Clients.{with_edited, with_id}
 use Rattle.st_lists.specs.Lines.{HasHead, Line, StandsOn, all_commits, base_of, branch_line, branch_of, commits_of, edited_on, has_children, line_of, main_line, new_branch, on_branch, with_base, with_branch, with_commit_on, with_commits_on, with_transaction_on, without_branch}
 use Rattle.st_lists.specs.Log.{commits_in}
 use Rattle.st_lists.specs.Names.{names_in, names_made}
@@ -142,7 +142,7 @@ module _ (h : HeaderView) (st : IsStart (opening_document h)) (K : Rev → List 
   -- a commit of the next id
   pub new_on_branch_keeps : (log : List Entry) (cs : List Client) (i : ℕ) (c : Client) (j : ℕ) (b : Branch) (D : Document) (word : EditWord) (N : Intent) → HaveOwnSessions cs → AllByRecursion (IsClient h log) cs → names_in (commits_in log) ≤ 131072
       → slice_get cs i ≡ Some c → branch_of c (suc j) ≡ Some b → b.transaction ≡ None → HasHead (opening_document h) log (branch_line b) D → IsMeant D (next_names c None) word N → LineFits h log (record (branch_line b) { own = b.own ++ N ∷ [] })
-      → KeepToSchemas h K log cs → KeepToSchemas h K log (slice_set cs i (record (with_commit_on c (suc j) N) { ids = c.ids + 1 }))
+      → KeepToSchemas h K log cs → KeepToSchemas h K log (slice_set cs i (with_commit_on (with_id c) (suc j) N))
   new_on_branch_keeps log cs i c j b D word N sessions are few at is closed head m fit w =
       let O = opening_document h in
       let x = all_get (IsClient h log) cs i c are at in
@@ -359,7 +359,7 @@ module _ (h : HeaderView) (st : IsStart (opening_document h)) (K : Rev → List 
   -- a commit of the next id
   pub new_on_keeps : (log : List Entry) (cs : List Client) (i : ℕ) (c : Client) (k : ℕ) (l : Line) (D : Document) (word : EditWord) (N : Intent) → HaveOwnSessions cs → AllByRecursion (IsClient h log) cs → names_in (commits_in log) ≤ 131072
       → slice_get cs i ≡ Some c → line_of c k ≡ Some l → l.transaction ≡ None → HasHead (opening_document h) log l D → IsMeant D (next_names c None) word N → LineFits h log (record l { own = l.own ++ N ∷ [] }) → KeepToSchemas h K log cs
-      → KeepToSchemas h K log (slice_set cs i (record (with_commit_on c k N) { ids = c.ids + 1 }))
+      → KeepToSchemas h K log (slice_set cs i (with_commit_on (with_id c) k N))
   new_on_keeps log cs i c zero l D word N sessions are few at is none head m fit w =
       let same : l ≡ main_line c = sym (one_some (main_line c) l is) in
       new_keeps h st K log cs i c D word N sessions are few at (ap (λ (x : Line). x.transaction) (sym same) ∙ none) (subst (λ x. HasHead (opening_document h) log x D) same head) m (subst (λ (x : Line). LineFits h log (record x { own = x.own ++ N ∷ [] })) same fit) w

@@ -11,7 +11,8 @@ use Rattle.st_ids.specs.declared.names.Rev.{Rev}
 use Rattle.st_lists.proofs.Names.{fewer_names, names_append}
 use Rattle.st_lists.specs.Clients.{joined_of}
 use Rattle.st_lists.specs.Lines.{AreStanding, HasHead, HaveOwnTransactions, StandsOn, all_commits, branch_line, commits_of, edited_on, main_line, on_branch, own_of}
-use Rattle.st_lists.specs.Log.{commits_in, log_and_waiting}
+use Rattle.st_lists.specs.Log.{commits_in, log_and_waiting, ranges_in}
+use Rattle.st_world_laws.proofs.Ranges.{carried_as}
 use Rattle.st_lists.specs.Names.{names_in, names_made, names_on, names_on_all, unsequenced}
 use Rattle.st_lists.specs.declared.lists.Branch.{Branch}
 use Rattle.st_lists.specs.declared.lists.Client.{Client}
@@ -217,6 +218,7 @@ module _ (h : HeaderView) (st : IsStart (opening_document h)) where
         own = k.own;
         ids = λ N i s. lower N (has-append (log_and_waiting log c) (own_of bs) N i) s;
         texts = k.texts;
+        carried = carried_as (ranges_in log) c d refl refl refl refl more k.carried;
         transaction = transactions_beside h log log (main_line c) (main_line d) c d c.transaction k.transaction refl more refl refl still;
         branches = are;
       }

@@ -7,8 +7,8 @@ use Rattle.st_log_laws.proofs.Shorter.{has_longer, new_shorter, sublist_itself, 
 use Rattle.st_marks.specs.Extends.{item_gained, item_kept}
 use Rattle.st_world_laws.proofs.Beside.{KeepsFronts, among_same, branches_beside, branches_stay, same_fronts, transactions_beside}
 use Rattle.st_world_laws.proofs.Lookup.{IsOpenAt, own_by_places, own_gone, own_same}
-use Rattle.st_world_laws.specs.Worlds.{HasMain, IsBranch, IsClient, IsQueue, IsTransaction, LineFits}
-use Rattle.std.proofs.Common.{◌≡◌, ◌≢◌, ◌≤◌, ◌<◌, ◌+◌, ◌==◌, ℕ, zero, suc, Bool, true, false, cond, List, [], ◌∷◌, ◌++◌, length, map, take, drop, Option, Some, None, IfSome, is_some, refl, sym, ap, ◌∙◌, subst, arith, append_assoc, length-append, ◌⊎◌, inl, inr}
+use Rattle.st_world_laws.specs.Worlds.{HasMain, IsBranch, IsCarried, IsClient, IsQueue, IsTransaction, LineFits}
+use Rattle.std.proofs.Common.{◌≡◌, ◌≢◌, ◌≤◌, ◌<◌, ◌+◌, ◌==◌, ℕ, zero, suc, Bool, true, false, cond, List, [], ◌∷◌, ◌++◌, length, take, drop, Option, Some, None, IfSome, is_some, refl, sym, ap, ◌∙◌, subst, arith, append_assoc, length-append, ◌⊎◌, inl, inr}
 use Rattle.std.specs.List.{slice_get, cons_option, AllByRecursion}
 use Rattle.std.proofs.lemmas.Bool.Decides.{nat_tests}
 use Rattle.std.proofs.lemmas.List.{append-nil, take_all}
@@ -28,11 +28,13 @@ use Rattle.st_log_laws.proofs.Turns.{front, then_one, turn_extends, made_in_run}
 use Rattle.st_log_laws.proofs.Room.{room_in_run}
 use Rattle.st_log_laws.proofs.Beside.{another_later, later_fits, one_fits}
 use Rattle.st_script.specs.Header.{HeaderView}
-use Rattle.st_lists.specs.Log.{commit_in, commits_by, commits_of_text, intents_of, is_text, log_and_waiting, own_in_flight, waiting, commit_of, commits_in, log_with}
-use Rattle.st_lists.specs.Clients.{HasReceived, joined_of, queue_with, with_ack, with_commit, with_connection, without_connection, new_client, next_rev, received_by}
+use Rattle.st_clusters.specs.Log.{carried_count}
+use Rattle.st_world_laws.proofs.Ranges.{carried_ack, carried_anew, carried_as, carried_beside, carried_commit, carried_new, carried_offline, carried_sent, entered_ranges, same_ranges}
+use Rattle.st_lists.specs.Log.{range_in, ranges_in, commit_in, commits_by, commits_of_text, intents_of, is_text, log_and_waiting, own_in_flight, waiting, commit_of, commits_in, log_with}
+use Rattle.st_lists.specs.Clients.{HasReceived, carried_of, ids_from, joined_of, queue_with, with_ack, with_commit, with_connection, without_connection, texts_from, new_client, next_rev, received_by}
 use Rattle.st_world.specs.World.{opening_document}
 use Rattle.st_lists.specs.declared.lists.Body.{Body}
-use Rattle.st_lists.specs.declared.lists.Body.TheVariants.{Ack, Join, Commit}
+use Rattle.st_lists.specs.declared.lists.Body.TheVariants.{Ack, Join, Leave, Commit}
 use Rattle.st_lists.specs.declared.lists.Client.{Client}
 use Rattle.st_lists.specs.declared.lists.Entry.{Entry}
 use Rattle.st_lists.specs.declared.lists.Transaction.{Transaction}
@@ -157,13 +159,20 @@ queue_rest : (Ws : List Intent) (b : Bool) (rest : List Body) → b ≡ true →
 queue_rest Ws b rest on is = subst (λ x. IsQueue Ws x rest) (sym on) is
 
 -- the queue of commits that wait anew
-queue_anew : (n : ℕ) (Ws : List Intent) → intents_of (map (Commit n) Ws) ≡ Ws
-queue_anew n [] = refl
-queue_anew n (N ∷ Ws) = ap (λ l. N ∷ l) (queue_anew n Ws)
+queue_anew : (n s taken ids : ℕ) (Ws : List Intent) → intents_of (texts_from n s taken ids Ws) ≡ Ws
+queue_anew n s taken ids [] = refl
+queue_anew n s taken ids (N ∷ Ws) = ap (λ l. N ∷ l) (queue_anew n s ids ids Ws)
 
-texts_anew : (n : ℕ) (Ws : List Intent) → AllByRecursion (λ (q : Body). is_text q ≡ true) (map (Commit n) Ws)
-texts_anew n [] = tt
-texts_anew n (N ∷ Ws) = (refl, texts_anew n Ws)
+texts_anew : (n s taken ids : ℕ) (Ws : List Intent) → AllByRecursion (λ (q : Body). is_text q ≡ true) (texts_from n s taken ids Ws)
+texts_anew n s taken ids [] = tt
+texts_anew n s taken ids (N ∷ Ws) = (refl, texts_anew n s ids ids Ws)
+
+-- a text without a commit carries no ids
+pub no_ids : (text : Body) → commit_in text ≡ None → range_in text ≡ None
+no_ids (Join uuid) none = refl
+no_ids Leave none = refl
+no_ids (Ack reference) none = refl
+no_ids (Commit reference ids N) none = cc
 
 module _ (h : HeaderView) (st : IsStart (opening_document h)) where
   -- ## What a client has
@@ -304,12 +313,13 @@ module _ (h : HeaderView) (st : IsStart (opening_document h)) where
         few = omega (arith, length-append c.pending (N ∷ []), few);
         few_names = few_now;
         under_way = ap (λ l. l ++ N ∷ []) k.under_way ∙ append_assoc B Q (N ∷ []) ∙ ap (λ l. B ++ l) (sym now);
-        queued = subst (λ l. IsQueue l c.connected (queue_with c (Commit c.received N))) (sym now) (queue_more Q c.queue c.connected (Commit c.received N) k.queued);
+        queued = subst (λ l. IsQueue l c.connected (queue_with c (Commit c.received (ids_from c.session c.taken c.ids) N))) (sym now) (queue_more Q c.queue c.connected (Commit c.received (ids_from c.session c.taken c.ids) N) k.queued);
         shown_fit = fits_more log (main_line c) D N k.shown_fit shown last;
         sent_fit = subst (FitInTurn O) more (later_fits (opening ∷ []) O D (A ++ c.pending) L N st.sound st.made (shown_among log c k) k.shown_fit k.sent_fit shown fits fresh_sent room_all);
         new = subst (HaveNewRevisions (opening ∷ [])) between (new_between (opening ∷ []) L W N k.new fresh);
         own = subst (AllByRecursion (λ (M : Intent). M.rev.session ≡ c.session)) (sym now) (AllByRecursion-append (λ (M : Intent). M.rev.session ≡ c.session) Q (N ∷ []) k.own (session, tt));
-        texts = texts_more c.queue c.connected (Commit c.received N) refl k.texts;
+        texts = texts_more c.queue c.connected (Commit c.received (ids_from c.session c.taken c.ids) N) refl k.texts;
+        carried = carried_commit (ranges_in log) c N k.carried;
         ids = λ M i s. lower M (has_between L W N M (subst (λ l. Has l M) (sym between) i)) s;
         transaction = none_open c.transaction _ none;
         branches = branches_beside h log log c (with_commit c N) k.branches (record { branches = refl; forks = refl; session = refl; ids = omega arith; received = omega arith }) (same_fronts log) grown
@@ -343,6 +353,7 @@ module _ (h : HeaderView) (st : IsStart (opening_document h)) where
         new = k.new;
         own = k.own;
         texts = k.texts;
+        carried = carried_as (ranges_in log) c d refl refl refl refl more k.carried;
         ids = λ N i s. omega (arith, k.ids N i s, more);
         transaction = tt;
         branches = branches_stay h log log c d k.branches (record { branches = refl; forks = refl; session = refl; ids = more; received = omega arith }) (same_fronts log) (sublist_itself (received_by log c ++ c.pending)) refl
@@ -355,7 +366,7 @@ module _ (h : HeaderView) (st : IsStart (opening_document h)) where
   -- with no transaction open any more, and with these ids generated
   pub client_committed : (log : List Entry) (c : Client) (ids : ℕ) (D : Document) (N : Intent) → IsClient h log c → HasMain h log c D → Fits D N → N.rev.session ≡ c.session → N.rev.num ≤ ids → c.ids ≤ ids
       → (Has (revisions (all_commits log c) ++ opening ∷ []) N.rev → ⊥) → ((b : Branch) (t : Transaction) → Has c.branches b → b.transaction ≡ Some t → t.rev ≢ N.rev) → length c.pending < 256
-      → (names_in c.pending + names_on_all c.branches) + names_made N ≤ 16384 → names_in (commits_in log) ≤ 131072 → IsClient h log (record (with_commit c N) { ids = ids; transaction = None })
+      → (names_in c.pending + names_on_all c.branches) + names_made N ≤ 16384 → names_in (commits_in log) ≤ 131072 → IsClient h log (with_commit (record c { ids = ids; transaction = None }) N)
   client_committed log c ids D N k shown fits session num more_ids fresh apart few few_names all =
       let d : Client = record c { ids = ids; transaction = None } in
       let sum : unsequenced d ≡ (0 + names_in c.pending) + names_on_all c.branches = refl in
@@ -384,6 +395,7 @@ module _ (h : HeaderView) (st : IsStart (opening_document h)) where
         new = k.new;
         own = k.own;
         texts = AllByRecursion-append (λ (q : Body). is_text q ≡ true) c.queue (Ack c.received ∷ []) k.texts (refl, tt);
+        carried = carried_ack (ranges_in log) c (with_ack c) refl refl refl refl (omega arith) k.carried;
         ids = k.ids;
         transaction = transactions_beside h log log (main_line c) (main_line (with_ack c)) c (with_ack c) c.transaction k.transaction refl (omega arith) refl refl (λ t e i j. i.new j);
         branches = branches_stay h log log c (with_ack c) k.branches (record { branches = refl; forks = refl; session = refl; ids = omega arith; received = omega arith }) (same_fronts log) (sublist_itself (received_by log c ++ c.pending)) refl
@@ -404,6 +416,7 @@ module _ (h : HeaderView) (st : IsStart (opening_document h)) where
     new = k.new;
     own = k.own;
     texts = tt;
+    carried = carried_offline (ranges_in log) c k.carried;
     ids = k.ids;
     transaction = transactions_beside h log log (main_line c) (main_line (without_connection c)) c (without_connection c) c.transaction k.transaction refl (omega arith) refl refl (λ t e i j. i.new j);
     branches = branches_stay h log log c (without_connection c) k.branches (record { branches = refl; forks = refl; session = refl; ids = omega arith; received = omega arith }) (same_fronts log) (sublist_itself (received_by log c ++ c.pending)) refl
@@ -448,6 +461,7 @@ module _ (h : HeaderView) (st : IsStart (opening_document h)) where
         new = subst (λ l. HaveNewRevisions (opening ∷ []) ((commits_in log ++ l) ++ own_of c.branches)) still k.new;
         own = subst (AllByRecursion (λ (M : Intent). M.rev.session ≡ c.session)) still k.own;
         texts = k.texts;
+        carried = carried_as (ranges_in log) c d refl refl refl refl (omega arith) k.carried;
         ids = λ M i s. k.ids M (subst (λ l. Has ((commits_in log ++ l) ++ own_of c.branches) M) (sym still) i) s;
         transaction = none_open c.transaction _ none;
         branches = branches_stay h log log c d k.branches (record { branches = refl; forks = refl; session = refl; ids = omega arith; received = omega arith }) (same_fronts log) (among_same all) (ap (λ l. (commits_in log ++ l) ++ own_of c.branches) still)
@@ -501,6 +515,7 @@ module _ (h : HeaderView) (st : IsStart (opening_document h)) where
         new = subst (λ l. HaveNewRevisions (opening ∷ []) ((commits_in log ++ l) ++ own_of c.branches)) still k.new;
         own = subst (AllByRecursion (λ (M : Intent). M.rev.session ≡ c.session)) still k.own;
         texts = k.texts;
+        carried = carried_as (ranges_in log) c d refl refl refl refl (omega arith) k.carried;
         ids = λ M i s. k.ids M (subst (λ l. Has ((commits_in log ++ l) ++ own_of c.branches) M) (sym still) i) s;
         transaction = none_open c.transaction _ none;
         branches = branches_stay h log log c d k.branches (record { branches = refl; forks = refl; session = refl; ids = omega arith; received = omega arith }) (same_fronts log) (subst (λ Ns. IsSublist (A ++ c.pending) (Ns ++ c.pending)) (sym now) (sublist_of refl (sym (append_assoc A (N ∷ []) c.pending)) (sublist_joined (sublist_itself A) (item_gained (sublist_itself c.pending))))) (ap (λ l. (commits_in log ++ l) ++ own_of c.branches) still)
@@ -526,6 +541,7 @@ module _ (h : HeaderView) (st : IsStart (opening_document h)) where
         new = subst (λ l. HaveNewRevisions (opening ∷ []) ((commits_in log ++ l) ++ own_of c.branches)) still k.new;
         own = subst (AllByRecursion (λ (M : Intent). M.rev.session ≡ c.session)) still k.own;
         texts = k.texts;
+        carried = carried_as (ranges_in log) c d refl refl refl refl (omega arith) k.carried;
         ids = λ M i s. k.ids M (subst (λ l. Has ((commits_in log ++ l) ++ own_of c.branches) M) (sym still) i) s;
         transaction = none_open c.transaction _ none;
         branches = branches_stay h log log c d k.branches (record { branches = refl; forks = refl; session = refl; ids = omega arith; received = omega arith }) (same_fronts log) (among_same (ap (λ l. l ++ c.pending) (sym now))) (ap (λ l. (commits_in log ++ l) ++ own_of c.branches) still)
@@ -560,6 +576,7 @@ module _ (h : HeaderView) (st : IsStart (opening_document h)) where
         new = subst (HaveNewRevisions (opening ∷ [])) whole k.new;
         own = subst (AllByRecursion (λ (M : Intent). M.rev.session ≡ c.session)) still k.own;
         texts = k.texts;
+        carried = subst (λ rs. IsCarried rs c) (sym (same_ranges log session text (no_ids text none))) k.carried;
         ids = λ N i s. k.ids N (subst (λ l. Has l N) (sym whole) i) s;
         transaction = transactions_beside h log (log_with log session text) (main_line c) (main_line c) c c c.transaction k.transaction refl (omega arith) refl (ap (λ (es : List Entry). commits_in es ++ c.pending) (entered_front log session text c.received k.within))
             (λ t e i j. i.new (subst (λ l. Has (revisions l ++ opening ∷ []) t.rev) (sym whole) j));
@@ -568,37 +585,38 @@ module _ (h : HeaderView) (st : IsStart (opening_document h)) where
       }
 
   -- of a client that joins
-  pub client_joined : (log : List Entry) (session : ℕ) (name : List ℕ) → FitInTurn (opening_document h) (commits_in log) → HaveNewRevisions (opening ∷ []) (commits_in log)
-      → ((N : Intent) → Has (commits_in log) N → N.rev.session ≡ session → ⊥) → IsClient h (log_with log session Join) (new_client (length log + 1) session name)
-  client_joined log session name fit new none =
+  pub client_joined : (log : List Entry) (session uuid : ℕ) (name : List ℕ) → 1 ≤ session → carried_count session (ranges_in log) ≡ 0 → FitInTurn (opening_document h) (commits_in log) → HaveNewRevisions (opening ∷ []) (commits_in log)
+      → ((N : Intent) → Has (commits_in log) N → N.rev.session ≡ session → ⊥) → IsClient h (log_with log session (Join uuid)) (new_client (length log + 1) session uuid name)
+  client_joined log session uuid name one carried fit new none =
       let O = opening_document h in
-      let e = last_entry log session Join in
-      let size : length (log_with log session Join) ≡ length log + 1 = omega (arith, length-append log (e ∷ [])) in
-      let commits : commits_in log ≡ commits_in (log_with log session Join) = sym (entered_commits log session Join ∙ append-nil (commits_in log)) in
-      let whole : take (length log + 1) (log_with log session Join) ≡ log_with log session Join = take_all (length log + 1) (log_with log session Join) (omega (arith, size)) in
-      let d : Client = new_client (length log + 1) session name in
-      let flight : own_in_flight (log_with log session Join) d ≡ [] = ap (commits_by session) (drop_whole (length log + 1) (log_with log session Join) size) in
-      let nothing : [] ≡ waiting (log_with log session Join) d = sym (waits (log_with log session Join) d [] (sym (ap (λ l. l ++ []) flight))) in
-      let shown : commits_in log ≡ commits_in (take (length log + 1) (log_with log session Join)) ++ [] =
-      commits ∙ sym (append-nil (commits_in (log_with log session Join))) ∙ ap (λ l. commits_in l ++ []) (sym whole) in
-      let all : commits_in log ≡ log_and_waiting (log_with log session Join) d = commits ∙ sym (append-nil (commits_in (log_with log session Join))) ∙ ap (λ l. commits_in (log_with log session Join) ++ l) nothing in
+      let e = last_entry log session (Join uuid) in
+      let size : length (log_with log session (Join uuid)) ≡ length log + 1 = omega (arith, length-append log (e ∷ [])) in
+      let commits : commits_in log ≡ commits_in (log_with log session (Join uuid)) = sym (entered_commits log session (Join uuid) ∙ append-nil (commits_in log)) in
+      let whole : take (length log + 1) (log_with log session (Join uuid)) ≡ log_with log session (Join uuid) = take_all (length log + 1) (log_with log session (Join uuid)) (omega (arith, size)) in
+      let d : Client = new_client (length log + 1) session uuid name in
+      let flight : own_in_flight (log_with log session (Join uuid)) d ≡ [] = ap (commits_by session) (drop_whole (length log + 1) (log_with log session (Join uuid)) size) in
+      let nothing : [] ≡ waiting (log_with log session (Join uuid)) d = sym (waits (log_with log session (Join uuid)) d [] (sym (ap (λ l. l ++ []) flight))) in
+      let shown : commits_in log ≡ commits_in (take (length log + 1) (log_with log session (Join uuid))) ++ [] =
+      commits ∙ sym (append-nil (commits_in (log_with log session (Join uuid)))) ∙ ap (λ l. commits_in l ++ []) (sym whole) in
+      let all : commits_in log ≡ log_and_waiting (log_with log session (Join uuid)) d = commits ∙ sym (append-nil (commits_in (log_with log session (Join uuid)))) ∙ ap (λ l. commits_in (log_with log session (Join uuid)) ++ l) nothing in
       record {
         within = omega (arith, size);
         few = omega arith;
         few_names = omega arith;
-        under_way = sym (ap (λ l. l ++ waiting (log_with log session Join) d) flight ∙ sym nothing);
+        under_way = sym (ap (λ l. l ++ waiting (log_with log session (Join uuid)) d) flight ∙ sym nothing);
         queued = nothing;
         shown_fit = subst (FitInTurn O) shown fit;
         sent_fit = subst (FitInTurn O) all fit;
-        new = subst (HaveNewRevisions (opening ∷ [])) (all ∙ sym (append-nil (log_and_waiting (log_with log session Join) d))) new;
+        new = subst (HaveNewRevisions (opening ∷ [])) (all ∙ sym (append-nil (log_and_waiting (log_with log session (Join uuid)) d))) new;
         own = subst (AllByRecursion (λ (M : Intent). M.rev.session ≡ session)) nothing tt;
         texts = tt;
-        ids = λ N i s. absurd (none N (subst (λ l. Has l N) (append-nil (log_and_waiting (log_with log session Join) d) ∙ sym all) i) s);
+        carried = carried_new (ranges_in (log_with log session (Join uuid))) d one refl refl (ap (carried_count session) (same_ranges log session (Join uuid) refl) ∙ carried);
+        ids = λ N i s. absurd (none N (subst (λ l. Has l N) (append-nil (log_and_waiting (log_with log session (Join uuid)) d) ∙ sym all) i) s);
         transaction = tt;
         branches = record { few = omega arith; numbers = tt; each = tt; standing = tt; own = tt; transactions = own_by_places d (λ i j r x y. nowhere i r x) };
       }
     where
-      nowhere : {i j : ℕ} (k : ℕ) (r : Rev) → IsOpenAt (new_client (length log + 1) session name) k r → i ≡ j
+      nowhere : {i j : ℕ} (k : ℕ) (r : Rev) → IsOpenAt (new_client (length log + 1) session uuid name) k r → i ≡ j
       nowhere zero r x = absurd (not_some x.0 x.1)
         where
           not_some : (t : Transaction) → None ≡ Some t → ⊥
@@ -606,15 +624,15 @@ module _ (h : HeaderView) (st : IsStart (opening_document h)) where
       nowhere (suc k) r x = absurd x.2
 
   -- of one that comes back
-  pub client_returned : (log : List Entry) (c : Client) → IsClient h log c → c.transaction ≡ None → IsClient h (log_with log c.session Join) (with_connection log c)
+  pub client_returned : (log : List Entry) (c : Client) → IsClient h log c → c.transaction ≡ None → IsClient h (log_with log c.session (Join c.uuid)) (with_connection log c)
   client_returned log c k none =
       let O = opening_document h in
-      let longer = log_with log c.session Join in
-      let e = last_entry log c.session Join in
+      let longer = log_with log c.session (Join c.uuid) in
+      let e = last_entry log c.session (Join c.uuid) in
       let W = waiting log c in
       let d : Client = with_connection log c in
       let size : length longer ≡ length log + 1 = omega (arith, length-append log (e ∷ [])) in
-      let commits : commits_in log ≡ commits_in longer = sym (entered_commits log c.session Join ∙ append-nil (commits_in log)) in
+      let commits : commits_in log ≡ commits_in longer = sym (entered_commits log c.session (Join c.uuid) ∙ append-nil (commits_in log)) in
       let whole : take (length log + 1) longer ≡ longer = take_all (length log + 1) longer (omega (arith, size)) in
       let flight : own_in_flight longer d ≡ [] = ap (commits_by c.session) (drop_whole (length log + 1) longer size) in
       let still : W ≡ waiting longer d = sym (waits longer d W (sym (ap (λ l. l ++ W) flight))) in
@@ -629,15 +647,16 @@ module _ (h : HeaderView) (st : IsStart (opening_document h)) where
         few = omega (arith, size_pending, k.few);
         few_names = names;
         under_way = still ∙ sym (ap (λ l. l ++ waiting longer d) flight);
-        queued = queue_anew (length log + 1) W ∙ still;
+        queued = queue_anew (length log + 1) c.session (carried_of log c) c.ids W ∙ still;
         shown_fit = subst (FitInTurn O) shown k.sent_fit;
         sent_fit = subst (FitInTurn O) all k.sent_fit;
         new = subst (HaveNewRevisions (opening ∷ [])) every k.new;
         own = subst (AllByRecursion (λ (M : Intent). M.rev.session ≡ c.session)) still k.own;
-        texts = texts_anew (length log + 1) W;
+        texts = texts_anew (length log + 1) c.session (carried_of log c) c.ids W;
+        carried = subst (λ rs. IsCarried rs d) (sym (same_ranges log c.session (Join c.uuid) refl)) (carried_anew (ranges_in log) c d (length log + 1) W refl refl refl refl k.carried);
         ids = λ N i s. k.ids N (subst (λ l. Has l N) (sym every) i) s;
         transaction = none_open c.transaction _ none;
-        branches = branches_stay h log longer c d k.branches (record { branches = refl; forks = refl; session = refl; ids = omega arith; received = omega (arith, k.within) }) (fronts_with log c.session Join)
+        branches = branches_stay h log longer c d k.branches (record { branches = refl; forks = refl; session = refl; ids = omega arith; received = omega (arith, k.within) }) (fronts_with log c.session (Join c.uuid))
             (sublist_on (shown_among log c k) (among_same shown)) every (own_same c d k.branches.transactions k.branches.numbers refl refl);
       }
 
@@ -670,6 +689,7 @@ module _ (h : HeaderView) (st : IsStart (opening_document h)) where
         new = subst (HaveNewRevisions (opening ∷ [])) every k.new;
         own = subst (AllByRecursion (λ (M : Intent). M.rev.session ≡ c.session)) still (all_behind (λ (M : Intent). M.rev.session ≡ c.session) X R (subst (AllByRecursion (λ (M : Intent). M.rev.session ≡ c.session)) first k.own));
         texts = (subst (AllByRecursion (λ (q : Body). is_text q ≡ true)) is k.texts).1;
+        carried = subst (λ rs. IsCarried rs d) (sym (entered_ranges log c.session text)) (carried_sent (ranges_in log) c text rest is k.carried);
         ids = λ M i s. k.ids M (subst (λ l. Has l M) (sym every) i) s;
         transaction = transactions_beside h log (log_with log c.session text) (main_line c) (main_line (record c { queue = rest })) c (record c { queue = rest }) c.transaction k.transaction refl (omega arith) refl (ap (λ (es : List Entry). commits_in es ++ c.pending) (entered_front log c.session text c.received k.within))
             (λ t e i j. i.new (subst (λ l. Has (revisions l ++ opening ∷ []) t.rev) (sym every) j));
@@ -716,6 +736,7 @@ module _ (h : HeaderView) (st : IsStart (opening_document h)) where
         new = subst (HaveNewRevisions (opening ∷ [])) every whole;
         own = subst (AllByRecursion (λ (M : Intent). M.rev.session ≡ d.session)) still l.own;
         texts = l.texts;
+        carried = subst (λ rs. IsCarried rs d) (sym (entered_ranges log c.session text)) (carried_beside (ranges_in log) c d text rest is k.carried differ l.carried);
         ids = λ M i s. ids N mine M (has_between L (Q ++ W) N M (subst (λ x. Has x M) (sym every) i)) s;
         transaction = transactions_beside h log (log_with log c.session text) (main_line d) (main_line d) d d d.transaction l.transaction refl (omega arith) refl (ap (λ (es : List Entry). commits_in es ++ d.pending) (entered_front log c.session text d.received l.within))
             (λ t e i j. apart_from (main_line d) t N mine i (rev_between (opening ∷ []) L (Q ++ W) N t.rev (subst (λ x. Has (revisions x ++ opening ∷ []) t.rev) (sym every) j)));

@@ -4,9 +4,9 @@ use Rattle.st_world_laws.proofs.Parts.{editable, client_begun, client_commits, c
 use Rattle.st_lists.specs.Lines.{HasHead, Line, commits_of, main_line, with_commit_on}
 use Rattle.st_lists.specs.Names.{names_in, names_in_text, names_made, names_on_all}
 use Rattle.st_lists.specs.declared.lists.Branch.{Branch}
-use Rattle.st_world_laws.proofs.Clients.{client_acked, client_after_text, client_beside, client_committed, client_joined, client_none, client_offline, client_other, client_own, client_returned, client_sent, next_apart, next_new}
+use Rattle.st_world_laws.proofs.Clients.{client_acked, client_after_text, client_beside, client_committed, client_joined, client_none, client_offline, client_other, client_own, client_returned, client_sent, next_apart, no_ids, next_new}
 use Rattle.st_world_laws.proofs.Meant.{IsEditable, IsMeaning, IsMeant}
-use Rattle.st_world_laws.specs.Worlds.{HasMain, HaveOwnSessions, IsClient, IsEntryOf, IsHeader, IsTransaction, KeepToSchemas, LineFits}
+use Rattle.st_world_laws.specs.Worlds.{HasMain, HasOwnIds, HaveOwnSessions, IsClient, IsEntryOf, IsHeader, IsTransaction, KeepToSchemas, LineFits}
 use Rattle.st_world.specs.World.{HasShown, IsAfterEdit, IsAfterNeed, IsDeliveredIn, IsDeliveredTo, IsEditedIn, IsJoined, abort, after_commit, after_edit, begin, commit, next_names, opening_document, with_beginning, with_new_on}
 use Rattle.st_edits.specs.InEffect.{last_in_effect}
 use Rattle.std.proofs.Common.{◌≡◌, ◌≢◌, ◌≤◌, ◌+◌, ◌==◌, ℕ, zero, suc, Bool, true, false, List, [], ◌∷◌, ◌++◌, length, drop, Option, Some, None, IfSome, Result, Ok, Err, refl, sym, ap, ◌∙◌, subst, arith, inl, is_some}
@@ -21,8 +21,11 @@ use Rattle.st_log_laws.specs.Names.{HaveNewRevisions}
 use Rattle.st_log_laws.specs.Turns.{FitInTurn}
 use Rattle.st_script.specs.Header.{HeaderView}
 use Rattle.st_script.specs.declared.answer.Answer.{Answer}
-use Rattle.st_lists.specs.Log.{commit_in, commit_of, commits_in, commits_of_text, log_with, sessions_in}
-use Rattle.st_lists.specs.Clients.{empty_state, joined_of, new_client, next_rev, with_ack, pending_after, with_begun, with_commit, with_connection, with_new_commit, with_received, without_connection, without_transaction}
+use Rattle.st_clusters.specs.Log.{AreInTurn}
+use Rattle.st_clusters.specs.declared.ids.IdRange.{IdRange}
+use Rattle.st_world_laws.proofs.Ranges.{entered_ranges, none_carried, own_ids_sent, ranges_sent, same_ranges}
+use Rattle.st_lists.specs.Log.{commit_in, commit_of, commits_in, commits_of_text, log_with, ranges_in, sessions_in}
+use Rattle.st_lists.specs.Clients.{empty_state, joined_of, new_client, next_rev, with_ack, pending_after, with_begun, with_commit, with_connection, with_id, with_new_commit, with_received, without_connection, without_transaction}
 use Rattle.st_lists.specs.Open.{with_open}
 use Rattle.st_marks.proofs.OneVerdict.{one_run}
 use Rattle.std.specs.Option.{option_and_then, option_map_or}
@@ -72,6 +75,8 @@ begun_sound h k = record {
   log_new = record { once = tt; new = λ N i j. i };
   schema = begun_keeps h Any k tt;
   few_names = omega arith;
+  own_ids = tt;
+  ranges = tt;
 }
 
 -- ## One client goes on
@@ -92,6 +97,8 @@ set_sound h w i c c' s at client session keeps = record {
   log_new = s.log_new;
   schema = keeps;
   few_names = s.few_names;
+  own_ids = s.own_ids;
+  ranges = s.ranges;
 }
 
 -- ## What a step leaves of a client's numbers
@@ -111,7 +118,7 @@ near_same c c' same = record {
   forks = omega (arith, ap (λ (x : Client). x.forks) same);
 }
 
-pub near_committed : (c : Client) (k : ℕ) (N : Intent) → IsNear c (record (with_commit_on c k N) { ids = c.ids + 1 })
+pub near_committed : (c : Client) (k : ℕ) (N : Intent) → IsNear c (with_commit_on (with_id c) k N)
 near_committed c zero N = record { session = refl; connected = refl; ids = omega arith; forks = omega arith }
 near_committed c (suc k) N = record { session = refl; connected = refl; ids = omega arith; forks = omega arith }
 
@@ -145,7 +152,7 @@ module _ (h : HeaderView) (st : IsStart (opening_document h)) where
           let names : (names_in c.pending + names_on_all c.branches) + names_made N ≤ 16384 = omega (arith, waiting) in
           let apart : (b : Branch) (t : Transaction) → Has c.branches b → b.transaction ≡ Some t → t.rev ≢ N.rev = λ b t i x e. next_apart h st log c k b t i x (e ∙ m.rev) in
           let now = client_committed h st log c (c.ids + 1) D N k main m.fits session (omega (arith, num)) (omega arith) (next_new h st log c N.rev k m.rev) apart few.0 names all in
-          subst (IsClient h log) (ap (λ (p : Client × Answer). p.0) is) (subst (λ (o : Option Transaction). IsClient h log (record (with_commit c N) { ids = c.ids + 1; transaction = o })) (sym none) now)
+          subst (IsClient h log) (ap (λ (p : Client × Answer). p.0) is) (subst (λ (o : Option Transaction). IsClient h log (with_commit (record c { ids = c.ids + 1; transaction = o }) N)) (sym none) now)
 
   client_taken : (log : List Entry) (c : Client) (e : Entry) → IsClient h log c → names_in (commits_in log) ≤ 131072 → slice_get log c.received ≡ Some e → c.transaction ≡ None → IsClient h log (with_received e c)
   client_taken log c e k all at none = go (commit_of e) refl
@@ -347,7 +354,7 @@ module _ (h : HeaderView) (st : IsStart (opening_document h)) (K : Rev → List 
         let names : (names_in c.pending + names_on_all c.branches) + names_made B ≤ 16384 = omega (arith, waiting, nothing) in
         let apart : (b : Branch) (t : Transaction) → Has c.branches b → b.transaction ≡ Some t → t.rev ≢ B.rev = λ b t i x e. next_apart h st log c k b t i x (e ∙ named) in
         let now = client_committed h st log c (c.ids + 1) u.after B k u.now fits session (omega (arith, num)) (omega arith) (next_new h st log c B.rev k named) apart (within_pending h st c few_pending) names few in
-        let next : IsClient h log (with_new_commit c B) = subst (λ (o : Option Transaction). IsClient h log (record (with_commit c B) { ids = c.ids + 1; transaction = o })) (sym none) now in
+        let next : IsClient h log (with_new_commit c B) = subst (λ (o : Option Transaction). IsClient h log (with_commit (record c { ids = c.ids + 1; transaction = o }) B)) (sym none) now in
         record {
           client = next;
           session = refl;
@@ -446,6 +453,8 @@ sent_sound h w i c text rest s at is few =
       log_new = subst (HaveNewRevisions (opening ∷ [])) commits last.new;
       schema = sent_keeps h st Any w.log w.clients i c c' text s.clients at is refl last.fit last.new s.schema;
       few_names = omega (arith, few, names);
+      own_ids = AllByRecursion-append HasOwnIds w.log (last_entry w.log c.session text ∷ []) s.own_ids (own_ids_sent (ranges_in w.log) c text rest is k.carried, tt);
+      ranges = subst AreInTurn (sym (entered_ranges w.log c.session text)) (ranges_sent (ranges_in w.log) c text rest is k.carried s.ranges);
     }
 
 -- ## Sessions come and go
@@ -454,26 +463,28 @@ sent_sound h w i c text rest s at is few =
 pub apart_from_new : (log : List Entry) (cs : List Client) → AllByRecursion (λ (c : Client). c.session ≤ sessions_in log) cs → (x : Client) → Has cs x → x.session ≢ sessions_in log + 1
 apart_from_new log cs given x h e = omega (arith, all-has (λ (c : Client). c.session ≤ sessions_in log) cs x given h, e)
 
-pub joined_sound : (h : HeaderView) (w : WorldState) (name : List ℕ) → IsWorld h w
-    → IsWorld h (record w { log = log_with w.log (sessions_in w.log + 1) Join; clients = w.clients ++ new_client (length w.log + 1) (sessions_in w.log + 1) name ∷ [] })
-joined_sound h w name s =
+pub joined_sound : (h : HeaderView) (w : WorldState) (uuid : ℕ) (name : List ℕ) → IsWorld h w
+    → IsWorld h (record w { log = log_with w.log (sessions_in w.log + 1) (Join uuid); clients = w.clients ++ new_client (length w.log + 1) (sessions_in w.log + 1) uuid name ∷ [] })
+joined_sound h w uuid name s =
     let st = opened_start h s.header in
     let session = sessions_in w.log + 1 in
     let L = commits_in w.log in
-    let longer = log_with w.log session Join in
-    let c = new_client (length w.log + 1) session name in
-    let commits : L ≡ commits_in longer = sym (entered_commits w.log session Join ∙ append-nil L) in
-    let client = client_joined h st w.log session name s.log_fit s.log_new (λ N i e. omega (arith, of_sessions w.log N s.log i, e)) in
+    let longer = log_with w.log session (Join uuid) in
+    let c = new_client (length w.log + 1) session uuid name in
+    let commits : L ≡ commits_in longer = sym (entered_commits w.log session (Join uuid) ∙ append-nil L) in
+    let client = client_joined h st w.log session uuid name (omega arith) (none_carried w.log session (omega arith) s.own_ids) s.log_fit s.log_new (λ N i e. omega (arith, of_sessions w.log N s.log i, e)) in
     record {
       header = s.header;
-      clients = AllByRecursion-append (IsClient h longer) w.clients (c ∷ []) (all_as (IsClient h w.log) (IsClient h longer) w.clients (λ d k. client_after_text h st w.log session Join d refl k) s.clients) (client, tt);
+      clients = AllByRecursion-append (IsClient h longer) w.clients (c ∷ []) (all_as (IsClient h w.log) (IsClient h longer) w.clients (λ d k. client_after_text h st w.log session (Join uuid) d refl k) s.clients) (client, tt);
       sessions = distinct_more session_of w.clients c s.sessions (apart_from_new w.log w.clients s.given);
-      given = AllByRecursion-append (λ (x : Client). x.session ≤ sessions_in longer) w.clients (c ∷ []) (given_still w.log session Join w.clients s.given) (omega (arith, sessions_entered w.log session Join), tt);
-      log = AllByRecursion-append IsEntryOf w.log (last_entry w.log session Join ∷ []) s.log (tt, tt);
+      given = AllByRecursion-append (λ (x : Client). x.session ≤ sessions_in longer) w.clients (c ∷ []) (given_still w.log session (Join uuid) w.clients s.given) (omega (arith, sessions_entered w.log session (Join uuid)), tt);
+      log = AllByRecursion-append IsEntryOf w.log (last_entry w.log session (Join uuid) ∷ []) s.log (tt, tt);
       log_fit = subst (FitInTurn (opening_document h)) commits s.log_fit;
       log_new = subst (HaveNewRevisions (opening ∷ [])) commits s.log_new;
-      schema = joined_keeps h st Any w.log w.clients session name c s.clients refl s.schema;
+      schema = joined_keeps h st Any w.log w.clients session uuid name c s.clients refl s.schema;
       few_names = omega (arith, s.few_names, ap names_in commits);
+      own_ids = AllByRecursion-append HasOwnIds w.log (last_entry w.log session (Join uuid) ∷ []) s.own_ids (tt, tt);
+      ranges = subst AreInTurn (sym (same_ranges w.log session (Join uuid) refl)) s.ranges;
     }
 
 -- an entry without a commit, of a client that is there: the others stay, and it goes or is now so
@@ -501,6 +512,8 @@ module _ (h : HeaderView) (w : WorldState) (i : ℕ) (c : Client) (body : Body) 
     log_new = subst (HaveNewRevisions (opening ∷ [])) commits s.log_new;
     schema = keeps;
     few_names = omega (arith, s.few_names, ap names_in commits);
+    own_ids = AllByRecursion-append HasOwnIds w.log (last_entry w.log c.session body ∷ []) s.own_ids (subst (λ o. IfSome o (λ (r : IdRange). r.session ≡ c.session)) (sym (no_ids body none)) tt, tt);
+    ranges = subst AreInTurn (sym (same_ranges w.log c.session body (no_ids body none))) s.ranges;
   }
 
   pub set_after : (c' : Client) → c'.session ≡ c.session → IsClient h log_after c' → KeepToSchemas h Any log_after (slice_set w.clients i c') → IsWorld h (record w { log = log_after; clients = slice_set w.clients i c' })
@@ -523,8 +536,8 @@ dropped_sound h w i c s at =
     let k = all_get (IsClient h w.log) w.clients i c s.clients at in
     set_after h w i c Leave s at refl (without_connection c) refl (client_offline h st (log_with w.log c.session Leave) c (client_after_text h st w.log c.session Leave c refl k)) (dropped_keeps h st Any w.log w.clients i c s.clients at s.schema)
 
-pub returned_sound : (h : HeaderView) (w : WorldState) (i : ℕ) (c : Client) → IsWorld h w → slice_get w.clients i ≡ Some c → c.transaction ≡ None → IsWorld h (record w { log = log_with w.log c.session Join; clients = slice_set w.clients i (with_connection w.log c) })
+pub returned_sound : (h : HeaderView) (w : WorldState) (i : ℕ) (c : Client) → IsWorld h w → slice_get w.clients i ≡ Some c → c.transaction ≡ None → IsWorld h (record w { log = log_with w.log c.session (Join c.uuid); clients = slice_set w.clients i (with_connection w.log c) })
 returned_sound h w i c s at none =
     let st = opened_start h s.header in
     let k = all_get (IsClient h w.log) w.clients i c s.clients at in
-    set_after h w i c Join s at refl (with_connection w.log c) refl (client_returned h st w.log c k none) (returned_keeps h st Any w.log w.clients i c s.clients at none s.schema)
+    set_after h w i c (Join c.uuid) s at refl (with_connection w.log c) refl (client_returned h st w.log c k none) (returned_keeps h st Any w.log w.clients i c s.clients at none s.schema)

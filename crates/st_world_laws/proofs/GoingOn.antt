@@ -1,13 +1,13 @@
 -- Whatever world a step leads to from a world is one too.
 use Rattle.st_edits.specs.InEffect.{schema_in_effect}
-use Rattle.std.proofs.Common.{Bool, List, None, Option, Some, [], cond, false, length, nat_le, refl, subst, true, ℕ, ◌++◌, ◌+◌, ◌∷◌, ◌≡◌, ap, sym}
+use Rattle.std.proofs.Common.{Bool, List, None, Option, Some, [], cond, false, length, nat_le, refl, subst, true, ℕ, ◌+◌, ◌∷◌, ◌≡◌, ap, sym}
 use Rattle.std.specs.Option.{option_and_then}
 use Rattle.std.specs.Prelude.{option_map}
-use Rattle.st_lists.specs.Clients.{next_rev, new_client, place_of, with_ack}
+use Rattle.st_lists.specs.Clients.{next_rev, place_of, with_ack}
 use Rattle.st_lists.specs.Lines.{HasHead, Line, line_of, main_line}
 use Rattle.st_world_laws.specs.Worlds.{Any, IsWorld}
 use Rattle.st_world_laws.proofs.Going.{GoesOn, LineGoes, ack_goes, delivery_goes, dropped_sound, joined_sound, left_sound, returned_sound, sent_sound, set_sound, undo_goes}
-use Rattle.st_world.specs.World.{AtClient, ByConnected, IsActOf, IsBegun, IsBranchDropped, IsDelivered, IsEdited, IsForked, IsMergedBy, IsNeeded, IsNext, IsRebasedBy, IsUndoneBy, OnLine, abort, act_of_none, after_entry, branch_at, commit, drop_client, intent_of, join, leave, limit_refusal, needs_connection, next_names, opening_document, reconnect, refusal_to_reconnect, sequence, with_client, word_of, IsUpgradedBy}
+use Rattle.st_world.specs.World.{AtClient, ByConnected, IsActOf, IsBegun, IsBranchDropped, IsDelivered, IsEdited, IsForked, IsMergedBy, IsNeeded, IsNext, IsRebasedBy, IsUndoneBy, OnLine, abort, act_of_none, after_entry, branch_at, commit, drop_client, enter, intent_of, join, leave, limit_refusal, needs_connection, next_names, opening_document, reconnect, refusal_to_reconnect, sequence, uuid_for, with_client, word_of, IsUpgradedBy}
 use Rattle.st_edits.specs.InEffect.{last_in_effect}
 use Rattle.std.specs.List.{slice_get, slice_set}
 use Rattle.st_ids.specs.declared.names.Limit.{Limit}
@@ -20,15 +20,14 @@ use Rattle.st_script.specs.Header.{HeaderView}
 use Rattle.st_script.specs.Steps.{ActView, EditView, StepView}
 use Rattle.st_script.specs.Steps as step
 use Rattle.st_script.specs.declared.answer.Answer.{Answer}
-use Rattle.st_script.specs.declared.answer.Answer.TheVariants.{Ack, Join as Joins, No}
+use Rattle.st_script.specs.declared.answer.Answer.TheVariants.{Ack, No}
 use Rattle.st_script.specs.declared.refusal.Refusal.{Refusal}
-use Rattle.st_script.specs.declared.refusal.Refusal.TheVariants.{NoClient, NothingToSend}
+use Rattle.st_script.specs.declared.refusal.Refusal.TheVariants.{Clash, NoClient, NothingToSend}
 use Rattle.st_lists.specs.Open.{with_open}
 use Rattle.st_lists.specs.declared.lists.Transaction.{Transaction}
-use Rattle.st_lists.specs.Log.{log_with, sessions_in}
+use Rattle.st_lists.specs.Log.{clashes, sessions_in}
 use Rattle.st_lists.specs.Limits.{entries_limit_passed, log_limit_passed}
 use Rattle.st_lists.specs.Names.{names_in_text}
-use Rattle.st_lists.specs.declared.lists.Body.TheVariants.{Join}
 use Rattle.st_lists.specs.declared.lists.Client.{Client}
 use Rattle.st_lists.specs.declared.lists.WorldState.{WorldState}
 use Rattle.st_world_laws.proofs.Begun.{IsStart, opened_start}
@@ -208,7 +207,7 @@ module _ (h : HeaderView) (w : WorldState) (s : IsWorld h w) where
     goes k l line = line_goes h st Any w.log w.clients s.sessions s.clients s.few_names s.schema i c at k l line
 
     acted : (x : ActView) (k : ℕ) (l : Line) → line_of c k ≡ Some l → KeepsRules x → (needs_connection x ≡ true → c.connected ≡ true) → IsActOf h w x i c k l v a → IsWorld h v
-    acted step.join k l line rules on y = kept v y.0
+    acted (step.join uuid) k l line rules on y = kept v y.0
     acted (step.edit e) k l line rules on y = edited k l (goes k l line) e y
     acted (step.need path) k l line rules on y = needed k l (goes k l line) path y
     acted step.begin k l line rules on y = begun k l (goes k l line) y
@@ -230,22 +229,23 @@ module _ (h : HeaderView) (w : WorldState) (s : IsWorld h w) where
     acted step.pending k l line rules on y = kept v y.0
 
   module _ (v : WorldState) (a : Answer) where
-    joined : (name : List ℕ) → join w name ≡ (v, a) → IsWorld h v
-    joined name e = go (nat_le 64 (length w.clients)) (nat_le 65535 (length w.log)) e
+    joined : (name : List ℕ) (told : Option ℕ) → join w name told ≡ (v, a) → IsWorld h v
+    joined name told e = go (nat_le 64 (length w.clients)) (nat_le 65535 (length w.log)) (clashes uuid w.log) e
       where
-        longer : WorldState × Answer
-        longer = (
-          record w { log = log_with w.log (sessions_in w.log + 1) Join; clients = w.clients ++ new_client (length w.log + 1) (sessions_in w.log + 1) name ∷ [] },
-          Joins (length w.log + 1) (sessions_in w.log + 1),
-        )
+        session : ℕ
+        session = sessions_in w.log + 1
 
-        go : (b c : Bool) → cond b (w, limit_refusal (record { of = Clients; kept = length w.clients })) (cond c (w, limit_refusal (record { of = Log; kept = length w.log })) longer) ≡ (v, a) → IsWorld h v
-        go true c e = as_told (w, limit_refusal (record { of = Clients; kept = length w.clients })) v a e s
-        go false true e = as_told (w, limit_refusal (record { of = Log; kept = length w.log })) v a e s
-        go false false e = as_told longer v a e (joined_sound h w name s)
+        uuid : ℕ
+        uuid = uuid_for session told
+
+        go : (b c d : Bool) → cond b (w, limit_refusal (record { of = Clients; kept = length w.clients })) (cond c (w, limit_refusal (record { of = Log; kept = length w.log })) (cond d (w, No Clash) (enter w session uuid name))) ≡ (v, a) → IsWorld h v
+        go true c d e = as_told (w, limit_refusal (record { of = Clients; kept = length w.clients })) v a e s
+        go false true d e = as_told (w, limit_refusal (record { of = Log; kept = length w.log })) v a e s
+        go false false true e = as_told (w, No Clash) v a e s
+        go false false false e = as_told (enter w session uuid name) v a e (joined_sound h w uuid name s)
 
     acted_none : (name : List ℕ) (x : ActView) → act_of_none w name x ≡ (v, a) → IsWorld h v
-    acted_none name step.join e = joined name e
+    acted_none name (step.join told) e = joined name told e
     acted_none name (step.edit e) y = as_told (w, No NoClient) v a y s
     acted_none name (step.need path) y = as_told (w, No NoClient) v a y s
     acted_none name step.begin y = as_told (w, No NoClient) v a y s

@@ -4,13 +4,13 @@ use Rattle.std.proofs.lemmas.Bool.Decides.{nat_tests}
 use Rattle.std.proofs.Common.{is_some, Bool, Err, IfSome, IsSome, List, None, Ok, Option, Result, Some, [], cond, false, inl, inr, length, map, nat_le, refl, subst, true, ℕ, ◌++◌, ◌+◌, ◌∷◌, ◌≡◌, ◌⊎◌, ap, sym, ◌<◌, arith}
 use Rattle.std.specs.Option.{option_and_then, option_map_or, option_or}
 use Rattle.std.specs.Prelude.{option_map}
-use Rattle.st_lists.specs.Clients.{HasReceived, next_rev, new_client, place_of, received_by, with_ack, with_edited, with_received, joined_of, with_new_commit}
+use Rattle.st_lists.specs.Clients.{HasReceived, next_rev, place_of, received_by, with_ack, with_edited, with_received, joined_of, with_new_commit}
 use Rattle.st_lists.specs.Lines.{HasHead, Line, commits_of, edited_on, line_of, with_transaction_on, main_line}
 use Rattle.st_world_laws.specs.Worlds.{Any, IsWorld}
 use Rattle.st_world_laws.proofs.Going.{GoesOn, LineGoes, ack_goes, delivery_goes, dropped_sound, joined_sound, left_sound, meant_in, returned_sound, sent_sound, set_sound, undo_goes, main_goes}
 use Rattle.st_world_laws.proofs.Parts.{next_joined}
 use Rattle.st_world_laws.specs.Worlds.{IsClient, IsTransaction}
-use Rattle.st_world.specs.World.{AtClient, ByConnected, HasShown, IsActOf, IsAfterEdit, IsAfterNeed, IsBegun, IsBranchDropped, IsDelivered, IsDeliveredIn, IsDeliveredTo, IsDoneIn, IsEdited, IsEditedIn, IsForked, IsJoined, IsMergedBy, IsNeeded, IsNext, IsPendingTold, IsRebasedBy, IsShown, IsUndoneBy, IsVerdictOf, OnLine, abort, act_of_none, after_edit, after_entry, answer_of, begin, branch_at, cells_given, commit, drop_client, intent_of, join, leave, limit_refusal, needs_connection, next_names, opening_document, reconnect, refusal_of, refusal_to_reconnect, sequence, with_client, word_of, IsUpgradedBy}
+use Rattle.st_world.specs.World.{AtClient, ByConnected, HasShown, IsActOf, IsAfterEdit, IsAfterNeed, IsBegun, IsBranchDropped, IsDelivered, IsDeliveredIn, IsDeliveredTo, IsDoneIn, IsEdited, IsEditedIn, IsForked, IsJoined, IsMergedBy, IsNeeded, IsNext, IsPendingTold, IsRebasedBy, IsShown, IsUndoneBy, IsVerdictOf, OnLine, abort, act_of_none, after_edit, after_entry, answer_of, begin, branch_at, cells_given, commit, drop_client, enter, intent_of, join, leave, limit_refusal, needs_connection, next_names, opening_document, reconnect, refusal_of, refusal_to_reconnect, sequence, uuid_for, with_client, word_of, IsUpgradedBy}
 use Rattle.st_edits.specs.InEffect.{last_in_effect}
 use Rattle.std.specs.List.{find, slice_get, slice_set}
 use Rattle.serde_json.specs.Written.{compact_text}
@@ -44,16 +44,15 @@ use Rattle.st_script.specs.Header.{HeaderView}
 use Rattle.st_script.specs.Steps.{ActView, EditView, StepView}
 use Rattle.st_script.specs.Steps as step
 use Rattle.st_script.specs.declared.answer.Answer.{Answer}
-use Rattle.st_script.specs.declared.answer.Answer.TheVariants.{Ack, Deliver, Join as Joins, No, Pending, Show, Upgrade as Upgrades}
+use Rattle.st_script.specs.declared.answer.Answer.TheVariants.{Ack, Deliver, No, Pending, Show, Upgrade as Upgrades}
 use Rattle.st_script.specs.declared.refusal.Refusal.{Refusal}
-use Rattle.st_script.specs.declared.refusal.Refusal.TheVariants.{Limit as OverLimit, NoBranch, NoClient, NotBegun, NotConnected, NothingNew, NothingToSend, Taken, Unfinished}
+use Rattle.st_script.specs.declared.refusal.Refusal.TheVariants.{Clash, Limit as OverLimit, NoBranch, NoClient, NotBegun, NotConnected, NothingNew, NothingToSend, Taken, Unfinished}
 use Rattle.st_lists.specs.Open.{with_open}
 use Rattle.st_lists.specs.declared.lists.Transaction.{Transaction}
-use Rattle.st_lists.specs.Log.{commit_of, log_with, sessions_in}
+use Rattle.st_lists.specs.Log.{clashes, commit_of, sessions_in}
 use Rattle.st_lists.specs.Limits.{entries_limit_passed, log_limit_passed, names_limit_passed, pending_limit_passed}
 use Rattle.st_lists.specs.Names.{names_in_text}
 use Rattle.st_world.specs.declared.edit_word.EditWord.{EditWord}
-use Rattle.st_lists.specs.declared.lists.Body.TheVariants.{Join}
 use Rattle.st_lists.specs.declared.lists.Client.{Client}
 use Rattle.st_lists.specs.declared.lists.Entry.{Entry}
 use Rattle.st_lists.specs.declared.lists.WorldState.{WorldState}
@@ -379,19 +378,20 @@ module _ (h : HeaderView) (w : WorldState) (s : IsWorld h w) where
         go (Some why) e = (w, No why, refl, s)
         go None e = let p = reconnect w i c None in (p.0, p.1, refl, returned_sound h w i c s at (may_reconnect w.log c e).0.1)
 
-  has_joined : (name : List ℕ) → Leads (λ v a. join w name ≡ (v, a))
-  has_joined name = go (nat_le 64 (length w.clients)) (nat_le 65535 (length w.log))
+  has_joined : (name : List ℕ) (told : Option ℕ) → Leads (λ v a. join w name told ≡ (v, a))
+  has_joined name told = go (nat_le 64 (length w.clients)) (nat_le 65535 (length w.log)) (clashes uuid w.log)
     where
-      longer : WorldState × Answer
-      longer = (
-        record w { log = log_with w.log (sessions_in w.log + 1) Join; clients = w.clients ++ new_client (length w.log + 1) (sessions_in w.log + 1) name ∷ [] },
-        Joins (length w.log + 1) (sessions_in w.log + 1),
-      )
+      session : ℕ
+      session = sessions_in w.log + 1
 
-      go : (b c : Bool) → Leads (λ v x. cond b (w, limit_refusal (record { of = Clients; kept = length w.clients })) (cond c (w, limit_refusal (record { of = Log; kept = length w.log })) longer) ≡ (v, x))
-      go true c = (w, limit_refusal (record { of = Clients; kept = length w.clients }), refl, s)
-      go false true = (w, limit_refusal (record { of = Log; kept = length w.log }), refl, s)
-      go false false = (longer.0, longer.1, refl, joined_sound h w name s)
+      uuid : ℕ
+      uuid = uuid_for session told
+
+      go : (b c d : Bool) → Leads (λ v x. cond b (w, limit_refusal (record { of = Clients; kept = length w.clients })) (cond c (w, limit_refusal (record { of = Log; kept = length w.log })) (cond d (w, No Clash) (enter w session uuid name))) ≡ (v, x))
+      go true c d = (w, limit_refusal (record { of = Clients; kept = length w.clients }), refl, s)
+      go false true d = (w, limit_refusal (record { of = Log; kept = length w.log }), refl, s)
+      go false false true = (w, No Clash, refl, s)
+      go false false false = let p = enter w session uuid name in (p.0, p.1, refl, joined_sound h w uuid name s)
 
   -- ## Acts
 
@@ -403,7 +403,7 @@ module _ (h : HeaderView) (w : WorldState) (s : IsWorld h w) where
     pub drops : Leads (IsBranchDropped w i c k)
 
   has_act_of : (x : ActView) (i : ℕ) (c : Client) (k : ℕ) (l : Line) → slice_get w.clients i ≡ Some c → LineGoes h st Any w.log w.clients i c k l → BranchesLead i c k l → (needs_connection x ≡ true → c.connected ≡ true) → LeadsIf (KeepsRules x) (IsActOf h w x i c k l)
-  has_act_of step.join i c k l at g b on = anyway (KeepsRules step.join) (IsActOf h w step.join i c k l) (stays (No Taken))
+  has_act_of (step.join uuid) i c k l at g b on = anyway (KeepsRules (step.join uuid)) (IsActOf h w (step.join uuid) i c k l) (stays (No Taken))
   has_act_of (step.edit e) i c k l at g b on = anyway (KeepsRules (step.edit e)) (IsActOf h w (step.edit e) i c k l) (has_edited i c at k l g e)
   has_act_of (step.need path) i c k l at g b on = anyway (KeepsRules (step.need path)) (IsActOf h w (step.need path) i c k l) (has_needed i c at k l g path)
   has_act_of step.begin i c k l at g b on = anyway (KeepsRules step.begin) (IsActOf h w step.begin i c k l) (has_begun i c at k l g)
@@ -425,7 +425,7 @@ module _ (h : HeaderView) (w : WorldState) (s : IsWorld h w) where
   has_act_of step.pending i c k l at g b on = anyway (KeepsRules step.pending) (IsActOf h w step.pending i c k l) (let r = has_pending i c at in (w, r.0, (refl, r.1), s))
 
   has_act_of_none : (name : List ℕ) (x : ActView) → Leads (λ v a. act_of_none w name x ≡ (v, a))
-  has_act_of_none name step.join = has_joined name
+  has_act_of_none name (step.join uuid) = has_joined name uuid
   has_act_of_none name (step.edit e) = (w, No NoClient, refl, s)
   has_act_of_none name (step.need path) = (w, No NoClient, refl, s)
   has_act_of_none name step.begin = (w, No NoClient, refl, s)

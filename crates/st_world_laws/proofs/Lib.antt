@@ -25,6 +25,7 @@ pub mod Meant
 pub mod Merging
 pub mod OnBranches
 pub mod Parts
+pub mod Ranges
 pub mod Rebasing
 pub mod Telling
 pub mod TextOfEach

@@ -6,7 +6,7 @@ use Rattle.std.specs.List.{AllByRecursion, slice_get, slice_set}
 use Rattle.std.specs.Option.{option_and_then, option_or}
 use Rattle.st_lists.specs.Open.{with_open}
 use Rattle.st_ids.specs.declared.names.Limit.{Limit}
-use Rattle.st_lists.specs.Clients.{new_transaction, next_rev, with_edited}
+use Rattle.st_lists.specs.Clients.{new_transaction, next_rev, with_edited, with_id}
 use Rattle.st_lists.specs.Limits.{names_limit_passed, own_limit_passed}
 use Rattle.st_lists.specs.Lines.{with_transaction_on, with_commit_on, HasHead, Line, line_of}
 use Rattle.st_lists.specs.Log.{commits_in}
@@ -72,9 +72,9 @@ ids_beside d (suc k) ids = refl
 
 module _ (h : HeaderView) (st : IsStart (opening_document h)) (log : List Entry) (c : Client) (k : ℕ) (l : Line) (line : line_of c k ≡ Some l) where
   -- a line with one commit more fits, by what holds of the client then
-  line_after_fits : (N : Intent) (ids : ℕ) → IsClient h log (record (with_commit_on c k N) { ids = ids }) → LineFits h log (record l { own = l.own ++ N ∷ [] })
-  line_after_fits N ids next =
-      line_fit h st log (record (with_commit_on c k N) { ids = ids }) next k (record l { own = l.own ++ N ∷ [] }) (ids_beside (with_commit_on c k N) k ids ∙ commit_here c k N ∙ ap (option_map (λ (m : Line). record m { own = m.own ++ N ∷ [] })) line)
+  line_after_fits : (N : Intent) → IsClient h log (with_commit_on (with_id c) k N) → LineFits h log (record l { own = l.own ++ N ∷ [] })
+  line_after_fits N next =
+      line_fit h st log (with_commit_on (with_id c) k N) next k (record l { own = l.own ++ N ∷ [] }) (commit_here (with_id c) k N ∙ ap (option_map (λ (m : Line). record m { own = m.own ++ N ∷ [] })) (ids_beside c k (c.ids + 1) ∙ line))
 
   line_committed_fits : (J : Intent) → IsClient h log (with_commit_on (with_transaction_on c k None) k J) → LineFits h log (record l { own = l.own ++ J ∷ [] })
   line_committed_fits J next =
@@ -106,8 +106,8 @@ module _ (h : HeaderView) (st : IsStart (opening_document h)) (K : Rev → List 
       go None e (Some over) f is = same d (ap (λ (p : Client × Answer). p.0) (sym is))
       go None e None f is =
           let next = client_adds h st log c k l D N own line none head m.fits m.rev (within_own k l e) (within_names h st c N f) few in
-          near_goes (record (with_commit_on c k N) { ids = c.ids + 1 }) d (ap (λ (p : Client × Answer). p.0) (sym is)) (near_committed c k N) next
-          (new_on_keeps h st K log cs i c k l D word N sessions are few at line none head m (line_after_fits h st log c k l line N (c.ids + 1) next) keeps)
+          near_goes (with_commit_on (with_id c) k N) d (ap (λ (p : Client × Answer). p.0) (sym is)) (near_committed c k N) next
+          (new_on_keeps h st K log cs i c k l D word N sessions are few at line none head m (line_after_fits h st log c k l line N next) keeps)
 
   -- an edit that is a part of a transaction
   line_joins : (d : Client) (D E : Document) (t : Transaction) (word : EditWord) (r : Result Intent EditFault) (a : Answer) → l.transaction ≡ Some t → IsTransaction h log l c t → HasHead (opening_document h) log l D → E ≡ with_open D t.joined

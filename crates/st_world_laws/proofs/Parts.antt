@@ -4,7 +4,7 @@ use Rattle.std.specs.Prelude.{is_some, option_map, unwrap_or}
 use Rattle.st_ids.specs.Listing.{AreDistinct, Has}
 use Rattle.st_lists.proofs.Names.{names_append}
 use Rattle.st_lists.proofs.Written.{transaction_here}
-use Rattle.st_lists.specs.Clients.{joined_of, new_transaction, next_rev, received_by, with_begun, with_commit, with_edited, with_transaction, without_transaction}
+use Rattle.st_lists.specs.Clients.{joined_of, new_transaction, next_rev, received_by, with_begun, with_commit, with_edited, with_id, with_transaction, without_transaction}
 use Rattle.st_lists.specs.Lines.{HasHead, HaveOwnTransactions, Line, all_commits, branch_line, commits_of, edited_on, line_of, main_line, on_branch, with_commit_on, with_transaction_on}
 use Rattle.st_lists.specs.Names.{names_in, names_made, names_on_all, unsequenced}
 use Rattle.st_lists.specs.declared.lists.Branch.{Branch}
@@ -41,7 +41,8 @@ use Rattle.st_lists.specs.Open.{FitsSoFar, IsSoundPart, IsWithPart, with_open}
 use Rattle.st_heads.specs.inside.Parts.{CanFollow}
 use Rattle.st_heads.proofs.Editing.{can_follow, fits_so_far, open_shows}
 use Rattle.st_script.specs.Header.{HeaderView}
-use Rattle.st_lists.specs.Log.{commits_in, log_and_waiting}
+use Rattle.st_lists.specs.Log.{commits_in, log_and_waiting, ranges_in}
+use Rattle.st_world_laws.proofs.Ranges.{carried_as}
 use Rattle.st_lists.specs.declared.lists.Client.{Client}
 use Rattle.st_lists.specs.declared.lists.Entry.{Entry}
 use Rattle.st_lists.specs.declared.lists.Transaction.{Transaction}
@@ -138,10 +139,6 @@ main_there c l at = cc
 ids_stay : (c : Client) (j : ℕ) (o : Option Transaction) → record (with_transaction_on c j o) { ids = c.ids } ≡ with_transaction_on c j o
 ids_stay c zero o = refl
 ids_stay c (suc j) o = refl
-
-ids_commit : (c : Client) (j : ℕ) (N : Intent) → with_commit_on (record c { ids = c.ids + 1 }) j N ≡ record (with_commit_on c j N) { ids = c.ids + 1 }
-ids_commit c zero N = refl
-ids_commit c (suc j) N = refl
 
 line_stays : (c : Client) (j : ℕ) (l : Line) → line_of c j ≡ Some l → line_of (record c { ids = c.ids + 1 }) j ≡ Some l
 line_stays c zero l at = at
@@ -345,6 +342,7 @@ module _ (h : HeaderView) (st : IsStart (opening_document h)) where
         new = k.new;
         own = k.own;
         texts = k.texts;
+        carried = carried_as (ranges_in log) c d refl refl refl refl more k.carried;
         ids = λ N i s. omega (arith, k.ids N i s, more);
         transaction = transactions_beside h log log (main_line c) (main_line d) (record c { ids = ids }) d o now refl (omega arith) refl refl (λ t q x j. x.new j);
         branches = branches_stay h log log c d k.branches (record { branches = refl; forks = refl; session = refl; ids = more; received = omega arith }) (same_fronts log) (sublist_itself (received_by log c ++ c.pending)) refl (apart o refl);
@@ -483,6 +481,7 @@ module _ (h : HeaderView) (st : IsStart (opening_document h)) where
         new = k.new;
         own = k.own;
         texts = k.texts;
+        carried = carried_as (ranges_in log) c d refl refl refl refl (omega arith) k.carried;
         ids = λ N i s. omega (arith, k.ids N i s);
         transaction = transactions_beside h log log (main_line c) (main_line d) c d c.transaction k.transaction refl (omega arith) refl refl (λ t q x j. x.new j);
         branches = branches_stay h log log c d k.branches (record { branches = refl; forks = refl; session = refl; ids = omega arith; received = omega arith }) (same_fronts log) (sublist_itself (received_by log c ++ c.pending)) refl
@@ -491,14 +490,13 @@ module _ (h : HeaderView) (st : IsStart (opening_document h)) where
 
   -- one of the next id
   pub client_adds : (log : List Entry) (c : Client) (j : ℕ) (l : Line) (D : Document) (N : Intent) → IsClient h log c → line_of c j ≡ Some l → l.transaction ≡ None → HasHead (opening_document h) log l D → Fits D N
-      → N.rev ≡ next_rev c → length l.own < 256 → unsequenced c + names_made N ≤ 16384 → names_in (commits_in log) ≤ 131072 → IsClient h log (record (with_commit_on c j N) { ids = c.ids + 1 })
+      → N.rev ≡ next_rev c → length l.own < 256 → unsequenced c + names_made N ≤ 16384 → names_in (commits_in log) ≤ 131072 → IsClient h log (with_commit_on (with_id c) j N)
   client_adds log c j l D N k at none head fits rev room few all =
       let d : Client = record c { ids = c.ids + 1 } in
       let fresh = next_new h st log c N.rev k rev in
       let num : N.rev.num ≡ c.ids + 1 = ap (λ (r : Rev). r.num) rev in
-      subst (IsClient h log) (ids_commit c j N)
-      (client_takes log d j l D N (counted_on log c k) (line_stays c j l at) none head fits (ap (λ (r : Rev). r.session) rev) (omega (arith, num)) fresh
-      (λ i x. open_apart h st log c k i (subst (IsOpenAt c i) rev (open_stays c i N.rev x))) room few all)
+      client_takes log d j l D N (counted_on log c k) (line_stays c j l at) none head fits (ap (λ (r : Rev). r.session) rev) (omega (arith, num)) fresh
+      (λ i x. open_apart h st log c k i (subst (IsOpenAt c i) rev (open_stays c i N.rev x))) room few all
 
   -- what was edited in the transaction of a line is committed
   pub client_commits_on : (log : List Entry) (c : Client) (j : ℕ) (l : Line) (t : Transaction) (J : Intent) → IsClient h log c → line_of c j ≡ Some l → l.transaction ≡ Some t → t.joined ≡ Some J → IsTransaction h log l c t

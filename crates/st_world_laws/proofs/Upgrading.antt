@@ -124,7 +124,7 @@ module _ (h : HeaderView) (st : IsStart (opening_document h)) (K : Rev → List 
       let names : (names_in c.pending + names_on_all c.branches) + names_made N ≤ 16384 = omega (arith, waiting, nothing) in
       let apart : (b : Branch) (t : Transaction) → Has c.branches b → b.transaction ≡ Some t → t.rev ≢ N.rev = λ b t i x e. next_apart h st log c k b t i x e in
       let now = client_committed h st log c (c.ids + 1) D N k main (upgrade_fits h st log c k D main new) refl (omega arith) (omega arith) (next_new h st log c N.rev k refl) apart (within_pending h st c room) names few in
-      subst (λ (o : Option Transaction). IsClient h log (record (with_commit c N) { ids = c.ids + 1; transaction = o })) (sym none) now
+      subst (λ (o : Option Transaction). IsClient h log (with_commit (record c { ids = c.ids + 1; transaction = o }) N)) (sym none) now
 
   -- the new schema is known, and those of other revisions are known still
   module _ (L : Rev → List ℕ → Type 0) (more : (r : Rev) (t : List ℕ) → r ≢ next_rev c → K r t → L r t) (known : L (next_rev c) text) where

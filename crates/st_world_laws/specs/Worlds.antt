@@ -16,7 +16,9 @@ use Rattle.st_schema_laws.specs.Lines.{IsLine}
 use Rattle.st_schema.specs.Schema.{is_sound}
 use Rattle.st_lists.specs.Open.{FitsSoFar, with_open}
 use Rattle.st_script.specs.Header.{HeaderView, may_open}
-use Rattle.st_lists.specs.Log.{commit_of, commits_in, intents_of, is_text, log_and_waiting, own_in_flight, sessions_in, waiting}
+use Rattle.st_clusters.specs.Log.{AreInTurn, GoOn, carried_count}
+use Rattle.st_clusters.specs.declared.ids.IdRange.{IdRange}
+use Rattle.st_lists.specs.Log.{commit_of, commits_in, intents_of, is_text, log_and_waiting, own_in_flight, range_of, ranges_in, ranges_of, sessions_in, waiting}
 use Rattle.st_lists.specs.Lines.{AreStanding, HasHead, HaveOwnTransactions, Line, all_commits, branch_line, commits_of, edited_on, main_line, own_of}
 use Rattle.st_edits.specs.InEffect.{last_in_effect}
 use Rattle.st_world.specs.World.{opening_document}
@@ -69,6 +71,16 @@ abbrev pub IsQueue : List Intent → Bool → List Body → Type 0
 IsQueue commits true queue = intents_of queue ≡ commits
 IsQueue commits false queue = queue ≡ []
 
+-- the texts that wait carry ids of the client's session, beside the ranges that the log carries: each goes on where the last
+-- one of the session ended, and no id is carried that isn't generated; while it is connected, these are the ids that it has
+-- taken
+pub record IsCarried (ranges : List IdRange) (c : Client) : Type 0 where
+  pub numbered : 1 ≤ c.session
+  pub own : AllByRecursion (λ (r : IdRange). r.session ≡ c.session) (ranges_of c.queue)
+  pub on : GoOn ranges (ranges_of c.queue)
+  pub within : carried_count c.session (ranges ++ ranges_of c.queue) ≤ c.ids
+  pub taken : c.connected ≡ true → c.taken ≡ carried_count c.session (ranges ++ ranges_of c.queue)
+
 -- what a branch is, beside the lists of its owner
 pub record IsBranch (h : HeaderView) (log : List Entry) (owner : Client) (b : Branch) : Type 0 where
   -- its number is one of those that were given
@@ -113,6 +125,8 @@ pub record IsClient (h : HeaderView) (log : List Entry) (c : Client) : Type 0 wh
   pub ids : (N : Intent) → Has (all_commits log c) N → N.rev.session ≡ c.session → N.rev.num ≤ c.ids
   -- those that wait are texts
   pub texts : AllByRecursion (λ (text : Body). is_text text ≡ true) c.queue
+  -- they carry the ids that it generated
+  pub carried : IsCarried (ranges_in log) c
   -- it may have a transaction open, and other branches
   pub transaction : IfSome c.transaction (IsTransaction h log (main_line c) c)
   pub branches : AreBranches h log c
@@ -166,6 +180,10 @@ pub record KeepToSchemas (h : HeaderView) (K : Rev → List ℕ → Type 0) (log
 abbrev pub IsEntryOf : Entry → Type 0
 IsEntryOf e = IfSome (commit_of e) (λ N. N.rev.session ≡ e.session)
 
+-- and the ids that it carries are of its session
+abbrev pub HasOwnIds : Entry → Type 0
+HasOwnIds e = IfSome (range_of e) (λ (r : IdRange). r.session ≡ e.session)
+
 -- the lists alone don't tell which schemas are kept
 abbrev pub Any : Rev → List ℕ → Type 0
 Any rev text = Unit {0}
@@ -181,6 +199,9 @@ pub record IsWorld (h : HeaderView) (w : WorldState) : Type 0 where
   pub log_new : HaveNewRevisions (opening ∷ []) (commits_in w.log)
   pub schema : KeepToSchemas h Any w.log w.clients
   pub few_names : names_in (commits_in w.log) ≤ 131072
+  -- the ranges of ids that the log carries go on from one another, session by session
+  pub own_ids : AllByRecursion HasOwnIds w.log
+  pub ranges : AreInTurn (ranges_in w.log)
 
 -- an act that changes the schema brings one that keeps the rules
 abbrev pub KeepsRules : ActView → Type 0
