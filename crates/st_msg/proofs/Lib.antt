@@ -1,0 +1,2 @@
+pub mod Back
+mod Read

@@ -1,0 +1,5 @@
+//! Tests of messages.
+#![tactic(auto)]
+
+#[cfg(test)]
+mod messages;
