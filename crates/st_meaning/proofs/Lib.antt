@@ -1,0 +1,10 @@
+pub mod PlaceOrder
+pub mod Entries
+pub mod Listed
+pub mod Loops
+pub mod OrderedIntents
+pub mod MadeCells
+pub mod Told
+pub mod FitsToo
+pub mod OneMeaning
+pub mod Same
