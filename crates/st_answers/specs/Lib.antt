@@ -6,3 +6,4 @@ pub mod Meaning
 pub mod Run
 pub mod Status
 pub mod Trace
+pub mod Work

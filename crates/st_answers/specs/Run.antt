@@ -6,9 +6,10 @@ use Rattle.st_pieces.specs.Told.{AppendsPrefix}
 use Rattle.st_words.specs.Table.{request_in}
 use Rattle.st_words.specs.declared.request.Request.{Request}
 use Rattle.st_words.specs.declared.request.Request.TheVariants as request
-use Rattle.st_answers.specs.Answers.{Answers, meaning_of}
+use Rattle.st_answers.specs.Answers.{Answers, OrCutShort, meaning_of}
 use Rattle.st_answers.specs.Endings.{Output, usage_output}
 use Rattle.st_answers.specs.Meaning.{EndsAt, FailsAt, FinishesAt, Meaning}
+use Rattle.st_answers.specs.Work.{IsWorkOutput}
 use Rattle.st_answers.specs.declared.command.Command.{Command}
 use Rattle.st_answers.specs.declared.command.Command.TheVariants.{Trace, Compat, Algebra}
 use Rattle.st_answers.specs.declared.outcome.Outcome.{Outcome}
@@ -36,7 +37,7 @@ IsOutput old new Wanted (TooLong n) = WritesAll old new Wanted (TooLong n)
 abbrev pub IsStopped : (m : Meaning) → Option (List ℕ) → Option (List ℕ) → Option (List ℕ) → Option (List ℕ) → Type 0
 IsStopped m left rest old new = IsCutOff m.Takes (EndsAt m) (FinishesAt m) (FailsAt m) m.first left old rest new
 
--- the commands that the program has, among those that words can be
+-- the commands over the lines of an input that the program has, among those that words can be
 abbrev pub command_asked : Request → Option Command
 command_asked request.Trace = Some Trace
 command_asked request.Replay = None
@@ -44,7 +45,7 @@ command_asked request.Algebra = Some Algebra
 command_asked request.Compat = Some Compat
 command_asked (request.Work seed steps) = None
 
--- the command that the words are
+-- the command over lines that the words are
 abbrev pub command_of : List (List ℕ) → Option Command
 command_of words = option_and_then command_asked (request_in words)
 
@@ -62,10 +63,22 @@ abbrev pub IsAnsweredAs : Option Command → Option (List ℕ) → Option (List 
 IsAnsweredAs (Some c) left rest old new outcome = IsCarriedOut c left rest old new outcome
 IsAnsweredAs None left rest old new outcome = (rest ≡ left) × IsOutput old new (λ (out : Output). out ≡ usage_output) outcome
 
+-- the line of a load; nothing of the source is read
+abbrev pub IsLoadTold : ℕ → ℕ → Option (List ℕ) → Option (List ℕ) → Option (List ℕ) → Option (List ℕ) → Outcome → Type 0
+IsLoadTold seed steps left rest old new outcome = (rest ≡ left) × IsOutput old new (OrCutShort (IsWorkOutput seed steps)) outcome
+
+abbrev pub IsAnsweredTo : Option Request → Option (List ℕ) → Option (List ℕ) → Option (List ℕ) → Option (List ℕ) → Outcome → Type 0
+IsAnsweredTo None left rest old new outcome = IsAnsweredAs None left rest old new outcome
+IsAnsweredTo (Some request.Trace) left rest old new outcome = IsAnsweredAs (Some Trace) left rest old new outcome
+IsAnsweredTo (Some request.Replay) left rest old new outcome = IsAnsweredAs None left rest old new outcome
+IsAnsweredTo (Some request.Algebra) left rest old new outcome = IsAnsweredAs (Some Algebra) left rest old new outcome
+IsAnsweredTo (Some request.Compat) left rest old new outcome = IsAnsweredAs (Some Compat) left rest old new outcome
+IsAnsweredTo (Some (request.Work seed steps)) left rest old new outcome = IsLoadTold seed steps left rest old new outcome
+
 -- what a run wrote by its words, from what its source had left before and after: words that are no command get the
 -- usage line, and nothing of the source is read
 abbrev pub IsAnswered : List (List ℕ) → Option (List ℕ) → Option (List ℕ) → Option (List ℕ) → Option (List ℕ) → Outcome → Type 0
-IsAnswered words = IsAnsweredAs (command_of words)
+IsAnswered words = IsAnsweredTo (request_in words)
 
 -- the words and the bytes decide how it ends: neither memory nor the source nor the sink failed
 abbrev pub NothingFailed : Outcome → Type 0

@@ -3,6 +3,8 @@
 
 mod command;
 mod outcome;
+mod tally;
 
 pub use command::Command;
 pub use outcome::Outcome;
+pub use tally::Tally;

@@ -23,7 +23,7 @@ StepsGoOn h w [] = Unit {0}
 StepsGoOn h w (s ∷ steps) = HasOneMeaning w × ((v : WorldState) × (a : Answer) × IsNext h w s v a × StepsGoOn h v steps)
 
 sound_rules : (x : ActView) → ((new : SchemaView) → x ≡ step.upgrade new → is_sound new ≡ true) → KeepsRules x
-sound_rules step.join h = tt
+sound_rules (step.join uuid) h = tt
 sound_rules (step.edit e) h = tt
 sound_rules (step.need at) h = tt
 sound_rules step.begin h = tt

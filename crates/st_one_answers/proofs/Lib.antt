@@ -1,4 +1,8 @@
+mod OneLoad
 mod OneRelation
 mod EachWorldGoesOn
 mod OneListOfAnswers
+mod OneRequest
 mod OneRun
+mod RoomOfTexts
+mod WayBackOver

@@ -1,5 +1,5 @@
--- An input has one list of answers under a command other than `algebra`.
-use Rattle.std.proofs.Common.{◌≡◌, ◌≢◌, ◌⊎◌, inl, inr, ℕ, ◌+◌, Bool, true, false, List, [], ◌∷◌, ◌++◌, append_assoc, append-nil, Result, Ok, Err, codes, length, refl, sym, ap, ◌∙◌, subst}
+-- An input has one list of answers under a command.
+use Rattle.std.proofs.Common.{◌≡◌, ◌⊎◌, inl, inr, ℕ, ◌+◌, Bool, true, false, List, [], ◌∷◌, ◌++◌, append_assoc, append-nil, Result, Ok, Err, codes, length, refl, sym, ap, ◌∙◌, subst}
 use Rattle.st_json.specs.declared.fault.BadCause.{BadCause}
 use Rattle.st_compat.specs.RelationText.{relation_line}
 use Rattle.st_compat.specs.Relation.{IsRelation}
@@ -23,6 +23,9 @@ use Rattle.st_script.specs.Line.{step_of_line}
 use Rattle.st_script.specs.Steps.{StepView}
 use Rattle.st_script.specs.declared.answer.Answer.{Answer}
 use Rattle.st_pieces.specs.Lines.{Line, cut, is_long}
+use Rattle.st_requests.specs.Requests.{IsRequest}
+use Rattle.st_requests.specs.declared.request.Request.{Request}
+use Rattle.st_answers.specs.Algebra.{IsAsked, algebra}
 use Rattle.st_answers.specs.Answers.{Answers, AnswersEnd, AnswersFrom, AnswersLine, OrCutShort}
 use Rattle.st_answers.specs.Compat.{CompatState, IsBadInCompat, TakesCompat, compat, related, stored, unread}
 use Rattle.st_answers.specs.Endings.{Output, bad_line, before, cut_short, ended, long_output}
@@ -37,6 +40,7 @@ use Rattle.st_one_laws.proofs.StepsOfWorlds.{next_alike}
 use Rattle.st_one_answers.specs.StepAnswers.{AreAnswers, HasSoundSchema}
 use Rattle.st_one_answers.proofs.EachWorldGoesOn.{StepsGoOn, fits_rules, steps_go_on}
 use Rattle.st_one_answers.proofs.OneRelation.{line_one, relation_one}
+use Rattle.st_one_answers.proofs.OneRequest.{line_one as request_line_one}
 
 steps_one : (h : HeaderView) (w x u : WorldState) (steps : List StepView) (xs ys : List Answer) → StepsGoOn h u steps → AreAlike w u → AreAlike x u → AreAnswers h w steps xs → AreAnswers h x steps ys → xs ≡ ys
 steps_one h w x u [] xs ys on p q a b = a ∙ sym b
@@ -260,22 +264,44 @@ compat_one = record {
   ends_other = λ s t b c e y z. compat_ends_apart t b c z (subst (λ (k : CompatState). compat.Lacks k c) e y);
 }
 
--- ## Each input
+-- ## The algebra
 
-front_one : (c : Command) → c ≢ Algebra → (bytes : List ℕ) (a b : Output) → Answers c bytes a → Answers c bytes b → NothingFailed b.outcome → IsFront a b
-front_one Trace other bytes a b y z fine = from_one trace AreOne trace_one (cut bytes) unopened unopened 1 0 a b tt y z fine
-front_one Compat other bytes a b y z fine = from_one compat AreSame compat_one (cut bytes) unread unread 1 0 a b refl y z fine
-front_one Algebra other bytes a b y z fine = absurd (other refl)
+-- a request has one answer
+abbrev pub OneAnswer : Type 0
+OneAnswer = (line a b : List ℕ) → IsAsked line a → IsAsked line b → a ≡ b
 
-pub front_of_answers : (c : Command) → c ≢ Algebra → (bytes : List ℕ) (a b : Output) → Answers c bytes a → Answers c bytes b → NothingFailed b.outcome → (rest : List ℕ) × (b.bytes ≡ a.bytes ++ rest)
-front_of_answers c other bytes a b y z fine = (front_one c other bytes a b y z fine).1
+module _ (asked : OneAnswer) where
+  algebra_one : IsOne algebra (λ s t. Unit {0})
+  algebra_one = record {
+    takes = λ s t u v n line a b k y z. (asked line a b y z, tt);
+    apart = λ s t u n line a c k y z. both_bad line y.request c y.is z;
+    other = λ s t v n line b c k y z. both_bad line z.request c z.is y;
+    bad = λ s t line c e k y z. let q : Err c ≡ Err e = request_line_one line (Err c) (Err e) y z in cc;
+    ends = λ s t a b k y z. y ∙ sym z;
+    lacks = λ s t c e k y z. absurd y;
+    ends_apart = λ s t a c k y z. z;
+    ends_other = λ s t b c k y z. y;
+  }
+    where
+      both_bad : (line : List ℕ) (r : Request) (c : BadCause) → IsRequest line (Ok r) → IsRequest line (Err c) → ⊥
+      both_bad line r c y z = let q : Ok r ≡ Err c = request_line_one line (Ok r) (Err c) y z in cc
 
-pub answers_one : (c : Command) → c ≢ Algebra → (bytes : List ℕ) (a b : Output) → Answers c bytes a → Answers c bytes b → NothingFailed a.outcome → NothingFailed b.outcome → a ≡ b
-answers_one c other bytes a b y z well fine = go (front_one c other bytes a b y z fine).0
-  where
-    go : (a ≡ b) ⊎ (a.outcome ≡ NoMemory) → a ≡ b
-    go (inl e) = e
-    go (inr e) = absurd (subst NothingFailed e well)
+  -- ## Each input
+
+  front_one : (c : Command) (bytes : List ℕ) (a b : Output) → Answers c bytes a → Answers c bytes b → NothingFailed b.outcome → IsFront a b
+  front_one Trace bytes a b y z fine = from_one trace AreOne trace_one (cut bytes) unopened unopened 1 0 a b tt y z fine
+  front_one Compat bytes a b y z fine = from_one compat AreSame compat_one (cut bytes) unread unread 1 0 a b refl y z fine
+  front_one Algebra bytes a b y z fine = from_one algebra (λ s t. Unit {0}) algebra_one (cut bytes) tt tt 1 0 a b tt y z fine
+
+  pub front_of_answers : (c : Command) (bytes : List ℕ) (a b : Output) → Answers c bytes a → Answers c bytes b → NothingFailed b.outcome → (rest : List ℕ) × (b.bytes ≡ a.bytes ++ rest)
+  front_of_answers c bytes a b y z fine = (front_one c bytes a b y z fine).1
+
+  pub answers_one : (c : Command) (bytes : List ℕ) (a b : Output) → Answers c bytes a → Answers c bytes b → NothingFailed a.outcome → NothingFailed b.outcome → a ≡ b
+  answers_one c bytes a b y z well fine = go (front_one c bytes a b y z fine).0
+    where
+      go : (a ≡ b) ⊎ (a.outcome ≡ NoMemory) → a ≡ b
+      go (inl e) = e
+      go (inr e) = absurd (subst NothingFailed e well)
 
 pub sound_steps_one : (h : HeaderView) (w : WorldState) (steps : List StepView) (xs ys : List Answer) → IsWorld h w → AllByRecursion HasSoundSchema steps → AreAnswers h w steps xs → AreAnswers h w steps ys → xs ≡ ys
 sound_steps_one h w steps xs ys s all a b = steps_one h w w w steps xs ys (steps_go_on h w steps s all) (worlds_itself w) (worlds_itself w) a b

@@ -1,8 +1,8 @@
 -- The world after a step of one client.
 use Rattle.st_edits.specs.InEffect.{schema_in_effect}
-use Rattle.std.proofs.Common.{Err, IfSome, List, None, Ok, Option, Result, Some, ap, refl, subst, sym, ℕ, ◌+◌, ◌∙◌, ◌≡◌, ◌≤◌}
+use Rattle.std.proofs.Common.{arith, Err, IfSome, List, None, Ok, Option, Result, Some, ap, refl, subst, sym, ℕ, ◌+◌, ◌∙◌, ◌≡◌, ◌≤◌}
 use Rattle.st_lists.specs.Open.{with_open}
-use Rattle.st_lists.specs.Clients.{HasReceived, joined_of, with_begun, without_transaction}
+use Rattle.st_lists.specs.Clients.{HasReceived, KeepsIds, joined_of, with_begun, without_transaction}
 use Rattle.st_lists.specs.Lines.{Line, main_line}
 use Rattle.st_script.specs.declared.answer.Answer.TheVariants.{Deliver, No}
 use Rattle.st_script.specs.declared.refusal.Refusal.TheVariants.{NothingNew, Unfinished}
@@ -54,6 +54,10 @@ one_at w i c k s at_c at_k = kept_at (header_view w.header) w.lists.log w.lists.
 
 pub few_ids : (w : World) (i : ℕ) (c : Client) → IsSound w → slice_get w.lists.clients i ≡ Some c → c.ids ≤ w.steps
 few_ids w i c s at = all_get (λ (x : Client). x.ids ≤ w.steps) w.lists.clients i c s.ids at
+
+-- it has taken no ids but those that it generated
+pub keeps_ids : (w : World) (i : ℕ) (c : Client) (k : Replica) → IsSound w → slice_get w.lists.clients i ≡ Some c → slice_get w.kept i ≡ Some k → KeepsIds c
+keeps_ids w i c k s at_c at_k e = let one = one_at w i c k s at_c at_k in omega (arith, one.client.carried.taken e, one.client.carried.within)
 
 -- ## What a client does
 

@@ -11,7 +11,7 @@ use Rattle.st_ids.specs.Listing.{AreDistinct}
 use Rattle.st_ids.specs.declared.names.Limit.{Limit}
 use Rattle.st_ids.specs.declared.names.Place.{Place}
 use Rattle.st_ids.specs.declared.names.Rev.{Rev}
-use Rattle.st_lists.specs.Clients.{new_transaction, next_rev, with_edited}
+use Rattle.st_lists.specs.Clients.{new_transaction, next_rev, with_edited, with_id}
 use Rattle.st_lists.specs.Limits.{own_limit_passed}
 use Rattle.st_lists.specs.Lines.{branch_line, branch_of, edited_on, line_of, on_branch, with_commit_on, with_transaction_on}
 use Rattle.st_lists.specs.Names.{names_in, names_on, names_on_all, unsequenced}
@@ -82,6 +82,14 @@ module _ (c : Client) (j : ℕ) (b : Branch) (apart : AreDistinct (λ (x : Branc
       go zero e = absurd (other e)
       go (suc n) e = ap (λ (bs : List Branch). record c { branches = bs }) (on_there (suc n) (λ x. record x { own = x.own ++ N ∷ [] }) e)
 
+  -- a branch's commit leaves the ids to themselves
+  id_there : (N : Intent) → with_commit_on (with_id c) b.number N ≡ record (with_commit_on c b.number N) { ids = c.ids + 1 }
+  id_there N = go b.number refl
+    where
+      go : (n : ℕ) → b.number ≡ n → with_commit_on (with_id c) n N ≡ record (with_commit_on c n N) { ids = c.ids + 1 }
+      go zero e = absurd (other e)
+      go (suc n) e = refl
+
   turned_there : (o : Option Transaction) → with_transaction_on c b.number o ≡ changed c c.ids j (record b { transaction = o })
   turned_there o = go b.number refl
     where
@@ -97,8 +105,8 @@ module _ (c : Client) (j : ℕ) (b : Branch) (apart : AreDistinct (λ (x : Branc
       let same = same_there ids d is.0.1 is.0.0 in
       pair_is (sym same) (sym is.1)
   new_there d ids word N a None is =
-      let now : record (with_commit_on c b.number N) { ids = c.ids + 1 } ≡ changed c ids j d =
-      ap (λ (x : Client). record x { ids = c.ids + 1 }) (committed_there N) ∙ sym (changed_as (c.ids + 1) ids (record b { own = b.own ++ N ∷ [] }) d is.1 is.0) in
+      let now : with_commit_on (with_id c) b.number N ≡ changed c ids j d =
+      id_there N ∙ ap (λ (x : Client). record x { ids = c.ids + 1 }) (committed_there N) ∙ sym (changed_as (c.ids + 1) ids (record b { own = b.own ++ N ∷ [] }) d is.1 is.0) in
       pair_is now (sym is.2)
 
   joined_there : (d : Branch) (ids : ℕ) (word : EditWord) (t : Transaction) (M : Intent) (a : Answer) (o : Option Limit) → IsPartTaken word t M o b c.ids d ids a → IsJoined c b.number t word M o (changed c ids j d) a

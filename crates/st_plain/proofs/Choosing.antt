@@ -57,7 +57,7 @@ on_main_line h w x y i v (Err e) is f = tt
 
 -- an act of a client as a whole is the same on each line
 abbrev pub IsWhole : Act → Type 0
-IsWhole x = (x ≡ acts.Join) ⊎ (((rev : Rev) × (x ≡ acts.Undo rev)) ⊎ (((new : SchemaView) × (x ≡ acts.Upgrade new)) ⊎ ((x ≡ acts.Sequence) ⊎ ((x ≡ acts.Ack) ⊎ ((x ≡ acts.Deliver) ⊎ ((x ≡ acts.Leave) ⊎ ((x ≡ acts.Drop) ⊎ ((x ≡ acts.Reconnect) ⊎ (x ≡ acts.Pending)))))))))
+IsWhole x = ((uuid : Option ℕ) × (x ≡ acts.Join uuid)) ⊎ (((rev : Rev) × (x ≡ acts.Undo rev)) ⊎ (((new : SchemaView) × (x ≡ acts.Upgrade new)) ⊎ ((x ≡ acts.Sequence) ⊎ ((x ≡ acts.Ack) ⊎ ((x ≡ acts.Deliver) ⊎ ((x ≡ acts.Leave) ⊎ ((x ≡ acts.Drop) ⊎ ((x ≡ acts.Reconnect) ⊎ (x ≡ acts.Pending)))))))))
 
 module _ (h : HeaderView) (w : WorldState) (i k : ℕ) (v : WorldState) where
   abbrev OnMain : Act → Answer → Type 0
@@ -71,7 +71,7 @@ module _ (h : HeaderView) (w : WorldState) (i k : ℕ) (v : WorldState) where
   same_act x y e same (Err z) f = tt
 
   pub as_whole : {E : Type 0} (x : Act) → IsWhole x → (r : Result Answer E) → IfOk r (OnMain x) → IfOk r (OnEach x)
-  as_whole x (inl e) r f = same_act x acts.Join e (λ a p q l at line. p q at) r f
+  as_whole x (inl p) r f = same_act x (acts.Join p.0) p.1 (λ a p q l at line. p q at) r f
   as_whole x (inr (inl p)) r f = same_act x (acts.Undo p.0) p.1 (λ a p q l at line. p q at) r f
   as_whole x (inr (inr (inl p))) r f = same_act x (acts.Upgrade p.0) p.1 (λ a p q l at line. p q at) r f
   as_whole x (inr (inr (inr (inl e)))) r f = same_act x acts.Sequence e (λ a p q l at line. p q at) r f

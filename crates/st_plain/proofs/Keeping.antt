@@ -322,11 +322,11 @@ module _ (h : HeaderView) (st : IsStart (opening_document h)) where
   kept_offline log c k w = record { received = w.received; own = w.own; edited = w.edited; branches = w.branches; names = w.names }
 
   -- of one that comes back
-  pub kept_returned : (log : List Entry) (c : Client) (k k' : Replica) → c.transaction ≡ None → IsClient h log c → IsReplicaOf h log c k → HasCaughtUp log c k k' → IsReplicaOf h (log_with log c.session Join) (with_connection log c) k'
+  pub kept_returned : (log : List Entry) (c : Client) (k k' : Replica) → c.transaction ≡ None → IsClient h log c → IsReplicaOf h log c k → HasCaughtUp log c k k' → IsReplicaOf h (log_with log c.session (Join c.uuid)) (with_connection log c) k'
   kept_returned log c k k' none own w up =
-      let longer = log_with log c.session Join in
-      let size : length longer ≡ length log + 1 = omega (arith, length-append log (last_entry log c.session Join ∷ [])) in
-      let commits : commits_in log ≡ commits_in longer = sym (entered_commits log c.session Join ∙ append-nil (commits_in log)) in
+      let longer = log_with log c.session (Join c.uuid) in
+      let size : length longer ≡ length log + 1 = omega (arith, length-append log (last_entry log c.session (Join c.uuid) ∷ [])) in
+      let commits : commits_in log ≡ commits_in longer = sym (entered_commits log c.session (Join c.uuid) ∙ append-nil (commits_in log)) in
       let whole : take (length log + 1) longer ≡ longer = take_all (length log + 1) longer (omega (arith, size)) in
       let before : k.names ≡ (0 + names_in c.pending) + names_on_all c.branches = w.names ∙ names_with c None none in
       let few : k'.names ≡ (0 + names_in (waiting log c)) + names_on_all c.branches = omega (arith, up.names, before) in
@@ -335,14 +335,14 @@ module _ (h : HeaderView) (st : IsStart (opening_document h)) where
         received = subst (λ l. Run (opening_document h) l (document_of k'.received)) split (run_then w.received up.received);
         own = up.own;
         edited = still_none k' c.transaction none up.edited;
-        branches = still_heads (opening_document h) longer c.branches k k' up.branches (heads_entered log c.session Join c.branches k.branches (branches_within log c own) w.branches);
+        branches = still_heads (opening_document h) longer c.branches k k' up.branches (heads_entered log c.session (Join c.uuid) c.branches k.branches (branches_within log c own) w.branches);
         names = few ∙ sym (names_with (with_connection log c) None none);
       }
 
   -- of a client that joins
-  pub kept_joined : (log : List Entry) (n session : ℕ) (name : List ℕ) (k : Replica) (D : Document) → n ≡ length log → Run (opening_document h) (commits_in log) D → IsNewReplica D k
-      → IsReplicaOf h log (new_client n session name) k
-  kept_joined log n session name k D is_n run new =
+  pub kept_joined : (log : List Entry) (n session uuid : ℕ) (name : List ℕ) (k : Replica) (D : Document) → n ≡ length log → Run (opening_document h) (commits_in log) D → IsNewReplica D k
+      → IsReplicaOf h log (new_client n session uuid name) k
+  kept_joined log n session uuid name k D is_n run new =
       let whole : log ≡ take n log = sym (take_all n log (omega (arith, is_n))) in
       record {
         received = subst (λ (es : List Entry). Run (opening_document h) (commits_in es) (document_of k.received)) whole (subst (λ (E : Document). Run (opening_document h) (commits_in log) E) (sym new.received) run);

@@ -14,6 +14,7 @@ pub mod Knowing
 pub mod KnownEdits
 pub mod LineActs
 pub mod ListsOf
+pub mod LogCounts
 pub mod MergeParts
 pub mod Noting
 pub mod Pendings

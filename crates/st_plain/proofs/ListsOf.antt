@@ -25,6 +25,8 @@ lists_sound w s = record {
   log_new = s.log_new;
   schema = knows_more (header_view w.header) (HasReading w.schemas) Any w.lists.log w.lists.clients (λ r text k. tt) s.schema;
   few_names = s.few_names;
+  own_ids = s.own_ids;
+  ranges = s.ranges;
 }
 
 pub has_next : (w : World) (s : StepView) (sound : IsSound w) → AllLead (header_view w.header) w.lists (lists_sound w sound) → (v : WorldState) × (a : Answer) × IsNext (header_view w.header) w.lists s v a

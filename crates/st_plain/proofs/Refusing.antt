@@ -2,7 +2,7 @@
 use Rattle.std.proofs.Common.{Err, None, Ok, Option, Result, Some, ap, refl, subst, sym, ℕ, ◌+◌, ◌≡◌}
 use Rattle.st_ids.specs.declared.names.Limit.{Limit}
 use Rattle.st_ids.specs.declared.names.Rev.{Rev}
-use Rattle.st_lists.specs.Clients.{new_transaction, next_rev}
+use Rattle.st_lists.specs.Clients.{new_transaction, next_rev, with_id}
 use Rattle.st_lists.specs.Limits.{limit_passed, names_limit_passed, own_limit_passed}
 use Rattle.st_lists.specs.Lines.{Line, with_commit_on, with_transaction_on}
 use Rattle.st_script.specs.declared.answer.Answer.TheVariants.{Commit, Abort, Begin, No}
@@ -94,7 +94,7 @@ module _ (c c' : Client) (K : Type 0) where
     where
       go : (o : Option Limit) → with_new_on c k word N o ≡ (c', a) → StaysOver o K → Left a
       go (Some over) is kept = same_pair c a (No (OverLimit over)) is (first_same (No (OverLimit over)) a is, kept)
-      go None is kept = same_pair (record (with_commit_on c k N) { ids = c.ids + 1 }) a (answer_of word (next_rev c)) is (no_refusal word (next_rev c) ((c' ≡ c) × K))
+      go None is kept = same_pair (with_commit_on (with_id c) k N) a (answer_of word (next_rev c)) is (no_refusal word (next_rev c) ((c' ≡ c) × K))
 
   joined_refused : (k : ℕ) (t : Transaction) (word : EditWord) (r : Result Intent EditFault) (a : Answer) → IsEditedIn c k t word r c' a → StaysIn c r K → Left a
   joined_refused k t word (Err f) a is kept = at_answer a (No (refusal_of f)) is.1 (is.0, kept)

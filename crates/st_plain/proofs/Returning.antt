@@ -1,5 +1,5 @@
 -- A client that comes back: what it missed is carried out, and what waits after it.
-use Rattle.st_lists.specs.Clients.{joined_of, with_connection}
+use Rattle.st_lists.specs.Clients.{carried_of, joined_of, with_connection}
 use Rattle.st_lists.specs.Names.{names_in, names_on_all}
 use Rattle.st_world_laws.proofs.Clients.{received_sound}
 use Rattle.st_world_laws.proofs.Parts.{names_edited}
@@ -16,7 +16,9 @@ use Rattle.st_script.specs.declared.answer.Answer.TheVariants.{Drop, Leave as Le
 use Rattle.st_script.specs.declared.refusal.Refusal.{Refusal}
 use Rattle.st_ids.specs.declared.names.Limit.{Limit}
 use Rattle.st_lists.specs.Limits.{entries_limit_passed}
-use Rattle.st_lists.specs.Log.{commits_by, commits_in, own_in_flight, waiting}
+use Rattle.st_lists.proofs.Texts.{carried_append}
+use Rattle.st_world_laws.proofs.Everyone.{all_get}
+use Rattle.st_lists.specs.Log.{commits_by, commits_in, own_in_flight, ranges_in, ranges_of, waiting}
 use Rattle.st_lists.specs.declared.lists.Client.{Client}
 use Rattle.st_lists.specs.declared.lists.Entry.{Entry}
 use Rattle.st_lists.specs.declared.lists.WorldState.{WorldState}
@@ -61,6 +63,14 @@ module _ (w : World) (i : ℕ) (c : Client) (k : Replica) (s : IsSound w) (at_c 
 
   pub few_kept : k.names ≤ 16384
   few_kept = omega (arith, one.kept.names, one.client.few_names)
+
+  -- the log carries no ids but those that it generated
+  pub carried_low : carried_of log c ≤ c.ids
+  carried_low = omega (arith, carried_append c.session (ranges_in log) (ranges_of c.queue), one.client.carried.within)
+
+  -- it generated at most as many as there were steps
+  pub few_ids : c.ids ≤ w.steps
+  few_ids = all_get (λ (x : Client). x.ids ≤ w.steps) w.lists.clients i c s.ids at_c
 
   -- the names of what is pending are among those that wait
   pub pending_kept : names_in c.pending ≤ k.names

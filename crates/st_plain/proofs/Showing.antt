@@ -5,9 +5,10 @@ use Rattle.st_lists.specs.declared.lists.Branch.{Branch}
 use Rattle.st_marks.specs.Document.{Document}
 use Rattle.st_script.specs.declared.refusal.Refusal.TheVariants.{HasChildren}
 use Rattle.st_plain.specs.Replicas.{IsSound}
-use Rattle.st_world.specs.World.{OnLine, OnOwnBranch, OnParent, with_new_on, HasShown, IsActOf, IsAfterEdit, IsAfterNeed, IsAllowedText, IsDeliveredIn, IsDeliveredTo, IsEditedIn, IsJoined, IsNext, AtClient, ByConnected, ShowsAllowed, abort, act_of_none, answer_of, after_edit, begin, branch_at, after_entry, commit, after_commit, drop_client, join, leave, needs_connection, reconnect, refusal_to_reconnect, opening_document, with_beginning, with_client, sequence, word_of, AtShow, IsShownTo}
+use Rattle.st_world.specs.World.{OnLine, OnOwnBranch, OnParent, with_new_on, HasShown, IsActOf, IsAfterEdit, IsAfterNeed, IsAllowedText, IsDeliveredIn, IsDeliveredTo, IsEditedIn, IsJoined, IsNext, AtClient, ByConnected, ShowsAllowed, abort, act_of_none, answer_of, after_edit, begin, branch_at, after_entry, commit, after_commit, drop_client, join, leave, needs_connection, reconnect, refusal_to_reconnect, opening_document, with_beginning, with_client, sequence, uuid_for, word_of, AtShow, IsShownTo}
+use Rattle.st_lists.specs.Log.{clashes, sessions_in}
 use Rattle.st_edits.specs.InEffect.{last_in_effect}
-use Rattle.std.proofs.Common.{◌≡◌, ℕ, Bool, true, false, cond, nat_le, List, [], ◌∷◌, length, Option, Some, None, option_map, option_and_then, Result, Ok, Err, refl, sym, ap, ◌∙◌, subst}
+use Rattle.std.proofs.Common.{◌≡◌, ◌+◌, ℕ, Bool, true, false, cond, nat_le, List, [], ◌∷◌, length, Option, Some, None, option_map, option_and_then, Result, Ok, Err, refl, sym, ap, ◌∙◌, subst}
 use Rattle.serde_json.specs.Written.{compact_text}
 use Rattle.st_ids.specs.declared.names.Limit.{Limit}
 use Rattle.st_ids.specs.declared.names.Rev.{Rev}
@@ -73,11 +74,12 @@ module _ (P : List ℕ → Type 0) where
   answered_fine EditWord.Clear rev = tt
   answered_fine EditWord.Need rev = tt
 
-  join_fine : (w : WorldState) (name : List ℕ) → Fine (join w name)
-  join_fine w name = either Fine (nat_le 64 (length w.clients)) _ _ tt (either Fine (nat_le 65535 (length w.log)) _ _ tt tt)
+  join_fine : (w : WorldState) (name : List ℕ) (told : Option ℕ) → Fine (join w name told)
+  join_fine w name told =
+      either Fine (nat_le 64 (length w.clients)) _ _ tt (either Fine (nat_le 65535 (length w.log)) _ _ tt (either Fine (clashes (uuid_for (sessions_in w.log + 1) told) w.log) _ _ tt tt))
 
   none_fine : (w : WorldState) (name : List ℕ) (x : ActView) → Fine (act_of_none w name x)
-  none_fine w name step.join = join_fine w name
+  none_fine w name (step.join uuid) = join_fine w name uuid
   none_fine w name (step.edit e) = tt
   none_fine w name (step.need path) = tt
   none_fine w name step.begin = tt
@@ -220,7 +222,7 @@ module _ (P : List ℕ → Type 0) where
 -- what the client at the place does
 of_fine : (P : List ℕ → Type 0) (w : World) (x : ActView) (i : ℕ) (c : Client) (k : ℕ) (l : Line) (v : WorldState) (a : Answer) → IsSound w → slice_get w.lists.clients i ≡ Some c → line_of c k ≡ Some l → IsActOf (header_view w.header) w.lists x i c k l v a
     → ((E : Document) (text : List ℕ) → HasShown (opening_document (header_view w.header)) w.lists.log l E → IsTreeText (is_array_type (schema_in_effect E)) E text → P text) → AtShow P a
-of_fine P w step.join i c k l v a sound at line is tree = subst (AtShow P) (sym is.1) tt
+of_fine P w (step.join uuid) i c k l v a sound at line is tree = subst (AtShow P) (sym is.1) tt
 of_fine P w (step.edit e) i c k l v a sound at line is tree = edit_fine P c is.1 k l l.transaction (word_of e) _ a is.3
 of_fine P w (step.need path) i c k l v a sound at line is tree = need_fine P c is.1 k l.transaction _ a is.3
 of_fine P w step.begin i c k l v a sound at line is tree = subst (AtShow P) (ap (λ (q : Client × Answer). q.1) is.3) (begin_fine P c k l l.transaction (last_in_effect is.0))

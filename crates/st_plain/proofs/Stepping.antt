@@ -30,8 +30,11 @@ use Rattle.st_script.specs.Steps.{StepView}
 use Rattle.st_plain_schemas.specs.Schemas.{HasReading}
 use Rattle.st_plain_schemas.specs.declared.known.KnownSchema.{KnownSchema}
 use Rattle.st_plain.specs.Replicas.{AreReplicas, IsReplicaOf, IsSound, IsSoundAfter}
-use Rattle.st_world_laws.specs.Worlds.{HaveOwnSessions, IsClient, IsEntryOf, KeepToSchemas}
-use Rattle.st_lists.specs.Log.{commit_in, commits_of_text, connected_after, is_text, minimum, sessions_in, commits_in, log_with}
+use Rattle.st_world_laws.specs.Worlds.{HasOwnIds, HaveOwnSessions, IsClient, IsEntryOf, KeepToSchemas}
+use Rattle.st_lists.specs.Log.{commit_in, commits_of_text, connected_after, is_text, minimum, ranges_in, sessions_in, commits_in, log_with}
+use Rattle.st_clusters.specs.Log.{AreInTurn}
+use Rattle.st_clusters.specs.declared.ids.IdRange.{IdRange}
+use Rattle.st_world_laws.proofs.Ranges.{entered_ranges, none_carried, own_ids_sent, ranges_sent, same_ranges}
 use Rattle.st_lists.specs.Known.{AreConnected, AreKnown}
 use Rattle.st_lists.proofs.Minima.{minima_more}
 use Rattle.st_lists.proofs.Present.{all_rest, connected_goes, connected_joined, connected_left, connected_stays, distinct_more, distinct_rest, distinct_set, rest_fewer, session_of, sessions_entered, text_stays}
@@ -46,7 +49,7 @@ use Rattle.st_lists.specs.declared.lists.WorldState.{WorldState}
 use Rattle.st_plain.specs.declared.world.World.{World}
 use Rattle.st_world_laws.proofs.Agreed.{dropped_keeps, joined_keeps, left_keeps, returned_keeps, sent_keeps}
 use Rattle.st_world_laws.proofs.Begun.{IsStart, opened_start}
-use Rattle.st_world_laws.proofs.Clients.{client_joined, client_offline, client_returned}
+use Rattle.st_world_laws.proofs.Clients.{client_joined, client_offline, client_returned, no_ids}
 use Rattle.st_lists.proofs.Names.{names_append, names_of_text}
 use Rattle.st_plain.proofs.Everyone.{all_after_text, all_sent, clients_of, kept_at, kept_none, kept_push, kept_set, kept_some, kept_without}
 use Rattle.st_world_laws.proofs.Everyone.{all_as, all_get, all_set, past, set_same}
@@ -80,6 +83,8 @@ sound_later steps w s = record {
   log = s.log;
   log_fit = s.log_fit;
   log_new = s.log_new;
+  own_ids = s.own_ids;
+  ranges = s.ranges;
   schema = s.schema;
   log_document = s.log_document;
   entries = s.entries;
@@ -109,6 +114,8 @@ sound_client_with w i c c' k' schemas s at one session connected ids forks keeps
   log = s.log;
   log_fit = s.log_fit;
   log_new = s.log_new;
+  own_ids = s.own_ids;
+  ranges = s.ranges;
   schema = keeps;
   log_document = s.log_document;
   entries = s.entries;
@@ -192,6 +199,8 @@ sound_sent w i c c' text log_document known logged s at is is_c few few_names no
       log = AllByRecursion-append IsEntryOf log (last_entry log c.session text ∷ []) s.log (last.session, tt);
       log_fit = subst (FitInTurn (opening_document h)) commits last.fit;
       log_new = subst (HaveNewRevisions (opening ∷ [])) commits last.new;
+      own_ids = AllByRecursion-append HasOwnIds log (last_entry log c.session text ∷ []) s.own_ids (own_ids_sent (ranges_in log) c text c'.queue is k.carried, tt);
+      ranges = subst AreInTurn (sym (entered_ranges log c.session text)) (ranges_sent (ranges_in log) c text c'.queue is k.carried s.ranges);
       schema = sent_keeps h st (HasReading w.schemas) log w.lists.clients i c c' text (clients_of h log w.lists.clients w.kept s.kept) at is is_c last.fit last.new s.schema;
       log_document = subst (λ l. Run (opening_document h) l (document_of log_document)) commits (run_entered (opening_document h) (document_of w.log_document) (document_of log_document) L (commit_in text) s.log_document entered);
       entries = omega (arith, few, length-append log (last_entry log c.session text ∷ []));
@@ -247,6 +256,8 @@ sound_entered w session body cs ks known sessions s x =
       log = AllByRecursion-append IsEntryOf log (last_entry log session body ∷ []) s.log (subst (λ o. IfSome o (λ (N : Intent). N.rev.session ≡ session)) (sym x.none) tt, tt);
       log_fit = subst (FitInTurn (opening_document h)) commits s.log_fit;
       log_new = subst (HaveNewRevisions (opening ∷ [])) commits s.log_new;
+      own_ids = AllByRecursion-append HasOwnIds log (last_entry log session body ∷ []) s.own_ids (subst (λ o. IfSome o (λ (r : IdRange). r.session ≡ session)) (sym (no_ids body x.none)) tt, tt);
+      ranges = subst AreInTurn (sym (same_ranges log session body (no_ids body x.none))) s.ranges;
       schema = x.schema;
       log_document = subst (λ l. Run (opening_document h) l (document_of w.log_document)) commits s.log_document;
       entries = omega (arith, x.few, size);
@@ -262,49 +273,49 @@ sound_entered w session body cs ks known sessions s x =
 apart_from_next : (w : World) → IsSound w → (x : Client) → Has w.lists.clients x → x.session ≢ sessions_in w.lists.log + 1
 apart_from_next w s x i e = omega (arith, all-has (λ (c : Client). c.session ≤ sessions_in w.lists.log) w.lists.clients x s.given i, e)
 
-pub joined_connected : (w : World) (session : ℕ) (c : Client) → IsSound w → session ≡ sessions_in w.lists.log + 1 → c.session ≡ session → c.connected ≡ true → AreConnected (log_with w.lists.log session Join) (w.lists.clients ++ c ∷ [])
-joined_connected w session c s next same on =
-    subst (λ n. AreConnected (log_with w.lists.log n Join) (w.lists.clients ++ c ∷ [])) same
-    (connected_joined w.lists.log w.lists.clients c (λ x i e. apart_from_next w s x i (e ∙ same ∙ next)) on s.connected)
+pub joined_connected : (w : World) (session uuid : ℕ) (c : Client) → IsSound w → session ≡ sessions_in w.lists.log + 1 → c.session ≡ session → c.connected ≡ true → AreConnected (log_with w.lists.log session (Join uuid)) (w.lists.clients ++ c ∷ [])
+joined_connected w session uuid c s next same on =
+    subst (λ n. AreConnected (log_with w.lists.log n (Join uuid)) (w.lists.clients ++ c ∷ [])) same
+    (connected_joined w.lists.log w.lists.clients c uuid (λ x i e. apart_from_next w s x i (e ∙ same ∙ next)) on s.connected)
 
-pub sound_joined : (w : World) (name : List ℕ) (n session : ℕ) (c : Client) (k : Replica) (known : BTreeMap ℕ ℕ) → IsSound w → length w.lists.clients < 64 → length w.lists.log < 65535 → session ≡ sessions_in w.lists.log + 1
-    → n ≡ length w.lists.log + 1 → AreKnown (log_with w.lists.log session Join) known → c ≡ new_client n session name → IsNewReplica (document_of w.log_document) k
+pub sound_joined : (w : World) (name : List ℕ) (n session uuid : ℕ) (c : Client) (k : Replica) (known : BTreeMap ℕ ℕ) → IsSound w → length w.lists.clients < 64 → length w.lists.log < 65535 → session ≡ sessions_in w.lists.log + 1
+    → n ≡ length w.lists.log + 1 → AreKnown (log_with w.lists.log session (Join uuid)) known → c ≡ new_client n session uuid name → IsNewReplica (document_of w.log_document) k
     → IsSoundAfter (w.steps + 1) (record w {
-      lists = record w.lists { log = log_with w.lists.log session Join; clients = w.lists.clients ++ c ∷ [] };
+      lists = record w.lists { log = log_with w.lists.log session (Join uuid); clients = w.lists.clients ++ c ∷ [] };
       kept = w.kept ++ k ∷ [];
       known = known;
-      minima = w.minima ++ minimum (log_with w.lists.log session Join) ∷ [];
+      minima = w.minima ++ minimum (log_with w.lists.log session (Join uuid)) ∷ [];
       sessions = session;
     })
-sound_joined w name n session c k known s few few_entries is_s is_n knows is_c new =
+sound_joined w name n session uuid c k known s few few_entries is_s is_n knows is_c new =
     let h = header_view w.header in
     let st = start_of w w.steps s in
     let log = w.lists.log in
     let L = commits_in log in
-    let longer = log_with log session Join in
-    let commits : L ≡ commits_in longer = sym (entered_commits log session Join ∙ append-nil L) in
-    let size : length longer ≡ length log + 1 = omega (arith, length-append log (last_entry log session Join ∷ [])) in
+    let longer = log_with log session (Join uuid) in
+    let commits : L ≡ commits_in longer = sym (entered_commits log session (Join uuid) ∙ append-nil L) in
+    let size : length longer ≡ length log + 1 = omega (arith, length-append log (last_entry log session (Join uuid) ∷ [])) in
     let more : length (w.lists.clients ++ c ∷ []) ≡ length w.lists.clients + 1 = omega (arith, length-append w.lists.clients (c ∷ [])) in
-    let client = client_joined h st log session name s.log_fit s.log_new (λ N i e. omega (arith, of_sessions log N s.log i, e, is_s)) in
-    let kept = kept_joined h st longer (length log + 1) session name k (document_of w.log_document) (sym size) (subst (λ l. Run (opening_document h) l (document_of w.log_document)) commits s.log_document) new in
-    let is : new_client (length log + 1) session name ≡ c = ap (λ m. new_client m session name) (sym is_n) ∙ sym is_c in
+    let client = client_joined h st log session uuid name (omega (arith, is_s)) (none_carried log session (omega (arith, is_s)) s.own_ids) s.log_fit s.log_new (λ N i e. omega (arith, of_sessions log N s.log i, e, is_s)) in
+    let kept = kept_joined h st longer (length log + 1) session uuid name k (document_of w.log_document) (sym size) (subst (λ l. Run (opening_document h) l (document_of w.log_document)) commits s.log_document) new in
+    let is : new_client (length log + 1) session uuid name ≡ c = ap (λ m. new_client m session uuid name) (sym is_n) ∙ sym is_c in
     let mine : c.session ≡ session = ap (λ (x : Client). x.session) is_c in
-    let given : sessions_in longer ≡ session = omega (arith, is_s, sessions_entered log session Join) in
-    sound_entered w session Join (w.lists.clients ++ c ∷ []) (w.kept ++ k ∷ []) known session s (record {
+    let given : sessions_in longer ≡ session = omega (arith, is_s, sessions_entered log session (Join uuid)) in
+    sound_entered w session (Join uuid) (w.lists.clients ++ c ∷ []) (w.kept ++ k ∷ []) known session s (record {
       none = refl;
       few = few_entries;
-      kept = kept_push h longer w.lists.clients w.kept c k (all_after_text h st log session Join refl w.lists.clients w.kept s.kept)
+      kept = kept_push h longer w.lists.clients w.kept c k (all_after_text h st log session (Join uuid) refl w.lists.clients w.kept s.kept)
           (subst (λ x. IsClient h longer x) is client) (subst (λ x. IsReplicaOf h longer x k) is kept);
       sessions = distinct_more session_of w.lists.clients c s.sessions (λ x i e. apart_from_next w s x i (e ∙ mine ∙ is_s));
-      given = AllByRecursion-append (λ (x : Client). x.session ≤ sessions_in longer) w.lists.clients (c ∷ []) (given_still log session Join w.lists.clients s.given) (omega (arith, mine, given), tt);
+      given = AllByRecursion-append (λ (x : Client). x.session ≤ sessions_in longer) w.lists.clients (c ∷ []) (given_still log session (Join uuid) w.lists.clients s.given) (omega (arith, mine, given), tt);
       counted = sym given;
       few_sessions = omega (arith, is_s, s.few_sessions);
       clients = omega (arith, few, more);
       ids = AllByRecursion-append (λ (x : Client). x.ids ≤ w.steps) w.lists.clients (c ∷ []) s.ids (omega (arith, ap (λ (x : Client). x.ids) is_c), tt);
       forks = AllByRecursion-append (λ (x : Client). x.forks ≤ w.steps) w.lists.clients (c ∷ []) s.forks (omega (arith, ap (λ (x : Client). x.forks) is_c), tt);
-      schema = joined_keeps h st (HasReading w.schemas) log w.lists.clients session name c (clients_of h log w.lists.clients w.kept s.kept) (sym is) s.schema;
+      schema = joined_keeps h st (HasReading w.schemas) log w.lists.clients session uuid name c (clients_of h log w.lists.clients w.kept s.kept) (sym is) s.schema;
       known = knows;
-      connected = joined_connected w session c s is_s mine (ap (λ (x : Client). x.connected) is_c);
+      connected = joined_connected w session uuid c s is_s mine (ap (λ (x : Client). x.connected) is_c);
     })
 
 -- an entry of a client that is there gives no session more
@@ -407,29 +418,29 @@ sound_dropped w i c known s at few knows = go (slice_get w.kept i) refl
     go (Some k) at_k = by k at_k
 
 -- a client comes back
-pub returned_connected : (w : World) (i : ℕ) (c c' : Client) → IsSound w → slice_get w.lists.clients i ≡ Some c → c' ≡ with_connection w.lists.log c → AreConnected (log_with w.lists.log c.session Join) (slice_set w.lists.clients i c')
-returned_connected w i c c' s at is = connected_goes w.lists.log w.lists.clients i c at s.sessions s.connected c' Join (ap (λ (x : Client). x.session) is) (sym (ap (λ (x : Client). x.connected) is))
+pub returned_connected : (w : World) (i : ℕ) (c c' : Client) → IsSound w → slice_get w.lists.clients i ≡ Some c → c' ≡ with_connection w.lists.log c → AreConnected (log_with w.lists.log c.session (Join c.uuid)) (slice_set w.lists.clients i c')
+returned_connected w i c c' s at is = connected_goes w.lists.log w.lists.clients i c at s.sessions s.connected c' (Join c.uuid) (ap (λ (x : Client). x.session) is) (sym (ap (λ (x : Client). x.connected) is))
 
 pub sound_returned : (w : World) (i : ℕ) (c c' : Client) (k k' : Replica) (known : BTreeMap ℕ ℕ) → IsSound w → slice_get w.lists.clients i ≡ Some c → slice_get w.kept i ≡ Some k → c.transaction ≡ None → length w.lists.log < 65535
-    → AreKnown (log_with w.lists.log c.session Join) known → c' ≡ with_connection w.lists.log c → HasCaughtUp w.lists.log c k k'
+    → AreKnown (log_with w.lists.log c.session (Join c.uuid)) known → c' ≡ with_connection w.lists.log c → HasCaughtUp w.lists.log c k k'
     → IsSoundAfter (w.steps + 1) (record w {
-      lists = record w.lists { log = log_with w.lists.log c.session Join; clients = slice_set w.lists.clients i c' };
+      lists = record w.lists { log = log_with w.lists.log c.session (Join c.uuid); clients = slice_set w.lists.clients i c' };
       kept = slice_set w.kept i k';
       known = known;
-      minima = w.minima ++ minimum (log_with w.lists.log c.session Join) ∷ [];
+      minima = w.minima ++ minimum (log_with w.lists.log c.session (Join c.uuid)) ∷ [];
     })
 sound_returned w i c c' k k' known s at at_k none few knows is_c up =
     let h = header_view w.header in
     let st = start_of w w.steps s in
     let log = w.lists.log in
-    let longer = log_with log c.session Join in
+    let longer = log_with log c.session (Join c.uuid) in
     let one = kept_at h log w.lists.clients w.kept i c k s.kept at at_k in
-    let all = all_after_text h st log c.session Join refl w.lists.clients w.kept s.kept in
+    let all = all_after_text h st log c.session (Join c.uuid) refl w.lists.clients w.kept s.kept in
     let now : AreOne h longer (with_connection log c) k' = record { client = client_returned h st log c one.client none; kept = kept_returned h st log c k k' none one.client one.kept up } in
     let is : AreOne h longer c' k' = subst (λ x. AreOne h longer x k') (sym is_c) now in
     let keeps = subst (λ x. KeepToSchemas h (HasReading w.schemas) longer (slice_set w.lists.clients i x)) (sym is_c) (returned_keeps h st (HasReading w.schemas) log w.lists.clients i c (clients_of h log w.lists.clients w.kept s.kept) at none s.schema) in
-    sound_entered w c.session Join (slice_set w.lists.clients i c') (slice_set w.kept i k') known w.sessions s
-    (set_entered w i c c' (slice_set w.kept i k') Join known s at refl few (ap (λ (x : Client). x.session) is_c) (ap (λ (x : Client). x.ids) is_c) (ap (λ (x : Client). x.forks) is_c) (kept_set h longer w.lists.clients w.kept i c' k' all is) keeps (returned_connected w i c c' s at is_c) knows)
+    sound_entered w c.session (Join c.uuid) (slice_set w.lists.clients i c') (slice_set w.kept i k') known w.sessions s
+    (set_entered w i c c' (slice_set w.kept i k') (Join c.uuid) known s at refl few (ap (λ (x : Client). x.session) is_c) (ap (λ (x : Client). x.ids) is_c) (ap (λ (x : Client). x.forks) is_c) (kept_set h longer w.lists.clients w.kept i c' k' all is) keeps (returned_connected w i c c' s at is_c) knows)
 
 -- ## Answers
 
@@ -443,7 +454,7 @@ pub next_present : (h : HeaderView) (w : WorldState) (s : StepView) (i : ℕ) (v
 next_present h w s i v a is does = rw is (at (slice_get w.clients i) refl)
   where
     within : i < length w.clients
-    within = (position-Some (λ (c : Client). pointwise nat_eq c.name s.client) w.clients i (new_client 0 0 []) is).0
+    within = (position-Some (λ (c : Client). pointwise nat_eq c.name s.client) w.clients i (new_client 0 0 0 []) is).0
 
     at : (o : Option Client) → slice_get w.clients i ≡ o → AtClient h w s (option_map (λ c. (i, c)) (slice_get w.clients i)) v a
     at None none = absurd (past w.clients i within none)

@@ -11,7 +11,8 @@ use Rattle.st_heads.specs.Remembered.{AreCarried}
 use Rattle.st_heads.specs.Transactions.{HasOpen}
 use Rattle.st_script.specs.Header.{HeaderView, header_view}
 use Rattle.st_lists.specs.Known.{AreConnected, AreKnown, AreMinima}
-use Rattle.st_lists.specs.Log.{commits_in, sessions_in}
+use Rattle.st_clusters.specs.Log.{AreInTurn}
+use Rattle.st_lists.specs.Log.{commits_in, ranges_in, sessions_in}
 use Rattle.st_lists.specs.Clients.{HasReceived, joined_of}
 use Rattle.st_lists.specs.Lines.{base_of, branch_line, edited_on}
 use Rattle.st_plain_undo.specs.Logged.{AreLogged}
@@ -24,7 +25,7 @@ use Rattle.st_lists.specs.declared.lists.Branch.{Branch}
 use Rattle.st_lists.specs.declared.lists.Client.{Client}
 use Rattle.st_lists.specs.declared.lists.Entry.{Entry}
 use Rattle.st_plain.specs.declared.world.World.{World}
-use Rattle.st_world_laws.specs.Worlds.{HaveOwnSessions, IsClient, IsEntryOf, IsHeader, KeepToSchemas}
+use Rattle.st_world_laws.specs.Worlds.{HasOwnIds, HaveOwnSessions, IsClient, IsEntryOf, IsHeader, KeepToSchemas}
 
 -- what is kept of a branch is the head of its line: the document to which its commits lead, how its own came out, and what
 -- is edited beside them in the open transaction
@@ -73,6 +74,8 @@ pub record IsSoundAfter (steps : ℕ) (w : World) : Type 0 where
   pub log : AllByRecursion IsEntryOf w.lists.log
   pub log_fit : FitInTurn (opening_document (header_view w.header)) (commits_in w.lists.log)
   pub log_new : HaveNewRevisions (opening ∷ []) (commits_in w.lists.log)
+  pub own_ids : AllByRecursion HasOwnIds w.lists.log
+  pub ranges : AreInTurn (ranges_in w.lists.log)
   -- which schema is the last in effect in a document is told by its revision, and the schema is kept
   pub schema : KeepToSchemas (header_view w.header) (HasReading w.schemas) w.lists.log w.lists.clients
   pub log_document : Run (opening_document (header_view w.header)) (commits_in w.lists.log) (document_of w.log_document)

@@ -1,2 +1,3 @@
 -- The words of private functions: no public contract reaches them.
+pub mod Counted
 pub mod Replicas

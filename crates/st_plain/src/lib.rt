@@ -3,6 +3,7 @@
 
 mod branch_edit_steps;
 mod branch_steps;
+mod counting;
 mod edit_steps;
 mod laws;
 mod pending;

@@ -154,8 +154,9 @@ impl World {
             return Ok(Answer::No(refusal));
         }
         let session = client.session;
+        let uuid = client.uuid;
         let sent = catch_up(alloc, log, client, kept)?;
-        let n = self.enter(session, Body::Join)?;
+        let n = self.enter(session, Body::Join { uuid })?;
         Ok(Answer::Reconnect { n, sent })
     }
 }

@@ -9,7 +9,7 @@ ghost use Rattle.st_doc.specs.Doc.{document_of};
 ghost use Rattle.st_script.specs.Header.{HeaderView, header_view};
 ghost use Rattle.st_script.specs.Steps.{act_view, step_view, IsActWithin, IsWithinLimits};
 ghost use Rattle.st_lists.specs.Clients.{empty_state, place_of};
-ghost use Rattle.st_world.specs.World.{opening_document, limit_refusal, join, sequence, act_of_none, branch_at, needs_connection, IsDelivered, IsShown, IsActOf, IsNext, AtRefusal, ShowsAllowed};
+ghost use Rattle.st_world.specs.World.{opening_document, limit_refusal, enter, join, sequence, uuid_for, act_of_none, branch_at, needs_connection, IsDelivered, IsShown, IsActOf, IsNext, AtRefusal, ShowsAllowed};
 ghost use Rattle.st_lists.specs.Lines.{Line, line_of, main_line};
 ghost use Rattle.st_lists.specs.Names.{names_in_text};
 ghost use Rattle.st_lists.specs.Limits.{log_limit_passed};
@@ -19,14 +19,15 @@ ghost use Rattle.st_plain.specs.Replicas.{IsSound};
 ghost use Rattle.st_plain.specs.Stands.{IsSpent, MayStep, Stands};
 ghost use Rattle.st_plain.specs.inside.Replicas.{HasLogged, IsSoundNext};
 ghost use Rattle.st_lists.specs.Known.{AreConnected, AreKnown};
-ghost use Rattle.st_lists.specs.Log.{commit_in, log_with, minimum};
+ghost use Rattle.st_lists.specs.Log.{commit_in, log_with, minimum, sessions_in};
 ghost use Rattle.st_lists.specs.declared.lists.Client.{Client as Present};
 ghost use Rattle.st_lists.specs.declared.lists.WorldState.{WorldState as Lists};
 
+use st_clusters::uuid_of;
 use st_doc::Doc;
 use st_heads::{Replica, carry_one};
 use st_ids::{Copied, Limit, LimitOf, List, Or, Rev, Text};
-use st_lists::{Body, Client, WorldState, append_entry, minimum, names_in_text};
+use st_lists::{Body, Client, WorldState, append_entry, clashes, minimum, names_in_text};
 use st_plain_branches::{head_of, line_state};
 use st_plain_log::{add_client, add_replica, deliver, names_waiting, take_text};
 use st_plain_schemas::{KnownSchema, keep, know, schema_of};
@@ -85,6 +86,16 @@ fn limit_refusal(of: LimitOf, kept: u32) -> Answer
     Answer::No(Refusal::Limit(Limit { of, kept }))
 }
 
+// The UUID of a session: the one that is told, or else the one whose free number is the session's times 2^64.
+fn uuid_for(session: u32, told: Option<u128>) -> u128
+    ensures { result ≡ uuid_for session told }
+{
+    match told {
+        None => uuid_of(u128::from(session) * (1 << 64)),
+        Some(uuid) => uuid,
+    }
+}
+
 // The document of a header's tree.
 fn opening(alloc: Global, header: &Header) -> Result<Doc, AllocError>
     requires { IsHeader (header_view header.now) }
@@ -133,7 +144,7 @@ fn branch_of(step: &TraceStep) -> u32
         | Act::Merge
         | Act::DropBranch
         | Act::Show => { step.branch }
-        Act::Join
+        Act::Join { .. }
         | Act::Undo { .. }
         | Act::Upgrade { .. }
         | Act::Sequence
@@ -152,7 +163,7 @@ fn needs_connection(act: &Act) -> bool
 {
     match act {
         Act::Sequence | Act::Ack | Act::Deliver | Act::Leave | Act::Drop => true,
-        Act::Join
+        Act::Join { .. }
         | Act::Edit(_)
         | Act::Need { .. }
         | Act::Begin
@@ -361,11 +372,34 @@ impl World {
         }
     }
 
-    // A client of that name joins, unless there are too many, or too many entries.
-    fn join(&mut self, alloc: Global, name: &Text) -> Result<Answer, AllocError>
+    // A client of that name enters by the next session, with a UUID.
+    fn enter_client(&mut self, alloc: Global, name: &Text, uuid: u128) -> Result<Answer, AllocError>
         requires sound { IsSound self.old }
         requires few { self.old.steps + 1 < 2 ^ 32 }
-        ensures next { IfOk result (λ a. join self.old.lists name.now ≡ (self.new.lists, a)) }
+        requires clients { length self.old.lists.clients < 64 }
+        requires entries { length self.old.lists.log < 65535 }
+        ensures next { IfOk result (λ a. enter self.old.lists (sessions_in self.old.lists.log + 1) uuid name.now ≡ (self.new.lists, a)) }
+        ensures sound { OnOk result (IsSoundNext self.new) }
+        ensures steps { OnOk result (self.new.steps ≡ self.old.steps) }
+        ensures header { OnOk result (self.new.header ≡ self.old.header) }
+        ensures spent { self.new.spent ≡ self.old.spent }
+    {
+        let s = self.sessions + 1;
+        append_entry(&mut self.lists.log, &mut self.known, s, Body::Join { uuid })?;
+        let n = self.lists.log.len() as u32;
+        add_replica(alloc, &mut self.kept, &self.log_document)?;
+        add_client(alloc, &mut self.lists.clients, n, s, uuid, name)?;
+        self.keep_minimum()?;
+        self.sessions = s;
+        Ok(Answer::Join { n, s })
+    }
+
+    // A client of that name joins, unless there are too many, or too many entries, or the stable ids of its session would be
+    // those of another.
+    fn join(&mut self, alloc: Global, name: &Text, told: Option<u128>) -> Result<Answer, AllocError>
+        requires sound { IsSound self.old }
+        requires few { self.old.steps + 1 < 2 ^ 32 }
+        ensures next { IfOk result (λ a. join self.old.lists name.now told ≡ (self.new.lists, a)) }
         ensures sound { OnOk result (IsSoundNext self.new) }
         ensures steps { OnOk result (self.new.steps ≡ self.old.steps) }
         ensures header { OnOk result (self.new.header ≡ self.old.header) }
@@ -380,14 +414,11 @@ impl World {
         if entries >= MOST_ENTRIES {
             return Ok(limit_refusal(LimitOf::Log, entries as u32));
         }
-        let s = self.sessions + 1;
-        append_entry(&mut self.lists.log, &mut self.known, s, Body::Join)?;
-        let n = self.lists.log.len() as u32;
-        add_replica(alloc, &mut self.kept, &self.log_document)?;
-        add_client(alloc, &mut self.lists.clients, n, s, name)?;
-        self.keep_minimum()?;
-        self.sessions = s;
-        Ok(Answer::Join { n, s })
+        let uuid = uuid_for(self.sessions + 1, told);
+        if clashes(uuid, self.lists.log.as_slice()) {
+            return Ok(Answer::No(Refusal::Clash));
+        }
+        self.enter_client(alloc, name, uuid)
     }
 
     // The tree that a line of the client at a place shows.
@@ -432,7 +463,7 @@ impl World {
         ensures refused { IfOk result (λ a. AtRefusal a (self.new ≡ self.old)) }
     {
         match &step.act {
-            Act::Join => self.join(alloc, &step.client),
+            Act::Join { uuid } => self.join(alloc, &step.client, *uuid),
             Act::Edit(_)
             | Act::Need { .. }
             | Act::Begin
@@ -470,7 +501,7 @@ impl World {
         ensures refused { IfOk result (λ a. AtRefusal a (self.new ≡ self.old)) }
     {
         match act {
-            Act::Join => Ok(Answer::No(Refusal::Taken)),
+            Act::Join { .. } => Ok(Answer::No(Refusal::Taken)),
             Act::Edit(edit) => self.edit(alloc, i, edit),
             Act::Need { at } => self.need(alloc, i, at),
             Act::Begin => Ok(self.begin_transaction(i)),
@@ -534,7 +565,7 @@ impl World {
                 let answer = self.show(alloc, i, number)?;
                 Ok(answer)
             }
-            Act::Join
+            Act::Join { .. }
             | Act::Undo { .. }
             | Act::Upgrade { .. }
             | Act::Sequence

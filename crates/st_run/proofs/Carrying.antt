@@ -14,7 +14,7 @@ use Rattle.st_answers.specs.Endings.{Output, bad_line, before, cut_short, ended,
 use Rattle.st_answers.specs.Meaning.{EndsAt, FailsAt, FinishesAt, Meaning}
 use Rattle.st_answers.specs.Run.{IsAnsweredAs, IsCarriedOut, WritesAll, WritesPrefix}
 use Rattle.st_answers.specs.declared.command.Command.{Command}
-use Rattle.st_answers.specs.declared.outcome.Outcome.TheVariants.{Done, BadLine, TooLong, ReadFault, WriteFault, NoMemory}
+use Rattle.st_answers.specs.declared.outcome.Outcome.TheVariants.{Done, BadLine, TooLong, NoMemory}
 use Rattle.st_run.specs.inside.Ends.{outcome_of}
 
 module _ (m : Meaning) where
@@ -89,14 +89,14 @@ carried_out c left rest old new run.WriteFault r = told_partly (meaning_of c) le
 carried_out c left rest old new run.NoMemory r = told_partly (meaning_of c) left old new r
 
 -- nothing was written
-none : (old : Option (List ℕ)) → Appends old [] old
-none None = tt
-none (Some bs) = ap Some (sym (append-nil bs))
+pub nothing_added : (old : Option (List ℕ)) → Appends old [] old
+nothing_added None = tt
+nothing_added (Some bs) = ap Some (sym (append-nil bs))
 
 nothing_carried : (c : Command) (left rest old : Option (List ℕ)) → IsCarriedOut c left rest old old NoMemory
 nothing_carried c None rest old = tt
-nothing_carried c (Some bytes) rest old = (cut_short, short_of (meaning_of c) (meaning_of c).first 1 0 (cut bytes), (0, none old))
+nothing_carried c (Some bytes) rest old = (cut_short, short_of (meaning_of c) (meaning_of c).first 1 0 (cut bytes), (0, nothing_added old))
 
 pub nothing_answered : (asked : Option Command) (left old : Option (List ℕ)) → IsAnsweredAs asked left left old old NoMemory
 nothing_answered (Some c) left old = nothing_carried c left left old
-nothing_answered None left old = (refl, (usage_output, refl, (0, none old)))
+nothing_answered None left old = (refl, (usage_output, refl, (0, nothing_added old)))

@@ -1,5 +1,5 @@
 -- Each input has its answers under a command other than `algebra`: some output is told of it in which nothing failed.
-use Rattle.std.proofs.Common.{◌≡◌, ◌≢◌, ap, ◌⊎◌, ℕ, ◌+◌, Bool, true, false, List, [], ◌∷◌, ◌++◌, length, Option, Some, None, Result, Ok, Err, codes, refl, inl, inr}
+use Rattle.std.proofs.Common.{◌≡◌, ◌≢◌, ap, ◌⊎◌, ℕ, ◌+◌, Bool, true, false, List, [], ◌∷◌, ◌++◌, length, Option, Some, None, option_and_then, Result, Ok, Err, codes, refl, inl, inr}
 use Rattle.st_json.specs.declared.fault.BadCause.{BadCause}
 use Rattle.st_json.specs.declared.fault.BadCause.TheVariants.{Header, Shape}
 use Rattle.st_compat.specs.Compared.{IsCompared}
@@ -28,7 +28,13 @@ use Rattle.st_answers.specs.Answers.{Answers, AnswersFrom, AnswersLine}
 use Rattle.st_answers.specs.Compat.{CompatState, TakesCompat, compat, related, stored, unread}
 use Rattle.st_answers.specs.Endings.{Output, bad_line, before, ended, long_output, usage_output}
 use Rattle.st_answers.specs.Meaning.{Meaning}
-use Rattle.st_answers.specs.Run.{IsAnswered, IsAnsweredAs, NothingFailed, command_of}
+use Rattle.st_answers.specs.Run.{IsAnswered, IsAnsweredAs, IsAnsweredTo, NothingFailed, command_asked, command_of}
+use Rattle.st_words.specs.Table.{request_in}
+use Rattle.st_words.specs.declared.request.Request.{Request}
+use Rattle.st_words.specs.declared.request.Request.TheVariants as request
+use Rattle.st_run.specs.inside.Working.{IsShortWork}
+use Rattle.st_run.proofs.LoadsExist.{work_line_exists}
+use Rattle.st_run.proofs.Requested.{short_request}
 use Rattle.st_answers.specs.Trace.{TakesTrace, TraceState, opened, trace, unopened}
 use Rattle.st_answers.specs.declared.command.Command.{Command}
 use Rattle.st_answers.specs.declared.command.Command.TheVariants.{Trace, Compat, Algebra}
@@ -95,7 +101,7 @@ IsWorldIn (opened h w) = IsWorld h w
 
 -- the schema of a step that a line holds keeps the rules
 fits_rules : (branch : ℕ) (x : ActView) → FitsAct branch x → KeepsRules x
-fits_rules branch step.join h = tt
+fits_rules branch (step.join uuid) h = tt
 fits_rules branch (step.edit e) h = tt
 fits_rules branch (step.need at) h = tt
 fits_rules branch step.begin h = tt
@@ -197,10 +203,26 @@ command_decided c left written out wanted ReadFault is h = absurd h
 command_decided c left written out wanted WriteFault is h = absurd h
 command_decided c left written out wanted NoMemory is h = absurd h
 
+command_answered : (c : Command) (left written : List ℕ) → c ≢ Algebra → IsDecided (Some c) left written
+command_answered c left written other = let t = bytes_have c left other in command_decided c left written t.0 t.1 t.0.outcome refl t.2
+
+usage_told : (left written : List ℕ) → IsDecided None left written
+usage_told left written = (Usage, Some left, Some (written ++ usage_output.bytes), tt, (refl, (usage_output, refl, refl, refl)))
+
+abbrev IsDecidedTo : Option Request → List ℕ → List ℕ → Type 0
+IsDecidedTo request left written =
+    (outcome : Outcome) × (rest : Option (List ℕ)) × (after : Option (List ℕ)) × NothingFailed outcome × IsAnsweredTo request (Some left) rest (Some written) after outcome
+
+request_decided : (request : Option Request) (left written : List ℕ) → IsShortWork request → option_and_then command_asked request ≢ Some Algebra → IsDecidedTo request left written
+request_decided None left written few other = usage_told left written
+request_decided (Some request.Trace) left written few other = command_answered Trace left written (λ e. other (ap Some e))
+request_decided (Some request.Replay) left written few other = usage_told left written
+request_decided (Some request.Algebra) left written few other = absurd (other refl)
+request_decided (Some request.Compat) left written few other = command_answered Compat left written (λ e. other (ap Some e))
+request_decided (Some (request.Work seed steps)) left written few other =
+    let line = work_line_exists seed steps few in
+    (Done, Some left, Some (written ++ line.0), tt, (refl, (ended line.0, inr (line.0, line.1, refl), refl, refl)))
+
 pub has_answer : (words : List (List ℕ)) (left written : List ℕ) → command_of words ≢ Some Algebra
     → (outcome : Outcome) × (rest : Option (List ℕ)) × (after : Option (List ℕ)) × NothingFailed outcome × IsAnswered words (Some left) rest (Some written) after outcome
-has_answer words left written = by (command_of words)
-  where
-    by : (command : Option Command) → command ≢ Some Algebra → IsDecided command left written
-    by (Some c) other = let t = bytes_have c left (λ e. other (ap Some e)) in command_decided c left written t.0 t.1 t.0.outcome refl t.2
-    by None other = (Usage, Some left, Some (written ++ usage_output.bytes), tt, (refl, (usage_output, refl, refl, refl)))
+has_answer words left written other = request_decided (request_in words) left written (short_request words) other

@@ -2,5 +2,8 @@ pub mod AlgebraAnswers
 pub mod Carrying
 pub mod Comparing
 pub mod Deciding
+pub mod Loads
+pub mod LoadsExist
+pub mod Requested
 pub mod ShortTexts
 pub mod Tracing

@@ -12,7 +12,6 @@ use Rattle.st_script.specs.Header.{HeaderView}
 use Rattle.st_script.specs.Line.{step_of_line}
 use Rattle.st_script.specs.Steps.{StepView}
 use Rattle.st_script.specs.declared.answer.Answer.{Answer}
-use Rattle.st_script.specs.declared.answer.Answer.TheVariants as answer
 use Rattle.st_world.specs.World.{IsNext}
 use Rattle.st_answers.specs.Endings.{bad_text}
 use Rattle.st_answers.specs.Meaning.{EndsAt, FailsAt, FinishesAt, Meaning}

@@ -2,3 +2,4 @@
 pub mod Ends
 pub mod Replies
 pub mod Standing
+pub mod Working

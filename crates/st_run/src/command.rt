@@ -1,14 +1,16 @@
 //! A run, from its words and its input to its answers.
-ghost use Rattle.std.specs.Prelude.{◌≡◌, None, map, string_bytes, IfOk};
+ghost use Rattle.std.specs.Prelude.{◌≡◌, None, map, option_and_then, string_bytes, IfOk};
 ghost use Rattle.serde_json.specs.View.{view};
 ghost use Rattle.st_io.specs.Counts.{Rose};
 ghost use Rattle.st_answers.specs.Endings.{usage_data, usage_output};
-ghost use Rattle.st_answers.specs.Run.{command_asked, command_of, IsCarriedOut, IsOutput, IsAnswered};
+ghost use Rattle.st_answers.specs.Run.{command_asked, command_of, IsAnsweredTo, IsCarriedOut, IsOutput, IsAnswered};
 ghost use Rattle.st_run.specs.inside.Ends.{outcome_of};
+ghost use Rattle.st_run.specs.inside.Working.{IsShortWork};
 
 use crate::algebra::Asking;
 use crate::compat::Comparing;
 use crate::trace::Tracing;
+use crate::work::tell_load;
 use serde_json::{Value, json};
 use st_answers::{Command, Outcome};
 use st_io::{Sink, Source};
@@ -16,28 +18,6 @@ use st_json::{BadCause, write_line};
 use st_pieces::{RunEnd, answer_lines, write_all};
 use st_words::{Request, request_of};
 use std::alloc::{AllocError, Global};
-
-// The command that is asked for, if the program has it.
-fn command_asked(request: Request) -> Option<Command>
-    ensures { result ≡ command_asked request }
-{
-    match request {
-        Request::Trace => Some(Command::Trace),
-        Request::Compat => Some(Command::Compat),
-        Request::Algebra => Some(Command::Algebra),
-        Request::Replay | Request::Work { .. } => None,
-    }
-}
-
-// The command that the words are.
-fn command_of(alloc: Global, words: &Vec<String>) -> Result<Option<Command>, AllocError>
-    ensures { IfOk result (λ c. c ≡ command_of (map string_bytes words.now.items)) }
-{
-    match request_of(alloc, words.as_slice())? {
-        Some(request) => Ok(command_asked(request)),
-        None => Ok(None),
-    }
-}
 
 fn usage_value(alloc: Global) -> Result<Value, AllocError>
     ensures { IfOk result (λ v. view v ≡ usage_data) }
@@ -131,8 +111,32 @@ fn answer<S: Source, K: Sink>(
     }
 }
 
-/// Answers the lines of a source by the command that the words are, one after another: each answer is written before the
-/// next line is judged. Where the words are no command it answers by the usage line, and nothing is read.
+// Answers what is asked for.
+fn answer_request<S: Source, K: Sink>(
+    alloc: Global,
+    request: Option<Request>,
+    source: &mut S,
+    sink: &mut K,
+) -> Outcome
+    requires few { IsShortWork request }
+    ensures answered { IsAnsweredTo request (S.left source.old) (S.left source.new)
+        (K.written sink.old) (K.written sink.new) result }
+    ensures unread { option_and_then command_asked request ≡ None → S.calls source.new ≡ S.calls source.old }
+    ensures read_fault { result ≡ Outcome.ReadFault → Rose (S.faults source.old) (S.faults source.new) }
+    ensures write_fault { result ≡ Outcome.WriteFault → Rose (K.faults sink.old) (K.faults sink.new) }
+{
+    match request {
+        Some(Request::Trace) => outcome_of(answer(alloc, Command::Trace, source, sink)),
+        Some(Request::Compat) => outcome_of(answer(alloc, Command::Compat, source, sink)),
+        Some(Request::Algebra) => outcome_of(answer(alloc, Command::Algebra, source, sink)),
+        Some(Request::Work { seed, steps }) => tell_load(alloc, seed, steps, sink),
+        Some(Request::Replay) | None => send_usage(alloc, sink),
+    }
+}
+
+/// Answers what the words ask for. A command over lines answers those of the source, one after another: each answer is
+/// written before the next line is judged. Under `work`, and where the words are no command, which is answered by the usage
+/// line, nothing is read.
 pub fn run<S: Source, K: Sink>(
     alloc: Global,
     words: &Vec<String>,
@@ -145,9 +149,8 @@ pub fn run<S: Source, K: Sink>(
     ensures read_fault { result ≡ Outcome.ReadFault → Rose (S.faults source.old) (S.faults source.new) }
     ensures write_fault { result ≡ Outcome.WriteFault → Rose (K.faults sink.old) (K.faults sink.new) }
 {
-    match command_of(alloc, words) {
-        Ok(Some(command)) => outcome_of(answer(alloc, command, source, sink)),
-        Ok(None) => send_usage(alloc, sink),
+    match request_of(alloc, words.as_slice()) {
+        Ok(request) => answer_request(alloc, request, source, sink),
         Err(_) => Outcome::NoMemory,
     }
 }

@@ -7,6 +7,7 @@ mod compat;
 mod laws;
 mod reply;
 mod trace;
+mod work;
 
 pub use command::run;
 pub use laws::{each_input_has_answers, each_run_has_an_answer};

@@ -31,7 +31,7 @@ pub struct Tracing {
 
 // Makes a step of a world that isn't spent.
 #[tactic(auto, using(crate::proofs::Tracing::may_step, crate::proofs::Tracing::never_spent))]
-fn make_step(alloc: Global, world: &mut World, step: &TraceStep) -> Result<Answer, AllocError>
+pub fn make_step(alloc: Global, world: &mut World, step: &TraceStep) -> Result<Answer, AllocError>
     requires goes { GoesOn world.old }
     requires form { IsWithinLimits (step_view step.now) }
     ensures { IfOk result (λ a. (k : ℕ) (h : HeaderView) (w : WorldState) → Stands k world.old h w
@@ -97,7 +97,7 @@ fn take_line(
 }
 
 // The world that a line opens.
-fn read_header(alloc: Global, line: &[u8]) -> Result<World, Or<BadCause>>
+pub fn read_header(alloc: Global, line: &[u8]) -> Result<World, Or<BadCause>>
     ensures ok { IfOk result (λ w. (h : HeaderView) × (header_line (codes "trace") line.now ≡ Ok h)
         × Stands 0 w h empty_state) }
     ensures bad { IfRefused result (λ c. header_line (codes "trace") line.now ≡ Err c) }

@@ -50,8 +50,9 @@ fn first_use(rt: HostRuntime) {
 }
 
 // A line of each step, with every member. The last holds a tree that no schema allows.
-const WHOLE_LINES: [&str; 17] = [
+const WHOLE_LINES: [&str; 18] = [
     r#"{"client":"A","do":"join"}"#,
+    r#"{"client":"A","do":"join","uuid":"00000000-0000-4004-8000-000000000000"}"#,
     r#"{"at":["",2],"branch":3,"client":"A","do":"insert","index":1,"items":[null,{"m":{"a":true,"b":-7}}],"key":"k"}"#,
     r#"{"at":[],"branch":0,"client":"A","count":2,"do":"remove","index":1,"key":""}"#,
     r#"{"at":["",0,"k",0],"branch":4294967295,"client":"A","count":1,"do":"move","index":5,"key":"","to":["",1],"to_index":6,"to_key":"q"}"#,

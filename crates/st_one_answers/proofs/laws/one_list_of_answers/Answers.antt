@@ -2,4 +2,4 @@ use Rattle.st_one_answers.proofs.OneListOfAnswers.{answers_one, front_of_answers
 use Rattle.st_one_answers.proofs.laws.one_list_of_answers.Goals as goal
 
 pub returns : goal.returns
-returns c = record { one = answers_one; front = front_of_answers }
+returns c = record { one = answers_one c.requests_have_one_answer.ensures; front = front_of_answers c.requests_have_one_answer.ensures }

@@ -30,6 +30,8 @@ returns-clause-sound c =
       log = tt;
       log_fit = tt;
       log_new = record { once = tt; new = λ N i j. i };
+      own_ids = tt;
+      ranges = tt;
       schema = begun_keeps (header_view c.args.header) (HasReading c.args.schemas) c.requires.header c.requires.schemas;
       log_document = subst (λ (D : Document). Run (opening_document (header_view c.args.header)) [] D) (sym c.requires.log_document) done;
       entries = omega arith;

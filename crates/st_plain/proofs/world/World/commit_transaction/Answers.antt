@@ -1,6 +1,6 @@
-use Rattle.std.proofs.Common.{refl, sym}
+use Rattle.std.proofs.Common.{arith, refl, sym}
 use Rattle.st_world.specs.World.{commit}
-use Rattle.st_plain.proofs.Acting.{commit_fits, commit_refused, line_sound, next_with, sound_commit, world_refused}
+use Rattle.st_plain.proofs.Acting.{commit_fits, commit_refused, few_ids, keeps_ids, line_sound, next_with, sound_commit, world_refused}
 use Rattle.st_plain.proofs.Everyone.{kept_none}
 use Rattle.st_world_laws.proofs.Everyone.{set_same}
 use Rattle.st_plain.proofs.Stepping.{sound_later}
@@ -23,6 +23,12 @@ commit-requires-clause-sound c = line_sound c.args.self.now c.args.i c.in-Some-g
 
 pub commit-requires-clause-fits : goal.commit-requires-clause-fits
 commit-requires-clause-fits c = commit_fits c.args.self.now c.args.i c.in-Some-get_mut.client.now c.in-Some.kept.now c.requires.sound (sym c.in-Some-get_mut.ensures.value) (sym c.in-Some.ensures.value)
+
+pub commit-requires-clause-few : goal.commit-requires-clause-few
+commit-requires-clause-few c = omega (arith, few_ids c.args.self.now c.args.i c.in-Some-get_mut.client.now c.requires.sound (sym c.in-Some-get_mut.ensures.value), c.requires.few)
+
+pub commit-requires-clause-taken : goal.commit-requires-clause-taken
+commit-requires-clause-taken c = keeps_ids c.args.self.now c.args.i c.in-Some-get_mut.client.now c.in-Some.kept.now c.requires.sound (sym c.in-Some-get_mut.ensures.value) (sym c.in-Some.ensures.value)
 
 pub returns-clause-next : goal.returns-clause-next
 returns-clause-next c = λ q at.

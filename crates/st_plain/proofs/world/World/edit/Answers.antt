@@ -7,7 +7,7 @@ use Rattle.st_script.specs.Steps.{edit_view}
 use Rattle.st_world.specs.Edits.{edit_of}
 use Rattle.st_world.specs.World.{IsAfterEdit, next_names, word_of}
 use Rattle.st_plain.proofs.Choosing.{next_edit, within_edit}
-use Rattle.st_plain.proofs.Acting.{edit_refused, few_ids, line_sound, next_done, numbers, one_at, shown, shown_of, sound_edit, world_refused}
+use Rattle.st_plain.proofs.Acting.{edit_refused, few_ids, keeps_ids, line_sound, next_done, numbers, one_at, shown, shown_of, sound_edit, world_refused}
 use Rattle.st_plain.proofs.KnownEdits.{done_known, kept_known, main_some, take_known}
 use Rattle.st_edits.specs.InEffect.{schema_in_effect}
 use Rattle.st_doc.specs.Doc.{document_of}
@@ -54,6 +54,9 @@ edit-requires-clause-given c = numbers c.args.self.now c.args.i c.in-Some-get_mu
 
 pub edit-requires-clause-can : goal.edit-requires-clause-can
 edit-requires-clause-can c = take_known c.args.self.now c.args.i c.in-Some-get_mut.client.now c.in-Some.kept.now c.requires.sound (sym c.in-Some-get_mut.ensures.value) (sym c.in-Some.ensures.value) (document_of c.shown_doc.result.now) c.shown_doc.ensures c.in-Some-schema_of.known.now c.in-Some-schema_of.ensures c.args.edit.now
+
+pub edit-requires-clause-taken : goal.edit-requires-clause-taken
+edit-requires-clause-taken c = keeps_ids c.args.self.now c.args.i c.in-Some-get_mut.client.now c.in-Some.kept.now c.requires.sound (sym c.in-Some-get_mut.ensures.value) (sym c.in-Some.ensures.value)
 
 pub returns-clause-next : goal.returns-clause-next
 returns-clause-next c = λ q at.

@@ -1,5 +1,5 @@
-use Rattle.std.proofs.Common.{refl, sym}
-use Rattle.st_plain.proofs.Acting.{one_at}
+use Rattle.std.proofs.Common.{arith, refl, sym}
+use Rattle.st_plain.proofs.Acting.{few_ids, keeps_ids, one_at}
 use Rattle.st_plain.proofs.BranchWorld.{can_merge, few_own, left_world, many, merge_next, merges_on}
 use Rattle.st_plain.proofs.Everyone.{kept_none}
 use Rattle.st_world_laws.proofs.Everyone.{set_same}
@@ -29,6 +29,12 @@ merge-requires-clause-pending c = (one_at c.args.self.now c.args.i c.in-Some-get
 
 pub merge-requires-clause-can : goal.merge-requires-clause-can
 merge-requires-clause-can c = can_merge c.args.self.now c.args.i c.in-Some-get_mut.client.now c.in-Some.kept.now c.requires.sound (sym c.in-Some-get_mut.ensures.value) (sym c.in-Some.ensures.value) c.args.number
+
+pub merge-requires-clause-few : goal.merge-requires-clause-few
+merge-requires-clause-few c = omega (arith, few_ids c.args.self.now c.args.i c.in-Some-get_mut.client.now c.requires.sound (sym c.in-Some-get_mut.ensures.value), c.requires.few)
+
+pub merge-requires-clause-taken : goal.merge-requires-clause-taken
+merge-requires-clause-taken c = keeps_ids c.args.self.now c.args.i c.in-Some-get_mut.client.now c.in-Some.kept.now c.requires.sound (sym c.in-Some-get_mut.ensures.value) (sym c.in-Some.ensures.value)
 
 pub returns-clause-next : goal.returns-clause-next
 returns-clause-next c = λ q l at line. merge_next c.args.self.now c.args.i c.in-Some-get_mut.client.now c.in-Some.kept.now c.requires.sound (sym c.in-Some-get_mut.ensures.value) (sym c.in-Some.ensures.value) c.args.number c.merge.new.client c.merge.new.kept c.in_ok-answer.answer c.in_ok-answer.ensures.none c.in_ok-answer.ensures.merged q at

@@ -4,7 +4,7 @@ use Rattle.st_script.specs.Header.{header_view}
 use Rattle.st_lists.specs.Lines.{main_line}
 use Rattle.st_world.specs.World.{IsAfterNeed, next_names}
 use Rattle.st_world.specs.declared.edit_word.EditWord.TheVariants as word
-use Rattle.st_plain.proofs.Acting.{can_take, few_ids, line_sound, need_meant, need_refused, next_done, one_at, shown, shown_of, sound_need, world_refused}
+use Rattle.st_plain.proofs.Acting.{can_take, few_ids, keeps_ids, line_sound, need_meant, need_refused, next_done, one_at, shown, shown_of, sound_need, world_refused}
 use Rattle.st_plain.proofs.Everyone.{kept_none}
 use Rattle.st_world_laws.proofs.Everyone.{set_same}
 use Rattle.st_plain.proofs.Stepping.{sound_later}
@@ -42,6 +42,9 @@ need-requires-clause-open c = (one_at c.args.self.now c.args.i c.in-Some-get_mut
 
 pub need-requires-clause-can : goal.need-requires-clause-can
 need-requires-clause-can c = λ N e. can_take c.args.self.now c.args.i c.in-Some-get_mut.client.now c.in-Some.kept.now c.requires.sound (sym c.in-Some-get_mut.ensures.value) (sym c.in-Some.ensures.value) word.Need (need (shown_of c.in-Some-get_mut.client.now c.in-Some.kept.now) (next_names c.in-Some-get_mut.client.now c.in-Some-get_mut.client.now.transaction) c.args.at.now) (need_meant c.args.self.now c.args.i c.in-Some-get_mut.client.now c.in-Some.kept.now c.requires.sound (sym c.in-Some-get_mut.ensures.value) (sym c.in-Some.ensures.value) c.args.at.now) N e
+
+pub need-requires-clause-taken : goal.need-requires-clause-taken
+need-requires-clause-taken c = keeps_ids c.args.self.now c.args.i c.in-Some-get_mut.client.now c.in-Some.kept.now c.requires.sound (sym c.in-Some-get_mut.ensures.value) (sym c.in-Some.ensures.value)
 
 pub returns-clause-next : goal.returns-clause-next
 returns-clause-next c = λ q at.

@@ -1,7 +1,7 @@
-use Rattle.std.proofs.Common.{refl, sym, ◌∙◌}
+use Rattle.std.proofs.Common.{arith, refl, sym, ◌∙◌}
 use Rattle.st_plain.proofs.Everyone.{kept_none}
 use Rattle.st_world_laws.proofs.Everyone.{set_same}
-use Rattle.st_plain.proofs.Returning.{few_kept, few_pending, pending_kept, flight, here_sound, received_within, reconnect_refused, rest_fits, waiting_fits}
+use Rattle.st_plain.proofs.Returning.{carried_low, few_ids, few_kept, few_pending, pending_kept, flight, here_sound, received_within, reconnect_refused, rest_fits, waiting_fits}
 use Rattle.st_world_laws.proofs.Entering.{may_reconnect}
 use Rattle.st_plain.proofs.Stepping.{returned_connected, sound_later, sound_returned}
 use Rattle.st_plain.proofs.world.World.reconnect.Goals as goal
@@ -57,6 +57,14 @@ catch_up-requires-clause-few_names c = few_kept c.args.self.now c.args.i c.in-So
 
 pub catch_up-requires-clause-names : goal.catch_up-requires-clause-names
 catch_up-requires-clause-names c = pending_kept c.args.self.now c.args.i c.in-Some-get_mut.client.now c.in-Some.kept.now c.requires.sound (sym c.in-Some-get_mut.ensures.value) (sym c.in-Some.ensures.value)
+
+pub catch_up-requires-clause-carried : goal.catch_up-requires-clause-carried
+catch_up-requires-clause-carried c = rw c.as_slice-log.ensures (carried_low c.args.self.now c.args.i c.in-Some-get_mut.client.now c.in-Some.kept.now c.requires.sound (sym c.in-Some-get_mut.ensures.value) (sym c.in-Some.ensures.value))
+
+pub catch_up-requires-clause-ids : goal.catch_up-requires-clause-ids
+catch_up-requires-clause-ids c =
+    let low = few_ids c.args.self.now c.args.i c.in-Some-get_mut.client.now c.in-Some.kept.now c.requires.sound (sym c.in-Some-get_mut.ensures.value) (sym c.in-Some.ensures.value) in
+    omega (arith, low, c.requires.few)
 
 pub enter-requires-clause-connected : goal.enter-requires-clause-connected
 enter-requires-clause-connected c =

@@ -1,7 +1,7 @@
 use Rattle.std.proofs.Common.{◌≡◌, refl, sym, arith}
 use Rattle.st_lists.specs.Log.{floor}
 use Rattle.st_script.specs.Header.{header_view}
-use Rattle.st_plain.proofs.Acting.{few_ids, line_sound, one_at, world_refused}
+use Rattle.st_plain.proofs.Acting.{few_ids, keeps_ids, line_sound, one_at, world_refused}
 use Rattle.st_plain.proofs.Everyone.{kept_none}
 use Rattle.st_world_laws.proofs.Everyone.{set_same}
 use Rattle.st_plain.proofs.Stepping.{sound_later}
@@ -39,6 +39,9 @@ undo-requires-clause-can c =
     let low : c.floor-low.result ≡ floor w.header.history w.lists.log client.received =
     (rw c.as_slice.ensures at c.floor-low.ensures) w.lists.log s.minima (one_at w c.args.i client c.in-Some.kept.now s at_c at_k).client.within in
     can_undo w c.args.i client c.in-Some.kept.now s at_c at_k c.args.rev c.floor-low.result low
+
+pub undo-requires-clause-taken : goal.undo-requires-clause-taken
+undo-requires-clause-taken c = keeps_ids c.args.self.now c.args.i c.in-Some-get_mut.client.now c.in-Some.kept.now c.requires.sound (sym c.in-Some-get_mut.ensures.value) (sym c.in-Some.ensures.value)
 
 pub returns-clause-next : goal.returns-clause-next
 returns-clause-next c = λ q at.

@@ -1,6 +1,6 @@
 use Rattle.std.proofs.Common.{refl, sym, arith}
 use Rattle.st_script.specs.Header.{header_view}
-use Rattle.st_plain.proofs.Acting.{few_ids, line_sound, one_at, shown, shown_of}
+use Rattle.st_plain.proofs.Acting.{few_ids, keeps_ids, line_sound, one_at, shown, shown_of}
 use Rattle.st_plain.proofs.Everyone.{kept_none}
 use Rattle.st_world_laws.proofs.Everyone.{set_same}
 use Rattle.st_plain.proofs.Stepping.{sound_later}
@@ -39,6 +39,9 @@ upgrade-requires-clause-sound c = line_sound c.args.self.now c.args.i c.in-Some-
 
 pub upgrade-requires-clause-fits : goal.upgrade-requires-clause-fits
 upgrade-requires-clause-fits c = fits_main c.args.self.now c.args.i c.in-Some-get_mut.client.now c.in-Some.kept.now c.requires.sound (sym c.in-Some-get_mut.ensures.value) (sym c.in-Some.ensures.value) c.args.schema.now
+
+pub upgrade-requires-clause-taken : goal.upgrade-requires-clause-taken
+upgrade-requires-clause-taken c = keeps_ids c.args.self.now c.args.i c.in-Some-get_mut.client.now c.in-Some.kept.now c.requires.sound (sym c.in-Some-get_mut.ensures.value) (sym c.in-Some.ensures.value)
 
 pub returns-clause-next : goal.returns-clause-next
 returns-clause-next c = λ q at.
