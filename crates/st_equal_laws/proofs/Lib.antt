@@ -1,0 +1,2 @@
+mod ShownAlike
+mod LoadsEnd
