@@ -31,7 +31,7 @@ use Rattle.st_register.proofs.Documents.{part_fits as register_fits, void_is, wh
 use Rattle.st_rows.proofs.Documents.{part_fits}
 use Rattle.st_rows.specs.Sequence.{ListsNew}
 use Rattle.st_reading.specs.Bridge.{is_void}
-use Rattle.st_cross_laws.specs.Across.{held_across, register_across}
+use Rattle.st_over.specs.Across.{held_across, register_across}
 
 here_there : (g : Option To) (f : FieldId) → is_here (how g (To.Register f)) ≡ true → g ≡ Some (To.Register f)
 here_there None f e = cc

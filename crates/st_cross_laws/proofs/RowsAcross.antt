@@ -32,7 +32,7 @@ use Rattle.st_reading.proofs.CountedPieces.{alike_beside}
 use Rattle.st_reading.proofs.DocumentRowsCrossed.{crossed, crossed_blind}
 use Rattle.st_over.proofs.Listed.{any_read, rows_read}
 use Rattle.st_over.proofs.ReadRows.{bare_read, twice}
-use Rattle.st_cross_laws.specs.Across.{row_across}
+use Rattle.st_over.specs.Across.{row_across}
 
 gap_silent : (l : Bool) (c : CellId) → tells (read l (Gap c)) ≡ false
 gap_silent true c = refl

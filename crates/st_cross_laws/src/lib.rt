@@ -3,4 +3,7 @@
 
 mod laws;
 
-pub use laws::{registers_beside_are_crossed, rows_beside_are_crossed};
+pub use laws::{
+    registers_beside_are_crossed, rows_beside_are_crossed, steps_beside_are_crossed,
+    steps_over_changes_are_covered,
+};

@@ -3,14 +3,14 @@ ghost use Rattle.std.specs.Prelude.{true};
 
 use st_ids::{List, OPENING, Rev};
 use st_marks::{Change, Step, Verdict};
-use st_rebaser::{Effected, Rebaser, push_through};
+use st_rebaser::{Carrier, Effected, Rebaser, push_through};
 use std::alloc::{AllocError, Global};
 use std::test::Fail;
 
 /// A rebaser that never has memory.
 struct Poor;
 
-impl Rebaser for Poor {
+impl Carrier for Poor {
     ghost listed = { true };
 
     fn carry(
@@ -21,7 +21,9 @@ impl Rebaser for Poor {
     ) -> Result<(), AllocError> {
         Err(AllocError)
     }
+}
 
+impl Rebaser for Poor {
     fn effect(_alloc: Global, _change: &Change) -> Result<Effected, AllocError> {
         Err(AllocError)
     }

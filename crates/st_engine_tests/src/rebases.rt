@@ -1,8 +1,10 @@
-//! A change over a step, with empty cells named and counted.
+//! A change over a step, and the step over the change, with empty cells named and counted.
+use st_carry::{ListedCarrier, ThinCarrier};
 use st_ids::{Atom, CellId, List, NodeId, OPENING, ROOT, Rev, Text};
 use st_lean::rebase;
-use st_marks::{Change, How, Mark, NewNode, RowMarks, Step};
+use st_marks::{Change, How, Mark, NewNode, RowMarks, Step, Verdict};
 use st_reading::{Listed, Reading, Thin};
+use st_rebaser::Carrier;
 use std::alloc::{AllocError, Global};
 
 fn name(at: u32) -> Atom {
@@ -121,6 +123,52 @@ fn counted(alloc: Global) -> Result<bool, AllocError> {
 fn changes_go_over_steps(rt: HostRuntime) -> Result<(), AllocError> {
     let alloc = rt.alloc();
     let (named, counted) = (listed(alloc)?, counted(alloc)?);
+    assert!(rt; named && counted, "{named} {counted}");
+    Ok(())
+}
+
+// Whether the marks of a step's only row are these, and no node is loose.
+fn tells(step: &Step, marks: &[Mark]) -> bool {
+    match step.rows.as_slice() {
+        [row] => row.marks.as_slice() == marks && step.loose.is_empty(),
+        _ => false,
+    }
+}
+
+// Whether a row of a change and one of a step become others over each other, and the change stays sound.
+fn carries<C: Carrier>(
+    alloc: Global,
+    before: &[Mark],
+    step: &[Mark],
+    after: &[Mark],
+    over: &[Mark],
+) -> Result<bool, AllocError> {
+    let (mut change, mut step) = (change_of(alloc, before)?, step_of(alloc, step)?);
+    let mut verdict = Verdict::Sound;
+    C::carry(alloc, &mut change, &mut verdict, &mut step)?;
+    Ok(has_marks(&change, after) && tells(&step, over) && verdict == Verdict::Sound)
+}
+
+fn carried_listed(alloc: Global) -> Result<bool, AllocError> {
+    let before = [Mark::Skip(1), leave(2), gap(3)];
+    let step = [leave(1), Mark::Skip(1), make(4), gap(3)];
+    let after = [gap(1), leave(2), Mark::Skip(1), gap(3)];
+    let over = [leave(1), gap(2), make(4), gap(3)];
+    carries::<ListedCarrier>(alloc, &before, &step, &after, &over)
+}
+
+fn carried_counted(alloc: Global) -> Result<bool, AllocError> {
+    let before = [Mark::Skip(1), leave(2), Mark::Skip(1)];
+    let step = [leave(1), Mark::Skip(1), make(4), Mark::Skip(1)];
+    let after = [Mark::Skip(1), leave(2), Mark::Skip(2)];
+    let over = [leave(1), Mark::Skip(1), make(4), Mark::Skip(1)];
+    carries::<ThinCarrier>(alloc, &before, &step, &after, &over)
+}
+
+#[test]
+fn both_go_over_each_other(rt: HostRuntime) -> Result<(), AllocError> {
+    let alloc = rt.alloc();
+    let (named, counted) = (carried_listed(alloc)?, carried_counted(alloc)?);
     assert!(rt; named && counted, "{named} {counted}");
     Ok(())
 }

@@ -1,4 +1,4 @@
 mod RowRoom
 mod RowsRoom
 mod SchemasLater
-mod Laid
+pub mod Laid

@@ -1,2 +1,3 @@
+pub mod Across
 pub mod Laid
 pub mod inside

@@ -12,3 +12,4 @@ mod rows;
 pub use bare::bare_marks;
 pub use change::rebase_with_base;
 pub use look::item_at;
+pub use rows::told_row;

@@ -58,8 +58,8 @@ fn tells(marks: &[Mark]) -> bool
     any_tells(marks)
 }
 
-// A row, if its marks tell something.
-fn listed(node: NodeId, marks: List<Mark>) -> Option<RowMarks>
+/// A row, if its marks tell something.
+pub fn told_row(node: NodeId, marks: List<Mark>) -> Option<RowMarks>
     ensures { result ≡ listed_row node marks }
 {
     if tells(marks.as_slice()) {
@@ -88,7 +88,7 @@ fn row_both<R: Reading>(
         change.as_slice(),
         step.as_slice(),
     )?;
-    Ok(listed(node, marks))
+    Ok(told_row(node, marks))
 }
 
 // A row that only the change lists, after the step, if it tells something.

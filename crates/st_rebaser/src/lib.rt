@@ -6,4 +6,4 @@ mod push;
 mod rebaser;
 
 pub use push::push_through;
-pub use rebaser::{Effected, Rebaser};
+pub use rebaser::{Carrier, Effected, Rebaser};

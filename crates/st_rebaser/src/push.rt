@@ -8,13 +8,13 @@ ghost use Rattle.st_read_laws.specs.Reading.{IsStepRead};
 ghost use Rattle.st_rebaser.specs.InTurn.{HaveVerdicts, ShowInTurn};
 ghost use Rattle.st_rebaser.specs.inside.Turns.{IsTurn};
 
-use crate::rebaser::Rebaser;
+use crate::rebaser::Carrier;
 use st_ids::List;
 use st_marks::{Change, Step, Verdict};
 use std::alloc::{AllocError, Global};
 
 // Carries the change at a place over the step.
-fn carry_at<R: Rebaser>(
+fn carry_at<R: Carrier>(
     alloc: Global,
     changes: &mut List<Change>,
     verdicts: &mut List<Verdict>,
@@ -36,7 +36,7 @@ fn carry_at<R: Rebaser>(
 /// Carries changes that stand in turn, each in the document that those before it leave, over a step, and the step over them: the
 /// changes become those of the same intents behind the step, with their verdicts there, and the step leads from the document that they
 /// left to the one that they leave now. After an `Err` they are spent.
-pub fn push_through<R: Rebaser>(
+pub fn push_through<R: Carrier>(
     alloc: Global,
     changes: &mut List<Change>,
     verdicts: &mut List<Verdict>,

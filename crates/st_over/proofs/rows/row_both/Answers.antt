@@ -10,5 +10,5 @@ use Rattle.st_over.proofs.rows.row_both.Goals as goal
 pub returns : goal.returns
 returns g c =
     let cells = over_row g.R.Reading.listed (get node_cmp c.args.aims.now.puts.now) (contains node_cmp c.args.aims.now.named.now) (spread c.args.change.now) (spread c.args.step.now) in
-    c.listed.ensures ∙ listed_merged c.args.node c.in_ok-marks.marks cells c.in_ok-marks.ensures.cells.0 (c.in_ok-marks.ensures.cells.1
+    c.told_row.ensures ∙ listed_merged c.args.node c.in_ok-marks.marks cells c.in_ok-marks.ensures.cells.0 (c.in_ok-marks.ensures.cells.1
     ∙ (λ i. over_row g.R.Reading.listed (get node_cmp c.args.aims.now.puts.now) (contains node_cmp c.args.aims.now.named.now) (spread (c.as_slice.ensures i)) (spread (c.as_slice-2.ensures i))))

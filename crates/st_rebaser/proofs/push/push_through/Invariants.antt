@@ -6,5 +6,5 @@ use Rattle.st_rebaser.proofs.push.push_through.Given as goal
 abbrev pub invariant-loop-place : goal.invariant-loop-place
 invariant-loop-place g l = record {
   kept : length l.changes ≡ length l.initial.changes;
-  goes_on : GoesOn g.R.Rebaser.listed l.initial.changes l.initial.verdicts l.initial.step l.place l.changes l.verdicts l.step;
+  goes_on : GoesOn g.R.Carrier.listed l.initial.changes l.initial.verdicts l.initial.step l.place l.changes l.verdicts l.step;
 }

@@ -1,0 +1,4 @@
+mod NodesRead
+mod EntriesOver
+mod OverSteps
+mod Listings
