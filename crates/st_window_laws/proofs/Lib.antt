@@ -1,0 +1,4 @@
+pub mod Floors
+pub mod Found
+pub mod OneList
+pub mod Windowed
