@@ -28,39 +28,78 @@ use Rattle.st_answers.specs.Meaning.{Meaning}
 
 -- ## What is asked for
 
--- A value is the one that is asked for where it is so over every document on which the arguments stand. Of arguments that
--- agree and stand over no document nothing more is asked.
+-- A value is the one that is asked for where its arguments stand over documents, and it is so over all on which they do.
+
+-- two steps lead from a document to a second and from there to a third
+pub record AreInTurn (S T : Step) (D E F : Document) : Type 0 where
+  pub first : IsExtendedBy D E
+  pub second : IsExtendedBy E F
+  pub step : IsStep D E S
+  pub next : IsStep E F T
 
 -- the step over two in turn
-abbrev pub IsComposed : Step → Step → Step → Type 0
-IsComposed S T U = (D E F : Document) → IsExtendedBy D E → IsExtendedBy E F
-    → IsStep D E S → IsStep E F T → IsStep D F U
+pub record IsComposed (S T U : Step) : Type 0 where
+  pub there : (D : Document) × (E : Document) × (F : Document) × AreInTurn S T D E F
+  pub each : (D E F : Document) → AreInTurn S T D E F → IsStep D F U
 
--- the change of two parts of one commit, of which the first closes no ring
-abbrev pub IsJoined : Change → Change → Change → Type 0
-IsJoined C K X = (D : Document) (N M J : Intent) → IsSoundInForm D → AreParts D N M → ((n : NodeId) → IsAboveItself D N n → ⊥) → IsJoin N M J
-    → HasShortRows (full D N) → HasShortRows (full (full D N) M) → IsEmbedding D N C → IsEmbedding (full D N) M K → IsEmbedding D J X
+-- two changes are those of two parts of one commit, of which the first closes no ring, and which leave rows short
+pub record AreChangesOfParts (C K : Change) (D : Document) (N M J : Intent) : Type 0 where
+  pub sound : IsSoundInForm D
+  pub parts : AreParts D N M
+  pub no_ring : (n : NodeId) → IsAboveItself D N n → ⊥
+  pub join : IsJoin N M J
+  pub first_short : HasShortRows (full D N)
+  pub second_short : HasShortRows (full (full D N) M)
+  pub first : IsEmbedding D N C
+  pub second : IsEmbedding (full D N) M K
+
+-- the change of both as one
+pub record IsJoined (C K X : Change) : Type 0 where
+  pub there : (D : Document) × (N : Intent) × (M : Intent) × (J : Intent) × AreChangesOfParts C K D N M J
+  pub each : (D : Document) (N M J : Intent) → AreChangesOfParts C K D N M J → IsEmbedding D J X
 
 -- the way back over a step
-abbrev pub IsInverted : Step → Step → Type 0
-IsInverted S U = (D E : Document) → IsExtendedBy D E → IsStep D E S → IsStep E (retreat D E) U
+pub record IsInverted (S U : Step) : Type 0 where
+  pub there : (D : Document) × (E : Document) × IsExtendedBy D E × IsStep D E S
+  pub each : (D E : Document) → IsExtendedBy D E → IsStep D E S → IsStep E (retreat D E) U
+
+-- a change and a step begin at one document, and the intent of the change fits after the step as well
+pub record AreBeside (C : Change) (S : Step) (D E : Document) (N : Intent) : Type 0 where
+  pub extended : IsExtendedBy D E
+  pub fits : Fits D N
+  pub fits_later : Fits E N
+  pub change : IsEmbedding D N C
+  pub step : IsStep D E S
 
 -- the change of the same intent after the step
-abbrev pub IsRebased : Change → Step → Change → Type 0
-IsRebased C S X = (D E : Document) (N : Intent) → IsExtendedBy D E → Fits D N → Fits E N
-    → IsEmbedding D N C → IsStep D E S → IsEmbedding E N X
+pub record IsRebased (C : Change) (S : Step) (X : Change) : Type 0 where
+  pub there : (D : Document) × (E : Document) × (N : Intent) × AreBeside C S D E N
+  pub each : (D E : Document) (N : Intent) → AreBeside C S D E N → IsEmbedding E N X
+
+-- the intent leaves rows short before the step and after it, and has these verdicts there
+pub record AreJudged (D E : Document) (N : Intent) (v u : Verdict) : Type 0 where
+  pub short : HasShortRows (full D N)
+  pub short_later : HasShortRows (full E N)
+  pub verdict : IsVerdict D N v
+  pub verdict_later : IsVerdict E N u
 
 -- the step over a commit, which its verdict makes whole or void before the step and after it
-abbrev pub IsBridged : Change → Step → Step → Type 0
-IsBridged C S U = (D E : Document) (N : Intent) (v u : Verdict) → IsExtendedBy D E → Fits D N → Fits E N
-    → HasShortRows (full D N) → HasShortRows (full E N)
-    → IsEmbedding D N C → IsStep D E S → IsVerdict D N v → IsVerdict E N u
-    → IsStep (carried_document v D N) (carried_document u E N) U
+pub record IsBridged (C : Change) (S U : Step) : Type 0 where
+  pub there : (D : Document) × (E : Document) × (N : Intent) × (v : Verdict) × (u : Verdict) × AreBeside C S D E N × AreJudged D E N v u
+  pub each : (D E : Document) (N : Intent) (v u : Verdict) → AreBeside C S D E N → AreJudged D E N v u
+      → IsStep (carried_document v D N) (carried_document u E N) U
+
+-- an intent has a change in a sound document, where it fits and leaves rows short
+pub record HasChange (D : Document) (N : Intent) (C : Change) : Type 0 where
+  pub sound : IsSoundInForm D
+  pub fits : Fits D N
+  pub short : HasShortRows (full D N)
+  pub change : IsEmbedding D N C
 
 -- the step that a commit makes, with its verdict
-abbrev pub IsEffect : Change → Step → Verdict → Type 0
-IsEffect C U v = (D : Document) (N : Intent) → IsSoundInForm D → Fits D N
-    → HasShortRows (full D N) → IsEmbedding D N C → IsVerdict D N v × IsStep D (carried_document v D N) U
+pub record IsEffect (C : Change) (U : Step) (v : Verdict) : Type 0 where
+  pub there : (D : Document) × (N : Intent) × HasChange D N C
+  pub each : (D : Document) (N : Intent) → HasChange D N C → IsVerdict D N v × IsStep D (carried_document v D N) U
 
 -- a step takes the schema of a revision out of effect: it goes, and doesn't come again
 abbrev pub TakesOut : Step → Rev → Type 0
@@ -68,10 +107,11 @@ TakesOut S u = MatchOption S.schema ⊥ (λ (s : SchemaStep). Has (revs s.cut) u
 
 -- the change that takes a step back where it leads, of the commit of a revision under a schema
 pub record IsReverted (S : Step) (rev under : Rev) (X : Change) : Type 0 where
+  pub there : (D : Document) × (E : Document) × (B : Intent) × IsExtendedBy D E × IsStep D E S × IsBack D E rev under B
   -- it is that of the intent that leads back where the schema is in effect; where it isn't, but for `base`
-  pub back : (D E : Document) (B : Intent) → IsExtendedBy D E → IsStep D E S → IsBack D E rev under B
+  pub each : (D E : Document) (B : Intent) → IsExtendedBy D E → IsStep D E S → IsBack D E rev under B
       → Has (revs E.schemas) under → IsEmbedding E B X
-  pub back_under : (D E : Document) (B : Intent) → IsExtendedBy D E → IsStep D E S → IsBack D E rev under B
+  pub each_under : (D E : Document) (B : Intent) → IsExtendedBy D E → IsStep D E S → IsBack D E rev under B
       → (b : Bool) → IsTrue b ↔ IsBaseInEffect E B → IsEmbedding E B (record X { base = b })
   pub base : IsTrue X.base ↔ (TakesOut S under → ⊥)
 

@@ -4,5 +4,4 @@ mod EachWorldGoesOn
 mod OneListOfAnswers
 mod OneRequest
 mod OneRun
-mod RoomOfTexts
-mod WayBackOver
+mod BasesTold

@@ -16,10 +16,6 @@ ghost use Rattle.st_world_laws.specs.Worlds.{IsWorld};
 ghost use Rattle.st_answers.specs.declared.outcome.Outcome.{Outcome};
 ghost use Rattle.st_one_answers.specs.StepAnswers.{AreAnswers, HasSoundSchema};
 
-use st_heads::ways_lead_back;
-use st_part_pair_laws::parts_stand;
-use st_turn_pair_laws::stand_in_turn;
-
 /// Steps from a world that steps lead to have one list of answers.
 pub fn one_list_of_steps()
     ensures { (h : HeaderView) (w : WorldState) (steps : Seq StepView) (a b : Seq Answer)
@@ -33,15 +29,11 @@ pub fn one_relation()
         → IsCompared stored view a → IsCompared stored view b → a ≡ b }
 {}
 
-/// A request to the algebra has at most one answer: its arguments, which are in normal form, stand over documents wherever they agree,
-/// and there the value that is asked for is one; of others the least field at which they don't agree is told.
+/// A request to the algebra has at most one answer: where its arguments agree, they stand over documents, and there the value that
+/// is asked for is one; of others the least field at which they don't agree is told.
 pub fn requests_have_one_answer()
     ensures { (line a b : Seq ℕ) → IsAsked line a → IsAsked line b → a ≡ b }
-{
-    stand_in_turn();
-    parts_stand();
-    ways_lead_back();
-}
+{}
 
 /// The answers to an input under a command are one, where nothing failed; and else they are a front of these.
 pub fn one_list_of_answers()

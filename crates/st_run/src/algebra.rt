@@ -9,6 +9,7 @@ ghost use Rattle.st_run.specs.inside.Replies.{IsAnswerTo, IsTelling};
 
 use crate::reply::{refuse, tell, tell_nothing};
 use st_agree::FieldApart;
+use st_back_laws::each_step_has_a_way_back;
 use st_bridge::bridge;
 use st_compose::compose;
 use st_effect::{Consequence, effect};
@@ -16,11 +17,17 @@ use st_family::rebase;
 use st_ids::{Or, Rev};
 use st_join_parts::join;
 use st_json::BadCause;
+use st_log_laws::each_has_a_verdict;
 use st_marks::{Change, Step};
+use st_normal_laws::changes_that_obey_are_normal;
+use st_normal_step_laws::steps_that_obey_are_normal;
+use st_pair_laws::{room_is_enough, stand_beside};
+use st_part_pair_laws::parts_stand;
 use st_pieces::{Reply, Responder};
 use st_requests::{Request, apart_line, change_line, effect_line, read_request, step_line};
 use st_revert::revert;
 use st_steps::invert;
+use st_turn_pair_laws::stand_in_turn;
 use std::alloc::{AllocError, Global};
 
 /// Requests that are answered, each by itself.
@@ -66,7 +73,10 @@ fn answer_compose(alloc: Global, first: &Step, then: &Step) -> Result<Reply<BadC
     ensures { IfOk result (IsAnswerTo (Asked.Compose first.now then.now)) }
 {
     match compose(alloc, first, then) {
-        Ok(step) => tell_step(alloc, "compose", &step),
+        Ok(step) => {
+            stand_in_turn();
+            tell_step(alloc, "compose", &step)
+        }
         Err(Or::Fault(apart)) => tell_apart(alloc, &apart),
         Err(Or::NoMemory) => Err(AllocError),
     }
@@ -78,7 +88,10 @@ fn answer_join(alloc: Global, first: &Change, then: &Change) -> Result<Reply<Bad
     ensures { IfOk result (IsAnswerTo (Asked.Join first.now then.now)) }
 {
     match join(alloc, first, then) {
-        Ok(change) => tell_change(alloc, "join", &change),
+        Ok(change) => {
+            parts_stand();
+            tell_change(alloc, "join", &change)
+        }
         Err(Or::Fault(apart)) => tell_apart(alloc, &apart),
         Err(Or::NoMemory) => Err(AllocError),
     }
@@ -90,6 +103,7 @@ fn answer_invert(alloc: Global, step: &Step) -> Result<Reply<BadCause>, AllocErr
     ensures { IfOk result (IsAnswerTo (Asked.Invert step.now)) }
 {
     let back = invert(alloc, step)?;
+    steps_that_obey_are_normal();
     tell_step(alloc, "invert", &back)
 }
 
@@ -99,7 +113,10 @@ fn answer_rebase(alloc: Global, change: &Change, over: &Step) -> Result<Reply<Ba
     ensures { IfOk result (IsAnswerTo (Asked.Rebase change.now over.now)) }
 {
     match rebase(alloc, change, over) {
-        Ok(later) => tell_change(alloc, "rebase", &later),
+        Ok(later) => {
+            stand_beside();
+            tell_change(alloc, "rebase", &later)
+        }
         Err(Or::Fault(apart)) => tell_apart(alloc, &apart),
         Err(Or::NoMemory) => Err(AllocError),
     }
@@ -111,7 +128,12 @@ fn answer_bridge(alloc: Global, change: &Change, step: &Step) -> Result<Reply<Ba
     ensures { IfOk result (IsAnswerTo (Asked.Bridge change.now step.now)) }
 {
     match bridge(alloc, step, change) {
-        Ok(later) => tell_step(alloc, "bridge", &later),
+        Ok(later) => {
+            stand_beside();
+            room_is_enough();
+            each_has_a_verdict();
+            tell_step(alloc, "bridge", &later)
+        }
         Err(Or::Fault(apart)) => tell_apart(alloc, &apart),
         Err(Or::NoMemory) => Err(AllocError),
     }
@@ -123,6 +145,7 @@ fn answer_effect(alloc: Global, change: &Change) -> Result<Reply<BadCause>, Allo
     ensures { IfOk result (IsAnswerTo (Asked.Effect change.now)) }
 {
     let done = effect(alloc, change)?;
+    changes_that_obey_are_normal();
     tell_effect(alloc, &done)
 }
 
@@ -137,6 +160,7 @@ fn answer_revert(
     ensures { IfOk result (IsAnswerTo (Asked.Revert step.now rev under)) }
 {
     let change = revert(alloc, step, rev, under)?;
+    each_step_has_a_way_back();
     tell_change(alloc, "revert", &change)
 }
 

@@ -7,7 +7,7 @@ ghost use Rattle.st_answers.specs.declared.command.Command.{Command};
 ghost use Rattle.st_answers.specs.declared.outcome.Outcome.{Outcome};
 
 /// Each input has its answers under each command other than `algebra`, from the first line to the one that ends the run, and
-/// not cut short. Of a request to the algebra whose arguments stand over no document it isn't shown that it has an answer.
+/// not cut short. Of a request to the algebra no law says that it has an answer, but the clause of `run`, which answers each.
 pub fn each_input_has_answers()
     ensures { (command : Command) (bytes : List ℕ) → command ≢ Command.Algebra
         → (out : Output) × Answers command bytes out × NothingFailed out.outcome }

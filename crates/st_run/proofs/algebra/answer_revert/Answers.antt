@@ -15,4 +15,4 @@ returns c =
     let is = c.in_ok-change.ensures in
     IfOk-weaker c.tell_change.result _ _
     (λ r h. told_to (Revert c.args.step.now c.args.rev c.args.under) (line_of (change_answer (codes "revert") change)) r
-    (change, record { back = is.reverted; back_under = is.under_any; base = taken_out c.args.step.now c.args.under change.base is.base }, refl) h) c.tell_change.ensures
+    (change, record { there = c.each_step_has_a_way_back.ensures c.args.step.now c.args.rev c.args.under c.requires.0; each = is.reverted; each_under = is.under_any; base = taken_out c.args.step.now c.args.under change.base is.base }, refl) h) c.tell_change.ensures

@@ -25,7 +25,7 @@ use Rattle.st_marks.specs.Document.{Document, IsSoundInForm, NodeType, node_of, 
 use Rattle.st_marks.specs.Extends.{IsExtendedBy}
 use Rattle.st_marks.specs.Intent.{clears, put_of, same_option}
 use Rattle.st_marks.specs.Row.{same_to}
-use Rattle.st_marks.specs.Verdict.{HasBase, IsBaseInEffect}
+use Rattle.st_marks.specs.Step.{IsStep}
 use Rattle.st_marks.proofs.Climb.{unknown_nowhere}
 use Rattle.st_marks.proofs.Later.{has_later}
 use Rattle.st_marks.proofs.Members.{all-has, any-has, append_left, append_right, distinct-append, first-distinct, first-has, has-all, has-any, has-filter_map, has-map, map-has}
@@ -43,6 +43,9 @@ use Rattle.st_normal_step_laws.proofs.MentionsLater.{listed-found, mentions-exac
 use Rattle.st_normal_step_laws.proofs.PlacesLater.{new-unfound}
 use Rattle.st_normal_step_laws.proofs.RingsLater.{later_extends}
 use Rattle.st_normal_step_laws.proofs.SoundLater.{is-some, reg-cases}
+use Rattle.st_normal_step_laws.proofs.SeedOfStep.{step_normal}
+use Rattle.st_normal_step_laws.proofs.StepLater.{step_over}
+use Rattle.st_normal_step_laws.proofs.StepsFind.{finds_what_is_so}
 
 -- puts and clears that say of each name what the way back says, and that put each node once, are the way back
 abbrev pub WaysLeadBack : Type 0
@@ -248,20 +251,11 @@ module _ (lead : WaysLeadBack) (D : Document) (S : Step) (x : IsSoundInForm D) (
   pub way_back : (rev under : Rev) → (B : Intent) × IsBack D E rev under B
   way_back rev under = way_between lead D E extended (L.new ++ found) registers nodes_once moved changed rev under
 
--- ## Whether a schema is in effect
-
-among : (entries : List SchemaEntry) (u : Rev) → (b : Bool) × (IsTrue b ↔ Has (revs entries) u)
-among entries u = (Rattle.std.specs.List.list_any same entries, (to, from))
-  where
-    same : SchemaEntry → Bool
-    same e = same_rev e.rev u
-
-    to : Rattle.std.specs.List.list_any same entries ≡ true → Has (revs entries) u
-    to e = let c = any-has same entries e in subst (Has (revs entries)) (same_rev-true c.0.rev u c.2) (map-has (λ (e : SchemaEntry). e.rev) entries c.0 c.1)
-
-    from : Has (revs entries) u → Rattle.std.specs.List.list_any same entries ≡ true
-    from h = let c = has-map (λ (e : SchemaEntry). e.rev) entries u h in has-any same entries c.0 c.1 (ap (λ r. same_rev r u) c.2 ∙ same_rev-itself u)
-
--- of an intent that changes no schema it can be told
-pub base_told : (E : Document) (B : Intent) → B.schema ≡ None → (b : Bool) × (IsTrue b ↔ IsBaseInEffect E B)
-base_told E B none = let d = among E.schemas B.under in (d.0, subst (λ s. IsTrue d.0 ↔ HasBase E.schemas s B.under) (sym none) d.1)
+-- a step in normal form leads from one document to another, and there is the way back
+pub step_back : WaysLeadBack → (S : Step) (rev under : Rev) → ObeysStepRules S
+    → (D : Document) × (E : Document) × (B : Intent) × IsExtendedBy D E × IsStep D E S × IsBack D E rev under B
+step_back lead S rev under w =
+    let n = step_normal S w in
+    let o = finds_what_is_so n.0 n.1 S n.2 n.3 in
+    let back = way_back lead n.0 S n.2.before w o rev under in
+    (n.0, later n.0 S, back.0, later_extends n.0 S n.2.before w o, step_over n.0 S n.2.before w o, back.1)
