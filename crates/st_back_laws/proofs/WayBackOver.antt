@@ -1,15 +1,15 @@
 -- Over each step that finds in a document what is so there is a way back.
-use Rattle.std.proofs.Common.{◌≡◌, ◌≢◌, ◌↔◌, Bool, true, false, cond, not, List, [], ◌∷◌, ◌++◌, map, Option, Some, None, IsSome, IsTrue, is_some, option_map, refl, sym, ap, ◌∙◌, subst, inl, inr, MatchOption}
+use Rattle.std.proofs.Common.{◌≡◌, ◌≢◌, ◌↔◌, Bool, true, false, cond, not, List, [], ◌∷◌, ◌++◌, map, Option, Some, None, IsSome, is_some, option_map, refl, sym, ap, ◌∙◌, subst, inl, inr, MatchOption}
 use Rattle.std.specs.List.{cons_option, filter, filter_map, find}
 use Rattle.std.specs.Option.{option_map_or, option_or}
 use Rattle.st_ids.specs.Listing.{AreDistinct, Has, item_of}
-use Rattle.st_ids.specs.Order.{node_cmp, same_field, same_node, same_rev}
+use Rattle.st_ids.specs.Order.{node_cmp, same_field, same_node}
 use Rattle.st_ids.specs.declared.names.CellId.{CellId}
 use Rattle.st_ids.specs.declared.names.FieldId.{FieldId}
 use Rattle.st_ids.specs.declared.names.NodeId.{NodeId}
 use Rattle.st_ids.specs.declared.names.Rev.{Rev}
 use Rattle.st_ids.proofs.Listings.{item_of-has}
-use Rattle.st_ids.proofs.Orders.{node_cmp_exact, node_cmp_total, same_field-itself, same_field-true, same_node-itself, same_node-true, same_rev-itself, same_rev-true}
+use Rattle.st_ids.proofs.Orders.{node_cmp_exact, node_cmp_total, same_field-itself, same_field-true, same_node-itself, same_node-true}
 use Rattle.st_ids.proofs.Shared.{filter-has, filtered}
 use Rattle.st_lemmas.proofs.Bools.{and-both, and-true, true-false}
 use Rattle.st_marks.specs.declared.changes.NewNode.{NewNode}
@@ -18,10 +18,9 @@ use Rattle.st_marks.specs.declared.intents.Put.{Put}
 use Rattle.st_marks.specs.declared.intents.To.{To}
 use Rattle.st_marks.specs.declared.marks.RegStep.{RegStep}
 use Rattle.st_marks.specs.declared.places.Spot.{Spot}
-use Rattle.st_marks.specs.declared.schemas.SchemaEntry.{SchemaEntry}
 use Rattle.st_marks.specs.declared.steps.Step.{Step}
 use Rattle.st_marks.specs.Back.{IsBack, is_in, place_back, to_of}
-use Rattle.st_marks.specs.Document.{Document, IsSoundInForm, NodeType, node_of, owned_cell, revs}
+use Rattle.st_marks.specs.Document.{Document, IsSoundInForm, NodeType, node_of, owned_cell}
 use Rattle.st_marks.specs.Extends.{IsExtendedBy}
 use Rattle.st_marks.specs.Intent.{clears, put_of, same_option}
 use Rattle.st_marks.specs.Row.{same_to}
