@@ -1,7 +1,8 @@
 //! The forest of a list with one text, and with a title of its own.
 use st_forest::Forest;
+use st_forest_start::start;
 use st_ids::{Atom, CellId, FieldId, Key, Leaf, List, NodeId, OPENING, ROOT, Text};
-use st_marks::Spot;
+use st_marks::{How, Mark, RegStep, RowMarks, Spot, Step};
 use st_tree::{Field, Tree, check};
 use std::alloc::{AllocError, Global};
 use std::test::Fail;
@@ -52,7 +53,7 @@ fn opened(alloc: Global) -> Result<Forest, Fail> {
     if check(&tree) != Ok(()) {
         return Err(Fail::from("too large"));
     }
-    Ok(Forest::start(alloc, Text::from_str(alloc, SCHEMA)?, &tree)?)
+    Ok(start(alloc, Text::from_str(alloc, SCHEMA)?, &tree)?)
 }
 
 // The row of a node has so many slots, so many of them full.
@@ -120,6 +121,58 @@ fn copies(alloc: Global) -> Result<bool, Fail> {
             && has_slots(&copy, ROOT, 1, 1)
             && copy.under() == Some(OPENING),
     )
+}
+
+// The text leaves the row and takes the place of the title.
+fn promotion(alloc: Global) -> Result<Step, AllocError> {
+    let mut step = Step {
+        new: List::new(alloc),
+        rows: List::new(alloc),
+        regs: List::new(alloc),
+        loose: List::new(alloc),
+        schema: None,
+    };
+    let mut marks = List::new(alloc);
+    marks.push(Mark::Touch {
+        cell: CellId(Atom {
+            rev: OPENING,
+            at: 0,
+        }),
+        node: node(1),
+        how: How::Leave,
+    })?;
+    step.rows.push(RowMarks { node: ROOT, marks })?;
+    step.regs.push(RegStep {
+        field: FieldId {
+            node: ROOT,
+            key: key(alloc, "title")?,
+        },
+        before: Some(node(2)),
+        after: Some(node(1)),
+    })?;
+    Ok(step)
+}
+
+fn is_changed(alloc: Global) -> Result<bool, Fail> {
+    let mut forest = opened(alloc)?;
+    forest.apply(alloc, &promotion(alloc)?)?;
+    let field = FieldId {
+        node: ROOT,
+        key: key(alloc, "title")?,
+    };
+    Ok(
+        forest.held(&field) == Some(node(1))
+            && forest.place(node(1)) == Some(&Spot::Register(field))
+            && forest.place(node(2)) == Some(&Spot::Nowhere)
+            && has_slots(&forest, ROOT, 1, 0),
+    )
+}
+
+#[test]
+fn forests_change(rt: HostRuntime) -> Result<(), Fail> {
+    let changed = is_changed(rt.alloc())?;
+    assert!(rt; changed);
+    Ok(())
 }
 
 #[test]

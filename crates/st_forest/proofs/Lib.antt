@@ -1,4 +1,8 @@
+pub mod Applied
+pub mod Entries
+pub mod LedRows
 pub mod MapsCopied
 pub mod OneDocument
-pub mod Opened
 pub mod RowsLed
+pub mod Told
+pub mod Written

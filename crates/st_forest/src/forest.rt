@@ -16,8 +16,8 @@ pub struct Seated {
 /// each register who is in it, and the schema entries in effect.
 #[derive(Drop)]
 pub struct Forest {
-    pub(crate) nodes: BTreeMap<NodeId, Seated>,
-    pub(crate) rows: BTreeMap<NodeId, ChunkRow>,
-    pub(crate) held: BTreeMap<FieldId, NodeId>,
-    pub(crate) schemas: List<SchemaEntry>,
+    pub nodes: BTreeMap<NodeId, Seated>,
+    pub rows: BTreeMap<NodeId, ChunkRow>,
+    pub held: BTreeMap<FieldId, NodeId>,
+    pub schemas: List<SchemaEntry>,
 }

@@ -1,7 +1,6 @@
 //! Maps.
-ghost use Rattle.std.specs.Prelude.{◌≡◌, cond, Some, None, OnOk};
+ghost use Rattle.std.specs.Prelude.{◌≡◌, cond, Some, OnOk};
 ghost use Rattle.std.specs.Ordering.{is_eq};
-ghost use Rattle.std.specs.Option.{option_or};
 ghost use Rattle.std.specs.BTreeMap.{get};
 
 use std::alloc::AllocError;
@@ -17,18 +16,4 @@ pub fn set<K: Ord + Drop, V: Drop>(
 {
     map.insert(key, value)?;
     Ok(())
-}
-
-/// Puts a value at a key that has none.
-pub fn add<K: Ord + Drop, V: Drop>(
-    map: &mut BTreeMap<K, V>,
-    key: K,
-    value: V,
-) -> Result<(), AllocError>
-    ensures { OnOk result ((q : K) → get K.cmp map.new q ≡ option_or (get K.cmp map.old q) (cond (is_eq (K.cmp key q)) (Some value) None)) }
-{
-    if map.contains_key(&key) {
-        return Ok(());
-    }
-    set(map, key, value)
 }

@@ -1,6 +1,6 @@
 use Rattle.std.proofs.Common.{◌≡◌, ◌-◌, length, slice_get, Some, option_map, ap, ◌∙◌}
 use Rattle.st_marks.specs.declared.schemas.SchemaEntry.{SchemaEntry}
-use Rattle.st_forest.proofs.Opened.{last_entry}
+use Rattle.st_forest.proofs.Entries.{last_entry}
 use Rattle.st_forest.proofs.reads.last_rev.Goals as goal
 
 pub returns : goal.returns

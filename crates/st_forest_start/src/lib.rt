@@ -1,0 +1,8 @@
+//! The forest of an opening document.
+#![tactic(auto)]
+
+mod maps;
+mod opened;
+mod rows;
+
+pub use opened::start;

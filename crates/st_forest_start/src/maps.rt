@@ -1,0 +1,34 @@
+//! Maps.
+ghost use Rattle.std.specs.Prelude.{◌≡◌, cond, Some, None, OnOk};
+ghost use Rattle.std.specs.Ordering.{is_eq};
+ghost use Rattle.std.specs.Option.{option_or};
+ghost use Rattle.std.specs.BTreeMap.{get};
+
+use std::alloc::AllocError;
+use std::collections::BTreeMap;
+
+/// Puts a value at a key.
+pub fn set<K: Ord + Drop, V: Drop>(
+    map: &mut BTreeMap<K, V>,
+    key: K,
+    value: V,
+) -> Result<(), AllocError>
+    ensures { OnOk result ((q : K) → get K.cmp map.new q ≡ cond (is_eq (K.cmp key q)) (Some value) (get K.cmp map.old q)) }
+{
+    map.insert(key, value)?;
+    Ok(())
+}
+
+/// Puts a value at a key that has none.
+pub fn add<K: Ord + Drop, V: Drop>(
+    map: &mut BTreeMap<K, V>,
+    key: K,
+    value: V,
+) -> Result<(), AllocError>
+    ensures { OnOk result ((q : K) → get K.cmp map.new q ≡ option_or (get K.cmp map.old q) (cond (is_eq (K.cmp key q)) (Some value) None)) }
+{
+    if map.contains_key(&key) {
+        return Ok(());
+    }
+    set(map, key, value)
+}
