@@ -1,0 +1,2 @@
+//! Which messages are valid at a log: definitions.
+#![tactic(auto)]
