@@ -3,4 +3,6 @@
 
 mod laws;
 
-pub use laws::{author_lists_grow, authors_begin};
+pub use laws::{
+    author_lists_are_shown, author_lists_grow, authors_are_fitted, authors_begin, authors_go_on,
+};
