@@ -1,1 +1,7 @@
 pub mod Author
+pub mod Order
+pub mod Sessions
+pub mod References
+pub mod Ids
+pub mod Room
+pub mod Context

@@ -1,0 +1,2 @@
+pub mod AuthorsLists
+pub mod NamesOfChanges
