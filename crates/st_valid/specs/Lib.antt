@@ -5,3 +5,4 @@ pub mod References
 pub mod Ids
 pub mod Room
 pub mod Context
+pub mod Refusals

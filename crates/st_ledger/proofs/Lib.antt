@@ -1,0 +1,4 @@
+pub mod CarriedIds
+pub mod JoinedSessions
+pub mod LeastKnown
+pub mod RoomLeft
