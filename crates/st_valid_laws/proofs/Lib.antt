@@ -1,0 +1,6 @@
+pub mod FirstFailing
+pub mod Entered
+pub mod NewRevisions
+pub mod ValidLogs
+pub mod Standing
+pub mod RefusedByLog
