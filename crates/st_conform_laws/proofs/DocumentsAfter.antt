@@ -45,7 +45,8 @@ use Rattle.st_schema_laws.specs.Widening.{AreWidening, BecomesWider, IsTextOf, I
 use Rattle.st_schema_laws.proofs.EditsInLine.{some_last}
 use Rattle.st_schema_laws.proofs.Widening.{type_becomes, widening_after, widening_begins}
 use Rattle.st_conform_laws.specs.Keeping.{KeepInTurn, KeepsTo, KeepsWhereBased}
-use Rattle.st_conform_laws.specs.Nodes.{ConformsByNodes, HasField, IsUnder, MayStandIn, NodesConform, StandsKnown, StandsWell}
+use Rattle.st_valid_laws.specs.Schema.{HasField}
+use Rattle.st_conform_laws.specs.Nodes.{ConformsByNodes, IsUnder, MayStandIn, NodesConform, StandsKnown, StandsWell}
 use Rattle.st_marks.specs.Back.{IsBack}
 use Rattle.st_conform_laws.proofs.WaysBack.{back_keeps}
 use Rattle.st_conform_laws.proofs.NodesThatConform.{full_conform, has_field_wider, known_old_or_new, left_conform, required_was, rule_was, void_conform}

@@ -13,3 +13,4 @@ pub mod WhatListsTell
 pub mod FrontsOfSchemas
 pub mod TestsAsTold
 pub mod ValidEntries
+pub mod ValidMessages

@@ -4,10 +4,10 @@ ghost use Rattle.std.specs.Prelude.{◌≡◌, ◌∷◌, ◌++◌, [], Some, Li
 ghost use Rattle.serde_json.specs.Data.{Data};
 ghost use Rattle.st_conform_laws.specs.Entries.{AreValidEntries, IsOpened};
 ghost use Rattle.st_conform_laws.specs.Keeping.{KeepInTurn, KeepsTo, KeepsWhereBased};
-ghost use Rattle.st_conform_laws.specs.Logs.{AreOwnAfter, AreValid, HasHomes, IsUpTo, IsValidAfter};
+ghost use Rattle.st_valid_laws.specs.Schema.{IsUpTo, IsViewOf, KeepsToSchema};
+ghost use Rattle.st_conform_laws.specs.Logs.{AreOwnAfter, AreValid, HasHomes, IsValidAfter};
 ghost use Rattle.st_conform_laws.specs.Nodes.{ConformsByNodes, NodesConform};
 ghost use Rattle.st_conform_laws.specs.Telling.{AreUnderThese, IsToldBy, TellAlike, schema_read, told_of};
-ghost use Rattle.st_conform_laws.specs.Tests.{IsViewOf, KeepsToSchema};
 ghost use Rattle.st_edits.specs.ArrayTypes.{is_array_type};
 ghost use Rattle.st_edits.specs.Resolve.{resolve};
 ghost use Rattle.st_edits.specs.declared.names.NameCounters.{NameCounters};
@@ -15,6 +15,10 @@ ghost use Rattle.st_ids.specs.Listing.{Has};
 ghost use Rattle.st_ids.specs.Root.{opening, root};
 ghost use Rattle.st_ids.specs.declared.names.NodeId.{NodeId};
 ghost use Rattle.st_ids.specs.declared.names.Rev.{Rev};
+ghost use Rattle.st_lists.specs.Log.{commits_in};
+ghost use Rattle.st_lists.specs.declared.lists.Entry.{Entry};
+ghost use Rattle.st_valid.specs.Room.{HasRoomForNames};
+ghost use Rattle.st_valid_laws.specs.Messages.{IsValidLog};
 ghost use Rattle.st_log_laws.specs.Names.{HasNames, HaveNewRevisions, IsMadeUnder, revisions};
 ghost use Rattle.st_log_laws.specs.Turns.{FitInTurn, HasRoom, IsSublist};
 ghost use Rattle.st_marks.specs.Back.{IsBack};
@@ -206,6 +210,21 @@ pub fn valid_entries_show_allowed_trees()
     ensures tree { (s : SchemaView) (O D : Document) (Ls : List Intent) (is_array : List ℕ
         → Bool) (d : Data) → IsOpened s O → AreValidEntries O Ls
         → HaveNewRevisions (opening ∷ []) Ls → HasRoom O Ls → Run O Ls D → ((ty : List ℕ)
+        → is_array ty ≡ is_array_type (schema_in_effect D) ty) → Shows is_array D root d
+        → (t : Node) × (tree_data t ≡ d)
+        × (conforms (schema_in_effect D) (schema_in_effect D).root t ≡ true) }
+{}
+
+/// For every log of valid messages over a document opened, whoever wrote them: each commit is valid
+/// after those before it, and what the document of the whole log shows is the JSON form of a tree
+/// that the last schema in effect, read from its text, allows as its root.
+pub fn valid_logs_show_allowed_trees()
+    ensures commits { (O : Document) (log : List Entry) → IsSoundInForm O
+        → IsMadeUnder (opening ∷ []) O → HasRoomForNames O → IsValidLog O log
+        → AreValidEntries O (commits_in log) }
+    ensures tree { (s : SchemaView) (O D : Document) (log : List Entry) (is_array : List ℕ → Bool)
+        (d : Data) → IsOpened s O → HasRoomForNames O → IsValidLog O log
+        → Run O (commits_in log) D → ((ty : List ℕ)
         → is_array ty ≡ is_array_type (schema_in_effect D) ty) → Shows is_array D root d
         → (t : Node) × (tree_data t ≡ d)
         × (conforms (schema_in_effect D) (schema_in_effect D).root t ≡ true) }
