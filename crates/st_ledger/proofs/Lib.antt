@@ -2,3 +2,4 @@ pub mod CarriedIds
 pub mod JoinedSessions
 pub mod LeastKnown
 pub mod RoomLeft
+pub mod MoreEntries

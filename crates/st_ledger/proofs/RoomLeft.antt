@@ -125,7 +125,7 @@ numbers_once (suc k) log = distinct-append (λ (s : ℕ). s) (numbers_to k log) 
     apart true x y low (inr q) e = absurd q
     apart false x y low q e = absurd q
 
-session_low : (log : List Entry) (e : Entry) (n : ℕ) → Has log e → e.session ≤ fold (λ most (e : Entry). max most e.session) n log
+pub session_low : (log : List Entry) (e : Entry) (n : ℕ) → Has log e → e.session ≤ fold (λ most (e : Entry). max most e.session) n log
 session_low [] e n h = absurd h
 session_low (x ∷ xs) e n (inl q) =
     let same : x.session ≡ e.session = ap (λ (y : Entry). y.session) q in

@@ -2,6 +2,7 @@
 #![tactic(auto)]
 
 mod carrying;
+mod entering;
 mod ledger;
 mod references;
 mod refusing;

@@ -1,0 +1,102 @@
+-- A ledger with one more entry stands for the log with it.
+use Rattle.std.proofs.Common.{◌≡◌, ◌≤◌, ◌+◌, ◌==◌, ◌&&◌, ◌||◌, ℕ, Bool, true, false, cond, max, is_some, List, [], ◌∷◌, length, length-append, None, refl, sym, ap, ◌∙◌, subst, arith}
+use Rattle.std.specs.BTreeMap.{get}
+use Rattle.std.specs.List.{list_any}
+use Rattle.std.specs.Option.{option_map_or}
+use Rattle.std.proofs.lemmas.List.{append-nil}
+use Rattle.std.proofs.lemmas.List.Elements.{filter_map-append}
+use Rattle.std.proofs.lemmas.List.Sums.{fold_push}
+use Rattle.st_lemmas.proofs.Bools.{or-false}
+use Rattle.st_lemmas.proofs.FirstItems.{list_any-push}
+use Rattle.st_ids.specs.Order.{rev_cmp, same_rev}
+use Rattle.st_clusters.specs.Free.{free_number, spans_meet}
+use Rattle.st_clusters.specs.Ids.{ids_of}
+use Rattle.st_clusters.specs.Log.{IsTableOf}
+use Rattle.st_clusters.specs.Table.{Ids}
+use Rattle.st_clusters.specs.declared.ids.SessionIds.{SessionIds}
+use Rattle.st_marks.specs.declared.intents.Intent.{Intent}
+use Rattle.st_lists.specs.Known.{known_so_far}
+use Rattle.st_lists.specs.Log.{clashes, commits_in, connected_after, connected_by, is_connected, known_reference, log_with, meets, range_of, ranges_in, reference_in, sessions_in, uuid_in, with_reference}
+use Rattle.st_lists.specs.Names.{names_in}
+use Rattle.st_lists.specs.declared.lists.Body.{Body}
+use Rattle.st_lists.specs.declared.lists.Body.TheVariants.{Ack}
+use Rattle.st_lists.specs.declared.lists.Entry.{Entry}
+use Rattle.st_lists.proofs.Logs.{entered_commits, last_entry}
+use Rattle.st_lists.proofs.Minima.{connected_entry}
+use Rattle.st_valid.specs.Sessions.{has_joined, tells}
+use Rattle.st_ledger.specs.Stands.{AreConnectedIn, AreSessionsOf, StandsFor}
+use Rattle.st_ledger.specs.declared.ledger.Ledger.{Ledger}
+use Rattle.st_ledger.proofs.RoomLeft.{session_low}
+
+-- ## What holds whatever a session says but a join
+
+module _ (log : List Entry) (s : ℕ) (body : Body) where
+  abbrev longer : List Entry
+  longer = log_with log s body
+
+  size_now : length longer ≡ length log + 1
+  size_now = length-append log (last_entry log s body ∷ [])
+
+  known_now : (t : ℕ) → known_reference t longer ≡ cond (s == t) (max (known_reference t log) (reference_in (length log + 1) body)) (known_reference t log)
+  known_now t = fold_push (with_reference t) 0 log (last_entry log s body)
+
+  on_now : (t : ℕ) → is_connected t longer ≡ cond (s == t) (connected_after (is_connected t log) body) (is_connected t log)
+  on_now t = fold_push (connected_by t) false log (last_entry log s body)
+
+  module _ (none : uuid_in body ≡ None) (low : s ≤ sessions_in log) where
+    count_now : sessions_in longer ≡ sessions_in log
+    count_now =
+        let more : sessions_in longer ≡ max (sessions_in log) s = fold_push (λ most (e : Entry). max most e.session) 0 log (last_entry log s body) in
+        omega (arith, more, low)
+
+    joined_now : (t u : ℕ) → has_joined t u longer ≡ has_joined t u log
+    joined_now t u = list_any-push (tells t u) log (last_entry log s body) ∙ ap (λ b. has_joined t u log || b) no ∙ or-false (has_joined t u log)
+      where
+        no : tells t u (last_entry log s body) ≡ false
+        no = ap (λ o. s == t && option_map_or (λ v. v == u) o false) none ∙ both (s == t)
+          where
+            both : (b : Bool) → (b && false) ≡ false
+            both true = refl
+            both false = refl
+
+    clashes_now : (u : ℕ) → clashes u longer ≡ clashes u log
+    clashes_now u = list_any-push (meets u) log (last_entry log s body) ∙ ap (λ b. clashes u log || b) (ap (λ o. option_map_or (λ v. spans_meet (free_number v) (free_number u)) o false) none) ∙ or-false (clashes u log)
+
+    sessions_now : (ss : List SessionIds) → AreSessionsOf log ss → AreSessionsOf longer ss
+    sessions_now ss h = record {
+      count = h.count ∙ sym count_now;
+      uuids = λ t u. h.uuids t u ∙ sym (joined_now t u);
+      spans = λ u. h.spans u ∙ sym (clashes_now u);
+    }
+
+known_session : (log : List Entry) (s : ℕ) → is_connected s log ≡ true → s ≤ sessions_in log
+known_session log s on = let x = connected_entry s log on in omega (arith, session_low log x.0 0 x.1, x.2)
+
+-- ## A session tells how many entries it has received
+
+pub told_entered : (l k : Ledger) (s reference : ℕ) (log : List Entry) → StandsFor l log → is_connected s log ≡ true
+    → k.entries ≡ l.entries + 1 → ids_of k.ids ≡ ids_of l.ids → k.connected ≡ l.connected → k.names ≡ l.names → k.revisions ≡ l.revisions
+    → ((t : ℕ) → known_so_far k.known t ≡ cond (s == t) (max (known_so_far l.known t) reference) (known_so_far l.known t))
+    → StandsFor k (log_with log s (Ack reference))
+told_entered l k s reference log stands on entries ids connected names revisions known = record {
+  entries = entries ∙ ap (λ n. n + 1) stands.entries ∙ sym (size_now log s (Ack reference));
+  ids = subst (λ (t : Ids). IsTableOf (ranges_in (log_with log s (Ack reference))) t) (sym ids) (subst (λ rs. IsTableOf rs (ids_of l.ids)) (sym ranges) stands.ids);
+  sessions = subst (λ (t : Ids). AreSessionsOf (log_with log s (Ack reference)) t.sessions) (sym ids) (sessions_now log s (Ack reference) refl (known_session log s on) (ids_of l.ids).sessions stands.sessions);
+  known = λ t. known t ∙ ap (λ n. cond (s == t) (max n reference) n) (stands.known t) ∙ sym (known_now log s (Ack reference) t);
+  connected = subst (AreConnectedIn (log_with log s (Ack reference))) (sym connected) (record { each = λ t. stands.connected.each t ∙ sym (stays t); once = stands.connected.once; some = stands.connected.some });
+  names = names ∙ stands.names ∙ ap names_in (sym commits);
+  revisions = λ r. ap (λ m. is_some (get rev_cmp m r)) revisions ∙ stands.revisions r ∙ ap (λ Ns. list_any (λ (N : Intent). same_rev N.rev r) Ns) (sym commits);
+}
+  where
+    ranges : ranges_in (log_with log s (Ack reference)) ≡ ranges_in log
+    ranges = filter_map-append range_of log (last_entry log s (Ack reference) ∷ []) ∙ append-nil (ranges_in log)
+
+    commits : commits_in (log_with log s (Ack reference)) ≡ commits_in log
+    commits = entered_commits log s (Ack reference) ∙ append-nil (commits_in log)
+
+    stays : (t : ℕ) → is_connected t (log_with log s (Ack reference)) ≡ is_connected t log
+    stays t = on_now log s (Ack reference) t ∙ either (s == t)
+      where
+        either : (b : Bool) → cond b (is_connected t log) (is_connected t log) ≡ is_connected t log
+        either true = refl
+        either false = refl

@@ -1,0 +1,41 @@
+//! What is kept of a log, as entries come.
+ghost use Rattle.std.specs.Prelude.{◌≡◌, ℕ, ◌+◌, ◌==◌, ◌<◌, ◌^◌, true, max, List as Seq, OnOk, if◌then◌else◌};
+ghost use Rattle.st_ledger.specs.Stands.{StandsFor};
+ghost use Rattle.st_lists.specs.Known.{known_so_far};
+ghost use Rattle.st_lists.specs.Log.{is_connected, log_with};
+ghost use Rattle.st_lists.specs.declared.lists.Body.TheVariants.{Ack};
+ghost use Rattle.st_lists.specs.declared.lists.Entry.{Entry};
+
+use crate::ledger::Ledger;
+use std::alloc::AllocError;
+use std::collections::BTreeMap;
+
+// Takes note of a reference of a session.
+fn note_reference(
+    known: &mut BTreeMap<u32, u32>,
+    session: u32,
+    reference: u32,
+) -> Result<(), AllocError>
+    ensures { OnOk result ((s : ℕ) → known_so_far known.new s
+        ≡ (if session == s then max (known_so_far known.old s) reference
+        else known_so_far known.old s)) }
+{
+    let before = known.get(&session).copied().unwrap_or(0);
+    known.insert(session, before.max(reference))?;
+    Ok(())
+}
+
+impl Ledger {
+    /// Takes note of an entry in which a session that is connected tells how many entries it has received. After an `Err`
+    /// nothing is promised of what is kept.
+    pub fn enter_ack(&mut self, session: u32, reference: u32) -> Result<(), AllocError>
+        requires few { self.old.entries + 1 < 2 ^ 32 }
+        ensures { OnOk result ((log : Seq Entry) → StandsFor self.old log
+            → is_connected session log ≡ true
+            → StandsFor self.new (log_with log session (Ack reference))) }
+    {
+        note_reference(&mut self.known, session, reference)?;
+        self.entries += 1;
+        Ok(())
+    }
+}
