@@ -1,12 +1,13 @@
 -- A ledger with one more entry stands for the log with it.
-use Rattle.std.proofs.Common.{◌≡◌, ◌≤◌, ◌+◌, ◌==◌, ◌&&◌, ◌||◌, ℕ, Bool, true, false, cond, max, is_some, List, [], ◌∷◌, length, length-append, None, refl, sym, ap, ◌∙◌, subst, arith}
+use Rattle.std.proofs.Common.{◌≡◌, ◌≤◌, ◌+◌, ◌==◌, ◌&&◌, ◌||◌, ℕ, Bool, true, false, cond, max, not, filter, is_some, List, [], ◌∷◌, length, length-append, None, refl, sym, ap, ◌∙◌, subst, arith}
+use Rattle.std.proofs.lemmas.Bool.Decides.{nat_tests}
 use Rattle.std.specs.BTreeMap.{get}
 use Rattle.std.specs.List.{list_any}
 use Rattle.std.specs.Option.{option_map_or}
 use Rattle.std.proofs.lemmas.List.{append-nil}
 use Rattle.std.proofs.lemmas.List.Elements.{filter_map-append}
 use Rattle.std.proofs.lemmas.List.Sums.{fold_push}
-use Rattle.st_lemmas.proofs.Bools.{or-false}
+use Rattle.st_lemmas.proofs.Bools.{or-false, true-false}
 use Rattle.st_lemmas.proofs.FirstItems.{list_any-push}
 use Rattle.st_ids.specs.Order.{rev_cmp, same_rev}
 use Rattle.st_clusters.specs.Free.{free_number, spans_meet}
@@ -14,12 +15,14 @@ use Rattle.st_clusters.specs.Ids.{ids_of}
 use Rattle.st_clusters.specs.Log.{IsTableOf}
 use Rattle.st_clusters.specs.Table.{Ids}
 use Rattle.st_clusters.specs.declared.ids.SessionIds.{SessionIds}
+use Rattle.st_ids.proofs.Shared.{filtered}
 use Rattle.st_marks.specs.declared.intents.Intent.{Intent}
+use Rattle.st_marks.proofs.Members.{distinct-filter}
 use Rattle.st_lists.specs.Known.{known_so_far}
 use Rattle.st_lists.specs.Log.{clashes, commits_in, connected_after, connected_by, is_connected, known_reference, log_with, meets, range_of, ranges_in, reference_in, sessions_in, uuid_in, with_reference}
 use Rattle.st_lists.specs.Names.{names_in}
 use Rattle.st_lists.specs.declared.lists.Body.{Body}
-use Rattle.st_lists.specs.declared.lists.Body.TheVariants.{Ack}
+use Rattle.st_lists.specs.declared.lists.Body.TheVariants.{Ack, Leave}
 use Rattle.st_lists.specs.declared.lists.Entry.{Entry}
 use Rattle.st_lists.proofs.Logs.{entered_commits, last_entry}
 use Rattle.st_lists.proofs.Minima.{connected_entry}
@@ -100,3 +103,68 @@ told_entered l k s reference log stands on entries ids connected names revisions
         either : (b : Bool) → cond b (is_connected t log) (is_connected t log) ≡ is_connected t log
         either true = refl
         either false = refl
+
+-- ## A session leaves
+
+it_goes : (b r : Bool) → (not b && r) ≡ (not b && (b || r))
+it_goes true r = refl
+it_goes false r = refl
+
+it_stays : (b c r : Bool) → (b ≡ true → c ≡ false) → (c || (not b && r)) ≡ (not b && (c || r))
+it_stays false c r h = refl
+it_stays true c r h = or-false c ∙ h refl
+
+nowhere : (b : Bool) → false ≡ (b && false)
+nowhere true = refl
+nowhere false = refl
+
+others_listed : (s t : ℕ) (xs : List ℕ) → list_any (λ (x : ℕ). x == t) (filter (λ (x : ℕ). not (x == s)) xs) ≡ (not (s == t) && list_any (λ (x : ℕ). x == t) xs)
+others_listed s t [] = nowhere (not (s == t))
+others_listed s t (x ∷ xs) = go (x == s) refl (others_listed s t xs)
+  where
+    go : (b : Bool) → (x == s) ≡ b → list_any (λ (y : ℕ). y == t) (filter (λ (y : ℕ). not (y == s)) xs) ≡ (not (s == t) && list_any (λ (y : ℕ). y == t) xs)
+        → list_any (λ (y : ℕ). y == t) (cond (not b) (x ∷ filter (λ (y : ℕ). not (y == s)) xs) (filter (λ (y : ℕ). not (y == s)) xs)) ≡ (not (s == t) && (x == t || list_any (λ (y : ℕ). y == t) xs))
+    go true e h =
+        let same : x ≡ s = grind (arith, nat_tests) in
+        h ∙ it_goes (s == t) (list_any (λ (y : ℕ). y == t) xs) ∙ ap (λ (k : ℕ). not (s == t) && (k == t || list_any (λ (y : ℕ). y == t) xs)) (sym same)
+    go false e h = ap (λ b. x == t || b) h ∙ it_stays (s == t) (x == t) (list_any (λ (y : ℕ). y == t) xs) (apart (x == t) refl)
+      where
+        apart : (c : Bool) → (x == t) ≡ c → (s == t) ≡ true → c ≡ false
+        apart false f g = refl
+        apart true f g =
+            let one : x ≡ t = grind (arith, nat_tests) in
+            let two : s ≡ t = grind (arith, nat_tests) in
+            let same : x ≡ s = one ∙ sym two in
+            let itself : (s == s) ≡ true = grind (arith, nat_tests) in
+            absurd (true-false (ap (λ (k : ℕ). k == s) same ∙ itself) e)
+
+pub left_entered : (l k : Ledger) (s : ℕ) (log : List Entry) → StandsFor l log → is_connected s log ≡ true
+    → k.entries ≡ l.entries + 1 → ids_of k.ids ≡ ids_of l.ids → k.connected ≡ filter (λ (t : ℕ). not (t == s)) l.connected → k.names ≡ l.names → k.revisions ≡ l.revisions → k.known ≡ l.known
+    → StandsFor k (log_with log s Leave)
+left_entered l k s log stands on entries ids connected names revisions known = record {
+  entries = entries ∙ ap (λ n. n + 1) stands.entries ∙ sym (size_now log s Leave);
+  ids = subst (λ (t : Ids). IsTableOf (ranges_in (log_with log s Leave)) t) (sym ids) (subst (λ rs. IsTableOf rs (ids_of l.ids)) (sym ranges) stands.ids);
+  sessions = subst (λ (t : Ids). AreSessionsOf (log_with log s Leave) t.sessions) (sym ids) (sessions_now log s Leave refl (known_session log s on) (ids_of l.ids).sessions stands.sessions);
+  known = λ t. ap (λ m. known_so_far m t) known ∙ stands.known t ∙ sym (known_now log s Leave t ∙ same (s == t) (known_reference t log));
+  connected = subst (AreConnectedIn (log_with log s Leave)) (sym connected) (record {
+    each = λ t. others_listed s t l.connected ∙ ap (λ b. not (s == t) && b) (stands.connected.each t) ∙ sym (on_now log s Leave t ∙ gone (s == t) (is_connected t log));
+    once = distinct-filter (λ (t : ℕ). t) (λ (t : ℕ). not (t == s)) l.connected stands.connected.once;
+    some = λ t h. stands.connected.some t (filtered (λ (x : ℕ). not (x == s)) l.connected t h).0;
+  });
+  names = names ∙ stands.names ∙ ap names_in (sym commits);
+  revisions = λ r. ap (λ m. is_some (get rev_cmp m r)) revisions ∙ stands.revisions r ∙ ap (λ Ns. list_any (λ (N : Intent). same_rev N.rev r) Ns) (sym commits);
+}
+  where
+    ranges : ranges_in (log_with log s Leave) ≡ ranges_in log
+    ranges = filter_map-append range_of log (last_entry log s Leave ∷ []) ∙ append-nil (ranges_in log)
+
+    commits : commits_in (log_with log s Leave) ≡ commits_in log
+    commits = entered_commits log s Leave ∙ append-nil (commits_in log)
+
+    same : (b : Bool) (n : ℕ) → cond b (max n 0) n ≡ n
+    same true n = omega arith
+    same false n = refl
+
+    gone : (b x : Bool) → cond b false x ≡ (not b && x)
+    gone true x = refl
+    gone false x = refl

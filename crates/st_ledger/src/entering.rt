@@ -1,13 +1,14 @@
 //! What is kept of a log, as entries come.
-ghost use Rattle.std.specs.Prelude.{◌≡◌, ℕ, ◌+◌, ◌==◌, ◌<◌, ◌^◌, true, max, List as Seq, OnOk, if◌then◌else◌};
+ghost use Rattle.std.specs.Prelude.{filter, not, IfOk, ◌≡◌, ℕ, ◌+◌, ◌==◌, ◌<◌, ◌^◌, true, max, List as Seq, OnOk, if◌then◌else◌};
 ghost use Rattle.st_ledger.specs.Stands.{StandsFor};
 ghost use Rattle.st_lists.specs.Known.{known_so_far};
 ghost use Rattle.st_lists.specs.Log.{is_connected, log_with};
-ghost use Rattle.st_lists.specs.declared.lists.Body.TheVariants.{Ack};
+ghost use Rattle.st_lists.specs.declared.lists.Body.TheVariants.{Ack, Leave};
 ghost use Rattle.st_lists.specs.declared.lists.Entry.{Entry};
 
 use crate::ledger::Ledger;
-use std::alloc::AllocError;
+use st_ids::List;
+use std::alloc::{AllocError, Global};
 use std::collections::BTreeMap;
 
 // Takes note of a reference of a session.
@@ -25,7 +26,32 @@ fn note_reference(
     Ok(())
 }
 
+// The sessions but one.
+fn others(alloc: Global, sessions: &[u32], session: u32) -> Result<List<u32>, AllocError>
+    ensures { IfOk result (λ rest. rest ≡ filter (λ s. not (s == session)) sessions.now) }
+{
+    let mut rest = List::new(alloc);
+    for one in sessions {
+        if *one != session {
+            rest.push(*one)?;
+        }
+    }
+    Ok(rest)
+}
+
 impl Ledger {
+    /// Takes note of an entry in which a session that is connected leaves. After an `Err` nothing is promised of what is kept.
+    pub fn enter_leave(&mut self, alloc: Global, session: u32) -> Result<(), AllocError>
+        requires few { self.old.entries + 1 < 2 ^ 32 }
+        ensures { OnOk result ((log : Seq Entry) → StandsFor self.old log
+            → is_connected session log ≡ true
+            → StandsFor self.new (log_with log session Leave)) }
+    {
+        self.connected = others(alloc, self.connected.as_slice(), session)?;
+        self.entries += 1;
+        Ok(())
+    }
+
     /// Takes note of an entry in which a session that is connected tells how many entries it has received. After an `Err`
     /// nothing is promised of what is kept.
     pub fn enter_ack(&mut self, session: u32, reference: u32) -> Result<(), AllocError>
