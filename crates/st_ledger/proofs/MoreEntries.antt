@@ -1,8 +1,8 @@
 -- A ledger with one more entry stands for the log with it.
-use Rattle.std.proofs.Common.{◌≡◌, ◌≤◌, ◌+◌, ◌==◌, ◌&&◌, ◌||◌, ℕ, Bool, true, false, cond, max, not, filter, is_some, List, [], ◌∷◌, length, length-append, None, refl, sym, ap, ◌∙◌, subst, arith}
+use Rattle.std.proofs.Common.{◌≡◌, ◌≤◌, ◌+◌, ◌-◌, ◌==◌, ◌&&◌, ◌||◌, ℕ, zero, suc, Bool, true, false, cond, max, not, filter, is_some, List, [], ◌∷◌, ◌++◌, length, length-append, map, get_or, set, Option, None, Some, option_map, Ok, refl, sym, ap, ◌∙◌, subst, arith}
 use Rattle.std.proofs.lemmas.Bool.Decides.{nat_tests}
 use Rattle.std.specs.BTreeMap.{get}
-use Rattle.std.specs.List.{list_any}
+use Rattle.std.specs.List.{list_any, slice_get}
 use Rattle.std.specs.Option.{option_map_or}
 use Rattle.std.proofs.lemmas.List.{append-nil}
 use Rattle.std.proofs.lemmas.List.Elements.{filter_map-append}
@@ -10,24 +10,30 @@ use Rattle.std.proofs.lemmas.List.Sums.{fold_push}
 use Rattle.st_lemmas.proofs.Bools.{or-false, true-false}
 use Rattle.st_lemmas.proofs.FirstItems.{list_any-push}
 use Rattle.st_ids.specs.Order.{rev_cmp, same_rev}
+use Rattle.st_ids.specs.declared.names.Rev.{Rev}
 use Rattle.st_clusters.specs.Free.{free_number, spans_meet}
 use Rattle.st_clusters.specs.Ids.{ids_of}
 use Rattle.st_clusters.specs.Log.{IsTableOf}
-use Rattle.st_clusters.specs.Table.{Ids}
+use Rattle.st_clusters.specs.Table.{Ids, after_finalising, no_session, raise_to, session_of}
+use Rattle.st_clusters.specs.declared.ids.IdRange.{IdRange}
+use Rattle.st_clusters.proofs.RangeTaken.{was_taken}
+use Rattle.st_clusters.proofs.Stable.{session_known}
+use Rattle.st_clusters.proofs.TableOfRanges.{table_finalises}
 use Rattle.st_clusters.specs.declared.ids.SessionIds.{SessionIds}
 use Rattle.st_ids.proofs.Shared.{filtered}
 use Rattle.st_marks.specs.declared.intents.Intent.{Intent}
 use Rattle.st_marks.proofs.Members.{distinct-filter}
 use Rattle.st_lists.specs.Known.{known_so_far}
 use Rattle.st_lists.specs.Log.{clashes, commits_in, connected_after, connected_by, is_connected, known_reference, log_with, meets, range_of, ranges_in, reference_in, sessions_in, uuid_in, with_reference}
-use Rattle.st_lists.specs.Names.{names_in}
+use Rattle.st_lists.specs.Names.{names_in, names_made}
+use Rattle.st_lists.proofs.Names.{names_append}
 use Rattle.st_lists.specs.declared.lists.Body.{Body}
-use Rattle.st_lists.specs.declared.lists.Body.TheVariants.{Ack, Leave}
+use Rattle.st_lists.specs.declared.lists.Body.TheVariants.{Ack, Commit, Leave}
 use Rattle.st_lists.specs.declared.lists.Entry.{Entry}
 use Rattle.st_lists.proofs.Logs.{entered_commits, last_entry}
 use Rattle.st_lists.proofs.Minima.{connected_entry}
 use Rattle.st_valid.specs.Sessions.{has_joined, tells}
-use Rattle.st_ledger.specs.Stands.{AreConnectedIn, AreSessionsOf, StandsFor}
+use Rattle.st_ledger.specs.Stands.{AreConnectedIn, AreSessionsOf, StandsFor, meets_span}
 use Rattle.st_ledger.specs.declared.ledger.Ledger.{Ledger}
 use Rattle.st_ledger.proofs.RoomLeft.{session_low}
 
@@ -168,3 +174,83 @@ left_entered l k s log stands on entries ids connected names revisions known = r
     gone : (b x : Bool) → cond b false x ≡ (not b && x)
     gone true x = refl
     gone false x = refl
+
+-- ## A session commits
+
+-- sessions that have the same UUIDs are sessions of the same log
+slice-map : (xs : List SessionIds) (i : ℕ) → slice_get (map (λ (x : SessionIds). x.uuid) xs) i ≡ option_map (λ (x : SessionIds). x.uuid) (slice_get xs i)
+slice-map [] i = refl
+slice-map (x ∷ xs) zero = refl
+slice-map (x ∷ xs) (suc i) = slice-map xs i
+
+any-map : (u : ℕ) (xs : List SessionIds) → list_any (λ (w : ℕ). spans_meet (free_number w) (free_number u)) (map (λ (x : SessionIds). x.uuid) xs) ≡ list_any (meets_span u) xs
+any-map u [] = refl
+any-map u (x ∷ xs) = ap (λ b. spans_meet (free_number x.uuid) (free_number u) || b) (any-map u xs)
+
+length-map : (xs : List SessionIds) → length (map (λ (x : SessionIds). x.uuid) xs) ≡ length xs
+length-map [] = refl
+length-map (x ∷ xs) = ap suc (length-map xs)
+
+uuid-map : (s u : ℕ) (xs : List SessionIds) → option_map_or (λ (w : ℕ). w == u) (cond (s == 0) None (slice_get (map (λ (x : SessionIds). x.uuid) xs) (s - 1))) false ≡ option_map_or (λ (x : SessionIds). x.uuid == u) (session_of xs s) false
+uuid-map s u xs = go (s == 0)
+  where
+    mapped : (o : Option SessionIds) → option_map_or (λ (w : ℕ). w == u) (option_map (λ (x : SessionIds). x.uuid) o) false ≡ option_map_or (λ (x : SessionIds). x.uuid == u) o false
+    mapped None = refl
+    mapped (Some x) = refl
+
+    go : (b : Bool) → option_map_or (λ (w : ℕ). w == u) (cond b None (slice_get (map (λ (x : SessionIds). x.uuid) xs) (s - 1))) false ≡ option_map_or (λ (x : SessionIds). x.uuid == u) (cond b None (slice_get xs (s - 1))) false
+    go true = refl
+    go false = ap (λ o. option_map_or (λ (w : ℕ). w == u) o false) (slice-map xs (s - 1)) ∙ mapped (slice_get xs (s - 1))
+
+sessions_alike : (log : List Entry) (xs ys : List SessionIds) → map (λ (x : SessionIds). x.uuid) xs ≡ map (λ (x : SessionIds). x.uuid) ys → AreSessionsOf log xs → AreSessionsOf log ys
+sessions_alike log xs ys same h = record {
+  count = sym (length-map ys) ∙ ap length (sym same) ∙ length-map xs ∙ h.count;
+  uuids = λ s u. sym (uuid-map s u ys) ∙ ap (λ (ws : List ℕ). option_map_or (λ (w : ℕ). w == u) (cond (s == 0) None (slice_get ws (s - 1))) false) (sym same) ∙ uuid-map s u xs ∙ h.uuids s u;
+  spans = λ u. sym (any-map u ys) ∙ ap (list_any (λ (w : ℕ). spans_meet (free_number w) (free_number u))) (sym same) ∙ any-map u xs ∙ h.spans u;
+}
+
+set-map : (xs : List SessionIds) (i : ℕ) (y : SessionIds) → y.uuid ≡ (get_or xs i no_session).uuid → map (λ (x : SessionIds). x.uuid) (set xs i y) ≡ map (λ (x : SessionIds). x.uuid) xs
+set-map [] i y e = refl
+set-map (x ∷ xs) zero y e = ap (λ u. u ∷ map (λ (x : SessionIds). x.uuid) xs) e
+set-map (x ∷ xs) (suc i) y e = ap (λ us. x.uuid ∷ us) (set-map xs i y e)
+
+taken_sessions : (log : List Entry) (r : IdRange) (t v : Ids) → after_finalising r t ≡ Ok v → AreSessionsOf log t.sessions → AreSessionsOf log v.sessions
+taken_sessions log r t v e h =
+    let took = was_taken r t v e in
+    let known = session_known t.sessions r.session took.ids took.known in
+    sessions_alike log t.sessions v.sessions
+    (sym (ap (map (λ (x : SessionIds). x.uuid)) took.sessions ∙ set-map t.sessions (r.session - 1) (raise_to took.ids (took.ids.finalised + r.count)) (ap (λ (x : SessionIds). x.uuid) (sym known.2)))) h
+
+one_more : (b : Bool) (n : ℕ) (o : Option ℕ) → is_some (cond b (Some n) o) ≡ (is_some o || b)
+one_more true n None = refl
+one_more true n (Some m) = refl
+one_more false n None = refl
+one_more false n (Some m) = refl
+
+pub committed : (l k : Ledger) (s reference : ℕ) (ids : IdRange) (N : Intent) (log : List Entry) → StandsFor l log → is_connected s log ≡ true
+    → k.entries ≡ l.entries + 1 → after_finalising ids (ids_of l.ids) ≡ Ok (ids_of k.ids) → k.connected ≡ l.connected → k.names ≡ l.names + names_made N
+    → ((r : Rev) → get rev_cmp k.revisions r ≡ cond (same_rev N.rev r) (Some (l.entries + 1)) (get rev_cmp l.revisions r))
+    → ((t : ℕ) → known_so_far k.known t ≡ cond (s == t) (max (known_so_far l.known t) reference) (known_so_far l.known t))
+    → StandsFor k (log_with log s (Commit reference ids N))
+committed l k s reference ids N log stands on entries taken connected names revisions known = record {
+  entries = entries ∙ ap (λ n. n + 1) stands.entries ∙ sym (size_now log s (Commit reference ids N));
+  ids = subst (λ rs. IsTableOf rs (ids_of k.ids)) (sym (filter_map-append range_of log (last_entry log s (Commit reference ids N) ∷ []))) (table_finalises (ranges_in log) ids (ids_of l.ids) (ids_of k.ids) stands.ids taken);
+  sessions = sessions_now log s (Commit reference ids N) refl (known_session log s on) (ids_of k.ids).sessions (taken_sessions log ids (ids_of l.ids) (ids_of k.ids) taken stands.sessions);
+  known = λ t. known t ∙ ap (λ n. cond (s == t) (max n reference) n) (stands.known t) ∙ sym (known_now log s (Commit reference ids N) t);
+  connected = subst (AreConnectedIn (log_with log s (Commit reference ids N))) (sym connected) (record { each = λ t. stands.connected.each t ∙ sym (stays t); once = stands.connected.once; some = stands.connected.some });
+  names = names ∙ ap (λ n. n + names_made N) stands.names ∙ sym more_names;
+  revisions = λ r. ap is_some (revisions r) ∙ one_more (same_rev N.rev r) (l.entries + 1) (get rev_cmp l.revisions r) ∙ ap (λ b. b || same_rev N.rev r) (stands.revisions r) ∙ sym (ap (λ Ns. list_any (λ (M : Intent). same_rev M.rev r) Ns) commits ∙ list_any-push (λ (M : Intent). same_rev M.rev r) (commits_in log) N);
+}
+  where
+    commits : commits_in (log_with log s (Commit reference ids N)) ≡ commits_in log ++ N ∷ []
+    commits = entered_commits log s (Commit reference ids N)
+
+    more_names : names_in (commits_in (log_with log s (Commit reference ids N))) ≡ names_in (commits_in log) + names_made N
+    more_names = ap names_in commits ∙ names_append (commits_in log) (N ∷ []) ∙ omega arith
+
+    stays : (t : ℕ) → is_connected t (log_with log s (Commit reference ids N)) ≡ is_connected t log
+    stays t = on_now log s (Commit reference ids N) t ∙ either (s == t)
+      where
+        either : (b : Bool) → cond b (is_connected t log) (is_connected t log) ≡ is_connected t log
+        either true = refl
+        either false = refl

@@ -1,13 +1,19 @@
 //! What is kept of a log, as entries come.
-ghost use Rattle.std.specs.Prelude.{filter, not, IfOk, ◌≡◌, ℕ, ◌+◌, ◌==◌, ◌<◌, ◌^◌, true, max, List as Seq, OnOk, if◌then◌else◌};
+ghost use Rattle.std.specs.BTreeMap.{get};
+ghost use Rattle.st_ids.specs.Order.{rev_cmp, same_rev};
+ghost use Rattle.st_ids.specs.declared.names.Rev.{Rev as RevNames};
+ghost use Rattle.st_lists.specs.Names.{names_made};
+ghost use Rattle.st_marks.specs.declared.intents.Intent.{Intent};
+ghost use Rattle.std.specs.Prelude.{cond, Some, filter, not, IfOk, ◌≡◌, ℕ, ◌+◌, ◌==◌, ◌<◌, ◌^◌, true, max, List as Seq, OnOk, if◌then◌else◌};
 ghost use Rattle.st_ledger.specs.Stands.{StandsFor};
 ghost use Rattle.st_lists.specs.Known.{known_so_far};
 ghost use Rattle.st_lists.specs.Log.{is_connected, log_with};
-ghost use Rattle.st_lists.specs.declared.lists.Body.TheVariants.{Ack, Leave};
+ghost use Rattle.st_lists.specs.declared.lists.Body.TheVariants.{Ack, Commit, Leave};
 ghost use Rattle.st_lists.specs.declared.lists.Entry.{Entry};
 
 use crate::ledger::Ledger;
-use st_ids::List;
+use st_clusters::{IdFault, IdRange};
+use st_ids::{List, Or, Rev};
 use std::alloc::{AllocError, Global};
 use std::collections::BTreeMap;
 
@@ -23,6 +29,19 @@ fn note_reference(
 {
     let before = known.get(&session).copied().unwrap_or(0);
     known.insert(session, before.max(reference))?;
+    Ok(())
+}
+
+// Takes note of which entry has the commit of a revision.
+fn note_revision(
+    revisions: &mut BTreeMap<Rev, u32>,
+    rev: Rev,
+    number: u32,
+) -> Result<(), AllocError>
+    ensures { OnOk result ((other : RevNames) → get rev_cmp revisions.new other
+        ≡ cond (same_rev rev other) (Some number) (get rev_cmp revisions.old other)) }
+{
+    revisions.insert(rev, number)?;
     Ok(())
 }
 
@@ -61,6 +80,31 @@ impl Ledger {
             → StandsFor self.new (log_with log session (Ack reference))) }
     {
         note_reference(&mut self.known, session, reference)?;
+        self.entries += 1;
+        Ok(())
+    }
+
+    /// Takes note of an entry in which a session that is connected commits, of its range of ids, and of the revision and the
+    /// names of its commit. Refused is a range that isn't the session's next. After an `Err` nothing is promised of what is
+    /// kept.
+    pub fn enter_commit(
+        &mut self,
+        session: u32,
+        reference: u32,
+        ids: IdRange,
+        rev: Rev,
+        names: u32,
+    ) -> Result<(), Or<IdFault>>
+        requires few { self.old.entries + 1 < 2 ^ 32 }
+        requires names { self.old.names + names < 2 ^ 32 }
+        ensures { OnOk result ((log : Seq Entry) (N : Intent) → StandsFor self.old log
+            → is_connected session log ≡ true → rev ≡ N.rev → names ≡ names_made N
+            → StandsFor self.new (log_with log session (Commit reference ids N))) }
+    {
+        self.ids.finalize(ids)?;
+        note_reference(&mut self.known, session, reference)?;
+        note_revision(&mut self.revisions, rev, self.entries + 1)?;
+        self.names += names;
         self.entries += 1;
         Ok(())
     }
