@@ -1,3 +1,4 @@
 pub mod Written
 pub mod Going
 pub mod Fitted
+mod Texted

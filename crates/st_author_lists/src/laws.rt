@@ -1,5 +1,5 @@
 //! Laws on authors' lists: each is the contract of a function that does nothing.
-ghost use Rattle.std.specs.Prelude.{◌≡◌, ◌≤◌, ℕ, true, List, ◌∷◌, ◌++◌, Some, length, slice_get, take};
+ghost use Rattle.std.specs.Prelude.{◌≡◌, ◌≤◌, ◌+◌, ℕ, true, List, ◌∷◌, ◌++◌, Some, length, slice_get, take};
 ghost use Rattle.st_clusters.specs.declared.ids.IdRange.{IdRange};
 ghost use Rattle.st_ids.specs.Listing.{Has};
 ghost use Rattle.st_marks.specs.declared.intents.Intent.{Intent};
@@ -17,6 +17,7 @@ ghost use Rattle.st_script.specs.declared.answer.Answer.{Answer};
 ghost use Rattle.st_valid.specs.Author.{author_list};
 ghost use Rattle.st_world.specs.World.{IsNext, opening_document};
 ghost use Rattle.st_world_laws.specs.Worlds.{IsHeader, IsWorld, KeepsRules};
+ghost use Rattle.st_texts.specs.Texts.{IsTextOf};
 ghost use Rattle.st_author_lists.specs.Authors.{FitAuthors, IsWritten};
 
 /// An author's list grows by the session's own commits among the entries that come.
@@ -58,4 +59,10 @@ pub fn authors_are_fitted()
         → Has w.clients c → c.queue ≡ before ++ Commit reference ids N ∷ later
         → IsWritten (opening_document h) (author_list w.log c.session reference
         ++ intents_of before) N }
+{}
+
+/// Each entry of the log has a text.
+pub fn entries_have_texts()
+    ensures { (h : HeaderView) (w : WorldState) (i : ℕ) (e : Entry) → IsHeader h → FitAuthors h w → slice_get w.log i ≡ Some e
+        → (text : List ℕ) × IsTextOf (opening_document h) w.log (i + 1) text }
 {}

@@ -5,4 +5,5 @@ mod laws;
 
 pub use laws::{
     author_lists_are_shown, author_lists_grow, authors_are_fitted, authors_begin, authors_go_on,
+    entries_have_texts,
 };
