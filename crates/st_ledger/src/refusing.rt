@@ -19,7 +19,8 @@ impl Ledger {
     /// Whether a message has the number after the last one.
     #[tactic(auto, using(crate::proofs::RoomLeft::order_of_ledger))]
     pub fn is_in_order(&self, message: &Message) -> bool
-        ensures { (log : Seq Entry) → StandsFor self.now log → result ≡ is_in_order log message.now }
+        ensures { (log : Seq Entry) → StandsFor self.now log
+            → result ≡ is_in_order log message.now }
     {
         comes_after(message.n, self.entries)
     }

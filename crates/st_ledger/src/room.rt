@@ -54,7 +54,8 @@ pub fn names_of_change(change: &Change) -> u64
 
 // Whether so many names are few enough, beside those of a log.
 fn names_fit(entries: u32, names: u32, made: u64) -> bool
-    ensures { result ≡ (nat_le made 2048 && (nat_lt entries 65535 && nat_le (names + made) 131072)) }
+    ensures { result ≡ (nat_le made 2048
+        && (nat_lt entries 65535 && nat_le (names + made) 131072)) }
 {
     made <= 2048 && (entries < 65535 && names as u64 + made <= 131072)
 }
