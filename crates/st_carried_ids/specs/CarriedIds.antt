@@ -1,8 +1,9 @@
 -- The id of each commit is among those that its session's texts carry up to it.
-use Rattle.std.specs.Prelude.{◌≡◌, ℕ, ◌+◌, ◌≤◌, List, [], ◌∷◌, ◌++◌, slice_get, take, Some}
+use Rattle.std.specs.Prelude.{◌≡◌, ◌⊎◌, ℕ, ◌+◌, ◌<◌, ◌≤◌, List, [], ◌∷◌, ◌++◌, slice_get, take, Some}
 use Rattle.std.specs.List.{AllByRecursion}
 use Rattle.st_clusters.specs.Log.{carried_count}
 use Rattle.st_clusters.specs.declared.ids.IdRange.{IdRange}
+use Rattle.st_ids.specs.declared.names.Rev.{Rev}
 use Rattle.st_marks.specs.declared.intents.Intent.{Intent}
 use Rattle.st_lists.specs.Log.{ranges_in, ranges_of}
 use Rattle.st_lists.specs.declared.lists.Body.{Body}
@@ -11,7 +12,8 @@ use Rattle.st_lists.specs.declared.lists.Client.{Client}
 use Rattle.st_lists.specs.declared.lists.Entry.{Entry}
 use Rattle.st_lists.specs.declared.lists.WorldState.{WorldState}
 
--- a text of a session, behind some ranges: if it is a commit, its id is among those of the session that they and the text carry
+-- a text of a session, behind some ranges: if it is a commit, its id is among those of the session that they and the text
+-- carry
 abbrev pub IsNumbered : ℕ → List IdRange → Body → Type 0
 IsNumbered session ranges (Join uuid) = Unit {0}
 IsNumbered session ranges Leave = Unit {0}
@@ -25,9 +27,15 @@ AreNumbered session ranges (text ∷ texts) = IsNumbered session ranges text × 
 
 -- the id of each commit of a log is among those of its session that the log carries up to it
 abbrev pub IsLogNumbered : List Entry → Type 0
-IsLogNumbered log = (i : ℕ) (e : Entry) (reference : ℕ) (ids : IdRange) (N : Intent) → slice_get log i ≡ Some e → e.body ≡ Commit reference ids N → N.rev.num ≤ carried_count e.session (ranges_in (take (i + 1) log))
+IsLogNumbered log = (i : ℕ) (e : Entry) (reference : ℕ) (ids : IdRange) (N : Intent) → slice_get log i ≡ Some e → e.body ≡ Commit reference ids N
+    → N.rev.num ≤ carried_count e.session (ranges_in (take (i + 1) log))
 
--- the log carries the id of each of its commits, and with what waits before it that of each commit that waits in a client's queue
+-- each commit of the log, and each that waits in a client's queue, has an id that is carried up to it
 pub record CarryIds (w : WorldState) : Type 0 where
   pub log : IsLogNumbered w.log
   pub waiting : AllByRecursion (λ (c : Client). AreNumbered c.session (ranges_in w.log) c.queue) w.clients
+
+-- one who has read the entries of a log up to the reference of a session's text, and which ids the text carries, knows a
+-- number for a revision: the entries carry it, or it is one of the session's own, none after those that the text carries
+abbrev pub IsKnownAt : List Entry → ℕ → ℕ → IdRange → Rev → Type 0
+IsKnownAt log session reference ids r = (r.num ≤ carried_count r.session (ranges_in (take reference log))) ⊎ ((r.session ≡ session) × (r.num < ids.first + ids.count))

@@ -1,17 +1,23 @@
 //! Laws on the ids that texts carry: each is the contract of a function that does nothing.
-ghost use Rattle.std.specs.Prelude.{◌≤◌, ℕ, take};
+ghost use Rattle.std.specs.Prelude.{◌≡◌, ◌≤◌, ℕ, List, [], ◌∷◌, ◌++◌, Some, slice_get, take};
 ghost use Rattle.st_clusters.specs.Log.{carried_count};
+ghost use Rattle.st_clusters.specs.declared.ids.IdRange.{IdRange};
 ghost use Rattle.st_ids.specs.Listing.{Has};
 ghost use Rattle.st_marks.specs.declared.intents.Intent.{Intent};
 ghost use Rattle.st_lists.specs.Clients.{empty_state};
-ghost use Rattle.st_lists.specs.Log.{commits_in, ranges_in};
+ghost use Rattle.st_lists.specs.Log.{commits_in, intents_of, ranges_in};
+ghost use Rattle.st_lists.specs.declared.lists.Body.{Body};
+ghost use Rattle.st_lists.specs.declared.lists.Body.TheVariants.{Commit};
+ghost use Rattle.st_lists.specs.declared.lists.Client.{Client};
+ghost use Rattle.st_lists.specs.declared.lists.Entry.{Entry};
 ghost use Rattle.st_lists.specs.declared.lists.WorldState.{WorldState};
 ghost use Rattle.st_script.specs.Header.{HeaderView};
 ghost use Rattle.st_script.specs.Steps.{StepView};
 ghost use Rattle.st_script.specs.declared.answer.Answer.{Answer};
+ghost use Rattle.st_valid.specs.Author.{author_list};
 ghost use Rattle.st_world.specs.World.{IsNext};
 ghost use Rattle.st_world_laws.specs.Worlds.{IsWorld, KeepsRules};
-ghost use Rattle.st_carried_ids.specs.CarriedIds.{CarryIds};
+ghost use Rattle.st_carried_ids.specs.CarriedIds.{CarryIds, IsKnownAt};
 
 /// Before any client joins no commit is in the log, and none waits.
 pub fn ids_begin()
@@ -31,4 +37,20 @@ pub fn names_are_numbered()
     ensures { (h : HeaderView) (w : WorldState) (reference : ℕ) (N : Intent) → IsWorld h w
         → CarryIds w → Has (commits_in (take reference w.log)) N
         → N.rev.num ≤ carried_count N.rev.session (ranges_in (take reference w.log)) }
+{}
+
+/// Of each commit over which an author writes one, and of that one itself, the entries up to its
+/// reference carry the revision, or it is the author's own, and none after those that the text
+/// carries: so of a commit of the log, and of one that waits.
+pub fn author_names_are_numbered()
+    ensures logged { (h : HeaderView) (w : WorldState) (i : ℕ) (e : Entry) (reference : ℕ)
+        (ids : IdRange) (N M : Intent) → IsWorld h w → CarryIds w → slice_get w.log i ≡ Some e
+        → e.body ≡ Commit reference ids N
+        → Has (author_list (take i w.log) e.session reference ++ N ∷ []) M
+        → IsKnownAt (take i w.log) e.session reference ids M.rev }
+    ensures waiting { (h : HeaderView) (w : WorldState) (c : Client) (before later : List Body)
+        (reference : ℕ) (ids : IdRange) (N M : Intent) → IsWorld h w → CarryIds w
+        → Has w.clients c → c.queue ≡ before ++ Commit reference ids N ∷ later
+        → Has (author_list w.log c.session reference ++ (intents_of before ++ N ∷ [])) M
+        → IsKnownAt w.log c.session reference ids M.rev }
 {}

@@ -3,4 +3,4 @@
 
 mod laws;
 
-pub use laws::{ids_begin, ids_go_on, names_are_numbered};
+pub use laws::{author_names_are_numbered, ids_begin, ids_go_on, names_are_numbered};
