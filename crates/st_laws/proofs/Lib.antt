@@ -1,4 +1,8 @@
+pub mod Behind
+pub mod Makes
 pub mod NothingSteps
+pub mod OneCall
+pub mod OneOutcome
 pub mod Refusals
 pub mod Retreats
 mod EmptyChanges

@@ -19,8 +19,12 @@ ghost use Rattle.st_marks.specs.Step.{IsStep};
 ghost use Rattle.st_marks.specs.Verdict.{IsAboveItself, IsVerdict, carried_document};
 ghost use Rattle.st_moves.specs.Room.{HasRoomInRows};
 ghost use Rattle.st_normal.specs.Rules.{ObeysChangeRules, ObeysStepRules};
+ghost use Rattle.st_laws.specs.InOrder.{Bridged, Composed, Joined, Rebased, Told};
 
 use crate::nothing::empty_step;
+use crate::values::{
+    joined_parts_obey, later_changes_obey, steps_in_turn_obey, steps_over_commits_obey,
+};
 use st_agree::FieldApart;
 use st_bridge::bridge;
 use st_compose::compose;
@@ -42,8 +46,10 @@ pub fn in_turn(alloc: Global, first: &Step, second: &Step) -> Result<Step, Or<Fi
     ensures later { (D E F : Document) → IsExtendedBy D E → IsExtendedBy E F → IsStep D E first.now → IsStep E F second.now
         → IfMemory result (IsStep D F) }
     ensures apart { ObeysStepRules first.now → ObeysStepRules second.now → TellsLeast result (ComposeClash first.now second.now) }
+    ensures told { ObeysStepRules first.now → ObeysStepRules second.now → Told result (Composed first.now second.now) }
 {
     steps_that_obey_are_normal();
+    steps_in_turn_obey();
     if has_short_rows(second) {
         compose(alloc, first, second)
     } else {
@@ -70,8 +76,10 @@ pub fn over(alloc: Global, change: &Change, step: &Step) -> Result<Change, Or<Fi
     ensures named { IfRefused result (λ a. RebaseClash change.now step.now a.field) }
     ensures apart { HasRoomInRows change.now step.now → ObeysChangeRules change.now → ObeysStepRules step.now
         → TellsLeast result (RebaseClash change.now step.now) }
+    ensures told { ObeysChangeRules change.now → ObeysStepRules step.now → Told result (Rebased change.now step.now) }
 {
     documents_have_room();
+    later_changes_obey();
     let room = has_room_in_rows(alloc, change, step)?;
     if room {
         rebase(alloc, change, step)
@@ -89,8 +97,10 @@ pub fn step_over(alloc: Global, step: &Step, change: &Change) -> Result<Step, Or
     ensures named { IfRefused result (λ a. RebaseClash change.now step.now a.field) }
     ensures apart { HasRoomInRows change.now step.now → ObeysChangeRules change.now → ObeysStepRules step.now
         → TellsLeast result (RebaseClash change.now step.now) }
+    ensures told { ObeysChangeRules change.now → ObeysStepRules step.now → Told result (Bridged step.now change.now) }
 {
     documents_have_room();
+    steps_over_commits_obey();
     let room = has_room_in_rows(alloc, change, step)?;
     if room {
         bridge(alloc, step, change)
@@ -128,9 +138,11 @@ pub fn as_one(alloc: Global, first: &Change, then: &Change) -> Result<Change, Or
         → HasShortRows (full D N) → HasShortRows (full (full D N) M) → IsEmbedding D N first.now → IsEmbedding (full D N) M then.now
         → IfMemory result (IsEmbedding D J) }
     ensures apart { ObeysChangeRules first.now → ObeysChangeRules then.now → TellsLeast result (JoinClash first.now then.now) }
+    ensures told { ObeysChangeRules first.now → ObeysChangeRules then.now → Told result (Joined first.now then.now) }
 {
     changes_have_short_rows();
     changes_that_obey_are_normal();
+    joined_parts_obey();
     if are_short(first, then) {
         join(alloc, first, then)
     } else {

@@ -16,6 +16,7 @@ ghost use Rattle.st_moves.specs.Room.{HasRoomInRows};
 ghost use Rattle.st_normal.specs.Rules.{ObeysChangeRules, ObeysStepRules};
 ghost use Rattle.st_laws.specs.Empty.{nothing};
 ghost use Rattle.st_laws.specs.First.{TellsLeastFirst};
+ghost use Rattle.st_laws.specs.InOrder.{Gives, IsOverParts, OverBoth, OverEach, Then, Told};
 ghost use Rattle.st_laws.specs.Unmade.{MakesNoneIn};
 
 use crate::calls::{in_turn, over, way_back};
@@ -33,6 +34,7 @@ fn over_both(alloc: Global, change: &Change, a: &Step, b: &Step) -> Result<Chang
     ensures later { (D E F : Document) (N : Intent) → IsExtendedBy D E → IsExtendedBy E F → Fits D N → Fits F N → HasShortRows (full F N)
         → IsEmbedding D N change.now → IsStep D E a.now → IsStep E F b.now → IfMemory result (IsEmbedding F N) }
     ensures first { ObeysStepRules a.now → ObeysStepRules b.now → TellsLeastFirst result (ComposeClash a.now b.now) }
+    ensures told { ObeysChangeRules change.now → ObeysStepRules a.now → ObeysStepRules b.now → Told result (OverBoth change.now a.now b.now) }
 {
     match in_turn(alloc, a, b) {
         Ok(together) => over(alloc, change, &together),
@@ -47,6 +49,7 @@ fn over_each(alloc: Global, change: &Change, a: &Step, b: &Step) -> Result<Chang
         → IsEmbedding D N change.now → IsStep D E a.now → IsStep E F b.now → IfMemory result (IsEmbedding F N) }
     ensures each { HasRoomInRows change.now a.now → ObeysChangeRules change.now → ObeysStepRules a.now
         → IfOk result (λ s. Agrees (RebaseClash change.now a.now)) }
+    ensures told { ObeysChangeRules change.now → ObeysStepRules a.now → ObeysStepRules b.now → Told result (OverEach change.now a.now b.now) }
 {
     match over(alloc, change, a) {
         Ok(between) => over(alloc, &between, b),
@@ -68,6 +71,8 @@ fn beside_each(
         → IfMemory result (λ s. IsEmbedding F N s.left × (s.left ≡ s.right)) }
     ensures each { HasRoomInRows change.now a.now → ObeysChangeRules change.now → ObeysStepRules a.now
         → IfOk result (λ s. Agrees (RebaseClash change.now a.now)) }
+    ensures told { ObeysChangeRules change.now → ObeysStepRules a.now → ObeysStepRules b.now
+        → Told result (Then (OverEach change.now a.now b.now) (λ right. Gives (record { left = left; right = right }))) }
 {
     match over_each(alloc, change, a, b) {
         Ok(right) => Ok(ChangeSides { left, right }),
@@ -92,6 +97,7 @@ pub fn over_parts(
     ensures first { ObeysStepRules a.now → ObeysStepRules b.now → TellsLeastFirst result (ComposeClash a.now b.now) }
     ensures each { HasRoomInRows change.now a.now → ObeysChangeRules change.now → ObeysStepRules a.now
         → IfOk result (λ s. Agrees (RebaseClash change.now a.now)) }
+    ensures told { ObeysChangeRules change.now → ObeysStepRules a.now → ObeysStepRules b.now → Told result (IsOverParts change.now a.now b.now) }
 {
     match over_both(alloc, change, a, b) {
         Ok(left) => beside_each(alloc, left, change, a, b),

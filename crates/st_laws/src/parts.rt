@@ -12,6 +12,7 @@ ghost use Rattle.st_marks.specs.Verdict.{IsAboveItself, IsVerdict};
 ghost use Rattle.st_moves.specs.Room.{HasRoomInRows};
 ghost use Rattle.st_normal.specs.Rules.{ObeysChangeRules, ObeysStepRules};
 ghost use Rattle.st_laws.specs.First.{TellsLeastFirst};
+ghost use Rattle.st_laws.specs.InOrder.{ArePartsOver, EachOver, Gives, Joined, SecondOver, Then, Told, WholeOver};
 ghost use Rattle.st_laws.specs.PartsOver.{AreOver};
 
 use crate::calls::{as_one, over, step_over};
@@ -32,6 +33,7 @@ fn whole_over(
     ensures later { (D E : Document) (N M J : Intent) → AreOver D E N M J first.now then.now step.now → ((n : NodeId) → IsAboveItself D N n → ⊥)
         → IfMemory result (IsEmbedding E J) }
     ensures first { ObeysChangeRules first.now → ObeysChangeRules then.now → TellsLeastFirst result (JoinClash first.now then.now) }
+    ensures told { ObeysChangeRules first.now → ObeysChangeRules then.now → ObeysStepRules step.now → Told result (WholeOver first.now then.now step.now) }
 {
     match as_one(alloc, first, then) {
         Ok(whole) => over(alloc, &whole, step),
@@ -46,8 +48,9 @@ fn second_over(
     then: &Change,
     step: &Step,
 ) -> Result<Change, Or<FieldApart>>
-    ensures { (D E : Document) (N M J : Intent) → AreOver D E N M J first.now then.now step.now → IsVerdict D N Sound → IsVerdict E N Sound
+    ensures later { (D E : Document) (N M J : Intent) → AreOver D E N M J first.now then.now step.now → IsVerdict D N Sound → IsVerdict E N Sound
         → IfMemory result (IsEmbedding (full E N) M) }
+    ensures told { ObeysChangeRules first.now → ObeysChangeRules then.now → ObeysStepRules step.now → Told result (SecondOver first.now then.now step.now) }
 {
     extends_beside();
     match step_over(alloc, step, first) {
@@ -64,8 +67,10 @@ fn behind_first(
     then: &Change,
     step: &Step,
 ) -> Result<Change, Or<FieldApart>>
-    ensures { (D E : Document) (N M J : Intent) → AreOver D E N M J first.now then.now step.now → IsVerdict D N Sound → IsVerdict E N Sound → IsEmbedding E N later.now
+    ensures later { (D E : Document) (N M J : Intent) → AreOver D E N M J first.now then.now step.now → IsVerdict D N Sound → IsVerdict E N Sound → IsEmbedding E N later.now
         → IfMemory result (IsEmbedding E J) }
+    ensures told { ObeysChangeRules later.now → ObeysChangeRules first.now → ObeysChangeRules then.now → ObeysStepRules step.now
+        → Told result (Then (SecondOver first.now then.now step.now) (λ second. Joined later.now second)) }
 {
     match second_over(alloc, first, then, step) {
         Ok(second) => as_one(alloc, later, &second),
@@ -84,6 +89,7 @@ fn each_over(
         → IfMemory result (IsEmbedding E J) }
     ensures each { HasRoomInRows first.now step.now → ObeysChangeRules first.now → ObeysStepRules step.now
         → IfOk result (λ s. Agrees (RebaseClash first.now step.now)) }
+    ensures told { ObeysChangeRules first.now → ObeysChangeRules then.now → ObeysStepRules step.now → Told result (EachOver first.now then.now step.now) }
 {
     match over(alloc, first, step) {
         Ok(later) => behind_first(alloc, &later, first, then, step),
@@ -104,6 +110,8 @@ fn beside_parts(
         → IfMemory result (λ s. IsEmbedding E J s.left × (s.left ≡ s.right)) }
     ensures each { HasRoomInRows first.now step.now → ObeysChangeRules first.now → ObeysStepRules step.now
         → IfOk result (λ s. Agrees (RebaseClash first.now step.now)) }
+    ensures told { ObeysChangeRules first.now → ObeysChangeRules then.now → ObeysStepRules step.now
+        → Told result (Then (EachOver first.now then.now step.now) (λ right. Gives (record { left = left; right = right }))) }
 {
     match each_over(alloc, first, then, step) {
         Ok(right) => Ok(ChangeSides { left, right }),
@@ -131,6 +139,7 @@ pub fn parts_over(
     ensures first { ObeysChangeRules first.now → ObeysChangeRules then.now → TellsLeastFirst result (JoinClash first.now then.now) }
     ensures each { HasRoomInRows first.now step.now → ObeysChangeRules first.now → ObeysStepRules step.now
         → IfOk result (λ s. Agrees (RebaseClash first.now step.now)) }
+    ensures told { ObeysChangeRules first.now → ObeysChangeRules then.now → ObeysStepRules step.now → Told result (ArePartsOver first.now then.now step.now) }
 {
     match whole_over(alloc, first, then, step) {
         Ok(left) => beside_parts(alloc, left, first, then, step),

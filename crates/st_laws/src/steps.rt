@@ -16,6 +16,7 @@ ghost use Rattle.st_marks.specs.Verdict.{IsVerdict, carried_document};
 ghost use Rattle.st_moves.specs.Room.{HasRoomInRows};
 ghost use Rattle.st_normal.specs.Rules.{ObeysChangeRules, ObeysStepRules};
 ghost use Rattle.st_laws.specs.First.{TellsLeastFirst};
+ghost use Rattle.st_laws.specs.InOrder.{FirstTogether, Gives, IsAssociative, LastTogether, Then, Told};
 ghost use Rattle.st_laws.specs.inside.Together.{IsDoneBy};
 
 use crate::calls::{done_by, in_turn, over, step_over, way_back};
@@ -34,6 +35,7 @@ fn first_together(alloc: Global, a: &Step, b: &Step, c: &Step) -> Result<Step, O
     ensures later { (D E F G : Document) → IsExtendedBy D E → IsExtendedBy E F → IsExtendedBy F G
         → IsStep D E a.now → IsStep E F b.now → IsStep F G c.now → IfMemory result (IsStep D G) }
     ensures first { ObeysStepRules a.now → ObeysStepRules b.now → TellsLeastFirst result (ComposeClash a.now b.now) }
+    ensures told { ObeysStepRules a.now → ObeysStepRules b.now → ObeysStepRules c.now → Told result (FirstTogether a.now b.now c.now) }
 {
     match in_turn(alloc, a, b) {
         Ok(together) => in_turn(alloc, &together, c),
@@ -46,6 +48,7 @@ fn last_together(alloc: Global, a: &Step, b: &Step, c: &Step) -> Result<Step, Or
     ensures later { (D E F G : Document) → IsExtendedBy D E → IsExtendedBy E F → IsExtendedBy F G
         → IsStep D E a.now → IsStep E F b.now → IsStep F G c.now → IfMemory result (IsStep D G) }
     ensures last { ObeysStepRules b.now → ObeysStepRules c.now → IfOk result (λ s. Agrees (ComposeClash b.now c.now)) }
+    ensures told { ObeysStepRules a.now → ObeysStepRules b.now → ObeysStepRules c.now → Told result (LastTogether a.now b.now c.now) }
 {
     match in_turn(alloc, b, c) {
         Ok(together) => in_turn(alloc, a, &together),
@@ -65,6 +68,8 @@ fn beside_last(
         → IsStep D E a.now → IsStep E F b.now → IsStep F G c.now → IsStep D G left
         → IfMemory result (λ s. IsStep D G s.left × (s.left ≡ s.right)) }
     ensures last { ObeysStepRules b.now → ObeysStepRules c.now → IfOk result (λ s. Agrees (ComposeClash b.now c.now)) }
+    ensures told { ObeysStepRules a.now → ObeysStepRules b.now → ObeysStepRules c.now
+        → Told result (Then (LastTogether a.now b.now c.now) (λ right. Gives (record { left = left; right = right }))) }
 {
     match last_together(alloc, a, b, c) {
         Ok(right) => Ok(StepSides { left, right }),
@@ -80,6 +85,7 @@ pub fn associative(alloc: Global, a: &Step, b: &Step, c: &Step) -> Result<StepSi
         → IsStep D E a.now → IsStep E F b.now → IsStep F G c.now → IfMemory result (λ s. IsStep D G s.left × (s.left ≡ s.right)) }
     ensures first { ObeysStepRules a.now → ObeysStepRules b.now → TellsLeastFirst result (ComposeClash a.now b.now) }
     ensures last { ObeysStepRules b.now → ObeysStepRules c.now → IfOk result (λ s. Agrees (ComposeClash b.now c.now)) }
+    ensures told { ObeysStepRules a.now → ObeysStepRules b.now → ObeysStepRules c.now → Told result (IsAssociative a.now b.now c.now) }
 {
     match first_together(alloc, a, b, c) {
         Ok(left) => beside_last(alloc, left, a, b, c),

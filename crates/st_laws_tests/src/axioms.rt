@@ -183,6 +183,14 @@ fn is_one_change(sides: &Result<ChangeSides, Or<FieldApart>>, marks: usize) -> b
     }
 }
 
+// Refused at the root.
+fn is_apart_at_root(sides: &Result<StepSides, Or<FieldApart>>) -> bool {
+    match sides {
+        Err(Or::Fault(apart)) => apart.field.node == ROOT,
+        _ => false,
+    }
+}
+
 // Ann's step and its way back; and nothing over it.
 fn goes_back(alloc: Global, step: &Step) -> bool {
     is_one_step(&neutral(alloc, step), 2)
@@ -215,6 +223,12 @@ fn is_brought_back(alloc: Global, step: &Step, next: &Step) -> Result<bool, Allo
     Ok(is_one_step(&associative(alloc, step, next, &last), 2))
 }
 
+// One that brings q back, and twice the one that takes it out: the first two change nothing, and the last two don't agree.
+fn is_taken_once(alloc: Global, next: &Step) -> Result<bool, AllocError> {
+    let first = brings_q(alloc)?;
+    Ok(is_apart_at_root(&associative(alloc, &first, next, next)))
+}
+
 // Ben's other commit in two parts.
 fn goes_in_parts(alloc: Global, step: &Step, first: &Change) -> Result<bool, AllocError> {
     let then = change_of(alloc, &TAKES_P)?;
@@ -227,7 +241,8 @@ fn of_two_steps(
     next: &Step,
     change: &Change,
 ) -> Result<bool, AllocError> {
-    Ok(is_brought_back(alloc, step, next)? && goes_over_both(alloc, step, next, change))
+    let in_turn = is_brought_back(alloc, step, next)? && is_taken_once(alloc, next)?;
+    Ok(in_turn && goes_over_both(alloc, step, next, change))
 }
 
 fn of_steps(alloc: Global, step: &Step, change: &Change) -> Result<bool, AllocError> {

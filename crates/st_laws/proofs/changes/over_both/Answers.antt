@@ -6,6 +6,8 @@ use Rattle.st_marks.specs.Step.{IsStep}
 use Rattle.st_marks.specs.declared.changes.Change.{Change}
 use Rattle.st_marks.specs.declared.steps.Step.{Step}
 use Rattle.st_marks.specs.Agree.{ComposeClash}
+use Rattle.st_laws.proofs.Behind.{behind_it, refused_before}
+use Rattle.st_laws.specs.InOrder.{Composed, Rebased}
 use Rattle.st_laws.proofs.changes.over_both.Goals as goal
 
 pub returns-in-Ok-clause-later : goal.returns-in-Ok-clause-later
@@ -19,3 +21,10 @@ returns-in-Ok-clause-first c = λ v w. first_agreed Change (ComposeClash c.args.
 
 pub returns-in-Err-clause-first : goal.returns-in-Err-clause-first
 returns-in-Err-clause-first c = λ v w. first_refused Step Change (ComposeClash c.args.a.now c.args.b.now) c.in-Err.why (c.in-Err.ensures.apart v w)
+
+pub returns-in-Ok-clause-told : goal.returns-in-Ok-clause-told
+returns-in-Ok-clause-told c = λ k u v. let h = c.in-Ok.ensures.told u v in
+    behind_it Step Change (Composed c.args.a.now c.args.b.now) (λ ab. Rebased c.args.change.now ab) c.in-Ok.together c.over.result h (c.over.ensures.told k h.obeys)
+
+pub returns-in-Err-clause-told : goal.returns-in-Err-clause-told
+returns-in-Err-clause-told c = λ k u v. refused_before Step Change (Composed c.args.a.now c.args.b.now) (λ ab. Rebased c.args.change.now ab) c.in-Err.why (c.in-Err.ensures.told u v)

@@ -5,6 +5,9 @@ use Rattle.st_laws.specs.declared.sides.ChangeSides.{ChangeSides}
 use Rattle.st_marks.proofs.Unique.{one_embedding}
 use Rattle.st_marks.specs.Embedding.{IsEmbedding}
 use Rattle.st_marks.specs.declared.changes.Change.{Change}
+use Rattle.std.proofs.Common.{refl}
+use Rattle.st_laws.proofs.Behind.{refused_before}
+use Rattle.st_laws.specs.InOrder.{EachOver, Gives}
 use Rattle.st_laws.proofs.parts.beside_parts.Goals as goal
 
 pub returns-in-Ok-clause-both : goal.returns-in-Ok-clause-both
@@ -15,3 +18,9 @@ returns-in-Err-clause-both c = λ D E N M J w sound sound-later l. memory_on Cha
 
 pub returns-in-Ok-clause-each : goal.returns-in-Ok-clause-each
 returns-in-Ok-clause-each c = λ room v w. c.in-Ok.ensures.each room v w
+
+pub returns-in-Ok-clause-told : goal.returns-in-Ok-clause-told
+returns-in-Ok-clause-told c = λ v w s. (c.in-Ok.right, c.in-Ok.ensures.told v w s, refl)
+
+pub returns-in-Err-clause-told : goal.returns-in-Err-clause-told
+returns-in-Err-clause-told c = λ v w s. refused_before Change ChangeSides (EachOver c.args.first.now c.args.then.now c.args.step.now) (λ right. Gives (record { left = c.args.left; right = right })) c.in-Err.why (c.in-Err.ensures.told v w s)

@@ -8,6 +8,8 @@ use Rattle.st_marks.specs.Document.{HasShortRows}
 use Rattle.st_marks.specs.Embedding.{IsEmbedding}
 use Rattle.st_marks.specs.declared.changes.Change.{Change}
 use Rattle.st_marks.specs.Agree.{JoinClash}
+use Rattle.st_laws.proofs.Behind.{behind_it, refused_before}
+use Rattle.st_laws.specs.InOrder.{Joined, Rebased}
 use Rattle.st_laws.proofs.parts.whole_over.Goals as goal
 
 pub returns-in-Ok-clause-later : goal.returns-in-Ok-clause-later
@@ -26,3 +28,10 @@ returns-in-Ok-clause-first c = λ v w. first_agreed Change (JoinClash c.args.fir
 
 pub returns-in-Err-clause-first : goal.returns-in-Err-clause-first
 returns-in-Err-clause-first c = λ v w. first_refused Change Change (JoinClash c.args.first.now c.args.then.now) c.in-Err.why (c.in-Err.ensures.apart v w)
+
+pub returns-in-Ok-clause-told : goal.returns-in-Ok-clause-told
+returns-in-Ok-clause-told c = λ v w s. let h = c.in-Ok.ensures.told v w in
+    behind_it Change Change (Joined c.args.first.now c.args.then.now) (λ whole. Rebased whole c.args.step.now) c.in-Ok.whole c.over.result h (c.over.ensures.told h.obeys s)
+
+pub returns-in-Err-clause-told : goal.returns-in-Err-clause-told
+returns-in-Err-clause-told c = λ v w s. refused_before Change Change (Joined c.args.first.now c.args.then.now) (λ whole. Rebased whole c.args.step.now) c.in-Err.why (c.in-Err.ensures.told v w)
