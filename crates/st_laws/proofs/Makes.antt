@@ -27,8 +27,8 @@ use Rattle.st_laws.specs.InOrder.{AreOfOneCommit, ArePartsOver, Composes, Gives,
 use Rattle.st_laws.specs.declared.sides.ChangeSides.{ChangeSides}
 use Rattle.st_laws.specs.declared.sides.StepSides.{StepSides}
 
-side-of : (T : Type 0) (s t : T) → Gives t (Ok s) → s ≡ t
-side-of T s t e = cc
+pub side_of : (T : Type 0) (s t : T) → Gives t (Ok s) → s ≡ t
+side_of T s t e = cc
 
 -- ## Steps
 
@@ -62,7 +62,7 @@ sides_make makes a b c s u v w (left, (ab, p, q), (right, (bc, r, t), e)) =
     let whole = makes ab c left p.obeys w q in
     let last = makes b c bc v w r in
     let other = makes a bc right u r.obeys t in
-    let is = side-of StepSides s (record { left = left; right = right }) e in
+    let is = side_of StepSides s (record { left = left; right = right }) e in
     ap (λ (s : StepSides). s.left.new) is
     ∙ same_listing node_cmp_total node_cmp_exact (λ (m : NewNode). m.node) left.new right.new whole.rising other.rising (λ n.
     whole.at_each n ∙ ap (λ o. option_or o (made c n)) (first.at_each n) ∙ option_or-assoc (made a n) (made b n) (made c n)
@@ -98,7 +98,7 @@ sides_are_of_one same C a b s k u v (left, (ab, p, q), (right, (between, r, t), 
     let l = rebased-commit same C left ab k p.obeys q in
     let m = rebased-commit same C between a k u r in
     let n = rebased-commit same between right b (rebased_obeys C a between k r) v t in
-    subst (λ (s : ChangeSides). AreOfOneCommit s.left s.right) (sym (side-of ChangeSides s (record { left = left; right = right }) e)) (of-one left C right (turned C left l) (of-one C between right m n))
+    subst (λ (s : ChangeSides). AreOfOneCommit s.left s.right) (sym (side_of ChangeSides s (record { left = left; right = right }) e)) (of-one left C right (turned C left l) (of-one C between right m n))
 
 -- ## Parts of a commit
 
@@ -164,4 +164,4 @@ parts_are_of_one same stand C K S s u v w (left, (whole, p, q), (right, (later, 
     let n = rebased-commit same K second between v (bridged_obeys S C between w i) j in
     let obeys = rebased_obeys K between second v j in
     let one = joined_alike C K whole later second right (stand C K whole u v p) (stand later second right (rebased_obeys C S later u r) obeys t) m n in
-    subst (λ (s : ChangeSides). AreOfOneCommit s.left s.right) (sym (side-of ChangeSides s (record { left = left; right = right }) e)) (of-one left whole right (turned whole left l) one)
+    subst (λ (s : ChangeSides). AreOfOneCommit s.left s.right) (sym (side_of ChangeSides s (record { left = left; right = right }) e)) (of-one left whole right (turned whole left l) one)

@@ -1,12 +1,19 @@
 -- What the calls of both sides come to, in their order, for arguments in normal form that may stand over no document together: of each
 -- call its value, which the calls behind it take; or the field at which the first call is refused whose arguments don't agree.
-use Rattle.std.specs.Prelude.{◌≡◌, ◌⊎◌, Result, Ok, Err}
+use Rattle.std.specs.Prelude.{◌≡◌, ◌≢◌, ◌⊎◌, true, Some, Result, Ok, Err}
+use Rattle.st_ids.specs.Listing.{Has}
+use Rattle.st_ids.specs.declared.names.CellId.{CellId}
 use Rattle.st_ids.specs.declared.fault.Or.{Or}
 use Rattle.st_ids.specs.declared.fault.Or.TheVariants.{Fault, NoMemory}
 use Rattle.st_ids.specs.declared.names.FieldId.{FieldId}
 use Rattle.st_ids.specs.declared.names.NodeId.{NodeId}
 use Rattle.st_marks.specs.declared.changes.Change.{Change}
 use Rattle.st_marks.specs.declared.intents.Intent.{Intent}
+use Rattle.st_marks.specs.declared.marks.How.TheVariants.{Leave}
+use Rattle.st_marks.specs.declared.marks.Loose.{Loose}
+use Rattle.st_marks.specs.declared.marks.RegStep.{RegStep}
+use Rattle.st_marks.specs.declared.marks.RowMarks.{RowMarks}
+use Rattle.st_marks.specs.declared.places.Spot.{Spot}
 use Rattle.st_marks.specs.declared.steps.Step.{Step}
 use Rattle.st_marks.specs.declared.verdicts.Verdict.{Verdict}
 use Rattle.st_marks.specs.Agree.{Agrees, ComposeClash, IsApartAt, JoinClash, RebaseClash}
@@ -15,7 +22,9 @@ use Rattle.st_marks.specs.Document.{Document, HasShortRows, IsSoundInForm}
 use Rattle.st_marks.specs.Embedding.{IsEmbedding}
 use Rattle.st_marks.specs.Extends.{IsExtendedBy}
 use Rattle.st_marks.specs.Intent.{Fits}
+use Rattle.st_marks.specs.Listings.{cells_made}
 use Rattle.st_marks.specs.Join.{AreParts, IsJoin}
+use Rattle.st_marks.specs.Row.{Fill, Make, Touch, spread}
 use Rattle.st_marks.specs.Step.{IsStep}
 use Rattle.st_marks.specs.Verdict.{IsAboveItself, IsVerdict, carried_document}
 use Rattle.st_moves.specs.Room.{HasRoomInRows}
@@ -156,3 +165,18 @@ pub record AreOfOneCommit (C K : Change) : Type 0 where
   pub need : C.need ≡ K.need
   pub new : C.new ≡ K.new
   pub schema : C.schema ≡ K.schema
+
+-- a step puts a node at a place: into a cell that it makes or fills, or into a register
+pub data PutsAt (S : Step) (n : NodeId) : Spot → Type 0 where
+  in_cell : (r : RowMarks) (c : CellId) → Has S.rows r → Has (spread r.marks) (Make c n true) ⊎ Has (spread r.marks) (Fill c n) → PutsAt S n (Spot.Row r.node c)
+  in_register : (r : RegStep) → Has S.regs r → r.before ≢ Some n → r.after ≡ Some n → PutsAt S n (Spot.Register r.field)
+
+-- a step takes a node from a place: out of a cell or a register, or from nowhere
+pub data TakesFrom (S : Step) (n : NodeId) : Spot → Type 0 where
+  from_cell : (r : RowMarks) (c : CellId) → Has S.rows r → Has (spread r.marks) (Touch c n Leave) → TakesFrom S n (Spot.Row r.node c)
+  from_register : (r : RegStep) → Has S.regs r → r.before ≡ Some n → r.after ≢ Some n → TakesFrom S n (Spot.Register r.field)
+  from_nowhere : (l : Loose) → Has S.loose l → l.node ≡ n → l.how ≡ Leave → TakesFrom S n Spot.Nowhere
+
+-- a step makes a cell in a node's row
+abbrev pub MakesCell : Step → NodeId → CellId → Type 0
+MakesCell S n c = (r : RowMarks) × Has S.rows r × (r.node ≡ n) × Has (cells_made (spread r.marks)) c

@@ -83,7 +83,8 @@ fn beside_each(
 /// A change over two steps composed, and over the one and then the other. Refused where one of these calls is. Over documents
 /// none is, and both sides are the change of the intent after both steps. Of arguments in normal form, those are refused of which
 /// the steps don't agree, at the least field; and those of which the change and the first step don't, where these have room
-/// together in each row.
+/// together in each row. And all calls are told of them in their order: each one's value, with which the next goes on, or the least
+/// field of the first that is refused; a change that has no room beside a step stays.
 pub fn over_parts(
     alloc: Global,
     change: &Change,

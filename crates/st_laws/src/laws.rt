@@ -1,10 +1,13 @@
 //! Laws on the axioms on three arguments.
-ghost use Rattle.std.specs.Prelude.{◌≡◌, Ok, Result};
+ghost use Rattle.std.specs.Prelude.{◌≡◌, ◌↔◌, Ok, Result};
+ghost use Rattle.st_ids.specs.declared.names.CellId.{CellId};
 ghost use Rattle.st_ids.specs.declared.names.FieldId.{FieldId};
+ghost use Rattle.st_ids.specs.declared.names.NodeId.{NodeId};
 ghost use Rattle.st_marks.specs.declared.changes.Change.{Change};
+ghost use Rattle.st_marks.specs.declared.places.Spot.{Spot};
 ghost use Rattle.st_marks.specs.declared.steps.Step.{Step};
 ghost use Rattle.st_normal.specs.Rules.{ObeysChangeRules, ObeysStepRules};
-ghost use Rattle.st_laws.specs.InOrder.{AreOfOneCommit, ArePartsOver, IsAssociative, IsOverParts};
+ghost use Rattle.st_laws.specs.InOrder.{AreOfOneCommit, ArePartsOver, IsAssociative, IsOverParts, MakesCell, PutsAt, TakesFrom};
 ghost use Rattle.st_laws.specs.declared.sides.ChangeSides.{ChangeSides};
 ghost use Rattle.st_laws.specs.declared.sides.StepSides.{StepSides};
 
@@ -40,4 +43,17 @@ pub fn sides_make_the_same()
     stand_in_turn();
     stand_together();
     parts_stand();
+}
+
+/// For every three steps in normal form none of whose calls is refused, whether they stand over documents or not, both sides move the
+/// same nodes: they take them from the same places, and put them at the same places. And they make the same cells.
+pub fn sides_move_alike()
+    ensures takes { (a b c : Step) (s : StepSides) (n : NodeId) (p : Spot) → ObeysStepRules a → ObeysStepRules b → ObeysStepRules c
+        → IsAssociative a b c (Ok s) → TakesFrom s.left n p ↔ TakesFrom s.right n p }
+    ensures puts { (a b c : Step) (s : StepSides) (n : NodeId) (p : Spot) → ObeysStepRules a → ObeysStepRules b → ObeysStepRules c
+        → IsAssociative a b c (Ok s) → PutsAt s.left n p ↔ PutsAt s.right n p }
+    ensures cells { (a b c : Step) (s : StepSides) (n : NodeId) (k : CellId) → ObeysStepRules a → ObeysStepRules b → ObeysStepRules c
+        → IsAssociative a b c (Ok s) → MakesCell s.left n k ↔ MakesCell s.right n k }
+{
+    stand_in_turn();
 }

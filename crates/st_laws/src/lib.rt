@@ -15,7 +15,7 @@ mod values;
 
 pub use changes::{over_nothing, over_parts, there_and_back};
 pub use empty::nothing_over;
-pub use laws::{outcomes_are_one, sides_make_the_same};
+pub use laws::{outcomes_are_one, sides_make_the_same, sides_move_alike};
 pub use parts::parts_over;
 pub use sides::{ChangeSides, StepSides};
 pub use steps::{associative, bridge_in_turn, neutral};

@@ -125,7 +125,8 @@ fn beside_parts(
 /// forms no ring before the step, the left side still is that change. Of the right one nothing is promised there, which may be
 /// refused, since the second part doesn't stand where the step over a void part begins.
 /// Of arguments in normal form, those are refused of which the parts don't agree, at the least field; and those of which the first
-/// part and the step don't, where these have room together in each row.
+/// part and the step don't, where these have room together in each row. And all calls are told of them in their order: each one's
+/// value, with which the next goes on, or the least field of the first that is refused; what has no room stays.
 pub fn parts_over(
     alloc: Global,
     first: &Change,

@@ -79,7 +79,9 @@ fn beside_last(
 
 /// Three steps in turn: the first two composed and then the third, and the first with the last two composed. Refused where one
 /// of these calls is. Over documents none is, and both sides are the step from the first document to the last. Of steps in normal
-/// form, those are refused of which the first two or the last two don't agree: at the least field where the first two don't.
+/// form, those are refused of which the first two or the last two don't agree: at the least field where the first two don't. And
+/// all calls are told of them in their order: each one's value, with which the next goes on, or the least field of the first that
+/// is refused.
 pub fn associative(alloc: Global, a: &Step, b: &Step, c: &Step) -> Result<StepSides, Or<FieldApart>>
     ensures sides { (D E F G : Document) → IsExtendedBy D E → IsExtendedBy E F → IsExtendedBy F G
         → IsStep D E a.now → IsStep E F b.now → IsStep F G c.now → IfMemory result (λ s. IsStep D G s.left × (s.left ≡ s.right)) }
