@@ -3,3 +3,4 @@ pub mod JoinedSessions
 pub mod LeastKnown
 pub mod RoomLeft
 pub mod MoreEntries
+pub mod JoinsEntered

@@ -43,13 +43,13 @@ module _ (log : List Entry) (s : ℕ) (body : Body) where
   abbrev longer : List Entry
   longer = log_with log s body
 
-  size_now : length longer ≡ length log + 1
+  pub size_now : length longer ≡ length log + 1
   size_now = length-append log (last_entry log s body ∷ [])
 
-  known_now : (t : ℕ) → known_reference t longer ≡ cond (s == t) (max (known_reference t log) (reference_in (length log + 1) body)) (known_reference t log)
+  pub known_now : (t : ℕ) → known_reference t longer ≡ cond (s == t) (max (known_reference t log) (reference_in (length log + 1) body)) (known_reference t log)
   known_now t = fold_push (with_reference t) 0 log (last_entry log s body)
 
-  on_now : (t : ℕ) → is_connected t longer ≡ cond (s == t) (connected_after (is_connected t log) body) (is_connected t log)
+  pub on_now : (t : ℕ) → is_connected t longer ≡ cond (s == t) (connected_after (is_connected t log) body) (is_connected t log)
   on_now t = fold_push (connected_by t) false log (last_entry log s body)
 
   module _ (none : uuid_in body ≡ None) (low : s ≤ sessions_in log) where
@@ -78,7 +78,7 @@ module _ (log : List Entry) (s : ℕ) (body : Body) where
       spans = λ u. h.spans u ∙ sym (clashes_now u);
     }
 
-known_session : (log : List Entry) (s : ℕ) → is_connected s log ≡ true → s ≤ sessions_in log
+pub known_session : (log : List Entry) (s : ℕ) → is_connected s log ≡ true → s ≤ sessions_in log
 known_session log s on = let x = connected_entry s log on in omega (arith, session_low log x.0 0 x.1, x.2)
 
 -- ## A session tells how many entries it has received
@@ -91,6 +91,7 @@ told_entered l k s reference log stands on entries ids connected names revisions
   entries = entries ∙ ap (λ n. n + 1) stands.entries ∙ sym (size_now log s (Ack reference));
   ids = subst (λ (t : Ids). IsTableOf (ranges_in (log_with log s (Ack reference))) t) (sym ids) (subst (λ rs. IsTableOf rs (ids_of l.ids)) (sym ranges) stands.ids);
   sessions = subst (λ (t : Ids). AreSessionsOf (log_with log s (Ack reference)) t.sessions) (sym ids) (sessions_now log s (Ack reference) refl (known_session log s on) (ids_of l.ids).sessions stands.sessions);
+  few = omega (arith, entries, stands.few, ap (λ (t : Ids). length t.sessions) ids);
   known = λ t. known t ∙ ap (λ n. cond (s == t) (max n reference) n) (stands.known t) ∙ sym (known_now log s (Ack reference) t);
   connected = subst (AreConnectedIn (log_with log s (Ack reference))) (sym connected) (record { each = λ t. stands.connected.each t ∙ sym (stays t); once = stands.connected.once; some = stands.connected.some });
   names = names ∙ stands.names ∙ ap names_in (sym commits);
@@ -151,6 +152,7 @@ left_entered l k s log stands on entries ids connected names revisions known = r
   entries = entries ∙ ap (λ n. n + 1) stands.entries ∙ sym (size_now log s Leave);
   ids = subst (λ (t : Ids). IsTableOf (ranges_in (log_with log s Leave)) t) (sym ids) (subst (λ rs. IsTableOf rs (ids_of l.ids)) (sym ranges) stands.ids);
   sessions = subst (λ (t : Ids). AreSessionsOf (log_with log s Leave) t.sessions) (sym ids) (sessions_now log s Leave refl (known_session log s on) (ids_of l.ids).sessions stands.sessions);
+  few = omega (arith, entries, stands.few, ap (λ (t : Ids). length t.sessions) ids);
   known = λ t. ap (λ m. known_so_far m t) known ∙ stands.known t ∙ sym (known_now log s Leave t ∙ same (s == t) (known_reference t log));
   connected = subst (AreConnectedIn (log_with log s Leave)) (sym connected) (record {
     each = λ t. others_listed s t l.connected ∙ ap (λ b. not (s == t) && b) (stands.connected.each t) ∙ sym (on_now log s Leave t ∙ gone (s == t) (is_connected t log));
@@ -236,6 +238,7 @@ committed l k s reference ids N log stands on entries taken connected names revi
   entries = entries ∙ ap (λ n. n + 1) stands.entries ∙ sym (size_now log s (Commit reference ids N));
   ids = subst (λ rs. IsTableOf rs (ids_of k.ids)) (sym (filter_map-append range_of log (last_entry log s (Commit reference ids N) ∷ []))) (table_finalises (ranges_in log) ids (ids_of l.ids) (ids_of k.ids) stands.ids taken);
   sessions = sessions_now log s (Commit reference ids N) refl (known_session log s on) (ids_of k.ids).sessions (taken_sessions log ids (ids_of l.ids) (ids_of k.ids) taken stands.sessions);
+  few = omega (arith, entries, stands.few, stands.sessions.count, (taken_sessions log ids (ids_of l.ids) (ids_of k.ids) taken stands.sessions).count);
   known = λ t. known t ∙ ap (λ n. cond (s == t) (max n reference) n) (stands.known t) ∙ sym (known_now log s (Commit reference ids N) t);
   connected = subst (AreConnectedIn (log_with log s (Commit reference ids N))) (sym connected) (record { each = λ t. stands.connected.each t ∙ sym (stays t); once = stands.connected.once; some = stands.connected.some });
   names = names ∙ ap (λ n. n + names_made N) stands.names ∙ sym more_names;

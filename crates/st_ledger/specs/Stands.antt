@@ -35,11 +35,12 @@ pub record AreConnectedIn (log : List Entry) (connected : List ℕ) : Type 0 whe
   pub once : AreDistinct (λ (t : ℕ). t) connected
   pub some : (s : ℕ) → Has connected s → 1 ≤ s
 
--- what is kept is what the log says
+-- what is kept is what the log says; there are at most as many sessions as entries, as each joined in one
 pub record StandsFor (l : Ledger) (log : List Entry) : Type 0 where
   pub entries : l.entries ≡ length log
   pub ids : IsTableOf (ranges_in log) (ids_of l.ids)
   pub sessions : AreSessionsOf log (ids_of l.ids).sessions
+  pub few : length (ids_of l.ids).sessions ≤ l.entries
   pub known : AreKnown log l.known
   pub connected : AreConnectedIn log l.connected
   pub names : l.names ≡ names_in (commits_in log)

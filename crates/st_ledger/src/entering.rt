@@ -2,17 +2,22 @@
 ghost use Rattle.std.specs.BTreeMap.{get};
 ghost use Rattle.st_ids.specs.Order.{rev_cmp, same_rev};
 ghost use Rattle.st_ids.specs.declared.names.Rev.{Rev as RevNames};
+ghost use Rattle.st_clusters.specs.Ids.{ids_of};
+ghost use Rattle.st_clusters.specs.Table.{after_joining};
+ghost use Rattle.st_ids.specs.Or.{IfRefused};
+ghost use Rattle.st_valid.specs.Sessions.{session_may};
+ghost use Rattle.st_valid.specs.declared.message.Said.TheVariants as said;
 ghost use Rattle.st_lists.specs.Names.{names_made};
 ghost use Rattle.st_marks.specs.declared.intents.Intent.{Intent};
-ghost use Rattle.std.specs.Prelude.{cond, Some, filter, not, IfOk, ◌≡◌, ℕ, ◌+◌, ◌==◌, ◌<◌, ◌^◌, true, max, List as Seq, OnOk, if◌then◌else◌};
+ghost use Rattle.std.specs.Prelude.{cond, Some, filter, not, IfOk, ◌≡◌, ℕ, ◌+◌, ◌==◌, ◌<◌, ◌≤◌, ◌^◌, true, false, max, length, Ok, Err, List as Seq, OnOk, if◌then◌else◌};
 ghost use Rattle.st_ledger.specs.Stands.{StandsFor};
 ghost use Rattle.st_lists.specs.Known.{known_so_far};
 ghost use Rattle.st_lists.specs.Log.{is_connected, log_with};
-ghost use Rattle.st_lists.specs.declared.lists.Body.TheVariants.{Ack, Commit, Leave};
+ghost use Rattle.st_lists.specs.declared.lists.Body.TheVariants.{Ack, Commit, Join, Leave};
 ghost use Rattle.st_lists.specs.declared.lists.Entry.{Entry};
 
 use crate::ledger::Ledger;
-use st_clusters::{IdFault, IdRange};
+use st_clusters::{Compressor, IdFault, IdRange};
 use st_ids::{List, Or, Rev};
 use std::alloc::{AllocError, Global};
 use std::collections::BTreeMap;
@@ -45,6 +50,26 @@ fn note_revision(
     Ok(())
 }
 
+// A session more among those of a table, if it is new.
+fn note_session(
+    alloc: Global,
+    ids: &mut Compressor,
+    new: bool,
+    uuid: u128,
+) -> Result<(), Or<IdFault>>
+    requires few { length (ids_of ids.old).sessions < 65535 }
+    ensures stays { OnOk result (new ≡ false → ids_of ids.new ≡ ids_of ids.old) }
+    ensures joins { OnOk result (new ≡ true → after_joining uuid (ids_of ids.old)
+        ≡ Ok (length (ids_of ids.old).sessions + 1, ids_of ids.new)) }
+    ensures refused { IfRefused result (λ f. (new ≡ true)
+        × (after_joining uuid (ids_of ids.old) ≡ Err f)) }
+{
+    if new {
+        ids.add_session(alloc, uuid)?;
+    }
+    Ok(())
+}
+
 // The sessions but one.
 fn others(alloc: Global, sessions: &[u32], session: u32) -> Result<List<u32>, AllocError>
     ensures { IfOk result (λ rest. rest ≡ filter (λ s. not (s == session)) sessions.now) }
@@ -59,6 +84,23 @@ fn others(alloc: Global, sessions: &[u32], session: u32) -> Result<List<u32>, Al
 }
 
 impl Ledger {
+    /// Takes note of an entry in which a session joins: a new one, or one that comes back. After an `Err` nothing is promised
+    /// of what is kept.
+    pub fn enter_join(&mut self, alloc: Global, session: u32, uuid: u128) -> Result<(), Or<IdFault>>
+        requires few { self.old.entries < 65535 }
+        requires sessions { length (ids_of self.old.ids).sessions ≤ self.old.entries }
+        ensures { OnOk result ((log : Seq Entry) → StandsFor self.old log
+            → session_may log session (said.Join uuid) ≡ true
+            → StandsFor self.new (log_with log session (Join uuid))) }
+    {
+        let new = !self.has_joined(session, uuid);
+        note_session(alloc, &mut self.ids, new, uuid)?;
+        note_reference(&mut self.known, session, self.entries + 1)?;
+        self.connected.push(session)?;
+        self.entries += 1;
+        Ok(())
+    }
+
     /// Takes note of an entry in which a session that is connected leaves. After an `Err` nothing is promised of what is kept.
     pub fn enter_leave(&mut self, alloc: Global, session: u32) -> Result<(), AllocError>
         requires few { self.old.entries + 1 < 2 ^ 32 }

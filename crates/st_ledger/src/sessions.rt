@@ -35,7 +35,7 @@ fn comes_next(ids: &Compressor, session: u32, uuid: u128) -> bool
 impl Ledger {
     // Whether a session has joined with a UUID.
     #[tactic(auto, using(crate::proofs::JoinedSessions::joined_of_ledger))]
-    fn has_joined(&self, session: u32, uuid: u128) -> bool
+    pub(crate) fn has_joined(&self, session: u32, uuid: u128) -> bool
         ensures { (log : Seq Entry) → StandsFor self.now log
             → result ≡ has_joined session uuid log }
     {
