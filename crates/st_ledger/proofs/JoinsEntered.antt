@@ -1,5 +1,5 @@
 -- A ledger in which a join is entered stands for the log with it.
-use Rattle.std.proofs.Common.{◌≡◌, ◌≢◌, ◌≤◌, ◌+◌, ◌-◌, ◌==◌, ◌&&◌, ◌||◌, ℕ, zero, suc, Bool, true, false, cond, max, not, is_some, List, [], ◌∷◌, ◌++◌, length, length-append, Option, None, Some, Ok, refl, sym, ap, ◌∙◌, subst, arith, ◌⊎◌, inl, inr}
+use Rattle.std.proofs.Common.{◌≡◌, ◌≢◌, ◌≤◌, ◌+◌, ◌-◌, ◌==◌, ◌&&◌, ◌||◌, ℕ, zero, suc, Bool, true, false, cond, max, not, is_some, List, [], ◌∷◌, ◌++◌, length, length-append, Option, None, Some, Ok, Err, Result, refl, sym, ap, ◌∙◌, subst, arith, ◌⊎◌, inl, inr}
 use Rattle.std.proofs.lemmas.Bool.Decides.{nat_tests}
 use Rattle.std.proofs.lemmas.List.{append-nil}
 use Rattle.std.proofs.lemmas.List.Elements.{filter_map-append}
@@ -10,11 +10,16 @@ use Rattle.std.specs.Option.{option_map_or}
 use Rattle.st_lemmas.proofs.Bools.{and-true, or-cases, or-false, not-true, true-false}
 use Rattle.st_lemmas.proofs.FirstItems.{list_any-push}
 use Rattle.st_ids.specs.Listing.{Has}
+use Rattle.st_ids.specs.Or.{IfRefused}
 use Rattle.st_ids.specs.Order.{rev_cmp, same_rev}
+use Rattle.st_ids.specs.declared.fault.Or.{Or}
+use Rattle.st_ids.specs.declared.fault.Or.TheVariants.{Fault, NoMemory}
 use Rattle.st_clusters.specs.Free.{free_number, is_v4, spans_meet}
 use Rattle.st_clusters.specs.Ids.{ids_of}
 use Rattle.st_clusters.specs.Log.{IsTableOf}
-use Rattle.st_clusters.specs.Table.{Ids, after_joining, new_session, session_of}
+use Rattle.st_clusters.specs.Table.{Ids, after_joining, clash, join_unless, new_session, session_of}
+use Rattle.st_clusters.specs.declared.ids.IdFault.{IdFault}
+use Rattle.st_clusters.specs.declared.ids.IdFault.TheVariants.{NotV4}
 use Rattle.st_clusters.specs.declared.ids.SessionIds.{SessionIds}
 use Rattle.st_clusters.proofs.SessionsTouched.{joined_is}
 use Rattle.st_clusters.proofs.TableOfRanges.{table_joins}
@@ -29,6 +34,7 @@ use Rattle.st_lists.proofs.Logs.{entered_commits, last_entry}
 use Rattle.st_valid.specs.Sessions.{comes_back, has_joined, is_new_session, tells}
 use Rattle.st_ledger.specs.Stands.{AreConnectedIn, AreSessionsOf, StandsFor, meets_span}
 use Rattle.st_ledger.specs.declared.ledger.Ledger.{Ledger}
+use Rattle.st_ledger.proofs.JoinedSessions.{new_of_ledger}
 use Rattle.st_ledger.proofs.MoreEntries.{known_now, known_session, on_now, size_now}
 use Rattle.st_ledger.proofs.RoomLeft.{session_low}
 
@@ -243,3 +249,40 @@ joined_first l k s u n log stands may apart ids entries connected names revision
     off : (b : Bool) → is_connected s log ≡ b → is_connected s log ≡ false
     off true e = absurd (omega (arith, known_session log s e, next))
     off false e = e
+
+-- ## A session is refused
+
+-- a new one may not join if its UUID is refused
+pub may_not_join : (l : Ledger) (s u : ℕ) (f : IdFault) (log : List Entry) → StandsFor l log → has_joined s u log ≡ false → after_joining u (ids_of l.ids) ≡ Err f → (is_new_session s u log || comes_back s u log) ≡ false
+may_not_join l s u f log stands apart e = go (is_new_session s u log || comes_back s u log) refl
+  where
+    joins : is_v4 u ≡ true → (o : Option ℕ) → clash u (ids_of l.ids).sessions ≡ o → not (is_some o) ≡ true → ⊥
+    joins v (Some n) c free = true-false free refl
+    joins v None c free =
+        let done : join_unless u (ids_of l.ids) None ≡ Err f = sym (ap (λ b. cond b (join_unless u (ids_of l.ids) (clash u (ids_of l.ids).sessions)) (Err NotV4)) v ∙ ap (join_unless u (ids_of l.ids)) c) ∙ e in
+        cc
+
+    new : is_new_session s u log ≡ true → ⊥
+    new i =
+        let told = new_of_ledger l s u log stands ∙ i in
+        let named = and-true (s == length (ids_of l.ids).sessions + 1) (is_v4 u && not (is_some (clash u (ids_of l.ids).sessions))) told in
+        let free = and-true (is_v4 u) (not (is_some (clash u (ids_of l.ids).sessions))) named.1 in
+        joins free.0 (clash u (ids_of l.ids).sessions) refl free.1
+
+    either : ((is_new_session s u log ≡ true) ⊎ (comes_back s u log ≡ true)) → ⊥
+    either (inl i) = new i
+    either (inr back) = true-false (and-true (not (is_connected s log)) (has_joined s u log) back).1 apart
+
+    go : (b : Bool) → (is_new_session s u log || comes_back s u log) ≡ b → (is_new_session s u log || comes_back s u log) ≡ false
+    go false h = h
+    go true h = absurd (either (or-cases (is_new_session s u log) (comes_back s u log) h))
+
+pub refusal_told : (l : Ledger) (s u : ℕ) (joined : Bool) (f : IdFault) → ((log : List Entry) → StandsFor l log → joined ≡ has_joined s u log) → (not joined ≡ true) × (after_joining u (ids_of l.ids) ≡ Err f)
+    → (log : List Entry) → StandsFor l log → (is_new_session s u log || comes_back s u log) ≡ false
+refusal_told l s u joined f is refused log stands = may_not_join l s u f log stands (sym (is log stands) ∙ not-true joined refused.0) refused.1
+
+-- what is told of a refusal follows it
+pub refused_along : {T F : Type 0} (r : Result T (Or F)) (P Q : F → Type 0) → ((f : F) → P f → Q f) → IfRefused r P → IfRefused r Q
+refused_along (Ok v) P Q f h = tt
+refused_along (Err (Fault a)) P Q f h = f a h
+refused_along (Err NoMemory) P Q f h = tt

@@ -84,21 +84,27 @@ fn others(alloc: Global, sessions: &[u32], session: u32) -> Result<List<u32>, Al
 }
 
 impl Ledger {
-    /// Takes note of an entry in which a session joins: a new one, or one that comes back. After an `Err` nothing is promised
-    /// of what is kept.
+    /// Takes note of an entry in which a session joins: a new one, or one that comes back. Refused is none that may join. After
+    /// an `Err` nothing is promised of what is kept.
     pub fn enter_join(&mut self, alloc: Global, session: u32, uuid: u128) -> Result<(), Or<IdFault>>
         requires few { self.old.entries < 65535 }
         requires sessions { length (ids_of self.old.ids).sessions ≤ self.old.entries }
-        ensures { OnOk result ((log : Seq Entry) → StandsFor self.old log
+        ensures ok { OnOk result ((log : Seq Entry) → StandsFor self.old log
             → session_may log session (said.Join uuid) ≡ true
             → StandsFor self.new (log_with log session (Join uuid))) }
+        ensures refused { IfRefused result (λ _. (log : Seq Entry) → StandsFor self.old log
+            → session_may log session (said.Join uuid) ≡ false) }
     {
         let new = !self.has_joined(session, uuid);
-        note_session(alloc, &mut self.ids, new, uuid)?;
-        note_reference(&mut self.known, session, self.entries + 1)?;
-        self.connected.push(session)?;
-        self.entries += 1;
-        Ok(())
+        match note_session(alloc, &mut self.ids, new, uuid) {
+            Err(why) => Err(why),
+            Ok(()) => {
+                note_reference(&mut self.known, session, self.entries + 1)?;
+                self.connected.push(session)?;
+                self.entries += 1;
+                Ok(())
+            }
+        }
     }
 
     /// Takes note of an entry in which a session that is connected leaves. After an `Err` nothing is promised of what is kept.
