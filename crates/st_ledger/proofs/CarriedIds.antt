@@ -1,12 +1,17 @@
 -- How many ids a log carries of a session, by the table of its ids.
-use Rattle.std.proofs.Common.{◌≡◌, ◌≤◌, ◌+◌, ◌-◌, ◌==◌, ℕ, zero, suc, Bool, true, false, cond, List, [], ◌∷◌, ◌++◌, length, Option, Some, None, unwrap_or, option_map, ◌&&◌, nat_le, not, is_some, refl, sym, ap, ◌∙◌, arith}
-use Rattle.std.specs.List.{list_any, slice_get}
+use Rattle.std.proofs.Common.{◌≡◌, ◌≤◌, ◌+◌, ◌-◌, ◌==◌, ℕ, zero, suc, Bool, true, false, cond, List, [], ◌∷◌, ◌++◌, length, Option, Some, None, Result, Ok, Err, unwrap_or, option_map, ◌&&◌, nat_le, not, is_some, refl, sym, ap, ◌∙◌, subst, arith}
+use Rattle.std.specs.List.{list_any, slice_get, slice_set}
 use Rattle.std.proofs.lemmas.Bool.Decides.{nat_tests}
 use Rattle.std.specs.BTreeMap.{get}
 use Rattle.st_ids.specs.Order.{rev_cmp}
 use Rattle.st_ids.specs.declared.names.Rev.{Rev}
 use Rattle.st_clusters.specs.Log.{GoOn, IsTableOf, carried_count}
-use Rattle.st_clusters.specs.Table.{Ids, most_ids, session_of}
+use Rattle.st_clusters.specs.Table.{Ids, after_finalising, is_next, most_ids, on_session, raise_to, session_of, with_range}
+use Rattle.st_clusters.specs.declared.ids.IdFault.{IdFault}
+use Rattle.st_clusters.specs.declared.ids.IdFault.TheVariants.{RangeOrder}
+use Rattle.st_lemmas.proofs.Bools.{and-true}
+use Rattle.st_marks.proofs.Members.{any-has}
+use Rattle.st_ledger.proofs.MoreEntries.{known_session}
 use Rattle.st_clusters.specs.declared.ids.IdRange.{IdRange}
 use Rattle.st_clusters.specs.declared.ids.SessionIds.{SessionIds}
 use Rattle.st_clusters.specs.Ids.{ids_of}
@@ -62,3 +67,50 @@ next_of_ledger l s carried ids log stands e = ap (λ n. ids.session == s && (ids
 
 pub revision_of_ledger : (l : Ledger) (s : ℕ) (rev : Rev) (log : List Entry) → StandsFor l log → (rev.session == s && not (is_some (get rev_cmp l.revisions rev))) ≡ is_new_revision log s rev
 revision_of_ledger l s rev log stands = ap (λ b. rev.session == s && not b) (stands.revisions rev)
+
+-- a range that is refused isn't the next one of a session that is connected
+pub range_refused : (l : Ledger) (s : ℕ) (ids : IdRange) (f : IdFault) (log : List Entry) → StandsFor l log → is_connected s log ≡ true → after_finalising ids (ids_of l.ids) ≡ Err f → is_next_range log s ids ≡ false
+range_refused l s ids f log stands on e = go (is_next_range log s ids) refl
+  where
+    T : Ids
+    T = ids_of l.ids
+
+    after : SessionIds → Result Ids IdFault
+    after x = cond (is_next ids x) (Ok (record { sessions = slice_set T.sessions (ids.session - 1) (raise_to x (x.finalised + ids.count)); clusters = with_range ids T.clusters })) (Err (RangeOrder (x.finalised + 1)))
+
+    least : 1 ≤ s
+    least =
+        let c = any-has (λ (t : ℕ). t == s) l.connected (stands.connected.each s ∙ on) in
+        let same : c.0 ≡ s = the_same c.0 s c.2 in
+        subst (λ n. 1 ≤ n) same (stands.connected.some c.0 c.1)
+      where
+        the_same : (a b : ℕ) → (a == b) ≡ true → a ≡ b
+        the_same a b e = grind (arith, nat_tests, e)
+
+    refuted : (x : SessionIds) → session_of T.sessions ids.session ≡ Some x → is_next ids x ≡ true → ⊥
+    refuted x known next =
+        let done : ◌≡◌ {A = Result Ids IdFault} (Ok (record { sessions = slice_set T.sessions (ids.session - 1) (raise_to x (x.finalised + ids.count)); clusters = with_range ids T.clusters })) (Err f) =
+        sym (ap (λ b. cond b (Ok (record { sessions = slice_set T.sessions (ids.session - 1) (raise_to x (x.finalised + ids.count)); clusters = with_range ids T.clusters })) (Err (RangeOrder (x.finalised + 1)))) next)
+        ∙ sym (ap (λ o. on_session o after) known) ∙ e in
+        cc
+
+    found : (o : Option SessionIds) → slice_get T.sessions (s - 1) ≡ o → ids.session ≡ s → ((ids.first == carried_in log s + 1) && nat_le (carried_in log s + ids.count) most_ids) ≡ true → ⊥
+    found None g same h =
+        let many : length T.sessions ≤ s - 1 = past T.sessions (s - 1) g in
+        let count = stands.sessions.count in
+        let low = known_session log s on in
+        let one = least in
+        absurd (omega (arith, many, count, low, one))
+    found (Some x) g same h =
+        let one = least in
+        let some : (s == 0) ≡ false = grind (arith, nat_tests, one) in
+        let there : session_of T.sessions s ≡ Some x = ap (λ b. cond b None (slice_get T.sessions (s - 1))) some ∙ g in
+        let carried : x.finalised ≡ carried_in log s = stands.ids.finalised s x there in
+        refuted x (ap (session_of T.sessions) same ∙ there) (ap (λ n. (ids.first == n + 1) && nat_le (n + ids.count) most_ids) carried ∙ h)
+
+    go : (b : Bool) → is_next_range log s ids ≡ b → is_next_range log s ids ≡ false
+    go false h = h
+    go true h =
+        let p = and-true (ids.session == s) ((ids.first == carried_in log s + 1) && nat_le (carried_in log s + ids.count) most_ids) h in
+        let same : ids.session ≡ s = grind (arith, nat_tests, p.0) in
+        absurd (found (slice_get T.sessions (s - 1)) refl same p.1)

@@ -5,6 +5,7 @@ ghost use Rattle.st_ids.specs.declared.names.Rev.{Rev as RevNames};
 ghost use Rattle.st_clusters.specs.Ids.{ids_of};
 ghost use Rattle.st_clusters.specs.Table.{after_joining};
 ghost use Rattle.st_ids.specs.Or.{IfRefused};
+ghost use Rattle.st_valid.specs.Ids.{is_next_range};
 ghost use Rattle.st_valid.specs.Sessions.{session_may};
 ghost use Rattle.st_valid.specs.declared.message.Said.TheVariants as said;
 ghost use Rattle.st_lists.specs.Names.{names_made};
@@ -145,15 +146,21 @@ impl Ledger {
     ) -> Result<(), Or<IdFault>>
         requires few { self.old.entries + 1 < 2 ^ 32 }
         requires names { self.old.names + names < 2 ^ 32 }
-        ensures { OnOk result ((log : Seq Entry) (N : Intent) → StandsFor self.old log
+        ensures ok { OnOk result ((log : Seq Entry) (N : Intent) → StandsFor self.old log
             → is_connected session log ≡ true → rev ≡ N.rev → names ≡ names_made N
             → StandsFor self.new (log_with log session (Commit reference ids N))) }
+        ensures refused { IfRefused result (λ _. (log : Seq Entry) → StandsFor self.old log
+            → is_connected session log ≡ true → is_next_range log session ids ≡ false) }
     {
-        self.ids.finalize(ids)?;
-        note_reference(&mut self.known, session, reference)?;
-        note_revision(&mut self.revisions, rev, self.entries + 1)?;
-        self.names += names;
-        self.entries += 1;
-        Ok(())
+        match self.ids.finalize(ids) {
+            Err(why) => Err(why),
+            Ok(()) => {
+                note_reference(&mut self.known, session, reference)?;
+                note_revision(&mut self.revisions, rev, self.entries + 1)?;
+                self.names += names;
+                self.entries += 1;
+                Ok(())
+            }
+        }
     }
 }
