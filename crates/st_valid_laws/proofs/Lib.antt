@@ -4,3 +4,5 @@ pub mod NewRevisions
 pub mod ValidLogs
 pub mod Standing
 pub mod RefusedByLog
+pub mod Readings
+pub mod OneMeaning

@@ -1,2 +1,3 @@
 pub mod Schema
 pub mod Messages
+pub mod Shape

@@ -1,5 +1,5 @@
 //! Laws on valid messages: each is the contract of a function that does nothing.
-ghost use Rattle.std.specs.Prelude.{◌≡◌, ◌≢◌, ◌≤◌, ◌+◌, ℕ, Some, List as Seq, [], ◌∷◌, length, slice_get, ◌⊎◌};
+ghost use Rattle.std.specs.Prelude.{◌≡◌, ◌≢◌, ◌↔◌, ◌≤◌, ◌+◌, ℕ, Option, None, Some, List as Seq, [], ◌∷◌, length, slice_get, ◌⊎◌};
 ghost use Rattle.st_clusters.specs.Log.{AreInTurn};
 ghost use Rattle.st_clusters.specs.Table.{most_ids};
 ghost use Rattle.st_ids.specs.Listing.{Has};
@@ -14,10 +14,13 @@ ghost use Rattle.st_marks.specs.Document.{Document, IsSoundInForm};
 ghost use Rattle.st_marks.specs.Run.{Run};
 ghost use Rattle.st_marks.specs.declared.intents.Intent.{Intent};
 ghost use Rattle.st_valid.specs.Author.{author_list};
-ghost use Rattle.st_valid.specs.Context.{IsInContext, known_revisions};
+ghost use Rattle.serde_json.specs.Data.{Data};
+ghost use Rattle.st_marks.specs.declared.changes.Change.{Change};
+ghost use Rattle.st_valid.specs.Context.{AuthorsIntent, IsInContext, known_revisions};
 ghost use Rattle.st_valid.specs.Ids.{carried_in};
 ghost use Rattle.st_valid_laws.specs.Messages.{IsBodyOf, IsRefusedFor, IsValid, IsValidLog, Passes};
-ghost use Rattle.st_valid_laws.specs.Schema.{KeepsToItsSchema};
+ghost use Rattle.st_valid_laws.specs.Schema.{HasRoomForSchema, KeepsInContext, KeepsToItsSchema, PassesSchema};
+ghost use Rattle.st_valid_laws.specs.Shape.{IsRead, IsValidValue, IsValueRefusedFor};
 ghost use Rattle.st_valid.specs.Refusals.{refused_by_log};
 ghost use Rattle.st_valid.specs.Room.{HasRoomForNames};
 ghost use Rattle.st_valid.specs.declared.message.Message.{Message as Told};
@@ -97,4 +100,25 @@ pub fn valid_logs_fit()
     ensures names { (O : Document) (log : Seq Entry) → IsSoundInForm O
         → IsMadeUnder (opening ∷ []) O → HasRoomForNames O → IsValidLog O log
         → names_in (commits_in log) ≤ 131072 }
+{}
+
+/// Beside a log a value is read as at most one message. One that is read as none is refused for its shape; another is refused for
+/// what its message is refused for, and is valid where its message is.
+pub fn values_are_judged_as_messages()
+    ensures one { (log : Seq Entry) (d : Data) (a b : Option Told) → IsRead log d a → IsRead log d b → a ≡ b }
+    ensures none { (O : Document) (log : Seq Entry) (d : Data) → IsRead log d None
+        → IsValueRefusedFor O log d cause.Shape }
+    ensures refused { (O : Document) (log : Seq Entry) (d : Data) (m : Told) (c : Cause)
+        → IsRead log d (Some m) → IsRefusedFor O log m c ↔ IsValueRefusedFor O log d c }
+    ensures valid { (O : Document) (log : Seq Entry) (d : Data) (m : Told) → IsRead log d (Some m)
+        → IsValid O log m ↔ IsValidValue O log d }
+{}
+
+/// What a change says in its author's document is one intent, but for the order of its lists: where one such keeps to its schema
+/// and has room for it, each does.
+pub fn one_meaning_keeps_for_all()
+    ensures { (O : Document) (log : Seq Entry) (session reference : ℕ) (C : Change)
+        (a : AuthorsIntent O log session reference C) → IsSoundInForm a.document
+        → PassesSchema O a.document (commits_in log) a.intent → HasRoomForSchema a.document a.intent
+        → KeepsInContext O log session reference C }
 {}
