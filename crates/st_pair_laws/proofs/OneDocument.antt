@@ -115,7 +115,7 @@ module _ (F : ℕ) (X : Side) (p : IsShown F X) where
 
 module _ (F : ℕ) (X Y : Side) (p : IsShown F X) (q : IsShown F Y) (a : CanBeFound F X.finds) (b : CanBeFound F Y.finds) (u : IsApartFrom X.listing Y.listing) where
   -- who is nowhere isn't found by the other
-  loose-apart : (n : NodeId) → Has X.loose n → Has (nodes_found Y.finds) n → ⊥
+  pub loose-apart : (n : NodeId) → Has X.loose n → Has (nodes_found Y.finds) n → ⊥
   loose-apart n h i =
       let d = found-placed F Y q n i in
       none-field d.field (ap field_of (u.places n Spot.Nowhere d.spot d.field (placed_nowhere n (p.loose_shown n h)) d.placed (inr d.there)) ∙ d.there)
