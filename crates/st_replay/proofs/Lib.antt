@@ -1,0 +1,10 @@
+mod RangesTaken
+mod OpIds
+mod SeenIds
+mod OpReadings
+mod MessagesRead
+mod KnownRevisions
+mod MeantIntents
+mod NumbersSeen
+mod RoomForNames
+mod AcceptedCommits
