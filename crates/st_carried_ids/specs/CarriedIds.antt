@@ -39,3 +39,7 @@ pub record CarryIds (w : WorldState) : Type 0 where
 -- number for a revision: the entries carry it, or it is one of the session's own, none after those that the text carries
 abbrev pub IsKnownAt : List Entry → ℕ → ℕ → IdRange → Rev → Type 0
 IsKnownAt log session reference ids r = (r.num ≤ carried_count r.session (ranges_in (take reference log))) ⊎ ((r.session ≡ session) × (r.num < ids.first + ids.count))
+
+-- the log carries at most so many ids of each session
+abbrev pub CarryFew : ℕ → List Entry → Type 0
+CarryFew most log = (s : ℕ) → carried_count s (ranges_in log) ≤ most

@@ -1,5 +1,6 @@
 //! Laws on the ids that texts carry: each is the contract of a function that does nothing.
 ghost use Rattle.std.specs.Prelude.{◌≡◌, ◌≤◌, ℕ, List, [], ◌∷◌, ◌++◌, Some, slice_get, take};
+ghost use Rattle.std.specs.List.{AllByRecursion};
 ghost use Rattle.st_clusters.specs.Log.{carried_count};
 ghost use Rattle.st_clusters.specs.declared.ids.IdRange.{IdRange};
 ghost use Rattle.st_ids.specs.Listing.{Has};
@@ -17,7 +18,7 @@ ghost use Rattle.st_script.specs.declared.answer.Answer.{Answer};
 ghost use Rattle.st_valid.specs.Author.{author_list};
 ghost use Rattle.st_world.specs.World.{IsNext};
 ghost use Rattle.st_world_laws.specs.Worlds.{IsWorld, KeepsRules};
-ghost use Rattle.st_carried_ids.specs.CarriedIds.{CarryIds, IsKnownAt};
+ghost use Rattle.st_carried_ids.specs.CarriedIds.{CarryFew, CarryIds, IsKnownAt};
 
 /// Before any client joins no commit is in the log, and none waits.
 pub fn ids_begin()
@@ -53,4 +54,18 @@ pub fn author_names_are_numbered()
         → Has w.clients c → c.queue ≡ before ++ Commit reference ids N ∷ later
         → Has (author_list w.log c.session reference ++ (intents_of before ++ N ∷ [])) M
         → IsKnownAt w.log c.session reference ids M.rev }
+{}
+
+/// The log carries no more ids of a session than its clients have generated at most: whatever a step leads to, it is so of as many
+/// as there were before the step.
+pub fn few_ids_stay()
+    ensures { (h : HeaderView) (w v : WorldState) (s : StepView) (a : Answer) (most : ℕ) → IsWorld h w
+        → AllByRecursion (λ (c : Client). c.ids ≤ most) w.clients → CarryFew most w.log
+        → IsNext h w s v a → CarryFew most v.log }
+{}
+
+/// The log only grows: whatever a step leads to, its entries stay, and others may come behind them.
+pub fn logs_grow()
+    ensures { (h : HeaderView) (w v : WorldState) (s : StepView) (a : Answer) → IsNext h w s v a
+        → (es : List Entry) × (v.log ≡ w.log ++ es) }
 {}

@@ -3,4 +3,6 @@
 
 mod laws;
 
-pub use laws::{author_names_are_numbered, ids_begin, ids_go_on, names_are_numbered};
+pub use laws::{
+    author_names_are_numbered, few_ids_stay, ids_begin, ids_go_on, logs_grow, names_are_numbered,
+};
