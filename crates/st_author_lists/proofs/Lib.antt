@@ -1,4 +1,4 @@
 pub mod Written
 pub mod Going
 pub mod Fitted
-mod Texted
+pub mod Texted
