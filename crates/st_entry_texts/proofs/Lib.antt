@@ -1,0 +1,3 @@
+pub mod RangesRead
+pub mod StandIns
+pub mod Telling

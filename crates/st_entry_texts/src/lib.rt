@@ -1,0 +1,8 @@
+//! Writes the text of an entry of a log, as its author told it.
+#![tactic(auto)]
+
+mod entry;
+mod numbers;
+
+pub use entry::{Author, Authors};
+pub use numbers::Numbers;
