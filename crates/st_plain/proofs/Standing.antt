@@ -1,10 +1,13 @@
 -- What a world stands for after a step.
-use Rattle.std.proofs.Common.{◌≡◌, inl, inr, ℕ, ◌+◌, ◌<◌, ◌^◌, false, Result, Ok, Err, refl, ◌∙◌, ap, subst, arith}
+use Rattle.std.proofs.Common.{◌≡◌, inl, inr, ℕ, ◌+◌, ◌-◌, ◌<◌, ◌≤◌, ◌^◌, false, length, take, Some, Result, Ok, Err, refl, ◌∙◌, ap, subst, arith}
+use Rattle.std.specs.List.{AllByRecursion, slice_get}
 use Rattle.std.specs.Prelude.{IfOk, OnOk}
 use Rattle.st_ids.specs.declared.fault.Or.{Or}
+use Rattle.st_lists.specs.Log.{minimum}
+use Rattle.st_lists.specs.declared.lists.Client.{Client}
 use Rattle.st_lists.specs.declared.lists.WorldState.{WorldState}
 use Rattle.st_plain.specs.Replicas.{IsSound}
-use Rattle.st_plain.specs.Stands.{MayStep, Stands}
+use Rattle.st_plain.specs.Stands.{IsSmall, MayStep, Stands}
 use Rattle.st_plain.specs.declared.world.Spent.{Spent}
 use Rattle.st_plain.specs.declared.world.World.{World}
 use Rattle.st_schema.specs.declared.header.Header.{Header}
@@ -110,3 +113,22 @@ pub stands_and_goes_on : (k : ℕ) (w : World) (h : HeaderView) (v : WorldState)
 stands_and_goes_on k w h v s st =
     let n = has_next w s st.sound (all_lead (header_view w.header) w.lists (lists_sound w st.sound)) in
     (n.0, n.1, subst (λ (x : HeaderView). IsNext x v s n.0 n.1) st.header (subst (λ (x : WorldState). IsNext (header_view w.header) x s n.0 n.1) st.lists n.2))
+
+pub stands_small : (k : ℕ) (w : World) (h : HeaderView) (v : WorldState) → Stands k w h v → IsSmall k v
+stands_small k w h v st = subst (IsSmall k) st.lists (record {
+  ids = subst (λ n. AllByRecursion (λ (c : Client). c.ids ≤ n) w.lists.clients) st.counted st.sound.ids;
+  entries = st.sound.entries;
+  sessions = st.sound.few_sessions;
+})
+
+-- ## The log
+
+pub log_told : (k : ℕ) (w : World) (h : HeaderView) (v : WorldState) → Stands k w h v → w.lists.log ≡ v.log
+log_told k w h v st = ap (λ (x : WorldState). x.log) st.lists
+
+pub minimum_told : (k n : ℕ) (w : World) (h : HeaderView) (v : WorldState) → Stands k w h v → 0 < n → n ≤ length v.log → slice_get w.minima (n - 1) ≡ Some (minimum (take n v.log))
+minimum_told k n w h v st counted within =
+    let log = log_told k w h v st in
+    let size : n - 1 < length w.lists.log = omega (arith, counted, within, ap (λ l. length l) log) in
+    let back : (n - 1) + 1 ≡ n = omega (arith, counted) in
+    st.sound.minima.each (n - 1) size ∙ ap (λ i. Some (minimum (take i w.lists.log))) back ∙ ap (λ l. Some (minimum (take n l))) log

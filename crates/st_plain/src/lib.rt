@@ -6,11 +6,12 @@ mod branch_steps;
 mod counting;
 mod edit_steps;
 mod laws;
+mod log;
 mod pending;
 mod sessions;
 mod undo_steps;
 mod upgrade_steps;
 mod world;
 
-pub use laws::{each_step_has_a_next, sound_worlds_are_worlds};
+pub use laws::{each_step_has_a_next, sound_worlds_are_worlds, worlds_are_small};
 pub use world::{Spent, World};

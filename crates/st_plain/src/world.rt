@@ -97,9 +97,10 @@ fn uuid_for(session: u32, told: Option<u128>) -> u128
 }
 
 // The document of a header's tree.
-fn opening(alloc: Global, header: &Header) -> Result<Doc, AllocError>
+pub(crate) fn opening(alloc: Global, header: &Header) -> Result<Doc, AllocError>
     requires { IsHeader (header_view header.now) }
-    ensures { IfOk result (λ d. document_of d ≡ opening_document (header_view header.now)) }
+    ensures is { IfOk result (λ d. document_of d ≡ opening_document (header_view header.now)) }
+    ensures sound { IfOk result (λ d. IsSoundInForm (document_of d)) }
 {
     let schema = header.schema.text(alloc)?;
     let doc = Doc::start(alloc, schema, &header.tree)?;

@@ -8,5 +8,5 @@ use Rattle.st_plain.proofs.world.opening.Goals as goal
 pub start-requires-clause-form : goal.start-requires-clause-form
 start-requires-clause-form c = opens_formed c.args.header.now.schema (view c.args.header.now.tree) c.requires.tree
 
-pub returns : goal.returns
-returns c = c.in_ok-doc.ensures.document ∙ ap (start_of (opening_listed (view c.args.header.now.tree))) c.in_ok-schema.ensures.text
+pub returns-clause-is : goal.returns-clause-is
+returns-clause-is c = c.in_ok-doc.ensures.document ∙ ap (start_of (opening_listed (view c.args.header.now.tree))) c.in_ok-schema.ensures.text
