@@ -1,5 +1,6 @@
 -- Each input has its answers under a command other than `algebra`: some output is told of it in which nothing failed.
-use Rattle.std.proofs.Common.{◌≡◌, ◌≢◌, ap, ◌⊎◌, ℕ, ◌+◌, Bool, true, false, List, [], ◌∷◌, ◌++◌, length, Option, Some, None, option_and_then, Result, Ok, Err, codes, refl, inl, inr}
+use Rattle.std.specs.List.{slice_get}
+use Rattle.std.proofs.Common.{◌≡◌, ◌≢◌, ◌≤◌, ◌<◌, ap, subst, arith, zero, suc, ◌⊎◌, ℕ, ◌+◌, Bool, true, false, List, [], ◌∷◌, ◌++◌, length, Option, Some, None, option_and_then, Result, Ok, Err, codes, refl, inl, inr}
 use Rattle.st_json.specs.declared.fault.BadCause.{BadCause}
 use Rattle.st_json.specs.declared.fault.BadCause.TheVariants.{Header, Shape}
 use Rattle.st_compat.specs.Compared.{IsCompared}
@@ -18,8 +19,16 @@ use Rattle.st_script.specs.StepText.{FitsAct}
 use Rattle.st_script.specs.declared.answer.Answer.TheVariants as answer
 use Rattle.st_script.proofs.Fits.{line_fits}
 use Rattle.st_script.proofs.OfForm.{header_line_kept}
+use Rattle.st_author_lists.specs.Authors.{FitAuthors}
+use Rattle.st_author_lists.proofs.Going.{authors_next}
+use Rattle.st_author_lists.proofs.Texted.{has_text}
+use Rattle.st_author_lists.proofs.Written.{begun_authors}
 use Rattle.st_lists.specs.Clients.{empty_state}
-use Rattle.st_world_laws.specs.Worlds.{IsWorld, KeepsRules}
+use Rattle.st_lists.specs.declared.lists.Entry.{Entry}
+use Rattle.st_lists.specs.declared.lists.WorldState.{WorldState}
+use Rattle.st_texts.specs.Texts.{IsMessageOf}
+use Rattle.st_world.specs.World.{opening_document}
+use Rattle.st_world_laws.specs.Worlds.{IsHeader, IsWorld, KeepsRules}
 use Rattle.st_world_laws.proofs.Going.{begun_sound}
 use Rattle.st_world_laws.proofs.Leading.{leads_on}
 use Rattle.st_world_laws.proofs.LeadingBranches.{all_lead}
@@ -35,7 +44,7 @@ use Rattle.st_words.specs.declared.request.Request.TheVariants as request
 use Rattle.st_run.specs.inside.Working.{IsShortWork}
 use Rattle.st_run.proofs.LoadsExist.{work_line_exists}
 use Rattle.st_run.proofs.Requested.{short_request}
-use Rattle.st_answers.specs.Trace.{TakesTrace, TraceState, opened, trace, unopened}
+use Rattle.st_answers.specs.Trace.{IsEntryTold, TakesTrace, TraceState, entry_asked, message_line, no_entry_line, opened, trace, unopened}
 use Rattle.st_answers.specs.declared.command.Command.{Command}
 use Rattle.st_answers.specs.declared.command.Command.TheVariants.{Trace, Compat, Algebra}
 use Rattle.st_answers.specs.declared.outcome.Outcome.{Outcome}
@@ -97,10 +106,10 @@ module _ (m : Meaning) (Holds : m.State → Type 0) (on : GoesOn m Holds) where
 
 abbrev IsWorldIn : TraceState → Type 0
 IsWorldIn unopened = Unit {0}
-IsWorldIn (opened h w) = IsWorld h w
+IsWorldIn (opened h w) = IsWorld h w × FitAuthors h w
 
 -- the schema of a step that a line holds keeps the rules
-fits_rules : (branch : ℕ) (x : ActView) → FitsAct branch x → KeepsRules x
+pub fits_rules : (branch : ℕ) (x : ActView) → FitsAct branch x → KeepsRules x
 fits_rules branch (step.join uuid) h = tt
 fits_rules branch (step.edit e) h = tt
 fits_rules branch (step.need at) h = tt
@@ -122,22 +131,49 @@ fits_rules branch step.reconnect h = tt
 fits_rules branch step.show h = tt
 fits_rules branch step.pending h = tt
 
-trace_takes : (s : TraceState) (n : ℕ) (line : List ℕ) → IsWorldIn s
-    → ((told : List ℕ) × (v : TraceState) × TakesTrace s n line told v × IsWorldIn v) ⊎ ((c : BadCause) × trace.IsBad s line c)
+past : {A : Type 0} (xs : List A) (i : ℕ) → slice_get xs i ≡ None → length xs ≤ i
+past [] i e = omega arith
+past (x ∷ xs) zero e = cc
+past (x ∷ xs) (suc i) e = omega (arith, past xs i e)
+
+-- who asks for the text of an entry is told it
+entry_told : (h : HeaderView) (w : WorldState) → IsHeader h → FitAuthors h w → (n : ℕ) → (told : List ℕ) × IsEntryTold (opening_document h) w.log n told
+entry_told h w header fit zero = (no_entry_line, inl (inl refl, refl))
+entry_told h w header fit (suc i) = go (slice_get w.log i) refl
+  where
+    go : (o : Option Entry) → slice_get w.log i ≡ o → (told : List ℕ) × IsEntryTold (opening_document h) w.log (suc i) told
+    go None at = (no_entry_line, inl (inr (omega (arith, past w.log i at)), refl))
+    go (Some e) at =
+        let t = has_text h w i e header fit at in
+        let n : i + 1 ≡ suc i = omega arith in
+        (message_line t.1.0, inr (t.1.0, subst (λ k. IsMessageOf (opening_document h) w.log k t.1.0) n t.1.1, refl))
+
+-- a line is answered and leads to such a state, or is bad
+abbrev IsLineTaken : TraceState → ℕ → List ℕ → Type 0
+IsLineTaken s n line = ((told : List ℕ) × (v : TraceState) × TakesTrace s n line told v × IsWorldIn v) ⊎ ((c : BadCause) × trace.IsBad s line c)
+
+trace_takes : (s : TraceState) (n : ℕ) (line : List ℕ) → IsWorldIn s → IsLineTaken s n line
 trace_takes unopened n line holds = by (header_line (codes "trace") line) refl
   where
     by : (r : Result HeaderView BadCause) → header_line (codes "trace") line ≡ r → ((told : List ℕ) × (v : TraceState) × TakesTrace unopened n line told v × IsWorldIn v) ⊎ ((c : BadCause) × trace.IsBad unopened line c)
     by (Err c) e = inr (c, e)
     by (Ok h) e =
         let kept = header_line_kept (codes "trace") line h e in
-        inl (answer_line answer.Header, opened h empty_state, record { header = h; is = e; told = refl; state = refl }, begun_sound h (record { schema = kept.0; tree = kept.1 }))
+        inl (answer_line answer.Header, opened h empty_state, record { header = h; is = e; told = refl; state = refl }, (begun_sound h (record { schema = kept.0; tree = kept.1 }), begun_authors h))
 trace_takes (opened h w) n line holds = by (step_of_line line) refl
   where
-    by : (r : Result StepView BadCause) → step_of_line line ≡ r → ((told : List ℕ) × (v : TraceState) × TakesTrace (opened h w) n line told v × IsWorldIn v) ⊎ ((c : BadCause) × trace.IsBad (opened h w) line c)
-    by (Err c) e = inr (c, e)
+    asked : (c : BadCause) → step_of_line line ≡ Err c → (o : Option ℕ) → entry_asked line ≡ o → IsLineTaken (opened h w) n line
+    asked c e None none = inr (c, (e, none))
+    asked c e (Some entry) asks =
+        let t = entry_told h w holds.0.header holds.1 entry in
+        inl (t.0, opened h w, inr (record { entry = entry; cause = c; no_step = e; asks = asks; told = t.1; state = refl }), holds)
+
+    by : (r : Result StepView BadCause) → step_of_line line ≡ r → IsLineTaken (opened h w) n line
+    by (Err c) e = asked c e (entry_asked line) refl
     by (Ok x) e =
-        let r = leads_on h w holds (all_lead h w holds) x in
-        inl (answer_line r.1, opened h r.0, record { step = x; answer = r.1; world = r.0; is = e; next = r.2; told = refl; state = refl }, r.3 (fits_rules x.branch x.act (line_fits line x e).1))
+        let r = leads_on h w holds.0 (all_lead h w holds.0) x in
+        let rules = fits_rules x.branch x.act (line_fits line x e).1 in
+        inl (answer_line r.1, opened h r.0, inl (record { step = x; answer = r.1; world = r.0; is = e; next = r.2; told = refl; state = refl }), (r.3 rules, authors_next h w r.0 x r.1 holds.0 holds.1 rules r.2))
 
 trace_ends : (s : TraceState) → IsWorldIn s → ((last : List ℕ) × trace.Finishes s last) ⊎ ((c : BadCause) × trace.Lacks s c)
 trace_ends unopened holds = inr (Header, refl)

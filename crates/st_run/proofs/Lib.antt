@@ -2,6 +2,7 @@ pub mod AlgebraAnswers
 pub mod Carrying
 pub mod Comparing
 pub mod Deciding
+pub mod EntriesTold
 pub mod Loads
 pub mod LoadsExist
 pub mod Requested

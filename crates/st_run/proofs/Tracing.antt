@@ -1,24 +1,39 @@
 -- Replies to the lines of a trace.
-use Rattle.std.proofs.Common.{◌≡◌, false, true, inr, ℕ, ◌+◌, ◌≤◌, List, [], Option, Some, None, Ok, refl, sym, ◌∙◌, ap, subst, arith}
+use Rattle.std.proofs.Common.{◌≡◌, false, true, inl, inr, ℕ, ◌+◌, ◌≤◌, List, [], Option, Some, None, Ok, Err, refl, sym, ◌∙◌, ap, subst, arith}
+use Rattle.std.specs.Option.{IfSome}
 use Rattle.st_json.specs.declared.fault.BadCause.{BadCause}
+use Rattle.st_author_lists.proofs.Going.{authors_next}
+use Rattle.st_author_lists.proofs.Written.{begun_authors}
+use Rattle.st_carried_ids.specs.CarriedIds.{CarryFew}
+use Rattle.st_carried_ids.proofs.Few.{few_next}
+use Rattle.st_carried_ids.proofs.LogSteps.{log_grown}
+use Rattle.st_entry_texts.specs.Authors.{AreAuthorsOf}
+use Rattle.st_entry_texts.specs.declared.entry.Authors.{Authors}
+use Rattle.st_entry_texts.proofs.Telling.{authors_stay}
+use Rattle.st_lists.specs.Clients.{empty_state}
+use Rattle.st_lists.specs.declared.lists.Entry.{Entry}
 use Rattle.st_lists.specs.declared.lists.WorldState.{WorldState}
 use Rattle.st_pieces.specs.Told.{IsEnd, IsReply}
 use Rattle.st_pieces.specs.declared.responder.Reply.{Reply}
 use Rattle.st_pieces.specs.declared.responder.Reply.TheVariants.{Goes, Ends}
 use Rattle.st_plain.specs.Stands.{IsSpent, MayStep, Stands}
 use Rattle.st_plain.specs.declared.world.World.{World}
+use Rattle.st_plain.proofs.Standing.{stands_for_world, stands_small}
 use Rattle.st_script.specs.AnswerText.{answer_line}
 use Rattle.st_script.specs.Header.{HeaderView}
+use Rattle.st_script.proofs.Fits.{line_fits}
 use Rattle.st_script.specs.Line.{step_of_line}
 use Rattle.st_script.specs.Steps.{StepView}
 use Rattle.st_script.specs.declared.answer.Answer.{Answer}
-use Rattle.st_world.specs.World.{IsNext}
+use Rattle.st_world.specs.World.{IsNext, opening_document}
+use Rattle.st_world_laws.specs.Worlds.{IsWorld, KeepsRules}
 use Rattle.st_answers.specs.Endings.{bad_text}
 use Rattle.st_answers.specs.Meaning.{EndsAt, FailsAt, FinishesAt, Meaning}
-use Rattle.st_answers.specs.Trace.{TakesTrace, TraceState, opened, trace, unopened}
+use Rattle.st_answers.specs.Trace.{IsEntryTold, TakesTrace, TraceState, entry_asked, opened, trace, unopened}
 use Rattle.st_run.specs.declared.trace.Tracing.{Tracing}
 use Rattle.st_run.specs.inside.Replies.{IsRefusal, IsTelling}
-use Rattle.st_run.specs.inside.Standing.{GoesOn, IsOpened, IsOpenedIn, IsStepReply, StandsForTrace}
+use Rattle.st_run.specs.inside.Standing.{GoesOn, IsKeptFor, IsOpened, IsOpenedBy, IsOpenedIn, IsStepReply, IsUnderWay, StandsForTrace, TellsTexts}
+use Rattle.st_run.proofs.Deciding.{fits_rules}
 
 -- ## Any command
 
@@ -55,11 +70,49 @@ pub step_told : (h : HeaderView) (w : WorldState) (s : StepView) (After : WorldS
 step_told h w s After a (Goes text) next is = (a, next.0, next.1, is, next.2)
 step_told h w s After a (Ends text e) next is = absurd is
 
+-- what is kept of authors is kept as the log grows
+kept_on : (h : HeaderView) (w v : WorldState) (x : StepView) (a : Answer) (o : Option Authors) → IsNext h w x v a → IfSome o (IsKeptFor h w) → IfSome o (IsKeptFor h v)
+kept_on h w v x a None next kept = tt
+kept_on h w v x a (Some authors) next kept =
+    let grown = log_grown h w v x a next in
+    (kept.0, subst (λ (l : List Entry). AreAuthorsOf l authors) (sym grown.1) (authors_stay w.log grown.0 authors kept.1))
+
+-- a step leads on
+pub under_way_next : (h : HeaderView) (w v : WorldState) (x : StepView) (a : Answer) (k : ℕ) (old new : World) (o : Option Authors) → IsUnderWay k old o h w → KeepsRules x.act → IsNext h w x v a → Stands (k + 1) new h v → IsUnderWay (k + 1) new o h v
+under_way_next h w v x a k old new o u rules next stands =
+    let world : IsWorld h w = stands_for_world k old h w u.stands in
+    let few : CarryFew k v.log = few_next h w v x a k world (stands_small k old h w u.stands).ids u.few next in
+    record {
+      stands = stands;
+      fit = authors_next h w v x a world u.fit rules next;
+      few = λ s. omega (arith, few s);
+      kept = kept_on h w v x a o next u.kept;
+    }
+
 -- a line that is a step
-pub step_replied : (h : HeaderView) (w : WorldState) (s : StepView) (k n : ℕ) (world : World) (line : List ℕ) (r : Reply BadCause) → step_of_line line ≡ Ok s → IsStepReply h w s (λ v. Stands k world h v) r
-    → IsReply (TakesTrace (opened h w) n line) (EndsAt trace (opened h w) n line) (IsOpened k world) r
-step_replied h w s k n world line (Goes text) is (a, v, next, told, after) = (opened h v, record { step = s; answer = a; world = v; is = is; next = next; told = told; state = refl }, after)
-step_replied h w s k n world line (Ends text e) is x = absurd x
+pub step_replied : (h : HeaderView) (w : WorldState) (s : StepView) (k n : ℕ) (old world : World) (o : Option Authors) (line : List ℕ) (r : Reply BadCause) → step_of_line line ≡ Ok s → IsUnderWay k old o h w → IsStepReply h w s (λ v. Stands (k + 1) world h v) r
+    → IsReply (TakesTrace (opened h w) n line) (EndsAt trace (opened h w) n line) (IsOpenedBy (k + 1) world o) r
+step_replied h w s k n old world o line (Goes text) is u (a, v, next, told, after) = (
+  opened h v,
+  inl (record { step = s; answer = a; world = v; is = is; next = next; told = told; state = refl }),
+  (k + 1, omega arith, under_way_next h w v s a k old world o u (fits_rules s.branch s.act (line_fits line s is).1) next after),
+)
+step_replied h w s k n old world o line (Ends text e) is u x = absurd x
+
+-- a line that asks for the text of an entry
+pub text_replied : (h : HeaderView) (w : WorldState) (k n entry : ℕ) (cause : BadCause) (world : World) (o : Option Authors) (line told : List ℕ) (r : Reply BadCause) → step_of_line line ≡ Err cause → entry_asked line ≡ Some entry
+    → IsEntryTold (opening_document h) w.log entry told → IsUnderWay k world o h w → IsTelling told r → IsReply (TakesTrace (opened h w) n line) (EndsAt trace (opened h w) n line) (IsOpened k world o) r
+text_replied h w k n entry cause world o line told r no_step asks is u telling =
+    told_so trace (opened h w) n line (IsOpened k world o) told (opened h w) r (inr (record { entry = entry; cause = cause; no_step = no_step; asks = asks; told = is; state = refl })) u telling
+
+-- a line that is neither
+pub other_refused : (h : HeaderView) (w : WorldState) (k n : ℕ) (cause : BadCause) (world : World) (o : Option Authors) (line : List ℕ) (r : Reply BadCause) → step_of_line line ≡ Err cause → entry_asked line ≡ None
+    → IsRefusal n cause r → IsReply (TakesTrace (opened h w) n line) (EndsAt trace (opened h w) n line) (IsOpened k world o) r
+other_refused h w k n cause world o line r no_step none told = refused trace (opened h w) n line (IsOpened k world o) cause r (no_step, none) told
+
+pub opened_by : (h : HeaderView) (w : WorldState) (k n : ℕ) (world : World) (o : Option Authors) (line : List ℕ) (r : Reply BadCause) → IsReply (TakesTrace (opened h w) n line) (EndsAt trace (opened h w) n line) (IsOpened k world o) r
+    → IsReply (TakesTrace (opened h w) n line) (EndsAt trace (opened h w) n line) (IsOpenedBy (k + 1) world o) r
+opened_by h w k n world o line r x = reply_as trace (opened h w) n line (IsOpened k world o) (IsOpenedBy (k + 1) world o) (λ t y. (k, omega arith, y)) r x
 
 -- ## A world in a trace
 
@@ -70,12 +123,15 @@ no_world : (o : Option World) (x : World) → o ≡ Some x → o ≡ None → �
 no_world o x e f = let r : Some x ≡ None = sym e ∙ f in cc
 
 -- it goes on
-pub may_go_on : (t : Tracing) (n : ℕ) (w : World) → n ≤ 65536 → t.world ≡ Some w → (s : TraceState) × StandsForTrace t n s → GoesOn w
+pub may_go_on : (t : Tracing) (n : ℕ) (w : World) → n ≤ 65536 → t.world ≡ Some w → (s : TraceState) × StandsForTrace t n s → TellsTexts w t.authors
 may_go_on t n w few is (unopened, stands) = absurd (no_world t.world w is stands.0)
-may_go_on t n w few is (opened h v, (x, at, k, counted, stands)) =
-    (k, h, v, subst (λ (y : World). Stands k y h v) (same_world t.world x w at is) stands, omega (arith, few, counted))
+may_go_on t n w few is (opened h v, (x, at, k, counted, u)) =
+    (k, h, v, subst (λ (y : World). IsUnderWay k y t.authors h v) (same_world t.world x w at is) u, omega (arith, few, counted))
 
 -- so it may make a step, and isn't spent
+pub steps_on : (w : World) (o : Option Authors) → TellsTexts w o → GoesOn w
+steps_on w o tells = (tells.0, tells.1, tells.2, tells.3.stands, omega (arith, tells.4))
+
 pub may_step : (w : World) → GoesOn w → MayStep w
 may_step w goes = inr goes
 
@@ -87,27 +143,31 @@ never_spent w goes spent =
 
 -- a line is answered by the world
 pub line_taken : (old new : Tracing) (n : ℕ) (w u : World) (line : List ℕ) (r : Reply BadCause) → old.world ≡ Some w → new.world ≡ Some u
-    → ((k : ℕ) (h : HeaderView) (v : WorldState) → Stands k w h v → IsReply (TakesTrace (opened h v) n line) (EndsAt trace (opened h v) n line) (IsOpened (k + 1) u) r)
+    → ((k : ℕ) (h : HeaderView) (v : WorldState) → IsUnderWay k w old.authors h v → IsReply (TakesTrace (opened h v) n line) (EndsAt trace (opened h v) n line) (IsOpenedBy (k + 1) u new.authors) r)
     → (s : TraceState) → StandsForTrace old n s → IsReply (TakesTrace s n line) (EndsAt trace s n line) (StandsForTrace new (n + 1)) r
 line_taken old new n w u line r is now by unopened stands = absurd (no_world old.world w is stands.0)
 line_taken old new n w u line r is now by (opened h v) (x, at, k, counted, stands) =
-    let here : Stands k w h v = subst (λ (y : World). Stands k y h v) (same_world old.world x w at is) stands in
-    reply_as trace (opened h v) n line (IsOpened (k + 1) u) (StandsForTrace new (n + 1)) also r (by k h v here)
+    let here : IsUnderWay k w old.authors h v = subst (λ (y : World). IsUnderWay k y old.authors h v) (same_world old.world x w at is) stands in
+    reply_as trace (opened h v) n line (IsOpenedBy (k + 1) u new.authors) (StandsForTrace new (n + 1)) also r (by k h v here)
   where
-    also : (t : TraceState) → IsOpened (k + 1) u t → StandsForTrace new (n + 1) t
-    also unopened x = absurd x
-    also (opened g y) x = (u, now, k + 1, omega (arith, counted), x)
+    also : (t : TraceState) → IsOpenedBy (k + 1) u new.authors t → StandsForTrace new (n + 1) t
+    also unopened x = absurd x.2
+    also (opened g y) x = (u, now, x.0, omega (arith, counted, x.1), x.2)
 
 -- the first line is answered
-pub header_taken : (old new : Tracing) (n : ℕ) (line : List ℕ) (r : Reply BadCause) → old.world ≡ None
+pub header_taken : (old new : Tracing) (n : ℕ) (line : List ℕ) (r : Reply BadCause) → old.world ≡ None → new.authors ≡ old.authors
     → IsReply (TakesTrace unopened n line) (EndsAt trace unopened n line) (IsOpenedIn new.world) r
     → (s : TraceState) → StandsForTrace old n s → IsReply (TakesTrace s n line) (EndsAt trace s n line) (StandsForTrace new (n + 1)) r
-header_taken old new n line r none by (opened h v) stands = absurd (no_world old.world stands.0 stands.1 none)
-header_taken old new n line r none by unopened stands = reply_as trace unopened n line (IsOpenedIn new.world) (StandsForTrace new (n + 1)) also r by
+header_taken old new n line r none same by (opened h v) stands = absurd (no_world old.world stands.0 stands.1 none)
+header_taken old new n line r none same by unopened stands = reply_as trace unopened n line (IsOpenedIn new.world) (StandsForTrace new (n + 1)) also r by
   where
     also : (t : TraceState) → IsOpenedIn new.world t → StandsForTrace new (n + 1) t
     also unopened x = absurd x.2
-    also (opened g y) x = (x.0, x.1, 0, omega (arith, stands.1), x.2)
+    also (opened g y) x = (x.0, x.1, 0, omega (arith, stands.2), subst (λ (o : Option Authors). IsUnderWay 0 x.0 o g y) (sym (same ∙ stands.1)) x.2)
+
+-- a world that a header opens
+pub opened_anew : (world : World) (h : HeaderView) → Stands 0 world h empty_state → IsUnderWay 0 world None h empty_state
+opened_anew world h stands = record { stands = stands; fit = begun_authors h; few = λ s. omega arith; kept = tt }
 
 -- the end of the input
 pub end_taken : (t : Tracing) (n : ℕ) (w : World) (r : Reply BadCause) → t.world ≡ Some w → IsTelling [] r

@@ -63,7 +63,10 @@ fn trace<S: Source, K: Sink>(alloc: Global, source: &mut S, sink: &mut K) -> Run
     ensures read_fault { result ≡ RunEnd.ReadFault → Rose (S.faults source.old) (S.faults source.new) }
     ensures write_fault { result ≡ RunEnd.WriteFault → Rose (K.faults sink.old) (K.faults sink.new) }
 {
-    let mut tracing = Tracing { world: None };
+    let mut tracing = Tracing {
+        world: None,
+        authors: None,
+    };
     answer_lines(alloc, &mut tracing, source, sink)
 }
 

@@ -6,6 +6,7 @@ mod command;
 mod compat;
 mod laws;
 mod reply;
+mod text;
 mod trace;
 mod work;
 

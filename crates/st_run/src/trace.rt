@@ -13,9 +13,11 @@ ghost use Rattle.st_world.specs.World.{IsNext};
 ghost use Rattle.st_answers.specs.Meaning.{EndsAt, FailsAt, FinishesAt};
 ghost use Rattle.st_answers.specs.Trace.{TraceState, TakesTrace, trace, unopened, opened};
 ghost use Rattle.st_run.specs.inside.Replies.{IsTelling};
-ghost use Rattle.st_run.specs.inside.Standing.{GoesOn, IsOpened, IsOpenedIn, IsStepReply, StandsForTrace};
+ghost use Rattle.st_run.specs.inside.Standing.{GoesOn, IsOpened, IsOpenedBy, IsOpenedIn, IsStepReply, IsUnderWay, StandsForTrace, TellsTexts};
 
 use crate::reply::{refuse, tell, tell_nothing};
+use crate::text::{entry_asked, tell_entry};
+use st_entry_texts::Authors;
 use st_ids::Or;
 use st_json::BadCause;
 use st_pieces::{Reply, Responder};
@@ -23,10 +25,12 @@ use st_plain::World;
 use st_script::{Answer, Line, TraceStep, answer_line, read_header as header_of, read_step_line};
 use std::alloc::{AllocError, Global};
 
-/// A trace that is answered: its world, once a header has opened one.
+/// A trace that is answered: its world, once a header has opened one, and what is kept of the authors of its log, once a text
+/// was asked for.
 #[derive(Drop)]
 pub struct Tracing {
     pub world: Option<World>,
+    pub authors: Option<Authors>,
 }
 
 // Makes a step of a world that isn't spent.
@@ -60,23 +64,48 @@ fn take_step(
     tell(alloc, &text)
 }
 
+// Answers a line that is no step.
+fn take_other(
+    alloc: Global,
+    world: &World,
+    authors: &mut Option<Authors>,
+    number: u32,
+    line: &[u8],
+    cause: BadCause,
+) -> Result<Reply<BadCause>, AllocError>
+    requires under_way { TellsTexts world.now authors.old }
+    requires no_step { step_of_line line.now ≡ Err cause }
+    ensures { IfOk result (λ r. (k : ℕ) (h : HeaderView) (w : WorldState) → IsUnderWay k world.now authors.old h w
+        → IsReply (TakesTrace (opened h w) number line.now) (EndsAt trace (opened h w) number line.now)
+        (IsOpened k world.now authors.new) r) }
+{
+    match entry_asked(alloc, line)? {
+        None => refuse(alloc, number, cause),
+        Some(n) => {
+            let text = tell_entry(alloc, world, authors, n)?;
+            tell(alloc, &text)
+        }
+    }
+}
+
 // Answers what a line was read as.
 fn take_read(
     alloc: Global,
     world: &mut World,
+    authors: &mut Option<Authors>,
     number: u32,
     line: &[u8],
     read: &Line,
 ) -> Result<Reply<BadCause>, AllocError>
-    requires goes { GoesOn world.old }
+    requires under_way { TellsTexts world.old authors.old }
     requires read { line_view read.now ≡ step_of_line line.now }
-    ensures { IfOk result (λ r. (k : ℕ) (h : HeaderView) (w : WorldState) → Stands k world.old h w
+    ensures { IfOk result (λ r. (k : ℕ) (h : HeaderView) (w : WorldState) → IsUnderWay k world.old authors.old h w
         → IsReply (TakesTrace (opened h w) number line.now) (EndsAt trace (opened h w) number line.now)
-        (IsOpened (k + 1) world.new) r) }
+        (IsOpenedBy (k + 1) world.new authors.new) r) }
 {
     match read {
         Line::Step(step) => take_step(alloc, world, step),
-        Line::Bad(cause) => refuse(alloc, number, *cause),
+        Line::Bad(cause) => take_other(alloc, world, authors, number, line, *cause),
     }
 }
 
@@ -84,16 +113,17 @@ fn take_read(
 fn take_line(
     alloc: Global,
     world: &mut World,
+    authors: &mut Option<Authors>,
     number: u32,
     line: &[u8],
 ) -> Result<Reply<BadCause>, AllocError>
-    requires goes { GoesOn world.old }
-    ensures { IfOk result (λ r. (k : ℕ) (h : HeaderView) (w : WorldState) → Stands k world.old h w
+    requires under_way { TellsTexts world.old authors.old }
+    ensures { IfOk result (λ r. (k : ℕ) (h : HeaderView) (w : WorldState) → IsUnderWay k world.old authors.old h w
         → IsReply (TakesTrace (opened h w) number line.now) (EndsAt trace (opened h w) number line.now)
-        (IsOpened (k + 1) world.new) r) }
+        (IsOpenedBy (k + 1) world.new authors.new) r) }
 {
     let read = read_step_line(alloc, line)?;
-    take_read(alloc, world, number, line, &read)
+    take_read(alloc, world, authors, number, line, &read)
 }
 
 // The world that a line opens.
@@ -156,7 +186,7 @@ impl Responder for Tracing {
         line: &[u8],
     ) -> Result<Reply<BadCause>, AllocError> {
         match &mut self.world {
-            Some(world) => take_line(alloc, world, number, line),
+            Some(world) => take_line(alloc, world, &mut self.authors, number, line),
             None => take_header(alloc, &mut self.world, number, line),
         }
     }

@@ -7,4 +7,4 @@ use Rattle.st_run.proofs.command.trace.Goals as goal
 pub returns-clause-carried : goal.returns-clause-carried
 returns-clause-carried g c =
     carried_out Trace (g.S.Source.left c.args.source.now) (g.S.Source.left c.answer_lines.new.source) (g.K.Sink.written c.args.sink.now)
-    (g.K.Sink.written c.answer_lines.new.sink) c.answer_lines.result (c.answer_lines.ensures.told unopened (refl, refl))
+    (g.K.Sink.written c.answer_lines.new.sink) c.answer_lines.result (c.answer_lines.ensures.told unopened (refl, refl, refl))
