@@ -1,6 +1,8 @@
 mod OneLoad
 mod OneRelation
 mod EachWorldGoesOn
+mod BothAlike
+mod OneMessage
 mod OneListOfAnswers
 mod OneRequest
 mod OneRun

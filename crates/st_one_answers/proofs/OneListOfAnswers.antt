@@ -1,18 +1,23 @@
 -- An input has one list of answers under a command.
-use Rattle.std.proofs.Common.{◌≡◌, ◌⊎◌, inl, inr, ℕ, ◌+◌, Bool, true, false, List, [], ◌∷◌, ◌++◌, append_assoc, append-nil, Result, Ok, Err, codes, length, refl, sym, ap, ◌∙◌, subst}
+use Rattle.std.proofs.lemmas.Option.{slice_get_within}
+use Rattle.std.proofs.Common.{◌≡◌, ◌⊎◌, inl, inr, arith, ◌<◌, ◌-◌, Option, Some, None, ℕ, ◌+◌, Bool, true, false, List, [], ◌∷◌, ◌++◌, append_assoc, append-nil, Result, Ok, Err, codes, length, refl, sym, ap, ◌∙◌, subst}
 use Rattle.st_json.specs.declared.fault.BadCause.{BadCause}
 use Rattle.st_compat.specs.RelationText.{relation_line}
 use Rattle.st_compat.specs.Relation.{IsRelation}
 use Rattle.st_compat.specs.SchemaLine.{IsSchemaLine}
 use Rattle.st_schema.specs.Schema.{SchemaView}
 use Rattle.st_lists.specs.Clients.{empty_state}
+use Rattle.st_lists.specs.declared.lists.Entry.{Entry}
 use Rattle.st_lists.specs.declared.lists.WorldState.{WorldState}
+use Rattle.st_marks.specs.Document.{Document}
+use Rattle.st_msg.specs.Messages.{MessageView}
+use Rattle.st_texts.specs.Texts.{IsMessageOf}
 use Rattle.st_script.specs.AnswerText.{answer_line}
 use Rattle.st_script.specs.Header.{HeaderView, header_line}
 use Rattle.st_script.proofs.Fits.{line_fits}
 use Rattle.st_script.proofs.OfForm.{header_line_kept}
 use Rattle.std.specs.List.{AllByRecursion}
-use Rattle.st_world.specs.World.{IsNext}
+use Rattle.st_world.specs.World.{IsNext, opening_document}
 use Rattle.st_world_laws.specs.Worlds.{IsWorld}
 use Rattle.st_world_laws.proofs.Going.{begun_sound}
 use Rattle.st_world_laws.proofs.Leading.{leads_on}
@@ -31,14 +36,17 @@ use Rattle.st_answers.specs.Compat.{CompatState, IsBadInCompat, TakesCompat, com
 use Rattle.st_answers.specs.Endings.{Output, bad_line, before, cut_short, ended, long_output}
 use Rattle.st_answers.specs.Meaning.{Meaning}
 use Rattle.st_answers.specs.Run.{NothingFailed}
-use Rattle.st_answers.specs.Trace.{IsBadInTrace, IsStep, TakesTrace, TraceState, opened, trace, unopened}
+use Rattle.st_answers.specs.Trace.{IsBadInTrace, IsEntryTold, IsNoEntry, IsStep, IsTextLine, TakesTrace, TraceState, entry_asked, message_line, opened, trace, unopened}
 use Rattle.st_answers.specs.declared.command.Command.{Command}
 use Rattle.st_answers.specs.declared.command.Command.TheVariants.{Trace, Compat, Algebra}
 use Rattle.st_answers.specs.declared.outcome.Outcome.TheVariants.{NoMemory}
-use Rattle.st_one_laws.specs.AlikeWorlds.{AreAlike}
+use Rattle.st_one_laws.specs.AlikeWorlds.{AlikeEntry, AreAlike, OneByOne}
+use Rattle.st_one_laws.proofs.OneByOne.{as_long}
 use Rattle.st_one_laws.proofs.StepsOfWorlds.{next_alike}
 use Rattle.st_one_answers.specs.StepAnswers.{AreAnswers, HasSoundSchema}
 use Rattle.st_one_answers.proofs.EachWorldGoesOn.{StepsGoOn, fits_rules, steps_go_on}
+use Rattle.st_one_answers.proofs.BothAlike.{logs_alike}
+use Rattle.st_one_answers.proofs.OneMessage.{message_one}
 use Rattle.st_one_answers.proofs.OneRelation.{line_one, relation_one}
 use Rattle.st_one_answers.proofs.OneRequest.{line_one as request_line_one}
 
@@ -151,6 +159,41 @@ step_one h w x u line a b s t sound p q y z =
       subst (λ (k : TraceState). AreOne k t) (sym y.state) (subst (λ (k : TraceState). AreOne (opened h y.world) k) (sym z.state) after),
     )
 
+-- ## Texts of entries
+
+-- an entry that has a message is there
+is_entry : (O : Document) (log : List Entry) (n : ℕ) (m : MessageView) → IsMessageOf O log n m → IsNoEntry log n → ⊥
+is_entry O log n m is (inl none) = omega (arith, is.counted, none)
+is_entry O log n m is (inr past) = omega (arith, slice_get_within log (n - 1) is.entry is.there, is.counted, past)
+
+entry_told_one : (O : Document) (es fs : List Entry) (n : ℕ) (a b : List ℕ) → OneByOne AlikeEntry es fs → IsEntryTold O es n a → IsEntryTold O fs n b → a ≡ b
+entry_told_one O es fs n a b o (inl y) (inl z) = y.1 ∙ sym z.1
+entry_told_one O es fs n a b o (inl y) (inr z) = absurd (is_entry O fs n z.0 z.1 (none_either es fs n (as_long AlikeEntry es fs o) y.0))
+  where
+    none_either : (es fs : List Entry) (n : ℕ) → length es ≡ length fs → IsNoEntry es n → IsNoEntry fs n
+    none_either es fs n same (inl none) = inl none
+    none_either es fs n same (inr past) = inr (omega (arith, same, past))
+entry_told_one O es fs n a b o (inr y) (inl z) = absurd (is_entry O es n y.0 y.1 (none_either es fs n (as_long AlikeEntry es fs o) z.0))
+  where
+    none_either : (es fs : List Entry) (n : ℕ) → length es ≡ length fs → IsNoEntry fs n → IsNoEntry es n
+    none_either es fs n same (inl none) = inl none
+    none_either es fs n same (inr past) = inr (omega (arith, same, past))
+entry_told_one O es fs n a b o (inr y) (inr z) = y.2 ∙ ap message_line (message_one O es fs n y.0 z.0 o y.1 z.1) ∙ sym z.2
+
+same_some : (o : Option ℕ) (x y : ℕ) → o ≡ Some x → o ≡ Some y → x ≡ y
+same_some o x y e f = let q : Some x ≡ Some y = sym e ∙ f in cc
+
+some_none : (o : Option ℕ) (x : ℕ) → o ≡ Some x → o ≡ None → ⊥
+some_none o x e f = let q : Some x ≡ None = sym e ∙ f in cc
+
+text_one : (h : HeaderView) (w x u : WorldState) (line a b : List ℕ) (s t : TraceState) → IsWorld h u → AreAlike w u → AreAlike x u → IsTextLine h w line a s → IsTextLine h x line b t → (a ≡ b) × AreOne s t
+text_one h w x u line a b s t sound p q y z =
+    let entry : y.entry ≡ z.entry = same_some (entry_asked line) y.entry z.entry y.asks z.asks in
+    let after : AreOne (opened h w) (opened h x) = (refl, u, sound, p, q) in (
+      entry_told_one (opening_document h) w.log x.log z.entry a b (logs_alike w x u p q) (subst (λ n. IsEntryTold (opening_document h) w.log n a) entry y.told) z.told,
+      subst (λ (k : TraceState). AreOne k t) (sym y.state) (subst (λ (k : TraceState). AreOne (opened h w) k) (sym z.state) after),
+    )
+
 trace_takes_one : (s t u v : TraceState) (n : ℕ) (line a b : List ℕ) → AreOne s t → TakesTrace s n line a u → TakesTrace t n line b v → (a ≡ b) × AreOne u v
 trace_takes_one unopened unopened u v n line a b k y z =
     let kept = header_line_kept (codes "trace") line z.header z.is in
@@ -161,26 +204,33 @@ trace_takes_one unopened unopened u v n line a b k y z =
     )
 trace_takes_one unopened (opened g x) u v n line a b k y z = absurd k
 trace_takes_one (opened h w) unopened u v n line a b k y z = absurd k
-trace_takes_one (opened h w) (opened g x) u v n line a b k y z =
-    step_one g w x k.1 line a b u v k.2 k.3 k.4 (subst (λ (i : HeaderView). IsStep i w line a u) k.0 y) z
+trace_takes_one (opened h w) (opened g x) u v n line a b k y z = lines_one (subst (λ (i : HeaderView). IsStep i w line a u ⊎ IsTextLine i w line a u) k.0 y) z
+  where
+    lines_one : IsStep g w line a u ⊎ IsTextLine g w line a u → IsStep g x line b v ⊎ IsTextLine g x line b v → (a ≡ b) × AreOne u v
+    lines_one (inl y) (inl z) = step_one g w x k.1 line a b u v k.2 k.3 k.4 y z
+    lines_one (inl y) (inr z) = absurd (both (step_of_line line) y.step z.cause y.is z.no_step)
+    lines_one (inr y) (inl z) = absurd (both (step_of_line line) z.step y.cause z.is y.no_step)
+    lines_one (inr y) (inr z) = text_one g w x k.1 line a b u v k.2 k.3 k.4 y z
 
 trace_apart : (s t u : TraceState) (n : ℕ) (line a : List ℕ) (c : BadCause) → AreOne s t → TakesTrace s n line a u → IsBadInTrace t line c → ⊥
 trace_apart unopened unopened u n line a c k y z = both (header_line (codes "trace") line) y.header c y.is z
 trace_apart unopened (opened g x) u n line a c k y z = k
 trace_apart (opened h w) unopened u n line a c k y z = k
-trace_apart (opened h w) (opened g x) u n line a c k y z = both (step_of_line line) y.step c y.is z
+trace_apart (opened h w) (opened g x) u n line a c k (inl y) z = both (step_of_line line) y.step c y.is z.0
+trace_apart (opened h w) (opened g x) u n line a c k (inr y) z = some_none (entry_asked line) y.entry y.asks z.1
 
 trace_other : (s t v : TraceState) (n : ℕ) (line b : List ℕ) (c : BadCause) → AreOne s t → IsBadInTrace s line c → TakesTrace t n line b v → ⊥
 trace_other unopened unopened v n line b c k y z = both (header_line (codes "trace") line) z.header c z.is y
 trace_other unopened (opened g x) v n line b c k y z = k
 trace_other (opened h w) unopened v n line b c k y z = k
-trace_other (opened h w) (opened g x) v n line b c k y z = both (step_of_line line) z.step c z.is y
+trace_other (opened h w) (opened g x) v n line b c k y (inl z) = both (step_of_line line) z.step c z.is y.0
+trace_other (opened h w) (opened g x) v n line b c k y (inr z) = some_none (entry_asked line) z.entry z.asks y.1
 
 trace_bad : (s t : TraceState) (line : List ℕ) (c e : BadCause) → AreOne s t → IsBadInTrace s line c → IsBadInTrace t line e → c ≡ e
 trace_bad unopened unopened line c e k y z = why_one (header_line (codes "trace") line) c e y z
 trace_bad unopened (opened g x) line c e k y z = absurd k
 trace_bad (opened h w) unopened line c e k y z = absurd k
-trace_bad (opened h w) (opened g x) line c e k y z = why_one (step_of_line line) c e y z
+trace_bad (opened h w) (opened g x) line c e k y z = why_one (step_of_line line) c e y.0 z.0
 
 trace_ends : (s t : TraceState) (a b : List ℕ) → AreOne s t → trace.Finishes s a → trace.Finishes t b → a ≡ b
 trace_ends unopened t a b k y z = absurd y
