@@ -45,7 +45,7 @@ use Rattle.st_schema_laws.specs.Widening.{AreWidening, BecomesWider, IsTextOf, I
 use Rattle.st_schema_laws.proofs.EditsInLine.{some_last}
 use Rattle.st_schema_laws.proofs.Widening.{type_becomes, widening_after, widening_begins}
 use Rattle.st_conform_laws.specs.Keeping.{KeepInTurn, KeepsTo, KeepsWhereBased}
-use Rattle.st_valid_laws.specs.Schema.{HasField}
+use Rattle.st_schema_laws.specs.Keeping.{HasField}
 use Rattle.st_conform_laws.specs.Nodes.{ConformsByNodes, IsUnder, MayStandIn, NodesConform, StandsKnown, StandsWell}
 use Rattle.st_marks.specs.Back.{IsBack}
 use Rattle.st_conform_laws.proofs.WaysBack.{back_keeps}

@@ -31,7 +31,7 @@ use Rattle.st_schema_laws.proofs.Rules.{required_not_row}
 use Rattle.st_schema_laws.specs.AgreeingInEffect.{Told}
 use Rattle.st_schema_laws.specs.Widening.{BecomesWider, no_change}
 use Rattle.st_schema_laws.proofs.Widening.{type_becomes}
-use Rattle.st_valid_laws.specs.Schema.{GoesWell, HasField}
+use Rattle.st_schema_laws.specs.Keeping.{GoesWell, HasField}
 use Rattle.st_conform_laws.specs.Keeping.{KeepsTo}
 use Rattle.st_conform_laws.specs.Nodes.{IsUnder, MayStandIn, NodesConform, StandsKnown, StandsWell}
 use Rattle.st_conform_laws.proofs.WiderSchemas.{TakesMore, becomes_on, field_becomes, field_was}

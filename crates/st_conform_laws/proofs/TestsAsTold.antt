@@ -37,7 +37,7 @@ use Rattle.st_edits.specs.InEffect.{empty_schema}
 use Rattle.st_schema_laws.proofs.Entries.{entries_from}
 use Rattle.st_schema_laws.proofs.Texts.{schema_text}
 use Rattle.st_conform_laws.specs.Keeping.{KeepsTo}
-use Rattle.st_valid_laws.specs.Schema.{IsUpTo, IsViewOf, KeepsToSchema, Made, MayLeave, commit_named, home_of, made_of}
+use Rattle.st_schema_laws.specs.Keeping.{IsUpTo, IsViewOf, KeepsToSchema, Made, MayLeave, commit_named, home_of, made_of}
 use Rattle.st_conform_laws.specs.Telling.{IsToldBy, schema_read}
 use Rattle.st_conform_laws.proofs.NodesThatConform.{known_old_or_new}
 use Rattle.st_conform_laws.proofs.FrontsOfSchemas.{fronts_are_lines}

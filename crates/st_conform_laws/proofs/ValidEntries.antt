@@ -36,7 +36,7 @@ use Rattle.st_schema_laws.specs.AgreeingInEffect.{Told}
 use Rattle.st_edits.specs.InEffect.{empty_schema, last_in_effect, schema_in_effect}
 use Rattle.st_schema_laws.specs.Widening.{IsTextOf, IsUpgrade}
 use Rattle.st_schema_laws.proofs.Texts.{schema_text}
-use Rattle.st_valid_laws.specs.Schema.{KeepsToSchema, MayFollow, PassesSchema}
+use Rattle.st_schema_laws.specs.Keeping.{KeepsToSchema, MayFollow, PassesSchema}
 use Rattle.st_conform_laws.specs.Entries.{AreValidEntries, IsOpened, IsValidEntry, no_entries, one_entry_more}
 use Rattle.st_conform_laws.specs.Keeping.{KeepsTo}
 use Rattle.st_conform_laws.specs.Logs.{AreValid, HasHomes, IsValidAfter, none_yet, one_more}

@@ -27,7 +27,7 @@ use Rattle.st_schema_laws.proofs.Kept.{known_later, named_later, one_rule, requi
 use Rattle.st_schema_laws.specs.AgreeingInEffect.{Told}
 use Rattle.st_schema_laws.specs.Widening.{BecomesWider}
 use Rattle.st_schema_laws.proofs.Widening.{type_becomes}
-use Rattle.st_valid_laws.specs.Schema.{GoesWell}
+use Rattle.st_schema_laws.specs.Keeping.{GoesWell}
 use Rattle.st_conform_laws.specs.Keeping.{KeepsTo}
 use Rattle.st_conform_laws.specs.Nodes.{IsUnder, NodesConform, StandsKnown, StandsWell}
 use Rattle.st_conform_laws.proofs.NodesThatConform.{has_field_wider, known_old_or_new, known_stands_later, may_stand_later, old_not_new, required_was, stands_later}

@@ -4,7 +4,7 @@ ghost use Rattle.std.specs.Prelude.{◌≡◌, ◌∷◌, ◌++◌, [], Some, Li
 ghost use Rattle.serde_json.specs.Data.{Data};
 ghost use Rattle.st_conform_laws.specs.Entries.{AreValidEntries, IsOpened};
 ghost use Rattle.st_conform_laws.specs.Keeping.{KeepInTurn, KeepsTo, KeepsWhereBased};
-ghost use Rattle.st_valid_laws.specs.Schema.{IsUpTo, IsViewOf, KeepsToSchema};
+ghost use Rattle.st_schema_laws.specs.Keeping.{IsUpTo, IsViewOf, KeepsToSchema};
 ghost use Rattle.st_conform_laws.specs.Logs.{AreOwnAfter, AreValid, HasHomes, IsValidAfter};
 ghost use Rattle.st_conform_laws.specs.Nodes.{ConformsByNodes, NodesConform};
 ghost use Rattle.st_conform_laws.specs.Telling.{AreUnderThese, IsToldBy, TellAlike, schema_read, told_of};

@@ -2,7 +2,9 @@
 ghost use Rattle.std.specs.List.{list_any};
 ghost use Rattle.std.specs.Prelude.{◌≡◌, ◌==◌, ℕ, List as Seq, [], is_some};
 ghost use Rattle.st_ledger.specs.Stands.{StandsFor};
-ghost use Rattle.st_lists.specs.Log.{is_connected, known_reference};
+ghost use Rattle.st_clusters.specs.Ids.{ids_of};
+ghost use Rattle.st_clusters.specs.Log.{IsTableOf};
+ghost use Rattle.st_lists.specs.Log.{is_connected, known_reference, ranges_in};
 ghost use Rattle.st_lists.specs.declared.lists.Entry.{Entry};
 ghost use Rattle.st_valid.specs.Ids.{carried_in};
 
@@ -43,6 +45,14 @@ impl Ledger {
             names: 0,
             revisions: BTreeMap::new(alloc),
         }
+    }
+
+    /// The table of the log's ids.
+    pub fn ids(&self) -> &Compressor
+        ensures { (log : Seq Entry) → StandsFor self.now log
+            → IsTableOf (ranges_in log) (ids_of result.now) }
+    {
+        &self.ids
     }
 
     #[tactic(auto, using(crate::proofs::CarriedIds::connected_of_ledger))]

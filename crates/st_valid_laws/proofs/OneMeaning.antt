@@ -28,7 +28,8 @@ use Rattle.st_edits.specs.Resolve.{rule_at}
 use Rattle.st_lists.specs.Log.{commits_in}
 use Rattle.st_lists.specs.declared.lists.Entry.{Entry}
 use Rattle.st_valid.specs.Context.{AuthorsIntent}
-use Rattle.st_valid_laws.specs.Schema.{GoesWell, HasField, HasRoomForSchema, IsUpTo, IsViewOf, KeepsInContext, KeepsToSchema, MayFollow, MayLeave, PassesSchema}
+use Rattle.st_schema_laws.specs.Keeping.{GoesWell, HasField, HasRoomForSchema, IsUpTo, IsViewOf, KeepsToSchema, MayFollow, MayLeave, PassesSchema}
+use Rattle.st_valid_laws.specs.Schema.{KeepsInContext}
 
 -- ## Fields
 
