@@ -8,7 +8,7 @@ ghost use Rattle.st_marks.specs.Document.{last_of, revs};
 use crate::doc::Doc;
 use crate::live::is_full;
 use crate::rows::cells_of;
-use st_ids::{FieldId, NodeId, Rev, Text};
+use st_ids::{CellId, FieldId, NodeId, Rev, Text};
 use st_marks::{SchemaEntry, Slot, Spot};
 
 // The revision of the last entry.
@@ -42,6 +42,13 @@ impl Doc {
         ensures { result ≡ (document_of self.now).held field.now }
     {
         self.held.get(field).copied()
+    }
+
+    /// The node in whose row a cell is, if it is in one.
+    pub fn row_of(&self, cell: CellId) -> Option<NodeId>
+        ensures { result ≡ (document_of self.now).row_of cell }
+    {
+        self.row_of.get(&cell).copied()
     }
 
     /// The revision of the last schema entry in effect, if there is one.

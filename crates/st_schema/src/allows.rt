@@ -17,8 +17,8 @@ use crate::schema::{Schema, declared_field};
 use st_ids::{Key, Leaf, List, Text};
 use st_tree::{Field, Tree};
 
-// The type of a leaf with this value.
-pub(crate) fn leaf_type(leaf: &Leaf) -> &'static str
+/// The type of a leaf with this value: `null`, `bool`, `int` or `text`.
+pub fn leaf_type(leaf: &Leaf) -> &'static str
     ensures { result.now ≡ leaf_type leaf.now }
 {
     match leaf {

@@ -14,7 +14,7 @@ mod tree_text;
 mod tree_write;
 mod upgrade;
 
-pub use allows::allowed_has_form;
+pub use allows::{allowed_has_form, leaf_type};
 pub use header::Header;
 pub use names::{FieldDef, FieldRule, Form, KindName, NotAllowed, NotWider};
 pub use schema::Schema;
