@@ -31,7 +31,8 @@ use Rattle.st_log_laws.specs.Turns.{FitInTurn}
 use Rattle.st_log_laws.proofs.Names.{made_after}
 use Rattle.st_edits.specs.Paths.{field_at}
 use Rattle.st_edits.specs.Resolve.{has_type, rule_at}
-use Rattle.st_schema_laws.specs.Conforming.{IsConforming, MayStand, is_required_field, row_key, type_fits}
+use Rattle.st_edits.specs.Fields.{is_required_field, row_key, type_fits}
+use Rattle.st_schema_laws.specs.Conforming.{IsConforming, MayStand}
 use Rattle.st_schema_laws.proofs.Kept.{one_rule as one_rule_of, required_rule}
 use Rattle.st_schema_laws.proofs.Rules.{required_not_row}
 use Rattle.st_part_laws.specs.Chains.{AreInLine}
@@ -45,7 +46,7 @@ use Rattle.st_schema_laws.specs.Widening.{AreWidening, BecomesWider, IsTextOf, I
 use Rattle.st_schema_laws.proofs.EditsInLine.{some_last}
 use Rattle.st_schema_laws.proofs.Widening.{type_becomes, widening_after, widening_begins}
 use Rattle.st_conform_laws.specs.Keeping.{KeepInTurn, KeepsTo, KeepsWhereBased}
-use Rattle.st_schema_laws.specs.Keeping.{HasField}
+use Rattle.st_edits.specs.Keeping.{HasField}
 use Rattle.st_conform_laws.specs.Nodes.{ConformsByNodes, IsUnder, MayStandIn, NodesConform, StandsKnown, StandsWell}
 use Rattle.st_marks.specs.Back.{IsBack}
 use Rattle.st_conform_laws.proofs.WaysBack.{back_keeps}

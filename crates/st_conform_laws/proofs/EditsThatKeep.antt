@@ -31,7 +31,8 @@ use Rattle.st_edits.proofs.MoveFits.{CellsFresh}
 use Rattle.st_edits.proofs.NewFits.{NodesFresh}
 use Rattle.st_edits.proofs.Resolved.{resolved_fits}
 use Rattle.st_schema_laws.specs.Agreeing.{KeepsSchema, TellsHomes}
-use Rattle.st_schema_laws.specs.Conforming.{Admits, IsConforming, IsFree, MayStand, is_required_field, row_key}
+use Rattle.st_edits.specs.Fields.{is_required_field, row_key}
+use Rattle.st_schema_laws.specs.Conforming.{Admits, IsConforming, IsFree, MayStand}
 use Rattle.st_schema_laws.proofs.Kept.{named_later, required_later}
 use Rattle.st_schema_laws.proofs.Resolved.{resolved_agrees}
 use Rattle.st_schema_laws.proofs.Rules.{required_not_row}

@@ -24,14 +24,14 @@ use Rattle.st_marks.proofs.Lookups.{has-put_in, put-has, put_clears}
 use Rattle.st_log_laws.proofs.Names.{new_node_rev}
 use Rattle.st_edits.specs.Paths.{field_at}
 use Rattle.st_edits.specs.Resolve.{has_type, rule_at}
-use Rattle.st_schema_laws.specs.Agreeing.{TellsHomes, put_register}
-use Rattle.st_schema_laws.specs.Conforming.{is_required_field, row_key, type_fits}
+use Rattle.st_edits.specs.Fields.{put_register, is_required_field, row_key, type_fits}
+use Rattle.st_schema_laws.specs.Agreeing.{TellsHomes}
 use Rattle.st_schema_laws.proofs.Kept.{HasNodes, known_later, named_later, one_rule, required_by, required_later, required_rule, rule_later, type_later}
 use Rattle.st_schema_laws.proofs.Rules.{required_not_row}
 use Rattle.st_schema_laws.specs.AgreeingInEffect.{Told}
 use Rattle.st_schema_laws.specs.Widening.{BecomesWider, no_change}
 use Rattle.st_schema_laws.proofs.Widening.{type_becomes}
-use Rattle.st_schema_laws.specs.Keeping.{GoesWell, HasField}
+use Rattle.st_edits.specs.Keeping.{GoesWell, HasField}
 use Rattle.st_conform_laws.specs.Keeping.{KeepsTo}
 use Rattle.st_conform_laws.specs.Nodes.{IsUnder, MayStandIn, NodesConform, StandsKnown, StandsWell}
 use Rattle.st_conform_laws.proofs.WiderSchemas.{TakesMore, becomes_on, field_becomes, field_was}

@@ -25,7 +25,8 @@ use Rattle.st_marks.specs.LiveTree.{Shows}
 use Rattle.st_edits.specs.ArrayTypes.{is_array_type}
 use Rattle.st_edits.specs.Paths.{field_at}
 use Rattle.st_edits.specs.Resolve.{has_type, rule_at}
-use Rattle.st_schema_laws.specs.Conforming.{Admits, IsConforming, MayStand, register_in, row_key, type_fits}
+use Rattle.st_edits.specs.Fields.{register_in, row_key, type_fits}
+use Rattle.st_schema_laws.specs.Conforming.{Admits, IsConforming, MayStand}
 use Rattle.st_schema_laws.proofs.Rules.{required_not_row}
 use Rattle.st_schema_laws.proofs.ShownTree.{shown_conforms}
 use Rattle.st_part_laws.specs.Parts.{IsClosedBy, part_by}

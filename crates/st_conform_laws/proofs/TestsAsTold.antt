@@ -29,15 +29,14 @@ use Rattle.st_log_laws.specs.Names.{HaveNewRevisions, IsMadeUnder}
 use Rattle.st_log_laws.specs.Turns.{FitInTurn, IsSublist}
 use Rattle.st_log_laws.proofs.Names.{if_carried, new_node_rev}
 use Rattle.st_log_laws.proofs.Shorter.{has_longer}
-use Rattle.st_schema_laws.specs.Agreeing.{put_register}
-use Rattle.st_schema_laws.specs.Conforming.{is_required_field, register_in}
+use Rattle.st_edits.specs.Fields.{put_register, is_required_field, register_in}
 use Rattle.st_part_laws.specs.Chains.{TellsChain}
 use Rattle.st_schema_laws.specs.AgreeingInEffect.{Told}
 use Rattle.st_edits.specs.InEffect.{empty_schema}
 use Rattle.st_schema_laws.proofs.Entries.{entries_from}
 use Rattle.st_schema_laws.proofs.Texts.{schema_text}
 use Rattle.st_conform_laws.specs.Keeping.{KeepsTo}
-use Rattle.st_schema_laws.specs.Keeping.{IsUpTo, IsViewOf, KeepsToSchema, Made, MayLeave, commit_named, home_of, made_of}
+use Rattle.st_edits.specs.Keeping.{IsUpTo, IsViewOf, KeepsToSchema, Made, MayLeave, commit_named, home_of, made_of}
 use Rattle.st_conform_laws.specs.Telling.{IsToldBy, schema_read}
 use Rattle.st_conform_laws.proofs.NodesThatConform.{known_old_or_new}
 use Rattle.st_conform_laws.proofs.FrontsOfSchemas.{fronts_are_lines}

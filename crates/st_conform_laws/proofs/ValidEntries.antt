@@ -31,12 +31,13 @@ use Rattle.st_marks.proofs.Members.{append_left, append_right, has-all, has-appe
 use Rattle.st_log_laws.specs.Names.{HaveNewRevisions, revisions}
 use Rattle.st_log_laws.specs.Turns.{FitInTurn, HasRoom}
 use Rattle.st_log_laws.proofs.Shorter.{new_shorter}
-use Rattle.st_schema_laws.specs.Conforming.{Admits, IsConforming, MayStand, register_in, row_key}
+use Rattle.st_edits.specs.Fields.{register_in, row_key}
+use Rattle.st_schema_laws.specs.Conforming.{Admits, IsConforming, MayStand}
 use Rattle.st_schema_laws.specs.AgreeingInEffect.{Told}
 use Rattle.st_edits.specs.InEffect.{empty_schema, last_in_effect, schema_in_effect}
 use Rattle.st_schema_laws.specs.Widening.{IsTextOf, IsUpgrade}
 use Rattle.st_schema_laws.proofs.Texts.{schema_text}
-use Rattle.st_schema_laws.specs.Keeping.{KeepsToSchema, MayFollow, PassesSchema}
+use Rattle.st_edits.specs.Keeping.{KeepsToSchema, MayFollow, PassesSchema}
 use Rattle.st_conform_laws.specs.Entries.{AreValidEntries, IsOpened, IsValidEntry, no_entries, one_entry_more}
 use Rattle.st_conform_laws.specs.Keeping.{KeepsTo}
 use Rattle.st_conform_laws.specs.Logs.{AreValid, HasHomes, IsValidAfter, none_yet, one_more}

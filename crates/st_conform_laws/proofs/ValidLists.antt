@@ -27,7 +27,8 @@ use Rattle.st_log_laws.proofs.Beside.{later_fits, names_later}
 use Rattle.st_log_laws.proofs.Names.{if_carried}
 use Rattle.st_log_laws.proofs.Shorter.{has_longer, new_shorter, room_shorter, sublist_itself, sublist_joined, sublist_on}
 use Rattle.st_log_laws.proofs.Turns.{has_run, made_in_run, rest, turn_extends}
-use Rattle.st_schema_laws.specs.Agreeing.{TellsHomes, put_register}
+use Rattle.st_edits.specs.Fields.{put_register}
+use Rattle.st_schema_laws.specs.Agreeing.{TellsHomes}
 use Rattle.st_schema_laws.proofs.Kept.{known_later, named_later}
 use Rattle.st_part_laws.specs.Schemas.{schemas_after}
 use Rattle.st_part_laws.specs.Turns.{ComesFirst}

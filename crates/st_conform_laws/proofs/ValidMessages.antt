@@ -15,7 +15,7 @@ use Rattle.st_valid.specs.declared.message.Message.{Message}
 use Rattle.st_valid.specs.declared.message.ReplayCause.TheVariants as cause
 use Rattle.st_valid.proofs.AuthorsLists.{author_among}
 use Rattle.st_valid_laws.specs.Messages.{IsValid, IsValidLog, no_message, one_message_more}
-use Rattle.st_schema_laws.specs.Keeping.{PassesSchema}
+use Rattle.st_edits.specs.Keeping.{PassesSchema}
 use Rattle.st_valid_laws.specs.Schema.{SaysBySchema}
 use Rattle.st_valid_laws.proofs.Standing.{AllStand, Stands, all_stand, author_stands, context}
 use Rattle.st_valid_laws.proofs.ValidLogs.{IsCommit, commit_entered, commit_or_none, no_commit_entered}

@@ -22,12 +22,12 @@ use Rattle.st_marks.proofs.Climb.{unknown_nowhere}
 use Rattle.st_marks.proofs.Lookups.{has-put_in, put-has, put_clears, put_in-has}
 use Rattle.st_marks.proofs.Retreat.{retreat_sound}
 use Rattle.st_log_laws.proofs.Names.{new_node_rev}
-use Rattle.st_schema_laws.specs.Conforming.{is_required_field, row_key}
+use Rattle.st_edits.specs.Fields.{is_required_field, row_key}
 use Rattle.st_schema_laws.proofs.Kept.{known_later, named_later, one_rule, required_later, required_rule}
 use Rattle.st_schema_laws.specs.AgreeingInEffect.{Told}
 use Rattle.st_schema_laws.specs.Widening.{BecomesWider}
 use Rattle.st_schema_laws.proofs.Widening.{type_becomes}
-use Rattle.st_schema_laws.specs.Keeping.{GoesWell}
+use Rattle.st_edits.specs.Keeping.{GoesWell}
 use Rattle.st_conform_laws.specs.Keeping.{KeepsTo}
 use Rattle.st_conform_laws.specs.Nodes.{IsUnder, NodesConform, StandsKnown, StandsWell}
 use Rattle.st_conform_laws.proofs.NodesThatConform.{has_field_wider, known_old_or_new, known_stands_later, may_stand_later, old_not_new, required_was, stands_later}

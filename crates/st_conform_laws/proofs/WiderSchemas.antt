@@ -5,7 +5,7 @@ use Rattle.st_schema.specs.Kind.{is_required, is_row, is_single_kind}
 use Rattle.st_schema.specs.Schema.{SchemaView, field_of, is_among}
 use Rattle.st_schema.specs.declared.names.FieldRule.{FieldRule}
 use Rattle.st_schema.proofs.MoreTrees.{among_all}
-use Rattle.st_schema_laws.specs.Conforming.{type_fits}
+use Rattle.st_edits.specs.Fields.{type_fits}
 use Rattle.st_schema_laws.proofs.Wider.{field_before, field_wider, parts}
 use Rattle.st_schema_laws.specs.Widening.{BecomesWider, no_change, one_change}
 use Rattle.st_schema_laws.proofs.Widening.{type_becomes}

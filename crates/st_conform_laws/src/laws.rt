@@ -4,7 +4,7 @@ ghost use Rattle.std.specs.Prelude.{◌≡◌, ◌∷◌, ◌++◌, [], Some, Li
 ghost use Rattle.serde_json.specs.Data.{Data};
 ghost use Rattle.st_conform_laws.specs.Entries.{AreValidEntries, IsOpened};
 ghost use Rattle.st_conform_laws.specs.Keeping.{KeepInTurn, KeepsTo, KeepsWhereBased};
-ghost use Rattle.st_schema_laws.specs.Keeping.{IsUpTo, IsViewOf, KeepsToSchema};
+ghost use Rattle.st_edits.specs.Keeping.{IsUpTo, IsViewOf, KeepsToSchema};
 ghost use Rattle.st_conform_laws.specs.Logs.{AreOwnAfter, AreValid, HasHomes, IsValidAfter};
 ghost use Rattle.st_conform_laws.specs.Nodes.{ConformsByNodes, NodesConform};
 ghost use Rattle.st_conform_laws.specs.Telling.{AreUnderThese, IsToldBy, TellAlike, schema_read, told_of};
@@ -39,7 +39,8 @@ ghost use Rattle.st_schema.specs.Conforms.{conforms};
 ghost use Rattle.st_schema.specs.Schema.{SchemaView, is_sound};
 ghost use Rattle.st_schema.specs.TreeText.{tree_data};
 ghost use Rattle.st_schema_laws.specs.Agreeing.{TellsHomes};
-ghost use Rattle.st_schema_laws.specs.Conforming.{IsConforming, register_in};
+ghost use Rattle.st_edits.specs.Fields.{register_in};
+ghost use Rattle.st_schema_laws.specs.Conforming.{IsConforming};
 ghost use Rattle.st_tree.specs.Node.{Node};
 ghost use Rattle.st_tree.specs.Preorder.{cell_named, node_named};
 ghost use Rattle.st_tree.specs.declared.edit.Edit.{Edit};

@@ -4,3 +4,5 @@ pub mod New
 pub mod Resolve
 pub mod Given
 pub mod InEffect
+pub mod Fields
+pub mod Keeping

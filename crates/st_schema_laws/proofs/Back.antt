@@ -17,7 +17,8 @@ use Rattle.st_marks.proofs.Climb.{same_spot, unknown_nowhere}
 use Rattle.st_marks.proofs.Lookups.{put-has, has-put_in}
 use Rattle.st_marks.proofs.Retreat.{retreat_sound}
 use Rattle.st_schema.specs.Kind.{is_row, is_single_kind}
-use Rattle.st_schema_laws.specs.Conforming.{MayStand, IsConforming, IsFree, row_key, is_required_field}
+use Rattle.st_edits.specs.Fields.{row_key, is_required_field}
+use Rattle.st_schema_laws.specs.Conforming.{MayStand, IsConforming, IsFree}
 use Rattle.st_schema_laws.specs.Agreeing.{KeepsSchema, MayGo, MayBeLeft}
 use Rattle.st_schema_laws.proofs.Kept.{required_later, known_later, free_later, admits_later, stands_later, named_later, required_rule}
 use Rattle.st_schema_laws.proofs.Rules.{required_not_row}

@@ -32,7 +32,8 @@ use Rattle.st_log_laws.specs.Names.{HasNames, IsMadeUnder}
 use Rattle.st_log_laws.specs.Turns.{FitInTurn}
 use Rattle.st_log_laws.proofs.Names.{made_after, names_itself, new_node_rev}
 use Rattle.st_schema_laws.specs.Agreeing.{KeepsSchema}
-use Rattle.st_schema_laws.specs.Conforming.{Admits, IsConforming, MayStand, row_key, type_fits}
+use Rattle.st_edits.specs.Fields.{row_key, type_fits}
+use Rattle.st_schema_laws.specs.Conforming.{Admits, IsConforming, MayStand}
 use Rattle.st_schema_laws.proofs.Elsewhere.{agrees_there}
 use Rattle.st_schema_laws.proofs.Kept.{carried_conforms}
 use Rattle.st_schema_laws.proofs.Wider.{conforms_wider}

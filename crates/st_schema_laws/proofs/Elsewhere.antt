@@ -14,7 +14,7 @@ use Rattle.st_marks.specs.Intent.{new_type, is_new, new_row_of}
 use Rattle.st_marks.specs.CarryOut.{with_names}
 use Rattle.st_edits.specs.Resolve.{rule_at}
 use Rattle.st_schema.specs.Kind.{is_row, is_single_kind}
-use Rattle.st_schema_laws.specs.Conforming.{row_key}
+use Rattle.st_edits.specs.Fields.{row_key}
 use Rattle.st_schema_laws.specs.Agreeing.{KeepsSchema, MayGo, MayBeLeft}
 use Rattle.st_schema_laws.proofs.Kept.{HasNodes, admits_later, required_later, known_later}
 

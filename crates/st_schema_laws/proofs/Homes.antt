@@ -12,7 +12,8 @@ use Rattle.st_marks.specs.Document.{Document, IsSoundInForm, owned_cell}
 use Rattle.st_marks.specs.Intent.{is_new, put_of}
 use Rattle.st_marks.specs.CarryOut.{with_names}
 use Rattle.st_schema.specs.Kind.{is_row, is_single_kind}
-use Rattle.st_schema_laws.specs.Conforming.{Admits, MayStand, IsConforming, row_key}
+use Rattle.st_edits.specs.Fields.{row_key}
+use Rattle.st_schema_laws.specs.Conforming.{Admits, MayStand, IsConforming}
 use Rattle.st_schema_laws.specs.Agreeing.{KeepsSchema, MayGo, TellsHomes, with_homes}
 use Rattle.st_lemmas.proofs.Bools.{true-false}
 

@@ -14,7 +14,7 @@ use Rattle.st_marks.specs.CarryOut.{full, with_names}
 use Rattle.st_marks.specs.Join.{AreParts, IsJoin}
 use Rattle.st_marks.proofs.Joined.{joined_in_turn}
 use Rattle.st_schema.specs.Kind.{is_required}
-use Rattle.st_schema_laws.specs.Conforming.{is_required_field}
+use Rattle.st_edits.specs.Fields.{is_required_field}
 use Rattle.st_schema_laws.proofs.Kept.{HasNodes, named_later}
 use Rattle.st_lemmas.proofs.Bools.{true-false}
 

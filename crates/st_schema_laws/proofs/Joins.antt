@@ -18,7 +18,8 @@ use Rattle.st_marks.proofs.NewRows.{known_after}
 use Rattle.st_edits.specs.Paths.{field_at}
 use Rattle.st_edits.specs.Resolve.{rule_at}
 use Rattle.st_schema.specs.Kind.{is_required, is_row, is_single_kind}
-use Rattle.st_schema_laws.specs.Conforming.{Admits, IsConforming, row_key, type_fits, is_required_field}
+use Rattle.st_edits.specs.Fields.{row_key, type_fits, is_required_field}
+use Rattle.st_schema_laws.specs.Conforming.{Admits, IsConforming}
 use Rattle.st_schema_laws.specs.Agreeing.{KeepsSchema, MayGo, MayBeLeft}
 use Rattle.st_schema_laws.proofs.Kept.{required_later, known_later, admits_later, required_by}
 use Rattle.st_lemmas.proofs.Bools.{or-cases, true-false}

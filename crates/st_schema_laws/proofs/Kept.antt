@@ -19,7 +19,8 @@ use Rattle.st_marks.specs.Verdict.{carried_document}
 use Rattle.st_edits.specs.Paths.{field_at}
 use Rattle.st_edits.specs.Resolve.{rule_at, has_type}
 use Rattle.st_schema.specs.Kind.{is_required, is_row, is_single_kind}
-use Rattle.st_schema_laws.specs.Conforming.{Admits, MayStand, IsConforming, IsFree, row_key, type_fits, is_required_field}
+use Rattle.st_edits.specs.Fields.{row_key, type_fits, is_required_field}
+use Rattle.st_schema_laws.specs.Conforming.{Admits, MayStand, IsConforming, IsFree}
 use Rattle.st_schema_laws.specs.Agreeing.{KeepsSchema, MayGo}
 use Rattle.st_lemmas.proofs.Bools.{true-false}
 

@@ -26,7 +26,7 @@ use Rattle.st_schema.specs.declared.names.KindName.TheVariants.{Optional, Sequen
 use Rattle.st_marks.proofs.Members.{first-has, has-append, append_left, append_right}
 use Rattle.st_edits.specs.Paths.{field_at}
 use Rattle.st_schema.specs.Kind.{is_required, is_row, is_single_kind}
-use Rattle.st_schema_laws.specs.Conforming.{type_fits, row_key}
+use Rattle.st_edits.specs.Fields.{type_fits, row_key}
 use Rattle.st_schema_laws.proofs.Rules.{declared_single, leaf_undefined}
 use Rattle.st_lemmas.proofs.Lists.{length-zero}
 use Rattle.st_schema.proofs.AllowedForm.{all-parts}

@@ -41,7 +41,7 @@ use Rattle.st_edits.proofs.Fits.{passed, ruled}
 use Rattle.st_edits.proofs.MoveFits.{CellsFresh}
 use Rattle.st_edits.proofs.NewFits.{NodesFresh, insert_fits, put_fits, items_form, with_group-Some, are_allowed}
 use Rattle.st_edits.proofs.Numbered.{IsArray, IsUnderArray, tops_rows}
-use Rattle.st_schema_laws.specs.Conforming.{row_key, type_fits}
+use Rattle.st_edits.specs.Fields.{row_key, type_fits}
 use Rattle.st_schema_laws.specs.Agreeing.{KeepsSchema, MayGo, MayBeLeft, TellsHomes}
 use Rattle.st_schema_laws.proofs.Kept.{rule_later, named_later}
 use Rattle.st_schema_laws.proofs.Rules.{required_not_row, row_of_array}

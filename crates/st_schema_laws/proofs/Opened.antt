@@ -25,7 +25,8 @@ use Rattle.st_opening.specs.Start.{first_said, type_at, spot_at, place_at, held_
 use Rattle.st_edits.specs.Paths.{field_at}
 use Rattle.st_edits.specs.Resolve.{rule_at, has_type}
 use Rattle.st_schema.specs.Kind.{is_required, is_row, is_single_kind}
-use Rattle.st_schema_laws.specs.Conforming.{MayStand, IsConforming, row_key, type_fits, register_in}
+use Rattle.st_edits.specs.Fields.{row_key, type_fits, register_in}
+use Rattle.st_schema_laws.specs.Conforming.{MayStand, IsConforming}
 use Rattle.st_schema_laws.proofs.Rules.{required_not_row}
 use Rattle.st_schema_laws.proofs.NewTrees.{no_home, one_home}
 use Rattle.st_schema_laws.proofs.Simple.{rule_there}

@@ -32,7 +32,8 @@ use Rattle.st_marks.proofs.Members.{has-map}
 use Rattle.st_edits.specs.Resolve.{rule_at, has_type}
 use Rattle.st_schema.specs.Kind.{is_required, is_row, is_single_kind}
 use Rattle.st_ids.proofs.Orders.{same_cell-true, bytes-itself}
-use Rattle.st_schema_laws.specs.Conforming.{Admits, MayStand, IsConforming, row_key}
+use Rattle.st_edits.specs.Fields.{row_key}
+use Rattle.st_schema_laws.specs.Conforming.{Admits, MayStand, IsConforming}
 use Rattle.st_edits.specs.ArrayTypes.{is_array_form, is_array_type}
 use Rattle.st_schema_laws.proofs.Rules.{rising_defs}
 use Rattle.st_schema.proofs.MoreTrees.{all-append}

@@ -36,7 +36,8 @@ use Rattle.st_edits.specs.declared.names.NameCounters.{NameCounters}
 use Rattle.st_edits.specs.declared.names.Takes.TheVariants as field
 use Rattle.st_edits.proofs.Fits.{passed, or_refuse-Ok, shown, ruled, optional_single}
 use Rattle.st_edits.proofs.MoveFits.{CellsFresh, move_fits}
-use Rattle.st_schema_laws.specs.Conforming.{Admits, MayStand, IsConforming, IsFree, row_key}
+use Rattle.st_edits.specs.Fields.{row_key}
+use Rattle.st_schema_laws.specs.Conforming.{Admits, MayStand, IsConforming, IsFree}
 use Rattle.st_schema_laws.specs.Agreeing.{KeepsSchema, MayGo, MayBeLeft}
 use Rattle.st_schema_laws.proofs.Kept.{rule_later, type_later, free_later, named_later, one_rule}
 use Rattle.st_schema_laws.proofs.Rules.{required_not_row, required_not_optional, row_of_array}

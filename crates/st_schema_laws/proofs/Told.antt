@@ -20,7 +20,8 @@ use Rattle.st_log_laws.specs.Names.{IsMadeUnder, revisions}
 use Rattle.st_log_laws.specs.Turns.{FitInTurn}
 use Rattle.st_log_laws.proofs.Names.{made_after, new_node_rev}
 use Rattle.st_schema_laws.specs.Agreeing.{KeepsSchema}
-use Rattle.st_schema_laws.specs.Conforming.{IsConforming, type_fits}
+use Rattle.st_edits.specs.Fields.{type_fits}
+use Rattle.st_schema_laws.specs.Conforming.{IsConforming}
 use Rattle.st_schema_laws.proofs.Homes.{document_keeps, intent_keeps}
 use Rattle.st_part_laws.specs.Parts.{NamesWithin, is_of_schemas, part_in_effect, part_of_schemas}
 use Rattle.st_part_laws.proofs.Chains.{last-has}

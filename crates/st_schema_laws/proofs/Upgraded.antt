@@ -22,7 +22,7 @@ use Rattle.st_marks.specs.Intent.{IsIntent}
 use Rattle.st_marks.specs.LiveTree.{Shows, shows_leaf, shows_row, shows_registers, ShowsItems, no_more_items, next_item, ShowsMembers, no_more_members, next_member, owners_shown, register}
 use Rattle.st_marks.specs.Verdict.{HasBase, IsVerdict}
 use Rattle.st_edits.specs.ArrayTypes.{is_array_form, is_array_type}
-use Rattle.st_schema_laws.specs.Conforming.{type_fits}
+use Rattle.st_edits.specs.Fields.{type_fits}
 use Rattle.st_schema_laws.specs.Alike.{AreAlikeAt}
 use Rattle.st_schema_laws.proofs.Alike.{same_below}
 use Rattle.st_schema_laws.proofs.Removed.{no_groups}

@@ -13,7 +13,7 @@ use Rattle.st_marks.specs.declared.schemas.SchemaEntry.{SchemaEntry}
 use Rattle.st_marks.specs.Document.{Document, NodeType, last_of, revs}
 use Rattle.st_marks.proofs.Members.{has-append, map-has}
 use Rattle.st_schema_laws.specs.Agreeing.{KeepsSchema}
-use Rattle.st_schema_laws.specs.Conforming.{type_fits}
+use Rattle.st_edits.specs.Fields.{type_fits}
 use Rattle.st_schema_laws.proofs.Wider.{agrees_wider, type_wider}
 use Rattle.st_part_laws.specs.Chains.{TellsChain}
 use Rattle.st_part_laws.specs.Schemas.{entries_after, is_last_entry}

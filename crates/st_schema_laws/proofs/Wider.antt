@@ -25,7 +25,8 @@ use Rattle.st_marks.specs.CarryOut.{with_names}
 use Rattle.st_marks.proofs.Members.{first-has}
 use Rattle.st_edits.specs.Resolve.{rule_at, has_type}
 use Rattle.st_schema.specs.Kind.{is_optional, is_required, is_row, is_single_kind}
-use Rattle.st_schema_laws.specs.Conforming.{Admits, MayStand, IsConforming, IsFree, row_key, type_fits, is_required_field}
+use Rattle.st_edits.specs.Fields.{row_key, type_fits, is_required_field}
+use Rattle.st_schema_laws.specs.Conforming.{Admits, MayStand, IsConforming, IsFree}
 use Rattle.st_schema_laws.specs.Agreeing.{KeepsSchema, MayGo, MayBeLeft}
 use Rattle.st_schema_laws.proofs.Kept.{one_rule, required_by, required_rule}
 use Rattle.st_schema_laws.proofs.Rules.{leaf_undefined}

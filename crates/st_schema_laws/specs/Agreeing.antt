@@ -1,5 +1,5 @@
 -- When an intent keeps to a schema, in a document that has the old names that it names.
-use Rattle.std.specs.Prelude.{◌≡◌, true, false, List, [], ◌∷◌, Option, Some, IsSome, option_and_then, if◌then◌else◌}
+use Rattle.std.specs.Prelude.{◌≡◌, true, false, List, [], ◌∷◌, Option, Some, IsSome, if◌then◌else◌}
 use Rattle.st_ids.specs.declared.names.FieldId.{FieldId}
 use Rattle.st_ids.specs.declared.names.Key.{Key}
 use Rattle.st_ids.specs.declared.names.NodeId.{NodeId}
@@ -9,14 +9,15 @@ use Rattle.st_marks.specs.declared.intents.Intent.{Intent}
 use Rattle.st_marks.specs.declared.intents.To.{To}
 use Rattle.st_marks.specs.declared.verdicts.Verdict.{Verdict}
 use Rattle.st_marks.specs.Document.{Document, NodeType}
-use Rattle.st_marks.specs.Intent.{new_type, is_new, put_of, put_in, clears, register_of}
+use Rattle.st_marks.specs.Intent.{new_type, is_new, put_of, put_in, clears}
 use Rattle.st_marks.specs.CarryOut.{with_names}
 use Rattle.st_marks.specs.Run.{Run, done, next}
 use Rattle.st_marks.specs.Verdict.{IsVerdict, carried_document}
 use Rattle.st_edits.specs.Paths.{field_at}
 use Rattle.st_edits.specs.Resolve.{rule_at}
 use Rattle.st_schema.specs.Kind.{is_required, is_row, is_single_kind}
-use Rattle.st_schema_laws.specs.Conforming.{Admits, row_key, type_fits, is_required_field}
+use Rattle.st_edits.specs.Fields.{is_required_field, put_register, row_key, type_fits}
+use Rattle.st_schema_laws.specs.Conforming.{Admits}
 
 -- the field into which a node is put admits it, where the intent's new names are there; a cell is in the row of some node
 abbrev pub MayGo : SchemaView → (NodeId → Option FieldId) → Document → Intent → NodeId → To → Type 0
@@ -44,10 +45,6 @@ pub record KeepsSchema (s : SchemaView) (home : NodeId → Option FieldId) (D : 
   -- each required field of a new node is filled with a new node
   pub filled : (n : NodeId) (key : Key) (rule : FieldRule) → is_new N n ≡ true → rule_at (with_names D N) s n key ≡ Some rule → is_required rule.kind ≡ true
       → (m : NodeId) × (put_in N (field_at n key) ≡ Some m) × (is_new N m ≡ true)
-
--- the register into which an intent puts a node
-abbrev pub put_register : Intent → NodeId → Option FieldId
-put_register N m = option_and_then register_of (put_of N m)
 
 -- the homes of the intent's new nodes are the registers into which it puts them
 abbrev pub TellsHomes : (NodeId → Option FieldId) → Intent → Type 0

@@ -13,7 +13,8 @@ use Rattle.st_marks.specs.declared.verdicts.Verdict.{Verdict}
 use Rattle.st_marks.specs.Document.{Document, NodeType}
 use Rattle.st_marks.specs.Verdict.{IsVerdict, carried_document}
 use Rattle.st_schema_laws.specs.Agreeing.{KeepsSchema, with_homes}
-use Rattle.st_schema_laws.specs.Conforming.{IsConforming, type_fits}
+use Rattle.st_edits.specs.Fields.{type_fits}
+use Rattle.st_schema_laws.specs.Conforming.{IsConforming}
 use Rattle.st_part_laws.specs.Chains.{AreInLine, TellsChain, with_chain, with_under}
 use Rattle.st_part_laws.specs.Parts.{IsClosedInEffect, NamesWithin, is_of_schemas, part_in_effect, part_of_schemas}
 use Rattle.st_schema_laws.specs.Widening.{AreWidening, IsUpgrade}

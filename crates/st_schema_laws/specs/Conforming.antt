@@ -1,33 +1,18 @@
 -- When a document keeps to a schema. It is asked of all its nodes, live or not, since a node that was removed may come back.
-use Rattle.std.specs.Prelude.{◌≡◌, ◌⊎◌, ℕ, Bool, true, false, List, [], Option, Some, None, IsSome, is_some}
-use Rattle.std.specs.Option.{option_map_or}
+use Rattle.std.specs.Prelude.{◌≡◌, ◌⊎◌, Bool, true, false, Option, Some, IsSome}
 use Rattle.st_ids.specs.declared.names.FieldId.{FieldId}
 use Rattle.st_ids.specs.declared.names.Key.{Key}
-use Rattle.st_ids.specs.declared.names.Leaf.{Leaf}
 use Rattle.st_ids.specs.declared.names.NodeId.{NodeId}
-use Rattle.st_schema.specs.Schema.{SchemaView, same, form_of}
-use Rattle.st_schema.specs.Conforms.{leaf_type}
+use Rattle.st_schema.specs.Schema.{SchemaView}
 use Rattle.st_schema.specs.declared.names.FieldRule.{FieldRule}
 use Rattle.st_schema.specs.declared.names.KindName.{KindName}
 use Rattle.st_marks.specs.declared.places.Spot.{Spot}
 use Rattle.st_marks.specs.Document.{Document, NodeType}
 use Rattle.st_ids.specs.Root.{root}
+use Rattle.st_edits.specs.Fields.{is_required_field, row_key, type_fits}
 use Rattle.st_edits.specs.Paths.{field_at}
 use Rattle.st_edits.specs.Resolve.{rule_at, has_type}
 use Rattle.st_schema.specs.Kind.{is_required, is_row, is_single_kind}
-
--- a leaf has the type of its value, and any other node a type that the schema defines
-abbrev pub type_fits : SchemaView → List ℕ → Option Leaf → Bool
-type_fits s ty None = is_some (form_of s.types ty)
-type_fits s ty (Some v) = same ty (leaf_type v)
-
--- a row has the empty key
-abbrev pub row_key : Key
-row_key = record { 0 = [] }
-
--- whether a field is required
-abbrev pub is_required_field : SchemaView → Document → FieldId → Bool
-is_required_field s D f = option_map_or (λ (rule : FieldRule). is_required rule.kind) (rule_at D s f.node f.key) false
 
 -- The *home* of a node is the register into which it was put when it was made, if it was put into one. It goes by the node's
 -- name, and is the same in all documents. A node leaves a required home only where another takes its place there.
@@ -68,8 +53,3 @@ pub record IsConforming (s : SchemaView) (home : NodeId → Option FieldId) (D :
   -- the root has one of the root's types
   pub root_type : has_type D s.root root ≡ true
 
--- the register that a place is
-abbrev pub register_in : Spot → Option FieldId
-register_in Spot.Nowhere = None
-register_in (Spot.Row n c) = None
-register_in (Spot.Register f) = Some f

@@ -5,7 +5,6 @@ pub mod Conforming
 pub mod Earlier
 pub mod Edited
 pub mod Edits
-pub mod Keeping
 pub mod Lines
 pub mod Moved
 pub mod Typed

@@ -32,7 +32,8 @@ ghost use Rattle.st_log_laws.specs.Turns.{FitInTurn, IsSublist};
 ghost use Rattle.st_opening.specs.Start.{start_of};
 ghost use Rattle.st_edits.specs.declared.names.NameCounters.{NameCounters};
 ghost use Rattle.st_edits.specs.Resolve.{clear, insert, move as move_of, need, put, remove, resolve};
-ghost use Rattle.st_schema_laws.specs.Conforming.{IsConforming, register_in, type_fits};
+ghost use Rattle.st_edits.specs.Fields.{register_in, type_fits};
+ghost use Rattle.st_schema_laws.specs.Conforming.{IsConforming};
 ghost use Rattle.st_schema_laws.specs.Agreeing.{KeepsSchema, KeepsSchemaInTurn, KeepSchemaInTurn, TellsHomes, with_homes};
 ghost use Rattle.st_edits.specs.ArrayTypes.{is_array_type};
 

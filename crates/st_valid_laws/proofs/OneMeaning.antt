@@ -22,13 +22,13 @@ use Rattle.st_marks.proofs.OneVerdict.{one_run}
 use Rattle.st_same_laws.specs.Same.{SaysTheSame}
 use Rattle.st_same_laws.proofs.CarriedDocuments.{full_same, is_new_same}
 use Rattle.st_told.proofs.OneIntent.{one_intent}
-use Rattle.st_schema_laws.specs.Conforming.{is_required_field, row_key}
+use Rattle.st_edits.specs.Fields.{is_required_field, row_key}
 use Rattle.st_edits.specs.Paths.{field_at}
 use Rattle.st_edits.specs.Resolve.{rule_at}
 use Rattle.st_lists.specs.Log.{commits_in}
 use Rattle.st_lists.specs.declared.lists.Entry.{Entry}
 use Rattle.st_valid.specs.Context.{AuthorsIntent}
-use Rattle.st_schema_laws.specs.Keeping.{GoesWell, HasField, HasRoomForSchema, IsUpTo, IsViewOf, KeepsToSchema, MayFollow, MayLeave, PassesSchema}
+use Rattle.st_edits.specs.Keeping.{GoesWell, HasField, HasRoomForSchema, IsUpTo, IsViewOf, KeepsToSchema, MayFollow, MayLeave, PassesSchema}
 use Rattle.st_valid_laws.specs.Schema.{KeepsInContext}
 
 -- ## Fields

@@ -4,7 +4,7 @@ use Rattle.st_lists.specs.Log.{commits_in}
 use Rattle.st_lists.specs.declared.lists.Entry.{Entry}
 use Rattle.st_marks.specs.declared.changes.Change.{Change}
 use Rattle.st_marks.specs.Document.{Document}
-use Rattle.st_schema_laws.specs.Keeping.{HasRoomForSchema, PassesSchema}
+use Rattle.st_edits.specs.Keeping.{HasRoomForSchema, PassesSchema}
 use Rattle.st_valid.specs.Context.{AuthorsIntent}
 use Rattle.st_valid.specs.declared.message.Message.{Message}
 use Rattle.st_valid.specs.declared.message.Said.{Said}

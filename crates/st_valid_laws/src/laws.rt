@@ -19,7 +19,7 @@ ghost use Rattle.st_marks.specs.declared.changes.Change.{Change};
 ghost use Rattle.st_valid.specs.Context.{AuthorsIntent, IsInContext, known_revisions};
 ghost use Rattle.st_valid.specs.Ids.{carried_in};
 ghost use Rattle.st_valid_laws.specs.Messages.{IsBodyOf, IsRefusedFor, IsValid, IsValidLog, Passes};
-ghost use Rattle.st_schema_laws.specs.Keeping.{HasRoomForSchema, PassesSchema};
+ghost use Rattle.st_edits.specs.Keeping.{HasRoomForSchema, PassesSchema};
 ghost use Rattle.st_valid_laws.specs.Schema.{KeepsInContext, KeepsToItsSchema};
 ghost use Rattle.st_valid_laws.specs.Shape.{IsRead, IsValidValue, IsValueRefusedFor};
 ghost use Rattle.st_valid.specs.Refusals.{refused_by_log};

@@ -42,7 +42,7 @@ use Rattle.st_log_laws.specs.Names.{revisions, HaveNewRevisions}
 use Rattle.st_log_laws.specs.Turns.{FitInTurn, IsSublist}
 use Rattle.st_log_laws.proofs.Shorter.{sublist_itself, sublist_joined, sublist_none, has_longer, new_shorter}
 use Rattle.st_schema_laws.specs.Agreeing.{TellsHomes}
-use Rattle.st_schema_laws.specs.Conforming.{register_in}
+use Rattle.st_edits.specs.Fields.{register_in}
 use Rattle.st_schema_laws.proofs.Homes.{tells_own}
 use Rattle.st_lists.specs.Undoing.{IsUndoing}
 use Rattle.st_schema_laws.proofs.Opened.{allowed_conforms}

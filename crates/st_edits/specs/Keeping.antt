@@ -24,8 +24,7 @@ use Rattle.st_marks.specs.Document.{Document, NodeType, revs}
 use Rattle.st_marks.specs.Intent.{clears, is_new, new_type, put_in, put_of}
 use Rattle.st_edits.specs.Paths.{field_at}
 use Rattle.st_edits.specs.Resolve.{has_type, rule_at}
-use Rattle.st_schema_laws.specs.Agreeing.{put_register}
-use Rattle.st_schema_laws.specs.Conforming.{is_required_field, register_in, row_key, type_fits}
+use Rattle.st_edits.specs.Fields.{put_register, is_required_field, register_in, row_key, type_fits}
 
 -- ## Fields
 
