@@ -175,8 +175,8 @@ fn cycle_value(alloc: Global, node: NodeId) -> Result<Value, AllocError>
     json!(in alloc; {"cycle": node})
 }
 
-// Why a commit is void, and null for a sound one.
-fn void_value(alloc: Global, verdict: Verdict) -> Result<Value, AllocError>
+/// Why a commit is void, as it is told: null for a sound one.
+pub fn void_value(alloc: Global, verdict: Verdict) -> Result<Value, AllocError>
     ensures { IfOk result (λ v. view v ≡ void_data verdict) }
 {
     match verdict {

@@ -11,7 +11,7 @@ mod refusal;
 mod step;
 mod write;
 
-pub use answer::{Answer, answer_line};
+pub use answer::{Answer, answer_line, void_value};
 pub use header::read_header;
 pub use laws::{
     read_headers_may_open, read_steps_are_of_form, read_steps_are_read_again, read_steps_fit_lines,
