@@ -1,3 +1,4 @@
 pub mod Schema
 pub mod Messages
 pub mod Shape
+pub mod Taking
