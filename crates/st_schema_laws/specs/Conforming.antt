@@ -52,4 +52,3 @@ pub record IsConforming (s : SchemaView) (home : NodeId → Option FieldId) (D :
   pub homes : (m : NodeId) (f : FieldId) → IsSome (D.nodes m) → home m ≡ Some f → IsSome (D.nodes f.node)
   -- the root has one of the root's types
   pub root_type : has_type D s.root root ≡ true
-
