@@ -31,9 +31,9 @@ use Rattle.st_intent.proofs.Scans.{is_new-listed}
 use Rattle.st_intent.proofs.Tells.{Tells}
 use Rattle.st_lemmas.proofs.Bools.{and-true, and-both, true-false}
 use Rattle.st_lemmas.proofs.Options.{option_map-Some, option_and_then-Some}
-use Rattle.st_schema_laws.specs.Conforming.{row_key, type_fits}
-use Rattle.st_schema_laws.specs.Keeping.{GoesWell, HasField}
-use Rattle.st_schema_laws.proofs.Rules.{rising_defs}
+use Rattle.st_edits.specs.Fields.{row_key, type_fits}
+use Rattle.st_edits.specs.Keeping.{GoesWell, HasField}
+use Rattle.st_kept_fields.proofs.Rising.{rising_defs}
 use Rattle.st_kept_fields.specs.Fields.{HaveTypes, AreFilled, GoWell}
 use Rattle.st_kept_fields.specs.inside.Tests.{is_typed, are_typed, is_of_new, is_filled, form_is_filled, node_is_filled, all_filled, takes, has_field, row_takes, goes_well, put_goes_well, all_go_well}
 
@@ -128,7 +128,7 @@ module _ (s : SchemaView) (sound : is_sound s ≡ true) (D : Document) (N : Inte
           filled_by n key rule w.0 w.2 required (ap (form_is_filled N n) (sym w.1) ∙ filled)
 
       from : AreFilled s D N → all_filled s D N ≡ true
-      from h = each_passes (λ (m : NewNode). node_is_filled s D N m.node) N.new (λ m k. at m.node (is_listed m k) ((with_names D N).nodes m.node) refl)
+      from h = each_passes (λ (m : NewNode). node_is_filled s D N m.node) N.new (λ m k. at_node m.node (is_listed m k) ((with_names D N).nodes m.node) refl)
         where
           is_listed : (m : NewNode) → Has N.new m → is_new N m.node ≡ true
           is_listed m k = is_new-listed N m.node ∙ has-any (λ (x : NewNode). same_node x.node m.node) N.new m k (same_node-itself m.node)
@@ -146,9 +146,9 @@ module _ (s : SchemaView) (sound : is_sound s ≡ true) (D : Document) (N : Inte
                   ∙ ap (option_and_then (λ form. field_in form d.key.0)) e
                   ∙ ap (option_map (λ (f : FieldDef). record { kind = f.kind; types = f.types })) (rising_defs s sound t.ty defs d e k)
 
-          at : (n : NodeId) → is_new N n ≡ true → (o : Option NodeType) → (with_names D N).nodes n ≡ o → form_is_filled N n (option_and_then (form_of s.types) (option_map (λ (t : NodeType). t.ty) o)) ≡ true
-          at n new None here = refl
-          at n new (Some t) here = formed n new t here (form_of s.types t.ty) refl
+          at_node : (n : NodeId) → is_new N n ≡ true → (o : Option NodeType) → (with_names D N).nodes n ≡ o → form_is_filled N n (option_and_then (form_of s.types) (option_map (λ (t : NodeType). t.ty) o)) ≡ true
+          at_node n new None here = refl
+          at_node n new (Some t) here = formed n new t here (form_of s.types t.ty) refl
 
   pub filled_tell : (b : Bool) → b ≡ all_filled s D N → Tells b (AreFilled s D N)
   filled_tell b e = subst (λ b. Tells b (AreFilled s D N)) (sym e) filled_told

@@ -12,8 +12,8 @@ use Rattle.st_marks.specs.Document.{Document, NodeType}
 use Rattle.st_marks.specs.Intent.{is_new, new_type, put_in, put_of}
 use Rattle.st_edits.specs.Paths.{field_at}
 use Rattle.st_edits.specs.Resolve.{rule_at}
-use Rattle.st_schema_laws.specs.Conforming.{type_fits}
-use Rattle.st_schema_laws.specs.Keeping.{GoesWell}
+use Rattle.st_edits.specs.Fields.{type_fits}
+use Rattle.st_edits.specs.Keeping.{GoesWell}
 
 -- a new node has a type of the schema
 abbrev pub HaveTypes : SchemaView → Intent → Type 0

@@ -5,7 +5,7 @@ ghost use Rattle.st_edits.specs.Resolve.{rule_at, has_type};
 ghost use Rattle.st_marks.specs.CarryOut.{with_names};
 ghost use Rattle.st_marks.specs.Intent.{put_of};
 ghost use Rattle.st_doc.specs.Doc.{document_of};
-ghost use Rattle.st_schema_laws.specs.Conforming.{is_required_field, row_key};
+ghost use Rattle.st_edits.specs.Fields.{is_required_field, row_key};
 ghost use Rattle.st_kept_fields.specs.Fields.{GoWell};
 ghost use Rattle.st_kept_fields.specs.inside.Tests.{has_field, goes_well, put_goes_well, all_go_well};
 

@@ -1,6 +1,6 @@
 //! Whether new nodes have types of a schema.
 ghost use Rattle.std.specs.Prelude.{◌≡◌, ◌↔◌, true};
-ghost use Rattle.st_schema_laws.specs.Conforming.{type_fits};
+ghost use Rattle.st_edits.specs.Fields.{type_fits};
 ghost use Rattle.st_marks.specs.Intent.{new_node};
 ghost use Rattle.st_kept_fields.specs.Fields.{HaveTypes};
 ghost use Rattle.st_kept_fields.specs.inside.Tests.{is_typed, are_typed};

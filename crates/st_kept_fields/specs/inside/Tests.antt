@@ -20,7 +20,7 @@ use Rattle.st_marks.specs.Document.{Document, NodeType}
 use Rattle.st_marks.specs.Intent.{is_new, new_node, put_in, put_of}
 use Rattle.st_edits.specs.Paths.{field_at}
 use Rattle.st_edits.specs.Resolve.{has_type, rule_at}
-use Rattle.st_schema_laws.specs.Conforming.{row_key, type_fits}
+use Rattle.st_edits.specs.Fields.{row_key, type_fits}
 
 -- ## Types
 
