@@ -179,16 +179,16 @@ puts_told : (s : SchemaView) (D : Document) (N : Intent) → Tells (all_go_well 
 puts_told s D N = (to, from)
   where
     to : all_go_well s D N ≡ true → GoWell s D N
-    to e m to f =
-        let passed = all_pass (λ (p : Put). put_goes_well s (with_names D N) p.node (put_of N p.node)) N.put (record { node = m; to = to }) e (put-has N m to f) in
-        (well_told s (with_names D N) m to).0 (ap (put_goes_well s (with_names D N) m) (sym f) ∙ passed)
+    to e m place f =
+        let passed = all_pass (λ (p : Put). put_goes_well s (with_names D N) p.node (put_of N p.node)) N.put (record { node = m; to = place }) e (put-has N m place f) in
+        (well_told s (with_names D N) m place).0 (ap (put_goes_well s (with_names D N) m) (sym f) ∙ passed)
 
     from : GoWell s D N → all_go_well s D N ≡ true
     from h = each_passes (λ (p : Put). put_goes_well s (with_names D N) p.node (put_of N p.node)) N.put (λ p k. go p.node (put_of N p.node) refl)
       where
         go : (m : NodeId) (o : Option To) → put_of N m ≡ o → put_goes_well s (with_names D N) m o ≡ true
         go m None e = refl
-        go m (Some to) e = (well_told s (with_names D N) m to).1 (h m to e)
+        go m (Some place) e = (well_told s (with_names D N) m place).1 (h m place e)
 
 pub puts_tell : (b : Bool) (s : SchemaView) (D : Document) (N : Intent) → b ≡ all_go_well s D N → Tells b (GoWell s D N)
 puts_tell b s D N e = subst (λ b. Tells b (GoWell s D N)) (sym e) (puts_told s D N)

@@ -1,5 +1,6 @@
 //! Whether the required fields of new nodes are filled with new nodes.
 ghost use Rattle.std.specs.Prelude.{◌≡◌, ◌↔◌, true, option_map, option_and_then};
+ghost use Rattle.std.specs.List.{list_all};
 ghost use Rattle.std.specs.Option.{option_copied};
 ghost use Rattle.st_schema.specs.Schema.{form_of};
 ghost use Rattle.st_marks.specs.CarryOut.{with_names};
@@ -31,12 +32,19 @@ fn is_filled(intent: &Intent, node: NodeId, def: &FieldDef) -> bool
     def.kind != KindName::Required || is_of_new(intent, put_at(intent, node, &def.key))
 }
 
+// Whether new nodes are put into the required ones of a node's declared fields.
+fn defs_are_filled(intent: &Intent, node: NodeId, defs: &[FieldDef]) -> bool
+    ensures { result ≡ list_all (is_filled intent.now node) defs.now }
+{
+    defs.iter().all(|d| is_filled(intent, node, d))
+}
+
 // Whether new nodes are put into the required fields of a node of this form.
 fn form_is_filled(intent: &Intent, node: NodeId, form: Option<&Form>) -> bool
     ensures { result ≡ form_is_filled intent.now node (option_copied form.entry) }
 {
     match form {
-        Some(Form::Object(defs)) => defs.as_slice().iter().all(|d| is_filled(intent, node, d)),
+        Some(Form::Object(defs)) => defs_are_filled(intent, node, defs.as_slice()),
         _ => true,
     }
 }
