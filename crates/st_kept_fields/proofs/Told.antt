@@ -1,6 +1,6 @@
 -- The tests tell whether a commit keeps to the schema.
-use Rattle.std.proofs.Common.{◌≡◌, Bool, true, false, not, ◌&&◌, ◌||◌, List, [], ◌∷◌, ℕ, Option, Some, None, refl, sym, ap, ◌∙◌, subst, option_map, option_and_then, cond, inl, inr}
-use Rattle.std.specs.List.{list_all, list_any, find}
+use Rattle.std.proofs.Common.{◌≡◌, Bool, true, false, not, ◌||◌, List, [], ◌∷◌, ℕ, Option, Some, None, refl, sym, ap, ◌∙◌, subst, option_map, option_and_then, cond, inl, inr}
+use Rattle.std.specs.List.{list_all}
 use Rattle.st_ids.specs.Listing.{Has}
 use Rattle.st_ids.specs.Order.{same_node}
 use Rattle.st_ids.specs.declared.names.Key.{Key}
@@ -13,7 +13,7 @@ use Rattle.st_schema.specs.declared.names.FieldRule.{FieldRule}
 use Rattle.st_schema.specs.declared.names.Form.{Form}
 use Rattle.st_schema.specs.declared.names.Form.TheVariants.{Array, Map, Object}
 use Rattle.st_schema.specs.declared.names.KindName.{KindName}
-use Rattle.st_schema.specs.declared.names.KindName.TheVariants.{Required, Optional, Sequence}
+use Rattle.st_schema.specs.declared.names.KindName.TheVariants.{Optional, Sequence}
 use Rattle.st_schema.proofs.Forms.{text_same}
 use Rattle.st_marks.specs.declared.changes.NewNode.{NewNode}
 use Rattle.st_marks.specs.declared.intents.Intent.{Intent}
@@ -21,7 +21,7 @@ use Rattle.st_marks.specs.declared.intents.Put.{Put}
 use Rattle.st_marks.specs.declared.intents.To.{To}
 use Rattle.st_marks.specs.CarryOut.{with_names}
 use Rattle.st_marks.specs.Document.{Document, NodeType}
-use Rattle.st_marks.specs.Intent.{is_new, new_node, new_type, put_in, put_of}
+use Rattle.st_marks.specs.Intent.{is_new, new_node, put_in, put_of}
 use Rattle.st_marks.proofs.Lookups.{put-has}
 use Rattle.st_marks.proofs.Members.{any-has, first-has, has-any}
 use Rattle.st_edits.specs.Paths.{field_at}

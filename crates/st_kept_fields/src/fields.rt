@@ -26,7 +26,8 @@ fn rule_at(
     node: NodeId,
     key: &Key,
 ) -> Result<Option<FieldRule>, AllocError>
-    ensures { IfOk result (λ r. r ≡ rule_at (with_names (document_of doc.now) intent.now) schema.now node key.now) }
+    ensures { IfOk result (λ r. r
+        ≡ rule_at (with_names (document_of doc.now) intent.now) schema.now node key.now) }
 {
     match type_of(doc, intent, node) {
         None => Ok(None),
@@ -42,7 +43,8 @@ pub fn is_required_field(
     schema: &Schema,
     field: &FieldId,
 ) -> Result<bool, AllocError>
-    ensures { IfOk result (λ b. b ≡ is_required_field schema.now (with_names (document_of doc.now) intent.now) field.now) }
+    ensures { IfOk result (λ b. b
+        ≡ is_required_field schema.now (with_names (document_of doc.now) intent.now) field.now) }
 {
     match rule_at(alloc, doc, intent, schema, field.node, &field.key)? {
         None => Ok(false),
@@ -69,7 +71,9 @@ fn has_row(
     row: NodeId,
     node: NodeId,
 ) -> Result<bool, AllocError>
-    ensures { IfOk result (λ b. b ≡ has_field schema.now (with_names (document_of doc.now) intent.now) is_row row row_key node) }
+    ensures { IfOk result (λ b. b
+        ≡ has_field schema.now (with_names (document_of doc.now) intent.now) is_row row
+        row_key node) }
 {
     let key = Key(Text::new(alloc));
     match rule_at(alloc, doc, intent, schema, row, &key)? {
@@ -89,7 +93,9 @@ fn has_register(
     field: &FieldId,
     node: NodeId,
 ) -> Result<bool, AllocError>
-    ensures { IfOk result (λ b. b ≡ has_field schema.now (with_names (document_of doc.now) intent.now) is_single_kind field.now.node field.now.key node) }
+    ensures { IfOk result (λ b. b
+        ≡ has_field schema.now (with_names (document_of doc.now) intent.now) is_single_kind
+        field.now.node field.now.key node) }
 {
     match rule_at(alloc, doc, intent, schema, field.node, &field.key)? {
         Some(rule) if rule.kind != KindName::Sequence => {
@@ -108,7 +114,8 @@ fn goes_well(
     node: NodeId,
     to: &To,
 ) -> Result<bool, AllocError>
-    ensures { IfOk result (λ b. b ≡ goes_well schema.now (with_names (document_of doc.now) intent.now) node to.now) }
+    ensures { IfOk result (λ b. b
+        ≡ goes_well schema.now (with_names (document_of doc.now) intent.now) node to.now) }
 {
     match to {
         To::Nowhere => Ok(true),
@@ -128,7 +135,9 @@ fn put_goes_well(
     schema: &Schema,
     node: NodeId,
 ) -> Result<bool, AllocError>
-    ensures { IfOk result (λ b. b ≡ put_goes_well schema.now (with_names (document_of doc.now) intent.now) node (put_of intent.now node)) }
+    ensures { IfOk result (λ b. b
+        ≡ put_goes_well schema.now (with_names (document_of doc.now) intent.now) node
+        (put_of intent.now node)) }
 {
     match put_of(intent, node) {
         None => Ok(true),

@@ -1,9 +1,7 @@
 //! Whether the required fields of new nodes are filled with new nodes.
-ghost use Rattle.std.specs.Prelude.{◌≡◌, ◌↔◌, true, option_map, option_and_then};
+ghost use Rattle.std.specs.Prelude.{◌≡◌, ◌↔◌, true};
 ghost use Rattle.std.specs.List.{list_all};
 ghost use Rattle.std.specs.Option.{option_copied};
-ghost use Rattle.st_schema.specs.Schema.{form_of};
-ghost use Rattle.st_marks.specs.CarryOut.{with_names};
 ghost use Rattle.st_doc.specs.Doc.{document_of};
 ghost use Rattle.st_kept_fields.specs.Fields.{AreFilled};
 ghost use Rattle.st_kept_fields.specs.inside.Tests.{is_of_new, is_filled, form_is_filled, node_is_filled, all_filled};

@@ -55,7 +55,8 @@ pub(crate) fn new_node(intent: &Intent, node: NodeId) -> Option<&NewNode>
 
 /// The type of a node, of the document or new.
 pub(crate) fn type_of<'a>(doc: &'a Doc, intent: &'a Intent, node: NodeId) -> Option<&'a Text>
-    ensures { option_copied result ≡ option_map (λ t. t.ty) ((with_names (document_of doc.now) intent.now).nodes node) }
+    ensures { option_copied result
+        ≡ option_map (λ t. t.ty) ((with_names (document_of doc.now) intent.now).nodes node) }
 {
     match doc.type_of(node) {
         Some(ty) => Some(ty),

@@ -34,7 +34,11 @@ fn is_typed(schema: &Schema, intent: &Intent, node: NodeId) -> bool
 fn are_typed(schema: &Schema, intent: &Intent) -> bool
     ensures { result ≡ are_typed schema.now intent.now }
 {
-    intent.new.as_slice().iter().all(|m| is_typed(schema, intent, m.node))
+    intent
+        .new
+        .as_slice()
+        .iter()
+        .all(|m| is_typed(schema, intent, m.node))
 }
 
 /// Whether each new node has a type of the schema: a leaf that of its value.
