@@ -1,0 +1,4 @@
+mod AllOf
+mod Makings
+mod Fillings
+mod Homes

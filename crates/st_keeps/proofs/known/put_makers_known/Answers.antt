@@ -1,0 +1,10 @@
+use Rattle.std.proofs.Common.{◌≡◌, ◌↔◌, true, subst, sym}
+use Rattle.st_marks.specs.Document.{revs}
+use Rattle.st_keeps.specs.Moves.{PutMakersKnown}
+use Rattle.st_keeps.proofs.Makings.{all_puts_known}
+use Rattle.st_keeps.proofs.known.put_makers_known.Goals as goal
+
+pub returns : goal.returns
+returns c = λ O log knows.
+    subst (λ b. (b ≡ true) ↔ PutMakersKnown O log (revs c.args.front.now) c.args.intent.now) (sym c.puts_known.ensures)
+    (all_puts_known O log c.args.makers.now knows c.args.front.now c.args.intent.now)

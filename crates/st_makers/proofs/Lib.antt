@@ -1,0 +1,3 @@
+mod Puts
+mod Openings
+mod Entering
