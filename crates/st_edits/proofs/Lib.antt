@@ -5,3 +5,4 @@ pub mod NewFits
 pub mod Resolved
 pub mod Shared
 pub mod Given
+pub mod SchemaTexts

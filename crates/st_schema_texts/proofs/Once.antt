@@ -18,7 +18,7 @@ use Rattle.st_schema.proofs.Plain.{schema_shallow}
 use Rattle.st_marks.specs.Document.{revs}
 use Rattle.st_marks.specs.declared.schemas.SchemaEntry.{SchemaEntry}
 use Rattle.st_edits.specs.Keeping.{IsUpTo, MayFollow, here, later}
-use Rattle.st_schema_laws.proofs.Texts.{schema_fits, schema_text, text_read}
+use Rattle.st_edits.proofs.SchemaTexts.{schema_back, schema_fits, text_read}
 use Rattle.st_schema_texts.specs.Reading.{IsSchemaOf}
 
 -- ## Texts
@@ -30,7 +30,7 @@ text_back s h = let fits = schema_fits s h in text_read (schema_data s) fits.1 f
 -- and of one alone
 pub same_text : (s v : SchemaView) → is_sound s ≡ true → is_sound v ≡ true → compact_text (schema_data s) ≡ compact_text (schema_data v) → s ≡ v
 same_text s v p q e =
-    let one : Some s ≡ Some v = sym (schema_text s p).back ∙ subst (λ t. schema_of_text t ≡ Some v) (sym e) (schema_text v q).back in cc
+    let one : Some s ≡ Some v = sym (schema_back s p) ∙ subst (λ t. schema_of_text t ≡ Some v) (sym e) (schema_back v q) in cc
 
 -- a text that is read as a form is the text of no schema, if it isn't that of the form's schema
 pub not_written : (text : List ℕ) (s : SchemaView) → read text ≡ Some (schema_data s) → text ≢ compact_text (schema_data s) → IsSchemaOf text None
