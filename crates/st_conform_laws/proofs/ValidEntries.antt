@@ -231,3 +231,9 @@ module _ (s : SchemaView) (O : Document) (Ls : List Intent) (opened : IsOpened s
       let s : IsSoundInForm D = (turn_extends opened.sound entries_conform.0 r).after in
       let read : schema_in_effect D ≡ T.view (last_in_effect D) = read_as_told T D s here in
       subst (λ v. (t : Node) × (tree_data t ≡ d) × (conforms v v.root t ≡ true)) (sym read) (shown_allowed T D s here is_array d (λ ty. tells ty ∙ ap (λ v. is_array_type v ty) read) shows)
+
+  -- each entry in effect has the text of a schema that keeps its rules
+  pub entries_have_schemas : (D : Document) → Run O Ls D → (e : SchemaEntry) → Has D.schemas e → (U : SchemaView) × (is_sound U ≡ true) × IsTextOf U e.text
+  entries_have_schemas D r e h =
+      let here = entries_conform.1 D r in
+      (T.view e.rev, here.widening.sound e.rev (map-has (λ (x : SchemaEntry). x.rev) D.schemas e h), here.widening.written e h)

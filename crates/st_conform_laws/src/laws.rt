@@ -218,7 +218,8 @@ pub fn valid_entries_show_allowed_trees()
 
 /// For every log of valid messages over a document opened, whoever wrote them: each commit is valid
 /// after those before it, and what the document of the whole log shows is the JSON form of a tree
-/// that the last schema in effect, read from its text, allows as its root.
+/// that the last schema in effect, read from its text, allows as its root. Each entry in effect has
+/// the text of a schema that keeps its rules.
 pub fn valid_logs_show_allowed_trees()
     ensures commits { (O : Document) (log : List Entry) → IsSoundInForm O
         → IsMadeUnder (opening ∷ []) O → HasRoomForNames O → IsValidLog O log
@@ -229,4 +230,7 @@ pub fn valid_logs_show_allowed_trees()
         → is_array ty ≡ is_array_type (schema_in_effect D) ty) → Shows is_array D root d
         → (t : Node) × (tree_data t ≡ d)
         × (conforms (schema_in_effect D) (schema_in_effect D).root t ≡ true) }
+    ensures schemas { (s : SchemaView) (O D : Document) (log : List Entry) → IsOpened s O
+        → HasRoomForNames O → IsValidLog O log → Run O (commits_in log) D → (e : SchemaEntry)
+        → Has D.schemas e → (U : SchemaView) × (is_sound U ≡ true) × IsTextOf U e.text }
 {}
