@@ -2,3 +2,4 @@ mod AllOf
 mod Makings
 mod Fillings
 mod Homes
+mod Passing
