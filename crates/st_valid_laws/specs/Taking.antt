@@ -34,7 +34,7 @@ pub record IsEnteredAs (O : Document) (log : List Entry) (m : Message) (after : 
   pub valid : IsValid O log m
   pub body : Body
   pub says : IsBodyOf O log m.session m.said body
-  pub after : after ≡ log_with log m.session body
+  pub goes_on : after ≡ log_with log m.session body
   pub verdict : ComesOut O log body v
 
 -- a value is read as a message with a number, which enters the log
