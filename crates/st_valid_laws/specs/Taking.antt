@@ -30,11 +30,11 @@ ComesOut O log (Ack reference) v = v ≡ None
 ComesOut O log (Commit reference ids N) v = HasVerdict O log N v
 
 -- a message is valid and enters a log, which goes on by it
-pub record IsEnteredAs (O : Document) (log : List Entry) (m : Message) (after : List Entry) (v : Option Verdict) : Type 0 where
+pub record IsEnteredAs (O : Document) (log : List Entry) (m : Message) (later : List Entry) (v : Option Verdict) : Type 0 where
   pub valid : IsValid O log m
   pub body : Body
   pub says : IsBodyOf O log m.session m.said body
-  pub goes_on : after ≡ log_with log m.session body
+  pub after : later ≡ log_with log m.session body
   pub verdict : ComesOut O log body v
 
 -- a value is read as a message with a number, which enters the log
